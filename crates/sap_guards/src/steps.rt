@@ -6,7 +6,7 @@ ghost use Rattle.sap_maps.specs.Term as term;
 ghost use Rattle.sap_meaning.specs.Checks.{entry};
 ghost use Rattle.sap_meaning.specs.Program as program;
 ghost use Rattle.sap_program.specs.Views as views;
-ghost use Rattle.sap_resolve.specs.Sized.Ranges.{RangedLevel, RangedStep};
+ghost use Rattle.sap_resolve.specs.Sized.Ranges.{RangedLevel, RangedStep, RangedTerm};
 ghost use Rattle.sap_tagged.specs.Keys.{tag_key};
 ghost use Rattle.sap_tagged.specs.Levels as spec;
 ghost use Rattle.sap_terms.specs.Code.{entities_in, setting_in, spot_in, world_in};
@@ -15,7 +15,7 @@ use sap_bits::Op2;
 use sap_ir::guarded::Calc;
 use sap_ir::plain::seats;
 use sap_lattice::level::Level;
-use sap_program::program::{State, Step, TagOf};
+use sap_program::program::{Number, State, Step, TagOf};
 use sap_program::spot::Spot;
 use sap_terms::calcs::{
     authority, below_or_at, bits, cell_variable, child_count, enters, expr, is_dynamic, is_number,
@@ -113,6 +113,22 @@ fn all_dynamic(setting: &Setting<'_>, children: &[State]) -> bool
     }
 }
 
+/// The level of a cell of a memory that isn't dynamic, and of which cell it is.
+fn cell_guard(
+    alloc: Global,
+    setting: &Setting<'_>,
+    memory: usize,
+    index: &Number,
+) -> Result<Calc, AllocError>
+    requires { RangedTerm (world_in setting.now) (views.term_of index.now) }
+    ensures { let s = setting_in setting.now in let i = views.term_of index.now in
+        IfOk result (λ c. calcs.term_of c ≡ spec.lub (spec.tag_of s i) (term.cell (s.name (tag_key memory)) (spec.expr s i))) }
+{
+    let picked = tag_of(alloc, setting, index)?;
+    let cell = cell_variable(alloc, setting, memory, index)?;
+    lub(alloc, picked, cell)
+}
+
 /// The level of what is overwritten, and of whether.
 pub fn guard_of(
     alloc: Global,
@@ -135,9 +151,7 @@ pub fn guard_of(
             if is_dynamic(setting, *memory) {
                 Ok(bits(setting, setting.lattice.bottom()))
             } else {
-                let picked = tag_of(alloc, setting, index)?;
-                let cell = cell_variable(alloc, setting, *memory, index)?;
-                lub(alloc, picked, cell)
+                cell_guard(alloc, setting, *memory, index)
             }
         }
         Step::Retag { entity, .. } => Ok(bits(setting, authority(setting, *entity))),
@@ -151,6 +165,157 @@ pub fn guard_of(
     }
 }
 
+/// The join of a context and a level.
+fn in_context(alloc: Global, context: &Calc, level: Calc) -> Result<Calc, AllocError>
+    ensures { IfOk result (λ c. calcs.term_of c ≡ spec.lub (calcs.term_of context.now) (calcs.term_of level)) }
+{
+    let context = context.copy(alloc)?;
+    lub(alloc, context, level)
+}
+
+/// The level that a register gets in a context.
+fn set_level(
+    alloc: Global,
+    setting: &Setting<'_>,
+    context: &Calc,
+    value: &Number,
+) -> Result<Calc, AllocError>
+    requires { RangedTerm (world_in setting.now) (views.term_of value.now) }
+    ensures { IfOk result (λ c. calcs.term_of c ≡ spec.lub (calcs.term_of context.now) (spec.tag_of (setting_in setting.now) (views.term_of value.now))) }
+{
+    let value = tag_of(alloc, setting, value)?;
+    in_context(alloc, context, value)
+}
+
+/// The level that a cell gets in a context.
+fn write_level(
+    alloc: Global,
+    setting: &Setting<'_>,
+    context: &Calc,
+    index: &Number,
+    value: &Number,
+) -> Result<Calc, AllocError>
+    requires index { RangedTerm (world_in setting.now) (views.term_of index.now) }
+    requires value { RangedTerm (world_in setting.now) (views.term_of value.now) }
+    ensures { let s = setting_in setting.now in
+        IfOk result (λ c. calcs.term_of c ≡ spec.lub (calcs.term_of context.now) (spec.lub (spec.tag_of s (views.term_of index.now)) (spec.tag_of s (views.term_of value.now)))) }
+{
+    let picked = tag_of(alloc, setting, index)?;
+    let value = tag_of(alloc, setting, value)?;
+    let both = lub(alloc, picked, value)?;
+    in_context(alloc, context, both)
+}
+
+/// A register that isn't dynamic may be set in a context.
+fn may_set(
+    alloc: Global,
+    setting: &Setting<'_>,
+    context: &Calc,
+    register: usize,
+    value: &Number,
+) -> Result<Calc, AllocError>
+    requires { RangedTerm (world_in setting.now) (views.term_of value.now) }
+    ensures { let s = setting_in setting.now in
+        IfOk result (λ c. calcs.term_of c ≡ spec.below_or_at (spec.lub (calcs.term_of context.now) (spec.tag_of s (views.term_of value.now))) (spec.var s (tag_key register))) }
+{
+    let level = set_level(alloc, setting, context, value)?;
+    let own = tag_variable(alloc, setting, register)?;
+    below_or_at(alloc, level, own)
+}
+
+/// A cell of a memory that isn't dynamic may be written in a context.
+fn may_write(
+    alloc: Global,
+    setting: &Setting<'_>,
+    context: &Calc,
+    memory: usize,
+    index: &Number,
+    value: &Number,
+) -> Result<Calc, AllocError>
+    requires index { RangedTerm (world_in setting.now) (views.term_of index.now) }
+    requires value { RangedTerm (world_in setting.now) (views.term_of value.now) }
+    ensures { let s = setting_in setting.now in let i = views.term_of index.now in
+        IfOk result (λ c. calcs.term_of c ≡ spec.below_or_at (spec.lub (calcs.term_of context.now) (spec.lub (spec.tag_of s i) (spec.tag_of s (views.term_of value.now)))) (term.cell (s.name (tag_key memory)) (spec.expr s i))) }
+{
+    let level = write_level(alloc, setting, context, index, value)?;
+    let cell = cell_variable(alloc, setting, memory, index)?;
+    below_or_at(alloc, level, cell)
+}
+
+/// What a retag of a cell tells.
+fn told_cell(
+    alloc: Global,
+    setting: &Setting<'_>,
+    index: &Number,
+    tag: &TagOf,
+) -> Result<Calc, AllocError>
+    requires index { RangedTerm (world_in setting.now) (views.term_of index.now) }
+    requires tag { RangedLevel (world_in setting.now) (views.level_of tag.now) }
+    ensures { let s = setting_in setting.now in
+        IfOk result (λ c. calcs.term_of c ≡ spec.lub (spec.told_tag s (views.level_of tag.now)) (spec.tag_of s (views.term_of index.now))) }
+{
+    let told = told_tag(alloc, setting, tag)?;
+    let picked = tag_of(alloc, setting, index)?;
+    lub(alloc, told, picked)
+}
+
+/// What is told and the context are at or below an entity's authority, and that at or below the new level.
+fn may_retag(
+    alloc: Global,
+    setting: &Setting<'_>,
+    context: &Calc,
+    told: Calc,
+    entity: usize,
+    tag: &TagOf,
+) -> Result<Calc, AllocError>
+    requires { RangedLevel (world_in setting.now) (views.level_of tag.now) }
+    ensures { let s = setting_in setting.now in let own = spec.bits s (program.authority (world_in setting.now) entity) in
+        IfOk result (λ c. calcs.term_of c ≡ term.two Op2.And (spec.below_or_at (spec.lub (calcs.term_of context.now) (calcs.term_of told)) own) (spec.below_or_at own (spec.new_tag s (views.level_of tag.now)))) }
+{
+    let level = in_context(alloc, context, told)?;
+    let told_below = below_or_at(alloc, level, bits(setting, authority(setting, entity)))?;
+    let own = bits(setting, authority(setting, entity));
+    let new_above = below_new(alloc, setting, own, tag)?;
+    Calc::two(alloc, Op2::And, told_below, new_above)
+}
+
+/// A state may be left for another in a context.
+fn may_leave(
+    alloc: Global,
+    setting: &Setting<'_>,
+    context: &Calc,
+    state: usize,
+    target: usize,
+) -> Result<Calc, AllocError>
+    ensures { let s = setting_in setting.now in let w = world_in setting.now in
+        IfOk result (λ c. calcs.term_of c ≡ (if program.is_dynamic w state then spec.yes else spec.below_or_at (spec.lub (calcs.term_of context.now) (spec.bits s (entry w target))) (spec.var s (tag_key state)))) }
+{
+    if is_dynamic(setting, state) {
+        Ok(yes())
+    } else {
+        let level = in_context(alloc, context, bits(setting, entry_level(setting, target)))?;
+        let own = tag_variable(alloc, setting, state)?;
+        below_or_at(alloc, level, own)
+    }
+}
+
+/// A state may be left for another, and that entered, in a context.
+fn may_go(
+    alloc: Global,
+    setting: &Setting<'_>,
+    context: &Calc,
+    state: usize,
+    target: usize,
+) -> Result<Calc, AllocError>
+    ensures { let s = setting_in setting.now in let w = world_in setting.now in
+        IfOk result (λ c. calcs.term_of c ≡ term.two Op2.And (spec.enters s (calcs.term_of context.now) target) (if program.is_dynamic w state then spec.yes else spec.below_or_at (spec.lub (calcs.term_of context.now) (spec.bits s (entry w target))) (spec.var s (tag_key state)))) }
+{
+    let again = context.copy(alloc)?;
+    let may_enter = enters(alloc, setting, again, target)?;
+    let may_leave = may_leave(alloc, setting, context, state, target)?;
+    Calc::two(alloc, Op2::And, may_enter, may_leave)
+}
+
 /// A step passes its check in a context.
 pub fn test_of(
     alloc: Global,
@@ -162,7 +327,6 @@ pub fn test_of(
     requires { RangedStep (world_in setting.now) (views.step_of (entities_in setting.now) step.now) }
     ensures { IfOk result (λ c. calcs.term_of c ≡ spec.test_of (setting_in setting.now) (spot_in setting.now at.now) (calcs.term_of context.now) (views.step_of (entities_in setting.now) step.now)) }
 {
-    let context = context.copy(alloc)?;
     match step {
         Step::Set {
             register,
@@ -172,10 +336,7 @@ pub fn test_of(
             if is_dynamic(setting, *register) {
                 Ok(yes())
             } else {
-                let value = tag_of(alloc, setting, value)?;
-                let level = lub(alloc, context, value)?;
-                let own = tag_variable(alloc, setting, *register)?;
-                below_or_at(alloc, level, own)
+                may_set(alloc, setting, context, *register, value)
             }
         }
         Step::Write {
@@ -187,12 +348,7 @@ pub fn test_of(
             if is_dynamic(setting, *memory) {
                 Ok(yes())
             } else {
-                let picked = tag_of(alloc, setting, index)?;
-                let value = tag_of(alloc, setting, value)?;
-                let both = lub(alloc, picked, value)?;
-                let level = lub(alloc, context, both)?;
-                let cell = cell_variable(alloc, setting, *memory, index)?;
-                below_or_at(alloc, level, cell)
+                may_write(alloc, setting, context, *memory, index, value)
             }
         }
         Step::Retag { entity, tag, .. } => {
@@ -205,62 +361,15 @@ pub fn test_of(
             tag,
             ..
         } => {
-            let told = told_tag(alloc, setting, tag)?;
-            let picked = tag_of(alloc, setting, index)?;
-            let both = lub(alloc, told, picked)?;
-            may_retag(alloc, setting, context, both, *memory, tag)
+            let told = told_cell(alloc, setting, index, tag)?;
+            may_retag(alloc, setting, context, told, *memory, tag)
         }
-        Step::Goto { target, .. } => {
-            let again = context.copy(alloc)?;
-            let may_enter = enters(alloc, setting, again, *target)?;
-            let may_leave = may_leave(alloc, setting, context, at.state, *target)?;
-            Calc::two(alloc, Op2::And, may_enter, may_leave)
-        }
+        Step::Goto { target, .. } => may_go(alloc, setting, context, at.state, *target),
         Step::Fall { .. } => {
             let width = seat_bits(setting, at.state);
             let seat = seat_of(alloc, setting, at.state)?;
-            child_enters(alloc, setting, &context, width, &seat, at.children, 0)
+            child_enters(alloc, setting, context, width, &seat, at.children, 0)
         }
-    }
-}
-
-/// What is told and the context are at or below an entity's authority, and that at or below the new level.
-fn may_retag(
-    alloc: Global,
-    setting: &Setting<'_>,
-    context: Calc,
-    told: Calc,
-    entity: usize,
-    tag: &TagOf,
-) -> Result<Calc, AllocError>
-    requires { RangedLevel (world_in setting.now) (views.level_of tag.now) }
-    ensures { let s = setting_in setting.now in let own = spec.bits s (program.authority (world_in setting.now) entity) in
-        IfOk result (λ c. calcs.term_of c ≡ term.two Op2.And (spec.below_or_at (spec.lub (calcs.term_of context) (calcs.term_of told)) own) (spec.below_or_at own (spec.new_tag s (views.level_of tag.now)))) }
-{
-    let level = lub(alloc, context, told)?;
-    let told_below = below_or_at(alloc, level, bits(setting, authority(setting, entity)))?;
-    let new = new_tag(alloc, setting, tag)?;
-    let new_above = below_or_at(alloc, bits(setting, authority(setting, entity)), new)?;
-    Calc::two(alloc, Op2::And, told_below, new_above)
-}
-
-/// A state may be left for another in a context.
-fn may_leave(
-    alloc: Global,
-    setting: &Setting<'_>,
-    context: Calc,
-    state: usize,
-    target: usize,
-) -> Result<Calc, AllocError>
-    ensures { let s = setting_in setting.now in let w = world_in setting.now in
-        IfOk result (λ c. calcs.term_of c ≡ (if program.is_dynamic w state then spec.yes else spec.below_or_at (spec.lub (calcs.term_of context) (spec.bits s (entry w target))) (spec.var s (tag_key state)))) }
-{
-    if is_dynamic(setting, state) {
-        Ok(yes())
-    } else {
-        let level = lub(alloc, context, bits(setting, entry_level(setting, target)))?;
-        let own = tag_variable(alloc, setting, state)?;
-        below_or_at(alloc, level, own)
     }
 }
 
@@ -274,23 +383,28 @@ pub fn written(
     requires { RangedStep (world_in setting.now) (views.step_of (entities_in setting.now) step.now) }
     ensures { IfOk result (λ c. calcs.term_of c ≡ spec.written (setting_in setting.now) (calcs.term_of context.now) (views.step_of (entities_in setting.now) step.now)) }
 {
-    let context = context.copy(alloc)?;
     match step {
-        Step::Set { value, .. } => {
-            let value = tag_of(alloc, setting, value)?;
-            lub(alloc, context, value)
-        }
-        Step::Write { index, value, .. } => {
-            let picked = tag_of(alloc, setting, index)?;
-            let value = tag_of(alloc, setting, value)?;
-            let both = lub(alloc, picked, value)?;
-            lub(alloc, context, both)
-        }
+        Step::Set { value, .. } => set_level(alloc, setting, context, value),
+        Step::Write { index, value, .. } => write_level(alloc, setting, context, index, value),
         Step::Retag { tag, .. } => new_tag(alloc, setting, tag),
         Step::RetagCell { tag, .. } => new_tag(alloc, setting, tag),
-        Step::Goto { .. } => Ok(context),
-        Step::Fall { .. } => Ok(context),
+        Step::Goto { .. } => context.copy(alloc),
+        Step::Fall { .. } => context.copy(alloc),
     }
+}
+
+/// A level is at or below the one that a tag expression gives.
+fn below_new(
+    alloc: Global,
+    setting: &Setting<'_>,
+    level: Calc,
+    tag: &TagOf,
+) -> Result<Calc, AllocError>
+    requires { RangedLevel (world_in setting.now) (views.level_of tag.now) }
+    ensures { IfOk result (λ c. calcs.term_of c ≡ spec.below_or_at (calcs.term_of level) (spec.new_tag (setting_in setting.now) (views.level_of tag.now))) }
+{
+    let new = new_tag(alloc, setting, tag)?;
+    below_or_at(alloc, level, new)
 }
 
 /// The number stays where the level does not fall.
@@ -301,8 +415,7 @@ pub fn stays(alloc: Global, setting: &Setting<'_>, step: &Step) -> Result<Calc, 
     match step {
         Step::Retag { entity, tag, .. } => {
             let own = tag_variable(alloc, setting, *entity)?;
-            let new = new_tag(alloc, setting, tag)?;
-            below_or_at(alloc, own, new)
+            below_new(alloc, setting, own, tag)
         }
         Step::RetagCell {
             memory,
@@ -311,8 +424,7 @@ pub fn stays(alloc: Global, setting: &Setting<'_>, step: &Step) -> Result<Calc, 
             ..
         } => {
             let own = cell_variable(alloc, setting, *memory, index)?;
-            let new = new_tag(alloc, setting, tag)?;
-            below_or_at(alloc, own, new)
+            below_new(alloc, setting, own, tag)
         }
         Step::Set { .. } => Ok(yes()),
         Step::Write { .. } => Ok(yes()),

@@ -5,7 +5,7 @@ use Rattle.sap_meaning.specs.Store.{Store, own, level}
 use Rattle.sap_meaning.specs.Checks.{child_level, opens, child_opens}
 use Rattle.sap_program.specs.declared.program.State.{State, out-State}
 use Rattle.sap_program.specs.Views.{group_of}
-use Rattle.sap_run.proofs.Views.{state_of-out}
+use Rattle.sap_program.proofs.Shown.{state_of-out}
 
 module _ (w : World) (s : Store) (m : ℕ) where
   pub child_level-none : (cs : List State) (n : ℕ) → length cs ≤ n → child_level w (group_of m cs) n s ≡ w.order.bottom

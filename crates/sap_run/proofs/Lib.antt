@@ -1,4 +1,3 @@
-pub mod Views
 pub mod Children
 pub mod Arms
 pub mod Weights

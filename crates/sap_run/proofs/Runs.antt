@@ -4,7 +4,7 @@ use Rattle.std.proofs.lemmas.Bool.{cases_Bool}
 use Rattle.std.specs.declared.vec.Vec.{Vec}
 use Rattle.std.specs.declared.alloc.Global.{Global}
 use Rattle.sap_meaning.proofs.StoreLemmas.{and_stay}
-use Rattle.sap_meaning.specs.Program.{World, Block, last_arm, root, listed}
+use Rattle.sap_meaning.specs.Program.{World, last_arm, root, listed}
 use Rattle.sap_meaning.specs.Program as program
 use Rattle.sap_meaning.specs.Checks.{test}
 use Rattle.sap_meaning.specs.Checks as checks
@@ -25,7 +25,7 @@ use Rattle.sap_program.specs.declared.spot.Spot.{Spot}
 use Rattle.sap_store.specs.Able.{AbleStep, AbleTerm, AbleCommand, AbleArms, AbleBlock, AbleState, AbleGroup}
 use Rattle.sap_store.specs.Code.{world_in, entities_in, spot_in}
 use Rattle.sap_run.specs.Runs.{entered, block_run, command_run, attempt_run, select_run, picked_in, choose_run, state_run, CommandAble, BlockAble, ArmsAble, StateAble, GroupAble}
-use Rattle.sap_run.proofs.Views.{command_of-do, command_of-try, command_of-if, command_of-then, command_of-case, state_of-out}
+use Rattle.sap_program.proofs.Shown.{command_of-do, command_of-try, command_of-if, command_of-then, command_of-case, state_of-out}
 
 -- a step with nothing behind where it is accepted
 

@@ -14,7 +14,7 @@ use Rattle.sap_program.specs.declared.program.State.{State as StateCode, out-Sta
 use Rattle.sap_program.specs.Views.{command_of, block_of, arms_before, constants_of, state_of, group_of}
 use Rattle.sap_meaning.specs.Does.{is_constant}
 use Rattle.sap_run.specs.Runs.{picked_in}
-use Rattle.sap_run.proofs.Views.{command_of-do, command_of-try, command_of-if, command_of-then, command_of-case, state_of-out}
+use Rattle.sap_program.proofs.Shown.{command_of-do, command_of-try, command_of-if, command_of-then, command_of-case, state_of-out}
 
 unfoldable mutual
   pub of_command : Command → ℕ

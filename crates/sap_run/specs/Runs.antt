@@ -1,7 +1,7 @@
 -- What the code's parts do, in the words of the labelled meaning.
 use Rattle.std.specs.Prelude.{ℕ, ◌<◌, ◌≤◌, List, [], ◌∷◌, Option, Some, nat_eq, slice_set, if◌then◌else◌}
 use Rattle.sap_maps.specs.Term.{Term}
-use Rattle.sap_meaning.specs.Program.{World, root, is_dynamic, place, listed, LevelTerm, last_arm, Block}
+use Rattle.sap_meaning.specs.Program.{World, root, is_dynamic, place, listed, LevelTerm, last_arm}
 use Rattle.sap_meaning.specs.Program as program
 use Rattle.sap_meaning.specs.Store.{Store, own, start, next, number, level, put_number, put_level, put_child, raise, reset, Refusal, After}
 use Rattle.sap_meaning.specs.Expressions.{value, tag, new_level}

@@ -13,7 +13,7 @@ use Rattle.sap_store.specs.Code.{world_in, entities_in}
 use Rattle.sap_run.specs.Runs.{state_run}
 use Rattle.sap_sem.specs.Falls.{fallen}
 use Rattle.sap_store.proofs.Worlds.{root_is}
-use Rattle.sap_run.proofs.Views.{state_of-out}
+use Rattle.sap_program.proofs.Shown.{state_of-out}
 
 module _ (w : World) (n : ℕ) (h : ℕ → Bool) (p : ℕ) where
   fall_at : (kids : List State) (k : ℕ) (s : Store) (c : State) → k < length kids

@@ -5,7 +5,7 @@ use Rattle.std.proofs.Math.Pow.{pow_pos}
 use Rattle.sap_lemmas.proofs.Lists.{length_map}
 use Rattle.std.proofs.lemmas.List.{length-replicate}
 use Rattle.sap_lattice.specs.Order.{Order}
-use Rattle.sap_meaning.specs.Program.{World, nothing, entity, root, width, depth_of}
+use Rattle.sap_meaning.specs.Program.{World, nothing, entity, width, depth_of}
 use Rattle.sap_meaning.specs.Program as program
 use Rattle.sap_meaning.specs.Sized.{depth}
 use Rattle.sap_meaning.specs.State.{first, first_number, first_level}

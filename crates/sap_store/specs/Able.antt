@@ -1,4 +1,4 @@
--- What a machine needs of a program: that numbers stand for entities, and widths are those that the operators take.
+-- What running needs of a program: that numbers stand for entities, and widths are those that the operators take.
 use Rattle.std.specs.Prelude.{◌≡◌, ℕ, ◌<◌, ◌≤◌, ◌^◌, false}
 use Rattle.sap_maps.specs.Term.{Term}
 use Rattle.sap_meaning.specs.Program.{World, root, is_dynamic, width, place, last, LevelTerm, fixed, of, at_place, both, Step, assign, write, retag, retag_cell, go_to, fall_to_child, Command, lone, try, if_else, try_then, case_of, Arms, last_arm, and_arm, Block, end_block, command_then, State, state_node, Group, no_node, and_node}

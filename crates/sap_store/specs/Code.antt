@@ -1,4 +1,4 @@
--- What the parts of the machine's code are seen as.
+-- What the parts of the code are seen as.
 use Rattle.std.specs.Prelude.{ℕ}
 use Rattle.sap_lattice.specs.Levels.{order_of}
 use Rattle.sap_meaning.specs.Program.{World}

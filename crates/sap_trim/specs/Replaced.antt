@@ -1,5 +1,5 @@
 -- Right sides with other operands in place of the names that they read.
-use Rattle.std.specs.Prelude.{◌≡◌, Option, unwrap_or, map, if◌then◌else◌}
+use Rattle.std.specs.Prelude.{Option, unwrap_or, map}
 use Rattle.sap_maps.specs.Maps.{Name}
 use Rattle.sap_net.specs.declared.parts.Operand.{Operand}
 use Rattle.sap_net.specs.declared.parts.Operand.TheVariants.{Named, Constant}

@@ -2,8 +2,10 @@
 
 ghost use Rattle.std.specs.Prelude.{◌≡◌, map, IfOk};
 ghost use Rattle.sap_net.specs.NameMaps.{at_name};
+ghost use Rattle.sap_net.specs.declared.parts.Right.TheVariants as right;
 ghost use Rattle.sap_trim.specs.Replaced.{replaced, standing, standing_operand};
 
+use sap_bits::Op2;
 use sap_fold::slices::sliced;
 use sap_net::parts::{Name, Operand, Operands, Right};
 use std::alloc::{AllocError, Global};
@@ -54,6 +56,48 @@ fn stand_all(
     Ok(made)
 }
 
+fn two(
+    alloc: Global,
+    stands: &HashMap<Vec<u8>, Operand>,
+    op: Op2,
+    a: &Operand,
+    b: &Operand,
+) -> Result<Right, AllocError>
+    ensures { IfOk result (λ r. r ≡ replaced (at_name stands.now) (right.Two op a.now b.now)) }
+{
+    let a = stand(alloc, stands, a)?;
+    let b = stand(alloc, stands, b)?;
+    Ok(Right::Two(op, a, b))
+}
+
+fn choice(
+    alloc: Global,
+    stands: &HashMap<Vec<u8>, Operand>,
+    c: &Operand,
+    a: &Operand,
+    b: &Operand,
+) -> Result<Right, AllocError>
+    ensures { IfOk result (λ r. r ≡ replaced (at_name stands.now) (right.Choose c.now a.now b.now)) }
+{
+    let c = stand(alloc, stands, c)?;
+    let a = stand(alloc, stands, a)?;
+    let b = stand(alloc, stands, b)?;
+    Ok(Right::Choose(c, a, b))
+}
+
+fn cell(
+    alloc: Global,
+    stands: &HashMap<Vec<u8>, Operand>,
+    memory: &Name,
+    index: &Operand,
+) -> Result<Right, AllocError>
+    ensures { IfOk result (λ r. r ≡ replaced (at_name stands.now) (right.Cell memory.now index.now)) }
+{
+    let memory = memory.copy(alloc)?;
+    let index = stand(alloc, stands, index)?;
+    Ok(Right::Cell { memory, index })
+}
+
 /// A right side with what stands for its operands in their place.
 pub fn replace(
     alloc: Global,
@@ -71,17 +115,8 @@ pub fn replace(
             let a = stand(alloc, stands, a)?;
             Ok(Right::One(*op, a))
         }
-        Right::Two(op, a, b) => {
-            let a = stand(alloc, stands, a)?;
-            let b = stand(alloc, stands, b)?;
-            Ok(Right::Two(*op, a, b))
-        }
-        Right::Choose(c, a, b) => {
-            let c = stand(alloc, stands, c)?;
-            let a = stand(alloc, stands, a)?;
-            let b = stand(alloc, stands, b)?;
-            Ok(Right::Choose(c, a, b))
-        }
+        Right::Two(op, a, b) => two(alloc, stands, *op, a, b),
+        Right::Choose(c, a, b) => choice(alloc, stands, c, a, b),
         Right::Concat(operands) => {
             let operands = stand_all(alloc, stands, operands.as_slice())?;
             Ok(Right::Concat(Operands::new(operands)))
@@ -90,10 +125,6 @@ pub fn replace(
             let of = stand_name(alloc, stands, name)?;
             Ok(sliced(of, *hi, *lo))
         }
-        Right::Cell { memory, index } => {
-            let memory = memory.copy(alloc)?;
-            let index = stand(alloc, stands, index)?;
-            Ok(Right::Cell { memory, index })
-        }
+        Right::Cell { memory, index } => cell(alloc, stands, memory, index),
     }
 }

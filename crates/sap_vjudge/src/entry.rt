@@ -10,7 +10,7 @@ ghost use Rattle.sap_vjudge.specs.Entries.{entry_shape, entry_set};
 use crate::shape::{Setting, Shape};
 
 /// What a name is first declared as, and which items set it.
-#[derive(Clone, Copy, PartialEq, Eq, Debug)]
+#[derive(Clone, Copy)]
 pub struct Entry {
     pub shape: Option<Shape>,
     pub assigned: bool,

@@ -2,7 +2,7 @@
 
 /// What a name is declared as, with the number of its range, which is one below its width; of a memory with the number
 /// of its last cell, which is one below its depth.
-#[derive(Clone, Copy, PartialEq, Eq, Debug)]
+#[derive(Clone, Copy)]
 pub enum Shape {
     Input(u64),
     Wire(u64),
@@ -11,7 +11,7 @@ pub enum Shape {
 }
 
 /// The kinds of items that set what they name.
-#[derive(Clone, Copy, PartialEq, Eq, Debug)]
+#[derive(Clone, Copy)]
 pub enum Setting {
     Assign,
     Initial,
@@ -19,7 +19,7 @@ pub enum Setting {
 }
 
 /// How a name is used.
-#[derive(Clone, Copy, PartialEq, Eq, Debug)]
+#[derive(Clone, Copy)]
 pub enum Manner {
     /// As an operand, or sliced.
     Value,

@@ -9,7 +9,9 @@ pub mod Lists
 pub mod Makes
 pub mod NeverSkips
 pub mod OneReading
+pub mod Rows
 pub mod Runs
 pub mod Single
+pub mod Turns
 pub mod Viable
 pub mod Walks

@@ -3,6 +3,7 @@ pub mod Lexemes
 pub mod Lexing
 pub mod Parts
 pub mod Reading
+pub mod Rows
 pub mod Spelling
 pub mod Table
 pub mod Text

@@ -1,14 +1,15 @@
 -- Parts of productions, as functions of the reader take them.
-use Rattle.std.specs.Prelude.{◌≡◌, List, ◌++◌}
+use Rattle.std.specs.Prelude.{◌≡◌, List, ◌++◌, Option, None, Some}
 use Rattle.sap_bits.specs.declared.Op2.{Op2}
-use Rattle.sap_modtext.specs.Grammar.{AreItems, AreParts, ArePorts, IsClocked, IsItem, IsName, IsOperand, IsRight, IsSign, IsWord, binary_sign}
+use Rattle.sap_modtext.specs.Grammar.{AreItems, AreParts, ArePorts, IsClocked, IsDigit, IsItem, IsName, IsNumber, IsOperand, IsRight, IsSign, IsWord, binary_sign}
 use Rattle.sap_modtext.specs.Items as item
 use Rattle.sap_modtext.specs.Tokens as t
 use Rattle.sap_modtext.specs.Tokens.{Token}
-use Rattle.sap_vparse.specs.Views.{mention_of, operand_of, operands_of}
+use Rattle.sap_vparse.specs.Views.{mention_of, number_of, operand_of, operands_of}
 use Rattle.sap_vparse.specs.declared.items.Direction.{Direction}
 use Rattle.sap_vparse.specs.declared.items.Direction.TheVariants as d
 use Rattle.sap_vparse.specs.declared.items.Mention.{Mention}
+use Rattle.sap_vparse.specs.declared.items.Number.{Number}
 use Rattle.sap_vparse.specs.declared.items.Operand.{Operand}
 use Rattle.sap_vparse.specs.declared.right.Behind.{Behind}
 use Rattle.sap_vparse.specs.declared.right.Behind.TheVariants as b
@@ -54,6 +55,16 @@ right_with x (b.Choose y z) = item.choose x (operand_of y) (operand_of z)
 -- behind this name and `[`, the rest of a right side and `;`
 abbrev pub Indexes : Mention → List Token → item.Right → List Token → Type 0
 Indexes x old right new = (ts m : List Token) → IsName ts (mention_of x) m → IsSign m t.open_bracket old → RightEnds ts right new
+
+-- behind the name of a register, `;`, or the number of the last cell of a memory and `;`
+pub data RegisterEnds : List Token → Option Number → List Token → Type 0 where
+  no_cells : {ts r : List Token} → IsSign ts t.semicolon r → RegisterEnds ts None r
+  cells : {ts a b c d e r : List Token} {last : Number} → IsSign ts t.open_bracket a → IsDigit a 0 b → IsSign b t.colon c → IsNumber c (number_of last) d
+      → IsSign d t.close_bracket e → IsSign e t.semicolon r → RegisterEnds ts (Some last) r
+
+abbrev pub register_with : item.Number → item.Mention → Option Number → item.Item
+register_with range x None = item.register range x
+register_with range x (Some last) = item.memory range x (number_of last)
 
 -- behind `initial`, and behind `always` with its clock, the rest of an item
 

@@ -11,7 +11,7 @@ use crate::token::{Sign, Word};
 use sap_bits::{Op1, Op2};
 
 /// What a token begins as the right side of an `assign`; a constant where it begins none.
-#[derive(Clone, Copy, Debug)]
+#[derive(Clone, Copy)]
 pub enum RightHead {
     One(Op1),
     Concat,
@@ -20,7 +20,7 @@ pub enum RightHead {
 }
 
 /// What a token begins behind a first operand; the end where it begins nothing.
-#[derive(Clone, Copy, Debug)]
+#[derive(Clone, Copy)]
 pub enum AfterHead {
     Two(Op2),
     Choose,
@@ -28,7 +28,7 @@ pub enum AfterHead {
 }
 
 /// What a token begins as an item; an `always` where it begins none.
-#[derive(Clone, Copy, PartialEq, Eq, Debug)]
+#[derive(Clone, Copy)]
 pub enum ItemHead {
     Wire,
     Register,

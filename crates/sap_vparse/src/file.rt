@@ -11,6 +11,7 @@ use crate::cursor::{Cursor, Fault};
 use crate::item::item;
 use crate::items::{File, Item};
 use crate::port::ports;
+use crate::row::{PORTS, name_then};
 use crate::token::{Sign, Word};
 use std::alloc::Global;
 
@@ -53,10 +54,7 @@ pub fn file(alloc: Global, tokens: &mut Cursor<'_>) -> Result<File, Fault>
     ensures end { IfOk result (λ _. tokens.new ≡ []) }
 {
     tokens.word(Word::Module)?;
-    let name = tokens.name(alloc)?;
-    tokens.sign(Sign::OpenParen)?;
-    tokens.word(Word::Input)?;
-    tokens.word(Word::Clk)?;
+    let name = name_then(alloc, tokens, &PORTS)?;
     let ports = ports(alloc, tokens)?;
     tokens.sign(Sign::Semicolon)?;
     let items = items(alloc, tokens)?;

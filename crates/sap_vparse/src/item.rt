@@ -1,19 +1,24 @@
 //! The reader of items.
 
 ghost use Rattle.std.specs.Prelude.{◌≡◌, ◌≢◌, ◌<◌, IfOk, length};
-ghost use Rattle.sap_modtext.specs.Grammar.{IsClocked, IsItem, IsLoop};
+ghost use Rattle.sap_modtext.specs.Grammar.{IsItem, IsLoop};
 ghost use Rattle.sap_vparse.specs.Choices.{item_head};
-ghost use Rattle.sap_vparse.specs.Parts.{AfterClock, AfterInitial};
+ghost use Rattle.sap_vparse.specs.Parts.{AfterClock, AfterInitial, RegisterEnds, register_with};
 ghost use Rattle.sap_vparse.specs.Reading.{Goes, head, of_name};
 ghost use Rattle.sap_vparse.specs.Table as s;
-ghost use Rattle.sap_vparse.specs.Views.{item_of, number_of};
+ghost use Rattle.sap_vparse.specs.Views.{item_of, mention_of, number_of};
 
 use crate::choice::{ItemHead, item_head};
 use crate::cursor::{Cursor, Fault};
-use crate::items::{Item, Number};
-use crate::operand::operand;
+use crate::items::{Item, Mention, Number};
+use crate::operand::operand_then;
 use crate::port::range;
 use crate::right::right;
+use crate::row::{
+    AT_I, BECOMES, CELL_BECOMES, CLOCKED, CLOSE_BRACKET, CLOSE_PAREN, CONDITION, FROM_ZERO,
+    INTEGER, IS, LOOP, OPEN_BRACKET, SEMICOLON, START, STEP, constant_then, name_then, number_then,
+    row,
+};
 use crate::token::{Sign, Word};
 use std::alloc::Global;
 
@@ -26,9 +31,33 @@ fn wire(alloc: Global, tokens: &mut Cursor<'_>) -> Result<Item, Fault>
 {
     tokens.word(Word::Wire)?;
     let range = range(tokens)?;
-    let name = tokens.name(alloc)?;
-    tokens.sign(Sign::Semicolon)?;
+    let name = name_then(alloc, tokens, &SEMICOLON)?;
     Ok(Item::Wire(range, name))
+}
+
+/// The number of a memory's last cell, where the declaration of a register goes on so.
+#[tactic(auto, using(crate::proofs::Walks::ends_of_registers))]
+fn last_cell(tokens: &mut Cursor<'_>) -> Result<Option<Number>, Fault>
+    ensures goes { Goes s.after_register tokens.old result tokens.new }
+    ensures tree { IfOk result (λ last. RegisterEnds tokens.old last tokens.new) }
+    ensures shorter { IfOk result (λ _. length tokens.new < length tokens.old) }
+{
+    if !tokens.at_sign(Sign::OpenBracket) {
+        tokens.sign(Sign::Semicolon)?;
+        return Ok(None);
+    }
+    row(tokens, &FROM_ZERO)?;
+    let last = number_then(tokens, &CLOSE_BRACKET)?;
+    Ok(Some(last))
+}
+
+fn declared(range: Number, name: Mention, last: Option<Number>) -> Item
+    ensures { item_of result ≡ register_with (number_of range) (mention_of name) last }
+{
+    match last {
+        Some(last) => Item::Memory(range, name, last),
+        None => Item::Register(range, name),
+    }
 }
 
 /// A register or a memory.
@@ -42,17 +71,8 @@ fn register(alloc: Global, tokens: &mut Cursor<'_>) -> Result<Item, Fault>
     tokens.word(Word::Reg)?;
     let range = range(tokens)?;
     let name = tokens.name(alloc)?;
-    if !tokens.at_sign(Sign::OpenBracket) {
-        tokens.sign(Sign::Semicolon)?;
-        return Ok(Item::Register(range, name));
-    }
-    tokens.sign(Sign::OpenBracket)?;
-    tokens.digit(0)?;
-    tokens.sign(Sign::Colon)?;
-    let last = tokens.number()?;
-    tokens.sign(Sign::CloseBracket)?;
-    tokens.sign(Sign::Semicolon)?;
-    Ok(Item::Memory(range, name, last))
+    let last = last_cell(tokens)?;
+    Ok(declared(range, name, last))
 }
 
 #[tactic(auto, using(crate::proofs::Walks::integers))]
@@ -62,9 +82,7 @@ fn integer(tokens: &mut Cursor<'_>) -> Result<Item, Fault>
     ensures tree { IfOk result (λ x. IsItem tokens.old (item_of x) tokens.new) }
     ensures shorter { IfOk result (λ _. length tokens.new < length tokens.old) }
 {
-    let place = tokens.word(Word::Integer)?;
-    tokens.word(Word::I)?;
-    tokens.sign(Sign::Semicolon)?;
+    let place = row(tokens, &INTEGER)?;
     Ok(Item::Integer(place))
 }
 
@@ -76,8 +94,7 @@ fn assign(alloc: Global, tokens: &mut Cursor<'_>) -> Result<Item, Fault>
     ensures shorter { IfOk result (λ _. length tokens.new < length tokens.old) }
 {
     tokens.word(Word::Assign)?;
-    let name = tokens.name(alloc)?;
-    tokens.sign(Sign::Is)?;
+    let name = name_then(alloc, tokens, &IS)?;
     let right = right(alloc, tokens)?;
     Ok(Item::Assign(name, right))
 }
@@ -90,15 +107,13 @@ fn start(alloc: Global, tokens: &mut Cursor<'_>) -> Result<Item, Fault>
     ensures tree { IfOk result (λ x. AfterInitial tokens.old (item_of x) tokens.new) }
     ensures shorter { IfOk result (λ _. length tokens.new < length tokens.old) }
 {
-    let name = tokens.name(alloc)?;
-    tokens.sign(Sign::Is)?;
-    let value = tokens.constant()?;
-    tokens.sign(Sign::Semicolon)?;
+    let name = name_then(alloc, tokens, &IS)?;
+    let value = constant_then(tokens, &SEMICOLON)?;
     Ok(Item::Initial(name, value))
 }
 
 /// The head of a `for`: the place of its first `i`, and its bound.
-#[derive(Clone, Copy, Debug)]
+#[derive(Clone, Copy)]
 struct Head {
     place: u64,
     bound: Number,
@@ -110,22 +125,9 @@ fn for_head(tokens: &mut Cursor<'_>) -> Result<Head, Fault>
     ensures tree { IfOk result (λ x. IsLoop tokens.old x.place (number_of x.bound) tokens.new) }
     ensures shorter { IfOk result (λ _. length tokens.new < length tokens.old) }
 {
-    tokens.word(Word::For)?;
-    tokens.sign(Sign::OpenParen)?;
-    let place = tokens.word(Word::I)?;
-    tokens.sign(Sign::Is)?;
-    tokens.digit(0)?;
-    tokens.sign(Sign::Semicolon)?;
-    tokens.word(Word::I)?;
-    tokens.sign(Sign::Less)?;
-    let bound = tokens.number()?;
-    tokens.sign(Sign::Semicolon)?;
-    tokens.word(Word::I)?;
-    tokens.sign(Sign::Is)?;
-    tokens.word(Word::I)?;
-    tokens.sign(Sign::Plus)?;
-    tokens.digit(1)?;
-    tokens.sign(Sign::CloseParen)?;
+    row(tokens, &LOOP)?;
+    let place = row(tokens, &START)?;
+    let bound = number_then(tokens, &STEP)?;
     Ok(Head { place, bound })
 }
 
@@ -138,13 +140,8 @@ fn cells(alloc: Global, tokens: &mut Cursor<'_>) -> Result<Item, Fault>
     ensures shorter { IfOk result (λ _. length tokens.new < length tokens.old) }
 {
     let head = for_head(tokens)?;
-    let name = tokens.name(alloc)?;
-    tokens.sign(Sign::OpenBracket)?;
-    tokens.word(Word::I)?;
-    tokens.sign(Sign::CloseBracket)?;
-    tokens.sign(Sign::Is)?;
-    let value = tokens.constant()?;
-    tokens.sign(Sign::Semicolon)?;
+    let name = name_then(alloc, tokens, &AT_I)?;
+    let value = constant_then(tokens, &SEMICOLON)?;
     Ok(Item::InitialCells(head.place, head.bound, name, value))
 }
 
@@ -169,24 +166,7 @@ fn initial(alloc: Global, tokens: &mut Cursor<'_>) -> Result<Item, Fault>
     ensures shorter { IfOk result (λ _. length tokens.new < length tokens.old) }
 {
     tokens.word(Word::Initial)?;
-    let item = contents(alloc, tokens)?;
-    Ok(item)
-}
-
-/// `always`, and the clock; gives the place behind it.
-#[tactic(auto, using(crate::proofs::Walks::clocks))]
-fn clocked(tokens: &mut Cursor<'_>) -> Result<u64, Fault>
-    ensures goes { Goes s.clocked tokens.old result tokens.new }
-    ensures tree { IfOk result (λ _. IsClocked tokens.old tokens.new) }
-    ensures shorter { IfOk result (λ _. length tokens.new < length tokens.old) }
-{
-    tokens.word(Word::Always)?;
-    tokens.sign(Sign::At)?;
-    tokens.sign(Sign::OpenParen)?;
-    tokens.word(Word::Posedge)?;
-    tokens.word(Word::Clk)?;
-    let place = tokens.sign(Sign::CloseParen)?;
-    Ok(place)
+    contents(alloc, tokens)
 }
 
 /// The next contents of a register.
@@ -197,10 +177,8 @@ fn update(alloc: Global, tokens: &mut Cursor<'_>) -> Result<Item, Fault>
     ensures tree { IfOk result (λ x. AfterClock tokens.old (item_of x) tokens.new) }
     ensures shorter { IfOk result (λ _. length tokens.new < length tokens.old) }
 {
-    let name = tokens.name(alloc)?;
-    tokens.sign(Sign::LessOrEqual)?;
-    let next = operand(alloc, tokens)?;
-    tokens.sign(Sign::Semicolon)?;
+    let name = name_then(alloc, tokens, &BECOMES)?;
+    let next = operand_then(alloc, tokens, &SEMICOLON)?;
     Ok(Item::Always(name, Box::into_inner(next)))
 }
 
@@ -212,17 +190,11 @@ fn write(alloc: Global, tokens: &mut Cursor<'_>) -> Result<Item, Fault>
     ensures tree { IfOk result (λ x. AfterClock tokens.old (item_of x) tokens.new) }
     ensures shorter { IfOk result (λ _. length tokens.new < length tokens.old) }
 {
-    tokens.word(Word::If)?;
-    tokens.sign(Sign::OpenParen)?;
-    let condition = operand(alloc, tokens)?;
-    tokens.sign(Sign::CloseParen)?;
-    let name = tokens.name(alloc)?;
-    tokens.sign(Sign::OpenBracket)?;
-    let index = operand(alloc, tokens)?;
-    tokens.sign(Sign::CloseBracket)?;
-    tokens.sign(Sign::LessOrEqual)?;
-    let value = operand(alloc, tokens)?;
-    tokens.sign(Sign::Semicolon)?;
+    row(tokens, &CONDITION)?;
+    let condition = operand_then(alloc, tokens, &CLOSE_PAREN)?;
+    let name = name_then(alloc, tokens, &OPEN_BRACKET)?;
+    let index = operand_then(alloc, tokens, &CELL_BECOMES)?;
+    let value = operand_then(alloc, tokens, &SEMICOLON)?;
     Ok(Item::AlwaysCell(
         Box::into_inner(condition),
         name,
@@ -251,9 +223,8 @@ fn always(alloc: Global, tokens: &mut Cursor<'_>) -> Result<Item, Fault>
     ensures tree { IfOk result (λ x. IsItem tokens.old (item_of x) tokens.new) }
     ensures shorter { IfOk result (λ _. length tokens.new < length tokens.old) }
 {
-    clocked(tokens)?;
-    let item = next_contents(alloc, tokens)?;
-    Ok(item)
+    row(tokens, &CLOCKED)?;
+    next_contents(alloc, tokens)
 }
 
 /// An item.

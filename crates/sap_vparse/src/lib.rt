@@ -16,6 +16,7 @@ mod operand;
 mod port;
 mod read;
 mod right;
+mod row;
 mod token;
 
 pub use fault::ReadFault;

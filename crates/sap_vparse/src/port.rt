@@ -10,6 +10,7 @@ ghost use Rattle.sap_vparse.specs.Views.{number_of, port_of, ports_of};
 
 use crate::cursor::{Cursor, Fault};
 use crate::items::{Direction, Number, Port};
+use crate::row::{TO_ZERO, number_then};
 use crate::token::{Sign, Word};
 use std::alloc::Global;
 
@@ -21,11 +22,7 @@ pub fn range(tokens: &mut Cursor<'_>) -> Result<Number, Fault>
     ensures shorter { IfOk result (λ _. length tokens.new < length tokens.old) }
 {
     tokens.sign(Sign::OpenBracket)?;
-    let number = tokens.number()?;
-    tokens.sign(Sign::Colon)?;
-    tokens.digit(0)?;
-    tokens.sign(Sign::CloseBracket)?;
-    Ok(number)
+    number_then(tokens, &TO_ZERO)
 }
 
 /// `reg` or `wire`.

@@ -11,13 +11,14 @@ ghost use Rattle.sap_vparse.specs.Views.{operand_of, right_of};
 use crate::choice::{AfterHead, RightHead, after_head, binary_sign, right_head, unary_sign};
 use crate::cursor::{Cursor, Fault};
 use crate::items::{Mention, Operand, Operands, Right};
-use crate::operand::operand;
+use crate::operand::{operand, operand_then};
+use crate::row::{CLOSE_BRACKET, COLON, COMMA, SEMICOLON, number_then};
 use crate::token::Sign;
 use sap_bits::{Op1, Op2};
 use std::alloc::Global;
 
 /// What stands behind the first operand of a right side.
-#[derive(Debug, Drop)]
+#[derive(Drop)]
 pub enum Behind {
     Nothing,
     Two(Op2, Operand),
@@ -51,8 +52,7 @@ fn two(alloc: Global, tokens: &mut Cursor<'_>, op: Op2) -> Result<Behind, Fault>
     ensures shorter { IfOk result (λ _. length tokens.new < length tokens.old) }
 {
     binary(tokens, op)?;
-    let second = operand(alloc, tokens)?;
-    tokens.sign(Sign::Semicolon)?;
+    let second = operand_then(alloc, tokens, &SEMICOLON)?;
     Ok(Behind::Two(op, Box::into_inner(second)))
 }
 
@@ -64,10 +64,8 @@ fn choose(alloc: Global, tokens: &mut Cursor<'_>) -> Result<Behind, Fault>
     ensures shorter { IfOk result (λ _. length tokens.new < length tokens.old) }
 {
     tokens.sign(Sign::Question)?;
-    let yes = operand(alloc, tokens)?;
-    tokens.sign(Sign::Colon)?;
-    let no = operand(alloc, tokens)?;
-    tokens.sign(Sign::Semicolon)?;
+    let yes = operand_then(alloc, tokens, &COLON)?;
+    let no = operand_then(alloc, tokens, &SEMICOLON)?;
     Ok(Behind::Choose(Box::into_inner(yes), Box::into_inner(no)))
 }
 
@@ -102,11 +100,8 @@ fn slice(tokens: &mut Cursor<'_>, name: Mention) -> Result<Right, Fault>
     ensures tree { IfOk result (λ x. Indexes name tokens.old (right_of x) tokens.new) }
     ensures shorter { IfOk result (λ _. length tokens.new < length tokens.old) }
 {
-    let high = tokens.number()?;
-    tokens.sign(Sign::Colon)?;
-    let low = tokens.number()?;
-    tokens.sign(Sign::CloseBracket)?;
-    tokens.sign(Sign::Semicolon)?;
+    let high = number_then(tokens, &COLON)?;
+    let low = number_then(tokens, &CLOSE_BRACKET)?;
     Ok(Right::Slice(name, high.value, low.value))
 }
 
@@ -118,9 +113,7 @@ fn cell(alloc: Global, tokens: &mut Cursor<'_>, name: Mention) -> Result<Right, 
     ensures tree { IfOk result (λ x. Indexes name tokens.old (right_of x) tokens.new) }
     ensures shorter { IfOk result (λ _. length tokens.new < length tokens.old) }
 {
-    let index = operand(alloc, tokens)?;
-    tokens.sign(Sign::CloseBracket)?;
-    tokens.sign(Sign::Semicolon)?;
+    let index = operand_then(alloc, tokens, &CLOSE_BRACKET)?;
     Ok(Right::Cell(name, Box::into_inner(index)))
 }
 
@@ -146,8 +139,7 @@ fn from_name(alloc: Global, tokens: &mut Cursor<'_>) -> Result<Right, Fault>
     let name = tokens.name(alloc)?;
     if tokens.at_sign(Sign::OpenBracket) {
         tokens.sign(Sign::OpenBracket)?;
-        let right = indexed(alloc, tokens, name)?;
-        return Ok(right);
+        return indexed(alloc, tokens, name);
     }
     let behind = after_operand(alloc, tokens)?;
     Ok(joined(Operand::Named(name), behind))
@@ -182,8 +174,7 @@ fn one(alloc: Global, tokens: &mut Cursor<'_>, op: Op1) -> Result<Right, Fault>
     ensures shorter { IfOk result (λ _. length tokens.new < length tokens.old) }
 {
     unary(tokens, op)?;
-    let operand = operand(alloc, tokens)?;
-    tokens.sign(Sign::Semicolon)?;
+    let operand = operand_then(alloc, tokens, &SEMICOLON)?;
     Ok(Right::One(op, Box::into_inner(operand)))
 }
 
@@ -199,8 +190,7 @@ fn parts(alloc: Global, tokens: &mut Cursor<'_>, list: &mut Vec<Operand>) -> Res
         let next = operand(alloc, tokens)?;
         list.push(Box::into_inner(next))?;
     }
-    let place = tokens.sign(Sign::CloseBrace)?;
-    Ok(place)
+    tokens.sign(Sign::CloseBrace)
 }
 
 #[tactic(auto, using(crate::proofs::Walks::braces))]
@@ -211,8 +201,7 @@ fn concat(alloc: Global, tokens: &mut Cursor<'_>) -> Result<Right, Fault>
     ensures shorter { IfOk result (λ _. length tokens.new < length tokens.old) }
 {
     tokens.sign(Sign::OpenBrace)?;
-    let first = operand(alloc, tokens)?;
-    tokens.sign(Sign::Comma)?;
+    let first = operand_then(alloc, tokens, &COMMA)?;
     let second = operand(alloc, tokens)?;
     let mut list = Vec::new(alloc);
     list.push(Box::into_inner(first))?;

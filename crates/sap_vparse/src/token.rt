@@ -3,7 +3,7 @@
 use sap_net::parts::Name;
 
 /// A keyword.
-#[derive(Clone, Copy, PartialEq, Eq, Debug)]
+#[derive(Clone, Copy, PartialEq, Eq)]
 pub enum Word {
     Module,
     Endmodule,
@@ -23,7 +23,7 @@ pub enum Word {
 }
 
 /// A sign.
-#[derive(Clone, Copy, PartialEq, Eq, Debug)]
+#[derive(Clone, Copy, PartialEq, Eq)]
 pub enum Sign {
     /// `(`
     OpenParen,

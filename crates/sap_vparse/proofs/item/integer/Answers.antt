@@ -1,5 +1,5 @@
-use Rattle.sap_modtext.specs.Grammar as g
+use Rattle.sap_vparse.proofs.Makes.{integer_tree}
 use Rattle.sap_vparse.proofs.item.integer.Goals as goal
 
 pub returns-clause-tree : goal.returns-clause-tree
-returns-clause-tree c = g.integer c.in_ok-place.ensures.there c.in_ok-word.ensures.tree c.in_ok-sign.ensures.tree
+returns-clause-tree c = integer_tree c.in_ok-place.ensures.tree c.in_ok-place.ensures.place

@@ -8,6 +8,6 @@ use Rattle.sap_vparse.proofs.right.concat.Goals as goal
 
 pub returns-clause-tree : goal.returns-clause-tree
 returns-clause-tree c =
-    subst (λ (zs : List Operand). RightEnds c.args.tokens.now (item.concat (operands_of zs)) c.sign-3.new.self) (sym c.new.ensures)
-    (concat_tree c.in_ok-sign.ensures.tree c.in_ok-first.ensures.tree c.in_ok-sign-2.ensures.tree c.in_ok-second.ensures.tree c.in_ok-parts.ensures.tree c.in_ok-sign-3.ensures.tree c.into_inner.ensures c.into_inner-2.ensures
+    subst (λ (zs : List Operand). RightEnds c.args.tokens.now (item.concat (operands_of zs)) c.sign-2.new.self) (sym c.new.ensures)
+    (concat_tree c.in_ok-sign.ensures.tree c.in_ok-first.ensures.tree c.in_ok-second.ensures.tree c.in_ok-parts.ensures.tree c.in_ok-sign-2.ensures.tree c.into_inner.ensures c.into_inner-2.ensures
     (c.in_ok-push.ensures.items ∙ ap (λ (zs : List Operand). zs ++ c.into_inner.result ∷ []) c.new-list.ensures.items) c.in_ok-push-2.ensures.items)

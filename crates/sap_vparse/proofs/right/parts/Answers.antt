@@ -1,9 +1,12 @@
 use Rattle.std.proofs.Common.{◌∙◌, ◌++◌, ◌∷◌, [], refl, sym, ap, arith}
 use Rattle.std.proofs.lemmas.List.{append-nil}
 use Rattle.sap_modtext.specs.Grammar as g
+use Rattle.sap_modtext.specs.Tokens as t
+use Rattle.sap_vparse.specs.Table as s
 use Rattle.sap_vparse.specs.Views.{operand_of, operands_of}
 use Rattle.sap_vparse.specs.declared.items.Operand.{Operand}
-use Rattle.sap_vparse.proofs.Laws.{parts_more}
+use Rattle.sap_vparse.proofs.Faults.{ends_with, if_ok}
+use Rattle.sap_vparse.proofs.Laws.{parts_end, parts_more}
 use Rattle.sap_vparse.proofs.Lists.{pushed}
 use Rattle.sap_walk.proofs.Walking.{bind_ok, bind_pure}
 use Rattle.sap_vparse.proofs.right.parts.Goals as goal
@@ -21,7 +24,11 @@ parts-preserved c = record {
   no_longer = omega (arith, c.parts.invariant.no_longer, c.in_ok-sign.ensures.shorter, c.in_ok-next.ensures.shorter);
 }
 
+pub returns-clause-goes : goal.returns-clause-goes
+returns-clause-goes c =
+    ends_with s.parts (s.sign t.close_brace) c.args.tokens.now c.parts.tokens c.sign-2.new.self c.sign-2.result (c.parts.invariant.goes ∙ parts_end c.parts.tokens (c.parts-test.ensures.no refl)) c.sign-2.ensures.goes
+
 pub returns-clause-tree : goal.returns-clause-tree
 returns-clause-tree c =
     let h = c.parts.invariant.tree [] c.parts.tokens g.no_part in
-    record { last = c.parts.tokens; added = h.0; all = sym (append-nil (operands_of c.parts.list.items)) ∙ h.1; parts = h.2; close = c.in_ok-place.ensures.tree }
+    if_ok c.sign-2.result (λ _ close. record { last = c.parts.tokens; added = h.0; all = sym (append-nil (operands_of c.parts.list.items)) ∙ h.1; parts = h.2; close = close }) c.sign-2.ensures.tree

@@ -1,0 +1,4 @@
+use Rattle.sap_vparse.proofs.row.constant_then.Goals as goal
+
+pub returns-clause-tree : goal.returns-clause-tree
+returns-clause-tree c = (_, c.in_ok-constant.ensures.tree, c.in_ok-row.ensures.tree)
