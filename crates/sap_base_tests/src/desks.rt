@@ -10,11 +10,24 @@ use std::test::Fail;
 /// A desk over the host's files whose two streams are buffers.
 type Host<'a> = HostDesk<&'a HostRuntime, &'a mut Vec<u8>, &'a mut Vec<u8>>;
 
+fn is_missing(alloc: Global, desk: &mut Host<'_>, name: &str) -> bool {
+    matches!(read_file(alloc, desk, name), Err(DeskError::Failed))
+}
+
+fn takes(desk: &mut Host<'_>, name: &str, bytes: &[u8]) -> bool {
+    write_file(desk, name, bytes).is_ok()
+}
+
+fn gives(alloc: Global, desk: &mut Host<'_>, name: &str, bytes: &[u8]) -> bool {
+    match read_file(alloc, desk, name) {
+        Ok(held) => held.as_slice() == bytes,
+        Err(_) => false,
+    }
+}
+
 /// Whether a missing file fails, and a file holds what is written to it.
 fn keeps(alloc: Global, desk: &mut Host<'_>, name: &str, bytes: &[u8]) -> bool {
-    matches!(read_file(alloc, desk, name), Err(DeskError::Failed))
-        && write_file(desk, name, bytes).is_ok()
-        && matches!(read_file(alloc, desk, name), Ok(held) if held.as_slice() == bytes)
+    is_missing(alloc, desk, name) && takes(desk, name, bytes) && gives(alloc, desk, name, bytes)
 }
 
 #[test]
@@ -28,12 +41,24 @@ fn the_host_keeps_what_is_written_to_a_file(rt: HostRuntime) -> Result<(), Fail>
     Ok(())
 }
 
+fn takes_output(desk: &mut Host<'_>, text: &[u8]) -> bool {
+    write_output(desk, text).is_ok()
+}
+
+fn takes_line(desk: &mut Host<'_>, parts: &[&[u8]]) -> bool {
+    write_line(desk, parts).is_ok()
+}
+
+fn ends(desk: &mut Host<'_>, channel: usize) -> bool {
+    desk.finish(channel).is_ok()
+}
+
 /// Whether the output and the fault lines take a text each, and no line once they are finished.
 fn takes_texts(desk: &mut Host<'_>) -> bool {
-    write_output(desk, b"row").is_ok()
-        && write_line(desk, &[b"desk: ", b"no such file"]).is_ok()
-        && desk.finish(2).is_ok()
-        && write_line(desk, &[b"late"]).is_err()
+    takes_output(desk, b"row")
+        && takes_line(desk, &[b"desk: ", b"no such file"])
+        && ends(desk, 2)
+        && !takes_line(desk, &[b"late"])
 }
 
 #[test]

@@ -1,5 +1,5 @@
 -- What is made of a program is its netlist, with all that is known of it.
-use Rattle.std.proofs.Common.{◌≡◌, ℕ, ◌^◌, ◌<◌, List, [], ◌∷◌, ◌++◌, map, length, Some, true, false, sym, ap, ap₂, ◌∙◌, subst, refl}
+use Rattle.std.proofs.Common.{◌≡◌, ℕ, ◌^◌, ◌<◌, List, [], ◌∷◌, ◌++◌, map, length, Some, true, false, sym, ap, ◌∙◌, subst, refl}
 use Rattle.std.specs.Map.{keys_of}
 use Rattle.sap_net.proofs.RulesLemmas.{readable_kept}
 use Rattle.sap_net.proofs.NamesLemmas.{not_found}
@@ -116,15 +116,14 @@ pub first_ports_named : (ms : List Store) → keys_of (map first_port ms) ≡ ma
 first_ports_named [] = refl
 first_ports_named (m ∷ ms) = ap (λ (ns : List Name). m.name ∷ ns) (first_ports_named ms)
 
-pub made_is : (s : Source) (net : Net) (is rs ws outs : List Var) (shown : List Name) (ms : List Store) (cs : List Command) (w0 w1 w2 : List Wire) (e0 e1 e2 e3 : List (Name × Part)) (p0 p1 p2 : List (Name × WritePort))
-    → is ≡ s.inputs → rs ≡ s.registers → ws ≡ s.wires → outs ≡ s.wires → shown ≡ s.ports → ms ≡ s.memories → cs ≡ s.commands
+pub made_is : (s : Source) (net : Net) (is rs ws : List Var) (ms : List Store) (cs : List Command) (w0 w1 : List Wire) (e0 e1 e2 : List (Name × Part)) (p0 p1 p2 : List (Name × WritePort))
+    → is ≡ s.inputs → rs ≡ s.registers → ws ≡ s.wires → ms ≡ s.memories → cs ≡ s.commands
     → e0 ≡ map named_entry is ++ map named_entry rs ++ map zero_entry ws → p0 ≡ map first_port ms → w0 ≡ []
     → w1 ≡ (low_commands (shapes_of ms) (record { wires = w0; entries = e0; ports = p0 }) cs).wires
     → e1 ≡ (low_commands (shapes_of ms) (record { wires = w0; entries = e0; ports = p0 }) cs).entries
     → p1 ≡ (low_commands (shapes_of ms) (record { wires = w0; entries = e0; ports = p0 }) cs).ports
-    → e2 ≡ e1 → e3 ≡ e1 → p2 ≡ p1
-    → w2 ≡ w1 ++ map (out_wire e2) (listed shown outs) → net ≡ net_declared s w2 e3 p2 → (net ≡ lowered s) × (w2 ≡ all_wires s)
-made_is s net is rs ws outs shown ms cs w0 w1 w2 e0 e1 e2 e3 p0 p1 p2 ei er ew eo es em ec he hp hw h1 h2 h3 k2 k3 k4 hw2 hn =
+    → e2 ≡ e1 → p2 ≡ p1 → net ≡ net_declared s (w1 ++ map (out_wire e2) (listed s.ports s.wires)) e2 p2 → net ≡ lowered s
+made_is s net is rs ws ms cs w0 w1 e0 e1 e2 p0 p1 p2 ei er ew em ec he hp hw h1 h2 h3 k2 k3 hn =
     let fe : e0 ≡ first_entries s = he ∙ ap (λ (l : List Var). map named_entry l ++ map named_entry rs ++ map zero_entry ws) ei ∙ ap (λ (l : List Var). map named_entry s.inputs ++ map named_entry l ++ map zero_entry ws) er ∙ ap (λ (l : List Var). map named_entry s.inputs ++ map named_entry s.registers ++ map zero_entry l) ew in
     let fp : p0 ≡ map first_port s.memories = hp ∙ ap (λ (l : List Store). map first_port l) em in
     let st = same_state w0 [] e0 (first_entries s) p0 (map first_port s.memories) hw fe fp in
@@ -133,10 +132,9 @@ made_is s net is rs ws outs shown ms cs w0 w1 w2 e0 e1 e2 e3 p0 p1 p2 ei er ew e
     ap (λ (l : List Store). low_commands (shapes_of l) (record { wires = w0; entries = e0; ports = p0 }) cs) em
     ∙ ap (λ (q : State). low_commands (source.shapes s) q cs) st ∙ ap (λ (l : List Command). low_commands (source.shapes s) (first_state s) l) ec in
     let a1 : w1 ≡ t.wires = h1 ∙ ap (λ (q : State). q.wires) last in
-    let a2 : e1 ≡ t.entries = h2 ∙ ap (λ (q : State). q.entries) last in
-    let a3 : p1 ≡ t.ports = h3 ∙ ap (λ (q : State). q.ports) last in
-    let wi : w2 ≡ all_wires s = hw2 ∙ ap₂ (λ (x : List Wire) (y : List (Name × Part)). x ++ map (out_wire y) (listed shown outs)) a1 (k2 ∙ a2)
-    ∙ ap₂ (λ (l : List Var) (ps : List Name). t.wires ++ map (out_wire t.entries) (listed ps l)) eo es in (
-      hn ∙ ap (λ (x : List Wire). net_declared s x e3 p2) wi ∙ ap (λ (y : List (Name × Part)). net_declared s (all_wires s) y p2) (k3 ∙ a2) ∙ ap (λ (z : List (Name × WritePort)). net_declared s (all_wires s) t.entries z) (k4 ∙ a3),
-      wi,
-    )
+    let a2 : e2 ≡ t.entries = k2 ∙ h2 ∙ ap (λ (q : State). q.entries) last in
+    let a3 : p2 ≡ t.ports = k3 ∙ h3 ∙ ap (λ (q : State). q.ports) last in
+    hn
+    ∙ ap (λ (x : List Wire). net_declared s (x ++ map (out_wire e2) (listed s.ports s.wires)) e2 p2) a1
+    ∙ ap (λ (y : List (Name × Part)). net_declared s (t.wires ++ map (out_wire y) (listed s.ports s.wires)) y p2) a2
+    ∙ ap (λ (z : List (Name × WritePort)). net_declared s (all_wires s) t.entries z) a3

@@ -1,6 +1,6 @@
 //! Whole programs.
 
-ghost use Rattle.std.specs.Prelude.{◌≡◌, ◌≤◌, map, codes, IfOk};
+ghost use Rattle.std.specs.Prelude.{◌≡◌, ◌≤◌, ◌++◌, map, codes, IfOk};
 ghost use Rattle.sap_net.specs.Net.{net_of};
 ghost use Rattle.std.specs.Map.{keys_of};
 ghost use Rattle.sap_ir.specs.Program.{source_of};
@@ -8,7 +8,8 @@ ghost use Rattle.sap_ir.specs.Writes.{WritesOnce};
 ghost use Rattle.sap_size.specs.Flat.{source_weight};
 ghost use Rattle.sap_size.specs.Items.{items};
 ghost use Rattle.sap_lower.specs.Index.{Indexes};
-ghost use Rattle.sap_lower.specs.Lowered.{net_declared};
+ghost use Rattle.sap_lower.specs.Lowered as spec;
+ghost use Rattle.sap_lower.specs.Lowered.{input_of, input_port, listed, memory_of, names_declared, net_declared, out_wire, port_shown, register_of, registers_declared};
 ghost use Rattle.sap_lower.specs.Same.{CopiesPorts, Declares, RunsAlike, SharesWires};
 
 use crate::commands::lower_commands;
@@ -18,9 +19,94 @@ use crate::wires::Wires;
 use crate::{declare, first};
 use sap_ir::program::Guarded;
 use sap_net::netlist::Netlist;
-use sap_net::parts::{Name, Parts, Wire};
+use sap_net::parts::{Input, Memory, Name, Parts, Port, Register, Wire};
 use std::alloc::{AllocError, Global};
 use std::collections::HashMap;
+
+// What is declared but for wires and the state.
+#[derive(Drop)]
+struct Declared {
+    names: Vec<Name>,
+    ports: Vec<Port>,
+    inputs: Vec<Input>,
+}
+
+fn declared_of(
+    alloc: Global,
+    source: &Guarded,
+    wires: &[Wire],
+    register_places: &HashMap<Vec<u8>, usize>,
+    port_places: &HashMap<Vec<u8>, usize>,
+) -> Result<Declared, AllocError>
+    requires registers { Indexes register_places.now (map (λ x. x.name) (source_of source.now).registers) }
+    requires shown { Indexes port_places.now (source_of source.now).ports }
+    ensures names { IfOk result (λ d. d.names.items ≡ names_declared (source_of source.now) wires.now) }
+    ensures ports { IfOk result (λ d. d.ports.items ≡ map input_port (source_of source.now).inputs ++ map (port_shown (source_of source.now).registers) (source_of source.now).ports) }
+    ensures inputs { IfOk result (λ d. d.inputs.items ≡ map input_of (source_of source.now).inputs) }
+{
+    let names = declare::names(
+        alloc,
+        source.inputs(),
+        port_places,
+        source.ports(),
+        wires,
+        source.registers(),
+        source.memories(),
+    )?;
+    let ports = declare::ports(
+        alloc,
+        source.inputs(),
+        register_places,
+        source.registers(),
+        source.ports(),
+    )?;
+    let inputs = declare::inputs(alloc, source.inputs())?;
+    Ok(Declared {
+        names,
+        ports,
+        inputs,
+    })
+}
+
+// The state, with what it takes at the edge.
+#[derive(Drop)]
+struct Edge {
+    registers: Vec<Register>,
+    memories: Vec<Memory>,
+}
+
+fn edge_of(
+    alloc: Global,
+    source: &Guarded,
+    places: &HashMap<Vec<u8>, usize>,
+    entries: &[(Name, Part)],
+    store_places: &HashMap<Vec<u8>, usize>,
+    ports: &[(Name, WritePort)],
+    register_places: &HashMap<Vec<u8>, usize>,
+    port_places: &HashMap<Vec<u8>, usize>,
+) -> Result<Edge, AllocError>
+    requires places { Indexes places.now (keys_of entries.now) }
+    requires ports { Indexes store_places.now (keys_of ports.now) }
+    requires registers { Indexes register_places.now (map (λ x. x.name) (source_of source.now).registers) }
+    requires shown { Indexes port_places.now (source_of source.now).ports }
+    ensures registers { IfOk result (λ e. e.registers.items ≡ map (register_of entries.now) (registers_declared (source_of source.now))) }
+    ensures memories { IfOk result (λ e. e.memories.items ≡ map (memory_of ports.now) (source_of source.now).memories) }
+{
+    let registers = declare::registers(
+        alloc,
+        places,
+        entries,
+        register_places,
+        source.registers(),
+        port_places,
+        source.ports(),
+    )?;
+    let memories = declare::memories(alloc, store_places, ports, source.memories())?;
+    Ok(Edge {
+        registers,
+        memories,
+    })
+}
 
 /// The netlist of these wires.
 fn parts(
@@ -38,58 +124,69 @@ fn parts(
     requires shown { Indexes port_places.now (source_of source.now).ports }
     ensures { IfOk result (λ p. net_of p ≡ net_declared (source_of source.now) wires.items entries.now ports.now) }
 {
-    let register_places = index_variables(alloc, source.registers())?;
     let module_name = Name::new(b"top".to_vec(alloc)?);
-    let names = declare::names(
+    let register_places = index_variables(alloc, source.registers())?;
+    let declared = declared_of(alloc, source, &wires, &register_places, port_places)?;
+    let edge = edge_of(
         alloc,
-        source.inputs(),
-        port_places,
-        source.ports(),
-        &wires,
-        source.registers(),
-        source.memories(),
-    )?;
-    let shown = declare::ports(
-        alloc,
-        source.inputs(),
-        &register_places,
-        source.registers(),
-        source.ports(),
-    )?;
-    let inputs = declare::inputs(alloc, source.inputs())?;
-    let registers = declare::registers(
-        alloc,
+        source,
         places,
         entries,
+        store_places,
+        ports,
         &register_places,
-        source.registers(),
         port_places,
-        source.ports(),
     )?;
-    let memories = declare::memories(alloc, store_places, ports, source.memories())?;
     Ok(Parts {
         module_name,
-        names,
-        ports: shown,
-        inputs,
+        names: declared.names,
+        ports: declared.ports,
+        inputs: declared.inputs,
         wires,
-        registers,
-        memories,
+        registers: edge.registers,
+        memories: edge.memories,
     })
 }
 
-/// The netlist of a program that writes no memory twice in a cycle. It declares the program's inputs, registers and memories, those of its
-/// wires that are ports, and helping wires. On every stream and in each cycle it has the program's number at each input, register, memory cell
-/// and port. It has at most as many items as the program's weight.
-pub fn lower(alloc: Global, source: &Guarded) -> Result<Netlist, AllocError>
-    requires { WritesOnce (source_of source.now) }
-    ensures declares { IfOk result (λ n. Declares (source_of source.now) n) }
-    ensures same { IfOk result (λ n. RunsAlike (source_of source.now) n) }
-    ensures shared { IfOk result (λ n. SharesWires (source_of source.now) n) }
-    ensures copies { IfOk result (λ n. CopiesPorts n) }
-    ensures small { IfOk result (λ n. items n ≤ source_weight (source_of source.now)) }
+/// The netlist of these helping wires, and of the wires that are ports.
+fn shown_parts(
+    alloc: Global,
+    source: &Guarded,
+    mut wires: Vec<Wire>,
+    places: &HashMap<Vec<u8>, usize>,
+    entries: &[(Name, Part)],
+    store_places: &HashMap<Vec<u8>, usize>,
+    ports: &[(Name, WritePort)],
+) -> Result<Parts, AllocError>
+    requires places { Indexes places.now (keys_of entries.now) }
+    requires ports { Indexes store_places.now (keys_of ports.now) }
+    ensures { IfOk result (λ p. net_of p ≡ net_declared (source_of source.now) (wires.items ++ map (out_wire entries.now) (listed (source_of source.now).ports (source_of source.now).wires)) entries.now ports.now) }
 {
-    source.rules();
+    let port_places = index_names(alloc, source.ports())?;
+    declare::out_wires(
+        alloc,
+        &mut wires,
+        places,
+        entries,
+        &port_places,
+        source.ports(),
+        source.wires(),
+    )?;
+    parts(
+        alloc,
+        source,
+        wires,
+        places,
+        entries,
+        store_places,
+        ports,
+        &port_places,
+    )
+}
+
+fn lowered(alloc: Global, source: &Guarded) -> Result<Parts, AllocError>
+    ensures { IfOk result (λ p. net_of p ≡ spec.lowered (source_of source.now)) }
+{
     let stores = source.memories();
     let mut entries = first::entries(alloc, source.inputs(), source.registers(), source.wires())?;
     let mut ports = first::ports(alloc, stores)?;
@@ -106,18 +203,8 @@ pub fn lower(alloc: Global, source: &Guarded) -> Result<Netlist, AllocError>
         &mut ports,
         source.cmds(),
     )?;
-    let port_places = index_names(alloc, source.ports())?;
-    let mut wires = helpers.into_vec();
-    declare::out_wires(
-        alloc,
-        &mut wires,
-        &places,
-        &entries,
-        &port_places,
-        source.ports(),
-        source.wires(),
-    )?;
-    let made = parts(
+    let wires = helpers.into_vec();
+    shown_parts(
         alloc,
         source,
         wires,
@@ -125,7 +212,21 @@ pub fn lower(alloc: Global, source: &Guarded) -> Result<Netlist, AllocError>
         &entries,
         &store_places,
         &ports,
-        &port_places,
-    )?;
-    Ok(Netlist::new(made))
+    )
+}
+
+/// The netlist of a program that writes no memory twice in a cycle. It declares the program's inputs, registers and memories, those of its
+/// wires that are ports, and helping wires. On every stream and in each cycle it has the program's number at each input, register, memory cell
+/// and port. It has at most as many items as the program's weight.
+pub fn lower(alloc: Global, source: &Guarded) -> Result<Netlist, AllocError>
+    requires { WritesOnce (source_of source.now) }
+    ensures declares { IfOk result (λ n. Declares (source_of source.now) n) }
+    ensures same { IfOk result (λ n. RunsAlike (source_of source.now) n) }
+    ensures shared { IfOk result (λ n. SharesWires (source_of source.now) n) }
+    ensures copies { IfOk result (λ n. CopiesPorts n) }
+    ensures small { IfOk result (λ n. items n ≤ source_weight (source_of source.now)) }
+{
+    source.rules();
+    let parts = lowered(alloc, source)?;
+    Ok(Netlist::new(parts))
 }

@@ -1,13 +1,14 @@
 //! Helping wires, one for each right side and width.
 
-ghost use Rattle.std.specs.Prelude.{◌≡◌, [], None, IfOk, OnOk};
+ghost use Rattle.std.specs.Prelude.{◌≡◌, [], ◌∷◌, ◌++◌, None, IfOk, OnOk, length};
 ghost use Rattle.sap_maps.specs.Scope.{find};
 ghost use Rattle.sap_share.specs.Keys as spec;
+ghost use Rattle.sap_share.specs.Names.{helper};
 ghost use Rattle.sap_share.specs.Rights.{rights};
 ghost use Rattle.sap_lower.specs.Lowering.{plus, shared};
 
 use crate::parts::Part;
-use sap_net::parts::{Operand, Right, Wire};
+use sap_net::parts::{Name, Operand, Right, Wire};
 use sap_share::keys::key;
 use sap_share::names::helper_name;
 use sap_share::rights::known;
@@ -20,6 +21,13 @@ use std::marker::Model;
 pub struct Wires {
     list: Vec<Wire>,
     numbers: HashMap<Vec<u8>, u64>,
+}
+
+// The bytes of a right side, and the name of its wire, if there is one.
+#[derive(Drop)]
+struct Lookup {
+    key: Vec<u8>,
+    name: Option<Name>,
 }
 
 impl Model for Wires {
@@ -50,13 +58,23 @@ impl Wires {
         self.list
     }
 
+    fn look_up(&self, alloc: Global, width: u32, right: &Right) -> Result<Lookup, AllocError>
+        ensures key { IfOk result (λ l. l.key.items ≡ spec.key width right.now) }
+        ensures name { IfOk result (λ l. l.name ≡ find (rights self.now) (spec.key width right.now)) }
+    {
+        let key = key(alloc, width, right)?;
+        let name = known(alloc, &self.numbers, &key)?;
+        Ok(Lookup { key, name })
+    }
+
     /// The wire of this width and right side: the one that is there, or one more.
     pub fn add(&mut self, alloc: Global, width: u32, right: Right) -> Result<Part, AllocError>
         ensures wires { OnOk result (self.new ≡ (plus self.old width right).wires) }
         ensures part { IfOk result (λ p. p ≡ (plus self.old width right).part) }
     {
-        let key = key(alloc, width, &right)?;
-        match known(alloc, &self.numbers, &key)? {
+        let found = self.look_up(alloc, width, &right)?;
+        let Lookup { key, name } = found;
+        match name {
             Some(name) => Ok(Part {
                 operand: Operand::Named(name),
                 width,
@@ -80,15 +98,27 @@ impl Wires {
     {
         let number = self.list.len() as u64;
         let name = helper_name(alloc, number)?;
-        let shown = name.copy(alloc)?;
-        self.list.push(Wire { name, width, right })?;
-        if self.numbers.insert(key, number).is_err() {
-            self.list.pop();
-            return Err(AllocError);
-        }
+        self.put(key, number, Wire { name, width, right })?;
+        let shown = helper_name(alloc, number)?;
         Ok(Part {
             operand: Operand::Named(shown),
             width,
         })
+    }
+
+    // The wire of the next number.
+    fn put(&mut self, key: Vec<u8>, number: u64, wire: Wire) -> Result<(), AllocError>
+        requires bytes { key.items ≡ spec.key wire.width wire.right }
+        requires new { find (rights self.old) key.items ≡ None }
+        requires number { number ≡ length self.old }
+        requires named { wire.name ≡ helper number }
+        ensures { OnOk result (self.new ≡ self.old ++ wire ∷ []) }
+    {
+        self.list.push(wire)?;
+        if self.numbers.insert(key, number).is_err() {
+            self.list.pop();
+            return Err(AllocError);
+        }
+        Ok(())
     }
 }

@@ -1,11 +1,14 @@
 -- Trees of declarations and states, from the equations that the reader's functions have.
-use Rattle.std.proofs.Common.{◌≡◌, ◌+◌, ℕ, List, [], ◌∷◌, ◌++◌, Option, Some, None, refl, sym, ap, subst, ◌∙◌}
+use Rattle.std.proofs.Common.{◌≡◌, ◌+◌, ℕ, List, [], ◌∷◌, ◌++◌, Option, Some, refl, sym, ap, subst, ◌∙◌}
+use Rattle.sap_parse.specs.DesignRows.{AllStates, Cells, Declared, Head, all_states, cells, declared, head}
 use Rattle.sap_parse.specs.Grammar as g
 use Rattle.sap_parse.specs.Joining.{join_states}
 use Rattle.sap_parse.specs.Stages.{Stage, IsName, IsNumber, IsSign, IsWord, here, mention, numeral}
 use Rattle.sap_parse.specs.declared.limit.Role.TheVariants as r
+use Rattle.sap_parse.specs.declared.limit.Role.{Role}
 use Rattle.sap_parse.specs.declared.token.Sign.TheVariants as s
 use Rattle.sap_tree.specs.declared.word.Word.TheVariants as w
+use Rattle.sap_tree.specs.declared.word.Word.{Word}
 use Rattle.sap_tree.specs.Syntax as t
 use Rattle.sap_tree.specs.Trees.{state_of, states_of}
 use Rattle.sap_tree.specs.declared.name.Mention.{Mention}
@@ -34,39 +37,43 @@ enforced_tree {p1 = p1} {q = q} {under = under} a b c there = subst (λ m. g.Kin
 pub initial_tree : {p1 p2 q : Stage} {n : Numeral} → IsSign p1 r.Plain s.Is p2 → IsNumber p2 r.Plain n.value q → n ≡ numeral p2 n.value → g.Initial p1 (Some n) q
 initial_tree {p1 = p1} {q = q} a b there = subst (λ m. g.Initial p1 (Some m) q) (sym there) (g.initial a b)
 
-pub input_tree : {p1 p2 p3 p4 p5 q : Stage} {place : Place} {n : Mention} {width : Numeral}
-    → IsWord p1 r.Input w.Input p2 → IsName p2 r.Plain n.name p3 → IsSign p3 r.Plain s.Colon p4 → IsNumber p4 r.Plain width.value p5 → IsSign p5 r.Plain s.Semicolon q
-    → place ≡ here p1 → n ≡ mention p2 n.name → width ≡ numeral p4 width.value → g.Declaration p1 (d.Input place n width) q
-input_tree {p1 = p1} {p2 = p2} {q = q} {n = n} {width = width} a b c e f at there wide =
-    subst (λ place. g.Declaration p1 (d.Input place n width) q) (sym at) (subst (λ m. g.Declaration p1 (d.Input (here p1) m width) q) (sym there)
-    (subst (λ v. g.Declaration p1 (d.Input (here p1) (mention p2 n.name) v) q) (sym wide) (g.input a b c e f)))
+pub declared_tree : {role : Role} {word : Word} {p1 p2 p3 p4 q : Stage} {place : Place} {n : Mention} {width : Numeral}
+    → IsWord p1 role word p2 → IsName p2 r.Plain n.name p3 → IsSign p3 r.Plain s.Colon p4 → IsNumber p4 r.Plain width.value q
+    → place ≡ here p1 → n ≡ mention p2 n.name → width ≡ numeral p4 width.value → Declared role word p1 place n width q
+declared_tree {role = role} {word = word} {p1 = p1} {p2 = p2} {q = q} {n = n} {width = width} a b c e at there wide =
+    subst (λ place. Declared role word p1 place n width q) (sym at) (subst (λ m. Declared role word p1 (here p1) m width q) (sym there)
+    (subst (λ v. Declared role word p1 (here p1) (mention p2 n.name) v q) (sym wide) (declared a b c e)))
 
-pub register_tree : {p1 p2 p3 p4 p5 p6 p7 q : Stage} {place : Place} {n : Mention} {width : Numeral} {kind kind' : Kind} {start : Option Numeral}
-    → IsWord p1 r.Register w.Reg p2 → IsName p2 r.Plain n.name p3 → IsSign p3 r.Plain s.Colon p4 → IsNumber p4 r.Plain width.value p5 → g.KindOf p5 kind p6 → g.Initial p6 start p7 → IsSign p7 r.Plain s.Semicolon q
-    → place ≡ here p1 → n ≡ mention p2 n.name → width ≡ numeral p4 width.value → kind' ≡ kind → g.Declaration p1 (d.Register place n width kind' start) q
-register_tree {p1 = p1} {p2 = p2} {p4 = p4} {q = q} {n = n} {width = width} {kind' = kind'} {start = start} a b c e f h l at there wide same =
-    subst (λ place. g.Declaration p1 (d.Register place n width kind' start) q) (sym at) (subst (λ m. g.Declaration p1 (d.Register (here p1) m width kind' start) q) (sym there)
-    (subst (λ v. g.Declaration p1 (d.Register (here p1) (mention p2 n.name) v kind' start) q) (sym wide)
-    (subst (λ kind. g.Declaration p1 (d.Register (here p1) (mention p2 n.name) (numeral p4 width.value) kind start) q) (sym same) (g.register a b c e f h l))))
+pub input_tree : {p1 p2 q : Stage} {place : Place} {n : Mention} {width : Numeral} → Declared r.Input w.Input p1 place n width p2 → IsSign p2 r.Plain s.Semicolon q → g.Declaration p1 (d.Input place n width) q
+input_tree (declared a b c e) f = g.input a b c e f
 
-pub memory_tree : {p1 p2 p3 p4 p5 p6 p7 p8 p9 q : Stage} {place : Place} {n : Mention} {width depth : Numeral} {kind kind' : Kind}
-    → IsWord p1 r.Memory w.Mem p2 → IsName p2 r.Plain n.name p3 → IsSign p3 r.Plain s.Colon p4 → IsNumber p4 r.Plain width.value p5 → IsSign p5 r.Plain s.OpenBracket p6 → IsNumber p6 r.Plain depth.value p7
-    → IsSign p7 r.Plain s.CloseBracket p8 → g.KindOf p8 kind p9 → IsSign p9 r.Plain s.Semicolon q
-    → place ≡ here p1 → n ≡ mention p2 n.name → width ≡ numeral p4 width.value → depth ≡ numeral p6 depth.value → kind' ≡ kind → g.Declaration p1 (d.Memory place n width depth kind') q
-memory_tree {p1 = p1} {p2 = p2} {p4 = p4} {p6 = p6} {q = q} {n = n} {width = width} {depth = depth} {kind' = kind'} a b c e f h l m o at there wide deep same =
-    subst (λ place. g.Declaration p1 (d.Memory place n width depth kind') q) (sym at) (subst (λ m. g.Declaration p1 (d.Memory (here p1) m width depth kind') q) (sym there)
-    (subst (λ v. g.Declaration p1 (d.Memory (here p1) (mention p2 n.name) v depth kind') q) (sym wide)
-    (subst (λ v. g.Declaration p1 (d.Memory (here p1) (mention p2 n.name) (numeral p4 width.value) v kind') q) (sym deep)
-    (subst (λ kind. g.Declaration p1 (d.Memory (here p1) (mention p2 n.name) (numeral p4 width.value) (numeral p6 depth.value) kind) q) (sym same) (g.memory a b c e f h l m o)))))
+pub register_tree : {p1 p2 p3 p4 q : Stage} {place : Place} {n : Mention} {width : Numeral} {kind kind' : Kind} {start : Option Numeral}
+    → Declared r.Register w.Reg p1 place n width p2 → g.KindOf p2 kind p3 → g.Initial p3 start p4 → IsSign p4 r.Plain s.Semicolon q → kind' ≡ kind → g.Declaration p1 (d.Register place n width kind' start) q
+register_tree {p2 = p2} {p3 = p3} (declared a b c e) f h l same = g.register a b c e (subst (λ kind. g.KindOf p2 kind p3) (sym same) f) h l
 
-pub state_tree : {depth : ℕ} {p1 p2 p3 p4 p5 p6 p7 q : Stage} {place after : Place} {n : Mention} {kind kind' : Kind} {cs : t.CommandList} {children : t.StateList} {x : t.StateTree}
-    → IsWord p1 (r.State depth) w.State p2 → IsName p2 r.Plain n.name p3 → g.KindOf p3 kind p4 → IsSign p4 r.Plain s.OpenBrace p5 → g.Cmds 1 p5 cs p6 → g.States (depth + 1) p6 children p7 → IsSign p7 r.Plain s.CloseBrace q
-    → place ≡ here p1 → n ≡ mention p2 n.name → kind' ≡ kind → after ≡ here p6 → x ≡ t.state_node place n kind' (t.command_block cs after) children → g.State depth p1 x q
-state_tree {depth = depth} {p1 = p1} {p2 = p2} {p6 = p6} {q = q} {place = place} {after = after} {n = n} {kind = kind} {kind' = kind'} {cs = cs} {children = children} a b c e f h l at there same last made =
+pub cells_tree : {p1 p2 p3 q : Stage} {n : Numeral} → IsSign p1 r.Plain s.OpenBracket p2 → IsNumber p2 r.Plain n.value p3 → IsSign p3 r.Plain s.CloseBracket q → n ≡ numeral p2 n.value → Cells p1 n q
+cells_tree {p1 = p1} {q = q} a b c there = subst (λ m. Cells p1 m q) (sym there) (cells a b c)
+
+pub memory_tree : {p1 p2 p3 p4 q : Stage} {place : Place} {n : Mention} {width size : Numeral} {kind kind' : Kind}
+    → Declared r.Memory w.Mem p1 place n width p2 → Cells p2 size p3 → g.KindOf p3 kind p4 → IsSign p4 r.Plain s.Semicolon q → kind' ≡ kind → g.Declaration p1 (d.Memory place n width size kind') q
+memory_tree {p3 = p3} {p4 = p4} (declared a b c e) (cells f h l) m o same = g.memory a b c e f h l (subst (λ kind. g.KindOf p3 kind p4) (sym same) m) o
+
+pub head_tree : {depth : ℕ} {p1 p2 p3 p4 q : Stage} {place : Place} {n : Mention} {kind : Kind} → IsWord p1 (r.State depth) w.State p2 → IsName p2 r.Plain n.name p3 → g.KindOf p3 kind p4 → IsSign p4 r.Plain s.OpenBrace q
+    → place ≡ here p1 → n ≡ mention p2 n.name → Head depth p1 place n kind q
+head_tree {depth = depth} {p1 = p1} {p2 = p2} {q = q} {n = n} {kind = kind} a b c e at there =
+    subst (λ place. Head depth p1 place n kind q) (sym at) (subst (λ m. Head depth p1 (here p1) m kind q) (sym there) (head a b c e))
+
+state_one : {depth : ℕ} {p1 p2 p3 p4 q : Stage} {place : Place} {n : Mention} {kind : Kind} {cs : t.CommandList} {children : t.StateList}
+    → Head depth p1 place n kind p2 → g.Cmds 1 p2 cs p3 → g.States (depth + 1) p3 children p4 → IsSign p4 r.Plain s.CloseBrace q
+    → g.State depth p1 (t.state_node place n kind (t.command_block cs (here p3)) children) q
+state_one (head a b c e) f h l = g.state a b c e f h l
+
+pub state_tree : {depth : ℕ} {p1 p2 p3 p4 q : Stage} {place after : Place} {n : Mention} {kind kind' : Kind} {cs : t.CommandList} {children : t.StateList} {x : t.StateTree}
+    → Head depth p1 place n kind p2 → g.Cmds 1 p2 cs p3 → g.States (depth + 1) p3 children p4 → IsSign p4 r.Plain s.CloseBrace q
+    → kind' ≡ kind → after ≡ here p3 → x ≡ t.state_node place n kind' (t.command_block cs after) children → g.State depth p1 x q
+state_tree {depth = depth} {p1 = p1} {q = q} {place = place} {after = after} {n = n} {kind = kind} {cs = cs} {children = children} a b c e same last made =
     subst (λ x. g.State depth p1 x q)
-    (sym (made ∙ ap (λ place. t.state_node place n kind' (t.command_block cs after) children) at ∙ ap (λ m. t.state_node (here p1) m kind' (t.command_block cs after) children) there
-    ∙ ap (λ kind. t.state_node (here p1) (mention p2 n.name) kind (t.command_block cs after) children) same ∙ ap (λ after. t.state_node (here p1) (mention p2 n.name) kind (t.command_block cs after) children) last))
-    (g.state a b c e f h l)
+    (sym (made ∙ ap (λ kind. t.state_node place n kind (t.command_block cs after) children) same ∙ ap (λ after. t.state_node place n kind (t.command_block cs after) children) last)) (state_one a b c e)
 
 pub join_states_push : (xs : List State) (x : State) (ys : t.StateList) → join_states (states_of (xs ++ x ∷ [])) ys ≡ join_states (states_of xs) (t.and_state (state_of x) ys)
 join_states_push [] x ys = refl
@@ -76,7 +83,9 @@ pub join_states_none : (xs : t.StateList) → join_states xs t.no_state ≡ xs
 join_states_none t.no_state = refl
 join_states_none (t.and_state x xs) = ap (λ zs. t.and_state x zs) (join_states_none xs)
 
-pub design_tree : {p1 p2 p3 p4 q : Stage} {version : Version} {declarations : List Decl} {x : t.StateTree} {xs all : t.StateList} → g.Header p1 version p2 → g.Declarations p2 declarations p3 → g.State 1 p3 x p4 → g.States 1 p4 xs q
-    → all ≡ t.and_state x xs → g.Design p1 (record { version = version; declarations = declarations; states = all }) q
-design_tree {p1 = p1} {q = q} {version = version} {declarations = declarations} h a b c same =
-    subst (λ states. g.Design p1 (record { version = version; declarations = declarations; states = states }) q) (sym same) (g.design h a b c)
+pub all_states_tree : {p1 p2 q : Stage} {x : t.StateTree} {xs all : t.StateList} → g.State 1 p1 x p2 → g.States 1 p2 xs q → all ≡ t.and_state x xs → AllStates p1 all q
+all_states_tree {p1 = p1} {q = q} a b same = subst (λ xs. AllStates p1 xs q) (sym same) (all_states a b)
+
+pub design_tree : {p1 p2 p3 q : Stage} {version : Version} {declarations : List Decl} {states : t.StateList} → g.Header p1 version p2 → g.Declarations p2 declarations p3 → AllStates p3 states q
+    → g.Design p1 (record { version = version; declarations = declarations; states = states }) q
+design_tree h a (all_states b c) = g.design h a b c

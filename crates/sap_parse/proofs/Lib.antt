@@ -9,6 +9,9 @@ pub mod Single
 pub mod Laws
 pub mod ExprLaws
 pub mod IndexLaws
+pub mod RowLaws
+pub mod CommandRowLaws
+pub mod DesignRowLaws
 pub mod Walks
 pub mod Makes
 pub mod Faults

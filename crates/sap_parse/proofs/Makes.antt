@@ -3,6 +3,7 @@ use Rattle.std.proofs.Common.{◌≡◌, ◌<◌, ◌+◌, ℕ, List, [], ◌∷
 use Rattle.std.specs.Prelude.{IfOk}
 use Rattle.sap_parse.specs.Grammar as g
 use Rattle.sap_parse.specs.Joining.{Indexes, Slices, indexes, join, slices}
+use Rattle.sap_parse.specs.Rows.{Between, LastNumber, Range, between, last_number, range}
 use Rattle.sap_parse.specs.Stages.{Stage, IsName, IsNumber, IsSign, IsSized, IsWord, here, spot_here}
 use Rattle.sap_parse.specs.declared.limit.Role.TheVariants as r
 use Rattle.sap_parse.specs.declared.token.Sign.TheVariants as s
@@ -30,34 +31,35 @@ sized_tree {p = p} {q = q} {width = width} {n = n} is at same made = subst (λ x
 pub read_tree : {p q : Stage} {name : List ℕ} {place : Place} {spot : Spot} {x : t.Expression} → IsName p r.Inner name q → place ≡ here p → spot ≡ both place → x ≡ t.variable spot name → g.Prim p x q
 read_tree {p = p} {q = q} {name = name} is at same made = subst (λ x. g.Prim p x q) (sym (made ∙ ap (λ s. t.variable s name) (same ∙ ap both at))) (g.read is)
 
-pub paren_tree : {p1 p2 p3 q : Stage} {x y : t.Expression} {place : Place} → IsSign p1 r.Opening s.OpenParen p2 → g.Expr p2 x p3 → IsSign p3 r.Closing s.CloseParen q
-    → place ≡ here p1 → y ≡ enclosed place x → g.Prim p1 y q
-paren_tree {p1 = p1} {q = q} {x = x} a b c at made = subst (λ y. g.Prim p1 y q) (sym (made ∙ ap (λ place. enclosed place x) at)) (g.parentheses a b c)
+pub paren_tree : {p q : Stage} {x y : t.Expression} {place : Place} → Between r.Opening s.OpenParen r.Closing s.CloseParen p x q → place ≡ here p → y ≡ enclosed place x → g.Prim p y q
+paren_tree {p = p} {q = q} {x = x} (between a b c) at made = subst (λ y. g.Prim p y q) (sym (made ∙ ap (λ place. enclosed place x) at)) (g.parentheses a b c)
 
-pub concat_tree : {p1 p2 p3 p4 p5 p6 q : Stage} {x y z : t.Expression} {xs all : t.Expressions} {place : Place} {spot : Spot}
-    → IsSign p1 r.Opening s.OpenBrace p2 → g.Expr p2 x p3 → IsSign p3 r.Inner s.Comma p4 → g.Expr p4 y p5 → g.Parts p5 xs p6 → IsSign p6 r.Closing s.CloseBrace q
-    → place ≡ here p1 → spot ≡ both place → all ≡ t.and_part x (t.and_part y xs) → z ≡ t.concat spot all → g.Prim p1 z q
-concat_tree {p1 = p1} {q = q} {all = all} a b c d e f at same items made =
-    subst (λ z. g.Prim p1 z q) (sym (made ∙ ap (λ s. t.concat s all) (same ∙ ap both at) ∙ ap (λ xs. t.concat (spot_here p1) xs) items)) (g.concat a b c d e f)
+pub concat_tree : {p1 p2 p3 p4 q : Stage} {x x' y z : t.Expression} {xs all : t.Expressions} {place : Place} {spot : Spot}
+    → Between r.Opening s.OpenBrace r.Inner s.Comma p1 x p2 → g.Expr p2 y p3 → g.Parts p3 xs p4 → IsSign p4 r.Closing s.CloseBrace q
+    → place ≡ here p1 → x' ≡ x → spot ≡ both place → all ≡ t.and_part x' (t.and_part y xs) → z ≡ t.concat spot all → g.Prim p1 z q
+concat_tree {p1 = p1} {q = q} {y = y} {xs = xs} {all = all} (between a b c) d e f at alike same items made =
+    subst (λ z. g.Prim p1 z q)
+    (sym (made ∙ ap (λ s. t.concat s all) (same ∙ ap both at) ∙ ap (λ xs. t.concat (spot_here p1) xs) (items ∙ ap (λ x. t.and_part x (t.and_part y xs)) alike))) (g.concat a b c d e f)
 
-pub zext_tree : {p1 p2 p3 p4 p5 p6 q : Stage} {x z : t.Expression} {width : ℕ} {place : Place} {spot : Spot}
-    → IsWord p1 r.Inner w.Zext p2 → IsSign p2 r.Opening s.OpenParen p3 → g.Expr p3 x p4 → IsSign p4 r.Inner s.Comma p5 → IsNumber p5 r.Inner width p6 → IsSign p6 r.Closing s.CloseParen q
-    → place ≡ here p1 → spot ≡ both place → z ≡ t.zero_extend spot x width → g.Prim p1 z q
-zext_tree {p1 = p1} {q = q} {x = x} {width = width} a b c d e f at same made =
+pub zext_tree : {p1 p2 p3 q : Stage} {x z : t.Expression} {width : ℕ} {place : Place} {spot : Spot}
+    → IsWord p1 r.Inner w.Zext p2 → Between r.Opening s.OpenParen r.Inner s.Comma p2 x p3 → LastNumber s.CloseParen p3 width q → place ≡ here p1 → spot ≡ both place → z ≡ t.zero_extend spot x width → g.Prim p1 z q
+zext_tree {p1 = p1} {q = q} {x = x} {width = width} a (between b c d) (last_number e f) at same made =
     subst (λ z. g.Prim p1 z q) (sym (made ∙ ap (λ s. t.zero_extend s x width) (same ∙ ap both at))) (g.zext a b c d e f)
 
 pub unary_tree : {p1 p2 q : Stage} {x z : t.Expression} {place : Place} {spot : Spot} (o : UnaryOperator) → IsSign p1 r.Inner (g.unary_sign_of o) p2 → g.Unary p2 x q
     → place ≡ here p1 → spot ≡ both place → z ≡ t.unary_of spot o x → g.Unary p1 z q
 unary_tree {p1 = p1} {q = q} {x = x} o a b at same made = subst (λ z. g.Unary p1 z q) (sym (made ∙ ap (λ s. t.unary_of s o x) (same ∙ ap both at))) (g.signed o a b)
 
+pub bounds_tree : {p1 p2 q : Stage} {high low : ℕ} → IsSign p1 r.Opening s.OpenBracket p2 → Range p2 high low q → g.Bounds p1 high low q
+bounds_tree a (range b c (last_number d e)) = g.bounds a b c d e
+
 -- an expression named after the operator that stands here
 abbrev pub from_to : Place → Place → Spot
 from_to first at = record { first = first; at = at }
 
-pub choice_tree : {p1 p2 p3 p4 p5 q : Stage} {x y z all : t.Expression} {place first : Place}
-    → g.Bin 1 p1 x p2 → IsSign p2 r.Inner s.Question p3 → g.Expr p3 y p4 → IsSign p4 r.Inner s.Colon p5 → g.Expr p5 z q
-    → place ≡ here p2 → first ≡ first_of x → all ≡ t.choice (from_to first place) x y z → g.Expr p1 all q
-choice_tree {p1 = p1} {q = q} {x = x} {y = y} {z = z} {place = place} a b c d e at begins made =
+pub choice_tree : {p1 p2 p3 q : Stage} {x y z all : t.Expression} {place first : Place}
+    → g.Bin 1 p1 x p2 → Between r.Inner s.Question r.Inner s.Colon p2 y p3 → g.Expr p3 z q → place ≡ here p2 → first ≡ first_of x → all ≡ t.choice (from_to first place) x y z → g.Expr p1 all q
+choice_tree {p1 = p1} {q = q} {x = x} {y = y} {z = z} {place = place} a (between b c d) e at begins made =
     subst (λ all. g.Expr p1 all q) (sym (made ∙ ap (λ f. t.choice (from_to f place) x y z) begins ∙ ap (λ at. t.choice (from_to (first_of x) at) x y z) at)) (g.choice a b c d e)
 
 pub other_tree : {l : ℕ} {p1 p2 p3 q : Stage} {x y z all : t.Expression} {place first : Place} (o : BinaryOperator) → precedence o ≡ l → IsSign p1 r.Inner (g.sign_of o) p2 → g.Bin (l + 1) p2 y p3
@@ -96,11 +98,10 @@ pub indexed_post : (o : Result Expr Fault) (q : Stage) {p1 p2 p3 : Stage} {name 
 indexed_post (Ok x) q a begins b h = indexed_one a begins b h
 indexed_post (Err e) q a begins b h = tt
 
-pub slices_tree : (o : Result Expr Fault) (q : Stage) (spot : Spot) (x : t.Expression) {y : t.Expression} {p1 p2 p3 p4 p5 : Stage} {high low : ℕ}
-    → IsNumber p1 r.Inner high p2 → IsSign p2 r.Inner s.Colon p3 → IsNumber p3 r.Inner low p4 → IsSign p4 r.Closing s.CloseBracket p5
-    → y ≡ t.slice spot x high low → IfOk o (λ z. g.Cuts y p5 (expression_of z) q) → IfOk o (λ z. Slices spot x p1 (expression_of z) q)
-slices_tree (Ok z) q spot x {p5 = p5} a b c d made h = slices a b c d (subst (λ y. g.Cuts y p5 (expression_of z) q) made h)
-slices_tree (Err e) q spot x a b c d made h = tt
+pub slices_tree : (o : Result Expr Fault) (q : Stage) (spot : Spot) (x : t.Expression) {y : t.Expression} {p1 p2 : Stage} {high low : ℕ}
+    → Range p1 high low p2 → y ≡ t.slice spot x high low → IfOk o (λ z. g.Cuts y p2 (expression_of z) q) → IfOk o (λ z. Slices spot x p1 (expression_of z) q)
+slices_tree (Ok z) q spot x {p2 = p2} (range a b (last_number c d)) made h = slices a b c d (subst (λ y. g.Cuts y p2 (expression_of z) q) made h)
+slices_tree (Err e) q spot x a made h = tt
 
 pub indexes_tree : (o : Result Expr Fault) (q : Stage) (spot : Spot) (name : List ℕ) {i y : t.Expression} {p1 p2 p3 : Stage} → g.Expr p1 i p2 → IsSign p2 r.Closing s.CloseBracket p3
     → y ≡ t.cell_at spot name i → IfOk o (λ z. g.Cuts y p3 (expression_of z) q) → IfOk o (λ z. Indexes spot name p1 (expression_of z) q)

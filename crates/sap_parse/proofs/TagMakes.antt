@@ -2,6 +2,7 @@
 use Rattle.std.proofs.Common.{◌≡◌, List, [], ◌∷◌, ◌++◌, refl, sym, ap, subst, ◌∙◌}
 use Rattle.sap_parse.specs.Grammar as g
 use Rattle.sap_parse.specs.Joining.{join_tags}
+use Rattle.sap_parse.specs.Rows.{Asked, asked, between}
 use Rattle.sap_parse.specs.Stages.{Stage, IsName, IsSign, IsWord, here, mention}
 use Rattle.sap_parse.specs.declared.limit.Role.TheVariants as r
 use Rattle.sap_parse.specs.declared.token.Sign.TheVariants as s
@@ -15,13 +16,11 @@ use Rattle.sap_tree.specs.declared.syntax.TagExpr.{TagExpr}
 pub level_tree : {p q : Stage} {n : Mention} {x : t.TagExpression} → IsName p r.Inner n.name q → n ≡ mention p n.name → x ≡ t.level_of n → g.Texpr p x q
 level_tree {p = p} {q = q} a at made = subst (λ x. g.Texpr p x q) (sym (made ∙ ap (λ n. t.level_of n) at)) (g.level a)
 
-pub tag_tree : {p1 p2 p3 p4 q : Stage} {e : t.Expression} {x : t.TagExpression} {place : Place} → IsWord p1 r.Inner w.Tag p2 → IsSign p2 r.Opening s.OpenParen p3 → g.Expr p3 e p4 → IsSign p4 r.Closing s.CloseParen q
-    → place ≡ here p1 → x ≡ t.tag_at place e → g.Texpr p1 x q
-tag_tree {p1 = p1} {q = q} {e = e} a b c d at made = subst (λ x. g.Texpr p1 x q) (sym (made ∙ ap (λ place. t.tag_at place e) at)) (g.tag_of a b c d)
+pub tag_tree : {p q : Stage} {e : t.Expression} {x : t.TagExpression} {place : Place} → Asked r.Inner w.Tag r.Opening r.Closing p e q → place ≡ here p → x ≡ t.tag_at place e → g.Texpr p x q
+tag_tree {p = p} {q = q} {e = e} (asked a (between b c d)) at made = subst (λ x. g.Texpr p x q) (sym (made ∙ ap (λ place. t.tag_at place e) at)) (g.tag_of a b c d)
 
-pub level_at_tree : {p1 p2 p3 p4 q : Stage} {e : t.Expression} {x : t.TagExpression} {place : Place} → IsWord p1 r.Inner w.Level p2 → IsSign p2 r.Opening s.OpenParen p3 → g.Expr p3 e p4 → IsSign p4 r.Closing s.CloseParen q
-    → place ≡ here p1 → x ≡ t.level_at place e → g.Texpr p1 x q
-level_at_tree {p1 = p1} {q = q} {e = e} a b c d at made = subst (λ x. g.Texpr p1 x q) (sym (made ∙ ap (λ place. t.level_at place e) at)) (g.level_at a b c d)
+pub level_at_tree : {p q : Stage} {e : t.Expression} {x : t.TagExpression} {place : Place} → Asked r.Inner w.Level r.Opening r.Closing p e q → place ≡ here p → x ≡ t.level_at place e → g.Texpr p x q
+level_at_tree {p = p} {q = q} {e = e} (asked a (between b c d)) at made = subst (λ x. g.Texpr p x q) (sym (made ∙ ap (λ place. t.level_at place e) at)) (g.level_at a b c d)
 
 pub join_tree : {p1 p2 p3 p4 p5 p6 p7 q : Stage} {x y z : t.TagExpression} {xs all : t.TagExpressions} {place : Place}
     → IsWord p1 r.Inner w.Join p2 → IsSign p2 r.Opening s.OpenParen p3 → g.Texpr p3 x p4 → IsSign p4 r.Inner s.Comma p5 → g.Texpr p5 y p6 → g.Texprs p6 xs p7 → IsSign p7 r.Closing s.CloseParen q

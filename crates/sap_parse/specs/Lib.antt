@@ -11,4 +11,7 @@ pub mod Counting
 pub mod Reading
 pub mod Choices
 pub mod Joining
+pub mod Rows
+pub mod CommandRows
+pub mod DesignRows
 pub mod Text

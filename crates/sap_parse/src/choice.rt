@@ -12,7 +12,7 @@ use sap_tree::syntax::{BinaryOperator, UnaryOperator};
 use sap_tree::word::Word;
 
 /// What a token begins as an operand.
-#[derive(Clone, Copy, PartialEq, Eq, Debug)]
+#[derive(Clone, Copy)]
 pub enum Primary {
     Number,
     Sized,
@@ -23,7 +23,7 @@ pub enum Primary {
 }
 
 /// What a token begins as a tag expression.
-#[derive(Clone, Copy, PartialEq, Eq, Debug)]
+#[derive(Clone, Copy)]
 pub enum TagHead {
     Name,
     Tag,
@@ -33,7 +33,7 @@ pub enum TagHead {
 }
 
 /// What a token begins as a command.
-#[derive(Clone, Copy, PartialEq, Eq, Debug)]
+#[derive(Clone, Copy, PartialEq, Eq)]
 pub enum CommandHead {
     Name,
     SetTag,
@@ -45,7 +45,7 @@ pub enum CommandHead {
 }
 
 /// What a token begins as a declaration.
-#[derive(Clone, Copy, PartialEq, Eq, Debug)]
+#[derive(Clone, Copy, PartialEq, Eq)]
 pub enum DeclarationHead {
     Input,
     Register,

@@ -30,7 +30,7 @@ const MOST_TOKENS: u64 = 256;
 
 /// The declarations, states and commands that the tokens so far begin, and, of the expression that they
 /// stand in, the tokens and the brackets that are open.
-#[derive(Clone, Copy, PartialEq, Eq, Debug)]
+#[derive(Clone, Copy)]
 pub struct Counts {
     pub inputs: u64,
     pub registers: u64,

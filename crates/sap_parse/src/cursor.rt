@@ -17,7 +17,7 @@ use std::alloc::{AllocError, AllocFailed, Global};
 use std::marker::Model;
 
 /// Why the reader stops, at the token where it is.
-#[derive(Debug, Drop)]
+#[derive(Drop)]
 pub enum Fault {
     /// The token cannot follow.
     Token,
@@ -48,7 +48,7 @@ impl<T: Drop> From<AllocFailed<T>> for Fault {
 }
 
 /// What kind of token comes.
-#[derive(Clone, Copy, PartialEq, Eq, Debug)]
+#[derive(Clone, Copy, PartialEq, Eq)]
 pub enum Ahead {
     Word(Word),
     Sign(Sign),

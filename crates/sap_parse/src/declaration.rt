@@ -4,12 +4,16 @@ ghost use Rattle.std.specs.Prelude.{◌≡◌, ◌≢◌, ◌≤◌, ◌<◌, If
 ghost use Rattle.sap_parse.specs.Choices.{declaration_head};
 ghost use Rattle.sap_parse.specs.Grammar as g;
 ghost use Rattle.sap_parse.specs.Reading.{Goes, ahead};
+ghost use Rattle.sap_parse.specs.DesignRows.{Cells, Declared, cells_row, declared_row};
+ghost use Rattle.sap_parse.specs.Rows.{RowGoes};
 ghost use Rattle.sap_parse.specs.Table as s;
 
 use crate::choice::{DeclarationHead, declaration_head};
 use crate::cursor::{Cursor, Fault};
 use crate::limit::Role;
 use crate::token::Sign;
+use sap_tree::name::Mention;
+use sap_tree::place::Place;
 use sap_tree::syntax::{Decl, Kind, Numeral, Under};
 use sap_tree::word::Word;
 use std::alloc::Global;
@@ -51,9 +55,8 @@ fn dynamic(tokens: &mut Cursor<'_>) -> Result<Kind, Fault>
     Ok(Kind::Dynamic(place))
 }
 
-/// The kind of an entity.
 #[tactic(auto, using(crate::proofs::Walks::kinds))]
-pub fn kind(alloc: Global, tokens: &mut Cursor<'_>) -> Result<Kind, Fault>
+fn plain_kind(alloc: Global, tokens: &mut Cursor<'_>) -> Result<Kind, Fault>
     ensures goes { Goes s.kind_of tokens.old result tokens.new }
     ensures tree { IfOk result (λ kind. g.KindOf tokens.old kind tokens.new) }
     ensures shorter { IfOk result (λ _. length tokens.new.left < length tokens.old.left) }
@@ -63,6 +66,18 @@ pub fn kind(alloc: Global, tokens: &mut Cursor<'_>) -> Result<Kind, Fault>
     } else {
         enforced(alloc, tokens)
     }
+}
+
+/// The kind of an entity.
+#[tactic(auto, using(crate::proofs::Walks::binding))]
+pub fn kind(alloc: Global, tokens: &mut Cursor<'_>) -> Result<Box<Kind>, Fault>
+    ensures goes { Goes s.kind_of tokens.old result tokens.new }
+    ensures tree { IfOk result (λ kind. g.KindOf tokens.old kind.value tokens.new) }
+    ensures shorter { IfOk result (λ _. length tokens.new.left < length tokens.old.left) }
+{
+    let read = plain_kind(alloc, tokens)?;
+    let kind = Box::new(alloc, read)?;
+    Ok(kind)
 }
 
 /// The initial number, where one is written.
@@ -80,16 +95,32 @@ fn initial(tokens: &mut Cursor<'_>) -> Result<Option<Numeral>, Fault>
     Ok(Some(start))
 }
 
+/// The word of a declaration, the name, `:` and the width.
+#[tactic(auto, using(crate::proofs::Walks::enclosing))]
+fn declared(
+    alloc: Global,
+    tokens: &mut Cursor<'_>,
+    role: Role,
+    word: Word,
+) -> Result<(Place, Mention, Numeral), Fault>
+    ensures goes { RowGoes (declared_row role word) tokens.old result tokens.new }
+    ensures tree { IfOk result (λ d. Declared role word tokens.old d.0 d.1 d.2 tokens.new) }
+    ensures shorter { IfOk result (λ _. length tokens.new.left < length tokens.old.left) }
+{
+    let place = tokens.word(role, word)?;
+    let name = tokens.name(alloc, Role::Plain)?;
+    tokens.sign(Role::Plain, Sign::Colon)?;
+    let width = tokens.number(Role::Plain)?;
+    Ok((place, name, width))
+}
+
 #[tactic(auto, using(crate::proofs::Walks::inputs))]
 fn input(alloc: Global, tokens: &mut Cursor<'_>) -> Result<Decl, Fault>
     ensures goes { Goes s.input tokens.old result tokens.new }
     ensures tree { IfOk result (λ d. g.Declaration tokens.old d tokens.new) }
     ensures shorter { IfOk result (λ _. length tokens.new.left < length tokens.old.left) }
 {
-    let place = tokens.word(Role::Input, Word::Input)?;
-    let name = tokens.name(alloc, Role::Plain)?;
-    tokens.sign(Role::Plain, Sign::Colon)?;
-    let width = tokens.number(Role::Plain)?;
+    let (place, name, width) = declared(alloc, tokens, Role::Input, Word::Input)?;
     tokens.sign(Role::Plain, Sign::Semicolon)?;
     Ok(Decl::Input(place, name, width))
 }
@@ -100,15 +131,24 @@ fn register(alloc: Global, tokens: &mut Cursor<'_>) -> Result<Decl, Fault>
     ensures tree { IfOk result (λ d. g.Declaration tokens.old d tokens.new) }
     ensures shorter { IfOk result (λ _. length tokens.new.left < length tokens.old.left) }
 {
-    let place = tokens.word(Role::Register, Word::Reg)?;
-    let name = tokens.name(alloc, Role::Plain)?;
-    tokens.sign(Role::Plain, Sign::Colon)?;
-    let width = tokens.number(Role::Plain)?;
-    let read = kind(alloc, tokens)?;
-    let kind = Box::new(alloc, read)?;
+    let (place, name, width) = declared(alloc, tokens, Role::Register, Word::Reg)?;
+    let kind = kind(alloc, tokens)?;
     let start = initial(tokens)?;
     tokens.sign(Role::Plain, Sign::Semicolon)?;
     Ok(Decl::Register(place, name, width, Box::into_inner(kind), start))
+}
+
+/// The number of the cells of a memory, in brackets.
+#[tactic(auto, using(crate::proofs::Walks::enclosing))]
+fn cells(tokens: &mut Cursor<'_>) -> Result<Numeral, Fault>
+    ensures goes { RowGoes cells_row tokens.old result tokens.new }
+    ensures tree { IfOk result (λ n. Cells tokens.old n tokens.new) }
+    ensures shorter { IfOk result (λ _. length tokens.new.left < length tokens.old.left) }
+{
+    tokens.sign(Role::Plain, Sign::OpenBracket)?;
+    let depth = tokens.number(Role::Plain)?;
+    tokens.sign(Role::Plain, Sign::CloseBracket)?;
+    Ok(depth)
 }
 
 #[tactic(auto, using(crate::proofs::Walks::memories))]
@@ -117,15 +157,9 @@ fn memory(alloc: Global, tokens: &mut Cursor<'_>) -> Result<Decl, Fault>
     ensures tree { IfOk result (λ d. g.Declaration tokens.old d tokens.new) }
     ensures shorter { IfOk result (λ _. length tokens.new.left < length tokens.old.left) }
 {
-    let place = tokens.word(Role::Memory, Word::Mem)?;
-    let name = tokens.name(alloc, Role::Plain)?;
-    tokens.sign(Role::Plain, Sign::Colon)?;
-    let width = tokens.number(Role::Plain)?;
-    tokens.sign(Role::Plain, Sign::OpenBracket)?;
-    let depth = tokens.number(Role::Plain)?;
-    tokens.sign(Role::Plain, Sign::CloseBracket)?;
-    let read = kind(alloc, tokens)?;
-    let kind = Box::new(alloc, read)?;
+    let (place, name, width) = declared(alloc, tokens, Role::Memory, Word::Mem)?;
+    let depth = cells(tokens)?;
+    let kind = kind(alloc, tokens)?;
     tokens.sign(Role::Plain, Sign::Semicolon)?;
     Ok(Decl::Memory(place, name, width, depth, Box::into_inner(kind)))
 }

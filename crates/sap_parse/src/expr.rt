@@ -4,6 +4,7 @@ ghost use Rattle.std.specs.Prelude.{◌≡◌, ◌≢◌, ◌≤◌, ◌<◌, If
 ghost use Rattle.sap_parse.specs.Grammar as g;
 ghost use Rattle.sap_parse.specs.Joining.{Collects, Indexes, Slices};
 ghost use Rattle.sap_parse.specs.Reading.{Goes, ahead, second};
+ghost use Rattle.sap_parse.specs.Rows.{Asked, Between, LastNumber, Range, RowGoes, asked_row, between_row, last_number_row, range_row};
 ghost use Rattle.sap_parse.specs.Stages.{here, spot_here};
 ghost use Rattle.sap_parse.specs.Table as s;
 ghost use Rattle.sap_tree.specs.Syntax as t;
@@ -36,6 +37,31 @@ struct Cut {
     low: u64,
 }
 
+/// A number, and the sign that closes the brackets around it.
+#[tactic(auto, using(crate::proofs::Walks::enclosing))]
+fn last_number(tokens: &mut Cursor<'_>, right: Sign) -> Result<u64, Fault>
+    ensures goes { RowGoes (last_number_row right) tokens.old result tokens.new }
+    ensures tree { IfOk result (λ n. LastNumber right tokens.old n tokens.new) }
+    ensures shorter { IfOk result (λ _. length tokens.new.left < length tokens.old.left) }
+{
+    let n = tokens.number(Role::Inner)?;
+    tokens.sign(Role::Closing, right)?;
+    Ok(n.value)
+}
+
+/// The bounds of a slice, and the `]` behind them.
+#[tactic(auto, using(crate::proofs::Walks::ranging))]
+fn range(tokens: &mut Cursor<'_>) -> Result<(u64, u64), Fault>
+    ensures goes { RowGoes range_row tokens.old result tokens.new }
+    ensures tree { IfOk result (λ b. Range tokens.old b.0 b.1 tokens.new) }
+    ensures shorter { IfOk result (λ _. length tokens.new.left < length tokens.old.left) }
+{
+    let high = tokens.number(Role::Inner)?;
+    tokens.sign(Role::Inner, Sign::Colon)?;
+    let low = last_number(tokens, Sign::CloseBracket)?;
+    Ok((high.value, low))
+}
+
 #[tactic(auto, using(crate::proofs::Walks::bounding))]
 fn bounds(tokens: &mut Cursor<'_>) -> Result<Cut, Fault>
     ensures goes { Goes s.slice tokens.old result tokens.new }
@@ -44,15 +70,8 @@ fn bounds(tokens: &mut Cursor<'_>) -> Result<Cut, Fault>
     ensures shorter { IfOk result (λ _. length tokens.new.left < length tokens.old.left) }
 {
     let place = tokens.sign(Role::Opening, Sign::OpenBracket)?;
-    let high = tokens.number(Role::Inner)?;
-    tokens.sign(Role::Inner, Sign::Colon)?;
-    let low = tokens.number(Role::Inner)?;
-    tokens.sign(Role::Closing, Sign::CloseBracket)?;
-    Ok(Cut {
-        place,
-        high: high.value,
-        low: low.value,
-    })
+    let (high, low) = range(tokens)?;
+    Ok(Cut { place, high, low })
 }
 
 /// The slices that follow an expression.
@@ -109,10 +128,14 @@ pub fn expr(alloc: Global, tokens: &mut Cursor<'_>) -> Result<Expr, Fault>
     if !tokens.at_sign(Sign::Question) {
         return Ok(Box::into_inner(condition));
     }
-    let place = tokens.sign(Role::Inner, Sign::Question)?;
-    let second = expr(alloc, tokens)?;
-    let one = Box::new(alloc, second)?;
-    tokens.sign(Role::Inner, Sign::Colon)?;
+    let (place, one) = between(
+        alloc,
+        tokens,
+        Role::Inner,
+        Sign::Question,
+        Role::Inner,
+        Sign::Colon,
+    )?;
     let other = expr(alloc, tokens)?;
     let spot = Spot {
         first: condition.first(),
@@ -210,20 +233,13 @@ fn slice(alloc: Global, tokens: &mut Cursor<'_>, name: Mention, place: Place) ->
     ensures tree { IfOk result (λ x. Slices (record { first = name.place; at = place }) (t.variable (record { first = name.place; at = name.place }) name.name) tokens.old (expression_of x) tokens.new) }
     ensures shorter { IfOk result (λ _. length tokens.new.left < length tokens.old.left) }
 {
-    let high = tokens.number(Role::Inner)?;
-    tokens.sign(Role::Inner, Sign::Colon)?;
-    let low = tokens.number(Role::Inner)?;
-    tokens.sign(Role::Closing, Sign::CloseBracket)?;
+    let (high, low) = range(tokens)?;
     let at = Spot {
         first: name.place,
         at: place,
     };
     let operand = Box::new(alloc, Expr::read(spot(name.place), name.name))?;
-    slices(
-        alloc,
-        tokens,
-        Expr::slice(at, operand, high.value, low.value),
-    )
+    slices(alloc, tokens, Expr::slice(at, operand, high, low))
 }
 
 /// What comes behind a name and the `[` of an index.
@@ -263,6 +279,56 @@ fn prim(alloc: Global, tokens: &mut Cursor<'_>) -> Result<Expr, Fault>
     }
 }
 
+/// An expression between two signs, and the place of the first.
+#[cycle(expr)]
+#[tactic(auto, using(crate::proofs::Walks::enclosing))]
+pub fn between(
+    alloc: Global,
+    tokens: &mut Cursor<'_>,
+    opening: Role,
+    left: Sign,
+    closing: Role,
+    right: Sign,
+) -> Result<(Place, Box<Expr>), Fault>
+    ensures goes { RowGoes (between_row opening left closing right) tokens.old result tokens.new }
+    ensures tree { IfOk result (λ x. Between opening left closing right tokens.old (expression_of x.1.value) tokens.new) }
+    ensures place { IfOk result (λ x. x.0 ≡ here tokens.old) }
+    ensures shorter { IfOk result (λ _. length tokens.new.left < length tokens.old.left) }
+{
+    let place = tokens.sign(opening, left)?;
+    let inner = expr(alloc, tokens)?;
+    let inner = Box::new(alloc, inner)?;
+    tokens.sign(closing, right)?;
+    Ok((place, inner))
+}
+
+/// A word and an expression in parentheses, and the place of the word.
+#[tactic(auto, using(crate::proofs::Walks::asking))]
+pub fn asked(
+    alloc: Global,
+    tokens: &mut Cursor<'_>,
+    role: Role,
+    word: Word,
+    opening: Role,
+    closing: Role,
+) -> Result<(Place, Box<Expr>), Fault>
+    ensures goes { RowGoes (asked_row role word opening closing) tokens.old result tokens.new }
+    ensures tree { IfOk result (λ x. Asked role word opening closing tokens.old (expression_of x.1.value) tokens.new) }
+    ensures place { IfOk result (λ x. x.0 ≡ here tokens.old) }
+    ensures shorter { IfOk result (λ _. length tokens.new.left < length tokens.old.left) }
+{
+    let place = tokens.word(role, word)?;
+    let (_, inner) = between(
+        alloc,
+        tokens,
+        opening,
+        Sign::OpenParen,
+        closing,
+        Sign::CloseParen,
+    )?;
+    Ok((place, inner))
+}
+
 #[cycle(expr)]
 #[tactic(auto, using(crate::proofs::Walks::wrapping))]
 fn paren(alloc: Global, tokens: &mut Cursor<'_>) -> Result<Expr, Fault>
@@ -270,10 +336,14 @@ fn paren(alloc: Global, tokens: &mut Cursor<'_>) -> Result<Expr, Fault>
     ensures tree { IfOk result (λ x. g.Prim tokens.old (expression_of x) tokens.new) }
     ensures shorter { IfOk result (λ _. length tokens.new.left < length tokens.old.left) }
 {
-    let place = tokens.sign(Role::Opening, Sign::OpenParen)?;
-    let inner = expr(alloc, tokens)?;
-    let inner = Box::new(alloc, inner)?;
-    tokens.sign(Role::Closing, Sign::CloseParen)?;
+    let (place, inner) = between(
+        alloc,
+        tokens,
+        Role::Opening,
+        Sign::OpenParen,
+        Role::Closing,
+        Sign::CloseParen,
+    )?;
     Ok(Box::into_inner(inner).enclosed(place))
 }
 
@@ -284,11 +354,16 @@ fn braces(alloc: Global, tokens: &mut Cursor<'_>) -> Result<Expr, Fault>
     ensures tree { IfOk result (λ x. g.Prim tokens.old (expression_of x) tokens.new) }
     ensures shorter { IfOk result (λ _. length tokens.new.left < length tokens.old.left) }
 {
+    let (place, first) = between(
+        alloc,
+        tokens,
+        Role::Opening,
+        Sign::OpenBrace,
+        Role::Inner,
+        Sign::Comma,
+    )?;
     let mut parts = Vec::new(alloc);
-    let place = tokens.sign(Role::Opening, Sign::OpenBrace)?;
-    let first = expr(alloc, tokens)?;
-    parts.push(first)?;
-    tokens.sign(Role::Inner, Sign::Comma)?;
+    parts.push(Box::into_inner(first))?;
     let second = expr(alloc, tokens)?;
     parts.push(second)?;
     more_parts(alloc, tokens, &mut parts)?;
@@ -319,11 +394,14 @@ fn zext(alloc: Global, tokens: &mut Cursor<'_>) -> Result<Expr, Fault>
     ensures shorter { IfOk result (λ _. length tokens.new.left < length tokens.old.left) }
 {
     let place = tokens.word(Role::Inner, Word::Zext)?;
-    tokens.sign(Role::Opening, Sign::OpenParen)?;
-    let inner = expr(alloc, tokens)?;
-    let operand = Box::new(alloc, inner)?;
-    tokens.sign(Role::Inner, Sign::Comma)?;
-    let width = tokens.number(Role::Inner)?;
-    tokens.sign(Role::Closing, Sign::CloseParen)?;
-    Ok(Expr::zext(spot(place), operand, width.value))
+    let (_, operand) = between(
+        alloc,
+        tokens,
+        Role::Opening,
+        Sign::OpenParen,
+        Role::Inner,
+        Sign::Comma,
+    )?;
+    let width = last_number(tokens, Sign::CloseParen)?;
+    Ok(Expr::zext(spot(place), operand, width))
 }

@@ -22,7 +22,7 @@ pub enum Lexeme {
 }
 
 /// Kinds of bytes that stand in a row.
-#[derive(Clone, Copy, PartialEq, Eq, Debug)]
+#[derive(Clone, Copy)]
 pub enum Class {
     /// What a name goes on with.
     Inner,

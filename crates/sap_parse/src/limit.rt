@@ -17,7 +17,7 @@ pub enum Limit {
 }
 
 /// What a token is to the limits.
-#[derive(Clone, Copy, PartialEq, Eq, Debug)]
+#[derive(Clone, Copy)]
 pub enum Role {
     /// It stands in no expression, and none of the next five is meant.
     Plain,

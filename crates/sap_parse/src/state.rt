@@ -4,6 +4,8 @@ ghost use Rattle.std.specs.Prelude.{◌≡◌, ◌≤◌, ◌<◌, ◌+◌, ◌^
 ghost use Rattle.sap_parse.specs.Grammar as g;
 ghost use Rattle.sap_parse.specs.Joining.{CollectsStates};
 ghost use Rattle.sap_parse.specs.Reading.{Goes};
+ghost use Rattle.sap_parse.specs.DesignRows.{AllStates, Head, all_states_row, head_row};
+ghost use Rattle.sap_parse.specs.Rows.{RowGoes};
 ghost use Rattle.sap_parse.specs.Table as s;
 ghost use Rattle.sap_parse.specs.Stages.{here};
 ghost use Rattle.sap_tree.specs.Parts.{tree_of};
@@ -14,7 +16,9 @@ use crate::cursor::{Cursor, Fault};
 use crate::declaration::{declarations, kind};
 use crate::limit::Role;
 use crate::token::Sign;
-use sap_tree::syntax::{Block, Decl, State};
+use sap_tree::name::Mention;
+use sap_tree::place::Place;
+use sap_tree::syntax::{Block, Decl, Kind, State};
 use sap_tree::version::Version;
 use sap_tree::word::Word;
 use std::alloc::Global;
@@ -36,6 +40,24 @@ fn states(alloc: Global, tokens: &mut Cursor<'_>, depth: u64) -> Result<Vec<Stat
     Ok(list)
 }
 
+/// The word, the name and the kind of a state, and `{`.
+#[tactic(auto, using(crate::proofs::Walks::enclosing))]
+fn head(
+    alloc: Global,
+    tokens: &mut Cursor<'_>,
+    depth: u64,
+) -> Result<(Place, Mention, Box<Kind>), Fault>
+    ensures goes { RowGoes (head_row depth) tokens.old result tokens.new }
+    ensures tree { IfOk result (λ h. Head depth tokens.old h.0 h.1 h.2.value tokens.new) }
+    ensures shorter { IfOk result (λ _. length tokens.new.left < length tokens.old.left) }
+{
+    let place = tokens.word(Role::State(depth), Word::State)?;
+    let name = tokens.name(alloc, Role::Plain)?;
+    let kind = kind(alloc, tokens)?;
+    tokens.sign(Role::Plain, Sign::OpenBrace)?;
+    Ok((place, name, kind))
+}
+
 #[cycle(state)]
 #[tactic(auto, using(crate::proofs::Walks::one_state))]
 fn state(alloc: Global, tokens: &mut Cursor<'_>, depth: u64) -> Result<State, Fault>
@@ -44,11 +66,7 @@ fn state(alloc: Global, tokens: &mut Cursor<'_>, depth: u64) -> Result<State, Fa
     ensures tree { IfOk result (λ x. g.State depth tokens.old (state_of x) tokens.new) }
     ensures shorter { IfOk result (λ _. length tokens.new.left < length tokens.old.left) }
 {
-    let place = tokens.word(Role::State(depth), Word::State)?;
-    let name = tokens.name(alloc, Role::Plain)?;
-    let read = kind(alloc, tokens)?;
-    let kind = Box::new(alloc, read)?;
-    tokens.sign(Role::Plain, Sign::OpenBrace)?;
+    let (place, name, kind) = head(alloc, tokens, depth)?;
     let body = body(alloc, tokens)?;
     let children = states(alloc, tokens, depth + 1)?;
     tokens.sign(Role::Plain, Sign::CloseBrace)?;
@@ -88,6 +106,21 @@ fn last_states(alloc: Global, tokens: &mut Cursor<'_>, list: &mut Vec<State>) ->
     }
 }
 
+/// The top-level states, up to the end.
+#[tactic(auto, using(crate::proofs::Walks::enclosing))]
+fn all_states(alloc: Global, tokens: &mut Cursor<'_>) -> Result<Vec<State>, Fault>
+    requires { 1 + length tokens.old.left < 2 ^ 64 }
+    ensures goes { RowGoes all_states_row tokens.old result tokens.new }
+    ensures tree { IfOk result (λ list. AllStates tokens.old (states_of list.items) tokens.new) }
+    ensures end { IfOk result (λ _. tokens.new.left ≡ []) }
+{
+    let first = state(alloc, tokens, 1)?;
+    let mut list = Vec::new(alloc);
+    list.push(first)?;
+    last_states(alloc, tokens, &mut list)?;
+    Ok(list)
+}
+
 /// The first line of a text of the second version, where one is written.
 #[tactic(auto, using(crate::proofs::Walks::headers))]
 fn header(tokens: &mut Cursor<'_>) -> Result<Version, Fault>
@@ -122,10 +155,7 @@ pub fn design(alloc: Global, tokens: &mut Cursor<'_>) -> Result<Parts, Fault>
 {
     let version = header(tokens)?;
     let declarations = declarations(alloc, tokens)?;
-    let first = state(alloc, tokens, 1)?;
-    let mut states = Vec::new(alloc);
-    states.push(first)?;
-    last_states(alloc, tokens, &mut states)?;
+    let states = all_states(alloc, tokens)?;
     Ok(Parts {
         version,
         declarations,

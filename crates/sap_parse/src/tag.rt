@@ -9,7 +9,7 @@ ghost use Rattle.sap_tree.specs.Trees.{tag_of};
 
 use crate::choice::{TagHead, tag_head};
 use crate::cursor::{Cursor, Fault};
-use crate::expr::expr;
+use crate::expr::asked;
 use crate::limit::Role;
 use crate::token::Sign;
 use sap_tree::syntax::TagExpr;
@@ -49,11 +49,14 @@ fn tag(alloc: Global, tokens: &mut Cursor<'_>) -> Result<TagExpr, Fault>
     ensures tree { IfOk result (λ x. g.Texpr tokens.old (tag_of x) tokens.new) }
     ensures shorter { IfOk result (λ _. length tokens.new.left < length tokens.old.left) }
 {
-    let place = tokens.word(Role::Inner, Word::Tag)?;
-    tokens.sign(Role::Opening, Sign::OpenParen)?;
-    let operand = expr(alloc, tokens)?;
-    let operand = Box::new(alloc, operand)?;
-    tokens.sign(Role::Closing, Sign::CloseParen)?;
+    let (place, operand) = asked(
+        alloc,
+        tokens,
+        Role::Inner,
+        Word::Tag,
+        Role::Opening,
+        Role::Closing,
+    )?;
     Ok(TagExpr::tag(place, Box::into_inner(operand)))
 }
 
@@ -63,11 +66,14 @@ fn level_at(alloc: Global, tokens: &mut Cursor<'_>) -> Result<TagExpr, Fault>
     ensures tree { IfOk result (λ x. g.Texpr tokens.old (tag_of x) tokens.new) }
     ensures shorter { IfOk result (λ _. length tokens.new.left < length tokens.old.left) }
 {
-    let place = tokens.word(Role::Inner, Word::Level)?;
-    tokens.sign(Role::Opening, Sign::OpenParen)?;
-    let operand = expr(alloc, tokens)?;
-    let operand = Box::new(alloc, operand)?;
-    tokens.sign(Role::Closing, Sign::CloseParen)?;
+    let (place, operand) = asked(
+        alloc,
+        tokens,
+        Role::Inner,
+        Word::Level,
+        Role::Opening,
+        Role::Closing,
+    )?;
     Ok(TagExpr::level_at(place, Box::into_inner(operand)))
 }
 

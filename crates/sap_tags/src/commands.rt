@@ -42,6 +42,92 @@ fn inside(alloc: Global, setting: &Setting<'_>, p: u32, own: u32) -> Result<Calc
     lub(alloc, context, own)
 }
 
+/// A wire gets the test of a step in the context of the wire `p`.
+fn set_test(
+    alloc: Global,
+    setting: &Setting<'_>,
+    at: &Spot<'_>,
+    out: &mut Vec<PlainCmd>,
+    p: u32,
+    wire: u32,
+    step: &Step,
+) -> Result<(), AllocError>
+    requires { RangedStep (world_in setting.now) (views.step_of (entities_in setting.now) step.now) }
+    ensures { let d = setting_in setting.now in
+        OnOk result (body_of out.new.items ≡ follow (body_of out.old.items) (spec.gives d (wire_key wire) (levels.test_of d (spot_in setting.now at.now) (levels.var d (wire_key p)) (views.step_of (entities_in setting.now) step.now)) stop)) }
+{
+    let context = wire_variable(alloc, setting, p)?;
+    let test = test_of(alloc, setting, at, &context, step)?;
+    set_wire(alloc, setting, out, wire, test)
+}
+
+/// A wire gets the guard of a step.
+fn set_guard(
+    alloc: Global,
+    setting: &Setting<'_>,
+    at: &Spot<'_>,
+    out: &mut Vec<PlainCmd>,
+    wire: u32,
+    step: &Step,
+) -> Result<(), AllocError>
+    requires { RangedStep (world_in setting.now) (views.step_of (entities_in setting.now) step.now) }
+    ensures { let d = setting_in setting.now in
+        OnOk result (body_of out.new.items ≡ follow (body_of out.old.items) (spec.gives d (wire_key wire) (levels.guard_of d (spot_in setting.now at.now) (views.step_of (entities_in setting.now) step.now)) stop)) }
+{
+    let guard = guard_of(alloc, setting, at, step)?;
+    set_wire(alloc, setting, out, wire, guard)
+}
+
+/// A wire gets the context inside another, which is in the wire `p`.
+fn set_inside(
+    alloc: Global,
+    setting: &Setting<'_>,
+    out: &mut Vec<PlainCmd>,
+    p: u32,
+    own: u32,
+    wire: u32,
+) -> Result<(), AllocError>
+    ensures { let d = setting_in setting.now in
+        OnOk result (body_of out.new.items ≡ follow (body_of out.old.items) (spec.gives d (wire_key wire) (levels.lub (levels.var d (wire_key p)) (levels.var d (wire_key own))) stop)) }
+{
+    let inner = inside(alloc, setting, p, own)?;
+    set_wire(alloc, setting, out, wire, inner)
+}
+
+/// A wire gets the level that a step writes in the context of the wire `p`.
+fn set_written(
+    alloc: Global,
+    setting: &Setting<'_>,
+    out: &mut Vec<PlainCmd>,
+    p: u32,
+    wire: u32,
+    step: &Step,
+) -> Result<(), AllocError>
+    requires { RangedStep (world_in setting.now) (views.step_of (entities_in setting.now) step.now) }
+    ensures { let d = setting_in setting.now in
+        OnOk result (body_of out.new.items ≡ follow (body_of out.old.items) (spec.gives d (wire_key wire) (levels.written d (levels.var d (wire_key p)) (views.step_of (entities_in setting.now) step.now)) stop)) }
+{
+    let context = wire_variable(alloc, setting, p)?;
+    let level = written(alloc, setting, &context, step)?;
+    set_wire(alloc, setting, out, wire, level)
+}
+
+/// A wire tells whether the number stays.
+fn set_stays(
+    alloc: Global,
+    setting: &Setting<'_>,
+    out: &mut Vec<PlainCmd>,
+    wire: u32,
+    step: &Step,
+) -> Result<(), AllocError>
+    requires { RangedStep (world_in setting.now) (views.step_of (entities_in setting.now) step.now) }
+    ensures { let d = setting_in setting.now in
+        OnOk result (body_of out.new.items ≡ follow (body_of out.old.items) (spec.gives d (wire_key wire) (levels.stays d (views.step_of (entities_in setting.now) step.now)) stop)) }
+{
+    let stays = stays(alloc, setting, step)?;
+    set_wire(alloc, setting, out, wire, stays)
+}
+
 /// What a step in the context of the wire `p` looks at goes into the wires from `k` on.
 #[tactic(auto, using(sap_effects::proofs::Pushed::behind))]
 fn look(
@@ -57,17 +143,11 @@ fn look(
     requires ranged { RangedStep (world_in setting.now) (views.step_of (entities_in setting.now) step.now) }
     ensures { OnOk result (body_of out.new.items ≡ follow (body_of out.old.items) (spec.looks (setting_in setting.now) (spot_in setting.now at.now) p k (views.step_of (entities_in setting.now) step.now) stop)) }
 {
-    let context = wire_variable(alloc, setting, p)?;
-    let test = test_of(alloc, setting, at, &context, step)?;
-    set_wire(alloc, setting, out, k, test)?;
-    let guard = guard_of(alloc, setting, at, step)?;
-    set_wire(alloc, setting, out, k + 1, guard)?;
-    let inner = inside(alloc, setting, p, k + 1)?;
-    set_wire(alloc, setting, out, k + 2, inner)?;
-    let level = written(alloc, setting, &context, step)?;
-    set_wire(alloc, setting, out, k + 3, level)?;
-    let stays = stays(alloc, setting, step)?;
-    set_wire(alloc, setting, out, k + 4, stays)
+    set_test(alloc, setting, at, out, p, k, step)?;
+    set_guard(alloc, setting, at, out, k + 1, step)?;
+    set_inside(alloc, setting, out, p, k + 1, k + 2)?;
+    set_written(alloc, setting, out, p, k + 3, step)?;
+    set_stays(alloc, setting, out, k + 4, step)
 }
 
 /// The number of a step as a check site.
@@ -154,8 +234,7 @@ fn choose(
 {
     let level = tag_of(alloc, setting, condition)?;
     set_wire(alloc, setting, out, k, level)?;
-    let inner = inside(alloc, setting, p, k)?;
-    set_wire(alloc, setting, out, k + 1, inner)
+    set_inside(alloc, setting, out, p, k, k + 1)
 }
 
 /// Where the condition isn't 0 `yes`, else `no`.

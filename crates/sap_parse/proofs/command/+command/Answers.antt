@@ -1,20 +1,18 @@
 use Rattle.std.proofs.Common.{◌≡◌, ◌∙◌, ◌+◌, ◌++◌, ◌∷◌, [], List, sym, ap, subst, refl, rules, arith}
 use Rattle.std.proofs.lemmas.Result.{IfOk-weaker}
+use Rattle.sap_parse.specs.CommandRows.{behind, ended, plain}
 use Rattle.sap_parse.specs.Grammar as g
 use Rattle.sap_parse.specs.Joining.{join_commands}
 use Rattle.sap_parse.specs.Reading.{steps_by, strictly}
 use Rattle.sap_parse.specs.Table as s
-use Rattle.sap_parse.specs.declared.limit.Role.TheVariants as r
-use Rattle.sap_parse.specs.declared.token.Sign.TheVariants as j
 use Rattle.sap_tree.specs.Syntax as t
-use Rattle.sap_tree.specs.Trees.{arm_block_of, arms_before, arms_of, block_of, command_of, commands_of, constants_of, expression_of, simple_of}
+use Rattle.sap_tree.specs.Trees.{arm_block_of, arms_before, block_of, command_of, commands_of, constants_of, expression_of, simple_of}
 use Rattle.sap_tree.specs.declared.syntax.Arm.{Arm}
 use Rattle.sap_tree.specs.declared.syntax.Expr.{Expr}
 use Rattle.sap_tree.specs.declared.syntax.Simple.{Simple}
-use Rattle.sap_parse.proofs.CommandLaws.{arms_last, arms_there, cmd_simple, cmds_missing, cmds_there, ending_unhandled}
-use Rattle.sap_parse.proofs.CommandMakes.{arm_tree, arms_before_push, block_tree, branch_tree, case_tree, decided_tree, handled_tree, join_commands_none, join_commands_push, plain_tree}
+use Rattle.sap_parse.proofs.CommandLaws.{arms_there, cmds_there}
+use Rattle.sap_parse.proofs.CommandMakes.{arm_tree, arms_before_push, arms_tree, block_tree, branch_tree, case_tree, decided_tree, else_tree, ended_tree, handled_tree, join_commands_none, join_commands_push}
 use Rattle.sap_parse.proofs.Faults.{fault_goes}
-use Rattle.sap_walk.specs.Walk.{◌>>=◌}
 use Rattle.sap_walk.proofs.Walking.{bind_ok, bind_pure}
 use Rattle.sap_parse.proofs.command.+command.Goals as goal
 
@@ -36,48 +34,46 @@ pub commands-returns-clause-tree : goal.commands-returns-clause-tree
 commands-returns-clause-tree m c =
     subst (λ xs. g.Cmds c.args.depth c.args.tokens.now xs c.commands.tokens) (join_commands_none _) (c.commands.invariant.tree t.no_command c.commands.tokens g.no_cmd)
 
-pub command-returns-in_err-sign-clause-goes : goal.command-returns-in_err-sign-clause-goes
-command-returns-in_err-sign-clause-goes m c =
-    fault_goes (s.cmd c.args.depth) (s.sign r.Plain j.Semicolon) c.args.tokens.now c.simple.new.tokens c.sign.new.self (steps_by strictly []) c.in_err-sign.field-0.0 c.from_residual-in_err-sign.result (search rules)
-    (cmd_simple strictly c.args.depth c.args.tokens.now (c.if-at_word.ensures.no refl) (c.if-at_word-2.ensures.no refl) ∙ bind_ok _ _ _ c.in_ok-read.ensures.goes ∙ ap (λ o. o >>= steps_by strictly []) (ending_unhandled strictly c.args.depth c.simple.new.tokens (c.if-at_word-3.ensures.no refl) (c.if-not-at_word.ensures.no refl)))
-    c.in_err-sign.ensures.goes
-
-pub command-returns-then-not-at_word-clause-tree : goal.command-returns-then-not-at_word-clause-tree
-command-returns-then-not-at_word-clause-tree m c =
-    plain_tree c.in_ok-read.ensures.tree c.in_ok-sign.ensures.tree (ap (λ (x : Simple). simple_of x) (c.into_inner-then-not-at_word.ensures ∙ c.in_ok-first.ensures.ok)) c.plain.ensures
-
 pub command-returns-clause-tree : goal.command-returns-clause-tree
 command-returns-clause-tree m c =
-    handled_tree c.in_ok-read.ensures.tree c.in_ok-place-2.ensures.tree c.in_ok-handler.ensures.tree c.in_ok-place-2.ensures.place
-    (ap (λ (x : Simple). simple_of x) (c.into_inner-2.ensures ∙ c.in_ok-first.ensures.ok)) c.handled.ensures
+    subst (λ x. g.Cmd c.args.depth c.args.tokens.now x c.ending.new.tokens) (sym (c.applied_to.ensures ∙ ap (λ (x : Simple). ended (simple_of x) c.in_ok-ending.ending) c.into_inner.ensures))
+    (ended_tree c.in_ok-first.ensures.tree c.in_ok-ending.ensures.tree)
+
+pub ending-returns-then-at_word-clause-tree : goal.ending-returns-then-at_word-clause-tree
+ending-returns-then-at_word-clause-tree m c = decided_tree c.in_ok-place.ensures.tree c.in_ok-refused.ensures.tree c.in_ok-place.ensures.place
+
+pub ending-returns-then-at_word-2-clause-tree : goal.ending-returns-then-at_word-2-clause-tree
+ending-returns-then-at_word-2-clause-tree m c = handled_tree c.in_ok-place-2.ensures.tree c.in_ok-place-2.ensures.place
+
+pub ending-returns-clause-tree : goal.ending-returns-clause-tree
+ending-returns-clause-tree m c = plain c.in_ok-sign.ensures.tree
+
+pub behind-returns-clause-tree : goal.behind-returns-clause-tree
+behind-returns-clause-tree m c = behind c.in_ok-place.ensures.tree c.in_ok-block.ensures.tree
 
 pub branch-returns-clause-tree : goal.branch-returns-clause-tree
 branch-returns-clause-tree m c =
-    branch_tree c.in_ok-place.ensures.tree c.in_ok-sign.ensures.tree c.in_ok-read.ensures.tree c.in_ok-sign-2.ensures.tree c.in_ok-one.ensures.tree c.in_ok-other.ensures.tree c.in_ok-place.ensures.place
-    (ap (λ (x : Expr). expression_of x) (c.into_inner.ensures ∙ c.in_ok-condition.ensures.ok)) c.branch-place-2.ensures
+    branch_tree c.in_ok-place.ensures.tree c.in_ok-one.ensures.tree c.in_ok-other.ensures.tree c.in_ok-place.ensures.place (ap (λ (x : Expr). expression_of x) c.into_inner.ensures) c.branch-place-2.ensures
 
 pub otherwise-returns-then-not-at_word-clause-tree : goal.otherwise-returns-then-not-at_word-clause-tree
 otherwise-returns-then-not-at_word-clause-tree m c = g.no_else
 
 pub otherwise-returns-clause-tree : goal.otherwise-returns-clause-tree
-otherwise-returns-clause-tree m c = g.else c.in_ok-word.ensures.tree c.in_ok-other.ensures.tree
+otherwise-returns-clause-tree m c = else_tree c.in_ok-other.ensures.tree
 
 pub block-returns-clause-tree : goal.block-returns-clause-tree
 block-returns-clause-tree m c = block_tree c.in_ok-sign.ensures.tree c.in_ok-commands.ensures.tree c.in_ok-after.ensures.tree c.in_ok-after.ensures.place
 
-pub command-returns-then-at_word-3-clause-tree : goal.command-returns-then-at_word-3-clause-tree
-command-returns-then-at_word-3-clause-tree m c =
-    decided_tree c.in_ok-read.ensures.tree c.in_ok-place.ensures.tree c.in_ok-accepted.ensures.tree c.in_ok-word.ensures.tree c.in_ok-refused.ensures.tree c.in_ok-place.ensures.place
-    (ap (λ (x : Simple). simple_of x) (c.into_inner.ensures ∙ c.in_ok-first.ensures.ok)) c.decided.ensures
-
 pub case-returns-clause-tree : goal.case-returns-clause-tree
 case-returns-clause-tree m c =
-    case_tree _ _ c.in_ok-place.ensures.tree c.in_ok-sign.ensures.tree c.in_ok-read.ensures.tree c.in_ok-sign-2.ensures.tree c.in_ok-sign-3.ensures.tree c.in_ok-first.ensures.tree
-    (c.in_ok-push.ensures.items ∙ ap (λ (v : List Arm). v ++ c.in_ok-first.first ∷ []) c.new-arms.ensures.items) c.in_ok-last.ensures.tree c.in_ok-sign-4.ensures.tree c.in_ok-place.ensures.place (ap (λ (x : Expr). expression_of x) (c.into_inner.ensures ∙ c.in_ok-number.ensures.ok)) c.case.ensures
+    case_tree c.in_ok-place.ensures.tree c.in_ok-arms.ensures.tree c.in_ok-place.ensures.place (ap (λ (x : Expr). expression_of x) c.into_inner.ensures) c.case.ensures
+
+pub arms-returns-clause-tree : goal.arms-returns-clause-tree
+arms-returns-clause-tree m c =
+    arms_tree _ _ c.in_ok-sign.ensures.tree c.in_ok-first.ensures.tree (c.in_ok-push.ensures.items ∙ ap (λ (v : List Arm). v ++ c.in_ok-first.first ∷ []) c.new-arms.ensures.items) c.in_ok-last.ensures.tree c.in_ok-sign-2.ensures.tree
 
 pub arm-returns-clause-tree : goal.arm-returns-clause-tree
-arm-returns-clause-tree m c =
-    arm_tree _ c.in_ok-first.ensures.tree (c.in_ok-push.ensures.items ∙ ap (λ (v : List Expr). v ++ c.in_ok-first.first ∷ []) c.new-constants.ensures.items) c.in_ok-more_constants.ensures.tree c.in_ok-sign.ensures.tree c.in_ok-block.ensures.tree
+arm-returns-clause-tree m c = arm_tree c.in_ok-constants.ensures.tree c.in_ok-block.ensures.tree
 
 pub more_arms-arms-preserved : goal.more_arms-arms-preserved
 more_arms-arms-preserved m c = record {

@@ -15,11 +15,17 @@ decreases-commands l = 6 * length l.tokens.now.left + 5
 abbrev pub decreases-command : goal.decreases-command
 decreases-command l = 6 * length l.tokens.now.left + 4
 
+abbrev pub decreases-ending : goal.decreases-ending
+decreases-ending l = 6 * length l.tokens.now.left + 2
+
+abbrev pub decreases-behind : goal.decreases-behind
+decreases-behind l = 6 * length l.tokens.now.left + 1
+
 abbrev pub decreases-branch : goal.decreases-branch
 decreases-branch l = 6 * length l.tokens.now.left + 3
 
 abbrev pub decreases-otherwise : goal.decreases-otherwise
-decreases-otherwise l = 6 * length l.tokens.now.left + 1
+decreases-otherwise l = 6 * length l.tokens.now.left + 2
 
 abbrev pub decreases-block : goal.decreases-block
 decreases-block l = 6 * length l.tokens.now.left
@@ -36,6 +42,9 @@ decreases-commands-commands l = length l.tokens.left
 
 abbrev pub decreases-case : goal.decreases-case
 decreases-case l = 6 * length l.tokens.now.left + 3
+
+abbrev pub decreases-arms : goal.decreases-arms
+decreases-arms l = 6 * length l.tokens.now.left + 2
 
 abbrev pub decreases-more_arms : goal.decreases-more_arms
 decreases-more_arms l = 6 * length l.tokens.now.left + 2

@@ -3,6 +3,7 @@ use Rattle.std.specs.Prelude.{IfOk}
 use Rattle.sap_parse.specs.Choices.{operator_at, unary_at}
 use Rattle.sap_parse.specs.Grammar as g
 use Rattle.sap_parse.specs.Joining.{join}
+use Rattle.sap_parse.specs.Rows.{Between, between}
 use Rattle.sap_parse.specs.Reading.{Goes, ahead, reads, steps_by, strictly}
 use Rattle.sap_parse.specs.Stages.{IsSign, here}
 use Rattle.sap_parse.specs.Table as s
@@ -91,9 +92,9 @@ more_parts-returns-clause-tree m c =
 pub braces-returns-clause-tree : goal.braces-returns-clause-tree
 braces-returns-clause-tree m c =
     let others = c.in_ok-more_parts.ensures.tree in
-    let items = c.in_ok-push-2.ensures.items ∙ ap (λ (v : List Expr). v ++ c.in_ok-second.second ∷ []) (c.in_ok-push.ensures.items ∙ ap (λ (v : List Expr). v ++ c.in_ok-first.first ∷ []) c.new-parts.ensures.items) in
-    concat_tree c.in_ok-place.ensures.tree c.in_ok-first.ensures.tree c.in_ok-sign.ensures.tree c.in_ok-second.ensures.tree others.2 c.in_ok-sign-2.ensures.tree
-    c.in_ok-place.ensures.place c.spot.ensures (others.1 ∙ ap (λ (v : List Expr). join (expressions_of v) others.0) items) c.concat.ensures
+    let items = c.in_ok-push-2.ensures.items ∙ ap (λ (v : List Expr). v ++ c.in_ok-second.second ∷ []) (c.in_ok-push.ensures.items ∙ ap (λ (v : List Expr). v ++ c.into_inner.result ∷ []) c.new-parts.ensures.items) in
+    concat_tree c.in_ok-place.ensures.tree c.in_ok-second.ensures.tree others.2 c.in_ok-sign.ensures.tree c.in_ok-place.ensures.place
+    (ap (λ (x : Expr). expression_of x) c.into_inner.ensures) c.spot.ensures (others.1 ∙ ap (λ (v : List Expr). join (expressions_of v) others.0) items) c.concat.ensures
 
 -- what begins with a name
 
@@ -130,15 +131,18 @@ expr-returns-then-not-at_sign-clause-tree m c =
 
 pub expr-returns-clause-tree : goal.expr-returns-clause-tree
 expr-returns-clause-tree m c =
-    choice_tree c.in_ok-first.ensures.tree c.in_ok-place.ensures.tree c.in_ok-second.ensures.tree c.in_ok-sign.ensures.tree c.in_ok-other.ensures.tree c.in_ok-place.ensures.place
+    choice_tree c.in_ok-first.ensures.tree c.in_ok-place.ensures.tree c.in_ok-other.ensures.tree c.in_ok-place.ensures.place
     (c.first.ensures ∙ ap (λ (x : Expr). first_of (expression_of x)) (search rules))
-    (c.in_ok-choose.ensures ∙ ap (λ (x : Expr). t.choice (from_to c.first.result c.in_ok-place.place) (expression_of x) (expression_of c.in_ok-one.one.value) (expression_of c.in_ok-other.other)) c.in_ok-condition.ensures.ok
-    ∙ ap (λ (x : Expr). t.choice (from_to c.first.result c.in_ok-place.place) (expression_of c.in_ok-first.first) (expression_of x) (expression_of c.in_ok-other.other)) c.in_ok-one.ensures.ok)
+    (c.in_ok-choose.ensures ∙ ap (λ (x : Expr). t.choice (from_to c.first.result c.in_ok-place.place) (expression_of x) (expression_of c.in_ok-place.one.value) (expression_of c.in_ok-other.other)) c.in_ok-condition.ensures.ok)
 
 pub paren-returns-clause-tree : goal.paren-returns-clause-tree
 paren-returns-clause-tree m c =
-    paren_tree c.in_ok-place.ensures.tree c.in_ok-inner.ensures.tree c.in_ok-sign.ensures.tree c.in_ok-place.ensures.place
-    (c.enclosed.ensures ∙ ap (λ (x : Expr). enclosed c.in_ok-place.place (expression_of x)) (c.into_inner.ensures ∙ c.in_ok-inner-2.ensures.ok))
+    paren_tree c.in_ok-place.ensures.tree c.in_ok-place.ensures.place (c.enclosed.ensures ∙ ap (λ (x : Expr). enclosed c.in_ok-place.place (expression_of x)) c.into_inner.ensures)
+
+pub between-returns-clause-tree : goal.between-returns-clause-tree
+between-returns-clause-tree m c =
+    subst (λ (x : Expr). Between c.args.opening c.args.left c.args.closing c.args.right c.args.tokens.now (expression_of x) c.sign-2.new.self) (sym c.in_ok-inner-2.ensures.ok)
+    (between c.in_ok-place.ensures.tree c.in_ok-inner.ensures.tree c.in_ok-sign.ensures.tree)
 
 pub unary-returns-in_err-place-in-Some-clause-goes : goal.unary-returns-in_err-place-in-Some-clause-goes
 unary-returns-in_err-place-in-Some-clause-goes m c =
@@ -171,6 +175,4 @@ unary-returns-in-None-clause-tree m c = unsigned_tree c.post.result c.args.token
 
 pub zext-returns-clause-tree : goal.zext-returns-clause-tree
 zext-returns-clause-tree m c =
-    zext_tree c.in_ok-place.ensures.tree c.in_ok-sign.ensures.tree c.in_ok-inner.ensures.tree c.in_ok-sign-2.ensures.tree c.in_ok-width.ensures.tree c.in_ok-sign-3.ensures.tree
-    c.in_ok-place.ensures.place c.spot.ensures
-    (c.zext.ensures ∙ ap (λ (x : Expr). t.zero_extend c.spot.result (expression_of x) c.in_ok-width.width.value) c.in_ok-operand.ensures.ok)
+    zext_tree c.in_ok-place.ensures.tree c.in_ok-operand.ensures.tree c.in_ok-width.ensures.tree c.in_ok-place.ensures.place c.spot.ensures c.zext.ensures

@@ -36,6 +36,9 @@ decreases-prim l = 20 * length l.tokens.now.left + 2
 abbrev pub decreases-paren : goal.decreases-paren
 decreases-paren l = 20 * length l.tokens.now.left + 1
 
+abbrev pub decreases-between : goal.decreases-between
+decreases-between l = 20 * length l.tokens.now.left
+
 abbrev pub decreases-braces : goal.decreases-braces
 decreases-braces l = 20 * length l.tokens.now.left + 1
 

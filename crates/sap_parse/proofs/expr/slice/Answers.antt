@@ -8,7 +8,7 @@ use Rattle.sap_parse.proofs.expr.slice.Goals as goal
 pub returns-clause-tree : goal.returns-clause-tree
 returns-clause-tree c =
     slices_tree c.slices.result c.slices.new.tokens (from_to c.args.name.place c.args.place) (t.variable (both c.args.name.place) c.args.name.name)
-    c.in_ok-high.ensures.tree c.in_ok-sign.ensures.tree c.in_ok-low.ensures.tree c.in_ok-sign-2.ensures.tree
-    (c.slice.ensures ∙ ap (λ x. t.slice (from_to c.args.name.place c.args.place) x c.in_ok-high.high.value c.in_ok-low.low.value)
+    c.in_ok-high.ensures.tree
+    (c.slice.ensures ∙ ap (λ x. t.slice (from_to c.args.name.place c.args.place) x c.in_ok-high.high c.in_ok-high.low)
     (ap (λ (x : Expr). expression_of x) c.in_ok-operand.ensures.ok ∙ c.read.ensures ∙ ap (λ s. t.variable s c.args.name.name) c.spot.ensures))
     c.slices.ensures.tree

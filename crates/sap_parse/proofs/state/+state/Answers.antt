@@ -24,5 +24,4 @@ states-returns-clause-tree m c =
 
 pub state-returns-clause-tree : goal.state-returns-clause-tree
 state-returns-clause-tree m c =
-    state_tree c.in_ok-place.ensures.tree c.in_ok-name.ensures.tree c.in_ok-read.ensures.tree c.in_ok-sign.ensures.tree c.in_ok-body.ensures.tree c.in_ok-children.ensures.tree c.in_ok-sign-2.ensures.tree
-    c.in_ok-place.ensures.place c.in_ok-name.ensures.place (c.into_inner.ensures ∙ c.in_ok-kind.ensures.ok) c.in_ok-body.ensures.after c.new-2.ensures
+    state_tree c.in_ok-place.ensures.tree c.in_ok-body.ensures.tree c.in_ok-children.ensures.tree c.in_ok-sign.ensures.tree c.into_inner.ensures c.in_ok-body.ensures.after c.new.ensures

@@ -1,12 +1,5 @@
-use Rattle.std.proofs.Common.{◌∙◌, ◌++◌, ◌∷◌, [], List, ap}
-use Rattle.sap_parse.specs.Joining.{join_states}
-use Rattle.sap_tree.specs.Trees.{states_of}
-use Rattle.sap_tree.specs.declared.syntax.State.{State}
 use Rattle.sap_parse.proofs.DesignMakes.{design_tree}
 use Rattle.sap_parse.proofs.state.design.Goals as goal
 
 pub returns-clause-tree : goal.returns-clause-tree
-returns-clause-tree c =
-    let rest = c.in_ok-last_states.ensures.tree in
-    design_tree c.in_ok-version.ensures.tree c.in_ok-declarations.ensures.tree c.in_ok-first.ensures.tree rest.2
-    (rest.1 ∙ ap (λ (v : List State). join_states (states_of v) rest.0) (c.in_ok-push.ensures.items ∙ ap (λ (v : List State). v ++ c.in_ok-first.first ∷ []) c.new-states.ensures.items))
+returns-clause-tree c = design_tree c.in_ok-version.ensures.tree c.in_ok-declarations.ensures.tree c.in_ok-states.ensures.tree

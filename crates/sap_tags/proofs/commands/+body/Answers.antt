@@ -1,4 +1,4 @@
-use Rattle.std.proofs.Common.{◌≡◌, ◌+◌, ◌++◌, ◌∙◌, List, OnOk, ap, sym, subst, arith}
+use Rattle.std.proofs.Common.{◌≡◌, ◌+◌, ◌∙◌, List, OnOk, ap, sym, subst, arith}
 use Rattle.sap_ir.specs.Plain.Nested.{Body}
 use Rattle.sap_ir.specs.Plain.Views.{body_of}
 use Rattle.sap_program.specs.declared.program.Command.{Command}

@@ -1,0 +1,69 @@
+-- Symbols of commands by the rows of symbols that functions of the reader take at once.
+use Rattle.std.proofs.Common.{◌≡◌, ◌≢◌, ◌+◌, ℕ, [], ◌∷◌, refl, sym, ap, ◌∙◌}
+use Rattle.sap_parse.specs.Choices.{command_head}
+use Rattle.sap_parse.specs.CommandRows.{arms_row, behind_row, constants_row, new_tag_row, new_value_row, tag_place_row}
+use Rattle.sap_parse.specs.Reading.{ahead, reads, steps_by, strictly}
+use Rattle.sap_parse.specs.Rows.{asked_row, between_row, reads_row}
+use Rattle.sap_parse.specs.Stages.{Stage}
+use Rattle.sap_parse.specs.Table as s
+use Rattle.sap_parse.specs.declared.choice.CommandHead.TheVariants as h
+use Rattle.sap_parse.specs.declared.cursor.Ahead.TheVariants as a
+use Rattle.sap_parse.specs.declared.cursor.Ahead.{Ahead}
+use Rattle.sap_parse.specs.declared.limit.Role.TheVariants as r
+use Rattle.sap_parse.specs.declared.token.Sign.TheVariants as j
+use Rattle.sap_tree.specs.declared.word.Word.TheVariants as w
+use Rattle.sap_parse.proofs.CommandLaws.{arm_steps, case_steps, cell_part_missing, cell_part_there, else_there, ending_decided, ending_handled, if_steps, set_tag_steps, simple_name, target_assign, target_write}
+use Rattle.sap_parse.proofs.RowLaws.{row_row, row_steps, row_then}
+use Rattle.sap_walk.specs.Walk.{◌>>=◌}
+use Rattle.sap_walk.proofs.Walking.{bind_pure, bind_same}
+
+pub cell_row : (p : Stage) → ahead p.left ≡ a.Sign j.OpenBracket → reads s.cell_part p ≡ reads_row (between_row r.Plain j.OpenBracket r.Plain j.CloseBracket) p
+cell_row p e = cell_part_there strictly p e ∙ sym (row_steps _ p)
+
+-- an index where one is written, and the new value
+target_parts : (p : Stage) → reads s.target p ≡ (reads s.cell_part p >>= reads_row new_value_row)
+unfolding reads_row
+target_parts p = by_ahead (ahead p.left) refl where
+  missing : (x : Ahead) → ahead p.left ≡ x → x ≢ a.Sign j.OpenBracket → reads s.target p ≡ (reads s.cell_part p >>= reads_row new_value_row)
+  missing x e ne =
+      target_assign strictly p (λ same. ne (sym e ∙ same)) ∙ sym (ap (λ o. o >>= reads_row new_value_row) (cell_part_missing strictly p (λ same. ne (sym e ∙ same))))
+
+  by_ahead : (x : Ahead) → ahead p.left ≡ x → reads s.target p ≡ (reads s.cell_part p >>= reads_row new_value_row)
+  by_ahead (a.Sign j.OpenBracket) e =
+      target_write strictly p e ∙ row_then (between_row r.Plain j.OpenBracket r.Plain j.CloseBracket) new_value_row p
+      ∙ sym (ap (λ o. o >>= reads_row new_value_row) (cell_row p e))
+  by_ahead (a.Sign _) e = missing _ e (λ same. absurd (cc))
+  by_ahead (a.Word x) e = missing _ e (λ same. absurd (cc))
+  by_ahead a.Name e = missing _ e (λ same. absurd (cc))
+  by_ahead a.Number e = missing _ e (λ same. absurd (cc))
+  by_ahead a.Sized e = missing _ e (λ same. absurd (cc))
+  by_ahead a.Nothing e = missing _ e (λ same. absurd (cc))
+
+pub assign_rows : (depth : ℕ) (p : Stage) → command_head (ahead p.left) ≡ h.Name
+    → reads (s.simple depth) p ≡ (reads (s.any_name (r.Command depth)) p >>= λ q. (reads s.cell_part q >>= reads_row new_value_row))
+assign_rows depth p e =
+    simple_name strictly depth p e
+    ∙ bind_same (reads (s.any_name (r.Command depth)) p) (steps_by strictly (s.target ∷ [])) (λ q. (reads s.cell_part q >>= reads_row new_value_row)) (λ q. bind_pure (reads s.target q) ∙ target_parts q)
+
+pub set_tag_rows : (depth : ℕ) (p : Stage) → reads (s.set_tag depth) p ≡ (reads_row (tag_place_row depth) p >>= λ q. (reads s.cell_part q >>= reads_row new_tag_row))
+unfolding reads_row
+set_tag_rows depth p = set_tag_steps strictly depth p ∙ row_then (tag_place_row depth) (s.cell_part ∷ new_tag_row) p
+
+pub arm_rows : (depth : ℕ) (p : Stage) → reads (s.arm depth) p ≡ (reads_row constants_row p >>= steps_by strictly (s.block depth ∷ []))
+arm_rows depth p = arm_steps strictly depth p ∙ row_then constants_row (s.block depth ∷ []) p
+
+pub if_rows : (depth : ℕ) (p : Stage)
+    → reads (s.if_command depth) p ≡ (reads_row (asked_row (r.Command depth) w.If r.Plain r.Plain) p >>= steps_by strictly (s.block (depth + 1) ∷ s.else_part (depth + 1) ∷ []))
+if_rows depth p = if_steps strictly depth p ∙ row_then (asked_row (r.Command depth) w.If r.Plain r.Plain) (s.block (depth + 1) ∷ s.else_part (depth + 1) ∷ []) p
+
+pub case_rows : (depth : ℕ) (p : Stage) → reads (s.case_command depth) p ≡ (reads_row (asked_row (r.Command depth) w.Case r.Plain r.Plain) p >>= reads_row (arms_row (depth + 1)))
+case_rows depth p = case_steps strictly depth p ∙ row_row (asked_row (r.Command depth) w.Case r.Plain r.Plain) (arms_row (depth + 1)) p
+
+pub else_row : (depth : ℕ) (p : Stage) → ahead p.left ≡ a.Word w.Else → reads (s.else_part (depth + 1)) p ≡ reads_row (behind_row w.Else depth) p
+else_row depth p e = else_there strictly (depth + 1) p e ∙ sym (row_steps _ p)
+
+pub handled_row : (depth : ℕ) (p : Stage) → ahead p.left ≡ a.Word w.Otherwise → reads (s.ending depth) p ≡ reads_row (behind_row w.Otherwise depth) p
+handled_row depth p e = ending_handled strictly depth p e ∙ sym (row_steps _ p)
+
+pub decided_rows : (depth : ℕ) (p : Stage) → ahead p.left ≡ a.Word w.Then → reads (s.ending depth) p ≡ (reads_row (behind_row w.Then depth) p >>= reads_row (behind_row w.Otherwise depth))
+decided_rows depth p e = ending_decided strictly depth p e ∙ row_row (behind_row w.Then depth) (behind_row w.Otherwise depth) p
