@@ -1,5 +1,5 @@
 -- How a call ends: its status, and the line on channel 2.
-use Rattle.std.specs.Prelude.{ℕ, List, [], ◌∷◌, ◌++◌, codes}
+use Rattle.std.specs.Prelude.{ℕ, List, [], ◌++◌, codes}
 use Rattle.std.specs.Fmt.{decimal}
 use Rattle.sap_lattice.specs.declared.fault.LatFault.{LatFault}
 use Rattle.sap_lattice.specs.declared.fault.LatFault.TheVariants as rule

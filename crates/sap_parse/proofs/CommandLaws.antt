@@ -1,7 +1,7 @@
 -- What the symbols of commands read.
-use Rattle.std.proofs.Common.{◌≡◌, ◌≢◌, ◌+◌, ℕ, List, [], ◌∷◌, Bool, true, false, Ok, Err, refl, sym, ap, ◌∙◌}
+use Rattle.std.proofs.Common.{◌≡◌, ◌≢◌, ◌+◌, ℕ, List, [], ◌∷◌, true, false, Ok, Err, refl, sym, ap, ◌∙◌}
 use Rattle.sap_walk.proofs.RowsLemmas.{push_none}
-use Rattle.sap_parse.specs.Choices.{command_head, is_constant, primary_of, word_command}
+use Rattle.sap_parse.specs.Choices.{command_head, is_constant, primary_of}
 use Rattle.sap_parse.specs.Reading.{Enter, ahead, ahead_of, read_by, steps_by}
 use Rattle.sap_parse.specs.Stages.{Stage}
 use Rattle.sap_parse.specs.Table as s

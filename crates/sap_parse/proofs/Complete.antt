@@ -1,5 +1,5 @@
 -- What the grammar spells in expressions, the walk reads.
-use Rattle.std.proofs.Common.{◌≡◌, ◌≢◌, ◌<◌, ◌≤◌, ◌+◌, ℕ, List, [], ◌∷◌, ◌++◌, Option, Some, None, Result, Ok, Err, Bool, true, false, refl, sym, ap, subst, ◌∙◌, arith}
+use Rattle.std.proofs.Common.{◌≡◌, ◌≢◌, ◌+◌, ℕ, List, [], ◌∷◌, ◌++◌, Option, Some, None, Ok, Bool, true, false, refl, sym, ap, subst, ◌∙◌, arith}
 use Rattle.std.specs.Prelude.{nat_lt}
 use Rattle.std.proofs.lemmas.Bool.Decides.{nat_tests}
 use Rattle.sap_parse.proofs.ReadingLemmas.{ok_one}
@@ -23,9 +23,9 @@ use Rattle.sap_tree.specs.declared.syntax.BinaryOperator.{BinaryOperator}
 use Rattle.sap_tree.specs.declared.syntax.UnaryOperator.TheVariants as u
 use Rattle.sap_tree.specs.declared.syntax.UnaryOperator.{UnaryOperator}
 use Rattle.sap_parse.proofs.ExprLaws.{bin_tail, bin_unary, expr_bin, unary_full}
-use Rattle.sap_parse.proofs.Known.{R, Rs, at_token_of, at_kind, at_none, stands_here, steps_append, takes, first_kind, first_is, goes_with, name_reads, number_reads, optional_taken, or_taken, sign_reads, sized_reads, skipped, word_reads, Taken}
-use Rattle.sap_walk.specs.Rows.{push, optional, ◌or◌, first_then, firsts}
-use Rattle.sap_walk.specs.Walk.{Next, begins, empty_here, cannot_stand, ◌>>=◌}
+use Rattle.sap_parse.proofs.Known.{R, Rs, at_token_of, at_kind, at_none, stands_here, steps_append, takes, first_kind, first_is, name_reads, number_reads, sign_reads, sized_reads, skipped, word_reads}
+use Rattle.sap_walk.specs.Rows.{push, first_then, firsts}
+use Rattle.sap_walk.specs.Walk.{begins, empty_here, cannot_stand}
 use Rattle.sap_walk.proofs.Walking.{bind_ok, bind_pure}
 
 -- where an expression may end: no operator of this precedence or a tighter one is next, and no `[`

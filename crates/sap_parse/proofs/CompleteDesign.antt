@@ -1,5 +1,5 @@
 -- What the grammar spells in commands, declarations and states, the walk reads.
-use Rattle.std.proofs.Common.{◌≡◌, ◌≢◌, ◌+◌, ℕ, List, [], ◌∷◌, Option, Some, None, Result, Ok, Err, Bool, true, false, refl, sym, ap, subst, ◌∙◌}
+use Rattle.std.proofs.Common.{◌≡◌, ◌≢◌, ◌+◌, ℕ, List, [], ◌∷◌, Option, Some, None, Ok, Bool, true, false, refl, sym, ap, subst, ◌∙◌}
 use Rattle.sap_parse.specs.Grammar as g
 use Rattle.sap_parse.specs.Stages.{Stage, IsToken}
 use Rattle.sap_parse.specs.Table as s
@@ -9,7 +9,6 @@ use Rattle.sap_parse.specs.declared.token.Kind.TheVariants as k
 use Rattle.sap_parse.specs.declared.token.Kind.{Kind}
 use Rattle.sap_parse.specs.declared.token.Sign.TheVariants as j
 use Rattle.sap_tree.specs.declared.word.Word.TheVariants as w
-use Rattle.sap_tree.specs.declared.word.Word.{Word as WordOf}
 use Rattle.sap_tree.specs.Syntax as t
 use Rattle.sap_tree.specs.declared.syntax.Decl.{Decl}
 use Rattle.sap_tree.specs.declared.syntax.Kind.{Kind as KindTree}
@@ -18,7 +17,7 @@ use Rattle.sap_tree.specs.declared.syntax.Under.{Under}
 use Rattle.sap_tree.specs.declared.version.Version.{Version}
 use Rattle.sap_parse.proofs.Complete.{ends_expr, expr_reads, not_kind}
 use Rattle.sap_parse.proofs.Known.{R, Rs, at_kind, at_token_of, first_is, first_kind, kind_in, name_reads, number_reads, sized_reads, sign_reads, skipped, stands_for, word_reads}
-use Rattle.sap_walk.specs.Walk.{Next, begins, empty_here, cannot_stand}
+use Rattle.sap_walk.specs.Walk.{empty_here}
 use Rattle.sap_walk.proofs.Walking.{bind_ok}
 
 -- tag expressions

@@ -1,7 +1,7 @@
 -- What the symbols of declarations and states read.
 use Rattle.std.proofs.Common.{◌≡◌, ◌≢◌, ◌+◌, ℕ, List, [], ◌∷◌, Ok, Err, refl, sym, ap, ◌∙◌}
 use Rattle.sap_walk.proofs.RowsLemmas.{push_none}
-use Rattle.sap_parse.specs.Choices.{declaration_head, word_declaration}
+use Rattle.sap_parse.specs.Choices.{declaration_head}
 use Rattle.sap_parse.specs.Reading.{Enter, ahead, ahead_of, read_by, steps_by, table}
 use Rattle.sap_parse.specs.Stages.{Stage}
 use Rattle.sap_parse.specs.Table as s
@@ -19,8 +19,8 @@ use Rattle.sap_parse.proofs.ExprLaws.{front_by, nothing_ahead, same_row}
 use Rattle.sap_parse.proofs.IndexLaws.{firsts_read}
 use Rattle.sap_parse.proofs.Laws.{IsFull, or_full, push_full, word_full, sign_there, sign_missing, skips, stands, step_at, steps_are, stops, stops_at, word_then, word_there, word_missing}
 use Rattle.sap_parse.proofs.Single.{ahead_back, next_not_word, word_kind_ahead}
-use Rattle.sap_walk.specs.Rows.{push, optional, ◌or◌, firsts}
-use Rattle.sap_walk.specs.Walk.{begins, empty_here, cannot_stand, at_end, at_token, walk, ◌>>=◌}
+use Rattle.sap_walk.specs.Rows.{push, optional, ◌or◌}
+use Rattle.sap_walk.specs.Walk.{cannot_stand, at_end, at_token, walk}
 use Rattle.sap_walk.proofs.Walking.{bind_pure, walk_steps}
 
 module _ (enter : Enter) where

@@ -1,11 +1,11 @@
 -- What the symbols of expressions read.
-use Rattle.std.proofs.Common.{◌≡◌, ◌≢◌, ◌<◌, ◌≤◌, ◌+◌, ◌-◌, ℕ, zero, suc, List, [], ◌∷◌, ◌++◌, Option, Some, None, Result, Ok, Err, Bool, true, false, cond, refl, sym, ap, subst, ◌∙◌, append_assoc, arith, eqb}
+use Rattle.std.proofs.Common.{◌≡◌, ◌≢◌, ◌<◌, ◌+◌, ◌-◌, ℕ, suc, List, [], ◌∷◌, ◌++◌, Option, Some, None, Ok, Err, Bool, true, false, cond, refl, sym, ap, subst, ◌∙◌, arith}
 use Rattle.std.proofs.lemmas.Bool.Decides.{nat_tests}
-use Rattle.std.specs.Prelude.{◌==◌, if◌then◌else◌}
+use Rattle.std.specs.Prelude.{◌==◌}
 use Rattle.sap_walk.proofs.RowsLemmas.{push_none, push_push}
 use Rattle.sap_parse.specs.Choices.{primary_of, sign_primary, word_primary, operator_at, of_precedence, unary_at, unary_operator_of}
 use Rattle.sap_parse.specs.Grammar.{sign_of, unary_sign_of}
-use Rattle.sap_parse.specs.Reading.{Enter, ahead, ahead_of, read_by, second, steps_by}
+use Rattle.sap_parse.specs.Reading.{Enter, ahead, ahead_of, read_by, steps_by}
 use Rattle.sap_parse.specs.Stages.{Stage}
 use Rattle.sap_parse.specs.Table as s
 use Rattle.sap_parse.specs.Table.{Symbol, Row, after_sign, if_same, is_unary, next, operator_of, same_level, tails, tightest}
@@ -24,10 +24,10 @@ use Rattle.sap_tree.specs.declared.word.Word.{Word as WordOf}
 use Rattle.sap_tree.specs.Precedence.{precedence, unary_precedence}
 use Rattle.sap_tree.specs.declared.syntax.BinaryOperator.{BinaryOperator}
 use Rattle.sap_tree.specs.declared.syntax.UnaryOperator.{UnaryOperator}
-use Rattle.sap_parse.proofs.Laws.{IsFull, push_full, or_full, first_then_full, same_full, step, step_at, skips, stops, sign_then, word_then, sign_there, sign_missing, name_full, number_full, sign_full, word_full, stands}
-use Rattle.sap_parse.proofs.Single.{ahead_back, kind_ahead, next_not_sign, next_sign, same_number, sign_back, sign_by}
-use Rattle.sap_walk.specs.Rows.{push, optional, ◌or◌, firsts, first_then}
-use Rattle.sap_walk.specs.Walk.{Next, begins, empty_here, cannot_stand, at_token, ◌>>=◌}
+use Rattle.sap_parse.proofs.Laws.{IsFull, push_full, or_full, first_then_full, step, step_at, skips, stops, sign_then, word_then, sign_there, sign_missing, name_full, number_full, sign_full, word_full, stands}
+use Rattle.sap_parse.proofs.Single.{ahead_back, kind_ahead, next_not_sign, next_sign}
+use Rattle.sap_walk.specs.Rows.{push, optional, ◌or◌, firsts}
+use Rattle.sap_walk.specs.Walk.{begins, empty_here, cannot_stand, at_token, ◌>>=◌}
 use Rattle.sap_walk.proofs.Walking.{bind_pure}
 
 -- rows that are never empty

@@ -1,5 +1,5 @@
 -- A reader that faults where a part of it does.
-use Rattle.std.proofs.Common.{◌≡◌, Result, Ok, Err, sym, subst, ◌∙◌}
+use Rattle.std.proofs.Common.{◌≡◌, Result, Err, sym, subst, ◌∙◌}
 use Rattle.sap_parse.specs.Reading.{Goes, Outcome, Stops, reads}
 use Rattle.sap_parse.specs.Stages.{Stage}
 use Rattle.sap_parse.specs.Table.{Symbol}

@@ -1,26 +1,25 @@
 -- The tree of a text within the limits is whole.
-use Rattle.std.proofs.Common.{◌≡◌, ◌<◌, ◌≤◌, ◌+◌, ◌-◌, ◌^◌, ℕ, List, [], ◌∷◌, max, Option, Some, None, Bool, true, false, cond, refl, sym, ap, subst, ◌∙◌, arith}
+use Rattle.std.proofs.Common.{◌≡◌, ◌≤◌, ◌+◌, ℕ, List, [], ◌∷◌, Option, Bool, true, cond, refl, sym, ap, subst, ◌∙◌, arith}
 use Rattle.std.proofs.lemmas.List.Sums.{sum_by-cons}
-use Rattle.std.specs.Prelude.{nat_le, ◌&&◌, length}
+use Rattle.std.specs.Prelude.{length}
 use Rattle.std.specs.List.{All, list_all, count_by}
 use Rattle.sap_parse.specs.Fault.{IsDesign}
 use Rattle.sap_parse.specs.Grammar as g
 use Rattle.sap_parse.specs.Limits.{Counts}
 use Rattle.sap_parse.specs.Spelled.{HasText}
 use Rattle.sap_parse.specs.Lexing.{version_of, version_of_kind}
-use Rattle.sap_parse.specs.Stages.{Stage, IsToken, at_start}
+use Rattle.sap_parse.specs.Stages.{Stage, IsToken}
 use Rattle.sap_parse.specs.declared.limit.Role.TheVariants as r
 use Rattle.sap_parse.specs.declared.limit.Role.{Role}
 use Rattle.sap_parse.specs.declared.token.Kind.{Kind as KindOf}
 use Rattle.sap_parse.specs.declared.token.Token.{Token}
-use Rattle.sap_parse.proofs.Between.{all_true, le_true, AreGood, Between, ◌then◌, gives, still, stands, Plainly, RoleFact, texts_good}
+use Rattle.sap_parse.proofs.Between.{all_true, le_true, AreGood, Between, ◌then◌, gives, still, stands, RoleFact, texts_good}
 use Rattle.sap_parse.proofs.FitsCommand.{FitsCommands, cmds_between}
 use Rattle.sap_tree.specs.Syntax as t
-use Rattle.sap_tree.specs.Whole.{is_number, is_block, are_commands, block_count, list_count, block_depth, list_depth, is_authority, is_kind, is_start, is_declaration, is_input, is_register, is_memory, is_state, are_states, state_count, states_count, state_depth, states_depth, state_commands, states_commands, has_state, is_whole}
+use Rattle.sap_tree.specs.Whole.{is_block, are_commands, block_count, list_count, block_depth, list_depth, is_authority, is_kind, is_start, is_declaration, is_input, is_register, is_memory, is_state, are_states, state_count, states_count, state_depth, states_depth, state_commands, states_commands, is_whole}
 use Rattle.sap_tree.specs.Words.{is_name}
 use Rattle.sap_tree.specs.declared.name.Mention.{Mention}
 use Rattle.sap_text.specs.declared.place.Place.{Place}
-use Rattle.sap_tree.specs.declared.syntax.Decl.TheVariants as d
 use Rattle.sap_tree.specs.declared.syntax.Decl.{Decl}
 use Rattle.sap_tree.specs.declared.syntax.Kind.{Kind}
 use Rattle.sap_tree.specs.declared.syntax.Numeral.{Numeral}

@@ -15,12 +15,12 @@ use Rattle.sap_parse.specs.declared.token.Kind.TheVariants as k
 use Rattle.sap_parse.specs.declared.token.Kind.{Kind}
 use Rattle.sap_parse.specs.declared.token.Sign.TheVariants as j
 use Rattle.sap_parse.specs.declared.token.Token.{Token}
-use Rattle.sap_parse.proofs.ExprLaws.{expr_bin, unary_full}
+use Rattle.sap_parse.proofs.ExprLaws.{unary_full}
 use Rattle.sap_parse.proofs.Laws.{IsFull, first_then_full, push_full, number_full, sign_full, stands, steps_are, step_at, stops}
 use Rattle.sap_parse.proofs.Single.{ahead_back, kind_ahead, next_not_sign}
 use Rattle.sap_walk.specs.Limits.{Past}
 use Rattle.sap_walk.specs.Rows.{push, ◌or◌, firsts, first_then}
-use Rattle.sap_walk.specs.Walk.{Next, begins, empty_here, cannot_stand, Move, moved_past, not_needed, rejected, breaks_limit, chosen, entered, moved, at_token, at_limit, ◌>>=◌, settle, read, walk, at_end}
+use Rattle.sap_walk.specs.Walk.{Next, begins, empty_here, cannot_stand, not_needed, rejected, chosen, entered, moved, at_token, at_limit, ◌>>=◌, settle, read, walk, at_end}
 use Rattle.sap_walk.proofs.Walking.{bind_bind, bind_pure, bind_same, read_take, read_break, walk_steps}
 
 module _ (enter : Enter) where

@@ -1,6 +1,5 @@
 -- A token that a symbol takes, with what is then to come, stands for that symbol.
-use Rattle.std.proofs.Common.{◌≡◌, ◌≢◌, ◌<◌, ◌≤◌, ◌+◌, ◌-◌, ℕ, zero, suc, List, [], ◌∷◌, ◌++◌, Option, Some, None, Result, Ok, Err, Bool, true, false, cond, refl, sym, ap, subst, ◌∙◌, arith, eqb}
-use Rattle.std.proofs.lemmas.Bool.Decides.{nat_tests}
+use Rattle.std.proofs.Common.{◌≡◌, ◌≤◌, ◌+◌, ◌-◌, ℕ, zero, suc, List, [], ◌∷◌, ◌++◌, Option, Some, None, Bool, true, false, cond, refl, sym, ap, subst, ◌∙◌, arith, eqb}
 use Rattle.std.proofs.lemmas.Bool.{eqb-true}
 use Rattle.sap_parse.specs.Grammar as g
 use Rattle.sap_parse.specs.Grammar.{sign_of, unary_sign_of}
@@ -29,10 +28,10 @@ use Rattle.sap_tree.specs.declared.syntax.UnaryOperator.{UnaryOperator}
 use Rattle.sap_parse.proofs.ExprLaws.{unary_full}
 use Rattle.sap_parse.proofs.Laws.{sign_full}
 use Rattle.sap_parse.proofs.Single.{sign_back, sign_by}
-use Rattle.sap_parse.proofs.Spells.{W, Lang, Langs, Cell, no_cell, cell, last, nothing, operators, expression}
+use Rattle.sap_parse.proofs.Spells.{W, Lang, Langs, last, nothing, operators, expression}
 use Rattle.sap_walk.specs.Limits.{Past, passed}
 use Rattle.sap_walk.specs.Rows.{push, optional, ◌or◌, first_then, firsts}
-use Rattle.sap_walk.specs.Walk.{Next, begins, empty_here, cannot_stand}
+use Rattle.sap_walk.specs.Walk.{begins, empty_here, cannot_stand}
 use Rattle.sap_walk.proofs.Spelling.{split}
 
 sign_same : (i x : SignOf) → eqb (sign_number i) (sign_number x) ≡ true → i ≡ x

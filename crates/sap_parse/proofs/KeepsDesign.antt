@@ -1,24 +1,22 @@
 -- A token that a symbol takes, with what is then to come, stands for that symbol: the symbols outside of expressions.
-use Rattle.std.proofs.Common.{◌≡◌, ◌≢◌, ◌+◌, ℕ, List, [], ◌∷◌, Result, Ok, Err, refl, sym, ap, subst, ◌∙◌}
+use Rattle.std.proofs.Common.{◌+◌, ℕ, List, [], ◌∷◌, refl}
 use Rattle.sap_parse.specs.Grammar as g
-use Rattle.sap_parse.specs.Limits.{Counts, tally, breach}
+use Rattle.sap_parse.specs.Limits.{Counts}
 use Rattle.sap_parse.specs.Reading.{leniently}
 use Rattle.sap_parse.specs.Stages.{Stage, IsSign, IsWord, IsName}
 use Rattle.sap_parse.specs.Table as s
 use Rattle.sap_parse.specs.Table.{Symbol, Row, next, design_symbols}
 use Rattle.sap_parse.specs.declared.limit.Limit.{Limit}
 use Rattle.sap_parse.specs.declared.limit.Role.TheVariants as r
-use Rattle.sap_parse.specs.declared.limit.Role.{Role}
 use Rattle.sap_parse.specs.declared.token.Sign.TheVariants as j
 use Rattle.sap_parse.specs.declared.token.Token.{Token}
 use Rattle.sap_tree.specs.declared.word.Word.TheVariants as w
 use Rattle.sap_tree.specs.Syntax as t
-use Rattle.sap_parse.proofs.Keeps.{here, behind, Keeps, Element, Elements, element, keeps_or, keeps_push, keeps_optional, keeps_sign, keeps_word, keeps_name, keeps_number, keeps_sized, after_sign, after_word, after_name, keeps_firsts, keeps_paren, keeps_braces, keeps_zext, keeps_prim, keeps_post, keeps_unary, keeps_slice, keeps_slices, keeps_choice, keeps_tail, keeps_expr, keeps_bin, keeps_after_name, keeps_after_bracket, keeps_after_number}
+use Rattle.sap_parse.proofs.Keeps.{here, Keeps, element, keeps_or, keeps_push, keeps_optional, keeps_sign, keeps_word, keeps_name, keeps_number, keeps_sized, after_sign, after_word, after_name, keeps_firsts, keeps_paren, keeps_braces, keeps_zext, keeps_prim, keeps_post, keeps_unary, keeps_slice, keeps_slices, keeps_choice, keeps_tail, keeps_expr, keeps_bin, keeps_after_name, keeps_after_bracket, keeps_after_number}
 use Rattle.sap_parse.proofs.Laws.{push_full, word_full}
-use Rattle.sap_parse.proofs.Spells.{W, Lang, Langs, Cell, no_cell, cell, last, nothing}
-use Rattle.sap_walk.specs.Limits.{Past, passed}
-use Rattle.sap_walk.specs.Rows.{push, optional, ◌or◌, firsts}
-use Rattle.sap_walk.specs.Walk.{Next, begins, empty_here, cannot_stand}
+use Rattle.sap_parse.proofs.Spells.{Lang, Langs, Cell, no_cell, cell, last, nothing}
+use Rattle.sap_walk.specs.Limits.{Past}
+use Rattle.sap_walk.specs.Rows.{push, optional, ◌or◌}
 
 module _ (token : Token) (ts : List Token) (past : Past Counts Limit) where
   abbrev At : Stage

@@ -1,21 +1,20 @@
 -- What the walk reads where the first token is known, or where it is known that a symbol is read.
-use Rattle.std.proofs.Common.{◌≡◌, ◌≢◌, ◌+◌, ℕ, List, [], ◌∷◌, ◌++◌, Option, Some, None, Result, Ok, Err, Bool, true, false, refl, sym, ap, subst, ◌∙◌}
+use Rattle.std.proofs.Common.{◌≡◌, ◌≢◌, ℕ, List, [], ◌∷◌, ◌++◌, Option, Some, None, Ok, Err, true, false, refl, sym, ap, subst, ◌∙◌}
 use Rattle.sap_lemmas.proofs.Numbers.{test_of_same}
-use Rattle.sap_parse.specs.Limits.{Counts, tally, breach}
-use Rattle.sap_parse.specs.Reading.{Enter, Outcome, leniently, read_by, steps_by, table}
+use Rattle.sap_parse.specs.Limits.{tally, breach}
+use Rattle.sap_parse.specs.Reading.{Outcome, leniently, read_by, steps_by, table}
 use Rattle.sap_parse.specs.Stages.{Stage, IsToken}
 use Rattle.sap_parse.specs.Table as s
 use Rattle.sap_parse.specs.Table.{Symbol, Row, may_be_empty, next}
-use Rattle.sap_parse.specs.declared.limit.Limit.{Limit}
 use Rattle.sap_parse.specs.declared.limit.Role.{Role}
 use Rattle.sap_parse.specs.declared.token.Kind.TheVariants as k
 use Rattle.sap_parse.specs.declared.token.Kind.{Kind}
 use Rattle.sap_parse.specs.declared.token.Sign.{Sign as SignOf}
 use Rattle.sap_parse.specs.declared.token.Token.{Token}
 use Rattle.sap_tree.specs.declared.word.Word.{Word as WordOf}
-use Rattle.sap_walk.specs.Limits.{Past, passed}
-use Rattle.sap_walk.specs.Rows.{push, optional, ◌or◌, firsts, first_then}
-use Rattle.sap_walk.specs.Walk.{Next, begins, empty_here, cannot_stand, at_token, ◌>>=◌, steps}
+use Rattle.sap_walk.specs.Limits.{passed}
+use Rattle.sap_walk.specs.Rows.{push, optional, ◌or◌, firsts}
+use Rattle.sap_walk.specs.Walk.{begins, empty_here, cannot_stand, at_token, ◌>>=◌, steps}
 use Rattle.sap_walk.proofs.Rows.{all_empty, becomes, end_as, push_first, read_as}
 use Rattle.sap_walk.proofs.Walking.{bind_bind, bind_same, read_empty, read_skip, read_stop, read_end, read_take}
 

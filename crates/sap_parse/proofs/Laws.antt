@@ -1,29 +1,25 @@
 -- What each symbol of the table reads, by the symbols of its production. `enter` may be any way to go past a token.
-use Rattle.std.proofs.Common.{◌≡◌, ◌≢◌, ◌<◌, ◌≤◌, ◌+◌, ◌-◌, ℕ, zero, suc, List, [], ◌∷◌, ◌++◌, Option, Some, None, Result, Ok, Err, Bool, true, false, refl, sym, ap, subst, ◌∙◌, arith, eqb}
-use Rattle.std.proofs.lemmas.Bool.Decides.{nat_tests}
-use Rattle.std.specs.Prelude.{◌==◌, if◌then◌else◌}
+use Rattle.std.proofs.Common.{◌≡◌, ◌≢◌, List, [], ◌∷◌, ◌++◌, Result, Ok, Err, Bool, true, false, refl, sym, ap, ◌∙◌}
+use Rattle.std.specs.Prelude.{◌==◌}
 use Rattle.sap_parse.specs.Limits.{Counts}
-use Rattle.sap_parse.specs.Reading.{Enter, Outcome, ahead, ahead_of, read_by, second, steps_by, table}
+use Rattle.sap_parse.specs.Reading.{Enter, ahead, ahead_of, read_by, steps_by, table}
 use Rattle.sap_parse.specs.Stages.{Stage}
 use Rattle.sap_parse.specs.Table as s
 use Rattle.sap_parse.specs.Table.{Symbol, if_same, may_be_empty, next}
 use Rattle.sap_parse.specs.declared.cursor.Ahead.TheVariants as a
 use Rattle.sap_parse.specs.declared.cursor.Ahead.{Ahead}
 use Rattle.sap_parse.specs.declared.limit.Limit.{Limit}
-use Rattle.sap_parse.specs.declared.limit.Role.TheVariants as r
 use Rattle.sap_parse.specs.declared.limit.Role.{Role}
 use Rattle.sap_parse.specs.declared.token.Kind.TheVariants as k
 use Rattle.sap_parse.specs.declared.token.Kind.{Kind}
-use Rattle.sap_parse.specs.declared.token.Sign.TheVariants as j
 use Rattle.sap_parse.specs.declared.token.Sign.{Sign as SignOf}
 use Rattle.sap_parse.specs.declared.token.Token.{Token}
-use Rattle.sap_tree.specs.declared.word.Word.TheVariants as w
 use Rattle.sap_tree.specs.declared.word.Word.{Word as WordOf}
 use Rattle.sap_parse.proofs.Single.{ahead_back, kind_ahead, next_not_sign, next_not_word, next_sign, next_word, word_kind_ahead}
 use Rattle.sap_walk.specs.Limits.{Past}
-use Rattle.sap_walk.specs.Rows.{push, optional, ◌or◌, firsts, first_then}
-use Rattle.sap_walk.specs.Walk.{Table, Next, begins, empty_here, cannot_stand, Halt, at_token, at_limit, ◌>>=◌, steps}
-use Rattle.sap_walk.proofs.Walking.{bind_bind, bind_pure, bind_same, read_take, read_break, read_skip, read_stop, read_empty, read_end, steps_append}
+use Rattle.sap_walk.specs.Rows.{push, optional, ◌or◌, first_then}
+use Rattle.sap_walk.specs.Walk.{Table, Next, begins, empty_here, cannot_stand, at_token, ◌>>=◌, steps}
+use Rattle.sap_walk.proofs.Walking.{bind_same, read_take, read_break, read_skip, read_stop, read_empty, read_end, steps_append}
 
 -- rows
 

@@ -1,17 +1,16 @@
 -- A text has at most one list of tokens, or at most one place where no token begins, and not both.
-use Rattle.std.proofs.Common.{◌≡◌, ◌<◌, ◌≤◌, ◌+◌, ℕ, List, [], ◌∷◌, length, length-take, take, drop, Bool, true, false, Option, Some, None, refl, sym, ap, subst, ◌∙◌, arith}
+use Rattle.std.proofs.Common.{◌≡◌, ◌<◌, ◌+◌, ℕ, List, [], ◌∷◌, length, length-take, take, drop, Bool, true, false, Option, Some, None, refl, sym, ap, subst, ◌∙◌, arith}
 use Rattle.std.proofs.lemmas.Bool.Decides.{nat_tests}
 use Rattle.std.proofs.lemmas.Grind.{common_steps}
 use Rattle.std.specs.Prelude.{slice_index, ◌==◌}
 use Rattle.std.specs.Char.{is_ascii_digit}
-use Rattle.std.specs.List.{prefix_len}
 use Rattle.std.specs.Str.{byte}
 use Rattle.sap_tree.specs.Words.{is_initial}
-use Rattle.sap_parse.specs.Lexemes.{clings, is_in, run, is_blank, is_comment, lexeme_of, name_at, number_at, number_of, number_lexeme, sized_at, sized_in, sized_lexeme, sign_at, sign_or, word_or_name}
-use Rattle.sap_parse.specs.Lexing.{AreTokens, IsBadAt, IsBlankAt, Reached, StandsAt, keyed}
+use Rattle.sap_parse.specs.Lexemes.{run, is_blank, is_comment, lexeme_of, name_at, number_at, number_lexeme, sized_at, sized_in, sized_lexeme, sign_at, sign_or, word_or_name}
+use Rattle.sap_parse.specs.Lexing.{AreTokens, IsBadAt, IsBlankAt, StandsAt, keyed}
 use Rattle.sap_text.specs.Places.{place_at}
 use Rattle.sap_tree.specs.declared.version.Version.TheVariants as v
-use Rattle.sap_parse.specs.Spelling.{sign_of, word_of}
+use Rattle.sap_parse.specs.Spelling.{sign_of}
 use Rattle.sap_parse.specs.declared.lexeme.Class.TheVariants as c
 use Rattle.sap_parse.specs.declared.lexeme.Class.{Class}
 use Rattle.sap_parse.specs.declared.lexeme.Lexeme.TheVariants.{Blank, Token, Bad}

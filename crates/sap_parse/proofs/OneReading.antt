@@ -1,6 +1,6 @@
 -- The read fault of a text is where the walk stops, and a text has one reading.
-use Rattle.std.proofs.Common.{◌≡◌, ◌≢◌, ◌<◌, ◌≤◌, ◌+◌, ℕ, zero, suc, List, [], ◌∷◌, length, Option, Some, None, Bool, true, Result, Ok, Err, IfOk, IfErr, refl, sym, ap, subst, ◌∙◌, arith}
-use Rattle.sap_parse.specs.Fault.{IsDesign, IsUnexpected, IsOver, Spells, SpellsSome}
+use Rattle.std.proofs.Common.{◌≡◌, ◌≢◌, ◌≤◌, ◌+◌, ℕ, List, [], ◌∷◌, length, Option, Some, None, true, Result, Ok, Err, IfOk, IfErr, refl, sym, ap, subst, ◌∙◌, arith}
+use Rattle.sap_parse.specs.Fault.{IsDesign, IsUnexpected, IsOver, SpellsSome}
 use Rattle.sap_parse.specs.Grammar.{Design}
 use Rattle.sap_parse.specs.Lexing.{AreTokens, IsLexFault}
 use Rattle.sap_parse.specs.Limits.{Counts, most_bytes}

@@ -5,7 +5,7 @@ use Rattle.std.specs.Prelude.{◌==◌, if◌then◌else◌, IfErr, IfOk}
 use Rattle.sap_parse.specs.Limits.{breach, tally}
 use Rattle.sap_parse.specs.Reading.{Breaks, Goes, IsBroken, Passes, ahead, ahead_of, front_name, front_number, front_sized, name_in, number_in, read_by, reads, sized_in, strictly, table}
 use Rattle.sap_parse.specs.Stages.{Stage, IsToken}
-use Rattle.sap_parse.specs.Table.{Symbol, sign, word, any_name, number, sized, grammar, next, may_be_empty, sign_number, word_number, if_same}
+use Rattle.sap_parse.specs.Table.{Symbol, sign, word, any_name, number, sized, next, may_be_empty, sign_number, word_number, if_same}
 use Rattle.sap_parse.specs.declared.cursor.Ahead.TheVariants as a
 use Rattle.sap_parse.specs.declared.cursor.Ahead.{Ahead}
 use Rattle.sap_parse.specs.declared.cursor.Fault.TheVariants as f

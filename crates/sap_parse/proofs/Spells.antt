@@ -1,36 +1,21 @@
 -- What stands for each symbol of the table, in the words of the grammar.
-use Rattle.std.proofs.Common.{◌≡◌, ◌≢◌, ◌<◌, ◌≤◌, ◌+◌, ◌-◌, ◌⊎◌, inl, inr, ℕ, zero, suc, List, [], ◌∷◌, ◌++◌, Option, Some, None, Result, Ok, Err, Bool, true, false, cond, refl, sym, ap, subst, ◌∙◌, arith, eqb}
-use Rattle.std.proofs.lemmas.Bool.Decides.{nat_tests}
+use Rattle.std.proofs.Common.{◌≡◌, ◌≤◌, ◌+◌, ◌-◌, ℕ, zero, suc, List, [], ◌∷◌, ◌++◌, Option, None, true, subst, arith}
 use Rattle.sap_parse.specs.Grammar as g
-use Rattle.sap_parse.specs.Limits.{Counts, tally, breach}
-use Rattle.sap_parse.specs.Stages.{Stage, IsToken, IsSign, IsWord, IsName, IsNumber, IsSized}
+use Rattle.sap_parse.specs.Stages.{Stage, IsSign, IsWord, IsName, IsNumber, IsSized}
 use Rattle.sap_parse.specs.Table as s
 use Rattle.sap_parse.specs.Table.{Symbol, Row, grammar, if_same, next, operator_of, sign_number, word_number, tails, tightest, index_symbols}
-use Rattle.sap_parse.specs.declared.limit.Limit.{Limit}
 use Rattle.sap_parse.specs.declared.limit.Role.TheVariants as r
-use Rattle.sap_parse.specs.declared.limit.Role.{Role}
-use Rattle.sap_parse.specs.declared.token.Kind.TheVariants as k
-use Rattle.sap_parse.specs.declared.token.Kind.{Kind}
 use Rattle.sap_parse.specs.declared.token.Sign.TheVariants as j
-use Rattle.sap_parse.specs.declared.token.Sign.{Sign as SignOf}
-use Rattle.sap_parse.specs.declared.token.Token.{Token}
-use Rattle.sap_tree.specs.declared.word.Word.TheVariants as w
-use Rattle.sap_tree.specs.declared.word.Word.{Word as WordOf}
-use Rattle.sap_tree.specs.Precedence.{precedence, unary_precedence}
+use Rattle.sap_tree.specs.Precedence.{unary_precedence}
 use Rattle.sap_tree.specs.Syntax as t
-use Rattle.sap_tree.specs.declared.syntax.BinaryOperator.TheVariants as b
-use Rattle.sap_tree.specs.declared.syntax.BinaryOperator.{BinaryOperator}
 use Rattle.sap_tree.specs.declared.syntax.Decl.{Decl}
 use Rattle.sap_tree.specs.declared.syntax.Kind.{Kind as KindTree}
 use Rattle.sap_tree.specs.declared.syntax.Numeral.{Numeral}
-use Rattle.sap_tree.specs.declared.syntax.UnaryOperator.TheVariants as u
-use Rattle.sap_tree.specs.declared.syntax.UnaryOperator.{UnaryOperator}
 use Rattle.sap_tree.specs.declared.syntax.Under.{Under}
 use Rattle.sap_tree.specs.declared.version.Version.TheVariants as v
 use Rattle.sap_tree.specs.declared.version.Version.{Version}
-use Rattle.sap_walk.specs.Limits.{Past, lenient, passed}
-use Rattle.sap_walk.specs.Rows.{push, optional, ◌or◌, first_then, firsts}
-use Rattle.sap_walk.specs.Walk.{Next, begins, empty_here, cannot_stand, Table}
+use Rattle.sap_walk.specs.Limits.{lenient}
+use Rattle.sap_walk.specs.Walk.{Table}
 use Rattle.sap_walk.proofs.Spelling.{Langs as LangsOf, split}
 
 abbrev pub W : Table

@@ -1,6 +1,6 @@
 -- What the symbols of tag expressions read.
-use Rattle.std.proofs.Common.{◌≡◌, ◌≢◌, List, [], ◌∷◌, Ok, Err, refl, sym, ap, ◌∙◌}
-use Rattle.sap_parse.specs.Choices.{tag_head, word_tag}
+use Rattle.std.proofs.Common.{◌≡◌, ◌≢◌, [], ◌∷◌, Ok, Err, refl, sym, ap, ◌∙◌}
+use Rattle.sap_parse.specs.Choices.{tag_head}
 use Rattle.sap_parse.specs.Reading.{Enter, ahead, ahead_of, read_by, steps_by}
 use Rattle.sap_parse.specs.Stages.{Stage}
 use Rattle.sap_parse.specs.Table as s
@@ -12,11 +12,9 @@ use Rattle.sap_parse.specs.declared.limit.Role.TheVariants as r
 use Rattle.sap_parse.specs.declared.token.Kind.TheVariants as k
 use Rattle.sap_parse.specs.declared.token.Kind.{Kind}
 use Rattle.sap_parse.specs.declared.token.Sign.TheVariants as j
-use Rattle.sap_parse.specs.declared.token.Token.{Token}
 use Rattle.sap_tree.specs.declared.word.Word.TheVariants as w
 use Rattle.sap_parse.proofs.ExprLaws.{front_by, nothing_ahead, same_row}
 use Rattle.sap_parse.proofs.Laws.{IsFull, push_full, name_full, word_full, sign_there, sign_missing, stops, word_then}
-use Rattle.sap_walk.specs.Rows.{push}
 use Rattle.sap_walk.specs.Walk.{cannot_stand, at_token}
 
 module _ (enter : Enter) where

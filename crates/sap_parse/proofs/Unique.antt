@@ -1,13 +1,11 @@
 -- Tokens have at most one tree: expressions.
-use Rattle.std.proofs.Common.{◌≡◌, ◌≢◌, ◌<◌, ◌≤◌, ◌+◌, ℕ, List, [], ◌∷◌, Option, Some, None, Result, Ok, Err, Bool, true, false, refl, sym, ap, subst, ◌∙◌, arith}
-use Rattle.std.specs.Prelude.{nat_lt}
-use Rattle.std.proofs.lemmas.Bool.Decides.{nat_tests}
+use Rattle.std.proofs.Common.{◌≡◌, ◌≢◌, ◌+◌, ℕ, List, [], ◌∷◌, Option, Some, Ok, Bool, true, false, refl, sym, ap, subst, ◌∙◌, arith}
 use Rattle.sap_tree.proofs.SyntaxLemmas.{and_part}
 use Rattle.sap_parse.proofs.ReadingLemmas.{ok_one}
 use Rattle.sap_parse.specs.Grammar as g
 use Rattle.sap_parse.specs.Grammar.{sign_of, unary_sign_of}
 use Rattle.sap_parse.specs.Limits.{Counts, tally, breach}
-use Rattle.sap_parse.specs.Stages.{Stage, IsToken, IsSign, IsName, IsNumber, here, spot_here}
+use Rattle.sap_parse.specs.Stages.{Stage, IsToken, IsSign, here, spot_here}
 use Rattle.sap_parse.specs.Table as s
 use Rattle.sap_parse.specs.Table.{Symbol}
 use Rattle.sap_parse.specs.declared.limit.Limit.{Limit}
@@ -18,21 +16,18 @@ use Rattle.sap_parse.specs.declared.token.Kind.{Kind}
 use Rattle.sap_parse.specs.declared.token.Sign.TheVariants as j
 use Rattle.sap_parse.specs.declared.token.Sign.{Sign as SignOf}
 use Rattle.sap_parse.specs.declared.token.Token.{Token}
-use Rattle.sap_tree.specs.declared.word.Word.TheVariants as w
 use Rattle.sap_tree.specs.Precedence.{precedence, unary_precedence}
 use Rattle.sap_tree.specs.Spots.{first_of, enclosed}
 use Rattle.sap_tree.specs.Syntax as t
-use Rattle.sap_tree.specs.declared.name.Mention.{Mention}
 use Rattle.sap_text.specs.declared.place.Place.{Place}
 use Rattle.sap_tree.specs.declared.place.Spot.{Spot}
 use Rattle.sap_tree.specs.declared.syntax.BinaryOperator.TheVariants as b
 use Rattle.sap_tree.specs.declared.syntax.BinaryOperator.{BinaryOperator}
 use Rattle.sap_tree.specs.declared.syntax.UnaryOperator.TheVariants as u
 use Rattle.sap_tree.specs.declared.syntax.UnaryOperator.{UnaryOperator}
-use Rattle.sap_parse.proofs.Complete.{ends, ends_expr, expr_bin_ends, no_bracket, no_colon, no_question, bounds_first, bounds_read, bin_reads, expr_reads, others_end, parts_end, parts_read, unary_reads}
+use Rattle.sap_parse.proofs.Complete.{ends, ends_expr, expr_bin_ends, no_bracket, no_colon, no_question, bounds_first, bounds_read, bin_reads, expr_reads, others_end, parts_end, parts_read}
 use Rattle.sap_parse.proofs.Known.{R, first_is, first_kind}
 use Rattle.sap_walk.specs.Limits.{Past, passed}
-use Rattle.sap_walk.specs.Walk.{Stage as StageOf}
 
 pub same_rest : (x : Symbol) {p p' q q' : Stage} → p ≡ p' → R x p ≡ Ok q → R x p' ≡ Ok q' → q ≡ q'
 same_rest x {p} e a b = ok_one (R x p) a (ap (λ z. R x z) e ∙ b)

@@ -1,5 +1,5 @@
 -- Tokens have at most one tree: tag expressions, commands, declarations, states and designs.
-use Rattle.std.proofs.Common.{◌≡◌, ◌≢◌, ◌+◌, ℕ, List, [], ◌∷◌, Option, Some, None, Ok, Bool, true, false, refl, sym, ap, subst, ◌∙◌}
+use Rattle.std.proofs.Common.{◌≡◌, ◌≢◌, ◌+◌, ℕ, List, [], ◌∷◌, Option, Some, None, true, false, refl, sym, ap, ◌∙◌}
 use Rattle.sap_tree.proofs.SyntaxLemmas.{and_part}
 use Rattle.sap_parse.specs.Grammar as g
 use Rattle.sap_parse.specs.Stages.{Stage, here, mention, numeral, spot_here}
@@ -19,8 +19,8 @@ use Rattle.sap_tree.specs.declared.syntax.Numeral.{Numeral}
 use Rattle.sap_tree.specs.declared.syntax.Under.{Under}
 use Rattle.sap_tree.specs.declared.version.Version.{Version}
 use Rattle.sap_parse.proofs.Complete.{ends_expr, expr_reads}
-use Rattle.sap_parse.proofs.CompleteDesign.{arm_reads, arms_read, authority_reads, block_reads, cmd_reads, constant_reads, constants_read, declarations_not_sapper, header_reads, cmds_not_else, cmds_read, declaration_reads, declarations_read, else_reads, ends_cmds, initial_not_under, initial_reads, kind_reads, simple_reads, state_first, state_reads, states_end_cmds, states_read, texpr_reads, texprs_read}
-use Rattle.sap_parse.proofs.Known.{R, first_is, first_kind, kind_in}
+use Rattle.sap_parse.proofs.CompleteDesign.{arm_reads, block_reads, cmd_reads, constant_reads, constants_read, declarations_not_sapper, header_reads, cmds_not_else, cmds_read, declaration_reads, declarations_read, ends_cmds, initial_not_under, kind_reads, simple_reads, state_first, state_reads, states_end_cmds, texpr_reads}
+use Rattle.sap_parse.proofs.Known.{first_is, first_kind, kind_in}
 use Rattle.sap_parse.proofs.Unique.{expr_one, here_same, name_same, number_same, same_behind, same_rest, same_token}
 
 mention_same : {p p' : Stage} {n n' : List ℕ} → p ≡ p' → n ≡ n' → mention p n ≡ mention p' n'

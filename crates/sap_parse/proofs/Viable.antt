@@ -1,10 +1,10 @@
 -- Each symbol can be spelled, and tokens that the walk takes go on as the grammar has it.
-use Rattle.std.proofs.Common.{◌≡◌, ◌≢◌, ◌+◌, ◌-◌, ℕ, zero, suc, List, [], ◌∷◌, ◌++◌, Option, Some, None, Result, Ok, Err, Bool, true, false, cond, refl, sym, ap, subst, ◌∙◌, append_assoc}
+use Rattle.std.proofs.Common.{◌≡◌, ◌+◌, ◌-◌, ℕ, zero, suc, List, [], ◌∷◌, ◌++◌, Option, Result, Ok, true, refl, sym, ap, subst, append_assoc}
 use Rattle.sap_lemmas.proofs.Numbers.{test_of_same}
-use Rattle.sap_parse.specs.Fault.{Spells, SpellsSome}
-use Rattle.sap_parse.specs.Limits.{Counts, none_yet, tally, breach}
+use Rattle.sap_parse.specs.Fault.{SpellsSome}
+use Rattle.sap_parse.specs.Limits.{Counts, tally, breach}
 use Rattle.sap_parse.specs.Reading.{leniently}
-use Rattle.sap_parse.specs.Stages.{Stage, at_start}
+use Rattle.sap_parse.specs.Stages.{at_start}
 use Rattle.sap_parse.specs.Table as s
 use Rattle.sap_parse.specs.Table.{Symbol, Row, grammar, is_unary, next, tails, tightest}
 use Rattle.sap_parse.specs.declared.limit.Limit.{Limit}
@@ -23,8 +23,8 @@ use Rattle.sap_parse.proofs.KeepsDesign.{keeps}
 use Rattle.sap_parse.proofs.Laws.{IsFull, name_full, number_full, or_full, push_full, sign_full, word_full}
 use Rattle.sap_parse.proofs.Spells.{W, Lang, Langs, last, nothing}
 use Rattle.sap_walk.specs.Limits.{Past, lenient, passed}
-use Rattle.sap_walk.specs.Rows.{push, optional, ◌or◌, first_then, firsts}
-use Rattle.sap_walk.specs.Walk.{Next, begins, empty_here, cannot_stand, Point}
+use Rattle.sap_walk.specs.Rows.{push, optional, first_then, firsts}
+use Rattle.sap_walk.specs.Walk.{begins, empty_here, cannot_stand}
 use Rattle.sap_walk.proofs.Running.{Runs}
 use Rattle.sap_walk.proofs.Spelling as spelling
 

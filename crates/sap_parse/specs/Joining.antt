@@ -6,7 +6,6 @@ use Rattle.sap_parse.specs.declared.limit.Role.TheVariants as r
 use Rattle.sap_parse.specs.declared.token.Sign.TheVariants as s
 use Rattle.sap_tree.specs.Syntax as t
 use Rattle.sap_tree.specs.Trees.{arms_before, arms_of, expressions_of, states_of, tags_of}
-use Rattle.sap_text.specs.declared.place.Place.{Place}
 use Rattle.sap_tree.specs.declared.place.Spot.{Spot}
 use Rattle.sap_tree.specs.declared.syntax.Arm.{Arm}
 use Rattle.sap_tree.specs.declared.syntax.Expr.{Expr}

@@ -1,5 +1,5 @@
 -- The design of a text, and the read fault of a text that has none.
-use Rattle.std.specs.Prelude.{◌≡◌, ℕ, ◌<◌, ◌≤◌, List, [], ◌∷◌, length}
+use Rattle.std.specs.Prelude.{ℕ, ◌<◌, ◌≤◌, List, [], ◌∷◌, length}
 use Rattle.sap_parse.specs.Fault.{IsDesign, IsUnexpected, IsOver}
 use Rattle.sap_parse.specs.Lexing.{AreTokens, IsBadAt}
 use Rattle.sap_text.specs.Places.{first_place, place_at}

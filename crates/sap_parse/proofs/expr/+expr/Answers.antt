@@ -1,11 +1,10 @@
-use Rattle.std.proofs.Common.{◌≡◌, ◌∙◌, ◌≤◌, ◌<◌, ◌+◌, ◌++◌, ◌∷◌, [], ℕ, List, Ok, Err, Some, None, sym, ap, subst, refl, rules, arith, length}
-use Rattle.std.specs.Prelude.{IfOk}
+use Rattle.std.proofs.Common.{◌≡◌, ◌∙◌, ◌+◌, ◌++◌, ◌∷◌, [], List, Some, sym, ap, subst, refl, rules, arith}
 use Rattle.sap_parse.specs.Choices.{operator_at, unary_at}
 use Rattle.sap_parse.specs.Grammar as g
 use Rattle.sap_parse.specs.Joining.{join}
 use Rattle.sap_parse.specs.Rows.{Between, between}
-use Rattle.sap_parse.specs.Reading.{Goes, ahead, reads, steps_by, strictly}
-use Rattle.sap_parse.specs.Stages.{IsSign, here}
+use Rattle.sap_parse.specs.Reading.{ahead, steps_by, strictly}
+use Rattle.sap_parse.specs.Stages.{IsSign}
 use Rattle.sap_parse.specs.Table as s
 use Rattle.sap_parse.specs.declared.limit.Role.TheVariants as r
 use Rattle.sap_tree.specs.Spots.{enclosed, first_of}
@@ -13,7 +12,7 @@ use Rattle.sap_tree.specs.Syntax as t
 use Rattle.sap_tree.specs.Trees.{expression_of, expressions_of}
 use Rattle.sap_tree.specs.declared.name.Mention.{Mention}
 use Rattle.sap_tree.specs.declared.syntax.Expr.{Expr}
-use Rattle.sap_parse.proofs.ExprLaws.{bin_tail, choice_missing, expr_bin, operator_level, parts_missing, parts_there, tail_missing, tail_there, unary_missing, unary_there}
+use Rattle.sap_parse.proofs.ExprLaws.{bin_tail, choice_missing, expr_bin, operator_level, parts_missing, parts_there, tail_there, unary_there}
 use Rattle.sap_parse.proofs.Faults.{fault_goes}
 use Rattle.sap_parse.proofs.Makes.{both, from_to, choice_tree, concat_tree, indexed_post, indexes_tree, join_none, join_push, operand_tree, other_tree, paren_tree, post_tree, read_tree, sliced_post, unary_tree, unsigned_tree, zext_tree}
 use Rattle.sap_walk.proofs.Walking.{bind_ok, bind_pure}

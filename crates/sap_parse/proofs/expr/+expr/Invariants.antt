@@ -1,5 +1,5 @@
 -- What the loops keep, and why the calls end.
-use Rattle.std.proofs.Common.{◌≡◌, ◌≤◌, ◌<◌, length, ℕ, ◌+◌, ◌-◌, ◌*◌}
+use Rattle.std.proofs.Common.{◌≡◌, ◌≤◌, ◌<◌, length, ◌+◌, ◌-◌, ◌*◌}
 use Rattle.sap_parse.specs.Grammar as g
 use Rattle.sap_parse.specs.Joining.{join}
 use Rattle.sap_parse.specs.Reading.{reads}

@@ -1,4 +1,4 @@
-use Rattle.std.proofs.Common.{◌≡◌, ◌∙◌, sym, ap, subst, refl, rules, arith}
+use Rattle.std.proofs.Common.{◌∙◌, sym, ap, subst, refl, rules, arith}
 use Rattle.sap_parse.specs.Grammar as g
 use Rattle.sap_tree.specs.Spots.{first_of}
 use Rattle.sap_tree.specs.Trees.{expression_of}

@@ -1,5 +1,4 @@
 use Rattle.sap_parse.proofs.OneReading.{one_design, one_fault, not_both}
-use Rattle.sap_parse.proofs.FitsDesign.{design_is_whole}
 use Rattle.sap_parse.proofs.law.one_reading.Goals as goal
 
 pub returns-clause-one_design : goal.returns-clause-one_design

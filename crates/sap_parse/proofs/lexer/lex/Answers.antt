@@ -1,13 +1,10 @@
 use Rattle.std.proofs.Common.{◌≡◌, ◌-◌, ◌∙◌, ◌+◌, sym, ap, subst, refl, arith, length-drop, length-take, length, take, drop}
 use Rattle.sap_walk.specs.Reached.{start, blank, token}
 use Rattle.sap_parse.specs.Lexemes.{lexeme_of}
-use Rattle.sap_parse.specs.Lexing.{AreTokens, Reached, IsWithin, version_of}
+use Rattle.sap_parse.specs.Lexing.{Reached, IsWithin}
 use Rattle.sap_text.specs.Places.{place_at}
-use Rattle.sap_parse.specs.declared.token.Token.{Token}
 use Rattle.sap_parse.proofs.Places.{advanced}
-use Rattle.std.specs.List.{All}
 use Rattle.std.proofs.lemmas.List.{take_rest}
-use Rattle.sap_parse.specs.Spelled.{AreInOrder, HasText}
 use Rattle.sap_parse.proofs.TokenTexts.{texts_are, in_order, spanned, tokens_order}
 use Rattle.sap_parse.proofs.lexer.lex.Goals as goal
 

@@ -1,4 +1,4 @@
-use Rattle.std.proofs.Common.{◌≡◌, ◌≤◌, ◌+◌, length, refl, sym, ap, subst, ◌∙◌, arith, rules}
+use Rattle.std.proofs.Common.{length, refl, sym, ap, subst, ◌∙◌, arith, rules}
 use Rattle.sap_parse.specs.Stages.{Stage, at_start}
 use Rattle.sap_parse.specs.Text.{IsText, too_long}
 use Rattle.sap_parse.proofs.OneReading.{few_tokens, fault_at_limit, fault_at_token, fault_lexed, in_err, no_ok, not_both, text_is, text_whole}

@@ -1,7 +1,7 @@
-use Rattle.std.proofs.Common.{◌≡◌, ◌∙◌, sym, ap, subst, refl, rules, arith}
+use Rattle.std.proofs.Common.{◌∙◌, sym, ap, refl, arith}
 use Rattle.sap_parse.specs.Grammar as g
 use Rattle.sap_parse.specs.Joining.{join_states}
-use Rattle.sap_parse.specs.Reading.{ahead, strictly}
+use Rattle.sap_parse.specs.Reading.{strictly}
 use Rattle.sap_tree.specs.Syntax as t
 use Rattle.sap_tree.specs.Trees.{state_of, states_of}
 use Rattle.sap_parse.proofs.DesignLaws.{last_states_end, last_states_other, last_states_there}
