@@ -3,3 +3,5 @@ pub mod PointLists
 pub mod Counts
 pub mod Accepted
 pub mod FaultsLemmas
+pub mod EntityNames
+pub mod SiteEntities

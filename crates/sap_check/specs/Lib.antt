@@ -4,3 +4,7 @@ pub mod Lists
 pub mod Checked
 pub mod Examples
 pub mod Faults
+pub mod SiteTexts
+pub use Rattle.sap_names.specs.Entities
+pub use Rattle.sap_shape.specs.WellFormed
+pub use Rattle.sap_tree.specs.Designs

@@ -10,6 +10,7 @@ pub mod point;
 mod points;
 mod readers;
 pub mod site;
+pub mod site_text;
 mod sites;
 
 pub use checked::{Checked, Refused};

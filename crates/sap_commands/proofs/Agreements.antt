@@ -6,10 +6,10 @@ use Rattle.sap_lattice.specs.Order.{Order}
 use Rattle.sap_latfile.specs.LatticeFile.{IsLatticeOfFile}
 use Rattle.sap_meaning.specs.Agree.{StreamsAgree}
 use Rattle.sap_meaning.specs.Cycle.{Tagged}
-use Rattle.sap_tree.specs.Syntax.{DesignTree}
+use Rattle.sap_compile.specs.Syntax.{DesignTree}
 use Rattle.sap_stream.specs.Apart.{IsApart}
 use Rattle.sap_stream.specs.declared.apart.Apart.{Apart}
-use Rattle.sap_net.specs.Net.{Net}
+use Rattle.sap_sim.specs.Net.{Net}
 use Rattle.sap_compile.specs.Compiles.{IsModuleFor}
 use Rattle.sap_files.specs.Ending.{Ending, no_memory}
 use Rattle.sap_files.specs.Kinds.{stream_file}

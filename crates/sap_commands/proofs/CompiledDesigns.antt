@@ -5,7 +5,7 @@ use Rattle.sap_desk.specs.Whole.{IsFront}
 use Rattle.sap_lattice.specs.Levels.{Levels}
 use Rattle.sap_latfile.specs.OneLattice.{AreSame}
 use Rattle.sap_latfile.proofs.OneLattice.{one_lattice}
-use Rattle.sap_tree.specs.Syntax.{DesignTree}
+use Rattle.sap_compile.specs.Syntax.{DesignTree}
 use Rattle.sap_parse.specs.Limits.{most_bytes}
 use Rattle.sap_compile.specs.Faults.{IsCompileFault}
 use Rattle.sap_compile.specs.Parts.{design_of, levels_of}

@@ -5,13 +5,13 @@ use Rattle.sap_lattice.specs.Levels.{Levels, order_of}
 use Rattle.sap_lattice.specs.Order.{Order}
 use Rattle.sap_lattice.specs.Codes.{width_of}
 use Rattle.sap_latfile.specs.OneLattice.{AreSame}
-use Rattle.sap_maps.specs.Maps.{Valuation}
+use Rattle.sap_sim.specs.Maps.{Valuation}
 use Rattle.sap_meaning.specs.Agree.{StreamsAgree}
 use Rattle.sap_meaning.specs.Cycle.{Tagged}
 use Rattle.sap_meaning.specs.State.{StreamFits}
-use Rattle.sap_tree.specs.Syntax.{DesignTree}
-use Rattle.sap_net.specs.Net.{Net}
-use Rattle.sap_net.specs.Runs.{IsRun, observed}
+use Rattle.sap_compile.specs.Syntax.{DesignTree}
+use Rattle.sap_sim.specs.Net.{Net}
+use Rattle.sap_sim.specs.Runs.{IsRun, observed}
 use Rattle.std.specs.Prelude.{map}
 use Rattle.sap_size.specs.Items.{items}
 use Rattle.sap_size.specs.Trees.{design_nodes, entity_count}

@@ -2,11 +2,11 @@
 use Rattle.std.specs.Prelude.{◌≡◌, ℕ, List, length, map}
 use Rattle.std.specs.List.{AllZip}
 use Rattle.sap_lattice.specs.Levels.{Levels}
-use Rattle.sap_maps.specs.Maps.{Valuation}
+use Rattle.sap_sim.specs.Maps.{Valuation}
 use Rattle.sap_meaning.specs.Cycle.{Tagged}
-use Rattle.sap_tree.specs.Syntax.{DesignTree}
-use Rattle.sap_net.specs.Net.{Net}
-use Rattle.sap_net.specs.Runs.{IsRun, observed}
+use Rattle.sap_compile.specs.Syntax.{DesignTree}
+use Rattle.sap_sim.specs.Net.{Net}
+use Rattle.sap_sim.specs.Runs.{IsRun, observed}
 use Rattle.sap_interface.specs.Compiled.{coded_stream}
 use Rattle.sap_interface.specs.Designs.{named_of, sites_of}
 use Rattle.sap_compile.specs.Agree.{CyclesAgree, CyclesLookAlike}

@@ -8,7 +8,7 @@ use Rattle.sap_lattice.specs.Levels.{Levels, order_of}
 use Rattle.sap_lattice.specs.Codes.{Codes}
 use Rattle.sap_maps.specs.Maps.{Valuation}
 use Rattle.sap_tree.specs.Syntax.{DesignTree}
-use Rattle.sap_shape.specs.WellFormed.{WellFormed}
+use Rattle.sap_check.specs.WellFormed.{WellFormed}
 use Rattle.sap_meaning.specs.Program.{entity, is_memory}
 use Rattle.sap_meaning.specs.Store.{Store, own, start, start_whole, home, number, level, Refusal, After}
 use Rattle.sap_meaning.specs.Cycle.{Tagged, cycle, run_from}

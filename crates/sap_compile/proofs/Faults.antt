@@ -15,7 +15,7 @@ use Rattle.sap_names.specs.declared.kind.Code.{Code}
 use Rattle.sap_parse.specs.Text.{IsText, IsReadFault}
 use Rattle.sap_parse.specs.declared.fault.ReadFault.{ReadFault}
 use Rattle.sap_parse.specs.declared.fault.ReadFault.TheVariants as read
-use Rattle.sap_shape.specs.WellFormed.{WellFormed, IsFirstFault}
+use Rattle.sap_check.specs.WellFormed.{WellFormed, IsFirstFault}
 use Rattle.sap_tree.specs.Syntax.{DesignTree}
 use Rattle.sap_text.specs.declared.place.Place.{Place}
 use Rattle.sap_compile.specs.Failures.{read_failure, check_failure}

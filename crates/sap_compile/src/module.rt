@@ -16,7 +16,7 @@ use sap_hang::hang::hang;
 use sap_net::laws::one_run;
 use sap_net::netlist::Netlist;
 use sap_resolve::premises::well_formed_serves;
-use sap_resolver::resolve::resolve;
+use sap_sem::resolve::resolve;
 use sap_tags::insert::insert;
 use sap_vprint::print;
 use std::alloc::{AllocError, Global};

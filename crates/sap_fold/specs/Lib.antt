@@ -9,3 +9,4 @@ pub mod Absorbed
 pub mod Parts
 pub mod Slices
 pub mod Order
+pub use Rattle.sap_share.specs.Rights

@@ -5,3 +5,6 @@ pub mod Text
 pub mod Running
 pub mod Shown
 pub mod Examples
+pub use Rattle.sap_lattice.specs.Built
+pub use Rattle.sap_shape.specs.WellFormed
+pub use Rattle.sap_tree.specs.Whole

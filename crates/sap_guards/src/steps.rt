@@ -6,7 +6,7 @@ ghost use Rattle.sap_maps.specs.Term as term;
 ghost use Rattle.sap_meaning.specs.Checks.{entry};
 ghost use Rattle.sap_meaning.specs.Program as program;
 ghost use Rattle.sap_program.specs.Views as views;
-ghost use Rattle.sap_resolve.specs.Sized.Ranges.{RangedLevel, RangedStep, RangedTerm};
+ghost use Rattle.sap_terms.specs.Ranges.{RangedLevel, RangedStep, RangedTerm};
 ghost use Rattle.sap_tagged.specs.Keys.{tag_key};
 ghost use Rattle.sap_tagged.specs.Levels as spec;
 ghost use Rattle.sap_terms.specs.Code.{entities_in, setting_in, spot_in, world_in};

@@ -2,3 +2,4 @@ pub mod Document
 pub mod LatticeFile
 pub mod OneLattice
 pub mod Wrapped
+pub use Rattle.sap_lattice.specs.Rules

@@ -7,8 +7,9 @@ use Rattle.sap_tree.specs.Syntax.{DesignTree}
 use Rattle.sap_names.specs.declared.entity.Entity.{Entity}
 use Rattle.sap_names.specs.Entities.{entities_of}
 use Rattle.sap_check.specs.declared.point.Point.{Point}
+use Rattle.sap_check.specs.SiteTexts.{entity_name}
 use Rattle.sap_hang.specs.Hang.{IsHangTable, Table, hangs, says}
-use Rattle.sap_report.specs.Report.{each_name, entity_name, hanging, is_none, names_text, point_line, point_lines, where_hung}
+use Rattle.sap_report.specs.Report.{each_name, hanging, is_none, names_text, point_line, point_lines, where_hung}
 use Rattle.sap_report.proofs.Lists.{at_end, drop-at, drop-some}
 
 -- names, where there is one and where there is none

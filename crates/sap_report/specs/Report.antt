@@ -1,5 +1,5 @@
 -- The report of a design: a line for each level, for each point with what hangs on it, and for each check site. Each line ends with LF.
-use Rattle.std.specs.Prelude.{ℕ, ◌+◌, Bool, true, false, List, [], ◌∷◌, ◌++◌, codes, unwrap_or, option_map, slice_get, if◌then◌else◌}
+use Rattle.std.specs.Prelude.{ℕ, ◌+◌, Bool, true, false, List, [], ◌∷◌, ◌++◌, codes, if◌then◌else◌}
 use Rattle.std.specs.Fmt.{decimal}
 use Rattle.sap_lattice.specs.Codes.{code_of}
 use Rattle.sap_lattice.specs.Levels.{Levels, order_of}
@@ -13,10 +13,9 @@ use Rattle.sap_check.specs.declared.point.Point.{Point}
 use Rattle.sap_check.specs.declared.point.PointKind.{PointKind}
 use Rattle.sap_check.specs.declared.point.PointKind.TheVariants as points
 use Rattle.sap_check.specs.declared.site.Site.{Site}
-use Rattle.sap_check.specs.declared.site.SiteKind.{SiteKind}
-use Rattle.sap_check.specs.declared.site.SiteKind.TheVariants as sites
 use Rattle.sap_check.specs.Points.{points_of}
 use Rattle.sap_check.specs.Sites.{sites_of}
+use Rattle.sap_check.specs.SiteTexts.{entity_name, site_target}
 use Rattle.sap_hang.specs.Hang.{hangs}
 
 -- `level NAME CODE`, in the order of the file; the first level has the number l
@@ -31,10 +30,6 @@ level_lines ls l (name ∷ names) = level_line name (code_of (order_of ls) l) ++
 abbrev pub hanging : DesignTree → (point x : ℕ) → List Entity → List (List ℕ)
 hanging d p x [] = []
 hanging d p x (e ∷ es) = if hangs d p x then e.name.name ∷ hanging d p (x + 1) es else hanging d p (x + 1) es
-
--- the name of the entity of a number
-abbrev pub entity_name : List Entity → ℕ → List ℕ
-entity_name es n = unwrap_or (option_map (λ e. e.name.name) (slice_get es n)) []
 
 -- the name of one entity, where it hangs on a point
 abbrev pub where_hung : DesignTree → (point x : ℕ) → List (List ℕ)
@@ -69,17 +64,8 @@ abbrev pub point_lines : DesignTree → (p : ℕ) → List Point → List ℕ
 point_lines d p [] = []
 point_lines d p (q ∷ qs) = point_line q (hanging d p 0 (entities_of d)) ++ point_lines d (p + 1) qs
 
-abbrev pub site_word : SiteKind → List ℕ
-site_word sites.Write = codes "write"
-site_word sites.SetTag = codes "setTag"
-site_word sites.Goto = codes "goto"
-site_word sites.Fall = codes "fall"
-
 unfoldable pub site_head : (k : ℕ) → Place → List ℕ
 site_head k place = codes "site " ++ decimal k ++ codes " " ++ place_text place ++ codes " "
-
-unfoldable pub site_target : List Entity → Site → List ℕ
-site_target es s = site_word s.kind ++ codes " " ++ entity_name es s.entity
 
 -- `site K LINE:COL KIND NAME`; the first site has the number k
 abbrev pub site_line : List Entity → (k : ℕ) → Site → List ℕ

@@ -7,5 +7,3 @@ mod point;
 pub mod report;
 mod site;
 mod text;
-
-pub use site::push_target;

@@ -7,9 +7,10 @@ ghost use Rattle.sap_hang.specs.Hang.{IsHangTable, hangs};
 ghost use Rattle.sap_names.specs.Entities.{entities_of};
 ghost use Rattle.sap_report.specs.Report.{each_name, hanging, is_none, names_text, point_line, point_lines, point_word, where_hung};
 
-use crate::text::{name, place};
+use crate::text::place;
 use sap_check::Checked;
 use sap_check::point::{Point, PointKind};
+use sap_check::site_text::push_entity;
 use sap_hang::HangTable;
 use std::alloc::{AllocError, Global};
 
@@ -41,7 +42,7 @@ fn push_name(
     let hung = table.hangs(point, entity);
     if hung {
         out.extend_from_slice(b" ")?;
-        name(out, checked, entity)?;
+        push_entity(out, checked, entity)?;
     }
     Ok(hung)
 }

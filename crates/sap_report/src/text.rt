@@ -1,12 +1,9 @@
-//! Numbers, places and names.
+//! Numbers and places.
 
-ghost use Rattle.std.specs.Prelude.{◌≡◌, ◌<◌, ◌≤◌, ◌+◌, ◌++◌, OnErr, OnOk, length, vec_capacity};
+ghost use Rattle.std.specs.Prelude.{◌≡◌, ◌++◌, OnOk};
 ghost use Rattle.std.specs.Fmt.{decimal};
-ghost use Rattle.sap_check.specs.Checked.{tree_in};
-ghost use Rattle.sap_names.specs.Entities.{entities_of};
-ghost use Rattle.sap_report.specs.Report.{entity_name, place_text};
+ghost use Rattle.sap_report.specs.Report.{place_text};
 
-use sap_check::Checked;
 use sap_tree::place::Place;
 use std::alloc::{AllocError, Global};
 
@@ -23,14 +20,4 @@ pub(crate) fn place(alloc: Global, out: &mut Vec<u8>, place: Place) -> Result<()
     number(alloc, out, place.line)?;
     out.extend_from_slice(b":")?;
     number(alloc, out, place.column)
-}
-
-/// Appends the name of an entity. It takes no memory where there is room for it.
-pub(crate) fn name(out: &mut Vec<u8>, checked: &Checked, entity: u32) -> Result<(), AllocError>
-    requires { entity < length (entities_of (tree_in checked.now)) }
-    ensures text { OnOk result (out.new.items ≡ out.old.items ++ entity_name (entities_of (tree_in checked.now)) entity) }
-    ensures room { vec_capacity out.old ≤ vec_capacity out.new }
-    ensures full { OnErr result (vec_capacity out.old < length out.old.items + length (entity_name (entities_of (tree_in checked.now)) entity)) }
-{
-    out.extend_from_slice(checked.entity(entity).as_bytes())
 }

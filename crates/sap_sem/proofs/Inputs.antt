@@ -7,7 +7,7 @@ use Rattle.sap_meaning.specs.Program.{kind_is_input}
 use Rattle.sap_meaning.specs.State.{input_widths, AllFit}
 use Rattle.sap_program.specs.declared.program.Entity.{Entity}
 use Rattle.sap_program.specs.Views.{entity_of, kind_of_sort}
-use Rattle.sap_resolver.proofs.Lists.{item_drop}
+use Rattle.sap_sem.proofs.Lists.{item_drop}
 
 -- what is left fits
 abbrev pub Left : (levels : ℕ) → List Entity → List Tagged → Type 0

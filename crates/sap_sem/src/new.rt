@@ -15,13 +15,13 @@ ghost use Rattle.sap_shape.specs.Sites.{check_sites};
 ghost use Rattle.sap_store.specs.Able.{AbleGroup};
 
 use crate::machine::Machine;
+use crate::resolve::resolve;
 use sap_check::Checked;
 use sap_hang::HangTable;
 use sap_lattice::level::Level;
 use sap_meaning::states_keep;
 use sap_resolve::premises::well_formed_serves;
 use sap_resolve::sized::{sizes_fit, widths_in_range};
-use sap_resolver::resolve::resolve;
 use sap_secure::check_sites::sites_agree;
 use sap_store::environment::Environment;
 use sap_store::first::first_store;

@@ -22,7 +22,7 @@ use Rattle.sap_program.specs.Design.{IsProgramOf}
 use Rattle.sap_program.specs.Views.{count, group_of, program_in}
 use Rattle.sap_resolve.specs.Sized.Ranges.{IsWidth, RangedProgram}
 use Rattle.sap_resolve.specs.Sized.Sound.{WidthsInRange}
-use Rattle.sap_shape.specs.WellFormed.{WellFormed}
+use Rattle.sap_check.specs.WellFormed.{WellFormed}
 use Rattle.sap_interface.specs.StandsFor.{Named}
 use Rattle.sap_interface.specs.Designs.{named_of}
 use Rattle.sap_terms.specs.Code.{named_over}

@@ -4,7 +4,7 @@ use Rattle.sap_tree.specs.Syntax.{DesignTree}
 use Rattle.sap_lattice.specs.Levels.{Levels, order_of}
 use Rattle.sap_lattice.specs.Order.{Laws}
 use Rattle.sap_lattice.specs.Codes.{Codes}
-use Rattle.sap_maps.specs.Maps.{Valuation}
+use Rattle.sap_cycle.specs.Maps.{Valuation}
 use Rattle.sap_meaning.specs.Store.{Store}
 use Rattle.sap_meaning.specs.Cycle.{Tagged, cycle}
 use Rattle.sap_meaning.specs.State.{StreamFits, first}

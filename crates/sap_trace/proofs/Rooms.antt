@@ -9,7 +9,7 @@ use Rattle.sap_lattice.specs.Levels.{Levels, level_in}
 use Rattle.sap_names.specs.Entities.{entities_of}
 use Rattle.sap_check.specs.declared.site.Site.{Site}
 use Rattle.sap_check.specs.Sites.{sites_of}
-use Rattle.sap_report.specs.Report.{entity_name, site_target, site_word}
+use Rattle.sap_check.specs.SiteTexts.{entity_name, site_target, site_word}
 use Rattle.sap_stim.specs.Rows.{level_coded}
 use Rattle.sap_stim.proofs.RowLeast.{Longest}
 use Rattle.sap_stim.proofs.RowRoom.{Within, each_name, text_within}

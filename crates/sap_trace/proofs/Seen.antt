@@ -6,7 +6,7 @@ use Rattle.std.proofs.lemmas.List.{append-nil}
 use Rattle.sap_tree.specs.Syntax.{DesignTree}
 use Rattle.sap_lattice.specs.Levels.{Levels, order_of}
 use Rattle.sap_lattice.specs.Codes.{Codes, code_of}
-use Rattle.sap_maps.specs.Maps.{Valuation}
+use Rattle.sap_cycle.specs.Maps.{Valuation}
 use Rattle.sap_meaning.specs.Store.{Store, Refusal}
 use Rattle.sap_meaning.specs.Sites.{program_sites, refused_sites, Sublist}
 use Rattle.sap_check.specs.Sites.{sites_of}

@@ -5,8 +5,8 @@ use Rattle.sap_lattice.specs.Closure.{name_at}
 use Rattle.sap_lattice.specs.Codes.{width_of}
 use Rattle.sap_lattice.specs.Levels.{Levels, order_of}
 use Rattle.sap_check.specs.Sites.{sites_of}
-use Rattle.sap_maps.specs.Maps.{Name, Valuation}
-use Rattle.sap_maps.specs.Scope.{find}
+use Rattle.sap_cycle.specs.Maps.{Name, Valuation}
+use Rattle.sap_cycle.specs.Scope.{find}
 use Rattle.sap_net.specs.Net.{Net}
 use Rattle.sap_net.specs.IsNetlist.{readable}
 use Rattle.sap_cycle.specs.Running.{value_names, IsPlaceOf}

@@ -2,7 +2,7 @@
 use Rattle.std.specs.Prelude.{List, Some}
 use Rattle.sap_tree.specs.Syntax.{DesignTree}
 use Rattle.sap_lattice.specs.Levels.{Levels}
-use Rattle.sap_maps.specs.Maps.{Valuation}
+use Rattle.sap_cycle.specs.Maps.{Valuation}
 use Rattle.sap_meaning.specs.Store.{Store, Refusal}
 use Rattle.sap_meaning.specs.Sites.{program_sites, refused_sites, Sublist}
 use Rattle.sap_net.specs.Runs.{observed}

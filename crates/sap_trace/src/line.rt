@@ -1,7 +1,7 @@
 //! The lines of refused sites.
 
 ghost use Rattle.std.specs.Prelude.{◌≡◌, ◌≤◌, ◌<◌, ◌+◌, ◌*◌, ◌++◌, ℕ, OnErr, OnOk, length, vec_capacity};
-ghost use Rattle.sap_maps.specs.Maps.{Valuation};
+ghost use Rattle.sap_cycle.specs.Maps.{Valuation};
 ghost use Rattle.sap_check.specs.Checked.{levels_in, tree_in};
 ghost use Rattle.sap_check.specs.Sites.{sites_of};
 ghost use Rattle.sap_cycle.specs.Running.{Shows, seen};
@@ -13,10 +13,10 @@ ghost use Rattle.std.specs.Prelude.{Option};
 
 use crate::wires::Wires;
 use sap_check::Checked;
+use sap_check::site_text::push_target;
 use sap_cycle::runner::Runner;
 use sap_desk::RowBuf;
 use sap_lattice::level::Level;
-use sap_report::push_target;
 use sap_stim::rows::{number, push_level};
 use std::alloc::AllocError;
 

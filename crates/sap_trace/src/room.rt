@@ -4,7 +4,7 @@ ghost use Rattle.std.specs.Prelude.{◌≡◌, ◌≤◌, ◌<◌, ◌^◌, [], 
 ghost use Rattle.std.specs.Fmt.{decimal};
 ghost use Rattle.sap_check.specs.Checked.{levels_in, tree_in};
 ghost use Rattle.sap_check.specs.Sites.{sites_of};
-ghost use Rattle.sap_report.specs.Report.{site_word};
+ghost use Rattle.sap_check.specs.SiteTexts.{site_word};
 ghost use Rattle.sap_trace.specs.Rooms.{HoldsCycle, HoldsLine, site_room};
 
 use sap_check::Checked;

@@ -2,7 +2,7 @@
 
 ghost use Rattle.std.specs.Prelude.{◌≡◌, ◌+◌, ◌<◌, ◌^◌, ◌++◌, [], List, Option, Some, None, map, length, IfOk, OnOk};
 ghost use Rattle.std.specs.List.{last_or};
-ghost use Rattle.sap_maps.specs.Maps.{Valuation};
+ghost use Rattle.sap_cycle.specs.Maps.{Valuation};
 ghost use Rattle.sap_net.specs.Runs.{InputsFit, AllFit, IsCycle, IsRun, IsRunAfter, observed};
 ghost use Rattle.sap_check.specs.Checked.{levels_in, tree_in};
 ghost use Rattle.sap_check.specs.Sites.{sites_of};

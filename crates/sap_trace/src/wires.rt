@@ -1,7 +1,7 @@
 //! The wires of check sites.
 
 ghost use Rattle.std.specs.Prelude.{◌≡◌, ◌≢◌, ◌<◌, None, IfOk, length};
-ghost use Rattle.sap_maps.specs.Scope.{find};
+ghost use Rattle.sap_cycle.specs.Scope.{find};
 ghost use Rattle.sap_net.specs.IsNetlist.{readable};
 ghost use Rattle.sap_cycle.specs.Running.{IsPlaceOf, value_names};
 ghost use Rattle.sap_interface.specs.PortNames.{level_name, refused_name};

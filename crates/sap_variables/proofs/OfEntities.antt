@@ -12,7 +12,7 @@ use Rattle.sap_meaning.specs.Program as program
 use Rattle.sap_meaning.specs.Program.{Program, Kind, Entity, children, width, is_input, is_register, is_memory, kind_is_input, kind_is_state}
 use Rattle.sap_meaning.specs.Sized.{depth}
 use Rattle.sap_program.specs.Views.{entity_of}
-use Rattle.sap_resolve.specs.Sized.Ranges.{IsWidth, RangedProgram}
+use Rattle.sap_terms.specs.Ranges.{IsWidth, RangedProgram}
 use Rattle.sap_terms.specs.declared.setting.Setting.{Setting}
 use Rattle.sap_terms.specs.Code.{named_in, tag_width, world_in, entities_in}
 use Rattle.sap_tagged.specs.Keys.{first_key, inner_key, key_name}

@@ -2,7 +2,7 @@
 
 ghost use Rattle.std.specs.Prelude.{◌≡◌, ◌++◌, ◌∷◌, OnOk, true};
 ghost use Rattle.sap_meaning.specs.Program as program;
-ghost use Rattle.sap_resolve.specs.Sized.Ranges.{RangedProgram};
+ghost use Rattle.sap_terms.specs.Ranges.{RangedProgram};
 ghost use Rattle.sap_tagged.specs.Plain.{memories_of, memory_of, tags_of};
 ghost use Rattle.sap_terms.specs.Code.{named_in, tag_width, world_in};
 

@@ -2,7 +2,7 @@
 
 ghost use Rattle.std.specs.Prelude.{◌≡◌, ◌++◌, ◌∷◌, [], OnOk};
 ghost use Rattle.sap_meaning.specs.Program as program;
-ghost use Rattle.sap_resolve.specs.Sized.Ranges.{IsWidth, RangedProgram};
+ghost use Rattle.sap_terms.specs.Ranges.{IsWidth, RangedProgram};
 ghost use Rattle.sap_tagged.specs.Plain.{inputs_of, seat_registers, seat_var, shown_registers, tag_registers, tag_var, value_var};
 ghost use Rattle.sap_terms.specs.Code.{named_in, tag_width, world_in};
 

@@ -5,7 +5,7 @@ use Rattle.sap_walk.specs.Rows.{push}
 use Rattle.sap_walk.specs.Walk.{Next, begins, cannot_stand, Table}
 
 -- What may be to come. `digit` is a number that is written with one digit. `ports` and `parts` go up to the sign that closes them; `right`,
--- `item` and all whose names begin with `After` go up to the `;`; `items` go up to `endmodule`, behind which nothing stands.
+-- `item` and all whose names begin with `after` go up to the `;`; `items` go up to `endmodule`, behind which nothing stands.
 pub data Symbol : Type 0 where
   sign : t.Sign → Symbol
   word : t.Word → Symbol

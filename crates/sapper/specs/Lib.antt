@@ -3,3 +3,7 @@ pub mod Exact
 pub mod Headline
 pub mod Outside
 pub mod Lines
+pub use Rattle.sap_desk.specs.Cause
+pub use Rattle.sap_desk.specs.Whole
+pub use Rattle.sap_files.specs.Ending
+pub use Rattle.sap_words.specs.Words

@@ -2,11 +2,11 @@
 
 ghost use Rattle.std.specs.Prelude.{◌<◌, length};
 ghost use Rattle.sap_check.specs.Checked.{tree_in};
-ghost use Rattle.sap_names.specs.Entities.{entities_of};
+ghost use Rattle.sap_check.specs.Entities.{entities_of};
 
 use sap_check::Checked;
+use sap_check::site_text::push_target;
 use sap_lattice::level::Level;
-use sap_report::push_target;
 use sap_sem::machine::Machine;
 use sap_stim::rows::number;
 use std::alloc::AllocError;

@@ -1,10 +1,10 @@
 use Rattle.std.proofs.Common.{◌≡◌, List, sym, ◌∙◌, ap, subst}
 use Rattle.std.proofs.lemmas.Result.{err_from_is_err_and}
 use Rattle.sap_lattice.specs.Levels.{Levels}
-use Rattle.sap_tree.specs.Syntax.{DesignTree}
-use Rattle.sap_tree.specs.Designs.{design_of as tree_of}
+use Rattle.sap_compile.specs.Syntax.{DesignTree}
+use Rattle.sap_check.specs.Designs.{design_of as tree_of}
 use Rattle.sap_check.specs.Checked.{levels_in, tree_in}
-use Rattle.sap_net.specs.Net.{Net}
+use Rattle.sap_sim.specs.Net.{Net}
 use Rattle.sap_interface.specs.Designs.{StandsForDesign}
 use Rattle.sap_stim.specs.declared.field.Field.{Field}
 use Rattle.sap_stim.specs.declared.stimulus.Parsed.{Parsed}

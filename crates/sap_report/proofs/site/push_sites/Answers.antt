@@ -1,7 +1,8 @@
 use Rattle.sap_check.specs.Checked.{tree_in}
 use Rattle.sap_check.specs.Sites.{sites_of}
 use Rattle.sap_names.specs.Entities.{entities_of}
-use Rattle.sap_report.proofs.SiteLines.{site-within, sites_step}
+use Rattle.sap_check.proofs.SiteEntities.{site-within}
+use Rattle.sap_report.proofs.SiteLines.{sites_step}
 use Rattle.sap_report.proofs.site.push_sites.Goals as goal
 
 pub push_site-requires : goal.push_site-requires

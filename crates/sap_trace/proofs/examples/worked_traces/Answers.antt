@@ -5,7 +5,7 @@ use Rattle.sap_meaning.specs.Store.{put_number, put_level, put_child, raise, res
 use Rattle.sap_meaning.specs.Does.{effect, attempt, select, does, does_block, does_state, does_child}
 use Rattle.sap_meaning.specs.Cycle.{cycle, set_inputs, root_fall}
 use Rattle.sap_meaning.specs.State.{first}
-use Rattle.sap_report.specs.Report.{site_target}
+use Rattle.sap_check.specs.SiteTexts.{site_target}
 use Rattle.sap_trace.specs.Lines.{line_head}
 use Rattle.sap_trace.proofs.examples.worked_traces.Goals as goal
 

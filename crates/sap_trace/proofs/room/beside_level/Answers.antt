@@ -1,6 +1,6 @@
 use Rattle.std.proofs.Common.{length, ap, arith}
 use Rattle.sap_check.specs.Checked.{tree_in}
-use Rattle.sap_report.proofs.SiteLines.{site-within}
+use Rattle.sap_check.proofs.SiteEntities.{site-within}
 use Rattle.sap_trace.proofs.Rooms.{beside_level}
 use Rattle.sap_trace.proofs.room.beside_level.Goals as goal
 

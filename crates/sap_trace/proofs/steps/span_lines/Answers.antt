@@ -1,5 +1,5 @@
 use Rattle.std.proofs.Common.{◌≡◌, ℕ, ◌+◌, List, ◌++◌, Option, length, map, replicate, refl, sym, ap, ◌∙◌, subst, arith}
-use Rattle.sap_maps.specs.Maps.{Valuation}
+use Rattle.sap_cycle.specs.Maps.{Valuation}
 use Rattle.sap_meaning.specs.Cycle.{Tagged}
 use Rattle.sap_net.specs.Net.{Net}
 use Rattle.sap_net.specs.Runs.{InputsFit, IsCycle, observed}

@@ -1,0 +1,10 @@
+pub use Rattle.sap_ir.specs.Calcs
+pub use Rattle.sap_ir.specs.Plain.Nested
+pub use Rattle.sap_ir.specs.Plain.Views
+pub use Rattle.sap_meaning.specs.Runs
+pub use Rattle.sap_program.specs.Hangs
+pub use Rattle.sap_resolve.specs.Sized.Ranges
+pub use Rattle.sap_tagged.specs.Commands
+pub use Rattle.sap_tagged.specs.Keys
+pub use Rattle.sap_tagged.specs.Levels
+pub use Rattle.sap_terms.specs.Code

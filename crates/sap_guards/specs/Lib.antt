@@ -1,0 +1,2 @@
+pub use Rattle.sap_terms.specs.Ranges
+pub use Rattle.sap_terms.specs.Code
