@@ -10,55 +10,42 @@ use std::test::Fail;
 /// A desk over the host's files whose two streams are buffers.
 type Host<'a> = HostDesk<&'a HostRuntime, &'a mut Vec<u8>, &'a mut Vec<u8>>;
 
-fn is_missing(alloc: Global, desk: &mut Host<'_>, name: &str) -> bool {
-    matches!(read_file(alloc, desk, name), Err(DeskError::Failed))
-}
-
-fn takes(desk: &mut Host<'_>, name: &str, bytes: &[u8]) -> bool {
-    write_file(desk, name, bytes).is_ok()
-}
-
-fn gives(alloc: Global, desk: &mut Host<'_>, name: &str, bytes: &[u8]) -> bool {
+/// Whether a file holds these bytes, or where none are wanted isn't there.
+fn gives(alloc: Global, desk: &mut Host<'_>, name: &str, wanted: Option<&[u8]>) -> bool {
     match read_file(alloc, desk, name) {
-        Ok(held) => held.as_slice() == bytes,
-        Err(_) => false,
+        Ok(held) => wanted == Some(held.as_slice()),
+        Err(DeskError::Failed) => wanted.is_none(),
+        Err(DeskError::Memory) => false,
     }
 }
 
 /// Whether a missing file fails, and a file holds what is written to it.
 fn keeps(alloc: Global, desk: &mut Host<'_>, name: &str, bytes: &[u8]) -> bool {
-    is_missing(alloc, desk, name) && takes(desk, name, bytes) && gives(alloc, desk, name, bytes)
+    gives(alloc, desk, name, None)
+        && write_file(desk, name, bytes).is_ok()
+        && gives(alloc, desk, name, Some(bytes))
+}
+
+fn keeps_a_file(alloc: Global, rt: &HostRuntime) -> bool {
+    let mut output = Vec::new(alloc);
+    let mut errors = Vec::new(alloc);
+    match HostDesk::new(alloc, rt, &mut output, &mut errors) {
+        Ok(mut desk) => keeps(alloc, &mut desk, "made", &[b'x'; 5000]),
+        Err(_) => false,
+    }
 }
 
 #[test]
-fn the_host_keeps_what_is_written_to_a_file(rt: HostRuntime) -> Result<(), Fail> {
-    let alloc = rt.alloc();
-    let mut output = Vec::new(alloc);
-    let mut errors = Vec::new(alloc);
-    let mut desk = HostDesk::new(alloc, &rt, &mut output, &mut errors)?;
-    assert!(rt; keeps(alloc, &mut desk, "made", &[b'x'; 5000]));
-    fs::remove_file(&rt, "made")?;
-    Ok(())
-}
-
-fn takes_output(desk: &mut Host<'_>, text: &[u8]) -> bool {
-    write_output(desk, text).is_ok()
-}
-
-fn takes_line(desk: &mut Host<'_>, parts: &[&[u8]]) -> bool {
-    write_line(desk, parts).is_ok()
-}
-
-fn ends(desk: &mut Host<'_>, channel: usize) -> bool {
-    desk.finish(channel).is_ok()
+fn the_host_keeps_what_is_written_to_a_file(rt: HostRuntime) {
+    assert!(rt; keeps_a_file(rt.alloc(), &rt) && fs::remove_file(&rt, "made").is_ok());
 }
 
 /// Whether the output and the fault lines take a text each, and no line once they are finished.
 fn takes_texts(desk: &mut Host<'_>) -> bool {
-    takes_output(desk, b"row")
-        && takes_line(desk, &[b"desk: ", b"no such file"])
-        && ends(desk, 2)
-        && !takes_line(desk, &[b"late"])
+    write_output(desk, b"row").is_ok()
+        && write_line(desk, &[b"desk: ", b"no such file"]).is_ok()
+        && desk.finish(2).is_ok()
+        && write_line(desk, &[b"late"]).is_err()
 }
 
 #[test]
@@ -98,14 +85,6 @@ fn is_channel(answer: Result<usize, DeskError>, wanted: Option<usize>) -> bool {
     }
 }
 
-fn opens(desk: &mut MemoryDesk, name: &str, wanted: Option<usize>) -> bool {
-    is_channel(desk.open_in(name), wanted)
-}
-
-fn creates(desk: &mut MemoryDesk, name: &str, wanted: Option<usize>) -> bool {
-    is_channel(desk.create(name), wanted)
-}
-
 fn is_text(bytes: &[u8], wanted: Option<&[u8]>) -> bool {
     match wanted {
         Some(text) => bytes == text,
@@ -121,14 +100,6 @@ fn reads(desk: &mut MemoryDesk, channel: usize, wanted: Option<&[u8]>) -> bool {
     }
 }
 
-fn writes(desk: &mut MemoryDesk, channel: usize, bytes: &[u8], done: bool) -> bool {
-    desk.write(channel, bytes).is_ok() == done
-}
-
-fn finishes(desk: &mut MemoryDesk, channel: usize, done: bool) -> bool {
-    desk.finish(channel).is_ok() == done
-}
-
 fn holds(desk: &MemoryDesk, name: &str, wanted: Option<&[u8]>) -> bool {
     match desk.file(name) {
         Some(bytes) => is_text(bytes, wanted),
@@ -136,27 +107,19 @@ fn holds(desk: &MemoryDesk, name: &str, wanted: Option<&[u8]>) -> bool {
     }
 }
 
-fn has_output(desk: &MemoryDesk, bytes: &[u8]) -> bool {
-    desk.output() == bytes
-}
-
-fn has_fault_text(desk: &MemoryDesk, bytes: &[u8]) -> bool {
-    desk.fault_text() == bytes
-}
-
 /// Makes a call; whether it answers what is said.
 fn is_so(desk: &mut MemoryDesk, call: &Call) -> bool {
     match call {
         Call::Put(name, bytes) => desk.put_file(name, bytes).is_ok(),
         Call::FailAt(number) => desk.fail_at(*number).is_ok(),
-        Call::OpenIn(name, channel) => opens(desk, name, *channel),
-        Call::Create(name, channel) => creates(desk, name, *channel),
+        Call::OpenIn(name, channel) => is_channel(desk.open_in(name), *channel),
+        Call::Create(name, channel) => is_channel(desk.create(name), *channel),
         Call::Read(channel, bytes) => reads(desk, *channel, *bytes),
-        Call::Write(channel, bytes, done) => writes(desk, *channel, bytes, *done),
-        Call::Finish(channel, done) => finishes(desk, *channel, *done),
+        Call::Write(channel, bytes, done) => desk.write(*channel, bytes).is_ok() == *done,
+        Call::Finish(channel, done) => desk.finish(*channel).is_ok() == *done,
         Call::File(name, bytes) => holds(desk, name, *bytes),
-        Call::Output(bytes) => has_output(desk, bytes),
-        Call::FaultText(bytes) => has_fault_text(desk, bytes),
+        Call::Output(bytes) => is_text(desk.output(), Some(bytes)),
+        Call::FaultText(bytes) => is_text(desk.fault_text(), Some(bytes)),
     }
 }
 
@@ -166,66 +129,71 @@ struct Trial {
     calls: &'static [Call],
 }
 
-static READS_WHAT_THERE_IS_AND_FITS: Trial = Trial {
-    room: 0,
-    calls: &[
-        Call::Put("a", b"old"),
-        Call::Put("a", b"abcd"),
-        Call::OpenIn("a", Some(3)),
-        Call::Read(3, Some(b"abc")),
-        Call::Read(3, Some(b"d")),
-        Call::Read(3, Some(b"")),
-        Call::Finish(3, true),
-        Call::Read(3, None),
-        Call::OpenIn("b", None),
-    ],
-};
+static TRIALS: [Trial; 4] = [
+    // reads what there is and fits
+    Trial {
+        room: 0,
+        calls: &[
+            Call::Put("a", b"old"),
+            Call::Put("a", b"abcd"),
+            Call::OpenIn("a", Some(3)),
+            Call::Read(3, Some(b"abc")),
+            Call::Read(3, Some(b"d")),
+            Call::Read(3, Some(b"")),
+            Call::Finish(3, true),
+            Call::Read(3, None),
+            Call::OpenIn("b", None),
+        ],
+    },
 
-static KEEPS_ROOM_ON_EACH_CHANNEL: Trial = Trial {
-    room: 4,
-    calls: &[
-        Call::Write(1, b"abc", true),
-        Call::Write(1, b"def", false),
-        Call::Output(b"abcd"),
-        Call::Write(2, b"line", true),
-        Call::Finish(2, true),
-        Call::Write(2, b"", false),
-        Call::FaultText(b"line"),
-    ],
-};
+    // keeps room on each channel
+    Trial {
+        room: 4,
+        calls: &[
+            Call::Write(1, b"abc", true),
+            Call::Write(1, b"def", false),
+            Call::Output(b"abcd"),
+            Call::Write(2, b"line", true),
+            Call::Finish(2, true),
+            Call::Write(2, b"", false),
+            Call::FaultText(b"line"),
+        ],
+    },
 
-static FAILS_AT_THE_LISTED_CALLS: Trial = Trial {
-    room: 9,
-    calls: &[
-        Call::FailAt(1),
-        Call::FailAt(3),
-        Call::Create("a", None),
-        Call::File("a", None),
-        Call::Create("a", Some(3)),
-        Call::Write(3, b"abcde", false),
-        Call::Write(3, b"cd", true),
-        Call::File("a", Some(b"abcd")),
-    ],
-};
+    // fails at the listed calls
+    Trial {
+        room: 9,
+        calls: &[
+            Call::FailAt(1),
+            Call::FailAt(3),
+            Call::Create("a", None),
+            Call::File("a", None),
+            Call::Create("a", Some(3)),
+            Call::Write(3, b"abcde", false),
+            Call::Write(3, b"cd", true),
+            Call::File("a", Some(b"abcd")),
+        ],
+    },
 
-// Channel 3 is open for reading, and channel 4 for writing.
-static FAILS_ON_A_CHANNEL_THAT_IS_NOT_OPEN_FOR_THE_CALL: Trial = Trial {
-    room: 4,
-    calls: &[
-        Call::Put("a", b"a"),
-        Call::OpenIn("a", Some(3)),
-        Call::Create("b", Some(4)),
-        Call::Read(0, None),
-        Call::Read(1, None),
-        Call::Read(4, None),
-        Call::Read(99, None),
-        Call::Write(0, b"w", false),
-        Call::Write(3, b"w", false),
-        Call::Write(99, b"w", false),
-        Call::Finish(0, false),
-        Call::Finish(99, false),
-    ],
-};
+    // fails on a channel that isn't open for the call: channel 3 is open for reading, and channel 4 for writing
+    Trial {
+        room: 4,
+        calls: &[
+            Call::Put("a", b"a"),
+            Call::OpenIn("a", Some(3)),
+            Call::Create("b", Some(4)),
+            Call::Read(0, None),
+            Call::Read(1, None),
+            Call::Read(4, None),
+            Call::Read(99, None),
+            Call::Write(0, b"w", false),
+            Call::Write(3, b"w", false),
+            Call::Write(99, b"w", false),
+            Call::Finish(0, false),
+            Call::Finish(99, false),
+        ],
+    },
+];
 
 fn answers_as_said(alloc: Global, trial: &Trial) -> bool {
     let Ok(mut desk) = MemoryDesk::new(alloc, trial.room) else {
@@ -239,15 +207,17 @@ fn answers_as_said(alloc: Global, trial: &Trial) -> bool {
     true
 }
 
+/// The place of the first trial that is otherwise than said.
+fn first_wrong(alloc: Global, trials: &[Trial]) -> Option<usize> {
+    for (place, trial) in trials.iter().enumerate() {
+        if !answers_as_said(alloc, trial) {
+            return Some(place);
+        }
+    }
+    None
+}
+
 #[test]
 fn desks_in_memory_answer_as_said(rt: HostRuntime) {
-    assert!(rt; answers_as_said(rt.alloc(), &READS_WHAT_THERE_IS_AND_FITS));
-    assert!(rt; answers_as_said(rt.alloc(), &KEEPS_ROOM_ON_EACH_CHANNEL));
-    assert!(rt; answers_as_said(rt.alloc(), &FAILS_AT_THE_LISTED_CALLS));
-    assert!(rt;
-        answers_as_said(
-            rt.alloc(),
-            &FAILS_ON_A_CHANNEL_THAT_IS_NOT_OPEN_FOR_THE_CALL
-        )
-    );
+    assert!(rt; first_wrong(rt.alloc(), &TRIALS).is_none());
 }

@@ -8,10 +8,14 @@ ghost use Rattle.sap_compile.specs.Parts.{checked_of, hang_of, module_of, netlis
 ghost use Rattle.sap_compile.specs.Runs.{HasOneRunOnStreams};
 ghost use Rattle.sap_hang.specs.Hang.{IsHangTable};
 ghost use Rattle.sap_interface.specs.Designs.{StandsForDesign};
+ghost use Rattle.sap_tags.specs.Items.{IsSmall};
+ghost use Rattle.sap_trim.specs.Reads.{ReadsWires};
+ghost use Rattle.sap_trim.specs.Trimmed.{SharesWires};
 
 use crate::compiled::Compiled;
 use crate::stages::netlist;
 use sap_check::Checked;
+use sap_hang::HangTable;
 use sap_hang::hang::hang;
 use sap_net::laws::one_run;
 use sap_net::netlist::Netlist;
@@ -36,6 +40,19 @@ fn runs(checked: &Checked, netlist: &Netlist)
     well_formed_serves()
 }
 
+/// The netlist that stands for a checked design.
+fn netlist_for(alloc: Global, checked: &Checked, hang: &HangTable) -> Result<Netlist, AllocError>
+    requires { IsHangTable (tree_in checked.now) hang.now }
+    ensures stands { IfOk result (λ n. StandsForDesign (levels_in checked.now) (tree_in checked.now) n) }
+    ensures shared { IfOk result (λ n. SharesWires n) }
+    ensures read { IfOk result (λ n. ReadsWires n) }
+    ensures small { IfOk result (λ n. IsSmall (levels_in checked.now) (tree_in checked.now) n) }
+{
+    let program = resolve(alloc, checked, hang)?;
+    let plain = insert(alloc, checked, &program)?;
+    netlist(alloc, &plain)
+}
+
 /// Compiles a checked design.
 pub(crate) fn module(alloc: Global, checked: Checked) -> Result<Compiled, AllocError>
     ensures same { IfOk result (λ c. checked_of c ≡ checked) }
@@ -44,9 +61,7 @@ pub(crate) fn module(alloc: Global, checked: Checked) -> Result<Compiled, AllocE
 {
     checked.lawful();
     let hang = hang(alloc, checked.design(), checked.names())?;
-    let program = resolve(alloc, &checked, &hang)?;
-    let plain = insert(alloc, &checked, &program)?;
-    let netlist = netlist(alloc, &plain)?;
+    let netlist = netlist_for(alloc, &checked, &hang)?;
     runs(&checked, &netlist);
     let module = print(alloc, &netlist)?;
     Ok(Compiled {

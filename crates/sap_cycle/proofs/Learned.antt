@@ -1,5 +1,5 @@
 -- What is known finds the operands' places and widths.
-use Rattle.std.proofs.Common.{◌≡◌, ℕ, zero, suc, ◌+◌, ◌<◌, List, [], ◌∷◌, ◌++◌, map, Some, length, get_or, take, sym, ap, ◌∙◌, subst, refl, arith, append_assoc, append-nil, inl, inr}
+use Rattle.std.proofs.Common.{◌≡◌, ℕ, zero, suc, ◌+◌, ◌<◌, List, [], ◌∷◌, ◌++◌, map, Some, length, get_or, take, sym, ap, ap₂, ◌∙◌, subst, refl, arith, append_assoc, append-nil, inl, inr}
 use Rattle.std.specs.Prelude.{slice_get, slice_index, unwrap_or, Contains}
 use Rattle.std.specs.List.{AllByRecursion}
 use Rattle.std.proofs.lemmas.List.{length-map, map_more}
@@ -29,6 +29,15 @@ pub all_get_or : {A : Type 0} (P : A → Type 0) (xs : List A) (i : ℕ) (d : A)
 all_get_or {A} P [] i d h lt = absurd (omega arith)
 all_get_or {A} P (x ∷ xs) zero d h lt = h.0
 all_get_or {A} P (x ∷ xs) (suc i) d h lt = all_get_or P xs i d h.1 (omega arith)
+
+-- one more image behind those of a list's first items
+pub pushed : {A B : Type 0} (f : A → B) (before old new : List B) (xs : List A) (i : ℕ) (x : A) (y : B) → i < length xs → x ≡ get_or xs i x
+    → old ≡ before ++ map f (take i xs) → new ≡ old ++ y ∷ [] → y ≡ f x → new ≡ before ++ map f (take (i + 1) xs)
+pushed {A} {B} f before old new xs i x y lt is so push image =
+    push
+    ∙ ap₂ (λ (l : List B) (z : B). l ++ z ∷ []) so (image ∙ ap f is)
+    ∙ append_assoc before (map f (take i xs)) (f (get_or xs i x) ∷ [])
+    ∙ ap (λ l. before ++ l) (sym (map_more f xs i x lt))
 
 -- one more name is known
 pub learned : {A : Type 0} (key : A → Name) (width : A → ℕ) (f : Name → ℕ) (ms : List Memory) (names : List Name) (xs : List A) (i : ℕ) (x : A) (old new : Known) → i < length xs → x ≡ get_or xs i x

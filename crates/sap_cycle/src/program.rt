@@ -7,7 +7,7 @@ use crate::steps::{Part, Slot, Step, WritePort, copy_to, read_all, settle, store
 
 /// The steps of the wires in order, with the parts of all concatenations; what each register takes at the edge, and the
 /// write port of each memory.
-#[derive(Debug, Drop)]
+#[derive(Drop)]
 pub struct Program {
     pub parts: Vec<Part>,
     pub steps: Vec<Step>,

@@ -16,7 +16,7 @@ use std::collections::HashMap;
 use std::marker::Model;
 
 /// The place of a name in a runner.
-#[derive(Clone, Copy, Debug)]
+#[derive(Clone, Copy)]
 pub struct Place {
     index: usize,
 }

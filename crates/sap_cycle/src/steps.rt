@@ -6,21 +6,21 @@ ghost use Rattle.sap_cycle.specs.Steps.{slot_value, joined_from, step_value, Slo
 use sap_bits::{Op1, Op2, apply1, apply2, concat, slice};
 
 /// What an operator reads: a place in the array of values, or a number.
-#[derive(Clone, Copy, Debug)]
+#[derive(Clone, Copy)]
 pub enum Slot {
     At(usize),
     Number(u64),
 }
 
 /// An operand of a concatenation.
-#[derive(Clone, Copy, Debug)]
+#[derive(Clone, Copy)]
 pub struct Part {
     pub slot: Slot,
     pub width: u32,
 }
 
 /// The right side of a wire over places.
-#[derive(Clone, Copy, Debug)]
+#[derive(Clone, Copy)]
 pub enum Step {
     Copy(Slot),
     One(Op1, u32, Slot),
@@ -34,7 +34,7 @@ pub enum Step {
 }
 
 /// The write port of a memory whose cells begin at `base`.
-#[derive(Clone, Copy, Debug)]
+#[derive(Clone, Copy)]
 pub struct WritePort {
     pub base: usize,
     pub enable: Slot,

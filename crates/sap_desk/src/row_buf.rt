@@ -7,7 +7,7 @@ use std::marker::Model;
 use std::mem;
 
 /// Bytes in a buffer that has memory for a number of them.
-#[derive(Debug, Drop)]
+#[derive(Drop)]
 pub struct RowBuf {
     row: Vec<u8>,
 }

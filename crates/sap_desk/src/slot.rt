@@ -1,7 +1,7 @@
 // The channels of a desk over the host, by their numbers.
 ghost use Rattle.std.specs.Prelude.{◌≡◌, ◌≤◌, ◌<◌, ◌^◌, ◌+◌, ℕ, length, vec_len, vec_capacity, IfOk, IfSome, IfNone, IsSome, IsTrue, false};
 ghost use Rattle.sap_desk.specs.Desk.{at_number};
-ghost use Rattle.sap_desk.specs.Host.{given_of, readers_of, writers_of, open_of, is_open};
+ghost use Rattle.sap_desk.specs.Host.{given_of, readers_of, writers_of, open_of, is_open, is_reading, is_writing};
 
 use std::alloc::{AllocError, Global};
 use std::io::{Read, Write};
@@ -49,6 +49,28 @@ pub fn add<F: Drop>(slots: &mut Vec<Slot<F>>, handle: Handle<F>) -> usize
     channel
 }
 
+impl<F: Read + Drop> Slot<F> {
+    // The next bytes of its file, if that is open for reading, fewer than 2^32 of them in all.
+    fn read(&mut self, buf: &mut [u8]) -> Option<usize>
+        ensures within { IfSome result (λ count. count ≤ length buf.old) }
+        ensures reading { IsSome result → IsTrue (is_reading self.old.handle) }
+        ensures given { IfSome result (λ count. self.new.given ≡ self.old.given + count) }
+        ensures bounded { IfSome result (λ _. self.new.given < 2 ^ 32) }
+        ensures given_stands { IfNone result (self.new.given ≡ self.old.given) }
+    {
+        let Handle::Reading(file) = &mut self.handle else {
+            return None;
+        };
+        let count = file.read(buf).ok()?;
+        let given = self.given.checked_add(count as u64)?;
+        if given >= 1 << 32 {
+            return None;
+        }
+        self.given = given;
+        Some(count)
+    }
+}
+
 // The next bytes of a file that is open for reading, fewer than 2^32 of them in all.
 pub fn read<F: Read + Drop>(
     slots: &mut Vec<Slot<F>>,
@@ -65,17 +87,7 @@ pub fn read<F: Read + Drop>(
     if channel >= slots.len() {
         return None;
     }
-    let slot = &mut slots[channel];
-    let Handle::Reading(file) = &mut slot.handle else {
-        return None;
-    };
-    let count = file.read(buf).ok()?;
-    let given = slot.given.checked_add(count as u64)?;
-    if given >= 1 << 32 {
-        return None;
-    }
-    slot.given = given;
-    Some(count)
+    slots[channel].read(buf)
 }
 
 // Writes all of the bytes where the channel goes, if it is open for writing.
@@ -94,7 +106,20 @@ pub fn write<F: Write + Drop, O: Write, E: Write>(
     if channel >= slots.len() {
         return false;
     }
-    match &mut slots[channel].handle {
+    write_to(&mut slots[channel].handle, output, errors, bytes)
+}
+
+// Writes all of the bytes where a handle goes, if it is for writing.
+fn write_to<F: Write + Drop, O: Write, E: Write>(
+    handle: &mut Handle<F>,
+    output: &mut O,
+    errors: &mut E,
+    bytes: &[u8],
+) -> bool
+    ensures writing { IsTrue result → IsTrue (is_writing handle.old) }
+    ensures open_stands { is_open handle.new ≡ is_open handle.old }
+{
+    match handle {
         Handle::Writing(file) => write_whole(file, bytes),
         Handle::Output => write_whole(output, bytes),
         Handle::Errors => write_whole(errors, bytes),

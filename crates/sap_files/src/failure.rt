@@ -4,7 +4,7 @@ use crate::refusal::Refusal;
 use std::alloc::AllocError;
 
 /// Why a command ends without its result.
-#[derive(Debug, Drop)]
+#[derive(Drop)]
 pub enum Failure<'a> {
     Refused(Refusal<'a>),
     /// A call failed on the file of this name, or on the output.

@@ -4,7 +4,7 @@ use sap_names::fault::CheckFault;
 use sap_parse::fault::ReadFault;
 
 /// The first fault of the text of a design over a lattice; never want of memory.
-#[derive(Debug, Drop)]
+#[derive(Drop)]
 pub enum DesignFault {
     /// The text is no design within the limits.
     Read(ReadFault),

@@ -6,6 +6,7 @@ ghost use Rattle.sap_lines.specs.declared.stepping.TheConstants.{LARGE_BYTES};
 ghost use Rattle.sap_files.specs.Asks.{prints};
 ghost use Rattle.sap_files.specs.Steps.{Ends, HasWhole, ending_of, printed_fault, printed_text, seen};
 
+use crate::buffers::Buffers;
 use crate::failure::Failure;
 use crate::output::end;
 use sap_desk::{Desk, RowBuf};
@@ -37,4 +38,31 @@ pub fn print_steps<'a, D: Desk, S: Steps>(
         Err(Stopped::Output) => Err(Failure::Desk("output")),
         Err(Stopped::Memory) => Err(Failure::Memory),
     }
+}
+
+/// Prints what the steps on the lines of a stimulus file show, with memory of its own, and ends as its lines do.
+pub fn print_with<'a, D: Desk, S: Steps + Drop>(
+    desk: &mut D,
+    stimulus: &'a str,
+    mut steps: S,
+    mut held: Buffers,
+) -> Result<(), Failure<'a>>
+    requires lines { IsNew (S.fields steps) held.lines }
+    requires behind { S.behind steps [] }
+    requires shows { S.shows steps [] [] }
+    requires room { S.room steps ≤ held.out.room }
+    requires waiting { held.waiting.bytes ≡ [] }
+    requires large { LARGE_BYTES ≤ held.waiting.room }
+    requires whole { HasWhole (S.shows steps) (S.levels steps) (S.fields steps) }
+    ensures { Ends (prints stimulus.now (printed_text (S.shows steps) (S.levels steps) (S.fields steps)) (printed_fault (S.levels steps) (S.fields steps)))
+        (ending_of result) (seen D.told D.faults D.lost D.sure desk.old) (seen D.told D.faults D.lost D.sure desk.new) }
+{
+    print_steps(
+        desk,
+        stimulus,
+        &mut steps,
+        &mut held.lines,
+        &mut held.out,
+        &mut held.waiting,
+    )
 }

@@ -11,7 +11,7 @@ use sap_stim::fault::StimFault;
 use sap_vread::fault::ModFault;
 
 /// Why a file is refused, a level, or two streams.
-#[derive(Debug, Drop)]
+#[derive(Drop)]
 pub enum Refusal<'a> {
     Lattice(LatFileFault),
     Design(DesignFault),

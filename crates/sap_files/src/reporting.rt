@@ -33,6 +33,10 @@ pub fn report_design<'a, D: Desk>(
 {
     let file = lattice_of_file(alloc, desk, lattice)?;
     let checked = checked_of_file(alloc, desk, &file.lattice, design)?;
-    let text = report_text(alloc, &checked)?;
+    let made = report_text(alloc, &checked);
+    // The design gives its memory back before its report is written.
+    drop(checked);
+    drop(file);
+    let text = made?;
     put(desk, &text)
 }

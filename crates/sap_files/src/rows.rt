@@ -8,7 +8,7 @@ ghost use Rattle.sap_files.specs.Steps.{Ends, ending_of, seen};
 
 use crate::buffers::take_buffers;
 use crate::failure::Failure;
-use crate::printing::print_steps;
+use crate::printing::print_with;
 use sap_desk::{Desk, RowBuf};
 use sap_lattice::Lattice;
 use sap_lines::Steps;
@@ -64,17 +64,10 @@ pub fn print_rows<'a, D: Desk>(
     one_run(&netlist);
     let simulation = Simulation::new(alloc, lattice, netlist)?;
     simulation.rows_add_up(lattice);
-    let mut held = take_buffers(alloc, simulation.fields(), simulation.room())?;
-    let mut steps = Rows {
+    let held = take_buffers(alloc, simulation.fields(), simulation.room())?;
+    let steps = Rows {
         simulation,
         lattice,
     };
-    print_steps(
-        desk,
-        stimulus,
-        &mut steps,
-        &mut held.lines,
-        &mut held.out,
-        &mut held.waiting,
-    )
+    print_with(desk, stimulus, steps, held)
 }

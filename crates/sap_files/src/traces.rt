@@ -10,7 +10,7 @@ ghost use Rattle.sap_files.specs.Steps.{Ends, ending_of, seen};
 
 use crate::buffers::take_buffers;
 use crate::failure::Failure;
-use crate::printing::print_steps;
+use crate::printing::print_with;
 use sap_check::Checked;
 use sap_desk::{Desk, RowBuf};
 use sap_lattice::Lattice;
@@ -63,14 +63,7 @@ pub fn print_trace<'a, D: Desk>(
 {
     let tracing = Tracing::new(alloc, checked, netlist)?;
     tracing.lines_add_up(checked);
-    let mut held = take_buffers(alloc, tracing.fields(), tracing.room())?;
-    let mut steps = Traces { tracing, checked };
-    print_steps(
-        desk,
-        stimulus,
-        &mut steps,
-        &mut held.lines,
-        &mut held.out,
-        &mut held.waiting,
-    )
+    let held = take_buffers(alloc, tracing.fields(), tracing.room())?;
+    let steps = Traces { tracing, checked };
+    print_with(desk, stimulus, steps, held)
 }

@@ -7,7 +7,7 @@ use sap_bits::{Op1, Op2, apply1, apply2, mask};
 use sap_net::parts::Operand;
 
 /// What a right side folds to: itself, one of its operands or the negation of one, a number, or the condition with an arm.
-#[derive(Clone, Copy, Debug)]
+#[derive(Clone, Copy)]
 pub enum Outcome {
     Keep,
     Condition,

@@ -43,7 +43,7 @@ fn width_of(wires: &Wires, operand: &Operand) -> Option<u32>
 }
 
 /// A part of a concatenation, and how many bits are behind it.
-#[derive(Clone, Copy, Debug)]
+#[derive(Clone, Copy)]
 pub struct Spot {
     pub part: usize,
     pub behind: u32,

@@ -189,6 +189,34 @@ module _ (ds : List Decl) (h : Home) (x : List ℕ) where
       en ∙ ap (λ (z : Bool). old ++ z ∷ []) (eb ∙ ap (λ (k : SimpleCommand). simple_touches ds h k x) ec ∙ sym (touches-do ds h (fall_to_child place) x))
       ∙ ap (λ (k : SimpleCommand). old ++ touching ds h x (simple_points k)) (sym ec)
 
+  -- what a command touches that has blocks
+  pub try_touched : (c : Command) (k : SimpleCommand) (place : Place) (b : Block) (list : List Cmd) (own handled : Bool)
+      → c ≡ try k place (block_of b) → list ≡ b.commands.items → own ≡ simple_touches ds h k x → handled ≡ list_touches ds h list x → (own || handled) ≡ touches ds h c x
+  try_touched c k place b list own handled ec el eo eh =
+      ap (λ (a : Bool). a || handled) eo ∙ ap (λ (a : Bool). simple_touches ds h k x || a) (eh ∙ ap (λ (z : List Cmd). list_touches ds h z x) el) ∙ sym (touches-try ds h k place b x)
+      ∙ ap (λ (z : Command). touches ds h z x) (sym ec)
+
+  pub then_touched : (c : Command) (k : SimpleCommand) (place : Place) (a b : Block) (la lb : List Cmd) (own taken left : Bool)
+      → c ≡ try_then k place (block_of a) (block_of b) → la ≡ a.commands.items → lb ≡ b.commands.items → own ≡ simple_touches ds h k x → taken ≡ list_touches ds h la x
+      → left ≡ list_touches ds h lb x → (own || (taken || left)) ≡ touches ds h c x
+  then_touched c k place a b la lb own taken left ec el em eo et er =
+      ap (λ (z : Bool). z || (taken || left)) eo ∙ ap (λ (z : Bool). simple_touches ds h k x || (z || left)) (et ∙ ap (λ (z : List Cmd). list_touches ds h z x) el)
+      ∙ ap (λ (z : Bool). simple_touches ds h k x || (list_touches ds h a.commands.items x || z)) (er ∙ ap (λ (z : List Cmd). list_touches ds h z x) em)
+      ∙ sym (touches-then ds h k place a b x) ∙ ap (λ (z : Command). touches ds h z x) (sym ec)
+
+  pub case_touched : (c : Command) (place : Place) (e : Expression) (arms : List Arm) (last : Block) (la : List Arm) (lb : List Cmd) (taken left : Bool)
+      → c ≡ case_of place e (arms_of arms (block_of last)) → la ≡ arms → lb ≡ last.commands.items → taken ≡ arms_touch ds h la x → left ≡ list_touches ds h lb x
+      → (taken || left) ≡ touches ds h c x
+  case_touched c place e arms last la lb taken left ec el em et er =
+      ap (λ (z : Bool). z || left) (et ∙ ap (λ (z : List Arm). arms_touch ds h z x) el) ∙ ap (λ (z : Bool). arms_touch ds h arms x || z) (er ∙ ap (λ (z : List Cmd). list_touches ds h z x) em)
+      ∙ sym (touches-case ds h place e arms last x) ∙ ap (λ (z : Command). touches ds h z x) (sym ec)
+
+  pub if_touched : (c : Command) (place : Place) (e : Expression) (one : Block) (list : List Cmd) (other : ElseBlock) (taken left : Bool)
+      → c ≡ if_else place e (block_of one) other → list ≡ one.commands.items → taken ≡ list_touches ds h list x → left ≡ else_touches ds h other x → (taken || left) ≡ touches ds h c x
+  if_touched c place e one list other taken left ec el et er =
+      ap (λ (a : Bool). a || left) (et ∙ ap (λ (z : List Cmd). list_touches ds h z x) el) ∙ ap (λ (a : Bool). list_touches ds h one.commands.items x || a) er
+      ∙ sym (touches-if ds h place e one other x) ∙ ap (λ (z : Command). touches ds h z x) (sym ec)
+
   -- a column with a place that is filled in at the end
   pub try_filled : (c : Command) (k : SimpleCommand) (place : Place) (b : Block) (list : List Cmd) (own handled : Bool) (old simple pushed inside : List Bool) (at : ℕ)
       → c ≡ try k place (block_of b) → list ≡ b.commands.items → simple ≡ old ++ touching ds h x (simple_points k) → at ≡ length simple → pushed ≡ simple ++ false ∷ []
@@ -199,8 +227,7 @@ module _ (ds : List Decl) (h : Home) (x : List ℕ) where
       let l = list_column ds h x b.commands.items in
       let i : inside ≡ simple ++ false ∷ l =
       ei ∙ ap (λ (z : List Cmd). pushed ++ list_column ds h x z) el ∙ ap (λ (z : List Bool). z ++ l) ep ∙ append_assoc simple (false ∷ []) l in
-      let en : new ≡ touches ds h (try k place (block_of b)) x =
-      ap (λ (a : Bool). a || handled) eo ∙ ap (λ (a : Bool). simple_touches ds h k x || a) (eh ∙ ap (λ (z : List Cmd). list_touches ds h z x) el) ∙ sym (touches-try ds h k place b x) in
+      let en : new ≡ touches ds h (try k place (block_of b)) x = try_touched _ k place b list own handled refl el eo eh in
       ap (λ (z : List Bool). set z at new) i ∙ ap (λ (z : ℕ). set (simple ++ false ∷ l) z new) ea ∙ set-append_seam simple false l new
       ∙ ap (λ (z : List Bool). z ++ new ∷ l) es ∙ append_assoc old (touching ds h x (simple_points k)) (new ∷ l)
       ∙ ap (λ (z : Bool). old ++ (touching ds h x (simple_points k) ++ z ∷ l)) en
@@ -218,10 +245,7 @@ module _ (ds : List Decl) (h : Home) (x : List ℕ) where
       ej ∙ ap (λ (z : List Cmd). first ++ list_column ds h x z) em
       ∙ ap (λ (z : List Bool). z ++ r) (ei ∙ ap (λ (z : List Cmd). pushed ++ list_column ds h x z) el ∙ ap (λ (z : List Bool). z ++ l) ep ∙ append_assoc simple (false ∷ []) l)
       ∙ append_assoc simple (false ∷ l) r in
-      let en : new ≡ touches ds h (try_then k place (block_of a) (block_of b)) x =
-      ap (λ (z : Bool). z || (taken || left)) eo ∙ ap (λ (z : Bool). simple_touches ds h k x || (z || left)) (et ∙ ap (λ (z : List Cmd). list_touches ds h z x) el)
-      ∙ ap (λ (z : Bool). simple_touches ds h k x || (list_touches ds h a.commands.items x || z)) (er ∙ ap (λ (z : List Cmd). list_touches ds h z x) em)
-      ∙ sym (touches-then ds h k place a b x) in
+      let en : new ≡ touches ds h (try_then k place (block_of a) (block_of b)) x = then_touched _ k place a b la lb own taken left refl el em eo et er in
       ap (λ (z : List Bool). set z at new) i ∙ ap (λ (z : ℕ). set (simple ++ false ∷ (l ++ r)) z new) ea ∙ set-append_seam simple false (l ++ r) new
       ∙ ap (λ (z : List Bool). z ++ new ∷ (l ++ r)) es ∙ append_assoc old (touching ds h x (simple_points k)) (new ∷ (l ++ r))
       ∙ ap (λ (z : Bool). old ++ (touching ds h x (simple_points k) ++ z ∷ (l ++ r))) en
@@ -239,9 +263,7 @@ module _ (ds : List Decl) (h : Home) (x : List ℕ) where
       ej ∙ ap (λ (z : List Cmd). first ++ list_column ds h x z) em
       ∙ ap (λ (z : List Bool). z ++ r) (ei ∙ ap (λ (z : List Arm). pushed ++ arms_column ds h x z) el ∙ ap (λ (z : List Bool). z ++ l) ep ∙ append_assoc old (false ∷ []) l)
       ∙ append_assoc old (false ∷ l) r in
-      let en : new ≡ touches ds h (case_of place e (arms_of arms (block_of last))) x =
-      ap (λ (z : Bool). z || left) (et ∙ ap (λ (z : List Arm). arms_touch ds h z x) el) ∙ ap (λ (z : Bool). arms_touch ds h arms x || z) (er ∙ ap (λ (z : List Cmd). list_touches ds h z x) em)
-      ∙ sym (touches-case ds h place e arms last x) in
+      let en : new ≡ touches ds h (case_of place e (arms_of arms (block_of last))) x = case_touched _ place e arms last la lb taken left refl el em et er in
       ap (λ (z : List Bool). set z at new) i ∙ ap (λ (z : ℕ). set (old ++ false ∷ (l ++ r)) z new) ea ∙ set-append_seam old false (l ++ r) new
       ∙ ap (λ (z : Bool). old ++ z ∷ (l ++ r)) en
       ∙ ap (λ (z : List Bool). old ++ z) (sym (case_column place e arms last)) ∙ ap (λ (z : Command). old ++ touching ds h x (command_points z)) (sym ec)
@@ -257,9 +279,7 @@ module _ (ds : List Decl) (h : Home) (x : List ℕ) where
       let i : second ≡ old ++ false ∷ (l ++ r) =
       ej ∙ ap (λ (z : List Bool). z ++ r) (ei ∙ ap (λ (z : List Cmd). pushed ++ list_column ds h x z) el ∙ ap (λ (z : List Bool). z ++ l) ep ∙ append_assoc old (false ∷ []) l)
       ∙ append_assoc old (false ∷ l) r in
-      let en : new ≡ touches ds h (if_else place e (block_of one) other) x =
-      ap (λ (a : Bool). a || left) (et ∙ ap (λ (z : List Cmd). list_touches ds h z x) el) ∙ ap (λ (a : Bool). list_touches ds h one.commands.items x || a) er
-      ∙ sym (touches-if ds h place e one other x) in
+      let en : new ≡ touches ds h (if_else place e (block_of one) other) x = if_touched _ place e one list other taken left refl el et er in
       ap (λ (z : List Bool). set z at new) i ∙ ap (λ (z : ℕ). set (old ++ false ∷ (l ++ r)) z new) ea ∙ set-append_seam old false (l ++ r) new
       ∙ ap (λ (z : Bool). old ++ z ∷ (l ++ r)) en
       ∙ ap (λ (z : List Bool). old ++ z) (sym (if_column place e one other)) ∙ ap (λ (z : Command). old ++ touching ds h x (command_points z)) (sym ec)

@@ -8,7 +8,7 @@ use Rattle.sap_tree.specs.declared.syntax.Cmd.{Cmd}
 use Rattle.sap_tree.specs.declared.syntax.Decl.{Decl}
 use Rattle.sap_tree.specs.declared.syntax.State.{State, out-State}
 use Rattle.sap_tree.specs.Syntax.{Expression, SimpleCommand, lone, try, if_else, try_then, case_of, ElseBlock, no_else, StateTree, state_node, StateList, no_state, and_state}
-use Rattle.sap_tree.specs.Touches.{Home, is_dynamic_kind, is_dynamic_child, simple_assigns, assigns, block_assigns, else_assigns, list_assigns, state_assigns, states_assign, simple_touches, touches, block_touches, else_touches}
+use Rattle.sap_tree.specs.Touches.{Home, is_dynamic_kind, is_dynamic_child, is_dynamic_store, declares_dynamic, simple_assigns, assigns, block_assigns, else_assigns, list_assigns, state_assigns, states_assign, simple_touches, touches, block_touches, else_touches}
 use Rattle.sap_tree.specs.Touches as tree
 use Rattle.sap_tree.specs.Trees.{command_of, commands_of, block_of, arm_block_of, arms_of, else_of, state_of, states_of}
 use Rattle.sap_tree.proofs.Views.{state_of-out}
@@ -86,7 +86,18 @@ child_here name ss n d b h e t =
 pub child_past : (name : List ℕ) (ss : List State) (n : ℕ) → length ss ≤ n → is_dynamic_child (states_of (drop n ss)) name ≡ false
 child_past name ss n h = any_past (λ (s : State). bears name (state_of s)) (λ (l : List State). is_dynamic_child (states_of l) name) (child_none name) (λ s l. child_more name (state_of s) (states_of l)) ss n h
 
-pub ruleset pasts = (commands_past, arms_past, states_past, child_past)
+-- declarations of which one is the dynamic one of this name
+
+pub declared_here : (name : List ℕ) (ds : List Decl) (n : ℕ) (d : Decl) (b : Bool) → n < length ds → d ≡ get_or ds n d → b ≡ declares_dynamic name d
+    → is_dynamic_store (drop n ds) name ≡ (b || is_dynamic_store (drop (n + 1) ds) name)
+unfolding is_dynamic_store
+declared_here name ds n d b h e t = any_here (declares_dynamic name) (λ (l : List Decl). is_dynamic_store l name) refl (λ d l. refl) ds n d b h e t
+
+pub declared_past : (name : List ℕ) (ds : List Decl) (n : ℕ) → length ds ≤ n → is_dynamic_store (drop n ds) name ≡ false
+unfolding is_dynamic_store
+declared_past name ds n h = any_past (declares_dynamic name) (λ (l : List Decl). is_dynamic_store l name) refl (λ d l. refl) ds n h
+
+pub ruleset pasts = (commands_past, arms_past, states_past, child_past, declared_past)
 
 -- what is assigned
 

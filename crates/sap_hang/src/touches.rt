@@ -38,13 +38,16 @@ fn declares_dynamic(declaration: &Decl, name: &Name) -> bool
 }
 
 /// Whether the name is declared as a dynamic register or memory.
-#[tactic(auto, unfolding(sap_tree::specs::Touches::is_dynamic_store))]
+#[tactic(auto, using(crate::proofs::Walks::pasts))]
 pub(crate) fn is_dynamic_store(declarations: &[Decl], name: &Name) -> bool
     ensures { result ≡ tree.is_dynamic_store declarations.now name.now }
 {
-    declarations
-        .iter()
-        .any(|declaration| declares_dynamic(declaration, name))
+    for declaration in declarations {
+        if declares_dynamic(declaration, name) {
+            return true;
+        }
+    }
+    false
 }
 
 #[tactic(auto, using(sap_tree::proofs::Views::views, crate::proofs::Walks::pasts))]

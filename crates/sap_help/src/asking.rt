@@ -13,7 +13,7 @@ use sap_desk::{Desk, write_line, write_output};
 use std::alloc::Global;
 
 /// What is asked: the help, the version, or what a code means.
-#[derive(Clone, Copy, Debug)]
+#[derive(Clone, Copy)]
 pub(crate) enum Question<'a> {
     Help,
     Version,

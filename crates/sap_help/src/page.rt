@@ -62,17 +62,25 @@ fn option<'a>(alloc: Global, name: &'a str, help: &'a str) -> Arg<'a> {
     Arg::new(alloc, name).long(name).help(help)
 }
 
-fn command<'a>(alloc: Global) -> Result<Command<'a>, AllocError> {
-    let mut command = Command::new(alloc, "sapper")
+// The program, with no command and no option yet.
+fn program<'a>(alloc: Global) -> Command<'a> {
+    Command::new(alloc, "sapper")
         .about(ABOUT)
         .override_usage(USAGE)
         .after_help(STATUSES)
         .disable_help_flag(true)
         .disable_version_flag(true)
-        .disable_help_subcommand(true);
+        .disable_help_subcommand(true)
+}
+
+fn with_commands<'a>(alloc: Global, mut command: Command<'a>) -> Result<Command<'a>, AllocError> {
     for (name, does) in &COMMANDS {
         command = command.subcommand(Command::new(alloc, name).about(does))?;
     }
+    Ok(command)
+}
+
+fn with_options<'a>(alloc: Global, command: Command<'a>) -> Result<Command<'a>, AllocError> {
     command
         .arg(option(alloc, "help", "Prints this text").action(ArgAction::SetTrue))?
         .arg(option(alloc, "version", "Prints the version").action(ArgAction::SetTrue))?
@@ -82,6 +90,11 @@ fn command<'a>(alloc: Global) -> Result<Command<'a>, AllocError> {
             "Says what a code means, with an example and its cure",
         )
         .value_name("CODE"))
+}
+
+fn command<'a>(alloc: Global) -> Result<Command<'a>, AllocError> {
+    let command = with_commands(alloc, program(alloc))?;
+    with_options(alloc, command)
 }
 
 /// The text of `--help`.

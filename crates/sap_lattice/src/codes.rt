@@ -18,13 +18,28 @@ fn is_strictly_below(order: &Relation, x: usize, y: usize) -> bool
     order.le(x, y) && x != y
 }
 
+/// Whether z is strictly between x and y.
+fn is_between(order: &Relation, x: usize, z: usize, y: usize) -> bool
+    requires left { x < length order.now }
+    requires middle { z < length order.now }
+    requires right { y < length order.now }
+    ensures { let o = order_in order.now in result ≡ (is_strictly_below o x z && is_strictly_below o z y) }
+{
+    is_strictly_below(order, x, z) && is_strictly_below(order, z, y)
+}
+
 /// Whether a level is strictly between x and y.
 fn has_between(order: &Relation, x: usize, y: usize) -> bool
     requires left { x < length order.now }
     requires right { y < length order.now }
     ensures { let o = order_in order.now in result ≡ list_any (λ z. is_strictly_below o x z && is_strictly_below o z y) (numbers (length order.now)) }
 {
-    (0..order.count()).any(|z| is_strictly_below(order, x, z) && is_strictly_below(order, z, y))
+    for z in 0..order.count() {
+        if is_between(order, x, z, y) {
+            return true;
+        }
+    }
+    false
 }
 
 /// Whether y is an upper cover of x.

@@ -12,7 +12,7 @@ const SLOTS: usize = 1024;
 ///
 /// It is only a guess where an item stands, since several items may have a slot, and others none. Who asks
 /// compares the item at that place.
-#[derive(Clone, Copy, Debug)]
+#[derive(Clone, Copy)]
 pub struct Guesses {
     places: [u8; SLOTS],
 }

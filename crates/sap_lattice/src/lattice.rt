@@ -23,7 +23,7 @@ use std::marker::Model;
 /// A finite lattice of 2 to `MOST_LEVELS` named levels, seen as their names and their order.
 ///
 /// A `Level` that is none of a lattice counts as its first.
-#[derive(Debug, Drop)]
+#[derive(Drop)]
 pub struct Lattice {
     names: Vec<Name>,
     codes: Vec<u64>,

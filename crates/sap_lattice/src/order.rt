@@ -10,7 +10,7 @@ ghost use Rattle.sap_lattice.specs.Rules.{IsFirstPair};
 use crate::relation::Relation;
 
 /// A rule on two levels of an order.
-#[derive(Clone, Copy, Debug)]
+#[derive(Clone, Copy)]
 pub enum PairRule {
     /// Not each of the two is at or below the other.
     Apart,
@@ -27,6 +27,17 @@ fn is_upper_bound(order: &Relation, x: usize, y: usize, u: usize) -> bool
     order.le(x, u) && order.le(y, u)
 }
 
+// Whether j is below u where u is above x and y.
+fn is_below_bound(order: &Relation, x: usize, y: usize, j: usize, u: usize) -> bool
+    requires left { x < length order.now }
+    requires right { y < length order.now }
+    requires bound { j < length order.now }
+    requires other { u < length order.now }
+    ensures { let le = (order_in order.now).le in result ≡ (not (is_upper_bound le x y u) || le j u) }
+{
+    !is_upper_bound(order, x, y, u) || order.le(j, u)
+}
+
 /// Whether j is below every level that is above x and y.
 fn is_below_bounds(order: &Relation, x: usize, y: usize, j: usize) -> bool
     requires left { x < length order.now }
@@ -35,7 +46,12 @@ fn is_below_bounds(order: &Relation, x: usize, y: usize, j: usize) -> bool
     ensures { let le = (order_in order.now).le in
         result ≡ every (length order.now) (λ u. not (is_upper_bound le x y u) || le j u) }
 {
-    (0..order.count()).all(|u| !is_upper_bound(order, x, y, u) || order.le(j, u))
+    for u in 0..order.count() {
+        if !is_below_bound(order, x, y, j, u) {
+            return false;
+        }
+    }
+    true
 }
 
 /// Whether j is the least upper bound of x and y.
@@ -53,7 +69,12 @@ fn has_join(order: &Relation, x: usize, y: usize) -> bool
     requires right { y < length order.now }
     ensures { result ≡ list_any (is_join (length order.now) (order_in order.now).le x y) (numbers (length order.now)) }
 {
-    (0..order.count()).any(|j| is_join(order, x, y, j))
+    for j in 0..order.count() {
+        if is_join(order, x, y, j) {
+            return true;
+        }
+    }
+    false
 }
 
 fn breaks(order: &Relation, rule: PairRule, x: usize, y: usize) -> bool
@@ -86,26 +107,46 @@ fn is_least(order: &Relation, b: usize) -> bool
     requires { b < length order.now }
     ensures { result ≡ is_least (length order.now) (order_in order.now).le b }
 {
-    (0..order.count()).all(|x| order.le(b, x))
+    for x in 0..order.count() {
+        if !order.le(b, x) {
+            return false;
+        }
+    }
+    true
 }
 
 /// The level that is below every level.
 pub fn least(order: &Relation) -> Option<usize>
     ensures { result ≡ find (is_least (length order.now) (order_in order.now).le) (numbers (length order.now)) }
 {
-    (0..order.count()).find(|b| is_least(order, *b))
+    for b in 0..order.count() {
+        if is_least(order, b) {
+            return Some(b);
+        }
+    }
+    None
 }
 
 fn is_greatest(order: &Relation, t: usize) -> bool
     requires { t < length order.now }
     ensures { result ≡ is_greatest (length order.now) (order_in order.now).le t }
 {
-    (0..order.count()).all(|x| order.le(x, t))
+    for x in 0..order.count() {
+        if !order.le(x, t) {
+            return false;
+        }
+    }
+    true
 }
 
 /// The level that is above every level.
 pub fn greatest(order: &Relation) -> Option<usize>
     ensures { result ≡ find (is_greatest (length order.now) (order_in order.now).le) (numbers (length order.now)) }
 {
-    (0..order.count()).find(|t| is_greatest(order, *t))
+    for t in 0..order.count() {
+        if is_greatest(order, t) {
+            return Some(t);
+        }
+    }
+    None
 }

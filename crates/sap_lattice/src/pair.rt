@@ -3,7 +3,7 @@
 use crate::name::Name;
 
 /// A pair of a lattice file: the lower level is at or below the upper.
-#[derive(Debug, Drop)]
+#[derive(Drop)]
 pub struct Pair {
     pub lower: Name,
     pub upper: Name,

@@ -6,7 +6,7 @@ ghost use Rattle.sap_lattice.specs.Rows.{holds};
 use std::marker::Model;
 
 /// A set of levels, one bit for each.
-#[derive(Clone, Copy, Debug)]
+#[derive(Clone, Copy)]
 pub struct LevelSet {
     bits: u64,
 }

@@ -6,6 +6,8 @@ ghost use Rattle.sap_ir.specs.Calcs.{action_of, command_of, commands_of, term_of
 ghost use Rattle.sap_lower.specs.Commands.{low_action, low_chosen, low_commands, low_put, merged_port, port_of};
 ghost use Rattle.sap_lower.specs.Index.{Indexes};
 ghost use Rattle.sap_lower.specs.Lookup.{shapes_of};
+ghost use Rattle.sap_lower.specs.Lowering.{plus};
+ghost use Rattle.sap_net.specs.declared.parts.Right.TheVariants.{Choose};
 ghost use Rattle.sap_lower.specs.Places.{replaced};
 
 use crate::calc::{lower_calc, present_part};
@@ -16,6 +18,7 @@ use sap_ir::guarded::{Act, Calc, GuardedCmd, Store};
 use sap_net::parts::{Name, Operand, Right};
 use std::alloc::{AllocError, Global};
 use std::collections::HashMap;
+use std::mem;
 
 /// Another part for a name.
 fn replace_part(
@@ -106,15 +109,15 @@ fn lower_put(
     entries: &[(Name, Part)],
     store_places: &HashMap<Vec<u8>, usize>,
     stores: &[Store],
-    port: WritePort,
+    port: &mut WritePort,
     when: &Calc,
     index: &Calc,
     value: &Calc,
-) -> Result<WritePort, AllocError>
+) -> Result<(), AllocError>
     requires places { Indexes places.now (keys_of entries.now) }
     requires stores { Indexes store_places.now (map (λ m. m.name) stores.now) }
-    ensures wires { OnOk result (wires.new ≡ (low_put (shapes_of stores.now) entries.now port (term_of when.now) (term_of index.now) (term_of value.now) wires.old).wires) }
-    ensures port { IfOk result (λ p. p ≡ (low_put (shapes_of stores.now) entries.now port (term_of when.now) (term_of index.now) (term_of value.now) wires.old).port) }
+    ensures wires { OnOk result (wires.new ≡ (low_put (shapes_of stores.now) entries.now port.old (term_of when.now) (term_of index.now) (term_of value.now) wires.old).wires) }
+    ensures port { OnOk result (port.new ≡ (low_put (shapes_of stores.now) entries.now port.old (term_of when.now) (term_of index.now) (term_of value.now) wires.old).port) }
 {
     let when = lower_calc(alloc, wires, places, entries, store_places, stores, when)?;
     let index = lower_calc(alloc, wires, places, entries, store_places, stores, index)?;
@@ -133,27 +136,37 @@ fn lower_put(
 fn merge(
     alloc: Global,
     wires: &mut Wires,
-    port: WritePort,
+    port: &mut WritePort,
     when: Operand,
     index: Operand,
     value: Operand,
-) -> Result<WritePort, AllocError>
-    ensures wires { OnOk result (wires.new ≡ (merged_port port when index value wires.old).wires) }
-    ensures port { IfOk result (λ p. p ≡ (merged_port port when index value wires.old).port) }
+) -> Result<(), AllocError>
+    ensures wires { OnOk result (wires.new ≡ (merged_port port.old when index value wires.old).wires) }
+    ensures port { OnOk result (port.new ≡ (merged_port port.old when index value wires.old).port) }
 {
-    let first = when.copy(alloc)?;
-    let second = when.copy(alloc)?;
     let one = Operand::Constant { width: 1, value: 1 };
-    let enable = wires.add(alloc, 1, Right::Choose(first, one, port.enable))?;
-    let index = wires.add(alloc, port.bits, Right::Choose(second, index, port.index))?;
-    let value = wires.add(alloc, port.width, Right::Choose(when, value, port.value))?;
-    Ok(WritePort {
-        width: port.width,
-        bits: port.bits,
-        enable: enable.operand,
-        index: index.operand,
-        value: value.operand,
-    })
+    choose(alloc, wires, 1, &when, one, &mut port.enable)?;
+    choose(alloc, wires, port.bits, &when, index, &mut port.index)?;
+    choose(alloc, wires, port.width, &when, value, &mut port.value)
+}
+
+/// Another operand where the condition is 1.
+fn choose(
+    alloc: Global,
+    wires: &mut Wires,
+    width: u32,
+    when: &Operand,
+    new: Operand,
+    operand: &mut Operand,
+) -> Result<(), AllocError>
+    ensures wires { OnOk result (wires.new ≡ (plus wires.old width (Choose when.now new operand.old)).wires) }
+    ensures operand { OnOk result (operand.new ≡ (plus wires.old width (Choose when.now new operand.old)).part.operand) }
+{
+    let when = when.copy(alloc)?;
+    let old = mem::replace(operand, Operand::Constant { width: 0, value: 0 });
+    let chosen = wires.add(alloc, width, Right::Choose(when, new, old))?;
+    *operand = chosen.operand;
+    Ok(())
 }
 
 /// One assignment or write under its condition.
@@ -195,15 +208,15 @@ fn lower_command(
             index,
             value,
         } => {
-            let old = present_port(alloc, store_places, ports, memory)?;
-            let port = lower_put(
+            let mut port = present_port(alloc, store_places, ports, memory)?;
+            lower_put(
                 alloc,
                 wires,
                 places,
                 entries,
                 store_places,
                 stores,
-                old,
+                &mut port,
                 &cmd.when,
                 index,
                 value,

@@ -9,7 +9,7 @@ ghost use Rattle.sap_size.specs.Flat.{source_weight};
 ghost use Rattle.sap_size.specs.Items.{items};
 ghost use Rattle.sap_lower.specs.Index.{Indexes};
 ghost use Rattle.sap_lower.specs.Lowered as spec;
-ghost use Rattle.sap_lower.specs.Lowered.{input_of, input_port, listed, memory_of, names_declared, net_declared, out_wire, port_shown, register_of, registers_declared};
+ghost use Rattle.sap_lower.specs.Lowered.{first_entries, first_port, input_of, input_port, listed, memory_of, names_declared, net_declared, out_wire, port_shown, register_of, registers_declared};
 ghost use Rattle.sap_lower.specs.Same.{CopiesPorts, Declares, RunsAlike, SharesWires};
 
 use crate::commands::lower_commands;
@@ -17,6 +17,7 @@ use crate::parts::{Part, WritePort};
 use crate::places::{index_entries, index_names, index_stores, index_variables};
 use crate::wires::Wires;
 use crate::{declare, first};
+use sap_ir::guarded::Store;
 use sap_ir::program::Guarded;
 use sap_net::netlist::Netlist;
 use sap_net::parts::{Input, Memory, Name, Parts, Port, Register, Wire};
@@ -108,6 +109,47 @@ fn edge_of(
     })
 }
 
+// What is declared but for wires.
+#[derive(Drop)]
+struct Lists {
+    declared: Declared,
+    edge: Edge,
+}
+
+fn lists_of(
+    alloc: Global,
+    source: &Guarded,
+    wires: &[Wire],
+    places: &HashMap<Vec<u8>, usize>,
+    entries: &[(Name, Part)],
+    store_places: &HashMap<Vec<u8>, usize>,
+    ports: &[(Name, WritePort)],
+    port_places: &HashMap<Vec<u8>, usize>,
+) -> Result<Lists, AllocError>
+    requires places { Indexes places.now (keys_of entries.now) }
+    requires ports { Indexes store_places.now (keys_of ports.now) }
+    requires shown { Indexes port_places.now (source_of source.now).ports }
+    ensures names { IfOk result (λ l. l.declared.names.items ≡ names_declared (source_of source.now) wires.now) }
+    ensures ports { IfOk result (λ l. l.declared.ports.items ≡ map input_port (source_of source.now).inputs ++ map (port_shown (source_of source.now).registers) (source_of source.now).ports) }
+    ensures inputs { IfOk result (λ l. l.declared.inputs.items ≡ map input_of (source_of source.now).inputs) }
+    ensures registers { IfOk result (λ l. l.edge.registers.items ≡ map (register_of entries.now) (registers_declared (source_of source.now))) }
+    ensures memories { IfOk result (λ l. l.edge.memories.items ≡ map (memory_of ports.now) (source_of source.now).memories) }
+{
+    let register_places = index_variables(alloc, source.registers())?;
+    let declared = declared_of(alloc, source, wires, &register_places, port_places)?;
+    let edge = edge_of(
+        alloc,
+        source,
+        places,
+        entries,
+        store_places,
+        ports,
+        &register_places,
+        port_places,
+    )?;
+    Ok(Lists { declared, edge })
+}
+
 /// The netlist of these wires.
 fn parts(
     alloc: Global,
@@ -125,18 +167,17 @@ fn parts(
     ensures { IfOk result (λ p. net_of p ≡ net_declared (source_of source.now) wires.items entries.now ports.now) }
 {
     let module_name = Name::new(b"top".to_vec(alloc)?);
-    let register_places = index_variables(alloc, source.registers())?;
-    let declared = declared_of(alloc, source, &wires, &register_places, port_places)?;
-    let edge = edge_of(
+    let lists = lists_of(
         alloc,
         source,
+        &wires,
         places,
         entries,
         store_places,
         ports,
-        &register_places,
         port_places,
     )?;
+    let Lists { declared, edge } = lists;
     Ok(Parts {
         module_name,
         names: declared.names,
@@ -184,23 +225,54 @@ fn shown_parts(
     )
 }
 
+// What each name stands for, and the places of the names.
+#[derive(Drop)]
+struct Standing {
+    entries: Vec<(Name, Part)>,
+    places: HashMap<Vec<u8>, usize>,
+}
+
+fn standing_of(alloc: Global, source: &Guarded) -> Result<Standing, AllocError>
+    ensures entries { IfOk result (λ s. s.entries.items ≡ first_entries (source_of source.now)) }
+    ensures places { IfOk result (λ s. Indexes s.places (keys_of s.entries.items)) }
+{
+    let entries = first::entries(alloc, source.inputs(), source.registers(), source.wires())?;
+    let places = index_entries(alloc, &entries)?;
+    Ok(Standing { entries, places })
+}
+
+// The write ports of memories, and the places of the memories.
+#[derive(Drop)]
+struct WritePorts {
+    ports: Vec<(Name, WritePort)>,
+    places: HashMap<Vec<u8>, usize>,
+}
+
+fn write_ports(alloc: Global, stores: &[Store]) -> Result<WritePorts, AllocError>
+    ensures ports { IfOk result (λ w. w.ports.items ≡ map first_port stores.now) }
+    ensures places { IfOk result (λ w. Indexes w.places (map (λ m. m.name) stores.now)) }
+    ensures port_places { IfOk result (λ w. Indexes w.places (keys_of w.ports.items)) }
+{
+    let ports = first::ports(alloc, stores)?;
+    let places = index_stores(alloc, stores)?;
+    Ok(WritePorts { ports, places })
+}
+
 fn lowered(alloc: Global, source: &Guarded) -> Result<Parts, AllocError>
     ensures { IfOk result (λ p. net_of p ≡ spec.lowered (source_of source.now)) }
 {
     let stores = source.memories();
-    let mut entries = first::entries(alloc, source.inputs(), source.registers(), source.wires())?;
-    let mut ports = first::ports(alloc, stores)?;
-    let places = index_entries(alloc, &entries)?;
-    let store_places = index_stores(alloc, stores)?;
+    let mut standing = standing_of(alloc, source)?;
+    let mut written = write_ports(alloc, stores)?;
     let mut helpers = Wires::new(alloc);
     lower_commands(
         alloc,
         &mut helpers,
-        &places,
-        &mut entries,
-        &store_places,
+        &standing.places,
+        &mut standing.entries,
+        &written.places,
         stores,
-        &mut ports,
+        &mut written.ports,
         source.cmds(),
     )?;
     let wires = helpers.into_vec();
@@ -208,10 +280,10 @@ fn lowered(alloc: Global, source: &Guarded) -> Result<Parts, AllocError>
         alloc,
         source,
         wires,
-        &places,
-        &entries,
-        &store_places,
-        &ports,
+        &standing.places,
+        &standing.entries,
+        &written.places,
+        &written.ports,
     )
 }
 

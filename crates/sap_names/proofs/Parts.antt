@@ -11,6 +11,7 @@ use Rattle.sap_names.specs.declared.fault.Fault.{Fault}
 use Rattle.sap_names.specs.declared.kind.Code.TheVariants.{E7}
 use Rattle.sap_names.proofs.Faults.{both}
 use Rattle.sap_tree.specs.declared.place.Spot.{Spot}
+use Rattle.sap_tree.specs.Spots.{first_of, spot_of}
 use Rattle.sap_tree.specs.Syntax.{Expression, concat, Expressions}
 
 pub parts_first : (what : Lookup) (xs : List Expr) (d : Expr) → 1 ≤ length xs → d ≡ get_or xs 0 d
@@ -34,6 +35,10 @@ parts_none what [] h = refl
 parts_none what (x ∷ xs) h = absurd (omega arith)
 
 pub ruleset parts = (parts_none)
+
+pub first_of_concat : (spot : Spot) (list : Expressions) → first_of (concat spot list) ≡ spot.first
+unfolding first_of spot_of
+first_of_concat spot list = refl
 
 -- the faults of a concatenation, one after another
 pub concat_noted : (what : Lookup) (asked mine : Option ℕ) (operands one two : Bool) (o m n k : Option Fault) (x : Expression) (spot : Spot) (list seen : Expressions)

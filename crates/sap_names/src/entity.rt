@@ -4,7 +4,7 @@ use crate::kind::Declared;
 use sap_tree::name::Mention;
 
 /// A declared name: where it is declared, what it is, and whether it is dynamic, as inputs are.
-#[derive(Debug, Drop)]
+#[derive(Drop)]
 pub struct Entity {
     pub name: Mention,
     pub what: Declared,

@@ -99,42 +99,33 @@ fn lacks(mine: Option<u64>, operands: bool) -> bool
 
 /// The best so far of the faults of an expression where its place asks for a width, or for none.
 #[cycle(faults)]
-#[tactic(auto, using(sap_tree::proofs::Views::views, crate::proofs::Faults::noting))]
+#[tactic(auto, using(sap_tree::proofs::Views::views, crate::proofs::Faults::noting), unfolding(sap_tree::specs::Spots::first_of, sap_tree::specs::Spots::spot_of))]
 pub fn expression_faults(names: &Entities, e: &Expr, asked: Option<u64>, best: &mut Option<Fault>)
     ensures { best.new ≡ best_of best.old (faults.expression_faults (what_is names.now) (expression_of e.now) asked) }
 {
     let mine = own(names, e);
+    note(best, unsettled(mine, asked), Code::E7, e.first());
     match e {
-        Expr::Number(spot, value) => {
-            note(best, unsettled(None, asked), Code::E7, spot.first);
-            note(best, too_large(asked, *value), Code::E8, spot.at);
-        }
+        Expr::Number(spot, value) => note(best, too_large(asked, *value), Code::E8, spot.at),
         Expr::Sized(spot, width, value) => {
             let sound = sound_width(*width);
-            note(best, unsettled(sound, asked), Code::E7, spot.first);
             note(best, sound.is_none(), Code::E7, spot.at);
             note(best, too_large(sound, *value), Code::E8, spot.at);
         }
-        Expr::Read(spot, name) => {
-            note(best, unsettled(mine, asked), Code::E7, spot.first);
-            note_use(best, Use::Read, names.look(name), spot.at);
-        }
+        Expr::Read(spot, name) => note_use(best, Use::Read, names.look(name), spot.at),
         Expr::Cell(spot, name, index) => {
             let what = names.look(name);
-            note(best, unsettled(mine, asked), Code::E7, spot.first);
             note_use(best, Use::Indexed, what, spot.at);
             expression_faults(names, index, index_width(what), best);
         }
-        Expr::Unary(spot, operator, operand) => {
+        Expr::Unary(_, operator, operand) => {
             let whole = else_of(mine, asked);
-            note(best, unsettled(mine, asked), Code::E7, spot.first);
             expression_faults(names, operand, asked_one(*operator, whole), best);
         }
-        Expr::Binary(spot, operator, left, right) => {
+        Expr::Binary(_, operator, left, right) => {
             let whole = else_of(mine, asked);
             let one = own(names, left);
             let other = own(names, right);
-            note(best, unsettled(mine, asked), Code::E7, spot.first);
             expression_faults(
                 names,
                 left,
@@ -148,16 +139,14 @@ pub fn expression_faults(names: &Entities, e: &Expr, asked: Option<u64>, best: &
                 best,
             );
         }
-        Expr::Choose(spot, condition, one, other) => {
+        Expr::Choose(_, condition, one, other) => {
             let whole = else_of(mine, asked);
-            note(best, unsettled(mine, asked), Code::E7, spot.first);
             expression_faults(names, condition, Some(1), best);
             expression_faults(names, one, whole, best);
             expression_faults(names, other, whole, best);
         }
         Expr::Slice(spot, operand, _, _) => {
             let inner = own(names, operand);
-            note(best, unsettled(mine, asked), Code::E7, spot.first);
             note(
                 best,
                 mine.is_none() && inner.is_some(),
@@ -169,13 +158,11 @@ pub fn expression_faults(names: &Entities, e: &Expr, asked: Option<u64>, best: &
         Expr::Concat(spot, parts) => {
             let list = parts.as_slice();
             let operands = all_sound(names, list);
-            note(best, unsettled(mine, asked), Code::E7, spot.first);
             note(best, lacks(mine, operands), Code::E7, spot.first);
             parts_faults(names, list, best);
         }
         Expr::Zext(spot, operand, _) => {
             let inner = own(names, operand);
-            note(best, unsettled(mine, asked), Code::E7, spot.first);
             note(
                 best,
                 mine.is_none() && inner.is_some(),

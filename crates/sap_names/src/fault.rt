@@ -11,14 +11,14 @@ use sap_tree::place::Place;
 use std::alloc::{AllocError, AllocFailed};
 
 /// A code where it stands.
-#[derive(Clone, Copy, PartialEq, Eq, Debug)]
+#[derive(Clone, Copy)]
 pub struct Fault {
     pub code: Code,
     pub place: Place,
 }
 
 /// Why a design is not taken.
-#[derive(Clone, Copy, PartialEq, Eq, Debug)]
+#[derive(Clone, Copy, Debug)]
 pub enum CheckFault {
     /// The first fault, by place and then by code.
     Rule(Code, Place),

@@ -1,7 +1,7 @@
 //! What a declared name is, and the codes of faults.
 
 /// What a declared name is.
-#[derive(Clone, Copy, PartialEq, Eq, Debug)]
+#[derive(Clone, Copy, PartialEq, Eq)]
 pub enum EntityKind {
     Input,
     Register,
@@ -10,7 +10,7 @@ pub enum EntityKind {
 }
 
 /// What a declaration says of its name: the width, and of a memory the depth, as they are written.
-#[derive(Clone, Copy, PartialEq, Eq, Debug)]
+#[derive(Clone, Copy)]
 pub enum Declared {
     Input(u64),
     Register(u64),
@@ -19,7 +19,7 @@ pub enum Declared {
 }
 
 /// What a command or an expression uses a name as.
-#[derive(Clone, Copy, PartialEq, Eq, Debug)]
+#[derive(Clone, Copy)]
 pub enum Use {
     /// Assigned plain.
     Assigned,
@@ -34,7 +34,7 @@ pub enum Use {
 }
 
 /// How an operator's width comes from those of its operands.
-#[derive(Clone, Copy, PartialEq, Eq, Debug)]
+#[derive(Clone, Copy)]
 pub enum Family {
     /// Operands and result have one width.
     Arithmetic,
@@ -45,7 +45,7 @@ pub enum Family {
 }
 
 /// The code of a fault of names and widths, E3 to E9, or of shape.
-#[derive(Clone, Copy, PartialEq, Eq, Debug)]
+#[derive(Clone, Copy, Debug)]
 pub enum Code {
     E3,
     E4,

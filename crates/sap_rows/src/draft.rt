@@ -1,113 +1,91 @@
 //! A step as far as its headings are read.
 
-use crate::blocks::Block;
-use crate::refusal::{Refusal, Why};
-use crate::table::{Answer, Cut, File, Held, State, Step, Target, Wanted, bytes_of};
-use crate::texts::{number_of, push_escaped, push_line, text_of};
+use crate::blocks::{Block, first_word};
+use crate::refusal::Why;
+use crate::table::{Answer, Comparison, Cut, File, Held, State, Step, Target, Wanted, push_new};
+use crate::texts::{number_of, refuse_text, text_of, unescaped};
 use std::alloc::Global;
+use std::mem;
 
-#[derive(Drop)]
-struct Call {
-    target: Target,
-    words: Vec<String>,
-}
-
+/// A step, and whether its words and its status are said.
 #[derive(Drop)]
 pub(crate) struct Draft {
     alloc: Global,
-    line: u64,
-    files: Vec<File>,
-    failing: Vec<u64>,
-    call: Option<Call>,
-    answer: Option<Answer>,
-    output: Option<Wanted>,
-    faults: Option<Wanted>,
-    held: Vec<Held>,
-    turns: Option<String>,
-    cut: Option<Cut>,
+    has_words: bool,
+    has_status: bool,
+    step: Step,
 }
 
-// The lines of text below a heading.
-fn own_text(alloc: Global, texts: &[File], lines: &[&str]) -> Result<Vec<u8>, Why> {
-    let mut bytes = Vec::new(alloc);
-    for line in lines {
-        push_line(texts, &mut bytes, line)?;
-    }
-    Ok(bytes)
-}
-
-fn refuse_text(lines: &[&str]) -> Result<(), Why> {
-    if lines.is_empty() {
-        Ok(())
-    } else {
-        Err(Why::Says("no text belongs below this line"))
-    }
-}
-
-/// A name that is one word.
-pub(crate) fn name_of(alloc: Global, text: &str) -> Result<String, Why> {
+/// A name is one word.
+pub(crate) fn one_name(text: &str) -> Result<&str, Why> {
     if text.is_empty() || text.contains(' ') {
         return Err(Why::Says("one name belongs here"));
     }
-    Ok(String::from_str(alloc, text)?)
+    Ok(text)
+}
+
+fn name_of(alloc: Global, text: &str) -> Result<String, Why> {
+    Ok(String::from_str(alloc, one_name(text)?)?)
 }
 
 /// A name with the text below it, or with the shared one behind `as`.
 pub(crate) fn file_of(alloc: Global, texts: &[File], block: &Block<'_>) -> Result<File, Why> {
-    match block.rest.split_once(" as ") {
-        Some((name, shared)) => {
-            refuse_text(&block.text)?;
-            let bytes = text_of(texts, shared)?.to_vec(alloc)?;
-            let name = name_of(alloc, name)?;
-            Ok(File { name, bytes })
-        }
-        None => {
-            let bytes = own_text(alloc, texts, &block.text)?;
-            let name = name_of(alloc, block.rest)?;
-            Ok(File { name, bytes })
-        }
+    let (name, shared) = match block.heading.rest.split_once(" as ") {
+        Some((name, shared)) => (name, Some(shared)),
+        None => (block.heading.rest, None),
+    };
+    let bytes = text_of(alloc, texts, block, shared)?;
+    let name = name_of(alloc, name)?;
+    Ok(File { name, bytes })
+}
+
+// How a text is compared, by what follows `out` or `err`.
+fn comparison_of(rest: &str, text: &[u8]) -> Result<Comparison, Why> {
+    if text.is_empty() {
+        return Err(Why::Says("a text belongs below this line"));
+    }
+    match rest {
+        "" => Ok(Comparison::Exactly),
+        "begins" => Ok(Comparison::Beginning),
+        "contains" => Ok(Comparison::Part),
+        _ if rest.starts_with("as ") => Ok(Comparison::Exactly),
+        _ => Err(Why::Says("no way to compare a text")),
     }
 }
 
 fn wanted_of(alloc: Global, texts: &[File], block: &Block<'_>) -> Result<Wanted, Why> {
-    if let Some(name) = block.rest.strip_prefix("as ") {
-        refuse_text(&block.text)?;
-        return Ok(Wanted::Exactly(text_of(texts, name)?.to_vec(alloc)?));
-    }
-    let bytes = own_text(alloc, texts, &block.text)?;
-    if bytes.is_empty() {
-        return Err(Why::Says("a text belongs below this line"));
-    }
-    match block.rest {
-        "" => Ok(Wanted::Exactly(bytes)),
-        "begins" => Ok(Wanted::Beginning(bytes)),
-        "contains" => Ok(Wanted::Part(bytes)),
-        _ => Err(Why::Says("no way to compare a text")),
-    }
+    let rest = block.heading.rest;
+    let text = text_of(alloc, texts, block, rest.strip_prefix("as "))?;
+    let comparison = comparison_of(rest, &text)?;
+    Ok(Wanted { text, comparison })
 }
 
 fn word_of(alloc: Global, piece: &str) -> Result<String, Why> {
     if piece.is_empty() {
         return Err(Why::Says("two blanks between words"));
     }
-    let mut bytes = Vec::new(alloc);
-    if piece != "\"\"" {
-        push_escaped(&mut bytes, piece)?;
-    }
-    match String::from_utf8(bytes) {
+    let escaped = if piece == "\"\"" { "" } else { piece };
+    match String::from_utf8(unescaped(alloc, escaped)?) {
         Ok(word) => Ok(word),
         Err(_) => Err(Why::Says("a word is no text")),
     }
 }
 
-fn call_of(alloc: Global, target: Target, text: &str) -> Result<Call, Why> {
+fn push_word(words: &mut Vec<String>, piece: &str) -> Result<(), Why> {
+    let word = word_of(*words.allocator(), piece)?;
+    words.push(word)?;
+    Ok(())
+}
+
+// The words between blanks.
+fn words_of(alloc: Global, text: &str) -> Result<Vec<String>, Why> {
     let mut words = Vec::new(alloc);
     if !text.is_empty() {
         for piece in text.split(' ') {
-            words.push(word_of(alloc, piece)?)?;
+            push_word(&mut words, piece)?;
         }
     }
-    Ok(Call { target, words })
+    Ok(words)
 }
 
 fn answer_of(text: &str) -> Result<Answer, Why> {
@@ -120,39 +98,24 @@ fn answer_of(text: &str) -> Result<Answer, Why> {
     }
 }
 
-fn held_of(file: File) -> Held {
-    let File { name, bytes } = file;
-    Held {
-        name,
-        state: State::Exactly(bytes),
-    }
-}
-
-fn named(alloc: Global, text: &str, state: State) -> Result<Held, Why> {
-    let name = name_of(alloc, text)?;
-    Ok(Held { name, state })
-}
-
-// `NAME LEAST MOST WORD`
-fn counted_of(alloc: Global, text: &str) -> Result<Held, Why> {
-    let mut pieces = text.splitn(4, ' ');
-    let name = name_of(alloc, pieces.next().unwrap_or(""))?;
-    let least = number_of(pieces.next().unwrap_or(""))?;
-    let most = number_of(pieces.next().unwrap_or(""))?;
-    let word = name_of(alloc, pieces.next().unwrap_or(""))?;
-    let state = State::Words { word, least, most };
-    Ok(Held { name, state })
+// `LEAST MOST WORD`
+fn bounds_of(text: &str) -> Result<(State, &str), Why> {
+    let (least, behind) = first_word(text);
+    let (most, word) = first_word(behind);
+    let least = number_of(least)?;
+    let most = number_of(most)?;
+    let word = one_name(word)?;
+    Ok((State::Words { least, most }, word))
 }
 
 // `NAME STATUS LINE ..`
 fn cut_of(alloc: Global, text: &str) -> Result<Cut, Why> {
-    let mut pieces = text.split(' ');
-    let file = name_of(alloc, pieces.next().unwrap_or(""))?;
-    let answer = answer_of(pieces.next().unwrap_or(""))?;
-    let mut lines = Vec::new(alloc);
-    for piece in pieces {
-        lines.push(word_of(alloc, piece)?)?;
-    }
+    let (file, behind) = first_word(text);
+    let (status, lines) = first_word(behind);
+    let file = one_name(file)?;
+    let answer = answer_of(status)?;
+    let lines = words_of(alloc, lines)?;
+    let file = String::from_str(alloc, file)?;
     Ok(Cut {
         file,
         answer,
@@ -160,46 +123,75 @@ fn cut_of(alloc: Global, text: &str) -> Result<Cut, Why> {
     })
 }
 
-fn is_put(files: &[File], cut: &Option<Cut>) -> bool {
-    match cut {
-        Some(cut) => bytes_of(files, &cut.file).is_some(),
-        None => true,
+// What was said before is not said again.
+fn refuse_twice(was_said: bool) -> Result<(), Why> {
+    if was_said {
+        Err(Why::Says("this is said twice"))
+    } else {
+        Ok(())
     }
 }
 
-// Sets what wasn't said before.
-fn set<T: Drop>(slot: &mut Option<T>, value: T) -> Result<(), Why> {
-    if slot.is_some() {
-        return Err(Why::Says("this is said twice"));
-    }
-    *slot = Some(value);
-    Ok(())
+fn set_wanted(
+    alloc: Global,
+    wanted: &mut Wanted,
+    texts: &[File],
+    block: &Block<'_>,
+) -> Result<(), Why> {
+    let was_said = !wanted.text.is_empty();
+    *wanted = wanted_of(alloc, texts, block)?;
+    refuse_twice(was_said)
 }
 
 impl Draft {
-    /// Nothing of the step whose heading is this line.
-    pub(crate) fn new(alloc: Global, line: u64) -> Draft {
+    /// Nothing of a step.
+    pub(crate) fn new(alloc: Global) -> Draft {
         Draft {
             alloc,
-            line,
-            files: Vec::new(alloc),
-            failing: Vec::new(alloc),
-            call: None,
-            answer: None,
-            output: None,
-            faults: None,
-            held: Vec::new(alloc),
-            turns: None,
-            cut: None,
+            has_words: false,
+            has_status: false,
+            step: Step::new(alloc),
         }
     }
 
-    fn put(&mut self, file: File) -> Result<(), Why> {
-        if bytes_of(&self.files, &file.name).is_some() {
-            return Err(Why::Says("a file is put twice"));
-        }
-        self.files.push(file)?;
+    fn put(&mut self, texts: &[File], block: &Block<'_>) -> Result<(), Why> {
+        let file = file_of(self.alloc, texts, block)?;
+        push_new(&mut self.step.files, file, "a file is put twice")
+    }
+
+    fn hold(&mut self, file: File, state: State) -> Result<(), Why> {
+        self.step.held.push(Held { file, state })?;
         Ok(())
+    }
+
+    fn hold_file(&mut self, texts: &[File], block: &Block<'_>) -> Result<(), Why> {
+        let file = file_of(self.alloc, texts, block)?;
+        self.hold(file, State::Exactly)
+    }
+
+    fn hold_named(&mut self, name: &str, word: &str, state: State) -> Result<(), Why> {
+        let name = name_of(self.alloc, name)?;
+        let bytes = word.as_bytes().to_vec(self.alloc)?;
+        self.hold(File { name, bytes }, state)
+    }
+
+    // `NAME LEAST MOST WORD`
+    fn hold_counted(&mut self, text: &str) -> Result<(), Why> {
+        let (name, bounds) = first_word(text);
+        let name = one_name(name)?;
+        let (state, word) = bounds_of(bounds)?;
+        self.hold_named(name, word, state)
+    }
+
+    fn call(&mut self, target: Target, text: &str) -> Result<(), Why> {
+        self.step.target = target;
+        self.step.words = words_of(self.alloc, text)?;
+        refuse_twice(mem::replace(&mut self.has_words, true))
+    }
+
+    fn answer(&mut self, text: &str) -> Result<(), Why> {
+        self.step.answer = answer_of(text)?;
+        refuse_twice(mem::replace(&mut self.has_status, true))
     }
 
     fn fail(&mut self, text: &str) -> Result<(), Why> {
@@ -207,94 +199,66 @@ impl Draft {
         if number == 0 {
             return Err(Why::Says("calls are counted from 1"));
         }
-        self.failing.push(number)?;
+        self.step.failing.push(number)?;
         Ok(())
     }
 
-    fn hold(&mut self, held: Held) -> Result<(), Why> {
-        self.held.push(held)?;
-        Ok(())
+    fn turn(&mut self, text: &str) -> Result<(), Why> {
+        let was_said = !self.step.turns.is_empty();
+        self.step.turns = name_of(self.alloc, text)?;
+        refuse_twice(was_said)
     }
 
-    // A heading with a text.
-    fn text(&mut self, texts: &[File], block: &Block<'_>) -> Result<(), Why> {
-        let alloc = self.alloc;
-        match block.word {
-            "file" => self.put(file_of(alloc, texts, block)?),
-            "holds" => self.hold(held_of(file_of(alloc, texts, block)?)),
-            "out" => set(&mut self.output, wanted_of(alloc, texts, block)?),
-            "err" => set(&mut self.faults, wanted_of(alloc, texts, block)?),
-            _ => self.plain(block),
-        }
+    fn cut(&mut self, text: &str) -> Result<(), Why> {
+        let was_said = self.step.cut.is_some();
+        self.step.cut = Some(cut_of(self.alloc, text)?);
+        refuse_twice(was_said)
     }
 
     // A heading without a text.
-    fn plain(&mut self, block: &Block<'_>) -> Result<(), Why> {
-        refuse_text(&block.text)?;
-        let alloc = self.alloc;
-        match block.word {
-            "words" => set(&mut self.call, call_of(alloc, Target::TopCall, block.rest)?),
-            "asks" => set(&mut self.call, call_of(alloc, Target::Help, block.rest)?),
-            "status" => set(&mut self.answer, answer_of(block.rest)?),
-            "fails" => self.fail(block.rest),
-            "missing" => self.hold(named(alloc, block.rest, State::Missing)?),
-            "changes" => self.hold(named(alloc, block.rest, State::Changed)?),
-            "has" => self.hold(counted_of(alloc, block.rest)?),
-            "in_turn" => set(&mut self.turns, name_of(alloc, block.rest)?),
-            "cut" => set(&mut self.cut, cut_of(alloc, block.rest)?),
+    fn plain(&mut self, word: &str, rest: &str) -> Result<(), Why> {
+        match word {
+            "words" => self.call(Target::TopCall, rest),
+            "asks" => self.call(Target::Help, rest),
+            "status" => self.answer(rest),
+            "fails" => self.fail(rest),
+            "missing" => self.hold_named(rest, "", State::Missing),
+            "changes" => self.hold_named(rest, "", State::Changed),
+            "has" => self.hold_counted(rest),
+            "in_turn" => self.turn(rest),
+            "cut" => self.cut(rest),
             _ => Err(Why::Says("an unknown word")),
         }
     }
 
     /// Takes a heading.
     pub(crate) fn take(&mut self, texts: &[File], block: &Block<'_>) -> Result<(), Why> {
-        self.text(texts, block)
-    }
-
-    /// The line of its heading.
-    pub(crate) fn line(&self) -> u64 {
-        self.line
-    }
-
-    /// The step, if its words and its status are said.
-    pub(crate) fn finish(self) -> Result<Step, Refusal> {
-        let line = self.line;
-        let Draft {
-            alloc,
-            files,
-            failing,
-            call,
-            answer,
-            output,
-            faults,
-            held,
-            turns,
-            cut,
-            ..
-        } = self;
-        let (Some(call), Some(answer)) = (call, answer) else {
-            return Err(Refusal {
-                line,
-                why: Why::Says("the words or the status are missing"),
-            });
-        };
-        if !is_put(&files, &cut) {
-            return Err(Refusal {
-                line,
-                why: Why::Says("the file that is cut isn't put"),
-            });
+        match block.heading.word {
+            "file" => self.put(texts, block),
+            "holds" => self.hold_file(texts, block),
+            "out" => set_wanted(self.alloc, &mut self.step.output, texts, block),
+            "err" => set_wanted(self.alloc, &mut self.step.faults, texts, block),
+            word => {
+                refuse_text(block)?;
+                self.plain(word, block.heading.rest)
+            }
         }
-        Ok(Step {
-            files,
-            failing,
-            target: call.target,
-            words: call.words,
-            answer,
-            output: output.unwrap_or(Wanted::Exactly(Vec::new(alloc))),
-            faults: faults.unwrap_or(Wanted::Exactly(Vec::new(alloc))),
-            held,
-            turns: turns.unwrap_or(String::new(alloc)),
-            cut,
-        })
+    }
+
+    /// Refuses a step that isn't said whole.
+    pub(crate) fn refuse_unfinished(&self) -> Result<(), Why> {
+        if !self.has_words || !self.has_status {
+            return Err(Why::Says("the words or the status are missing"));
+        }
+        if self.step.cut.is_some() && self.step.cut_bytes().is_none() {
+            return Err(Why::Says("the file that is cut isn't put"));
+        }
+        Ok(())
+    }
+
+    /// The step as it is said.
+    pub(crate) fn into_step(self) -> Step {
+        let Draft { step, .. } = self;
+        step
     }
 }

@@ -15,25 +15,16 @@ pub(crate) struct Wrong<'a> {
 
 fn speaks_of(step: &Step, name: &str) -> bool {
     for held in &step.held {
-        if held.name.as_str() == name {
+        if held.file.name.as_str() == name {
             return true;
         }
     }
     false
 }
 
-fn is_spoken_of(steps: &[Step], name: &str) -> bool {
+fn is_named(steps: &[Step], name: &str) -> bool {
     for step in steps {
-        if speaks_of(step, name) {
-            return true;
-        }
-    }
-    false
-}
-
-fn is_put(steps: &[Step], name: &str) -> bool {
-    for step in steps {
-        if bytes_of(&step.files, name).is_some() {
+        if speaks_of(step, name) || bytes_of(&step.files, name).is_some() {
             return true;
         }
     }
@@ -45,8 +36,8 @@ fn changed_file<'a>(steps: &'a [Step], seen: &Seen) -> Option<&'a str> {
     let (step, later) = steps.split_first()?;
     for file in &step.files {
         let name = file.name.as_str();
-        if !is_spoken_of(steps, name)
-            && !is_put(later, name)
+        if !speaks_of(step, name)
+            && !is_named(later, name)
             && seen.file(name) != Some(file.bytes.as_slice())
         {
             return Some(name);
@@ -66,7 +57,7 @@ fn first_changed_file<'a>(steps: &'a [Step], seen: &Seen) -> Option<&'a str> {
 
 fn first_unheld<'a>(step: &'a Step, seen: &Seen) -> Option<&'a Held> {
     for held in &step.held {
-        if !is_held(&held.state, seen.file(&held.name)) {
+        if !is_held(held, seen.file(&held.file.name)) {
             return Some(held);
         }
     }
@@ -74,39 +65,35 @@ fn first_unheld<'a>(step: &'a Step, seen: &Seen) -> Option<&'a Held> {
 }
 
 fn unheld<'a>(held: &'a Held, came: Option<&'a [u8]>) -> Came<'a> {
-    match &held.state {
-        State::Words { word, .. } => Came::Words(word, count_of(came.unwrap_or(&[]), word)),
-        _ => Came::File(&held.name, came),
+    let bytes = held.file.bytes.as_slice();
+    match held.state {
+        State::Words { .. } => Came::Words(bytes, count_of(came.unwrap_or(&[]), bytes)),
+        _ => Came::File(&held.file.name, came),
     }
 }
 
 // What is otherwise than the steps so far say, of which `step` is the last.
 fn came_of_step<'a>(steps: &'a [Step], step: &'a Step, seen: &'a Seen) -> Option<Came<'a>> {
-    if seen.answer != step.answer {
-        return Some(seen.answered());
-    }
-    if !step.output.fits(&seen.output) {
-        return Some(seen.written());
-    }
-    if !step.faults.fits(&seen.faults) {
-        return Some(seen.told());
+    let came = seen.otherwise(
+        seen.answer == step.answer,
+        step.output.fits(&seen.output),
+        step.faults.fits(&seen.faults),
+    );
+    if came.is_some() {
+        return came;
     }
     if let Some(name) = first_changed_file(steps, seen) {
         return Some(Came::File(name, seen.file(name)));
     }
     let held = first_unheld(step, seen)?;
-    Some(unheld(held, seen.file(&held.name)))
+    Some(unheld(held, seen.file(&held.file.name)))
 }
 
 // A beginning of the file is refused as is said, or does what the whole file does.
 fn came_of_cut<'a>(step: &Step, cut: &Cut, seen: &'a Seen) -> Option<Came<'a>> {
     let is_refused = seen.answer == cut.answer && begins_with_any(&seen.faults, &cut.lines);
     let is_whole = seen.answer == step.answer && step.faults.fits(&seen.faults);
-    if is_refused || is_whole {
-        None
-    } else {
-        Some(seen.answered())
-    }
+    seen.otherwise(is_refused || is_whole, true, true)
 }
 
 // What is otherwise than a row says of the last of the steps so far.

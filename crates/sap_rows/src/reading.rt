@@ -2,43 +2,38 @@
 
 ghost use Rattle.std.specs.Prelude.{◌<◌, IfOk, vec_len};
 
-use crate::blocks::{Block, blocks_of};
-use crate::draft::{Draft, file_of, name_of};
+use crate::blocks::{Block, Line, lines_of, text_before};
+use crate::draft::{Draft, file_of, one_name};
 use crate::refusal::{Refusal, Why};
-use crate::table::{File, Row, Step, bytes_of};
+use crate::table::{File, Row, Step, push_new};
 use std::alloc::Global;
 use std::mem;
 
-/// A row that more headings may still go on, with its last step.
-#[derive(Drop)]
-struct OpenRow {
-    name: String,
-    steps: Vec<Step>,
-    draft: Draft,
-}
-
+/// The texts and rows so far. While the last row is open, headings go to its step that begins with the line.
 #[derive(Drop)]
 struct Reader {
     alloc: Global,
     texts: Vec<File>,
     rows: Vec<Row>,
-    open: Option<OpenRow>,
+    is_open: bool,
+    line: u64,
+    draft: Draft,
 }
 
-fn at<T>(line: u64, outcome: Result<T, Why>) -> Result<T, Refusal> {
+fn at(line: u64, outcome: Result<(), Why>) -> Result<(), Refusal> {
     match outcome {
-        Ok(value) => Ok(value),
+        Ok(()) => Ok(()),
         Err(why) => Err(Refusal { line, why }),
     }
 }
 
-fn have_turns(steps: &[Step]) -> bool {
+fn refuse_turns(steps: &[Step]) -> Result<(), Why> {
     for step in steps {
-        if !step.turns.is_empty() {
-            return true;
+        if steps.len() > 1 && !step.turns.is_empty() {
+            return Err(Why::Says("`in_turn` belongs to a row of one call"));
         }
     }
-    false
+    Ok(())
 }
 
 fn has_row(rows: &[Row], name: &str) -> bool {
@@ -50,42 +45,11 @@ fn has_row(rows: &[Row], name: &str) -> bool {
     false
 }
 
-impl OpenRow {
-    fn new(alloc: Global, name: String, line: u64) -> OpenRow {
-        OpenRow {
-            name,
-            steps: Vec::new(alloc),
-            draft: Draft::new(alloc, line),
-        }
+// Pushes a step of the last row.
+fn push_step(rows: &mut [Row], step: Step) -> Result<(), Why> {
+    if let Some(row) = rows.last_mut() {
+        row.steps.push(step)?;
     }
-
-    // Ends a step, and begins the next.
-    fn then(&mut self, alloc: Global, line: u64) -> Result<(), Refusal> {
-        let step = mem::replace(&mut self.draft, Draft::new(alloc, line)).finish()?;
-        at(line, push(&mut self.steps, step))
-    }
-
-    fn finish(self) -> Result<Row, Refusal> {
-        let OpenRow {
-            name,
-            mut steps,
-            draft,
-        } = self;
-        let line = draft.line();
-        let step = draft.finish()?;
-        at(line, push(&mut steps, step))?;
-        if steps.len() > 1 && have_turns(&steps) {
-            return at(
-                line,
-                Err(Why::Says("`in_turn` belongs to a row of one call")),
-            );
-        }
-        Ok(Row { name, steps })
-    }
-}
-
-fn push<T: Drop>(items: &mut Vec<T>, item: T) -> Result<(), Why> {
-    items.push(item)?;
     Ok(())
 }
 
@@ -95,18 +59,38 @@ impl Reader {
             alloc,
             texts: Vec::new(alloc),
             rows: Vec::new(alloc),
-            open: None,
+            is_open: false,
+            line: 0,
+            draft: Draft::new(alloc),
         }
     }
 
-    fn end_row(&mut self, line: u64) -> Result<(), Refusal> {
-        match mem::replace(&mut self.open, None) {
-            Some(open) => {
-                let row = open.finish()?;
-                at(line, push(&mut self.rows, row))
-            }
+    fn end_step(&mut self) -> Result<(), Why> {
+        if !self.is_open {
+            return Ok(());
+        }
+        self.draft.refuse_unfinished()?;
+        let step = mem::replace(&mut self.draft, Draft::new(self.alloc)).into_step();
+        push_step(&mut self.rows, step)
+    }
+
+    fn end_row(&mut self) -> Result<(), Why> {
+        self.end_step()?;
+        self.is_open = false;
+        match self.rows.last() {
+            Some(row) => refuse_turns(&row.steps),
             None => Ok(()),
         }
+    }
+
+    // Ends what a heading with this word doesn't go on.
+    fn end_before(&mut self, word: &str) -> Result<(), Refusal> {
+        let ended = match word {
+            "text" | "row" => self.end_row(),
+            "then" => self.end_step(),
+            _ => Ok(()),
+        };
+        at(self.line, ended)
     }
 
     fn text(&mut self, block: &Block<'_>) -> Result<(), Why> {
@@ -114,46 +98,62 @@ impl Reader {
         if text.bytes.is_empty() {
             return Err(Why::Says("a text has no lines"));
         }
-        if bytes_of(&self.texts, &text.name).is_some() {
-            return Err(Why::Says("a second text of this name"));
-        }
-        push(&mut self.texts, text)
+        push_new(&mut self.texts, text, "a second text of this name")
     }
 
-    fn row(&mut self, block: &Block<'_>) -> Result<(), Why> {
-        let name = name_of(self.alloc, block.rest)?;
-        if has_row(&self.rows, &name) {
+    fn row(&mut self, heading: &Line<'_>) -> Result<(), Why> {
+        let name = one_name(heading.rest)?;
+        if has_row(&self.rows, name) {
             return Err(Why::Says("a second row of this name"));
         }
-        self.open = Some(OpenRow::new(self.alloc, name, block.line));
+        let name = String::from_str(self.alloc, name)?;
+        let steps = Vec::new(self.alloc);
+        self.rows.push(Row { name, steps })?;
+        self.is_open = true;
+        self.line = heading.number;
         Ok(())
     }
 
     // A heading within a row.
-    fn step(&mut self, block: &Block<'_>) -> Result<(), Refusal> {
-        let alloc = self.alloc;
-        let Some(open) = &mut self.open else {
-            return at(block.line, Err(Why::Says("a row or a text has to begin")));
-        };
-        if block.word == "then" {
-            return open.then(alloc, block.line);
+    fn step(&mut self, block: &Block<'_>) -> Result<(), Why> {
+        if !self.is_open {
+            return Err(Why::Says("a row or a text has to begin"));
         }
-        at(block.line, open.draft.take(&self.texts, block))
+        if block.heading.word == "then" {
+            self.line = block.heading.number;
+            return Ok(());
+        }
+        self.draft.take(&self.texts, block)
     }
 
     fn take(&mut self, block: &Block<'_>) -> Result<(), Refusal> {
-        match block.word {
-            "text" => {
-                self.end_row(block.line)?;
-                at(block.line, self.text(block))
-            }
-            "row" => {
-                self.end_row(block.line)?;
-                at(block.line, self.row(block))
-            }
+        self.end_before(block.heading.word)?;
+        let taken = match block.heading.word {
+            "text" => self.text(block),
+            "row" => self.row(&block.heading),
             _ => self.step(block),
-        }
+        };
+        at(block.heading.number, taken)
     }
+
+    fn read(&mut self, lines: &[Line<'_>]) -> Result<(), Refusal> {
+        for (place, line) in lines.iter().enumerate() {
+            if !line.is_text {
+                let text = text_before(&lines[place + 1..]);
+                self.take(&Block {
+                    heading: *line,
+                    text,
+                })?;
+            }
+        }
+        self.end_before("row")
+    }
+}
+
+fn rows_of(alloc: Global, lines: &[Line<'_>]) -> Result<Vec<Row>, Refusal> {
+    let mut reader = Reader::new(alloc);
+    reader.read(lines)?;
+    Ok(reader.rows)
 }
 
 /// The rows of a table's text.
@@ -166,17 +166,13 @@ pub fn read_table(alloc: Global, table: &[u8]) -> Result<Vec<Row>, Refusal>
             why: Why::Says("no text"),
         });
     };
-    let blocks = blocks_of(alloc, table)?;
-    let mut reader = Reader::new(alloc);
-    for block in &blocks {
-        reader.take(block)?;
-    }
-    reader.end_row(0)?;
-    if reader.rows.is_empty() {
+    let lines = lines_of(alloc, table)?;
+    let rows = rows_of(alloc, &lines)?;
+    if rows.is_empty() {
         return Err(Refusal {
             line: 0,
             why: Why::Says("no rows"),
         });
     }
-    Ok(reader.rows)
+    Ok(rows)
 }

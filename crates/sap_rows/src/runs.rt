@@ -3,7 +3,7 @@
 ghost use Rattle.std.specs.Prelude.{◌≡◌, ◌≢◌, [], length, take, drop};
 ghost use Rattle.sap_rows.specs.declared.runs.Circumstance.TheVariants.{AsItStands};
 
-use crate::table::{File, Row, Step, bytes_of};
+use crate::table::{File, Row, Step};
 
 /// How a row is run: as it stands, with this call on the desk failing, or with so many bytes of a file.
 #[derive(Clone, Copy)]
@@ -45,13 +45,6 @@ pub fn bytes_put<'a>(step: &Step, file: &'a File, circumstance: Circumstance) ->
     }
 }
 
-fn cut_length(step: &Step) -> usize {
-    match &step.cut {
-        Some(cut) => bytes_of(&step.files, &cut.file).unwrap_or(&[]).len(),
-        None => 0,
-    }
-}
-
 /// How many further runs a row has: one for each call on the desk and one with a call failing that is never made, or one
 /// for each length at which its file is cut.
 pub fn further_runs(row: &Row) -> usize
@@ -59,7 +52,7 @@ pub fn further_runs(row: &Row) -> usize
 {
     match row.steps.first() {
         Some(step) if !step.turns.is_empty() => step.turns.len().saturating_add(1),
-        Some(step) => cut_length(step),
+        Some(step) => step.cut_bytes().unwrap_or(&[]).len(),
         None => 0,
     }
 }

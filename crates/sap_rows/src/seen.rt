@@ -18,7 +18,7 @@ pub(crate) enum Came<'a> {
     Output(&'a [u8]),
     Faults(&'a [u8]),
     File(&'a str, Option<&'a [u8]>),
-    Words(&'a str, u64),
+    Words(&'a [u8], u64),
 }
 
 impl Seen {
@@ -26,15 +26,16 @@ impl Seen {
         bytes_of(&self.files, name)
     }
 
-    pub(crate) fn answered(&self) -> Came<'_> {
-        Came::Answer(self.answer, self.faults.as_slice())
-    }
-
-    pub(crate) fn written(&self) -> Came<'_> {
-        Came::Output(self.output.as_slice())
-    }
-
-    pub(crate) fn told(&self) -> Came<'_> {
-        Came::Faults(self.faults.as_slice())
+    /// What of the answer and of what the channels gained is the first not to be as it has to be.
+    pub(crate) fn otherwise(&self, answer: bool, output: bool, faults: bool) -> Option<Came<'_>> {
+        if !answer {
+            Some(Came::Answer(self.answer, self.faults.as_slice()))
+        } else if !output {
+            Some(Came::Output(self.output.as_slice()))
+        } else if !faults {
+            Some(Came::Faults(self.faults.as_slice()))
+        } else {
+            None
+        }
     }
 }

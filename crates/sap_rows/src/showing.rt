@@ -9,52 +9,40 @@ use crate::seen::{Came, Seen};
 use crate::table::{Answer, Row};
 use std::alloc::AllocError;
 
-// How much of a text is shown.
+// How much of a text is shown in quotes.
 const SHOWN: usize = 400;
 
-fn push_texts(out: &mut String, texts: &[&str]) -> Result<(), AllocError>
-    ensures { OnOk result (string_len out.old ≤ string_len out.new) }
-{
-    for text in texts {
-        out.push_str(text)?;
-    }
-    Ok(())
+/// What a line is put together from.
+#[derive(Clone, Copy)]
+enum Part<'a> {
+    Text(&'a str),
+    Number(u64),
+    Quoted(&'a [u8]),
 }
 
-// A number between texts.
-fn push_number(
-    out: &mut String,
-    before: &[&str],
-    number: u64,
-    behind: &str,
-) -> Result<(), AllocError>
+fn push_hexadecimal(out: &mut String, byte: u8) -> Result<(), AllocError>
     ensures { OnOk result (string_len out.old ≤ string_len out.new) }
 {
-    let shown = format!(in *out.allocator(); "{number}")?;
-    push_texts(out, before)?;
-    push_texts(out, &[&shown, behind])
+    let shown = format!(in *out.allocator(); "\\x{byte:02x}")?;
+    out.push_str(&shown)
 }
 
 fn push_byte(out: &mut String, byte: u8) -> Result<(), AllocError>
     ensures { OnOk result (string_len out.old ≤ string_len out.new) }
 {
-    match byte {
-        b'\n' => out.push_str("\\n"),
-        b'"' => out.push_str("\\\""),
-        b'\\' => out.push_str("\\\\"),
-        b' '..=b'~' => out.push(char::from(byte)),
-        _ => {
-            let shown = format!(in *out.allocator(); "\\x{byte:02x}")?;
-            out.push_str(&shown)
-        }
-    }
+    let escape = match byte {
+        b'\n' => "\\n",
+        b'"' => "\\\"",
+        b'\\' => "\\\\",
+        b' '..=b'~' => return out.push(char::from(byte)),
+        _ => return push_hexadecimal(out, byte),
+    };
+    out.push_str(escape)
 }
 
-// A text in quotes behind other texts.
-fn push_quoted(out: &mut String, before: &[&str], bytes: &[u8]) -> Result<(), AllocError>
+fn push_quoted(out: &mut String, bytes: &[u8]) -> Result<(), AllocError>
     ensures { OnOk result (string_len out.old ≤ string_len out.new) }
 {
-    push_texts(out, before)?;
     out.push_str("\"")?;
     for byte in bytes.iter().take(SHOWN) {
         push_byte(out, *byte)?;
@@ -62,51 +50,94 @@ fn push_quoted(out: &mut String, before: &[&str], bytes: &[u8]) -> Result<(), Al
     out.push_str(if bytes.len() > SHOWN { "\".." } else { "\"" })
 }
 
-fn push_answer(out: &mut String, answer: Answer) -> Result<(), AllocError>
+fn push_part(out: &mut String, part: Part<'_>) -> Result<(), AllocError>
     ensures { OnOk result (string_len out.old ≤ string_len out.new) }
 {
-    match answer {
-        Answer::Status(status) => push_number(out, &["status "], u64::from(status), ""),
-        Answer::Nothing => out.push_str("status none"),
+    match part {
+        Part::Text(text) => out.push_str(text),
+        Part::Number(number) => {
+            let shown = format!(in *out.allocator(); "{number}")?;
+            out.push_str(&shown)
+        }
+        Part::Quoted(bytes) => push_quoted(out, bytes),
     }
 }
 
-fn push_came(out: &mut String, came: Came<'_>) -> Result<(), AllocError>
+fn push_parts(out: &mut String, parts: &[Part<'_>]) -> Result<(), AllocError>
     ensures { OnOk result (string_len out.old ≤ string_len out.new) }
 {
+    for part in parts {
+        push_part(out, *part)?;
+    }
+    Ok(())
+}
+
+fn push_line(out: &mut String, parts: &[Part<'_>]) -> Result<(), AllocError>
+    ensures { OnOk result (string_len out.old < string_len out.new) }
+{
+    push_parts(out, parts)?;
+    out.push_str("\n")
+}
+
+fn status_of(answer: Answer) -> Part<'static> {
+    match answer {
+        Answer::Status(status) => Part::Number(u64::from(status)),
+        Answer::Nothing => Part::Text("none"),
+    }
+}
+
+// What came, and what it came as.
+fn parts_of<'a>(came: Came<'a>) -> [Part<'a>; 4] {
+    let none = Part::Text("");
     match came {
-        Came::Answer(answer, faults) => {
-            push_answer(out, answer)?;
-            push_quoted(out, &[", err "], faults)
-        }
-        Came::Output(bytes) => push_quoted(out, &["out "], bytes),
-        Came::Faults(bytes) => push_quoted(out, &["err "], bytes),
-        Came::File(name, Some(bytes)) => push_quoted(out, &["file ", name, " "], bytes),
-        Came::File(name, None) => push_texts(out, &["no file ", name]),
-        Came::Words(word, count) => push_number(out, &[word, " "], count, " times"),
+        Came::Answer(answer, faults) => [
+            Part::Text("status "),
+            status_of(answer),
+            Part::Text(", err "),
+            Part::Quoted(faults),
+        ],
+        Came::Output(bytes) => [Part::Text("out "), Part::Quoted(bytes), none, none],
+        Came::Faults(bytes) => [Part::Text("err "), Part::Quoted(bytes), none, none],
+        Came::File(name, Some(bytes)) => [
+            Part::Text("file "),
+            Part::Text(name),
+            Part::Text(" "),
+            Part::Quoted(bytes),
+        ],
+        Came::File(name, None) => [Part::Text("no file "), Part::Text(name), none, none],
+        Came::Words(word, count) => [
+            Part::Text(std::str::from_utf8(word).unwrap_or("")),
+            Part::Text(" "),
+            Part::Number(count),
+            Part::Text(" times"),
+        ],
     }
 }
 
 fn push_circumstance(out: &mut String, circumstance: Circumstance) -> Result<(), AllocError>
     ensures { OnOk result (string_len out.old ≤ string_len out.new) }
 {
-    match circumstance {
-        Circumstance::AsItStands => Ok(()),
-        Circumstance::Failing(number) => {
-            push_number(out, &[" where call "], number as u64, " on the desk fails")
-        }
-        Circumstance::CutAt(length) => {
-            push_number(out, &[" where "], length as u64, " bytes are left")
-        }
-    }
+    let (before, number, behind) = match circumstance {
+        Circumstance::AsItStands => return Ok(()),
+        Circumstance::Failing(number) => (" where call ", number, " on the desk fails"),
+        Circumstance::CutAt(length) => (" where ", length, " bytes are left"),
+    };
+    push_parts(
+        out,
+        &[
+            Part::Text(before),
+            Part::Number(number as u64),
+            Part::Text(behind),
+        ],
+    )
 }
 
 /// Appends the line of a row that came out otherwise in a run; whether it did. `seen` is what the run left, and `whole`
 /// what the row left as it stands.
-pub fn push_difference(
+pub fn push_difference<'a>(
     out: &mut String,
-    table: &str,
-    row: &Row,
+    table: &'a str,
+    row: &'a Row,
     circumstance: Circumstance,
     whole: &[Seen],
     seen: &[Seen],
@@ -117,11 +148,19 @@ pub fn push_difference(
     let Some(wrong) = first_wrong(row, circumstance, whole, seen) else {
         return Ok(false);
     };
-    push_number(out, &[table, ": ", &row.name, ": call "], wrong.call, "")?;
+    push_parts(
+        out,
+        &[
+            Part::Text(table),
+            Part::Text(": "),
+            Part::Text(&row.name),
+            Part::Text(": call "),
+            Part::Number(wrong.call),
+        ],
+    )?;
     push_circumstance(out, circumstance)?;
-    out.push_str(": came ")?;
-    push_came(out, wrong.came)?;
-    out.push_str("\n")?;
+    push_parts(out, &[Part::Text(": came ")])?;
+    push_line(out, &parts_of(wrong.came))?;
     Ok(true)
 }
 
@@ -134,9 +173,17 @@ pub fn push_counts(
 ) -> Result<(), AllocError>
     ensures { OnOk result (string_len out.old < string_len out.new) }
 {
-    push_number(out, &[table, ": "], rows as u64, " rows, ")?;
-    push_number(out, &[], differing, " differ")?;
-    out.push_str("\n")
+    push_line(
+        out,
+        &[
+            Part::Text(table),
+            Part::Text(": "),
+            Part::Number(rows as u64),
+            Part::Text(" rows, "),
+            Part::Number(differing),
+            Part::Text(" differ"),
+        ],
+    )
 }
 
 /// Appends the line of a table that is refused.
@@ -144,11 +191,16 @@ pub fn push_refusal(out: &mut String, table: &str, refusal: Refusal) -> Result<(
     ensures { OnOk result (string_len out.old < string_len out.new) }
 {
     match refusal.why {
-        Why::Says(text) => {
-            push_number(out, &[table, ": line "], refusal.line, ": ")?;
-            out.push_str(text)?;
-        }
-        Why::Memory => push_texts(out, &[table, ": memory"])?,
+        Why::Says(text) => push_line(
+            out,
+            &[
+                Part::Text(table),
+                Part::Text(": line "),
+                Part::Number(refusal.line),
+                Part::Text(": "),
+                Part::Text(text),
+            ],
+        ),
+        Why::Memory => push_line(out, &[Part::Text(table), Part::Text(": memory")]),
     }
-    out.push_str("\n")
 }

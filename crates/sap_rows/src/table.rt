@@ -1,5 +1,8 @@
 //! Rows of a table: calls over a desk, and what has to come of them.
 
+use crate::refusal::Why;
+use std::alloc::Global;
+
 /// A file of a desk, or a text that several rows share.
 #[derive(Drop)]
 pub struct File {
@@ -21,29 +24,36 @@ pub enum Answer {
     Nothing,
 }
 
+/// How what comes is compared with a text.
+#[derive(Clone, Copy)]
+pub enum Comparison {
+    Exactly,
+    Beginning,
+    Part,
+}
+
 /// What a channel has to gain.
 #[derive(Drop)]
-pub enum Wanted {
-    Exactly(Vec<u8>),
-    Beginning(Vec<u8>),
-    Part(Vec<u8>),
+pub struct Wanted {
+    pub text: Vec<u8>,
+    pub comparison: Comparison,
 }
 
 /// What a file has to be after a call.
-#[derive(Drop)]
+#[derive(Clone, Copy)]
 pub enum State {
-    Exactly(Vec<u8>),
+    Exactly,
     Missing,
     /// Something else than before, whatever it is.
     Changed,
     /// A word stands in it at least and at most so many times.
-    Words { word: String, least: u64, most: u64 },
+    Words { least: u64, most: u64 },
 }
 
-/// A file that a call may leave otherwise than it was.
+/// A file that a call may leave otherwise than it was: with the bytes of its state, or with the word that is counted.
 #[derive(Drop)]
 pub struct Held {
-    pub name: String,
+    pub file: File,
     pub state: State,
 }
 
@@ -80,6 +90,41 @@ pub struct Row {
     pub steps: Vec<Step>,
 }
 
+impl Wanted {
+    fn nothing(alloc: Global) -> Wanted {
+        Wanted {
+            text: Vec::new(alloc),
+            comparison: Comparison::Exactly,
+        }
+    }
+}
+
+impl Step {
+    /// A call with no words, of which nothing is said.
+    pub(crate) fn new(alloc: Global) -> Step {
+        Step {
+            files: Vec::new(alloc),
+            failing: Vec::new(alloc),
+            target: Target::TopCall,
+            words: Vec::new(alloc),
+            answer: Answer::Nothing,
+            output: Wanted::nothing(alloc),
+            faults: Wanted::nothing(alloc),
+            held: Vec::new(alloc),
+            turns: String::new(alloc),
+            cut: None,
+        }
+    }
+
+    /// The whole bytes of the file that is cut, where it is put.
+    pub(crate) fn cut_bytes(&self) -> Option<&[u8]> {
+        match &self.cut {
+            Some(cut) => bytes_of(&self.files, &cut.file),
+            None => None,
+        }
+    }
+}
+
 /// The bytes of the first file with a name.
 pub(crate) fn bytes_of<'a>(files: &'a [File], name: &str) -> Option<&'a [u8]> {
     for file in files {
@@ -88,4 +133,13 @@ pub(crate) fn bytes_of<'a>(files: &'a [File], name: &str) -> Option<&'a [u8]> {
         }
     }
     None
+}
+
+/// Pushes a file whose name none has; else the table says what is wrong.
+pub(crate) fn push_new(files: &mut Vec<File>, file: File, wrong: &'static str) -> Result<(), Why> {
+    if bytes_of(files, &file.name).is_some() {
+        return Err(Why::Says(wrong));
+    }
+    files.push(file)?;
+    Ok(())
 }

@@ -1,23 +1,26 @@
 //! The lines of texts.
 
+use crate::blocks::{Block, Line};
 use crate::refusal::Why;
 use crate::table::{File, bytes_of};
+use std::alloc::Global;
 
-/// How far an escape goes that a `\` begins.
+/// How far an escape goes that a `\` begins, or the byte that is whole.
 #[derive(Clone, Copy)]
 enum Escape {
-    Outside,
+    Whole(u8),
     Begun,
     Number,
     NumberBegun(u8),
 }
 
-fn escaped(byte: u8) -> Result<u8, Why> {
+fn escaped(byte: u8) -> Result<Escape, Why> {
     match byte {
-        b'\\' => Ok(b'\\'),
-        b't' => Ok(b'\t'),
-        b'r' => Ok(b'\r'),
-        b'n' => Ok(b'\n'),
+        b'\\' => Ok(Escape::Whole(b'\\')),
+        b't' => Ok(Escape::Whole(b'\t')),
+        b'r' => Ok(Escape::Whole(b'\r')),
+        b'n' => Ok(Escape::Whole(b'\n')),
+        b'x' => Ok(Escape::Number),
         _ => Err(Why::Says("an unknown escape")),
     }
 }
@@ -30,33 +33,40 @@ fn hexadecimal(byte: u8) -> Result<u8, Why> {
     }
 }
 
+// What a byte makes of the escape before it.
+fn next(escape: Escape, byte: u8) -> Result<Escape, Why> {
+    match escape {
+        Escape::Whole(_) if byte == b'\\' => Ok(Escape::Begun),
+        Escape::Whole(_) => Ok(Escape::Whole(byte)),
+        Escape::Begun => escaped(byte),
+        Escape::Number => Ok(Escape::NumberBegun(hexadecimal(byte)?)),
+        Escape::NumberBegun(high) => {
+            let low = hexadecimal(byte)?;
+            Ok(Escape::Whole(high.wrapping_mul(16).wrapping_add(low)))
+        }
+    }
+}
+
 /// Pushes a text with its escapes replaced.
-pub(crate) fn push_escaped(out: &mut Vec<u8>, text: &str) -> Result<(), Why> {
-    let mut escape = Escape::Outside;
+fn push_escaped(out: &mut Vec<u8>, text: &str) -> Result<(), Why> {
+    let mut escape = Escape::Whole(0);
     for byte in text.bytes() {
-        escape = match escape {
-            Escape::Outside if byte == b'\\' => Escape::Begun,
-            Escape::Outside => {
-                out.push(byte)?;
-                Escape::Outside
-            }
-            Escape::Begun if byte == b'x' => Escape::Number,
-            Escape::Begun => {
-                out.push(escaped(byte)?)?;
-                Escape::Outside
-            }
-            Escape::Number => Escape::NumberBegun(hexadecimal(byte)?),
-            Escape::NumberBegun(high) => {
-                let low = hexadecimal(byte)?;
-                out.push(high.wrapping_mul(16).wrapping_add(low))?;
-                Escape::Outside
-            }
-        };
+        escape = next(escape, byte)?;
+        if let Escape::Whole(byte) = escape {
+            out.push(byte)?;
+        }
     }
     match escape {
-        Escape::Outside => Ok(()),
+        Escape::Whole(_) => Ok(()),
         _ => Err(Why::Says("an escape is cut")),
     }
+}
+
+/// A text with its escapes replaced.
+pub(crate) fn unescaped(alloc: Global, text: &str) -> Result<Vec<u8>, Why> {
+    let mut bytes = Vec::new(alloc);
+    push_escaped(&mut bytes, text)?;
+    Ok(bytes)
 }
 
 pub(crate) fn number_of(text: &str) -> Result<u64, Why> {
@@ -74,14 +84,17 @@ fn split_number(text: &str) -> Result<(u64, &str), Why> {
     }
 }
 
-fn push_repeated(out: &mut Vec<u8>, text: &str) -> Result<(), Why> {
-    let (times, behind) = split_number(text)?;
-    let mut piece = Vec::new(*out.allocator());
-    push_escaped(&mut piece, behind)?;
+fn push_copies(out: &mut Vec<u8>, piece: &[u8], times: u64) -> Result<(), Why> {
     for _ in 0..times {
-        out.extend_from_slice(piece.as_slice())?;
+        out.extend_from_slice(piece)?;
     }
     Ok(())
+}
+
+fn push_repeated(out: &mut Vec<u8>, text: &str) -> Result<(), Why> {
+    let (times, behind) = split_number(text)?;
+    let piece = unescaped(*out.allocator(), behind)?;
+    push_copies(out, &piece, times)
 }
 
 /// A number, or what is left of it where a modulus is given.
@@ -95,18 +108,27 @@ fn reduced(number: u64, modulus: &str) -> Result<u64, Why> {
     }
 }
 
+fn push_decimal(out: &mut Vec<u8>, number: u64) -> Result<(), Why> {
+    let shown = format!(in *out.allocator(); "{number}")?;
+    out.extend_from_slice(shown.as_bytes())?;
+    Ok(())
+}
+
+// A number in place of `MODULUS}`, and the text behind it.
+fn push_piece(out: &mut Vec<u8>, number: u64, piece: &str) -> Result<(), Why> {
+    let Some((modulus, behind)) = piece.split_once('}') else {
+        return Err(Why::Says("a brace is open"));
+    };
+    push_decimal(out, reduced(number, modulus)?)?;
+    push_escaped(out, behind)
+}
+
 // A text with a number in place of each `{}` and `{MODULUS}`.
 fn push_numbered(out: &mut Vec<u8>, number: u64, text: &str) -> Result<(), Why> {
     let mut pieces = text.split('{');
     push_escaped(out, pieces.next().unwrap_or(""))?;
     for piece in pieces {
-        let Some((modulus, behind)) = piece.split_once('}') else {
-            return Err(Why::Says("a brace is open"));
-        };
-        let shown = reduced(number, modulus)?;
-        let shown = format!(in *out.allocator(); "{shown}")?;
-        out.extend_from_slice(shown.as_bytes())?;
-        push_escaped(out, behind)?;
+        push_piece(out, number, piece)?;
     }
     Ok(())
 }
@@ -119,12 +141,22 @@ fn push_counted(out: &mut Vec<u8>, text: &str) -> Result<(), Why> {
     Ok(())
 }
 
-/// The bytes of a shared text.
-pub(crate) fn text_of<'a>(texts: &'a [File], name: &str) -> Result<&'a [u8], Why> {
+fn shared<'a>(texts: &'a [File], name: &str) -> Result<&'a [u8], Why> {
     match bytes_of(texts, name) {
         Some(bytes) => Ok(bytes),
         None => Err(Why::Says("no text has this name")),
     }
+}
+
+fn push_shared(texts: &[File], out: &mut Vec<u8>, name: &str) -> Result<(), Why> {
+    out.extend_from_slice(shared(texts, name)?)?;
+    Ok(())
+}
+
+fn push_ended(out: &mut Vec<u8>, text: &str) -> Result<(), Why> {
+    push_escaped(out, text)?;
+    out.push(b'\n')?;
+    Ok(())
 }
 
 /// Whether a line is one of a text, by its first word.
@@ -132,25 +164,50 @@ pub(crate) fn is_of_text(word: &str) -> bool {
     matches!(word, "|" | ">" | "repeat" | "count" | "use")
 }
 
-/// Pushes what a line of a text says.
-pub(crate) fn push_line(texts: &[File], out: &mut Vec<u8>, line: &str) -> Result<(), Why> {
-    if line == "|" {
-        out.push(b'\n')?;
-        return Ok(());
+// Pushes what a line of a text says.
+fn push_line(texts: &[File], out: &mut Vec<u8>, line: &Line<'_>) -> Result<(), Why> {
+    if line.word == "|" {
+        return push_ended(out, line.rest);
     }
-    let Some((word, text)) = line.split_once(' ') else {
+    if line.rest.is_empty() {
         return Err(Why::Says("a line of a text has none"));
-    };
-    match word {
-        "|" => {
-            push_escaped(out, text)?;
-            out.push(b'\n')?;
-        }
-        ">" => push_escaped(out, text)?,
-        "repeat" => push_repeated(out, text)?,
-        "count" => push_counted(out, text)?,
-        "use" => out.extend_from_slice(text_of(texts, text)?)?,
-        _ => return Err(Why::Says("no line of a text")),
     }
-    Ok(())
+    match line.word {
+        ">" => push_escaped(out, line.rest),
+        "repeat" => push_repeated(out, line.rest),
+        "count" => push_counted(out, line.rest),
+        _ => push_shared(texts, out, line.rest),
+    }
+}
+
+fn own_text(alloc: Global, texts: &[File], block: &Block<'_>) -> Result<Vec<u8>, Why> {
+    let mut bytes = Vec::new(alloc);
+    for line in block.text {
+        push_line(texts, &mut bytes, line)?;
+    }
+    Ok(bytes)
+}
+
+/// Refuses a text below a heading that takes none.
+pub(crate) fn refuse_text(block: &Block<'_>) -> Result<(), Why> {
+    if block.text.is_empty() {
+        Ok(())
+    } else {
+        Err(Why::Says("no text belongs below this line"))
+    }
+}
+
+/// The text below a heading, or the shared one that it names.
+pub(crate) fn text_of(
+    alloc: Global,
+    texts: &[File],
+    block: &Block<'_>,
+    name: Option<&str>,
+) -> Result<Vec<u8>, Why> {
+    let Some(name) = name else {
+        return own_text(alloc, texts, block);
+    };
+    refuse_text(block)?;
+    let bytes = shared(texts, name)?;
+    Ok(bytes.to_vec(alloc)?)
 }

@@ -60,7 +60,7 @@ fn output_of<'a>(turn: &Turn<'a>) -> &'a [u8] {
 
 fn changes(step: &Step, name: &str) -> bool {
     for held in &step.held {
-        if held.name.as_str() == name && matches!(held.state, State::Changed) {
+        if held.file.name.as_str() == name && matches!(held.state, State::Changed) {
             return true;
         }
     }
@@ -101,14 +101,13 @@ pub(crate) fn came_of_turn<'a>(
     seen: &'a Seen,
 ) -> Option<Came<'a>> {
     let turn = turn_of(step, number)?;
-    if seen.answer != answer_of(&turn) {
-        return Some(seen.answered());
-    }
-    if seen.output.as_slice() != output_of(&turn) {
-        return Some(seen.written());
-    }
-    if !is_told(&turn, &seen.faults) {
-        return Some(seen.told());
+    let came = seen.otherwise(
+        seen.answer == answer_of(&turn),
+        seen.output.as_slice() == output_of(&turn),
+        is_told(&turn, &seen.faults),
+    );
+    if came.is_some() {
+        return came;
     }
     let name = changed_file(&turn, whole, seen)?;
     Some(Came::File(name, seen.file(name)))

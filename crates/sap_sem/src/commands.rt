@@ -1,13 +1,14 @@
 //! Commands with the numbers of their check sites, and with what hangs on them.
 
-ghost use Rattle.std.specs.Prelude.{◌≡◌, ◌+◌, ◌++◌, ◌<◌, ◌^◌, IfOk, OnOk, length};
+ghost use Rattle.std.specs.Prelude.{◌≡◌, ◌+◌, ◌++◌, ◌<◌, ◌^◌, IfOk, None, OnOk, Some, length};
 ghost use Rattle.sap_meaning.specs.Program as meaning;
 ghost use Rattle.sap_program.specs.Hangs.{flags};
 ghost use Rattle.sap_sem.specs.Surroundings.{surroundings_of, rows_of};
 ghost use Rattle.sap_sem.specs.Lists as lists;
-ghost use Rattle.sap_sem.specs.Rows.{arms_points, arms_with, command_points, command_with, block_points, block_with};
+ghost use Rattle.sap_sem.specs.Rows.{arms_points, arms_with, command_points, command_with, block_points, block_with, step_points, step_with};
 ghost use Rattle.sap_program.specs.Views as views;
 ghost use Rattle.sap_resolve.specs.Resolve as resolve;
+ghost use Rattle.sap_resolve.specs.Terms as terms;
 ghost use Rattle.sap_shape.specs.Sites as sites;
 ghost use Rattle.sap_tree.specs.Trees as trees;
 
@@ -16,19 +17,155 @@ use crate::rows::row;
 use crate::seat::Seat;
 use crate::steps::{step, take_site};
 use sap_program::hang::Hang;
-use sap_program::program::{Arm, Command};
-use sap_tree::syntax::{Arm as ArmTree, Block, Cmd, Expr};
+use sap_program::program::{Arm, Command, Step};
+use sap_tree::syntax::{Arm as ArmTree, Block, Cmd, Expr, Simple};
 use std::alloc::{AllocError, Global};
 
-/// What hangs on the next point.
-fn take_row(alloc: Global, seat: &Seat<'_>, point: &mut u32) -> Result<Hang, AllocError>
+/// The number of the next point. That of the point behind it is kept.
+fn take_point(point: &mut u32) -> u32
     requires { point.old + 1 < 2 ^ 32 }
-    ensures row { IfOk result (λ h. flags (length seat.now.names.now) h ≡ rows_of seat.now point.old) }
-    ensures point { OnOk result (point.new ≡ point.old + 1) }
+    ensures number { result ≡ point.old }
+    ensures point { point.new ≡ point.old + 1 }
 {
-    let hang = row(alloc, seat.table, seat.names.count(), *point)?;
+    let taken = *point;
     *point += 1;
-    Ok(hang)
+    taken
+}
+
+/// The number of the first point of a step that may be refused. That of the point behind its last one is kept.
+fn take_points(seat: &Seat<'_>, point: &mut u32, site: u32, command: &Simple) -> u32
+    requires { point.old + (step_points (resolve.step_of seat.now.lattice.now (surroundings_of seat.now) site (trees.simple_of command.now)) + 1) < 2 ^ 32 }
+    ensures number { result ≡ point.old }
+    ensures point { point.new ≡ point.old + step_points (resolve.step_of seat.now.lattice.now (surroundings_of seat.now) site (trees.simple_of command.now)) + 1 }
+{
+    let taken = *point;
+    match command {
+        Simple::Fall(_) => *point += 2,
+        Simple::Assign(..)
+        | Simple::Write(..)
+        | Simple::SetTag(..)
+        | Simple::SetCellTag(..)
+        | Simple::Goto(..) => *point += 1,
+    }
+    taken
+}
+
+/// A step that may be refused, and what hangs on the point behind it.
+#[derive(Drop)]
+struct Attempt {
+    step: Step,
+    hang: Hang,
+}
+
+/// The number of its first point is `point`.
+fn refusable_step(
+    alloc: Global,
+    seat: &Seat<'_>,
+    site: u32,
+    mut point: u32,
+    command: &Simple,
+) -> Result<Attempt, AllocError>
+    requires { point + step_points (resolve.step_of seat.now.lattice.now (surroundings_of seat.now) site (trees.simple_of command.now)) < 2 ^ 32 }
+    ensures step { IfOk result (λ a. views.step_of (length seat.now.names.now) a.step ≡ step_with (rows_of seat.now) point (resolve.step_of seat.now.lattice.now (surroundings_of seat.now) site (trees.simple_of command.now))) }
+    ensures hang { IfOk result (λ a. flags (length seat.now.names.now) a.hang ≡ rows_of seat.now (point + step_points (resolve.step_of seat.now.lattice.now (surroundings_of seat.now) site (trees.simple_of command.now)))) }
+{
+    let step = step(alloc, seat, site, &mut point, command)?;
+    let hang = row(alloc, seat.table, seat.names.count(), point)?;
+    Ok(Attempt { step, hang })
+}
+
+/// The commands of an `otherwise` are made: the step with its handler; `point` is the number of its first point.
+#[tactic(auto, using(sap_program::proofs::Shown::commands))]
+fn handled(
+    alloc: Global,
+    seat: &Seat<'_>,
+    site: u32,
+    point: u32,
+    command: &Simple,
+    handler: Vec<Command>,
+) -> Result<Command, AllocError>
+    requires { point + step_points (resolve.step_of seat.now.lattice.now (surroundings_of seat.now) site (trees.simple_of command.now)) < 2 ^ 32 }
+    ensures { let count = length seat.now.names.now in
+        let step = resolve.step_of seat.now.lattice.now (surroundings_of seat.now) site (trees.simple_of command.now) in
+        IfOk result (λ r. views.command_of count r ≡ meaning.try (step_with (rows_of seat.now) point step) (rows_of seat.now (point + step_points step)) (views.block_of count handler.items)) }
+{
+    let made = refusable_step(alloc, seat, site, point, command)?;
+    Ok(Command::Try {
+        step: made.step,
+        hang: made.hang,
+        handler,
+    })
+}
+
+/// The commands of a `then` are made: the step with both; `point` is the number of its first point.
+#[tactic(auto, using(sap_program::proofs::Shown::commands))]
+fn decided(
+    alloc: Global,
+    seat: &Seat<'_>,
+    site: u32,
+    point: u32,
+    command: &Simple,
+    accepted: Vec<Command>,
+    refused: Vec<Command>,
+) -> Result<Command, AllocError>
+    requires { point + step_points (resolve.step_of seat.now.lattice.now (surroundings_of seat.now) site (trees.simple_of command.now)) < 2 ^ 32 }
+    ensures { let count = length seat.now.names.now in
+        let step = resolve.step_of seat.now.lattice.now (surroundings_of seat.now) site (trees.simple_of command.now) in
+        IfOk result (λ r. views.command_of count r ≡ meaning.try_then (step_with (rows_of seat.now) point step) (rows_of seat.now (point + step_points step)) (views.block_of count accepted.items) (views.block_of count refused.items)) }
+{
+    let made = refusable_step(alloc, seat, site, point, command)?;
+    Ok(Command::TryThen {
+        step: made.step,
+        hang: made.hang,
+        accepted,
+        refused,
+    })
+}
+
+/// The commands of an `if` are made: the `if`, whose point has this number.
+#[tactic(auto, using(sap_program::proofs::Shown::commands))]
+fn conditional(
+    alloc: Global,
+    seat: &Seat<'_>,
+    point: u32,
+    e: &Expr,
+    yes: Vec<Command>,
+    no: Vec<Command>,
+) -> Result<Command, AllocError>
+    ensures { let count = length seat.now.names.now in
+        IfOk result (λ r. views.command_of count r ≡ meaning.if_else (rows_of seat.now point) (terms.term_of seat.now.names.now (trees.expression_of e.now) (Some 1)) (views.block_of count yes.items) (views.block_of count no.items)) }
+{
+    let condition = number(alloc, seat.names, e, Some(1))?;
+    let hang = row(alloc, seat.table, seat.names.count(), point)?;
+    Ok(Command::If {
+        hang,
+        condition,
+        yes,
+        no,
+    })
+}
+
+/// The commands of a `case` are made: the `case`, whose point has this number.
+#[tactic(auto, using(sap_program::proofs::Shown::commands))]
+fn choice(
+    alloc: Global,
+    seat: &Seat<'_>,
+    point: u32,
+    e: &Expr,
+    arms: Vec<Arm>,
+    last: Vec<Command>,
+) -> Result<Command, AllocError>
+    ensures { let count = length seat.now.names.now in
+        IfOk result (λ r. views.command_of count r ≡ meaning.case_of (rows_of seat.now point) (terms.term_of seat.now.names.now (trees.expression_of e.now) None) (views.arms_before count arms.items (meaning.last_arm (views.block_of count last.items)))) }
+{
+    let number = number(alloc, seat.names, e, None)?;
+    let hang = row(alloc, seat.table, seat.names.count(), point)?;
+    Ok(Command::Case {
+        hang,
+        number,
+        arms,
+        last,
+    })
 }
 
 /// A command of a body; `next` is the number of the next site, and `point` that of the next point.
@@ -55,51 +192,28 @@ fn command(
         }
         Cmd::Try(simple, _, handler) => {
             let site = take_site(seat, next, simple);
-            let step = step(alloc, seat, site, point, simple)?;
-            let hang = take_row(alloc, seat, point)?;
+            let at = take_points(seat, point, site, simple);
             let handler = commands(alloc, seat, next, point, handler.commands.as_slice())?;
-            Ok(Command::Try {
-                step,
-                hang,
-                handler,
-            })
+            handled(alloc, seat, site, at, simple, handler)
         }
         Cmd::If(_, e, one, other) => {
-            let condition = number(alloc, seat.names, e, Some(1))?;
-            let hang = take_row(alloc, seat, point)?;
+            let at = take_point(point);
             let yes = commands(alloc, seat, next, point, one.commands.as_slice())?;
             let no = otherwise(alloc, seat, next, point, other)?;
-            Ok(Command::If {
-                hang,
-                condition,
-                yes,
-                no,
-            })
+            conditional(alloc, seat, at, e, yes, no)
         }
         Cmd::TryThen(simple, _, accepted, refused) => {
             let site = take_site(seat, next, simple);
-            let step = step(alloc, seat, site, point, simple)?;
-            let hang = take_row(alloc, seat, point)?;
+            let at = take_points(seat, point, site, simple);
             let accepted = commands(alloc, seat, next, point, accepted.commands.as_slice())?;
             let refused = commands(alloc, seat, next, point, refused.commands.as_slice())?;
-            Ok(Command::TryThen {
-                step,
-                hang,
-                accepted,
-                refused,
-            })
+            decided(alloc, seat, site, at, simple, accepted, refused)
         }
         Cmd::Case(_, e, branches, other) => {
-            let number = number(alloc, seat.names, e, None)?;
-            let hang = take_row(alloc, seat, point)?;
+            let at = take_point(point);
             let arms = arms(alloc, seat, next, point, branches.as_slice())?;
             let last = commands(alloc, seat, next, point, other.commands.as_slice())?;
-            Ok(Command::Case {
-                hang,
-                number,
-                arms,
-                last,
-            })
+            choice(alloc, seat, at, e, arms, last)
         }
     }
 }

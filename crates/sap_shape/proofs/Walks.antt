@@ -105,13 +105,12 @@ second_else-is b p = refl
 -- arms, all of which begin at p
 
 module _ (p : Written) where
-  past_arms-drop : (arms : List Arm) (n : ℕ) (d : Arm) (cs : List Cmd) → n < length arms → d ≡ get_or arms n d → cs ≡ d.block.commands.items
-      → past_arms (drop n arms) p ≡ either (past_list cs p) (past_arms (drop (n + 1) arms) p)
-  unfolding past_arms past_list
-  past_arms-drop [] n d cs h e f = absurd (omega arith)
-  past_arms-drop (arm ∷ arms) zero d cs h e f =
-      ap (λ (a : Arm). either (past_block (arm_block_of a) p) (past_arms arms p)) (sym e) ∙ ap (λ (l : List Cmd). either (past_list l p) (past_arms arms p)) (sym f)
-  past_arms-drop (arm ∷ arms) (suc n) d cs h e f = let r = past_arms-drop arms n d cs (omega arith) e f in simp (add-one) (simp (add-one) at r)
+  past_arms-drop : (arms : List Arm) (n : ℕ) (d : Arm) → n < length arms → d ≡ get_or arms n d
+      → past_arms (drop n arms) p ≡ either (past_block (arm_block_of d) p) (past_arms (drop (n + 1) arms) p)
+  unfolding past_arms
+  past_arms-drop [] n d h e = absurd (omega arith)
+  past_arms-drop (arm ∷ arms) zero d h e = ap (λ (a : Arm). either (past_block (arm_block_of a) p) (past_arms arms p)) (sym e)
+  past_arms-drop (arm ∷ arms) (suc n) d h e = let r = past_arms-drop arms n d (omega arith) e in simp (add-one) (simp (add-one) at r)
 
   past_arms-past : (arms : List Arm) (n : ℕ) → length arms ≤ n → past_arms (drop n arms) p ≡ fresh
   unfolding past_arms
@@ -120,13 +119,12 @@ module _ (p : Written) where
   past_arms-past (arm ∷ arms) zero h = absurd (omega arith)
   past_arms-past (arm ∷ arms) (suc n) h = past_arms-past arms n (omega arith)
 
-  entering_arms-drop : (arms : List Arm) (n : ℕ) (d : Arm) (cs : List Cmd) → n < length arms → d ≡ get_or arms n d → cs ≡ d.block.commands.items
-      → entering_arms (drop n arms) p ≡ either (entering_list cs p) (entering_arms (drop (n + 1) arms) p)
-  unfolding entering_arms entering_list
-  entering_arms-drop [] n d cs h e f = absurd (omega arith)
-  entering_arms-drop (arm ∷ arms) zero d cs h e f =
-      ap (λ (a : Arm). either (entering_block (arm_block_of a) p) (entering_arms arms p)) (sym e) ∙ ap (λ (l : List Cmd). either (entering_list l p) (entering_arms arms p)) (sym f)
-  entering_arms-drop (arm ∷ arms) (suc n) d cs h e f = let r = entering_arms-drop arms n d cs (omega arith) e f in simp (add-one) (simp (add-one) at r)
+  entering_arms-drop : (arms : List Arm) (n : ℕ) (d : Arm) → n < length arms → d ≡ get_or arms n d
+      → entering_arms (drop n arms) p ≡ either (entering_block (arm_block_of d) p) (entering_arms (drop (n + 1) arms) p)
+  unfolding entering_arms
+  entering_arms-drop [] n d h e = absurd (omega arith)
+  entering_arms-drop (arm ∷ arms) zero d h e = ap (λ (a : Arm). either (entering_block (arm_block_of a) p) (entering_arms arms p)) (sym e)
+  entering_arms-drop (arm ∷ arms) (suc n) d h e = let r = entering_arms-drop arms n d (omega arith) e in simp (add-one) (simp (add-one) at r)
 
   entering_arms-past : (arms : List Arm) (n : ℕ) → length arms ≤ n → entering_arms (drop n arms) p ≡ fresh
   unfolding entering_arms
@@ -135,13 +133,12 @@ module _ (p : Written) where
   entering_arms-past (arm ∷ arms) zero h = absurd (omega arith)
   entering_arms-past (arm ∷ arms) (suc n) h = entering_arms-past arms n (omega arith)
 
-  second_arms-drop : (arms : List Arm) (n : ℕ) (d : Arm) (cs : List Cmd) → n < length arms → d ≡ get_or arms n d → cs ≡ d.block.commands.items
-      → second_arms (drop n arms) p ≡ second_list cs p ++ second_arms (drop (n + 1) arms) p
-  unfolding second_arms second_list
-  second_arms-drop [] n d cs h e f = absurd (omega arith)
-  second_arms-drop (arm ∷ arms) zero d cs h e f =
-      ap (λ (a : Arm). second_block (arm_block_of a) p ++ second_arms arms p) (sym e) ∙ ap (λ (l : List Cmd). second_list l p ++ second_arms arms p) (sym f)
-  second_arms-drop (arm ∷ arms) (suc n) d cs h e f = let r = second_arms-drop arms n d cs (omega arith) e f in simp (add-one) (simp (add-one) at r)
+  second_arms-drop : (arms : List Arm) (n : ℕ) (d : Arm) → n < length arms → d ≡ get_or arms n d
+      → second_arms (drop n arms) p ≡ second_block (arm_block_of d) p ++ second_arms (drop (n + 1) arms) p
+  unfolding second_arms
+  second_arms-drop [] n d h e = absurd (omega arith)
+  second_arms-drop (arm ∷ arms) zero d h e = ap (λ (a : Arm). second_block (arm_block_of a) p ++ second_arms arms p) (sym e)
+  second_arms-drop (arm ∷ arms) (suc n) d h e = let r = second_arms-drop arms n d (omega arith) e in simp (add-one) (simp (add-one) at r)
 
   pub second_arms-past : (arms : List Arm) (n : ℕ) → length arms ≤ n → second_arms (drop n arms) p ≡ []
   unfolding second_arms
@@ -151,21 +148,21 @@ module _ (p : Written) where
   second_arms-past (arm ∷ arms) (suc n) h = second_arms-past arms n (omega arith)
 
   -- one arm, and those behind it: a set that takes in what they give
-  pub past_arms_step : (arms : List Arm) (n : ℕ) (d : Arm) (cs : List Cmd) (here a b : Written) → n < length arms → d ≡ get_or arms n d → cs ≡ d.block.commands.items → here ≡ past_list cs p
-      → b ≡ either a here → either b (past_arms (drop (n + 1) arms) p) ≡ either a (past_arms (drop n arms) p)
-  past_arms_step arms n d cs here a b h e f k s =
-      ap (λ (x : Written). either x (past_arms (drop (n + 1) arms) p)) (s ∙ ap (λ (x : Written). either a x) k)
-      ∙ either_assoc a (past_list cs p) (past_arms (drop (n + 1) arms) p) ∙ ap (λ (x : Written). either a x) (sym (past_arms-drop arms n d cs h e f))
+  pub past_arms_step : (arms : List Arm) (n : ℕ) (d : Arm) (a b : Written) → n < length arms → d ≡ get_or arms n d
+      → b ≡ either a (past_block (arm_block_of d) p) → either b (past_arms (drop (n + 1) arms) p) ≡ either a (past_arms (drop n arms) p)
+  past_arms_step arms n d a b h e s =
+      ap (λ (x : Written). either x (past_arms (drop (n + 1) arms) p)) s
+      ∙ either_assoc a (past_block (arm_block_of d) p) (past_arms (drop (n + 1) arms) p) ∙ ap (λ (x : Written). either a x) (sym (past_arms-drop arms n d h e))
 
-  pub entering_arms_step : (arms : List Arm) (n : ℕ) (d : Arm) (cs : List Cmd) (a b : Written) → n < length arms → d ≡ get_or arms n d → cs ≡ d.block.commands.items
-      → b ≡ either a (entering_list cs p) → either b (entering_arms (drop (n + 1) arms) p) ≡ either a (entering_arms (drop n arms) p)
-  entering_arms_step arms n d cs a b h e f s =
+  pub entering_arms_step : (arms : List Arm) (n : ℕ) (d : Arm) (a b : Written) → n < length arms → d ≡ get_or arms n d
+      → b ≡ either a (entering_block (arm_block_of d) p) → either b (entering_arms (drop (n + 1) arms) p) ≡ either a (entering_arms (drop n arms) p)
+  entering_arms_step arms n d a b h e s =
       ap (λ (x : Written). either x (entering_arms (drop (n + 1) arms) p)) s
-      ∙ either_assoc a (entering_list cs p) (entering_arms (drop (n + 1) arms) p) ∙ ap (λ (x : Written). either a x) (sym (entering_arms-drop arms n d cs h e f))
+      ∙ either_assoc a (entering_block (arm_block_of d) p) (entering_arms (drop (n + 1) arms) p) ∙ ap (λ (x : Written). either a x) (sym (entering_arms-drop arms n d h e))
 
-  pub second_arms_step : (arms : List Arm) (n : ℕ) (d : Arm) (cs : List Cmd) (o m : Option Fault) → n < length arms → d ≡ get_or arms n d → cs ≡ d.block.commands.items
-      → m ≡ best_of o (second_list cs p) → best_of m (second_arms (drop (n + 1) arms) p) ≡ best_of o (second_arms (drop n arms) p)
-  second_arms_step arms n d cs o m h e f s = both o m _ (second_list cs p) (second_arms (drop (n + 1) arms) p) _ s refl (second_arms-drop arms n d cs h e f)
+  pub second_arms_step : (arms : List Arm) (n : ℕ) (d : Arm) (o m : Option Fault) → n < length arms → d ≡ get_or arms n d
+      → m ≡ best_of o (second_block (arm_block_of d) p) → best_of m (second_arms (drop (n + 1) arms) p) ≡ best_of o (second_arms (drop n arms) p)
+  second_arms_step arms n d o m h e s = both o m _ (second_block (arm_block_of d) p) (second_arms (drop (n + 1) arms) p) _ s refl (second_arms-drop arms n d h e)
 
   pub past_arms_end : (arms : List Arm) (n : ℕ) (a all : Written) → length arms ≤ n → either a (past_arms (drop n arms) p) ≡ all → a ≡ all
   past_arms_end arms n a all h e = sym (either_fresh a) ∙ ap (λ (x : Written). either a x) (sym (past_arms-past arms n h)) ∙ e
@@ -173,40 +170,40 @@ module _ (p : Written) where
   pub entering_arms_end : (arms : List Arm) (n : ℕ) (a all : Written) → length arms ≤ n → either a (entering_arms (drop n arms) p) ≡ all → a ≡ all
   entering_arms_end arms n a all h e = sym (either_fresh a) ∙ ap (λ (x : Written). either a x) (sym (entering_arms-past arms n h)) ∙ e
 
-pub past_arms-of : (arms : List Arm) (last : Block) (p : Written) → walk.past_arms (arms_of arms (block_of last)) p ≡ either (past_arms arms p) (past_list last.commands.items p)
-unfolding past_arms past_list
+pub past_arms-of : (arms : List Arm) (last : Block) (p : Written) → walk.past_arms (arms_of arms (block_of last)) p ≡ either (past_arms arms p) (past_block (block_of last) p)
+unfolding past_arms
 past_arms-of [] last p = refl
 past_arms-of (arm ∷ arms) last p =
-    ap (λ (x : Written). either (past_block (arm_block_of arm) p) x) (past_arms-of arms last p) ∙ sym (either_assoc (past_block (arm_block_of arm) p) (past_arms arms p) (past_list last.commands.items p))
+    ap (λ (x : Written). either (past_block (arm_block_of arm) p) x) (past_arms-of arms last p) ∙ sym (either_assoc (past_block (arm_block_of arm) p) (past_arms arms p) (past_block (block_of last) p))
 
-pub entering_arms-of : (arms : List Arm) (last : Block) (p : Written) → walk.entering_arms (arms_of arms (block_of last)) p ≡ either (entering_arms arms p) (entering_list last.commands.items p)
-unfolding entering_arms entering_list
+pub entering_arms-of : (arms : List Arm) (last : Block) (p : Written) → walk.entering_arms (arms_of arms (block_of last)) p ≡ either (entering_arms arms p) (entering_block (block_of last) p)
+unfolding entering_arms
 entering_arms-of [] last p = refl
 entering_arms-of (arm ∷ arms) last p =
     ap (λ (x : Written). either (entering_block (arm_block_of arm) p) x) (entering_arms-of arms last p)
-    ∙ sym (either_assoc (entering_block (arm_block_of arm) p) (entering_arms arms p) (entering_list last.commands.items p))
+    ∙ sym (either_assoc (entering_block (arm_block_of arm) p) (entering_arms arms p) (entering_block (block_of last) p))
 
-pub second_arms-of : (arms : List Arm) (last : Block) (p : Written) → walk.second_arms (arms_of arms (block_of last)) p ≡ second_arms arms p ++ second_list last.commands.items p
-unfolding second_arms second_list
+pub second_arms-of : (arms : List Arm) (last : Block) (p : Written) → walk.second_arms (arms_of arms (block_of last)) p ≡ second_arms arms p ++ second_block (block_of last) p
+unfolding second_arms
 second_arms-of [] last p = refl
 second_arms-of (arm ∷ arms) last p =
-    ap (λ (l : List Fault). second_block (arm_block_of arm) p ++ l) (second_arms-of arms last p) ∙ sym (append_assoc (second_block (arm_block_of arm) p) (second_arms arms p) (second_list last.commands.items p))
+    ap (λ (l : List Fault). second_block (arm_block_of arm) p ++ l) (second_arms-of arms last p) ∙ sym (append_assoc (second_block (arm_block_of arm) p) (second_arms arms p) (second_block (block_of last) p))
 
 -- a `case`, whose blocks all begin at p
 
-module _ (c : Command) (place : Place) (e : Expression) (arms xs : List Arm) (last : Block) (cs : List Cmd) (p : Written) (is : c ≡ case_of place e (arms_of arms (block_of last)))
-    (same : xs ≡ arms) (end : cs ≡ last.commands.items) where
-  pub case_past : (none past_all here new : Written) → none ≡ fresh → past_all ≡ either none (past_arms xs p) → here ≡ past_list cs p → new ≡ either past_all here → new ≡ past c p
-  case_past none past_all here new n a h j =
-      j ∙ ap₂ (λ (x y : Written). either x y) (a ∙ ap (λ (x : Written). either x (past_arms xs p)) n ∙ ap (λ (l : List Arm). past_arms l p) same)
-      (h ∙ ap (λ (l : List Cmd). past_list l p) end)
+module _ (c : Command) (place : Place) (e : Expression) (arms xs : List Arm) (last : Block) (p start : Written) (is : c ≡ case_of place e (arms_of arms (block_of last)))
+    (same : xs ≡ arms) (from : start ≡ p) where
+  pub case_past : (none past_all taken new : Written) → none ≡ fresh → past_all ≡ either none (past_arms xs p) → taken ≡ past_all
+      → new ≡ either taken (past_block (block_of last) start) → new ≡ past c p
+  case_past none past_all taken new n a t j =
+      j ∙ ap₂ (λ (x y : Written). either x (past_block (block_of last) y)) (t ∙ a ∙ ap (λ (x : Written). either x (past_arms xs p)) n ∙ ap (λ (l : List Arm). past_arms l p) same) from
       ∙ sym (past_arms-of arms last p) ∙ ap (λ (x : Command). past x p) (sym is)
 
-  pub case_entering : (old mid new : Written) → mid ≡ either old (entering_arms xs p) → new ≡ either mid (entering_list cs p) → new ≡ either old (entering c p)
+  pub case_entering : (old mid new : Written) → mid ≡ either old (entering_arms xs p) → new ≡ either mid (entering_block (block_of last) start) → new ≡ either old (entering c p)
   case_entering old mid new a b =
-      b ∙ ap (λ (x : Written). either x (entering_list cs p)) a ∙ either_assoc old (entering_arms xs p) (entering_list cs p)
+      b ∙ ap₂ (λ (x y : Written). either x (entering_block (block_of last) y)) a from ∙ either_assoc old (entering_arms xs p) (entering_block (block_of last) p)
       ∙ ap (λ (x : Written). either old x)
-      (ap₂ (λ (l : List Arm) (k : List Cmd). either (entering_arms l p) (entering_list k p)) same end ∙ sym (entering_arms-of arms last p) ∙ ap (λ (x : Command). entering x p) (sym is))
+      (ap (λ (l : List Arm). either (entering_arms l p) (entering_block (block_of last) p)) same ∙ sym (entering_arms-of arms last p) ∙ ap (λ (x : Command). entering x p) (sym is))
 
 pub ruleset walks = (past_list-past, entering_list-past, second_list-past, second_arms-past)
 

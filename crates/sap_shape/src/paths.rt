@@ -8,15 +8,16 @@ ghost use Rattle.sap_shape.specs.Walk as paths;
 ghost use Rattle.sap_shape.specs.Walk.{either, writing};
 ghost use Rattle.sap_names.specs.NameFaults.{fault_if};
 ghost use Rattle.sap_names.specs.declared.kind.Code.TheVariants.{E14};
-ghost use Rattle.sap_tree.specs.Trees.{command_of, else_of, simple_of, state_of};
+ghost use Rattle.sap_tree.specs.Trees.{block_of, command_of, else_of, simple_of};
 
 use crate::written::Written;
 use sap_names::fault::{Fault, note};
 use sap_names::kind::Code;
 use sap_tree::name::Name;
 use sap_tree::place::Place;
-use sap_tree::syntax::{Arm, Block, Cmd, Simple, State};
+use sap_tree::syntax::{Arm, Block, Cmd, Simple};
 use std::alloc::{AllocError, Global};
+use std::mem;
 
 // A cell of a memory is written.
 fn cell_paths(
@@ -80,44 +81,46 @@ fn command_paths(
         Cmd::Do(simple) => simple_paths(alloc, simple, here, entered, best),
         Cmd::Try(simple, _, handler) => {
             simple_paths(alloc, simple, here, entered, best)?;
-            let mut handled = here.copy(alloc)?;
-            list_paths(
-                alloc,
-                handler.commands.as_slice(),
-                &mut handled,
-                entered,
-                best,
-            )?;
-            here.join(alloc, &handled)
+            let refused = here.copy(alloc)?;
+            beside_paths(alloc, handler, refused, here, entered, best)
         }
         Cmd::If(_, _, one, other) => {
-            let mut beside = here.copy(alloc)?;
+            let beside = here.copy(alloc)?;
             list_paths(alloc, one.commands.as_slice(), here, entered, best)?;
-            else_paths(alloc, other, &mut beside, entered, best)?;
-            here.join(alloc, &beside)
+            else_paths(alloc, other, beside, here, entered, best)
         }
         Cmd::TryThen(simple, _, accepted, refused) => {
             simple_paths(alloc, simple, here, entered, best)?;
-            let mut beside = here.copy(alloc)?;
+            let beside = here.copy(alloc)?;
             list_paths(alloc, accepted.commands.as_slice(), here, entered, best)?;
-            list_paths(
-                alloc,
-                refused.commands.as_slice(),
-                &mut beside,
-                entered,
-                best,
-            )?;
-            here.join(alloc, &beside)
+            beside_paths(alloc, refused, beside, here, entered, best)
         }
         Cmd::Case(_, _, arms, last) => {
             let mut past = Written::new(alloc);
             arms_paths(alloc, arms.as_slice(), here, &mut past, entered, best)?;
-            list_paths(alloc, last.commands.as_slice(), here, entered, best)?;
-            past.join(alloc, here)?;
-            *here = past;
-            Ok(())
+            let start = mem::replace(here, past);
+            beside_paths(alloc, last, start, here, entered, best)
         }
     }
+}
+
+// A block that begins at `start`: `past` takes in where it ends.
+#[cycle(paths)]
+#[tactic(auto, using(crate::proofs::Walks::blocks, crate::proofs::Weights::weights, crate::proofs::Sets::sets, sap_names::proofs::Faults::noting))]
+fn beside_paths(
+    alloc: Global,
+    block: &Block,
+    mut start: Written,
+    past: &mut Written,
+    entered: &mut Written,
+    best: &mut Option<Fault>,
+) -> Result<(), AllocError>
+    ensures past { OnOk result (written_in past.new ≡ either (written_in past.old) (paths.past_block (block_of block.now) (written_in start))) }
+    ensures entering { OnOk result (written_in entered.new ≡ either (written_in entered.old) (paths.entering_block (block_of block.now) (written_in start))) }
+    ensures second { OnOk result (best.new ≡ best_of best.old (paths.second_block (block_of block.now) (written_in start))) }
+{
+    list_paths(alloc, block.commands.as_slice(), &mut start, entered, best)?;
+    past.join(alloc, &start)
 }
 
 // The arms of a `case`, without the block after `else`: each begins at `start`, and `past` takes in where they end.
@@ -136,35 +139,30 @@ fn arms_paths(
     ensures second { OnOk result (best.new ≡ best_of best.old (lists.second_arms arms.now (written_in start.now))) }
 {
     for arm in arms {
-        let mut here = start.copy(alloc)?;
-        list_paths(
-            alloc,
-            arm.block.commands.as_slice(),
-            &mut here,
-            entered,
-            best,
-        )?;
-        past.join(alloc, &here)?;
+        let here = start.copy(alloc)?;
+        beside_paths(alloc, &arm.block, here, past, entered, best)?;
     }
     Ok(())
 }
 
+// The block after an `else`, or none.
 #[cycle(paths)]
 #[tactic(auto, using(crate::proofs::Walks::blocks, crate::proofs::Weights::weights, crate::proofs::Sets::sets, sap_names::proofs::Faults::noting))]
 fn else_paths(
     alloc: Global,
     other: &Option<Block>,
-    here: &mut Written,
+    start: Written,
+    past: &mut Written,
     entered: &mut Written,
     best: &mut Option<Fault>,
 ) -> Result<(), AllocError>
-    ensures past { OnOk result (written_in here.new ≡ paths.past_else (else_of other.now) (written_in here.old)) }
-    ensures entering { OnOk result (written_in entered.new ≡ either (written_in entered.old) (paths.entering_else (else_of other.now) (written_in here.old))) }
-    ensures second { OnOk result (best.new ≡ best_of best.old (paths.second_else (else_of other.now) (written_in here.old))) }
+    ensures past { OnOk result (written_in past.new ≡ either (written_in past.old) (paths.past_else (else_of other.now) (written_in start))) }
+    ensures entering { OnOk result (written_in entered.new ≡ either (written_in entered.old) (paths.entering_else (else_of other.now) (written_in start))) }
+    ensures second { OnOk result (best.new ≡ best_of best.old (paths.second_else (else_of other.now) (written_in start))) }
 {
     match other {
-        Some(block) => list_paths(alloc, block.commands.as_slice(), here, entered, best),
-        None => Ok(()),
+        Some(block) => beside_paths(alloc, block, start, past, entered, best),
+        None => past.join(alloc, &start),
     }
 }
 

@@ -1,6 +1,6 @@
 //! The bytes that tell right sides apart.
 
-ghost use Rattle.std.specs.Prelude.{◌≡◌, ◌++◌, IfOk, OnOk};
+ghost use Rattle.std.specs.Prelude.{◌≡◌, ◌++◌, ◌∷◌, IfOk, OnOk, length};
 ghost use Rattle.sap_share.specs.Keys as spec;
 
 use sap_bits::{Op1, Op2};
@@ -62,6 +62,13 @@ fn add_bytes(key: &mut Vec<u8>, bytes: &[u8]) -> Result<(), AllocError>
     Ok(())
 }
 
+fn add_numbers(key: &mut Vec<u8>, first: u64, second: u64) -> Result<(), AllocError>
+    ensures { OnOk result (key.new.items ≡ key.old.items ++ (spec.number first ++ spec.number second)) }
+{
+    add_number(key, first)?;
+    add_number(key, second)
+}
+
 fn add_operand(key: &mut Vec<u8>, operand: &Operand) -> Result<(), AllocError>
     ensures { OnOk result (key.new.items ≡ key.old.items ++ spec.operand_bytes operand.now) }
 {
@@ -74,10 +81,24 @@ fn add_operand(key: &mut Vec<u8>, operand: &Operand) -> Result<(), AllocError>
         }
         Operand::Constant { width, value } => {
             key.push(1)?;
-            add_number(key, u64::from(*width))?;
-            add_number(key, *value)
+            add_numbers(key, u64::from(*width), *value)
         }
     }
+}
+
+// A number of one byte, and an operand after it.
+fn add_numbered(key: &mut Vec<u8>, number: u8, operand: &Operand) -> Result<(), AllocError>
+    ensures { OnOk result (key.new.items ≡ key.old.items ++ (number ∷ spec.operand_bytes operand.now)) }
+{
+    key.push(number)?;
+    add_operand(key, operand)
+}
+
+fn add_pair(key: &mut Vec<u8>, a: &Operand, b: &Operand) -> Result<(), AllocError>
+    ensures { OnOk result (key.new.items ≡ key.old.items ++ (spec.operand_bytes a.now ++ spec.operand_bytes b.now)) }
+{
+    add_operand(key, a)?;
+    add_operand(key, b)
 }
 
 fn add_operands(key: &mut Vec<u8>, operands: &[Operand]) -> Result<(), AllocError>
@@ -89,46 +110,43 @@ fn add_operands(key: &mut Vec<u8>, operands: &[Operand]) -> Result<(), AllocErro
     Ok(())
 }
 
+// A list of operands, its length in front.
+fn add_list(key: &mut Vec<u8>, operands: &[Operand]) -> Result<(), AllocError>
+    ensures { OnOk result (key.new.items ≡ key.old.items ++ (spec.number (length operands.now) ++ spec.operands_bytes operands.now)) }
+{
+    add_number(key, operands.len() as u64)?;
+    add_operands(key, operands)
+}
+
 fn add_right(key: &mut Vec<u8>, right: &Right) -> Result<(), AllocError>
     ensures { OnOk result (key.new.items ≡ key.old.items ++ spec.right_bytes right.now) }
 {
     match right {
-        Right::Copy(a) => {
-            key.push(0)?;
-            add_operand(key, a)
-        }
+        Right::Copy(a) => add_numbered(key, 0, a),
         Right::One(op, a) => {
             key.push(1)?;
-            key.push(number_one(*op))?;
-            add_operand(key, a)
+            add_numbered(key, number_one(*op), a)
         }
         Right::Two(op, a, b) => {
             key.push(2)?;
             key.push(number_two(*op))?;
-            add_operand(key, a)?;
-            add_operand(key, b)
+            add_pair(key, a, b)
         }
         Right::Choose(c, a, b) => {
-            key.push(3)?;
-            add_operand(key, c)?;
-            add_operand(key, a)?;
-            add_operand(key, b)
+            add_numbered(key, 3, c)?;
+            add_pair(key, a, b)
         }
         Right::Concat(operands) => {
-            let operands = operands.as_slice();
             key.push(4)?;
-            add_number(key, operands.len() as u64)?;
-            add_operands(key, operands)
+            add_list(key, operands.as_slice())
         }
         Right::Slice { name, hi, lo } => {
             key.push(5)?;
-            add_number(key, u64::from(*hi))?;
-            add_number(key, u64::from(*lo))?;
+            add_numbers(key, u64::from(*hi), u64::from(*lo))?;
             add_bytes(key, name.as_bytes())
         }
         Right::Cell { memory, index } => {
-            key.push(6)?;
-            add_operand(key, index)?;
+            add_numbered(key, 6, index)?;
             add_bytes(key, memory.as_bytes())
         }
     }

@@ -230,11 +230,18 @@ pub text_if : (margin : List ℕ) (place : Place) (x : Expression) (one : Syntax
 unfolding command_text
 text_if margin place x one other = refl
 
-pub if_grows : (margin : List ℕ) (whole : Syntax.Command) (place : Place) (x : Expression) (one : Syntax.CommandBlock) (other : Syntax.ElseBlock) (old a b c d e f : List ℕ)
-    → whole ≡ Syntax.if_else place x one other → a ≡ old ++ margin → b ≡ a ++ codes "if (" → c ≡ b ++ expression_text x → d ≡ c ++ codes ")" → e ≡ d ++ block_text margin one
-    → f ≡ e ++ else_text margin other → f ++ codes "\n" ≡ old ++ command_text margin whole
-if_grows margin whole place x one other old a b c d e f w h i j k l m =
-    grow_seven old a b c d e f (f ++ codes "\n") margin (codes "if (") (expression_text x) (codes ")") (block_text margin one) (else_text margin other) (codes "\n") _ h i j k l m refl
+two_apart : (a b p q : List ℕ) → b ≡ a ++ (p ++ q) → b ≡ (a ++ p) ++ q
+two_apart a b p q h = h ∙ sym (append_assoc a p q)
+
+three_apart : (a b p q r : List ℕ) → b ≡ a ++ (p ++ (q ++ r)) → b ≡ ((a ++ p) ++ q) ++ r
+three_apart a b p q r h = two_apart a b p (q ++ r) h ∙ sym (append_assoc (a ++ p) q r)
+
+pub if_grows : (margin : List ℕ) (whole : Syntax.Command) (place : Place) (x : Expression) (one : Syntax.CommandBlock) (other : Syntax.ElseBlock) (old a b c d : List ℕ)
+    → whole ≡ Syntax.if_else place x one other → a ≡ old ++ margin → b ≡ a ++ (codes "if (" ++ (expression_text x ++ codes ")")) → c ≡ b ++ block_text margin one
+    → d ≡ c ++ else_text margin other → d ++ codes "\n" ≡ old ++ command_text margin whole
+if_grows margin whole place x one other old a b c d w h i j k =
+    grow_seven old a (a ++ codes "if (") ((a ++ codes "if (") ++ expression_text x) b c d (d ++ codes "\n") margin (codes "if (") (expression_text x) (codes ")") (block_text margin one)
+    (else_text margin other) (codes "\n") _ h refl refl (three_apart a b (codes "if (") (expression_text x) (codes ")") i) j k refl
     (ap (command_text margin) w ∙ text_if margin place x one other)
 
 text_decided : (margin : List ℕ) (c : Syntax.SimpleCommand) (place : Place) (one other : Syntax.CommandBlock)
@@ -243,11 +250,12 @@ text_decided : (margin : List ℕ) (c : Syntax.SimpleCommand) (place : Place) (o
 unfolding command_text
 text_decided margin c place one other = refl
 
-pub decided_grows : (margin : List ℕ) (whole : Syntax.Command) (x : Syntax.SimpleCommand) (place : Place) (one other : Syntax.CommandBlock) (old a b c d e f : List ℕ)
-    → whole ≡ Syntax.try_then x place one other → a ≡ old ++ margin → b ≡ a ++ simple_text x → c ≡ b ++ codes " then" → d ≡ c ++ block_text margin one → e ≡ d ++ codes " otherwise"
-    → f ≡ e ++ block_text margin other → f ++ codes "\n" ≡ old ++ command_text margin whole
-decided_grows margin whole x place one other old a b c d e f w h i j k l m =
-    grow_seven old a b c d e f (f ++ codes "\n") margin (simple_text x) (codes " then") (block_text margin one) (codes " otherwise") (block_text margin other) (codes "\n") _ h i j k l m refl
+pub decided_grows : (margin : List ℕ) (whole : Syntax.Command) (x : Syntax.SimpleCommand) (place : Place) (one other : Syntax.CommandBlock) (old a b c d e : List ℕ)
+    → whole ≡ Syntax.try_then x place one other → a ≡ old ++ margin → b ≡ a ++ (simple_text x ++ codes " then") → c ≡ b ++ block_text margin one → d ≡ c ++ codes " otherwise"
+    → e ≡ d ++ block_text margin other → e ++ codes "\n" ≡ old ++ command_text margin whole
+decided_grows margin whole x place one other old a b c d e w h i j k l =
+    grow_seven old a (a ++ simple_text x) b c d e (e ++ codes "\n") margin (simple_text x) (codes " then") (block_text margin one) (codes " otherwise") (block_text margin other) (codes "\n") _
+    h refl (two_apart a b (simple_text x) (codes " then") i) j k l refl
     (ap (command_text margin) w ∙ text_decided margin x place one other)
 
 pub text_last : (margin : List ℕ) (b : Syntax.CommandBlock) → arms_text margin (Syntax.last_arm b) ≡ margin ++ (codes "else" ++ (block_text margin b ++ codes "\n"))
@@ -279,13 +287,13 @@ text_case margin place x arms last =
     ap (λ t. margin ++ (codes "case (" ++ (expression_text x ++ (codes ") {\n" ++ (t ++ foot))))) (arms_are m arms last)
     ∙ ap (λ t. margin ++ (codes "case (" ++ (expression_text x ++ (codes ") {\n" ++ t)))) (append_assoc (list_arms_text m arms) (arms_text m (Syntax.last_arm last)) foot)
 
-pub case_grows : (margin one two : List ℕ) (whole : Syntax.Command) (place : Place) (x : Expression) (arms listed : List Arm) (last : Syntax.CommandBlock) (old a b c d e f g : List ℕ)
-    → whole ≡ Syntax.case_of place x (arms_of arms last) → one ≡ margin ++ codes "  " → two ≡ margin ++ codes "  " → listed ≡ arms → a ≡ old ++ margin → b ≡ a ++ codes "case ("
-    → c ≡ b ++ expression_text x → d ≡ c ++ codes ") {\n" → e ≡ d ++ list_arms_text one listed → f ≡ e ++ arms_text two (Syntax.last_arm last) → g ≡ f ++ margin
+pub case_grows : (margin one two : List ℕ) (whole : Syntax.Command) (place : Place) (x : Expression) (arms listed : List Arm) (last : Syntax.CommandBlock) (old a d e f g : List ℕ)
+    → whole ≡ Syntax.case_of place x (arms_of arms last) → one ≡ margin ++ codes "  " → two ≡ margin ++ codes "  " → listed ≡ arms → a ≡ old ++ margin
+    → d ≡ a ++ (codes "case (" ++ (expression_text x ++ codes ") {\n")) → e ≡ d ++ list_arms_text one listed → f ≡ e ++ arms_text two (Syntax.last_arm last) → g ≡ f ++ margin
     → g ++ codes "}\n" ≡ old ++ command_text margin whole
-case_grows margin one two whole place x arms listed last old a b c d e f g w o t s h i j k l m n =
-    grow_eight old a b c d e f g (g ++ codes "}\n") margin (codes "case (") (expression_text x) (codes ") {\n") (list_arms_text (margin ++ codes "  ") arms)
-    (arms_text (margin ++ codes "  ") (Syntax.last_arm last)) margin (codes "}\n") _ h i j k
+case_grows margin one two whole place x arms listed last old a d e f g w o t s h i l m n =
+    grow_eight old a (a ++ codes "case (") ((a ++ codes "case (") ++ expression_text x) d e f g (g ++ codes "}\n") margin (codes "case (") (expression_text x) (codes ") {\n") (list_arms_text (margin ++ codes "  ") arms)
+    (arms_text (margin ++ codes "  ") (Syntax.last_arm last)) margin (codes "}\n") _ h refl refl (three_apart a d (codes "case (") (expression_text x) (codes ") {\n") i)
     (l ∙ ap (λ z. d ++ list_arms_text z listed) o ∙ ap (λ z. d ++ list_arms_text (margin ++ codes "  ") z) s)
     (m ∙ ap (λ z. e ++ arms_text z (Syntax.last_arm last)) t) n refl (ap (command_text margin) w ∙ text_case margin place x arms last)
 

@@ -6,7 +6,7 @@ ghost use Rattle.sap_show.specs.Lists.{list_arms_text, list_text};
 ghost use Rattle.sap_tree.specs.Syntax.{last_arm};
 ghost use Rattle.sap_tree.specs.Trees.{expression_of, tag_of, simple_of, command_of, block_of, else_of};
 
-use crate::expression::{expression, parts, tag};
+use crate::expression::{between, expression, parts, tag};
 use crate::words::{deeper, name};
 use sap_tree::name::Name;
 use sap_tree::syntax::{Arm, Block, Cmd, Expr, Simple, TagExpr};
@@ -66,6 +66,14 @@ fn simple(out: &mut Vec<u8>, command: &Simple) -> Result<(), AllocError>
     }
 }
 
+/// A command that can have a handler, and what is behind it.
+fn simple_before(out: &mut Vec<u8>, command: &Simple, behind: &[u8]) -> Result<(), AllocError>
+    ensures { OnOk result (out.new.items ≡ out.old.items ++ (simple_text (simple_of command.now) ++ behind.now)) }
+{
+    simple(out, command)?;
+    out.extend_from_slice(behind)
+}
+
 /// A command, whose lines have this margin or a deeper one.
 #[cycle(command)]
 #[tactic(auto, using(sap_tree::proofs::Views::views, crate::proofs::Texts::commands))]
@@ -74,28 +82,21 @@ fn command(alloc: Global, out: &mut Vec<u8>, margin: &[u8], command: &Cmd) -> Re
 {
     out.extend_from_slice(margin)?;
     match command {
-        Cmd::Do(inner) => {
-            simple(out, inner)?;
-            out.extend_from_slice(b";\n")
-        }
+        Cmd::Do(inner) => simple_before(out, inner, b";\n"),
         Cmd::Try(inner, _, handler) => {
-            simple(out, inner)?;
-            out.extend_from_slice(b" otherwise")?;
+            simple_before(out, inner, b" otherwise")?;
             block(alloc, out, margin, handler)?;
             out.extend_from_slice(b"\n")
         }
         Cmd::TryThen(inner, _, accepted, refused) => {
-            simple(out, inner)?;
-            out.extend_from_slice(b" then")?;
+            simple_before(out, inner, b" then")?;
             block(alloc, out, margin, accepted)?;
             out.extend_from_slice(b" otherwise")?;
             block(alloc, out, margin, refused)?;
             out.extend_from_slice(b"\n")
         }
         Cmd::Case(_, number, all, last) => {
-            out.extend_from_slice(b"case (")?;
-            expression(out, number)?;
-            out.extend_from_slice(b") {\n")?;
+            between(out, b"case (", number, b") {\n")?;
             let inner = deeper(alloc, margin)?;
             arms(alloc, out, inner.as_slice(), all.as_slice())?;
             last_block(alloc, out, inner.as_slice(), last)?;
@@ -103,9 +104,7 @@ fn command(alloc: Global, out: &mut Vec<u8>, margin: &[u8], command: &Cmd) -> Re
             out.extend_from_slice(b"}\n")
         }
         Cmd::If(_, condition, one, other) => {
-            out.extend_from_slice(b"if (")?;
-            expression(out, condition)?;
-            out.extend_from_slice(b")")?;
+            between(out, b"if (", condition, b")")?;
             block(alloc, out, margin, one)?;
             else_block(alloc, out, margin, other)?;
             out.extend_from_slice(b"\n")

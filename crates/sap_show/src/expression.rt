@@ -171,6 +171,15 @@ fn more_parts(out: &mut Vec<u8>, list: &[Expr]) -> Result<(), AllocError>
     }
 }
 
+/// An expression between two texts.
+pub fn between(out: &mut Vec<u8>, front: &[u8], x: &Expr, behind: &[u8]) -> Result<(), AllocError>
+    ensures { OnOk result (out.new.items ≡ out.old.items ++ (front.now ++ (expression_text (expression_of x.now) ++ behind.now))) }
+{
+    out.extend_from_slice(front)?;
+    expression(out, x)?;
+    out.extend_from_slice(behind)
+}
+
 /// A tag expression.
 #[cycle(tag)]
 #[tactic(auto, using(sap_tree::proofs::Views::views, crate::proofs::Texts::tags))]
@@ -179,16 +188,8 @@ pub fn tag(out: &mut Vec<u8>, x: &TagExpr) -> Result<(), AllocError>
 {
     match x {
         TagExpr::Level(level) => name(out, &level.name),
-        TagExpr::TagOf(_, inner) => {
-            out.extend_from_slice(b"tag(")?;
-            expression(out, inner)?;
-            out.extend_from_slice(b")")
-        }
-        TagExpr::LevelAt(_, inner) => {
-            out.extend_from_slice(b"level(")?;
-            expression(out, inner)?;
-            out.extend_from_slice(b")")
-        }
+        TagExpr::TagOf(_, inner) => between(out, b"tag(", inner, b")"),
+        TagExpr::LevelAt(_, inner) => between(out, b"level(", inner, b")"),
         TagExpr::Join(_, inner) => {
             out.extend_from_slice(b"join(")?;
             tags(out, inner.as_slice())?;

@@ -1,6 +1,6 @@
 //! The fields of a stimulus for a netlist.
 
-ghost use Rattle.std.specs.Prelude.{◌≡◌, List, map, IfOk};
+ghost use Rattle.std.specs.Prelude.{◌≡◌, List, [], ◌∷◌, ◌++◌, map, IfOk, OnOk};
 ghost use Rattle.sap_net.specs.declared.parts.Input.{Input as NetInput};
 ghost use Rattle.sap_sim.specs.Fields.{input_widths, is_tagged, is_tag, field_of, with_field};
 ghost use Rattle.sap_sim.specs.Numbers.{field_names};
@@ -75,6 +75,23 @@ pub struct Line {
     pub names: Vec<Name>,
 }
 
+// Adds the field of an input, and its name.
+fn push_field(
+    alloc: Global,
+    widths: &HashMap<Vec<u8>, usize>,
+    tag: u32,
+    input: &Input,
+    fields: &mut Vec<Field>,
+    names: &mut Vec<Name>,
+) -> Result<(), AllocError>
+    ensures fields { OnOk result ((inputs : List NetInput) → Finds widths.now (input_widths inputs) → fields.new.items ≡ fields.old.items ++ field_of tag inputs input.now ∷ []) }
+    ensures names { OnOk result (names.new.items ≡ names.old.items ++ input.now.name ∷ []) }
+{
+    fields.push(field(alloc, widths, tag, input)?)?;
+    names.push(input.name.copy(alloc)?)?;
+    Ok(())
+}
+
 pub fn line_of(
     alloc: Global,
     widths: &HashMap<Vec<u8>, usize>,
@@ -89,8 +106,7 @@ pub fn line_of(
     let mut names = Vec::new(alloc);
     for input in inputs {
         if !is_tag(alloc, widths, tag, input)? {
-            fields.push(field(alloc, widths, tag, input)?)?;
-            names.push(input.name.copy(alloc)?)?;
+            push_field(alloc, widths, tag, input, &mut fields, &mut names)?;
         }
     }
     Ok(Line {

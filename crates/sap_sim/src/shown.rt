@@ -17,6 +17,7 @@ use crate::lookup::{number, places, register_widths};
 use crate::ports::{behind, joined};
 use sap_cycle::runner::{Place, Runner};
 use sap_lattice::name::Name as Label;
+use sap_net::netlist::Netlist;
 use sap_net::parts::{Name, Port, PortKind};
 use std::alloc::{AllocError, Global};
 use std::collections::HashMap;
@@ -137,6 +138,29 @@ fn register_places(
     Ok(places)
 }
 
+// The names of the registers that rows show, where these are the `output reg` ports.
+fn shown_labels(
+    alloc: Global,
+    netlist: &Netlist,
+    tag: u32,
+    registers: &[Name],
+) -> Result<Vec<Label>, AllocError>
+    requires { registers.now ≡ register_ports netlist.now.ports }
+    ensures { IfOk result (λ xs. xs.items ≡ shown_among tag netlist.now (register_ports netlist.now.ports)) }
+{
+    let ports = places(alloc, registers)?;
+    let widths = register_widths(alloc, netlist.registers())?;
+    shown_among(alloc, &ports, &widths, tag, registers)
+}
+
+// The names of the registers that rows show.
+fn labels(alloc: Global, netlist: &Netlist, tag: u32) -> Result<Vec<Label>, AllocError>
+    ensures { IfOk result (λ xs. xs.items ≡ shown_among tag netlist.now (register_ports netlist.now.ports)) }
+{
+    let registers = register_ports(alloc, netlist.ports())?;
+    shown_labels(alloc, netlist, tag, &registers)
+}
+
 /// The names of the registers that rows show, and the places of their numbers and tags.
 #[derive(Drop)]
 pub struct Shown {
@@ -152,10 +176,7 @@ pub fn shown_of(alloc: Global, runner: &Runner, tag: u32) -> Result<Shown, Alloc
 {
     let netlist = runner.netlist();
     netlist.rules();
-    let registers = register_ports(alloc, netlist.ports())?;
-    let ports = places(alloc, &registers)?;
-    let widths = register_widths(alloc, netlist.registers())?;
-    let names = shown_among(alloc, &ports, &widths, tag, &registers)?;
+    let names = labels(alloc, netlist, tag)?;
     let values = register_places(alloc, runner, b'v', &names)?;
     let tags = register_places(alloc, runner, b't', &names)?;
     Ok(Shown {

@@ -8,8 +8,7 @@ ghost use Rattle.sap_stim.specs.Rows.{HoldsRows, row_text, shown_of};
 ghost use Rattle.sap_sim.specs.Stepping.{HasRowMore, IsAfter, IsPlanned, RowsAddUp};
 
 use crate::feed::feed_of;
-use crate::loading::loaded;
-use crate::shown::shown_of;
+use crate::loading::planned_of;
 use crate::steps::{Plan, take_numbers, take_seen};
 use sap_cycle::runner::Runner;
 use sap_desk::RowBuf;
@@ -57,20 +56,27 @@ fn zeros(alloc: Global, count: usize) -> Result<Vec<u64>, AllocError>
     Ok(zeros)
 }
 
-/// The numbers of the inputs of a cycle, and what its row shows.
+/// The room that a row takes, the numbers of the inputs of a cycle, and what its row shows.
 #[derive(Drop)]
 struct Held {
+    room: usize,
     numbers: Vec<u64>,
     values: Vec<u64>,
     tags: Vec<u64>,
 }
 
-fn zeros_for(alloc: Global, plan: &Plan) -> Result<Held, AllocError>
+fn held_for(alloc: Global, lattice: &Lattice, plan: &Plan) -> Result<Held, AllocError>
+    ensures holds { IfOk result (λ h. HoldsRows lattice.now plan.now.shown.names.items h.room) }
+    ensures least { IfOk result (λ h. (other : ℕ) → HoldsRows lattice.now plan.now.shown.names.items other → h.room ≤ other) }
     ensures numbers { IfOk result (λ h. length h.numbers.items ≡ length plan.now.sources.items) }
     ensures values { IfOk result (λ h. length h.values.items ≡ length plan.now.shown.values.items) }
     ensures tags { IfOk result (λ h. length h.tags.items ≡ length plan.now.shown.tags.items) }
 {
+    let Some(room) = row_room(&plan.shown.names, lattice) else {
+        return Err(AllocError);
+    };
     Ok(Held {
+        room,
         numbers: zeros(alloc, plan.sources.len())?,
         values: zeros(alloc, plan.shown.values.len())?,
         tags: zeros(alloc, plan.shown.tags.len())?,
@@ -101,21 +107,13 @@ impl Simulation {
         ensures least { IfOk result (λ s. (other : ℕ) → HoldsRows lattice.now s.plan.shown.names.items other → s.room ≤ other) }
     {
         let feed = feed_of(alloc, lattice, &netlist)?;
-        let runner = loaded(alloc, netlist)?;
-        let shown = shown_of(alloc, &runner, lattice.width())?;
-        let plan = Plan {
-            sources: feed.sources,
-            shown,
-        };
-        let Some(room) = row_room(&plan.shown.names, lattice) else {
-            return Err(AllocError);
-        };
-        let held = zeros_for(alloc, &plan)?;
+        let planned = planned_of(alloc, lattice, netlist, feed.sources)?;
+        let held = held_for(alloc, lattice, &planned.plan)?;
         Ok(Simulation {
-            runner,
-            plan,
+            runner: planned.runner,
+            plan: planned.plan,
             fields: feed.fields,
-            room,
+            room: held.room,
             numbers: held.numbers,
             values: held.values,
             tags: held.tags,

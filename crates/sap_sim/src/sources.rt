@@ -59,6 +59,27 @@ fn source_of(
     }
 }
 
+// The sources of the numbers of all inputs, by the places of the names that have a field.
+fn sources_by(
+    alloc: Global,
+    widths: &HashMap<Vec<u8>, usize>,
+    numbers: &HashMap<Vec<u8>, usize>,
+    count: usize,
+    tag: u32,
+    inputs: &[Input],
+) -> Result<Vec<Source>, AllocError>
+    requires widths { Finds widths.now (input_widths inputs.now) }
+    requires places { Finds numbers.now (places_from 0 (field_names tag inputs.now)) }
+    requires count { length (field_names tag inputs.now) ≡ count }
+    ensures { IfOk result (λ s. s.items ≡ map (source_of tag inputs.now) inputs.now) }
+{
+    let mut sources = Vec::new(alloc);
+    for input in inputs {
+        sources.push(source_of(alloc, widths, numbers, count, tag, input)?)?;
+    }
+    Ok(sources)
+}
+
 /// The sources of the numbers of all inputs, in port order.
 pub fn sources(
     alloc: Global,
@@ -72,9 +93,5 @@ pub fn sources(
     ensures { IfOk result (λ s. s.items ≡ map (source_of tag inputs.now) inputs.now) }
 {
     let numbers = places(alloc, names)?;
-    let mut sources = Vec::new(alloc);
-    for input in inputs {
-        sources.push(source_of(alloc, widths, &numbers, names.len(), tag, input)?)?;
-    }
-    Ok(sources)
+    sources_by(alloc, widths, &numbers, names.len(), tag, inputs)
 }

@@ -7,8 +7,6 @@ use Rattle.sap_meaning.specs.Program.{listed, Arms, last_arm, end_block}
 use Rattle.sap_meaning.specs.Expressions.{width_of}
 use Rattle.sap_meaning.specs.Program as program
 use Rattle.sap_meaning.specs.Runs.{listed_alone}
-use Rattle.sap_maps.specs.Maps.{Name}
-use Rattle.sap_maps.specs.Term.{Term}
 use Rattle.sap_ir.specs.Plain.Nested.{Body, stop, cases, seat_width}
 use Rattle.sap_ir.specs.declared.plain.nested.PlainCmd.{PlainCmd}
 use Rattle.sap_ir.specs.Plain.Views.{body_of, follow}
@@ -87,41 +85,51 @@ module _ (s : Setting) where
         ap (λ (x : Body). if always d.world (spot_in s at) j then x else cases (var d (wire_key k)) x r stop) (follow_stop (effect_of d (spot_in s at) k j))
 
     -- what is looked at, the raises, and what is behind them
-    step_made : (k : ℕ) (j : program.Step) (hangs : ℕ → Bool) (b0 b1 b2 end : Body) → b1 ≡ follow b0 (looks (setting_in s) (spot_in s at) p k j stop)
-        → b2 ≡ follow b1 (raises (setting_in s) hangs (k + 1) stop) → follow b2 end ≡ follow b0 (looks (setting_in s) (spot_in s at) p k j (raises (setting_in s) hangs (k + 1) end))
-    step_made k j hangs b0 b1 b2 end e f =
+    step_made : (k : ℕ) (j : program.Step) (hangs : ℕ → Bool) (b0 b1 end : Body) → b1 ≡ follow b0 (looks (setting_in s) (spot_in s at) p k j (raises (setting_in s) hangs (k + 1) stop))
+        → follow b1 end ≡ follow b0 (looks (setting_in s) (spot_in s at) p k j (raises (setting_in s) hangs (k + 1) end))
+    step_made k j hangs b0 b1 end e =
         let d = setting_in s in
         let here = spot_in s at in
         let raise : Body = raises d hangs (k + 1) stop in
-        ap (λ (b : Body). follow b end) (f ∙ ap (λ (b : Body). follow b raise) e)
-        ∙ follow-more (follow b0 (looks d here p k j stop)) raise end
-        ∙ follow-more b0 (looks d here p k j stop) (follow raise end)
+        ap (λ (b : Body). follow b end) e
+        ∙ follow-more b0 (looks d here p k j raise) end
         ∙ ap (λ (b : Body). follow b0 (looks d here p k j b)) (sym (raises_follow d hangs (k + 1) end))
 
-    pub do_made : (k : ℕ) (c : Command) (st : Step) (b0 b1 b2 x r : Body) → c ≡ command.Do st → x ≡ stop
-        → r ≡ refusal (setting_in s) k (step_of (entities_in s) st) stop
+    looked : (k : ℕ) (j : program.Step) (hangs : ℕ → Bool) (b0 b1 b2 : Body) → b1 ≡ follow b0 (looks (setting_in s) (spot_in s at) p k j stop)
+        → b2 ≡ follow b1 (raises (setting_in s) hangs (k + 1) stop) → b2 ≡ follow b0 (looks (setting_in s) (spot_in s at) p k j (raises (setting_in s) hangs (k + 1) stop))
+    looked k j hangs b0 b1 b2 e f =
+        let d = setting_in s in
+        let raise : Body = raises d hangs (k + 1) stop in
+        f ∙ ap (λ (b : Body). follow b raise) e ∙ follow-more b0 (looks d (spot_in s at) p k j stop) raise
+
+    pub attempt_made : (k : ℕ) (st : Step) (b0 b1 b2 x r : Body) → x ≡ stop → r ≡ refusal (setting_in s) k (step_of (entities_in s) st) stop
         → b1 ≡ follow b0 (looks (setting_in s) (spot_in s at) p k (step_of (entities_in s) st) stop)
         → b2 ≡ follow b1 (raises (setting_in s) (listed_alone (world_in s) (spot_in s at) (step_of (entities_in s) st)) (k + 1) stop)
-        → follow b2 (decided (setting_in s) (spot_in s at) k (step_of (entities_in s) st) x r) ≡ follow b0 (command_body s at p k c)
-    unfolding command_body command_plain attempt_of
-    do_made k c st b0 b1 b2 x r i xe re e f =
+        → follow b2 (decided (setting_in s) (spot_in s at) k (step_of (entities_in s) st) x r)
+        ≡ follow b0 (attempt_of (setting_in s) (spot_in s at) p k (step_of (entities_in s) st) (listed_alone (world_in s) (spot_in s at) (step_of (entities_in s) st)) stop)
+    unfolding attempt_of
+    attempt_made k st b0 b1 b2 x r xe re e f =
         let d = setting_in s in
         let here = spot_in s at in
         let j = step_of (entities_in s) st in
         let hangs = listed_alone (world_in s) here j in
-        step_made k j hangs b0 b1 b2 (decided d here k j x r) e f
+        step_made k j hangs b0 b2 (decided d here k j x r) (looked k j hangs b0 b1 b2 e f)
         ∙ ap₂ (λ (a q : Body). follow b0 (looks d here p k j (raises d hangs (k + 1) (decided d here k j a q)))) xe re
         ∙ ap (λ (q : Body). follow b0 (looks d here p k j (raises d hangs (k + 1) q))) (decided_alone k j (refusal d k j stop))
-        ∙ ap (λ (y : program.Command). follow b0 (command_plain d here p k y)) (sym (ap (command_of (entities_in s)) i ∙ command_of-do (entities_in s) st))
 
-    pub try_made : (k : ℕ) (c : Command) (st : Step) (hang hl : List ℕ) (hs : Vec Command Global) (handler : List Command) (b0 b1 b2 x r1 r2 : Body) → c ≡ shown.Try st hang hs → hl ≡ hang → handler ≡ hs.items
+    pub do_made : (k : ℕ) (c : Command) (st : Step) (b0 : Body) → c ≡ command.Do st
+        → follow b0 (attempt_of (setting_in s) (spot_in s at) p k (step_of (entities_in s) st) (listed_alone (world_in s) (spot_in s at) (step_of (entities_in s) st)) stop) ≡ follow b0 (command_body s at p k c)
+    unfolding command_body command_plain
+    do_made k c st b0 i =
+        ap (λ (y : program.Command). follow b0 (command_plain (setting_in s) (spot_in s at) p k y)) (sym (ap (command_of (entities_in s)) i ∙ command_of-do (entities_in s) st))
+
+    pub try_made : (k : ℕ) (c : Command) (st : Step) (hang : List ℕ) (hs : Vec Command Global) (handler : List Command) (b0 b1 x r1 r2 : Body) → c ≡ shown.Try st hang hs → handler ≡ hs.items
         → x ≡ stop → r1 ≡ refusal (setting_in s) k (step_of (entities_in s) st) stop
         → r2 ≡ follow r1 (commands_body s at (k + 2) (k + 5) handler)
-        → b1 ≡ follow b0 (looks (setting_in s) (spot_in s at) p k (step_of (entities_in s) st) stop)
-        → b2 ≡ follow b1 (raises (setting_in s) (listed (flags (entities_in s) hl)) (k + 1) stop)
-        → follow b2 (decided (setting_in s) (spot_in s at) k (step_of (entities_in s) st) x r2) ≡ follow b0 (command_body s at p k c)
+        → b1 ≡ follow b0 (looks (setting_in s) (spot_in s at) p k (step_of (entities_in s) st) (raises (setting_in s) (listed (flags (entities_in s) hang)) (k + 1) stop))
+        → follow b1 (decided (setting_in s) (spot_in s at) k (step_of (entities_in s) st) x r2) ≡ follow b0 (command_body s at p k c)
     unfolding command_body commands_body command_plain attempt_of
-    try_made k c st hang hl hs handler b0 b1 b2 x r1 r2 i he le xe re1 re2 e f =
+    try_made k c st hang hs handler b0 b1 x r1 r2 i le xe re1 re2 e =
         let d = setting_in s in
         let n = entities_in s in
         let here = spot_in s at in
@@ -129,19 +137,18 @@ module _ (s : Setting) where
         let inner : Body = block_plain d here (k + 2) (k + 5) (block_of n hs.items) in
         let re : r2 ≡ refusal d k j inner =
         re2 ∙ ap₂ (λ (q : Body) (l : List Command). follow q (block_plain d here (k + 2) (k + 5) (block_of n l))) re1 le in
-        step_made k j (listed (flags n hl)) b0 b1 b2 (decided d here k j x r2) e f
-        ∙ ap₂ (λ (a q : Body). follow b0 (looks d here p k j (raises d (listed (flags n hl)) (k + 1) (decided d here k j a q)))) xe re
-        ∙ ap₂ (λ (q : Body) (l : List ℕ). follow b0 (looks d here p k j (raises d (listed (flags n l)) (k + 1) q))) (decided_alone k j (refusal d k j inner)) he
+        step_made k j (listed (flags n hang)) b0 b1 (decided d here k j x r2) e
+        ∙ ap₂ (λ (a q : Body). follow b0 (looks d here p k j (raises d (listed (flags n hang)) (k + 1) (decided d here k j a q)))) xe re
+        ∙ ap (λ (q : Body). follow b0 (looks d here p k j (raises d (listed (flags n hang)) (k + 1) q))) (decided_alone k j (refusal d k j inner))
         ∙ ap (λ (y : program.Command). follow b0 (command_plain d here p k y)) (sym (ap (command_of n) i ∙ command_of-try n st hang hs))
 
-    pub then_made : (k : ℕ) (c : Command) (st : Step) (hang hl : List ℕ) (ys ns : Vec Command Global) (yl nl : List Command) (b0 b1 b2 x r1 r2 : Body) (m : ℕ) → c ≡ shown.TryThen st hang ys ns → hl ≡ hang
+    pub then_made : (k : ℕ) (c : Command) (st : Step) (hang : List ℕ) (ys ns : Vec Command Global) (yl nl : List Command) (b0 b1 x r1 r2 : Body) (m : ℕ) → c ≡ shown.TryThen st hang ys ns
         → yl ≡ ys.items → nl ≡ ns.items → x ≡ commands_body s at (k + 2) (k + 5) yl → m ≡ k + 5 + commands_wires yl
         → r1 ≡ refusal (setting_in s) k (step_of (entities_in s) st) stop → r2 ≡ follow r1 (commands_body s at (k + 2) m nl)
-        → b1 ≡ follow b0 (looks (setting_in s) (spot_in s at) p k (step_of (entities_in s) st) stop)
-        → b2 ≡ follow b1 (raises (setting_in s) (listed (flags (entities_in s) hl)) (k + 1) stop)
-        → follow b2 (decided (setting_in s) (spot_in s at) k (step_of (entities_in s) st) x r2) ≡ follow b0 (command_body s at p k c)
+        → b1 ≡ follow b0 (looks (setting_in s) (spot_in s at) p k (step_of (entities_in s) st) (raises (setting_in s) (listed (flags (entities_in s) hang)) (k + 1) stop))
+        → follow b1 (decided (setting_in s) (spot_in s at) k (step_of (entities_in s) st) x r2) ≡ follow b0 (command_body s at p k c)
     unfolding command_body commands_body command_plain attempt_then_of decided
-    then_made k c st hang hl ys ns yl nl b0 b1 b2 x r1 r2 m i he ye ne xe me re1 re2 e f =
+    then_made k c st hang ys ns yl nl b0 b1 x r1 r2 m i ye ne xe me re1 re2 e =
         let d = setting_in s in
         let n = entities_in s in
         let here = spot_in s at in
@@ -152,22 +159,21 @@ module _ (s : Setting) where
         let em : m ≡ k + 5 + wires_block (block_of n ys.items) = me ∙ ap (λ (l : List Command). k + 5 + commands_wires l) ye ∙ ap (λ (w : ℕ). k + 5 + w) (sym (wires_block_are n ys.items)) in
         let er : r2 ≡ refusal d k j second =
         re2 ∙ ap (λ (q : Body). follow q (commands_body s at (k + 2) m nl)) re1 ∙ ap₂ (λ (w : ℕ) (l : List Command). refusal d k j (block_plain d here (k + 2) w (block_of n l))) em ne in
-        step_made k j (listed (flags n hl)) b0 b1 b2 (decided d here k j x r2) e f
-        ∙ ap₂ (λ (a q : Body). follow b0 (looks d here p k j (raises d (listed (flags n hl)) (k + 1) (decided d here k j a q)))) ex er
-        ∙ ap (λ (l : List ℕ). follow b0 (looks d here p k j (raises d (listed (flags n l)) (k + 1) (decided d here k j first (refusal d k j second))))) he
+        step_made k j (listed (flags n hang)) b0 b1 (decided d here k j x r2) e
+        ∙ ap₂ (λ (a q : Body). follow b0 (looks d here p k j (raises d (listed (flags n hang)) (k + 1) (decided d here k j a q)))) ex er
         ∙ ap (λ (y : program.Command). follow b0 (command_plain d here p k y)) (sym (ap (command_of n) i ∙ command_of-then n st hang ys ns))
 
-    pub if_made : (k : ℕ) (c : Command) (hang hl : List ℕ) (t : Number) (ys ns : Vec Command Global) (yl nl : List Command) (b0 b1 b2 y1 n1 : Body) (m : ℕ) → c ≡ shown.If hang t ys ns → hl ≡ hang → yl ≡ ys.items → nl ≡ ns.items
-        → b1 ≡ follow b0 (gives (setting_in s) (wire_key k) (tag_of (setting_in s) (term_of t)) (gives (setting_in s) (wire_key (k + 1)) (lub (var (setting_in s) (wire_key p)) (var (setting_in s) (wire_key k))) stop))
-        → b2 ≡ follow b1 (raises (setting_in s) (listed (flags (entities_in s) hl)) k stop)
+    pub if_made : (k : ℕ) (c : Command) (hang : List ℕ) (t : Number) (ys ns : Vec Command Global) (yl nl : List Command) (b0 b1 y1 n1 : Body) (m : ℕ) → c ≡ shown.If hang t ys ns → yl ≡ ys.items → nl ≡ ns.items
+        → b1 ≡ follow b0 (gives (setting_in s) (wire_key k) (tag_of (setting_in s) (term_of t)) (gives (setting_in s) (wire_key (k + 1)) (lub (var (setting_in s) (wire_key p)) (var (setting_in s) (wire_key k)))
+        (raises (setting_in s) (listed (flags (entities_in s) hang)) k stop)))
         → y1 ≡ commands_body s at (k + 1) (k + 2) yl → m ≡ k + 2 + commands_wires yl → n1 ≡ commands_body s at (k + 1) m nl
-        → follow b2 (cases (expr (setting_in s) (term_of t)) y1 n1 stop) ≡ follow b0 (command_body s at p k c)
+        → follow b1 (cases (expr (setting_in s) (term_of t)) y1 n1 stop) ≡ follow b0 (command_body s at p k c)
     unfolding command_body commands_body command_plain select_of
-    if_made k c hang hl t ys ns yl nl b0 b1 b2 y1 n1 m i he ye ne e f yb me nb =
+    if_made k c hang t ys ns yl nl b0 b1 y1 n1 m i ye ne e yb me nb =
         let d = setting_in s in
         let n = entities_in s in
         let here = spot_in s at in
-        let raise : Body = raises d (listed (flags n hl)) k stop in
+        let raise : Body = raises d (listed (flags n hang)) k stop in
         let front : Body → Body = λ b. gives d (wire_key k) (tag_of d (term_of t)) (gives d (wire_key (k + 1)) (lub (var d (wire_key p)) (var d (wire_key k))) b) in
         let end : Body = cases (expr d (term_of t)) y1 n1 stop in
         let first : Body = block_plain d here (k + 1) (k + 2) (block_of n ys.items) in
@@ -175,26 +181,23 @@ module _ (s : Setting) where
         let ey : y1 ≡ first = yb ∙ ap (λ (l : List Command). block_plain d here (k + 1) (k + 2) (block_of n l)) ye in
         let em : m ≡ k + 2 + wires_block (block_of n ys.items) = me ∙ ap (λ (l : List Command). k + 2 + commands_wires l) ye ∙ ap (λ (w : ℕ). k + 2 + w) (sym (wires_block_are n ys.items)) in
         let en : n1 ≡ second = nb ∙ ap₂ (λ (w : ℕ) (l : List Command). block_plain d here (k + 1) w (block_of n l)) em ne in
-        ap (λ (b : Body). follow b end) (f ∙ ap (λ (b : Body). follow b raise) e)
-        ∙ follow-more (follow b0 (front stop)) raise end
-        ∙ follow-more b0 (front stop) (follow raise end)
-        ∙ ap (λ (b : Body). follow b0 (front b)) (sym (raises_follow d (listed (flags n hl)) k end))
-        ∙ ap (λ (l : List ℕ). follow b0 (front (raises d (listed (flags n l)) k end))) he
+        ap (λ (b : Body). follow b end) e
+        ∙ follow-more b0 (front raise) end
+        ∙ ap (λ (b : Body). follow b0 (front b)) (sym (raises_follow d (listed (flags n hang)) k end))
         ∙ ap₂ (λ (a b : Body). follow b0 (front (raises d (listed (flags n hang)) k (cases (expr d (term_of t)) a b stop)))) ey en
         ∙ ap (λ (y : program.Command). follow b0 (command_plain d here p k y)) (sym (ap (command_of n) i ∙ command_of-if n hang t ys ns))
 
-    pub case_made : (k : ℕ) (c : Command) (hang hl : List ℕ) (t : Number) (arms : Vec Arm Global) (cs : Vec Command Global) (al : List Arm) (cl : List Command) (b0 b1 b2 b3 : Body) (number : Term Name) (m : ℕ)
-        (made blocks : List (Vec PlainCmd Global)) (block : Vec PlainCmd Global) → c ≡ shown.Case hang t arms cs → hl ≡ hang → al ≡ arms.items → cl ≡ cs.items
+    pub case_made : (k : ℕ) (c : Command) (hang : List ℕ) (t : Number) (arms : Vec Arm Global) (cs : Vec Command Global) (al : List Arm) (cl : List Command) (b0 b1 : Body) (m : ℕ)
+        (made blocks : List (Vec PlainCmd Global)) (block : Vec PlainCmd Global) → c ≡ shown.Case hang t arms cs → al ≡ arms.items → cl ≡ cs.items
         → map (λ b. body_of b.items) made ≡ arm_bodies s at (k + 1) (k + 4) al → m ≡ k + 4 + arm_wires al → body_of block.items ≡ commands_body s at (k + 1) m cl → blocks ≡ made ++ block ∷ []
-        → b1 ≡ follow b0 (gives (setting_in s) (wire_key k) (tag_of (setting_in s) (term_of t)) (gives (setting_in s) (wire_key (k + 1)) (lub (var (setting_in s) (wire_key p)) (var (setting_in s) (wire_key k))) stop))
-        → number ≡ expr (setting_in s) (term_of t) → b2 ≡ follow b1 (gives (setting_in s) (wire_key (k + 2)) number stop)
-        → b3 ≡ follow b2 (raises (setting_in s) (listed (flags (entities_in s) hl)) k stop)
+        → b1 ≡ follow b0 (gives (setting_in s) (wire_key k) (tag_of (setting_in s) (term_of t)) (gives (setting_in s) (wire_key (k + 1)) (lub (var (setting_in s) (wire_key p)) (var (setting_in s) (wire_key k)))
+        (gives (setting_in s) (wire_key (k + 2)) (expr (setting_in s) (term_of t)) (raises (setting_in s) (listed (flags (entities_in s) hang)) k stop))))
         → (let d = setting_in s in
         let all = alone (entities_in s) al in
-        follow b3 (picks d (width_of (world_in s) (term_of t)) (k + 2) (pick_width all) (k + 3) 0 all (decides d (k + 3) (pick_width all) (map (λ b. body_of b.items) blocks))))
+        follow b1 (picks d (width_of (world_in s) (term_of t)) (k + 2) (pick_width all) (k + 3) 0 all (decides d (k + 3) (pick_width all) (map (λ b. body_of b.items) blocks))))
         ≡ follow b0 (command_body s at p k c)
     unfolding command_body commands_body command_plain pick_of
-    case_made k c hang hl t arms cs al cl b0 b1 b2 b3 number m made blocks block i he ae ce me we be ke e1 ne e2 e3 =
+    case_made k c hang t arms cs al cl b0 b1 m made blocks block i ae ce me we be ke e =
         let d = setting_in s in
         let n = entities_in s in
         let here = spot_in s at in
@@ -205,7 +208,7 @@ module _ (s : Setting) where
         let bodies : List Body = arms_plain d here (k + 1) (k + 4) all in
         let look : Body → Body = λ b. gives d (wire_key k) (tag_of d (term_of t)) (gives d (wire_key (k + 1)) (lub (var d (wire_key p)) (var d (wire_key k))) b) in
         let own : Body → Body = λ b. gives d (wire_key (k + 2)) (expr d (term_of t)) b in
-        let raise : Body = raises d (listed (flags n hl)) k stop in
+        let raise : Body = raises d (listed (flags n hang)) k stop in
         let width : pick_width (alone n al) ≡ w = ap (λ (l : List Arm). pick_width (alone n l)) ae ∙ ap (λ (q : ℕ). seat_width (suc q)) (counts_same n arms.items last) in
         let each : map (λ b. body_of b.items) blocks ≡ bodies =
         ap (λ (l : List (Vec PlainCmd Global)). map (λ b. body_of b.items) l) ke ∙ map_push made block
@@ -219,13 +222,10 @@ module _ (s : Setting) where
         ap₂ (λ (q : ℕ) (l : List Body). picks d u (k + 2) q (k + 3) 0 (alone n al) (decides d (k + 3) q l)) width each
         ∙ ap (λ (l : List Arm). picks d u (k + 2) w (k + 3) 0 (alone n l) choice) ae
         ∙ picks_same d u (k + 2) w (k + 3) 0 n arms.items last choice in
-        ap (follow b3) fixed
-        ∙ ap (λ (b : Body). follow b end) (e3 ∙ ap (λ (b : Body). follow b raise) (e2 ∙ ap₂ (λ (b : Body) (q : Term Name). follow b (gives d (wire_key (k + 2)) q stop)) e1 ne))
-        ∙ follow-more (follow (follow b0 (look stop)) (own stop)) raise end
-        ∙ follow-more (follow b0 (look stop)) (own stop) (follow raise end)
-        ∙ follow-more b0 (look stop) (own (follow raise end))
-        ∙ ap (λ (b : Body). follow b0 (look (own b))) (sym (raises_follow d (listed (flags n hl)) k end))
-        ∙ ap (λ (l : List ℕ). follow b0 (look (own (raises d (listed (flags n l)) k end)))) he
+        ap (follow b1) fixed
+        ∙ ap (λ (b : Body). follow b end) e
+        ∙ follow-more b0 (look (own raise)) end
+        ∙ ap (λ (b : Body). follow b0 (look (own b))) (sym (raises_follow d (listed (flags n hang)) k end))
         ∙ ap (λ (y : program.Command). follow b0 (command_plain d here p k y)) (sym (ap (command_of n) i ∙ command_of-case n hang t arms cs))
 
     -- lists

@@ -7,6 +7,8 @@ ghost use Rattle.sap_meaning.specs.Expressions.{width_of as term_width};
 ghost use Rattle.sap_meaning.specs.Program as program;
 ghost use Rattle.sap_ir.specs.Plain.Nested.{cases, stop};
 ghost use Rattle.sap_ir.specs.Plain.Views.{body_of, follow};
+ghost use Rattle.sap_meaning.specs.Runs.{listed_alone};
+ghost use Rattle.sap_program.specs.Hangs.{flags};
 ghost use Rattle.sap_program.specs.Views as views;
 ghost use Rattle.sap_resolve.specs.Sized.Ranges.{RangedStep, RangedTerm};
 ghost use Rattle.sap_tagged.specs.Commands as spec;
@@ -25,6 +27,7 @@ use sap_guards::steps::{always, guard_of, stays, test_of, written};
 use sap_ir::guarded::{Act, Calc};
 use sap_ir::plain::nested::PlainCmd;
 use sap_ir::plain::seats;
+use sap_program::hang::Hang;
 use sap_program::program::{Arm, Command, Number, Step};
 use sap_program::spot::Spot;
 use sap_terms::calcs::{expr, lub, tag_of, width_of, yes};
@@ -150,6 +153,27 @@ fn look(
     set_stays(alloc, setting, out, k + 4, step)
 }
 
+/// What a step in the context of the wire `p` looks at, and the raises of what hangs there.
+#[tactic(auto, using(sap_effects::proofs::Pushed::behind))]
+fn begin(
+    alloc: Global,
+    setting: &Setting<'_>,
+    at: &Spot<'_>,
+    out: &mut Vec<PlainCmd>,
+    p: u32,
+    k: u32,
+    hang: &Hang,
+    step: &Step,
+) -> Result<(), AllocError>
+    requires few { k + 5 < 2 ^ 32 }
+    requires ranged { RangedStep (world_in setting.now) (views.step_of (entities_in setting.now) step.now) }
+    ensures { let d = setting_in setting.now in
+        OnOk result (body_of out.new.items ≡ follow (body_of out.old.items) (spec.looks d (spot_in setting.now at.now) p k (views.step_of (entities_in setting.now) step.now) (spec.raises d (program.listed (flags (entities_in setting.now) hang.now)) (k + 1) stop))) }
+{
+    look(alloc, setting, at, out, p, k, step)?;
+    raise_all(alloc, setting, out, hang.numbers(), k + 1)
+}
+
 /// The number of a step as a check site.
 fn site(step: &Step) -> u32
     ensures { (n : ℕ) → result ≡ site_of (views.step_of n step.now) }
@@ -179,8 +203,8 @@ fn refuse(
     let site = site(step);
     let refused = refused_name(alloc, setting, site)?;
     push(out, Act::Set(refused, yes()))?;
-    let context = wire_variable(alloc, setting, k + 2)?;
     let level = level_name(alloc, setting, site)?;
+    let context = wire_variable(alloc, setting, k + 2)?;
     push(out, Act::Set(level, context))
 }
 
@@ -217,7 +241,32 @@ fn decide(
     }
 }
 
-/// The wires of a choice, and its raises.
+/// A step without a handler, whose wires are those from `k` on.
+fn attempt(
+    alloc: Global,
+    setting: &Setting<'_>,
+    at: &Spot<'_>,
+    out: &mut Vec<PlainCmd>,
+    p: u32,
+    k: u32,
+    step: &Step,
+) -> Result<(), AllocError>
+    requires few { k + 5 < 2 ^ 32 }
+    requires ranged { RangedStep (world_in setting.now) (views.step_of (entities_in setting.now) step.now) }
+    ensures { let d = setting_in setting.now in
+        let at = spot_in setting.now at.now in
+        let step = views.step_of (entities_in setting.now) step.now in
+        OnOk result (body_of out.new.items ≡ follow (body_of out.old.items) (spec.attempt_of d at p k step (listed_alone d.world at step) stop)) }
+{
+    look(alloc, setting, at, out, p, k, step)?;
+    raise_alone(alloc, setting, at, out, k + 1, step)?;
+    let mut refused = Vec::new(alloc);
+    refuse(alloc, setting, &mut refused, k, step)?;
+    let accepted = Vec::new(alloc);
+    decide(alloc, setting, at, out, k, step, accepted, refused)
+}
+
+/// The wires of a choice.
 #[tactic(auto, using(sap_effects::proofs::Pushed::behind))]
 fn choose(
     alloc: Global,
@@ -235,6 +284,50 @@ fn choose(
     let level = tag_of(alloc, setting, condition)?;
     set_wire(alloc, setting, out, k, level)?;
     set_inside(alloc, setting, out, p, k, k + 1)
+}
+
+/// The wires of a choice by a condition, and the raises of what hangs there.
+#[tactic(auto, using(sap_effects::proofs::Pushed::behind))]
+fn choose_branch(
+    alloc: Global,
+    setting: &Setting<'_>,
+    out: &mut Vec<PlainCmd>,
+    p: u32,
+    k: u32,
+    hang: &Hang,
+    condition: &Number,
+) -> Result<(), AllocError>
+    requires few { k + 2 < 2 ^ 32 }
+    requires ranged { RangedTerm (world_in setting.now) (views.term_of condition.now) }
+    ensures { let d = setting_in setting.now in
+        OnOk result (body_of out.new.items ≡ follow (body_of out.old.items) (spec.gives d (wire_key k) (levels.tag_of d (views.term_of condition.now)) (spec.gives d (wire_key (k + 1)) (levels.lub (levels.var d (wire_key p)) (levels.var d (wire_key k)))
+        (spec.raises d (program.listed (flags (entities_in setting.now) hang.now)) k stop)))) }
+{
+    choose(alloc, setting, out, p, k, condition)?;
+    raise_all(alloc, setting, out, hang.numbers(), k)
+}
+
+/// The wires of a choice by a number, which goes into wire `k + 2`, and the raises of what hangs there.
+#[tactic(auto, using(sap_effects::proofs::Pushed::behind))]
+fn choose_arm(
+    alloc: Global,
+    setting: &Setting<'_>,
+    out: &mut Vec<PlainCmd>,
+    p: u32,
+    k: u32,
+    hang: &Hang,
+    number: &Number,
+) -> Result<(), AllocError>
+    requires few { k + 4 < 2 ^ 32 }
+    requires ranged { RangedTerm (world_in setting.now) (views.term_of number.now) }
+    ensures { let d = setting_in setting.now in
+        OnOk result (body_of out.new.items ≡ follow (body_of out.old.items) (spec.gives d (wire_key k) (levels.tag_of d (views.term_of number.now)) (spec.gives d (wire_key (k + 1)) (levels.lub (levels.var d (wire_key p)) (levels.var d (wire_key k)))
+        (spec.gives d (wire_key (k + 2)) (levels.expr d (views.term_of number.now)) (spec.raises d (program.listed (flags (entities_in setting.now) hang.now)) k stop))))) }
+{
+    choose(alloc, setting, out, p, k, number)?;
+    let value = expr(alloc, setting, number)?;
+    set_wire(alloc, setting, out, k + 2, value)?;
+    raise_all(alloc, setting, out, hang.numbers(), k)
 }
 
 /// Where the condition isn't 0 `yes`, else `no`.
@@ -278,12 +371,7 @@ fn command(
     match command {
         Command::Do(step) => {
             *next = k + 5;
-            let mut refused = Vec::new(alloc);
-            refuse(alloc, setting, &mut refused, k, step)?;
-            look(alloc, setting, at, out, p, k, step)?;
-            raise_alone(alloc, setting, at, out, k + 1, step)?;
-            let accepted = Vec::new(alloc);
-            decide(alloc, setting, at, out, k, step, accepted, refused)
+            attempt(alloc, setting, at, out, p, k, step)
         }
         Command::Try {
             step,
@@ -291,12 +379,11 @@ fn command(
             handler,
         } => {
             *next = k + 5;
+            begin(alloc, setting, at, out, p, k, hang, step)?;
             let mut refused = Vec::new(alloc);
             refuse(alloc, setting, &mut refused, k, step)?;
             let handler = handler.as_slice();
             commands(alloc, setting, at, &mut refused, k + 2, next, handler)?;
-            look(alloc, setting, at, out, p, k, step)?;
-            raise_all(alloc, setting, out, hang.numbers(), k + 1)?;
             let accepted = Vec::new(alloc);
             decide(alloc, setting, at, out, k, step, accepted, refused)
         }
@@ -307,8 +394,7 @@ fn command(
             no,
         } => {
             *next = k + 2;
-            choose(alloc, setting, out, p, k, condition)?;
-            raise_all(alloc, setting, out, hang.numbers(), k)?;
+            choose_branch(alloc, setting, out, p, k, hang, condition)?;
             let mut first = Vec::new(alloc);
             commands(alloc, setting, at, &mut first, k + 1, next, yes.as_slice())?;
             let mut second = Vec::new(alloc);
@@ -322,6 +408,7 @@ fn command(
             refused,
         } => {
             *next = k + 5;
+            begin(alloc, setting, at, out, p, k, hang, step)?;
             let mut passed = Vec::new(alloc);
             let accepted = accepted.as_slice();
             commands(alloc, setting, at, &mut passed, k + 2, next, accepted)?;
@@ -329,8 +416,6 @@ fn command(
             refuse(alloc, setting, &mut failed, k, step)?;
             let refused = refused.as_slice();
             commands(alloc, setting, at, &mut failed, k + 2, next, refused)?;
-            look(alloc, setting, at, out, p, k, step)?;
-            raise_all(alloc, setting, out, hang.numbers(), k + 1)?;
             decide(alloc, setting, at, out, k, step, passed, failed)
         }
         Command::Case {
@@ -340,6 +425,7 @@ fn command(
             last,
         } => {
             *next = k + 4;
+            choose_arm(alloc, setting, out, p, k, hang, number)?;
             let mut blocks = Vec::new(alloc);
             let arms = arms.as_slice();
             add_arms(alloc, setting, at, &mut blocks, k + 1, next, arms)?;
@@ -347,11 +433,6 @@ fn command(
             let last = last.as_slice();
             commands(alloc, setting, at, &mut block, k + 1, next, last)?;
             blocks.push(block)?;
-            choose(alloc, setting, out, p, k, number)?;
-            let value = expr(alloc, setting, number)?;
-            set_wire(alloc, setting, out, k + 2, value)?;
-            let raised = hang.numbers();
-            raise_all(alloc, setting, out, raised, k)?;
             pick_block(alloc, setting, out, k, number, arms, blocks)
         }
     }

@@ -12,7 +12,7 @@ ghost use Rattle.sap_size.specs.Items.{most_items};
 ghost use Rattle.sap_size.specs.Nested.{nested_weight};
 ghost use Rattle.sap_resolve.specs.Sized.Ranges.{RangedProgram};
 ghost use Rattle.sap_tagged.specs.Law.{IsSound, PlainStandsForDesign};
-ghost use Rattle.sap_tagged.specs.Plain.{plain_of};
+ghost use Rattle.sap_tagged.specs.Plain.{first_wires, group_wires, inner_wires, plain_of, seat_registers, shown_registers, site_wires, tag_registers};
 ghost use Rattle.sap_tagged.specs.States.{wires_group};
 ghost use Rattle.sap_terms.specs.Parts.{StatesFew};
 ghost use Rattle.sap_terms.specs.Code.{entities_in, named_in, tag_width};
@@ -46,6 +46,56 @@ fn add_names(alloc: Global, names: &mut Vec<Name>, variables: &[Var]) -> Result<
     Ok(())
 }
 
+/// Adds the registers and the wires that are ports, whose names it gives.
+fn add_shown(
+    alloc: Global,
+    setting: &Setting<'_>,
+    registers: &mut Vec<Var>,
+    wires: &mut Vec<Var>,
+) -> Result<Vec<Name>, AllocError>
+    requires { RangedProgram (named_in setting.now).program }
+    ensures registers { OnOk result (registers.new.items ≡ registers.old.items ++ shown_registers (named_in setting.now) (tag_width setting.now)) }
+    ensures wires { OnOk result (wires.new.items ≡ wires.old.items ++ site_wires (named_in setting.now) (tag_width setting.now) 1 setting.now.program.now.sites) }
+    ensures ports { IfOk result (λ ports. ports.items ≡ variable_names registers.new.items ++ variable_names wires.new.items) }
+{
+    add_shown_registers(alloc, setting, registers)?;
+    add_site_wires(alloc, setting, wires)?;
+    let mut ports = Vec::new(alloc);
+    add_names(alloc, &mut ports, registers.as_slice())?;
+    add_names(alloc, &mut ports, wires.as_slice())?;
+    Ok(ports)
+}
+
+/// Adds the other registers.
+fn add_own_registers(
+    alloc: Global,
+    setting: &Setting<'_>,
+    registers: &mut Vec<Var>,
+) -> Result<(), AllocError>
+    ensures { OnOk result (registers.new.items ≡ registers.old.items ++ (tag_registers (named_in setting.now) (tag_width setting.now) ++ seat_registers (named_in setting.now))) }
+{
+    add_tag_registers(alloc, setting, registers)?;
+    add_seat_registers(alloc, setting, registers)
+}
+
+/// Adds the other wires.
+fn add_own_wires(
+    alloc: Global,
+    setting: &Setting<'_>,
+    wires: &mut Vec<Var>,
+) -> Result<(), AllocError>
+    requires ranged { RangedProgram (named_in setting.now).program }
+    requires few { wires_group (group_of (entities_in setting.now) setting.now.program.now.states.items) < 2 ^ 32 }
+    requires arms { StatesFew setting.now.program.now.states.items }
+    ensures { let d = named_in setting.now in
+        let tag = tag_width setting.now in
+        OnOk result (wires.new.items ≡ wires.old.items ++ (first_wires d tag ++ (inner_wires d tag ++ group_wires d tag 0 (group_of (entities_in setting.now) setting.now.program.now.states.items)))) }
+{
+    add_first_wires(alloc, setting, wires)?;
+    add_inner_wires(alloc, setting, wires)?;
+    add_state_wires(alloc, setting, wires)
+}
+
 /// The parts of the plain program.
 fn parts(alloc: Global, setting: &Setting<'_>) -> Result<PlainParts, AllocError>
     requires ranged { RangedProgram (named_in setting.now).program }
@@ -53,23 +103,16 @@ fn parts(alloc: Global, setting: &Setting<'_>) -> Result<PlainParts, AllocError>
     requires arms { StatesFew setting.now.program.now.states.items }
     ensures { IfOk result (λ p. parts_nested p ≡ plain_of (named_in setting.now) (tag_width setting.now) setting.now.program.now.sites) }
 {
+    let states = top_states(alloc, setting)?;
+    let mut registers = Vec::new(alloc);
+    let mut wires = Vec::new(alloc);
+    let ports = add_shown(alloc, setting, &mut registers, &mut wires)?;
+    add_own_registers(alloc, setting, &mut registers)?;
+    add_own_wires(alloc, setting, &mut wires)?;
     let mut inputs = Vec::new(alloc);
     add_inputs(alloc, setting, &mut inputs)?;
-    let mut registers = Vec::new(alloc);
-    add_shown_registers(alloc, setting, &mut registers)?;
-    let mut wires = Vec::new(alloc);
-    add_site_wires(alloc, setting, &mut wires)?;
-    let mut ports = Vec::new(alloc);
-    add_names(alloc, &mut ports, registers.as_slice())?;
-    add_names(alloc, &mut ports, wires.as_slice())?;
-    add_tag_registers(alloc, setting, &mut registers)?;
-    add_seat_registers(alloc, setting, &mut registers)?;
-    add_first_wires(alloc, setting, &mut wires)?;
-    add_inner_wires(alloc, setting, &mut wires)?;
-    add_state_wires(alloc, setting, &mut wires)?;
     let mut memories = Vec::new(alloc);
     add_memories(alloc, setting, &mut memories)?;
-    let states = top_states(alloc, setting)?;
     Ok(PlainParts {
         inputs,
         wires,

@@ -153,6 +153,28 @@ pub fn enters(
     }
 }
 
+/// An operator on two numbers, of which the first is in its place.
+fn two(alloc: Global, op: Op2, a: Box<Calc>, b: Calc) -> Result<Calc, AllocError>
+    ensures { IfOk result (λ c. calcs.term_of c ≡ term.two op (calcs.term_of a.value) (calcs.term_of b)) }
+{
+    Ok(Calc::Two(op, a, Box::new(alloc, b)?))
+}
+
+/// The second number where the first isn't 0, else the third; the first two are in their places.
+fn choose(alloc: Global, test: Box<Calc>, yes: Box<Calc>, no: Calc) -> Result<Calc, AllocError>
+    ensures { IfOk result (λ c. calcs.term_of c ≡ term.choose (calcs.term_of test.value) (calcs.term_of yes.value) (calcs.term_of no)) }
+{
+    Ok(Calc::Choose(test, yes, Box::new(alloc, no)?))
+}
+
+/// The join of a level and that of two others; the first two are in their places.
+fn lub_of_three(alloc: Global, a: Box<Calc>, b: Box<Calc>, c: Calc) -> Result<Calc, AllocError>
+    ensures { IfOk result (λ l. calcs.term_of l ≡ spec.lub (calcs.term_of a.value) (spec.lub (calcs.term_of b.value) (calcs.term_of c))) }
+{
+    let both = two(alloc, Op2::Or, b, c)?;
+    two(alloc, Op2::Or, a, both)
+}
+
 /// The first in front of the second.
 fn join(alloc: Global, a: Calc, b: Calc) -> Result<Calc, AllocError>
     ensures { IfOk result (λ c. calcs.term_of c ≡ term.join (calcs.term_of a) (calcs.term_of b)) }
@@ -228,15 +250,15 @@ pub fn expr(alloc: Global, setting: &Setting<'_>, e: &Number) -> Result<Calc, Al
             Calc::one(alloc, *op, a)
         }
         Number::Two(op, a, b) => {
-            let a = expr(alloc, setting, a)?;
+            let a = Box::new(alloc, expr(alloc, setting, a)?)?;
             let b = expr(alloc, setting, b)?;
-            Calc::two(alloc, *op, a, b)
+            two(alloc, *op, a, b)
         }
         Number::Choose(c, a, b) => {
-            let c = expr(alloc, setting, c)?;
-            let a = expr(alloc, setting, a)?;
+            let c = Box::new(alloc, expr(alloc, setting, c)?)?;
+            let a = Box::new(alloc, expr(alloc, setting, a)?)?;
             let b = expr(alloc, setting, b)?;
-            Calc::choose(alloc, c, a, b)
+            choose(alloc, c, a, b)
         }
         Number::Join(a, b) => {
             let a = expr(alloc, setting, a)?;
@@ -292,29 +314,22 @@ pub fn tag_of(alloc: Global, setting: &Setting<'_>, e: &Number) -> Result<Calc, 
         Number::Constant { .. } => Ok(bits(setting, setting.lattice.bottom())),
         Number::Read(x) => tag_variable(alloc, setting, *x),
         Number::Cell { memory, index } => {
-            let own = tag_of(alloc, setting, index)?;
+            let own = Box::new(alloc, tag_of(alloc, setting, index)?)?;
             let cell = cell_tag(alloc, setting, *memory, index)?;
-            lub(alloc, own, cell)
+            two(alloc, Op2::Or, own, cell)
         }
-        Number::One(_, a) => tag_of(alloc, setting, a),
-        Number::Two(_, a, b) => {
-            let a = tag_of(alloc, setting, a)?;
+        Number::One(_, of) | Number::Part { of, .. } => tag_of(alloc, setting, of),
+        Number::Two(_, a, b) | Number::Join(a, b) => {
+            let a = Box::new(alloc, tag_of(alloc, setting, a)?)?;
             let b = tag_of(alloc, setting, b)?;
-            lub(alloc, a, b)
+            two(alloc, Op2::Or, a, b)
         }
         Number::Choose(c, a, b) => {
-            let c = tag_of(alloc, setting, c)?;
-            let a = tag_of(alloc, setting, a)?;
+            let c = Box::new(alloc, tag_of(alloc, setting, c)?)?;
+            let a = Box::new(alloc, tag_of(alloc, setting, a)?)?;
             let b = tag_of(alloc, setting, b)?;
-            let both = lub(alloc, a, b)?;
-            lub(alloc, c, both)
+            lub_of_three(alloc, c, a, b)
         }
-        Number::Join(a, b) => {
-            let a = tag_of(alloc, setting, a)?;
-            let b = tag_of(alloc, setting, b)?;
-            lub(alloc, a, b)
-        }
-        Number::Part { of, .. } => tag_of(alloc, setting, of),
     }
 }
 
@@ -325,12 +340,11 @@ pub fn told_tag(alloc: Global, setting: &Setting<'_>, n: &TagOf) -> Result<Calc,
 {
     match n {
         TagOf::Fixed(_) => Ok(bits(setting, setting.lattice.bottom())),
-        TagOf::Of(e) => tag_of(alloc, setting, e),
-        TagOf::AtPlace(e) => tag_of(alloc, setting, e),
+        TagOf::Of(e) | TagOf::AtPlace(e) => tag_of(alloc, setting, e),
         TagOf::Both(a, b) => {
-            let a = told_tag(alloc, setting, a)?;
+            let a = Box::new(alloc, told_tag(alloc, setting, a)?)?;
             let b = told_tag(alloc, setting, b)?;
-            lub(alloc, a, b)
+            two(alloc, Op2::Or, a, b)
         }
     }
 }
@@ -409,9 +423,9 @@ pub fn new_tag(alloc: Global, setting: &Setting<'_>, n: &TagOf) -> Result<Calc, 
         TagOf::Of(e) => tag_of(alloc, setting, e),
         TagOf::AtPlace(e) => level_at(alloc, setting, e),
         TagOf::Both(a, b) => {
-            let a = new_tag(alloc, setting, a)?;
+            let a = Box::new(alloc, new_tag(alloc, setting, a)?)?;
             let b = new_tag(alloc, setting, b)?;
-            lub(alloc, a, b)
+            two(alloc, Op2::Or, a, b)
         }
     }
 }

@@ -13,8 +13,8 @@ use crate::fields::{fields_of, take_numbers};
 use crate::known::known;
 use crate::line::refused_into;
 use crate::room::cycle_room;
-use crate::trace::load;
-use crate::wires::{Wires, wires_of};
+use crate::trace::planned;
+use crate::wires::Wires;
 use sap_check::Checked;
 use sap_cycle::runner::Runner;
 use sap_desk::RowBuf;
@@ -68,17 +68,14 @@ impl Tracing {
         ensures after { IfOk result (IsAfter (levels_in checked.now) (tree_in checked.now) netlist []) }
         ensures least { IfOk result (λ s. (other : ℕ) → HoldsCycle (levels_in checked.now) (tree_in checked.now) other → s.room ≤ other) }
     {
-        known(checked);
-        netlist.rules();
         let names = checked.names();
         names.have_widths();
-        let fields = fields_of(alloc, names)?;
-        let runner = load(alloc, netlist)?;
-        let wires = wires_of(alloc, &runner, checked.site_count())?;
         let Some(room) = cycle_room(checked) else {
             return Err(AllocError);
         };
+        let fields = fields_of(alloc, names)?;
         let numbers = zeros(alloc, fields.as_slice())?;
+        let (runner, wires) = planned(alloc, checked, netlist)?;
         Ok(Tracing {
             runner,
             wires,

@@ -1,6 +1,6 @@
 //! V5 at ranges and constants.
 
-ghost use Rattle.std.specs.Prelude.{◌≡◌, [], ◌∷◌, flat_map};
+ghost use Rattle.std.specs.Prelude.{◌≡◌, [], ◌∷◌, ◌++◌, flat_map};
 ghost use Rattle.sap_modtext.specs.Faults as faults;
 ghost use Rattle.sap_modtext.specs.Faults.{constants, operand_constants, ranges, right_constants};
 ghost use Rattle.sap_vjudge.specs.Best.{best_of};
@@ -24,24 +24,6 @@ pub fn note_range(range: &Number, best: &mut Option<Fault>)
     ensures { best.new ≡ best_of best.old (range_faults (number_of range.now)) }
 {
     note(best, 63 < range.value, Code::V5, range.place);
-}
-
-/// V5 at the range of a declaration.
-#[tactic(auto, using(crate::proofs::Noting::noting, crate::proofs::Noting::ranges))]
-pub fn note_ranges(item: &Item, best: &mut Option<Fault>)
-    ensures { best.new ≡ best_of best.old (ranges_faults (ranges (item_of item.now))) }
-{
-    match item {
-        Item::Wire(range, _) => note_range(range, best),
-        Item::Register(range, _) => note_range(range, best),
-        Item::Memory(range, _, _) => note_range(range, best),
-        Item::Integer(_) => (),
-        Item::Assign(_, _) => (),
-        Item::Initial(_, _) => (),
-        Item::InitialCells(_, _, _, _) => (),
-        Item::Always(_, _) => (),
-        Item::AlwaysCell(_, _, _, _) => (),
-    }
 }
 
 #[tactic(auto, using(crate::proofs::Noting::noting, crate::proofs::Noting::constants))]
@@ -92,12 +74,16 @@ fn note_right(right: &Right, best: &mut Option<Fault>)
     }
 }
 
-/// V5 at the constants of an item.
-#[tactic(auto, using(crate::proofs::Noting::noting, crate::proofs::Noting::constants))]
-pub fn note_constants(item: &Item, best: &mut Option<Fault>)
-    ensures { best.new ≡ best_of best.old (constants_faults (constants (item_of item.now))) }
+/// V5 at the range of a declaration, and at the constants of an item.
+#[tactic(auto, using(crate::proofs::Noting::noting, crate::proofs::Noting::ranges, crate::proofs::Noting::constants))]
+pub fn note_numbers(item: &Item, best: &mut Option<Fault>)
+    ensures { best.new ≡ best_of best.old (ranges_faults (ranges (item_of item.now)) ++ constants_faults (constants (item_of item.now))) }
 {
     match item {
+        Item::Wire(range, _) => note_range(range, best),
+        Item::Register(range, _) => note_range(range, best),
+        Item::Memory(range, _, _) => note_range(range, best),
+        Item::Integer(_) => (),
         Item::Assign(_, right) => note_right(right, best),
         Item::Initial(_, value) => note_constant(value, best),
         Item::InitialCells(_, _, _, value) => note_constant(value, best),
@@ -107,9 +93,5 @@ pub fn note_constants(item: &Item, best: &mut Option<Fault>)
             note_operand(index, best);
             note_operand(value, best);
         }
-        Item::Wire(_, _) => (),
-        Item::Register(_, _) => (),
-        Item::Memory(_, _, _) => (),
-        Item::Integer(_) => (),
     }
 }

@@ -8,14 +8,14 @@ use crate::code::Code;
 use std::alloc::{AllocError, AllocFailed};
 
 /// A code where it stands: how many bytes of the text stand before it.
-#[derive(Clone, Copy, PartialEq, Eq, Debug)]
+#[derive(Clone, Copy)]
 pub struct Fault {
     pub code: Code,
     pub place: u64,
 }
 
 /// Why a module is not taken.
-#[derive(Clone, Copy, PartialEq, Eq, Debug)]
+#[derive(Clone, Copy)]
 pub enum JudgeFault {
     /// The first fault, by place and then by code.
     Rule(Code, u64),

@@ -7,7 +7,7 @@ ghost use Rattle.sap_vjudge.specs.Listed as spec;
 ghost use Rattle.sap_vjudge.specs.Tables.{known_of};
 ghost use Rattle.sap_vparse.specs.Views.{item_of, items_of, port_of, ports_of};
 
-use crate::constants::{note_constants, note_range, note_ranges};
+use crate::constants::{note_numbers, note_range};
 use crate::fault::Fault;
 use crate::memories::note_memories;
 use crate::table::Table;
@@ -23,8 +23,7 @@ fn note_item(table: &Table, item: &Item, best: &mut Option<Fault>)
 {
     note_twice(table, item, best);
     note_uses(table, item, best);
-    note_ranges(item, best);
-    note_constants(item, best);
+    note_numbers(item, best);
     note_widths(table, item, best);
     note_memories(table, item, best);
 }

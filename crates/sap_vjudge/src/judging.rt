@@ -4,7 +4,9 @@ ghost use Rattle.std.specs.Prelude.{◌≡◌, ℕ, None, IfErr, IfOk, IsErrOf, 
 ghost use Rattle.sap_modtext.specs.Faults.{IsFaultless};
 ghost use Rattle.sap_vjudge.specs.Best.{best_of};
 ghost use Rattle.sap_vjudge.specs.FirstFault.{IsFirstFault};
+ghost use Rattle.sap_vjudge.specs.Known.{nothing_known};
 ghost use Rattle.sap_vjudge.specs.Listed.{file_faults};
+ghost use Rattle.sap_vjudge.specs.Tables.{known_of};
 ghost use Rattle.sap_vjudge.specs.declared.code.Code.{Code};
 ghost use Rattle.sap_vjudge.specs.declared.fault.JudgeFault.TheVariants.{Memory, Rule};
 ghost use Rattle.sap_vparse.specs.Views.{file_of};
@@ -17,15 +19,28 @@ use sap_vparse::items::File;
 use std::alloc::{AllocError, Global};
 
 #[tactic(auto, using(crate::proofs::Noting::noting, crate::proofs::Lists::files))]
+fn note_file(
+    alloc: Global,
+    file: &File,
+    table: &mut Table,
+    best: &mut Option<Fault>,
+) -> Result<(), AllocError>
+    requires { known_of table.old ≡ nothing_known }
+    ensures { OnOk result (best.new ≡ best_of best.old (file_faults (file_of file.now))) }
+{
+    read_ports(alloc, file.ports.as_slice(), table, best)?;
+    read_items(alloc, file.items.as_slice(), table, best)?;
+    note_unset_ports(table, file.ports.as_slice(), best);
+    note_unset_items(table, file.items.as_slice(), best);
+    Ok(())
+}
+
 fn first_fault(alloc: Global, file: &File) -> Result<Option<Fault>, AllocError>
     ensures { IfOk result (λ best. best ≡ best_of None (file_faults (file_of file.now))) }
 {
     let mut best = None;
     let mut table = Table::new(alloc);
-    read_ports(alloc, file.ports.as_slice(), &mut table, &mut best)?;
-    read_items(alloc, file.items.as_slice(), &mut table, &mut best)?;
-    note_unset_ports(&table, file.ports.as_slice(), &mut best);
-    note_unset_items(&table, file.items.as_slice(), &mut best);
+    note_file(alloc, file, &mut table, &mut best)?;
     Ok(best)
 }
 

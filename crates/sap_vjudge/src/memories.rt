@@ -2,7 +2,6 @@
 
 ghost use Rattle.std.specs.Prelude.{◌≡◌, ◌+◌, ◌≤◌, ◌^◌, ◌==◌, option_map};
 ghost use Rattle.sap_modtext.specs.Faults as faults;
-ghost use Rattle.sap_modtext.specs.Faults.{indexes};
 ghost use Rattle.sap_vjudge.specs.Best.{best_of};
 ghost use Rattle.sap_vjudge.specs.Listed as spec;
 ghost use Rattle.sap_vjudge.specs.Shapes.{shape_of};
@@ -31,23 +30,6 @@ fn is_depth(depth: u128) -> bool
 }
 
 #[tactic(auto, using(crate::proofs::Noting::noting, crate::proofs::Noting::indexes))]
-fn note_depth(item: &Item, best: &mut Option<Fault>)
-    ensures { best.new ≡ best_of best.old (spec.depth_faults (item_of item.now)) }
-{
-    match item {
-        Item::Memory(_, _, last) => note(best, !is_depth(depth(last.value)), Code::V7, last.place),
-        Item::Wire(_, _) => (),
-        Item::Register(_, _) => (),
-        Item::Integer(_) => (),
-        Item::Assign(_, _) => (),
-        Item::Initial(_, _) => (),
-        Item::InitialCells(_, _, _, _) => (),
-        Item::Always(_, _) => (),
-        Item::AlwaysCell(_, _, _, _) => (),
-    }
-}
-
-#[tactic(auto, using(crate::proofs::Noting::noting, crate::proofs::Noting::indexes))]
 fn note_other_bound(shape: Option<Shape>, bound: &Number, best: &mut Option<Fault>)
     ensures { best.new ≡ best_of best.old (spec.other_bound (option_map shape_of shape) (number_of bound.now)) }
 {
@@ -60,23 +42,6 @@ fn note_other_bound(shape: Option<Shape>, bound: &Number, best: &mut Option<Faul
         Some(Shape::Wire(_)) => (),
         Some(Shape::Register(_)) => (),
         None => (),
-    }
-}
-
-#[tactic(auto, using(crate::proofs::Noting::noting, crate::proofs::Noting::indexes))]
-fn note_bound(table: &Table, item: &Item, best: &mut Option<Fault>)
-    ensures { best.new ≡ best_of best.old (spec.bound_faults (known_of table.now) (item_of item.now)) }
-{
-    match item {
-        Item::InitialCells(_, bound, x, _) => note_other_bound(table.shape(&x.name), bound, best),
-        Item::Wire(_, _) => (),
-        Item::Register(_, _) => (),
-        Item::Memory(_, _, _) => (),
-        Item::Integer(_) => (),
-        Item::Assign(_, _) => (),
-        Item::Initial(_, _) => (),
-        Item::Always(_, _) => (),
-        Item::AlwaysCell(_, _, _, _) => (),
     }
 }
 
@@ -142,29 +107,20 @@ fn note_right(table: &Table, right: &Right, best: &mut Option<Fault>)
     }
 }
 
-#[tactic(auto, using(crate::proofs::Noting::noting, crate::proofs::Noting::indexes))]
-fn note_indexes(table: &Table, item: &Item, best: &mut Option<Fault>)
-    ensures { best.new ≡ best_of best.old (spec.indexes_faults (known_of table.now) (indexes (item_of item.now))) }
-{
-    match item {
-        Item::Assign(_, right) => note_right(table, right, best),
-        Item::AlwaysCell(_, x, index, _) => note_index(table, x, index, best),
-        Item::Wire(_, _) => (),
-        Item::Register(_, _) => (),
-        Item::Memory(_, _, _) => (),
-        Item::Integer(_) => (),
-        Item::Initial(_, _) => (),
-        Item::InitialCells(_, _, _, _) => (),
-        Item::Always(_, _) => (),
-    }
-}
-
 /// V7 at a memory's number, at the bound of a `for`, and at an index.
 #[tactic(auto, using(crate::proofs::Noting::noting, crate::proofs::Noting::indexes))]
 pub fn note_memories(table: &Table, item: &Item, best: &mut Option<Fault>)
     ensures { best.new ≡ best_of best.old (spec.memory_faults (known_of table.now) (item_of item.now)) }
 {
-    note_depth(item, best);
-    note_bound(table, item, best);
-    note_indexes(table, item, best);
+    match item {
+        Item::Memory(_, _, last) => note(best, !is_depth(depth(last.value)), Code::V7, last.place),
+        Item::InitialCells(_, bound, x, _) => note_other_bound(table.shape(&x.name), bound, best),
+        Item::Assign(_, right) => note_right(table, right, best),
+        Item::AlwaysCell(_, x, index, _) => note_index(table, x, index, best),
+        Item::Wire(_, _) => (),
+        Item::Register(_, _) => (),
+        Item::Integer(_) => (),
+        Item::Initial(_, _) => (),
+        Item::Always(_, _) => (),
+    }
 }

@@ -1,9 +1,9 @@
 //! V3: what is declared or set a second time, and the `integer` of a `for`.
 
 ghost use Rattle.std.specs.Prelude.{◌≡◌, ◌&&◌, is_some, option_map};
-ghost use Rattle.sap_modtext.specs.Faults.{is_settable, item_declarations, target_of};
+ghost use Rattle.sap_modtext.specs.Faults.{is_settable};
 ghost use Rattle.sap_vjudge.specs.Best.{best_of, fault_if};
-ghost use Rattle.sap_vjudge.specs.Listed.{declarations_faults, declared_faults, integer_faults, target_faults};
+ghost use Rattle.sap_vjudge.specs.Listed.{declared_faults};
 ghost use Rattle.sap_vjudge.specs.Shapes.{setting_of, shape_of};
 ghost use Rattle.sap_vjudge.specs.Tables.{known_of};
 ghost use Rattle.sap_vjudge.specs.declared.code.Code.TheVariants.{V3};
@@ -20,23 +20,6 @@ pub fn note_declared(table: &Table, x: &Mention, best: &mut Option<Fault>)
     ensures { best.new ≡ best_of best.old (fault_if (is_some ((known_of table.now).shape x.now.name)) V3 x.now.place) }
 {
     note(best, table.shape(&x.name).is_some(), Code::V3, x.place);
-}
-
-#[tactic(auto, using(crate::proofs::Noting::noting, crate::proofs::Noting::declared))]
-fn note_declarations(table: &Table, item: &Item, best: &mut Option<Fault>)
-    ensures { best.new ≡ best_of best.old (declarations_faults (known_of table.now) (item_declarations (item_of item.now))) }
-{
-    match item {
-        Item::Wire(_, x) => note_declared(table, x, best),
-        Item::Register(_, x) => note_declared(table, x, best),
-        Item::Memory(_, x, _) => note_declared(table, x, best),
-        Item::Integer(_) => (),
-        Item::Assign(_, _) => (),
-        Item::Initial(_, _) => (),
-        Item::InitialCells(_, _, _, _) => (),
-        Item::Always(_, _) => (),
-        Item::AlwaysCell(_, _, _, _) => (),
-    }
 }
 
 // A wire, a register or a memory.
@@ -59,46 +42,23 @@ fn note_set(table: &Table, setting: Setting, x: &Mention, best: &mut Option<Faul
     note(best, twice, Code::V3, x.place);
 }
 
-#[tactic(auto, using(crate::proofs::Noting::noting, crate::proofs::Noting::declared))]
-fn note_target(table: &Table, item: &Item, best: &mut Option<Fault>)
-    ensures { best.new ≡ best_of best.old (target_faults (known_of table.now) (target_of (item_of item.now))) }
-{
-    match item {
-        Item::Assign(x, _) => note_set(table, Setting::Assign, x, best),
-        Item::Initial(x, _) => note_set(table, Setting::Initial, x, best),
-        Item::InitialCells(_, _, x, _) => note_set(table, Setting::Initial, x, best),
-        Item::Always(x, _) => note_set(table, Setting::Always, x, best),
-        Item::AlwaysCell(_, x, _, _) => note_set(table, Setting::Always, x, best),
-        Item::Wire(_, _) => (),
-        Item::Register(_, _) => (),
-        Item::Memory(_, _, _) => (),
-        Item::Integer(_) => (),
-    }
-}
-
-#[tactic(auto, using(crate::proofs::Noting::noting, crate::proofs::Noting::declared))]
-fn note_integer(table: &Table, item: &Item, best: &mut Option<Fault>)
-    ensures { best.new ≡ best_of best.old (integer_faults (known_of table.now) (item_of item.now)) }
-{
-    match item {
-        Item::Integer(place) => note(best, table.has_integer(), Code::V3, *place),
-        Item::InitialCells(place, _, _, _) => note(best, !table.has_integer(), Code::V4, *place),
-        Item::Wire(_, _) => (),
-        Item::Register(_, _) => (),
-        Item::Memory(_, _, _) => (),
-        Item::Assign(_, _) => (),
-        Item::Initial(_, _) => (),
-        Item::Always(_, _) => (),
-        Item::AlwaysCell(_, _, _, _) => (),
-    }
-}
-
 /// V3, and V4 at the first `i` of a `for`.
 #[tactic(auto, using(crate::proofs::Noting::noting, crate::proofs::Noting::declared))]
 pub fn note_twice(table: &Table, item: &Item, best: &mut Option<Fault>)
     ensures { best.new ≡ best_of best.old (declared_faults (known_of table.now) (item_of item.now)) }
 {
-    note_declarations(table, item, best);
-    note_target(table, item, best);
-    note_integer(table, item, best);
+    match item {
+        Item::Wire(_, x) => note_declared(table, x, best),
+        Item::Register(_, x) => note_declared(table, x, best),
+        Item::Memory(_, x, _) => note_declared(table, x, best),
+        Item::Integer(place) => note(best, table.has_integer(), Code::V3, *place),
+        Item::Assign(x, _) => note_set(table, Setting::Assign, x, best),
+        Item::Initial(x, _) => note_set(table, Setting::Initial, x, best),
+        Item::InitialCells(place, _, x, _) => {
+            note_set(table, Setting::Initial, x, best);
+            note(best, !table.has_integer(), Code::V4, *place);
+        }
+        Item::Always(x, _) => note_set(table, Setting::Always, x, best),
+        Item::AlwaysCell(_, x, _, _) => note_set(table, Setting::Always, x, best),
+    }
 }

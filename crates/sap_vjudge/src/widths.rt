@@ -2,7 +2,7 @@
 
 ghost use Rattle.std.specs.Prelude.{◌≡◌, ◌||◌, option_map};
 ghost use Rattle.std.specs.List.{list_any};
-ghost use Rattle.sap_modtext.specs.Faults.{all_equal, binary_pairs, binary_rule, compared, target_of, unary_pairs, unary_rule};
+ghost use Rattle.sap_modtext.specs.Faults.{all_equal, binary_pairs, binary_rule, compared, unary_pairs, unary_rule};
 ghost use Rattle.sap_vjudge.specs.Best.{best_of};
 ghost use Rattle.sap_vjudge.specs.Listed as spec;
 ghost use Rattle.sap_vjudge.specs.Listed.{arm_pairs};
@@ -171,23 +171,6 @@ fn item_differs(table: &Table, item: &Item) -> bool
 }
 
 #[tactic(auto, using(crate::proofs::Noting::noting))]
-fn note_target(test: bool, item: &Item, best: &mut Option<Fault>)
-    ensures { best.new ≡ best_of best.old (spec.at_target test (target_of (item_of item.now))) }
-{
-    match item {
-        Item::Assign(x, _) => note(best, test, Code::V5, x.place),
-        Item::Initial(x, _) => note(best, test, Code::V5, x.place),
-        Item::InitialCells(_, _, x, _) => note(best, test, Code::V5, x.place),
-        Item::Always(x, _) => note(best, test, Code::V5, x.place),
-        Item::AlwaysCell(_, x, _, _) => note(best, test, Code::V5, x.place),
-        Item::Wire(_, _) => (),
-        Item::Register(_, _) => (),
-        Item::Memory(_, _, _) => (),
-        Item::Integer(_) => (),
-    }
-}
-
-#[tactic(auto, using(crate::proofs::Noting::noting))]
 fn note_past(shape: Option<Shape>, high: u64, low: u64, place: u64, best: &mut Option<Fault>)
     ensures { best.new ≡ best_of best.old (spec.past_shape (option_map shape_of shape) high low place) }
 {
@@ -215,28 +198,24 @@ fn note_slice(table: &Table, right: &Right, best: &mut Option<Fault>)
     }
 }
 
-#[tactic(auto, using(crate::proofs::Noting::noting))]
-fn note_slices(table: &Table, item: &Item, best: &mut Option<Fault>)
-    ensures { best.new ≡ best_of best.old (spec.slice_faults (known_of table.now) (item_of item.now)) }
-{
-    match item {
-        Item::Assign(_, right) => note_slice(table, right, best),
-        Item::Wire(_, _) => (),
-        Item::Register(_, _) => (),
-        Item::Memory(_, _, _) => (),
-        Item::Integer(_) => (),
-        Item::Initial(_, _) => (),
-        Item::InitialCells(_, _, _, _) => (),
-        Item::Always(_, _) => (),
-        Item::AlwaysCell(_, _, _, _) => (),
-    }
-}
-
 /// V5 at an item's target and at the name of its slice.
 #[tactic(auto, using(crate::proofs::Noting::noting))]
 pub fn note_widths(table: &Table, item: &Item, best: &mut Option<Fault>)
     ensures { best.new ≡ best_of best.old (spec.widths_faults (known_of table.now) (item_of item.now)) }
 {
-    note_target(item_differs(table, item), item, best);
-    note_slices(table, item, best);
+    let differs = item_differs(table, item);
+    match item {
+        Item::Assign(x, right) => {
+            note(best, differs, Code::V5, x.place);
+            note_slice(table, right, best);
+        }
+        Item::Initial(x, _) => note(best, differs, Code::V5, x.place),
+        Item::InitialCells(_, _, x, _) => note(best, differs, Code::V5, x.place),
+        Item::Always(x, _) => note(best, differs, Code::V5, x.place),
+        Item::AlwaysCell(_, x, _, _) => note(best, differs, Code::V5, x.place),
+        Item::Wire(_, _) => (),
+        Item::Register(_, _) => (),
+        Item::Memory(_, _, _) => (),
+        Item::Integer(_) => (),
+    }
 }

@@ -34,6 +34,23 @@ is_in c.Comment b = is_in_line b
 abbrev pub run : Class → List ℕ → ℕ
 run class bytes = prefix_len (is_in class) bytes
 
+-- the keyword within an item that is spelled so
+abbrev pub inner_word : List ℕ → Option Word
+inner_word text =
+    if bytes_eq text (codes "if") then Some w.If else
+    (if bytes_eq text (codes "for") then Some w.For else
+    (if bytes_eq text (codes "integer") then Some w.Integer else
+    (if bytes_eq text (codes "clk") then Some w.Clk else
+    (if bytes_eq text (codes "i") then Some w.I else None))))
+
+-- the keyword of an item that declares nothing, or within one, that is spelled so
+abbrev pub item_word : List ℕ → Option Word
+item_word text =
+    if bytes_eq text (codes "assign") then Some w.Assign else
+    (if bytes_eq text (codes "initial") then Some w.Initial else
+    (if bytes_eq text (codes "always") then Some w.Always else
+    (if bytes_eq text (codes "posedge") then Some w.Posedge else inner_word text)))
+
 -- the keyword that is spelled so
 abbrev pub word_in : List ℕ → Option Word
 word_in text =
@@ -42,16 +59,7 @@ word_in text =
     (if bytes_eq text (codes "input") then Some w.Input else
     (if bytes_eq text (codes "output") then Some w.Output else
     (if bytes_eq text (codes "reg") then Some w.Reg else
-    (if bytes_eq text (codes "wire") then Some w.Wire else
-    (if bytes_eq text (codes "assign") then Some w.Assign else
-    (if bytes_eq text (codes "initial") then Some w.Initial else
-    (if bytes_eq text (codes "always") then Some w.Always else
-    (if bytes_eq text (codes "posedge") then Some w.Posedge else
-    (if bytes_eq text (codes "if") then Some w.If else
-    (if bytes_eq text (codes "for") then Some w.For else
-    (if bytes_eq text (codes "integer") then Some w.Integer else
-    (if bytes_eq text (codes "clk") then Some w.Clk else
-    (if bytes_eq text (codes "i") then Some w.I else None))))))))))))))
+    (if bytes_eq text (codes "wire") then Some w.Wire else item_word text)))))
 
 abbrev pub word_or_name : Option Word → List ℕ → ℕ → Lexeme
 word_or_name (Some word) name len = Token (k.Word word) len

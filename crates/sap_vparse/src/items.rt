@@ -7,21 +7,21 @@ use sap_net::parts::Name;
 use std::marker::Model;
 
 /// A name where it stands.
-#[derive(Debug, Drop)]
+#[derive(Drop)]
 pub struct Mention {
     pub place: u64,
     pub name: Name,
 }
 
 /// A number where it stands.
-#[derive(Clone, Copy, PartialEq, Eq, Debug)]
+#[derive(Clone, Copy, PartialEq, Eq)]
 pub struct Number {
     pub place: u64,
     pub value: u64,
 }
 
 /// A number of a width where it stands.
-#[derive(Clone, Copy, PartialEq, Eq, Debug)]
+#[derive(Clone, Copy, PartialEq, Eq)]
 pub struct Constant {
     pub place: u64,
     pub width: u64,
@@ -29,14 +29,14 @@ pub struct Constant {
 }
 
 /// What an operator reads.
-#[derive(Debug, Drop)]
+#[derive(Drop)]
 pub enum Operand {
     Named(Mention),
     Constant(Constant),
 }
 
 /// The operands of a concatenation, the foremost first, seen as a list.
-#[derive(Debug, Drop)]
+#[derive(Drop)]
 pub struct Operands {
     list: Vec<Operand>,
 }
@@ -66,7 +66,7 @@ impl Operands {
 }
 
 /// The right side of an `assign`.
-#[derive(Debug, Drop)]
+#[derive(Drop)]
 pub enum Right {
     Copy(Operand),
     One(Op1, Operand),
@@ -81,7 +81,7 @@ pub enum Right {
 }
 
 /// What a port is declared as.
-#[derive(Clone, Copy, PartialEq, Eq, Debug)]
+#[derive(Clone, Copy, PartialEq, Eq)]
 pub enum Direction {
     Input,
     OutputRegister,
@@ -89,7 +89,7 @@ pub enum Direction {
 }
 
 /// A port, with the number of its range.
-#[derive(Debug, Drop)]
+#[derive(Drop)]
 pub struct Port {
     pub direction: Direction,
     pub range: Number,
@@ -97,7 +97,7 @@ pub struct Port {
 }
 
 /// An item. A declaration has the number of its range before its name.
-#[derive(Debug, Drop)]
+#[derive(Drop)]
 pub enum Item {
     Wire(Number, Mention),
     Register(Number, Mention),
@@ -115,7 +115,7 @@ pub enum Item {
 }
 
 /// A whole module, with its ports and items in the order of the text.
-#[derive(Debug, Drop)]
+#[derive(Drop)]
 pub struct File {
     pub module_name: Name,
     pub ports: Vec<Port>,

@@ -3,7 +3,7 @@
 ghost use Rattle.std.specs.Prelude.{◌≡◌, ◌≤◌, ◌<◌, ◌+◌, IfOk, length, slice_index, take, true};
 ghost use Rattle.std.specs.Char.{digit_value};
 ghost use Rattle.sap_net.specs.Names.{is_initial, is_inner};
-ghost use Rattle.sap_vparse.specs.Lexemes.{constant_at, is_blank, is_comment, is_constant, is_in, lexeme_of, name_at, number_at, number_of, pair_in, run, sign_at, single_at, single_in, word_in};
+ghost use Rattle.sap_vparse.specs.Lexemes.{constant_at, inner_word, is_blank, is_comment, is_constant, is_in, item_word, lexeme_of, name_at, number_at, number_of, pair_in, run, sign_at, single_at, single_in, word_in};
 ghost use Rattle.sap_vparse.specs.Lexing.{IsWithin};
 
 use crate::token::{Kind, Sign, Word};
@@ -56,6 +56,40 @@ fn byte_at(bytes: &[u8], i: usize) -> u8
     if i < bytes.len() { bytes[i] } else { 0 }
 }
 
+fn inner_word(text: &[u8]) -> Option<Word>
+    ensures { result ≡ inner_word text.now }
+{
+    if text == b"if".as_slice() {
+        Some(Word::If)
+    } else if text == b"for".as_slice() {
+        Some(Word::For)
+    } else if text == b"integer".as_slice() {
+        Some(Word::Integer)
+    } else if text == b"clk".as_slice() {
+        Some(Word::Clk)
+    } else if text == b"i".as_slice() {
+        Some(Word::I)
+    } else {
+        None
+    }
+}
+
+fn item_word(text: &[u8]) -> Option<Word>
+    ensures { result ≡ item_word text.now }
+{
+    if text == b"assign".as_slice() {
+        Some(Word::Assign)
+    } else if text == b"initial".as_slice() {
+        Some(Word::Initial)
+    } else if text == b"always".as_slice() {
+        Some(Word::Always)
+    } else if text == b"posedge".as_slice() {
+        Some(Word::Posedge)
+    } else {
+        inner_word(text)
+    }
+}
+
 fn word(text: &[u8]) -> Option<Word>
     ensures { result ≡ word_in text.now }
 {
@@ -71,26 +105,8 @@ fn word(text: &[u8]) -> Option<Word>
         Some(Word::Reg)
     } else if text == b"wire".as_slice() {
         Some(Word::Wire)
-    } else if text == b"assign".as_slice() {
-        Some(Word::Assign)
-    } else if text == b"initial".as_slice() {
-        Some(Word::Initial)
-    } else if text == b"always".as_slice() {
-        Some(Word::Always)
-    } else if text == b"posedge".as_slice() {
-        Some(Word::Posedge)
-    } else if text == b"if".as_slice() {
-        Some(Word::If)
-    } else if text == b"for".as_slice() {
-        Some(Word::For)
-    } else if text == b"integer".as_slice() {
-        Some(Word::Integer)
-    } else if text == b"clk".as_slice() {
-        Some(Word::Clk)
-    } else if text == b"i".as_slice() {
-        Some(Word::I)
     } else {
-        None
+        item_word(text)
     }
 }
 

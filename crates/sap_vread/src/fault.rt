@@ -9,7 +9,7 @@ use sap_vjudge::code::Code;
 use std::alloc::AllocError;
 
 /// The code of a module fault.
-#[derive(Clone, Copy, PartialEq, Eq, Debug)]
+#[derive(Clone, Copy, Debug)]
 pub enum ModCode {
     /// A byte that begins no token, or a number that is none.
     V1,
@@ -58,7 +58,7 @@ pub(crate) fn code_of(code: Code) -> ModCode
 }
 
 /// Why a text is not read.
-#[derive(Clone, Copy, PartialEq, Eq, Debug)]
+#[derive(Clone, Copy, Debug)]
 pub enum ModFault {
     /// The fault of the text.
     Rule(ModCode, Place),

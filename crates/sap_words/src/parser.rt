@@ -1,6 +1,6 @@
 //! The command line that `clap` reads.
 
-ghost use Rattle.std.specs.Prelude.{◌≡◌, IfErr, IfOk, false, is_some, map, string_bytes, true};
+ghost use Rattle.std.specs.Prelude.{◌≡◌, ◌∷◌, IfErr, IfOk, [], codes, false, is_some, map, string_bytes, true};
 ghost use Rattle.clap.specs.Words.{app_of, kind_of, subcommand_of, subcommand_rows_of, with_subcommand};
 ghost use Rattle.clap.specs.declared.builder.command.Command.TheViews.{out-Command};
 ghost use Rattle.sap_words.specs.Parser.{alone, command, parser};
@@ -38,6 +38,25 @@ fn with_row<'a>(
     line.subcommand(command(alloc, name, operands)?)
 }
 
+// The command line with the commands of three files more.
+fn with_runs<'a>(alloc: Global, line: Command<'a>) -> Result<Command<'a>, AllocError>
+    ensures { IfOk result (λ r. app_of r ≡ with_subcommand (with_subcommand (with_subcommand (with_subcommand (app_of line.entry) (command (codes "compile") (codes "LATTICE" ∷ codes "DESIGN" ∷ codes "OUT" ∷ []))) (command (codes "run") (codes "LATTICE" ∷ codes "DESIGN" ∷ codes "STIM" ∷ []))) (command (codes "trace") (codes "LATTICE" ∷ codes "DESIGN" ∷ codes "STIM" ∷ []))) (command (codes "sim") (codes "LATTICE" ∷ codes "VERILOG" ∷ codes "STIM" ∷ []))) }
+{
+    let line = with_row(alloc, line, "compile", &["LATTICE", "DESIGN", "OUT"])?;
+    let line = with_row(alloc, line, "run", &["LATTICE", "DESIGN", "STIM"])?;
+    let line = with_row(alloc, line, "trace", &["LATTICE", "DESIGN", "STIM"])?;
+    with_row(alloc, line, "sim", &["LATTICE", "VERILOG", "STIM"])
+}
+
+// The command line with the commands more that tell of a design.
+fn with_reports<'a>(alloc: Global, line: Command<'a>) -> Result<Command<'a>, AllocError>
+    ensures { IfOk result (λ r. app_of r ≡ with_subcommand (with_subcommand (app_of line.entry) (command (codes "report") (codes "LATTICE" ∷ codes "DESIGN" ∷ []))) (command (codes "twin") (codes "LATTICE" ∷ codes "DESIGN" ∷ codes "FIRST" ∷ codes "SECOND" ∷ codes "LEVEL" ∷ []))) }
+{
+    let line = with_row(alloc, line, "report", &["LATTICE", "DESIGN"])?;
+    let operands = ["LATTICE", "DESIGN", "FIRST", "SECOND", "LEVEL"];
+    with_row(alloc, line, "twin", &operands)
+}
+
 fn parser<'a>(alloc: Global) -> Result<Command<'a>, AllocError>
     ensures { IfOk result (λ r. app_of r ≡ parser) }
 {
@@ -45,13 +64,8 @@ fn parser<'a>(alloc: Global) -> Result<Command<'a>, AllocError>
         .no_binary_name(true)
         .disable_help_flag(true)
         .disable_help_subcommand(true);
-    let line = with_row(alloc, line, "compile", &["LATTICE", "DESIGN", "OUT"])?;
-    let line = with_row(alloc, line, "run", &["LATTICE", "DESIGN", "STIM"])?;
-    let line = with_row(alloc, line, "trace", &["LATTICE", "DESIGN", "STIM"])?;
-    let line = with_row(alloc, line, "sim", &["LATTICE", "VERILOG", "STIM"])?;
-    let line = with_row(alloc, line, "report", &["LATTICE", "DESIGN"])?;
-    let operands = ["LATTICE", "DESIGN", "FIRST", "SECOND", "LEVEL"];
-    let line = with_row(alloc, line, "twin", &operands)?;
+    let line = with_runs(alloc, line)?;
+    let line = with_reports(alloc, line)?;
     let line = with_row(alloc, line, "fmt", &["DESIGN"])?;
     with_row(alloc, line, "gen", &["N"])
 }

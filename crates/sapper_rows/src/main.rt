@@ -46,6 +46,12 @@ fn prepare(
     Ok(())
 }
 
+fn file_of(alloc: Global, name: &str, bytes: &[u8]) -> Result<File, AllocError> {
+    let name = String::from_str(alloc, name)?;
+    let bytes = bytes.to_vec(alloc)?;
+    Ok(File { name, bytes })
+}
+
 // Appends a file, where there is one of this name.
 fn push_file(
     alloc: Global,
@@ -54,10 +60,23 @@ fn push_file(
     name: &str,
 ) -> Result<(), AllocError> {
     if let Some(bytes) = desk.file(name) {
-        files.push(File {
-            name: String::from_str(alloc, name)?,
-            bytes: bytes.to_vec(alloc)?,
-        })?;
+        files.push(file_of(alloc, name, bytes)?)?;
+    }
+    Ok(())
+}
+
+// Appends the files that there are of those that a step names.
+fn push_files(
+    alloc: Global,
+    files: &mut Vec<File>,
+    desk: &MemoryDesk,
+    step: &Step,
+) -> Result<(), AllocError> {
+    for file in &step.files {
+        push_file(alloc, files, desk, &file.name)?;
+    }
+    for held in &step.held {
+        push_file(alloc, files, desk, &held.file.name)?;
     }
     Ok(())
 }
@@ -66,12 +85,7 @@ fn push_file(
 fn files_of(alloc: Global, desk: &MemoryDesk, row: &Row) -> Result<Vec<File>, AllocError> {
     let mut files = Vec::new(alloc);
     for step in &row.steps {
-        for file in &step.files {
-            push_file(alloc, &mut files, desk, &file.name)?;
-        }
-        for held in &step.held {
-            push_file(alloc, &mut files, desk, &held.name)?;
-        }
+        push_files(alloc, &mut files, desk, step)?;
     }
     Ok(files)
 }
@@ -85,23 +99,35 @@ fn make_call(
     let written = desk.output().len();
     let told = desk.fault_text().len();
     let answer = call(alloc, desk, step);
+    let output = behind(desk.output(), written).to_vec(alloc)?;
+    let faults = behind(desk.fault_text(), told).to_vec(alloc)?;
+    let files = files_of(alloc, desk, row)?;
     Ok(Seen {
         answer,
-        output: behind(desk.output(), written).to_vec(alloc)?,
-        faults: behind(desk.fault_text(), told).to_vec(alloc)?,
-        files: files_of(alloc, desk, row)?,
+        output,
+        faults,
+        files,
     })
 }
 
 // Makes the calls of a row over one desk, and gives what they left.
-fn run(alloc: Global, row: &Row, circumstance: Circumstance) -> Result<Vec<Seen>, AllocError> {
-    let mut desk = MemoryDesk::new(alloc, ROOM)?;
+fn run_over(
+    alloc: Global,
+    desk: &mut MemoryDesk,
+    row: &Row,
+    circumstance: Circumstance,
+) -> Result<Vec<Seen>, AllocError> {
     let mut seen = Vec::new(alloc);
     for step in steps_of(row, circumstance) {
-        prepare(&mut desk, step, circumstance)?;
-        seen.push(make_call(alloc, &mut desk, row, step)?)?;
+        prepare(desk, step, circumstance)?;
+        seen.push(make_call(alloc, desk, row, step)?)?;
     }
     Ok(seen)
+}
+
+fn run(alloc: Global, row: &Row, circumstance: Circumstance) -> Result<Vec<Seen>, AllocError> {
+    let mut desk = MemoryDesk::new(alloc, ROOM)?;
+    run_over(alloc, &mut desk, row, circumstance)
 }
 
 // Runs a row, and tells the first run in which it comes out otherwise; whether one does.

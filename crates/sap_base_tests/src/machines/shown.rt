@@ -11,6 +11,13 @@ use sap_sem::machine::Machine;
 use sap_stim::rows::number;
 use std::alloc::AllocError;
 
+fn push_all(out: &mut Vec<u8>, pieces: &[&[u8]]) -> Result<(), AllocError> {
+    for piece in pieces {
+        out.extend_from_slice(piece)?;
+    }
+    Ok(())
+}
+
 fn push_register(
     out: &mut Vec<u8>,
     machine: &Machine,
@@ -21,14 +28,16 @@ fn push_register(
 {
     if machine.is_register(entity) {
         let (value, level) = machine.value(entity);
-        out.extend_from_slice(b" ")?;
-        out.extend_from_slice(checked.entity(entity).as_bytes())?;
-        out.extend_from_slice(b"=")?;
+        push_all(out, &[b" ", checked.entity(entity).as_bytes(), b"="])?;
         number(out, value)?;
-        out.extend_from_slice(b"@")?;
-        out.extend_from_slice(checked.lattice().name(level).as_bytes())?;
+        push_all(out, &[b"@", checked.lattice().name(level).as_bytes()])?;
     }
     Ok(())
+}
+
+fn push_cycle(out: &mut Vec<u8>, cycle: u64) -> Result<(), AllocError> {
+    let shown = format!(in *out.allocator(); "cycle {cycle}:")?;
+    out.extend_from_slice(shown.as_bytes())
 }
 
 /// Appends the row of a cycle.
@@ -38,9 +47,7 @@ pub fn push_row(
     checked: &Checked,
     cycle: u64,
 ) -> Result<(), AllocError> {
-    out.extend_from_slice(b"cycle ")?;
-    number(out, cycle)?;
-    out.extend_from_slice(b":")?;
+    push_cycle(out, cycle)?;
     for entity in 0..checked.entity_count() {
         push_register(out, machine, checked, entity)?;
     }
@@ -57,6 +64,11 @@ fn push_target_of(out: &mut Vec<u8>, checked: &Checked, k: u32) -> Result<(), Al
     Ok(())
 }
 
+fn push_site(out: &mut Vec<u8>, k: u32) -> Result<(), AllocError> {
+    let shown = format!(in *out.allocator(); " site {k} ")?;
+    out.extend_from_slice(shown.as_bytes())
+}
+
 fn push_refusal(
     out: &mut Vec<u8>,
     checked: &Checked,
@@ -64,15 +76,11 @@ fn push_refusal(
     k: u32,
     level: Level,
 ) -> Result<(), AllocError> {
-    out.extend_from_slice(b"cycle ")?;
-    number(out, cycle)?;
-    out.extend_from_slice(b": site ")?;
-    number(out, u64::from(k))?;
-    out.extend_from_slice(b" ")?;
+    push_cycle(out, cycle)?;
+    push_site(out, k)?;
     push_target_of(out, checked, k)?;
-    out.extend_from_slice(b" at ")?;
-    out.extend_from_slice(checked.lattice().name(level).as_bytes())?;
-    out.extend_from_slice(b"\n")
+    let name = checked.lattice().name(level).as_bytes();
+    push_all(out, &[b" at ", name, b"\n"])
 }
 
 /// Appends the lines of the sites that were refused in a cycle.

@@ -372,24 +372,25 @@ module _ (f : File) (t : Tables) (h : AreNoted t (file_of f)) where
       item_memory (item_of x) (flat_map item_declarations (narrow_items xs))
       (flat_map (λ y. b.item_memories (number_of t.starts) (number_of t.writes) f.items.items (item_of y)) xs) (item_memories_built xs)
 
-  memories_built : flat_map (λ x. b.item_memories (number_of t.starts) (number_of t.writes) f.items.items (item_of x)) f.items.items ≡ (netlist_of (narrow_file (file_of f))).memories
+  pub memories_built : flat_map (λ x. b.item_memories (number_of t.starts) (number_of t.writes) f.items.items (item_of x)) f.items.items ≡ (netlist_of (narrow_file (file_of f))).memories
   memories_built =
       item_memories_built f.items.items
       ∙ sym (no_memories f.ports.items (flat_map (λ d. shape_memories d.name.name d.shape (narrow_items f.items.items)) (flat_map item_declarations (narrow_items f.items.items))))
       ∙ sym (flat_map-append (λ (d : Declaration). shape_memories d.name.name d.shape (narrow_items f.items.items)) (map port_declaration (narrow_ports f.ports.items)) (flat_map item_declarations (narrow_items f.items.items)))
 
-  pub net_built : (p : Parts) → p.module_name ≡ f.module_name → p.names.items ≡ (netlist_of (narrow_file (file_of f))).names
-      → p.ports.items ≡ map (λ q. net_port (narrow_port (port_of q))) f.ports.items → p.inputs.items ≡ flat_map (λ q. port_input (narrow_port (port_of q))) f.ports.items
-      → p.wires.items ≡ flat_map (λ x. b.built_wires (number_of t.ranges) (item_of x)) f.items.items
-      → p.registers.items ≡ (netlist_of (narrow_file (file_of f))).registers
-      → p.memories.items ≡ flat_map (λ x. b.item_memories (number_of t.starts) (number_of t.writes) f.items.items (item_of x)) f.items.items
-      → net_of p ≡ netlist_of (narrow_file (file_of f))
-  net_built p a c d e g i j =
-      let ports = d ∙ ports_built f.ports.items in
-      let inputs = e ∙ inputs_built f.ports.items in
-      let wires = g ∙ wires_built (number_of t.ranges) (all_ds f) (width_built f t h) f.items.items in
-      let memories = j ∙ memories_built in
-      cc
+  pub net_wires_built : flat_map (λ x. b.built_wires (number_of t.ranges) (item_of x)) f.items.items ≡ (netlist_of (narrow_file (file_of f))).wires
+  net_wires_built = wires_built (number_of t.ranges) (all_ds f) (width_built f t h) f.items.items
+
+pub net_built : (f : File) (p : Parts) → p.module_name ≡ f.module_name → p.names.items ≡ (netlist_of (narrow_file (file_of f))).names
+    → p.ports.items ≡ map (λ q. net_port (narrow_port (port_of q))) f.ports.items → p.inputs.items ≡ flat_map (λ q. port_input (narrow_port (port_of q))) f.ports.items
+    → p.wires.items ≡ (netlist_of (narrow_file (file_of f))).wires
+    → p.registers.items ≡ (netlist_of (narrow_file (file_of f))).registers
+    → p.memories.items ≡ (netlist_of (narrow_file (file_of f))).memories
+    → net_of p ≡ netlist_of (narrow_file (file_of f))
+net_built f p a c d e g i j =
+    let ports = d ∙ ports_built f.ports.items in
+    let inputs = e ∙ inputs_built f.ports.items in
+    cc
 
 -- The same through slices of the file's lists.
 pub names_whole : (f : File) (ps : List Port) (xs : List Item) (old first last : List (List ℕ)) → ps ≡ f.ports.items → xs ≡ f.items.items → old ≡ []

@@ -4,18 +4,16 @@ ghost use Rattle.std.specs.Prelude.{◌≡◌, IfOk, flat_map, map};
 ghost use Rattle.sap_modtext.specs.Faults.{IsFaultless};
 ghost use Rattle.sap_modtext.specs.Modules.{net_port, netlist_of, port_input};
 ghost use Rattle.sap_net.specs.Net.{net_of};
-ghost use Rattle.sap_vread.specs.Build.Built as spec;
-ghost use Rattle.sap_vread.specs.Build.Firsts.{number_of};
 ghost use Rattle.sap_vread.specs.Build.Narrow.{narrow_file, narrow_port};
 ghost use Rattle.sap_vread.specs.Build.Spelled.{IsSpelled};
 ghost use Rattle.sap_vread.specs.Build.Tables.{AreNoted};
-ghost use Rattle.sap_vparse.specs.Views.{file_of, item_of, port_of};
+ghost use Rattle.sap_vparse.specs.Views.{file_of, port_of};
 
-use crate::build::edges::{memories, push_ports, push_registers};
+use crate::build::edges::{push_memories, push_ports, push_registers};
 use crate::build::names::{push_item_names, push_port_names};
 use crate::build::shown::{inputs, ports};
 use crate::build::tables::{Tables, tabled};
-use crate::build::wires::wires;
+use crate::build::wires::push_wires;
 use sap_net::netlist::Netlist;
 use sap_net::parts::{Input, Memory, Name, Parts, Port, Register, Wire};
 use sap_vparse::items::File;
@@ -74,14 +72,16 @@ struct Driven {
 
 fn driven_in(alloc: Global, tables: &Tables, file: &File) -> Result<Driven, AllocError>
     requires { AreNoted tables.now (file_of file.now) }
-    ensures wires { IfOk result (λ d. d.wires.items ≡ flat_map (λ x. spec.built_wires (number_of tables.now.ranges) (item_of x)) file.now.items.items) }
+    ensures wires { IfOk result (λ d. d.wires.items ≡ (netlist_of (narrow_file (file_of file.now))).wires) }
     ensures registers { IfOk result (λ d. d.registers.items ≡ (netlist_of (narrow_file (file_of file.now))).registers) }
-    ensures memories { IfOk result (λ d. d.memories.items ≡ flat_map (λ x. spec.item_memories (number_of tables.now.starts) (number_of tables.now.writes) file.now.items.items (item_of x)) file.now.items.items) }
+    ensures memories { IfOk result (λ d. d.memories.items ≡ (netlist_of (narrow_file (file_of file.now))).memories) }
 {
     let items = file.items.as_slice();
-    let wires = wires(alloc, &tables.ranges, items)?;
+    let mut wires = Vec::new(alloc);
+    push_wires(alloc, &tables.ranges, &mut wires, items)?;
     let registers = registers(alloc, tables, file)?;
-    let memories = memories(alloc, tables, items)?;
+    let mut memories = Vec::new(alloc);
+    push_memories(alloc, tables, items, &mut memories)?;
     Ok(Driven {
         wires,
         registers,
@@ -89,13 +89,22 @@ fn driven_in(alloc: Global, tables: &Tables, file: &File) -> Result<Driven, Allo
     })
 }
 
+// The same from the file alone.
+fn driven_of(alloc: Global, file: &File) -> Result<Driven, AllocError>
+    ensures wires { IfOk result (λ d. d.wires.items ≡ (netlist_of (narrow_file (file_of file.now))).wires) }
+    ensures registers { IfOk result (λ d. d.registers.items ≡ (netlist_of (narrow_file (file_of file.now))).registers) }
+    ensures memories { IfOk result (λ d. d.memories.items ≡ (netlist_of (narrow_file (file_of file.now))).memories) }
+{
+    let tables = tabled(alloc, file)?;
+    driven_in(alloc, &tables, file)
+}
+
 fn parts(alloc: Global, file: &File) -> Result<Parts, AllocError>
     ensures { IfOk result (λ p. net_of p ≡ netlist_of (narrow_file (file_of file.now))) }
 {
-    let tables = tabled(alloc, file)?;
     let module_name = file.module_name.copy(alloc)?;
     let declared = declared_in(alloc, file)?;
-    let driven = driven_in(alloc, &tables, file)?;
+    let driven = driven_of(alloc, file)?;
     Ok(Parts {
         module_name,
         names: declared.names,

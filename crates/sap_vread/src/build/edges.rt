@@ -38,15 +38,8 @@ fn next_of(alloc: Global, item: &Item) -> Result<Operand, AllocError>
     ensures { IfOk result (λ o. o ≡ spec.next_of (item_of item.now)) }
 {
     match item {
-        Item::Wire(_, _) => Ok(nothing()),
-        Item::Register(_, _) => Ok(nothing()),
-        Item::Memory(_, _, _) => Ok(nothing()),
-        Item::Integer(_) => Ok(nothing()),
-        Item::Assign(_, _) => Ok(nothing()),
-        Item::Initial(_, _) => Ok(nothing()),
-        Item::InitialCells(_, _, _, _) => Ok(nothing()),
         Item::Always(_, next) => operand(alloc, next),
-        Item::AlwaysCell(_, _, _, _) => Ok(nothing()),
+        _ => Ok(nothing()),
     }
 }
 
@@ -54,19 +47,12 @@ fn write_of(alloc: Global, item: &Item) -> Result<Write, AllocError>
     ensures { IfOk result (λ w. spec.WriteIs w (spec.write_of (item_of item.now))) }
 {
     match item {
-        Item::Wire(_, _) => Ok(no_write()),
-        Item::Register(_, _) => Ok(no_write()),
-        Item::Memory(_, _, _) => Ok(no_write()),
-        Item::Integer(_) => Ok(no_write()),
-        Item::Assign(_, _) => Ok(no_write()),
-        Item::Initial(_, _) => Ok(no_write()),
-        Item::InitialCells(_, _, _, _) => Ok(no_write()),
-        Item::Always(_, _) => Ok(no_write()),
         Item::AlwaysCell(condition, _, index, value) => Ok(Write {
             enable: operand(alloc, condition)?,
             index: operand(alloc, index)?,
             value: operand(alloc, value)?,
         }),
+        _ => Ok(no_write()),
     }
 }
 
@@ -111,11 +97,14 @@ fn register(
 ) -> Result<Register, AllocError>
     ensures { IfOk result (λ r. r ≡ spec.built_register (number_of tables.now.starts) (number_of tables.now.nexts) items.now name.now range) }
 {
-    let next = next_at(alloc, items, tables.nexts.get(name))?;
+    let start = start(&tables.starts, name);
+    let place = tables.nexts.get(name);
+    let name = name.copy(alloc)?;
+    let next = next_at(alloc, items, place)?;
     Ok(Register {
-        name: name.copy(alloc)?,
+        name,
         width: narrow(range) + 1,
-        start: start(&tables.starts, name),
+        start,
         next,
     })
 }
@@ -130,12 +119,15 @@ fn memory(
 ) -> Result<Memory, AllocError>
     ensures { IfOk result (λ m. m ≡ spec.built_memory (number_of tables.now.starts) (number_of tables.now.writes) items.now name.now range last) }
 {
-    let write = write_at(alloc, items, tables.writes.get(name))?;
+    let start = start(&tables.starts, name);
+    let place = tables.writes.get(name);
+    let name = name.copy(alloc)?;
+    let write = write_at(alloc, items, place)?;
     Ok(Memory {
-        name: name.copy(alloc)?,
+        name,
         width: narrow(range) + 1,
         depth: narrow(last) + 1,
-        start: start(&tables.starts, name),
+        start,
         enable: write.enable,
         index: write.index,
         value: write.value,
@@ -171,17 +163,10 @@ fn push_register(
     ensures { OnOk result (registers.new.items ≡ registers.old.items ++ spec.item_registers (number_of tables.now.starts) (number_of tables.now.nexts) items.now (item_of item.now)) }
 {
     match item {
-        Item::Wire(_, _) => (),
         Item::Register(range, x) => {
             registers.push(register(alloc, tables, items, &x.name, range.value)?)?;
         }
-        Item::Memory(_, _, _) => (),
-        Item::Integer(_) => (),
-        Item::Assign(_, _) => (),
-        Item::Initial(_, _) => (),
-        Item::InitialCells(_, _, _, _) => (),
-        Item::Always(_, _) => (),
-        Item::AlwaysCell(_, _, _, _) => (),
+        _ => (),
     }
     Ok(())
 }
@@ -196,17 +181,10 @@ fn push_memory(
     ensures { OnOk result (memories.new.items ≡ memories.old.items ++ spec.item_memories (number_of tables.now.starts) (number_of tables.now.writes) items.now (item_of item.now)) }
 {
     match item {
-        Item::Wire(_, _) => (),
-        Item::Register(_, _) => (),
         Item::Memory(range, x, last) => {
             memories.push(memory(alloc, tables, items, &x.name, range.value, last.value)?)?;
         }
-        Item::Integer(_) => (),
-        Item::Assign(_, _) => (),
-        Item::Initial(_, _) => (),
-        Item::InitialCells(_, _, _, _) => (),
-        Item::Always(_, _) => (),
-        Item::AlwaysCell(_, _, _, _) => (),
+        _ => (),
     }
     Ok(())
 }
@@ -243,12 +221,16 @@ pub fn push_registers(
 }
 
 /// The memories, in the order of declaration.
-pub fn memories(alloc: Global, tables: &Tables, items: &[Item]) -> Result<Vec<Memory>, AllocError>
-    ensures { IfOk result (λ ms. ms.items ≡ flat_map (λ x. spec.item_memories (number_of tables.now.starts) (number_of tables.now.writes) items.now (item_of x)) items.now) }
+pub fn push_memories(
+    alloc: Global,
+    tables: &Tables,
+    items: &[Item],
+    memories: &mut Vec<Memory>,
+) -> Result<(), AllocError>
+    ensures { OnOk result (memories.new.items ≡ memories.old.items ++ flat_map (λ x. spec.item_memories (number_of tables.now.starts) (number_of tables.now.writes) items.now (item_of x)) items.now) }
 {
-    let mut memories = Vec::new(alloc);
     for item in items {
-        push_memory(alloc, tables, items, &mut memories, item)?;
+        push_memory(alloc, tables, items, memories, item)?;
     }
-    Ok(memories)
+    Ok(())
 }

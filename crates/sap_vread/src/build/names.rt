@@ -28,12 +28,7 @@ fn push_name(alloc: Global, names: &mut Vec<Name>, item: &Item) -> Result<(), Al
         Item::Wire(_, x) => names.push(x.name.copy(alloc)?)?,
         Item::Register(_, x) => names.push(x.name.copy(alloc)?)?,
         Item::Memory(_, x, _) => names.push(x.name.copy(alloc)?)?,
-        Item::Integer(_) => (),
-        Item::Assign(_, _) => (),
-        Item::Initial(_, _) => (),
-        Item::InitialCells(_, _, _, _) => (),
-        Item::Always(_, _) => (),
-        Item::AlwaysCell(_, _, _, _) => (),
+        _ => (),
     }
     Ok(())
 }

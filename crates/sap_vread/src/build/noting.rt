@@ -11,7 +11,7 @@ use sap_vparse::items::{Item, Port};
 use std::alloc::{AllocError, Global};
 
 /// What of the items is noted under their names.
-#[derive(Clone, Copy, PartialEq, Eq, Debug)]
+#[derive(Clone, Copy)]
 pub enum Noting {
     /// The number of a declaration's range.
     Range,
@@ -30,12 +30,7 @@ fn note_range(alloc: Global, firsts: &mut Firsts, item: &Item) -> Result<(), All
         Item::Wire(range, x) => firsts.note(alloc, &x.name, range.value),
         Item::Register(range, x) => firsts.note(alloc, &x.name, range.value),
         Item::Memory(range, x, _) => firsts.note(alloc, &x.name, range.value),
-        Item::Integer(_) => Ok(()),
-        Item::Assign(_, _) => Ok(()),
-        Item::Initial(_, _) => Ok(()),
-        Item::InitialCells(_, _, _, _) => Ok(()),
-        Item::Always(_, _) => Ok(()),
-        Item::AlwaysCell(_, _, _, _) => Ok(()),
+        _ => Ok(()),
     }
 }
 
@@ -43,15 +38,9 @@ fn note_start(alloc: Global, firsts: &mut Firsts, item: &Item) -> Result<(), All
     ensures { OnOk result ((n : List ℕ) → number_of firsts.new n ≡ first_of (number_of firsts.old n) (spec.start_noted n (item_of item.now))) }
 {
     match item {
-        Item::Wire(_, _) => Ok(()),
-        Item::Register(_, _) => Ok(()),
-        Item::Memory(_, _, _) => Ok(()),
-        Item::Integer(_) => Ok(()),
-        Item::Assign(_, _) => Ok(()),
         Item::Initial(x, value) => firsts.note(alloc, &x.name, value.value),
         Item::InitialCells(_, _, x, value) => firsts.note(alloc, &x.name, value.value),
-        Item::Always(_, _) => Ok(()),
-        Item::AlwaysCell(_, _, _, _) => Ok(()),
+        _ => Ok(()),
     }
 }
 
@@ -59,15 +48,8 @@ fn note_next(alloc: Global, firsts: &mut Firsts, place: u64, item: &Item) -> Res
     ensures { OnOk result ((n : List ℕ) → number_of firsts.new n ≡ first_of (number_of firsts.old n) (spec.next_noted n place (item_of item.now))) }
 {
     match item {
-        Item::Wire(_, _) => Ok(()),
-        Item::Register(_, _) => Ok(()),
-        Item::Memory(_, _, _) => Ok(()),
-        Item::Integer(_) => Ok(()),
-        Item::Assign(_, _) => Ok(()),
-        Item::Initial(_, _) => Ok(()),
-        Item::InitialCells(_, _, _, _) => Ok(()),
         Item::Always(x, _) => firsts.note(alloc, &x.name, place),
-        Item::AlwaysCell(_, _, _, _) => Ok(()),
+        _ => Ok(()),
     }
 }
 
@@ -75,15 +57,8 @@ fn note_write(alloc: Global, firsts: &mut Firsts, place: u64, item: &Item) -> Re
     ensures { OnOk result ((n : List ℕ) → number_of firsts.new n ≡ first_of (number_of firsts.old n) (spec.write_noted n place (item_of item.now))) }
 {
     match item {
-        Item::Wire(_, _) => Ok(()),
-        Item::Register(_, _) => Ok(()),
-        Item::Memory(_, _, _) => Ok(()),
-        Item::Integer(_) => Ok(()),
-        Item::Assign(_, _) => Ok(()),
-        Item::Initial(_, _) => Ok(()),
-        Item::InitialCells(_, _, _, _) => Ok(()),
-        Item::Always(_, _) => Ok(()),
         Item::AlwaysCell(_, x, _, _) => firsts.note(alloc, &x.name, place),
+        _ => Ok(()),
     }
 }
 

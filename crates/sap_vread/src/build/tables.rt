@@ -2,9 +2,11 @@
 
 ghost use Rattle.std.specs.Prelude.{◌≡◌, IfOk, List, ℕ};
 ghost use Rattle.sap_vread.specs.Build.Firsts.{number_of};
-ghost use Rattle.sap_vread.specs.Build.Noted.{all_noted};
+ghost use Rattle.sap_modtext.specs.Modules.{first_of};
+ghost use Rattle.sap_vread.specs.Build.Noted.{all_noted, ports_noted};
+ghost use Rattle.sap_vread.specs.declared.build.noting.Noting.TheVariants.{Range};
 ghost use Rattle.sap_vread.specs.Build.Tables.{AreNoted};
-ghost use Rattle.sap_vparse.specs.Views.{file_of, items_of};
+ghost use Rattle.sap_vparse.specs.Views.{file_of, items_of, ports_of};
 
 use crate::build::firsts::Firsts;
 use crate::build::noting::{Noting, note_items, note_ports};
@@ -29,14 +31,22 @@ fn noted_items(alloc: Global, noting: Noting, items: &[Item]) -> Result<Firsts, 
     Ok(firsts)
 }
 
+// Notes the numbers of the ranges of a file.
+fn noted_ranges(alloc: Global, file: &File) -> Result<Firsts, AllocError>
+    ensures { IfOk result (λ f. (n : List ℕ) → number_of f n ≡ first_of (ports_noted n (ports_of file.now.ports.items)) (all_noted Range n 0 (items_of file.now.items.items))) }
+{
+    let mut ranges = Firsts::new(alloc);
+    note_ports(alloc, &mut ranges, file.ports.as_slice())?;
+    note_items(alloc, &mut ranges, Noting::Range, file.items.as_slice())?;
+    Ok(ranges)
+}
+
 /// Notes all names of a file.
 pub fn tabled(alloc: Global, file: &File) -> Result<Tables, AllocError>
     ensures { IfOk result (λ t. AreNoted t (file_of file.now)) }
 {
     let items = file.items.as_slice();
-    let mut ranges = Firsts::new(alloc);
-    note_ports(alloc, &mut ranges, file.ports.as_slice())?;
-    note_items(alloc, &mut ranges, Noting::Range, items)?;
+    let ranges = noted_ranges(alloc, file)?;
     let starts = noted_items(alloc, Noting::Start, items)?;
     let nexts = noted_items(alloc, Noting::Next, items)?;
     let writes = noted_items(alloc, Noting::Write, items)?;

@@ -1,6 +1,6 @@
 //! Wires.
 
-ghost use Rattle.std.specs.Prelude.{◌≡◌, ◌++◌, IfOk, OnOk, flat_map};
+ghost use Rattle.std.specs.Prelude.{◌≡◌, ◌++◌, OnOk, flat_map};
 ghost use Rattle.sap_vread.specs.Build.Firsts.{number_of};
 ghost use Rattle.sap_vread.specs.Build.Built as spec;
 ghost use Rattle.sap_vparse.specs.Views.{item_of};
@@ -31,31 +31,28 @@ fn push_wire(
     ensures { OnOk result (wires.new.items ≡ wires.old.items ++ spec.built_wires (number_of ranges.now) (item_of item.now)) }
 {
     match item {
-        Item::Wire(_, _) => (),
-        Item::Register(_, _) => (),
-        Item::Memory(_, _, _) => (),
-        Item::Integer(_) => (),
         Item::Assign(x, side) => {
             let name = x.name.copy(alloc)?;
             let width = width(ranges.get(&x.name));
             let right = right(alloc, side)?;
             wires.push(Wire { name, width, right })?;
         }
-        Item::Initial(_, _) => (),
-        Item::InitialCells(_, _, _, _) => (),
-        Item::Always(_, _) => (),
-        Item::AlwaysCell(_, _, _, _) => (),
+        _ => (),
     }
     Ok(())
 }
 
 /// The wires, in the order of their assigns.
-pub fn wires(alloc: Global, ranges: &Firsts, items: &[Item]) -> Result<Vec<Wire>, AllocError>
-    ensures { IfOk result (λ ws. ws.items ≡ flat_map (λ x. spec.built_wires (number_of ranges.now) (item_of x)) items.now) }
+pub fn push_wires(
+    alloc: Global,
+    ranges: &Firsts,
+    wires: &mut Vec<Wire>,
+    items: &[Item],
+) -> Result<(), AllocError>
+    ensures { OnOk result (wires.new.items ≡ wires.old.items ++ flat_map (λ x. spec.built_wires (number_of ranges.now) (item_of x)) items.now) }
 {
-    let mut wires = Vec::new(alloc);
     for item in items {
-        push_wire(alloc, ranges, &mut wires, item)?;
+        push_wire(alloc, ranges, wires, item)?;
     }
-    Ok(wires)
+    Ok(())
 }

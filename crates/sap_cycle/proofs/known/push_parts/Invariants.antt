@@ -1,8 +1,6 @@
-use Rattle.std.proofs.Common.{◌≡◌, ◌++◌, take, drop, map}
-use Rattle.std.specs.List.{AllByRecursion}
-use Rattle.sap_cycle.specs.Known.{IsKnownOperand, part_found}
+use Rattle.std.proofs.Common.{◌≡◌, ◌++◌, take, map}
+use Rattle.sap_cycle.specs.Known.{part_found}
 use Rattle.sap_cycle.proofs.known.push_parts.Given as goal
 
 abbrev pub invariant-loop-operand : goal.invariant-loop-operand
-invariant-loop-operand l =
-    (l.parts.items ≡ l.fn.parts.items ++ map (part_found l.known) (take l.operand-index l.operands)) × AllByRecursion (IsKnownOperand l.known) (drop l.operand-index l.operands)
+invariant-loop-operand l = l.parts.items ≡ l.fn.parts.items ++ map (part_found l.known) (take l.operand-index l.operands)

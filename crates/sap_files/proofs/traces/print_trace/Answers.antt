@@ -29,16 +29,16 @@ returns-in_err-held g c =
     let p = err_from_is_err_and c.from_residual-in_err-held.result c.from_residual-in_err-held.ensures.1 in
     rw (p.1, p.2) (starved _ (quiet_self _))
 
-pub print_steps-requires-clause-behind : goal.print_steps-requires-clause-behind
-print_steps-requires-clause-behind g c =
+pub print_with-requires-clause-behind : goal.print_with-requires-clause-behind
+print_with-requires-clause-behind g c =
     let s = c.in_ok-tracing.tracing in
     subst (λ (m : Net). IsAfter (levels_in c.args.checked.now) (tree_in c.args.checked.now) m [] s) (sym c.in_ok-tracing.ensures.after.net) c.in_ok-tracing.ensures.after
 
-pub print_steps-requires-clause-shows : goal.print_steps-requires-clause-shows
-print_steps-requires-clause-shows g c = c.lines_add_up.ensures.begins
+pub print_with-requires-clause-shows : goal.print_with-requires-clause-shows
+print_with-requires-clause-shows g c = c.lines_add_up.ensures.begins
 
-pub print_steps-requires-clause-whole : goal.print_steps-requires-clause-whole
-print_steps-requires-clause-whole g c =
+pub print_with-requires-clause-whole : goal.print_with-requires-clause-whole
+print_with-requires-clause-whole g c =
     let ls = levels_in c.args.checked.now in
     let d = tree_in c.args.checked.now in
     let s = c.in_ok-tracing.tracing in
@@ -57,4 +57,4 @@ returns g c =
     = subst (λ (fs : List Field). AreLines ls d s.runner.net (stimulus_of ls fs bytes).stream given) fields shown in
     ((read_for ls d bytes).fault, c.lines_add_up.ensures.whole bytes given there) in
     printed_same c.args.stimulus.now _ (AreTraceLines ls d) _ (λ bytes. (read_for ls d bytes).fault) holds
-    (λ bytes. ap (λ (fs : List Field). (stimulus_of ls fs bytes).fault) fields) _ _ _ c.print_steps.ensures
+    (λ bytes. ap (λ (fs : List Field). (stimulus_of ls fs bytes).fault) fields) _ _ _ c.print_with.ensures

@@ -1,7 +1,9 @@
-use Rattle.std.proofs.Common.{◌∙◌, ◌^◌, ap, arith, length, List, refl}
+use Rattle.std.proofs.Common.{◌∙◌, ◌+◌, ◌^◌, ap, arith, length, List, refl}
+use Rattle.std.proofs.lemmas.Result.{IfOk-weaker}
 use Rattle.sap_program.specs.declared.program.Arm.{Arm}
+use Rattle.sap_resolve.specs.Resolve.{step_of}
 use Rattle.sap_sem.specs.Lists.{arms_from}
-use Rattle.sap_sem.specs.Rows.{arms_with}
+use Rattle.sap_sem.specs.Rows.{arms_with, step_points, step_with}
 use Rattle.sap_tree.specs.Trees.{command_of, else_of, expression_of, simple_of}
 use Rattle.sap_tree.proofs.Views.{command_of-if, command_of-try, command_of-try_then, command_of-case}
 use Rattle.sap_sem.proofs.Lighter.{try_lighter, if_lighter, else_lighter, accepted_lighter, refused_lighter, arms_lighter, last_lighter, arm_lighter, some_lighter, command_lighter}
@@ -9,7 +11,7 @@ use Rattle.sap_sem.proofs.Choices.{try_sites, try_points, if_sites, if_points, e
 use Rattle.sap_sem.specs.Surroundings.{surroundings_of, rows_of}
 use Rattle.sap_sem.proofs.Lists.{commands_step, commands_end, sites_step, sites_end, sites_within, points_step, points_end, points_within}
 use Rattle.sap_sem.proofs.Arms.{arms_step, arms_end, arms_sites_step, arms_sites_end, arms_sites_within, arms_points_step, arms_points_end, arms_points_within}
-use Rattle.sap_program.proofs.Shown.{command_of-case as shown_case, command_of-then as shown_then, command_of-if as shown_if, arms_before-none}
+use Rattle.sap_program.proofs.Shown.{arms_before-none}
 use Rattle.sap_program.specs.Views.{arms_before}
 use Rattle.sap_meaning.specs.Program.{last_arm}
 use Rattle.sap_sem.proofs.commands.+body.Goals as goal
@@ -18,37 +20,37 @@ pub command-commands-requires : goal.command-commands-requires
 command-commands-requires t c =
     let lighter = try_lighter (command_of c.args.c.now) (simple_of c.in-Try.simple) c.in-Try.field-1 c.in-Try.handler c.as_slice.result.now (ap command_of c.in-Try.is ∙ command_of-try _ _ _) c.as_slice.ensures.value in (
       omega (arith, lighter),
-      (try_sites c.args.seat.now.lattice.now (surroundings_of c.args.seat.now) c.args.next.now c.args.point.now (2 ^ 32) (command_of c.args.c.now) c.requires.sites c.requires.points (simple_of c.in-Try.simple) c.in-Try.field-1 c.in-Try.handler (ap command_of c.in-Try.is ∙ command_of-try _ _ _) c.as_slice.result.now c.take_site-site-in-Try.new.next c.as_slice.ensures.value c.take_site-site-in-Try.ensures.next, try_points c.args.seat.now.lattice.now (surroundings_of c.args.seat.now) c.args.next.now c.args.point.now (2 ^ 32) (command_of c.args.c.now) c.requires.sites c.requires.points (simple_of c.in-Try.simple) c.in-Try.field-1 c.in-Try.handler (ap command_of c.in-Try.is ∙ command_of-try _ _ _) c.as_slice.result.now c.take_site-site-in-Try.new.next c.step-in-Try.new.point c.take_row.new.point c.take_site-site-in-Try.result c.as_slice.ensures.value c.take_site-site-in-Try.ensures.next c.take_site-site-in-Try.ensures.number c.in_ok-step-in-Try.ensures.point c.in_ok-hang-in-Try.ensures.point),
+      (try_sites c.args.seat.now.lattice.now (surroundings_of c.args.seat.now) c.args.next.now c.args.point.now (2 ^ 32) (command_of c.args.c.now) c.requires.sites c.requires.points (simple_of c.in-Try.simple) c.in-Try.field-1 c.in-Try.handler (ap command_of c.in-Try.is ∙ command_of-try _ _ _) c.as_slice.result.now c.take_site-site-in-Try.new.next c.as_slice.ensures.value c.take_site-site-in-Try.ensures.next, try_points c.args.seat.now.lattice.now (surroundings_of c.args.seat.now) c.args.next.now c.args.point.now (2 ^ 32) (command_of c.args.c.now) c.requires.sites c.requires.points (simple_of c.in-Try.simple) c.in-Try.field-1 c.in-Try.handler (ap command_of c.in-Try.is ∙ command_of-try _ _ _) c.as_slice.result.now c.take_site-site-in-Try.new.next _ c.take_points-at.new.point c.take_site-site-in-Try.result c.as_slice.ensures.value c.take_site-site-in-Try.ensures.next c.take_site-site-in-Try.ensures.number refl c.take_points-at.ensures.point),
     )
 
 pub command-commands-requires-in-If : goal.command-commands-requires-in-If
 command-commands-requires-in-If t c =
     let lighter = if_lighter (command_of c.args.c.now) c.in-If.field-0 (expression_of c.in-If.e) c.in-If.one (else_of c.in-If.other) c.as_slice-in-If.result.now (ap command_of c.in-If.is ∙ command_of-if _ _ _ _) c.as_slice-in-If.ensures.value in (
       omega (arith, lighter),
-      (if_sites c.args.seat.now.lattice.now (surroundings_of c.args.seat.now) c.args.next.now c.args.point.now (2 ^ 32) (command_of c.args.c.now) c.requires.sites c.requires.points c.in-If.field-0 (expression_of c.in-If.e) c.in-If.one (else_of c.in-If.other) (ap command_of c.in-If.is ∙ command_of-if _ _ _ _) c.as_slice-in-If.result.now c.as_slice-in-If.ensures.value, if_points c.args.seat.now.lattice.now (surroundings_of c.args.seat.now) c.args.next.now c.args.point.now (2 ^ 32) (command_of c.args.c.now) c.requires.sites c.requires.points c.in-If.field-0 (expression_of c.in-If.e) c.in-If.one (else_of c.in-If.other) (ap command_of c.in-If.is ∙ command_of-if _ _ _ _) c.as_slice-in-If.result.now c.take_row-in-If.new.point c.as_slice-in-If.ensures.value c.in_ok-hang-in-If.ensures.point),
+      (if_sites c.args.seat.now.lattice.now (surroundings_of c.args.seat.now) c.args.next.now c.args.point.now (2 ^ 32) (command_of c.args.c.now) c.requires.sites c.requires.points c.in-If.field-0 (expression_of c.in-If.e) c.in-If.one (else_of c.in-If.other) (ap command_of c.in-If.is ∙ command_of-if _ _ _ _) c.as_slice-in-If.result.now c.as_slice-in-If.ensures.value, if_points c.args.seat.now.lattice.now (surroundings_of c.args.seat.now) c.args.next.now c.args.point.now (2 ^ 32) (command_of c.args.c.now) c.requires.sites c.requires.points c.in-If.field-0 (expression_of c.in-If.e) c.in-If.one (else_of c.in-If.other) (ap command_of c.in-If.is ∙ command_of-if _ _ _ _) c.as_slice-in-If.result.now c.take_point-at.new.point c.as_slice-in-If.ensures.value c.take_point-at.ensures.point),
     )
 
 pub command-otherwise-requires : goal.command-otherwise-requires
 command-otherwise-requires t c =
     let lighter = else_lighter (command_of c.args.c.now) c.in-If.field-0 (expression_of c.in-If.e) c.in-If.one (else_of c.in-If.other) (ap command_of c.in-If.is ∙ command_of-if _ _ _ _) in (
       omega (arith, lighter),
-      (else_sites c.args.seat.now.lattice.now (surroundings_of c.args.seat.now) c.args.next.now c.args.point.now (2 ^ 32) (command_of c.args.c.now) c.requires.sites c.requires.points c.in-If.field-0 (expression_of c.in-If.e) c.in-If.one (else_of c.in-If.other) (ap command_of c.in-If.is ∙ command_of-if _ _ _ _) c.as_slice-in-If.result.now c.commands-in-If.new.next c.as_slice-in-If.ensures.value c.in_ok-yes-in-If.ensures.next, else_points c.args.seat.now.lattice.now (surroundings_of c.args.seat.now) c.args.next.now c.args.point.now (2 ^ 32) (command_of c.args.c.now) c.requires.sites c.requires.points c.in-If.field-0 (expression_of c.in-If.e) c.in-If.one (else_of c.in-If.other) (ap command_of c.in-If.is ∙ command_of-if _ _ _ _) c.as_slice-in-If.result.now c.commands-in-If.new.next c.take_row-in-If.new.point c.commands-in-If.new.point c.as_slice-in-If.ensures.value c.in_ok-yes-in-If.ensures.next c.in_ok-hang-in-If.ensures.point c.in_ok-yes-in-If.ensures.point),
+      (else_sites c.args.seat.now.lattice.now (surroundings_of c.args.seat.now) c.args.next.now c.args.point.now (2 ^ 32) (command_of c.args.c.now) c.requires.sites c.requires.points c.in-If.field-0 (expression_of c.in-If.e) c.in-If.one (else_of c.in-If.other) (ap command_of c.in-If.is ∙ command_of-if _ _ _ _) c.as_slice-in-If.result.now c.commands-in-If.new.next c.as_slice-in-If.ensures.value c.in_ok-yes-in-If.ensures.next, else_points c.args.seat.now.lattice.now (surroundings_of c.args.seat.now) c.args.next.now c.args.point.now (2 ^ 32) (command_of c.args.c.now) c.requires.sites c.requires.points c.in-If.field-0 (expression_of c.in-If.e) c.in-If.one (else_of c.in-If.other) (ap command_of c.in-If.is ∙ command_of-if _ _ _ _) c.as_slice-in-If.result.now c.commands-in-If.new.next c.take_point-at.new.point c.commands-in-If.new.point c.as_slice-in-If.ensures.value c.in_ok-yes-in-If.ensures.next c.take_point-at.ensures.point c.in_ok-yes-in-If.ensures.point),
     )
 
 pub command-returns-in_ok-no-in-If-clause-command : goal.command-returns-in_ok-no-in-If-clause-command
 command-returns-in_ok-no-in-If-clause-command t c =
-    shown_if _ _ _ _ _
-    ∙ if_made c.args.seat.now.lattice.now (surroundings_of c.args.seat.now) c.args.next.now c.args.point.now (rows_of c.args.seat.now) (command_of c.args.c.now) c.in-If.field-0 (expression_of c.in-If.e) c.in-If.one (else_of c.in-If.other) (ap command_of c.in-If.is ∙ command_of-if _ _ _ _) c.as_slice-in-If.result.now c.commands-in-If.new.next c.take_row-in-If.new.point c.commands-in-If.new.point c.as_slice-in-If.ensures.value c.in_ok-yes-in-If.ensures.next c.in_ok-hang-in-If.ensures.point c.in_ok-yes-in-If.ensures.point
-    _ _ _ _ c.in_ok-hang-in-If.ensures.row c.in_ok-condition-in-If.ensures c.in_ok-yes-in-If.ensures.commands c.in_ok-no-in-If.ensures.commands
+    IfOk-weaker c.conditional.result _ _ (λ _ made. made
+    ∙ if_made c.args.seat.now.lattice.now (surroundings_of c.args.seat.now) c.args.next.now c.args.point.now (rows_of c.args.seat.now) (command_of c.args.c.now) c.in-If.field-0 (expression_of c.in-If.e) c.in-If.one (else_of c.in-If.other) (ap command_of c.in-If.is ∙ command_of-if _ _ _ _) c.as_slice-in-If.result.now c.commands-in-If.new.next c.take_point-at.new.point c.commands-in-If.new.point c.as_slice-in-If.ensures.value c.in_ok-yes-in-If.ensures.next c.take_point-at.ensures.point c.in_ok-yes-in-If.ensures.point
+    _ _ _ _ (ap (λ n. rows_of c.args.seat.now n) c.take_point-at.ensures.number) refl c.in_ok-yes-in-If.ensures.commands c.in_ok-no-in-If.ensures.commands) c.conditional.ensures
 
 pub command-returns-in_ok-no-in-If-clause-next : goal.command-returns-in_ok-no-in-If-clause-next
 command-returns-in_ok-no-in-If-clause-next t c =
-    all_sites (surroundings_of c.args.seat.now) c.args.next.now (command_of c.args.c.now) c.in-If.field-0 (expression_of c.in-If.e) c.in-If.one (else_of c.in-If.other) (ap command_of c.in-If.is ∙ command_of-if _ _ _ _) c.as_slice-in-If.result.now c.commands-in-If.new.next c.otherwise.new.next c.as_slice-in-If.ensures.value c.in_ok-yes-in-If.ensures.next c.in_ok-no-in-If.ensures.next
+    IfOk-weaker c.conditional.result _ _ (λ _ _. all_sites (surroundings_of c.args.seat.now) c.args.next.now (command_of c.args.c.now) c.in-If.field-0 (expression_of c.in-If.e) c.in-If.one (else_of c.in-If.other) (ap command_of c.in-If.is ∙ command_of-if _ _ _ _) c.as_slice-in-If.result.now c.commands-in-If.new.next c.otherwise.new.next c.as_slice-in-If.ensures.value c.in_ok-yes-in-If.ensures.next c.in_ok-no-in-If.ensures.next) c.conditional.ensures
 
 pub command-returns-in_ok-no-in-If-clause-point :
     goal.command-returns-in_ok-no-in-If-clause-point
 command-returns-in_ok-no-in-If-clause-point t c =
-    all_points c.args.seat.now.lattice.now (surroundings_of c.args.seat.now) c.args.next.now c.args.point.now (command_of c.args.c.now) c.in-If.field-0 (expression_of c.in-If.e) c.in-If.one (else_of c.in-If.other) (ap command_of c.in-If.is ∙ command_of-if _ _ _ _) c.as_slice-in-If.result.now c.commands-in-If.new.next c.take_row-in-If.new.point c.commands-in-If.new.point c.otherwise.new.point c.as_slice-in-If.ensures.value c.in_ok-yes-in-If.ensures.next c.in_ok-hang-in-If.ensures.point c.in_ok-yes-in-If.ensures.point c.in_ok-no-in-If.ensures.point
+    IfOk-weaker c.conditional.result _ _ (λ _ _. all_points c.args.seat.now.lattice.now (surroundings_of c.args.seat.now) c.args.next.now c.args.point.now (command_of c.args.c.now) c.in-If.field-0 (expression_of c.in-If.e) c.in-If.one (else_of c.in-If.other) (ap command_of c.in-If.is ∙ command_of-if _ _ _ _) c.as_slice-in-If.result.now c.commands-in-If.new.next c.take_point-at.new.point c.commands-in-If.new.point c.otherwise.new.point c.as_slice-in-If.ensures.value c.in_ok-yes-in-If.ensures.next c.take_point-at.ensures.point c.in_ok-yes-in-If.ensures.point c.in_ok-no-in-If.ensures.point) c.conditional.ensures
 
 pub command-commands-requires-in-TryThen : goal.command-commands-requires-in-TryThen
 command-commands-requires-in-TryThen t c =
@@ -56,8 +58,8 @@ command-commands-requires-in-TryThen t c =
       omega (arith, lighter),
       (
         accepted_sites c.args.seat.now.lattice.now (surroundings_of c.args.seat.now) c.args.next.now c.args.point.now (2 ^ 32) (command_of c.args.c.now) c.requires.sites c.requires.points (simple_of c.in-TryThen.simple) c.in-TryThen.field-1 c.in-TryThen.accepted c.in-TryThen.refused (ap command_of c.in-TryThen.is ∙ command_of-try_then _ _ _ _) c.as_slice-in-TryThen.result.now c.take_site-site-in-TryThen.new.next c.as_slice-in-TryThen.ensures.value c.take_site-site-in-TryThen.ensures.next,
-        accepted_points c.args.seat.now.lattice.now (surroundings_of c.args.seat.now) c.args.next.now c.args.point.now (2 ^ 32) (command_of c.args.c.now) c.requires.sites c.requires.points (simple_of c.in-TryThen.simple) c.in-TryThen.field-1 c.in-TryThen.accepted c.in-TryThen.refused (ap command_of c.in-TryThen.is ∙ command_of-try_then _ _ _ _) c.as_slice-in-TryThen.result.now c.take_site-site-in-TryThen.new.next c.step-in-TryThen.new.point c.take_row-in-TryThen.new.point c.take_site-site-in-TryThen.result c.as_slice-in-TryThen.ensures.value c.take_site-site-in-TryThen.ensures.next c.take_site-site-in-TryThen.ensures.number
-            c.in_ok-step-in-TryThen.ensures.point c.in_ok-hang-in-TryThen.ensures.point,
+        accepted_points c.args.seat.now.lattice.now (surroundings_of c.args.seat.now) c.args.next.now c.args.point.now (2 ^ 32) (command_of c.args.c.now) c.requires.sites c.requires.points (simple_of c.in-TryThen.simple) c.in-TryThen.field-1 c.in-TryThen.accepted c.in-TryThen.refused (ap command_of c.in-TryThen.is ∙ command_of-try_then _ _ _ _) c.as_slice-in-TryThen.result.now c.take_site-site-in-TryThen.new.next _ c.take_points-at-in-TryThen.new.point c.take_site-site-in-TryThen.result c.as_slice-in-TryThen.ensures.value c.take_site-site-in-TryThen.ensures.next c.take_site-site-in-TryThen.ensures.number
+            refl c.take_points-at-in-TryThen.ensures.point,
       ),
     )
 
@@ -67,27 +69,30 @@ command-commands-requires-in-TryThen-2 t c =
       omega (arith, lighter),
       (
         refused_sites c.args.seat.now.lattice.now (surroundings_of c.args.seat.now) c.args.next.now c.args.point.now (2 ^ 32) (command_of c.args.c.now) c.requires.sites c.requires.points (simple_of c.in-TryThen.simple) c.in-TryThen.field-1 c.in-TryThen.accepted c.in-TryThen.refused (ap command_of c.in-TryThen.is ∙ command_of-try_then _ _ _ _) c.as_slice-in-TryThen.result.now c.as_slice-in-TryThen-2.result.now c.take_site-site-in-TryThen.new.next c.commands-in-TryThen.new.next c.as_slice-in-TryThen.ensures.value c.as_slice-in-TryThen-2.ensures.value c.take_site-site-in-TryThen.ensures.next c.in_ok-accepted-in-TryThen.ensures.next,
-        refused_points c.args.seat.now.lattice.now (surroundings_of c.args.seat.now) c.args.next.now c.args.point.now (2 ^ 32) (command_of c.args.c.now) c.requires.sites c.requires.points (simple_of c.in-TryThen.simple) c.in-TryThen.field-1 c.in-TryThen.accepted c.in-TryThen.refused (ap command_of c.in-TryThen.is ∙ command_of-try_then _ _ _ _) c.as_slice-in-TryThen.result.now c.as_slice-in-TryThen-2.result.now c.take_site-site-in-TryThen.new.next c.commands-in-TryThen.new.next c.step-in-TryThen.new.point c.take_row-in-TryThen.new.point c.commands-in-TryThen.new.point c.take_site-site-in-TryThen.result c.as_slice-in-TryThen.ensures.value c.as_slice-in-TryThen-2.ensures.value
-            c.take_site-site-in-TryThen.ensures.next c.in_ok-accepted-in-TryThen.ensures.next c.take_site-site-in-TryThen.ensures.number c.in_ok-step-in-TryThen.ensures.point c.in_ok-hang-in-TryThen.ensures.point c.in_ok-accepted-in-TryThen.ensures.point,
+        refused_points c.args.seat.now.lattice.now (surroundings_of c.args.seat.now) c.args.next.now c.args.point.now (2 ^ 32) (command_of c.args.c.now) c.requires.sites c.requires.points (simple_of c.in-TryThen.simple) c.in-TryThen.field-1 c.in-TryThen.accepted c.in-TryThen.refused (ap command_of c.in-TryThen.is ∙ command_of-try_then _ _ _ _) c.as_slice-in-TryThen.result.now c.as_slice-in-TryThen-2.result.now c.take_site-site-in-TryThen.new.next c.commands-in-TryThen.new.next _ c.take_points-at-in-TryThen.new.point c.commands-in-TryThen.new.point c.take_site-site-in-TryThen.result c.as_slice-in-TryThen.ensures.value c.as_slice-in-TryThen-2.ensures.value
+            c.take_site-site-in-TryThen.ensures.next c.in_ok-accepted-in-TryThen.ensures.next c.take_site-site-in-TryThen.ensures.number refl c.take_points-at-in-TryThen.ensures.point c.in_ok-accepted-in-TryThen.ensures.point,
       ),
     )
 
 pub command-returns-in_ok-refused-in-TryThen-clause-command : goal.command-returns-in_ok-refused-in-TryThen-clause-command
 command-returns-in_ok-refused-in-TryThen-clause-command t c =
-    shown_then _ _ _ _ _
-    ∙ then_made c.args.seat.now.lattice.now (surroundings_of c.args.seat.now) c.args.next.now c.args.point.now (rows_of c.args.seat.now) (command_of c.args.c.now) (simple_of c.in-TryThen.simple) c.in-TryThen.field-1 c.in-TryThen.accepted c.in-TryThen.refused (ap command_of c.in-TryThen.is ∙ command_of-try_then _ _ _ _) c.as_slice-in-TryThen.result.now c.as_slice-in-TryThen-2.result.now c.take_site-site-in-TryThen.new.next c.commands-in-TryThen.new.next c.step-in-TryThen.new.point c.take_row-in-TryThen.new.point c.commands-in-TryThen.new.point c.take_site-site-in-TryThen.result c.as_slice-in-TryThen.ensures.value c.as_slice-in-TryThen-2.ensures.value c.take_site-site-in-TryThen.ensures.next c.in_ok-accepted-in-TryThen.ensures.next
-    c.take_site-site-in-TryThen.ensures.number c.in_ok-step-in-TryThen.ensures.point c.in_ok-hang-in-TryThen.ensures.point c.in_ok-accepted-in-TryThen.ensures.point _ _ _ _ c.in_ok-step-in-TryThen.ensures.step c.in_ok-hang-in-TryThen.ensures.row c.in_ok-accepted-in-TryThen.ensures.commands c.in_ok-refused-in-TryThen.ensures.commands
+    IfOk-weaker c.decided.result _ _ (λ _ made. made
+    ∙ then_made c.args.seat.now.lattice.now (surroundings_of c.args.seat.now) c.args.next.now c.args.point.now (rows_of c.args.seat.now) (command_of c.args.c.now) (simple_of c.in-TryThen.simple) c.in-TryThen.field-1 c.in-TryThen.accepted c.in-TryThen.refused (ap command_of c.in-TryThen.is ∙ command_of-try_then _ _ _ _) c.as_slice-in-TryThen.result.now c.as_slice-in-TryThen-2.result.now c.take_site-site-in-TryThen.new.next c.commands-in-TryThen.new.next _ c.take_points-at-in-TryThen.new.point c.commands-in-TryThen.new.point c.take_site-site-in-TryThen.result c.as_slice-in-TryThen.ensures.value c.as_slice-in-TryThen-2.ensures.value c.take_site-site-in-TryThen.ensures.next c.in_ok-accepted-in-TryThen.ensures.next
+    c.take_site-site-in-TryThen.ensures.number refl c.take_points-at-in-TryThen.ensures.point c.in_ok-accepted-in-TryThen.ensures.point _ _ _ _
+    (ap (λ n. step_with (rows_of c.args.seat.now) n (step_of c.args.seat.now.lattice.now (surroundings_of c.args.seat.now) c.take_site-site-in-TryThen.result (simple_of c.in-TryThen.simple))) c.take_points-at-in-TryThen.ensures.number)
+    (ap (λ n. rows_of c.args.seat.now (n + step_points (step_of c.args.seat.now.lattice.now (surroundings_of c.args.seat.now) c.take_site-site-in-TryThen.result (simple_of c.in-TryThen.simple)))) c.take_points-at-in-TryThen.ensures.number)
+    c.in_ok-accepted-in-TryThen.ensures.commands c.in_ok-refused-in-TryThen.ensures.commands) c.decided.ensures
 
 pub command-returns-in_ok-refused-in-TryThen-clause-next : goal.command-returns-in_ok-refused-in-TryThen-clause-next
 command-returns-in_ok-refused-in-TryThen-clause-next t c =
-    then_all_sites (surroundings_of c.args.seat.now) c.args.next.now (command_of c.args.c.now) (simple_of c.in-TryThen.simple) c.in-TryThen.field-1 c.in-TryThen.accepted c.in-TryThen.refused (ap command_of c.in-TryThen.is ∙ command_of-try_then _ _ _ _) c.as_slice-in-TryThen.result.now c.as_slice-in-TryThen-2.result.now c.take_site-site-in-TryThen.new.next c.commands-in-TryThen.new.next c.commands-in-TryThen-2.new.next c.as_slice-in-TryThen.ensures.value c.as_slice-in-TryThen-2.ensures.value c.take_site-site-in-TryThen.ensures.next
-    c.in_ok-accepted-in-TryThen.ensures.next c.in_ok-refused-in-TryThen.ensures.next
+    IfOk-weaker c.decided.result _ _ (λ _ _. then_all_sites (surroundings_of c.args.seat.now) c.args.next.now (command_of c.args.c.now) (simple_of c.in-TryThen.simple) c.in-TryThen.field-1 c.in-TryThen.accepted c.in-TryThen.refused (ap command_of c.in-TryThen.is ∙ command_of-try_then _ _ _ _) c.as_slice-in-TryThen.result.now c.as_slice-in-TryThen-2.result.now c.take_site-site-in-TryThen.new.next c.commands-in-TryThen.new.next c.commands-in-TryThen-2.new.next c.as_slice-in-TryThen.ensures.value c.as_slice-in-TryThen-2.ensures.value c.take_site-site-in-TryThen.ensures.next
+    c.in_ok-accepted-in-TryThen.ensures.next c.in_ok-refused-in-TryThen.ensures.next) c.decided.ensures
 
 pub command-returns-in_ok-refused-in-TryThen-clause-point : goal.command-returns-in_ok-refused-in-TryThen-clause-point
 command-returns-in_ok-refused-in-TryThen-clause-point t c =
-    then_all_points c.args.seat.now.lattice.now (surroundings_of c.args.seat.now) c.args.next.now c.args.point.now (command_of c.args.c.now) (simple_of c.in-TryThen.simple) c.in-TryThen.field-1 c.in-TryThen.accepted c.in-TryThen.refused (ap command_of c.in-TryThen.is ∙ command_of-try_then _ _ _ _) c.as_slice-in-TryThen.result.now c.as_slice-in-TryThen-2.result.now c.take_site-site-in-TryThen.new.next c.commands-in-TryThen.new.next c.step-in-TryThen.new.point c.take_row-in-TryThen.new.point
-    c.commands-in-TryThen.new.point c.commands-in-TryThen-2.new.point c.take_site-site-in-TryThen.result c.as_slice-in-TryThen.ensures.value c.as_slice-in-TryThen-2.ensures.value c.take_site-site-in-TryThen.ensures.next c.in_ok-accepted-in-TryThen.ensures.next c.take_site-site-in-TryThen.ensures.number c.in_ok-step-in-TryThen.ensures.point
-    c.in_ok-hang-in-TryThen.ensures.point c.in_ok-accepted-in-TryThen.ensures.point c.in_ok-refused-in-TryThen.ensures.point
+    IfOk-weaker c.decided.result _ _ (λ _ _. then_all_points c.args.seat.now.lattice.now (surroundings_of c.args.seat.now) c.args.next.now c.args.point.now (command_of c.args.c.now) (simple_of c.in-TryThen.simple) c.in-TryThen.field-1 c.in-TryThen.accepted c.in-TryThen.refused (ap command_of c.in-TryThen.is ∙ command_of-try_then _ _ _ _) c.as_slice-in-TryThen.result.now c.as_slice-in-TryThen-2.result.now c.take_site-site-in-TryThen.new.next c.commands-in-TryThen.new.next _ c.take_points-at-in-TryThen.new.point
+    c.commands-in-TryThen.new.point c.commands-in-TryThen-2.new.point c.take_site-site-in-TryThen.result c.as_slice-in-TryThen.ensures.value c.as_slice-in-TryThen-2.ensures.value c.take_site-site-in-TryThen.ensures.next c.in_ok-accepted-in-TryThen.ensures.next c.take_site-site-in-TryThen.ensures.number refl
+    c.take_points-at-in-TryThen.ensures.point c.in_ok-accepted-in-TryThen.ensures.point c.in_ok-refused-in-TryThen.ensures.point) c.decided.ensures
 
 pub command-arms-requires : goal.command-arms-requires
 command-arms-requires t c =
@@ -95,7 +100,7 @@ command-arms-requires t c =
       omega (arith, lighter),
       (
         case_sites c.args.seat.now.lattice.now (surroundings_of c.args.seat.now) c.args.next.now c.args.point.now (2 ^ 32) (command_of c.args.c.now) c.requires.sites c.requires.points c.in-Case.field-0 (expression_of c.in-Case.e) c.in-Case.branches.items c.in-Case.other (ap command_of c.in-Case.is ∙ command_of-case _ _ _ _) c.as_slice-in-Case.result.now c.as_slice-in-Case.ensures.value,
-        case_points c.args.seat.now.lattice.now (surroundings_of c.args.seat.now) c.args.next.now c.args.point.now (2 ^ 32) (command_of c.args.c.now) c.requires.sites c.requires.points c.in-Case.field-0 (expression_of c.in-Case.e) c.in-Case.branches.items c.in-Case.other (ap command_of c.in-Case.is ∙ command_of-case _ _ _ _) c.as_slice-in-Case.result.now c.take_row-in-Case.new.point c.as_slice-in-Case.ensures.value c.in_ok-hang-in-Case.ensures.point,
+        case_points c.args.seat.now.lattice.now (surroundings_of c.args.seat.now) c.args.next.now c.args.point.now (2 ^ 32) (command_of c.args.c.now) c.requires.sites c.requires.points c.in-Case.field-0 (expression_of c.in-Case.e) c.in-Case.branches.items c.in-Case.other (ap command_of c.in-Case.is ∙ command_of-case _ _ _ _) c.as_slice-in-Case.result.now c.take_point-at-in-Case.new.point c.as_slice-in-Case.ensures.value c.take_point-at-in-Case.ensures.point,
       ),
     )
 
@@ -105,26 +110,26 @@ command-commands-requires-in-Case t c =
       omega (arith, lighter),
       (
         last_sites c.args.seat.now.lattice.now (surroundings_of c.args.seat.now) c.args.next.now c.args.point.now (2 ^ 32) (command_of c.args.c.now) c.requires.sites c.requires.points c.in-Case.field-0 (expression_of c.in-Case.e) c.in-Case.branches.items c.in-Case.other (ap command_of c.in-Case.is ∙ command_of-case _ _ _ _) c.as_slice-in-Case.result.now c.as_slice-in-Case-2.result.now c.arms.new.next c.as_slice-in-Case.ensures.value c.as_slice-in-Case-2.ensures.value c.in_ok-arms-in-Case.ensures.next,
-        last_points c.args.seat.now.lattice.now (surroundings_of c.args.seat.now) c.args.next.now c.args.point.now (2 ^ 32) (command_of c.args.c.now) c.requires.sites c.requires.points c.in-Case.field-0 (expression_of c.in-Case.e) c.in-Case.branches.items c.in-Case.other (ap command_of c.in-Case.is ∙ command_of-case _ _ _ _) c.as_slice-in-Case.result.now c.as_slice-in-Case-2.result.now c.arms.new.next c.take_row-in-Case.new.point c.arms.new.point c.as_slice-in-Case.ensures.value c.as_slice-in-Case-2.ensures.value c.in_ok-arms-in-Case.ensures.next c.in_ok-hang-in-Case.ensures.point
+        last_points c.args.seat.now.lattice.now (surroundings_of c.args.seat.now) c.args.next.now c.args.point.now (2 ^ 32) (command_of c.args.c.now) c.requires.sites c.requires.points c.in-Case.field-0 (expression_of c.in-Case.e) c.in-Case.branches.items c.in-Case.other (ap command_of c.in-Case.is ∙ command_of-case _ _ _ _) c.as_slice-in-Case.result.now c.as_slice-in-Case-2.result.now c.arms.new.next c.take_point-at-in-Case.new.point c.arms.new.point c.as_slice-in-Case.ensures.value c.as_slice-in-Case-2.ensures.value c.in_ok-arms-in-Case.ensures.next c.take_point-at-in-Case.ensures.point
             c.in_ok-arms-in-Case.ensures.point,
       ),
     )
 
 pub command-returns-in_ok-last-in-Case-clause-command : goal.command-returns-in_ok-last-in-Case-clause-command
 command-returns-in_ok-last-in-Case-clause-command t c =
-    shown_case _ _ _ _ _
-    ∙ case_made c.args.seat.now.lattice.now (surroundings_of c.args.seat.now) c.args.next.now c.args.point.now (rows_of c.args.seat.now) (command_of c.args.c.now) c.in-Case.field-0 (expression_of c.in-Case.e) c.in-Case.branches.items c.in-Case.other (ap command_of c.in-Case.is ∙ command_of-case _ _ _ _) c.as_slice-in-Case.result.now c.as_slice-in-Case-2.result.now c.arms.new.next c.take_row-in-Case.new.point c.arms.new.point c.as_slice-in-Case.ensures.value c.as_slice-in-Case-2.ensures.value
-    c.in_ok-arms-in-Case.ensures.next c.in_ok-hang-in-Case.ensures.point _ _ (λ b. arms_before (length c.args.seat.now.names.now) c.in_ok-arms-in-Case.arms.items (last_arm b)) _ c.in_ok-hang-in-Case.ensures.row c.in_ok-number-in-Case.ensures
-    c.in_ok-arms-in-Case.ensures.arms c.in_ok-last-in-Case.ensures.commands
+    IfOk-weaker c.choice.result _ _ (λ _ made. made
+    ∙ case_made c.args.seat.now.lattice.now (surroundings_of c.args.seat.now) c.args.next.now c.args.point.now (rows_of c.args.seat.now) (command_of c.args.c.now) c.in-Case.field-0 (expression_of c.in-Case.e) c.in-Case.branches.items c.in-Case.other (ap command_of c.in-Case.is ∙ command_of-case _ _ _ _) c.as_slice-in-Case.result.now c.as_slice-in-Case-2.result.now c.arms.new.next c.take_point-at-in-Case.new.point c.arms.new.point c.as_slice-in-Case.ensures.value c.as_slice-in-Case-2.ensures.value
+    c.in_ok-arms-in-Case.ensures.next c.take_point-at-in-Case.ensures.point _ _ (λ b. arms_before (length c.args.seat.now.names.now) c.in_ok-arms-in-Case.arms.items (last_arm b)) _ (ap (λ n. rows_of c.args.seat.now n) c.take_point-at-in-Case.ensures.number) refl
+    c.in_ok-arms-in-Case.ensures.arms c.in_ok-last-in-Case.ensures.commands) c.choice.ensures
 
 pub command-returns-in_ok-last-in-Case-clause-next : goal.command-returns-in_ok-last-in-Case-clause-next
 command-returns-in_ok-last-in-Case-clause-next t c =
-    case_all_sites c.args.seat.now.lattice.now (surroundings_of c.args.seat.now) c.args.next.now (command_of c.args.c.now) c.in-Case.field-0 (expression_of c.in-Case.e) c.in-Case.branches.items c.in-Case.other (ap command_of c.in-Case.is ∙ command_of-case _ _ _ _) c.as_slice-in-Case.result.now c.as_slice-in-Case-2.result.now c.arms.new.next c.commands-in-Case.new.next c.as_slice-in-Case.ensures.value c.as_slice-in-Case-2.ensures.value c.in_ok-arms-in-Case.ensures.next c.in_ok-last-in-Case.ensures.next
+    IfOk-weaker c.choice.result _ _ (λ _ _. case_all_sites c.args.seat.now.lattice.now (surroundings_of c.args.seat.now) c.args.next.now (command_of c.args.c.now) c.in-Case.field-0 (expression_of c.in-Case.e) c.in-Case.branches.items c.in-Case.other (ap command_of c.in-Case.is ∙ command_of-case _ _ _ _) c.as_slice-in-Case.result.now c.as_slice-in-Case-2.result.now c.arms.new.next c.commands-in-Case.new.next c.as_slice-in-Case.ensures.value c.as_slice-in-Case-2.ensures.value c.in_ok-arms-in-Case.ensures.next c.in_ok-last-in-Case.ensures.next) c.choice.ensures
 
 pub command-returns-in_ok-last-in-Case-clause-point : goal.command-returns-in_ok-last-in-Case-clause-point
 command-returns-in_ok-last-in-Case-clause-point t c =
-    case_all_points c.args.seat.now.lattice.now (surroundings_of c.args.seat.now) c.args.next.now c.args.point.now (command_of c.args.c.now) c.in-Case.field-0 (expression_of c.in-Case.e) c.in-Case.branches.items c.in-Case.other (ap command_of c.in-Case.is ∙ command_of-case _ _ _ _) c.as_slice-in-Case.result.now c.as_slice-in-Case-2.result.now c.arms.new.next c.take_row-in-Case.new.point c.arms.new.point c.commands-in-Case.new.point c.as_slice-in-Case.ensures.value c.as_slice-in-Case-2.ensures.value
-    c.in_ok-arms-in-Case.ensures.next c.in_ok-hang-in-Case.ensures.point c.in_ok-arms-in-Case.ensures.point c.in_ok-last-in-Case.ensures.point
+    IfOk-weaker c.choice.result _ _ (λ _ _. case_all_points c.args.seat.now.lattice.now (surroundings_of c.args.seat.now) c.args.next.now c.args.point.now (command_of c.args.c.now) c.in-Case.field-0 (expression_of c.in-Case.e) c.in-Case.branches.items c.in-Case.other (ap command_of c.in-Case.is ∙ command_of-case _ _ _ _) c.as_slice-in-Case.result.now c.as_slice-in-Case-2.result.now c.arms.new.next c.take_point-at-in-Case.new.point c.arms.new.point c.commands-in-Case.new.point c.as_slice-in-Case.ensures.value c.as_slice-in-Case-2.ensures.value
+    c.in_ok-arms-in-Case.ensures.next c.take_point-at-in-Case.ensures.point c.in_ok-arms-in-Case.ensures.point c.in_ok-last-in-Case.ensures.point) c.choice.ensures
 
 pub arms-commands-requires : goal.arms-commands-requires
 arms-commands-requires t c =

@@ -1,9 +1,10 @@
 use Rattle.std.proofs.Common.{◌∙◌, ap, sym, arith}
-use Rattle.sap_tree.specs.Trees.{command_of, expression_of}
+use Rattle.std.proofs.lemmas.Result.{on_ok_weaker}
+use Rattle.sap_tree.specs.Trees.{arm_block_of, command_of, expression_of}
 use Rattle.sap_tree.proofs.Views.{command_of-case}
 use Rattle.sap_names.specs.Best.{best_of}
-use Rattle.sap_shape.specs.Lists.{written_in, past_list, entering_list, second_list}
-use Rattle.sap_shape.specs.Walk.{Written, either}
+use Rattle.sap_shape.specs.Lists.{written_in}
+use Rattle.sap_shape.specs.Walk.{Written, either, past_block, entering_block, second_block}
 use Rattle.sap_shape.proofs.Sets.{either_fresh}
 use Rattle.sap_shape.proofs.Walks.{past_step, entering_step, second_step, entering_list-past, past_arms_step, entering_arms_step, second_arms_step, past_arms_end, entering_arms_end, case_past, case_entering}
 use Rattle.sap_shape.proofs.paths.+paths.Goals as goal
@@ -29,14 +30,14 @@ list_paths-returns-clause-entering t c =
 
 pub arms_paths-loop-arm-preserved : goal.arms_paths-loop-arm-preserved
 arms_paths-loop-arm-preserved t c = record {
-  past = past_arms_step (written_in c.args.start.now) c.args.arms.now c.loop-arm.arm-index c.arm-item.result _ _ _ _ (omega arith) c.arm-item.is c.as_slice.ensures.value
-      (c.in_ok-list_paths.ensures.past ∙ ap (λ (p : Written). past_list c.as_slice.result.now p) c.in_ok-here.ensures) c.in_ok-join.ensures
+  past = past_arms_step (written_in c.args.start.now) c.args.arms.now c.loop-arm.arm-index c.arm-item.result _ _ (omega arith) c.arm-item.is
+      (c.in_ok-beside_paths.ensures.past ∙ ap (λ (p : Written). either (written_in c.loop-arm.past) (past_block (arm_block_of c.arm-item.result) p)) c.in_ok-here.ensures)
       ∙ c.loop-arm.invariant.past;
-  entering = entering_arms_step (written_in c.args.start.now) c.args.arms.now c.loop-arm.arm-index c.arm-item.result _ _ _ (omega arith) c.arm-item.is c.as_slice.ensures.value
-      (c.in_ok-list_paths.ensures.entering ∙ ap (λ (p : Written). either (written_in c.loop-arm.entered) (entering_list c.as_slice.result.now p)) c.in_ok-here.ensures)
+  entering = entering_arms_step (written_in c.args.start.now) c.args.arms.now c.loop-arm.arm-index c.arm-item.result _ _ (omega arith) c.arm-item.is
+      (c.in_ok-beside_paths.ensures.entering ∙ ap (λ (p : Written). either (written_in c.loop-arm.entered) (entering_block (arm_block_of c.arm-item.result) p)) c.in_ok-here.ensures)
       ∙ c.loop-arm.invariant.entering;
-  second = second_arms_step (written_in c.args.start.now) c.args.arms.now c.loop-arm.arm-index c.arm-item.result _ _ _ (omega arith) c.arm-item.is c.as_slice.ensures.value
-      (c.in_ok-list_paths.ensures.second ∙ ap (λ (p : Written). best_of c.loop-arm.best (second_list c.as_slice.result.now p)) c.in_ok-here.ensures)
+  second = second_arms_step (written_in c.args.start.now) c.args.arms.now c.loop-arm.arm-index c.arm-item.result _ _ (omega arith) c.arm-item.is
+      (c.in_ok-beside_paths.ensures.second ∙ ap (λ (p : Written). best_of c.loop-arm.best (second_block (arm_block_of c.arm-item.result) p)) c.in_ok-here.ensures)
       ∙ c.loop-arm.invariant.second;
 }
 
@@ -46,12 +47,14 @@ arms_paths-returns-clause-past t c = past_arms_end (written_in c.args.start.now)
 pub arms_paths-returns-clause-entering : goal.arms_paths-returns-clause-entering
 arms_paths-returns-clause-entering t c = entering_arms_end (written_in c.args.start.now) c.args.arms.now c.loop-arm.arm-index _ _ (omega arith) c.loop-arm.invariant.entering
 
-pub command_paths-returns-in_ok-join-in-Case-clause-past : goal.command_paths-returns-in_ok-join-in-Case-clause-past
-command_paths-returns-in_ok-join-in-Case-clause-past t c =
-    case_past (command_of c.args.command.now) c.in-Case.field-0 (expression_of c.in-Case.field-1) c.in-Case.arms.items c.as_slice-in-Case.result.now c.in-Case.last c.as_slice-in-Case-2.result.now (written_in c.args.here.now) (ap command_of c.in-Case.is ∙ command_of-case _ _ _ _) c.as_slice-in-Case.ensures.value c.as_slice-in-Case-2.ensures.value
-    _ _ _ _ c.new-past.ensures c.in_ok-arms_paths-in-Case.ensures.past c.in_ok-list_paths-in-Case.ensures.past c.in_ok-join-in-Case.ensures
+pub command_paths-returns-in_ok-arms_paths-in-Case-clause-past : goal.command_paths-returns-in_ok-arms_paths-in-Case-clause-past
+command_paths-returns-in_ok-arms_paths-in-Case-clause-past t c =
+    on_ok_weaker c.beside_paths-in-Case.result (λ after.
+    case_past (command_of c.args.command.now) c.in-Case.field-0 (expression_of c.in-Case.field-1) c.in-Case.arms.items c.as_slice-in-Case.result.now c.in-Case.last (written_in c.args.here.now) (written_in c.replace-start.result) (ap command_of c.in-Case.is ∙ command_of-case _ _ _ _) c.as_slice-in-Case.ensures.value (ap written_in c.replace-start.ensures.value)
+    _ _ _ _ c.new-past.ensures c.in_ok-arms_paths-in-Case.ensures.past (ap written_in c.replace-start.ensures.after) after) c.beside_paths-in-Case.ensures.past
 
-pub command_paths-returns-in_ok-join-in-Case-clause-entering : goal.command_paths-returns-in_ok-join-in-Case-clause-entering
-command_paths-returns-in_ok-join-in-Case-clause-entering t c =
-    case_entering (command_of c.args.command.now) c.in-Case.field-0 (expression_of c.in-Case.field-1) c.in-Case.arms.items c.as_slice-in-Case.result.now c.in-Case.last c.as_slice-in-Case-2.result.now (written_in c.args.here.now) (ap command_of c.in-Case.is ∙ command_of-case _ _ _ _) c.as_slice-in-Case.ensures.value c.as_slice-in-Case-2.ensures.value
-    _ _ _ c.in_ok-arms_paths-in-Case.ensures.entering c.in_ok-list_paths-in-Case.ensures.entering
+pub command_paths-returns-in_ok-arms_paths-in-Case-clause-entering : goal.command_paths-returns-in_ok-arms_paths-in-Case-clause-entering
+command_paths-returns-in_ok-arms_paths-in-Case-clause-entering t c =
+    on_ok_weaker c.beside_paths-in-Case.result (λ after.
+    case_entering (command_of c.args.command.now) c.in-Case.field-0 (expression_of c.in-Case.field-1) c.in-Case.arms.items c.as_slice-in-Case.result.now c.in-Case.last (written_in c.args.here.now) (written_in c.replace-start.result) (ap command_of c.in-Case.is ∙ command_of-case _ _ _ _) c.as_slice-in-Case.ensures.value (ap written_in c.replace-start.ensures.value)
+    _ _ _ c.in_ok-arms_paths-in-Case.ensures.entering after) c.beside_paths-in-Case.ensures.entering

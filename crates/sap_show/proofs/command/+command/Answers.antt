@@ -20,11 +20,10 @@ else_block-returns-in-None t c =
 
 pub command-returns-in_ok-else_block-in-If : goal.command-returns-in_ok-else_block-in-If
 command-returns-in_ok-else_block-in-If t c =
-    joined_on_last c.extend_from_slice-in-If-3.result _ c.else_block.new.out.items (codes "\n") (c.args.out.now.items ++ command_text c.args.margin.now (command_of c.args.command.now))
-    c.extend_from_slice-in-If-3.ensures.items
-    (if_grows c.args.margin.now _ _ _ _ _ c.args.out.now.items _ _ _ _ _ _ (ap command_of c.in-If.is ∙ command_of-if _ _ _ _) c.in_ok-extend_from_slice.ensures.items
-    c.in_ok-extend_from_slice-in-If.ensures.items c.in_ok-expression-in-If.ensures c.in_ok-extend_from_slice-in-If-2.ensures.items c.in_ok-block-in-If.ensures
-    c.in_ok-else_block-in-If.ensures)
+    joined_on_last c.extend_from_slice-in-If.result _ c.else_block.new.out.items (codes "\n") (c.args.out.now.items ++ command_text c.args.margin.now (command_of c.args.command.now))
+    c.extend_from_slice-in-If.ensures.items
+    (if_grows c.args.margin.now _ _ _ _ _ c.args.out.now.items _ _ _ _ (ap command_of c.in-If.is ∙ command_of-if _ _ _ _) c.in_ok-extend_from_slice.ensures.items
+    c.in_ok-between-in-If.ensures c.in_ok-block-in-If.ensures c.in_ok-else_block-in-If.ensures)
 
 pub arms-loop-arm-preserved : goal.arms-loop-arm-preserved
 arms-loop-arm-preserved t c =
@@ -37,16 +36,16 @@ arms-returns t c = arms_end c.args.margin.now c.args.list.now c.loop-arm.arm-ind
 
 pub command-returns-in_ok-block-in-TryThen-2 : goal.command-returns-in_ok-block-in-TryThen-2
 command-returns-in_ok-block-in-TryThen-2 t c =
-    joined_on_last c.extend_from_slice-in-TryThen-3.result _ c.block-in-TryThen-2.new.out.items (codes "\n") (c.args.out.now.items ++ command_text c.args.margin.now (command_of c.args.command.now))
-    c.extend_from_slice-in-TryThen-3.ensures.items
-    (decided_grows c.args.margin.now _ _ _ _ _ c.args.out.now.items _ _ _ _ _ _ (ap command_of c.in-TryThen.is ∙ command_of-try_then _ _ _ _) c.in_ok-extend_from_slice.ensures.items
-    c.in_ok-simple-in-TryThen.ensures c.in_ok-extend_from_slice-in-TryThen.ensures.items c.in_ok-block-in-TryThen.ensures c.in_ok-extend_from_slice-in-TryThen-2.ensures.items
+    joined_on_last c.extend_from_slice-in-TryThen-2.result _ c.block-in-TryThen-2.new.out.items (codes "\n") (c.args.out.now.items ++ command_text c.args.margin.now (command_of c.args.command.now))
+    c.extend_from_slice-in-TryThen-2.ensures.items
+    (decided_grows c.args.margin.now _ _ _ _ _ c.args.out.now.items _ _ _ _ _ (ap command_of c.in-TryThen.is ∙ command_of-try_then _ _ _ _) c.in_ok-extend_from_slice.ensures.items
+    c.in_ok-simple_before-in-TryThen.ensures c.in_ok-block-in-TryThen.ensures c.in_ok-extend_from_slice-in-TryThen.ensures.items
     c.in_ok-block-in-TryThen-2.ensures)
 
-pub command-returns-in_ok-extend_from_slice-in-Case-3 : goal.command-returns-in_ok-extend_from_slice-in-Case-3
-command-returns-in_ok-extend_from_slice-in-Case-3 t c =
-    joined_on_last c.extend_from_slice-in-Case-4.result _ c.extend_from_slice-in-Case-3.new.self.items (codes "}\n") (c.args.out.now.items ++ command_text c.args.margin.now (command_of c.args.command.now))
-    c.extend_from_slice-in-Case-4.ensures.items
-    (case_grows c.args.margin.now _ _ _ _ _ _ _ _ c.args.out.now.items _ _ _ _ _ _ _ (ap command_of c.in-Case.is ∙ command_of-case _ _ _ _) (c.as_slice.ensures.value ∙ c.in_ok-inner-in-Case.ensures)
-    (c.as_slice-in-Case-2.ensures.value ∙ c.in_ok-inner-in-Case.ensures) c.as_slice-in-Case.ensures.value c.in_ok-extend_from_slice.ensures.items c.in_ok-extend_from_slice-in-Case.ensures.items
-    c.in_ok-expression-in-Case.ensures c.in_ok-extend_from_slice-in-Case-2.ensures.items c.in_ok-arms-in-Case.ensures c.in_ok-last_block-in-Case.ensures c.in_ok-extend_from_slice-in-Case-3.ensures.items)
+pub command-returns-in_ok-extend_from_slice-in-Case : goal.command-returns-in_ok-extend_from_slice-in-Case
+command-returns-in_ok-extend_from_slice-in-Case t c =
+    joined_on_last c.extend_from_slice-in-Case-2.result _ c.extend_from_slice-in-Case.new.self.items (codes "}\n") (c.args.out.now.items ++ command_text c.args.margin.now (command_of c.args.command.now))
+    c.extend_from_slice-in-Case-2.ensures.items
+    (case_grows c.args.margin.now _ _ _ _ _ _ _ _ c.args.out.now.items _ _ _ _ _ (ap command_of c.in-Case.is ∙ command_of-case _ _ _ _) (c.as_slice.ensures.value ∙ c.in_ok-inner-in-Case.ensures)
+    (c.as_slice-in-Case-2.ensures.value ∙ c.in_ok-inner-in-Case.ensures) c.as_slice-in-Case.ensures.value c.in_ok-extend_from_slice.ensures.items
+    c.in_ok-between-in-Case.ensures c.in_ok-arms-in-Case.ensures c.in_ok-last_block-in-Case.ensures c.in_ok-extend_from_slice-in-Case.ensures.items)

@@ -11,11 +11,8 @@ use Rattle.sap_terms.proofs.Few.{few_accepted, few_arm, few_arms, few_count, few
 use Rattle.sap_terms.proofs.Ranged.{ranged_accepted, ranged_arm, ranged_arms, ranged_last, ranged_number, ranged_refused, ranged_then_step, ranged_do, ranged_try_step, ranged_handler, ranged_condition, ranged_yes, ranged_no, ranged_in}
 use Rattle.sap_tags.proofs.commands.+body.Goals as goal
 
-pub command-look-requires-clause-ranged : goal.command-look-requires-clause-ranged
-command-look-requires-clause-ranged t c = ranged_do c.args.setting.now c.args.command.now c.in-Do.step c.in-Do.is c.requires.ranged
-
-pub command-decide-requires-clause-ranged : goal.command-decide-requires-clause-ranged
-command-decide-requires-clause-ranged t c = ranged_do c.args.setting.now c.args.command.now c.in-Do.step c.in-Do.is c.requires.ranged
+pub command-attempt-requires-clause-ranged : goal.command-attempt-requires-clause-ranged
+command-attempt-requires-clause-ranged t c = ranged_do c.args.setting.now c.args.command.now c.in-Do.step c.in-Do.is c.requires.ranged
 
 pub command-commands-requires : goal.command-commands-requires
 command-commands-requires t c =
@@ -30,15 +27,14 @@ command-commands-requires t c =
       ),
     )
 
-pub command-look-requires-in-Try-clause-ranged : goal.command-look-requires-in-Try-clause-ranged
-command-look-requires-in-Try-clause-ranged t c = ranged_try_step c.args.setting.now c.args.command.now c.in-Try.step c.in-Try.hang c.in-Try.handler c.in-Try.is c.requires.ranged
+pub command-begin-requires-clause-ranged : goal.command-begin-requires-clause-ranged
+command-begin-requires-clause-ranged t c = ranged_try_step c.args.setting.now c.args.command.now c.in-Try.step c.in-Try.hang c.in-Try.handler c.in-Try.is c.requires.ranged
 
-pub command-decide-requires-in-Try-clause-ranged :
-    goal.command-decide-requires-in-Try-clause-ranged
-command-decide-requires-in-Try-clause-ranged t c = ranged_try_step c.args.setting.now c.args.command.now c.in-Try.step c.in-Try.hang c.in-Try.handler c.in-Try.is c.requires.ranged
+pub command-decide-requires-clause-ranged : goal.command-decide-requires-clause-ranged
+command-decide-requires-clause-ranged t c = ranged_try_step c.args.setting.now c.args.command.now c.in-Try.step c.in-Try.hang c.in-Try.handler c.in-Try.is c.requires.ranged
 
-pub command-choose-requires-clause-ranged : goal.command-choose-requires-clause-ranged
-command-choose-requires-clause-ranged t c = ranged_condition c.args.setting.now c.args.command.now c.in-If.hang c.in-If.condition c.in-If.yes c.in-If.no c.in-If.is c.requires.ranged
+pub command-choose_branch-requires-clause-ranged : goal.command-choose_branch-requires-clause-ranged
+command-choose_branch-requires-clause-ranged t c = ranged_condition c.args.setting.now c.args.command.now c.in-If.hang c.in-If.condition c.in-If.yes c.in-If.no c.in-If.is c.requires.ranged
 
 pub command-commands-requires-in-If : goal.command-commands-requires-in-If
 command-commands-requires-in-If t c =
@@ -70,27 +66,25 @@ command-commands-requires-in-If-2 t c =
 pub command-select-requires : goal.command-select-requires
 command-select-requires t c = ranged_condition c.args.setting.now c.args.command.now c.in-If.hang c.in-If.condition c.in-If.yes c.in-If.no c.in-If.is c.requires.ranged
 
-pub command-returns-in_ok-raise_alone-in-Do-clause-body :
-    goal.command-returns-in_ok-raise_alone-in-Do-clause-body
-command-returns-in_ok-raise_alone-in-Do-clause-body t c =
-    subst (λ (b : Body). OnOk c.decide.result (body_of c.decide.new.out.items ≡ b))
-    (do_made c.args.setting.now c.args.at.now c.args.p c.args.next.now c.args.command.now c.in-Do.step (body_of c.args.out.now.items) (body_of c.look.new.out.items) (body_of c.raise_alone.new.out.items) (body_of c.new-accepted.result.items) (body_of c.refuse.new.out.items) c.in-Do.is (empty c.new-accepted.result.items c.new-accepted.ensures.items)
-    (fresh c.new-refused.result.items _ _ c.new-refused.ensures.items c.in_ok-refuse-in-Do.ensures) c.in_ok-look-in-Do.ensures c.in_ok-raise_alone-in-Do.ensures)
-    c.decide.ensures
+pub command-returns-in-Do-clause-body : goal.command-returns-in-Do-clause-body
+command-returns-in-Do-clause-body t c =
+    subst (λ (b : Body). OnOk c.attempt.result (body_of c.attempt.new.out.items ≡ b))
+    (do_made c.args.setting.now c.args.at.now c.args.p c.args.next.now c.args.command.now c.in-Do.step (body_of c.args.out.now.items) c.in-Do.is)
+    c.attempt.ensures
 
-pub command-returns-in_ok-raise_all-in-Try-clause-body :
-    goal.command-returns-in_ok-raise_all-in-Try-clause-body
-command-returns-in_ok-raise_all-in-Try-clause-body t c =
-    subst (λ (b : Body). OnOk c.decide-in-Try.result (body_of c.decide-in-Try.new.out.items ≡ b))
-    (try_made c.args.setting.now c.args.at.now c.args.p c.args.next.now c.args.command.now c.in-Try.step c.in-Try.hang c.numbers.result.now c.in-Try.handler c.as_slice-handler.result.now (body_of c.args.out.now.items) (body_of c.look-in-Try.new.out.items) (body_of c.raise_all.new.out.items) (body_of c.new-accepted-in-Try.result.items) (body_of c.refuse-in-Try.new.out.items) (body_of c.commands.new.out.items) c.in-Try.is c.numbers.ensures.same c.as_slice-handler.ensures.value (empty c.new-accepted-in-Try.result.items c.new-accepted-in-Try.ensures.items)
-    (fresh c.new-refused-in-Try.result.items _ _ c.new-refused-in-Try.ensures.items c.in_ok-refuse-in-Try.ensures) c.in_ok-commands-in-Try.ensures.body c.in_ok-look-in-Try.ensures c.in_ok-raise_all-in-Try.ensures)
-    c.decide-in-Try.ensures
+pub command-returns-in_ok-commands-in-Try-clause-body :
+    goal.command-returns-in_ok-commands-in-Try-clause-body
+command-returns-in_ok-commands-in-Try-clause-body t c =
+    subst (λ (b : Body). OnOk c.decide.result (body_of c.decide.new.out.items ≡ b))
+    (try_made c.args.setting.now c.args.at.now c.args.p c.args.next.now c.args.command.now c.in-Try.step c.in-Try.hang c.in-Try.handler c.as_slice-handler.result.now (body_of c.args.out.now.items) (body_of c.begin.new.out.items) (body_of c.new-accepted.result.items) (body_of c.refuse.new.out.items) (body_of c.commands.new.out.items) c.in-Try.is c.as_slice-handler.ensures.value (empty c.new-accepted.result.items c.new-accepted.ensures.items)
+    (fresh c.new-refused.result.items _ _ c.new-refused.ensures.items c.in_ok-refuse-in-Try.ensures) c.in_ok-commands-in-Try.ensures.body c.in_ok-begin-in-Try.ensures)
+    c.decide.ensures
 
 pub command-returns-in_ok-commands-in-If-2-clause-body :
     goal.command-returns-in_ok-commands-in-If-2-clause-body
 command-returns-in_ok-commands-in-If-2-clause-body t c =
     subst (λ (b : Body). OnOk c.select.result (body_of c.select.new.out.items ≡ b))
-    (if_made c.args.setting.now c.args.at.now c.args.p c.args.next.now c.args.command.now c.in-If.hang c.numbers-in-If.result.now c.in-If.condition c.in-If.yes c.in-If.no c.as_slice.result.now c.as_slice-in-If.result.now (body_of c.args.out.now.items) (body_of c.choose.new.out.items) (body_of c.raise_all-in-If.new.out.items) (body_of c.commands-in-If.new.out.items) (body_of c.commands-in-If-2.new.out.items) c.commands-in-If.new.next c.in-If.is c.numbers-in-If.ensures.same c.as_slice.ensures.value c.as_slice-in-If.ensures.value c.in_ok-choose-in-If.ensures c.in_ok-raise_all-in-If.ensures
+    (if_made c.args.setting.now c.args.at.now c.args.p c.args.next.now c.args.command.now c.in-If.hang c.in-If.condition c.in-If.yes c.in-If.no c.as_slice.result.now c.as_slice-in-If.result.now (body_of c.args.out.now.items) (body_of c.choose_branch.new.out.items) (body_of c.commands-in-If.new.out.items) (body_of c.commands-in-If-2.new.out.items) c.commands-in-If.new.next c.in-If.is c.as_slice.ensures.value c.as_slice-in-If.ensures.value c.in_ok-choose_branch-in-If.ensures
     (fresh c.new-first.result.items _ _ c.new-first.ensures.items c.in_ok-commands-in-If.ensures.body) c.in_ok-commands-in-If.ensures.wires (fresh c.new-second.result.items _ _ c.new-second.ensures.items c.in_ok-commands-in-If-2.ensures.body))
     c.select.ensures
 
@@ -148,20 +142,20 @@ command-commands-requires-in-TryThen-2 t c =
       ),
     )
 
-pub command-look-requires-in-TryThen-clause-ranged : goal.command-look-requires-in-TryThen-clause-ranged
-command-look-requires-in-TryThen-clause-ranged t c = ranged_then_step c.args.setting.now c.args.command.now c.in-TryThen.step c.in-TryThen.hang c.in-TryThen.accepted c.in-TryThen.refused c.in-TryThen.is c.requires.ranged
+pub command-begin-requires-in-TryThen-clause-ranged : goal.command-begin-requires-in-TryThen-clause-ranged
+command-begin-requires-in-TryThen-clause-ranged t c = ranged_then_step c.args.setting.now c.args.command.now c.in-TryThen.step c.in-TryThen.hang c.in-TryThen.accepted c.in-TryThen.refused c.in-TryThen.is c.requires.ranged
 
 pub command-decide-requires-in-TryThen-clause-ranged :
     goal.command-decide-requires-in-TryThen-clause-ranged
 command-decide-requires-in-TryThen-clause-ranged t c = ranged_then_step c.args.setting.now c.args.command.now c.in-TryThen.step c.in-TryThen.hang c.in-TryThen.accepted c.in-TryThen.refused c.in-TryThen.is c.requires.ranged
 
-pub command-returns-in_ok-raise_all-in-TryThen-clause-body :
-    goal.command-returns-in_ok-raise_all-in-TryThen-clause-body
-command-returns-in_ok-raise_all-in-TryThen-clause-body t c =
+pub command-returns-in_ok-commands-in-TryThen-2-clause-body :
+    goal.command-returns-in_ok-commands-in-TryThen-2-clause-body
+command-returns-in_ok-commands-in-TryThen-2-clause-body t c =
     subst (λ (b : Body). OnOk c.decide-in-TryThen.result (body_of c.decide-in-TryThen.new.out.items ≡ b))
-    (then_made c.args.setting.now c.args.at.now c.args.p c.args.next.now c.args.command.now c.in-TryThen.step c.in-TryThen.hang c.numbers-in-TryThen.result.now c.in-TryThen.accepted c.in-TryThen.refused c.as_slice-accepted.result.now c.as_slice-refused.result.now (body_of c.args.out.now.items) (body_of c.look-in-TryThen.new.out.items) (body_of c.raise_all-in-TryThen.new.out.items) (body_of c.commands-in-TryThen.new.out.items) (body_of c.refuse-in-TryThen.new.out.items) (body_of c.commands-in-TryThen-2.new.out.items) c.commands-in-TryThen.new.next c.in-TryThen.is c.numbers-in-TryThen.ensures.same c.as_slice-accepted.ensures.value c.as_slice-refused.ensures.value
+    (then_made c.args.setting.now c.args.at.now c.args.p c.args.next.now c.args.command.now c.in-TryThen.step c.in-TryThen.hang c.in-TryThen.accepted c.in-TryThen.refused c.as_slice-accepted.result.now c.as_slice-refused.result.now (body_of c.args.out.now.items) (body_of c.begin-in-TryThen.new.out.items) (body_of c.commands-in-TryThen.new.out.items) (body_of c.refuse-in-TryThen.new.out.items) (body_of c.commands-in-TryThen-2.new.out.items) c.commands-in-TryThen.new.next c.in-TryThen.is c.as_slice-accepted.ensures.value c.as_slice-refused.ensures.value
     (fresh c.new-passed.result.items _ _ c.new-passed.ensures.items c.in_ok-commands-in-TryThen.ensures.body) c.in_ok-commands-in-TryThen.ensures.wires
-    (fresh c.new-failed.result.items _ _ c.new-failed.ensures.items c.in_ok-refuse-in-TryThen.ensures) c.in_ok-commands-in-TryThen-2.ensures.body c.in_ok-look-in-TryThen.ensures c.in_ok-raise_all-in-TryThen.ensures)
+    (fresh c.new-failed.result.items _ _ c.new-failed.ensures.items c.in_ok-refuse-in-TryThen.ensures) c.in_ok-commands-in-TryThen-2.ensures.body c.in_ok-begin-in-TryThen.ensures)
     c.decide-in-TryThen.ensures
 
 pub command-add_arms-requires : goal.command-add_arms-requires
@@ -191,12 +185,8 @@ command-commands-requires-in-Case t c =
       ),
     )
 
-pub command-choose-requires-in-Case-clause-ranged :
-    goal.command-choose-requires-in-Case-clause-ranged
-command-choose-requires-in-Case-clause-ranged t c = ranged_number c.args.setting.now c.args.command.now c.in-Case.hang c.in-Case.number c.in-Case.arms c.in-Case.last c.in-Case.is c.requires.ranged
-
-pub command-expr-requires : goal.command-expr-requires
-command-expr-requires t c = ranged_number c.args.setting.now c.args.command.now c.in-Case.hang c.in-Case.number c.in-Case.arms c.in-Case.last c.in-Case.is c.requires.ranged
+pub command-choose_arm-requires-clause-ranged : goal.command-choose_arm-requires-clause-ranged
+command-choose_arm-requires-clause-ranged t c = ranged_number c.args.setting.now c.args.command.now c.in-Case.hang c.in-Case.number c.in-Case.arms c.in-Case.last c.in-Case.is c.requires.ranged
 
 pub command-pick_block-requires-clause-ranged : goal.command-pick_block-requires-clause-ranged
 command-pick_block-requires-clause-ranged t c = ranged_number c.args.setting.now c.args.command.now c.in-Case.hang c.in-Case.number c.in-Case.arms c.in-Case.last c.in-Case.is c.requires.ranged
@@ -204,14 +194,13 @@ command-pick_block-requires-clause-ranged t c = ranged_number c.args.setting.now
 pub command-pick_block-requires-clause-arms : goal.command-pick_block-requires-clause-arms
 command-pick_block-requires-clause-arms t c = few_count c.args.command.now c.in-Case.hang c.in-Case.number c.in-Case.arms c.in-Case.last c.as_slice-arms.result.now c.in-Case.is c.as_slice-arms.ensures.value c.requires.arms
 
-pub command-returns-in_ok-raise_all-in-Case-clause-body :
-    goal.command-returns-in_ok-raise_all-in-Case-clause-body
-command-returns-in_ok-raise_all-in-Case-clause-body t c =
+pub command-returns-in_ok-push-in-Case-clause-body : goal.command-returns-in_ok-push-in-Case-clause-body
+command-returns-in_ok-push-in-Case-clause-body t c =
     subst (λ (b : Body). OnOk c.pick_block.result (body_of c.pick_block.new.out.items ≡ b))
-    (case_made c.args.setting.now c.args.at.now c.args.p c.args.next.now c.args.command.now c.in-Case.hang c.numbers-raised.result.now c.in-Case.number c.in-Case.arms c.in-Case.last c.as_slice-arms.result.now c.as_slice-last.result.now (body_of c.args.out.now.items) (body_of c.choose-in-Case.new.out.items) (body_of c.set_wire.new.out.items) (body_of c.raise_all-in-Case.new.out.items) _ c.add_arms.new.next c.add_arms.new.blocks.items c.push.new.self.items c.commands-in-Case.new.out
-    c.in-Case.is c.numbers-raised.ensures.same c.as_slice-arms.ensures.value c.as_slice-last.ensures.value
+    (case_made c.args.setting.now c.args.at.now c.args.p c.args.next.now c.args.command.now c.in-Case.hang c.in-Case.number c.in-Case.arms c.in-Case.last c.as_slice-arms.result.now c.as_slice-last.result.now (body_of c.args.out.now.items) (body_of c.choose_arm.new.out.items) c.add_arms.new.next c.add_arms.new.blocks.items c.push.new.self.items c.commands-in-Case.new.out
+    c.in-Case.is c.as_slice-arms.ensures.value c.as_slice-last.ensures.value
     (fresh_blocks c.new-blocks.result.items c.add_arms.new.blocks.items _ c.new-blocks.ensures.items c.in_ok-add_arms-in-Case.ensures.blocks) c.in_ok-add_arms-in-Case.ensures.wires
-    (fresh c.new-block.result.items _ _ c.new-block.ensures.items c.in_ok-commands-in-Case.ensures.body) c.in_ok-push-in-Case.ensures.items c.in_ok-choose-in-Case.ensures c.in_ok-value-in-Case.ensures c.in_ok-set_wire-in-Case.ensures c.in_ok-raise_all-in-Case.ensures)
+    (fresh c.new-block.result.items _ _ c.new-block.ensures.items c.in_ok-commands-in-Case.ensures.body) c.in_ok-push-in-Case.ensures.items c.in_ok-choose_arm-in-Case.ensures)
     c.pick_block.ensures
 
 pub add_arms-commands-requires : goal.add_arms-commands-requires

@@ -1,7 +1,6 @@
-use Rattle.std.proofs.Common.{◌≡◌, ◌<◌, ◌^◌, length, ℕ, List, map, sym, ap, ◌∙◌, subst}
+use Rattle.std.proofs.Common.{◌≡◌, ◌<◌, ◌^◌, length, List, map, sym, ap, ◌∙◌, subst}
 use Rattle.sap_meaning.specs.Cycle.{Tagged}
-use Rattle.sap_net.specs.Net.{Net}
-use Rattle.sap_net.specs.Runs.{AllFit, IsRun, observed}
+use Rattle.sap_net.specs.Runs.{AllFit, IsRun}
 use Rattle.sap_check.specs.Checked.{levels_in, tree_in}
 use Rattle.sap_stream.specs.Spans.{cycles_of}
 use Rattle.sap_stim.specs.declared.stimulus.Parsed.{Parsed}
@@ -9,37 +8,23 @@ use Rattle.sap_sim.specs.Labelled.Fields.{design_fields}
 use Rattle.sap_sim.specs.Labelled.RunOf.{read_for}
 use Rattle.sap_sim.proofs.Few.{stimulus_few}
 use Rattle.sap_trace.specs.Fields.{given}
-use Rattle.sap_trace.specs.Seen.{AreReadable, AreWires, lines_from}
-use Rattle.sap_trace.proofs.SiteWires.{sites_readable}
-use Rattle.sap_trace.proofs.Designs.{site_wires, inputs_fit, trace_is}
+use Rattle.sap_trace.proofs.Designs.{inputs_fit, trace_is}
 use Rattle.sap_trace.proofs.trace.trace_of.Goals as goal
-use Rattle.sap_trace.proofs.trace.trace_of.Goals.{In_ok-runner}
+use Rattle.sap_trace.proofs.trace.trace_of.Goals.{In_ok-parsed}
 
-pub wires_of-requires : goal.wires_of-requires
-wires_of-requires c =
-    let ls = levels_in c.args.checked.now in
-    let d = tree_in c.args.checked.now in
-    subst (λ (n : Net). AreReadable n c.site_count.result) (sym c.in_ok-runner.ensures.netlist)
-    (subst (λ (k : ℕ). AreReadable c.args.netlist k) (sym c.site_count.ensures)
-    (sites_readable ls d c.args.netlist c.rules.ensures (site_wires ls d c.args.netlist c.requires.stands c.known.ensures.numbering)))
-
-pub lines-requires-clause-wires : goal.lines-requires-clause-wires
-lines-requires-clause-wires c = subst (λ (k : ℕ). AreWires c.in_ok-runner.runner.net k c.in_ok-wires.wires) c.site_count.ensures c.in_ok-wires.ensures
-
-fits : (c : In_ok-runner) → AllFit c.args.netlist.inputs (map (given (levels_in c.args.checked.now)) (read_for (levels_in c.args.checked.now) (tree_in c.args.checked.now) c.args.stimulus.now).stream)
+fits : (c : In_ok-parsed) → AllFit c.args.netlist.inputs (map (given (levels_in c.args.checked.now)) (read_for (levels_in c.args.checked.now) (tree_in c.args.checked.now) c.args.stimulus.now).stream)
 fits c =
     inputs_fit (levels_in c.args.checked.now) (tree_in c.args.checked.now) c.args.netlist c.requires.stands c.known.ensures.order c.stimulus_fits.ensures c.args.stimulus.now
 
-pub lines-requires-clause-fits : goal.lines-requires-clause-fits
-lines-requires-clause-fits c =
+pub run_lines-requires-clause-fits : goal.run_lines-requires-clause-fits
+run_lines-requires-clause-fits c =
     let ls = levels_in c.args.checked.now in
     let e : cycles_of c.spans.result.now ≡ (read_for (levels_in c.args.checked.now) (tree_in c.args.checked.now) c.args.stimulus.now).stream =
     c.spans.ensures ∙ ap (λ (p : Parsed). p.stream) c.in_ok-parsed.ensures in
-    subst (λ (n : Net). AllFit n.inputs (map (given ls) (cycles_of c.spans.result.now))) (sym c.in_ok-runner.ensures.netlist)
-    (subst (λ (stream : List (List Tagged)). AllFit c.args.netlist.inputs (map (given ls) stream)) (sym e) (fits (goal.at.lines-requires-clause-fits c).In_ok-runner))
+    subst (λ (stream : List (List Tagged)). AllFit c.args.netlist.inputs (map (given ls) stream)) (sym e) (fits (goal.at.run_lines-requires-clause-fits c).In_ok-parsed)
 
-pub lines-requires-clause-few : goal.lines-requires-clause-few
-lines-requires-clause-few c =
+pub run_lines-requires-clause-few : goal.run_lines-requires-clause-few
+run_lines-requires-clause-few c =
     let ls = levels_in c.args.checked.now in
     let d = tree_in c.args.checked.now in
     let e : cycles_of c.spans.result.now ≡ (read_for (levels_in c.args.checked.now) (tree_in c.args.checked.now) c.args.stimulus.now).stream =
@@ -52,16 +37,14 @@ returns c =
     let d = tree_in c.args.checked.now in
     let e : cycles_of c.spans.result.now ≡ (read_for (levels_in c.args.checked.now) (tree_in c.args.checked.now) c.args.stimulus.now).stream =
     c.spans.ensures ∙ ap (λ (p : Parsed). p.stream) c.in_ok-parsed.ensures in
-    let w = c.one_run.ensures.some (map (given ls) (read_for ls d c.args.stimulus.now).stream) (fits (goal.at.returns c).In_ok-runner) in
-    let there : IsRun c.in_ok-runner.runner.net (map (given (levels_in c.args.checked.now)) (cycles_of c.spans.result.now)) w.0 =
-    subst (λ (n : Net). IsRun n (map (given ls) (cycles_of c.spans.result.now)) w.0) (sym c.in_ok-runner.ensures.netlist)
-    (subst (λ (stream : List (List Tagged)). IsRun c.args.netlist (map (given ls) stream) w.0) (sym e) w.1) in
+    let w = c.one_run.ensures.some (map (given ls) (read_for ls d c.args.stimulus.now).stream) (fits (goal.at.returns c).In_ok-parsed) in
+    let there : IsRun c.args.netlist (map (given ls) (cycles_of c.spans.result.now)) w.0 =
+    subst (λ (stream : List (List Tagged)). IsRun c.args.netlist (map (given ls) stream) w.0) (sym e) w.1 in
     record {
       trace = record {
         fault = ap (λ (p : Parsed). p.fault) c.in_ok-parsed.ensures;
         text =
             c.new.ensures ∙ c.in_ok-text.ensures w.0 there
-            ∙ ap (λ (n : Net). lines_from ls d 1 (map (observed n) w.0)) c.in_ok-runner.ensures.netlist
             ∙ trace_is ls d c.args.netlist c.requires.stands c.known.ensures.order c.stimulus_fits.ensures c.args.stimulus.now c.known.ensures.codes
             c.known.ensures.some c.known.ensures.numbering c.known.ensures.in_order w.0 w.1;
       };

@@ -11,11 +11,9 @@ returns c =
     let second = ap app_of_fields c.disable_help_flag.ensures ∙ ap (λ (a : App). record a { top = record a.top { disable_help_flag = true } }) first in
     let third = ap app_of_fields c.disable_help_subcommand-line.ensures ∙ ap (λ (a : App). record a { top = record a.top { disable_help_subcommand = true } }) second in
     let with = λ (s : Shape) (a : App). with_subcommand a s in
-    let compiles = c.in_ok-line.ensures ∙ ap (with _) third in
-    let runs = c.in_ok-line-2.ensures ∙ ap (with _) compiles in
-    let traces = c.in_ok-line-3.ensures ∙ ap (with _) runs in
-    let sims = c.in_ok-line-4.ensures ∙ ap (with _) traces in
-    let reports = c.in_ok-line-5.ensures ∙ ap (with _) sims in
-    let twins = c.in_ok-line-6.ensures ∙ ap (with _) reports in
-    let fmts = c.in_ok-line-7.ensures ∙ ap (with _) twins in
-    IfOk-weaker c.with_row-8.result _ _ (λ r h. h ∙ ap (with _) fmts) c.with_row-8.ensures
+    let two = λ (s t : Shape) (a : App). with t (with s a) in
+    let four = λ (p q s t : Shape) (a : App). two s t (two p q a) in
+    let runs = c.in_ok-line.ensures ∙ ap (four _ _ _ _) third in
+    let reports = c.in_ok-line-2.ensures ∙ ap (two _ _) runs in
+    let fmts = c.in_ok-line-3.ensures ∙ ap (with _) reports in
+    IfOk-weaker c.with_row-2.result _ _ (λ r h. h ∙ ap (with _) fmts) c.with_row-2.ensures

@@ -15,5 +15,5 @@ returns c =
       registers = e.driven.registers;
       memories = e.driven.memories;
     } in
-    net_built c.args.file.now c.in_ok-tables.tables c.in_ok-tables.ensures p c.in_ok-module_name.ensures d.ensures.names d.ensures.ports d.ensures.inputs e.ensures.wires
+    net_built c.args.file.now p c.in_ok-module_name.ensures d.ensures.names d.ensures.ports d.ensures.inputs e.ensures.wires
     e.ensures.registers e.ensures.memories
