@@ -8,12 +8,12 @@ use sap_lattice::name::Name;
 use sap_stim::{row, row_into, row_room};
 use std::alloc::{AllocError, Global};
 
-fn name(alloc: Global, text: &[u8]) -> Result<Name, AllocError> {
-    Ok(Name::new(text.to_vec(alloc)?))
+fn name(alloc: Global, text: &str) -> Result<Name, AllocError> {
+    Ok(Name::new(String::from_str(alloc, text)?))
 }
 
 fn is_row_of_two(alloc: Global, lattice: &Lattice) -> Result<bool, AllocError> {
-    let names = [name(alloc, b"x")?, name(alloc, b"y")?];
+    let names = [name(alloc, "x")?, name(alloc, "y")?];
     let text = row(alloc, 12, &names, &[6, 70], &[1, 3], lattice)?;
     Ok(text.as_slice() == b"cycle 12: x=6@high y=70@#3\n".as_slice())
 }
@@ -33,7 +33,7 @@ fn prints_a_row(rt: HostRuntime) {
 // `cycle ` and `:` with 20 digits and LF are 28 bytes, ` x=` and `@` with 20 digits are 24; a level is a name,
 // or `#` and 20 digits.
 fn are_rows_of_one(alloc: Global, lattice: &Lattice) -> Result<bool, AllocError> {
-    let names = vec![in alloc; name(alloc, b"x")?]?;
+    let names = vec![in alloc; name(alloc, "x")?]?;
     let Some(room) = row_room(names.as_slice(), lattice) else {
         return Ok(false);
     };

@@ -10,13 +10,13 @@ use thiserror::Error;
 #[derive(Debug, Error, Drop)]
 pub enum CompileFault {
     /// The first rule that the lattice file breaks.
-    #[error("the lattice file is refused")]
+    #[error("lattice: {0}")]
     Lattice(LatFileFault),
     /// The text is no design within the limits.
-    #[error("the text is no design")]
+    #[error("design: {0}")]
     Read(ReadFault),
     /// The design isn't well formed over the lattice.
-    #[error("the design is not well formed")]
+    #[error("design: {0}")]
     Check(CheckFault),
     #[error("out of memory")]
     Memory,

@@ -54,16 +54,8 @@ fn is_input(entity: &Entity) -> bool
     matches!(entity.what, Declared::Input(_))
 }
 
-fn copied(alloc: Global, name: &Name) -> Result<Bytes, AllocError>
-    ensures { IfOk result (λ bytes. bytes ≡ name.now) }
-{
-    let mut bytes = Vec::new(alloc);
-    bytes.extend_from_slice(name.as_bytes())?;
-    Ok(Bytes::new(bytes))
-}
-
 // The name of the input at a place, the places being counted from 0; nothing past the last.
-fn input_name(alloc: Global, checked: &Checked, place: u64) -> Result<Bytes, AllocError>
+fn input_name(alloc: Global, checked: &Checked, place: u64) -> Result<Name, AllocError>
     ensures { IfOk result (λ name. name ≡ input_name (tree_in checked.now) place) }
 {
     let names = checked.names();
@@ -72,12 +64,12 @@ fn input_name(alloc: Global, checked: &Checked, place: u64) -> Result<Bytes, All
         let entity = names.entity(number);
         if is_input(entity) {
             if left == 0 {
-                return copied(alloc, &entity.name.name);
+                return entity.name.name.copy(alloc);
             }
             left -= 1;
         }
     }
-    Ok(Bytes::new(Vec::new(alloc)))
+    Ok(Name::new(String::new(alloc)))
 }
 
 // The line of streams that agree.

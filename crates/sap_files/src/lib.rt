@@ -15,7 +15,6 @@ mod reporting;
 mod rows;
 mod showing;
 mod simulating;
-mod texts;
 mod traces;
 
 pub use comparing::{level_of, verdict};
@@ -27,5 +26,4 @@ pub use reporting::report_design;
 pub use rows::print_rows;
 pub use showing::format;
 pub use simulating::simulate;
-pub use texts::refusal_text;
 pub use traces::print_trace;

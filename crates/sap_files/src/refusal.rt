@@ -5,10 +5,11 @@ ghost use Rattle.sap_files.specs.Ending.{status_of_refusal};
 ghost use Rattle.sap_files.specs.Steps.{reason};
 
 use crate::fault::DesignFault;
-use sap_desk::Bytes;
 use sap_latfile::LatFileFault;
 use sap_stim::fault::StimFault;
+use sap_tree::name::Name;
 use sap_vread::fault::ModFault;
+use std::fmt;
 
 /// Why a file is refused, a level, or two streams.
 #[derive(Drop)]
@@ -23,7 +24,7 @@ pub enum Refusal<'a> {
     /// Two streams have not as many cycles.
     Lengths(u64, u64),
     /// Two streams first don't agree in this cycle, at this input.
-    Input(u64, Bytes),
+    Input(u64, Name),
 }
 
 impl Refusal<'_> {
@@ -38,6 +39,26 @@ impl Refusal<'_> {
             Refusal::Module(_) => 5,
             Refusal::Level(_) => 2,
             Refusal::Lengths(_, _) | Refusal::Input(_, _) => 8,
+        }
+    }
+}
+
+impl fmt::Display for Refusal<'_> {
+    ghost use Rattle.std.specs.Prelude.{Some};
+    ghost use Rattle.sap_files.specs.Ending.{refusal_text};
+    ghost use Rattle.sap_files.specs.Steps.{reason};
+
+    ghost output = { λ why. Some (refusal_text (reason why)) };
+
+    fn fmt<W: fmt::Write>(&self, f: &mut fmt::Formatter<W>) -> fmt::Result {
+        match self {
+            Refusal::Lattice(fault) => write!(f, "lattice: {fault}"),
+            Refusal::Design(fault) => write!(f, "design: {fault}"),
+            Refusal::Stimulus(place, fault) => write!(f, "stimulus {place}: {fault}"),
+            Refusal::Module(fault) => write!(f, "module: {fault}"),
+            Refusal::Level(word) => write!(f, "level {word}"),
+            Refusal::Lengths(one, other) => write!(f, "streams: lengths {one} and {other}"),
+            Refusal::Input(cycle, name) => write!(f, "streams: cycle {cycle} input {name}"),
         }
     }
 }

@@ -14,7 +14,7 @@ pub fn name(alloc: Global, k: usize) -> Result<Name, AllocError>
     ensures { IfOk result (λ n. n ≡ gate_name k) }
 {
     let text = format!(in alloc; "g{k}")?;
-    Ok(Name::new(text.into_bytes()))
+    Ok(Name::new(text))
 }
 
 /// The gates so far, numbered from 0, seen as their count.

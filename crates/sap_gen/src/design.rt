@@ -53,7 +53,7 @@ fn mention(name: Name) -> Mention
 fn name(alloc: Global, text: &str) -> Result<Name, AllocError>
     ensures { IfOk result (λ name. name ≡ text.now) }
 {
-    Ok(Name::new(text.as_bytes().to_vec(alloc)?))
+    Ok(Name::new(String::from_str(alloc, text)?))
 }
 
 fn input_name(alloc: Global) -> Result<Name, AllocError>
@@ -66,14 +66,14 @@ fn register_name(alloc: Global, register: u32) -> Result<Name, AllocError>
     ensures { IfOk result (λ name. name ≡ register_name register) }
 {
     let text = format!(in alloc; "x{register}")?;
-    Ok(Name::new(text.into_bytes()))
+    Ok(Name::new(text))
 }
 
 fn state_name(alloc: Global, state: u32) -> Result<Name, AllocError>
     ensures { IfOk result (λ name. name ≡ state_name state) }
 {
     let text = format!(in alloc; "S{state}")?;
-    Ok(Name::new(text.into_bytes()))
+    Ok(Name::new(text))
 }
 
 fn enforced(alloc: Global, level: &str) -> Result<Kind, AllocError>

@@ -11,7 +11,7 @@ use std::alloc::{AllocError, Global};
 fn name(alloc: Global, text: &str) -> Result<Name, AllocError>
     ensures { IfOk result (λ name. name ≡ text.now) }
 {
-    Ok(Name::new(text.as_bytes().to_vec(alloc)?))
+    Ok(Name::new(String::from_str(alloc, text)?))
 }
 
 fn level_names(alloc: Global) -> Result<Vec<Name>, AllocError>

@@ -1,4 +1,5 @@
 pub mod Document
+pub mod FaultTexts
 pub mod LatticeFile
 pub mod OneLattice
 pub mod Wrapped

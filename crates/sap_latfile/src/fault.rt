@@ -2,6 +2,8 @@
 
 use sap_lattice::LatFault;
 use std::alloc::AllocError;
+use std::error::Error;
+use std::fmt;
 
 /// Why a lattice file gives no lattice: the first rule that it breaks.
 #[derive(Debug, Drop)]
@@ -41,3 +43,21 @@ impl From<LatFault> for LatFileFault {
         }
     }
 }
+
+impl fmt::Display for LatFileFault {
+    ghost use Rattle.std.specs.Prelude.{Some};
+    ghost use Rattle.sap_latfile.specs.FaultTexts.{lattice_text};
+
+    ghost output = { λ fault. Some (lattice_text fault) };
+
+    fn fmt<W: fmt::Write>(&self, f: &mut fmt::Formatter<W>) -> fmt::Result {
+        match self {
+            LatFileFault::NotToml => f.write_str("L1"),
+            LatFileFault::Shape => f.write_str("L2"),
+            LatFileFault::Rule(fault) => write!(f, "{fault}"),
+            LatFileFault::Memory => f.write_str("memory"),
+        }
+    }
+}
+
+impl Error for LatFileFault {}

@@ -15,7 +15,7 @@ fn text_of(alloc: Global, value: &Value) -> Result<Option<Name>, AllocError>
     ensures { IfOk result (λ name. name ≡ as_str (view value.now)) }
 {
     match value.as_str() {
-        Some(text) => Ok(Some(Name::new(text.as_bytes().to_vec(alloc)?))),
+        Some(text) => Ok(Some(Name::new(String::from_str(alloc, text)?))),
         None => Ok(None),
     }
 }

@@ -2,6 +2,7 @@ pub mod Built
 pub mod Closure
 pub mod Codes
 pub mod Examples
+pub mod FaultTexts
 pub mod Finite
 pub mod Kept
 pub mod Lawful

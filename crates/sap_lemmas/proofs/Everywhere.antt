@@ -1,7 +1,7 @@
 -- What holds of every element of a list, or of one.
-use Rattle.std.proofs.Common.{Bool, List, None, Some, [], ap, arith, cond, false, filter, inl, inr, length, map, refl, true, ℕ, ◌++◌, ◌+◌, ◌∙◌, ◌∷◌, ◌≡◌}
+use Rattle.std.proofs.Common.{Bool, List, None, Some, [], ap, arith, cond, false, filter, inl, inr, length, map, refl, subst, suc, sym, take, true, ℕ, ◌++◌, ◌+◌, ◌∙◌, ◌∷◌, ◌≡◌}
 use Rattle.std.specs.List.{AllByRecursion, list_all, list_any, prefix_len}
-use Rattle.std.specs.Prelude.{find as first_such, slice_index, ◌||◌}
+use Rattle.std.specs.Prelude.{find as first_such, slice_index, ◌||◌, ◌&&◌}
 use Rattle.std.proofs.lemmas.Bool.{and_from, and_parts, cases_Bool}
 
 pub all_equal : {X : Type 0} (xs : List X) (f : X → ℕ) → AllByRecursion (λ x. f x ≡ f x) xs
@@ -69,3 +69,14 @@ prefix_run p (d ∷ ds) rest all stop =
 pub all_equal_at : {X : Type 0} (xs : List X) (f : X → ℕ → ℕ) → AllByRecursion (λ x. (i : ℕ) → f x i ≡ f x i) xs
 all_equal_at [] f = tt
 all_equal_at (x ∷ xs) f = (λ i. refl, all_equal_at xs f)
+
+-- what stands at the front of a list and passes a test
+pub run_passes : {X : Type 0} (p : X → Bool) (xs : List X) → list_all p (take (prefix_len p xs) xs) ≡ true
+run_passes p [] = refl
+run_passes p (x ∷ xs) = by_test (p x) refl (run_passes p xs) where
+  one_more : (n : ℕ) → suc n ≡ 1 + n
+  one_more n = omega arith
+
+  by_test : (b : Bool) → p x ≡ b → list_all p (take (prefix_len p xs) xs) ≡ true → list_all p (take (cond b (1 + prefix_len p xs) 0) (x ∷ xs)) ≡ true
+  by_test true h k = subst (λ m. list_all p (take m (x ∷ xs)) ≡ true) (one_more (prefix_len p xs)) (subst (λ b. (b && list_all p (take (prefix_len p xs) xs)) ≡ true) (sym h) k)
+  by_test false h k = refl

@@ -166,7 +166,7 @@ fn parts(
     requires shown { Indexes port_places.now (source_of source.now).ports }
     ensures { IfOk result (λ p. net_of p ≡ net_declared (source_of source.now) wires.items entries.now ports.now) }
 {
-    let module_name = Name::new(b"top".to_vec(alloc)?);
+    let module_name = Name::new(String::from_str(alloc, "top")?);
     let lists = lists_of(
         alloc,
         source,

@@ -1,6 +1,7 @@
 pub mod Entities
 pub mod Widths
 pub mod Fault
+pub mod FaultTexts
 pub mod Best
 pub mod NameFaults
 pub mod Examples

@@ -9,6 +9,8 @@ ghost use Rattle.sap_names.specs.NameFaults.{fault_if};
 use crate::kind::Code;
 use sap_tree::place::Place;
 use std::alloc::{AllocError, AllocFailed};
+use std::error::Error;
+use std::fmt;
 
 /// A code where it stands.
 #[derive(Clone, Copy)]
@@ -41,6 +43,25 @@ impl<T: Drop> From<AllocFailed<T>> for CheckFault {
         CheckFault::Memory
     }
 }
+
+impl fmt::Display for CheckFault {
+    ghost use Rattle.std.specs.Prelude.{Some};
+    ghost use Rattle.sap_names.specs.FaultTexts.{check_text};
+
+    ghost output = { λ fault. Some (check_text fault) };
+
+    fn fmt<W: fmt::Write>(&self, f: &mut fmt::Formatter<W>) -> fmt::Result {
+        match self {
+            CheckFault::Rule(code, place) => {
+                let number = code.number();
+                write!(f, "E{number} {place}")
+            }
+            CheckFault::Memory => f.write_str("memory"),
+        }
+    }
+}
+
+impl Error for CheckFault {}
 
 impl Code {
     /// The number of the code.

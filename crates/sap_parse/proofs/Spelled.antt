@@ -8,6 +8,7 @@ use Rattle.std.specs.Prelude.{slice_index, ◌||◌, ◌&&◌, ◌==◌, nat_lt}
 use Rattle.std.specs.Char.{is_ascii_digit}
 use Rattle.std.specs.List.{find, list_all, list_any, prefix_len}
 use Rattle.std.specs.Str.{byte, bytes_eq}
+use Rattle.sap_lemmas.proofs.Everywhere.{run_passes}
 use Rattle.sap_lemmas.proofs.Lists.{index_drop}
 use Rattle.sap_lemmas.proofs.Numbers.{equal_of_test}
 use Rattle.sap_lemmas.proofs.Texts.{equal_of_bytes_eq}
@@ -66,16 +67,6 @@ find_among p q (y ∷ ys) x h e = found_in q ys (find p ys) y x (p y) (q y) refl
 
 one_more : (n : ℕ) → suc n ≡ 1 + n
 one_more n = omega arith
-
-run_passes : (p : ℕ → Bool) (xs : List ℕ) → list_all p (take (prefix_len p xs) xs) ≡ true
-run_passes p [] = refl
-run_passes p (x ∷ xs) =
-    let pick : (b : Bool) → p x ≡ b → list_all p (take (cond b (1 + prefix_len p xs) 0) (x ∷ xs)) ≡ true
-    = λ b. elim b as (λ b. p x ≡ b → list_all p (take (cond b (1 + prefix_len p xs) 0) (x ∷ xs)) ≡ true) [
-      | true ↦ λ h. subst (λ m. list_all p (take m (x ∷ xs)) ≡ true) (one_more (prefix_len p xs)) (subst (λ b. (b && list_all p (take (prefix_len p xs) xs)) ≡ true) (sym h) (run_passes p xs))
-      | false ↦ λ h. refl
-    ] in
-    pick (p x) refl
 
 -- words and names
 

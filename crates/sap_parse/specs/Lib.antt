@@ -3,6 +3,7 @@ pub mod Lexemes
 pub mod Lexing
 pub mod Spelled
 pub mod Fault
+pub mod FaultTexts
 pub mod Grammar
 pub mod Limits
 pub mod Stages

@@ -3,6 +3,8 @@
 use crate::limit::Limit;
 use sap_tree::place::Place;
 use std::alloc::{AllocError, AllocFailed};
+use std::error::Error;
+use std::fmt;
 
 /// Why a text is not read.
 #[derive(Debug, Drop)]
@@ -37,3 +39,21 @@ impl From<AllocError> for ReadFault {
         ReadFault::Memory
     }
 }
+
+impl fmt::Display for ReadFault {
+    ghost use Rattle.std.specs.Prelude.{Some};
+    ghost use Rattle.sap_parse.specs.FaultTexts.{read_text};
+
+    ghost output = { λ fault. Some (read_text fault) };
+
+    fn fmt<W: fmt::Write>(&self, f: &mut fmt::Formatter<W>) -> fmt::Result {
+        match self {
+            ReadFault::E1(place) => write!(f, "E1 {place}"),
+            ReadFault::E2(place) => write!(f, "E2 {place}"),
+            ReadFault::E18(place, limit) => write!(f, "E18 {place} {limit}"),
+            ReadFault::Memory => f.write_str("memory"),
+        }
+    }
+}
+
+impl Error for ReadFault {}

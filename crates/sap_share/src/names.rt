@@ -12,5 +12,5 @@ pub fn helper_name(alloc: Global, k: u64) -> Result<Name, AllocError>
     ensures { IfOk result (λ n. n ≡ helper k) }
 {
     let text = format!(in alloc; "n{k}")?;
-    Ok(Name::new(text.into_bytes()))
+    Ok(Name::new(text))
 }

@@ -1,14 +1,16 @@
 -- The registers of a netlist, and those that rows show.
-use Rattle.std.proofs.Common.{◌≡◌, ℕ, zero, suc, ◌+◌, ◌<◌, ◌≤◌, List, [], ◌∷◌, ◌++◌, true, ◌||◌, ◌&&◌, Option, Some, None, length, get_or, take, map, sym, ap, ◌∙◌, subst, refl, arith, bytes_eq, inl, inr, ⊎_elim, lit<}
+use Rattle.std.proofs.Common.{Bool, ◌≡◌, ℕ, zero, suc, ◌+◌, ◌<◌, ◌≤◌, List, [], ◌∷◌, ◌++◌, true, false, cond, ◌||◌, ◌&&◌, Option, Some, None, length, get_or, take, map, sym, ap, ◌∙◌, subst, refl, arith, bytes_eq, inl, inr, ⊎_elim, lit<}
 use Rattle.std.specs.Prelude.{slice_index, ◌==◌, nat_le}
-use Rattle.std.specs.List.{AllByRecursion, list_all}
+use Rattle.std.specs.List.{All, AllByRecursion, list_all}
 use Rattle.std.specs.Char.{is_ascii_alphabetic, is_ascii_alphanumeric}
 use Rattle.std.specs.Int.{is_in_range}
 use Rattle.std.specs.Str.{IsAscii, IsUtf8}
 use Rattle.std.proofs.lemmas.Bool.{cases_Bool, false≢true, leb-true, or_cases}
 use Rattle.std.proofs.lemmas.Bool.Decides.{Decides-eqb}
+use Rattle.std.proofs.lemmas.Option.{same_Some}
 use Rattle.std.proofs.lemmas.Str.{IsUtf8-from_ascii}
 use Rattle.sap_lemmas.proofs.Bools.{and_left, and_right}
+use Rattle.sap_lemmas.proofs.Everywhere.{all_filter, all_of_map, map_of_all}
 use Rattle.sap_lemmas.proofs.Texts.{equal_of_bytes_eq}
 use Rattle.std.proofs.lemmas.List.{append-nil}
 use Rattle.sap_net.proofs.NamesLemmas.{among_behind, among_front, among_here}
@@ -22,9 +24,10 @@ use Rattle.sap_net.specs.Net.{Net}
 use Rattle.sap_net.specs.Names.{is_among, is_name, is_word, is_initial, is_inner}
 use Rattle.sap_net.specs.IsNetlist.{IsNetlist, readable, register_names, input_names, wire_names, memory_names, PortShows}
 use Rattle.sap_cycle.proofs.Distinct.{registers_readable}
+use Rattle.sap_cycle.proofs.Learned.{all_get_or}
 use Rattle.sap_sim.specs.Ports.{value_of, behind}
 use Rattle.sap_interface.specs.PortNames.{value_name, tag_name}
-use Rattle.sap_sim.specs.Shown.{register_ports, has_tag, shown_by, shown_among}
+use Rattle.sap_sim.specs.Shown.{is_register, register_ports, has_tag, shown_by, shown_among}
 use Rattle.sap_sim.proofs.Lists.{taken}
 
 -- what holds of each name of a list holds of one that is among them
@@ -111,6 +114,32 @@ name_utf8 x h = IsUtf8-from_ascii x (word_ascii x (and_left (is_word x) _ h))
 
 pub register_utf8 : (n : Net) → IsNetlist n → (x : Name) → is_among x (register_names n) ≡ true → IsUtf8 x
 register_utf8 n net x h = name_utf8 x (among_all (λ (y : Name). is_name y ≡ true) n.names x net.named (register_declared n net x h))
+
+-- names of ports have letters, digits and `_` alone
+
+all_take : {A : Type 0} (P : A → Type 0) (n : ℕ) (xs : List A) → AllByRecursion P xs → AllByRecursion P (take n xs)
+all_take P zero xs a = tt
+all_take P (suc n) [] a = tt
+all_take P (suc n) (x ∷ xs) a = (a.0, all_take P n xs a.1)
+
+pub ports_named : (n : Net) → IsNetlist n → All (λ (x : Name). is_name x ≡ true) (register_ports n.ports)
+ports_named n net =
+    let P : Name → Type 0 = λ x. is_name x ≡ true in
+    let ports : AllByRecursion P (map (λ (p : Port). p.name) n.ports) = subst (λ (xs : List Name). AllByRecursion P xs) (sym net.ports_first) (all_take P (length n.ports) n.names net.named) in
+    λ k d h. all_get_or P (register_ports n.ports) k d (map_of_all P (λ (p : Port). p.name) _ (all_filter (λ (p : Port). P p.name) (λ (p : Port). is_register p.kind) n.ports (all_of_map P (λ (p : Port). p.name) n.ports ports))) h
+
+pub behind_inner : (letter : ℕ) (n x : Name) → behind letter n ≡ Some x → is_name n ≡ true → list_all is_inner x ≡ true
+unfolding is_name
+behind_inner letter [] x e h = absurd (cc)
+behind_inner letter (a ∷ []) x e h = absurd (cc)
+behind_inner letter (a ∷ (b ∷ [])) x e h = absurd (cc)
+behind_inner letter (a ∷ (b ∷ (c ∷ y))) x e h = by_test (a == letter && b == 95) e where
+  rest : list_all is_inner (c ∷ y) ≡ true
+  rest = and_right (is_inner b) (list_all is_inner (c ∷ y)) (and_right (is_initial a) (list_all is_inner (b ∷ (c ∷ y))) (and_left (is_word (a ∷ (b ∷ (c ∷ y)))) _ h))
+
+  by_test : (t : Bool) → cond t (Some (c ∷ y)) None ≡ Some x → list_all is_inner x ≡ true
+  by_test true f = subst (λ (z : Name). list_all is_inner z ≡ true) (same_Some (c ∷ y) x f) rest
+  by_test false f = absurd (cc)
 
 -- what rows show
 

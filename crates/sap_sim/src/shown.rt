@@ -3,7 +3,7 @@
 ghost use Rattle.std.specs.Prelude.{◌≡◌, true, ◌∷◌, ◌++◌, List, All, map, IfOk, OnOk};
 ghost use Rattle.sap_maps.specs.Maps.{Name as Text};
 ghost use Rattle.sap_maps.specs.Scope.{Scope, find};
-ghost use Rattle.sap_net.specs.Names.{is_among};
+ghost use Rattle.sap_net.specs.Names.{is_among, is_name};
 ghost use Rattle.sap_net.specs.IsNetlist.{register_names};
 ghost use Rattle.sap_net.specs.Net.{Net};
 ghost use Rattle.sap_cycle.specs.Running.{IsPlaceOf};
@@ -73,6 +73,7 @@ fn push_shown(
     tag: u32,
     name: &Name,
 ) -> Result<(), AllocError>
+    requires { is_name name.now ≡ true }
     ensures { OnOk result ((n : Net) → Finds ports.now (places_from 0 (register_ports n.ports)) → Finds widths.now (register_widths n.registers)
         → xs.new.items ≡ xs.old.items ++ shown_by tag n (value_of name.now)) }
 {
@@ -82,7 +83,7 @@ fn push_shown(
     if !has_tag(alloc, ports, widths, tag, x)? {
         return Ok(());
     }
-    let label = Label::new(x.to_vec(alloc)?);
+    let label = Label::spelled(alloc, x)?;
     xs.push(label)?;
     Ok(())
 }
@@ -95,6 +96,7 @@ fn shown_among(
     tag: u32,
     names: &[Name],
 ) -> Result<Vec<Label>, AllocError>
+    requires { All (λ x. is_name x ≡ true) names.now }
     ensures { IfOk result (λ xs. (n : Net) → Finds ports.now (places_from 0 (register_ports n.ports)) → Finds widths.now (register_widths n.registers)
         → xs.items ≡ shown_among tag n names.now) }
 {
@@ -148,6 +150,7 @@ fn shown_labels(
     requires { registers.now ≡ register_ports netlist.now.ports }
     ensures { IfOk result (λ xs. xs.items ≡ shown_among tag netlist.now (register_ports netlist.now.ports)) }
 {
+    netlist.rules();
     let ports = places(alloc, registers)?;
     let widths = register_widths(alloc, netlist.registers())?;
     shown_among(alloc, &ports, &widths, tag, registers)

@@ -1,4 +1,5 @@
 pub mod Code
+pub mod FaultTexts
 pub mod Line
 pub mod Stimulus
 pub mod Fits

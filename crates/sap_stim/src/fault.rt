@@ -3,6 +3,9 @@
 ghost use Rattle.std.specs.Prelude.{◌≡◌};
 ghost use Rattle.sap_stim.specs.Code.{number};
 
+use std::error::Error;
+use std::fmt;
+
 /// Why a line is refused.
 #[derive(Clone, Copy, Debug, PartialEq, Eq)]
 pub enum StimCode {
@@ -42,3 +45,17 @@ impl StimCode {
         }
     }
 }
+
+impl fmt::Display for StimFault {
+    ghost use Rattle.std.specs.Prelude.{Some};
+    ghost use Rattle.sap_stim.specs.FaultTexts.{stimulus_text};
+
+    ghost output = { λ fault. Some (stimulus_text fault) };
+
+    fn fmt<W: fmt::Write>(&self, f: &mut fmt::Formatter<W>) -> fmt::Result {
+        let (line, number) = (self.line, self.code.number());
+        write!(f, "S{number} line {line}")
+    }
+}
+
+impl Error for StimFault {}

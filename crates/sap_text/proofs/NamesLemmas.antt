@@ -2,6 +2,9 @@
 use Rattle.std.proofs.Common.{List, [], arith, refl, true, ℕ, ◌∷◌, ◌≡◌}
 use Rattle.std.specs.Char.{is_ascii_digit}
 use Rattle.std.specs.List.{list_all}
+use Rattle.std.specs.Prelude.{◌<◌, slice_index, zero, suc}
+use Rattle.std.specs.Str.{IsUtf8}
+use Rattle.std.proofs.lemmas.Str.{IsUtf8-from_ascii}
 use Rattle.std.proofs.lemmas.Bool.{and_from, and_parts}
 use Rattle.std.proofs.lemmas.Bool.Decides.{nat_tests}
 use Rattle.sap_text.specs.Names.{is_initial, is_inner}
@@ -17,3 +20,15 @@ digits_inner [] h = refl
 digits_inner (d ∷ ds) h =
     let p = and_parts (is_ascii_digit d) (list_all is_ascii_digit ds) h in
     and_from (is_inner d) (list_all is_inner ds) (digit_inner d p.0) (digits_inner ds p.1)
+
+inner_ascii : (c : ℕ) → is_inner c ≡ true → c < 128
+inner_ascii c h = grind (arith, nat_tests)
+
+all_ascii : (cs : List ℕ) → list_all is_inner cs ≡ true → (i : ℕ) → slice_index cs i < 128
+all_ascii [] h i = grind (arith)
+all_ascii (c ∷ cs) h zero = inner_ascii c (and_parts (is_inner c) (list_all is_inner cs) h).0
+all_ascii (c ∷ cs) h (suc i) = all_ascii cs (and_parts (is_inner c) (list_all is_inner cs) h).1 i
+
+-- a word is a text
+pub inner_text : (cs : List ℕ) → list_all is_inner cs ≡ true → IsUtf8 cs
+inner_text cs h = IsUtf8-from_ascii cs (all_ascii cs h)

@@ -121,8 +121,8 @@ fn name(alloc: Global, bytes: &[u8]) -> Result<Lexeme, AllocError>
     match word(text) {
         Some(word) => Ok(Lexeme::Token(Kind::Word(word), n)),
         None => {
-            let copy = text.to_vec(alloc)?;
-            Ok(Lexeme::Token(Kind::Name(Name::new(copy)), n))
+            let name = Name::spelled(alloc, text)?;
+            Ok(Lexeme::Token(Kind::Name(name), n))
         }
     }
 }

@@ -1,4 +1,5 @@
 pub mod Codes
+pub mod FaultTexts
 pub mod ModuleFault
 pub mod Build
 pub use Rattle.sap_modtext.specs.Faults

@@ -7,6 +7,8 @@ ghost use Rattle.sap_vread.specs.declared.fault.ModFault.TheVariants.{Memory};
 use crate::place::Place;
 use sap_vjudge::code::Code;
 use std::alloc::AllocError;
+use std::error::Error;
+use std::fmt;
 
 /// The code of a module fault.
 #[derive(Clone, Copy, Debug)]
@@ -73,3 +75,22 @@ impl From<AllocError> for ModFault {
         ModFault::Memory
     }
 }
+
+impl fmt::Display for ModFault {
+    ghost use Rattle.std.specs.Prelude.{Some};
+    ghost use Rattle.sap_vread.specs.FaultTexts.{module_text};
+
+    ghost output = { λ fault. Some (module_text fault) };
+
+    fn fmt<W: fmt::Write>(&self, f: &mut fmt::Formatter<W>) -> fmt::Result {
+        match self {
+            ModFault::Rule(code, place) => {
+                let number = code.number();
+                write!(f, "V{number} {place}")
+            }
+            ModFault::Memory => f.write_str("memory"),
+        }
+    }
+}
+
+impl Error for ModFault {}

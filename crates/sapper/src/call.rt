@@ -17,7 +17,6 @@ use sap_commands::perform;
 use sap_desk::{Desk, write_line};
 use sap_files::failure::Failure;
 use sap_files::refusal::Refusal;
-use sap_files::refusal_text;
 use sap_stim::StimFault;
 use sap_stim::digits::Digits;
 use sap_words::command_of;
@@ -59,9 +58,9 @@ fn report_refusal<D: Desk>(alloc: Global, desk: &mut D, why: &Refusal<'_>) -> u8
             tell_stimulus(desk, *place, fault);
             4
         }
-        _ => match refusal_text(alloc, why) {
+        _ => match format!(in alloc; "{why}") {
             Ok(text) => {
-                tell(desk, b"", text.as_slice());
+                tell(desk, b"", text.as_bytes());
                 why.status()
             }
             Err(_) => {

@@ -22,14 +22,13 @@ pub fn width(count: usize) -> u32
 pub fn of_state(alloc: Global, state: &Name) -> Result<Name, AllocError>
     ensures { IfOk result (λ n. n ≡ seat_name state.now) }
 {
-    let mut bytes = b"s_".to_vec(alloc)?;
-    bytes.extend_from_slice(state.as_bytes())?;
-    Ok(Name::new(bytes))
+    let text = format!(in alloc; "s_{state}")?;
+    Ok(Name::new(text))
 }
 
 /// The register of the current top-level state.
 pub fn of_root(alloc: Global) -> Result<Name, AllocError>
     ensures { IfOk result (λ n. n ≡ root_seat) }
 {
-    Ok(Name::new(b"s_0".to_vec(alloc)?))
+    Ok(Name::new(String::from_str(alloc, "s_0")?))
 }

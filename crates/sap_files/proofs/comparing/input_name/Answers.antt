@@ -9,13 +9,13 @@ use Rattle.sap_files.proofs.comparing.input_name.Goals.{then-is_input+else-left-
 
 pub returns-then-left-eq0 : goal.returns-then-left-eq0
 returns-then-left-eq0 c =
-    IfOk-weaker c.copied.result (λ name. name ≡ c.entity-entity.result.now.name.name) (λ name. name ≡ input_name (tree_in c.args.checked.now) c.args.place)
+    IfOk-weaker c.copy.result (λ name. name ≡ c.entity-entity.result.now.name.name) (λ name. name ≡ input_name (tree_in c.args.checked.now) c.args.place)
     (λ name is.
     is
     ∙ sym (input_here c.names-names.result.now c.loop-number.number c.entity-entity.result.now c.entity-entity.ensures c.loop-number.left (sym c.if-is_input.ensures) c.if-left-eq0.true)
     ∙ c.loop-number.invariant
     ∙ ap (λ (es : List Entity). get_or (input_names es) c.args.place []) c.names-names.ensures)
-    c.copied.ensures
+    c.copy.ensures
 
 pub loop-number-preserved : goal.loop-number-preserved
 loop-number-preserved c = elim c.if-is_input.branch [

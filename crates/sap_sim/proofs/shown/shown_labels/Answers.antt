@@ -1,10 +1,17 @@
-use Rattle.std.proofs.Common.{List, ap, ◌∙◌, subst}
+use Rattle.std.proofs.Common.{◌≡◌, List, ap, ◌∙◌, subst, sym, true}
 use Rattle.std.proofs.lemmas.Result.{IfOk-weaker}
 use Rattle.sap_maps.specs.Maps.{Name}
 use Rattle.sap_net.specs.declared.parts.Register.{Register}
 use Rattle.sap_sim.specs.Shown.{shown_among, register_ports, register_widths}
 use Rattle.sap_sim.specs.Lookup.{Finds, places_from}
+use Rattle.sap_net.specs.Names.{is_name}
+use Rattle.std.specs.List.{All}
+use Rattle.sap_sim.proofs.Registers.{ports_named}
 use Rattle.sap_sim.proofs.shown.shown_labels.Goals as goal
+
+pub shown_among-requires : goal.shown_among-requires
+shown_among-requires c =
+    subst (λ (ns : List Name). All (λ (x : Name). is_name x ≡ true) ns) (sym c.requires) (ports_named c.args.netlist.now c.rules.ensures)
 
 pub returns : goal.returns
 returns c =

@@ -10,4 +10,4 @@ returns-in-Stimulus g c =
 
 pub returns-in-Ok : goal.returns-in-Ok
 returns-in-Ok g c =
-    told_as (refused (reason c.args.why.now)) _ _ _ _ c.status.ensures (ap line (c.as_slice.ensures.value ∙ c.in-Ok.ensures)) c.tell.ensures
+    told_as (refused (reason c.args.why.now)) _ _ _ _ c.status.ensures (ap line (c.as_bytes.ensures.value ∙ c.in-Ok.ensures.ok)) c.tell.ensures
