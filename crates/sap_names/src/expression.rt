@@ -9,9 +9,11 @@ ghost use Rattle.sap_tree.specs.Trees.{expression_of, expressions_of};
 
 use crate::entities::Entities;
 use crate::fault::{Fault, note};
-use crate::kind::{Code, Family, Use};
+use crate::kind::{Code, Use};
 use crate::usage::note_use;
-use crate::width::{else_of, family, index_width, is_reduction, own, sound_width};
+use crate::width::{
+    asked_left, asked_one, asked_right, else_of, family, index_width, own, sound_width,
+};
 use sap_tree::syntax::{Expr, UnaryOperator};
 
 fn unsettled(own: Option<u64>, asked: Option<u64>) -> bool
@@ -43,51 +45,6 @@ fn holds_no(width: u64, value: u64) -> bool
     } else {
         false
     }
-}
-
-fn asked_count(count: Option<u64>) -> Option<u64>
-    ensures { result ≡ widths.asked_count count }
-{
-    match count {
-        Some(_) => None,
-        None => Some(64),
-    }
-}
-
-fn asked_left(
-    family: Family,
-    whole: Option<u64>,
-    left: Option<u64>,
-    right: Option<u64>,
-) -> Option<u64>
-    ensures { result ≡ widths.asked_left family whole left right }
-{
-    match family {
-        Family::Arithmetic => whole,
-        Family::Shift => whole,
-        Family::Comparison => else_of(left, right),
-    }
-}
-
-fn asked_right(
-    family: Family,
-    whole: Option<u64>,
-    left: Option<u64>,
-    right: Option<u64>,
-) -> Option<u64>
-    ensures { result ≡ widths.asked_right family whole left right }
-{
-    match family {
-        Family::Arithmetic => whole,
-        Family::Shift => asked_count(right),
-        Family::Comparison => else_of(left, right),
-    }
-}
-
-fn asked_one(operator: UnaryOperator, whole: Option<u64>) -> Option<u64>
-    ensures { result ≡ widths.asked_one operator whole }
-{
-    if is_reduction(operator) { None } else { whole }
 }
 
 // There is no own width, though all operands have one.

@@ -18,4 +18,4 @@ pub mod kind;
 mod level;
 pub mod table;
 mod usage;
-mod width;
+pub mod width;

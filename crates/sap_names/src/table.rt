@@ -8,16 +8,20 @@ ghost use Rattle.sap_names.specs.NameFaults.{design_name_faults};
 ghost use Rattle.sap_names.specs.declared.kind.Code.{Code};
 ghost use Rattle.sap_names.specs.declared.fault.CheckFault.TheVariants.{Rule};
 ghost use Rattle.sap_text.specs.declared.place.Place.{Place};
+ghost use Rattle.sap_names.specs.Widths.{own};
 ghost use Rattle.sap_tree.specs.Designs.{design_of};
+ghost use Rattle.sap_tree.specs.Trees.{expression_of};
 
 use crate::design::first_fault;
 use crate::entities::Entities;
 use crate::entity::Entity;
 use crate::fault::CheckFault;
 use crate::kind::{Declared, EntityKind};
+use crate::width::own;
 use sap_lattice::lattice::Lattice;
 use sap_tree::design::Design;
 use sap_tree::name::Name;
+use sap_tree::syntax::Expr;
 use sap_tree::whole::design_is_whole;
 use std::alloc::Global;
 use std::marker::Model;
@@ -123,6 +127,13 @@ impl Names {
         ensures { result ≡ what_is self.now name.now }
     {
         self.entities.look(name)
+    }
+
+    /// The own width of an expression.
+    pub fn own_width(&self, e: &Expr) -> Option<u64>
+        ensures { result ≡ own (what_is self.now) (expression_of e.now) }
+    {
+        own(&self.entities, e)
     }
 
     /// Whether a name stands for a dynamic entity.

@@ -1,4 +1,4 @@
-//! Widths of expressions.
+//! Widths of expressions, and the widths that operators ask of their operands.
 
 ghost use Rattle.std.specs.Prelude.{◌≡◌, Some, if◌then◌else◌};
 ghost use Rattle.sap_names.specs.Widths as spec;
@@ -196,6 +196,51 @@ fn own_unary(operator: UnaryOperator, width: Option<u64>) -> Option<u64>
     } else {
         width
     }
+}
+
+fn asked_count(count: Option<u64>) -> Option<u64>
+    ensures { result ≡ spec.asked_count count }
+{
+    match count {
+        Some(_) => None,
+        None => Some(64),
+    }
+}
+
+pub fn asked_left(
+    family: Family,
+    whole: Option<u64>,
+    left: Option<u64>,
+    right: Option<u64>,
+) -> Option<u64>
+    ensures { result ≡ spec.asked_left family whole left right }
+{
+    match family {
+        Family::Arithmetic => whole,
+        Family::Shift => whole,
+        Family::Comparison => else_of(left, right),
+    }
+}
+
+pub fn asked_right(
+    family: Family,
+    whole: Option<u64>,
+    left: Option<u64>,
+    right: Option<u64>,
+) -> Option<u64>
+    ensures { result ≡ spec.asked_right family whole left right }
+{
+    match family {
+        Family::Arithmetic => whole,
+        Family::Shift => asked_count(right),
+        Family::Comparison => else_of(left, right),
+    }
+}
+
+pub fn asked_one(operator: UnaryOperator, whole: Option<u64>) -> Option<u64>
+    ensures { result ≡ spec.asked_one operator whole }
+{
+    if is_reduction(operator) { None } else { whole }
 }
 
 /// The own width of an expression.

@@ -13,7 +13,6 @@ pub use Rattle.sap_meaning.specs.Cycle
 pub use Rattle.sap_meaning.specs.Fine
 pub use Rattle.sap_meaning.specs.Sized
 pub use Rattle.sap_meaning.specs.State
-pub use Rattle.sap_names.specs.Entities
 pub use Rattle.sap_program.specs.Design
 pub use Rattle.sap_program.specs.Views
 pub use Rattle.sap_tree.specs.Trees

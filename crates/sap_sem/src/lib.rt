@@ -20,5 +20,4 @@ mod step;
 mod steps;
 mod tags;
 mod turn;
-mod widths;
 mod world;

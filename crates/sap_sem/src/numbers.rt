@@ -7,9 +7,9 @@ ghost use Rattle.sap_program.specs.Views.{term_of};
 ghost use Rattle.sap_tree.specs.Trees.{expression_of, expressions_of};
 
 use crate::names::entity_number;
-use crate::widths::{asked_left, asked_one, asked_right, else_of, family, index_width, own};
 use sap_bits::{Op1, Op2};
 use sap_names::table::Names;
+use sap_names::width::{asked_left, asked_one, asked_right, else_of, family, index_width};
 use sap_program::program::Number;
 use sap_tree::syntax::{BinaryOperator, Expr, UnaryOperator};
 use std::alloc::{AllocError, Global};
@@ -94,21 +94,21 @@ pub fn number(
             Number::cell(alloc, entity_number(names, name), at)
         }
         Expr::Unary(_, operator, operand) => {
-            let whole = else_of(own(names, e), asked);
+            let whole = else_of(names.own_width(e), asked);
             let a = number(alloc, names, operand, asked_one(*operator, whole))?;
             Number::one(alloc, one_of(*operator), a)
         }
         Expr::Binary(_, operator, left, right) => {
-            let whole = else_of(own(names, e), asked);
-            let one = own(names, left);
-            let other = own(names, right);
+            let whole = else_of(names.own_width(e), asked);
+            let one = names.own_width(left);
+            let other = names.own_width(right);
             let kind = family(*operator);
             let a = number(alloc, names, left, asked_left(kind, whole, one, other))?;
             let b = number(alloc, names, right, asked_right(kind, whole, one, other))?;
             Number::two(alloc, two_of(*operator), a, b)
         }
         Expr::Choose(_, condition, one, other) => {
-            let whole = else_of(own(names, e), asked);
+            let whole = else_of(names.own_width(e), asked);
             let test = number(alloc, names, condition, Some(1))?;
             let yes = number(alloc, names, one, whole)?;
             let no = number(alloc, names, other, whole)?;
@@ -121,7 +121,7 @@ pub fn number(
         Expr::Concat(_, parts) => joined(alloc, names, parts),
         Expr::Zext(_, operand, width) => {
             let inner = number(alloc, names, operand, None)?;
-            widened(alloc, known(own(names, operand)), *width, inner)
+            widened(alloc, known(names.own_width(operand)), *width, inner)
         }
     }
 }

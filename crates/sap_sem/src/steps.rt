@@ -15,7 +15,7 @@ use crate::numbers::number;
 use crate::rows::row;
 use crate::seat::Seat;
 use crate::tags::tag;
-use crate::widths::{cell_width, index_width, register_width};
+use sap_names::width::{cell_width, index_width, register_width};
 use sap_program::program::Step;
 use sap_shape::sites::is_site;
 use sap_tree::name::Mention;
