@@ -222,8 +222,8 @@ impl<'a> Cursor<'a> {
         self.peek() == Ahead::Nothing
     }
 
-    /// Takes this sign, and gives its place.
-    pub fn sign(&mut self, sign: Sign) -> Result<u64, Fault>
+    /// Takes this sign.
+    pub fn sign(&mut self, sign: Sign) -> Result<(), Fault>
         ensures goes { Goes (s.sign (sign_of sign)) self.old result self.new }
         ensures tree { IfOk result (λ _. IsSign self.old (sign_of sign) self.new) }
         ensures shorter { IfOk result (λ _. length self.new < length self.old) }
@@ -231,7 +231,8 @@ impl<'a> Cursor<'a> {
         if !self.at_sign(sign) {
             return Err(Fault::Token);
         }
-        Ok(self.pass())
+        self.pass();
+        Ok(())
     }
 
     /// Takes this word, and gives its place.
@@ -262,8 +263,8 @@ impl<'a> Cursor<'a> {
         }
     }
 
-    /// Takes this number, written with one digit, and gives its place.
-    pub fn digit(&mut self, digit: u64) -> Result<u64, Fault>
+    /// Takes this number, written with one digit.
+    pub fn digit(&mut self, digit: u64) -> Result<(), Fault>
         ensures goes { Goes (s.digit digit) self.old result self.new }
         ensures tree { IfOk result (λ _. IsDigit self.old digit self.new) }
         ensures shorter { IfOk result (λ _. length self.new < length self.old) }
@@ -271,7 +272,8 @@ impl<'a> Cursor<'a> {
         match self.front_number() {
             Some((value, digits)) => {
                 if value == digit && digits == 1 {
-                    Ok(self.pass())
+                    self.pass();
+                    Ok(())
                 } else {
                     Err(Fault::Token)
                 }

@@ -35,8 +35,8 @@ fn joined(first: Operand, behind: Behind) -> Right
     }
 }
 
-/// The sign of a binary operator; gives its place.
-fn binary(tokens: &mut Cursor<'_>, op: Op2) -> Result<u64, Fault>
+/// The sign of a binary operator.
+fn binary(tokens: &mut Cursor<'_>, op: Op2) -> Result<(), Fault>
     ensures goes { Goes (s.sign (g.binary_sign op)) tokens.old result tokens.new }
     ensures tree { IfOk result (λ _. g.IsSign tokens.old (g.binary_sign op) tokens.new) }
     ensures shorter { IfOk result (λ _. length tokens.new < length tokens.old) }
@@ -157,8 +157,8 @@ fn from_constant(alloc: Global, tokens: &mut Cursor<'_>) -> Result<Right, Fault>
     Ok(joined(Operand::Constant(constant), behind))
 }
 
-/// The sign of a unary operator; gives its place.
-fn unary(tokens: &mut Cursor<'_>, op: Op1) -> Result<u64, Fault>
+/// The sign of a unary operator.
+fn unary(tokens: &mut Cursor<'_>, op: Op1) -> Result<(), Fault>
     ensures goes { Goes (s.sign (g.unary_sign op)) tokens.old result tokens.new }
     ensures tree { IfOk result (λ _. g.IsSign tokens.old (g.unary_sign op) tokens.new) }
     ensures shorter { IfOk result (λ _. length tokens.new < length tokens.old) }
@@ -178,9 +178,9 @@ fn one(alloc: Global, tokens: &mut Cursor<'_>, op: Op1) -> Result<Right, Fault>
     Ok(Right::One(op, Box::into_inner(operand)))
 }
 
-/// Adds the operands that come next, and takes `}`; gives its place.
+/// Adds the operands that come next, and takes `}`.
 #[tactic(auto, using(crate::proofs::Walks::part_list))]
-fn parts(alloc: Global, tokens: &mut Cursor<'_>, list: &mut Vec<Operand>) -> Result<u64, Fault>
+fn parts(alloc: Global, tokens: &mut Cursor<'_>, list: &mut Vec<Operand>) -> Result<(), Fault>
     ensures goes { Goes s.parts tokens.old result tokens.new }
     ensures tree { IfOk result (λ _. PartsEnd tokens.old list.old.items list.new.items tokens.new) }
     ensures shorter { IfOk result (λ _. length tokens.new < length tokens.old) }

@@ -126,14 +126,17 @@ pub const PORTS: [Fixed; 3] = [
     Fixed::Word(Word::Clk),
 ];
 
-/// Takes this token, and gives its place.
-fn take(tokens: &mut Cursor<'_>, token: Fixed) -> Result<u64, Fault>
+/// Takes this token.
+fn take(tokens: &mut Cursor<'_>, token: Fixed) -> Result<(), Fault>
     ensures goes { Goes (symbol_of token) tokens.old result tokens.new }
     ensures tree { IfOk result (λ _. IsFixed tokens.old token tokens.new) }
     ensures shorter { IfOk result (λ _. length tokens.new < length tokens.old) }
 {
     match token {
-        Fixed::Word(word) => tokens.word(word),
+        Fixed::Word(word) => {
+            tokens.word(word)?;
+            Ok(())
+        }
         Fixed::Sign(sign) => tokens.sign(sign),
         Fixed::Digit(digit) => tokens.digit(digit),
     }
