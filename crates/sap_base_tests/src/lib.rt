@@ -1,10 +1,8 @@
-//! What no command shows, by example: desks, rows in a buffer, the layout of modules, machines and machines in pairs.
+//! What no command shows, by example: desks, rows in a buffer, the layout of modules, what a runner answers.
 #![tactic(auto)]
 
 #[cfg(test)]
 mod desks;
-#[cfg(test)]
-mod machines;
 #[cfg(test)]
 mod modules;
 #[cfg(test)]

@@ -1,12 +1,13 @@
 //! The text of a row, and rows in a buffer.
 
-use crate::machines::TWO;
 use sap_desk::RowBuf;
 use sap_latfile::read_lattice;
 use sap_lattice::lattice::Lattice;
 use sap_lattice::name::Name;
 use sap_stim::{row, row_into, row_room};
 use std::alloc::{AllocError, Global};
+
+const TWO: &str = "levels = [\"low\", \"high\"]\nbelow = [[\"low\", \"high\"]]\n";
 
 fn name(alloc: Global, text: &str) -> Result<Name, AllocError> {
     Ok(Name::new(String::from_str(alloc, text)?))
