@@ -1,5 +1,6 @@
 -- What the type of flat lists of assignments keeps.
 use Rattle.std.specs.Prelude.{◌≡◌, ℕ, ◌+◌, ◌-◌, ◌^◌, ◌<◌, ◌≤◌, ◌==◌, ◌&&◌, Bool, true, false, List, ◌∷◌, ◌++◌, map, Some}
+use Rattle.std.specs.Str.{byte}
 use Rattle.std.specs.Char.{is_ascii_digit}
 use Rattle.std.specs.List.{AllByRecursion, list_all}
 use Rattle.sap_bits.specs.Arithmetic.{width1, width2}
@@ -50,7 +51,7 @@ declared s = variable_names s.inputs ++ (variable_names s.registers ++ (variable
 
 -- an `n` and digits, which are the names of the wires that a netlist adds
 abbrev pub is_helping : Name → Bool
-is_helping (c ∷ d ∷ ds) = c == 110 && list_all is_ascii_digit (d ∷ ds)
+is_helping (c ∷ d ∷ ds) = c == byte "n" && list_all is_ascii_digit (d ∷ ds)
 is_helping _ = false
 
 -- inputs and wires begin at 0

@@ -2,7 +2,7 @@
 use Rattle.std.specs.Prelude.{◌≡◌, ℕ, ◌+◌, ◌^◌, List, [], ◌∷◌, length, drop, Bool, not, ◌&&◌, ◌==◌, nat_eq, nat_lt, if◌then◌else◌, Option, Some, None, codes, find, slice_index, take_while}
 use Rattle.std.specs.List.{prefix_len, starts_with}
 use Rattle.std.specs.Char.{is_ascii_digit}
-use Rattle.std.specs.Str.{bytes_eq}
+use Rattle.std.specs.Str.{byte, bytes_eq}
 use Rattle.std.specs.Str.Parse.{digits_value}
 pub use Rattle.sap_text.specs.Blanks.{is_blank, is_in_line}
 use Rattle.sap_net.specs.Names.{is_initial, is_inner}
@@ -103,7 +103,7 @@ digits_of_front bs = take_while is_ascii_digit bs
 
 -- digits that don't begin with 0 are a constant's width where `'d` and a digit follow
 abbrev pub is_constant : List ℕ → List ℕ → Bool
-is_constant digits after = not (slice_index digits 0 == 48) && (starts_with nat_eq after (codes "'d") && is_ascii_digit (slice_index after 2))
+is_constant digits after = not (slice_index digits 0 == byte "0") && (starts_with nat_eq after (codes "'d") && is_ascii_digit (slice_index after 2))
 
 abbrev pub digits_front : List ℕ → List ℕ → Front
 digits_front digits after = if is_constant digits after then constant_front digits (digits_of_front (drop 2 after)) else number_front digits

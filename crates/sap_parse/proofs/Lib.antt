@@ -1,4 +1,3 @@
-pub mod Runs
 pub mod Places
 pub mod Spelling
 pub mod Spelled

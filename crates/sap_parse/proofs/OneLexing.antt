@@ -6,13 +6,15 @@ use Rattle.std.specs.Prelude.{slice_index, ◌==◌}
 use Rattle.std.specs.Char.{is_ascii_digit}
 use Rattle.std.specs.Str.{byte}
 use Rattle.sap_tree.specs.Words.{is_initial}
-use Rattle.sap_parse.specs.Lexemes.{run, is_blank, is_comment, lexeme_of, name_at, number_at, number_lexeme, sized_at, sized_in, sized_lexeme, sign_at, sign_or, word_or_name}
+use Rattle.sap_parse.specs.Lexemes.{lexeme_of, name_at, number_at, number_lexeme, sized_at, sized_in, sized_lexeme, sign_at, sign_or, word_or_name}
 use Rattle.sap_parse.specs.Lexing.{AreTokens, IsBadAt, IsBlankAt, StandsAt, keyed}
 use Rattle.sap_text.specs.Places.{place_at}
 use Rattle.sap_tree.specs.declared.version.Version.TheVariants as v
 use Rattle.sap_parse.specs.Spelling.{sign_of}
-use Rattle.sap_parse.specs.declared.lexeme.Class.TheVariants as c
-use Rattle.sap_parse.specs.declared.lexeme.Class.{Class}
+use Rattle.sap_text.specs.Blanks.{is_blank, is_comment}
+use Rattle.sap_text.specs.Runs.{run}
+use Rattle.sap_text.specs.declared.scan.Class.TheVariants as c
+use Rattle.sap_text.specs.declared.scan.Class.{Class}
 use Rattle.sap_parse.specs.declared.lexeme.Lexeme.TheVariants.{Blank, Token, Bad}
 use Rattle.sap_parse.specs.declared.lexeme.Lexeme.{Lexeme}
 use Rattle.sap_parse.specs.declared.token.Kind.{Kind}

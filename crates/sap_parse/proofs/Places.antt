@@ -1,21 +1,12 @@
 -- Places behind bytes.
-use Rattle.std.proofs.Common.{◌≡◌, ◌<◌, ◌≤◌, ◌+◌, ℕ, List, [], ◌∷◌, ◌++◌, length, take, drop, get_or, refl, ap, sym, ◌∙◌}
+use Rattle.std.proofs.Common.{◌≡◌, ◌+◌, ℕ, List, [], ◌∷◌, ◌++◌, take, drop, refl, ap, sym, ◌∙◌}
 use Rattle.std.proofs.Math.Seq.{take-add}
-use Rattle.std.proofs.lemmas.List.{at_drop_more, at_drop_all}
 use Rattle.sap_text.specs.declared.place.Place.{Place}
 use Rattle.sap_text.specs.Places.{first_place, next_place, place_after, place_at}
-
-pub place_more : (p : Place) (bs : List ℕ) (i : ℕ) → i < length bs → place_after p (drop i bs) ≡ place_after (next_place p (get_or bs i 0)) (drop (i + 1) bs)
-place_more p bs i h = at_drop_more (place_after p) bs i 0 h
-
-pub place_all : (p : Place) (bs : List ℕ) (i : ℕ) → length bs ≤ i → place_after p (drop i bs) ≡ p
-place_all p bs i h = at_drop_all (place_after p) bs i h
 
 pub place_after-append : (p : Place) (a b : List ℕ) → place_after p (a ++ b) ≡ place_after (place_after p a) b
 place_after-append p [] b = refl
 place_after-append p (x ∷ a) b = place_after-append (next_place p x) a b
-
-pub ruleset places = (place_more, place_all)
 
 pub place_at-more : (text : List ℕ) (n len : ℕ) → place_at text (n + len) ≡ place_after (place_at text n) (take len (drop n text))
 unfolding place_at

@@ -15,11 +15,14 @@ use Rattle.sap_lemmas.proofs.Texts.{equal_of_bytes_eq}
 use Rattle.sap_text.proofs.NamesLemmas.{initial_inner}
 use Rattle.sap_tree.specs.Words.{is_initial, is_inner, is_word, word_text, first_words}
 use Rattle.sap_tree.specs.declared.version.Version.TheVariants as v
-use Rattle.sap_parse.specs.Lexemes.{is_in, run, is_blank, is_comment, lexeme_of, name_at, number_at, number_of, number_lexeme, sized_at, sized_in, sized_lexeme, sign_at, sign_or, value_of, word_or_name}
+use Rattle.sap_parse.specs.Lexemes.{lexeme_of, name_at, number_at, number_lexeme, sized_at, sized_in, sized_lexeme, sign_at, sign_or, word_or_name}
 use Rattle.sap_parse.specs.Spelled.{SpellsNumber, SpellsSized, decimal, hexadecimal, Spells, is_of}
 use Rattle.sap_parse.specs.Spelling.{word_of, sign_of, sign_text, signs}
-use Rattle.sap_parse.specs.declared.lexeme.Class.TheVariants as c
-use Rattle.sap_parse.specs.declared.lexeme.Class.{Class}
+use Rattle.std.specs.Str.Parse.{digits_value}
+use Rattle.sap_text.specs.Blanks.{is_blank, is_comment}
+use Rattle.sap_text.specs.Runs.{is_in, number_of, run}
+use Rattle.sap_text.specs.declared.scan.Class.TheVariants as c
+use Rattle.sap_text.specs.declared.scan.Class.{Class}
 use Rattle.sap_parse.specs.declared.lexeme.Lexeme.TheVariants.{Blank, Token, Bad}
 use Rattle.sap_parse.specs.declared.lexeme.Lexeme.{Lexeme}
 use Rattle.sap_parse.specs.declared.token.Sign.{Sign}
@@ -95,14 +98,14 @@ take_length n bytes = grind (arith, common_steps)
 
 -- numbers
 
-number_value : (base : ℕ) (text : List ℕ) (n : ℕ) → number_of base text ≡ Some n → (value_of base text ≡ n) × (n < 2 ^ 64)
+number_value : (base : ℕ) (text : List ℕ) (n : ℕ) → number_of base text ≡ Some n → (digits_value base text ≡ n) × (n < 2 ^ 64)
 number_value base text n e =
-    let pick : (b : Bool) → nat_lt (value_of base text) (2 ^ 64) ≡ b → cond b (Some (value_of base text)) None ≡ Some n → (value_of base text ≡ n) × (n < 2 ^ 64)
-    = λ b. elim b as (λ b. nat_lt (value_of base text) (2 ^ 64) ≡ b → cond b (Some (value_of base text)) None ≡ Some n → (value_of base text ≡ n) × (n < 2 ^ 64)) [
-      | true ↦ λ h s. (let same : value_of base text ≡ n = cc in (same, grind (arith, nat_tests)))
+    let pick : (b : Bool) → nat_lt (digits_value base text) (2 ^ 64) ≡ b → cond b (Some (digits_value base text)) None ≡ Some n → (digits_value base text ≡ n) × (n < 2 ^ 64)
+    = λ b. elim b as (λ b. nat_lt (digits_value base text) (2 ^ 64) ≡ b → cond b (Some (digits_value base text)) None ≡ Some n → (digits_value base text ≡ n) × (n < 2 ^ 64)) [
+      | true ↦ λ h s. (let same : digits_value base text ≡ n = cc in (same, grind (arith, nat_tests)))
       | false ↦ λ h s. absurd (cc)
     ] in
-    pick (nat_lt (value_of base text) (2 ^ 64)) refl e
+    pick (nat_lt (digits_value base text) (2 ^ 64)) refl e
 
 spells_number : (class : Class) (base n : ℕ) (text : List ℕ) → 0 < length text → list_all (is_in class) text ≡ true → number_of base text ≡ Some n → SpellsNumber class base n text
 spells_number class base n text some digits e = let v = number_value base text n e in record { some = some; digits = digits; value = v.0; fits = v.1 }

@@ -20,7 +20,7 @@ use Rattle.std.proofs.lemmas.Bool.{and_parts}
 use Rattle.sap_walk.specs.Reached.{start, blank, token}
 use Rattle.sap_parse.specs.Lexing.{AreSpanned, AreTokens, Reached, StandsAt, behind_sapper, is_number_two, is_sapper, is_two, keyed, kind_by, later_kind, later_token, second_token, version_of, version_of_kind, version_of_word, with_kind}
 use Rattle.sap_parse.specs.Spelled.{Spells, SpellsNumber, SpellsSized, decimal, hexadecimal, HasText, AreInOrder, is_of, text_of}
-use Rattle.sap_parse.specs.declared.lexeme.Class.TheVariants as c
+use Rattle.sap_text.specs.declared.scan.Class.TheVariants as c
 use Rattle.sap_parse.specs.declared.token.Kind.{Kind}
 use Rattle.sap_parse.specs.declared.token.Token.{Token}
 use Rattle.sap_parse.proofs.Spelled.{by_test, find_passes, lexeme_spelled, none_passes, IsSpelled}

@@ -1,29 +1,18 @@
 -- What stands at the front of a text: tokens are taken longest first.
-use Rattle.std.specs.Prelude.{ℕ, ◌+◌, ◌*◌, ◌^◌, List, [], ◌∷◌, length, take, drop, Bool, true, false, ◌||◌, ◌==◌, nat_lt, if◌then◌else◌, Option, Some, None, slice_index}
-use Rattle.std.specs.Char.{digit_value, is_ascii_digit, is_ascii_hexdigit}
-use Rattle.std.specs.List.{prefix_len}
+use Rattle.std.specs.Prelude.{ℕ, ◌+◌, List, length, take, drop, Bool, true, false, ◌||◌, ◌==◌, if◌then◌else◌, Option, Some, None, slice_index}
+use Rattle.std.specs.Char.{is_ascii_digit}
 use Rattle.std.specs.Str.{byte}
-pub use Rattle.sap_text.specs.Blanks.{is_blank, is_comment, is_in_line}
-use Rattle.sap_tree.specs.Words.{is_initial, is_inner}
+use Rattle.sap_text.specs.Blanks.{is_blank, is_comment}
+use Rattle.sap_text.specs.Names.{is_initial, is_inner}
+use Rattle.sap_text.specs.Runs.{number_of, run}
+use Rattle.sap_text.specs.declared.scan.Class.TheVariants as c
+use Rattle.sap_text.specs.declared.scan.Class.{Class}
 use Rattle.sap_parse.specs.Spelling.{word_of, sign_of}
-use Rattle.sap_parse.specs.declared.lexeme.Class.TheVariants as c
-use Rattle.sap_parse.specs.declared.lexeme.Class.{Class}
 use Rattle.sap_parse.specs.declared.lexeme.Lexeme.TheVariants.{Blank, Token, Bad}
 use Rattle.sap_parse.specs.declared.lexeme.Lexeme.{Lexeme}
 use Rattle.sap_parse.specs.declared.token.Kind.TheVariants as k
 use Rattle.sap_parse.specs.declared.token.Sign.{Sign}
 use Rattle.sap_tree.specs.declared.word.Word.{Word}
-
--- classes of bytes: those within a name, digits of either base, and all but the end of a line
-abbrev pub is_in : Class → ℕ → Bool
-is_in c.Inner b = is_inner b
-is_in c.Decimal b = is_ascii_digit b
-is_in c.Hexadecimal b = is_ascii_hexdigit b
-is_in c.Comment b = is_in_line b
-
--- how many bytes of a class stand at the front
-abbrev pub run : Class → List ℕ → ℕ
-run class bytes = prefix_len (is_in class) bytes
 
 -- words and names
 
@@ -35,18 +24,6 @@ unfoldable pub name_at : List ℕ → Lexeme
 name_at bytes = let name = take (run c.Inner bytes) bytes in word_or_name (word_of name) name (run c.Inner bytes)
 
 -- numbers
-
--- the number that digits spell, after those that spell n
-abbrev pub value_after : (base : ℕ) → ℕ → List ℕ → ℕ
-value_after base n [] = n
-value_after base n (d ∷ digits) = value_after base (n * base + digit_value d) digits
-
-abbrev pub value_of : (base : ℕ) → List ℕ → ℕ
-value_of base digits = value_after base 0 digits
-
--- a number below 2^64
-abbrev pub number_of : (base : ℕ) → List ℕ → Option ℕ
-number_of base digits = if nat_lt (value_of base digits) (2 ^ 64) then Some (value_of base digits) else None
 
 -- a byte that may not follow a number
 abbrev pub clings : ℕ → Bool

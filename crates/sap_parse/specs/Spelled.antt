@@ -1,14 +1,15 @@
 -- What the text of a token is, and where the tokens of a text lie.
 use Rattle.std.specs.Prelude.{◌≡◌, ℕ, ◌-◌, ◌^◌, ◌<◌, ◌≤◌, List, [], ◌∷◌, ◌++◌, length, take, drop, Bool, true, false, not, ◌||◌, codes}
 use Rattle.std.specs.List.{list_all}
+use Rattle.std.specs.Str.Parse.{digits_value}
 use Rattle.sap_tree.specs.Words.{is_word, is_keyword, is_second, word_text}
 use Rattle.sap_tree.specs.declared.version.Version.{Version}
 use Rattle.sap_tree.specs.declared.word.Word.TheVariants as w
 use Rattle.sap_tree.specs.declared.word.Word.{Word}
-use Rattle.sap_parse.specs.Lexemes.{is_in, value_of}
+use Rattle.sap_text.specs.Runs.{is_in}
 use Rattle.sap_parse.specs.Spelling.{sign_text}
-use Rattle.sap_parse.specs.declared.lexeme.Class.TheVariants as c
-use Rattle.sap_parse.specs.declared.lexeme.Class.{Class}
+use Rattle.sap_text.specs.declared.scan.Class.TheVariants as c
+use Rattle.sap_text.specs.declared.scan.Class.{Class}
 use Rattle.sap_parse.specs.declared.token.Kind.TheVariants as k
 use Rattle.sap_parse.specs.declared.token.Kind.{Kind}
 use Rattle.sap_parse.specs.declared.token.Token.{Token}
@@ -17,7 +18,7 @@ use Rattle.sap_parse.specs.declared.token.Token.{Token}
 pub record SpellsNumber (class : Class) (base n : ℕ) (text : List ℕ) : Type 0 where
   pub some : 0 < length text
   pub digits : list_all (is_in class) text ≡ true
-  pub value : value_of base text ≡ n
+  pub value : digits_value base text ≡ n
   pub fits : n < 2 ^ 64
 
 pub data SpellsSized (width n : ℕ) (text : List ℕ) : Type 0 where

@@ -1,13 +1,14 @@
 //! What stands at the front of a text.
 
 ghost use Rattle.std.specs.Prelude.{◌≡◌, ◌≤◌, ◌<◌, ◌+◌, IfOk, length, slice_index, take, true};
-ghost use Rattle.std.specs.Char.{digit_value};
-ghost use Rattle.sap_parse.specs.Lexemes.{clings, is_blank, is_comment, is_in, lexeme_of, name_at, number_at, number_of, run, sign_at, sized_at, sized_in};
+ghost use Rattle.sap_parse.specs.Lexemes.{clings, lexeme_of, name_at, number_at, sign_at, sized_at, sized_in};
 ghost use Rattle.sap_parse.specs.Lexing.{IsWithin};
 ghost use Rattle.sap_parse.specs.Spelling.{command_word, declaration_word, expression_word, pair_sign, sign_of, single_sign, word_of};
-ghost use Rattle.sap_tree.specs.Words.{is_initial, is_inner};
+ghost use Rattle.sap_text.specs.Names.{is_initial, is_inner};
+ghost use Rattle.sap_text.specs.Runs.{is_in};
 
 use crate::token::{Kind, Sign};
+use sap_text::scan::{Class, byte_at, is_blank, is_comment, is_in, is_initial, number, run_len};
 use sap_tree::name::Name;
 use sap_tree::word::Word;
 use std::alloc::{AllocError, Global};
@@ -19,45 +20,6 @@ pub enum Lexeme {
     Blank(usize),
     Token(Kind, usize),
     Bad,
-}
-
-/// Kinds of bytes that stand in a row.
-#[derive(Clone, Copy)]
-pub enum Class {
-    /// What a name goes on with.
-    Inner,
-    Decimal,
-    Hexadecimal,
-    Comment,
-}
-
-fn is_in(class: Class, b: u8) -> bool
-    ensures { result ≡ is_in class b }
-{
-    match class {
-        Class::Inner => b.is_ascii_alphanumeric() || b == b'_',
-        Class::Decimal => b.is_ascii_digit(),
-        Class::Hexadecimal => b.is_ascii_hexdigit(),
-        Class::Comment => b != b'\n',
-    }
-}
-
-#[tactic(auto, using(crate::proofs::Runs::runs))]
-fn run_len(class: Class, bytes: &[u8]) -> usize
-    ensures value { result ≡ run class bytes.now }
-    ensures within { result ≤ length bytes.now }
-{
-    let mut n = 0;
-    'run: while n < bytes.len() && is_in(class, bytes[n]) {
-        n += 1;
-    }
-    n
-}
-
-fn byte_at(bytes: &[u8], i: usize) -> u8
-    ensures { result ≡ slice_index bytes.now i }
-{
-    if i < bytes.len() { bytes[i] } else { 0 }
 }
 
 #[tactic(auto, unfolding(crate::specs::Spelling::declaration_word))]
@@ -149,33 +111,6 @@ fn name(alloc: Global, bytes: &[u8]) -> Result<Lexeme, AllocError>
             Ok(Lexeme::Token(Kind::Name(name), n))
         }
     }
-}
-
-/// The value of a digit of any base up to 36, in letters of either case.
-fn digit_value(d: u8) -> u8
-    ensures { result ≡ digit_value d }
-{
-    match d {
-        b'0'..=b'9' => d - b'0',
-        b'A'..=b'Z' => d - 55,
-        b'a'..=b'z' => d - 87,
-        _ => 36,
-    }
-}
-
-/// The number that digits spell, if it is below 2^64.
-#[tactic(auto, using(crate::proofs::Runs::digits))]
-fn number(base: u64, digits: &[u8]) -> Option<u64>
-    requires { 1 ≤ base }
-    ensures { result ≡ number_of base digits.now }
-{
-    let mut n: u64 = 0;
-    'digits: for d in digits {
-        n = n
-            .checked_mul(base)?
-            .checked_add(u64::from(digit_value(*d)))?;
-    }
-    Some(n)
 }
 
 fn clings(b: u8) -> bool
@@ -316,24 +251,6 @@ fn sign(bytes: &[u8]) -> Lexeme
             None => Lexeme::Bad,
         },
     }
-}
-
-fn is_blank(b: u8) -> bool
-    ensures { result ≡ is_blank b }
-{
-    b == b' ' || b == b'\t' || b == b'\r' || b == b'\n'
-}
-
-fn is_comment(bytes: &[u8]) -> bool
-    ensures { result ≡ is_comment bytes.now }
-{
-    byte_at(bytes, 0) == b'/' && byte_at(bytes, 1) == b'/'
-}
-
-fn is_initial(b: u8) -> bool
-    ensures { result ≡ is_initial b }
-{
-    b.is_ascii_alphabetic() || b == b'_'
 }
 
 /// What stands at the front of a text, longest first.

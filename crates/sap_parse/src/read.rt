@@ -7,7 +7,7 @@ ghost use Rattle.sap_tree.specs.Syntax.{DesignTree};
 
 use crate::cursor::{Cursor, Fault};
 use crate::fault::ReadFault;
-use crate::lexer::{advance, lex};
+use crate::lexer::lex;
 use crate::limit::Limit;
 use crate::state::design;
 use sap_tree::design::Design;
@@ -22,7 +22,7 @@ fn fault_place(source: &[u8], tokens: &Cursor<'_>) -> Place
     ensures { result ≡ fault_place source.now tokens.now.left }
 {
     if tokens.at_end() {
-        advance(Place { line: 1, column: 1 }, source)
+        Place::first().after(source)
     } else {
         tokens.here()
     }
@@ -36,7 +36,7 @@ pub fn parse(alloc: Global, source: &[u8]) -> Result<Design, ReadFault>
     ensures refused { IfErr result (λ fault. fault ≢ ReadFault.Memory → (design : DesignTree) → IsText source.now design → ⊥) }
 {
     if source.len() > MOST_BYTES {
-        return Err(ReadFault::E18(Place { line: 1, column: 1 }, Limit::Bytes));
+        return Err(ReadFault::E18(Place::first(), Limit::Bytes));
     }
     let list = lex(alloc, source)?;
     let mut tokens = Cursor::new(list.as_slice());

@@ -6,17 +6,12 @@ ghost use Rattle.sap_lattice.specs.Codes.{code_of};
 ghost use Rattle.sap_lattice.specs.Levels.{order_of};
 ghost use Rattle.sap_report.specs.Report.{level_line, level_lines};
 
-use crate::text::number;
 use sap_lattice::lattice::Lattice;
-use std::alloc::{AllocError, Global};
+use sap_text::digits::push_number;
+use std::alloc::AllocError;
 
 #[tactic(auto, using(crate::proofs::LevelLines::levels))]
-fn push_level(
-    alloc: Global,
-    out: &mut Vec<u8>,
-    lattice: &Lattice,
-    place: u32,
-) -> Result<(), AllocError>
+fn push_level(out: &mut Vec<u8>, lattice: &Lattice, place: u32) -> Result<(), AllocError>
     requires { place < length lattice.now.names }
     ensures { OnOk result (out.new.items ≡ out.old.items ++ level_line (name_at lattice.now.names place) (code_of (order_of lattice.now) place)) }
 {
@@ -24,20 +19,16 @@ fn push_level(
     out.extend_from_slice(b"level ")?;
     out.extend_from_slice(lattice.name(level).as_bytes())?;
     out.extend_from_slice(b" ")?;
-    number(alloc, out, lattice.code(level))?;
+    push_number(out, lattice.code(level))?;
     out.extend_from_slice(b"\n")
 }
 
 /// Appends the lines of the levels.
-pub(crate) fn push_levels(
-    alloc: Global,
-    out: &mut Vec<u8>,
-    lattice: &Lattice,
-) -> Result<(), AllocError>
+pub(crate) fn push_levels(out: &mut Vec<u8>, lattice: &Lattice) -> Result<(), AllocError>
     ensures { OnOk result (out.new.items ≡ out.old.items ++ level_lines lattice.now 0 lattice.now.names) }
 {
     for place in 0..lattice.count() {
-        push_level(alloc, out, lattice, place)?;
+        push_level(out, lattice, place)?;
     }
     Ok(())
 }

@@ -12,7 +12,7 @@ use sap_check::Checked;
 use sap_check::point::{Point, PointKind};
 use sap_check::site_text::push_entity;
 use sap_hang::HangTable;
-use std::alloc::{AllocError, Global};
+use std::alloc::AllocError;
 
 fn word(kind: PointKind) -> &'static [u8]
     ensures { result.now ≡ point_word kind }
@@ -84,7 +84,6 @@ fn push_names(
 }
 
 fn push_point(
-    alloc: Global,
     out: &mut Vec<u8>,
     checked: &Checked,
     table: &HangTable,
@@ -96,7 +95,7 @@ fn push_point(
 {
     out.extend_from_slice(word(point.kind))?;
     out.extend_from_slice(b" ")?;
-    place(alloc, out, point.place)?;
+    place(out, point.place)?;
     out.extend_from_slice(b" hangs")?;
     push_names(out, checked, table, p)?;
     out.extend_from_slice(b"\n")
@@ -104,7 +103,6 @@ fn push_point(
 
 /// Appends the lines of the points.
 pub(crate) fn push_points(
-    alloc: Global,
     out: &mut Vec<u8>,
     checked: &Checked,
     table: &HangTable,
@@ -114,7 +112,7 @@ pub(crate) fn push_points(
 {
     for place in 0..checked.point_count() {
         let p = place + 1;
-        push_point(alloc, out, checked, table, p, checked.point(p))?;
+        push_point(out, checked, table, p, checked.point(p))?;
     }
     Ok(())
 }

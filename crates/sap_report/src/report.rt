@@ -19,8 +19,8 @@ pub fn report(alloc: Global, checked: &Checked, table: &HangTable) -> Result<Byt
     ensures { IfOk result (λ text. text ≡ report_text (levels_in checked.now) (tree_in checked.now)) }
 {
     let mut out = Vec::new(alloc);
-    push_levels(alloc, &mut out, checked.lattice())?;
-    push_points(alloc, &mut out, checked, table)?;
-    push_sites(alloc, &mut out, checked)?;
+    push_levels(&mut out, checked.lattice())?;
+    push_points(&mut out, checked, table)?;
+    push_sites(&mut out, checked)?;
     Ok(Bytes::new(out))
 }

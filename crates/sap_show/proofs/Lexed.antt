@@ -1,14 +1,14 @@
 -- Each piece is taken as the token that it stands for.
-use Rattle.std.proofs.Common.{◌≡◌, ◌<◌, ◌+◌, ◌*◌, ◌^◌, ℕ, suc, List, [], ◌∷◌, ◌++◌, length, take, drop, Bool, true, false, cond, refl, sym, ap, ◌∙◌, arith, Option, Some, None, length-append, append_assoc}
+use Rattle.std.proofs.Common.{◌≡◌, ◌<◌, ◌+◌, ◌^◌, ℕ, suc, List, [], ◌∷◌, ◌++◌, length, take, drop, Bool, true, false, cond, refl, sym, ap, ◌∙◌, arith, Option, Some, None, length-append, append_assoc}
 use Rattle.std.proofs.lemmas.Bool.Decides.{nat_tests}
 use Rattle.std.proofs.lemmas.Grind.{common_steps}
 use Rattle.std.proofs.lemmas.List.Folds.{list_any-append}
 use Rattle.std.proofs.lemmas.Fmt.{decimal_digit, digits_decimal, digits_value-decimal, decimal_nonempty}
-use Rattle.std.specs.Char.{is_ascii_digit, digit_value}
+use Rattle.std.specs.Char.{is_ascii_digit}
 use Rattle.std.specs.List.{prefix_len, list_all, list_any}
 use Rattle.std.specs.Prelude.{slice_index, ◌||◌, ◌&&◌, ◌==◌, nat_lt, nat_le, not, decimal, map}
 use Rattle.std.specs.Str.{bytes_eq}
-use Rattle.std.specs.Str.Parse.{digits_value_after}
+use Rattle.std.specs.Str.Parse.{digits_value}
 use Rattle.sap_lemmas.proofs.Bools.{fourth_case, third_case}
 use Rattle.sap_lemmas.proofs.Everywhere.{none_found, prefix_run}
 use Rattle.sap_lemmas.proofs.Lists.{quoted_length, take_front}
@@ -17,9 +17,11 @@ use Rattle.sap_lemmas.proofs.Texts.{digits_model}
 use Rattle.std.proofs.lemmas.Bool.{and_from, and_left, and_parts, not-true, or_parts}
 use Rattle.sap_text.proofs.NamesLemmas.{initial_inner}
 use Rattle.sap_parse.specs.Lexing.{kind_by, later_kind}
-use Rattle.sap_parse.specs.Lexemes.{is_blank, is_comment, clings, word_or_name, name_at, value_after, value_of, number_of, number_lexeme, sized_lexeme, sized_in, sized_at, number_at, sign_or, sign_at, lexeme_of}
+use Rattle.sap_parse.specs.Lexemes.{clings, word_or_name, name_at, number_lexeme, sized_lexeme, sized_in, sized_at, number_at, sign_or, sign_at, lexeme_of}
 use Rattle.sap_parse.specs.Spelling.{later_word_of, sign_text, word_of}
-use Rattle.sap_parse.specs.declared.lexeme.Class.TheVariants as c
+use Rattle.sap_text.specs.Blanks.{is_blank, is_comment}
+use Rattle.sap_text.specs.Runs.{number_of}
+use Rattle.sap_text.specs.declared.scan.Class.TheVariants as c
 use Rattle.sap_parse.specs.declared.lexeme.Lexeme.TheVariants as l
 use Rattle.sap_parse.specs.declared.token.Kind.TheVariants as k
 use Rattle.sap_parse.specs.declared.token.Kind.{Kind}
@@ -151,16 +153,12 @@ decimal_digits n h = by_list (decimal n) (decimal_nonempty n h) (digits_decimal 
   by_list [] p q = absurd (omega arith)
   by_list (d ∷ ds) p q = record { first = d; others = ds; parts = refl; all = q }
 
-same_value : (n : ℕ) (ds : List ℕ) → value_after 10 n ds ≡ digits_value_after 10 n ds
-same_value n [] = refl
-same_value n (d ∷ ds) = same_value (n * 10 + digit_value d) ds
-
 below : (n : ℕ) → is_number n ≡ true → n < 2 ^ 64
 below n h = grind (arith, nat_tests)
 
 number_is : (n : ℕ) → is_number n ≡ true → number_of 10 (decimal n) ≡ Some n
 number_is n h =
-    let value : value_of 10 (decimal n) ≡ n = same_value 0 (decimal n) ∙ digits_value-decimal digits_model n (below n h) in
+    let value : digits_value 10 (decimal n) ≡ n = digits_value-decimal digits_model n (below n h) in
     ap (λ v. cond (nat_lt v (2 ^ 64)) (Some v) None) value ∙ ap (λ b. cond b (Some n) None) h
 
 number_lexed : (n : ℕ) (rest : List ℕ) → is_number n ≡ true → clings (slice_index rest 0) ≡ false

@@ -5,7 +5,8 @@ ghost use Rattle.sap_show.specs.Canonical.{unary_text, binary_text, operand_text
 ghost use Rattle.sap_tree.specs.Precedence as spec;
 ghost use Rattle.sap_tree.specs.Trees.{expression_of, expressions_of, tag_of, tags_of};
 
-use crate::words::{binary, bounds, name, number, sized, unary};
+use crate::words::{binary, bounds, name, sized, unary};
+use sap_text::digits::push_number;
 use sap_tree::syntax::{BinaryOperator, Expr, TagExpr};
 use std::alloc::AllocError;
 
@@ -96,7 +97,7 @@ pub fn expression(out: &mut Vec<u8>, x: &Expr) -> Result<(), AllocError>
     ensures { OnOk result (out.new.items ≡ out.old.items ++ expression_text (expression_of x.now)) }
 {
     match x {
-        Expr::Number(_, value) => number(out, *value),
+        Expr::Number(_, value) => push_number(out, *value),
         Expr::Sized(_, width, value) => sized(out, *width, *value),
         Expr::Read(_, register) => name(out, register),
         Expr::Cell(_, memory, index) => {
@@ -134,7 +135,7 @@ pub fn expression(out: &mut Vec<u8>, x: &Expr) -> Result<(), AllocError>
             out.extend_from_slice(b"zext(")?;
             expression(out, inner)?;
             out.extend_from_slice(b", ")?;
-            number(out, *width)?;
+            push_number(out, *width)?;
             out.extend_from_slice(b")")
         }
     }

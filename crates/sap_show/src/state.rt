@@ -6,7 +6,8 @@ ghost use Rattle.sap_show.specs.Lists.{group_text};
 ghost use Rattle.sap_tree.specs.Trees.{state_of};
 
 use crate::command::commands;
-use crate::words::{deeper, name, number};
+use crate::words::{deeper, name};
+use sap_text::digits::push_number;
 use sap_tree::name::Mention;
 use sap_tree::syntax::{Decl, Kind, Numeral, State, Under};
 use sap_tree::version::Version;
@@ -55,7 +56,7 @@ fn start(out: &mut Vec<u8>, initial: &Option<Numeral>) -> Result<(), AllocError>
     match initial {
         Some(written) => {
             out.extend_from_slice(b" = ")?;
-            number(out, written.value)
+            push_number(out, written.value)
         }
         None => Ok(()),
     }
@@ -73,7 +74,7 @@ fn declared(
     out.extend_from_slice(word)?;
     name(out, &what.name)?;
     out.extend_from_slice(b" : ")?;
-    number(out, width.value)
+    push_number(out, width.value)
 }
 
 #[tactic(auto, unfolding(crate::specs::Canonical::declaration_text))]
@@ -95,7 +96,7 @@ fn declaration(out: &mut Vec<u8>, declaration: &Decl) -> Result<(), AllocError>
         Decl::Memory(_, what, width, depth, how) => {
             declared(out, b"mem ", what, width)?;
             out.extend_from_slice(b"[")?;
-            number(out, depth.value)?;
+            push_number(out, depth.value)?;
             out.extend_from_slice(b"] ")?;
             kind(out, how)?;
             out.extend_from_slice(b";\n")

@@ -3,6 +3,7 @@
 ghost use Rattle.std.specs.Prelude.{◌≡◌, ◌++◌, OnOk, IfOk, codes, decimal};
 ghost use Rattle.sap_show.specs.Canonical.{unary_text, binary_text, bounds_text};
 
+use sap_text::digits::push_number;
 use sap_tree::name::Name;
 use sap_tree::syntax::{BinaryOperator, UnaryOperator};
 use std::alloc::{AllocError, Global};
@@ -13,26 +14,13 @@ pub fn name(out: &mut Vec<u8>, name: &Name) -> Result<(), AllocError>
     out.extend_from_slice(name.as_bytes())
 }
 
-/// A number in decimal digits.
-pub fn number(out: &mut Vec<u8>, n: u64) -> Result<(), AllocError>
-    ensures { OnOk result (out.new.items ≡ out.old.items ++ decimal n) }
-{
-    if n < 10 {
-        out.push(b'0' + n as u8)?;
-        return Ok(());
-    }
-    number(out, n / 10)?;
-    out.push(b'0' + (n % 10) as u8)?;
-    Ok(())
-}
-
 /// A number with a width.
 pub fn sized(out: &mut Vec<u8>, width: u64, value: u64) -> Result<(), AllocError>
     ensures { OnOk result (out.new.items ≡ out.old.items ++ (decimal width ++ (codes "'d" ++ decimal value))) }
 {
-    number(out, width)?;
+    push_number(out, width)?;
     out.extend_from_slice(b"'d")?;
-    number(out, value)
+    push_number(out, value)
 }
 
 /// The bounds of a slice.
@@ -40,9 +28,9 @@ pub fn bounds(out: &mut Vec<u8>, high: u64, low: u64) -> Result<(), AllocError>
     ensures { OnOk result (out.new.items ≡ out.old.items ++ bounds_text high low) }
 {
     out.extend_from_slice(b"[")?;
-    number(out, high)?;
+    push_number(out, high)?;
     out.extend_from_slice(b":")?;
-    number(out, low)?;
+    push_number(out, low)?;
     out.extend_from_slice(b"]")
 }
 

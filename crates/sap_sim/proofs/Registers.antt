@@ -1,18 +1,16 @@
 -- The registers of a netlist, and those that rows show.
-use Rattle.std.proofs.Common.{Bool, ◌≡◌, ℕ, zero, suc, ◌+◌, ◌<◌, ◌≤◌, List, [], ◌∷◌, ◌++◌, true, false, cond, ◌||◌, ◌&&◌, Option, Some, None, length, get_or, take, map, sym, ap, ◌∙◌, subst, refl, arith, bytes_eq, inl, inr, ⊎_elim, lit<}
-use Rattle.std.specs.Prelude.{slice_index, ◌==◌, nat_le}
+use Rattle.std.proofs.Common.{Bool, ◌≡◌, ℕ, zero, suc, ◌+◌, ◌<◌, List, [], ◌∷◌, ◌++◌, true, false, cond, ◌&&◌, Option, Some, None, length, get_or, take, map, sym, ap, ◌∙◌, subst, refl, arith, bytes_eq, inl, inr}
+use Rattle.std.specs.Prelude.{◌==◌}
 use Rattle.std.specs.List.{All, AllByRecursion, list_all}
-use Rattle.std.specs.Char.{is_ascii_alphabetic, is_ascii_alphanumeric}
-use Rattle.std.specs.Int.{is_in_range}
-use Rattle.std.specs.Str.{IsAscii, IsUtf8}
-use Rattle.std.proofs.lemmas.Bool.{cases_Bool, false≢true, leb-true, or_cases}
+use Rattle.std.specs.Str.{IsUtf8}
+use Rattle.std.proofs.lemmas.Bool.{cases_Bool, false≢true}
 use Rattle.std.proofs.lemmas.Bool.Decides.{Decides-eqb}
 use Rattle.std.proofs.lemmas.Option.{same_Some}
-use Rattle.std.proofs.lemmas.Str.{IsUtf8-from_ascii}
 use Rattle.sap_lemmas.proofs.Bools.{and_left, and_right}
 use Rattle.sap_lemmas.proofs.Everywhere.{all_filter, all_of_map, map_of_all}
 use Rattle.sap_lemmas.proofs.Texts.{equal_of_bytes_eq}
 use Rattle.std.proofs.lemmas.List.{append-nil}
+use Rattle.sap_text.proofs.NamesLemmas.{inner_text, word_inner}
 use Rattle.sap_net.proofs.NamesLemmas.{among_behind, among_front, among_here}
 use Rattle.sap_maps.specs.Maps.{Name}
 use Rattle.sap_maps.specs.Scope.{Scope, find}
@@ -66,51 +64,10 @@ pub register_declared : (n : Net) → IsNetlist n → (x : Name) → is_among x 
 register_declared n net x h =
     net.declared x ∙ among_front x (input_names n ++ wire_names n ++ register_names n) (memory_names n) (among_behind x (input_names n ++ wire_names n) (register_names n) h)
 
--- names are ASCII
-
-in_range : (lo hi c : ℕ) → is_in_range lo hi c ≡ true → c ≤ hi
-in_range lo hi c h = leb-true c hi (and_right (nat_le lo c) (nat_le c hi) h)
-
-range_small : (lo hi c : ℕ) → hi < 128 → is_in_range lo hi c ≡ true → c < 128
-range_small lo hi c l h = let k : c ≤ hi = in_range lo hi c h in omega arith
-
-mark_small : (c : ℕ) → (c == 95) ≡ true → c < 128
-mark_small c h = let e : c ≡ 95 = (Decides-eqb c 95).0 h in omega arith
-
-letter_small : (c : ℕ) → is_ascii_alphabetic c ≡ true → c < 128
-letter_small c h =
-    ⊎_elim (range_small 65 90 c (lit< tt)) (range_small 97 122 c (lit< tt)) (or_cases (is_in_range 65 90 c) (is_in_range 97 122 c) h)
-
-digit_or_letter_small : (c : ℕ) → is_ascii_alphanumeric c ≡ true → c < 128
-digit_or_letter_small c h =
-    ⊎_elim (λ g. ⊎_elim (range_small 48 57 c (lit< tt)) (range_small 65 90 c (lit< tt)) (or_cases (is_in_range 48 57 c) (is_in_range 65 90 c) g)) (range_small 97 122 c (lit< tt))
-    (or_cases (is_in_range 48 57 c || is_in_range 65 90 c) (is_in_range 97 122 c) h)
-
-inner_small : (c : ℕ) → is_inner c ≡ true → c < 128
-inner_small c h = ⊎_elim (digit_or_letter_small c) (mark_small c) (or_cases (is_ascii_alphanumeric c) (c == 95) h)
-
-initial_small : (c : ℕ) → is_initial c ≡ true → c < 128
-initial_small c h = ⊎_elim (letter_small c) (mark_small c) (or_cases (is_ascii_alphabetic c) (c == 95) h)
-
-inners_at : (c : ℕ) (cs : List ℕ) → list_all is_inner (c ∷ cs) ≡ true → IsAscii cs → (i : ℕ) → slice_index (c ∷ cs) i < 128
-inners_at c cs h rest zero = inner_small c (and_left (is_inner c) (list_all is_inner cs) h)
-inners_at c cs h rest (suc i) = rest i
-
-inners_ascii : (cs : List ℕ) → list_all is_inner cs ≡ true → IsAscii cs
-inners_ascii [] h = λ i. omega arith
-inners_ascii (c ∷ cs) h = λ i. inners_at c cs h (inners_ascii cs (and_right (is_inner c) (list_all is_inner cs) h)) i
-
-word_at : (c : ℕ) (cs : List ℕ) → is_word (c ∷ cs) ≡ true → IsAscii cs → (i : ℕ) → slice_index (c ∷ cs) i < 128
-word_at c cs h rest zero = initial_small c (and_left (is_initial c) (list_all is_inner cs) h)
-word_at c cs h rest (suc i) = rest i
-
-word_ascii : (x : Name) → is_word x ≡ true → IsAscii x
-word_ascii [] h = λ i. omega arith
-word_ascii (c ∷ cs) h = λ i. word_at c cs h (inners_ascii cs (and_right (is_initial c) (list_all is_inner cs) h)) i
-
+-- names are texts
 name_utf8 : (x : Name) → is_name x ≡ true → IsUtf8 x
 unfolding is_name
-name_utf8 x h = IsUtf8-from_ascii x (word_ascii x (and_left (is_word x) _ h))
+name_utf8 x h = inner_text x (word_inner x (and_left (is_word x) _ h))
 
 pub register_utf8 : (n : Net) → IsNetlist n → (x : Name) → is_among x (register_names n) ≡ true → IsUtf8 x
 register_utf8 n net x h = name_utf8 x (among_all (λ (y : Name). is_name y ≡ true) n.names x net.named (register_declared n net x h))

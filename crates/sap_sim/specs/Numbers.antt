@@ -1,5 +1,6 @@
 -- The numbers that a line of a stimulus gives the inputs of a netlist.
 use Rattle.std.specs.Prelude.{ℕ, suc, List, [], ◌∷◌, map, get_or, bytes_eq, if◌then◌else◌}
+use Rattle.std.specs.Str.{byte}
 use Rattle.sap_lattice.specs.Levels.{Levels, order_of}
 use Rattle.sap_lattice.specs.Codes.{code_of}
 use Rattle.sap_maps.specs.Maps.{Name}
@@ -27,7 +28,7 @@ given tag is xs n = get_or xs (place (field_names tag is) n) nothing
 -- `v_a` for `t_a`
 abbrev pub value_for : Name → Name
 value_for [] = []
-value_for (letter ∷ n) = 118 ∷ n
+value_for (letter ∷ n) = byte "v" ∷ n
 
 -- a tag gets the code of the level that stands in the field of its value, another input the value in its own field
 abbrev pub number_for : Levels → List Input → List Given → Input → ℕ

@@ -1,5 +1,6 @@
 -- Of which x a port of any module is `v_x`, the number, or `t_x`, the code of the level.
 use Rattle.std.specs.Prelude.{ℕ, Bool, false, ◌==◌, ◌&&◌, [], ◌∷◌, Option, Some, None, if◌then◌else◌}
+use Rattle.std.specs.Str.{byte}
 use Rattle.sap_maps.specs.Maps.{Name}
 
 -- x, where the name is this letter, `_` and x, a byte or more
@@ -7,15 +8,15 @@ abbrev pub behind : (letter : ℕ) → Name → Option Name
 behind letter [] = None
 behind letter (a ∷ []) = None
 behind letter (a ∷ (b ∷ [])) = None
-behind letter (a ∷ (b ∷ (c ∷ x))) = if a == letter && b == 95 then Some (c ∷ x) else None
+behind letter (a ∷ (b ∷ (c ∷ x))) = if a == letter && b == byte "_" then Some (c ∷ x) else None
 
 -- x of `v_x`
 abbrev pub value_of : Name → Option Name
-value_of n = behind 118 n
+value_of n = behind (byte "v") n
 
 -- x of `t_x`
 abbrev pub tag_of : Name → Option Name
-tag_of n = behind 116 n
+tag_of n = behind (byte "t") n
 
 -- there is such an x, and it passes a test
 abbrev pub passes : (Name → Bool) → Option Name → Bool

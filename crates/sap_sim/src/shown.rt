@@ -16,7 +16,6 @@ ghost use Rattle.sap_sim.specs.Layout.{ArePlaces};
 use crate::lookup::{number, places, register_widths};
 use crate::ports::{behind, joined};
 use sap_cycle::runner::{Place, Runner};
-use sap_lattice::name::Name as Label;
 use sap_net::netlist::Netlist;
 use sap_net::parts::{Name, Port, PortKind};
 use std::alloc::{AllocError, Global};
@@ -66,7 +65,7 @@ fn has_tag(
 
 /// Adds x, where the name is `v_x` with such a `t_x`.
 fn push_shown(
-    xs: &mut Vec<Label>,
+    xs: &mut Vec<Name>,
     alloc: Global,
     ports: &HashMap<Vec<u8>, usize>,
     widths: &HashMap<Vec<u8>, usize>,
@@ -83,7 +82,7 @@ fn push_shown(
     if !has_tag(alloc, ports, widths, tag, x)? {
         return Ok(());
     }
-    let label = Label::spelled(alloc, x)?;
+    let label = Name::spelled(alloc, x)?;
     xs.push(label)?;
     Ok(())
 }
@@ -95,7 +94,7 @@ fn shown_among(
     widths: &HashMap<Vec<u8>, usize>,
     tag: u32,
     names: &[Name],
-) -> Result<Vec<Label>, AllocError>
+) -> Result<Vec<Name>, AllocError>
     requires { All (λ x. is_name x ≡ true) names.now }
     ensures { IfOk result (λ xs. (n : Net) → Finds ports.now (places_from 0 (register_ports n.ports)) → Finds widths.now (register_widths n.registers)
         → xs.items ≡ shown_among tag n names.now) }
@@ -127,7 +126,7 @@ fn register_places(
     alloc: Global,
     runner: &Runner,
     letter: u8,
-    names: &[Label],
+    names: &[Name],
 ) -> Result<Vec<Place>, AllocError>
     requires { All (λ x. is_among (letter ∷ (95 ∷ x)) (register_names runner.now.net) ≡ true) names.now }
     ensures { IfOk result (λ places. ArePlaces runner.now.net (map (λ x. letter ∷ (95 ∷ x)) names.now) places.items) }
@@ -146,7 +145,7 @@ fn shown_labels(
     netlist: &Netlist,
     tag: u32,
     registers: &[Name],
-) -> Result<Vec<Label>, AllocError>
+) -> Result<Vec<Name>, AllocError>
     requires { registers.now ≡ register_ports netlist.now.ports }
     ensures { IfOk result (λ xs. xs.items ≡ shown_among tag netlist.now (register_ports netlist.now.ports)) }
 {
@@ -157,7 +156,7 @@ fn shown_labels(
 }
 
 // The names of the registers that rows show.
-fn labels(alloc: Global, netlist: &Netlist, tag: u32) -> Result<Vec<Label>, AllocError>
+fn labels(alloc: Global, netlist: &Netlist, tag: u32) -> Result<Vec<Name>, AllocError>
     ensures { IfOk result (λ xs. xs.items ≡ shown_among tag netlist.now (register_ports netlist.now.ports)) }
 {
     let registers = register_ports(alloc, netlist.ports())?;
@@ -167,7 +166,7 @@ fn labels(alloc: Global, netlist: &Netlist, tag: u32) -> Result<Vec<Label>, Allo
 /// The names of the registers that rows show, and the places of their numbers and tags.
 #[derive(Drop)]
 pub struct Shown {
-    pub names: Vec<Label>,
+    pub names: Vec<Name>,
     pub values: Vec<Place>,
     pub tags: Vec<Place>,
 }

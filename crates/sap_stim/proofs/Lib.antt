@@ -1,12 +1,10 @@
 pub mod Pieces
 pub mod LastPiece
 pub mod Counts
-pub mod Values
 pub mod EachField
 pub mod Fitting
 pub mod Lines
 pub mod Coded
-pub mod PairsOfDigits
 pub mod RowTexts
 pub mod RowRoom
 pub mod RowLeast

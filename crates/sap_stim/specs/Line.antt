@@ -2,7 +2,7 @@
 use Rattle.std.specs.Prelude.{ℕ, List, [], ◌∷◌, drop, length, Option, Some, None, Result, Ok, Err, Bool, false, not, nat_lt, nat_le, ◌==◌, ◌&&◌, ◌^◌, ◌≤◌, position, if◌then◌else◌}
 use Rattle.std.specs.Char.{is_ascii_digit}
 use Rattle.std.specs.List.{list_all, before_first, after_first}
-use Rattle.std.specs.Str.{bytes_eq}
+use Rattle.std.specs.Str.{byte, bytes_eq}
 use Rattle.std.specs.Str.Parse.{digits_value}
 use Rattle.sap_lattice.specs.Levels.{Levels, order_of}
 use Rattle.sap_meaning.specs.Cycle.{Tagged as Given}
@@ -32,12 +32,12 @@ split_at mark (b ∷ bs) = if b == mark then [] ∷ split_at mark bs else pushed
 -- the pieces of a line: split at each space, an empty line has none
 abbrev pub pieces_of : List ℕ → List (List ℕ)
 pieces_of [] = []
-pieces_of (b ∷ bs) = split_at 32 (b ∷ bs)
+pieces_of (b ∷ bs) = split_at (byte " ") (b ∷ bs)
 
 -- begins with `*`
 abbrev pub is_starred : List ℕ → Bool
 is_starred [] = false
-is_starred (b ∷ bs) = b == 42
+is_starred (b ∷ bs) = b == byte "*"
 
 -- the pieces that are fields: all, but for a last one that begins with `*`
 abbrev pub fields_in : List (List ℕ) → List (List ℕ)
@@ -80,9 +80,9 @@ with_level value (Some level) = Ok (record { number = value; level = level })
 -- the value stands before the first `@` and the level's name behind it; S1 where there is no `@`, or nothing behind it
 abbrev pub tagged_of : Levels → (width : ℕ) → List ℕ → Result Given StimCode
 tagged_of ls width text =
-    let name = after_first (λ b. b == 64) text in
+    let name = after_first (λ b. b == byte "@") text in
     if length name == 0 then Err S1
-    else and_then (value_of width (before_first (λ b. b == 64) text)) (λ value. with_level value (level_named ls.names name))
+    else and_then (value_of width (before_first (λ b. b == byte "@") text)) (λ value. with_level value (level_named ls.names name))
 
 -- the level of a plain field is bottom
 abbrev pub plain_of : Levels → (width : ℕ) → List ℕ → Result Given StimCode

@@ -9,8 +9,9 @@ ghost use Rattle.sap_stim.specs.Line.{count_in, count_of, is_count};
 
 use crate::fault::StimCode;
 use crate::text::is_starred;
-use crate::value::{are_digits, number};
+use crate::value::are_digits;
 use crate::{MOST_COUNT, MOST_COUNT_DIGITS};
+use sap_text::scan::number;
 
 fn are_few_digits(digits: &[u8]) -> bool
     ensures { result ≡ (list_all is_ascii_digit digits.now && nat_le 1 (length digits.now) && nat_le (length digits.now) 5) }
@@ -32,7 +33,7 @@ fn read_digits(digits: &[u8]) -> Result<u32, StimCode>
     if !are_few_digits(digits) {
         return Err(StimCode::S6);
     }
-    match number(digits) {
+    match number(10, digits) {
         Some(count) if is_within(count) => Ok(count as u32),
         _ => Err(StimCode::S6),
     }

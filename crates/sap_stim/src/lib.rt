@@ -5,7 +5,6 @@
 #![tactic(auto)]
 
 mod count;
-pub mod digits;
 pub mod fault;
 pub mod field;
 mod line;

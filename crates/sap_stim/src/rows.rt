@@ -5,26 +5,12 @@ ghost use Rattle.std.specs.Fmt.{decimal};
 ghost use Rattle.sap_lattice.specs.Closure.{name_at};
 ghost use Rattle.sap_stim.specs.Rows.{row_room, row_text, shown, shown_of, shown_text, level_coded, level_text, all_shown};
 
-use crate::digits::Digits;
 use sap_desk::{Bytes, RowBuf};
 use sap_lattice::lattice::Lattice;
 use sap_lattice::level::Level;
 use sap_lattice::name::Name;
+use sap_text::digits::push_number;
 use std::alloc::{AllocError, Global};
-
-/// Appends a number in decimal digits. It takes no memory where there is room for them.
-pub fn number(out: &mut Vec<u8>, n: u64) -> Result<(), AllocError>
-    ensures text { OnOk result (out.new.items ≡ out.old.items ++ decimal n) }
-    ensures room { vec_capacity out.old ≤ vec_capacity out.new }
-    ensures full { OnErr result (vec_capacity out.old < length out.old.items + length (decimal n)) }
-{
-    if n < 10 {
-        out.push(b'0' + n as u8)?;
-        return Ok(());
-    }
-    let digits = Digits::new(n);
-    out.extend_from_slice(digits.as_bytes())
-}
 
 /// The level whose code is the tag.
 fn level_of_tag(lattice: &Lattice, tag: u64) -> Option<Level>
@@ -45,7 +31,7 @@ pub fn push_level(out: &mut Vec<u8>, tag: u64, lattice: &Lattice) -> Result<(), 
         Some(level) => out.extend_from_slice(lattice.name(level).as_bytes()),
         None => {
             out.extend_from_slice(b"#")?;
-            number(out, tag)
+            push_number(out, tag)
         }
     }
 }
@@ -64,7 +50,7 @@ fn push_shown(
     out.extend_from_slice(b" ")?;
     out.extend_from_slice(name.as_bytes())?;
     out.extend_from_slice(b"=")?;
-    number(out, value)?;
+    push_number(out, value)?;
     out.extend_from_slice(b"@")?;
     push_level(out, tag, lattice)
 }
@@ -104,7 +90,7 @@ pub fn push_row(
     ensures full { OnErr result (vec_capacity out.old < length out.old.items + length (row_text cycle (shown_of lattice.now names.now values.now tags.now))) }
 {
     out.extend_from_slice(b"cycle ")?;
-    number(out, cycle)?;
+    push_number(out, cycle)?;
     out.extend_from_slice(b":")?;
     push_all(out, names, values, tags, lattice)
 }

@@ -1,9 +1,8 @@
 //! Values and levels of a field.
 
-ghost use Rattle.std.specs.Prelude.{◌≡◌, ◌≤◌, ◌<◌, ◌^◌, ◌==◌, SomeIff, true, nat_lt};
+ghost use Rattle.std.specs.Prelude.{◌≡◌, ◌≤◌, ◌^◌, nat_lt};
 ghost use Rattle.std.specs.Char.{is_ascii_digit};
 ghost use Rattle.std.specs.List.{list_all};
-ghost use Rattle.std.specs.Str.Parse.{digits_value};
 ghost use Rattle.sap_stim.specs.Line.{value_of, level_named, tagged_of, plain_of, field_of, IsSized};
 
 use crate::MOST_DIGITS;
@@ -13,25 +12,12 @@ use crate::text::cut;
 use sap_lattice::lattice::Lattice;
 use sap_lattice::level::Level;
 use sap_stream::inputs::Tagged;
+use sap_text::scan::number;
 
 pub(crate) fn are_digits(text: &[u8]) -> bool
     ensures { result ≡ list_all is_ascii_digit text.now }
 {
     text.iter().all(|b| b.is_ascii_digit())
-}
-
-/// The number of a text, where it is of digits and has at most 64 bits.
-pub(crate) fn number(text: &[u8]) -> Option<u64>
-    ensures { SomeIff result ((list_all is_ascii_digit text.now ≡ true) × (digits_value 10 text.now < 2 ^ 64)) (digits_value 10 text.now) }
-{
-    let mut n = 0u64;
-    for b in text {
-        if !b.is_ascii_digit() {
-            return None;
-        }
-        n = n.checked_mul(10)?.checked_add(u64::from(*b - b'0'))?;
-    }
-    Some(n)
 }
 
 /// Whether a number has at most `width` bits.
@@ -48,12 +34,11 @@ fn read_value(text: &[u8], width: u32) -> Result<u64, StimCode>
     requires narrow { width ≤ 64 }
     ensures { result ≡ value_of width text.now }
 {
-    if text.is_empty() || text.len() > MOST_DIGITS {
+    if text.is_empty() || text.len() > MOST_DIGITS || !are_digits(text) {
         return Err(StimCode::S1);
     }
-    match number(text) {
+    match number(10, text) {
         Some(value) if is_within(value, width) => Ok(value),
-        None if !are_digits(text) => Err(StimCode::S1),
         _ => Err(StimCode::S2),
     }
 }

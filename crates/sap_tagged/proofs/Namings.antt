@@ -6,11 +6,11 @@ use Rattle.std.proofs.lemmas.Grind.{common_steps}
 use Rattle.sap_lemmas.proofs.Bools.{or_other, true_is_not_false}
 use Rattle.sap_lemmas.proofs.Everywhere.{all_append}
 use Rattle.sap_net.proofs.NamesLemmas.{among_append}
-use Rattle.sap_text.proofs.NamesLemmas.{digits_inner, initial_inner}
+use Rattle.sap_text.proofs.NamesLemmas.{digits_inner, word_inner}
 use Rattle.sap_maps.specs.Maps.{Name}
 use Rattle.sap_meaning.specs.Program.{World, root, is_state, below, last, state_node, Group, no_node, and_node}
 use Rattle.sap_meaning.specs.Fine.{FineGroup, inside}
-use Rattle.sap_net.specs.Names.{is_initial, is_inner, is_word, is_name, is_among, AreDistinct}
+use Rattle.sap_net.specs.Names.{is_inner, is_name, is_among, AreDistinct}
 use Rattle.sap_ir.specs.IsGuarded.{is_helping}
 use Rattle.sap_ir.specs.Plain.Nested.{Forest, none, state, state_names}
 use Rattle.sap_ir.specs.Plain.IsPlain.{is_gate}
@@ -106,12 +106,6 @@ module _ (d : Setting) (names : LawfulStates d) where
 
 numeral_inner : (k : ℕ) → list_all is_inner (numeral k) ≡ true
 numeral_inner k = digits_inner (numeral k) (numeral_digits k)
-
-word_inner : (n : List ℕ) → is_word n ≡ true → list_all is_inner n ≡ true
-word_inner [] h = refl
-word_inner (c ∷ cs) h =
-    let b = and_parts (is_initial c) (list_all is_inner cs) h in
-    rw (initial_inner c b.0, b.1) refl
 
 no_help : (c : ℕ) (cs : List ℕ) → (c == 110) ≡ false → is_helping (c ∷ cs) ≡ false
 no_help c [] h = refl

@@ -1,2 +1,5 @@
 pub mod NamesLemmas
 pub mod BestLemmas
+pub mod Runs
+pub mod PlaceLemmas
+pub mod PairsOfDigits

@@ -7,7 +7,7 @@ use Rattle.std.specs.Str.{IsUtf8}
 use Rattle.std.proofs.lemmas.Str.{IsUtf8-from_ascii}
 use Rattle.std.proofs.lemmas.Bool.{and_from, and_parts}
 use Rattle.std.proofs.lemmas.Bool.Decides.{nat_tests}
-use Rattle.sap_text.specs.Names.{is_initial, is_inner}
+use Rattle.sap_text.specs.Names.{is_initial, is_inner, is_word}
 
 pub digit_inner : (c : ℕ) → is_ascii_digit c ≡ true → is_inner c ≡ true
 digit_inner c h = grind (arith, nat_tests)
@@ -21,6 +21,12 @@ digits_inner (d ∷ ds) h =
     let p = and_parts (is_ascii_digit d) (list_all is_ascii_digit ds) h in
     and_from (is_inner d) (list_all is_inner ds) (digit_inner d p.0) (digits_inner ds p.1)
 
+pub word_inner : (cs : List ℕ) → is_word cs ≡ true → list_all is_inner cs ≡ true
+word_inner [] h = refl
+word_inner (c ∷ cs) h =
+    let p = and_parts (is_initial c) (list_all is_inner cs) h in
+    and_from (is_inner c) (list_all is_inner cs) (initial_inner c p.0) p.1
+
 inner_ascii : (c : ℕ) → is_inner c ≡ true → c < 128
 inner_ascii c h = grind (arith, nat_tests)
 
@@ -29,6 +35,6 @@ all_ascii [] h i = grind (arith)
 all_ascii (c ∷ cs) h zero = inner_ascii c (and_parts (is_inner c) (list_all is_inner cs) h).0
 all_ascii (c ∷ cs) h (suc i) = all_ascii cs (and_parts (is_inner c) (list_all is_inner cs) h).1 i
 
--- a word is a text
+-- letters, digits and `_` are a text
 pub inner_text : (cs : List ℕ) → list_all is_inner cs ≡ true → IsUtf8 cs
 inner_text cs h = IsUtf8-from_ascii cs (all_ascii cs h)

@@ -2,3 +2,4 @@ pub mod Best
 pub mod Blanks
 pub mod Names
 pub mod Places
+pub mod Runs

@@ -1,5 +1,7 @@
-//! What every text has: names, lines and places.
+//! What every text has: names, numbers, lines and places, and the runs of bytes that tokens are made of.
 #![tactic(auto)]
 
+pub mod digits;
 pub mod name;
 pub mod place;
+pub mod scan;

@@ -17,7 +17,8 @@ use sap_check::site_text::push_target;
 use sap_cycle::runner::Runner;
 use sap_desk::RowBuf;
 use sap_lattice::level::Level;
-use sap_stim::rows::{number, push_level};
+use sap_stim::rows::push_level;
+use sap_text::digits::push_number;
 use std::alloc::AllocError;
 
 #[tactic(auto, unfolding(crate::specs::Lines::line_head))]
@@ -27,9 +28,9 @@ fn push_head(out: &mut Vec<u8>, cycle: u64, site: u32) -> Result<(), AllocError>
     ensures full { OnErr result (vec_capacity out.old < length out.old.items + length (line_head cycle site)) }
 {
     out.extend_from_slice(b"cycle ")?;
-    number(out, cycle)?;
+    push_number(out, cycle)?;
     out.extend_from_slice(b": site ")?;
-    number(out, u64::from(site))?;
+    push_number(out, u64::from(site))?;
     out.extend_from_slice(b" ")
 }
 

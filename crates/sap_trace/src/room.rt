@@ -9,8 +9,8 @@ ghost use Rattle.sap_trace.specs.Rooms.{HoldsCycle, HoldsLine, site_room};
 
 use sap_check::Checked;
 use sap_check::site::SiteKind;
-use sap_stim::digits::Digits;
 use sap_stim::longest_level;
+use sap_text::digits::Digits;
 
 // How many digits the number of a site has.
 fn digits(site: u32) -> usize

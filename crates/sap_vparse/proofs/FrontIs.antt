@@ -16,9 +16,11 @@ use Rattle.sap_net.specs.Names.{is_initial, is_inner}
 use Rattle.sap_modtext.specs.Lexing as l
 use Rattle.sap_modtext.specs.Lexing.{word_text, sign_text, words, signs, is_blank, is_in_line, sign_or_bad, sign_front, name_front, number_front, constant_front, digits_front, digits_of_front, front}
 use Rattle.sap_modtext.specs.Tokens as t
-use Rattle.sap_vparse.specs.Lexemes.{front_of, run, word_in, word_or_name, name_at, number_of, number_lexeme, constant_lexeme, is_constant, constant_at, number_at, sign_or, single_at, sign_at, is_comment, lexeme_of}
+use Rattle.sap_vparse.specs.Lexemes.{front_of, word_in, word_or_name, name_at, number_lexeme, constant_lexeme, is_constant, constant_at, number_at, sign_or, single_at, sign_at, pair_sign, single_sign, lexeme_of}
 use Rattle.sap_vparse.specs.Spelling.{word_of, sign_of}
-use Rattle.sap_vparse.specs.declared.lexeme.Class.TheVariants as c
+use Rattle.sap_text.specs.Blanks.{is_comment}
+use Rattle.sap_text.specs.Runs.{number_of, run}
+use Rattle.sap_text.specs.declared.scan.Class.TheVariants as c
 use Rattle.sap_vparse.specs.declared.lexeme.Lexeme.TheVariants.{Blank}
 use Rattle.sap_vparse.specs.declared.lexeme.Lexeme.{Lexeme}
 use Rattle.sap_vparse.specs.declared.token.Sign.TheVariants as s
@@ -42,6 +44,12 @@ starts_two : (xs : List ℕ) (x y : ℕ) → eqb 0 y ≡ false → starts_with n
 starts_two [] x y e = sym (ap (λ b. b && eqb 0 x) e)
 starts_two (c ∷ []) x y e = and_false (eqb x c) ∙ sym (ap (λ b. b && eqb c x) e)
 starts_two (c ∷ f ∷ xs) x y e = and_swap (eqb x c) (eqb y f) ∙ ap (λ b. b && eqb x c) (test_symmetric y f) ∙ ap (λ b. eqb f y && b) (test_symmetric x c)
+
+one_byte : (xs : List ℕ) (x : ℕ) → eqb 0 x ≡ false → starts_with nat_eq xs (x ∷ []) ≡ bytes_eq (slice_index xs 0 ∷ []) (x ∷ [])
+one_byte xs x e = starts_one xs x e ∙ sym (and_true (eqb (slice_index xs 0) x))
+
+two_bytes : (xs : List ℕ) (x y : ℕ) → eqb 0 y ≡ false → starts_with nat_eq xs (x ∷ y ∷ []) ≡ bytes_eq (slice_index xs 0 ∷ slice_index xs 1 ∷ []) (x ∷ y ∷ [])
+two_bytes xs x y e = starts_two xs x y e ∙ sym (and_swap (eqb (slice_index xs 0) x) (eqb (slice_index xs 1) y))
 
 -- keywords
 
@@ -94,48 +102,48 @@ sign_link {b} {b'} x len u v other same size e = subst (λ z. sign_or_bad (cond 
   by_test false = e
 
 signs_are : (bs : List ℕ) → sign_front bs ≡ front_of (sign_at bs)
-unfolding sign_at single_at
+unfolding sign_at single_at pair_sign single_sign
 signs_are bs =
-    (sign_link s.Equal 2 _ _ _ (starts_two bs 61 61 refl) refl
-    (sign_link s.NotEqual 2 _ _ _ (starts_two bs 33 61 refl) refl
-    (sign_link s.LessOrEqual 2 _ _ _ (starts_two bs 60 61 refl) refl
-    (sign_link s.ShiftLeft 2 _ _ _ (starts_two bs 60 60 refl) refl
-    (sign_link s.ShiftRight 2 _ _ _ (starts_two bs 62 62 refl) refl
-    (sign_link s.OpenParen 1 _ _ _ (starts_one bs 40 refl) refl
-    (sign_link s.CloseParen 1 _ _ _ (starts_one bs 41 refl) refl
-    (sign_link s.OpenBrace 1 _ _ _ (starts_one bs 123 refl) refl
-    (sign_link s.CloseBrace 1 _ _ _ (starts_one bs 125 refl) refl
-    (sign_link s.OpenBracket 1 _ _ _ (starts_one bs 91 refl) refl
-    (sign_link s.CloseBracket 1 _ _ _ (starts_one bs 93 refl) refl
-    (sign_link s.Comma 1 _ _ _ (starts_one bs 44 refl) refl
-    (sign_link s.Semicolon 1 _ _ _ (starts_one bs 59 refl) refl
-    (sign_link s.Colon 1 _ _ _ (starts_one bs 58 refl) refl
-    (sign_link s.Question 1 _ _ _ (starts_one bs 63 refl) refl
-    (sign_link s.At 1 _ _ _ (starts_one bs 64 refl) refl
-    (sign_link s.Is 1 _ _ _ (starts_one bs 61 refl) refl
-    (sign_link s.Less 1 _ _ _ (starts_one bs 60 refl) refl
-    (sign_link s.Plus 1 _ _ _ (starts_one bs 43 refl) refl
-    (sign_link s.Minus 1 _ _ _ (starts_one bs 45 refl) refl
-    (sign_link s.Star 1 _ _ _ (starts_one bs 42 refl) refl
-    (sign_link s.Ampersand 1 _ _ _ (starts_one bs 38 refl) refl
-    (sign_link s.Bar 1 _ _ _ (starts_one bs 124 refl) refl
-    (sign_link s.Caret 1 _ _ _ (starts_one bs 94 refl) refl
-    (sign_link s.Tilde 1 _ _ _ (starts_one bs 126 refl) refl
+    (sign_link s.Equal 2 _ _ _ (two_bytes bs 61 61 refl) refl
+    (sign_link s.NotEqual 2 _ _ _ (two_bytes bs 33 61 refl) refl
+    (sign_link s.LessOrEqual 2 _ _ _ (two_bytes bs 60 61 refl) refl
+    (sign_link s.ShiftLeft 2 _ _ _ (two_bytes bs 60 60 refl) refl
+    (sign_link s.ShiftRight 2 _ _ _ (two_bytes bs 62 62 refl) refl
+    (sign_link s.OpenParen 1 _ _ _ (one_byte bs 40 refl) refl
+    (sign_link s.CloseParen 1 _ _ _ (one_byte bs 41 refl) refl
+    (sign_link s.OpenBrace 1 _ _ _ (one_byte bs 123 refl) refl
+    (sign_link s.CloseBrace 1 _ _ _ (one_byte bs 125 refl) refl
+    (sign_link s.OpenBracket 1 _ _ _ (one_byte bs 91 refl) refl
+    (sign_link s.CloseBracket 1 _ _ _ (one_byte bs 93 refl) refl
+    (sign_link s.Comma 1 _ _ _ (one_byte bs 44 refl) refl
+    (sign_link s.Semicolon 1 _ _ _ (one_byte bs 59 refl) refl
+    (sign_link s.Colon 1 _ _ _ (one_byte bs 58 refl) refl
+    (sign_link s.Question 1 _ _ _ (one_byte bs 63 refl) refl
+    (sign_link s.At 1 _ _ _ (one_byte bs 64 refl) refl
+    (sign_link s.Is 1 _ _ _ (one_byte bs 61 refl) refl
+    (sign_link s.Less 1 _ _ _ (one_byte bs 60 refl) refl
+    (sign_link s.Plus 1 _ _ _ (one_byte bs 43 refl) refl
+    (sign_link s.Minus 1 _ _ _ (one_byte bs 45 refl) refl
+    (sign_link s.Star 1 _ _ _ (one_byte bs 42 refl) refl
+    (sign_link s.Ampersand 1 _ _ _ (one_byte bs 38 refl) refl
+    (sign_link s.Bar 1 _ _ _ (one_byte bs 124 refl) refl
+    (sign_link s.Caret 1 _ _ _ (one_byte bs 94 refl) refl
+    (sign_link s.Tilde 1 _ _ _ (one_byte bs 126 refl) refl
     refl)))))))))))))))))))))))))
 
 -- numbers
 
-number_is : (digits : List ℕ) (len : ℕ) → length digits ≡ len → number_front digits ≡ front_of (number_lexeme (number_of digits) len)
-number_is digits len size = subst (λ n. number_front digits ≡ front_of (number_lexeme (number_of digits) n)) size (by_test (nat_lt (digits_value 10 digits) (2 ^ 64))) where
+number_is : (digits : List ℕ) (len : ℕ) → length digits ≡ len → number_front digits ≡ front_of (number_lexeme (number_of 10 digits) len)
+number_is digits len size = subst (λ n. number_front digits ≡ front_of (number_lexeme (number_of 10 digits) n)) size (by_test (nat_lt (digits_value 10 digits) (2 ^ 64))) where
   by_test : (b : Bool) → cond b (l.token (t.number (digits_value 10 digits) (length digits)) (length digits)) l.bad
       ≡ front_of (number_lexeme (cond b (Some (digits_value 10 digits)) None) (length digits))
   by_test true = refl
   by_test false = refl
 
 constant_is : (width digits : List ℕ) (len : ℕ) → length width + 2 + length digits ≡ len
-    → constant_front width digits ≡ front_of (constant_lexeme (number_of width) (number_of digits) len)
+    → constant_front width digits ≡ front_of (constant_lexeme (number_of 10 width) (number_of 10 digits) len)
 constant_is width digits len size =
-    subst (λ n. constant_front width digits ≡ front_of (constant_lexeme (number_of width) (number_of digits) n)) size
+    subst (λ n. constant_front width digits ≡ front_of (constant_lexeme (number_of 10 width) (number_of 10 digits) n)) size
     (by_tests (nat_lt (digits_value 10 width) (2 ^ 64)) (nat_lt (digits_value 10 digits) (2 ^ 64))) where
       by_tests : (a b : Bool) → cond (a && b) (l.token (t.constant (digits_value 10 width) (digits_value 10 digits)) (length width + 2 + length digits)) l.bad
           ≡ front_of (constant_lexeme (cond a (Some (digits_value 10 width)) None) (cond b (Some (digits_value 10 digits)) None) (length width + 2 + length digits))
@@ -171,9 +179,9 @@ unfolding number_at constant_at
 numbers_at bs n h size len =
     ap (λ b. cond b (constant_front (take n bs) (digits_of_front (drop 2 (drop n bs)))) (number_front (take n bs))) (constants_are bs n h)
     ∙ by_test (is_constant n bs)
-    ∙ ap (λ m. front_of (cond (is_constant m bs) (constant_at m bs) (number_lexeme (number_of (take m bs)) m))) (sym size) where
+    ∙ ap (λ m. front_of (cond (is_constant m bs) (constant_at m bs) (number_lexeme (number_of 10 (take m bs)) m))) (sym size) where
       by_test : (b : Bool) → cond b (constant_front (take n bs) (digits_of_front (drop 2 (drop n bs)))) (number_front (take n bs))
-          ≡ front_of (cond b (constant_at n bs) (number_lexeme (number_of (take n bs)) n))
+          ≡ front_of (cond b (constant_at n bs) (number_lexeme (number_of 10 (take n bs)) n))
       by_test false = number_is (take n bs) n len
       by_test true =
           ap (λ xs. constant_front (take n bs) (digits_of_front xs)) (drop-drop 2 n bs)

@@ -10,7 +10,7 @@ pub mod Makes
 pub mod NeverSkips
 pub mod OneReading
 pub mod Rows
-pub mod Runs
+pub mod Signs
 pub mod Single
 pub mod Turns
 pub mod Viable

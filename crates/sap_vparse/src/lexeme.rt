@@ -1,13 +1,14 @@
 //! What stands at the front of a text.
 
 ghost use Rattle.std.specs.Prelude.{◌≡◌, ◌≤◌, ◌<◌, ◌+◌, IfOk, length, slice_index, take, true};
-ghost use Rattle.std.specs.Char.{digit_value};
-ghost use Rattle.sap_net.specs.Names.{is_initial, is_inner};
-ghost use Rattle.sap_vparse.specs.Lexemes.{constant_at, inner_word, is_blank, is_comment, is_constant, is_in, item_word, lexeme_of, name_at, number_at, number_of, pair_in, run, sign_at, single_at, single_in, word_in};
+ghost use Rattle.sap_text.specs.Names.{is_initial, is_inner};
+ghost use Rattle.sap_text.specs.Runs.{is_in};
+ghost use Rattle.sap_vparse.specs.Lexemes.{constant_at, inner_word, is_constant, item_word, lexeme_of, name_at, number_at, pair_sign, sign_at, single_at, single_sign, word_in};
 ghost use Rattle.sap_vparse.specs.Lexing.{IsWithin};
 
 use crate::token::{Kind, Sign, Word};
 use sap_net::parts::Name;
+use sap_text::scan::{Class, byte_at, is_blank, is_comment, is_initial, number, run_len};
 use std::alloc::{AllocError, Global};
 
 /// What stands at the front of a text, with its number of bytes.
@@ -17,43 +18,6 @@ pub enum Lexeme {
     Blank(usize),
     Token(Kind, usize),
     Bad,
-}
-
-/// Kinds of bytes that stand in a row.
-#[derive(Clone, Copy)]
-pub enum Class {
-    /// What a name goes on with.
-    Inner,
-    Decimal,
-    Comment,
-}
-
-fn is_in(class: Class, b: u8) -> bool
-    ensures { result ≡ is_in class b }
-{
-    match class {
-        Class::Inner => b.is_ascii_alphanumeric() || b == b'_',
-        Class::Decimal => b.is_ascii_digit(),
-        Class::Comment => b != b'\n',
-    }
-}
-
-#[tactic(auto, using(crate::proofs::Runs::runs))]
-fn run_len(class: Class, bytes: &[u8]) -> usize
-    ensures value { result ≡ run class bytes.now }
-    ensures within { result ≤ length bytes.now }
-{
-    let mut n = 0;
-    'run: while n < bytes.len() && is_in(class, bytes[n]) {
-        n += 1;
-    }
-    n
-}
-
-fn byte_at(bytes: &[u8], i: usize) -> u8
-    ensures { result ≡ slice_index bytes.now i }
-{
-    if i < bytes.len() { bytes[i] } else { 0 }
 }
 
 fn inner_word(text: &[u8]) -> Option<Word>
@@ -127,30 +91,6 @@ fn name(alloc: Global, bytes: &[u8]) -> Result<Lexeme, AllocError>
     }
 }
 
-/// The value of a digit of any base up to 36, in letters of either case.
-fn digit_value(d: u8) -> u8
-    ensures { result ≡ digit_value d }
-{
-    match d {
-        b'0'..=b'9' => d - b'0',
-        b'A'..=b'Z' => d - 55,
-        b'a'..=b'z' => d - 87,
-        _ => 36,
-    }
-}
-
-/// The number that digits spell, if it is below 2^64.
-#[tactic(auto, using(crate::proofs::Runs::digits))]
-fn number(digits: &[u8]) -> Option<u64>
-    ensures { result ≡ number_of digits.now }
-{
-    let mut n: u64 = 0;
-    'digits: for d in digits {
-        n = n.checked_mul(10)?.checked_add(u64::from(digit_value(*d)))?;
-    }
-    Some(n)
-}
-
 fn is_constant(width: usize, bytes: &[u8]) -> bool
     requires { width ≤ length bytes.now }
     ensures { result ≡ is_constant width bytes.now }
@@ -171,7 +111,7 @@ fn constant(width: usize, bytes: &[u8]) -> Lexeme
 {
     let rest = &bytes[width + 2..];
     let digits = run_len(Class::Decimal, rest);
-    match (number(&bytes[..width]), number(&rest[..digits])) {
+    match (number(10, &bytes[..width]), number(10, &rest[..digits])) {
         (Some(w), Some(n)) => Lexeme::Token(Kind::Constant(w, n), width + 2 + digits),
         _ => Lexeme::Bad,
     }
@@ -187,75 +127,52 @@ fn numeral(bytes: &[u8]) -> Lexeme
     if is_constant(digits, bytes) {
         return constant(digits, bytes);
     }
-    match number(&bytes[..digits]) {
+    match number(10, &bytes[..digits]) {
         Some(n) => Lexeme::Token(Kind::Number(n, digits), digits),
         None => Lexeme::Bad,
     }
 }
 
+#[tactic(auto, unfolding(crate::specs::Lexemes::pair_sign))]
 fn pair_sign(first: u8, second: u8) -> Option<Sign>
-    ensures { result ≡ pair_in first second }
+    ensures { result ≡ pair_sign first second }
 {
-    if second == b'=' && first == b'=' {
-        Some(Sign::Equal)
-    } else if second == b'=' && first == b'!' {
-        Some(Sign::NotEqual)
-    } else if second == b'=' && first == b'<' {
-        Some(Sign::LessOrEqual)
-    } else if second == b'<' && first == b'<' {
-        Some(Sign::ShiftLeft)
-    } else if second == b'>' && first == b'>' {
-        Some(Sign::ShiftRight)
-    } else {
-        None
+    match (first, second) {
+        (b'=', b'=') => Some(Sign::Equal),
+        (b'!', b'=') => Some(Sign::NotEqual),
+        (b'<', b'=') => Some(Sign::LessOrEqual),
+        (b'<', b'<') => Some(Sign::ShiftLeft),
+        (b'>', b'>') => Some(Sign::ShiftRight),
+        _ => None,
     }
 }
 
-fn single_sign(first: u8) -> Option<Sign>
-    ensures { result ≡ single_in first }
+#[tactic(auto, unfolding(crate::specs::Lexemes::single_sign))]
+fn single_sign(byte: u8) -> Option<Sign>
+    ensures { result ≡ single_sign byte }
 {
-    if first == b'(' {
-        Some(Sign::OpenParen)
-    } else if first == b')' {
-        Some(Sign::CloseParen)
-    } else if first == b'{' {
-        Some(Sign::OpenBrace)
-    } else if first == b'}' {
-        Some(Sign::CloseBrace)
-    } else if first == b'[' {
-        Some(Sign::OpenBracket)
-    } else if first == b']' {
-        Some(Sign::CloseBracket)
-    } else if first == b',' {
-        Some(Sign::Comma)
-    } else if first == b';' {
-        Some(Sign::Semicolon)
-    } else if first == b':' {
-        Some(Sign::Colon)
-    } else if first == b'?' {
-        Some(Sign::Question)
-    } else if first == b'@' {
-        Some(Sign::At)
-    } else if first == b'=' {
-        Some(Sign::Is)
-    } else if first == b'<' {
-        Some(Sign::Less)
-    } else if first == b'+' {
-        Some(Sign::Plus)
-    } else if first == b'-' {
-        Some(Sign::Minus)
-    } else if first == b'*' {
-        Some(Sign::Star)
-    } else if first == b'&' {
-        Some(Sign::Ampersand)
-    } else if first == b'|' {
-        Some(Sign::Bar)
-    } else if first == b'^' {
-        Some(Sign::Caret)
-    } else if first == b'~' {
-        Some(Sign::Tilde)
-    } else {
-        None
+    match byte {
+        b'(' => Some(Sign::OpenParen),
+        b')' => Some(Sign::CloseParen),
+        b'{' => Some(Sign::OpenBrace),
+        b'}' => Some(Sign::CloseBrace),
+        b'[' => Some(Sign::OpenBracket),
+        b']' => Some(Sign::CloseBracket),
+        b',' => Some(Sign::Comma),
+        b';' => Some(Sign::Semicolon),
+        b':' => Some(Sign::Colon),
+        b'?' => Some(Sign::Question),
+        b'@' => Some(Sign::At),
+        b'=' => Some(Sign::Is),
+        b'<' => Some(Sign::Less),
+        b'+' => Some(Sign::Plus),
+        b'-' => Some(Sign::Minus),
+        b'*' => Some(Sign::Star),
+        b'&' => Some(Sign::Ampersand),
+        b'|' => Some(Sign::Bar),
+        b'^' => Some(Sign::Caret),
+        b'~' => Some(Sign::Tilde),
+        _ => None,
     }
 }
 
@@ -284,24 +201,6 @@ fn sign(bytes: &[u8]) -> Lexeme
         Some(sign) => Lexeme::Token(Kind::Sign(sign), 2),
         None => single(bytes),
     }
-}
-
-fn is_blank(b: u8) -> bool
-    ensures { result ≡ is_blank b }
-{
-    b == b' ' || b == b'\t' || b == b'\r' || b == b'\n'
-}
-
-fn is_comment(bytes: &[u8]) -> bool
-    ensures { result ≡ is_comment bytes.now }
-{
-    byte_at(bytes, 0) == b'/' && byte_at(bytes, 1) == b'/'
-}
-
-fn is_initial(b: u8) -> bool
-    ensures { result ≡ is_initial b }
-{
-    b.is_ascii_alphabetic() || b == b'_'
 }
 
 /// What stands at the front of a text, longest first.

@@ -1,15 +1,16 @@
 //! Ports and declarations.
 
-ghost use Rattle.std.specs.Prelude.{◌≡◌, ◌++◌, ◌∷◌, [], ◌-◌, OnOk, flat_map, decimal};
+ghost use Rattle.std.specs.Prelude.{◌≡◌, ◌++◌, ◌∷◌, [], ◌-◌, OnOk, codes, flat_map, decimal};
 ghost use Rattle.sap_maps.specs.Scope.{find};
 ghost use Rattle.sap_vprint.specs.Lookup.{shape_found};
 ghost use Rattle.sap_vprint.specs.Printed.{entities, direction_text, port_of, printed_port, declared_items, integer_of};
 ghost use Rattle.sap_vprint.specs.Text.{text_of, items_text, range_pieces, head_pieces, port_text};
 
 use crate::lookup::{Entity, Hints, look_up};
-use crate::words::{number, range};
+use crate::words::range;
 use sap_net::netlist::Netlist;
 use sap_net::parts::{Memory, Name, Port, PortKind};
+use sap_text::digits::push_number;
 use std::alloc::AllocError;
 
 /// The first lines, up to the clock.
@@ -69,7 +70,7 @@ pub fn ports(out: &mut Vec<u8>, netlist: &Netlist, hints: &mut Hints) -> Result<
 
 /// A wire or a register.
 fn value_line(out: &mut Vec<u8>, word: &[u8], name: &Name, width: u32) -> Result<(), AllocError>
-    ensures { OnOk result (out.new.items ≡ out.old.items ++ (word.now ++ (text_of (range_pieces (width - 1)) ++ (name.now ++ (59 ∷ 10 ∷ []))))) }
+    ensures { OnOk result (out.new.items ≡ out.old.items ++ (word.now ++ (text_of (range_pieces (width - 1)) ++ (name.now ++ codes ";\n")))) }
 {
     out.extend_from_slice(word)?;
     range(out, width)?;
@@ -78,13 +79,13 @@ fn value_line(out: &mut Vec<u8>, word: &[u8], name: &Name, width: u32) -> Result
 }
 
 fn memory_line(out: &mut Vec<u8>, name: &Name, width: u32, depth: u32) -> Result<(), AllocError>
-    ensures { OnOk result (out.new.items ≡ out.old.items ++ (114 ∷ 101 ∷ 103 ∷ 32 ∷ (text_of (range_pieces (width - 1)) ++ (name.now ++ (32 ∷ 91 ∷ 48 ∷ 58 ∷ (decimal (depth - 1) ++ (93 ∷ 59 ∷ 10 ∷ []))))))) }
+    ensures { OnOk result (out.new.items ≡ out.old.items ++ (codes "reg " ++ (text_of (range_pieces (width - 1)) ++ (name.now ++ (codes " [0:" ++ (decimal (depth - 1) ++ codes "];\n")))))) }
 {
     out.extend_from_slice(b"reg ")?;
     range(out, width)?;
     out.extend_from_slice(name.as_bytes())?;
     out.extend_from_slice(b" [0:")?;
-    number(out, u64::from(depth.saturating_sub(1)))?;
+    push_number(out, u64::from(depth.saturating_sub(1)))?;
     out.extend_from_slice(b"];\n")
 }
 

@@ -4,8 +4,9 @@ ghost use Rattle.std.specs.Prelude.{◌≡◌, ◌++◌, OnOk, flat_map};
 ghost use Rattle.sap_vprint.specs.Printed.{assign_of, initial_of, initial_cells_of, always_of, always_cell_of};
 ghost use Rattle.sap_vprint.specs.Text.{item_text, clocked_text, loop_text};
 
-use crate::words::{cell, constant, number, operand, right};
+use crate::words::{cell, constant, operand, right};
 use sap_net::parts::{Memory, Register, Wire};
+use sap_text::digits::push_number;
 use std::alloc::AllocError;
 
 #[tactic(auto, unfolding(crate::specs::Text::item_text))]
@@ -55,7 +56,7 @@ fn loop_head(out: &mut Vec<u8>, depth: u32) -> Result<(), AllocError>
     ensures { OnOk result (out.new.items ≡ out.old.items ++ loop_text depth) }
 {
     out.extend_from_slice(b"for (i = 0; i < ")?;
-    number(out, u64::from(depth))?;
+    push_number(out, u64::from(depth))?;
     out.extend_from_slice(b"; i = i + 1) ")
 }
 

@@ -1,33 +1,21 @@
 //! Numbers, operands and right sides.
 
-ghost use Rattle.std.specs.Prelude.{◌≡◌, ◌-◌, ◌++◌, ◌∷◌, [], OnOk, decimal, flat_map, map};
+ghost use Rattle.std.specs.Prelude.{◌≡◌, ◌-◌, ◌++◌, ◌∷◌, [], OnOk, codes, decimal, flat_map, map};
 ghost use Rattle.sap_vprint.specs.Printed.{operand_of, right_of};
 ghost use Rattle.sap_vprint.specs.Text.{text_of, operand_text, unary_text, binary_text, part_pieces, parts_pieces, range_pieces, right_pieces};
 
 use sap_bits::{Op1, Op2};
 use sap_net::parts::{Name, Operand, Right};
+use sap_text::digits::push_number;
 use std::alloc::AllocError;
-
-/// A number in decimal digits.
-pub fn number(out: &mut Vec<u8>, n: u64) -> Result<(), AllocError>
-    ensures { OnOk result (out.new.items ≡ out.old.items ++ decimal n) }
-{
-    if n < 10 {
-        out.push(b'0' + n as u8)?;
-        return Ok(());
-    }
-    number(out, n / 10)?;
-    out.push(b'0' + (n % 10) as u8)?;
-    Ok(())
-}
 
 /// A constant of a width.
 pub fn constant(out: &mut Vec<u8>, width: u32, value: u64) -> Result<(), AllocError>
-    ensures { OnOk result (out.new.items ≡ out.old.items ++ (decimal width ++ (39 ∷ 100 ∷ decimal value))) }
+    ensures { OnOk result (out.new.items ≡ out.old.items ++ (decimal width ++ (codes "'d" ++ decimal value))) }
 {
-    number(out, u64::from(width))?;
+    push_number(out, u64::from(width))?;
     out.extend_from_slice(b"'d")?;
-    number(out, value)
+    push_number(out, value)
 }
 
 pub fn operand(out: &mut Vec<u8>, operand: &Operand) -> Result<(), AllocError>
@@ -44,7 +32,7 @@ pub fn range(out: &mut Vec<u8>, width: u32) -> Result<(), AllocError>
     ensures { OnOk result (out.new.items ≡ out.old.items ++ text_of (range_pieces (width - 1))) }
 {
     out.extend_from_slice(b"[")?;
-    number(out, u64::from(width.saturating_sub(1)))?;
+    push_number(out, u64::from(width.saturating_sub(1)))?;
     out.extend_from_slice(b":0] ")
 }
 
@@ -105,7 +93,7 @@ fn parts(out: &mut Vec<u8>, operands: &[Operand]) -> Result<(), AllocError>
 }
 
 fn concat(out: &mut Vec<u8>, operands: &[Operand]) -> Result<(), AllocError>
-    ensures { OnOk result (out.new.items ≡ out.old.items ++ (123 ∷ (text_of (parts_pieces (map operand_of operands.now)) ++ (125 ∷ [])))) }
+    ensures { OnOk result (out.new.items ≡ out.old.items ++ (codes "{" ++ (text_of (parts_pieces (map operand_of operands.now)) ++ codes "}"))) }
 {
     out.extend_from_slice(b"{")?;
     parts(out, operands)?;
@@ -113,19 +101,19 @@ fn concat(out: &mut Vec<u8>, operands: &[Operand]) -> Result<(), AllocError>
 }
 
 fn slice(out: &mut Vec<u8>, name: &Name, hi: u32, lo: u32) -> Result<(), AllocError>
-    ensures { OnOk result (out.new.items ≡ out.old.items ++ (name.now ++ (91 ∷ (decimal hi ++ (58 ∷ (decimal lo ++ (93 ∷ []))))))) }
+    ensures { OnOk result (out.new.items ≡ out.old.items ++ (name.now ++ (codes "[" ++ (decimal hi ++ (codes ":" ++ (decimal lo ++ codes "]")))))) }
 {
     out.extend_from_slice(name.as_bytes())?;
     out.extend_from_slice(b"[")?;
-    number(out, u64::from(hi))?;
+    push_number(out, u64::from(hi))?;
     out.extend_from_slice(b":")?;
-    number(out, u64::from(lo))?;
+    push_number(out, u64::from(lo))?;
     out.extend_from_slice(b"]")
 }
 
 /// A cell of a memory.
 pub fn cell(out: &mut Vec<u8>, memory: &Name, index: &Operand) -> Result<(), AllocError>
-    ensures { OnOk result (out.new.items ≡ out.old.items ++ (memory.now ++ (91 ∷ (operand_text (operand_of index.now) ++ (93 ∷ []))))) }
+    ensures { OnOk result (out.new.items ≡ out.old.items ++ (memory.now ++ (codes "[" ++ (operand_text (operand_of index.now) ++ codes "]")))) }
 {
     out.extend_from_slice(memory.as_bytes())?;
     out.extend_from_slice(b"[")?;

@@ -1,5 +1,6 @@
 -- The words of a command.
 use Rattle.std.specs.Prelude.{◌≡◌, ℕ, Bool, true, not, ◌&&◌, List, [], ◌∷◌, length, nat_le, bytes_eq, eqb, codes, Option, Some, None, if◌then◌else◌}
+use Rattle.std.specs.Str.{byte}
 use Rattle.std.specs.Char.{is_ascii_digit}
 use Rattle.std.specs.List.{list_all}
 use Rattle.std.specs.Str.Parse.{digits_value}
@@ -22,7 +23,7 @@ IsTwin c = (lattice : List ℕ) × (design : List ℕ) × (first : List ℕ) × 
 -- an operand begins with no `-`
 abbrev pub is_operand : List ℕ → Bool
 is_operand [] = true
-is_operand (c ∷ cs) = not (eqb c 45)
+is_operand (c ∷ cs) = not (eqb c (byte "-"))
 
 -- as many operands as the command has, none of which begins with `-`
 abbrev pub one : (List ℕ → Option Words) → List (List ℕ) → Option Words

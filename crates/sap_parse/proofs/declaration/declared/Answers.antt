@@ -1,6 +1,5 @@
-use Rattle.std.proofs.Common.{◌∷◌, [], ◌∙◌, rules}
+use Rattle.std.proofs.Common.{◌∙◌, rules}
 use Rattle.sap_parse.specs.DesignRows.{declared_row}
-use Rattle.sap_parse.specs.Reading.{steps_by, strictly}
 use Rattle.sap_parse.specs.Table as s
 use Rattle.sap_parse.specs.declared.limit.Role.TheVariants as r
 use Rattle.sap_parse.specs.declared.token.Sign.TheVariants as j

@@ -13,9 +13,9 @@ unfolding place_at
 lexemes-init c = record {
   within = omega arith;
   reached = subst (Reached c.args.text.now 0) (sym c.new-tokens.ensures.items) start;
-  place = refl;
-  positive = omega arith;
-  bound = omega arith;
+  place = c.first-place.ensures;
+  positive = rw c.first-place.ensures (omega arith);
+  bound = rw c.first-place.ensures (omega arith);
 }
 
 pub lexemes-preserved-in-Blank : goal.lexemes-preserved-in-Blank
@@ -25,8 +25,8 @@ lexemes-preserved-in-Blank c =
     record {
       within = omega (arith, fits.1, ap length same, length-drop c.lexemes.n c.args.text.now);
       reached = blank c.in-Blank.len c.lexemes.invariant.reached (ap lexeme_of (sym same) ∙ sym c.in_ok-len.ensures.value ∙ c.in-Blank.is);
-      place = advanced c.args.text.now c.lexemes.n c.in-Blank.len c.lexemes.invariant.place same c.advance-place.ensures.value;
-      positive = c.advance-place.ensures.positive;
+      place = advanced c.args.text.now c.lexemes.n c.in-Blank.len c.lexemes.invariant.place same c.after-place.ensures.value;
+      positive = c.after-place.ensures.positive;
       bound = omega (arith, length-take c.in-Blank.len (take (length c.args.text.now - c.lexemes.n) (drop c.lexemes.n c.args.text.now)));
     }
 
@@ -43,8 +43,8 @@ lexemes-preserved c =
             from = refl;
             to = refl;
           }));
-      place = advanced c.args.text.now c.lexemes.n c.in-Token.len c.lexemes.invariant.place same c.advance-place-in-Token.ensures.value;
-      positive = c.advance-place-in-Token.ensures.positive;
+      place = advanced c.args.text.now c.lexemes.n c.in-Token.len c.lexemes.invariant.place same c.after-place-in-Token.ensures.value;
+      positive = c.after-place-in-Token.ensures.positive;
       bound = omega (arith, length-take c.in-Token.len (take (length c.args.text.now - c.lexemes.n) (drop c.lexemes.n c.args.text.now)));
     }
 

@@ -5,10 +5,10 @@ use Rattle.sap_parse.proofs.OneReading.{few_tokens, fault_at_limit, fault_at_tok
 use Rattle.sap_parse.proofs.read.parse.Goals as goal
 
 pub returns-then-source-gt-MOST_BYTES-clause-fault : goal.returns-then-source-gt-MOST_BYTES-clause-fault
-returns-then-source-gt-MOST_BYTES-clause-fault c = λ no. too_long (omega arith)
+returns-then-source-gt-MOST_BYTES-clause-fault c = λ no. rw c.first.ensures (too_long (omega arith))
 
 pub returns-then-source-gt-MOST_BYTES-clause-refused : goal.returns-then-source-gt-MOST_BYTES-clause-refused
-returns-then-source-gt-MOST_BYTES-clause-refused c = λ no design t. not_both c.args.source.now design _ t (too_long (omega arith))
+returns-then-source-gt-MOST_BYTES-clause-refused c = λ no design t. not_both c.args.source.now design _ t (returns-then-source-gt-MOST_BYTES-clause-fault c no)
 
 pub returns-in_err-list-clause-design : goal.returns-in_err-list-clause-design
 returns-in_err-list-clause-design c = no_ok _ c.from_residual.result c.in_err-list.field-0.0 (search rules)

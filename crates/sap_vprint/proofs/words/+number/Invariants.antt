@@ -1,4 +1,0 @@
-use Rattle.sap_vprint.proofs.words.+number.Given as goal
-
-abbrev pub decreases-number : goal.decreases-number
-decreases-number l = l.n
