@@ -1,5 +1,6 @@
 -- Two lattices of the same names and the same order give a design the same program, and its states the same rows.
-use Rattle.std.proofs.Common.{◌≡◌, ℕ, ◌+◌, List, [], ◌∷◌, ◌++◌, Option, Some, None, ◌-◌, length, map, refl, ap, ap₂, ◌∙◌, if◌then◌else◌}
+use Rattle.std.proofs.Common.{◌≡◌, ℕ, ◌+◌, List, [], ◌∷◌, ◌++◌, Option, Some, None, ◌-◌, length, map, refl, ap, ap₂, ◌∙◌, if◌then◌else◌, bytes_eq}
+use Rattle.std.specs.List.{position_or_len}
 use Rattle.std.specs.Prelude.{slice_get}
 use Rattle.sap_lattice.specs.Closure.{name_at}
 use Rattle.sap_lattice.specs.Codes.{code_of}
@@ -31,11 +32,11 @@ use Rattle.sap_resolve.specs.Fill.{filled_group, program_of, table}
 use Rattle.sap_resolve.specs.Resolve as resolve
 use Rattle.sap_shape.specs.Sites.{Surroundings, simple_sites, command_sites, block_sites, state_sites}
 use Rattle.sap_resolve.specs.Terms.{entity_number, level_term, level_terms, term_of}
-use Rattle.sap_resolve.specs.Worlds.{all_declared, authority_level, authority_of, declared, declared_level, group_entities, group_children, group_length, is_dynamic_kind, level_number, no_children, position, state_entities, states_below, states_in, world_of}
+use Rattle.sap_resolve.specs.Worlds.{all_declared, authority_level, authority_of, declared, declared_level, group_entities, group_children, group_length, is_dynamic_kind, level_number, no_children, state_entities, states_below, states_in, world_of}
 
 module _ (l m : Levels) (names : l.names ≡ m.names) (order : order_of l ≡ order_of m) where
   level_same : (x : Mention) → level_number l x ≡ level_number m x
-  level_same x = ap (λ (ns : List (List ℕ)). position ns x.name) names
+  level_same x = ap (λ (ns : List (List ℕ)). position_or_len (λ l. bytes_eq l x.name) ns) names
 
   bottom_same : (order_of l).bottom ≡ (order_of m).bottom
   bottom_same = ap (λ (o : Order). o.bottom) order

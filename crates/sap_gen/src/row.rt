@@ -14,7 +14,7 @@ ghost use Rattle.sap_gen.specs.Shown.{entity_shown, register_text};
 use sap_check::Checked;
 use sap_names::kind::EntityKind;
 use sap_sem::machine::Machine;
-use sap_stim::rows::number;
+use sap_text::digits::push_number;
 use std::alloc::AllocError;
 
 fn push_shown(out: &mut Vec<u8>, name: &[u8], value: u64, level: &[u8]) -> Result<(), AllocError>
@@ -23,7 +23,7 @@ fn push_shown(out: &mut Vec<u8>, name: &[u8], value: u64, level: &[u8]) -> Resul
     out.extend_from_slice(b" ")?;
     out.extend_from_slice(name)?;
     out.extend_from_slice(b"=")?;
-    number(out, value)?;
+    push_number(out, value)?;
     out.extend_from_slice(b"@")?;
     out.extend_from_slice(level)
 }
@@ -84,7 +84,7 @@ pub(crate) fn push_row(
     ensures { OnOk result (out.new.items ≡ out.old.items ++ labelled_row (levels_in checked.now) (named_of (levels_in checked.now) (tree_in checked.now)) cycle (state_of machine.now)) }
 {
     out.extend_from_slice(b"cycle ")?;
-    number(out, u64::from(cycle))?;
+    push_number(out, u64::from(cycle))?;
     out.extend_from_slice(b":")?;
     push_registers(out, checked, machine)
 }

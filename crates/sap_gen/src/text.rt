@@ -24,14 +24,14 @@ use sap_check::Checked;
 use sap_desk::Bytes;
 use sap_hang::hang::hang;
 use sap_sem::machine::Machine;
-use sap_stim::rows::number;
+use sap_text::digits::push_number;
 use std::alloc::{AllocError, Global};
 
 /// Appends a number and what stands behind it.
 fn push_count(out: &mut Vec<u8>, count: u64, words: &[u8]) -> Result<(), AllocError>
     ensures { OnOk result (out.new.items ≡ out.old.items ++ (decimal count ++ words.now)) }
 {
-    number(out, count)?;
+    push_number(out, count)?;
     out.extend_from_slice(words)
 }
 

@@ -28,9 +28,6 @@ every_from_at test a (suc n) h =
 pub every_from : (test : ℕ → Bool) (n : ℕ) → ((k : ℕ) → k < n → test k ≡ true) → every n test ≡ true
 every_from test n h = every_from_at test 0 n (λ k low high. h k (omega arith))
 
-pub not_every : (test : ℕ → Bool) (n k : ℕ) → k < n → test k ≡ false → every n test ≡ false
-not_every test n k high h = false_from_ne_true _ (λ e. both_ways (test k) h (every_at test n e k high))
-
 -- what passes at a number passes somewhere
 any_from_at : (test : ℕ → Bool) (a n k : ℕ) → a ≤ k → k < a + n → test k ≡ true → list_any test (range_with_len a n) ≡ true
 any_from_at test a zero k low high h = absurd (omega arith)
@@ -143,29 +140,6 @@ filter_fewer_from test a (suc n) k low high h =
 
 pub filter_fewer : (test : ℕ → Bool) (n k : ℕ) → k < n → test k ≡ false → length (filter test (numbers n)) < n
 filter_fewer test n k high h = filter_fewer_from test 0 n k (omega arith) (omega arith) h
-
--- what a search for the first that passes finds
-find_first_from : (test : ℕ → Bool) (a n k : ℕ) → a ≤ k → k < a + n → test k ≡ true → ((j : ℕ) → a ≤ j → j < k → test j ≡ true → ⊥) → find test (range_with_len a n) ≡ Some k
-find_first_from test a zero k low high here none = absurd (omega arith)
-find_first_from test a (suc n) k low high here none =
-    elim (cases_eq a k) [
-      | inl e ↦ cond-true (test a) (Some a) (find test (range_with_len (a + 1) n)) (subst (λ j. test j ≡ true) (sym e) here) ∙ ap Some e
-      | inr ne ↦
-          cond-false (test a) (Some a) (find test (range_with_len (a + 1) n)) (false_from_ne_true (test a) (none a (omega arith) (omega arith)))
-          ∙ find_first_from test (a + 1) n k (omega arith) (omega arith) here (λ j l u t. none j (omega arith) u t)
-    ]
-
-pub find_first : (test : ℕ → Bool) (n k : ℕ) → k < n → test k ≡ true → ((j : ℕ) → j < k → test j ≡ true → ⊥) → find test (numbers n) ≡ Some k
-find_first test n k high here none = find_first_from test 0 n k (omega arith) (omega arith) here (λ j l u t. none j u t)
-
-find_none_from : (test : ℕ → Bool) (a n : ℕ) → ((k : ℕ) → a ≤ k → k < a + n → test k ≡ true → ⊥) → find test (range_with_len a n) ≡ None
-find_none_from test a zero none = refl
-find_none_from test a (suc n) none =
-    cond-false (test a) (Some a) (find test (range_with_len (a + 1) n)) (false_from_ne_true (test a) (none a (omega arith) (omega arith)))
-    ∙ find_none_from test (a + 1) n (λ k l u t. none k (omega arith) (omega arith) t)
-
-pub find_none : (test : ℕ → Bool) (n : ℕ) → ((k : ℕ) → k < n → test k ≡ true → ⊥) → find test (numbers n) ≡ None
-find_none test n none = find_none_from test 0 n (λ k l u t. none k (omega arith) t)
 
 -- what a search for the first that passes says
 find_cases_from : (test : ℕ → Bool) (a n : ℕ) → MatchOption (find test (range_with_len a n)) ((k : ℕ) → a ≤ k → k < a + n → test k ≡ false) (λ k. (k < a + n) × (test k ≡ true))

@@ -9,7 +9,7 @@ ghost use Rattle.sap_lattice.specs.Rows.{order_in};
 use crate::relation::Relation;
 use std::alloc::{AllocError, Global};
 
-/// Whether x is below y and another level.
+/// Whether x is below y, and not y itself.
 fn is_strictly_below(order: &Relation, x: usize, y: usize) -> bool
     requires left { x < length order.now }
     requires right { y < length order.now }
@@ -34,12 +34,7 @@ fn has_between(order: &Relation, x: usize, y: usize) -> bool
     requires right { y < length order.now }
     ensures { let o = order_in order.now in result ≡ list_any (λ z. is_strictly_below o x z && is_strictly_below o z y) (numbers (length order.now)) }
 {
-    for z in 0..order.count() {
-        if is_between(order, x, z, y) {
-            return true;
-        }
-    }
-    false
+    (0..order.count()).any(|z| is_between(order, x, z, y))
 }
 
 /// Whether y is an upper cover of x.

@@ -3,9 +3,10 @@
 ghost use Rattle.std.specs.Prelude.{◌≡◌};
 ghost use Rattle.std.specs.List.{list_all, list_any};
 ghost use Rattle.std.specs.Str.{bytes_eq};
-ghost use Rattle.sap_lattice.specs.Words.{is_word, is_initial, is_inner, is_keyword};
+ghost use Rattle.sap_lattice.specs.Words.{is_word, is_inner, is_keyword};
 
 pub use sap_text::name::Name;
+use sap_text::scan::{Class, is_in, is_initial};
 
 /// Whether these bytes have the form of a name; a keyword has it too.
 pub(crate) fn is_word(bytes: &[u8]) -> bool
@@ -17,22 +18,10 @@ pub(crate) fn is_word(bytes: &[u8]) -> bool
     }
 }
 
-fn is_initial(c: u8) -> bool
-    ensures { result ≡ is_initial c }
-{
-    c.is_ascii_alphabetic() || c == b'_'
-}
-
 fn are_inner(bytes: &[u8]) -> bool
     ensures { result ≡ list_all is_inner bytes.now }
 {
-    bytes.iter().all(|c| is_inner(*c))
-}
-
-fn is_inner(c: u8) -> bool
-    ensures { result ≡ is_inner c }
-{
-    c.is_ascii_alphanumeric() || c == b'_'
+    bytes.iter().all(|c| is_in(Class::Inner, *c))
 }
 
 const KEYWORDS: [&[u8]; 17] = [

@@ -46,12 +46,7 @@ fn is_below_bounds(order: &Relation, x: usize, y: usize, j: usize) -> bool
     ensures { let le = (order_in order.now).le in
         result ≡ every (length order.now) (λ u. not (is_upper_bound le x y u) || le j u) }
 {
-    for u in 0..order.count() {
-        if !is_below_bound(order, x, y, j, u) {
-            return false;
-        }
-    }
-    true
+    (0..order.count()).all(|u| is_below_bound(order, x, y, j, u))
 }
 
 /// Whether j is the least upper bound of x and y.
@@ -69,12 +64,7 @@ fn has_join(order: &Relation, x: usize, y: usize) -> bool
     requires right { y < length order.now }
     ensures { result ≡ list_any (is_join (length order.now) (order_in order.now).le x y) (numbers (length order.now)) }
 {
-    for j in 0..order.count() {
-        if is_join(order, x, y, j) {
-            return true;
-        }
-    }
-    false
+    (0..order.count()).any(|j| is_join(order, x, y, j))
 }
 
 fn breaks(order: &Relation, rule: PairRule, x: usize, y: usize) -> bool
@@ -107,46 +97,26 @@ fn is_least(order: &Relation, b: usize) -> bool
     requires { b < length order.now }
     ensures { result ≡ is_least (length order.now) (order_in order.now).le b }
 {
-    for x in 0..order.count() {
-        if !order.le(b, x) {
-            return false;
-        }
-    }
-    true
+    (0..order.count()).all(|x| order.le(b, x))
 }
 
 /// The level that is below every level.
 pub fn least(order: &Relation) -> Option<usize>
     ensures { result ≡ find (is_least (length order.now) (order_in order.now).le) (numbers (length order.now)) }
 {
-    for b in 0..order.count() {
-        if is_least(order, b) {
-            return Some(b);
-        }
-    }
-    None
+    (0..order.count()).find(|b| is_least(order, *b))
 }
 
 fn is_greatest(order: &Relation, t: usize) -> bool
     requires { t < length order.now }
     ensures { result ≡ is_greatest (length order.now) (order_in order.now).le t }
 {
-    for x in 0..order.count() {
-        if !order.le(x, t) {
-            return false;
-        }
-    }
-    true
+    (0..order.count()).all(|x| order.le(x, t))
 }
 
 /// The level that is above every level.
 pub fn greatest(order: &Relation) -> Option<usize>
     ensures { result ≡ find (is_greatest (length order.now) (order_in order.now).le) (numbers (length order.now)) }
 {
-    for t in 0..order.count() {
-        if is_greatest(order, t) {
-            return Some(t);
-        }
-    }
-    None
+    (0..order.count()).find(|t| is_greatest(order, *t))
 }

@@ -3,8 +3,8 @@ pub mod Faults
 pub mod First
 pub mod Parts
 pub mod Lists
+pub mod Depths
 pub mod Groups
-pub mod Levels
 pub mod Commands
 pub mod Numbers
 pub mod Twice

@@ -1,5 +1,5 @@
 -- The faults of names and widths, E3 to E9: each sentence once, over the tree. A list has the faults that stand, in no order that counts.
-use Rattle.std.specs.Prelude.{ℕ, List, [], ◌∷◌, ◌++◌, Option, Some, None, Bool, true, false, not, eqb, leb, ◌&&◌, ◌^◌, ◌+◌, if◌then◌else◌, bytes_eq}
+use Rattle.std.specs.Prelude.{ℕ, List, [], ◌∷◌, ◌++◌, Option, Some, None, Bool, true, false, not, eqb, leb, ◌&&◌, ◌^◌, if◌then◌else◌, bytes_eq, position, is_some}
 use Rattle.sap_tree.specs.declared.name.Mention.{Mention}
 use Rattle.sap_text.specs.declared.place.Place.{Place}
 use Rattle.sap_tree.specs.declared.syntax.Numeral.{Numeral}
@@ -119,17 +119,9 @@ abbrev pub constants_faults : Lookup → (asked : Option ℕ) → Expressions �
 constants_faults what asked no_part = []
 constants_faults what asked (and_part e parts) = expression_faults what e asked ++ constants_faults what asked parts
 
--- the number of a level's name, from 0, where the levels begin with the number n
-abbrev pub level_from : (n : ℕ) → List (List ℕ) → List ℕ → Option ℕ
-level_from n [] name = None
-level_from n (l ∷ ls) name = if bytes_eq l name then Some n else level_from (n + 1) ls name
-
+-- the number of a level's name, from 0
 abbrev pub level_number : List (List ℕ) → List ℕ → Option ℕ
-level_number levels name = level_from 0 levels name
-
-abbrev pub is_some : Option ℕ → Bool
-is_some None = false
-is_some (Some n) = true
+level_number levels name = position (λ l. bytes_eq l name) levels
 
 -- E6: a level name that is no level
 abbrev pub is_level : List (List ℕ) → List ℕ → Bool

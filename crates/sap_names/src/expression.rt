@@ -54,7 +54,7 @@ fn lacks(mine: Option<u64>, operands: bool) -> bool
     mine.is_none() && operands
 }
 
-/// The best so far of the faults of an expression where its place asks for a width, or for none.
+/// Notes the faults of an expression where its place asks for a width, or for none.
 #[cycle(faults)]
 #[tactic(auto, using(sap_tree::proofs::Views::views, crate::proofs::Faults::noting), unfolding(sap_tree::specs::Spots::first_of, sap_tree::specs::Spots::spot_of))]
 pub fn expression_faults(names: &Entities, e: &Expr, asked: Option<u64>, best: &mut Option<Fault>)

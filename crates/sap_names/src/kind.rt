@@ -47,18 +47,32 @@ pub enum Family {
 /// The code of a fault of names and widths, E3 to E9, or of shape.
 #[derive(Clone, Copy, Debug)]
 pub enum Code {
+    /// A name is declared twice.
     E3,
+    /// A used name is declared nowhere.
     E4,
+    /// A used name is of the wrong kind.
     E5,
+    /// A name of a level is no level of the lattice.
     E6,
+    /// A width is out of range, or two widths differ that must be the same.
     E7,
+    /// A number is too large for its width.
     E8,
+    /// The declared tag isn't at or above the authority.
     E9,
+    /// A body doesn't end each of its ways with one transfer.
     E10,
+    /// A `goto` names no state of its group.
     E11,
+    /// A `fall` stands in a state without children.
     E12,
+    /// A memory may be written twice in one cycle.
     E14,
+    /// A handler can never run.
     E15,
+    /// A `setTag` is on a dynamic entity.
     E16,
+    /// A `setTag` is on the state in whose body it stands, or on one above or below it.
     E17,
 }

@@ -1,6 +1,6 @@
-//! Levels by their names.
+//! Faults of levels' names and of kinds.
 
-ghost use Rattle.std.specs.Prelude.{◌≡◌, ℕ};
+ghost use Rattle.std.specs.Prelude.{◌≡◌};
 ghost use Rattle.sap_names.specs.NameFaults as faults;
 ghost use Rattle.sap_names.specs.Best.{best_of};
 ghost use Rattle.sap_lattice.specs.Levels.{order_of};
@@ -12,34 +12,27 @@ use sap_lattice::level::Level;
 use sap_tree::name::{Mention, Name};
 use sap_tree::syntax::{Kind, Under};
 
-/// The number of the level of this name.
-#[tactic(auto, using(crate::proofs::Levels::levels))]
-pub fn level_number(lattice: &Lattice, name: &Name) -> Option<u8>
+fn level_named(lattice: &Lattice, name: &Name) -> Option<Level>
     ensures { result ≡ faults.level_number lattice.now.names name.now }
 {
-    lattice.lawful();
-    for place in 0..lattice.count() as u8 {
-        if lattice.name(Level::new(place)).as_bytes() == name.as_bytes() {
-            return Some(place);
-        }
-    }
-    None
+    lattice.level_named(name.as_bytes())
 }
 
+/// Notes E6 at the name of a level that is none of the lattice's.
 #[tactic(auto, using(crate::proofs::Faults::noting))]
 pub fn note_level(best: &mut Option<Fault>, lattice: &Lattice, level: &Mention)
     ensures { best.new ≡ best_of best.old (faults.level_faults lattice.now.names level.now) }
 {
-    let number = level_number(lattice, &level.name);
-    note(best, number.is_none(), Code::E6, level.place);
+    let known = level_named(lattice, &level.name);
+    note(best, known.is_none(), Code::E6, level.place);
 }
 
-fn not_below(lattice: &Lattice, lower: Option<u8>, upper: Option<u8>) -> bool
+fn not_below(lattice: &Lattice, lower: Option<Level>, upper: Option<Level>) -> bool
     ensures { result ≡ faults.not_below (order_of lattice.now).le lower upper }
 {
     match lower {
         Some(a) => match upper {
-            Some(b) => !lattice.le(Level::new(a), Level::new(b)),
+            Some(b) => !lattice.le(a, b),
             None => false,
         },
         None => false,
@@ -53,8 +46,8 @@ fn note_under(best: &mut Option<Fault>, lattice: &Lattice, level: &Mention, unde
     match under {
         Some(authority) => {
             note_level(best, lattice, &authority.level);
-            let lower = level_number(lattice, &authority.level.name);
-            let upper = level_number(lattice, &level.name);
+            let lower = level_named(lattice, &authority.level.name);
+            let upper = level_named(lattice, &level.name);
             note(
                 best,
                 not_below(lattice, lower, upper),
@@ -66,7 +59,7 @@ fn note_under(best: &mut Option<Fault>, lattice: &Lattice, level: &Mention, unde
     }
 }
 
-/// The best so far of the faults of a kind.
+/// Notes the faults of a kind.
 #[tactic(auto, using(crate::proofs::Faults::noting))]
 pub fn note_kind(best: &mut Option<Fault>, lattice: &Lattice, kind: &Kind)
     ensures { best.new ≡ best_of best.old (faults.kind_faults lattice.now.names (order_of lattice.now).le kind.now) }

@@ -106,7 +106,7 @@ impl Names {
         self.entity(entity).what.width() as u32
     }
 
-    /// The number of a text, from 0.
+    /// The number of the entity whose name is this text; none where there is no such entity.
     pub fn find(&self, name: &str) -> Option<u32>
         ensures { result ≡ number_of self.now name.now }
     {
@@ -114,7 +114,7 @@ impl Names {
         Some(number as u32)
     }
 
-    /// The number of a name, from 0.
+    /// The number of the entity whose name is this text; none where there is no such entity.
     pub fn number(&self, name: &Name) -> Option<u32>
         ensures { result ≡ number_of self.now name.now }
     {

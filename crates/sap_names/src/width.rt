@@ -1,4 +1,4 @@
-//! Widths of expressions, and the widths that operators ask of their operands.
+//! Widths of expressions, and the widths that operators ask of their operands, all in bits.
 
 ghost use Rattle.std.specs.Prelude.{◌≡◌, Some, if◌then◌else◌};
 ghost use Rattle.sap_names.specs.Widths as spec;
@@ -9,6 +9,7 @@ use crate::entities::Entities;
 use crate::kind::{Declared, Family};
 use sap_tree::syntax::{BinaryOperator, Expr, UnaryOperator};
 
+/// A width as it is written, where it is from 1 to 64 bits; else none.
 pub fn sound_width(width: u64) -> Option<u64>
     ensures { result ≡ spec.sound_width width }
 {
@@ -19,26 +20,18 @@ pub fn sound_width(width: u64) -> Option<u64>
     }
 }
 
+/// The bits of the index of a memory of this depth, from 1 to 12; none where the depth is no power of two from 2 to 4096.
 pub fn index_bits(depth: u64) -> Option<u64>
     ensures { result ≡ spec.index_bits depth }
 {
-    match depth {
-        2 => Some(1),
-        4 => Some(2),
-        8 => Some(3),
-        16 => Some(4),
-        32 => Some(5),
-        64 => Some(6),
-        128 => Some(7),
-        256 => Some(8),
-        512 => Some(9),
-        1024 => Some(10),
-        2048 => Some(11),
-        4096 => Some(12),
-        _ => None,
+    if depth.is_power_of_two() && 2 <= depth && depth <= 4096 {
+        Some(u64::from(depth.ilog2()))
+    } else {
+        None
     }
 }
 
+/// The bits of what a plain name reads; none where it is no input and no register, or one without a sound width.
 pub fn plain_width(what: Option<Declared>) -> Option<u64>
     ensures { result ≡ spec.plain_width what }
 {
@@ -51,6 +44,7 @@ pub fn plain_width(what: Option<Declared>) -> Option<u64>
     }
 }
 
+/// The bits of a register; none where the name is no register, or one without a sound width.
 pub fn register_width(what: Option<Declared>) -> Option<u64>
     ensures { result ≡ spec.register_width what }
 {
@@ -63,6 +57,7 @@ pub fn register_width(what: Option<Declared>) -> Option<u64>
     }
 }
 
+/// The bits of a memory's cells; none where the name is no memory, or one without a sound width.
 pub fn cell_width(what: Option<Declared>) -> Option<u64>
     ensures { result ≡ spec.cell_width what }
 {
@@ -75,6 +70,7 @@ pub fn cell_width(what: Option<Declared>) -> Option<u64>
     }
 }
 
+/// The bits of a memory's index; none where the name is no memory, or one without a sound depth.
 pub fn index_width(what: Option<Declared>) -> Option<u64>
     ensures { result ≡ spec.index_width what }
 {
@@ -87,6 +83,7 @@ pub fn index_width(what: Option<Declared>) -> Option<u64>
     }
 }
 
+/// The first width, or the other where there is none.
 pub fn else_of(width: Option<u64>, other: Option<u64>) -> Option<u64>
     ensures { result ≡ spec.else_of width other }
 {
@@ -96,6 +93,7 @@ pub fn else_of(width: Option<u64>, other: Option<u64>) -> Option<u64>
     }
 }
 
+/// The bits of an operand widened to `width` bits; none where the operand has none, more than `width`, or `width` is over 64.
 pub fn extended(from: Option<u64>, width: u64) -> Option<u64>
     ensures { result ≡ spec.extended from width }
 {
@@ -111,6 +109,7 @@ pub fn extended(from: Option<u64>, width: u64) -> Option<u64>
     }
 }
 
+/// The bits of the slice `[high:low]` of an operand; none where the operand has none, or not these bits.
 pub fn sliced(from: Option<u64>, high: u64, low: u64) -> Option<u64>
     ensures { result ≡ spec.sliced from high low }
 {
@@ -126,6 +125,7 @@ pub fn sliced(from: Option<u64>, high: u64, low: u64) -> Option<u64>
     }
 }
 
+/// The bits of two parts together; none where a part has none, or they are over 64.
 pub fn joined(front: Option<u64>, back: Option<u64>) -> Option<u64>
     ensures { result ≡ spec.joined front back }
 {
@@ -147,6 +147,7 @@ fn together(w: u64, u: u64) -> Option<u64>
     }
 }
 
+/// The family of an operator.
 pub fn family(operator: BinaryOperator) -> Family
     ensures { result ≡ spec.family operator }
 {
@@ -176,6 +177,7 @@ fn own_binary(family: Family, left: Option<u64>, right: Option<u64>) -> Option<u
     }
 }
 
+/// Whether an operator makes one bit of all of its operand's.
 pub fn is_reduction(operator: UnaryOperator) -> bool
     ensures { result ≡ spec.is_reduction operator }
 {
@@ -207,6 +209,8 @@ fn asked_count(count: Option<u64>) -> Option<u64>
     }
 }
 
+/// The bits that an operator asks of its left operand, in an expression of the width `whole` with operands of the own
+/// widths `left` and `right`; none where it asks for no width.
 pub fn asked_left(
     family: Family,
     whole: Option<u64>,
@@ -222,6 +226,8 @@ pub fn asked_left(
     }
 }
 
+/// The bits that an operator asks of its right operand, as `asked_left`: of a shift's count 64 where it has no own width,
+/// else none.
 pub fn asked_right(
     family: Family,
     whole: Option<u64>,
@@ -237,13 +243,14 @@ pub fn asked_right(
     }
 }
 
+/// The bits that an operator asks of its one operand, in an expression of the width `whole`; none where it asks for no width.
 pub fn asked_one(operator: UnaryOperator, whole: Option<u64>) -> Option<u64>
     ensures { result ≡ spec.asked_one operator whole }
 {
     if is_reduction(operator) { None } else { whole }
 }
 
-/// The own width of an expression.
+/// The own width of an expression; none where it has none.
 #[cycle(own)]
 #[tactic(auto, using(sap_tree::proofs::Views::views))]
 pub fn own(names: &Entities, e: &Expr) -> Option<u64>

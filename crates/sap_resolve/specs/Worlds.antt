@@ -1,5 +1,6 @@
 -- What stays while a design runs: its entities, by number in the order of the text, over the levels of a lattice.
-use Rattle.std.specs.Prelude.{ℕ, ◌+◌, List, [], ◌∷◌, ◌++◌, length, Option, Some, None, true, bytes_eq, if◌then◌else◌}
+use Rattle.std.specs.Prelude.{ℕ, ◌+◌, List, [], ◌∷◌, ◌++◌, length, Option, Some, None, true, bytes_eq}
+use Rattle.std.specs.List.{position_or_len}
 use Rattle.sap_tree.specs.declared.name.Mention.{Mention}
 use Rattle.sap_tree.specs.declared.syntax.Numeral.{Numeral}
 use Rattle.sap_tree.specs.declared.syntax.Under.{Under}
@@ -13,13 +14,9 @@ use Rattle.sap_lattice.specs.Levels.{Levels, order_of}
 use Rattle.sap_meaning.specs.Program.{World, Entity}
 use Rattle.sap_meaning.specs.Program as program
 
--- the number of a level's name
-abbrev pub position : List (List ℕ) → List ℕ → ℕ
-position [] name = 0
-position (l ∷ ls) name = if bytes_eq l name then 0 else 1 + position ls name
-
+-- the number of a level's name, of the first from the front on
 abbrev pub level_number : Levels → Mention → ℕ
-level_number ls m = position ls.names m.name
+level_number ls m = position_or_len (λ l. bytes_eq l m.name) ls.names
 
 abbrev pub declared_level : Levels → Kind → ℕ
 declared_level ls (Dynamic place) = (order_of ls).bottom

@@ -1,9 +1,9 @@
+pub mod Positions
 pub mod Inputs
 pub mod Programs
 pub mod Falls
 pub mod Refused
 pub mod Served
-pub mod Positions
 pub mod Chosen
 pub mod Placed
 pub mod Lists

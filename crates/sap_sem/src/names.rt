@@ -7,7 +7,7 @@ ghost use Rattle.sap_resolve.specs.Worlds as worlds;
 use sap_lattice::lattice::Lattice;
 use sap_lattice::level::Level;
 use sap_names::table::Names;
-use sap_tree::name::Name;
+use sap_tree::name::{Mention, Name};
 
 /// The number of an entity, 0 for a name of none.
 pub(crate) fn entity_number(names: &Names, name: &Name) -> usize
@@ -19,15 +19,11 @@ pub(crate) fn entity_number(names: &Names, name: &Name) -> usize
     }
 }
 
-/// The number of the level of this name, that behind the last where it is none.
-pub(crate) fn level_number(lattice: &Lattice, name: &Name) -> u8
-    ensures { result ≡ worlds.position lattice.now.names name.now }
+/// The level of this name, that behind the last where it is none.
+pub(crate) fn level_named(lattice: &Lattice, level: &Mention) -> Level
+    ensures { result ≡ worlds.level_number lattice.now level.now }
 {
     lattice.lawful();
-    for place in 0..lattice.count() as u8 {
-        if lattice.name(Level::new(place)).as_bytes() == name.as_bytes() {
-            return place;
-        }
-    }
-    lattice.count() as u8
+    let behind = Level::new(lattice.count() as u8);
+    lattice.level_named(level.name.as_bytes()).unwrap_or(behind)
 }

@@ -55,9 +55,7 @@ fn no_refusals(alloc: Global, sites: u32) -> Result<Vec<Option<Level>>, AllocErr
     ensures { IfOk result (λ v. v.items ≡ replicate (sites + 1) None) }
 {
     let mut refusals = Vec::new(alloc);
-    for i in 0..u64::from(sites) + 1 {
-        refusals.push(None)?;
-    }
+    refusals.resize(sites as usize + 1, None)?;
     Ok(refusals)
 }
 

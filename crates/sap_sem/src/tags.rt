@@ -5,10 +5,9 @@ ghost use Rattle.sap_resolve.specs.Terms as terms;
 ghost use Rattle.sap_program.specs.Views.{level_of};
 ghost use Rattle.sap_tree.specs.Trees.{tag_of, tags_of};
 
-use crate::names::level_number;
+use crate::names::level_named;
 use crate::numbers::number;
 use sap_lattice::lattice::Lattice;
-use sap_lattice::level::Level;
 use sap_names::table::Names;
 use sap_program::program::TagOf;
 use sap_tree::syntax::TagExpr;
@@ -26,7 +25,7 @@ pub fn tag(
     ensures { IfOk result (λ m. level_of m ≡ terms.level_term lattice.now names.now (tag_of t.now)) }
 {
     match t {
-        TagExpr::Level(level) => Ok(TagOf::Fixed(Level::new(level_number(lattice, &level.name)))),
+        TagExpr::Level(level) => Ok(TagOf::Fixed(level_named(lattice, level))),
         TagExpr::TagOf(_, e) => Ok(TagOf::Of(number(alloc, names, e, None)?)),
         TagExpr::LevelAt(_, e) => Ok(TagOf::AtPlace(number(alloc, names, e, None)?)),
         TagExpr::Join(_, parts) => tags(alloc, names, lattice, parts),

@@ -15,15 +15,6 @@ use sap_store::environment::Environment;
 use sap_store::store::Store;
 use sap_stream::inputs::Inputs;
 
-/// No site is marked.
-fn clear(marks: &mut [Option<Level>])
-    ensures { marks.new ≡ replicate (length marks.old) None }
-{
-    for mark in marks.iter_mut() {
-        *mark = None;
-    }
-}
-
 /// The root's fall into its current child.
 #[tactic(auto, using(crate::proofs::Falls::falls))]
 fn fall(environment: &Environment<'_>, store: &mut Store, marks: &mut [Option<Level>])
@@ -59,7 +50,7 @@ pub(crate) fn turn(
     ensures marks { marks.new ≡ marked (cycle_listed (program_of environment.now) inputs.now (store_in environment.now store.old)).refused (replicate (length marks.old) None) }
     ensures ready { Ready (world_in environment.now) store.new }
 {
-    clear(marks);
+    marks.fill(None);
     set_inputs(environment, store, inputs);
     fall(environment, store, marks);
     settle(environment, store);

@@ -5,7 +5,7 @@ ghost use Rattle.sap_names.specs.Entities as names;
 ghost use Rattle.sap_program.specs.Views.{entity_of};
 ghost use Rattle.sap_resolve.specs.Worlds as worlds;
 
-use crate::names::level_number;
+use crate::names::level_named;
 use sap_lattice::lattice::Lattice;
 use sap_lattice::level::Level;
 use sap_program::program::{Entity, Sort};
@@ -26,7 +26,7 @@ pub(crate) fn declared_level(lattice: &Lattice, kind: &Kind) -> Level
 {
     match kind {
         Kind::Dynamic(_) => lattice.bottom(),
-        Kind::Enforced(level, _) => Level::new(level_number(lattice, &level.name)),
+        Kind::Enforced(level, _) => level_named(lattice, level),
     }
 }
 
@@ -34,7 +34,7 @@ fn authority_level(lattice: &Lattice, under: &Option<Under>) -> Level
     ensures { result ≡ worlds.authority_level lattice.now under.now }
 {
     match under {
-        Some(written) => Level::new(level_number(lattice, &written.level.name)),
+        Some(written) => level_named(lattice, &written.level),
         None => lattice.bottom(),
     }
 }

@@ -137,7 +137,7 @@ fn else_shape(
     }
 }
 
-/// The best so far of the faults of commands, but for E10 and E14.
+/// Notes the faults of commands, but for E10 and E14.
 #[cycle(body)]
 #[tactic(auto, using(crate::proofs::Bodies::bodies, crate::proofs::Weights::weights, sap_names::proofs::Faults::noting))]
 pub(crate) fn list_shape(

@@ -176,7 +176,7 @@ fn closing_else(other: &Option<Block>, place: Place, best: &mut Option<Fault>)
     }
 }
 
-/// The best so far of the faults of a list that must close, where `after` is the place of the token after it.
+/// Notes the faults of a list that must close, where `after` is the place of the token after it.
 #[cycle(closing)]
 #[tactic(auto, using(crate::proofs::Opens::opens, crate::proofs::Weights::weights, sap_names::proofs::Faults::noting))]
 pub(crate) fn closing_list(commands: &[Cmd], after: Place, best: &mut Option<Fault>)

@@ -64,8 +64,8 @@ fn state_shape(
     )
 }
 
-/// The best so far of the faults of the states of a group and of those below them, but for E14. `above` has the names
-/// of the states above the group, the nearest first.
+/// Notes the faults of the states of a group and of those below them, but for E14. `above` has the names of the states
+/// above the group, the nearest first.
 #[cycle(shape)]
 #[tactic(auto, using(crate::proofs::Groups::groups, crate::proofs::Weights::weights, sap_names::proofs::Faults::noting))]
 pub(crate) fn group_shape(
@@ -103,7 +103,7 @@ fn state_paths(
     Ok(())
 }
 
-/// The best so far of E14 in states that are entered after some writes, and in those that they may fall into.
+/// Notes E14 in states that are entered after some writes, and in those that they may fall into.
 #[cycle(paths)]
 #[tactic(auto, using(crate::proofs::Groups::groups, crate::proofs::Weights::weights, sap_names::proofs::Faults::noting))]
 pub(crate) fn group_paths(

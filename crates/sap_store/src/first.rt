@@ -68,9 +68,7 @@ fn seats(alloc: Global, count: usize) -> Result<Vec<u32>, AllocError>
     ensures { IfOk result (λ v. v.items ≡ replicate count 0) }
 {
     let mut seats = Vec::new(alloc);
-    for i in 0..count {
-        seats.push(0)?;
-    }
+    seats.resize(count, 0)?;
     Ok(seats)
 }
 

@@ -1,15 +1,15 @@
 -- The names of entities and levels by their numbers.
-use Rattle.std.proofs.Common.{◌≡◌, ℕ, zero, suc, ◌+◌, ◌<◌, List, [], ◌∷◌, length, true, not, sym, ap, ◌∙◌, arith, inl, inr, bytes_eq}
+use Rattle.std.proofs.Common.{◌≡◌, ℕ, zero, suc, ◌+◌, ◌<◌, List, [], ◌∷◌, length, sym, ap, ◌∙◌, arith, inl, inr, bytes_eq}
 use Rattle.std.proofs.Math.Numerals.{one-add}
-use Rattle.std.proofs.lemmas.Bool.{cases_Bool, not-false}
+use Rattle.std.proofs.lemmas.Bool.{cases_Bool}
 use Rattle.sap_lemmas.proofs.Texts.{equal_of_bytes_eq}
-use Rattle.sap_names.proofs.NameFaultsLemmas.{no_fault}
 use Rattle.sap_tree.specs.declared.name.Mention.{Mention}
 use Rattle.sap_lattice.specs.Levels.{Levels}
 use Rattle.sap_names.specs.declared.entity.Entity.{Entity}
-use Rattle.sap_names.specs.declared.kind.Code.TheVariants.{E6}
-use Rattle.sap_names.specs.NameFaults.{level_from, is_some, is_level, level_faults, twice}
-use Rattle.sap_resolve.specs.Worlds.{position}
+use Rattle.sap_names.specs.NameFaults.{level_faults, twice}
+use Rattle.std.specs.List.{position_or_len}
+use Rattle.sap_resolve.specs.Worlds.{level_number}
+use Rattle.sap_resolve.proofs.WorldsLemmas.{known_level}
 use Rattle.sap_resolve.specs.Terms.{entity_number}
 use Rattle.sap_resolve.proofs.premises.Places.{name_at}
 use Rattle.sap_resolve.proofs.premises.Lookups.{unique}
@@ -36,12 +36,13 @@ one_name es once x y name h i =
     sym (unique es once x r.0) ∙ ap (λ (n : List ℕ). entity_number es n) (r.1 ∙ sym s.1) ∙ unique es once y s.0
 
 -- a level's name
-level_nth : (n : ℕ) (names : List (List ℕ)) (name : List ℕ) → is_some (level_from n names name) ≡ true → IsNth names (position names name) name
-level_nth n [] name h = cc
-level_nth n (l ∷ ls) name h = elim (cases_Bool (bytes_eq l name)) [
+level_nth : (names : List (List ℕ)) (name : List ℕ) → position_or_len (λ l. bytes_eq l name) names < length names
+    → IsNth names (position_or_len (λ l. bytes_eq l name) names) name
+level_nth [] name h = absurd (omega arith)
+level_nth (l ∷ ls) name h = elim (cases_Bool (bytes_eq l name)) [
   | inl t ↦ rw t (equal_of_bytes_eq l name t)
-  | inr t ↦ rw (t, one-add) (level_nth (n + 1) ls name (rw t at h))
+  | inr t ↦ (let below : 1 + position_or_len (λ l. bytes_eq l name) ls < length (l ∷ ls) = rw t at h in rw (t, one-add) (level_nth ls name (omega arith)))
 ]
 
-pub level_named : (ls : Levels) (m : Mention) → level_faults ls.names m ≡ [] → IsLevel ls (position ls.names m.name) m.name
-level_named ls m h = level_nth 0 ls.names m.name (not-false (is_level ls.names m.name) (no_fault (not (is_level ls.names m.name)) E6 m.place h))
+pub level_named : (ls : Levels) (m : Mention) → level_faults ls.names m ≡ [] → IsLevel ls (level_number ls m) m.name
+level_named ls m h = level_nth ls.names m.name (known_level ls m h).0

@@ -1,10 +1,9 @@
 -- The world of a design: where its states stand, inputs and authorities.
-use Rattle.std.proofs.Common.{◌≡◌, ℕ, zero, suc, ◌+◌, Bool, true, false, not, List, [], ◌∷◌, ◌++◌, length, append_assoc, length-append, get_or, Some, None, refl, sym, ap, ◌∙◌, arith, inl, inr, bytes_eq}
-use Rattle.std.proofs.lemmas.Bool.{cases_Bool, not-false}
-use Rattle.sap_resolve.proofs.WorldsLemmas.{children_length, declared_length}
+use Rattle.std.proofs.Common.{◌≡◌, ℕ, zero, suc, ◌+◌, Bool, true, false, not, List, [], ◌∷◌, ◌++◌, length, append_assoc, length-append, get_or, Some, None, refl, sym, ap, ◌∙◌}
+use Rattle.std.proofs.lemmas.Bool.{not-false}
+use Rattle.sap_resolve.proofs.WorldsLemmas.{children_length, declared_length, known_level}
 use Rattle.sap_names.proofs.NameFaultsLemmas.{no_fault}
 use Rattle.sap_names.proofs.FaultLemmas.{nil_left, nil_right}
-use Rattle.sap_tree.specs.declared.name.Mention.{Mention}
 use Rattle.sap_tree.specs.declared.syntax.Kind.{Kind}
 use Rattle.sap_tree.specs.declared.syntax.Kind.TheVariants.{Dynamic, Enforced}
 use Rattle.sap_tree.specs.declared.syntax.Decl.{Decl}
@@ -12,13 +11,13 @@ use Rattle.sap_tree.specs.declared.syntax.Decl.TheVariants.{Input, Register, Mem
 use Rattle.sap_tree.specs.Syntax.{StateTree, state_node, StateList, no_state, and_state, DesignTree}
 use Rattle.sap_lattice.specs.Order.{Order, Laws}
 use Rattle.sap_lattice.specs.Levels.{Levels, order_of}
-use Rattle.sap_names.specs.declared.kind.Code.TheVariants.{E6, E9}
+use Rattle.sap_names.specs.declared.kind.Code.TheVariants.{E9}
 use Rattle.sap_names.specs.Entities as tree
 use Rattle.sap_names.specs.Entities.{entities_of, what_is}
-use Rattle.sap_names.specs.NameFaults.{level_from, is_some, is_level, not_below, level_faults, under_faults, kind_faults, declaration_faults, declarations_faults, state_faults, states_faults}
+use Rattle.sap_names.specs.NameFaults.{not_below, level_faults, under_faults, kind_faults, declaration_faults, declarations_faults, state_faults, states_faults}
 use Rattle.sap_names.specs.NameFaults as faults
 use Rattle.sap_meaning.specs.Program.{World, Entity, nothing, entity, children, root, kind_is_input}
-use Rattle.sap_resolve.specs.Worlds.{position, level_number, declared_level, authority_of, is_dynamic_kind, declared, all_declared, states_in, group_length, state_entities, group_entities, group_children, no_children, world_of}
+use Rattle.sap_resolve.specs.Worlds.{level_number, declared_level, authority_of, is_dynamic_kind, declared, all_declared, states_in, group_length, state_entities, group_entities, group_children, no_children, world_of}
 use Rattle.sap_resolve.proofs.premises.Places.{Part, part_head, group_count, group_kids, Laid}
 
 append_nil : {A : Type 0} (xs : List A) → xs ≡ xs ++ []
@@ -89,32 +88,18 @@ sound_at o [] h x = record { input = λ i. cc; above = λ i. cc }
 sound_at o (e ∷ es) h zero = h.0
 sound_at o (e ∷ es) h (suc x) = sound_at o es h.1 x
 
--- a level's number is its place
-level_place : (n : ℕ) (names : List (List ℕ)) (name : List ℕ) → is_some (level_from n names name) ≡ true
-    → level_from n names name ≡ Some (n + position names name)
-level_place n [] name h = cc
-level_place n (l ∷ names) name h = elim (cases_Bool (bytes_eq l name)) [
-  | inl t ↦ rw t (ap (λ (m : ℕ). Some m) (omega arith))
-  | inr t ↦ (let r = level_place (n + 1) names name (rw t at h) in rw (t, r) (ap (λ (m : ℕ). Some m) (omega arith)))
-]
-
 module _ (ls : Levels) (laws : Laws (order_of ls)) where
   abbrev O : Order
   O = order_of ls
-
-  level_is : (m : Mention) → level_faults ls.names m ≡ [] → faults.level_number ls.names m.name ≡ Some (level_number ls m)
-  level_is m h =
-      level_place 0 ls.names m.name (not-false (is_level ls.names m.name) (no_fault (not (is_level ls.names m.name)) E6 m.place h))
-      ∙ ap (λ (n : ℕ). Some n) (omega arith)
 
   kind_above : (kind : Kind) → kind_faults ls.names O.le kind ≡ [] → is_dynamic_kind kind ≡ false → O.le (authority_of ls kind) (declared_level ls kind) ≡ true
   kind_above (Dynamic place) h d = cc
   kind_above (Enforced level None) h d = laws.least_of_all (level_number ls level)
   kind_above (Enforced level (Some under)) h d =
       let u : under_faults ls.names O.le level (Some under) ≡ [] = nil_right _ _ h in
-      let l = level_is level (nil_left _ _ h) in
+      let l = (known_level ls level (nil_left _ _ h)).1 in
       let test : Bool = not_below O.le (faults.level_number ls.names under.level.name) (faults.level_number ls.names level.name) in
-      let m = level_is under.level (nil_left _ _ u) in
+      let m = (known_level ls under.level (nil_left _ _ u)).1 in
       let no : test ≡ false = no_fault test E9 level.place (nil_right _ _ u) in
       let no' : not (O.le (level_number ls under.level) (level_number ls level)) ≡ false = rw (l, m) at no in
       not-false (O.le (level_number ls under.level) (level_number ls level)) no'

@@ -19,7 +19,7 @@ use Rattle.sap_meaning.specs.Program.{Entity, nothing}
 use Rattle.sap_resolve.specs.Worlds.{declared_level, initial_of, declared, all_declared, states_in, state_entities, group_entities, world_of}
 use Rattle.sap_resolve.proofs.sized.Faultless.{none_two, none_three, fits_width, sound_same}
 use Rattle.sap_resolve.proofs.sized.Declared.{width_sound}
-use Rattle.sap_resolve.proofs.sized.Tags.{known_level}
+use Rattle.sap_resolve.proofs.WorldsLemmas.{known_level}
 
 module _ (ls : Levels) (laws : Laws (order_of ls)) (le : ℕ → ℕ → Bool) where
   abbrev Starts : Entity → Type 0
@@ -37,7 +37,7 @@ module _ (ls : Levels) (laws : Laws (order_of ls)) (le : ℕ → ℕ → Bool) w
   level_starts (Dynamic place) h = laws.bottom_is_level
   level_starts (Enforced level under) h =
       let n = none_two (level_faults ls.names level) (under_faults ls.names le level under) h in
-      subst (λ (c : ℕ). declared_level ls (Enforced level under) < c) (sym (order_of-count ls)) (known_level ls.names level n.0)
+      subst (λ (c : ℕ). declared_level ls (Enforced level under) < c) (sym (order_of-count ls)) (known_level ls level n.0).0
 
   number_starts : (width : Numeral) (start : Option Numeral) → is_sound (sound_width width.value) ≡ true → start_faults width.value start ≡ []
       → initial_of start < 2 ^ width.value
