@@ -1,5 +1,4 @@
 pub mod Children
-pub mod Arms
 pub mod Weights
 pub mod Marks
 pub mod Runs

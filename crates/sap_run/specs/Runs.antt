@@ -1,10 +1,9 @@
 -- What the code's parts do, in the words of the labelled meaning.
-use Rattle.std.specs.Prelude.{ℕ, ◌<◌, ◌≤◌, List, [], ◌∷◌, Option, Some, nat_eq, slice_set, if◌then◌else◌}
-use Rattle.sap_maps.specs.Term.{Term}
-use Rattle.sap_meaning.specs.Program.{World, root, is_dynamic, place, listed, LevelTerm, last_arm}
+use Rattle.std.specs.Prelude.{ℕ, ◌<◌, ◌≤◌, List, [], ◌∷◌, Option, Some, find, option_map, slice_set}
+use Rattle.std.specs.Option.{unwrap_or}
+use Rattle.sap_meaning.specs.Program.{root, listed, last_arm}
 use Rattle.sap_meaning.specs.Program as program
-use Rattle.sap_meaning.specs.Store.{Store, own, start, next, number, level, put_number, put_level, put_child, raise, reset, Refusal, After}
-use Rattle.sap_meaning.specs.Expressions.{value, tag, new_level}
+use Rattle.sap_meaning.specs.Store.{Store, raise, Refusal, After, stay}
 use Rattle.sap_meaning.specs.Does.{effect, attempt_then, select, branch, is_constant}
 use Rattle.sap_meaning.specs.Runs.{run, run_block, run_state, run_child}
 use Rattle.sap_program.specs.Hangs.{flags}
@@ -17,52 +16,17 @@ use Rattle.sap_program.specs.declared.program.Step.{Step}
 use Rattle.sap_program.specs.declared.program.Step.TheVariants as step
 use Rattle.sap_store.specs.declared.environment.Environment.{Environment}
 use Rattle.sap_program.specs.declared.spot.Spot.{Spot}
-use Rattle.sap_run.specs.declared.effects.Raise.{Raise}
+use Rattle.sap_run.specs.declared.effects.Situation.{Situation}
 use Rattle.sap_store.specs.Able.{AbleCommand, AbleArms, AbleBlock, AbleState, AbleGroup}
 use Rattle.sap_store.specs.Code.{world_in, entities_in, spot_in}
 
 -- what hangs is raised
-abbrev pub raised_by : Environment → Raise → Store → Store
-raised_by d r s = raise (world_in d).order (listed (flags (entities_in d) r.hang.now)) r.level s
+abbrev pub raised_by : Environment → Situation → Store → Store
+raised_by d here s = raise (world_in d).order (listed (flags (entities_in d) here.hang.now)) here.level s
 
--- the effects of the steps that enter no child, on the store s behind the raises
-
-unfoldable pub set_done : World → ℕ → Term ℕ → ℕ → (before : Store) → Store → Store
-set_done w x e pc before s =
-    let t = if is_dynamic w x then w.order.join pc (tag w e before) else level w (own x) s in
-    put_level w (own x) t (put_number (own x) (value w e before) s)
-
-unfoldable pub write_done : World → ℕ → (index value : Term ℕ) → ℕ → (before : Store) → Store → Store
-write_done w m i e pc before s =
-    let t = w.order.join pc (w.order.join (tag w i before) (tag w e before)) in
-    put_number (next m (value w i before)) (value w e before) (if is_dynamic w m then raise w.order (λ x. nat_eq x m) t s else s)
-
-unfoldable pub retag_done : World → ℕ → LevelTerm → (before : Store) → Store → Store
-retag_done w x n before s =
-    let t = new_level w n before in
-    put_level w (own x) t (put_number (own x) (if w.order.le (level w (own x) before) t then number (own x) before else 0) s)
-
-unfoldable pub retag_cell_done : World → ℕ → Term ℕ → LevelTerm → (before : Store) → Store → Store
-retag_cell_done w m j n before s =
-    let t = new_level w n before in
-    let i = value w j before in
-    put_level w (next m i) t (put_number (next m i) (if w.order.le (level w (start m i) before) t then number (start m i) before else 0) s)
-
-unfoldable pub goto_done : World → (parent target : ℕ) → ℕ → Store → Store
-goto_done w parent target pc s =
-    let moved = reset w target (put_child parent (place w target) s) in
-    if is_dynamic w target then put_level w (own target) pc moved else moved
-
-abbrev pub step_done : World → (parent : ℕ) → program.Step → ℕ → (before : Store) → Store → Store
-step_done w parent (program.assign site x e) pc before s = set_done w x e pc before s
-step_done w parent (program.write site m i e) pc before s = write_done w m i e pc before s
-step_done w parent (program.retag site x n) pc before s = retag_done w x n before s
-step_done w parent (program.retag_cell site m j n) pc before s = retag_cell_done w m j n before s
-step_done w parent (program.go_to site target) pc before s = goto_done w parent target pc s
-step_done w parent (program.fall_to_child site hang) pc before s = s
-
-abbrev pub acted : Environment → Spot → Step → ℕ → (before : Store) → Store → Store
-acted d at k pc before s = step_done (world_in d) at.parent (step_of (entities_in d) k) pc before s
+-- the store that a step leaves which enters no child, behind what is raised; its site doesn't count
+abbrev pub acted : Environment → Situation → program.Step → Store → Store
+acted d here k s = (effect (world_in d) (spot_in d here.at.now) (λ n pc t. stay t) k here.context s (raised_by d here s)).store
 
 -- every step but a fall
 abbrev pub IsEffect : Step → Type 0
@@ -90,8 +54,10 @@ unfoldable pub command_run : Environment → Spot → Command → ℕ → Store 
 command_run d at c = run (world_in d) (spot_in d at) (entered d at.state at.children.now) (command_of (entities_in d) c)
 
 -- the effect of a step, behind the raises
-unfoldable pub taken : Environment → Spot → Raise → Step → ℕ → Store → After
-taken d at r k pc s = effect (world_in d) (spot_in d at) (entered d at.state at.children.now) (step_of (entities_in d) k) pc s (raised_by d r s)
+unfoldable pub taken : Environment → Situation → Step → Store → After
+taken d here k s =
+    let at = here.at.now in
+    effect (world_in d) (spot_in d at) (entered d at.state at.children.now) (step_of (entities_in d) k) here.context s (raised_by d here s)
 
 -- a step, and what follows it where it is accepted and where it is refused
 unfoldable pub attempt_run : Environment → Spot → (hang : List ℕ) → Step → (accepted refused : List Command) → ℕ → Store → After
@@ -104,8 +70,7 @@ select_run d at hang e a b =
 
 -- the commands of the first arm that has the number, and the last ones where none has
 abbrev pub picked_in : List Arm → (last : List Command) → ℕ → List Command
-picked_in [] last n = last
-picked_in (arm ∷ arms) last n = if is_constant (constants_of arm) n then commands_in arm else picked_in arms last n
+picked_in arms last n = unwrap_or (option_map commands_in (find (λ arm. is_constant (constants_of arm) n) arms)) last
 
 unfoldable pub choose_run : Environment → Spot → (hang : List ℕ) → Number → List Arm → (last : List Command) → ℕ → Store → After
 choose_run d at hang e arms last =

@@ -6,7 +6,7 @@ ghost use Rattle.sap_meaning.specs.Program as program;
 ghost use Rattle.sap_meaning.specs.Store as meaning;
 ghost use Rattle.sap_program.specs.Hangs.{rises};
 ghost use Rattle.sap_program.specs.Views as views;
-ghost use Rattle.sap_run.specs.Runs.{IsEffect, acted, goto_done, raised_by, retag_cell_done, retag_done, set_done, write_done};
+ghost use Rattle.sap_run.specs.Runs.{IsEffect, acted};
 ghost use Rattle.sap_store.specs.Able.{AbleStep, AbleIndex, AbleLevel, AbleTarget, AbleValue};
 ghost use Rattle.sap_store.specs.Code.{entities_in, store_in, world_in};
 ghost use Rattle.sap_store.specs.Kept.{Ready};
@@ -25,31 +25,33 @@ use sap_store::store::Store;
 use sap_store::terms::{new_level, see};
 use sap_store::world::{is_dynamic, place};
 
-/// What raises entities beforehand: what hangs, and by which level.
+/// How a step acts whose test held: in the body at a spot, in a context, behind what hangs, which a level raises.
 #[derive(Clone, Copy, Drop)]
-pub(crate) struct Raise<'a> {
+pub(crate) struct Situation<'a> {
+    pub at: &'a Spot<'a>,
+    pub context: Level,
     pub hang: &'a [usize],
     pub level: Level,
 }
 
-#[tactic(auto, unfolding(crate::specs::Runs::set_done))]
+#[tactic(auto, unfolding(sap_meaning::specs::Does::effect))]
 fn set(
     environment: &Environment<'_>,
     store: &mut Store,
-    raises: &Raise<'_>,
-    context: Level,
+    here: &Situation<'_>,
     register: usize,
     value: &Number,
 )
     requires ready { Ready (world_in environment.now) store.old }
-    requires rising { IsTrue (rises raises.now.hang.now) }
+    requires rising { IsTrue (rises here.now.hang.now) }
     requires able { AbleValue (world_in environment.now) register (views.term_of value.now) }
-    ensures store { store_in environment.now store.new ≡ set_done (world_in environment.now) register (views.term_of value.now) context (store_in environment.now store.old) (raised_by environment.now raises.now (store_in environment.now store.old)) }
+    ensures store { let step = program.assign 0 register (views.term_of value.now) in
+        store_in environment.now store.new ≡ acted environment.now here.now step (store_in environment.now store.old) }
     ensures ready { Ready (world_in environment.now) store.new }
 {
     let seen = see(environment, store, value);
-    let level = environment.lattice.join(context, seen.level);
-    raise(environment, store, raises.hang, raises.level);
+    let level = environment.lattice.join(here.context, seen.level);
+    raise(environment, store, here.hang, here.level);
     let level = register_level(environment, store, register, level);
     put_number(environment, store, register, seen.number);
     put_level(environment, store, register, level);
@@ -68,51 +70,52 @@ fn raise_dynamic(environment: &Environment<'_>, store: &mut Store, memory: usize
     }
 }
 
-#[tactic(auto, unfolding(crate::specs::Runs::write_done))]
+#[tactic(auto, unfolding(sap_meaning::specs::Does::effect))]
 fn write(
     environment: &Environment<'_>,
     store: &mut Store,
-    raises: &Raise<'_>,
-    context: Level,
+    here: &Situation<'_>,
     memory: usize,
     index: &Number,
     value: &Number,
 )
     requires ready { Ready (world_in environment.now) store.old }
-    requires rising { IsTrue (rises raises.now.hang.now) }
+    requires rising { IsTrue (rises here.now.hang.now) }
     requires index { AbleIndex (world_in environment.now) memory (views.term_of index.now) }
     requires value { AbleValue (world_in environment.now) memory (views.term_of value.now) }
-    ensures store { store_in environment.now store.new ≡ write_done (world_in environment.now) memory (views.term_of index.now) (views.term_of value.now) context (store_in environment.now store.old) (raised_by environment.now raises.now (store_in environment.now store.old)) }
+    ensures store { let step = program.write 0 memory (views.term_of index.now) (views.term_of value.now) in
+        store_in environment.now store.new ≡ acted environment.now here.now step (store_in environment.now store.old) }
     ensures ready { Ready (world_in environment.now) store.new }
 {
     let index = see(environment, store, index);
     let value = see(environment, store, value);
     let both = environment.lattice.join(index.level, value.level);
-    let level = environment.lattice.join(context, both);
-    raise(environment, store, raises.hang, raises.level);
+    let level = environment.lattice.join(here.context, both);
+    raise(environment, store, here.hang, here.level);
     raise_dynamic(environment, store, memory, level);
     put_cell_number(environment, store, memory, index.number, value.number);
 }
 
-#[tactic(auto, unfolding(crate::specs::Runs::retag_done))]
+#[tactic(auto, unfolding(sap_meaning::specs::Does::effect))]
 fn retag(
     environment: &Environment<'_>,
     store: &mut Store,
-    raises: &Raise<'_>,
+    here: &Situation<'_>,
     entity: usize,
     tag: &TagOf,
 )
     requires ready { Ready (world_in environment.now) store.old }
-    requires rising { IsTrue (rises raises.now.hang.now) }
+    requires rising { IsTrue (rises here.now.hang.now) }
     requires within { entity < program.root (world_in environment.now) }
     requires able { AbleLevel (world_in environment.now) (views.level_of tag.now) }
-    ensures store { store_in environment.now store.new ≡ retag_done (world_in environment.now) entity (views.level_of tag.now) (store_in environment.now store.old) (raised_by environment.now raises.now (store_in environment.now store.old)) }
+    ensures store { let step = program.retag 0 entity (views.level_of tag.now) in
+        store_in environment.now store.new ≡ acted environment.now here.now step (store_in environment.now store.old) }
     ensures ready { Ready (world_in environment.now) store.new }
 {
     let level = new_level(environment, store, tag);
     let cell = own(environment, store, entity);
     let number = kept(environment, cell, level);
-    raise(environment, store, raises.hang, raises.level);
+    raise(environment, store, here.hang, here.level);
     put_number(environment, store, entity, number);
     put_level(environment, store, entity, level);
 }
@@ -128,75 +131,69 @@ fn kept(environment: &Environment<'_>, cell: Cell, level: Level) -> u64
     }
 }
 
-#[tactic(auto, unfolding(crate::specs::Runs::retag_cell_done))]
+#[tactic(auto, unfolding(sap_meaning::specs::Does::effect))]
 fn retag_cell(
     environment: &Environment<'_>,
     store: &mut Store,
-    raises: &Raise<'_>,
+    here: &Situation<'_>,
     memory: usize,
     index: &Number,
     tag: &TagOf,
 )
     requires ready { Ready (world_in environment.now) store.old }
-    requires rising { IsTrue (rises raises.now.hang.now) }
+    requires rising { IsTrue (rises here.now.hang.now) }
     requires index { AbleIndex (world_in environment.now) memory (views.term_of index.now) }
     requires enforced { program.is_dynamic (world_in environment.now) memory ≡ false }
     requires able { AbleLevel (world_in environment.now) (views.level_of tag.now) }
-    ensures store { store_in environment.now store.new ≡ retag_cell_done (world_in environment.now) memory (views.term_of index.now) (views.level_of tag.now) (store_in environment.now store.old) (raised_by environment.now raises.now (store_in environment.now store.old)) }
+    ensures store { let step = program.retag_cell 0 memory (views.term_of index.now) (views.level_of tag.now) in
+        store_in environment.now store.new ≡ acted environment.now here.now step (store_in environment.now store.old) }
     ensures ready { Ready (world_in environment.now) store.new }
 {
     let level = new_level(environment, store, tag);
     let index = see(environment, store, index);
     let cell = start_cell(environment, store, memory, index.number);
     let number = kept(environment, cell, level);
-    raise(environment, store, raises.hang, raises.level);
+    raise(environment, store, here.hang, here.level);
     put_cell_number(environment, store, memory, index.number, number);
     put_cell_level(environment, store, memory, index.number, level);
 }
 
-#[tactic(auto, unfolding(crate::specs::Runs::goto_done))]
-fn goto(
-    environment: &Environment<'_>,
-    store: &mut Store,
-    raises: &Raise<'_>,
-    context: Level,
-    parent: usize,
-    target: usize,
-)
+#[tactic(auto, unfolding(sap_meaning::specs::Does::effect))]
+fn goto(environment: &Environment<'_>, store: &mut Store, here: &Situation<'_>, target: usize)
     requires ready { Ready (world_in environment.now) store.old }
-    requires rising { IsTrue (rises raises.now.hang.now) }
-    requires parent { parent ≤ program.root (world_in environment.now) }
+    requires rising { IsTrue (rises here.now.hang.now) }
+    requires parent { here.now.at.now.parent ≤ program.root (world_in environment.now) }
     requires able { AbleTarget (world_in environment.now) target }
-    ensures store { store_in environment.now store.new ≡ goto_done (world_in environment.now) parent target context (raised_by environment.now raises.now (store_in environment.now store.old)) }
+    ensures store { store_in environment.now store.new ≡ acted environment.now here.now (program.go_to 0 target) (store_in environment.now store.old) }
     ensures ready { Ready (world_in environment.now) store.new }
 {
-    raise(environment, store, raises.hang, raises.level);
+    raise(environment, store, here.hang, here.level);
     put_child(
         environment,
         store,
-        parent,
+        here.at.parent,
         place(environment, target) as u32,
     );
     reset(environment, store, target);
     if is_dynamic(environment, target) {
-        put_level(environment, store, target, context);
+        put_level(environment, store, target, here.context);
     }
 }
 
 /// The effect of a step whose test held, behind what is raised. A fall, which enters a child, does nothing here.
+#[tactic(auto, unfolding(sap_meaning::specs::Does::effect))]
 pub(crate) fn act(
     environment: &Environment<'_>,
-    at: &Spot<'_>,
     store: &mut Store,
-    raises: &Raise<'_>,
+    here: &Situation<'_>,
     step: &Step,
-    context: Level,
 )
     requires ready { Ready (world_in environment.now) store.old }
-    requires rising { IsTrue (rises raises.now.hang.now) }
+    requires rising { IsTrue (rises here.now.hang.now) }
     requires able { AbleStep (world_in environment.now) (views.step_of (entities_in environment.now) step.now) }
-    requires parent { at.now.parent ≤ program.root (world_in environment.now) }
-    ensures store { IsEffect step.now → store_in environment.now store.new ≡ acted environment.now at.now step.now context (store_in environment.now store.old) (raised_by environment.now raises.now (store_in environment.now store.old)) }
+    requires parent { here.now.at.now.parent ≤ program.root (world_in environment.now) }
+    ensures store { let k = views.step_of (entities_in environment.now) step.now in
+        IsEffect step.now → store_in environment.now store.new ≡ acted environment.now here.now k (store_in environment.now store.old) }
     ensures ready { Ready (world_in environment.now) store.new }
 {
     match step {
@@ -204,21 +201,21 @@ pub(crate) fn act(
             register,
             value,
             ..
-        } => set(environment, store, raises, context, *register, value),
+        } => set(environment, store, here, *register, value),
         Step::Write {
             memory,
             index,
             value,
             ..
-        } => write(environment, store, raises, context, *memory, index, value),
-        Step::Retag { entity, tag, .. } => retag(environment, store, raises, *entity, tag),
+        } => write(environment, store, here, *memory, index, value),
+        Step::Retag { entity, tag, .. } => retag(environment, store, here, *entity, tag),
         Step::RetagCell {
             memory,
             index,
             tag,
             ..
-        } => retag_cell(environment, store, raises, *memory, index, tag),
-        Step::Goto { target, .. } => goto(environment, store, raises, context, at.parent, *target),
+        } => retag_cell(environment, store, here, *memory, index, tag),
+        Step::Goto { target, .. } => goto(environment, store, here, *target),
         Step::Fall { .. } => {}
     }
 }

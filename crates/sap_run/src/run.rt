@@ -1,6 +1,6 @@
 //! Runs of commands and of states.
 
-ghost use Rattle.std.specs.Prelude.{◌≡◌, ◌<◌, ◌≤◌, ℕ, IsTrue, [], ◌∷◌, slice_set};
+ghost use Rattle.std.specs.Prelude.{◌≡◌, ◌<◌, ◌≤◌, ℕ, IsTrue, [], ◌∷◌, find, option_map, slice_set};
 ghost use Rattle.sap_meaning.specs.Checks as checks;
 ghost use Rattle.sap_meaning.specs.Checks.{site_of};
 ghost use Rattle.sap_meaning.specs.Does.{is_constant};
@@ -14,7 +14,7 @@ ghost use Rattle.sap_store.specs.Code.{entities_in, spot_in, store_in, world_in}
 ghost use Rattle.sap_store.specs.Kept.{Ready};
 
 use crate::checks::{guard, test};
-use crate::effects::{Raise, act};
+use crate::effects::{Situation, act};
 use sap_lattice::level::Level;
 use sap_program::program::{Arm, Command, Number, State, Step};
 use sap_program::spot::Spot;
@@ -216,30 +216,28 @@ fn select(
     }
 }
 
-/// Whether a number is one of these.
-#[tactic(auto, using(crate::proofs::Arms::picks))]
-fn has(constants: &[u64], number: u64) -> bool
-    ensures { result ≡ is_constant constants.now number }
+/// Whether a number is one of an arm's.
+fn has(arm: &Arm, number: u64) -> bool
+    ensures { result ≡ is_constant (views.constants_of arm.now) number }
 {
-    for constant in constants {
-        if *constant == number {
-            return true;
-        }
-    }
-    false
+    arm.constants.as_slice().contains(&number)
+}
+
+/// The first arm that has the number.
+fn arm_with(arms: &[Arm], number: u64) -> Option<&Arm>
+    ensures { option_map (λ arm. arm.now) result ≡ find (λ arm. is_constant (views.constants_of arm) number) arms.now }
+{
+    arms.iter().find(|arm| has(*arm, number))
 }
 
 /// The commands of the first arm that has the number, and the last ones where none has.
-#[tactic(auto, using(crate::proofs::Arms::picks))]
 fn picked<'a>(arms: &'a [Arm], last: &'a [Command], number: u64) -> &'a [Command]
     ensures { result.now ≡ picked_in arms.now last.now number }
 {
-    for arm in arms {
-        if has(arm.constants.as_slice(), number) {
-            return arm.block.as_slice();
-        }
+    match arm_with(arms, number) {
+        Some(arm) => arm.block.as_slice(),
+        None => last,
     }
-    last
 }
 
 /// What the number of an expression picks among arms.
@@ -277,37 +275,35 @@ fn choose(
 #[tactic(auto, using(crate::proofs::Weights::weights), unfolding(crate::specs::Runs::taken, sap_meaning::specs::Does::effect))]
 fn take(
     environment: &Environment<'_>,
-    at: &Spot<'_>,
     store: &mut Store,
     marks: &mut [Option<Level>],
-    raises: &Raise<'_>,
+    here: &Situation<'_>,
     step: &Step,
-    context: Level,
 )
     requires ready { Ready (world_in environment.now) store.old }
-    requires spot { SpotAble environment.now at.now }
-    requires rising { IsTrue (rises raises.now.hang.now) }
+    requires spot { SpotAble environment.now here.now.at.now }
+    requires rising { IsTrue (rises here.now.hang.now) }
     requires able { AbleStep (world_in environment.now) (views.step_of (entities_in environment.now) step.now) }
-    requires level { raises.now.level ≡ checks.guard (world_in environment.now) (spot_in environment.now at.now) (views.step_of (entities_in environment.now) step.now) (store_in environment.now store.old) }
-    ensures store { store_in environment.now store.new ≡ (taken environment.now at.now raises.now step.now context (store_in environment.now store.old)).store }
-    ensures marks { marks.new ≡ marked (taken environment.now at.now raises.now step.now context (store_in environment.now store.old)).refused marks.old }
+    requires level { here.now.level ≡ checks.guard (world_in environment.now) (spot_in environment.now here.now.at.now) (views.step_of (entities_in environment.now) step.now) (store_in environment.now store.old) }
+    ensures store { store_in environment.now store.new ≡ (taken environment.now here.now step.now (store_in environment.now store.old)).store }
+    ensures marks { marks.new ≡ marked (taken environment.now here.now step.now (store_in environment.now store.old)).refused marks.old }
     ensures ready { Ready (world_in environment.now) store.new }
 {
     if let Step::Fall { .. } = step {
-        let place = child(environment, store, at.state) as usize;
-        let inner = environment.lattice.join(context, raises.level);
-        raise(environment, store, raises.hang, raises.level);
+        let place = child(environment, store, here.at.state) as usize;
+        let inner = environment.lattice.join(here.context, here.level);
+        raise(environment, store, here.hang, here.level);
         enter(
             environment,
             store,
             marks,
-            at.state,
-            at.children,
+            here.at.state,
+            here.at.children,
             place,
             inner,
         );
     } else {
-        act(environment, at, store, raises, step, context);
+        act(environment, store, here, step);
     }
 }
 
@@ -338,8 +334,13 @@ fn attempt(
     let level = guard(environment, at, store, step);
     let inner = environment.lattice.join(context, level);
     if test(environment, at, store, step, context) {
-        let raises = Raise { hang, level };
-        take(environment, at, store, marks, &raises, step, context);
+        let here = Situation {
+            at: &*at,
+            context,
+            hang,
+            level,
+        };
+        take(environment, store, marks, &here, step);
         commands(environment, at, store, marks, accepted, inner);
     } else {
         raise(environment, store, hang, level);

@@ -16,7 +16,7 @@ take-returns-in_default t c =
     let d = c.args.environment.now in
     let s = store_in d c.args.store.now in
     let e = is_effect c.args.step.now c.in_default.not-Fall in
-    let p = passed d c.args.at.now c.args.raises.now c.args.step.now c.args.context s e in
+    let p = passed d c.args.here.now c.args.step.now s e in
     record {
       store = c.act.ensures.store e ∙ ap (λ (a : After). a.store) p;
       marks = ap (λ (a : After). marked a.refused c.args.marks.now) p;

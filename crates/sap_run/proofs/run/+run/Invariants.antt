@@ -22,7 +22,7 @@ abbrev pub decreases-attempt : goal.decreases-attempt
 decreases-attempt l = states_weight l.at.now.children.now + commands_weight l.accepted.now + commands_weight l.refused.now + 2
 
 abbrev pub decreases-take : goal.decreases-take
-decreases-take l = states_weight l.at.now.children.now + 1
+decreases-take l = states_weight l.here.now.at.now.children.now + 1
 
 abbrev pub decreases-choose : goal.decreases-choose
 decreases-choose l = states_weight l.at.now.children.now + arms_weight l.arms.now l.last.now + 1
