@@ -2,7 +2,7 @@
 use Rattle.std.proofs.Common.{◌≡◌, ℕ, ◌+◌, ◌^◌, ◌<◌, ◌≤◌, List, ◌++◌, length, drop, refl, sym, ◌∙◌, ap, subst, arith, inr}
 use Rattle.std.specs.Prelude.{Option, Some, None, option_map, IfSome, IsSome, Result, Ok, Err, IfOk}
 use Rattle.sap_desk.specs.Desk.{Told, Use, closed, reads, at_number, blame_at, blamed, bytes_of, moved, moved_use, name_if_open, name_if_reading, opened, rest_of, rest_of_use}
-use Rattle.sap_desk.specs.Whole.{Between, FailedReading, IsFront, IsFrontOf, OneMore}
+use Rattle.sap_desk.specs.Whole.{Between, FailedReading, IsFront, IsFrontOf, LeftOpen, OneMore}
 use Rattle.sap_desk.specs.Whole.IsFront.{all, more}
 use Rattle.sap_desk.proofs.Steps.{at_number-keeps, at_number-same, at_number-twice, file_there}
 use Rattle.sap_desk.proofs.WholeFiles.{blame_is, one_more, same_channels}
@@ -18,6 +18,9 @@ module _ (channel count : ℕ) (name : List ℕ) (t : Told) where
       ap (λ (u : Use). at_number channel (moved_use count u) (at_number channel (reads name 0) t.uses)) opened_use
       ∙ at_number-twice channel (reads name 0) (reads name (0 + count)) t.uses
 
+  still_open : 2 < channel → t.uses channel ≡ closed → OneMore name t.uses (moved channel count (opened channel name t)).uses
+  still_open above fresh = subst (λ (u : ℕ → Use). OneMore name t.uses u) (sym read_uses) (one_more channel name (reads name (0 + count)) t above fresh refl)
+
   -- a call on it failed
   left_open : (by : List ℕ) → 2 < channel → t.uses channel ≡ closed → by ≡ name → FailedReading name t (blamed by (moved channel count (opened channel name t)))
   left_open by above fresh is = record {
@@ -25,13 +28,29 @@ module _ (channel count : ℕ) (name : List ℕ) (t : Told) where
     blame = is;
     channels = same_channels channel (reads name (0 + count)) (t.written channel) t _ above fresh refl read_uses
         (sym (at_number-keeps channel (t.written channel) t.written refl));
-    uses = inr (subst (λ (u : ℕ → Use). OneMore name t.uses u) (sym read_uses) (one_more channel name (reads name (0 + count)) t above fresh refl));
+    uses = inr (still_open above fresh);
   }
 
   use_there : (moved channel count (opened channel name t)).uses channel ≡ reads name (0 + count)
   use_there = ap (λ (u : ℕ → Use). u channel) read_uses ∙ at_number-same channel (reads name (0 + count)) t.uses
 
+-- the file isn't there
+pub not_there : (name : List ℕ) (old new : Option Told) → IfSome old (λ t. t.files name ≡ None) → new ≡ option_map (blamed name) old → Between old new (LeftOpen name)
+not_there name None new missing is = tt
+not_there name (Some t) new missing is = rw is (λ there. let none : IsSome {T = List ℕ} None = rw missing at there in cc)
+
 module _ (channel count : ℕ) (name : List ℕ) where
+  pub open_unread : 2 < channel → (old one new : Option Told) → IfSome old (λ t. t.uses channel ≡ closed) → one ≡ option_map (opened channel name) old
+      → new ≡ option_map (λ t. blamed (name_if_reading (t.uses channel)) (moved channel count t)) one → Between old new (LeftOpen name)
+  open_unread above None one new fresh a b = tt
+  open_unread above (Some t) one new fresh a b = rw (b, a) (λ there. still_open channel count name t above fresh)
+
+  pub open_unfinished : 2 < channel → (old one two new : Option Told) → IfSome old (λ t. t.uses channel ≡ closed) → one ≡ option_map (opened channel name) old
+      → two ≡ option_map (moved channel count) one → new ≡ option_map (λ t. blame_at channel (name_if_open (t.uses channel)) t) two
+      → Between old new (LeftOpen name)
+  open_unfinished above None one two new fresh a b c = tt
+  open_unfinished above (Some t) one two new fresh a b c = rw (c, b, a, blame_is channel name t above) (λ there. still_open channel count name t above fresh)
+
   pub not_read : 2 < channel → (old one new : Option Told) → IfSome old (λ t. t.uses channel ≡ closed) → one ≡ option_map (opened channel name) old
       → new ≡ option_map (λ t. blamed (name_if_reading (t.uses channel)) (moved channel count t)) one → Between old new (FailedReading name)
   not_read above None one new fresh a b = tt

@@ -118,6 +118,22 @@ module _ (channel : ℕ) (name bytes : List ℕ) (above : 2 < channel) where
   failed_writing (Some t) one new fresh a took =
       rw (took.told, a, blame_is channel name t above) (cut_one t took.count took.within fresh)
 
+  -- its channel is open then
+  pub open_unfinished : (old one two new : Option Told) → IfSome old (λ t. t.uses channel ≡ closed)
+      → one ≡ option_map (created channel name) old → two ≡ option_map (added channel bytes) one
+      → new ≡ option_map (λ t. blame_at channel (name_if_open (t.uses channel)) t) two
+      → Between old new (λ t n. OneMore name t.uses n.uses)
+  open_unfinished None one two new fresh a b c = tt
+  open_unfinished (Some t) one two new fresh a b c =
+      rw (c, b, a, blame_is channel name t above) (one_more channel name (writes name) t above fresh refl)
+
+  pub open_unwritten : (old one new : Option Told) → IfSome old (λ t. t.uses channel ≡ closed)
+      → one ≡ option_map (created channel name) old → Took channel bytes one new
+      → Between old new (λ t n. OneMore name t.uses n.uses)
+  open_unwritten None one new fresh a took = tt
+  open_unwritten (Some t) one new fresh a took =
+      rw (took.told, a, blame_is channel name t above) (one_more channel name (writes name) t above fresh refl)
+
   -- a write of a file that was just made fails beyond the room, and then the file fills it
   fills_one : (t : Told) (new : Option Told) (count : ℕ) → count ≤ length bytes
       → new ≡ Some (blame_at channel (name_if_writing ((created channel name t).uses channel)) (added channel (take count bytes) (created channel name t)))

@@ -1,5 +1,5 @@
 -- What a whole file or a whole line makes of a desk.
-use Rattle.std.specs.Prelude.{◌≡◌, ◌⊎◌, ℕ, ◌+◌, ◌^◌, ◌<◌, ◌≤◌, min, List, [], ◌∷◌, ◌++◌, take, length, codes, Option, Some, None, IfSome, IsSomeAnd, option_map, Result, OnOk, OnErr}
+use Rattle.std.specs.Prelude.{◌≡◌, ◌⊎◌, ℕ, ◌+◌, ◌^◌, ◌<◌, ◌≤◌, min, List, [], ◌∷◌, ◌++◌, take, length, codes, Option, Some, None, IfSome, IsSome, IsSomeAnd, option_map, Result, OnOk, OnErr}
 use Rattle.std.specs.List.{flat_map}
 use Rattle.std.specs.Borrow.{Bor}
 use Rattle.sap_desk.specs.Desk.{Told, Use, closed, reads, writes, stream, IsOpen, at_name, at_number, bytes_of, blamed, added}
@@ -38,6 +38,10 @@ pub record OneMore (name : List ℕ) (before after : ℕ → Use) : Type 0 where
 -- what is open after a failed call on the file of a name: what was open before, and the channel of that call where it has one
 abbrev pub OpenAfterFault : (name : List ℕ) → (before after : ℕ → Use) → Type 0
 OpenAfterFault name before after = (after ≡ before) ⊎ OneMore name before after
+
+-- a call failed at the file of a name, which is there: its channel is still open, since no further call is made
+abbrev pub LeftOpen : List ℕ → Told → Told → Type 0
+LeftOpen name t n = IsSome (t.files name) → OneMore name t.uses n.uses
 
 -- a call failed that reads the file of a name
 pub record FailedReading (name : List ℕ) (t n : Told) : Type 0 where

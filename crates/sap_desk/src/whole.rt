@@ -2,7 +2,7 @@
 ghost use Rattle.std.specs.Prelude.{◌≡◌, ◌⊎◌, ◌+◌, ◌<◌, ◌≤◌, ◌^◌, ℕ, min, Some, length, IfOk, OnOk, OnErr, IfSome, IsErrOf, option_map};
 ghost use Rattle.sap_desk.specs.Desk.{rest_of, moved, name_if_reading, blamed, IsReading};
 ghost use Rattle.sap_desk.specs.Cause.{CountsOpen};
-ghost use Rattle.sap_desk.specs.Whole.{Between, FailedReading, IsFront, IsFrontOf, MissingOrFar, MissingOrLong, Wrote, FailedWriting, FillsFile};
+ghost use Rattle.sap_desk.specs.Whole.{Between, FailedReading, IsFront, IsFrontOf, LeftOpen, MissingOrFar, MissingOrLong, OneMore, Wrote, FailedWriting, FillsFile};
 
 use crate::{Bytes, Desk, DeskError};
 use std::alloc::Global;
@@ -54,6 +54,7 @@ pub fn read_front<D: Desk>(
     ensures counts { CountsOpen (D.faults desk.old) (D.faults desk.new) (D.lost desk.old) (D.lost desk.new) result }
     ensures sure { D.sure desk.old → D.sure desk.new }
     ensures cause { IsErrOf result DeskError.Failed → D.sure desk.old → IfSome (D.told desk.old) (MissingOrFar limit name.now) }
+    ensures open { IsErrOf result DeskError.Failed → D.sure desk.old → Between (D.told desk.old) (D.told desk.new) (LeftOpen name.now) }
 {
     let channel = desk.open_in(name)?;
     match read_until(alloc, desk, channel, limit) {
@@ -79,6 +80,7 @@ pub fn read_file<D: Desk>(alloc: Global, desk: &mut D, name: &str) -> Result<Byt
     ensures counts { CountsOpen (D.faults desk.old) (D.faults desk.new) (D.lost desk.old) (D.lost desk.new) result }
     ensures sure { D.sure desk.old → D.sure desk.new }
     ensures cause { IsErrOf result DeskError.Failed → D.sure desk.old → IfSome (D.told desk.old) (MissingOrLong name.now) }
+    ensures open { IsErrOf result DeskError.Failed → D.sure desk.old → Between (D.told desk.old) (D.told desk.new) (LeftOpen name.now) }
 {
     read_front(alloc, desk, name, usize::MAX)
 }
@@ -93,6 +95,7 @@ pub fn write_file<D: Desk>(desk: &mut D, name: &str, bytes: &[u8]) -> Result<(),
     ensures counts { CountsOpen (D.faults desk.old) (D.faults desk.new) (D.lost desk.old) (D.lost desk.new) result }
     ensures sure { D.sure desk.old → D.sure desk.new }
     ensures cause { IsErrOf result DeskError.Failed → D.sure desk.old → Between (D.told desk.old) (D.told desk.new) (FillsFile name.now bytes.now) }
+    ensures open { IsErrOf result DeskError.Failed → D.sure desk.old → Between (D.told desk.old) (D.told desk.new) (λ t n. OneMore name.now t.uses n.uses) }
 {
     let channel = desk.create(name)?;
     desk.write(channel, bytes)?;

@@ -331,7 +331,7 @@ fills name text t n full room =
 cut_left : (name text : List ℕ) (F : Type 0) (t n : Told) → FailedWriting name text t n → (F → FillsFile name text t n)
     → Left (writes name (λ x. x ≡ text)) (failed name) F t n
 cut_left name text F t n cut full = record {
-  leaves = elim cut.files [ inl before ↦ inl before | inr part ↦ inr (text, take part.count text, refl, (part.count, part.within, refl), part.files) ];
+  leaves = elim cut.files [ inl before ↦ inl before | inr part ↦ inr (refl, (text, take part.count text, refl, (part.count, part.within, refl), part.files)) ];
   gained = [];
   output = cut.channels.output ∙ sym (append-nil (t.written 1));
   shows = inl refl;
@@ -410,7 +410,7 @@ module _ (P : List ℕ → Type 0) (text : List ℕ) (holds : P text) where
   leaves_written name t files done (whole, it, is) = (whole, held whole it, is)
   leaves_written name t files (refused why) h = h
   leaves_written name t files (failed blamed) (inl same) = inl same
-  leaves_written name t files (failed blamed) (inr (whole, part, it, prefix, is)) = inr (whole, part, held whole it, prefix, is)
+  leaves_written name t files (failed blamed) (inr (at, (whole, part, it, prefix, is))) = inr (at, (whole, part, held whole it, prefix, is))
   leaves_written name t files no_memory h = h
 
   opens_written : (name : List ℕ) (t : Told) (e : Ending) (before after : ℕ → Use) → Opens (writes name (λ x. x ≡ text)) t e before after

@@ -1,5 +1,6 @@
 -- Two lattices that are the same give a design the same program.
-use Rattle.std.proofs.Common.{◌≡◌, ℕ, ◌+◌, List, [], ◌∷◌, length, refl, ◌∙◌, ap}
+use Rattle.std.proofs.Common.{◌≡◌, ℕ, ◌+◌, List, [], ◌∷◌, length, refl, ◌∙◌, ap, bytes_eq}
+use Rattle.std.specs.List.{position_or_len}
 use Rattle.std.specs.Prelude.{Option, Some, None}
 use Rattle.sap_lattice.specs.Levels.{Levels, order_of}
 use Rattle.sap_lattice.specs.Order.{Order}
@@ -16,7 +17,7 @@ use Rattle.sap_names.specs.Entities.{entities_of}
 use Rattle.sap_names.specs.declared.entity.Entity.{Entity as Named}
 use Rattle.sap_meaning.specs.Program.{World, Group, Program, root}
 use Rattle.sap_meaning.specs.Touches.{root_touches}
-use Rattle.sap_resolve.specs.Worlds.{position, level_number, declared_level, authority_level, authority_of, declared, all_declared, states_in, state_entities, group_entities, world_of}
+use Rattle.sap_resolve.specs.Worlds.{level_number, declared_level, authority_level, authority_of, declared, all_declared, states_in, state_entities, group_entities, world_of}
 use Rattle.sap_resolve.specs.Terms.{level_term, level_terms}
 use Rattle.sap_shape.specs.Sites.{Surroundings, simple_sites, command_sites, block_sites, state_sites}
 use Rattle.sap_resolve.specs.Resolve.{site_number, step_of, command_of, block_of, else_of, arms_of, list_of, state_of, group_of, states_of}
@@ -27,7 +28,7 @@ module _ (l m : Levels) (same : AreSame l m) where
   bottom_in = ap (λ (o : Order). o.bottom) same.order
 
   number_in : (level : Mention) → level_number l level ≡ level_number m level
-  number_in level = ap (λ (names : List (List ℕ)). position names level.name) same.names
+  number_in level = ap (λ (names : List (List ℕ)). position_or_len (λ l. bytes_eq l level.name) names) same.names
 
   -- entities
 

@@ -100,21 +100,21 @@ Written (prints name text fault) t files = files ≡ t.files
 Written (writes name text) t files = (whole : List ℕ) × text whole × (files ≡ at_name name (Some whole) t.files)
 Written (stops why) t files = files ≡ t.files
 
--- the files where it was cut off in writing: the one that it writes has a prefix of such a text
-abbrev pub WrittenInPart : Asks → Told → Files → Type 0
-WrittenInPart (file name k rest) t files = (v : k.Value) × Has t name k v × WrittenInPart (rest v) t files
-WrittenInPart (by V Holds rest) t files = (v : V) × Holds v × WrittenInPart (rest v) t files
-WrittenInPart (gives text last) t files = ⊥
-WrittenInPart (prints name text fault) t files = ⊥
-WrittenInPart (writes name text) t files =
-    (whole part : List ℕ) × text whole × IsPrefix part whole × (files ≡ at_name name (Some part) t.files)
-WrittenInPart (stops why) t files = ⊥
+-- the files where it was cut off in writing, which blames this: the one that it writes, and that is blamed, has a prefix of such a text
+abbrev pub WrittenInPart : Asks → Told → (blamed : List ℕ) → Files → Type 0
+WrittenInPart (file name k rest) t blamed files = (v : k.Value) × Has t name k v × WrittenInPart (rest v) t blamed files
+WrittenInPart (by V Holds rest) t blamed files = (v : V) × Holds v × WrittenInPart (rest v) t blamed files
+WrittenInPart (gives text last) t blamed files = ⊥
+WrittenInPart (prints name text fault) t blamed files = ⊥
+WrittenInPart (writes name text) t blamed files =
+    (blamed ≡ name) × ((whole part : List ℕ) × text whole × IsPrefix part whole × (files ≡ at_name name (Some part) t.files))
+WrittenInPart (stops why) t blamed files = ⊥
 
 -- the files after a command, by its ending
 abbrev pub Leaves : Asks → Told → Files → Ending → Type 0
 Leaves a t files done = Written a t files
 Leaves a t files (refused why) = files ≡ t.files
-Leaves a t files (failed name) = (files ≡ t.files) ⊎ WrittenInPart a t files
+Leaves a t files (failed blamed) = (files ≡ t.files) ⊎ WrittenInPart a t blamed files
 Leaves a t files no_memory = files ≡ t.files
 
 -- each kind of file is lawful, of what it goes on by there is at most one, and at most one text is asked for on channel 1

@@ -1,5 +1,5 @@
 -- What a line on channel 2 leaves, and what a text leaves on channel 1 that was cut off.
-use Rattle.std.proofs.Common.{◌≡◌, ◌≤◌, ◌∙◌, ℕ, List, [], ◌∷◌, ◌++◌, take, length, refl, sym, ap, subst, inl, ◌⊎◌}
+use Rattle.std.proofs.Common.{◌≡◌, ◌≤◌, ◌∙◌, ℕ, List, [], ◌++◌, take, length, refl, sym, ap, subst, inl, ◌⊎◌}
 use Rattle.std.specs.Prelude.{Option, Some, None, Result, Ok, Err, OnOk, OnErr, IsSomeAnd, option_map, codes}
 use Rattle.std.proofs.lemmas.List.{append-nil}
 use Rattle.sap_desk.specs.Cause.{counted}
@@ -9,7 +9,7 @@ use Rattle.sap_help.specs.Questions.{Asked, IsAnswer, IsCutOff, Untouched}
 
 quiet_added : (line : List ℕ) (before after : Option Told) → after ≡ option_map (added 2 line) before → Between before after Untouched
 quiet_added line None after e = tt
-quiet_added line (Some t) after e = subst (λ (o : Option Told). IsSomeAnd o (λ n. Untouched t n)) (sym e) (record { files = refl; output = refl })
+quiet_added line (Some t) after e = subst (λ (o : Option Told). IsSomeAnd o (λ n. Untouched t n)) (sym e) (record { files = refl; uses = refl; blame = refl; output = refl })
 
 pub quiet_line : {E : Type 0} (r : Result (Unit {0}) E) (line : List ℕ) (before after : Option Told) → OnOk r (after ≡ option_map (added 2 line) before) → OnErr r (CutLine line before after)
     → Between before after Untouched
@@ -24,6 +24,8 @@ cut_then asked text t m (Some n) is count within e h = record {
   text = text;
   is_answer = is;
   files = h.files ∙ ap (λ (x : Told). x.files) e;
+  uses = h.uses ∙ ap (λ (x : Told). x.uses) e;
+  blame = h.blame ∙ ap (λ (x : Told). x.blame) e;
   count = count;
   within = within;
   output = h.output ∙ ap (λ (x : Told). x.written 1) e;

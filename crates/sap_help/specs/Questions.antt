@@ -52,16 +52,20 @@ line_at status =
     else (if nat_eq status 6 then codes "desk: output\n"
     else (if nat_eq status 7 then codes "memory\n" else []))
 
--- files and channel 1 are as before
+-- files, what is open, whom a failed call blames and channel 1 are as before
 pub record Untouched (t n : Told) : Type 0 where
   pub files : n.files ≡ t.files
+  pub uses : n.uses ≡ t.uses
+  pub blame : n.blame ≡ t.blame
   pub output : n.written 1 ≡ t.written 1
 
--- files are as before, and channel 1 has a part more of a text that is asked for, from its first byte on
+-- files and what is open are as before, the output is blamed, and channel 1 has a part more of a text that is asked for, from its first byte on
 pub record IsCutOff (asked : Asked) (t n : Told) : Type 0 where
   pub text : List ℕ
   pub is_answer : IsAnswer asked text
   pub files : n.files ≡ t.files
+  pub uses : n.uses ≡ t.uses
+  pub blame : n.blame ≡ codes "output"
   pub count : ℕ
   pub within : count ≤ length text
   pub output : n.written 1 ≡ t.written 1 ++ take count text

@@ -73,6 +73,7 @@ fn put<D: Desk>(desk: &mut D, text: &str) -> u8
     ensures cut { result ≡ 6 → (asked : Asked) → IsAnswer asked text.now → Between (D.told desk.old) (D.told desk.new) (IsCutOff asked) }
     ensures line { Between (D.told desk.old) (D.told desk.new) (Gained (line_at result) (D.lost desk.old) (D.lost desk.new)) }
     ensures lost { LostAtMostOne (D.lost desk.old) (D.lost desk.new) }
+    ensures silent { result ≡ 0 → D.lost desk.new ≡ D.lost desk.old }
     ensures failed { result ≡ 6 → D.faults desk.new ≡ counted (D.faults desk.old) }
     ensures counted { result ≢ 6 → D.faults desk.new ≡ D.faults desk.old }
     ensures sure { D.sure desk.old → D.sure desk.new }
@@ -95,6 +96,7 @@ fn reply<D: Desk>(alloc: Global, desk: &mut D, question: Question<'_>) -> u8
     ensures quiet { result ≢ 0 → result ≢ 6 → Between (D.told desk.old) (D.told desk.new) Untouched }
     ensures line { Between (D.told desk.old) (D.told desk.new) (Gained (line_at result) (D.lost desk.old) (D.lost desk.new)) }
     ensures lost { LostAtMostOne (D.lost desk.old) (D.lost desk.new) }
+    ensures silent { result ≡ 0 → D.lost desk.new ≡ D.lost desk.old }
     ensures failed { result ≡ 6 → D.faults desk.new ≡ counted (D.faults desk.old) }
     ensures counted { result ≢ 6 → D.faults desk.new ≡ D.faults desk.old }
     ensures sure { D.sure desk.old → D.sure desk.new }
@@ -124,13 +126,15 @@ pub fn answer<D: Desk>(alloc: Global, desk: &mut D, words: &[String]) -> Option<
     ensures unknown { option_map_or is_unknown (asked_by (map string_bytes words.now)) false ≡ true → result ≡ Some 2 }
     ensures known { option_map_or is_unknown (asked_by (map string_bytes words.now)) true ≡ false → result ≢ Some 2 }
     ensures done { result ≡ Some 0 → IfSome (asked_by (map string_bytes words.now)) (λ asked. IsAnswered asked (D.told desk.old) (D.told desk.new)) }
-    // A write that fails leaves a part of the answer; a word that is no code, and want of memory, leave files and channel 1.
+    // A write that fails leaves a part of the answer and blames the output; a word that is no code, and want of memory, leave files and channel 1.
+    // What is open stays so.
     ensures status { IfSome result IsStatus }
     ensures cut { result ≡ Some 6 → IfSome (asked_by (map string_bytes words.now)) (λ asked. Between (D.told desk.old) (D.told desk.new) (IsCutOff asked)) }
     ensures quiet { result ≢ Some 0 → result ≢ Some 6 → Between (D.told desk.old) (D.told desk.new) Untouched }
     // Channel 2 gains exactly the line of the status, or a part of it where a call on it failed; at most one fails.
     ensures line { IfSome result (λ status. Between (D.told desk.old) (D.told desk.new) (Gained (line_at status) (D.lost desk.old) (D.lost desk.new))) }
     ensures lost { LostAtMostOne (D.lost desk.old) (D.lost desk.new) }
+    ensures silent { result ≡ Some 0 → D.lost desk.new ≡ D.lost desk.old }
     ensures failed { result ≡ Some 6 → D.faults desk.new ≡ counted (D.faults desk.old) }
     ensures counted { result ≢ Some 6 → D.faults desk.new ≡ D.faults desk.old }
     ensures sure { D.sure desk.old → D.sure desk.new }

@@ -78,5 +78,8 @@ pub record HasInterface (d : Named) (tag sites : ℕ) (n : Net) : Type 0 where
   pub state_tags : (x : ℕ) → is_state (world d) x ≡ true → x < root (world d) → HasRegister n.registers (tag_name (name d x)) tag
   pub seats : (p : ℕ) → p < root (world d) → 0 < children (world d) p → HasSeat n (children (world d) p) (seat_name (name d p))
   pub root_seat : HasSeat n (children (world d) (root (world d))) root_seat
+  -- its registers and memories have no other names
+  pub register_names : AllByRecursion (λ r. IsInterfaceName d sites r.name) n.registers
+  pub memory_names : AllByRecursion (λ m. IsInterfaceName d sites m.name) n.memories
   -- it declares nothing else but helping wires
   pub names : AllByRecursion (λ x. IsInterfaceName d sites x ⊎ IsHelpingName x) n.names

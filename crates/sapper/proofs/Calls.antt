@@ -1,6 +1,6 @@
 -- From the end of a command and its line to the answer of the call.
-use Rattle.std.proofs.Common.{◌≡◌, ◌≢◌, ◌≤◌, ℕ, List, [], ◌++◌, length, take, refl, sym, ◌∙◌, ap, subst, inl, inr, ◌⊎◌}
-use Rattle.std.specs.Prelude.{◌↔◌, Option, Some, None, IfSome, unwrap_or, Result}
+use Rattle.std.proofs.Common.{◌≡◌, ◌≢◌, ℕ, List, [], ◌++◌, length, take, refl, sym, ◌∙◌, ap, subst, inl, inr, ◌⊎◌}
+use Rattle.std.specs.Prelude.{Option, Some, None, IfSome, unwrap_or, Result}
 use Rattle.std.proofs.lemmas.List.{append-nil}
 use Rattle.sap_desk.specs.Desk.{Told, Use}
 use Rattle.sap_desk.specs.Cause.{counted}
@@ -12,8 +12,9 @@ use Rattle.sap_files.specs.Asks.{Asks, file, by, gives, prints, writes, stops, A
 use Rattle.sap_commands.specs.Commands.{asks, asks_for}
 use Rattle.sap_files.specs.After.{Blames, Opens}
 use Rattle.sap_files.specs.Outside.{FullFile, FullOutput, OutsideOf}
-use Rattle.sap_files.specs.Steps.{Ends, FaultRose, Left, Moment, ending_of}
+use Rattle.sap_files.specs.Steps.{Ends, FaultRose, Left, Moment, ending, ending_of}
 use Rattle.sap_files.specs.declared.failure.Failure.{Failure}
+use Rattle.sap_files.specs.declared.failure.Failure.TheVariants.{Refused, Desk, Memory}
 use Rattle.sapper.specs.Answers.{Answers, MayAnswer}
 use Rattle.sapper.specs.Exact.{Exact}
 use Rattle.sapper.specs.Outside.{FullLines, Outside}
@@ -21,6 +22,7 @@ use Rattle.sapper.specs.Lines.{Reports, TakesMemory, Tells, ToldLine}
 use Rattle.sap_commands.proofs.CommandLaws.{two_if}
 use Rattle.sap_files.proofs.Lawful.{one_cause}
 use Rattle.sap_files.proofs.Ended.{between_map, quiet_self, stopped_here, whole_prefix}
+use Rattle.sapper.proofs.Headline.{done_alone}
 
 -- what words ask
 
@@ -124,6 +126,21 @@ told_end a e answer b c d ended r = elim r.is_it [
       let (is, (why, was, takes)) = starved in
       subst (λ (f : Ending). Ends a f b c) (sym is) (starved_end a why b c takes (subst (λ (f : Ending). Ends a f b c) was ended))
 ]
+
+-- no failure is told as done
+
+not_done : (f : Failure) → done ≡ ending f → ⊥
+not_done (Refused why) is = cc
+not_done (Desk name) is = cc
+not_done Memory is = cc
+
+pub told_not_done : (f : Failure) (answer : ℕ) (b c : Moment) → Reports (ending f) answer b c → answer ≢ 0
+told_not_done f answer b c r zero =
+    let is : r.as_told ≡ done = done_alone r.as_told (sym zero ∙ r.status) in
+    elim r.is_it [
+      | inl same ↦ not_done f (sym is ∙ same)
+      | inr starved ↦ not_done Memory (sym is ∙ starved.0)
+    ]
 
 -- which answers there may be
 

@@ -22,14 +22,16 @@ means ls d text (net, is) = record {
   net = net;
   is_module = is.is_module;
   no_other = λ other other_is. one_module text other net other_is is.is_module;
+  interface = is.stands.interface;
   one_run = is.has_one_run;
   means = is.stands.stands;
   agree = is.agrees;
   look_alike = is.looks_alike;
+  small = is.small;
 }
 
 -- the status 0 is that of a call that is done alone
-done_alone : (e : Ending) → 0 ≡ status_of e → e ≡ done
+pub done_alone : (e : Ending) → 0 ≡ status_of e → e ≡ done
 done_alone done is = refl
 done_alone (refused (design_refused fault)) is = absurd (omega (arith, is))
 done_alone (refused no_command) is = absurd (omega (arith, is))

@@ -3,7 +3,8 @@
 -- module's runs agree there in every cycle, timing included.
 use Rattle.std.specs.Prelude.{◌≡◌, ◌≢◌, ℕ, List, map, Some}
 use Rattle.sap_desk.specs.Desk.{Told}
-use Rattle.sap_lattice.specs.Levels.{Levels}
+use Rattle.sap_lattice.specs.Codes.{width_of}
+use Rattle.sap_lattice.specs.Levels.{Levels, order_of}
 use Rattle.sap_maps.specs.Maps.{Valuation}
 use Rattle.sap_meaning.specs.Cycle.{Tagged}
 use Rattle.sap_meaning.specs.State.{StreamFits, labelled_run}
@@ -13,8 +14,10 @@ use Rattle.sap_net.specs.Runs.{IsRun, observed}
 use Rattle.sap_modtext.specs.Modules.{IsModule}
 use Rattle.sap_interface.specs.Compiled.{CyclesStand, coded_stream}
 use Rattle.sap_interface.specs.Designs.{named_of, sites_of}
+use Rattle.sap_interface.specs.Interface.{HasInterface}
 use Rattle.sap_interface.specs.StandsFor.{world}
 use Rattle.sap_compile.specs.Agree.{RunsAgree, RunsLookAlike}
+use Rattle.sap_compile.specs.Items.{IsSmall}
 use Rattle.sap_compile.specs.Runs.{HasOneRunOnStreams}
 use Rattle.sap_words.specs.Words.{command_of, compile}
 use Rattle.sap_files.specs.Kinds.{Has, lattice_file, design_file}
@@ -33,12 +36,16 @@ pub record MeansDesign (ls : Levels) (d : DesignTree) (text : List ℕ) : Type 0
   -- by the grammar of modules the text is this module, and no other
   pub is_module : IsModule text net
   pub no_other : (other : Net) → IsModule text other → other ≡ net
+  -- its interface is the design's
+  pub interface : HasInterface (named_of ls d) (width_of (order_of ls)) (sites_of d) net
   -- clocked on any stream that fits the design it has one run, and that has the design's meaning
   pub one_run : HasOneRunOnStreams ls d net
   pub means : MeansInEveryCycle ls d net
   -- on streams that agree at or below a level the runs agree there in every cycle, in states and refusals and in plain numbers
   pub agree : RunsAgree ls d net
   pub look_alike : RunsLookAlike ls d net
+  -- it is small
+  pub small : IsSmall ls d net
 
 -- of the answer of a `compile` and the desk before and after it
 pub record CompilesExactly (lattice design out : List ℕ) (answer : ℕ) (t n : Told) : Type 0 where

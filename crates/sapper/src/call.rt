@@ -18,7 +18,7 @@ use sap_desk::{Desk, write_line};
 use sap_files::failure::Failure;
 use sap_files::refusal::Refusal;
 use sap_stim::StimFault;
-use sap_stim::digits::Digits;
+use sap_text::digits::Digits;
 use sap_words::command_of;
 use std::alloc::Global;
 
@@ -119,8 +119,9 @@ pub fn sapper<D: Desk>(alloc: Global, words: &[String], desk: &mut D) -> u8
     ensures refused { words_for (map string_bytes words.now) ≡ None → result ≡ 2 }
     ensures may { MayAnswer (map string_bytes words.now) result }
     ensures words { result ≡ 2 → (words_for (map string_bytes words.now) ≡ None) ⊎ IsTwin (words_for (map string_bytes words.now)) }
-    // Of all the calls on channel 2 at most one fails.
+    // Of all the calls on channel 2 at most one fails, and none where it is done.
     ensures lost { LostAtMostOne (D.lost desk.old) (D.lost desk.new) }
+    ensures silent { result ≡ 0 → D.lost desk.new ≡ D.lost desk.old }
     ensures sure { D.sure desk.old → D.sure desk.new }
 {
     match ask(alloc, desk, words) {

@@ -3,7 +3,7 @@ use Rattle.std.proofs.Common.{◌≡◌, ◌≤◌, ◌⊎◌, ℕ, List, [], �
 use Rattle.std.specs.Prelude.{unwrap_or, Option}
 use Rattle.std.specs.List.{AllByRecursion, AllZip}
 use Rattle.std.proofs.lemmas.Bool.{cases_Bool}
-use Rattle.sap_lemmas.proofs.Everywhere.{all_of_map}
+use Rattle.sap_lemmas.proofs.Everywhere.{all_of_map, map_of_all}
 use Rattle.sap_net.proofs.NamesLemmas.{among_behind, among_front, each_among, among_each}
 use Rattle.sap_maps.specs.Maps.{Name, Valuation}
 use Rattle.sap_meaning.specs.Cycle.{Tagged}
@@ -19,6 +19,8 @@ use Rattle.sap_net.specs.declared.parts.PortKind.TheVariants as kind
 use Rattle.sap_net.specs.declared.parts.Port.{Port}
 use Rattle.sap_net.specs.declared.parts.Input.{Input}
 use Rattle.sap_net.specs.declared.parts.Wire.{Wire}
+use Rattle.sap_net.specs.declared.parts.Register.{Register}
+use Rattle.sap_net.specs.declared.parts.Memory.{Memory}
 use Rattle.sap_trim.specs.Alike.{DeclaresAlike, ShowsAlike, RunsAlike}
 use Rattle.sap_trim.specs.Names.{helper, port_names, lasting_names, helping_wires, NoneNumbered}
 use Rattle.sap_trim.specs.Trimmed.{NumbersWires}
@@ -151,6 +153,19 @@ module _ (given result : Net) (before : IsNetlist given) (after : IsNetlist resu
               ]
         ]
 
+    abbrev IsListed : Name → Type 0
+    IsListed x = IsInterfaceName d sites x
+
+    registers_listed : AllByRecursion IsListed (register_names result)
+    registers_listed =
+        subst (λ (ns : List Name). AllByRecursion IsListed ns) (sym same_register_names)
+        (map_of_all IsListed (λ (r : Register). r.name) given.registers from.interface.register_names)
+
+    memories_listed : AllByRecursion IsListed (memory_names result)
+    memories_listed =
+        subst (λ (ns : List Name). AllByRecursion IsListed ns) (sym same_memory_names)
+        (map_of_all IsListed (λ (m : Memory). m.name) given.memories from.interface.memory_names)
+
     has_interface : HelpersNamed result → HasInterface d tag sites result
     has_interface named = record {
       module_name = declares.module_name ∙ from.interface.module_name;
@@ -165,6 +180,8 @@ module _ (given result : Net) (before : IsNetlist given) (after : IsNetlist resu
       state_tags = λ x h i. has_register _ _ (from.interface.state_tags x h i);
       seats = λ x h i. has_seat _ _ (from.interface.seats x h i);
       root_seat = has_seat _ _ from.interface.root_seat;
+      register_names = all_of_map IsListed (λ (r : Register). r.name) result.registers registers_listed;
+      memory_names = all_of_map IsListed (λ (m : Memory). m.name) result.memories memories_listed;
       names = each_among (λ (x : Name). IsInterfaceName d sites x ⊎ IsHelpingName x) result.names (name_is named);
     }
 

@@ -4,7 +4,7 @@ use Rattle.std.specs.List.{AllByRecursion, AllZip}
 use Rattle.std.proofs.lemmas.Bool.{cases_Bool}
 use Rattle.sap_lemmas.proofs.Everywhere.{all_follow, all_of_map, all_second}
 use Rattle.sap_lemmas.proofs.Texts.{bytes_eq_same}
-use Rattle.sap_net.proofs.NamesLemmas.{found_among, found_of, among_each}
+use Rattle.sap_net.proofs.NamesLemmas.{found_among, found_of, among_each, each_among}
 use Rattle.sap_maps.specs.Maps.{Name, Valuation}
 use Rattle.sap_maps.specs.Scope.{find}
 use Rattle.sap_meaning.specs.Cycle.{Tagged}
@@ -20,6 +20,7 @@ use Rattle.sap_net.specs.declared.parts.PortKind.TheVariants as kind
 use Rattle.sap_net.specs.declared.parts.Port.{Port}
 use Rattle.sap_net.specs.declared.parts.Input.{Input}
 use Rattle.sap_net.specs.declared.parts.Register.{Register}
+use Rattle.sap_net.specs.declared.parts.Memory.{Memory}
 use Rattle.sap_ir.specs.declared.guarded.Var.{Var}
 use Rattle.sap_ir.specs.declared.guarded.Store as ir
 use Rattle.sap_ir.specs.Source.{Source}
@@ -215,6 +216,8 @@ module _ (d : Named) (tag sites : ℕ) (p : Nested) (s : Source) (n : Net) (from
     state_tags = λ x h i. has_register _ _ (from.interface.state_tags x h i);
     seats = λ x h i. has_seat _ _ (from.interface.seats x h i);
     root_seat = has_seat _ _ from.interface.root_seat;
+    register_names = all_of_map IsNamed (λ (r : Register). r.name) n.registers (each_among IsNamed (net.register_names n) register_kept);
+    memory_names = all_of_map IsNamed (λ (m : Memory). m.name) n.memories (each_among IsNamed (net.memory_names n) memory_kept);
     names = all_follow (λ (x : Name). low.IsKept s x ⊎ IsHelpingName x) (λ x. IsInterfaceName d sites x ⊎ IsHelpingName x) n.names name_is lowers.names;
   }
 

@@ -1,6 +1,6 @@
 use Rattle.std.proofs.Common.{ap}
 use Rattle.std.specs.Prelude.{Err}
-use Rattle.sap_desk.proofs.ReadFiles.{front_opened, not_finished, not_read}
+use Rattle.sap_desk.proofs.ReadFiles.{front_opened, not_finished, not_read, open_unfinished, open_unread}
 use Rattle.sap_desk.proofs.whole.read_front.Goals as goal
 
 pub returns-in_err-finish-in-Ok-clause-failed : goal.returns-in_err-finish-in-Ok-clause-failed
@@ -19,3 +19,17 @@ pub returns-in-Err-Failed-clause-failed : goal.returns-in-Err-Failed-clause-fail
 returns-in-Err-Failed-clause-failed g c = λ _.
     let read = c.in-Err-Failed.ensures.failed (ap Err c.in-Err-Failed.field-0-is) in
     not_read _ read.0 _ c.in_ok-channel.ensures.number _ _ _ c.in_ok-channel.ensures.fresh c.in_ok-channel.ensures.told read.1
+
+pub returns-in_err-finish-in-Ok-clause-open : goal.returns-in_err-finish-in-Ok-clause-open
+returns-in_err-finish-in-Ok-clause-open g c = λ _ _.
+    open_unfinished _ _ _ c.in_ok-channel.ensures.number _ _ _ _ c.in_ok-channel.ensures.fresh c.in_ok-channel.ensures.told c.in-Ok.ensures.told c.in_err-finish-in-Ok.ensures.failed
+
+pub returns-in_err-finish-in-Err-Memory-clause-open : goal.returns-in_err-finish-in-Err-Memory-clause-open
+returns-in_err-finish-in-Err-Memory-clause-open g c = λ _ _.
+    let read = c.in-Err-Memory.ensures.memory (ap Err c.in-Err-Memory.field-0-is) in
+    open_unfinished _ read.0 _ c.in_ok-channel.ensures.number _ _ _ _ c.in_ok-channel.ensures.fresh c.in_ok-channel.ensures.told read.1 c.in_err-finish-in-Err-Memory.ensures.failed
+
+pub returns-in-Err-Failed-clause-open : goal.returns-in-Err-Failed-clause-open
+returns-in-Err-Failed-clause-open g c = λ _ _.
+    let read = c.in-Err-Failed.ensures.failed (ap Err c.in-Err-Failed.field-0-is) in
+    open_unread _ read.0 _ c.in_ok-channel.ensures.number _ _ _ c.in_ok-channel.ensures.fresh c.in_ok-channel.ensures.told read.1

@@ -3,7 +3,6 @@ use Rattle.std.specs.Prelude.{Some, is_some, map, string_bytes}
 use Rattle.sap_words.specs.Called.{words_of}
 use Rattle.sap_words.specs.Words.{command_of as words_for}
 use Rattle.sap_commands.specs.Commands.{asks_for}
-use Rattle.sap_files.specs.Ending.{no_memory}
 use Rattle.sap_files.specs.Steps.{ending_of}
 use Rattle.sap_files.proofs.Ended.{quiet_self, starved}
 use Rattle.sapper.proofs.Calls.{named}

@@ -4,7 +4,7 @@ use Rattle.sap_desk.specs.Whole.{LostAtMostOne}
 use Rattle.sap_files.specs.Ending.{done, no_command, refused, line_of}
 use Rattle.sap_files.specs.Steps.{ending, seen}
 use Rattle.sapper.specs.Lines.{Tells}
-use Rattle.sapper.proofs.Calls.{answers, exact, full_lines, lost_once, may_answer, no_words, outside, same_end, silent, told_end, two_words}
+use Rattle.sapper.proofs.Calls.{answers, exact, full_lines, lost_once, may_answer, no_words, outside, same_end, silent, told_end, told_not_done, two_words}
 use Rattle.sapper.proofs.Headline.{headline_told}
 use Rattle.sap_commands.proofs.CommandLaws.{lawful_words}
 use Rattle.sapper.proofs.call.sapper.Goals as goal
@@ -56,6 +56,12 @@ returns-in-Some-Err-clause-lost g c =
     let ended = same_end words _ _ _ _ c.in-Some-Err.field-0-is c.in-Some-Err.ensures.asked in
     let told = c.report.ensures in
     lost_once words told.as_told _ _ _ (told_end _ (ending c.in-Some-Err.failure) c.report.result _ _ _ ended told) told.line
+
+pub returns-in-Some-Ok-clause-silent : goal.returns-in-Some-Ok-clause-silent
+returns-in-Some-Ok-clause-silent g c = λ zero. (same_end (map string_bytes c.args.words.now) _ _ _ _ c.in-Some-Ok.field-0-is c.in-Some-Ok.ensures.asked).lost
+
+pub returns-in-Some-Err-clause-silent : goal.returns-in-Some-Err-clause-silent
+returns-in-Some-Err-clause-silent g c = λ zero. absurd (told_not_done c.in-Some-Err.failure c.report.result _ _ c.report.ensures zero)
 
 pub returns-in-None-clause-lost : goal.returns-in-None-clause-lost
 returns-in-None-clause-lost g c = subst (λ d. LostAtMostOne (g.D.Desk.lost d) (g.D.Desk.lost c.tell.new.desk)) (c.in-None.ensures.nothing refl) c.tell.ensures.lost
