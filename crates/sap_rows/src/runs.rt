@@ -1,6 +1,7 @@
 //! How a row is run: as it stands, and again where calls on the desk fail in turn, or where a file is cut.
 
-ghost use Rattle.std.specs.Prelude.{◌≡◌, ◌≢◌, [], length, take, drop};
+ghost use Rattle.std.specs.Prelude.{◌≡◌, ◌≢◌, ◌<◌, take, drop};
+ghost use Rattle.sap_rows.specs.Runs.{cuts, further, further_at, put_bytes};
 ghost use Rattle.sap_rows.specs.declared.runs.Circumstance.TheVariants.{AsItStands};
 
 use crate::table::{File, Row, Step};
@@ -31,24 +32,39 @@ pub fn steps_of(row: &Row, circumstance: Circumstance) -> &[Step]
     }
 }
 
+/// At most so many bytes of a text, from the first on.
+fn beginning(text: &[u8], length: usize) -> &[u8]
+    ensures { result.now ≡ take length text.now }
+{
+    &text[..length.min(text.len())]
+}
+
+/// Whether a file is the one that a step has cut.
+fn is_cut(step: &Step, file: &File) -> bool
+    ensures { result ≡ cuts step.now.cut file.now }
+{
+    match &step.cut {
+        Some(cut) => file.name.as_str() == cut.file.as_str(),
+        None => false,
+    }
+}
+
 /// The bytes of a file that are put: all, or where it is cut its beginning.
 pub fn bytes_put<'a>(step: &Step, file: &'a File, circumstance: Circumstance) -> &'a [u8]
-    ensures beginning { result.now ≡ take (length result.now) file.now.bytes.items }
-    ensures whole { circumstance ≡ AsItStands → result.now ≡ file.now.bytes.items }
+    ensures { result.now ≡ put_bytes step.now file.now circumstance }
 {
-    let whole = file.bytes.as_slice();
-    match (circumstance, &step.cut) {
-        (Circumstance::CutAt(length), Some(cut)) if cut.file.as_str() == file.name.as_str() => {
-            whole.get(..length).unwrap_or(whole)
+    match circumstance {
+        Circumstance::CutAt(length) if is_cut(step, file) => {
+            beginning(file.bytes.as_slice(), length)
         }
-        _ => whole,
+        _ => file.bytes.as_slice(),
     }
 }
 
 /// How many further runs a row has: one for each call on the desk and one with a call failing that is never made, or one
 /// for each length at which its file is cut.
 pub fn further_runs(row: &Row) -> usize
-    ensures { row.now.steps.items ≡ [] → result ≡ 0 }
+    ensures { result ≡ further row.now.steps.items }
 {
     match row.steps.first() {
         Some(step) if !step.turns.is_empty() => step.turns.len().saturating_add(1),
@@ -59,10 +75,11 @@ pub fn further_runs(row: &Row) -> usize
 
 /// How the further run of this number, from 0, is made.
 pub fn further_run(row: &Row, number: usize) -> Circumstance
-    ensures { result ≢ AsItStands }
+    requires { number < further row.now.steps.items }
+    ensures { result ≡ further_at row.now.steps.items number }
 {
     match row.steps.first() {
-        Some(step) if !step.turns.is_empty() => Circumstance::Failing(number.saturating_add(1)),
+        Some(step) if !step.turns.is_empty() => Circumstance::Failing(number + 1),
         _ => Circumstance::CutAt(number),
     }
 }

@@ -1,6 +1,7 @@
 //! Differences and refusals as lines.
 
-ghost use Rattle.std.specs.Prelude.{◌≡◌, ◌<◌, ◌≤◌, IfOk, OnOk, string_bytes, string_len, true, false};
+ghost use Rattle.std.specs.Prelude.{◌≡◌, ◌<◌, ◌≤◌, ◌++◌, IfOk, OnOk, string_bytes, string_len, true, false};
+ghost use Rattle.sap_rows.specs.Told.{counts_line, refusal_line};
 
 use crate::judging::first_wrong;
 use crate::refusal::{Refusal, Why};
@@ -171,36 +172,20 @@ pub fn push_counts(
     rows: usize,
     differing: u64,
 ) -> Result<(), AllocError>
-    ensures { OnOk result (string_len out.old < string_len out.new) }
+    ensures { OnOk result (string_bytes out.new ≡ string_bytes out.old ++ counts_line table.now rows differing) }
 {
-    push_line(
-        out,
-        &[
-            Part::Text(table),
-            Part::Text(": "),
-            Part::Number(rows as u64),
-            Part::Text(" rows, "),
-            Part::Number(differing),
-            Part::Text(" differ"),
-        ],
-    )
+    let line = format!(in *out.allocator(); "{table}: {rows} rows, {differing} differ\n")?;
+    out.push_str(&line)
 }
 
 /// Appends the line of a table that is refused.
 pub fn push_refusal(out: &mut String, table: &str, refusal: Refusal) -> Result<(), AllocError>
-    ensures { OnOk result (string_len out.old < string_len out.new) }
+    ensures { OnOk result (string_bytes out.new ≡ string_bytes out.old ++ refusal_line table.now refusal.line refusal.why) }
 {
-    match refusal.why {
-        Why::Says(text) => push_line(
-            out,
-            &[
-                Part::Text(table),
-                Part::Text(": line "),
-                Part::Number(refusal.line),
-                Part::Text(": "),
-                Part::Text(text),
-            ],
-        ),
-        Why::Memory => push_line(out, &[Part::Text(table), Part::Text(": memory")]),
-    }
+    let Refusal { line, why } = refusal;
+    let told = match why {
+        Why::Says(text) => format!(in *out.allocator(); "{table}: line {line}: {text}\n")?,
+        Why::Memory => format!(in *out.allocator(); "{table}: memory\n")?,
+    };
+    out.push_str(&told)
 }

@@ -1,5 +1,9 @@
 //! Rows of a table: calls over a desk, and what has to come of them.
 
+ghost use Rattle.std.specs.Prelude.{◌≡◌, []};
+ghost use Rattle.std.specs.Option.{option_map, unwrap_or};
+ghost use Rattle.sap_rows.specs.Runs.{bytes_of, cut_bytes};
+
 use crate::refusal::Why;
 use std::alloc::Global;
 
@@ -117,7 +121,9 @@ impl Step {
     }
 
     /// The whole bytes of the file that is cut, where it is put.
-    pub(crate) fn cut_bytes(&self) -> Option<&[u8]> {
+    pub(crate) fn cut_bytes(&self) -> Option<&[u8]>
+        ensures { unwrap_or (option_map (λ bytes. bytes.now) result) [] ≡ cut_bytes self.now }
+    {
         match &self.cut {
             Some(cut) => bytes_of(&self.files, &cut.file),
             None => None,
@@ -126,13 +132,13 @@ impl Step {
 }
 
 /// The bytes of the first file with a name.
-pub(crate) fn bytes_of<'a>(files: &'a [File], name: &str) -> Option<&'a [u8]> {
-    for file in files {
-        if file.name.as_str() == name {
-            return Some(file.bytes.as_slice());
-        }
+pub(crate) fn bytes_of<'a>(files: &'a [File], name: &str) -> Option<&'a [u8]>
+    ensures { option_map (λ bytes. bytes.now) result ≡ bytes_of files.now name.now }
+{
+    match files.iter().find(|file| file.name.as_str() == name) {
+        Some(file) => Some(file.bytes.as_slice()),
+        None => None,
     }
-    None
 }
 
 /// Pushes a file whose name none has; else the table says what is wrong.
