@@ -67,7 +67,8 @@ Cure: Write names that stand under `levels` in `below`.
 
 const L6: &str = "L6: two levels are each at or below the other.
 
-Both stand behind the code.
+The names of the two stand behind the code, the one that is earlier in the file first. Of several
+such pairs they are those of the pair whose earlier level comes first, and of these whose other does.
 
 Example:
 
@@ -79,7 +80,8 @@ Cure: Leave out a pair of the ring, or make the two one level.
 
 const L7: &str = "L7: two levels have no least level above both.
 
-Both stand behind the code.
+The names of the two stand behind the code, the one that is earlier in the file first. Of several
+such pairs they are those of the pair whose earlier level comes first, and of these whose other does.
 
 Example:
 
