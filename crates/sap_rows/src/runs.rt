@@ -75,11 +75,11 @@ pub fn further_runs(row: &Row) -> usize
 
 /// How the further run of this number, from 0, is made.
 pub fn further_run(row: &Row, number: usize) -> Circumstance
-    requires { number < further row.now.steps.items }
-    ensures { result ≡ further_at row.now.steps.items number }
+    ensures counted { number < further row.now.steps.items → result ≡ further_at row.now.steps.items number }
+    ensures further { result ≢ AsItStands }
 {
     match row.steps.first() {
-        Some(step) if !step.turns.is_empty() => Circumstance::Failing(number + 1),
+        Some(step) if !step.turns.is_empty() => Circumstance::Failing(number.saturating_add(1)),
         _ => Circumstance::CutAt(number),
     }
 }
