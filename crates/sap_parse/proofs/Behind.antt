@@ -7,7 +7,7 @@ use Rattle.sap_parse.specs.Reading.{ahead}
 use Rattle.sap_parse.specs.Stages.{front_place}
 use Rattle.sap_parse.specs.Text.{fault_place}
 use Rattle.sap_parse.specs.declared.cursor.Ahead.TheVariants as a
-use Rattle.sap_parse.specs.declared.token.Token.{Token}
+use Rattle.sap_lex.specs.declared.token.Token.{Token}
 
 whole : (text : List ℕ) → text ≡ take (length text) text
 whole text = grind (arith, common_steps)

@@ -4,15 +4,15 @@ use Rattle.std.proofs.lemmas.Bool.Decides.{nat_tests}
 use Rattle.std.specs.Prelude.{nat_le, nat_lt, ◌&&◌}
 use Rattle.std.specs.List.{All}
 use Rattle.sap_parse.specs.Limits.{Counts, tally, breach, breach_of_name, breach_of_role, above, ◌or_else◌}
-use Rattle.sap_parse.specs.Spelled.{HasText, Spells, SpellsSized, decimal, hexadecimal, is_of, text_of}
+use Rattle.sap_lex.specs.Spelled.{HasText, Spells, SpellsSized, decimal, hexadecimal, is_of, text_of}
 use Rattle.sap_parse.specs.Stages.{Stage, IsToken}
-use Rattle.sap_parse.specs.declared.limit.Limit.TheVariants as l
-use Rattle.sap_parse.specs.declared.limit.Limit.{Limit}
-use Rattle.sap_parse.specs.declared.limit.Role.TheVariants as r
-use Rattle.sap_parse.specs.declared.limit.Role.{Role}
-use Rattle.sap_parse.specs.declared.token.Kind.TheVariants as k
-use Rattle.sap_parse.specs.declared.token.Kind.{Kind}
-use Rattle.sap_parse.specs.declared.token.Token.{Token}
+use Rattle.sap_lex.specs.declared.limit.Limit.TheVariants as l
+use Rattle.sap_lex.specs.declared.limit.Limit.{Limit}
+use Rattle.sap_parse.specs.declared.role.Role.TheVariants as r
+use Rattle.sap_parse.specs.declared.role.Role.{Role}
+use Rattle.sap_lex.specs.declared.token.Kind.TheVariants as k
+use Rattle.sap_lex.specs.declared.token.Kind.{Kind}
+use Rattle.sap_lex.specs.declared.token.Token.{Token}
 use Rattle.sap_tree.specs.Limits.{most_arms}
 use Rattle.sap_tree.specs.Whole.{is_number}
 use Rattle.sap_tree.specs.Words.{is_word, is_keyword, is_name}

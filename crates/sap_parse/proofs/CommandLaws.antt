@@ -11,11 +11,11 @@ use Rattle.sap_parse.specs.declared.choice.CommandHead.{CommandHead}
 use Rattle.sap_parse.specs.declared.choice.Primary.TheVariants as v
 use Rattle.sap_parse.specs.declared.choice.Primary.{Primary}
 use Rattle.sap_parse.specs.declared.cursor.Ahead.TheVariants as a
-use Rattle.sap_parse.specs.declared.limit.Role.TheVariants as r
-use Rattle.sap_parse.specs.declared.token.Kind.TheVariants as k
-use Rattle.sap_parse.specs.declared.token.Kind.{Kind}
-use Rattle.sap_parse.specs.declared.token.Sign.TheVariants as j
-use Rattle.sap_parse.specs.declared.token.Token.{Token}
+use Rattle.sap_parse.specs.declared.role.Role.TheVariants as r
+use Rattle.sap_lex.specs.declared.token.Kind.TheVariants as k
+use Rattle.sap_lex.specs.declared.token.Kind.{Kind}
+use Rattle.sap_lex.specs.declared.token.Sign.TheVariants as j
+use Rattle.sap_lex.specs.declared.token.Token.{Token}
 use Rattle.sap_tree.specs.declared.word.Word.TheVariants as w
 use Rattle.sap_parse.proofs.ExprLaws.{front_by, nothing_ahead, same_row}
 use Rattle.sap_parse.proofs.Laws.{IsFull, or_full, push_full, name_full, number_full, sign_full, word_full, sign_then, sign_there, sign_missing, skips, stands, step, step_at, stops, word_then, word_there, word_missing}

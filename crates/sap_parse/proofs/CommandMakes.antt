@@ -7,8 +7,8 @@ use Rattle.sap_parse.specs.Rows.{Asked, asked, between}
 use Rattle.sap_parse.specs.Stages.{Stage, IsName, IsNumber, IsSign, IsSized, IsWord, here, mention}
 use Rattle.sap_parse.specs.declared.command.Handling.TheVariants as e
 use Rattle.sap_parse.specs.declared.command.Handling.{Handling}
-use Rattle.sap_parse.specs.declared.limit.Role.TheVariants as r
-use Rattle.sap_parse.specs.declared.token.Sign.TheVariants as s
+use Rattle.sap_parse.specs.declared.role.Role.TheVariants as r
+use Rattle.sap_lex.specs.declared.token.Sign.TheVariants as s
 use Rattle.sap_tree.specs.declared.word.Word.TheVariants as w
 use Rattle.sap_tree.specs.Syntax as t
 use Rattle.sap_tree.specs.Trees.{arm_block_of, arms_before, arms_of, block_of, command_of, commands_of, constants_of, expression_of, expressions_of, tag_of}

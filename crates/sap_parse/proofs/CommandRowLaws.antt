@@ -9,8 +9,8 @@ use Rattle.sap_parse.specs.Table as s
 use Rattle.sap_parse.specs.declared.choice.CommandHead.TheVariants as h
 use Rattle.sap_parse.specs.declared.cursor.Ahead.TheVariants as a
 use Rattle.sap_parse.specs.declared.cursor.Ahead.{Ahead}
-use Rattle.sap_parse.specs.declared.limit.Role.TheVariants as r
-use Rattle.sap_parse.specs.declared.token.Sign.TheVariants as j
+use Rattle.sap_parse.specs.declared.role.Role.TheVariants as r
+use Rattle.sap_lex.specs.declared.token.Sign.TheVariants as j
 use Rattle.sap_tree.specs.declared.word.Word.TheVariants as w
 use Rattle.sap_parse.proofs.CommandLaws.{arm_steps, case_steps, cell_part_missing, cell_part_there, else_there, ending_decided, ending_handled, if_steps, set_tag_steps, simple_name, target_assign, target_write}
 use Rattle.sap_parse.proofs.RowLaws.{row_row, row_steps, row_then}

@@ -9,11 +9,11 @@ use Rattle.sap_parse.specs.Table.{Symbol, design_symbols, next}
 use Rattle.sap_parse.specs.declared.choice.DeclarationHead.TheVariants as h
 use Rattle.sap_parse.specs.declared.choice.DeclarationHead.{DeclarationHead}
 use Rattle.sap_parse.specs.declared.cursor.Ahead.TheVariants as a
-use Rattle.sap_parse.specs.declared.limit.Role.TheVariants as r
-use Rattle.sap_parse.specs.declared.token.Kind.TheVariants as k
-use Rattle.sap_parse.specs.declared.token.Kind.{Kind}
-use Rattle.sap_parse.specs.declared.token.Sign.TheVariants as j
-use Rattle.sap_parse.specs.declared.token.Token.{Token}
+use Rattle.sap_parse.specs.declared.role.Role.TheVariants as r
+use Rattle.sap_lex.specs.declared.token.Kind.TheVariants as k
+use Rattle.sap_lex.specs.declared.token.Kind.{Kind}
+use Rattle.sap_lex.specs.declared.token.Sign.TheVariants as j
+use Rattle.sap_lex.specs.declared.token.Token.{Token}
 use Rattle.sap_tree.specs.declared.word.Word.TheVariants as w
 use Rattle.sap_parse.proofs.ExprLaws.{front_by, nothing_ahead, same_row}
 use Rattle.sap_parse.proofs.IndexLaws.{firsts_read}

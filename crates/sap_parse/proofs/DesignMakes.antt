@@ -4,9 +4,9 @@ use Rattle.sap_parse.specs.DesignRows.{AllStates, Cells, Declared, Head, all_sta
 use Rattle.sap_parse.specs.Grammar as g
 use Rattle.sap_parse.specs.Joining.{join_states}
 use Rattle.sap_parse.specs.Stages.{Stage, IsName, IsNumber, IsSign, IsWord, here, mention, numeral}
-use Rattle.sap_parse.specs.declared.limit.Role.TheVariants as r
-use Rattle.sap_parse.specs.declared.limit.Role.{Role}
-use Rattle.sap_parse.specs.declared.token.Sign.TheVariants as s
+use Rattle.sap_parse.specs.declared.role.Role.TheVariants as r
+use Rattle.sap_parse.specs.declared.role.Role.{Role}
+use Rattle.sap_lex.specs.declared.token.Sign.TheVariants as s
 use Rattle.sap_tree.specs.declared.word.Word.TheVariants as w
 use Rattle.sap_tree.specs.declared.word.Word.{Word}
 use Rattle.sap_tree.specs.Syntax as t

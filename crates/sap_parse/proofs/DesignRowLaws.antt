@@ -5,8 +5,8 @@ use Rattle.sap_parse.specs.Reading.{reads, steps_by, strictly}
 use Rattle.sap_parse.specs.Rows.{reads_row}
 use Rattle.sap_parse.specs.Stages.{Stage}
 use Rattle.sap_parse.specs.Table as s
-use Rattle.sap_parse.specs.declared.limit.Role.TheVariants as r
-use Rattle.sap_parse.specs.declared.token.Sign.TheVariants as j
+use Rattle.sap_parse.specs.declared.role.Role.TheVariants as r
+use Rattle.sap_lex.specs.declared.token.Sign.TheVariants as j
 use Rattle.sap_tree.specs.declared.word.Word.TheVariants as w
 use Rattle.sap_parse.proofs.DesignLaws.{design_steps, input_steps, memory_steps, register_steps, state_steps}
 use Rattle.sap_parse.proofs.RowLaws.{row_then}

@@ -4,7 +4,7 @@ use Rattle.std.specs.Prelude.{◌&&◌, ◌||◌, length}
 use Rattle.sap_parse.specs.Grammar as g
 use Rattle.sap_parse.specs.Limits.{Counts}
 use Rattle.sap_parse.specs.Stages.{Stage}
-use Rattle.sap_parse.specs.declared.limit.Role.TheVariants as r
+use Rattle.sap_parse.specs.declared.role.Role.TheVariants as r
 use Rattle.sap_parse.proofs.Between.{all_true, le_true, Between, ◌then◌, gives, still, sized, one_less, stands, RoleFact}
 use Rattle.sap_parse.proofs.FitsExpr.{Fits, expr_between, outermost}
 use Rattle.sap_tree.specs.Extent.{tokens, brackets, tag_tokens, tag_part_tokens, tag_brackets, tag_part_brackets}

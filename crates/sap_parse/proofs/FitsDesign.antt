@@ -6,13 +6,13 @@ use Rattle.std.specs.List.{All, list_all, count_by}
 use Rattle.sap_parse.specs.Fault.{IsDesign}
 use Rattle.sap_parse.specs.Grammar as g
 use Rattle.sap_parse.specs.Limits.{Counts}
-use Rattle.sap_parse.specs.Spelled.{HasText}
-use Rattle.sap_parse.specs.Lexing.{version_of, version_of_kind}
+use Rattle.sap_lex.specs.Spelled.{HasText}
+use Rattle.sap_lex.specs.Lexing.{version_of, version_of_kind}
 use Rattle.sap_parse.specs.Stages.{Stage, IsToken}
-use Rattle.sap_parse.specs.declared.limit.Role.TheVariants as r
-use Rattle.sap_parse.specs.declared.limit.Role.{Role}
-use Rattle.sap_parse.specs.declared.token.Kind.{Kind as KindOf}
-use Rattle.sap_parse.specs.declared.token.Token.{Token}
+use Rattle.sap_parse.specs.declared.role.Role.TheVariants as r
+use Rattle.sap_parse.specs.declared.role.Role.{Role}
+use Rattle.sap_lex.specs.declared.token.Kind.{Kind as KindOf}
+use Rattle.sap_lex.specs.declared.token.Token.{Token}
 use Rattle.sap_parse.proofs.Between.{all_true, le_true, AreGood, Between, ◌then◌, gives, still, stands, RoleFact, texts_good}
 use Rattle.sap_parse.proofs.FitsCommand.{FitsCommands, cmds_between}
 use Rattle.sap_tree.specs.Syntax as t

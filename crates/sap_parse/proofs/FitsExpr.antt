@@ -4,7 +4,7 @@ use Rattle.std.proofs.lemmas.Bool.Decides.{nat_tests}
 use Rattle.sap_parse.specs.Grammar as g
 use Rattle.sap_parse.specs.Limits.{Counts}
 use Rattle.sap_parse.specs.Stages.{Stage}
-use Rattle.sap_parse.specs.declared.limit.Role.TheVariants as r
+use Rattle.sap_parse.specs.declared.role.Role.TheVariants as r
 use Rattle.sap_parse.proofs.Between.{all_true, le_true, Between, ◌then◌, gives, still, stands, RoleFact}
 use Rattle.sap_tree.specs.Extent.{tokens, part_tokens, brackets, part_brackets, parentheses, opened}
 use Rattle.sap_tree.specs.Precedence.{precedence, unary_precedence, slice_precedence, primary_precedence, precedence_of}

@@ -7,13 +7,13 @@ use Rattle.sap_lemmas.proofs.Numbers.{one_more}
 use Rattle.sap_parse.specs.Reading.{Passes, ahead, ahead_of, front_name, front_number, front_sized, name_in, number_in, second, sized_in}
 use Rattle.sap_parse.specs.Stages.{Stage, front_place}
 use Rattle.sap_parse.specs.declared.cursor.Ahead.{Ahead}
-use Rattle.sap_parse.specs.declared.limit.Role.{Role}
-use Rattle.sap_parse.specs.declared.token.Kind.TheVariants as k
-use Rattle.sap_parse.specs.declared.token.Kind.{Kind}
-use Rattle.sap_parse.specs.declared.token.Sign.{Sign}
+use Rattle.sap_parse.specs.declared.role.Role.{Role}
+use Rattle.sap_lex.specs.declared.token.Kind.TheVariants as k
+use Rattle.sap_lex.specs.declared.token.Kind.{Kind}
+use Rattle.sap_lex.specs.declared.token.Sign.{Sign}
 use Rattle.sap_tree.specs.declared.word.Word.{Word}
 use Rattle.sap_parse.specs.declared.cursor.Ahead.TheVariants as a
-use Rattle.sap_parse.specs.declared.token.Token.{Token}
+use Rattle.sap_lex.specs.declared.token.Token.{Token}
 
 pub ahead_at : (ts : List Token) (n : ℕ) (d : Token) → n < length ts → ahead (drop n ts) ≡ ahead_of (get_or ts n d).kind
 unfolding ahead

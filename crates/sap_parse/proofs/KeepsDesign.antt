@@ -6,10 +6,10 @@ use Rattle.sap_parse.specs.Reading.{leniently}
 use Rattle.sap_parse.specs.Stages.{Stage, IsSign, IsWord, IsName}
 use Rattle.sap_parse.specs.Table as s
 use Rattle.sap_parse.specs.Table.{Symbol, Row, next, design_symbols}
-use Rattle.sap_parse.specs.declared.limit.Limit.{Limit}
-use Rattle.sap_parse.specs.declared.limit.Role.TheVariants as r
-use Rattle.sap_parse.specs.declared.token.Sign.TheVariants as j
-use Rattle.sap_parse.specs.declared.token.Token.{Token}
+use Rattle.sap_lex.specs.declared.limit.Limit.{Limit}
+use Rattle.sap_parse.specs.declared.role.Role.TheVariants as r
+use Rattle.sap_lex.specs.declared.token.Sign.TheVariants as j
+use Rattle.sap_lex.specs.declared.token.Token.{Token}
 use Rattle.sap_tree.specs.declared.word.Word.TheVariants as w
 use Rattle.sap_tree.specs.Syntax as t
 use Rattle.sap_parse.proofs.Keeps.{here, Keeps, element, keeps_or, keeps_push, keeps_optional, keeps_sign, keeps_word, keeps_name, keeps_number, keeps_sized, after_sign, after_word, after_name, keeps_firsts, keeps_paren, keeps_braces, keeps_zext, keeps_prim, keeps_post, keeps_unary, keeps_slice, keeps_slices, keeps_choice, keeps_tail, keeps_expr, keeps_bin, keeps_after_name, keeps_after_bracket, keeps_after_number}

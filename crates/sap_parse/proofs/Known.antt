@@ -6,11 +6,11 @@ use Rattle.sap_parse.specs.Reading.{Outcome, leniently, read_by, steps_by, table
 use Rattle.sap_parse.specs.Stages.{Stage, IsToken}
 use Rattle.sap_parse.specs.Table as s
 use Rattle.sap_parse.specs.Table.{Symbol, Row, may_be_empty, next}
-use Rattle.sap_parse.specs.declared.limit.Role.{Role}
-use Rattle.sap_parse.specs.declared.token.Kind.TheVariants as k
-use Rattle.sap_parse.specs.declared.token.Kind.{Kind}
-use Rattle.sap_parse.specs.declared.token.Sign.{Sign as SignOf}
-use Rattle.sap_parse.specs.declared.token.Token.{Token}
+use Rattle.sap_parse.specs.declared.role.Role.{Role}
+use Rattle.sap_lex.specs.declared.token.Kind.TheVariants as k
+use Rattle.sap_lex.specs.declared.token.Kind.{Kind}
+use Rattle.sap_lex.specs.declared.token.Sign.{Sign as SignOf}
+use Rattle.sap_lex.specs.declared.token.Token.{Token}
 use Rattle.sap_tree.specs.declared.word.Word.{Word as WordOf}
 use Rattle.sap_walk.specs.Limits.{passed}
 use Rattle.sap_walk.specs.Rows.{push, optional, ◌or◌, firsts}

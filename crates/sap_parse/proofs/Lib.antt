@@ -1,8 +1,3 @@
-pub mod Places
-pub mod Spelling
-pub mod Spelled
-pub mod TokenTexts
-pub mod Keyed
 pub mod Fronts
 pub mod Single
 pub mod Laws
@@ -33,7 +28,6 @@ pub mod Between
 pub mod FitsExpr
 pub mod FitsCommand
 pub mod FitsDesign
-pub mod OneLexing
 pub mod OneReading
 pub mod Behind
 pub mod ReadingLemmas

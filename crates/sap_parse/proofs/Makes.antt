@@ -5,8 +5,8 @@ use Rattle.sap_parse.specs.Grammar as g
 use Rattle.sap_parse.specs.Joining.{Indexes, Slices, indexes, join, slices}
 use Rattle.sap_parse.specs.Rows.{Between, LastNumber, Range, between, last_number, range}
 use Rattle.sap_parse.specs.Stages.{Stage, IsName, IsNumber, IsSign, IsSized, IsWord, here, spot_here}
-use Rattle.sap_parse.specs.declared.limit.Role.TheVariants as r
-use Rattle.sap_parse.specs.declared.token.Sign.TheVariants as s
+use Rattle.sap_parse.specs.declared.role.Role.TheVariants as r
+use Rattle.sap_lex.specs.declared.token.Sign.TheVariants as s
 use Rattle.sap_tree.specs.declared.word.Word.TheVariants as w
 use Rattle.sap_tree.specs.Precedence.{precedence}
 use Rattle.sap_tree.specs.Spots.{enclosed, first_of, spot_of}

@@ -2,27 +2,27 @@
 use Rattle.std.proofs.Common.{◌≡◌, ◌≢◌, ◌≤◌, ◌+◌, ℕ, List, [], ◌∷◌, length, Option, Some, None, true, Result, Ok, Err, IfOk, IfErr, refl, sym, ap, subst, ◌∙◌, arith}
 use Rattle.sap_parse.specs.Fault.{IsDesign, IsUnexpected, IsOver, SpellsSome}
 use Rattle.sap_parse.specs.Grammar.{Design}
-use Rattle.sap_parse.specs.Lexing.{AreTokens, IsLexFault}
+use Rattle.sap_lex.specs.Lexing.{AreTokens, IsLexFault}
 use Rattle.sap_parse.specs.Limits.{Counts, most_bytes}
 use Rattle.sap_parse.specs.Reading.{Goes, Outcome, leniently, read_by, reads, strictly}
-use Rattle.sap_parse.specs.Spelled.{AreInOrder}
+use Rattle.sap_lex.specs.Spelled.{AreInOrder}
 use Rattle.sap_parse.specs.Stages.{Stage, at_start}
 use Rattle.sap_parse.specs.Table as s
 use Rattle.sap_parse.specs.Table.{grammar}
 use Rattle.sap_parse.specs.Text.{IsText, IsReadFault, too_long, no_token, unexpected, over, fault_place}
 use Rattle.sap_parse.specs.declared.cursor.Fault.TheVariants as h
 use Rattle.sap_parse.specs.declared.cursor.Fault.{Fault}
-use Rattle.sap_parse.specs.declared.fault.ReadFault.TheVariants as f
-use Rattle.sap_parse.specs.declared.fault.ReadFault.{ReadFault}
-use Rattle.sap_parse.specs.declared.limit.Limit.{Limit}
-use Rattle.sap_parse.specs.declared.token.Token.{Token}
+use Rattle.sap_lex.specs.declared.fault.ReadFault.TheVariants as f
+use Rattle.sap_lex.specs.declared.fault.ReadFault.{ReadFault}
+use Rattle.sap_lex.specs.declared.limit.Limit.{Limit}
+use Rattle.sap_lex.specs.declared.token.Token.{Token}
 use Rattle.sap_tree.specs.Syntax.{DesignTree}
 use Rattle.sap_tree.specs.Whole.{is_whole}
 use Rattle.sap_text.specs.declared.place.Place.{Place}
 use Rattle.sap_parse.proofs.CompleteDesign.{design_reads}
 use Rattle.sap_parse.proofs.FitsDesign.{design_is_whole}
-use Rattle.sap_parse.proofs.TokenTexts.{texts_are, tokens_order}
-use Rattle.sap_parse.proofs.OneLexing.{one_list, one_place, not_bad}
+use Rattle.sap_lex.proofs.TokenTexts.{texts_are, tokens_order}
+use Rattle.sap_lex.proofs.OneLexing.{one_list, one_place, not_bad}
 use Rattle.sap_parse.proofs.UniqueDesign.{design_one}
 use Rattle.sap_parse.proofs.Viable.{goes_on}
 use Rattle.sap_walk.specs.Limits.{Past}

@@ -6,8 +6,8 @@ use Rattle.sap_parse.specs.Stages.{Stage}
 use Rattle.sap_parse.specs.Table as s
 use Rattle.sap_parse.specs.Table.{Symbol}
 use Rattle.sap_parse.specs.declared.cursor.Ahead.TheVariants as a
-use Rattle.sap_parse.specs.declared.limit.Role.TheVariants as r
-use Rattle.sap_parse.specs.declared.token.Sign.TheVariants as j
+use Rattle.sap_parse.specs.declared.role.Role.TheVariants as r
+use Rattle.sap_lex.specs.declared.token.Sign.TheVariants as j
 use Rattle.sap_tree.specs.declared.word.Word.TheVariants as w
 use Rattle.sap_parse.proofs.ExprLaws.{braces_steps, choice_there, paren_steps, slice_steps, zext_steps}
 use Rattle.sap_parse.proofs.IndexLaws.{bracket_slice}

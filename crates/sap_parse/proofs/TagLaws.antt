@@ -8,10 +8,10 @@ use Rattle.sap_parse.specs.Table.{Symbol, next}
 use Rattle.sap_parse.specs.declared.choice.TagHead.TheVariants as h
 use Rattle.sap_parse.specs.declared.choice.TagHead.{TagHead}
 use Rattle.sap_parse.specs.declared.cursor.Ahead.TheVariants as a
-use Rattle.sap_parse.specs.declared.limit.Role.TheVariants as r
-use Rattle.sap_parse.specs.declared.token.Kind.TheVariants as k
-use Rattle.sap_parse.specs.declared.token.Kind.{Kind}
-use Rattle.sap_parse.specs.declared.token.Sign.TheVariants as j
+use Rattle.sap_parse.specs.declared.role.Role.TheVariants as r
+use Rattle.sap_lex.specs.declared.token.Kind.TheVariants as k
+use Rattle.sap_lex.specs.declared.token.Kind.{Kind}
+use Rattle.sap_lex.specs.declared.token.Sign.TheVariants as j
 use Rattle.sap_tree.specs.declared.word.Word.TheVariants as w
 use Rattle.sap_parse.proofs.ExprLaws.{front_by, nothing_ahead, same_row}
 use Rattle.sap_parse.proofs.Laws.{IsFull, push_full, name_full, word_full, sign_there, sign_missing, stops, word_then}

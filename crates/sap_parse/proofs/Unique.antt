@@ -8,14 +8,14 @@ use Rattle.sap_parse.specs.Limits.{Counts, tally, breach}
 use Rattle.sap_parse.specs.Stages.{Stage, IsToken, IsSign, here, spot_here}
 use Rattle.sap_parse.specs.Table as s
 use Rattle.sap_parse.specs.Table.{Symbol}
-use Rattle.sap_parse.specs.declared.limit.Limit.{Limit}
-use Rattle.sap_parse.specs.declared.limit.Role.TheVariants as r
-use Rattle.sap_parse.specs.declared.limit.Role.{Role}
-use Rattle.sap_parse.specs.declared.token.Kind.TheVariants as k
-use Rattle.sap_parse.specs.declared.token.Kind.{Kind}
-use Rattle.sap_parse.specs.declared.token.Sign.TheVariants as j
-use Rattle.sap_parse.specs.declared.token.Sign.{Sign as SignOf}
-use Rattle.sap_parse.specs.declared.token.Token.{Token}
+use Rattle.sap_lex.specs.declared.limit.Limit.{Limit}
+use Rattle.sap_parse.specs.declared.role.Role.TheVariants as r
+use Rattle.sap_parse.specs.declared.role.Role.{Role}
+use Rattle.sap_lex.specs.declared.token.Kind.TheVariants as k
+use Rattle.sap_lex.specs.declared.token.Kind.{Kind}
+use Rattle.sap_lex.specs.declared.token.Sign.TheVariants as j
+use Rattle.sap_lex.specs.declared.token.Sign.{Sign as SignOf}
+use Rattle.sap_lex.specs.declared.token.Token.{Token}
 use Rattle.sap_tree.specs.Precedence.{precedence, unary_precedence}
 use Rattle.sap_tree.specs.Spots.{first_of, enclosed}
 use Rattle.sap_tree.specs.Syntax as t

@@ -4,9 +4,9 @@ use Rattle.sap_tree.proofs.SyntaxLemmas.{and_part}
 use Rattle.sap_parse.specs.Grammar as g
 use Rattle.sap_parse.specs.Stages.{Stage, here, mention, numeral, spot_here}
 use Rattle.sap_parse.specs.Table as s
-use Rattle.sap_parse.specs.declared.token.Kind.TheVariants as k
-use Rattle.sap_parse.specs.declared.token.Kind.{Kind}
-use Rattle.sap_parse.specs.declared.token.Sign.TheVariants as j
+use Rattle.sap_lex.specs.declared.token.Kind.TheVariants as k
+use Rattle.sap_lex.specs.declared.token.Kind.{Kind}
+use Rattle.sap_lex.specs.declared.token.Sign.TheVariants as j
 use Rattle.sap_tree.specs.declared.word.Word.TheVariants as w
 use Rattle.sap_tree.specs.Syntax as t
 use Rattle.sap_tree.specs.declared.name.Mention.{Mention}

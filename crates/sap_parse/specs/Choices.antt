@@ -11,8 +11,8 @@ use Rattle.sap_parse.specs.declared.choice.TagHead.TheVariants as h
 use Rattle.sap_parse.specs.declared.choice.TagHead.{TagHead}
 use Rattle.sap_parse.specs.declared.cursor.Ahead.TheVariants as a
 use Rattle.sap_parse.specs.declared.cursor.Ahead.{Ahead}
-use Rattle.sap_parse.specs.declared.token.Sign.TheVariants as s
-use Rattle.sap_parse.specs.declared.token.Sign.{Sign}
+use Rattle.sap_lex.specs.declared.token.Sign.TheVariants as s
+use Rattle.sap_lex.specs.declared.token.Sign.{Sign}
 use Rattle.sap_tree.specs.declared.word.Word.TheVariants as w
 use Rattle.sap_tree.specs.declared.word.Word.{Word}
 use Rattle.sap_tree.specs.Precedence.{precedence}

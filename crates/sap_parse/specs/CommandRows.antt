@@ -7,8 +7,8 @@ use Rattle.sap_parse.specs.Table as u
 use Rattle.sap_parse.specs.Table.{Symbol}
 use Rattle.sap_parse.specs.declared.command.Handling.TheVariants as e
 use Rattle.sap_parse.specs.declared.command.Handling.{Handling}
-use Rattle.sap_parse.specs.declared.limit.Role.TheVariants as r
-use Rattle.sap_parse.specs.declared.token.Sign.TheVariants as s
+use Rattle.sap_parse.specs.declared.role.Role.TheVariants as r
+use Rattle.sap_lex.specs.declared.token.Sign.TheVariants as s
 use Rattle.sap_text.specs.declared.place.Place.{Place}
 use Rattle.sap_tree.specs.Syntax as t
 use Rattle.sap_tree.specs.Trees.{block_of, expression_of, tag_of}

@@ -4,9 +4,9 @@ use Rattle.sap_parse.specs.Grammar as g
 use Rattle.sap_parse.specs.Stages.{Stage, IsName, IsNumber, IsSign, IsWord, here, mention, numeral}
 use Rattle.sap_parse.specs.Table as u
 use Rattle.sap_parse.specs.Table.{Symbol}
-use Rattle.sap_parse.specs.declared.limit.Role.TheVariants as r
-use Rattle.sap_parse.specs.declared.limit.Role.{Role}
-use Rattle.sap_parse.specs.declared.token.Sign.TheVariants as s
+use Rattle.sap_parse.specs.declared.role.Role.TheVariants as r
+use Rattle.sap_parse.specs.declared.role.Role.{Role}
+use Rattle.sap_lex.specs.declared.token.Sign.TheVariants as s
 use Rattle.sap_text.specs.declared.place.Place.{Place}
 use Rattle.sap_tree.specs.Syntax as t
 use Rattle.sap_tree.specs.declared.name.Mention.{Mention}

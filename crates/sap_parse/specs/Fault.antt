@@ -2,8 +2,8 @@
 use Rattle.std.specs.Prelude.{◌≡◌, ℕ, List, [], Option, None}
 use Rattle.sap_parse.specs.Grammar.{Design}
 use Rattle.sap_parse.specs.Stages.{Stage, at_start}
-use Rattle.sap_parse.specs.declared.limit.Limit.{Limit}
-use Rattle.sap_parse.specs.declared.token.Token.{Token}
+use Rattle.sap_lex.specs.declared.limit.Limit.{Limit}
+use Rattle.sap_lex.specs.declared.token.Token.{Token}
 use Rattle.sap_tree.specs.Syntax.{DesignTree}
 use Rattle.sap_walk.specs.Prefix as prefix
 

@@ -1,9 +1,4 @@
-pub mod Spelling
-pub mod Lexemes
-pub mod Lexing
-pub mod Spelled
 pub mod Fault
-pub mod FaultTexts
 pub mod Grammar
 pub mod Limits
 pub mod Stages

@@ -7,10 +7,10 @@ use Rattle.sap_parse.specs.Table as u
 use Rattle.sap_parse.specs.Table.{Symbol}
 use Rattle.sap_parse.specs.declared.cursor.Fault.TheVariants as f
 use Rattle.sap_parse.specs.declared.cursor.Fault.{Fault}
-use Rattle.sap_parse.specs.declared.limit.Role.TheVariants as r
-use Rattle.sap_parse.specs.declared.limit.Role.{Role}
-use Rattle.sap_parse.specs.declared.token.Sign.TheVariants as s
-use Rattle.sap_parse.specs.declared.token.Sign.{Sign}
+use Rattle.sap_parse.specs.declared.role.Role.TheVariants as r
+use Rattle.sap_parse.specs.declared.role.Role.{Role}
+use Rattle.sap_lex.specs.declared.token.Sign.TheVariants as s
+use Rattle.sap_lex.specs.declared.token.Sign.{Sign}
 use Rattle.sap_tree.specs.Syntax as t
 use Rattle.sap_tree.specs.declared.word.Word.{Word}
 use Rattle.sap_walk.specs.Walk as walk

@@ -1,14 +1,14 @@
 -- The design grammar as the walk reads it: what each token does with each symbol.
 use Rattle.std.specs.Prelude.{ℕ, zero, suc, ◌+◌, ◌-◌, ◌==◌, if◌then◌else◌, Bool, true, false, List, [], ◌∷◌, ◌++◌, Option, Some, None}
 use Rattle.sap_parse.specs.Limits.{Counts, tally, breach}
-use Rattle.sap_parse.specs.declared.limit.Limit.{Limit}
-use Rattle.sap_parse.specs.declared.limit.Role.TheVariants as r
-use Rattle.sap_parse.specs.declared.limit.Role.{Role}
-use Rattle.sap_parse.specs.declared.token.Kind.TheVariants as k
-use Rattle.sap_parse.specs.declared.token.Kind.{Kind}
-use Rattle.sap_parse.specs.declared.token.Sign.TheVariants as s
-use Rattle.sap_parse.specs.declared.token.Sign.{Sign as SignOf}
-use Rattle.sap_parse.specs.declared.token.Token.{Token}
+use Rattle.sap_lex.specs.declared.limit.Limit.{Limit}
+use Rattle.sap_parse.specs.declared.role.Role.TheVariants as r
+use Rattle.sap_parse.specs.declared.role.Role.{Role}
+use Rattle.sap_lex.specs.declared.token.Kind.TheVariants as k
+use Rattle.sap_lex.specs.declared.token.Kind.{Kind}
+use Rattle.sap_lex.specs.declared.token.Sign.TheVariants as s
+use Rattle.sap_lex.specs.declared.token.Sign.{Sign as SignOf}
+use Rattle.sap_lex.specs.declared.token.Token.{Token}
 use Rattle.sap_tree.specs.declared.word.Word.TheVariants as w
 use Rattle.sap_tree.specs.declared.word.Word.{Word as WordOf}
 use Rattle.sap_tree.specs.Precedence.{precedence, unary_precedence}

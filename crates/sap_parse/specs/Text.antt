@@ -1,14 +1,14 @@
 -- The design of a text, and the read fault of a text that has none.
 use Rattle.std.specs.Prelude.{ℕ, ◌<◌, ◌≤◌, List, [], ◌∷◌, length}
 use Rattle.sap_parse.specs.Fault.{IsDesign, IsUnexpected, IsOver}
-use Rattle.sap_parse.specs.Lexing.{AreTokens, IsBadAt}
+use Rattle.sap_lex.specs.Lexing.{AreTokens, IsBadAt}
 use Rattle.sap_text.specs.Places.{first_place, place_at}
 use Rattle.sap_parse.specs.Limits.{most_bytes}
-use Rattle.sap_parse.specs.declared.fault.ReadFault.TheVariants as f
-use Rattle.sap_parse.specs.declared.fault.ReadFault.{ReadFault}
-use Rattle.sap_parse.specs.declared.limit.Limit.TheVariants as l
-use Rattle.sap_parse.specs.declared.limit.Limit.{Limit}
-use Rattle.sap_parse.specs.declared.token.Token.{Token}
+use Rattle.sap_lex.specs.declared.fault.ReadFault.TheVariants as f
+use Rattle.sap_lex.specs.declared.fault.ReadFault.{ReadFault}
+use Rattle.sap_lex.specs.declared.limit.Limit.TheVariants as l
+use Rattle.sap_lex.specs.declared.limit.Limit.{Limit}
+use Rattle.sap_lex.specs.declared.token.Token.{Token}
 use Rattle.sap_tree.specs.Syntax.{DesignTree}
 use Rattle.sap_text.specs.declared.place.Place.{Place}
 

@@ -7,7 +7,7 @@ ghost use Rattle.sap_parse.specs.Table.{operator_of};
 ghost use Rattle.sap_tree.specs.Precedence.{precedence};
 
 use crate::cursor::Ahead;
-use crate::token::Sign;
+use sap_lex::token::Sign;
 use sap_tree::syntax::{BinaryOperator, UnaryOperator};
 use sap_tree::word::Word;
 

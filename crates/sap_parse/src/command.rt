@@ -14,9 +14,9 @@ ghost use Rattle.sap_tree.specs.Trees.{arm_block_of, arms_of, block_of, command_
 use crate::choice::{CommandHead, Primary, command_head, primary_of};
 use crate::cursor::{Cursor, Fault};
 use crate::expr::{asked, between, expr, spot};
-use crate::limit::Role;
+use crate::role::Role;
 use crate::tag::tag_expr;
-use crate::token::Sign;
+use sap_lex::token::Sign;
 use sap_tree::name::Mention;
 use sap_tree::place::Place;
 use sap_tree::syntax::{Arm, Block, Cmd, Expr, Simple, TagExpr};

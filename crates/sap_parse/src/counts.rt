@@ -1,12 +1,13 @@
 //! What the tokens so far amount to.
 
 ghost use Rattle.std.specs.Prelude.{◌≡◌, ◌+◌, None};
+ghost use Rattle.sap_lex.specs.declared.token.Token.{Token};
 ghost use Rattle.sap_parse.specs.Counting.{counts_of};
 ghost use Rattle.sap_parse.specs.Limits.{above, breach_of_name, breach_of_role, none_yet, outside, tally};
-ghost use Rattle.sap_parse.specs.declared.token.Token.{Token};
 
-use crate::limit::{Limit, Role};
-use crate::token::Kind;
+use crate::role::Role;
+use sap_lex::limit::Limit;
+use sap_lex::token::Kind;
 
 const MOST_NAME_BYTES: u64 = 40;
 

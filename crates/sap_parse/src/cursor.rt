@@ -7,8 +7,9 @@ ghost use Rattle.sap_parse.specs.Stages.{IsName, IsNumber, IsSign, IsSized, IsWo
 ghost use Rattle.sap_parse.specs.Table as s;
 
 use crate::counts::{Counts, breach_of_name};
-use crate::limit::{Limit, Role};
-use crate::token::{Kind, Sign, Token};
+use crate::role::Role;
+use sap_lex::limit::Limit;
+use sap_lex::token::{Kind, Sign, Token};
 use sap_tree::name::{Mention, Name};
 use sap_tree::place::Place;
 use sap_tree::syntax::Numeral;

@@ -10,8 +10,8 @@ ghost use Rattle.sap_parse.specs.Table as s;
 
 use crate::choice::{DeclarationHead, declaration_head};
 use crate::cursor::{Cursor, Fault};
-use crate::limit::Role;
-use crate::token::Sign;
+use crate::role::Role;
+use sap_lex::token::Sign;
 use sap_tree::name::Mention;
 use sap_tree::place::Place;
 use sap_tree::syntax::{Decl, Kind, Numeral, Under};

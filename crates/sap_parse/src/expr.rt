@@ -12,8 +12,8 @@ ghost use Rattle.sap_tree.specs.Trees.{expression_of, expressions_of};
 
 use crate::choice::{Primary, operator_at, primary_of, sign_of, unary_at, unary_sign_of};
 use crate::cursor::{Ahead, Cursor, Fault};
-use crate::limit::Role;
-use crate::token::Sign;
+use crate::role::Role;
+use sap_lex::token::Sign;
 use sap_tree::name::Mention;
 use sap_tree::place::{Place, Spot};
 use sap_tree::syntax::Expr;

@@ -1,8 +1,8 @@
 //! The laws of texts.
 
 ghost use Rattle.std.specs.Prelude.{◌≡◌, List, ℕ};
+ghost use Rattle.sap_lex.specs.declared.fault.ReadFault.{ReadFault};
 ghost use Rattle.sap_parse.specs.Text.{IsReadFault, IsText};
-ghost use Rattle.sap_parse.specs.declared.fault.ReadFault.{ReadFault};
 ghost use Rattle.sap_tree.specs.Syntax.{DesignTree};
 
 /// A text has at most one design, or at most one read fault, and not both.

@@ -6,10 +6,10 @@ ghost use Rattle.sap_tree.specs.Designs.{design_of};
 ghost use Rattle.sap_tree.specs.Syntax.{DesignTree};
 
 use crate::cursor::{Cursor, Fault};
-use crate::fault::ReadFault;
-use crate::lexer::lex;
-use crate::limit::Limit;
 use crate::state::design;
+use sap_lex::fault::ReadFault;
+use sap_lex::lex;
+use sap_lex::limit::Limit;
 use sap_tree::design::Design;
 use sap_tree::place::Place;
 use std::alloc::Global;

@@ -16,17 +16,17 @@ use Rattle.sap_lemmas.proofs.Numbers.{test_of_positive}
 use Rattle.sap_lemmas.proofs.Texts.{digits_model}
 use Rattle.std.proofs.lemmas.Bool.{and_from, and_left, and_parts, not-true, or_parts}
 use Rattle.sap_text.proofs.NamesLemmas.{initial_inner}
-use Rattle.sap_parse.specs.Lexing.{kind_by, later_kind}
-use Rattle.sap_parse.specs.Lexemes.{clings, word_or_name, name_at, number_lexeme, sized_lexeme, sized_in, sized_at, number_at, sign_or, sign_at, lexeme_of}
-use Rattle.sap_parse.specs.Spelling.{later_word_of, sign_text, word_of}
+use Rattle.sap_lex.specs.Lexing.{kind_by, later_kind}
+use Rattle.sap_lex.specs.Lexemes.{clings, word_or_name, name_at, number_lexeme, sized_lexeme, sized_in, sized_at, number_at, sign_or, sign_at, lexeme_of}
+use Rattle.sap_lex.specs.Spelling.{later_word_of, sign_text, word_of}
 use Rattle.sap_text.specs.Blanks.{is_blank, is_comment}
 use Rattle.sap_text.specs.Runs.{number_of}
 use Rattle.sap_text.specs.declared.scan.Class.TheVariants as c
-use Rattle.sap_parse.specs.declared.lexeme.Lexeme.TheVariants as l
-use Rattle.sap_parse.specs.declared.token.Kind.TheVariants as k
-use Rattle.sap_parse.specs.declared.token.Kind.{Kind}
-use Rattle.sap_parse.specs.declared.token.Sign.TheVariants as s
-use Rattle.sap_parse.specs.declared.token.Sign.{Sign}
+use Rattle.sap_lex.specs.declared.lexeme.Lexeme.TheVariants as l
+use Rattle.sap_lex.specs.declared.token.Kind.TheVariants as k
+use Rattle.sap_lex.specs.declared.token.Kind.{Kind}
+use Rattle.sap_lex.specs.declared.token.Sign.TheVariants as s
+use Rattle.sap_lex.specs.declared.token.Sign.{Sign}
 use Rattle.sap_tree.specs.declared.word.Word.TheVariants as w
 use Rattle.sap_tree.specs.declared.word.Word.{Word}
 use Rattle.sap_show.proofs.Pieces.{Piece, space, line, token, bytes_of, kind_bytes}

@@ -3,10 +3,10 @@ use Rattle.std.proofs.Common.{◌≡◌, ℕ, zero, suc, ◌+◌, List, [], ◌�
 use Rattle.std.specs.Prelude.{codes, decimal, nat_lt, flat_map}
 use Rattle.std.proofs.lemmas.List.{append-nil}
 use Rattle.sap_parse.specs.Grammar.{sign_of, unary_sign_of}
-use Rattle.sap_parse.specs.Spelling.{sign_text}
-use Rattle.sap_parse.specs.declared.limit.Role.TheVariants as r
-use Rattle.sap_parse.specs.declared.limit.Role.{Role}
-use Rattle.sap_parse.specs.declared.token.Sign.TheVariants as s
+use Rattle.sap_lex.specs.Spelling.{sign_text}
+use Rattle.sap_parse.specs.declared.role.Role.TheVariants as r
+use Rattle.sap_parse.specs.declared.role.Role.{Role}
+use Rattle.sap_lex.specs.declared.token.Sign.TheVariants as s
 use Rattle.sap_tree.specs.declared.word.Word.TheVariants as w
 use Rattle.sap_show.specs.Canonical.{unary_text, binary_text, operand_text, bounds_text, expression_text, parts_text, more_parts_text, tag_text, tags_text, more_tags_text, cell_text, simple_text, command_text, block_text, else_text, arms_text, commands_text, authority_text, kind_text, start_text, declaration_text, head_text, body_text, state_text, states_text, version_text, canonical_text}
 use Rattle.sap_show.proofs.Pieces.{Piece, space, line, bytes_of, sign, word, name, number, wrapped, bounds, expression, parts, more_parts, tag, tags, more_tags, constant, more_constants, constants, cell, simple, margin, command, arms, block, else_part, commands, authority, kind, start, declaration, declarations, body, state, states, header, parts_of, design}

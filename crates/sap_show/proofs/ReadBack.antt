@@ -6,8 +6,8 @@ use Rattle.std.proofs.lemmas.Bool.{and_parts}
 use Rattle.sap_parse.specs.Grammar as g
 use Rattle.sap_parse.specs.Grammar.{sign_of}
 use Rattle.sap_parse.specs.Stages.{Stage, IsToken, IsSign, here, spot_here}
-use Rattle.sap_parse.specs.declared.limit.Role.TheVariants as r
-use Rattle.sap_parse.specs.declared.token.Sign.TheVariants as s
+use Rattle.sap_parse.specs.declared.role.Role.TheVariants as r
+use Rattle.sap_lex.specs.declared.token.Sign.TheVariants as s
 use Rattle.sap_show.proofs.Pieces.{Piece, space, line, token, sign, wrapped, bounds, expression, parts, more_parts}
 use Rattle.sap_tree.specs.Bare.{bare_expression, bare_expressions, no_spot}
 use Rattle.sap_tree.specs.Precedence.{precedence, unary_precedence, slice_precedence, primary_precedence, precedence_of}

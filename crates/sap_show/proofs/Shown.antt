@@ -6,20 +6,20 @@ use Rattle.std.proofs.lemmas.Bool.{and_parts}
 use Rattle.std.proofs.lemmas.List.{append-nil}
 use Rattle.sap_walk.specs.Reached as walk
 use Rattle.sap_walk.specs.Limits.{Past, passed, first_of}
-use Rattle.sap_parse.specs.Lexemes.{lexeme_of}
-use Rattle.sap_parse.specs.Lexing.{Reached, StandsAt, keyed, later_token, with_kind}
+use Rattle.sap_lex.specs.Lexemes.{lexeme_of}
+use Rattle.sap_lex.specs.Lexing.{Reached, StandsAt, keyed, later_token, with_kind}
 use Rattle.sap_text.specs.Places.{place_at}
 use Rattle.sap_parse.specs.Limits.{Counts, tally, breach, breach_of_name, breach_of_role, ◌or_else◌}
 use Rattle.sap_parse.specs.Stages.{Stage, IsToken, at_start}
 use Rattle.sap_parse.specs.Text.{IsText}
-use Rattle.sap_parse.specs.declared.limit.Limit.{Limit}
-use Rattle.sap_parse.specs.declared.lexeme.Lexeme.TheVariants as l
-use Rattle.sap_parse.specs.Spelling.{sign_text}
-use Rattle.sap_parse.specs.declared.limit.Role.TheVariants.{Plain}
-use Rattle.sap_parse.specs.declared.token.Kind.TheVariants as k
-use Rattle.sap_parse.specs.declared.token.Kind.{Kind}
-use Rattle.sap_parse.specs.declared.token.Sign.TheVariants.{Semicolon}
-use Rattle.sap_parse.specs.declared.token.Token.{Token}
+use Rattle.sap_lex.specs.declared.limit.Limit.{Limit}
+use Rattle.sap_lex.specs.declared.lexeme.Lexeme.TheVariants as l
+use Rattle.sap_lex.specs.Spelling.{sign_text}
+use Rattle.sap_parse.specs.declared.role.Role.TheVariants.{Plain}
+use Rattle.sap_lex.specs.declared.token.Kind.TheVariants as k
+use Rattle.sap_lex.specs.declared.token.Kind.{Kind}
+use Rattle.sap_lex.specs.declared.token.Sign.TheVariants.{Semicolon}
+use Rattle.sap_lex.specs.declared.token.Token.{Token}
 use Rattle.sap_show.proofs.Lexed.{first_lexed, later_is, piece_lexed, raw, raw_is, semicolon_lexed}
 use Rattle.sap_show.proofs.Pieces.{Piece, space, line, token, sign, word, bytes_of, kind_bytes, declarations, states, header, parts_of, design}
 use Rattle.sap_show.proofs.PieceTexts.{design_says}

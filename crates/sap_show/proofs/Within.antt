@@ -5,15 +5,15 @@ use Rattle.std.specs.Prelude.{nat_lt, nat_le, ◌&&◌, not}
 use Rattle.std.proofs.lemmas.Bool.{and_parts}
 use Rattle.sap_parse.specs.Grammar.{sign_of, unary_sign_of}
 use Rattle.sap_parse.specs.Limits.{Counts, outside, tally, breach_of_name, breach_of_role, above, ◌or_else◌}
-use Rattle.sap_parse.specs.declared.limit.Limit.TheVariants as l
-use Rattle.sap_parse.specs.declared.limit.Limit.{Limit}
-use Rattle.sap_parse.specs.declared.limit.Role.TheVariants as r
-use Rattle.sap_parse.specs.declared.limit.Role.{Role}
-use Rattle.sap_parse.specs.declared.token.Kind.TheVariants as k
-use Rattle.sap_parse.specs.declared.token.Kind.{Kind}
-use Rattle.sap_parse.specs.declared.token.Sign.TheVariants as s
-use Rattle.sap_parse.specs.declared.token.Sign.{Sign}
-use Rattle.sap_parse.specs.declared.token.Token.{Token}
+use Rattle.sap_lex.specs.declared.limit.Limit.TheVariants as l
+use Rattle.sap_lex.specs.declared.limit.Limit.{Limit}
+use Rattle.sap_parse.specs.declared.role.Role.TheVariants as r
+use Rattle.sap_parse.specs.declared.role.Role.{Role}
+use Rattle.sap_lex.specs.declared.token.Kind.TheVariants as k
+use Rattle.sap_lex.specs.declared.token.Kind.{Kind}
+use Rattle.sap_lex.specs.declared.token.Sign.TheVariants as s
+use Rattle.sap_lex.specs.declared.token.Sign.{Sign}
+use Rattle.sap_lex.specs.declared.token.Token.{Token}
 use Rattle.sap_tree.specs.declared.word.Word.TheVariants as w
 use Rattle.sap_show.proofs.Pieces.{Piece, space, line, token, sign, wrapped, bounds, expression, parts, more_parts}
 use Rattle.sap_tree.specs.Extent.{tokens, part_tokens, brackets, part_brackets, parentheses, opened}

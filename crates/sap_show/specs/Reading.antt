@@ -1,10 +1,10 @@
 -- What a text is read as, places aside.
 use Rattle.std.specs.Prelude.{◌≡◌, ◌≤◌, ℕ, List, IsTrue, length}
 use Rattle.sap_parse.specs.Fault.{IsDesign}
-use Rattle.sap_parse.specs.Lexing.{AreTokens}
+use Rattle.sap_lex.specs.Lexing.{AreTokens}
 use Rattle.sap_parse.specs.Limits.{most_bytes}
 use Rattle.sap_parse.specs.Text.{IsText}
-use Rattle.sap_parse.specs.declared.token.Token.{Token}
+use Rattle.sap_lex.specs.declared.token.Token.{Token}
 use Rattle.sap_show.specs.Canonical.{canonical_text}
 use Rattle.sap_tree.specs.Bare.{bare}
 use Rattle.sap_tree.specs.Syntax.{DesignTree}

@@ -1,7 +1,6 @@
 pub mod Behind
 pub mod Complete
 pub mod Faults
-pub mod FrontIs
 pub mod Fronts
 pub mod ItemLaws
 pub mod Laws
@@ -10,7 +9,6 @@ pub mod Makes
 pub mod NeverSkips
 pub mod OneReading
 pub mod Rows
-pub mod Signs
 pub mod Single
 pub mod Turns
 pub mod Viable

@@ -9,15 +9,15 @@ use Rattle.sap_modtext.specs.Lexing as x
 use Rattle.sap_modtext.specs.Tokens.{Token}
 use Rattle.sap_modtext.proofs.OneFile.{one_file}
 use Rattle.sap_modtext.proofs.OneLexing.{one_lexing}
-use Rattle.sap_vparse.specs.Lexing.{IsLexFault}
+use Rattle.sap_vlex.specs.Lexing.{IsBadAt, IsLexFault, blank_first, here, token_first}
 use Rattle.sap_vparse.specs.Reading.{Goes, Outcome, plain, reads}
 use Rattle.sap_vparse.specs.Table as s
 use Rattle.sap_vparse.specs.Table.{Symbol, grammar}
-use Rattle.sap_vparse.specs.Text.{IsBadAt, IsReadFault, IsText, IsUnexpected, SpellsSome, blank_first, fault_place, here, no_token, token_first, unexpected}
+use Rattle.sap_vparse.specs.Text.{IsReadFault, IsText, IsUnexpected, SpellsSome, fault_place, no_token, unexpected}
 use Rattle.sap_vparse.specs.declared.cursor.Fault.TheVariants as h
 use Rattle.sap_vparse.specs.declared.cursor.Fault.{Fault}
-use Rattle.sap_vparse.specs.declared.fault.ReadFault.TheVariants as f
-use Rattle.sap_vparse.specs.declared.fault.ReadFault.{ReadFault}
+use Rattle.sap_vlex.specs.declared.fault.ReadFault.TheVariants as f
+use Rattle.sap_vlex.specs.declared.fault.ReadFault.{ReadFault}
 use Rattle.sap_vparse.proofs.Complete.{file_reads}
 use Rattle.sap_vparse.proofs.Viable.{goes_on}
 use Rattle.sap_walk.specs.Prefix as p

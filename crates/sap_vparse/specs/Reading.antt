@@ -1,7 +1,7 @@
 -- What the reader's functions answer.
 use Rattle.std.specs.Prelude.{◌≡◌, ℕ, List, [], ◌∷◌, Option, Some, None, Result, Ok, Err}
 use Rattle.sap_modtext.specs.Tokens as t
-use Rattle.sap_vparse.specs.Spelling.{sign_of, word_of}
+use Rattle.sap_vlex.specs.Spelling.{sign_of, word_of}
 use Rattle.sap_vparse.specs.Table.{Symbol, grammar}
 use Rattle.sap_vparse.specs.declared.cursor.Ahead.TheVariants as a
 use Rattle.sap_vparse.specs.declared.cursor.Ahead.{Ahead}

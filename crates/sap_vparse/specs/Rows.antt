@@ -5,7 +5,7 @@ use Rattle.sap_modtext.specs.Items as item
 use Rattle.sap_modtext.specs.Tokens as t
 use Rattle.sap_vparse.specs.Reading.{Outcome, reads, steps}
 use Rattle.sap_walk.specs.Walk.{◌>>=◌}
-use Rattle.sap_vparse.specs.Spelling.{sign_of, word_of}
+use Rattle.sap_vlex.specs.Spelling.{sign_of, word_of}
 use Rattle.sap_vparse.specs.Table as s
 use Rattle.sap_vparse.specs.Table.{Symbol}
 use Rattle.sap_vparse.specs.declared.cursor.Fault.TheVariants as f

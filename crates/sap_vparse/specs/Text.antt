@@ -1,11 +1,12 @@
 -- The file of a module's text, and the read fault of a text that has none.
-use Rattle.std.specs.Prelude.{◌≡◌, ℕ, ◌+◌, ◌<◌, List, [], ◌∷◌, length, drop, Option}
+use Rattle.std.specs.Prelude.{ℕ, List, [], ◌∷◌, length, Option}
 use Rattle.sap_modtext.specs.Grammar.{IsFile}
 use Rattle.sap_modtext.specs.Items.{File}
-use Rattle.sap_modtext.specs.Lexing.{Lexed, front, blank, token, bad}
-use Rattle.sap_modtext.specs.Tokens.{Kind, Token}
-use Rattle.sap_vparse.specs.declared.fault.ReadFault.TheVariants as f
-use Rattle.sap_vparse.specs.declared.fault.ReadFault.{ReadFault}
+use Rattle.sap_modtext.specs.Lexing.{Lexed}
+use Rattle.sap_modtext.specs.Tokens.{Token}
+use Rattle.sap_vlex.specs.Lexing.{IsBadAt}
+use Rattle.sap_vlex.specs.declared.fault.ReadFault.TheVariants as f
+use Rattle.sap_vlex.specs.declared.fault.ReadFault.{ReadFault}
 use Rattle.sap_walk.specs.Prefix as prefix
 
 -- the text is this file
@@ -13,13 +14,6 @@ pub record IsText (text : List ℕ) (file : File) : Type 0 where
   pub tokens : List Token
   pub lexed : Lexed 0 text tokens
   pub spelled : IsFile tokens file []
-
--- in the text behind the first `from` bytes, tokens and blanks reach up to the byte at this place, and there none of them begins
-pub data IsBadAt : ℕ → List ℕ → ℕ → Type 0 where
-  here : {from : ℕ} {bs : List ℕ} → 0 < length bs → front bs ≡ bad → IsBadAt from bs from
-  blank_first : {from place : ℕ} {bs : List ℕ} (len : ℕ) → front bs ≡ blank len → IsBadAt (from + len) (drop len bs) place → IsBadAt from bs place
-  token_first : {from place : ℕ} {bs : List ℕ} (kind : Kind) (len : ℕ) → front bs ≡ token kind len → IsBadAt (from + len) (drop len bs) place
-      → IsBadAt from bs place
 
 -- the tokens are a whole file; no limit is broken, since there is none
 abbrev pub SpellsSome : List Token → Option (ℕ × ⊥) → Type 0

@@ -2,13 +2,13 @@
 
 ghost use Rattle.std.specs.Prelude.{◌≡◌};
 ghost use Rattle.sap_modtext.specs.Grammar as g;
+ghost use Rattle.sap_vlex.specs.Spelling.{sign_of, word_of};
 ghost use Rattle.sap_vparse.specs.Choices.{after_head, item_head, right_head, sign_after, sign_right, word_item};
 ghost use Rattle.sap_vparse.specs.Reading.{ahead_of};
-ghost use Rattle.sap_vparse.specs.Spelling.{sign_of, word_of};
 
 use crate::cursor::Ahead;
-use crate::token::{Sign, Word};
 use sap_bits::{Op1, Op2};
+use sap_vlex::token::{Sign, Word};
 
 /// What a token begins as the right side of an `assign`; a constant where it begins none.
 #[derive(Clone, Copy)]

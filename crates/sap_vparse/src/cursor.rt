@@ -3,14 +3,14 @@
 ghost use Rattle.std.specs.Prelude.{◌≡◌, ◌≢◌, ◌<◌, [], IfOk, false, length, true};
 ghost use Rattle.sap_modtext.specs.Grammar.{IsConstant, IsDigit, IsName, IsNumber, IsSign, IsWord};
 ghost use Rattle.sap_modtext.specs.Tokens as t;
+ghost use Rattle.sap_vlex.specs.Spelling.{kind_of_token, sign_of, tokens_of, word_of};
 ghost use Rattle.sap_vparse.specs.Reading.{Goes, Passes, ahead_of, constant_in, front_constant, front_name, front_number, head, head_of, here, name_in, number_in, of_name, of_nothing, of_number, of_sign, of_word};
-ghost use Rattle.sap_vparse.specs.Spelling.{kind_of_token, sign_of, tokens_of, word_of};
 ghost use Rattle.sap_vparse.specs.Table as s;
 ghost use Rattle.sap_vparse.specs.Views.{constant_of, mention_of, number_of};
 
 use crate::items::{Constant, Mention, Number};
-use crate::token::{Kind, Sign, Token, Word};
 use sap_net::parts::Name;
+use sap_vlex::token::{Kind, Sign, Token, Word};
 use std::alloc::{AllocError, AllocFailed, Global};
 use std::marker::Model;
 
@@ -104,7 +104,7 @@ pub struct Cursor<'a> {
 impl<'a> Model for Cursor<'a> {
     ghost use Rattle.std.specs.Prelude.{◌≤◌, List, drop, length};
     ghost use Rattle.sap_modtext.specs.Tokens.{Token};
-    ghost use Rattle.sap_vparse.specs.Spelling.{tokens_of};
+    ghost use Rattle.sap_vlex.specs.Spelling.{tokens_of};
 
     ghost Value = { List Token };
 

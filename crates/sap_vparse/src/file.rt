@@ -12,7 +12,7 @@ use crate::item::item;
 use crate::items::{File, Item};
 use crate::port::ports;
 use crate::row::{PORTS, name_then};
-use crate::token::{Sign, Word};
+use sap_vlex::token::{Sign, Word};
 use std::alloc::Global;
 
 /// The end of the tokens; gives 0.

@@ -19,7 +19,7 @@ use crate::row::{
     INTEGER, IS, LOOP, OPEN_BRACKET, SEMICOLON, START, STEP, constant_then, name_then, number_then,
     row,
 };
-use crate::token::{Sign, Word};
+use sap_vlex::token::{Sign, Word};
 use std::alloc::Global;
 
 #[tactic(auto, using(crate::proofs::Walks::wires))]

@@ -2,8 +2,8 @@
 
 ghost use Rattle.std.specs.Prelude.{◌≡◌, List, ℕ};
 ghost use Rattle.sap_modtext.specs.Items.{File};
+ghost use Rattle.sap_vlex.specs.declared.fault.ReadFault.{ReadFault};
 ghost use Rattle.sap_vparse.specs.Text.{IsReadFault, IsText};
-ghost use Rattle.sap_vparse.specs.declared.fault.ReadFault.{ReadFault};
 
 /// A text has at most one file, or at most one read fault, and not both.
 pub fn one_reading()

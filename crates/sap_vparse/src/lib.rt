@@ -5,19 +5,14 @@
 
 mod choice;
 mod cursor;
-pub mod fault;
 mod file;
 mod item;
 pub mod items;
 pub mod law;
-mod lexeme;
-mod lexer;
 mod operand;
 mod port;
 mod read;
 mod right;
 mod row;
-mod token;
 
-pub use fault::ReadFault;
 pub use read::parse;

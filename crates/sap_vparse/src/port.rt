@@ -11,7 +11,7 @@ ghost use Rattle.sap_vparse.specs.Views.{number_of, port_of, ports_of};
 use crate::cursor::{Cursor, Fault};
 use crate::items::{Direction, Number, Port};
 use crate::row::{TO_ZERO, number_then};
-use crate::token::{Sign, Word};
+use sap_vlex::token::{Sign, Word};
 use std::alloc::Global;
 
 /// The number of a range.

@@ -6,10 +6,9 @@ ghost use Rattle.sap_vparse.specs.Text.{IsReadFault, IsText, fault_place};
 ghost use Rattle.sap_vparse.specs.Views.{file_of};
 
 use crate::cursor::{Cursor, Fault};
-use crate::fault::ReadFault;
 use crate::file::file;
 use crate::items::File;
-use crate::lexer::lex;
+use sap_vlex::{ReadFault, lex};
 use std::alloc::Global;
 
 /// The place of the next token, or the one just behind the text.

@@ -13,8 +13,8 @@ use crate::cursor::{Cursor, Fault};
 use crate::items::{Mention, Operand, Operands, Right};
 use crate::operand::{operand, operand_then};
 use crate::row::{CLOSE_BRACKET, COLON, COMMA, SEMICOLON, number_then};
-use crate::token::Sign;
 use sap_bits::{Op1, Op2};
+use sap_vlex::token::Sign;
 use std::alloc::Global;
 
 /// What stands behind the first operand of a right side.

@@ -9,7 +9,7 @@ ghost use Rattle.sap_vparse.specs.Views.{constant_of, mention_of, number_of};
 
 use crate::cursor::{Cursor, Fault};
 use crate::items::{Constant, Mention, Number};
-use crate::token::{Sign, Word};
+use sap_vlex::token::{Sign, Word};
 use std::alloc::Global;
 
 /// A token that has one spelling.

@@ -10,8 +10,8 @@ use Rattle.sap_vjudge.specs.declared.code.Code.{Code}
 use Rattle.sap_vjudge.specs.declared.code.Code.TheVariants as code
 use Rattle.sap_vjudge.specs.declared.fault.JudgeFault.{JudgeFault}
 use Rattle.sap_vparse.specs.Text.{IsReadFault, IsText}
-use Rattle.sap_vparse.specs.declared.fault.ReadFault.{ReadFault}
-use Rattle.sap_vparse.specs.declared.fault.ReadFault.TheVariants as r
+use Rattle.sap_vlex.specs.declared.fault.ReadFault.{ReadFault}
+use Rattle.sap_vlex.specs.declared.fault.ReadFault.TheVariants as r
 use Rattle.sap_vread.specs.Codes.{code_of}
 use Rattle.sap_vread.specs.ModuleFault.{IsModuleFault, IsRefusal, no_token, unexpected, in_file}
 use Rattle.sap_text.specs.Places.{place_at}

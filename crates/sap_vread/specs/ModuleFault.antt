@@ -4,7 +4,7 @@ use Rattle.sap_modtext.specs.Items.{File}
 use Rattle.sap_vjudge.specs.FirstFault.{IsFirstFault}
 use Rattle.sap_vjudge.specs.declared.code.Code.{Code}
 use Rattle.sap_vparse.specs.Text.{IsReadFault, IsText}
-use Rattle.sap_vparse.specs.declared.fault.ReadFault.TheVariants as r
+use Rattle.sap_vlex.specs.declared.fault.ReadFault.TheVariants as r
 use Rattle.sap_vread.specs.Codes.{code_of}
 use Rattle.sap_text.specs.Places.{place_at}
 use Rattle.sap_vread.specs.declared.fault.ModCode.TheVariants.{V1, V2}

@@ -17,8 +17,9 @@ use crate::place::place_at;
 use sap_net::netlist::Netlist;
 use sap_vjudge::fault::JudgeFault;
 use sap_vjudge::judging::judge;
+use sap_vlex::ReadFault;
 use sap_vparse::items::File;
-use sap_vparse::{ReadFault, parse};
+use sap_vparse::parse;
 use std::alloc::Global;
 
 // The file of a text.

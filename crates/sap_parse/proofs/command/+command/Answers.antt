@@ -6,8 +6,8 @@ use Rattle.sap_parse.specs.Joining.{join_commands}
 use Rattle.sap_parse.specs.Reading.{steps_by, strictly}
 use Rattle.sap_parse.specs.Rows.{asked_row}
 use Rattle.sap_parse.specs.Table as s
-use Rattle.sap_parse.specs.declared.limit.Role.TheVariants as r
-use Rattle.sap_parse.specs.declared.token.Sign.TheVariants as j
+use Rattle.sap_parse.specs.declared.role.Role.TheVariants as r
+use Rattle.sap_lex.specs.declared.token.Sign.TheVariants as j
 use Rattle.sap_tree.specs.Syntax as t
 use Rattle.sap_tree.specs.Trees.{arm_block_of, arms_before, block_of, command_of, commands_of, constants_of, expression_of, simple_of}
 use Rattle.sap_tree.specs.declared.syntax.Arm.{Arm}

@@ -2,7 +2,7 @@ use Rattle.std.proofs.Common.{◌∙◌, subst, sym, rules}
 use Rattle.sap_parse.specs.CommandRows.{new_value_row}
 use Rattle.sap_parse.specs.Grammar as g
 use Rattle.sap_parse.specs.Table as s
-use Rattle.sap_parse.specs.declared.limit.Role.TheVariants as r
+use Rattle.sap_parse.specs.declared.role.Role.TheVariants as r
 use Rattle.sap_parse.proofs.CommandMakes.{assign_tree}
 use Rattle.sap_parse.proofs.CommandRowLaws.{assign_rows}
 use Rattle.sap_parse.proofs.Faults.{fault_goes, fault_goes_in_row}

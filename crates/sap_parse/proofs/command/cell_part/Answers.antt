@@ -1,8 +1,8 @@
 use Rattle.std.proofs.Common.{sym, subst}
 use Rattle.sap_parse.specs.CommandRows.{cell, no_cell}
 use Rattle.sap_parse.specs.Rows.{Between}
-use Rattle.sap_parse.specs.declared.limit.Role.TheVariants as r
-use Rattle.sap_parse.specs.declared.token.Sign.TheVariants as s
+use Rattle.sap_parse.specs.declared.role.Role.TheVariants as r
+use Rattle.sap_lex.specs.declared.token.Sign.TheVariants as s
 use Rattle.sap_tree.specs.Trees.{expression_of}
 use Rattle.sap_tree.specs.declared.syntax.Expr.{Expr}
 use Rattle.sap_parse.proofs.command.cell_part.Goals as goal

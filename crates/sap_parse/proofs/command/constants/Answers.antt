@@ -1,8 +1,8 @@
 use Rattle.std.proofs.Common.{◌∙◌, ◌++◌, ◌∷◌, [], List, ap, rules}
 use Rattle.sap_parse.specs.CommandRows.{constants_row}
 use Rattle.sap_parse.specs.Table as s
-use Rattle.sap_parse.specs.declared.limit.Role.TheVariants as r
-use Rattle.sap_parse.specs.declared.token.Sign.TheVariants as j
+use Rattle.sap_parse.specs.declared.role.Role.TheVariants as r
+use Rattle.sap_lex.specs.declared.token.Sign.TheVariants as j
 use Rattle.sap_tree.specs.declared.syntax.Expr.{Expr}
 use Rattle.sap_parse.proofs.CommandMakes.{arm_head_tree}
 use Rattle.sap_parse.proofs.Faults.{fault_goes_on}

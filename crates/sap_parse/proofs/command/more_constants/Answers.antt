@@ -3,8 +3,8 @@ use Rattle.sap_parse.specs.Grammar as g
 use Rattle.sap_parse.specs.Joining.{join}
 use Rattle.sap_parse.specs.Reading.{strictly}
 use Rattle.sap_parse.specs.Table as s
-use Rattle.sap_parse.specs.declared.limit.Role.TheVariants as r
-use Rattle.sap_parse.specs.declared.token.Sign.TheVariants as j
+use Rattle.sap_parse.specs.declared.role.Role.TheVariants as r
+use Rattle.sap_lex.specs.declared.token.Sign.TheVariants as j
 use Rattle.sap_tree.specs.Syntax as t
 use Rattle.sap_tree.specs.Trees.{expression_of, expressions_of}
 use Rattle.sap_parse.proofs.CommandLaws.{constants_missing, constants_there}

@@ -2,7 +2,7 @@ use Rattle.std.proofs.Common.{◌∙◌, refl, rules}
 use Rattle.sap_parse.specs.Grammar.{no_authority}
 use Rattle.sap_parse.specs.Reading.{strictly}
 use Rattle.sap_parse.specs.Table as s
-use Rattle.sap_parse.specs.declared.limit.Role.TheVariants as r
+use Rattle.sap_parse.specs.declared.role.Role.TheVariants as r
 use Rattle.sap_tree.specs.declared.word.Word.TheVariants as w
 use Rattle.sap_parse.proofs.DesignLaws.{authority_there}
 use Rattle.sap_parse.proofs.DesignMakes.{authority_tree}

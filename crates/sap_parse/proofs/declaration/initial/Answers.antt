@@ -2,8 +2,8 @@ use Rattle.std.proofs.Common.{◌∙◌, refl, rules}
 use Rattle.sap_parse.specs.Grammar.{no_initial}
 use Rattle.sap_parse.specs.Reading.{strictly}
 use Rattle.sap_parse.specs.Table as s
-use Rattle.sap_parse.specs.declared.limit.Role.TheVariants as r
-use Rattle.sap_parse.specs.declared.token.Sign.TheVariants as j
+use Rattle.sap_parse.specs.declared.role.Role.TheVariants as r
+use Rattle.sap_lex.specs.declared.token.Sign.TheVariants as j
 use Rattle.sap_parse.proofs.DesignLaws.{initial_there}
 use Rattle.sap_parse.proofs.DesignMakes.{initial_tree}
 use Rattle.sap_parse.proofs.Faults.{fault_goes}

@@ -6,8 +6,8 @@ use Rattle.sap_parse.specs.Reading.{ahead, steps_by, strictly}
 use Rattle.sap_parse.specs.Rows.{Between, between, between_row, last_number_row}
 use Rattle.sap_parse.specs.Stages.{IsSign}
 use Rattle.sap_parse.specs.Table as s
-use Rattle.sap_parse.specs.declared.limit.Role.TheVariants as r
-use Rattle.sap_parse.specs.declared.token.Sign.TheVariants as j
+use Rattle.sap_parse.specs.declared.role.Role.TheVariants as r
+use Rattle.sap_lex.specs.declared.token.Sign.TheVariants as j
 use Rattle.sap_tree.specs.Spots.{enclosed, first_of}
 use Rattle.sap_tree.specs.Syntax as t
 use Rattle.sap_tree.specs.Trees.{expression_of, expressions_of}

@@ -1,7 +1,7 @@
 use Rattle.std.proofs.Common.{◌∙◌, sym, rules}
 use Rattle.sap_parse.specs.Rows.{asked, asked_row, between_row}
 use Rattle.sap_parse.specs.Table as s
-use Rattle.sap_parse.specs.declared.token.Sign.TheVariants as j
+use Rattle.sap_lex.specs.declared.token.Sign.TheVariants as j
 use Rattle.sap_parse.proofs.Faults.{fault_goes_on, fault_goes_on_in_row}
 use Rattle.sap_parse.proofs.RowLaws.{row_more}
 use Rattle.sap_walk.proofs.Walking.{bind_ok, bind_pure}

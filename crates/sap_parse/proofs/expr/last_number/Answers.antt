@@ -1,7 +1,7 @@
 use Rattle.std.proofs.Common.{◌∙◌, rules}
 use Rattle.sap_parse.specs.Rows.{last_number, last_number_row}
 use Rattle.sap_parse.specs.Table as s
-use Rattle.sap_parse.specs.declared.limit.Role.TheVariants as r
+use Rattle.sap_parse.specs.declared.role.Role.TheVariants as r
 use Rattle.sap_parse.proofs.Faults.{fault_goes_on}
 use Rattle.sap_parse.proofs.RowLaws.{row_steps}
 use Rattle.sap_walk.proofs.Walking.{bind_ok, bind_pure}

@@ -1,8 +1,8 @@
 use Rattle.std.proofs.Common.{◌∙◌, sym, rules}
 use Rattle.sap_parse.specs.Rows.{last_number_row, range, range_row}
 use Rattle.sap_parse.specs.Table as s
-use Rattle.sap_parse.specs.declared.limit.Role.TheVariants as r
-use Rattle.sap_parse.specs.declared.token.Sign.TheVariants as j
+use Rattle.sap_parse.specs.declared.role.Role.TheVariants as r
+use Rattle.sap_lex.specs.declared.token.Sign.TheVariants as j
 use Rattle.sap_parse.proofs.Faults.{fault_goes_on, fault_goes_on_in_row}
 use Rattle.sap_parse.proofs.RowLaws.{range_steps}
 use Rattle.sap_walk.proofs.Walking.{bind_ok, bind_pure}

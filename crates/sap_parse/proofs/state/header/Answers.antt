@@ -2,8 +2,8 @@ use Rattle.std.proofs.Common.{◌∙◌, refl, rules}
 use Rattle.sap_parse.specs.Grammar as g
 use Rattle.sap_parse.specs.Reading.{strictly}
 use Rattle.sap_parse.specs.Table as s
-use Rattle.sap_parse.specs.declared.limit.Role.TheVariants as r
-use Rattle.sap_parse.specs.declared.token.Sign.TheVariants as j
+use Rattle.sap_parse.specs.declared.role.Role.TheVariants as r
+use Rattle.sap_lex.specs.declared.token.Sign.TheVariants as j
 use Rattle.sap_tree.specs.declared.word.Word.TheVariants as w
 use Rattle.sap_parse.proofs.DesignLaws.{header_there}
 use Rattle.sap_parse.proofs.Faults.{fault_goes}

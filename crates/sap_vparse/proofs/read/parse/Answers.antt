@@ -1,5 +1,5 @@
 use Rattle.std.proofs.Common.{◌∙◌, refl, ap, rules}
-use Rattle.sap_vparse.specs.Spelling.{tokens_of}
+use Rattle.sap_vlex.specs.Spelling.{tokens_of}
 use Rattle.sap_vparse.proofs.OneReading.{fault_at_token, fault_lexed, in_err, no_ok, not_both, text_is}
 use Rattle.sap_vparse.proofs.read.parse.Goals as goal
 

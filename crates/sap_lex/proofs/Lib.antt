@@ -1,0 +1,6 @@
+pub mod Places
+pub mod Spelling
+pub mod Spelled
+pub mod TokenTexts
+pub mod Keyed
+pub mod OneLexing

@@ -1,0 +1,5 @@
+pub mod Spelling
+pub mod Lexemes
+pub mod Lexing
+pub mod Spelled
+pub mod FaultTexts

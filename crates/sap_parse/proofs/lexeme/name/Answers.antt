@@ -1,9 +1,0 @@
-use Rattle.std.proofs.Common.{◌≡◌, ℕ, take, true, subst, sym}
-use Rattle.std.specs.List.{list_all}
-use Rattle.sap_lemmas.proofs.Everywhere.{run_passes}
-use Rattle.sap_text.specs.Names.{is_inner}
-use Rattle.sap_parse.proofs.lexeme.name.Goals as goal
-
-pub spelled-requires : goal.spelled-requires
-spelled-requires c =
-    subst (λ (n : ℕ). list_all is_inner (take n c.args.bytes.now) ≡ true) (sym c.run_len-n.ensures.value) (run_passes is_inner c.args.bytes.now)

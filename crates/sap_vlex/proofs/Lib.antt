@@ -1,0 +1,2 @@
+mod FrontIs
+mod Signs
