@@ -1,6 +1,6 @@
 -- A map of places, name by name.
 use Rattle.std.proofs.Common.{◌≡◌, ◌<◌, ℕ, zero, suc, arith, List, [], ◌∷◌, ◌++◌, Some, None, length, sym, ap, ◌∙◌, subst, refl, inl, inr, true≢false}
-use Rattle.std.specs.Prelude.{slice_get, Contains, IsSome, if◌then◌else◌, Vec}
+use Rattle.std.specs.Prelude.{slice_get, Contains, IsSome, Vec}
 use Rattle.std.specs.Str.{bytes_eq}
 use Rattle.std.specs.Map.{lookup}
 use Rattle.std.specs.declared.alloc.Global.{Global}
@@ -8,7 +8,7 @@ use Rattle.std.proofs.lemmas.Slice.Eq.{bytes_eq-Decides}
 use Rattle.std.proofs.lemmas.Bool.{cases_Bool}
 use Rattle.std.proofs.lemmas.List.Elements.{Contains-push_cases}
 use Rattle.sap_maps.specs.Maps.{Name}
-use Rattle.sap_net.specs.NameMaps.{at_name, NameMap}
+use Rattle.sap_net.specs.NameMaps.{at_name, NameMap, Puts}
 use Rattle.sap_cycle.specs.Places.{Finds}
 
 get_push : (xs : List Name) (y : Name) (k : ℕ) (q : Name) → slice_get xs k ≡ Some q → slice_get (xs ++ y ∷ []) k ≡ Some q
@@ -21,8 +21,9 @@ get_end [] y = refl
 get_end (x ∷ xs) y = get_end xs y
 
 -- one more name, at the end
-pub finds_more : (m n : NameMap ℕ) (names : List Name) (y : Name) → ((x : Name) → at_name n x ≡ (if bytes_eq y x then Some (length names) else at_name m x)) → Finds m names → Finds n (names ++ y ∷ [])
-finds_more m n names y u f =
+pub finds_more : (m n : NameMap ℕ) (names : List Name) (y : Name) (place : ℕ) → place ≡ length names → Puts (at_name m) y place (at_name n) → Finds m names → Finds n (names ++ y ∷ [])
+finds_more m n names y place at p f =
+    let u = subst (λ (k : ℕ). Puts (at_name m) y k (at_name n)) at p in
     record {
       found = λ x k h.
           elim (cases_Bool (bytes_eq y x)) [

@@ -1,6 +1,6 @@
 -- Steps over places give the wires' numbers.
 use Rattle.std.proofs.Common.{◌≡◌, ℕ, ◌+◌, ◌*◌, ◌^◌, ◌<◌, ◌≤◌, List, [], ◌∷◌, ◌++◌, map, Some, length, take, drop, sym, ap, ◌∙◌, subst, arith, refl, length-append, append-nil, append_assoc}
-use Rattle.std.specs.Prelude.{slice_set, slice_index, ◌-◌}
+use Rattle.std.specs.Prelude.{slice_set, slice_index, slice_range, ◌-◌}
 use Rattle.std.proofs.Math.ListN.{length-set}
 use Rattle.std.proofs.lemmas.Grind.{take-set_at}
 use Rattle.std.proofs.lemmas.List.{map-append, take_at, drop_at}
@@ -22,14 +22,14 @@ use Rattle.sap_net.proofs.Within.{ValuesBelow, WidthsAre, operand_below, operand
 use Rattle.sap_cycle.specs.declared.steps.Part.{Part}
 use Rattle.sap_cycle.specs.declared.steps.Step.{Step}
 use Rattle.sap_cycle.specs.declared.steps.Step.TheVariants.{Copy, One, Two, Choose, Concat, Slice, Cell}
-use Rattle.sap_cycle.specs.Steps.{joined_from, between, step_value, IsReady, settled, AreReady}
+use Rattle.sap_cycle.specs.Steps.{joined_from, step_value, IsReady, settled, AreReady}
 use Rattle.sap_cycle.specs.Means.{RangeMeans, BeginsAt, StepMeans, StepsMean, Matches}
 use Rattle.sap_cycle.specs.Running.{cells_of}
 use Rattle.sap_cycle.proofs.Slots.{slot_is, slot_in, joined_is, parts_ready}
 use Rattle.sap_cycle.proofs.Cells.{cells_long, cell_at, count_more}
 
 -- the parts of a concatenation are those of its range
-range_is : (widths : Name → ℕ) (names : List Name) (parts : List Part) (from to : ℕ) (os : List Operand) → (r : RangeMeans widths names parts from to os) → between from to parts ≡ r.range
+range_is : (widths : Name → ℕ) (names : List Name) (parts : List Part) (from to : ℕ) (os : List Operand) → (r : RangeMeans widths names parts from to os) → slice_range parts from to ≡ r.range
 range_is widths names parts from to os r =
     let d : drop from parts ≡ r.range ++ r.behind = ap (drop from) r.whole ∙ drop_at r.before (r.range ++ r.behind) from (sym r.from_is) in
     let n : length r.range ≡ to - from = omega (arith, r.to_is) in

@@ -8,5 +8,4 @@ pub mod Known
 pub use Rattle.sap_maps.specs.Maps
 pub use Rattle.sap_maps.specs.Scope
 pub use Rattle.sap_net.specs.IsNetlist
-pub use Rattle.sap_net.specs.NameMaps
 pub use Rattle.sap_net.specs.Runs

@@ -1,5 +1,5 @@
 -- What steps over an array of values and an array of cells give.
-use Rattle.std.specs.Prelude.{ℕ, ◌+◌, ◌-◌, ◌^◌, ◌<◌, ◌≤◌, ◌==◌, List, [], ◌∷◌, ◌++◌, if◌then◌else◌, length, take, drop, slice_index, slice_set}
+use Rattle.std.specs.Prelude.{ℕ, ◌+◌, ◌-◌, ◌^◌, ◌<◌, ◌≤◌, ◌==◌, List, [], ◌∷◌, ◌++◌, if◌then◌else◌, length, take, drop, slice_index, slice_range, slice_set}
 use Rattle.std.specs.List.{AllByRecursion}
 use Rattle.sap_bits.specs.Arithmetic.{value1, value2, slice_of, joined, RightFits}
 use Rattle.sap_cycle.specs.declared.steps.Slot.{Slot}
@@ -18,16 +18,12 @@ abbrev pub joined_from : (values : List ℕ) → (front : ℕ) → List Part →
 joined_from values front [] = front
 joined_from values front (p ∷ ps) = joined_from values (joined front p.width (slot_value values p.slot)) ps
 
--- the elements from one place up to another
-abbrev pub between : {X : Type 0} → (from to : ℕ) → List X → List X
-between from to xs = take (to - from) (drop from xs)
-
 abbrev pub step_value : (values cells : List ℕ) → List Part → Step → ℕ
 step_value values cells parts (Copy a) = slot_value values a
 step_value values cells parts (One op w a) = value1 op w (slot_value values a)
 step_value values cells parts (Two op w a b) = value2 op w (slot_value values a) (slot_value values b)
 step_value values cells parts (Choose c a b) = if slot_value values c == 0 then slot_value values b else slot_value values a
-step_value values cells parts (Concat from to) = joined_from values 0 (between from to parts)
+step_value values cells parts (Concat from to) = joined_from values 0 (slice_range parts from to)
 step_value values cells parts (Slice a hi lo) = slice_of (slot_value values a) hi lo
 step_value values cells parts (Cell base i) = slice_index cells (base + slot_value values i)
 
@@ -52,7 +48,7 @@ IsReady values cells parts (One op w a) = (1 ≤ w) × (w ≤ 64) × SlotIn valu
 IsReady values cells parts (Two op w a b) =
     (1 ≤ w) × (w ≤ 64) × SlotIn values a × SlotIn values b × (slot_value values a < 2 ^ w) × RightFits op w (slot_value values b)
 IsReady values cells parts (Choose c a b) = SlotIn values c × SlotIn values a × SlotIn values b
-IsReady values cells parts (Concat from to) = (from ≤ to) × (to ≤ length parts) × ArePartsReady values 0 (between from to parts)
+IsReady values cells parts (Concat from to) = (from ≤ to) × (to ≤ length parts) × ArePartsReady values 0 (slice_range parts from to)
 IsReady values cells parts (Slice a hi lo) = SlotIn values a × (hi < 64) × (lo ≤ hi)
 IsReady values cells parts (Cell base i) = SlotIn values i × (base + slot_value values i < length cells)
 

@@ -7,8 +7,8 @@ ghost use Rattle.sap_net.specs.declared.parts.Memory.{Memory as Stored};
 ghost use Rattle.sap_net.specs.NameMaps.{at_name};
 ghost use Rattle.sap_cycle.specs.Known.{Knows, IsKnown, IsKnownMemory, IsKnownOperand, IsKnownRight, slot_found, width_found, part_found, base_found, step_found, parts_found};
 
-use crate::places::{place_of, put};
 use crate::steps::{Part, Slot, Step};
+use sap_net::name_map::{at_name, put};
 use sap_net::parts::{Input, Name, Operand, Register, Right};
 use std::alloc::{AllocError, Global};
 use std::collections::HashMap;
@@ -61,7 +61,7 @@ fn place(known: &Known, name: &Name) -> usize
     ensures within { result < length known.now.widths.items }
     ensures is { result ≡ unwrap_or (at_name known.now.places name.now) 0 }
 {
-    match place_of(&known.places, name.as_bytes()) {
+    match at_name(&known.places, name.as_bytes()) {
         Some(place) => place,
         None => unreachable!(),
     }
@@ -72,7 +72,7 @@ fn base(known: &Known, memory: &Name) -> usize
     requires { IsKnownMemory known.now memory.now }
     ensures { result ≡ base_found known.now memory.now }
 {
-    match place_of(&known.memories, memory.as_bytes()) {
+    match at_name(&known.memories, memory.as_bytes()) {
         Some(number) => known.bases[number],
         None => unreachable!(),
     }

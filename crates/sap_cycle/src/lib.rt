@@ -5,7 +5,6 @@
 
 mod known;
 mod load;
-mod places;
 mod program;
 pub mod runner;
 mod steps;

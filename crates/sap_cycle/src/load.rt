@@ -10,9 +10,9 @@ ghost use Rattle.sap_cycle.specs.Places.{Finds};
 ghost use Rattle.sap_cycle.specs.Running.{Shows, first_names, value_names};
 
 use crate::known::{Known, learn, learn_inputs, learn_registers, slot_of, step_of};
-use crate::places::put;
 use crate::program::Program;
 use crate::steps::{Part, Slot, Step, WritePort};
+use sap_net::name_map::put;
 use sap_net::netlist::Netlist;
 use sap_net::parts::{Memory, Register};
 use std::alloc::{AllocError, Global};

@@ -7,9 +7,9 @@ ghost use Rattle.sap_net.specs.Runs.{InputsFit};
 ghost use Rattle.sap_cycle.specs.Running.{Shows, ShowsNext, GivesValue, GivesCell, GivesPlace, IsPlaceOf, value_names};
 
 use crate::load::{Loaded, prepare};
-use crate::places::place_of;
 use crate::program::{Program, turn};
 use sap_net::laws::one_cycle;
+use sap_net::name_map::at_name;
 use sap_net::netlist::Netlist;
 use std::alloc::{AllocError, Global};
 use std::collections::HashMap;
@@ -119,7 +119,7 @@ impl Runner {
     pub fn value(&self, name: &str) -> Option<u64>
         ensures { GivesValue self.now name.now result }
     {
-        match place_of(&self.places, name.as_bytes()) {
+        match at_name(&self.places, name.as_bytes()) {
             None => None,
             Some(place) => {
                 if is_shown(
@@ -141,7 +141,7 @@ impl Runner {
     pub fn cell(&self, name: &str, index: u32) -> Option<u64>
         ensures { GivesCell self.now name.now index result }
     {
-        match place_of(&self.memories, name.as_bytes()) {
+        match at_name(&self.memories, name.as_bytes()) {
             None => None,
             Some(k) => {
                 if index < self.netlist.memories()[k].depth {
@@ -158,7 +158,7 @@ impl Runner {
         ensures found { MatchOption result (find (readable self.now.net) name.now ≡ None) (IsPlaceOf self.now.net name.now) }
         ensures within { IfSome result (λ k. k < length (value_names self.now.net)) }
     {
-        match place_of(&self.places, name.as_bytes()) {
+        match at_name(&self.places, name.as_bytes()) {
             None => None,
             Some(index) => Some(Place { index }),
         }

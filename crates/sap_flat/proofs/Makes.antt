@@ -2,7 +2,13 @@
 use Rattle.std.proofs.Common.{◌≡◌, ℕ, zero, suc, ◌+◌, ◌-◌, ◌<◌, ◌≤◌, ◌==◌, List, [], ◌∷◌, ◌++◌, length, get_or, drop, Some, None, Bool, refl, sym, ap, ◌∙◌, arith, add-one, append_assoc, inl, inr}
 use Rattle.std.specs.declared.vec.Vec.{Vec}
 use Rattle.std.specs.declared.alloc.Global.{Global}
-use Rattle.std.specs.Prelude.{if◌then◌else◌, slice_get}
+use Rattle.std.specs.Prelude.{if◌then◌else◌, slice_get, not, Option, true, false, nat_lt}
+use Rattle.std.specs.List.{position_or_len}
+use Rattle.std.specs.Option.{unwrap_or}
+use Rattle.std.proofs.Common.{cond}
+use Rattle.std.proofs.lemmas.Bool.Decides.{nat_tests}
+use Rattle.std.proofs.lemmas.List.Recursion.{is_position_or_len}
+use Rattle.std.proofs.lemmas.List.Sums.{prefix_len-le-length}
 use Rattle.std.specs.Str.{bytes_eq}
 use Rattle.std.proofs.lemmas.Bool.{cases_Bool}
 use Rattle.std.proofs.lemmas.List.{append-nil}
@@ -109,19 +115,23 @@ place_more : (s : PlainState) (ss : List PlainState) (x : Name) → place_in (s 
 unfolding place_in
 place_more s ss x = ap (λ (f : Forest). place f x) (forest_of-more s ss ∙ state_before-out s (forest_of ss))
 
-pub place-drop : (ss : List PlainState) (n : ℕ) (d : PlainState) (x : Name) → n < length ss → place_in (drop n ss) x ≡ (if bytes_eq (out-PlainState (get_or ss n d)).name x then 0 else suc (place_in (drop (n + 1) ss) x))
-place-drop [] n d x h = absurd (omega arith)
-place-drop (s ∷ ss) zero d x h = place_more s ss x
-place-drop (s ∷ ss) (suc n) d x h = let r = place-drop ss n d x (omega arith) in simp (add-one) (simp (add-one) at r)
-
-pub place-past : (ss : List PlainState) (n : ℕ) (x : Name) → length ss ≤ n → place_in (drop n ss) x ≡ 0
+place_none : (x : Name) → place_in [] x ≡ 0
 unfolding place_in
-place-past [] zero x h = ap (λ (f : Forest). place f x) forest_of-none
-place-past [] (suc n) x h = ap (λ (f : Forest). place f x) forest_of-none
-place-past (s ∷ ss) zero x h = absurd (omega arith)
-place-past (s ∷ ss) (suc n) x h = place-past ss n x (omega arith)
+place_none x = ap (λ (f : Forest). place f x) forest_of-none
 
-pub ruleset places = (place-drop, place-past)
+pub place_listed : (x : Name) (ss : List PlainState) → place_in ss x ≡ position_or_len (λ s. bytes_eq (out-PlainState s).name x) ss
+place_listed x ss =
+    is_position_or_len (λ (l : List PlainState). place_in l x) (λ s. bytes_eq (out-PlainState s).name x) (place_none x)
+    (λ s l. let e : suc (place_in l x) ≡ 1 + place_in l x = omega arith in place_more s l x ∙ ap (λ (n : ℕ). if bytes_eq (out-PlainState s).name x then 0 else n) e) ss
+
+-- the place that passes, or the end
+pub position_or_end : {A : Type 0} (p : A → Bool) (xs : List A) (found : Option ℕ) → found ≡ cond (nat_lt (position_or_len p xs) (length xs)) (Some (position_or_len p xs)) None → unwrap_or found (length xs) ≡ position_or_len p xs
+position_or_end p xs found e =
+    let most = prefix_len-le-length (λ x. not (p x)) xs in
+    ap (λ o. unwrap_or o (length xs)) e ∙ by (nat_lt (position_or_len p xs) (length xs)) (λ h. grind (arith, nat_tests)) where
+      by : (b : Bool) → (b ≡ false → length xs ≡ position_or_len p xs) → unwrap_or (cond b (Some (position_or_len p xs)) None) (length xs) ≡ position_or_len p xs
+      by true h = refl
+      by false h = h refl
 
 -- a goto
 

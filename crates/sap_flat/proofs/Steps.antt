@@ -1,7 +1,6 @@
 -- One command, one state more, and the ends of loops over them.
-use Rattle.std.proofs.Common.{◌≡◌, ℕ, suc, ◌+◌, ◌<◌, ◌≤◌, List, [], ◌∷◌, ◌++◌, length, get_or, drop, Some, None, Bool, true, false, refl, sym, ap, ap₂, ◌∙◌, arith, append_assoc}
-use Rattle.std.specs.Prelude.{slice_get, if◌then◌else◌}
-use Rattle.std.specs.Str.{bytes_eq}
+use Rattle.std.proofs.Common.{◌≡◌, ℕ, ◌+◌, ◌<◌, ◌≤◌, List, [], ◌∷◌, ◌++◌, length, get_or, drop, Some, None, refl, sym, ap, ap₂, ◌∙◌, arith, append_assoc}
+use Rattle.std.specs.Prelude.{slice_get}
 use Rattle.std.specs.declared.vec.Vec.{Vec}
 use Rattle.std.specs.declared.alloc.Global.{Global}
 use Rattle.std.proofs.lemmas.List.{append-nil}
@@ -23,7 +22,7 @@ use Rattle.sap_flat.specs.Gates.{gate_name}
 use Rattle.sap_flat.specs.Flat.{Flat, under, is_number, flat_states}
 use Rattle.sap_flat.specs.Lists.{first_commands, restart_commands, place_in, goto_commands, choice_commands, commands_flat, command_flat, gates_commands, states_flat, state_flat}
 use Rattle.sap_flat.proofs.Grows.{body_grows}
-use Rattle.sap_flat.proofs.Makes.{made, then_flat, commands-drop, commands-past, command_do, command_if, command_goto, command_fall, place-drop, gates-drop, gates-past, state_is, states-drop, states-past, goto_some, goto_none, whole_is}
+use Rattle.sap_flat.proofs.Makes.{made, then_flat, commands-drop, commands-past, command_do, command_if, command_goto, command_fall, gates-drop, gates-past, state_is, states-drop, states-past, goto_some, goto_none, whole_is}
 
 -- what is behind is what a flat list says
 pub record Behind (now init : List Command) (rest all : Flat) : Type 0 where
@@ -157,16 +156,6 @@ fall_made seat ss fell item j k out0 out1 is o =
     (o ∙ ap (λ (f : Flat). out0 ++ f.commands) (sym whole), ap (λ (f : Flat). f.next) (sym whole))
 
 -- places
-
-pub place_found : (ss : List PlainState) (i : ℕ) (s : PlainState) (x : Name) → i < length ss → s ≡ get_or ss i s → bytes_eq (out-PlainState s).name x ≡ true → i + place_in (drop i ss) x ≡ place_in ss x → i ≡ place_in ss x
-place_found ss i s x l e t h =
-    let d = place-drop ss i s x l ∙ ap (λ (y : PlainState). if bytes_eq (out-PlainState y).name x then 0 else suc (place_in (drop (i + 1) ss) x)) (sym e) ∙ ap (λ (b : Bool). if b then 0 else suc (place_in (drop (i + 1) ss) x)) t in
-    omega (arith, d, h)
-
-pub place_next : (ss : List PlainState) (i : ℕ) (s : PlainState) (x : Name) → i < length ss → s ≡ get_or ss i s → bytes_eq (out-PlainState s).name x ≡ false → i + place_in (drop i ss) x ≡ place_in ss x → i + 1 + place_in (drop (i + 1) ss) x ≡ place_in ss x
-place_next ss i s x l e t h =
-    let d = place-drop ss i s x l ∙ ap (λ (y : PlainState). if bytes_eq (out-PlainState y).name x then 0 else suc (place_in (drop (i + 1) ss) x)) (sym e) ∙ ap (λ (b : Bool). if b then 0 else suc (place_in (drop (i + 1) ss) x)) t in
-    omega (arith, d, h)
 
 -- one gate of a group more
 

@@ -4,7 +4,6 @@ ghost use Rattle.std.specs.Prelude.{◌≡◌, ◌++◌, IfOk, OnOk};
 ghost use Rattle.sap_ir.specs.Calcs.{action_of};
 
 use sap_ir::guarded::{Act, Store, Var};
-use sap_net::parts::Name;
 use std::alloc::{AllocError, Global};
 
 pub fn act(alloc: Global, act: &Act) -> Result<Act, AllocError>
@@ -60,16 +59,6 @@ pub fn stores(alloc: Global, stores: &[Store]) -> Result<Vec<Store>, AllocError>
             depth: store.depth,
             start: store.start,
         })?;
-    }
-    Ok(copies)
-}
-
-pub fn names(alloc: Global, names: &[Name]) -> Result<Vec<Name>, AllocError>
-    ensures { IfOk result (λ v. v.items ≡ names.now) }
-{
-    let mut copies = Vec::new(alloc);
-    for name in names {
-        copies.push(name.copy(alloc)?)?;
     }
     Ok(copies)
 }

@@ -20,6 +20,7 @@ use sap_ir::guarded::{Calc, GuardedCmd, GuardedParts};
 use sap_ir::plain::program::Plain;
 use sap_ir::plain::seats;
 use sap_ir::program::Guarded;
+use sap_text::name::copy_names;
 use std::alloc::{AllocError, Global};
 
 /// The commands of all states of a program, whose gates are the first.
@@ -35,7 +36,6 @@ fn all_commands(
     let group = program.states();
     let mut out = Vec::new(alloc);
     gates.add_all(alloc, group.len())?;
-    let _end = gates.len();
     let seat = seats::of_root(alloc)?;
     let always = Calc::Constant { width: 1, value: 1 };
     mark(alloc, &mut out, &always, &seat, group, 0)?;
@@ -50,13 +50,12 @@ fn parts(alloc: Global, program: &Plain) -> Result<GuardedParts, AllocError>
 {
     let mut gates = Gates::new(alloc);
     let cmds = all_commands(alloc, program, &mut gates)?;
-    let _count = gates.len();
     let inputs = copies::variables(alloc, program.inputs())?;
     let own = copies::variables(alloc, program.wires())?;
     let wires = copies::joined(own, gates.into_wires())?;
     let registers = copies::variables(alloc, program.registers())?;
     let memories = copies::stores(alloc, program.memories())?;
-    let ports = copies::names(alloc, program.ports())?;
+    let ports = copy_names(alloc, program.ports())?;
     Ok(GuardedParts {
         inputs,
         wires,

@@ -69,8 +69,7 @@ impl Gates {
     pub fn add_all(&mut self, alloc: Global, count: usize) -> Result<(), AllocError>
         ensures { OnOk result (self.new ≡ self.old + count) }
     {
-        for k in 0..count {
-            let _ = k;
+        for _ in 0..count {
             self.add(alloc)?;
         }
         Ok(())

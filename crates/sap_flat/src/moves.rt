@@ -63,16 +63,13 @@ fn restart(
 }
 
 /// The number of a state in its group.
-#[tactic(auto, using(crate::proofs::Makes::places))]
 fn place(states: &[PlainState], target: &Name) -> usize
     ensures { result ≡ place_in states.now target.now }
 {
-    for (i, state) in states.iter().enumerate() {
-        if state.name.same(target) {
-            return i;
-        }
-    }
-    states.len()
+    states
+        .iter()
+        .position(|state| state.name.same(target))
+        .unwrap_or(states.len())
 }
 
 /// A state of a group becomes the current one, and each group below it returns to its first state.

@@ -1,7 +1,11 @@
 //! Flat lists of assignments, each under a condition.
 
+ghost use Rattle.std.specs.Prelude.{◌≡◌, IfOk};
+ghost use Rattle.sap_ir.specs.IsGuarded.{variable_names};
+
 use sap_bits::{Op1, Op2};
 use sap_net::parts::Name;
+use std::alloc::{AllocError, Global};
 
 /// An expression over names.
 #[derive(Drop)]
@@ -26,6 +30,17 @@ pub struct Var {
     pub name: Name,
     pub width: u32,
     pub start: u64,
+}
+
+/// The names of variables, in order.
+pub fn variable_names(alloc: Global, variables: &[Var]) -> Result<Vec<Name>, AllocError>
+    ensures { IfOk result (λ names. names.items ≡ variable_names variables.now) }
+{
+    let mut names = Vec::new(alloc);
+    for variable in variables {
+        names.push(variable.name.copy(alloc)?)?;
+    }
+    Ok(names)
 }
 
 /// A memory of `depth` cells, each `start` before the first cycle.

@@ -17,6 +17,7 @@ use crate::name::Name;
 use crate::order::greatest;
 use crate::relation::Relation;
 use crate::rules::place_of;
+use sap_text::name::copy_names;
 use std::alloc::{AllocError, Global};
 use std::marker::Model;
 
@@ -260,14 +261,4 @@ fn place_of_code(codes: &[u64], code: u64) -> Option<usize>
     ensures { result ≡ position (λ c. c == code) codes.now }
 {
     codes.iter().position(|c| *c == code)
-}
-
-fn copy_names(alloc: Global, names: &[Name]) -> Result<Vec<Name>, AllocError>
-    ensures { IfOk result (λ copied. copied.items ≡ names.now) }
-{
-    let mut copied = Vec::new(alloc);
-    for name in names {
-        copied.push(name.copy(alloc)?)?;
-    }
-    Ok(copied)
 }

@@ -20,7 +20,7 @@ use Rattle.sap_ir.specs.IsGuarded.{TermFine}
 use Rattle.sap_lower.specs.declared.parts.Part.{Part}
 use Rattle.sap_lower.specs.declared.parts.WritePort.{WritePort}
 use Rattle.sap_lower.specs.Lowering.{nothing, present, plus, low}
-use Rattle.sap_lower.specs.Places.{replaced}
+use Rattle.sap_lower.specs.Commands.{replaced}
 use Rattle.sap_lower.specs.Commands.{State, no_port, port_of, low_set, low_put, low_action, low_command, low_commands}
 use Rattle.sap_lower.proofs.Stands.{HasEntries, replaced_same, replaced_other, replaced_has}
 use Rattle.sap_lower.proofs.Standing.{ActionOk, CommandOk}

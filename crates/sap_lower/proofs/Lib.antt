@@ -1,5 +1,4 @@
 pub mod Shared
-pub mod Index
 pub mod Lookups
 pub mod Glue
 pub mod Means
@@ -28,4 +27,3 @@ pub mod Sharing
 pub mod Small
 pub mod Copied
 pub mod LoweredLemmas
-pub mod PlacesLemmas

@@ -1,16 +1,15 @@
 -- What stands at the place of a name.
-use Rattle.std.proofs.Common.{◌≡◌, ℕ, zero, suc, ◌<◌, List, [], ◌∷◌, ◌++◌, Option, Some, None, true, map, length, take, get_or, is_some, sym, ap, ◌∙◌, subst, refl, inl, inr, arith}
+use Rattle.std.proofs.Common.{◌≡◌, ℕ, zero, suc, ◌<◌, List, [], ◌∷◌, ◌++◌, Option, Some, None, map, length, take, get_or, sym, ap, subst, refl, inl, inr, arith}
 use Rattle.std.specs.Prelude.{slice_set}
 use Rattle.std.specs.Str.{bytes_eq}
 use Rattle.std.proofs.lemmas.Bool.{cases_Bool}
 use Rattle.std.specs.Map.{keys_of}
 use Rattle.std.specs.Option.{option_map}
-use Rattle.sap_lemmas.proofs.Texts.{bytes_eq_apart_back, bytes_eq_same, equal_of_bytes_eq}
-use Rattle.sap_lower.proofs.PlacesLemmas.{none_further}
+use Rattle.sap_net.proofs.Places.{none_further}
 use Rattle.sap_maps.specs.Maps.{Name}
 use Rattle.sap_maps.specs.Scope.{find}
-use Rattle.sap_net.specs.Names.{is_among}
-use Rattle.sap_lower.specs.Places.{place_in, replaced}
+use Rattle.sap_net.specs.NameMaps.{place_in}
+use Rattle.sap_lower.specs.Commands.{replaced}
 
 pub named_take : {X : Type 0} (es : List (Name × X)) (k : ℕ) → keys_of (take k es) ≡ take k (keys_of es)
 named_take [] zero = refl
@@ -101,16 +100,3 @@ missing_replaced (e ∷ es) n x h =
 pub names_long : {X : Type 0} (es : List (Name × X)) → length (keys_of es) ≡ length es
 names_long [] = refl
 names_long (e ∷ es) = ap suc (names_long es)
-
-some_further : (o : Option ℕ) → is_some (option_map suc o) ≡ is_some o
-some_further None = refl
-some_further (Some k) = refl
-
--- a name has a place exactly where it stands on the list
-pub placed : (names : List Name) (n : Name) → is_some (place_in names n) ≡ is_among n names
-placed [] n = refl
-placed (x ∷ xs) n =
-    elim (cases_Bool (bytes_eq x n)) [
-      | inl t ↦ let u : bytes_eq n x ≡ true = subst (λ (y : Name). bytes_eq n y ≡ true) (sym (equal_of_bytes_eq x n t)) (bytes_eq_same n) in rw (t, u) refl
-      | inr f ↦ let u = bytes_eq_apart_back x n f in rw (f, u) (some_further (place_in xs n) ∙ placed xs n)
-    ]

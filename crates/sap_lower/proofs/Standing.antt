@@ -15,7 +15,7 @@ use Rattle.sap_ir.specs.Guarded.{Going, value_in, set_cell, after_action, after_
 use Rattle.sap_ir.specs.IsGuarded.{TermFine}
 use Rattle.sap_ir.specs.Writes.{with_memory, memories_written}
 use Rattle.sap_lower.specs.declared.parts.WritePort.{WritePort}
-use Rattle.sap_lower.specs.Places.{replaced}
+use Rattle.sap_lower.specs.Commands.{replaced}
 use Rattle.sap_lower.specs.Commands.{State, no_port, port_of, low_set, low_put, low_action, low_command, low_commands}
 use Rattle.sap_lower.proofs.Shared.{Gives}
 use Rattle.sap_lower.proofs.Means.{SameCells, Around}

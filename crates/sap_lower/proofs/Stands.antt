@@ -13,7 +13,7 @@ use Rattle.sap_net.specs.declared.parts.Right.TheVariants.{Choose}
 use Rattle.sap_ir.specs.Guarded.{Going, value_in}
 use Rattle.sap_ir.specs.IsGuarded.{TermFine}
 use Rattle.sap_lower.specs.Lowering.{nothing, present, low}
-use Rattle.sap_lower.specs.Places.{replaced}
+use Rattle.sap_lower.specs.Commands.{replaced}
 use Rattle.sap_lower.specs.Commands.{State, low_set}
 use Rattle.sap_lower.proofs.Shared.{Gives}
 use Rattle.sap_lower.proofs.Means.{Stands, Env, Around, plus_front, plus_shows, low_front, low_stands}

@@ -1,5 +1,5 @@
 -- The wires that assignments become, and what each name stands for after them.
-use Rattle.std.specs.Prelude.{List, [], ◌∷◌, unwrap_or}
+use Rattle.std.specs.Prelude.{List, [], ◌∷◌, unwrap_or, if◌then◌else◌, bytes_eq}
 use Rattle.sap_maps.specs.Maps.{Name}
 use Rattle.sap_maps.specs.Scope.{find}
 use Rattle.sap_maps.specs.Term.{Term}
@@ -12,7 +12,6 @@ use Rattle.sap_ir.specs.Source.{Action, set, put, Command}
 use Rattle.sap_lower.specs.declared.parts.Part.{Part}
 use Rattle.sap_lower.specs.declared.parts.WritePort.{WritePort}
 use Rattle.sap_lower.specs.Lowering.{present, Low, plus, low}
-use Rattle.sap_lower.specs.Places.{replaced}
 
 -- the wires so far, what each name stands for, and the memories' write ports
 pub record State : Type 0 where
@@ -25,6 +24,11 @@ no_port = record { width = 0; bits = 0; enable = Constant 0 0; index = Constant 
 
 abbrev pub port_of : List (Name × WritePort) → Name → WritePort
 port_of ps m = unwrap_or (find ps m) no_port
+
+-- another part for the first entry of a name
+abbrev pub replaced : {X : Type 0} → List (Name × X) → Name → X → List (Name × X)
+replaced [] n x = []
+replaced (e ∷ es) n x = if bytes_eq e.0 n then (e.0, x) ∷ es else e ∷ replaced es n x
 
 -- what is assigned where the condition is 1, and else what was there
 abbrev pub low_chosen : Shapes → List (Name × Part) → List Wire → Term Name → Name → Term Name → Low

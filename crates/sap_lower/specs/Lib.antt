@@ -1,7 +1,5 @@
 pub mod Lowering
 pub mod Parts
-pub mod Places
-pub mod Index
 pub mod Lookup
 pub mod Commands
 pub mod Lowered
@@ -10,6 +8,7 @@ pub use Rattle.sap_ir.specs.Calcs
 pub use Rattle.sap_ir.specs.IsGuarded
 pub use Rattle.sap_ir.specs.Program
 pub use Rattle.sap_ir.specs.Writes
+pub use Rattle.sap_maps.specs.Maps
 pub use Rattle.sap_net.specs.IsNetlist
 pub use Rattle.sap_net.specs.NameMaps
 pub use Rattle.sap_size.specs.Flat

@@ -4,16 +4,16 @@ ghost use Rattle.std.specs.Prelude.{◌≡◌, ◌-◌, ◌+◌, ◌<◌, ◌≤
 ghost use Rattle.std.specs.Map.{keys_of};
 ghost use Rattle.sap_bits.specs.Arithmetic.{width1, width2, slice_of};
 ghost use Rattle.sap_ir.specs.Calcs.{term_of};
-ghost use Rattle.sap_lower.specs.Index.{Indexes};
+ghost use Rattle.sap_net.specs.NameMaps.{Indexes};
 ghost use Rattle.sap_lower.specs.Lowering.{cell_width, leaves_nothing, low, low_join, low_slice, low_two, nothing, present};
 ghost use Rattle.sap_lower.specs.Parts.{glued, low_all};
 ghost use Rattle.sap_lower.specs.Lookup.{shapes_of};
 
 use crate::parts::Part;
-use crate::places::place;
 use crate::wires::Wires;
 use sap_bits::{Op1, Op2, slice};
 use sap_ir::guarded::{Calc, Store};
+use sap_net::name_map::at_name;
 use sap_net::parts::{Name, Operand, Operands, Right};
 use std::alloc::{AllocError, Global};
 use std::collections::HashMap;
@@ -38,7 +38,7 @@ pub fn present_part(
     requires { Indexes places.now (keys_of entries.now) }
     ensures { IfOk result (λ p. p ≡ present entries.now name.now) }
 {
-    match place(places, name) {
+    match at_name(places, name.as_bytes()) {
         Some(k) => entries[k].1.copy(alloc),
         None => Ok(nothing_yet()),
     }
@@ -49,7 +49,7 @@ fn width_of_cells(places: &HashMap<Vec<u8>, usize>, stores: &[Store], memory: &N
     requires { Indexes places.now (map (λ m. m.name) stores.now) }
     ensures { result ≡ cell_width (shapes_of stores.now) memory.now }
 {
-    match place(places, memory) {
+    match at_name(places, memory.as_bytes()) {
         Some(k) => stores[k].width,
         None => 0,
     }

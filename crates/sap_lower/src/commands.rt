@@ -4,17 +4,17 @@ ghost use Rattle.std.specs.Prelude.{◌≡◌, map, IfOk, OnOk};
 ghost use Rattle.std.specs.Map.{keys_of};
 ghost use Rattle.sap_ir.specs.Calcs.{action_of, command_of, commands_of, term_of};
 ghost use Rattle.sap_lower.specs.Commands.{low_action, low_chosen, low_commands, low_put, merged_port, port_of};
-ghost use Rattle.sap_lower.specs.Index.{Indexes};
+ghost use Rattle.sap_net.specs.NameMaps.{Indexes};
 ghost use Rattle.sap_lower.specs.Lookup.{shapes_of};
 ghost use Rattle.sap_lower.specs.Lowering.{plus};
 ghost use Rattle.sap_net.specs.declared.parts.Right.TheVariants.{Choose};
-ghost use Rattle.sap_lower.specs.Places.{replaced};
+ghost use Rattle.sap_lower.specs.Commands.{replaced};
 
 use crate::calc::{lower_calc, present_part};
 use crate::parts::{Part, WritePort};
-use crate::places::place;
 use crate::wires::Wires;
 use sap_ir::guarded::{Act, Calc, GuardedCmd, Store};
+use sap_net::name_map::at_name;
 use sap_net::parts::{Name, Operand, Right};
 use std::alloc::{AllocError, Global};
 use std::collections::HashMap;
@@ -30,7 +30,7 @@ fn replace_part(
     requires { Indexes places.now (keys_of entries.old) }
     ensures { entries.new ≡ replaced entries.old name.now part }
 {
-    match place(places, name) {
+    match at_name(places, name.as_bytes()) {
         Some(k) => entries[k].1 = part,
         None => {}
     }
@@ -46,7 +46,7 @@ fn replace_port(
     requires { Indexes places.now (keys_of ports.old) }
     ensures { ports.new ≡ replaced ports.old memory.now port }
 {
-    match place(places, memory) {
+    match at_name(places, memory.as_bytes()) {
         Some(k) => ports[k].1 = port,
         None => {}
     }
@@ -62,7 +62,7 @@ pub fn present_port(
     requires { Indexes places.now (keys_of ports.now) }
     ensures { IfOk result (λ p. p ≡ port_of ports.now memory.now) }
 {
-    match place(places, memory) {
+    match at_name(places, memory.as_bytes()) {
         Some(k) => ports[k].1.copy(alloc),
         None => Ok(WritePort {
             width: 0,

@@ -1,39 +1,23 @@
 //! The declarations of the netlist.
 
-ghost use Rattle.std.specs.Prelude.{◌≡◌, [], ◌∷◌, ◌++◌, map, IfOk, OnOk};
-ghost use Rattle.sap_net.specs.Names.{is_among};
+ghost use Rattle.std.specs.Prelude.{◌≡◌, List, [], ◌∷◌, ◌++◌, map, IfOk, OnOk};
+ghost use Rattle.sap_maps.specs.Maps.{Name as Text};
+ghost use Rattle.sap_ir.specs.declared.guarded.Var.{Var as Variable};
 ghost use Rattle.sap_net.specs.IsNetlist.{names_of};
 ghost use Rattle.std.specs.Map.{keys_of};
 ghost use Rattle.sap_ir.specs.IsGuarded.{memory_names, variable_names};
-ghost use Rattle.sap_lower.specs.Index.{Indexes};
+ghost use Rattle.sap_net.specs.NameMaps.{Indexes};
 ghost use Rattle.sap_lower.specs.Lowered.{input_of, input_port, listed, memory_of, net_declared, out_wire, picked, port_shown, register_of, unlisted, unported};
 
 use crate::calc::present_part;
 use crate::commands::present_port;
 use crate::parts::{Part, WritePort};
-use crate::places::place;
-use sap_ir::guarded::{Store, Var};
+use sap_ir::guarded::{Store, Var, variable_names};
+use sap_net::name_map::{at_name, is_indexed};
 use sap_net::parts::{Input, Memory, Name, Port, PortKind, Register, Right, Wire};
+use sap_text::name::copy_names;
 use std::alloc::{AllocError, Global};
 use std::collections::HashMap;
-
-/// Whether a name is on a list.
-fn is_listed(places: &HashMap<Vec<u8>, usize>, names: &[Name], name: &Name) -> bool
-    requires { Indexes places.now names.now }
-    ensures { result ≡ is_among name.now names.now }
-{
-    let _ = names;
-    place(places, name).is_some()
-}
-
-/// Whether a name is that of a register.
-fn is_register(places: &HashMap<Vec<u8>, usize>, registers: &[Var], name: &Name) -> bool
-    requires { Indexes places.now (map (λ x. x.name) registers.now) }
-    ensures { result ≡ is_among name.now (variable_names registers.now) }
-{
-    let _ = registers;
-    place(places, name).is_some()
-}
 
 fn register(
     alloc: Global,
@@ -101,15 +85,13 @@ pub fn out_wires(
     places: &HashMap<Vec<u8>, usize>,
     entries: &[(Name, Part)],
     port_places: &HashMap<Vec<u8>, usize>,
-    ports: &[Name],
     variables: &[Var],
 ) -> Result<(), AllocError>
-    requires entries { Indexes places.now (keys_of entries.now) }
-    requires ports { Indexes port_places.now ports.now }
-    ensures { OnOk result (wires.new.items ≡ wires.old.items ++ map (out_wire entries.now) (listed ports.now variables.now)) }
+    requires { Indexes places.now (keys_of entries.now) }
+    ensures { OnOk result ((ports : List Text) → Indexes port_places.now ports → wires.new.items ≡ wires.old.items ++ map (out_wire entries.now) (listed ports variables.now)) }
 {
     for variable in variables {
-        if is_listed(port_places, ports, &variable.name) {
+        if is_indexed(port_places, variable.name.as_bytes()) {
             wires.push(wire(alloc, places, entries, variable)?)?;
         }
     }
@@ -146,7 +128,7 @@ fn port_register(
     requires registers { Indexes register_places.now (map (λ x. x.name) registers.now) }
     ensures { OnOk result (made.new.items ≡ made.old.items ++ map (register_of entries.now) (picked registers.now (port.now ∷ []))) }
 {
-    match place(register_places, port) {
+    match at_name(register_places, port.as_bytes()) {
         Some(k) => {
             let next = register(alloc, places, entries, &registers[k])?;
             made.push(next)?;
@@ -191,15 +173,13 @@ fn other_registers(
     places: &HashMap<Vec<u8>, usize>,
     entries: &[(Name, Part)],
     port_places: &HashMap<Vec<u8>, usize>,
-    ports: &[Name],
     registers: &[Var],
 ) -> Result<(), AllocError>
-    requires entries { Indexes places.now (keys_of entries.now) }
-    requires ports { Indexes port_places.now ports.now }
-    ensures { OnOk result (made.new.items ≡ made.old.items ++ map (register_of entries.now) (unlisted ports.now registers.now)) }
+    requires { Indexes places.now (keys_of entries.now) }
+    ensures { OnOk result ((ports : List Text) → Indexes port_places.now ports → made.new.items ≡ made.old.items ++ map (register_of entries.now) (unlisted ports registers.now)) }
 {
     for variable in registers {
-        if !is_listed(port_places, ports, &variable.name) {
+        if !is_indexed(port_places, variable.name.as_bytes()) {
             made.push(register(alloc, places, entries, variable)?)?;
         }
     }
@@ -231,15 +211,7 @@ pub fn registers(
         variables,
         ports,
     )?;
-    other_registers(
-        alloc,
-        &mut made,
-        places,
-        entries,
-        port_places,
-        ports,
-        variables,
-    )?;
+    other_registers(alloc, &mut made, places, entries, port_places, variables)?;
     Ok(made)
 }
 
@@ -275,14 +247,12 @@ fn input_ports(alloc: Global, variables: &[Var]) -> Result<Vec<Port>, AllocError
 fn shown(
     alloc: Global,
     register_places: &HashMap<Vec<u8>, usize>,
-    registers: &[Var],
     name: &Name,
 ) -> Result<Port, AllocError>
-    requires { Indexes register_places.now (map (λ x. x.name) registers.now) }
-    ensures { IfOk result (λ p. p ≡ port_shown registers.now name.now) }
+    ensures { IfOk result (λ p. (registers : List Variable) → Indexes register_places.now (variable_names registers) → p ≡ port_shown registers name.now) }
 {
     let copy = name.copy(alloc)?;
-    if is_register(register_places, registers, name) {
+    if is_indexed(register_places, name.as_bytes()) {
         Ok(Port {
             name: copy,
             kind: PortKind::Register,
@@ -300,49 +270,27 @@ pub fn ports(
     alloc: Global,
     variables: &[Var],
     register_places: &HashMap<Vec<u8>, usize>,
-    registers: &[Var],
     names: &[Name],
 ) -> Result<Vec<Port>, AllocError>
-    requires { Indexes register_places.now (map (λ x. x.name) registers.now) }
-    ensures { IfOk result (λ ps. ps.items ≡ map input_port variables.now ++ map (port_shown registers.now) names.now) }
+    ensures { IfOk result (λ ps. (registers : List Variable) → Indexes register_places.now (variable_names registers) → ps.items ≡ map input_port variables.now ++ map (port_shown registers) names.now) }
 {
     let mut made = input_ports(alloc, variables)?;
     for name in names {
-        made.push(shown(alloc, register_places, registers, name)?)?;
+        made.push(shown(alloc, register_places, name)?)?;
     }
     Ok(made)
-}
-
-fn add_variables(alloc: Global, made: &mut Vec<Name>, variables: &[Var]) -> Result<(), AllocError>
-    ensures { OnOk result (made.new.items ≡ made.old.items ++ variable_names variables.now) }
-{
-    for variable in variables {
-        made.push(variable.name.copy(alloc)?)?;
-    }
-    Ok(())
-}
-
-fn add_names(alloc: Global, made: &mut Vec<Name>, names: &[Name]) -> Result<(), AllocError>
-    ensures { OnOk result (made.new.items ≡ made.old.items ++ names.now) }
-{
-    for name in names {
-        made.push(name.copy(alloc)?)?;
-    }
-    Ok(())
 }
 
 fn add_wires(
     alloc: Global,
     made: &mut Vec<Name>,
     port_places: &HashMap<Vec<u8>, usize>,
-    ports: &[Name],
     wires: &[Wire],
 ) -> Result<(), AllocError>
-    requires { Indexes port_places.now ports.now }
-    ensures { OnOk result (made.new.items ≡ made.old.items ++ unported ports.now (names_of wires.now)) }
+    ensures { OnOk result ((ports : List Text) → Indexes port_places.now ports → made.new.items ≡ made.old.items ++ unported ports (names_of wires.now)) }
 {
     for wire in wires {
-        if !is_listed(port_places, ports, &wire.name) {
+        if !is_indexed(port_places, wire.name.as_bytes()) {
             made.push(wire.name.copy(alloc)?)?;
         }
     }
@@ -353,14 +301,12 @@ fn add_registers(
     alloc: Global,
     made: &mut Vec<Name>,
     port_places: &HashMap<Vec<u8>, usize>,
-    ports: &[Name],
     registers: &[Var],
 ) -> Result<(), AllocError>
-    requires { Indexes port_places.now ports.now }
-    ensures { OnOk result (made.new.items ≡ made.old.items ++ unported ports.now (variable_names registers.now)) }
+    ensures { OnOk result ((ports : List Text) → Indexes port_places.now ports → made.new.items ≡ made.old.items ++ unported ports (variable_names registers.now)) }
 {
     for variable in registers {
-        if !is_listed(port_places, ports, &variable.name) {
+        if !is_indexed(port_places, variable.name.as_bytes()) {
             made.push(variable.name.copy(alloc)?)?;
         }
     }
@@ -389,11 +335,10 @@ pub fn names(
     requires { Indexes port_places.now ports.now }
     ensures { IfOk result (λ ns. ns.items ≡ variable_names inputs.now ++ (ports.now ++ (unported ports.now (names_of wires.now) ++ (unported ports.now (variable_names registers.now) ++ memory_names stores.now)))) }
 {
-    let mut made = Vec::new(alloc);
-    add_variables(alloc, &mut made, inputs)?;
-    add_names(alloc, &mut made, ports)?;
-    add_wires(alloc, &mut made, port_places, ports, wires)?;
-    add_registers(alloc, &mut made, port_places, ports, registers)?;
+    let mut made = variable_names(alloc, inputs)?;
+    made.append(&mut copy_names(alloc, ports)?)?;
+    add_wires(alloc, &mut made, port_places, wires)?;
+    add_registers(alloc, &mut made, port_places, registers)?;
     add_memories(alloc, &mut made, stores)?;
     Ok(made)
 }

@@ -7,18 +7,19 @@ ghost use Rattle.sap_ir.specs.Program.{source_of};
 ghost use Rattle.sap_ir.specs.Writes.{WritesOnce};
 ghost use Rattle.sap_size.specs.Flat.{source_weight};
 ghost use Rattle.sap_size.specs.Items.{items};
-ghost use Rattle.sap_lower.specs.Index.{Indexes};
+ghost use Rattle.sap_net.specs.NameMaps.{Indexes};
 ghost use Rattle.sap_lower.specs.Lowered as spec;
 ghost use Rattle.sap_lower.specs.Lowered.{first_entries, first_port, input_of, input_port, listed, memory_of, names_declared, net_declared, out_wire, port_shown, register_of, registers_declared};
 ghost use Rattle.sap_lower.specs.Same.{CopiesPorts, Declares, RunsAlike, SharesWires};
 
 use crate::commands::lower_commands;
 use crate::parts::{Part, WritePort};
-use crate::places::{index_entries, index_names, index_stores, index_variables};
+use crate::places::{index_entries, index_stores, index_variables};
 use crate::wires::Wires;
 use crate::{declare, first};
 use sap_ir::guarded::Store;
 use sap_ir::program::Guarded;
+use sap_net::name_map::index_names;
 use sap_net::netlist::Netlist;
 use sap_net::parts::{Input, Memory, Name, Parts, Port, Register, Wire};
 use std::alloc::{AllocError, Global};
@@ -54,13 +55,7 @@ fn declared_of(
         source.registers(),
         source.memories(),
     )?;
-    let ports = declare::ports(
-        alloc,
-        source.inputs(),
-        register_places,
-        source.registers(),
-        source.ports(),
-    )?;
+    let ports = declare::ports(alloc, source.inputs(), register_places, source.ports())?;
     let inputs = declare::inputs(alloc, source.inputs())?;
     Ok(Declared {
         names,
@@ -210,7 +205,6 @@ fn shown_parts(
         places,
         entries,
         &port_places,
-        source.ports(),
         source.wires(),
     )?;
     parts(

@@ -9,3 +9,4 @@ pub mod InputLemmas
 pub mod NamesLemmas
 pub mod NameMaps
 pub mod RulesLemmas
+pub mod Places

@@ -1,5 +1,6 @@
 -- Maps from names.
-use Rattle.std.specs.Prelude.{◌≡◌, ℕ, Option, Some, bytes_eq, if◌then◌else◌}
+use Rattle.std.specs.Prelude.{◌≡◌, ℕ, zero, suc, List, [], ◌∷◌, Option, Some, None, bytes_eq, if◌then◌else◌}
+use Rattle.std.specs.Option.{option_map}
 use Rattle.std.specs.HashMap.{HashMap, get_by}
 use Rattle.std.specs.declared.hash.FoldHasher.{FoldHasher}
 use Rattle.std.specs.declared.hash.BuildHasherDefault.{BuildHasherDefault}
@@ -17,3 +18,12 @@ at_name m n = get_by (λ k. bytes_eq n k.items) m
 -- one name has this, the others what they had
 abbrev pub Puts : {X : Type 0} → (before : Name → Option X) → Name → X → (after : Name → Option X) → Type 0
 Puts e x o f = (n : Name) → f n ≡ (if bytes_eq x n then Some o else e n)
+
+-- the first place of a name on a list, from 0
+abbrev pub place_in : List Name → Name → Option ℕ
+place_in [] n = None
+place_in (x ∷ xs) n = if bytes_eq x n then Some zero else option_map suc (place_in xs n)
+
+-- each name of a list at its first place
+abbrev pub Indexes : NameMap ℕ → List Name → Type 0
+Indexes m names = (n : Name) → at_name m n ≡ place_in names n

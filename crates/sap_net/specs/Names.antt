@@ -1,8 +1,8 @@
 -- What the module subset takes as a name, and lists of names.
-use Rattle.std.specs.Prelude.{◌≡◌, ℕ, Bool, false, not, ◌||◌, ◌&&◌, List, [], ◌∷◌, codes}
+use Rattle.std.specs.Prelude.{◌≡◌, ℕ, Bool, false, not, ◌&&◌, List, [], ◌∷◌, codes}
 use Rattle.std.specs.Fmt.{decimal}
 use Rattle.std.specs.List.{list_any}
-use Rattle.std.specs.Str.{bytes_eq}
+use Rattle.std.specs.Str.{byte, bytes_eq}
 pub use Rattle.sap_text.specs.Names.{is_initial, is_inner, is_word}
 use Rattle.sap_maps.specs.Maps.{Name}
 
@@ -34,8 +34,7 @@ is_name name = is_word name && not (is_keyword name)
 
 -- the name stands on the list
 abbrev pub is_among : Name → List Name → Bool
-is_among x [] = false
-is_among x (y ∷ ys) = bytes_eq x y || is_among x ys
+is_among x ys = list_any (bytes_eq x) ys
 
 -- no name stands on the list twice
 abbrev pub AreDistinct : List Name → Type 0
@@ -44,7 +43,7 @@ AreDistinct (x ∷ xs) = (is_among x xs ≡ false) × AreDistinct xs
 
 -- the name of a helping wire: an `n` and its number
 unfoldable pub helper : ℕ → Name
-helper k = 110 ∷ decimal k
+helper k = byte "n" ∷ decimal k
 
 abbrev pub IsHelpingName : Name → Type 0
 IsHelpingName x = (k : ℕ) × (x ≡ helper k)

@@ -2,5 +2,6 @@
 #![tactic(auto)]
 
 pub mod laws;
+pub mod name_map;
 pub mod netlist;
 pub mod parts;

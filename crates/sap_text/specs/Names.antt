@@ -2,14 +2,15 @@
 use Rattle.std.specs.Prelude.{ℕ, Bool, false, ◌||◌, ◌&&◌, ◌==◌, List, [], ◌∷◌, codes}
 use Rattle.std.specs.Char.{is_ascii_alphabetic, is_ascii_alphanumeric}
 use Rattle.std.specs.List.{list_all}
+use Rattle.std.specs.Str.{byte}
 
 -- a letter or `_`
 abbrev pub is_initial : ℕ → Bool
-is_initial c = is_ascii_alphabetic c || c == 95
+is_initial c = is_ascii_alphabetic c || c == byte "_"
 
 -- a letter, a digit or `_`
 abbrev pub is_inner : ℕ → Bool
-is_inner c = is_ascii_alphanumeric c || c == 95
+is_inner c = is_ascii_alphanumeric c || c == byte "_"
 
 -- a letter or `_`, and then letters, digits and `_`
 abbrev pub is_word : List ℕ → Bool

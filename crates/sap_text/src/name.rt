@@ -75,6 +75,17 @@ impl Name {
     }
 }
 
+/// A second list of the same names.
+pub fn copy_names(alloc: Global, names: &[Name]) -> Result<Vec<Name>, AllocError>
+    ensures { IfOk result (λ copies. copies.items ≡ names.now) }
+{
+    let mut copies = Vec::new(alloc);
+    for name in names {
+        copies.push(name.copy(alloc)?)?;
+    }
+    Ok(copies)
+}
+
 impl fmt::Display for Name {
     ghost use Rattle.std.specs.Prelude.{Some};
 

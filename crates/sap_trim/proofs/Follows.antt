@@ -74,7 +74,7 @@ means_more so e f x u o v w h i b y t k =
 
 step_provided : (taken : Name → Bool) (ms : Shapes) (so sc : Scope) (s t : State) (w : Wire) → TakenApart taken ms sc → Follows taken ms so sc s → IsWidth w.width → IsRight ms so w.width w.right → (f : Folds taken s w t) → Provided taken ms sc s.wires w.width f.operand t.wires t.next
 step_provided taken ms so sc s t w apart h i r f =
-    f.gives.fits ms sc apart h.named h.fits i (replaced_fits ms so (readable_after sc s.wires) s.stands h.finds w.width w.right r)
+    f.gives.fits ms sc (record { apart = apart; named = h.named; fits = h.fits; wide = i }) (replaced_fits ms so (readable_after sc s.wires) s.stands h.finds w.width w.right r)
 
 follows_step : (taken : Name → Bool) (ms : Shapes) (so sc : Scope) (s t : State) (w : Wire) → TakenApart taken ms sc → Follows taken ms so sc s → IsWidth w.width → IsRight ms so w.width w.right → Folds taken s w t → Follows taken ms ((w.name, w.width) ∷ so) sc t
 follows_step taken ms so sc s t w apart h i r f =
@@ -93,7 +93,7 @@ means_step taken ms so sc s t x wv ww v w apart h i r f m a c o e =
     let fits = replaced_fits ms so sn s.stands h.finds x.width x.right r in
     let q : v.value x.name ≡ operand_value w f.operand =
     e ∙ replaced_same ms so sn s.stands wv ww v w h.finds m a before.wide c x.width x.right r
-    ∙ f.gives.same ms sc ww w apart h.named h.fits i fits o in
+    ∙ f.gives.same ms sc ww w (record { apart = apart; named = h.named; fits = h.fits; wide = i }) fits o in
     means_more so s.stands t.stands x.name x.width f.operand v w m q f.binds
 
 -- all steps

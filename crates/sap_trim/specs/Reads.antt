@@ -1,5 +1,5 @@
 -- The names that right sides, registers and memories read.
-use Rattle.std.specs.Prelude.{◌≡◌, true, List, [], ◌∷◌, ◌++◌}
+use Rattle.std.specs.Prelude.{◌≡◌, true, List, [], ◌∷◌, ◌++◌, flat_map}
 use Rattle.std.specs.List.{AllByRecursion}
 use Rattle.sap_maps.specs.Maps.{Name}
 use Rattle.sap_net.specs.Names.{is_among}
@@ -18,8 +18,7 @@ operand_reads (Named x) = x ∷ []
 operand_reads (Constant w n) = []
 
 abbrev pub operands_reads : List Operand → List Name
-operands_reads [] = []
-operands_reads (o ∷ os) = operand_reads o ++ operands_reads os
+operands_reads os = flat_map operand_reads os
 
 abbrev pub right_reads : Right → List Name
 right_reads (Copy a) = operand_reads a
@@ -31,12 +30,10 @@ right_reads (Slice x hi lo) = x ∷ []
 right_reads (Cell m i) = operand_reads i
 
 abbrev pub wire_reads : List Wire → List Name
-wire_reads [] = []
-wire_reads (w ∷ ws) = right_reads w.right ++ wire_reads ws
+wire_reads ws = flat_map (λ w. right_reads w.right) ws
 
 abbrev pub register_reads : List Register → List Name
-register_reads [] = []
-register_reads (r ∷ rs) = operand_reads r.next ++ register_reads rs
+register_reads rs = flat_map (λ r. operand_reads r.next) rs
 
 abbrev pub memory_reads : List Memory → List Name
 memory_reads [] = []

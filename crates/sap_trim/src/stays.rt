@@ -1,9 +1,10 @@
 //! Wires that have one number as long as a register has its start.
 
 ghost use Rattle.std.specs.Prelude.{◌≡◌, true, List, [], ◌∷◌, ◌++◌, IfOk, OnOk};
-ghost use Rattle.sap_net.specs.NameMaps.{at_name, Puts};
+ghost use Rattle.sap_net.specs.NameMaps.{at_name};
 ghost use Rattle.sap_trim.specs.Stays as spec;
 
+use sap_net::name_map::put;
 use sap_net::netlist::Netlist;
 use sap_net::parts::{Name, Operand, Register, Right, Wire};
 use std::alloc::{AllocError, Global};
@@ -113,20 +114,6 @@ fn right_stay(
     }
 }
 
-/// Lets a name stay at a number.
-fn put(
-    alloc: Global,
-    stays: &mut HashMap<Vec<u8>, Stay>,
-    name: &Name,
-    stay: Stay,
-) -> Result<(), AllocError>
-    ensures { OnOk result (Puts (at_name stays.old) name.now stay (at_name stays.new)) }
-{
-    let key = name.as_bytes().to_vec(alloc)?;
-    stays.insert(key, stay)?;
-    Ok(())
-}
-
 fn put_register(
     alloc: Global,
     stays: &mut HashMap<Vec<u8>, Stay>,
@@ -137,7 +124,7 @@ fn put_register(
 {
     let name = register.name.copy(alloc)?;
     let stay = Stay::While(name, register.start);
-    put(alloc, stays, &register.name, stay)?;
+    put(stays, alloc, &register.name, stay)?;
     Ok(())
 }
 
@@ -164,7 +151,7 @@ fn put_wire(
 {
     match right_stay(alloc, stays, &wire.right)? {
         Some(stay) => {
-            put(alloc, stays, &wire.name, stay)?;
+            put(stays, alloc, &wire.name, stay)?;
             Ok(())
         }
         None => Ok(()),

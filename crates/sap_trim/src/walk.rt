@@ -15,6 +15,7 @@ use crate::stays::{Stay, keeps_start, stays};
 use sap_fold::folding::fold_into;
 use sap_fold::names::has;
 use sap_fold::wires::Wires;
+use sap_net::name_map::put;
 use sap_net::netlist::Netlist;
 use sap_net::parts::{Input, Name, Operand, Register, Right, Wire};
 use std::alloc::{AllocError, Global};
@@ -27,20 +28,6 @@ pub struct Walk {
     pub stands: HashMap<Vec<u8>, Operand>,
 }
 
-/// Lets a name stand for an operand.
-fn bind(
-    alloc: Global,
-    stands: &mut HashMap<Vec<u8>, Operand>,
-    name: &Name,
-    operand: Operand,
-) -> Result<(), AllocError>
-    ensures { OnOk result (Puts (at_name stands.old) name.now operand (at_name stands.new)) }
-{
-    let key = name.as_bytes().to_vec(alloc)?;
-    stands.insert(key, operand)?;
-    Ok(())
-}
-
 /// Lets a name stand for itself.
 fn bind_itself(
     alloc: Global,
@@ -50,7 +37,7 @@ fn bind_itself(
     ensures { OnOk result (Puts (at_name stands.old) name.now (operand.Named name.now) (at_name stands.new)) }
 {
     let itself = name.copy(alloc)?;
-    bind(alloc, stands, name, Operand::Named(itself))
+    put(stands, alloc, name, Operand::Named(itself))
 }
 
 fn bind_inputs(
@@ -95,7 +82,7 @@ fn bind_start(
         width: register.width,
         value: register.start,
     };
-    bind(alloc, stands, &register.name, start)?;
+    put(stands, alloc, &register.name, start)?;
     Ok(())
 }
 
@@ -142,7 +129,7 @@ impl Walk {
         ensures steps { OnOk result (Steps (holds taken.now) (state_of self.old) name.now width right (state_of self.new)) }
     {
         let operand = self.wires.provide(alloc, taken, width, right)?;
-        bind(alloc, &mut self.stands, name, operand)
+        put(&mut self.stands, alloc, name, operand)
     }
 
     fn fold_wire(
@@ -157,7 +144,7 @@ impl Walk {
     {
         let replaced = replace(alloc, &self.stands, &wire.right)?;
         let operand = fold_into(alloc, &mut self.wires, taken, wire.width, replaced)?;
-        bind(alloc, &mut self.stands, &wire.name, operand)
+        put(&mut self.stands, alloc, &wire.name, operand)
     }
 
     fn copy_wire(

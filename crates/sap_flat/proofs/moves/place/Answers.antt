@@ -1,11 +1,14 @@
-use Rattle.std.proofs.Common.{sym, arith}
-use Rattle.sap_flat.proofs.Steps.{place_found, place_next}
+use Rattle.std.proofs.Common.{rules, tests, ◌∙◌, sym}
+use Rattle.std.specs.Str.{bytes_eq}
+use Rattle.std.proofs.lemmas.Iterator.{YieldsList-from_slice}
+use Rattle.std.proofs.lemmas.Iterator.Search.{position_from_yields_List}
+use Rattle.sap_ir.specs.declared.plain.nested.PlainState.{PlainState, out-PlainState}
+use Rattle.sap_flat.proofs.Makes.{place_listed, position_or_end}
 use Rattle.sap_flat.proofs.moves.place.Goals as goal
 
-pub returns-then-same : goal.returns-then-same
-returns-then-same c =
-    place_found c.args.states.now c.loop-i.i c.index-states-i.result c.args.target.now (omega arith) c.index-states-i.is (sym c.if-same.ensures) c.loop-i.invariant
-
-pub loop-i-preserved : goal.loop-i-preserved
-loop-i-preserved c =
-    place_next c.args.states.now c.loop-i.i c.index-states-i.result c.args.target.now (omega arith) c.index-states-i.is (sym c.if-same.ensures) c.loop-i.invariant
+pub returns : goal.returns
+returns c =
+    c.unwrap_or.ensures
+    ∙ position_or_end (λ (s : PlainState). bytes_eq (out-PlainState s).name c.args.target.now) c.args.states.now c.position.result
+    (position_from_yields_List (λ (s : PlainState). bytes_eq (out-PlainState s).name c.args.target.now) _ _ _ c.position.ensures.ran (YieldsList-from_slice c.args.states.now cc) (λ x b q k. search (rules, tests)))
+    ∙ sym (place_listed c.args.target.now c.args.states.now)

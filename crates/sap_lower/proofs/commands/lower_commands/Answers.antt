@@ -4,7 +4,7 @@ use Rattle.sap_maps.specs.Maps.{Name}
 use Rattle.sap_ir.specs.Calcs.{command_of, commands_of}
 use Rattle.sap_lower.specs.Commands.{State, low_command, low_commands}
 use Rattle.sap_lower.specs.Lookup.{shapes_of}
-use Rattle.sap_lower.specs.Places.{place_in}
+use Rattle.sap_net.specs.NameMaps.{place_in}
 use Rattle.sap_lower.proofs.Steps.{commands_step, entries_named, ports_named}
 use Rattle.sap_lower.proofs.commands.lower_commands.Goals as goal
 

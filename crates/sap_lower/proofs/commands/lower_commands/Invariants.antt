@@ -2,7 +2,7 @@ use Rattle.std.proofs.Common.{◌≡◌, drop}
 use Rattle.std.specs.Map.{keys_of}
 use Rattle.sap_ir.specs.Calcs.{commands_of}
 use Rattle.sap_lower.specs.Commands.{State, low_commands}
-use Rattle.sap_lower.specs.Index.{Indexes}
+use Rattle.sap_net.specs.NameMaps.{Indexes}
 use Rattle.sap_lower.specs.Lookup.{shapes_of}
 use Rattle.sap_lower.proofs.commands.lower_commands.Given as goal
 

@@ -1,7 +1,7 @@
 use Rattle.std.proofs.Common.{◌∙◌, List, sym, ap}
 use Rattle.std.specs.Map.{keys_of}
 use Rattle.sap_maps.specs.Maps.{Name}
-use Rattle.sap_lower.specs.Places.{place_in}
+use Rattle.sap_net.specs.NameMaps.{place_in}
 use Rattle.sap_lower.proofs.Made.{first_ports_named}
 use Rattle.sap_lower.proofs.lower.write_ports.Goals as goal
 

@@ -11,4 +11,4 @@ loop-k-preserved c =
     let y = c.index-entries-k.result in
     let l : length (keys_of xs) ≡ c.loop-k.k = names_long xs ∙ length-take-le c.loop-k.k es (omega arith) in
     let e : take (c.loop-k.k + 1) es ≡ xs ++ y ∷ [] = take_more es c.loop-k.k y (omega arith) ∙ ap (λ z. xs ++ z ∷ []) (sym c.index-entries-k.is) in
-    rw (e, named_push xs y) (c.in_ok-add.ensures {u = tt} (keys_of xs) l c.loop-k.invariant)
+    rw (e, named_push xs y) (c.in_ok-index.ensures {u = tt} (keys_of xs) l c.loop-k.invariant)

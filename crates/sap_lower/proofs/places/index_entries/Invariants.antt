@@ -1,6 +1,6 @@
 use Rattle.std.proofs.Common.{take}
 use Rattle.std.specs.Map.{keys_of}
-use Rattle.sap_lower.specs.Index.{Indexes}
+use Rattle.sap_net.specs.NameMaps.{Indexes}
 use Rattle.sap_lower.proofs.places.index_entries.Given as goal
 
 abbrev pub invariant-loop-k : goal.invariant-loop-k

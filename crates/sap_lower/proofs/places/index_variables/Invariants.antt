@@ -1,5 +1,5 @@
 use Rattle.std.proofs.Common.{take, map}
-use Rattle.sap_lower.specs.Index.{Indexes}
+use Rattle.sap_net.specs.NameMaps.{Indexes}
 use Rattle.sap_lower.proofs.places.index_variables.Given as goal
 
 abbrev pub invariant-loop-k : goal.invariant-loop-k

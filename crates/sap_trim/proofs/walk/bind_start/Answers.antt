@@ -8,4 +8,4 @@ returns-then-not-branch c = λ ws h x. inl refl
 
 pub returns : goal.returns
 returns c = λ ws h.
-    start_bound ws (at_name c.args.stands.now) (at_name c.bind.new.stands) c.args.register.now (c.in_ok-keeps_start.ensures {u = tt} ws h c.if-not-branch.false) (c.in_ok-bind.ensures {u = tt})
+    start_bound ws (at_name c.args.stands.now) (at_name c.put.new.map) c.args.register.now (c.in_ok-keeps_start.ensures {u = tt} ws h c.if-not-branch.false) (c.in_ok-put.ensures {u = tt})

@@ -14,7 +14,7 @@ offset_bounds-memories-k c =
     let i = c.self.invariant in
     let n = c.self.inside.netlist in
     let f : at_name c.self.inside.memories c.args.name.now ≡ Some c.in-Some.k =
-    ap (at_name c.self.inside.memories) (sym c.as_bytes.ensures.value) ∙ sym c.place_of.ensures ∙ c.in-Some.is in
+    ap (at_name c.self.inside.memories) (sym c.as_bytes.ensures.value) ∙ sym c.at_name.ensures ∙ c.in-Some.is in
     let k = at_within n.memories c.in-Some.k c.args.name.now (i.memories_found.found c.args.name.now c.in-Some.k f) in
     let e = ap length c.memories.ensures in
     omega arith
@@ -24,7 +24,7 @@ bounds-memories-k c =
     let i = c.self.invariant in
     let n = c.self.inside.netlist in
     let f : at_name c.self.inside.memories c.args.name.now ≡ Some c.in-Some.k =
-    ap (at_name c.self.inside.memories) (sym c.as_bytes.ensures.value) ∙ sym c.place_of.ensures ∙ c.in-Some.is in
+    ap (at_name c.self.inside.memories) (sym c.as_bytes.ensures.value) ∙ sym c.at_name.ensures ∙ c.in-Some.is in
     let k = at_within n.memories c.in-Some.k c.args.name.now (i.memories_found.found c.args.name.now c.in-Some.k f) in
     rw c.memories.ensures k
 
@@ -33,7 +33,7 @@ bounds-memories-k-in-Some c =
     let i = c.self.invariant in
     let n = c.self.inside.netlist in
     let f : at_name c.self.inside.memories c.args.name.now ≡ Some c.in-Some.k =
-    ap (at_name c.self.inside.memories) (sym c.as_bytes.ensures.value) ∙ sym c.place_of.ensures ∙ c.in-Some.is in
+    ap (at_name c.self.inside.memories) (sym c.as_bytes.ensures.value) ∙ sym c.at_name.ensures ∙ c.in-Some.is in
     let k = at_within n.memories c.in-Some.k c.args.name.now (i.memories_found.found c.args.name.now c.in-Some.k f) in
     rw c.memories.ensures k
 
@@ -43,7 +43,7 @@ index-requires c =
     let n = c.self.inside.netlist in
     let x = c.args.name.now in
     let f : at_name c.self.inside.memories x ≡ Some c.in-Some.k =
-    ap (at_name c.self.inside.memories) (sym c.as_bytes.ensures.value) ∙ sym c.place_of.ensures ∙ c.in-Some.is in
+    ap (at_name c.self.inside.memories) (sym c.as_bytes.ensures.value) ∙ sym c.at_name.ensures ∙ c.in-Some.is in
     let h : slice_get (memory_names n) c.in-Some.k ≡ Some x = i.memories_found.found x c.in-Some.k f in
     let k = at_within n.memories c.in-Some.k x h in
     let l = ports_long (value_names n) c.self.inside.program.ports.items n.memories 0 i.program.ports in
@@ -55,7 +55,7 @@ overflow_add-index c =
     let n = c.self.inside.netlist in
     let x = c.args.name.now in
     let f : at_name c.self.inside.memories x ≡ Some c.in-Some.k =
-    ap (at_name c.self.inside.memories) (sym c.as_bytes.ensures.value) ∙ sym c.place_of.ensures ∙ c.in-Some.is in
+    ap (at_name c.self.inside.memories) (sym c.as_bytes.ensures.value) ∙ sym c.at_name.ensures ∙ c.in-Some.is in
     let h : slice_get (memory_names n) c.in-Some.k ≡ Some x = i.memories_found.found x c.in-Some.k f in
     let a : IsAt n.memories c.in-Some.k x = is_at n.memories c.in-Some.k x h in
     let deep : (get_or c.memories.result.now c.in-Some.k c.index-memories-k.result).depth ≡ a.memory.depth =
@@ -73,7 +73,7 @@ index-requires-then-index-memories c =
     let n = c.self.inside.netlist in
     let x = c.args.name.now in
     let f : at_name c.self.inside.memories x ≡ Some c.in-Some.k =
-    ap (at_name c.self.inside.memories) (sym c.as_bytes.ensures.value) ∙ sym c.place_of.ensures ∙ c.in-Some.is in
+    ap (at_name c.self.inside.memories) (sym c.as_bytes.ensures.value) ∙ sym c.at_name.ensures ∙ c.in-Some.is in
     let h : slice_get (memory_names n) c.in-Some.k ≡ Some x = i.memories_found.found x c.in-Some.k f in
     let a : IsAt n.memories c.in-Some.k x = is_at n.memories c.in-Some.k x h in
     let deep : (get_or c.memories.result.now c.in-Some.k c.index-memories-k.result).depth ≡ a.memory.depth =
@@ -90,7 +90,7 @@ returns-in-None c =
     let i = c.self.invariant in
     let n = c.self.inside.netlist in
     let f : at_name c.self.inside.memories c.args.name.now ≡ None =
-    ap (at_name c.self.inside.memories) (sym c.as_bytes.ensures.value) ∙ sym c.place_of.ensures ∙ c.in-None.is in
+    ap (at_name c.self.inside.memories) (sym c.as_bytes.ensures.value) ∙ sym c.at_name.ensures ∙ c.in-None.is in
     subst (λ (r : Running). GivesCell r c.args.name.now c.args.index None) c.self.view_is
     (λ cycle shows. sym (cell_nowhere n c.self.inside.memories i.memories_found c.args.name.now f cycle c.args.index))
 
@@ -100,7 +100,7 @@ returns-then-index-memories c =
     let n = c.self.inside.netlist in
     let x = c.args.name.now in
     let f : at_name c.self.inside.memories x ≡ Some c.in-Some.k =
-    ap (at_name c.self.inside.memories) (sym c.as_bytes.ensures.value) ∙ sym c.place_of.ensures ∙ c.in-Some.is in
+    ap (at_name c.self.inside.memories) (sym c.as_bytes.ensures.value) ∙ sym c.at_name.ensures ∙ c.in-Some.is in
     let h : slice_get (memory_names n) c.in-Some.k ≡ Some x = i.memories_found.found x c.in-Some.k f in
     let a : IsAt n.memories c.in-Some.k x = is_at n.memories c.in-Some.k x h in
     let deep : (get_or c.memories.result.now c.in-Some.k c.index-memories-k.result).depth ≡ a.memory.depth =
@@ -123,7 +123,7 @@ returns-else-index-memories c =
     let n = c.self.inside.netlist in
     let x = c.args.name.now in
     let f : at_name c.self.inside.memories x ≡ Some c.in-Some.k =
-    ap (at_name c.self.inside.memories) (sym c.as_bytes.ensures.value) ∙ sym c.place_of.ensures ∙ c.in-Some.is in
+    ap (at_name c.self.inside.memories) (sym c.as_bytes.ensures.value) ∙ sym c.at_name.ensures ∙ c.in-Some.is in
     let h : slice_get (memory_names n) c.in-Some.k ≡ Some x = i.memories_found.found x c.in-Some.k f in
     let a : IsAt n.memories c.in-Some.k x = is_at n.memories c.in-Some.k x h in
     let deep : (get_or c.memories.result.now c.in-Some.k c.index-memories-k.result).depth ≡ a.memory.depth =

@@ -9,8 +9,8 @@ pub returns-clause-folds : goal.returns-clause-folds
 returns-clause-folds c =
     let s = c.args.self.now.wires in
     let t = c.fold_into.new.wires in
-    on_ok_weaker c.bind.result (λ b. record {
+    on_ok_weaker c.put.result (λ b. record {
       operand = c.in_ok-operand.operand;
       gives = subst (λ (r : Right). Gives (holds c.args.taken.now) s.list.items s.next c.args.wire.now.width r c.in_ok-operand.operand t.list.items t.next) (c.in_ok-replaced.ensures {u = tt}) c.in_ok-operand.ensures.gives;
       binds = b;
-    }) c.bind.ensures
+    }) c.put.ensures

@@ -1,17 +1,17 @@
--- A map from names to places, as one more name is added.
+-- The places of names on a list, and a map to them as one more name is added.
 use Rattle.std.proofs.Common.{◌≡◌, ℕ, zero, List, [], ◌∷◌, ◌++◌, Option, Some, None, true, false, length, is_some, sym, ap, ◌∙◌, subst, refl, inl, inr, suc}
 use Rattle.std.specs.Prelude.{if◌then◌else◌}
 use Rattle.std.specs.Str.{bytes_eq}
-use Rattle.std.specs.HashMap as hash
 use Rattle.std.proofs.lemmas.Bool.{cases_Bool}
 use Rattle.std.specs.Option.{option_map}
-use Rattle.sap_lemmas.proofs.Texts.{bytes_eq_same, equal_of_bytes_eq}
-use Rattle.sap_lower.proofs.PlacesLemmas.{none_further}
+use Rattle.sap_lemmas.proofs.Texts.{bytes_eq_apart_back, bytes_eq_same, equal_of_bytes_eq}
 use Rattle.sap_maps.specs.Maps.{Name}
-use Rattle.sap_net.proofs.NameMaps.{same_bytes, at_other}
-use Rattle.sap_net.specs.NameMaps.{at_name, NameMap}
-use Rattle.sap_lower.specs.Places.{place_in}
-use Rattle.sap_lower.specs.Index.{Indexes}
+use Rattle.sap_net.specs.Names.{is_among}
+use Rattle.sap_net.specs.NameMaps.{at_name, Indexes, NameMap, Puts, place_in}
+
+pub none_further : (o : Option ℕ) → option_map suc o ≡ None → o ≡ None
+none_further None h = refl
+none_further (Some j) h = absurd (cc)
 
 further : (o p : Option ℕ) (k : ℕ) → ((j : ℕ) → o ≡ Some j → p ≡ Some j) → option_map suc o ≡ Some k → option_map suc p ≡ Some k
 further None p k h e = absurd (cc)
@@ -37,11 +37,11 @@ place_push_other : (xs : List Name) (y n : Name) → bytes_eq y n ≡ false → 
 place_push_other [] y n f = rw f refl
 place_push_other (x ∷ xs) y n f = ap (λ o. if bytes_eq x n then Some zero else option_map suc o) (place_push_other xs y n f)
 
-pub added_new : (m m' : NameMap ℕ) (names : List Name) (y : Name) (k : ℕ) → at_name m y ≡ None → hash.UpdatesBy same_bytes (λ v. bytes_eq y v.items) m m' (Some k) → length names ≡ k → Indexes m names → Indexes m' (names ++ y ∷ [])
-added_new m m' names y k new h l is n =
+pub added_new : (m m' : NameMap ℕ) (names : List Name) (y : Name) (k : ℕ) → at_name m y ≡ None → Puts (at_name m) y k (at_name m') → length names ≡ k → Indexes m names → Indexes m' (names ++ y ∷ [])
+added_new m m' names y k new p l is n =
     elim (cases_Bool (bytes_eq y n)) [
-      | inl t ↦ subst (λ (x : Name). at_name m' x ≡ place_in (names ++ y ∷ []) x) (equal_of_bytes_eq y n t) (h.1 ∙ sym (place_push_here names y (sym (is y) ∙ new) ∙ ap Some l))
-      | inr f ↦ at_other m m' y (Some k) h n f ∙ is n ∙ sym (place_push_other names y n f)
+      | inl t ↦ p n ∙ rw t (subst (λ (x : Name). Some k ≡ place_in (names ++ y ∷ []) x) (equal_of_bytes_eq y n t) (sym (place_push_here names y (sym (is y) ∙ new) ∙ ap Some l)))
+      | inr f ↦ p n ∙ rw f (is n ∙ sym (place_push_other names y n f))
     ]
 
 pub added_old : (m : NameMap ℕ) (names : List Name) (y : Name) (j : ℕ) → at_name m y ≡ Some j → Indexes m names → Indexes m (names ++ y ∷ [])
@@ -54,3 +54,16 @@ added_old m names y j old is n =
 pub is_there : (o : Option ℕ) → is_some o ≡ true → (j : ℕ) × (o ≡ Some j)
 is_there None h = absurd (cc)
 is_there (Some j) h = (j, refl)
+
+some_further : (o : Option ℕ) → is_some (option_map suc o) ≡ is_some o
+some_further None = refl
+some_further (Some k) = refl
+
+-- a name has a place exactly where it stands on the list
+pub placed : (names : List Name) (n : Name) → is_some (place_in names n) ≡ is_among n names
+placed [] n = refl
+placed (x ∷ xs) n =
+    elim (cases_Bool (bytes_eq x n)) [
+      | inl t ↦ let u : bytes_eq n x ≡ true = subst (λ (y : Name). bytes_eq n y ≡ true) (sym (equal_of_bytes_eq x n t)) (bytes_eq_same n) in rw (t, u) refl
+      | inr f ↦ let u = bytes_eq_apart_back x n f in rw (f, u) (some_further (place_in xs n) ∙ placed xs n)
+    ]

@@ -1,5 +1,5 @@
 use Rattle.std.proofs.Common.{◌≡◌, take}
-use Rattle.sap_flat.proofs.copies.names.Given as goal
+use Rattle.sap_text.proofs.name.copy_names.Given as goal
 
 abbrev pub invariant-loop-name : goal.invariant-loop-name
 invariant-loop-name l = l.copies.items ≡ take l.name-index l.names
