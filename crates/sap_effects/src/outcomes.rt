@@ -21,7 +21,7 @@ use sap_ir::guarded::Calc;
 use sap_ir::plain::nested::PlainCmd;
 use sap_program::program::{Number, Step};
 use sap_program::spot::Spot;
-use sap_terms::calcs::{entity_width, expr, is_dynamic, is_register, lub, tag_variable};
+use sap_terms::calcs::{expr, lub, tag_variable};
 use sap_terms::names::{state_name, value_name};
 use sap_terms::setting::Setting;
 use std::alloc::{AllocError, Global};
@@ -31,7 +31,7 @@ fn zero(setting: &Setting<'_>, x: usize) -> Calc
     ensures { term_of result ≡ term.constant (program.width (world_in setting.now) x) 0 }
 {
     Calc::Constant {
-        width: entity_width(setting, x) as u32,
+        width: setting.program.width(x) as u32,
         value: 0,
     }
 }
@@ -76,7 +76,7 @@ fn follow_wire(
     ensures { let d = setting_in setting.now in
         OnOk result (body_of out.new.items ≡ follow (body_of out.old.items) (if program.is_dynamic d.world x then spec.gives d (tag_key x) (levels.var d (wire_key wire)) stop else stop)) }
 {
-    if is_dynamic(setting, x) {
+    if setting.program.is_dynamic(x) {
         let level = wire_variable(alloc, setting, wire)?;
         set_tag(alloc, setting, out, x, level)
     } else {
@@ -96,7 +96,7 @@ fn join_wire(
     ensures { let d = setting_in setting.now in
         OnOk result (body_of out.new.items ≡ follow (body_of out.old.items) (if program.is_dynamic d.world x then spec.gives d (tag_key x) (levels.lub (levels.var d (tag_key x)) (levels.var d (wire_key wire))) stop else stop)) }
 {
-    if is_dynamic(setting, x) {
+    if setting.program.is_dynamic(x) {
         let own = tag_variable(alloc, setting, x)?;
         let level = wire_variable(alloc, setting, wire)?;
         let joined = lub(alloc, own, level)?;
@@ -118,7 +118,7 @@ fn keep_register(
     ensures { let d = setting_in setting.now in
         OnOk result (body_of out.new.items ≡ follow (body_of out.old.items) (if program.is_register d.world x then spec.gives d (value_key x) (term.choose (levels.var d (wire_key wire)) (levels.var d (value_key x)) (term.constant (program.width d.world x) 0)) stop else stop)) }
 {
-    if is_register(setting, x) {
+    if setting.program.is_register(x) {
         let now = value_variable(alloc, setting, x)?;
         let value = kept(alloc, setting, wire, x, now)?;
         set_value(alloc, setting, out, x, value)

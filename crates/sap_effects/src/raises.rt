@@ -16,9 +16,10 @@ ghost use Rattle.sap_terms.specs.Code.{entities_in, setting_in, spot_in, world_i
 use crate::pushes::{push, set_tag, wire_variable};
 use sap_ir::guarded::Act;
 use sap_ir::plain::nested::PlainCmd;
-use sap_program::program::{Sort, Step};
+use sap_program::program::Step;
 use sap_program::spot::Spot;
-use sap_terms::calcs::{bits, is_dynamic, is_memory, is_state, lub, tag_variable};
+use sap_terms::calcs::{bits, lub, tag_variable};
+use sap_terms::entities::is_saved;
 use sap_terms::names::first_name;
 use sap_terms::setting::Setting;
 use std::alloc::{AllocError, Global};
@@ -89,7 +90,7 @@ pub fn raise_alone(
 {
     match step {
         Step::Goto { .. } => {
-            if is_dynamic(setting, at.state) {
+            if setting.program.is_dynamic(at.state) {
                 raise_entity(alloc, setting, out, at.state, wire)
             } else {
                 Ok(())
@@ -103,26 +104,14 @@ pub fn raise_alone(
     }
 }
 
-/// The number of the last state inside a state.
-fn last(setting: &Setting<'_>, x: usize) -> usize
-    ensures { result ≡ program.last (world_in setting.now) x }
-{
-    match setting.program.entities.get(x) {
-        Some(entity) => match entity.sort {
-            Sort::State { last, .. } => last,
-            Sort::Input => 0,
-            Sort::Register => 0,
-            Sort::Memory(_) => 0,
-        },
-        None => 0,
-    }
-}
-
 /// Whether a goto to the target resets the tag of an entity.
 fn is_reset(setting: &Setting<'_>, target: usize, x: usize) -> bool
     ensures { result ≡ spec.resets (world_in setting.now) target x }
 {
-    is_state(setting, x) && target < x && x <= last(setting, target) && is_dynamic(setting, x)
+    setting.program.is_state(x)
+        && target < x
+        && x <= setting.program.last(target)
+        && setting.program.is_dynamic(x)
 }
 
 /// Resets one tag, where a goto to the target does.
@@ -178,7 +167,7 @@ fn save(
     ensures { let d = setting_in setting.now in
         OnOk result (body_of out.new.items ≡ follow (body_of out.old.items) (if states.saved d.world x then spec.gives d (first_key x) (levels.var d (tag_key x)) stop else stop)) }
 {
-    if is_memory(setting, x) && is_dynamic(setting, x) {
+    if is_saved(setting, x) {
         let name = first_name(alloc, setting, x)?;
         let tag = tag_variable(alloc, setting, x)?;
         push(out, Act::Set(name, tag))

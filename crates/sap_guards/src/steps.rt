@@ -14,33 +14,21 @@ ghost use Rattle.sap_terms.specs.Code.{entities_in, setting_in, spot_in, world_i
 use sap_bits::Op2;
 use sap_ir::guarded::Calc;
 use sap_ir::plain::seats;
-use sap_lattice::level::Level;
 use sap_program::program::{Number, State, Step, TagOf};
 use sap_program::spot::Spot;
 use sap_terms::calcs::{
-    authority, below_or_at, bits, cell_variable, child_count, enters, expr, is_dynamic, is_number,
-    lub, new_tag, tag_of, tag_variable, told_tag, yes,
+    below_or_at, bits, cell_variable, enters, expr, is_number, lub, new_tag, tag_of, tag_variable,
+    told_tag, yes,
 };
 use sap_terms::names::seat_name;
 use sap_terms::setting::Setting;
 use std::alloc::{AllocError, Global};
 
-/// What entering a state tells at least.
-fn entry_level(setting: &Setting<'_>, state: usize) -> Level
-    ensures { result ≡ entry (world_in setting.now) state }
-{
-    if is_dynamic(setting, state) {
-        setting.lattice.bottom()
-    } else {
-        authority(setting, state)
-    }
-}
-
 /// The width of the number of a state's current child.
 fn seat_bits(setting: &Setting<'_>, state: usize) -> u32
     ensures { result ≡ spec.seat_bits (setting_in setting.now) state }
 {
-    seats::width(child_count(setting, state))
+    seats::width(setting.program.child_count(state))
 }
 
 /// The number of a state's current child.
@@ -109,7 +97,8 @@ fn all_dynamic(setting: &Setting<'_>, children: &[State]) -> bool
 {
     match children {
         [] => true,
-        [first, rest @ ..] => is_dynamic(setting, first.number) && all_dynamic(setting, rest),
+        [first, rest @ ..] => setting.program.is_dynamic(first.number)
+            && all_dynamic(setting, rest),
     }
 }
 
@@ -141,22 +130,25 @@ pub fn guard_of(
 {
     match step {
         Step::Set { register, .. } => {
-            if is_dynamic(setting, *register) {
+            if setting.program.is_dynamic(*register) {
                 Ok(bits(setting, setting.lattice.bottom()))
             } else {
                 tag_variable(alloc, setting, *register)
             }
         }
         Step::Write { memory, index, .. } => {
-            if is_dynamic(setting, *memory) {
+            if setting.program.is_dynamic(*memory) {
                 Ok(bits(setting, setting.lattice.bottom()))
             } else {
                 cell_guard(alloc, setting, *memory, index)
             }
         }
-        Step::Retag { entity, .. } => Ok(bits(setting, authority(setting, *entity))),
-        Step::RetagCell { memory, .. } => Ok(bits(setting, authority(setting, *memory))),
-        Step::Goto { target, .. } => Ok(bits(setting, entry_level(setting, *target))),
+        Step::Retag { entity, .. } => Ok(bits(setting, setting.program.authority(*entity))),
+        Step::RetagCell { memory, .. } => Ok(bits(setting, setting.program.authority(*memory))),
+        Step::Goto { target, .. } => Ok(bits(
+            setting,
+            setting.program.entry(setting.lattice, *target),
+        )),
         Step::Fall { .. } => {
             let width = seat_bits(setting, at.state);
             let seat = seat_of(alloc, setting, at.state)?;
@@ -273,8 +265,12 @@ fn may_retag(
         IfOk result (λ c. calcs.term_of c ≡ term.two Op2.And (spec.below_or_at (spec.lub (calcs.term_of context.now) (calcs.term_of told)) own) (spec.below_or_at own (spec.new_tag s (views.level_of tag.now)))) }
 {
     let level = in_context(alloc, context, told)?;
-    let told_below = below_or_at(alloc, level, bits(setting, authority(setting, entity)))?;
-    let own = bits(setting, authority(setting, entity));
+    let told_below = below_or_at(
+        alloc,
+        level,
+        bits(setting, setting.program.authority(entity)),
+    )?;
+    let own = bits(setting, setting.program.authority(entity));
     let new_above = below_new(alloc, setting, own, tag)?;
     Calc::two(alloc, Op2::And, told_below, new_above)
 }
@@ -290,10 +286,14 @@ fn may_leave(
     ensures { let s = setting_in setting.now in let w = world_in setting.now in
         IfOk result (λ c. calcs.term_of c ≡ (if program.is_dynamic w state then spec.yes else spec.below_or_at (spec.lub (calcs.term_of context.now) (spec.bits s (entry w target))) (spec.var s (tag_key state)))) }
 {
-    if is_dynamic(setting, state) {
+    if setting.program.is_dynamic(state) {
         Ok(yes())
     } else {
-        let level = in_context(alloc, context, bits(setting, entry_level(setting, target)))?;
+        let level = in_context(
+            alloc,
+            context,
+            bits(setting, setting.program.entry(setting.lattice, target)),
+        )?;
         let own = tag_variable(alloc, setting, state)?;
         below_or_at(alloc, level, own)
     }
@@ -333,7 +333,7 @@ pub fn test_of(
             value,
             ..
         } => {
-            if is_dynamic(setting, *register) {
+            if setting.program.is_dynamic(*register) {
                 Ok(yes())
             } else {
                 may_set(alloc, setting, context, *register, value)
@@ -345,7 +345,7 @@ pub fn test_of(
             value,
             ..
         } => {
-            if is_dynamic(setting, *memory) {
+            if setting.program.is_dynamic(*memory) {
                 Ok(yes())
             } else {
                 may_write(alloc, setting, context, *memory, index, value)
@@ -438,11 +438,12 @@ pub fn always(setting: &Setting<'_>, at: &Spot<'_>, step: &Step) -> bool
     ensures { result ≡ spec.always (world_in setting.now) (spot_in setting.now at.now) (views.step_of (entities_in setting.now) step.now) }
 {
     match step {
-        Step::Set { register, .. } => is_dynamic(setting, *register),
-        Step::Write { memory, .. } => is_dynamic(setting, *memory),
+        Step::Set { register, .. } => setting.program.is_dynamic(*register),
+        Step::Write { memory, .. } => setting.program.is_dynamic(*memory),
         Step::Retag { .. } => false,
         Step::RetagCell { .. } => false,
-        Step::Goto { target, .. } => is_dynamic(setting, *target) && is_dynamic(setting, at.state),
+        Step::Goto { target, .. } => setting.program.is_dynamic(*target)
+            && setting.program.is_dynamic(at.state),
         Step::Fall { .. } => all_dynamic(setting, at.children),
     }
 }

@@ -1,5 +1,6 @@
 -- What hangs on a command: as the numbers of entities, and as what is said of each entity.
-use Rattle.std.specs.Prelude.{ℕ, Bool, true, false, List, [], ◌∷◌, nat_eq, nat_lt, ◌||◌, ◌&&◌}
+use Rattle.std.specs.Prelude.{ℕ, Bool, true, List, [], ◌∷◌, nat_eq, nat_lt, ◌&&◌}
+use Rattle.std.specs.List.{list_any}
 use Rattle.sap_resolve.specs.Fill.{table}
 
 -- each number of a list is above the one before it
@@ -12,8 +13,7 @@ rises [] = true
 rises (x ∷ xs) = rises_from x xs
 
 abbrev pub hangs : List ℕ → ℕ → Bool
-hangs [] x = false
-hangs (y ∷ ys) x = nat_eq y x || hangs ys x
+hangs ys x = list_any (λ y. nat_eq y x) ys
 
 -- of each of the n entities, whether it hangs
 abbrev pub flags : (n : ℕ) → List ℕ → List Bool

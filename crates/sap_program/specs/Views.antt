@@ -1,5 +1,5 @@
 -- What the parts of a program are seen as. What hangs on a command is told of each of n entities.
-use Rattle.std.specs.Prelude.{ℕ, List, [], ◌∷◌, length, map}
+use Rattle.std.specs.Prelude.{ℕ, List, [], ◌∷◌, length, map, get_or}
 use Rattle.sap_maps.specs.Term.{Term, constant, read, cell, one, two, choose, join, part}
 use Rattle.sap_meaning.specs.Program.{LevelTerm, fixed, of, at_place, both, Arms, last_arm, Block, end_block, command_then, Group, no_node, and_node}
 use Rattle.sap_meaning.specs.Program as program
@@ -120,6 +120,10 @@ joined (and_node s rest) g = and_node s (joined rest g)
 -- how many entities there are
 abbrev pub count : Program → ℕ
 count p = length p.entities.items
+
+-- what is declared of the entity of a number
+abbrev pub entity_in : Program → ℕ → program.Entity
+entity_in p x = get_or (map entity_of p.entities.items) x program.nothing
 
 abbrev pub names_in : Program → List (List ℕ)
 names_in p = map (λ e. e.name) p.entities.items

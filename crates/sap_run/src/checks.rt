@@ -17,7 +17,6 @@ use sap_store::entries::{child, own, start_cell};
 use sap_store::environment::Environment;
 use sap_store::store::Store;
 use sap_store::terms::{new_level, see, told};
-use sap_store::world::{authority, entry, is_dynamic};
 
 /// The level of the child at a place, the bottom where there is none.
 #[tactic(auto, using(crate::proofs::Children::levels))]
@@ -40,7 +39,7 @@ pub(crate) fn child_level(
 fn opens(environment: &Environment<'_>, store: &Store, state: usize, context: Level) -> bool
     ensures { result ≡ checks.opens (world_in environment.now) state context (store_in environment.now store.now) }
 {
-    is_dynamic(environment, state)
+    environment.program.is_dynamic(state)
         || environment
             .lattice
             .le(context, own(environment, store, state).level)
@@ -70,7 +69,7 @@ pub(crate) fn register_level(
     ensures { let w = world_in environment.now in
         result ≡ (if program.is_dynamic w register then level else meaning.level w (meaning.own register) (store_in environment.now store.now)) }
 {
-    if is_dynamic(environment, register) {
+    if environment.program.is_dynamic(register) {
         level
     } else {
         own(environment, store, register).level
@@ -84,7 +83,7 @@ fn cell_guard(environment: &Environment<'_>, store: &Store, memory: usize, index
     ensures { let w = world_in environment.now in let s = store_in environment.now store.now in let i = views.term_of index.now in
         result ≡ (if program.is_dynamic w memory then w.order.bottom else w.order.join (expressions.tag w i s) (meaning.level w (meaning.start memory (expressions.value w i s)) s)) }
 {
-    if is_dynamic(environment, memory) {
+    if environment.program.is_dynamic(memory) {
         environment.lattice.bottom()
     } else {
         let index = see(environment, store, index);
@@ -110,9 +109,9 @@ pub(crate) fn guard(
             register_level(environment, store, *register, bottom)
         }
         Step::Write { memory, index, .. } => cell_guard(environment, store, *memory, index),
-        Step::Retag { entity, .. } => authority(environment, *entity),
-        Step::RetagCell { memory, .. } => authority(environment, *memory),
-        Step::Goto { target, .. } => entry(environment, *target),
+        Step::Retag { entity, .. } => environment.program.authority(*entity),
+        Step::RetagCell { memory, .. } => environment.program.authority(*memory),
+        Step::Goto { target, .. } => environment.program.entry(environment.lattice, *target),
         Step::Fall { .. } => {
             let place = child(environment, store, at.state) as usize;
             child_level(environment, store, at.children, place)
@@ -133,7 +132,7 @@ fn takes_number(
     ensures { let w = world_in environment.now in let s = store_in environment.now store.now in
         result ≡ (program.is_dynamic w register || w.order.le (w.order.join context (expressions.tag w (views.term_of value.now) s)) (meaning.level w (meaning.own register) s)) }
 {
-    if is_dynamic(environment, register) {
+    if environment.program.is_dynamic(register) {
         true
     } else {
         let value = see(environment, store, value);
@@ -159,7 +158,7 @@ fn takes_cell(
     ensures { let w = world_in environment.now in let s = store_in environment.now store.now in let i = views.term_of index.now in
         result ≡ (program.is_dynamic w memory || w.order.le (w.order.join context (w.order.join (expressions.tag w i s) (expressions.tag w (views.term_of value.now) s))) (meaning.level w (meaning.start memory (expressions.value w i s)) s)) }
 {
-    if is_dynamic(environment, memory) {
+    if environment.program.is_dynamic(memory) {
         true
     } else {
         let lattice = environment.lattice;
@@ -200,9 +199,9 @@ fn may_go(
         result ≡ (checks.opens w target context s && (program.is_dynamic w state || w.order.le (w.order.join context (checks.entry w target)) (meaning.level w (meaning.own state) s))) }
 {
     let lattice = environment.lattice;
-    let leaves = is_dynamic(environment, state)
+    let leaves = environment.program.is_dynamic(state)
         || {
-            let told = lattice.join(context, entry(environment, target));
+            let told = lattice.join(context, environment.program.entry(lattice, target));
             lattice.le(told, own(environment, store, state).level)
         };
     opens(environment, store, target, context) && leaves
@@ -234,7 +233,7 @@ pub(crate) fn test(
             ..
         } => takes_cell(environment, store, *memory, index, value, context),
         Step::Retag { entity, tag, .. } => {
-            let authority = authority(environment, *entity);
+            let authority = environment.program.authority(*entity);
             let told = lattice.join(context, told(environment, store, tag));
             sets_tag(environment, store, told, authority, tag)
         }
@@ -244,7 +243,7 @@ pub(crate) fn test(
             tag,
             ..
         } => {
-            let authority = authority(environment, *memory);
+            let authority = environment.program.authority(*memory);
             let index = see(environment, store, index);
             let both = lattice.join(told(environment, store, tag), index.level);
             let told = lattice.join(context, both);

@@ -23,7 +23,6 @@ use sap_store::entries::{
 use sap_store::environment::Environment;
 use sap_store::store::Store;
 use sap_store::terms::{new_level, see};
-use sap_store::world::{is_dynamic, place};
 
 /// How a step acts whose test held: in the body at a spot, in a context, behind what hangs, which a level raises.
 #[derive(Clone, Copy, Drop)]
@@ -65,7 +64,7 @@ fn raise_dynamic(environment: &Environment<'_>, store: &mut Store, memory: usize
         store_in environment.now store.new ≡ (if program.is_dynamic w memory then meaning.raise w.order (λ x. nat_eq x memory) level s else s) }
     ensures ready { Ready (world_in environment.now) store.new }
 {
-    if is_dynamic(environment, memory) {
+    if environment.program.is_dynamic(memory) {
         raise_one(environment, store, memory, level);
     }
 }
@@ -172,10 +171,10 @@ fn goto(environment: &Environment<'_>, store: &mut Store, here: &Situation<'_>, 
         environment,
         store,
         here.at.parent,
-        place(environment, target) as u32,
+        environment.program.place(target) as u32,
     );
     reset(environment, store, target);
-    if is_dynamic(environment, target) {
+    if environment.program.is_dynamic(target) {
         put_level(environment, store, target, here.context);
     }
 }

@@ -22,7 +22,6 @@ use sap_store::entries::{child, raise};
 use sap_store::environment::Environment;
 use sap_store::store::Store;
 use sap_store::terms::see;
-use sap_store::world::is_dynamic;
 
 /// The commands of a list, in order.
 #[cycle(run)]
@@ -168,7 +167,7 @@ fn raised_alone<'a>(
 {
     match step {
         Step::Goto { .. } => {
-            if is_dynamic(environment, at.state) {
+            if environment.program.is_dynamic(at.state) {
                 itself
             } else {
                 &[]

@@ -14,7 +14,6 @@ ghost use Rattle.sap_store.specs.Passes.{raised_one, reset_one, given_one, settl
 use crate::cell::Cell;
 use crate::environment::Environment;
 use crate::store::Store;
-use crate::world::{first_level, is_dynamic, is_input, is_state, last};
 use sap_lattice::level::Level;
 use sap_stream::inputs::{Inputs, Tagged};
 
@@ -41,8 +40,11 @@ pub fn start_cell(environment: &Environment<'_>, store: &Store, memory: usize, i
 {
     match store.entries.get(memory) {
         Some(entry) => {
-            let cell = entry.start.cell(i, first_level(environment, memory));
-            if is_dynamic(environment, memory) {
+            let cell = entry.start.cell(
+                i,
+                environment.program.first_level(environment.lattice, memory),
+            );
+            if environment.program.is_dynamic(memory) {
                 Cell {
                     number: cell.number,
                     level: entry.start.whole(),
@@ -53,7 +55,7 @@ pub fn start_cell(environment: &Environment<'_>, store: &Store, memory: usize, i
         }
         None => Cell {
             number: 0,
-            level: first_level(environment, memory),
+            level: environment.program.first_level(environment.lattice, memory),
         },
     }
 }
@@ -173,8 +175,8 @@ fn reset_state(environment: &Environment<'_>, store: &mut Store, x: usize)
     ensures store { store_in environment.now store.new ≡ reset_one (world_in environment.now) x (store_in environment.now store.old) }
     ensures ready { Ready (world_in environment.now) store.new }
 {
-    if is_state(environment, x) {
-        if is_dynamic(environment, x) {
+    if environment.program.is_state(x) {
+        if environment.program.is_dynamic(x) {
             put_level(environment, store, x, environment.lattice.bottom());
         }
         put_child(environment, store, x, 0);
@@ -190,7 +192,7 @@ pub fn reset(environment: &Environment<'_>, store: &mut Store, target: usize)
     ensures ready { Ready (world_in environment.now) store.new }
 {
     put_child(environment, store, target, 0);
-    let last = last(environment, target);
+    let last = environment.program.last(target);
     for x in target + 1..last + 1 {
         reset_state(environment, store, x);
     }
@@ -246,7 +248,7 @@ fn set_input(
     ensures before { result ≡ cycle.inputs_before (world_in environment.now).entities (suc x) }
     ensures few { result ≤ x + 1 }
 {
-    if is_input(environment, x) {
+    if environment.program.is_input(x) {
         let given = input_at(environment, inputs, k);
         put_number(environment, store, x, given.number());
         put_level(environment, store, x, given.level());

@@ -3,7 +3,6 @@
 ghost use Rattle.std.specs.Prelude.{◌≡◌, ◌<◌, ◌^◌, ◌+◌, ℕ, map, replicate, IfOk};
 ghost use Rattle.sap_meaning.specs.Program as program;
 ghost use Rattle.sap_meaning.specs.State.{first};
-ghost use Rattle.sap_program.specs.Views.{kind_of_sort};
 ghost use Rattle.sap_store.specs.Code.{store_in, world_in};
 ghost use Rattle.sap_store.specs.First.{started};
 ghost use Rattle.sap_store.specs.Kept.{Ready};
@@ -13,22 +12,9 @@ use crate::entry::Entry;
 use crate::environment::Environment;
 use crate::half::Half;
 use crate::store::Store;
-use crate::world::first_level;
 use sap_lattice::level::Level;
-use sap_program::program::{Entity, Sort};
+use sap_program::program::Entity;
 use std::alloc::{AllocError, Global};
-
-/// How many cells an entity has.
-fn depth(entity: &Entity) -> u64
-    ensures { result ≡ program.depth_of (kind_of_sort entity.now.sort) }
-{
-    match entity.sort {
-        Sort::Memory(depth) => depth,
-        Sort::State { .. } => 0,
-        Sort::Input => 0,
-        Sort::Register => 0,
-    }
-}
 
 /// What an entity starts with.
 fn first_entry(alloc: Global, bottom: Level, entity: &Entity) -> Result<Entry, AllocError>
@@ -39,7 +25,7 @@ fn first_entry(alloc: Global, bottom: Level, entity: &Entity) -> Result<Entry, A
     } else {
         entity.declared
     };
-    let depth = depth(entity);
+    let depth = entity.sort.depth();
     let start = Half::new(alloc, depth, level)?;
     let next = Half::new(alloc, depth, level)?;
     Ok(Entry {

@@ -9,4 +9,3 @@ pub mod first;
 mod half;
 pub mod store;
 pub mod terms;
-pub mod world;

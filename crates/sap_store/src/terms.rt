@@ -1,7 +1,6 @@
 //! What expressions show.
 
-ghost use Rattle.std.specs.Prelude.{◌≡◌, ◌≤◌, ◌^◌};
-ghost use Rattle.sap_bits.specs.Arithmetic as arithmetic;
+ghost use Rattle.std.specs.Prelude.{◌≡◌};
 ghost use Rattle.sap_meaning.specs.Expressions as expressions;
 ghost use Rattle.sap_program.specs.Views as views;
 ghost use Rattle.sap_store.specs.Able.{AbleLevel, AbleTerm};
@@ -11,10 +10,10 @@ ghost use Rattle.sap_store.specs.Kept.{Ready};
 use crate::entries::{own, start_cell};
 use crate::environment::Environment;
 use crate::store::Store;
-use crate::world::width;
-use sap_bits::{Op1, Op2, apply1, apply2, concat, slice};
+use sap_bits::{apply1, apply2, concat, slice};
 use sap_lattice::level::Level;
 use sap_program::program::{Number, TagOf};
+use sap_program::widths::{one_width, two_width};
 
 /// What an expression shows: its width, its number and its level.
 #[derive(Clone, Copy)]
@@ -22,31 +21,6 @@ pub struct Seen {
     pub width: u32,
     pub number: u64,
     pub level: Level,
-}
-
-/// The width of what an operator gives.
-fn one_width(op: Op1, width: u32) -> u32
-    ensures { result ≡ arithmetic.width1 op width }
-{
-    match op {
-        Op1::Not => width,
-        Op1::Neg => width,
-        Op1::AllOnes => 1,
-        Op1::AnyOne => 1,
-        Op1::Odd => 1,
-    }
-}
-
-fn two_width(op: Op2, width: u32) -> u32
-    ensures { result ≡ arithmetic.width2 op width }
-{
-    match op {
-        Op2::Eq => 1,
-        Op2::Ne => 1,
-        Op2::Lt => 1,
-        Op2::Le => 1,
-        _ => width,
-    }
 }
 
 /// An expression. Memories are read as the cycle began.
@@ -68,7 +42,7 @@ pub fn see(environment: &Environment<'_>, store: &Store, e: &Number) -> Seen
         Number::Read(x) => {
             let cell = own(environment, store, *x);
             Seen {
-                width: width(environment, *x) as u32,
+                width: environment.program.width(*x) as u32,
                 number: cell.number,
                 level: cell.level,
             }
@@ -77,7 +51,7 @@ pub fn see(environment: &Environment<'_>, store: &Store, e: &Number) -> Seen
             let index = see(environment, store, index);
             let cell = start_cell(environment, store, *memory, index.number);
             Seen {
-                width: width(environment, *memory) as u32,
+                width: environment.program.width(*memory) as u32,
                 number: cell.number,
                 level: lattice.join(index.level, cell.level),
             }

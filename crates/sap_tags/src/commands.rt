@@ -460,7 +460,7 @@ fn pick_block(
 {
     let seen = Sized {
         wire: k + 2,
-        width: width_of(setting, number) as u32,
+        width: width_of(setting, number),
     };
     let picked = Sized {
         wire: k + 3,

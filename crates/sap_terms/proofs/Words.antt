@@ -1,15 +1,13 @@
 -- Entities and their words, as the code takes them.
-use Rattle.std.proofs.Common.{◌≡◌, ℕ, ◌-◌, ◌+◌, zero, suc, ◌++◌, ◌^◌, ◌<◌, ◌≤◌, Bool, map, length, get_or, true, false, refl, ap, ◌∙◌, arith, nat_lt, if◌then◌else◌}
+use Rattle.std.proofs.Common.{◌≡◌, ℕ, ◌-◌, ◌+◌, zero, suc, ◌++◌, ◌^◌, ◌<◌, ◌≤◌, Bool, length, true, false, refl, ap, ◌∙◌, arith, nat_lt, if◌then◌else◌}
 use Rattle.std.specs.Prelude.{codes, ◌==◌}
-use Rattle.std.proofs.lemmas.List.{get_or-map, get_or_past}
 use Rattle.std.specs.Fmt.{decimal}
 use Rattle.sap_lemmas.proofs.Lists.{length_map}
 use Rattle.std.proofs.lemmas.Bool.{le-ltb}
 use Rattle.sap_resolve.proofs.SizedLemmas.{ranged_width}
 use Rattle.sap_lattice.specs.Levels.{Levels}
-use Rattle.sap_interface.specs.StandsFor.{name, world}
-use Rattle.sap_meaning.specs.Program.{World, entity, nothing}
-use Rattle.sap_program.specs.declared.program.Entity.{Entity}
+use Rattle.sap_interface.specs.StandsFor.{name}
+use Rattle.sap_meaning.specs.Program.{World}
 use Rattle.sap_program.specs.declared.program.Program.{Program}
 use Rattle.sap_program.specs.Views.{entity_of}
 use Rattle.sap_tagged.specs.Keys.{seat_key, numeral, entity_word, key_name}
@@ -40,23 +38,10 @@ number_word k h = numeral_decimal k h
 
 pub ruleset words = (word_past, seat_word_is, root_word_is, number_word)
 
--- entities
-
-pub entity_found : (ls : Levels) (p : Program) (x : ℕ) (e : Entity) → x < length p.entities.items → get_or p.entities.items x e ≡ e → entity (world (named_over ls p)) x ≡ entity_of e
-entity_found ls p x e l i = get_or-map entity_of p.entities.items x e nothing l ∙ ap entity_of i
-
-pub entity_past : (ls : Levels) (p : Program) (x : ℕ) → length p.entities.items ≤ x → entity (world (named_over ls p)) x ≡ nothing
-entity_past ls p x l = get_or_past (map entity_of p.entities.items) x nothing (let e : length (map entity_of p.entities.items) ≡ length p.entities.items = length_map entity_of p.entities.items in omega (arith, e, l))
-
-pub ruleset entities = (entity_found, entity_past)
-
 -- widths
 
 pub part_within : (w : World) (a : Term ℕ) (hi lo : ℕ) → RangedTerm w (part a hi lo) → (lo ≤ hi) × (hi < 64)
 part_within w a hi lo r = let wide : width_of w a ≤ 64 = (ranged_width w a r.2).1 in let high : hi < width_of w a = r.1 in (r.0, omega (arith, wide, high))
-
-pub width_within : (w : World) (e : Term ℕ) → RangedTerm w e → width_of w e ≤ 64
-width_within w e r = (ranged_width w e r).1
 
 -- places
 

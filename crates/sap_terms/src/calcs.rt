@@ -1,100 +1,24 @@
 //! The terms of numbers and of levels.
 
 ghost use Rattle.std.specs.Prelude.{◌≡◌, ◌+◌, ◌<◌, IfOk};
-ghost use Rattle.sap_bits.specs.Arithmetic as arithmetic;
 ghost use Rattle.sap_ir.specs.Calcs as calcs;
 ghost use Rattle.sap_maps.specs.Term as term;
 ghost use Rattle.sap_meaning.specs.Program as program;
 ghost use Rattle.sap_meaning.specs.Expressions as expressions;
 ghost use Rattle.sap_program.specs.Views as views;
 ghost use Rattle.sap_resolve.specs.Sized.Ranges.{RangedLevel, RangedTerm};
-ghost use Rattle.sap_tagged.specs.Keys.{first_key, tag_key};
+ghost use Rattle.sap_tagged.specs.Keys.{tag_key};
 ghost use Rattle.sap_tagged.specs.Levels as spec;
 ghost use Rattle.sap_terms.specs.Code.{setting_in, world_in};
 
 use crate::names::{first_name, tag_name, value_name};
 use crate::setting::Setting;
-use sap_bits::{Op1, Op2};
+use sap_bits::Op2;
 use sap_ir::guarded::Calc;
 use sap_lattice::level::Level;
-use sap_program::program::{Number, Sort, TagOf};
+use sap_program::program::{Number, TagOf};
+use sap_program::widths::{one_width, two_width};
 use std::alloc::{AllocError, Global};
-
-/// Whether an entity is dynamic; of none it is said that it is.
-#[tactic(auto, using(crate::proofs::Words::entities))]
-pub fn is_dynamic(setting: &Setting<'_>, x: usize) -> bool
-    ensures { result ≡ program.is_dynamic (world_in setting.now) x }
-{
-    match setting.program.entities.get(x) {
-        Some(entity) => entity.dynamic,
-        None => true,
-    }
-}
-
-/// Whether an entity is a register.
-#[tactic(auto, using(crate::proofs::Words::entities))]
-pub fn is_register(setting: &Setting<'_>, x: usize) -> bool
-    ensures { result ≡ program.is_register (world_in setting.now) x }
-{
-    match setting.program.entities.get(x) {
-        Some(entity) => matches!(entity.sort, Sort::Register),
-        None => false,
-    }
-}
-
-/// Whether an entity is a memory.
-#[tactic(auto, using(crate::proofs::Words::entities))]
-pub fn is_memory(setting: &Setting<'_>, x: usize) -> bool
-    ensures { result ≡ program.is_memory (world_in setting.now) x }
-{
-    match setting.program.entities.get(x) {
-        Some(entity) => matches!(entity.sort, Sort::Memory(_)),
-        None => false,
-    }
-}
-
-/// Whether an entity is a state; of none it is said that it is.
-#[tactic(auto, using(crate::proofs::Words::entities))]
-pub fn is_state(setting: &Setting<'_>, x: usize) -> bool
-    ensures { result ≡ program.is_state (world_in setting.now) x }
-{
-    match setting.program.entities.get(x) {
-        Some(entity) => matches!(entity.sort, Sort::State { .. }),
-        None => true,
-    }
-}
-
-/// The width of an entity's number, 0 where it has none.
-#[tactic(auto, using(crate::proofs::Words::entities))]
-pub fn entity_width(setting: &Setting<'_>, x: usize) -> u64
-    ensures { result ≡ program.width (world_in setting.now) x }
-{
-    match setting.program.entities.get(x) {
-        Some(entity) => entity.width,
-        None => 0,
-    }
-}
-
-/// The authority of an entity; of none the first level.
-#[tactic(auto, using(crate::proofs::Words::entities))]
-pub fn authority(setting: &Setting<'_>, x: usize) -> Level
-    ensures { result ≡ program.authority (world_in setting.now) x }
-{
-    match setting.program.entities.get(x) {
-        Some(entity) => entity.authority,
-        None => Level::new(0),
-    }
-}
-
-/// How many children an entity has, or the root.
-pub fn child_count(setting: &Setting<'_>, p: usize) -> usize
-    ensures { result ≡ program.children (world_in setting.now) p }
-{
-    match setting.program.children.get(p) {
-        Some(count) => *count,
-        None => 0,
-    }
-}
 
 /// The code of a level.
 pub fn bits(setting: &Setting<'_>, level: Level) -> Calc
@@ -145,7 +69,7 @@ pub fn enters(
 ) -> Result<Calc, AllocError>
     ensures { IfOk result (λ c. calcs.term_of c ≡ spec.enters (setting_in setting.now) (calcs.term_of context) state) }
 {
-    if is_dynamic(setting, state) {
+    if setting.program.is_dynamic(state) {
         Ok(yes())
     } else {
         let own = tag_variable(alloc, setting, state)?;
@@ -183,40 +107,15 @@ fn join(alloc: Global, a: Calc, b: Calc) -> Result<Calc, AllocError>
     Ok(Calc::concat(parts))
 }
 
-/// The width of what an operator gives.
-fn one_width(op: Op1, width: u64) -> u64
-    ensures { result ≡ arithmetic.width1 op width }
-{
-    match op {
-        Op1::Not => width,
-        Op1::Neg => width,
-        Op1::AllOnes => 1,
-        Op1::AnyOne => 1,
-        Op1::Odd => 1,
-    }
-}
-
-fn two_width(op: Op2, width: u64) -> u64
-    ensures { result ≡ arithmetic.width2 op width }
-{
-    match op {
-        Op2::Eq => 1,
-        Op2::Ne => 1,
-        Op2::Lt => 1,
-        Op2::Le => 1,
-        _ => width,
-    }
-}
-
 /// The width of an expression.
-pub fn width_of(setting: &Setting<'_>, e: &Number) -> u64
+pub fn width_of(setting: &Setting<'_>, e: &Number) -> u32
     requires { RangedTerm (world_in setting.now) (views.term_of e.now) }
     ensures { result ≡ expressions.width_of (world_in setting.now) (views.term_of e.now) }
 {
     match e {
-        Number::Constant { width, .. } => *width,
-        Number::Read(x) => entity_width(setting, *x),
-        Number::Cell { memory, .. } => entity_width(setting, *memory),
+        Number::Constant { width, .. } => *width as u32,
+        Number::Read(x) => setting.program.width(*x) as u32,
+        Number::Cell { memory, .. } => setting.program.width(*memory) as u32,
         Number::One(op, a) => one_width(*op, width_of(setting, a)),
         Number::Two(op, a, _) => two_width(*op, width_of(setting, a)),
         Number::Choose(_, a, _) => width_of(setting, a),
@@ -225,7 +124,7 @@ pub fn width_of(setting: &Setting<'_>, e: &Number) -> u64
             let back = width_of(setting, b);
             front + back
         }
-        Number::Part { hi, lo, .. } => *hi - *lo + 1,
+        Number::Part { hi, lo, .. } => (*hi - *lo + 1) as u32,
     }
 }
 
@@ -298,7 +197,7 @@ fn cell_tag(
     requires { RangedTerm (world_in setting.now) (views.term_of index.now) }
     ensures { IfOk result (λ c. calcs.term_of c ≡ spec.cell_tag (setting_in setting.now) memory (views.term_of index.now)) }
 {
-    if is_dynamic(setting, memory) {
+    if setting.program.is_dynamic(memory) {
         Ok(Calc::Read(first_name(alloc, setting, memory)?))
     } else {
         cell_variable(alloc, setting, memory, index)
@@ -399,7 +298,7 @@ fn level_at(alloc: Global, setting: &Setting<'_>, e: &Number) -> Result<Calc, Al
     requires { RangedTerm (world_in setting.now) (views.term_of e.now) }
     ensures { IfOk result (λ c. calcs.term_of c ≡ spec.new_tag (setting_in setting.now) (program.at_place (views.term_of e.now))) }
 {
-    let width = width_of(setting, e) as u32;
+    let width = width_of(setting, e);
     let number = expr(alloc, setting, e)?;
     let place = widened(alloc, width, number)?;
     setting.lattice.lawful();

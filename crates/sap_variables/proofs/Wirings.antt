@@ -15,7 +15,7 @@ use Rattle.sap_program.specs.declared.program.State.{State, out-State}
 use Rattle.sap_program.specs.Views.{term_of, commands_in, arm_block, arms_before, command_of, block_of, state_of, group_of}
 use Rattle.sap_meaning.specs.Expressions.{width_of}
 use Rattle.sap_ir.specs.Plain.Nested.{seat_width}
-use Rattle.sap_terms.specs.StandsFor.{Named, world}
+use Rattle.sap_interface.specs.StandsFor.{Named, world}
 use Rattle.sap_tagged.specs.Commands.{pick_width, wires, wires_block}
 use Rattle.sap_tagged.specs.States.{wires_state, wires_group}
 use Rattle.sap_tagged.specs.Plain.{wire, site_wires, command_wires, arms_wires, block_wires, state_wires, group_wires}

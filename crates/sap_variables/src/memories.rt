@@ -7,8 +7,7 @@ ghost use Rattle.sap_tagged.specs.Plain.{memories_of, memory_of, tags_of};
 ghost use Rattle.sap_terms.specs.Code.{named_in, tag_width, world_in};
 
 use sap_ir::guarded::Store;
-use sap_terms::calcs::{entity_width, is_dynamic, is_memory};
-use sap_terms::entities::{depth, first_code};
+use sap_terms::entities::first_code;
 use sap_terms::names::{tag_name, value_name};
 use sap_terms::setting::Setting;
 use std::alloc::{AllocError, Global};
@@ -24,14 +23,14 @@ fn add_memory(
     requires memory { program.is_memory (world_in setting.now) m ≡ true }
     ensures { OnOk result (memories.new.items ≡ memories.old.items ++ (memory_of (named_in setting.now) m ∷ tags_of (named_in setting.now) (tag_width setting.now) m)) }
 {
-    let depth = depth(setting, m) as u32;
+    let depth = setting.program.depth(m) as u32;
     memories.push(Store {
         name: value_name(alloc, setting, m)?,
-        width: entity_width(setting, m) as u32,
+        width: setting.program.width(m) as u32,
         depth,
         start: 0,
     })?;
-    if !is_dynamic(setting, m) {
+    if !setting.program.is_dynamic(m) {
         memories.push(Store {
             name: tag_name(alloc, setting, m)?,
             width: setting.lattice.width(),
@@ -52,7 +51,7 @@ pub fn add_memories(
     ensures { OnOk result (memories.new.items ≡ memories.old.items ++ memories_of (named_in setting.now) (tag_width setting.now)) }
 {
     for m in 0..setting.program.entities.len() {
-        if is_memory(setting, m) {
+        if setting.program.is_memory(m) {
             add_memory(alloc, setting, memories, m)?;
         }
     }

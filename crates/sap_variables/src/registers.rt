@@ -8,8 +8,7 @@ ghost use Rattle.sap_terms.specs.Code.{named_in, tag_width, world_in};
 
 use sap_ir::guarded::Var;
 use sap_ir::plain::seats;
-use sap_terms::calcs::{child_count, entity_width, is_register};
-use sap_terms::entities::{first_code, first_number, has_tag, is_input};
+use sap_terms::entities::{first_code, has_tag};
 use sap_terms::names::{seat_name, tag_name, value_name};
 use sap_terms::setting::Setting;
 use std::alloc::{AllocError, Global};
@@ -26,7 +25,7 @@ fn add_value(
     ensures { OnOk result (variables.new.items ≡ variables.old.items ++ value_var (named_in setting.now) x start ∷ []) }
 {
     let name = value_name(alloc, setting, x)?;
-    let width = entity_width(setting, x) as u32;
+    let width = setting.program.width(x) as u32;
     variables.push(Var { name, width, start })?;
     Ok(())
 }
@@ -57,7 +56,7 @@ fn add_seat(
     ensures { OnOk result (variables.new.items ≡ variables.old.items ++ seat_var (named_in setting.now) p ∷ []) }
 {
     let name = seat_name(alloc, setting, p)?;
-    let width = seats::width(child_count(setting, p));
+    let width = seats::width(setting.program.child_count(p));
     variables.push(Var {
         name,
         width,
@@ -76,7 +75,7 @@ pub fn add_inputs(
     ensures { OnOk result (inputs.new.items ≡ inputs.old.items ++ inputs_of (named_in setting.now) (tag_width setting.now)) }
 {
     for x in 0..setting.program.entities.len() {
-        if is_input(setting, x) {
+        if setting.program.is_input(x) {
             add_value(alloc, setting, inputs, x, 0)?;
             add_tag(alloc, setting, inputs, x, 0)?;
         }
@@ -94,8 +93,14 @@ pub fn add_shown_registers(
     ensures { OnOk result (registers.new.items ≡ registers.old.items ++ shown_registers (named_in setting.now) (tag_width setting.now)) }
 {
     for x in 0..setting.program.entities.len() {
-        if is_register(setting, x) {
-            add_value(alloc, setting, registers, x, first_number(setting, x))?;
+        if setting.program.is_register(x) {
+            add_value(
+                alloc,
+                setting,
+                registers,
+                x,
+                setting.program.first_number(x),
+            )?;
             add_tag(alloc, setting, registers, x, first_code(setting, x))?;
         }
     }
@@ -128,7 +133,7 @@ pub fn add_seat_registers(
 {
     let root = setting.program.entities.len();
     for p in 0..root {
-        if child_count(setting, p) > 0 {
+        if setting.program.child_count(p) > 0 {
             add_seat(alloc, setting, registers, p)?;
         }
     }

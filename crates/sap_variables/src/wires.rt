@@ -13,7 +13,7 @@ ghost use Rattle.sap_terms.specs.Code.{entities_in, named_in, tag_width};
 use sap_ir::guarded::Var;
 use sap_ir::plain::seats;
 use sap_program::program::{Arm, Command, State};
-use sap_terms::calcs::{child_count, width_of};
+use sap_terms::calcs::width_of;
 use sap_terms::entities::is_saved;
 use sap_terms::names::{first_name, inner_name, level_name, refused_name, wire_name};
 use sap_terms::setting::Setting;
@@ -121,7 +121,7 @@ pub fn add_inner_wires(
     ensures { OnOk result (wires.new.items ≡ wires.old.items ++ plain.inner_wires (named_in setting.now) (tag_width setting.now)) }
 {
     for state in 0..setting.program.entities.len() {
-        if child_count(setting, state) > 0 {
+        if setting.program.child_count(state) > 0 {
             add_inner(alloc, setting, wires, state)?;
         }
     }
@@ -214,7 +214,7 @@ fn add_command(
             let tag = setting.lattice.width();
             add_wire(alloc, setting, wires, k, tag)?;
             add_wire(alloc, setting, wires, k + 1, tag)?;
-            let width = width_of(setting, number) as u32;
+            let width = width_of(setting, number);
             add_wire(alloc, setting, wires, k + 2, width)?;
             let width = seats::width(arms.len() + 1);
             add_wire(alloc, setting, wires, k + 3, width)?;

@@ -2,16 +2,9 @@ use Rattle.std.proofs.Common.{◌≡◌, ◌+◌, OnOk, length, map, subst, arit
 use Rattle.sap_ir.specs.Plain.Nested.{Body}
 use Rattle.sap_ir.specs.Plain.Views.{body_of}
 use Rattle.sap_ir.proofs.plain.SeatWidths.{seat_least}
-use Rattle.sap_program.specs.Views.{term_of}
-use Rattle.sap_terms.specs.Code.{entities_in, setting_in, world_in}
-use Rattle.sap_terms.proofs.Words.{width_within}
+use Rattle.sap_terms.specs.Code.{entities_in, setting_in}
 use Rattle.sap_effects.proofs.Picked.{block_picked}
 use Rattle.sap_tags.proofs.commands.pick_block.Goals as goal
-
-pub overflow_cast-seen : goal.overflow_cast-seen
-overflow_cast-seen c =
-    let l = width_within (world_in c.args.setting.now) (term_of c.args.number.now) c.requires.ranged in
-    omega (arith, l, c.width_of.ensures)
 
 pub decide_block-requires : goal.decide_block-requires
 decide_block-requires c =

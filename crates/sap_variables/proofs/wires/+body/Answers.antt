@@ -1,7 +1,6 @@
 use Rattle.std.proofs.Common.{◌≡◌, ◌+◌, ◌∙◌, IfOk, OnOk, ap, sym, subst, arith}
-use Rattle.sap_program.specs.Views.{block_of, command_of, term_of}
-use Rattle.sap_terms.specs.Code.{entities_in, named_in, tag_width, world_in}
-use Rattle.sap_terms.proofs.Words.{width_within}
+use Rattle.sap_program.specs.Views.{block_of, command_of}
+use Rattle.sap_terms.specs.Code.{entities_in, named_in, tag_width}
 use Rattle.sap_ir.specs.Plain.Nested.{seat_width}
 use Rattle.sap_tagged.specs.Commands.{wires, wires_block}
 use Rattle.sap_terms.specs.Parts.{CommandFew, CommandRanged, CommandsFew, CommandsRanged, arm_wires, commands_wires}
@@ -166,11 +165,6 @@ add_command-overflow_add-k-in-Case t c =
 
 pub add_command-width_of-width-requires : goal.add_command-width_of-width-requires
 add_command-width_of-width-requires t c = ranged_number c.args.setting.now c.args.command.now c.in-Case.hang c.in-Case.number c.in-Case.arms c.in-Case.last c.in-Case.is c.requires.ranged
-
-pub add_command-overflow_cast-width : goal.add_command-overflow_cast-width
-add_command-overflow_cast-width t c =
-    let l = width_within (world_in c.args.setting.now) (term_of c.in-Case.number) (ranged_number c.args.setting.now c.args.command.now c.in-Case.hang c.in-Case.number c.in-Case.arms c.in-Case.last c.in-Case.is c.requires.ranged) in
-    omega (arith, l, c.width_of-width.ensures)
 
 pub add_command-overflow_add-k-in-Case-2 : goal.add_command-overflow_add-k-in-Case-2
 add_command-overflow_add-k-in-Case-2 t c =
