@@ -16,7 +16,7 @@ kind_of_command (set_cell_tag place target index tag) = kind.SetTag
 kind_of_command (go_to place target) = kind.Goto
 kind_of_command (fall_to_child place) = kind.Fall
 
--- what may refuse it: its target, and for a `fall` the state in whose body it stands
+-- the name that a report and a trace tell with it: its target, and for a `fall` the state in whose body it stands
 abbrev pub target_of : Surroundings → SimpleCommand → List ℕ
 target_of h (assign target e) = target.name
 target_of h (write target index e) = target.name

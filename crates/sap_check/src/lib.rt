@@ -5,6 +5,7 @@ mod body;
 pub mod check;
 pub mod checked;
 pub mod examples;
+pub mod law;
 mod parts;
 pub mod point;
 mod points;

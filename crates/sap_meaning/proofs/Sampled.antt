@@ -1,12 +1,12 @@
 -- The sample program meets the premises.
-use Rattle.std.proofs.Common.{◌≡◌, ℕ, zero, suc, ◌<◌, ◌^◌, Bool, true, false, ◌&&◌, ◌||◌, [], refl, arith, nat_eq, inl, inr, if◌then◌else◌}
+use Rattle.std.proofs.Common.{◌≡◌, ℕ, zero, suc, ◌<◌, ◌^◌, Bool, true, false, ◌&&◌, ◌||◌, [], refl, arith, nat_eq, nat_lt, nat_le, inl, inr, if◌then◌else◌}
 use Rattle.std.proofs.lemmas.Bool.{cases_Bool, eqb-true, or_cases}
 use Rattle.std.proofs.lemmas.Grind.{common_steps}
 use Rattle.sap_lemmas.proofs.Bools.{and_false}
 use Rattle.sap_lattice.specs.Order.{Laws}
 use Rattle.sap_maps.specs.Term.{constant, read, cell, two}
 use Rattle.sap_bits.specs.declared.Op2.TheVariants.{Eq}
-use Rattle.sap_meaning.specs.Program.{entity, is_dynamic, is_input, authority, width, below, listed, assign, write, go_to, fall_to_child, Command, lone, try, if_else, end_block, command_then, state_node, no_node, and_node}
+use Rattle.sap_meaning.specs.Program.{entity, is_dynamic, is_input, authority, width, is_state, below, listed, assign, write, go_to, fall_to_child, Command, lone, try, if_else, end_block, command_then, state_node, no_node, and_node}
 use Rattle.sap_meaning.specs.Checks.{Spot}
 use Rattle.sap_meaning.specs.Touches.{touches, root_touches}
 use Rattle.sap_meaning.specs.Fine.{FineNode, FineProgram, ExactProgram, ExactList, reaches, block_reaches, OnceState, inside}
@@ -134,11 +134,16 @@ inputs (suc (suc (suc (suc (suc (suc (suc (suc (suc x))))))))) h = refl
 above : (x : ℕ) → two_levels.le (authority sample_world x) (entity sample_world x).declared ≡ true
 above = each (λ x. two_levels.le (authority sample_world x) (entity sample_world x).declared) (λ x. true) refl refl refl refl refl refl refl refl refl (λ x. refl)
 
-in_kids : (x : ℕ) → inside sample_kids x ≡ true → below sample_world 5 x ≡ true
-in_kids x h = elim (or_cases (nat_eq x 6) _ h) [
-  | inl e ↦ rw (eqb-true x 6 e) refl
-  | inr e ↦ elim (or_cases (nat_eq x 7) false e) [ inl f ↦ rw (eqb-true x 7 f) refl | inr f ↦ cc ]
-]
+in_kids : (x : ℕ) → inside sample_kids x ≡ below sample_world 5 x
+in_kids = each (inside sample_kids) (below sample_world 5) refl refl refl refl refl refl refl refl refl
+    (λ x. rw (far x 6 (omega arith), far x 7 (omega arith)) (past 5 x 7 (omega arith)))
+  where
+    past : (s x l : ℕ) → l < 9 → false ≡ (nat_lt s (suc (suc (suc (suc (suc (suc (suc (suc (suc x))))))))) && nat_le (suc (suc (suc (suc (suc (suc (suc (suc (suc x))))))))) l)
+    past s x l h = grind (arith, common_steps)
+
+-- no number is after s and up to s
+childless : (s x : ℕ) (b : Bool) → false ≡ (b && (nat_lt s x && nat_le x s))
+childless s x b = grind (arith, common_steps)
 
 differ : (m j k : ℕ) → nat_eq j k ≡ false → nat_eq m j ≡ true → nat_eq m k ≡ false
 differ m j k e h = rw (eqb-true m j h) e
@@ -174,7 +179,7 @@ node_c = record {
   kind = refl;
   placed = refl;
   count = refl;
-  numbers = λ x h. cc;
+  numbers = λ x. childless 6 x (is_state sample_world x);
   itself = omega arith;
   declared = omega arith;
   steps = ((refl, refl, tt), ((refl, (refl, refl)), (refl, tt)));
@@ -188,7 +193,7 @@ node_d = record {
   kind = refl;
   placed = refl;
   count = refl;
-  numbers = λ x h. cc;
+  numbers = λ x. childless 7 x (is_state sample_world x);
   itself = omega arith;
   declared = omega arith;
   steps = ((refl, refl, omega arith), (refl, tt));
@@ -202,7 +207,7 @@ node_q = record {
   kind = refl;
   placed = refl;
   count = refl;
-  numbers = λ x h. cc;
+  numbers = λ x. childless 8 x (is_state sample_world x);
   itself = omega arith;
   declared = omega arith;
   steps = ((refl, refl, refl, refl), ((refl, refl, refl), (refl, tt)));

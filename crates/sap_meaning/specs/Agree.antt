@@ -1,5 +1,6 @@
 -- When streams, states and refusals agree at a level l.
-use Rattle.std.specs.Prelude.{◌≡◌, ℕ, zero, suc, true, false, List, [], ◌∷◌, ◌⊎◌, if◌then◌else◌}
+use Rattle.std.specs.Prelude.{◌≡◌, ℕ, zero, suc, true, false, List, [], ◌∷◌, ◌⊎◌, filter, if◌then◌else◌}
+use Rattle.std.specs.List.{AllZip}
 use Rattle.sap_lattice.specs.Order.{Order}
 use Rattle.sap_meaning.specs.Program.{World, Program, is_dynamic, is_register, is_memory, authority, root, state_node, Group, no_node, and_node}
 use Rattle.sap_meaning.specs.Store.{Store, Slot, own, start, next, start_whole, next_whole, owner, held, number, level, child, Refusal, After}
@@ -61,30 +62,19 @@ pub record StatesAgree (p : Program) (l : ℕ) (s t : Store) : Type 0 where
 
 -- the refusals whose level is at or below l
 abbrev pub seen : Order → ℕ → List Refusal → List Refusal
-seen o l [] = []
-seen o l (r ∷ rs) = if o.le r.level l then r ∷ seen o l rs else seen o l rs
+seen o l rs = filter (λ r. o.le r.level l) rs
 
 abbrev pub RefusalsAgree : Order → ℕ → List Refusal → List Refusal → Type 0
 RefusalsAgree o l rs qs = seen o l rs ≡ seen o l qs
 
 -- as many inputs, and each alike
 abbrev pub InputsAgree : Order → ℕ → List Tagged → List Tagged → Type 0
-InputsAgree o l [] [] = Unit {0}
-InputsAgree o l [] (b ∷ bs) = ⊥
-InputsAgree o l (a ∷ as') [] = ⊥
-InputsAgree o l (a ∷ as') (b ∷ bs) = Alike o l a.number a.level b.number b.level × InputsAgree o l as' bs
+InputsAgree o l inputs others = AllZip (λ a b. Alike o l a.number a.level b.number b.level) inputs others
 
 -- as many cycles, and in each the inputs agree
 abbrev pub StreamsAgree : Order → ℕ → List (List Tagged) → List (List Tagged) → Type 0
-StreamsAgree o l [] [] = Unit {0}
-StreamsAgree o l [] (b ∷ bs) = ⊥
-StreamsAgree o l (a ∷ as') [] = ⊥
-StreamsAgree o l (a ∷ as') (b ∷ bs) = InputsAgree o l a b × StreamsAgree o l as' bs
+StreamsAgree o l stream other = AllZip (InputsAgree o l) stream other
 
 -- as many cycles, and in each the states and the refusals agree
 abbrev pub RunsAgree : Program → ℕ → List After → List After → Type 0
-RunsAgree p l [] [] = Unit {0}
-RunsAgree p l [] (b ∷ bs) = ⊥
-RunsAgree p l (a ∷ as') [] = ⊥
-RunsAgree p l (a ∷ as') (b ∷ bs) =
-    StatesAgree p l a.store b.store × RefusalsAgree p.world.order l a.refused b.refused × RunsAgree p l as' bs
+RunsAgree p l run other = AllZip (λ a b. StatesAgree p l a.store b.store × RefusalsAgree p.world.order l a.refused b.refused) run other

@@ -262,8 +262,8 @@ pub record FineNode (w : World) (q : Group) (n s : ℕ) (b : Block) (g : Group) 
   pub kind : is_state w s ≡ true
   pub placed : place w s ≡ n
   pub count : children w s ≡ size g
-  -- the states below it have the numbers after its own, up to its last
-  pub numbers : (x : ℕ) → inside g x ≡ true → below w s x ≡ true
+  -- the states of g and those below them are the ones with the numbers after its own, up to its last
+  pub numbers : (x : ℕ) → inside g x ≡ below w s x
   pub itself : s ≤ last w s
   pub declared : last w s < root w
   pub steps : FineBlock w q g b

@@ -1,5 +1,5 @@
 -- The check sites of a program, in the order of the text.
-use Rattle.std.specs.Prelude.{◌≡◌, ℕ, ◌≤◌, suc, Bool, true, false, not, ◌||◌, List, [], ◌∷◌, ◌++◌, ◌⊎◌, if◌then◌else◌}
+use Rattle.std.specs.Prelude.{◌≡◌, ℕ, ◌≤◌, suc, Bool, true, false, not, ◌||◌, List, [], ◌∷◌, ◌++◌, ◌⊎◌, map, if◌then◌else◌}
 use Rattle.sap_meaning.specs.Program.{World, Program, is_dynamic, Step, assign, write, retag, retag_cell, go_to, fall_to_child, Command, lone, try, if_else, try_then, case_of, Arms, last_arm, and_arm, Block, end_block, command_then, State, state_node, Group, no_node, and_node}
 use Rattle.sap_meaning.specs.Store.{Refusal}
 use Rattle.sap_meaning.specs.Checks.{site_of}
@@ -50,8 +50,7 @@ abbrev pub program_sites : Program → List ℕ
 program_sites p = group_sites p.world p.states
 
 abbrev pub refused_sites : List Refusal → List ℕ
-refused_sites [] = []
-refused_sites (r ∷ rs) = r.site ∷ refused_sites rs
+refused_sites rs = map (λ r. r.site) rs
 
 -- the first list is the second with some items left out
 abbrev pub Sublist : List ℕ → List ℕ → Type 0

@@ -1,5 +1,6 @@
 -- The widths of a program: what has a width fits where it stands.
-use Rattle.std.specs.Prelude.{◌≡◌, ℕ, ◌<◌, ◌^◌, List, [], ◌∷◌}
+use Rattle.std.specs.Prelude.{◌≡◌, ℕ, ◌<◌, ◌^◌, List}
+use Rattle.std.specs.List.{AllByRecursion}
 use Rattle.sap_maps.specs.Term.{Term, constant, read, cell, one, two, choose, join, part, TermFits}
 use Rattle.sap_meaning.specs.Program.{World, Program, entity, width, depth_of, LevelTerm, fixed, of, at_place, both, Step, assign, write, retag, retag_cell, go_to, fall_to_child, Command, lone, try, if_else, try_then, case_of, Arms, last_arm, and_arm, Block, end_block, command_then, State, state_node, Group, no_node, and_node}
 use Rattle.sap_meaning.specs.Expressions.{width_of}
@@ -41,8 +42,7 @@ SizedStep w (fall_to_child site hang) = Unit {0}
 
 -- numbers that a width can hold
 abbrev pub AreWithin : (width : ℕ) → List ℕ → Type 0
-AreWithin u [] = Unit {0}
-AreWithin u (n ∷ ns) = (n < 2 ^ u) × AreWithin u ns
+AreWithin u ns = AllByRecursion (λ n. n < 2 ^ u) ns
 
 abbrev mutual
   pub Sized : World → Command → Type 0

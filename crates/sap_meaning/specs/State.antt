@@ -1,5 +1,6 @@
 -- The states of a program: the first one, and what every one keeps.
 use Rattle.std.specs.Prelude.{◌≡◌, ℕ, true, false, ◌<◌, ◌^◌, List, [], ◌∷◌, if◌then◌else◌}
+use Rattle.std.specs.List.{AllByRecursion}
 use Rattle.sap_meaning.specs.Program.{World, Program, Entity, entity, is_dynamic, authority, width, children, kind_is_input}
 use Rattle.sap_meaning.specs.Store.{Store, Slot, own, start, next, start_whole, next_whole, owner, held, number, level}
 use Rattle.sap_meaning.specs.Cycle.{Tagged, run_from}
@@ -63,5 +64,4 @@ InputsFit w inputs = AllFit w.order.count (input_widths w.entities) inputs
 
 -- a stream that fits: so in every cycle
 abbrev pub StreamFits : World → List (List Tagged) → Type 0
-StreamFits w [] = Unit {0}
-StreamFits w (inputs ∷ rest) = InputsFit w inputs × StreamFits w rest
+StreamFits w stream = AllByRecursion (InputsFit w) stream

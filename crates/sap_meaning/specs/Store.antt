@@ -69,8 +69,8 @@ put_level w z t s = record s { level = λ y. if same_slot y (home w z) then t el
 unfoldable pub put_child : ℕ → ℕ → Store → Store
 put_child p n s = record s { child = λ q. if nat_eq q p then n else s.child q }
 
--- The slots whose level a raise changes: a state's or a register's own, and a memory's next part. Enforced entities,
--- and so single cells, are never raised.
+-- The slots whose level a raise changes: those of a state or a register, and the next part of a memory, whose own slot has nothing.
+-- Enforced entities, and so single cells, are never raised.
 abbrev pub raised : (ℕ → Bool) → Slot → Bool
 raised hangs (own x) = hangs x
 raised hangs (start m i) = false

@@ -1,14 +1,15 @@
--- Programs in which each name is that of an entity of the kind that its place asks for.
-use Rattle.std.specs.Prelude.{◌≡◌, true, ◌||◌}
-use Rattle.sap_meaning.specs.Program.{World, is_register, is_memory, is_state, Step, assign, write, retag, retag_cell, go_to, fall_to_child, Command, lone, try, if_else, try_then, case_of, Arms, last_arm, and_arm, Block, end_block, command_then, State, state_node, Group, no_node, and_node}
+-- Programs in which each name is that of an entity of the kind that its place asks for. A state is named by a number below the root's, past which
+-- every number would pass for one.
+use Rattle.std.specs.Prelude.{◌≡◌, ◌<◌, true, ◌||◌}
+use Rattle.sap_meaning.specs.Program.{World, root, is_register, is_memory, is_state, Step, assign, write, retag, retag_cell, go_to, fall_to_child, Command, lone, try, if_else, try_then, case_of, Arms, last_arm, and_arm, Block, end_block, command_then, State, state_node, Group, no_node, and_node}
 use Rattle.sap_meaning.specs.Fine.{FineTerm, FineLevel}
 
 abbrev pub NamedStep : World → Step → Type 0
 NamedStep w (assign site x e) = (is_register w x ≡ true) × FineTerm w e
 NamedStep w (write site m i e) = (is_memory w m ≡ true) × FineTerm w i × FineTerm w e
-NamedStep w (retag site x n) = ((is_register w x || is_state w x) ≡ true) × FineLevel w n
+NamedStep w (retag site x n) = ((is_register w x || is_state w x) ≡ true) × (x < root w) × FineLevel w n
 NamedStep w (retag_cell site m j n) = (is_memory w m ≡ true) × FineTerm w j × FineLevel w n
-NamedStep w (go_to site target) = is_state w target ≡ true
+NamedStep w (go_to site target) = (is_state w target ≡ true) × (target < root w)
 NamedStep w (fall_to_child site hang) = Unit {0}
 
 abbrev mutual

@@ -190,7 +190,7 @@ module _ (w : World) where
   inside_state q n (and_node (state_node c b k) g) fine x h = elim (or_cases (nat_eq x c) _ h) [
     | inl e ↦ rw (eqb-true x c e) fine.0.0.kind
     | inr e ↦ elim (or_cases (inside k x) (inside g x) e) [
-      | inl i ↦ and_left _ _ (fine.0.0.numbers x i)
+      | inl i ↦ and_left _ _ (sym (fine.0.0.numbers x) ∙ i)
       | inr i ↦ inside_state q (suc n) g fine.1 x i
     ]
   ]

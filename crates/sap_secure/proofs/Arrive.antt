@@ -63,7 +63,7 @@ module _ (w : World) (laws : Laws w.order) (l : ℕ) (c : Scene w l) (site targe
       let f = nth_fine w c.site.siblings 0 c.site.siblings (place w target) (state_node e b k) nth c.site.around.fine in
       elim (or_cases (nat_eq x e) _ h) [
         | inl i ↦ or_left _ _ (subst (λ y. nat_eq x y ≡ true) name i)
-        | inr i ↦ or_right (nat_eq x target) _ (subst (λ y. below w y x ≡ true) name (f.0.numbers x (elim (or_cases (inside k x) false i) [ inl j ↦ j | inr j ↦ cc ])))
+        | inr i ↦ or_right (nat_eq x target) _ (subst (λ y. below w y x ≡ true) name (sym (f.0.numbers x) ∙ elim (or_cases (inside k x) false i) [ inl j ↦ j | inr j ↦ cc ]))
       ]
 
   spanned_state : (a : State) → Nth c.site.siblings (place w target) a → (x : ℕ) → inside (and_node a no_node) x ≡ true → is_state w x ≡ true

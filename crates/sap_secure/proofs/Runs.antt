@@ -143,7 +143,7 @@ later_law p fine l s t rs rt r [] (b ∷ bs) same = absurd same
 later_law p fine l s t rs rt r (a ∷ as') [] same = absurd same
 later_law p fine l s t rs rt r (a ∷ as') (b ∷ bs) same =
     let f = cycle_pair p fine l s t rs rt r a b same.0 in
-    (f.0, f.1, later_law p fine l (cycle p a s).store (cycle p b t).store (cycle_rests p fine a s rs) (cycle_rests p fine b t rt) f.0 as' bs same.1)
+    (f, later_law p fine l (cycle p a s).store (cycle p b t).store (cycle_rests p fine a s rs) (cycle_rests p fine b t rt) f.0 as' bs same.1)
 
 -- a state agrees with itself
 pub agrees_itself : (p : Program) → FineProgram p → (l : ℕ) (s : Store) → StatesAgree p l s s

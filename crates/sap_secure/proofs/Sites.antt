@@ -1,5 +1,5 @@
 -- A state in its group, with what is known of both, and commands in its body.
-use Rattle.std.proofs.Common.{◌≡◌, ℕ, suc, ◌+◌, ◌<◌, ◌≤◌, Bool, true, false, ◌&&◌, ◌||◌, refl, arith, nat_eq, nat_lt, nat_le, inl, inr, ◌⊎◌}
+use Rattle.std.proofs.Common.{◌≡◌, ℕ, suc, ◌+◌, ◌<◌, ◌≤◌, Bool, true, false, ◌&&◌, ◌||◌, refl, sym, ◌∙◌, arith, nat_eq, nat_lt, nat_le, inl, inr, ◌⊎◌}
 use Rattle.std.proofs.lemmas.Grind.{common_steps}
 use Rattle.sap_lemmas.proofs.Bools.{and_left, and_right, neither_left, neither_right}
 use Rattle.std.proofs.lemmas.Bool.{eqb-true, false_from_ne_true, or_cases, or_from, or_right}
@@ -57,9 +57,9 @@ module _ (w : World) where
   and_falsely true b c h = rw h refl
   and_falsely false b c h = refl
 
-  pub kids_apart : (e : ℕ) (g : Group) → ((x : ℕ) → inside g x ≡ true → below w e x ≡ true) → (x : ℕ) → inside g x ≡ true → (nat_eq e x || below w x e) ≡ false
+  pub kids_apart : (e : ℕ) (g : Group) → ((x : ℕ) → inside g x ≡ below w e x) → (x : ℕ) → inside g x ≡ true → (nat_eq e x || below w x e) ≡ false
   kids_apart e g f x h =
-      let k = and_left _ _ (and_right (is_state w x) _ (f x h)) in
+      let k = and_left _ _ (and_right (is_state w x) _ (sym (f x) ∙ h)) in
       or_from _ _ (not_same e x k) (and_falsely (is_state w e) (nat_lt x e) (nat_le e (last w x)) (not_after e x k))
 
   -- the children of a state with the state

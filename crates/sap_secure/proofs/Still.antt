@@ -246,7 +246,7 @@ module _ (w : World) (laws : Laws w.order) (l : ℕ) where
     shallow d fine x h =
         let i = deeper_inside w c.site.kids x h in
         let s = inside_state w c.site.kids 0 c.site.kids (own_fine w c.site).1 x i in
-        falsely (is_dynamic w x) _ (unhung w x s c.site.state c.site.kids (other x (and_right (is_state w x) _ ((node w c.site).numbers x i))) (deeper_not_among w c.site.kids 0 c.site.kids (own_fine w c.site).1 x h)
+        falsely (is_dynamic w x) _ (unhung w x s c.site.state c.site.kids (other x (and_right (is_state w x) _ (sym ((node w c.site).numbers x) ∙ i))) (deeper_not_among w c.site.kids 0 c.site.kids (own_fine w c.site).1 x h)
         (group_unassigned w x (state_no_register w x s) (state_no_memory w x s) c.site.kids 0 c.site.kids (own_fine w c.site).1) c.site.siblings d (fine_command w c.site d fine))
       where
         falsely : (a b : Bool) → b ≡ false → (a && b) ≡ false

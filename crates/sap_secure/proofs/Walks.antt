@@ -204,7 +204,7 @@ module _ (w : World) where
   deeper_not_among q n no_node fine x h = refl
   deeper_not_among q n (and_node (state_node c b k) g) fine x h = elim (or_cases (inside k x) _ h) [
     | inl i ↦ (
-        let y = and_right (is_state w x) _ (fine.0.0.numbers x i) in
+        let y = and_right (is_state w x) _ (sym (fine.0.0.numbers x) ∙ i) in
         or_from _ _ (after c x _ y) (false_from_ne_true _ (λ j. later c x (last w c) y (fine.2 x (inside_among g x j)))))
     | inr i ↦ or_from _ _ (beyond x c (last w c) fine.0.0.itself (fine.2 x (deeper_inside g x i))) (deeper_not_among q (suc n) g fine.1 x i)
   ]

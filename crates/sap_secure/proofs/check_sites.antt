@@ -6,3 +6,4 @@ mod Sublists
 mod Marks
 mod Reached
 mod InTurn
+mod Refused

@@ -5,7 +5,7 @@
 pub mod examples;
 
 ghost use Rattle.sap_secure.specs.CheckSites.Numbering.{SitesAgree};
-ghost use Rattle.sap_secure.specs.CheckSites.Once.{EachSiteOnce, SitesInTurn};
+ghost use Rattle.sap_secure.specs.CheckSites.Once.{EachSiteOnce, RefusedMet, SitesInTurn};
 
 use sap_resolve::premises::well_formed_serves;
 
@@ -16,10 +16,12 @@ pub fn sites_agree()
 {}
 
 /// A cycle of a well-formed design comes to its check sites in the order of the text, to each at most once, whether it is
-/// refused or not.
+/// refused or not; and those that it refuses are among them, in the same order.
 pub fn each_site_once()
     ensures turn { SitesInTurn }
     ensures once { EachSiteOnce }
+    ensures refused { RefusedMet }
 {
-    well_formed_serves()
+    well_formed_serves();
+    sap_meaning::refusals_in_order()
 }

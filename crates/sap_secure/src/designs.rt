@@ -9,7 +9,7 @@ ghost use Rattle.sap_secure.specs.Designs.Designs.{DesignsConfine, DesignCyclesA
 
 use sap_resolve::premises::well_formed_serves;
 
-/// In a context that is not at or below a level, a command on the active path changes nothing that is.
+/// In a context that is not at or below a level, a command on the active path changes nothing that is, under the conditions of `Hidden`.
 pub fn confinement()
     ensures { DesignsConfine }
 {

@@ -10,7 +10,7 @@ pub mod once;
 ghost use Rattle.sap_secure.specs.Confinement.{Confinement};
 ghost use Rattle.sap_secure.specs.Laws.{OneCycle, LaterRunsAgree, LabelledRunsAgree};
 
-/// In a context that is not at or below a level, a command on the active path changes nothing that is.
+/// In a context that is not at or below a level, a command on the active path changes nothing that is, under the conditions of `Hidden`.
 pub fn confinement()
     ensures { Confinement }
 {}

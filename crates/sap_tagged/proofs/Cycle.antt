@@ -391,11 +391,11 @@ module _ (d : Named) (tag sites : ℕ) (design : Design d tag sites) where
   turned before inputs t fit r some =
       let l = begins before inputs t fit r in
       let shape = shaped_top set (listed d.program.hang) 0 d.program.states in
-      let goes = goes_run set widths lawful lawful_states n nested.root_seat d.program.states forest (sym (root_known d)) design.fine.count design.fine.states design.tidy shape in
+      let goes = goes_run set widths lawful lawful_states n nested.root_seat d.program.states forest (sym (root_known d)) design.fine.count design.fine.states shape in
       let z = root_number before inputs t l some in
       subst (λ (k : ℕ). Cycles set (going before inputs) (child_does widths (enter nested.root_seat forest) forest k (going before inputs)) (body_after inputs t)) (sym z)
       (top_runs set widths lawful lawful_states (listed d.program.hang) d.program.states d.program.states 0 0 (enter nested.root_seat forest) design.fine.states design.fine.states
-      design.tidy design.few_arms (λ t h. h) goes ((entered inputs t).child n) (going before inputs) (entered inputs t) l
+      design.few_arms (λ t h. h) goes ((entered inputs t).child n) (going before inputs) (entered inputs t) l
       (λ m h. (entered_memory inputs t m 0).4 ∙ r.whole m ∙ sym (entered_memory inputs t m 0).5))
 
   -- the end of a cycle

@@ -43,7 +43,7 @@ use Rattle.sap_tagged.proofs.Premises.{Design}
 use Rattle.sap_tagged.proofs.Cycle.{run_stands}
 use Rattle.sap_tagged.proofs.Shown.{interface}
 use Rattle.sap_shape.proofs.SiteCounts.{states_few}
-use Rattle.sap_tagged.proofs.Counts.{numbered, tidy}
+use Rattle.sap_tagged.proofs.Counts.{numbered}
 
 -- names are those of the design language, and so words
 
@@ -272,7 +272,6 @@ module _ (ls : Levels) (D : DesignTree) (sg : IsSound ls D) where
   design = record {
     fine = fine_law names_fit_law ls D sg.lattice.laws sg.formed;
     exact = exact ls D;
-    tidy = tidy ls D;
     few_arms = filled_group_few w (root w) (states_of ls D) (group_few D.version ls es 1 (length D.declarations) D.states all_states);
     numbered = numbered ls D states_fit;
     few = few_sites;

@@ -28,7 +28,7 @@ use Rattle.sap_tagged.proofs.Looks.{Quiet, quiet_none, quiet_next, turns_after, 
 use Rattle.sap_tagged.proofs.Effects.{FallsRun}
 use Rattle.sap_tagged.proofs.Gotos.{GoesRun}
 use Rattle.sap_tagged.proofs.Runs.{block_runs}
-use Rattle.sap_tagged.proofs.Groups.{LawfulStates, Shaped, Tidy, group_states, group_tagged, no_memory, goes_run}
+use Rattle.sap_tagged.proofs.Groups.{LawfulStates, Shaped, group_states, group_tagged, no_memory, goes_run}
 
 pub placed_in : (w : World) (q : Group) (n s parent : ℕ) (b : Block) (k : Group) → FineGroup w q 0 q → among q s ≡ true → FineNode w q n s b k → FineGroup w k 0 k
     → Placed w q (record { state = s; parent = parent; children = k })
@@ -104,13 +104,13 @@ module _ (d : Setting) (widths : Name → ℕ) (laws : Lawful d widths) (names :
       some : {m n : ℕ} → m ≡ suc n → 0 < m
       some e = omega (arith, e)
 
-  pub group_runs : (grp q : Group) (n0 parent k : ℕ) (go : Name → Going → Going) → FineGroup d.world q 0 q → FineGroup d.world q n0 grp → Tidy d.world grp → FewGroup grp
+  pub group_runs : (grp q : Group) (n0 parent k : ℕ) (go : Name → Going → Going) → FineGroup d.world q 0 q → FineGroup d.world q n0 grp → FewGroup grp
       → ((t : ℕ) → among grp t ≡ true → among q t ≡ true) → GoesRun d go parent q
       → (n : ℕ) (g : Going) (s : Store) (l : ℕ) → Stands d g s → at d g (inner_key parent) ≡ d.code l
       → Turns d k g (child_does widths go (group_plain d parent k grp) n g) (run_child d.world grp parent n l s)
   unfolding run_child run_state group_plain
-  group_runs no_node q n0 parent k go whole fine tidy few part goes n g s l st pc = turns_stay d k g g s (quiet_none d k g) st
-  group_runs (and_node (state_node x b kids) rest) q n0 parent k go whole fine tidy few part goes zero g s l st pc =
+  group_runs no_node q n0 parent k go whole fine few part goes n g s l st pc = turns_stay d k g g s (quiet_none d k g) st
+  group_runs (and_node (state_node x b kids) rest) q n0 parent k go whole fine few part goes zero g s l st pc =
       let base = k + 1 + wires_block b in
       let node = fine.0.0 in
       let i : among q x ≡ true = part x (or_left (nat_eq x x) (among rest x) (eq-eqb x x refl)) in
@@ -119,8 +119,8 @@ module _ (d : Setting) (widths : Name → ℕ) (laws : Lawful d widths) (names :
       let seat = seat_name (d.state_name x) in
       let e : seat ≡ d.name (seat_key x) = names.seats x declared in
       let shape = shaped_group d x base kids in
-      let goes' = goes_run d widths laws names x seat kids forest e node.count fine.0.1 tidy.0.1 shape in
-      let inner = group_runs kids kids 0 x base (enter seat forest) fine.0.1 fine.0.1 tidy.0.1 few.0.1 (λ t h. h) goes' in
+      let goes' = goes_run d widths laws names x seat kids forest e node.count fine.0.1 shape in
+      let inner = group_runs kids kids 0 x base (enter seat forest) fine.0.1 fine.0.1 few.0.1 (λ t h. h) goes' in
       let falls = falls_run x kids forest base seat e node.count shape inner in
       let f : Going → Going = λ h. child_does widths (enter seat forest) forest (h.now.value seat) h in
       let sp : Spot = record { state = x; parent = parent; children = kids } in
@@ -130,10 +130,10 @@ module _ (d : Setting) (widths : Name → ℕ) (laws : Lawful d widths) (names :
       let r = block_runs d widths laws f go q sp (placed_in d.world q n0 x parent b kids whole i node fine.0.1) goes base (run_child d.world kids x) falls b node.steps few.0.0 k (k + 1)
       (omega arith) (omega arith) g1 s l r0.stands r0.here in
       rw (does_gives d widths f go g (wire_key k) (var d (inner_key parent)) (block_plain d sp k (k + 1) b)) (turns_after d k (k + 1) g g1 _ _ (omega arith) (r0.quiet k (omega arith)) r)
-  group_runs (and_node (state_node x b kids) rest) q n0 parent k go whole fine tidy few part goes (suc n) g s l st pc =
+  group_runs (and_node (state_node x b kids) rest) q n0 parent k go whole fine few part goes (suc n) g s l st pc =
       let j = k + (1 + wires_block b + wires_group kids) in
       turns_less d k j g _ _ (omega arith)
-      (group_runs rest q (suc n0) parent j go whole fine.1 tidy.1 few.1 (λ t h. part t (or_right (nat_eq t x) (among rest t) h)) goes n g s l st pc)
+      (group_runs rest q (suc n0) parent j go whole fine.1 few.1 (λ t h. part t (or_right (nat_eq t x) (among rest t) h)) goes n g s l st pc)
 
   -- the tags that are kept
   save : (f : Going → Going) (go : Name → Going → Going) (k : ℕ) (g : Going) (s : Store) (rest : Body) → Loose d g s → ((m : ℕ) → saved d.world m ≡ true → s.level (start_whole m) ≡ s.level (next_whole m))
@@ -171,13 +171,13 @@ module _ (d : Setting) (widths : Name → ℕ) (laws : Lawful d widths) (names :
       kept_tag : (m : ℕ) → saved d.world m ≡ true → has_tag d.world m ≡ true
       kept_tag m h = let q = is_kept m h in tagged_memory d.world m q.0 q.1
 
-  pub top_runs : (hangs : ℕ → Bool) (grp q : Group) (n0 k : ℕ) (go : Name → Going → Going) → FineGroup d.world q 0 q → FineGroup d.world q n0 grp → Tidy d.world grp → FewGroup grp
+  pub top_runs : (hangs : ℕ → Bool) (grp q : Group) (n0 k : ℕ) (go : Name → Going → Going) → FineGroup d.world q 0 q → FineGroup d.world q n0 grp → FewGroup grp
       → ((t : ℕ) → among grp t ≡ true → among q t ≡ true) → GoesRun d go (root d.world) q
       → (n : ℕ) (g : Going) (s : Store) → Loose d g s → ((m : ℕ) → saved d.world m ≡ true → s.level (start_whole m) ≡ s.level (next_whole m))
       → Cycles d g (child_does widths go (top_plain d hangs k grp) n g) (root_fall d.world hangs (λ t. run_state d.world t (root d.world)) grp n s)
   unfolding root_fall run_state top_plain
-  top_runs hangs no_node q n0 k go whole fine tidy few part goes n g s st begins = record { stands = st; refused = λ i. refl; levels = λ i. refl }
-  top_runs hangs (and_node (state_node x b kids) rest) q n0 k go whole fine tidy few part goes zero g s loose begins =
+  top_runs hangs no_node q n0 k go whole fine few part goes n g s st begins = record { stands = st; refused = λ i. refl; levels = λ i. refl }
+  top_runs hangs (and_node (state_node x b kids) rest) q n0 k go whole fine few part goes zero g s loose begins =
       let base = k + 1 + wires_block b in
       let node = fine.0.0 in
       let i : among q x ≡ true = part x (or_left (nat_eq x x) (among rest x) (eq-eqb x x refl)) in
@@ -186,8 +186,8 @@ module _ (d : Setting) (widths : Name → ℕ) (laws : Lawful d widths) (names :
       let seat = seat_name (d.state_name x) in
       let e : seat ≡ d.name (seat_key x) = names.seats x me.declared in
       let shape = shaped_group d x base kids in
-      let goes' = goes_run d widths laws names x seat kids forest e node.count fine.0.1 tidy.0.1 shape in
-      let inner = group_runs kids kids 0 x base (enter seat forest) fine.0.1 fine.0.1 tidy.0.1 few.0.1 (λ t h. h) goes' in
+      let goes' = goes_run d widths laws names x seat kids forest e node.count fine.0.1 shape in
+      let inner = group_runs kids kids 0 x base (enter seat forest) fine.0.1 fine.0.1 few.0.1 (λ t h. h) goes' in
       let falls = falls_run x kids forest base seat e node.count shape inner in
       let f : Going → Going = λ h. child_does widths (enter seat forest) forest (h.now.value seat) h in
       let sp : Spot = record { state = x; parent = root d.world; children = kids } in
@@ -207,5 +207,5 @@ module _ (d : Setting) (widths : Name → ℕ) (laws : Lawful d widths) (names :
       rw (kept.1, does_gives d widths f go g0 (wire_key k) (var d (tag_key x)) (raises d hangs k body), up.1)
       (cycles d k g g0 _ _ kept.3
       (turns_after d k (k + 1) g0 g2 _ _ (omega arith) (quiet_next d k g0 g1 g2 (r0.quiet k (omega arith)) (raised_quiet d widths laws k g1 g2 up.3)) r))
-  top_runs hangs (and_node (state_node x b kids) rest) q n0 k go whole fine tidy few part goes (suc n) g s st begins =
-      top_runs hangs rest q (suc n0) (k + (1 + wires_block b + wires_group kids)) go whole fine.1 tidy.1 few.1 (λ t h. part t (or_right (nat_eq t x) (among rest t) h)) goes n g s st begins
+  top_runs hangs (and_node (state_node x b kids) rest) q n0 k go whole fine few part goes (suc n) g s st begins =
+      top_runs hangs rest q (suc n0) (k + (1 + wires_block b + wires_group kids)) go whole fine.1 few.1 (λ t h. part t (or_right (nat_eq t x) (among rest t) h)) goes n g s st begins

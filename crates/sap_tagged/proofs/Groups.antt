@@ -5,7 +5,7 @@ use Rattle.std.proofs.lemmas.Grind.{common_steps}
 use Rattle.sap_lemmas.proofs.Bools.{or_other, true_is_not_false}
 use Rattle.sap_lemmas.proofs.Numbers.{test_symmetric}
 use Rattle.sap_maps.specs.Maps.{Name}
-use Rattle.sap_meaning.specs.Program.{World, root, is_state, is_memory, children, place, last, below, Block, State, state_node, Group, no_node, and_node}
+use Rattle.sap_meaning.specs.Program.{World, root, is_state, is_memory, children, place, last, below, Block, state_node, Group, no_node, and_node}
 use Rattle.sap_meaning.specs.Store.{child}
 use Rattle.sap_meaning.specs.Touches.{among}
 use Rattle.sap_meaning.specs.Fine.{FineNode, FineGroup, inside, size}
@@ -34,15 +34,6 @@ Shaped d no_node none = Unit {0}
 Shaped d no_node (state x b kids rest) = ⊥
 Shaped d (and_node t g) none = ⊥
 Shaped d (and_node (state_node s c k) g) (state x b kids rest) = (x ≡ d.state_name s) × Shaped d k kids × Shaped d g rest
-
--- what has a seat and is below a state stands in its children
-abbrev mutual
-  pub TidyState : World → State → Type 0
-  TidyState w (state_node s b g) = ((p : ℕ) → below w s p ≡ true → 0 < children w p → inside g p ≡ true) × Tidy w g
-
-  pub Tidy : World → Group → Type 0
-  Tidy w no_node = Unit {0}
-  Tidy w (and_node t g) = TidyState w t × Tidy w g
 
 -- a state of a group
 pub record IsState (w : World) (t : ℕ) : Type 0 where
@@ -148,17 +139,11 @@ module _ (d : Setting) (widths : Name → ℕ) (laws : Lawful d widths) (names :
     pub fine : FineGroup d.world kids 0 kids
     pub count : children d.world target ≡ size kids
     pub placed : n + nested.place forest (d.state_name target) ≡ place d.world target
-    pub here : (p : ℕ) → 0 < children d.world p → inside kids p ≡ below d.world target p
+    pub here : (p : ℕ) → inside kids p ≡ below d.world target p
 
-  same_tests : (a b : Bool) → (a ≡ true → b ≡ true) → (b ≡ true → a ≡ true) → a ≡ b
-  same_tests true true f g = refl
-  same_tests true false f g = sym (f refl)
-  same_tests false true f g = g refl
-  same_tests false false f g = refl
-
-  found_here : (q : Group) (n s : ℕ) (b : Block) (k : Group) (x : Name) (body : Body) (kids rest : Forest) → FineNode d.world q n s b k → FineGroup d.world k 0 k → TidyState d.world (state_node s b k)
+  found_here : (q : Group) (n s : ℕ) (b : Block) (k : Group) (x : Name) (body : Body) (kids rest : Forest) → FineNode d.world q n s b k → FineGroup d.world k 0 k
       → x ≡ d.state_name s → Shaped d k kids → Found s n (state x body kids rest)
-  found_here q n s b k x body kids rest f g tidy e h =
+  found_here q n s b k x body kids rest f g e h =
       let i = node_state d.world q n s b k f in
       let hit : bytes_eq x (d.state_name s) ≡ true = ap (λ (y : Name). bytes_eq y (d.state_name s)) e ∙ names.apart s s i.declared i.declared ∙ eq-eqb s s refl in
       record {
@@ -167,20 +152,20 @@ module _ (d : Setting) (widths : Name → ℕ) (laws : Lawful d widths) (names :
         fine = g;
         count = f.count;
         placed = ap (λ (c : Bool). n + (if c then 0 else suc (nested.place rest (d.state_name s)))) hit ∙ (omega arith) ∙ sym f.placed;
-        here = λ p c. same_tests (inside k p) (below d.world s p) (f.numbers p) (λ z. tidy.0 p z c);
+        here = f.numbers;
       }
 
-  pub found : (q : Group) (n : ℕ) (g : Group) (forest : Forest) → FineGroup d.world q n g → Tidy d.world g → Shaped d g forest → (target : ℕ) → among g target ≡ true → Found target n forest
-  found q n no_node none f t h target i = absurd (true_is_not_false (sym i))
-  found q n no_node (state y b kids rest) f t h target i = absurd h
-  found q n (and_node s g) none f t h target i = absurd h
-  found q n (and_node (state_node s c k) g) (state x b kids rest) f t h target i = elim (cases_Bool (nat_eq target s)) [
+  pub found : (q : Group) (n : ℕ) (g : Group) (forest : Forest) → FineGroup d.world q n g → Shaped d g forest → (target : ℕ) → among g target ≡ true → Found target n forest
+  found q n no_node none f h target i = absurd (true_is_not_false (sym i))
+  found q n no_node (state y b kids rest) f h target i = absurd h
+  found q n (and_node s g) none f h target i = absurd h
+  found q n (and_node (state_node s c k) g) (state x b kids rest) f h target i = elim (cases_Bool (nat_eq target s)) [
     | inl e ↦
         subst (λ (z : ℕ). Found z n (state x b kids rest)) (sym (eqb-true target s e))
-        (found_here q n s c k x b kids rest f.0.0 f.0.1 t.0 h.0 h.1)
+        (found_here q n s c k x b kids rest f.0.0 f.0.1 h.0 h.1)
     | inr e ↦
         (let j = or_other (nat_eq target s) (among g target) i e in
-        let r = found q (suc n) g rest f.1 t.1 h.2 target j in
+        let r = found q (suc n) g rest f.1 h.2 target j in
         let there = group_states d.world q (suc n) g f.1 target j in
         let me = node_state d.world q n s c k f.0.0 in
         let miss : bytes_eq x (d.state_name target) ≡ false =
@@ -201,12 +186,12 @@ module _ (d : Setting) (widths : Name → ℕ) (laws : Lawful d widths) (names :
       after n m = omega arith
 
   -- a goto among the states of a group
-  pub goes_run : (parent : ℕ) (seat : Name) (q : Group) (forest : Forest) → seat ≡ d.name (seat_key parent) → children d.world parent ≡ size q → FineGroup d.world q 0 q → Tidy d.world q
+  pub goes_run : (parent : ℕ) (seat : Name) (q : Group) (forest : Forest) → seat ≡ d.name (seat_key parent) → children d.world parent ≡ size q → FineGroup d.world q 0 q
       → Shaped d q forest → GoesRun d (enter seat forest) parent q
   unfolding moved
-  goes_run parent seat q forest e count f t h target i g s st =
+  goes_run parent seat q forest e count f h target i g s st =
       let x = d.state_name target in
-      let r = found q 0 q forest f t h target i in
+      let r = found q 0 q forest f h target i in
       let it = group_states d.world q 0 q f target i in
       let kids = nested.children_of forest x in
       let n = nested.place forest x in
@@ -230,7 +215,7 @@ module _ (d : Setting) (widths : Name → ℕ) (laws : Lawful d widths) (names :
             (λ k c. there (tag_key k) (λ p. refl) ∙ st.tag k c)
             (λ p c.
             b.seats p c ∙ ap (λ (v : ℕ). if inside r.kids p then 0 else v) (a.seats p c ∙ ap (λ (v : ℕ). if nat_eq p target then 0 else v) (first (seat_key p)))
-            ∙ ap (λ (q : Bool). if q then 0 else (if nat_eq p target then 0 else (if nat_eq p parent then n else at d g (seat_key p)))) (r.here p c)
+            ∙ ap (λ (q : Bool). if q then 0 else (if nat_eq p target then 0 else (if nat_eq p parent then n else at d g (seat_key p)))) (r.here p)
             ∙ swapped (below d.world target p) (nat_eq p target) (if nat_eq p parent then n else at d g (seat_key p))
             ∙ ap (λ (v : ℕ). if nat_eq p target then 0 else (if below d.world target p then 0 else (if nat_eq p parent then v else at d g (seat_key p)))) (at_zero n ∙ r.placed)
             ∙ ap (λ (v : ℕ). if nat_eq p target then 0 else (if below d.world target p then 0 else (if nat_eq p parent then place d.world target else v))) (st.seat p c))

@@ -87,10 +87,10 @@ module _ (d : Setting) (names : LawfulStates d) where
   states_once q n (and_node (state_node s c k) g) (state x b kids rest) f h =
       let me = node_state d.world q n s c k f.0.0 in
       let node = f.0.0 in
-      let own : inside k s ≡ false = false_from_ne_true (inside k s) (λ i. clash s s (below_bounds d.world s s (node.numbers s i)).0 refl) in
+      let own : inside k s ≡ false = false_from_ne_true (inside k s) (λ i. clash s s (below_bounds d.world s s (sym (node.numbers s) ∙ i)).0 refl) in
       let later : inside g s ≡ false = false_from_ne_true (inside g s) (λ i. let a = f.2 s i in let z = node.itself in omega (arith, a, z)) in
       let cross : (t : ℕ) → inside k t ≡ true → inside g t ≡ false =
-      λ t i. false_from_ne_true (inside g t) (λ j. let a = f.2 t j in let z = (below_bounds d.world s t (node.numbers t i)).1 in omega (arith, a, z)) in (
+      λ t i. false_from_ne_true (inside g t) (λ j. let a = f.2 t j in let z = (below_bounds d.world s t (sym (node.numbers t) ∙ i)).1 in omega (arith, a, z)) in (
         ap (λ (y : Name). is_among y (state_names kids ++ state_names rest)) h.0
             ∙ among_append (d.state_name s) (state_names kids) (state_names rest)
             ∙ rw (outside_among k 0 k kids f.0.1 h.1 s me.declared own, outside_among q (suc n) g rest f.1 h.2 s me.declared later) refl,

@@ -11,12 +11,10 @@ use Rattle.sap_interface.specs.StandsFor.{Named, world}
 use Rattle.sap_tagged.specs.Few.{FewGroup}
 use Rattle.sap_tagged.specs.Plain.{plain_of}
 use Rattle.sap_tagged.proofs.KeyNames.{NamesApart}
-use Rattle.sap_tagged.proofs.Groups.{Tidy}
 
 pub record Design (d : Named) (tag sites : ℕ) : Type 0 where
   pub fine : FineProgram d.program
   pub exact : ExactProgram d.program
-  pub tidy : Tidy (world d) d.program.states
   pub few_arms : FewGroup d.program.states
   pub numbered : program_sites d.program ≡ count_from sites 1
   pub few : 1 + sites ≤ 2 ^ 64

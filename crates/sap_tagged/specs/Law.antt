@@ -70,8 +70,7 @@ pub record PlainInterface (d : Named) (tag sites : ℕ) (p : Nested) : Type 0 wh
 
 -- each list has one number for each input, within its width
 abbrev pub AllNumbersFit : List Var → List (List ℕ) → Type 0
-AllNumbersFit xs [] = Unit {0}
-AllNumbersFit xs (ns ∷ rest) = NumbersFit xs ns × AllNumbersFit xs rest
+AllNumbersFit xs lists = AllByRecursion (NumbersFit xs) lists
 
 -- each site that is refused is one of the design's
 abbrev pub AreSites : (sites : ℕ) → List Refusal → Type 0
@@ -79,8 +78,7 @@ AreSites sites rs = (k t : ℕ) → IsRefusedAt rs k t → (1 ≤ k) × (k ≤ s
 
 -- in each cycle
 abbrev pub RefusalsAreSites : (sites : ℕ) → List After → Type 0
-RefusalsAreSites sites [] = Unit {0}
-RefusalsAreSites sites (a ∷ rest) = AreSites sites a.refused × RefusalsAreSites sites rest
+RefusalsAreSites sites run = AllByRecursion (λ a. AreSites sites a.refused) run
 
 -- On every stream that fits the design, its levels given as codes, each cycle of the program stands for the same cycle of the labelled run.
 pub record RunStands (d : Named) (sites : ℕ) (p : Nested) : Type 0 where

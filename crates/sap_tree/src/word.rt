@@ -1,5 +1,9 @@
 //! Words that the design grammar writes out.
 
+ghost use Rattle.std.specs.Prelude.{◌≡◌, map};
+ghost use Rattle.sap_tree.specs.Words.{first_words, keywords, word_text};
+ghost use Rattle.sap_tree.specs.declared.version.Version.TheVariants as version;
+
 /// A word that is no name: a keyword, or one of a text's first line. `Sapper` and `Two` are words as the
 /// first two tokens of a text alone: the name `sapper`, and behind it the number `2`.
 #[derive(Clone, Copy, PartialEq, Eq, Debug)]
@@ -26,3 +30,8 @@ pub enum Word {
     Sapper,
     Two,
 }
+
+/// The keywords of every text are the words that every version has, as they are spelled.
+pub fn words_are_keywords()
+    ensures { keywords version.One ≡ map word_text first_words }
+{}

@@ -331,7 +331,7 @@ module _ (w : World) where
           kind = node.kind;
           placed = node.placed;
           count = node.count ∙ sym (size_filled s g);
-          numbers = λ x i. node.numbers x (sym (inside_filled s g x) ∙ i);
+          numbers = λ x. inside_filled s g x ∙ node.numbers x;
           itself = node.itself;
           declared = node.declared;
           steps = fine_block_filled at q (filled_group w p q) g (filled_group w s g) (among_filled p q) (size_filled s g) b node.steps;

@@ -21,7 +21,7 @@ use Rattle.sap_resolve.specs.Named.{NamedState, NamedGroup}
 use Rattle.sap_resolve.proofs.Lookup.{AllMatch}
 use Rattle.sap_resolve.proofs.premises.Commands.{body_fits, below_fits}
 use Rattle.sap_resolve.proofs.premises.Places.{Laid, LaidState, laid_first, laid_rest, laid_below, laid_children, laid_name, name_at}
-use Rattle.sap_resolve.proofs.premises.Numbers.{size_of, Inside, inside_of, among_of, here_state, here_placed, here_last, here_below, here_itself, here_declared}
+use Rattle.sap_resolve.proofs.premises.Numbers.{size_of, Inside, inside_of, among_of, here_state, here_placed, here_last, here_numbers, here_itself, here_declared}
 use Rattle.sap_resolve.proofs.premises.Closed.{closed_body}
 use Rattle.sap_resolve.proofs.premises.Steps.{some_child, block_unmarked, group_unmarked, fine_body}
 
@@ -57,7 +57,7 @@ module _ (ls : Levels) (levels : List (List ℕ)) (le : ℕ → ℕ → Bool) (e
           kind = here_state ls es w n x place name kind body children laid;
           placed = here_placed ls es w n x place name kind body children laid;
           count = laid_children ls es w n x place name kind body children laid ∙ sym (size_of ls es k' (x + 1) children);
-          numbers = λ y j. here_below ls es w n x place name kind body children laid k' y j;
+          numbers = here_numbers ls es w n x place name kind body children laid k';
           itself = here_itself ls es w n x place name kind body children laid;
           declared = here_declared ls es w n x place name kind body children laid;
           steps = fine_body ls levels h w match at q g targets (some_child ls es k' (x + 1) children) k body fitting shaped (inr closing) i.0;

@@ -1,9 +1,10 @@
 -- The numbers of the states of a group.
-use Rattle.std.proofs.Common.{◌≡◌, ℕ, suc, ◌+◌, ◌<◌, ◌≤◌, true, ◌&&◌, ◌||◌, List, length, nat_eq, nat_lt, nat_le, refl, sym, ap, ◌∙◌, subst, arith, inl, inr, bytes_eq}
+use Rattle.std.proofs.Common.{◌≡◌, ℕ, suc, ◌+◌, ◌<◌, ◌≤◌, true, false, ◌&&◌, ◌||◌, List, length, nat_eq, nat_lt, nat_le, refl, sym, ap, ◌∙◌, subst, arith, inl, inr, bytes_eq}
 use Rattle.std.proofs.lemmas.Grind.{common_steps}
+use Rattle.sap_lemmas.proofs.Bools.{and_right, iff_same}
 use Rattle.sap_lemmas.proofs.Numbers.{test_of_same}
 use Rattle.sap_lemmas.proofs.Texts.{bytes_eq_same, equal_of_bytes_eq}
-use Rattle.std.proofs.lemmas.Bool.{and_from, eqb-true, or_cases, or_left, or_right}
+use Rattle.std.proofs.lemmas.Bool.{cases_Bool, and_from, eqb-true, or_cases, or_left, or_right}
 use Rattle.sap_tree.specs.declared.name.Mention.{Mention}
 use Rattle.sap_text.specs.declared.place.Place.{Place}
 use Rattle.sap_tree.specs.declared.syntax.Kind.{Kind}
@@ -29,6 +30,16 @@ number_of_state ls es k x (state_node place name kind body children) = refl
 
 in_range : (x y l : ℕ) → x + 1 ≤ y → y < (x + 1) + l → (nat_lt x y && nat_le y (x + l)) ≡ true
 in_range x y l h k = grind (arith, common_steps)
+
+of_range : (x y l : ℕ) → (nat_lt x y && nat_le y (x + l)) ≡ true → (x + 1 ≤ y) × (y < (x + 1) + l)
+of_range x y l h = (grind (arith, common_steps), grind (arith, common_steps))
+
+-- a number of the states from x on is x, or one below the first, or one of the rest
+of_first : (x y a b : ℕ) → x ≤ y → y < x + ((1 + a) + b) → nat_eq y x ≡ false → nat_lt y (x + (1 + a)) ≡ true → (x + 1 ≤ y) × (y < x + 1 + a)
+of_first x y a b l m e t = (grind (arith, common_steps), grind (arith, common_steps))
+
+of_rest : (x y a b : ℕ) → y < x + ((1 + a) + b) → nat_lt y (x + (1 + a)) ≡ false → (x + (1 + a) ≤ y) × (y < x + (1 + a) + b)
+of_rest x y a b m t = (grind (arith, common_steps), omega arith)
 
 module _ (ls : Levels) (es : List declared_entity.Entity) (w : World) where
   -- of a number inside a group
@@ -83,6 +94,27 @@ module _ (ls : Levels) (es : List declared_entity.Entity) (w : World) where
         ]
       ]
 
+  -- each number of the states of a group is inside it
+  all_inside : (k x : ℕ) (g : StateList) (y : ℕ) → x ≤ y → y < x + states_below g → inside (group_of ls es k x g) y ≡ true
+  all_inside k x no_state y l m = absurd (omega arith)
+  all_inside k x (and_state (state_node p name kind body children) rest) y l m =
+      let s : StateTree = state_node p name kind body children in
+      let surroundings : Surroundings = record { entities = es; home = record { name = name.name; kind = kind; children = children } } in
+      let here : Group = group_of ls es (k + length (block_sites surroundings body)) (x + 1) children in
+      let later : Group = group_of ls es (k + length (state_sites es s)) (x + states_in s) rest in
+      elim (cases_Bool (nat_eq y x)) [
+        | inl e ↦ or_left (nat_eq y x) (inside here y || inside later y) e
+        | inr e ↦ or_right (nat_eq y x) (inside here y || inside later y)
+            (elim (cases_Bool (nat_lt y (x + (1 + states_below children)))) [
+              | inl t ↦
+                  (let r = of_first x y (states_below children) (states_below rest) l m e t in
+                  or_left (inside here y) (inside later y) (all_inside (k + length (block_sites surroundings body)) (x + 1) children y r.0 r.1))
+              | inr t ↦
+                  (let r = of_rest x y (states_below children) (states_below rest) m t in
+                  or_right (inside here y) (inside later y) (all_inside (k + length (state_sites es s)) (x + states_in s) rest y r.0 r.1))
+            ])
+      ]
+
   -- a name of a group's state is that of a number in the group
   pub among_of : ((y : ℕ) → y < length es → entity_number es (name_at es y) ≡ y) → (k n x : ℕ) (g : StateList) → Laid ls es w n x g → (name : List ℕ)
       → is_among g name ≡ true → among (group_of ls es k x g) (entity_number es name) ≡ true
@@ -114,12 +146,16 @@ module _ (ls : Levels) (es : List declared_entity.Entity) (w : World) where
     pub here_dynamic : is_dynamic w x ≡ is_dynamic_kind kind
     here_dynamic = ap (λ (a : Entity). a.dynamic) (laid_entity ls es w n x p name kind body children mine)
 
-    -- the states below have the numbers after its own, up to its last
-    pub here_below : (k y : ℕ) → inside (group_of ls es k (x + 1) children) y ≡ true → below w x y ≡ true
-    here_below k y h =
+    -- the states below are the ones with the numbers after its own, up to its last
+    pub here_numbers : (k y : ℕ) → inside (group_of ls es k (x + 1) children) y ≡ below w x y
+    here_numbers k y = iff_same (inside (group_of ls es k (x + 1) children) y) (below w x y)
+        (λ h.
         let r : Inside (x + 1) children y = inside_of k 0 (x + 1) children (laid_below ls es w n x p name kind body children mine) y h in
         and_from (is_state w y) (nat_lt x y && nat_le y (last w x)) r.state
-        (rw here_last (in_range x y (states_below children) r.from r.to))
+        (rw here_last (in_range x y (states_below children) r.from r.to)))
+        (λ h.
+        let r = of_range x y (states_below children) (rw here_last at (and_right (is_state w y) (nat_lt x y && nat_le y (last w x)) h)) in
+        all_inside k (x + 1) children y r.0 r.1)
 
     pub here_itself : x ≤ last w x
     here_itself = let h = here_last in omega arith

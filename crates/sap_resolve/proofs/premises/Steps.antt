@@ -131,7 +131,7 @@ module _ (ls : Levels) (levels : List (List ℕ)) (h : Surroundings) (w : World)
         i.0,
         dynamic_same h.entities w match retagged target (tag_named levels What place target tag f)
             ∙ no_fault (is_dynamic h.entities target.name) E16 target.place (nil_left _ _ s),
-        i.1,
+        i.2,
       )
       fine_step n (set_cell_tag place target index tag) f s i = (
         i.0,

@@ -114,7 +114,7 @@ module _ (ls : Levels) (h : Surroundings) (w : World) (r : Ready ls h.entities w
       let n = none_two (name_faults retagged what target) (tag_faults ls.names what tag) f in
       let u = used retagged (what target.name) target.place n.0 in
       let t = tag_fitted ls es w r tag n.1 in
-      ((retagged_as w u.0 (entity_number es target.name) u.2 (r.names.stands target.name u.0 u.1), t.0), t.1)
+      ((retagged_as w u.0 (entity_number es target.name) u.2 (r.names.stands target.name u.0 u.1), r.names.within target.name u.0 u.1, t.0), t.1)
   step_fits k (set_cell_tag place target index tag) f =
       let n = none_three (name_faults indexed what target) (expression_faults what index (index_width (what target.name))) (tag_faults ls.names what tag) f in
       let m = indexing target index n.0 n.1 in
@@ -122,7 +122,7 @@ module _ (ls : Levels) (h : Surroundings) (w : World) (r : Ready ls h.entities w
       ((m.memory, m.fine, t.0), (m.sized, m.indexes, t.1))
   step_fits k (go_to place target) f =
       let u = used entered (what target.name) target.place f in
-      (entered_as w u.0 (entity_number es target.name) u.2 (r.names.stands target.name u.0 u.1), tt)
+      ((entered_as w u.0 (entity_number es target.name) u.2 (r.names.stands target.name u.0 u.1), r.names.within target.name u.0 u.1), tt)
   step_fits k (fall_to_child place) f = (tt, tt)
 
   -- constants that are compared with numbers of a width

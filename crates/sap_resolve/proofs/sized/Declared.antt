@@ -1,5 +1,5 @@
 -- Where no fault stands in the declarations, the widths and depths that a name is declared with are sound.
-use Rattle.std.proofs.Common.{◌≡◌, ℕ, List, [], ◌∷◌, ◌++◌, Bool, true, not, Some, subst, inl, inr, bytes_eq}
+use Rattle.std.proofs.Common.{◌≡◌, ◌<◌, ℕ, List, [], ◌∷◌, ◌++◌, Bool, true, not, Some, subst, inl, inr, bytes_eq}
 use Rattle.std.proofs.lemmas.Bool.{cases_Bool, not-false}
 use Rattle.sap_names.proofs.NameFaultsLemmas.{no_fault}
 use Rattle.sap_tree.specs.declared.syntax.Numeral.{Numeral}
@@ -14,10 +14,10 @@ use Rattle.sap_names.specs.Entities.{entity_of, declared_in, state_entities, gro
 use Rattle.sap_names.specs.declared.entity.Entity.{Entity}
 use Rattle.sap_names.specs.NameFaults.{width_faults, start_faults, kind_faults, declaration_faults, declarations_faults, fault_if}
 use Rattle.sap_names.specs.Widths.{sound_width, index_bits, is_sound}
-use Rattle.sap_meaning.specs.Program.{World, entity}
+use Rattle.sap_meaning.specs.Program.{World, entity, root}
 use Rattle.sap_resolve.specs.Terms.{entity_number}
 use Rattle.sap_resolve.specs.Worlds.{world_of}
-use Rattle.sap_resolve.proofs.Lookup.{Stands, entity_stands, what_found}
+use Rattle.sap_resolve.proofs.Lookup.{Stands, entity_stands, entity_within, what_found}
 use Rattle.sap_resolve.proofs.sized.Faultless.{none_two, none_three}
 
 -- its widths are from 1 to 64, and its depth is one that a memory can have
@@ -75,6 +75,7 @@ found_sound (d ∷ es) name e a f = elim (cases_Bool (bytes_eq d.name.name name)
 pub record Resolved (es : List Entity) (w : World) : Type 0 where
   pub stands : (name : List ℕ) (x : Declared) → what_is es name ≡ Some x → Stands x (entity w (entity_number es name))
   pub sound : (name : List ℕ) (x : Declared) → what_is es name ≡ Some x → Sound x
+  pub within : (name : List ℕ) (x : Declared) → what_is es name ≡ Some x → entity_number es name < root w
 
 pub entities_sound : (levels : List (List ℕ)) (le : ℕ → ℕ → Bool) (d : DesignTree) → declarations_faults levels le d.declarations ≡ []
     → AllSound (entities_of d)
@@ -88,4 +89,7 @@ resolved ls le d h = record {
   sound = λ name x i.
       let f = what_found (find (entities_of d) name) x i in
       subst (λ (y : Declared). Sound y) f.2 (found_sound (entities_of d) name f.0 (entities_sound ls.names le d h) f.1);
+  within = λ name x i.
+      let f = what_found (find (entities_of d) name) x i in
+      entity_within ls d name f.0 f.1;
 }

@@ -7,8 +7,8 @@ use Rattle.sap_shape.specs.WellFormed.{WellFormed}
 use Rattle.sap_meaning.specs.Program.{Step}
 use Rattle.sap_meaning.specs.Store.{Store}
 use Rattle.sap_meaning.specs.Checks.{site_of}
-use Rattle.sap_meaning.specs.Cycle.{Tagged}
-use Rattle.sap_meaning.specs.Sites.{program_sites, Sublist}
+use Rattle.sap_meaning.specs.Cycle.{Tagged, cycle}
+use Rattle.sap_meaning.specs.Sites.{program_sites, refused_sites, Sublist}
 use Rattle.sap_resolve.specs.Fill.{program_of}
 use Rattle.sap_secure.specs.Once.Steps.{cycle_steps}
 
@@ -34,3 +34,8 @@ SitesInTurn = (ls : Levels) (d : DesignTree) → Laws (order_of ls) → WellForm
 abbrev pub EachSiteOnce : Type 0
 EachSiteOnce = (ls : Levels) (d : DesignTree) → Laws (order_of ls) → WellFormed ls d → (inputs : List Tagged) (s : Store)
     → (k : ℕ) → 1 ≤ k → comes_to k (cycle_steps (program_of ls d) inputs s) ≤ 1
+
+-- The sites that the labelled cycle refuses are among those, in the same order.
+abbrev pub RefusedMet : Type 0
+RefusedMet = (ls : Levels) (d : DesignTree) → Laws (order_of ls) → WellFormed ls d → (inputs : List Tagged) (s : Store)
+    → Sublist (refused_sites (cycle (program_of ls d) inputs s).refused) (sites_met (cycle_steps (program_of ls d) inputs s))

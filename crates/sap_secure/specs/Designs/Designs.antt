@@ -12,7 +12,7 @@ use Rattle.sap_resolve.specs.Fill.{program_of}
 use Rattle.sap_secure.specs.Confinement.{Confines}
 use Rattle.sap_secure.specs.Laws.{CyclesAgree, LaterAgree, LabelledAgree}
 
--- in a context that is not at or below a level, a command of the design changes nothing that is
+-- in a context that is not at or below a level, a command of the design changes nothing that is, under the conditions of `Hidden`
 abbrev pub DesignsConfine : Type 0
 DesignsConfine = (ls : Levels) (d : DesignTree) → Laws (order_of ls) → WellFormed ls d → Confines (program_of ls d)
 
