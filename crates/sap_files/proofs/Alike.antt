@@ -16,8 +16,8 @@ use Rattle.sap_interface.specs.StandsFor.{Named, world}
 use Rattle.sap_interface.specs.Designs.{named_of}
 use Rattle.sap_stim.specs.declared.field.Field.TheVariants as field
 use Rattle.sap_stim.specs.declared.stimulus.Parsed.{Parsed}
-use Rattle.sap_sim.specs.declared.rows.Rows.{Rows}
 use Rattle.sap_stim.specs.Stimulus.{stimulus_of}
+use Rattle.sap_sim.specs.Simulated.{Rows}
 use Rattle.sap_sim.specs.Labelled.Fields.{design_fields}
 use Rattle.sap_sim.specs.Labelled.LabelledRows.{labelled_row, labelled_rows, register_shown, registers_shown, rows_of_run}
 use Rattle.sap_sim.specs.Labelled.RunOf.{IsRunOf, read_for}

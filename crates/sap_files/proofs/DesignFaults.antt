@@ -4,7 +4,7 @@ use Rattle.sap_check.proofs.FaultsLemmas.{no_check_fault}
 use Rattle.sap_lattice.specs.Levels.{Levels}
 use Rattle.sap_tree.specs.Syntax.{DesignTree}
 use Rattle.sap_parse.specs.Text.{IsText, IsReadFault}
-use Rattle.sap_parse.specs.declared.fault.ReadFault.{ReadFault}
+use Rattle.sap_lex.specs.declared.fault.ReadFault.{ReadFault}
 use Rattle.sap_shape.specs.WellFormed.{WellFormed}
 use Rattle.sap_files.specs.DesignFaults.{IsDesignFault}
 use Rattle.sap_files.specs.declared.fault.DesignFault.{DesignFault}

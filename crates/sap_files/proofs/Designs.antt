@@ -6,8 +6,8 @@ use Rattle.sap_latfile.specs.OneLattice.{AreSame}
 use Rattle.sap_tree.specs.Syntax.{DesignTree}
 use Rattle.sap_text.specs.declared.place.Place.{Place}
 use Rattle.sap_parse.specs.Text.{IsText, IsReadFault}
-use Rattle.sap_parse.specs.declared.fault.ReadFault.{ReadFault}
-use Rattle.sap_parse.specs.declared.fault.ReadFault.TheVariants as read
+use Rattle.sap_lex.specs.declared.fault.ReadFault.{ReadFault}
+use Rattle.sap_lex.specs.declared.fault.ReadFault.TheVariants as read
 use Rattle.sap_parse.proofs.OneReading as reading
 use Rattle.sap_names.specs.Fault.{First}
 use Rattle.sap_names.specs.declared.fault.Fault.{Fault}

@@ -9,7 +9,7 @@ use Rattle.sap_lattice.specs.Levels.{Levels}
 use Rattle.sap_tree.specs.Syntax.{DesignTree}
 use Rattle.sap_parse.specs.Limits.{most_bytes}
 use Rattle.sap_parse.specs.Text.{IsText, IsReadFault, too_long, no_token, unexpected, over}
-use Rattle.sap_parse.specs.declared.fault.ReadFault.{ReadFault}
+use Rattle.sap_lex.specs.declared.fault.ReadFault.{ReadFault}
 use Rattle.sap_files.specs.declared.fault.DesignFault.{DesignFault}
 use Rattle.sap_files.specs.declared.fault.DesignFault.TheVariants.{Read, Check}
 use Rattle.sap_files.specs.DesignFaults.{IsDesignFault}

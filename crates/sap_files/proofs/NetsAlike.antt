@@ -30,8 +30,7 @@ use Rattle.sap_sim.specs.Fields.{field_of, fields_of, is_tag, with_field}
 use Rattle.sap_sim.specs.Numbers.{given, numbers_of, value_for}
 use Rattle.sap_interface.specs.PortNames.{value_name, tag_name}
 use Rattle.sap_sim.specs.Shown.{register_ports, row_of, rows_from, shown_among, shown_registers}
-use Rattle.sap_sim.specs.Simulated.{IsSimulated, read_for}
-use Rattle.sap_sim.specs.declared.rows.Rows.{Rows}
+use Rattle.sap_sim.specs.Simulated.{IsSimulated, Rows, read_for}
 use Rattle.sap_sim.proofs.Registers.{IsShown, all_shown, register_port_is}
 use Rattle.sap_files.specs.StimulusTexts.{AreModuleRows}
 use Rattle.sap_files.proofs.Stimuli.{stimulus_in}

@@ -10,8 +10,7 @@ use Rattle.sap_meaning.specs.State.{labelled_run}
 use Rattle.sap_resolve.specs.Fill.{program_of}
 use Rattle.sap_stim.specs.declared.stimulus.Parsed.{Parsed}
 use Rattle.sap_sim.specs.Labelled.RunOf.{read_for}
-use Rattle.sap_trace.specs.declared.trace.Trace.{Trace}
-use Rattle.sap_trace.specs.TraceOf.{IsTraceOf}
+use Rattle.sap_trace.specs.TraceOf.{IsTraceOf, Trace}
 use Rattle.sap_trace.specs.Lines.{labelled_trace, refusal_line, refusal_lines, trace_of_run}
 use Rattle.sap_files.proofs.Alike.{read_in}
 use Rattle.sap_files.proofs.Programs.{program_in}

@@ -4,7 +4,7 @@ use Rattle.std.specs.Fmt.{decimal}
 pub use Rattle.sap_text.specs.Places.{line}
 use Rattle.sap_latfile.specs.FaultTexts.{lattice_text}
 use Rattle.sap_latfile.specs.declared.fault.LatFileFault.{LatFileFault}
-use Rattle.sap_parse.specs.FaultTexts.{read_text}
+use Rattle.sap_lex.specs.FaultTexts.{read_text}
 use Rattle.sap_names.specs.FaultTexts.{check_text}
 use Rattle.sap_files.specs.declared.fault.DesignFault.{DesignFault}
 use Rattle.sap_files.specs.declared.fault.DesignFault.TheVariants.{Read, Check}

@@ -8,7 +8,7 @@ use Rattle.sap_latfile.specs.declared.fault.LatFileFault.TheVariants as lattice_
 use Rattle.sap_tree.specs.Syntax.{DesignTree}
 use Rattle.sap_parse.specs.Limits.{most_bytes}
 use Rattle.sap_parse.specs.Text.{IsText, IsReadFault}
-use Rattle.sap_parse.specs.declared.fault.ReadFault.{ReadFault}
+use Rattle.sap_lex.specs.declared.fault.ReadFault.{ReadFault}
 use Rattle.sap_shape.specs.WellFormed.{WellFormed}
 use Rattle.sap_meaning.specs.Cycle.{Tagged}
 use Rattle.sap_stim.specs.declared.fault.StimFault.{StimFault}

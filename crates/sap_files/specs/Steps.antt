@@ -7,8 +7,8 @@ use Rattle.sap_lattice.specs.Levels.{Levels, order_of}
 use Rattle.sap_latfile.specs.declared.fault.LatFileFault.{LatFileFault}
 use Rattle.sap_latfile.specs.declared.fault.LatFileFault.TheVariants as lattice_fault
 use Rattle.sap_parse.specs.Limits.{most_bytes}
-use Rattle.sap_parse.specs.declared.fault.ReadFault.{ReadFault}
-use Rattle.sap_parse.specs.declared.fault.ReadFault.TheVariants as read_fault
+use Rattle.sap_lex.specs.declared.fault.ReadFault.{ReadFault}
+use Rattle.sap_lex.specs.declared.fault.ReadFault.TheVariants as read_fault
 use Rattle.sap_names.specs.declared.fault.CheckFault.{CheckFault}
 use Rattle.sap_names.specs.declared.fault.CheckFault.TheVariants as check_fault
 use Rattle.sap_check.specs.Checked.{levels_in, tree_in}

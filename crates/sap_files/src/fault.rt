@@ -1,7 +1,7 @@
 //! Why the text of a design gives no module, no run and no report.
 
+use sap_lex::fault::ReadFault;
 use sap_names::fault::CheckFault;
-use sap_parse::fault::ReadFault;
 use std::fmt;
 
 /// The first fault of the text of a design over a lattice; never want of memory.

@@ -26,6 +26,7 @@ use Rattle.sap_stim.specs.declared.field.Field.{Field}
 use Rattle.sap_stim.specs.Line.{IsSized, field_width}
 use Rattle.sap_stim.specs.Fits.{LineFits, StreamFits}
 use Rattle.sap_sim.specs.Fields.{tag_width, input_widths, is_tagged, is_tag, with_field, field_of, fields_of}
+use Rattle.sap_sim.proofs.Maps.{place_behind}
 use Rattle.sap_sim.specs.Numbers.{place, nothing, field_names, given, value_for, number_for, numbers_of}
 use Rattle.sap_sim.proofs.Registers.{each}
 use Rattle.sap_sim.proofs.Origins.{names_of, among_filter}
@@ -71,7 +72,10 @@ own_fits ls tag is sc (m ∷ fs) all (y ∷ ys) fits x w h e =
           let k : y.number < 2 ^ m.width = subst (λ (u : ℕ). y.number < 2 ^ u) (field_width_is tag is m) fits.0.value in
           rw t (subst (λ (u : ℕ). y.number < 2 ^ u) (sym j) k)
           )
-      | inr f ↦ rw f (own_fits ls tag is sc fs all.1 ys fits.1 x w (rw (bytes_eq_apart_back m.name x f) at h) e)
+      | inr f ↦ (
+          let r = own_fits ls tag is sc fs all.1 ys fits.1 x w (rw (bytes_eq_apart_back m.name x f) at h) e in
+          subst (λ (k : ℕ). (get_or (y ∷ ys) k nothing).number < 2 ^ w) (sym (place_behind m.name (names_of fs) x f)) r
+          )
     ]
 
 number_fits : (ls : Levels) → Codes (order_of ls) → (is : List Input) → AllByRecursion (λ j. find (input_widths is) j.name ≡ Some j.width) is → (xs : List Given)

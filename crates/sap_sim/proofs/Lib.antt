@@ -7,8 +7,5 @@ pub mod Fits
 pub mod Runs
 pub mod Told
 pub mod OneMore
-pub mod Following
-pub mod Spans
-pub mod Few
 pub mod Stepped
 pub mod Stepping

@@ -16,13 +16,12 @@ use Rattle.sap_cycle.specs.Running.{Running, Shows, ShowsNext, seen}
 use Rattle.sap_stim.specs.declared.field.Field.{Field}
 use Rattle.sap_stim.specs.Fits.{LineFits, StimulusFits}
 use Rattle.sap_stim.specs.Rows.{row_text, shown_of}
-use Rattle.sap_sim.specs.declared.rows.Rows.{Rows}
 use Rattle.sap_sim.specs.declared.steps.Plan.{Plan}
 use Rattle.sap_sim.specs.Fields.{field_of, fields_of, tag_width, with_field}
 use Rattle.sap_sim.specs.Layout.{IsPlan, number_from, seen_at, source_place}
 use Rattle.sap_sim.specs.Numbers.{numbers_of}
 use Rattle.sap_sim.specs.Shown.{shown_registers, row_of}
-use Rattle.sap_sim.specs.Simulated.{IsSimulated, read_for}
+use Rattle.sap_sim.specs.Simulated.{IsSimulated, Rows, read_for}
 use Rattle.sap_sim.specs.Stepped.{Stepped}
 use Rattle.sap_sim.specs.Stepping.{IsPlanned, IsAfter, HasRowMore, AreRows, RowsAddUp}
 use Rattle.sap_sim.proofs.Fits.{line_fits, stream_fits}

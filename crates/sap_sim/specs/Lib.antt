@@ -15,11 +15,8 @@ pub use Rattle.sap_interface.specs.Designs as InterfaceDesigns
 pub use Rattle.sap_interface.specs.PortNames
 pub use Rattle.sap_maps.specs.Maps
 pub use Rattle.sap_meaning.specs.Cycle
-pub use Rattle.sap_net.specs.NameMaps
 pub use Rattle.sap_net.specs.Net
-pub use Rattle.sap_net.specs.Runs
 pub use Rattle.sap_stim.specs.Fits
 pub use Rattle.sap_stim.specs.Line
 pub use Rattle.sap_stim.specs.Rows
-pub use Rattle.sap_stream.specs.Spans
 pub use Rattle.sap_tree.specs.Designs as TreeDesigns

@@ -1,5 +1,5 @@
 -- Names with numbers, by a map.
-use Rattle.std.specs.Prelude.{◌≡◌, ℕ, ◌+◌, List, [], ◌∷◌}
+use Rattle.std.specs.Prelude.{◌≡◌, ℕ}
 use Rattle.sap_maps.specs.Maps.{Name}
 use Rattle.sap_maps.specs.Scope.{Scope, find}
 use Rattle.sap_net.specs.NameMaps.{NameMap, at_name}
@@ -7,8 +7,3 @@ use Rattle.sap_net.specs.NameMaps.{NameMap, at_name}
 -- the map finds what these names are declared with
 pub record Finds (m : NameMap ℕ) (sc : Scope) : Type 0 where
   pub same : (x : Name) → at_name m x ≡ find sc x
-
--- names with their places, the first place being this one
-abbrev pub places_from : ℕ → List Name → Scope
-places_from k [] = []
-places_from k (n ∷ ns) = (n, k) ∷ places_from (k + 1) ns

@@ -1,5 +1,6 @@
 -- The numbers that a line of a stimulus gives the inputs of a netlist.
-use Rattle.std.specs.Prelude.{ℕ, suc, List, [], ◌∷◌, map, get_or, bytes_eq, if◌then◌else◌}
+use Rattle.std.specs.Prelude.{ℕ, List, [], ◌∷◌, map, get_or, bytes_eq, if◌then◌else◌}
+use Rattle.std.specs.List.{position_or_len}
 use Rattle.std.specs.Str.{byte}
 use Rattle.sap_lattice.specs.Levels.{Levels, order_of}
 use Rattle.sap_lattice.specs.Codes.{code_of}
@@ -11,8 +12,7 @@ use Rattle.sap_sim.specs.Fields.{tag_width, is_tag, with_field}
 
 -- where a name stands on a list, from 0: the first place, or the length where there is none
 abbrev pub place : List Name → Name → ℕ
-place [] n = 0
-place (m ∷ ns) n = if bytes_eq m n then 0 else suc (place ns n)
+place ns n = position_or_len (λ m. bytes_eq m n) ns
 
 abbrev pub nothing : Given
 nothing = record { number = 0; level = 0 }

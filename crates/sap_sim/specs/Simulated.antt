@@ -1,15 +1,20 @@
 -- The rows of a netlist on a stimulus.
-use Rattle.std.specs.Prelude.{◌≡◌, ℕ, List, map}
+use Rattle.std.specs.Prelude.{◌≡◌, ℕ, List, Option, map}
 use Rattle.sap_lattice.specs.Levels.{Levels}
 use Rattle.sap_maps.specs.Maps.{Valuation}
 use Rattle.sap_net.specs.Net.{Net}
 use Rattle.sap_net.specs.Runs.{IsRun, observed}
+use Rattle.sap_stim.specs.declared.fault.StimFault.{StimFault}
 use Rattle.sap_stim.specs.declared.stimulus.Parsed.{Parsed}
 use Rattle.sap_stim.specs.Stimulus.{stimulus_of}
-use Rattle.sap_sim.specs.declared.rows.Rows.{Rows}
 use Rattle.sap_sim.specs.Fields.{fields_of}
 use Rattle.sap_sim.specs.Numbers.{numbers_of}
 use Rattle.sap_sim.specs.Shown.{shown_registers, rows_from}
+
+-- the rows of the cycles before the first refused line of a stimulus, and that line, where there is one
+pub record Rows : Type 0 where
+  pub text : List ℕ
+  pub fault : Option StimFault
 
 -- what the bytes of a stimulus are to a netlist
 abbrev pub read_for : Levels → Net → List ℕ → Parsed

@@ -6,13 +6,12 @@ use Rattle.sap_net.specs.Net.{Net}
 use Rattle.sap_stim.specs.declared.fault.StimFault.{StimFault}
 use Rattle.sap_stim.specs.Line.{IsSized}
 use Rattle.sap_stim.specs.Rows.{HoldsRows}
-use Rattle.sap_sim.specs.declared.rows.Rows.{Rows}
 use Rattle.sap_sim.specs.declared.steps.Plan.{Plan}
 use Rattle.sap_sim.specs.Fields.{fields_of}
 use Rattle.sap_sim.specs.Numbers.{numbers_of}
 use Rattle.sap_sim.specs.Shown.{shown_registers, row_of}
 use Rattle.sap_sim.specs.Layout.{IsPlan}
-use Rattle.sap_sim.specs.Simulated.{IsSimulated, read_for}
+use Rattle.sap_sim.specs.Simulated.{IsSimulated, Rows, read_for}
 use Rattle.sap_sim.specs.Stepped as stepped
 use Rattle.sap_sim.specs.Stepped.{Stepped, TellsMore, TellsAll}
 

@@ -6,8 +6,8 @@ ghost use Rattle.sap_sim.specs.Fields.{input_widths, is_tagged, is_tag, field_of
 ghost use Rattle.sap_sim.specs.Numbers.{field_names};
 ghost use Rattle.sap_sim.specs.Lookup.{Finds};
 
-use crate::lookup::number;
 use crate::ports::{behind, joined};
+use sap_net::name_map::at_name;
 use sap_net::parts::{Input, Name};
 use sap_stim::{Field, Fields};
 use std::alloc::{AllocError, Global};
@@ -25,7 +25,7 @@ fn is_tagged(
     match behind(b'v', input.name.as_bytes()) {
         Some(a) => {
             let name = joined(alloc, b't', a)?;
-            Ok(number(widths, &name) == Some(tag as usize))
+            Ok(at_name(widths, &name) == Some(tag as usize))
         }
         None => Ok(false),
     }
@@ -46,7 +46,7 @@ pub fn is_tag(
     match behind(b't', input.name.as_bytes()) {
         Some(a) => {
             let name = joined(alloc, b'v', a)?;
-            Ok(number(widths, &name).is_some())
+            Ok(at_name(widths, &name).is_some())
         }
         None => Ok(false),
     }

@@ -1,39 +1,18 @@
 //! The rows of the labelled run of a design.
 
-ghost use Rattle.std.specs.Prelude.{◌≡◌, ◌<◌, ◌^◌, IfOk, length};
+ghost use Rattle.std.specs.Prelude.{◌≡◌};
 ghost use Rattle.sap_tree.specs.Designs.{design_of};
 ghost use Rattle.sap_interface.specs.Designs.{StandsForDesign};
 ghost use Rattle.sap_sim.specs.Fields.{fields_of};
 ghost use Rattle.sap_sim.specs.Labelled.Fields.{design_fields};
-ghost use Rattle.sap_sim.specs.Labelled.RunOf.{GivesRuns, IsRunOf};
+ghost use Rattle.sap_sim.specs.Labelled.RunOf.{GivesRuns};
 ghost use Rattle.sap_sim.specs.Labelled.Examples.{AddsOne};
 
-use crate::{Rows, simulate};
 use sap_lattice::Lattice;
 use sap_net::netlist::Netlist;
 use sap_stim::stimulus_fits;
 use sap_tree::design::Design;
 use sap_tree::whole::design_is_whole;
-use std::alloc::{AllocError, Global};
-
-/// The rows of a design on the bytes of a stimulus, by a netlist that stands for the design over the lattice.
-pub fn run(
-    alloc: Global,
-    lattice: &Lattice,
-    design: &Design,
-    netlist: Netlist,
-    stimulus: &[u8],
-) -> Result<Rows, AllocError>
-    requires stands { StandsForDesign lattice.now (design_of design.now) netlist }
-    requires short { length stimulus.now < 2 ^ 32 }
-    ensures rows { IfOk result (λ rows. IsRunOf lattice.now (design_of design.now) stimulus.now rows) }
-{
-    design_is_whole(design);
-    netlist.rules();
-    lattice.lawful();
-    stimulus_fits();
-    simulate(alloc, lattice, netlist, stimulus)
-}
 
 /// The rows that a netlist gives on a stimulus are those of each design for which it stands; lines have the same fields to both.
 pub fn rows_of_run(lattice: &Lattice, design: &Design, netlist: &Netlist)

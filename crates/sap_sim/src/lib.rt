@@ -1,7 +1,7 @@
 //! The rows of a netlist on a stimulus.
 //!
-//! `simulate` reads the stimulus by the netlist's inputs, steps the netlist on each line before the first
-//! that is refused, and prints the registers after each step.
+//! `Simulation` reads each line by the netlist's inputs, steps the netlist on it, and appends the registers after the step.
+//! `rows_of_run` says of which design the rows are.
 #![tactic(auto)]
 
 mod feed;
@@ -10,7 +10,6 @@ pub mod labelled;
 mod loading;
 mod lookup;
 mod ports;
-pub mod rows;
 mod shown;
 pub mod simulation;
 mod sources;
@@ -18,8 +17,7 @@ mod steps;
 
 ghost use Rattle.sap_sim.specs.Examples as examples;
 
-pub use labelled::{rows_of_run, run};
-pub use rows::{Rows, simulate};
+pub use labelled::rows_of_run;
 pub use simulation::Simulation;
 
 /// The fields of a small netlist, the numbers that a line gives its inputs, and the registers that its

@@ -1,37 +1,14 @@
-//! Maps from names to numbers.
+//! Maps from names to widths.
 
-ghost use Rattle.std.specs.Prelude.{◌≡◌, ℕ, ◌∷◌, IfOk, OnOk, map};
-ghost use Rattle.sap_maps.specs.Maps.{Name as Text};
-ghost use Rattle.sap_maps.specs.Scope.{Scope};
-ghost use Rattle.sap_net.specs.NameMaps.{at_name};
+ghost use Rattle.std.specs.Prelude.{IfOk};
 ghost use Rattle.sap_sim.specs.Fields.{input_widths};
 ghost use Rattle.sap_sim.specs.Shown.{register_widths};
-ghost use Rattle.sap_sim.specs.Lookup.{Finds, places_from};
+ghost use Rattle.sap_sim.specs.Lookup.{Finds};
 
-use sap_net::parts::{Input, Name, Register};
+use sap_net::name_map::put;
+use sap_net::parts::{Input, Register};
 use std::alloc::{AllocError, Global};
 use std::collections::HashMap;
-
-/// Declares a name anew with this number.
-fn put(
-    numbers: &mut HashMap<Vec<u8>, usize>,
-    alloc: Global,
-    name: &Name,
-    number: usize,
-) -> Result<(), AllocError>
-    ensures { OnOk result ((sc : Scope) → Finds numbers.old sc → Finds numbers.new ((name.now, number) ∷ sc)) }
-{
-    let key = name.as_bytes().to_vec(alloc)?;
-    numbers.insert(key, number)?;
-    Ok(())
-}
-
-/// The number of a name.
-pub fn number(numbers: &HashMap<Vec<u8>, usize>, name: &[u8]) -> Option<usize>
-    ensures { result ≡ at_name numbers.now name.now }
-{
-    numbers.get(name).copied()
-}
 
 /// The widths of inputs, by name.
 pub fn input_widths(alloc: Global, inputs: &[Input]) -> Result<HashMap<Vec<u8>, usize>, AllocError>
@@ -67,15 +44,4 @@ pub fn register_widths(
         )?;
     }
     Ok(widths)
-}
-
-/// The places of names in a list.
-pub fn places(alloc: Global, names: &[Name]) -> Result<HashMap<Vec<u8>, usize>, AllocError>
-    ensures { IfOk result (λ m. Finds m (places_from 0 names.now)) }
-{
-    let mut places = HashMap::new(alloc);
-    for k in (0..names.len()).rev() {
-        put(&mut places, alloc, &names[k], k)?;
-    }
-    Ok(places)
 }

@@ -10,12 +10,14 @@ ghost use Rattle.sap_cycle.specs.Running.{IsPlaceOf};
 ghost use Rattle.sap_sim.specs.Ports.{value_of, is_number};
 ghost use Rattle.sap_interface.specs.PortNames.{value_name, tag_name};
 ghost use Rattle.sap_sim.specs.Shown.{register_ports, register_widths, has_tag, shown_by, shown_among};
-ghost use Rattle.sap_sim.specs.Lookup.{Finds, places_from};
+ghost use Rattle.sap_sim.specs.Lookup.{Finds};
+ghost use Rattle.sap_net.specs.NameMaps.{Indexes};
 ghost use Rattle.sap_sim.specs.Layout.{ArePlaces};
 
-use crate::lookup::{number, places, register_widths};
+use crate::lookup::register_widths;
 use crate::ports::{behind, joined};
 use sap_cycle::runner::{Place, Runner};
+use sap_net::name_map::{at_name, index_names, is_indexed};
 use sap_net::netlist::Netlist;
 use sap_net::parts::{Name, Port, PortKind};
 use std::alloc::{AllocError, Global};
@@ -34,16 +36,10 @@ fn register_ports(alloc: Global, ports: &[Port]) -> Result<Vec<Name>, AllocError
     Ok(names)
 }
 
-fn is_port(ports: &HashMap<Vec<u8>, usize>, name: &[u8]) -> bool
-    ensures { (names : List Text) → Finds ports.now (places_from 0 names) → result ≡ is_among name.now names }
-{
-    number(ports, name).is_some()
-}
-
 fn is_wide(widths: &HashMap<Vec<u8>, usize>, tag: u32, name: &[u8]) -> bool
     ensures { (sc : Scope) → Finds widths.now sc → result ≡ is_number tag (find sc name.now) }
 {
-    number(widths, name) == Some(tag as usize)
+    at_name(widths, name) == Some(tag as usize)
 }
 
 /// Whether an `output reg` port `t_x` of the width of tags is there.
@@ -54,11 +50,11 @@ fn has_tag(
     tag: u32,
     x: &[u8],
 ) -> Result<bool, AllocError>
-    ensures { IfOk result (λ has. (n : Net) → Finds ports.now (places_from 0 (register_ports n.ports)) → Finds widths.now (register_widths n.registers)
+    ensures { IfOk result (λ has. (n : Net) → Indexes ports.now (register_ports n.ports) → Finds widths.now (register_widths n.registers)
         → has ≡ has_tag tag n x.now) }
 {
     let name = joined(alloc, b't', x)?;
-    let is_port = is_port(ports, &name);
+    let is_port = is_indexed(ports, &name);
     let is_wide = is_wide(widths, tag, &name);
     Ok(is_port && is_wide)
 }
@@ -73,7 +69,7 @@ fn push_shown(
     name: &Name,
 ) -> Result<(), AllocError>
     requires { is_name name.now ≡ true }
-    ensures { OnOk result ((n : Net) → Finds ports.now (places_from 0 (register_ports n.ports)) → Finds widths.now (register_widths n.registers)
+    ensures { OnOk result ((n : Net) → Indexes ports.now (register_ports n.ports) → Finds widths.now (register_widths n.registers)
         → xs.new.items ≡ xs.old.items ++ shown_by tag n (value_of name.now)) }
 {
     let Some(x) = behind(b'v', name.as_bytes()) else {
@@ -96,7 +92,7 @@ fn shown_among(
     names: &[Name],
 ) -> Result<Vec<Name>, AllocError>
     requires { All (λ x. is_name x ≡ true) names.now }
-    ensures { IfOk result (λ xs. (n : Net) → Finds ports.now (places_from 0 (register_ports n.ports)) → Finds widths.now (register_widths n.registers)
+    ensures { IfOk result (λ xs. (n : Net) → Indexes ports.now (register_ports n.ports) → Finds widths.now (register_widths n.registers)
         → xs.items ≡ shown_among tag n names.now) }
 {
     let mut xs = Vec::new(alloc);
@@ -150,7 +146,7 @@ fn shown_labels(
     ensures { IfOk result (λ xs. xs.items ≡ shown_among tag netlist.now (register_ports netlist.now.ports)) }
 {
     netlist.rules();
-    let ports = places(alloc, registers)?;
+    let ports = index_names(alloc, registers)?;
     let widths = register_widths(alloc, netlist.registers())?;
     shown_among(alloc, &ports, &widths, tag, registers)
 }

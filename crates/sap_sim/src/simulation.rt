@@ -92,7 +92,8 @@ fn push_held(
     tags: &[u64],
     lattice: &Lattice,
 )
-    requires lengths { (length values.now ≡ length names.now) × (length tags.now ≡ length names.now) }
+    requires values { length values.now ≡ length names.now }
+    requires tags { length tags.now ≡ length names.now }
     requires room { (room : ℕ) × HoldsRows lattice.now names.now room × (length out.old.bytes + room ≤ out.old.room) }
     ensures text { out.new.bytes ≡ out.old.bytes ++ row_text cycle (shown_of lattice.now names.now values.now tags.now) }
     ensures memory { out.old.room ≤ out.new.room }

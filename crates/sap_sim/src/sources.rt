@@ -5,11 +5,12 @@ ghost use Rattle.sap_maps.specs.Maps.{Name as Text};
 ghost use Rattle.sap_net.specs.declared.parts.Input.{Input as NetInput};
 ghost use Rattle.sap_sim.specs.Fields.{input_widths};
 ghost use Rattle.sap_sim.specs.Numbers.{place, field_names, value_for};
-ghost use Rattle.sap_sim.specs.Lookup.{Finds, places_from};
+ghost use Rattle.sap_sim.specs.Lookup.{Finds};
+ghost use Rattle.sap_net.specs.NameMaps.{Indexes};
 ghost use Rattle.sap_sim.specs.Layout.{source_of};
 
 use crate::fields::is_tag;
-use crate::lookup::{number, places};
+use sap_net::name_map::{at_name, index_names};
 use sap_net::parts::{Input, Name};
 use std::alloc::{AllocError, Global};
 use std::collections::HashMap;
@@ -23,9 +24,9 @@ pub enum Source {
 
 /// The place of a name in a list of this length, or the length.
 fn place(numbers: &HashMap<Vec<u8>, usize>, count: usize, name: &[u8]) -> usize
-    ensures { (names : List Text) → Finds numbers.now (places_from 0 names) → length names ≡ count → result ≡ place names name.now }
+    ensures { (names : List Text) → Indexes numbers.now names → length names ≡ count → result ≡ place names name.now }
 {
-    number(numbers, name).unwrap_or(count)
+    at_name(numbers, name).unwrap_or(count)
 }
 
 /// The name `v_a` for `t_a`.
@@ -48,7 +49,7 @@ fn source_of(
     tag: u32,
     input: &Input,
 ) -> Result<Source, AllocError>
-    ensures { IfOk result (λ s. (inputs : List NetInput) → Finds widths.now (input_widths inputs) → Finds numbers.now (places_from 0 (field_names tag inputs))
+    ensures { IfOk result (λ s. (inputs : List NetInput) → Finds widths.now (input_widths inputs) → Indexes numbers.now (field_names tag inputs)
         → length (field_names tag inputs) ≡ count → s ≡ source_of tag inputs input.now) }
 {
     if is_tag(alloc, widths, tag, input)? {
@@ -69,7 +70,7 @@ fn sources_by(
     inputs: &[Input],
 ) -> Result<Vec<Source>, AllocError>
     requires widths { Finds widths.now (input_widths inputs.now) }
-    requires places { Finds numbers.now (places_from 0 (field_names tag inputs.now)) }
+    requires places { Indexes numbers.now (field_names tag inputs.now) }
     requires count { length (field_names tag inputs.now) ≡ count }
     ensures { IfOk result (λ s. s.items ≡ map (source_of tag inputs.now) inputs.now) }
 {
@@ -92,6 +93,6 @@ pub fn sources(
     requires names { names.now ≡ field_names tag inputs.now }
     ensures { IfOk result (λ s. s.items ≡ map (source_of tag inputs.now) inputs.now) }
 {
-    let numbers = places(alloc, names)?;
+    let numbers = index_names(alloc, names)?;
     sources_by(alloc, widths, &numbers, names.len(), tag, inputs)
 }

@@ -1,6 +1,6 @@
 -- What a line gives the inputs of a module, field by field.
-use Rattle.std.proofs.Common.{◌≡◌, ℕ, zero, suc, ◌+◌, ◌*◌, ◌<◌, ◌≤◌, List, [], ◌∷◌, ◌++◌, length, get_or, take, set, refl, sym, ap, ◌∙◌, arith}
-use Rattle.std.proofs.lemmas.List.{take_all, take_more_set, length-set}
+use Rattle.std.proofs.Common.{◌≡◌, ℕ, zero, suc, ◌+◌, ◌*◌, ◌<◌, List, [], ◌∷◌, ◌++◌, length, get_or, take, set, refl, sym, ap, ◌∙◌, arith}
+use Rattle.std.proofs.lemmas.List.{take_more_set, length-set}
 use Rattle.sap_lattice.specs.Levels.{Levels, order_of}
 use Rattle.sap_lattice.specs.Codes.{code_of}
 use Rattle.sap_meaning.specs.Cycle.{Tagged}
@@ -13,16 +13,13 @@ one_more ls (y ∷ ys) zero x l e = ap (λ (z : Tagged). z.number ∷ code_of (o
 one_more ls (y ∷ ys) (suc k) x l e =
     ap (λ (ns : List ℕ). y.number ∷ code_of (order_of ls) y.level ∷ ns) (one_more ls ys k x (omega arith) e)
 
-pub given_more : (ls : Levels) (xs : List Tagged) (k : ℕ) (x : Tagged) (n : ℕ) (old mid new : List ℕ) → k < length xs → x ≡ get_or xs k x → n ≡ code_of (order_of ls) x.level
+given_more : (ls : Levels) (xs : List Tagged) (k : ℕ) (x : Tagged) (n : ℕ) (old mid new : List ℕ) → k < length xs → x ≡ get_or xs k x → n ≡ code_of (order_of ls) x.level
     → old ≡ given ls (take k xs) → mid ≡ old ++ x.number ∷ [] → new ≡ mid ++ n ∷ [] → new ≡ given ls (take (k + 1) xs)
 given_more ls xs k x n old mid new l e i h f g =
     let j : suc k ≡ k + 1 = omega arith in
     g ∙ ap (λ (m : ℕ). mid ++ m ∷ []) i
     ∙ ap (λ (ns : List ℕ). ns ++ code_of (order_of ls) x.level ∷ []) (f ∙ ap (λ (ns : List ℕ). ns ++ x.number ∷ []) h) ∙ sym (one_more ls xs k x l e)
     ∙ ap (λ (m : ℕ). given ls (take m xs)) j
-
-pub given_all : (ls : Levels) (xs : List Tagged) (k : ℕ) (all : List ℕ) → length xs ≤ k → all ≡ given ls (take k xs) → all ≡ given ls xs
-given_all ls xs k all l e = e ∙ ap (given ls) (take_all k xs l)
 
 -- an item that is there is the same whatever stands for one that is not
 pub same_item : (xs : List Tagged) (k : ℕ) (d e : Tagged) → k < length xs → get_or xs k d ≡ get_or xs k e

@@ -24,13 +24,12 @@ use Rattle.sap_sim.specs.Labelled.RunOf.{read_for}
 use Rattle.sap_sim.specs.Stepped.{Stepped}
 use Rattle.sap_sim.proofs.Stepped.{line_split, told_begins, told_goes_on, told_part, cycle_shown, after_line}
 use Rattle.sap_secure.specs.CheckSites.Numbering.{OneNumbering}
-use Rattle.sap_trace.specs.declared.trace.Trace.{Trace}
 use Rattle.sap_trace.specs.declared.wires.Wires.{Wires}
 use Rattle.sap_trace.specs.Fields.{given}
 use Rattle.sap_trace.specs.Lines.{labelled_trace}
 use Rattle.sap_trace.specs.Seen.{AreWires, cycle_lines, lines_from}
 use Rattle.sap_trace.specs.Stepping.{IsPlanned, IsAfter, HasLinesMore, AreLines, LinesAddUp}
-use Rattle.sap_trace.specs.TraceOf.{IsTraceOf}
+use Rattle.sap_trace.specs.TraceOf.{IsTraceOf, Trace}
 use Rattle.sap_trace.proofs.Designs.{inputs_fit, trace_is}
 
 module _ (ls : Levels) (d : DesignTree) (n : Net) where

@@ -1,5 +1,5 @@
 -- The fields of a stimulus for a design, by its entities: a tagged field for each input.
-use Rattle.std.specs.Prelude.{ℕ, List, [], ◌∷◌, ◌++◌, Option, Some, None}
+use Rattle.std.specs.Prelude.{ℕ, List, [], ◌∷◌, Option, Some, None, flat_map}
 use Rattle.sap_lattice.specs.Levels.{Levels, order_of}
 use Rattle.sap_lattice.specs.Codes.{code_of}
 use Rattle.sap_names.specs.declared.kind.Declared.{Declared}
@@ -17,8 +17,7 @@ field_of (what.Memory width depth) = []
 field_of what.State = []
 
 abbrev pub fields_among : List Entity → List Field
-fields_among [] = []
-fields_among (e ∷ es) = field_of e.what ++ fields_among es
+fields_among es = flat_map (λ e. field_of e.what) es
 
 -- of an entity that may be there
 abbrev pub field_at : Option Entity → List Field

@@ -1,6 +1,6 @@
 -- The lines of a trace: one for each refusal of a cycle, `cycle N: site K KIND NAME at LEVEL`, with its LF. NAME is the target, for `fall` the state in whose body
 -- it stands; LEVEL is that at which the site is refused.
-use Rattle.std.specs.Prelude.{ℕ, ◌-◌, List, [], ◌∷◌, ◌++◌, codes, Option, Some, None, slice_get}
+use Rattle.std.specs.Prelude.{ℕ, ◌-◌, List, [], ◌++◌, codes, Option, Some, None, slice_get, flat_map}
 use Rattle.std.specs.Fmt.{decimal}
 use Rattle.sap_lattice.specs.Levels.{Levels}
 use Rattle.sap_text.specs.Places.{line_end}
@@ -41,8 +41,7 @@ refusal_line ls d cycle r = site_line d cycle r.site (level_name ls r.level)
 
 -- in the order of the list
 abbrev pub refusal_lines : Levels → DesignTree → (cycle : ℕ) → List Refusal → List ℕ
-refusal_lines ls d cycle [] = []
-refusal_lines ls d cycle (r ∷ rs) = refusal_line ls d cycle r ++ refusal_lines ls d cycle rs
+refusal_lines ls d cycle rs = flat_map (refusal_line ls d cycle) rs
 
 abbrev pub trace_of_run : Levels → DesignTree → (cycle : ℕ) → List After → List ℕ
 trace_of_run ls d = told_from (λ cycle (a : After). refusal_lines ls d cycle a.refused)

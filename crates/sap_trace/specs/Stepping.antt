@@ -12,13 +12,12 @@ use Rattle.sap_sim.specs.Labelled.Fields.{design_fields}
 use Rattle.sap_sim.specs.Labelled.RunOf.{read_for}
 use Rattle.sap_sim.specs.Stepped as stepped
 use Rattle.sap_sim.specs.Stepped.{Stepped, TellsMore, TellsAll}
-use Rattle.sap_trace.specs.declared.trace.Trace.{Trace}
 use Rattle.sap_trace.specs.declared.wires.Wires.{Wires}
 use Rattle.sap_trace.specs.Fields.{given}
 use Rattle.sap_trace.specs.Lines.{labelled_trace}
 use Rattle.sap_trace.specs.Rooms.{HoldsCycle}
 use Rattle.sap_trace.specs.Seen.{AreWires, cycle_lines}
-use Rattle.sap_trace.specs.TraceOf.{IsTraceOf}
+use Rattle.sap_trace.specs.TraceOf.{IsTraceOf, Trace}
 
 -- the netlist stands for the design, and the wires of its check sites, its fields and its room are the design's
 pub record IsPlanned (ls : Levels) (d : DesignTree) (s : Stepped Wires) : Type 0 where

@@ -46,19 +46,3 @@ pub(crate) fn take_numbers(lattice: &Lattice, line: &[Tagged], numbers: &mut [u6
         numbers[2 * k + 1] = lattice.code(line[k].level());
     }
 }
-
-/// The numbers of a module's inputs.
-pub(crate) fn numbers(
-    alloc: Global,
-    lattice: &Lattice,
-    line: &[Tagged],
-) -> Result<Vec<u64>, AllocError>
-    ensures { IfOk result (λ numbers. numbers.items ≡ given lattice.now line.now) }
-{
-    let mut numbers = Vec::new(alloc);
-    for input in line {
-        numbers.push(input.number())?;
-        numbers.push(lattice.code(input.level()))?;
-    }
-    Ok(numbers)
-}

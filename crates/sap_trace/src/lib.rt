@@ -1,7 +1,7 @@
 //! The trace of a design: which check sites are refused, in which cycle and at which level.
 //!
-//! `suppressed` tells the refusals of a runner's last cycle, by the wires of the compiled module; `trace_of` those of
-//! all cycles of a stimulus. `Tracing` gives the lines of one cycle after another, and takes all its memory when it is made.
+//! `suppressed` tells the refusals of a runner's last cycle, by the wires of the compiled module. `Tracing` gives the lines of
+//! one cycle after another, and takes all its memory when it is made.
 #![tactic(auto)]
 
 pub mod examples;
@@ -10,7 +10,6 @@ mod known;
 mod line;
 mod refusals;
 mod room;
-mod steps;
 pub mod trace;
 pub mod tracing;
 mod wires;
@@ -18,5 +17,5 @@ mod wires;
 pub use line::site_into;
 pub use refusals::suppressed;
 pub use room::{cycle_room, site_room};
-pub use trace::{Trace, read_stimulus, trace_of};
+pub use trace::read_stimulus;
 pub use tracing::Tracing;

@@ -34,12 +34,11 @@ use Rattle.sap_stim.specs.declared.stimulus.Parsed.{Parsed}
 use Rattle.sap_stim.specs.Stimulus.{stimulus_of}
 use Rattle.sap_stim.specs.Fits.{LineFits, StimulusFits}
 use Rattle.sap_stim.specs.Fits as stim
-use Rattle.sap_sim.specs.declared.rows.Rows.{Rows}
 use Rattle.sap_sim.specs.Fields.{tag_width, with_field, field_of, fields_of, is_tag}
 use Rattle.sap_sim.specs.Fields as fields
 use Rattle.sap_sim.specs.Numbers.{given, field_names, number_for, numbers_of}
 use Rattle.sap_sim.specs.Shown.{register_ports, register_widths, shown_registers, shown_among, rows_from}
-use Rattle.sap_sim.specs.Simulated.{IsSimulated}
+use Rattle.sap_sim.specs.Simulated.{IsSimulated, Rows}
 use Rattle.sap_sim.proofs.Fits.{inputs_found, fresh_inputs}
 use Rattle.sap_sim.specs.Labelled.Fields.{design_fields}
 use Rattle.sap_sim.specs.Labelled.LabelledRows.{labelled_rows}

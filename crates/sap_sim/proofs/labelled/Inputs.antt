@@ -26,6 +26,7 @@ use Rattle.sap_stim.specs.declared.field.Field.TheVariants as field
 use Rattle.sap_sim.specs.Ports.{value_of, tag_of}
 use Rattle.sap_sim.specs.Fields.{tag_width, is_tag, is_tagged, field_of}
 use Rattle.sap_sim.specs.Fields as fields
+use Rattle.sap_sim.proofs.Maps.{place_behind}
 use Rattle.sap_sim.specs.Numbers.{place, given, number_for}
 use Rattle.sap_sim.specs.Numbers as numbers
 use Rattle.sap_sim.proofs.labelled.Ports.{pair_names}
@@ -175,7 +176,8 @@ apart_all v (u ∷ vs) h = (neither_left (bytes_eq v u) (is_among v vs) h, apart
 shifted : (v : Name) (vs list : List Name) (x : Given) (xs : List Given) → AllByRecursion (λ u. bytes_eq v u ≡ false) list
     → map (λ u. get_or (x ∷ xs) (place (v ∷ vs) u) numbers.nothing) list ≡ map (λ u. get_or xs (place vs u) numbers.nothing) list
 shifted v vs [] x xs h = refl
-shifted v vs (u ∷ list) x xs h = rw h.0 (ap (λ (zs : List Given). get_or xs (place vs u) numbers.nothing ∷ zs) (shifted v vs list x xs h.1))
+shifted v vs (u ∷ list) x xs h =
+    ap₂ (λ (y : Given) (ys : List Given). y ∷ ys) (ap (λ (k : ℕ). get_or (x ∷ xs) k numbers.nothing) (place_behind v vs u h.0)) (shifted v vs list x xs h.1)
 
 pub given_back : (vs : List Name) → AreDistinct vs → (xs : List Given) → length xs ≡ length vs → map (λ u. get_or xs (place vs u) numbers.nothing) vs ≡ xs
 given_back [] h [] l = refl

@@ -5,8 +5,7 @@ use Rattle.sap_lattice.specs.Levels.{Levels}
 use Rattle.sap_stim.specs.declared.stimulus.Parsed.{Parsed}
 use Rattle.sap_stim.specs.Stimulus.{stimulus_of}
 use Rattle.sap_net.specs.Net.{Net}
-use Rattle.sap_sim.specs.declared.rows.Rows.{Rows}
-use Rattle.sap_sim.specs.Simulated.{IsSimulated}
+use Rattle.sap_sim.specs.Simulated.{IsSimulated, Rows}
 use Rattle.sap_sim.specs.Labelled.Fields.{design_fields}
 use Rattle.sap_sim.specs.Labelled.LabelledRows.{labelled_rows}
 

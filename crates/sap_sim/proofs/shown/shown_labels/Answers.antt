@@ -3,7 +3,8 @@ use Rattle.std.proofs.lemmas.Result.{IfOk-weaker}
 use Rattle.sap_maps.specs.Maps.{Name}
 use Rattle.sap_net.specs.declared.parts.Register.{Register}
 use Rattle.sap_sim.specs.Shown.{shown_among, register_ports, register_widths}
-use Rattle.sap_sim.specs.Lookup.{Finds, places_from}
+use Rattle.sap_net.specs.NameMaps.{Indexes}
+use Rattle.sap_sim.specs.Lookup.{Finds}
 use Rattle.sap_net.specs.Names.{is_name}
 use Rattle.std.specs.List.{All}
 use Rattle.sap_sim.proofs.Registers.{ports_named}
@@ -16,8 +17,8 @@ shown_among-requires c =
 pub returns : goal.returns
 returns c =
     let n = c.args.netlist.now in
-    let fp : Finds c.in_ok-ports.ports (places_from 0 (register_ports c.args.netlist.now.ports)) =
-    subst (λ (ns : List Name). Finds c.in_ok-ports.ports (places_from 0 ns)) c.requires c.in_ok-ports.ensures in
+    let fp : Indexes c.in_ok-ports.ports (register_ports c.args.netlist.now.ports) =
+    subst (λ (ns : List Name). Indexes c.in_ok-ports.ports ns) c.requires c.in_ok-ports.ensures in
     let fw : Finds c.in_ok-widths.widths (register_widths c.args.netlist.now.registers) =
     subst (λ (rs : List Register). Finds c.in_ok-widths.widths (register_widths rs)) c.registers.ensures c.in_ok-widths.ensures in
     IfOk-weaker c.shown_among.result _ _ (λ xs h. h n fp fw ∙ ap (shown_among c.args.tag n) c.requires) c.shown_among.ensures

@@ -45,13 +45,17 @@ step-requires c =
     inputs_right c.args.lattice.now (the d) c.args.line.now (planned d) (fits d) c.deref-2.result.now c.lawful.ensures.codes (subst IsNetlist c.netlist.ensures c.rules.ensures)
     (numbers_taken (goal.at.step-requires c).After-deref-2)
 
-pub push_held-requires-clause-lengths : goal.push_held-requires-clause-lengths
-push_held-requires-clause-lengths c =
-    let d = (goal.at.push_held-requires-clause-lengths c).After-values in
-    let ls = c.args.lattice.now in (
-      ap length (c.deref-6.ensures.value ∙ with_items_is c.self.inside.values c.take_seen.new.numbers (search (rules, places))) ∙ c.take_seen.ensures.count ∙ ap length c.deref-3.ensures.value ∙ values_count ls (the d) (planned d) ∙ sym (ap length c.deref-5.ensures.value),
-      ap length (c.deref-7.ensures.value ∙ with_items_is c.self.inside.tags c.take_seen-2.new.numbers (search (rules, places))) ∙ c.take_seen-2.ensures.count ∙ ap length c.deref-4.ensures.value ∙ tags_count ls (the d) (planned d) ∙ sym (ap length c.deref-5.ensures.value),
-    )
+pub push_held-requires-clause-values : goal.push_held-requires-clause-values
+push_held-requires-clause-values c =
+    let d = (goal.at.push_held-requires-clause-values c).After-values in
+    ap length (c.deref-6.ensures.value ∙ with_items_is c.self.inside.values c.take_seen.new.numbers (search (rules, places))) ∙ c.take_seen.ensures.count ∙ ap length c.deref-3.ensures.value
+    ∙ values_count c.args.lattice.now (the d) (planned d) ∙ sym (ap length c.deref-5.ensures.value)
+
+pub push_held-requires-clause-tags : goal.push_held-requires-clause-tags
+push_held-requires-clause-tags c =
+    let d = (goal.at.push_held-requires-clause-tags c).After-values in
+    ap length (c.deref-7.ensures.value ∙ with_items_is c.self.inside.tags c.take_seen-2.new.numbers (search (rules, places))) ∙ c.take_seen-2.ensures.count ∙ ap length c.deref-4.ensures.value
+    ∙ tags_count c.args.lattice.now (the d) (planned d) ∙ sym (ap length c.deref-5.ensures.value)
 
 pub push_held-requires-clause-room : goal.push_held-requires-clause-room
 push_held-requires-clause-room c =
