@@ -5,11 +5,14 @@ use Rattle.sap_lattice.specs.Levels.{Levels, order_of}
 use Rattle.sap_lattice.specs.Order.{Order}
 use Rattle.sap_latfile.specs.LatticeFile.{IsLatticeOfFile}
 use Rattle.sap_meaning.specs.Agree.{StreamsAgree}
+use Rattle.sap_meaning.specs.State.{StreamFits}
 use Rattle.sap_meaning.specs.Cycle.{Tagged}
 use Rattle.sap_compile.specs.Syntax.{DesignTree}
 use Rattle.sap_stream.specs.Apart.{IsApart}
 use Rattle.sap_stream.specs.declared.apart.Apart.{Apart}
 use Rattle.sap_sim.specs.Net.{Net}
+use Rattle.sap_interface.specs.Designs.{named_of}
+use Rattle.sap_interface.specs.StandsFor.{world}
 use Rattle.sap_compile.specs.Compiles.{IsModuleFor}
 use Rattle.sap_files.specs.Ending.{Ending, no_memory}
 use Rattle.sap_files.specs.Kinds.{stream_file}
@@ -31,10 +34,18 @@ module _ (lattice : List ℕ) (ls : Levels) (is : IsLatticeOfFile lattice ls) (d
     is_line = is_line;
     some_module = (net, written, some);
     every_module = λ n w module_is. record {
-      agree = module_is.agrees l one other (stream_fits lattice ls is d 1 bytes one stands) (stream_fits lattice ls is d 2 more other also) agree;
-      look_alike = module_is.looks_alike l one other (stream_fits lattice ls is d 1 bytes one stands) (stream_fits lattice ls is d 2 more other also) agree;
+      run = module_is.has_one_run one fits;
+      other_run = module_is.has_one_run other other_fits;
+      agree = module_is.agrees l one other fits other_fits agree;
+      look_alike = module_is.looks_alike l one other fits other_fits agree;
     };
   }
+    where
+      fits : StreamFits (world (named_of ls d)) one
+      fits = stream_fits lattice ls is d 1 bytes one stands
+
+      other_fits : StreamFits (world (named_of ls d)) other
+      other_fits = stream_fits lattice ls is d 2 more other also
 
 -- what comparing two streams comes to
 

@@ -11,7 +11,7 @@ use Rattle.sap_meaning.specs.Cycle.{Tagged}
 use Rattle.sap_meaning.specs.State.{StreamFits}
 use Rattle.sap_compile.specs.Syntax.{DesignTree}
 use Rattle.sap_sim.specs.Net.{Net}
-use Rattle.sap_sim.specs.Runs.{IsRun, observed}
+use Rattle.sap_net.specs.Runs.{IsRun, observed}
 use Rattle.std.specs.Prelude.{map}
 use Rattle.sap_size.specs.Items.{items}
 use Rattle.sap_size.specs.Trees.{design_nodes, entity_count}

@@ -6,15 +6,18 @@ use Rattle.sap_sim.specs.Maps.{Valuation}
 use Rattle.sap_meaning.specs.Cycle.{Tagged}
 use Rattle.sap_compile.specs.Syntax.{DesignTree}
 use Rattle.sap_sim.specs.Net.{Net}
-use Rattle.sap_sim.specs.Runs.{IsRun, observed}
+use Rattle.sap_net.specs.Runs.{IsRun, observed}
 use Rattle.sap_interface.specs.Compiled.{coded_stream}
 use Rattle.sap_interface.specs.Designs.{named_of, sites_of}
 use Rattle.sap_compile.specs.Agree.{CyclesAgree, CyclesLookAlike}
 use Rattle.sap_compile.specs.Compiles.{IsModuleFor}
+use Rattle.sap_compile.specs.Runs.{HasOneRun}
 use Rattle.sap_files.specs.Compared.{agreement_line}
 
--- On two streams, their levels given as codes, the runs of a netlist agree at l in every cycle, and its numbers show it.
+-- On two streams, their levels given as codes, a netlist has one run each, the two agree at l in every cycle, and its numbers show it.
 pub record RunsAgreeOn (ls : Levels) (d : DesignTree) (l : ℕ) (one other : List (List Tagged)) (net : Net) : Type 0 where
+  pub run : HasOneRun net (coded_stream (named_of ls d).code one)
+  pub other_run : HasOneRun net (coded_stream (named_of ls d).code other)
   pub agree : (vs us : List Valuation) → IsRun net (coded_stream (named_of ls d).code one) vs → IsRun net (coded_stream (named_of ls d).code other) us
       → AllZip (CyclesAgree (named_of ls d) (sites_of d) l) (map (observed net) vs) (map (observed net) us)
   pub look_alike : (vs us : List Valuation) → IsRun net (coded_stream (named_of ls d).code one) vs → IsRun net (coded_stream (named_of ls d).code other) us
