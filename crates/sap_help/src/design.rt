@@ -84,7 +84,8 @@ Example:
 Cure: Write a level that the lattice file lists under `levels`, or add the level there.
 ";
 
-const E7: &str = "E7: a width is out of range, or two widths differ that must be the same.
+const E7: &str =
+    "E7: a width is out of range or missing, or two widths differ that must be the same.
 
 The place is the first token of the expression that has the wrong width or none, or the number of a
 declared width or depth. Widths are 1 to 64; a depth is a power of two from 2 to 4096.
@@ -184,7 +185,8 @@ branches of an `if`, into two states, or into two memories.
 const E15: &str = "E15: a handler can never run.
 
 The place is the `otherwise` or the `then`. Its command can't be refused: only writes to what is
-enforced, `setTag`, a `goto` from or to an enforced state and a `fall` into an enforced child may be.
+enforced, `setTag`, a `goto` from or to an enforced state and a `fall` in a state with an enforced child
+may be.
 
 Example:
 
@@ -206,7 +208,7 @@ Example:
 Cure: Declare the entity enforced, or leave the `setTag` out.
 ";
 
-const E17: &str = "E17: `setTag` is used on a state that is active with it.
+const E17: &str = "E17: `setTag` is used on its own state, or on one above or below it.
 
 The place is the state's name. A body may not retag its own state, a state above it or a state below
 it.

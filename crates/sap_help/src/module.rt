@@ -7,7 +7,7 @@ use crate::text::text_of;
 
 const V1: &str = "V1: a byte begins no token, or a number is over 2^64 - 1.
 
-The place is that byte, or the first digit of the number.
+The place is that byte, or where the number begins, with its width if it has one.
 
 Example:
 
