@@ -148,10 +148,10 @@ each_agrees d sites l (v ∷ vs) (u ∷ us) (a ∷ as') (b ∷ bs) p q s t r = (
     other_stands = q.0;
     one_is_state = s.0;
     other_is_state = t.0;
-    states = r.0;
-    refusals = r.1;
+    states = r.0.0;
+    refusals = r.0.1;
   },
-  each_agrees d sites l vs us as' bs p.1 q.1 s.1 t.1 r.2,
+  each_agrees d sites l vs us as' bs p.1 q.1 s.1 t.1 r.1,
 )
 
 in_each : (P Q : Valuation → Valuation → Type 0) → ((v u : Valuation) → P v u → Q v u) → (vs us : List Valuation) → AllZip P vs us → AllZip Q vs us

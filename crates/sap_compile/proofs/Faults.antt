@@ -13,8 +13,8 @@ use Rattle.sap_names.specs.declared.fault.CheckFault.{CheckFault}
 use Rattle.sap_names.specs.declared.fault.CheckFault.TheVariants as check
 use Rattle.sap_names.specs.declared.kind.Code.{Code}
 use Rattle.sap_parse.specs.Text.{IsText, IsReadFault}
-use Rattle.sap_parse.specs.declared.fault.ReadFault.{ReadFault}
-use Rattle.sap_parse.specs.declared.fault.ReadFault.TheVariants as read
+use Rattle.sap_lex.specs.declared.fault.ReadFault.{ReadFault}
+use Rattle.sap_lex.specs.declared.fault.ReadFault.TheVariants as read
 use Rattle.sap_check.specs.WellFormed.{WellFormed, IsFirstFault}
 use Rattle.sap_tree.specs.Syntax.{DesignTree}
 use Rattle.sap_text.specs.declared.place.Place.{Place}

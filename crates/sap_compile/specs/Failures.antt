@@ -3,8 +3,8 @@ use Rattle.sap_latfile.specs.declared.fault.LatFileFault.{LatFileFault}
 use Rattle.sap_latfile.specs.declared.fault.LatFileFault.TheVariants as lattice_fault
 use Rattle.sap_names.specs.declared.fault.CheckFault.{CheckFault}
 use Rattle.sap_names.specs.declared.fault.CheckFault.TheVariants as check
-use Rattle.sap_parse.specs.declared.fault.ReadFault.{ReadFault}
-use Rattle.sap_parse.specs.declared.fault.ReadFault.TheVariants as read
+use Rattle.sap_lex.specs.declared.fault.ReadFault.{ReadFault}
+use Rattle.sap_lex.specs.declared.fault.ReadFault.TheVariants as read
 use Rattle.sap_compile.specs.declared.fault.CompileFault.{CompileFault}
 use Rattle.sap_compile.specs.declared.fault.CompileFault.TheVariants.{Lattice, Read, Check, Memory}
 

@@ -1,8 +1,8 @@
 //! Why the bytes of a lattice file and of a design give no module.
 
 use sap_latfile::LatFileFault;
+use sap_lex::fault::ReadFault;
 use sap_names::fault::CheckFault;
-use sap_parse::fault::ReadFault;
 use std::alloc::AllocError;
 use thiserror::Error;
 

@@ -234,14 +234,14 @@ pub equal_bit : (taken : Name → Bool) (ws : List Wire) (next u : ℕ) (a b : O
 equal_bit taken ws next u a b x k p after na q g =
     let other : (ms : Shapes) (sc : Scope) → (h : IsRight ms (readable_after sc ws) u (Two Eq a b)) → IsOperand (readable_after sc ws) h.0 b = λ ms sc h. subst (λ (n : ℕ). IsOperand (readable_after sc ws) n b) h.6 h.5 in
     record {
-      grown = λ ms sc apart named f w h.
-          let d = provided taken ms sc ws next 1 (Slice x k k) p after na apart named f one_wide (slice_fits ms sc ws a b x k h.0 1 f h.2 q h.4 (other ms sc h) refl) g in
+      grown = λ ms sc s h.
+          let d = provided taken ms sc ws next 1 (Slice x k k) p after na s.apart s.named s.fits one_wide (slice_fits ms sc ws a b x k h.0 1 s.fits h.2 q h.4 (other ms sc h) refl) g in
           record { fits = d.fits; named = d.named; more = d.more; wires = d.wires };
-      fits = λ ms sc apart named f w h.
-          let d = provided taken ms sc ws next 1 (Slice x k k) p after na apart named f one_wide (slice_fits ms sc ws a b x k h.0 1 f h.2 q h.4 (other ms sc h) refl) g in
+      fits = λ ms sc s h.
+          let d = provided taken ms sc ws next 1 (Slice x k k) p after na s.apart s.named s.fits one_wide (slice_fits ms sc ws a b x k h.0 1 s.fits h.2 q h.4 (other ms sc h) refl) g in
           (1, one_wide, d.operand, h.7);
-      same = λ ms sc widths v apart named f w h over.
-          let d = provided taken ms sc ws next 1 (Slice x k k) p after na apart named f one_wide (slice_fits ms sc ws a b x k h.0 1 f h.2 q h.4 (other ms sc h) refl) g in
+      same = λ ms sc widths v s h over.
+          let d = provided taken ms sc ws next 1 (Slice x k k) p after na s.apart s.named s.fits one_wide (slice_fits ms sc ws a b x k h.0 1 s.fits h.2 q h.4 (other ms sc h) refl) g in
           let before = over_first ms sc ws after d.more widths v d.wires over in
           let e : operand_value v p ≡ bit_at (v.value x) k = provided_value taken widths v ws next 1 (Slice x k k) p after na g over.holds ∙ one_bit (v.value x) k in
           either_equal ms sc ws widths v a b x k h.0 before q h.4 (other ms sc h)

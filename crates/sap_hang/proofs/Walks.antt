@@ -1,5 +1,6 @@
 -- Whether some part of a list passes a test, from a place on; and what the definitions of assigning and touching say of each construct.
 use Rattle.std.proofs.Common.{◌≡◌, ℕ, zero, suc, ◌+◌, ◌<◌, ◌≤◌, List, [], ◌∷◌, ◌||◌, ◌&&◌, Bool, false, length, get_or, drop, refl, sym, ap, ◌∙◌, arith, add-one, bytes_eq, Some}
+use Rattle.std.specs.List.{list_any}
 use Rattle.sap_lemmas.proofs.Bools.{or_assoc}
 use Rattle.sap_text.specs.declared.place.Place.{Place}
 use Rattle.sap_tree.specs.declared.syntax.Block.{Block}
@@ -76,28 +77,14 @@ child_none : (name : List ℕ) → is_dynamic_child no_state name ≡ false
 unfolding is_dynamic_child
 child_none name = refl
 
-pub child_here : (name : List ℕ) (ss : List State) (n : ℕ) (d : State) (b : Bool) → n < length ss → d ≡ get_or ss n d
-    → b ≡ (bytes_eq (out-State d).name.name name && is_dynamic_kind (out-State d).kind)
-    → is_dynamic_child (states_of (drop n ss)) name ≡ (b || is_dynamic_child (states_of (drop (n + 1) ss)) name)
-child_here name ss n d b h e t =
-    any_here (λ (s : State). bears name (state_of s)) (λ (l : List State). is_dynamic_child (states_of l) name) (child_none name) (λ s l. child_more name (state_of s) (states_of l)) ss n d b h e
-    (t ∙ sym (ap (λ (s : StateTree). bears name s) (state_of-out d)))
+pub child_listed : (name : List ℕ) (ss : List State) → is_dynamic_child (states_of ss) name ≡ list_any (λ s. bytes_eq (out-State s).name.name name && is_dynamic_kind (out-State s).kind) ss
+child_listed name [] = child_none name
+child_listed name (s ∷ ss) =
+    child_more name (state_of s) (states_of ss)
+    ∙ ap (λ (t : StateTree). bears name t || is_dynamic_child (states_of ss) name) (state_of-out s)
+    ∙ ap (λ (b : Bool). (bytes_eq (out-State s).name.name name && is_dynamic_kind (out-State s).kind) || b) (child_listed name ss)
 
-pub child_past : (name : List ℕ) (ss : List State) (n : ℕ) → length ss ≤ n → is_dynamic_child (states_of (drop n ss)) name ≡ false
-child_past name ss n h = any_past (λ (s : State). bears name (state_of s)) (λ (l : List State). is_dynamic_child (states_of l) name) (child_none name) (λ s l. child_more name (state_of s) (states_of l)) ss n h
-
--- declarations of which one is the dynamic one of this name
-
-pub declared_here : (name : List ℕ) (ds : List Decl) (n : ℕ) (d : Decl) (b : Bool) → n < length ds → d ≡ get_or ds n d → b ≡ declares_dynamic name d
-    → is_dynamic_store (drop n ds) name ≡ (b || is_dynamic_store (drop (n + 1) ds) name)
-unfolding is_dynamic_store
-declared_here name ds n d b h e t = any_here (declares_dynamic name) (λ (l : List Decl). is_dynamic_store l name) refl (λ d l. refl) ds n d b h e t
-
-pub declared_past : (name : List ℕ) (ds : List Decl) (n : ℕ) → length ds ≤ n → is_dynamic_store (drop n ds) name ≡ false
-unfolding is_dynamic_store
-declared_past name ds n h = any_past (declares_dynamic name) (λ (l : List Decl). is_dynamic_store l name) refl (λ d l. refl) ds n h
-
-pub ruleset pasts = (commands_past, arms_past, states_past, child_past, declared_past)
+pub ruleset pasts = (commands_past, arms_past, states_past)
 
 -- what is assigned
 

@@ -14,10 +14,7 @@ use sap_tree::syntax::{Decl, Kind, Simple, State};
 fn is_dynamic(kind: &Kind) -> bool
     ensures { result ≡ tree.is_dynamic_kind kind.now }
 {
-    match kind {
-        Kind::Dynamic(_) => true,
-        Kind::Enforced(_, _) => false,
-    }
+    matches!(kind, Kind::Dynamic(_))
 }
 
 // Whether what has this name and kind is the dynamic entity that is wanted.
@@ -38,28 +35,19 @@ fn declares_dynamic(declaration: &Decl, name: &Name) -> bool
 }
 
 /// Whether the name is declared as a dynamic register or memory.
-#[tactic(auto, using(crate::proofs::Walks::pasts))]
+#[tactic(auto, unfolding(sap_tree::specs::Touches::is_dynamic_store))]
 pub(crate) fn is_dynamic_store(declarations: &[Decl], name: &Name) -> bool
     ensures { result ≡ tree.is_dynamic_store declarations.now name.now }
 {
-    for declaration in declarations {
-        if declares_dynamic(declaration, name) {
-            return true;
-        }
-    }
-    false
+    declarations
+        .iter()
+        .any(|declaration| declares_dynamic(declaration, name))
 }
 
-#[tactic(auto, using(sap_tree::proofs::Views::views, crate::proofs::Walks::pasts))]
 fn is_dynamic_child(states: &[State], name: &Name) -> bool
     ensures { result ≡ tree.is_dynamic_child (states_of states.now) name.now }
 {
-    for state in states {
-        if is_dynamic_named(&state.name.name, &state.kind, name) {
-            return true;
-        }
-    }
-    false
+    states.iter().any(|state| is_dynamic_named(&state.name.name, &state.kind, name))
 }
 
 /// Whether a `fall` into these states touches an entity that is, or isn't, a dynamic register or memory.

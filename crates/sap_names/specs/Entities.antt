@@ -1,5 +1,6 @@
 -- The entities of a design: its inputs, registers, memories and states, in the order of the text.
-use Rattle.std.specs.Prelude.{◌≤◌, ℕ, List, [], ◌∷◌, ◌++◌, Option, Some, None, Bool, true, false, not, bytes_eq, ◌+◌, if◌then◌else◌, option_map, unwrap_or}
+use Rattle.std.specs.Prelude.{◌≤◌, ℕ, List, [], ◌∷◌, ◌++◌, Option, Some, None, Bool, true, false, not, bytes_eq, ◌+◌, if◌then◌else◌, option_map, unwrap_or, map, find as list_find}
+use Rattle.std.specs.List.{AllByRecursion}
 use Rattle.sap_names.specs.declared.kind.Declared.{Declared}
 use Rattle.sap_names.specs.declared.kind.Declared.TheVariants as what
 use Rattle.sap_names.specs.declared.kind.EntityKind.{EntityKind}
@@ -18,8 +19,7 @@ entity_of (Memory place name width depth kind) =
     record { name = name; what = what.Memory width.value depth.value; dynamic = is_dynamic_kind kind }
 
 abbrev pub declared_in : List Decl → List Entity
-declared_in [] = []
-declared_in (d ∷ ds) = entity_of d ∷ declared_in ds
+declared_in ds = map entity_of ds
 
 -- a state stands before its children
 abbrev mutual
@@ -40,8 +40,7 @@ Lookup = List ℕ → Option Declared
 
 -- the first declaration of a name counts
 abbrev pub find : List Entity → List ℕ → Option Entity
-find [] name = None
-find (e ∷ es) name = if bytes_eq e.name.name name then Some e else find es name
+find es name = list_find (λ e. bytes_eq e.name.name name) es
 
 -- its number, from 0 in the order of the text
 abbrev pub number_of : List Entity → List ℕ → Option ℕ
@@ -85,5 +84,4 @@ HasWidth (what.Memory width depth) = (1 ≤ width) × (width ≤ 64)
 HasWidth what.State = Unit {0}
 
 abbrev pub HaveWidths : List Entity → Type 0
-HaveWidths [] = Unit {0}
-HaveWidths (e ∷ es) = HasWidth e.what × HaveWidths es
+HaveWidths es = AllByRecursion (λ e. HasWidth e.what) es

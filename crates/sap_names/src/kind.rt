@@ -55,7 +55,7 @@ pub enum Code {
     E5,
     /// A name of a level is no level of the lattice.
     E6,
-    /// A width is out of range, or two widths differ that must be the same.
+    /// A width is out of range or missing, or two widths differ that must be the same.
     E7,
     /// A number is too large for its width.
     E8,

@@ -1,7 +1,8 @@
 -- The lines of points and the names in them, from a place on.
-use Rattle.std.proofs.Common.{◌≡◌, ℕ, ◌+◌, ◌-◌, ◌<◌, ◌≤◌, List, [], ◌∷◌, ◌++◌, ◌&&◌, length, drop, refl, sym, ap, ◌∙◌, arith, append_assoc, Bool, true, false, not}
+use Rattle.std.proofs.Common.{◌≡◌, ℕ, ◌+◌, ◌-◌, ◌<◌, ◌≤◌, List, [], ◌∷◌, ◌++◌, ◌&&◌, ◌==◌, length, drop, refl, sym, ap, ◌∙◌, arith, append_assoc, Bool, true, false, not}
 use Rattle.std.specs.Prelude.{Option, Some, slice_get, unwrap_or, option_map, codes, if◌then◌else◌}
 use Rattle.sap_lemmas.proofs.Lists.{after_part, drop_past}
+use Rattle.std.proofs.lemmas.Bool.Decides.{nat_tests}
 use Rattle.std.proofs.lemmas.List.{append-nil}
 use Rattle.sap_tree.specs.Syntax.{DesignTree}
 use Rattle.sap_names.specs.declared.entity.Entity.{Entity}
@@ -9,30 +10,33 @@ use Rattle.sap_names.specs.Entities.{entities_of}
 use Rattle.sap_check.specs.declared.point.Point.{Point}
 use Rattle.sap_check.specs.SiteTexts.{entity_name}
 use Rattle.sap_hang.specs.Hang.{IsHangTable, Table, hangs, says}
-use Rattle.sap_report.specs.Report.{each_name, hanging, is_none, names_text, point_line, point_lines, where_hung}
+use Rattle.sap_report.specs.Report.{each_name, hanging, names_text, point_line, point_lines, where_hung}
 use Rattle.sap_report.proofs.Lists.{at_end, drop-at, drop-some}
 
 -- names, where there is one and where there is none
 
-pub text-none : (names : List (List ℕ)) → is_none names ≡ true → names_text names ≡ codes " -"
+some_names : (n : List ℕ) (ns : List (List ℕ)) → (length (n ∷ ns) == 0) ≡ false
+some_names n ns = grind (arith, nat_tests)
+
+pub text-none : (names : List (List ℕ)) → (length names == 0) ≡ true → names_text names ≡ codes " -"
 text-none [] h = refl
-text-none (n ∷ ns) h = absurd (cc h)
+text-none (n ∷ ns) h = absurd (cc (h, some_names n ns))
 
-pub each-none : (names : List (List ℕ)) → is_none names ≡ true → each_name names ≡ []
+pub each-none : (names : List (List ℕ)) → (length names == 0) ≡ true → each_name names ≡ []
 each-none [] h = refl
-each-none (n ∷ ns) h = absurd (cc h)
+each-none (n ∷ ns) h = absurd (cc (h, some_names n ns))
 
-pub text-some : (names : List (List ℕ)) → is_none names ≡ false → names_text names ≡ each_name names
+pub text-some : (names : List (List ℕ)) → (length names == 0) ≡ false → names_text names ≡ each_name names
 text-some [] h = absurd (cc h)
 text-some (n ∷ ns) h = refl
 
-pub names-none : (names : List (List ℕ)) (b : Bool) (old mid new : List ℕ) → b ≡ is_none names → b ≡ true → mid ≡ old ++ each_name names → new ≡ mid ++ codes " -" → new ≡ old ++ names_text names
+pub names-none : (names : List (List ℕ)) (b : Bool) (old mid new : List ℕ) → b ≡ (length names == 0) → b ≡ true → mid ≡ old ++ each_name names → new ≡ mid ++ codes " -" → new ≡ old ++ names_text names
 names-none names b old mid new e t h k =
-    let none : is_none names ≡ true = sym e ∙ t in
+    let none : (length names == 0) ≡ true = sym e ∙ t in
     k ∙ ap (λ (l : List ℕ). l ++ codes " -") (h ∙ ap (λ (l : List ℕ). old ++ l) (each-none names none)) ∙ append_assoc old [] (codes " -")
     ∙ ap (λ (l : List ℕ). old ++ l) (sym (text-none names none))
 
-pub names-some : (names : List (List ℕ)) (b : Bool) (old new : List ℕ) → b ≡ is_none names → b ≡ false → new ≡ old ++ each_name names → new ≡ old ++ names_text names
+pub names-some : (names : List (List ℕ)) (b : Bool) (old new : List ℕ) → b ≡ (length names == 0) → b ≡ false → new ≡ old ++ each_name names → new ≡ old ++ names_text names
 names-some names b old new e t h = h ∙ ap (λ (l : List ℕ). old ++ l) (sym (text-some names (sym e ∙ t)))
 
 pub ruleset named = (text-none, each-none, text-some)
@@ -52,8 +56,8 @@ pub name_free : (d : DesignTree) (p x : ℕ) (b : Bool) (out : List ℕ) → b �
 name_free d p x b out h t =
     sym (append-nil out) ∙ ap (λ (c : Bool). out ++ each_name (if c then entity_name (entities_of d) x ∷ [] else [])) (sym t ∙ h)
 
-none_step : (b none : Bool) (n : List ℕ) (rest : List (List ℕ)) → ((none && not b) && is_none rest) ≡ (none && is_none (if b then n ∷ rest else rest))
-none_step true true n rest = refl
+none_step : (b none : Bool) (n : List ℕ) (rest : List (List ℕ)) → ((none && not b) && (length rest == 0)) ≡ (none && (length (if b then n ∷ rest else rest) == 0))
+none_step true true n rest = sym (some_names n rest)
 none_step true false n rest = refl
 none_step false true n rest = refl
 none_step false false n rest = refl
@@ -77,14 +81,14 @@ module _ (d : DesignTree) (p : ℕ) where
 
   -- whether there is none so far, and the names so far
   abbrev pub Far : (x : ℕ) → Bool → List ℕ → List ℕ → Type 0
-  Far x none out old = ((none && is_none (hanging d p x (drop x (entities_of d)))) ≡ is_none (hanging d p 0 (entities_of d)))
+  Far x none out old = ((none && (length (hanging d p x (drop x (entities_of d))) == 0)) ≡ (length (hanging d p 0 (entities_of d)) == 0))
       × (out ++ each_name (hanging d p x (drop x (entities_of d))) ≡ old ++ each_name (hanging d p 0 (entities_of d)))
 
   pub far_step : (x : ℕ) (none hung : Bool) (out old new : List ℕ) → x < length (entities_of d) → hung ≡ hangs d p x → new ≡ out ++ each_name (where_hung d p x) → Far x none out old
       → Far (x + 1) (none && not hung) new old
   far_step x none hung out old new h e k i =
       let n = entity_name all x in (
-        ap (λ (b : Bool). (none && not b) && is_none (later (x + 1))) e ∙ none_step (hangs d p x) none n (later (x + 1)) ∙ ap (λ (l : List (List ℕ)). none && is_none l) (sym (later-step x h)) ∙ i.0,
+        ap (λ (b : Bool). (none && not b) && (length (later (x + 1)) == 0)) e ∙ none_step (hangs d p x) none n (later (x + 1)) ∙ ap (λ (l : List (List ℕ)). none && (length l == 0)) (sym (later-step x h)) ∙ i.0,
         ap (λ (l : List ℕ). l ++ each_name (later (x + 1))) k ∙ append_assoc out (each_name (where_hung d p x)) (each_name (later (x + 1)))
             ∙ ap (λ (l : List ℕ). out ++ l) (each_step (hangs d p x) n (later (x + 1))) ∙ ap (λ (l : List (List ℕ)). out ++ each_name l) (sym (later-step x h)) ∙ i.1,
       )

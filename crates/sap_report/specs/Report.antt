@@ -1,5 +1,5 @@
 -- The report of a design: a line for each level, for each point with what hangs on it, and for each check site. Each line ends with LF.
-use Rattle.std.specs.Prelude.{ℕ, ◌+◌, Bool, true, false, List, [], ◌∷◌, ◌++◌, codes, if◌then◌else◌}
+use Rattle.std.specs.Prelude.{ℕ, ◌+◌, List, [], ◌∷◌, ◌++◌, codes, if◌then◌else◌, flat_map}
 use Rattle.std.specs.Fmt.{decimal}
 use Rattle.sap_lattice.specs.Codes.{code_of}
 use Rattle.sap_lattice.specs.Levels.{Levels, order_of}
@@ -37,17 +37,12 @@ where_hung d p x = if hangs d p x then entity_name (entities_of d) x ∷ [] else
 
 -- each name after a blank
 abbrev pub each_name : List (List ℕ) → List ℕ
-each_name [] = []
-each_name (name ∷ names) = codes " " ++ name ++ each_name names
+each_name names = flat_map (λ name. codes " " ++ name) names
 
 -- `-` where there is none
 abbrev pub names_text : List (List ℕ) → List ℕ
 names_text [] = codes " -"
 names_text (name ∷ names) = each_name (name ∷ names)
-
-abbrev pub is_none : List (List ℕ) → Bool
-is_none [] = true
-is_none (name ∷ names) = false
 
 abbrev pub point_word : PointKind → List ℕ
 point_word points.If = codes "if"

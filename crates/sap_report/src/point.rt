@@ -1,11 +1,11 @@
 //! The lines of points.
 
-ghost use Rattle.std.specs.Prelude.{◌≡◌, ◌<◌, ◌++◌, IfOk, OnOk, length};
+ghost use Rattle.std.specs.Prelude.{◌≡◌, ◌<◌, ◌++◌, ◌==◌, IfOk, OnOk, length};
 ghost use Rattle.sap_check.specs.Checked.{tree_in};
 ghost use Rattle.sap_check.specs.Points.{points_of};
 ghost use Rattle.sap_hang.specs.Hang.{IsHangTable, hangs};
 ghost use Rattle.sap_names.specs.Entities.{entities_of};
-ghost use Rattle.sap_report.specs.Report.{each_name, hanging, is_none, names_text, point_line, point_lines, point_word, where_hung};
+ghost use Rattle.sap_report.specs.Report.{each_name, hanging, names_text, point_line, point_lines, point_word, where_hung};
 
 use crate::text::place;
 use sap_check::Checked;
@@ -55,7 +55,7 @@ fn push_each(
     point: u32,
 ) -> Result<bool, AllocError>
     requires { IsHangTable (tree_in checked.now) table.now }
-    ensures none { IfOk result (λ b. b ≡ is_none (hanging (tree_in checked.now) point 0 (entities_of (tree_in checked.now)))) }
+    ensures none { IfOk result (λ b. b ≡ (length (hanging (tree_in checked.now) point 0 (entities_of (tree_in checked.now))) == 0)) }
     ensures names { OnOk result (out.new.items ≡ out.old.items ++ each_name (hanging (tree_in checked.now) point 0 (entities_of (tree_in checked.now)))) }
 {
     let mut none = true;

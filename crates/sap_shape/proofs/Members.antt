@@ -1,5 +1,6 @@
 -- Whether some state of a list passes a test, from a place on.
 use Rattle.std.proofs.Common.{◌≡◌, ℕ, zero, suc, ◌+◌, ◌<◌, ◌≤◌, List, [], ◌∷◌, ◌||◌, Bool, true, false, length, get_or, drop, refl, sym, ap, ◌∙◌, arith, add-one, bytes_eq}
+use Rattle.std.specs.List.{list_any}
 use Rattle.sap_tree.specs.declared.syntax.State.{State, out-State}
 use Rattle.sap_tree.specs.Syntax.{StateTree, StateList, no_state, and_state}
 use Rattle.sap_tree.specs.Trees.{state_of, states_of}
@@ -24,24 +25,17 @@ module _ (test : StateTree → Bool) (any : StateList → Bool) (none : any no_s
   any_here ss n d b h e t =
       any_drop ss n d h ∙ ap (λ (x : Bool). x || any (states_of (drop (n + 1) ss))) (ap (λ (s : State). test (state_of s)) (sym e) ∙ t)
 
-abbrev has_kind : StateTree → Bool
-has_kind s = is_enforced_kind (kind_of_state s)
+pub enforced_listed : (ss : List State) → any_enforced (states_of ss) ≡ list_any (λ s. is_enforced_kind (out-State s).kind) ss
+enforced_listed [] = refl
+enforced_listed (s ∷ ss) =
+    ap (λ (t : StateTree). is_enforced_kind (kind_of_state t) || any_enforced (states_of ss)) (state_of-out s)
+    ∙ ap (λ (b : Bool). is_enforced_kind (out-State s).kind || b) (enforced_listed ss)
 
-pub enforced_here : (ss : List State) (n : ℕ) (d : State) (b : Bool) → n < length ss → d ≡ get_or ss n d → b ≡ is_enforced_kind (out-State d).kind
-    → any_enforced (states_of (drop n ss)) ≡ (b || any_enforced (states_of (drop (n + 1) ss)))
-enforced_here ss n d b h e t = any_here has_kind any_enforced refl (λ s rest. refl) ss n d b h e (ap has_kind (state_of-out d) ∙ sym t)
-
-pub enforced_past : (ss : List State) (n : ℕ) → length ss ≤ n → any_enforced (states_of (drop n ss)) ≡ false
-enforced_past ss n h = any_past has_kind any_enforced refl (λ s rest. refl) ss n h
-
-pub among_here : (name : List ℕ) (ss : List State) (n : ℕ) (d : State) (b : Bool) → n < length ss → d ≡ get_or ss n d → b ≡ bytes_eq (out-State d).name.name name
-    → is_among (states_of (drop n ss)) name ≡ (b || is_among (states_of (drop (n + 1) ss)) name)
-among_here name ss n d b h e t =
-    any_here (λ (s : StateTree). bytes_eq (name_of s) name) (λ (g : StateList). is_among g name) refl (λ s rest. refl) ss n d b h e
-    (ap (λ (s : StateTree). bytes_eq (name_of s) name) (state_of-out d) ∙ sym t)
-
-pub among_past : (name : List ℕ) (ss : List State) (n : ℕ) → length ss ≤ n → is_among (states_of (drop n ss)) name ≡ false
-among_past name ss n h = any_past (λ (s : StateTree). bytes_eq (name_of s) name) (λ (g : StateList). is_among g name) refl (λ s rest. refl) ss n h
+pub among_listed : (name : List ℕ) (ss : List State) → is_among (states_of ss) name ≡ list_any (λ s. bytes_eq (out-State s).name.name name) ss
+among_listed name [] = refl
+among_listed name (s ∷ ss) =
+    ap (λ (t : StateTree). bytes_eq (name_of t) name || is_among (states_of ss) name) (state_of-out s)
+    ∙ ap (λ (b : Bool). bytes_eq (out-State s).name.name name || b) (among_listed name ss)
 
 pub group_here : (name : List ℕ) (ss : List State) (n : ℕ) (d : State) (a b : Bool) → n < length ss → d ≡ get_or ss n d
     → a ≡ bytes_eq (out-State d).name.name name → b ≡ is_in_group (states_of (out-State d).children.items) name
@@ -62,6 +56,6 @@ pub leaf_no : (ss : List State) → 1 ≤ length ss → is_leaf (states_of ss) �
 leaf_no [] h = absurd (omega arith)
 leaf_no (s ∷ ss) h = refl
 
-pub ruleset pasts = (enforced_past, among_past, group_past)
+pub ruleset pasts = (group_past)
 
 pub ruleset leaves = (leaf_yes, leaf_no)

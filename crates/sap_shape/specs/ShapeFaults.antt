@@ -1,5 +1,6 @@
 -- The faults of shape, E10 to E17: each sentence once, over the tree of a design without faults of names and widths.
 use Rattle.std.specs.Prelude.{◌⊎◌, ℕ, List, [], ◌∷◌, ◌++◌, Bool, true, false, not, ◌||◌, if◌then◌else◌, bytes_eq}
+use Rattle.std.specs.List.{list_any}
 use Rattle.sap_text.specs.declared.place.Place.{Place}
 use Rattle.sap_tree.specs.Syntax.{SimpleCommand, assign, write, set_tag, set_cell_tag, go_to, fall_to_child, Command, lone, try, if_else, try_then, case_of, Arms, last_arm, and_arm, CommandBlock, command_block, ElseBlock, no_else, with_else, CommandList, no_command, and_command, StateTree, state_node, StateList, no_state, and_state, DesignTree}
 use Rattle.sap_tree.specs.Touches.{Home, home_of}
@@ -36,8 +37,7 @@ abbrev mutual
   is_in_group (and_state s rest) name = is_within s name || is_in_group rest name
 
 abbrev pub is_in : List (List ℕ) → List ℕ → Bool
-is_in [] name = false
-is_in (n ∷ ns) name = bytes_eq n name || is_in ns name
+is_in names name = list_any (λ n. bytes_eq n name) names
 
 abbrev pub is_leaf : StateList → Bool
 is_leaf no_state = true

@@ -10,16 +10,10 @@ use sap_tree::name::Name;
 use sap_tree::syntax::State;
 
 /// Whether a state of the group has this name.
-#[tactic(auto, using(crate::proofs::Members::pasts))]
 pub(crate) fn is_among(group: &[State], name: &Name) -> bool
     ensures { result ≡ shape.is_among (states_of group.now) name.now }
 {
-    for state in group {
-        if state.name.name.same(name) {
-            return true;
-        }
-    }
-    false
+    group.iter().any(|state| state.name.name.same(name))
 }
 
 // Whether one of the states, or one below them, has this name.
@@ -41,12 +35,7 @@ fn is_in_group(states: &[State], name: &Name) -> bool
 pub(crate) fn is_in(names: &[Name], name: &Name) -> bool
     ensures { result ≡ shape.is_in names.now name.now }
 {
-    for other in names {
-        if other.same(name) {
-            return true;
-        }
-    }
-    false
+    names.iter().any(|other| other.same(name))
 }
 
 /// Whether there are no states.

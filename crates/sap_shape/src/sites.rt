@@ -16,16 +16,10 @@ fn is_enforced_kind(kind: &Kind) -> bool
     }
 }
 
-#[tactic(auto, using(sap_tree::proofs::Views::views, crate::proofs::Members::pasts))]
 fn any_enforced(states: &[State]) -> bool
     ensures { result ≡ sites.any_enforced (states_of states.now) }
 {
-    for state in states {
-        if is_enforced_kind(&state.kind) {
-            return true;
-        }
-    }
-    false
+    states.iter().any(|state| is_enforced_kind(&state.kind))
 }
 
 /// Whether a command in the body of a state of this kind with these children may be refused.

@@ -16,6 +16,7 @@ use crate::place::Position;
 use crate::written::Written;
 use sap_names::fault::Fault;
 use sap_names::table::Names;
+use sap_text::name::copy_names;
 use sap_tree::name::Name;
 use sap_tree::syntax::State;
 use std::alloc::{AllocError, Global};
@@ -26,9 +27,7 @@ fn below(alloc: Global, name: &Name, above: &[Name]) -> Result<Vec<Name>, AllocE
 {
     let mut names = Vec::new(alloc);
     names.push(name.copy(alloc)?)?;
-    for other in above {
-        names.push(other.copy(alloc)?)?;
-    }
+    names.append(&mut copy_names(alloc, above)?)?;
     Ok(names)
 }
 

@@ -1,5 +1,5 @@
 -- Bytes that tell the right side of a wire, and its width, from every other.
-use Rattle.std.specs.Prelude.{ℕ, zero, suc, ◌+◌, ◌/◌, ◌%◌, List, [], ◌∷◌, ◌++◌, length, nat_lt, if◌then◌else◌}
+use Rattle.std.specs.Prelude.{ℕ, zero, suc, ◌+◌, ◌/◌, ◌%◌, List, [], ◌∷◌, ◌++◌, length, nat_lt, if◌then◌else◌, flat_map}
 use Rattle.sap_bits.specs.declared.Op1.{Op1}
 use Rattle.sap_bits.specs.declared.Op1.TheVariants.{Not, Neg, AllOnes, AnyOne, Odd}
 use Rattle.sap_bits.specs.declared.Op2.{Op2}
@@ -44,8 +44,7 @@ operand_bytes (Named x) = 0 ∷ number (length x) ++ x
 operand_bytes (Constant w n) = 1 ∷ number w ++ number n
 
 abbrev pub operands_bytes : List Operand → List ℕ
-operands_bytes [] = []
-operands_bytes (o ∷ os) = operand_bytes o ++ operands_bytes os
+operands_bytes os = flat_map operand_bytes os
 
 abbrev pub right_bytes : Right → List ℕ
 right_bytes (Copy a) = 0 ∷ operand_bytes a

@@ -53,15 +53,6 @@ fn add_number(key: &mut Vec<u8>, number: u64) -> Result<(), AllocError>
     Ok(())
 }
 
-fn add_bytes(key: &mut Vec<u8>, bytes: &[u8]) -> Result<(), AllocError>
-    ensures { OnOk result (key.new.items ≡ key.old.items ++ bytes.now) }
-{
-    for byte in bytes {
-        key.push(*byte)?;
-    }
-    Ok(())
-}
-
 fn add_numbers(key: &mut Vec<u8>, first: u64, second: u64) -> Result<(), AllocError>
     ensures { OnOk result (key.new.items ≡ key.old.items ++ (spec.number first ++ spec.number second)) }
 {
@@ -77,7 +68,7 @@ fn add_operand(key: &mut Vec<u8>, operand: &Operand) -> Result<(), AllocError>
             let bytes = name.as_bytes();
             key.push(0)?;
             add_number(key, bytes.len() as u64)?;
-            add_bytes(key, bytes)
+            key.extend_from_slice(bytes)
         }
         Operand::Constant { width, value } => {
             key.push(1)?;
@@ -143,11 +134,11 @@ fn add_right(key: &mut Vec<u8>, right: &Right) -> Result<(), AllocError>
         Right::Slice { name, hi, lo } => {
             key.push(5)?;
             add_numbers(key, u64::from(*hi), u64::from(*lo))?;
-            add_bytes(key, name.as_bytes())
+            key.extend_from_slice(name.as_bytes())
         }
         Right::Cell { memory, index } => {
             add_numbered(key, 6, index)?;
-            add_bytes(key, memory.as_bytes())
+            key.extend_from_slice(memory.as_bytes())
         }
     }
 }

@@ -1,11 +1,11 @@
 -- The last piece of a text, and the fields and the count of a line by it.
 use Rattle.std.proofs.Common.{◌≡◌, ℕ, zero, suc, ◌+◌, ◌-◌, ◌<◌, ◌≤◌, Bool, true, false, cond, eqb, Some, None, List, [], ◌∷◌, ◌++◌, length, get_or, drop, take, refl, sym, ap, subst, ◌∙◌, length-append, arith}
 use Rattle.std.specs.Prelude.{count_by}
-use Rattle.std.specs.List.{position_or_len}
+use Rattle.std.specs.List.{position_or_len, onto_first}
 use Rattle.std.proofs.lemmas.List.{take-append-drop, length-drop}
 use Rattle.std.proofs.lemmas.List.Sums.{sum_by-append}
 use borrow.Author.Tests.{eq-eqb}
-use Rattle.sap_stim.specs.Line.{split_at, pushed, pieces_of, is_starred, fields_in, fields_of, count_in}
+use Rattle.sap_stim.specs.Line.{split_at, pieces_of, is_starred, fields_in, fields_of, count_in}
 use Rattle.sap_stim.proofs.Pieces.{is_mark, split_unmarked, split_count}
 
 -- no byte is the mark
@@ -16,13 +16,13 @@ IsUnmarked m s = length s ≤ position_or_len (is_mark m) s
 abbrev pub EndsWith : ℕ → List ℕ → List ℕ → Type 0
 EndsWith m s piece = (others : List (List ℕ)) × (split_at m s ≡ others ++ piece ∷ [])
 
-pushed_append : (b : ℕ) (ps : List (List ℕ)) (p : List ℕ) → 0 < length ps → pushed b (ps ++ p ∷ []) ≡ pushed b ps ++ p ∷ []
-pushed_append b [] p h = absurd (omega arith)
-pushed_append b (q ∷ ps) p h = refl
+onto_first_append : (b : ℕ) (ps : List (List ℕ)) (p : List ℕ) → 0 < length ps → onto_first b (ps ++ p ∷ []) ≡ onto_first b ps ++ p ∷ []
+onto_first_append b [] p h = absurd (omega arith)
+onto_first_append b (q ∷ ps) p h = refl
 
-pushed_some : (b : ℕ) (ps : List (List ℕ)) → 0 < length (pushed b ps)
-pushed_some b [] = omega arith
-pushed_some b (p ∷ ps) = omega arith
+onto_first_some : (b : ℕ) (ps : List (List ℕ)) → 0 < length (onto_first b ps)
+onto_first_some b [] = omega arith
+onto_first_some b (p ∷ ps) = omega arith
 
 abbrev Behind : ℕ → List (List ℕ) → List ℕ → Type 0
 Behind m pieces piece = (others : List (List ℕ)) × (0 < length others) × (pieces ≡ others ++ piece ∷ [])
@@ -31,14 +31,14 @@ Behind m pieces piece = (others : List (List ℕ)) × (0 < length others) × (pi
 behind_mark : (m k : ℕ) (s : List ℕ) → k < length s → get_or s k 0 ≡ m → IsUnmarked m (drop (suc k) s) → Behind m (split_at m s) (drop (suc k) s)
 behind_mark m k [] h e u = absurd (omega arith)
 behind_mark m zero (b ∷ bs) h e u =
-    let P : Bool → Type 0 = λ t. Behind m (cond t ([] ∷ split_at m bs) (pushed b (split_at m bs))) bs in
+    let P : Bool → Type 0 = λ t. Behind m (cond t ([] ∷ split_at m bs) (onto_first b (split_at m bs))) bs in
     let marked : P true = ([] ∷ [], omega arith, ap (λ (ps : List (List ℕ)). [] ∷ ps) (split_unmarked m bs u)) in
     subst P (sym (eq-eqb b m e)) marked
 behind_mark m (suc k) (b ∷ bs) h e u =
     let rest : Behind m (split_at m bs) (drop (suc k) bs) = behind_mark m k bs (omega arith) e u in
-    elim (eqb b m) as (λ t. Behind m (cond t ([] ∷ split_at m bs) (pushed b (split_at m bs))) (drop (suc k) bs)) [
+    elim (eqb b m) as (λ t. Behind m (cond t ([] ∷ split_at m bs) (onto_first b (split_at m bs))) (drop (suc k) bs)) [
       | true ↦ ([] ∷ rest.0, omega arith, ap (λ (ps : List (List ℕ)). [] ∷ ps) rest.2)
-      | false ↦ (pushed b rest.0, pushed_some b rest.0, ap (pushed b) rest.2 ∙ pushed_append b rest.0 (drop (suc k) bs) rest.1)
+      | false ↦ (onto_first b rest.0, onto_first_some b rest.0, ap (onto_first b) rest.2 ∙ onto_first_append b rest.0 (drop (suc k) bs) rest.1)
     ]
 
 pub ends_behind : (m n : ℕ) (s piece : List ℕ) → 0 < n → n ≤ length s → get_or s (n - 1) 0 ≡ m → IsUnmarked m (drop n s) → piece ≡ drop n s → EndsWith m s piece

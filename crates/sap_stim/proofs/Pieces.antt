@@ -1,12 +1,12 @@
 -- The first piece of a text and the others.
 use Rattle.std.proofs.Common.{◌≡◌, ℕ, suc, ◌+◌, ◌<◌, ◌≤◌, Bool, true, false, not, cond, eqb, ltb, ◌-◌, Some, None, List, [], ◌∷◌, length, take, drop, refl, sym, ap, ap₂, ◌∙◌, arith}
 use Rattle.std.specs.Prelude.{count_by, position}
-use Rattle.std.specs.List.{position_or_len, before_first, after_first}
+use Rattle.std.specs.List.{position_or_len, before_first, after_first, onto_first}
 use Rattle.std.proofs.lemmas.List.{take_all, length-take-le, length-drop, drop_all}
 use Rattle.std.proofs.lemmas.Bool.Decides.{nat_tests}
 use Rattle.std.proofs.lemmas.List.Sums.{sum_by-cons}
 use Rattle.sap_lemmas.proofs.Lists.{take_more}
-use Rattle.sap_stim.specs.Line.{split_at, pushed}
+use Rattle.sap_stim.specs.Line.{split_at}
 
 -- whether a byte is the mark
 abbrev pub is_mark : ℕ → ℕ → Bool
@@ -19,18 +19,18 @@ pub split_marked : (m : ℕ) (s : List ℕ) → position_or_len (is_mark m) s < 
 split_marked m [] h = absurd (omega arith)
 split_marked m (b ∷ bs) h =
     let n : ℕ = position_or_len (is_mark m) bs in
-    elim (eqb b m) as (λ t. cond (not t) (1 + n) 0 < suc (length bs) → cond t ([] ∷ split_at m bs) (pushed b (split_at m bs)) ≡ take (cond (not t) (1 + n) 0) (b ∷ bs) ∷ split_at m (drop (cond (not t) (1 + n) 0 + 1) (b ∷ bs))) [
+    elim (eqb b m) as (λ t. cond (not t) (1 + n) 0 < suc (length bs) → cond t ([] ∷ split_at m bs) (onto_first b (split_at m bs)) ≡ take (cond (not t) (1 + n) 0) (b ∷ bs) ∷ split_at m (drop (cond (not t) (1 + n) 0 + 1) (b ∷ bs))) [
       | true ↦ λ _. refl
-      | false ↦ λ small. ap (pushed b) (split_marked m bs (omega arith)) ∙ ap₂ (λ (x y : List ℕ). x ∷ split_at m y) (sym (take_more n b bs)) (sym (drop_more n b bs))
+      | false ↦ λ small. ap (onto_first b) (split_marked m bs (omega arith)) ∙ ap₂ (λ (x y : List ℕ). x ∷ split_at m y) (sym (take_more n b bs)) (sym (drop_more n b bs))
     ] h
 
 pub split_unmarked : (m : ℕ) (s : List ℕ) → length s ≤ position_or_len (is_mark m) s → split_at m s ≡ s ∷ []
 split_unmarked m [] h = refl
 split_unmarked m (b ∷ bs) h =
     let n : ℕ = position_or_len (is_mark m) bs in
-    elim (eqb b m) as (λ t. suc (length bs) ≤ cond (not t) (1 + n) 0 → cond t ([] ∷ split_at m bs) (pushed b (split_at m bs)) ≡ (b ∷ bs) ∷ []) [
+    elim (eqb b m) as (λ t. suc (length bs) ≤ cond (not t) (1 + n) 0 → cond t ([] ∷ split_at m bs) (onto_first b (split_at m bs)) ≡ (b ∷ bs) ∷ []) [
       | true ↦ λ large. absurd (omega arith)
-      | false ↦ λ large. ap (pushed b) (split_unmarked m bs (omega arith))
+      | false ↦ λ large. ap (onto_first b) (split_unmarked m bs (omega arith))
     ] h
 
 pub before_unmarked : (m : ℕ) (s : List ℕ) → length s ≤ position_or_len (is_mark m) s → before_first (is_mark m) s ≡ s
@@ -42,19 +42,19 @@ after_unmarked m s h = drop_all (position_or_len (is_mark m) s + 1) s (omega ari
 pub length_before : (m : ℕ) (s : List ℕ) → position_or_len (is_mark m) s < length s → length (before_first (is_mark m) s) ≡ position_or_len (is_mark m) s
 length_before m s h = length-take-le (position_or_len (is_mark m) s) s (omega arith)
 
-length_pushed : (b : ℕ) (ps : List (List ℕ)) (n : ℕ) → length ps ≡ n + 1 → length (pushed b ps) ≡ n + 1
-length_pushed b [] n h = absurd (omega arith)
-length_pushed b (p ∷ ps) n h = h
+length_onto_first : (b : ℕ) (ps : List (List ℕ)) (n : ℕ) → length ps ≡ n + 1 → length (onto_first b ps) ≡ n + 1
+length_onto_first b [] n h = absurd (omega arith)
+length_onto_first b (p ∷ ps) n h = h
 
 -- as many pieces as marks, and one more
 pub split_count : (m : ℕ) (s : List ℕ) → length (split_at m s) ≡ count_by (is_mark m) s + 1
 split_count m [] = refl
 split_count m (b ∷ bs) =
     let n : ℕ = count_by (is_mark m) bs in
-    let P : Bool → Type 0 = λ t. length (cond t ([] ∷ split_at m bs) (pushed b (split_at m bs))) ≡ cond t 1 0 + n + 1 in
+    let P : Bool → Type 0 = λ t. length (cond t ([] ∷ split_at m bs) (onto_first b (split_at m bs))) ≡ cond t 1 0 + n + 1 in
     let here : P (eqb b m) = elim (eqb b m) as P [
       | true ↦ let e = split_count m bs in omega arith
-      | false ↦ length_pushed b (split_at m bs) (0 + n) (let e = split_count m bs in omega arith)
+      | false ↦ length_onto_first b (split_at m bs) (0 + n) (let e = split_count m bs in omega arith)
     ] in
     here ∙ ap (λ (k : ℕ). k + 1) (sym (sum_by-cons (λ (x : ℕ). cond (eqb x m) 1 0) b bs))
 

@@ -1,6 +1,6 @@
 -- Streams whose lines fit the fields.
-use Rattle.std.specs.Prelude.{◌≡◌, ◌<◌, ◌^◌, ℕ, List, [], ◌∷◌, Bool, true, false}
-use Rattle.std.specs.List.{AllZip}
+use Rattle.std.specs.Prelude.{◌≡◌, ◌<◌, ◌^◌, ℕ, List, Bool, true, false}
+use Rattle.std.specs.List.{AllZip, AllByRecursion}
 use Rattle.sap_lattice.specs.Levels.{Levels, order_of}
 use Rattle.sap_meaning.specs.Cycle.{Tagged as Given}
 use Rattle.sap_stim.specs.declared.field.Field.{Field}
@@ -23,8 +23,7 @@ abbrev pub LineFits : Levels → List Field → List Given → Type 0
 LineFits ls = AllZip (InputFits ls)
 
 abbrev pub StreamFits : Levels → List Field → List (List Given) → Type 0
-StreamFits ls fs [] = Unit {0}
-StreamFits ls fs (inputs ∷ rest) = LineFits ls fs inputs × StreamFits ls fs rest
+StreamFits ls fs stream = AllByRecursion (LineFits ls fs) stream
 
 -- where bottom is a level, what is read of a stimulus fits
 abbrev pub StimulusFits : Type 0

@@ -1,7 +1,7 @@
 -- What a line of a stimulus file gives, or the code that stands in it.
 use Rattle.std.specs.Prelude.{ℕ, List, [], ◌∷◌, drop, length, Option, Some, None, Result, Ok, Err, Bool, false, not, nat_lt, nat_le, ◌==◌, ◌&&◌, ◌^◌, ◌≤◌, position, if◌then◌else◌}
 use Rattle.std.specs.Char.{is_ascii_digit}
-use Rattle.std.specs.List.{list_all, before_first, after_first}
+use Rattle.std.specs.List.{list_all, before_first, after_first, slice_split}
 use Rattle.std.specs.Str.{byte, bytes_eq}
 use Rattle.std.specs.Str.Parse.{digits_value}
 use Rattle.sap_lattice.specs.Levels.{Levels, order_of}
@@ -21,13 +21,8 @@ abbrev pub IsSized : Field → Type 0
 IsSized f = (1 ≤ field_width f) × (field_width f ≤ 64)
 
 -- the pieces of a text between the bytes of this value: one more than there are such bytes
-abbrev pub pushed : ℕ → List (List ℕ) → List (List ℕ)
-pushed b [] = (b ∷ []) ∷ []
-pushed b (piece ∷ pieces) = (b ∷ piece) ∷ pieces
-
 abbrev pub split_at : ℕ → List ℕ → List (List ℕ)
-split_at mark [] = [] ∷ []
-split_at mark (b ∷ bs) = if b == mark then [] ∷ split_at mark bs else pushed b (split_at mark bs)
+split_at mark text = slice_split (λ b. b == mark) text
 
 -- the pieces of a line: split at each space, an empty line has none
 abbrev pub pieces_of : List ℕ → List (List ℕ)

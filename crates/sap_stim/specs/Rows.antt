@@ -1,6 +1,7 @@
 -- The row of a cycle: `cycle N:`, then ` NAME=VALUE@LEVEL` for each register in order, then LF.
 use Rattle.std.specs.Prelude.{ℕ, ◌+◌, ◌^◌, ◌<◌, ◌≤◌, All, List, [], ◌∷◌, ◌++◌, ◌==◌, codes, length, find, Option, Some, None, option_map}
 use Rattle.std.specs.Fmt.{decimal}
+use Rattle.std.specs.Str.{byte}
 use Rattle.sap_lattice.specs.Closure.{name_at}
 use Rattle.sap_lattice.specs.Codes.{code_of}
 use Rattle.sap_lattice.specs.Levels.{Levels, order_of, numbers}
@@ -35,7 +36,7 @@ abbrev pub shown_text : Shown → List ℕ
 shown_text s = codes " " ++ s.name ++ codes "=" ++ decimal s.value ++ codes "@" ++ level_text s.level s.tag
 
 abbrev pub all_shown : List Shown → List ℕ
-all_shown [] = 10 ∷ []
+all_shown [] = byte "\n" ∷ []
 all_shown (s ∷ ss) = shown_text s ++ all_shown ss
 
 abbrev pub row_text : (cycle : ℕ) → List Shown → List ℕ

@@ -84,7 +84,8 @@ pub fn push_row(
     tags: &[u64],
     lattice: &Lattice,
 ) -> Result<(), AllocError>
-    requires lengths { (length values.now ≡ length names.now) × (length tags.now ≡ length names.now) }
+    requires values { length values.now ≡ length names.now }
+    requires tags { length tags.now ≡ length names.now }
     ensures text { OnOk result (out.new.items ≡ out.old.items ++ row_text cycle (shown_of lattice.now names.now values.now tags.now)) }
     ensures room { vec_capacity out.old ≤ vec_capacity out.new }
     ensures full { OnErr result (vec_capacity out.old < length out.old.items + length (row_text cycle (shown_of lattice.now names.now values.now tags.now))) }
@@ -104,7 +105,8 @@ pub fn row(
     tags: &[u64],
     lattice: &Lattice,
 ) -> Result<Bytes, AllocError>
-    requires lengths { (length values.now ≡ length names.now) × (length tags.now ≡ length names.now) }
+    requires values { length values.now ≡ length names.now }
+    requires tags { length tags.now ≡ length names.now }
     ensures { IfOk result (λ text. text ≡ row_text cycle (shown_of lattice.now names.now values.now tags.now)) }
 {
     let mut out = Vec::new(alloc);
@@ -121,7 +123,8 @@ pub fn row_into(
     tags: &[u64],
     lattice: &Lattice,
 )
-    requires lengths { (length values.now ≡ length names.now) × (length tags.now ≡ length names.now) }
+    requires values { length values.now ≡ length names.now }
+    requires tags { length tags.now ≡ length names.now }
     requires fits { length out.old.bytes + row_room (shown_of lattice.now names.now values.now tags.now) ≤ out.old.room }
     ensures text { out.new.bytes ≡ out.old.bytes ++ row_text cycle (shown_of lattice.now names.now values.now tags.now) }
     ensures room { out.old.room ≤ out.new.room }

@@ -1,5 +1,5 @@
 -- The same inputs in several cycles, one after another.
-use Rattle.std.specs.Prelude.{ℕ, ◌≤◌, List, [], ◌∷◌, ◌++◌, replicate}
+use Rattle.std.specs.Prelude.{ℕ, ◌≤◌, List, replicate, flat_map}
 use Rattle.sap_meaning.specs.Cycle.{Tagged}
 
 -- what each input gets, for so many cycles
@@ -17,5 +17,4 @@ cycles_in s = replicate s.count s.inputs
 
 -- the inputs of each cycle of some spans, one behind another
 abbrev pub cycles_of : List Span → List (List Tagged)
-cycles_of [] = []
-cycles_of (s ∷ ss) = cycles_in s ++ cycles_of ss
+cycles_of spans = flat_map cycles_in spans

@@ -1,11 +1,12 @@
-use Rattle.std.proofs.Common.{◌∙◌, sym, arith}
-use Rattle.sap_shape.proofs.Members.{among_here}
+use Rattle.std.proofs.Common.{rules, tests, ◌∙◌, sym}
+use Rattle.std.specs.Str.{bytes_eq}
+use Rattle.std.proofs.lemmas.Iterator.Search.{any_from_yields_List}
+use Rattle.std.proofs.lemmas.Iterator.{YieldsList-from_slice}
+use Rattle.sap_tree.specs.declared.syntax.State.{State, out-State}
+use Rattle.sap_shape.proofs.Members.{among_listed}
 use Rattle.sap_shape.proofs.position.is_among.Goals as goal
 
-pub returns-then-same : goal.returns-then-same
-returns-then-same c =
-    sym (among_here _ c.args.group.now c.loop-state.state-index c.state-item.result _ (omega arith) c.state-item.is (sym c.if-same.true ∙ c.same.ensures)) ∙ c.loop-state.invariant
-
-pub loop-state-preserved : goal.loop-state-preserved
-loop-state-preserved c =
-    sym (among_here _ c.args.group.now c.loop-state.state-index c.state-item.result _ (omega arith) c.state-item.is (sym c.if-same.false ∙ c.same.ensures)) ∙ c.loop-state.invariant
+pub returns : goal.returns
+returns c =
+    any_from_yields_List (λ (s : State). bytes_eq (out-State s).name.name c.args.name.now) _ _ _ c.any.ensures.ran (YieldsList-from_slice c.args.group.now cc) (λ x b q k. search (rules, tests))
+    ∙ sym (among_listed c.args.name.now c.args.group.now)

@@ -1,13 +1,12 @@
-use Rattle.std.proofs.Common.{◌∙◌, sym, arith}
-use Rattle.sap_shape.proofs.Members.{enforced_here}
+use Rattle.std.proofs.Common.{rules, tests, ◌∙◌, sym}
+use Rattle.std.proofs.lemmas.Iterator.Search.{any_from_yields_List}
+use Rattle.std.proofs.lemmas.Iterator.{YieldsList-from_slice}
+use Rattle.sap_tree.specs.declared.syntax.State.{State, out-State}
+use Rattle.sap_shape.specs.Sites.{is_enforced_kind}
+use Rattle.sap_shape.proofs.Members.{enforced_listed}
 use Rattle.sap_shape.proofs.sites.any_enforced.Goals as goal
 
-pub returns-then-is_enforced_kind : goal.returns-then-is_enforced_kind
-returns-then-is_enforced_kind c =
-    sym (enforced_here c.args.states.now c.loop-state.state-index c.state-item.result _ (omega arith) c.state-item.is (sym c.if-is_enforced_kind.true ∙ c.is_enforced_kind.ensures))
-    ∙ c.loop-state.invariant
-
-pub loop-state-preserved : goal.loop-state-preserved
-loop-state-preserved c =
-    sym (enforced_here c.args.states.now c.loop-state.state-index c.state-item.result _ (omega arith) c.state-item.is (sym c.if-is_enforced_kind.false ∙ c.is_enforced_kind.ensures))
-    ∙ c.loop-state.invariant
+pub returns : goal.returns
+returns c =
+    any_from_yields_List (λ (s : State). is_enforced_kind (out-State s).kind) _ _ _ c.any.ensures.ran (YieldsList-from_slice c.args.states.now cc) (λ x b q k. search (rules, tests))
+    ∙ sym (enforced_listed c.args.states.now)

@@ -1,5 +1,0 @@
-use Rattle.std.proofs.Common.{◌≡◌, ◌++◌, drop}
-use Rattle.sap_share.proofs.keys.add_bytes.Given as goal
-
-abbrev pub invariant-loop-byte : goal.invariant-loop-byte
-invariant-loop-byte l = l.key.items ++ drop l.byte-index l.bytes ≡ l.fn.key.items ++ l.bytes
