@@ -10,6 +10,7 @@ use Rattle.sap_lattice.specs.declared.pair.Pair.{Pair}
 use Rattle.sap_lattice.proofs.Answered.{none_broken, one_answer}
 use Rattle.sap_latfile.specs.Document.{Lists}
 use Rattle.sap_latfile.specs.LatticeFile.{FirstFault, IsDocument, IsFileOf, IsLatticeOfFile}
+use Rattle.sap_latfile.specs.OneFault.{NotBoth, OneFault}
 use Rattle.sap_latfile.specs.Wrapped.{wrapped}
 use Rattle.sap_latfile.specs.declared.fault.LatFileFault.{LatFileFault}
 use Rattle.sap_latfile.specs.declared.fault.LatFileFault.TheVariants.{NotToml, Shape, Rule, Memory}
@@ -53,21 +54,26 @@ module _ (bytes : List ℕ) where
       (fault, refl, first.0, subst P same.0 (subst Q same.1 broken))
   file_fault Memory names pairs ne file first = absurd (ne refl)
 
-  one_fault : (f g : LatFileFault) → f ≢ Memory → g ≢ Memory → FirstFault bytes f → FirstFault bytes g → f ≡ g
-  one_fault (Rule fault) g nf ng a b =
+  same_fault : (f g : LatFileFault) → f ≢ Memory → g ≢ Memory → FirstFault bytes f → FirstFault bytes g → f ≡ g
+  same_fault (Rule fault) g nf ng a b =
       let (names, pairs, file, broken) = a.1 in
       let (other, g_is, ne, other_broken) = file_fault g names pairs ng file b in
       ap Rule (one_answer names pairs fault other a.0 ne broken other_broken) ∙ sym g_is
-  one_fault f (Rule fault) nf ng a b =
+  same_fault f (Rule fault) nf ng a b =
       let (names, pairs, file, broken) = b.1 in
       let (other, f_is, ne, other_broken) = file_fault f names pairs nf file a in
       f_is ∙ ap Rule (one_answer names pairs other fault ne b.0 other_broken broken)
-  one_fault NotToml NotToml nf ng a b = refl
-  one_fault NotToml Shape nf ng a b = absurd (a b.document b.is_document)
-  one_fault Shape NotToml nf ng a b = absurd (b a.document a.is_document)
-  one_fault Shape Shape nf ng a b = refl
-  one_fault Memory g nf ng a b = absurd (nf refl)
-  one_fault f Memory nf ng a b = absurd (ng refl)
+  same_fault NotToml NotToml nf ng a b = refl
+  same_fault NotToml Shape nf ng a b = absurd (a b.document b.is_document)
+  same_fault Shape NotToml nf ng a b = absurd (b a.document a.is_document)
+  same_fault Shape Shape nf ng a b = refl
+  same_fault Memory g nf ng a b = absurd (nf refl)
+  same_fault f Memory nf ng a b = absurd (ng refl)
+
+  no_fault : (l : Levels) (f : LatFileFault) → f ≢ Memory → IsLatticeOfFile bytes l → FirstFault bytes f → ⊥
+  no_fault l f ne (names, pairs, file, lattice) first =
+      let (fault, f_is, other, broken) = file_fault f names pairs ne file first in
+      none_broken names pairs fault other lattice.kept broken
 
   cases_memory : (f : LatFileFault) → (f ≡ Memory) ⊎ (f ≢ Memory)
   cases_memory NotToml = inr (λ e. cc)
@@ -86,12 +92,15 @@ module _ (bytes : List ℕ) where
       ]
 
   pub exact_answer : (r : Result Levels LatFileFault) → IfOk r (λ l. IsLatticeOfFile bytes l) → IfErr r (λ f. FirstFault bytes f) → (f : LatFileFault) → f ≢ Memory → FirstFault bytes f → IsErrOf r f ⊎ IsErrOf r Memory
-  exact_answer (Ok l) accepted refused f ne first =
-      let (names, pairs, file, lattice) = accepted in
-      let (fault, f_is, other, broken) = file_fault f names pairs ne file first in
-      absurd (none_broken names pairs fault other lattice.kept broken)
+  exact_answer (Ok l) accepted refused f ne first = absurd (no_fault l f ne accepted first)
   exact_answer (Err g) accepted refused f ne first =
       elim (cases_memory g) [
         | inl e ↦ inr (ap Err e)
-        | inr other ↦ inl (ap Err (one_fault g f other ne refused first))
+        | inr other ↦ inl (ap Err (same_fault g f other ne refused first))
       ]
+
+pub one_fault : OneFault
+one_fault bytes f g nf ng a b = same_fault bytes f g nf ng a b
+
+pub not_both : NotBoth
+not_both bytes l f ne is first = no_fault bytes l f ne is first

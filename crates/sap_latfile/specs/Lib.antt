@@ -1,6 +1,7 @@
 pub mod Document
 pub mod FaultTexts
 pub mod LatticeFile
+pub mod OneFault
 pub mod OneLattice
 pub mod Wrapped
 pub use Rattle.sap_lattice.specs.Rules
