@@ -1,5 +1,5 @@
 -- What an answer says, once the next line was told.
-use Rattle.std.proofs.Common.{◌≡◌, ℕ, ◌+◌, ◌<◌, ◌≤◌, Bool, false, List, [], ◌++◌, length, drop, append_assoc, refl, sym, ap, ◌∙◌, subst, inl, inr, arith}
+use Rattle.std.proofs.Common.{◌≡◌, ℕ, ◌+◌, ◌<◌, ◌≤◌, Bool, false, List, [], ◌++◌, length, take, drop, append_assoc, refl, sym, ap, ◌∙◌, subst, inl, inr, arith}
 use Rattle.std.specs.Prelude.{◌⊎◌, ◌^◌, IsTrue, Option, Some, None, IfSome}
 use Rattle.sap_desk.proofs.DeskLemmas.{name_moved}
 use Rattle.sap_desk.specs.Desk.{Told, blame_at, moved, moved_use, name_if_reading, rest_of}
@@ -13,7 +13,7 @@ use Rattle.sap_stim.specs.declared.stimulus.Parsed.{Parsed}
 use Rattle.sap_stim.specs.Stimulus.{read_from}
 use Rattle.sap_lines.specs.declared.next.Next.{Next}
 use Rattle.sap_lines.specs.declared.next.Next.TheVariants.{Line, End, Fault, Failed}
-use Rattle.sap_lines.specs.Answers.{is_failed, is_line, lines_in, count_after, Tells, TellsSome, Counted, ReadOn, blamed_by}
+use Rattle.sap_lines.specs.Answers.{is_failed, is_line, lines_in, count_after, Tells, TellsBy, Counted, ReadOn, blamed_by}
 use Rattle.sap_lines.specs.Reader.{Reader, to_come}
 use Rattle.sap_lines.specs.Fetched.{IsDecided, EndsOrDecided, More, MoreAndFailed}
 
@@ -57,34 +57,48 @@ next_told ls fs fields channel count count_now held now later line line_now live
 
 -- on every desk
 
-some_lines : (ls : Levels) (fs : List Field) (count : ℕ) (held now later : List ℕ) (line : Span) (next : Next) → (piece : List ℕ) × (now ≡ held ++ piece) → (IsTrue (is_line next) → IsDecided now)
-    → ((rest : List ℕ) → IsDecided now ⊎ (rest ≡ []) → count < 2 ^ 32 → Tells next (read_from ls fs (count + 1) (now ++ rest)) line (read_from ls fs (count + 2) (later ++ rest)))
-    → count < 2 ^ 32
-    → (more : List ℕ) × ((rest : List ℕ) → IsTrue (is_line next) ⊎ (rest ≡ []) → Tells next (read_from ls fs (count + 1) (held ++ (more ++ rest))) line (read_from ls fs (count_after next count + 1) (later ++ rest)))
-some_lines ls fs count held now later line next (piece, is) decided tells small = (piece, so) where
+module _ (ls : Levels) (fs : List Field) (count : ℕ) (held piece now later : List ℕ) (line : Span) (next : Next) (is : now ≡ held ++ piece) (decided : IsTrue (is_line next) → IsDecided now)
+    (tells : (rest : List ℕ) → IsDecided now ⊎ (rest ≡ []) → count < 2 ^ 32 → Tells next (read_from ls fs (count + 1) (now ++ rest)) line (read_from ls fs (count + 2) (later ++ rest)))
+    (small : count < 2 ^ 32) where
   told_by : (rest : List ℕ) → IsTrue (is_line next) ⊎ (rest ≡ []) → IsDecided now ⊎ (rest ≡ [])
   told_by rest (inl given) = inl (decided given)
   told_by rest (inr none) = inr none
 
-  so : (rest : List ℕ) → IsTrue (is_line next) ⊎ (rest ≡ []) → Tells next (read_from ls fs (count + 1) (held ++ (piece ++ rest))) line (read_from ls fs (count_after next count + 1) (later ++ rest))
-  so rest h =
+  lines_by : (rest : List ℕ) → IsTrue (is_line next) ⊎ (rest ≡ []) → Tells next (read_from ls fs (count + 1) (held ++ (piece ++ rest))) line (read_from ls fs (count_after next count + 1) (later ++ rest))
+  lines_by rest h =
       let all : now ++ rest ≡ held ++ (piece ++ rest) = ap (λ (xs : List ℕ). xs ++ rest) is ∙ append_assoc held piece rest in
       let p : Parsed = read_from ls fs (count + 1) (held ++ (piece ++ rest)) in
       tells_after next count p p (λ k. read_from ls fs k (later ++ rest)) line small
       (subst (λ (s : List ℕ). Tells next (read_from ls fs (count + 1) s) line (read_from ls fs (count + 2) (later ++ rest))) all (tells rest (told_by rest h) small))
 
-pub next_some : (ls : Levels) (fs fields : List Field) (count count_now : ℕ) (held now later : List ℕ) (line line_now : Span) (live live_now : Bool) (next : Next) (r : Reader)
+pub next_by : (ls : Levels) (fs fields : List Field) (count count_now : ℕ) (held piece now later : List ℕ) (line line_now : Span) (live live_now : Bool) (next : Next) (r : Reader)
     → record { fields = fields; live = live; line = line; count = count; pending = held } ≡ r → fs ≡ fields → count_now ≡ count_after next count
-    → (piece : List ℕ) × (now ≡ held ++ piece) → (IsTrue (is_line next) → IsDecided now)
+    → now ≡ held ++ piece → (IsTrue (is_line next) → IsDecided now)
     → ((rest : List ℕ) → IsDecided now ⊎ (rest ≡ []) → count < 2 ^ 32 → Tells next (read_from ls fs (count + 1) (now ++ rest)) line_now (read_from ls fs (count + 2) (later ++ rest)))
     → r.count < 2 ^ 32
-    → TellsSome ls next r (record { fields = fields; live = live_now; line = line_now; count = count_now; pending = later })
-next_some ls fs fields count count_now held now later line line_now live live_now next r seen same counts behind decided tells =
-    subst (λ (q : Reader). q.count < 2 ^ 32 → TellsSome ls next q (record { fields = fields; live = live_now; line = line_now; count = count_now; pending = later })) seen
+    → TellsBy ls next r (record { fields = fields; live = live_now; line = line_now; count = count_now; pending = later }) piece
+next_by ls fs fields count count_now held piece now later line line_now live live_now next r seen same counts is decided tells =
+    subst (λ (q : Reader). q.count < 2 ^ 32 → TellsBy ls next q (record { fields = fields; live = live_now; line = line_now; count = count_now; pending = later }) piece) seen
     (λ small.
-    subst (λ (k : ℕ). TellsSome ls next (record { fields = fields; live = live; line = line; count = count; pending = held }) (record { fields = fields; live = live_now; line = line_now; count = k; pending = later })) (sym counts)
-    (subst (λ (list : List Field). TellsSome ls next (record { fields = list; live = live; line = line; count = count; pending = held }) (record { fields = list; live = live_now; line = line_now; count = count_after next count; pending = later })) same
-    (some_lines ls fs count held now later line_now next behind decided tells small)))
+    subst (λ (k : ℕ). TellsBy ls next (record { fields = fields; live = live; line = line; count = count; pending = held }) (record { fields = fields; live = live_now; line = line_now; count = k; pending = later }) piece) (sym counts)
+    (subst (λ (list : List Field). TellsBy ls next (record { fields = list; live = live; line = line; count = count; pending = held }) (record { fields = list; live = live_now; line = line_now; count = count_after next count; pending = later }) piece) same
+    (lines_by ls fs count held piece now later line_now next is decided tells small)))
+
+-- by what was read, where the desk tells it
+pub next_read : (ls : Levels) (fs fields : List Field) (channel read count count_now : ℕ) (held now later : List ℕ) (line line_now : Span) (live live_now : Bool) (next : Next) (r : Reader) (told : Option Told)
+    → record { fields = fields; live = live; line = line; count = count; pending = held } ≡ r → fs ≡ fields → count_now ≡ count_after next count
+    → IfSome told (λ t. now ≡ held ++ take read (rest_of t channel)) → (IsTrue (is_line next) → IsDecided now)
+    → ((rest : List ℕ) → IsDecided now ⊎ (rest ≡ []) → count < 2 ^ 32 → Tells next (read_from ls fs (count + 1) (now ++ rest)) line_now (read_from ls fs (count + 2) (later ++ rest)))
+    → r.count < 2 ^ 32
+    → IfSome told (λ t. TellsBy ls next r (record { fields = fields; live = live_now; line = line_now; count = count_now; pending = later }) (take read (rest_of t channel)))
+next_read ls fs fields channel read count count_now held now later line line_now live live_now next r None seen same counts is decided tells small = tt
+next_read ls fs fields channel read count count_now held now later line line_now live live_now next r (Some t) seen same counts is decided tells small =
+    next_by ls fs fields count count_now held (take read (rest_of t channel)) now later line line_now live live_now next r seen same counts is decided tells small
+
+-- what holds of every desk that tells its contents
+pub if_told : (told : Option Told) (P : Told → Type 0) → ((t : Told) → P t) → IfSome told P
+if_told None P all = tt
+if_told (Some t) P all = all t
 
 pub counted_so : (next : Next) (faults now : ℕ) → is_failed next ≡ false → now ≡ faults → Counted next faults now
 counted_so Line faults now fine same = same

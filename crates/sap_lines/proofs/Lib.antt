@@ -3,4 +3,5 @@ pub mod Reading
 pub mod Answered
 pub mod Following
 pub mod Decided
+pub mod Undecided
 pub mod Shifting

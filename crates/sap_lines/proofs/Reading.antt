@@ -1,7 +1,7 @@
 -- Pieces read of a channel, one after another.
 use Rattle.std.proofs.Common.{◌≡◌, ℕ, ◌+◌, ◌<◌, ◌≤◌, List, ◌++◌, length, take, drop, append_assoc, refl, sym, ap, ◌∙◌, subst, inl, inr, length-append, length-take, arith}
 use Rattle.std.specs.Prelude.{◌-◌, Bool, true, false, cond, eqb, codes, Option, Some, None, option_map, IfSome}
-use Rattle.std.proofs.lemmas.List.{drop-drop, take-append-drop, take-append-le}
+use Rattle.std.proofs.lemmas.List.{drop-drop, take_all, take-append-drop, take-append-le}
 use Rattle.std.proofs.Math.Seq.{take-append-add}
 use Rattle.sap_lemmas.proofs.Lists.{take_front}
 use Rattle.sap_desk.specs.Desk.{Told, at_number, moved, rest_of, name_if_reading, blame_at, blamed}
@@ -132,13 +132,34 @@ take_same held now rest count k same behind within =
     ∙ ap (λ (n : ℕ). take n (held ++ rest)) sum
     ∙ take-append-add held rest (k - length held)
 
+-- what is held is what was held, and what was read
+held_read : (channel count : ℕ) (held now : List ℕ) (t : Told) → length now ≡ length held + count → now ++ drop count (rest_of t channel) ≡ held ++ rest_of t channel
+    → now ≡ held ++ take count (rest_of t channel)
+held_read channel count held now t size same =
+    let left : length now - length held ≡ count = omega (arith, size) in
+    sym (take_all (length now) now (omega arith))
+    ∙ take_same held now (rest_of t channel) count (length now) same (omega (arith, size)) (omega arith)
+    ∙ ap (λ (n : ℕ). held ++ take n (rest_of t channel)) left
+
+pub held_so : (channel count : ℕ) (held now : List ℕ) (told : Option Told) → length now ≡ length held + count
+    → IfSome told (λ t. now ++ drop count (rest_of t channel) ≡ held ++ rest_of t channel) → IfSome told (λ t. now ≡ held ++ take count (rest_of t channel))
+held_so channel count held now None size same = tt
+held_so channel count held now (Some t) size same = held_read channel count held now t size same
+
+-- where that doesn't tell the line
+pub wanted_so : (channel count : ℕ) (held now : List ℕ) (told : Option Told) → length now ≡ length held + count
+    → IfSome told (λ t. now ++ drop count (rest_of t channel) ≡ held ++ rest_of t channel) → (IsDecided now → ⊥)
+    → IfSome told (λ t. IsDecided (held ++ take count (rest_of t channel)) → ⊥)
+wanted_so channel count held now None size same wants = tt
+wanted_so channel count held now (Some t) size same wants = λ decided. wants (subst IsDecided (sym (held_read channel count held now t size same)) decided)
+
 least_told : (channel count : ℕ) (held now : List ℕ) (t : Told) → length now ≡ length held + count → now ++ drop count (rest_of t channel) ≡ held ++ rest_of t channel
     → HoldsLeast held now → ReadsLeast channel held count t
 least_told channel count held now t size same (inl none) = inl (let l : length now ≡ length held = ap length none in omega arith)
 least_told channel count held now t size same (inr (k, behind, before, most, undecided)) =
     inr (k - length held, omega arith, omega arith, λ decided. undecided (subst IsDecided (sym (take_same held now (rest_of t channel) count k same behind (omega arith))) decided))
 
-read_count : (channel count : ℕ) (g h : ℕ → ℕ) → h ≡ at_number channel (g channel + count) g → h channel - g channel ≡ count
+pub read_count : (channel count : ℕ) (g h : ℕ → ℕ) → h ≡ at_number channel (g channel + count) g → h channel - g channel ≡ count
 read_count channel count g h given = let here : h channel ≡ g channel + count = number-at channel (g channel + count) g h given in omega arith
 
 -- of what is read behind the bytes that were pending

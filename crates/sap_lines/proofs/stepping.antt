@@ -1,6 +1,7 @@
 pub mod Between
 pub mod Going
 pub mod Pieces
+pub mod Pace
 pub mod Cycles
 pub mod Along
 pub mod Answered

@@ -43,10 +43,13 @@ Tells End before line after = before ≡ finished
 Tells (Fault fault) before line after = before ≡ record { stream = []; fault = Some fault }
 Tells Failed before line after = Unit {0}
 
--- On every desk it tells this of some bytes: they were to come, and behind them anything where it is a line, else nothing.
+-- It tells this by these bytes: they were to come, and behind them anything where it is a line, else nothing.
+abbrev pub TellsBy : Levels → Next → (was now : Reader) → (more : List ℕ) → Type 0
+TellsBy ls next was now more = (rest : List ℕ) → IsTrue (is_line next) ⊎ (rest ≡ []) → Tells next (to_come ls was (more ++ rest)) now.line (to_come ls now rest)
+
+-- on every desk it tells this by some bytes
 abbrev pub TellsSome : Levels → Next → (was now : Reader) → Type 0
-TellsSome ls next was now =
-    (more : List ℕ) × ((rest : List ℕ) → IsTrue (is_line next) ⊎ (rest ≡ []) → Tells next (to_come ls was (more ++ rest)) now.line (to_come ls now rest))
+TellsSome ls next was now = (more : List ℕ) × TellsBy ls next was now more
 
 -- a failed call counts once, as a fault
 abbrev pub Counted : Next → (faults now : ℕ) → Type 0

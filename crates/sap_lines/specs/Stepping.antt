@@ -1,3 +1,4 @@
+pub mod Pace
 pub mod Followed
 pub mod Printed
 pub mod Waiting

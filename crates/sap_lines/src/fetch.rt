@@ -27,6 +27,7 @@ fn read_pieces<D: Desk>(held: &mut Held, desk: &mut D, channel: usize) -> Result
     ensures behind { (piece : List ℕ) × (held.new ≡ held.old ++ piece) }
     ensures decided { OnOk result (IfSome (D.told desk.new) (EndsOrDecided channel held.new)) }
     ensures least { HoldsLeast held.old held.new }
+    ensures wanted { OnErr result (¬ IsDecided held.new) }
     ensures failed { OnErr result (MoreAndFailed channel held.old held.new (D.told desk.old) (D.told desk.new) (D.given desk.old) (D.given desk.new)) }
     ensures bounded { D.given desk.old channel < 2 ^ 32 → D.given desk.new channel < 2 ^ 32 }
     ensures counts { CountsAt channel (D.faults desk.old) (D.faults desk.new) (D.lost desk.old) (D.lost desk.new) result }
@@ -52,6 +53,7 @@ pub fn fetch<D: Desk>(held: &mut Held, desk: &mut D, channel: usize) -> Result<(
     ensures behind { (piece : List ℕ) × (held.new ≡ held.old ++ piece) }
     ensures decided { OnOk result (IfSome (D.told desk.new) (EndsOrDecided channel held.new)) }
     ensures least { HoldsLeast held.old held.new }
+    ensures wanted { OnErr result (¬ IsDecided held.new) }
     ensures still { IsDecided held.old → (held.new ≡ held.old) × (desk.new ≡ desk.old) }
     ensures failed { OnErr result (MoreAndFailed channel held.old held.new (D.told desk.old) (D.told desk.new) (D.given desk.old) (D.given desk.new)) }
     ensures bounded { D.given desk.old channel < 2 ^ 32 → D.given desk.new channel < 2 ^ 32 }

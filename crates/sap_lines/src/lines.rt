@@ -1,13 +1,13 @@
 //! The reader.
 
-ghost use Rattle.std.specs.Prelude.{◌≡◌, ◌≢◌, ◌+◌, ◌-◌, ◌≤◌, ◌<◌, ◌^◌, ◌⊎◌, ◌↔◌, All, IfOk, IfSome, IsTrue, true, length};
+ghost use Rattle.std.specs.Prelude.{◌≡◌, ◌≢◌, ◌+◌, ◌-◌, ◌≤◌, ◌<◌, ◌^◌, ◌⊎◌, ◌↔◌, ◌++◌, All, IfOk, IfSome, IsTrue, true, length, take};
 ghost use Rattle.sap_desk.specs.Cause.{FailsToRead};
 ghost use Rattle.sap_desk.specs.Desk.{rest_of};
 ghost use Rattle.sap_desk.specs.Whole.{Between};
 ghost use Rattle.sap_stim.specs.Fits.{LineFits};
 ghost use Rattle.sap_stim.specs.Line.{IsSized};
 ghost use Rattle.sap_stream.specs.Spans.{IsCount};
-ghost use Rattle.sap_lines.specs.Answers.{Counted, ReadOn, Tells, TellsSome, count_after, is_failed, is_line};
+ghost use Rattle.sap_lines.specs.Answers.{Counted, ReadOn, Tells, TellsBy, TellsSome, count_after, is_failed, is_line};
 ghost use Rattle.sap_lines.specs.Fetched.{IsDecided, ReadsLeast};
 ghost use Rattle.sap_lines.specs.Reader.{Backed, IsNew, to_come};
 ghost use Rattle.sap_lines.specs.declared.TheConstants.{PIECE_BYTES};
@@ -106,6 +106,8 @@ impl Lines {
         ensures lines { self.old.count < 2 ^ 32 → Between (D.told desk.old) (D.told desk.new)
             (λ t n. Tells result (to_come lattice.now self.old (rest_of t channel)) self.new.line (to_come lattice.now self.new (rest_of n channel))) }
         ensures some { self.old.count < 2 ^ 32 → TellsSome lattice.now result self.old self.new }
+        ensures by { self.old.count < 2 ^ 32 → IfSome (D.told desk.old)
+            (λ t. TellsBy lattice.now result self.old self.new (take (D.given desk.new channel - D.given desk.old channel) (rest_of t channel))) }
         ensures fits { IsTrue self.new.live → LineFits lattice.now self.new.fields self.new.line.inputs }
         ensures live { self.new.live ≡ is_line result }
         ensures fields { self.new.fields ≡ self.old.fields }
@@ -114,6 +116,8 @@ impl Lines {
         ensures read { ReadOn result channel (D.told desk.old) (D.told desk.new) (D.given desk.old) (D.given desk.new) }
         ensures least { IfSome (D.told desk.old) (ReadsLeast channel self.old.pending (D.given desk.new channel - D.given desk.old channel)) }
         ensures still { IsDecided self.old.pending → desk.new ≡ desk.old }
+        ensures wanted { IsTrue (is_failed result) → IfSome (D.told desk.old)
+            (λ t. ¬ IsDecided (self.old.pending ++ take (D.given desk.new channel - D.given desk.old channel) (rest_of t channel))) }
         ensures backed { Backed self.old (D.given desk.old channel) → Backed self.new (D.given desk.new channel) }
         ensures bounded { D.given desk.old channel < 2 ^ 32 → D.given desk.new channel < 2 ^ 32 }
         ensures faults { Counted result (D.faults desk.old) (D.faults desk.new) }

@@ -35,6 +35,15 @@ module _ (S R : Told → Told → Type 0) (f : Told → Told) where
       let here : T m (f m) = subst (λ (o : Option Told). Between (Some m) o T) is told in
       subst (λ (o : Option Told). Between (Some t) o R) (sym is) (step t m s here)
 
+  -- with both
+  pub through_known : (T : Told → Told → Type 0) (K : Told → Type 0) (before mid one : Option Told) → one ≡ option_map f mid → ((t m : Told) → S t m → T m (f m) → K m → R t (f m))
+      → Between before mid S → Between mid one T → IfSome mid K → Between before one R
+  through_known T K None mid one is step s told known = tt
+  through_known T K (Some t) None one is step s told known = absurd s
+  through_known T K (Some t) (Some m) one is step s told known =
+      let here : T m (f m) = subst (λ (o : Option Told). Between (Some m) o T) is told in
+      subst (λ (o : Option Told). Between (Some t) o R) (sym is) (step t m s here known)
+
 -- with what the first of two calls tells
 pub through_two : (S T R : Told → Told → Type 0) (f h : Told → Told) (before mid one two : Option Told) → one ≡ option_map f mid → two ≡ option_map h one
     → ((t m : Told) → S t m → T m (f m) → R t (h (f m))) → Between before mid S → Between mid one T → Between before two R
@@ -43,6 +52,14 @@ through_two S T R f h (Some t) None one two is also step s told = absurd s
 through_two S T R f h (Some t) (Some m) one two is also step s told =
     let here : T m (f m) = subst (λ (o : Option Told). Between (Some m) o T) is told in
     subst (λ (o : Option Told). Between (Some t) o R) (sym (also ∙ ap (option_map h) is)) (step t m s here)
+
+-- with what is known before the first of two calls
+pub knowing_two : (S R : Told → Told → Type 0) (K : Told → Type 0) (f h : Told → Told) (before mid one two : Option Told) → one ≡ option_map f mid → two ≡ option_map h one
+    → ((t m : Told) → S t m → K m → R t (h (f m))) → Between before mid S → IfSome mid K → Between before two R
+knowing_two S R K f h None mid one two is also step s known = tt
+knowing_two S R K f h (Some t) None one two is also step s known = absurd s
+knowing_two S R K f h (Some t) (Some m) one two is also step s known =
+    subst (λ (o : Option Told). Between (Some t) o R) (sym (also ∙ ap (option_map h) is)) (step t m s known)
 
 -- with what is known between two calls
 pub known_two : (S R : Told → Told → Type 0) (K : Told → Option Told → Type 0) (f h : Told → Told) (before mid one two : Option Told) → one ≡ option_map f mid → two ≡ option_map h one

@@ -7,7 +7,7 @@ use Rattle.sap_desk.specs.Whole.{CutOutput}
 use Rattle.sap_meaning.specs.Cycle.{Tagged as Given}
 use Rattle.sap_stream.specs.Spans.{Span, cycles_in}
 use Rattle.sap_lines.specs.Stepping.Cycles.{Adds, CyclesCut, CyclesShown}
-use Rattle.sap_lines.specs.Stepping.Followed.{Shows}
+use Rattle.sap_lines.specs.Stepping.Pace.{Shows}
 use Rattle.sap_lines.specs.Stepping.Waiting.{PieceWritten}
 use Rattle.sap_lines.proofs.stepping.Pieces.{cut_then, written_behind, written_then}
 

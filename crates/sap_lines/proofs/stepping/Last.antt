@@ -10,9 +10,11 @@ use Rattle.sap_stim.specs.declared.fault.StimFault.{StimFault}
 use Rattle.sap_stim.specs.declared.field.Field.{Field}
 use Rattle.sap_stim.specs.Stimulus.{stimulus_of}
 use Rattle.sap_lines.specs.declared.stepping.stopped.Stopped.TheVariants.{Output}
-use Rattle.sap_lines.specs.Stepping.Followed.{Breaks, Broken, Followed, FollowedBut, Shows}
+use Rattle.sap_lines.specs.Stepping.Followed.{Breaks, Broken, Followed, FollowedBut}
+use Rattle.sap_lines.specs.Stepping.Pace.{Shows, printed_fault}
 use Rattle.sap_lines.proofs.stepping.Between.{known_after, onward}
 use Rattle.sap_lines.proofs.stepping.Going.{going_added, going_blamed, output_use}
+use Rattle.sap_lines.proofs.stepping.Pace.{pace_written}
 
 module _ (shows : Shows) (ls : Levels) (fs : List Field) (channel : ℕ) (fault : Option StimFault) (waiting : List ℕ) where
   last_written : (t m : Told) → FollowedBut shows ls fs channel fault waiting t m → Followed shows ls fs channel fault t (added 1 waiting m)
@@ -22,6 +24,8 @@ module _ (shows : Shows) (ls : Levels) (fs : List Field) (channel : ℕ) (fault 
     going = going_added channel f.count f.gained t m f.going waiting;
     is_fault = f.is_fault;
     shown = f.shown;
+    enough = f.enough;
+    keeps_pace = pace_written shows ls fs (rest_of t channel) f.count f.gained waiting f.keeps_pace;
   }
 
   pub whole_written : (before mid one : Option Told) → one ≡ option_map (added 1 waiting) mid → Between before mid (FollowedBut shows ls fs channel fault waiting)
@@ -51,6 +55,7 @@ module _ (shows : Shows) (ls : Levels) (fs : List Field) (channel : ℕ) (fault 
           rest = drop part waiting;
           shown = subst (shows stream) (sym whole) f.shown;
         };
+        keeps_pace = pace_written shows ls fs (rest_of t channel) f.count f.gained (take part waiting) f.keeps_pace;
         blame = refl;
         failed = tt;
       }
@@ -63,13 +68,13 @@ module _ (shows : Shows) (ls : Levels) (fs : List Field) (channel : ℕ) (fault 
   -- why: it fills the room
 
   last_cause : 2 < channel → (part : ℕ) (t m : Told) → FollowedBut shows ls fs channel fault waiting t m
-      → (IsWriting (m.uses 1) → FillsRoom 1 waiting m (Some (cut_at part m))) → Breaks channel Output t (cut_at part m)
+      → (IsWriting (m.uses 1) → FillsRoom 1 waiting m (Some (cut_at part m))) → Breaks (printed_fault ls fs) channel Output t (cut_at part m)
   last_cause above part t m f full =
       λ writing. (full (subst IsWriting (sym (output_use channel f.count f.gained t m f.going above)) writing)).full
 
   pub whole_cause : 2 < channel → (before mid one : Option Told) → CutOutput waiting mid one
       → IfSome mid (λ m. IsWriting (m.uses 1) → FillsRoom 1 waiting m one) → Between before mid (FollowedBut shows ls fs channel fault waiting)
-      → Between before one (Breaks channel Output)
+      → Between before one (Breaks (printed_fault ls fs) channel Output)
   whole_cause above before mid one failed full f =
-      known_after (FollowedBut shows ls fs channel fault waiting) (Breaks channel Output) (cut_at failed.count) (λ m o. IsWriting (m.uses 1) → FillsRoom 1 waiting m o)
+      known_after (FollowedBut shows ls fs channel fault waiting) (Breaks (printed_fault ls fs) channel Output) (cut_at failed.count) (λ m o. IsWriting (m.uses 1) → FillsRoom 1 waiting m o)
       before mid one failed.told (last_cause above failed.count) f full

@@ -3,17 +3,19 @@ use Rattle.std.proofs.Common.{◌≡◌, ℕ, ◌+◌, ◌<◌, ◌≤◌, List,
 use Rattle.std.specs.Prelude.{◌^◌, Bool, cond, Option, Some, None, IfSome, IsSome, option_map}
 use Rattle.std.proofs.lemmas.List.{append-nil}
 use Rattle.sap_desk.specs.Desk.{Told, Use, IsOpen, IsReading, IsWriting, at_number, blame_at, blamed, bytes_of, closed, finished, moved_use, name_if_open, name_if_reading, opened, reads, rest_of, rest_of_use}
-use Rattle.sap_desk.specs.Whole.{Between, MissingOrLong, OneMore}
+use Rattle.sap_desk.specs.Whole.{Between}
 use Rattle.sap_desk.proofs.Steps.{at_number-keeps, at_number-same, at_number-twice, file_there, other_number}
-use Rattle.sap_desk.proofs.WholeFiles.{blame_is, one_more}
+use Rattle.sap_desk.proofs.WholeFiles.{blame_is}
 use Rattle.sap_lattice.specs.Levels.{Levels}
 use Rattle.sap_stim.specs.declared.fault.StimFault.{StimFault}
 use Rattle.sap_stim.specs.declared.field.Field.{Field}
 use Rattle.sap_stim.specs.Stimulus.{stimulus_of}
 use Rattle.sap_lines.specs.declared.stepping.stopped.Stopped.{Stopped}
 use Rattle.sap_lines.specs.declared.stepping.stopped.Stopped.TheVariants.{Input, Output, Memory}
-use Rattle.sap_lines.specs.Stepping.Followed.{Breaks, Broken, Followed, Going, IsPartShown, Shows}
-use Rattle.sap_lines.specs.Stepping.Printed.{IsPartOf, OutputGrew, Printed, Stops, StopsFor, Unprinted}
+use Rattle.sap_lines.specs.Stepping.Followed.{Breaks, Broken, Followed, Going, IsPartShown}
+use Rattle.sap_lines.specs.Stepping.Pace.{FaultOf, IsTooLong, KeepsPace, Prints, Shows, printed_fault, printed_text}
+use Rattle.sap_lines.proofs.stepping.Pace.{pace_ended}
+use Rattle.sap_lines.specs.Stepping.Printed.{IsPartOf, MissingOrTooLong, OutputGrew, Printed, StaysOpen, Stops, StopsFor, Unprinted}
 
 -- what is known of a desk whose file is opened
 
@@ -69,8 +71,20 @@ module _ (channel : ℕ) (name : List ℕ) (above : 2 < channel) (t n : Told) (c
     use_is : n.uses channel ≡ reads name (0 + count)
     use_is = ap (λ (u : ℕ → Use). u channel) uses_open ∙ at_number-same channel (reads name (0 + count)) t.uses
 
-    left_open : OneMore name t.uses n.uses
-    left_open = subst (λ (u : ℕ → Use). OneMore name t.uses u) (sym uses_open) (one_more channel name (reads name (0 + count)) t above can.fresh refl)
+    left_open : (why : Stopped) (text : Prints) (fault : FaultOf) → KeepsPace why text fault (rest_of (opened channel name t) channel) count gained
+        → StaysOpen why name text fault t gained t.uses n.uses
+    left_open why text fault pace = record {
+      channel = channel;
+      above = above;
+      fresh = can.fresh;
+      position = 0 + count;
+      uses = uses_open;
+      bytes = bytes_of t name;
+      file = file;
+      keeps_pace =
+          subst (λ (n : ℕ). KeepsPace why text fault (bytes_of t name) n gained) (let e : count ≡ 0 + count = omega arith in e)
+          (subst (λ (bytes : List ℕ). KeepsPace why text fault bytes count gained) whole pace);
+    }
 
     grew : OutputGrew gained t n
     grew = record { files = going.files; output = going.output; lines = going.lines; room = going.room }
@@ -96,7 +110,7 @@ module _ (channel : ℕ) (name : List ℕ) (above : 2 < channel) (t n : Told) (c
       part = inr (of_file b.gained b.part);
       grew = grew b.count b.gained b.going;
       blame = b.blame ∙ ap name_if_reading (at_number-same channel (reads name 0) t.uses);
-      uses = inr (left_open b.count b.gained b.going);
+      stands = inr (left_open b.count b.gained b.going Input (printed_text shows ls fs) (printed_fault ls fs) b.keeps_pace);
     }
 
     pub output_broken : Broken shows ls fs channel Output (opened channel name t) n → Unprinted shows ls fs Output name t n
@@ -105,7 +119,7 @@ module _ (channel : ℕ) (name : List ℕ) (above : 2 < channel) (t n : Told) (c
       part = inr (of_file b.gained b.part);
       grew = grew b.count b.gained b.going;
       blame = b.blame;
-      uses = left_open b.count b.gained b.going;
+      stands = left_open b.count b.gained b.going Output (printed_text shows ls fs) (printed_fault ls fs) b.keeps_pace;
     }
 
     -- it was followed to its end, and could not be finished
@@ -124,18 +138,17 @@ module _ (channel : ℕ) (name : List ℕ) (above : 2 < channel) (t n : Told) (c
           }));
           grew = record { files = f.going.files; output = f.going.output; lines = f.going.lines; room = f.going.room };
           blame = ap name_if_open (use_is f.count f.gained f.going);
-          uses = inr (left_open f.count f.gained f.going);
+          stands = inr (left_open f.count f.gained f.going Input (printed_text shows ls fs) (printed_fault ls fs)
+              (pace_ended shows ls fs (rest_of (opened channel name t) channel) f.count f.gained f.enough f.shown f.keeps_pace));
         })
 
   -- why, at a desk on which no call is still to fail by its number
 
-  pub input_for : Breaks channel Input (opened channel name t) n → MissingOrLong name t
-  input_for breaks =
-      inr (subst (λ (bytes : List ℕ). 2 ^ 32 ≤ length bytes) whole
-      (breaks (subst IsReading (sym (at_number-same channel (reads name 0) t.uses)) tt)))
+  pub input_for : (fault : FaultOf) → Breaks fault channel Input (opened channel name t) n → MissingOrTooLong fault name t
+  input_for fault breaks = inr (subst (IsTooLong fault) whole (breaks (subst IsReading (sym (at_number-same channel (reads name 0) t.uses)) tt)))
 
-  pub output_for : Breaks channel Output (opened channel name t) n → StopsFor name Output t n
-  output_for breaks = λ writing.
+  pub output_for : (fault : FaultOf) → Breaks fault channel Output (opened channel name t) n → StopsFor fault name Output t n
+  output_for fault breaks = λ writing.
       breaks (subst IsWriting (sym (ap (λ (b : Bool). cond b (reads name 0) (t.uses 1)) (other_number 1 channel (omega arith)))) writing)
 
 -- it could not be opened
@@ -148,13 +161,13 @@ unopened shows ls fs name (Some t) new is = subst (λ (o : Option Told). Between
   part = inl refl;
   grew = record { files = refl; output = sym (append-nil (t.written 1)); lines = refl; room = refl };
   blame = refl;
-  uses = inl refl;
+  stands = inl (refl, refl);
 })
 
-pub missing : (name : List ℕ) (old new : Option Told) → new ≡ option_map (blamed name) old → IfSome old (λ t. t.files name ≡ None)
-    → Between old new (StopsFor name Input)
-missing name None new is none = tt
-missing name (Some t) new is none = subst (λ (o : Option Told). Between (Some t) o (StopsFor name Input)) (sym is) (inl none)
+pub missing : (fault : FaultOf) (name : List ℕ) (old new : Option Told) → new ≡ option_map (blamed name) old → IfSome old (λ t. t.files name ≡ None)
+    → Between old new (StopsFor fault name Input)
+missing fault name None new is none = tt
+missing fault name (Some t) new is none = subst (λ (o : Option Told). Between (Some t) o (StopsFor fault name Input)) (sym is) (inl none)
 
 -- a channel that is open can be finished
 pub never_unfinished : (channel : ℕ) (name : List ℕ) (R Q : Told → Told → Type 0) (f : Told → Told) (old one two three : Option Told) → one ≡ option_map (opened channel name) old
@@ -183,11 +196,11 @@ stops Input channel name above shows ls fs t n can b = input_broken channel name
 stops Output channel name above shows ls fs t n can b = output_broken channel name above t n can shows ls fs b
 stops Memory channel name above shows ls fs t n can b = absurd b.failed
 
-pub stops_for : (why : Stopped) (channel : ℕ) (name : List ℕ) → 2 < channel → (t n : Told) → CanOpen channel name t → Breaks channel why (opened channel name t) n
-    → StopsFor name why t n
-stops_for Input channel name above t n can breaks = input_for channel name above t n can breaks
-stops_for Output channel name above t n can breaks = output_for channel name above t n can breaks
-stops_for Memory channel name above t n can breaks = absurd breaks
+pub stops_for : (why : Stopped) (fault : FaultOf) (channel : ℕ) (name : List ℕ) → 2 < channel → (t n : Told) → CanOpen channel name t → Breaks fault channel why (opened channel name t) n
+    → StopsFor fault name why t n
+stops_for Input fault channel name above t n can breaks = input_for channel name above t n can fault breaks
+stops_for Output fault channel name above t n can breaks = output_for channel name above t n can fault breaks
+stops_for Memory fault channel name above t n can breaks = absurd breaks
 
 -- there was no memory to open it
 
@@ -195,6 +208,6 @@ pub unchanged : (shows : Shows) (ls : Levels) (fs : List Field) (name : List ℕ
 unchanged shows ls fs name None new is = tt
 unchanged shows ls fs name (Some t) new is = subst (λ (o : Option Told). Between (Some t) o (Stops shows ls fs name Memory)) (sym is) refl
 
-pub no_cause : (name : List ℕ) (old new : Option Told) → new ≡ old → Between old new (StopsFor name Memory)
-no_cause name None new is = tt
-no_cause name (Some t) new is = subst (λ (o : Option Told). Between (Some t) o (StopsFor name Memory)) (sym is) tt
+pub no_cause : (fault : FaultOf) (name : List ℕ) (old new : Option Told) → new ≡ old → Between old new (StopsFor fault name Memory)
+no_cause fault name None new is = tt
+no_cause fault name (Some t) new is = subst (λ (o : Option Told). Between (Some t) o (StopsFor fault name Memory)) (sym is) tt

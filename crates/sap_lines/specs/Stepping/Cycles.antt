@@ -4,7 +4,7 @@ use Rattle.sap_desk.specs.Desk.{Told}
 use Rattle.sap_desk.specs.Whole.{CutOutput}
 use Rattle.sap_meaning.specs.Cycle.{Tagged as Given}
 use Rattle.sap_stream.specs.Spans.{Span}
-use Rattle.sap_lines.specs.Stepping.Followed.{Shows}
+use Rattle.sap_lines.specs.Stepping.Pace.{Shows}
 use Rattle.sap_lines.specs.Stepping.Waiting.{PieceWritten}
 
 -- behind so many others, these cycles add this text to what is shown

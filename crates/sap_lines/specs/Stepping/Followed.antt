@@ -1,5 +1,5 @@
 -- What comes of the lines of a channel that is read by one line after another.
-use Rattle.std.specs.Prelude.{◌≡◌, ℕ, ◌^◌, ◌≤◌, List, ◌++◌, length, codes, Option, Result, Ok, Err}
+use Rattle.std.specs.Prelude.{◌≡◌, ℕ, List, ◌++◌, length, take, codes, Option, Result, Ok, Err}
 use Rattle.sap_desk.specs.Desk.{Told, IsReading, IsWriting, at_number, moved_use, name_if_reading, rest_of}
 use Rattle.sap_desk.specs.Cause.{counted}
 use Rattle.sap_lattice.specs.Levels.{Levels}
@@ -9,10 +9,7 @@ use Rattle.sap_stim.specs.declared.field.Field.{Field}
 use Rattle.sap_stim.specs.Stimulus.{stimulus_of}
 use Rattle.sap_lines.specs.declared.stepping.stopped.Stopped.{Stopped}
 use Rattle.sap_lines.specs.declared.stepping.stopped.Stopped.TheVariants.{Input, Output, Memory}
-
--- which text is shown of which lines
-abbrev pub Shows : Type 1
-Shows = List (List Given) → List ℕ → Type 0
+use Rattle.sap_lines.specs.Stepping.Pace.{FaultOf, IsTooLong, KeepsPace, Shows, printed_fault, printed_text}
 
 -- so many bytes more were read of a channel, this was written on channel 1, and nothing else changed but the blame
 pub record Going (channel count : ℕ) (gained : List ℕ) (t n : Told) : Type 0 where
@@ -30,13 +27,15 @@ pub record IsPartShown (shows : Shows) (ls : Levels) (fs : List Field) (bytes ga
   pub rest : List ℕ
   pub shown : shows lines (gained ++ rest)
 
--- all lines before the first that is refused are shown
+-- all lines before the first that is refused are shown, and the bytes that were read tell them all
 pub record Followed (shows : Shows) (ls : Levels) (fs : List Field) (channel : ℕ) (fault : Option StimFault) (t n : Told) : Type 0 where
   pub count : ℕ
   pub gained : List ℕ
   pub going : Going channel count gained t n
   pub is_fault : fault ≡ (stimulus_of ls fs (rest_of t channel)).fault
   pub shown : shows (stimulus_of ls fs (rest_of t channel)).stream gained
+  pub enough : stimulus_of ls fs (take count (rest_of t channel)) ≡ stimulus_of ls fs (rest_of t channel)
+  pub keeps_pace : KeepsPace Output (printed_text shows ls fs) (printed_fault ls fs) (rest_of t channel) count gained
 
 -- all lines before the first that is refused are shown, but what is shown of the last of them still waits to be written
 pub record FollowedBut (shows : Shows) (ls : Levels) (fs : List Field) (channel : ℕ) (fault : Option StimFault) (waiting : List ℕ) (t n : Told) : Type 0 where
@@ -45,6 +44,8 @@ pub record FollowedBut (shows : Shows) (ls : Levels) (fs : List Field) (channel 
   pub going : Going channel count gained t n
   pub is_fault : fault ≡ (stimulus_of ls fs (rest_of t channel)).fault
   pub shown : shows (stimulus_of ls fs (rest_of t channel)).stream (gained ++ waiting)
+  pub enough : stimulus_of ls fs (take count (rest_of t channel)) ≡ stimulus_of ls fs (rest_of t channel)
+  pub keeps_pace : KeepsPace Output (printed_text shows ls fs) (printed_fault ls fs) (rest_of t channel) count gained
 
 -- on every desk: some bytes have this fault, or have none
 abbrev pub IsFaultOfSome : Levels → List Field → Option StimFault → Type 0
@@ -68,14 +69,15 @@ pub record Broken (shows : Shows) (ls : Levels) (fs : List Field) (channel : ℕ
   pub gained : List ℕ
   pub going : Going channel count gained t n
   pub part : IsPartShown shows ls fs (rest_of t channel) gained
+  pub keeps_pace : KeepsPace why (printed_text shows ls fs) (printed_fault ls fs) (rest_of t channel) count gained
   pub blame : n.blame ≡ blamed_for why (name_if_reading (t.uses channel)) t.blame
   pub failed : IsFailedCall why
 
 -- why it failed, at a desk on which no call is still to fail by its number
-abbrev pub Breaks : (channel : ℕ) → Stopped → Told → Told → Type 0
-Breaks channel Input t n = IsReading (t.uses channel) → 2 ^ 32 ≤ length (rest_of t channel)
-Breaks channel Output t n = IsWriting (t.uses 1) → length (n.written 1) ≡ n.room
-Breaks channel Memory t n = ⊥
+abbrev pub Breaks : FaultOf → (channel : ℕ) → Stopped → Told → Told → Type 0
+Breaks fault channel Input t n = IsReading (t.uses channel) → IsTooLong fault (rest_of t channel)
+Breaks fault channel Output t n = IsWriting (t.uses 1) → length (n.written 1) ≡ n.room
+Breaks fault channel Memory t n = ⊥
 
 -- a failed call counts once
 abbrev pub Counts : {T : Type 0} → Result T Stopped → (faults now : ℕ) → Type 0

@@ -10,6 +10,7 @@ ghost use Rattle.sap_lines.specs.Fetched.{IsDecided};
 ghost use Rattle.sap_lines.specs.Reader.{IsNew};
 ghost use Rattle.sap_lines.specs.Stepping.Cycles.{CyclesCut, CyclesShown};
 ghost use Rattle.sap_lines.specs.Stepping.Followed.{Breaks, Broken, Counts, Followed, FollowedBut, IsFaultOfSome};
+ghost use Rattle.sap_lines.specs.Stepping.Pace.{printed_fault};
 ghost use Rattle.sap_lines.specs.Stepping.Printed.{Printed, Stops, StopsFor};
 ghost use Rattle.sap_lines.specs.declared.stepping.TheConstants.{LARGE_BYTES};
 
@@ -91,7 +92,7 @@ fn step_on<D: Desk, S: Steps>(
     ensures faults { Counts result (D.faults desk.old) (D.faults desk.new) }
     ensures lost { D.lost desk.new ≡ D.lost desk.old }
     ensures sure { D.sure desk.old → D.sure desk.new }
-    ensures cause { IfErr result (λ why. D.sure desk.old → Between (D.told desk.old) (D.told desk.new) (Breaks channel why)) }
+    ensures cause { IfErr result (λ why. D.sure desk.old → Between (D.told desk.old) (D.told desk.new) (Breaks (printed_fault (S.levels steps.old) (S.fields steps.old)) channel why)) }
 {
     lines_follow();
     let mut cycle: u64 = 0;
@@ -131,7 +132,7 @@ fn follow<D: Desk, S: Steps>(
     ensures faults { Counts result (D.faults desk.old) (D.faults desk.new) }
     ensures lost { D.lost desk.new ≡ D.lost desk.old }
     ensures sure { D.sure desk.old → D.sure desk.new }
-    ensures cause { IfErr result (λ why. D.sure desk.old → Between (D.told desk.old) (D.told desk.new) (Breaks channel why)) }
+    ensures cause { IfErr result (λ why. D.sure desk.old → Between (D.told desk.old) (D.told desk.new) (Breaks (printed_fault (S.levels steps.old) (S.fields steps.old)) channel why)) }
 {
     match step_on(desk, channel, steps, lines, out, waiting) {
         Ok(fault) => match write_text(desk, waiting.bytes()) {
@@ -166,7 +167,7 @@ pub fn print<D: Desk, S: Steps>(
     ensures faults { Counts result (D.faults desk.old) (D.faults desk.new) }
     ensures lost { D.lost desk.new ≡ D.lost desk.old }
     ensures sure { D.sure desk.old → D.sure desk.new }
-    ensures cause { IfErr result (λ why. D.sure desk.old → Between (D.told desk.old) (D.told desk.new) (StopsFor name.now why)) }
+    ensures cause { IfErr result (λ why. D.sure desk.old → Between (D.told desk.old) (D.told desk.new) (StopsFor (printed_fault (S.levels steps.old) (S.fields steps.old)) name.now why)) }
 {
     match desk.open_in(name) {
         Ok(channel) => match follow(desk, channel, steps, lines, out, waiting) {

@@ -47,3 +47,8 @@ returns-then-count-eq0-clause-more g c = same_more _ _ _ _ _ _ _ _ _ _ c.loop-pi
 
 pub returns-then-count-eq0-clause-decided : goal.returns-then-count-eq0-clause-decided
 returns-then-count-eq0-clause-decided g c = end_read _ _ _ _ _ _ _ c.if-count-eq0.true c.in_ok-count.ensures.told c.in_ok-count.ensures.gave (omega arith)
+
+pub returns-in_err-count-clause-wanted : goal.returns-in_err-count-clause-wanted
+returns-in_err-count-clause-wanted g c =
+    on_err c.from_residual.result (λ decided.
+    (let told : c.is_decided.result ≡ true = c.is_decided.ensures.1 (subst IsDecided (sym c.as_slice.ensures) decided) in let no : ⊥ = search (rules, tests) in no))

@@ -7,6 +7,7 @@ use Rattle.sap_stim.specs.declared.fault.StimFault.{StimFault}
 use Rattle.sap_lines.specs.declared.stepping.stopped.Stopped.{Stopped}
 use Rattle.sap_lines.specs.declared.stepping.stopped.Stopped.TheVariants.{Input}
 use Rattle.sap_lines.specs.Stepping.Followed.{Breaks, Broken, Counts, Followed}
+use Rattle.sap_lines.specs.Stepping.Pace.{printed_fault}
 use Rattle.sap_lines.specs.Stepping.Printed.{Printed, Stops, StopsFor}
 use Rattle.sap_lines.proofs.stepping.Opened.{can_open, from_open, from_open_then, missing, never_unfinished, no_cause, printed, still_open, stops, stops_for, unchanged, unfinished, unopened}
 use Rattle.sap_lines.proofs.stepping.printing.print.Goals as goal
@@ -61,7 +62,7 @@ returns-in-Err-finish-clause-sure g c = λ s. c.in-Err-finish.ensures.sure (c.in
 
 pub returns-in-Err-finish-clause-cause : goal.returns-in-Err-finish-clause-cause
 returns-in-Err-finish-clause-cause g c = λ sure.
-    never_unfinished c.in-Ok.channel c.args.name.now (Followed (g.S.Steps.shows c.args.steps.now) (g.S.Steps.levels c.args.steps.now) (g.S.Steps.fields c.args.steps.now) c.in-Ok.channel c.in-Ok-follow.fault) (StopsFor c.args.name.now Input) (λ t. blame_at c.in-Ok.channel (name_if_open (t.uses c.in-Ok.channel)) t) (g.D.Desk.told c.args.desk.now) (g.D.Desk.told c.open_in.new.self) (g.D.Desk.told c.follow.new.desk) (g.D.Desk.told c.finish.new.self)
+    never_unfinished c.in-Ok.channel c.args.name.now (Followed (g.S.Steps.shows c.args.steps.now) (g.S.Steps.levels c.args.steps.now) (g.S.Steps.fields c.args.steps.now) c.in-Ok.channel c.in-Ok-follow.fault) (StopsFor (printed_fault (g.S.Steps.levels c.args.steps.now) (g.S.Steps.fields c.args.steps.now)) c.args.name.now Input) (λ t. blame_at c.in-Ok.channel (name_if_open (t.uses c.in-Ok.channel)) t) (g.D.Desk.told c.args.desk.now) (g.D.Desk.told c.open_in.new.self) (g.D.Desk.told c.follow.new.desk) (g.D.Desk.told c.finish.new.self)
     c.in-Ok.ensures.told c.in-Err-finish.ensures.failed (λ t n f. still_open c.in-Ok.channel f.count c.args.name.now f.gained t n f.going) c.in-Ok-follow.ensures.done
     (c.in-Err-finish.ensures.cause (c.in-Ok-follow.ensures.sure (c.in-Ok.ensures.sure sure)))
 
@@ -83,8 +84,8 @@ returns-in-Err-clause-sure g c = λ s. c.in-Err.ensures.sure (c.in-Ok.ensures.su
 
 pub returns-in-Err-clause-cause : goal.returns-in-Err-clause-cause
 returns-in-Err-clause-cause g c = λ sure.
-    from_open c.in-Ok.channel c.args.name.now (Breaks c.in-Ok.channel c.in-Err.why) (StopsFor c.args.name.now c.in-Err.why) (g.D.Desk.told c.args.desk.now) (g.D.Desk.told c.open_in.new.self) (g.D.Desk.told c.follow.new.desk) c.in-Ok.ensures.told (can_open c.in-Ok.channel c.args.name.now (g.D.Desk.told c.args.desk.now) c.in-Ok.ensures.fresh c.in-Ok.ensures.there)
-    (λ t n can b. stops_for c.in-Err.why c.in-Ok.channel c.args.name.now c.in-Ok.ensures.number t n can b) (c.in-Err.ensures.cause (c.in-Ok.ensures.sure sure))
+    from_open c.in-Ok.channel c.args.name.now (Breaks (printed_fault (g.S.Steps.levels c.args.steps.now) (g.S.Steps.fields c.args.steps.now)) c.in-Ok.channel c.in-Err.why) (StopsFor (printed_fault (g.S.Steps.levels c.args.steps.now) (g.S.Steps.fields c.args.steps.now)) c.args.name.now c.in-Err.why) (g.D.Desk.told c.args.desk.now) (g.D.Desk.told c.open_in.new.self) (g.D.Desk.told c.follow.new.desk) c.in-Ok.ensures.told (can_open c.in-Ok.channel c.args.name.now (g.D.Desk.told c.args.desk.now) c.in-Ok.ensures.fresh c.in-Ok.ensures.there)
+    (λ t n can b. stops_for c.in-Err.why (printed_fault (g.S.Steps.levels c.args.steps.now) (g.S.Steps.fields c.args.steps.now)) c.in-Ok.channel c.args.name.now c.in-Ok.ensures.number t n can b) (c.in-Err.ensures.cause (c.in-Ok.ensures.sure sure))
 
 pub returns-in-Err-Failed-clause-stopped : goal.returns-in-Err-Failed-clause-stopped
 returns-in-Err-Failed-clause-stopped g c = unopened (g.S.Steps.shows c.args.steps.now) (g.S.Steps.levels c.args.steps.now) (g.S.Steps.fields c.args.steps.now) c.args.name.now (g.D.Desk.told c.args.desk.now) (g.D.Desk.told c.open_in.new.self) (c.in-Err-Failed.ensures.failed (ap Err c.in-Err-Failed.field-0-is))
@@ -100,7 +101,7 @@ returns-in-Err-Failed-clause-sure g c = c.in-Err-Failed.ensures.sure
 
 pub returns-in-Err-Failed-clause-cause : goal.returns-in-Err-Failed-clause-cause
 returns-in-Err-Failed-clause-cause g c = λ sure.
-    missing c.args.name.now (g.D.Desk.told c.args.desk.now) (g.D.Desk.told c.open_in.new.self) (c.in-Err-Failed.ensures.failed (ap Err c.in-Err-Failed.field-0-is)) (c.in-Err-Failed.ensures.missing (ap Err c.in-Err-Failed.field-0-is) sure)
+    missing (printed_fault (g.S.Steps.levels c.args.steps.now) (g.S.Steps.fields c.args.steps.now)) c.args.name.now (g.D.Desk.told c.args.desk.now) (g.D.Desk.told c.open_in.new.self) (c.in-Err-Failed.ensures.failed (ap Err c.in-Err-Failed.field-0-is)) (c.in-Err-Failed.ensures.missing (ap Err c.in-Err-Failed.field-0-is) sure)
 
 pub returns-in-Err-Memory-clause-stopped : goal.returns-in-Err-Memory-clause-stopped
 returns-in-Err-Memory-clause-stopped g c = unchanged (g.S.Steps.shows c.args.steps.now) (g.S.Steps.levels c.args.steps.now) (g.S.Steps.fields c.args.steps.now) c.args.name.now (g.D.Desk.told c.args.desk.now) (g.D.Desk.told c.open_in.new.self) (c.in-Err-Memory.ensures.memory (ap Err c.in-Err-Memory.field-0-is))
@@ -115,4 +116,4 @@ pub returns-in-Err-Memory-clause-sure : goal.returns-in-Err-Memory-clause-sure
 returns-in-Err-Memory-clause-sure g c = c.in-Err-Memory.ensures.sure
 
 pub returns-in-Err-Memory-clause-cause : goal.returns-in-Err-Memory-clause-cause
-returns-in-Err-Memory-clause-cause g c = λ sure. no_cause c.args.name.now (g.D.Desk.told c.args.desk.now) (g.D.Desk.told c.open_in.new.self) (c.in-Err-Memory.ensures.memory (ap Err c.in-Err-Memory.field-0-is))
+returns-in-Err-Memory-clause-cause g c = λ sure. no_cause (printed_fault (g.S.Steps.levels c.args.steps.now) (g.S.Steps.fields c.args.steps.now)) c.args.name.now (g.D.Desk.told c.args.desk.now) (g.D.Desk.told c.open_in.new.self) (c.in-Err-Memory.ensures.memory (ap Err c.in-Err-Memory.field-0-is))

@@ -1,5 +1,5 @@
-use Rattle.std.proofs.Common.{rules, ◌≡◌, ◌<◌, ◌+◌, ℕ, List, [], ◌++◌, refl, sym, ◌∙◌, ap, subst, arith}
-use Rattle.std.specs.Prelude.{◌^◌, IsTrue}
+use Rattle.std.proofs.Common.{rules, ◌≡◌, ◌<◌, ◌+◌, ℕ, List, [], ◌++◌, take, refl, sym, ◌∙◌, ap, subst, arith}
+use Rattle.std.specs.Prelude.{◌^◌, IfSome, IsTrue}
 use Rattle.sap_desk.specs.Desk.{rest_of}
 use Rattle.sap_desk.specs.Cause.{counted}
 use Rattle.sap_desk.specs.Whole.{Between}
@@ -10,8 +10,10 @@ use Rattle.sap_stim.specs.declared.field.Field.{Field}
 use Rattle.sap_stim.specs.Fits.{LineFits}
 use Rattle.sap_lines.specs.declared.next.Next.TheVariants.{Line, End, Fault}
 use Rattle.sap_lines.specs.Answers.{Tells}
+use Rattle.sap_lines.specs.Fetched.{IsDecided}
 use Rattle.sap_lines.specs.Reader.{Backed, to_come}
-use Rattle.sap_lines.proofs.stepping.Along.{along_begins, along_more}
+use Rattle.sap_lines.proofs.Reading.{read_count}
+use Rattle.sap_lines.proofs.stepping.Along.{ReadFor, along_begins, along_more, read_known}
 use Rattle.sap_lines.proofs.stepping.Answered.{broken, broken_cause, cut, cut_cause, ended, refused}
 use Rattle.sap_lines.proofs.stepping.EveryDesk.{fault_of_some, gave_more, none_of_some}
 use Rattle.sap_lines.proofs.stepping.printing.step_on.Goals as goal
@@ -79,13 +81,14 @@ loop-desk-preserved g c =
     let inv = c.loop-desk.invariant in
     let few : c.loop-desk.lines.count < 2 ^ 32 = omega (arith, c.loop-desk.invariant.backed, c.loop-desk.invariant.bounded) in
     let same : c.lattice.result.now ≡ g.S.Steps.levels c.args.steps.now = c.lattice.ensures ∙ c.loop-desk.invariant.same_levels in
-    let tells : Between (g.D.Desk.told c.loop-desk.desk) (g.D.Desk.told c.next.new.desk) (λ t n. Tells Line (to_come (g.S.Steps.levels c.args.steps.now) c.loop-desk.lines (rest_of t c.args.channel)) c.next.new.self.line (to_come (g.S.Steps.levels c.args.steps.now) c.next.new.self (rest_of n c.args.channel)))
-    = subst (λ (ls : Levels). Between (g.D.Desk.told c.loop-desk.desk) (g.D.Desk.told c.next.new.desk) (λ t n. Tells Line (to_come ls c.loop-desk.lines (rest_of t c.args.channel)) c.next.new.self.line (to_come ls c.next.new.self (rest_of n c.args.channel)))) same (c.in-Line.ensures.lines few) in
+    let known : IfSome (g.D.Desk.told c.loop-desk.desk) (ReadFor (g.S.Steps.levels c.args.steps.now) c.args.channel Line c.loop-desk.lines c.next.new.self c.in-Line.ensures.read.count)
+    = read_known (g.S.Steps.levels c.args.steps.now) c.lattice.result.now c.args.channel Line c.loop-desk.lines c.next.new.self c.in-Line.ensures.read.count _ (g.D.Desk.told c.loop-desk.desk) same
+    (read_count c.args.channel c.in-Line.ensures.read.count (g.D.Desk.given c.loop-desk.desk) (g.D.Desk.given c.next.new.desk) c.in-Line.ensures.read.given) c.in-Line.ensures.least (c.in-Line.ensures.by few) in
     let stays : g.D.Desk.given c.step_line.new.desk c.args.channel ≡ g.D.Desk.given c.next.new.desk c.args.channel = ap (λ (f : ℕ → ℕ). f c.args.channel) c.in-Ok.ensures.given in
     let gave : g.D.Desk.given c.step_line.new.desk c.args.channel ≡ g.D.Desk.given c.loop-desk.desk c.args.channel + c.in-Line.ensures.read.count = stays ∙ number-at _ _ _ _ c.in-Line.ensures.read.given in
     record {
-      along = along_more (g.S.Steps.shows c.loop-desk.steps) (g.S.Steps.shows c.step_line.new.steps) (g.S.Steps.levels c.args.steps.now) (g.S.Steps.fields c.args.steps.now) c.args.channel (g.S.Steps.behind c.loop-desk.steps) (g.S.Steps.behind c.step_line.new.steps) c.loop-desk.lines c.next.new.self c.loop-desk.cycle c.step_line.new.cycle (g.D.Desk.given c.loop-desk.desk c.args.channel) (g.D.Desk.given c.step_line.new.desk c.args.channel) c.in-Line.ensures.read.count c.loop-desk.waiting.bytes c.step_line.new.waiting.bytes (g.D.Desk.told c.args.desk.now) (g.D.Desk.told c.loop-desk.desk) (g.D.Desk.told c.next.new.desk) (g.D.Desk.told c.step_line.new.desk)
-          c.lines_follow.ensures.goes_on few c.in-Line.ensures.fields c.in-Line.ensures.count c.in-Ok.ensures.cycle c.in-Ok.ensures.most c.in-Ok.ensures.behind c.in-Ok.ensures.shown gave c.in-Line.ensures.read.told tells inv.along;
+      along = along_more (g.S.Steps.shows c.args.steps.now) (g.S.Steps.shows c.loop-desk.steps) (g.S.Steps.shows c.step_line.new.steps) c.loop-desk.invariant.back (g.S.Steps.levels c.args.steps.now) (g.S.Steps.fields c.args.steps.now) c.args.channel (g.S.Steps.behind c.loop-desk.steps) (g.S.Steps.behind c.step_line.new.steps) c.loop-desk.lines c.next.new.self c.loop-desk.cycle c.step_line.new.cycle (g.D.Desk.given c.loop-desk.desk c.args.channel) (g.D.Desk.given c.step_line.new.desk c.args.channel) c.in-Line.ensures.read.count c.loop-desk.waiting.bytes c.step_line.new.waiting.bytes (g.D.Desk.told c.args.desk.now) (g.D.Desk.told c.loop-desk.desk) (g.D.Desk.told c.next.new.desk) (g.D.Desk.told c.step_line.new.desk)
+          c.lines_follow.ensures.goes_on few c.in-Line.ensures.fields c.in-Line.ensures.count c.in-Ok.ensures.cycle c.in-Ok.ensures.most c.in-Ok.ensures.behind c.in-Ok.ensures.shown c.in-Ok.ensures.quiet gave c.in-Line.ensures.read.told known inv.along;
       gave = gave_more (g.S.Steps.levels c.args.steps.now) c.lattice.result.now (g.S.Steps.fields c.args.steps.now) c.loop-desk.lines c.next.new.self same
           c.lines_follow.ensures.goes_on_some few c.in-Line.ensures.fields c.in-Line.ensures.count (c.in-Line.ensures.some few) inv.gave;
       back = λ cycles text h. inv.back cycles text (c.in-Ok.ensures.same_shows cycles text h);
@@ -108,10 +111,11 @@ pub returns-in-Err-clause-broken : goal.returns-in-Err-clause-broken
 returns-in-Err-clause-broken g c =
     let few : c.loop-desk.lines.count < 2 ^ 32 = omega (arith, c.loop-desk.invariant.backed, c.loop-desk.invariant.bounded) in
     let same : c.lattice.result.now ≡ g.S.Steps.levels c.args.steps.now = c.lattice.ensures ∙ c.loop-desk.invariant.same_levels in
-    let tells : Between (g.D.Desk.told c.loop-desk.desk) (g.D.Desk.told c.next.new.desk) (λ t n. Tells Line (to_come (g.S.Steps.levels c.args.steps.now) c.loop-desk.lines (rest_of t c.args.channel)) c.next.new.self.line (to_come (g.S.Steps.levels c.args.steps.now) c.next.new.self (rest_of n c.args.channel)))
-    = subst (λ (ls : Levels). Between (g.D.Desk.told c.loop-desk.desk) (g.D.Desk.told c.next.new.desk) (λ t n. Tells Line (to_come ls c.loop-desk.lines (rest_of t c.args.channel)) c.next.new.self.line (to_come ls c.next.new.self (rest_of n c.args.channel)))) same (c.in-Line.ensures.lines few) in
-    cut (g.S.Steps.shows c.args.steps.now) (g.S.Steps.shows c.loop-desk.steps) (g.S.Steps.shows c.step_line.new.steps) (λ cycles text h. c.loop-desk.invariant.back cycles text (c.in-Err.ensures.same_shows cycles text h)) (g.S.Steps.levels c.args.steps.now) (g.S.Steps.fields c.args.steps.now) c.args.channel (g.S.Steps.behind c.loop-desk.steps) c.loop-desk.lines c.next.new.self c.loop-desk.cycle (g.D.Desk.given c.loop-desk.desk c.args.channel) c.in-Line.ensures.read.count c.loop-desk.waiting.bytes
-    c.lines_follow.ensures.goes_on few c.in-Line.ensures.fields c.in-Line.ensures.count (g.D.Desk.told c.args.desk.now) (g.D.Desk.told c.loop-desk.desk) (g.D.Desk.told c.next.new.desk) (g.D.Desk.told c.step_line.new.desk) c.in-Line.ensures.read.told c.in-Err.ensures.cut tells c.loop-desk.invariant.along
+    let known : IfSome (g.D.Desk.told c.loop-desk.desk) (ReadFor (g.S.Steps.levels c.args.steps.now) c.args.channel Line c.loop-desk.lines c.next.new.self c.in-Line.ensures.read.count)
+    = read_known (g.S.Steps.levels c.args.steps.now) c.lattice.result.now c.args.channel Line c.loop-desk.lines c.next.new.self c.in-Line.ensures.read.count _ (g.D.Desk.told c.loop-desk.desk) same
+    (read_count c.args.channel c.in-Line.ensures.read.count (g.D.Desk.given c.loop-desk.desk) (g.D.Desk.given c.next.new.desk) c.in-Line.ensures.read.given) c.in-Line.ensures.least (c.in-Line.ensures.by few) in
+    cut (g.S.Steps.shows c.args.steps.now) (g.S.Steps.shows c.loop-desk.steps) (g.S.Steps.shows c.step_line.new.steps) c.loop-desk.invariant.back (λ cycles text h. c.loop-desk.invariant.back cycles text (c.in-Err.ensures.same_shows cycles text h)) (g.S.Steps.levels c.args.steps.now) (g.S.Steps.fields c.args.steps.now) c.args.channel (g.S.Steps.behind c.loop-desk.steps) c.loop-desk.lines c.next.new.self c.loop-desk.cycle (g.D.Desk.given c.loop-desk.desk c.args.channel) c.in-Line.ensures.read.count c.loop-desk.waiting.bytes
+    c.lines_follow.ensures.goes_on few c.in-Line.ensures.fields c.in-Line.ensures.count (g.D.Desk.told c.args.desk.now) (g.D.Desk.told c.loop-desk.desk) (g.D.Desk.told c.next.new.desk) (g.D.Desk.told c.step_line.new.desk) c.in-Line.ensures.read.told c.in-Err.ensures.cut known c.loop-desk.invariant.along
 
 pub returns-in-Err-clause-faults : goal.returns-in-Err-clause-faults
 returns-in-Err-clause-faults g c = c.in-Err.ensures.counts.failed ∙ ap counted (c.in-Line.ensures.faults ∙ c.loop-desk.invariant.faults)
@@ -124,7 +128,7 @@ returns-in-Err-clause-sure g c = λ s. c.in-Err.ensures.sure (c.in-Line.ensures.
 
 pub returns-in-Err-clause-cause : goal.returns-in-Err-clause-cause
 returns-in-Err-clause-cause g c = λ sure.
-    cut_cause (g.S.Steps.shows c.loop-desk.steps) (g.S.Steps.levels c.args.steps.now) (g.S.Steps.fields c.args.steps.now) c.args.channel (g.S.Steps.behind c.loop-desk.steps) c.loop-desk.lines c.loop-desk.cycle (g.D.Desk.given c.loop-desk.desk c.args.channel) c.in-Line.ensures.read.count c.loop-desk.waiting.bytes (c.loop-desk.waiting.bytes ++ c.in-Err.ensures.cut.text)
+    cut_cause (g.S.Steps.shows c.args.steps.now) (g.S.Steps.shows c.loop-desk.steps) (g.S.Steps.levels c.args.steps.now) (g.S.Steps.fields c.args.steps.now) c.args.channel (g.S.Steps.behind c.loop-desk.steps) c.loop-desk.lines c.loop-desk.cycle (g.D.Desk.given c.loop-desk.desk c.args.channel) c.in-Line.ensures.read.count c.loop-desk.waiting.bytes (c.loop-desk.waiting.bytes ++ c.in-Err.ensures.cut.text)
     c.requires.above (g.D.Desk.told c.args.desk.now) (g.D.Desk.told c.loop-desk.desk) (g.D.Desk.told c.next.new.desk) (g.D.Desk.told c.step_line.new.desk) c.in-Line.ensures.read.told c.in-Err.ensures.cut.cut
     (c.in-Err.ensures.cause (c.in-Line.ensures.sure (c.loop-desk.invariant.sure sure))) c.loop-desk.invariant.along
 
@@ -134,8 +138,11 @@ returns-in-End-clause-done g c =
     let same : c.lattice.result.now ≡ g.S.Steps.levels c.args.steps.now = c.lattice.ensures ∙ c.loop-desk.invariant.same_levels in
     let tells : Between (g.D.Desk.told c.loop-desk.desk) (g.D.Desk.told c.next.new.desk) (λ t n. Tells End (to_come (g.S.Steps.levels c.args.steps.now) c.loop-desk.lines (rest_of t c.args.channel)) c.next.new.self.line (to_come (g.S.Steps.levels c.args.steps.now) c.next.new.self (rest_of n c.args.channel)))
     = subst (λ (ls : Levels). Between (g.D.Desk.told c.loop-desk.desk) (g.D.Desk.told c.next.new.desk) (λ t n. Tells End (to_come ls c.loop-desk.lines (rest_of t c.args.channel)) c.next.new.self.line (to_come ls c.next.new.self (rest_of n c.args.channel)))) same (c.in-End.ensures.lines few) in
-    ended (g.S.Steps.shows c.args.steps.now) (g.S.Steps.shows c.loop-desk.steps) c.loop-desk.invariant.back (g.S.Steps.levels c.args.steps.now) (g.S.Steps.fields c.args.steps.now) c.args.channel (g.S.Steps.behind c.loop-desk.steps) c.loop-desk.lines c.loop-desk.cycle (g.D.Desk.given c.loop-desk.desk c.args.channel) c.in-End.ensures.read.count c.loop-desk.waiting.bytes c.next.new.self.line c.next.new.self (g.D.Desk.told c.args.desk.now) (g.D.Desk.told c.loop-desk.desk) (g.D.Desk.told c.next.new.desk)
-    c.lines_follow.ensures.ends c.in-End.ensures.read.told tells c.loop-desk.invariant.along
+    let known : IfSome (g.D.Desk.told c.loop-desk.desk) (ReadFor (g.S.Steps.levels c.args.steps.now) c.args.channel End c.loop-desk.lines c.next.new.self c.in-End.ensures.read.count)
+    = read_known (g.S.Steps.levels c.args.steps.now) c.lattice.result.now c.args.channel End c.loop-desk.lines c.next.new.self c.in-End.ensures.read.count _ (g.D.Desk.told c.loop-desk.desk) same
+    (read_count c.args.channel c.in-End.ensures.read.count (g.D.Desk.given c.loop-desk.desk) (g.D.Desk.given c.next.new.desk) c.in-End.ensures.read.given) c.in-End.ensures.least (c.in-End.ensures.by few) in
+    ended (g.S.Steps.shows c.args.steps.now) (g.S.Steps.shows c.loop-desk.steps) c.loop-desk.invariant.back (g.S.Steps.levels c.args.steps.now) (g.S.Steps.fields c.args.steps.now) c.args.channel (g.S.Steps.behind c.loop-desk.steps) c.loop-desk.lines c.loop-desk.cycle (g.D.Desk.given c.loop-desk.desk c.args.channel) c.in-End.ensures.read.count c.loop-desk.waiting.bytes c.next.new.self (g.D.Desk.told c.args.desk.now) (g.D.Desk.told c.loop-desk.desk) (g.D.Desk.told c.next.new.desk)
+    c.lines_follow.ensures.ends c.in-End.ensures.read.told tells known c.loop-desk.invariant.along
 
 pub returns-in-End-clause-some : goal.returns-in-End-clause-some
 returns-in-End-clause-some g c =
@@ -159,8 +166,11 @@ returns-in-Fault-clause-done g c =
     let same : c.lattice.result.now ≡ g.S.Steps.levels c.args.steps.now = c.lattice.ensures ∙ c.loop-desk.invariant.same_levels in
     let tells : Between (g.D.Desk.told c.loop-desk.desk) (g.D.Desk.told c.next.new.desk) (λ t n. Tells (Fault c.in-Fault.fault) (to_come (g.S.Steps.levels c.args.steps.now) c.loop-desk.lines (rest_of t c.args.channel)) c.next.new.self.line (to_come (g.S.Steps.levels c.args.steps.now) c.next.new.self (rest_of n c.args.channel)))
     = subst (λ (ls : Levels). Between (g.D.Desk.told c.loop-desk.desk) (g.D.Desk.told c.next.new.desk) (λ t n. Tells (Fault c.in-Fault.fault) (to_come ls c.loop-desk.lines (rest_of t c.args.channel)) c.next.new.self.line (to_come ls c.next.new.self (rest_of n c.args.channel)))) same (c.in-Fault.ensures.lines few) in
-    refused (g.S.Steps.shows c.args.steps.now) (g.S.Steps.shows c.loop-desk.steps) c.loop-desk.invariant.back (g.S.Steps.levels c.args.steps.now) (g.S.Steps.fields c.args.steps.now) c.args.channel (g.S.Steps.behind c.loop-desk.steps) c.loop-desk.lines c.loop-desk.cycle (g.D.Desk.given c.loop-desk.desk c.args.channel) c.in-Fault.ensures.read.count c.loop-desk.waiting.bytes c.next.new.self.line c.next.new.self c.in-Fault.fault (g.D.Desk.told c.args.desk.now) (g.D.Desk.told c.loop-desk.desk) (g.D.Desk.told c.next.new.desk)
-    c.lines_follow.ensures.stops c.in-Fault.ensures.read.told tells c.loop-desk.invariant.along
+    let known : IfSome (g.D.Desk.told c.loop-desk.desk) (ReadFor (g.S.Steps.levels c.args.steps.now) c.args.channel (Fault c.in-Fault.fault) c.loop-desk.lines c.next.new.self c.in-Fault.ensures.read.count)
+    = read_known (g.S.Steps.levels c.args.steps.now) c.lattice.result.now c.args.channel (Fault c.in-Fault.fault) c.loop-desk.lines c.next.new.self c.in-Fault.ensures.read.count _ (g.D.Desk.told c.loop-desk.desk) same
+    (read_count c.args.channel c.in-Fault.ensures.read.count (g.D.Desk.given c.loop-desk.desk) (g.D.Desk.given c.next.new.desk) c.in-Fault.ensures.read.given) c.in-Fault.ensures.least (c.in-Fault.ensures.by few) in
+    refused (g.S.Steps.shows c.args.steps.now) (g.S.Steps.shows c.loop-desk.steps) c.loop-desk.invariant.back (g.S.Steps.levels c.args.steps.now) (g.S.Steps.fields c.args.steps.now) c.args.channel (g.S.Steps.behind c.loop-desk.steps) c.loop-desk.lines c.loop-desk.cycle (g.D.Desk.given c.loop-desk.desk c.args.channel) c.in-Fault.ensures.read.count c.loop-desk.waiting.bytes c.next.new.self c.in-Fault.fault (g.D.Desk.told c.args.desk.now) (g.D.Desk.told c.loop-desk.desk) (g.D.Desk.told c.next.new.desk)
+    c.lines_follow.ensures.stops c.in-Fault.ensures.read.told tells known c.loop-desk.invariant.along
 
 pub returns-in-Fault-clause-some : goal.returns-in-Fault-clause-some
 returns-in-Fault-clause-some g c =
@@ -180,8 +190,11 @@ returns-in-Fault-clause-sure g c = λ s. c.in-Fault.ensures.sure (c.loop-desk.in
 
 pub returns-in-Failed-clause-broken : goal.returns-in-Failed-clause-broken
 returns-in-Failed-clause-broken g c =
+    let wants : IfSome (g.D.Desk.told c.loop-desk.desk) (λ m. IsDecided (c.loop-desk.lines.pending ++ take c.in-Failed.ensures.read.count (rest_of m c.args.channel)) → ⊥)
+    = subst (λ (n : ℕ). IfSome (g.D.Desk.told c.loop-desk.desk) (λ m. IsDecided (c.loop-desk.lines.pending ++ take n (rest_of m c.args.channel)) → ⊥))
+    (read_count c.args.channel c.in-Failed.ensures.read.count (g.D.Desk.given c.loop-desk.desk) (g.D.Desk.given c.next.new.desk) c.in-Failed.ensures.read.given) (c.in-Failed.ensures.wanted (search rules)) in
     broken (g.S.Steps.shows c.args.steps.now) (g.S.Steps.shows c.loop-desk.steps) c.loop-desk.invariant.back (g.S.Steps.levels c.args.steps.now) (g.S.Steps.fields c.args.steps.now) c.args.channel (g.S.Steps.behind c.loop-desk.steps) c.loop-desk.lines c.loop-desk.cycle (g.D.Desk.given c.loop-desk.desk c.args.channel) c.in-Failed.ensures.read.count c.loop-desk.waiting.bytes c.requires.above (g.D.Desk.told c.args.desk.now) (g.D.Desk.told c.loop-desk.desk) (g.D.Desk.told c.next.new.desk)
-    c.in-Failed.ensures.read.told c.loop-desk.invariant.along
+    c.in-Failed.ensures.read.told wants c.loop-desk.invariant.along
 
 pub returns-in-Failed-clause-faults : goal.returns-in-Failed-clause-faults
 returns-in-Failed-clause-faults g c = c.in-Failed.ensures.faults ∙ ap counted c.loop-desk.invariant.faults
@@ -194,7 +207,10 @@ returns-in-Failed-clause-sure g c = λ s. c.in-Failed.ensures.sure (c.loop-desk.
 
 pub returns-in-Failed-clause-cause : goal.returns-in-Failed-clause-cause
 returns-in-Failed-clause-cause g c = λ sure.
+    let wants : IfSome (g.D.Desk.told c.loop-desk.desk) (λ m. IsDecided (c.loop-desk.lines.pending ++ take c.in-Failed.ensures.read.count (rest_of m c.args.channel)) → ⊥)
+    = subst (λ (n : ℕ). IfSome (g.D.Desk.told c.loop-desk.desk) (λ m. IsDecided (c.loop-desk.lines.pending ++ take n (rest_of m c.args.channel)) → ⊥))
+    (read_count c.args.channel c.in-Failed.ensures.read.count (g.D.Desk.given c.loop-desk.desk) (g.D.Desk.given c.next.new.desk) c.in-Failed.ensures.read.given) (c.in-Failed.ensures.wanted (search rules)) in
     broken_cause (g.S.Steps.shows c.args.steps.now) (g.S.Steps.shows c.loop-desk.steps) c.loop-desk.invariant.back (g.S.Steps.levels c.args.steps.now) (g.S.Steps.fields c.args.steps.now) c.args.channel (g.S.Steps.behind c.loop-desk.steps) c.loop-desk.lines c.loop-desk.cycle (g.D.Desk.given c.loop-desk.desk c.args.channel) c.in-Failed.ensures.read.count c.loop-desk.waiting.bytes
-    (g.D.Desk.given c.next.new.desk c.args.channel) _ (g.D.Desk.told c.args.desk.now) (g.D.Desk.told c.loop-desk.desk) (g.D.Desk.told c.next.new.desk) c.loop-desk.invariant.bounded
+    (g.D.Desk.given c.next.new.desk c.args.channel) (g.D.Desk.told c.args.desk.now) (g.D.Desk.told c.loop-desk.desk) (g.D.Desk.told c.next.new.desk) c.loop-desk.invariant.bounded
     (number-at _ _ _ _ c.in-Failed.ensures.read.given) (c.in-Failed.ensures.bounded c.loop-desk.invariant.bounded)
-    c.in-Failed.ensures.read.told (c.in-Failed.ensures.cause (search rules) (c.loop-desk.invariant.sure sure)) c.loop-desk.invariant.along
+    c.in-Failed.ensures.read.told wants (c.in-Failed.ensures.cause (search rules) (c.loop-desk.invariant.sure sure)) c.loop-desk.invariant.along
