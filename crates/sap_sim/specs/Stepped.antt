@@ -23,11 +23,15 @@ pub record Stepped (Plan : Type 0) : Type 0 where
 abbrev pub IsRunOn : Net → (numbers : List Given → List ℕ) → (lines : List (List Given)) → List Valuation → Type 0
 IsRunOn n numbers lines run = IsRun n (map numbers lines) run
 
--- It is this netlist, stepped on these lines: it shows the last cycle of a run on them.
+-- the runner shows the last cycle of a run on these lines
+abbrev pub ShowsLast : Net → (numbers : List Given → List ℕ) → (lines : List (List Given)) → Running → Type 0
+ShowsLast n numbers lines r = (run : List Valuation) → IsRunOn n numbers lines run → Shows r (last_or None run)
+
+-- It is this netlist, stepped on these lines.
 pub record IsAfter {Plan : Type 0} (IsPlanned : Stepped Plan → Type 0) (n : Net) (numbers : List Given → List ℕ) (lines : List (List Given)) (s : Stepped Plan) : Type 0 where
   pub net : s.runner.net ≡ n
   pub planned : IsPlanned s
-  pub shows : (run : List Valuation) → IsRunOn n numbers lines run → Shows s.runner (last_or None run)
+  pub shows : ShowsLast n numbers lines s.runner
 
 -- behind the old bytes stands what is told of the last of these lines
 abbrev pub TellsMore : (tell : (cycle : ℕ) → Valuation → List ℕ) → Net → (numbers : List Given → List ℕ) → (lines : List (List Given)) → (cycle : ℕ) → (old now : List ℕ) → Type 0

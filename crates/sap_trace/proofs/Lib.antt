@@ -5,4 +5,5 @@ mod Seen
 mod Runs
 mod Designs
 mod Stepping
+mod Shows
 mod Rooms

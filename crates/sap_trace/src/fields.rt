@@ -37,7 +37,7 @@ pub(crate) fn fields_of(alloc: Global, names: &Names) -> Result<Fields, AllocErr
 
 /// Takes the numbers of a module's inputs, in place of others: of each field its value, and the code of
 /// its level.
-pub(crate) fn take_numbers(lattice: &Lattice, line: &[Tagged], numbers: &mut [u64])
+pub fn take_numbers(lattice: &Lattice, line: &[Tagged], numbers: &mut [u64])
     requires { length numbers.old ≡ 2 * length line.now }
     ensures { numbers.new ≡ given lattice.now line.now }
 {

@@ -1,7 +1,8 @@
 //! The trace of a design: which check sites are refused, in which cycle and at which level.
 //!
-//! `suppressed` tells the refusals of a runner's last cycle, by the wires of the compiled module. `Tracing` gives the lines of
-//! one cycle after another, and takes all its memory when it is made.
+//! `suppressed` tells the refusals of a runner's last cycle, by the wires of the compiled module; by `steps_show_refused` a
+//! runner that is stepped on lines shows them. `Tracing` gives the lines of one cycle after another, and takes all its memory
+//! when it is made.
 #![tactic(auto)]
 
 pub mod examples;
@@ -14,8 +15,9 @@ pub mod trace;
 pub mod tracing;
 mod wires;
 
+pub use fields::take_numbers;
 pub use line::site_into;
-pub use refusals::suppressed;
+pub use refusals::{steps_show_refused, suppressed};
 pub use room::{cycle_room, site_room};
 pub use trace::read_stimulus;
 pub use tracing::Tracing;
