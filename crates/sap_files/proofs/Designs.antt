@@ -20,25 +20,27 @@ use Rattle.sap_shape.specs.WellFormed.{WellFormed, IsFirstFault}
 use Rattle.sap_files.specs.declared.fault.DesignFault.{DesignFault}
 use Rattle.sap_files.specs.declared.fault.DesignFault.TheVariants as design
 use Rattle.sap_files.specs.DesignFaults.{IsDesignFault}
-use Rattle.sap_files.specs.Ending.{Ending, design_refused, status_of_refusal}
+use Rattle.sap_files.specs.Ending.{Ending, design_refused}
 use Rattle.sap_files.specs.Kinds.{IsLawful, IsWellFormedText, design_file, design_text_file}
 use Rattle.sap_files.specs.Steps.{Refuses, check_failure, ending, read_failure}
 use Rattle.sap_files.specs.declared.failure.Failure.{Failure}
-use Rattle.sap_files.proofs.DesignFaults.{no_fault}
+use Rattle.sap_files.proofs.DesignFaults.{no_fault, one_fault}
 
 -- the kinds are lawful
 
 pub text_lawful : IsLawful design_text_file
 text_lawful = record {
   one_value = reading.one_design;
-  one_status = λ bytes why other refusal refusal'. ap status_of_refusal refusal.1 ∙ sym (ap status_of_refusal refusal'.1);
+  one_reason = λ source why other (fault, is, first) (fault', was, first').
+      is ∙ ap (λ (f : ReadFault). design_refused (design.Read f)) (reading.one_fault source fault fault' first first') ∙ sym was;
   not_both = λ source d why stands (fault, is, first). reading.not_both source d fault stands first;
 }
 
 pub design_lawful : (ls : Levels) → IsLawful (design_file ls)
 design_lawful ls = record {
   one_value = λ source v w a b. reading.one_design source v w a.is_text b.is_text;
-  one_status = λ bytes why other refusal refusal'. ap status_of_refusal refusal.1 ∙ sym (ap status_of_refusal refusal'.1);
+  one_reason = λ source why other (fault, is, first) (fault', was, first').
+      is ∙ ap design_refused (one_fault reading.one_design reading.one_fault reading.not_both ls source fault fault' first first') ∙ sym was;
   not_both = λ source d why stands (fault, is, first). no_fault reading.one_design reading.not_both ls source d stands.is_text stands.well_formed fault first;
 }
 

@@ -10,7 +10,7 @@ use Rattle.sap_files.specs.Ending.{Ending, Refusal, done, refused, failed, no_me
 use Rattle.sap_files.specs.Kinds.{Kind, Has, IsRefused}
 use Rattle.sap_files.specs.Asks.{Asks, file, by, gives, prints, writes, stops, Files, IsCut, IsPrefix, Leaves, Output, Starved}
 use Rattle.sap_files.specs.Outside.{FullFile}
-use Rattle.sap_files.specs.After.{Opens}
+use Rattle.sap_files.specs.After.{Stands}
 use Rattle.sap_files.specs.Steps.{Counted, Ends, EndsReading, FaultRose, Left, Moment, NotRead, OpensUnread, Quiet, Reads, Refuses, Same, Stops}
 
 pub whole_prefix : (text : List ℕ) → IsPrefix text text
@@ -60,11 +60,11 @@ module _ (name : List ℕ) (k : Kind) (rest : k.Value → Asks) (v : k.Value) (t
   starved_past : (gained : List ℕ) → Starved (rest v) t gained → Starved (file name k rest) t gained
   starved_past gained h = inr (v, has, h)
 
-  opens_past : (e : Ending) (before after : ℕ → Use) → Opens (rest v) t e before after → Opens (file name k rest) t e before after
-  opens_past done before after h = h
-  opens_past (refused why) before after h = h
-  opens_past (failed blamed) before after h = inr (v, has, h)
-  opens_past no_memory before after h = h
+  stands_past : (e : Ending) (gained : List ℕ) (before after : ℕ → Use) → Stands (rest v) t e gained before after → Stands (file name k rest) t e gained before after
+  stands_past done gained before after h = h
+  stands_past (refused why) gained before after h = h
+  stands_past (failed blamed) gained before after h = inr (v, has, h)
+  stands_past no_memory gained before after h = h
 
   leaves_past : (e : Ending) (files : Files) → Leaves (rest v) t files e → Leaves (file name k rest) t files e
   leaves_past done files h = (v, has, h)
@@ -85,7 +85,7 @@ module _ (name : List ℕ) (k : Kind) (rest : k.Value → Asks) (v : k.Value) (t
     output = l.output;
     shows = shows_past e l.gained l.shows;
     blames = l.blames;
-    opens = opens_past e t.uses n.uses l.opens;
+    stands = stands_past e l.gained t.uses n.uses l.stands;
     same = l.same;
     cause = elim l.cause [ inl free ↦ inl free | inr cause ↦ inr (inr (v, has, cause)) ];
     outside = λ changed. inr (v, has, l.outside (onward changed));
@@ -119,11 +119,11 @@ module _ (V : Type 0) (Holds : V → Type 0) (rest : V → Asks) (v : V) (t : To
   cut_chosen gained (inl none) = inl none
   cut_chosen gained (inr (text, (e, shows), prefix)) = inr (text, (e, (v, holds, shows)), prefix)
 
-  opens_chosen : (e : Ending) (before after : ℕ → Use) → Opens (rest v) t e before after → Opens (by V Holds rest) t e before after
-  opens_chosen done before after h = h
-  opens_chosen (refused why) before after h = h
-  opens_chosen (failed blamed) before after h = (v, holds, h)
-  opens_chosen no_memory before after h = h
+  stands_chosen : (e : Ending) (gained : List ℕ) (before after : ℕ → Use) → Stands (rest v) t e gained before after → Stands (by V Holds rest) t e gained before after
+  stands_chosen done gained before after h = h
+  stands_chosen (refused why) gained before after h = h
+  stands_chosen (failed blamed) gained before after h = (v, holds, h)
+  stands_chosen no_memory gained before after h = h
 
   leaves_chosen : (e : Ending) (files : Files) → Leaves (rest v) t files e → Leaves (by V Holds rest) t files e
   leaves_chosen done files h = (v, holds, h)
@@ -144,7 +144,7 @@ module _ (V : Type 0) (Holds : V → Type 0) (rest : V → Asks) (v : V) (t : To
     output = l.output;
     shows = shows_chosen e l.gained l.shows;
     blames = l.blames;
-    opens = opens_chosen e t.uses n.uses l.opens;
+    stands = stands_chosen e l.gained t.uses n.uses l.stands;
     same = l.same;
     cause = elim l.cause [ inl free ↦ inl free | inr cause ↦ inr (v, holds, cause) ];
     outside = λ changed. (v, holds, l.outside changed);
@@ -183,12 +183,12 @@ free_shows a t (refused why) free = absurd free
 free_shows a t (failed name) free = inl refl
 free_shows a t no_memory free = starved_none a t
 
-unread_opens : (name : List ℕ) (k : Kind) (rest : k.Value → Asks) (t : Told) (e : Ending) (before after : ℕ → Use) → OpensUnread name e before after
-    → Opens (file name k rest) t e before after
-unread_opens name k rest t done before after h = h
-unread_opens name k rest t (refused why) before after h = h
-unread_opens name k rest t (failed blamed) before after h = inl h
-unread_opens name k rest t no_memory before after h = h
+unread_stands : (name : List ℕ) (k : Kind) (rest : k.Value → Asks) (t : Told) (e : Ending) (before after : ℕ → Use) → OpensUnread name e before after
+    → Stands (file name k rest) t e [] before after
+unread_stands name k rest t done before after h = h
+unread_stands name k rest t (refused why) before after h = h
+unread_stands name k rest t (failed blamed) before after h = inl (h.0, refl, h.1)
+unread_stands name k rest t no_memory before after h = h
 
 not_read : (name : List ℕ) (k : Kind) (rest : k.Value → Asks) (e : Ending) (F : Type 0) (t n : Told) → IsFree e → NotRead k.most name e F t n
     → Left (file name k rest) e F t n
@@ -198,7 +198,7 @@ not_read name k rest e F t n free s = record {
   output = s.output ∙ sym (append-nil (t.written 1));
   shows = free_shows (file name k rest) t e free;
   blames = s.blames;
-  opens = unread_opens name k rest t e t.uses n.uses s.opens;
+  stands = unread_stands name k rest t e t.uses n.uses s.opens;
   same = s.same;
   cause = inl free;
   outside = λ changed. inl (s.outside changed);
@@ -224,7 +224,7 @@ starved_left a F t never = record {
   output = sym (append-nil (t.written 1));
   shows = starved_none a t;
   blames = tt;
-  opens = refl;
+  stands = refl;
   same = same_self t;
   cause = inl tt;
   outside = λ changed. absurd (never changed);
@@ -250,7 +250,7 @@ stopped_left why F t never = record {
   output = sym (append-nil (t.written 1));
   shows = (refl, refl);
   blames = tt;
-  opens = refl;
+  stands = refl;
   same = same_self t;
   cause = inr refl;
   outside = λ changed. absurd (never changed);
@@ -282,7 +282,7 @@ refused_left name bytes k rest why F t never is there =
       output = sym (append-nil (t.written 1));
       shows = inl ((why, refl, at), refl);
       blames = tt;
-      opens = refl;
+      stands = refl;
       same = same_self t;
       cause = inr (inl (why, refl, at));
       outside = λ changed. absurd (never changed);
@@ -336,7 +336,7 @@ cut_left name text F t n cut full = record {
   output = cut.channels.output ∙ sym (append-nil (t.written 1));
   shows = inl refl;
   blames = cut.blame;
-  opens = (refl, cut.uses);
+  stands = (refl, refl, cut.uses);
   same = record { lines = cut.channels.lines; lines_use = cut.channels.lines_use; room = cut.channels.room };
   cause = inl tt;
   outside = λ rose. fills name text t n (full rose) cut.channels.room;
@@ -380,12 +380,12 @@ module _ (P : List ℕ → Type 0) (text : List ℕ) (holds : P text) where
   leaves_given first last t files (failed name) h = h
   leaves_given first last t files no_memory h = h
 
-  opens_given : (first last : Ending) (t : Told) (e : Ending) (before after : ℕ → Use) → Opens (gives (λ x. x ≡ text) first) t e before after
-      → Opens (gives P last) t e before after
-  opens_given first last t done before after h = h
-  opens_given first last t (refused why) before after h = h
-  opens_given first last t (failed blamed) before after h = h
-  opens_given first last t no_memory before after h = h
+  stands_given : (first last : Ending) (t : Told) (e : Ending) (gained : List ℕ) (before after : ℕ → Use) → Stands (gives (λ x. x ≡ text) first) t e gained before after
+      → Stands (gives P last) t e gained before after
+  stands_given first last t done gained before after h = h
+  stands_given first last t (refused why) gained before after h = h
+  stands_given first last t (failed blamed) gained before after h = h
+  stands_given first last t no_memory gained before after h = h
 
   left_given : (first last : Ending) → first ≡ last → (e : Ending) (F : Type 0) (t n : Told) → Left (gives (λ x. x ≡ text) first) e F t n → Left (gives P last) e F t n
   left_given first last same e F t n l = record {
@@ -394,7 +394,7 @@ module _ (P : List ℕ → Type 0) (text : List ℕ) (holds : P text) where
     output = l.output;
     shows = shows_given first last same t e l.gained l.shows;
     blames = l.blames;
-    opens = opens_given first last t e t.uses n.uses l.opens;
+    stands = stands_given first last t e l.gained t.uses n.uses l.stands;
     same = l.same;
     cause = elim l.cause [ inl free ↦ inl free | inr is ↦ inr (is ∙ same) ];
     outside = l.outside;
@@ -413,12 +413,12 @@ module _ (P : List ℕ → Type 0) (text : List ℕ) (holds : P text) where
   leaves_written name t files (failed blamed) (inr (at, (whole, part, it, prefix, is))) = inr (at, (whole, part, held whole it, prefix, is))
   leaves_written name t files no_memory h = h
 
-  opens_written : (name : List ℕ) (t : Told) (e : Ending) (before after : ℕ → Use) → Opens (writes name (λ x. x ≡ text)) t e before after
-      → Opens (writes name P) t e before after
-  opens_written name t done before after h = h
-  opens_written name t (refused why) before after h = h
-  opens_written name t (failed blamed) before after h = h
-  opens_written name t no_memory before after h = h
+  stands_written : (name : List ℕ) (t : Told) (e : Ending) (gained : List ℕ) (before after : ℕ → Use) → Stands (writes name (λ x. x ≡ text)) t e gained before after
+      → Stands (writes name P) t e gained before after
+  stands_written name t done gained before after h = h
+  stands_written name t (refused why) gained before after h = h
+  stands_written name t (failed blamed) gained before after h = h
+  stands_written name t no_memory gained before after h = h
 
   left_written : (name : List ℕ) (e : Ending) (F : Type 0) (t n : Told) → Left (writes name (λ x. x ≡ text)) e F t n → Left (writes name P) e F t n
   left_written name e F t n l = record {
@@ -427,7 +427,7 @@ module _ (P : List ℕ → Type 0) (text : List ℕ) (holds : P text) where
     output = l.output;
     shows = shows_written name t e l.gained l.shows;
     blames = l.blames;
-    opens = opens_written name t e t.uses n.uses l.opens;
+    stands = stands_written name t e l.gained t.uses n.uses l.stands;
     same = l.same;
     cause = l.cause;
     outside = l.outside;

@@ -14,9 +14,9 @@ use Rattle.sap_latfile.specs.LatticeFile.{FirstFault, IsLatticeOfFile}
 use Rattle.sap_latfile.specs.OneLattice.{AreSame}
 use Rattle.sap_latfile.specs.declared.fault.LatFileFault.{LatFileFault}
 use Rattle.sap_latfile.specs.declared.fault.LatFileFault.TheVariants as lattice
-use Rattle.sap_latfile.proofs.Answered.{exact_answer}
+use Rattle.sap_latfile.proofs.Answered.{one_fault, not_both}
 use Rattle.sap_latfile.proofs.OneLattice.{one_lattice}
-use Rattle.sap_files.specs.Ending.{lattice_refused, status_of_refusal}
+use Rattle.sap_files.specs.Ending.{lattice_refused}
 use Rattle.sap_files.specs.Kinds.{IsLatticeFile, IsLawful, lattice_file, table_by}
 use Rattle.sap_files.specs.Steps.{Refuses, ending, lattice_failure, whole}
 use Rattle.sap_files.specs.declared.failure.Failure.{Failure}
@@ -90,14 +90,12 @@ one_whole bytes v w a b =
     same_levels v w same.names
     (a.table ∙ ap (λ (ns : List (List ℕ)). table_by (length ns) (order_of v).le) same.names ∙ ap (λ (o : Order). table_by (length w.names) o.le) same.order ∙ sym b.table)
 
-pub unbroken : (bytes : List ℕ) (l : Levels) (fault : LatFileFault) → IsLatticeOfFile bytes l → fault ≢ lattice.Memory → FirstFault bytes fault → ⊥
-unbroken bytes l fault is ne first = elim (exact_answer bytes (Ok l) is tt fault ne first) [ inl h ↦ cc | inr h ↦ cc ]
-
 pub lattice_lawful : IsLawful lattice_file
 lattice_lawful = record {
   one_value = one_whole;
-  one_status = λ bytes why other refusal refusal'. ap status_of_refusal refusal.1 ∙ sym (ap status_of_refusal refusal'.1);
-  not_both = λ bytes v why stands (fault, is, ne, first). unbroken bytes v fault stands.lattice ne first;
+  one_reason = λ bytes why other (fault, is, ne, first) (fault', was, ne', first').
+      is ∙ ap lattice_refused (one_fault bytes fault fault' ne ne' first first') ∙ sym was;
+  not_both = λ bytes v why stands (fault, is, ne, first). not_both bytes v fault ne stands.lattice first;
 }
 
 -- reading one

@@ -2,7 +2,7 @@
 use Rattle.std.proofs.Common.{◌≡◌, ℕ, List, sym, ◌∙◌, ap, subst, inl, inr}
 use Rattle.sap_lemmas.proofs.Options.{some_unique}
 use Rattle.sap_desk.specs.Desk.{Told}
-use Rattle.sap_files.specs.Ending.{Ending, Refusal, status_of, status_of_refusal}
+use Rattle.sap_files.specs.Ending.{Ending, Refusal, refused}
 use Rattle.sap_files.specs.Kinds.{Kind, Has, IsRefused, IsLawful}
 use Rattle.sap_files.specs.Asks.{Asks, file, by, gives, prints, writes, stops, AreLawful, Cause, EndsAtFile, Shows, end_of}
 
@@ -17,15 +17,15 @@ module _ (k : Kind) (law : IsLawful k) (t : Told) (name : List ℕ) where
       let P : List ℕ → Type 0 = λ bytes. k.Refused bytes why in
       law.not_both has.bytes v why has.stands (subst P (some_unique (t.files name) is.bytes has.bytes is.file has.file) is.refused)
 
-  one_status : (why other : Refusal) → IsRefused t name k why → IsRefused t name k other → status_of_refusal why ≡ status_of_refusal other
-  one_status why other is was =
+  one_reason : (why other : Refusal) → IsRefused t name k why → IsRefused t name k other → why ≡ other
+  one_reason why other is was =
       let P : List ℕ → Type 0 = λ bytes. k.Refused bytes other in
-      law.one_status is.bytes why other is.refused (subst P (some_unique (t.files name) was.bytes is.bytes was.file is.file) was.refused)
+      law.one_reason is.bytes why other is.refused (subst P (some_unique (t.files name) was.bytes is.bytes was.file is.file) was.refused)
 
-  one_ending : (e f : Ending) → EndsAtFile t name k e → EndsAtFile t name k f → status_of e ≡ status_of f
-  one_ending e f (why, is, at) (other, was, there) = ap status_of is ∙ one_status why other at there ∙ sym (ap status_of was)
+  one_ending : (e f : Ending) → EndsAtFile t name k e → EndsAtFile t name k f → e ≡ f
+  one_ending e f (why, is, at) (other, was, there) = is ∙ ap refused (one_reason why other at there) ∙ sym was
 
-pub one_cause : (a : Asks) → AreLawful a → (t : Told) (e f : Ending) → Cause a t e → Cause a t f → status_of e ≡ status_of f
+pub one_cause : (a : Asks) → AreLawful a → (t : Told) (e f : Ending) → Cause a t e → Cause a t f → e ≡ f
 one_cause (file name k rest) law t e f (inl at) (inl there) = one_ending k law.0 t name e f at there
 one_cause (file name k rest) law t e f (inl at) (inr (w, had, other)) = absurd (not_both k law.0 t name w at.0 had at.2)
 one_cause (file name k rest) law t e f (inr (v, has, one)) (inl there) = absurd (not_both k law.0 t name v there.0 has there.2)
@@ -35,11 +35,11 @@ one_cause (file name k rest) law t e f (inr (v, has, one)) (inr (w, had, other))
 one_cause (by V Holds rest) law t e f (v, holds, one) (w, held, other) =
     let P : V → Type 0 = λ x. Cause (rest x) t f in
     one_cause (rest v) (law.1 v holds) t e f one (subst P (law.0 w v held holds) other)
-one_cause (gives text last) law t e f one other = ap status_of (one ∙ sym other)
+one_cause (gives text last) law t e f one other = one ∙ sym other
 one_cause (prints name text fault) law t e f (bytes, there, one) (more, here, other) =
-    ap status_of (one ∙ ap (λ (b : List ℕ). end_of (fault b)) (some_unique (t.files name) bytes more there here) ∙ sym other)
-one_cause (writes out text) law t e f one other = ap status_of (one ∙ sym other)
-one_cause (stops why) law t e f one other = ap status_of (one ∙ sym other)
+    one ∙ ap (λ (b : List ℕ). end_of (fault b)) (some_unique (t.files name) bytes more there here) ∙ sym other
+one_cause (writes out text) law t e f one other = one ∙ sym other
+one_cause (stops why) law t e f one other = one ∙ sym other
 
 pub one_text : (a : Asks) → AreLawful a → (t : Told) (e f : Ending) (x y : List ℕ) → Shows a t e x → Shows a t f y → x ≡ y
 one_text (file name k rest) law t e f x y (inl (at, none)) (inl (there, nothing)) = none ∙ sym nothing

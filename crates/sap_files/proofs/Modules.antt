@@ -8,8 +8,8 @@ use Rattle.sap_vparse.proofs.OneReading as reading
 use Rattle.sap_vread.specs.ModuleFault.{IsModuleFault}
 use Rattle.sap_vread.specs.declared.fault.ModFault.{ModFault}
 use Rattle.sap_vread.specs.declared.fault.ModFault.TheVariants as verilog
-use Rattle.sap_vread.proofs.Faults.{not_both}
-use Rattle.sap_files.specs.Ending.{module_refused, status_of_refusal}
+use Rattle.sap_vread.proofs.Faults.{not_both, one_fault}
+use Rattle.sap_files.specs.Ending.{module_refused}
 use Rattle.sap_files.specs.Kinds.{IsLawful, module_file}
 use Rattle.sap_files.specs.Steps.{Refuses, ending, module_failure}
 use Rattle.sap_files.specs.declared.failure.Failure.{Failure}
@@ -22,7 +22,8 @@ one_module text one other a b =
 pub module_lawful : IsLawful module_file
 module_lawful = record {
   one_value = one_module;
-  one_status = λ bytes why other refusal refusal'. ap status_of_refusal refusal.1 ∙ sym (ap status_of_refusal refusal'.1);
+  one_reason = λ text why other (fault, is, ne, first) (fault', was, ne', first').
+      is ∙ ap module_refused (one_fault reading.one_text reading.one_fault reading.not_both text fault fault' first first') ∙ sym was;
   not_both = λ text net why stands (fault, is, ne, first). not_both reading.one_text reading.one_fault reading.not_both text net fault stands first;
 }
 

@@ -1,22 +1,23 @@
 -- From what comes of a stimulus that is printed to how the command ends.
-use Rattle.std.proofs.Common.{◌≡◌, ℕ, List, [], refl, sym, ◌∙◌, ap, subst, inl, inr, ◌⊎◌}
-use Rattle.std.specs.Prelude.{Bool, cond, codes, Option, Some, None}
-use Rattle.sap_desk.specs.Desk.{Told, Use, IsWriting}
+use Rattle.std.proofs.Common.{◌≡◌, ℕ, ◌-◌, List, [], ◌++◌, take, refl, sym, ◌∙◌, ap, subst, inl, inr, ◌⊎◌}
+use Rattle.std.specs.Prelude.{◌^◌, Bool, cond, codes, Option, Some, None}
+use Rattle.sap_desk.specs.Desk.{Told, Use, reads, IsWriting, bytes_of}
 use Rattle.sap_desk.specs.Cause.{counted}
-use Rattle.sap_desk.specs.Whole.{Between, OpenAfterFault}
+use Rattle.sap_desk.specs.Whole.{Between}
 use Rattle.sap_desk.proofs.Steps.{other_number}
 use Rattle.sap_lattice.specs.Levels.{Levels}
 use Rattle.sap_stim.specs.declared.fault.StimFault.{StimFault}
 use Rattle.sap_stim.specs.declared.field.Field.{Field}
-use Rattle.sap_lines.specs.Stepping.Followed.{IsFaultOfSome, Shows, blamed_for}
-use Rattle.sap_lines.specs.Stepping.Printed.{IsPartOf, Printed, Stops, StopsFor, Unprinted}
+use Rattle.sap_lines.specs.Stepping.Followed.{IsFaultOfSome, blamed_for}
+use Rattle.sap_lines.specs.Stepping.Pace.{FaultOf, IsWritten, KeepsPace, Prints, Shows, TellsRefusal, printed_fault, printed_text}
+use Rattle.sap_lines.specs.Stepping.Printed.{BreaksOff, IsPartOf, Printed, StaysOpen, Stops, StopsFor, Unprinted}
 use Rattle.sap_lines.specs.declared.stepping.stopped.Stopped.{Stopped}
 use Rattle.sap_lines.specs.declared.stepping.stopped.Stopped.TheVariants.{Input, Output as OnOutput, Memory}
 use Rattle.sap_files.specs.Ending.{Ending, done, refused, failed, no_memory, IsFree}
 use Rattle.sap_files.specs.Asks.{prints, Cause, Files, IsCut, Leaves, MayEnd, Output, Shows as ShowsOn, end_of}
-use Rattle.sap_files.specs.After.{Blames, Opens, OpensFailed}
+use Rattle.sap_files.specs.After.{Blames, Stands, StandsFailed}
 use Rattle.sap_files.specs.Outside.{OutsideOf}
-use Rattle.sap_files.specs.Steps.{Counted, Ends, FaultRose, HasWhole, Left, Moment, printed_fault, printed_text}
+use Rattle.sap_files.specs.Steps.{Counted, Ends, FaultRose, HasWhole, Left, Moment}
 use Rattle.sap_files.proofs.Ended.{between_map, starved_left}
 
 -- with why it failed
@@ -26,10 +27,19 @@ between_caused F P C Q None new h p c = tt
 between_caused F P C Q (Some t) None h p c = p
 between_caused F P C Q (Some t) (Some n) h p c = h t n p c
 
-lines_use_after : (name : List ℕ) (before after : ℕ → Use) → OpenAfterFault name before after → after 2 ≡ before 2
-lines_use_after name before after (inl same) = ap (λ (u : ℕ → Use). u 2) same
-lines_use_after name before after (inr m) =
-    ap (λ (u : ℕ → Use). u 2) m.uses ∙ ap (λ (b : Bool). cond b m.use_now (before 2)) (other_number 2 m.channel m.above)
+-- channel 2 is open as before
+
+stays_lines : (why : Stopped) (name : List ℕ) (text : Prints) (fault : FaultOf) (t : Told) (gained : List ℕ) (before after : ℕ → Use) → StaysOpen why name text fault t gained before after
+    → after 2 ≡ before 2
+stays_lines why name text fault t gained before after s =
+    ap (λ (u : ℕ → Use). u 2) s.uses ∙ ap (λ (b : Bool). cond b (reads name s.position) (before 2)) (other_number 2 s.channel s.above)
+
+lines_use_after : (why : Stopped) (name : List ℕ) (text : Prints) (fault : FaultOf) (t : Told) (gained : List ℕ) (before after : ℕ → Use) → BreaksOff why name text fault t gained before after
+    → after 2 ≡ before 2
+lines_use_after Input name text fault t gained before after (inl (same, none)) = ap (λ (u : ℕ → Use). u 2) same
+lines_use_after Input name text fault t gained before after (inr s) = stays_lines Input name text fault t gained before after s
+lines_use_after OnOutput name text fault t gained before after s = stays_lines OnOutput name text fault t gained before after s
+lines_use_after Memory name text fault t gained before after (same, none) = ap (λ (u : ℕ → Use). u 2) same
 
 module _ (shows : Shows) (ls : Levels) (fs : List Field) (name : List ℕ) where
   abbrev pub text : (bytes given : List ℕ) → Type 0
@@ -53,9 +63,9 @@ module _ (shows : Shows) (ls : Levels) (fs : List Field) (name : List ℕ) where
   blames_end blame None = tt
   blames_end blame (Some fault) = tt
 
-  opens_end : (t : Told) (fault : Option StimFault) (before after : ℕ → Use) → after ≡ before → Opens (prints name text faults_of) t (end_of fault) before after
-  opens_end t None before after is = is
-  opens_end t (Some fault) before after is = is
+  stands_end : (t : Told) (fault : Option StimFault) (gained : List ℕ) (before after : ℕ → Use) → after ≡ before → Stands (prints name text faults_of) t (end_of fault) gained before after
+  stands_end t None gained before after is = is
+  stands_end t (Some fault) gained before after is = is
 
   counted_end : (fault : Option StimFault) (faults now : ℕ) → now ≡ faults → Counted faults now (end_of fault)
   counted_end None faults now is = is
@@ -69,7 +79,7 @@ module _ (shows : Shows) (ls : Levels) (fs : List Field) (name : List ℕ) where
     output = p.grew.output;
     shows = shows_end t p.gained fault p.bytes p.file p.is_fault p.shown;
     blames = blames_end n.blame fault;
-    opens = opens_end t fault t.uses n.uses p.uses;
+    stands = stands_end t fault p.gained t.uses n.uses p.uses;
     same = record { lines = p.grew.lines; lines_use = ap (λ (u : ℕ → Use). u 2) p.uses; room = p.grew.room };
     cause = inr (p.bytes, p.file, ap end_of p.is_fault);
     outside = λ rose. absurd (never rose);
@@ -97,43 +107,43 @@ module _ (shows : Shows) (ls : Levels) (fs : List Field) (name : List ℕ) where
       let (all, shown, prefix) = whole part.bytes gained part.part in
       inr (all, (end_of (faults_of part.bytes), (part.bytes, part.file, refl, shown)), prefix)
 
-  unprinted_left : HasWhole shows ls fs → (why : Stopped) (F : Type 0) (t n : Told) → OpensFailed (prints name text faults_of) t (blamed_for why name t.blame) t.uses n.uses
-      → (n.uses 2 ≡ t.uses 2) → (F → OutsideOf (prints name text faults_of) t n) → Unprinted shows ls fs why name t n
-      → Left (prints name text faults_of) (failed (blamed_for why name t.blame)) F t n
-  unprinted_left whole why F t n opens lines_use outside u = record {
+  unprinted_left : HasWhole shows ls fs → (why : Stopped) (F : Type 0) (t n : Told) (u : Unprinted shows ls fs why name t n)
+      → StandsFailed (prints name text faults_of) t (blamed_for why name t.blame) u.gained t.uses n.uses
+      → (F → OutsideOf (prints name text faults_of) t n) → Left (prints name text faults_of) (failed (blamed_for why name t.blame)) F t n
+  unprinted_left whole why F t n u stands outside = record {
     leaves = inl u.grew.files;
     gained = u.gained;
     output = u.grew.output;
     shows = cut_of whole u.gained t u.part;
     blames = u.blame;
-    opens = opens;
-    same = record { lines = u.grew.lines; lines_use = lines_use; room = u.grew.room };
+    stands = stands;
+    same = record { lines = u.grew.lines; lines_use = lines_use_after why name text faults_of t u.gained t.uses n.uses u.stands; room = u.grew.room };
     cause = inl tt;
     outside = outside;
   }
 
-  full_output : (t n : Told) → StopsFor name OnOutput t n → OutsideOf (prints name text faults_of) t n
+  full_output : (t n : Told) → StopsFor faults_of name OnOutput t n → OutsideOf (prints name text faults_of) t n
   full_output t n full = inr (λ is. full (subst IsWriting (sym is) tt))
 
   -- a call on the file failed
 
-  input_left : HasWhole shows ls fs → (F : Type 0) (t n : Told) → Unprinted shows ls fs Input name t n → (F → StopsFor name Input t n)
+  input_left : HasWhole shows ls fs → (F : Type 0) (t n : Told) → Unprinted shows ls fs Input name t n → (F → StopsFor faults_of name Input t n)
       → Left (prints name text faults_of) (failed name) F t n
   input_left whole F t n u cause =
-      unprinted_left whole Input F t n (inl (refl, u.uses)) (lines_use_after name t.uses n.uses u.uses) (λ rose. inl (cause rose)) u
+      unprinted_left whole Input F t n u (inl (refl, u.stands)) (λ rose. inl (cause rose))
 
-  output_left : HasWhole shows ls fs → (F : Type 0) (t n : Told) → Unprinted shows ls fs OnOutput name t n → (F → StopsFor name OnOutput t n)
+  output_left : HasWhole shows ls fs → (F : Type 0) (t n : Told) → Unprinted shows ls fs OnOutput name t n → (F → StopsFor faults_of name OnOutput t n)
       → Left (prints name text faults_of) (failed (codes "output")) F t n
   output_left whole F t n u cause =
-      unprinted_left whole OnOutput F t n (inr (refl, u.uses)) (lines_use_after name t.uses n.uses (inr u.uses)) (λ rose. full_output t n (cause rose)) u
+      unprinted_left whole OnOutput F t n u (inr (refl, u.stands)) (λ rose. full_output t n (cause rose))
 
   memory_left : (F : Type 0) (t n : Told) → n ≡ t → (F → ⊥) → Left (prints name text faults_of) no_memory F t n
   memory_left F t n is never = subst (λ (x : Told). Left (prints name text faults_of) no_memory F t x) (sym is) (starved_left (prints name text faults_of) F t never)
 
-  pub input_ends : HasWhole shows ls fs → (a b : Moment) → Between a.told b.told (Stops shows ls fs name Input) → (a.sure → Between a.told b.told (StopsFor name Input))
+  pub input_ends : HasWhole shows ls fs → (a b : Moment) → Between a.told b.told (Stops shows ls fs name Input) → (a.sure → Between a.told b.told (StopsFor faults_of name Input))
       → b.faults ≡ counted a.faults → b.lost ≡ a.lost → (a.sure → b.sure) → Ends (prints name text faults_of) (failed name) a b
   input_ends whole a b told cause faults lost sure = record {
-    told = between_caused (FaultRose a b) (Stops shows ls fs name Input) (StopsFor name Input) (Left (prints name text faults_of) (failed name) (FaultRose a b)) a.told b.told
+    told = between_caused (FaultRose a b) (Stops shows ls fs name Input) (StopsFor faults_of name Input) (Left (prints name text faults_of) (failed name) (FaultRose a b)) a.told b.told
         (λ t n u why. input_left whole (FaultRose a b) t n u why) told (λ rose. cause rose.1);
     faults = faults;
     lost = lost;
@@ -141,10 +151,10 @@ module _ (shows : Shows) (ls : Levels) (fs : List Field) (name : List ℕ) where
     may = inl tt;
   }
 
-  pub output_ends : HasWhole shows ls fs → (a b : Moment) → Between a.told b.told (Stops shows ls fs name OnOutput) → (a.sure → Between a.told b.told (StopsFor name OnOutput))
+  pub output_ends : HasWhole shows ls fs → (a b : Moment) → Between a.told b.told (Stops shows ls fs name OnOutput) → (a.sure → Between a.told b.told (StopsFor faults_of name OnOutput))
       → b.faults ≡ counted a.faults → b.lost ≡ a.lost → (a.sure → b.sure) → Ends (prints name text faults_of) (failed (codes "output")) a b
   output_ends whole a b told cause faults lost sure = record {
-    told = between_caused (FaultRose a b) (Stops shows ls fs name OnOutput) (StopsFor name OnOutput) (Left (prints name text faults_of) (failed (codes "output")) (FaultRose a b)) a.told b.told
+    told = between_caused (FaultRose a b) (Stops shows ls fs name OnOutput) (StopsFor faults_of name OnOutput) (Left (prints name text faults_of) (failed (codes "output")) (FaultRose a b)) a.told b.told
         (λ t n u why. output_left whole (FaultRose a b) t n u why) told (λ rose. cause rose.1);
     faults = faults;
     lost = lost;
@@ -189,11 +199,48 @@ module _ (name : List ℕ) (one other : (bytes given : List ℕ) → Type 0) (fi
   leaves_same t files (failed by) h = h
   leaves_same t files no_memory h = h
 
-  opens_same : (t : Told) (e : Ending) (before after : ℕ → Use) → Opens (prints name one first) t e before after → Opens (prints name other later) t e before after
-  opens_same t done before after h = h
-  opens_same t (refused why) before after h = h
-  opens_same t (failed blamed) before after h = h
-  opens_same t no_memory before after h = h
+  tells_same : (bytes : List ℕ) → TellsRefusal later bytes → TellsRefusal first bytes
+  tells_same bytes (why, all) = (why, λ rest. faults (bytes ++ rest) ∙ all rest)
+
+  written_same : (why : Stopped) (earlier read gained : List ℕ) → IsWritten why one earlier read gained → IsWritten why other earlier read gained
+  written_same Input earlier read gained is = holds read gained is
+  written_same OnOutput earlier read gained (whole, more, is, all) = (whole, more, holds earlier whole is, all)
+  written_same Memory earlier read gained is = is
+
+  pace_same : (why : Stopped) (bytes : List ℕ) (count : ℕ) (gained : List ℕ) → KeepsPace why one first bytes count gained → KeepsPace why other later bytes count gained
+  pace_same why bytes count gained pace = record {
+    earlier = pace.earlier;
+    begins = pace.begins;
+    ends = pace.ends;
+    wanted = λ told. pace.wanted (tells_same (take pace.earlier bytes) told);
+    written = written_same why (take pace.earlier bytes) (take count bytes) gained pace.written;
+  }
+
+  stays_same : (why : Stopped) (t : Told) (gained : List ℕ) (before after : ℕ → Use) → StaysOpen why name one first t gained before after → StaysOpen why name other later t gained before after
+  stays_same why t gained before after s = record {
+    channel = s.channel;
+    above = s.above;
+    fresh = s.fresh;
+    position = s.position;
+    uses = s.uses;
+    bytes = s.bytes;
+    file = s.file;
+    keeps_pace = pace_same why s.bytes s.position gained s.keeps_pace;
+  }
+
+  breaks_same : (why : Stopped) (t : Told) (gained : List ℕ) (before after : ℕ → Use) → BreaksOff why name one first t gained before after → BreaksOff why name other later t gained before after
+  breaks_same Input t gained before after (inl unopened) = inl unopened
+  breaks_same Input t gained before after (inr s) = inr (stays_same Input t gained before after s)
+  breaks_same OnOutput t gained before after s = stays_same OnOutput t gained before after s
+  breaks_same Memory t gained before after h = h
+
+  stands_same : (t : Told) (e : Ending) (gained : List ℕ) (before after : ℕ → Use) → Stands (prints name one first) t e gained before after
+      → Stands (prints name other later) t e gained before after
+  stands_same t done gained before after h = h
+  stands_same t (refused why) gained before after h = h
+  stands_same t (failed blamed) gained before after (inl (is, broke)) = inl (is, breaks_same Input t gained before after broke)
+  stands_same t (failed blamed) gained before after (inr (is, broke)) = inr (is, breaks_same OnOutput t gained before after broke)
+  stands_same t no_memory gained before after h = h
 
   cause_same : (t : Told) (e : Ending) → IsFree e ⊎ Cause (prints name one first) t e → IsFree e ⊎ Cause (prints name other later) t e
   cause_same t e (inl free) = inl free
@@ -203,6 +250,11 @@ module _ (name : List ℕ) (one other : (bytes given : List ℕ) → Type 0) (fi
   may_same e (inl free) = inl free
   may_same e (inr (bytes, is)) = inr (bytes, end_same e bytes is)
 
+  outside_same : (t n : Told) → OutsideOf (prints name one first) t n → OutsideOf (prints name other later) t n
+  outside_same t n (inl (inl missing)) = inl (inl missing)
+  outside_same t n (inl (inr far)) = inl (inr (record { long = far.long; wanted = λ told. far.wanted (tells_same (take (2 ^ 32 - 4096) (bytes_of t name)) told) }))
+  outside_same t n (inr full) = inr full
+
   left_same : (e : Ending) (F : Type 0) (t n : Told) → Left (prints name one first) e F t n → Left (prints name other later) e F t n
   left_same e F t n l = record {
     leaves = leaves_same t n.files e l.leaves;
@@ -210,10 +262,10 @@ module _ (name : List ℕ) (one other : (bytes given : List ℕ) → Type 0) (fi
     output = l.output;
     shows = output_same t e l.gained l.shows;
     blames = l.blames;
-    opens = opens_same t e t.uses n.uses l.opens;
+    stands = stands_same t e l.gained t.uses n.uses l.stands;
     same = l.same;
     cause = cause_same t e l.cause;
-    outside = l.outside;
+    outside = λ rose. outside_same t n (l.outside rose);
   }
 
   pub printed_same : (e : Ending) (a b : Moment) → Ends (prints name one first) e a b → Ends (prints name other later) e a b

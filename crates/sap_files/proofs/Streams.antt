@@ -5,6 +5,7 @@ use Rattle.std.proofs.lemmas.Bool.{cases_Bool}
 use Rattle.std.proofs.lemmas.Bool.Decides.{nat_tests}
 use Rattle.std.proofs.lemmas.List.Sums.{position_or_len_is}
 use Rattle.std.specs.List.{position_or_len}
+use Rattle.sap_lemmas.proofs.Options.{some_unique}
 use Rattle.sap_lemmas.proofs.Texts.{bytes_eq_same, equal_of_bytes_eq}
 use Rattle.sap_lattice.specs.Levels.{Levels, order_by, order_of}
 use Rattle.sap_lattice.specs.Rules.{KeepsNames, repeated}
@@ -27,7 +28,7 @@ use Rattle.sap_sim.specs.Labelled.RunOf.{read_for}
 use Rattle.sap_sim.proofs.labelled.Designs.{fit_stream}
 use Rattle.sap_interface.specs.Designs.{named_of}
 use Rattle.sap_interface.specs.StandsFor.{world}
-use Rattle.sap_files.specs.Ending.{Ending, status_of_refusal}
+use Rattle.sap_files.specs.Ending.{Ending, stimulus_refused}
 use Rattle.sap_files.specs.Kinds.{IsLawful, stream_file}
 use Rattle.sap_files.specs.Compared.{input_names, is_input}
 use Rattle.sap_files.specs.Steps.{Refuses}
@@ -71,7 +72,8 @@ fault_stream o fault none some = cc
 pub stream_lawful : (place : ℕ) (ls : Levels) (d : DesignTree) → IsLawful (stream_file place ls d)
 stream_lawful place ls d = record {
   one_value = λ bytes v w is was. ap (λ (p : Parsed). p.stream) (sym is ∙ was);
-  one_status = λ bytes why other refusal refusal'. ap status_of_refusal refusal.1 ∙ sym (ap status_of_refusal refusal'.1);
+  one_reason = λ bytes why other (fault, is, stands) (fault', was, stands').
+      is ∙ ap (stimulus_refused place) (some_unique (read_for ls d bytes).fault fault fault' stands stands') ∙ sym was;
   not_both = λ bytes v why is refusal. fault_stream (read_for ls d bytes).fault refusal.0 (ap (λ (p : Parsed). p.fault) is) refusal.2;
 }
 

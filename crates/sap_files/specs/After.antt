@@ -1,7 +1,9 @@
--- What stands after a command by its ending: which file is blamed, and what is open.
-use Rattle.std.specs.Prelude.{◌≡◌, ◌⊎◌, ℕ, List, codes}
+-- What stands after a command by its ending: which file is blamed, what is open, and what a failed call left.
+use Rattle.std.specs.Prelude.{◌≡◌, ◌⊎◌, ℕ, List, [], codes}
 use Rattle.sap_desk.specs.Desk.{Told, Use}
-use Rattle.sap_desk.specs.Whole.{OneMore, OpenAfterFault}
+use Rattle.sap_desk.specs.Whole.{OpenAfterFault}
+use Rattle.sap_lines.specs.Stepping.Printed.{BreaksOff}
+use Rattle.sap_lines.specs.declared.stepping.stopped.Stopped.TheVariants.{Input as OnInput, Output as OnOutput}
 use Rattle.sap_files.specs.Kinds.{Has}
 use Rattle.sap_files.specs.Asks.{Asks, file, by, gives, prints, writes, stops}
 use Rattle.sap_files.specs.Ending.{Ending, done, refused, failed, no_memory}
@@ -13,21 +15,23 @@ Blames blame (refused why) = Unit {0}
 Blames blame (failed name) = blame ≡ name
 Blames blame no_memory = Unit {0}
 
--- What is open after a failed call, which blames this: what was open before; after one on a file that call's channel too, if it has one; and after one on
--- the output the stimulus file too whose steps it prints, since no further call is made.
-abbrev pub OpensFailed : Asks → Told → (blamed : List ℕ) → (before after : ℕ → Use) → Type 0
-OpensFailed (file name k rest) t blamed before after =
-    ((blamed ≡ name) × OpenAfterFault name before after) ⊎ ((v : k.Value) × Has t name k v × OpensFailed (rest v) t blamed before after)
-OpensFailed (by V Holds rest) t blamed before after = (v : V) × Holds v × OpensFailed (rest v) t blamed before after
-OpensFailed (gives text last) t blamed before after = (blamed ≡ codes "output") × (after ≡ before)
-OpensFailed (prints name text fault) t blamed before after =
-    ((blamed ≡ name) × OpenAfterFault name before after) ⊎ ((blamed ≡ codes "output") × OneMore name before after)
-OpensFailed (writes name text) t blamed before after = (blamed ≡ name) × OpenAfterFault name before after
-OpensFailed (stops why) t blamed before after = ⊥
+-- What stands after a failed call, which blames this: what is open, and what channel 1 gained. After one on a file that is read, or written, whole it is what was open
+-- before, and that call's channel too, if it has one, and nothing was gained. Where a stimulus is printed line by line, its channel is open too, after a call on the
+-- output as well, since no further call is made; how far it was read, and what was written by then, is as `BreaksOff` has it.
+abbrev pub StandsFailed : Asks → Told → (blamed gained : List ℕ) → (before after : ℕ → Use) → Type 0
+StandsFailed (file name k rest) t blamed gained before after =
+    ((blamed ≡ name) × (gained ≡ []) × OpenAfterFault name before after) ⊎ ((v : k.Value) × Has t name k v × StandsFailed (rest v) t blamed gained before after)
+StandsFailed (by V Holds rest) t blamed gained before after = (v : V) × Holds v × StandsFailed (rest v) t blamed gained before after
+StandsFailed (gives text last) t blamed gained before after = (blamed ≡ codes "output") × (after ≡ before)
+StandsFailed (prints name text fault) t blamed gained before after =
+    ((blamed ≡ name) × BreaksOff OnInput name text fault t gained before after)
+    ⊎ ((blamed ≡ codes "output") × BreaksOff OnOutput name text fault t gained before after)
+StandsFailed (writes name text) t blamed gained before after = (blamed ≡ name) × (gained ≡ []) × OpenAfterFault name before after
+StandsFailed (stops why) t blamed gained before after = ⊥
 
--- what is open after a command, and where it reads: but for a failed call all as before
-abbrev pub Opens : Asks → Told → Ending → (before after : ℕ → Use) → Type 0
-Opens a t done before after = after ≡ before
-Opens a t (refused why) before after = after ≡ before
-Opens a t (failed blamed) before after = OpensFailed a t blamed before after
-Opens a t no_memory before after = after ≡ before
+-- what stands after a command that wrote this on channel 1: what is open, and where it reads, but for a failed call all as before
+abbrev pub Stands : Asks → Told → Ending → (gained : List ℕ) → (before after : ℕ → Use) → Type 0
+Stands a t done gained before after = after ≡ before
+Stands a t (refused why) gained before after = after ≡ before
+Stands a t (failed blamed) gained before after = StandsFailed a t blamed gained before after
+Stands a t no_memory gained before after = after ≡ before

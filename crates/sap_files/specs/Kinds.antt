@@ -21,7 +21,7 @@ use Rattle.sap_vread.specs.declared.fault.ModFault.TheVariants as module_fault
 use Rattle.sap_files.specs.DesignFaults.{IsDesignFault}
 use Rattle.sap_files.specs.declared.fault.DesignFault.{DesignFault}
 use Rattle.sap_files.specs.declared.fault.DesignFault.TheVariants as design_fault
-use Rattle.sap_files.specs.Ending.{Refusal, lattice_refused, design_refused, stimulus_refused, module_refused, status_of_refusal}
+use Rattle.sap_files.specs.Ending.{Refusal, lattice_refused, design_refused, stimulus_refused, module_refused}
 
 -- What a file is read as: the number of bytes behind which it is read no further, if any; when its bytes stand for a value; and when they are
 -- refused, and why.
@@ -31,10 +31,10 @@ pub record Kind : Type 1 where
   pub Stands : List ℕ → Value → Type 0
   pub Refused : List ℕ → Refusal → Type 0
 
--- Bytes stand for at most one value, or are refused with at most one status, and not both.
+-- Bytes stand for at most one value, or are refused for at most one reason, and not both.
 pub record IsLawful (k : Kind) : Type 0 where
   pub one_value : (bytes : List ℕ) (v w : k.Value) → k.Stands bytes v → k.Stands bytes w → v ≡ w
-  pub one_status : (bytes : List ℕ) (why other : Refusal) → k.Refused bytes why → k.Refused bytes other → status_of_refusal why ≡ status_of_refusal other
+  pub one_reason : (bytes : List ℕ) (why other : Refusal) → k.Refused bytes why → k.Refused bytes other → why ≡ other
   pub not_both : (bytes : List ℕ) (v : k.Value) (why : Refusal) → k.Stands bytes v → k.Refused bytes why → ⊥
 
 -- there is a file of this name, and its bytes stand for this value

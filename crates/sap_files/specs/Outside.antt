@@ -2,6 +2,7 @@
 use Rattle.std.specs.Prelude.{◌≡◌, ◌⊎◌, ℕ, List, length, Option, Some, None}
 use Rattle.sap_desk.specs.Desk.{Told, bytes_of, stream}
 use Rattle.sap_desk.specs.Whole.{MissingOrLong}
+use Rattle.sap_lines.specs.Stepping.Printed.{MissingOrTooLong}
 use Rattle.sap_files.specs.Kinds.{Has}
 use Rattle.sap_files.specs.Asks.{Asks, file, by, gives, prints, writes, stops}
 
@@ -18,11 +19,12 @@ abbrev pub IsUnreadable : (most : Option ℕ) → (name : List ℕ) → Told →
 IsUnreadable None name t = MissingOrLong name t
 IsUnreadable (Some most) name t = t.files name ≡ None
 
--- a file that the command reads can't be read, those before it standing for values; or what it writes fills the room
+-- A file that the command reads can't be read, those before it standing for values; of a stimulus that is printed line by line as much can't be read as tells its
+-- refused line; or what the command writes fills the room.
 abbrev pub OutsideOf : Asks → Told → Told → Type 0
 OutsideOf (file name k rest) t n = IsUnreadable k.most name t ⊎ ((v : k.Value) × Has t name k v × OutsideOf (rest v) t n)
 OutsideOf (by V Holds rest) t n = (v : V) × Holds v × OutsideOf (rest v) t n
 OutsideOf (gives text last) t n = FullOutput t n
-OutsideOf (prints name text fault) t n = MissingOrLong name t ⊎ FullOutput t n
+OutsideOf (prints name text fault) t n = MissingOrTooLong fault name t ⊎ FullOutput t n
 OutsideOf (writes name text) t n = FullFile name t n
 OutsideOf (stops why) t n = ⊥

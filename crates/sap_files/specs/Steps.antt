@@ -18,12 +18,12 @@ use Rattle.sap_vread.specs.declared.fault.ModFault.TheVariants as module_fault
 use Rattle.sap_files.specs.declared.fault.DesignFault.TheVariants as design_fault
 use Rattle.sap_files.specs.Ending.{Ending, Refusal as Reason, done, refused, failed, no_memory, lattice_refused, design_refused, stimulus_refused, module_refused, level_refused, lengths_apart, inputs_apart, IsFree}
 use Rattle.sap_files.specs.Kinds.{Kind, IsLatticeFile, IsWellFormedText, design_file, lattice_file, table_by}
-use Rattle.sap_stim.specs.declared.fault.StimFault.{StimFault}
 use Rattle.sap_stim.specs.declared.field.Field.{Field}
 use Rattle.sap_stim.specs.Stimulus.{stimulus_of}
-use Rattle.sap_lines.specs.Stepping.Followed.{IsPartShown, Shows as ShowsOf}
+use Rattle.sap_lines.specs.Stepping.Followed.{IsPartShown}
+use Rattle.sap_lines.specs.Stepping.Pace.{Shows as ShowsOf}
 use Rattle.sap_files.specs.Asks.{Asks, Cause, IsPrefix, Leaves, MayEnd, Output}
-use Rattle.sap_files.specs.After.{Blames, Opens}
+use Rattle.sap_files.specs.After.{Blames, Stands}
 use Rattle.sap_files.specs.Outside.{IsUnreadable, OutsideOf}
 use Rattle.sap_files.specs.declared.files.LatticeFile.{LatticeFile}
 use Rattle.sap_files.specs.declared.failure.Failure.{Failure}
@@ -112,7 +112,7 @@ pub record Left (a : Asks) (e : Ending) (rose : Type 0) (t n : Told) : Type 0 wh
   pub output : n.written 1 ≡ t.written 1 ++ gained
   pub shows : Output a t gained e
   pub blames : Blames n.blame e
-  pub opens : Opens a t e t.uses n.uses
+  pub stands : Stands a t e gained t.uses n.uses
   pub same : Same t n
   pub cause : IsFree e ⊎ Cause a t e
   pub outside : rose → OutsideOf a t n
@@ -205,13 +205,6 @@ GetsChecked ls name (Ok c) before after = (bytes : List ℕ) × Reads name bytes
 GetsChecked ls name (Err e) before after = EndsReading name (design_file ls) (ending e) before after
 
 -- A stimulus that is printed
-
--- what is printed of bytes, and the fault that it ends by
-abbrev pub printed_text : ShowsOf → Levels → List Field → (bytes given : List ℕ) → Type 0
-printed_text shows ls fs bytes given = shows (stimulus_of ls fs bytes).stream given
-
-abbrev pub printed_fault : Levels → List Field → (bytes : List ℕ) → Option StimFault
-printed_fault ls fs bytes = (stimulus_of ls fs bytes).fault
 
 -- there is a whole text for each part
 abbrev pub HasWhole : ShowsOf → Levels → List Field → Type 0

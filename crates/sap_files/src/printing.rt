@@ -4,7 +4,8 @@ ghost use Rattle.std.specs.Prelude.{◌≡◌, ◌≤◌, []};
 ghost use Rattle.sap_lines.specs.Reader.{IsNew};
 ghost use Rattle.sap_lines.specs.declared.stepping.TheConstants.{LARGE_BYTES};
 ghost use Rattle.sap_files.specs.Asks.{prints};
-ghost use Rattle.sap_files.specs.Steps.{Ends, HasWhole, ending_of, printed_fault, printed_text, seen};
+ghost use Rattle.sap_lines.specs.Stepping.Pace.{printed_fault, printed_text};
+ghost use Rattle.sap_files.specs.Steps.{Ends, HasWhole, ending_of, seen};
 
 use crate::buffers::Buffers;
 use crate::failure::Failure;
