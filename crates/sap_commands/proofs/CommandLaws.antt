@@ -15,14 +15,14 @@ use Rattle.sap_files.specs.Kinds.{design_file, design_text_file, lattice_file, m
 use Rattle.sap_files.specs.Compared.{IsVerdict}
 use Rattle.sap_words.specs.Words.{Words, IsTwin, compile, run, trace, fmt, sim, report, twin, gen, command_of}
 use Rattle.sap_files.specs.Asks.{Asks, file, by, AreLawful, MayEnd, end_of}
-use Rattle.sap_commands.specs.Commands.{OneOutput, asks, asks_for, asks_if, at_level, compared}
+use Rattle.sap_commands.specs.Commands.{OneCause, OneOutput, asks, asks_for, asks_if, at_level, compared}
 use Rattle.sap_files.proofs.Lattices.{lattice_lawful}
 use Rattle.sap_files.proofs.Designs.{design_lawful, text_lawful}
 use Rattle.sap_files.proofs.Modules.{module_lawful}
 use Rattle.sap_files.proofs.Netlists.{module_netlist}
 use Rattle.sap_files.proofs.NetsAlike.{one_rows}
 use Rattle.sap_files.proofs.Streams.{stream_lawful}
-use Rattle.sap_files.proofs.Lawful.{one_text}
+use Rattle.sap_files.proofs.Lawful.{one_cause, one_text}
 
 -- two streams
 
@@ -139,3 +139,6 @@ two_if (Some c) e (inr may) two = inr (two_twin c e may two)
 
 pub one_output_lem : OneOutput
 one_output_lem = λ c t text other a b. one_text (asks c) (lawful c) t a.0 b.0 text other a.1 b.1
+
+pub one_cause_lem : OneCause
+one_cause_lem = λ c t e other a b. one_cause (asks c) (lawful c) t e other a b

@@ -4,6 +4,7 @@ use Rattle.std.specs.Prelude.{Result}
 use Rattle.sap_desk.specs.Whole.{IsFront}
 use Rattle.sap_lattice.specs.Levels.{Levels}
 use Rattle.sap_latfile.specs.OneLattice.{AreSame}
+use Rattle.sap_latfile.proofs.Answered.{not_both}
 use Rattle.sap_latfile.proofs.OneLattice.{one_lattice}
 use Rattle.sap_compile.specs.Syntax.{DesignTree}
 use Rattle.sap_parse.specs.Limits.{most_bytes}
@@ -21,7 +22,6 @@ use Rattle.sap_files.specs.Steps.{Ends, Moment, Reads, Refuses, ending}
 use Rattle.sap_files.proofs.Designs.{fault_in, text_in}
 use Rattle.sap_files.proofs.Ended.{past}
 use Rattle.sap_files.proofs.Fronts.{refused_design, text_of}
-use Rattle.sap_files.proofs.Lattices.{unbroken}
 use Rattle.sap_commands.specs.Compiling.{Compiles, GetsCompiled, IsCompiled, compile_failure}
 
 -- what compiling one comes to
@@ -31,7 +31,7 @@ uncompiled : (lattice source : List ℕ) (fault : CompileFault) → (fault ≢ c
 uncompiled lattice source compile.Memory first ls stands = inl refl
 uncompiled lattice source (compile.Lattice f) first ls stands =
     let h = first (λ e. cc) in
-    absurd (unbroken lattice ls f stands.lattice h.0 h.1)
+    absurd (not_both lattice ls f h.0 stands.lattice h.1)
 uncompiled lattice source (compile.Read f) first ls stands =
     let (other, is, h) = first (λ e. cc) in
     inr (design_refused (design.Read f), refl, (design.Read f, refl, h))

@@ -11,13 +11,13 @@ use Rattle.sap_sim.specs.Labelled.RunOf.{read_for as design_stimulus}
 use Rattle.sap_compile.specs.Compiles.{IsModuleFor}
 use Rattle.sap_gen.specs.Text.{generated_text}
 use Rattle.sap_words.specs.Words.{Words, compile, run, trace, fmt, sim, report, twin, gen, command_of}
-use Rattle.sap_files.specs.Ending.{done, no_memory, no_command, level_refused}
+use Rattle.sap_files.specs.Ending.{Ending, done, no_memory, no_command, level_refused}
 use Rattle.sap_files.specs.Kinds.{lattice_file, design_file, stream_file}
 use Rattle.sap_commands.specs.Twin.{IsAgreement}
 use Rattle.sap_files.specs.Compared.{IsVerdict, difference}
 use Rattle.sap_files.specs.StimulusTexts.{AreDesignRows, AreTraceLines}
 use Rattle.sap_files.specs.Uncompiled.{asks_canonical, asks_simulated, asks_report}
-use Rattle.sap_files.specs.Asks.{Asks, file, by, gives, prints, writes, stops, IsCut, IsOutput, Output}
+use Rattle.sap_files.specs.Asks.{Asks, file, by, gives, prints, writes, stops, Cause, IsCut, IsOutput, Output}
 
 -- the text is one of a module for the design
 abbrev pub IsModuleText : Levels → DesignTree → (text : List ℕ) → Type 0
@@ -84,3 +84,7 @@ WithoutMemory = (c : Words) (t : Told) (gained : List ℕ)
 -- the words and files of a command ask for one text
 abbrev pub OneOutput : Type 0
 OneOutput = (c : Words) (t : Told) (text other : List ℕ) → IsOutput (asks c) t text → IsOutput (asks c) t other → text ≡ other
+
+-- the words and files of a command have at most one cause: by them it ends in one way, with one status and one line
+abbrev pub OneCause : Type 0
+OneCause = (c : Words) (t : Told) (e other : Ending) → Cause (asks c) t e → Cause (asks c) t other → e ≡ other

@@ -10,7 +10,7 @@ use Rattle.sap_words.specs.Words.{Words, IsTwin, command_of}
 use Rattle.sap_files.specs.Ending.{Ending, Refusal, done, refused, failed, no_memory, no_command, stimulus_refused, status_of, line_of, IsFree}
 use Rattle.sap_files.specs.Asks.{Asks, file, by, gives, prints, writes, stops, AreLawful, Cause, Files, Shows, Starved, end_of}
 use Rattle.sap_commands.specs.Commands.{asks, asks_for}
-use Rattle.sap_files.specs.After.{Blames, Opens}
+use Rattle.sap_files.specs.After.{Blames, Stands}
 use Rattle.sap_files.specs.Outside.{FullFile, FullOutput, OutsideOf}
 use Rattle.sap_files.specs.Steps.{Ends, FaultRose, Left, Moment, ending, ending_of}
 use Rattle.sap_files.specs.declared.failure.Failure.{Failure}
@@ -93,7 +93,7 @@ starved_left a why F t n takes l = record {
   output = l.output;
   shows = starved_of a t why l.gained takes l.shows;
   blames = tt;
-  opens = l.opens;
+  stands = l.stands;
   same = l.same;
   cause = inl tt;
   outside = l.outside;
@@ -191,7 +191,7 @@ module _ (words : List (List ℕ)) (e : Ending) where
     output = w.output ∙ l.output;
     shows = l.shows;
     blames = subst (λ (blame : List ℕ). Blames blame e) (sym w.blame) l.blames;
-    opens = subst (λ (uses : ℕ → Use). Opens (asks_for words) t e t.uses uses) (sym w.uses) l.opens;
+    stands = subst (λ (uses : ℕ → Use). Stands (asks_for words) t e l.gained t.uses uses) (sym w.uses) l.stands;
     cause = l.cause;
   }
 
@@ -252,7 +252,7 @@ module _ (words : List (List ℕ)) (e : Ending) where
       }
   exact_told law answer t status (inr cause) = record {
     only = λ no_six no_seven. (e, cause, status);
-    always = λ f other. inl (status ∙ one_cause (asks_for words) law t e f cause other);
+    always = λ f other. inl (status ∙ ap status_of (one_cause (asks_for words) law t e f cause other));
   }
 
   exact_between : (law : AreLawful (asks_for words)) (answer : ℕ) (F : Type 0) (old new : Option Told) → answer ≡ status_of e

@@ -5,7 +5,7 @@ use Rattle.sap_desk.specs.Whole.{Gained}
 use Rattle.sap_files.specs.Ending.{Ending, status_of, line_of, IsFree}
 use Rattle.sap_files.specs.Asks.{Cause, Leaves, MayEnd, Output}
 use Rattle.sap_commands.specs.Commands.{asks_for}
-use Rattle.sap_files.specs.After.{Blames, Opens}
+use Rattle.sap_files.specs.After.{Blames, Stands}
 
 -- some ending, with its status and its line, and what it leaves
 pub record Answers (words : List (List ℕ)) (lost lost_now answer : ℕ) (t n : Told) : Type 0 where
@@ -18,7 +18,7 @@ pub record Answers (words : List (List ℕ)) (lost lost_now answer : ℕ) (t n :
   pub output : n.written 1 ≡ t.written 1 ++ gained
   pub shows : Output (asks_for words) t gained ending
   pub blames : Blames n.blame ending
-  pub opens : Opens (asks_for words) t ending t.uses n.uses
+  pub stands : Stands (asks_for words) t ending gained t.uses n.uses
   -- but for a failed call and want of memory the words and files have the ending's cause
   pub cause : IsFree ending ⊎ Cause (asks_for words) t ending
 
