@@ -132,7 +132,7 @@ impl Step {
 }
 
 /// The bytes of the first file with a name.
-pub(crate) fn bytes_of<'a>(files: &'a [File], name: &str) -> Option<&'a [u8]>
+pub fn bytes_of<'a>(files: &'a [File], name: &str) -> Option<&'a [u8]>
     ensures { option_map (λ bytes. bytes.now) result ≡ bytes_of files.now name.now }
 {
     match files.iter().find(|file| file.name.as_str() == name) {

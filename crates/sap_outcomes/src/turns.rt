@@ -1,7 +1,8 @@
 //! What is left where a call on the desk fails.
 
+use crate::fitting::exact;
 use crate::seen::{Came, Seen};
-use crate::table::{Answer, State, Step};
+use sap_rows::{Answer, State, Step};
 
 const OUTPUT: u8 = b'1';
 
@@ -31,7 +32,7 @@ fn is_told(turn: &Turn<'_>, came: &[u8]) -> bool {
     match turn.at {
         OUTPUT => came == b"desk: output\n".as_slice(),
         FAULTS => {
-            let line = turn.step.faults.exact();
+            let line = exact(&turn.step.faults);
             came.len() < line.len() && line.starts_with(came)
         }
         _ => came == [b'd', b'e', b's', b'k', b':', b' ', turn.at, b'\n'].as_slice(),
@@ -48,7 +49,7 @@ fn answer_of(turn: &Turn<'_>) -> Answer {
 
 // A write that fails takes the first half of its bytes, rounded down.
 fn output_of<'a>(turn: &Turn<'a>) -> &'a [u8] {
-    let whole = turn.step.output.exact();
+    let whole = exact(&turn.step.output);
     if turn.is_written {
         whole
     } else if turn.at == OUTPUT {

@@ -1,6 +1,6 @@
 //! Texts and files against what is wanted of them.
 
-use crate::table::{Comparison, Held, State, Wanted};
+use sap_rows::{Comparison, Held, State, Wanted};
 
 fn is_within(part: &[u8], whole: &[u8]) -> bool {
     for start in 0..whole.len() {
@@ -11,22 +11,21 @@ fn is_within(part: &[u8], whole: &[u8]) -> bool {
     false
 }
 
-impl Wanted {
-    pub(crate) fn fits(&self, came: &[u8]) -> bool {
-        let text = self.text.as_slice();
-        match self.comparison {
-            Comparison::Exactly => came == text,
-            Comparison::Beginning => came.starts_with(text),
-            Comparison::Part => is_within(text, came),
-        }
+/// Whether what a channel gained is as it has to be.
+pub(crate) fn fits(wanted: &Wanted, came: &[u8]) -> bool {
+    let text = wanted.text.as_slice();
+    match wanted.comparison {
+        Comparison::Exactly => came == text,
+        Comparison::Beginning => came.starts_with(text),
+        Comparison::Part => is_within(text, came),
     }
+}
 
-    /// The text, where it is exact.
-    pub(crate) fn exact(&self) -> &[u8] {
-        match self.comparison {
-            Comparison::Exactly => self.text.as_slice(),
-            _ => &[],
-        }
+/// The text that is wanted, where it is exact.
+pub(crate) fn exact(wanted: &Wanted) -> &[u8] {
+    match wanted.comparison {
+        Comparison::Exactly => wanted.text.as_slice(),
+        _ => &[],
     }
 }
 

@@ -1,10 +1,9 @@
 //! What a run of a row left, against what the row says.
 
-use crate::fitting::{begins_with_any, count_of, is_held};
-use crate::runs::{Circumstance, steps_of};
+use crate::fitting::{begins_with_any, count_of, fits, is_held};
 use crate::seen::{Came, Seen};
-use crate::table::{Answer, Cut, Held, Row, State, Step, bytes_of};
 use crate::turns::came_of_turn;
+use sap_rows::{Answer, Circumstance, Cut, Held, Row, State, Step, bytes_of, steps_of};
 
 /// Where a row came out otherwise: its call, from 1, and how.
 #[derive(Clone, Copy)]
@@ -76,8 +75,8 @@ fn unheld<'a>(held: &'a Held, came: Option<&'a [u8]>) -> Came<'a> {
 fn came_of_step<'a>(steps: &'a [Step], step: &'a Step, seen: &'a Seen) -> Option<Came<'a>> {
     let came = seen.otherwise(
         seen.answer == step.answer,
-        step.output.fits(&seen.output),
-        step.faults.fits(&seen.faults),
+        fits(&step.output, &seen.output),
+        fits(&step.faults, &seen.faults),
     );
     if came.is_some() {
         return came;
@@ -92,7 +91,7 @@ fn came_of_step<'a>(steps: &'a [Step], step: &'a Step, seen: &'a Seen) -> Option
 // A beginning of the file is refused as is said, or does what the whole file does.
 fn came_of_cut<'a>(step: &Step, cut: &Cut, seen: &'a Seen) -> Option<Came<'a>> {
     let is_refused = seen.answer == cut.answer && begins_with_any(&seen.faults, &cut.lines);
-    let is_whole = seen.answer == step.answer && step.faults.fits(&seen.faults);
+    let is_whole = seen.answer == step.answer && fits(&step.faults, &seen.faults);
     seen.otherwise(is_refused || is_whole, true, true)
 }
 
