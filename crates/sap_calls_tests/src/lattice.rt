@@ -1,0 +1,4 @@
+//! The lattice of the designs.
+
+/// `low` below `high`.
+pub const TWO: &[u8] = b"levels = [\"low\", \"high\"]\nbelow = [[\"low\", \"high\"]]\n";

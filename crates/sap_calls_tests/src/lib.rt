@@ -1,0 +1,10 @@
+//! Calls that no command makes, by example: what a runner's last cycle refuses, the line of a check site, and two machines
+//! side by side.
+#![tactic(auto)]
+
+#[cfg(test)]
+mod lattice;
+#[cfg(test)]
+mod machines;
+#[cfg(test)]
+mod refusals;
