@@ -8,10 +8,6 @@ use Rattle.sap_desk.specs.declared.error.DeskError.TheVariants.{Failed, Memory}
 abbrev pub counted : ℕ → ℕ
 counted count = min (count + 1) (2 ^ 64 - 1)
 
--- a count rose: it is greater than before, or stands at its last value
-abbrev pub Rose : ℕ → ℕ → Type 0
-Rose before now = counted before ≤ now
-
 -- what a read gave: the next bytes, in the front of the buffer; none into some buffer is the end
 pub record Gave (t : Told) (channel count : ℕ) (before after : List ℕ) : Type 0 where
   pub reading : IsReading (t.uses channel)

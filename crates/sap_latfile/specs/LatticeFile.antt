@@ -1,12 +1,11 @@
 -- The lattice of a file, and the first rule that a file breaks.
-use Rattle.std.specs.Prelude.{◌≡◌, ◌≢◌, ℕ, List, Some}
+use Rattle.std.specs.Prelude.{◌≡◌, ℕ, List, Some}
 use Rattle.std.specs.Str.{IsUtf8}
 use Rattle.toml.specs.Data.{Members}
 use Rattle.toml.specs.Parse.{parse_document}
 use Rattle.sap_lattice.specs.Built.{IsLatticeOf}
 use Rattle.sap_lattice.specs.Levels.{Levels}
 use Rattle.sap_lattice.specs.Rules.{FirstBroken}
-use Rattle.sap_lattice.specs.declared.fault.LatFault.TheVariants as rule
 use Rattle.sap_lattice.specs.declared.pair.Pair.{Pair}
 use Rattle.sap_latfile.specs.Document.{Lists}
 use Rattle.sap_latfile.specs.declared.fault.LatFileFault.{LatFileFault}
@@ -36,9 +35,8 @@ pub record HasOtherShape (bytes : List ℕ) : Type 0 where
 abbrev pub FirstFault : List ℕ → LatFileFault → Type 0
 FirstFault bytes NotToml = IsNoDocument bytes
 FirstFault bytes Shape = HasOtherShape bytes
-FirstFault bytes (Rule fault) =
-    (fault ≢ rule.Memory) × ((names : List (List ℕ)) × (pairs : List Pair) × IsFileOf bytes names pairs × FirstBroken names pairs fault)
-FirstFault bytes Memory = Unit {0}
+FirstFault bytes (Rule fault) = (names : List (List ℕ)) × (pairs : List Pair) × IsFileOf bytes names pairs × FirstBroken names pairs fault
+FirstFault bytes Memory = ⊥
 
 -- l is the lattice of the names and pairs of the file
 abbrev pub IsLatticeOfFile : List ℕ → Levels → Type 0

@@ -4,4 +4,3 @@ pub mod LatticeFile
 pub mod OneFault
 pub mod OneLattice
 pub mod Wrapped
-pub use Rattle.sap_lattice.specs.Rules

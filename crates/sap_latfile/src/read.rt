@@ -17,7 +17,7 @@ use toml::Table;
 /// The document of the bytes.
 fn document(alloc: Global, bytes: &[u8]) -> Result<Table, LatFileFault>
     ensures document { IfOk result (λ t. IsDocument bytes.now (table_view t)) }
-    ensures refused { IfErr result (λ fault. FirstFault bytes.now fault) }
+    ensures refused { IfErr result (λ fault. fault ≢ LatFileFault.Memory → FirstFault bytes.now fault) }
 {
     match toml::table_from_slice(alloc, bytes) {
         Ok(table) => Ok(table),
@@ -34,7 +34,7 @@ fn document(alloc: Global, bytes: &[u8]) -> Result<Table, LatFileFault>
 /// Tests the rules in their order, and builds the lattice of what keeps them all.
 fn judge(alloc: Global, bytes: &[u8]) -> Result<Lattice, LatFileFault>
     ensures accepted { IfOk result (λ l. IsLatticeOfFile bytes.now l) }
-    ensures refused { IfErr result (λ fault. FirstFault bytes.now fault) }
+    ensures refused { IfErr result (λ fault. fault ≢ LatFileFault.Memory → FirstFault bytes.now fault) }
 {
     let table = document(alloc, bytes)?;
     let Some((names, pairs)) = listing(alloc, &table)? else {
@@ -46,10 +46,10 @@ fn judge(alloc: Global, bytes: &[u8]) -> Result<Lattice, LatFileFault>
 /// The lattice of a lattice file.
 pub fn read_lattice(alloc: Global, bytes: &[u8]) -> Result<Lattice, LatFileFault>
     ensures accepted { IfOk result (λ l. IsLatticeOfFile bytes.now l) }
-    ensures refused { IfErr result (λ fault. FirstFault bytes.now fault) }
+    ensures refused { IfErr result (λ fault. fault ≢ LatFileFault.Memory → FirstFault bytes.now fault) }
     ensures valid { (names : List (List ℕ)) (pairs : List PairOfNames) → IsFileOf bytes.now names pairs → KeepsAll names pairs
         → IsOkUnless result LatFileFault.Memory }
-    ensures exact { (fault : AnyFault) → fault ≢ LatFileFault.Memory → FirstFault bytes.now fault
+    ensures exact { (fault : AnyFault) → FirstFault bytes.now fault
         → IsErrOf result fault ⊎ IsErrOf result LatFileFault.Memory }
 {
     judge(alloc, bytes)

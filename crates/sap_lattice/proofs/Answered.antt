@@ -50,6 +50,15 @@ module _ (names : List (List ℕ)) (pairs : List Pair) where
   Kept NoLeast = KeepsAll names pairs
   Kept Memory = Unit {0}
 
+  no_want : (f : LatFault) → FirstBroken names pairs f → f ≢ Memory
+  no_want Memory broken e = absurd broken
+  no_want (Count n) broken e = cc
+  no_want (Bad p) broken e = cc
+  no_want (UnknownPair p) broken e = cc
+  no_want (Cycle a b) broken e = cc
+  no_want (NoJoin a b) broken e = cc
+  no_want NoLeast broken e = cc
+
   -- a broken rule is not kept
   broken_not_kept : (f : LatFault) → f ≢ Memory → FirstBroken names pairs f → ¬ Kept f
   unfolding Kept
@@ -148,11 +157,13 @@ module _ (names : List (List ℕ)) (pairs : List Pair) where
   same_answer f g e ne a b = absurd (omega arith)
 
   -- where all rules are kept none is broken
-  pub none_broken : (f : LatFault) → f ≢ Memory → KeepsAll names pairs → ¬ FirstBroken names pairs f
-  none_broken f ne all broken = broken_not_kept f ne broken (all_kept f all)
+  pub none_broken : (f : LatFault) → KeepsAll names pairs → ¬ FirstBroken names pairs f
+  none_broken f all broken = broken_not_kept f (no_want f broken) broken (all_kept f all)
 
-  pub one_answer : (f g : LatFault) → f ≢ Memory → g ≢ Memory → FirstBroken names pairs f → FirstBroken names pairs g → f ≡ g
-  one_answer f g nf ng a b =
+  pub one_answer : (f g : LatFault) → FirstBroken names pairs f → FirstBroken names pairs g → f ≡ g
+  one_answer f g a b =
+      let nf = no_want f a in
+      let ng = no_want g b in
       elim (cases_order (rank f) (rank g)) [
         | inl e ↦ same_answer f g e nf a b
         | inr apart ↦
@@ -163,18 +174,18 @@ module _ (names : List (List ℕ)) (pairs : List Pair) where
       ]
 
   -- an answer that is a lattice or the rule that is broken first is the only one, want of memory aside
-  pub valid_answer : (r : Result Levels LatFault) → IfErr r (λ f. FirstBroken names pairs f) → KeepsAll names pairs → IsOkUnless r Memory
+  pub valid_answer : (r : Result Levels LatFault) → IfErr r (λ f. f ≢ Memory → FirstBroken names pairs f) → KeepsAll names pairs → IsOkUnless r Memory
   valid_answer (Ok l) refused all = tt
   valid_answer (Err f) refused all =
       elim (cases_memory f) [
         | inl e ↦ e
-        | inr ne ↦ absurd (none_broken f ne all refused)
+        | inr ne ↦ absurd (none_broken f all (refused ne))
       ]
 
-  pub exact_answer : (r : Result Levels LatFault) → IfOk r (λ l. IsLatticeOf names pairs l) → IfErr r (λ f. FirstBroken names pairs f) → (f : LatFault) → f ≢ Memory → FirstBroken names pairs f → IsErrOf r f ⊎ IsErrOf r Memory
-  exact_answer (Ok l) accepted refused f ne broken = absurd (none_broken f ne accepted.kept broken)
-  exact_answer (Err g) accepted refused f ne broken =
+  pub exact_answer : (r : Result Levels LatFault) → IfOk r (λ l. IsLatticeOf names pairs l) → IfErr r (λ f. f ≢ Memory → FirstBroken names pairs f) → (f : LatFault) → FirstBroken names pairs f → IsErrOf r f ⊎ IsErrOf r Memory
+  exact_answer (Ok l) accepted refused f broken = absurd (none_broken f accepted.kept broken)
+  exact_answer (Err g) accepted refused f broken =
       elim (cases_memory g) [
         | inl e ↦ inr (ap Err e)
-        | inr other ↦ inl (ap Err (one_answer g f other ne refused broken))
+        | inr other ↦ inl (ap Err (one_answer g f (refused other) broken))
       ]

@@ -1,6 +1,7 @@
 pub mod Built
 pub mod Closure
 pub mod Codes
+pub mod Diamond
 pub mod Examples
 pub mod FaultTexts
 pub mod Finite

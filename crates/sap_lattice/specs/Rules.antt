@@ -94,4 +94,4 @@ FirstBroken names pairs (UnknownPair p) = KeepsNames names × ((k : ℕ) × IsFi
 FirstBroken names pairs (Cycle a b) = KeepsPairs names pairs × AreNamesOfFirst names (IsCycle names pairs) a b
 FirstBroken names pairs (NoJoin a b) = KeepsApart names pairs × AreNamesOfFirst names (HasNoJoin names pairs) a b
 FirstBroken names pairs NoLeast = KeepsJoins names pairs × HasNoLeast names pairs
-FirstBroken names pairs Memory = Unit {0}
+FirstBroken names pairs Memory = ⊥

@@ -29,9 +29,9 @@ fn check_pairs(
 ) -> Result<(), LatFault>
     requires { length order.now ≡ length names.now }
     ensures kept { OnOk result ((x y : ℕ) → ¬ IsBroken (length order.now) (order_in order.now).le rule x y) }
-    ensures cycle { IfErr result (λ fault. rule ≡ Apart
+    ensures cycle { IfErr result (λ fault. fault ≢ LatFault.Memory → rule ≡ Apart
         → (pairs : List PairOfNames) → TellsOrder names.now pairs order.now → KeepsPairs names.now pairs → FirstBroken names.now pairs fault) }
-    ensures joinless { IfErr result (λ fault. rule ≡ Joined
+    ensures joinless { IfErr result (λ fault. fault ≢ LatFault.Memory → rule ≡ Joined
         → (pairs : List PairOfNames) → TellsOrder names.now pairs order.now → KeepsApart names.now pairs → FirstBroken names.now pairs fault) }
 {
     match first_broken(order, rule) {
@@ -50,7 +50,7 @@ fn check_pairs(
 /// Tests the rules in their order, and encodes what keeps them all.
 fn judge(alloc: Global, names: &[Name], pairs: &[Pair]) -> Result<Lattice, LatFault>
     ensures accepted { IfOk result (λ l. IsLatticeOf names.now pairs.now l) }
-    ensures refused { IfErr result (λ fault. FirstBroken names.now pairs.now fault) }
+    ensures refused { IfErr result (λ fault. fault ≢ LatFault.Memory → FirstBroken names.now pairs.now fault) }
 {
     check_names(names)?;
     let order = order_of(alloc, names, pairs)?;
@@ -66,9 +66,9 @@ impl Lattice {
     /// The lattice of these names, in the order that the pairs give.
     pub fn build(alloc: Global, names: &[Name], pairs: &[Pair]) -> Result<Lattice, LatFault>
         ensures accepted { IfOk result (λ l. IsLatticeOf names.now pairs.now l) }
-        ensures refused { IfErr result (λ fault. FirstBroken names.now pairs.now fault) }
+        ensures refused { IfErr result (λ fault. fault ≢ LatFault.Memory → FirstBroken names.now pairs.now fault) }
         ensures valid { KeepsAll names.now pairs.now → IsOkUnless result LatFault.Memory }
-        ensures exact { (fault : AnyFault) → fault ≢ LatFault.Memory → FirstBroken names.now pairs.now fault
+        ensures exact { (fault : AnyFault) → FirstBroken names.now pairs.now fault
             → IsErrOf result fault ⊎ IsErrOf result LatFault.Memory }
     {
         judge(alloc, names, pairs)

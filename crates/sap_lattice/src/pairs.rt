@@ -1,6 +1,6 @@
 // From names and pairs to the order that they give.
 
-ghost use Rattle.std.specs.Prelude.{◌≡◌, ◌<◌, ◌&&◌, ◌==◌, ℕ, nat_lt, IfOk, IfErr, IfNone, IfSome, OnOk, MatchOption, length};
+ghost use Rattle.std.specs.Prelude.{◌≡◌, ◌≢◌, ◌<◌, ◌&&◌, ◌==◌, ℕ, nat_lt, IfOk, IfErr, IfNone, IfSome, OnOk, MatchOption, length};
 ghost use Rattle.sap_lattice.specs.Related.{ArePlaces, IsUnknown, TellsPairs, TellsOrder};
 ghost use Rattle.sap_lattice.specs.Rows.{tells};
 ghost use Rattle.sap_lattice.specs.Rules.{BadPair, IsFirst, FirstBroken, KeepsNames, KeepsPairs};
@@ -26,7 +26,7 @@ fn relate_pairs(names: &[Name], pairs: &[Pair], order: &mut Relation) -> Result<
     requires names { KeepsNames names.now }
     requires equality { TellsPairs names.now pairs.now 0 order.old }
     ensures all { OnOk result (TellsPairs names.now pairs.now (length pairs.now) order.new) }
-    ensures broken { IfErr result (λ fault. FirstBroken names.now pairs.now fault) }
+    ensures broken { IfErr result (λ fault. fault ≢ LatFault.Memory → FirstBroken names.now pairs.now fault) }
 {
     for (k, pair) in pairs.iter().enumerate() {
         match places_of(names, pair) {
@@ -42,7 +42,7 @@ pub fn order_of(alloc: Global, names: &[Name], pairs: &[Pair]) -> Result<Relatio
     requires { KeepsNames names.now }
     ensures known { OnOk result (KeepsPairs names.now pairs.now) }
     ensures order { IfOk result (λ rows. TellsOrder names.now pairs.now rows) }
-    ensures broken { IfErr result (λ fault. FirstBroken names.now pairs.now fault) }
+    ensures broken { IfErr result (λ fault. fault ≢ LatFault.Memory → FirstBroken names.now pairs.now fault) }
 {
     let mut order = Relation::equality(alloc, names.len())?;
     relate_pairs(names, pairs, &mut order)?;

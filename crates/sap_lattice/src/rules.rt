@@ -1,6 +1,6 @@
 // The rules on the names and the pairs of a lattice.
 
-ghost use Rattle.std.specs.Prelude.{◌≡◌, ◌<◌, ◌↔◌, ◌||◌, ℕ, List, not, nat_lt, IsTrue, IfErr, OnOk, MatchOption, [], length, position, slice_index_or};
+ghost use Rattle.std.specs.Prelude.{◌≡◌, ◌≢◌, ◌<◌, ◌↔◌, ◌||◌, ℕ, List, not, nat_lt, IsTrue, IfErr, OnOk, MatchOption, [], length, position, slice_index_or};
 ghost use Rattle.std.specs.Str.{bytes_eq};
 ghost use Rattle.sap_lattice.specs.Words.{is_word, is_keyword};
 ghost use Rattle.sap_lattice.specs.Rules.{BadCount, BadLevel, IsFirst, FirstBroken, KeepsNames};
@@ -56,7 +56,7 @@ fn first_bad(names: &[Name]) -> Option<usize>
 /// Whether there are as many levels as a lattice may have, with names that they may have.
 pub fn check_names(names: &[Name]) -> Result<(), LatFault>
     ensures kept { OnOk result (KeepsNames names.now) }
-    ensures broken { IfErr result (λ fault. (pairs : List PairOfNames) → FirstBroken names.now pairs fault) }
+    ensures broken { IfErr result (λ fault. fault ≢ LatFault.Memory → (pairs : List PairOfNames) → FirstBroken names.now pairs fault) }
 {
     let count = names.len();
     if count < 2 || count > MOST_LEVELS {

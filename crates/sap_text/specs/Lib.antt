@@ -1,5 +1,6 @@
 pub mod Best
 pub mod Blanks
+pub mod Lines
 pub mod Names
 pub mod Places
 pub mod Runs

@@ -1,10 +1,11 @@
-use Rattle.std.proofs.Common.{◌≡◌, subst, List, ℕ}
+use Rattle.std.proofs.Common.{◌≡◌, ◌≢◌, subst, List, ℕ}
 use Rattle.std.proofs.lemmas.Result.{err_from_is_err_and}
 use Rattle.std.specs.Prelude.{MatchOption, Option, Vec}
 use Rattle.std.specs.declared.alloc.Global.{Global}
 use Rattle.toml.specs.View.{table_view}
 use Rattle.sap_lattice.specs.Rules.{FirstBroken}
 use Rattle.sap_lattice.specs.declared.fault.LatFault.{LatFault}
+use Rattle.sap_lattice.specs.declared.fault.LatFault.TheVariants as rule
 use Rattle.sap_lattice.specs.declared.pair.Pair.{Pair}
 use Rattle.sap_latfile.specs.Document.{Lists}
 use Rattle.sap_latfile.specs.LatticeFile.{IsFileOf}
@@ -24,6 +25,6 @@ returns-in_err-build-clause-refused c =
     let lists : Lists (table_view c.in_ok-table.table) names pairs = subst P c.in-Some.is c.in_ok-names.ensures in
     let file : IsFileOf c.args.bytes.now names pairs = record { document = table_view c.in_ok-table.table; is_document = c.in_ok-table.ensures.document; lists = lists } in
     let fault : LatFault = c.in_err-build.field-0.0 in
-    let Q : List (List ℕ) → Type 0 = λ ns. FirstBroken ns c.as_slice-2.result.now fault in
-    let R : List Pair → Type 0 = λ ps. FirstBroken names ps fault in
+    let Q : List (List ℕ) → Type 0 = λ ns. fault ≢ rule.Memory → FirstBroken ns c.as_slice-2.result.now fault in
+    let R : List Pair → Type 0 = λ ps. fault ≢ rule.Memory → FirstBroken names ps fault in
     rw (p.1, p.2) (wrapped_first c.args.bytes.now names pairs fault file (subst R pairs_are (subst Q names_are broken)))

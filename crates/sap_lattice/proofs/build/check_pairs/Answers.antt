@@ -7,7 +7,7 @@ use Rattle.sap_lattice.proofs.Judged.{same_first, cycle_at, cycle_from, no_join_
 use Rattle.sap_lattice.proofs.build.check_pairs.Goals as goal
 
 pub returns-in-Apart-clause-cycle : goal.returns-in-Apart-clause-cycle
-returns-in-Apart-clause-cycle c = λ is pairs told kept.
+returns-in-Apart-clause-cycle c = λ ne is pairs told kept.
     let names = c.args.names.now in
     let rows = c.args.order.now in
     let x = c.in-Some.x in
@@ -27,7 +27,7 @@ returns-in-Apart-clause-cycle c = λ is pairs told kept.
     )
 
 pub returns-in-Joined-clause-joinless : goal.returns-in-Joined-clause-joinless
-returns-in-Joined-clause-joinless c = λ is pairs told kept.
+returns-in-Joined-clause-joinless c = λ ne is pairs told kept.
     let names = c.args.names.now in
     let rows = c.args.order.now in
     let x = c.in-Some.x in

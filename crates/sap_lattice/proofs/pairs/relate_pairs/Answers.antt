@@ -4,7 +4,7 @@ use Rattle.sap_lattice.proofs.PairLemmas.{first_bad_pair, tells_more}
 use Rattle.sap_lattice.proofs.pairs.relate_pairs.Goals as goal
 
 pub returns-in-None-clause-broken : goal.returns-in-None-clause-broken
-returns-in-None-clause-broken c =
+returns-in-None-clause-broken c = λ ne.
     let first = first_bad_pair c.args.names.now c.args.pairs.now c.loop-k.order c.loop-k.k c.index-pairs-k.result c.loop-k.invariant
     (slice_get_read c.args.pairs.now _ c.loop-k.k c.index-pairs-k.result refl c.loop-k-test.true c.index-pairs-k.is)
     c.in-None.ensures in
