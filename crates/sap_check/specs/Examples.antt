@@ -1,6 +1,6 @@
 -- The check sites and points of small designs, worked out.
 use Rattle.std.specs.Prelude.{◌≡◌, ℕ, [], ◌∷◌, Some, codes}
-use Rattle.sap_tree.specs.Making.{at, spot, mention, numeral_at}
+use Rattle.sap_tree.specs.Making.{on, at, spot, mention, numeral_at}
 use Rattle.sap_tree.specs.declared.syntax.Decl.TheVariants.{Register}
 use Rattle.sap_tree.specs.Syntax.{variable, assign, go_to, fall_to_child, Command, lone, try, if_else, CommandBlock, with_else, state_node, no_state, and_state, DesignTree, and_command, no_command}
 use Rattle.sap_tree.specs.declared.version.Version.TheVariants.{One}
@@ -10,7 +10,7 @@ use Rattle.sap_check.specs.declared.site.SiteKind.{SiteKind}
 use Rattle.sap_check.specs.declared.site.SiteKind.TheVariants as sites
 use Rattle.sap_check.specs.Points.{point, points_of}
 use Rattle.sap_check.specs.Sites.{sites_of}
-use Rattle.sap_shape.specs.Examples.{number, block, one, low, leaf, home}
+use Rattle.sap_shape.specs.Examples.{number, block, one, low, leaf, home, decided}
 
 abbrev pub site : ℕ → SiteKind → ℕ → Site
 site column kind entity = record { place = at column; kind = kind; entity = entity }
@@ -58,3 +58,21 @@ NestedSites = sites_of nested ≡ site 25 sites.Fall 0 ∷ site 42 sites.Goto 0 
 
 abbrev pub NestedPoints : Type 0
 NestedPoints = points_of nested ≡ point points.Fall (at 25) ∷ point points.Otherwise (at 30) ∷ []
+
+-- The design of version 2 in `sap_shape`, `Examples`, with entities a, x, y, P and C. Sites stand at the first tokens of commands, also in the blocks of a `then` and of a `case`.
+abbrev pub site_on : (line column : ℕ) → SiteKind → ℕ → Site
+site_on l c kind entity = record { place = on l c; kind = kind; entity = entity }
+
+abbrev pub DecidedSites : Type 0
+DecidedSites = sites_of decided
+    ≡ site_on 3 1 sites.Write 2
+    ∷ site_on 3 31 sites.Fall 3
+    ∷ site_on 3 46 sites.Goto 3
+    ∷ site_on 4 13 sites.Write 2
+    ∷ site_on 4 42 sites.Goto 3
+    ∷ site_on 5 24 sites.Goto 4
+    ∷ []
+
+-- the `otherwise` behind the `then` is no point, but the one in its block is
+abbrev pub DecidedPoints : Type 0
+DecidedPoints = points_of decided ≡ point points.Then (on 3 8) ∷ point points.Case (on 3 15) ∷ point points.Fall (on 3 31) ∷ point points.Otherwise (on 4 20) ∷ []

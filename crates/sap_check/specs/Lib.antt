@@ -5,8 +5,3 @@ pub mod Checked
 pub mod Examples
 pub mod Faults
 pub mod SiteTexts
-pub use Rattle.sap_lattice.specs.Levels
-pub use Rattle.sap_names.specs.Entities
-pub use Rattle.sap_shape.specs.WellFormed
-pub use Rattle.sap_tree.specs.Designs
-pub use Rattle.sap_tree.specs.Syntax

@@ -12,7 +12,7 @@ use Rattle.sap_tree.specs.Trees.{arm_block_of, commands_of, states_of}
 use Rattle.sap_tree.specs.Touches.{Home, touches, is_dynamic_store, fall_touches}
 use Rattle.sap_tree.specs.Touches as tree
 use Rattle.sap_names.specs.declared.entity.Entity.{Entity}
-use Rattle.sap_hang.specs.declared.seat.Seat.{Seat}
+use Rattle.sap_hang.specs.declared.standing.Standing.{Standing}
 
 -- whether the entity of this name hangs on each of these commands of one body, and on each of the points
 abbrev pub touching : List Decl → Home → (name : List ℕ) → List Command → List Bool
@@ -21,11 +21,11 @@ touching ds h name cs = map (λ (c : Command). touches ds h c name) cs
 abbrev pub touching_at : List Decl → (name : List ℕ) → List Point → List Bool
 touching_at ds name ps = map (λ (p : Point). touches ds p.home p.command name) ps
 
-abbrev pub home_of : Seat → Home
+abbrev pub home_of : Standing → Home
 home_of s = record { name = s.state.now; kind = s.kind.now; children = states_of s.children.now }
 
 -- what is known of the entity is so
-abbrev pub Sees : Seat → Type 0
+abbrev pub Sees : Standing → Type 0
 Sees s = (s.store ≡ is_dynamic_store s.declarations.now s.entity.now)
     × (s.falls ≡ fall_touches s.declarations.now (states_of s.children.now) s.entity.now)
 

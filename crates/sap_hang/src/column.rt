@@ -8,19 +8,23 @@ ghost use Rattle.sap_tree.specs.Designs.{design_of};
 ghost use Rattle.sap_tree.specs.Touches as tree;
 ghost use Rattle.sap_tree.specs.Trees.{command_of, else_of, simple_of, state_of};
 
-use crate::seat::Seat;
+use crate::standing::Standing;
 use crate::touches::{fall_touches, is_dynamic_store, simple_touches};
 use sap_tree::design::Design;
 use sap_tree::name::Name;
 use sap_tree::syntax::{Arm, Block, Cmd, Decl, Simple, State};
 use std::alloc::{AllocError, Global};
 
-fn add_simple(seat: &Seat<'_>, command: &Simple, column: &mut Vec<bool>) -> Result<bool, AllocError>
-    requires { Sees seat.now }
-    ensures touched { IfOk result (λ b. b ≡ tree.simple_touches seat.now.declarations.now (home_of seat.now) (simple_of command.now) seat.now.entity.now) }
-    ensures column { OnOk result (column.new.items ≡ column.old.items ++ touching seat.now.declarations.now (home_of seat.now) seat.now.entity.now (points.simple_points (simple_of command.now))) }
+fn add_simple(
+    standing: &Standing<'_>,
+    command: &Simple,
+    column: &mut Vec<bool>,
+) -> Result<bool, AllocError>
+    requires { Sees standing.now }
+    ensures touched { IfOk result (λ b. b ≡ tree.simple_touches standing.now.declarations.now (home_of standing.now) (simple_of command.now) standing.now.entity.now) }
+    ensures column { OnOk result (column.new.items ≡ column.old.items ++ touching standing.now.declarations.now (home_of standing.now) standing.now.entity.now (points.simple_points (simple_of command.now))) }
 {
-    let touched = simple_touches(seat, command);
+    let touched = simple_touches(standing, command);
     if let Simple::Fall(_) = command {
         column.push(touched)?;
     }
@@ -29,18 +33,22 @@ fn add_simple(seat: &Seat<'_>, command: &Simple, column: &mut Vec<bool>) -> Resu
 
 #[cycle(body)]
 #[tactic(auto, using(sap_tree::proofs::Views::views, crate::proofs::Columns::blocks, crate::proofs::Walks::touching_rules))]
-fn add_command(seat: &Seat<'_>, command: &Cmd, column: &mut Vec<bool>) -> Result<bool, AllocError>
-    requires { Sees seat.now }
-    ensures touched { IfOk result (λ b. b ≡ tree.touches seat.now.declarations.now (home_of seat.now) (command_of command.now) seat.now.entity.now) }
-    ensures column { OnOk result (column.new.items ≡ column.old.items ++ touching seat.now.declarations.now (home_of seat.now) seat.now.entity.now (points.command_points (command_of command.now))) }
+fn add_command(
+    standing: &Standing<'_>,
+    command: &Cmd,
+    column: &mut Vec<bool>,
+) -> Result<bool, AllocError>
+    requires { Sees standing.now }
+    ensures touched { IfOk result (λ b. b ≡ tree.touches standing.now.declarations.now (home_of standing.now) (command_of command.now) standing.now.entity.now) }
+    ensures column { OnOk result (column.new.items ≡ column.old.items ++ touching standing.now.declarations.now (home_of standing.now) standing.now.entity.now (points.command_points (command_of command.now))) }
 {
     match command {
-        Cmd::Do(simple) => add_simple(seat, simple, column),
+        Cmd::Do(simple) => add_simple(standing, simple, column),
         Cmd::Try(simple, _, handler) => {
-            let own = add_simple(seat, simple, column)?;
+            let own = add_simple(standing, simple, column)?;
             let at = column.len();
             column.push(false)?;
-            let handled = add_list(seat, handler.commands.as_slice(), column)?;
+            let handled = add_list(standing, handler.commands.as_slice(), column)?;
             let touched = own | handled;
             column[at] = touched;
             Ok(touched)
@@ -48,18 +56,18 @@ fn add_command(seat: &Seat<'_>, command: &Cmd, column: &mut Vec<bool>) -> Result
         Cmd::If(_, _, one, other) => {
             let at = column.len();
             column.push(false)?;
-            let taken = add_list(seat, one.commands.as_slice(), column)?;
-            let left = add_else(seat, other, column)?;
+            let taken = add_list(standing, one.commands.as_slice(), column)?;
+            let left = add_else(standing, other, column)?;
             let touched = taken | left;
             column[at] = touched;
             Ok(touched)
         }
         Cmd::TryThen(simple, _, accepted, refused) => {
-            let own = add_simple(seat, simple, column)?;
+            let own = add_simple(standing, simple, column)?;
             let at = column.len();
             column.push(false)?;
-            let taken = add_list(seat, accepted.commands.as_slice(), column)?;
-            let left = add_list(seat, refused.commands.as_slice(), column)?;
+            let taken = add_list(standing, accepted.commands.as_slice(), column)?;
+            let left = add_list(standing, refused.commands.as_slice(), column)?;
             let touched = own | (taken | left);
             column[at] = touched;
             Ok(touched)
@@ -67,8 +75,8 @@ fn add_command(seat: &Seat<'_>, command: &Cmd, column: &mut Vec<bool>) -> Result
         Cmd::Case(_, _, arms, last) => {
             let at = column.len();
             column.push(false)?;
-            let taken = add_arms(seat, arms.as_slice(), column)?;
-            let left = add_list(seat, last.commands.as_slice(), column)?;
+            let taken = add_arms(standing, arms.as_slice(), column)?;
+            let left = add_list(standing, last.commands.as_slice(), column)?;
             let touched = taken | left;
             column[at] = touched;
             Ok(touched)
@@ -79,14 +87,18 @@ fn add_command(seat: &Seat<'_>, command: &Cmd, column: &mut Vec<bool>) -> Result
 /// The arms of a `case`, without the block after `else`.
 #[cycle(body)]
 #[tactic(auto, using(crate::proofs::Columns::lists))]
-fn add_arms(seat: &Seat<'_>, arms: &[Arm], column: &mut Vec<bool>) -> Result<bool, AllocError>
-    requires { Sees seat.now }
-    ensures touched { IfOk result (λ b. b ≡ columns.arms_touch seat.now.declarations.now (home_of seat.now) arms.now seat.now.entity.now) }
-    ensures column { OnOk result (column.new.items ≡ column.old.items ++ columns.arms_column seat.now.declarations.now (home_of seat.now) seat.now.entity.now arms.now) }
+fn add_arms(
+    standing: &Standing<'_>,
+    arms: &[Arm],
+    column: &mut Vec<bool>,
+) -> Result<bool, AllocError>
+    requires { Sees standing.now }
+    ensures touched { IfOk result (λ b. b ≡ columns.arms_touch standing.now.declarations.now (home_of standing.now) arms.now standing.now.entity.now) }
+    ensures column { OnOk result (column.new.items ≡ column.old.items ++ columns.arms_column standing.now.declarations.now (home_of standing.now) standing.now.entity.now arms.now) }
 {
     let mut touched = false;
     for arm in arms {
-        let here = add_list(seat, arm.block.commands.as_slice(), column)?;
+        let here = add_list(standing, arm.block.commands.as_slice(), column)?;
         touched |= here;
     }
     Ok(touched)
@@ -95,30 +107,34 @@ fn add_arms(seat: &Seat<'_>, arms: &[Arm], column: &mut Vec<bool>) -> Result<boo
 #[cycle(body)]
 #[tactic(auto, using(crate::proofs::Columns::blocks, crate::proofs::Walks::touching_rules))]
 fn add_else(
-    seat: &Seat<'_>,
+    standing: &Standing<'_>,
     other: &Option<Block>,
     column: &mut Vec<bool>,
 ) -> Result<bool, AllocError>
-    requires { Sees seat.now }
-    ensures touched { IfOk result (λ b. b ≡ tree.else_touches seat.now.declarations.now (home_of seat.now) (else_of other.now) seat.now.entity.now) }
-    ensures column { OnOk result (column.new.items ≡ column.old.items ++ touching seat.now.declarations.now (home_of seat.now) seat.now.entity.now (points.else_points (else_of other.now))) }
+    requires { Sees standing.now }
+    ensures touched { IfOk result (λ b. b ≡ tree.else_touches standing.now.declarations.now (home_of standing.now) (else_of other.now) standing.now.entity.now) }
+    ensures column { OnOk result (column.new.items ≡ column.old.items ++ touching standing.now.declarations.now (home_of standing.now) standing.now.entity.now (points.else_points (else_of other.now))) }
 {
     match other {
-        Some(block) => add_list(seat, block.commands.as_slice(), column),
+        Some(block) => add_list(standing, block.commands.as_slice(), column),
         None => Ok(false),
     }
 }
 
 #[cycle(body)]
 #[tactic(auto, using(crate::proofs::Columns::lists))]
-fn add_list(seat: &Seat<'_>, commands: &[Cmd], column: &mut Vec<bool>) -> Result<bool, AllocError>
-    requires { Sees seat.now }
-    ensures touched { IfOk result (λ b. b ≡ columns.list_touches seat.now.declarations.now (home_of seat.now) commands.now seat.now.entity.now) }
-    ensures column { OnOk result (column.new.items ≡ column.old.items ++ columns.list_column seat.now.declarations.now (home_of seat.now) seat.now.entity.now commands.now) }
+fn add_list(
+    standing: &Standing<'_>,
+    commands: &[Cmd],
+    column: &mut Vec<bool>,
+) -> Result<bool, AllocError>
+    requires { Sees standing.now }
+    ensures touched { IfOk result (λ b. b ≡ columns.list_touches standing.now.declarations.now (home_of standing.now) commands.now standing.now.entity.now) }
+    ensures column { OnOk result (column.new.items ≡ column.old.items ++ columns.list_column standing.now.declarations.now (home_of standing.now) standing.now.entity.now commands.now) }
 {
     let mut touched = false;
     for command in commands {
-        let here = add_command(seat, command, column)?;
+        let here = add_command(standing, command, column)?;
         touched |= here;
     }
     Ok(touched)
@@ -137,7 +153,7 @@ fn add_state(
     ensures { OnOk result (column.new.items ≡ column.old.items ++ touching_at declarations.now entity.now (points.state_points (state_of state.now))) }
 {
     let children = state.children.as_slice();
-    let seat = Seat {
+    let standing = Standing {
         declarations,
         entity,
         store,
@@ -146,7 +162,7 @@ fn add_state(
         children,
         falls: fall_touches(store, children, entity),
     };
-    add_list(&seat, state.body.commands.as_slice(), column)?;
+    add_list(&standing, state.body.commands.as_slice(), column)?;
     add_states(declarations, entity, store, children, column)
 }
 

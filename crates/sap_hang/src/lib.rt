@@ -5,7 +5,7 @@ mod assigns;
 mod column;
 pub mod hang;
 pub mod root;
-mod seat;
+mod standing;
 pub mod table;
 mod touches;
 

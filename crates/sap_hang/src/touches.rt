@@ -7,21 +7,15 @@ ghost use Rattle.sap_tree.specs.Touches as tree;
 ghost use Rattle.sap_tree.specs.Trees.{simple_of, states_of};
 
 use crate::assigns::{simple_assigns, states_assign};
-use crate::seat::Seat;
+use crate::standing::Standing;
 use sap_tree::name::Name;
 use sap_tree::syntax::{Decl, Kind, Simple, State};
-
-fn is_dynamic(kind: &Kind) -> bool
-    ensures { result ≡ tree.is_dynamic_kind kind.now }
-{
-    matches!(kind, Kind::Dynamic(_))
-}
 
 // Whether what has this name and kind is the dynamic entity that is wanted.
 fn is_dynamic_named(name: &Name, kind: &Kind, wanted: &Name) -> bool
     ensures { result ≡ (bytes_eq name.now wanted.now && tree.is_dynamic_kind kind.now) }
 {
-    name.same(wanted) && is_dynamic(kind)
+    name.same(wanted) && kind.is_dynamic()
 }
 
 fn declares_dynamic(declaration: &Decl, name: &Name) -> bool
@@ -59,16 +53,16 @@ pub(crate) fn fall_touches(store: bool, states: &[State], name: &Name) -> bool
 
 /// Whether a command that can have a handler touches the entity.
 #[tactic(auto, unfolding(sap_tree::specs::Touches::simple_touches))]
-pub(crate) fn simple_touches(seat: &Seat<'_>, command: &Simple) -> bool
-    requires { Sees seat.now }
-    ensures { result ≡ tree.simple_touches seat.now.declarations.now (home_of seat.now) (simple_of command.now) seat.now.entity.now }
+pub(crate) fn simple_touches(standing: &Standing<'_>, command: &Simple) -> bool
+    requires { Sees standing.now }
+    ensures { result ≡ tree.simple_touches standing.now.declarations.now (home_of standing.now) (simple_of command.now) standing.now.entity.now }
 {
     match command {
-        Simple::Assign(_, _) => seat.store && simple_assigns(command, seat.entity),
-        Simple::Write(_, _, _) => seat.store && simple_assigns(command, seat.entity),
+        Simple::Assign(_, _) => standing.store && simple_assigns(command, standing.entity),
+        Simple::Write(_, _, _) => standing.store && simple_assigns(command, standing.entity),
         Simple::SetTag(_, _, _) => false,
         Simple::SetCellTag(_, _, _, _) => false,
-        Simple::Goto(_, _) => is_dynamic(seat.kind) && seat.state.same(seat.entity),
-        Simple::Fall(_) => seat.falls,
+        Simple::Goto(_, _) => standing.kind.is_dynamic() && standing.state.same(standing.entity),
+        Simple::Fall(_) => standing.falls,
     }
 }

@@ -1,5 +1,5 @@
 -- A text has at most one list of tokens, or at most one place where no token begins, and not both.
-use Rattle.std.proofs.Common.{◌≡◌, ◌<◌, ◌+◌, ℕ, List, [], ◌∷◌, length, length-take, take, drop, Bool, true, false, Option, Some, None, refl, sym, ap, subst, ◌∙◌, arith}
+use Rattle.std.proofs.Common.{◌≡◌, ◌≢◌, ◌<◌, ◌+◌, ℕ, List, [], ◌∷◌, length, length-take, take, drop, Bool, true, false, Option, Some, None, refl, sym, ap, subst, ◌∙◌, arith}
 use Rattle.std.proofs.lemmas.Bool.Decides.{nat_tests}
 use Rattle.std.proofs.lemmas.Grind.{common_steps}
 use Rattle.std.specs.Prelude.{slice_index, ◌==◌}
@@ -7,7 +7,7 @@ use Rattle.std.specs.Char.{is_ascii_digit}
 use Rattle.std.specs.Str.{byte}
 use Rattle.sap_tree.specs.Words.{is_initial}
 use Rattle.sap_lex.specs.Lexemes.{lexeme_of, name_at, number_at, number_lexeme, sized_at, sized_in, sized_lexeme, sign_at, sign_or, word_or_name}
-use Rattle.sap_lex.specs.Lexing.{AreTokens, IsBadAt, IsBlankAt, StandsAt, keyed}
+use Rattle.sap_lex.specs.Lexing.{AreTokens, IsBadAt, IsBlankAt, IsLexFault, StandsAt, keyed}
 use Rattle.sap_text.specs.Places.{place_at}
 use Rattle.sap_tree.specs.declared.version.Version.TheVariants as v
 use Rattle.sap_lex.specs.Spelling.{sign_of}
@@ -15,6 +15,8 @@ use Rattle.sap_text.specs.Blanks.{is_blank, is_comment}
 use Rattle.sap_text.specs.Runs.{run}
 use Rattle.sap_text.specs.declared.scan.Class.TheVariants as c
 use Rattle.sap_text.specs.declared.scan.Class.{Class}
+use Rattle.sap_lex.specs.declared.fault.ReadFault.TheVariants as f
+use Rattle.sap_lex.specs.declared.fault.ReadFault.{ReadFault}
 use Rattle.sap_lex.specs.declared.lexeme.Lexeme.TheVariants.{Blank, Token, Bad}
 use Rattle.sap_lex.specs.declared.lexeme.Lexeme.{Lexeme}
 use Rattle.sap_lex.specs.declared.token.Kind.{Kind}
@@ -155,3 +157,20 @@ pub not_bad : (text : List ℕ) (ts : List TokenOf) (p : _) → AreTokens text t
 not_bad text ts p a b =
     let same : length text ≡ b.at = (reached.one_end (IsBlankAt text) (StandsAt text) (lexer text) a.reached b.before (text_end text) (bad_end text b.at b.bad)).0 in
     let within = b.within in omega arith
+
+-- the same of faults
+
+pub one_fault : (text : List ℕ) (one other : ReadFault) → IsLexFault text one → IsLexFault text other → one ≡ other
+one_fault text (f.E1 p) (f.E1 q) a b = ap f.E1 (one_place text p q a b)
+one_fault text (f.E1 p) (f.E2 q) a b = absurd b
+one_fault text (f.E1 p) (f.E18 q limit) a b = absurd b
+one_fault text (f.E1 p) f.Memory a b = absurd b
+one_fault text (f.E2 p) other a b = absurd a
+one_fault text (f.E18 p limit) other a b = absurd a
+one_fault text f.Memory other a b = absurd a
+
+pub not_both : (text : List ℕ) (tokens : List TokenOf) (fault : ReadFault) → AreTokens text tokens → IsLexFault text fault → ⊥
+not_both text tokens (f.E1 place) a b = not_bad text tokens place a b
+not_both text tokens (f.E2 place) a b = b
+not_both text tokens (f.E18 place limit) a b = b
+not_both text tokens f.Memory a b = b

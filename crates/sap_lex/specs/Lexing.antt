@@ -114,7 +114,7 @@ abbrev pub IsLexFault : List ℕ → ReadFault → Type 0
 IsLexFault text (f.E1 place) = IsBadAt text place
 IsLexFault text (f.E2 place) = ⊥
 IsLexFault text (f.E18 place limit) = ⊥
-IsLexFault text f.Memory = Unit {0}
+IsLexFault text f.Memory = ⊥
 
 -- a lexeme is no longer than the text
 abbrev pub IsWithin : List ℕ → Lexeme → Type 0

@@ -1,6 +1,6 @@
 //! The tokens of a text.
 
-ghost use Rattle.std.specs.Prelude.{IfErr, IfOk, length};
+ghost use Rattle.std.specs.Prelude.{◌≢◌, IfErr, IfOk, List, length};
 ghost use Rattle.std.specs.List.{All};
 ghost use Rattle.sap_lex.specs.Lexing.{AreTokens, IsLexFault, version_of};
 ghost use Rattle.sap_lex.specs.Spelled.{AreInOrder, HasText};
@@ -12,12 +12,14 @@ use crate::token::{Token, Tokens};
 use sap_tree::place::Place;
 use std::alloc::Global;
 
-/// The tokens of a text.
+/// The tokens of a text, or E1 where it has none.
 pub fn lex(alloc: Global, text: &[u8]) -> Result<Tokens, ReadFault>
     ensures ok { IfOk result (AreTokens text.now) }
     ensures texts { IfOk result (λ tokens. All (HasText (version_of tokens) text.now) tokens) }
     ensures order { IfOk result (AreInOrder 0 (length text.now)) }
-    ensures fault { IfErr result (IsLexFault text.now) }
+    ensures fault { IfErr result (λ fault. fault ≢ ReadFault.Memory → IsLexFault text.now fault) }
+    ensures faultless { IfOk result (λ _. (fault : ReadFault) → IsLexFault text.now fault → ⊥) }
+    ensures refused { IfErr result (λ fault. fault ≢ ReadFault.Memory → (tokens : List Token) → AreTokens text.now tokens → ⊥) }
 {
     let mut tokens = Vec::new(alloc);
     let mut n = 0;

@@ -5,6 +5,7 @@
 
 pub mod fault;
 mod key;
+pub mod law;
 mod lexeme;
 mod lexer;
 pub mod limit;

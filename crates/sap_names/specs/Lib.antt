@@ -7,6 +7,3 @@ pub mod NameFaults
 pub mod Examples
 pub mod Lists
 pub mod Index
-pub use Rattle.sap_lattice.specs.Levels
-pub use Rattle.sap_tree.specs.Designs
-pub use Rattle.sap_tree.specs.Trees

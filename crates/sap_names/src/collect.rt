@@ -13,15 +13,6 @@ use sap_tree::name::Mention;
 use sap_tree::syntax::{Decl, Kind, State};
 use std::alloc::{AllocError, Global};
 
-fn is_dynamic(kind: &Kind) -> bool
-    ensures { result ≡ spec.is_dynamic_kind kind.now }
-{
-    match kind {
-        Kind::Dynamic(_) => true,
-        Kind::Enforced(_, _) => false,
-    }
-}
-
 fn copy(alloc: Global, mention: &Mention) -> Result<Mention, AllocError>
     ensures { IfOk result (λ m. m ≡ mention.now) }
 {
@@ -57,13 +48,13 @@ fn declared(alloc: Global, declaration: &Decl) -> Result<Entity, AllocError>
             alloc,
             name,
             Declared::Register(width.value),
-            is_dynamic(kind),
+            kind.is_dynamic(),
         ),
         Decl::Memory(_, name, width, depth, kind) => entity(
             alloc,
             name,
             Declared::Memory(width.value, depth.value),
-            is_dynamic(kind),
+            kind.is_dynamic(),
         ),
     }
 }
@@ -87,7 +78,7 @@ fn add_declarations(
 fn add_state(alloc: Global, state: &State, list: &mut Vec<Entity>) -> Result<(), AllocError>
     ensures { OnOk result (list.new.items ≡ list.old.items ++ spec.state_entities (state_of state.now)) }
 {
-    list.push(entity(alloc, &state.name, Declared::State, is_dynamic(&state.kind))?)?;
+    list.push(entity(alloc, &state.name, Declared::State, state.kind.is_dynamic())?)?;
     add_states(alloc, state.children.as_slice(), list)
 }
 

@@ -10,7 +10,7 @@ use crate::kind::{Declared, Family};
 use sap_tree::syntax::{BinaryOperator, Expr, UnaryOperator};
 
 /// A width as it is written, where it is from 1 to 64 bits; else none.
-pub fn sound_width(width: u64) -> Option<u64>
+pub(crate) fn sound_width(width: u64) -> Option<u64>
     ensures { result ≡ spec.sound_width width }
 {
     if 1 <= width && width <= 64 {
@@ -21,7 +21,7 @@ pub fn sound_width(width: u64) -> Option<u64>
 }
 
 /// The bits of the index of a memory of this depth, from 1 to 12; none where the depth is no power of two from 2 to 4096.
-pub fn index_bits(depth: u64) -> Option<u64>
+pub(crate) fn index_bits(depth: u64) -> Option<u64>
     ensures { result ≡ spec.index_bits depth }
 {
     if depth.is_power_of_two() && 2 <= depth && depth <= 4096 {
@@ -32,7 +32,7 @@ pub fn index_bits(depth: u64) -> Option<u64>
 }
 
 /// The bits of what a plain name reads; none where it is no input and no register, or one without a sound width.
-pub fn plain_width(what: Option<Declared>) -> Option<u64>
+pub(crate) fn plain_width(what: Option<Declared>) -> Option<u64>
     ensures { result ≡ spec.plain_width what }
 {
     match what {
@@ -94,7 +94,7 @@ pub fn else_of(width: Option<u64>, other: Option<u64>) -> Option<u64>
 }
 
 /// The bits of an operand widened to `width` bits; none where the operand has none, more than `width`, or `width` is over 64.
-pub fn extended(from: Option<u64>, width: u64) -> Option<u64>
+pub(crate) fn extended(from: Option<u64>, width: u64) -> Option<u64>
     ensures { result ≡ spec.extended from width }
 {
     match from {
@@ -110,7 +110,7 @@ pub fn extended(from: Option<u64>, width: u64) -> Option<u64>
 }
 
 /// The bits of the slice `[high:low]` of an operand; none where the operand has none, or not these bits.
-pub fn sliced(from: Option<u64>, high: u64, low: u64) -> Option<u64>
+pub(crate) fn sliced(from: Option<u64>, high: u64, low: u64) -> Option<u64>
     ensures { result ≡ spec.sliced from high low }
 {
     match from {
@@ -126,7 +126,7 @@ pub fn sliced(from: Option<u64>, high: u64, low: u64) -> Option<u64>
 }
 
 /// The bits of two parts together; none where a part has none, or they are over 64.
-pub fn joined(front: Option<u64>, back: Option<u64>) -> Option<u64>
+pub(crate) fn joined(front: Option<u64>, back: Option<u64>) -> Option<u64>
     ensures { result ≡ spec.joined front back }
 {
     match front {
@@ -178,7 +178,7 @@ fn own_binary(family: Family, left: Option<u64>, right: Option<u64>) -> Option<u
 }
 
 /// Whether an operator makes one bit of all of its operand's.
-pub fn is_reduction(operator: UnaryOperator) -> bool
+pub(crate) fn is_reduction(operator: UnaryOperator) -> bool
     ensures { result ≡ spec.is_reduction operator }
 {
     match operator {
@@ -253,7 +253,7 @@ pub fn asked_one(operator: UnaryOperator, whole: Option<u64>) -> Option<u64>
 /// The own width of an expression; none where it has none.
 #[cycle(own)]
 #[tactic(auto, using(sap_tree::proofs::Views::views))]
-pub fn own(names: &Entities, e: &Expr) -> Option<u64>
+pub(crate) fn own(names: &Entities, e: &Expr) -> Option<u64>
     ensures { result ≡ spec.own (what_is names.now) (expression_of e.now) }
 {
     match e {

@@ -73,10 +73,10 @@ pub fault_over : (text : List ℕ) (ts : List Token) (p : Stage) (limit : Limit)
     → IsReadFault text (f.E18 (fault_place text p.left) limit)
 fault_over text ts p limit fits lexed e = over fits lexed (over_there ts p limit e)
 
-pub fault_lexed : (text : List ℕ) (e : ReadFault) → length text ≤ most_bytes → IsLexFault text e → e ≢ f.Memory → IsReadFault text e
-fault_lexed text (f.E1 place) fits h known = no_token fits h
-fault_lexed text (f.E2 place) fits h known = absurd h
-fault_lexed text (f.E18 place limit) fits h known = absurd h
+pub fault_lexed : (text : List ℕ) (e : ReadFault) → length text ≤ most_bytes → (e ≢ f.Memory → IsLexFault text e) → e ≢ f.Memory → IsReadFault text e
+fault_lexed text (f.E1 place) fits h known = no_token fits (h known)
+fault_lexed text (f.E2 place) fits h known = absurd (h known)
+fault_lexed text (f.E18 place limit) fits h known = absurd (h known)
 fault_lexed text f.Memory fits h known = absurd (known refl)
 
 pub text_is : (text : List ℕ) (ts : List Token) (p q : Stage) (x : DesignTree) → length text ≤ most_bytes → AreTokens text ts → p ≡ at_start ts → Design p x q → q.left ≡ []

@@ -11,7 +11,3 @@ pub mod Rows
 pub mod CommandRows
 pub mod DesignRows
 pub mod Text
-pub use Rattle.sap_tree.specs.Designs
-pub use Rattle.sap_tree.specs.Parts
-pub use Rattle.sap_tree.specs.Syntax
-pub use Rattle.sap_tree.specs.Trees

@@ -4,7 +4,6 @@ ghost use Rattle.std.specs.Prelude.{◌≡◌};
 ghost use Rattle.sap_parse.specs.Choices.{command_head, declaration_head, of_precedence, operator_at, primary_of, sign_primary, tag_head, unary_at, unary_operator_of, word_command, word_declaration, word_primary, word_tag};
 ghost use Rattle.sap_parse.specs.Grammar.{sign_of, unary_sign_of};
 ghost use Rattle.sap_parse.specs.Table.{operator_of};
-ghost use Rattle.sap_tree.specs.Precedence.{precedence};
 
 use crate::cursor::Ahead;
 use sap_lex::token::Sign;
@@ -105,21 +104,6 @@ fn operator_of(sign: Sign) -> Option<BinaryOperator>
     }
 }
 
-fn precedence(operator: BinaryOperator) -> u32
-    ensures { result ≡ precedence operator }
-{
-    match operator {
-        BinaryOperator::Or => 1,
-        BinaryOperator::Xor => 2,
-        BinaryOperator::And => 3,
-        BinaryOperator::Eq | BinaryOperator::Ne => 4,
-        BinaryOperator::Lt | BinaryOperator::Le => 5,
-        BinaryOperator::Shl | BinaryOperator::Shr => 6,
-        BinaryOperator::Add | BinaryOperator::Sub => 7,
-        BinaryOperator::Mul => 8,
-    }
-}
-
 pub(crate) fn sign_of(operator: BinaryOperator) -> Sign
     ensures { result ≡ sign_of operator }
 {
@@ -143,7 +127,7 @@ fn of_precedence(level: u32, operator: Option<BinaryOperator>) -> Option<BinaryO
     ensures { result ≡ of_precedence level operator }
 {
     match operator {
-        Some(operator) => (precedence(operator) == level).then_some(operator),
+        Some(operator) => (operator.precedence() == level).then_some(operator),
         None => None,
     }
 }

@@ -8,6 +8,7 @@ use Rattle.sap_tree.specs.Parts.{tree_of}
 use Rattle.sap_tree.specs.declared.version.Version.{Version}
 use Rattle.sap_tree.specs.Syntax.{StateTree}
 use Rattle.sap_tree.proofs.Views.{state_of-out}
+use Rattle.sap_names.proofs.Weights.{state_weight, states_weight}
 use Rattle.sap_names.specs.declared.fault.Fault.{Fault}
 use Rattle.sap_names.specs.Best.{best_of}
 use Rattle.sap_names.specs.declared.entity.Entity.{Entity}
@@ -95,6 +96,9 @@ pub design_is : (v : Version) (ds : List Decl) (ss ts us rs : List State) (es : 
 unfolding group_shape second_states
 design_is v ds ss ts us rs es above w a b c d e f = rw (a, b, c, d, e, f) refl
 
-pub ruleset states = (state_shape-is, state_falling, state_staying)
+pub state_weight-is : (s : State) → state_weight (state_of s) ≡ states_weight (states_of (out-State s).children.items) + 1
+state_weight-is s = ap state_weight (state_of-out s)
+
+pub ruleset states = (state_shape-is, state_falling, state_staying, state_weight-is)
 
 pub ruleset groups = (group_shape-past, second_states-past)

@@ -1,4 +1,3 @@
-pub mod Weights
 pub mod Members
 pub mod Opens
 pub mod Bodies

@@ -1,6 +1,6 @@
 -- On what stands in WellFormed: what several crates cite.
 use Rattle.std.proofs.Common.{List, inl, inr, subst}
-use Rattle.sap_names.specs.Levels.{Levels}
+use Rattle.sap_lattice.specs.Levels.{Levels}
 use Rattle.sap_names.specs.Fault.{StandsIn}
 use Rattle.sap_names.specs.declared.fault.Fault.{Fault}
 use Rattle.sap_shape.specs.WellFormed.{IsFirstFault, WellFormed}

@@ -1,16 +1,21 @@
 -- Worked examples of the faults of shape.
 use Rattle.std.specs.Prelude.{◌+◌, ℕ, List, [], ◌∷◌, None, codes}
-use Rattle.sap_tree.specs.Making.{at, spot, mention, numeral_at}
+use Rattle.sap_text.specs.declared.place.Place.{Place}
+use Rattle.sap_tree.specs.Making.{on, at, spot, mention, numeral_at, commands}
 use Rattle.sap_tree.specs.declared.syntax.Kind.{Kind}
 use Rattle.sap_tree.specs.declared.syntax.Kind.TheVariants.{Dynamic, Enforced}
-use Rattle.sap_tree.specs.declared.syntax.Decl.TheVariants.{Register, Memory}
-use Rattle.sap_tree.specs.Syntax.{Expression, literal, level_of, assign, write, set_tag, go_to, fall_to_child, Command, lone, try, if_else, CommandBlock, command_block, no_else, with_else, CommandList, no_command, and_command, StateTree, state_node, no_state, and_state, DesignTree}
-use Rattle.sap_tree.specs.declared.version.Version.TheVariants.{One}
+use Rattle.sap_tree.specs.declared.syntax.Decl.TheVariants.{Input, Register, Memory}
+use Rattle.sap_tree.specs.Syntax.{Expression, literal, variable, no_part, and_part, level_of, SimpleCommand, assign, write, set_tag, go_to, fall_to_child, Command, lone, try, if_else, try_then, case_of, last_arm, and_arm, CommandBlock, command_block, no_else, with_else, CommandList, no_command, and_command, StateTree, state_node, no_state, and_state, DesignTree}
+use Rattle.sap_tree.specs.declared.version.Version.{Version}
+use Rattle.sap_tree.specs.declared.version.Version.TheVariants.{One, Two}
+use Rattle.sap_lattice.specs.Examples.{low_high}
 use Rattle.sap_names.specs.declared.fault.Fault.{Fault}
 use Rattle.sap_names.specs.declared.kind.Code.TheVariants.{E10, E11, E12, E14, E15, E16, E17}
 use Rattle.sap_names.specs.Examples.{fault}
 use Rattle.sap_names.specs.Fault.{StandsIn}
+use Rattle.sap_shape.specs.Paths as paths
 use Rattle.sap_shape.specs.ShapeFaults.{IsShapeFault}
+use Rattle.sap_shape.specs.WellFormed.{WellFormed}
 
 abbrev pub number : ℕ → ℕ → Expression
 number column n = literal (spot (at column)) n
@@ -27,13 +32,20 @@ low = Enforced (mention (at 2) (codes "low")) None
 abbrev pub leaf : List ℕ → Kind → CommandBlock → StateTree
 leaf name kind body = state_node (at 1) (mention (at 1) name) kind body no_state
 
-abbrev pub design : CommandBlock → DesignTree
-design body = record {
-  version = One;
-  declarations = Memory (at 1) (mention (at 5) (codes "m")) (numeral_at (at 9) 8) (numeral_at (at 11) 4) (Dynamic (at 12))
-      ∷ Register (at 13) (mention (at 14) (codes "x")) (numeral_at (at 15) 8) (Dynamic (at 16)) None ∷ [];
-  states = and_state (leaf (codes "S") low body) no_state;
+-- mem m : 8[4] KIND; reg x : 8 KIND; state S KIND { .. }
+abbrev pub one_state : Version → (register state : Kind) → CommandBlock → DesignTree
+one_state version register state body = record {
+  version = version;
+  declarations = Memory (at 1) (mention (at 5) (codes "m")) (numeral_at (at 9) 8) (numeral_at (at 11) 4) register
+      ∷ Register (at 13) (mention (at 14) (codes "x")) (numeral_at (at 15) 8) register None ∷ [];
+  states = and_state (leaf (codes "S") state body) no_state;
 }
+
+abbrev pub dynamic : Kind
+dynamic = Dynamic (at 12)
+
+abbrev pub design : CommandBlock → DesignTree
+design body = one_state One dynamic low body
 
 abbrev pub writes : ℕ → Command
 writes column = lone (write (mention (at column) (codes "m")) (number (column + 2) 0) (number (column + 6) 1))
@@ -41,9 +53,12 @@ writes column = lone (write (mention (at column) (codes "m")) (number (column + 
 abbrev pub home : ℕ → Command
 home column = lone (go_to (at column) (mention (at (column + 5)) (codes "S")))
 
--- the faults of shape of a design of that body are these
+-- the faults of shape of a design, and of one of that body, are these
+abbrev pub FaultsOf : DesignTree → List Fault → Type 0
+FaultsOf d fs = (f : Fault) → (IsShapeFault d f → StandsIn f fs) × (StandsIn f fs → IsShapeFault d f)
+
 abbrev pub Faults : CommandBlock → List Fault → Type 0
-Faults body fs = (f : Fault) → (IsShapeFault (design body) f → StandsIn f fs) × (StandsIn f fs → IsShapeFault (design body) f)
+Faults body fs = FaultsOf (design body) fs
 
 -- m[0] := 1; m[1] := 2; goto S;
 abbrev pub TwiceWritten : Type 0
@@ -79,3 +94,85 @@ DynamicRetagged = Faults (block 90 (and_command (lone (set_tag (at 20) (mention 
 
 abbrev pub ItselfRetagged : Type 0
 ItselfRetagged = Faults (block 90 (and_command (lone (set_tag (at 20) (mention (at 27) (codes "S")) (level_of (mention (at 30) (codes "low"))))) (and_command (home 60) no_command))) (fault E17 27 ∷ [])
+
+-- Version 2.
+
+abbrev pub empty : ℕ → CommandBlock
+empty after = block after no_command
+
+abbrev pub sets : ℕ → SimpleCommand
+sets column = assign (mention (at column) (codes "x")) (number (column + 5) 1)
+
+-- k then { A } otherwise { B } goto S;
+abbrev pub deciding : SimpleCommand → (accepted refused : CommandBlock) → CommandBlock
+deciding k accepted refused = block 90 (and_command (try_then k (at 27) accepted refused) (and_command (home 80) no_command))
+
+-- x := 1 then { } otherwise { } goto S; where x is dynamic
+abbrev pub NeverRefusedWithThen : Type 0
+NeverRefusedWithThen = FaultsOf (one_state Two dynamic low (deciding (sets 20) (empty 34) (empty 48))) (fault E15 27 ∷ [])
+
+-- the same where x is enforced, and a write of one memory in each block; and with another one behind
+abbrev pub WrittenInEitherBlock : Type 0
+WrittenInEitherBlock = FaultsOf (one_state Two low low (deciding (sets 20) (one 45 (writes 34)) (one 70 (writes 60)))) []
+
+abbrev pub WrittenBehindABlock : Type 0
+WrittenBehindABlock = FaultsOf
+    (one_state Two low low (block 90
+    (and_command (try_then (sets 20) (at 27) (empty 34) (one 58 (writes 48))) (and_command (writes 60) (and_command (home 80) no_command)))))
+    (fault E14 60 ∷ [])
+
+-- goto S then { } otherwise { } of a dynamic state: E10 at the `then`, and nothing else
+abbrev pub GotoWithThen : Type 0
+GotoWithThen = FaultsOf (one_state Two dynamic dynamic (one 90 (try_then (go_to (at 20) (mention (at 25) (codes "S"))) (at 27) (empty 34) (empty 48)))) (fault E10 27 ∷ [])
+
+-- to no sibling, and a `fall` in a leaf: also what stands without the `then`
+abbrev pub ToNoSiblingWithThen : Type 0
+ToNoSiblingWithThen =
+    FaultsOf (one_state Two dynamic low (one 90 (try_then (go_to (at 20) (mention (at 25) (codes "T"))) (at 27) (empty 34) (empty 48)))) (fault E10 27 ∷ fault E11 25 ∷ [])
+
+abbrev pub FallsInLeafWithThen : Type 0
+FallsInLeafWithThen = FaultsOf (one_state Two dynamic low (one 90 (try_then (fall_to_child (at 20)) (at 25) (empty 34) (empty 48)))) (fault E10 25 ∷ fault E12 20 ∷ [])
+
+-- case (x) { 0: { goto S; } else { m[0] := 1; } }
+abbrev pub OneArmNotClosed : Type 0
+OneArmNotClosed = FaultsOf
+    (one_state Two dynamic low (one 90 (case_of (at 20) (variable (spot (at 26)) (codes "x"))
+    (and_arm (and_part (number 31 0) no_part) (one 44 (home 36)) (last_arm (one 63 (writes 53)))))))
+    (fault E10 63 ∷ [])
+
+-- A well-formed design, in five lines of text:
+--     sapper 2; input a : 2; reg x : 8 dynamic; reg y : 8 enforced low;
+--     state P enforced low {
+--     y := 3 then { case (a) { 0: { fall; } else { goto P; } } }
+--     otherwise { y := 4 otherwise { x := 5; } goto P; }
+--     state C enforced low { goto C; } }
+
+-- name := value
+abbrev pub put : (line column : ℕ) → (name : List ℕ) → (value : ℕ) → SimpleCommand
+put l c name value = assign (mention (on l c) name) (literal (spot (on l (c + 5))) value)
+
+-- commands up to the token at a place
+abbrev pub up_to : Place → List Command → CommandBlock
+up_to after cs = command_block (commands cs) after
+
+abbrev pub by_number : Command
+by_number = case_of (on 3 15) (variable (spot (on 3 21)) (codes "a"))
+    (and_arm (and_part (literal (spot (on 3 26)) 0) no_part) (up_to (on 3 37) (lone (fall_to_child (on 3 31)) ∷ []))
+    (last_arm (up_to (on 3 54) (lone (paths.goto 3 46 (codes "P")) ∷ []))))
+
+abbrev pub handled : CommandBlock
+handled = up_to (on 4 50) (try (put 4 13 (codes "y") 4) (on 4 20) (up_to (on 4 40) (lone (put 4 32 (codes "x") 5) ∷ [])) ∷ lone (paths.goto 4 42 (codes "P")) ∷ [])
+
+abbrev pub decided : DesignTree
+decided = record {
+  version = Two;
+  declarations = Input (on 1 11) (mention (on 1 17) (codes "a")) (numeral_at (on 1 21) 2)
+      ∷ Register (on 1 24) (mention (on 1 28) (codes "x")) (numeral_at (on 1 32) 8) (Dynamic (on 1 34)) None
+      ∷ Register (on 1 43) (mention (on 1 47) (codes "y")) (numeral_at (on 1 51) 8) (paths.low (on 1 62)) None ∷ [];
+  states = and_state (state_node (on 2 1) (mention (on 2 7) (codes "P")) (paths.low (on 2 18))
+      (up_to (on 5 1) (try_then (put 3 1 (codes "y") 3) (on 3 8) (up_to (on 3 58) (by_number ∷ [])) handled ∷ []))
+      (and_state (state_node (on 5 1) (mention (on 5 7) (codes "C")) (paths.low (on 5 18)) (up_to (on 5 32) (lone (paths.goto 5 24 (codes "C")) ∷ [])) no_state) no_state)) no_state;
+}
+
+abbrev pub DecidedIsWellFormed : Type 0
+DecidedIsWellFormed = WellFormed low_high decided

@@ -7,6 +7,3 @@ pub mod Lists
 pub mod Positions
 pub mod Examples
 pub mod WellFormed
-pub use Rattle.sap_names.specs.Entities
-pub use Rattle.sap_tree.specs.Designs
-pub use Rattle.sap_tree.specs.Trees

@@ -1,5 +1,5 @@
 -- The faults of shape, E10 to E17: each sentence once, over the tree of a design without faults of names and widths.
-use Rattle.std.specs.Prelude.{◌⊎◌, ℕ, List, [], ◌∷◌, ◌++◌, Bool, true, false, not, ◌||◌, if◌then◌else◌, bytes_eq}
+use Rattle.std.specs.Prelude.{◌⊎◌, ℕ, List, [], ◌∷◌, ◌++◌, Bool, true, false, not, ◌||◌, bytes_eq}
 use Rattle.std.specs.List.{list_any}
 use Rattle.sap_text.specs.declared.place.Place.{Place}
 use Rattle.sap_tree.specs.Syntax.{SimpleCommand, assign, write, set_tag, set_cell_tag, go_to, fall_to_child, Command, lone, try, if_else, try_then, case_of, Arms, last_arm, and_arm, CommandBlock, command_block, ElseBlock, no_else, with_else, CommandList, no_command, and_command, StateTree, state_node, StateList, no_state, and_state, DesignTree}
@@ -57,9 +57,10 @@ simple_shape es at (set_cell_tag place target index tag) = fault_if (is_dynamic 
 simple_shape es at (go_to place target) = fault_if (not (is_among at.group target.name)) E11 target.place
 simple_shape es at (fall_to_child place) = fault_if (is_leaf at.home.children) E12 place
 
--- A command with `then`: E15 stands at the `then` where the command can't be refused. Of a transfer nothing stands here: it has E10 at its `then`.
+-- A command with `then`: E15 stands at the `then` where the command can't be refused. The `then` of a transfer has E10, and no E15.
 abbrev pub then_shape : List Entity → Body → SimpleCommand → Place → List Fault
-then_shape es at k place = if is_transfer k then [] else (simple_shape es at k ++ fault_if (not (is_site es at.home.kind at.home.children k)) E15 place)
+then_shape es at k place =
+    simple_shape es at k ++ fault_if (not (is_transfer k || is_site es at.home.kind at.home.children k)) E15 place
 
 abbrev mutual
   pub command_shape : List Entity → Body → Command → List Fault

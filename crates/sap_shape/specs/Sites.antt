@@ -1,5 +1,5 @@
 -- Check sites: the commands that may be refused, in the order of their first tokens. One walk over the tree finds them: the check, the report and the trace
--- tell of its list (`sap_check`, `Sites`), and the commands of a design's program are numbered by its length (`sap_resolve`, `Resolve`).
+-- tell of its list (`sap_check`, `Sites`), and the commands of a design's program are numbered by its length (`sap_resolved`, `Resolve`).
 use Rattle.std.specs.Prelude.{List, [], ◌∷◌, ◌++◌, Bool, true, false, ◌||◌, ℕ, if◌then◌else◌}
 use Rattle.sap_tree.specs.declared.syntax.Kind.{Kind}
 use Rattle.sap_tree.specs.declared.syntax.Kind.TheVariants.{Dynamic, Enforced}

@@ -1,7 +1,7 @@
 -- Well-formed designs, and the fault of a design that isn't.
 use Rattle.std.specs.Prelude.{◌≡◌, ◌⊎◌, [], Some}
 use Rattle.sap_tree.specs.Syntax.{DesignTree}
-use Rattle.sap_names.specs.Levels.{Levels, order_of}
+use Rattle.sap_lattice.specs.Levels.{Levels, order_of}
 use Rattle.sap_names.specs.Fault.{First}
 use Rattle.sap_names.specs.declared.fault.Fault.{Fault}
 use Rattle.sap_names.specs.NameFaults.{design_name_faults}

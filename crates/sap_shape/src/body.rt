@@ -55,7 +55,7 @@ fn simple_shape(names: &Names, position: &Position<'_>, command: &Simple, best: 
 }
 
 #[cycle(body)]
-#[tactic(auto, using(sap_tree::proofs::Views::views, crate::proofs::Bodies::blocks, crate::proofs::Weights::weights, sap_names::proofs::Faults::noting))]
+#[tactic(auto, using(sap_tree::proofs::Views::views, crate::proofs::Bodies::blocks, sap_names::proofs::Faults::noting))]
 fn command_shape(names: &Names, position: &Position<'_>, command: &Cmd, best: &mut Option<Fault>)
     ensures { best.new ≡ best_of best.old (shape.command_shape names.now (body_of position.now) (command_of command.now)) }
 {
@@ -98,21 +98,15 @@ fn then_shape(
 )
     ensures { best.new ≡ best_of best.old (shape.then_shape names.now (body_of position.now) (simple_of command.now) then) }
 {
-    if is_transfer(command) {
-        return;
-    }
     simple_shape(names, position, command, best);
-    note(
-        best,
-        !is_site(names, position.kind, position.children, command),
-        Code::E15,
-        then,
-    );
+    let may_have_then = is_transfer(command)
+        || is_site(names, position.kind, position.children, command);
+    note(best, !may_have_then, Code::E15, then);
 }
 
 /// The arms of a `case`, without the block after `else`.
 #[cycle(body)]
-#[tactic(auto, using(crate::proofs::Bodies::bodies, crate::proofs::Weights::weights, sap_names::proofs::Faults::noting))]
+#[tactic(auto, using(crate::proofs::Bodies::bodies, sap_names::proofs::Faults::noting))]
 fn arms_shape(names: &Names, position: &Position<'_>, arms: &[Arm], best: &mut Option<Fault>)
     ensures { best.new ≡ best_of best.old (lists.arms_shape names.now (body_of position.now) arms.now) }
 {
@@ -122,7 +116,7 @@ fn arms_shape(names: &Names, position: &Position<'_>, arms: &[Arm], best: &mut O
 }
 
 #[cycle(body)]
-#[tactic(auto, using(crate::proofs::Bodies::blocks, crate::proofs::Weights::weights, sap_names::proofs::Faults::noting))]
+#[tactic(auto, using(crate::proofs::Bodies::blocks, sap_names::proofs::Faults::noting))]
 fn else_shape(
     names: &Names,
     position: &Position<'_>,
@@ -139,7 +133,7 @@ fn else_shape(
 
 /// Notes the faults of commands, but for E10 and E14.
 #[cycle(body)]
-#[tactic(auto, using(crate::proofs::Bodies::bodies, crate::proofs::Weights::weights, sap_names::proofs::Faults::noting))]
+#[tactic(auto, using(crate::proofs::Bodies::bodies, sap_names::proofs::Faults::noting))]
 pub(crate) fn list_shape(
     names: &Names,
     position: &Position<'_>,

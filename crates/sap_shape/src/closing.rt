@@ -1,6 +1,6 @@
 //! E10: bodies close.
 
-ghost use Rattle.std.specs.Prelude.{◌≡◌};
+ghost use Rattle.std.specs.Prelude.{◌≡◌, []};
 ghost use Rattle.sap_names.specs.Best.{best_of};
 ghost use Rattle.sap_shape.specs.Closing as closing;
 ghost use Rattle.sap_shape.specs.Lists as lists;
@@ -32,8 +32,19 @@ fn transfer_faults(command: &Simple, best: &mut Option<Fault>)
     }
 }
 
+/// Notes E10 at the `then` of a transfer, and says whether it stands there. The blocks of any other command count.
+#[tactic(auto, using(sap_names::proofs::Faults::noting))]
+fn has_then_fault(command: &Simple, then: Place, best: &mut Option<Fault>) -> bool
+    ensures test { result ≡ closing.is_transfer (simple_of command.now) }
+    ensures fault { best.new ≡ best_of best.old (closing.then_faults (simple_of command.now) then []) }
+{
+    let found = is_transfer(command);
+    note(best, found, Code::E10, then);
+    found
+}
+
 #[cycle(open)]
-#[tactic(auto, using(sap_tree::proofs::Views::views, crate::proofs::Opens::blocks, crate::proofs::Weights::weights, sap_names::proofs::Faults::noting))]
+#[tactic(auto, using(sap_tree::proofs::Views::views, crate::proofs::Opens::blocks, sap_names::proofs::Faults::noting))]
 fn open_faults(command: &Cmd, best: &mut Option<Fault>)
     ensures { best.new ≡ best_of best.old (closing.open_faults (command_of command.now)) }
 {
@@ -48,9 +59,7 @@ fn open_faults(command: &Cmd, best: &mut Option<Fault>)
             open_else(other, best);
         }
         Cmd::TryThen(simple, then, accepted, refused) => {
-            if is_transfer(simple) {
-                note(best, true, Code::E10, *then);
-            } else {
+            if !has_then_fault(simple, *then, best) {
                 open_list(accepted.commands.as_slice(), best);
                 open_list(refused.commands.as_slice(), best);
             }
@@ -64,7 +73,7 @@ fn open_faults(command: &Cmd, best: &mut Option<Fault>)
 
 /// The arms of a `case`, without the block after `else`.
 #[cycle(open)]
-#[tactic(auto, using(crate::proofs::Opens::opens, crate::proofs::Weights::weights, sap_names::proofs::Faults::noting))]
+#[tactic(auto, using(crate::proofs::Opens::opens, sap_names::proofs::Faults::noting))]
 fn open_arms(arms: &[Arm], best: &mut Option<Fault>)
     ensures { best.new ≡ best_of best.old (lists.open_arms arms.now) }
 {
@@ -74,7 +83,7 @@ fn open_arms(arms: &[Arm], best: &mut Option<Fault>)
 }
 
 #[cycle(open)]
-#[tactic(auto, using(crate::proofs::Opens::blocks, crate::proofs::Weights::weights, sap_names::proofs::Faults::noting))]
+#[tactic(auto, using(crate::proofs::Opens::blocks, sap_names::proofs::Faults::noting))]
 fn open_else(other: &Option<Block>, best: &mut Option<Fault>)
     ensures { best.new ≡ best_of best.old (closing.open_else_faults (else_of other.now)) }
 {
@@ -85,7 +94,7 @@ fn open_else(other: &Option<Block>, best: &mut Option<Fault>)
 }
 
 #[cycle(open)]
-#[tactic(auto, using(crate::proofs::Opens::opens, crate::proofs::Weights::weights, sap_names::proofs::Faults::noting))]
+#[tactic(auto, using(crate::proofs::Opens::opens, sap_names::proofs::Faults::noting))]
 fn open_list(commands: &[Cmd], best: &mut Option<Fault>)
     ensures { best.new ≡ best_of best.old (lists.open_list commands.now) }
 {
@@ -109,7 +118,7 @@ fn last_simple(command: &Simple, after: Place, best: &mut Option<Fault>)
 }
 
 #[cycle(closing)]
-#[tactic(auto, using(crate::proofs::Opens::blocks, crate::proofs::Weights::weights, sap_names::proofs::Faults::noting))]
+#[tactic(auto, using(crate::proofs::Opens::blocks, sap_names::proofs::Faults::noting))]
 fn last_handler(command: &Simple, handler: &Block, best: &mut Option<Fault>)
     ensures { best.new ≡ best_of best.old (closing.last_handler_faults (simple_of command.now)
         (closing.open_block_faults (block_of handler.now)) (closing.closing_faults (block_of handler.now))) }
@@ -125,7 +134,7 @@ fn last_handler(command: &Simple, handler: &Block, best: &mut Option<Fault>)
 }
 
 #[cycle(closing)]
-#[tactic(auto, using(sap_tree::proofs::Views::views, crate::proofs::Opens::blocks, crate::proofs::Weights::weights, sap_names::proofs::Faults::noting))]
+#[tactic(auto, using(sap_tree::proofs::Views::views, crate::proofs::Opens::blocks, sap_names::proofs::Faults::noting))]
 fn last_faults(command: &Cmd, after: Place, best: &mut Option<Fault>)
     ensures { best.new ≡ best_of best.old (closing.last_faults (command_of command.now) after) }
 {
@@ -140,9 +149,7 @@ fn last_faults(command: &Cmd, after: Place, best: &mut Option<Fault>)
             closing_else(other, *place, best);
         }
         Cmd::TryThen(simple, then, accepted, refused) => {
-            if is_transfer(simple) {
-                note(best, true, Code::E10, *then);
-            } else {
+            if !has_then_fault(simple, *then, best) {
                 closing_list(accepted.commands.as_slice(), accepted.after, best);
                 closing_list(refused.commands.as_slice(), refused.after, best);
             }
@@ -156,7 +163,7 @@ fn last_faults(command: &Cmd, after: Place, best: &mut Option<Fault>)
 
 /// The arms of a `case`, without the block after `else`.
 #[cycle(closing)]
-#[tactic(auto, using(crate::proofs::Opens::opens, crate::proofs::Weights::weights, sap_names::proofs::Faults::noting))]
+#[tactic(auto, using(crate::proofs::Opens::opens, sap_names::proofs::Faults::noting))]
 fn closing_arms(arms: &[Arm], best: &mut Option<Fault>)
     ensures { best.new ≡ best_of best.old (lists.closing_arms arms.now) }
 {
@@ -166,7 +173,7 @@ fn closing_arms(arms: &[Arm], best: &mut Option<Fault>)
 }
 
 #[cycle(closing)]
-#[tactic(auto, using(crate::proofs::Opens::blocks, crate::proofs::Weights::weights, sap_names::proofs::Faults::noting))]
+#[tactic(auto, using(crate::proofs::Opens::blocks, sap_names::proofs::Faults::noting))]
 fn closing_else(other: &Option<Block>, place: Place, best: &mut Option<Fault>)
     ensures { best.new ≡ best_of best.old (closing.closing_else_faults (else_of other.now) place) }
 {
@@ -178,7 +185,7 @@ fn closing_else(other: &Option<Block>, place: Place, best: &mut Option<Fault>)
 
 /// Notes the faults of a list that must close, where `after` is the place of the token after it.
 #[cycle(closing)]
-#[tactic(auto, using(crate::proofs::Opens::opens, crate::proofs::Weights::weights, sap_names::proofs::Faults::noting))]
+#[tactic(auto, using(crate::proofs::Opens::opens, sap_names::proofs::Faults::noting))]
 pub(crate) fn closing_list(commands: &[Cmd], after: Place, best: &mut Option<Fault>)
     ensures { best.new ≡ best_of best.old (lists.closing_list commands.now after) }
 {

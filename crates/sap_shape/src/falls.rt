@@ -14,7 +14,7 @@ fn is_fall(command: &Simple) -> bool
 }
 
 #[cycle(falls)]
-#[tactic(auto, using(sap_tree::proofs::Views::views, crate::proofs::Falling::falling, crate::proofs::Weights::weights))]
+#[tactic(auto, using(sap_tree::proofs::Views::views, crate::proofs::Falling::falling))]
 fn command_falls(command: &Cmd) -> bool
     ensures { result ≡ walk.falls (command_of command.now) }
 {
@@ -35,7 +35,7 @@ fn command_falls(command: &Cmd) -> bool
 
 /// The arms of a `case`, without the block after `else`.
 #[cycle(falls)]
-#[tactic(auto, using(crate::proofs::Falling::falling, crate::proofs::Weights::weights))]
+#[tactic(auto, using(crate::proofs::Falling::falling))]
 fn arms_fall(arms: &[Arm]) -> bool
     ensures { result ≡ falls_arms arms.now }
 {
@@ -48,7 +48,7 @@ fn arms_fall(arms: &[Arm]) -> bool
 }
 
 #[cycle(falls)]
-#[tactic(auto, using(crate::proofs::Falling::falling, crate::proofs::Weights::weights))]
+#[tactic(auto, using(crate::proofs::Falling::falling))]
 fn else_falls(other: &Option<Block>) -> bool
     ensures { result ≡ walk.falls_else (else_of other.now) }
 {
@@ -60,7 +60,7 @@ fn else_falls(other: &Option<Block>) -> bool
 
 /// Whether a `fall` stands in the commands, in their blocks or in their handlers.
 #[cycle(falls)]
-#[tactic(auto, using(crate::proofs::Falling::falling, crate::proofs::Weights::weights))]
+#[tactic(auto, using(crate::proofs::Falling::falling))]
 pub(crate) fn has_fall(commands: &[Cmd]) -> bool
     ensures { result ≡ falls_list commands.now }
 {

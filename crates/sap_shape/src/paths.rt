@@ -65,7 +65,7 @@ fn simple_paths(
 }
 
 #[cycle(paths)]
-#[tactic(auto, using(sap_tree::proofs::Views::views, crate::proofs::Walks::blocks, crate::proofs::Weights::weights, crate::proofs::Sets::sets, sap_names::proofs::Faults::noting))]
+#[tactic(auto, using(sap_tree::proofs::Views::views, crate::proofs::Walks::blocks, crate::proofs::Sets::sets, sap_names::proofs::Faults::noting))]
 fn command_paths(
     alloc: Global,
     command: &Cmd,
@@ -106,7 +106,7 @@ fn command_paths(
 
 // A block that begins at `start`: `past` takes in where it ends.
 #[cycle(paths)]
-#[tactic(auto, using(crate::proofs::Walks::blocks, crate::proofs::Weights::weights, crate::proofs::Sets::sets, sap_names::proofs::Faults::noting))]
+#[tactic(auto, using(crate::proofs::Walks::blocks, crate::proofs::Sets::sets, sap_names::proofs::Faults::noting))]
 fn beside_paths(
     alloc: Global,
     block: &Block,
@@ -125,7 +125,7 @@ fn beside_paths(
 
 // The arms of a `case`, without the block after `else`: each begins at `start`, and `past` takes in where they end.
 #[cycle(paths)]
-#[tactic(auto, using(crate::proofs::Walks::walks, crate::proofs::Weights::weights, crate::proofs::Sets::sets, sap_names::proofs::Faults::noting))]
+#[tactic(auto, using(crate::proofs::Walks::walks, crate::proofs::Sets::sets, sap_names::proofs::Faults::noting))]
 fn arms_paths(
     alloc: Global,
     arms: &[Arm],
@@ -147,7 +147,7 @@ fn arms_paths(
 
 // The block after an `else`, or none.
 #[cycle(paths)]
-#[tactic(auto, using(crate::proofs::Walks::blocks, crate::proofs::Weights::weights, crate::proofs::Sets::sets, sap_names::proofs::Faults::noting))]
+#[tactic(auto, using(crate::proofs::Walks::blocks, crate::proofs::Sets::sets, sap_names::proofs::Faults::noting))]
 fn else_paths(
     alloc: Global,
     other: &Option<Block>,
@@ -167,7 +167,7 @@ fn else_paths(
 }
 
 #[cycle(paths)]
-#[tactic(auto, using(crate::proofs::Walks::walks, crate::proofs::Weights::weights, crate::proofs::Sets::sets, sap_names::proofs::Faults::noting))]
+#[tactic(auto, using(crate::proofs::Walks::walks, crate::proofs::Sets::sets, sap_names::proofs::Faults::noting))]
 pub(crate) fn list_paths(
     alloc: Global,
     commands: &[Cmd],

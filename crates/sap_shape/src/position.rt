@@ -17,7 +17,7 @@ pub(crate) fn is_among(group: &[State], name: &Name) -> bool
 }
 
 // Whether one of the states, or one below them, has this name.
-#[tactic(auto, using(crate::proofs::Members::pasts, crate::proofs::Weights::weights))]
+#[tactic(auto, using(crate::proofs::Members::pasts))]
 fn is_in_group(states: &[State], name: &Name) -> bool
     ensures { result ≡ shape.is_in_group (states_of states.now) name.now }
 {

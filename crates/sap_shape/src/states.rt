@@ -32,7 +32,7 @@ fn below(alloc: Global, name: &Name, above: &[Name]) -> Result<Vec<Name>, AllocE
 }
 
 #[cycle(shape)]
-#[tactic(auto, using(crate::proofs::Groups::states, crate::proofs::Weights::weights, sap_names::proofs::Faults::noting))]
+#[tactic(auto, using(crate::proofs::Groups::states, sap_names::proofs::Weights::weights, sap_names::proofs::Faults::noting))]
 fn state_shape(
     alloc: Global,
     names: &Names,
@@ -66,7 +66,7 @@ fn state_shape(
 /// Notes the faults of the states of a group and of those below them, but for E14. `above` has the names of the states
 /// above the group, the nearest first.
 #[cycle(shape)]
-#[tactic(auto, using(crate::proofs::Groups::groups, crate::proofs::Weights::weights, sap_names::proofs::Faults::noting))]
+#[tactic(auto, using(crate::proofs::Groups::groups, sap_names::proofs::Weights::weights, sap_names::proofs::Faults::noting))]
 pub(crate) fn group_shape(
     alloc: Global,
     names: &Names,
@@ -83,7 +83,7 @@ pub(crate) fn group_shape(
 }
 
 #[cycle(paths)]
-#[tactic(auto, using(crate::proofs::Groups::states, crate::proofs::Weights::weights, crate::proofs::Sets::sets, sap_names::proofs::Faults::noting))]
+#[tactic(auto, using(crate::proofs::Groups::states, crate::proofs::Sets::sets, sap_names::proofs::Faults::noting))]
 fn state_paths(
     alloc: Global,
     state: &State,
@@ -104,7 +104,7 @@ fn state_paths(
 
 /// Notes E14 in states that are entered after some writes, and in those that they may fall into.
 #[cycle(paths)]
-#[tactic(auto, using(crate::proofs::Groups::groups, crate::proofs::Weights::weights, sap_names::proofs::Faults::noting))]
+#[tactic(auto, using(crate::proofs::Groups::groups, sap_names::proofs::Faults::noting))]
 pub(crate) fn group_paths(
     alloc: Global,
     states: &[State],

@@ -14,40 +14,14 @@ use std::alloc::AllocError;
 fn precedence(operator: BinaryOperator) -> u64
     ensures { result ≡ spec.precedence operator }
 {
-    match operator {
-        BinaryOperator::Or => 1,
-        BinaryOperator::Xor => 2,
-        BinaryOperator::And => 3,
-        BinaryOperator::Eq => 4,
-        BinaryOperator::Ne => 4,
-        BinaryOperator::Lt => 5,
-        BinaryOperator::Le => 5,
-        BinaryOperator::Shl => 6,
-        BinaryOperator::Shr => 6,
-        BinaryOperator::Add => 7,
-        BinaryOperator::Sub => 7,
-        BinaryOperator::Mul => 8,
-    }
+    u64::from(operator.precedence())
 }
 
 /// How tightly an operator's right operand has to bind.
 fn precedence_after(operator: BinaryOperator) -> u64
     ensures { result ≡ spec.precedence operator + 1 }
 {
-    match operator {
-        BinaryOperator::Or => 2,
-        BinaryOperator::Xor => 3,
-        BinaryOperator::And => 4,
-        BinaryOperator::Eq => 5,
-        BinaryOperator::Ne => 5,
-        BinaryOperator::Lt => 6,
-        BinaryOperator::Le => 6,
-        BinaryOperator::Shl => 7,
-        BinaryOperator::Shr => 7,
-        BinaryOperator::Add => 8,
-        BinaryOperator::Sub => 8,
-        BinaryOperator::Mul => 9,
-    }
+    u64::from(operator.precedence()) + 1
 }
 
 const UNARY: u64 = 9;

@@ -1,5 +1,9 @@
 //! The parts of a design.
 
+ghost use Rattle.std.specs.Prelude.{◌≡◌};
+ghost use Rattle.sap_tree.specs.Precedence.{precedence};
+ghost use Rattle.sap_tree.specs.Touches.{is_dynamic_kind};
+
 use crate::name::{Mention, Name};
 use crate::place::{Place, Spot};
 
@@ -28,6 +32,24 @@ pub enum BinaryOperator {
     Add,
     Sub,
     Mul,
+}
+
+impl BinaryOperator {
+    /// How tightly it binds, from 1, the loosest, to 8.
+    pub fn precedence(self) -> u32
+        ensures { result ≡ precedence self }
+    {
+        match self {
+            BinaryOperator::Or => 1,
+            BinaryOperator::Xor => 2,
+            BinaryOperator::And => 3,
+            BinaryOperator::Eq | BinaryOperator::Ne => 4,
+            BinaryOperator::Lt | BinaryOperator::Le => 5,
+            BinaryOperator::Shl | BinaryOperator::Shr => 6,
+            BinaryOperator::Add | BinaryOperator::Sub => 7,
+            BinaryOperator::Mul => 8,
+        }
+    }
 }
 
 /// A number where it stands.
@@ -130,6 +152,14 @@ pub enum Kind {
     Dynamic(Place),
     /// The declared level, and the authority where one is written.
     Enforced(Mention, Option<Under>),
+}
+
+impl Kind {
+    pub fn is_dynamic(&self) -> bool
+        ensures { result ≡ is_dynamic_kind self.now }
+    {
+        matches!(self, Kind::Dynamic(_))
+    }
 }
 
 /// A declaration, with the place of its first word.

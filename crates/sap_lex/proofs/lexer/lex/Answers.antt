@@ -3,6 +3,7 @@ use Rattle.sap_walk.specs.Reached.{start, blank, token}
 use Rattle.sap_lex.specs.Lexemes.{lexeme_of}
 use Rattle.sap_lex.specs.Lexing.{Reached, IsWithin}
 use Rattle.sap_text.specs.Places.{place_at}
+use Rattle.sap_lex.proofs.OneLexing.{not_bad, not_both}
 use Rattle.sap_lex.proofs.Places.{advanced}
 use Rattle.std.proofs.lemmas.List.{take_rest}
 use Rattle.sap_lex.proofs.TokenTexts.{texts_are, in_order, spanned, tokens_order}
@@ -62,3 +63,18 @@ returns-clause-texts c = texts_are c.args.text.now _ (returns-clause-ok c)
 
 pub returns-clause-order : goal.returns-clause-order
 returns-clause-order c = tokens_order c.args.text.now _ (returns-clause-ok c)
+
+pub returns-clause-faultless : goal.returns-clause-faultless
+returns-clause-faultless c = λ fault b. not_both c.args.text.now _ fault (returns-clause-ok c) b
+
+pub returns-in-Bad-clause-refused : goal.returns-in-Bad-clause-refused
+returns-in-Bad-clause-refused c =
+    let same = take_rest c.args.text.now c.lexemes.n in
+    λ known tokens a. not_bad c.args.text.now tokens c.lexemes.place a (record {
+      at = c.lexemes.n;
+      within = omega arith;
+      tokens = c.lexemes.tokens.items;
+      before = c.lexemes.invariant.reached;
+      bad = ap lexeme_of (sym same) ∙ sym c.in_ok-len.ensures.value ∙ c.in-Bad.is;
+      there = c.lexemes.invariant.place;
+    })
