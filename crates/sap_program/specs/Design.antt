@@ -3,7 +3,7 @@ use Rattle.std.specs.Prelude.{◌≡◌, length, map}
 use Rattle.sap_lattice.specs.Levels.{Levels, order_of}
 use Rattle.sap_tree.specs.Syntax.{DesignTree}
 use Rattle.sap_names.specs.Entities.{entities_of}
-use Rattle.sap_resolve.specs.Fill.{program_of}
+use Rattle.sap_resolved.specs.Fill.{program_of}
 use Rattle.sap_shape.specs.Sites.{check_sites}
 use Rattle.sap_program.specs.declared.program.Program.{Program}
 use Rattle.sap_program.specs.Views.{program_in, names_in}

@@ -1,7 +1,7 @@
 -- What hangs on a command: as the numbers of entities, and as what is said of each entity.
 use Rattle.std.specs.Prelude.{ℕ, Bool, true, List, [], ◌∷◌, nat_eq, nat_lt, ◌&&◌}
 use Rattle.std.specs.List.{list_any}
-use Rattle.sap_resolve.specs.Fill.{table}
+use Rattle.sap_resolved.specs.Fill.{table}
 
 -- each number of a list is above the one before it
 abbrev pub rises_from : ℕ → List ℕ → Bool

@@ -19,7 +19,7 @@ use Rattle.sap_program.specs.declared.program.Step.TheVariants as step
 use Rattle.sap_program.specs.declared.program.Arm.{Arm}
 use Rattle.sap_program.specs.declared.program.Command.{Command, Row_of-Command, end_of-Command, more_of-Command, Row_of-Arm, end_of-Arm, more_of-Arm}
 use Rattle.sap_program.specs.declared.program.Command.TheVariants as command
-use Rattle.sap_program.specs.declared.spot.Spot.{Spot}
+use Rattle.sap_program.specs.declared.home.Home.{Home}
 use Rattle.sap_program.specs.declared.program.State.{State, State', Row_of-State, end_of-State, more_of-State}
 
 abbrev pub kind_of_sort : Sort → program.Kind
@@ -104,8 +104,8 @@ group_of n [] = no_node
 group_of n (s ∷ ss) = and_node (state_of n s) (group_of n ss)
 
 -- where a body stands
-abbrev pub spot_of : (n : ℕ) → Spot → checks.Spot
-spot_of n at = record { state = at.state; parent = at.parent; children = group_of n at.children.now }
+abbrev pub home_of : (n : ℕ) → Home → checks.Home
+home_of n at = record { state = at.state; parent = at.parent; children = group_of n at.children.now }
 
 -- one block behind another
 abbrev pub followed : Block → Block → Block

@@ -3,7 +3,7 @@
 
 mod entities;
 pub mod hang;
+pub mod home;
 mod makers;
 pub mod program;
-pub mod spot;
 pub mod widths;

@@ -1,4 +1,11 @@
-pub mod Lookup
-pub mod FillLemmas
-pub mod SizedLemmas
-pub mod WorldsLemmas
+pub mod Positions
+pub mod Chosen
+pub mod Placed
+pub mod Lists
+pub mod Arms
+pub mod Lighter
+pub mod Choices
+pub mod Groups
+pub mod Worlds
+pub mod Limits
+pub mod Resolved

@@ -1,9 +1,3 @@
-pub mod Worlds
-pub mod Terms
-pub mod Resolve
-pub mod Fill
-pub mod Examples
-pub mod Named
-pub mod Sized
-pub mod Premises
-pub mod Kept
+pub mod Rows
+pub mod Surroundings
+pub mod Lists

@@ -1,18 +1,15 @@
-//! From the tree of a design to the program of the labelled meaning, as definitions.
-//!
-//! The definitions stand in `specs/`.
+//! From a checked design to its program, with numbers for names, as data.
 #![tactic(auto)]
 
-pub mod kept;
-pub mod premises;
-pub mod sized;
-
-ghost use Rattle.sap_resolve.specs.Examples.{Entities, States, Hangs, Children};
-
-/// The program of a small design, worked out.
-pub fn worked_program()
-    ensures entities { Entities }
-    ensures states { States }
-    ensures hangs { Hangs }
-    ensures children { Children }
-{}
+mod children;
+mod commands;
+mod entities;
+mod names;
+mod numbers;
+pub mod resolve;
+mod rows;
+mod standing;
+mod states;
+mod steps;
+mod tags;
+mod world;

@@ -8,7 +8,7 @@ use Rattle.sap_program.specs.declared.program.Step.{Step}
 use Rattle.sap_program.specs.declared.program.Step.TheVariants as step
 use Rattle.sap_store.specs.declared.environment.Environment.{Environment}
 use Rattle.sap_run.specs.declared.effects.Situation.{Situation}
-use Rattle.sap_store.specs.Code.{world_in, entities_in, spot_in}
+use Rattle.sap_store.specs.Code.{world_in, entities_in, home_in}
 use Rattle.sap_run.specs.Runs.{IsEffect, acted, entered, raised_by, taken}
 
 pub is_effect : (k : Step) → ((site : ℕ) (hang : List ℕ) → k ≡ step.Fall site hang → ⊥) → IsEffect k
@@ -19,7 +19,7 @@ is_effect (step.RetagCell site m j n) f = tt
 is_effect (step.Goto site target) f = tt
 is_effect (step.Fall site hang) f = f site hang refl
 
-effect_done : (d : Environment) (at : checks.Spot) (enter others : ℕ → ℕ → Store → After) (k : Step) (pc : ℕ) (b s : Store) → IsEffect k
+effect_done : (d : Environment) (at : checks.Home) (enter others : ℕ → ℕ → Store → After) (k : Step) (pc : ℕ) (b s : Store) → IsEffect k
     → stay (effect (world_in d) at others (step_of (entities_in d) k) pc b s).store ≡ effect (world_in d) at enter (step_of (entities_in d) k) pc b s
 unfolding effect
 effect_done d at enter others (step.Set site x e) pc b s h = refl
@@ -33,4 +33,4 @@ pub passed : (d : Environment) (here : Situation) (k : Step) (s : Store) → IsE
 unfolding taken
 passed d here k s h =
     let at = here.at.now in
-    effect_done d (spot_in d at) (entered d at.state at.children.now) (λ n pc t. stay t) k here.context s (raised_by d here s) h
+    effect_done d (home_in d at) (entered d at.state at.children.now) (λ n pc t. stay t) k here.context s (raised_by d here s) h

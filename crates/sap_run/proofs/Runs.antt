@@ -21,35 +21,35 @@ use Rattle.sap_program.specs.declared.program.State.{State, out-State}
 use Rattle.sap_program.specs.Hangs.{flags}
 use Rattle.sap_program.specs.Views.{term_of, step_of, block_of, arms_before, constants_of, group_of}
 use Rattle.sap_store.specs.declared.environment.Environment.{Environment}
-use Rattle.sap_program.specs.declared.spot.Spot.{Spot}
+use Rattle.sap_program.specs.declared.home.Home.{Home}
 use Rattle.sap_store.specs.Able.{AbleStep, AbleTerm, AbleCommand, AbleArms, AbleBlock, AbleState, AbleGroup}
-use Rattle.sap_store.specs.Code.{world_in, entities_in, spot_in}
+use Rattle.sap_store.specs.Code.{world_in, entities_in, home_in}
 use Rattle.sap_run.specs.Runs.{entered, block_run, command_run, attempt_run, select_run, picked_in, choose_run, state_run, CommandAble, BlockAble, ArmsAble, StateAble, GroupAble}
 use Rattle.sap_program.proofs.Shown.{command_of-do, command_of-try, command_of-if, command_of-then, command_of-case, state_of-out}
 
 -- a step with nothing behind where it is accepted
 
-nothing_behind : (w : World) (at : checks.Spot) (enter : ℕ → ℕ → Store → After) (k : program.Step) (hangs : ℕ → Bool) (h : ℕ → Store → After) (pc : ℕ) (s : Store)
+nothing_behind : (w : World) (at : checks.Home) (enter : ℕ → ℕ → Store → After) (k : program.Step) (hangs : ℕ → Bool) (h : ℕ → Store → After) (pc : ℕ) (s : Store)
     → attempt w at enter k hangs h pc s ≡ attempt_then w at enter k hangs (λ p t. stay t) h pc s
 unfolding attempt attempt_then
 nothing_behind w at enter k hangs h pc s = elim (cases_Bool (test w at k pc s)) [ inl e ↦ rw e (sym (and_stay _)) | inr e ↦ rw e refl ]
 
-module _ (d : Environment) (at : Spot) (pc : ℕ) (s : Store) where
-  pub run-do : (k : Step) (hang : List ℕ) → ((x : ℕ) → listed (flags (entities_in d) hang) x ≡ listed_alone (world_in d) (spot_in d at) (step_of (entities_in d) k) x)
+module _ (d : Environment) (at : Home) (pc : ℕ) (s : Store) where
+  pub run-do : (k : Step) (hang : List ℕ) → ((x : ℕ) → listed (flags (entities_in d) hang) x ≡ listed_alone (world_in d) (home_in d at) (step_of (entities_in d) k) x)
       → command_run d at (command.Do k) pc s ≡ attempt_run d at hang k [] [] pc s
   unfolding run command_run attempt_run block_run run_block block_of
   run-do k hang e =
-      let same : listed (flags (entities_in d) hang) ≡ listed_alone (world_in d) (spot_in d at) (step_of (entities_in d) k) = λ i x. e x i in
+      let same : listed (flags (entities_in d) hang) ≡ listed_alone (world_in d) (home_in d at) (step_of (entities_in d) k) = λ i x. e x i in
       rw (command_of-do (entities_in d) k)
-      (ap (λ (h : ℕ → Bool). attempt (world_in d) (spot_in d at) (entered d at.state at.children.now) (step_of (entities_in d) k) h (λ p t. stay t) pc s) (sym same)
-      ∙ nothing_behind (world_in d) (spot_in d at) (entered d at.state at.children.now) (step_of (entities_in d) k) (listed (flags (entities_in d) hang)) (λ p t. stay t) pc s)
+      (ap (λ (h : ℕ → Bool). attempt (world_in d) (home_in d at) (entered d at.state at.children.now) (step_of (entities_in d) k) h (λ p t. stay t) pc s) (sym same)
+      ∙ nothing_behind (world_in d) (home_in d at) (entered d at.state at.children.now) (step_of (entities_in d) k) (listed (flags (entities_in d) hang)) (λ p t. stay t) pc s)
 
   pub run-try : (k : Step) (hang : List ℕ) (h : Vec Command Global) → command_run d at (shown.Try k hang h) pc s ≡ attempt_run d at hang k [] h.items pc s
   unfolding run command_run attempt_run block_run run_block block_of
   run-try k hang h =
       rw (command_of-try (entities_in d) k hang h)
-      (nothing_behind (world_in d) (spot_in d at) (entered d at.state at.children.now) (step_of (entities_in d) k) (listed (flags (entities_in d) hang))
-      (run_block (world_in d) (spot_in d at) (entered d at.state at.children.now) (block_of (entities_in d) h.items)) pc s)
+      (nothing_behind (world_in d) (home_in d at) (entered d at.state at.children.now) (step_of (entities_in d) k) (listed (flags (entities_in d) hang))
+      (run_block (world_in d) (home_in d at) (entered d at.state at.children.now) (block_of (entities_in d) h.items)) pc s)
 
   pub run-then : (k : Step) (hang : List ℕ) (a b : Vec Command Global) → command_run d at (shown.TryThen k hang a b) pc s ≡ attempt_run d at hang k a.items b.items pc s
   unfolding run command_run attempt_run block_run
@@ -60,7 +60,7 @@ module _ (d : Environment) (at : Spot) (pc : ℕ) (s : Store) where
   run-if hang e a b = rw (command_of-if (entities_in d) hang e a b) refl
 
   picked-run : (arms : List Arm) (last : List Command) (n p : ℕ) (t : Store)
-      → run_arms (world_in d) (spot_in d at) (entered d at.state at.children.now) (arms_before (entities_in d) arms (last_arm (block_of (entities_in d) last))) n p t
+      → run_arms (world_in d) (home_in d at) (entered d at.state at.children.now) (arms_before (entities_in d) arms (last_arm (block_of (entities_in d) last))) n p t
       ≡ block_run d at (picked_in arms last n) p t
   unfolding run_arms arms_before block_run
   picked-run [] last n p t = refl
@@ -101,7 +101,7 @@ module _ (d : Environment) (p : ℕ) where
   entered-past (j ∷ kids) zero pc s h = absurd (omega (arith, h))
   entered-past (j ∷ kids) (suc n) pc s h = entered-past kids n pc s (omega (arith, h))
 
-  pub state_run-out : (k : State) (at : Spot) (pc : ℕ) (s : Store) → at.state ≡ (out-State k).number → at.parent ≡ p → at.children.now ≡ (out-State k).children.items
+  pub state_run-out : (k : State) (at : Home) (pc : ℕ) (s : Store) → at.state ≡ (out-State k).number → at.parent ≡ p → at.children.now ≡ (out-State k).children.items
       → state_run d p k pc s ≡ block_run d at (out-State k).body.items pc s
   unfolding run_state entered state_run block_run
   state_run-out k at pc s i j l = rw (state_of-out (entities_in d) k, i, j, l) refl

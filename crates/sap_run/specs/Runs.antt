@@ -15,10 +15,10 @@ use Rattle.sap_program.specs.declared.program.State.{State}
 use Rattle.sap_program.specs.declared.program.Step.{Step}
 use Rattle.sap_program.specs.declared.program.Step.TheVariants as step
 use Rattle.sap_store.specs.declared.environment.Environment.{Environment}
-use Rattle.sap_program.specs.declared.spot.Spot.{Spot}
+use Rattle.sap_program.specs.declared.home.Home.{Home}
 use Rattle.sap_run.specs.declared.effects.Situation.{Situation}
 use Rattle.sap_store.specs.Able.{AbleCommand, AbleArms, AbleBlock, AbleState, AbleGroup}
-use Rattle.sap_store.specs.Code.{world_in, entities_in, spot_in}
+use Rattle.sap_store.specs.Code.{world_in, entities_in, home_in}
 
 -- what hangs is raised
 abbrev pub raised_by : Environment → Situation → Store → Store
@@ -26,7 +26,7 @@ raised_by d here s = raise (world_in d).order (listed (flags (entities_in d) her
 
 -- the store that a step leaves which enters no child, behind what is raised; its site doesn't count
 abbrev pub acted : Environment → Situation → program.Step → Store → Store
-acted d here k s = (effect (world_in d) (spot_in d here.at.now) (λ n pc t. stay t) k here.context s (raised_by d here s)).store
+acted d here k s = (effect (world_in d) (home_in d here.at.now) (λ n pc t. stay t) k here.context s (raised_by d here s)).store
 
 -- every step but a fall
 abbrev pub IsEffect : Step → Type 0
@@ -47,24 +47,24 @@ marked (r ∷ rs) m = marked rs (slice_set m r.site (Some r.level))
 unfoldable pub entered : Environment → (parent : ℕ) → List State → ℕ → ℕ → Store → After
 entered d p kids = run_child (world_in d) (group_of (entities_in d) kids) p
 
-unfoldable pub block_run : Environment → Spot → List Command → ℕ → Store → After
-block_run d at cs = run_block (world_in d) (spot_in d at) (entered d at.state at.children.now) (block_of (entities_in d) cs)
+unfoldable pub block_run : Environment → Home → List Command → ℕ → Store → After
+block_run d at cs = run_block (world_in d) (home_in d at) (entered d at.state at.children.now) (block_of (entities_in d) cs)
 
-unfoldable pub command_run : Environment → Spot → Command → ℕ → Store → After
-command_run d at c = run (world_in d) (spot_in d at) (entered d at.state at.children.now) (command_of (entities_in d) c)
+unfoldable pub command_run : Environment → Home → Command → ℕ → Store → After
+command_run d at c = run (world_in d) (home_in d at) (entered d at.state at.children.now) (command_of (entities_in d) c)
 
 -- the effect of a step, behind the raises
 unfoldable pub taken : Environment → Situation → Step → Store → After
 taken d here k s =
     let at = here.at.now in
-    effect (world_in d) (spot_in d at) (entered d at.state at.children.now) (step_of (entities_in d) k) here.context s (raised_by d here s)
+    effect (world_in d) (home_in d at) (entered d at.state at.children.now) (step_of (entities_in d) k) here.context s (raised_by d here s)
 
 -- a step, and what follows it where it is accepted and where it is refused
-unfoldable pub attempt_run : Environment → Spot → (hang : List ℕ) → Step → (accepted refused : List Command) → ℕ → Store → After
+unfoldable pub attempt_run : Environment → Home → (hang : List ℕ) → Step → (accepted refused : List Command) → ℕ → Store → After
 attempt_run d at hang k accepted refused =
-    attempt_then (world_in d) (spot_in d at) (entered d at.state at.children.now) (step_of (entities_in d) k) (listed (flags (entities_in d) hang)) (block_run d at accepted) (block_run d at refused)
+    attempt_then (world_in d) (home_in d at) (entered d at.state at.children.now) (step_of (entities_in d) k) (listed (flags (entities_in d) hang)) (block_run d at accepted) (block_run d at refused)
 
-unfoldable pub select_run : Environment → Spot → (hang : List ℕ) → Number → (then_part else_part : List Command) → ℕ → Store → After
+unfoldable pub select_run : Environment → Home → (hang : List ℕ) → Number → (then_part else_part : List Command) → ℕ → Store → After
 select_run d at hang e a b =
     select (world_in d) (term_of e) (listed (flags (entities_in d) hang)) (branch (block_run d at a) (block_run d at b))
 
@@ -72,7 +72,7 @@ select_run d at hang e a b =
 abbrev pub picked_in : List Arm → (last : List Command) → ℕ → List Command
 picked_in arms last n = unwrap_or (option_map commands_in (find (λ arm. is_constant (constants_of arm) n) arms)) last
 
-unfoldable pub choose_run : Environment → Spot → (hang : List ℕ) → Number → List Arm → (last : List Command) → ℕ → Store → After
+unfoldable pub choose_run : Environment → Home → (hang : List ℕ) → Number → List Arm → (last : List Command) → ℕ → Store → After
 choose_run d at hang e arms last =
     select (world_in d) (term_of e) (listed (flags (entities_in d) hang)) (λ n. block_run d at (picked_in arms last n))
 
@@ -97,7 +97,7 @@ unfoldable pub GroupAble : Environment → List State → Type 0
 GroupAble d kids = AbleGroup (world_in d) (group_of (entities_in d) kids)
 
 -- a state with its parent, an entity or the root, and with children that can run
-pub record SpotAble (d : Environment) (at : Spot) : Type 0 where
+pub record HomeAble (d : Environment) (at : Home) : Type 0 where
   pub state : at.state < root (world_in d)
   pub parent : at.parent ≤ root (world_in d)
   pub children : GroupAble d at.children.now

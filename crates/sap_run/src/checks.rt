@@ -7,12 +7,12 @@ ghost use Rattle.sap_meaning.specs.Program as program;
 ghost use Rattle.sap_meaning.specs.Store as meaning;
 ghost use Rattle.sap_program.specs.Views as views;
 ghost use Rattle.sap_store.specs.Able.{AbleLevel, AbleStep, AbleTerm};
-ghost use Rattle.sap_store.specs.Code.{entities_in, spot_in, store_in, world_in};
+ghost use Rattle.sap_store.specs.Code.{entities_in, home_in, store_in, world_in};
 ghost use Rattle.sap_store.specs.Kept.{Ready};
 
 use sap_lattice::level::Level;
+use sap_program::home::Home;
 use sap_program::program::{Number, State, Step, TagOf};
-use sap_program::spot::Spot;
 use sap_store::entries::{child, own, start_cell};
 use sap_store::environment::Environment;
 use sap_store::store::Store;
@@ -95,13 +95,13 @@ fn cell_guard(environment: &Environment<'_>, store: &Store, memory: usize, index
 /// The level of what is overwritten, and of whether.
 pub(crate) fn guard(
     environment: &Environment<'_>,
-    at: &Spot<'_>,
+    at: &Home<'_>,
     store: &Store,
     step: &Step,
 ) -> Level
     requires ready { Ready (world_in environment.now) store.now }
     requires able { AbleStep (world_in environment.now) (views.step_of (entities_in environment.now) step.now) }
-    ensures { result ≡ checks.guard (world_in environment.now) (spot_in environment.now at.now) (views.step_of (entities_in environment.now) step.now) (store_in environment.now store.now) }
+    ensures { result ≡ checks.guard (world_in environment.now) (home_in environment.now at.now) (views.step_of (entities_in environment.now) step.now) (store_in environment.now store.now) }
 {
     match step {
         Step::Set { register, .. } => {
@@ -210,14 +210,14 @@ fn may_go(
 /// Whether a step passes its test in a context.
 pub(crate) fn test(
     environment: &Environment<'_>,
-    at: &Spot<'_>,
+    at: &Home<'_>,
     store: &Store,
     step: &Step,
     context: Level,
 ) -> bool
     requires ready { Ready (world_in environment.now) store.now }
     requires able { AbleStep (world_in environment.now) (views.step_of (entities_in environment.now) step.now) }
-    ensures { result ≡ checks.test (world_in environment.now) (spot_in environment.now at.now) (views.step_of (entities_in environment.now) step.now) context (store_in environment.now store.now) }
+    ensures { result ≡ checks.test (world_in environment.now) (home_in environment.now at.now) (views.step_of (entities_in environment.now) step.now) context (store_in environment.now store.now) }
 {
     let lattice = environment.lattice;
     match step {

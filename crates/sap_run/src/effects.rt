@@ -13,8 +13,8 @@ ghost use Rattle.sap_store.specs.Kept.{Ready};
 
 use crate::checks::register_level;
 use sap_lattice::level::Level;
+use sap_program::home::Home;
 use sap_program::program::{Number, Step, TagOf};
-use sap_program::spot::Spot;
 use sap_store::cell::Cell;
 use sap_store::entries::{
     own, put_cell_level, put_cell_number, put_child, put_level, put_number, raise, raise_one,
@@ -24,10 +24,10 @@ use sap_store::environment::Environment;
 use sap_store::store::Store;
 use sap_store::terms::{new_level, see};
 
-/// How a step acts whose test held: in the body at a spot, in a context, behind what hangs, which a level raises.
+/// How a step acts whose test held: in the body at a home, in a context, behind what hangs, which a level raises.
 #[derive(Clone, Copy, Drop)]
 pub(crate) struct Situation<'a> {
-    pub at: &'a Spot<'a>,
+    pub at: &'a Home<'a>,
     pub context: Level,
     pub hang: &'a [usize],
     pub level: Level,

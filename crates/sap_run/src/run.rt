@@ -8,16 +8,16 @@ ghost use Rattle.sap_meaning.specs.Program as program;
 ghost use Rattle.sap_meaning.specs.Runs.{listed_alone};
 ghost use Rattle.sap_program.specs.Hangs.{flags, rises};
 ghost use Rattle.sap_program.specs.Views as views;
-ghost use Rattle.sap_run.specs.Runs.{ArmsAble, BlockAble, CommandAble, GroupAble, SpotAble, StateAble, attempt_run, block_run, choose_run, command_run, entered, marked, picked_in, select_run, state_run, taken};
+ghost use Rattle.sap_run.specs.Runs.{ArmsAble, BlockAble, CommandAble, GroupAble, HomeAble, StateAble, attempt_run, block_run, choose_run, command_run, entered, marked, picked_in, select_run, state_run, taken};
 ghost use Rattle.sap_store.specs.Able.{AbleStep, AbleTerm};
-ghost use Rattle.sap_store.specs.Code.{entities_in, spot_in, store_in, world_in};
+ghost use Rattle.sap_store.specs.Code.{entities_in, home_in, store_in, world_in};
 ghost use Rattle.sap_store.specs.Kept.{Ready};
 
 use crate::checks::{guard, test};
 use crate::effects::{Situation, act};
 use sap_lattice::level::Level;
+use sap_program::home::Home;
 use sap_program::program::{Arm, Command, Number, State, Step};
-use sap_program::spot::Spot;
 use sap_store::entries::{child, raise};
 use sap_store::environment::Environment;
 use sap_store::store::Store;
@@ -28,14 +28,14 @@ use sap_store::terms::see;
 #[tactic(auto, using(crate::proofs::Runs::blocks, crate::proofs::Marks::marks, crate::proofs::Weights::weights))]
 fn commands(
     environment: &Environment<'_>,
-    at: &Spot<'_>,
+    at: &Home<'_>,
     store: &mut Store,
     marks: &mut [Option<Level>],
     list: &[Command],
     context: Level,
 )
     requires ready { Ready (world_in environment.now) store.old }
-    requires spot { SpotAble environment.now at.now }
+    requires home { HomeAble environment.now at.now }
     requires able { BlockAble environment.now list.now }
     ensures store { store_in environment.now store.new ≡ (block_run environment.now at.now list.now context (store_in environment.now store.old)).store }
     ensures marks { marks.new ≡ marked (block_run environment.now at.now list.now context (store_in environment.now store.old)).refused marks.old }
@@ -50,14 +50,14 @@ fn commands(
 #[tactic(auto, using(crate::proofs::Runs::commands, crate::proofs::Weights::weights))]
 fn command(
     environment: &Environment<'_>,
-    at: &Spot<'_>,
+    at: &Home<'_>,
     store: &mut Store,
     marks: &mut [Option<Level>],
     one: &Command,
     context: Level,
 )
     requires ready { Ready (world_in environment.now) store.old }
-    requires spot { SpotAble environment.now at.now }
+    requires home { HomeAble environment.now at.now }
     requires able { CommandAble environment.now one.now }
     ensures store { store_in environment.now store.new ≡ (command_run environment.now at.now one.now context (store_in environment.now store.old)).store }
     ensures marks { marks.new ≡ marked (command_run environment.now at.now one.now context (store_in environment.now store.old)).refused marks.old }
@@ -156,13 +156,13 @@ fn command(
 /// What a step with no handler raises.
 fn raised_alone<'a>(
     environment: &Environment<'_>,
-    at: &Spot<'_>,
+    at: &Home<'_>,
     itself: &'a [usize],
     step: &'a Step,
 ) -> &'a [usize]
-    requires spot { SpotAble environment.now at.now }
+    requires home { HomeAble environment.now at.now }
     requires itself { itself.now ≡ at.now.state ∷ [] }
-    ensures hang { (x : ℕ) → program.listed (flags (entities_in environment.now) result.now) x ≡ listed_alone (world_in environment.now) (spot_in environment.now at.now) (views.step_of (entities_in environment.now) step.now) x }
+    ensures hang { (x : ℕ) → program.listed (flags (entities_in environment.now) result.now) x ≡ listed_alone (world_in environment.now) (home_in environment.now at.now) (views.step_of (entities_in environment.now) step.now) x }
     ensures rising { IsTrue (rises result.now) }
 {
     match step {
@@ -186,7 +186,7 @@ fn raised_alone<'a>(
 #[tactic(auto, using(crate::proofs::Weights::weights), unfolding(crate::specs::Runs::select_run, sap_meaning::specs::Does::select))]
 fn select(
     environment: &Environment<'_>,
-    at: &Spot<'_>,
+    at: &Home<'_>,
     store: &mut Store,
     marks: &mut [Option<Level>],
     hang: &[usize],
@@ -196,7 +196,7 @@ fn select(
     context: Level,
 )
     requires ready { Ready (world_in environment.now) store.old }
-    requires spot { SpotAble environment.now at.now }
+    requires home { HomeAble environment.now at.now }
     requires rising { IsTrue (rises hang.now) }
     requires able { AbleTerm (world_in environment.now) (views.term_of condition.now) }
     requires yes { BlockAble environment.now yes.now }
@@ -244,7 +244,7 @@ fn picked<'a>(arms: &'a [Arm], last: &'a [Command], number: u64) -> &'a [Command
 #[tactic(auto, using(crate::proofs::Weights::weights), unfolding(crate::specs::Runs::choose_run, sap_meaning::specs::Does::select))]
 fn choose(
     environment: &Environment<'_>,
-    at: &Spot<'_>,
+    at: &Home<'_>,
     store: &mut Store,
     marks: &mut [Option<Level>],
     hang: &[usize],
@@ -254,7 +254,7 @@ fn choose(
     context: Level,
 )
     requires ready { Ready (world_in environment.now) store.old }
-    requires spot { SpotAble environment.now at.now }
+    requires home { HomeAble environment.now at.now }
     requires rising { IsTrue (rises hang.now) }
     requires able { AbleTerm (world_in environment.now) (views.term_of number.now) }
     requires arms { ArmsAble environment.now arms.now last.now }
@@ -280,10 +280,10 @@ fn take(
     step: &Step,
 )
     requires ready { Ready (world_in environment.now) store.old }
-    requires spot { SpotAble environment.now here.now.at.now }
+    requires home { HomeAble environment.now here.now.at.now }
     requires rising { IsTrue (rises here.now.hang.now) }
     requires able { AbleStep (world_in environment.now) (views.step_of (entities_in environment.now) step.now) }
-    requires level { here.now.level ≡ checks.guard (world_in environment.now) (spot_in environment.now here.now.at.now) (views.step_of (entities_in environment.now) step.now) (store_in environment.now store.old) }
+    requires level { here.now.level ≡ checks.guard (world_in environment.now) (home_in environment.now here.now.at.now) (views.step_of (entities_in environment.now) step.now) (store_in environment.now store.old) }
     ensures store { store_in environment.now store.new ≡ (taken environment.now here.now step.now (store_in environment.now store.old)).store }
     ensures marks { marks.new ≡ marked (taken environment.now here.now step.now (store_in environment.now store.old)).refused marks.old }
     ensures ready { Ready (world_in environment.now) store.new }
@@ -311,7 +311,7 @@ fn take(
 #[tactic(auto, using(crate::proofs::Weights::weights, crate::proofs::Marks::marks), unfolding(crate::specs::Runs::attempt_run, crate::specs::Runs::taken, sap_meaning::specs::Does::attempt_then))]
 fn attempt(
     environment: &Environment<'_>,
-    at: &Spot<'_>,
+    at: &Home<'_>,
     store: &mut Store,
     marks: &mut [Option<Level>],
     hang: &[usize],
@@ -321,7 +321,7 @@ fn attempt(
     context: Level,
 )
     requires ready { Ready (world_in environment.now) store.old }
-    requires spot { SpotAble environment.now at.now }
+    requires home { HomeAble environment.now at.now }
     requires rising { IsTrue (rises hang.now) }
     requires able { AbleStep (world_in environment.now) (views.step_of (entities_in environment.now) step.now) }
     requires accepted { BlockAble environment.now accepted.now }
@@ -416,7 +416,7 @@ pub fn body(
 {
     let children = state.children.as_slice();
     let list = state.body.as_slice();
-    let at = Spot {
+    let at = Home {
         state: state.number,
         parent,
         children,

@@ -1,16 +1,5 @@
-pub mod Positions
 pub mod Inputs
 pub mod Programs
 pub mod Falls
 pub mod Refused
 pub mod Served
-pub mod Chosen
-pub mod Placed
-pub mod Lists
-pub mod Arms
-pub mod Lighter
-pub mod Choices
-pub mod Groups
-pub mod Worlds
-pub mod Limits
-pub mod Resolved

@@ -12,7 +12,7 @@ use Rattle.sap_meaning.specs.Expressions.{width_of}
 use Rattle.sap_meaning.specs.Touches.{among}
 use Rattle.sap_meaning.specs.Fine.{FineStep, FineCommand, FineArms, FineBlock, FineState, FineGroup, FineProgram, FineNode}
 use Rattle.sap_meaning.specs.Sized.{SizedTerm, SizedLevel, SizedStep, Sized, SizedArms, SizedBlock, SizedState, SizedGroup, SizedProgram}
-use Rattle.sap_resolve.specs.Sized.Ranges.{RangedTerm, RangedLevel, RangedStep, Ranged, RangedArms, RangedBlock, RangedState, RangedGroup, RangedProgram}
+use Rattle.sap_resolved.specs.Sized.Ranges.{RangedTerm, RangedLevel, RangedStep, Ranged, RangedArms, RangedBlock, RangedState, RangedGroup, RangedProgram}
 use Rattle.sap_store.specs.Able.{AbleTerm, AbleLevel, AbleTarget, AbleStep, AbleCommand, AbleArms, AbleBlock, AbleState, AbleGroup}
 
 module _ (w : World) where

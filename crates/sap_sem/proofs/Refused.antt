@@ -7,8 +7,7 @@ use Rattle.std.proofs.lemmas.Grind.{get_or-set_at}
 use Rattle.std.proofs.lemmas.List.{length-replicate}
 use Rattle.sap_meaning.specs.Store.{Refusal}
 use Rattle.sap_run.specs.Runs.{marked}
-use Rattle.sap_meaning.specs.Sites.{refused_sites, Sublist}
-use Rattle.sap_secure.specs.CheckSites.Numbering.{numbers_from}
+use Rattle.sap_meaning.specs.Sites.{refused_sites, numbers_from, Sublist}
 use Rattle.sap_sem.specs.Machine.{refusal_before, refusals_from, refusal_of}
 
 -- the first of two levels that is there

@@ -9,15 +9,14 @@ use Rattle.sap_lattice.specs.Levels.{Levels, order_of}
 use Rattle.sap_names.specs.Entities.{entities_of}
 use Rattle.sap_shape.specs.WellFormed.{WellFormed}
 use Rattle.sap_meaning.specs.Program.{Program, entity, root, width}
-use Rattle.sap_resolve.specs.Premises.Premises.{ProgramsAreFine}
-use Rattle.sap_resolve.specs.Fill.{program_of}
-use Rattle.sap_resolve.proofs.Lookup.{entities_length}
-use Rattle.sap_resolve.specs.Sized.Sound.{SizesFit, WidthsInRange}
+use Rattle.sap_resolved.specs.Premises.Premises.{ProgramsAreFine}
+use Rattle.sap_resolved.specs.Fill.{program_of}
+use Rattle.sap_resolved.proofs.Lookup.{entities_length}
+use Rattle.sap_resolved.specs.Sized.Sound.{SizesFit, WidthsInRange}
 use Rattle.sap_check.specs.Sites.{sites_of}
 use Rattle.sap_meaning.specs.Fine.{FineProgram, ExactProgram}
-use Rattle.sap_meaning.specs.Sites.{program_sites}
+use Rattle.sap_meaning.specs.Sites.{program_sites, numbers_from}
 use Rattle.sap_shape.specs.Sites.{check_sites}
-use Rattle.sap_secure.specs.CheckSites.Numbering.{numbers_from}
 use Rattle.sap_program.specs.Design.{IsProgramOf}
 use Rattle.sap_program.specs.declared.program.Program as code
 use Rattle.sap_store.specs.Able.{AbleGroup}

@@ -3,16 +3,3 @@ pub mod Sound
 pub mod Machine
 pub mod Props
 pub mod Pair
-pub mod Rows
-pub mod Surroundings
-pub mod Lists
-pub use Rattle.sap_check.specs.Checked
-pub use Rattle.sap_hang.specs.Hang
-pub use Rattle.sap_meaning.specs.Agree
-pub use Rattle.sap_meaning.specs.Cycle
-pub use Rattle.sap_meaning.specs.Fine
-pub use Rattle.sap_meaning.specs.Sized
-pub use Rattle.sap_meaning.specs.State
-pub use Rattle.sap_program.specs.Design
-pub use Rattle.sap_program.specs.Views
-pub use Rattle.sap_tree.specs.Trees

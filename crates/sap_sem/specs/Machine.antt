@@ -18,11 +18,11 @@ abbrev pub state_of : Machine → Store
 state_of m = store_of (program_of m).world m.store
 
 -- how many check sites there are, which are numbered from 1
-abbrev pub sites_of : Machine → ℕ
-sites_of m = m.program.sites
+abbrev pub site_count_of : Machine → ℕ
+site_count_of m = m.program.sites
 
 abbrev pub IsSite : Machine → ℕ → Type 0
-IsSite m k = (1 ≤ k) × (k ≤ sites_of m)
+IsSite m k = (1 ≤ k) × (k ≤ site_count_of m)
 
 -- the level at which a site was refused in the last cycle, where it was
 abbrev pub refused_at : Machine → ℕ → Option ℕ
@@ -39,7 +39,7 @@ refusals_from level_at k (suc n) = refusal_before k (level_at k) (refusals_from 
 
 -- what was refused in the last cycle: each refused site once, with its level, by rising numbers
 abbrev pub refusals_of : Machine → List Refusal
-refusals_of m = refusals_from (refused_at m) 1 (sites_of m)
+refusals_of m = refusals_from (refused_at m) 1 (site_count_of m)
 
 -- the level with which a site stands in a list, where it does
 abbrev pub refusal_of : List Refusal → ℕ → Option ℕ

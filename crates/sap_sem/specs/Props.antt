@@ -5,11 +5,11 @@ use Rattle.sap_bits.specs.declared.Op2.{Op2}
 use Rattle.sap_bits.specs.declared.Op2.TheVariants.{Add, Sub, Mul, And, Or, Xor, Eq, Ne, Lt, Le, Shl, Shr}
 use Rattle.sap_maps.specs.Term.{Term, constant, read, cell, one, two, choose, join, part, CountFits, TermFits}
 use Rattle.sap_meaning.specs.Program.{World, width, LevelTerm, fixed, of, at_place, both, Step, assign, write, retag, retag_cell, go_to, fall_to_child, Command, lone, try, if_else, try_then, case_of, Arms, last_arm, and_arm, Block, end_block, command_then, State, state_node, Group, no_node, and_node}
-use Rattle.sap_meaning.specs.Checks.{Spot}
+use Rattle.sap_meaning.specs.Checks.{Home}
 use Rattle.sap_lattice.specs.Levels.{Levels}
 use Rattle.sap_meaning.specs.Fine.{FineTerm, FineLevel, FineStep, FineCommand, FineArms, FineBlock, Open, OpenArms, OpenBlock, Closes, Final, ClosingArms, OnceStep, Once, OnceArms, OnceBlock, OnceState, OnceGroup, FineState, FineGroup, ExactStep, Exact, ExactArms, ExactBlock, ExactState, ExactGroup}
 use Rattle.sap_meaning.specs.Sized.{Indexed}
-use Rattle.sap_resolve.specs.Sized.Ranges.{RangedTerm}
+use Rattle.sap_resolved.specs.Sized.Ranges.{RangedTerm}
 use Rattle.sap_program.specs.declared.program.Program as code
 use Rattle.sap_store.specs.Able.{AbleTerm, AbleLevel, AbleStep, AbleCommand, AbleArms, AbleBlock, AbleState, AbleGroup}
 use Rattle.sap_sem.specs.Sound.{IsSound}
@@ -170,7 +170,7 @@ module _ (w : World) where
     group_prop no_node = hlevel props
     group_prop (and_node t g) = hlevel (props, state_prop t, group_prop g)
 
-  exact_step_prop : (at : Spot) (k : Step) → IsProp (ExactStep w at k)
+  exact_step_prop : (at : Home) (k : Step) → IsProp (ExactStep w at k)
   exact_step_prop at (assign site x e) = hlevel props
   exact_step_prop at (write site m i e) = hlevel props
   exact_step_prop at (retag site x n) = hlevel props
@@ -179,18 +179,18 @@ module _ (w : World) where
   exact_step_prop at (fall_to_child site hang) = hlevel props
 
   mutual
-    exact_prop : (at : Spot) (c : Command) → IsProp (Exact w at c)
+    exact_prop : (at : Home) (c : Command) → IsProp (Exact w at c)
     exact_prop at (lone k) = exact_step_prop at k
     exact_prop at (try k hang h) = hlevel (props, exact_block_prop at h)
     exact_prop at (if_else hang e a b) = hlevel (props, exact_block_prop at a, exact_block_prop at b)
     exact_prop at (try_then k hang a b) = hlevel (props, exact_block_prop at a, exact_block_prop at b)
     exact_prop at (case_of hang e arms) = hlevel (props, exact_arms_prop at arms)
 
-    exact_arms_prop : (at : Spot) (arms : Arms) → IsProp (ExactArms w at arms)
+    exact_arms_prop : (at : Home) (arms : Arms) → IsProp (ExactArms w at arms)
     exact_arms_prop at (last_arm b) = exact_block_prop at b
     exact_arms_prop at (and_arm constants b arms) = hlevel (props, exact_block_prop at b, exact_arms_prop at arms)
 
-    exact_block_prop : (at : Spot) (b : Block) → IsProp (ExactBlock w at b)
+    exact_block_prop : (at : Home) (b : Block) → IsProp (ExactBlock w at b)
     exact_block_prop at end_block = hlevel props
     exact_block_prop at (command_then c cs) = hlevel (props, exact_prop at c, exact_block_prop at cs)
 

@@ -3,9 +3,8 @@ use Rattle.std.specs.Prelude.{◌≡◌, ◌+◌, List, Option, ℕ, length}
 use Rattle.sap_lattice.specs.Levels.{Levels, order_of}
 use Rattle.sap_meaning.specs.Program as meaning
 use Rattle.sap_meaning.specs.Fine.{FineProgram, ExactProgram}
-use Rattle.sap_meaning.specs.Sites.{program_sites}
+use Rattle.sap_meaning.specs.Sites.{program_sites, numbers_from}
 use Rattle.sap_meaning.specs.State.{Resting}
-use Rattle.sap_secure.specs.CheckSites.Numbering.{numbers_from}
 use Rattle.sap_program.specs.declared.program.Program.{Program}
 use Rattle.sap_program.specs.Views.{program_in}
 use Rattle.sap_store.specs.declared.store.Store.{Store}

@@ -4,18 +4,10 @@ ghost use Rattle.std.specs.Prelude.{◌≡◌, ◌↔◌, ◌<◌, ◌^◌, IsTr
 ghost use Rattle.sap_meaning.specs.Program as program;
 ghost use Rattle.sap_meaning.specs.Sized as sized;
 ghost use Rattle.sap_meaning.specs.State.{InputsFit};
-ghost use Rattle.sap_program.specs.Views.{kind_of_sort};
-ghost use Rattle.sap_sem.specs.Machine.{program_of, sites_of};
+ghost use Rattle.sap_sem.specs.Machine.{program_of, site_count_of};
 
 use crate::machine::Machine;
-use sap_program::program::{Entity, Sort};
 use sap_stream::inputs::{Inputs, Tagged};
-
-fn is_input(entity: &Entity) -> bool
-    ensures { result ≡ program.kind_is_input (kind_of_sort entity.now.sort) }
-{
-    matches!(entity.sort, Sort::Input)
-}
 
 fn is_below(number: u64, width: u64) -> bool
     ensures { IsTrue result ↔ (number < 2 ^ width) }
@@ -38,9 +30,9 @@ impl Machine {
         let levels = self.lattice.count();
         let values = inputs.values();
         let mut k = 0;
-        for entity in &self.program.entities {
-            if is_input(entity) {
-                if k == values.len() || !is_within(entity.width, levels, values[k]) {
+        for x in 0..self.program.entities.len() {
+            if self.program.is_input(x) {
+                if k == values.len() || !is_within(self.program.width(x), levels, values[k]) {
                     return false;
                 }
                 k += 1;
@@ -49,52 +41,32 @@ impl Machine {
         k == values.len()
     }
 
-    #[tactic(auto, using(sap_store::proofs::Worlds::entities))]
     pub fn is_register(&self, entity: u32) -> bool
         ensures { result ≡ program.is_register (program_of self.now).world entity }
     {
-        match self.program.entities.get(entity as usize) {
-            Some(found) => matches!(found.sort, Sort::Register),
-            None => false,
-        }
+        self.program.is_register(entity as usize)
     }
 
-    #[tactic(auto, using(sap_store::proofs::Worlds::entities))]
     pub fn is_memory(&self, entity: u32) -> bool
         ensures { result ≡ program.is_memory (program_of self.now).world entity }
     {
-        match self.program.entities.get(entity as usize) {
-            Some(found) => matches!(found.sort, Sort::Memory(_)),
-            None => false,
-        }
+        self.program.is_memory(entity as usize)
     }
 
-    #[tactic(auto, using(sap_store::proofs::Worlds::entities, sap_store::proofs::Worlds::root_is))]
+    #[tactic(auto, using(sap_store::proofs::Worlds::root_is))]
     pub fn is_state(&self, entity: u32) -> bool
         ensures within { IsTrue result → entity < program.root (program_of self.now).world }
         ensures state { IsTrue result → program.is_state (program_of self.now).world entity ≡ true }
         ensures other { entity < program.root (program_of self.now).world → result ≡ program.is_state (program_of self.now).world entity }
     {
-        match self.program.entities.get(entity as usize) {
-            Some(found) => matches!(found.sort, Sort::State { .. }),
-            None => false,
-        }
+        (entity as usize) < self.program.entities.len() && self.program.is_state(entity as usize)
     }
 
     /// How many cells a memory has; 0 for what is none.
-    #[tactic(auto, using(sap_store::proofs::Worlds::entities))]
     pub fn depth(&self, entity: u32) -> u64
         ensures { result ≡ sized.depth (program_of self.now).world entity }
     {
-        match self.program.entities.get(entity as usize) {
-            Some(found) => match found.sort {
-                Sort::Memory(depth) => depth,
-                Sort::State { .. } => 0,
-                Sort::Input => 0,
-                Sort::Register => 0,
-            },
-            None => 0,
-        }
+        self.program.depth(entity as usize)
     }
 
     /// How many children a state has, or the root.
@@ -106,10 +78,7 @@ impl Machine {
             Some(state) => state as usize,
             None => self.program.entities.len(),
         };
-        match self.program.children.get(parent) {
-            Some(count) => *count,
-            None => 0,
-        }
+        self.program.child_count(parent)
     }
 
     /// How many inputs, registers, memories and states there are, which are numbered from 0.
@@ -122,7 +91,7 @@ impl Machine {
 
     /// How many check sites there are, which are numbered from 1.
     pub fn site_count(&self) -> u32
-        ensures { result ≡ sites_of self.now }
+        ensures { result ≡ site_count_of self.now }
     {
         self.program.sites
     }

@@ -6,22 +6,21 @@ ghost use Rattle.sap_check.specs.Sites as check;
 ghost use Rattle.sap_hang.specs.Hang.{IsHangTable};
 ghost use Rattle.sap_meaning.specs.Fine.{ExactProgram, FineProgram};
 ghost use Rattle.sap_meaning.specs.Program as program;
-ghost use Rattle.sap_meaning.specs.Sites.{program_sites};
+ghost use Rattle.sap_meaning.specs.Sites.{numbers_from, program_sites};
 ghost use Rattle.sap_meaning.specs.State.{first};
-ghost use Rattle.sap_resolve.specs.Fill as resolve;
-ghost use Rattle.sap_secure.specs.CheckSites.Numbering.{numbers_from};
-ghost use Rattle.sap_sem.specs.Machine.{levels_of, program_of, refusals_of, refused_at, sites_of, state_of};
+ghost use Rattle.sap_resolved.specs.Fill as resolve;
+ghost use Rattle.sap_sem.specs.Machine.{levels_of, program_of, refusals_of, refused_at, site_count_of, state_of};
 ghost use Rattle.sap_shape.specs.Sites.{check_sites};
 ghost use Rattle.sap_store.specs.Able.{AbleGroup};
 
 use crate::machine::Machine;
-use crate::resolve::resolve;
 use sap_check::Checked;
 use sap_hang::HangTable;
 use sap_lattice::level::Level;
 use sap_meaning::states_keep;
-use sap_resolve::premises::well_formed_serves;
-use sap_resolve::sized::{sizes_fit, widths_in_range};
+use sap_resolve::resolve::resolve;
+use sap_resolved::premises::well_formed_serves;
+use sap_resolved::sized::{sizes_fit, widths_in_range};
 use sap_secure::check_sites::sites_agree;
 use sap_store::environment::Environment;
 use sap_store::first::first_store;
@@ -65,7 +64,7 @@ impl Machine {
         requires { IsHangTable (tree_in checked.now) table.now }
         ensures levels { IfOk result (λ m. levels_of m ≡ levels_in checked.now) }
         ensures program { IfOk result (λ m. program_of m ≡ resolve.program_of (levels_in checked.now) (tree_in checked.now)) }
-        ensures sites { IfOk result (λ m. sites_of m ≡ length (check.sites_of (tree_in checked.now))) }
+        ensures sites { IfOk result (λ m. site_count_of m ≡ length (check.sites_of (tree_in checked.now))) }
         ensures state { IfOk result (λ m. state_of m ≡ first (program_of m).world) }
         ensures refusals { IfOk result (λ m. refusals_of m ≡ []) }
         ensures refused { IfOk result (λ m. (k : ℕ) → refused_at m k ≡ None) }

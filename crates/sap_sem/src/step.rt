@@ -3,7 +3,7 @@
 ghost use Rattle.std.specs.Prelude.{◌≡◌, ℕ};
 ghost use Rattle.sap_meaning.specs.Cycle.{cycle};
 ghost use Rattle.sap_meaning.specs.State.{InputsFit};
-ghost use Rattle.sap_sem.specs.Machine.{IsSite, levels_of, program_of, refusal_of, refusals_of, refused_at, sites_of, state_of};
+ghost use Rattle.sap_sem.specs.Machine.{IsSite, levels_of, program_of, refusal_of, refusals_of, refused_at, site_count_of, state_of};
 
 use crate::machine::Machine;
 use crate::turn::turn;
@@ -17,7 +17,7 @@ impl Machine {
         requires { InputsFit (program_of self.old).world inputs.now }
         ensures levels { levels_of self.new ≡ levels_of self.old }
         ensures program { program_of self.new ≡ program_of self.old }
-        ensures sites { sites_of self.new ≡ sites_of self.old }
+        ensures sites { site_count_of self.new ≡ site_count_of self.old }
         ensures state { state_of self.new ≡ (cycle (program_of self.old) inputs.now (state_of self.old)).store }
         ensures refusals { refusals_of self.new ≡ (cycle (program_of self.old) inputs.now (state_of self.old)).refused }
         ensures refused { (k : ℕ) → IsSite self.old k → refused_at self.new k ≡ refusal_of (cycle (program_of self.old) inputs.now (state_of self.old)).refused k }

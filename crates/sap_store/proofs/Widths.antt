@@ -1,7 +1,7 @@
 -- The widths of terms, and what operators ask of their numbers.
 use Rattle.std.proofs.Common.{◌≡◌, ℕ, ◌+◌, ◌-◌, ◌^◌, ◌<◌, ◌≤◌, sym, subst, arith}
 use Rattle.std.proofs.Math.Nat.{pow-le-pow_right}
-use Rattle.sap_resolve.proofs.SizedLemmas.{ranged_width}
+use Rattle.sap_resolved.proofs.SizedLemmas.{ranged_width}
 use Rattle.sap_bits.specs.Arithmetic.{RightFits}
 use Rattle.sap_bits.specs.declared.Op1.{Op1}
 use Rattle.sap_bits.specs.declared.Op2.{Op2}

@@ -1,21 +1,11 @@
--- What a program says of its entities, as the code reads it.
-use Rattle.std.proofs.Common.{◌≡◌, ℕ, ◌<◌, ◌≤◌, length, get_or, map, ap, ◌∙◌, arith}
-use Rattle.std.proofs.lemmas.List.{get_or-map, get_or_past}
+-- How many entities a program has.
+use Rattle.std.proofs.Common.{◌≡◌}
 use Rattle.sap_lemmas.proofs.Lists.{length_map}
 use Rattle.sap_lattice.specs.Order.{Order}
-use Rattle.sap_meaning.specs.Program.{entity, nothing, root}
-use Rattle.sap_program.specs.declared.program.Entity.{Entity}
+use Rattle.sap_meaning.specs.Program.{root}
 use Rattle.sap_program.specs.declared.program.Program.{Program}
 use Rattle.sap_program.specs.Views.{entity_of, program_in, count}
 
 module _ (o : Order) (p : Program) where
   pub root_is : root (program_in o p).world ≡ count p
   root_is = length_map entity_of p.entities.items
-
-  pub entity_found : (x : ℕ) (e : Entity) → x < length p.entities.items → get_or p.entities.items x e ≡ e → entity (program_in o p).world x ≡ entity_of e
-  entity_found x e l i = get_or-map entity_of p.entities.items x e nothing l ∙ ap entity_of i
-
-  pub entity_past : (x : ℕ) → length p.entities.items ≤ x → entity (program_in o p).world x ≡ nothing
-  entity_past x l = get_or_past (map entity_of p.entities.items) x nothing (let e = root_is in omega (arith, e, l))
-
-pub ruleset entities = (entity_found, entity_past)

@@ -4,7 +4,7 @@ use Rattle.sap_maps.specs.Term.{Term}
 use Rattle.sap_meaning.specs.Program.{World, root, is_dynamic, width, place, last, LevelTerm, fixed, of, at_place, both, Step, assign, write, retag, retag_cell, go_to, fall_to_child, Command, lone, try, if_else, try_then, case_of, Arms, last_arm, and_arm, Block, end_block, command_then, State, state_node, Group, no_node, and_node}
 use Rattle.sap_meaning.specs.Expressions.{width_of}
 use Rattle.sap_meaning.specs.Sized.{SizedTerm, Indexes}
-use Rattle.sap_resolve.specs.Sized.Ranges.{RangedTerm}
+use Rattle.sap_resolved.specs.Sized.Ranges.{RangedTerm}
 
 -- the widths fit one another, and are from 1 to 64
 pub record AbleTerm (w : World) (e : Term ℕ) : Type 0 where

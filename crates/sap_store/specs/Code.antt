@@ -5,8 +5,8 @@ use Rattle.sap_meaning.specs.Program.{World}
 use Rattle.sap_meaning.specs.Program as program
 use Rattle.sap_meaning.specs.Store as meaning
 use Rattle.sap_meaning.specs.Checks as checks
-use Rattle.sap_program.specs.declared.spot.Spot.{Spot}
-use Rattle.sap_program.specs.Views.{count, program_in, spot_of}
+use Rattle.sap_program.specs.declared.home.Home.{Home}
+use Rattle.sap_program.specs.Views.{count, program_in, home_of}
 use Rattle.sap_store.specs.declared.environment.Environment.{Environment}
 use Rattle.sap_store.specs.declared.store.Store.{Store}
 use Rattle.sap_store.specs.Kept.{store_of}
@@ -21,8 +21,8 @@ world_in d = (program_of d).world
 abbrev pub entities_in : Environment → ℕ
 entities_in d = count d.program.now
 
-abbrev pub spot_in : Environment → Spot → checks.Spot
-spot_in d at = spot_of (entities_in d) at
+abbrev pub home_in : Environment → Home → checks.Home
+home_in d at = home_of (entities_in d) at
 
 abbrev pub store_in : Environment → Store → meaning.Store
 store_in d s = store_of (world_in d) s

@@ -4,6 +4,3 @@ pub mod Passes
 pub mod Able
 pub mod Code
 pub mod First
-pub use Rattle.sap_meaning.specs.Sized
-pub use Rattle.sap_meaning.specs.State
-pub use Rattle.sap_program.specs.Hangs

@@ -5,6 +5,7 @@ use Rattle.sap_names.specs.Entities.{entities_of}
 use Rattle.sap_check.specs.Checked.{levels_in, tree_in}
 use Rattle.sap_tree.specs.Designs.{design_of}
 use Rattle.sap_tree.specs.Whole.{is_whole}
+use Rattle.sap_secure.proofs.check_sites.Counts.{numbers_are, count_is}
 use Rattle.sap_sem.proofs.Served.{serves}
 use Rattle.sap_sem.proofs.new.program_serves.Goals as goal
 
@@ -35,7 +36,10 @@ returns-clause-fine c =
     c.well_formed_serves.ensures.fine ls d laws c.lawful.ensures
 
 pub returns-clause-sites : goal.returns-clause-sites
-returns-clause-sites c = (c.sites_agree.ensures (levels_in c.args.checked.now) (tree_in c.args.checked.now) c.lawful.ensures).numbers
+returns-clause-sites c =
+    let ls = levels_in c.args.checked.now in
+    let d = tree_in c.args.checked.now in
+    numbers_are ls d (c.sites_agree.ensures ls d c.lawful.ensures)
 
 pub returns-clause-count : goal.returns-clause-count
-returns-clause-count c = (c.sites_agree.ensures (levels_in c.args.checked.now) (tree_in c.args.checked.now) c.lawful.ensures).count
+returns-clause-count c = count_is (tree_in c.args.checked.now)

@@ -1,9 +1,12 @@
 use Rattle.std.proofs.Common.{◌↔◌, ◌≤◌, length, drop}
 use Rattle.sap_sem.proofs.Inputs.{Left}
 use Rattle.sap_sem.proofs.machine.Machine.fits.Given as goal
+use Rattle.sap_sem.specs.Machine.{program_of}
 
-abbrev pub invariant-loop-entity : goal.invariant-loop-entity
-invariant-loop-entity l = record {
-  left : Left l.levels l.entity-items l.values ↔ Left l.levels (drop l.entity-index l.entity-items) (drop l.k l.values);
-  few : l.k ≤ length l.values;
-}
+abbrev pub invariant-loop-x : goal.invariant-loop-x
+invariant-loop-x l =
+    let es = (program_of l.self).world.entities in
+    record {
+      left : Left l.levels es l.values ↔ Left l.levels (drop l.x es) (drop l.k l.values);
+      few : l.k ≤ length l.values;
+    }

@@ -1,11 +1,10 @@
 use Rattle.std.proofs.Common.{◌≡◌, ◌∙◌, ℕ, List, Option, None, get_or, length, rules, ap, sym, subst}
 use Rattle.std.proofs.lemmas.List.{with_items_is, places}
 use Rattle.sap_meaning.specs.Cycle.{cycle, cycle_listed}
-use Rattle.sap_meaning.specs.Sites.{Sublist, refused_sites}
+use Rattle.sap_meaning.specs.Sites.{Sublist, refused_sites, numbers_from}
 use Rattle.sap_meaning.specs.State.{Resting}
 use Rattle.sap_meaning.specs.Store.{After, Store}
-use Rattle.sap_secure.specs.CheckSites.Numbering.{numbers_from}
-use Rattle.sap_sem.specs.Machine.{program_of, refusals_from, sites_of, state_of}
+use Rattle.sap_sem.specs.Machine.{program_of, refusals_from, site_count_of, state_of}
 use Rattle.sap_run.specs.Runs.{GroupAble}
 use Rattle.sap_sem.proofs.Refused.{told, told_again}
 use Rattle.sap_sem.proofs.machine.Machine.step.Goals as goal
@@ -21,9 +20,9 @@ returns-clause-refusals c =
     let i = c.args.inputs.now in
     let s = state_of m in
     let same : cycle_listed p i s ≡ cycle p i s = c.lists_serve.ensures p m.sound.exact i s in
-    let rises : Sublist (refused_sites (cycle p i s).refused) (numbers_from 1 (sites_of m)) = subst (λ (ns : List ℕ). Sublist (refused_sites (cycle p i s).refused) ns) m.sound.sites (c.refusals_in_order.ensures p m.sound.fine i s).0 in
-    ap (λ (l : List (Option ℕ)). refusals_from (λ k. get_or l k None) 1 (sites_of m)) (with_items_is m.refusals c.turn.new.marks (search (rules, places)))
-    ∙ told_again _ _ c.turn.new.marks (length c.deref_mut.result.now) (sites_of m) c.turn.ensures.marks (ap (λ (a : After). a.refused) same) rises
+    let rises : Sublist (refused_sites (cycle p i s).refused) (numbers_from 1 (site_count_of m)) = subst (λ (ns : List ℕ). Sublist (refused_sites (cycle p i s).refused) ns) m.sound.sites (c.refusals_in_order.ensures p m.sound.fine i s).0 in
+    ap (λ (l : List (Option ℕ)). refusals_from (λ k. get_or l k None) 1 (site_count_of m)) (with_items_is m.refusals c.turn.new.marks (search (rules, places)))
+    ∙ told_again _ _ c.turn.new.marks (length c.deref_mut.result.now) (site_count_of m) c.turn.ensures.marks (ap (λ (a : After). a.refused) same) rises
     (ap (λ (l : List (Option ℕ)). length l) c.deref_mut.ensures.value ∙ m.marks)
 
 pub returns-clause-refused : goal.returns-clause-refused
@@ -33,9 +32,9 @@ returns-clause-refused c = λ k h.
     let i = c.args.inputs.now in
     let s = state_of m in
     let same : cycle_listed p i s ≡ cycle p i s = c.lists_serve.ensures p m.sound.exact i s in
-    let rises : Sublist (refused_sites (cycle p i s).refused) (numbers_from 1 (sites_of m)) = subst (λ (ns : List ℕ). Sublist (refused_sites (cycle p i s).refused) ns) m.sound.sites (c.refusals_in_order.ensures p m.sound.fine i s).0 in
+    let rises : Sublist (refused_sites (cycle p i s).refused) (numbers_from 1 (site_count_of m)) = subst (λ (ns : List ℕ). Sublist (refused_sites (cycle p i s).refused) ns) m.sound.sites (c.refusals_in_order.ensures p m.sound.fine i s).0 in
     ap (λ (l : List (Option ℕ)). get_or l k None) (with_items_is m.refusals c.turn.new.marks (search (rules, places)))
-    ∙ told _ _ c.turn.new.marks (length c.deref_mut.result.now) (sites_of m) k c.turn.ensures.marks (ap (λ (a : After). a.refused) same) rises
+    ∙ told _ _ c.turn.new.marks (length c.deref_mut.result.now) (site_count_of m) k c.turn.ensures.marks (ap (λ (a : After). a.refused) same) rises
     (ap (λ (l : List (Option ℕ)). length l) c.deref_mut.ensures.value ∙ m.marks) h.1
 
 pub invariant_of-self-clause-ready : goal.invariant_of-self-clause-ready

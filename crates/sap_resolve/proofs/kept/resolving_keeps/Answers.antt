@@ -1,5 +1,0 @@
-use Rattle.sap_resolve.proofs.kept.Designs.{kept}
-use Rattle.sap_resolve.proofs.kept.resolving_keeps.Goals as goal
-
-pub returns : goal.returns
-returns c = kept

@@ -1,5 +1,0 @@
-use Rattle.sap_resolve.proofs.sized.Sampled.{lawful, whole, no_fault}
-use Rattle.sap_resolve.proofs.sized.examples.premises_are_met.Goals as goal
-
-pub returns : goal.returns
-returns c = record { lawful = lawful; whole = whole; no_fault = no_fault }

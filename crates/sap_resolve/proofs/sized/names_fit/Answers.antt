@@ -1,5 +1,0 @@
-use Rattle.sap_resolve.proofs.sized.Programs.{names_fit_law}
-use Rattle.sap_resolve.proofs.sized.names_fit.Goals as goal
-
-pub returns : goal.returns
-returns c = names_fit_law

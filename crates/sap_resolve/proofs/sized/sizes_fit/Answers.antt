@@ -1,5 +1,0 @@
-use Rattle.sap_resolve.proofs.sized.Programs.{sizes_fit_law}
-use Rattle.sap_resolve.proofs.sized.sizes_fit.Goals as goal
-
-pub returns : goal.returns
-returns c = sizes_fit_law

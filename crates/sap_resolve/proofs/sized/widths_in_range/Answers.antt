@@ -1,5 +1,0 @@
-use Rattle.sap_resolve.proofs.sized.RangedPrograms.{widths_in_range_law}
-use Rattle.sap_resolve.proofs.sized.widths_in_range.Goals as goal
-
-pub returns : goal.returns
-returns c = widths_in_range_law

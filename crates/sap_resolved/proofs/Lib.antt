@@ -1,0 +1,4 @@
+pub mod Lookup
+pub mod FillLemmas
+pub mod SizedLemmas
+pub mod WorldsLemmas

@@ -1,0 +1,48 @@
+-- The names of entities and levels by their numbers.
+use Rattle.std.proofs.Common.{◌≡◌, ℕ, zero, suc, ◌+◌, ◌<◌, List, [], ◌∷◌, length, sym, ap, ◌∙◌, arith, inl, inr, bytes_eq}
+use Rattle.std.proofs.Math.Numerals.{one-add}
+use Rattle.std.proofs.lemmas.Bool.{cases_Bool}
+use Rattle.sap_lemmas.proofs.Texts.{equal_of_bytes_eq}
+use Rattle.sap_tree.specs.declared.name.Mention.{Mention}
+use Rattle.sap_lattice.specs.Levels.{Levels}
+use Rattle.sap_names.specs.declared.entity.Entity.{Entity}
+use Rattle.sap_names.specs.NameFaults.{level_faults, twice}
+use Rattle.std.specs.List.{position_or_len}
+use Rattle.sap_resolved.specs.Worlds.{level_number}
+use Rattle.sap_resolved.proofs.WorldsLemmas.{known_level}
+use Rattle.sap_resolved.specs.Terms.{entity_number}
+use Rattle.sap_resolved.proofs.premises.Places.{name_at}
+use Rattle.sap_resolved.proofs.premises.Lookups.{unique}
+use Rattle.sap_resolved.specs.Kept.Kept.{IsNth, IsNamed, IsLevel}
+
+pub named_at : (es : List Entity) (x : ℕ) (name : List ℕ) → x < length es → name_at es x ≡ name → IsNamed es x name
+named_at [] x name h e = absurd (omega arith)
+named_at (f ∷ es) zero name h e = e
+named_at (f ∷ es) (suc x) name h e = named_at es x name (omega arith) e
+
+pub named_of : (es : List Entity) (x : ℕ) (name : List ℕ) → IsNamed es x name → (x < length es) × (name_at es x ≡ name)
+named_of [] x name h = absurd h
+named_of (f ∷ es) zero name h = (omega arith, h)
+named_of (f ∷ es) (suc x) name h =
+    let r = named_of es x name h in
+    let l : x < length es = r.0 in
+    (omega arith, r.1)
+
+-- no two entities have one name
+pub one_name : (es : List Entity) → twice [] es ≡ [] → (x y : ℕ) (name : List ℕ) → IsNamed es x name → IsNamed es y name → x ≡ y
+one_name es once x y name h i =
+    let r = named_of es x name h in
+    let s = named_of es y name i in
+    sym (unique es once x r.0) ∙ ap (λ (n : List ℕ). entity_number es n) (r.1 ∙ sym s.1) ∙ unique es once y s.0
+
+-- a level's name
+level_nth : (names : List (List ℕ)) (name : List ℕ) → position_or_len (λ l. bytes_eq l name) names < length names
+    → IsNth names (position_or_len (λ l. bytes_eq l name) names) name
+level_nth [] name h = absurd (omega arith)
+level_nth (l ∷ ls) name h = elim (cases_Bool (bytes_eq l name)) [
+  | inl t ↦ rw t (equal_of_bytes_eq l name t)
+  | inr t ↦ (let below : 1 + position_or_len (λ l. bytes_eq l name) ls < length (l ∷ ls) = rw t at h in rw (t, one-add) (level_nth ls name (omega arith)))
+]
+
+pub level_named : (ls : Levels) (m : Mention) → level_faults ls.names m ≡ [] → IsLevel ls (level_number ls m) m.name
+level_named ls m h = level_nth ls.names m.name (known_level ls m h).0

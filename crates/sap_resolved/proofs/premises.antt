@@ -1,0 +1,15 @@
+pub mod Commands
+pub mod Filling
+pub mod Places
+pub mod Lookups
+pub mod Numbers
+pub mod Closed
+pub mod Shut
+pub mod Once
+pub mod Steps
+pub mod Groups
+pub mod Worlds
+pub mod Lists
+pub mod SitesPlaced
+pub mod SitesFilled
+pub mod Programs

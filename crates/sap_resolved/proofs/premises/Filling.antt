@@ -1,0 +1,350 @@
+-- Filling in what hangs leaves all else of a program as it was.
+use Rattle.std.proofs.Common.{◌≡◌, ℕ, suc, ◌<◌, Bool, ◌||◌, refl, sym, ap, ◌∙◌, subst, nat_eq}
+use Rattle.sap_lemmas.proofs.Bools.{or_equal}
+use Rattle.sap_meaning.specs.Program.{World, Step, assign, write, retag, retag_cell, go_to, fall_to_child, Command, lone, try, if_else, try_then, case_of, Arms, last_arm, and_arm, Block, end_block, command_then, State, state_node, Group, no_node, and_node}
+use Rattle.sap_meaning.specs.Checks.{Home}
+use Rattle.sap_meaning.specs.Touches.{step_assigns, assigns, arms_assign, block_assigns, state_assigns, group_assigns, among, step_hangs, hangs, arms_hang, block_hangs}
+use Rattle.sap_meaning.specs.Fine.{size, inside, transfers, Open, OpenArms, OpenBlock, Closes, Final, ClosingArms, step_writes, step_reaching, reaching, arms_reaching, block_reaching, state_reaches, group_reaches, OnceStep, Once, OnceArms, OnceBlock, OnceState, OnceGroup, step_retags, retags, arms_retag, block_retags, state_retags, group_retags, FineStep, FineCommand, FineArms, FineBlock, FineNode, FineState, FineGroup, number_of}
+use Rattle.sap_resolved.specs.Fill.{filled_step, filled, filled_arms, filled_block, filled_state, filled_group}
+use Rattle.sap_resolved.specs.Named.{NamedStep, Named, NamedArms, NamedBlock, NamedState, NamedGroup}
+
+module _ (w : World) where
+  -- numbers of states
+  pub among_filled : (p : ℕ) (g : Group) (x : ℕ) → among (filled_group w p g) x ≡ among g x
+  among_filled p no_node x = refl
+  among_filled p (and_node (state_node s b k) g) x = ap (λ (r : Bool). nat_eq x s || r) (among_filled p g x)
+
+  pub inside_filled : (p : ℕ) (g : Group) (x : ℕ) → inside (filled_group w p g) x ≡ inside g x
+  inside_filled p no_node x = refl
+  inside_filled p (and_node (state_node s b k) g) x =
+      ap (λ (r : Bool). nat_eq x s || r) (or_equal _ _ _ _ (inside_filled s k x) (inside_filled p g x))
+
+  pub size_filled : (p : ℕ) (g : Group) → size (filled_group w p g) ≡ size g
+  size_filled p no_node = refl
+  size_filled p (and_node (state_node s b k) g) = ap suc (size_filled p g)
+
+  number_filled : (p : ℕ) (t : State) → number_of (filled_state w p t) ≡ number_of t
+  number_filled p (state_node s b g) = refl
+
+  -- what a body does, at any place
+  module _ (at : Home) where
+    transfers_filled : (k : Step) → transfers (filled_step w at k) ≡ transfers k
+    transfers_filled (assign site x e) = refl
+    transfers_filled (write site m i e) = refl
+    transfers_filled (retag site x n) = refl
+    transfers_filled (retag_cell site m j n) = refl
+    transfers_filled (go_to site target) = refl
+    transfers_filled (fall_to_child site hang) = refl
+
+    mutual
+      open_filled : (c : Command) → Open c → Open (filled w at c)
+      open_filled (lone k) h = transfers_filled k ∙ h
+      open_filled (try k hang b) h = (transfers_filled k ∙ h.0, open_block_filled b h.1)
+      open_filled (if_else hang e a b) h = (open_block_filled a h.0, open_block_filled b h.1)
+      open_filled (try_then k hang a b) h = (transfers_filled k ∙ h.0, open_block_filled a h.1, open_block_filled b h.2)
+      open_filled (case_of hang e arms) h = open_arms_filled arms h
+
+      open_arms_filled : (arms : Arms) → OpenArms arms → OpenArms (filled_arms w at arms)
+      open_arms_filled (last_arm b) h = open_block_filled b h
+      open_arms_filled (and_arm constants b arms) h = (open_block_filled b h.0, open_arms_filled arms h.1)
+
+      open_block_filled : (b : Block) → OpenBlock b → OpenBlock (filled_block w at b)
+      open_block_filled end_block h = h
+      open_block_filled (command_then c cs) h = (open_filled c h.0, open_block_filled cs h.1)
+
+    mutual
+      final_filled : (c : Command) → Final c → Final (filled w at c)
+      final_filled (lone k) h = transfers_filled k ∙ h
+      final_filled (try k hang b) h = (transfers_filled k ∙ h.0, closes_filled b h.1)
+      final_filled (if_else hang e a b) h = (closes_filled a h.0, closes_filled b h.1)
+      final_filled (try_then k hang a b) h = (transfers_filled k ∙ h.0, closes_filled a h.1, closes_filled b h.2)
+      final_filled (case_of hang e arms) h = closing_filled arms h
+
+      closing_filled : (arms : Arms) → ClosingArms arms → ClosingArms (filled_arms w at arms)
+      closing_filled (last_arm b) h = closes_filled b h
+      closing_filled (and_arm constants b arms) h = (closes_filled b h.0, closing_filled arms h.1)
+
+      closes_filled : (b : Block) → Closes b → Closes (filled_block w at b)
+      closes_filled end_block h = h
+      closes_filled (command_then c end_block) h = final_filled c h
+      closes_filled (command_then c (command_then d ds)) h = (open_filled c h.0, closes_filled (command_then d ds) h.1)
+
+    step_assigns_filled : (k : Step) (x : ℕ) → step_assigns (filled_step w at k) x ≡ step_assigns k x
+    step_assigns_filled (assign site y e) x = refl
+    step_assigns_filled (write site m i e) x = refl
+    step_assigns_filled (retag site y n) x = refl
+    step_assigns_filled (retag_cell site m j n) x = refl
+    step_assigns_filled (go_to site target) x = refl
+    step_assigns_filled (fall_to_child site hang) x = refl
+
+    mutual
+      assigns_filled : (c : Command) (x : ℕ) → assigns (filled w at c) x ≡ assigns c x
+      assigns_filled (lone k) x = step_assigns_filled k x
+      assigns_filled (try k hang b) x = or_equal _ _ _ _ (step_assigns_filled k x) (block_assigns_filled b x)
+      assigns_filled (if_else hang e a b) x = or_equal _ _ _ _ (block_assigns_filled a x) (block_assigns_filled b x)
+      assigns_filled (try_then k hang a b) x = or_equal _ _ _ _ (step_assigns_filled k x) (or_equal _ _ _ _ (block_assigns_filled a x) (block_assigns_filled b x))
+      assigns_filled (case_of hang e arms) x = arms_assign_filled arms x
+
+      arms_assign_filled : (arms : Arms) (x : ℕ) → arms_assign (filled_arms w at arms) x ≡ arms_assign arms x
+      arms_assign_filled (last_arm b) x = block_assigns_filled b x
+      arms_assign_filled (and_arm constants b arms) x = or_equal _ _ _ _ (block_assigns_filled b x) (arms_assign_filled arms x)
+
+      block_assigns_filled : (b : Block) (x : ℕ) → block_assigns (filled_block w at b) x ≡ block_assigns b x
+      block_assigns_filled end_block x = refl
+      block_assigns_filled (command_then c cs) x = or_equal _ _ _ _ (assigns_filled c x) (block_assigns_filled cs x)
+
+    step_writes_filled : (k : Step) (x : ℕ) → step_writes (filled_step w at k) x ≡ step_writes k x
+    step_writes_filled (assign site y e) x = refl
+    step_writes_filled (write site m i e) x = refl
+    step_writes_filled (retag site y n) x = refl
+    step_writes_filled (retag_cell site m j n) x = refl
+    step_writes_filled (go_to site target) x = refl
+    step_writes_filled (fall_to_child site hang) x = refl
+
+    step_retags_filled : (k : Step) (x : ℕ) → step_retags (filled_step w at k) x ≡ step_retags k x
+    step_retags_filled (assign site y e) x = refl
+    step_retags_filled (write site m i e) x = refl
+    step_retags_filled (retag site y n) x = refl
+    step_retags_filled (retag_cell site m j n) x = refl
+    step_retags_filled (go_to site target) x = refl
+    step_retags_filled (fall_to_child site hang) x = refl
+
+    mutual
+      retags_filled : (c : Command) (x : ℕ) → retags (filled w at c) x ≡ retags c x
+      retags_filled (lone k) x = step_retags_filled k x
+      retags_filled (try k hang b) x = or_equal _ _ _ _ (step_retags_filled k x) (block_retags_filled b x)
+      retags_filled (if_else hang e a b) x = or_equal _ _ _ _ (block_retags_filled a x) (block_retags_filled b x)
+      retags_filled (try_then k hang a b) x = or_equal _ _ _ _ (step_retags_filled k x) (or_equal _ _ _ _ (block_retags_filled a x) (block_retags_filled b x))
+      retags_filled (case_of hang e arms) x = arms_retag_filled arms x
+
+      arms_retag_filled : (arms : Arms) (x : ℕ) → arms_retag (filled_arms w at arms) x ≡ arms_retag arms x
+      arms_retag_filled (last_arm b) x = block_retags_filled b x
+      arms_retag_filled (and_arm constants b arms) x = or_equal _ _ _ _ (block_retags_filled b x) (arms_retag_filled arms x)
+
+      block_retags_filled : (b : Block) (x : ℕ) → block_retags (filled_block w at b) x ≡ block_retags b x
+      block_retags_filled end_block x = refl
+      block_retags_filled (command_then c cs) x = or_equal _ _ _ _ (retags_filled c x) (block_retags_filled cs x)
+
+    -- where a fall leads to the same
+    module _ (f g : ℕ → Bool) (same : (m : ℕ) → f m ≡ g m) where
+      step_reaching_filled : (k : Step) (m : ℕ) → step_reaching f (filled_step w at k) m ≡ step_reaching g k m
+      step_reaching_filled (assign site y e) m = refl
+      step_reaching_filled (write site n i e) m = refl
+      step_reaching_filled (retag site y n) m = refl
+      step_reaching_filled (retag_cell site n j t) m = refl
+      step_reaching_filled (go_to site target) m = refl
+      step_reaching_filled (fall_to_child site hang) m = same m
+
+      mutual
+        reaching_filled : (c : Command) (m : ℕ) → reaching f (filled w at c) m ≡ reaching g c m
+        reaching_filled (lone k) m = step_reaching_filled k m
+        reaching_filled (try k hang b) m = or_equal _ _ _ _ (step_reaching_filled k m) (block_reaching_filled b m)
+        reaching_filled (if_else hang e a b) m = or_equal _ _ _ _ (block_reaching_filled a m) (block_reaching_filled b m)
+        reaching_filled (try_then k hang a b) m =
+            or_equal _ _ _ _ (step_reaching_filled k m) (or_equal _ _ _ _ (block_reaching_filled a m) (block_reaching_filled b m))
+        reaching_filled (case_of hang e arms) m = arms_reaching_filled arms m
+
+        arms_reaching_filled : (arms : Arms) (m : ℕ) → arms_reaching f (filled_arms w at arms) m ≡ arms_reaching g arms m
+        arms_reaching_filled (last_arm b) m = block_reaching_filled b m
+        arms_reaching_filled (and_arm constants b arms) m = or_equal _ _ _ _ (block_reaching_filled b m) (arms_reaching_filled arms m)
+
+        block_reaching_filled : (b : Block) (m : ℕ) → block_reaching f (filled_block w at b) m ≡ block_reaching g b m
+        block_reaching_filled end_block m = refl
+        block_reaching_filled (command_then c cs) m = or_equal _ _ _ _ (reaching_filled c m) (block_reaching_filled cs m)
+
+    -- a child among the same children, siblings and all
+    module _ (q j g i : Group) (siblings : (x : ℕ) → among j x ≡ among q x) (children : size i ≡ size g) where
+      fine_step_filled : (k : Step) → FineStep w q g k → FineStep w j i (filled_step w at k)
+      fine_step_filled (assign site x e) h = h
+      fine_step_filled (write site m i e) h = h
+      fine_step_filled (retag site x n) h = h
+      fine_step_filled (retag_cell site m j n) h = h
+      fine_step_filled (go_to site target) h = siblings target ∙ h
+      fine_step_filled (fall_to_child site hang) h = subst (λ (n : ℕ). 0 < n) (sym children) h
+
+      mutual
+        fine_filled : (c : Command) → FineCommand w q g c → FineCommand w j i (filled w at c)
+        fine_filled (lone k) h = fine_step_filled k h
+        fine_filled (try k hang b) h = (fine_step_filled k h.0, fine_block_filled b h.1)
+        fine_filled (if_else hang e a b) h = (h.0, fine_block_filled a h.1, fine_block_filled b h.2)
+        fine_filled (try_then k hang a b) h = (fine_step_filled k h.0, fine_block_filled a h.1, fine_block_filled b h.2)
+        fine_filled (case_of hang e arms) h = (h.0, fine_arms_filled arms h.1)
+
+        fine_arms_filled : (arms : Arms) → FineArms w q g arms → FineArms w j i (filled_arms w at arms)
+        fine_arms_filled (last_arm b) h = fine_block_filled b h
+        fine_arms_filled (and_arm constants b arms) h = (fine_block_filled b h.0, fine_arms_filled arms h.1)
+
+        fine_block_filled : (b : Block) → FineBlock w q g b → FineBlock w j i (filled_block w at b)
+        fine_block_filled end_block h = h
+        fine_block_filled (command_then c cs) h = (fine_filled c h.0, fine_block_filled cs h.1)
+
+    -- what hangs, where the children are the same and assign the same
+    module _ (s : ℕ) (g i : Group) (children : (x : ℕ) → among i x ≡ among g x) (assigned : (x : ℕ) → group_assigns i x ≡ group_assigns g x) where
+      step_hangs_filled : (k : Step) (x : ℕ) → step_hangs s i (filled_step w at k) x ≡ step_hangs s g k x
+      step_hangs_filled (assign site y e) x = refl
+      step_hangs_filled (write site m j e) x = refl
+      step_hangs_filled (retag site y n) x = refl
+      step_hangs_filled (retag_cell site m j n) x = refl
+      step_hangs_filled (go_to site target) x = refl
+      step_hangs_filled (fall_to_child site hang) x = or_equal _ _ _ _ (children x) (assigned x)
+
+      mutual
+        pub hangs_filled : (c : Command) (x : ℕ) → hangs s i (filled w at c) x ≡ hangs s g c x
+        hangs_filled (lone k) x = step_hangs_filled k x
+        hangs_filled (try k hang b) x = or_equal _ _ _ _ (step_hangs_filled k x) (block_hangs_filled b x)
+        hangs_filled (if_else hang e a b) x = or_equal _ _ _ _ (block_hangs_filled a x) (block_hangs_filled b x)
+        hangs_filled (try_then k hang a b) x = or_equal _ _ _ _ (step_hangs_filled k x) (or_equal _ _ _ _ (block_hangs_filled a x) (block_hangs_filled b x))
+        hangs_filled (case_of hang e arms) x = arms_hang_filled arms x
+
+        arms_hang_filled : (arms : Arms) (x : ℕ) → arms_hang s i (filled_arms w at arms) x ≡ arms_hang s g arms x
+        arms_hang_filled (last_arm b) x = block_hangs_filled b x
+        arms_hang_filled (and_arm constants b arms) x = or_equal _ _ _ _ (block_hangs_filled b x) (arms_hang_filled arms x)
+
+        block_hangs_filled : (b : Block) (x : ℕ) → block_hangs s i (filled_block w at b) x ≡ block_hangs s g b x
+        block_hangs_filled end_block x = refl
+        block_hangs_filled (command_then c cs) x = or_equal _ _ _ _ (hangs_filled c x) (block_hangs_filled cs x)
+
+    -- what is filled is named as before
+    named_step_unfilled : (k : Step) → NamedStep w (filled_step w at k) → NamedStep w k
+    named_step_unfilled (assign site x e) h = h
+    named_step_unfilled (write site m i e) h = h
+    named_step_unfilled (retag site x n) h = h
+    named_step_unfilled (retag_cell site m j n) h = h
+    named_step_unfilled (go_to site target) h = h
+    named_step_unfilled (fall_to_child site hang) h = h
+
+    mutual
+      named_unfilled : (c : Command) → Named w (filled w at c) → Named w c
+      named_unfilled (lone k) h = named_step_unfilled k h
+      named_unfilled (try k hang b) h = (named_step_unfilled k h.0, named_block_unfilled b h.1)
+      named_unfilled (if_else hang e a b) h = (h.0, named_block_unfilled a h.1, named_block_unfilled b h.2)
+      named_unfilled (try_then k hang a b) h = (named_step_unfilled k h.0, named_block_unfilled a h.1, named_block_unfilled b h.2)
+      named_unfilled (case_of hang e arms) h = (h.0, named_arms_unfilled arms h.1)
+
+      named_arms_unfilled : (arms : Arms) → NamedArms w (filled_arms w at arms) → NamedArms w arms
+      named_arms_unfilled (last_arm b) h = named_block_unfilled b h
+      named_arms_unfilled (and_arm constants b arms) h = (named_block_unfilled b h.0, named_arms_unfilled arms h.1)
+
+      named_block_unfilled : (b : Block) → NamedBlock w (filled_block w at b) → NamedBlock w b
+      named_block_unfilled end_block h = h
+      named_block_unfilled (command_then c cs) h = (named_unfilled c h.0, named_block_unfilled cs h.1)
+
+  mutual
+    named_state_unfilled : (p : ℕ) (t : State) → NamedState w (filled_state w p t) → NamedState w t
+    named_state_unfilled p (state_node s b g) h = (named_block_unfilled (record { state = s; parent = p; children = g }) b h.0, named_group_unfilled s g h.1)
+
+    pub named_group_unfilled : (p : ℕ) (g : Group) → NamedGroup w (filled_group w p g) → NamedGroup w g
+    named_group_unfilled p no_node h = h
+    named_group_unfilled p (and_node t g) h = (named_state_unfilled p t h.0, named_group_unfilled p g h.1)
+
+  mutual
+    state_assigns_filled : (p : ℕ) (t : State) (x : ℕ) → state_assigns (filled_state w p t) x ≡ state_assigns t x
+    state_assigns_filled p (state_node s b g) x =
+        let at : Home = record { state = s; parent = p; children = g } in
+        or_equal (block_assigns (filled_block w at b) x) (group_assigns (filled_group w s g) x) (block_assigns b x) (group_assigns g x)
+        (block_assigns_filled at b x) (group_assigns_filled s g x)
+
+    pub group_assigns_filled : (p : ℕ) (g : Group) (x : ℕ) → group_assigns (filled_group w p g) x ≡ group_assigns g x
+    group_assigns_filled p no_node x = refl
+    group_assigns_filled p (and_node t g) x = or_equal _ _ _ _ (state_assigns_filled p t x) (group_assigns_filled p g x)
+
+  mutual
+    state_retags_filled : (p : ℕ) (t : State) (x : ℕ) → state_retags (filled_state w p t) x ≡ state_retags t x
+    state_retags_filled p (state_node s b g) x =
+        let at : Home = record { state = s; parent = p; children = g } in
+        or_equal (block_retags (filled_block w at b) x) (group_retags (filled_group w s g) x) (block_retags b x) (group_retags g x) (block_retags_filled at b x)
+        (group_retags_filled s g x)
+
+    group_retags_filled : (p : ℕ) (g : Group) (x : ℕ) → group_retags (filled_group w p g) x ≡ group_retags g x
+    group_retags_filled p no_node x = refl
+    group_retags_filled p (and_node t g) x = or_equal _ _ _ _ (state_retags_filled p t x) (group_retags_filled p g x)
+
+  mutual
+    state_reaches_filled : (p : ℕ) (t : State) (m : ℕ) → state_reaches (filled_state w p t) m ≡ state_reaches t m
+    state_reaches_filled p (state_node s b g) m =
+        block_reaching_filled (record { state = s; parent = p; children = g }) (group_reaches (filled_group w s g)) (group_reaches g)
+        (λ n. group_reaches_filled s g n) b m
+
+    group_reaches_filled : (p : ℕ) (g : Group) (m : ℕ) → group_reaches (filled_group w p g) m ≡ group_reaches g m
+    group_reaches_filled p no_node m = refl
+    group_reaches_filled p (and_node t g) m = or_equal _ _ _ _ (state_reaches_filled p t m) (group_reaches_filled p g m)
+
+  module _ (at : Home) (p : ℕ) (g : Group) where
+    abbrev Same : Block → Type 0
+    Same b = (m : ℕ) → block_reaching (group_reaches (filled_group w p g)) (filled_block w at b) m ≡ block_reaching (group_reaches g) b m
+
+    same_reach : (b : Block) → Same b
+    same_reach b m = block_reaching_filled at (group_reaches (filled_group w p g)) (group_reaches g) (λ n. group_reaches_filled p g n) b m
+
+    -- where a fall leads to what has to hold there
+    module _ (below behind : Type 0) (lead : below → behind) where
+      once_step_filled : (k : Step) → OnceStep below k → OnceStep behind (filled_step w at k)
+      once_step_filled (assign site x e) h = h
+      once_step_filled (write site m i e) h = h
+      once_step_filled (retag site x n) h = h
+      once_step_filled (retag_cell site m j n) h = h
+      once_step_filled (go_to site target) h = h
+      once_step_filled (fall_to_child site hang) h = lead h
+
+      mutual
+        once_filled : (c : Command) → Once g below c → Once (filled_group w p g) behind (filled w at c)
+        once_filled (lone k) h = once_step_filled k h
+        once_filled (try k hang b) h = (once_step_filled k h.0, once_block_filled b h.1, λ m. rw (step_writes_filled at k m, same_reach b m) (h.2 m))
+        once_filled (if_else hang e a b) h = (once_block_filled a h.0, once_block_filled b h.1)
+        once_filled (try_then k hang a b) h = (
+          once_step_filled k h.0,
+          once_block_filled a h.1,
+          once_block_filled b h.2,
+          λ m. rw (step_reaching_filled at (group_reaches (filled_group w p g)) (group_reaches g) (λ n. group_reaches_filled p g n) k m, same_reach a m) (h.3 m),
+          λ m. rw (step_writes_filled at k m, same_reach b m) (h.4 m),
+        )
+        once_filled (case_of hang e arms) h = once_arms_filled arms h
+
+        once_arms_filled : (arms : Arms) → OnceArms g below arms → OnceArms (filled_group w p g) behind (filled_arms w at arms)
+        once_arms_filled (last_arm b) h = once_block_filled b h
+        once_arms_filled (and_arm constants b arms) h = (once_block_filled b h.0, once_arms_filled arms h.1)
+
+        once_block_filled : (b : Block) → OnceBlock g below b → OnceBlock (filled_group w p g) behind (filled_block w at b)
+        once_block_filled end_block h = h
+        once_block_filled (command_then c cs) h = (
+          once_filled c h.0,
+          once_block_filled cs h.1,
+          λ m. rw (reaching_filled at (group_reaches (filled_group w p g)) (group_reaches g) (λ n. group_reaches_filled p g n) c m, same_reach cs m) (h.2 m),
+        )
+
+  mutual
+    once_state_filled : (p : ℕ) (t : State) → OnceState t → OnceState (filled_state w p t)
+    once_state_filled p (state_node s b g) h =
+        once_block_filled (record { state = s; parent = p; children = g }) s g (OnceGroup g) (OnceGroup (filled_group w s g)) (λ once. once_group_filled s g once) b h
+
+    pub once_group_filled : (p : ℕ) (g : Group) → OnceGroup g → OnceGroup (filled_group w p g)
+    once_group_filled p no_node h = h
+    once_group_filled p (and_node t g) h = (once_state_filled p t h.0, once_group_filled p g h.1)
+
+  -- what a program has from a well-formed design
+  mutual
+    fine_state_filled : (p : ℕ) (q : Group) (n : ℕ) (t : State) → FineState w q n t → FineState w (filled_group w p q) n (filled_state w p t)
+    fine_state_filled p q n (state_node s b g) h =
+        let at : Home = record { state = s; parent = p; children = g } in
+        let node : FineNode w q n s b g = h.0 in
+        let node' : FineNode w (filled_group w p q) n s (filled_block w at b) (filled_group w s g) = record {
+          kind = node.kind;
+          placed = node.placed;
+          count = node.count ∙ sym (size_filled s g);
+          numbers = λ x. inside_filled s g x ∙ node.numbers x;
+          itself = node.itself;
+          declared = node.declared;
+          steps = fine_block_filled at q (filled_group w p q) g (filled_group w s g) (among_filled p q) (size_filled s g) b node.steps;
+          closes = closes_filled at b node.closes;
+          retags_itself = or_equal _ _ _ _ (block_retags_filled at b s) (group_retags_filled s g s) ∙ node.retags_itself;
+          retags_below = λ x i. block_retags_filled at b x ∙ node.retags_below x (sym (inside_filled s g x) ∙ i);
+        } in
+        (node', fine_group_filled s g 0 g h.1)
+
+    pub fine_group_filled : (p : ℕ) (q : Group) (n : ℕ) (g : Group) → FineGroup w q n g → FineGroup w (filled_group w p q) n (filled_group w p g)
+    fine_group_filled p q n no_node h = h
+    fine_group_filled p q n (and_node t g) h = (
+      fine_state_filled p q n t h.0,
+      fine_group_filled p q (suc n) g h.1,
+      λ x i. rw (number_filled p t) (h.2 x (sym (inside_filled p g x) ∙ i)),
+    )

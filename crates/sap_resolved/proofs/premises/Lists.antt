@@ -1,0 +1,303 @@
+-- The lists in the program of a design have exactly what hangs.
+use Rattle.std.proofs.Common.{◌≡◌, ℕ, zero, suc, ◌+◌, ◌<◌, ◌≤◌, Bool, true, false, ◌&&◌, ◌||◌, List, [], ◌∷◌, ◌++◌, length, get_or, Option, Some, None, nat_eq, nat_lt, refl, sym, ap, ◌∙◌, arith, inl, inr, bytes_eq, option_map}
+use Rattle.std.proofs.lemmas.Bool.{cases_Bool, eqb-true, false_from_ne_true, or_cases}
+use Rattle.std.proofs.lemmas.List.{get_or-append-add}
+use Rattle.sap_lemmas.proofs.Bools.{and_right, or_equal}
+use Rattle.sap_lemmas.proofs.Lists.{get_early}
+use Rattle.sap_resolved.proofs.FillLemmas.{table_length}
+use Rattle.sap_tree.specs.Syntax.{SimpleCommand, assign, write, set_tag, set_cell_tag, go_to, fall_to_child, Command, lone, try, if_else, try_then, case_of, Arms, last_arm, and_arm, CommandBlock, command_block, ElseBlock, no_else, with_else, CommandList, no_command, and_command, StateTree, state_node, StateList, no_state, and_state, DesignTree}
+use Rattle.sap_lattice.specs.Levels.{Levels}
+use Rattle.sap_names.specs.declared.entity.Entity as declared_entity
+use Rattle.sap_names.specs.Entities.{number_of, entities_of}
+use Rattle.sap_meaning.specs.Program.{World, is_dynamic, root, listed, Group}
+use Rattle.sap_meaning.specs.Checks.{Home}
+use Rattle.sap_meaning.specs.Touches.{among, step_assigns, assigns, arms_assign, block_assigns, state_assigns, group_assigns, step_hangs, hangs, arms_hang, block_hangs, touches, root_touches}
+use Rattle.sap_meaning.specs.Fine.{ExactStep, Exact, ExactArms, ExactBlock, ExactState, ExactGroup, ExactProgram}
+use Rattle.sap_resolved.specs.Worlds.{states_in, states_below, group_entities, world_of}
+use Rattle.sap_shape.specs.Sites.{Surroundings, simple_sites, block_sites, command_sites, state_sites}
+use Rattle.sap_resolved.specs.Resolve.{site_number, step_of, command_of, arms_of, block_of, else_of, list_of, state_of, group_of}
+use Rattle.sap_resolved.specs.Terms.{known, entity_number}
+use Rattle.sap_resolved.specs.Fill.{table, filled_step, filled, filled_arms, filled_block, filled_state, filled_group, program_of}
+use Rattle.sap_resolved.proofs.Lookup.{entities_length}
+use Rattle.sap_resolved.proofs.premises.Filling.{among_filled, group_assigns_filled, hangs_filled}
+use Rattle.sap_resolved.proofs.premises.Places.{part_within, group_count}
+use Rattle.sap_resolved.proofs.premises.Worlds.{laid}
+
+get_late : (xs : List Bool) (x : ℕ) → length xs ≤ x → get_or xs x false ≡ false
+get_late [] x h = refl
+get_late (y ∷ xs) zero h = absurd (omega arith)
+get_late (y ∷ xs) (suc x) h = let k : length xs ≤ x = omega arith in get_late xs x k
+
+listed_below : (n : ℕ) (test : ℕ → Bool) (x : ℕ) → x < n → listed (table n test) x ≡ test x
+listed_below zero test x h = absurd (omega arith)
+listed_below (suc n) test x h = elim (cases_Bool (nat_lt x n)) [
+  | inl t ↦
+      let k : x < n = grind (arith) in
+      let l = table_length n test in
+      let i : x < length (table n test) = omega arith in
+      get_early (table n test) (test n ∷ []) x i ∙ listed_below n test x k
+  | inr t ↦
+      let k : x ≡ n = grind (arith) in
+      let l = table_length n test in
+      let e : x ≡ length (table n test) + 0 = omega arith in
+      let f : get_or (table n test ++ test n ∷ []) (length (table n test) + 0) false ≡ test n = get_or-append-add (table n test) (test n ∷ []) 0 false in
+      ap (λ (m : ℕ). get_or (table n test ++ test n ∷ []) m false) e ∙ f ∙ ap test (sym k)
+]
+
+listed_is : (n : ℕ) (test : ℕ → Bool) → ((x : ℕ) → test x ≡ true → x < n) → (x : ℕ) → listed (table n test) x ≡ test x
+listed_is n test below x = elim (cases_Bool (nat_lt x n)) [
+  | inl t ↦ (let k : x < n = grind (arith) in listed_below n test x k)
+  | inr t ↦
+      let k : n ≤ x = grind (arith) in
+      let l = table_length n test in
+      let i : length (table n test) ≤ x = omega arith in
+      get_late (table n test) x i ∙ sym (false_from_ne_true (test x) (λ j. let m = below x j in omega arith))
+]
+
+-- a number that stands for a name is below that of the root, where there are entities at all
+one_more : (l : ℕ) (o : Option ℕ) (n : ℕ) → ((m : ℕ) → o ≡ Some m → m < l) → option_map (λ m. m + 1) o ≡ Some n → n < suc l
+one_more l None n f k = cc
+one_more l (Some m) n f k = let r : m < l = f m refl in let s : m + 1 ≡ n = cc in omega arith
+
+number_within : (es : List declared_entity.Entity) (name : List ℕ) (n : ℕ) → number_of es name ≡ Some n → n < length es
+number_within [] name n h = cc
+number_within (e ∷ es) name n h = elim (cases_Bool (bytes_eq e.name.name name)) [
+  | inl t ↦ (let i : Some 0 ≡ Some n = rw t at h in let j : 0 ≡ n = cc in omega arith)
+  | inr t ↦ one_more (length es) (number_of es name) n (λ m i. number_within es name m i) (rw t at h)
+]
+
+known_within : (l : ℕ) (o : Option ℕ) → 0 < l → ((n : ℕ) → o ≡ Some n → n < l) → known o < l
+known_within l None h f = h
+known_within l (Some n) h f = f n refl
+
+entity_within : (es : List declared_entity.Entity) (name : List ℕ) → 0 < length es → entity_number es name < length es
+entity_within es name h = known_within (length es) (number_of es name) h (number_within es name)
+
+module _ (r x : ℕ) where
+  -- only a number below r passes the test
+  abbrev Low : Bool → Type 0
+  Low test = test ≡ true → x < r
+
+  low_or : (a b : Bool) → Low a → Low b → Low (a || b)
+  low_or a b f g h = elim (or_cases a b h) [ inl i ↦ f i | inr i ↦ g i ]
+
+  low_false : Low false
+  low_false h = cc
+
+  low_equal : (y : ℕ) → y < r → Low (nat_eq x y)
+  low_equal y l h = let e = eqb-true x y h in omega arith
+
+  module _ (ls : Levels) (h : Surroundings) (bound : (name : List ℕ) → entity_number h.entities name < r) where
+    step_assigned : (n : ℕ) (c : SimpleCommand) → Low (step_assigns (step_of ls h n c) x)
+    step_assigned n (assign target e) = low_equal (entity_number h.entities target.name) (bound target.name)
+    step_assigned n (write target index e) = low_equal (entity_number h.entities target.name) (bound target.name)
+    step_assigned n (set_tag place target tag) = low_false
+    step_assigned n (set_cell_tag place target index tag) = low_false
+    step_assigned n (go_to place target) = low_false
+    step_assigned n (fall_to_child place) = low_false
+
+    mutual
+      command_assigned : (k : ℕ) (c : Command) → Low (assigns (command_of ls h k c) x)
+      command_assigned k (lone c) = step_assigned (site_number h k c) c
+      command_assigned k (try c place b) =
+          low_or (step_assigns (step_of ls h (site_number h k c) c) x) (block_assigns (block_of ls h (k + length (simple_sites h c)) b) x)
+          (step_assigned (site_number h k c) c) (block_assigned (k + length (simple_sites h c)) b)
+      command_assigned k (if_else place e b other) =
+          low_or (block_assigns (block_of ls h k b) x) (block_assigns (else_of ls h (k + length (block_sites h b)) other) x) (block_assigned k b)
+          (else_assigned (k + length (block_sites h b)) other)
+      command_assigned k (try_then c place a b) =
+          let i = k + length (simple_sites h c) in
+          let j = i + length (block_sites h a) in
+          low_or (step_assigns (step_of ls h (site_number h k c) c) x) (block_assigns (block_of ls h i a) x || block_assigns (block_of ls h j b) x)
+          (step_assigned (site_number h k c) c)
+          (low_or (block_assigns (block_of ls h i a) x) (block_assigns (block_of ls h j b) x) (block_assigned i a) (block_assigned j b))
+      command_assigned k (case_of place e arms) = arms_assigned k arms
+
+      arms_assigned : (k : ℕ) (arms : Arms) → Low (arms_assign (arms_of ls h k arms) x)
+      arms_assigned k (last_arm b) = block_assigned k b
+      arms_assigned k (and_arm constants b arms) =
+          low_or (block_assigns (block_of ls h k b) x) (arms_assign (arms_of ls h (k + length (block_sites h b)) arms) x) (block_assigned k b) (arms_assigned (k + length (block_sites h b)) arms)
+
+      block_assigned : (k : ℕ) (b : CommandBlock) → Low (block_assigns (block_of ls h k b) x)
+      block_assigned k (command_block cs after) = list_assigned k cs
+
+      else_assigned : (k : ℕ) (b : ElseBlock) → Low (block_assigns (else_of ls h k b) x)
+      else_assigned k no_else = low_false
+      else_assigned k (with_else b) = block_assigned k b
+
+      list_assigned : (k : ℕ) (cs : CommandList) → Low (block_assigns (list_of ls h k cs) x)
+      list_assigned k no_command = low_false
+      list_assigned k (and_command c cs) =
+          low_or (assigns (command_of ls h k c) x) (block_assigns (list_of ls h (k + length (command_sites h c)) cs) x) (command_assigned k c)
+          (list_assigned (k + length (command_sites h c)) cs)
+
+    module _ (s : ℕ) (own : s < r) (g : Group) (kids : Low (among g x)) (below : Low (group_assigns g x)) where
+      step_hung : (n : ℕ) (c : SimpleCommand) → Low (step_hangs s g (step_of ls h n c) x)
+      step_hung n (assign target e) = low_equal (entity_number h.entities target.name) (bound target.name)
+      step_hung n (write target index e) = low_equal (entity_number h.entities target.name) (bound target.name)
+      step_hung n (set_tag place target tag) = low_false
+      step_hung n (set_cell_tag place target index tag) = low_false
+      step_hung n (go_to place target) = low_equal s own
+      step_hung n (fall_to_child place) = low_or (among g x) (group_assigns g x) kids below
+
+      mutual
+        pub command_hung : (k : ℕ) (c : Command) → Low (hangs s g (command_of ls h k c) x)
+        command_hung k (lone c) = step_hung (site_number h k c) c
+        command_hung k (try c place b) =
+            low_or (step_hangs s g (step_of ls h (site_number h k c) c) x) (block_hangs s g (block_of ls h (k + length (simple_sites h c)) b) x)
+            (step_hung (site_number h k c) c) (block_hung (k + length (simple_sites h c)) b)
+        command_hung k (if_else place e b other) =
+            low_or (block_hangs s g (block_of ls h k b) x) (block_hangs s g (else_of ls h (k + length (block_sites h b)) other) x) (block_hung k b)
+            (else_hung (k + length (block_sites h b)) other)
+        command_hung k (try_then c place a b) =
+            let i = k + length (simple_sites h c) in
+            let j = i + length (block_sites h a) in
+            low_or (step_hangs s g (step_of ls h (site_number h k c) c) x) (block_hangs s g (block_of ls h i a) x || block_hangs s g (block_of ls h j b) x)
+            (step_hung (site_number h k c) c)
+            (low_or (block_hangs s g (block_of ls h i a) x) (block_hangs s g (block_of ls h j b) x) (block_hung i a) (block_hung j b))
+        command_hung k (case_of place e arms) = arms_hung k arms
+
+        arms_hung : (k : ℕ) (arms : Arms) → Low (arms_hang s g (arms_of ls h k arms) x)
+        arms_hung k (last_arm b) = block_hung k b
+        arms_hung k (and_arm constants b arms) =
+            low_or (block_hangs s g (block_of ls h k b) x) (arms_hang s g (arms_of ls h (k + length (block_sites h b)) arms) x) (block_hung k b) (arms_hung (k + length (block_sites h b)) arms)
+
+        block_hung : (k : ℕ) (b : CommandBlock) → Low (block_hangs s g (block_of ls h k b) x)
+        block_hung k (command_block cs after) = list_hung k cs
+
+        else_hung : (k : ℕ) (b : ElseBlock) → Low (block_hangs s g (else_of ls h k b) x)
+        else_hung k no_else = low_false
+        else_hung k (with_else b) = block_hung k b
+
+        list_hung : (k : ℕ) (cs : CommandList) → Low (block_hangs s g (list_of ls h k cs) x)
+        list_hung k no_command = low_false
+        list_hung k (and_command c cs) =
+            low_or (hangs s g (command_of ls h k c) x) (block_hangs s g (list_of ls h (k + length (command_sites h c)) cs) x) (command_hung k c)
+            (list_hung (k + length (command_sites h c)) cs)
+
+  module _ (ls : Levels) (es : List declared_entity.Entity) where
+    mutual
+      state_assigned : (k n : ℕ) (t : StateTree) → ((name : List ℕ) → entity_number es name < r) → Low (state_assigns (state_of ls es k n t) x)
+      state_assigned k n (state_node place name kind body children) bound =
+          let h : Surroundings = record { entities = es; home = record { name = name.name; kind = kind; children = children } } in
+          low_or (block_assigns (block_of ls h k body) x) (group_assigns (group_of ls es (k + length (block_sites h body)) (n + 1) children) x)
+          (block_assigned ls h bound k body) (group_assigned (k + length (block_sites h body)) (n + 1) children bound)
+
+      group_assigned : (k n : ℕ) (g : StateList) → ((name : List ℕ) → entity_number es name < r) → Low (group_assigns (group_of ls es k n g) x)
+      group_assigned k n no_state bound = low_false
+      group_assigned k n (and_state t rest) bound =
+          low_or (state_assigns (state_of ls es k n t) x) (group_assigns (group_of ls es (k + length (state_sites es t)) (n + states_in t) rest) x)
+          (state_assigned k n t bound) (group_assigned (k + length (state_sites es t)) (n + states_in t) rest bound)
+
+    group_low : (k n : ℕ) (g : StateList) → n + states_below g ≤ r → Low (among (group_of ls es k n g) x)
+    group_low k n no_state h = low_false
+    group_low k n (and_state (state_node place name kind body children) rest) h =
+        let t : StateTree = state_node place name kind body children in
+        let own : n < r = omega arith in
+        let later : (n + states_in t) + states_below rest ≤ r = omega arith in
+        low_or (nat_eq x n) (among (group_of ls es (k + length (state_sites es t)) (n + states_in t) rest) x) (low_equal n own)
+        (group_low (k + length (state_sites es t)) (n + states_in t) rest later)
+
+module _ (ls : Levels) (w : World) where
+  module _ (h : Surroundings) (bound : (name : List ℕ) → entity_number h.entities name < root w) (s p : ℕ) (own : s < root w) (g : Group)
+      (kids : (x : ℕ) → Low (root w) x (among g x)) (below : (x : ℕ) → Low (root w) x (group_assigns g x)) where
+    abbrev Before : Home
+    Before = record { state = s; parent = p; children = g }
+
+    abbrev After : Home
+    After = record { state = s; parent = p; children = filled_group w s g }
+
+    exact_list : (k : ℕ) (c : Command) (x : ℕ)
+        → listed (table (root w) (touches w Before (command_of ls h k c))) x ≡ touches w After (filled w Before (command_of ls h k c)) x
+    exact_list k c x =
+        listed_is (root w) (touches w Before (command_of ls h k c))
+        (λ y j. command_hung (root w) y ls h bound s own g (kids y) (below y) k c (and_right (is_dynamic w y) (hangs s g (command_of ls h k c) y) j)) x
+        ∙ ap (λ (b : Bool). is_dynamic w x && b)
+        (sym (hangs_filled w Before s g (filled_group w s g) (λ y. among_filled w s g y) (λ y. group_assigns_filled w s g y) (command_of ls h k c) x))
+
+    exact_step : (k : ℕ) (c : SimpleCommand) → ExactStep w After (filled_step w Before (step_of ls h (site_number h k c) c))
+    exact_step k (assign target e) = tt
+    exact_step k (write target index e) = tt
+    exact_step k (set_tag place target tag) = tt
+    exact_step k (set_cell_tag place target index tag) = tt
+    exact_step k (go_to place target) = tt
+    exact_step k (fall_to_child place) = exact_list k (lone (fall_to_child place))
+
+    mutual
+      exact_command : (k : ℕ) (c : Command) → Exact w After (filled w Before (command_of ls h k c))
+      exact_command k (lone c) = exact_step k c
+      exact_command k (try c place b) = (exact_list k (try c place b), exact_block (k + length (simple_sites h c)) b)
+      exact_command k (if_else place e b other) = (exact_list k (if_else place e b other), exact_block k b, exact_else (k + length (block_sites h b)) other)
+      exact_command k (try_then c place a b) = (exact_list k (try_then c place a b), exact_block (k + length (simple_sites h c)) a, exact_block (k + length (simple_sites h c) + length (block_sites h a)) b)
+      exact_command k (case_of place e arms) = (exact_list k (case_of place e arms), exact_arms k arms)
+
+      exact_arms : (k : ℕ) (arms : Arms) → ExactArms w After (filled_arms w Before (arms_of ls h k arms))
+      exact_arms k (last_arm b) = exact_block k b
+      exact_arms k (and_arm constants b arms) = (exact_block k b, exact_arms (k + length (block_sites h b)) arms)
+
+      exact_block : (k : ℕ) (b : CommandBlock) → ExactBlock w After (filled_block w Before (block_of ls h k b))
+      exact_block k (command_block cs after) = exact_commands k cs
+
+      exact_else : (k : ℕ) (b : ElseBlock) → ExactBlock w After (filled_block w Before (else_of ls h k b))
+      exact_else k no_else = tt
+      exact_else k (with_else b) = exact_block k b
+
+      exact_commands : (k : ℕ) (cs : CommandList) → ExactBlock w After (filled_block w Before (list_of ls h k cs))
+      exact_commands k no_command = tt
+      exact_commands k (and_command c cs) = (exact_command k c, exact_commands (k + length (command_sites h c)) cs)
+
+  module _ (es : List declared_entity.Entity) (same : root w ≡ length es) where
+    bounded : 0 < root w → (name : List ℕ) → entity_number es name < root w
+    bounded h name = let k : 0 < length es = omega arith in let l = entity_within es name k in omega arith
+
+    mutual
+      exact_state : (k n p : ℕ) (t : StateTree) → n + states_in t ≤ root w → ExactState w p (filled_state w p (state_of ls es k n t))
+      exact_state k n p (state_node place name kind body children) within =
+          let h : Surroundings = record { entities = es; home = record { name = name.name; kind = kind; children = children } } in
+          let k' : ℕ = k + length (block_sites h body) in
+          let g : Group = group_of ls es k' (n + 1) children in
+          let own : n < root w = omega arith in
+          let some : 0 < root w = omega arith in
+          let later : (n + 1) + states_below children ≤ root w = omega arith in (
+            exact_block h (bounded some) n p own g (λ x. group_low (root w) x ls es k' (n + 1) children later)
+                (λ x. group_assigned (root w) x ls es k' (n + 1) children (bounded some)) k body,
+            exact_group k' (n + 1) n children later,
+          )
+
+      exact_group : (k n p : ℕ) (g : StateList) → n + states_below g ≤ root w → ExactGroup w p (filled_group w p (group_of ls es k n g))
+      exact_group k n p no_state within = tt
+      exact_group k n p (and_state t rest) within =
+          let first : n + states_in t ≤ root w = omega arith in
+          let later : (n + states_in t) + states_below rest ≤ root w = omega arith in
+          (exact_state k n p t first, exact_group (k + length (state_sites es t)) (n + states_in t) p rest later)
+
+    -- what hangs on the root's fall
+    root_low : (k n : ℕ) (g : StateList) → n + states_below g ≤ root w → (x : ℕ) → root_touches w (group_of ls es k n g) x ≡ true → x < root w
+    root_low k n no_state within x h = let i = and_right (is_dynamic w x) false h in cc
+    root_low k n (and_state (state_node place name kind body children) rest) within x h =
+        let t : StateList = and_state (state_node place name kind body children) rest in
+        let some : 0 < root w = omega arith in
+        low_or (root w) x (among (group_of ls es k n t) x) (group_assigns (group_of ls es k n t) x) (group_low (root w) x ls es k n t within)
+        (group_assigned (root w) x ls es k n t (bounded some))
+        (and_right (is_dynamic w x) (among (group_of ls es k n t) x || group_assigns (group_of ls es k n t) x) h)
+
+    exact_root : (k n p : ℕ) (g : StateList) → n + states_below g ≤ root w → (x : ℕ)
+        → listed (table (root w) (root_touches w (group_of ls es k n g))) x ≡ root_touches w (filled_group w p (group_of ls es k n g)) x
+    exact_root k n p g within x =
+        listed_is (root w) (root_touches w (group_of ls es k n g)) (root_low k n g within) x
+        ∙ ap (λ (b : Bool). is_dynamic w x && b) (sym (or_equal _ _ _ _
+        (among_filled w p (group_of ls es k n g) x) (group_assigns_filled w p (group_of ls es k n g) x)))
+
+states_within : (ls : Levels) (d : DesignTree) → length d.declarations + states_below d.states ≤ root (world_of ls d)
+states_within ls d =
+    let h = part_within (world_of ls d).entities (length d.declarations) (group_entities ls 0 (length d.declarations) d.states) (laid ls d).entities in
+    let k : length (group_entities ls 0 (length d.declarations) d.states) ≡ states_below d.states = group_count ls 0 (length d.declarations) d.states in
+    omega arith
+
+pub exact : (ls : Levels) (d : DesignTree) → ExactProgram (program_of ls d)
+exact ls d =
+    let w : World = world_of ls d in
+    record {
+      lists = exact_group ls w (entities_of d) (entities_length ls d) 1 (length d.declarations) (root w) d.states (states_within ls d);
+      hang = exact_root ls w (entities_of d) (entities_length ls d) 1 (length d.declarations) (root w) d.states (states_within ls d);
+    }

@@ -1,0 +1,91 @@
+-- Filling in what hangs leaves the check sites of a program as they are, but for what hangs on a fall.
+use Rattle.std.proofs.Common.{◌≡◌, ℕ, Bool, true, false, not, ◌||◌, List, [], ◌∷◌, ◌++◌, refl, sym, ap, ◌∙◌, if◌then◌else◌}
+use Rattle.std.specs.Prelude.{map}
+use Rattle.std.proofs.lemmas.List.{map-append}
+use Rattle.sap_meaning.specs.Program.{World, is_dynamic, Step, assign, write, retag, retag_cell, go_to, fall_to_child, Command, lone, try, if_else, try_then, case_of, Arms, last_arm, and_arm, Block, end_block, command_then, State, state_node, Group, no_node, and_node}
+use Rattle.sap_meaning.specs.Checks.{Home, site_of}
+use Rattle.sap_meaning.specs.Sites.{some_enforced, is_site, PlacedStep, step_sites, command_sites, arms_sites, block_sites, state_sites, group_sites, site_numbers}
+use Rattle.sap_resolved.specs.Fill.{filled_step, filled, filled_arms, filled_block, filled_state, filled_group}
+
+some_filled : (w : World) (p : ℕ) (g : Group) → some_enforced w (filled_group w p g) ≡ some_enforced w g
+some_filled w p no_node = refl
+some_filled w p (and_node (state_node c b k) g) = ap (λ (r : Bool). not (is_dynamic w c) || r) (some_filled w p g)
+
+-- what is told of a step, whatever hangs on it
+module _ (w : World) (A : Type 0) (tell : PlacedStep → A)
+    (alike : (at : Home) (s : ℕ) (k : Step) → tell (record { state = s; step = filled_step w at k }) ≡ tell (record { state = s; step = k })) where
+  both : (a b c d : List PlacedStep) → map tell a ≡ map tell c → map tell b ≡ map tell d → map tell (a ++ b) ≡ map tell (c ++ d)
+  both a b c d e f =
+      map-append tell a b ∙ ap (λ (u : List A). u ++ map tell b) e ∙ ap (λ (u : List A). map tell c ++ u) f ∙ sym (map-append tell c d)
+
+  module _ (at : Home) (s : ℕ) (g i : Group) (same : some_enforced w i ≡ some_enforced w g) where
+    site_filled : (k : Step) → is_site w s i (filled_step w at k) ≡ is_site w s g k
+    site_filled (assign site x e) = refl
+    site_filled (write site m j e) = refl
+    site_filled (retag site x n) = refl
+    site_filled (retag_cell site m j n) = refl
+    site_filled (go_to site target) = refl
+    site_filled (fall_to_child site hang) = same
+
+    one_filled : (yes : Bool) (k : Step)
+        → map tell (if yes then (let t : PlacedStep = record { state = s; step = filled_step w at k } in t ∷ []) else [])
+        ≡ map tell (if yes then (let t : PlacedStep = record { state = s; step = k } in t ∷ []) else [])
+    one_filled true k = ap (λ (a : A). a ∷ []) (alike at s k)
+    one_filled false k = refl
+
+    step_sites_filled : (k : Step) → map tell (step_sites w s i (filled_step w at k)) ≡ map tell (step_sites w s g k)
+    step_sites_filled k =
+        ap (λ (b : Bool). map tell (if b then (let t : PlacedStep = record { state = s; step = filled_step w at k } in t ∷ []) else [])) (site_filled k)
+        ∙ one_filled (is_site w s g k) k
+
+    mutual
+      command_sites_filled : (c : Command) → map tell (command_sites w s i (filled w at c)) ≡ map tell (command_sites w s g c)
+      command_sites_filled (lone k) = step_sites_filled k
+      command_sites_filled (try k hang b) =
+          both (step_sites w s i (filled_step w at k)) (block_sites w s i (filled_block w at b)) (step_sites w s g k) (block_sites w s g b)
+          (step_sites_filled k) (block_sites_filled b)
+      command_sites_filled (if_else hang e a b) =
+          both (block_sites w s i (filled_block w at a)) (block_sites w s i (filled_block w at b)) (block_sites w s g a) (block_sites w s g b)
+          (block_sites_filled a) (block_sites_filled b)
+      command_sites_filled (try_then k hang a b) =
+          both (step_sites w s i (filled_step w at k)) (block_sites w s i (filled_block w at a) ++ block_sites w s i (filled_block w at b)) (step_sites w s g k)
+          (block_sites w s g a ++ block_sites w s g b) (step_sites_filled k)
+          (both (block_sites w s i (filled_block w at a)) (block_sites w s i (filled_block w at b)) (block_sites w s g a) (block_sites w s g b)
+          (block_sites_filled a) (block_sites_filled b))
+      command_sites_filled (case_of hang e arms) = arms_sites_filled arms
+
+      arms_sites_filled : (arms : Arms) → map tell (arms_sites w s i (filled_arms w at arms)) ≡ map tell (arms_sites w s g arms)
+      arms_sites_filled (last_arm b) = block_sites_filled b
+      arms_sites_filled (and_arm constants b arms) =
+          both (block_sites w s i (filled_block w at b)) (arms_sites w s i (filled_arms w at arms)) (block_sites w s g b) (arms_sites w s g arms)
+          (block_sites_filled b) (arms_sites_filled arms)
+
+      block_sites_filled : (b : Block) → map tell (block_sites w s i (filled_block w at b)) ≡ map tell (block_sites w s g b)
+      block_sites_filled end_block = refl
+      block_sites_filled (command_then c cs) =
+          both (command_sites w s i (filled w at c)) (block_sites w s i (filled_block w at cs)) (command_sites w s g c) (block_sites w s g cs)
+          (command_sites_filled c) (block_sites_filled cs)
+
+  mutual
+    state_sites_filled : (p : ℕ) (t : State) → map tell (state_sites w (filled_state w p t)) ≡ map tell (state_sites w t)
+    state_sites_filled p (state_node s b g) =
+        let at : Home = record { state = s; parent = p; children = g } in
+        both (block_sites w s (filled_group w s g) (filled_block w at b)) (group_sites w (filled_group w s g)) (block_sites w s g b) (group_sites w g)
+        (block_sites_filled at s g (filled_group w s g) (some_filled w s g) b) (group_sites_filled s g)
+
+    pub group_sites_filled : (p : ℕ) (g : Group) → map tell (group_sites w (filled_group w p g)) ≡ map tell (group_sites w g)
+    group_sites_filled p no_node = refl
+    group_sites_filled p (and_node t g) =
+        both (state_sites w (filled_state w p t)) (group_sites w (filled_group w p g)) (state_sites w t) (group_sites w g) (state_sites_filled p t)
+        (group_sites_filled p g)
+
+number_filled : (w : World) (at : Home) (k : Step) → site_of (filled_step w at k) ≡ site_of k
+number_filled w at (assign site x e) = refl
+number_filled w at (write site m j e) = refl
+number_filled w at (retag site x n) = refl
+number_filled w at (retag_cell site m j n) = refl
+number_filled w at (go_to site target) = refl
+number_filled w at (fall_to_child site hang) = refl
+
+pub numbers_filled : (w : World) (p : ℕ) (g : Group) → site_numbers (group_sites w (filled_group w p g)) ≡ site_numbers (group_sites w g)
+numbers_filled w p g = group_sites_filled w ℕ (λ (k : PlacedStep). site_of k.step) (λ at s k. number_filled w at k) p g

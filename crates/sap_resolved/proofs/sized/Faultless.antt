@@ -1,0 +1,132 @@
+-- Where no fault stands, each test of one is false; and what that says of widths.
+use Rattle.std.proofs.Common.{◌≡◌, ℕ, zero, suc, ◌+◌, ◌-◌, ◌^◌, ◌<◌, ◌≤◌, List, [], ◌++◌, Bool, true, false, not, ◌&&◌, Option, Some, None, refl, sym, ap, ◌∙◌, subst, arith, inl, inr, if◌then◌else◌}
+use Rattle.std.specs.Prelude.{eqb, leb, ltb}
+use Rattle.std.proofs.lemmas.Bool.{cases_Bool, eqb-true, leb-true, leb-false, ltb-true, not-false}
+use Rattle.sap_lemmas.proofs.Options.{some_same}
+use Rattle.sap_names.proofs.FaultLemmas.{nil_left, nil_right}
+use Rattle.sap_names.specs.declared.fault.Fault.{Fault}
+use Rattle.sap_names.specs.NameFaults.{unsettled, too_large}
+use Rattle.sap_resolved.specs.Sized.Ranges.{IsWidth, IsDepth}
+use Rattle.sap_names.specs.Widths.{sound_width, bits_up_to, index_bits, else_of, extended, sliced, joined, is_sound}
+
+-- no fault in two lists, three or four
+pub none_two : (xs ys : List Fault) → xs ++ ys ≡ [] → (xs ≡ []) × (ys ≡ [])
+none_two xs ys h = (nil_left xs ys h, nil_right xs ys h)
+
+pub none_three : (xs ys zs : List Fault) → xs ++ ys ++ zs ≡ [] → (xs ≡ []) × (ys ≡ []) × (zs ≡ [])
+none_three xs ys zs h =
+    let l = nil_left (xs ++ ys) zs h in
+    (nil_left xs ys l, nil_right xs ys l, nil_right (xs ++ ys) zs h)
+
+pub none_four : (xs ys zs us : List Fault) → xs ++ ys ++ zs ++ us ≡ [] → (xs ≡ []) × (ys ≡ []) × (zs ≡ []) × (us ≡ [])
+none_four xs ys zs us h =
+    let l = none_three xs ys zs (nil_left (xs ++ ys ++ zs) us h) in
+    (l.0, l.1, l.2, nil_right (xs ++ ys ++ zs) us h)
+
+-- own and asked-for width settle to one
+pub settled_as : (mine : Option ℕ) (r : ℕ) → unsettled mine (Some r) ≡ false → else_of mine (Some r) ≡ Some r
+settled_as None r h = refl
+settled_as (Some w) r h = ap (λ n. Some n) (eqb-true w r (not-false (eqb w r) h))
+
+pub settled : (mine asked : Option ℕ) → unsettled mine asked ≡ false → (u : ℕ) × (else_of mine asked ≡ Some u)
+settled None None h = cc
+settled None (Some r) h = (r, refl)
+settled (Some w) asked h = (w, refl)
+
+-- where nothing is asked for, there is an own width
+pub settled_own : (mine : Option ℕ) → unsettled mine None ≡ false → (u : ℕ) × (mine ≡ Some u)
+settled_own None h = cc
+settled_own (Some w) h = (w, refl)
+
+pub sound_some : (mine : Option ℕ) → is_sound mine ≡ true → (u : ℕ) × (mine ≡ Some u)
+sound_some None h = cc
+sound_some (Some w) h = (w, refl)
+
+pub some_sound : (mine : Option ℕ) (u : ℕ) → mine ≡ Some u → is_sound mine ≡ true
+some_sound None u h = cc
+some_sound (Some w) u h = refl
+
+-- a fault of what has no own width, though its parts have
+pub sound_whole : (mine : Option ℕ) (parts : Bool) → (not (is_sound mine) && parts) ≡ false → parts ≡ true → (u : ℕ) × (mine ≡ Some u)
+sound_whole None parts h p = cc
+sound_whole (Some w) parts h p = (w, refl)
+
+pub fits_width : (mine : Option ℕ) (w value : ℕ) → mine ≡ Some w → too_large mine value ≡ false → value < 2 ^ w
+fits_width None w value e h = cc
+fits_width (Some u) w value e h = subst (λ (k : ℕ). value < 2 ^ k) (some_same u w e) (leb-false (2 ^ u) value h)
+
+pub sound_is : (w u : ℕ) → sound_width w ≡ Some u → (w ≡ u) × IsWidth w
+sound_is w u h = part (leb 1 w) (leb w 64) refl refl h
+  where
+    part : (a b : Bool) → leb 1 w ≡ a → leb w 64 ≡ b → (if a && b then Some w else None) ≡ Some u → (w ≡ u) × IsWidth w
+    part true true i j k = (some_same w u k, (leb-true 1 w i, leb-true w 64 j))
+    part true false i j k = cc
+    part false b i j k = cc
+
+pub sound_same : (w : ℕ) → is_sound (sound_width w) ≡ true → sound_width w ≡ Some w
+sound_same w h =
+    let s = sound_some (sound_width w) h in
+    s.1 ∙ ap (λ n. Some n) (sym (sound_is w s.0 s.1).0)
+
+-- the bits of an index, among n
+power_bits : (n depth b : ℕ) → bits_up_to n depth ≡ Some b → (1 ≤ b) × (b ≤ n) × (depth ≡ 2 ^ b)
+power_bits zero depth b h = cc
+power_bits (suc n) depth b h = elim (cases_Bool (eqb depth (2 ^ suc n))) [
+  | inl t ↦
+      let e : Some (suc n) ≡ Some b = rw t at h in
+      let f : suc n ≡ b = some_same (suc n) b e in
+      (omega arith, omega arith, subst (λ (k : ℕ). depth ≡ 2 ^ k) f (eqb-true depth (2 ^ suc n) t))
+  | inr t ↦
+      let p = power_bits n depth b (rw t at h) in
+      let l : b ≤ n = p.1 in
+      (p.0, omega arith, p.2)
+]
+
+pub index_power : (depth b : ℕ) → index_bits depth ≡ Some b → IsDepth depth b
+index_power depth b h = power_bits 12 depth b h
+
+-- a slice from `high` down to `low`
+pub record Sliced (mine : Option ℕ) (high low u : ℕ) : Type 0 where
+  pub whole : ℕ
+  pub is : mine ≡ Some whole
+  pub order : low ≤ high
+  pub within : high < whole
+  pub wide : u ≡ high + 1 - low
+
+pub slice_is : (mine : Option ℕ) (high low u : ℕ) → sliced mine high low ≡ Some u → Sliced mine high low u
+slice_is None high low u h = cc
+slice_is (Some w) high low u h = part (leb low high) (ltb high w) refl refl h
+  where
+    part : (a b : Bool) → leb low high ≡ a → ltb high w ≡ b → (if a && b then Some (high - low + 1) else None) ≡ Some u → Sliced (Some w) high low u
+    part true true i j k =
+        let l : low ≤ high = leb-true low high i in
+        let m : high < w = ltb-true high w j in
+        let e : high - low + 1 ≡ u = some_same (high - low + 1) u k in
+        record { whole = w; is = refl; order = l; within = m; wide = omega arith }
+    part true false i j k = cc
+    part false b i j k = cc
+
+-- zeros in front up to a width
+pub extended_is : (mine : Option ℕ) (width u : ℕ) → extended mine width ≡ Some u → (w : ℕ) × (mine ≡ Some w) × (w ≤ width) × (width ≡ u) × (width ≤ 64)
+extended_is None width u h = cc
+extended_is (Some w) width u h = part (leb w width) (leb width 64) refl refl h
+  where
+    part : (a b : Bool) → leb w width ≡ a → leb width 64 ≡ b → (if a && b then Some width else None) ≡ Some u
+        → (v : ℕ) × (Some w ≡ Some v) × (v ≤ width) × (width ≡ u) × (width ≤ 64)
+    part true true i j k = (w, refl, leb-true w width i, some_same width u k, leb-true width 64 j)
+    part true false i j k = cc
+    part false b i j k = cc
+
+-- two parts together
+pub joined_is : (left right : Option ℕ) (u : ℕ) → joined left right ≡ Some u → (a : ℕ) × (b : ℕ) × (left ≡ Some a) × (right ≡ Some b) × (a + b ≡ u) × (u ≤ 64)
+joined_is None right u h = cc
+joined_is (Some a) None u h = cc
+joined_is (Some a) (Some b) u h = part (leb (a + b) 64) refl h
+  where
+    part : (t : Bool) → leb (a + b) 64 ≡ t → (if t then Some (a + b) else None) ≡ Some u
+        → (x : ℕ) × (y : ℕ) × (Some a ≡ Some x) × (Some b ≡ Some y) × (x + y ≡ u) × (u ≤ 64)
+    part true i k =
+        let e : a + b ≡ u = some_same (a + b) u k in
+        let l : a + b ≤ 64 = leb-true (a + b) 64 i in
+        (a, b, refl, refl, e, omega arith)
+    part false i k = cc

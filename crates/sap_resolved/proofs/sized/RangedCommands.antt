@@ -1,0 +1,156 @@
+-- In the commands and states of a design without faults every width is from 1 to 64.
+use Rattle.std.proofs.Common.{◌≡◌, ℕ, ◌+◌, List, [], Bool, true, ◌&&◌, Option, Some, None, length}
+use Rattle.std.specs.Prelude.{nat_le}
+use Rattle.sap_lemmas.proofs.Bools.{three_parts}
+use Rattle.std.proofs.lemmas.Bool.{and_parts}
+use Rattle.sap_tree.specs.Extent.{fits, tag_fits}
+use Rattle.sap_tree.specs.Limits.{most_arms, most_blocks}
+use Rattle.sap_tree.specs.Syntax as tree
+use Rattle.sap_tree.specs.Syntax.{Expression, TagExpression, level_of, tag_at, level_at, join_of, TagExpressions, no_tag, and_tag, SimpleCommand, assign, write, set_tag, set_cell_tag, go_to, fall_to_child, Command, lone, try, if_else, try_then, case_of, Arms, last_arm, CommandBlock, command_block, ElseBlock, no_else, with_else, CommandList, no_command, and_command, StateTree, state_node, StateList, no_state, and_state}
+use Rattle.sap_tree.specs.Whole.{is_expression, is_tag, are_tags, has_two_tags, is_outermost, is_outermost_tag, is_simple, is_command, is_block, is_else, are_arms, are_commands, has_arm, has_constant, are_constants, arm_count, block_depth, is_kind, is_state, are_states}
+use Rattle.sap_tree.specs.declared.version.Version.{Version}
+use Rattle.sap_tree.specs.Words.{is_name, is_second}
+use Rattle.sap_lattice.specs.Levels.{Levels}
+use Rattle.sap_names.specs.declared.kind.Declared.{Declared}
+use Rattle.sap_names.specs.Entities.{what_is}
+use Rattle.sap_names.specs.declared.entity.Entity.{Entity}
+use Rattle.sap_names.specs.declared.kind.Use.TheVariants.{Indexed as indexed, Assigned as assigned, Retagged as retagged}
+use Rattle.sap_names.specs.NameFaults.{name_faults, expression_faults, tag_faults, tags_faults, simple_faults, command_faults, constants_faults, arms_faults, block_faults, else_faults, commands_faults, kind_faults, state_faults, states_faults}
+use Rattle.sap_names.specs.Widths.{own, register_width, cell_width, index_width}
+use Rattle.sap_meaning.specs.Program.{World}
+use Rattle.sap_shape.specs.Sites.{Surroundings, simple_sites, command_sites, block_sites, state_sites}
+use Rattle.sap_resolved.specs.Worlds.{states_in}
+use Rattle.sap_resolved.specs.Terms.{term_of, level_term, level_terms}
+use Rattle.sap_resolved.specs.Resolve.{site_number, step_of, command_of, arms_of, block_of, else_of, list_of, state_of, group_of}
+use Rattle.sap_resolved.specs.Sized.Ranges.{RangedTerm, RangedLevel, RangedStep, Ranged, RangedArms, RangedBlock, RangedState, RangedGroup}
+use Rattle.sap_resolved.proofs.sized.Faultless.{none_two, none_three}
+use Rattle.sap_resolved.proofs.sized.Declared.{Resolved}
+use Rattle.sap_resolved.proofs.sized.OwnWidths.{Ranges, range_none, range_one, cell_ranges, index_ranges, register_ranges}
+use Rattle.sap_resolved.proofs.sized.RangedTerms.{term_ranged}
+
+module _ (version : Version) (ls : Levels) (es : List Entity) (w : World) (r : Resolved es w) where
+  outer_ranged : (e : Expression) (asked : Option ℕ) → is_outermost version e ≡ true → Ranges asked → expression_faults (what_is es) e asked ≡ []
+      → RangedTerm w (term_of es e asked)
+  outer_ranged e asked i a h = term_ranged version es w r e asked (and_parts (is_expression version e) (fits e) i).0 a h
+
+  mutual
+    unfolding is_tag are_tags
+
+    tag_ranged : (t : TagExpression) → is_tag version t ≡ true → tag_faults ls.names (what_is es) t ≡ [] → RangedLevel w (level_term ls es t)
+    tag_ranged (level_of m) i h = tt
+    tag_ranged (tag_at place e) i h = term_ranged version es w r e None i range_none h
+    tag_ranged (level_at place e) i h = term_ranged version es w r e None i range_none h
+    tag_ranged (join_of place parts) i h = tags_ranged parts (and_parts (has_two_tags parts) (are_tags version parts) i).1 h
+
+    tags_ranged : (ts : TagExpressions) → are_tags version ts ≡ true → tags_faults ls.names (what_is es) ts ≡ [] → RangedLevel w (level_terms ls es ts)
+    tags_ranged no_tag i h = tt
+    tags_ranged (and_tag t no_tag) i h =
+        tag_ranged t (and_parts (is_tag version t) true i).0 (none_two (tag_faults ls.names (what_is es) t) [] h).0
+    tags_ranged (and_tag t (and_tag u ts)) i h =
+        let j = and_parts (is_tag version t) (are_tags version (and_tag u ts)) i in
+        let n = none_two (tag_faults ls.names (what_is es) t) (tags_faults ls.names (what_is es) (and_tag u ts)) h in
+        (tag_ranged t j.0 n.0, tags_ranged (and_tag u ts) j.1 n.1)
+
+  outer_tag_ranged : (t : TagExpression) → is_outermost_tag version t ≡ true → tag_faults ls.names (what_is es) t ≡ [] → RangedLevel w (level_term ls es t)
+  outer_tag_ranged t i h = tag_ranged t (and_parts (is_tag version t) (tag_fits t) i).0 h
+
+module _ (version : Version) (ls : Levels) (h : Surroundings) (w : World) (r : Resolved h.entities w) where
+  abbrev es : List Entity
+  es = h.entities
+
+  abbrev what : List ℕ → Option Declared
+  what = what_is h.entities
+
+  step_ranged : (k : ℕ) (c : SimpleCommand) → is_simple version c ≡ true → simple_faults ls.names what c ≡ [] → RangedStep w (step_of ls h k c)
+  unfolding is_simple
+  step_ranged k (assign target e) i f =
+      let asked = register_width (what target.name) in
+      let j = and_parts (is_name version target.name) (is_outermost version e) i in
+      let n = none_two (name_faults assigned what target) (expression_faults what e asked) f in
+      outer_ranged version ls es w r e asked j.1 (register_ranges (what target.name)) n.1
+  step_ranged k (write target index e) i f =
+      let asked = cell_width (what target.name) in
+      let j = three_parts (is_name version target.name) (is_outermost version index) (is_outermost version e) i in
+      let n = none_three (name_faults indexed what target) (expression_faults what index (index_width (what target.name)))
+      (expression_faults what e asked) f in (
+        outer_ranged version ls es w r index (index_width (what target.name)) j.1 (index_ranges (what target.name)) n.1,
+        outer_ranged version ls es w r e asked j.2 (cell_ranges (what target.name)) n.2,
+      )
+  step_ranged k (set_tag place target tag) i f =
+      let n = none_two (name_faults retagged what target) (tag_faults ls.names what tag) f in
+      outer_tag_ranged version ls es w r tag (and_parts (is_name version target.name) (is_outermost_tag version tag) i).1 n.1
+  step_ranged k (set_cell_tag place target index tag) i f =
+      let j = three_parts (is_name version target.name) (is_outermost version index) (is_outermost_tag version tag) i in
+      let n = none_three (name_faults indexed what target) (expression_faults what index (index_width (what target.name))) (tag_faults ls.names what tag) f in
+      (outer_ranged version ls es w r index (index_width (what target.name)) j.1 (index_ranges (what target.name)) n.1, outer_tag_ranged version ls es w r tag j.2 n.2)
+  step_ranged k (go_to place target) i f = tt
+  step_ranged k (fall_to_child place) i f = tt
+
+  mutual
+    unfolding is_command is_block is_else are_arms are_commands
+
+    command_ranged : (k : ℕ) (c : Command) → is_command version c ≡ true → command_faults ls.names what c ≡ [] → Ranged w (command_of ls h k c)
+    command_ranged k (lone c) i f = step_ranged (site_number h k c) c i f
+    command_ranged k (try c place handler) i f =
+        let j = and_parts (is_simple version c) (is_block version handler) i in
+        let n = none_two (simple_faults ls.names what c) (block_faults ls.names what handler) f in
+        (step_ranged (site_number h k c) c j.0 n.0, block_ranged (k + length (simple_sites h c)) handler j.1 n.1)
+    command_ranged k (if_else place condition one other) i f =
+        let j = three_parts (is_outermost version condition) (is_block version one) (is_else version other) i in
+        let n = none_three (expression_faults what condition (Some 1)) (block_faults ls.names what one) (else_faults ls.names what other) f in
+        (outer_ranged version ls es w r condition (Some 1) j.0 range_one n.0, block_ranged k one j.1 n.1, else_ranged (k + length (block_sites h one)) other j.2 n.2)
+    command_ranged k (try_then c place one other) i f =
+        let j = and_parts (is_second version && is_simple version c && is_block version one) (is_block version other) i in
+        let m = and_parts (is_second version && is_simple version c) (is_block version one) j.0 in
+        let p = and_parts (is_second version) (is_simple version c) m.0 in
+        let n = none_three (simple_faults ls.names what c) (block_faults ls.names what one) (block_faults ls.names what other) f in
+        (step_ranged (site_number h k c) c p.1 n.0, block_ranged (k + length (simple_sites h c)) one m.1 n.1, block_ranged (k + length (simple_sites h c) + length (block_sites h one)) other j.1 n.2)
+    command_ranged k (case_of place e arms) i f =
+        let j = and_parts (is_second version && is_outermost version e && has_arm arms && nat_le (arm_count arms) most_arms) (are_arms version arms) i in
+        let m = and_parts (is_second version && is_outermost version e && has_arm arms) (nat_le (arm_count arms) most_arms) j.0 in
+        let p = and_parts (is_second version && is_outermost version e) (has_arm arms) m.0 in
+        let q = and_parts (is_second version) (is_outermost version e) p.0 in
+        let n = none_two (expression_faults what e None) (arms_faults ls.names what (own what e) arms) f in
+        (outer_ranged version ls es w r e None q.1 range_none n.0, arms_ranged k (own what e) arms j.1 n.1)
+
+    arms_ranged : (k : ℕ) (asked : Option ℕ) (arms : Arms) → are_arms version arms ≡ true → arms_faults ls.names what asked arms ≡ [] → RangedArms w (arms_of ls h k arms)
+    arms_ranged k asked (last_arm b) i f = block_ranged k b i f
+    arms_ranged k asked (tree.and_arm constants b arms) i f =
+        let j = and_parts (has_constant constants && are_constants constants && is_block version b) (are_arms version arms) i in
+        let m = and_parts (has_constant constants && are_constants constants) (is_block version b) j.0 in
+        let n = none_three (constants_faults what asked constants) (block_faults ls.names what b) (arms_faults ls.names what asked arms) f in
+        (block_ranged k b m.1 n.1, arms_ranged (k + length (block_sites h b)) asked arms j.1 n.2)
+
+    pub block_ranged : (k : ℕ) (b : CommandBlock) → is_block version b ≡ true → block_faults ls.names what b ≡ [] → RangedBlock w (block_of ls h k b)
+    block_ranged k (command_block cs after) i f = list_ranged k cs i f
+
+    else_ranged : (k : ℕ) (b : ElseBlock) → is_else version b ≡ true → else_faults ls.names what b ≡ [] → RangedBlock w (else_of ls h k b)
+    else_ranged k no_else i f = tt
+    else_ranged k (with_else b) i f = block_ranged k b i f
+
+    list_ranged : (k : ℕ) (cs : CommandList) → are_commands version cs ≡ true → commands_faults ls.names what cs ≡ [] → RangedBlock w (list_of ls h k cs)
+    list_ranged k no_command i f = tt
+    list_ranged k (and_command c cs) i f =
+        let j = and_parts (is_command version c) (are_commands version cs) i in
+        let n = none_two (command_faults ls.names what c) (commands_faults ls.names what cs) f in
+        (command_ranged k c j.0 n.0, list_ranged (k + length (command_sites h c)) cs j.1 n.1)
+
+module _ (version : Version) (ls : Levels) (le : ℕ → ℕ → Bool) (es : List Entity) (w : World) (r : Resolved es w) where
+  mutual
+    unfolding is_state are_states
+
+    state_ranged : (k x : ℕ) (s : StateTree) → is_state version s ≡ true → state_faults ls.names le (what_is es) s ≡ [] → RangedState w (state_of ls es k x s)
+    state_ranged k x (state_node place name kind body children) i f =
+        let n = none_three (kind_faults ls.names le kind) (block_faults ls.names (what_is es) body) (states_faults ls.names le (what_is es) children) f in
+        let h : Surroundings = record { entities = es; home = record { name = name.name; kind = kind; children = children } } in
+        let j = and_parts (is_name version name.name && is_kind version kind && is_block version body && nat_le (block_depth body) most_blocks) (are_states version children) i in
+        let m = and_parts (is_name version name.name && is_kind version kind && is_block version body) (nat_le (block_depth body) most_blocks) j.0 in
+        let b = and_parts (is_name version name.name && is_kind version kind) (is_block version body) m.0 in
+        (block_ranged version ls h w r k body b.1 n.1, group_ranged (k + length (block_sites h body)) (x + 1) children j.1 n.2)
+
+    pub group_ranged : (k x : ℕ) (g : StateList) → are_states version g ≡ true → states_faults ls.names le (what_is es) g ≡ [] → RangedGroup w (group_of ls es k x g)
+    group_ranged k x no_state i f = tt
+    group_ranged k x (and_state s rest) i f =
+        let j = and_parts (is_state version s) (are_states version rest) i in
+        let n = none_two (state_faults ls.names le (what_is es) s) (states_faults ls.names le (what_is es) rest) f in
+        (state_ranged k x s j.0 n.0, group_ranged (k + length (state_sites es s)) (x + states_in s) rest j.1 n.1)

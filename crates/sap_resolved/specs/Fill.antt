@@ -1,0 +1,57 @@
+-- What hangs on each command that raises, as a list over the entities' numbers; and the program of a design.
+use Rattle.std.specs.Prelude.{ℕ, zero, suc, Bool, List, [], ◌∷◌, ◌++◌}
+use Rattle.sap_tree.specs.Syntax.{DesignTree}
+use Rattle.sap_meaning.specs.Program.{World, root, Step, assign, write, retag, retag_cell, go_to, fall_to_child, Command, lone, try, if_else, try_then, case_of, Arms, last_arm, and_arm, Block, end_block, command_then, State, state_node, Group, no_node, and_node, Program}
+use Rattle.sap_meaning.specs.Checks.{Home}
+use Rattle.sap_meaning.specs.Touches.{touches, root_touches}
+use Rattle.sap_lattice.specs.Levels.{Levels}
+use Rattle.sap_resolved.specs.Worlds.{world_of}
+use Rattle.sap_resolved.specs.Resolve.{states_of}
+
+-- what a test says of the numbers below n, in order
+abbrev pub table : ℕ → (ℕ → Bool) → List Bool
+table zero test = []
+table (suc n) test = table n test ++ test n ∷ []
+
+abbrev pub filled_step : World → Home → Step → Step
+filled_step w at (assign site x e) = assign site x e
+filled_step w at (write site m i e) = write site m i e
+filled_step w at (retag site x n) = retag site x n
+filled_step w at (retag_cell site m j n) = retag_cell site m j n
+filled_step w at (go_to site target) = go_to site target
+filled_step w at (fall_to_child site hang) = fall_to_child site (table (root w) (touches w at (lone (fall_to_child site hang))))
+
+abbrev mutual
+  pub filled : World → Home → Command → Command
+  filled w at (lone k) = lone (filled_step w at k)
+  filled w at (try k hang handler) =
+      try (filled_step w at k) (table (root w) (touches w at (try k hang handler))) (filled_block w at handler)
+  filled w at (if_else hang condition a b) =
+      if_else (table (root w) (touches w at (if_else hang condition a b))) condition (filled_block w at a) (filled_block w at b)
+  filled w at (try_then k hang accepted refused) =
+      try_then (filled_step w at k) (table (root w) (touches w at (try_then k hang accepted refused))) (filled_block w at accepted) (filled_block w at refused)
+  filled w at (case_of hang e arms) = case_of (table (root w) (touches w at (case_of hang e arms))) e (filled_arms w at arms)
+
+  pub filled_arms : World → Home → Arms → Arms
+  filled_arms w at (last_arm b) = last_arm (filled_block w at b)
+  filled_arms w at (and_arm constants b arms) = and_arm constants (filled_block w at b) (filled_arms w at arms)
+
+  pub filled_block : World → Home → Block → Block
+  filled_block w at end_block = end_block
+  filled_block w at (command_then c cs) = command_then (filled w at c) (filled_block w at cs)
+
+abbrev mutual
+  pub filled_state : World → (parent : ℕ) → State → State
+  filled_state w p (state_node s body children) =
+      state_node s (filled_block w (record { state = s; parent = p; children = children }) body) (filled_group w s children)
+
+  pub filled_group : World → (parent : ℕ) → Group → Group
+  filled_group w p no_node = no_node
+  filled_group w p (and_node t rest) = and_node (filled_state w p t) (filled_group w p rest)
+
+-- the program of a design over the levels of a lattice
+abbrev pub program_of : Levels → DesignTree → Program
+program_of ls d =
+    let w = world_of ls d in
+    let g = states_of ls d in
+    record { world = w; states = filled_group w (root w) g; hang = table (root w) (root_touches w g) }

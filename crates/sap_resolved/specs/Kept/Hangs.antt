@@ -1,0 +1,112 @@
+-- What hangs on each command of a design that has a list of it: by name; as the list itself; and as what the command touches in the tree.
+use Rattle.std.specs.Prelude.{ℕ, Bool, true, false, List, [], ◌∷◌, ◌++◌, map}
+use Rattle.sap_tree.specs.declared.syntax.Decl.{Decl}
+use Rattle.sap_tree.specs.Syntax.{DesignTree}
+use Rattle.sap_tree.specs.Points as tree_points
+use Rattle.sap_tree.specs.Touches as tree
+use Rattle.sap_lattice.specs.Levels.{Levels}
+use Rattle.sap_names.specs.declared.entity.Entity.{Entity}
+use Rattle.sap_names.specs.Entities.{entities_of}
+use Rattle.sap_meaning.specs.Program.{Step, assign, write, retag, retag_cell, go_to, fall_to_child, Command, lone, try, if_else, try_then, case_of, Arms, last_arm, and_arm, Block, end_block, command_then, State, state_node, Group, no_node, and_node}
+use Rattle.sap_resolved.specs.Fill.{program_of}
+
+-- an `if`, an `otherwise`, a `fall`, a `then` or a `case`, with the names of what hangs on it
+pub data Point : Type 0 where
+  at_if : List (List ℕ) → Point
+  at_otherwise : List (List ℕ) → Point
+  at_fall : List (List ℕ) → Point
+  at_then : List (List ℕ) → Point
+  at_case : List (List ℕ) → Point
+
+-- the names whose entry is true, in the order of declaration
+abbrev pub hanging : (names : List (List ℕ)) → List Bool → List (List ℕ)
+hanging [] hang = []
+hanging (n ∷ ns) [] = []
+hanging (n ∷ ns) (true ∷ hang) = n ∷ hanging ns hang
+hanging (n ∷ ns) (false ∷ hang) = hanging ns hang
+
+abbrev pub step_points : List (List ℕ) → Step → List Point
+step_points names (assign site x e) = []
+step_points names (write site m i e) = []
+step_points names (retag site x n) = []
+step_points names (retag_cell site m j n) = []
+step_points names (go_to site target) = []
+step_points names (fall_to_child site hang) = at_fall (hanging names hang) ∷ []
+
+-- in the order of the words
+abbrev mutual
+  pub points : List (List ℕ) → Command → List Point
+  points names (lone k) = step_points names k
+  points names (try k hang h) = step_points names k ++ at_otherwise (hanging names hang) ∷ block_points names h
+  points names (if_else hang e a b) = at_if (hanging names hang) ∷ block_points names a ++ block_points names b
+  points names (try_then k hang a b) = step_points names k ++ at_then (hanging names hang) ∷ (block_points names a ++ block_points names b)
+  points names (case_of hang e arms) = at_case (hanging names hang) ∷ arms_points names arms
+
+  pub arms_points : List (List ℕ) → Arms → List Point
+  arms_points names (last_arm b) = block_points names b
+  arms_points names (and_arm constants b arms) = block_points names b ++ arms_points names arms
+
+  pub block_points : List (List ℕ) → Block → List Point
+  block_points names end_block = []
+  block_points names (command_then c cs) = points names c ++ block_points names cs
+
+abbrev mutual
+  pub state_points : List (List ℕ) → State → List Point
+  state_points names (state_node s b g) = block_points names b ++ group_points names g
+
+  pub group_points : List (List ℕ) → Group → List Point
+  group_points names no_node = []
+  group_points names (and_node t g) = state_points names t ++ group_points names g
+
+abbrev pub names_of : DesignTree → List (List ℕ)
+names_of d = map (λ e. e.name.name) (entities_of d)
+
+-- of a design; and what hangs on the root's fall
+abbrev pub hang_table : Levels → DesignTree → List Point
+hang_table ls d = group_points (names_of d) (program_of ls d).states
+
+abbrev pub hang_at_root : Levels → DesignTree → List (List ℕ)
+hang_at_root ls d = hanging (names_of d) (program_of ls d).hang
+
+-- the lists themselves, each over the entities' numbers, in the same order
+abbrev pub step_rows : Step → List (List Bool)
+step_rows (assign site x e) = []
+step_rows (write site m i e) = []
+step_rows (retag site x n) = []
+step_rows (retag_cell site m j n) = []
+step_rows (go_to site target) = []
+step_rows (fall_to_child site hang) = hang ∷ []
+
+abbrev mutual
+  pub rows : Command → List (List Bool)
+  rows (lone k) = step_rows k
+  rows (try k hang h) = step_rows k ++ hang ∷ block_rows h
+  rows (if_else hang e a b) = hang ∷ block_rows a ++ block_rows b
+  rows (try_then k hang a b) = step_rows k ++ hang ∷ (block_rows a ++ block_rows b)
+  rows (case_of hang e arms) = hang ∷ arms_rows arms
+
+  pub arms_rows : Arms → List (List Bool)
+  arms_rows (last_arm b) = block_rows b
+  arms_rows (and_arm constants b arms) = block_rows b ++ arms_rows arms
+
+  pub block_rows : Block → List (List Bool)
+  block_rows end_block = []
+  block_rows (command_then c cs) = rows c ++ block_rows cs
+
+abbrev mutual
+  pub state_rows : State → List (List Bool)
+  state_rows (state_node s b g) = block_rows b ++ group_rows g
+
+  pub group_rows : Group → List (List Bool)
+  group_rows no_node = []
+  group_rows (and_node t g) = state_rows t ++ group_rows g
+
+-- the same over the tree: of each entity, in the order of declaration, whether the command at the point touches its name
+abbrev pub row_of : List Entity → (List ℕ → Bool) → List Bool
+row_of es test = map (λ e. test e.name.name) es
+
+abbrev pub point_row : List Decl → List Entity → tree_points.Point → List Bool
+point_row ds es p = row_of es (tree.touches ds p.home p.command)
+
+abbrev pub rows_of : DesignTree → List (List Bool)
+rows_of d = map (point_row d.declarations (entities_of d)) (tree_points.points_of d)

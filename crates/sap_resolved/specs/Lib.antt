@@ -1,0 +1,9 @@
+pub mod Worlds
+pub mod Terms
+pub mod Resolve
+pub mod Fill
+pub mod Examples
+pub mod Named
+pub mod Sized
+pub mod Premises
+pub mod Kept

@@ -1,7 +1,0 @@
-use Rattle.std.proofs.Common.{◌≡◌, ◌++◌, drop}
-use Rattle.sap_sem.specs.Lists.{numbers_of}
-use Rattle.sap_sem.proofs.commands.constants.Given as goal
-
--- with those of what is left
-abbrev pub invariant-loop-e : goal.invariant-loop-e
-invariant-loop-e l = l.made.items ++ numbers_of (drop l.e-index l.list) ≡ numbers_of l.list
