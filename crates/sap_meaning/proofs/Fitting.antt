@@ -9,7 +9,7 @@ use Rattle.sap_maps.proofs.Terms.{term_within}
 use Rattle.sap_meaning.specs.Program.{World, Program, Entity, nothing, kind_is_input, is_dynamic, is_input, width, root, LevelTerm, fixed, of, at_place, both, Step, assign, write, retag, retag_cell, go_to, fall_to_child, Command, lone, try, if_else, try_then, case_of, Arms, last_arm, and_arm, Block, end_block, command_then, State, state_node, Group, no_node, and_node}
 use Rattle.sap_meaning.specs.Store.{Slot, own, start, next, start_whole, next_whole, Store, owner, home, number, level, child, same_slot, put_number, put_level, put_child, raised, raise, lowered, reset, source, settle, After, stay}
 use Rattle.sap_meaning.specs.Expressions.{value, tag, level_at, new_level, width_of}
-use Rattle.sap_meaning.specs.Checks.{Spot, guard, test, child_level}
+use Rattle.sap_meaning.specs.Checks.{Home, guard, test, child_level}
 use Rattle.sap_meaning.specs.Touches.{touches, raised_alone, root_touches}
 use Rattle.sap_meaning.specs.Does.{effect, attempt, attempt_then, select, branch, does, does_arms, does_block, does_state, does_child}
 use Rattle.sap_meaning.specs.Cycle.{Tagged, inputs_before, given, at_inputs, set_inputs, root_fall, cycle}
@@ -100,7 +100,7 @@ module _ (w : World) (laws : Laws w.order) where
   picked true n m u h k = h
   picked false n m u h k = k
 
-  module _ (at : Spot) (q : Group) (enter : ℕ → ℕ → Store → After) (entering : (n pc : ℕ) → Level pc → Fitting (enter n pc)) where
+  module _ (at : Home) (q : Group) (enter : ℕ → ℕ → Store → After) (entering : (n pc : ℕ) → Level pc → Fitting (enter n pc)) where
     child_level_fits : (g : Group) (n : ℕ) (s : Store) → Fits w s → Level (child_level w g n s)
     child_level_fits no_node n s f = laws.bottom_is_level
     child_level_fits (and_node (state_node c b k) g) zero s f = f.levels _

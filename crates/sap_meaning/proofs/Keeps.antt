@@ -7,7 +7,7 @@ use Rattle.sap_maps.specs.Term.{Term}
 use Rattle.sap_meaning.specs.Program.{World, entity, is_dynamic, is_input, authority, children, place, below, Step, assign, write, retag, retag_cell, go_to, fall_to_child, Command, lone, try, if_else, try_then, case_of, Arms, last_arm, and_arm, Block, end_block, command_then, State, state_node, Group, no_node, and_node}
 use Rattle.sap_meaning.specs.Store.{Slot, own, start, next, start_whole, next_whole, Store, owner, home, level, child, same_slot, put_number, put_level, put_child, raised, raise, lowered, reset, source, settle, held, After, stay}
 use Rattle.sap_meaning.specs.Expressions.{tag, told}
-use Rattle.sap_meaning.specs.Checks.{Spot, guard, test}
+use Rattle.sap_meaning.specs.Checks.{Home, guard, test}
 use Rattle.sap_meaning.specs.Touches.{among, touches, raised_alone}
 use Rattle.sap_meaning.specs.Does.{effect, attempt, attempt_then, select, branch, is_constant, choose_arm, does, does_arms, does_block, does_state, does_child}
 use Rattle.sap_meaning.specs.Cycle.{Tagged, at_inputs, given, set_inputs}
@@ -117,7 +117,7 @@ module _ (w : World) where
   unfolding settle
   settle_rests s = record { numbers = λ m i. refl; levels = λ m i. level_settle w (start m i) s ∙ sym (level_settle w (next m i) s) }
 
-module _ (w : World) (at : Spot) (q : Group) (landing : (target : ℕ) → among q target ≡ true → place w target < children w at.parent) (enter : ℕ → ℕ → Store → After) (entering : (n pc : ℕ) → Keeps w (enter n pc)) where
+module _ (w : World) (at : Home) (q : Group) (landing : (target : ℕ) → among q target ≡ true → place w target < children w at.parent) (enter : ℕ → ℕ → Store → After) (entering : (n pc : ℕ) → Keeps w (enter n pc)) where
   pub effect_holds : (k : Step) → FineStep w q at.children k → (pc : ℕ) (b s : Store) → test w at k pc b ≡ true → Holds w s → Holds w (effect w at enter k pc b s).store
   unfolding effect
   effect_holds (assign site x e) fine pc b s t r = holds_level w _ (own x) _ (holds_number w s (own x) _ r) (λ d. rw d (r.above (own x) (held_register w x fine.0) d))

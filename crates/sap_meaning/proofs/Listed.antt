@@ -5,7 +5,7 @@ use Rattle.sap_maps.specs.Term.{Term}
 use Rattle.sap_meaning.specs.Program.{World, root, listed, Step, assign, write, retag, retag_cell, go_to, fall_to_child, Command, lone, try, if_else, try_then, case_of, Arms, last_arm, and_arm, Block, end_block, command_then, State, state_node, Group, no_node, and_node}
 use Rattle.sap_meaning.specs.Store.{Store, child, settle, After, and_then}
 use Rattle.sap_meaning.specs.Expressions.{value}
-use Rattle.sap_meaning.specs.Checks.{Spot, site_of, guard, test}
+use Rattle.sap_meaning.specs.Checks.{Home, site_of, guard, test}
 use Rattle.sap_meaning.specs.Touches.{raised_alone, root_touches}
 use Rattle.sap_meaning.specs.Does.{effect, attempt, attempt_then, select, branch, is_constant, choose_arm, does, does_arms, does_block, does_state, does_child}
 use Rattle.sap_meaning.specs.Runs.{listed_alone, run, run_arms, run_block, run_state, run_child}
@@ -22,7 +22,7 @@ same_test h k e = λ i x. e x i
 then_same : (a b : After) (f g : Store → After) → a ≡ b → ((s : Store) → f s ≡ g s) → and_then a f ≡ and_then b g
 then_same a b f g e h = rw e (ap (λ (r : After). let z : After = record { store = r.store; refused = b.refused ++ r.refused } in z) (h b.store))
 
-module _ (w : World) (at : Spot) (enter enter' : ℕ → ℕ → Store → After) (same : (n : ℕ) → Alike (enter n) (enter' n)) where
+module _ (w : World) (at : Home) (enter enter' : ℕ → ℕ → Store → After) (same : (n : ℕ) → Alike (enter n) (enter' n)) where
   effect_same : (k : Step) (pc : ℕ) (b s : Store) → effect w at enter k pc b s ≡ effect w at enter' k pc b s
   unfolding effect
   effect_same (assign site x e) pc b s = refl

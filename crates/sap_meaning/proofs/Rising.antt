@@ -1,17 +1,18 @@
 -- What is refused in a cycle stands in the order of the text.
 use Rattle.std.proofs.Common.{◌≡◌, ℕ, zero, suc, ◌≤◌, Bool, true, false, not, List, [], ◌∷◌, ◌++◌, append_assoc, refl, sym, ap, subst, arith, inl, inr}
+use Rattle.std.proofs.lemmas.List.{append-nil}
 use Rattle.std.proofs.lemmas.Bool.{cases_Bool, and_from, not-false, or_left}
 use Rattle.sap_lemmas.proofs.Bools.{neither_left, neither_right}
-use Rattle.sap_meaning.proofs.SitesLemmas.{sublist_append, sublist_behind, sublist_between, sublist_front}
+use Rattle.sap_meaning.proofs.SitesLemmas.{AreAmong, sites_append, sites_behind, sites_between, sites_front}
 use Rattle.sap_maps.specs.Term.{Term}
 use Rattle.sap_meaning.specs.Program.{World, is_dynamic, root, Step, assign, write, retag, retag_cell, go_to, fall_to_child, Command, lone, try, if_else, try_then, case_of, Arms, last_arm, and_arm, Block, end_block, command_then, State, state_node, Group, no_node, and_node}
 use Rattle.sap_meaning.specs.Store.{Store, child, raise, Refusal, After, stay}
-use Rattle.sap_meaning.specs.Checks.{Spot, child_opens, guard, test}
+use Rattle.sap_meaning.specs.Checks.{Home, child_opens, guard, test}
 use Rattle.sap_meaning.specs.Touches.{touches, raised_alone, root_touches}
 use Rattle.sap_meaning.specs.Does.{effect, attempt, attempt_then, select, branch, does, does_arms, does_block, does_state, does_child}
 use Rattle.sap_meaning.specs.Cycle.{set_inputs, root_fall, cycle}
 use Rattle.sap_meaning.specs.Fine.{transfers, Open, OpenArms, OpenBlock, Closes, Final, ClosingArms, FineState, FineGroup}
-use Rattle.sap_meaning.specs.Sites.{some_enforced, is_site, step_sites, sites, arms_sites, block_sites, state_sites, group_sites, program_sites, refused_sites, Sublist, RisesFrom}
+use Rattle.sap_meaning.specs.Sites.{some_enforced, is_site, PlacedStep, step_sites, command_sites, arms_sites, block_sites, state_sites, group_sites, program_sites, refused_sites, Sublist, RisesFrom}
 use Rattle.sap_meaning.specs.Laws.{SitesInOrder}
 use Rattle.sap_meaning.proofs.Keeps.{branch_all, choose_all}
 
@@ -38,7 +39,7 @@ module _ (w : World) where
   opens_all (and_node (state_node c b k) g) h (suc n) pc s = opens_all g (neither_right (not (is_dynamic w c)) _ h) n pc s
 
   -- what is no check site is not refused
-  serves : (at : Spot) (k : Step) → is_site w at.state at.children k ≡ false → (pc : ℕ) (s : Store) → test w at k pc s ≡ true
+  serves : (at : Home) (k : Step) → is_site w at.state at.children k ≡ false → (pc : ℕ) (s : Store) → test w at k pc s ≡ true
   serves at (assign site x e) h pc s = or_left _ _ (not-false (is_dynamic w x) h)
   serves at (write site m i e) h pc s = or_left _ _ (not-false (is_dynamic w m) h)
   serves at (retag site x n) h pc s = cc
@@ -48,17 +49,17 @@ module _ (w : World) where
   serves at (fall_to_child site hang) h pc s = opens_all at.children h (child at.state s) pc s
 
   -- what is refused
-  abbrev From : After → List ℕ → Type 0
-  From a ys = Sublist (refused_sites a.refused) ys
+  abbrev From : After → List PlacedStep → Type 0
+  From a ks = AreAmong (refused_sites a.refused) ks
 
-  module _ (at : Spot) (enter : ℕ → ℕ → Store → After) (below : List ℕ) (entering : (n pc : ℕ) (s : Store) → From (enter n pc s) below) where
-    abbrev Own : Step → List ℕ
+  module _ (at : Home) (enter : ℕ → ℕ → Store → After) (below : List PlacedStep) (entering : (n pc : ℕ) (s : Store) → From (enter n pc s) below) where
+    abbrev Own : Step → List PlacedStep
     Own k = step_sites w at.state at.children k
 
-    abbrev OwnBlock : Block → List ℕ
+    abbrev OwnBlock : Block → List PlacedStep
     OwnBlock b = block_sites w at.state at.children b
 
-    abbrev OwnArms : Arms → List ℕ
+    abbrev OwnArms : Arms → List PlacedStep
     OwnArms arms = arms_sites w at.state at.children arms
 
     effect_from : (k : Step) (pc : ℕ) (b s : Store) → From (effect w at enter k pc b s) below
@@ -80,85 +81,81 @@ module _ (w : World) where
     effect_none (fall_to_child site hang) plain pc b s = cc
 
     -- a step whose effect refuses some of ys, and whose handler some of zs
-    attempt_from : (k : Step) (hang : ℕ → Bool) (h : ℕ → Store → After) (ys zs : List ℕ) → ((pc : ℕ) (b s : Store) → From (effect w at enter k pc b s) ys) → ((xs : List ℕ) → Sublist xs ys → Sublist xs zs) → ((p : ℕ) (t : Store) → From (h p t) zs) → (pc : ℕ) (s : Store) → From (attempt w at enter k hang h pc s) (Own k ++ zs)
+    attempt_from : (k : Step) (hang : ℕ → Bool) (h : ℕ → Store → After) (ys zs : List PlacedStep) → ((pc : ℕ) (b s : Store) → From (effect w at enter k pc b s) ys) → ((xs : List ℕ) → AreAmong xs ys → AreAmong xs zs) → ((p : ℕ) (t : Store) → From (h p t) zs) → (pc : ℕ) (s : Store) → From (attempt w at enter k hang h pc s) (Own k ++ zs)
     unfolding attempt
     attempt_from k hang h ys zs f into g pc s = elim (cases_Bool (test w at k pc s)) [
-      | inl t ↦ rw t (sublist_behind _ (Own k) zs (into _ (f pc s _)))
+      | inl t ↦ rw t (sites_behind _ (Own k) zs (into _ (f pc s _)))
       | inr t ↦ rw t (elim (cases_Bool (is_site w at.state at.children k)) [
         | inl i ↦ rw i (inl (refl, g _ _))
         | inr i ↦ (let no = serves at k i pc s in cc)
       ])
     ]
 
-    select_from : (e : Term ℕ) (hang : ℕ → Bool) (a b : ℕ → Store → After) (ys : List ℕ) → ((p : ℕ) (t : Store) → From (a p t) ys) → ((p : ℕ) (t : Store) → From (b p t) ys) → (pc : ℕ) (s : Store) → From (select w e hang (branch a b) pc s) ys
+    select_from : (e : Term ℕ) (hang : ℕ → Bool) (a b : ℕ → Store → After) (ys : List PlacedStep) → ((p : ℕ) (t : Store) → From (a p t) ys) → ((p : ℕ) (t : Store) → From (b p t) ys) → (pc : ℕ) (s : Store) → From (select w e hang (branch a b) pc s) ys
     unfolding select
     select_from e hang a b ys f g pc s = branch_all (λ z. From z ys) a b _ _ _ (f _ _) (g _ _)
 
     -- a step that is no transfer, and whose parts refuse some of ys
-    attempt_then_from : (k : Step) → transfers k ≡ false → (hang : ℕ → Bool) (f g : ℕ → Store → After) (ys : List ℕ) → ((p : ℕ) (t : Store) → From (f p t) ys) → ((p : ℕ) (t : Store) → From (g p t) ys)
+    attempt_then_from : (k : Step) → transfers k ≡ false → (hang : ℕ → Bool) (f g : ℕ → Store → After) (ys : List PlacedStep) → ((p : ℕ) (t : Store) → From (f p t) ys) → ((p : ℕ) (t : Store) → From (g p t) ys)
         → (pc : ℕ) (s : Store) → From (attempt_then w at enter k hang f g pc s) (Own k ++ ys)
     unfolding attempt_then
     attempt_then_from k plain hang f g ys a b pc s = elim (cases_Bool (test w at k pc s)) [
       | inl t ↦ rw (t, refused-append (effect w at enter k pc s (raise w.order hang (guard w at k s) s)).refused)
-          (sublist_behind _ (Own k) ys (sublist_append _ [] _ ys (effect_none k plain pc s (raise w.order hang (guard w at k s) s)) (a _ _)))
+          (sites_behind _ (Own k) ys (sites_append _ [] _ ys (effect_none k plain pc s (raise w.order hang (guard w at k s) s)) (a _ _)))
       | inr t ↦ rw t (elim (cases_Bool (is_site w at.state at.children k)) [
         | inl i ↦ rw i (inl (refl, b _ _))
         | inr i ↦ (let no = serves at k i pc s in cc)
       ])
     ]
 
-    pick_from : (e : Term ℕ) (hang : ℕ → Bool) (pick : ℕ → ℕ → Store → After) (ys : List ℕ) → ((v p : ℕ) (t : Store) → From (pick v p t) ys) → (pc : ℕ) (s : Store) → From (select w e hang pick pc s) ys
+    pick_from : (e : Term ℕ) (hang : ℕ → Bool) (pick : ℕ → ℕ → Store → After) (ys : List PlacedStep) → ((v p : ℕ) (t : Store) → From (pick v p t) ys) → (pc : ℕ) (s : Store) → From (select w e hang pick pc s) ys
     unfolding select
     pick_from e hang pick ys f pc s = f _ _ _
 
-    none : (xs ys : List ℕ) → Sublist xs [] → Sublist xs ys
+    none : (xs : List ℕ) (ys : List PlacedStep) → AreAmong xs [] → AreAmong xs ys
     none [] ys h = tt
     none (x ∷ xs) ys h = absurd h
-
-    append-nil : (xs : List ℕ) → xs ++ [] ≡ xs
-    append-nil [] = refl
-    append-nil (x ∷ xs) = ap (λ ys. x ∷ ys) (append-nil xs)
 
     mutual
       unfolding does does_arms does_block
 
-      open_from : (c : Command) → Open c → (pc : ℕ) (s : Store) → From (does w at enter c pc s) (sites w at.state at.children c)
+      open_from : (c : Command) → Open c → (pc : ℕ) (s : Store) → From (does w at enter c pc s) (command_sites w at.state at.children c)
       open_from (lone k) plain pc s = subst (λ ys. From (attempt w at enter k (raised_alone w at k) (λ p t. stay t) pc s) ys) (append-nil (Own k)) (attempt_from k (raised_alone w at k) (λ p t. stay t) [] [] (effect_none k plain) (λ xs h. h) (λ p t. tt) pc s)
       open_from (try k hang h) plain pc s = attempt_from k (touches w at (try k hang h)) (does_block w at enter h) [] (OwnBlock h) (effect_none k plain.0) (λ xs i. none xs (OwnBlock h) i) (λ p t. open_list h plain.1 p t) pc s
-      open_from (if_else hang e a b) plain pc s = select_from e (touches w at (if_else hang e a b)) (does_block w at enter a) (does_block w at enter b) (OwnBlock a ++ OwnBlock b) (λ p t. sublist_front _ (OwnBlock a) (OwnBlock b) (open_list a plain.0 p t)) (λ p t. sublist_behind _ (OwnBlock a) (OwnBlock b) (open_list b plain.1 p t)) pc s
+      open_from (if_else hang e a b) plain pc s = select_from e (touches w at (if_else hang e a b)) (does_block w at enter a) (does_block w at enter b) (OwnBlock a ++ OwnBlock b) (λ p t. sites_front _ (OwnBlock a) (OwnBlock b) (open_list a plain.0 p t)) (λ p t. sites_behind _ (OwnBlock a) (OwnBlock b) (open_list b plain.1 p t)) pc s
       open_from (try_then k hang a b) plain pc s =
           attempt_then_from k plain.0 (touches w at (try_then k hang a b)) (does_block w at enter a) (does_block w at enter b) (OwnBlock a ++ OwnBlock b)
-          (λ p t. sublist_front _ (OwnBlock a) (OwnBlock b) (open_list a plain.1 p t)) (λ p t. sublist_behind _ (OwnBlock a) (OwnBlock b) (open_list b plain.2 p t)) pc s
+          (λ p t. sites_front _ (OwnBlock a) (OwnBlock b) (open_list a plain.1 p t)) (λ p t. sites_behind _ (OwnBlock a) (OwnBlock b) (open_list b plain.2 p t)) pc s
       open_from (case_of hang e arms) plain pc s = pick_from e (touches w at (case_of hang e arms)) (does_arms w at enter arms) (OwnArms arms) (λ v p t. open_arms arms plain v p t) pc s
 
       open_arms : (arms : Arms) → OpenArms arms → (v pc : ℕ) (s : Store) → From (does_arms w at enter arms v pc s) (OwnArms arms)
       open_arms (last_arm b) plain v pc s = open_list b plain pc s
       open_arms (and_arm cs b arms) plain v pc s =
           choose_all (λ z. From z (OwnBlock b ++ OwnArms arms)) cs (does_block w at enter b) (does_arms w at enter arms) v pc s
-          (sublist_front _ (OwnBlock b) (OwnArms arms) (open_list b plain.0 pc s)) (sublist_behind _ (OwnBlock b) (OwnArms arms) (open_arms arms plain.1 v pc s))
+          (sites_front _ (OwnBlock b) (OwnArms arms) (open_list b plain.0 pc s)) (sites_behind _ (OwnBlock b) (OwnArms arms) (open_arms arms plain.1 v pc s))
 
       open_list : (b : Block) → OpenBlock b → (pc : ℕ) (s : Store) → From (does_block w at enter b pc s) (OwnBlock b)
       open_list end_block plain pc s = tt
-      open_list (command_then c cs) plain pc s = rw (refused-append (does w at enter c pc s).refused) (sublist_append _ (sites w at.state at.children c) _ (OwnBlock cs) (open_from c plain.0 pc s) (open_list cs plain.1 pc _))
+      open_list (command_then c cs) plain pc s = rw (refused-append (does w at enter c pc s).refused) (sites_append _ (command_sites w at.state at.children c) _ (OwnBlock cs) (open_from c plain.0 pc s) (open_list cs plain.1 pc _))
 
     mutual
       unfolding does does_arms does_block
 
-      final_from : (c : Command) → Final c → (pc : ℕ) (s : Store) → From (does w at enter c pc s) (sites w at.state at.children c ++ below)
+      final_from : (c : Command) → Final c → (pc : ℕ) (s : Store) → From (does w at enter c pc s) (command_sites w at.state at.children c ++ below)
       final_from (lone k) final pc s = attempt_from k (raised_alone w at k) (λ p t. stay t) below below (effect_from k) (λ xs h. h) (λ p t. tt) pc s
       final_from (try k hang h) final pc s =
           subst (λ ys. From (attempt w at enter k (touches w at (try k hang h)) (does_block w at enter h) pc s) ys) (sym (append_assoc (Own k) (OwnBlock h) below))
-          (attempt_from k (touches w at (try k hang h)) (does_block w at enter h) below (OwnBlock h ++ below) (effect_from k) (λ xs i. sublist_behind xs (OwnBlock h) below i) (λ p t. closing_from h final.1 p t) pc s)
+          (attempt_from k (touches w at (try k hang h)) (does_block w at enter h) below (OwnBlock h ++ below) (effect_from k) (λ xs i. sites_behind xs (OwnBlock h) below i) (λ p t. closing_from h final.1 p t) pc s)
       final_from (if_else hang e a b) final pc s =
           select_from e (touches w at (if_else hang e a b)) (does_block w at enter a) (does_block w at enter b) ((OwnBlock a ++ OwnBlock b) ++ below)
-          (λ p t. sublist_between _ (OwnBlock a) (OwnBlock b) below (closing_from a final.0 p t))
-          (λ p t. subst (λ ys. From (does_block w at enter b p t) ys) (sym (append_assoc (OwnBlock a) (OwnBlock b) below)) (sublist_behind _ (OwnBlock a) (OwnBlock b ++ below) (closing_from b final.1 p t))) pc s
+          (λ p t. sites_between _ (OwnBlock a) (OwnBlock b) below (closing_from a final.0 p t))
+          (λ p t. subst (λ ys. From (does_block w at enter b p t) ys) (sym (append_assoc (OwnBlock a) (OwnBlock b) below)) (sites_behind _ (OwnBlock a) (OwnBlock b ++ below) (closing_from b final.1 p t))) pc s
       final_from (try_then k hang a b) final pc s =
           subst (λ ys. From (attempt_then w at enter k (touches w at (try_then k hang a b)) (does_block w at enter a) (does_block w at enter b) pc s) ys)
           (sym (append_assoc (Own k) (OwnBlock a ++ OwnBlock b) below))
           (attempt_then_from k final.0 (touches w at (try_then k hang a b)) (does_block w at enter a) (does_block w at enter b) ((OwnBlock a ++ OwnBlock b) ++ below)
-          (λ p t. sublist_between _ (OwnBlock a) (OwnBlock b) below (closing_from a final.1 p t))
-          (λ p t. subst (λ ys. From (does_block w at enter b p t) ys) (sym (append_assoc (OwnBlock a) (OwnBlock b) below)) (sublist_behind _ (OwnBlock a) (OwnBlock b ++ below) (closing_from b final.2 p t))) pc s)
+          (λ p t. sites_between _ (OwnBlock a) (OwnBlock b) below (closing_from a final.1 p t))
+          (λ p t. subst (λ ys. From (does_block w at enter b p t) ys) (sym (append_assoc (OwnBlock a) (OwnBlock b) below)) (sites_behind _ (OwnBlock a) (OwnBlock b ++ below) (closing_from b final.2 p t))) pc s)
       final_from (case_of hang e arms) final pc s =
           pick_from e (touches w at (case_of hang e arms)) (does_arms w at enter arms) (OwnArms arms ++ below) (λ v p t. closing_arms arms final v p t) pc s
 
@@ -166,18 +163,18 @@ module _ (w : World) where
       closing_arms (last_arm b) closes v pc s = closing_from b closes pc s
       closing_arms (and_arm cs b arms) closes v pc s =
           choose_all (λ z. From z ((OwnBlock b ++ OwnArms arms) ++ below)) cs (does_block w at enter b) (does_arms w at enter arms) v pc s
-          (sublist_between _ (OwnBlock b) (OwnArms arms) below (closing_from b closes.0 pc s))
+          (sites_between _ (OwnBlock b) (OwnArms arms) below (closing_from b closes.0 pc s))
           (subst (λ ys. From (does_arms w at enter arms v pc s) ys) (sym (append_assoc (OwnBlock b) (OwnArms arms) below))
-          (sublist_behind _ (OwnBlock b) (OwnArms arms ++ below) (closing_arms arms closes.1 v pc s)))
+          (sites_behind _ (OwnBlock b) (OwnArms arms ++ below) (closing_arms arms closes.1 v pc s)))
 
       pub closing_from : (b : Block) → Closes b → (pc : ℕ) (s : Store) → From (does_block w at enter b pc s) (OwnBlock b ++ below)
       closing_from end_block closes pc s = absurd closes
       closing_from (command_then c end_block) closes pc s =
-          rw (refused-append (does w at enter c pc s).refused, append-nil (refused_sites (does w at enter c pc s).refused), append-nil (sites w at.state at.children c)) (final_from c closes pc s)
+          rw (refused-append (does w at enter c pc s).refused, append-nil (refused_sites (does w at enter c pc s).refused), append-nil (command_sites w at.state at.children c)) (final_from c closes pc s)
       closing_from (command_then c (command_then d ds)) closes pc s =
           rw (refused-append (does w at enter c pc s).refused)
-          (subst (λ ys. Sublist (refused_sites (does w at enter c pc s).refused ++ refused_sites (does_block w at enter (command_then d ds) pc (does w at enter c pc s).store).refused) ys) (sym (append_assoc (sites w at.state at.children c) (OwnBlock (command_then d ds)) below))
-          (sublist_append _ (sites w at.state at.children c) _ (OwnBlock (command_then d ds) ++ below) (open_from c closes.0 pc s) (closing_from (command_then d ds) closes.1 pc _)))
+          (subst (λ ys. AreAmong (refused_sites (does w at enter c pc s).refused ++ refused_sites (does_block w at enter (command_then d ds) pc (does w at enter c pc s).store).refused) ys) (sym (append_assoc (command_sites w at.state at.children c) (OwnBlock (command_then d ds)) below))
+          (sites_append _ (command_sites w at.state at.children c) _ (OwnBlock (command_then d ds) ++ below) (open_from c closes.0 pc s) (closing_from (command_then d ds) closes.1 pc _)))
 
   mutual
     unfolding does_state does_child
@@ -187,14 +184,14 @@ module _ (w : World) where
 
     child_from : (g : Group) (p : ℕ) (q : Group) (n : ℕ) → FineGroup w q n g → (m pc : ℕ) (s : Store) → From (does_child w g p m pc s) (group_sites w g)
     child_from no_node p q n fine m pc s = tt
-    child_from (and_node t g) p q n fine zero pc s = sublist_front _ (state_sites w t) (group_sites w g) (state_from t p q n fine.0 pc s)
-    child_from (and_node t g) p q n fine (suc m) pc s = sublist_behind _ (state_sites w t) (group_sites w g) (child_from g p q (suc n) fine.1 m pc s)
+    child_from (and_node t g) p q n fine zero pc s = sites_front _ (state_sites w t) (group_sites w g) (state_from t p q n fine.0 pc s)
+    child_from (and_node t g) p q n fine (suc m) pc s = sites_behind _ (state_sites w t) (group_sites w g) (child_from g p q (suc n) fine.1 m pc s)
 
   root_from : (hang : ℕ → Bool) (p : ℕ) (g : Group) (q : Group) (n : ℕ) → FineGroup w q n g → (m : ℕ) (s : Store) → From (root_fall w hang (λ t. does_state w t p) g m s) (group_sites w g)
   unfolding root_fall
   root_from hang p no_node q n fine m s = tt
-  root_from hang p (and_node (state_node c b k) g) q n fine zero s = sublist_front _ (state_sites w (state_node c b k)) (group_sites w g) (state_from (state_node c b k) p q n fine.0 _ _)
-  root_from hang p (and_node (state_node c b k) g) q n fine (suc m) s = sublist_behind _ (state_sites w (state_node c b k)) (group_sites w g) (root_from hang p g q (suc n) fine.1 m s)
+  root_from hang p (and_node (state_node c b k) g) q n fine zero s = sites_front _ (state_sites w (state_node c b k)) (group_sites w g) (state_from (state_node c b k) p q n fine.0 _ _)
+  root_from hang p (and_node (state_node c b k) g) q n fine (suc m) s = sites_behind _ (state_sites w (state_node c b k)) (group_sites w g) (root_from hang p g q (suc n) fine.1 m s)
 
 pub sites_law : SitesInOrder
 unfolding cycle

@@ -7,7 +7,7 @@ use Rattle.sap_lattice.specs.Order.{Laws}
 use Rattle.sap_maps.specs.Term.{constant, read, cell, two}
 use Rattle.sap_bits.specs.declared.Op2.TheVariants.{Eq}
 use Rattle.sap_meaning.specs.Program.{entity, is_dynamic, is_input, authority, width, is_state, below, listed, assign, write, go_to, fall_to_child, Command, lone, try, if_else, end_block, command_then, state_node, no_node, and_node}
-use Rattle.sap_meaning.specs.Checks.{Spot}
+use Rattle.sap_meaning.specs.Checks.{Home}
 use Rattle.sap_meaning.specs.Touches.{touches, root_touches}
 use Rattle.sap_meaning.specs.Fine.{FineNode, FineProgram, ExactProgram, ExactList, reaches, block_reaches, OnceState, inside}
 use Rattle.sap_meaning.specs.Sized.{SizedProgram}
@@ -49,7 +49,7 @@ always : (a : Bool) → (if a then true else true) ≡ true
 always true = refl
 always false = refl
 
-lawful : Laws two_levels
+pub lawful : Laws two_levels
 lawful = record {
   least_of_all = λ x. refl;
   self = λ x. itself (nat_eq x 1);
@@ -80,7 +80,7 @@ each f g h0 h1 h2 h3 h4 h5 h6 h7 h8 h9 (suc (suc (suc (suc (suc (suc (suc zero))
 each f g h0 h1 h2 h3 h4 h5 h6 h7 h8 h9 (suc (suc (suc (suc (suc (suc (suc (suc zero)))))))) = h8
 each f g h0 h1 h2 h3 h4 h5 h6 h7 h8 h9 (suc (suc (suc (suc (suc (suc (suc (suc (suc x))))))))) = h9 x
 
-abbrev spot_p : Spot
+abbrev spot_p : Home
 spot_p = record { state = 5; parent = 9; children = sample_kids }
 
 abbrev handled : Command

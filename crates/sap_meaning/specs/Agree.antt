@@ -1,10 +1,19 @@
 -- When streams, states and refusals agree at a level l.
-use Rattle.std.specs.Prelude.{◌≡◌, ℕ, zero, suc, true, false, List, [], ◌∷◌, ◌⊎◌, filter, if◌then◌else◌}
+use Rattle.std.specs.Prelude.{◌≡◌, ℕ, zero, suc, true, false, List, [], ◌∷◌, ◌⊎◌, filter}
 use Rattle.std.specs.List.{AllZip}
 use Rattle.sap_lattice.specs.Order.{Order}
 use Rattle.sap_meaning.specs.Program.{World, Program, is_dynamic, is_register, is_memory, authority, root, state_node, Group, no_node, and_node}
 use Rattle.sap_meaning.specs.Store.{Store, Slot, own, start, next, start_whole, next_whole, owner, held, number, level, child, Refusal, After}
 use Rattle.sap_meaning.specs.Cycle.{Tagged}
+
+-- A relation of two contents, by what it says that they are the same, and by their tags t and u.
+abbrev pub Relation : Type 1
+Relation = (Same : Type 0) → (t u : ℕ) → Type 0
+
+-- They look alike to one to whom some tags are low and others are high: they are the same, with equal tags, a low one; or
+-- both tags are high.
+abbrev pub AlikeBy : (low high : ℕ → Type 0) → Relation
+AlikeBy low high Same t u = (Same × (t ≡ u) × low t) ⊎ (high t × high u)
 
 -- t is at or below l
 abbrev pub Low : Order → ℕ → ℕ → Type 0
@@ -14,40 +23,46 @@ Low o l t = o.le t l ≡ true
 abbrev pub High : Order → ℕ → ℕ → Type 0
 High o l t = o.le t l ≡ false
 
--- The numbers n and m with the levels t and u look alike: they are equal, with equal levels at or below l, or neither
--- level is at or below l.
-abbrev pub Alike : Order → ℕ → (n t m u : ℕ) → Type 0
-Alike o l n t m u = ((n ≡ m) × (t ≡ u) × Low o l t) ⊎ (High o l t × High o l u)
+-- contents whose tags are levels look alike at l
+abbrev pub Alike : Order → (l : ℕ) → Relation
+Alike o l = AlikeBy (Low o l) (High o l)
 
+-- one slot, its content being its number
 abbrev pub SlotsAlike : World → ℕ → Slot → Store → Store → Type 0
-SlotsAlike w l z s t = Alike w.order l (number z s) (level w z s) (number z t) (level w z t)
+SlotsAlike w l z s t = Alike w.order l (number z s ≡ number z t) (level w z s) (level w z t)
 
--- One part of a dynamic memory, whose level is kept at `whole`: all cells and the level are equal, with the level at
--- or below l, or neither level is at or below l.
+-- one part of a dynamic memory, whose level is kept at `whole`, its content being all its cells
 abbrev pub PartsAlike : World → ℕ → (cell : ℕ → Slot) → (whole : Slot) → Store → Store → Type 0
-PartsAlike w l cell whole s t =
-    (((i : ℕ) → number (cell i) s ≡ number (cell i) t) × (level w whole s ≡ level w whole t) × Low w.order l (level w whole s))
-    ⊎ (High w.order l (level w whole s) × High w.order l (level w whole t))
+PartsAlike w l cell whole s t = Alike w.order l ((i : ℕ) → number (cell i) s ≡ number (cell i) t) (level w whole s) (level w whole t)
 
--- a state on the active path, with its level
+-- a state on the active path, with its tag
 pub record ActiveState : Type 0 where
   pub state : ℕ
-  pub level : ℕ
+  pub tag : ℕ
 
--- What is seen at l of the active path from the n-th of a group on: where its level is at or below l, the state with its level,
--- and what is seen below it; else nothing.
-abbrev pub seen_from : World → ℕ → Group → ℕ → Store → List ActiveState
-seen_from w l no_node n s = []
-seen_from w l (and_node (state_node c b k) g) zero s =
-    if w.order.le (level w (own c) s) l then record { state = c; level = level w (own c) s } ∷ seen_from w l k (child c s) s else []
-seen_from w l (and_node t g) (suc n) s = seen_from w l g n s
+-- The active path from the n-th of a group on: that state, and below it likewise from its current child on, down to a state
+-- without children. `child` has the place of each state's current child, `tag` each state's tag. At a place that is no
+-- child's the path ends too.
+abbrev pub path_from : (child tag : ℕ → ℕ) → Group → (n : ℕ) → List ActiveState
+path_from child tag no_node n = []
+path_from child tag (and_node (state_node c b k) g) zero = record { state = c; tag = tag c } ∷ path_from child tag k (child c)
+path_from child tag (and_node a g) (suc n) = path_from child tag g n
 
--- what is seen at l of the active path, from the root on
-abbrev pub seen_path : Program → ℕ → Store → List ActiveState
-seen_path p l s = seen_from p.world l p.states (child (root p.world) s) s
+-- the active path in a store, from the root on, with levels for tags
+abbrev pub active_path : Program → Store → List ActiveState
+active_path p s = path_from (λ x. child x s) (λ x. level p.world (own x) s) p.states (child (root p.world) s)
 
--- Two states look alike at or below l. Of inputs, of current children and of dynamic states off the seen path nothing
--- is asked.
+-- Two active paths are so related: both have ended; or their first states are, by their tags, and are the same where it is
+-- one state and the paths below it are so related.
+abbrev pub PathsRelated : Relation → List ActiveState → List ActiveState → Type 0
+PathsRelated R [] [] = Unit {0}
+PathsRelated R [] (y ∷ ys) = ⊥
+PathsRelated R (x ∷ xs) [] = ⊥
+PathsRelated R (x ∷ xs) (y ∷ ys) = R ((x.state ≡ y.state) × PathsRelated R xs ys) x.tag y.tag
+
+-- Two states look alike at or below l. Nothing is asked of inputs, nor of current children and dynamic states that are off
+-- the active path or below a state on it that is not at or below l. All cells are compared, also those past a memory's
+-- depth: no index of a design comes to these, so they keep what the first state has there.
 pub record StatesAgree (p : Program) (l : ℕ) (s t : Store) : Type 0 where
   pub registers : (x : ℕ) → is_register p.world x ≡ true → SlotsAlike p.world l (own x) s t
   pub enforced_memories : (m i : ℕ) → is_memory p.world m ≡ true → is_dynamic p.world m ≡ false
@@ -57,8 +72,7 @@ pub record StatesAgree (p : Program) (l : ℕ) (s t : Store) : Type 0 where
   -- of registers, cells and states, whether active or not
   pub enforced_levels : (z : Slot) → held p.world z ≡ true → is_dynamic p.world (owner z) ≡ false → Low p.world.order l (authority p.world (owner z))
       → level p.world z s ≡ level p.world z t
-  -- the same states are seen on the active paths, with the same levels
-  pub paths : seen_path p l s ≡ seen_path p l t
+  pub paths : PathsRelated (Alike p.world.order l) (active_path p s) (active_path p t)
 
 -- the refusals whose level is at or below l
 abbrev pub seen : Order → ℕ → List Refusal → List Refusal
@@ -69,7 +83,7 @@ RefusalsAgree o l rs qs = seen o l rs ≡ seen o l qs
 
 -- as many inputs, and each alike
 abbrev pub InputsAgree : Order → ℕ → List Tagged → List Tagged → Type 0
-InputsAgree o l inputs others = AllZip (λ a b. Alike o l a.number a.level b.number b.level) inputs others
+InputsAgree o l inputs others = AllZip (λ a b. Alike o l (a.number ≡ b.number) a.level b.level) inputs others
 
 -- as many cycles, and in each the inputs agree
 abbrev pub StreamsAgree : Order → ℕ → List (List Tagged) → List (List Tagged) → Type 0

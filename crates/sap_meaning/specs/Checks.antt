@@ -5,7 +5,7 @@ use Rattle.sap_meaning.specs.Store.{Store, own, start, level, child}
 use Rattle.sap_meaning.specs.Expressions.{value, tag, new_level, told}
 
 -- where a command stands: the state in whose body, that state's parent, and its children
-pub record Spot : Type 0 where
+pub record Home : Type 0 where
   pub state : ℕ
   pub parent : ℕ
   pub children : Group
@@ -38,7 +38,7 @@ child_opens w no_node n pc s = true
 child_opens w (and_node (state_node c b k) g) zero pc s = opens w c pc s
 child_opens w (and_node t g) (suc n) pc s = child_opens w g n pc s
 
-abbrev pub guard : World → Spot → Step → Store → ℕ
+abbrev pub guard : World → Home → Step → Store → ℕ
 guard w at (assign site x e) s = if is_dynamic w x then w.order.bottom else level w (own x) s
 guard w at (write site m i e) s = if is_dynamic w m then w.order.bottom else w.order.join (tag w i s) (level w (start m (value w i s)) s)
 guard w at (retag site x n) s = authority w x
@@ -46,7 +46,7 @@ guard w at (retag_cell site m j n) s = authority w m
 guard w at (go_to site target) s = entry w target
 guard w at (fall_to_child site hang) s = child_level w at.children (child at.state s) s
 
-abbrev pub test : World → Spot → Step → ℕ → Store → Bool
+abbrev pub test : World → Home → Step → ℕ → Store → Bool
 test w at (assign site x e) pc s = is_dynamic w x || w.order.le (w.order.join pc (tag w e s)) (level w (own x) s)
 test w at (write site m i e) pc s =
     is_dynamic w m || w.order.le (w.order.join pc (w.order.join (tag w i s) (tag w e s))) (level w (start m (value w i s)) s)

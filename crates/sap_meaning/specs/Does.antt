@@ -6,12 +6,12 @@ use Rattle.sap_maps.specs.Term.{Term}
 use Rattle.sap_meaning.specs.Program.{World, is_dynamic, place, Step, assign, write, retag, retag_cell, go_to, fall_to_child, Command, lone, try, if_else, try_then, case_of, Arms, last_arm, and_arm, Block, end_block, command_then, State, state_node, Group, no_node, and_node}
 use Rattle.sap_meaning.specs.Store.{Store, own, start, next, number, level, child, put_number, put_level, put_child, raise, reset, Refusal, After, stay, and_then}
 use Rattle.sap_meaning.specs.Expressions.{value, tag, new_level}
-use Rattle.sap_meaning.specs.Checks.{Spot, site_of, child_level, guard, test}
+use Rattle.sap_meaning.specs.Checks.{Home, site_of, child_level, guard, test}
 use Rattle.sap_meaning.specs.Touches.{touches, raised_alone}
 
 -- The effect of a step whose test held in `before`, on the store after the raises. `enter n` is what the body of the
 -- n-th child does in a context.
-unfoldable pub effect : World → Spot → (ℕ → ℕ → Store → After) → Step → ℕ → (before : Store) → Store → After
+unfoldable pub effect : World → Home → (ℕ → ℕ → Store → After) → Step → ℕ → (before : Store) → Store → After
 effect w at enter (assign site x e) pc before s =
     let t = if is_dynamic w x then w.order.join pc (tag w e before) else level w (own x) s in
     stay (put_level w (own x) t (put_number (own x) (value w e before) s))
@@ -33,7 +33,7 @@ effect w at enter (fall_to_child site hang) pc before s =
 
 -- A step: what it raises is raised by its guard. A refused site is told before what the handler refuses, which runs in
 -- the context joined with the guard.
-unfoldable pub attempt : World → Spot → (ℕ → ℕ → Store → After) → Step → (ℕ → Bool) → (handler : ℕ → Store → After) → ℕ → Store → After
+unfoldable pub attempt : World → Home → (ℕ → ℕ → Store → After) → Step → (ℕ → Bool) → (handler : ℕ → Store → After) → ℕ → Store → After
 attempt w at enter k hangs handler pc s =
     let g = guard w at k s in
     let r = raise w.order hangs g s in
@@ -45,7 +45,7 @@ attempt w at enter k hangs handler pc s =
     record { store = a.store; refused = refusal ∷ a.refused })
 
 -- A step with `then`: where its test holds, the accepted part comes behind its effect, in the context joined with the guard.
-unfoldable pub attempt_then : World → Spot → (ℕ → ℕ → Store → After) → Step → (ℕ → Bool) → (accepted refused : ℕ → Store → After) → ℕ → Store → After
+unfoldable pub attempt_then : World → Home → (ℕ → ℕ → Store → After) → Step → (ℕ → Bool) → (accepted refused : ℕ → Store → After) → ℕ → Store → After
 attempt_then w at enter k hangs accepted refused pc s =
     let g = guard w at k s in
     let r = raise w.order hangs g s in
@@ -75,7 +75,7 @@ abbrev pub choose_arm : List ℕ → (ℕ → Store → After) → (ℕ → ℕ 
 choose_arm constants arm others n pc s = if is_constant constants n then arm pc s else others n pc s
 
 unfoldable mutual
-  pub does : World → Spot → (ℕ → ℕ → Store → After) → Command → ℕ → Store → After
+  pub does : World → Home → (ℕ → ℕ → Store → After) → Command → ℕ → Store → After
   does w at enter (lone k) = attempt w at enter k (raised_alone w at k) (λ pc s. stay s)
   does w at enter (try k hang h) = attempt w at enter k (touches w at (try k hang h)) (does_block w at enter h)
   does w at enter (if_else hang e a b) = select w e (touches w at (if_else hang e a b)) (branch (does_block w at enter a) (does_block w at enter b))
@@ -83,12 +83,12 @@ unfoldable mutual
   does w at enter (case_of hang e arms) = select w e (touches w at (case_of hang e arms)) (does_arms w at enter arms)
 
   -- the block of the first arm that has the number, else the last block
-  pub does_arms : World → Spot → (ℕ → ℕ → Store → After) → Arms → ℕ → ℕ → Store → After
+  pub does_arms : World → Home → (ℕ → ℕ → Store → After) → Arms → ℕ → ℕ → Store → After
   does_arms w at enter (last_arm b) = λ n. does_block w at enter b
   does_arms w at enter (and_arm constants b arms) = choose_arm constants (does_block w at enter b) (does_arms w at enter arms)
 
   -- a list of commands, in order
-  pub does_block : World → Spot → (ℕ → ℕ → Store → After) → Block → ℕ → Store → After
+  pub does_block : World → Home → (ℕ → ℕ → Store → After) → Block → ℕ → Store → After
   does_block w at enter end_block pc s = stay s
   does_block w at enter (command_then c cs) pc s = and_then (does w at enter c pc s) (does_block w at enter cs pc)
 

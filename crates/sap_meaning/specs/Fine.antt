@@ -3,7 +3,7 @@ use Rattle.std.specs.Prelude.{◌≡◌, ℕ, zero, suc, ◌<◌, ◌≤◌, Boo
 use Rattle.sap_lattice.specs.Order.{Laws}
 use Rattle.sap_maps.specs.Term.{Term, constant, read, cell, one, two, choose, join, part}
 use Rattle.sap_meaning.specs.Program.{World, Program, entity, is_dynamic, is_input, is_register, is_memory, is_state, authority, children, root, place, last, below, listed, LevelTerm, fixed, of, at_place, both, Step, assign, write, retag, retag_cell, go_to, fall_to_child, Command, lone, try, if_else, try_then, case_of, Arms, last_arm, and_arm, Block, end_block, command_then, State, state_node, Group, no_node, and_node}
-use Rattle.sap_meaning.specs.Checks.{Spot}
+use Rattle.sap_meaning.specs.Checks.{Home}
 use Rattle.sap_meaning.specs.Touches.{among, touches, root_touches}
 
 -- What is read plain is an input or a register, and what is read by an index is a memory.
@@ -282,10 +282,10 @@ abbrev mutual
   FineGroup w q n (and_node t g) = FineState w q n t × FineGroup w q (suc n) g × ((x : ℕ) → inside g x ≡ true → last w (number_of t) < x)
 
 -- each list in the program has exactly what hangs
-abbrev pub ExactList : World → Spot → List Bool → Command → Type 0
+abbrev pub ExactList : World → Home → List Bool → Command → Type 0
 ExactList w at hang c = (x : ℕ) → listed hang x ≡ touches w at c x
 
-abbrev pub ExactStep : World → Spot → Step → Type 0
+abbrev pub ExactStep : World → Home → Step → Type 0
 ExactStep w at (assign site x e) = Unit {0}
 ExactStep w at (write site m i e) = Unit {0}
 ExactStep w at (retag site x n) = Unit {0}
@@ -294,18 +294,18 @@ ExactStep w at (go_to site target) = Unit {0}
 ExactStep w at (fall_to_child site hang) = ExactList w at hang (lone (fall_to_child site hang))
 
 abbrev mutual
-  pub Exact : World → Spot → Command → Type 0
+  pub Exact : World → Home → Command → Type 0
   Exact w at (lone k) = ExactStep w at k
   Exact w at (try k hang h) = ExactList w at hang (try k hang h) × ExactBlock w at h
   Exact w at (if_else hang e a b) = ExactList w at hang (if_else hang e a b) × ExactBlock w at a × ExactBlock w at b
   Exact w at (try_then k hang a b) = ExactList w at hang (try_then k hang a b) × ExactBlock w at a × ExactBlock w at b
   Exact w at (case_of hang e arms) = ExactList w at hang (case_of hang e arms) × ExactArms w at arms
 
-  pub ExactArms : World → Spot → Arms → Type 0
+  pub ExactArms : World → Home → Arms → Type 0
   ExactArms w at (last_arm b) = ExactBlock w at b
   ExactArms w at (and_arm constants b arms) = ExactBlock w at b × ExactArms w at arms
 
-  pub ExactBlock : World → Spot → Block → Type 0
+  pub ExactBlock : World → Home → Block → Type 0
   ExactBlock w at end_block = Unit {0}
   ExactBlock w at (command_then c cs) = Exact w at c × ExactBlock w at cs
 

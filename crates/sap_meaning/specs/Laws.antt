@@ -2,7 +2,7 @@
 use Rattle.std.specs.Prelude.{◌≡◌, ℕ, ◌<◌, true, List}
 use Rattle.sap_meaning.specs.Program.{World, Program, children, place, Command, Group}
 use Rattle.sap_meaning.specs.Store.{Store, After}
-use Rattle.sap_meaning.specs.Checks.{Spot}
+use Rattle.sap_meaning.specs.Checks.{Home}
 use Rattle.sap_meaning.specs.Touches.{among}
 use Rattle.sap_meaning.specs.Does.{does}
 use Rattle.sap_meaning.specs.Cycle.{Tagged, cycle, cycle_listed}
@@ -22,7 +22,7 @@ Keeps w f = (s : Store) → Holds w s → Holds w (f s).store
 -- So does every command in the body of a state of the group q, in which each state has a place, where what the
 -- children do does, ..
 abbrev pub CommandsKeep : Type 0
-CommandsKeep = (w : World) (at : Spot) (q : Group) → ((s : ℕ) → among q s ≡ true → place w s < children w at.parent)
+CommandsKeep = (w : World) (at : Home) (q : Group) → ((s : ℕ) → among q s ≡ true → place w s < children w at.parent)
     → (enter : ℕ → ℕ → Store → After) → ((n pc : ℕ) → Keeps w (enter n pc))
     → (c : Command) → FineCommand w q at.children c → (pc : ℕ) → Keeps w (does w at enter c pc)
 

@@ -8,6 +8,7 @@ pub mod Runs
 pub mod Cycle
 pub mod State
 pub mod Agree
+pub mod Codes
 pub mod Fine
 pub mod Sized
 pub mod Sites

@@ -2,12 +2,12 @@
 use Rattle.std.specs.Prelude.{ℕ, zero, suc, Bool, false}
 use Rattle.sap_meaning.specs.Program.{World, listed, Step, assign, write, retag, retag_cell, go_to, fall_to_child, Command, lone, try, if_else, try_then, case_of, Arms, last_arm, and_arm, Block, end_block, command_then, State, state_node, Group, no_node, and_node}
 use Rattle.sap_meaning.specs.Store.{Store, After, stay, and_then}
-use Rattle.sap_meaning.specs.Checks.{Spot}
+use Rattle.sap_meaning.specs.Checks.{Home}
 use Rattle.sap_meaning.specs.Touches.{touches}
 use Rattle.sap_meaning.specs.Does.{attempt, attempt_then, select, branch, choose_arm}
 
 -- what a step with no handler raises: for a goto the state in whose body it stands, if dynamic
-abbrev pub listed_alone : World → Spot → Step → ℕ → Bool
+abbrev pub listed_alone : World → Home → Step → ℕ → Bool
 listed_alone w at (assign site y e) x = false
 listed_alone w at (write site m i e) x = false
 listed_alone w at (retag site y n) x = false
@@ -16,18 +16,18 @@ listed_alone w at (go_to site target) x = touches w at (lone (go_to site target)
 listed_alone w at (fall_to_child site hang) x = listed hang x
 
 unfoldable mutual
-  pub run : World → Spot → (ℕ → ℕ → Store → After) → Command → ℕ → Store → After
+  pub run : World → Home → (ℕ → ℕ → Store → After) → Command → ℕ → Store → After
   run w at enter (lone k) = attempt w at enter k (listed_alone w at k) (λ pc s. stay s)
   run w at enter (try k hang h) = attempt w at enter k (listed hang) (run_block w at enter h)
   run w at enter (if_else hang e a b) = select w e (listed hang) (branch (run_block w at enter a) (run_block w at enter b))
   run w at enter (try_then k hang a b) = attempt_then w at enter k (listed hang) (run_block w at enter a) (run_block w at enter b)
   run w at enter (case_of hang e arms) = select w e (listed hang) (run_arms w at enter arms)
 
-  pub run_arms : World → Spot → (ℕ → ℕ → Store → After) → Arms → ℕ → ℕ → Store → After
+  pub run_arms : World → Home → (ℕ → ℕ → Store → After) → Arms → ℕ → ℕ → Store → After
   run_arms w at enter (last_arm b) = λ n. run_block w at enter b
   run_arms w at enter (and_arm constants b arms) = choose_arm constants (run_block w at enter b) (run_arms w at enter arms)
 
-  pub run_block : World → Spot → (ℕ → ℕ → Store → After) → Block → ℕ → Store → After
+  pub run_block : World → Home → (ℕ → ℕ → Store → After) → Block → ℕ → Store → After
   run_block w at enter end_block pc s = stay s
   run_block w at enter (command_then c cs) pc s = and_then (run w at enter c pc s) (run_block w at enter cs pc)
 

@@ -1,5 +1,5 @@
--- The check sites of a program, in the order of the text.
-use Rattle.std.specs.Prelude.{◌≡◌, ℕ, ◌≤◌, suc, Bool, true, false, not, ◌||◌, List, [], ◌∷◌, ◌++◌, ◌⊎◌, map, if◌then◌else◌}
+-- The check sites of a program, in the order of the text. One walk finds them; their numbers, and what else is told of them, are maps of its list.
+use Rattle.std.specs.Prelude.{◌≡◌, ℕ, ◌≤◌, zero, suc, Bool, true, false, not, ◌||◌, List, [], ◌∷◌, ◌++◌, ◌⊎◌, map, if◌then◌else◌}
 use Rattle.sap_meaning.specs.Program.{World, Program, is_dynamic, Step, assign, write, retag, retag_cell, go_to, fall_to_child, Command, lone, try, if_else, try_then, case_of, Arms, last_arm, and_arm, Block, end_block, command_then, State, state_node, Group, no_node, and_node}
 use Rattle.sap_meaning.specs.Store.{Refusal}
 use Rattle.sap_meaning.specs.Checks.{site_of}
@@ -19,35 +19,47 @@ is_site w s g (retag_cell site m j n) = true
 is_site w s g (go_to site target) = not (is_dynamic w s) || not (is_dynamic w target)
 is_site w s g (fall_to_child site hang) = some_enforced w g
 
-abbrev pub step_sites : World → ℕ → Group → Step → List ℕ
-step_sites w s g k = if is_site w s g k then site_of k ∷ [] else []
+-- a step, and the state in whose body it stands
+pub record PlacedStep : Type 0 where
+  pub state : ℕ
+  pub step : Step
+
+abbrev pub step_sites : World → (s : ℕ) → (g : Group) → Step → List PlacedStep
+step_sites w s g k = if is_site w s g k then record { state = s; step = k } ∷ [] else []
 
 abbrev mutual
-  pub sites : World → ℕ → Group → Command → List ℕ
-  sites w s g (lone k) = step_sites w s g k
-  sites w s g (try k hang h) = step_sites w s g k ++ block_sites w s g h
-  sites w s g (if_else hang e a b) = block_sites w s g a ++ block_sites w s g b
-  sites w s g (try_then k hang a b) = step_sites w s g k ++ (block_sites w s g a ++ block_sites w s g b)
-  sites w s g (case_of hang e arms) = arms_sites w s g arms
+  pub command_sites : World → (s : ℕ) → (g : Group) → Command → List PlacedStep
+  command_sites w s g (lone k) = step_sites w s g k
+  command_sites w s g (try k hang h) = step_sites w s g k ++ block_sites w s g h
+  command_sites w s g (if_else hang e a b) = block_sites w s g a ++ block_sites w s g b
+  command_sites w s g (try_then k hang a b) = step_sites w s g k ++ (block_sites w s g a ++ block_sites w s g b)
+  command_sites w s g (case_of hang e arms) = arms_sites w s g arms
 
-  pub arms_sites : World → ℕ → Group → Arms → List ℕ
+  pub arms_sites : World → (s : ℕ) → (g : Group) → Arms → List PlacedStep
   arms_sites w s g (last_arm b) = block_sites w s g b
   arms_sites w s g (and_arm constants b arms) = block_sites w s g b ++ arms_sites w s g arms
 
-  pub block_sites : World → ℕ → Group → Block → List ℕ
+  pub block_sites : World → (s : ℕ) → (g : Group) → Block → List PlacedStep
   block_sites w s g end_block = []
-  block_sites w s g (command_then c cs) = sites w s g c ++ block_sites w s g cs
+  block_sites w s g (command_then c cs) = command_sites w s g c ++ block_sites w s g cs
 
 abbrev mutual
-  pub state_sites : World → State → List ℕ
+  pub state_sites : World → State → List PlacedStep
   state_sites w (state_node s b g) = block_sites w s g b ++ group_sites w g
 
-  pub group_sites : World → Group → List ℕ
+  pub group_sites : World → Group → List PlacedStep
   group_sites w no_node = []
   group_sites w (and_node t g) = state_sites w t ++ group_sites w g
 
+abbrev pub placed_sites : Program → List PlacedStep
+placed_sites p = group_sites p.world p.states
+
+-- the numbers of check sites
+abbrev pub site_numbers : List PlacedStep → List ℕ
+site_numbers ks = map (λ (k : PlacedStep). site_of k.step) ks
+
 abbrev pub program_sites : Program → List ℕ
-program_sites p = group_sites p.world p.states
+program_sites p = site_numbers (placed_sites p)
 
 abbrev pub refused_sites : List Refusal → List ℕ
 refused_sites rs = map (λ r. r.site) rs
@@ -62,3 +74,8 @@ Sublist (x ∷ xs) (y ∷ ys) = ((x ≡ y) × Sublist xs ys) ⊎ Sublist (x ∷ 
 abbrev pub RisesFrom : ℕ → List ℕ → Type 0
 RisesFrom n [] = Unit {0}
 RisesFrom n (x ∷ xs) = (n ≤ x) × RisesFrom (suc x) xs
+
+-- k, k + 1, .., as many as this
+abbrev pub numbers_from : (k count : ℕ) → List ℕ
+numbers_from k zero = []
+numbers_from k (suc n) = k ∷ numbers_from (suc k) n

@@ -1,7 +1,7 @@
 -- What a command touches: what hangs on it.
 use Rattle.std.specs.Prelude.{ℕ, Bool, false, ◌||◌, ◌&&◌, nat_eq}
 use Rattle.sap_meaning.specs.Program.{World, is_dynamic, Step, assign, write, retag, retag_cell, go_to, fall_to_child, Command, lone, try, if_else, try_then, case_of, Arms, last_arm, and_arm, Block, end_block, command_then, State, state_node, Group, no_node, and_node}
-use Rattle.sap_meaning.specs.Checks.{Spot}
+use Rattle.sap_meaning.specs.Checks.{Home}
 
 -- a step assigns the register or memory x
 abbrev pub step_assigns : Step → ℕ → Bool
@@ -70,7 +70,7 @@ abbrev mutual
   block_hangs s g (command_then c cs) x = hangs s g c x || block_hangs s g cs x
 
 -- the dynamic entities among them
-abbrev pub touches : World → Spot → Command → ℕ → Bool
+abbrev pub touches : World → Home → Command → ℕ → Bool
 touches w at c x = is_dynamic w x && hangs at.state at.children c x
 
 -- the root's fall has all states below it
@@ -78,7 +78,7 @@ abbrev pub root_touches : World → Group → ℕ → Bool
 root_touches w g x = is_dynamic w x && (among g x || group_assigns g x)
 
 -- What a step with no handler raises: what a goto or a fall touches, and else nothing.
-abbrev pub raised_alone : World → Spot → Step → ℕ → Bool
+abbrev pub raised_alone : World → Home → Step → ℕ → Bool
 raised_alone w at (assign site y e) x = false
 raised_alone w at (write site m i e) x = false
 raised_alone w at (retag site y n) x = false

@@ -11,7 +11,7 @@ use Rattle.sap_meaning.specs.Program.{World, entity, is_dynamic, is_input, is_re
 use Rattle.sap_meaning.specs.Store.{Slot, own, start, next, start_whole, next_whole, Store, owner, home, level, child, put_child, raised, raise, reset, held, After, stay}
 use Rattle.sap_meaning.specs.State.{Holds}
 use Rattle.sap_meaning.specs.Expressions.{value, tag, new_level, told}
-use Rattle.sap_meaning.specs.Checks.{Spot, guard, test}
+use Rattle.sap_meaning.specs.Checks.{Home, guard, test}
 use Rattle.sap_meaning.specs.Touches.{among, step_hangs, touches, raised_alone}
 use Rattle.sap_meaning.specs.Does.{effect, attempt, select, branch, does, does_block, does_state, does_child, attempt_then, does_arms}
 use Rattle.sap_meaning.specs.Agree.{High, seen}
@@ -139,7 +139,7 @@ module _ (w : World) (laws : Laws w.order) (l : ℕ) where
       part (next_whole m) g d e = inl refl
 
   module _ (i : Site w) (entering : Entering w l i.kids i.enter) (holding : (n pc : ℕ) → Keeps w (i.enter n pc)) where
-    abbrev At : Spot
+    abbrev At : Home
     At = spot i
 
     pub landing : (target : ℕ) → among i.siblings target ≡ true → place w target < children w i.parent

@@ -8,7 +8,7 @@ use Rattle.sap_maps.specs.Term.{Term}
 use Rattle.sap_meaning.specs.Program.{World, is_dynamic, is_memory, is_state, place, below, Step, assign, write, retag, retag_cell, go_to, fall_to_child, Command, lone, try, if_else, try_then, case_of, Arms, last_arm, and_arm, Block, end_block, command_then, State, state_node, Group, no_node, and_node}
 use Rattle.sap_meaning.specs.Store.{Slot, own, start, next, Store, owner, home, level, child, same_slot, put_number, put_level, put_child, raised, raise, lowered, reset, After, stay}
 use Rattle.sap_meaning.specs.Expressions.{value, tag}
-use Rattle.sap_meaning.specs.Checks.{Spot, guard, test}
+use Rattle.sap_meaning.specs.Checks.{Home, guard, test}
 use Rattle.sap_meaning.specs.Touches.{among, step_hangs, hangs, block_hangs, touches, raised_alone, group_assigns, arms_hang}
 use Rattle.sap_meaning.specs.Does.{effect, attempt, select, branch, does, does_block, does_state, does_child, attempt_then, does_arms}
 use Rattle.sap_meaning.specs.Fine.{FineStep, FineCommand, FineBlock, FineState, FineGroup, transfers, Open, OpenBlock, step_writes, writes, block_writes, step_retags, retags, block_retags, state_retags, group_retags, inside, FineArms, OpenArms, arms_write, arms_retag}
@@ -49,13 +49,13 @@ unfolding reset
 kept_reset w z q s target h k = record { level = rw h refl; seat = rw (neither_left (nat_eq q target) (below w target q) k, neither_right (nat_eq q target) (below w target q) k) refl }
 
 module _ (w : World) (z : Slot) (q : ℕ) where
-  pub kept_attempt : (at : Spot) (enter : ℕ → ℕ → Store → After) (k : Step) (hang : ℕ → Bool) (h : ℕ → Store → After) (pc : ℕ) (s : Store) → raised hang (home w z) ≡ false → ((b t : Store) → Kept w z q t (effect w at enter k pc b t).store) → ((p : ℕ) (t : Store) → Kept w z q t (h p t).store) → Kept w z q s (attempt w at enter k hang h pc s).store
+  pub kept_attempt : (at : Home) (enter : ℕ → ℕ → Store → After) (k : Step) (hang : ℕ → Bool) (h : ℕ → Store → After) (pc : ℕ) (s : Store) → raised hang (home w z) ≡ false → ((b t : Store) → Kept w z q t (effect w at enter k pc b t).store) → ((p : ℕ) (t : Store) → Kept w z q t (h p t).store) → Kept w z q s (attempt w at enter k hang h pc s).store
   unfolding attempt
   kept_attempt at enter k hang h pc s off g f =
       let up = kept_raise w z q s hang (guard w at k s) off in
       elim (cases_Bool (test w at k pc s)) [ inl t ↦ rw t (kept_next w z q _ _ _ up (g s _)) | inr t ↦ rw t (kept_next w z q _ _ _ up (f _ _)) ]
 
-  pub kept_attempt_then : (at : Spot) (enter : ℕ → ℕ → Store → After) (k : Step) (hang : ℕ → Bool) (f g : ℕ → Store → After) (pc : ℕ) (s : Store) → raised hang (home w z) ≡ false
+  pub kept_attempt_then : (at : Home) (enter : ℕ → ℕ → Store → After) (k : Step) (hang : ℕ → Bool) (f g : ℕ → Store → After) (pc : ℕ) (s : Store) → raised hang (home w z) ≡ false
       → ((b t : Store) → Kept w z q t (effect w at enter k pc b t).store) → ((p : ℕ) (t : Store) → Kept w z q t (f p t).store) → ((p : ℕ) (t : Store) → Kept w z q t (g p t).store)
       → Kept w z q s (attempt_then w at enter k hang f g pc s).store
   unfolding attempt_then
@@ -238,7 +238,7 @@ module _ (w : World) (e p : ℕ) (s : is_state w e ≡ true) where
 
   -- in the body of the state c, with children k, in the group g of r
   module _ (c r : ℕ) (k g : Group) (enter : ℕ → ℕ → Store → After) (out : Under g) (own_out : nat_eq e c ≡ false) (kids_out : among k e ≡ false) (free : group_assigns k e ≡ false) (away : nat_eq p r ≡ false) (entering : (n pc : ℕ) (t : Store) → Kept w (own e) p t (enter n pc t).store) where
-    abbrev Here : Spot
+    abbrev Here : Home
     Here = record { state = c; parent = r; children = k }
 
     under_step : (j : Step) → FineStep w g k j → step_retags j e ≡ false → (pc : ℕ) (b t : Store) → Kept w (own e) p t (effect w Here enter j pc b t).store

@@ -15,3 +15,4 @@ mod Relations
 mod Cycles
 mod Runs
 mod Unseen
+mod Hiding

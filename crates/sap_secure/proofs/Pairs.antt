@@ -8,7 +8,7 @@ use Rattle.sap_meaning.specs.Program.{World, is_dynamic, Step, assign, write, re
 use Rattle.sap_meaning.specs.Store.{Slot, own, Store, owner, level, child, raise, After, stay, and_then}
 use Rattle.sap_meaning.specs.State.{Holds}
 use Rattle.sap_meaning.specs.Expressions.{value, tag}
-use Rattle.sap_meaning.specs.Checks.{Spot, site_of, child_level, guard, test}
+use Rattle.sap_meaning.specs.Checks.{Home, site_of, child_level, guard, test}
 use Rattle.sap_meaning.specs.Touches.{among, step_hangs, block_hangs, touches, raised_alone, arms_hang}
 use Rattle.sap_meaning.specs.Does.{effect, attempt, select, branch, does, does_block, attempt_then, does_arms}
 use Rattle.sap_meaning.specs.Agree.{Low, High}
@@ -44,7 +44,7 @@ module _ (w : World) (laws : Laws w.order) (l : ℕ) where
       ((heads_low w laws l n m c d h k s t p', λ low. (heads w laws l n m c d h k s t p' low).1), λ low. (heads w laws l n m c d h k s t p' low).0)
 
   module _ (c : Scene w l) (below : Type 0) (paired : below → Paired w l c.site.state c.site.kids c.site.enter) where
-    abbrev At : Spot
+    abbrev At : Home
     At = spot c.site
 
     abbrev Path : Store → List Stop

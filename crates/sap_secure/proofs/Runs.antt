@@ -7,7 +7,7 @@ use Rattle.sap_meaning.specs.Program.{World, Program, entity, is_dynamic, is_inp
 use Rattle.sap_meaning.specs.Store.{Slot, own, start, next, start_whole, next_whole, Store, owner, home, number, level, child, source, settle}
 use Rattle.sap_meaning.specs.State.{Rests, Resting, first}
 use Rattle.sap_meaning.specs.Cycle.{Tagged, given, inputs_before, at_inputs, set_inputs, cycle}
-use Rattle.sap_meaning.specs.Agree.{InputsAgree, StatesAgree, RefusalsAgree}
+use Rattle.sap_meaning.specs.Agree.{InputsAgree, active_path, StatesAgree, RefusalsAgree}
 use Rattle.sap_meaning.specs.Fine.{FineProgram}
 use Rattle.sap_meaning.proofs.Slots.{level_settle, number_settle, child_settle, owner_source, held_source}
 use Rattle.sap_meaning.proofs.Keeps.{holds_inputs, inputs_keep}
@@ -21,7 +21,7 @@ use Rattle.sap_secure.proofs.Sites.{Around, around_root}
 use Rattle.sap_secure.proofs.Confined.{Even}
 use Rattle.sap_secure.proofs.Walks.{path, from_same}
 use Rattle.sap_secure.proofs.Cycles.{fall_pair}
-use Rattle.sap_secure.proofs.Relations.{same_of, slots_same, states_agree, paths_same}
+use Rattle.sap_secure.proofs.Relations.{same_of, slots_same, states_agree, same_path, paths_alike, path_itself}
 
 input_same : (o : Order) (laws : Laws o) (l : ℕ) (a b : List Tagged) (d : Tagged) → InputsAgree o l a b → (n : ℕ) → Same o l (get_or a n d).number (get_or a n d).level (get_or b n d).number (get_or b n d).level
 input_same o laws l [] [] d same zero = same_self o laws l _ _
@@ -130,9 +130,11 @@ module _ (p : Program) (fine : FineProgram p) (l : ℕ) where
       let s' = set_inputs p.world a s in
       let t' = set_inputs p.world b t in
       let like = agree_inputs s t a b r same in
-      let e = path_inputs s a ∙ paths_same p.world fine.order l (root p.world) p.states around.fine s t r.paths ∙ sym (path_inputs t b) in
+      let e = path_inputs s a ∙ same_path p.world fine.order l (root p.world) p.states around.fine s t r.paths ∙ sym (path_inputs t b) in
       let f = fall_pair p.world fine.order l (root p.world) p.states around fine.once s' t' (holds_inputs p.world s a fine.inputs rs.holds) (holds_inputs p.world t b fine.inputs rt.holds) like (even_inputs s a rs.rests) (even_inputs t b rt.rests) e in
-      (states_agree p fine.order l _ _ (agree_settle _ _ f.twin.same) (path_settle _ ∙ f.path ∙ sym (path_settle _)), f.twin.refused)
+      let alike = paths_alike p.world fine.order l (cycle p a s).store (cycle p b t).store (cycle_rests p fine a s rs).holds (cycle_rests p fine b t rt).holds
+      (root p.world) p.states fine.states fine.count (path_settle _ ∙ f.path ∙ sym (path_settle _)) in
+      (states_agree p fine.order l _ _ (agree_settle _ _ f.twin.same) alike, f.twin.refused)
 
 pub one_cycle_law : OneCycle
 one_cycle_law p fine l s t rs rt r a b same = cycle_pair p fine l s t rs rt r a b same
@@ -147,7 +149,7 @@ later_law p fine l s t rs rt r (a ∷ as') (b ∷ bs) same =
 
 -- a state agrees with itself
 pub agrees_itself : (p : Program) → FineProgram p → (l : ℕ) (s : Store) → StatesAgree p l s s
-agrees_itself p fine l s = states_agree p fine.order l s s (agree_self p.world fine.order l s) refl
+agrees_itself p fine l s = states_agree p fine.order l s s (agree_self p.world fine.order l s) (path_itself p.world fine.order l (active_path p s))
 
 pub labelled_law : LabelledRunsAgree
 labelled_law p fine l a b same = later_law p fine l (first p.world) (first p.world) (first_rests p fine) (first_rests p fine) (agrees_itself p fine l (first p.world)) a b same

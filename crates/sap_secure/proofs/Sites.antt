@@ -5,7 +5,7 @@ use Rattle.sap_lemmas.proofs.Bools.{and_left, and_right, neither_left, neither_r
 use Rattle.std.proofs.lemmas.Bool.{eqb-true, false_from_ne_true, or_cases, or_from, or_right}
 use Rattle.sap_meaning.specs.Program.{World, children, is_dynamic, is_memory, is_state, last, below, root, Step, Command, lone, try, if_else, try_then, case_of, Arms, last_arm, and_arm, Block, end_block, command_then, state_node, Group, no_node, and_node}
 use Rattle.sap_meaning.specs.Store.{Store, After}
-use Rattle.sap_meaning.specs.Checks.{Spot}
+use Rattle.sap_meaning.specs.Checks.{Home}
 use Rattle.sap_meaning.specs.Touches.{among}
 use Rattle.sap_meaning.specs.Fine.{FineTerm, FineStep, FineCommand, FineBlock, FineNode, FineState, FineGroup, Open, OpenBlock, Closes, Final, writes, reaches, block_reaches, step_retags, retags, block_retags, inside, size, FineArms, arms_retag}
 use Rattle.sap_meaning.proofs.Bools.{and_false}
@@ -31,7 +31,7 @@ pub record Site (w : World) : Type 0 where
   pub self : Nth siblings index (state_node state body kids)
   pub enter : ℕ → ℕ → Store → After
 
-abbrev pub spot : {w : World} → Site w → Spot
+abbrev pub spot : {w : World} → Site w → Home
 spot i = record { state = i.state; parent = i.parent; children = i.kids }
 
 -- the state or one below it

@@ -11,7 +11,7 @@ use Rattle.sap_meaning.specs.Program.{World, is_dynamic, is_state, children, pla
 use Rattle.sap_meaning.specs.Store.{Slot, own, Store, owner, level, child, put_level, put_child, raise, reset, After, stay}
 use Rattle.sap_meaning.specs.State.{Holds}
 use Rattle.sap_meaning.specs.Expressions.{tag}
-use Rattle.sap_meaning.specs.Checks.{Spot, child_level, opens, child_opens, guard, test}
+use Rattle.sap_meaning.specs.Checks.{Home, child_level, opens, child_opens, guard, test}
 use Rattle.sap_meaning.specs.Touches.{among, step_hangs, hangs, block_hangs, touches, raised_alone, arms_hang}
 use Rattle.sap_meaning.specs.Does.{effect, attempt, select, branch, does, does_block, attempt_then, does_arms}
 use Rattle.sap_meaning.specs.Agree.{Low, High}
@@ -92,7 +92,7 @@ module _ (w : World) (laws : Laws w.order) (l : ℕ) where
     abbrev I : Site w
     I = c.site
 
-    abbrev At : Spot
+    abbrev At : Home
     At = spot c.site
 
     abbrev pub PathOf : Store → List Stop

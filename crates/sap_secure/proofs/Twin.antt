@@ -9,7 +9,7 @@ use Rattle.sap_meaning.specs.Program.{World, is_dynamic, authority, LevelTerm, f
 use Rattle.sap_meaning.specs.Store.{Slot, own, start, next, start_whole, next_whole, Store, owner, number, level, put_number, raise, After, stay, and_then}
 use Rattle.sap_meaning.specs.State.{Holds}
 use Rattle.sap_meaning.specs.Expressions.{value, tag, level_at, new_level, told}
-use Rattle.sap_meaning.specs.Checks.{Spot, site_of, guard, test}
+use Rattle.sap_meaning.specs.Checks.{Home, site_of, guard, test}
 use Rattle.sap_meaning.specs.Touches.{touches, raised_alone}
 use Rattle.sap_meaning.specs.Does.{effect, attempt, select, branch, does, does_block, attempt_then, is_constant, choose_arm, does_arms}
 use Rattle.sap_meaning.specs.Agree.{Low, High, seen}
@@ -111,7 +111,7 @@ module _ (w : World) (laws : Laws w.order) (l : ℕ) where
   }
 
   module _ (i : Site w) (entering : Entering w l i.kids i.enter) (holding : (n pc : ℕ) → Keeps w (i.enter n pc)) where
-    abbrev At : Spot
+    abbrev At : Home
     At = spot i
 
     pub guard_same : (k : Step) → ProperStep w i k → transfers k ≡ false → (s t : Store) → Agree w l s t → w.order.le (guard w At k s) l ≡ w.order.le (guard w At k t) l

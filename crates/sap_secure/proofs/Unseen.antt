@@ -10,6 +10,7 @@ use Rattle.sap_meaning.specs.Program.{World, Kind, input, register, memory, stat
 use Rattle.sap_meaning.specs.Store.{own, start, next, start_whole, next_whole, Store, home, level, child}
 use Rattle.sap_meaning.specs.Touches.{among, step_hangs, hangs, block_hangs, touches, group_assigns, arms_hang}
 use Rattle.sap_meaning.specs.Does.{does, does_child}
+use Rattle.sap_meaning.specs.State.{Holds}
 use Rattle.sap_meaning.specs.Agree.{High}
 use Rattle.sap_meaning.specs.Fine.{FineStep, FineCommand, FineBlock, step_retags, retags, block_retags, state_retags, group_retags, reaches, inside, number_of, kids_of, Nth, FineArms, OpenArms, ClosingArms, arms_retag}
 use Rattle.sap_secure.specs.Confinement.{last_group, last_parent, Active, StandsIn, StandsInBlock, is_goto, is_fall, has_goto, block_has_goto, has_fall, block_has_fall, level_slot, EqualParts, SomeHigh, Guarded, Confinement, StandsInArms, arms_have_goto, arms_have_fall}
@@ -17,11 +18,11 @@ use Rattle.sap_secure.proofs.Apart.{found, hung, unassigned, group_unassigned, i
 use Rattle.sap_secure.proofs.Concerns.{concerns, hanging}
 use Rattle.sap_secure.proofs.Sites.{Around, Site, spot, Proper, ProperBlock, Ended, Shut, node, own_fine, kids_around, around_root, proper_body, fine_command, not_own, no_kid, ProperArms}
 use Rattle.sap_secure.proofs.Frames.{Kept, child_under, under_kept}
-use Rattle.sap_secure.proofs.Confined.{Confined, Quiet, changing_no_state, site_at, does_confined}
+use Rattle.sap_secure.proofs.Confined.{Confined, Quiet, changing_no_state, site_at, keeps, does_confined}
 use Rattle.sap_secure.proofs.Walks.{path, path_here, path_high, nth_among}
 use Rattle.sap_secure.proofs.Still.{Scene, Cover, clear_path, does_still}
 use Rattle.sap_secure.proofs.Over.{nth_inside, nth_below, scene_at}
-use Rattle.sap_secure.proofs.Relations.{kid_around, states_agree}
+use Rattle.sap_secure.proofs.Relations.{kid_around, states_agree, paths_alike}
 
 -- a command in the body is proper, and closes or is open
 module _ (w : World) (i : Site w) where
@@ -328,7 +329,7 @@ module _ (w : World) (laws : Laws w.order) (l : ℕ) (i : Site w) (c : Command) 
 pub confinement_law : Confinement
 unfolding scene_at
 confinement_law p fine l s way e b g c pc h =
-    (states_agree p fine.order l s _ conf.same (sym (way_path w laws l (root w) p.states s _ way (state_node e b g) h.active (all_kept w laws l s e b g c h.command pc (root w) p.states top way h.active) below')), conf.quiet)
+    (states_agree p fine.order l s _ conf.same (paths_alike p.world fine.order l s _ h.holds kept (root p.world) p.states fine.states fine.count way_same), conf.quiet)
   where
     w : World
     w = p.world
@@ -371,3 +372,9 @@ confinement_law p fine l s way e b g c pc h =
       | inl y ↦ elim y [ inl z ↦ inr (at_group (inl z)) | inr z ↦ inl z ]
       | inr y ↦ inr (at_group (inr y))
     ]
+
+    way_same : path p.world l (root p.world) p.states s ≡ path p.world l (root p.world) p.states (does p.world (spot i) (does_child p.world g e) c pc s).store
+    way_same = sym (way_path w laws l (root w) p.states s _ way (state_node e b g) h.active (all_kept w laws l s e b g c h.command pc (root w) p.states top way h.active) below')
+
+    kept : Holds p.world (does p.world (spot i) (does_child p.world g e) c pc s).store
+    kept = keeps p.world fine.order l i sc.entering sc.holding c proper.0 pc s h.holds

@@ -1,6 +1,4 @@
-mod Counts
-mod Numbering
-mod Filled
+pub mod Counts
 mod Designs
 mod Sublists
 mod Marks

@@ -7,7 +7,7 @@ pub mod examples;
 ghost use Rattle.sap_secure.specs.CheckSites.Numbering.{SitesAgree};
 ghost use Rattle.sap_secure.specs.CheckSites.Once.{EachSiteOnce, RefusedMet, SitesInTurn};
 
-use sap_resolve::premises::well_formed_serves;
+use sap_resolved::premises::well_formed_serves;
 
 /// The check sites of a well-formed design's program have the numbers from 1 on, in the order of their first tokens; and
 /// each is the command that has this number in the design: it does the same, to the same entity.

@@ -7,7 +7,7 @@ pub mod examples;
 
 ghost use Rattle.sap_secure.specs.Designs.Designs.{DesignsConfine, DesignCyclesAgree, LaterRunsOfDesignsAgree, RunsOfDesignsAgree, RefusalsRise, ListsServeDesigns, DesignStatesRest, DesignNumbersFit};
 
-use sap_resolve::premises::well_formed_serves;
+use sap_resolved::premises::well_formed_serves;
 
 /// In a context that is not at or below a level, a command on the active path changes nothing that is, under the conditions of `Hidden`.
 pub fn confinement()
@@ -57,7 +57,7 @@ pub fn states_keep()
     ensures fit { DesignNumbersFit }
 {
     well_formed_serves();
-    sap_resolve::sized::sizes_fit();
+    sap_resolved::sized::sizes_fit();
     sap_meaning::states_keep();
     sap_meaning::numbers_fit()
 }

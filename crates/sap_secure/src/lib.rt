@@ -5,6 +5,7 @@
 
 pub mod check_sites;
 pub mod designs;
+pub mod examples;
 pub mod once;
 
 ghost use Rattle.sap_secure.specs.Confinement.{Confinement};

@@ -6,7 +6,7 @@ pub mod examples;
 
 ghost use Rattle.sap_secure.specs.Once.Once.{DesignsWriteOnce, UnwrittenStaysInDesigns, DesignsChangeOneCell};
 
-use sap_resolve::premises::well_formed_serves;
+use sap_resolved::premises::well_formed_serves;
 
 /// Of all the steps that a cycle of a well-formed design comes to, refused ones too, at most one writes or retags a cell
 /// of a memory; so at most one cell of each memory changes, and none where no such step comes.

@@ -7,7 +7,7 @@ use Rattle.sap_stream.specs.declared.apart.Apart.{Apart}
 use Rattle.sap_stream.specs.declared.apart.Apart.TheVariants.{Lengths, At}
 
 abbrev pub AreAlike : Order → ℕ → Tagged → Tagged → Type 0
-AreAlike o l a b = Alike o l a.number a.level b.number b.level
+AreAlike o l a b = Alike o l (a.number ≡ b.number) a.level b.level
 
 -- what the input at a place gets, the places being counted from 0
 abbrev pub input_at : List Tagged → ℕ → Tagged

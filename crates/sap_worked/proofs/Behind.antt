@@ -4,12 +4,12 @@ use Rattle.std.proofs.lemmas.Bool.{cases_Bool}
 use Rattle.sap_meaning.proofs.StoreLemmas.{and_stay}
 use Rattle.sap_meaning.specs.Program.{World, Step, try}
 use Rattle.sap_meaning.specs.Store.{Store, After, stay}
-use Rattle.sap_meaning.specs.Checks.{Spot, test}
+use Rattle.sap_meaning.specs.Checks.{Home, test}
 use Rattle.sap_meaning.specs.Touches.{touches}
 use Rattle.sap_meaning.specs.Does.{attempt, attempt_then, does, does_block}
 use Rattle.sap_worked.specs.Deciding.{NothingBehind}
 
-attempt_is : (w : World) (at : Spot) (enter : ℕ → ℕ → Store → After) (k : Step) (hangs : ℕ → Bool) (h : ℕ → Store → After) (pc : ℕ) (s : Store)
+attempt_is : (w : World) (at : Home) (enter : ℕ → ℕ → Store → After) (k : Step) (hangs : ℕ → Bool) (h : ℕ → Store → After) (pc : ℕ) (s : Store)
     → attempt w at enter k hangs h pc s ≡ attempt_then w at enter k hangs (λ p t. stay t) h pc s
 unfolding attempt attempt_then
 attempt_is w at enter k hangs h pc s = elim (cases_Bool (test w at k pc s)) [ inl e ↦ rw e (sym (and_stay _)) | inr e ↦ rw e refl ]

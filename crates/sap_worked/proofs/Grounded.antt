@@ -3,10 +3,11 @@ use Rattle.std.proofs.Common.{◌≡◌, ℕ, zero, suc, true, false, arith, nat
 use Rattle.std.proofs.lemmas.Grind.{common_steps}
 use Rattle.sap_meaning.specs.Program.{is_dynamic, is_register, is_memory, authority}
 use Rattle.sap_meaning.specs.Store.{Store, Slot, own, start, next, start_whole, next_whole, owner, held, level}
-use Rattle.sap_meaning.specs.Agree.{Low, High, SlotsAlike, PartsAlike, StatesAgree, seen_path}
+use Rattle.sap_meaning.specs.Agree.{Low, High, SlotsAlike, PartsAlike, active_path, StatesAgree}
 use Rattle.sap_meaning.specs.Examples.{four_levels}
 use Rattle.sap_worked.specs.Rows.{right}
 use Rattle.sap_worked.specs.Ground.{register_x, register_y, register_z, memory_m, memory_k, memory_h, state_p, state_d, state_e, state_q, ground, ground_world}
+use Rattle.sap_worked.proofs.Tested.{look_alike, paths_alike}
 
 -- what holds of each entity, and past the last
 pub entities : (f : ℕ → Type 0) → f 0 → f 1 → f 2 → f 3 → f 4 → f 5 → f 6 → f 7 → f 8 → f 9 → f 10 → f 11 → f 12 → f 13 → f 14 → f 15 → ((x : ℕ) → f (suc (suc (suc (suc (suc (suc (suc (suc (suc (suc (suc (suc (suc (suc (suc (suc x))))))))))))))))) → (x : ℕ) → f x
@@ -51,7 +52,7 @@ pub record Facts (l : ℕ) (s t : Store) : Type 0 where
   pub level_d : level ground_world (own state_d) s ≡ level ground_world (own state_d) t
   pub level_e : level ground_world (own state_e) s ≡ level ground_world (own state_e) t
   pub level_q : level ground_world (own state_q) s ≡ level ground_world (own state_q) t
-  pub paths : seen_path ground l s ≡ seen_path ground l t
+  pub paths : look_alike ground_world l (active_path ground s) (active_path ground t) ≡ true
 
 abbrev LevelKept : (l : ℕ) (s t : Store) → Slot → Type 0
 LevelKept l s t a = held ground_world a ≡ true → is_dynamic ground_world (owner a) ≡ false → Low four_levels l (authority ground_world (owner a))
@@ -73,5 +74,5 @@ agreed l s t facts = record {
   dynamic_memories = entities (λ m. is_memory ground_world m ≡ true → is_dynamic ground_world m ≡ true → PartsAlike ground_world l (start m) (start_whole m) s t × PartsAlike ground_world l (next m) (next_whole m) s t)
       (λ e d. cc) (λ e d. cc) (λ e d. cc) (λ e d. cc) (λ e d. facts.m) (λ e d. cc) (λ e d. cc) (λ e d. cc) (λ e d. cc) (λ e d. cc) (λ e d. cc) (λ e d. cc) (λ e d. cc) (λ e d. cc) (λ e d. cc) (λ e d. cc) (λ x e d. cc);
   enforced_levels = levels l s t facts;
-  paths = facts.paths;
+  paths = paths_alike ground_world l _ _ facts.paths;
 }

@@ -1,3 +1,4 @@
+mod Tested
 mod Computed
 mod Behind
 mod Grounded

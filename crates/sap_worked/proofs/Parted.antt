@@ -1,27 +1,14 @@
 -- Pairs of states that don't agree, each by the one thing in which it differs.
-use Rattle.std.proofs.Common.{◌≡◌, Bool, true, false, ◌&&◌, List, [], ◌∷◌, nat_eq, inl, inr, refl, sym, ap, ◌∙◌}
+use Rattle.std.proofs.Common.{◌≡◌, false, inl, inr, refl}
 use Rattle.sap_lemmas.proofs.Bools.{true_is_not_false}
-use Rattle.sap_lemmas.proofs.Numbers.{test_of_same}
 use Rattle.std.proofs.lemmas.Bool.{eqb-false}
-use Rattle.sap_meaning.specs.Store.{own, start, next, put_number, put_level, put_child}
+use Rattle.sap_meaning.specs.Store.{Store, own, start, next, put_number, put_level, put_child}
 use Rattle.sap_meaning.specs.State.{first}
-use Rattle.sap_meaning.specs.Agree.{ActiveState}
-use Rattle.sap_worked.specs.Ground.{register_x, register_y, memory_m, memory_k, state_d, state_q}
-use Rattle.sap_worked.specs.Apart.{RegisterNumber, RegisterLevel, RegisterSeenInOne, CellNumber, NextCellNumber, MemoryNumber, NextMemoryNumber, MemoryLevel, NextMemoryLevel, MemorySeenInOne, EnforcedRegisterLevel, EnforcedCellLevel, NextEnforcedCellLevel, InactiveStateLevel, ActiveStateLevel, OtherChild, OtherChildBelow, ChildLevel, ChildLevelBelow, ChildSeenInOne, OtherChildSeenInOne}
-
--- whether two lists have the same states with the same levels
-abbrev same_states : List ActiveState → List ActiveState → Bool
-same_states [] [] = true
-same_states [] (y ∷ ys) = false
-same_states (x ∷ xs) [] = false
-same_states (x ∷ xs) (y ∷ ys) = (nat_eq x.state y.state && nat_eq x.level y.level) && same_states xs ys
-
-same_itself : (xs : List ActiveState) → same_states xs xs ≡ true
-same_itself [] = refl
-same_itself (x ∷ xs) = rw (test_of_same x.state, test_of_same x.level) (same_itself xs)
-
-lists_apart : (xs ys : List ActiveState) → same_states xs ys ≡ false → xs ≡ ys → ⊥
-lists_apart xs ys differ e = true_is_not_false (sym (same_itself xs) ∙ ap (λ (zs : List ActiveState). same_states xs zs) e ∙ differ)
+use Rattle.sap_meaning.specs.Agree.{active_path}
+use Rattle.sap_worked.specs.Rows.{left}
+use Rattle.sap_worked.specs.Ground.{register_x, register_y, memory_m, memory_k, state_d, state_q, ground, ground_world}
+use Rattle.sap_worked.specs.Apart.{Apart, RegisterNumber, RegisterLevel, RegisterSeenInOne, CellNumber, NextCellNumber, MemoryNumber, NextMemoryNumber, MemoryLevel, NextMemoryLevel, MemorySeenInOne, EnforcedRegisterLevel, EnforcedCellLevel, NextEnforcedCellLevel, InactiveStateLevel, ActiveStateLevel, OtherChild, OtherChildBelow, ChildLevel, ChildLevelBelow, ChildSeenInOne, OtherChildSeenInOne}
+use Rattle.sap_worked.proofs.Tested.{look_alike, paths_apart}
 
 pub register_number : RegisterNumber
 unfolding first put_number put_level put_child
@@ -83,26 +70,29 @@ pub active_state_level : ActiveStateLevel
 unfolding first put_number put_level put_child
 active_state_level = λ a. eqb-false 2 3 refl (a.enforced_levels (own state_d) refl refl refl)
 
+by_paths : (s t : Store) → look_alike ground_world left (active_path ground s) (active_path ground t) ≡ false → Apart s t
+by_paths s t fails a = paths_apart ground_world left (active_path ground s) (active_path ground t) fails a.paths
+
 pub other_child : OtherChild
 unfolding first put_number put_level put_child
-other_child = λ a. lists_apart _ _ refl a.paths
+other_child = by_paths _ _ refl
 
 pub other_child_below : OtherChildBelow
 unfolding first put_number put_level put_child
-other_child_below = λ a. lists_apart _ _ refl a.paths
+other_child_below = by_paths _ _ refl
 
 pub child_level : ChildLevel
 unfolding first put_number put_level put_child
-child_level = λ a. lists_apart _ _ refl a.paths
+child_level = by_paths _ _ refl
 
 pub child_level_below : ChildLevelBelow
 unfolding first put_number put_level put_child
-child_level_below = λ a. lists_apart _ _ refl a.paths
+child_level_below = by_paths _ _ refl
 
 pub child_seen_in_one : ChildSeenInOne
 unfolding first put_number put_level put_child
-child_seen_in_one = λ a. lists_apart _ _ refl a.paths
+child_seen_in_one = by_paths _ _ refl
 
 pub other_child_seen_in_one : OtherChildSeenInOne
 unfolding first put_number put_level put_child
-other_child_seen_in_one = λ a. lists_apart _ _ refl a.paths
+other_child_seen_in_one = by_paths _ _ refl

@@ -4,6 +4,7 @@ pub mod Writing
 pub mod Transfers
 pub mod Handlers
 pub mod Deciding
+pub mod Designs
 pub mod Ground
 pub mod Agreeing
 pub mod Apart

@@ -4,5 +4,6 @@
 //! Each stands as a clause on an empty function.
 #![tactic(auto)]
 
+pub mod designs;
 pub mod pairs;
 pub mod runs;

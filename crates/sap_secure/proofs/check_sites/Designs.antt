@@ -1,38 +1,52 @@
 -- One numbering of check sites in every well-formed design.
-use Rattle.std.proofs.Common.{◌≡◌, List, [], length, sym, ap, ◌∙◌}
-use Rattle.std.proofs.lemmas.List.{length-map}
-use Rattle.sap_names.proofs.FaultLemmas.{nil_left, nil_right}
-use Rattle.sap_lattice.specs.Levels.{order_of}
-use Rattle.sap_names.specs.Entities.{entities_of, what_is}
-use Rattle.sap_names.specs.NameFaults.{twice, states_faults}
-use Rattle.sap_shape.specs.Sites.{check_sites}
-use Rattle.sap_check.specs.Sites.{site_of, sites_of}
-use Rattle.sap_meaning.specs.Program.{World, Group, root}
-use Rattle.sap_resolve.specs.Worlds.{world_of}
-use Rattle.sap_resolve.specs.Resolve.{states_of}
-use Rattle.sap_resolve.specs.Fill.{program_of}
-use Rattle.sap_resolve.proofs.Lookup.{entities_match}
-use Rattle.sap_resolve.proofs.premises.Lookups.{unique}
-use Rattle.sap_resolve.proofs.premises.Worlds.{laid}
-use Rattle.sap_secure.specs.CheckSites.ProgramSites.{ProgramSite, sites_in}
+use Rattle.std.proofs.Common.{◌≡◌, ℕ, suc, List, [], ◌∷◌, refl, ap, ◌∙◌}
+use Rattle.std.specs.Prelude.{map}
+use Rattle.sap_tree.specs.Syntax as tree
+use Rattle.sap_lattice.specs.Levels.{Levels}
+use Rattle.sap_shape.specs.Sites.{Surroundings, CheckSite, check_sites}
+use Rattle.sap_check.specs.Sites.{kind_of_command, target_of, entity_number, site_of}
+use Rattle.sap_meaning.specs.Program.{World, root, Step, assign, write, retag, retag_cell, go_to, fall_to_child}
+use Rattle.sap_meaning.specs.Checks.{Home}
+use Rattle.sap_meaning.specs.Sites.{PlacedStep}
+use Rattle.sap_resolved.specs.Worlds.{world_of}
+use Rattle.sap_resolved.specs.Resolve.{step_of, states_of}
+use Rattle.sap_resolved.specs.Fill.{filled_step}
+use Rattle.sap_resolved.proofs.premises.SitesPlaced.{placed}
+use Rattle.sap_resolved.proofs.premises.SitesFilled.{group_sites_filled}
+use Rattle.sap_resolved.proofs.premises.Programs.{sites_placed}
+use Rattle.sap_secure.specs.CheckSites.ProgramSites.{ProgramSite, program_site}
 use Rattle.sap_secure.specs.CheckSites.Numbering.{numbered, SitesAgree}
-use Rattle.sap_secure.proofs.check_sites.Counts.{numbers_of, numbers_numbered}
-use Rattle.sap_secure.proofs.check_sites.Numbering.{group_numbered}
-use Rattle.sap_secure.proofs.check_sites.Filled.{group_filled, group_numbers}
+
+-- whatever hangs on it
+site_filled : (w : World) (at : Home) (s : ℕ) (k : Step)
+    → program_site (record { state = s; step = filled_step w at k }) ≡ program_site (record { state = s; step = k })
+site_filled w at s (assign site x e) = refl
+site_filled w at s (write site m j e) = refl
+site_filled w at s (retag site x n) = refl
+site_filled w at s (retag_cell site m j n) = refl
+site_filled w at s (go_to site target) = refl
+site_filled w at s (fall_to_child site hang) = refl
+
+-- the step of a command does what the command does
+site_placed : (ls : Levels) (h : Surroundings) (k : ℕ) (c : tree.SimpleCommand)
+    → program_site (record { state = entity_number h.entities h.home.name; step = step_of ls h k c })
+    ≡ record { number = k; kind = kind_of_command c; entity = entity_number h.entities (target_of h c) }
+site_placed ls h k (tree.assign target e) = refl
+site_placed ls h k (tree.write target index e) = refl
+site_placed ls h k (tree.set_tag place target tag) = refl
+site_placed ls h k (tree.set_cell_tag place target index tag) = refl
+site_placed ls h k (tree.go_to place target) = refl
+site_placed ls h k (tree.fall_to_child place) = refl
+
+all_placed : (ls : Levels) (k : ℕ) (ss : List CheckSite) → map program_site (placed ls k ss) ≡ numbered k (map site_of ss)
+all_placed ls k [] = refl
+all_placed ls k (s ∷ ss) =
+    ap (λ (t : ProgramSite). t ∷ map program_site (placed ls (suc k) ss)) (site_placed ls s.surroundings k s.command)
+    ∙ ap (λ (ts : List ProgramSite). record { number = k; kind = (site_of s).kind; entity = (site_of s).entity } ∷ ts) (all_placed ls (suc k) ss)
 
 pub sites_agree_law : SitesAgree
 sites_agree_law ls d formed =
-    let es = entities_of d in
     let w : World = world_of ls d in
-    let g : Group = states_of ls d in
-    let once : twice [] (entities_of d) ≡ [] = nil_left _ _ (nil_left _ _ formed.names) in
-    let fits : states_faults ls.names (order_of ls).le (what_is (entities_of d)) d.states ≡ [] = nil_right _ _ formed.names in
-    let commands : sites_in (program_of ls d) ≡ numbered 1 (sites_of d) =
-    group_filled w (root w) g
-    ∙ group_numbered ls ls.names (order_of ls).le es w (entities_match ls d) (unique es once) 1 0 (length d.declarations) d.states (laid ls d) fits in
-    record {
-      numbers =
-          sym (group_numbers w (program_of ls d).states) ∙ ap (λ (ts : List ProgramSite). numbers_of ts) commands ∙ numbers_numbered 1 (sites_of d);
-      commands = commands;
-      count = sym (length-map (check_sites d) site_of);
-    }
+    group_sites_filled w ProgramSite program_site (λ at s k. site_filled w at s k) (root w) (states_of ls d)
+    ∙ ap (λ (ks : List PlacedStep). map program_site ks) (sites_placed ls d formed)
+    ∙ all_placed ls 1 (check_sites d)

@@ -5,31 +5,29 @@ use Rattle.std.proofs.lemmas.Bool.{eqb-true}
 use Rattle.sap_tree.specs.Syntax.{DesignTree}
 use Rattle.sap_lattice.specs.Levels.{Levels}
 use Rattle.sap_names.specs.Entities.{entities_of}
+use Rattle.sap_shape.specs.Sites.{check_sites}
 use Rattle.sap_shape.specs.WellFormed.{WellFormed}
-use Rattle.sap_check.specs.Sites.{sites_of}
 use Rattle.sap_meaning.specs.Program.{Step, root}
 use Rattle.sap_meaning.specs.Store.{Store}
 use Rattle.sap_meaning.specs.Checks.{site_of}
 use Rattle.sap_meaning.specs.Cycle.{Tagged}
 use Rattle.sap_meaning.specs.Fine.{FineProgram}
-use Rattle.sap_meaning.specs.Sites.{program_sites, Sublist}
-use Rattle.sap_resolve.specs.Worlds.{world_of}
-use Rattle.sap_resolve.specs.Resolve.{states_of}
-use Rattle.sap_resolve.specs.Fill.{program_of}
+use Rattle.sap_meaning.specs.Sites.{program_sites, numbers_from, Sublist}
+use Rattle.sap_resolved.specs.Worlds.{world_of}
+use Rattle.sap_resolved.specs.Resolve.{states_of}
+use Rattle.sap_resolved.specs.Fill.{program_of}
+use Rattle.sap_resolved.proofs.premises.Programs.{sites_numbered}
 use Rattle.sap_secure.specs.Once.Steps.{cycle_steps}
-use Rattle.sap_secure.specs.CheckSites.Numbering.{numbers_from}
 use Rattle.sap_secure.specs.CheckSites.Once.{sites_met, comes_to}
 use Rattle.sap_secure.proofs.check_sites.Sublists.{occurs, hit, hit_other, occurs-cons, fewer, at_most_once}
 use Rattle.sap_secure.proofs.check_sites.Marks.{group_marks, group_filled, group_marked}
 use Rattle.sap_secure.proofs.check_sites.Reached.{sites_from}
-use Rattle.sap_secure.proofs.check_sites.Designs.{sites_agree_law}
 
 marks_are : (ls : Levels) (d : DesignTree) → WellFormed ls d → group_marks (program_of ls d).states ≡ program_sites (program_of ls d)
 marks_are ls d formed =
-    let agree = sites_agree_law ls d formed in
     group_filled (world_of ls d) (root (world_of ls d)) (states_of ls d)
     ∙ group_marked ls (entities_of d) 1 (length d.declarations) (omega arith) d.states
-    ∙ ap (λ (n : ℕ). numbers_from 1 n) agree.count ∙ sym agree.numbers
+    ∙ sym (sites_numbered ls d formed)
 
 pub in_turn : (ls : Levels) (d : DesignTree) → FineProgram (program_of ls d) → WellFormed ls d → (inputs : List Tagged) (s : Store)
     → Sublist (sites_met (cycle_steps (program_of ls d) inputs s)) (program_sites (program_of ls d))
@@ -60,8 +58,8 @@ pub once : (ls : Levels) (d : DesignTree) → FineProgram (program_of ls d) → 
 once ls d fine formed inputs s k p =
     let js = cycle_steps (program_of ls d) inputs s in
     let a : comes_to k (cycle_steps (program_of ls d) inputs s) ≡ occurs k (sites_met (cycle_steps (program_of ls d) inputs s)) = met_is k p js in
-    let b : occurs k (sites_met (cycle_steps (program_of ls d) inputs s)) ≤ occurs k (numbers_from 1 (length (sites_of d))) =
-    fewer k (sites_met js) (numbers_from 1 (length (sites_of d)))
-    (subst (λ (ys : List ℕ). Sublist (sites_met (cycle_steps (program_of ls d) inputs s)) ys) (sites_agree_law ls d formed).numbers (in_turn ls d fine formed inputs s)) in
-    let c : occurs k (numbers_from 1 (length (sites_of d))) ≤ 1 = at_most_once k 1 (length (sites_of d)) in
+    let b : occurs k (sites_met (cycle_steps (program_of ls d) inputs s)) ≤ occurs k (numbers_from 1 (length (check_sites d))) =
+    fewer k (sites_met js) (numbers_from 1 (length (check_sites d)))
+    (subst (λ (ys : List ℕ). Sublist (sites_met (cycle_steps (program_of ls d) inputs s)) ys) (sites_numbered ls d formed) (in_turn ls d fine formed inputs s)) in
+    let c : occurs k (numbers_from 1 (length (check_sites d))) ≤ 1 = at_most_once k 1 (length (check_sites d)) in
     omega arith

@@ -1,5 +1,5 @@
 -- The numbers of a program's sites, as its commands have them.
-use Rattle.std.proofs.Common.{◌≡◌, ℕ, zero, suc, ◌+◌, ◌≤◌, Bool, true, false, List, [], ◌∷◌, ◌++◌, length, length-append, nat_eq, refl, sym, ap, ◌∙◌, subst, arith, if◌then◌else◌}
+use Rattle.std.proofs.Common.{◌≡◌, ℕ, ◌+◌, ◌≤◌, Bool, true, false, List, [], ◌∷◌, ◌++◌, length, length-append, nat_eq, refl, sym, ap, ◌∙◌, subst, arith, if◌then◌else◌}
 use Rattle.std.proofs.lemmas.Bool.{ne_eqb}
 use Rattle.sap_tree.specs.Syntax.{SimpleCommand, assign, set_tag, set_cell_tag, CommandBlock, command_block, ElseBlock, no_else, with_else, CommandList, no_command, and_command, StateTree, state_node, StateList, no_state, and_state}
 use Rattle.sap_tree.specs.Syntax as tree
@@ -8,11 +8,12 @@ use Rattle.sap_names.specs.declared.entity.Entity.{Entity}
 use Rattle.sap_shape.specs.Sites as shape
 use Rattle.sap_shape.specs.Sites.{Surroundings, CheckSite, simple_sites}
 use Rattle.sap_meaning.specs.Program.{World, Step, assign, write, retag, retag_cell, go_to, fall_to_child, Command, lone, try, if_else, try_then, case_of, Arms, last_arm, and_arm, Block, end_block, command_then, State, state_node, Group, no_node, and_node}
-use Rattle.sap_meaning.specs.Checks.{Spot, site_of}
-use Rattle.sap_resolve.specs.Worlds.{states_in}
-use Rattle.sap_resolve.specs.Resolve.{site_number, step_of, command_of, arms_of, block_of, else_of, list_of, state_of, group_of}
-use Rattle.sap_resolve.specs.Fill.{filled_step, filled, filled_arms, filled_block, filled_state, filled_group}
-use Rattle.sap_secure.specs.CheckSites.Numbering.{numbers_from}
+use Rattle.sap_meaning.specs.Checks.{Home, site_of}
+use Rattle.sap_meaning.specs.Sites.{numbers_from}
+use Rattle.sap_meaning.proofs.SitesLemmas.{numbers_join}
+use Rattle.sap_resolved.specs.Worlds.{states_in}
+use Rattle.sap_resolved.specs.Resolve.{site_number, step_of, command_of, arms_of, block_of, else_of, list_of, state_of, group_of}
+use Rattle.sap_resolved.specs.Fill.{filled_step, filled, filled_arms, filled_block, filled_state, filled_group}
 use Rattle.sap_secure.specs.CheckSites.Once.{own_site}
 
 abbrev mutual
@@ -44,7 +45,7 @@ both a b c d e f = ap (λ (u : List ℕ). u ++ b) e ∙ ap (λ (u : List ℕ). c
 
 -- filling in what hangs leaves them as they are
 module _ (w : World) where
-  module _ (at : Spot) where
+  module _ (at : Home) where
     step_filled : (k : Step) → own_site (filled_step w at k) ≡ own_site k
     step_filled (assign site x e) = refl
     step_filled (write site m j e) = refl
@@ -85,16 +86,6 @@ module _ (w : World) where
     group_filled p no_node = refl
     group_filled p (and_node t g) =
         both (state_marks (filled_state w p t)) (group_marks (filled_group w p g)) (state_marks t) (group_marks g) (state_filled p t) (group_filled p g)
-
-numbers_join : (k m n : ℕ) → numbers_from k m ++ numbers_from (k + m) n ≡ numbers_from k (m + n)
-numbers_join k zero n =
-    let a : k + 0 ≡ k = omega arith in let b : 0 + n ≡ n = omega arith in
-    ap (λ (i : ℕ). numbers_from i n) a ∙ ap (λ (i : ℕ). numbers_from k i) (sym b)
-numbers_join k (suc m) n =
-    let a : k + suc m ≡ suc k + m = omega arith in
-    let b : suc m + n ≡ suc (m + n) = omega arith in
-    ap (λ (i : ℕ). (k ∷ numbers_from (suc k) m) ++ numbers_from i n) a ∙ ap (λ (xs : List ℕ). k ∷ xs) (numbers_join (suc k) m n)
-    ∙ ap (λ (i : ℕ). numbers_from k i) (sym b)
 
 joined : (k : ℕ) (a b : List CheckSite) (xs ys : List ℕ) → xs ≡ numbers_from k (length a) → ys ≡ numbers_from (k + length a) (length b)
     → xs ++ ys ≡ numbers_from k (length (a ++ b))

@@ -6,7 +6,7 @@ use Rattle.sap_maps.specs.Term.{Term}
 use Rattle.sap_meaning.specs.Program.{World, root, Program, Step, assign, write, retag, retag_cell, go_to, fall_to_child, Command, lone, try, if_else, try_then, case_of, Arms, last_arm, and_arm, Block, end_block, command_then, State, state_node, Group, no_node, and_node}
 use Rattle.sap_meaning.specs.Store.{Store, child, raise}
 use Rattle.sap_meaning.specs.Expressions.{value, tag}
-use Rattle.sap_meaning.specs.Checks.{Spot, guard, test}
+use Rattle.sap_meaning.specs.Checks.{Home, guard, test}
 use Rattle.sap_meaning.specs.Touches.{touches, root_touches, raised_alone}
 use Rattle.sap_meaning.specs.Does.{does, does_child, effect, is_constant}
 use Rattle.sap_meaning.specs.Cycle.{Tagged, set_inputs}
@@ -33,7 +33,7 @@ behind : (xs ys : List Step) (as' bs : List ℕ) → From xs as' → From ys bs 
 behind xs ys as' bs f g = subst (λ (u : List ℕ). Sublist u (as' ++ bs)) (sym (met-append xs ys)) (sublist_append (sites_met xs) as' (sites_met ys) bs f g)
 
 module _ (w : World) where
-  module _ (at : Spot) (entered : ℕ → ℕ → Store → List Step) (below : List ℕ) (entering : (n pc : ℕ) (s : Store) → From (entered n pc s) below) where
+  module _ (at : Home) (entered : ℕ → ℕ → Store → List Step) (below : List ℕ) (entering : (n pc : ℕ) (s : Store) → From (entered n pc s) below) where
     onward_from : (k : Step) (pc : ℕ) (b s : Store) → From (onward w at entered k pc b s) below
     onward_from (assign site x e) pc b s = tt
     onward_from (write site m i e) pc b s = tt

@@ -7,7 +7,7 @@ use Rattle.sap_maps.specs.Term.{Term}
 use Rattle.sap_meaning.specs.Program.{World, root, Program, Step, assign, write, retag, retag_cell, go_to, fall_to_child, Command, lone, try, if_else, try_then, case_of, Arms, last_arm, and_arm, Block, end_block, command_then, State, state_node, Group, no_node, and_node}
 use Rattle.sap_meaning.specs.Store.{own, Store, level, child, raise, Refusal, After, stay, and_then}
 use Rattle.sap_meaning.specs.Expressions.{value, tag}
-use Rattle.sap_meaning.specs.Checks.{Spot, site_of, guard, test}
+use Rattle.sap_meaning.specs.Checks.{Home, site_of, guard, test}
 use Rattle.sap_meaning.specs.Touches.{touches, root_touches, raised_alone}
 use Rattle.sap_meaning.specs.Does.{effect, attempt, attempt_then, select, branch, is_constant, does, does_arms, does_block, does_state, does_child}
 use Rattle.sap_meaning.specs.Cycle.{Tagged, set_inputs, root_fall, cycle}
@@ -44,7 +44,7 @@ one_of true ks js p q h g = h
 one_of false ks js p q h g = g
 
 module _ (w : World) where
-  module _ (at : Spot) (entered : ℕ → ℕ → Store → List Step) (below : (n : ℕ) → EachAmong (entered n) (does_child w at.children at.state n)) where
+  module _ (at : Home) (entered : ℕ → ℕ → Store → List Step) (below : (n : ℕ) → EachAmong (entered n) (does_child w at.children at.state n)) where
     effect_among : (k : Step) (pc : ℕ) (b s : Store) → Among (effect w at (does_child w at.children at.state) k pc b s) (onward w at entered k pc b s)
     unfolding effect
     effect_among (assign site x e) pc b s = tt
@@ -121,7 +121,7 @@ module _ (w : World) where
 
     state_among : (t : State) (parent : ℕ) → EachAmong (state_steps w t parent) (does_state w t parent)
     state_among (state_node s b g) parent pc st =
-        let at : Spot = record { state = s; parent = parent; children = g } in
+        let at : Home = record { state = s; parent = parent; children = g } in
         block_among at (child_steps w g s) (λ n. child_among g s n) b pc st
 
     child_among : (g : Group) (parent n : ℕ) → EachAmong (child_steps w g parent n) (does_child w g parent n)

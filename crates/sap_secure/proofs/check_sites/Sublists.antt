@@ -3,8 +3,7 @@ use Rattle.std.proofs.Common.{◌≡◌, ℕ, zero, suc, ◌+◌, ◌<◌, ◌�
 use Rattle.std.specs.Prelude.{count_by}
 use Rattle.std.proofs.lemmas.Bool.{cases_Bool, eqb-true, ne_eqb}
 use Rattle.std.proofs.lemmas.List.Sums.{sum_by-cons}
-use Rattle.sap_meaning.specs.Sites.{Sublist}
-use Rattle.sap_secure.specs.CheckSites.Numbering.{numbers_from}
+use Rattle.sap_meaning.specs.Sites.{numbers_from, Sublist}
 
 pub same : (xs : List ℕ) → Sublist xs xs
 same [] = tt

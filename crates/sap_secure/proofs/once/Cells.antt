@@ -5,7 +5,7 @@ use Rattle.sap_maps.specs.Term.{Term}
 use Rattle.sap_meaning.specs.Program.{World, is_dynamic, root, place, Program, Step, assign, write, retag, retag_cell, go_to, fall_to_child, Command, lone, try, if_else, try_then, case_of, Arms, last_arm, and_arm, Block, end_block, command_then, State, state_node, Group, no_node, and_node}
 use Rattle.sap_meaning.specs.Store.{own, start, next, start_whole, next_whole, source, Store, number, level, child, put_number, put_level, put_child, raise, reset, settle, After, stay, and_then}
 use Rattle.sap_meaning.specs.Expressions.{value, tag, new_level}
-use Rattle.sap_meaning.specs.Checks.{Spot, guard, test}
+use Rattle.sap_meaning.specs.Checks.{Home, guard, test}
 use Rattle.sap_meaning.specs.Touches.{touches, root_touches, raised_alone}
 use Rattle.sap_meaning.specs.Does.{effect, attempt, attempt_then, select, branch, is_constant, does, does_arms, does_block, does_state, does_child}
 use Rattle.sap_meaning.specs.Cycle.{Tagged, set_inputs, root_fall, cycle}
@@ -88,7 +88,7 @@ retag_same w m n i j v t s e = (rw e refl, elim (cases_Bool (is_dynamic w n)) [ 
 abbrev EachTracked : ℕ → (ℕ → Store → List Step) → (ℕ → Store → After) → Type 0
 EachTracked m f g = (pc : ℕ) (s : Store) → Tracked m (writes_to m (f pc s)) s (g pc s).store
 
-module _ (w : World) (m : ℕ) (at : Spot) (entered : ℕ → ℕ → Store → List Step)
+module _ (w : World) (m : ℕ) (at : Home) (entered : ℕ → ℕ → Store → List Step)
     (below : (n : ℕ) → EachTracked m (entered n) (does_child w at.children at.state n)) where
   -- a write or a retagging of one cell
   at_cell : (n i : ℕ) (k : Step) (s t : Store) → step_writes k m ≡ nat_eq m n → ((j : ℕ) → (nat_eq m n && nat_eq j i) ≡ false → Same m j s t)
@@ -206,7 +206,7 @@ module _ (w : World) (m : ℕ) where
 
     state_tracked : (t : State) (parent : ℕ) → EachTracked m (state_steps w t parent) (does_state w t parent)
     state_tracked (state_node s b g) parent pc st =
-        let at : Spot = record { state = s; parent = parent; children = g } in
+        let at : Home = record { state = s; parent = parent; children = g } in
         block_tracked w m at (child_steps w g s) (λ n. child_tracked g s n) b pc st
 
     child_tracked : (g : Group) (parent n : ℕ) → EachTracked m (child_steps w g parent n) (does_child w g parent n)

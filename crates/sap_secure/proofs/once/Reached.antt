@@ -6,7 +6,7 @@ use Rattle.sap_maps.specs.Term.{Term}
 use Rattle.sap_meaning.specs.Program.{World, root, Program, Step, assign, write, retag, retag_cell, go_to, fall_to_child, Command, lone, try, if_else, try_then, case_of, Arms, last_arm, and_arm, Block, end_block, command_then, State, state_node, Group, no_node, and_node}
 use Rattle.sap_meaning.specs.Store.{Store, own, level, child, raise}
 use Rattle.sap_meaning.specs.Expressions.{value, tag}
-use Rattle.sap_meaning.specs.Checks.{Spot, guard, test}
+use Rattle.sap_meaning.specs.Checks.{Home, guard, test}
 use Rattle.sap_meaning.specs.Touches.{touches, root_touches, raised_alone}
 use Rattle.sap_meaning.specs.Does.{does, does_child, effect, is_constant}
 use Rattle.sap_meaning.specs.Cycle.{set_inputs}
@@ -20,7 +20,7 @@ use Rattle.sap_secure.proofs.once.Counts.{writing, writes_to-cons, written, unwr
 abbrev pub AllCounted : ℕ → Bool → (ℕ → Store → List Step) → Type 0
 AllCounted m may f = (pc : ℕ) (s : Store) → Counted m may (f pc s)
 
-module _ (w : World) (m : ℕ) (at : Spot) (entered : ℕ → ℕ → Store → List Step)
+module _ (w : World) (m : ℕ) (at : Home) (entered : ℕ → ℕ → Store → List Step)
     (beyond : Type 0) (below : beyond → (n : ℕ) → AllCounted m (group_reaches at.children m) (entered n)) where
   -- a step that writes leads to no other
   onward_nothing : (k : Step) (pc : ℕ) (b s : Store) → step_writes k m ≡ true → writes_to m (onward w at entered k pc b s) ≡ 0
@@ -193,7 +193,7 @@ module _ (w : World) (m : ℕ) where
 
     pub state_counted : (t : State) → OnceState t → (parent : ℕ) → AllCounted m (state_reaches t m) (state_steps w t parent)
     state_counted (state_node s b g) once parent pc st =
-        let at : Spot = record { state = s; parent = parent; children = g } in
+        let at : Home = record { state = s; parent = parent; children = g } in
         block_counted w m at (child_steps w g s) (OnceGroup g) (λ o i. group_counted g o s i) b once pc st
 
     group_counted : (g : Group) → OnceGroup g → (parent i : ℕ) → AllCounted m (group_reaches g m) (child_steps w g parent i)

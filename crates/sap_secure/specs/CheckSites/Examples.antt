@@ -3,7 +3,7 @@ use Rattle.std.specs.Prelude.{◌≡◌, [], ◌∷◌}
 use Rattle.sap_check.specs.declared.site.SiteKind.TheVariants as kind
 use Rattle.sap_check.specs.Examples.{nested}
 use Rattle.sap_lattice.specs.Examples.{low_high}
-use Rattle.sap_resolve.specs.Fill.{program_of}
+use Rattle.sap_resolved.specs.Fill.{program_of}
 use Rattle.sap_secure.specs.CheckSites.ProgramSites.{sites_in}
 
 -- state P enforced low { fall otherwise { goto P; } state S enforced low { goto S; } }: a `fall` is a site of its own state

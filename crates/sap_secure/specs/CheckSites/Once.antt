@@ -9,7 +9,7 @@ use Rattle.sap_meaning.specs.Store.{Store}
 use Rattle.sap_meaning.specs.Checks.{site_of}
 use Rattle.sap_meaning.specs.Cycle.{Tagged, cycle}
 use Rattle.sap_meaning.specs.Sites.{program_sites, refused_sites, Sublist}
-use Rattle.sap_resolve.specs.Fill.{program_of}
+use Rattle.sap_resolved.specs.Fill.{program_of}
 use Rattle.sap_secure.specs.Once.Steps.{cycle_steps}
 
 -- the site of a step, where it is one: what is none has the number 0

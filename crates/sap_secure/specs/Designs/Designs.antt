@@ -8,7 +8,7 @@ use Rattle.sap_meaning.specs.Store.{Store, After}
 use Rattle.sap_meaning.specs.Cycle.{Tagged, cycle, cycle_listed, run_from}
 use Rattle.sap_meaning.specs.State.{Resting, Fits, InputsFit, first}
 use Rattle.sap_meaning.specs.Sites.{RisesFrom, refused_sites}
-use Rattle.sap_resolve.specs.Fill.{program_of}
+use Rattle.sap_resolved.specs.Fill.{program_of}
 use Rattle.sap_secure.specs.Confinement.{Confines}
 use Rattle.sap_secure.specs.Laws.{CyclesAgree, LaterAgree, LabelledAgree}
 

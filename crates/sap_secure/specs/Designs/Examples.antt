@@ -10,7 +10,7 @@ use Rattle.sap_tree.specs.Syntax.{Expression, cell_at, level_of, SimpleCommand, 
 use Rattle.sap_tree.specs.declared.version.Version.TheVariants.{One}
 use Rattle.sap_shape.specs.WellFormed.{WellFormed}
 use Rattle.sap_meaning.specs.Fine.{FineProgram}
-use Rattle.sap_resolve.specs.Fill.{program_of}
+use Rattle.sap_resolved.specs.Fill.{program_of}
 use Rattle.sap_lattice.specs.Examples.{low_high}
 
 -- enforced level under authority

@@ -9,7 +9,7 @@ use Rattle.sap_meaning.specs.Store.{Store, start, number, level}
 use Rattle.sap_meaning.specs.Cycle.{Tagged, cycle}
 use Rattle.sap_meaning.specs.State.{Resting}
 use Rattle.sap_meaning.specs.Fine.{step_writes}
-use Rattle.sap_resolve.specs.Fill.{program_of}
+use Rattle.sap_resolved.specs.Fill.{program_of}
 use Rattle.sap_secure.specs.Once.Steps.{cycle_steps}
 
 -- how many of the steps write or retag a cell of the memory m, refused or not

@@ -5,14 +5,14 @@ use Rattle.sap_maps.specs.Term.{Term}
 use Rattle.sap_meaning.specs.Program.{World, root, Step, assign, write, retag, retag_cell, go_to, fall_to_child, Command, lone, try, if_else, try_then, case_of, Arms, last_arm, and_arm, Block, end_block, command_then, State, state_node, Group, no_node, and_node, Program}
 use Rattle.sap_meaning.specs.Store.{Store, own, level, child, raise}
 use Rattle.sap_meaning.specs.Expressions.{value, tag}
-use Rattle.sap_meaning.specs.Checks.{Spot, child_level, guard, test}
+use Rattle.sap_meaning.specs.Checks.{Home, child_level, guard, test}
 use Rattle.sap_meaning.specs.Touches.{touches, root_touches, raised_alone}
 use Rattle.sap_meaning.specs.Does.{does, does_child, effect, is_constant}
 use Rattle.sap_meaning.specs.Cycle.{Tagged, set_inputs}
 
 -- What comes after a step whose test held in `before`: for a fall the steps of the current child's body, `entered n` being those of
 -- the n-th child's in a context; for every other step nothing.
-abbrev pub onward : World → Spot → (entered : ℕ → ℕ → Store → List Step) → Step → ℕ → (before : Store) → Store → List Step
+abbrev pub onward : World → Home → (entered : ℕ → ℕ → Store → List Step) → Step → ℕ → (before : Store) → Store → List Step
 onward w at entered (assign site x e) pc before s = []
 onward w at entered (write site m i e) pc before s = []
 onward w at entered (retag site x n) pc before s = []
@@ -22,14 +22,14 @@ onward w at entered (fall_to_child site hang) pc before s =
     entered (child at.state before) (w.order.join pc (child_level w at.children (child at.state before) before)) s
 
 -- a step, and what comes after it; where it is refused, the steps of its handler
-unfoldable pub tried : World → Spot → (entered : ℕ → ℕ → Store → List Step) → Step → (hangs : ℕ → Bool) → (handler : ℕ → Store → List Step) → ℕ → Store → List Step
+unfoldable pub tried : World → Home → (entered : ℕ → ℕ → Store → List Step) → Step → (hangs : ℕ → Bool) → (handler : ℕ → Store → List Step) → ℕ → Store → List Step
 tried w at entered k hangs handler pc s =
     let g = guard w at k s in
     let r = raise w.order hangs g s in
     k ∷ (if test w at k pc s then onward w at entered k pc s r else handler (w.order.join pc g) r)
 
 -- a step with `then`, and what comes after it: where its test held, behind that the steps of the accepted part, in the store that the effect leaves
-unfoldable pub tried_then : World → Spot → (entered : ℕ → ℕ → Store → List Step) → Step → (hangs : ℕ → Bool) → (accepted refused : ℕ → Store → List Step) → ℕ → Store → List Step
+unfoldable pub tried_then : World → Home → (entered : ℕ → ℕ → Store → List Step) → Step → (hangs : ℕ → Bool) → (accepted refused : ℕ → Store → List Step) → ℕ → Store → List Step
 tried_then w at entered k hangs accepted refused pc s =
     let g = guard w at k s in
     let r = raise w.order hangs g s in
@@ -55,7 +55,7 @@ chosen w e hangs then_steps else_steps pc s =
     if nat_eq (value w e s) 0 then else_steps (w.order.join pc t) r else then_steps (w.order.join pc t) r
 
 unfoldable mutual
-  pub steps : World → Spot → (entered : ℕ → ℕ → Store → List Step) → Command → ℕ → Store → List Step
+  pub steps : World → Home → (entered : ℕ → ℕ → Store → List Step) → Command → ℕ → Store → List Step
   steps w at entered (lone k) = tried w at entered k (raised_alone w at k) (λ pc s. [])
   steps w at entered (try k hang h) = tried w at entered k (touches w at (try k hang h)) (block_steps w at entered h)
   steps w at entered (if_else hang e a b) = chosen w e (touches w at (if_else hang e a b)) (block_steps w at entered a) (block_steps w at entered b)
@@ -64,12 +64,12 @@ unfoldable mutual
   steps w at entered (case_of hang e arms) = picked w e (touches w at (case_of hang e arms)) (arms_steps w at entered arms)
 
   -- of the first arm that has the number, else of the last block
-  pub arms_steps : World → Spot → (entered : ℕ → ℕ → Store → List Step) → Arms → ℕ → ℕ → Store → List Step
+  pub arms_steps : World → Home → (entered : ℕ → ℕ → Store → List Step) → Arms → ℕ → ℕ → Store → List Step
   arms_steps w at entered (last_arm b) = λ n. block_steps w at entered b
   arms_steps w at entered (and_arm constants b arms) = arm_steps constants (block_steps w at entered b) (arms_steps w at entered arms)
 
   -- of a list of commands, each in the store that the ones before it leave
-  pub block_steps : World → Spot → (entered : ℕ → ℕ → Store → List Step) → Block → ℕ → Store → List Step
+  pub block_steps : World → Home → (entered : ℕ → ℕ → Store → List Step) → Block → ℕ → Store → List Step
   block_steps w at entered end_block pc s = []
   block_steps w at entered (command_then c cs) pc s =
       steps w at entered c pc s ++ block_steps w at entered cs pc (does w at (does_child w at.children at.state) c pc s).store

@@ -1,4 +1,4 @@
-use Rattle.sap_resolve.specs.Fill.{program_of}
+use Rattle.sap_resolved.specs.Fill.{program_of}
 use Rattle.sap_secure.proofs.check_sites.InTurn.{in_turn, once}
 use Rattle.sap_secure.proofs.check_sites.Refused.{refused_met}
 use Rattle.sap_secure.proofs.check_sites.each_site_once.Goals as goal

@@ -1,4 +1,4 @@
-use Rattle.sap_resolve.specs.Fill.{program_of}
+use Rattle.sap_resolved.specs.Fill.{program_of}
 use Rattle.sap_secure.proofs.designs.lists_serve.Goals as goal
 
 pub returns : goal.returns

@@ -1,4 +1,4 @@
-use Rattle.sap_resolve.specs.Fill.{program_of}
+use Rattle.sap_resolved.specs.Fill.{program_of}
 use Rattle.sap_secure.proofs.designs.Rising.{each_rises}
 use Rattle.sap_secure.proofs.designs.refusals_rise.Goals as goal
 

@@ -1,4 +1,4 @@
-use Rattle.sap_resolve.specs.Fill.{program_of}
+use Rattle.sap_resolved.specs.Fill.{program_of}
 use Rattle.sap_secure.proofs.once.Reached.{writes_once}
 use Rattle.sap_secure.proofs.once.Cells.{unwritten_stay, changes_one_cell}
 use Rattle.sap_secure.proofs.once.written_once.Goals as goal
