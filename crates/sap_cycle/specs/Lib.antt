@@ -5,7 +5,3 @@ pub mod Places
 pub mod Running
 pub mod Loaded
 pub mod Known
-pub use Rattle.sap_maps.specs.Maps
-pub use Rattle.sap_maps.specs.Scope
-pub use Rattle.sap_net.specs.IsNetlist
-pub use Rattle.sap_net.specs.Runs

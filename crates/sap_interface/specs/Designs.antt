@@ -5,7 +5,7 @@ use Rattle.sap_lattice.specs.Levels.{Levels, order_of}
 use Rattle.sap_lattice.specs.Codes.{code_of, width_of}
 use Rattle.sap_names.specs.Entities.{entities_of}
 use Rattle.sap_shape.specs.Sites.{check_sites}
-use Rattle.sap_resolve.specs.Fill.{program_of}
+use Rattle.sap_resolved.specs.Fill.{program_of}
 use Rattle.sap_net.specs.Net.{Net}
 use Rattle.sap_interface.specs.StandsFor.{Named}
 use Rattle.sap_interface.specs.Compiled.{NetStandsFor}
@@ -15,9 +15,9 @@ abbrev pub named_of : Levels → DesignTree → Named
 named_of ls d = record { program = program_of ls d; names = map (λ e. e.name.name) (entities_of d); code = code_of (order_of ls) }
 
 -- how many check sites a design has
-abbrev pub sites_of : DesignTree → ℕ
-sites_of d = length (check_sites d)
+abbrev pub site_count_of : DesignTree → ℕ
+site_count_of d = length (check_sites d)
 
 -- the netlist stands for the design
 abbrev pub StandsForDesign : Levels → DesignTree → Net → Type 0
-StandsForDesign ls d n = NetStandsFor (named_of ls d) (width_of (order_of ls)) (sites_of d) n
+StandsForDesign ls d n = NetStandsFor (named_of ls d) (width_of (order_of ls)) (site_count_of d) n

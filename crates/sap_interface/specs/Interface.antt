@@ -1,23 +1,22 @@
 -- The interface of a compiled module: its ports in order, and what else it declares, with their widths.
-use Rattle.std.specs.Prelude.{◌≡◌, ◌<◌, ◌≤◌, ◌⊎◌, ◌^◌, ◌+◌, ℕ, zero, suc, Bool, true, false, List, [], ◌∷◌, ◌++◌, map, if◌then◌else◌}
+use Rattle.std.specs.Prelude.{◌≡◌, ◌<◌, ◌≤◌, ◌⊎◌, ◌^◌, ◌+◌, ℕ, zero, suc, Bool, true, false, List, [], ◌∷◌, ◌++◌, map, Some, if◌then◌else◌}
 use Rattle.std.specs.List.{AllByRecursion}
+use Rattle.sap_maps.specs.Maps.{Name}
+use Rattle.sap_maps.specs.Scope.{Scope, find}
 use Rattle.sap_meaning.specs.Program.{Entity, root, children, width, is_input, is_register, is_memory, is_state, is_dynamic}
 use Rattle.sap_net.specs.declared.parts.PortKind.{PortKind}
 use Rattle.sap_net.specs.declared.parts.PortKind.TheVariants as kind
-use Rattle.sap_net.specs.declared.parts.Input.{Input}
-use Rattle.sap_net.specs.declared.parts.Wire.{Wire}
-use Rattle.sap_net.specs.declared.parts.Register.{Register}
-use Rattle.sap_net.specs.declared.parts.Memory.{Memory}
 use Rattle.sap_net.specs.Net.{Net}
-use Rattle.sap_interface.specs.PortNames.{value_name, tag_name, refused_name, level_name, top_name}
-use Rattle.sap_ir.specs.Plain.Nested.{seat_name, root_seat}
+use Rattle.sap_net.specs.IsNetlist.{shapes}
+use Rattle.sap_net.specs.Rules.{Shapes}
+use Rattle.sap_net.specs.PortNames.{value_name, tag_name, refused_name, refused_level_name, top_name, seat_name, root_seat}
 use Rattle.sap_interface.specs.StandsFor.{Named, name, world, depth}
 use Rattle.sap_net.specs.Names.{IsHelpingName}
 use Rattle.sap_interface.specs.InterfaceNames.{IsInterfaceName}
 
 -- a port's name with what it is
 abbrev pub Shown : Type 0
-Shown = List ℕ × PortKind
+Shown = Name × PortKind
 
 -- what a test of entity numbers picks, each as two ports, in order of declaration; x is the number of the first
 abbrev pub pairs_of : (ℕ → Bool) → PortKind → Named → (x : ℕ) → List Entity → List Shown
@@ -28,7 +27,7 @@ pairs_of picks k d x (e ∷ es) =
 -- two wires for each check site, from site k on
 abbrev pub site_ports : (k sites : ℕ) → List Shown
 site_ports k zero = []
-site_ports k (suc n) = (refused_name k, kind.Wire) ∷ (level_name k, kind.Wire) ∷ site_ports (k + 1) n
+site_ports k (suc n) = (refused_name k, kind.Wire) ∷ (refused_level_name k, kind.Wire) ∷ site_ports (k + 1) n
 
 abbrev pub ports_of : Named → (sites : ℕ) → List Shown
 ports_of d sites =
@@ -36,23 +35,23 @@ ports_of d sites =
     ++ pairs_of (is_register (world d)) kind.Register d 0 (world d).entities
     ++ site_ports 1 sites
 
--- one of these has this name and this width
-abbrev pub HasInput : List Input → List ℕ → ℕ → Type 0
-HasInput [] n u = ⊥
-HasInput (i ∷ is) n u = ((i.name ≡ n) × (i.width ≡ u)) ⊎ HasInput is n u
+-- What a module declares: its ports in order, its inputs, wires and registers with their widths, its memories with width and depth.
+pub record Declared : Type 0 where
+  pub ports : List Shown
+  pub inputs : Scope
+  pub wires : Scope
+  pub registers : Scope
+  pub memories : Shapes
 
-abbrev pub HasWire : List Wire → List ℕ → ℕ → Type 0
-HasWire [] n u = ⊥
-HasWire (w ∷ ws) n u = ((w.name ≡ n) × (w.width ≡ u)) ⊎ HasWire ws n u
-
-abbrev pub HasRegister : List Register → List ℕ → ℕ → Type 0
-HasRegister [] n u = ⊥
-HasRegister (r ∷ rs) n u = ((r.name ≡ n) × (r.width ≡ u)) ⊎ HasRegister rs n u
-
--- and this depth
-abbrev pub HasMemory : List Memory → List ℕ → (width depth : ℕ) → Type 0
-HasMemory [] n u depth = ⊥
-HasMemory (m ∷ ms) n u depth = ((m.name ≡ n) × (m.width ≡ u) × (m.depth ≡ depth)) ⊎ HasMemory ms n u depth
+abbrev pub declared_by : Net → Declared
+declared_by n =
+    record {
+      ports = map (λ p. (p.name, p.kind)) n.ports;
+      inputs = map (λ x. (x.name, x.width)) n.inputs;
+      wires = map (λ x. (x.name, x.width)) n.wires;
+      registers = map (λ x. (x.name, x.width)) n.registers;
+      memories = shapes n;
+    }
 
 -- the least width of 1 or more that can hold the number of each of some children
 pub record IsSeatWidth (count u : ℕ) : Type 0 where
@@ -60,26 +59,34 @@ pub record IsSeatWidth (count u : ℕ) : Type 0 where
   pub holds : count ≤ 2 ^ u
   pub least : (v : ℕ) → 1 ≤ v → count ≤ 2 ^ v → u ≤ v
 
-abbrev pub HasSeat : Net → (count : ℕ) → List ℕ → Type 0
-HasSeat n count seat = (u : ℕ) × IsSeatWidth count u × HasRegister n.registers seat u
+abbrev pub HasSeat : (registers : Scope) → (count : ℕ) → Name → Type 0
+HasSeat registers count seat = (u : ℕ) × IsSeatWidth count u × (find registers seat ≡ Some u)
 
--- `tag` is the width of tags
+-- What a module declares of one design, but for its inputs: under `named x` what the interface has under x. `tag` is the width of tags.
+pub record DeclaresPart (named : Name → Name) (d : Named) (tag sites : ℕ) (declared : Declared) : Type 0 where
+  pub registers : (x : ℕ) → is_register (world d) x ≡ true
+      → (find declared.registers (named (value_name (name d x))) ≡ Some (width (world d) x)) × (find declared.registers (named (tag_name (name d x))) ≡ Some tag)
+  pub site_wires : (k : ℕ) → 1 ≤ k → k ≤ sites
+      → (find declared.wires (named (refused_name k)) ≡ Some 1) × (find declared.wires (named (refused_level_name k)) ≡ Some tag)
+  pub memories : (m : ℕ) → is_memory (world d) m ≡ true → find declared.memories (named (value_name (name d m))) ≡ Some (width (world d) m, depth d m)
+  pub cell_tags : (m : ℕ) → is_memory (world d) m ≡ true → is_dynamic (world d) m ≡ false → find declared.memories (named (tag_name (name d m))) ≡ Some (tag, depth d m)
+  pub memory_tags : (m : ℕ) → is_memory (world d) m ≡ true → is_dynamic (world d) m ≡ true → find declared.registers (named (tag_name (name d m))) ≡ Some tag
+  pub state_tags : (x : ℕ) → is_state (world d) x ≡ true → x < root (world d) → find declared.registers (named (tag_name (name d x))) ≡ Some tag
+  pub seats : (p : ℕ) → p < root (world d) → 0 < children (world d) p → HasSeat declared.registers (children (world d) p) (named (seat_name (name d p)))
+  pub root_seat : HasSeat declared.registers (children (world d) (root (world d))) (named root_seat)
+
+-- The interface of one design, inputs and all, under its own names.
+pub record DeclaresInterface (d : Named) (tag sites : ℕ) (declared : Declared) : Type 0 where
+  pub ports : declared.ports ≡ ports_of d sites
+  pub inputs : (x : ℕ) → is_input (world d) x ≡ true
+      → (find declared.inputs (value_name (name d x)) ≡ Some (width (world d) x)) × (find declared.inputs (tag_name (name d x)) ≡ Some tag)
+  pub part : DeclaresPart (λ n. n) d tag sites declared
+  -- its registers and memories have no other names
+  pub register_names : AllByRecursion (λ r. IsInterfaceName d sites r.0) declared.registers
+  pub memory_names : AllByRecursion (λ m. IsInterfaceName d sites m.0) declared.memories
+
 pub record HasInterface (d : Named) (tag sites : ℕ) (n : Net) : Type 0 where
   pub module_name : n.module_name ≡ top_name
-  pub ports : map (λ p. (p.name, p.kind)) n.ports ≡ ports_of d sites
-  pub inputs : (x : ℕ) → is_input (world d) x ≡ true
-      → HasInput n.inputs (value_name (name d x)) (width (world d) x) × HasInput n.inputs (tag_name (name d x)) tag
-  pub registers : (x : ℕ) → is_register (world d) x ≡ true
-      → HasRegister n.registers (value_name (name d x)) (width (world d) x) × HasRegister n.registers (tag_name (name d x)) tag
-  pub site_wires : (k : ℕ) → 1 ≤ k → k ≤ sites → HasWire n.wires (refused_name k) 1 × HasWire n.wires (level_name k) tag
-  pub memories : (m : ℕ) → is_memory (world d) m ≡ true → HasMemory n.memories (value_name (name d m)) (width (world d) m) (depth d m)
-  pub cell_tags : (m : ℕ) → is_memory (world d) m ≡ true → is_dynamic (world d) m ≡ false → HasMemory n.memories (tag_name (name d m)) tag (depth d m)
-  pub memory_tags : (m : ℕ) → is_memory (world d) m ≡ true → is_dynamic (world d) m ≡ true → HasRegister n.registers (tag_name (name d m)) tag
-  pub state_tags : (x : ℕ) → is_state (world d) x ≡ true → x < root (world d) → HasRegister n.registers (tag_name (name d x)) tag
-  pub seats : (p : ℕ) → p < root (world d) → 0 < children (world d) p → HasSeat n (children (world d) p) (seat_name (name d p))
-  pub root_seat : HasSeat n (children (world d) (root (world d))) root_seat
-  -- its registers and memories have no other names
-  pub register_names : AllByRecursion (λ r. IsInterfaceName d sites r.name) n.registers
-  pub memory_names : AllByRecursion (λ m. IsInterfaceName d sites m.name) n.memories
+  pub declares : DeclaresInterface d tag sites (declared_by n)
   -- it declares nothing else but helping wires
   pub names : AllByRecursion (λ x. IsInterfaceName d sites x ⊎ IsHelpingName x) n.names

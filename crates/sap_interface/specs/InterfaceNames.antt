@@ -1,8 +1,7 @@
 -- Which names the interface of a compiled module has.
 use Rattle.std.specs.Prelude.{◌≡◌, ◌<◌, ◌≤◌, ℕ, Bool, true, ◌||◌, List}
 use Rattle.sap_meaning.specs.Program.{World, root, children, is_input, is_register, is_memory, is_state}
-use Rattle.sap_interface.specs.PortNames.{value_name, tag_name, refused_name, level_name}
-use Rattle.sap_ir.specs.Plain.Nested.{seat_name, root_seat}
+use Rattle.sap_net.specs.PortNames.{value_name, tag_name, refused_name, refused_level_name, seat_name, root_seat}
 use Rattle.sap_interface.specs.StandsFor.{Named, name, world}
 
 -- an input, a register or a memory
@@ -20,4 +19,4 @@ pub data IsInterfaceName (d : Named) (sites : ℕ) : List ℕ → Type 0 where
   child_of_root : IsInterfaceName d sites root_seat
   -- whether a check site is refused, and at which level
   refusal_of : (k : ℕ) → 1 ≤ k → k ≤ sites → IsInterfaceName d sites (refused_name k)
-  level_of : (k : ℕ) → 1 ≤ k → k ≤ sites → IsInterfaceName d sites (level_name k)
+  level_of : (k : ℕ) → 1 ≤ k → k ≤ sites → IsInterfaceName d sites (refused_level_name k)

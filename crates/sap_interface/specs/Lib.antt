@@ -1,4 +1,3 @@
-pub mod PortNames
 pub mod StandsFor
 pub mod InterfaceNames
 pub mod Interface

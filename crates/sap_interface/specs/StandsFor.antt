@@ -3,8 +3,7 @@ use Rattle.std.specs.Prelude.{◌≡◌, ◌<◌, ◌≤◌, ◌⊎◌, ◌↔�
 use Rattle.sap_maps.specs.Maps.{Valuation}
 use Rattle.sap_meaning.specs.Program.{World, Program, entity, root, children, is_register, is_memory, is_state, is_dynamic, depth_of}
 use Rattle.sap_meaning.specs.Store.{Store, own, start, start_whole, number, level, child, Refusal}
-use Rattle.sap_interface.specs.PortNames.{value_name, tag_name, refused_name, level_name}
-use Rattle.sap_ir.specs.Plain.Nested.{seat_name, root_seat}
+use Rattle.sap_net.specs.PortNames.{value_name, tag_name, refused_name, refused_level_name, seat_name, root_seat}
 
 -- a program with the names of its entities, by number, and the code of each level
 pub record Named : Type 0 where
@@ -42,4 +41,4 @@ pub record StandsFor (d : Named) (sites : ℕ) (v : Valuation) (s : Store) (refu
   pub seats : (p : ℕ) → p < root (world d) → 0 < children (world d) p → v.value (seat_name (name d p)) ≡ child p s
   pub root_seat : v.value root_seat ≡ child (root (world d)) s
   pub refusals : (k : ℕ) → 1 ≤ k → k ≤ sites → (v.value (refused_name k) ≡ 1) ↔ IsRefused refused k
-  pub refusal_levels : (k t : ℕ) → IsRefusedAt refused k t → v.value (level_name k) ≡ d.code t
+  pub refusal_levels : (k t : ℕ) → 1 ≤ k → k ≤ sites → IsRefusedAt refused k t → v.value (refused_level_name k) ≡ d.code t

@@ -10,7 +10,7 @@ use Rattle.sap_maps.specs.Maps.{Name}
 use Rattle.sap_maps.specs.Scope.{Scope, find}
 use Rattle.sap_net.specs.Names.{is_among, AreDistinct}
 use Rattle.sap_ir.specs.declared.guarded.Var.{Var}
-use Rattle.sap_ir.specs.declared.guarded.Store.{Store}
+use Rattle.sap_ir.specs.declared.guarded.MemoryVariable.{MemoryVariable}
 use Rattle.sap_ir.specs.Source.{Source, readable, shapes, width_of}
 use Rattle.sap_ir.specs.IsGuarded.{assignable, variable_names, memory_names, declared}
 
@@ -75,7 +75,7 @@ not_readable s d n h =
 pub readable_width : (s : Source) (n : Name) (u : ℕ) → find (readable s) n ≡ Some u → width_of s n ≡ u
 readable_width s n u h = ap (λ o. unwrap_or o 0) (found_first (readable s) (map (λ m. (m.name, m.width)) s.memories) n u h)
 
-memory_width_found : (ms : List Store) (n : Name) (e : ℕ × ℕ) → find {X = ℕ × ℕ} (map (λ m. (m.name, (m.width, m.depth))) ms) n ≡ Some e → find (map (λ m. (m.name, m.width)) ms) n ≡ Some e.0
+memory_width_found : (ms : List MemoryVariable) (n : Name) (e : ℕ × ℕ) → find {X = ℕ × ℕ} (map (λ m. (m.name, (m.width, m.depth))) ms) n ≡ Some e → find (map (λ m. (m.name, m.width)) ms) n ≡ Some e.0
 memory_width_found [] n e h = absurd (cc)
 memory_width_found (m ∷ ms) n e h =
     elim (cases_Bool (bytes_eq m.name n)) [
@@ -85,7 +85,7 @@ memory_width_found (m ∷ ms) n e h =
 
 pub shape_width : (s : Source) → AreDistinct (declared s) → (n : Name) (e : ℕ × ℕ) → find (shapes s) n ≡ Some e → width_of s n ≡ e.0
 shape_width s d n e h =
-    let a = not_readable s d n (found_among (λ (m : Store). m.name) (λ m. (m.width, m.depth)) s.memories n e h) in
+    let a = not_readable s d n (found_among (λ (m : MemoryVariable). m.name) (λ m. (m.width, m.depth)) s.memories n e h) in
     ap (λ o. unwrap_or o 0) (found_second (readable s) (map (λ m. (m.name, m.width)) s.memories) n a ∙ memory_width_found s.memories n e h)
 
 -- what is assigned can be read

@@ -16,7 +16,7 @@ use Rattle.sap_maps.specs.Term.{Term, constant, read, cell, one, two, choose, jo
 use Rattle.sap_net.specs.Names.{is_name, is_among, AreDistinct}
 use Rattle.sap_net.specs.Rules.{IsWidth, Shapes}
 use Rattle.sap_ir.specs.declared.guarded.Var.{Var}
-use Rattle.sap_ir.specs.declared.guarded.Store.{Store}
+use Rattle.sap_ir.specs.declared.guarded.MemoryVariable.{MemoryVariable}
 use Rattle.sap_ir.specs.Source.{Action, set, put, Command, Source, readable, shapes, width_of}
 use Rattle.sap_ir.specs.IsGuarded.{TermFine, ActionFine, CommandFine, variable_names, declared, is_helping, IsPlainVar, IsRegisterVar, IsStore, IsGuarded}
 use Rattle.sap_ir.specs.Test.{is_width, is_found, of_width, count_fits, term_is_fine, value_is_fine, action_is_fine, command_is_fine, is_plain_var, is_register_var, is_power, is_store, is_guarded}
@@ -113,7 +113,7 @@ power_to (suc k) d b h l e =
       | inr f ↦ rw f (power_to k d b h (elim (cases_Bool (b == suc k)) [ inl q ↦ absurd (let r : b ≡ suc k = (Decides-eqb b (suc k)).0 q in let t = test_of_equal d (2 ^ suc k) (e ∙ ap (λ (n : ℕ). 2 ^ n) r) in cc) | inr q ↦ below_unequal b k l q ]) e)
     ]
 
-store_to : (m : Store) → IsStore m → is_store m ≡ true
+store_to : (m : MemoryVariable) → IsStore m → is_store m ≡ true
 store_to m h =
     three_from (width_to m.width h.0) (power_to 12 m.depth h.1.0 h.1.1.0 h.1.1.1 h.1.1.2) (lt-ltb m.start (2 ^ m.width) h.2)
 

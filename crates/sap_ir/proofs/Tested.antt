@@ -14,7 +14,7 @@ use Rattle.sap_maps.specs.Term.{Term, constant, read, cell, one, two, choose, jo
 use Rattle.sap_net.specs.Names.{is_name, is_among}
 use Rattle.sap_net.specs.Rules.{IsWidth, Shapes}
 use Rattle.sap_ir.specs.declared.guarded.Var.{Var}
-use Rattle.sap_ir.specs.declared.guarded.Store.{Store}
+use Rattle.sap_ir.specs.declared.guarded.MemoryVariable.{MemoryVariable}
 use Rattle.sap_ir.specs.Source.{Action, set, put, Command, Source, readable, shapes, width_of}
 use Rattle.sap_ir.specs.IsGuarded.{TermFine, assignable, ActionFine, CommandFine, variable_names, declared, is_helping, IsPlainVar, IsRegisterVar, IsStore, IsGuarded}
 use Rattle.sap_ir.specs.Test.{is_width, is_found, of_width, of_shape, count_fits, term_is_fine, value_is_fine, action_is_fine, command_is_fine, is_plain_var, is_register_var, is_power, is_store, is_guarded}
@@ -114,7 +114,7 @@ power_from (suc k) d h =
     (λ f. let r = power_from k d (rw f at h) in (r.0, r.1, omega (arith, r.2), r.3))
     (cases_Bool (d == 2 ^ suc k))
 
-store_from : (m : Store) → is_store m ≡ true → IsStore m
+store_from : (m : MemoryVariable) → is_store m ≡ true → IsStore m
 store_from m h =
     let p = three_parts _ _ _ h in
     let b = power_from 12 m.depth p.1 in

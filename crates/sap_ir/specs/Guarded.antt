@@ -3,7 +3,7 @@ use Rattle.std.specs.Prelude.{ℕ, ◌==◌, ◌&&◌, List, [], ◌∷◌, Opti
 use Rattle.sap_maps.specs.Maps.{Name, Valuation, set_value}
 use Rattle.sap_maps.specs.Term.{Term, term_value}
 use Rattle.sap_ir.specs.declared.guarded.Var.{Var}
-use Rattle.sap_ir.specs.declared.guarded.Store.{Store}
+use Rattle.sap_ir.specs.declared.guarded.MemoryVariable.{MemoryVariable}
 use Rattle.sap_ir.specs.Source.{Action, set, put, Command, Source, width_of}
 
 -- The numbers on the way through a cycle. Memories are read as they were at its start, `now.cell`; writes go to `next`.
@@ -45,11 +45,11 @@ number_at_start s before [] xs n = register_number before s.registers n
 number_at_start s before (i ∷ is) [] n = register_number before s.registers n
 number_at_start s before (i ∷ is) (x ∷ xs) n = if bytes_eq i.name n then x else number_at_start s before is xs n
 
-abbrev pub first_cell : (before : Option Valuation) → Store → ℕ → ℕ
+abbrev pub first_cell : (before : Option Valuation) → MemoryVariable → ℕ → ℕ
 first_cell None m i = m.start
 first_cell (Some v) m i = v.cell m.name i
 
-abbrev pub cell_at_start : (before : Option Valuation) → List Store → Name → ℕ → ℕ
+abbrev pub cell_at_start : (before : Option Valuation) → List MemoryVariable → Name → ℕ → ℕ
 cell_at_start before [] n i = 0
 cell_at_start before (m ∷ ms) n i = if bytes_eq m.name n then first_cell before m i else cell_at_start before ms n i
 

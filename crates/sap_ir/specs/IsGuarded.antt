@@ -10,7 +10,7 @@ use Rattle.sap_maps.specs.Term.{Term, constant, read, cell, one, two, choose, jo
 use Rattle.sap_net.specs.Names.{is_name, is_among, AreDistinct}
 use Rattle.sap_net.specs.Rules.{IsWidth, IsDepth, Shapes}
 use Rattle.sap_ir.specs.declared.guarded.Var.{Var}
-use Rattle.sap_ir.specs.declared.guarded.Store.{Store}
+use Rattle.sap_ir.specs.declared.guarded.MemoryVariable.{MemoryVariable}
 use Rattle.sap_ir.specs.Source.{Action, set, put, Command, Source, readable, shapes}
 
 -- An expression of a width: its names are declared and used as what they are, and the widths of its parts fit.
@@ -42,7 +42,7 @@ CommandFine s c = TermFine (shapes s) (readable s) 1 c.when × ActionFine s c.ac
 abbrev pub variable_names : List Var → List Name
 variable_names xs = map (λ x. x.name) xs
 
-abbrev pub memory_names : List Store → List Name
+abbrev pub memory_names : List MemoryVariable → List Name
 memory_names ms = map (λ m. m.name) ms
 
 -- all names
@@ -62,7 +62,7 @@ abbrev pub IsRegisterVar : Var → Type 0
 IsRegisterVar x = IsWidth x.width × (x.start < 2 ^ x.width)
 
 -- a depth of 2 to 4096, a power of two
-abbrev pub IsStore : Store → Type 0
+abbrev pub IsStore : MemoryVariable → Type 0
 IsStore m = IsWidth m.width × ((b : ℕ) × IsDepth m.depth b) × (m.start < 2 ^ m.width)
 
 pub record IsGuarded (s : Source) : Type 0 where

@@ -7,4 +7,3 @@ pub mod Test
 pub mod Parts
 pub mod Program
 pub mod Plain
-pub use Rattle.sap_maps.specs.Term

@@ -5,7 +5,7 @@ use Rattle.sap_maps.specs.Scope.{Scope, find}
 use Rattle.sap_maps.specs.Term.{Term}
 use Rattle.sap_net.specs.Rules.{Shapes}
 use Rattle.sap_ir.specs.declared.guarded.Var.{Var}
-use Rattle.sap_ir.specs.declared.guarded.Store.{Store}
+use Rattle.sap_ir.specs.declared.guarded.MemoryVariable.{MemoryVariable}
 
 -- an assignment to a register or a wire, or a write of a memory's cell
 pub data Action : Type 0 where
@@ -22,7 +22,7 @@ pub record Source : Type 0 where
   pub inputs : List Var
   pub wires : List Var
   pub registers : List Var
-  pub memories : List Store
+  pub memories : List MemoryVariable
   pub ports : List Name
   pub commands : List Command
 

@@ -10,7 +10,7 @@ use Rattle.sap_maps.specs.Term.{Term, constant, read, cell, one, two, choose, jo
 use Rattle.sap_net.specs.Names.{is_name, is_among}
 use Rattle.sap_net.specs.Rules.{Shapes}
 use Rattle.sap_ir.specs.declared.guarded.Var.{Var}
-use Rattle.sap_ir.specs.declared.guarded.Store.{Store}
+use Rattle.sap_ir.specs.declared.guarded.MemoryVariable.{MemoryVariable}
 use Rattle.sap_ir.specs.Source.{Action, set, put, Command, Source, readable, shapes, width_of}
 use Rattle.sap_ir.specs.IsGuarded.{assignable, variable_names, declared, is_helping}
 
@@ -81,7 +81,7 @@ abbrev pub is_power : (most : ℕ) → ℕ → Bool
 is_power zero d = false
 is_power (suc k) d = d == 2 ^ suc k || is_power k d
 
-abbrev pub is_store : Store → Bool
+abbrev pub is_store : MemoryVariable → Bool
 is_store m = is_width m.width && is_power 12 m.depth && nat_lt m.start (2 ^ m.width)
 
 unfoldable pub is_guarded : Source → Bool

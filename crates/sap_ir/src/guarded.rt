@@ -45,7 +45,7 @@ pub fn variable_names(alloc: Global, variables: &[Var]) -> Result<Vec<Name>, All
 
 /// A memory of `depth` cells, each `start` before the first cycle.
 #[derive(Drop)]
-pub struct Store {
+pub struct MemoryVariable {
     pub name: Name,
     pub width: u32,
     pub depth: u32,
@@ -75,7 +75,7 @@ pub struct GuardedParts {
     pub inputs: Vec<Var>,
     pub wires: Vec<Var>,
     pub registers: Vec<Var>,
-    pub memories: Vec<Store>,
+    pub memories: Vec<MemoryVariable>,
     pub ports: Vec<Name>,
     pub cmds: Vec<GuardedCmd>,
 }

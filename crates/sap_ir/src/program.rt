@@ -4,7 +4,7 @@ ghost use Rattle.std.specs.Prelude.{IsTrue};
 ghost use Rattle.sap_ir.specs.Parts.{parts_source};
 ghost use Rattle.sap_ir.specs.Test.{is_guarded};
 
-use crate::guarded::{GuardedCmd, GuardedParts, Store, Var};
+use crate::guarded::{GuardedCmd, GuardedParts, MemoryVariable, Var};
 use sap_net::parts::Name;
 
 /// Assignments and writes, each under a condition, that are done in order in each cycle. Names are declared once and used as
@@ -52,7 +52,7 @@ impl Guarded {
         self.parts.registers.as_slice()
     }
 
-    pub fn memories(&self) -> &[Store]
+    pub fn memories(&self) -> &[MemoryVariable]
         ensures { result.now ≡ (source_of self.now).memories }
     {
         self.parts.memories.as_slice()

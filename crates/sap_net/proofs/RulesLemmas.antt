@@ -1,10 +1,15 @@
 -- On what stands in Rules: what several crates cite.
-use Rattle.std.proofs.Common.{List, Some, [], arith, map, refl, ℕ, ◌++◌, ◌∷◌, ◌≡◌}
+use Rattle.std.proofs.Common.{List, None, Some, [], arith, inl, inr, map, refl, subst, sym, true, ℕ, ◌++◌, ◌∷◌, ◌≡◌}
+use Rattle.std.specs.Str.{bytes_eq}
+use Rattle.std.proofs.lemmas.Bool.{cases_Bool}
 use Rattle.std.specs.List.{AllByRecursion}
 use Rattle.sap_lemmas.proofs.Everywhere.{all_follow}
-use Rattle.sap_maps.proofs.Scopes.{found_behind, found_here}
+use Rattle.sap_lemmas.proofs.Texts.{equal_of_bytes_eq}
+use Rattle.sap_maps.proofs.Scopes.{found_behind, found_here, not_behind}
 use Rattle.sap_maps.specs.Maps.{Name}
 use Rattle.sap_maps.specs.Scope.{Scope, find}
+use Rattle.sap_net.specs.IsNetlist.{names_of}
+use Rattle.sap_net.specs.Names.{AreDistinct, is_among}
 use Rattle.sap_net.specs.Rules.{AreValues, AreWires, IsWidth, Shapes, readable_after, IsOperand}
 use Rattle.sap_net.specs.declared.parts.Input.{Input}
 use Rattle.sap_net.specs.declared.parts.Operand.{Operand}
@@ -44,3 +49,27 @@ Grows sc sd = (n : Name) (u : ℕ) → find sc n ≡ Some u → find sd n ≡ So
 pub operand_grows : (sc sd : Scope) → Grows sc sd → (u : ℕ) (o : Operand) → IsOperand sc u o → IsOperand sd u o
 operand_grows sc sd g u (Named n) h = g n u h
 operand_grows sc sd g u (Constant w x) h = h
+
+-- names of wires are new, and each is declared once
+
+pub wires_new : (ms : Shapes) (ws : List Wire) (sc : Scope) → AreWires ms sc ws → (n : Name) → is_among n (names_of ws) ≡ true → (find sc n ≡ None) × (find ms n ≡ None)
+wires_new ms [] sc a n h = absurd (cc)
+wires_new ms (w ∷ ws) sc a n h =
+    elim (cases_Bool (bytes_eq n w.name)) [
+      | inl t ↦
+          let e : w.name ≡ n = sym (equal_of_bytes_eq n w.name t) in
+          (subst (λ (y : Name). find sc y ≡ None) e a.1, subst (λ (y : Name). find ms y ≡ None) e a.2)
+      | inr f ↦
+          let r = wires_new ms ws ((w.name, w.width) ∷ sc) a.4 n (rw f at h) in
+          (not_behind (w.name, w.width) sc n r.0, r.1)
+    ]
+
+pub wires_distinct : (ms : Shapes) (ws : List Wire) (sc : Scope) → AreWires ms sc ws → AreDistinct (names_of ws)
+wires_distinct ms [] sc a = tt
+wires_distinct ms (w ∷ ws) sc a = (
+  elim (cases_Bool (is_among w.name (names_of ws))) [
+    | inl t ↦ absurd (let e = wires_new ms ws ((w.name, w.width) ∷ sc) a.4 w.name t in let g : find ((w.name, w.width) ∷ sc) w.name ≡ Some w.width = found_here w.name w.width sc in let q = e.0 in cc)
+    | inr f ↦ f
+  ],
+  wires_distinct ms ws ((w.name, w.width) ∷ sc) a.4,
+)

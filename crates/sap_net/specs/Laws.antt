@@ -44,9 +44,3 @@ SomeCycle n =
 abbrev pub OneCycle : Net → Type 0
 OneCycle n =
     (p q : Option Valuation) (xs : List ℕ) (v w : Valuation) → SameBefore n p q → IsCycle n p xs v → IsCycle n q xs w → AreSame n v w
-
--- The equations keep every number within its width.
-abbrev pub EquationsKeepWidths : Net → Type 0
-EquationsKeepWidths n =
-    (before : Option Valuation) (xs : List ℕ) (v : Valuation) → WithinBefore n before → InputsFit n.inputs xs → Begins n before v
-    → InputsAre v n.inputs xs → Holds (width_of n) v n.wires → IsWithin n v

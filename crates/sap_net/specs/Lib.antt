@@ -1,9 +1,11 @@
 pub mod Names
+pub mod PortNames
 pub mod NameMaps
 pub mod Net
 pub mod Values
 pub mod Rules
 pub mod IsNetlist
 pub mod Runs
+pub mod Shown
 pub mod Laws
 pub mod Summing

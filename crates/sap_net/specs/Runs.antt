@@ -1,5 +1,5 @@
 -- Valuations and runs.
-use Rattle.std.specs.Prelude.{◌≡◌, ℕ, ◌^◌, ◌<◌, ◌==◌, ◌&&◌, List, [], ◌∷◌, Option, Some, None, if◌then◌else◌, map}
+use Rattle.std.specs.Prelude.{◌≡◌, ℕ, ◌^◌, ◌<◌, ◌==◌, ◌&&◌, List, [], ◌∷◌, Option, Some, None, if◌then◌else◌, map, unwrap_or}
 use Rattle.std.specs.List.{AllByRecursion, AllZip}
 use Rattle.sap_maps.specs.Maps.{Name, Valuation}
 use Rattle.sap_maps.specs.Scope.{find}
@@ -33,6 +33,10 @@ Begins n None v =
 Begins n (Some p) v =
     AllByRecursion (λ r. v.value r.name ≡ operand_value p r.next) n.registers
     × AllByRecursion (λ m. (i : ℕ) → v.cell m.name i ≡ written p m i) n.memories
+
+-- the number of a register before the first cycle
+abbrev pub initial_number : Net → Name → ℕ
+initial_number n x = unwrap_or (find (map (λ r. (r.name, r.start)) n.registers) x) 0
 
 -- one number for each input, within its width
 abbrev pub InputsFit : List Input → List ℕ → Type 0

@@ -1,6 +1,6 @@
 //! What holds of every netlist.
 
-ghost use Rattle.sap_net.specs.Laws.{SomeRun, OneRun, SomeCycle, OneCycle, EquationsKeepWidths};
+ghost use Rattle.sap_net.specs.Laws.{SomeRun, OneRun, SomeCycle, OneCycle};
 
 use crate::netlist::Netlist;
 
@@ -16,13 +16,6 @@ pub fn one_run(netlist: &Netlist)
 pub fn one_cycle(netlist: &Netlist)
     ensures some { SomeCycle netlist.now }
     ensures one { OneCycle netlist.now }
-{
-    netlist.rules();
-}
-
-/// What satisfies the equations of a cycle is within the widths, where the inputs and the cycle before are.
-pub fn equations_keep_widths(netlist: &Netlist)
-    ensures { EquationsKeepWidths netlist.now }
 {
     netlist.rules();
 }

@@ -4,7 +4,7 @@ use Rattle.std.proofs.lemmas.Bool.{cases_Bool, and_parts, or_right}
 use Rattle.std.proofs.lemmas.Grind.{common_steps}
 use Rattle.std.proofs.Math.Pow.{pow_pos}
 use Rattle.sap_lemmas.proofs.Bools.{true_is_not_false}
-use Rattle.sap_resolve.proofs.SizedLemmas.{ranged_width}
+use Rattle.sap_resolved.proofs.SizedLemmas.{ranged_width}
 use Rattle.sap_meaning.proofs.ProgramLemmas.{memory_no_input, register_no_input, state_no_input}
 use Rattle.sap_maps.specs.Maps.{Name}
 use Rattle.sap_maps.specs.Scope.{find}
@@ -14,13 +14,13 @@ use Rattle.sap_tree.specs.Limits.{most_arms}
 use Rattle.sap_meaning.specs.Program.{World, Kind, entity, root, is_dynamic, is_input, is_register, is_state, width, children, listed, Step, assign, write, retag, retag_cell, go_to, fall_to_child, Command, lone, try, if_else, try_then, case_of, Arms, last_arm, and_arm, Block, end_block, command_then, Group, kind_is_input, kind_is_register, kind_is_state}
 use Rattle.sap_meaning.specs.Program as program
 use Rattle.sap_meaning.specs.Expressions.{width_of}
-use Rattle.sap_meaning.specs.Checks.{Spot, site_of}
+use Rattle.sap_meaning.specs.Checks.{Home, site_of}
 use Rattle.sap_meaning.specs.Touches.{among}
 use Rattle.sap_meaning.specs.Runs.{listed_alone}
 use Rattle.sap_meaning.specs.Sites as sites
 use Rattle.sap_meaning.specs.Fine.{FineStep, FineCommand, FineArms, FineBlock, size}
 use Rattle.sap_meaning.specs.Sized.{SizedStep, AreWithin, Sized, SizedArms, SizedBlock, depth}
-use Rattle.sap_resolve.specs.Sized.Ranges.{IsWidth, RangedStep, Ranged, RangedArms, RangedBlock}
+use Rattle.sap_resolved.specs.Sized.Ranges.{IsWidth, RangedStep, Ranged, RangedArms, RangedBlock}
 use Rattle.sap_net.specs.Names.{is_among}
 use Rattle.sap_ir.specs.Source.{Source, readable, shapes}
 use Rattle.sap_ir.specs.IsGuarded.{assignable}
@@ -82,27 +82,27 @@ abbrev pub Hangs : World → (ℕ → Bool) → Type 0
 Hangs w h = (x : ℕ) → h x ≡ true → has_tag w x ≡ true × (is_input w x ≡ false)
 
 abbrev mutual
-  pub CommandHangs : World → Spot → Command → Type 0
+  pub CommandHangs : World → Home → Command → Type 0
   CommandHangs w sp (lone t) = Hangs w (listed_alone w sp t)
   CommandHangs w sp (try t hang h) = Hangs w (listed hang) × BlockHangs w sp h
   CommandHangs w sp (if_else hang e a b) = Hangs w (listed hang) × BlockHangs w sp a × BlockHangs w sp b
   CommandHangs w sp (try_then t hang a b) = Hangs w (listed hang) × BlockHangs w sp a × BlockHangs w sp b
   CommandHangs w sp (case_of hang e arms) = Hangs w (listed hang) × ArmsHang w sp arms
 
-  pub ArmsHang : World → Spot → Arms → Type 0
+  pub ArmsHang : World → Home → Arms → Type 0
   ArmsHang w sp (last_arm b) = BlockHangs w sp b
   ArmsHang w sp (and_arm constants b arms) = BlockHangs w sp b × ArmsHang w sp arms
 
-  pub BlockHangs : World → Spot → Block → Type 0
+  pub BlockHangs : World → Home → Block → Type 0
   BlockHangs w sp end_block = Unit {0}
   BlockHangs w sp (command_then c cs) = CommandHangs w sp c × BlockHangs w sp cs
 
-pub among_left : (xs ys : List ℕ) (k : ℕ) → Among xs k → Among (xs ++ ys) k
+pub among_left : (xs ys : List sites.PlacedStep) (k : ℕ) → Among (sites.site_numbers xs) k → Among (sites.site_numbers (xs ++ ys)) k
 among_left [] ys k h = absurd h
 among_left (x ∷ xs) ys k (inl e) = inl e
 among_left (x ∷ xs) ys k (inr h) = inr (among_left xs ys k h)
 
-pub among_right : (xs ys : List ℕ) (k : ℕ) → Among ys k → Among (xs ++ ys) k
+pub among_right : (xs ys : List sites.PlacedStep) (k : ℕ) → Among (sites.site_numbers ys) k → Among (sites.site_numbers (xs ++ ys)) k
 among_right [] ys k h = h
 among_right (x ∷ xs) ys k h = inr (among_right xs ys k h)
 
@@ -116,7 +116,7 @@ all_or_some w (program.and_node (program.state_node c b k) g) h = by (is_dynamic
     by true e h f = f h
     by false e h f = refl
 
-site_step : (w : World) (sp : Spot) (t : Step) → always w sp t ≡ false → sites.is_site w sp.state sp.children t ≡ true
+site_step : (w : World) (sp : Home) (t : Step) → always w sp t ≡ false → sites.is_site w sp.state sp.children t ≡ true
 site_step w sp (assign site x e) h = rw h refl
 site_step w sp (write site m i e) h = rw h refl
 site_step w sp (retag site x n) h = refl
@@ -130,7 +130,7 @@ site_step w sp (go_to site target) h = by (is_dynamic w target) (is_dynamic w sp
     by false false h = refl
 site_step w sp (fall_to_child site hang) h = all_or_some w sp.children h
 
-site_listed : (w : World) (sp : Spot) (t : Step) → always w sp t ≡ false → Among (sites.step_sites w sp.state sp.children t) (site_of t)
+site_listed : (w : World) (sp : Home) (t : Step) → always w sp t ≡ false → Among (sites.site_numbers (sites.step_sites w sp.state sp.children t)) (site_of t)
 site_listed w sp t h = rw (site_step w sp t h) (inl refl)
 
 -- kinds
@@ -183,7 +183,7 @@ module _ (d : Setting) (s : Source) (h : Declares d s) (fixed group : List Name)
   follow_fine (goto x rest) b f g = (f.0, follow_fine rest b f.1 g)
   follow_fine (fall rest) b f g = (f.0, follow_fine rest b f.1 g)
 
-  module _ (q : Group) (sp : Spot) (placed : Placed d.world q sp) (named : (t : ℕ) → among q t ≡ true → is_among (d.state_name t) group ≡ true)
+  module _ (q : Group) (sp : Home) (placed : Placed d.world q sp) (named : (t : ℕ) → among q t ≡ true → is_among (d.state_name t) group ≡ true)
       (kids : 0 < size sp.children → nested ≡ true) where
     looks_fine : (p k : ℕ) (t : Step) (rest : Body) → IsWire d s p d.tag → StepWires d s k → FineStep d.world q sp.children t → SizedStep d.world t → RangedStep d.world t → StepConditions d.world t
         → Good rest → Good (looks d sp p k t rest)
@@ -268,8 +268,8 @@ module _ (d : Setting) (s : Source) (h : Declares d s) (fixed group : List Name)
         (w.inners sp.state (tagged_within d.world sp.state (placed.siblings sp.state placed.here).0) (rw placed.seated f)) ws.2.0 (λ e. omega arith) (kids f, tt)
 
     -- the wires of the sites that are listed
-    abbrev pub AllSites : List ℕ → Type 0
-    AllSites ks = (k : ℕ) → Among ks k → SiteWires d s k
+    abbrev pub AllSites : List sites.PlacedStep → Type 0
+    AllSites ks = (k : ℕ) → Among (sites.site_numbers ks) k → SiteWires d s k
 
     refusal_fine : (k : ℕ) (t : Step) (handler : Body) → StepWires d s k → SiteWires d s (site_of t) → Good handler → Good (refusal d k t handler)
     refusal_fine k t handler ws site g =
@@ -376,7 +376,7 @@ module _ (d : Setting) (s : Source) (h : Declares d s) (fixed group : List Name)
     mutual
       unfolding command_plain arms_plain block_plain
 
-      command_fine : (p k : ℕ) (c : Command) → IsWire d s p d.tag → CommandWires d s k c → CommandHangs d.world sp c → AllSites (sites.sites d.world sp.state sp.children c)
+      command_fine : (p k : ℕ) (c : Command) → IsWire d s p d.tag → CommandWires d s k c → CommandHangs d.world sp c → AllSites (sites.command_sites d.world sp.state sp.children c)
           → FineCommand d.world q sp.children c → Sized d.world c → Ranged d.world c → CommandConditions d.world c → Few c → Good (command_plain d sp p k c)
       command_fine p k (lone t) pc ws hs site f z r c few = attempt_fine p k t (listed_alone d.world sp t) stop pc ws hs site f z r c tt
       command_fine p k (try t hang b) pc ws hs site f z r c few =
@@ -417,5 +417,5 @@ module _ (d : Setting) (s : Source) (h : Declares d s) (fixed group : List Name)
       block_fine p k end_block pc ws hs site f z r c few = tt
       block_fine p k (command_then a b) pc ws hs site f z r c few =
           follow_fine (command_plain d sp p k a) (block_plain d sp p (k + wires a) b)
-          (command_fine p k a pc ws.0 hs.0 (λ n i. site n (among_left (sites.sites d.world sp.state sp.children a) (sites.block_sites d.world sp.state sp.children b) n i)) f.0 z.0 r.0 c.0 few.0)
-          (block_fine p (k + wires a) b pc ws.1 hs.1 (λ n i. site n (among_right (sites.sites d.world sp.state sp.children a) (sites.block_sites d.world sp.state sp.children b) n i)) f.1 z.1 r.1 c.1 few.1)
+          (command_fine p k a pc ws.0 hs.0 (λ n i. site n (among_left (sites.command_sites d.world sp.state sp.children a) (sites.block_sites d.world sp.state sp.children b) n i)) f.0 z.0 r.0 c.0 few.0)
+          (block_fine p (k + wires a) b pc ws.1 hs.1 (λ n i. site n (among_right (sites.command_sites d.world sp.state sp.children a) (sites.block_sites d.world sp.state sp.children b) n i)) f.1 z.1 r.1 c.1 few.1)

@@ -7,7 +7,7 @@ use Rattle.sap_maps.specs.Term.{Term}
 use Rattle.sap_meaning.specs.Program.{is_dynamic, is_memory, LevelTerm, write, retag_cell, Group}
 use Rattle.sap_meaning.specs.Store.{Slot, own, start, next, start_whole, next_whole, Store, number, level, home, same_slot, put_number, put_level, raise, After}
 use Rattle.sap_meaning.specs.Expressions.{value, tag, new_level}
-use Rattle.sap_meaning.specs.Checks.{Spot}
+use Rattle.sap_meaning.specs.Checks.{Home}
 use Rattle.sap_meaning.specs.Does.{effect}
 use Rattle.sap_meaning.specs.Fine.{FineStep}
 use Rattle.sap_ir.specs.Guarded.{Going, value_in, set_cell}
@@ -108,7 +108,7 @@ module _ (d : Setting) (widths : Name → ℕ) (laws : Lawful d widths) where
   unfolding put_level put_number
   swapped m n v t s f = refl
 
-  pub write_effect : (f : Going → Going) (go : Name → Going → Going) (enter : ℕ → ℕ → Store → After) (q : Group) (k free : ℕ) (sp : Spot) (site m : ℕ) (i e : Term ℕ) (l : ℕ) (b r : Store) (g : Going)
+  pub write_effect : (f : Going → Going) (go : Name → Going → Going) (enter : ℕ → ℕ → Store → After) (q : Group) (k free : ℕ) (sp : Home) (site m : ℕ) (i e : Term ℕ) (l : ℕ) (b r : Store) (g : Going)
       → FineStep d.world q sp.children (write site m i e) → Begins d k sp (write site m i e) l b r g
       → Turns d free g (body_does widths f go (effect_of d sp k (write site m i e)) g) (effect d.world sp enter (write site m i e) l b r)
   unfolding effect put_to put_number
@@ -144,7 +144,7 @@ module _ (d : Setting) (widths : Name → ℕ) (laws : Lawful d widths) where
           ∙ ap (λ (x : ℕ). d.code (d.world.order.join (r.level (tag_slot d.world x)) (d.world.order.join l (d.world.order.join (tag d.world i b) (tag d.world e b))))) (sym (eqb-true y m p))
       level_at y false p z ez = refl
 
-  pub retag_cell_effect : (f : Going → Going) (go : Name → Going → Going) (enter : ℕ → ℕ → Store → After) (q : Group) (k free : ℕ) (sp : Spot) (site m : ℕ) (j : Term ℕ) (n : LevelTerm) (l : ℕ) (b r : Store) (g : Going)
+  pub retag_cell_effect : (f : Going → Going) (go : Name → Going → Going) (enter : ℕ → ℕ → Store → After) (q : Group) (k free : ℕ) (sp : Home) (site m : ℕ) (j : Term ℕ) (n : LevelTerm) (l : ℕ) (b r : Store) (g : Going)
       → FineStep d.world q sp.children (retag_cell site m j n) → Begins d k sp (retag_cell site m j n) l b r g
       → Turns d free g (body_does widths f go (effect_of d sp k (retag_cell site m j n)) g) (effect d.world sp enter (retag_cell site m j n) l b r)
   unfolding effect

@@ -7,7 +7,7 @@ use Rattle.sap_maps.specs.Maps.{Name}
 use Rattle.sap_maps.specs.Term.{Term, part}
 use Rattle.sap_meaning.specs.Program.{root, is_dynamic, is_register, listed, Step, assign, write, retag, retag_cell, go_to, fall_to_child, Command, lone, try, if_else, try_then, case_of, Arms, last_arm, and_arm, Block, end_block, command_then}
 use Rattle.sap_meaning.specs.Expressions.{width_of}
-use Rattle.sap_meaning.specs.Checks.{Spot}
+use Rattle.sap_meaning.specs.Checks.{Home}
 use Rattle.sap_meaning.specs.Runs.{listed_alone}
 use Rattle.sap_meaning.specs.Fine as fine
 use Rattle.sap_meaning.specs.Fine.{Open, OpenArms, OpenBlock, Closes, Final, ClosingArms}
@@ -65,7 +65,7 @@ choice_stays : (t : Term Name) (x y : Body) → Stays x → Stays y → Stays (c
 choice_stays t x y e f = record { ends = choice_ends t x y e.ends f.ends; goes = rw (e.goes, f.goes) refl }
 
 module _ (d : Setting) where
-  effect_ends : (sp : Spot) (k : ℕ) (t : Step) → Ends (effect_of d sp k t)
+  effect_ends : (sp : Home) (k : ℕ) (t : Step) → Ends (effect_of d sp k t)
   effect_ends sp k (assign site x e) = elim (cases_Bool (is_dynamic d.world x)) [ inl i ↦ rw i refl | inr i ↦ rw i refl ]
   effect_ends sp k (write site m i e) = elim (cases_Bool (is_dynamic d.world m)) [ inl i ↦ rw i refl | inr i ↦ rw i refl ]
   effect_ends sp k (retag site x n) = elim (cases_Bool (is_register d.world x)) [ inl i ↦ rw i refl | inr i ↦ rw i refl ]
@@ -76,7 +76,7 @@ module _ (d : Setting) where
       (elim (cases_Bool (is_dynamic d.world target)) [ inl i ↦ rw i refl | inr i ↦ rw i refl ])
   effect_ends sp k (fall_to_child site hang) = refl
 
-  effect_goes : (sp : Spot) (k : ℕ) (t : Step) → fine.transfers t ≡ false → transfers (effect_of d sp k t) ≡ false
+  effect_goes : (sp : Home) (k : ℕ) (t : Step) → fine.transfers t ≡ false → transfers (effect_of d sp k t) ≡ false
   effect_goes sp k (assign site x e) f = elim (cases_Bool (is_dynamic d.world x)) [ inl i ↦ rw i refl | inr i ↦ rw i refl ]
   effect_goes sp k (write site m i e) f = elim (cases_Bool (is_dynamic d.world m)) [ inl i ↦ rw i refl | inr i ↦ rw i refl ]
   effect_goes sp k (retag site x n) f = elim (cases_Bool (is_register d.world x)) [ inl i ↦ rw i refl | inr i ↦ rw i refl ]
@@ -84,7 +84,7 @@ module _ (d : Setting) where
   effect_goes sp k (go_to site target) f = absurd (true_is_not_false f)
   effect_goes sp k (fall_to_child site hang) f = absurd (true_is_not_false f)
 
-  module _ (sp : Spot) where
+  module _ (sp : Home) where
     attempt_ends : (p k : ℕ) (t : Step) (hangs : ℕ → Bool) (h : Body) → Ends h → Ends (attempt_of d sp p k t hangs h)
     unfolding attempt_of
     attempt_ends p k t hangs h e =

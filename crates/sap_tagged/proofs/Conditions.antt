@@ -17,18 +17,18 @@ use Rattle.sap_names.specs.Widths.{own, own_parts, register_width, cell_width, i
 use Rattle.sap_maps.specs.Term.{Term, constant, read, cell, one, two, choose, join, part}
 use Rattle.sap_meaning.specs.Program as program
 use Rattle.sap_meaning.specs.Program.{World, LevelTerm, fixed, of, at_place, both, Step, assign, write, retag, retag_cell, go_to, fall_to_child, Block, end_block, command_then, State, state_node, Group, no_node, and_node}
-use Rattle.sap_meaning.specs.Checks.{Spot}
+use Rattle.sap_meaning.specs.Checks.{Home}
 use Rattle.sap_meaning.specs.Expressions as meaning
 use Rattle.sap_lattice.specs.Levels.{Levels}
-use Rattle.sap_resolve.specs.Terms.{known, term_of, parts_of, widened, level_term, level_terms}
-use Rattle.sap_resolve.specs.Worlds.{states_in}
+use Rattle.sap_resolved.specs.Terms.{known, term_of, parts_of, widened, level_term, level_terms}
+use Rattle.sap_resolved.specs.Worlds.{states_in}
 use Rattle.sap_shape.specs.Sites.{Surroundings, simple_sites, command_sites, block_sites, state_sites}
-use Rattle.sap_resolve.specs.Resolve.{site_number, step_of, command_of, arms_of, block_of, else_of, list_of, state_of, group_of}
-use Rattle.sap_resolve.specs.Fill.{filled_step, filled, filled_arms, filled_block, filled_state, filled_group}
-use Rattle.sap_resolve.proofs.sized.Faultless.{none_two, none_three, none_four}
-use Rattle.sap_resolve.proofs.sized.Declared.{Resolved}
-use Rattle.sap_resolve.proofs.sized.Operators.{asked_width}
-use Rattle.sap_resolve.proofs.sized.Expressions.{expression_fitted}
+use Rattle.sap_resolved.specs.Resolve.{site_number, step_of, command_of, arms_of, block_of, else_of, list_of, state_of, group_of}
+use Rattle.sap_resolved.specs.Fill.{filled_step, filled, filled_arms, filled_block, filled_state, filled_group}
+use Rattle.sap_resolved.proofs.sized.Faultless.{none_two, none_three, none_four}
+use Rattle.sap_resolved.proofs.sized.Declared.{Resolved}
+use Rattle.sap_resolved.proofs.sized.Operators.{asked_width}
+use Rattle.sap_resolved.proofs.sized.Expressions.{expression_fitted}
 
 -- the condition of each choice has one bit
 
@@ -220,7 +220,7 @@ module _ (ls : Levels) (le : ℕ → ℕ → Bool) (es : List Entity) (w : World
 
 -- filling in what hangs changes none
 module _ (w : World) where
-  filled_step_conditions : (at : Spot) (k : Step) → StepConditions w k → StepConditions w (filled_step w at k)
+  filled_step_conditions : (at : Home) (k : Step) → StepConditions w k → StepConditions w (filled_step w at k)
   filled_step_conditions at (assign site x e) h = h
   filled_step_conditions at (write site m i e) h = h
   filled_step_conditions at (retag site x n) h = h
@@ -229,18 +229,18 @@ module _ (w : World) where
   filled_step_conditions at (fall_to_child site hang) h = h
 
   mutual
-    filled_conditions : (at : Spot) (c : program.Command) → CommandConditions w c → CommandConditions w (filled w at c)
+    filled_conditions : (at : Home) (c : program.Command) → CommandConditions w c → CommandConditions w (filled w at c)
     filled_conditions at (program.lone k) h = filled_step_conditions at k h
     filled_conditions at (program.try k hang b) h = (filled_step_conditions at k h.0, filled_block_conditions at b h.1)
     filled_conditions at (program.if_else hang e a b) h = (h.0, filled_block_conditions at a h.1, filled_block_conditions at b h.2)
     filled_conditions at (program.try_then k hang a b) h = (filled_step_conditions at k h.0, filled_block_conditions at a h.1, filled_block_conditions at b h.2)
     filled_conditions at (program.case_of hang e arms) h = (h.0, filled_arms_conditions at arms h.1)
 
-    filled_arms_conditions : (at : Spot) (arms : program.Arms) → ArmsConditions w arms → ArmsConditions w (filled_arms w at arms)
+    filled_arms_conditions : (at : Home) (arms : program.Arms) → ArmsConditions w arms → ArmsConditions w (filled_arms w at arms)
     filled_arms_conditions at (program.last_arm b) h = filled_block_conditions at b h
     filled_arms_conditions at (program.and_arm constants b arms) h = (filled_block_conditions at b h.0, filled_arms_conditions at arms h.1)
 
-    filled_block_conditions : (at : Spot) (b : Block) → BlockConditions w b → BlockConditions w (filled_block w at b)
+    filled_block_conditions : (at : Home) (b : Block) → BlockConditions w b → BlockConditions w (filled_block w at b)
     filled_block_conditions at end_block h = h
     filled_block_conditions at (command_then c cs) h = (filled_conditions at c h.0, filled_block_conditions at cs h.1)
 

@@ -16,34 +16,34 @@ use Rattle.sap_meaning.specs.Runs.{run_state}
 use Rattle.sap_meaning.specs.Cycle.{Tagged, given, set_inputs, root_fall, cycle, cycle_listed, run_from}
 use Rattle.sap_meaning.specs.State.{first, InputsFit, StreamFits}
 use Rattle.sap_meaning.specs.Sites.{refused_sites, RisesFrom, program_sites}
+use Rattle.sap_meaning.proofs.SitesLemmas.{numbers_rise}
 use Rattle.sap_meaning.specs.Laws.{ListsServe, SitesInOrder}
 use Rattle.sap_net.specs.Names.{is_among, AreDistinct}
 use Rattle.sap_ir.specs.declared.guarded.Var.{Var}
-use Rattle.sap_ir.specs.declared.guarded.Store as stores
+use Rattle.sap_ir.specs.declared.guarded.MemoryVariable as stores
 use Rattle.sap_ir.specs.Source.{Source, readable, width_of}
 use Rattle.sap_ir.specs.IsGuarded.{variable_names, memory_names}
 use Rattle.sap_ir.specs.Guarded.{Going, first_number, first_cell, number_at_start, begun}
 use Rattle.sap_ir.proofs.Declared.{distinct_front, distinct_behind, apart_lists, not_readable, readable_width}
 use Rattle.sap_ir.specs.Plain.Nested.{Nested, Forest, declarations}
-use Rattle.sap_ir.specs.Plain.Nested as nested
 use Rattle.sap_ir.specs.Plain.Does.{child_does, enter, falls_of, run_after}
 use Rattle.sap_ir.specs.Plain.Does as plain
-use Rattle.sap_interface.specs.PortNames as ports
-use Rattle.sap_interface.specs.StandsFor.{Named, name, world, depth, StandsFor, IsRefusedAt}
+use Rattle.sap_net.specs.PortNames as ports
+use Rattle.sap_interface.specs.StandsFor.{Named, name, world, depth, StandsFor}
 use Rattle.sap_interface.specs.Compiled.{coded, coded_stream, CyclesStand}
 use Rattle.sap_tagged.specs.Keys.{value_key, tag_key, seat_key, refused_key, level_key, key_name, numeral}
 use Rattle.sap_tagged.specs.Setting.{Setting, setting_of}
 use Rattle.sap_tagged.specs.States.{top_plain}
 use Rattle.sap_tagged.specs.Plain.{variable, level_at_start, value_var, tag_var, seat_var, all_entities, shown_registers, has_own_tag, tag_registers, seat_registers, site_wires, memory_of, tags_of, plain_of}
 use Rattle.sap_tagged.specs.Stands.{Lawful, at, has_tag, tag_slot, refused_after}
-use Rattle.sap_tagged.specs.Law.{AreSites, RefusalsAreSites, AllNumbersFit, RunStands}
+use Rattle.sap_tagged.specs.Law.{AllNumbersFit, RunStands}
 use Rattle.sap_tagged.proofs.Bools.{value_within, register_within, memory_within, tagged_within}
 use Rattle.sap_tagged.proofs.KeyNames.{names_apart}
 use Rattle.sap_tagged.proofs.Members.{In, among_in, find_in, number_in, number_out, start_out, in_front, in_behind, in_entities, reached, among_store, cell_in, find_store}
 use Rattle.sap_tagged.proofs.Inputs.{From, GivenAt, given_at, numbers_fit}
 use Rattle.sap_tagged.proofs.Groups.{LawfulStates, goes_run}
 use Rattle.sap_tagged.proofs.Falls.{Loose, Cycles, shaped_top, top_runs}
-use Rattle.sap_tagged.proofs.Ends.{refusals_told, levels_told, sites_told, count_rises}
+use Rattle.sap_tagged.proofs.Ends.{refusals_told, levels_told}
 use Rattle.sap_tagged.proofs.Premises.{Design}
 use Rattle.sap_tagged.proofs.Numerals.{numeral_decimal}
 
@@ -58,16 +58,16 @@ module _ (d : Named) where
   pub tag_known : (x : ℕ) → nat_lt x (root (world d)) ≡ true → key_name d (tag_key x) ≡ ports.tag_name (name d x)
   tag_known x h = rw h refl
 
-  pub seat_known : (x : ℕ) → nat_lt x (root (world d)) ≡ true → key_name d (seat_key x) ≡ nested.seat_name (name d x)
+  pub seat_known : (x : ℕ) → nat_lt x (root (world d)) ≡ true → key_name d (seat_key x) ≡ ports.seat_name (name d x)
   seat_known x h = rw (lt_not x (root (world d)) h, h) refl
 
-  pub root_known : key_name d (seat_key (root (world d))) ≡ nested.root_seat
+  pub root_known : key_name d (seat_key (root (world d))) ≡ ports.root_seat
   root_known = rw (eq-eqb (root (world d)) (root (world d)) refl) refl
 
   pub refused_known : (k : ℕ) → k < 2 ^ 64 → key_name d (refused_key k) ≡ ports.refused_name k
   refused_known k h = ap (λ (n : Name). codes "c_" ++ n) (numeral_decimal k h)
 
-  pub level_known : (k : ℕ) → k < 2 ^ 64 → key_name d (level_key k) ≡ ports.level_name k
+  pub level_known : (k : ℕ) → k < 2 ^ 64 → key_name d (level_key k) ≡ ports.refused_level_name k
   level_known k h = ap (λ (n : Name). codes "l_" ++ n) (numeral_decimal k h)
 
 -- the wires of a site
@@ -145,7 +145,7 @@ module _ (d : Named) (tag sites : ℕ) (design : Design d tag sites) where
   pub in_memory : (m : ℕ) → is_memory w m ≡ true → In src.memories (memory_of d m)
   in_memory m h = in_all (is_memory w) (λ m. memory_of d m ∷ tags_of d tag m) (memory_of d m) m (memory_within w m h) h (inl refl)
 
-  abbrev tags_store : ℕ → stores.Store
+  abbrev tags_store : ℕ → stores.MemoryVariable
   tags_store m = record { name = key_name d (tag_key m); width = tag; depth = depth d m; start = level_at_start d m }
 
   pub in_tags : (m : ℕ) → is_memory w m ≡ true → is_dynamic w m ≡ false → In src.memories (tags_store m)
@@ -171,14 +171,20 @@ module _ (d : Named) (tag sites : ℕ) (design : Design d tag sites) where
   pub behind_inputs : AreDistinct (register_names ++ (wire_names ++ store_names))
   behind_inputs = distinct_behind input_names (register_names ++ (wire_names ++ store_names)) design.distinct
 
-  registers_once : AreDistinct register_names
+  pub registers_once : AreDistinct register_names
   registers_once = distinct_front register_names (wire_names ++ store_names) behind_inputs
 
-  inputs_once : AreDistinct input_names
+  pub inputs_once : AreDistinct input_names
   inputs_once = distinct_front input_names (register_names ++ (wire_names ++ store_names)) design.distinct
 
-  stores_once : AreDistinct store_names
-  stores_once = distinct_behind wire_names store_names (distinct_behind register_names (wire_names ++ store_names) behind_inputs)
+  behind_registers : AreDistinct (wire_names ++ store_names)
+  behind_registers = distinct_behind register_names (wire_names ++ store_names) behind_inputs
+
+  pub wires_once : AreDistinct wire_names
+  wires_once = distinct_front wire_names store_names behind_registers
+
+  pub stores_once : AreDistinct store_names
+  stores_once = distinct_behind wire_names store_names behind_registers
 
   -- widths
 
@@ -211,9 +217,9 @@ module _ (d : Named) (tag sites : ℕ) (design : Design d tag sites) where
   memory_width : (m : ℕ) → is_memory w m ≡ true → widths (key_name d (value_key m)) ≡ width w m
   memory_width m h =
       ap (λ (o : Option ℕ). unwrap_or o 0)
-      (found_second (readable src) (map (λ (s : stores.Store). (s.name, s.width)) src.memories) (key_name d (value_key m))
+      (found_second (readable src) (map (λ (s : stores.MemoryVariable). (s.name, s.width)) src.memories) (key_name d (value_key m))
       (not_readable src design.distinct (key_name d (value_key m)) (among_store src.memories (memory_of d m) (in_memory m h)))
-      ∙ find_store src.memories (memory_of d m) stores_once (in_memory m h))
+      ∙ find_store (λ (z : stores.MemoryVariable). z.width) src.memories (memory_of d m) stores_once (in_memory m h))
 
   pub lawful : Lawful set widths
   lawful = record {
@@ -230,7 +236,7 @@ module _ (d : Named) (tag sites : ℕ) (design : Design d tag sites) where
   pub lawful_states : LawfulStates set
   lawful_states = record {
     apart = λ s t h k. rw (h, k) (design.names.apart s t h k);
-    seats = λ s h. ap (λ (b : Bool). nested.seat_name (if b then name d s else numeral s)) h ∙ sym (seat_known d s h);
+    seats = λ s h. ap (λ (b : Bool). ports.seat_name (if b then name d s else numeral s)) h ∙ sym (seat_known d s h);
     root_seat = sym (root_known d);
   }
 
@@ -372,7 +378,7 @@ module _ (d : Named) (tag sites : ℕ) (design : Design d tag sites) where
   forest = top_plain (setting_of d tag) (listed d.program.hang) 0 d.program.states
 
   abbrev final : Option Valuation → List Tagged → Going
-  final before inputs = falls_of (width_of (declarations (plain_of d tag sites))) nested.root_seat forest (going before inputs)
+  final before inputs = falls_of (width_of (declarations (plain_of d tag sites))) ports.root_seat forest (going before inputs)
 
   abbrev body_after : List Tagged → Store → After
   body_after inputs t = root_fall w (listed d.program.hang) (λ s. run_state w s n) d.program.states ((entered inputs t).child n) (entered inputs t)
@@ -381,7 +387,7 @@ module _ (d : Named) (tag sites : ℕ) (design : Design d tag sites) where
   some_child n k e = omega (arith, e)
 
   root_number : (before : Option Valuation) (inputs : List Tagged) (t : Store) → Loose set (going before inputs) (entered inputs t) → 0 < children w n
-      → (going before inputs).now.value nested.root_seat ≡ (entered inputs t).child n
+      → (going before inputs).now.value ports.root_seat ≡ (entered inputs t).child n
   root_number before inputs t l h = ap (going before inputs).now.value (sym (root_known d)) ∙ l.seat n h
 
   abbrev Final : Option Valuation → List Tagged → Store → Type 0
@@ -391,10 +397,10 @@ module _ (d : Named) (tag sites : ℕ) (design : Design d tag sites) where
   turned before inputs t fit r some =
       let l = begins before inputs t fit r in
       let shape = shaped_top set (listed d.program.hang) 0 d.program.states in
-      let goes = goes_run set widths lawful lawful_states n nested.root_seat d.program.states forest (sym (root_known d)) design.fine.count design.fine.states shape in
+      let goes = goes_run set widths lawful lawful_states n ports.root_seat d.program.states forest (sym (root_known d)) design.fine.count design.fine.states shape in
       let z = root_number before inputs t l some in
-      subst (λ (k : ℕ). Cycles set (going before inputs) (child_does widths (enter nested.root_seat forest) forest k (going before inputs)) (body_after inputs t)) (sym z)
-      (top_runs set widths lawful lawful_states (listed d.program.hang) d.program.states d.program.states 0 0 (enter nested.root_seat forest) design.fine.states design.fine.states
+      subst (λ (k : ℕ). Cycles set (going before inputs) (child_does widths (enter ports.root_seat forest) forest k (going before inputs)) (body_after inputs t)) (sym z)
+      (top_runs set widths lawful lawful_states (listed d.program.hang) d.program.states d.program.states 0 0 (enter ports.root_seat forest) design.fine.states design.fine.states
       design.few_arms (λ t h. h) goes ((entered inputs t).child n) (going before inputs) (entered inputs t) l
       (λ m h. (entered_memory inputs t m 0).4 ∙ r.whole m ∙ sym (entered_memory inputs t m 0).5))
 
@@ -433,8 +439,8 @@ module _ (d : Named) (tag sites : ℕ) (design : Design d tag sites) where
   some_number t h = refl
 
   stands_for : (before : Option Valuation) (inputs : List Tagged) (t : Store) (a : After) → Cycles set (going before inputs) (final before inputs) a → RisesFrom 1 (refused_sites a.refused)
-      → ((k u : ℕ) → IsRefusedAt a.refused k u → (1 ≤ k) × (k ≤ sites)) → 0 < children w n → StandsFor d sites (shown before inputs) (settle a.store) a.refused
-  stands_for before inputs t a c rises few some =
+      → 0 < children w n → StandsFor d sites (shown before inputs) (settle a.store) a.refused
+  stands_for before inputs t a c rises some =
       let g = final before inputs in
       let s = a.store in
       let e = settled_slots s in
@@ -462,9 +468,8 @@ module _ (d : Named) (tag sites : ℕ) (design : Design d tag sites) where
             refusals_told k a.refused (g.now.value (ports.refused_name k))
             (ap g.now.value (sym (refused_known d k (site_bound k m))) ∙ c.refused k
             ∙ ap (refused_after k a.refused) (wire_starts before inputs (variable (key_name d (refused_key k)) 1 0) (in_front (site_wires d tag 1 sites) _ _ (refused_in d tag k 1 sites l (omega (arith, m))))));
-        refusal_levels = λ k u h.
-            let b = few k u h in
-            ap g.now.value (sym (level_known d k (site_bound k b.1))) ∙ c.levels k ∙ levels_told d.code k u 1 a.refused _ rises h;
+        refusal_levels = λ k u l m h.
+            ap g.now.value (sym (level_known d k (site_bound k m))) ∙ c.levels k ∙ levels_told d.code k u 1 a.refused _ rises h;
       }
 
   rests_next : (before : Option Valuation) (inputs : List Tagged) (a : After) → Cycles set (going before inputs) (final before inputs) a → Rests (Some (shown before inputs)) (settle a.store)
@@ -490,19 +495,17 @@ module _ (d : Named) (tag sites : ℕ) (design : Design d tag sites) where
     cycle_is inputs t = sym (serve d.program design.exact inputs t)
 
     abbrev CycleStands : Option Valuation → List Tagged → After → Type 0
-    CycleStands before inputs a = StandsFor d sites (shown before inputs) a.store a.refused × Rests (Some (shown before inputs)) a.store × AreSites sites a.refused
+    CycleStands before inputs a = StandsFor d sites (shown before inputs) a.store a.refused × Rests (Some (shown before inputs)) a.store
 
     cycle_stands : (before : Option Valuation) (inputs : List Tagged) (t : Store) → InputsFit w inputs → Rests before t → CycleStands before inputs (cycle d.program inputs t)
     cycle_stands before inputs t fit r =
         let h : Final before inputs t = turned before inputs t fit r some in
         let e = cycle_is inputs t in
         let o = ordered d.program design.fine inputs t in
-        let listed_rise : RisesFrom 1 (program_sites d.program) = subst (λ (xs : List ℕ). RisesFrom 1 xs) (sym design.numbered) (count_rises sites 1) in
+        let listed_rise : RisesFrom 1 (program_sites d.program) = subst (λ (xs : List ℕ). RisesFrom 1 xs) (sym design.numbered) (numbers_rise 1 sites) in
         let rises : RisesFrom 1 (refused_sites (body_after inputs t).refused) = subst (λ (a : After). RisesFrom 1 (refused_sites a.refused)) e (o.1 1 listed_rise) in
-        let few : AreSites sites (body_after inputs t).refused =
-        subst (λ (a : After). AreSites sites a.refused) e (λ k u i. sites_told sites (cycle d.program inputs t).refused (program_sites d.program) k u design.numbered o.0 i) in
         subst (λ (a : After). CycleStands before inputs a) (sym e)
-        (stands_for before inputs t (body_after inputs t) h rises few some, rests_next before inputs (body_after inputs t) h, few)
+        (stands_for before inputs t (body_after inputs t) h rises some, rests_next before inputs (body_after inputs t) h)
 
     runs_stand : (before : Option Valuation) (t : Store) (stream : List (List Tagged)) → StreamFits w stream → Rests before t
         → CyclesStand d sites (run_after (plain_of d tag sites) before (coded_stream d.code stream)) (run_from d.program t stream)
@@ -510,12 +513,6 @@ module _ (d : Named) (tag sites : ℕ) (design : Design d tag sites) where
     runs_stand before t (inputs ∷ stream) fit r =
         let c = cycle_stands before inputs t fit.0 r in
         (c.0, runs_stand (Some (shown before inputs)) (cycle d.program inputs t).store stream fit.1 c.1)
-
-    sites_stand : (before : Option Valuation) (t : Store) (stream : List (List Tagged)) → StreamFits w stream → Rests before t → RefusalsAreSites sites (run_from d.program t stream)
-    sites_stand before t [] fit r = tt
-    sites_stand before t (inputs ∷ stream) fit r =
-        let c = cycle_stands before inputs t fit.0 r in
-        (c.2, sites_stand (Some (shown before inputs)) (cycle d.program inputs t).store stream fit.1 c.1)
 
     takes_all : (stream : List (List Tagged)) → StreamFits w stream → AllNumbersFit src.inputs (coded_stream d.code stream)
     takes_all [] fit = tt
@@ -526,5 +523,4 @@ module _ (d : Named) (tag sites : ℕ) (design : Design d tag sites) where
     run_stands = record {
       takes = takes_all;
       stands = λ stream fit. runs_stand None (first w) stream fit rests_first;
-      refused_sites = λ stream fit. sites_stand None (first w) stream fit rests_first;
     }

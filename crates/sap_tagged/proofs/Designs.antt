@@ -5,7 +5,7 @@ use Rattle.std.proofs.lemmas.Bool.{eqb-true, eq-eqb, and_parts, leb-true, ltb-tr
 use Rattle.std.proofs.lemmas.Grind.{common_steps}
 use Rattle.sap_lemmas.proofs.Bools.{and_left, and_right, iff_same}
 use Rattle.sap_lemmas.proofs.Texts.{bytes_eq_same, equal_of_bytes_eq}
-use Rattle.sap_resolve.proofs.WorldsLemmas.{children_length, declared_length}
+use Rattle.sap_resolved.proofs.WorldsLemmas.{children_length, declared_length}
 use Rattle.sap_names.proofs.FaultLemmas.{nil_left, nil_right}
 use Rattle.sap_tree.specs.declared.syntax.Decl.{Decl}
 use Rattle.sap_tree.specs.declared.syntax.Decl.TheVariants as decl
@@ -21,19 +21,19 @@ use Rattle.sap_names.specs.declared.entity.Entity.{Entity}
 use Rattle.sap_names.specs.Entities.{entity_of, declared_in, state_entities, group_entities, entities_of, what_is}
 use Rattle.sap_names.specs.NameFaults.{twice, declarations_faults, states_faults}
 use Rattle.sap_meaning.specs.Program.{World, root, children}
-use Rattle.sap_resolve.specs.Terms.{entity_number}
-use Rattle.sap_resolve.specs.Worlds.{states_in, states_below, all_declared, no_children, group_length, state_children, group_children, world_of}
-use Rattle.sap_resolve.specs.Worlds as worlds
-use Rattle.sap_resolve.specs.Resolve.{states_of}
-use Rattle.sap_resolve.proofs.Lookup.{entities_length}
-use Rattle.sap_resolve.proofs.sized.Programs.{names_fit_law}
-use Rattle.sap_resolve.proofs.premises.Lookups.{unique}
-use Rattle.sap_resolve.proofs.premises.Places.{name_at, group_count, group_kids}
-use Rattle.sap_resolve.proofs.premises.Programs.{fine_law}
-use Rattle.sap_resolve.proofs.premises.Lists.{exact}
-use Rattle.sap_resolve.proofs.premises.Worlds.{root_children}
+use Rattle.sap_resolved.specs.Terms.{entity_number}
+use Rattle.sap_resolved.specs.Worlds.{states_in, states_below, all_declared, no_children, group_length, state_children, group_children, world_of}
+use Rattle.sap_resolved.specs.Worlds as worlds
+use Rattle.sap_resolved.specs.Resolve.{states_of}
+use Rattle.sap_resolved.proofs.Lookup.{entities_length}
+use Rattle.sap_resolved.proofs.sized.Programs.{names_fit_law}
+use Rattle.sap_resolved.proofs.premises.Lookups.{unique}
+use Rattle.sap_resolved.proofs.premises.Places.{name_at, group_count, group_kids}
+use Rattle.sap_resolved.proofs.premises.Programs.{fine_law, sites_numbered}
+use Rattle.sap_resolved.proofs.premises.Lists.{exact}
+use Rattle.sap_resolved.proofs.premises.Worlds.{root_children}
 use Rattle.sap_interface.specs.StandsFor.{Named, name}
-use Rattle.sap_interface.specs.Designs.{named_of, sites_of}
+use Rattle.sap_interface.specs.Designs.{named_of, site_count_of}
 use Rattle.sap_meaning.specs.Laws.{ListsServe, SitesInOrder}
 use Rattle.sap_tagged.specs.Law.{IsSound, PlainStands}
 use Rattle.sap_tagged.proofs.KeyNames.{NamesApart}
@@ -43,7 +43,6 @@ use Rattle.sap_tagged.proofs.Premises.{Design}
 use Rattle.sap_tagged.proofs.Cycle.{run_stands}
 use Rattle.sap_tagged.proofs.Shown.{interface}
 use Rattle.sap_shape.proofs.SiteCounts.{states_few}
-use Rattle.sap_tagged.proofs.Counts.{numbered}
 
 -- names are those of the design language, and so words
 
@@ -239,9 +238,9 @@ module _ (ls : Levels) (D : DesignTree) (sg : IsSound ls D) where
     named = is_named;
   }
 
-  few_sites : 1 + sites_of D ≤ 2 ^ 64
+  few_sites : 1 + site_count_of D ≤ 2 ^ 64
   few_sites =
-      site_limit (sites_of D) (within (sites_of D) (states_commands D.states) (states_few es D.states) (leb-true (states_commands D.states) most_commands (and_right _ (nat_le (states_commands D.states) most_commands) split.1)))
+      site_limit (site_count_of D) (within (site_count_of D) (states_commands D.states) (states_few es D.states) (leb-true (states_commands D.states) most_commands (and_right _ (nat_le (states_commands D.states) most_commands) split.1)))
     where
       within : (m n : ℕ) → m ≤ n → n ≤ 4096 → m ≤ 4096
       within m n h k = omega (arith, h, k)
@@ -268,12 +267,12 @@ module _ (ls : Levels) (D : DesignTree) (sg : IsSound ls D) where
       (counted_states D.states)
       (leb-true (states_count D.states) most_states (and_right _ (nat_le (states_count D.states) most_states) (and_left _ _ (and_left _ _ split.1))))
 
-  pub design : Design d (width_of (order_of ls)) (sites_of D)
+  pub design : Design d (width_of (order_of ls)) (site_count_of D)
   design = record {
     fine = fine_law names_fit_law ls D sg.lattice.laws sg.formed;
     exact = exact ls D;
     few_arms = filled_group_few w (root w) (states_of ls D) (group_few D.version ls es 1 (length D.declarations) D.states all_states);
-    numbered = numbered ls D states_fit;
+    numbered = sites_numbered ls D sg.formed;
     few = few_sites;
     few_children = few_kids;
     names = names;
@@ -281,7 +280,7 @@ module _ (ls : Levels) (D : DesignTree) (sg : IsSound ls D) where
     joined = sg.lattice.codes.joined;
     within = sg.lattice.codes.within;
     small = sg.lattice.codes.small;
-    distinct = distinct d (width_of (order_of ls)) (sites_of D) names;
+    distinct = distinct d (width_of (order_of ls)) (site_count_of D) names;
   }
 
   pub some_child : 0 < children w (root w)
@@ -294,6 +293,6 @@ plain_stands serve ordered ls D sg =
     let d = named_of ls D in
     let u = width_of (order_of ls) in
     record {
-      interface = interface d u (sites_of D) (design ls D sg) (some_child ls D sg);
-      run = run_stands d u (sites_of D) (design ls D sg) serve ordered (some_child ls D sg);
+      interface = interface d u (site_count_of D) (design ls D sg) (some_child ls D sg);
+      run = run_stands d u (site_count_of D) (design ls D sg) serve ordered (some_child ls D sg);
     }

@@ -8,7 +8,7 @@ use Rattle.sap_meaning.specs.Program as program
 use Rattle.sap_meaning.specs.Program.{World, Kind, Entity, entity, root, children, is_input, is_register, is_memory, is_dynamic, kind_is_input, kind_is_register, kind_is_memory, kind_is_state, Command, lone, try, if_else, try_then, case_of, Arms, last_arm, and_arm, Block, end_block, command_then, State, state_node, Group, no_node, and_node}
 use Rattle.sap_net.specs.Names.{is_among, AreDistinct}
 use Rattle.sap_ir.specs.declared.guarded.Var.{Var}
-use Rattle.sap_ir.specs.declared.guarded.Store.{Store}
+use Rattle.sap_ir.specs.declared.guarded.MemoryVariable.{MemoryVariable}
 use Rattle.sap_ir.specs.IsGuarded.{declared, variable_names}
 use Rattle.sap_ir.specs.Plain.Nested.{declarations}
 use Rattle.sap_interface.specs.StandsFor.{Named, world, depth}
@@ -454,11 +454,11 @@ module _ (d : Named) (tag sites : ℕ) (names : NamesApart d) where
           ∙ ap (λ (z : List Key). c ++ z) (append_assoc e f ((g ++ (h ++ (i ++ j))) ++ k)
           ∙ ap (λ (z : List Key). e ++ (f ++ z)) (append_assoc g (h ++ (i ++ j)) k ∙ ap (λ (z : List Key). g ++ z) (append_assoc h (i ++ j) k ∙ ap (λ (z : List Key). h ++ z) (append_assoc i j k)))))))
 
-  store_named : (m : ℕ) → map (λ (s : Store). s.name) (memory_of d m ∷ tags_of d tag m) ≡ map (key_name d) (store_keys m)
+  store_named : (m : ℕ) → map (λ (s : MemoryVariable). s.name) (memory_of d m ∷ tags_of d tag m) ≡ map (key_name d) (store_keys m)
   store_named m = ap (λ (ns : List Name). key_name d (value_key m) ∷ ns) (by (is_dynamic (world d) m))
     where
       by : (b : Bool)
-          → map (λ (s : Store). s.name) (if b then [] else record { name = key_name d (tag_key m); width = tag; depth = depth d m; start = level_at_start d m } ∷ [])
+          → map (λ (s : MemoryVariable). s.name) (if b then [] else record { name = key_name d (tag_key m); width = tag; depth = depth d m; start = level_at_start d m } ∷ [])
           ≡ map (key_name d) (if b then [] else tag_key m ∷ [])
       by true = refl
       by false = refl
@@ -476,7 +476,7 @@ module _ (d : Named) (tag sites : ℕ) (names : NamesApart d) where
       let seats = entities_named {A = Var} var_name d (λ p. nat_lt 0 (children (world d) p)) _ seat_keys (λ x. refl) 0 entities in
       let fs = entities_named {A = Var} var_name d (saved (world d)) _ first_keys (λ x. refl) 0 entities in
       let inners = entities_named {A = Var} var_name d (λ p. nat_lt 0 (children (world d) p)) _ inner_keys (λ x. refl) 0 entities in
-      let ms = entities_named {A = Store} (λ s. s.name) d (is_memory (world d)) _ store_keys store_named 0 entities in
+      let ms = entities_named {A = MemoryVariable} (λ s. s.name) d (is_memory (world d)) _ store_keys store_named 0 entities in
       ap₂ (λ (a b : List Name). a ++ b) ins
       (ap₂ (λ (a b : List Name). a ++ b)
       (joined_names var_name (shown_registers d tag) (tag_registers d tag ++ seat_registers d) _ _ regs

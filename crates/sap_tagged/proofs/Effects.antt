@@ -9,7 +9,7 @@ use Rattle.sap_meaning.specs.Program.{Kind, entity, is_dynamic, is_register, is_
 use Rattle.sap_meaning.specs.Program as program
 use Rattle.sap_meaning.specs.Store.{own, start, Store, number, level, child, put_number, put_level, After}
 use Rattle.sap_meaning.specs.Expressions.{value, tag, new_level}
-use Rattle.sap_meaning.specs.Checks.{Spot, guard, child_level}
+use Rattle.sap_meaning.specs.Checks.{Home, guard, child_level}
 use Rattle.sap_meaning.specs.Does.{effect}
 use Rattle.sap_meaning.specs.Fine.{FineStep}
 use Rattle.sap_ir.specs.Guarded.{Going, value_in}
@@ -26,7 +26,7 @@ use Rattle.sap_tagged.proofs.Puts.{put_to, at_put, kept_next, kept_put, memory_p
 use Rattle.sap_tagged.proofs.Looks.{Quiet, quiet_next, turns_after, turns_stay, quiet_inner, aside_inner, here_inner}
 
 -- A step's effect begins: b is the store before, and r the raised one.
-pub record Begins (d : Setting) (k : ℕ) (sp : Spot) (t : Step) (l : ℕ) (b r : Store) (g : Going) : Type 0 where
+pub record Begins (d : Setting) (k : ℕ) (sp : Home) (t : Step) (l : ℕ) (b r : Store) (g : Going) : Type 0 where
   pub stands : Stands d g r
   pub reads : (x : ℕ) → is_value d.world x ≡ true → at d g (value_key x) ≡ number (own x) b
   pub starts : (m i : ℕ) → is_memory d.world m ≡ true → g.now.cell (d.name (value_key m)) i ≡ number (start m i) b
@@ -110,7 +110,7 @@ module _ (d : Setting) (widths : Name → ℕ) (laws : Lawful d widths) where
 
   module _ (f : Going → Going) (go : Name → Going → Going) (enter : ℕ → ℕ → Store → After) where
     -- An effect leaves all wires alone, but for a fall those from `base` on: so those before `free` stay.
-    pub set_effect : (q : Group) (k free : ℕ) (sp : Spot) (site x : ℕ) (e : Term ℕ) (l : ℕ) (b r : Store) (g : Going) → FineStep d.world q sp.children (assign site x e)
+    pub set_effect : (q : Group) (k free : ℕ) (sp : Home) (site x : ℕ) (e : Term ℕ) (l : ℕ) (b r : Store) (g : Going) → FineStep d.world q sp.children (assign site x e)
         → Begins d k sp (assign site x e) l b r g
         → Turns d free g (body_does widths f go (effect_of d sp k (assign site x e)) g) (effect d.world sp enter (assign site x e) l b r)
     unfolding effect put_to
@@ -136,7 +136,7 @@ module _ (d : Setting) (widths : Name → ℕ) (laws : Lawful d widths) where
         g1 : Going
         g1 = put_to d g (tag_key x) (at d g (wire_key (k + 3)))
 
-    pub retag_effect : (q : Group) (k free : ℕ) (sp : Spot) (site x : ℕ) (n : LevelTerm) (l : ℕ) (b r : Store) (g : Going) → FineStep d.world q sp.children (retag site x n)
+    pub retag_effect : (q : Group) (k free : ℕ) (sp : Home) (site x : ℕ) (n : LevelTerm) (l : ℕ) (b r : Store) (g : Going) → FineStep d.world q sp.children (retag site x n)
         → Begins d k sp (retag site x n) l b r g
         → Turns d free g (body_does widths f go (effect_of d sp k (retag site x n)) g) (effect d.world sp enter (retag site x n) l b r)
     unfolding effect put_to
@@ -163,7 +163,7 @@ module _ (d : Setting) (widths : Name → ℕ) (laws : Lawful d widths) where
         g1 : Going
         g1 = put_to d g (tag_key x) (at d g (wire_key (k + 3)))
 
-    pub fall_effect : (base k free : ℕ) (sp : Spot) (site : ℕ) (hang : List Bool) (l : ℕ) (b r : Store) (g : Going) → free ≤ base → FallsRun d f base sp.state enter
+    pub fall_effect : (base k free : ℕ) (sp : Home) (site : ℕ) (hang : List Bool) (l : ℕ) (b r : Store) (g : Going) → free ≤ base → FallsRun d f base sp.state enter
         → Begins d k sp (fall_to_child site hang) l b r g
         → Turns d free g (body_does widths f go (effect_of d sp k (fall_to_child site hang)) g) (effect d.world sp enter (fall_to_child site hang) l b r)
     unfolding effect put_to

@@ -1,10 +1,9 @@
 -- What the wires of sites say after a cycle in which they began at 0.
-use Rattle.std.proofs.Common.{◌≡◌, ℕ, zero, suc, ◌+◌, ◌<◌, ◌≤◌, ◌⊎◌, ◌↔◌, Bool, true, false, ◌||◌, List, [], ◌∷◌, refl, sym, ap, ◌∙◌, subst, arith, nat_eq, inl, inr, if◌then◌else◌}
+use Rattle.std.proofs.Common.{◌≡◌, ℕ, zero, suc, ◌+◌, ◌<◌, ◌≤◌, ◌⊎◌, ◌↔◌, Bool, true, false, ◌||◌, List, [], ◌∷◌, refl, sym, ap, ◌∙◌, arith, nat_eq, inl, inr, if◌then◌else◌}
 use Rattle.std.proofs.lemmas.Bool.{cases_Bool, eqb-true, eq-eqb, ne_eqb, or_right}
 use Rattle.sap_lemmas.proofs.Bools.{or_other, true_is_not_false}
 use Rattle.sap_meaning.specs.Store.{Refusal}
-use Rattle.sap_meaning.specs.Sites.{refused_sites, RisesFrom, Sublist}
-use Rattle.sap_resolve.proofs.premises.Rises.{count_from}
+use Rattle.sap_meaning.specs.Sites.{refused_sites, numbers_from, RisesFrom}
 use Rattle.sap_interface.specs.StandsFor.{IsRefusedAt, IsRefused}
 use Rattle.sap_tagged.specs.Stands.{refused_after, level_after}
 
@@ -67,29 +66,7 @@ abbrev pub Among : List ℕ → ℕ → Type 0
 Among [] k = ⊥
 Among (x ∷ xs) k = (x ≡ k) ⊎ Among xs k
 
-refused_among : (rs : List Refusal) (k t : ℕ) → IsRefusedAt rs k t → Among (refused_sites rs) k
-refused_among [] k t h = absurd h
-refused_among (r ∷ rs) k t (inl e) = inl e.0
-refused_among (r ∷ rs) k t (inr h) = inr (refused_among rs k t h)
-
-among_sublist : (xs ys : List ℕ) (k : ℕ) → Sublist xs ys → Among xs k → Among ys k
-among_sublist [] ys k s h = absurd h
-among_sublist (x ∷ xs) [] k s h = absurd s
-among_sublist (x ∷ xs) (y ∷ ys) k (inl s) (inl e) = inl (sym s.0 ∙ e)
-among_sublist (x ∷ xs) (y ∷ ys) k (inl s) (inr h) = inr (among_sublist xs ys k s.1 h)
-among_sublist (x ∷ xs) (y ∷ ys) k (inr s) h = inr (among_sublist (x ∷ xs) ys k s h)
-
-pub counted_bounds : (n k : ℕ) (j : ℕ) → Among (count_from n k) j → (k ≤ j) × (j < k + n)
+pub counted_bounds : (n k : ℕ) (j : ℕ) → Among (numbers_from k n) j → (k ≤ j) × (j < k + n)
 counted_bounds zero k j h = absurd h
 counted_bounds (suc n) k j (inl e) = (omega (arith, e), omega (arith, e))
 counted_bounds (suc n) k j (inr h) = let i = counted_bounds n (suc k) j h in (omega (arith, i.0), omega (arith, i.1))
-
-pub sites_told : (sites : ℕ) (rs : List Refusal) (ps : List ℕ) (k t : ℕ) → ps ≡ count_from sites 1 → Sublist (refused_sites rs) ps → IsRefusedAt rs k t → (1 ≤ k) × (k ≤ sites)
-sites_told sites rs ps k t e s i =
-    let m = among_sublist (refused_sites rs) ps k s (refused_among rs k t i) in
-    let b = counted_bounds sites 1 k (subst (λ (xs : List ℕ). Among xs k) e m) in
-    (b.0, omega (arith, b.1))
-
-pub count_rises : (n k : ℕ) → RisesFrom k (count_from n k)
-count_rises zero k = tt
-count_rises (suc n) k = (omega arith, count_rises n (suc k))

@@ -5,13 +5,14 @@ use Rattle.sap_maps.specs.Maps.{Name}
 use Rattle.sap_maps.specs.Term.{Term}
 use Rattle.sap_meaning.specs.Program.{World, root, is_dynamic, is_memory, children, Block, state_node, Group, no_node, and_node}
 use Rattle.sap_meaning.specs.Store.{Store, own, start, next, start_whole, next_whole, number, level, child, After}
-use Rattle.sap_meaning.specs.Checks.{Spot}
+use Rattle.sap_meaning.specs.Checks.{Home}
 use Rattle.sap_meaning.specs.Touches.{among}
 use Rattle.sap_meaning.specs.Runs.{run_state, run_child}
 use Rattle.sap_meaning.specs.Cycle.{root_fall}
 use Rattle.sap_meaning.specs.Fine.{FineNode, FineGroup, size}
 use Rattle.sap_ir.specs.Guarded.{Going, value_in}
-use Rattle.sap_ir.specs.Plain.Nested.{Body, Forest, none, state, seat_name}
+use Rattle.sap_ir.specs.Plain.Nested.{Body, Forest, none, state}
+use Rattle.sap_net.specs.PortNames.{seat_name}
 use Rattle.sap_ir.specs.Plain.Does.{body_does, child_does, enter}
 use Rattle.sap_tagged.specs.Keys.{value_key, tag_key, seat_key, refused_key, level_key, wire_key, first_key, inner_key}
 use Rattle.sap_tagged.specs.Setting.{Setting}
@@ -123,7 +124,7 @@ module _ (d : Setting) (widths : Name → ℕ) (laws : Lawful d widths) (names :
       let inner = group_runs kids kids 0 x base (enter seat forest) fine.0.1 fine.0.1 few.0.1 (λ t h. h) goes' in
       let falls = falls_run x kids forest base seat e node.count shape inner in
       let f : Going → Going = λ h. child_does widths (enter seat forest) forest (h.now.value seat) h in
-      let sp : Spot = record { state = x; parent = parent; children = kids } in
+      let sp : Home = record { state = x; parent = parent; children = kids } in
       let v = value_in widths g (var d (inner_key parent)) in
       let g1 = put_to d g (wire_key k) v in
       let r0 = wired d widths laws s k g v (d.code l) st pc in
@@ -190,7 +191,7 @@ module _ (d : Setting) (widths : Name → ℕ) (laws : Lawful d widths) (names :
       let inner = group_runs kids kids 0 x base (enter seat forest) fine.0.1 fine.0.1 few.0.1 (λ t h. h) goes' in
       let falls = falls_run x kids forest base seat e node.count shape inner in
       let f : Going → Going = λ h. child_does widths (enter seat forest) forest (h.now.value seat) h in
-      let sp : Spot = record { state = x; parent = root d.world; children = kids } in
+      let sp : Home = record { state = x; parent = root d.world; children = kids } in
       let body = block_plain d sp k (k + 1) b in
       let head = gives d (wire_key k) (var d (tag_key x)) (raises d hangs k body) in
       let kept = save f go k g s head loose begins in

@@ -11,11 +11,11 @@ use Rattle.sap_tree.specs.declared.version.Version.{Version}
 use Rattle.sap_lattice.specs.Levels.{Levels}
 use Rattle.sap_names.specs.declared.entity.Entity.{Entity}
 use Rattle.sap_meaning.specs.Program.{World, Command, lone, try, if_else, try_then, case_of, Arms, last_arm, and_arm, Block, end_block, command_then, State, state_node, Group, no_node, and_node}
-use Rattle.sap_meaning.specs.Checks.{Spot}
-use Rattle.sap_resolve.specs.Worlds.{states_in}
+use Rattle.sap_meaning.specs.Checks.{Home}
+use Rattle.sap_resolved.specs.Worlds.{states_in}
 use Rattle.sap_shape.specs.Sites.{Surroundings, simple_sites, command_sites, block_sites, state_sites}
-use Rattle.sap_resolve.specs.Resolve.{numbers_of, command_of, arms_of, block_of, else_of, list_of, state_of, group_of}
-use Rattle.sap_resolve.specs.Fill.{filled, filled_arms, filled_block, filled_state, filled_group}
+use Rattle.sap_resolved.specs.Resolve.{numbers_of, command_of, arms_of, block_of, else_of, list_of, state_of, group_of}
+use Rattle.sap_resolved.specs.Fill.{filled, filled_arms, filled_block, filled_state, filled_group}
 use Rattle.sap_tagged.specs.Commands.{arm_count}
 use Rattle.sap_tagged.specs.Few.{Few, FewArms, FewBlock, FewState, FewGroup}
 
@@ -84,23 +84,23 @@ module _ (version : Version) (ls : Levels) (es : List Entity) where
 
 -- and so does filling in what hangs
 module _ (w : World) where
-  arms_filled : (at : Spot) (arms : Arms) → arm_count (filled_arms w at arms) ≡ arm_count arms
+  arms_filled : (at : Home) (arms : Arms) → arm_count (filled_arms w at arms) ≡ arm_count arms
   arms_filled at (last_arm b) = refl
   arms_filled at (and_arm constants b arms) = ap (λ (n : ℕ). suc n) (arms_filled at arms)
 
   mutual
-    filled_few : (at : Spot) (c : Command) → Few c → Few (filled w at c)
+    filled_few : (at : Home) (c : Command) → Few c → Few (filled w at c)
     filled_few at (lone k) f = tt
     filled_few at (try k hang b) f = filled_block_few at b f
     filled_few at (if_else hang e a b) f = (filled_block_few at a f.0, filled_block_few at b f.1)
     filled_few at (try_then k hang a b) f = (filled_block_few at a f.0, filled_block_few at b f.1)
     filled_few at (case_of hang e arms) f = (subst (λ (n : ℕ). n ≤ most_arms) (sym (arms_filled at arms)) f.0, filled_arms_few at arms f.1)
 
-    filled_arms_few : (at : Spot) (arms : Arms) → FewArms arms → FewArms (filled_arms w at arms)
+    filled_arms_few : (at : Home) (arms : Arms) → FewArms arms → FewArms (filled_arms w at arms)
     filled_arms_few at (last_arm b) f = filled_block_few at b f
     filled_arms_few at (and_arm constants b arms) f = (f.0, filled_block_few at b f.1, filled_arms_few at arms f.2)
 
-    filled_block_few : (at : Spot) (b : Block) → FewBlock b → FewBlock (filled_block w at b)
+    filled_block_few : (at : Home) (b : Block) → FewBlock b → FewBlock (filled_block w at b)
     filled_block_few at end_block f = tt
     filled_block_few at (command_then c cs) f = (filled_few at c f.0, filled_block_few at cs f.1)
 

@@ -4,17 +4,17 @@ use Rattle.std.proofs.lemmas.Bool.{cases_Bool, eq-eqb, or_left, or_right}
 use Rattle.std.proofs.lemmas.Grind.{common_steps}
 use Rattle.std.proofs.Math.Pow.{pow_pos}
 use Rattle.std.proofs.Math.Nat.{pow-le-pow_right}
-use Rattle.sap_resolve.proofs.SizedLemmas.{ranged_width}
+use Rattle.sap_resolved.proofs.SizedLemmas.{ranged_width}
 use Rattle.sap_bits.specs.declared.Op2.TheVariants.{And, Eq}
 use Rattle.sap_maps.specs.Maps.{Name}
 use Rattle.sap_maps.specs.Scope.{find}
 use Rattle.sap_maps.specs.Term.{Term, constant, read, cell, one, two, choose, join, part}
 use Rattle.sap_meaning.specs.Program.{World, root, is_dynamic, is_memory, is_register, is_state, authority, width, children, LevelTerm, fixed, of, at_place, both, Step, assign, write, retag, retag_cell, go_to, fall_to_child, state_node, Group, no_node, and_node}
 use Rattle.sap_meaning.specs.Expressions.{width_of}
-use Rattle.sap_meaning.specs.Checks.{Spot, entry}
+use Rattle.sap_meaning.specs.Checks.{Home, entry}
 use Rattle.sap_meaning.specs.Fine.{FineTerm, FineLevel, FineStep, size}
 use Rattle.sap_meaning.specs.Sized.{depth, Indexes, SizedTerm, SizedLevel, SizedStep}
-use Rattle.sap_resolve.specs.Sized.Ranges.{IsWidth, RangedTerm, RangedLevel, RangedStep}
+use Rattle.sap_resolved.specs.Sized.Ranges.{IsWidth, RangedTerm, RangedLevel, RangedStep}
 use Rattle.sap_ir.specs.Source.{Source, readable, shapes}
 use Rattle.sap_ir.specs.IsGuarded.{TermFine}
 use Rattle.sap_ir.specs.Plain.Nested.{seat_width}
@@ -248,7 +248,7 @@ module _ (d : Setting) (s : Source) (h : Declares d s) where
     child_enters_fine pc u seat (and_node s g) (i + 1) p w f (omega (arith, l)) (rest_tagged c b k (and_node s g) t),
   )
 
-  module _ (q : Group) (sp : Spot) (placed : Placed d.world q sp) where
+  module _ (q : Group) (sp : Home) (placed : Placed d.world q sp) where
     children_fit : 0 + size sp.children ≤ 2 ^ seat_bits d sp.state
     children_fit = let e = placed.seated in let l = h.few_children sp.state in omega (arith, e, l)
 

@@ -12,16 +12,16 @@ use Rattle.sap_lattice.specs.Codes.{width_of}
 use Rattle.sap_names.specs.Entities.{entities_of}
 use Rattle.sap_names.specs.declared.entity.Entity.{Entity}
 use Rattle.sap_meaning.specs.Program.{World, root, Command, lone, try, if_else, try_then, case_of, Arms, last_arm, and_arm, Block, end_block, command_then, State, state_node, Group, no_node, and_node}
-use Rattle.sap_meaning.specs.Checks.{Spot}
-use Rattle.sap_resolve.specs.Worlds.{world_of, states_in}
+use Rattle.sap_meaning.specs.Checks.{Home}
+use Rattle.sap_resolved.specs.Worlds.{world_of, states_in}
 use Rattle.sap_shape.specs.Sites.{Surroundings, simple_sites, command_sites, block_sites, state_sites}
-use Rattle.sap_resolve.specs.Resolve.{command_of, arms_of, block_of, else_of, list_of, state_of, group_of, states_of}
-use Rattle.sap_resolve.specs.Fill.{filled, filled_arms, filled_block, filled_state, filled_group}
-use Rattle.sap_resolve.specs.Sized.Ranges.{IsWidth}
-use Rattle.sap_resolve.proofs.sized.Declared.{resolved}
-use Rattle.sap_resolve.proofs.sized.Programs.{faultless, sizes_fit_law}
-use Rattle.sap_resolve.proofs.sized.RangedPrograms.{widths_in_range_law}
-use Rattle.sap_interface.specs.Designs.{named_of, sites_of}
+use Rattle.sap_resolved.specs.Resolve.{command_of, arms_of, block_of, else_of, list_of, state_of, group_of, states_of}
+use Rattle.sap_resolved.specs.Fill.{filled, filled_arms, filled_block, filled_state, filled_group}
+use Rattle.sap_resolved.specs.Sized.Ranges.{IsWidth}
+use Rattle.sap_resolved.proofs.sized.Declared.{resolved}
+use Rattle.sap_resolved.proofs.sized.Programs.{faultless, sizes_fit_law}
+use Rattle.sap_resolved.proofs.sized.RangedPrograms.{widths_in_range_law}
+use Rattle.sap_interface.specs.Designs.{named_of, site_count_of}
 use Rattle.sap_tagged.specs.Commands.{wires, wires_arms, wires_block}
 use Rattle.sap_tagged.specs.States.{wires_state, wires_group}
 use Rattle.sap_tagged.specs.Law.{IsSound, PlainsKeepRules, PlainsWriteOnce}
@@ -34,18 +34,18 @@ use Rattle.sap_tagged.proofs.Designs.{design, some_child}
 -- filling in what hangs adds no wire
 module _ (w : World) where
   mutual
-    wires_filled : (at : Spot) (c : Command) → wires (filled w at c) ≡ wires c
+    wires_filled : (at : Home) (c : Command) → wires (filled w at c) ≡ wires c
     wires_filled at (lone k) = refl
     wires_filled at (try k hang h) = ap (λ (n : ℕ). 5 + n) (block_filled at h)
     wires_filled at (if_else hang e a b) = ap₂ (λ (m n : ℕ). 2 + m + n) (block_filled at a) (block_filled at b)
     wires_filled at (try_then k hang a b) = ap₂ (λ (m n : ℕ). 5 + m + n) (block_filled at a) (block_filled at b)
     wires_filled at (case_of hang e arms) = ap (λ (n : ℕ). 4 + n) (arms_filled at arms)
 
-    arms_filled : (at : Spot) (arms : Arms) → wires_arms (filled_arms w at arms) ≡ wires_arms arms
+    arms_filled : (at : Home) (arms : Arms) → wires_arms (filled_arms w at arms) ≡ wires_arms arms
     arms_filled at (last_arm b) = block_filled at b
     arms_filled at (and_arm constants b arms) = ap₂ (λ (m n : ℕ). m + n) (block_filled at b) (arms_filled at arms)
 
-    block_filled : (at : Spot) (b : Block) → wires_block (filled_block w at b) ≡ wires_block b
+    block_filled : (at : Home) (b : Block) → wires_block (filled_block w at b) ≡ wires_block b
     block_filled at end_block = refl
     block_filled at (command_then c cs) = ap₂ (λ (m n : ℕ). m + n) (wires_filled at c) (block_filled at cs)
 
@@ -136,7 +136,7 @@ module _ (ls : Levels) (D : DesignTree) (sg : IsSound ls D) where
   }
 
 pub plains_keep : PlainsKeepRules
-plains_keep ls D sg = plain (named_of ls D) (width_of (order_of ls)) (sites_of D) (design ls D sg) (fitting ls D sg) (some_child ls D sg)
+plains_keep ls D sg = plain (named_of ls D) (width_of (order_of ls)) (site_count_of D) (design ls D sg) (fitting ls D sg) (some_child ls D sg)
 
 pub plains_write : PlainsWriteOnce
-plains_write ls D sg = writes_once (named_of ls D) (width_of (order_of ls)) (sites_of D) (design ls D sg).names (design ls D sg).fine
+plains_write ls D sg = writes_once (named_of ls D) (width_of (order_of ls)) (site_count_of D) (design ls D sg).names (design ls D sg).fine

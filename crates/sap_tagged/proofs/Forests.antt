@@ -7,17 +7,18 @@ use Rattle.sap_maps.specs.Maps.{Name}
 use Rattle.sap_maps.specs.Scope.{find}
 use Rattle.sap_meaning.specs.Program.{World, root, is_dynamic, is_memory, children, Command, lone, try, if_else, try_then, case_of, Arms, last_arm, and_arm, Block, end_block, command_then, state_node, Group, no_node, and_node}
 use Rattle.sap_meaning.specs.Expressions.{width_of}
-use Rattle.sap_meaning.specs.Checks.{Spot}
+use Rattle.sap_meaning.specs.Checks.{Home}
 use Rattle.sap_meaning.specs.Touches.{among}
 use Rattle.sap_meaning.specs.Sites as sites
 use Rattle.sap_meaning.specs.Fine.{FineGroup, size, ExactGroup}
 use Rattle.sap_meaning.specs.Sized.{SizedGroup}
-use Rattle.sap_resolve.specs.Sized.Ranges.{RangedGroup}
+use Rattle.sap_resolved.specs.Sized.Ranges.{RangedGroup}
 use Rattle.sap_net.specs.Names.{is_among}
 use Rattle.sap_ir.specs.declared.guarded.Var.{Var}
 use Rattle.sap_ir.specs.Source.{Source, readable}
 use Rattle.sap_ir.specs.IsGuarded.{assignable}
-use Rattle.sap_ir.specs.Plain.Nested.{Body, Forest, none, state, has_states, group_names, seat_name, seat_width}
+use Rattle.sap_ir.specs.Plain.Nested.{Body, Forest, none, state, has_states, group_names, seat_width}
+use Rattle.sap_net.specs.PortNames.{seat_name}
 use Rattle.sap_ir.specs.Plain.Nested as nested
 use Rattle.sap_ir.specs.Plain.IsPlain.{BodyFine, ForestFine, SeatFine, IsSeat}
 use Rattle.sap_interface.specs.StandsFor.{Named, world}
@@ -154,8 +155,8 @@ module _ (nd : Named) (tag : ℕ) (s : Source) (fixed : List Name) (decl : Decla
   abbrev w : World
   w = (setting_of nd tag).world
 
-  abbrev SitesOf : List ℕ → Type 0
-  SitesOf ks = (k : ℕ) → Among ks k → SiteWires (setting_of nd tag) s k
+  abbrev SitesOf : List sites.PlacedStep → Type 0
+  SitesOf ks = (k : ℕ) → Among (sites.site_numbers ks) k → SiteWires (setting_of nd tag) s k
 
   -- the state whose children are a group
   record IsParent (q : Group) (x : ℕ) : Type 0 where
@@ -176,7 +177,7 @@ module _ (nd : Named) (tag : ℕ) (s : Source) (fixed : List Name) (decl : Decla
       let node = fine.0.0 in
       let i : among q x ≡ true = part x (rw (eq-eqb x x refl) refl) in
       let me = group_states w q 0 q whole x i in
-      let sp : Spot = record { state = x; parent = parent; children = kids } in
+      let sp : Home = record { state = x; parent = parent; children = kids } in
       let placed = placed_in w q n0 x parent b kids whole i node fine.0.1 in
       let below = group_plain d x base kids in
       let shape = shaped_group d x base kids in
@@ -217,7 +218,7 @@ module _ (nd : Named) (tag : ℕ) (s : Source) (fixed : List Name) (decl : Decla
       let node = fine.0.0 in
       let i : among q x ≡ true = part x (rw (eq-eqb x x refl) refl) in
       let me = group_states w q 0 q whole x i in
-      let sp : Spot = record { state = x; parent = root w; children = kids } in
+      let sp : Home = record { state = x; parent = root w; children = kids } in
       let placed = placed_in w q n0 x (root w) b kids whole i node fine.0.1 in
       let below = group_plain d x base kids in
       let shape = shaped_group d x base kids in

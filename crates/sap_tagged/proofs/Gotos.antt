@@ -6,7 +6,7 @@ use Rattle.sap_maps.specs.Maps.{Name}
 use Rattle.sap_maps.specs.Term.{Term}
 use Rattle.sap_meaning.specs.Program.{World, root, entity, is_dynamic, is_state, is_memory, place, last, below, go_to, Group}
 use Rattle.sap_meaning.specs.Store.{own, next_whole, Store, put_number, put_level, put_child, lowered, reset, After, stay}
-use Rattle.sap_meaning.specs.Checks.{Spot}
+use Rattle.sap_meaning.specs.Checks.{Home}
 use Rattle.sap_meaning.specs.Touches.{among}
 use Rattle.sap_meaning.specs.Does.{effect}
 use Rattle.sap_ir.specs.Guarded.{Going}
@@ -124,7 +124,7 @@ module _ (d : Setting) (widths : Name → ℕ) (laws : Lawful d widths) where
         turns_stay d free g g3 _ (quiet_next d free g g1 g3 (quiet free) (r.1 free))
         (subst (λ (t : Store). Stands d g3 t) (goes_apart d.world parent target s) r.0)
 
-    pub goto_effect : (enter : ℕ → ℕ → Store → After) (q : Group) (k free : ℕ) (sp : Spot) (site target l : ℕ) (b r : Store) (g : Going) → GoesRun d go sp.parent q
+    pub goto_effect : (enter : ℕ → ℕ → Store → After) (q : Group) (k free : ℕ) (sp : Home) (site target l : ℕ) (b r : Store) (g : Going) → GoesRun d go sp.parent q
         → among q target ≡ true → is_state d.world target ≡ true → is_memory d.world target ≡ false → Stands d g r → at d g (wire_key (k + 3)) ≡ d.code l
         → Turns d free g (body_does widths f go (effect_of d sp k (go_to site target)) g) (effect d.world sp enter (go_to site target) l b r)
     unfolding effect

@@ -11,7 +11,8 @@ use Rattle.sap_meaning.specs.Touches.{among}
 use Rattle.sap_meaning.specs.Fine.{FineNode, FineGroup, inside, size}
 use Rattle.sap_meaning.proofs.Trees.{lands}
 use Rattle.sap_ir.specs.Guarded.{Going}
-use Rattle.sap_ir.specs.Plain.Nested.{Body, Forest, none, state, seat_name, root_seat}
+use Rattle.sap_ir.specs.Plain.Nested.{Body, Forest, none, state}
+use Rattle.sap_net.specs.PortNames.{seat_name, root_seat}
 use Rattle.sap_ir.specs.Plain.Nested as nested
 use Rattle.sap_ir.specs.Plain.Does.{put_value, first_child, restart, enter}
 use Rattle.sap_tagged.specs.Keys.{Key, value_key, tag_key, seat_key, refused_key, level_key, wire_key, first_key, same}

@@ -4,7 +4,7 @@ use Rattle.std.proofs.lemmas.Bool.{cases_Bool, eqb-true, and_parts}
 use Rattle.sap_lemmas.proofs.Bools.{true_is_not_false}
 use Rattle.sap_meaning.specs.Program.{World, Kind, entity, root, is_dynamic, is_input, is_memory, is_register, listed, Step, assign, write, retag, retag_cell, go_to, fall_to_child, Command, lone, try, if_else, try_then, case_of, Arms, last_arm, and_arm, Block, end_block, command_then, state_node, Group, no_node, and_node, kind_is_input, kind_is_register, kind_is_memory, kind_is_state}
 use Rattle.sap_meaning.specs.Program as program
-use Rattle.sap_meaning.specs.Checks.{Spot}
+use Rattle.sap_meaning.specs.Checks.{Home}
 use Rattle.sap_meaning.specs.Touches.{step_assigns, assigns, arms_assign, block_assigns, group_assigns, among, step_hangs, hangs, arms_hang, block_hangs, touches, root_touches}
 use Rattle.sap_meaning.specs.Runs.{listed_alone}
 use Rattle.sap_meaning.specs.Fine.{FineStep, FineCommand, FineArms, FineBlock, FineGroup, ExactStep, Exact, ExactArms, ExactBlock}
@@ -119,7 +119,7 @@ dynamic_tag w x t c = elim (cases_Bool (is_memory w x)) [
   | inr m ↦ (tagged w x c.0 m, c.1)
 ]
 
-module _ (w : World) (q : Group) (sp : Spot) (here : IsState w sp.state) (kids : FineGroup w sp.children 0 sp.children) where
+module _ (w : World) (q : Group) (sp : Home) (here : IsState w sp.state) (kids : FineGroup w sp.children 0 sp.children) where
   touched : (c : Command) → FineCommand w q sp.children c → Hangs w (touches w sp c)
   touched c f x h =
       let b = and_parts (is_dynamic w x) (hangs sp.state sp.children c x) h in

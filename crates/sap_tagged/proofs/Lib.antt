@@ -21,7 +21,6 @@ pub mod Cycle
 pub mod Named
 pub mod Distinct
 pub mod Shown
-pub mod Counts
 pub mod Designs
 pub mod Conditions
 pub mod Fits

@@ -5,7 +5,7 @@ use Rattle.sap_maps.specs.Maps.{Name}
 use Rattle.sap_maps.specs.Term.{Term}
 use Rattle.sap_meaning.specs.Program.{root, Step, Group}
 use Rattle.sap_meaning.specs.Store.{Store, raise, Refusal, After, and_then, stay}
-use Rattle.sap_meaning.specs.Checks.{Spot, guard, test}
+use Rattle.sap_meaning.specs.Checks.{Home, guard, test}
 use Rattle.sap_meaning.specs.Fine.{FineStep}
 use Rattle.sap_ir.specs.Guarded.{Going, value_in}
 use Rattle.sap_ir.specs.Plain.Nested.{Body}
@@ -125,7 +125,7 @@ module _ (d : Setting) (widths : Name → ℕ) (laws : Lawful d widths) where
 
   -- what is looked at
 
-  pub record Looked (sp : Spot) (k : ℕ) (t : Step) (l : ℕ) (s : Store) (g g' : Going) : Type 0 where
+  pub record Looked (sp : Home) (k : ℕ) (t : Step) (l : ℕ) (s : Store) (g g' : Going) : Type 0 where
     pub stands : Stands d g' s
     pub tested : at d g' (wire_key k) ≡ bit (test d.world sp t l s)
     pub guarded : at d g' (wire_key (k + 1)) ≡ d.code (guard d.world sp t s)
@@ -138,7 +138,7 @@ module _ (d : Setting) (widths : Name → ℕ) (laws : Lawful d widths) where
     abbrev given : Key → Term Name → Going → Going
     given a t g = put_to d g a (value_in widths g t)
 
-    does_looks : (sp : Spot) (p k : ℕ) (t : Step) (g : Going) (rest : Body) → body_does widths f go (looks d sp p k t rest) g
+    does_looks : (sp : Home) (p k : ℕ) (t : Step) (g : Going) (rest : Body) → body_does widths f go (looks d sp p k t rest) g
         ≡ body_does widths f go rest
         (given (wire_key (k + 4)) (stays d t)
         (given (wire_key (k + 3)) (written d (var d (wire_key p)) t)
@@ -147,7 +147,7 @@ module _ (d : Setting) (widths : Name → ℕ) (laws : Lawful d widths) where
     unfolding put_to
     does_looks sp p k t g rest = refl
 
-    pub looked : (q : Group) (sp : Spot) (p k : ℕ) (t : Step) (l : ℕ) (s : Store) (g : Going) (rest : Body) → p < k → Placed d.world q sp → FineStep d.world q sp.children t
+    pub looked : (q : Group) (sp : Home) (p k : ℕ) (t : Step) (l : ℕ) (s : Store) (g : Going) (rest : Body) → p < k → Placed d.world q sp → FineStep d.world q sp.children t
         → Stands d g s → at d g (wire_key p) ≡ d.code l
         → (g' : Going) × (body_does widths f go (looks d sp p k t rest) g ≡ body_does widths f go rest g') × Looked sp k t l s g g'
     looked q sp p k t l s g rest pk placed fine st pc =

@@ -9,7 +9,7 @@ use Rattle.sap_meaning.specs.Program.{Entity}
 use Rattle.sap_net.specs.Names.{is_among, AreDistinct}
 use Rattle.sap_ir.specs.declared.guarded.Var.{Var}
 use Rattle.sap_ir.specs.Source.{Source}
-use Rattle.sap_ir.specs.declared.guarded.Store.{Store}
+use Rattle.sap_ir.specs.declared.guarded.MemoryVariable.{MemoryVariable}
 use Rattle.sap_ir.specs.IsGuarded.{memory_names, variable_names}
 use Rattle.sap_ir.specs.Guarded.{first_number, register_number, number_at_start, first_cell, cell_at_start}
 use Rattle.sap_tagged.specs.Plain.{for_entities}
@@ -88,23 +88,25 @@ in_entities picks of v y p h x (e ∷ es) l m = elim (reached x y l) [
 
 -- memories
 
-pub among_store : (ms : List Store) (m : Store) → In ms m → is_among m.name (memory_names ms) ≡ true
+pub among_store : (ms : List MemoryVariable) (m : MemoryVariable) → In ms m → is_among m.name (memory_names ms) ≡ true
 among_store [] m h = absurd h
-among_store (y ∷ ys) m (inl e) = subst (λ (z : Store). is_among m.name (z.name ∷ memory_names ys) ≡ true) (sym e) (rw (bytes_eq_same m.name) refl)
+among_store (y ∷ ys) m (inl e) = subst (λ (z : MemoryVariable). is_among m.name (z.name ∷ memory_names ys) ≡ true) (sym e) (rw (bytes_eq_same m.name) refl)
 among_store (y ∷ ys) m (inr h) = elim (cases_Bool (bytes_eq m.name y.name)) [ inl t ↦ rw t refl | inr t ↦ rw t (among_store ys m h) ]
 
-pub cell_in : (before : Option Valuation) (ms : List Store) (m : Store) (i : ℕ) → AreDistinct (memory_names ms) → In ms m → cell_at_start before ms m.name i ≡ first_cell before m i
+pub cell_in : (before : Option Valuation) (ms : List MemoryVariable) (m : MemoryVariable) (i : ℕ) → AreDistinct (memory_names ms) → In ms m → cell_at_start before ms m.name i ≡ first_cell before m i
 cell_in before [] m i d h = absurd h
 cell_in before (y ∷ ys) m i d (inl e) =
-    subst (λ (z : Store). cell_at_start before (z ∷ ys) m.name i ≡ first_cell before m i) (sym e) (rw (bytes_eq_same m.name) refl)
+    subst (λ (z : MemoryVariable). cell_at_start before (z ∷ ys) m.name i ≡ first_cell before m i) (sym e) (rw (bytes_eq_same m.name) refl)
 cell_in before (y ∷ ys) m i d (inr h) =
     let o : bytes_eq y.name m.name ≡ false = apart_by_membership y.name m.name (memory_names ys) d.0 (among_store ys m h) in
     rw o (cell_in before ys m i d.1 h)
 
-pub find_store : (ms : List Store) (m : Store) → AreDistinct (memory_names ms) → In ms m → find (map (λ (z : Store). (z.name, z.width)) ms) m.name ≡ Some m.width
-find_store [] m d h = absurd h
-find_store (y ∷ ys) m d (inl e) =
-    subst (λ (z : Store). find (map (λ (v : Store). (v.name, v.width)) (z ∷ ys)) m.name ≡ Some m.width) (sym e) (rw (bytes_eq_same m.name) refl)
-find_store (y ∷ ys) m d (inr h) =
+-- what is told of a memory
+pub find_store : {X : Type 0} (of : MemoryVariable → X) (ms : List MemoryVariable) (m : MemoryVariable) → AreDistinct (memory_names ms) → In ms m
+    → find (map (λ (z : MemoryVariable). (z.name, of z)) ms) m.name ≡ Some (of m)
+find_store of [] m d h = absurd h
+find_store of (y ∷ ys) m d (inl e) =
+    subst (λ (z : MemoryVariable). find (map (λ (v : MemoryVariable). (v.name, of v)) (z ∷ ys)) m.name ≡ Some (of m)) (sym e) (rw (bytes_eq_same m.name) refl)
+find_store of (y ∷ ys) m d (inr h) =
     let o : bytes_eq y.name m.name ≡ false = apart_by_membership y.name m.name (memory_names ys) d.0 (among_store ys m h) in
-    rw o (find_store ys m d.1 h)
+    rw o (find_store of ys m d.1 h)

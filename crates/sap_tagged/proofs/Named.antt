@@ -7,7 +7,7 @@ use Rattle.sap_lemmas.proofs.Everywhere.{all_append}
 use Rattle.sap_maps.specs.Maps.{Name}
 use Rattle.sap_meaning.specs.Program.{World, Entity, root, children, is_input, is_register, is_memory, is_state, is_dynamic}
 use Rattle.sap_ir.specs.declared.guarded.Var.{Var}
-use Rattle.sap_ir.specs.declared.guarded.Store.{Store}
+use Rattle.sap_ir.specs.declared.guarded.MemoryVariable.{MemoryVariable}
 use Rattle.sap_interface.specs.StandsFor.{Named, world}
 use Rattle.sap_interface.specs.InterfaceNames.{holds_numbers, IsInterfaceName, value_of, tag_of, state_tag_of, child_of, child_of_root}
 use Rattle.sap_tagged.specs.Keys.{value_key, tag_key, seat_key, key_name}
@@ -67,7 +67,7 @@ module _ (d : Named) (tag sites : ℕ) (design : Design d tag sites) where
   abbrev IsNamedVariable : Var → Type 0
   IsNamedVariable v = IsInterfaceName d sites v.name
 
-  abbrev IsNamedStore : Store → Type 0
+  abbrev IsNamedStore : MemoryVariable → Type 0
   IsNamedStore m = IsInterfaceName d sites m.name
 
   shown_named : AllByRecursion IsNamedVariable (shown_registers d tag)

@@ -7,14 +7,15 @@ use Rattle.sap_maps.specs.Maps.{Name}
 use Rattle.sap_maps.specs.Term.{Term, part}
 use Rattle.sap_meaning.specs.Program.{root, is_dynamic, is_register, listed, Step, assign, write, retag, retag_cell, go_to, fall_to_child, Command, lone, try, if_else, try_then, case_of, Arms, last_arm, and_arm, Block, end_block, command_then, state_node, Group, no_node, and_node}
 use Rattle.sap_meaning.specs.Expressions.{width_of as number_width}
-use Rattle.sap_meaning.specs.Checks.{Spot}
+use Rattle.sap_meaning.specs.Checks.{Home}
 use Rattle.sap_meaning.specs.Runs.{listed_alone}
 use Rattle.sap_meaning.specs.Fine.{step_reaching, reaching, arms_reaching, block_reaching, group_reaches, OnceStep, Once, OnceArms, OnceBlock, OnceGroup, FineProgram}
 use Rattle.sap_net.specs.Names.{is_among, AreDistinct}
 use Rattle.sap_ir.specs.Source.{set, put}
 use Rattle.sap_ir.specs.Source.{width_of}
 use Rattle.sap_ir.specs.Guarded.{Going, value_in, after_action, begun}
-use Rattle.sap_ir.specs.Plain.Nested.{Body, stop, act, cases, goto, fall, seat_name, root_seat, declarations}
+use Rattle.sap_ir.specs.Plain.Nested.{Body, stop, act, cases, goto, fall, declarations}
+use Rattle.sap_net.specs.PortNames.{seat_name, root_seat}
 use Rattle.sap_ir.specs.Plain.Does.{body_does, falls_of, enter}
 use Rattle.sap_ir.specs.Plain.Views.{follow}
 use Rattle.sap_ir.specs.Plain.Writes.{body_writes, child_writes, PlainWritesOnce}
@@ -140,7 +141,7 @@ module _ (d : Setting) (apart : (a b : Key) → bytes_eq (d.name a) (d.name b) �
     }
 
     module _ (reach : ℕ → Bool) (beyond : Type 0) (falls : beyond → (g : Going) → Written d reach (below g)) where
-      effect_writes : (sp : Spot) (k : ℕ) (t : Step) → OnceStep beyond t → Writes (step_reaching reach t) (effect_of d sp k t)
+      effect_writes : (sp : Home) (k : ℕ) (t : Step) → OnceStep beyond t → Writes (step_reaching reach t) (effect_of d sp k t)
       effect_writes sp k (assign site x e) o g = elim (cases_Bool (is_dynamic d.world x)) [
         | inl i ↦ rw i (written_none (step_reaching reach (assign site x e)))
         | inr i ↦ rw i (written_none (step_reaching reach (assign site x e)))
@@ -165,7 +166,7 @@ module _ (d : Setting) (apart : (a b : Key) → bytes_eq (d.name a) (d.name b) �
           let g1 = after_action widths g (set (d.name (inner_key sp.state)) (var d (wire_key (k + 2)))) in
           subst (λ (ns : List Name). Written d (step_reaching reach (fall_to_child site hang)) ns) (sym (append_none (below g1))) (falls o g1)
 
-      module _ (sp : Spot) where
+      module _ (sp : Home) where
         attempt_writes : (p k : ℕ) (t : Step) (o : OnceStep beyond t) (hangs : ℕ → Bool) (h : Body) (P : ℕ → Bool) → ((m : ℕ) → step_reaching reach t m ≡ true → P m ≡ true) → Writes P h
             → Writes P (attempt_of d sp p k t hangs h)
         unfolding attempt_of

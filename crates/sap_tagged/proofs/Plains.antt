@@ -15,12 +15,13 @@ use Rattle.sap_tree.specs.Words.{is_name}
 use Rattle.sap_tree.specs.declared.version.Version.TheVariants.{One}
 use Rattle.sap_net.specs.Names.{is_among, AreDistinct}
 use Rattle.sap_ir.specs.declared.guarded.Var.{Var}
-use Rattle.sap_ir.specs.declared.guarded.Store.{Store}
+use Rattle.sap_ir.specs.declared.guarded.MemoryVariable.{MemoryVariable}
 use Rattle.sap_ir.specs.Source.{Source, readable}
 use Rattle.sap_ir.specs.IsGuarded.{assignable, variable_names, memory_names}
 use Rattle.sap_ir.proofs.Declared.{distinct_front, distinct_behind, apart_lists}
-use Rattle.sap_ir.specs.Plain.Nested.{Nested, Forest, declarations, group_names, state_names, seat_name, seats}
-use Rattle.sap_ir.specs.Plain.Nested as nested
+use Rattle.sap_ir.specs.Plain.Nested.{Nested, Forest, declarations, group_names, state_names, seats}
+use Rattle.sap_net.specs.PortNames.{seat_name}
+use Rattle.sap_net.specs.PortNames as ports
 use Rattle.sap_ir.specs.Plain.IsPlain.{IsPlain, is_gate}
 use Rattle.sap_ir.proofs.plain.SeatWidths.{seat_holds}
 use Rattle.sap_interface.specs.StandsFor.{Named, name, world}
@@ -199,8 +200,8 @@ module _ (d : Named) (tag sites : ℕ) (design : Design d tag sites) (fit : Fitt
     seats = λ q h. register_found (seat_var d q) (in_seat d tag sites design q h);
     firsts = λ m h. wire_found (first_wire m) (in_first m h);
     inners = λ x l h. wire_found (inner_wire x) (in_inner x l h);
-    stores = λ m h. find_by (λ (z : Store). z.name) (λ z. (z.width, z.depth)) src.memories (memory_of d m) stores_once (in_memory d tag sites design m h);
-    marks = λ m h t. find_by (λ (z : Store). z.name) (λ z. (z.width, z.depth)) src.memories _ stores_once (in_tags d tag sites design m h t);
+    stores = λ m h. find_by (λ (z : MemoryVariable). z.name) (λ z. (z.width, z.depth)) src.memories (memory_of d m) stores_once (in_memory d tag sites design m h);
+    marks = λ m h t. find_by (λ (z : MemoryVariable). z.name) (λ z. (z.width, z.depth)) src.memories _ stores_once (in_tags d tag sites design m h t);
     wide = fit.wide;
     small = design.small;
     few_levels = fit.few_levels;
@@ -228,7 +229,7 @@ module _ (d : Named) (tag sites : ℕ) (design : Design d tag sites) (fit : Fitt
 
   free : (a : Key) → (sort a ≡ 2 → ⊥) → is_among (key_name d a) (seats p) ≡ false
   free a f =
-      let own : bytes_eq (key_name d a) nested.root_seat ≡ false = no_seat a (root w) nested.root_seat f states.root_seat in
+      let own : bytes_eq (key_name d a) ports.root_seat ≡ false = no_seat a (root w) ports.root_seat f states.root_seat in
       let others : is_among (key_name d a) (map seat_name (state_names forest)) ≡ false =
       none_of (key_name d a) (state_names forest)
       (all_states set (λ (x : Name). bytes_eq (key_name d a) (seat_name x) ≡ false) d.program.states forest shape
@@ -255,7 +256,7 @@ module _ (d : Named) (tag sites : ℕ) (design : Design d tag sites) (fit : Fitt
         some_state = some_states set g forest shape l;
         states_named = all_states set (λ (x : Name). is_name One x ≡ true) g forest shape (λ t i. let l = (inside_state w g 0 g f.states t i).declared in ap (is_name One) (ap (λ (b : Bool). if b then name d t else numeral t) l) ∙ design.names.named t l);
         states_differ = states_once set states g 0 g forest f.states shape;
-        root = seat_is_fine set src seat_registers declares.few_children (root w) nested.root_seat g forest states.root_seat f.count shape;
+        root = seat_is_fine set src seat_registers declares.few_children (root w) ports.root_seat g forest states.root_seat f.count shape;
         states_fine =
             top_fine d tag src (seats p) declares assigns states seat_registers g g 0 0 (listed d.program.hang) (group_names forest) f.states f.states (λ t h. h) (group_has set g forest shape)
             (root_hangs w g d.program.hang f.states design.exact.hang) own_found design.exact.lists site_found fit.sized.states fit.ranged.states fit.conditions design.few_arms;

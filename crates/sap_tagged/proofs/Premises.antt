@@ -2,8 +2,7 @@
 use Rattle.std.proofs.Common.{◌≡◌, ℕ, ◌+◌, ◌^◌, ◌<◌, ◌≤◌, ◌==◌, true, bit_or, nat_le}
 use Rattle.sap_meaning.specs.Program.{root, children}
 use Rattle.sap_meaning.specs.Fine.{FineProgram, ExactProgram}
-use Rattle.sap_meaning.specs.Sites.{program_sites}
-use Rattle.sap_resolve.proofs.premises.Rises.{count_from}
+use Rattle.sap_meaning.specs.Sites.{program_sites, numbers_from}
 use Rattle.sap_net.specs.Names.{AreDistinct}
 use Rattle.sap_ir.specs.IsGuarded.{declared}
 use Rattle.sap_ir.specs.Plain.Nested.{declarations}
@@ -16,7 +15,7 @@ pub record Design (d : Named) (tag sites : ℕ) : Type 0 where
   pub fine : FineProgram d.program
   pub exact : ExactProgram d.program
   pub few_arms : FewGroup d.program.states
-  pub numbered : program_sites d.program ≡ count_from sites 1
+  pub numbered : program_sites d.program ≡ numbers_from 1 sites
   pub few : 1 + sites ≤ 2 ^ 64
   pub few_children : (p : ℕ) → children (world d) p ≤ 2 ^ 64
   pub names : NamesApart d

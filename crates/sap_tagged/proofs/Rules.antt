@@ -7,14 +7,14 @@ use Rattle.sap_lemmas.proofs.Everywhere.{all_append}
 use Rattle.sap_lemmas.proofs.Texts.{bytes_eq_same}
 use Rattle.std.proofs.lemmas.Bool.{or_right}
 use Rattle.std.proofs.lemmas.List.{map-append}
-use Rattle.sap_resolve.proofs.SizedLemmas.{ranged_width}
+use Rattle.sap_resolved.proofs.SizedLemmas.{ranged_width}
 use Rattle.sap_net.proofs.NamesLemmas.{among_behind, among_front, apart_by_membership}
 use Rattle.sap_maps.specs.Maps.{Name}
 use Rattle.sap_maps.specs.Scope.{find}
 use Rattle.sap_meaning.specs.Program as program
 use Rattle.sap_meaning.specs.Program.{World, Kind, entity, root, children, width, is_input, is_register, is_memory, is_dynamic, State, state_node, Group, and_node, Command, lone, try, if_else, try_then, case_of, Arms, last_arm, and_arm, Block, end_block, command_then, kind_is_input, kind_is_register, kind_is_memory, kind_is_state}
 use Rattle.sap_meaning.specs.Sized.{SizedProgram}
-use Rattle.sap_resolve.specs.Sized.Ranges.{IsWidth, Ranged, RangedArms, RangedBlock, RangedState, RangedGroup, RangedProgram}
+use Rattle.sap_resolved.specs.Sized.Ranges.{IsWidth, Ranged, RangedArms, RangedBlock, RangedState, RangedGroup, RangedProgram}
 use Rattle.sap_net.specs.Names.{is_name, is_among, AreDistinct}
 use Rattle.sap_ir.specs.declared.guarded.Var.{Var}
 use Rattle.sap_ir.specs.Source.{Source}

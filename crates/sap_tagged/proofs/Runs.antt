@@ -8,7 +8,7 @@ use Rattle.sap_maps.specs.Term.{Term}
 use Rattle.sap_meaning.specs.Program.{listed, Step, assign, write, retag, retag_cell, go_to, fall_to_child, Command, lone, try, if_else, try_then, case_of, Arms, last_arm, and_arm, Block, end_block, command_then, Group}
 use Rattle.sap_meaning.specs.Store.{Store, raise, Refusal, After, stay, and_then}
 use Rattle.sap_meaning.specs.Expressions.{value, tag, width_of}
-use Rattle.sap_meaning.specs.Checks.{Spot, site_of, guard, test}
+use Rattle.sap_meaning.specs.Checks.{Home, site_of, guard, test}
 use Rattle.sap_meaning.specs.Does.{effect, attempt, attempt_then, select, branch, is_constant}
 use Rattle.sap_meaning.specs.Runs.{run, run_arms, run_block}
 use Rattle.sap_meaning.specs.Fine.{FineTerm, FineStep, FineCommand, FineArms, FineBlock}
@@ -79,7 +79,7 @@ module _ (d : Setting) (widths : Name → ℕ) (laws : Lawful d widths) (f : Goi
             ∙ ap (λ (b : Bool). if b then d.code l else at d g (level_key j)) (test_symmetric j n));
       }
 
-  module _ (q : Group) (sp : Spot) (placed : Placed d.world q sp) (goes : GoesRun d go sp.parent q) (base : ℕ) (enter : ℕ → ℕ → Store → After) (falls : FallsRun d f base sp.state enter) where
+  module _ (q : Group) (sp : Home) (placed : Placed d.world q sp) (goes : GoesRun d go sp.parent q) (base : ℕ) (enter : ℕ → ℕ → Store → After) (falls : FallsRun d f base sp.state enter) where
     effect_turns : (k free : ℕ) (t : Step) (l : ℕ) (b r : Store) (g : Going) → free ≤ base → FineStep d.world q sp.children t → Begins d k sp t l b r g
         → Turns d free g (body_does widths f go (effect_of d sp k t) g) (effect d.world sp enter t l b r)
     effect_turns k free (assign site x e) l b r g fb fine h = set_effect d widths laws f go enter q k free sp site x e l b r g fine h

@@ -1,41 +1,35 @@
 -- The interface of a plain program.
-use Rattle.std.proofs.Common.{◌≡◌, ℕ, zero, suc, ◌+◌, ◌<◌, ◌≤◌, List, [], ◌∷◌, ◌++◌, map, Bool, true, false, inl, inr, refl, sym, ap, ap₂, ◌∙◌, subst, if◌then◌else◌, arith, nat_lt}
+use Rattle.std.proofs.Common.{◌≡◌, ℕ, zero, suc, ◌+◌, ◌<◌, ◌≤◌, List, [], ◌∷◌, ◌++◌, map, Bool, true, false, Some, inl, inr, refl, sym, ap, ap₂, ◌∙◌, subst, if◌then◌else◌, arith, nat_lt}
 use Rattle.std.proofs.lemmas.Bool.{lt-ltb}
 use Rattle.std.proofs.lemmas.List.{map-append}
+use Rattle.sap_lemmas.proofs.Everywhere.{map_of_all}
 use Rattle.sap_net.proofs.NamesLemmas.{among_front}
 use Rattle.sap_meaning.proofs.ProgramLemmas.{state_no_memory}
 use Rattle.sap_maps.specs.Maps.{Name}
-use Rattle.sap_meaning.specs.Program.{World, Entity, entity, root, children, width, is_input, is_register}
-use Rattle.sap_net.specs.Names.{is_among}
+use Rattle.sap_maps.specs.Scope.{Scope, find}
+use Rattle.sap_meaning.specs.Program.{World, Entity, entity, root, children, is_input, is_register}
+use Rattle.sap_net.specs.Names.{is_among, AreDistinct}
 use Rattle.sap_net.specs.declared.parts.PortKind.{PortKind}
 use Rattle.sap_net.specs.declared.parts.PortKind.TheVariants as kind
 use Rattle.sap_ir.specs.IsGuarded.{variable_names}
 use Rattle.sap_ir.specs.declared.guarded.Var.{Var}
-use Rattle.sap_ir.specs.declared.guarded.Store.{Store}
+use Rattle.sap_ir.specs.declared.guarded.MemoryVariable.{MemoryVariable}
 use Rattle.sap_ir.proofs.Declared.{apart_lists}
-use Rattle.sap_ir.specs.Plain.Nested.{Nested, seat_width, seat_name, root_seat}
+use Rattle.sap_ir.specs.Plain.Nested.{Nested, seat_width}
+use Rattle.sap_net.specs.PortNames.{seat_name, root_seat, value_name, tag_name, refused_name, refused_level_name}
 use Rattle.sap_ir.proofs.plain.SeatWidths.{seat_positive, seat_holds, seat_least}
-use Rattle.sap_interface.specs.PortNames.{value_name, tag_name, refused_name, level_name}
-use Rattle.sap_interface.specs.StandsFor.{Named, name, world, depth}
-use Rattle.sap_interface.specs.Interface.{Shown, pairs_of, site_ports, ports_of}
+use Rattle.sap_interface.specs.StandsFor.{Named, name, world}
+use Rattle.sap_interface.specs.InterfaceNames.{IsInterfaceName}
+use Rattle.sap_interface.specs.Interface.{Shown, HasSeat, DeclaresPart, DeclaresInterface, pairs_of, site_ports, ports_of}
 use Rattle.sap_tagged.specs.Keys.{value_key, tag_key, seat_key, key_name}
+use Rattle.sap_tagged.specs.Plain as plain
 use Rattle.sap_tagged.specs.Plain.{for_entities, value_var, tag_var, seat_var, level_at_start, shown_registers, tag_registers, seat_registers, site_wires, first_wires, inner_wires, group_wires, memory_of, plain_of}
-use Rattle.sap_tagged.specs.Law.{HasVariable, HasStore, HasSeatRegister, shows, shown, PlainInterface}
+use Rattle.sap_tagged.specs.Law.{shows, shown, declared_in}
 use Rattle.sap_tagged.proofs.Bools.{value_within, register_within, memory_within}
-use Rattle.sap_tagged.proofs.Members.{In, among_in, in_front}
+use Rattle.sap_tagged.proofs.Members.{In, among_in, find_in, find_store, in_front}
 use Rattle.sap_tagged.proofs.Named.{registers_named, memories_named}
 use Rattle.sap_tagged.proofs.Premises.{Design}
-use Rattle.sap_tagged.proofs.Cycle.{value_known, tag_known, seat_known, root_known, refused_known, level_known, refused_in, level_in, in_all, in_value, in_tag, in_own_tag, in_seat, in_memory, in_tags, in_input, behind_inputs, site_bound}
-
-has_variable : (xs : List Var) (x : Var) → In xs x → HasVariable xs x.name x.width
-has_variable [] x h = absurd h
-has_variable (y ∷ ys) x (inl e) = inl (ap (λ (z : Var). z.name) e, ap (λ (z : Var). z.width) e)
-has_variable (y ∷ ys) x (inr h) = inr (has_variable ys x h)
-
-has_store : (ms : List Store) (m : Store) → In ms m → HasStore ms m.name m.width m.depth
-has_store [] m h = absurd h
-has_store (y ∷ ys) m (inl e) = inl (ap (λ (z : Store). z.name) e, ap (λ (z : Store). z.width) e, ap (λ (z : Store). z.depth) e)
-has_store (y ∷ ys) m (inr h) = inr (has_store ys m h)
+use Rattle.sap_tagged.proofs.Cycle.{value_known, tag_known, seat_known, root_known, refused_known, level_known, refused_in, level_in, in_all, in_value, in_tag, in_own_tag, in_seat, in_memory, in_tags, in_input, behind_inputs, inputs_once, registers_once, wires_once, stores_once, site_bound}
 
 shown_associates : (xs ys zs : List Shown) → (xs ++ ys) ++ zs ≡ xs ++ (ys ++ zs)
 shown_associates [] ys zs = refl
@@ -81,7 +75,7 @@ module _ (d : Named) (tag sites : ℕ) (design : Design d tag sites) where
   sites_shown k (suc m) l =
       let b = site_bound d tag sites design k (few_more k m l) in
       ap₂ (λ (x y : Name). let r : List Shown = (x, kind.Wire) ∷ (y, kind.Wire) ∷ map {B = Shown} (λ (v : Var). (v.name, kind.Wire)) (site_wires d tag (k + 1) m) in r) (refused_known d k b) (level_known d k b)
-      ∙ ap (λ (zs : List Shown). let r : List Shown = (refused_name k, kind.Wire) ∷ (level_name k, kind.Wire) ∷ zs in r) (sites_shown (k + 1) m (omega (arith, l)))
+      ∙ ap (λ (zs : List Shown). let r : List Shown = (refused_name k, kind.Wire) ∷ (refused_level_name k, kind.Wire) ∷ zs in r) (sites_shown (k + 1) m (omega (arith, l)))
 
   -- the kind that each of some ports shows
   shows_each : (k : PortKind) (xs : List Var) → ((v : Var) → In xs v → shows p v.name ≡ k)
@@ -99,7 +93,7 @@ module _ (d : Named) (tag sites : ℕ) (design : Design d tag sites) where
   shows_wire v i =
       let m : is_among v.name (variable_names p.wires) ≡ true =
       among_in p.wires v (in_front (site_wires d tag 1 sites) (first_wires d tag ++ (inner_wires d tag ++ group_wires d tag 0 d.program.states)) v i) in
-      let stores = map (λ (s : Store). s.name) p.memories in
+      let stores = map (λ (s : MemoryVariable). s.name) p.memories in
       let f : is_among v.name (variable_names p.registers) ≡ false =
       apart_lists (variable_names p.registers) (variable_names p.wires ++ stores) (behind_inputs d tag sites design) v.name (among_front v.name (variable_names p.wires) stores m) in
       rw f refl
@@ -121,52 +115,77 @@ module _ (d : Named) (tag sites : ℕ) (design : Design d tag sites) where
   in_input_tag : (x : ℕ) → is_input w x ≡ true → nat_lt x (root w) ≡ true → In p.inputs (tag_var d tag x 0)
   in_input_tag x i l = in_all d tag sites design (is_input w) (λ x. value_var d x 0 ∷ tag_var d tag x 0 ∷ []) (tag_var d tag x 0) x l i (inr (inl refl))
 
-  seat_has : (q : ℕ) (n : Name) → key_name d (seat_key q) ≡ n → 0 < children w q → HasSeatRegister p.registers (children w q) n
-  seat_has q n e h = (
+  -- names with their widths
+
+  abbrev widths : List Var → Scope
+  widths xs = map (λ x. (x.name, x.width)) xs
+
+  -- a variable has its width under a name that is its own
+  has_width : (xs : List Var) (x : Var) (a : Name) → AreDistinct (variable_names xs) → In xs x → x.name ≡ a → find (widths xs) a ≡ Some x.width
+  has_width xs x a once i e = subst (λ (b : Name). find (widths xs) b ≡ Some x.width) e (find_in xs x once i)
+
+  has_register : (x : Var) (a : Name) → In p.registers x → x.name ≡ a → find (widths p.registers) a ≡ Some x.width
+  has_register x a i e = has_width p.registers x a (registers_once d tag sites design) i e
+
+  has_site_wire : (x : Var) (a : Name) → In (site_wires d tag 1 sites) x → x.name ≡ a → find (widths p.wires) a ≡ Some x.width
+  has_site_wire x a i e =
+      has_width p.wires x a (wires_once d tag sites design)
+      (in_front (site_wires d tag 1 sites) (first_wires d tag ++ (inner_wires d tag ++ group_wires d tag 0 d.program.states)) x i) e
+
+  has_memory : (m : MemoryVariable) (a : Name) → In p.memories m → m.name ≡ a → find (declared_in p).memories a ≡ Some (m.width, m.depth)
+  has_memory m a i e =
+      subst (λ (b : Name). find (declared_in p).memories b ≡ Some (m.width, m.depth)) e
+      (find_store (λ (z : MemoryVariable). (z.width, z.depth)) p.memories m (stores_once d tag sites design) i)
+
+  has_input : (x : Var) (a : Name) → In p.inputs x → x.name ≡ a → find (widths p.inputs) a ≡ Some x.width
+  has_input x a i e = has_width p.inputs x a (inputs_once d tag sites design) i e
+
+  has_seat : (q : ℕ) (a : Name) → key_name d (seat_key q) ≡ a → 0 < children w q → HasSeat (widths p.registers) (children w q) a
+  has_seat q a e h = (
     seat_width (children w q),
     record {
       positive = seat_positive (children w q);
       holds = seat_holds (children w q) (design.few_children q);
       least = λ v a b. seat_least (children w q) v a b;
     },
-    subst (λ (a : Name). HasVariable p.registers a (seat_width (children w q))) e (has_variable p.registers (seat_var d q) (in_seat d tag sites design q h)),
+    has_register (seat_var d q) a (in_seat d tag sites design q h) e,
   )
 
-  value_has : (xs : List Var) (x start : ℕ) → nat_lt x (root w) ≡ true → In xs (value_var d x start) → HasVariable xs (value_name (name d x)) (width w x)
-  value_has xs x start l i = subst (λ (a : Name). HasVariable xs a (width w x)) (value_known d x l) (has_variable xs (value_var d x start) i)
+  has_own_tag : (x : ℕ) → nat_lt x (root w) ≡ true → plain.has_own_tag d x ≡ true → find (widths p.registers) (tag_name (name d x)) ≡ Some tag
+  has_own_tag x l h = has_register (tag_var d tag x (level_at_start d x)) _ (in_own_tag d tag sites design x l h) (tag_known d x l)
 
-  tag_has : (xs : List Var) (x start : ℕ) → nat_lt x (root w) ≡ true → In xs (tag_var d tag x start) → HasVariable xs (tag_name (name d x)) tag
-  tag_has xs x start l i = subst (λ (a : Name). HasVariable xs a tag) (tag_known d x l) (has_variable xs (tag_var d tag x start) i)
+  part : 0 < children w (root w) → DeclaresPart (λ (a : Name). a) d tag sites (declared_in p)
+  part some = record {
+    registers = λ x r. (
+      has_register (value_var d x (entity w x).initial) _ (in_value d tag sites design x r) (value_known d x (register_within w x r)),
+      has_register (tag_var d tag x (level_at_start d x)) _ (in_tag d tag sites design x r) (tag_known d x (register_within w x r)),
+    );
+    site_wires = λ k i j. (let b = site_bound d tag sites design k j in (
+      has_site_wire _ _ (refused_in d tag k 1 sites i (omega (arith, j))) (refused_known d k b),
+      has_site_wire _ _ (level_in d tag k 1 sites i (omega (arith, j))) (level_known d k b),
+    ));
+    memories = λ m h. has_memory (memory_of d m) _ (in_memory d tag sites design m h) (value_known d m (memory_within w m h));
+    cell_tags = λ m h t. has_memory _ _ (in_tags d tag sites design m h t) (tag_known d m (memory_within w m h));
+    memory_tags = λ m h t. has_own_tag m (memory_within w m h) (rw (h, t) refl);
+    state_tags = λ x h l. has_own_tag x (lt-ltb x (root w) l) (rw (state_no_memory (entity w x).kind h) h);
+    seats = λ q l h. has_seat q (seat_name (name d q)) (seat_known d q (lt-ltb q (root w) l)) h;
+    root_seat = has_seat (root w) root_seat (root_known d) some;
+  }
 
-  in_site : (v : Var) → In (site_wires d tag 1 sites) v → In p.wires v
-  in_site v i = in_front (site_wires d tag 1 sites) (first_wires d tag ++ (inner_wires d tag ++ group_wires d tag 0 d.program.states)) v i
-
-  sites_have : (k : ℕ) → 1 ≤ k → k ≤ sites → HasVariable p.wires (refused_name k) 1 × HasVariable p.wires (level_name k) tag
-  sites_have k i j =
-      let b = site_bound d tag sites design k j in (
-        subst (λ (a : Name). HasVariable p.wires a 1) (refused_known d k b) (has_variable p.wires _ (in_site _ (refused_in d tag k 1 sites i (omega (arith, j))))),
-        subst (λ (a : Name). HasVariable p.wires a tag) (level_known d k b) (has_variable p.wires _ (in_site _ (level_in d tag k 1 sites i (omega (arith, j))))),
-      )
-
-  pub interface : 0 < children w (root w) → PlainInterface d tag sites (plain_of d tag sites)
+  pub interface : 0 < children w (root w) → DeclaresInterface d tag sites (declared_in (plain_of d tag sites))
   interface some = record {
     ports = ports_shown;
-    inputs = λ x i. (value_has p.inputs x 0 (input_within x i) (in_input d tag sites design x i (input_within x i)), tag_has p.inputs x 0 (input_within x i) (in_input_tag x i (input_within x i)));
-    registers = λ x r. (
-      value_has p.registers x (entity w x).initial (register_within w x r) (in_value d tag sites design x r),
-      tag_has p.registers x (level_at_start d x) (register_within w x r) (in_tag d tag sites design x r),
+    inputs = λ x i. (
+      has_input (value_var d x 0) _ (in_input d tag sites design x i (input_within x i)) (value_known d x (input_within x i)),
+      has_input (tag_var d tag x 0) _ (in_input_tag x i (input_within x i)) (tag_known d x (input_within x i)),
     );
-    site_wires = sites_have;
-    memories = λ m h.
-        subst (λ (a : Name). HasStore p.memories a (width w m) (depth d m)) (value_known d m (memory_within w m h)) (has_store p.memories (memory_of d m) (in_memory d tag sites design m h));
-    cell_tags = λ m h t.
-        subst (λ (a : Name). HasStore p.memories a tag (depth d m)) (tag_known d m (memory_within w m h)) (has_store p.memories _ (in_tags d tag sites design m h t));
-    memory_tags = λ m h t.
-        tag_has p.registers m (level_at_start d m) (memory_within w m h) (in_own_tag d tag sites design m (memory_within w m h) (rw (h, t) refl));
-    state_tags = λ x h l.
-        tag_has p.registers x (level_at_start d x) (lt-ltb x (root w) l) (in_own_tag d tag sites design x (lt-ltb x (root w) l) (rw (state_no_memory (entity w x).kind h) h));
-    seats = λ q l h. seat_has q (seat_name (name d q)) (seat_known d q (lt-ltb q (root w) l)) h;
-    root_seat = seat_has (root w) root_seat (root_known d) some;
-    register_names = registers_named d tag sites design;
-    memory_names = memories_named d tag sites design;
+    part = part some;
+    register_names = map_of_all IsNamed (λ (v : Var). (v.name, v.width)) p.registers (registers_named d tag sites design);
+    memory_names = map_of_all IsNamedMemory (λ (m : MemoryVariable). (m.name, (m.width, m.depth))) p.memories (memories_named d tag sites design);
   }
+    where
+      IsNamed : Name × ℕ → Type 0
+      IsNamed v = IsInterfaceName d sites v.0
+
+      IsNamedMemory : Name × (ℕ × ℕ) → Type 0
+      IsNamedMemory m = IsInterfaceName d sites m.0

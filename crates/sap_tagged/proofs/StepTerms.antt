@@ -8,7 +8,7 @@ use Rattle.sap_maps.specs.Term.{Term, cell}
 use Rattle.sap_meaning.specs.Program.{World, is_dynamic, is_register, is_state, authority, children, Step, assign, write, retag, retag_cell, go_to, fall_to_child, state_node, Group, no_node, and_node}
 use Rattle.sap_meaning.specs.Store.{Store, own, start, level, child}
 use Rattle.sap_meaning.specs.Expressions.{value, tag, new_level}
-use Rattle.sap_meaning.specs.Checks.{Spot, entry, child_opens, guard, test}
+use Rattle.sap_meaning.specs.Checks.{Home, entry, child_opens, guard, test}
 use Rattle.sap_meaning.specs.Touches.{among}
 use Rattle.sap_meaning.specs.Fine.{FineStep, size}
 use Rattle.sap_ir.specs.Guarded.{Going, value_in}
@@ -20,7 +20,7 @@ use Rattle.sap_tagged.proofs.Bools.{tagged, enforced_within, kept_no_memory}
 use Rattle.sap_tagged.proofs.Terms.{bit, both_bits, AllTagged, lub_value, below_value, mark, own_tag, value_tag, tag_value, new_value, told_value, enters_value, child_tag_value, child_enters_value, seat_value}
 
 -- Where a body stands: its state and those of its group have tags, as have its children; if these are, they have a seat.
-pub record Placed (w : World) (q : Group) (sp : Spot) : Type 0 where
+pub record Placed (w : World) (q : Group) (sp : Home) : Type 0 where
   pub here : among q sp.state ≡ true
   pub states : (t : ℕ) → among q t ≡ true → is_state w t ≡ true
   pub siblings : AllTagged w q
@@ -56,10 +56,10 @@ module _ (d : Setting) (widths : Name → ℕ) (laws : Lawful d widths) (g : Goi
   retagged x k t = let m = kept_no_memory d.world x k in own_tag d widths laws g s stands x (tagged d.world x (enforced_within d.world x t) m) m
 
   -- the current child is one of the children
-  has_child : (q : Group) (sp : Spot) → Placed d.world q sp → 0 < children d.world sp.state → child sp.state s < size sp.children
+  has_child : (q : Group) (sp : Home) → Placed d.world q sp → 0 < children d.world sp.state → child sp.state s < size sp.children
   has_child q sp placed some = subst (λ (k : ℕ). child sp.state s < k) placed.seated (stands.seated sp.state some)
 
-  pub guard_value : (q : Group) (sp : Spot) (k : Step) → Placed d.world q sp → FineStep d.world q sp.children k → value_in widths g (guard_of d sp k) ≡ d.code (guard d.world sp k s)
+  pub guard_value : (q : Group) (sp : Home) (k : Step) → Placed d.world q sp → FineStep d.world q sp.children k → value_in widths g (guard_of d sp k) ≡ d.code (guard d.world sp k s)
   guard_value q sp (assign site x e) placed f = elim (cases_Bool (is_dynamic d.world x)) [
     | inl t ↦ rw t refl
     | inr t ↦ rw t (register_tag x f.0)
@@ -79,7 +79,7 @@ module _ (d : Setting) (widths : Name → ℕ) (laws : Lawful d widths) (g : Goi
       child_tag_value d widths laws g s stands (seat_bits d sp.state) (seat_of d sp.state) sp.children (child sp.state s) 0 (has_child q sp placed some)
       (seat_value d widths laws g s stands sp.state some) placed.kids
 
-  pub test_value : (q : Group) (sp : Spot) (k : Step) (pc : Term Name) (l : ℕ) → Placed d.world q sp → FineStep d.world q sp.children k → value_in widths g pc ≡ d.code l
+  pub test_value : (q : Group) (sp : Home) (k : Step) (pc : Term Name) (l : ℕ) → Placed d.world q sp → FineStep d.world q sp.children k → value_in widths g pc ≡ d.code l
       → value_in widths g (test_of d sp pc k) ≡ bit (test d.world sp k l s)
   test_value q sp (assign site x e) pc l placed f h = elim (cases_Bool (is_dynamic d.world x)) [
     | inl t ↦ rw t refl
@@ -125,7 +125,7 @@ module _ (d : Setting) (widths : Name → ℕ) (laws : Lawful d widths) (g : Goi
       child_enters_value d widths laws g s stands pc (seat_bits d sp.state) (seat_of d sp.state) l sp.children (child sp.state s) 0 (has_child q sp placed some) h
       (seat_value d widths laws g s stands sp.state some) placed.kids
 
-  pub written_value : (q : Group) (sp : Spot) (k : Step) (pc : Term Name) (l : ℕ) → FineStep d.world q sp.children k → value_in widths g pc ≡ d.code l
+  pub written_value : (q : Group) (sp : Home) (k : Step) (pc : Term Name) (l : ℕ) → FineStep d.world q sp.children k → value_in widths g pc ≡ d.code l
       → value_in widths g (written d pc k) ≡ d.code (level_written d.world k l s)
   written_value q sp (assign site x e) pc l f h = lubs pc (tag_of d e) l _ h (tag_value d widths laws g s stands e f.1)
   written_value q sp (write site m i e) pc l f h =
@@ -136,7 +136,7 @@ module _ (d : Setting) (widths : Name → ℕ) (laws : Lawful d widths) (g : Goi
   written_value q sp (go_to site target) pc l f h = h
   written_value q sp (fall_to_child site hang) pc l f h = h
 
-  pub stays_value : (q : Group) (sp : Spot) (k : Step) → FineStep d.world q sp.children k → value_in widths g (stays d k) ≡ bit (number_stays d.world k s)
+  pub stays_value : (q : Group) (sp : Home) (k : Step) → FineStep d.world q sp.children k → value_in widths g (stays d k) ≡ bit (number_stays d.world k s)
   stays_value q sp (assign site x e) f = refl
   stays_value q sp (write site m i e) f = refl
   stays_value q sp (retag site x n) f =
@@ -154,7 +154,7 @@ all_open w no_node n l s h = refl
 all_open w (and_node (state_node c b k) g) zero l s h = rw ((and_parts (is_dynamic w c) (all_dynamic w g) h).0) refl
 all_open w (and_node (state_node c b k) g) (suc n) l s h = all_open w g n l s ((and_parts (is_dynamic w c) (all_dynamic w g) h).1)
 
-pub always_holds : (w : World) (sp : Spot) (k : Step) (l : ℕ) (s : Store) → always w sp k ≡ true → test w sp k l s ≡ true
+pub always_holds : (w : World) (sp : Home) (k : Step) (l : ℕ) (s : Store) → always w sp k ≡ true → test w sp k l s ≡ true
 always_holds w sp (assign site x e) l s h = rw h refl
 always_holds w sp (write site m i e) l s h = rw h refl
 always_holds w sp (retag site x n) l s h = absurd (true_is_not_false (sym h))

@@ -5,7 +5,7 @@ use Rattle.sap_maps.specs.Maps.{Name}
 use Rattle.sap_maps.specs.Term.{Term, constant, cell, two, choose, part}
 use Rattle.sap_meaning.specs.Program.{World, root, is_dynamic, is_register, width, below, listed, Step, assign, write, retag, retag_cell, go_to, fall_to_child, Command, lone, try, if_else, try_then, case_of, Arms, last_arm, and_arm, Block, end_block, command_then}
 use Rattle.sap_meaning.specs.Expressions.{width_of}
-use Rattle.sap_meaning.specs.Checks.{Spot, site_of}
+use Rattle.sap_meaning.specs.Checks.{Home, site_of}
 use Rattle.sap_meaning.specs.Runs.{listed_alone}
 use Rattle.sap_ir.specs.Source.{set, put}
 use Rattle.sap_ir.specs.Plain.Nested.{Body, stop, act, cases, goto, fall, seat_width}
@@ -38,7 +38,7 @@ raises d hangs j rest = for_each d tag_key hangs (λ x. lub (var d (tag_key x)) 
 
 -- What is looked at: wire k has the test, k + 1 the guard, k + 2 the context inside, k + 3 the level that is written, k + 4 whether the number stays. The
 -- context is in wire p.
-abbrev pub looks : Setting → Spot → (p k : ℕ) → Step → Body → Body
+abbrev pub looks : Setting → Home → (p k : ℕ) → Step → Body → Body
 looks d at p k s rest =
     gives d (wire_key k) (test_of d at (var d (wire_key p)) s)
     (gives d (wire_key (k + 1)) (guard_of d at s)
@@ -51,7 +51,7 @@ abbrev pub resets : World → (target : ℕ) → ℕ → Bool
 resets w target x = below w target x && is_dynamic w x
 
 -- The effect of a step. A fall leaves its context to the children.
-abbrev pub effect_of : Setting → Spot → (k : ℕ) → Step → Body
+abbrev pub effect_of : Setting → Home → (k : ℕ) → Step → Body
 effect_of d at k (assign site x e) =
     if is_dynamic d.world x then gives d (tag_key x) (var d (wire_key (k + 3))) (gives d (value_key x) (expr d e) stop) else gives d (value_key x) (expr d e) stop
 effect_of d at k (write site m i e) =
@@ -77,20 +77,20 @@ abbrev pub refusal : Setting → (k : ℕ) → Step → (handler : Body) → Bod
 refusal d k s h = gives d (refused_key (site_of s)) yes (gives d (level_key (site_of s)) (var d (wire_key (k + 2))) h)
 
 -- what comes behind the raises
-abbrev pub outcome : Setting → Spot → (k : ℕ) → Step → (handler : Body) → Body
+abbrev pub outcome : Setting → Home → (k : ℕ) → Step → (handler : Body) → Body
 outcome d at k s h =
     if always d.world at s then effect_of d at k s else cases (var d (wire_key k)) (effect_of d at k s) (refusal d k s h) stop
 
 -- The context is in wire p, and the wires from k on are free.
-unfoldable pub attempt_of : Setting → Spot → (p k : ℕ) → Step → (hangs : ℕ → Bool) → (handler : Body) → Body
+unfoldable pub attempt_of : Setting → Home → (p k : ℕ) → Step → (hangs : ℕ → Bool) → (handler : Body) → Body
 attempt_of d at p k s hangs h = looks d at p k s (raises d hangs (k + 1) (outcome d at k s h))
 
 -- what comes behind the raises of a step with `then`: behind its effect the accepted part
-abbrev pub outcome_then : Setting → Spot → (k : ℕ) → Step → (accepted refused : Body) → Body
+abbrev pub outcome_then : Setting → Home → (k : ℕ) → Step → (accepted refused : Body) → Body
 outcome_then d at k s a h =
     if always d.world at s then follow (effect_of d at k s) a else cases (var d (wire_key k)) (follow (effect_of d at k s) a) (refusal d k s h) stop
 
-unfoldable pub attempt_then_of : Setting → Spot → (p k : ℕ) → Step → (hangs : ℕ → Bool) → (accepted refused : Body) → Body
+unfoldable pub attempt_then_of : Setting → Home → (p k : ℕ) → Step → (hangs : ℕ → Bool) → (accepted refused : Body) → Body
 attempt_then_of d at p k s hangs a h = looks d at p k s (raises d hangs (k + 1) (outcome_then d at k s a h))
 
 -- The blocks of a `case` are numbered from 0, the one after `else` last. Which of them runs is a number in a wire, so that there is one comparison for
@@ -159,7 +159,7 @@ abbrev mutual
   wires_block (command_then c cs) = wires c + wires_block cs
 
 unfoldable mutual
-  pub command_plain : Setting → Spot → (p k : ℕ) → Command → Body
+  pub command_plain : Setting → Home → (p k : ℕ) → Command → Body
   command_plain d at p k (lone s) = attempt_of d at p k s (listed_alone d.world at s) stop
   command_plain d at p k (try s hang h) = attempt_of d at p k s (listed hang) (block_plain d at (k + 2) (k + 5) h)
   command_plain d at p k (if_else hang e a b) =
@@ -169,10 +169,10 @@ unfoldable mutual
   command_plain d at p k (case_of hang e arms) = pick_of d p k e (listed hang) arms (arms_plain d at (k + 1) (k + 4) arms)
 
   -- the blocks
-  pub arms_plain : Setting → Spot → (p k : ℕ) → Arms → List Body
+  pub arms_plain : Setting → Home → (p k : ℕ) → Arms → List Body
   arms_plain d at p k (last_arm b) = block_plain d at p k b ∷ []
   arms_plain d at p k (and_arm constants b arms) = block_plain d at p k b ∷ arms_plain d at p (k + wires_block b) arms
 
-  pub block_plain : Setting → Spot → (p k : ℕ) → Block → Body
+  pub block_plain : Setting → Home → (p k : ℕ) → Block → Body
   block_plain d at p k end_block = stop
   block_plain d at p k (command_then c cs) = follow (command_plain d at p k c) (block_plain d at p (k + wires c) cs)

@@ -2,8 +2,7 @@
 use Rattle.std.specs.Prelude.{ℕ, zero, suc, ◌+◌, ◌/◌, ◌%◌, ◌&&◌, Bool, nat_eq, nat_lt, [], ◌∷◌, ◌++◌, codes, if◌then◌else◌}
 use Rattle.sap_maps.specs.Maps.{Name}
 use Rattle.sap_meaning.specs.Program.{root}
-use Rattle.sap_interface.specs.PortNames.{value_name, tag_name}
-use Rattle.sap_ir.specs.Plain.Nested.{seat_name}
+use Rattle.sap_net.specs.PortNames.{value_name, tag_name, seat_name}
 use Rattle.sap_interface.specs.StandsFor.{Named, name, world}
 
 pub data Key : Type 0 where

@@ -5,7 +5,7 @@ use Rattle.sap_maps.specs.Maps.{Name}
 use Rattle.sap_maps.specs.Term.{Term, constant, read, cell, one, two, choose, join, part, map_term}
 use Rattle.sap_meaning.specs.Program.{World, is_dynamic, authority, children, LevelTerm, fixed, of, at_place, both, Step, assign, write, retag, retag_cell, go_to, fall_to_child, state_node, Group, no_node, and_node}
 use Rattle.sap_meaning.specs.Expressions.{width_of}
-use Rattle.sap_meaning.specs.Checks.{Spot, entry}
+use Rattle.sap_meaning.specs.Checks.{Home, entry}
 use Rattle.sap_ir.specs.Plain.Nested.{seat_width}
 use Rattle.sap_tagged.specs.Keys.{Key, value_key, tag_key, seat_key, first_key}
 use Rattle.sap_tagged.specs.Setting.{Setting}
@@ -100,7 +100,7 @@ seat_of d s = var d (seat_key s)
 
 -- steps
 
-abbrev pub guard_of : Setting → Spot → Step → Term Name
+abbrev pub guard_of : Setting → Home → Step → Term Name
 guard_of d at (assign site x e) = if is_dynamic d.world x then bits d d.world.order.bottom else var d (tag_key x)
 guard_of d at (write site m i e) = if is_dynamic d.world m then bits d d.world.order.bottom else lub (tag_of d i) (cell (d.name (tag_key m)) (expr d i))
 guard_of d at (retag site x n) = bits d (authority d.world x)
@@ -109,7 +109,7 @@ guard_of d at (go_to site target) = bits d (entry d.world target)
 guard_of d at (fall_to_child site hang) = child_tag d (seat_bits d at.state) (seat_of d at.state) at.children 0
 
 -- in the context pc
-abbrev pub test_of : Setting → Spot → (pc : Term Name) → Step → Term Name
+abbrev pub test_of : Setting → Home → (pc : Term Name) → Step → Term Name
 test_of d at pc (assign site x e) = if is_dynamic d.world x then yes else below_or_at (lub pc (tag_of d e)) (var d (tag_key x))
 test_of d at pc (write site m i e) =
     if is_dynamic d.world m then yes else below_or_at (lub pc (lub (tag_of d i) (tag_of d e))) (cell (d.name (tag_key m)) (expr d i))
@@ -145,7 +145,7 @@ all_dynamic w no_node = true
 all_dynamic w (and_node (state_node c b k) g) = is_dynamic w c && all_dynamic w g
 
 -- the step is no check site
-abbrev pub always : World → Spot → Step → Bool
+abbrev pub always : World → Home → Step → Bool
 always w at (assign site x e) = is_dynamic w x
 always w at (write site m i e) = is_dynamic w m
 always w at (retag site x n) = false

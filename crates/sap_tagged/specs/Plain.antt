@@ -7,7 +7,7 @@ use Rattle.sap_meaning.specs.Expressions.{width_of}
 use Rattle.sap_meaning.specs.Store.{own}
 use Rattle.sap_meaning.specs.State.{first_level}
 use Rattle.sap_ir.specs.declared.guarded.Var.{Var}
-use Rattle.sap_ir.specs.declared.guarded.Store.{Store}
+use Rattle.sap_ir.specs.declared.guarded.MemoryVariable.{MemoryVariable}
 use Rattle.sap_ir.specs.IsGuarded.{variable_names}
 use Rattle.sap_ir.specs.Plain.Nested.{Nested, seat_width}
 use Rattle.sap_interface.specs.StandsFor.{Named, world, depth}
@@ -115,14 +115,14 @@ abbrev pub wires_of : Named → (tag sites : ℕ) → List Var
 wires_of d tag sites = site_wires d tag 1 sites ++ (first_wires d tag ++ (inner_wires d tag ++ group_wires d tag 0 d.program.states))
 
 -- A memory, and that of its cells' tags where it is enforced.
-abbrev pub memory_of : Named → ℕ → Store
+abbrev pub memory_of : Named → ℕ → MemoryVariable
 memory_of d m = record { name = key_name d (value_key m); width = width (world d) m; depth = depth d m; start = 0 }
 
-abbrev pub tags_of : Named → (tag m : ℕ) → List Store
+abbrev pub tags_of : Named → (tag m : ℕ) → List MemoryVariable
 tags_of d tag m =
     if is_dynamic (world d) m then [] else record { name = key_name d (tag_key m); width = tag; depth = depth d m; start = level_at_start d m } ∷ []
 
-abbrev pub memories_of : Named → (tag : ℕ) → List Store
+abbrev pub memories_of : Named → (tag : ℕ) → List MemoryVariable
 memories_of d tag = all_entities d (is_memory (world d)) (λ m. memory_of d m ∷ tags_of d tag m)
 
 -- `tag` is the width of tags, `sites` how many check sites there are

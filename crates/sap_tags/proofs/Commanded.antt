@@ -19,19 +19,19 @@ use Rattle.sap_program.specs.declared.program.Command.{Command}
 use Rattle.sap_program.specs.declared.program.Command.TheVariants as command
 use Rattle.sap_program.specs.declared.program.Command.TheViews as shown
 use Rattle.sap_program.specs.Views.{term_of, step_of, constants_of, commands_in, arm_block, arms_before, command_of, block_of}
-use Rattle.sap_terms.specs.Parts.{arm_wires, command_wires, commands_wires}
+use Rattle.sap_tags_terms.specs.Parts.{arm_wires, command_wires, commands_wires}
 use Rattle.sap_tags.specs.Built.{arm_bodies, command_body, commands_body, decided}
-use Rattle.sap_terms.specs.Code.{entities_in, setting_in, spot_in, world_in}
+use Rattle.sap_tags_terms.specs.Code.{entities_in, setting_in, home_in, world_in}
 use Rattle.sap_tagged.specs.Commands.{gives, looks, raises, effect_of, refusal, attempt_of, attempt_then_of, arm_count, pick_width, picks_arm, picks, decides, pick_of, select_of, wires_block, command_plain, arms_plain, block_plain}
 use Rattle.sap_tagged.specs.Keys.{wire_key}
 use Rattle.sap_tagged.specs.Setting as pass
 use Rattle.sap_tagged.specs.Levels.{var, lub, expr, tag_of, always}
-use Rattle.sap_terms.specs.declared.setting.Setting.{Setting}
-use Rattle.sap_program.specs.declared.spot.Spot.{Spot}
+use Rattle.sap_tags_terms.specs.declared.setting.Setting.{Setting}
+use Rattle.sap_program.specs.declared.home.Home.{Home}
 use Rattle.sap_program.proofs.Shown.{command_of-do, command_of-try, command_of-if, command_of-then, command_of-case, block_of-none}
-use Rattle.sap_terms.proofs.Listed.{block_of-more, wires_are, wires_block_are, wires_drop, arms_drop}
-use Rattle.sap_effects.proofs.Raised.{raises_follow}
-use Rattle.sap_terms.proofs.Alone.{alone}
+use Rattle.sap_tags_terms.proofs.Listed.{block_of-more, wires_are, wires_block_are, wires_drop, arms_drop}
+use Rattle.sap_tags_effects.proofs.Raised.{raises_follow}
+use Rattle.sap_tags_terms.proofs.Alone.{alone}
 
 -- behind no blocks
 pub fresh_blocks : (old new : List (Vec PlainCmd Global)) (x : List Body) → old ≡ [] → map (λ b. body_of b.items) new ≡ map (λ b. body_of b.items) old ++ x → map (λ b. body_of b.items) new ≡ x
@@ -56,14 +56,14 @@ picks_same d u j w k i n (a ∷ arms) b rest = picks_same d u j w k (suc i) n ar
 module _ (s : Setting) where
   -- arms, and the block behind them
 
-  arms_are : (at : Spot) (p k : ℕ) (arms : List Arm) (b : program.Block)
-      → arms_plain (setting_in s) (spot_in s at) p k (arms_before (entities_in s) arms (last_arm b)) ≡ arm_bodies s at p k arms ++ block_plain (setting_in s) (spot_in s at) p (k + arm_wires arms) b ∷ []
+  arms_are : (at : Home) (p k : ℕ) (arms : List Arm) (b : program.Block)
+      → arms_plain (setting_in s) (home_in s at) p k (arms_before (entities_in s) arms (last_arm b)) ≡ arm_bodies s at p k arms ++ block_plain (setting_in s) (home_in s at) p (k + arm_wires arms) b ∷ []
   unfolding arm_bodies arms_plain arms_before arm_wires
-  arms_are at p k [] b = let z : k ≡ k + 0 = omega arith in ap (λ (w : ℕ). block_plain (setting_in s) (spot_in s at) p w b ∷ []) z
+  arms_are at p k [] b = let z : k ≡ k + 0 = omega arith in ap (λ (w : ℕ). block_plain (setting_in s) (home_in s at) p w b ∷ []) z
   arms_are at p k (a ∷ arms) b =
       let d = setting_in s in
       let n = entities_in s in
-      let here = spot_in s at in
+      let here = home_in s at in
       let first : Body = block_plain d here p k (arm_block n a) in
       let same : wires_block (arm_block n a) ≡ wires_block (arm_block 0 a) = wires_block_are n a.block.items ∙ sym (wires_block_are 0 a.block.items) in
       let next : k + wires_block (arm_block 0 a) + arm_wires arms ≡ k + arm_wires (a ∷ arms) = omega arith in
@@ -73,44 +73,44 @@ module _ (s : Setting) where
 
   -- commands
 
-  module _ (at : Spot) (p : ℕ) where
+  module _ (at : Home) (p : ℕ) where
     -- behind an effect nothing
-    decided_alone : (k : ℕ) (j : program.Step) (r : Body) → decided (setting_in s) (spot_in s at) k j stop r
+    decided_alone : (k : ℕ) (j : program.Step) (r : Body) → decided (setting_in s) (home_in s at) k j stop r
         ≡ (let d = setting_in s in
-        let e = effect_of d (spot_in s at) k j in
-        if always d.world (spot_in s at) j then e else cases (var d (wire_key k)) e r stop)
+        let e = effect_of d (home_in s at) k j in
+        if always d.world (home_in s at) j then e else cases (var d (wire_key k)) e r stop)
     unfolding decided
     decided_alone k j r =
         let d = setting_in s in
-        ap (λ (x : Body). if always d.world (spot_in s at) j then x else cases (var d (wire_key k)) x r stop) (follow_stop (effect_of d (spot_in s at) k j))
+        ap (λ (x : Body). if always d.world (home_in s at) j then x else cases (var d (wire_key k)) x r stop) (follow_stop (effect_of d (home_in s at) k j))
 
     -- what is looked at, the raises, and what is behind them
-    step_made : (k : ℕ) (j : program.Step) (hangs : ℕ → Bool) (b0 b1 end : Body) → b1 ≡ follow b0 (looks (setting_in s) (spot_in s at) p k j (raises (setting_in s) hangs (k + 1) stop))
-        → follow b1 end ≡ follow b0 (looks (setting_in s) (spot_in s at) p k j (raises (setting_in s) hangs (k + 1) end))
+    step_made : (k : ℕ) (j : program.Step) (hangs : ℕ → Bool) (b0 b1 end : Body) → b1 ≡ follow b0 (looks (setting_in s) (home_in s at) p k j (raises (setting_in s) hangs (k + 1) stop))
+        → follow b1 end ≡ follow b0 (looks (setting_in s) (home_in s at) p k j (raises (setting_in s) hangs (k + 1) end))
     step_made k j hangs b0 b1 end e =
         let d = setting_in s in
-        let here = spot_in s at in
+        let here = home_in s at in
         let raise : Body = raises d hangs (k + 1) stop in
         ap (λ (b : Body). follow b end) e
         ∙ follow-more b0 (looks d here p k j raise) end
         ∙ ap (λ (b : Body). follow b0 (looks d here p k j b)) (sym (raises_follow d hangs (k + 1) end))
 
-    looked : (k : ℕ) (j : program.Step) (hangs : ℕ → Bool) (b0 b1 b2 : Body) → b1 ≡ follow b0 (looks (setting_in s) (spot_in s at) p k j stop)
-        → b2 ≡ follow b1 (raises (setting_in s) hangs (k + 1) stop) → b2 ≡ follow b0 (looks (setting_in s) (spot_in s at) p k j (raises (setting_in s) hangs (k + 1) stop))
+    looked : (k : ℕ) (j : program.Step) (hangs : ℕ → Bool) (b0 b1 b2 : Body) → b1 ≡ follow b0 (looks (setting_in s) (home_in s at) p k j stop)
+        → b2 ≡ follow b1 (raises (setting_in s) hangs (k + 1) stop) → b2 ≡ follow b0 (looks (setting_in s) (home_in s at) p k j (raises (setting_in s) hangs (k + 1) stop))
     looked k j hangs b0 b1 b2 e f =
         let d = setting_in s in
         let raise : Body = raises d hangs (k + 1) stop in
-        f ∙ ap (λ (b : Body). follow b raise) e ∙ follow-more b0 (looks d (spot_in s at) p k j stop) raise
+        f ∙ ap (λ (b : Body). follow b raise) e ∙ follow-more b0 (looks d (home_in s at) p k j stop) raise
 
     pub attempt_made : (k : ℕ) (st : Step) (b0 b1 b2 x r : Body) → x ≡ stop → r ≡ refusal (setting_in s) k (step_of (entities_in s) st) stop
-        → b1 ≡ follow b0 (looks (setting_in s) (spot_in s at) p k (step_of (entities_in s) st) stop)
-        → b2 ≡ follow b1 (raises (setting_in s) (listed_alone (world_in s) (spot_in s at) (step_of (entities_in s) st)) (k + 1) stop)
-        → follow b2 (decided (setting_in s) (spot_in s at) k (step_of (entities_in s) st) x r)
-        ≡ follow b0 (attempt_of (setting_in s) (spot_in s at) p k (step_of (entities_in s) st) (listed_alone (world_in s) (spot_in s at) (step_of (entities_in s) st)) stop)
+        → b1 ≡ follow b0 (looks (setting_in s) (home_in s at) p k (step_of (entities_in s) st) stop)
+        → b2 ≡ follow b1 (raises (setting_in s) (listed_alone (world_in s) (home_in s at) (step_of (entities_in s) st)) (k + 1) stop)
+        → follow b2 (decided (setting_in s) (home_in s at) k (step_of (entities_in s) st) x r)
+        ≡ follow b0 (attempt_of (setting_in s) (home_in s at) p k (step_of (entities_in s) st) (listed_alone (world_in s) (home_in s at) (step_of (entities_in s) st)) stop)
     unfolding attempt_of
     attempt_made k st b0 b1 b2 x r xe re e f =
         let d = setting_in s in
-        let here = spot_in s at in
+        let here = home_in s at in
         let j = step_of (entities_in s) st in
         let hangs = listed_alone (world_in s) here j in
         step_made k j hangs b0 b2 (decided d here k j x r) (looked k j hangs b0 b1 b2 e f)
@@ -118,21 +118,21 @@ module _ (s : Setting) where
         ∙ ap (λ (q : Body). follow b0 (looks d here p k j (raises d hangs (k + 1) q))) (decided_alone k j (refusal d k j stop))
 
     pub do_made : (k : ℕ) (c : Command) (st : Step) (b0 : Body) → c ≡ command.Do st
-        → follow b0 (attempt_of (setting_in s) (spot_in s at) p k (step_of (entities_in s) st) (listed_alone (world_in s) (spot_in s at) (step_of (entities_in s) st)) stop) ≡ follow b0 (command_body s at p k c)
+        → follow b0 (attempt_of (setting_in s) (home_in s at) p k (step_of (entities_in s) st) (listed_alone (world_in s) (home_in s at) (step_of (entities_in s) st)) stop) ≡ follow b0 (command_body s at p k c)
     unfolding command_body command_plain
     do_made k c st b0 i =
-        ap (λ (y : program.Command). follow b0 (command_plain (setting_in s) (spot_in s at) p k y)) (sym (ap (command_of (entities_in s)) i ∙ command_of-do (entities_in s) st))
+        ap (λ (y : program.Command). follow b0 (command_plain (setting_in s) (home_in s at) p k y)) (sym (ap (command_of (entities_in s)) i ∙ command_of-do (entities_in s) st))
 
     pub try_made : (k : ℕ) (c : Command) (st : Step) (hang : List ℕ) (hs : Vec Command Global) (handler : List Command) (b0 b1 x r1 r2 : Body) → c ≡ shown.Try st hang hs → handler ≡ hs.items
         → x ≡ stop → r1 ≡ refusal (setting_in s) k (step_of (entities_in s) st) stop
         → r2 ≡ follow r1 (commands_body s at (k + 2) (k + 5) handler)
-        → b1 ≡ follow b0 (looks (setting_in s) (spot_in s at) p k (step_of (entities_in s) st) (raises (setting_in s) (listed (flags (entities_in s) hang)) (k + 1) stop))
-        → follow b1 (decided (setting_in s) (spot_in s at) k (step_of (entities_in s) st) x r2) ≡ follow b0 (command_body s at p k c)
+        → b1 ≡ follow b0 (looks (setting_in s) (home_in s at) p k (step_of (entities_in s) st) (raises (setting_in s) (listed (flags (entities_in s) hang)) (k + 1) stop))
+        → follow b1 (decided (setting_in s) (home_in s at) k (step_of (entities_in s) st) x r2) ≡ follow b0 (command_body s at p k c)
     unfolding command_body commands_body command_plain attempt_of
     try_made k c st hang hs handler b0 b1 x r1 r2 i le xe re1 re2 e =
         let d = setting_in s in
         let n = entities_in s in
-        let here = spot_in s at in
+        let here = home_in s at in
         let j = step_of n st in
         let inner : Body = block_plain d here (k + 2) (k + 5) (block_of n hs.items) in
         let re : r2 ≡ refusal d k j inner =
@@ -145,13 +145,13 @@ module _ (s : Setting) where
     pub then_made : (k : ℕ) (c : Command) (st : Step) (hang : List ℕ) (ys ns : Vec Command Global) (yl nl : List Command) (b0 b1 x r1 r2 : Body) (m : ℕ) → c ≡ shown.TryThen st hang ys ns
         → yl ≡ ys.items → nl ≡ ns.items → x ≡ commands_body s at (k + 2) (k + 5) yl → m ≡ k + 5 + commands_wires yl
         → r1 ≡ refusal (setting_in s) k (step_of (entities_in s) st) stop → r2 ≡ follow r1 (commands_body s at (k + 2) m nl)
-        → b1 ≡ follow b0 (looks (setting_in s) (spot_in s at) p k (step_of (entities_in s) st) (raises (setting_in s) (listed (flags (entities_in s) hang)) (k + 1) stop))
-        → follow b1 (decided (setting_in s) (spot_in s at) k (step_of (entities_in s) st) x r2) ≡ follow b0 (command_body s at p k c)
+        → b1 ≡ follow b0 (looks (setting_in s) (home_in s at) p k (step_of (entities_in s) st) (raises (setting_in s) (listed (flags (entities_in s) hang)) (k + 1) stop))
+        → follow b1 (decided (setting_in s) (home_in s at) k (step_of (entities_in s) st) x r2) ≡ follow b0 (command_body s at p k c)
     unfolding command_body commands_body command_plain attempt_then_of decided
     then_made k c st hang ys ns yl nl b0 b1 x r1 r2 m i ye ne xe me re1 re2 e =
         let d = setting_in s in
         let n = entities_in s in
-        let here = spot_in s at in
+        let here = home_in s at in
         let j = step_of n st in
         let first : Body = block_plain d here (k + 2) (k + 5) (block_of n ys.items) in
         let second : Body = block_plain d here (k + 2) (k + 5 + wires_block (block_of n ys.items)) (block_of n ns.items) in
@@ -172,7 +172,7 @@ module _ (s : Setting) where
     if_made k c hang t ys ns yl nl b0 b1 y1 n1 m i ye ne e yb me nb =
         let d = setting_in s in
         let n = entities_in s in
-        let here = spot_in s at in
+        let here = home_in s at in
         let raise : Body = raises d (listed (flags n hang)) k stop in
         let front : Body → Body = λ b. gives d (wire_key k) (tag_of d (term_of t)) (gives d (wire_key (k + 1)) (lub (var d (wire_key p)) (var d (wire_key k))) b) in
         let end : Body = cases (expr d (term_of t)) y1 n1 stop in
@@ -200,7 +200,7 @@ module _ (s : Setting) where
     case_made k c hang t arms cs al cl b0 b1 m made blocks block i ae ce me we be ke e =
         let d = setting_in s in
         let n = entities_in s in
-        let here = spot_in s at in
+        let here = home_in s at in
         let u = width_of (world_in s) (term_of t) in
         let last : program.Block = block_of n cs.items in
         let all : Arms = arms_before n arms.items (last_arm last) in
@@ -232,15 +232,15 @@ module _ (s : Setting) where
 
     body_none : (k : ℕ) → commands_body s at p k [] ≡ stop
     unfolding commands_body block_plain
-    body_none k = ap (block_plain (setting_in s) (spot_in s at) p k) (block_of-none (entities_in s))
+    body_none k = ap (block_plain (setting_in s) (home_in s at) p k) (block_of-none (entities_in s))
 
     body_more : (k : ℕ) (c : Command) (cs : List Command) → commands_body s at p k (c ∷ cs) ≡ follow (command_body s at p k c) (commands_body s at p (k + command_wires c) cs)
     unfolding commands_body command_body block_plain
     body_more k c cs =
         let d = setting_in s in
         let n = entities_in s in
-        ap (block_plain d (spot_in s at) p k) (block_of-more n c cs)
-        ∙ ap (λ (w : ℕ). follow (command_plain d (spot_in s at) p k (command_of n c)) (block_plain d (spot_in s at) p (k + w) (block_of n cs))) (wires_are n c)
+        ap (block_plain d (home_in s at) p k) (block_of-more n c cs)
+        ∙ ap (λ (w : ℕ). follow (command_plain d (home_in s at) p k (command_of n c)) (block_plain d (home_in s at) p (k + w) (block_of n cs))) (wires_are n c)
 
     body_drop : (k : ℕ) (cs : List Command) (i : ℕ) (e : Command) → i < length cs → commands_body s at p k (drop i cs) ≡ follow (command_body s at p k (get_or cs i e)) (commands_body s at p (k + command_wires (get_or cs i e)) (drop (i + 1) cs))
     body_drop k [] i e l = absurd (omega arith)
@@ -271,7 +271,7 @@ wires_step cs i c k m all l e f h =
 
 -- one arm more
 
-module _ (s : Setting) (at : Spot) (p : ℕ) where
+module _ (s : Setting) (at : Home) (p : ℕ) where
   arms_next : (k : ℕ) (arms : List Arm) (i : ℕ) (a : Arm) → i < length arms → a ≡ get_or arms i a
       → arm_bodies s at p k (drop i arms) ≡ commands_body s at p k (commands_in a) ∷ arm_bodies s at p (k + commands_wires (commands_in a)) (drop (i + 1) arms)
   unfolding arm_bodies commands_body commands_wires

@@ -13,27 +13,27 @@ use Rattle.sap_names.specs.declared.entity.Entity as declared_entity
 use Rattle.sap_names.specs.Entities.{entities_of}
 use Rattle.sap_meaning.specs.Program as meaning
 use Rattle.sap_meaning.specs.Program.{World, Entity, nothing, kind_is_state, is_state, width, root}
-use Rattle.sap_resolve.specs.Resolve.{states_of}
-use Rattle.sap_resolve.specs.Worlds.{world_of}
-use Rattle.sap_resolve.specs.Fill.{program_of}
-use Rattle.sap_resolve.proofs.Lookup.{Stands, AllMatch, entities_match}
+use Rattle.sap_resolved.specs.Resolve.{states_of}
+use Rattle.sap_resolved.specs.Worlds.{world_of}
+use Rattle.sap_resolved.specs.Fill.{program_of}
+use Rattle.sap_resolved.proofs.Lookup.{Stands, AllMatch, entities_match}
 use Rattle.sap_program.specs.declared.program.Program.{Program}
 use Rattle.sap_program.specs.Design.{IsProgramOf}
 use Rattle.sap_program.specs.Views.{count, group_of, program_in}
-use Rattle.sap_resolve.specs.Sized.Ranges.{IsWidth, RangedProgram}
-use Rattle.sap_resolve.specs.Sized.Sound.{WidthsInRange}
-use Rattle.sap_check.specs.WellFormed.{WellFormed}
+use Rattle.sap_resolved.specs.Sized.Ranges.{IsWidth, RangedProgram}
+use Rattle.sap_resolved.specs.Sized.Sound.{WidthsInRange}
+use Rattle.sap_shape.specs.WellFormed.{WellFormed}
 use Rattle.sap_interface.specs.StandsFor.{Named}
 use Rattle.sap_interface.specs.Designs.{named_of}
-use Rattle.sap_terms.specs.Code.{named_over}
+use Rattle.sap_tags_terms.specs.Code.{named_over}
 use Rattle.sap_tagged.specs.Law.{IsSound, plain_for}
 use Rattle.sap_tagged.specs.Plain.{plain_of}
-use Rattle.sap_terms.specs.Narrow.{IsNarrow}
+use Rattle.sap_tags_terms.specs.Narrow.{IsNarrow}
 use Rattle.sap_tagged.specs.Few.{FewGroup}
 use Rattle.sap_tagged.specs.States.{wires_group}
 use Rattle.sap_tagged.proofs.Designs.{design}
 use Rattle.sap_tagged.proofs.Fitted.{limits, group_few, group_filled}
-use Rattle.sap_terms.specs.Parts.{StatesFew}
+use Rattle.sap_tags_terms.specs.Parts.{StatesFew}
 use Rattle.sap_tags.proofs.FewArms.{few_group}
 
 named_as : (ls : Levels) (d : DesignTree) (p : Program) → IsProgramOf ls d p → named_over ls p ≡ named_of ls d

@@ -12,20 +12,20 @@ use Rattle.sap_program.specs.Hangs.{flags}
 use Rattle.sap_program.specs.declared.program.State.{State as StateCode, out-State}
 use Rattle.sap_program.specs.declared.program.Command.{Command}
 use Rattle.sap_program.specs.Views.{block_of, state_of, group_of}
-use Rattle.sap_terms.specs.Parts.{commands_wires, state_wires, states_wires}
+use Rattle.sap_tags_terms.specs.Parts.{commands_wires, state_wires, states_wires}
 use Rattle.sap_tags.specs.Built.{commands_body, state_forest, states_forest, top_forest, tops_forest}
-use Rattle.sap_terms.specs.Code.{named_in, entities_in, setting_in, spot_in}
+use Rattle.sap_tags_terms.specs.Code.{named_in, entities_in, setting_in, home_in}
 use Rattle.sap_tagged.specs.Keys.{first_key, tag_key, wire_key, inner_key, entity_word}
 use Rattle.sap_tagged.specs.Levels.{var}
 use Rattle.sap_tagged.specs.Commands.{gives, raises, block_plain, wires_block}
 use Rattle.sap_tagged.specs.Setting as pass
 use Rattle.sap_tagged.specs.States.{wires_state, saves, saved, group_plain, top_plain}
-use Rattle.sap_terms.specs.declared.setting.Setting.{Setting}
-use Rattle.sap_program.specs.declared.spot.Spot.{Spot}
+use Rattle.sap_tags_terms.specs.declared.setting.Setting.{Setting}
+use Rattle.sap_program.specs.declared.home.Home.{Home}
 use Rattle.sap_program.proofs.Shown.{state_of-out}
-use Rattle.sap_terms.proofs.Listed.{group_of-more, wires_block_are, wires_state_are, state_wires_are, states_drop}
-use Rattle.sap_effects.proofs.Raised.{raises_follow, entities_count}
-use Rattle.sap_effects.proofs.Pushed.{for_each_follow}
+use Rattle.sap_tags_terms.proofs.Listed.{group_of-more, wires_block_are, wires_state_are, state_wires_are, states_drop}
+use Rattle.sap_tags_effects.proofs.Raised.{raises_follow, entities_count}
+use Rattle.sap_tags_effects.proofs.Pushed.{for_each_follow}
 
 -- groups, one state more
 
@@ -54,7 +54,7 @@ module _ (s : Setting) where
   behind_body k m t bl be me =
       me ∙ ap (λ (l : List Command). k + 1 + commands_wires l) be ∙ ap (λ (w : ℕ). k + 1 + w) (sym (wires_block_are (entities_in s) (out-State t).body.items))
 
-  pub state_made : (parent k m : ℕ) (t : StateCode) (at : Spot) (bl : List Command) (kl : List StateCode) (y : PlainState-F PlainState) (b1 : Body)
+  pub state_made : (parent k m : ℕ) (t : StateCode) (at : Home) (bl : List Command) (kl : List StateCode) (y : PlainState-F PlainState) (b1 : Body)
       → at.state ≡ (out-State t).number → at.parent ≡ parent → at.children.now ≡ kl → bl ≡ (out-State t).body.items → kl ≡ (out-State t).children.items → m ≡ k + 1 + commands_wires bl
       → y.name ≡ entity_word (named_in s) (out-State t).number
       → b1 ≡ gives (setting_in s) (wire_key k) (var (setting_in s) (inner_key parent)) stop
@@ -68,11 +68,11 @@ module _ (s : Setting) where
       let x = (out-State t).number in
       let b = block_of n (out-State t).body.items in
       let g = group_of n (out-State t).children.items in
-      let here : ℕ → ℕ → List StateCode → checks.Spot = λ q r l. record { state = q; parent = r; children = group_of n l } in
+      let here : ℕ → ℕ → List StateCode → checks.Home = λ q r l. record { state = q; parent = r; children = group_of n l } in
       let front : Body → Body = λ c. gives d (wire_key k) (var d (inner_key parent)) c in
       let first : body_of y.cmds.items ≡ front (block_plain d (here x parent (out-State t).children.items) k (k + 1) b) =
       body
-      ∙ ap (λ (c : Body). follow c (block_plain d (spot_in s at) k (k + 1) (block_of n bl))) e1
+      ∙ ap (λ (c : Body). follow c (block_plain d (home_in s at) k (k + 1) (block_of n bl))) e1
       ∙ ap₂ (λ (q r : ℕ). front (block_plain d (here q r at.children.now) k (k + 1) (block_of n bl))) xe pe
       ∙ ap₂ (λ (l : List StateCode) (cs : List Command). front (block_plain d (here x parent l) k (k + 1) (block_of n cs))) (ce ∙ ke) be in
       let second : forest_of y.children.items ≡ group_plain d x (k + 1 + wires_block b) g =
@@ -141,7 +141,7 @@ module _ (s : Setting) where
       ∙ ap (λ (b : Body). saves d (gives d (wire_key k) (var d (tag_key x)) b)) (sym (raises_follow d (listed (flags (entities_in s) hl)) k c))
       ∙ ap (λ (l : List ℕ). saves d (gives d (wire_key k) (var d (tag_key x)) (raises d (listed (flags (entities_in s) l)) k c))) he
 
-  pub top_made : (k m : ℕ) (t : StateCode) (at : Spot) (hl : List ℕ) (bl : List Command) (kl : List StateCode) (y : PlainState-F PlainState) (b1 b2 b3 : Body)
+  pub top_made : (k m : ℕ) (t : StateCode) (at : Home) (hl : List ℕ) (bl : List Command) (kl : List StateCode) (y : PlainState-F PlainState) (b1 b2 b3 : Body)
       → at.state ≡ (out-State t).number → at.parent ≡ entities_in s → at.children.now ≡ kl → hl ≡ s.program.now.hang → bl ≡ (out-State t).body.items → kl ≡ (out-State t).children.items → m ≡ k + 1 + commands_wires bl
       → y.name ≡ entity_word (named_in s) (out-State t).number
       → b1 ≡ saves (setting_in s) stop
@@ -157,11 +157,11 @@ module _ (s : Setting) where
       let x = (out-State t).number in
       let b = block_of n (out-State t).body.items in
       let g = group_of n (out-State t).children.items in
-      let here : ℕ → ℕ → List StateCode → checks.Spot = λ q r l. record { state = q; parent = r; children = group_of n l } in
+      let here : ℕ → ℕ → List StateCode → checks.Home = λ q r l. record { state = q; parent = r; children = group_of n l } in
       let r : at.parent ≡ root d.world = pe ∙ sym (entities_count s.program.now.entities.items) in
       let front : Body → Body = λ c. saves d (gives d (wire_key k) (var d (tag_key x)) (raises d (listed (flags n s.program.now.hang)) k c)) in
       let first : body_of y.cmds.items ≡ front (block_plain d (here x (root d.world) (out-State t).children.items) k (k + 1) b) =
-      top_body hl k x stop b1 b2 b3 (body_of y.cmds.items) (block_plain d (spot_in s at) k (k + 1) (block_of n bl)) he e1 e2 e3 body
+      top_body hl k x stop b1 b2 b3 (body_of y.cmds.items) (block_plain d (home_in s at) k (k + 1) (block_of n bl)) he e1 e2 e3 body
       ∙ ap₂ (λ (q r : ℕ). front (block_plain d (here q r at.children.now) k (k + 1) (block_of n bl))) xe r
       ∙ ap₂ (λ (l : List StateCode) (cs : List Command). front (block_plain d (here x (root d.world) l) k (k + 1) (block_of n cs))) (ce ∙ ke) be in
       let second : forest_of y.children.items ≡ group_plain d x (k + 1 + wires_block b) g =

@@ -15,23 +15,23 @@ use Rattle.sap_tagged.specs.Setting as pass
 use Rattle.sap_tagged.specs.Levels.{var, always}
 use Rattle.sap_tagged.specs.Commands.{effect_of, wires_block, command_plain, block_plain}
 use Rattle.sap_tagged.specs.States.{group_plain, top_plain}
-use Rattle.sap_terms.specs.Code.{setting_in, entities_in, spot_in}
-use Rattle.sap_terms.specs.declared.setting.Setting.{Setting}
-use Rattle.sap_program.specs.declared.spot.Spot.{Spot}
+use Rattle.sap_tags_terms.specs.Code.{setting_in, entities_in, home_in}
+use Rattle.sap_tags_terms.specs.declared.setting.Setting.{Setting}
+use Rattle.sap_program.specs.declared.home.Home.{Home}
 
 -- what they become; a state has none behind it
 
-unfoldable pub command_body : Setting → Spot → (p k : ℕ) → Command → Body
-command_body s at p k c = command_plain (setting_in s) (spot_in s at) p k (command_of (entities_in s) c)
+unfoldable pub command_body : Setting → Home → (p k : ℕ) → Command → Body
+command_body s at p k c = command_plain (setting_in s) (home_in s at) p k (command_of (entities_in s) c)
 
-unfoldable pub commands_body : Setting → Spot → (p k : ℕ) → List Command → Body
-commands_body s at p k cs = block_plain (setting_in s) (spot_in s at) p k (block_of (entities_in s) cs)
+unfoldable pub commands_body : Setting → Home → (p k : ℕ) → List Command → Body
+commands_body s at p k cs = block_plain (setting_in s) (home_in s at) p k (block_of (entities_in s) cs)
 
 -- the blocks of arms
-unfoldable pub arm_bodies : Setting → Spot → (p k : ℕ) → List Arm → List Body
+unfoldable pub arm_bodies : Setting → Home → (p k : ℕ) → List Arm → List Body
 arm_bodies s at p k [] = []
 arm_bodies s at p k (arm ∷ arms) =
-    block_plain (setting_in s) (spot_in s at) p k (arm_block (entities_in s) arm) ∷ arm_bodies s at p (k + wires_block (arm_block 0 arm)) arms
+    block_plain (setting_in s) (home_in s at) p k (arm_block (entities_in s) arm) ∷ arm_bodies s at p (k + wires_block (arm_block 0 arm)) arms
 
 unfoldable pub state_forest : Setting → (parent k : ℕ) → State → Forest
 state_forest s parent k t = group_plain (setting_in s) parent k (and_node (state_of (entities_in s) t) no_node)
@@ -49,6 +49,6 @@ tops_forest s k ts =
     top_plain (setting_in s) (program.listed (flags (entities_in s) s.program.now.hang)) k (group_of (entities_in s) ts)
 
 -- what comes behind the raises of a step, where `accepted` comes behind its effect, and `refused` is what a refusal does
-unfoldable pub decided : pass.Setting → checks.Spot → (k : ℕ) → Step → (accepted refused : Body) → Body
+unfoldable pub decided : pass.Setting → checks.Home → (k : ℕ) → Step → (accepted refused : Body) → Body
 decided d at k s accepted refused =
     if always d.world at s then follow (effect_of d at k s) accepted else cases (var d (wire_key k)) (follow (effect_of d at k s) accepted) refused stop

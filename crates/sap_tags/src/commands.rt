@@ -10,29 +10,29 @@ ghost use Rattle.sap_ir.specs.Plain.Views.{body_of, follow};
 ghost use Rattle.sap_meaning.specs.Runs.{listed_alone};
 ghost use Rattle.sap_program.specs.Hangs.{flags};
 ghost use Rattle.sap_program.specs.Views as views;
-ghost use Rattle.sap_resolve.specs.Sized.Ranges.{RangedStep, RangedTerm};
+ghost use Rattle.sap_resolved.specs.Sized.Ranges.{RangedStep, RangedTerm};
 ghost use Rattle.sap_tagged.specs.Commands as spec;
 ghost use Rattle.sap_tagged.specs.Keys.{wire_key};
 ghost use Rattle.sap_tagged.specs.Levels as levels;
-ghost use Rattle.sap_terms.specs.Parts.{ArmsFew, ArmsRanged, CommandFew, CommandRanged, CommandsFew, CommandsRanged, arm_wires, command_wires, commands_wires};
+ghost use Rattle.sap_tags_terms.specs.Parts.{ArmsFew, ArmsRanged, CommandFew, CommandRanged, CommandsFew, CommandsRanged, arm_wires, command_wires, commands_wires};
 ghost use Rattle.sap_tags.specs.Built.{arm_bodies, command_body, commands_body, decided};
 ghost use Rattle.sap_tree.specs.Limits.{most_arms};
-ghost use Rattle.sap_terms.specs.Code.{entities_in, setting_in, spot_in, world_in};
+ghost use Rattle.sap_tags_terms.specs.Code.{entities_in, setting_in, home_in, world_in};
 
-use sap_effects::arms::{Sized, decide_block, pick};
-use sap_effects::outcomes::effect;
-use sap_effects::pushes::{push, set_wire, wire_variable};
-use sap_effects::raises::{raise_all, raise_alone};
-use sap_guards::steps::{always, guard_of, stays, test_of, written};
 use sap_ir::guarded::{Act, Calc};
 use sap_ir::plain::nested::PlainCmd;
 use sap_ir::plain::seats;
 use sap_program::hang::Hang;
+use sap_program::home::Home;
 use sap_program::program::{Arm, Command, Number, Step};
-use sap_program::spot::Spot;
-use sap_terms::calcs::{expr, lub, tag_of, width_of, yes};
-use sap_terms::names::{level_name, refused_name};
-use sap_terms::setting::Setting;
+use sap_tags_effects::arms::{Sized, decide_block, pick};
+use sap_tags_effects::outcomes::effect;
+use sap_tags_effects::pushes::{push, set_wire, wire_variable};
+use sap_tags_effects::raises::{raise_all, raise_alone};
+use sap_tags_guards::steps::{always, guard_of, stays, test_of, written};
+use sap_tags_terms::calcs::{expr, lub, tag_of, width_of, yes};
+use sap_tags_terms::names::{refused_level_name, refused_name};
+use sap_tags_terms::setting::Setting;
 use std::alloc::{AllocError, Global};
 
 /// A context inside another, which is in the wire `p`.
@@ -49,7 +49,7 @@ fn inside(alloc: Global, setting: &Setting<'_>, p: u32, own: u32) -> Result<Calc
 fn set_test(
     alloc: Global,
     setting: &Setting<'_>,
-    at: &Spot<'_>,
+    at: &Home<'_>,
     out: &mut Vec<PlainCmd>,
     p: u32,
     wire: u32,
@@ -57,7 +57,7 @@ fn set_test(
 ) -> Result<(), AllocError>
     requires { RangedStep (world_in setting.now) (views.step_of (entities_in setting.now) step.now) }
     ensures { let d = setting_in setting.now in
-        OnOk result (body_of out.new.items ≡ follow (body_of out.old.items) (spec.gives d (wire_key wire) (levels.test_of d (spot_in setting.now at.now) (levels.var d (wire_key p)) (views.step_of (entities_in setting.now) step.now)) stop)) }
+        OnOk result (body_of out.new.items ≡ follow (body_of out.old.items) (spec.gives d (wire_key wire) (levels.test_of d (home_in setting.now at.now) (levels.var d (wire_key p)) (views.step_of (entities_in setting.now) step.now)) stop)) }
 {
     let context = wire_variable(alloc, setting, p)?;
     let test = test_of(alloc, setting, at, &context, step)?;
@@ -68,14 +68,14 @@ fn set_test(
 fn set_guard(
     alloc: Global,
     setting: &Setting<'_>,
-    at: &Spot<'_>,
+    at: &Home<'_>,
     out: &mut Vec<PlainCmd>,
     wire: u32,
     step: &Step,
 ) -> Result<(), AllocError>
     requires { RangedStep (world_in setting.now) (views.step_of (entities_in setting.now) step.now) }
     ensures { let d = setting_in setting.now in
-        OnOk result (body_of out.new.items ≡ follow (body_of out.old.items) (spec.gives d (wire_key wire) (levels.guard_of d (spot_in setting.now at.now) (views.step_of (entities_in setting.now) step.now)) stop)) }
+        OnOk result (body_of out.new.items ≡ follow (body_of out.old.items) (spec.gives d (wire_key wire) (levels.guard_of d (home_in setting.now at.now) (views.step_of (entities_in setting.now) step.now)) stop)) }
 {
     let guard = guard_of(alloc, setting, at, step)?;
     set_wire(alloc, setting, out, wire, guard)
@@ -132,11 +132,11 @@ fn set_stays(
 }
 
 /// What a step in the context of the wire `p` looks at goes into the wires from `k` on.
-#[tactic(auto, using(sap_effects::proofs::Pushed::behind))]
+#[tactic(auto, using(sap_tags_effects::proofs::Pushed::behind))]
 fn look(
     alloc: Global,
     setting: &Setting<'_>,
-    at: &Spot<'_>,
+    at: &Home<'_>,
     out: &mut Vec<PlainCmd>,
     p: u32,
     k: u32,
@@ -144,7 +144,7 @@ fn look(
 ) -> Result<(), AllocError>
     requires few { k + 5 < 2 ^ 32 }
     requires ranged { RangedStep (world_in setting.now) (views.step_of (entities_in setting.now) step.now) }
-    ensures { OnOk result (body_of out.new.items ≡ follow (body_of out.old.items) (spec.looks (setting_in setting.now) (spot_in setting.now at.now) p k (views.step_of (entities_in setting.now) step.now) stop)) }
+    ensures { OnOk result (body_of out.new.items ≡ follow (body_of out.old.items) (spec.looks (setting_in setting.now) (home_in setting.now at.now) p k (views.step_of (entities_in setting.now) step.now) stop)) }
 {
     set_test(alloc, setting, at, out, p, k, step)?;
     set_guard(alloc, setting, at, out, k + 1, step)?;
@@ -154,11 +154,11 @@ fn look(
 }
 
 /// What a step in the context of the wire `p` looks at, and the raises of what hangs there.
-#[tactic(auto, using(sap_effects::proofs::Pushed::behind))]
+#[tactic(auto, using(sap_tags_effects::proofs::Pushed::behind))]
 fn begin(
     alloc: Global,
     setting: &Setting<'_>,
-    at: &Spot<'_>,
+    at: &Home<'_>,
     out: &mut Vec<PlainCmd>,
     p: u32,
     k: u32,
@@ -168,7 +168,7 @@ fn begin(
     requires few { k + 5 < 2 ^ 32 }
     requires ranged { RangedStep (world_in setting.now) (views.step_of (entities_in setting.now) step.now) }
     ensures { let d = setting_in setting.now in
-        OnOk result (body_of out.new.items ≡ follow (body_of out.old.items) (spec.looks d (spot_in setting.now at.now) p k (views.step_of (entities_in setting.now) step.now) (spec.raises d (program.listed (flags (entities_in setting.now) hang.now)) (k + 1) stop))) }
+        OnOk result (body_of out.new.items ≡ follow (body_of out.old.items) (spec.looks d (home_in setting.now at.now) p k (views.step_of (entities_in setting.now) step.now) (spec.raises d (program.listed (flags (entities_in setting.now) hang.now)) (k + 1) stop))) }
 {
     look(alloc, setting, at, out, p, k, step)?;
     raise_all(alloc, setting, out, hang.numbers(), k + 1)
@@ -189,7 +189,7 @@ fn site(step: &Step) -> u32
 }
 
 /// Sets what tells of a refusal.
-#[tactic(auto, using(sap_effects::proofs::Pushed::behind))]
+#[tactic(auto, using(sap_tags_effects::proofs::Pushed::behind))]
 fn refuse(
     alloc: Global,
     setting: &Setting<'_>,
@@ -203,17 +203,17 @@ fn refuse(
     let site = site(step);
     let refused = refused_name(alloc, setting, site)?;
     push(out, Act::Set(refused, yes()))?;
-    let level = level_name(alloc, setting, site)?;
+    let level = refused_level_name(alloc, setting, site)?;
     let context = wire_variable(alloc, setting, k + 2)?;
     push(out, Act::Set(level, context))
 }
 
 /// What comes behind the raises of a step; `accepted` comes behind its effect, and `refused` is what a refusal does.
-#[tactic(auto, using(sap_ir::proofs::plain::Views::commands, sap_effects::proofs::Pushed::accepted), unfolding(crate::specs::Built::decided))]
+#[tactic(auto, using(sap_ir::proofs::plain::Views::commands, sap_tags_effects::proofs::Pushed::accepted), unfolding(crate::specs::Built::decided))]
 fn decide(
     alloc: Global,
     setting: &Setting<'_>,
-    at: &Spot<'_>,
+    at: &Home<'_>,
     out: &mut Vec<PlainCmd>,
     k: u32,
     step: &Step,
@@ -222,7 +222,7 @@ fn decide(
 ) -> Result<(), AllocError>
     requires few { k + 5 < 2 ^ 32 }
     requires ranged { RangedStep (world_in setting.now) (views.step_of (entities_in setting.now) step.now) }
-    ensures { OnOk result (body_of out.new.items ≡ follow (body_of out.old.items) (decided (setting_in setting.now) (spot_in setting.now at.now) k (views.step_of (entities_in setting.now) step.now) (body_of accepted.items) (body_of refused.items))) }
+    ensures { OnOk result (body_of out.new.items ≡ follow (body_of out.old.items) (decided (setting_in setting.now) (home_in setting.now at.now) k (views.step_of (entities_in setting.now) step.now) (body_of accepted.items) (body_of refused.items))) }
 {
     if always(setting, at, step) {
         effect(alloc, setting, at, out, k, step)?;
@@ -245,7 +245,7 @@ fn decide(
 fn attempt(
     alloc: Global,
     setting: &Setting<'_>,
-    at: &Spot<'_>,
+    at: &Home<'_>,
     out: &mut Vec<PlainCmd>,
     p: u32,
     k: u32,
@@ -254,7 +254,7 @@ fn attempt(
     requires few { k + 5 < 2 ^ 32 }
     requires ranged { RangedStep (world_in setting.now) (views.step_of (entities_in setting.now) step.now) }
     ensures { let d = setting_in setting.now in
-        let at = spot_in setting.now at.now in
+        let at = home_in setting.now at.now in
         let step = views.step_of (entities_in setting.now) step.now in
         OnOk result (body_of out.new.items ≡ follow (body_of out.old.items) (spec.attempt_of d at p k step (listed_alone d.world at step) stop)) }
 {
@@ -267,7 +267,7 @@ fn attempt(
 }
 
 /// The wires of a choice.
-#[tactic(auto, using(sap_effects::proofs::Pushed::behind))]
+#[tactic(auto, using(sap_tags_effects::proofs::Pushed::behind))]
 fn choose(
     alloc: Global,
     setting: &Setting<'_>,
@@ -287,7 +287,7 @@ fn choose(
 }
 
 /// The wires of a choice by a condition, and the raises of what hangs there.
-#[tactic(auto, using(sap_effects::proofs::Pushed::behind))]
+#[tactic(auto, using(sap_tags_effects::proofs::Pushed::behind))]
 fn choose_branch(
     alloc: Global,
     setting: &Setting<'_>,
@@ -308,7 +308,7 @@ fn choose_branch(
 }
 
 /// The wires of a choice by a number, which goes into wire `k + 2`, and the raises of what hangs there.
-#[tactic(auto, using(sap_effects::proofs::Pushed::behind))]
+#[tactic(auto, using(sap_tags_effects::proofs::Pushed::behind))]
 fn choose_arm(
     alloc: Global,
     setting: &Setting<'_>,
@@ -351,11 +351,11 @@ fn select(
 
 /// A command in the context of the wire `p`, whose own wires are those from `next` on.
 #[cycle(body)]
-#[tactic(auto, using(sap_terms::proofs::Listed::counts))]
+#[tactic(auto, using(sap_tags_terms::proofs::Listed::counts))]
 fn command(
     alloc: Global,
     setting: &Setting<'_>,
-    at: &Spot<'_>,
+    at: &Home<'_>,
     out: &mut Vec<PlainCmd>,
     p: u32,
     next: &mut u32,
@@ -439,7 +439,7 @@ fn command(
 }
 
 /// Picks a block by the number of an expression, which wire `k + 2` has, and the number of the block goes into wire `k + 3`.
-#[tactic(auto, using(sap_effects::proofs::Pushed::behind))]
+#[tactic(auto, using(sap_tags_effects::proofs::Pushed::behind))]
 fn pick_block(
     alloc: Global,
     setting: &Setting<'_>,
@@ -472,11 +472,11 @@ fn pick_block(
 
 /// The blocks of arms.
 #[cycle(body)]
-#[tactic(auto, using(sap_terms::proofs::Listed::counts))]
+#[tactic(auto, using(sap_tags_terms::proofs::Listed::counts))]
 fn add_arms(
     alloc: Global,
     setting: &Setting<'_>,
-    at: &Spot<'_>,
+    at: &Home<'_>,
     blocks: &mut Vec<Vec<PlainCmd>>,
     p: u32,
     next: &mut u32,
@@ -499,11 +499,11 @@ fn add_arms(
 
 /// Commands in the context of the wire `p`, in order.
 #[cycle(body)]
-#[tactic(auto, using(sap_terms::proofs::Listed::counts))]
+#[tactic(auto, using(sap_tags_terms::proofs::Listed::counts))]
 pub(crate) fn commands(
     alloc: Global,
     setting: &Setting<'_>,
-    at: &Spot<'_>,
+    at: &Home<'_>,
     out: &mut Vec<PlainCmd>,
     p: u32,
     next: &mut u32,

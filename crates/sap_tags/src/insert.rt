@@ -10,12 +10,12 @@ ghost use Rattle.sap_program.specs.Design.{IsProgramOf};
 ghost use Rattle.sap_program.specs.Views.{group_of};
 ghost use Rattle.sap_size.specs.Items.{most_items};
 ghost use Rattle.sap_size.specs.Nested.{nested_weight};
-ghost use Rattle.sap_resolve.specs.Sized.Ranges.{RangedProgram};
+ghost use Rattle.sap_resolved.specs.Sized.Ranges.{RangedProgram};
 ghost use Rattle.sap_tagged.specs.Law.{IsSound, PlainStandsForDesign};
 ghost use Rattle.sap_tagged.specs.Plain.{first_wires, group_wires, inner_wires, plain_of, seat_registers, shown_registers, site_wires, tag_registers};
 ghost use Rattle.sap_tagged.specs.States.{wires_group};
-ghost use Rattle.sap_terms.specs.Parts.{StatesFew};
-ghost use Rattle.sap_terms.specs.Code.{entities_in, named_in, tag_width};
+ghost use Rattle.sap_tags_terms.specs.Parts.{StatesFew};
+ghost use Rattle.sap_tags_terms.specs.Code.{entities_in, named_in, tag_width};
 
 use crate::states::top_states;
 use sap_check::Checked;
@@ -24,16 +24,18 @@ use sap_ir::plain::nested::PlainParts;
 use sap_ir::plain::program::Plain;
 use sap_net::parts::Name;
 use sap_program::program::Program;
-use sap_resolve::sized::widths_in_range;
+use sap_resolved::sized::widths_in_range;
 use sap_tagged::plain_stands;
 use sap_tagged::small::plain_small;
-use sap_terms::setting::Setting;
-use sap_tree::whole::design_is_whole;
-use sap_variables::memories::add_memories;
-use sap_variables::registers::{
+use sap_tags_terms::setting::Setting;
+use sap_tags_variables::memories::add_memories;
+use sap_tags_variables::registers::{
     add_inputs, add_seat_registers, add_shown_registers, add_tag_registers,
 };
-use sap_variables::wires::{add_first_wires, add_inner_wires, add_site_wires, add_state_wires};
+use sap_tags_variables::wires::{
+    add_first_wires, add_inner_wires, add_site_wires, add_state_wires,
+};
+use sap_tree::whole::design_is_whole;
 use std::alloc::{AllocError, Global};
 
 /// The names of variables.

@@ -6,21 +6,21 @@ ghost use Rattle.sap_ir.specs.Plain.Nested.{none};
 ghost use Rattle.sap_ir.specs.Plain.Views.{forest_of, state_before};
 ghost use Rattle.sap_program.specs.Hangs.{flags};
 ghost use Rattle.sap_program.specs.Views as views;
-ghost use Rattle.sap_resolve.specs.Sized.Ranges.{RangedGroup};
+ghost use Rattle.sap_resolved.specs.Sized.Ranges.{RangedGroup};
 ghost use Rattle.sap_tagged.specs.States.{top_plain, wires_group};
-ghost use Rattle.sap_terms.specs.Parts.{StateFew, StateRanged, StatesFew, StatesRanged, state_wires, states_wires};
+ghost use Rattle.sap_tags_terms.specs.Parts.{StateFew, StateRanged, StatesFew, StatesRanged, state_wires, states_wires};
 ghost use Rattle.sap_tags.specs.Built.{state_forest, states_forest, top_forest};
-ghost use Rattle.sap_terms.specs.Code.{entities_in, setting_in, world_in};
+ghost use Rattle.sap_tags_terms.specs.Code.{entities_in, setting_in, world_in};
 
 use crate::commands::commands;
-use sap_effects::pushes::{inner_variable, set_wire};
-use sap_effects::raises::{raise_all, save_all};
 use sap_ir::plain::nested::PlainState;
+use sap_program::home::Home;
 use sap_program::program::State;
-use sap_program::spot::Spot;
-use sap_terms::calcs::tag_variable;
-use sap_terms::names::state_name;
-use sap_terms::setting::Setting;
+use sap_tags_effects::pushes::{inner_variable, set_wire};
+use sap_tags_effects::raises::{raise_all, save_all};
+use sap_tags_terms::calcs::tag_variable;
+use sap_tags_terms::names::state_name;
+use sap_tags_terms::setting::Setting;
 use std::alloc::{AllocError, Global};
 
 /// A state of a group; the wires from `next` on are its own, those of its body and those of all below it.
@@ -42,7 +42,7 @@ fn state(
     let children = state.children.as_slice();
     let own = *next;
     *next = own + 1;
-    let at = Spot {
+    let at = Home {
         state: state.number,
         parent,
         children,
@@ -100,7 +100,7 @@ fn top_state(
     let children = state.children.as_slice();
     let own = *next;
     *next = own + 1;
-    let at = Spot {
+    let at = Home {
         state: state.number,
         parent: setting.program.entities.len(),
         children,

@@ -15,7 +15,8 @@ use Rattle.sap_ir.specs.Source.{Action, set, Source}
 use Rattle.sap_ir.specs.IsGuarded.{ActionFine, declared, IsGuarded}
 use Rattle.sap_ir.specs.Test.{of_shape, value_is_fine}
 use Rattle.sap_ir.proofs.Passes.{guarded_to}
-use Rattle.sap_ir.specs.Plain.Nested.{Body, stop, act, cases, goto, fall, Forest, none, state, Nested, declarations, has_states, size, group_names, state_names, seat_name, root_seat, seats, seat_width}
+use Rattle.sap_ir.specs.Plain.Nested.{Body, stop, act, cases, goto, fall, Forest, none, state, Nested, declarations, has_states, size, group_names, state_names, seats, seat_width}
+use Rattle.sap_net.specs.PortNames.{seat_name, root_seat}
 use Rattle.sap_ir.specs.Plain.IsPlain.{is_gate, BodyFine, SeatFine, ForestFine, IsPlain}
 use Rattle.sap_ir.specs.Plain.Test.{body_is_fine, seat_is_fine, forest_is_fine, is_plain}
 use Rattle.sap_ir.proofs.plain.SeatWidths.{seat_register}

@@ -16,7 +16,8 @@ use Rattle.sap_ir.specs.Source.{Action, set, Source}
 use Rattle.sap_ir.specs.IsGuarded.{declared}
 use Rattle.sap_ir.specs.Test.{of_shape, value_is_fine, action_is_fine, is_guarded}
 use Rattle.sap_ir.proofs.Tested.{guarded_from}
-use Rattle.sap_ir.specs.Plain.Nested.{Body, stop, act, cases, goto, fall, Forest, none, state, Nested, declarations, has_states, size, group_names, state_names, seat_name, root_seat, seats, seat_width}
+use Rattle.sap_ir.specs.Plain.Nested.{Body, stop, act, cases, goto, fall, Forest, none, state, Nested, declarations, has_states, size, group_names, state_names, seats, seat_width}
+use Rattle.sap_net.specs.PortNames.{seat_name, root_seat}
 use Rattle.sap_ir.specs.Plain.IsPlain.{is_gate, keeps_seats, BodyFine, ends_in_transfers, IsSeat, SeatFine, ForestFine, IsPlain}
 use Rattle.sap_ir.specs.Plain.Test.{body_is_fine, is_seat, seat_is_fine, forest_is_fine, is_plain}
 use Rattle.sap_ir.proofs.plain.SeatWidths.{seat_register}

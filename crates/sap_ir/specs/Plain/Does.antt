@@ -3,7 +3,8 @@ use Rattle.std.specs.Prelude.{ℕ, zero, suc, ◌==◌, List, [], ◌∷◌, Opt
 use Rattle.sap_maps.specs.Maps.{Name, Valuation, set_value}
 use Rattle.sap_ir.specs.Source.{width_of}
 use Rattle.sap_ir.specs.Guarded.{Going, value_in, after_action, begun, ended}
-use Rattle.sap_ir.specs.Plain.Nested.{Body, stop, act, cases, goto, fall, Forest, none, state, Nested, declarations, place, children_of, seat_name, root_seat}
+use Rattle.sap_ir.specs.Plain.Nested.{Body, stop, act, cases, goto, fall, Forest, none, state, Nested, declarations, place, children_of}
+use Rattle.sap_net.specs.PortNames.{seat_name, root_seat}
 
 -- another number for one name
 abbrev pub put_value : Going → Name → ℕ → Going

@@ -9,7 +9,8 @@ use Rattle.sap_tree.specs.declared.version.Version.TheVariants.{One}
 use Rattle.sap_net.specs.Names.{is_among, AreDistinct}
 use Rattle.sap_ir.specs.Source.{Action, set, put, Source, readable, shapes}
 use Rattle.sap_ir.specs.IsGuarded.{TermFine, ActionFine, declared, IsGuarded}
-use Rattle.sap_ir.specs.Plain.Nested.{Body, stop, act, cases, goto, fall, Forest, none, state, Nested, declarations, has_states, size, group_names, state_names, seat_name, root_seat, seats, seat_width}
+use Rattle.sap_ir.specs.Plain.Nested.{Body, stop, act, cases, goto, fall, Forest, none, state, Nested, declarations, has_states, size, group_names, state_names, seats, seat_width}
+use Rattle.sap_net.specs.PortNames.{seat_name, root_seat}
 
 -- a `g` and digits, which are the names of the wires that flattening adds
 abbrev pub is_gate : Name → Bool

@@ -3,8 +3,9 @@ use Rattle.std.specs.Prelude.{ℕ, zero, suc, ◌+◌, ◌^◌, nat_le, Bool, tr
 use Rattle.std.specs.Str.{bytes_eq}
 use Rattle.sap_maps.specs.Maps.{Name}
 use Rattle.sap_maps.specs.Term.{Term}
+use Rattle.sap_net.specs.PortNames.{seat_name, root_seat}
 use Rattle.sap_ir.specs.declared.guarded.Var.{Var}
-use Rattle.sap_ir.specs.declared.guarded.Store.{Store}
+use Rattle.sap_ir.specs.declared.guarded.MemoryVariable.{MemoryVariable}
 use Rattle.sap_ir.specs.Source.{Action, Source}
 
 -- The commands of a state, each with those behind it.
@@ -29,7 +30,7 @@ pub record Nested : Type 0 where
   pub inputs : List Var
   pub wires : List Var
   pub registers : List Var
-  pub memories : List Store
+  pub memories : List MemoryVariable
   pub ports : List Name
   pub states : Forest
 
@@ -67,14 +68,6 @@ children_of none x = none
 children_of (state y b kids rest) x = if bytes_eq y x then kids else children_of rest x
 
 -- Registers of current children: that of a state and that of the root have the number of the current one of its group.
-
-abbrev pub seat_name : Name → Name
-seat_name x = codes "s_" ++ x
-
-abbrev pub root_seat : Name
-root_seat = codes "s_0"
-
--- the registers of all states and of the root
 abbrev pub seats : Nested → List Name
 seats p = root_seat ∷ map seat_name (state_names p.states)
 

@@ -9,7 +9,8 @@ use Rattle.sap_net.specs.Names.{is_among}
 use Rattle.sap_ir.specs.Source.{Source}
 use Rattle.sap_ir.specs.IsGuarded.{declared}
 use Rattle.sap_ir.specs.Test.{of_shape, value_is_fine, action_is_fine, are_distinct, is_guarded}
-use Rattle.sap_ir.specs.Plain.Nested.{Body, stop, act, cases, goto, fall, Forest, none, state, Nested, declarations, has_states, size, group_names, state_names, seat_name, root_seat, seats, seat_width}
+use Rattle.sap_ir.specs.Plain.Nested.{Body, stop, act, cases, goto, fall, Forest, none, state, Nested, declarations, has_states, size, group_names, state_names, seats, seat_width}
+use Rattle.sap_net.specs.PortNames.{seat_name, root_seat}
 use Rattle.sap_ir.specs.Plain.IsPlain.{is_gate, keeps_seats, ends_in_transfers}
 
 abbrev pub body_is_fine : Source → (fixed group : List Name) → (nested : Bool) → Body → Bool

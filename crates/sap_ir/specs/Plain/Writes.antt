@@ -5,7 +5,8 @@ use Rattle.sap_net.specs.Names.{AreDistinct}
 use Rattle.sap_ir.specs.Source.{width_of}
 use Rattle.sap_ir.specs.Guarded.{Going, value_in, after_action, begun}
 use Rattle.sap_ir.specs.Writes.{with_memory, WithinBefore, NumbersFit}
-use Rattle.sap_ir.specs.Plain.Nested.{Body, stop, act, cases, goto, fall, Forest, none, state, Nested, declarations, seat_name, root_seat}
+use Rattle.sap_ir.specs.Plain.Nested.{Body, stop, act, cases, goto, fall, Forest, none, state, Nested, declarations}
+use Rattle.sap_net.specs.PortNames.{seat_name, root_seat}
 use Rattle.sap_ir.specs.Plain.Does.{body_does, falls_of, enter}
 
 -- The memories that a body writes, in order. `falls` is what a fall does and `below` what it writes, `goes` what a goto does.

@@ -1,6 +1,6 @@
 //! Nested states and their commands.
 
-use crate::guarded::{Act, Calc, Store, Var};
+use crate::guarded::{Act, Calc, MemoryVariable, Var};
 use sap_net::parts::Name;
 
 /// A command of a state's body.
@@ -34,7 +34,7 @@ pub struct PlainParts {
     pub inputs: Vec<Var>,
     pub wires: Vec<Var>,
     pub registers: Vec<Var>,
-    pub memories: Vec<Store>,
+    pub memories: Vec<MemoryVariable>,
     pub ports: Vec<Name>,
     pub states: Vec<PlainState>,
 }

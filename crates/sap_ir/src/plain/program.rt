@@ -4,7 +4,7 @@ ghost use Rattle.std.specs.Prelude.{IsTrue};
 ghost use Rattle.sap_ir.specs.Plain.Parts.{parts_nested};
 ghost use Rattle.sap_ir.specs.Plain.Test.{is_plain};
 
-use crate::guarded::{Store, Var};
+use crate::guarded::{MemoryVariable, Var};
 use crate::plain::nested::{PlainParts, PlainState};
 use sap_net::parts::Name;
 
@@ -53,7 +53,7 @@ impl Plain {
         self.parts.registers.as_slice()
     }
 
-    pub fn memories(&self) -> &[Store]
+    pub fn memories(&self) -> &[MemoryVariable]
         ensures { result.now ≡ (nested_of self.now).memories }
     {
         self.parts.memories.as_slice()

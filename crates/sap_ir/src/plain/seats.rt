@@ -1,7 +1,8 @@
 //! The registers of current children.
 
 ghost use Rattle.std.specs.Prelude.{◌≡◌, ◌++◌, IfOk, codes};
-ghost use Rattle.sap_ir.specs.Plain.Nested.{seat_name, root_seat, seat_width};
+ghost use Rattle.sap_ir.specs.Plain.Nested.{seat_width};
+ghost use Rattle.sap_net.specs.PortNames.{seat_name, root_seat};
 
 use sap_net::parts::Name;
 use std::alloc::{AllocError, Global};

@@ -15,12 +15,12 @@ use Rattle.sap_shape.specs.Sites.{Surroundings, simple_sites, command_sites, arm
 use Rattle.sap_shape.proofs.SiteCounts.{simple_few}
 use Rattle.sap_meaning.specs.Program.{World, Step, assign, retag, retag_cell, go_to, fall_to_child, Command, lone, try, if_else, try_then, case_of, Arms, last_arm, and_arm, Block, end_block, command_then, State, state_node, Group, and_node}
 use Rattle.sap_meaning.specs.Program as program
-use Rattle.sap_meaning.specs.Checks.{Spot}
-use Rattle.sap_resolve.specs.Worlds.{states_in, state_entities, group_entities}
-use Rattle.sap_resolve.specs.Worlds as worlds
-use Rattle.sap_resolve.specs.Terms.{known, widened, term_of, parts_of, level_term, level_terms}
-use Rattle.sap_resolve.specs.Resolve.{site_number, step_of, numbers_of, command_of, arms_of, block_of, else_of, list_of, state_of, group_of}
-use Rattle.sap_resolve.specs.Fill.{filled_step, filled, filled_arms, filled_block, filled_state, filled_group}
+use Rattle.sap_meaning.specs.Checks.{Home}
+use Rattle.sap_resolved.specs.Worlds.{states_in, state_entities, group_entities}
+use Rattle.sap_resolved.specs.Worlds as worlds
+use Rattle.sap_resolved.specs.Terms.{known, widened, term_of, parts_of, level_term, level_terms}
+use Rattle.sap_resolved.specs.Resolve.{site_number, step_of, numbers_of, command_of, arms_of, block_of, else_of, list_of, state_of, group_of}
+use Rattle.sap_resolved.specs.Fill.{filled_step, filled, filled_arms, filled_block, filled_state, filled_group}
 use Rattle.sap_size.specs.Terms.{term_size}
 use Rattle.sap_size.specs.Programs.{level_size, step_size, command_size, arms_size, block_size, state_size, group_size, states_of, states_below}
 use Rattle.sap_size.specs.Trees.{expression_nodes, part_nodes, tag_nodes, tag_part_nodes, operand_nodes, command_nodes, arms_nodes, block_nodes, else_nodes, list_nodes, state_nodes, states_nodes}
@@ -263,7 +263,7 @@ mutual
 
 -- What hangs where adds nothing.
 
-step_filled : (w : World) (at : Spot) (s : Step) → step_size (filled_step w at s) ≡ step_size s
+step_filled : (w : World) (at : Home) (s : Step) → step_size (filled_step w at s) ≡ step_size s
 step_filled w at (assign site x e) = refl
 step_filled w at (program.write site m i e) = refl
 step_filled w at (retag site x n) = refl
@@ -272,7 +272,7 @@ step_filled w at (go_to site target) = refl
 step_filled w at (fall_to_child site hang) = refl
 
 mutual
-  command_filled : (w : World) (at : Spot) (c : Command) → command_size (filled w at c) ≡ command_size c
+  command_filled : (w : World) (at : Home) (c : Command) → command_size (filled w at c) ≡ command_size c
   command_filled w at (lone s) = ap (λ (n : ℕ). 1 + n) (step_filled w at s)
   command_filled w at (try s hang h) = let r = step_filled w at s in let q = block_filled w at h in omega (arith, r, q)
   command_filled w at (if_else hang e a b) = let r = block_filled w at a in let q = block_filled w at b in omega (arith, r, q)
@@ -280,11 +280,11 @@ mutual
       let o = step_filled w at s in let r = block_filled w at a in let q = block_filled w at b in omega (arith, o, r, q)
   command_filled w at (case_of hang e arms) = let r = arms_filled w at arms in omega (arith, r)
 
-  arms_filled : (w : World) (at : Spot) (arms : Arms) → arms_size (filled_arms w at arms) ≡ arms_size arms
+  arms_filled : (w : World) (at : Home) (arms : Arms) → arms_size (filled_arms w at arms) ≡ arms_size arms
   arms_filled w at (last_arm b) = block_filled w at b
   arms_filled w at (and_arm constants b arms) = let r = block_filled w at b in let q = arms_filled w at arms in omega (arith, r, q)
 
-  block_filled : (w : World) (at : Spot) (b : Block) → block_size (filled_block w at b) ≡ block_size b
+  block_filled : (w : World) (at : Home) (b : Block) → block_size (filled_block w at b) ≡ block_size b
   block_filled w at end_block = refl
   block_filled w at (command_then c cs) = let r = command_filled w at c in let q = block_filled w at cs in omega (arith, r, q)
 

@@ -7,7 +7,7 @@ use Rattle.sap_bits.specs.declared.Op2.TheVariants.{Eq}
 use Rattle.sap_maps.specs.Term.{Term, constant, two}
 use Rattle.sap_meaning.specs.Program.{root, listed, Command, lone, try, if_else, try_then, case_of, Arms, last_arm, and_arm, Block, end_block, command_then, state_node, Group, no_node, and_node}
 use Rattle.sap_meaning.specs.Expressions.{width_of}
-use Rattle.sap_meaning.specs.Checks.{Spot}
+use Rattle.sap_meaning.specs.Checks.{Home}
 use Rattle.sap_meaning.specs.Runs.{listed_alone}
 use Rattle.sap_ir.specs.Plain.Nested.{Body, stop, cases, Forest, state_names}
 use Rattle.sap_size.specs.Terms.{term_size}
@@ -44,7 +44,7 @@ total_split group (suc n) [] = omega arith
 total_split group (suc n) (b ∷ bs) = let r = total_split group n bs in omega (arith, r)
 
 module _ (d : Setting) (room : ℕ) (r : Roomy d room) where
-  module _ (at : Spot) (few : states_below at.children ≤ root d.world) (group : Forest) (small : states_in group ≤ root d.world) where
+  module _ (at : Home) (few : states_below at.children ≤ root d.world) (group : Forest) (small : states_in group ≤ root d.world) where
     select_weighs : (p k : ℕ) (e : Term ℕ) (hangs : ℕ → Bool) (a b : Body) → body_weight group (select_of d p k e hangs a b) ≤ room * (1 + term_size e) + body_weight group a + body_weight group b
     unfolding select_of
     select_weighs p k e hangs a b =
@@ -176,7 +176,7 @@ module _ (d : Setting) (room : ℕ) (r : Roomy d room) where
   group_weighs group small parent k (and_node (state_node s b g) rest) few arms =
       let w = r.wide in
       let v = r.levels in
-      let at : Spot = record { state = s; parent = parent; children = g } in
+      let at : Home = record { state = s; parent = parent; children = g } in
       let kids = group_plain d s (k + 1 + wires_block b) g in
       let n = group_states s (k + 1 + wires_block b) g in
       let x = block_weighs at (omega (arith, few)) group small k (k + 1) b arms.0.0 in
@@ -201,7 +201,7 @@ module _ (d : Setting) (room : ℕ) (r : Roomy d room) where
   tops_weigh group small hangs k (and_node (state_node s b g) rest) few arms =
       let w = r.wide in
       let v = r.levels in
-      let at : Spot = record { state = s; parent = root d.world; children = g } in
+      let at : Home = record { state = s; parent = root d.world; children = g } in
       let kids = group_plain d s (k + 1 + wires_block b) g in
       let n = group_states s (k + 1 + wires_block b) g in
       let body = block_plain d at k (k + 1) b in

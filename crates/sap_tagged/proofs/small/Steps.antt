@@ -8,7 +8,7 @@ use Rattle.sap_bits.specs.declared.Op2.TheVariants.{And}
 use Rattle.sap_maps.specs.Maps.{Name}
 use Rattle.sap_maps.specs.Term.{Term, constant, cell, choose}
 use Rattle.sap_meaning.specs.Program.{root, is_dynamic, is_register, authority, width, Step, assign, write, retag, retag_cell, go_to, fall_to_child}
-use Rattle.sap_meaning.specs.Checks.{Spot, entry}
+use Rattle.sap_meaning.specs.Checks.{Home, entry}
 use Rattle.sap_ir.specs.Plain.Nested.{Body, stop, act, cases, goto, fall, Forest, none, state, state_names, children_of}
 use Rattle.sap_ir.specs.Plain.Views.{follow}
 use Rattle.sap_size.specs.Terms.{operations, term_size}
@@ -55,10 +55,10 @@ follow_weighs group (goto x rest) b = let r = follow_weighs group rest b in omeg
 follow_weighs group (fall rest) b = let r = follow_weighs group rest b in omega (arith, r)
 
 -- what is looked at before a step
-looked : Setting → Spot → (p : ℕ) → Step → ℕ
+looked : Setting → Home → (p : ℕ) → Step → ℕ
 looked d at p s = operations (test_of d at (var d (wire_key p)) s) + operations (guard_of d at s) + operations (written d (var d (wire_key p)) s) + operations (stays d s)
 
-module _ (d : Setting) (room : ℕ) (r : Roomy d room) (at : Spot) (few : states_below at.children ≤ root d.world) (group : Forest) (small : states_in group ≤ root d.world) (p k : ℕ) where
+module _ (d : Setting) (room : ℕ) (r : Roomy d room) (at : Home) (few : states_below at.children ≤ root d.world) (group : Forest) (small : states_in group ≤ root d.world) (p k : ℕ) where
   abbrev pc : Term Name
   pc = var d (wire_key p)
 

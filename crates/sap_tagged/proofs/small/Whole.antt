@@ -1,16 +1,16 @@
 -- The plain program of a design weighs no more than its module may have items.
 use Rattle.std.proofs.Common.{◌≡◌, ℕ, ◌+◌, ◌*◌, ◌≤◌, length, subst, arith, length-append}
 use Rattle.std.proofs.Math.Nat.{mul-le-mul_left}
-use Rattle.sap_resolve.proofs.WorldsLemmas.{declared_length}
+use Rattle.sap_resolved.proofs.WorldsLemmas.{declared_length}
 use Rattle.sap_tree.specs.Syntax.{DesignTree}
 use Rattle.sap_lattice.proofs.KeptLemmas.{order_of-count}
 use Rattle.sap_lattice.specs.Levels.{Levels, order_of}
 use Rattle.sap_lattice.specs.Codes.{width_of}
 use Rattle.sap_names.specs.Entities.{entities_of}
 use Rattle.sap_meaning.specs.Program.{root}
-use Rattle.sap_resolve.specs.Worlds.{all_declared, group_entities, world_of}
-use Rattle.sap_resolve.specs.Resolve.{states_of}
-use Rattle.sap_interface.specs.Designs.{named_of, sites_of}
+use Rattle.sap_resolved.specs.Worlds.{all_declared, group_entities, world_of}
+use Rattle.sap_resolved.specs.Resolve.{states_of}
+use Rattle.sap_interface.specs.Designs.{named_of, site_count_of}
 use Rattle.sap_size.specs.Nested.{nested_weight}
 use Rattle.sap_size.specs.Programs.{group_size}
 use Rattle.sap_size.specs.Trees.{design_nodes, entity_count}
@@ -41,9 +41,9 @@ plain_small ls d sound =
     let levels = order_of-count ls in
     let some = sound.lattice.narrow.some in
     let fewer = sound.lattice.narrow.few in
-    let p = plain_weighs (named_of ls d) (width_of (order_of ls)) (sites_of d) (omega (arith, some, fewer)) (omega (arith, kept, states, entered, both)) (design ls d sound).few_arms in
+    let p = plain_weighs (named_of ls d) (width_of (order_of ls)) (site_count_of d) (omega (arith, some, fewer)) (omega (arith, kept, states, entered, both)) (design ls d sound).few_arms in
     let size : group_size (named_of ls d).program.states ≤ design_nodes d =
     let f = group_filled w (root w) g in let r = group_within ls es 1 (length d.declarations) d.states in omega (arith, f, r) in
-    let bound = summed (nested_weight (plain_for ls d)) (root w) (order_of ls).count (group_size (named_of ls d).program.states) (sites_of d) (design_nodes d) size (group_sited es d.states) p in
+    let bound = summed (nested_weight (plain_for ls d)) (root w) (order_of ls).count (group_size (named_of ls d).program.states) (site_count_of d) (design_nodes d) size (group_sited es d.states) p in
     subst (λ (v : ℕ). nested_weight (plain_for ls d) ≤ 8 * (1 + design_nodes d) * (1 + entity_count d + v)) levels
     (subst (λ (k : ℕ). nested_weight (plain_for ls d) ≤ 8 * (1 + design_nodes d) * (1 + k + (order_of ls).count)) entities bound)

@@ -3,12 +3,12 @@ use Rattle.sap_ir.specs.Plain.Nested.{Body}
 use Rattle.sap_ir.specs.Plain.Views.{body_of}
 use Rattle.sap_program.specs.declared.program.Command.{Command}
 use Rattle.sap_program.specs.declared.program.Arm.{Arm}
-use Rattle.sap_terms.specs.Parts.{CommandFew, CommandRanged, CommandsFew, CommandsRanged, arm_wires, command_wires, commands_wires}
-use Rattle.sap_terms.proofs.Listed.{arms_in, arms_drop, arms_past, wires_try, wires_if, wires_then, wires_case, wires_in, wires_drop}
-use Rattle.sap_effects.proofs.Pushed.{empty, fresh}
+use Rattle.sap_tags_terms.specs.Parts.{CommandFew, CommandRanged, CommandsFew, CommandsRanged, arm_wires, command_wires, commands_wires}
+use Rattle.sap_tags_terms.proofs.Listed.{arms_in, arms_drop, arms_past, wires_try, wires_if, wires_then, wires_case, wires_in, wires_drop}
+use Rattle.sap_tags_effects.proofs.Pushed.{empty, fresh}
 use Rattle.sap_tags.proofs.Commanded.{fresh_blocks, do_made, try_made, then_made, if_made, case_made, arms_step, arms_rest, arm_wires_step, commands_step, commands_rest, wires_step}
-use Rattle.sap_terms.proofs.Few.{few_accepted, few_arm, few_arms, few_count, few_handler, few_in, few_last, few_no, few_refused, few_yes}
-use Rattle.sap_terms.proofs.Ranged.{ranged_accepted, ranged_arm, ranged_arms, ranged_last, ranged_number, ranged_refused, ranged_then_step, ranged_do, ranged_try_step, ranged_handler, ranged_condition, ranged_yes, ranged_no, ranged_in}
+use Rattle.sap_tags_terms.proofs.Few.{few_accepted, few_arm, few_arms, few_count, few_handler, few_in, few_last, few_no, few_refused, few_yes}
+use Rattle.sap_tags_terms.proofs.Ranged.{ranged_accepted, ranged_arm, ranged_arms, ranged_last, ranged_number, ranged_refused, ranged_then_step, ranged_do, ranged_try_step, ranged_handler, ranged_condition, ranged_yes, ranged_no, ranged_in}
 use Rattle.sap_tags.proofs.commands.+body.Goals as goal
 
 pub command-attempt-requires-clause-ranged : goal.command-attempt-requires-clause-ranged

@@ -1,7 +1,7 @@
 use Rattle.std.proofs.Common.{◌≡◌, ◌+◌, ◌*◌, ◌++◌, map, drop}
 use Rattle.sap_ir.specs.Plain.Views.{body_of, follow}
 use Rattle.sap_tags.specs.Built.{arm_bodies, commands_body}
-use Rattle.sap_terms.specs.Parts.{arm_wires, command_wires, commands_wires}
+use Rattle.sap_tags_terms.specs.Parts.{arm_wires, command_wires, commands_wires}
 use Rattle.sap_tags.proofs.commands.+body.Given as goal
 
 abbrev pub decreases-command : goal.decreases-command

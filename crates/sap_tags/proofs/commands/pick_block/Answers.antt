@@ -2,8 +2,8 @@ use Rattle.std.proofs.Common.{◌≡◌, ◌+◌, OnOk, length, map, subst, arit
 use Rattle.sap_ir.specs.Plain.Nested.{Body}
 use Rattle.sap_ir.specs.Plain.Views.{body_of}
 use Rattle.sap_ir.proofs.plain.SeatWidths.{seat_least}
-use Rattle.sap_terms.specs.Code.{entities_in, setting_in}
-use Rattle.sap_effects.proofs.Picked.{block_picked}
+use Rattle.sap_tags_terms.specs.Code.{entities_in, setting_in}
+use Rattle.sap_tags_effects.proofs.Picked.{block_picked}
 use Rattle.sap_tags.proofs.commands.pick_block.Goals as goal
 
 pub decide_block-requires : goal.decide_block-requires

@@ -2,14 +2,14 @@ use Rattle.std.proofs.Common.{◌∙◌, refl, ap, sym, subst, arith}
 use Rattle.sap_ir.specs.Plain.Nested.{stop}
 use Rattle.sap_ir.specs.Plain.Views.{body_of, forest_of}
 use Rattle.sap_program.specs.declared.program.State.{out-State}
-use Rattle.sap_terms.specs.Parts.{StateFew, StateRanged, state_wires}
-use Rattle.sap_terms.specs.Code.{setting_in}
+use Rattle.sap_tags_terms.specs.Parts.{StateFew, StateRanged, state_wires}
+use Rattle.sap_tags_terms.specs.Code.{setting_in}
 use Rattle.sap_tagged.specs.Commands.{gives}
 use Rattle.sap_tagged.specs.Keys.{wire_key}
-use Rattle.sap_effects.proofs.Pushed.{fresh}
-use Rattle.sap_terms.proofs.Listed.{states_in, states_drop, states_past}
-use Rattle.sap_terms.proofs.Few.{few_body, few_children, few_one}
-use Rattle.sap_terms.proofs.Ranged.{ranged_body, ranged_children, ranged_one}
+use Rattle.sap_tags_effects.proofs.Pushed.{fresh}
+use Rattle.sap_tags_terms.proofs.Listed.{states_in, states_drop, states_past}
+use Rattle.sap_tags_terms.proofs.Few.{few_body, few_children, few_one}
+use Rattle.sap_tags_terms.proofs.Ranged.{ranged_body, ranged_children, ranged_one}
 use Rattle.sap_tags.proofs.Planted.{state_made, states_step, states_rest, planted_none, states_wires_step, room}
 use Rattle.sap_tags.proofs.states.+group.Goals as goal
 

@@ -1,6 +1,6 @@
 use Rattle.std.proofs.Common.{◌≡◌, ◌+◌, ◌*◌, drop}
 use Rattle.sap_ir.specs.Plain.Views.{forest_of, planted}
-use Rattle.sap_terms.specs.Parts.{state_wires, states_wires}
+use Rattle.sap_tags_terms.specs.Parts.{state_wires, states_wires}
 use Rattle.sap_tags.specs.Built.{states_forest}
 use Rattle.sap_tags.proofs.states.+group.Given as goal
 

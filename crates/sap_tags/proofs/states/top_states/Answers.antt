@@ -4,12 +4,12 @@ use Rattle.sap_ir.specs.Plain.Views.{forest_of}
 use Rattle.sap_program.specs.Hangs.{flags}
 use Rattle.sap_program.specs.Views.{group_of}
 use Rattle.sap_program.specs.declared.program.State.{State}
-use Rattle.sap_terms.specs.Parts.{StateFew, StateRanged, StatesFew, StatesRanged, state_wires, states_wires}
-use Rattle.sap_terms.specs.Code.{entities_in, setting_in}
+use Rattle.sap_tags_terms.specs.Parts.{StateFew, StateRanged, StatesFew, StatesRanged, state_wires, states_wires}
+use Rattle.sap_tags_terms.specs.Code.{entities_in, setting_in}
 use Rattle.sap_tagged.specs.States.{top_plain}
-use Rattle.sap_terms.proofs.Listed.{states_drop, wires_group_are}
-use Rattle.sap_terms.proofs.Few.{few_one}
-use Rattle.sap_terms.proofs.Ranged.{ranged_all, ranged_one}
+use Rattle.sap_tags_terms.proofs.Listed.{states_drop, wires_group_are}
+use Rattle.sap_tags_terms.proofs.Few.{few_one}
+use Rattle.sap_tags_terms.proofs.Ranged.{ranged_all, ranged_one}
 use Rattle.sap_tags.proofs.Planted.{tops_step, tops_rest, tops_are_plain, planted_none, states_wires_step}
 use Rattle.sap_tags.proofs.states.top_states.Goals as goal
 

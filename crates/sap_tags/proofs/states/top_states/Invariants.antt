@@ -1,6 +1,6 @@
 use Rattle.std.proofs.Common.{◌≡◌, ◌+◌, drop}
 use Rattle.sap_ir.specs.Plain.Views.{forest_of, planted}
-use Rattle.sap_terms.specs.Parts.{states_wires}
+use Rattle.sap_tags_terms.specs.Parts.{states_wires}
 use Rattle.sap_tags.specs.Built.{tops_forest}
 use Rattle.sap_tags.proofs.states.top_states.Given as goal
 

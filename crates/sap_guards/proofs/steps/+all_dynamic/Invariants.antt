@@ -1,5 +1,0 @@
-use Rattle.std.proofs.Common.{length}
-use Rattle.sap_guards.proofs.steps.+all_dynamic.Given as goal
-
-abbrev pub decreases-all_dynamic : goal.decreases-all_dynamic
-decreases-all_dynamic l = length l.children.now

@@ -1,5 +1,0 @@
-use Rattle.std.proofs.Common.{length}
-use Rattle.sap_guards.proofs.steps.+child_enters.Given as goal
-
-abbrev pub decreases-child_enters : goal.decreases-child_enters
-decreases-child_enters l = length l.children.now

@@ -1,5 +1,0 @@
-use Rattle.std.proofs.Common.{length}
-use Rattle.sap_guards.proofs.steps.+child_tag.Given as goal
-
-abbrev pub decreases-child_tag : goal.decreases-child_tag
-decreases-child_tag l = length l.children.now

@@ -1,2 +1,0 @@
-pub use Rattle.sap_terms.specs.Ranges
-pub use Rattle.sap_terms.specs.Code

@@ -1,0 +1,54 @@
+-- The names of a compiled module, by what they name; and of which x a name of any module is the number or the code of the level.
+use Rattle.std.specs.Prelude.{ℕ, Bool, false, ◌==◌, ◌&&◌, [], ◌∷◌, ◌++◌, codes, Option, Some, None, if◌then◌else◌}
+use Rattle.std.specs.Fmt.{decimal}
+use Rattle.std.specs.Str.{byte}
+use Rattle.sap_maps.specs.Maps.{Name}
+
+-- the value and the tag of an entity, by its name
+abbrev pub value_name : Name → Name
+value_name x = codes "v_" ++ x
+
+abbrev pub tag_name : Name → Name
+tag_name x = codes "t_" ++ x
+
+-- the number of the current child of a state, by its name, and of the root
+abbrev pub seat_name : Name → Name
+seat_name x = codes "s_" ++ x
+
+abbrev pub root_seat : Name
+root_seat = codes "s_0"
+
+-- whether a site is refused, and the level of its refusal
+abbrev pub refused_name : ℕ → Name
+refused_name k = codes "c_" ++ decimal k
+
+abbrev pub refused_level_name : ℕ → Name
+refused_level_name k = codes "l_" ++ decimal k
+
+abbrev pub top_name : Name
+top_name = codes "top"
+
+-- x, where the name is this letter, `_` and x, a byte or more
+abbrev pub behind : (letter : ℕ) → Name → Option Name
+behind letter [] = None
+behind letter (a ∷ []) = None
+behind letter (a ∷ (b ∷ [])) = None
+behind letter (a ∷ (b ∷ (c ∷ x))) = if a == letter && b == byte "_" then Some (c ∷ x) else None
+
+-- x of `v_x`
+abbrev pub value_of : Name → Option Name
+value_of n = behind (byte "v") n
+
+-- x of `t_x`
+abbrev pub tag_of : Name → Option Name
+tag_of n = behind (byte "t") n
+
+-- there is such an x, and it passes a test
+abbrev pub passes : (Name → Bool) → Option Name → Bool
+passes test None = false
+passes test (Some x) = test x
+
+-- there is a number, and it is this one
+abbrev pub is_number : ℕ → Option ℕ → Bool
+is_number n None = false
+is_number n (Some k) = k == n

@@ -1,0 +1,36 @@
+-- Which x are shown of a module's registers, or of any names with their widths: each with a `v_x`, and a `t_x` of the width of tags.
+use Rattle.std.specs.Prelude.{ℕ, Bool, true, false, List, [], ◌∷◌, ◌++◌, map, filter, Option, Some, None, if◌then◌else◌}
+use Rattle.sap_maps.specs.Maps.{Name}
+use Rattle.sap_maps.specs.Scope.{Scope, find}
+use Rattle.sap_net.specs.declared.parts.Port.{Port}
+use Rattle.sap_net.specs.declared.parts.PortKind.{PortKind}
+use Rattle.sap_net.specs.declared.parts.PortKind.TheVariants as kind
+use Rattle.sap_net.specs.Net.{Net}
+use Rattle.sap_net.specs.IsNetlist.{width_of}
+use Rattle.sap_net.specs.PortNames.{value_of, is_number, tag_name}
+
+abbrev pub is_register : PortKind → Bool
+is_register kind.Input = false
+is_register kind.Register = true
+is_register kind.Wire = false
+
+-- the names of the `output reg` ports, in port order
+abbrev pub register_ports : List Port → List Name
+register_ports ps = map (λ p. p.name) (filter (λ p. is_register p.kind) ps)
+
+-- and their widths
+abbrev pub port_widths : Net → Scope
+port_widths n = map (λ x. (x, width_of n x)) (register_ports n.ports)
+
+-- a `t_x` of the width of tags is there
+abbrev pub has_tag : (tag : ℕ) → (widths : Scope) → Name → Bool
+has_tag tag widths x = is_number tag (find widths (tag_name x))
+
+abbrev pub shown_by : (tag : ℕ) → (widths : Scope) → Option Name → List Name
+shown_by tag widths None = []
+shown_by tag widths (Some x) = if has_tag tag widths x then x ∷ [] else []
+
+-- each x with a `v_x` among some names that has such a `t_x`, in order
+abbrev pub shown_among : (tag : ℕ) → (widths : Scope) → List Name → List Name
+shown_among tag widths [] = []
+shown_among tag widths (p ∷ ps) = shown_by tag widths (value_of p) ++ shown_among tag widths ps

@@ -1,0 +1,13 @@
+use Rattle.std.proofs.Common.{◌≡◌, ◌-◌}
+use Rattle.sap_ir.specs.Plain.Nested.{stop}
+use Rattle.sap_ir.specs.Plain.Views.{body_of, follow}
+use Rattle.sap_tags_terms.specs.Code.{entities_in, setting_in, world_in}
+use Rattle.sap_tagged.specs.Commands.{sweep, for_each, resets}
+use Rattle.sap_tagged.specs.Keys.{tag_key}
+use Rattle.sap_tagged.specs.Levels.{bits}
+use Rattle.sap_tags_effects.proofs.raises.reset_below.Given as goal
+
+abbrev pub invariant-loop-x : goal.invariant-loop-x
+invariant-loop-x l =
+    follow (body_of l.out.items) (sweep (setting_in l.setting) tag_key (resets (world_in l.setting) l.target) (λ x. bits (setting_in l.setting) (world_in l.setting).order.bottom) l.x (entities_in l.setting - l.x) stop)
+    ≡ follow (body_of l.initial.out.items) (for_each (setting_in l.setting) tag_key (resets (world_in l.setting) l.target) (λ x. bits (setting_in l.setting) (world_in l.setting).order.bottom) stop)

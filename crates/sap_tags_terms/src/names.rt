@@ -1,0 +1,113 @@
+//! Names of a plain program, by what they name.
+
+ghost use Rattle.std.specs.Prelude.{◌≡◌, ◌++◌, IfOk};
+ghost use Rattle.sap_tagged.specs.Keys.{value_key, tag_key, seat_key, refused_key, level_key, wire_key, first_key, inner_key, numeral, entity_word, key_name};
+ghost use Rattle.sap_tags_terms.specs.Code.{named_in};
+
+use crate::setting::Setting;
+use sap_net::parts::Name;
+use std::alloc::{AllocError, Global};
+
+fn prefixed(alloc: Global, front: &str, name: &str) -> Result<Name, AllocError>
+    ensures { IfOk result (λ n. n ≡ front.now ++ name.now) }
+{
+    let text = format!(in alloc; "{front}{name}")?;
+    Ok(Name::new(text))
+}
+
+/// A prefix and a number.
+#[tactic(auto, using(crate::proofs::Words::words))]
+fn numbered(alloc: Global, front: &str, k: u64) -> Result<Name, AllocError>
+    ensures { IfOk result (λ n. n ≡ front.now ++ numeral k) }
+{
+    let text = format!(in alloc; "{front}{k}")?;
+    Ok(Name::new(text))
+}
+
+/// A prefix and the name of an entity, or its number past the last.
+#[tactic(auto, using(crate::proofs::Words::words))]
+fn entity_name(
+    alloc: Global,
+    setting: &Setting<'_>,
+    front: &str,
+    x: usize,
+) -> Result<Name, AllocError>
+    ensures { IfOk result (λ n. n ≡ front.now ++ entity_word (named_in setting.now) x) }
+{
+    match setting.program.entities.get(x) {
+        Some(entity) => prefixed(alloc, front, entity.name.as_str()),
+        None => numbered(alloc, front, x as u64),
+    }
+}
+
+/// The name of a state in nested programs.
+pub fn state_name(alloc: Global, setting: &Setting<'_>, x: usize) -> Result<Name, AllocError>
+    ensures { IfOk result (λ n. n ≡ entity_word (named_in setting.now) x) }
+{
+    entity_name(alloc, setting, "", x)
+}
+
+/// The number of an input or a register, or the contents of a memory.
+pub fn value_name(alloc: Global, setting: &Setting<'_>, x: usize) -> Result<Name, AllocError>
+    ensures { IfOk result (λ n. n ≡ key_name (named_in setting.now) (value_key x)) }
+{
+    entity_name(alloc, setting, "v_", x)
+}
+
+/// The tag of an entity.
+pub fn tag_name(alloc: Global, setting: &Setting<'_>, x: usize) -> Result<Name, AllocError>
+    ensures { IfOk result (λ n. n ≡ key_name (named_in setting.now) (tag_key x)) }
+{
+    entity_name(alloc, setting, "t_", x)
+}
+
+/// The current child of a state, or of the root.
+#[tactic(auto, using(crate::proofs::Words::words))]
+pub fn seat_name(alloc: Global, setting: &Setting<'_>, x: usize) -> Result<Name, AllocError>
+    ensures { IfOk result (λ n. n ≡ key_name (named_in setting.now) (seat_key x)) }
+{
+    if x == setting.program.entities.len() {
+        prefixed(alloc, "s_", "0")
+    } else {
+        entity_name(alloc, setting, "s_", x)
+    }
+}
+
+/// Whether a site is refused.
+pub fn refused_name(alloc: Global, setting: &Setting<'_>, site: u32) -> Result<Name, AllocError>
+    ensures { IfOk result (λ n. n ≡ key_name (named_in setting.now) (refused_key site)) }
+{
+    numbered(alloc, "c_", u64::from(site))
+}
+
+/// At which level a site is refused.
+pub fn refused_level_name(
+    alloc: Global,
+    setting: &Setting<'_>,
+    site: u32,
+) -> Result<Name, AllocError>
+    ensures { IfOk result (λ n. n ≡ key_name (named_in setting.now) (level_key site)) }
+{
+    numbered(alloc, "l_", u64::from(site))
+}
+
+/// A wire of the program's own.
+pub fn wire_name(alloc: Global, setting: &Setting<'_>, wire: u32) -> Result<Name, AllocError>
+    ensures { IfOk result (λ n. n ≡ key_name (named_in setting.now) (wire_key wire)) }
+{
+    numbered(alloc, "h", u64::from(wire))
+}
+
+/// The tag of a dynamic memory as the cycle began.
+pub fn first_name(alloc: Global, setting: &Setting<'_>, x: usize) -> Result<Name, AllocError>
+    ensures { IfOk result (λ n. n ≡ key_name (named_in setting.now) (first_key x)) }
+{
+    numbered(alloc, "b", x as u64)
+}
+
+/// The context of the children of a state.
+pub fn inner_name(alloc: Global, setting: &Setting<'_>, x: usize) -> Result<Name, AllocError>
+    ensures { IfOk result (λ n. n ≡ key_name (named_in setting.now) (inner_key x)) }
+{
+    numbered(alloc, "u", x as u64)
+}

@@ -1,4 +1,0 @@
-use Rattle.sap_terms.proofs.calcs.+placed.Given as goal
-
-abbrev pub decreases-placed : goal.decreases-placed
-decreases-placed l = l.more
