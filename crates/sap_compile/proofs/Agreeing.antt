@@ -1,5 +1,5 @@
 -- What stands for a well-formed design has runs that agree, and look alike, where their streams agree.
-use Rattle.std.proofs.Common.{◌≡◌, ◌<◌, ◌≤◌, ℕ, true, ◌==◌, bit_or, List, [], ◌∷◌, map, inl, inr, sym, ap, ◌∙◌, subst}
+use Rattle.std.proofs.Common.{◌≡◌, ◌≤◌, ℕ, true, ◌==◌, bit_or, List, [], ◌∷◌, map, inl, inr, sym, ap, ◌∙◌, subst}
 use Rattle.std.specs.List.{AllZip}
 use Rattle.std.proofs.lemmas.Bool.{cases_Bool}
 use Rattle.sap_meaning.proofs.ProgramLemmas.{register_no_memory_test, state_no_memory_test}
@@ -8,27 +8,27 @@ use Rattle.sap_lattice.specs.Levels.{Levels, order_of}
 use Rattle.sap_lattice.specs.Codes.{Codes}
 use Rattle.sap_maps.specs.Maps.{Valuation}
 use Rattle.sap_tree.specs.Syntax.{DesignTree}
-use Rattle.sap_check.specs.WellFormed.{WellFormed}
-use Rattle.sap_meaning.specs.Program.{entity, is_memory}
-use Rattle.sap_meaning.specs.Store.{Store, own, start, start_whole, home, number, level, Refusal, After}
+use Rattle.sap_shape.specs.WellFormed.{WellFormed}
+use Rattle.sap_meaning.specs.Program.{entity}
+use Rattle.sap_meaning.specs.Store.{Store, own, start, start_whole, home, level, Refusal, After}
 use Rattle.sap_meaning.specs.Cycle.{Tagged, cycle, run_from}
 use Rattle.sap_meaning.specs.Fine.{FineProgram}
 use Rattle.sap_meaning.specs.State.{Resting, Fits, InputsFit, StreamFits, first, labelled_run}
-use Rattle.sap_meaning.specs.Agree.{Low, Alike, PartsAlike, seen}
+use Rattle.sap_meaning.specs.Agree.{Low, seen}
 use Rattle.sap_meaning.specs.Agree as meaning
-use Rattle.sap_resolve.specs.Fill.{program_of}
-use Rattle.sap_resolve.specs.Premises.Premises.{ProgramsAreFine}
+use Rattle.sap_meaning.proofs.Paths.{coded_alike}
+use Rattle.sap_resolved.specs.Fill.{program_of}
+use Rattle.sap_resolved.specs.Premises.Premises.{ProgramsAreFine}
 use Rattle.sap_secure.specs.Designs.Designs.{RunsOfDesignsAgree, DesignStatesRest, DesignNumbersFit}
 use Rattle.sap_net.specs.Laws.{SomeRun, OneRun}
 use Rattle.sap_net.specs.Net.{Net}
 use Rattle.sap_net.specs.Runs.{observed}
-use Rattle.sap_interface.specs.PortNames.{tag_name}
-use Rattle.sap_interface.specs.StandsFor.{Named, name, world, IsRefusedAt, StandsFor}
+use Rattle.sap_interface.specs.StandsFor.{Named, world, IsRefusedAt, StandsFor}
 use Rattle.sap_interface.specs.Compiled.{coded_stream, CyclesStand}
-use Rattle.sap_interface.specs.Designs.{named_of, sites_of, StandsForDesign}
-use Rattle.sap_compile.specs.Agree.{IsState, CyclesAgree, LookAlike, MemoriesLookAlike, IsToldAt, CyclesLookAlike, RunsAgree, RunsLookAlike}
+use Rattle.sap_interface.specs.Designs.{named_of, site_count_of, StandsForDesign}
+use Rattle.sap_compile.specs.Agree.{IsState, CyclesAgree, IsToldAt, CyclesLookAlike, RunsAgree, RunsLookAlike}
 use Rattle.sap_compile.specs.Runs.{HasOneRunOnStreams}
-use Rattle.sap_compile.proofs.Paths.{paths_look_alike}
+use Rattle.sap_compile.proofs.Paths.{are_children, paths_look_alike}
 
 -- refusals at or below l
 
@@ -50,45 +50,22 @@ from_seen o l (r ∷ rs) k t h =
     kept f (inl i) = inl i
     kept f (inr i) = inr (f i)
 
--- what has a level of its own
-
 -- one cycle
 
 module _ (d : Named) (within : (x y : ℕ) → (bit_or (d.code x) (d.code y) == d.code y) ≡ (world d).order.le x y) (sites l : ℕ) where
   low_by_code : (t r : ℕ) → d.code r ≡ d.code t → Low (world d).order l t → Low (world d).order l r
   low_by_code t r e low = sym (within r l) ∙ ap (λ (c : ℕ). bit_or c (d.code l) == d.code l) e ∙ within t l ∙ low
 
-  coded_alike : (n t m u a g b h : ℕ) → a ≡ n → b ≡ m → g ≡ d.code t → h ≡ d.code u → t < (world d).order.count → u < (world d).order.count
-      → Alike (world d).order l n t m u → LookAlike d l a g b h
-  coded_alike n t m u a g b h an bm gt hu i j (inl s) = inl (an ∙ s.0 ∙ sym bm, gt ∙ ap (λ (x : ℕ). d.code x) s.1 ∙ sym hu, (t, i, sym gt, s.2))
-  coded_alike n t m u a g b h an bm gt hu i j (inr s) = inr ((t, i, sym gt, s.0), (u, j, sym hu, s.1))
-
-  module _ (v u : Valuation) (c : CyclesAgree d sites l v u) where
-    memory_alike : (m : ℕ) (is : is_memory (world d) m ≡ true) → v.value (tag_name (name d m)) ≡ d.code (level (world d) (start_whole m) c.one.store)
-        → u.value (tag_name (name d m)) ≡ d.code (level (world d) (start_whole m) c.other.store)
-        → PartsAlike (world d) l (start m) (start_whole m) c.one.store c.other.store → MemoriesLookAlike d l m v u
-    memory_alike m is g h (inl s) =
-        inl (
-          λ i below. c.one_stands.cells m i is below ∙ s.0 i ∙ sym (c.other_stands.cells m i is below),
-          g ∙ ap (λ (x : ℕ). d.code x) s.1 ∙ sym h,
-          (level (world d) (start_whole m) c.one.store, c.one_is_state.fits.levels (start_whole m), sym g, s.2),
-        )
-    memory_alike m is g h (inr s) =
-        inr (
-          (level (world d) (start_whole m) c.one.store, c.one_is_state.fits.levels (start_whole m), sym g, s.0),
-          (level (world d) (start_whole m) c.other.store, c.other_is_state.fits.levels (start_whole m), sym h, s.1),
-        )
-
   told : (k n : ℕ) → 1 ≤ k → k ≤ sites → (v u : Valuation) (a b : After) → StandsFor d sites v a.store a.refused → StandsFor d sites u b.store b.refused
       → seen (world d).order l a.refused ≡ seen (world d).order l b.refused → IsToldAt d l v k n → IsToldAt d l u k n
   told k n i j v u a b p q same (is, at, low) =
       let o = (world d).order in
       let r = (p.refusals k i j).0 is in
-      let coded : d.code r.0 ≡ n = sym (p.refusal_levels k r.0 r.1) ∙ at in
+      let coded : d.code r.0 ≡ n = sym (p.refusal_levels k r.0 i j r.1) ∙ at in
       let below : Low o l r.0 = low_by_code low.0 r.0 (coded ∙ sym low.2) low.3 in
       let other : IsRefusedAt b.refused k r.0 =
       from_seen o l b.refused k r.0 (subst (λ (rs : List Refusal). IsRefusedAt rs k r.0) same (in_seen o l a.refused k r.0 r.1 below)) in
-      ((q.refusals k i j).1 (r.0, other), q.refusal_levels k r.0 other ∙ coded, low)
+      ((q.refusals k i j).1 (r.0, other), q.refusal_levels k r.0 i j other ∙ coded, low)
 
   pub look_alike : FineProgram d.program → (v u : Valuation) → CyclesAgree d sites l v u → CyclesLookAlike d sites l v u
   look_alike fine v u c =
@@ -99,19 +76,23 @@ module _ (d : Named) (within : (x y : ℕ) → (bit_or (d.code x) (d.code y) == 
       let t = c.other.store in
       record {
         registers = λ x is.
-            coded_alike (number (own x) s) (level w (own x) s) (number (own x) t) (level w (own x) t) _ _ _ _ (one.register_values x is) (other.register_values x is)
+            coded_alike w.order d.code l _ _ _ _ _ _ (λ e. one.register_values x is ∙ e ∙ sym (other.register_values x is))
             (one.register_tags x is) (other.register_tags x is) (c.one_is_state.fits.levels (own x)) (c.other_is_state.fits.levels (own x)) (c.states.registers x is);
         cells = λ m i is enforced below.
-            coded_alike (number (start m i) s) (level w (start m i) s) (number (start m i) t) (level w (start m i) t) _ _ _ _ (one.cells m i is below) (other.cells m i is below)
+            coded_alike w.order d.code l _ _ _ _ _ _ (λ e. one.cells m i is below ∙ e ∙ sym (other.cells m i is below))
             (one.cell_tags m i is enforced below) (other.cell_tags m i is enforced below) (c.one_is_state.fits.levels (home w (start m i)))
             (c.other_is_state.fits.levels (home w (start m i))) (c.states.enforced_memories m i is enforced).0;
-        memories = λ m is dynamic. memory_alike v u c m is (one.memory_tags m is dynamic) (other.memory_tags m is dynamic) (c.states.dynamic_memories m is dynamic).0;
+        memories = λ m is dynamic.
+            coded_alike w.order d.code l _ _ _ _ _ _ (λ e i below. one.cells m i is below ∙ e i ∙ sym (other.cells m i is below))
+            (one.memory_tags m is dynamic) (other.memory_tags m is dynamic) (c.one_is_state.fits.levels (start_whole m)) (c.other_is_state.fits.levels (start_whole m))
+            (c.states.dynamic_memories m is dynamic).0;
         register_tags = λ x is enforced low.
             one.register_tags x is ∙ ap (λ (y : ℕ). d.code y) (c.states.enforced_levels (own x) (register_no_memory_test (entity w x).kind is) enforced low) ∙ sym (other.register_tags x is);
         cell_tags = λ m i is enforced low below.
             one.cell_tags m i is enforced below ∙ ap (λ (y : ℕ). d.code y) (c.states.enforced_levels (start m i) is enforced low) ∙ sym (other.cell_tags m i is enforced below);
         state_tags = λ x is below enforced low.
             one.state_tags x is below ∙ ap (λ (y : ℕ). d.code y) (c.states.enforced_levels (own x) (state_no_memory_test (entity w x).kind is) enforced low) ∙ sym (other.state_tags x is below);
+        current = (are_children d sites v s c.one.refused one c.one_is_state, are_children d sites u t c.other.refused other c.other_is_state);
         paths = paths_look_alike d l sites v u c fine;
         refusals = λ k n i j.
             (told k n i j v u c.one c.other one other c.refusals, told k n i j u v c.other c.one other one (sym c.refusals));
@@ -170,13 +151,13 @@ module _ (ls : Levels) (laws : Laws (order_of ls)) (codes : Codes (order_of ls))
 
   pub runs_agree : RunsAgree ls d n
   runs_agree = λ l a b fa fb same vs us rv ru.
-      each_agrees (named_of ls d) (sites_of d) l (map (observed n) vs) (map (observed n) us) (labelled_run (program_of ls d) a) (labelled_run (program_of ls d) b)
+      each_agrees (named_of ls d) (site_count_of d) l (map (observed n) vs) (map (observed n) us) (labelled_run (program_of ls d) a) (labelled_run (program_of ls d) b)
       (stands.stands a fa vs rv) (stands.stands b fb us ru) (states_of a fa) (states_of b fb) (agree ls d laws formed l a b same)
 
   pub runs_look_alike : RunsLookAlike ls d n
   runs_look_alike = λ l a b fa fb same vs us rv ru.
-      in_each (CyclesAgree (named_of ls d) (sites_of d) l) (CyclesLookAlike (named_of ls d) (sites_of d) l)
-      (look_alike (named_of ls d) codes.within (sites_of d) l (fine ls d laws formed)) (map (observed n) vs) (map (observed n) us) (runs_agree l a b fa fb same vs us rv ru)
+      in_each (CyclesAgree (named_of ls d) (site_count_of d) l) (CyclesLookAlike (named_of ls d) (site_count_of d) l)
+      (look_alike (named_of ls d) codes.within (site_count_of d) l (fine ls d laws formed)) (map (observed n) vs) (map (observed n) us) (runs_agree l a b fa fb same vs us rv ru)
 
 -- one run
 

@@ -15,7 +15,7 @@ use Rattle.sap_names.specs.declared.kind.Code.{Code}
 use Rattle.sap_parse.specs.Text.{IsText, IsReadFault}
 use Rattle.sap_lex.specs.declared.fault.ReadFault.{ReadFault}
 use Rattle.sap_lex.specs.declared.fault.ReadFault.TheVariants as read
-use Rattle.sap_check.specs.WellFormed.{WellFormed, IsFirstFault}
+use Rattle.sap_shape.specs.WellFormed.{WellFormed, IsFirstFault}
 use Rattle.sap_tree.specs.Syntax.{DesignTree}
 use Rattle.sap_text.specs.declared.place.Place.{Place}
 use Rattle.sap_compile.specs.Failures.{read_failure, check_failure}
@@ -53,9 +53,9 @@ no_err ls f (inr e) = cc
 
 module _ (one_lattice : OneLattice) (one_design : OneDesign) (not_both : NotBoth) (lattice design : List ℕ) (ls : Levels) (d : DesignTree)
     (is_lattice : IsLatticeOfFile lattice ls) (is_text : IsText design d) (formed : WellFormed ls d)
-    (sound : (f : LatFileFault) → f ≢ lattice_fault.Memory → FirstFault lattice f → ⊥) where
+    (sound : (f : LatFileFault) → FirstFault lattice f → ⊥) where
   pub no_fault : (fault : CompileFault) → IsCompileFault lattice design fault → ⊥
-  no_fault (Lattice f) h = sound f h.0 h.1
+  no_fault (Lattice f) h = sound f h
   no_fault (Read f) h = not_both design d f is_text h.2
   no_fault (Check f) h =
       no_check_fault h.0 h.1 f (formed_over one_lattice one_design lattice design ls h.0 d h.1 is_lattice h.2 is_text h.3 formed) h.4

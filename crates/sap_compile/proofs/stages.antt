@@ -1,5 +1,6 @@
 pub mod Found
 pub mod Ports
+pub mod Carried
 pub mod Joined
 pub mod Declared
 pub mod Helping

@@ -1,21 +1,21 @@
 -- When the runs of a design's module agree at a level l, and what the numbers show of it.
-use Rattle.std.specs.Prelude.{◌≡◌, ◌<◌, ◌≤◌, ◌⊎◌, ◌↔◌, ℕ, zero, suc, true, false, List, map}
+use Rattle.std.specs.Prelude.{◌≡◌, ◌<◌, ◌≤◌, ◌↔◌, ℕ, true, false, List, map}
 use Rattle.std.specs.List.{AllZip}
 use Rattle.sap_lattice.specs.Levels.{Levels, order_of}
-use Rattle.sap_maps.specs.Maps.{Name, Valuation}
+use Rattle.sap_maps.specs.Maps.{Valuation}
 use Rattle.sap_tree.specs.Syntax.{DesignTree}
-use Rattle.sap_meaning.specs.Program.{root, is_register, is_memory, is_state, is_dynamic, authority, state_node, Group, no_node, and_node}
+use Rattle.sap_meaning.specs.Program.{root, children, is_register, is_memory, is_state, is_dynamic, authority}
 use Rattle.sap_meaning.specs.Store.{Store, After}
 use Rattle.sap_meaning.specs.Cycle.{Tagged}
 use Rattle.sap_meaning.specs.State.{Resting, Fits, StreamFits}
-use Rattle.sap_meaning.specs.Agree.{Low, High, StatesAgree, RefusalsAgree, StreamsAgree}
+use Rattle.sap_meaning.specs.Agree.{Low, ActiveState, path_from, PathsRelated, StatesAgree, RefusalsAgree, StreamsAgree}
+use Rattle.sap_meaning.specs.Codes.{IsLowCode, LookAlike}
 use Rattle.sap_net.specs.Net.{Net}
 use Rattle.sap_net.specs.Runs.{IsRun, observed}
-use Rattle.sap_interface.specs.PortNames.{value_name, tag_name, refused_name, level_name}
-use Rattle.sap_ir.specs.Plain.Nested.{seat_name, root_seat}
+use Rattle.sap_net.specs.PortNames.{value_name, tag_name, refused_name, refused_level_name, seat_name, root_seat}
 use Rattle.sap_interface.specs.StandsFor.{Named, name, world, depth, StandsFor}
 use Rattle.sap_interface.specs.Compiled.{coded_stream}
-use Rattle.sap_interface.specs.Designs.{named_of, sites_of}
+use Rattle.sap_interface.specs.Designs.{named_of, site_count_of}
 
 -- a state of the design between two cycles, its numbers within their widths and its levels those of the lattice
 pub record IsState (d : Named) (s : Store) : Type 0 where
@@ -33,72 +33,56 @@ pub record CyclesAgree (d : Named) (sites l : ℕ) (v u : Valuation) : Type 0 wh
   pub states : StatesAgree d.program l one.store other.store
   pub refusals : RefusalsAgree (world d).order l one.refused other.refused
 
--- a number is the code of a level at or below l; of a level that is not
-abbrev pub IsLowCode : Named → (l code : ℕ) → Type 0
-IsLowCode d l code = (t : ℕ) × (t < (world d).order.count) × (d.code t ≡ code) × Low (world d).order l t
+-- what a cycle's numbers have of an entity: the value of a register, the tag of a register, a dynamic memory or a state, ..
+abbrev pub shown_value : Named → Valuation → ℕ → ℕ
+shown_value d v x = v.value (value_name (name d x))
 
-abbrev pub IsHighCode : Named → (l code : ℕ) → Type 0
-IsHighCode d l code = (t : ℕ) × (t < (world d).order.count) × (d.code t ≡ code) × High (world d).order l t
+abbrev pub shown_tag : Named → Valuation → ℕ → ℕ
+shown_tag d v x = v.value (tag_name (name d x))
 
--- The number n with the tag g and the number m with the tag h look alike at l: they are equal, tags too, or both tags
--- are codes of levels that are not at or below l.
-abbrev pub LookAlike : Named → (l n g m h : ℕ) → Type 0
-LookAlike d l n g m h = ((n ≡ m) × (g ≡ h) × IsLowCode d l g) ⊎ (IsHighCode d l g × IsHighCode d l h)
+-- .. the value and the tag of a memory's cell
+abbrev pub shown_cell : Named → Valuation → (m i : ℕ) → ℕ
+shown_cell d v m i = v.cell (value_name (name d m)) i
 
--- A dynamic memory, whose cells have one tag, likewise.
-abbrev pub MemoriesLookAlike : Named → (l m : ℕ) → Valuation → Valuation → Type 0
-MemoriesLookAlike d l m v u =
-    (((i : ℕ) → i < depth d m → v.cell (value_name (name d m)) i ≡ u.cell (value_name (name d m)) i)
-    × (v.value (tag_name (name d m)) ≡ u.value (tag_name (name d m))) × IsLowCode d l (v.value (tag_name (name d m))))
-    ⊎ (IsHighCode d l (v.value (tag_name (name d m))) × IsHighCode d l (u.value (tag_name (name d m))))
+abbrev pub shown_cell_tag : Named → Valuation → (m i : ℕ) → ℕ
+shown_cell_tag d v m i = v.cell (tag_name (name d m)) i
 
--- The n-th of a group has a tag that is the code of a level not at or below l.
-abbrev pub HasHighTag : Named → (l : ℕ) → Valuation → Group → (n : ℕ) → Type 0
-HasHighTag d l v no_node n = ⊥
-HasHighTag d l v (and_node (state_node c b k) g) zero = IsHighCode d l (v.value (tag_name (name d c)))
-HasHighTag d l v (and_node a g) (suc n) = HasHighTag d l v g n
+-- .. and the place of a state's current child
+abbrev pub shown_child : Named → Valuation → ℕ → ℕ
+shown_child d v p = v.value (seat_name (name d p))
 
--- How the walk goes on from a parent, the number of whose current child is at `seat`: at a leaf it ends; both cycles show the
--- same current child, from which `onward` tells more; or the tag of the one that each shows is the code of a level not at or
--- below l, and it ends.
-abbrev pub WalksMeet : Named → (l : ℕ) → (seat : Name) → Group → Valuation → Valuation → (onward : ℕ → Type 0) → Type 0
-WalksMeet d l seat no_node v u onward = Unit {0}
-WalksMeet d l seat (and_node a g) v u onward =
-    ((v.value seat ≡ u.value seat) × onward (v.value seat))
-    ⊎ (HasHighTag d l v (and_node a g) (v.value seat) × HasHighTag d l u (and_node a g) (u.value seat))
+-- the active path from the root on, as the places of current children and the tags of states show it
+abbrev pub shown_path : Named → Valuation → List ActiveState
+shown_path d v = path_from (shown_child d v) (shown_tag d v) d.program.states (v.value root_seat)
 
--- The n-th of a group has equal tags, the code of a level at or below l, and the walk goes on below it.
-abbrev pub WalksGoOn : Named → (l : ℕ) → Group → (n : ℕ) → Valuation → Valuation → Type 0
-WalksGoOn d l no_node n v u = ⊥
-WalksGoOn d l (and_node (state_node c b k) g) zero v u =
-    (v.value (tag_name (name d c)) ≡ u.value (tag_name (name d c))) × IsLowCode d l (v.value (tag_name (name d c)))
-    × WalksMeet d l (seat_name (name d c)) k v u (λ n. WalksGoOn d l k n v u)
-WalksGoOn d l (and_node a g) (suc n) v u = WalksGoOn d l g n v u
-
--- The active paths from the root down, as the numbers of current children and the tags of the states on them show them. A
--- number that is no child's is on no path that looks alike.
-abbrev pub PathsLookAlike : Named → (l : ℕ) → Valuation → Valuation → Type 0
-PathsLookAlike d l v u = WalksMeet d l root_seat d.program.states v u (λ n. WalksGoOn d l d.program.states n v u)
+-- The place of each current child is a child's.
+pub record AreChildren (d : Named) (v : Valuation) : Type 0 where
+  pub of_root : 0 < children (world d) (root (world d)) → v.value root_seat < children (world d) (root (world d))
+  pub of_state : (p : ℕ) → p < root (world d) → 0 < children (world d) p → shown_child d v p < children (world d) p
 
 -- site k is refused, and the code of its level, one at or below l, is n
 abbrev pub IsToldAt : Named → (l : ℕ) → Valuation → (k n : ℕ) → Type 0
-IsToldAt d l v k n = (v.value (refused_name k) ≡ 1) × (v.value (level_name k) ≡ n) × IsLowCode d l n
+IsToldAt d l v k n = (v.value (refused_name k) ≡ 1) × (v.value (refused_level_name k) ≡ n) × IsLowCode (world d).order d.code l n
 
--- What a reader of two cycles' numbers sees at l: registers and cells look alike, the tags of enforced entities whose
--- authority is at or below l are equal, the active paths look alike, and the same sites are refused at levels at or below l.
+-- What a reader of two cycles' numbers sees at l: registers, cells and active paths look alike, the tags of enforced entities whose
+-- authority is at or below l are equal, and the same sites are refused at levels at or below l.
 pub record CyclesLookAlike (d : Named) (sites l : ℕ) (v u : Valuation) : Type 0 where
   pub registers : (x : ℕ) → is_register (world d) x ≡ true
-      → LookAlike d l (v.value (value_name (name d x))) (v.value (tag_name (name d x))) (u.value (value_name (name d x))) (u.value (tag_name (name d x)))
+      → LookAlike (world d).order d.code l (shown_value d v x ≡ shown_value d u x) (shown_tag d v x) (shown_tag d u x)
   pub cells : (m i : ℕ) → is_memory (world d) m ≡ true → is_dynamic (world d) m ≡ false → i < depth d m
-      → LookAlike d l (v.cell (value_name (name d m)) i) (v.cell (tag_name (name d m)) i) (u.cell (value_name (name d m)) i) (u.cell (tag_name (name d m)) i)
-  pub memories : (m : ℕ) → is_memory (world d) m ≡ true → is_dynamic (world d) m ≡ true → MemoriesLookAlike d l m v u
+      → LookAlike (world d).order d.code l (shown_cell d v m i ≡ shown_cell d u m i) (shown_cell_tag d v m i) (shown_cell_tag d u m i)
+  -- all cells of a dynamic memory have one tag
+  pub memories : (m : ℕ) → is_memory (world d) m ≡ true → is_dynamic (world d) m ≡ true
+      → LookAlike (world d).order d.code l ((i : ℕ) → i < depth d m → shown_cell d v m i ≡ shown_cell d u m i) (shown_tag d v m) (shown_tag d u m)
   pub register_tags : (x : ℕ) → is_register (world d) x ≡ true → is_dynamic (world d) x ≡ false → Low (world d).order l (authority (world d) x)
-      → v.value (tag_name (name d x)) ≡ u.value (tag_name (name d x))
+      → shown_tag d v x ≡ shown_tag d u x
   pub cell_tags : (m i : ℕ) → is_memory (world d) m ≡ true → is_dynamic (world d) m ≡ false → Low (world d).order l (authority (world d) m) → i < depth d m
-      → v.cell (tag_name (name d m)) i ≡ u.cell (tag_name (name d m)) i
+      → shown_cell_tag d v m i ≡ shown_cell_tag d u m i
   pub state_tags : (x : ℕ) → is_state (world d) x ≡ true → x < root (world d) → is_dynamic (world d) x ≡ false → Low (world d).order l (authority (world d) x)
-      → v.value (tag_name (name d x)) ≡ u.value (tag_name (name d x))
-  pub paths : PathsLookAlike d l v u
+      → shown_tag d v x ≡ shown_tag d u x
+  -- so no path ends before a state without children
+  pub current : AreChildren d v × AreChildren d u
+  pub paths : PathsRelated (LookAlike (world d).order d.code l) (shown_path d v) (shown_path d u)
   pub refusals : (k n : ℕ) → 1 ≤ k → k ≤ sites → (IsToldAt d l v k n) ↔ (IsToldAt d l u k n)
 
 -- For every level l, and every two streams that fit the design and agree at l, their levels given as codes: what is seen
@@ -111,8 +95,8 @@ OnAgreeingStreams ls d n Pair =
 
 -- the runs agree
 abbrev pub RunsAgree : Levels → DesignTree → Net → Type 0
-RunsAgree ls d n = OnAgreeingStreams ls d n (CyclesAgree (named_of ls d) (sites_of d))
+RunsAgree ls d n = OnAgreeingStreams ls d n (CyclesAgree (named_of ls d) (site_count_of d))
 
 -- and the numbers show it
 abbrev pub RunsLookAlike : Levels → DesignTree → Net → Type 0
-RunsLookAlike ls d n = OnAgreeingStreams ls d n (CyclesLookAlike (named_of ls d) (sites_of d))
+RunsLookAlike ls d n = OnAgreeingStreams ls d n (CyclesLookAlike (named_of ls d) (site_count_of d))

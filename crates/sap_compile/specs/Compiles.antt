@@ -2,12 +2,12 @@
 use Rattle.std.specs.Prelude.{ℕ, List}
 use Rattle.sap_lattice.specs.Levels.{Levels}
 use Rattle.sap_tree.specs.Syntax.{DesignTree}
-use Rattle.sap_check.specs.WellFormed.{WellFormed}
+use Rattle.sap_shape.specs.WellFormed.{WellFormed}
 use Rattle.sap_net.specs.Net.{Net}
-use Rattle.sap_tags.specs.Items.{IsSmall}
+use Rattle.sap_size.specs.Items.{IsSmall}
 use Rattle.sap_trim.specs.Reads.{ReadsWires}
 use Rattle.sap_trim.specs.Trimmed.{SharesWires}
-use Rattle.sap_vprint.specs.Modules.{IsModule}
+use Rattle.sap_vtext.specs.Modules.{IsModule}
 use Rattle.sap_interface.specs.Designs.{StandsForDesign}
 use Rattle.sap_compile.specs.Agree.{RunsAgree, RunsLookAlike}
 use Rattle.sap_compile.specs.Runs.{HasOneRunOnStreams}

@@ -11,9 +11,9 @@ pub use Rattle.sap_ir.specs.Plain.Writes
 pub use Rattle.sap_latfile.specs.LatticeFile
 pub use Rattle.sap_lattice.specs.Levels
 pub use Rattle.sap_parse.specs.Text
-pub use Rattle.sap_check.specs.WellFormed
-pub use Rattle.sap_tags.specs.Items
-pub use Rattle.sap_tags.specs.Nested
+pub use Rattle.sap_shape.specs.WellFormed
+pub use Rattle.sap_size.specs.Items
+pub use Rattle.sap_size.specs.Nested
 pub use Rattle.sap_tree.specs.Syntax
 pub use Rattle.sap_trim.specs.Reads
 pub use Rattle.sap_trim.specs.Trimmed

@@ -8,7 +8,7 @@ ghost use Rattle.sap_compile.specs.Parts.{checked_of, hang_of, module_of, netlis
 ghost use Rattle.sap_compile.specs.Runs.{HasOneRunOnStreams};
 ghost use Rattle.sap_hang.specs.Hang.{IsHangTable};
 ghost use Rattle.sap_interface.specs.Designs.{StandsForDesign};
-ghost use Rattle.sap_tags.specs.Items.{IsSmall};
+ghost use Rattle.sap_size.specs.Items.{IsSmall};
 ghost use Rattle.sap_trim.specs.Reads.{ReadsWires};
 ghost use Rattle.sap_trim.specs.Trimmed.{SharesWires};
 
@@ -19,8 +19,8 @@ use sap_hang::HangTable;
 use sap_hang::hang::hang;
 use sap_net::laws::one_run;
 use sap_net::netlist::Netlist;
-use sap_resolve::premises::well_formed_serves;
-use sap_sem::resolve::resolve;
+use sap_resolve::resolve::resolve;
+use sap_resolved::premises::well_formed_serves;
 use sap_tags::insert::insert;
 use sap_vprint::print;
 use std::alloc::{AllocError, Global};

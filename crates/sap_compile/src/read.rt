@@ -8,7 +8,7 @@ ghost use Rattle.sap_compile.specs.declared.fault.CompileFault.{CompileFault as 
 ghost use Rattle.sap_latfile.specs.LatticeFile.{IsLatticeOfFile};
 ghost use Rattle.sap_lattice.specs.Levels.{Levels};
 ghost use Rattle.sap_parse.specs.Text.{IsText};
-ghost use Rattle.sap_check.specs.WellFormed.{WellFormed};
+ghost use Rattle.sap_shape.specs.WellFormed.{WellFormed};
 ghost use Rattle.sap_tree.specs.Syntax.{DesignTree};
 
 use crate::fault::CompileFault;

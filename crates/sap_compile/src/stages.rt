@@ -3,8 +3,8 @@
 ghost use Rattle.std.specs.Prelude.{◌≤◌, IfOk};
 ghost use Rattle.sap_ir.specs.Plain.Program.{nested_of};
 ghost use Rattle.sap_ir.specs.Plain.Writes.{PlainWritesOnce};
-ghost use Rattle.sap_tags.specs.Items.{items};
-ghost use Rattle.sap_tags.specs.Nested.{nested_weight};
+ghost use Rattle.sap_size.specs.Items.{items};
+ghost use Rattle.sap_size.specs.Nested.{nested_weight};
 ghost use Rattle.sap_trim.specs.Reads.{ReadsWires};
 ghost use Rattle.sap_trim.specs.Trimmed.{SharesWires};
 ghost use Rattle.sap_compile.specs.Stages.Stages.{StandsForTheSame};

@@ -13,7 +13,8 @@ use Rattle.sap_ir.specs.Source.{readable, width_of}
 use Rattle.sap_ir.specs.IsGuarded.{assignable, variable_names, memory_names, declared, is_helping, IsPlainVar, IsGuarded}
 use Rattle.sap_ir.proofs.Declared.{not_front, not_behind_list, readable_width, shape_width}
 use Rattle.sap_ir.proofs.Passes.{source_widths}
-use Rattle.sap_ir.specs.Plain.Nested.{Nested, declarations, root_seat, seats}
+use Rattle.sap_ir.specs.Plain.Nested.{Nested, declarations, seats}
+use Rattle.sap_net.specs.PortNames.{root_seat}
 use Rattle.sap_ir.specs.Plain.IsPlain.{IsPlain}
 use Rattle.sap_flat.specs.Gates.{gate_name, gate_wires}
 use Rattle.sap_flat.specs.Flat.{flat_states, flattened}

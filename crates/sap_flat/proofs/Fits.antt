@@ -14,7 +14,8 @@ use Rattle.sap_net.specs.Names.{is_among}
 use Rattle.sap_net.specs.Rules.{Shapes, IsWidth}
 use Rattle.sap_ir.specs.Source.{Action, set, put, Command, readable, shapes}
 use Rattle.sap_ir.specs.IsGuarded.{TermFine, assignable, ActionFine, CommandFine}
-use Rattle.sap_ir.specs.Plain.Nested.{Body, stop, act, cases, goto, fall, Forest, none, state, Nested, declarations, has_states, size, group_names, place, children_of, seat_name, seat_width}
+use Rattle.sap_ir.specs.Plain.Nested.{Body, stop, act, cases, goto, fall, Forest, none, state, Nested, declarations, has_states, size, group_names, place, children_of, seat_width}
+use Rattle.sap_net.specs.PortNames.{seat_name}
 use Rattle.sap_ir.specs.Plain.IsPlain.{BodyFine, SeatFine, ForestFine}
 use Rattle.sap_ir.proofs.plain.SeatWidths.{seat_positive, seat_within, seat_register}
 use Rattle.sap_flat.specs.Gates.{gate_name}

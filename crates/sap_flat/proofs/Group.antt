@@ -7,7 +7,8 @@ use Rattle.sap_maps.specs.Scope.{find}
 use Rattle.sap_maps.specs.Term.{Term, read}
 use Rattle.sap_ir.specs.Source.{set, Command, Source, readable}
 use Rattle.sap_ir.specs.Guarded.{Going, value_in, after_action}
-use Rattle.sap_ir.specs.Plain.Nested.{Body, Forest, none, state, has_states, size, group_names, seat_name, seat_width}
+use Rattle.sap_ir.specs.Plain.Nested.{Body, Forest, none, state, has_states, size, group_names, seat_width}
+use Rattle.sap_net.specs.PortNames.{seat_name}
 use Rattle.sap_ir.specs.Plain.Does.{put_value, enter, child_does, falls_of}
 use Rattle.sap_ir.specs.Plain.Writes.{child_writes}
 use Rattle.sap_ir.specs.Plain.IsPlain.{ends_in_transfers, SeatFine, ForestFine}

@@ -1,7 +1,8 @@
 -- The numbers of gates only grow.
 use Rattle.std.proofs.Common.{ℕ, ◌+◌, ◌≤◌, arith}
 use Rattle.sap_maps.specs.Maps.{Name}
-use Rattle.sap_ir.specs.Plain.Nested.{Body, stop, act, cases, goto, fall, Forest, none, state, size, seat_name}
+use Rattle.sap_ir.specs.Plain.Nested.{Body, stop, act, cases, goto, fall, Forest, none, state, size}
+use Rattle.sap_net.specs.PortNames.{seat_name}
 use Rattle.sap_flat.specs.Flat.{flat_body, flat_group}
 
 pub body_grows : (seat : Name) (group : Forest) (fell : ℕ) (b : Body) (j k : ℕ) → k ≤ (flat_body seat group fell b j k).next

@@ -23,7 +23,8 @@ use Rattle.sap_ir.specs.declared.plain.nested.PlainCmd.{PlainCmd}
 use Rattle.sap_ir.specs.declared.plain.nested.PlainCmd.TheVariants as cmd
 use Rattle.sap_ir.specs.declared.plain.nested.PlainCmd.TheViews as shown
 use Rattle.sap_ir.specs.declared.plain.nested.PlainState.{PlainState, out-PlainState}
-use Rattle.sap_ir.specs.Plain.Nested.{Body, stop, act, cases, goto, fall, Forest, none, state, size, place, children_of, seat_name, root_seat, seat_width}
+use Rattle.sap_ir.specs.Plain.Nested.{Body, stop, act, cases, goto, fall, Forest, none, state, size, place, children_of, seat_width}
+use Rattle.sap_net.specs.PortNames.{seat_name, root_seat}
 use Rattle.sap_ir.specs.Plain.Views.{command_before, body_of, state_before, forest_of, follow, planted}
 use Rattle.sap_ir.proofs.plain.Views.{body_of-none, body_of-more, before-do, before-if, before-goto, before-fall, forest_of-none, forest_of-more, state_before-out, follow-before, planted-before}
 use Rattle.sap_flat.specs.Gates.{gate_name, gate_wire, gate_wires}

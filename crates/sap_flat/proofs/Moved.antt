@@ -9,7 +9,8 @@ use Rattle.sap_net.specs.Names.{is_among}
 use Rattle.sap_ir.specs.Source.{Source, readable}
 use Rattle.sap_ir.specs.Guarded.{Going}
 use Rattle.sap_ir.specs.Source.{Command}
-use Rattle.sap_ir.specs.Plain.Nested.{Forest, none, state, has_states, size, group_names, place, children_of, seat_name, seat_width}
+use Rattle.sap_ir.specs.Plain.Nested.{Forest, none, state, has_states, size, group_names, place, children_of, seat_width}
+use Rattle.sap_net.specs.PortNames.{seat_name}
 use Rattle.sap_ir.specs.Plain.Does.{put_value, first_child, restart, enter}
 use Rattle.sap_ir.specs.Plain.IsPlain.{SeatFine, ForestFine}
 use Rattle.sap_flat.specs.Gates.{gate_name}

@@ -13,7 +13,8 @@ use Rattle.sap_net.specs.Names.{is_among}
 use Rattle.sap_ir.specs.declared.guarded.Var.{Var}
 use Rattle.sap_ir.specs.Source.{Action, set, put, Command}
 use Rattle.sap_ir.specs.IsGuarded.{variable_names, memory_names, declared, assignable, ActionFine}
-use Rattle.sap_ir.specs.Plain.Nested.{Body, stop, act, cases, goto, fall, Forest, none, state, Nested, declarations, has_states, size, group_names, state_names, place, children_of, seat_name, root_seat, seats, seat_width}
+use Rattle.sap_ir.specs.Plain.Nested.{Body, stop, act, cases, goto, fall, Forest, none, state, Nested, declarations, has_states, size, group_names, state_names, place, children_of, seats, seat_width}
+use Rattle.sap_net.specs.PortNames.{seat_name, root_seat}
 use Rattle.sap_ir.specs.Plain.IsPlain.{keeps_seats, BodyFine, ForestFine, IsPlain}
 use Rattle.sap_flat.specs.Gates.{gate_name}
 use Rattle.sap_flat.specs.Flat.{under, is_number, seated, flat_first, flat_restart, flat_goto, flat_body, flat_gates, flat_group, flattened}

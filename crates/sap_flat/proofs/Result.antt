@@ -2,7 +2,7 @@
 use Rattle.std.proofs.Common.{◌≡◌, ℕ, ◌<◌, ◌≤◌, ◌^◌, List, ◌++◌, sym, ap, ◌∙◌, subst, refl, arith}
 use Rattle.sap_maps.specs.Maps.{Name}
 use Rattle.sap_ir.specs.declared.guarded.Var.{Var}
-use Rattle.sap_ir.specs.declared.guarded.Store.{Store}
+use Rattle.sap_ir.specs.declared.guarded.MemoryVariable.{MemoryVariable}
 use Rattle.sap_ir.specs.Source.{Command, Source}
 use Rattle.sap_ir.specs.Writes.{WritesOnce}
 use Rattle.sap_ir.specs.Plain.Nested.{Nested}
@@ -20,17 +20,17 @@ use Rattle.sap_flat.proofs.Whole.{runs_alike, writes_once}
 use Rattle.sap_flat.proofs.Once.{bodies_once}
 use Rattle.sap_flat.proofs.Small.{flattened_small}
 
-abbrev from_parts : (inputs wires registers : List Var) → List Store → List Name → List Command → Source
+abbrev from_parts : (inputs wires registers : List Var) → List MemoryVariable → List Name → List Command → Source
 from_parts is ws rs ms ps cs = record { inputs = is; wires = ws; registers = rs; memories = ms; ports = ps; commands = cs }
 
 -- the program of its parts
-pub source_made : (p : Nested) (inputs wires registers : List Var) (memories : List Store) (ports : List Name) (commands : List Command) (gates : ℕ) → inputs ≡ p.inputs → wires ≡ p.wires ++ gate_wires 0 gates → registers ≡ p.registers → memories ≡ p.memories → ports ≡ p.ports → commands ≡ (flat_states p.states).commands → gates ≡ (flat_states p.states).next → ◌≡◌ {A = Source} (record { inputs = inputs; wires = wires; registers = registers; memories = memories; ports = ports; commands = commands }) (flattened p)
+pub source_made : (p : Nested) (inputs wires registers : List Var) (memories : List MemoryVariable) (ports : List Name) (commands : List Command) (gates : ℕ) → inputs ≡ p.inputs → wires ≡ p.wires ++ gate_wires 0 gates → registers ≡ p.registers → memories ≡ p.memories → ports ≡ p.ports → commands ≡ (flat_states p.states).commands → gates ≡ (flat_states p.states).next → ◌≡◌ {A = Source} (record { inputs = inputs; wires = wires; registers = registers; memories = memories; ports = ports; commands = commands }) (flattened p)
 source_made p inputs wires registers memories ports commands gates a b c d e f g =
     let w : wires ≡ p.wires ++ gate_wires 0 (flat_states p.states).next = b ∙ ap (λ (n : ℕ). p.wires ++ gate_wires 0 n) g in
     ap (λ (x : List Var). from_parts x wires registers memories ports commands) a
     ∙ ap (λ (x : List Var). from_parts p.inputs x registers memories ports commands) w
     ∙ ap (λ (x : List Var). from_parts p.inputs (p.wires ++ gate_wires 0 (flat_states p.states).next) x memories ports commands) c
-    ∙ ap (λ (x : List Store). from_parts p.inputs (p.wires ++ gate_wires 0 (flat_states p.states).next) p.registers x ports commands) d
+    ∙ ap (λ (x : List MemoryVariable). from_parts p.inputs (p.wires ++ gate_wires 0 (flat_states p.states).next) p.registers x ports commands) d
     ∙ ap (λ (x : List Name). from_parts p.inputs (p.wires ++ gate_wires 0 (flat_states p.states).next) p.registers p.memories x commands) e
     ∙ ap (λ (x : List Command). from_parts p.inputs (p.wires ++ gate_wires 0 (flat_states p.states).next) p.registers p.memories p.ports x) f
 

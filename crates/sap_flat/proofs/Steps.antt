@@ -16,7 +16,8 @@ use Rattle.sap_ir.specs.declared.plain.nested.PlainCmd.{PlainCmd}
 use Rattle.sap_ir.specs.declared.plain.nested.PlainCmd.TheVariants as cmd
 use Rattle.sap_ir.specs.declared.plain.nested.PlainCmd.TheViews as shown
 use Rattle.sap_ir.specs.declared.plain.nested.PlainState.{PlainState, out-PlainState}
-use Rattle.sap_ir.specs.Plain.Nested.{Forest, seat_name, root_seat, seat_width}
+use Rattle.sap_ir.specs.Plain.Nested.{Forest, seat_width}
+use Rattle.sap_net.specs.PortNames.{seat_name, root_seat}
 use Rattle.sap_ir.specs.Plain.Views.{body_of, forest_of}
 use Rattle.sap_flat.specs.Gates.{gate_name}
 use Rattle.sap_flat.specs.Flat.{Flat, under, is_number, flat_states}

@@ -10,14 +10,15 @@ use Rattle.sap_maps.specs.Scope.{find}
 use Rattle.sap_maps.specs.Term.{constant}
 use Rattle.sap_net.specs.Names.{is_among, AreDistinct}
 use Rattle.sap_ir.specs.declared.guarded.Var.{Var}
-use Rattle.sap_ir.specs.declared.guarded.Store.{Store}
+use Rattle.sap_ir.specs.declared.guarded.MemoryVariable.{MemoryVariable}
 use Rattle.sap_ir.specs.Source.{Source, readable, width_of}
 use Rattle.sap_ir.specs.Guarded as flat
 use Rattle.sap_ir.specs.Guarded.{Going, first_number, register_number, number_at_start, first_cell, cell_at_start, begun, ended}
 use Rattle.sap_ir.specs.Writes.{WithinBefore, WritesOnce}
 use Rattle.sap_ir.specs.IsGuarded.{variable_names, memory_names}
 use Rattle.sap_ir.proofs.Declared.{not_front, not_behind_list}
-use Rattle.sap_ir.specs.Plain.Nested.{Nested, declarations, has_states, size, root_seat, seats, seat_width}
+use Rattle.sap_ir.specs.Plain.Nested.{Nested, declarations, has_states, size, seats, seat_width}
+use Rattle.sap_net.specs.PortNames.{root_seat}
 use Rattle.sap_ir.specs.Plain.Does as plain
 use Rattle.sap_ir.specs.Plain.Does.{enter, falls_of}
 use Rattle.sap_ir.specs.Plain.Writes.{child_writes, cycle_writes, PlainWritesOnce}
@@ -43,7 +44,7 @@ same_numbers : (f : Var → ℕ) (xs : List Var) → AllByRecursion (λ x. f x �
 same_numbers f [] = tt
 same_numbers f (x ∷ xs) = (refl, same_numbers f xs)
 
-same_cells : (f : Store → ℕ → ℕ) (ms : List Store) → AllByRecursion (λ m. (i : ℕ) → f m i ≡ f m i) ms
+same_cells : (f : MemoryVariable → ℕ → ℕ) (ms : List MemoryVariable) → AllByRecursion (λ m. (i : ℕ) → f m i ≡ f m i) ms
 same_cells f [] = tt
 same_cells f (m ∷ ms) = (λ i. refl, same_cells f ms)
 
@@ -64,7 +65,7 @@ register_same b c [] a n = refl
 register_same b c (x ∷ xs) a n =
     elim (cases_Bool (bytes_eq x.name n)) [ inl t ↦ rw t a.0 | inr f ↦ rw f (register_same b c xs a.1 n) ]
 
-cell_same : (b c : Option Valuation) (ms : List Store) → AllByRecursion (λ m. (i : ℕ) → first_cell b m i ≡ first_cell c m i) ms → (n : Name) (i : ℕ) → cell_at_start b ms n i ≡ cell_at_start c ms n i
+cell_same : (b c : Option Valuation) (ms : List MemoryVariable) → AllByRecursion (λ m. (i : ℕ) → first_cell b m i ≡ first_cell c m i) ms → (n : Name) (i : ℕ) → cell_at_start b ms n i ≡ cell_at_start c ms n i
 cell_same b c [] a n i = refl
 cell_same b c (m ∷ ms) a n i =
     elim (cases_Bool (bytes_eq m.name n)) [ inl t ↦ rw t (a.0 i) | inr f ↦ rw f (cell_same b c ms a.1 n i) ]
@@ -139,7 +140,7 @@ cycled p h b c sb xs =
       alike = d.alike;
     }
 
-each_memory : (g h : Going) → ((m : Name) (i : ℕ) → g.next m i ≡ h.next m i) → (ms : List Store) → AllByRecursion (λ m. (i : ℕ) → g.next m.name i ≡ h.next m.name i) ms
+each_memory : (g h : Going) → ((m : Name) (i : ℕ) → g.next m i ≡ h.next m i) → (ms : List MemoryVariable) → AllByRecursion (λ m. (i : ℕ) → g.next m.name i ≡ h.next m.name i) ms
 each_memory g h a [] = tt
 each_memory g h a (m ∷ ms) = (a m.name, each_memory g h a ms)
 

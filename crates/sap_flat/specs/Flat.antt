@@ -5,7 +5,8 @@ use Rattle.sap_bits.specs.declared.Op2.TheVariants.{Eq}
 use Rattle.sap_maps.specs.Maps.{Name}
 use Rattle.sap_maps.specs.Term.{Term, constant, read, two}
 use Rattle.sap_ir.specs.Source.{Action, set, Command, Source}
-use Rattle.sap_ir.specs.Plain.Nested.{Body, stop, act, cases, goto, fall, Forest, none, state, Nested, size, place, children_of, seat_name, root_seat, seat_width}
+use Rattle.sap_ir.specs.Plain.Nested.{Body, stop, act, cases, goto, fall, Forest, none, state, Nested, size, place, children_of, seat_width}
+use Rattle.sap_net.specs.PortNames.{seat_name, root_seat}
 use Rattle.sap_flat.specs.Gates.{gate_name, gate_wires}
 
 -- commands, and the number of the next free gate

@@ -3,7 +3,7 @@
 ghost use Rattle.std.specs.Prelude.{◌≡◌, ◌++◌, IfOk, OnOk};
 ghost use Rattle.sap_ir.specs.Calcs.{action_of};
 
-use sap_ir::guarded::{Act, Store, Var};
+use sap_ir::guarded::{Act, MemoryVariable, Var};
 use std::alloc::{AllocError, Global};
 
 pub fn act(alloc: Global, act: &Act) -> Result<Act, AllocError>
@@ -47,13 +47,13 @@ pub fn variables(alloc: Global, variables: &[Var]) -> Result<Vec<Var>, AllocErro
     Ok(copies)
 }
 
-pub fn stores(alloc: Global, stores: &[Store]) -> Result<Vec<Store>, AllocError>
+pub fn stores(alloc: Global, stores: &[MemoryVariable]) -> Result<Vec<MemoryVariable>, AllocError>
     ensures { IfOk result (λ v. v.items ≡ stores.now) }
 {
     let mut copies = Vec::new(alloc);
     for store in stores {
         let name = store.name.copy(alloc)?;
-        copies.push(Store {
+        copies.push(MemoryVariable {
             name,
             width: store.width,
             depth: store.depth,

@@ -21,7 +21,7 @@ use Rattle.sap_net.proofs.Within.{operands_below}
 use Rattle.sap_fold.specs.Equals.{Equals}
 use Rattle.sap_fold.specs.Wires.{HasWire}
 use Rattle.sap_fold.specs.Seen.{Defines}
-use Rattle.sap_fold.specs.Slices.{sliced, HasWidth, HaveWidth, IsSpot, OfParts, SlicesRight}
+use Rattle.sap_fold.specs.Slices.{sliced, HasWidth, HaveWidth, IsPartAt, OfParts, SlicesRight}
 use Rattle.sap_fold.proofs.Parting.{are_front, values_both, parts_wide}
 use Rattle.sap_fold.proofs.Sees.{defined_right, defined_same, defined_behind}
 
@@ -190,7 +190,7 @@ width_more ws y rest b u h k ms sc t f a =
     let q = h ms sc a.1 f a.4 in
     omega (arith, p, q, a.5)
 
-pub spot_at : (ws : List Wire) (xs : List Operand) (hi lo r behind u : ℕ) (y : Operand) → 0 < r → r ≤ length xs → y ≡ get_or xs (r - 1) y → HaveWidth ws (drop r xs) behind → HasWidth ws y u → behind ≤ lo → hi < behind + u → IsSpot ws xs hi lo (r - 1) behind
+pub spot_at : (ws : List Wire) (xs : List Operand) (hi lo r behind u : ℕ) (y : Operand) → 0 < r → r ≤ length xs → y ≡ get_or xs (r - 1) y → HaveWidth ws (drop r xs) behind → HasWidth ws y u → behind ≤ lo → hi < behind + u → IsPartAt ws xs hi lo (r - 1) behind
 spot_at ws xs hi lo r behind u y p l e h k low high =
     let j = r - 1 in
     record {
@@ -210,7 +210,7 @@ get_front : (front : List Operand) (x : Operand) (rest : List Operand) (d : Oper
 get_front [] x rest d = refl
 get_front (y ∷ front) x rest d = get_front front x rest d
 
-pub part_at : (ws : List Wire) (xs : List Operand) (hi lo part behind : ℕ) (y z : Operand) (r : Right) → (s : IsSpot ws xs hi lo part behind) → y ≡ get_or xs part y → z ≡ y → r ≡ sliced z (hi - behind) (lo - behind) → OfParts ws xs hi lo r
+pub part_at : (ws : List Wire) (xs : List Operand) (hi lo part behind : ℕ) (y z : Operand) (r : Right) → (s : IsPartAt ws xs hi lo part behind) → y ≡ get_or xs part y → z ≡ y → r ≡ sliced z (hi - behind) (lo - behind) → OfParts ws xs hi lo r
 part_at ws xs hi lo part behind y z r s e f g =
     let a : y ≡ s.one = e ∙ ap₂ (λ (os : List Operand) (n : ℕ). get_or os n y) s.parts s.place ∙ get_front s.front s.one s.rest y in
     record {

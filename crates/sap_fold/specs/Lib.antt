@@ -9,4 +9,3 @@ pub mod Absorbed
 pub mod Parts
 pub mod Slices
 pub mod Order
-pub use Rattle.sap_share.specs.Rights

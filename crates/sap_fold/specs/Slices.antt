@@ -26,7 +26,7 @@ abbrev pub HaveWidth : List Wire → List Operand → ℕ → Type 0
 HaveWidth ws os u = (memories : Shapes) (sc : Scope) (t : ℕ) → AreWires memories sc ws → AreOperands (readable_after sc ws) t os → t ≡ u
 
 -- the bits from lo up to hi lie within one part, with `behind` bits behind it
-pub record IsSpot (ws : List Wire) (os : List Operand) (hi lo part behind : ℕ) : Type 0 where
+pub record IsPartAt (ws : List Wire) (os : List Operand) (hi lo part behind : ℕ) : Type 0 where
   pub front : List Operand
   pub one : Operand
   pub rest : List Operand
@@ -42,7 +42,7 @@ pub record IsSpot (ws : List Wire) (os : List Operand) (hi lo part behind : ℕ)
 pub record OfParts (ws : List Wire) (os : List Operand) (hi lo : ℕ) (r : Right) : Type 0 where
   pub part : ℕ
   pub behind : ℕ
-  pub spot : IsSpot ws os hi lo part behind
+  pub spot : IsPartAt ws os hi lo part behind
   pub is : r ≡ sliced spot.one (hi - behind) (lo - behind)
 
 -- r is the slice of a wire of this right side, which it names no more

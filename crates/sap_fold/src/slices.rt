@@ -44,15 +44,15 @@ fn width_of(wires: &Wires, operand: &Operand) -> Option<u32>
 
 /// A part of a concatenation, and how many bits are behind it.
 #[derive(Clone, Copy)]
-pub struct Spot {
+pub struct PartAt {
     pub part: usize,
     pub behind: u32,
 }
 
 /// The part that has all bits from `lo` up to `hi`, if there is one and the widths of the parts from it on are known.
-fn find_spot(wires: &Wires, operands: &[Operand], hi: u32, lo: u32) -> Option<Spot>
+fn find_part(wires: &Wires, operands: &[Operand], hi: u32, lo: u32) -> Option<PartAt>
     requires { hi < 64 }
-    ensures { IfSome result (λ s. spec.IsSpot wires.now.list.items operands.now hi lo s.part s.behind) }
+    ensures { IfSome result (λ s. spec.IsPartAt wires.now.list.items operands.now hi lo s.part s.behind) }
 {
     let mut part = operands.len();
     let mut behind = 0;
@@ -65,7 +65,7 @@ fn find_spot(wires: &Wires, operands: &[Operand], hi: u32, lo: u32) -> Option<Sp
             return None;
         }
         if hi < behind + width {
-            return Some(Spot { part, behind });
+            return Some(PartAt { part, behind });
         }
         behind += width;
     }
@@ -88,7 +88,7 @@ fn of_parts(
     if lo > hi {
         return Ok(None);
     }
-    match find_spot(wires, operands, hi, lo) {
+    match find_part(wires, operands, hi, lo) {
         Some(spot) => {
             let part = operands[spot.part].copy(alloc)?;
             Ok(Some(sliced(part, hi - spot.behind, lo - spot.behind)))

@@ -13,7 +13,7 @@ use Rattle.sap_net.specs.Rules.{Shapes}
 use Rattle.sap_net.specs.Runs.{InputsAre}
 use Rattle.sap_net.specs.declared.parts.Operand.TheVariants.{Constant}
 use Rattle.sap_ir.specs.declared.guarded.Var.{Var}
-use Rattle.sap_ir.specs.declared.guarded.Store.{Store}
+use Rattle.sap_ir.specs.declared.guarded.MemoryVariable.{MemoryVariable}
 use Rattle.sap_ir.specs.Source.{Source}
 use Rattle.sap_ir.specs.Guarded.{first_number, register_number, number_at_start, first_cell, cell_at_start}
 use Rattle.sap_lower.specs.declared.parts.Part.{Part}
@@ -75,10 +75,10 @@ env_first s widths v before xs given inputs starts registers =
 
 -- memories
 
-abbrev pub shapes_list : List Store → Shapes
+abbrev pub shapes_list : List MemoryVariable → Shapes
 shapes_list ms = map (λ m. (m.name, (m.width, m.depth))) ms
 
-pub cells_first : (v : Valuation) (before : Option Valuation) (ms : List Store) → AllByRecursion (λ m. (i : ℕ) → v.cell m.name i ≡ first_cell before m i) ms → (n : Name) (e : ℕ × ℕ) → find (shapes_list ms) n ≡ Some e → (i : ℕ) → v.cell n i ≡ cell_at_start before ms n i
+pub cells_first : (v : Valuation) (before : Option Valuation) (ms : List MemoryVariable) → AllByRecursion (λ m. (i : ℕ) → v.cell m.name i ≡ first_cell before m i) ms → (n : Name) (e : ℕ × ℕ) → find (shapes_list ms) n ≡ Some e → (i : ℕ) → v.cell n i ≡ cell_at_start before ms n i
 cells_first v before [] a n e f i = absurd (cc)
 cells_first v before (m ∷ ms) a n e f i =
     elim (cases_Bool (bytes_eq m.name n)) [
@@ -90,7 +90,7 @@ cells_first v before (m ∷ ms) a n e f i =
 abbrev pub port_at_first : (shape : ℕ × ℕ) → WritePort
 port_at_first e = record { width = e.0; bits = index_bits e.1; enable = Constant 1 0; index = Constant (index_bits e.1) 0; value = Constant e.0 0 }
 
-pub first_port_found : (ms : List Store) (n : Name) (e : ℕ × ℕ) → find (shapes_list ms) n ≡ Some e → find (map first_port ms) n ≡ Some (port_at_first e)
+pub first_port_found : (ms : List MemoryVariable) (n : Name) (e : ℕ × ℕ) → find (shapes_list ms) n ≡ Some e → find (map first_port ms) n ≡ Some (port_at_first e)
 first_port_found [] n e f = absurd (cc)
 first_port_found (m ∷ ms) n e f =
     elim (cases_Bool (bytes_eq m.name n)) [

@@ -17,7 +17,7 @@ use Rattle.sap_net.specs.declared.parts.Wire.{Wire}
 use Rattle.sap_net.proofs.Within.{WidthsAre, widths_are}
 use Rattle.sap_net.proofs.Observed.{observed_inputs, observed_registers, observed_wires, observed_memories}
 use Rattle.sap_ir.specs.declared.guarded.Var.{Var}
-use Rattle.sap_ir.specs.declared.guarded.Store.{Store}
+use Rattle.sap_ir.specs.declared.guarded.MemoryVariable.{MemoryVariable}
 use Rattle.sap_ir.specs.Source.{Source}
 use Rattle.sap_ir.specs.Source as source
 use Rattle.sap_ir.specs.Guarded.{Going, first_number, first_cell, begun, after, cycle, run_after}
@@ -101,7 +101,7 @@ cells_begin s (Some p) None xs v b c = absurd b
 cells_begin s (Some p) (Some e) xs v b c =
     let ps = (last_state s).ports in
     let a = all_of_map (λ m. (i : ℕ) → v.cell m.name i ≡ written p m i) (memory_of ps) s.memories c.begins.1 in
-    joined_all_at (λ (m : Store) i. v.cell m.name i) (λ m i. written p (memory_of ps m) i) (λ m i. e.cell m.name i) s.memories a b.memories
+    joined_all_at (λ (m : MemoryVariable) i. v.cell m.name i) (λ m i. written p (memory_of ps m) i) (λ m i. e.cell m.name i) s.memories a b.memories
 
 -- the numbers that the program's cycle begins with are within their widths
 
@@ -119,7 +119,7 @@ registers_within : (v e : Valuation) (rs : List Var) → AllByRecursion (λ x. v
 registers_within v e [] a b = tt
 registers_within v e (r ∷ rs) a b = (subst (λ (y : ℕ). y < 2 ^ r.width) a.0 b.0, registers_within v e rs a.1 b.1)
 
-cells_within : (ms : Shapes) (v e : Valuation) → ((m : Name) (d : ℕ × ℕ) → find ms m ≡ Some d → (i : ℕ) → v.cell m i < 2 ^ d.0) → (xs : List Store) → AllByRecursion (λ m. find ms m.name ≡ Some (m.width, m.depth)) xs → AllByRecursion (λ m. (i : ℕ) → v.cell m.name i ≡ e.cell m.name i) xs → AllByRecursion (λ m. (i : ℕ) → e.cell m.name i < 2 ^ m.width) xs
+cells_within : (ms : Shapes) (v e : Valuation) → ((m : Name) (d : ℕ × ℕ) → find ms m ≡ Some d → (i : ℕ) → v.cell m i < 2 ^ d.0) → (xs : List MemoryVariable) → AllByRecursion (λ m. find ms m.name ≡ Some (m.width, m.depth)) xs → AllByRecursion (λ m. (i : ℕ) → v.cell m.name i ≡ e.cell m.name i) xs → AllByRecursion (λ m. (i : ℕ) → e.cell m.name i < 2 ^ m.width) xs
 cells_within ms v e b [] f a = tt
 cells_within ms v e b (m ∷ xs) f a =
     (λ i. subst (λ (y : ℕ). y < 2 ^ m.width) (a.0 i) (b m.name (m.width, m.depth) f.0 i), cells_within ms v e b xs f.1 a.1)
@@ -139,7 +139,7 @@ outs_same : (widths : Name → ℕ) (v : Valuation) (es : List (Name × Part)) (
 outs_same widths v es g [] h a = tt
 outs_same widths v es g (r ∷ rs) h a = (h.0 ∙ a.0, outs_same widths v es g rs h.2 a.1)
 
-memories_same : (ms : Shapes) (v : Valuation) (ps : List (Name × WritePort)) (g : Going) (done : Name → Bool) → PortsAre ms v ps g done → SameCells ms v g.now.cell → (xs : List Store) → AllByRecursion (λ m. find ms m.name ≡ Some (m.width, m.depth)) xs → AllByRecursion (λ m. (i : ℕ) → written v (memory_of ps m) i ≡ g.next m.name i) xs
+memories_same : (ms : Shapes) (v : Valuation) (ps : List (Name × WritePort)) (g : Going) (done : Name → Bool) → PortsAre ms v ps g done → SameCells ms v g.now.cell → (xs : List MemoryVariable) → AllByRecursion (λ m. find ms m.name ≡ Some (m.width, m.depth)) xs → AllByRecursion (λ m. (i : ℕ) → written v (memory_of ps m) i ≡ g.next m.name i) xs
 memories_same ms v ps g done k c [] f = tt
 memories_same ms v ps g done k c (m ∷ xs) f =
     let p = port_of ps m.name in
@@ -210,7 +210,7 @@ cycle_seen s k v e same =
       inputs = joined_all (λ (x : Var). (observed n v).value x.name) (λ x. v.value x.name) (λ x. e.value x.name) s.inputs is same.inputs;
       registers = joined_all (λ (x : Var). (observed n v).value x.name) (λ x. operand_value v (present t.entries x.name).operand) (λ x. e.value x.name) s.registers rs same.after.registers;
       wires = joined_all (λ (x : Var). (observed n v).value x.name) (λ x. v.value x.name) (λ x. e.value x.name) shown ws same.wires;
-      memories = joined_all_at (λ (m : Store) i. (observed n v).cell m.name i) (λ m i. written v (memory_of t.ports m) i) (λ m i. e.cell m.name i) s.memories ms same.after.memories;
+      memories = joined_all_at (λ (m : MemoryVariable) i. (observed n v).cell m.name i) (λ m i. written v (memory_of t.ports m) i) (λ m i. e.cell m.name i) s.memories ms same.after.memories;
     }
 
 run_same : (s : Source) → Known s → WritesOnce s → (xss : List (List ℕ)) (p e : Option Valuation) (vs : List Valuation) → SameBefore s p e → IsRunAfter (lowered s) p xss vs → AllZip (SameNumbers s (lowered s)) vs (run_after s e xss)

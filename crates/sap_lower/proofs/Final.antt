@@ -7,6 +7,7 @@ use Rattle.std.proofs.lemmas.Bool.{cases_Bool, or_cases}
 use Rattle.sap_lemmas.proofs.Bools.{or_follows}
 use Rattle.sap_lemmas.proofs.Everywhere.{all_append, map_of_all}
 use Rattle.sap_lemmas.proofs.Texts.{bytes_eq_apart_back}
+use Rattle.sap_net.proofs.RulesLemmas.{wires_new, wires_distinct}
 use Rattle.sap_net.proofs.NamesLemmas.{among_append, among_behind, among_front, distinct_both, each_among, not_found, among_each}
 use Rattle.sap_lower.proofs.LoweredLemmas.{ports_named}
 use Rattle.sap_ir.proofs.IsGuardedLemmas.{plain_wide, register_wide, variables_append}
@@ -17,7 +18,7 @@ use Rattle.sap_net.specs.Rules.{IsWidth, AreWires, readable_after, IsRegister, I
 use Rattle.sap_net.specs.declared.parts.Wire.{Wire}
 use Rattle.sap_net.specs.IsNetlist.{input_names, register_names, memory_names, readable, PortShows, IsNetlist, names_of}
 use Rattle.sap_ir.specs.declared.guarded.Var.{Var}
-use Rattle.sap_ir.specs.declared.guarded.Store.{Store}
+use Rattle.sap_ir.specs.declared.guarded.MemoryVariable.{MemoryVariable}
 use Rattle.sap_ir.specs.Source.{Source}
 use Rattle.sap_ir.specs.Source as source
 use Rattle.sap_ir.specs.IsGuarded as ir
@@ -29,7 +30,7 @@ use Rattle.sap_lower.proofs.Begins.{scope_of}
 use Rattle.sap_lower.proofs.Declares.{filter_same}
 use Rattle.sap_lower.proofs.Netlist.{first_scope, first_found, last_fits}
 use Rattle.sap_lower.proofs.Rules.{first_readable_is, shapes_are, each_variable}
-use Rattle.sap_lower.proofs.Names.{inputs_named, registers_named, memories_named, outs_named, declared_named, declared_among, declared_distinct, wires_new, wires_distinct, new_to_first, new_to_second}
+use Rattle.sap_lower.proofs.Names.{inputs_named, registers_named, memories_named, outs_named, declared_named, declared_among, declared_distinct, new_to_first, new_to_second}
 use Rattle.sap_lower.proofs.Listed.{into_listed, of_listed}
 use Rattle.sap_lower.proofs.Whole.{last_short, wires_are, registers_found, nexts_are, writes_are, grows_to_all, stores_found, values_are, memories_are}
 use Rattle.sap_lower.proofs.Result.{Kinds, names_distinct, names_among, registers_ordered, memories_ordered, take_front, inputs_shown, of_unported}
@@ -39,7 +40,7 @@ input_no_memory : (a b : Bool) → (b ≡ true → a ≡ false) → a ≡ true �
 input_no_memory a true h t = absurd (let e = h refl in cc)
 input_no_memory a false h t = refl
 
-no_memory : (ms : List Store) (n : Name) → find {X = ℕ × ℕ} (map (λ m. (m.name, (m.width, m.depth))) ms) n ≡ None → is_among n (ir.memory_names ms) ≡ false
+no_memory : (ms : List MemoryVariable) (n : Name) → find {X = ℕ × ℕ} (map (λ m. (m.name, (m.width, m.depth))) ms) n ≡ None → is_among n (ir.memory_names ms) ≡ false
 no_memory [] n h = refl
 no_memory (m ∷ ms) n h =
     elim (cases_Bool (bytes_eq m.name n)) [
@@ -147,8 +148,8 @@ lowered_rules s g l =
     all_append (λ x. IsWidth x.width) s.inputs D (plain_wide s.inputs g.inputs) (to_declared (λ x. IsWidth x.width) s.registers P (register_wide s.registers g.registers)) in
     let new : AllByRecursion (λ x. find (source.shapes s) x.name ≡ None) (s.inputs ++ D) =
     all_append (λ x. find (source.shapes s) x.name ≡ None) s.inputs D
-    (each_variable (λ x. find (source.shapes s) x.name ≡ None) s.inputs (λ x a. not_found {X = ℕ × ℕ} (λ (m : Store). m.name) (λ m. (m.width, m.depth)) s.memories x.name (input_no_memory (is_among x.name I) (is_among x.name M) (k.memory_no_input x.name) a)))
-    (to_declared (λ x. find (source.shapes s) x.name ≡ None) s.registers P (each_variable (λ x. find (source.shapes s) x.name ≡ None) s.registers (λ x a. not_found {X = ℕ × ℕ} (λ (m : Store). m.name) (λ m. (m.width, m.depth)) s.memories x.name (k.register_no_memory x.name a)))) in
+    (each_variable (λ x. find (source.shapes s) x.name ≡ None) s.inputs (λ x a. not_found {X = ℕ × ℕ} (λ (m : MemoryVariable). m.name) (λ m. (m.width, m.depth)) s.memories x.name (input_no_memory (is_among x.name I) (is_among x.name M) (k.memory_no_input x.name) a)))
+    (to_declared (λ x. find (source.shapes s) x.name ≡ None) s.registers P (each_variable (λ x. find (source.shapes s) x.name ≡ None) s.registers (λ x a. not_found {X = ℕ × ℕ} (λ (m : MemoryVariable). m.name) (λ m. (m.width, m.depth)) s.memories x.name (k.register_no_memory x.name a)))) in
     let apart : AreDistinct (variable_names (s.inputs ++ D)) = distinct_values s.inputs D k.inputs (declared_distinct s.registers P k.registers k.ports) (λ x h. input_no_memory (is_among x I) (is_among x (variable_names D)) (λ e. k.register_no_input x (sym (declared_among s.registers P x) ∙ e)) h) in
     let values : AreValues (source.shapes s) (first_scope s) = subst (λ (e : Scope). AreValues (source.shapes s) e) (scopes_append s.inputs D) (values_are (source.shapes s) (s.inputs ++ D) apart widths new) in
     let readable_is : readable n ≡ readable_after (first_scope s) (all_wires s) = ap (λ (e : Scope). readable_after e (all_wires s)) sc in

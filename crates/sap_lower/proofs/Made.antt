@@ -1,7 +1,7 @@
 -- What is made of a program is its netlist, with all that is known of it.
 use Rattle.std.proofs.Common.{◌≡◌, ℕ, ◌^◌, ◌<◌, List, [], ◌∷◌, ◌++◌, map, length, Some, true, false, sym, ap, ◌∙◌, subst, refl}
 use Rattle.std.specs.Map.{keys_of}
-use Rattle.sap_net.proofs.RulesLemmas.{readable_kept}
+use Rattle.sap_net.proofs.RulesLemmas.{readable_kept, wires_distinct}
 use Rattle.sap_net.proofs.NamesLemmas.{not_found}
 use Rattle.sap_maps.proofs.ScopeLemmas.{found_second}
 use Rattle.sap_maps.specs.Maps.{Name}
@@ -14,7 +14,7 @@ use Rattle.sap_net.specs.declared.parts.Wire.{Wire}
 use Rattle.sap_net.specs.declared.parts.Register.{Register}
 use Rattle.sap_net.specs.declared.parts.Memory.{Memory}
 use Rattle.sap_ir.specs.declared.guarded.Var.{Var}
-use Rattle.sap_ir.specs.declared.guarded.Store.{Store}
+use Rattle.sap_ir.specs.declared.guarded.MemoryVariable.{MemoryVariable}
 use Rattle.sap_ir.specs.Source.{Source, Command}
 use Rattle.sap_ir.specs.Source as source
 use Rattle.sap_ir.specs.IsGuarded as ir
@@ -34,7 +34,7 @@ use Rattle.sap_lower.proofs.Kept.{names_kept}
 use Rattle.sap_lower.proofs.Listed.{listed_distinct}
 use Rattle.sap_lower.proofs.Netlist.{first_scope, first_found, last_fits, entries_have, ports_have, source_commands}
 use Rattle.sap_lower.proofs.Rules.{first_readable_is, shapes_are, each_variable, kind_found, found_mapped}
-use Rattle.sap_lower.proofs.Names.{outs_named, wires_distinct}
+use Rattle.sap_lower.proofs.Names.{outs_named}
 use Rattle.sap_lower.proofs.Whole.{last_short, wires_are, registers_found, wires_found, stores_found, both_hold}
 use Rattle.sap_lower.proofs.Final.{lowered_rules, scopes_append, distinct_values}
 
@@ -78,7 +78,7 @@ register_pairs : (es : List (Name × Part)) (xs : List Var) → ◌≡◌ {A = L
 register_pairs es [] = refl
 register_pairs es (x ∷ xs) = ap (λ (l : List (Name × (ℕ × ℕ))). (x.name, (x.width, x.start)) ∷ l) (register_pairs es xs)
 
-memory_parts : (ps : List (Name × WritePort)) (ms : List Store) → ◌≡◌ {A = List (Name × (ℕ × (ℕ × ℕ)))} (map (λ (m : Memory). (m.name, (m.width, (m.depth, m.start)))) (map (memory_of ps) ms)) (map (λ m. (m.name, (m.width, (m.depth, m.start)))) ms)
+memory_parts : (ps : List (Name × WritePort)) (ms : List MemoryVariable) → ◌≡◌ {A = List (Name × (ℕ × (ℕ × ℕ)))} (map (λ (m : Memory). (m.name, (m.width, (m.depth, m.start)))) (map (memory_of ps) ms)) (map (λ m. (m.name, (m.width, (m.depth, m.start)))) ms)
 memory_parts ps [] = refl
 memory_parts ps (m ∷ ms) = ap (λ (l : List (Name × (ℕ × (ℕ × ℕ)))). (m.name, (m.width, (m.depth, m.start))) ∷ l) (memory_parts ps ms)
 
@@ -112,11 +112,11 @@ declares_all s g l =
 
 -- what the code makes
 
-pub first_ports_named : (ms : List Store) → keys_of (map first_port ms) ≡ map (λ m. m.name) ms
+pub first_ports_named : (ms : List MemoryVariable) → keys_of (map first_port ms) ≡ map (λ m. m.name) ms
 first_ports_named [] = refl
 first_ports_named (m ∷ ms) = ap (λ (ns : List Name). m.name ∷ ns) (first_ports_named ms)
 
-pub made_is : (s : Source) (net : Net) (is rs ws : List Var) (ms : List Store) (cs : List Command) (w0 w1 : List Wire) (e0 e1 e2 : List (Name × Part)) (p0 p1 p2 : List (Name × WritePort))
+pub made_is : (s : Source) (net : Net) (is rs ws : List Var) (ms : List MemoryVariable) (cs : List Command) (w0 w1 : List Wire) (e0 e1 e2 : List (Name × Part)) (p0 p1 p2 : List (Name × WritePort))
     → is ≡ s.inputs → rs ≡ s.registers → ws ≡ s.wires → ms ≡ s.memories → cs ≡ s.commands
     → e0 ≡ map named_entry is ++ map named_entry rs ++ map zero_entry ws → p0 ≡ map first_port ms → w0 ≡ []
     → w1 ≡ (low_commands (shapes_of ms) (record { wires = w0; entries = e0; ports = p0 }) cs).wires
@@ -125,11 +125,11 @@ pub made_is : (s : Source) (net : Net) (is rs ws : List Var) (ms : List Store) (
     → e2 ≡ e1 → p2 ≡ p1 → net ≡ net_declared s (w1 ++ map (out_wire e2) (listed s.ports s.wires)) e2 p2 → net ≡ lowered s
 made_is s net is rs ws ms cs w0 w1 e0 e1 e2 p0 p1 p2 ei er ew em ec he hp hw h1 h2 h3 k2 k3 hn =
     let fe : e0 ≡ first_entries s = he ∙ ap (λ (l : List Var). map named_entry l ++ map named_entry rs ++ map zero_entry ws) ei ∙ ap (λ (l : List Var). map named_entry s.inputs ++ map named_entry l ++ map zero_entry ws) er ∙ ap (λ (l : List Var). map named_entry s.inputs ++ map named_entry s.registers ++ map zero_entry l) ew in
-    let fp : p0 ≡ map first_port s.memories = hp ∙ ap (λ (l : List Store). map first_port l) em in
+    let fp : p0 ≡ map first_port s.memories = hp ∙ ap (λ (l : List MemoryVariable). map first_port l) em in
     let st = same_state w0 [] e0 (first_entries s) p0 (map first_port s.memories) hw fe fp in
     let t = last_state s in
     let last : low_commands (shapes_of ms) (record { wires = w0; entries = e0; ports = p0 }) cs ≡ t =
-    ap (λ (l : List Store). low_commands (shapes_of l) (record { wires = w0; entries = e0; ports = p0 }) cs) em
+    ap (λ (l : List MemoryVariable). low_commands (shapes_of l) (record { wires = w0; entries = e0; ports = p0 }) cs) em
     ∙ ap (λ (q : State). low_commands (source.shapes s) q cs) st ∙ ap (λ (l : List Command). low_commands (source.shapes s) (first_state s) l) ec in
     let a1 : w1 ≡ t.wires = h1 ∙ ap (λ (q : State). q.wires) last in
     let a2 : e2 ≡ t.entries = k2 ∙ h2 ∙ ap (λ (q : State). q.entries) last in

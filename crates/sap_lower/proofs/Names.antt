@@ -2,22 +2,21 @@
 use Rattle.std.proofs.Common.{◌≡◌, ℕ, ◌&&◌, ◌||◌, List, [], ◌∷◌, ◌++◌, map, filter, Some, None, Bool, true, false, not, sym, ap, ap₂, ◌∙◌, subst, refl, inl, inr}
 use Rattle.std.specs.Str.{bytes_eq}
 use Rattle.std.proofs.lemmas.Bool.{cases_Bool}
-use Rattle.sap_lemmas.proofs.Texts.{bytes_eq_apart_back, equal_of_bytes_eq}
+use Rattle.sap_lemmas.proofs.Texts.{bytes_eq_apart_back}
 use Rattle.sap_net.proofs.NamesLemmas.{among_append, distinct_both, filter_among, filter_distinct}
 use Rattle.sap_maps.proofs.ScopeLemmas.{found_first}
 use Rattle.sap_ir.proofs.IsGuardedLemmas.{variables_append}
 use Rattle.sap_maps.specs.Maps.{Name}
 use Rattle.sap_maps.specs.Scope.{Scope, find}
-use Rattle.sap_maps.proofs.Scopes.{found_here, not_behind}
+use Rattle.sap_maps.proofs.Scopes.{not_behind}
 use Rattle.sap_net.specs.Names.{is_among, AreDistinct}
-use Rattle.sap_net.specs.Rules.{Shapes, AreWires}
 use Rattle.sap_net.specs.declared.parts.Input.{Input}
 use Rattle.sap_net.specs.declared.parts.Wire.{Wire}
 use Rattle.sap_net.specs.declared.parts.Register.{Register}
 use Rattle.sap_net.specs.declared.parts.Memory.{Memory}
 use Rattle.sap_net.specs.IsNetlist.{names_of}
 use Rattle.sap_ir.specs.declared.guarded.Var.{Var}
-use Rattle.sap_ir.specs.declared.guarded.Store.{Store}
+use Rattle.sap_ir.specs.declared.guarded.MemoryVariable.{MemoryVariable}
 use Rattle.sap_ir.specs.IsGuarded as ir
 use Rattle.sap_ir.specs.IsGuarded.{variable_names}
 use Rattle.sap_lower.specs.declared.parts.Part.{Part}
@@ -36,7 +35,7 @@ pub registers_named : (es : List (Name × Part)) (xs : List Var) → map (λ (r 
 registers_named es [] = refl
 registers_named es (x ∷ xs) = ap (λ (ns : List Name). x.name ∷ ns) (registers_named es xs)
 
-pub memories_named : (ps : List (Name × WritePort)) (ms : List Store) → map (λ (m : Memory). m.name) (map (memory_of ps) ms) ≡ ir.memory_names ms
+pub memories_named : (ps : List (Name × WritePort)) (ms : List MemoryVariable) → map (λ (m : Memory). m.name) (map (memory_of ps) ms) ≡ ir.memory_names ms
 memories_named ps [] = refl
 memories_named ps (m ∷ ms) = ap (λ (ns : List Name). m.name ∷ ns) (memories_named ps ms)
 
@@ -72,30 +71,6 @@ declared_distinct rs ps d e =
     subst AreDistinct (sym (declared_named rs ps))
     (distinct_both (filter (register_among rs) ps) (unported ps (variable_names rs)) (filter_distinct (register_among rs) ps e) (unported_distinct ps (variable_names rs) d)
     (λ n h. unported_among ps (variable_names rs) n ∙ not_both (is_among n ps) (is_among n (variable_names rs)) (sym (filter_among (register_among rs) ps n) ∙ h)))
-
--- names of wires are new
-
-pub wires_new : (ms : Shapes) (ws : List Wire) (sc : Scope) → AreWires ms sc ws → (n : Name) → is_among n (names_of ws) ≡ true → (find sc n ≡ None) × (find ms n ≡ None)
-wires_new ms [] sc a n h = absurd (cc)
-wires_new ms (w ∷ ws) sc a n h =
-    elim (cases_Bool (bytes_eq n w.name)) [
-      | inl t ↦
-          let e : w.name ≡ n = sym (equal_of_bytes_eq n w.name t) in
-          (subst (λ (y : Name). find sc y ≡ None) e a.1, subst (λ (y : Name). find ms y ≡ None) e a.2)
-      | inr f ↦
-          let r = wires_new ms ws ((w.name, w.width) ∷ sc) a.4 n (rw f at h) in
-          (not_behind (w.name, w.width) sc n r.0, r.1)
-    ]
-
-pub wires_distinct : (ms : Shapes) (ws : List Wire) (sc : Scope) → AreWires ms sc ws → AreDistinct (names_of ws)
-wires_distinct ms [] sc a = tt
-wires_distinct ms (w ∷ ws) sc a = (
-  elim (cases_Bool (is_among w.name (names_of ws))) [
-    | inl t ↦ absurd (let e = wires_new ms ws ((w.name, w.width) ∷ sc) a.4 w.name t in let g : find ((w.name, w.width) ∷ sc) w.name ≡ Some w.width = found_here w.name w.width sc in let q = e.0 in cc)
-    | inr f ↦ f
-  ],
-  wires_distinct ms ws ((w.name, w.width) ∷ sc) a.4,
-)
 
 among_found : (xs : List Var) (n : Name) → is_among n (variable_names xs) ≡ true → (u : ℕ) × (find (scope_of xs) n ≡ Some u)
 among_found [] n h = absurd (cc)

@@ -15,7 +15,7 @@ use Rattle.sap_net.specs.Names.{is_among, AreDistinct}
 use Rattle.sap_net.specs.Rules.{IsWidth, IsDepth, IsOperand}
 use Rattle.sap_net.specs.declared.parts.Operand.TheVariants.{Named, Constant}
 use Rattle.sap_ir.specs.declared.guarded.Var.{Var}
-use Rattle.sap_ir.specs.declared.guarded.Store.{Store}
+use Rattle.sap_ir.specs.declared.guarded.MemoryVariable.{MemoryVariable}
 use Rattle.sap_ir.specs.Source.{Source, Action, set, put, Command}
 use Rattle.sap_ir.specs.Source as source
 use Rattle.sap_ir.specs.IsGuarded.{variable_names, memory_names, declared, is_helping, IsStore, ActionFine, CommandFine, IsGuarded}
@@ -143,7 +143,7 @@ readable_wide s g n u h =
     subst (λ (sc : Scope). find sc n ≡ Some u) (append_assoc (scope_of s.inputs) (scope_of s.registers) (scope_of s.wires) ∙ ap (λ (sc : Scope). scope_of s.inputs ++ (scope_of s.registers ++ sc)) (sym (nothing_behind (scope_of s.wires)))) h in
     wide_found s.inputs _ (plain_wide s.inputs g.inputs) (wide_found s.registers _ (register_wide s.registers g.registers) (wide_found s.wires [] (plain_wide s.wires g.wires) none_wide)) n u k
 
-store_found : (ms : List Store) → AllByRecursion IsStore ms → (n : Name) (e : ℕ × ℕ) → find (shapes_list ms) n ≡ Some e → IsWidth e.0 × ((b : ℕ) × IsDepth e.1 b)
+store_found : (ms : List MemoryVariable) → AllByRecursion IsStore ms → (n : Name) (e : ℕ × ℕ) → find (shapes_list ms) n ≡ Some e → IsWidth e.0 × ((b : ℕ) × IsDepth e.1 b)
 store_found [] a n e h = absurd (cc)
 store_found (m ∷ ms) a n e h =
     elim (cases_Bool (bytes_eq m.name n)) [
@@ -198,7 +198,7 @@ no_helping_memory s g k l =
     let ms = memory_names s.memories in
     let a = not_behind_list (helper k) is (rs ++ (ws ++ ms)) (helpers_apart s g k l) in
     let b = not_behind_list (helper k) ws ms (not_behind_list (helper k) rs (ws ++ ms) a) in
-    not_found {X = ℕ × ℕ} (λ (m : Store). m.name) (λ m. (m.width, m.depth)) s.memories (helper k) b
+    not_found {X = ℕ × ℕ} (λ (m : MemoryVariable). m.name) (λ m. (m.width, m.depth)) s.memories (helper k) b
 
 no_helping_value : (s : Source) → IsGuarded s → (k : ℕ) → k < 2 ^ 64 → find (first_scope s) (helper k) ≡ None
 no_helping_value s g k l =

@@ -16,7 +16,7 @@ use Rattle.sap_net.specs.declared.parts.Memory.{Memory}
 use Rattle.sap_net.specs.IsNetlist.{first_readable, shapes}
 use Rattle.sap_net.proofs.RulesLemmas.{operand_grows}
 use Rattle.sap_ir.specs.declared.guarded.Var.{Var}
-use Rattle.sap_ir.specs.declared.guarded.Store.{Store}
+use Rattle.sap_ir.specs.declared.guarded.MemoryVariable.{MemoryVariable}
 use Rattle.sap_ir.specs.Source.{Source}
 use Rattle.sap_ir.specs.Source as source
 use Rattle.sap_ir.specs.IsGuarded as ir
@@ -42,7 +42,7 @@ registers_scope_is es (x ∷ xs) = ap (λ ds. (x.name, x.width) ∷ ds) (registe
 pub first_readable_is : (s : Source) → first_readable (lowered s) ≡ first_scope s
 first_readable_is s = ap₂ (λ (a b : Scope). a ++ b) (inputs_scope s.inputs) (registers_scope_is (last_state s).entries (registers_declared s))
 
-shapes_of_memories : (ps : List (Name × WritePort)) (ms : List Store) → map (λ (m : Memory). (m.name, (m.width, m.depth))) (map (memory_of ps) ms) ≡ shapes_list ms
+shapes_of_memories : (ps : List (Name × WritePort)) (ms : List MemoryVariable) → map (λ (m : Memory). (m.name, (m.width, m.depth))) (map (memory_of ps) ms) ≡ shapes_list ms
 shapes_of_memories ps [] = refl
 shapes_of_memories ps (m ∷ ms) = ap (λ ds. (m.name, (m.width, m.depth)) ∷ ds) (shapes_of_memories ps ms)
 

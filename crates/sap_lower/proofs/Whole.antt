@@ -14,7 +14,7 @@ use Rattle.sap_net.specs.Names.{is_among, AreDistinct}
 use Rattle.sap_net.specs.Rules.{Shapes, IsWidth, IsOperand, AreWires, readable_after, IsRegister, IsMemory, AreValues, AreMemories}
 use Rattle.sap_net.specs.declared.parts.Wire.{Wire}
 use Rattle.sap_ir.specs.declared.guarded.Var.{Var}
-use Rattle.sap_ir.specs.declared.guarded.Store.{Store}
+use Rattle.sap_ir.specs.declared.guarded.MemoryVariable.{MemoryVariable}
 use Rattle.sap_ir.specs.Source.{Source}
 use Rattle.sap_ir.specs.Source as source
 use Rattle.sap_ir.specs.IsGuarded.{variable_names, memory_names, declared, is_helping, IsRegisterVar, IsStore, IsGuarded}
@@ -98,7 +98,7 @@ outs_are s g k =
     let h : is_helping x.name ≡ false = wire_plain s g x.name a in
     k.fits.others x.name h ∙ first_found s x.name
     ∙ found_second (scope_of s.inputs) (scope_of s.registers) x.name (not_found {X = ℕ} (λ (y : Var). y.name) (λ y. y.width) s.inputs x.name o.0) ∙ not_found {X = ℕ} (λ (y : Var). y.name) (λ y. y.width) s.registers x.name o.1)))
-    (listed_holds (λ x. find (source.shapes s) x.name ≡ None) P W (each_variable (λ x. find (source.shapes s) x.name ≡ None) W (λ x a. not_found {X = ℕ × ℕ} (λ (m : Store). m.name) (λ m. (m.width, m.depth)) s.memories x.name (wire_among s g.declared_once x.name a).2)))
+    (listed_holds (λ x. find (source.shapes s) x.name ≡ None) P W (each_variable (λ x. find (source.shapes s) x.name ≡ None) W (λ x a. not_found {X = ℕ × ℕ} (λ (m : MemoryVariable). m.name) (λ m. (m.width, m.depth)) s.memories x.name (wire_among s g.declared_once x.name a).2)))
     (env_operands sc (source.readable s) t.entries k.env (listed P W) (listed_holds (λ x. find (source.readable s) x.name ≡ Some x.width) P W (wires_found s g)))
 
 pub wires_are : (s : Source) → IsGuarded s → StateFits (source.shapes s) (first_scope s) (source.readable s) (last_state s) → AreWires (source.shapes s) (first_scope s) (all_wires s)
@@ -115,7 +115,7 @@ nexts_are sc sd vars es g e [] f a = tt
 nexts_are sc sd vars es g e (x ∷ xs) f a =
     ((a.0.1, operand_grows sc sd g x.width (present es x.name).operand (e x.name x.width f.0).0), nexts_are sc sd vars es g e xs f.1 a.1)
 
-pub writes_are : (ms : Shapes) (sc sd : Scope) (ps : List (Name × WritePort)) → Grows sc sd → PortsFit ms sc ps → (xs : List Store) → AllByRecursion (λ m. find ms m.name ≡ Some (m.width, m.depth)) xs → AllByRecursion IsStore xs → AllByRecursion (λ m. IsMemory sd (memory_of ps m)) xs
+pub writes_are : (ms : Shapes) (sc sd : Scope) (ps : List (Name × WritePort)) → Grows sc sd → PortsFit ms sc ps → (xs : List MemoryVariable) → AllByRecursion (λ m. find ms m.name ≡ Some (m.width, m.depth)) xs → AllByRecursion IsStore xs → AllByRecursion (λ m. IsMemory sd (memory_of ps m)) xs
 writes_are ms sc sd ps g k [] f a = tt
 writes_are ms sc sd ps g k (m ∷ xs) f a =
     let p = port_of ps m.name in
@@ -131,7 +131,7 @@ writes_are ms sc sd ps g k (m ∷ xs) f a =
       writes_are ms sc sd ps g k xs f.1 a.1,
     )
 
-stores_kept : (n : Name) (e : ℕ × ℕ) (sh : Shapes) (ms : List Store) → is_among n (memory_names ms) ≡ false → AllByRecursion (λ m. find sh m.name ≡ Some (m.width, m.depth)) ms → AllByRecursion (λ m. find ((n, e) ∷ sh) m.name ≡ Some (m.width, m.depth)) ms
+stores_kept : (n : Name) (e : ℕ × ℕ) (sh : Shapes) (ms : List MemoryVariable) → is_among n (memory_names ms) ≡ false → AllByRecursion (λ m. find sh m.name ≡ Some (m.width, m.depth)) ms → AllByRecursion (λ m. find ((n, e) ∷ sh) m.name ≡ Some (m.width, m.depth)) ms
 stores_kept n e sh [] d a = tt
 stores_kept n e sh (m ∷ ms) d a =
     elim (cases_Bool (bytes_eq n m.name)) [
@@ -139,7 +139,7 @@ stores_kept n e sh (m ∷ ms) d a =
       | inr f ↦ (rw f a.0, stores_kept n e sh ms (rw f at d) a.1)
     ]
 
-pub stores_found : (ms : List Store) → AreDistinct (memory_names ms) → AllByRecursion (λ m. find (shapes_list ms) m.name ≡ Some (m.width, m.depth)) ms
+pub stores_found : (ms : List MemoryVariable) → AreDistinct (memory_names ms) → AllByRecursion (λ m. find (shapes_list ms) m.name ≡ Some (m.width, m.depth)) ms
 stores_found [] d = tt
 stores_found (m ∷ ms) d = (found_here m.name (m.width, m.depth) (shapes_list ms), stores_kept m.name (m.width, m.depth) (shapes_list ms) ms d.0 (stores_found ms d.1))
 
@@ -147,6 +147,6 @@ pub values_are : (ms : Shapes) (xs : List Var) → AreDistinct (variable_names x
 values_are ms [] d w n = tt
 values_are ms (x ∷ xs) d w n = (w.0, not_found {X = ℕ} (λ (y : Var). y.name) (λ y. y.width) xs x.name d.0, n.0, values_are ms xs d.1 w.1 n.1)
 
-pub memories_are : (ms : List Store) → AreDistinct (memory_names ms) → AllByRecursion IsStore ms → AreMemories (shapes_list ms)
+pub memories_are : (ms : List MemoryVariable) → AreDistinct (memory_names ms) → AllByRecursion IsStore ms → AreMemories (shapes_list ms)
 memories_are [] d a = tt
-memories_are (m ∷ ms) d a = (a.0.0, not_found {X = ℕ × ℕ} (λ (y : Store). y.name) (λ y. (y.width, y.depth)) ms m.name d.0, memories_are ms d.1 a.1)
+memories_are (m ∷ ms) d a = (a.0.0, not_found {X = ℕ × ℕ} (λ (y : MemoryVariable). y.name) (λ y. (y.width, y.depth)) ms m.name d.0, memories_are ms d.1 a.1)

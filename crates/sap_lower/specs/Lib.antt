@@ -4,12 +4,3 @@ pub mod Lookup
 pub mod Commands
 pub mod Lowered
 pub mod Same
-pub use Rattle.sap_ir.specs.Calcs
-pub use Rattle.sap_ir.specs.IsGuarded
-pub use Rattle.sap_ir.specs.Program
-pub use Rattle.sap_ir.specs.Writes
-pub use Rattle.sap_maps.specs.Maps
-pub use Rattle.sap_net.specs.IsNetlist
-pub use Rattle.sap_net.specs.NameMaps
-pub use Rattle.sap_size.specs.Flat
-pub use Rattle.sap_size.specs.Items

@@ -1,7 +1,7 @@
 -- The shapes of a list of memories.
 use Rattle.std.specs.Prelude.{List, map}
 use Rattle.sap_net.specs.Rules.{Shapes}
-use Rattle.sap_ir.specs.declared.guarded.Store.{Store}
+use Rattle.sap_ir.specs.declared.guarded.MemoryVariable.{MemoryVariable}
 
-abbrev pub shapes_of : List Store → Shapes
+abbrev pub shapes_of : List MemoryVariable → Shapes
 shapes_of ms = map (λ m. (m.name, (m.width, m.depth))) ms

@@ -15,7 +15,7 @@ use Rattle.sap_net.specs.declared.parts.Register.{Register}
 use Rattle.sap_net.specs.declared.parts.Memory.{Memory}
 use Rattle.sap_net.specs.IsNetlist.{names_of}
 use Rattle.sap_ir.specs.declared.guarded.Var.{Var}
-use Rattle.sap_ir.specs.declared.guarded.Store.{Store}
+use Rattle.sap_ir.specs.declared.guarded.MemoryVariable.{MemoryVariable}
 use Rattle.sap_ir.specs.Source.{Source, shapes}
 use Rattle.sap_ir.specs.IsGuarded.{variable_names, memory_names}
 use Rattle.sap_lower.specs.declared.parts.Part.{Part}
@@ -42,7 +42,7 @@ bits_within (suc k) d = if d == 2 ^ suc k then suc k else bits_within k d
 abbrev pub index_bits : (depth : ℕ) → ℕ
 index_bits d = bits_within 12 d
 
-abbrev pub first_port : Store → Name × WritePort
+abbrev pub first_port : MemoryVariable → Name × WritePort
 first_port m =
     (m.name, record { width = m.width; bits = index_bits m.depth; enable = Constant 1 0; index = Constant (index_bits m.depth) 0; value = Constant m.width 0 })
 
@@ -59,7 +59,7 @@ out_wire es x = record { name = x.name; width = x.width; right = Copy (present e
 abbrev pub register_of : List (Name × Part) → Var → Register
 register_of es x = record { name = x.name; width = x.width; start = x.start; next = (present es x.name).operand }
 
-abbrev pub memory_of : List (Name × WritePort) → Store → Memory
+abbrev pub memory_of : List (Name × WritePort) → MemoryVariable → Memory
 memory_of ps m =
     let p = port_of ps m.name in
     record { name = m.name; width = m.width; depth = m.depth; start = m.start; enable = p.enable; index = p.index; value = p.value }

@@ -12,7 +12,7 @@ ghost use Rattle.sap_lower.specs.Lookup.{shapes_of};
 use crate::parts::Part;
 use crate::wires::Wires;
 use sap_bits::{Op1, Op2, slice};
-use sap_ir::guarded::{Calc, Store};
+use sap_ir::guarded::{Calc, MemoryVariable};
 use sap_net::name_map::at_name;
 use sap_net::parts::{Name, Operand, Operands, Right};
 use std::alloc::{AllocError, Global};
@@ -45,7 +45,7 @@ pub fn present_part(
 }
 
 /// The width of a memory's cells.
-fn width_of_cells(places: &HashMap<Vec<u8>, usize>, stores: &[Store], memory: &Name) -> u32
+fn width_of_cells(places: &HashMap<Vec<u8>, usize>, stores: &[MemoryVariable], memory: &Name) -> u32
     requires { Indexes places.now (map (λ m. m.name) stores.now) }
     ensures { result ≡ cell_width (shapes_of stores.now) memory.now }
 {
@@ -169,7 +169,7 @@ pub fn lower_calc(
     places: &HashMap<Vec<u8>, usize>,
     entries: &[(Name, Part)],
     store_places: &HashMap<Vec<u8>, usize>,
-    stores: &[Store],
+    stores: &[MemoryVariable],
     calc: &Calc,
 ) -> Result<Part, AllocError>
     requires places { Indexes places.now (keys_of entries.now) }
@@ -237,7 +237,7 @@ fn lower_all(
     places: &HashMap<Vec<u8>, usize>,
     entries: &[(Name, Part)],
     store_places: &HashMap<Vec<u8>, usize>,
-    stores: &[Store],
+    stores: &[MemoryVariable],
     calcs: &[Calc],
 ) -> Result<Vec<Part>, AllocError>
     requires places { Indexes places.now (keys_of entries.now) }

@@ -13,7 +13,7 @@ ghost use Rattle.sap_lower.specs.Commands.{replaced};
 use crate::calc::{lower_calc, present_part};
 use crate::parts::{Part, WritePort};
 use crate::wires::Wires;
-use sap_ir::guarded::{Act, Calc, GuardedCmd, Store};
+use sap_ir::guarded::{Act, Calc, GuardedCmd, MemoryVariable};
 use sap_net::name_map::at_name;
 use sap_net::parts::{Name, Operand, Right};
 use std::alloc::{AllocError, Global};
@@ -81,7 +81,7 @@ fn lower_set(
     places: &HashMap<Vec<u8>, usize>,
     entries: &[(Name, Part)],
     store_places: &HashMap<Vec<u8>, usize>,
-    stores: &[Store],
+    stores: &[MemoryVariable],
     when: &Calc,
     name: &Name,
     value: &Calc,
@@ -108,7 +108,7 @@ fn lower_put(
     places: &HashMap<Vec<u8>, usize>,
     entries: &[(Name, Part)],
     store_places: &HashMap<Vec<u8>, usize>,
-    stores: &[Store],
+    stores: &[MemoryVariable],
     port: &mut WritePort,
     when: &Calc,
     index: &Calc,
@@ -176,7 +176,7 @@ fn lower_command(
     places: &HashMap<Vec<u8>, usize>,
     entries: &mut Vec<(Name, Part)>,
     store_places: &HashMap<Vec<u8>, usize>,
-    stores: &[Store],
+    stores: &[MemoryVariable],
     ports: &mut Vec<(Name, WritePort)>,
     cmd: &GuardedCmd,
 ) -> Result<(), AllocError>
@@ -234,7 +234,7 @@ pub fn lower_commands(
     places: &HashMap<Vec<u8>, usize>,
     entries: &mut Vec<(Name, Part)>,
     store_places: &HashMap<Vec<u8>, usize>,
-    stores: &[Store],
+    stores: &[MemoryVariable],
     ports: &mut Vec<(Name, WritePort)>,
     cmds: &[GuardedCmd],
 ) -> Result<(), AllocError>

@@ -12,7 +12,7 @@ ghost use Rattle.sap_lower.specs.Lowered.{input_of, input_port, listed, memory_o
 use crate::calc::present_part;
 use crate::commands::present_port;
 use crate::parts::{Part, WritePort};
-use sap_ir::guarded::{Store, Var, variable_names};
+use sap_ir::guarded::{MemoryVariable, Var, variable_names};
 use sap_net::name_map::{at_name, is_indexed};
 use sap_net::parts::{Input, Memory, Name, Port, PortKind, Register, Right, Wire};
 use sap_text::name::copy_names;
@@ -60,7 +60,7 @@ fn memory(
     alloc: Global,
     places: &HashMap<Vec<u8>, usize>,
     ports: &[(Name, WritePort)],
-    store: &Store,
+    store: &MemoryVariable,
 ) -> Result<Memory, AllocError>
     requires { Indexes places.now (keys_of ports.now) }
     ensures { IfOk result (λ m. m ≡ memory_of ports.now store.now) }
@@ -102,7 +102,7 @@ pub fn memories(
     alloc: Global,
     places: &HashMap<Vec<u8>, usize>,
     ports: &[(Name, WritePort)],
-    stores: &[Store],
+    stores: &[MemoryVariable],
 ) -> Result<Vec<Memory>, AllocError>
     requires { Indexes places.now (keys_of ports.now) }
     ensures { IfOk result (λ ms. ms.items ≡ map (memory_of ports.now) stores.now) }
@@ -313,7 +313,11 @@ fn add_registers(
     Ok(())
 }
 
-fn add_memories(alloc: Global, made: &mut Vec<Name>, stores: &[Store]) -> Result<(), AllocError>
+fn add_memories(
+    alloc: Global,
+    made: &mut Vec<Name>,
+    stores: &[MemoryVariable],
+) -> Result<(), AllocError>
     ensures { OnOk result (made.new.items ≡ made.old.items ++ memory_names stores.now) }
 {
     for store in stores {
@@ -330,7 +334,7 @@ pub fn names(
     ports: &[Name],
     wires: &[Wire],
     registers: &[Var],
-    stores: &[Store],
+    stores: &[MemoryVariable],
 ) -> Result<Vec<Name>, AllocError>
     requires { Indexes port_places.now ports.now }
     ensures { IfOk result (λ ns. ns.items ≡ variable_names inputs.now ++ (ports.now ++ (unported ports.now (names_of wires.now) ++ (unported ports.now (variable_names registers.now) ++ memory_names stores.now)))) }

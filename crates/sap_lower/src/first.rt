@@ -4,7 +4,7 @@ ghost use Rattle.std.specs.Prelude.{◌≡◌, ◌++◌, map, IfOk, OnOk};
 ghost use Rattle.sap_lower.specs.Lowered.{first_port, index_bits, named_entry, zero_entry};
 
 use crate::parts::{Part, WritePort};
-use sap_ir::guarded::{Store, Var};
+use sap_ir::guarded::{MemoryVariable, Var};
 use sap_net::parts::{Name, Operand};
 use std::alloc::{AllocError, Global};
 
@@ -91,7 +91,7 @@ pub fn entries(
     Ok(made)
 }
 
-pub fn ports(alloc: Global, stores: &[Store]) -> Result<Vec<(Name, WritePort)>, AllocError>
+pub fn ports(alloc: Global, stores: &[MemoryVariable]) -> Result<Vec<(Name, WritePort)>, AllocError>
     ensures { IfOk result (λ ps. ps.items ≡ map first_port stores.now) }
 {
     let mut made = Vec::new(alloc);

@@ -17,7 +17,7 @@ use crate::parts::{Part, WritePort};
 use crate::places::{index_entries, index_stores, index_variables};
 use crate::wires::Wires;
 use crate::{declare, first};
-use sap_ir::guarded::Store;
+use sap_ir::guarded::MemoryVariable;
 use sap_ir::program::Guarded;
 use sap_net::name_map::index_names;
 use sap_net::netlist::Netlist;
@@ -242,7 +242,7 @@ struct WritePorts {
     places: HashMap<Vec<u8>, usize>,
 }
 
-fn write_ports(alloc: Global, stores: &[Store]) -> Result<WritePorts, AllocError>
+fn write_ports(alloc: Global, stores: &[MemoryVariable]) -> Result<WritePorts, AllocError>
     ensures ports { IfOk result (λ w. w.ports.items ≡ map first_port stores.now) }
     ensures places { IfOk result (λ w. Indexes w.places (map (λ m. m.name) stores.now)) }
     ensures port_places { IfOk result (λ w. Indexes w.places (keys_of w.ports.items)) }

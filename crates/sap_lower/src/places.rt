@@ -5,7 +5,7 @@ ghost use Rattle.std.specs.Map.{keys_of};
 ghost use Rattle.sap_net.specs.NameMaps.{Indexes};
 
 use crate::parts::Part;
-use sap_ir::guarded::{Store, Var};
+use sap_ir::guarded::{MemoryVariable, Var};
 use sap_net::name_map::index;
 use sap_net::parts::Name;
 use std::alloc::{AllocError, Global};
@@ -37,7 +37,10 @@ pub fn index_entries(
     Ok(places)
 }
 
-pub fn index_stores(alloc: Global, stores: &[Store]) -> Result<HashMap<Vec<u8>, usize>, AllocError>
+pub fn index_stores(
+    alloc: Global,
+    stores: &[MemoryVariable],
+) -> Result<HashMap<Vec<u8>, usize>, AllocError>
     ensures { IfOk result (λ m. Indexes m (map (λ x. x.name) stores.now)) }
 {
     let mut places = HashMap::new(alloc);

@@ -7,7 +7,7 @@ use Rattle.sap_lemmas.proofs.Bools.{or_true}
 use Rattle.sap_lemmas.proofs.Everywhere.{all_append, all_filter, all_follow, map_of_all}
 use Rattle.sap_lemmas.proofs.Texts.{bytes_eq_apart_back}
 use Rattle.std.proofs.lemmas.List.{append-nil as append_nothing}
-use Rattle.sap_net.proofs.RulesLemmas.{readable_both, readable_kept, wires_both, Grows, operand_grows}
+use Rattle.sap_net.proofs.RulesLemmas.{readable_both, readable_kept, wires_both, wires_distinct, Grows, operand_grows}
 use Rattle.sap_net.proofs.NamesLemmas.{among_behind, among_front, distinct_both, each_among, filter_among, filter_distinct}
 use Rattle.sap_maps.specs.Maps.{Name}
 use Rattle.sap_maps.specs.Scope.{Scope, find}
@@ -31,7 +31,7 @@ use Rattle.sap_trim.specs.Built.{wire_of, register_of, memory_of, built}
 use Rattle.sap_share.proofs.Helpers.{helper_is_name}
 use Rattle.sap_fold.proofs.Lists.{or_elim, none_among, filter_append, filter_none, filter_same, filter_within}
 use Rattle.sap_net.proofs.NamesLemmas.{among_each}
-use Rattle.sap_trim.proofs.Declared.{wires_distinct, IsNewWire, each_new, filter_holds, names_filter, names_append, declared_names, ports_in_front}
+use Rattle.sap_trim.proofs.Declared.{IsNewWire, each_new, filter_holds, names_filter, names_append, declared_names, ports_in_front}
 use Rattle.sap_trim.proofs.Replaced.{Finds, name_fits, operand_fits}
 use Rattle.sap_fold.proofs.Provided as wires
 use Rattle.sap_fold.proofs.Provided.{new_behind}

@@ -1,43 +1,19 @@
 -- The names of the new netlist.
-use Rattle.std.proofs.Common.{◌≡◌, ℕ, ◌||◌, ◌&&◌, List, [], ◌∷◌, ◌++◌, map, filter, take, drop, length, Some, None, Bool, true, false, sym, ap, ◌∙◌, subst, refl, inl, inr, arith, append_assoc}
-use Rattle.std.specs.Str.{bytes_eq}
+use Rattle.std.proofs.Common.{◌≡◌, ℕ, ◌||◌, ◌&&◌, List, [], ◌∷◌, ◌++◌, map, filter, take, drop, length, None, Bool, true, false, sym, ap, ◌∙◌, refl, inl, inr, arith, append_assoc}
 use Rattle.std.specs.List.{AllByRecursion}
 use Rattle.std.proofs.lemmas.Bool.{cases_Bool}
 use Rattle.std.proofs.lemmas.List.{take-append-drop, take_at}
 use Rattle.sap_lemmas.proofs.Bools.{or_false, or_true}
-use Rattle.sap_lemmas.proofs.Texts.{equal_of_bytes_eq}
 use Rattle.sap_net.proofs.NamesLemmas.{among_append, filter_among}
 use Rattle.sap_maps.specs.Maps.{Name}
 use Rattle.sap_maps.specs.Scope.{Scope, find}
-use Rattle.sap_maps.proofs.Scopes.{found_here, not_behind}
-use Rattle.sap_net.specs.Names.{is_among, AreDistinct}
+use Rattle.sap_maps.proofs.Scopes.{not_behind}
+use Rattle.sap_net.specs.Names.{is_among}
 use Rattle.sap_net.specs.Rules.{Shapes, IsWidth, AreWires}
 use Rattle.sap_net.specs.declared.parts.Port.{Port}
 use Rattle.sap_net.specs.declared.parts.Wire.{Wire}
 use Rattle.sap_net.specs.IsNetlist.{names_of}
 use Rattle.sap_fold.proofs.Lists.{filter_append, filter_all}
-
-pub wires_new : (ms : Shapes) (ws : List Wire) (sc : Scope) → AreWires ms sc ws → (n : Name) → is_among n (names_of ws) ≡ true → (find sc n ≡ None) × (find ms n ≡ None)
-wires_new ms [] sc a n h = absurd (cc)
-wires_new ms (w ∷ ws) sc a n h =
-    elim (cases_Bool (bytes_eq n w.name)) [
-      | inl t ↦
-          let e : w.name ≡ n = sym (equal_of_bytes_eq n w.name t) in
-          (subst (λ (y : Name). find sc y ≡ None) e a.1, subst (λ (y : Name). find ms y ≡ None) e a.2)
-      | inr f ↦
-          let r = wires_new ms ws ((w.name, w.width) ∷ sc) a.4 n (rw f at h) in
-          (not_behind (w.name, w.width) sc n r.0, r.1)
-    ]
-
-pub wires_distinct : (ms : Shapes) (ws : List Wire) (sc : Scope) → AreWires ms sc ws → AreDistinct (names_of ws)
-wires_distinct ms [] sc a = tt
-wires_distinct ms (w ∷ ws) sc a = (
-  elim (cases_Bool (is_among w.name (names_of ws))) [
-    | inl t ↦ absurd (let e = wires_new ms ws ((w.name, w.width) ∷ sc) a.4 w.name t in let g : find ((w.name, w.width) ∷ sc) w.name ≡ Some w.width = found_here w.name w.width sc in let q = e.0 in cc)
-    | inr f ↦ f
-  ],
-  wires_distinct ms ws ((w.name, w.width) ∷ sc) a.4,
-)
 
 -- what each wire keeps
 abbrev pub IsNewWire : Shapes → Scope → Wire → Type 0

@@ -4,6 +4,7 @@ use Rattle.std.specs.List.{AllByRecursion}
 use Rattle.sap_lemmas.proofs.Everywhere.{all_filter, all_follow, all_of_map}
 use Rattle.sap_maps.specs.Maps.{Name}
 use Rattle.sap_maps.specs.Scope.{Scope, find}
+use Rattle.sap_net.proofs.RulesLemmas.{wires_distinct}
 use Rattle.sap_net.specs.Names.{is_among}
 use Rattle.sap_net.specs.Net.{Net}
 use Rattle.sap_net.specs.declared.parts.Wire.{Wire}
@@ -20,7 +21,6 @@ use Rattle.sap_trim.specs.Needed.{needed_wires}
 use Rattle.sap_trim.specs.Built.{built}
 use Rattle.sap_fold.proofs.Lists.{none_among}
 use Rattle.sap_trim.proofs.Follows.{taken_apart, begins_follow, follows_walk, copies_walk}
-use Rattle.sap_trim.proofs.Declared.{wires_distinct}
 use Rattle.sap_trim.specs.Alike.{DeclaresAlike, RunsAlike}
 use Rattle.sap_trim.proofs.Built.{Walks, built_rules, registers_named, memories_named, untaken}
 use Rattle.sap_trim.proofs.Cycle.{Done, found_each, runs_alike, declares_alike}

@@ -8,9 +8,3 @@ pub mod Stays
 pub mod Walked
 pub mod Needed
 pub mod Built
-pub use Rattle.sap_fold.specs.Names as FoldNames
-pub use Rattle.sap_net.specs.IsNetlist
-pub use Rattle.sap_net.specs.NameMaps
-pub use Rattle.sap_net.specs.Names as NetNames
-pub use Rattle.sap_net.specs.Net
-pub use Rattle.sap_share.specs.Rights

@@ -1,11 +1,12 @@
 -- A netlist that is alike to one that stands for a design stands for it too.
-use Rattle.std.proofs.Common.{◌≡◌, ◌≤◌, ◌⊎◌, ℕ, List, [], ◌∷◌, ◌++◌, map, true, false, inl, inr, ◌↔◌, sym, ap, ap₂, ◌∙◌, subst, length}
-use Rattle.std.specs.Prelude.{unwrap_or, Option}
+use Rattle.std.proofs.Common.{◌≡◌, ◌⊎◌, ℕ, List, [], ◌∷◌, ◌++◌, map, true, false, Some, inl, inr, sym, ap, ap₂, ◌∙◌, subst, length}
+use Rattle.std.specs.Prelude.{unwrap_or, option_map, Option}
 use Rattle.std.specs.List.{AllByRecursion, AllZip}
 use Rattle.std.proofs.lemmas.Bool.{cases_Bool}
 use Rattle.sap_lemmas.proofs.Everywhere.{all_of_map, map_of_all}
-use Rattle.sap_net.proofs.NamesLemmas.{among_behind, among_front, each_among, among_each}
+use Rattle.sap_net.proofs.NamesLemmas.{among_behind, among_front, each_among, among_each, found_of}
 use Rattle.sap_maps.specs.Maps.{Name, Valuation}
+use Rattle.sap_maps.specs.Scope.{find}
 use Rattle.sap_meaning.specs.Cycle.{Tagged}
 use Rattle.sap_meaning.specs.Store.{Store, After, Refusal}
 use Rattle.sap_meaning.specs.State.{StreamFits, labelled_run}
@@ -24,15 +25,15 @@ use Rattle.sap_net.specs.declared.parts.Memory.{Memory}
 use Rattle.sap_trim.specs.Alike.{DeclaresAlike, ShowsAlike, RunsAlike}
 use Rattle.sap_trim.specs.Names.{helper, port_names, lasting_names, helping_wires, NoneNumbered}
 use Rattle.sap_trim.specs.Trimmed.{NumbersWires}
-use Rattle.sap_interface.specs.PortNames.{refused_name, level_name}
-use Rattle.sap_interface.specs.StandsFor.{Named, world, StandsFor, IsRefused}
+use Rattle.sap_interface.specs.StandsFor.{Named, world, StandsFor}
 use Rattle.sap_interface.specs.InterfaceNames.{IsInterfaceName}
-use Rattle.sap_interface.specs.Interface.{Shown, HasInput, HasWire, HasRegister, HasMemory, HasSeat, HasInterface, ports_of}
+use Rattle.sap_interface.specs.Interface.{Shown, HasInterface, declared_by, ports_of}
 use Rattle.sap_interface.specs.Compiled.{coded_stream, CyclesStand, NetStandsFor}
-use Rattle.sap_tagged.specs.Law.{AreSites, RefusalsAreSites}
 use Rattle.sap_tagged.proofs.Members.{In}
-use Rattle.sap_compile.proofs.stages.Ports.{refused_port, level_port, ports_named}
-use Rattle.sap_compile.proofs.stages.Declared.{of_port, of_port_name, of_wire_name, of_register, of_memory, register_alike, memory_alike, same_registers, same_memories, wire_read, some_wire}
+use Rattle.sap_compile.proofs.stages.Ports.{ports_named}
+use Rattle.sap_compile.proofs.stages.Carried.{Carries, interface_carried, stands_carried}
+use Rattle.sap_compile.proofs.stages.Found.{Shape, Stored, shape_of, wire_widths, at_found, width_found, memory_shapes}
+use Rattle.sap_compile.proofs.stages.Declared.{Kept, of_port, of_port_name, of_wire_name, same_registers, same_memories, wire_read}
 use Rattle.sap_compile.proofs.stages.Helping.{among_either, numbered_helping, helping_there}
 
 -- the ports that a netlist shows, where it has an interface
@@ -53,18 +54,6 @@ port_named d sites n e x h =
 
 -- of two netlists that declare alike
 module _ (given result : Net) (before : IsNetlist given) (after : IsNetlist result) (declares : DeclaresAlike given result) where
-  has_register : (x : Name) (u : ℕ) → HasRegister given.registers x u → HasRegister result.registers x u
-  has_register x u h = register_alike given.registers result.registers x u declares.registers h
-
-  has_memory : (x : Name) (u k : ℕ) → HasMemory given.memories x u k → HasMemory result.memories x u k
-  has_memory x u k h = memory_alike given.memories result.memories x u k declares.memories h
-
-  has_input : (x : Name) (u : ℕ) → HasInput given.inputs x u → HasInput result.inputs x u
-  has_input x u h = subst (λ (is : List Input). HasInput is x u) (sym declares.inputs) h
-
-  has_seat : (count : ℕ) (x : Name) → HasSeat given count x → HasSeat result count x
-  has_seat count x h = (h.0, h.1, has_register x h.0 h.2)
-
   same_ports : shown_ports result ≡ shown_ports given
   same_ports = ap (λ (ps : List Port). map {B = Shown} (λ p. (p.name, p.kind)) ps) declares.ports
 
@@ -74,16 +63,31 @@ module _ (given result : Net) (before : IsNetlist given) (after : IsNetlist resu
   same_memory_names : memory_names result ≡ memory_names given
   same_memory_names = same_memories given.memories result.memories declares.memories
 
-  wire_width : (n : Net) → IsNetlist n → (x : Name) (u : ℕ) → HasWire n.wires x u → width_of n x ≡ u
+  wire_width : (n : Net) → IsNetlist n → (x : Name) (u : ℕ) → find (wire_widths n.wires) x ≡ Some u → width_of n x ≡ u
   wire_width n rules x u h = ap (λ (o : Option ℕ). unwrap_or o 0) (wire_read (shapes n) n.wires (first_readable n) rules.assigns x u h)
 
-  has_wire : (x : Name) (u : ℕ) → HasWire given.wires x u → In (shown_ports given) (x, kind.Wire) → HasWire result.wires x u
-  has_wire x u h port =
+  has_wire : (x : Name) (u : ℕ) → In (shown_ports given) (x, kind.Wire) → find (wire_widths given.wires) x ≡ Some u → find (wire_widths result.wires) x ≡ Some u
+  has_wire x u port h =
       let p : In (shown_ports result) (x, kind.Wire) = subst (λ (qs : List Shown). In qs (x, kind.Wire)) (sym same_ports) port in
-      let w = some_wire result.wires x (of_port (PortShows result) result.ports x kind.Wire after.ports_show p) in
+      let w = found_of (λ (y : Wire). y.name) (λ (y : Wire). y.width) result.wires x (of_port (PortShows result) result.ports x kind.Wire after.ports_show p) in
       let same : width_of result x ≡ width_of given x = of_port (λ (k : PortKind) (y : Name). width_of result y ≡ width_of given y) given.ports x kind.Wire declares.widths port in
       let e : w.0 ≡ u = sym (wire_width result after x w.0 w.1) ∙ same ∙ wire_width given before x u h in
-      subst (λ (k : ℕ). HasWire result.wires x k) e w.1
+      w.1 ∙ ap (λ (k : ℕ). Some k) e
+
+  same_register : (x : Name) → find (declared_by result).registers x ≡ find (declared_by given).registers x
+  same_register x =
+      width_found (λ (r : Register). r.name) (λ (r : Register). r.width) (λ (r : Register). r.start) result.registers x
+      ∙ ap (λ (ks : List Kept). option_map (λ (q : Shape). q.0) (find ks x)) declares.registers
+      ∙ sym (width_found (λ (r : Register). r.name) (λ (r : Register). r.width) (λ (r : Register). r.start) given.registers x)
+
+  carries : Carries (declared_by given) (declared_by result)
+  carries = record {
+    ports = same_ports;
+    inputs = ap (λ (is : List Input). map {B = Name × ℕ} (λ i. (i.name, i.width)) is) declares.inputs;
+    registers = same_register;
+    memories = sym (memory_shapes result.memories) ∙ ap (λ (qs : List Stored). map shape_of qs) declares.memories ∙ memory_shapes given.memories;
+    wires = has_wire;
+  }
 
   -- names
 
@@ -119,15 +123,9 @@ module _ (given result : Net) (before : IsNetlist given) (after : IsNetlist resu
   wire_helping : HelpersNamed result → (x : Name) → is_among x (port_names result) ≡ false → is_among x (wire_names result) ≡ true → IsHelpingName x
   wire_helping named x f h = of_wire_name IsHelpingName (helping_wires result) named x (helping_there (port_names result) result.wires x f h)
 
-  -- the design, whose refusals are at its sites
+  -- the design
 
   module _ (d : Named) (tag sites : ℕ) (from : NetStandsFor d tag sites given) where
-    refused_shown : (k : ℕ) → 1 ≤ k → k ≤ sites → In (shown_ports given) (refused_name k, kind.Wire)
-    refused_shown k i j = subst (λ (qs : List Shown). In qs (refused_name k, kind.Wire)) (sym from.interface.ports) (refused_port d sites k i j)
-
-    level_shown : (k : ℕ) → 1 ≤ k → k ≤ sites → In (shown_ports given) (level_name k, kind.Wire)
-    level_shown k i j = subst (λ (qs : List Shown). In qs (level_name k, kind.Wire)) (sym from.interface.ports) (level_port d sites k i j)
-
     abbrev IsNamed : Name → Type 0
     IsNamed x = IsInterfaceName d sites x ⊎ IsHelpingName x
 
@@ -137,7 +135,7 @@ module _ (given result : Net) (before : IsNetlist given) (after : IsNetlist resu
     wire_is : HelpersNamed result → (x : Name) → is_among x (wire_names result) ≡ true → IsNamed x
     wire_is named x h =
         elim (cases_Bool (is_among x (port_names result))) [
-          | inl p ↦ inl (port_named d sites result (same_ports ∙ from.interface.ports) x p)
+          | inl p ↦ inl (port_named d sites result (same_ports ∙ from.interface.declares.ports) x p)
           | inr f ↦ inr (wire_helping named x f h)
         ]
 
@@ -159,29 +157,24 @@ module _ (given result : Net) (before : IsNetlist given) (after : IsNetlist resu
     registers_listed : AllByRecursion IsListed (register_names result)
     registers_listed =
         subst (λ (ns : List Name). AllByRecursion IsListed ns) (sym same_register_names)
-        (map_of_all IsListed (λ (r : Register). r.name) given.registers from.interface.register_names)
+        (map_of_all IsListed (λ (r : Register). r.name) given.registers
+        (all_of_map (λ (q : Name × ℕ). IsListed q.0) (λ (r : Register). (r.name, r.width)) given.registers from.interface.declares.register_names))
 
     memories_listed : AllByRecursion IsListed (memory_names result)
     memories_listed =
         subst (λ (ns : List Name). AllByRecursion IsListed ns) (sym same_memory_names)
-        (map_of_all IsListed (λ (m : Memory). m.name) given.memories from.interface.memory_names)
+        (map_of_all IsListed (λ (m : Memory). m.name) given.memories
+        (all_of_map (λ (q : Name × (ℕ × ℕ)). IsListed q.0) (λ (m : Memory). (m.name, (m.width, m.depth))) given.memories from.interface.declares.memory_names))
 
     has_interface : HelpersNamed result → HasInterface d tag sites result
     has_interface named = record {
       module_name = declares.module_name ∙ from.interface.module_name;
-      ports = same_ports ∙ from.interface.ports;
-      inputs = λ x h. (has_input _ _ (from.interface.inputs x h).0, has_input _ _ (from.interface.inputs x h).1);
-      registers = λ x h. (has_register _ _ (from.interface.registers x h).0, has_register _ _ (from.interface.registers x h).1);
-      site_wires = λ k i j.
-          (has_wire _ _ (from.interface.site_wires k i j).0 (refused_shown k i j), has_wire _ _ (from.interface.site_wires k i j).1 (level_shown k i j));
-      memories = λ m h. has_memory _ _ _ (from.interface.memories m h);
-      cell_tags = λ m h i. has_memory _ _ _ (from.interface.cell_tags m h i);
-      memory_tags = λ m h i. has_register _ _ (from.interface.memory_tags m h i);
-      state_tags = λ x h i. has_register _ _ (from.interface.state_tags x h i);
-      seats = λ x h i. has_seat _ _ (from.interface.seats x h i);
-      root_seat = has_seat _ _ from.interface.root_seat;
-      register_names = all_of_map IsListed (λ (r : Register). r.name) result.registers registers_listed;
-      memory_names = all_of_map IsListed (λ (m : Memory). m.name) result.memories memories_listed;
+      declares =
+          interface_carried d tag sites (declared_by given) from.interface.declares (declared_by result) carries
+          (map_of_all (λ (q : Name × ℕ). IsListed q.0) (λ (r : Register). (r.name, r.width)) result.registers
+          (all_of_map IsListed (λ (r : Register). r.name) result.registers registers_listed))
+          (map_of_all (λ (q : Name × (ℕ × ℕ)). IsListed q.0) (λ (m : Memory). (m.name, (m.width, m.depth))) result.memories
+          (all_of_map IsListed (λ (m : Memory). m.name) result.memories memories_listed));
       names = each_among (λ (x : Name). IsInterfaceName d sites x ⊎ IsHelpingName x) result.names (name_is named);
     }
 
@@ -190,46 +183,37 @@ module _ (given result : Net) (before : IsNetlist given) (after : IsNetlist resu
 
     -- a cycle of the one, and a cycle of the other in which the same is seen
     module _ (v w : Valuation) (same : ShowsAlike given result v w) where
-      at_register : (x : Name) (u : ℕ) → HasRegister given.registers x u → (observed result w).value x ≡ (observed given v).value x
-      at_register x u h = sym (of_register (λ (y : Name). (observed given v).value y ≡ (observed result w).value y) given.registers x u same.registers h)
+      at_register : (x : Name) (u : ℕ) → find (declared_by given).registers x ≡ Some u → (observed result w).value x ≡ (observed given v).value x
+      at_register x u h =
+          sym (at_found (λ (y : Name) (k : ℕ). (observed given v).value y ≡ (observed result w).value y) (λ (r : Register). r.name) (λ (r : Register). r.width) given.registers same.registers x u h)
 
-      at_cell : (x : Name) (u k : ℕ) → HasMemory given.memories x u k → (i : ℕ) → (observed result w).cell x i ≡ (observed given v).cell x i
-      at_cell x u k h i =
-          sym (of_memory (λ (y : Name). (j : ℕ) → (observed given v).cell y j ≡ (observed result w).cell y j) given.memories x u k same.memories h i)
+      at_cell : (x : Name) (q : ℕ × ℕ) → find (declared_by given).memories x ≡ Some q → (i : ℕ) → (observed result w).cell x i ≡ (observed given v).cell x i
+      at_cell x q h i =
+          sym (at_found (λ (y : Name) (k : ℕ × ℕ). (j : ℕ) → (observed given v).cell y j ≡ (observed result w).cell y j) (λ (m : Memory). m.name) (λ (m : Memory). (m.width, m.depth)) given.memories same.memories x q h i)
 
-      at_port : (x : Name) → In (shown_ports given) (x, kind.Wire) → (observed result w).value x ≡ (observed given v).value x
-      at_port x h =
+      at_port : (x : Name) (u : ℕ) → In (shown_ports given) (x, kind.Wire) → find (declared_by given).wires x ≡ Some u → (observed result w).value x ≡ (observed given v).value x
+      at_port x u h f =
           sym (of_port (λ (k : PortKind) (y : Name). (observed given v).value y ≡ (observed result w).value y) given.ports x kind.Wire same.ports h)
 
-      pub cycle_stands : (t : Store) (rs : List Refusal) → AreSites sites rs → StandsFor d sites (observed given v) t rs → StandsFor d sites (observed result w) t rs
-      cycle_stands t rs are h = record {
-        register_values = λ x r. at_register _ _ (from.interface.registers x r).0 ∙ h.register_values x r;
-        register_tags = λ x r. at_register _ _ (from.interface.registers x r).1 ∙ h.register_tags x r;
-        cells = λ m i k l. at_cell _ _ _ (from.interface.memories m k) i ∙ h.cells m i k l;
-        cell_tags = λ m i k l o. at_cell _ _ _ (from.interface.cell_tags m k l) i ∙ h.cell_tags m i k l o;
-        memory_tags = λ m k l. at_register _ _ (from.interface.memory_tags m k l) ∙ h.memory_tags m k l;
-        state_tags = λ x k l. at_register _ _ (from.interface.state_tags x k l) ∙ h.state_tags x k l;
-        seats = λ x k l. at_register _ _ (from.interface.seats x k l).2 ∙ h.seats x k l;
-        root_seat = at_register _ _ from.interface.root_seat.2 ∙ h.root_seat;
-        refusals = λ k i j. subst (λ (z : ℕ). (z ≡ 1) ↔ IsRefused rs k) (sym (at_port _ (refused_shown k i j))) (h.refusals k i j);
-        refusal_levels = λ k l i. (let a = are k l i in at_port _ (level_shown k a.0 a.1) ∙ h.refusal_levels k l i);
-      }
+      pub cycle_stands : (t : Store) (rs : List Refusal) → StandsFor d sites (observed given v) t rs → StandsFor d sites (observed result w) t rs
+      cycle_stands t rs h =
+          stands_carried d tag sites (declared_by given) from.interface.declares (observed given v) (observed result w)
+          (record { registers = at_register; wires = at_port; cells = at_cell }) t rs h
 
-    cycles_stand : (vs ws : List Valuation) (run : List After) → AllZip (ShowsAlike given result) vs ws → RefusalsAreSites sites run → CyclesStand d sites (map (observed given) vs) run
+    cycles_stand : (vs ws : List Valuation) (run : List After) → AllZip (ShowsAlike given result) vs ws → CyclesStand d sites (map (observed given) vs) run
         → CyclesStand d sites (map (observed result) ws) run
-    cycles_stand [] [] run a r c = c
-    cycles_stand [] (w ∷ ws) run a r c = absurd a
-    cycles_stand (v ∷ vs) [] run a r c = absurd a
-    cycles_stand (v ∷ vs) (w ∷ ws) [] a r c = absurd c
-    cycles_stand (v ∷ vs) (w ∷ ws) (x ∷ run) a r c = (cycle_stands v w a.0 x.store x.refused r.0 c.0, cycles_stand vs ws run a.1 r.1 c.1)
+    cycles_stand [] [] run a c = c
+    cycles_stand [] (w ∷ ws) run a c = absurd a
+    cycles_stand (v ∷ vs) [] run a c = absurd a
+    cycles_stand (v ∷ vs) (w ∷ ws) [] a c = absurd c
+    cycles_stand (v ∷ vs) (w ∷ ws) (x ∷ run) a c = (cycle_stands v w a.0 x.store x.refused c.0, cycles_stand vs ws run a.1 c.1)
 
-    pub stands_alike : HelpersNamed result → RunsAlike given result → SomeRun given
-        → ((stream : List (List Tagged)) → StreamFits (world d) stream → RefusalsAreSites sites (labelled_run d.program stream)) → NetStandsFor d tag sites result
-    stands_alike named alike some at_sites = record {
+    pub stands_alike : HelpersNamed result → RunsAlike given result → SomeRun given → NetStandsFor d tag sites result
+    stands_alike named alike some = record {
       interface = has_interface named;
       takes = takes;
       stands = λ stream fit ws run. (let xss = coded_stream d.code stream in
           let fits = from.takes stream fit in
           let one = some xss fits in
-          cycles_stand one.0 ws (labelled_run d.program stream) (alike xss one.0 ws fits one.1 run) (at_sites stream fit) (from.stands stream fit one.0 one.1));
+          cycles_stand one.0 ws (labelled_run d.program stream) (alike xss one.0 ws fits one.1 run) (from.stands stream fit one.0 one.1));
     }

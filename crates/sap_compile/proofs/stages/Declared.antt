@@ -14,9 +14,9 @@ use Rattle.sap_net.specs.declared.parts.Port.{Port}
 use Rattle.sap_net.specs.declared.parts.Wire.{Wire}
 use Rattle.sap_net.specs.declared.parts.Register.{Register}
 use Rattle.sap_net.specs.declared.parts.Memory.{Memory}
-use Rattle.sap_interface.specs.Interface.{Shown, HasWire, HasRegister, HasMemory}
+use Rattle.sap_interface.specs.Interface.{Shown}
 use Rattle.sap_tagged.proofs.Members.{In}
-use Rattle.sap_compile.proofs.stages.Found.{Shape, Stored, memory_stored}
+use Rattle.sap_compile.proofs.stages.Found.{Shape, Stored, memory_stored, wire_widths}
 
 -- the width and the start of a register, under its name
 abbrev pub Kept : Type 0
@@ -43,35 +43,7 @@ of_wire_name P [] a n h = absurd (cc)
 of_wire_name P (w ∷ ws) a n h =
     elim (cases_Bool (bytes_eq n w.name)) [ inl t ↦ subst P (sym (equal_of_bytes_eq n w.name t)) a.0 | inr f ↦ of_wire_name P ws a.1 n (rw f at h) ]
 
-pub of_register : (P : Name → Type 0) (rs : List Register) (n : Name) (u : ℕ) → AllByRecursion (λ r. P r.name) rs → HasRegister rs n u → P n
-of_register P [] n u a h = absurd h
-of_register P (r ∷ rs) n u a (inl e) = subst P e.0 a.0
-of_register P (r ∷ rs) n u a (inr h) = of_register P rs n u a.1 h
-
-pub of_memory : (P : Name → Type 0) (ms : List Memory) (n : Name) (u k : ℕ) → AllByRecursion (λ m. P m.name) ms → HasMemory ms n u k → P n
-of_memory P [] n u k a h = absurd h
-of_memory P (m ∷ ms) n u k a (inl e) = subst P e.0 a.0
-of_memory P (m ∷ ms) n u k a (inr h) = of_memory P ms n u k a.1 h
-
 -- registers and memories
-
-pub register_alike : (rs qs : List Register) (n : Name) (u : ℕ) → map register_kept qs ≡ map register_kept rs → HasRegister rs n u → HasRegister qs n u
-register_alike [] qs n u e h = absurd h
-register_alike (r ∷ rs) [] n u e h = cc
-register_alike (r ∷ rs) (q ∷ qs) n u e (inl h) =
-    let f : register_kept q ≡ register_kept r = cc in
-    inl (ap (λ (p : Kept). p.0) f ∙ h.0, ap (λ (p : Kept). p.1.0) f ∙ h.1)
-register_alike (r ∷ rs) (q ∷ qs) n u e (inr h) =
-    let f : map register_kept qs ≡ map register_kept rs = cc in inr (register_alike rs qs n u f h)
-
-pub memory_alike : (ms ks : List Memory) (n : Name) (u k : ℕ) → map memory_stored ks ≡ map memory_stored ms → HasMemory ms n u k → HasMemory ks n u k
-memory_alike [] ks n u k e h = absurd h
-memory_alike (m ∷ ms) [] n u k e h = cc
-memory_alike (m ∷ ms) (j ∷ ks) n u k e (inl h) =
-    let f : memory_stored j ≡ memory_stored m = cc in
-    inl (ap (λ (q : Stored). q.0) f ∙ h.0, ap (λ (q : Stored). q.1.0) f ∙ h.1, ap (λ (q : Stored). q.1.1.0) f ∙ h.2)
-memory_alike (m ∷ ms) (j ∷ ks) n u k e (inr h) =
-    let f : map memory_stored ks ≡ map memory_stored ms = cc in inr (memory_alike ms ks n u k f h)
 
 registers_named : (rs : List Register) → map (λ (q : Kept). q.0) (map register_kept rs) ≡ map (λ (r : Register). r.name) rs
 registers_named [] = refl
@@ -89,16 +61,13 @@ same_memories ms ks e = sym (memories_named ks) ∙ ap (λ (qs : List Stored). m
 
 -- wires
 
-pub wire_read : (shapes : Shapes) (ws : List Wire) (sc : Scope) → AreWires shapes sc ws → (n : Name) (u : ℕ) → HasWire ws n u → find (readable_after sc ws) n ≡ Some u
-wire_read shapes [] sc a n u h = absurd h
-wire_read shapes (w ∷ ws) sc a n u (inl e) =
-    readable_kept shapes ws ((w.name, w.width) ∷ sc) a.4 n u
-    (subst (λ (m : Name). find ((w.name, w.width) ∷ sc) m ≡ Some u) e.0 (found_here w.name w.width sc ∙ ap (λ (k : ℕ). Some k) e.1))
-wire_read shapes (w ∷ ws) sc a n u (inr h) = wire_read shapes ws ((w.name, w.width) ∷ sc) a.4 n u h
-
-pub some_wire : (ws : List Wire) (n : Name) → is_among n (map (λ w. w.name) ws) ≡ true → (u : ℕ) × HasWire ws n u
-some_wire [] n h = absurd (cc)
-some_wire (w ∷ ws) n h = elim (cases_Bool (bytes_eq n w.name)) [
-  | inl t ↦ (w.width, inl (sym (equal_of_bytes_eq n w.name t), refl))
-  | inr f ↦ (let r = some_wire ws n (rw f at h) in (r.0, inr r.1))
+pub wire_read : (shapes : Shapes) (ws : List Wire) (sc : Scope) → AreWires shapes sc ws → (n : Name) (u : ℕ) → find (wire_widths ws) n ≡ Some u → find (readable_after sc ws) n ≡ Some u
+wire_read shapes [] sc a n u h = absurd (cc)
+wire_read shapes (w ∷ ws) sc a n u h = elim (cases_Bool (bytes_eq w.name n)) [
+  | inl t ↦ (
+      let e : Some w.width ≡ Some u = rw t at h in
+      readable_kept shapes ws ((w.name, w.width) ∷ sc) a.4 n u
+      (subst (λ (m : Name). find ((w.name, w.width) ∷ sc) m ≡ Some u) (equal_of_bytes_eq w.name n t) (found_here w.name w.width sc ∙ e))
+      )
+  | inr f ↦ wire_read shapes ws ((w.name, w.width) ∷ sc) a.4 n u (rw f at h)
 ]

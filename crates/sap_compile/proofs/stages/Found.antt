@@ -1,23 +1,21 @@
 -- What is declared under a name, from one program to the next.
-use Rattle.std.proofs.Common.{◌≡◌, ℕ, List, [], ◌∷◌, ◌++◌, map, filter, Bool, true, false, Option, Some, None, inl, inr, refl, sym, ap, ◌∙◌, subst, if◌then◌else◌, bytes_eq}
+use Rattle.std.proofs.Common.{◌≡◌, ℕ, List, [], ◌∷◌, ◌++◌, map, filter, true, Some, inl, inr, refl, sym, ap, subst, bytes_eq}
+use Rattle.std.specs.Prelude.{option_map}
 use Rattle.std.specs.List.{AllByRecursion}
 use Rattle.std.proofs.lemmas.Bool.{cases_Bool}
-use Rattle.sap_lemmas.proofs.Texts.{bytes_eq_same, equal_of_bytes_eq}
-use Rattle.sap_net.proofs.NamesLemmas.{apart_by_membership}
+use Rattle.sap_lemmas.proofs.Texts.{equal_of_bytes_eq}
 use Rattle.sap_maps.specs.Maps.{Name}
-use Rattle.sap_maps.specs.Scope.{find}
-use Rattle.sap_net.specs.Names.{is_among, AreDistinct}
+use Rattle.sap_maps.specs.Scope.{Scope, find}
+use Rattle.sap_net.specs.Names.{is_among}
+use Rattle.sap_net.specs.Rules.{Shapes}
 use Rattle.sap_net.specs.Runs.{AllFit, InputsFit}
 use Rattle.sap_net.specs.declared.parts.Input.{Input}
 use Rattle.sap_net.specs.declared.parts.Wire.{Wire}
-use Rattle.sap_net.specs.declared.parts.Register.{Register}
 use Rattle.sap_net.specs.declared.parts.Memory.{Memory}
 use Rattle.sap_ir.specs.declared.guarded.Var.{Var}
-use Rattle.sap_ir.specs.declared.guarded.Store.{Store}
-use Rattle.sap_ir.specs.IsGuarded.{variable_names}
+use Rattle.sap_ir.specs.declared.guarded.MemoryVariable.{MemoryVariable}
 use Rattle.sap_ir.specs.Writes.{NumbersFit}
-use Rattle.sap_interface.specs.Interface.{HasInput, HasWire, HasRegister, HasMemory}
-use Rattle.sap_tagged.specs.Law.{HasVariable, HasStore, AllNumbersFit}
+use Rattle.sap_tagged.specs.Law.{AllNumbersFit}
 
 abbrev pub as_input : Var → Input
 as_input x = record { name = x.name; width = x.width }
@@ -33,104 +31,73 @@ Stored = Name × (ℕ × (ℕ × ℕ))
 abbrev pub memory_stored : Memory → Stored
 memory_stored m = (m.name, (m.width, (m.depth, m.start)))
 
-abbrev pub store_stored : Store → Stored
+abbrev pub store_stored : MemoryVariable → Stored
 store_stored m = (m.name, (m.width, (m.depth, m.start)))
 
-pub has_front : (xs ys : List Var) (n : Name) (u : ℕ) → HasVariable xs n u → HasVariable (xs ++ ys) n u
-has_front [] ys n u h = absurd h
-has_front (x ∷ xs) ys n u (inl e) = inl e
-has_front (x ∷ xs) ys n u (inr h) = inr (has_front xs ys n u h)
+abbrev pub variable_widths : List Var → Scope
+variable_widths xs = map (λ x. (x.name, x.width)) xs
 
-pub input_there : (xs : List Var) (n : Name) (u : ℕ) → HasVariable xs n u → HasInput (map as_input xs) n u
-input_there [] n u h = absurd h
-input_there (x ∷ xs) n u (inl e) = inl e
-input_there (x ∷ xs) n u (inr h) = inr (input_there xs n u h)
+abbrev pub wire_widths : List Wire → Scope
+wire_widths ws = map (λ w. (w.name, w.width)) ws
+
+-- what holds of all, of what is found
+pub at_found : {X Y : Type 0} (P : Name → X → Type 0) (name : Y → Name) (of : Y → X) (ys : List Y) → AllByRecursion (λ y. P (name y) (of y)) ys
+    → (n : Name) (x : X) → find (map (λ y. (name y, of y)) ys) n ≡ Some x → P n x
+at_found P name of [] a n x h = absurd (cc)
+at_found {X} P name of (y ∷ ys) a n x h = elim (cases_Bool (bytes_eq (name y) n)) [
+  | inl t ↦ (
+      let e : Some (of y) ≡ Some x = rw t at h in
+      let i : of y ≡ x = cc in
+      subst (λ (m : Name). P m x) (equal_of_bytes_eq (name y) n t) (subst (λ (z : X). P (name y) z) i a.0)
+      )
+  | inr f ↦ at_found P name of ys a.1 n x (rw f at h)
+]
+
+-- inputs
+
+pub inputs_declared : (xs : List Var) → map {B = Name × ℕ} (λ i. (i.name, i.width)) (map as_input xs) ≡ variable_widths xs
+inputs_declared [] = refl
+inputs_declared (x ∷ xs) = ap (λ (sc : Scope). (x.name, x.width) ∷ sc) (inputs_declared xs)
 
 -- wires
 
-pub wire_there : (ws : List Wire) (n : Name) (u : ℕ) → find {X = ℕ} (map (λ w. (w.name, w.width)) ws) n ≡ Some u → HasWire ws n u
-wire_there [] n u f = cc
-wire_there (w ∷ ws) n u f = elim (cases_Bool (bytes_eq w.name n)) [
-  | inl t ↦ (let e : Some w.width ≡ Some u = rw t at f in let i : w.width ≡ u = cc in inl (equal_of_bytes_eq w.name n t, i))
-  | inr t ↦ inr (wire_there ws n u (rw t at f))
-]
-
-pub wire_found : (ws : List Wire) (xs : List Var) (n : Name) (u : ℕ) → AllByRecursion (λ x. find {X = ℕ} (map (λ w. (w.name, w.width)) ws) x.name ≡ Some x.width) xs
-    → HasVariable xs n u → find {X = ℕ} (map (λ w. (w.name, w.width)) ws) n ≡ Some u
-wire_found ws [] n u a h = absurd h
-wire_found ws (x ∷ xs) n u a (inl e) =
-    sym (ap (λ (m : Name). find {X = ℕ} (map (λ w. (w.name, w.width)) ws) m) e.0) ∙ a.0 ∙ ap (λ (k : ℕ). Some k) e.1
-wire_found ws (x ∷ xs) n u a (inr h) = wire_found ws xs n u a.1 h
+pub found_front : (xs ys : List Var) (n : Name) (u : ℕ) → find (variable_widths xs) n ≡ Some u → find (variable_widths (xs ++ ys)) n ≡ Some u
+found_front [] ys n u h = absurd (cc)
+found_front (x ∷ xs) ys n u h = elim (cases_Bool (bytes_eq x.name n)) [ inl t ↦ rw t (rw t at h) | inr f ↦ rw f (found_front xs ys n u (rw f at h)) ]
 
 -- a variable that is a port
-pub listed_variable : (ps : List Name) (xs : List Var) (n : Name) (u : ℕ) → HasVariable xs n u → is_among n ps ≡ true → HasVariable (filter (λ x. is_among x.name ps) xs) n u
-listed_variable ps [] n u h p = absurd h
-listed_variable ps (x ∷ xs) n u (inl e) p =
-    let t : is_among x.name ps ≡ true = subst (λ (m : Name). is_among m ps ≡ true) (sym e.0) p in rw t (inl e)
-listed_variable ps (x ∷ xs) n u (inr h) p =
-    elim (cases_Bool (is_among x.name ps)) [
-      | inl t ↦ rw t (inr (listed_variable ps xs n u h p))
-      | inr f ↦ rw f (listed_variable ps xs n u h p)
-    ]
-
--- registers
-
-pub register_there : (rs : List Register) (n : Name) (u k : ℕ) → find {X = Shape} (map (λ r. (r.name, (r.width, r.start))) rs) n ≡ Some (u, k) → HasRegister rs n u
-register_there [] n u k f = cc
-register_there (r ∷ rs) n u k f = elim (cases_Bool (bytes_eq r.name n)) [
-  | inl t ↦ inl (equal_of_bytes_eq r.name n t, width_is (r.width, r.start) (u, k) (rw t at f))
-  | inr t ↦ inr (register_there rs n u k (rw t at f))
+pub listed_variable : (ps : List Name) (xs : List Var) (n : Name) (u : ℕ) → find (variable_widths xs) n ≡ Some u → is_among n ps ≡ true
+    → find (variable_widths (filter (λ x. is_among x.name ps) xs)) n ≡ Some u
+listed_variable ps [] n u h p = absurd (cc)
+listed_variable ps (x ∷ xs) n u h p = elim (cases_Bool (bytes_eq x.name n)) [
+  | inl t ↦ (
+      let l : is_among x.name ps ≡ true = subst (λ (m : Name). is_among m ps ≡ true) (sym (equal_of_bytes_eq x.name n t)) p in
+      rw (l, t) (rw t at h)
+      )
+  | inr f ↦ (
+      let r = listed_variable ps xs n u (rw f at h) p in
+      elim (cases_Bool (is_among x.name ps)) [ inl l ↦ rw (l, f) r | inr l ↦ rw l r ]
+      )
 ]
-  where
-    first : Option Shape → ℕ
-    first None = 0
-    first (Some p) = p.0
 
-    width_is : (p q : Shape) → Some p ≡ Some q → p.0 ≡ q.0
-    width_is p q e = ap first e
+-- registers and memories
 
-among_variables : (xs : List Var) (n : Name) (u : ℕ) → HasVariable xs n u → is_among n (variable_names xs) ≡ true
-among_variables [] n u h = absurd h
-among_variables (x ∷ xs) n u (inl e) = subst (λ (m : Name). is_among m (x.name ∷ variable_names xs) ≡ true) e.0 (rw (bytes_eq_same x.name) refl)
-among_variables (x ∷ xs) n u (inr h) = elim (cases_Bool (bytes_eq n x.name)) [ inl t ↦ rw t refl | inr t ↦ rw t (among_variables xs n u h) ]
+pub width_found : {Y : Type 0} (name : Y → Name) (width start : Y → ℕ) (ys : List Y) (n : Name)
+    → find {X = ℕ} (map (λ y. (name y, width y)) ys) n ≡ option_map (λ (q : Shape). q.0) (find {X = Shape} (map (λ y. (name y, (width y, start y))) ys) n)
+width_found name width start [] n = refl
+width_found name width start (y ∷ ys) n = elim (cases_Bool (bytes_eq (name y) n)) [ inl t ↦ rw t refl | inr f ↦ rw f (width_found name width start ys n) ]
 
--- its start
-pub variable_found : (xs : List Var) (n : Name) (u : ℕ) → AreDistinct (variable_names xs) → HasVariable xs n u
-    → (k : ℕ) × (find {X = Shape} (map (λ x. (x.name, (x.width, x.start))) xs) n ≡ Some (u, k))
-variable_found [] n u d h = absurd h
-variable_found (x ∷ xs) n u d (inl e) = (x.start, found (bytes_eq x.name n) (subst (λ (m : Name). bytes_eq x.name m ≡ true) e.0 (bytes_eq_same x.name)))
-  where
-    found : (q : Bool) → q ≡ true → (if q then Some (x.width, x.start) else find {X = Shape} (map (λ y. (y.name, (y.width, y.start))) xs) n) ≡ Some (u, x.start)
-    found true t = ap (λ (k : ℕ). Some (k, x.start)) e.1
-    found false t = cc
-variable_found (x ∷ xs) n u d (inr h) =
-    let o : bytes_eq x.name n ≡ false = apart_by_membership x.name n (variable_names xs) d.0 (among_variables xs n u h) in
-    let r = variable_found xs n u d.1 h in
-    (r.0, ap (λ (q : Bool). if q then Some (x.width, x.start) else find {X = Shape} (map (λ y. (y.name, (y.width, y.start))) xs) n) o ∙ r.1)
+-- without its start
+abbrev pub shape_of : Stored → Name × (ℕ × ℕ)
+shape_of q = (q.0, (q.1.0, q.1.1.0))
 
--- memories
+pub memory_shapes : (ms : List Memory) → map shape_of (map memory_stored ms) ≡ map (λ m. (m.name, (m.width, m.depth))) ms
+memory_shapes [] = refl
+memory_shapes (m ∷ ms) = ap (λ (qs : Shapes). (m.name, (m.width, m.depth)) ∷ qs) (memory_shapes ms)
 
-pub memory_there : (ms : List Memory) (ss : List Store) (n : Name) (u k : ℕ) → map memory_stored ms ≡ map store_stored ss → HasStore ss n u k → HasMemory ms n u k
-memory_there ms [] n u k e h = absurd h
-memory_there [] (s ∷ ss) n u k e h = cc
-memory_there (m ∷ ms) (s ∷ ss) n u k e (inl h) =
-    let f : memory_stored m ≡ store_stored s = cc in
-    inl (ap (λ (q : Stored). q.0) f ∙ h.0, ap (λ (q : Stored). q.1.0) f ∙ h.1, ap (λ (q : Stored). q.1.1.0) f ∙ h.2)
-memory_there (m ∷ ms) (s ∷ ss) n u k e (inr h) =
-    let f : map memory_stored ms ≡ map store_stored ss = cc in inr (memory_there ms ss n u k f h)
-
--- the same number under a name, and in the cells under one
-
-pub same_at : (f g : Name → ℕ) (xs : List Var) (n : Name) (u : ℕ) → AllByRecursion (λ x. f x.name ≡ g x.name) xs → HasVariable xs n u → f n ≡ g n
-same_at f g [] n u a h = absurd h
-same_at f g (x ∷ xs) n u a (inl e) = subst (λ (m : Name). f m ≡ g m) e.0 a.0
-same_at f g (x ∷ xs) n u a (inr h) = same_at f g xs n u a.1 h
-
-pub same_cells : (f g : Name → ℕ → ℕ) (ms : List Store) (n : Name) (u k : ℕ) → AllByRecursion (λ m. (i : ℕ) → f m.name i ≡ g m.name i) ms → HasStore ms n u k
-    → (i : ℕ) → f n i ≡ g n i
-same_cells f g [] n u k a h = absurd h
-same_cells f g (m ∷ ms) n u k a (inl e) = subst (λ (x : Name). (i : ℕ) → f x i ≡ g x i) e.0 a.0
-same_cells f g (m ∷ ms) n u k a (inr h) = same_cells f g ms n u k a.1 h
+pub store_shapes : (ms : List MemoryVariable) → map shape_of (map store_stored ms) ≡ map (λ m. (m.name, (m.width, m.depth))) ms
+store_shapes [] = refl
+store_shapes (m ∷ ms) = ap (λ (qs : Shapes). (m.name, (m.width, m.depth)) ∷ qs) (store_shapes ms)
 
 -- numbers that fit
 

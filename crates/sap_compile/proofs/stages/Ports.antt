@@ -10,9 +10,9 @@ use Rattle.sap_net.specs.Names.{is_among}
 use Rattle.sap_net.specs.declared.parts.PortKind.{PortKind}
 use Rattle.sap_net.specs.declared.parts.PortKind.TheVariants as kind
 use Rattle.sap_ir.specs.declared.guarded.Var.{Var}
-use Rattle.sap_ir.specs.declared.guarded.Store.{Store}
+use Rattle.sap_ir.specs.declared.guarded.MemoryVariable.{MemoryVariable}
 use Rattle.sap_ir.specs.IsGuarded.{variable_names, memory_names}
-use Rattle.sap_interface.specs.PortNames.{refused_name, level_name}
+use Rattle.sap_net.specs.PortNames.{refused_name, refused_level_name}
 use Rattle.sap_interface.specs.StandsFor.{Named, world}
 use Rattle.sap_interface.specs.Interface.{Shown, pairs_of, site_ports, ports_of}
 use Rattle.sap_interface.specs.InterfaceNames.{holds_numbers, IsInterfaceName, value_of, tag_of, refusal_of, level_of}
@@ -29,7 +29,7 @@ variable_among P [] a n h = absurd (cc)
 variable_among P (x ∷ xs) a n h =
     elim (cases_Bool (bytes_eq n x.name)) [ inl t ↦ subst P (sym (equal_of_bytes_eq n x.name t)) a.0 | inr f ↦ variable_among P xs a.1 n (rw f at h) ]
 
-pub store_among : (P : Name → Type 0) (ms : List Store) → AllByRecursion (λ m. P m.name) ms → (n : Name) → is_among n (memory_names ms) ≡ true → P n
+pub store_among : (P : Name → Type 0) (ms : List MemoryVariable) → AllByRecursion (λ m. P m.name) ms → (n : Name) → is_among n (memory_names ms) ≡ true → P n
 store_among P [] a n h = absurd (cc)
 store_among P (m ∷ ms) a n h =
     elim (cases_Bool (bytes_eq n m.name)) [ inl t ↦ subst P (sym (equal_of_bytes_eq n m.name t)) a.0 | inr f ↦ store_among P ms a.1 n (rw f at h) ]
@@ -43,10 +43,10 @@ refused_there j k (suc n) l m = elim (reached k j l) [
   | inr e ↦ inr (inr (refused_there j (k + 1) n e (omega arith)))
 ]
 
-level_there : (j k n : ℕ) → k ≤ j → j < k + n → In (site_ports k n) (level_name j, kind.Wire)
+level_there : (j k n : ℕ) → k ≤ j → j < k + n → In (site_ports k n) (refused_level_name j, kind.Wire)
 level_there j k zero l m = absurd (omega arith)
 level_there j k (suc n) l m = elim (reached k j l) [
-  | inl e ↦ inr (inl (ap (λ (i : ℕ). let r : Shown = (level_name i, kind.Wire) in r) e))
+  | inl e ↦ inr (inl (ap (λ (i : ℕ). let r : Shown = (refused_level_name i, kind.Wire) in r) e))
   | inr e ↦ inr (inr (level_there j (k + 1) n e (omega arith)))
 ]
 
@@ -60,7 +60,7 @@ module _ (d : Named) (sites : ℕ) where
   pub refused_port : (k : ℕ) → 1 ≤ k → k ≤ sites → In (ports_of d sites) (refused_name k, kind.Wire)
   refused_port k i j = in_sites _ (refused_there k 1 sites i (omega (arith, j)))
 
-  pub level_port : (k : ℕ) → 1 ≤ k → k ≤ sites → In (ports_of d sites) (level_name k, kind.Wire)
+  pub level_port : (k : ℕ) → 1 ≤ k → k ≤ sites → In (ports_of d sites) (refused_level_name k, kind.Wire)
   level_port k i j = in_sites _ (level_there k 1 sites i (omega (arith, j)))
 
   -- each port has a name of the interface

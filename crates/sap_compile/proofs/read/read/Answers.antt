@@ -22,7 +22,7 @@ pub returns-in-Ok-clause-exact : goal.returns-in-Ok-clause-exact
 returns-in-Ok-clause-exact c = λ fault is.
     absurd (no_fault c.one_lattice.ensures c.one_reading.ensures.one_design c.one_reading.ensures.not_both c.args.lattice.now c.args.design.now
     c.in_ok-levels.levels (design_of c.in_ok-tree.tree) c.in_ok-levels.ensures.accepted c.in_ok-tree.ensures.design c.in-Ok.ensures.well_formed
-    (λ f n first. no_err c.in_ok-levels.levels f (c.in_ok-levels.ensures.exact f n first)) fault is)
+    (λ f first. no_err c.in_ok-levels.levels f (c.in_ok-levels.ensures.exact f first)) fault is)
 
 pub returns-clause-refused : goal.returns-clause-refused
 returns-clause-refused c =

@@ -2,7 +2,7 @@ use Rattle.std.proofs.Common.{◌≡◌, ◌+◌, ◌-◌, ◌∷◌, List, drop
 use Rattle.sap_net.specs.declared.parts.Operand.{Operand}
 use Rattle.sap_fold.specs.Slices.{HaveWidth}
 use Rattle.sap_fold.proofs.Slicing.{drop_less, spot_at, width_more}
-use Rattle.sap_fold.proofs.slices.find_spot.Goals as goal
+use Rattle.sap_fold.proofs.slices.find_part.Goals as goal
 
 pub returns-then-hi-behind : goal.returns-then-hi-behind
 returns-then-hi-behind c =

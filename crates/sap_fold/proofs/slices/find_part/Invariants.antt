@@ -1,6 +1,6 @@
 use Rattle.std.proofs.Common.{◌≤◌, ◌<◌, drop, length}
 use Rattle.sap_fold.specs.Slices.{HaveWidth}
-use Rattle.sap_fold.proofs.slices.find_spot.Given as goal
+use Rattle.sap_fold.proofs.slices.find_part.Given as goal
 
 abbrev pub invariant-loop-part : goal.invariant-loop-part
 invariant-loop-part l = record {
