@@ -7,10 +7,10 @@ use Rattle.std.specs.Prelude.{Option, Some, None, if◌then◌else◌, ◌||◌,
 use Rattle.std.specs.Option.{option_or}
 use Rattle.std.specs.Str.{bytes_eq}
 use Rattle.sap_lemmas.proofs.Bools.{or_false}
-use Rattle.sap_modtext.specs.Items.{Port, Item, File}
-use Rattle.sap_modtext.specs.Items as item
-use Rattle.sap_modtext.specs.Faults.{Shape, Setting, Declaration, port_declaration, item_declarations, declarations, shape_in, Above, shape_above, is_set, is_target, target_of, is_integer, has_integer}
-use Rattle.sap_vjudge.specs.Known.{Known, nothing_known, after_port, after_item, after_ports, after_items, known_above}
+use Rattle.sap_vtext.specs.Items.{Port, Item, File}
+use Rattle.sap_vtext.specs.Items as item
+use Rattle.sap_vtext.specs.Names.{Shape, Setting, Declaration, port_declaration, item_declarations, declarations, shape_in, Above, shape_above, is_set, is_target, target_of, is_integer, has_integer, Known, known_above}
+use Rattle.sap_vjudge.specs.Known.{nothing_known, after_port, after_item, after_ports, after_items}
 use Rattle.sap_vjudge.specs.Listed.{known_at_end}
 use Rattle.sap_vjudge.proofs.Tabled.{alike, option_or-none}
 

@@ -5,39 +5,32 @@ use Rattle.std.proofs.lemmas.List.{append-nil, map-append}
 use Rattle.std.specs.Prelude.{Option, Some, None, is_some, IsSome, ◌||◌, ◌&&◌, ◌==◌, not, nat_lt, nat_le, map, flat_map}
 use Rattle.std.specs.List.{list_any}
 use Rattle.std.proofs.lemmas.Bool.{and_from, lt-ltb, not_from_false, or_left, or_right}
-use Rattle.sap_modtext.specs.Items.{Mention, Number, Constant, Operand, Right, Port, Item, File}
-use Rattle.sap_modtext.specs.Items as item
-use Rattle.sap_modtext.specs.Faults.{V3, V4, V5, V6, V7, Shape, wire, memory, shape_width, Setting, assign, initial, always, Declaration, port_declaration, item_declarations, declarations, shape_in, Above, shape_above, is_set, has_integer, IsItemOf, Target, target_of, is_settable, needs, Manner, as_value, Use, uses, suits, ranges, constants, constant_fits, indexes, operand_place, Differ, Among, HasIndex}
-use Rattle.sap_modtext.specs.Faults as faults
+use Rattle.sap_vtext.specs.Items.{Mention, Number, Constant, Operand, Right, Port, Item, File}
+use Rattle.sap_vtext.specs.Items as item
+use Rattle.sap_vtext.specs.Names.{Shape, wire, Setting, assign, initial, always, Declaration, port_declaration, item_declarations, declarations, shape_in, Above, shape_above, is_set, has_integer, IsItemOf, Target, target_of, Known, known_above}
+use Rattle.sap_vtext.specs.Widths.{shape_width, constant_fits, operand_width, parts_width, pairs}
+use Rattle.sap_vtext.specs.Faults.{V3, V4, V5, V6, V7, is_settable, needs, Manner, as_value, Use, uses, suits, ranges, constants, indexes, operand_place, HasIndex}
+use Rattle.sap_vtext.specs.Faults as faults
 use Rattle.sap_text.specs.Best.{StandsIn}
 use Rattle.sap_vjudge.specs.declared.code.Code.{Code}
 use Rattle.sap_vjudge.specs.declared.code.Code.TheVariants as code
 use Rattle.sap_vjudge.specs.Best.{Fault, fault_if}
 use Rattle.sap_vjudge.specs.FirstFault.{Stands}
-use Rattle.sap_vjudge.specs.Known.{Known, nothing_known, after_ports, known_above}
-use Rattle.sap_vjudge.specs.Listed.{twice_faults, declarations_faults, target_faults, integer_faults, is_unassigned, shape_faults, use_faults, uses_faults, range_faults, ranges_faults, constant_faults, constants_faults, operand_width, parts_width, pairs, differ, item_too_wide, item_differs, at_target, target_width_faults, past_shape, slice_faults, widths_faults, is_depth, depth_faults, bound_faults, is_other, depth_index, index_faults, indexes_faults, declared_faults, sized_faults, memory_faults, item_faults, port_faults, ports_faults, items_faults, lacks, unset_faults, unsets_faults, ports_unset, items_unset, known_at_end, file_faults}
+use Rattle.sap_vjudge.specs.Known.{nothing_known, after_ports}
+use Rattle.sap_vjudge.specs.Listed.{twice_faults, declarations_faults, target_faults, integer_faults, is_unassigned, shape_faults, use_faults, uses_faults, range_faults, ranges_faults, constant_faults, constants_faults, differ, item_too_wide, item_differs, at_target, target_width_faults, past_shape, slice_faults, widths_faults, is_depth, depth_faults, bound_faults, is_other, depth_index, index_faults, indexes_faults, declared_faults, sized_faults, memory_faults, item_faults, port_faults, ports_faults, items_faults, lacks, unset_faults, unsets_faults, ports_unset, items_unset, known_at_end, file_faults}
 use Rattle.sap_vjudge.specs.Listed as listed
 use Rattle.sap_vjudge.proofs.Above.{under_item, ports_only, after_item_above, after_port_next, after_ports_above, nothing_is, at_end, item_declared}
 use Rattle.sap_vjudge.proofs.Powers.{is_depth-HasIndex, is_other-from}
-use Rattle.sap_vjudge.proofs.WidthLemmas.{operand_width-above, parts_width-above, pairs-above, some-differs, some-too_wide}
-use Rattle.sap_modtext.proofs.NameLists.{among_cases}
+use Rattle.sap_vjudge.proofs.WidthLemmas.{some-differs, some-too_wide}
+use Rattle.sap_vtext.proofs.NameLists.{among_left, among_right, among_cases}
 
 abbrev pub at_place : Code → ℕ → Fault
 at_place c place = record { code = c; place = place }
 
-in_left : (a : Fault) (fs gs : List Fault) → StandsIn a fs → StandsIn a (fs ++ gs)
-in_left a [] gs h = absurd h
-in_left a (f ∷ fs) gs (inl e) = inl e
-in_left a (f ∷ fs) gs (inr h) = inr (in_left a fs gs h)
-
-in_right : (a : Fault) (fs gs : List Fault) → StandsIn a gs → StandsIn a (fs ++ gs)
-in_right a [] gs h = h
-in_right a (f ∷ fs) gs h = inr (in_right a fs gs h)
-
-in_flat_map : {A : Type 0} (a : Fault) (f : A → List Fault) (x : A) (xs : List A) → Among x xs → StandsIn a (f x) → StandsIn a (flat_map f xs)
+in_flat_map : {A : Type 0} (a : Fault) (f : A → List Fault) (x : A) (xs : List A) → StandsIn x xs → StandsIn a (f x) → StandsIn a (flat_map f xs)
 in_flat_map a f x [] h k = absurd h
-in_flat_map a f x (y ∷ ys) (inl e) k = in_left a (f y) (flat_map f ys) (subst (λ z. StandsIn a (f z)) e k)
-in_flat_map a f x (y ∷ ys) (inr h) k = in_right a (f y) (flat_map f ys) (in_flat_map a f x ys h k)
+in_flat_map a f x (y ∷ ys) (inl e) k = among_left a (f y) (flat_map f ys) (subst (λ z. StandsIn a (f z)) e k)
+in_flat_map a f x (y ∷ ys) (inr h) k = among_right a (f y) (flat_map f ys) (in_flat_map a f x ys h k)
 
 noted : (test : Bool) (c : Code) (place : ℕ) → test ≡ true → StandsIn (at_place c place) (fault_if test c place)
 noted true c place h = inl refl
@@ -51,59 +44,59 @@ apart m n h = grind (arith, common_steps)
 module _ (a : Fault) (k : Known) (x : Item) where
   in_declared : StandsIn a (declared_faults k x) → StandsIn a (item_faults k x)
   unfolding item_faults
-  in_declared h = in_left a (declared_faults k x) _ h
+  in_declared h = among_left a (declared_faults k x) _ h
 
   in_used : StandsIn a (uses_faults k (uses x)) → StandsIn a (item_faults k x)
   unfolding item_faults
-  in_used h = in_right a (declared_faults k x) _ (in_left a (uses_faults k (uses x)) _ h)
+  in_used h = among_right a (declared_faults k x) _ (among_left a (uses_faults k (uses x)) _ h)
 
   in_sized : StandsIn a (sized_faults k x) → StandsIn a (item_faults k x)
   unfolding item_faults
-  in_sized h = in_right a (declared_faults k x) _ (in_right a (uses_faults k (uses x)) _ (in_left a (sized_faults k x) _ h))
+  in_sized h = among_right a (declared_faults k x) _ (among_right a (uses_faults k (uses x)) _ (among_left a (sized_faults k x) _ h))
 
   in_memory : StandsIn a (memory_faults k x) → StandsIn a (item_faults k x)
   unfolding item_faults
-  in_memory h = in_right a (declared_faults k x) _ (in_right a (uses_faults k (uses x)) _ (in_right a (sized_faults k x) _ h))
+  in_memory h = among_right a (declared_faults k x) _ (among_right a (uses_faults k (uses x)) _ (among_right a (sized_faults k x) _ h))
 
-  in_declarations : (d : Declaration) → Among d (item_declarations x) → StandsIn a (twice_faults k d) → StandsIn a (item_faults k x)
+  in_declarations : (d : Declaration) → StandsIn d (item_declarations x) → StandsIn a (twice_faults k d) → StandsIn a (item_faults k x)
   unfolding declarations_faults
-  in_declarations d among h = in_declared (in_left a (declarations_faults k (item_declarations x)) _ (in_flat_map a (twice_faults k) d (item_declarations x) among h))
+  in_declarations d among h = in_declared (among_left a (declarations_faults k (item_declarations x)) _ (in_flat_map a (twice_faults k) d (item_declarations x) among h))
 
   in_target : StandsIn a (target_faults k (target_of x)) → StandsIn a (item_faults k x)
-  in_target h = in_declared (in_right a (declarations_faults k (item_declarations x)) _ (in_left a (target_faults k (target_of x)) _ h))
+  in_target h = in_declared (among_right a (declarations_faults k (item_declarations x)) _ (among_left a (target_faults k (target_of x)) _ h))
 
   in_integer : StandsIn a (integer_faults k x) → StandsIn a (item_faults k x)
-  in_integer h = in_declared (in_right a (declarations_faults k (item_declarations x)) _ (in_right a (target_faults k (target_of x)) _ h))
+  in_integer h = in_declared (among_right a (declarations_faults k (item_declarations x)) _ (among_right a (target_faults k (target_of x)) _ h))
 
-  in_uses : (u : Use) → Among u (uses x) → StandsIn a (use_faults k u) → StandsIn a (item_faults k x)
+  in_uses : (u : Use) → StandsIn u (uses x) → StandsIn a (use_faults k u) → StandsIn a (item_faults k x)
   unfolding uses_faults
   in_uses u among h = in_used (in_flat_map a (use_faults k) u (uses x) among h)
 
-  in_ranges : (n : Number) → Among n (ranges x) → StandsIn a (range_faults n) → StandsIn a (item_faults k x)
+  in_ranges : (n : Number) → StandsIn n (ranges x) → StandsIn a (range_faults n) → StandsIn a (item_faults k x)
   unfolding ranges_faults
-  in_ranges n among h = in_sized (in_left a (ranges_faults (ranges x)) _ (in_flat_map a range_faults n (ranges x) among h))
+  in_ranges n among h = in_sized (among_left a (ranges_faults (ranges x)) _ (in_flat_map a range_faults n (ranges x) among h))
 
-  in_constants : (c : Constant) → Among c (constants x) → StandsIn a (constant_faults c) → StandsIn a (item_faults k x)
+  in_constants : (c : Constant) → StandsIn c (constants x) → StandsIn a (constant_faults c) → StandsIn a (item_faults k x)
   unfolding constants_faults
   in_constants c among h =
-      in_sized (in_right a (ranges_faults (ranges x)) _ (in_left a (constants_faults (constants x)) _ (in_flat_map a constant_faults c (constants x) among h)))
+      in_sized (among_right a (ranges_faults (ranges x)) _ (among_left a (constants_faults (constants x)) _ (in_flat_map a constant_faults c (constants x) among h)))
 
   in_widths : StandsIn a (target_width_faults k x) → StandsIn a (item_faults k x)
-  in_widths h = in_sized (in_right a (ranges_faults (ranges x)) _ (in_right a (constants_faults (constants x)) _ (in_left a (target_width_faults k x) _ h)))
+  in_widths h = in_sized (among_right a (ranges_faults (ranges x)) _ (among_right a (constants_faults (constants x)) _ (among_left a (target_width_faults k x) _ h)))
 
   in_slices : StandsIn a (slice_faults k x) → StandsIn a (item_faults k x)
-  in_slices h = in_sized (in_right a (ranges_faults (ranges x)) _ (in_right a (constants_faults (constants x)) _ (in_right a (target_width_faults k x) _ h)))
+  in_slices h = in_sized (among_right a (ranges_faults (ranges x)) _ (among_right a (constants_faults (constants x)) _ (among_right a (target_width_faults k x) _ h)))
 
   in_depths : StandsIn a (depth_faults x) → StandsIn a (item_faults k x)
-  in_depths h = in_memory (in_left a (depth_faults x) _ h)
+  in_depths h = in_memory (among_left a (depth_faults x) _ h)
 
   in_bounds : StandsIn a (bound_faults k x) → StandsIn a (item_faults k x)
-  in_bounds h = in_memory (in_right a (depth_faults x) _ (in_left a (bound_faults k x) _ h))
+  in_bounds h = in_memory (among_right a (depth_faults x) _ (among_left a (bound_faults k x) _ h))
 
-  in_indexes : (p : Mention × Operand) → Among p (indexes x) → StandsIn a (index_faults k p) → StandsIn a (item_faults k x)
+  in_indexes : (p : Mention × Operand) → StandsIn p (indexes x) → StandsIn a (index_faults k p) → StandsIn a (item_faults k x)
   unfolding indexes_faults
   in_indexes p among h =
-      in_memory (in_right a (depth_faults x) _ (in_right a (bound_faults k x) _ (in_flat_map a (index_faults k) p (indexes x) among h)))
+      in_memory (among_right a (depth_faults x) _ (among_right a (bound_faults k x) _ (in_flat_map a (index_faults k) p (indexes x) among h)))
 
 -- a width rule that is broken, at the item's target
 in_target_widths : (k : Known) (x : Item) (t : Target) → target_of x ≡ Some t → item_differs k x ≡ true → StandsIn (at_place code.V5 t.name.place) (item_faults k x)
@@ -118,13 +111,13 @@ in_items : (a : Fault) (start above : Above) (xs mid below : List Item) (x : Ite
 unfolding items_faults
 in_items a start above xs [] below x ports items e h =
     subst (λ (ys : List Item). StandsIn a (items_faults (known_above start) ys)) (sym e)
-    (in_left a (item_faults (known_above start) x) _ (subst (λ (b : Above). StandsIn a (item_faults (known_above b) x)) same h))
+    (among_left a (item_faults (known_above start) x) _ (subst (λ (b : Above). StandsIn a (item_faults (known_above b) x)) same h))
   where
     same : above ≡ start
     same = ap₂ (λ (ps : List Port) (ys : List Item). let b : Above = record { ports = ps; items = ys } in b) ports (items ∙ append-nil start.items)
 in_items a start above xs (y ∷ mid) below x ports items e h =
     subst (λ (ys : List Item). StandsIn a (items_faults (known_above start) ys)) (sym e)
-    (in_right a (item_faults (known_above start) y) _ (subst (λ (k : Known). StandsIn a (items_faults k (mid ++ x ∷ below))) (sym (after_item_above start y))
+    (among_right a (item_faults (known_above start) y) _ (subst (λ (k : Known). StandsIn a (items_faults k (mid ++ x ∷ below))) (sym (after_item_above start y))
     (in_items a (under_item start y) above (mid ++ x ∷ below) mid below x ports (items ∙ sym (append_assoc start.items (y ∷ []) mid)) refl h)))
 
 in_ports : (a : Fault) (start above ps mid below : List Port) (p : Port) → above ≡ start ++ mid → ps ≡ mid ++ p ∷ below
@@ -132,11 +125,11 @@ in_ports : (a : Fault) (start above ps mid below : List Port) (p : Port) → abo
 unfolding ports_faults
 in_ports a start above ps [] below p same e h =
     subst (λ (qs : List Port). StandsIn a (ports_faults (known_above (ports_only start)) qs)) (sym e)
-    (in_left a (port_faults (known_above (ports_only start)) p) _
+    (among_left a (port_faults (known_above (ports_only start)) p) _
     (subst (λ (qs : List Port). StandsIn a (port_faults (known_above (ports_only qs)) p)) (same ∙ append-nil start) h))
 in_ports a start above ps (q ∷ mid) below p same e h =
     subst (λ (qs : List Port). StandsIn a (ports_faults (known_above (ports_only start)) qs)) (sym e)
-    (in_right a (port_faults (known_above (ports_only start)) q) _
+    (among_right a (port_faults (known_above (ports_only start)) q) _
     (subst (λ (k : Known). StandsIn a (ports_faults k (mid ++ p ∷ below))) (sym (after_port_next start q))
     (in_ports a (start ++ q ∷ []) above (mid ++ p ∷ below) mid below p (same ∙ sym (append_assoc start (q ∷ []) mid)) refl h)))
 
@@ -144,17 +137,17 @@ in_port_twice : (ps : List Port) (p : Port) → is_some (shape_above (ports_only
     → StandsIn (at_place code.V3 p.name.place) (port_faults (known_above (ports_only ps)) p)
 unfolding port_faults
 in_port_twice ps p h =
-    in_left (at_place code.V3 p.name.place) (twice_faults (known_above (ports_only ps)) (port_declaration p)) _
+    among_left (at_place code.V3 p.name.place) (twice_faults (known_above (ports_only ps)) (port_declaration p)) _
     (noted (is_some (shape_above (ports_only ps) p.name.name)) code.V3 p.name.place h)
 
 in_port_range : (ps : List Port) (p : Port) → 63 < p.range.value → StandsIn (at_place code.V5 p.range.place) (port_faults (known_above (ports_only ps)) p)
 unfolding port_faults
 in_port_range ps p h =
-    in_right (at_place code.V5 p.range.place) (twice_faults (known_above (ports_only ps)) (port_declaration p)) _
+    among_right (at_place code.V5 p.range.place) (twice_faults (known_above (ports_only ps)) (port_declaration p)) _
     (noted (nat_lt 63 p.range.value) code.V5 p.range.place (lt-ltb _ _ h))
 
 -- where in the list it is
-split : {A : Type 0} (x : A) (xs : List A) → Among x xs → (above : List A) × (below : List A) × (xs ≡ above ++ x ∷ below)
+split : {A : Type 0} (x : A) (xs : List A) → StandsIn x xs → (above : List A) × (below : List A) × (xs ≡ above ++ x ∷ below)
 split x [] h = absurd h
 split x (y ∷ ys) (inl e) = ([], ys, ap (λ z. z ∷ ys) (sym e))
 split x (y ∷ ys) (inr h) = let r = split x ys h in (y ∷ r.0, r.1, ap (λ zs. y ∷ zs) r.2)
@@ -162,21 +155,21 @@ split x (y ∷ ys) (inr h) = let r = split x ys h in (y ∷ r.0, r.1, ap (λ zs.
 module _ (f : File) where
   in_ports_part : (a : Fault) → StandsIn a (ports_faults nothing_known f.ports) → StandsIn a (file_faults f)
   unfolding file_faults
-  in_ports_part a h = in_left a (ports_faults nothing_known f.ports) _ h
+  in_ports_part a h = among_left a (ports_faults nothing_known f.ports) _ h
 
   in_items_part : (a : Fault) → StandsIn a (items_faults (after_ports nothing_known f.ports) f.items) → StandsIn a (file_faults f)
   unfolding file_faults
-  in_items_part a h = in_right a (ports_faults nothing_known f.ports) _ (in_left a (items_faults (after_ports nothing_known f.ports) f.items) _ h)
+  in_items_part a h = among_right a (ports_faults nothing_known f.ports) _ (among_left a (items_faults (after_ports nothing_known f.ports) f.items) _ h)
 
   in_ports_unset : (a : Fault) → StandsIn a (ports_unset (known_at_end f) f.ports) → StandsIn a (file_faults f)
   unfolding file_faults
   in_ports_unset a h =
-      in_right a (ports_faults nothing_known f.ports) _ (in_right a (items_faults (after_ports nothing_known f.ports) f.items) _ (in_left a (ports_unset (known_at_end f) f.ports) _ h))
+      among_right a (ports_faults nothing_known f.ports) _ (among_right a (items_faults (after_ports nothing_known f.ports) f.items) _ (among_left a (ports_unset (known_at_end f) f.ports) _ h))
 
   in_items_unset : (a : Fault) → StandsIn a (items_unset (known_at_end f) f.items) → StandsIn a (file_faults f)
   unfolding file_faults
   in_items_unset a h =
-      in_right a (ports_faults nothing_known f.ports) _ (in_right a (items_faults (after_ports nothing_known f.ports) f.items) _ (in_right a (ports_unset (known_at_end f) f.ports) _ h))
+      among_right a (ports_faults nothing_known f.ports) _ (among_right a (items_faults (after_ports nothing_known f.ports) f.items) _ (among_right a (ports_unset (known_at_end f) f.ports) _ h))
 
   in_file_items : (a : Fault) → StandsIn a (items_faults (known_above (ports_only f.ports)) f.items) → StandsIn a (file_faults f)
   in_file_items a h = in_items_part a (subst (λ (k : Known). StandsIn a (items_faults k f.items)) (sym (after_ports_above f.ports)) h)
@@ -221,15 +214,15 @@ module _ (f : File) where
       → StandsIn (declared_again d) (items_faults (known_above start) (x ∷ xs))
   unfolding items_faults
   again_rest start x xs rest before after d e some =
-      in_right (declared_again d) (item_faults (known_above start) x) _
+      among_right (declared_again d) (item_faults (known_above start) x) _
       (subst (λ (k : Known). StandsIn (declared_again d) (items_faults k xs)) (sym (after_item_above start x))
       (rest before after d e (subst (λ ds. IsSome (shape_in ds d.name.name)) (sym (ap (λ ds. ds ++ before) (item_declared start x) ∙ append_assoc (declarations start.ports start.items) (item_declarations x) before)) some)))
 
-  again_here : (start : Above) (x : Item) (xs : List Item) (d : Declaration) → Among d (item_declarations x) → IsSome (shape_in (declarations start.ports start.items ++ []) d.name.name)
+  again_here : (start : Above) (x : Item) (xs : List Item) (d : Declaration) → StandsIn d (item_declarations x) → IsSome (shape_in (declarations start.ports start.items ++ []) d.name.name)
       → StandsIn (declared_again d) (items_faults (known_above start) (x ∷ xs))
   unfolding items_faults
   again_here start x xs d among some =
-      in_left (declared_again d) (item_faults (known_above start) x) _ (in_declarations (declared_again d) (known_above start) x d among
+      among_left (declared_again d) (item_faults (known_above start) x) _ (in_declarations (declared_again d) (known_above start) x d among
       (noted (is_some (shape_above start d.name.name)) code.V3 d.name.place
       (ap (λ ds. is_some (shape_in ds d.name.name)) (sym (append-nil (declarations start.ports start.items))) ∙ some)))
 
@@ -240,7 +233,7 @@ module _ (f : File) where
 
   again_one : (start : Above) (x : Item) (xs : List Item) (y : Declaration) → item_declarations x ≡ y ∷ [] → Again (under_item start x) xs → Again start (x ∷ xs)
   again_one start x xs y one rest [] after d e some =
-      again_here start x xs d (subst (λ ds. Among d ds) (sym one) (inl (sym (head_is y d (flat_map item_declarations xs) after (ap (λ ds. ds ++ flat_map item_declarations xs) (sym one) ∙ e))))) some
+      again_here start x xs d (subst (λ ds. StandsIn d ds) (sym one) (inl (sym (head_is y d (flat_map item_declarations xs) after (ap (λ ds. ds ++ flat_map item_declarations xs) (sym one) ∙ e))))) some
   again_one start x xs y one rest (b ∷ before) after d e some =
       let joined = ap (λ ds. ds ++ flat_map item_declarations xs) (sym one) ∙ e in
       again_rest start x xs rest before after d (tail_is y b (flat_map item_declarations xs) (before ++ d ∷ after) joined)
@@ -298,7 +291,7 @@ module _ (f : File) where
   unassigned_is : (m : Manner) (width : ℕ) (b : Bool) → m ≡ as_value → b ≡ false → is_unassigned m (wire width) b ≡ true
   unassigned_is m width b e h = ap₂ (λ (n : Manner) (t : Bool). is_unassigned n (wire width) t) e h
 
-  of_use : (a : Fault) (above : Above) (x : Item) (u : Use) (o : Option Shape) → IsItemOf f above x → Among u (uses x) → shape_above above u.name.name ≡ o
+  of_use : (a : Fault) (above : Above) (x : Item) (u : Use) (o : Option Shape) → IsItemOf f above x → StandsIn u (uses x) → shape_above above u.name.name ≡ o
       → StandsIn a (shape_faults u.manner o (is_set assign u.name.name above.items) u.name.place) → StandsIn a (file_faults f)
   of_use a above x u o at among e h =
       of_item a at (in_uses a (known_above above) x u among
@@ -308,7 +301,7 @@ module _ (f : File) where
   v4_listed _ (faults.undeclared {above} {x} u at among e) = of_use (at_place code.V4 u.name.place) above x u None at among e (inl refl)
   v4_listed _ (faults.unassigned {above} {x} u {width} at among manner e unset) =
       of_use (at_place code.V4 u.name.place) above x u (Some (wire width)) at among e
-      (in_left (at_place code.V4 u.name.place) (fault_if (is_unassigned u.manner (wire width) (is_set assign u.name.name above.items)) code.V4 u.name.place) _
+      (among_left (at_place code.V4 u.name.place) (fault_if (is_unassigned u.manner (wire width) (is_set assign u.name.name above.items)) code.V4 u.name.place) _
       (noted (is_unassigned u.manner (wire width) (is_set assign u.name.name above.items)) code.V4 u.name.place (unassigned_is u.manner width _ manner unset)))
   v4_listed _ (faults.no_integer {above} {place} {bound} {x} {value} at h) =
       of_item (at_place code.V4 place) at (in_integer (at_place code.V4 place) (known_above above) (item.initial_cells place bound x value)
@@ -327,12 +320,12 @@ module _ (f : File) where
       of_item (at_place code.V5 c.place) at (in_constants (at_place code.V5 c.place) (known_above above) x c among (noted (not (constant_fits c)) code.V5 c.place (not_from_false _ h)))
   v5_listed _ (faults.widths_differ {above} {x} t p at e among h) =
       of_item (at_place code.V5 t.name.place) at (in_target_widths (known_above above) x t e
-      (or_left _ (item_too_wide (known_above above) x) (some-differs (pairs (known_above above) x) p (subst (λ ps. Among p ps) (sym (pairs-above above x)) among) h)))
+      (or_left _ (item_too_wide (known_above above) x) (some-differs (pairs (known_above above) x) p among h)))
   v5_listed _ (faults.wide_concat {above} {x} {parts} {width} at e h) =
       let t : Target = record { setting = assign; name = x } in
       of_item (at_place code.V5 x.place) at (in_target_widths (known_above above) (item.assign x (item.concat parts)) t refl
       (or_right (list_any differ (pairs (known_above above) (item.assign x (item.concat parts)))) _
-      (some-too_wide (parts_width (known_above above) parts) width (parts_width-above above parts ∙ e) h)))
+      (some-too_wide (parts_width (known_above above) parts) width e h)))
   v5_listed _ (faults.out_of_range {above} {x} {y} {high} {low} {shape} at e h) =
       of_item (at_place code.V5 y.place) at (in_slices (at_place code.V5 y.place) (known_above above) (item.assign x (item.slice y high low))
       (subst (λ (o : Option Shape). StandsIn (at_place code.V5 y.place) (past_shape o high low y.place)) (sym e)
@@ -351,12 +344,12 @@ module _ (f : File) where
   unset_listed d s need unset =
       noted (lacks last d assign || (lacks last d initial || lacks last d always)) code.V6 d.name.place (lacks_some d s (and_from (needs d.shape s) _ need (not_from_false _ unset)))
 
-  in_port_unset : (a : Fault) (d : Declaration) → Among d (map port_declaration f.ports) → StandsIn a (unset_faults last d) → StandsIn a (file_faults f)
+  in_port_unset : (a : Fault) (d : Declaration) → StandsIn d (map port_declaration f.ports) → StandsIn a (unset_faults last d) → StandsIn a (file_faults f)
   unfolding ports_unset unsets_faults
   in_port_unset a d among h =
       in_ports_unset a (subst (λ (k : Known). StandsIn a (ports_unset k f.ports)) (sym (at_end f)) (in_flat_map a (unset_faults last) d (map port_declaration f.ports) among h))
 
-  in_item_unset : (a : Fault) (d : Declaration) → Among d (flat_map item_declarations f.items) → StandsIn a (unset_faults last d) → StandsIn a (file_faults f)
+  in_item_unset : (a : Fault) (d : Declaration) → StandsIn d (flat_map item_declarations f.items) → StandsIn a (unset_faults last d) → StandsIn a (file_faults f)
   unfolding items_unset unsets_faults
   in_item_unset a d among h =
       in_items_unset a (subst (λ (k : Known). StandsIn a (items_unset k f.items)) (sym (at_end f)) (in_flat_map a (unset_faults last) d (flat_map item_declarations f.items) among h))
@@ -383,11 +376,11 @@ module _ (f : File) where
   v7_listed _ (faults.other_index {above} {x} m index {width} {b} {u} at among e given h) =
       of_item (at_place code.V7 (operand_place index)) at (in_indexes (at_place code.V7 (operand_place index)) (known_above above) x (m, index) among
       (subst (λ (o : Option Shape). StandsIn (at_place code.V7 (operand_place index)) (listed.other_index o (operand_width (known_above above) index) (operand_place index))) (sym e)
-      (subst (λ (w : Option ℕ). StandsIn (at_place code.V7 (operand_place index)) (depth_index (2 ^ b) w (operand_place index))) (sym (operand_width-above above index ∙ given))
+      (subst (λ (w : Option ℕ). StandsIn (at_place code.V7 (operand_place index)) (depth_index (2 ^ b) w (operand_place index))) (sym given)
       (noted (is_other (2 ^ b) u) code.V7 (operand_place index) (is_other-from b u h)))))
   v7_listed _ (faults.other_kind {above} {x} u {shape} at among e h) =
       of_use (at_place code.V7 u.name.place) above x u (Some shape) at among e
-      (in_right (at_place code.V7 u.name.place) (fault_if (is_unassigned u.manner shape (is_set assign u.name.name above.items)) code.V4 u.name.place) _
+      (among_right (at_place code.V7 u.name.place) (fault_if (is_unassigned u.manner shape (is_set assign u.name.name above.items)) code.V4 u.name.place) _
       (noted (not (suits u.manner shape)) code.V7 u.name.place (not_from_false _ h)))
 
   pub all_listed : (c : Code) (place : ℕ) → Stands f c place → StandsIn (at_place c place) (file_faults f)

@@ -6,21 +6,24 @@ use Rattle.std.specs.Prelude.{Option, Some, None, is_some, ◌||◌, ◌&&◌, �
 use Rattle.std.specs.List.{list_any}
 use Rattle.sap_lemmas.proofs.Bools.{and_left, and_right}
 use Rattle.std.proofs.lemmas.Bool.{ltb-true, not-true, or_cases}
-use Rattle.sap_modtext.specs.Items.{Mention, Number, Constant, Operand, Right, Port, Item, File}
-use Rattle.sap_modtext.specs.Items as item
-use Rattle.sap_modtext.specs.Faults.{V3, V4, V5, V6, V7, Shape, wire, memory, shape_width, Setting, assign, initial, always, Declaration, port_declaration, item_declarations, declarations, shape_in, Above, shape_above, is_set, has_integer, IsItemOf, Target, target_of, is_settable, needs, Manner, as_value, Use, uses, suits, ranges, constants, constant_fits, indexes, operand_place, Differ, Among, HasIndex}
-use Rattle.sap_modtext.specs.Faults as faults
+use Rattle.sap_vtext.specs.Items.{Mention, Number, Constant, Operand, Right, Port, Item, File}
+use Rattle.sap_vtext.specs.Items as item
+use Rattle.sap_vtext.specs.Names.{Shape, wire, memory, Setting, assign, initial, always, Declaration, port_declaration, item_declarations, declarations, shape_in, Above, shape_above, is_set, has_integer, IsItemOf, Target, target_of, Known, known_above}
+use Rattle.sap_vtext.specs.Widths.{shape_width, constant_fits, operand_width, parts_width, pairs}
+use Rattle.sap_vtext.specs.Faults.{V3, V4, V5, V6, V7, is_settable, needs, Manner, as_value, Use, uses, suits, ranges, constants, indexes, operand_place, HasIndex}
+use Rattle.sap_vtext.specs.Names as names
+use Rattle.sap_vtext.specs.Faults as faults
 use Rattle.sap_text.specs.Best.{StandsIn}
 use Rattle.sap_vjudge.specs.declared.code.Code.{Code}
 use Rattle.sap_vjudge.specs.declared.code.Code.TheVariants as code
 use Rattle.sap_vjudge.specs.Best.{Fault, fault_if}
 use Rattle.sap_vjudge.specs.FirstFault.{Stands}
-use Rattle.sap_vjudge.specs.Known.{Known, nothing_known, after_port, after_ports, after_item, known_above}
-use Rattle.sap_vjudge.specs.Listed.{twice_faults, declarations_faults, target_faults, integer_faults, is_unassigned, shape_faults, use_faults, uses_faults, range_faults, ranges_faults, constant_faults, constants_faults, operand_width, parts_width, pairs, differ, too_wide, right_too_wide, item_too_wide, item_differs, at_target, target_width_faults, past_shape, right_slice_faults, slice_faults, widths_faults, is_depth, depth_faults, bound_faults, is_other, depth_index, index_faults, indexes_faults, declared_faults, sized_faults, memory_faults, item_faults, port_faults, ports_faults, items_faults, lacks, unset_faults, unsets_faults, ports_unset, items_unset, known_at_end, file_faults}
+use Rattle.sap_vjudge.specs.Known.{nothing_known, after_port, after_ports, after_item}
+use Rattle.sap_vjudge.specs.Listed.{twice_faults, declarations_faults, target_faults, integer_faults, is_unassigned, shape_faults, use_faults, uses_faults, range_faults, ranges_faults, constant_faults, constants_faults, differ, too_wide, right_too_wide, item_too_wide, item_differs, at_target, target_width_faults, past_shape, right_slice_faults, slice_faults, widths_faults, is_depth, depth_faults, bound_faults, is_other, depth_index, index_faults, indexes_faults, declared_faults, sized_faults, memory_faults, item_faults, port_faults, ports_faults, items_faults, lacks, unset_faults, unsets_faults, ports_unset, items_unset, known_at_end, file_faults}
 use Rattle.sap_vjudge.specs.Listed as listed
 use Rattle.sap_vjudge.proofs.Above.{under_item, ports_only, after_item_above, after_port_next, after_ports_above, nothing_is, at_end, items_declared}
 use Rattle.sap_vjudge.proofs.Powers.{HasIndex-is_depth, is_other-some}
-use Rattle.sap_vjudge.proofs.WidthLemmas.{operand_width-above, parts_width-above, pairs-above, differs-some, too_wide-some}
+use Rattle.sap_vjudge.proofs.WidthLemmas.{differs-some, too_wide-some}
 
 -- all of the faults are so
 abbrev pub Each : (Fault → Type 0) → List Fault → Type 0
@@ -37,7 +40,7 @@ module _ (P : Fault → Type 0) where
   each-append [] gs h k = k
   each-append (f ∷ fs) gs h k = (h.0, each-append fs gs h.1 k)
 
-  each-flat_map : {A : Type 0} (f : A → List Fault) (xs : List A) → ((x : A) → Among x xs → Each P (f x)) → Each P (flat_map f xs)
+  each-flat_map : {A : Type 0} (f : A → List Fault) (xs : List A) → ((x : A) → StandsIn x xs → Each P (f x)) → Each P (flat_map f xs)
   each-flat_map f [] h = tt
   each-flat_map f (x ∷ xs) h = each-append (f x) (flat_map f xs) (h x (inl refl)) (each-flat_map f xs (λ y k. h y (inr k)))
 
@@ -113,15 +116,15 @@ module _ (f : File) (above : Above) where
   unassigned_parts : (m : Manner) (s : Shape) (b : Bool) → is_unassigned m s b ≡ true → (width : ℕ) × (m ≡ as_value) × (s ≡ wire width) × (b ≡ false)
   unassigned_parts as_value (wire width) false h = (width, refl, refl, refl)
   unassigned_parts as_value (wire width) true h = absurd (true≢false (sym h))
-  unassigned_parts as_value (faults.input width) b h = absurd (true≢false (sym h))
-  unassigned_parts as_value (faults.register width) b h = absurd (true≢false (sym h))
+  unassigned_parts as_value (names.input width) b h = absurd (true≢false (sym h))
+  unassigned_parts as_value (names.register width) b h = absurd (true≢false (sym h))
   unassigned_parts as_value (memory width depth) b h = absurd (true≢false (sym h))
   unassigned_parts faults.as_cell s b h = absurd (true≢false (sym h))
   unassigned_parts faults.as_wire s b h = absurd (true≢false (sym h))
   unassigned_parts faults.as_register s b h = absurd (true≢false (sym h))
   unassigned_parts faults.as_memory s b h = absurd (true≢false (sym h))
 
-  use_stands : (x : Item) → IsItemOf f above x → (u : Use) → Among u (uses x) → (o : Option Shape) → shape_above above u.name.name ≡ o
+  use_stands : (x : Item) → IsItemOf f above x → (u : Use) → StandsIn u (uses x) → (o : Option Shape) → shape_above above u.name.name ≡ o
       → Each (Stood f) (shape_faults u.manner o (is_set assign u.name.name above.items) u.name.place)
   use_stands x at u among None e = noted f true code.V4 u.name.place (λ h. faults.undeclared u at among e)
   use_stands x at u among (Some s) e =
@@ -148,7 +151,7 @@ module _ (f : File) (above : Above) where
   too_wide_stands : (x : Item) → IsItemOf f above x → item_too_wide known x ≡ true → (t : Target) → target_of x ≡ Some t → V5 f t.name.place
   too_wide_stands (item.assign x (item.concat parts)) at h t e =
       let r = too_wide-some (parts_width known parts) h in
-      subst (λ (u : Target). V5 f u.name.place) (some_inj _ _ e) (faults.wide_concat at (sym (parts_width-above above parts) ∙ r.1) r.2)
+      subst (λ (u : Target). V5 f u.name.place) (some_inj _ _ e) (faults.wide_concat at r.1 r.2)
   too_wide_stands (item.assign x (item.copy y)) at h t e = absurd (true≢false (sym h))
   too_wide_stands (item.assign x (item.one op y)) at h t e = absurd (true≢false (sym h))
   too_wide_stands (item.assign x (item.two op y z)) at h t e = absurd (true≢false (sym h))
@@ -168,7 +171,7 @@ module _ (f : File) (above : Above) where
   differs_stands x at t e h = either (or_cases (list_any differ (pairs known x)) (item_too_wide known x) h)
     where
       either : (list_any differ (pairs known x) ≡ true) ⊎ (item_too_wide known x ≡ true) → V5 f t.name.place
-      either (inl k) = let r = differs-some (pairs known x) k in faults.widths_differ t r.0 at e (subst (λ ps. Among r.0 ps) (pairs-above above x) r.1) r.2
+      either (inl k) = let r = differs-some (pairs known x) k in faults.widths_differ t r.0 at e r.1 r.2
       either (inr k) = too_wide_stands x at k t e
 
   target_widths_stand : (x : Item) → IsItemOf f above x → (o : Option Target) → target_of x ≡ o → Each (Stood f) (at_target (item_differs known x) o)
@@ -224,9 +227,9 @@ module _ (f : File) (above : Above) where
   bounded_stands : (place : ℕ) (bound : Number) (x : Mention) (value : Constant) → IsItemOf f above (item.initial_cells place bound x value) → (o : Option Shape)
       → shape_above above x.name ≡ o → Each (Stood f) (listed.other_bound o bound)
   bounded_stands place bound x value at None e = tt
-  bounded_stands place bound x value at (Some (faults.input width)) e = tt
+  bounded_stands place bound x value at (Some (names.input width)) e = tt
   bounded_stands place bound x value at (Some (wire width)) e = tt
-  bounded_stands place bound x value at (Some (faults.register width)) e = tt
+  bounded_stands place bound x value at (Some (names.register width)) e = tt
   bounded_stands place bound x value at (Some (memory width depth)) e =
       noted f (not (bound.value == depth)) code.V7 bound.place (λ h. faults.other_bound at e (apart bound.value depth h))
 
@@ -241,12 +244,12 @@ module _ (f : File) (above : Above) where
   bound_stands (item.always x next) at = tt
   bound_stands (item.always_cell condition x index value) at = tt
 
-  index_stands : (x : Item) → IsItemOf f above x → (m : Mention) (index : Operand) → Among (m, index) (indexes x) → (o : Option Shape) → shape_above above m.name ≡ o
-      → (w : Option ℕ) → faults.operand_width above index ≡ w → Each (Stood f) (listed.other_index o w (operand_place index))
+  index_stands : (x : Item) → IsItemOf f above x → (m : Mention) (index : Operand) → StandsIn (m, index) (indexes x) → (o : Option Shape) → shape_above above m.name ≡ o
+      → (w : Option ℕ) → operand_width known index ≡ w → Each (Stood f) (listed.other_index o w (operand_place index))
   index_stands x at m index among None e w k = tt
-  index_stands x at m index among (Some (faults.input width)) e w k = tt
+  index_stands x at m index among (Some (names.input width)) e w k = tt
   index_stands x at m index among (Some (wire width)) e w k = tt
-  index_stands x at m index among (Some (faults.register width)) e w k = tt
+  index_stands x at m index among (Some (names.register width)) e w k = tt
   index_stands x at m index among (Some (memory width depth)) e None k = tt
   index_stands x at m index among (Some (memory width depth)) e (Some u) k =
       noted f (is_other depth u) code.V7 (operand_place index) (λ h.
@@ -257,7 +260,7 @@ module _ (f : File) (above : Above) where
   unfolding indexes_faults
   indexes_stand x at =
       each-flat_map (Stood f) (index_faults known) (indexes x) (λ p among.
-      index_stands x at p.0 p.1 among (shape_above above p.0.name) refl (operand_width known p.1) (sym (operand_width-above above p.1)))
+      index_stands x at p.0 p.1 among (shape_above above p.0.name) refl (operand_width known p.1) refl)
 
   memories_stand : (x : Item) → IsItemOf f above x → Each (Stood f) (memory_faults known x)
   memories_stand x at =
@@ -271,16 +274,16 @@ module _ (f : File) (above : Above) where
       (each-append (Stood f) (uses_faults known (uses x)) (sized_faults known x ++ memory_faults known x) (uses_stand x at)
       (each-append (Stood f) (sized_faults known x) (memory_faults known x) (sized_stand x at) (memories_stand x at)))
 
-among-middle : {A : Type 0} (xs ys : List A) (x : A) → Among x (xs ++ x ∷ ys)
+among-middle : {A : Type 0} (xs ys : List A) (x : A) → StandsIn x (xs ++ x ∷ ys)
 among-middle [] ys x = inl refl
 among-middle (y ∷ xs) ys x = inr (among-middle xs ys x)
 
-among-left : {A : Type 0} (xs ys : List A) (x : A) → Among x xs → Among x (xs ++ ys)
+among-left : {A : Type 0} (xs ys : List A) (x : A) → StandsIn x xs → StandsIn x (xs ++ ys)
 among-left [] ys x h = absurd h
 among-left (y ∷ xs) ys x (inl e) = inl e
 among-left (y ∷ xs) ys x (inr h) = inr (among-left xs ys x h)
 
-among-right : {A : Type 0} (xs ys : List A) (x : A) → Among x ys → Among x (xs ++ ys)
+among-right : {A : Type 0} (xs ys : List A) (x : A) → StandsIn x ys → StandsIn x (xs ++ ys)
 among-right [] ys x h = h
 among-right (y ∷ xs) ys x h = inr (among-right xs ys x h)
 
@@ -309,7 +312,7 @@ module _ (f : File) where
       (noted f (is_some (shape_above (ports_only before) p.name.name)) code.V3 p.name.place (λ h.
       faults.declared_before (declarations before []) (map port_declaration after ++ flat_map item_declarations f.items) (port_declaration p) (port_declared before after p e) h))
       (noted f (nat_lt 63 p.range.value) code.V5 p.range.place (λ h.
-      faults.wide_port p (subst (λ (ps : List Port). Among p ps) (sym e) (among-middle before after p)) (ltb-true _ _ h)))
+      faults.wide_port p (subst (λ (ps : List Port). StandsIn p ps) (sym e) (among-middle before after p)) (ltb-true _ _ h)))
 
   ports_stand : (before ps : List Port) → f.ports ≡ before ++ ps → Each (Stood f) (ports_faults (known_above (ports_only before)) ps)
   unfolding ports_faults
@@ -323,7 +326,7 @@ module _ (f : File) where
   abbrev last : Known
   last = known_above (record { ports = f.ports; items = f.items })
 
-  unset_stands : (d : Declaration) → Among d (declarations f.ports f.items) → Each (Stood f) (unset_faults last d)
+  unset_stands : (d : Declaration) → StandsIn d (declarations f.ports f.items) → Each (Stood f) (unset_faults last d)
   unset_stands d among =
       noted f (lacks last d assign || (lacks last d initial || lacks last d always)) code.V6 d.name.place (λ h.
       some_lack (or_cases (lacks last d assign) (lacks last d initial || lacks last d always) h))

@@ -1,8 +1,8 @@
 -- The best of the listed faults is the first that stands.
-use Rattle.std.proofs.Common.{◌≡◌, ℕ, ◌≤◌, ap₂, subst, arith, inl, inr}
+use Rattle.std.proofs.Common.{◌≡◌, ℕ, ◌≤◌, arith, inl, inr}
 use Rattle.std.specs.Prelude.{Some, None}
-use Rattle.sap_modtext.specs.Items.{File}
-use Rattle.sap_modtext.specs.Faults.{IsFaultless}
+use Rattle.sap_vtext.specs.Items.{File}
+use Rattle.sap_vtext.specs.Faults.{IsFaultless}
 use Rattle.sap_vjudge.specs.declared.code.Code.{Code}
 use Rattle.sap_vjudge.specs.declared.code.Code.TheVariants as code
 use Rattle.sap_vjudge.specs.Best.{Fault, best_of}
@@ -41,11 +41,6 @@ module _ (f : File) where
       lower : (other : Code) → Before a (at_place other a.place) → number a.code ≤ number other
       lower other (inl less) = absurd (omega arith)
       lower other (inr same) = same.1
-
-  -- the best, named by its code and place
-  pub named_first : (a : Fault) (c : Code) (place : ℕ) → Some a ≡ best_of None (file_faults f) → a.code ≡ c → a.place ≡ place → IsFirstFault f c place
-  named_first a c place h same here =
-      subst (λ (b : Fault). IsFirstFault f b.code b.place) (ap₂ (λ (d : Code) (p : ℕ). at_place d p) same here) (first_is a h)
 
   pub none_stands : None ≡ best_of None (file_faults f) → IsFaultless f
   none_stands h =

@@ -1,11 +1,12 @@
 -- The faults of one item, of one port, and of lists.
 use Rattle.std.proofs.Common.{◌≡◌, List, [], ◌∷◌, ◌++◌, refl}
 use Rattle.std.specs.Prelude.{flat_map}
-use Rattle.sap_modtext.specs.Items.{Item, Port, File}
-use Rattle.sap_modtext.specs.Faults.{uses, operand_uses, operand_constants, port_declaration, item_declarations}
+use Rattle.sap_vtext.specs.Items.{Item, Port, File}
+use Rattle.sap_vtext.specs.Names.{port_declaration, item_declarations, Known}
+use Rattle.sap_vtext.specs.Faults.{uses, operand_uses, operand_constants}
 use Rattle.sap_vparse.specs.declared.items.Operand.{Operand}
 use Rattle.sap_vparse.specs.Views.{operand_of, operands_of}
-use Rattle.sap_vjudge.specs.Known.{Known, nothing_known, after_port, after_ports, after_item, after_items}
+use Rattle.sap_vjudge.specs.Known.{nothing_known, after_port, after_ports, after_item, after_items}
 use Rattle.sap_vjudge.specs.Listed.{item_faults, port_faults, declared_faults, uses_faults, constants_faults, sized_faults, memory_faults, twice_faults, range_faults, file_faults, ports_faults, items_faults, unset_faults, unsets_faults, ports_unset, items_unset, known_at_end}
 use Rattle.sap_vjudge.proofs.Noting.{uses_faults-none, uses_faults-append, constants_faults-none, constants_faults-append, unsets_faults-append}
 

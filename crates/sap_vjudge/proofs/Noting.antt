@@ -2,11 +2,11 @@
 use Rattle.std.proofs.Common.{◌≡◌, List, [], ◌∷◌, ◌++◌, Option, refl}
 use Rattle.std.proofs.lemmas.Grind.{flat_map-append}
 use Rattle.std.proofs.lemmas.List.{append-nil}
-use Rattle.sap_modtext.specs.Items.{Mention, Operand, Number, Constant}
-use Rattle.sap_modtext.specs.Faults.{Declaration, Use}
+use Rattle.sap_vtext.specs.Items.{Mention, Operand, Number, Constant}
+use Rattle.sap_vtext.specs.Names.{Declaration, Known}
+use Rattle.sap_vtext.specs.Faults.{Use}
 use Rattle.sap_text.proofs.BestLemmas as best
 use Rattle.sap_vjudge.specs.Best.{Fault, better, best_of, comes_first}
-use Rattle.sap_vjudge.specs.Known.{Known}
 use Rattle.sap_vjudge.specs.Listed.{declarations_faults, twice_faults, uses_faults, use_faults, ranges_faults, range_faults, constants_faults, constant_faults, indexes_faults, index_faults, unsets_faults, unset_faults}
 
 pub best_of-append : (o : Option Fault) (a b : List Fault) → best_of o (a ++ b) ≡ best_of (best_of o a) b

@@ -1,22 +1,12 @@
 -- The sum of the widths of parts, one after another.
-use Rattle.std.proofs.Common.{◌≡◌, ◌∙◌, ℕ, ◌+◌, ◌<◌, ◌≤◌, List, [], ◌∷◌, length, get_or, drop, refl, sym, ap, arith}
+use Rattle.std.proofs.Common.{◌≡◌, ◌∙◌, ℕ, ◌+◌, ◌<◌, ◌≤◌, List, length, get_or, drop, refl, sym, ap, arith}
 use Rattle.std.specs.Prelude.{Option, Some, None}
 use Rattle.std.proofs.lemmas.List.{drop_all}
-use Rattle.sap_modtext.specs.Items as item
-use Rattle.sap_modtext.specs.Faults.{add_widths}
+use Rattle.sap_vtext.specs.Names.{Known}
+use Rattle.sap_vtext.specs.Widths.{add_widths, parts_width, operand_width}
 use Rattle.sap_vparse.specs.declared.items.Operand.{Operand}
 use Rattle.sap_vparse.specs.Views.{operand_of, operands_of}
-use Rattle.sap_vjudge.specs.Known.{Known}
-use Rattle.sap_vjudge.specs.Listed.{parts_width, operand_width}
 use Rattle.sap_vjudge.proofs.Loops.{here}
-
-parts_width-none : (k : Known) → parts_width k [] ≡ Some 0
-unfolding parts_width
-parts_width-none k = refl
-
-parts_width-cons : (k : Known) (x : item.Operand) (xs : List item.Operand) → parts_width k (x ∷ xs) ≡ add_widths (operand_width k x) (parts_width k xs)
-unfolding parts_width
-parts_width-cons k x xs = refl
 
 pub add_widths-zero : (o : Option ℕ) → add_widths (Some 0) o ≡ o
 add_widths-zero None = refl
@@ -31,7 +21,6 @@ module _ (k : Known) (xs : List Operand) (n : ℕ) (s : ℕ) (all : Option ℕ) 
       → add_widths (Some s) (add_widths w (parts_width k (operands_of (drop (n + 1) xs)))) ≡ all
   part d w h is width =
       ap (λ (v : Option ℕ). add_widths (Some s) (add_widths v (parts_width k (operands_of (drop (n + 1) xs))))) width
-      ∙ ap (add_widths (Some s)) (sym (parts_width-cons k (operand_of d) (operands_of (drop (n + 1) xs))))
       ∙ ap (λ (ys : List Operand). add_widths (Some s) (parts_width k (operands_of ys))) (sym (here xs n d h is)) ∙ so_far
 
   -- a part without a width
@@ -46,6 +35,6 @@ module _ (k : Known) (xs : List Operand) (n : ℕ) (s : ℕ) (all : Option ℕ) 
   pub part_end : length xs ≤ n → Some s ≡ all
   part_end h =
       let last : s ≡ s + 0 = omega arith in
-      ap (λ (m : ℕ). Some m) last ∙ ap (add_widths (Some s)) (sym (parts_width-none k)) ∙ ap (λ (ys : List Operand). add_widths (Some s) (parts_width k (operands_of ys))) (sym (drop_all n xs h)) ∙ so_far
+      ap (λ (m : ℕ). Some m) last ∙ ap (λ (ys : List Operand). add_widths (Some s) (parts_width k (operands_of ys))) (sym (drop_all n xs h)) ∙ so_far
 
 pub ruleset parts = (add_widths-zero)

@@ -8,7 +8,7 @@ use Rattle.std.specs.Prelude.{◌==◌, ◌&&◌, not, nat_le}
 use Rattle.std.specs.Int.{is_power_of_two}
 use Rattle.std.specs.Int.RustNames.{count_ones}
 use Rattle.sap_lemmas.proofs.Bools.{and_left, and_right}
-use Rattle.sap_modtext.specs.Faults.{HasIndex}
+use Rattle.sap_vtext.specs.Faults.{HasIndex}
 use Rattle.sap_vjudge.specs.Listed.{is_depth, is_other}
 
 ones_zero : count_ones 0 ≡ 0

@@ -7,11 +7,11 @@ use Rattle.std.specs.Prelude.{Option, Some, None, if◌then◌else◌, ◌||◌,
 use Rattle.std.specs.Option.{option_or}
 use Rattle.std.specs.Str.{bytes_eq}
 use Rattle.sap_lemmas.proofs.Bools.{and_false, and_true, or_false}
-use Rattle.sap_modtext.specs.Faults.{Shape, Setting, same_setting}
+use Rattle.sap_vtext.specs.Names.{Shape, Setting, same_setting, Known}
 use Rattle.sap_vjudge.specs.declared.entry.Entry.{Entry}
 use Rattle.sap_vjudge.specs.declared.table.Table.{Table}
 use Rattle.sap_vjudge.specs.Entries.{entry_shape, entry_set}
-use Rattle.sap_vjudge.specs.Known.{Known, nothing_known, with_shape, with_setting, with_integer}
+use Rattle.sap_vjudge.specs.Known.{nothing_known, with_shape, with_setting, with_integer}
 use Rattle.sap_vjudge.specs.Tables.{entry_of, known_of}
 use Rattle.indexmap.specs.IndexMap.{insert_entry}
 use mathlib.Core.Path.{fun_ext}

@@ -1,6 +1,6 @@
 -- What the entry of a name says, where it has one.
 use Rattle.std.specs.Prelude.{Bool, false, Option, Some, None, option_map}
-use Rattle.sap_modtext.specs.Faults.{Shape, Setting, assign, initial, always}
+use Rattle.sap_vtext.specs.Names.{Shape, Setting, assign, initial, always}
 use Rattle.sap_vjudge.specs.declared.entry.Entry.{Entry}
 use Rattle.sap_vjudge.specs.Shapes.{shape_of}
 

@@ -1,9 +1,11 @@
 -- The faults of a module by their codes, and which of them is the first.
 use Rattle.std.specs.Prelude.{◌≤◌, ℕ}
-use Rattle.sap_modtext.specs.Items.{File}
-use Rattle.sap_modtext.specs.Faults.{V3, V4, V5, V6, V7}
+use Rattle.sap_vtext.specs.Items.{File}
+use Rattle.sap_vtext.specs.Faults.{V3, V4, V5, V6, V7}
 use Rattle.sap_vjudge.specs.declared.code.Code.{Code}
 use Rattle.sap_vjudge.specs.declared.code.Code.TheVariants as code
+use Rattle.sap_vjudge.specs.declared.fault.JudgeFault.{JudgeFault}
+use Rattle.sap_vjudge.specs.declared.fault.JudgeFault.TheVariants.{Rule, Memory}
 
 abbrev pub number : Code → ℕ
 number code.V3 = 3
@@ -25,3 +27,8 @@ pub record IsFirstFault (f : File) (c : Code) (place : ℕ) : Type 0 where
   pub stands : Stands f c place
   pub earliest : (other : Code) (at : ℕ) → Stands f other at → place ≤ at
   pub lowest : (other : Code) → Stands f other place → number c ≤ number other
+
+-- why a file is not taken: its first fault
+abbrev pub IsJudgeFault : File → JudgeFault → Type 0
+IsJudgeFault f (Rule c place) = IsFirstFault f c place
+IsJudgeFault f Memory = ⊥

@@ -1,16 +1,10 @@
 -- What is known of a module's names when its ports and items have been read down to a place.
-use Rattle.std.specs.Prelude.{ℕ, ◌+◌, List, [], ◌∷◌, Bool, true, false, ◌&&◌, ◌||◌, if◌then◌else◌, Option, Some, None}
+use Rattle.std.specs.Prelude.{ℕ, ◌+◌, List, [], ◌∷◌, true, false, ◌&&◌, ◌||◌, if◌then◌else◌, Some, None}
 use Rattle.std.specs.Option.{option_or}
 use Rattle.std.specs.Str.{bytes_eq}
-use Rattle.sap_modtext.specs.Items.{Port, Item}
-use Rattle.sap_modtext.specs.Items as item
-use Rattle.sap_modtext.specs.Faults.{Shape, wire, register, memory, port_shape, Setting, assign, initial, always, same_setting, Above, shape_above, is_set, has_integer}
-
--- what a name is first declared as, whether it is set, and whether `integer i` is there
-pub record Known : Type 0 where
-  pub shape : List ℕ → Option Shape
-  pub set : Setting → List ℕ → Bool
-  pub integer : Bool
+use Rattle.sap_vtext.specs.Items.{Port, Item}
+use Rattle.sap_vtext.specs.Items as item
+use Rattle.sap_vtext.specs.Names.{Shape, wire, register, memory, port_shape, Setting, assign, initial, always, same_setting, Known}
 
 abbrev pub nothing_known : Known
 nothing_known = record { shape = λ n. None; set = λ s n. false; integer = false }
@@ -47,7 +41,3 @@ after_ports k (p ∷ ps) = after_ports (after_port k p) ps
 unfoldable pub after_items : Known → List Item → Known
 after_items k [] = k
 after_items k (x ∷ xs) = after_items (after_item k x) xs
-
--- what is known where this stands above
-abbrev pub known_above : Above → Known
-known_above above = record { shape = shape_above above; set = λ s n. is_set s n above.items; integer = has_integer above.items }

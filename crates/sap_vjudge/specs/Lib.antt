@@ -5,5 +5,3 @@ pub mod Listed
 pub mod Shapes
 pub mod Entries
 pub mod Tables
-pub use Rattle.sap_modtext.specs.Faults
-pub use Rattle.sap_vparse.specs.Views

@@ -2,12 +2,14 @@
 use Rattle.std.specs.Prelude.{ℕ, ◌+◌, ◌^◌, List, [], ◌∷◌, ◌++◌, Bool, true, false, not, ◌&&◌, ◌||◌, ◌==◌, nat_lt, nat_le, Option, Some, None, is_some, map, flat_map}
 use Rattle.std.specs.List.{list_any}
 use Rattle.std.specs.Int.{is_power_of_two}
-use Rattle.sap_modtext.specs.Items.{Mention, Number, Constant, Operand, Right, Port, Item, File}
-use Rattle.sap_modtext.specs.Items as item
-use Rattle.sap_modtext.specs.Faults.{Shape, wire, memory, shape_width, Declaration, port_declaration, item_declarations, Setting, assign, initial, always, Target, target_of, is_settable, needs, Manner, as_value, Use, uses, suits, constants, constant_fits, constant_width, ranges, indexes, operand_place, value_width, wire_width, register_width, memory_width, add_widths, slice_width, Pairs, unary_rule, binary_rule, unary_pairs, binary_pairs}
+use Rattle.sap_vtext.specs.Items.{Mention, Number, Constant, Operand, Right, Port, Item, File}
+use Rattle.sap_vtext.specs.Items as item
+use Rattle.sap_vtext.specs.Names.{Shape, wire, memory, Declaration, port_declaration, item_declarations, Setting, assign, initial, always, Target, target_of, Known}
+use Rattle.sap_vtext.specs.Widths.{shape_width, constant_fits, operand_width, parts_width, pairs}
+use Rattle.sap_vtext.specs.Faults.{is_settable, needs, Manner, as_value, Use, uses, suits, constants, ranges, indexes, operand_place}
 use Rattle.sap_vjudge.specs.declared.code.Code.TheVariants.{V3, V4, V5, V6, V7}
 use Rattle.sap_vjudge.specs.Best.{Fault, fault_if}
-use Rattle.sap_vjudge.specs.Known.{Known, nothing_known, after_port, after_ports, after_item, after_items}
+use Rattle.sap_vjudge.specs.Known.{nothing_known, after_port, after_ports, after_item, after_items}
 
 -- What is declared or set a second time, and the `integer` of a `for`.
 
@@ -59,36 +61,6 @@ constant_faults c = fault_if (not (constant_fits c)) V5 c.place
 
 unfoldable pub constants_faults : List Constant → List Fault
 constants_faults cs = flat_map constant_faults cs
-
-abbrev pub operand_width : Known → Operand → Option ℕ
-operand_width k (item.named x) = value_width (k.shape x.name) (k.set assign x.name)
-operand_width k (item.constant c) = constant_width c
-
-unfoldable pub parts_width : Known → List Operand → Option ℕ
-parts_width k [] = Some 0
-parts_width k (x ∷ xs) = add_widths (operand_width k x) (parts_width k xs)
-
--- of `?:`: of the condition and 1, and of the target and the arms
-abbrev pub arm_pairs : Option ℕ → Option ℕ → Option ℕ → Option ℕ → Pairs
-arm_pairs condition target x y = (condition, Some 1) ∷ (target, x) ∷ (target, y) ∷ (x, y) ∷ []
-
-abbrev pub right_pairs : Known → Option ℕ → Right → Pairs
-right_pairs k target (item.copy x) = (target, operand_width k x) ∷ []
-right_pairs k target (item.one op x) = unary_pairs (unary_rule op) target (operand_width k x)
-right_pairs k target (item.two op x y) = binary_pairs (binary_rule op) target (operand_width k x) (operand_width k y)
-right_pairs k target (item.choose c x y) = arm_pairs (operand_width k c) target (operand_width k x) (operand_width k y)
-right_pairs k target (item.concat xs) = (target, parts_width k xs) ∷ []
-right_pairs k target (item.slice x high low) = (target, slice_width (operand_width k (item.named x)) high low) ∷ []
-right_pairs k target (item.cell m index) = (target, memory_width (k.shape m.name)) ∷ []
-
-abbrev pub pairs : Known → Item → Pairs
-pairs k (item.assign x right) = right_pairs k (wire_width (k.shape x.name)) right
-pairs k (item.initial x value) = (register_width (k.shape x.name), constant_width value) ∷ []
-pairs k (item.initial_cells place bound x value) = (memory_width (k.shape x.name), constant_width value) ∷ []
-pairs k (item.always x next) = (register_width (k.shape x.name), operand_width k next) ∷ []
-pairs k (item.always_cell condition x index value) =
-    (operand_width k condition, Some 1) ∷ (memory_width (k.shape x.name), operand_width k value) ∷ []
-pairs k _ = []
 
 -- both widths are there, and they differ
 abbrev pub differ : Option ℕ × Option ℕ → Bool

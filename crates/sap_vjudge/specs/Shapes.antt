@@ -1,6 +1,7 @@
 -- What names are declared as, how they are used and what sets them, from the code's types.
 use Rattle.std.specs.Prelude.{◌+◌}
-use Rattle.sap_modtext.specs.Faults as faults
+use Rattle.sap_vtext.specs.Names as names
+use Rattle.sap_vtext.specs.Faults as faults
 use Rattle.sap_vjudge.specs.declared.shape.Shape.{Shape}
 use Rattle.sap_vjudge.specs.declared.shape.Shape.TheVariants as s
 use Rattle.sap_vjudge.specs.declared.shape.Setting.{Setting}
@@ -8,16 +9,16 @@ use Rattle.sap_vjudge.specs.declared.shape.Setting.TheVariants as t
 use Rattle.sap_vjudge.specs.declared.shape.Manner.{Manner}
 use Rattle.sap_vjudge.specs.declared.shape.Manner.TheVariants as m
 
-abbrev pub shape_of : Shape → faults.Shape
-shape_of (s.Input range) = faults.input (range + 1)
-shape_of (s.Wire range) = faults.wire (range + 1)
-shape_of (s.Register range) = faults.register (range + 1)
-shape_of (s.Memory range last) = faults.memory (range + 1) (last + 1)
+abbrev pub shape_of : Shape → names.Shape
+shape_of (s.Input range) = names.input (range + 1)
+shape_of (s.Wire range) = names.wire (range + 1)
+shape_of (s.Register range) = names.register (range + 1)
+shape_of (s.Memory range last) = names.memory (range + 1) (last + 1)
 
-abbrev pub setting_of : Setting → faults.Setting
-setting_of t.Assign = faults.assign
-setting_of t.Initial = faults.initial
-setting_of t.Always = faults.always
+abbrev pub setting_of : Setting → names.Setting
+setting_of t.Assign = names.assign
+setting_of t.Initial = names.initial
+setting_of t.Always = names.always
 
 abbrev pub manner_of : Manner → faults.Manner
 manner_of m.Value = faults.as_value

@@ -3,10 +3,10 @@ use Rattle.std.specs.Prelude.{ℕ, List, Option, Vec}
 use Rattle.std.specs.Global.{Global}
 use Rattle.std.specs.Map.{lookup}
 use Rattle.std.specs.Str.{bytes_eq}
+use Rattle.sap_vtext.specs.Names.{Known}
 use Rattle.sap_vjudge.specs.declared.entry.Entry.{Entry}
 use Rattle.sap_vjudge.specs.declared.table.Table.{Table}
 use Rattle.sap_vjudge.specs.Entries.{entry_shape, entry_set}
-use Rattle.sap_vjudge.specs.Known.{Known}
 
 abbrev pub entry_of : Table → List ℕ → Option Entry
 entry_of t n = lookup (λ (k : Vec ℕ Global). bytes_eq n k.items) t.entries.entries

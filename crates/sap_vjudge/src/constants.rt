@@ -1,8 +1,8 @@
 //! V5 at ranges and constants.
 
 ghost use Rattle.std.specs.Prelude.{◌≡◌, [], ◌∷◌, ◌++◌, flat_map};
-ghost use Rattle.sap_modtext.specs.Faults as faults;
-ghost use Rattle.sap_modtext.specs.Faults.{constants, operand_constants, ranges, right_constants};
+ghost use Rattle.sap_vtext.specs.Widths as widths;
+ghost use Rattle.sap_vtext.specs.Faults.{constants, operand_constants, ranges, right_constants};
 ghost use Rattle.sap_vjudge.specs.Best.{best_of};
 ghost use Rattle.sap_vjudge.specs.Listed.{constants_faults, range_faults, ranges_faults};
 ghost use Rattle.sap_vparse.specs.Views.{constant_of, item_of, number_of, operand_of, operands_of, right_of};
@@ -14,7 +14,7 @@ use sap_vparse::items::{Constant, Item, Number, Operand, Right};
 
 /// Whether a constant's width is from 1 to 64 and its number fits.
 pub fn constant_fits(constant: &Constant) -> bool
-    ensures { result ≡ faults.constant_fits (constant_of constant.now) }
+    ensures { result ≡ widths.constant_fits (constant_of constant.now) }
 {
     1 <= constant.width && constant.width <= 64 && constant.value <= mask(constant.width as u32)
 }

@@ -2,8 +2,8 @@
 
 ghost use Rattle.std.specs.Prelude.{◌≡◌, ◌||◌, Some, option_map};
 ghost use Rattle.std.specs.Option.{option_or};
-ghost use Rattle.sap_modtext.specs.Faults as faults;
-ghost use Rattle.sap_modtext.specs.Faults.{same_setting};
+ghost use Rattle.sap_vtext.specs.Names as names;
+ghost use Rattle.sap_vtext.specs.Names.{same_setting};
 ghost use Rattle.sap_vjudge.specs.Shapes.{shape_of, setting_of};
 ghost use Rattle.sap_vjudge.specs.Entries.{entry_shape, entry_set};
 
@@ -42,7 +42,7 @@ pub fn is_set_in(entry: Option<Entry>, setting: Setting) -> bool
 
 fn known(entry: Option<Entry>) -> Entry
     ensures shape { entry_shape (Some result) ≡ entry_shape entry }
-    ensures set { (s : faults.Setting) → entry_set (Some result) s ≡ entry_set entry s }
+    ensures set { (s : names.Setting) → entry_set (Some result) s ≡ entry_set entry s }
 {
     match entry {
         Some(known) => known,
@@ -58,7 +58,7 @@ fn known(entry: Option<Entry>) -> Entry
 /// With a declaration: the first counts.
 pub fn declared(entry: Option<Entry>, shape: Shape) -> Entry
     ensures shape { entry_shape (Some result) ≡ option_or (entry_shape entry) (Some (shape_of shape)) }
-    ensures set { (s : faults.Setting) → entry_set (Some result) s ≡ entry_set entry s }
+    ensures set { (s : names.Setting) → entry_set (Some result) s ≡ entry_set entry s }
 {
     let mut known = known(entry);
     if known.shape.is_none() {
@@ -70,7 +70,7 @@ pub fn declared(entry: Option<Entry>, shape: Shape) -> Entry
 /// With an item that sets the name.
 pub fn set(entry: Option<Entry>, setting: Setting) -> Entry
     ensures shape { entry_shape (Some result) ≡ entry_shape entry }
-    ensures set { (s : faults.Setting) → entry_set (Some result) s ≡ (entry_set entry s || same_setting s (setting_of setting)) }
+    ensures set { (s : names.Setting) → entry_set (Some result) s ≡ (entry_set entry s || same_setting s (setting_of setting)) }
 {
     let mut known = known(entry);
     match setting {

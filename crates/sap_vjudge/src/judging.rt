@@ -1,14 +1,12 @@
 //! The first fault of a module's tree.
 
-ghost use Rattle.std.specs.Prelude.{◌≡◌, ℕ, None, IfErr, IfOk, IsErrOf, OnOk};
-ghost use Rattle.sap_modtext.specs.Faults.{IsFaultless};
+ghost use Rattle.std.specs.Prelude.{◌≡◌, ◌≢◌, None, IfErr, IfOk, IsOkUnless, OnOk};
+ghost use Rattle.sap_vtext.specs.Faults.{IsFaultless};
 ghost use Rattle.sap_vjudge.specs.Best.{best_of};
-ghost use Rattle.sap_vjudge.specs.FirstFault.{IsFirstFault};
+ghost use Rattle.sap_vjudge.specs.FirstFault.{IsJudgeFault};
 ghost use Rattle.sap_vjudge.specs.Known.{nothing_known};
 ghost use Rattle.sap_vjudge.specs.Listed.{file_faults};
 ghost use Rattle.sap_vjudge.specs.Tables.{known_of};
-ghost use Rattle.sap_vjudge.specs.declared.code.Code.{Code};
-ghost use Rattle.sap_vjudge.specs.declared.fault.JudgeFault.TheVariants.{Memory, Rule};
 ghost use Rattle.sap_vparse.specs.Views.{file_of};
 
 use crate::fault::{Fault, JudgeFault};
@@ -47,9 +45,9 @@ fn first_fault(alloc: Global, file: &File) -> Result<Option<Fault>, AllocError>
 /// Whether none of V3 to V7 stands in a module's tree; else the first fault, by place and then by code.
 pub fn judge(alloc: Global, file: &File) -> Result<(), JudgeFault>
     ensures faultless { OnOk result (IsFaultless (file_of file.now)) }
-    ensures first { (code : Code) (place : ℕ) → IsErrOf result (Rule code place) → IsFirstFault (file_of file.now) code place }
+    ensures first { IfErr result (λ fault. fault ≢ JudgeFault.Memory → IsJudgeFault (file_of file.now) fault) }
     // A faultless tree is refused for want of memory alone.
-    ensures accepted { IsFaultless (file_of file.now) → IfErr result (λ e. e ≡ Memory) }
+    ensures accepted { IsFaultless (file_of file.now) → IsOkUnless result JudgeFault.Memory }
 {
     match first_fault(alloc, file)? {
         Some(fault) => Err(JudgeFault::Rule(fault.code, fault.place)),

@@ -1,7 +1,7 @@
 //! V7 at the numbers and indexes of memories.
 
 ghost use Rattle.std.specs.Prelude.{◌≡◌, ◌+◌, ◌≤◌, ◌^◌, ◌==◌, option_map};
-ghost use Rattle.sap_modtext.specs.Faults as faults;
+ghost use Rattle.sap_vtext.specs.Faults as faults;
 ghost use Rattle.sap_vjudge.specs.Best.{best_of};
 ghost use Rattle.sap_vjudge.specs.Listed as spec;
 ghost use Rattle.sap_vjudge.specs.Shapes.{shape_of};

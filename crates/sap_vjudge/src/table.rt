@@ -2,7 +2,7 @@
 
 ghost use Rattle.std.specs.Prelude.{◌≡◌, ◌+◌, ℕ, List, Some, option_map, OnOk, if◌then◌else◌};
 ghost use Rattle.std.specs.Str.{bytes_eq};
-ghost use Rattle.sap_modtext.specs.Faults as faults;
+ghost use Rattle.sap_vtext.specs.Names as names;
 ghost use Rattle.sap_vjudge.specs.Known.{nothing_known, with_shape, with_setting, with_integer, after_port, after_item};
 ghost use Rattle.sap_vjudge.specs.Shapes.{shape_of, setting_of};
 ghost use Rattle.sap_vjudge.specs.Tables.{entry_of, known_of};
@@ -24,7 +24,7 @@ pub struct Table {
 
 /// What a port is declared as.
 pub fn port_shape(port: &Port) -> Shape
-    ensures { shape_of result ≡ faults.port_shape (port_of port.now).direction ((port_of port.now).range.value + 1) }
+    ensures { shape_of result ≡ names.port_shape (port_of port.now).direction ((port_of port.now).range.value + 1) }
 {
     match port.direction {
         Direction::Input => Shape::Input(port.range.value),

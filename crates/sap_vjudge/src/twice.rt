@@ -1,7 +1,7 @@
 //! V3: what is declared or set a second time, and the `integer` of a `for`.
 
 ghost use Rattle.std.specs.Prelude.{◌≡◌, ◌&&◌, is_some, option_map};
-ghost use Rattle.sap_modtext.specs.Faults.{is_settable};
+ghost use Rattle.sap_vtext.specs.Faults.{is_settable};
 ghost use Rattle.sap_vjudge.specs.Best.{best_of, fault_if};
 ghost use Rattle.sap_vjudge.specs.Listed.{declared_faults};
 ghost use Rattle.sap_vjudge.specs.Shapes.{setting_of, shape_of};

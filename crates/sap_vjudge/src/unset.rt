@@ -1,8 +1,8 @@
 //! V6: declarations that lack an item that sets them.
 
 ghost use Rattle.std.specs.Prelude.{◌≡◌, ◌&&◌, not, map};
-ghost use Rattle.sap_modtext.specs.Faults as faults;
-ghost use Rattle.sap_modtext.specs.Faults.{item_declarations, port_declaration};
+ghost use Rattle.sap_vtext.specs.Faults as faults;
+ghost use Rattle.sap_vtext.specs.Names.{item_declarations, port_declaration};
 ghost use Rattle.sap_vjudge.specs.Best.{best_of};
 ghost use Rattle.sap_vjudge.specs.Listed as spec;
 ghost use Rattle.sap_vjudge.specs.Listed.{declaration_of, items_unset, ports_unset, unsets_faults};

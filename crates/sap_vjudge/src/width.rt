@@ -1,7 +1,8 @@
 //! Widths of what stands in an item, each only where what has it has no fault of its own.
 
 ghost use Rattle.std.specs.Prelude.{◌≡◌, ◌+◌, ◌≤◌, ◌^◌, IfSome, option_map};
-ghost use Rattle.sap_modtext.specs.Faults as faults;
+ghost use Rattle.sap_vtext.specs.Names as names;
+ghost use Rattle.sap_vtext.specs.Widths as widths;
 ghost use Rattle.sap_vjudge.specs.Listed as spec;
 ghost use Rattle.sap_vjudge.specs.Shapes.{shape_of};
 ghost use Rattle.sap_vjudge.specs.Tables.{known_of};
@@ -20,7 +21,7 @@ fn width(range: u64) -> u128
 }
 
 pub fn shape_width(shape: Shape) -> u128
-    ensures { result ≡ faults.shape_width (shape_of shape) }
+    ensures { result ≡ widths.shape_width (shape_of shape) }
 {
     match shape {
         Shape::Input(range) => width(range),
@@ -31,7 +32,7 @@ pub fn shape_width(shape: Shape) -> u128
 }
 
 pub fn wire_width(shape: Option<Shape>) -> Option<u128>
-    ensures { result ≡ faults.wire_width (option_map shape_of shape) }
+    ensures { result ≡ widths.wire_width (option_map shape_of shape) }
 {
     match shape {
         Some(Shape::Wire(range)) => Some(width(range)),
@@ -43,7 +44,7 @@ pub fn wire_width(shape: Option<Shape>) -> Option<u128>
 }
 
 pub fn register_width(shape: Option<Shape>) -> Option<u128>
-    ensures { result ≡ faults.register_width (option_map shape_of shape) }
+    ensures { result ≡ widths.register_width (option_map shape_of shape) }
 {
     match shape {
         Some(Shape::Register(range)) => Some(width(range)),
@@ -55,7 +56,7 @@ pub fn register_width(shape: Option<Shape>) -> Option<u128>
 }
 
 pub fn memory_width(shape: Option<Shape>) -> Option<u128>
-    ensures { result ≡ faults.memory_width (option_map shape_of shape) }
+    ensures { result ≡ widths.memory_width (option_map shape_of shape) }
 {
     match shape {
         Some(Shape::Memory(range, _)) => Some(width(range)),
@@ -67,7 +68,7 @@ pub fn memory_width(shape: Option<Shape>) -> Option<u128>
 }
 
 fn value_width(shape: Option<Shape>, assigned: bool) -> Option<u128>
-    ensures width { result ≡ faults.value_width (option_map shape_of shape) assigned }
+    ensures width { result ≡ widths.value_width (option_map shape_of shape) assigned }
     ensures bounded { IfSome result (λ w. w ≤ 2 ^ 64) }
 {
     match shape {
@@ -80,7 +81,7 @@ fn value_width(shape: Option<Shape>, assigned: bool) -> Option<u128>
 }
 
 pub fn constant_width(constant: &Constant) -> Option<u128>
-    ensures width { result ≡ faults.constant_width (constant_of constant.now) }
+    ensures width { result ≡ widths.constant_width (constant_of constant.now) }
     ensures bounded { IfSome result (λ w. w ≤ 2 ^ 64) }
 {
     if constant_fits(constant) {
@@ -92,7 +93,7 @@ pub fn constant_width(constant: &Constant) -> Option<u128>
 
 /// The width of a name as an operand.
 pub fn named_width(table: &Table, x: &Mention) -> Option<u128>
-    ensures width { result ≡ faults.value_width ((known_of table.now).shape x.now.name) ((known_of table.now).set faults.assign x.now.name) }
+    ensures width { result ≡ widths.value_width ((known_of table.now).shape x.now.name) ((known_of table.now).set names.assign x.now.name) }
     ensures bounded { IfSome result (λ w. w ≤ 2 ^ 64) }
 {
     let shape = table.shape(&x.name);
@@ -101,7 +102,7 @@ pub fn named_width(table: &Table, x: &Mention) -> Option<u128>
 }
 
 pub fn operand_width(table: &Table, operand: &Operand) -> Option<u128>
-    ensures width { result ≡ spec.operand_width (known_of table.now) (operand_of operand.now) }
+    ensures width { result ≡ widths.operand_width (known_of table.now) (operand_of operand.now) }
     ensures bounded { IfSome result (λ w. w ≤ 2 ^ 64) }
 {
     match operand {
@@ -113,7 +114,7 @@ pub fn operand_width(table: &Table, operand: &Operand) -> Option<u128>
 /// The sum of the parts of a `{}`.
 #[tactic(auto, using(crate::proofs::Parts::parts))]
 pub fn parts_width(table: &Table, parts: &[Operand]) -> Option<u128>
-    ensures { result ≡ spec.parts_width (known_of table.now) (operands_of parts.now) }
+    ensures { result ≡ widths.parts_width (known_of table.now) (operands_of parts.now) }
 {
     let mut sum: u128 = 0;
     for part in parts {
@@ -126,7 +127,7 @@ pub fn parts_width(table: &Table, parts: &[Operand]) -> Option<u128>
 }
 
 pub fn slice_width(width: Option<u128>, high: u64, low: u64) -> Option<u128>
-    ensures { result ≡ faults.slice_width width high low }
+    ensures { result ≡ widths.slice_width width high low }
 {
     match width {
         Some(whole) => {

@@ -2,10 +2,10 @@
 
 ghost use Rattle.std.specs.Prelude.{◌≡◌, ◌||◌, option_map};
 ghost use Rattle.std.specs.List.{list_any};
-ghost use Rattle.sap_modtext.specs.Faults.{all_equal, binary_pairs, binary_rule, compared, unary_pairs, unary_rule};
+ghost use Rattle.sap_vtext.specs.Widths as widths;
+ghost use Rattle.sap_vtext.specs.Widths.{all_equal, binary_pairs, binary_rule, compared, unary_pairs, unary_rule, arm_pairs};
 ghost use Rattle.sap_vjudge.specs.Best.{best_of};
 ghost use Rattle.sap_vjudge.specs.Listed as spec;
-ghost use Rattle.sap_vjudge.specs.Listed.{arm_pairs};
 ghost use Rattle.sap_vjudge.specs.Shapes.{shape_of};
 ghost use Rattle.sap_vjudge.specs.Tables.{known_of};
 ghost use Rattle.sap_vparse.specs.Views.{item_of, operand_of, right_of};
@@ -107,7 +107,7 @@ fn choice_differs(
     x: &Operand,
     y: &Operand,
 ) -> bool
-    ensures { result ≡ list_any spec.differ (arm_pairs (spec.operand_width (known_of table.now) (operand_of condition.now)) target (spec.operand_width (known_of table.now) (operand_of x.now)) (spec.operand_width (known_of table.now) (operand_of y.now))) }
+    ensures { result ≡ list_any spec.differ (arm_pairs (widths.operand_width (known_of table.now) (operand_of condition.now)) target (widths.operand_width (known_of table.now) (operand_of x.now)) (widths.operand_width (known_of table.now) (operand_of y.now))) }
 {
     let asked = operand_width(table, condition);
     let one = operand_width(table, x);
@@ -116,7 +116,7 @@ fn choice_differs(
 }
 
 fn right_differs(table: &Table, target: Option<u128>, right: &Right) -> bool
-    ensures { result ≡ (list_any spec.differ (spec.right_pairs (known_of table.now) target (right_of right.now)) || spec.right_too_wide (known_of table.now) (right_of right.now)) }
+    ensures { result ≡ (list_any spec.differ (widths.right_pairs (known_of table.now) target (right_of right.now)) || spec.right_too_wide (known_of table.now) (right_of right.now)) }
 {
     match right {
         Right::Copy(x) => differ(target, operand_width(table, x)),

@@ -6,8 +6,8 @@ use Rattle.sap_text.specs.Blanks.{is_blank, is_comment}
 use Rattle.sap_text.specs.Names.{is_initial}
 use Rattle.sap_text.specs.Runs.{number_of, run}
 use Rattle.sap_text.specs.declared.scan.Class.TheVariants as c
-use Rattle.sap_modtext.specs.Lexing as l
-use Rattle.sap_modtext.specs.Lexing.{sign_text, word_text}
+use Rattle.sap_vtext.specs.Lexing as l
+use Rattle.sap_vtext.specs.Lexing.{sign_text, word_text}
 use Rattle.sap_vlex.specs.Spelling.{kind_of_token, sign_of, word_of}
 use Rattle.sap_vlex.specs.declared.lexeme.Lexeme.TheVariants.{Blank, Token, Bad}
 use Rattle.sap_vlex.specs.declared.lexeme.Lexeme.{Lexeme}

@@ -1,7 +1,7 @@
 -- What the lexer answers.
 use Rattle.std.specs.Prelude.{◌≡◌, ℕ, ◌+◌, ◌<◌, ◌≤◌, List, length, drop}
-use Rattle.sap_modtext.specs.Lexing.{front, blank, token, bad}
-use Rattle.sap_modtext.specs.Tokens.{Kind}
+use Rattle.sap_vtext.specs.Lexing.{front, blank, token, bad}
+use Rattle.sap_vtext.specs.Tokens.{Kind}
 use Rattle.sap_vlex.specs.declared.fault.ReadFault.TheVariants as f
 use Rattle.sap_vlex.specs.declared.fault.ReadFault.{ReadFault}
 use Rattle.sap_vlex.specs.declared.lexeme.Lexeme.TheVariants as l
@@ -23,4 +23,4 @@ pub data IsBadAt : ℕ → List ℕ → ℕ → Type 0 where
 abbrev pub IsLexFault : List ℕ → ReadFault → Type 0
 IsLexFault text (f.V1 place) = IsBadAt 0 text place
 IsLexFault text (f.V2 place) = ⊥
-IsLexFault text f.Memory = Unit {0}
+IsLexFault text f.Memory = ⊥

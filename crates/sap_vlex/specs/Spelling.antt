@@ -1,6 +1,6 @@
 -- The tokens of the module grammar, from the reader's types.
 use Rattle.std.specs.Prelude.{List, map}
-use Rattle.sap_modtext.specs.Tokens as t
+use Rattle.sap_vtext.specs.Tokens as t
 use Rattle.sap_vlex.specs.declared.token.Kind.{Kind}
 use Rattle.sap_vlex.specs.declared.token.Kind.TheVariants as k
 use Rattle.sap_vlex.specs.declared.token.Sign.{Sign}

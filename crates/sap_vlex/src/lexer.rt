@@ -1,7 +1,7 @@
 //! The tokens of a text.
 
-ghost use Rattle.std.specs.Prelude.{IfErr, IfOk};
-ghost use Rattle.sap_modtext.specs.Lexing.{Lexed};
+ghost use Rattle.std.specs.Prelude.{◌≢◌, IfErr, IfOk};
+ghost use Rattle.sap_vtext.specs.Lexing.{Lexed};
 ghost use Rattle.sap_vlex.specs.Lexing.{IsLexFault};
 ghost use Rattle.sap_vlex.specs.Spelling.{tokens_of};
 
@@ -13,7 +13,7 @@ use std::alloc::Global;
 /// The tokens of a text.
 pub fn lex(alloc: Global, text: &[u8]) -> Result<Vec<Token>, ReadFault>
     ensures tokens { IfOk result (λ list. Lexed 0 text.now (tokens_of list.items)) }
-    ensures fault { IfErr result (IsLexFault text.now) }
+    ensures fault { IfErr result (λ fault. fault ≢ ReadFault.Memory → IsLexFault text.now fault) }
 {
     let mut tokens = Vec::new(alloc);
     let mut n = 0;

@@ -1,6 +1,6 @@
 -- The place behind the tokens that were read.
 use Rattle.std.proofs.Common.{◌≡◌, ◌≢◌, ℕ, List, [], ◌∷◌, refl}
-use Rattle.sap_modtext.specs.Tokens.{Token}
+use Rattle.sap_vtext.specs.Tokens.{Token}
 use Rattle.sap_vparse.specs.Reading.{head, here, of_nothing}
 use Rattle.sap_vparse.specs.Text.{fault_place}
 

@@ -2,7 +2,7 @@
 use Rattle.std.proofs.Common.{◌≡◌, ◌<◌, ◌≤◌, ◌+◌, ℕ, List, [], ◌∷◌, length, drop, get_or, ap, refl, sym, None, ◌≢◌, ◌∙◌, arith, drop-cons}
 use Rattle.std.proofs.lemmas.Grind.{common_steps}
 use Rattle.sap_lemmas.proofs.Numbers.{one_more}
-use Rattle.sap_modtext.specs.Tokens as t
+use Rattle.sap_vtext.specs.Tokens as t
 use Rattle.sap_vparse.specs.Reading.{Passes, constant_in, front_constant, front_name, front_number, head, head_of, here, name_in, number_in, of_nothing, Head}
 use Rattle.sap_vlex.specs.Spelling.{kind_of_token, token_of, tokens_of}
 use Rattle.sap_vlex.specs.declared.token.Token.{Token}

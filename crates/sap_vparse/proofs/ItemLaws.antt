@@ -1,6 +1,6 @@
 -- What the symbols of items read, by the symbols of their productions.
 use Rattle.std.proofs.Common.{◌≡◌, ◌≢◌, List, [], ◌∷◌, Ok, Err, refl, ap}
-use Rattle.sap_modtext.specs.Tokens as t
+use Rattle.sap_vtext.specs.Tokens as t
 use Rattle.sap_vparse.specs.Choices.{after_head, item_head, right_head}
 use Rattle.sap_vparse.specs.Reading.{plain, head, head_of, of_name, of_nothing, of_sign, of_word, reads, steps}
 use Rattle.sap_vparse.specs.Table as s

@@ -4,8 +4,8 @@ use Rattle.sap_bits.specs.declared.Op1.TheVariants as unary
 use Rattle.sap_bits.specs.declared.Op1.{Op1}
 use Rattle.sap_bits.specs.declared.Op2.TheVariants as binary
 use Rattle.sap_bits.specs.declared.Op2.{Op2}
-use Rattle.sap_modtext.specs.Grammar.{binary_sign, unary_sign}
-use Rattle.sap_modtext.specs.Tokens as t
+use Rattle.sap_vtext.specs.Grammar.{binary_sign, unary_sign}
+use Rattle.sap_vtext.specs.Tokens as t
 use Rattle.sap_vparse.specs.Choices.{after_head, item_head, right_head}
 use Rattle.sap_vparse.specs.Reading.{Head, head, head_of, of_name, of_number, of_sign, of_word, reads, steps}
 use Rattle.sap_vparse.specs.Table as s

@@ -2,10 +2,10 @@
 use Rattle.std.proofs.Common.{◌≡◌, ℕ, List, [], ◌∷◌, ◌++◌, Option, Some, sym, ap, subst, ◌∙◌}
 use Rattle.sap_bits.specs.declared.Op1.{Op1}
 use Rattle.sap_bits.specs.declared.Op2.{Op2}
-use Rattle.sap_modtext.specs.Grammar as g
-use Rattle.sap_modtext.specs.Grammar.{AreParts, IsClocked, IsItem, IsLoop, IsName, IsOperand, IsPort, IsRange, IsSign, IsWord, binary_sign, unary_sign}
-use Rattle.sap_modtext.specs.Items as item
-use Rattle.sap_modtext.specs.Tokens as t
+use Rattle.sap_vtext.specs.Grammar as g
+use Rattle.sap_vtext.specs.Grammar.{AreParts, IsClocked, IsItem, IsLoop, IsName, IsOperand, IsPort, IsRange, IsSign, IsWord, binary_sign, unary_sign}
+use Rattle.sap_vtext.specs.Items as item
+use Rattle.sap_vtext.specs.Tokens as t
 use Rattle.sap_vparse.specs.Parts as p
 use Rattle.sap_vparse.specs.Parts.{IsBehind, IsOutput, ItemsEnd, PartsEnd, PortsEnd, RegisterEnds, RightEnds, register_with, right_with}
 use Rattle.sap_vparse.specs.Reading.{here}

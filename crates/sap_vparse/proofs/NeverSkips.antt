@@ -1,7 +1,7 @@
 -- No token leaves a symbol of the table out.
 use Rattle.std.proofs.Common.{◌≢◌, ℕ, List, [], ◌∷◌, Bool, true, false, refl, eqb}
 use Rattle.std.specs.Prelude.{◌&&◌}
-use Rattle.sap_modtext.specs.Tokens as t
+use Rattle.sap_vtext.specs.Tokens as t
 use Rattle.sap_vparse.specs.Table as s
 use Rattle.sap_vparse.specs.Table.{Symbol, Row, first, grammar, may_be_empty, next}
 use Rattle.sap_walk.specs.Rows.{push}

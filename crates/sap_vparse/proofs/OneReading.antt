@@ -1,14 +1,14 @@
 -- The read fault of a text is where the walk stops, and a text has one reading.
-use Rattle.std.proofs.Common.{◌≡◌, ◌≢◌, ◌+◌, ℕ, List, [], ◌∷◌, ◌++◌, length, drop, None, Result, Ok, Err, IfOk, IfErr, refl, sym, ap, subst, ◌∙◌, append_assoc, arith}
+use Rattle.std.proofs.Common.{◌≡◌, ◌+◌, ℕ, List, [], ◌∷◌, ◌++◌, length, drop, None, Result, Ok, Err, IfOk, IfErr, refl, sym, ap, subst, ◌∙◌, append_assoc, arith}
 use Rattle.std.proofs.lemmas.List.{append-nil}
-use Rattle.sap_modtext.proofs.LexingLemmas.{front_at_end}
-use Rattle.sap_modtext.specs.Grammar.{IsFile}
-use Rattle.sap_modtext.specs.Items.{File}
-use Rattle.sap_modtext.specs.Lexing.{Front, Lexed, blank, front, token}
-use Rattle.sap_modtext.specs.Lexing as x
-use Rattle.sap_modtext.specs.Tokens.{Token}
-use Rattle.sap_modtext.proofs.OneFile.{one_file}
-use Rattle.sap_modtext.proofs.OneLexing.{one_lexing}
+use Rattle.sap_vtext.proofs.LexingLemmas.{front_at_end}
+use Rattle.sap_vtext.specs.Grammar.{IsFile}
+use Rattle.sap_vtext.specs.Items.{File}
+use Rattle.sap_vtext.specs.Lexing.{Front, Lexed, blank, front, token}
+use Rattle.sap_vtext.specs.Lexing as x
+use Rattle.sap_vtext.specs.Tokens.{Token}
+use Rattle.sap_vtext.proofs.OneFile.{one_file}
+use Rattle.sap_vtext.proofs.OneLexing.{one_lexing}
 use Rattle.sap_vlex.specs.Lexing.{IsBadAt, IsLexFault, blank_first, here, token_first}
 use Rattle.sap_vparse.specs.Reading.{Goes, Outcome, plain, reads}
 use Rattle.sap_vparse.specs.Table as s
@@ -69,15 +69,15 @@ unexpected_there ts left e = by_outcome (walk.walk grammar ts tt (s.file ∷ [])
 
 -- what the reader answers
 
-pub fault_lexed : (text : List ℕ) (e : ReadFault) → IsLexFault text e → e ≢ f.Memory → IsReadFault text e
-fault_lexed text (f.V1 place) h known = no_token h
-fault_lexed text (f.V2 place) h known = absurd h
-fault_lexed text f.Memory h known = absurd (known refl)
+pub fault_lexed : (text : List ℕ) (e : ReadFault) → IsLexFault text e → IsReadFault text e
+fault_lexed text (f.V1 place) h = no_token h
+fault_lexed text (f.V2 place) h = absurd h
+fault_lexed text f.Memory h = absurd h
 
 pub fault_at_token : {A : Type 0} (text : List ℕ) (ts start left : List Token) (place : ℕ) (r : Result A Fault) → Lexed 0 text ts → start ≡ ts
     → Goes s.file start r left → r ≡ Err h.Token → place ≡ fault_place text left → IsReadFault text (f.V2 place)
 fault_at_token text ts start left place r lexed begin goes is at =
-    let stops : reads s.file start ≡ Err left = subst (λ r. Goes s.file start r left) is goes in
+    let stops : reads s.file start ≡ Err left = subst (λ r. Goes s.file start r left) is goes (λ memory. cc) in
     subst (λ n. IsReadFault text (f.V2 n)) (sym at) (unexpected lexed (unexpected_there ts left (ap (reads s.file) (sym begin) ∙ stops)))
 
 pub text_is : (text : List ℕ) (ts start left : List Token) (x : File) → Lexed 0 text ts → start ≡ ts → IsFile start x left → left ≡ [] → IsText text x

@@ -3,8 +3,8 @@ use Rattle.std.proofs.Common.{◌≡◌, ◌≢◌, ◌<◌, ℕ, List, [], ◌�
 use Rattle.std.specs.Prelude.{◌==◌, ◌&&◌, if◌then◌else◌}
 use Rattle.sap_lemmas.proofs.Numbers.{test_of_same}
 use Rattle.std.proofs.lemmas.Bool.{eqb-true}
-use Rattle.sap_modtext.specs.Tokens as t
-use Rattle.sap_modtext.specs.Tokens.{IsToken}
+use Rattle.sap_vtext.specs.Tokens as t
+use Rattle.sap_vtext.specs.Tokens.{IsToken}
 use Rattle.sap_vparse.specs.Reading.{Passes, Head, ahead_of, constant_in, front_constant, front_name, front_number, head, head_of, name_in, number_in, of_name, of_nothing, of_number, of_sign, of_word, plain, reads, steps}
 use Rattle.sap_vlex.specs.Spelling.{sign_of, word_of}
 use Rattle.sap_vparse.specs.Table as s

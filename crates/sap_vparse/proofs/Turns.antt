@@ -2,8 +2,8 @@
 use Rattle.std.proofs.Common.{◌≡◌, ◌≢◌, List, [], ◌∷◌, ap, ◌∙◌}
 use Rattle.sap_bits.specs.declared.Op1.{Op1}
 use Rattle.sap_bits.specs.declared.Op2.{Op2}
-use Rattle.sap_modtext.specs.Grammar.{binary_sign, unary_sign}
-use Rattle.sap_modtext.specs.Tokens as t
+use Rattle.sap_vtext.specs.Grammar.{binary_sign, unary_sign}
+use Rattle.sap_vtext.specs.Tokens as t
 use Rattle.sap_vparse.specs.Choices.{after_head, item_head, right_head}
 use Rattle.sap_vparse.specs.Reading.{head, of_name, of_number, of_sign, reads}
 use Rattle.sap_vparse.specs.Rows.{in_turn, reads_row, several, single}

@@ -4,11 +4,11 @@ use Rattle.std.specs.Prelude.{◌&&◌}
 use Rattle.std.proofs.lemmas.Bool.{eqb-true}
 use Rattle.sap_bits.specs.declared.Op1.TheVariants as unary
 use Rattle.sap_bits.specs.declared.Op2.TheVariants as binary
-use Rattle.sap_modtext.specs.Grammar as g
-use Rattle.sap_modtext.specs.Grammar.{AreItems, AreParts, ArePorts, IsClocked, IsConstant, IsDigit, IsFile, IsItem, IsLoop, IsName, IsNumber, IsOperand, IsPort, IsRange, IsRight, IsSign, IsWord}
-use Rattle.sap_modtext.specs.Items as item
-use Rattle.sap_modtext.specs.Tokens as t
-use Rattle.sap_modtext.specs.Tokens.{IsToken}
+use Rattle.sap_vtext.specs.Grammar as g
+use Rattle.sap_vtext.specs.Grammar.{AreItems, AreParts, ArePorts, IsClocked, IsConstant, IsDigit, IsFile, IsItem, IsLoop, IsName, IsNumber, IsOperand, IsPort, IsRange, IsRight, IsSign, IsWord}
+use Rattle.sap_vtext.specs.Items as item
+use Rattle.sap_vtext.specs.Tokens as t
+use Rattle.sap_vtext.specs.Tokens.{IsToken}
 use Rattle.sap_vparse.specs.Parts.{ItemsEnd, PortsEnd, RightEnds}
 use Rattle.sap_vparse.specs.Table as s
 use Rattle.sap_vparse.specs.Table.{Symbol, Row, first, grammar, next}

@@ -1,7 +1,7 @@
 -- What the reader chooses by the next token.
 use Rattle.sap_bits.specs.declared.Op1.TheVariants as unary
 use Rattle.sap_bits.specs.declared.Op2.TheVariants as binary
-use Rattle.sap_modtext.specs.Tokens as t
+use Rattle.sap_vtext.specs.Tokens as t
 use Rattle.sap_vparse.specs.Reading.{Head, of_word, of_sign, of_name}
 use Rattle.sap_vparse.specs.declared.choice.AfterHead.TheVariants as a
 use Rattle.sap_vparse.specs.declared.choice.AfterHead.{AfterHead}

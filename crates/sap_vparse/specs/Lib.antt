@@ -5,7 +5,3 @@ pub mod Rows
 pub mod Table
 pub mod Text
 pub mod Views
-pub use Rattle.sap_modtext.specs.Grammar
-pub use Rattle.sap_modtext.specs.Items
-pub use Rattle.sap_modtext.specs.Tokens
-pub use Rattle.sap_vlex.specs.Spelling

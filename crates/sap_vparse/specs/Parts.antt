@@ -1,10 +1,10 @@
 -- Parts of productions, as functions of the reader take them.
 use Rattle.std.specs.Prelude.{◌≡◌, List, ◌++◌, Option, None, Some}
 use Rattle.sap_bits.specs.declared.Op2.{Op2}
-use Rattle.sap_modtext.specs.Grammar.{AreItems, AreParts, ArePorts, IsClocked, IsDigit, IsItem, IsName, IsNumber, IsOperand, IsRight, IsSign, IsWord, binary_sign}
-use Rattle.sap_modtext.specs.Items as item
-use Rattle.sap_modtext.specs.Tokens as t
-use Rattle.sap_modtext.specs.Tokens.{Token}
+use Rattle.sap_vtext.specs.Grammar.{AreItems, AreParts, ArePorts, IsClocked, IsDigit, IsItem, IsName, IsNumber, IsOperand, IsRight, IsSign, IsWord, binary_sign}
+use Rattle.sap_vtext.specs.Items as item
+use Rattle.sap_vtext.specs.Tokens as t
+use Rattle.sap_vtext.specs.Tokens.{Token}
 use Rattle.sap_vparse.specs.Views.{mention_of, number_of, operand_of, operands_of}
 use Rattle.sap_vparse.specs.declared.items.Direction.{Direction}
 use Rattle.sap_vparse.specs.declared.items.Direction.TheVariants as d

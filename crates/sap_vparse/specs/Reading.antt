@@ -1,6 +1,6 @@
 -- What the reader's functions answer.
-use Rattle.std.specs.Prelude.{◌≡◌, ℕ, List, [], ◌∷◌, Option, Some, None, Result, Ok, Err}
-use Rattle.sap_modtext.specs.Tokens as t
+use Rattle.std.specs.Prelude.{◌≡◌, ◌≢◌, ℕ, List, [], ◌∷◌, Option, Some, None, Result, Ok, Err}
+use Rattle.sap_vtext.specs.Tokens as t
 use Rattle.sap_vlex.specs.Spelling.{sign_of, word_of}
 use Rattle.sap_vparse.specs.Table.{Symbol, grammar}
 use Rattle.sap_vparse.specs.declared.cursor.Ahead.TheVariants as a
@@ -29,8 +29,7 @@ steps (s ∷ σ) ts = reads s ts >>= steps σ
 
 -- a reader of s that faults there does as the walk does, and stays there
 abbrev pub Stops : Symbol → List t.Token → Fault → List t.Token → Type 0
-Stops s old f.Token new = reads s old ≡ Err new
-Stops s old f.Memory new = Unit {0}
+Stops s old fault new = fault ≢ f.Memory → reads s old ≡ Err new
 
 -- a reader of s that answers this between these tokens does as the walk does
 abbrev pub Goes : {A : Type 0} → Symbol → List t.Token → Result A Fault → List t.Token → Type 0

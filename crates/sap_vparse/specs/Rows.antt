@@ -1,8 +1,8 @@
 -- Tokens in a row.
-use Rattle.std.specs.Prelude.{◌≡◌, List, [], ◌∷◌, map, Result, Ok, Err}
-use Rattle.sap_modtext.specs.Grammar.{IsConstant, IsDigit, IsName, IsNumber, IsOperand, IsSign, IsWord}
-use Rattle.sap_modtext.specs.Items as item
-use Rattle.sap_modtext.specs.Tokens as t
+use Rattle.std.specs.Prelude.{◌≡◌, ◌≢◌, List, [], ◌∷◌, map, Result, Ok, Err}
+use Rattle.sap_vtext.specs.Grammar.{IsConstant, IsDigit, IsName, IsNumber, IsOperand, IsSign, IsWord}
+use Rattle.sap_vtext.specs.Items as item
+use Rattle.sap_vtext.specs.Tokens as t
 use Rattle.sap_vparse.specs.Reading.{Outcome, reads, steps}
 use Rattle.sap_walk.specs.Walk.{◌>>=◌}
 use Rattle.sap_vlex.specs.Spelling.{sign_of, word_of}
@@ -27,8 +27,7 @@ reads_row σ ts = steps σ ts
 
 -- a reader of a row that faults there does as the walk does, and stays there
 abbrev pub StopsOn : List Symbol → List t.Token → Fault → List t.Token → Type 0
-StopsOn σ old f.Token new = reads_row σ old ≡ Err new
-StopsOn σ old f.Memory new = Unit {0}
+StopsOn σ old fault new = fault ≢ f.Memory → reads_row σ old ≡ Err new
 
 -- a reader of a row that answers this between these tokens does as the walk does
 abbrev pub GoesOn : {A : Type 0} → List Symbol → List t.Token → Result A Fault → List t.Token → Type 0

@@ -1,6 +1,6 @@
 -- The module grammar as the walk reads it: what each token does with each symbol.
 use Rattle.std.specs.Prelude.{ℕ, ◌==◌, ◌&&◌, Bool, true, false, List, [], ◌∷◌, Ok}
-use Rattle.sap_modtext.specs.Tokens as t
+use Rattle.sap_vtext.specs.Tokens as t
 use Rattle.sap_walk.specs.Rows.{push}
 use Rattle.sap_walk.specs.Walk.{Next, begins, cannot_stand, Table}
 

@@ -1,9 +1,9 @@
 -- The file of a module's text, and the read fault of a text that has none.
 use Rattle.std.specs.Prelude.{ℕ, List, [], ◌∷◌, length, Option}
-use Rattle.sap_modtext.specs.Grammar.{IsFile}
-use Rattle.sap_modtext.specs.Items.{File}
-use Rattle.sap_modtext.specs.Lexing.{Lexed}
-use Rattle.sap_modtext.specs.Tokens.{Token}
+use Rattle.sap_vtext.specs.Grammar.{IsFile}
+use Rattle.sap_vtext.specs.Items.{File}
+use Rattle.sap_vtext.specs.Lexing.{Lexed}
+use Rattle.sap_vtext.specs.Tokens.{Token}
 use Rattle.sap_vlex.specs.Lexing.{IsBadAt}
 use Rattle.sap_vlex.specs.declared.fault.ReadFault.TheVariants as f
 use Rattle.sap_vlex.specs.declared.fault.ReadFault.{ReadFault}

@@ -1,6 +1,6 @@
 -- The tree of a module's text, from the reader's types.
 use Rattle.std.specs.Prelude.{List, map}
-use Rattle.sap_modtext.specs.Items as item
+use Rattle.sap_vtext.specs.Items as item
 use Rattle.sap_vparse.specs.declared.items.Constant.{Constant}
 use Rattle.sap_vparse.specs.declared.items.Direction.{Direction}
 use Rattle.sap_vparse.specs.declared.items.Direction.TheVariants as d

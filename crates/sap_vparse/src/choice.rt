@@ -1,7 +1,7 @@
 //! What the reader chooses by the next token.
 
 ghost use Rattle.std.specs.Prelude.{◌≡◌};
-ghost use Rattle.sap_modtext.specs.Grammar as g;
+ghost use Rattle.sap_vtext.specs.Grammar as g;
 ghost use Rattle.sap_vlex.specs.Spelling.{sign_of, word_of};
 ghost use Rattle.sap_vparse.specs.Choices.{after_head, item_head, right_head, sign_after, sign_right, word_item};
 ghost use Rattle.sap_vparse.specs.Reading.{ahead_of};

@@ -1,8 +1,8 @@
 //! The tokens that are left.
 
 ghost use Rattle.std.specs.Prelude.{◌≡◌, ◌≢◌, ◌<◌, [], IfOk, false, length, true};
-ghost use Rattle.sap_modtext.specs.Grammar.{IsConstant, IsDigit, IsName, IsNumber, IsSign, IsWord};
-ghost use Rattle.sap_modtext.specs.Tokens as t;
+ghost use Rattle.sap_vtext.specs.Grammar.{IsConstant, IsDigit, IsName, IsNumber, IsSign, IsWord};
+ghost use Rattle.sap_vtext.specs.Tokens as t;
 ghost use Rattle.sap_vlex.specs.Spelling.{kind_of_token, sign_of, tokens_of, word_of};
 ghost use Rattle.sap_vparse.specs.Reading.{Goes, Passes, ahead_of, constant_in, front_constant, front_name, front_number, head, head_of, here, name_in, number_in, of_name, of_nothing, of_number, of_sign, of_word};
 ghost use Rattle.sap_vparse.specs.Table as s;
@@ -103,7 +103,7 @@ pub struct Cursor<'a> {
 
 impl<'a> Model for Cursor<'a> {
     ghost use Rattle.std.specs.Prelude.{◌≤◌, List, drop, length};
-    ghost use Rattle.sap_modtext.specs.Tokens.{Token};
+    ghost use Rattle.sap_vtext.specs.Tokens.{Token};
     ghost use Rattle.sap_vlex.specs.Spelling.{tokens_of};
 
     ghost Value = { List Token };

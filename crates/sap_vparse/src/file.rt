@@ -1,7 +1,7 @@
 //! The reader of files.
 
 ghost use Rattle.std.specs.Prelude.{◌≡◌, [], IfOk};
-ghost use Rattle.sap_modtext.specs.Grammar.{IsFile};
+ghost use Rattle.sap_vtext.specs.Grammar.{IsFile};
 ghost use Rattle.sap_vparse.specs.Parts.{ItemsEnd};
 ghost use Rattle.sap_vparse.specs.Reading.{Goes};
 ghost use Rattle.sap_vparse.specs.Table as s;

@@ -1,7 +1,7 @@
 //! The reader of items.
 
 ghost use Rattle.std.specs.Prelude.{◌≡◌, ◌≢◌, ◌<◌, IfOk, length};
-ghost use Rattle.sap_modtext.specs.Grammar.{IsItem, IsLoop};
+ghost use Rattle.sap_vtext.specs.Grammar.{IsItem, IsLoop};
 ghost use Rattle.sap_vparse.specs.Choices.{item_head};
 ghost use Rattle.sap_vparse.specs.Parts.{AfterClock, AfterInitial, RegisterEnds, register_with};
 ghost use Rattle.sap_vparse.specs.Reading.{Goes, head, of_name};

@@ -1,7 +1,7 @@
 //! The laws of texts.
 
 ghost use Rattle.std.specs.Prelude.{◌≡◌, List, ℕ};
-ghost use Rattle.sap_modtext.specs.Items.{File};
+ghost use Rattle.sap_vtext.specs.Items.{File};
 ghost use Rattle.sap_vlex.specs.declared.fault.ReadFault.{ReadFault};
 ghost use Rattle.sap_vparse.specs.Text.{IsReadFault, IsText};
 

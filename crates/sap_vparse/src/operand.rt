@@ -1,7 +1,7 @@
 //! The reader of operands.
 
 ghost use Rattle.std.specs.Prelude.{◌<◌, ◌∷◌, IfOk, length};
-ghost use Rattle.sap_modtext.specs.Grammar.{IsOperand};
+ghost use Rattle.sap_vtext.specs.Grammar.{IsOperand};
 ghost use Rattle.sap_vparse.specs.Reading.{Goes};
 ghost use Rattle.sap_vparse.specs.Rows.{GoesOn, OperandThen, symbols_of};
 ghost use Rattle.sap_vparse.specs.Table as s;

@@ -1,8 +1,8 @@
 //! The reader of ports.
 
 ghost use Rattle.std.specs.Prelude.{◌≡◌, ◌≢◌, ◌<◌, IfOk, length};
-ghost use Rattle.sap_modtext.specs.Grammar.{IsPort, IsRange};
-ghost use Rattle.sap_modtext.specs.Tokens as t;
+ghost use Rattle.sap_vtext.specs.Grammar.{IsPort, IsRange};
+ghost use Rattle.sap_vtext.specs.Tokens as t;
 ghost use Rattle.sap_vparse.specs.Parts.{IsOutput, PortsEnd};
 ghost use Rattle.sap_vparse.specs.Reading.{Goes, head, of_word};
 ghost use Rattle.sap_vparse.specs.Table as s;

@@ -1,7 +1,7 @@
 //! The reader of texts.
 
 ghost use Rattle.std.specs.Prelude.{◌≡◌, ◌≢◌, IfErr, IfOk};
-ghost use Rattle.sap_modtext.specs.Items as item;
+ghost use Rattle.sap_vtext.specs.Items as item;
 ghost use Rattle.sap_vparse.specs.Text.{IsReadFault, IsText, fault_place};
 ghost use Rattle.sap_vparse.specs.Views.{file_of};
 

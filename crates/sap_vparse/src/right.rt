@@ -1,7 +1,7 @@
 //! The reader of right sides.
 
 ghost use Rattle.std.specs.Prelude.{◌≡◌, ◌≢◌, ◌<◌, IfOk, length};
-ghost use Rattle.sap_modtext.specs.Grammar as g;
+ghost use Rattle.sap_vtext.specs.Grammar as g;
 ghost use Rattle.sap_vparse.specs.Choices.{after_head, right_head};
 ghost use Rattle.sap_vparse.specs.Parts.{Indexes, IsBehind, PartsEnd, RightEnds, right_with};
 ghost use Rattle.sap_vparse.specs.Reading.{Goes, head, of_number};

@@ -22,8 +22,9 @@ use Rattle.sap_net.specs.declared.parts.Memory.{Memory}
 use Rattle.sap_net.specs.Names.{is_among, AreDistinct}
 use Rattle.sap_net.specs.Net.{Net}
 use Rattle.sap_net.specs.IsNetlist.{IsNetlist, input_names, wire_names, register_names, memory_names, PortShows, is_input}
-use Rattle.sap_modtext.specs.Faults.{Shape, input, wire, register, memory, Among, Declaration, port_shape, port_declaration, item_declarations, declarations, shape_in}
-use Rattle.sap_modtext.proofs.NameLists.{found_key, distinct_parts, found_among, among_found, found_all, named_among, among_left, among_right, among_mapped, among_cases, not_among, all_from}
+use Rattle.sap_text.specs.Best.{StandsIn}
+use Rattle.sap_vtext.specs.Names.{Shape, input, wire, register, memory, Declaration, port_shape, port_declaration, item_declarations, declarations, shape_in}
+use Rattle.sap_vtext.proofs.NameLists.{found_key, distinct_parts, found_among, among_found, found_all, named_among, among_left, among_right, among_mapped, among_cases, not_among, all_from}
 use Rattle.sap_vprint.specs.Printed.{mention, input_entries, register_entries, wire_entries, memory_entries, entities, width_or_0, direction_of, printed_port, declared_items, declarations_of}
 use Rattle.sap_vprint.proofs.Entities.{entity_keys, entities_new, entities_fit, IsShape}
 
@@ -41,7 +42,7 @@ record Entry {A : Type 0} (name : A → Name) (f : A → Shape) (xs : List A) (x
   among : is_among x (map name xs) ≡ true
   shape : s ≡ f of
 
-entry_of : {A : Type 0} (name : A → Name) (f : A → Shape) (xs : List A) (x : Name) (s : Shape) → Among {A = Name × Shape} (x, s) (map (λ y. (name y, f y)) xs) → Entry name f xs x s
+entry_of : {A : Type 0} (name : A → Name) (f : A → Shape) (xs : List A) (x : Name) (s : Shape) → StandsIn {A = Name × Shape} (x, s) (map (λ y. (name y, f y)) xs) → Entry name f xs x s
 entry_of name f [] x s m = absurd m
 entry_of name f (y ∷ ys) x s (inl e) =
     let p : x ≡ name y = ap (λ (z : Name × Shape). z.0) e in
@@ -58,13 +59,13 @@ abbrev entry : Name → Shape → Name × Shape
 entry x s = (x, s)
 
 module _ (n : Net) (h : IsNetlist n) where
-  pub input_found : (i : Input) → Among i n.inputs → find (entities n) i.name ≡ Some (input i.width)
+  pub input_found : (i : Input) → StandsIn i n.inputs → find (entities n) i.name ≡ Some (input i.width)
   input_found i m =
       found_among (entities n) (entities_new n h) i.name (input i.width)
       (among_left (entry i.name (input i.width)) (input_entries n) (register_entries n ++ (wire_entries n ++ memory_entries n))
       (among_mapped (λ (x : Input). entry x.name (input x.width)) i n.inputs m))
 
-  pub register_found : (r : Register) → Among r n.registers → find (entities n) r.name ≡ Some (register r.width)
+  pub register_found : (r : Register) → StandsIn r n.registers → find (entities n) r.name ≡ Some (register r.width)
   register_found r m =
       let e = entry r.name (register r.width) in
       found_among (entities n) (entities_new n h) r.name (register r.width)
@@ -72,7 +73,7 @@ module _ (n : Net) (h : IsNetlist n) where
       (among_left e (register_entries n) (wire_entries n ++ memory_entries n)
       (among_mapped (λ (x : Register). entry x.name (register x.width)) r n.registers m)))
 
-  pub wire_found : (w : Wire) → Among w n.wires → find (entities n) w.name ≡ Some (wire w.width)
+  pub wire_found : (w : Wire) → StandsIn w n.wires → find (entities n) w.name ≡ Some (wire w.width)
   wire_found w m =
       let e = entry w.name (wire w.width) in
       found_among (entities n) (entities_new n h) w.name (wire w.width)
@@ -80,7 +81,7 @@ module _ (n : Net) (h : IsNetlist n) where
       (among_right e (register_entries n) (wire_entries n ++ memory_entries n)
       (among_left e (wire_entries n) (memory_entries n) (among_mapped (λ (x : Wire). entry x.name (wire x.width)) w n.wires m))))
 
-  pub memory_found : (x : Memory) → Among x n.memories → find (entities n) x.name ≡ Some (memory x.width x.depth)
+  pub memory_found : (x : Memory) → StandsIn x n.memories → find (entities n) x.name ≡ Some (memory x.width x.depth)
   memory_found x m =
       let e = entry x.name (memory x.width x.depth) in
       found_among (entities n) (entities_new n h) x.name (memory x.width x.depth)

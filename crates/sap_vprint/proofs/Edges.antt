@@ -14,9 +14,11 @@ use Rattle.sap_net.specs.Names.{is_among, AreDistinct}
 use Rattle.sap_net.specs.Net.{Net}
 use Rattle.sap_net.specs.Rules.{IsWidth, IsRegister, IsMemory}
 use Rattle.sap_net.specs.IsNetlist.{IsNetlist, readable}
-use Rattle.sap_modtext.specs.Items as item
-use Rattle.sap_modtext.specs.Faults.{register, memory, shape_above, item_declarations, Setting, assign, initial, always, target_of, is_target, is_set, has_integer, as_memory, Use, operand_uses, operand_constants, constant_fits, operand_width, value_width, register_width, memory_width}
-use Rattle.sap_modtext.proofs.Good.{IsGoodUse, above_of, AreGood}
+use Rattle.sap_vtext.specs.Items as item
+use Rattle.sap_vtext.specs.Names.{register, memory, shape_above, item_declarations, Setting, assign, initial, always, target_of, is_target, is_set, has_integer, known_above}
+use Rattle.sap_vtext.specs.Widths.{constant_fits, operand_width, value_width, register_width, memory_width}
+use Rattle.sap_vtext.specs.Faults.{as_memory, Use, operand_uses, operand_constants}
+use Rattle.sap_vtext.proofs.Good.{IsGoodUse, above_of, AreGood}
 use Rattle.sap_vprint.specs.Printed.{mention, entities, operand_of, initial_of, initial_cells_of, always_of, always_cell_of}
 use Rattle.sap_vprint.proofs.Operands.{Sees, operand_good, operand_fits, operand_is, index_good, fits_is, constant_is, no_differ}
 use Rattle.sap_vprint.proofs.Stages.{integer_append, fresh_target, ports, found_kept, set_more}
@@ -160,7 +162,7 @@ module _ (n : Net) (h : IsNetlist n) where
               (all_append (λ c. constant_fits c ≡ true) (operand_constants index) (operand_constants value) (operand_fits n a (readable n) g.sees x.index s.bits deep s.index)
               (operand_fits n a (readable n) g.sees x.value x.width m.0.1 s.value));
           pairs = (
-            no_differ (operand_width a enable) (Some 1) 1 (operand_is n a (readable n) g.sees x.enable 1 one s.enable) refl,
+            no_differ (operand_width (known_above a) enable) (Some 1) 1 (operand_is n a (readable n) g.sees x.enable 1 one s.enable) refl,
             (no_differ (memory_width (shape_above a x.name)) _ x.width (ap memory_width declared) (operand_is n a (readable n) g.sees x.value x.width m.0.1 s.value), tt),
           );
           indexes = (index_good n a (readable n) g.sees x.name x.index s.bits x.width deep (declared ∙ ap (λ d. Some (memory x.width d)) s.depth.2) s.index, tt);

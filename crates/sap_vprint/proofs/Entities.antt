@@ -16,8 +16,10 @@ use Rattle.sap_net.specs.Names.{is_among, AreDistinct}
 use Rattle.sap_net.specs.Net.{Net}
 use Rattle.sap_net.specs.Rules.{Shapes, IsWidth, IsMemory, AreWires, AreValues, AreMemories}
 use Rattle.sap_net.specs.IsNetlist.{IsNetlist, input_names, wire_names, register_names, memory_names, first_readable, readable, shapes}
-use Rattle.sap_modtext.specs.Faults.{Shape, input, wire, register, memory, Among, HasIndex}
-use Rattle.sap_modtext.proofs.NameLists.{AreNew, keys, none_key, new_keys, NoneAmong, none_among_append, distinct_append, distinct_parts, found_among, keys_map, keys_append, none_among_parts}
+use Rattle.sap_text.specs.Best.{StandsIn}
+use Rattle.sap_vtext.specs.Names.{Shape, input, wire, register, memory}
+use Rattle.sap_vtext.specs.Faults.{HasIndex}
+use Rattle.sap_vtext.proofs.NameLists.{AreNew, keys, none_key, new_keys, NoneAmong, none_among_append, distinct_append, distinct_parts, found_among, keys_map, keys_append, none_among_parts}
 use Rattle.sap_vprint.specs.Printed.{entities}
 
 -- What a netlist's rules say of its names.
@@ -51,7 +53,7 @@ wires_distinct ms readable (w ∷ ws) h =
     let r = wires_distinct ms ((w.name, w.width) ∷ readable) ws h.4 in
     ((wires_fresh ms ((w.name, w.width) ∷ readable) ws w.name w.width h.4 (found_here w.name w.width readable), r.0), (none_key ms w.name h.2, r.1))
 
-readable_apart : (ms : Shapes) (es readable : Scope) (ws : List Wire) → AreWires ms readable ws → ((n : Name) (k : ℕ) → Among (n, k) es → find readable n ≡ Some k)
+readable_apart : (ms : Shapes) (es readable : Scope) (ws : List Wire) → AreWires ms readable ws → ((n : Name) (k : ℕ) → StandsIn (n, k) es → find readable n ≡ Some k)
     → NoneAmong (keys es) (names_of ws)
 readable_apart ms [] readable ws h f = tt
 readable_apart ms (e ∷ es) readable ws h f =

@@ -14,8 +14,9 @@ use Rattle.sap_net.specs.declared.parts.Memory.{Memory}
 use Rattle.sap_net.specs.Names.{is_among}
 use Rattle.sap_net.specs.Net.{Net}
 use Rattle.sap_net.specs.IsNetlist.{IsNetlist, input_names, wire_names, register_names, memory_names}
-use Rattle.sap_modtext.specs.Faults.{Shape, input, wire, register, memory, Among}
-use Rattle.sap_modtext.proofs.NameLists.{found_key}
+use Rattle.sap_text.specs.Best.{StandsIn}
+use Rattle.sap_vtext.specs.Names.{Shape, input, wire, register, memory}
+use Rattle.sap_vtext.proofs.NameLists.{found_key}
 use Rattle.sap_vprint.specs.declared.lookup.Entity.{Entity}
 use Rattle.sap_vprint.specs.Lookup.{shape_of, shape_found}
 use Rattle.sap_vprint.specs.Printed.{entities}
@@ -29,7 +30,7 @@ not_listed name (y ∷ ys) x f =
     (⊎_elim (λ t. absurd (f 0 y (omega arith) (sym (equal_of_bytes_eq x (name y) t)))) (λ e. e) (cases_Bool (bytes_eq x (name y))))
     (not_listed name ys x (λ k z lt e. f (suc k) z (omega arith) e))
 
-listed : {A : Type 0} (xs : List A) (i : ℕ) (d : A) → i < length xs → Among (get_or xs i d) xs
+listed : {A : Type 0} (xs : List A) (i : ℕ) (d : A) → i < length xs → StandsIn (get_or xs i d) xs
 listed [] i d h = absurd (omega arith)
 listed (x ∷ xs) zero d h = inl refl
 listed (x ∷ xs) (suc i) d h = inr (listed xs i d (omega arith))
@@ -45,19 +46,19 @@ if_none (Some x) P p = tt
 module _ (n : Net) (h : IsNetlist n) where
   pub input_at : (xs : List Input) (i : ℕ) (d : Input) (x : Name) → xs ≡ n.inputs → i < length xs → (get_or xs i d).name ≡ x → find (entities n) x ≡ Some (input (get_or xs i d).width)
   input_at xs i d x q lt e =
-      subst (λ z. find (entities n) z ≡ Some (input (get_or xs i d).width)) e (input_found n h (get_or xs i d) (subst (λ zs. Among (get_or xs i d) zs) q (listed xs i d lt)))
+      subst (λ z. find (entities n) z ≡ Some (input (get_or xs i d).width)) e (input_found n h (get_or xs i d) (subst (λ zs. StandsIn (get_or xs i d) zs) q (listed xs i d lt)))
 
   pub wire_at : (xs : List Wire) (i : ℕ) (d : Wire) (x : Name) → xs ≡ n.wires → i < length xs → (get_or xs i d).name ≡ x → find (entities n) x ≡ Some (wire (get_or xs i d).width)
   wire_at xs i d x q lt e =
-      subst (λ z. find (entities n) z ≡ Some (wire (get_or xs i d).width)) e (wire_found n h (get_or xs i d) (subst (λ zs. Among (get_or xs i d) zs) q (listed xs i d lt)))
+      subst (λ z. find (entities n) z ≡ Some (wire (get_or xs i d).width)) e (wire_found n h (get_or xs i d) (subst (λ zs. StandsIn (get_or xs i d) zs) q (listed xs i d lt)))
 
   pub register_at : (xs : List Register) (i : ℕ) (d : Register) (x : Name) → xs ≡ n.registers → i < length xs → (get_or xs i d).name ≡ x → find (entities n) x ≡ Some (register (get_or xs i d).width)
   register_at xs i d x q lt e =
-      subst (λ z. find (entities n) z ≡ Some (register (get_or xs i d).width)) e (register_found n h (get_or xs i d) (subst (λ zs. Among (get_or xs i d) zs) q (listed xs i d lt)))
+      subst (λ z. find (entities n) z ≡ Some (register (get_or xs i d).width)) e (register_found n h (get_or xs i d) (subst (λ zs. StandsIn (get_or xs i d) zs) q (listed xs i d lt)))
 
   pub memory_at : (xs : List Memory) (i : ℕ) (d : Memory) (x : Name) → xs ≡ n.memories → i < length xs → (get_or xs i d).name ≡ x → find (entities n) x ≡ Some (memory (get_or xs i d).width (get_or xs i d).depth)
   memory_at xs i d x q lt e =
-      subst (λ z. find (entities n) z ≡ Some (memory (get_or xs i d).width (get_or xs i d).depth)) e (memory_found n h (get_or xs i d) (subst (λ zs. Among (get_or xs i d) zs) q (listed xs i d lt)))
+      subst (λ z. find (entities n) z ≡ Some (memory (get_or xs i d).width (get_or xs i d).depth)) e (memory_found n h (get_or xs i d) (subst (λ zs. StandsIn (get_or xs i d) zs) q (listed xs i d lt)))
 
 -- what stands on no list isn't there
 pub nothing_else : (n : Net) (x : Name) → is_among x (wire_names n) ≡ false → is_among x (register_names n) ≡ false → is_among x (input_names n) ≡ false → is_among x (memory_names n) ≡ false

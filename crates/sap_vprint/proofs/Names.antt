@@ -8,7 +8,7 @@ use Rattle.std.proofs.Math.Pow.{pow_mono}
 use Rattle.sap_lemmas.proofs.Everywhere.{all_append, none_found}
 use Rattle.sap_lemmas.proofs.Texts.{equal_of_bytes_eq}
 use Rattle.sap_text.proofs.NamesLemmas.{initial_inner}
-use Rattle.sap_modtext.proofs.LexingLemmas.{keywords_are}
+use Rattle.sap_vtext.proofs.LexingLemmas.{keywords_are}
 use Rattle.sap_maps.specs.Maps.{Name}
 use Rattle.sap_maps.specs.Scope.{Scope, find}
 use Rattle.sap_net.specs.declared.parts.Operand.{Operand}
@@ -23,10 +23,11 @@ use Rattle.sap_net.specs.Names.{is_initial, is_inner, is_word, is_keyword, is_na
 use Rattle.sap_net.specs.Net.{Net}
 use Rattle.sap_net.specs.Rules.{IsWidth, IsOperand, AreOperands, IsRight, AreWires, readable_after}
 use Rattle.sap_net.specs.IsNetlist.{IsNetlist, PortShows, first_readable, readable, shapes}
-use Rattle.sap_modtext.specs.Items as item
-use Rattle.sap_modtext.specs.Faults.{Shape, input, wire, register, memory, port_shape, value_width}
-use Rattle.sap_modtext.specs.Lexing.{word_text, words, word_or_name}
-use Rattle.sap_modtext.proofs.NameLists.{found_all}
+use Rattle.sap_vtext.specs.Items as item
+use Rattle.sap_vtext.specs.Names.{Shape, input, wire, register, memory, port_shape}
+use Rattle.sap_vtext.specs.Widths.{value_width}
+use Rattle.sap_vtext.specs.Lexing.{word_text, words, word_or_name}
+use Rattle.sap_vtext.proofs.NameLists.{found_all}
 use Rattle.sap_vprint.specs.Printed.{constant, entities, operand_of, right_of, direction_of, printed_port, declared_items, declarations_of, integer_of, assign_of, initial_of, initial_cells_of, always_of, always_cell_of, file_of}
 use Rattle.sap_vprint.proofs.Spelled.{IsName, IsWritable}
 use Rattle.sap_vprint.proofs.Written.{IsOperandWritten, IsRightWritten, IsItemWritten, IsPortWritten, IsFileWritten}

@@ -20,9 +20,11 @@ use Rattle.sap_net.specs.declared.parts.Right.TheVariants as right
 use Rattle.sap_net.specs.Net.{Net}
 use Rattle.sap_net.specs.Rules.{IsWidth, IsOperand, AreOperands, IsRight}
 use Rattle.sap_net.specs.IsNetlist.{shapes}
-use Rattle.sap_modtext.specs.Items as item
-use Rattle.sap_modtext.specs.Faults.{Shape, input, wire, register, memory, shape_width, Above, shape_above, assign, is_set, as_value, suits, operand_uses, right_uses, operand_constants, right_constants, right_indexes, constant_fits, constant_width, value_width, operand_width, add_widths, parts_width, slice_width, unary_rule, binary_rule, unary_pairs, binary_pairs, right_pairs, Differ, memory_width}
-use Rattle.sap_modtext.proofs.Good.{IsGoodUse, IsGoodIndex, IsFit}
+use Rattle.sap_vtext.specs.Items as item
+use Rattle.sap_vtext.specs.Names.{Shape, input, wire, register, memory, Above, shape_above, assign, is_set, known_above}
+use Rattle.sap_vtext.specs.Widths.{shape_width, constant_fits, constant_width, value_width, operand_width, add_widths, parts_width, slice_width, unary_rule, binary_rule, unary_pairs, binary_pairs, right_pairs, Differ, memory_width}
+use Rattle.sap_vtext.specs.Faults.{as_value, suits, operand_uses, right_uses, operand_constants, right_constants, right_indexes}
+use Rattle.sap_vtext.proofs.Good.{IsGoodUse, IsGoodIndex, IsFit}
 use Rattle.sap_vprint.specs.Printed.{mention, constant, entities, operand_of, right_of}
 
 -- all declared names are above, and what can be read is an input, a register or an assigned wire there
@@ -82,7 +84,7 @@ module _ (n : Net) (a : Above) (readable : Scope) (sees : Sees n a readable) whe
   operand_fits (Named x) w g h = tt
   operand_fits (Constant u v) w g h = (fits_is u v (subst IsWidth (sym h.0) g) (subst (λ z. v < 2 ^ z) (sym h.0) h.1), tt)
 
-  pub operand_is : (o : Operand) (w : ℕ) → IsWidth w → IsOperand readable w o → operand_width a (operand_of o) ≡ Some w
+  pub operand_is : (o : Operand) (w : ℕ) → IsWidth w → IsOperand readable w o → operand_width (known_above a) (operand_of o) ≡ Some w
   operand_is (Named x) w g h = ap (λ s. value_width s (is_set assign x a.items)) (sees.found x) ∙ sees.values x w h
   operand_is (Constant u v) w g h =
       constant_is u v (fits_is u v (subst IsWidth (sym h.0) g) (subst (λ z. v < 2 ^ z) (sym h.0) h.1)) ∙ ap (λ z. Some z) h.0
@@ -96,10 +98,10 @@ module _ (n : Net) (a : Above) (readable : Scope) (sees : Sees n a readable) whe
   parts_fit [] w h = tt
   parts_fit (o ∷ os) w h = all_append (λ c. constant_fits c ≡ true) (operand_constants (operand_of o)) _ (operand_fits o h.0 h.2 h.3) (parts_fit os h.1 h.4)
 
-  parts_are : (os : List Operand) (w : ℕ) → AreOperands readable w os → parts_width a (map operand_of os) ≡ Some w
+  parts_are : (os : List Operand) (w : ℕ) → AreOperands readable w os → parts_width (known_above a) (map operand_of os) ≡ Some w
   parts_are [] w h = ap (λ z. Some z) (sym h)
   parts_are (o ∷ os) w h =
-      ap (λ z. add_widths z (parts_width a (map operand_of os))) (operand_is o h.0 h.2 h.3) ∙ ap (add_widths (Some h.0)) (parts_are os h.1 h.4) ∙ ap (λ z. Some z) (sym h.5)
+      ap (λ z. add_widths z (parts_width (known_above a) (map operand_of os))) (operand_is o h.0 h.2 h.3) ∙ ap (add_widths (Some h.0)) (parts_are os h.1 h.4) ∙ ap (λ z. Some z) (sym h.5)
 
   pub right_good : (w : ℕ) (r : Right) → IsRight (shapes n) readable w r → AllByRecursion (IsGoodUse a) (right_uses (right_of r))
   right_good w (right.Copy x) h = operand_good x w h
@@ -166,11 +168,11 @@ module _ (n : Net) (a : Above) (readable : Scope) (sees : Sees n a readable) whe
     in_range : (b c : Bool) → b ≡ true → c ≡ true → cond (b && c) (Some (hi + 1 - lo)) None ≡ Some (hi + 1 - lo)
     in_range b c p q = cc
 
-  pub right_equal : (w : ℕ) (r : Right) (t : Option ℕ) → IsWidth w → t ≡ Some w → IsRight (shapes n) readable w r → AllByRecursion NoPair (right_pairs a t (right_of r))
+  pub right_equal : (w : ℕ) (r : Right) (t : Option ℕ) → IsWidth w → t ≡ Some w → IsRight (shapes n) readable w r → AllByRecursion NoPair (right_pairs (known_above a) t (right_of r))
   right_equal w (right.Copy x) t g p h = (no_differ t _ w p (operand_is x w g h), tt)
-  right_equal w (right.One op x) t g p h = unary_equal op w h.0 t (operand_width a (operand_of x)) h.3 p (operand_is x h.0 h.1 h.2)
+  right_equal w (right.One op x) t g p h = unary_equal op w h.0 t (operand_width (known_above a) (operand_of x)) h.3 p (operand_is x h.0 h.1 h.2)
   right_equal w (right.Two op x y) t g p h =
-      binary_equal op w h.0 h.1 t (operand_width a (operand_of x)) (operand_width a (operand_of y)) h.7 h.6 p (operand_is x h.0 h.2 h.4) (operand_is y h.1 h.3 h.5)
+      binary_equal op w h.0 h.1 t (operand_width (known_above a) (operand_of x)) (operand_width (known_above a) (operand_of y)) h.7 h.6 p (operand_is x h.0 h.2 h.4) (operand_is y h.1 h.3 h.5)
   right_equal w (right.Choose c x y) t g p h =
       let one : IsWidth 1 = (omega arith, omega arith) in (
         no_differ _ (Some 1) 1 (operand_is c 1 one h.0) refl,

@@ -12,13 +12,14 @@ use Rattle.sap_net.specs.declared.parts.Port.{Port}
 use Rattle.sap_net.specs.declared.parts.Memory.{Memory}
 use Rattle.sap_net.specs.Net.{Net}
 use Rattle.sap_net.specs.IsNetlist.{IsNetlist}
-use Rattle.sap_modtext.specs.Faults.{Shape, input, wire, register, memory, IsFaultless}
-use Rattle.sap_modtext.specs.Items as item
-use Rattle.sap_modtext.specs.Modules.{netlist_of, IsModule}
-use Rattle.sap_modtext.proofs.Bare.{bare_operand, bare_right, bare_item, bare_port, bare}
-use Rattle.sap_modtext.proofs.BareFaults.{bare_faultless}
-use Rattle.sap_modtext.proofs.BareNet.{bare_netlist}
-use Rattle.sap_modtext.proofs.Good.{good_faultless}
+use Rattle.sap_vtext.specs.Names.{Shape, input, wire, register, memory}
+use Rattle.sap_vtext.specs.Faults.{IsFaultless}
+use Rattle.sap_vtext.specs.Items as item
+use Rattle.sap_vtext.specs.Modules.{netlist_of, IsModule}
+use Rattle.sap_vtext.proofs.Bare.{bare_operand, bare_right, bare_item, bare_port, bare}
+use Rattle.sap_vtext.proofs.BareFaults.{bare_faultless}
+use Rattle.sap_vtext.proofs.BareNet.{bare_netlist}
+use Rattle.sap_vtext.proofs.Good.{good_faultless}
 use Rattle.sap_vprint.specs.Text.{text_of, file_pieces}
 use Rattle.sap_vprint.specs.Printed.{mention, entities, operand_of, right_of, printed_port, declared_items, declarations_of, integer_of, assign_of, initial_of, initial_cells_of, always_of, always_cell_of, items_of, file_of}
 use Rattle.sap_vprint.proofs.Names.{file_written}

@@ -4,15 +4,15 @@ use Rattle.std.specs.Prelude.{map, flat_map}
 use Rattle.std.specs.List.{AllByRecursion}
 use Rattle.sap_bits.specs.declared.Op1.{Op1}
 use Rattle.sap_bits.specs.declared.Op2.{Op2}
-use Rattle.sap_modtext.specs.Items.{Mention, Number, Operand, Constant, Right, Item, Port, Direction, File}
-use Rattle.sap_modtext.specs.Items as item
-use Rattle.sap_modtext.specs.Tokens.{Word, Sign, Token, IsToken}
-use Rattle.sap_modtext.specs.Tokens as t
-use Rattle.sap_modtext.specs.Grammar as g
-use Rattle.sap_modtext.specs.Grammar.{IsWord, IsSign, IsName, IsNumber, IsDigit, IsConstant, IsOperand, IsPort, ArePorts, AreParts, IsRight, IsItem, AreItems, IsFile}
+use Rattle.sap_vtext.specs.Items.{Mention, Number, Operand, Constant, Right, Item, Port, Direction, File}
+use Rattle.sap_vtext.specs.Items as item
+use Rattle.sap_vtext.specs.Tokens.{Word, Sign, Token, IsToken}
+use Rattle.sap_vtext.specs.Tokens as t
+use Rattle.sap_vtext.specs.Grammar as g
+use Rattle.sap_vtext.specs.Grammar.{IsWord, IsSign, IsName, IsNumber, IsDigit, IsConstant, IsOperand, IsPort, ArePorts, AreParts, IsRight, IsItem, AreItems, IsFile}
 use Rattle.sap_vprint.specs.Text.{Piece, space, line, word, sign, name, operand, operand_text, part_pieces, right_pieces, item_pieces, port_pieces, file_pieces, end_of_ports, end_of_file}
 use Rattle.sap_vprint.proofs.Spaced.{tokens_at, kind_of_operand}
-use Rattle.sap_modtext.proofs.Bare.{bare_name, bare_operand, bare_right, bare_item, bare_port, bare}
+use Rattle.sap_vtext.proofs.Bare.{bare_name, bare_operand, bare_right, bare_item, bare_port, bare}
 
 word_here : {ts r : List Token} {place : ℕ} {w : Word} → ts ≡ (let k : Token = record { place = place; kind = t.word w } in k ∷ r) → IsWord ts w r
 word_here {place = place} e = record { place = place; is = record { parts = e } }

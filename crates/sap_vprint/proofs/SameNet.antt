@@ -23,11 +23,12 @@ use Rattle.sap_net.specs.declared.parts.Memory.{Memory}
 use Rattle.sap_net.specs.Names.{is_among, AreDistinct}
 use Rattle.sap_net.specs.Net.{Net}
 use Rattle.sap_net.specs.IsNetlist.{IsNetlist, PortShows, is_input, register_names, memory_names}
-use Rattle.sap_modtext.specs.Items as item
-use Rattle.sap_modtext.specs.Faults.{Shape, input, wire, register, memory, Declaration, declarations, Among}
-use Rattle.sap_modtext.specs.Modules.{net_operand, net_right, net_kind, net_port, net_input, port_input, declared_width, net_wires, first_of, first_given, when, initial_number, next_operand, Write, cell_write, nothing, net_register, written_memory, net_memory, shape_registers, shape_memories, netlist_of}
-use Rattle.sap_modtext.proofs.BareNet.{net_same}
-use Rattle.sap_modtext.proofs.NameLists.{found_all, named_among, among_name}
+use Rattle.sap_vtext.specs.Items as item
+use Rattle.sap_text.specs.Best.{StandsIn}
+use Rattle.sap_vtext.specs.Names.{Shape, input, wire, register, memory, Declaration, declarations}
+use Rattle.sap_vtext.specs.Modules.{net_operand, net_right, net_kind, net_port, net_input, port_input, declared_width, net_wires, first_of, first_given, when, initial_number, next_operand, Write, cell_write, nothing, net_register, written_memory, net_memory, shape_registers, shape_memories, netlist_of}
+use Rattle.sap_vtext.proofs.BareNet.{net_same}
+use Rattle.sap_vtext.proofs.NameLists.{found_all, named_among, among_name}
 use Rattle.sap_vprint.specs.Printed.{entities, operand_of, right_of, direction_of, width_or_0, printed_port, declared_items, declarations_of, integer_of, assign_of, initial_of, initial_cells_of, always_of, always_cell_of, items_of, file_of}
 use Rattle.sap_vprint.proofs.Entities.{names_apart, IsShape, entities_fit}
 use Rattle.sap_vprint.proofs.Declared.{declare, or_input, shape_found, inner_names, input_found, register_found, wire_found, memory_found, register_named, memory_named, port_found}
@@ -68,7 +69,7 @@ module _ {A B : Type 0} (f : A → item.Item) (give : item.Item → Option B) wh
 
   -- the one that has the name
   pub gives_one : (name : A → Name) (x : Name) (value : A → B) → ((y : A) → give (f y) ≡ when (name y) x (value y)) → (ys : List A) → AreDistinct (map name ys)
-      → (y : A) → Among y ys → name y ≡ x → first_given give (map f ys) ≡ Some (value y)
+      → (y : A) → StandsIn y ys → name y ≡ x → first_given give (map f ys) ≡ Some (value y)
   gives_one name x value e [] d y m p = absurd m
   gives_one name x value e (z ∷ zs) d y (inl q) p =
       let same : bytes_eq (name z) x ≡ true = subst (λ v. bytes_eq v x ≡ true) (sym p ∙ ap name q) (bytes_eq_same x) in
@@ -76,7 +77,7 @@ module _ {A B : Type 0} (f : A → item.Item) (give : item.Item → Option B) wh
   gives_one name x value e (z ∷ zs) d y (inr m) p =
       let other : bytes_eq (name z) x ≡ false = apart zs d.0 m (cases_Bool (bytes_eq (name z) x)) in
       ap (λ o. first_of o (first_given give (map f zs))) (e z ∙ ap (λ b. cond b (Some (value z)) None) other) ∙ gives_one name x value e zs d.1 y m p where
-        apart : (us : List A) → is_among (name z) (map name us) ≡ false → Among y us → (bytes_eq (name z) x ≡ true) ⊎ (bytes_eq (name z) x ≡ false) → bytes_eq (name z) x ≡ false
+        apart : (us : List A) → is_among (name z) (map name us) ≡ false → StandsIn y us → (bytes_eq (name z) x ≡ true) ⊎ (bytes_eq (name z) x ≡ false) → bytes_eq (name z) x ≡ false
         apart us g a (inr t) = t
         apart us g a (inl t) =
             let q : is_among (name z) (map name us) ≡ true = subst (λ v. is_among v (map name us) ≡ true) (p ∙ sym (equal_of_bytes_eq (name z) x t)) (among_name name y us a) in
@@ -159,7 +160,7 @@ module _ (n : Net) (h : IsNetlist n) where
   declared = declarations_of n (inner_names n h)
 
   -- behind the declarations and the integer
-  start_of : (r : Register) → Among r n.registers → first_given (initial_number r.name) (items_of n) ≡ Some r.start
+  start_of : (r : Register) → StandsIn r n.registers → first_given (initial_number r.name) (items_of n) ≡ Some r.start
   start_of r m =
       let give = initial_number r.name in
       given_behind give declared _ (given_declared give (initial_declared r.name) n (inner_names n h))
@@ -168,7 +169,7 @@ module _ (n : Net) (h : IsNetlist n) where
       ∙ given_front give (map initial_of n.registers) _ r.start
       (gives_one initial_of give (λ z. z.name) r.name (λ z. z.start) (λ y. refl) n.registers (names_apart n h).registers r m refl)
 
-  next_of : (r : Register) → Among r n.registers → first_given (next_operand r.name) (items_of n) ≡ Some (net_operand (operand_of r.next))
+  next_of : (r : Register) → StandsIn r n.registers → first_given (next_operand r.name) (items_of n) ≡ Some (net_operand (operand_of r.next))
   next_of r m =
       let give = next_operand r.name in
       given_behind give declared _ (given_declared give (next_declared r.name) n (inner_names n h))
@@ -179,7 +180,7 @@ module _ (n : Net) (h : IsNetlist n) where
       ∙ given_front give (map always_of n.registers) _ (net_operand (operand_of r.next))
       (gives_one always_of give (λ z. z.name) r.name (λ z. net_operand (operand_of z.next)) (λ y. refl) n.registers (names_apart n h).registers r m refl)
 
-  filled_of : (m : Memory) → Among m n.memories → first_given (initial_number m.name) (items_of n) ≡ Some m.start
+  filled_of : (m : Memory) → StandsIn m n.memories → first_given (initial_number m.name) (items_of n) ≡ Some m.start
   filled_of m a =
       let give = initial_number m.name in
       given_behind give declared _ (given_declared give (initial_declared m.name) n (inner_names n h))
@@ -189,7 +190,7 @@ module _ (n : Net) (h : IsNetlist n) where
       ∙ given_front give (map initial_cells_of n.memories) _ m.start
       (gives_one initial_cells_of give (λ z. z.name) m.name (λ z. z.start) (λ y. refl) n.memories (names_apart n h).memories m a refl)
 
-  written_of : (m : Memory) → Among m n.memories → first_given (cell_write m.name) (items_of n) ≡ Some (write_of m)
+  written_of : (m : Memory) → StandsIn m n.memories → first_given (cell_write m.name) (items_of n) ≡ Some (write_of m)
   written_of m a =
       let give = cell_write m.name in
       given_behind give declared _ (given_declared give (write_declared m.name) n (inner_names n h))
@@ -203,7 +204,7 @@ module _ (n : Net) (h : IsNetlist n) where
   abbrev register_at : Name → Register
   register_at x = net_register x (width_or_0 (find (entities n) x)) (items_of n)
 
-  register_back : (r : Register) → Among r n.registers → register_at r.name ≡ r
+  register_back : (r : Register) → StandsIn r n.registers → register_at r.name ≡ r
   register_back r m =
       ap (λ o. net_register r.name (width_or_0 o) (items_of n)) (register_found n h r m)
       ∙ register_same r.name r.width (ap (λ o. unwrap_or o 0) (start_of r m)) (ap (λ o. unwrap_or o nothing) (next_of r m) ∙ operand_back r.next)
@@ -215,7 +216,7 @@ module _ (n : Net) (h : IsNetlist n) where
   abbrev memory_at : Name → Memory
   memory_at x = net_memory x (width_or_0 (find (entities n) x)) (depth_or_0 (find (entities n) x)) (items_of n)
 
-  memory_back : (m : Memory) → Among m n.memories → memory_at m.name ≡ m
+  memory_back : (m : Memory) → StandsIn m n.memories → memory_at m.name ≡ m
   memory_back m a =
       ap (λ o. net_memory m.name (width_or_0 o) (depth_or_0 o) (items_of n)) (memory_found n h m a)
       ∙ ap (λ o. written_memory m.name m.width m.depth (unwrap_or o 0) (unwrap_or (first_given (cell_write m.name) (items_of n)) (record { enable = nothing; index = nothing; value = nothing }))) (filled_of m a)
@@ -267,7 +268,7 @@ module _ (n : Net) (h : IsNetlist n) where
   over_declared f [] = refl
   over_declared f (x ∷ xs) = ap (λ z. f x (or_input (find (entities n) x)) ++ z) (over_declared f xs)
 
-  backs : {A : Type 0} (name : A → Name) (g : Name → A) (xs : List A) → ((x : A) → Among x xs → g (name x) ≡ x) → map g (map name xs) ≡ xs
+  backs : {A : Type 0} (name : A → Name) (g : Name → A) (xs : List A) → ((x : A) → StandsIn x xs → g (name x) ≡ x) → map g (map name xs) ≡ xs
   backs name g [] e = refl
   backs name g (x ∷ xs) e = ap (λ z. z ∷ map g (map name xs)) (e x (inl refl)) ∙ ap (λ z. x ∷ z) (backs name g xs (λ y m. e y (inr m)))
 
@@ -296,7 +297,7 @@ module _ (n : Net) (h : IsNetlist n) where
   abbrev input_at : Name → Input
   input_at x = record { name = x; width = width_or_0 (find (entities n) x) }
 
-  input_back : (i : Input) → Among i n.inputs → input_at i.name ≡ i
+  input_back : (i : Input) → StandsIn i n.inputs → input_at i.name ≡ i
   input_back i m = ap (λ o. let j : Input = record { name = i.name; width = width_or_0 o } in j) (input_found n h i m)
 
   port_inputs : (k : PortKind) (x : Name) → PortShows n k x
@@ -329,12 +330,12 @@ module _ (n : Net) (h : IsNetlist n) where
   abbrev all : List Declaration
   all = map (declare n) n.names
 
-  wire_back : (w : Wire) → Among w n.wires → net_wires all (assign_of w) ≡ w ∷ []
+  wire_back : (w : Wire) → StandsIn w n.wires → net_wires all (assign_of w) ≡ w ∷ []
   wire_back w m =
       ap (λ s. (let v : Wire = record { name = w.name; width = declared_width s; right = net_right (right_of w.right) } in v) ∷ []) (shape_found n h w.name ∙ wire_found n h w m)
       ∙ ap (λ r. (let v : Wire = record { name = w.name; width = w.width; right = r } in v) ∷ []) (right_back w.right)
 
-  assigns_back : (ws : List Wire) → ((w : Wire) → Among w ws → net_wires all (assign_of w) ≡ w ∷ []) → flat_map (net_wires all) (map assign_of ws) ≡ ws
+  assigns_back : (ws : List Wire) → ((w : Wire) → StandsIn w ws → net_wires all (assign_of w) ≡ w ∷ []) → flat_map (net_wires all) (map assign_of ws) ≡ ws
   assigns_back [] e = refl
   assigns_back (w ∷ ws) e = ap (λ z. z ++ flat_map (net_wires all) (map assign_of ws)) (e w (inl refl)) ∙ ap (λ z. w ∷ z) (assigns_back ws (λ y m. e y (inr m)))
 

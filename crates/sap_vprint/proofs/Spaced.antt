@@ -4,11 +4,11 @@ use Rattle.std.specs.Prelude.{slice_index, ◌||◌, ◌&&◌, decimal}
 use Rattle.sap_lemmas.proofs.Lists.{drop_front}
 use Rattle.std.proofs.lemmas.Bool.{and_parts}
 use Rattle.sap_net.specs.Names.{is_inner}
-use Rattle.sap_modtext.specs.Items.{Operand}
-use Rattle.sap_modtext.specs.Items as item
-use Rattle.sap_modtext.specs.Lexing.{word_text, sign_text, Lexed, end, blank_first, token_first}
-use Rattle.sap_modtext.specs.Tokens.{Sign, Kind, Token}
-use Rattle.sap_modtext.specs.Tokens as t
+use Rattle.sap_vtext.specs.Items.{Operand}
+use Rattle.sap_vtext.specs.Items as item
+use Rattle.sap_vtext.specs.Lexing.{word_text, sign_text, Lexed, end, blank_first, token_first}
+use Rattle.sap_vtext.specs.Tokens.{Sign, Kind, Token}
+use Rattle.sap_vtext.specs.Tokens as t
 use Rattle.sap_vprint.specs.Text.{Piece, space, line, zero, one, word, sign, name, number, operand, operand_text, piece_text, text_of}
 use Rattle.sap_vprint.proofs.Spelled.{clings, IsSpelled, piece_spelled}
 

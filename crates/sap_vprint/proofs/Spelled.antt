@@ -12,11 +12,11 @@ use Rattle.sap_lemmas.proofs.Lists.{drop_front, quoted_length, take_front}
 use Rattle.sap_lemmas.proofs.Texts.{digits_model}
 use Rattle.std.proofs.lemmas.Bool.{and_from, and_left, and_parts}
 use Rattle.sap_net.specs.Names.{is_initial, is_inner}
-use Rattle.sap_modtext.specs.Items.{Constant}
-use Rattle.sap_modtext.specs.Items as item
-use Rattle.sap_modtext.specs.Lexing.{word_text, sign_text, is_blank, kind_of_name, name_front, sign_or_bad, number_front, constant_front, digits_of_front, is_constant, digits_front, is_below_2_64, Front, blank, token, bad, front}
-use Rattle.sap_modtext.specs.Tokens.{Word, Sign, Kind}
-use Rattle.sap_modtext.specs.Tokens as t
+use Rattle.sap_vtext.specs.Items.{Constant}
+use Rattle.sap_vtext.specs.Items as item
+use Rattle.sap_vtext.specs.Lexing.{word_text, sign_text, is_blank, kind_of_name, name_front, sign_or_bad, number_front, constant_front, digits_of_front, is_constant, digits_front, is_below_2_64, Front, blank, token, bad, front}
+use Rattle.sap_vtext.specs.Tokens.{Word, Sign, Kind}
+use Rattle.sap_vtext.specs.Tokens as t
 use Rattle.sap_vprint.specs.Text.{Piece, space, line, zero, one, word, sign, name, number, operand, operand_text, piece_text}
 
 -- a byte that would join what stands before it

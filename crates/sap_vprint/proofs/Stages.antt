@@ -9,7 +9,7 @@ use Rattle.sap_lemmas.proofs.Bools.{or_assoc, or_false, or_true}
 use Rattle.sap_lemmas.proofs.Texts.{equal_of_bytes_eq}
 use Rattle.std.proofs.lemmas.Grind.{flat_map-append}
 use Rattle.std.proofs.lemmas.List.{append-nil}
-use Rattle.sap_modtext.proofs.FaultsLemmas.{set_append}
+use Rattle.sap_vtext.proofs.FaultsLemmas.{set_append}
 use Rattle.sap_maps.specs.Maps.{Name}
 use Rattle.sap_maps.specs.Scope.{Scope, find}
 use Rattle.sap_net.specs.declared.parts.Wire.{Wire}
@@ -17,10 +17,11 @@ use Rattle.sap_net.specs.declared.parts.Memory.{Memory}
 use Rattle.sap_net.specs.Net.{Net}
 use Rattle.sap_net.specs.Rules.{IsWidth, IsRight, AreWires, readable_after}
 use Rattle.sap_net.specs.IsNetlist.{IsNetlist, shapes, readable}
-use Rattle.sap_modtext.specs.Items as item
-use Rattle.sap_modtext.specs.Faults.{Shape, input, wire, register, memory, shape_above, declarations, port_declaration, item_declarations, shape_in, Setting, assign, initial, Target, target_of, is_target, is_set, is_integer, has_integer, value_width, wire_width}
-use Rattle.sap_modtext.proofs.Good.{IsGoodItem, above_of, AreGood}
-use Rattle.sap_modtext.proofs.NameLists.{found_all}
+use Rattle.sap_vtext.specs.Items as item
+use Rattle.sap_vtext.specs.Names.{Shape, input, wire, register, memory, shape_above, declarations, port_declaration, item_declarations, shape_in, Setting, assign, initial, Target, target_of, is_target, is_set, is_integer, has_integer}
+use Rattle.sap_vtext.specs.Widths.{value_width, wire_width}
+use Rattle.sap_vtext.proofs.Good.{IsGoodItem, above_of, AreGood}
+use Rattle.sap_vtext.proofs.NameLists.{found_all}
 use Rattle.sap_vprint.specs.Printed.{mention, entities, printed_port, declared_items, declarations_of, integer_of, assign_of}
 use Rattle.sap_vprint.proofs.Entities.{IsShape, entities_fit}
 use Rattle.sap_vprint.proofs.Declared.{IsInner}

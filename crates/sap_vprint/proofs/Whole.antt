@@ -8,7 +8,7 @@ use Rattle.sap_lemmas.proofs.Numbers.{same_power}
 use Rattle.sap_lemmas.proofs.Texts.{bytes_eq_symmetric, equal_of_bytes_eq}
 use Rattle.std.proofs.lemmas.Grind.{flat_map-append}
 use Rattle.std.proofs.lemmas.List.{append-nil}
-use Rattle.sap_modtext.proofs.FaultsLemmas.{all_alike, set_append}
+use Rattle.sap_vtext.proofs.FaultsLemmas.{all_alike, set_append}
 use Rattle.sap_maps.specs.Maps.{Name}
 use Rattle.sap_maps.specs.Scope.{find}
 use Rattle.sap_net.specs.declared.parts.Port.{Port}
@@ -19,10 +19,13 @@ use Rattle.sap_net.specs.Names.{is_among, AreDistinct}
 use Rattle.sap_net.specs.Net.{Net}
 use Rattle.sap_net.specs.Rules.{IsWidth, IsRegister, IsMemory}
 use Rattle.sap_net.specs.IsNetlist.{IsNetlist, PortShows, register_names, wire_names, memory_names, first_readable, readable, shapes}
-use Rattle.sap_modtext.specs.Items as item
-use Rattle.sap_modtext.specs.Faults.{Shape, input, wire, register, memory, port_shape, declarations, item_declarations, shape_in, Setting, assign, initial, always, target_of, is_target, is_set, has_integer, value_width, needs, Among}
-use Rattle.sap_modtext.proofs.Good.{above_of, AreGood, IsSet, IsGood}
-use Rattle.sap_modtext.proofs.NameLists.{found_all, among_name, not_among, all_from}
+use Rattle.sap_vtext.specs.Items as item
+use Rattle.sap_text.specs.Best.{StandsIn}
+use Rattle.sap_vtext.specs.Names.{Shape, input, wire, register, memory, port_shape, declarations, item_declarations, shape_in, Setting, assign, initial, always, target_of, is_target, is_set, has_integer}
+use Rattle.sap_vtext.specs.Widths.{value_width}
+use Rattle.sap_vtext.specs.Faults.{needs}
+use Rattle.sap_vtext.proofs.Good.{above_of, AreGood, IsSet, IsGood}
+use Rattle.sap_vtext.proofs.NameLists.{found_all, among_name, not_among, all_from}
 use Rattle.sap_vprint.specs.Printed.{entities, width_or_0, direction_of, printed_port, declarations_of, integer_of, assign_of, initial_of, initial_cells_of, always_of, always_cell_of, items_of, file_of}
 use Rattle.sap_vprint.proofs.Entities.{IsShape, names_apart, entities_fit}
 use Rattle.sap_vprint.proofs.Declared.{declare, or_input, all_declared, shape_found, inner_names, inner_is, IsInner, register_found, wire_found, memory_found, wire_named, register_named, memory_named, port_found, width_of_port}
@@ -102,7 +105,7 @@ module _ (n : Net) (h : IsNetlist n) where
 
   -- memories are found as such
   cell_found : (ms : List Memory) (x : Name) (w d : ℕ) → ◌≡◌ {A = Option (ℕ × ℕ)} (find {X = ℕ × ℕ} (map (λ m. (m.name, (m.width, m.depth))) ms) x) (Some (w, d))
-      → (m : Memory) × Among m ms × (m.name ≡ x) × (m.width ≡ w) × (m.depth ≡ d)
+      → (m : Memory) × StandsIn m ms × (m.name ≡ x) × (m.width ≡ w) × (m.depth ≡ d)
   cell_found [] x w d f = absurd (cc)
   cell_found (m ∷ ms) x w d f =
       ⊎_elim
@@ -211,7 +214,7 @@ module _ (n : Net) (h : IsNetlist n) where
       set_append always x filled_items (map always_of n.registers) ∙ ap (λ b. b || is_set always x (map always_of n.registers)) (filled_always x)
       ∙ sets_named always x always_of (λ r. r.name) (λ y. refl) n.registers
 
-  pub no_register : (m : Memory) → Among m n.memories → is_among m.name (register_names n) ≡ false
+  pub no_register : (m : Memory) → StandsIn m n.memories → is_among m.name (register_names n) ≡ false
   no_register m a = not_both (register_names n) m.name (λ t. not_among (register_names n) (memory_names n) m.name (names_apart n h).registers_memories (among_name (λ (z : Memory). z.name) m n.memories a) t)
 
   pub registers_are : AreRegisters n h n.registers

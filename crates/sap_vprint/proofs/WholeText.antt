@@ -6,8 +6,8 @@ use Rattle.sap_maps.specs.Scope.{find}
 use Rattle.sap_net.specs.declared.parts.Port.{Port}
 use Rattle.sap_net.specs.Net.{Net}
 use Rattle.sap_net.specs.IsNetlist.{IsNetlist}
-use Rattle.sap_modtext.specs.Items.{Item}
-use Rattle.sap_modtext.specs.Modules.{IsModule}
+use Rattle.sap_vtext.specs.Items.{Item}
+use Rattle.sap_vtext.specs.Modules.{IsModule}
 use Rattle.sap_vprint.specs.Parts.{front_text, inner_text, body_text}
 use Rattle.sap_vprint.specs.Printed.{entities, printed_port, declared_items, declarations_of, integer_of, assign_of, initial_of, initial_cells_of, always_of, always_cell_of, items_of, file_of}
 use Rattle.sap_vprint.specs.Text.{Piece, piece_text, text_of, head_pieces, end_of_ports, end_of_file, port_pieces, port_text, item_pieces, item_text, items_text, file_pieces}

@@ -7,11 +7,11 @@ use Rattle.sap_bits.specs.declared.Op1.{Op1}
 use Rattle.sap_bits.specs.declared.Op1.TheVariants as unary
 use Rattle.sap_bits.specs.declared.Op2.{Op2}
 use Rattle.sap_bits.specs.declared.Op2.TheVariants as binary
-use Rattle.sap_modtext.specs.Grammar.{unary_sign, binary_sign}
-use Rattle.sap_modtext.specs.Items.{Mention, Number, Operand, Right, Item, Port, Direction, File}
-use Rattle.sap_modtext.specs.Items as item
-use Rattle.sap_modtext.specs.Lexing.{Lexed}
-use Rattle.sap_modtext.specs.Tokens as t
+use Rattle.sap_vtext.specs.Grammar.{unary_sign, binary_sign}
+use Rattle.sap_vtext.specs.Items.{Mention, Number, Operand, Right, Item, Port, Direction, File}
+use Rattle.sap_vtext.specs.Items as item
+use Rattle.sap_vtext.specs.Lexing.{Lexed}
+use Rattle.sap_vtext.specs.Tokens as t
 use Rattle.sap_vprint.specs.Text.{Piece, space, line, zero, one, word, sign, name, number, operand, text_of, range_pieces, part_pieces, right_pieces, item_pieces, direction_pieces, port_pieces, file_pieces, end_of_ports, end_of_file}
 use Rattle.sap_vprint.proofs.Spelled.{IsName, IsWritable, IsSpelled}
 use Rattle.sap_vprint.proofs.Spaced.{is_spaced, follows, may_follow, ends_run, AreSpelled, tokens_at, pieces_lexed}

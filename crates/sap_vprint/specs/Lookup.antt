@@ -1,6 +1,6 @@
 -- What a netlist has under a name, as the code has it.
 use Rattle.std.specs.Prelude.{Option, Some, None}
-use Rattle.sap_modtext.specs.Faults.{Shape, input, wire, register, memory}
+use Rattle.sap_vtext.specs.Names.{Shape, input, wire, register, memory}
 use Rattle.sap_vprint.specs.declared.lookup.Entity.{Entity}
 use Rattle.sap_vprint.specs.declared.lookup.Entity.TheVariants as e
 

@@ -14,8 +14,9 @@ use Rattle.sap_net.specs.declared.parts.Wire.{Wire}
 use Rattle.sap_net.specs.declared.parts.Register.{Register}
 use Rattle.sap_net.specs.declared.parts.Memory.{Memory}
 use Rattle.sap_net.specs.Net.{Net}
-use Rattle.sap_modtext.specs.Faults.{Shape, input, wire, register, memory, shape_width}
-use Rattle.sap_modtext.specs.Items as item
+use Rattle.sap_vtext.specs.Names.{Shape, input, wire, register, memory}
+use Rattle.sap_vtext.specs.Widths.{shape_width}
+use Rattle.sap_vtext.specs.Items as item
 use Rattle.sap_vprint.specs.Text.{text_of, direction_pieces}
 
 -- names, numbers and constants at place 0

@@ -2,12 +2,12 @@
 use Rattle.std.specs.Prelude.{ℕ, List, [], ◌∷◌, ◌++◌, codes, decimal, flat_map}
 use Rattle.sap_bits.specs.declared.Op1.{Op1}
 use Rattle.sap_bits.specs.declared.Op2.{Op2}
-use Rattle.sap_modtext.specs.Grammar.{unary_sign, binary_sign}
-use Rattle.sap_modtext.specs.Items.{Operand, Right, Direction, Port, Item, File}
-use Rattle.sap_modtext.specs.Items as item
-use Rattle.sap_modtext.specs.Lexing.{word_text, sign_text}
-use Rattle.sap_modtext.specs.Tokens.{Word, Sign}
-use Rattle.sap_modtext.specs.Tokens as t
+use Rattle.sap_vtext.specs.Grammar.{unary_sign, binary_sign}
+use Rattle.sap_vtext.specs.Items.{Operand, Right, Direction, Port, Item, File}
+use Rattle.sap_vtext.specs.Items as item
+use Rattle.sap_vtext.specs.Lexing.{word_text, sign_text}
+use Rattle.sap_vtext.specs.Tokens.{Word, Sign}
+use Rattle.sap_vtext.specs.Tokens as t
 
 -- a piece of the text: a token, a space, or the end of a line; the numbers 0 and 1 where the grammar asks for them are pieces of their own
 pub data Piece : Type 0 where

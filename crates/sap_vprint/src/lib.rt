@@ -7,7 +7,7 @@ mod lookup;
 mod words;
 
 ghost use Rattle.std.specs.Prelude.{◌≡◌, ◌++◌, OnOk, IfOk};
-ghost use Rattle.sap_modtext.specs.Modules.{IsModule};
+ghost use Rattle.sap_vtext.specs.Modules.{IsModule};
 ghost use Rattle.sap_vprint.specs.Parts.{front_text, inner_text, body_text};
 
 use sap_desk::Bytes;

@@ -5,7 +5,7 @@ ghost use Rattle.std.specs.List.{HoldsAt};
 ghost use Rattle.sap_maps.specs.Scope.{find};
 ghost use Rattle.sap_net.specs.Names.{is_among};
 ghost use Rattle.sap_net.specs.IsNetlist.{input_names, wire_names, register_names, memory_names};
-ghost use Rattle.sap_modtext.specs.Faults.{shape_width};
+ghost use Rattle.sap_vtext.specs.Widths.{shape_width};
 ghost use Rattle.sap_vprint.specs.Printed.{entities};
 ghost use Rattle.sap_vprint.specs.Lookup.{shape_of, shape_found};
 

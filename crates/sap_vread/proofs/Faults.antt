@@ -1,19 +1,20 @@
 -- A text is a module, or has one fault.
 use Rattle.std.proofs.Common.{◌≡◌, ◌≢◌, ◌≤◌, ℕ, List, refl, sym, ap, subst, ◌∙◌, arith, Result, Err, IsOkUnless}
-use Rattle.std.specs.Prelude.{◌==◌, if◌then◌else◌, IsErrOf}
-use Rattle.sap_modtext.specs.Faults.{IsFaultless}
-use Rattle.sap_modtext.specs.Items.{File}
-use Rattle.sap_modtext.specs.Modules.{IsModule, netlist_of}
+use Rattle.std.specs.Prelude.{◌==◌, if◌then◌else◌}
+use Rattle.sap_vtext.specs.Faults.{IsFaultless}
+use Rattle.sap_vtext.specs.Items.{File}
+use Rattle.sap_vtext.specs.Modules.{IsModule, netlist_of}
 use Rattle.sap_net.specs.Net.{Net}
-use Rattle.sap_vjudge.specs.FirstFault.{IsFirstFault, Stands, number}
+use Rattle.sap_vjudge.specs.FirstFault.{IsFirstFault, IsJudgeFault, Stands, number}
 use Rattle.sap_vjudge.specs.declared.code.Code.{Code}
 use Rattle.sap_vjudge.specs.declared.code.Code.TheVariants as code
 use Rattle.sap_vjudge.specs.declared.fault.JudgeFault.{JudgeFault}
+use Rattle.sap_vjudge.specs.declared.fault.JudgeFault.TheVariants as j
 use Rattle.sap_vparse.specs.Text.{IsReadFault, IsText}
 use Rattle.sap_vlex.specs.declared.fault.ReadFault.{ReadFault}
 use Rattle.sap_vlex.specs.declared.fault.ReadFault.TheVariants as r
 use Rattle.sap_vread.specs.Codes.{code_of}
-use Rattle.sap_vread.specs.ModuleFault.{IsModuleFault, IsRefusal, no_token, unexpected, in_file}
+use Rattle.sap_vread.specs.ModuleFault.{IsModuleFault, no_token, unexpected, in_file}
 use Rattle.sap_text.specs.Places.{place_at}
 use Rattle.sap_vread.specs.declared.fault.ModCode.{ModCode}
 use Rattle.sap_vread.specs.declared.fault.ModCode.TheVariants.{V1, V2}
@@ -116,19 +117,14 @@ pub told_v2 : (text : List ℕ) (fault : ReadFault) (at : ℕ) (p : Place) → f
 told_v2 text fault at p is h e =
     subst (λ (q : Place). IsModuleFault text (Rule V2 q)) (sym e) (unexpected (subst (λ (x : ReadFault). IsReadFault text x) is (h (λ memory. cc))))
 
-abbrev pub refused : JudgeFault → Result (Unit {0}) JudgeFault
-refused fault = Err fault
+pub told_in_file : (text : List ℕ) (f : File) (fault : JudgeFault) (c : Code) (at : ℕ) (m : ModCode) (p : Place) → IsText text f → fault ≡ j.Rule c at
+    → (fault ≢ j.Memory → IsJudgeFault f fault) → m ≡ code_of c → p ≡ place_at text at → IsModuleFault text (Rule m p)
+told_in_file text f fault c at m p t is h i e =
+    let first : IsFirstFault f c at = subst (λ (x : JudgeFault). IsJudgeFault f x) is (h (λ memory. cc)) in
+    subst (λ (q : Place). IsModuleFault text (Rule m q)) (sym e) (subst (λ (x : ModCode). IsModuleFault text (Rule x (place_at text at))) (sym i) (in_file t first))
 
-pub err_is : (fault other : JudgeFault) → fault ≡ other → IsErrOf (refused fault) other
-err_is fault other e = subst (λ (x : JudgeFault). IsErrOf (refused fault) x) e refl
-
-pub told_in_file : (text : List ℕ) (f : File) (c : Code) (at : ℕ) (m : ModCode) (p : Place) → IsText text f → IsFirstFault f c at → m ≡ code_of c → p ≡ place_at text at
-    → IsModuleFault text (Rule m p)
-told_in_file text f c at m p t h i e =
-    subst (λ (q : Place). IsModuleFault text (Rule m q)) (sym e) (subst (λ (x : ModCode). IsModuleFault text (Rule x (place_at text at))) (sym i) (in_file t h))
-
-pub memory_alone : (text : List ℕ) (fault : ModFault) → IsRefusal text fault → (IsModuleFault text fault → ⊥) → fault ≡ Memory
-memory_alone text (Rule code place) h none = absurd (none h)
+pub memory_alone : (text : List ℕ) (fault : ModFault) → (fault ≢ Memory → IsModuleFault text fault) → (IsModuleFault text fault → ⊥) → fault ≡ Memory
+memory_alone text (Rule code place) h none = absurd (none (h (λ memory. cc)))
 memory_alone text Memory h none = refl
 
 pub unless : {T : Type 0} (o : Result T ModFault) (fault : ModFault) → o ≡ Err fault → fault ≡ Memory → IsOkUnless o Memory

@@ -1,13 +1,13 @@
 //! The laws of modules' texts.
 
 ghost use Rattle.std.specs.Prelude.{◌≡◌, List, ℕ};
-ghost use Rattle.sap_modtext.specs.Modules.{IsModule};
+ghost use Rattle.sap_vtext.specs.Modules.{IsModule};
 ghost use Rattle.sap_net.specs.Net.{Net};
 ghost use Rattle.sap_vread.specs.ModuleFault.{IsModuleFault};
 ghost use Rattle.sap_vread.specs.declared.fault.ModFault.{ModFault};
 
-use sap_modtext::one_module;
 use sap_vparse::law::one_reading;
+use sap_vtext::one_module;
 
 /// A text is at most one module, or has at most one fault, and not both.
 pub fn one_module_or_fault()

@@ -1,12 +1,12 @@
 //! The reader of modules.
 
 ghost use Rattle.std.specs.Prelude.{◌≢◌, IfErr, IfOk, IsErr, IsOkUnless, OnOk};
-ghost use Rattle.sap_modtext.specs.Faults.{IsFaultless};
-ghost use Rattle.sap_modtext.specs.Modules.{IsModule};
+ghost use Rattle.sap_vtext.specs.Faults.{IsFaultless};
+ghost use Rattle.sap_vtext.specs.Modules.{IsModule};
 ghost use Rattle.sap_net.specs.Net.{Net};
 ghost use Rattle.sap_vparse.specs.Text.{IsText};
 ghost use Rattle.sap_vparse.specs.Views.{file_of};
-ghost use Rattle.sap_vread.specs.ModuleFault.{IsModuleFault, IsRefusal};
+ghost use Rattle.sap_vread.specs.ModuleFault.{IsModuleFault};
 ghost use Rattle.sap_vread.specs.declared.fault.ModFault.{ModFault as AnyFault};
 ghost use Rattle.sap_vread.specs.declared.fault.ModFault.TheVariants.{Memory};
 
@@ -25,7 +25,7 @@ use std::alloc::Global;
 // The file of a text.
 fn file(alloc: Global, text: &[u8]) -> Result<File, ModFault>
     ensures file { IfOk result (λ f. IsText text.now (file_of f)) }
-    ensures refused { IfErr result (λ fault. IsRefusal text.now fault) }
+    ensures refused { IfErr result (λ fault. fault ≢ Memory → IsModuleFault text.now fault) }
 {
     match parse(alloc, text) {
         Ok(file) => Ok(file),
@@ -39,7 +39,7 @@ fn file(alloc: Global, text: &[u8]) -> Result<File, ModFault>
 fn judged(alloc: Global, text: &[u8], file: &File) -> Result<(), ModFault>
     requires spelled { IsText text.now (file_of file.now) }
     ensures faultless { OnOk result (IsFaultless (file_of file.now)) }
-    ensures refused { IfErr result (λ fault. IsRefusal text.now fault) }
+    ensures refused { IfErr result (λ fault. fault ≢ Memory → IsModuleFault text.now fault) }
 {
     match judge(alloc, file) {
         Ok(()) => Ok(()),

@@ -12,9 +12,10 @@ use Rattle.sap_net.specs.declared.parts.Wire.{Wire}
 use Rattle.sap_net.specs.declared.parts.Register.{Register}
 use Rattle.sap_net.specs.declared.parts.Memory.{Memory}
 use Rattle.sap_net.specs.Net.{net_of}
-use Rattle.sap_modtext.specs.Items as item
-use Rattle.sap_modtext.specs.Faults.{Shape, wire, register, memory, port_shape, Declaration, port_declaration, item_declarations, declarations, shape_in, shape_width}
-use Rattle.sap_modtext.specs.Modules.{netlist_of, net_operand, net_right, net_port, port_input, net_wires, declared_width, first_of, first_given, when, initial_number, next_operand, cell_write, nothing, net_register, net_memory, written_memory, shape_registers, shape_memories}
+use Rattle.sap_vtext.specs.Items as item
+use Rattle.sap_vtext.specs.Names.{Shape, wire, register, memory, port_shape, Declaration, port_declaration, item_declarations, declarations, shape_in}
+use Rattle.sap_vtext.specs.Widths.{shape_width}
+use Rattle.sap_vtext.specs.Modules.{netlist_of, net_operand, net_right, net_port, port_input, net_wires, declared_width, first_of, first_given, when, initial_number, next_operand, cell_write, nothing, net_register, net_memory, written_memory, shape_registers, shape_memories}
 use Rattle.sap_vparse.specs.declared.items.File.{File}
 use Rattle.sap_vparse.specs.declared.items.Item.{Item}
 use Rattle.sap_vparse.specs.declared.items.Port.{Port}

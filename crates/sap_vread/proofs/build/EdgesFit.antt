@@ -11,12 +11,15 @@ use Rattle.sap_maps.specs.Scope.{Scope}
 use Rattle.sap_net.specs.declared.parts.Operand as net
 use Rattle.sap_net.specs.Rules.{IsOperand, IsRegister, IsMemory}
 use Rattle.sap_net.specs.IsNetlist.{readable}
-use Rattle.sap_modtext.specs.Items.{Mention, Number, Constant, Operand, Port, Item, File}
-use Rattle.sap_modtext.specs.Items as item
-use Rattle.sap_modtext.specs.Faults.{Shape, input, wire, register, memory, Declaration, declarations, shape_in, shape_width, shape_above, Setting, initial, always, target_of, is_target, is_set, Use, as_register, as_memory, suits, needs, uses, operand_uses, operand_constants, operand_width, constant_width, memory_width, register_width, constant_fits, Among, IsFaultless}
-use Rattle.sap_modtext.specs.Modules.{netlist_of, net_operand, first_of, first_given, when, initial_number, next_operand, cell_write, Write, nothing, shape_registers, shape_memories}
-use Rattle.sap_modtext.proofs.NameLists.{among_right}
-use Rattle.sap_modtext.proofs.Good.{IsGoodUse, above_of}
+use Rattle.sap_vtext.specs.Items.{Mention, Number, Constant, Operand, Port, Item, File}
+use Rattle.sap_vtext.specs.Items as item
+use Rattle.sap_text.specs.Best.{StandsIn}
+use Rattle.sap_vtext.specs.Names.{Shape, input, wire, register, memory, Declaration, declarations, shape_in, shape_above, Setting, initial, always, target_of, is_target, is_set, known_above}
+use Rattle.sap_vtext.specs.Widths.{shape_width, operand_width, constant_width, memory_width, register_width, constant_fits}
+use Rattle.sap_vtext.specs.Faults.{Use, as_register, as_memory, suits, needs, uses, operand_uses, operand_constants, IsFaultless}
+use Rattle.sap_vtext.specs.Modules.{netlist_of, net_operand, first_of, first_given, when, initial_number, next_operand, cell_write, Write, nothing, shape_registers, shape_memories}
+use Rattle.sap_vtext.proofs.NameLists.{among_right}
+use Rattle.sap_vtext.proofs.Good.{IsGoodUse, above_of}
 use Rattle.sap_vread.proofs.build.Entries.{own_shape}
 use Rattle.sap_vread.proofs.build.Sound.{names_distinct, good_use, good_uses, good_constants, good_pairs, good_index, all_set, Part}
 use Rattle.sap_vread.proofs.build.Parts.{all_declared, item_in, shape_below}
@@ -67,7 +70,7 @@ when_given x n a b e =
     (λ t. let q : None ≡ Some b = rw t at e in absurd (cc))
     (cases_Bool (bytes_eq x n))
 
-all_flat : {A B : Type 0} (P : B → Type 0) (g : A → List B) (xs : List A) → ((x : A) → Among x xs → AllByRecursion P (g x)) → AllByRecursion P (flat_map g xs)
+all_flat : {A B : Type 0} (P : B → Type 0) (g : A → List B) (xs : List A) → ((x : A) → StandsIn x xs → AllByRecursion P (g x)) → AllByRecursion P (flat_map g xs)
 all_flat P g [] k = tt
 all_flat P g (x ∷ xs) k = all_append P (g x) (flat_map g xs) (k x (inl refl)) (all_flat P g xs (λ y m. k y (inr m)))
 
@@ -88,7 +91,7 @@ depth_of _ = 0
 
 module _ (f : File) (h : IsFaultless f) where
   -- an item whose name is used as a register, or as a memory, is that of one
-  as_declared_register : (x : Item) (p : Part x f.items) (m : Mention) → Among (let u : Use = record { manner = as_register; name = m } in u) (uses x)
+  as_declared_register : (x : Item) (p : Part x f.items) (m : Mention) → StandsIn (let u : Use = record { manner = as_register; name = m } in u) (uses x)
       → (w : ℕ) × (shape_in (declarations f.ports p.before) m.name ≡ Some (register w)) × (shape_in (all_declared f) m.name ≡ Some (register w))
   as_declared_register x p m among =
       let g = good_use f h (above_of f.ports p.before) x (item_in f x p) (record { manner = as_register; name = m }) among in
@@ -100,7 +103,7 @@ module _ (f : File) (h : IsFaultless f) where
         by_shape (wire w) d k = absurd (cc)
         by_shape (memory w depth) d k = absurd (cc)
 
-  as_declared_memory : (x : Item) (p : Part x f.items) (m : Mention) → Among (let u : Use = record { manner = as_memory; name = m } in u) (uses x)
+  as_declared_memory : (x : Item) (p : Part x f.items) (m : Mention) → StandsIn (let u : Use = record { manner = as_memory; name = m } in u) (uses x)
       → (w : ℕ) × (depth : ℕ) × (shape_in (declarations f.ports p.before) m.name ≡ Some (memory w depth)) × (shape_in (all_declared f) m.name ≡ Some (memory w depth))
   as_declared_memory x p m among =
       let g = good_use f h (above_of f.ports p.before) x (item_in f x p) (record { manner = as_memory; name = m }) among in
@@ -175,7 +178,7 @@ module _ (f : File) (h : IsFaultless f) where
   last_scope = readable (netlist_of f)
 
   -- an operand of an item is one at the end
-  operand_last : AllByRecursion HasParts f.items → (x : Item) (p : Part x f.items) (o : Operand) (w : ℕ) → operand_width (above_of f.ports p.before) o ≡ Some w
+  operand_last : AllByRecursion HasParts f.items → (x : Item) (p : Part x f.items) (o : Operand) (w : ℕ) → operand_width (known_above (above_of f.ports p.before)) o ≡ Some w
       → AllByRecursion (λ c. constant_fits c ≡ true) (operand_constants o) → IsOperand last_scope w (net_operand o)
   operand_last two x p o w e c =
       operand_is f h p.before (x ∷ p.after) f.items last_scope p.is (more_below f h p.before (x ∷ p.after) p.is) (last_reads f h two) o w e c
@@ -191,7 +194,7 @@ module _ (f : File) (h : IsFaultless f) where
       let cs = good_constants f h a (item.always x next) i in
       let ps = good_pairs f h a (item.always x next) (record { setting = always; name = x }) i refl in
       let y = operand_wide f h p.before (item.always x next ∷ p.after) p.is next us.1 cs in
-      let same : r.0 ≡ y.width = equal (register_width (shape_above a x.name)) (operand_width a next) r.0 y.width (ap register_width r.1) y.is ps.0 in
+      let same : r.0 ≡ y.width = equal (register_width (shape_above a x.name)) (operand_width (known_above a) next) r.0 y.width (ap register_width r.1) y.is ps.0 in
       let q = same_shape n (register w) (register r.0) d (subst (λ z. shape_in (all_declared f) z ≡ Some (register r.0)) g.0 r.2) in
       let wide : w ≡ y.width = ap shape_width q ∙ same in
       subst (λ z. IsOperand last_scope w z) g.1 (operand_last two (item.always x next) p next w (y.is ∙ ap (λ z. Some z) (sym wide)) cs)
@@ -211,7 +214,7 @@ module _ (f : File) (h : IsFaultless f) where
       subst (λ o. IsOperand last_scope w (unwrap_or o nothing)) (sym g.first) (next_fits two n w d g.item g.part g.value g.gives)
 
   abbrev declared_shape : Declaration → Shape → Type 0
-  declared_shape d s = (d.shape ≡ s) × Among d (all_declared f)
+  declared_shape d s = (d.shape ≡ s) × StandsIn d (all_declared f)
 
   shape_there : (d : Declaration) (s : Shape) → declared_shape d s → shape_in (all_declared f) d.name.name ≡ Some s
   shape_there d s m = own_shape (all_declared f) (names_distinct f h) d m.1 ∙ ap (λ z. Some z) m.0
@@ -277,8 +280,8 @@ module _ (f : File) (h : IsFaultless f) where
       let q = same_shape n (memory w depth) (memory r.0 r.1) d (subst (λ m. shape_in (all_declared f) m ≡ Some (memory r.0 r.1)) g.0 r.3) in
       let deep : r.1 ≡ 2 ^ b = sym (ap depth_of q) ∙ power in
       let above : shape_above a x.name ≡ Some (memory r.0 (2 ^ b)) = r.2 ∙ ap (λ m. Some (memory r.0 m)) deep in
-      let one : c.width ≡ 1 = equal (operand_width a condition) (Some 1) c.width 1 c.is refl ps.0 in
-      let wide : r.0 ≡ z.width = equal (memory_width (shape_above a x.name)) (operand_width a value) r.0 z.width (ap memory_width r.2) z.is ps.1.0 in
+      let one : c.width ≡ 1 = equal (operand_width (known_above a) condition) (Some 1) c.width 1 c.is refl ps.0 in
+      let wide : r.0 ≡ z.width = equal (memory_width (shape_above a x.name)) (operand_width (known_above a) value) r.0 z.width (ap memory_width r.2) z.is ps.1.0 in
       let bits : k.width ≡ b = good_index f h a (item.always_cell condition x index value) i x index (inl refl) r.0 b k.width above k.is in
       let width : w ≡ z.width = ap shape_width q ∙ wide in
       subst (λ m. WriteFits w b m) g.1

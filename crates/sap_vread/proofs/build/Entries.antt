@@ -5,12 +5,13 @@ use Rattle.std.specs.List.{AllByRecursion}
 use Rattle.std.specs.Str.{bytes_eq}
 use Rattle.std.proofs.lemmas.Bool.{cases_Bool}
 use Rattle.sap_lemmas.proofs.Texts.{equal_of_bytes_eq}
-use Rattle.sap_modtext.proofs.FaultsLemmas.{all_alike}
+use Rattle.sap_vtext.proofs.FaultsLemmas.{all_alike}
 use Rattle.sap_maps.specs.Maps.{Name}
 use Rattle.sap_maps.specs.Scope.{find}
 use Rattle.sap_net.specs.Names.{is_among, AreDistinct}
-use Rattle.sap_modtext.specs.Faults.{Shape, Declaration, shape_in, Among}
-use Rattle.sap_modtext.proofs.NameLists.{keys, keys_map, AreNew, new_keys, found_key, found_among, among_mapped, NoneAmong, all_from}
+use Rattle.sap_text.specs.Best.{StandsIn}
+use Rattle.sap_vtext.specs.Names.{Shape, Declaration, shape_in}
+use Rattle.sap_vtext.proofs.NameLists.{keys, keys_map, AreNew, new_keys, found_key, found_among, among_mapped, NoneAmong, all_from}
 
 abbrev pub declared_names : List Declaration → List Name
 declared_names ds = map (λ d. d.name.name) ds
@@ -35,7 +36,7 @@ no_shape ds n h = by_shape (shape_in ds n) (shape_known ds n ∙ h) where
   by_shape None e = refl
   by_shape (Some s) e = absurd (cc)
 
-pub own_shape : (ds : List Declaration) → AreDistinct (declared_names ds) → (d : Declaration) → Among d ds → shape_in ds d.name.name ≡ Some d.shape
+pub own_shape : (ds : List Declaration) → AreDistinct (declared_names ds) → (d : Declaration) → StandsIn d ds → shape_in ds d.name.name ≡ Some d.shape
 own_shape ds h d m =
     let name = λ (e : Declaration). e.name.name in
     let shape = λ (e : Declaration). e.shape in
@@ -46,7 +47,7 @@ own_shape ds h d m =
 -- a declaration that gives a name its shape
 pub record Declares (ds : List Declaration) (n : Name) (s : Shape) : Type 0 where
   pub declaration : Declaration
-  pub among : Among declaration ds
+  pub among : StandsIn declaration ds
   pub name : declaration.name.name ≡ n
   pub shape : declaration.shape ≡ s
 

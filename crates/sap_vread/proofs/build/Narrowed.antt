@@ -5,10 +5,12 @@ use Rattle.std.specs.List.{AllByRecursion}
 use Rattle.std.proofs.lemmas.Bool.{lt-ltb}
 use Rattle.std.proofs.Math.Pow.{pow_mono}
 use Rattle.sap_lemmas.proofs.Everywhere.{all_parts}
-use Rattle.sap_modtext.specs.Items.{Mention, Number, Constant, Operand, Right, Port, Item, File}
-use Rattle.sap_modtext.specs.Items as item
-use Rattle.sap_modtext.specs.Faults.{as_value, operand_constants, right_constants, constant_fits, Among, HasIndex, IsFaultless}
-use Rattle.sap_modtext.proofs.Good.{above_of}
+use Rattle.sap_vtext.specs.Items.{Mention, Number, Constant, Operand, Right, Port, Item, File}
+use Rattle.sap_vtext.specs.Items as item
+use Rattle.sap_text.specs.Best.{StandsIn}
+use Rattle.sap_vtext.specs.Widths.{constant_fits}
+use Rattle.sap_vtext.specs.Faults.{as_value, operand_constants, right_constants, HasIndex, IsFaultless}
+use Rattle.sap_vtext.proofs.Good.{above_of}
 use Rattle.sap_vread.specs.Build.Narrow.{narrow, narrow_number, narrow_constant, narrow_operand, narrow_right, narrow_port, narrow_item, narrow_file}
 use Rattle.sap_vread.proofs.build.Sound.{good_use, good_constants, slice_fits, good_depth, small_port, small_range, Part}
 use Rattle.sap_vread.proofs.build.Parts.{item_in, shape_below}
@@ -113,12 +115,12 @@ module _ (f : File) (h : IsFaultless f) where
       let b = items_same (before ++ x ∷ []) rest (e ∙ sym (append_assoc before (x ∷ []) rest)) in
       cc
 
-  port_same : (p : Port) → Among p f.ports → narrow_port p ≡ p
+  port_same : (p : Port) → StandsIn p f.ports → narrow_port p ≡ p
   port_same p m =
       let small = small_port f h p m in
       ap (λ n. let q : Port = record { direction = p.direction; range = n; name = p.name } in q) (number_same p.range (omega arith))
 
-  ports_same : (ps : List Port) → ((p : Port) → Among p ps → Among p f.ports) → map narrow_port ps ≡ ps
+  ports_same : (ps : List Port) → ((p : Port) → StandsIn p ps → StandsIn p f.ports) → map narrow_port ps ≡ ps
   ports_same [] k = refl
   ports_same (p ∷ ps) k =
       let a = port_same p (k p (inl refl)) in

@@ -3,9 +3,10 @@ use Rattle.std.proofs.Common.{◌≡◌, true}
 use Rattle.std.specs.List.{AllByRecursion}
 use Rattle.sap_net.specs.Names.{is_name}
 use Rattle.sap_net.specs.IsNetlist.{IsNetlist}
-use Rattle.sap_modtext.specs.Items.{File}
-use Rattle.sap_modtext.specs.Faults.{item_declarations, IsFaultless}
-use Rattle.sap_modtext.specs.Modules.{netlist_of}
+use Rattle.sap_vtext.specs.Items.{File}
+use Rattle.sap_vtext.specs.Names.{item_declarations}
+use Rattle.sap_vtext.specs.Faults.{IsFaultless}
+use Rattle.sap_vtext.specs.Modules.{netlist_of}
 use Rattle.sap_vread.proofs.build.Entries.{declared_names}
 use Rattle.sap_vread.proofs.build.Sound.{names_distinct}
 use Rattle.sap_vread.proofs.build.Parts.{all_declared, declared_are, registers_ordered, memories_ordered, ports_are_first, ports_shown, inputs_are_shown}

@@ -1,7 +1,7 @@
 -- What is noted of lists, element by element.
 use Rattle.std.proofs.Common.{◌≡◌, ℕ, ◌+◌, List, [], ◌∷◌, None, refl}
-use Rattle.sap_modtext.specs.Items.{Port, Item}
-use Rattle.sap_modtext.specs.Modules.{first_of, when}
+use Rattle.sap_vtext.specs.Items.{Port, Item}
+use Rattle.sap_vtext.specs.Modules.{first_of, when}
 use Rattle.sap_vread.specs.Build.Noted.{noted, all_noted, ports_noted}
 use Rattle.sap_vread.specs.declared.build.noting.Noting.{Noting}
 

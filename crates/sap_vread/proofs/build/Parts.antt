@@ -16,12 +16,14 @@ use Rattle.sap_net.specs.declared.parts.Memory.{Memory}
 use Rattle.sap_net.specs.Names.{is_among}
 use Rattle.sap_net.specs.Rules.{Shapes}
 use Rattle.sap_net.specs.IsNetlist.{input_names, wire_names, register_names, memory_names, shapes, PortShows, is_input}
-use Rattle.sap_modtext.specs.Items.{Direction, Port, Item, File}
-use Rattle.sap_modtext.specs.Items as item
-use Rattle.sap_modtext.specs.Faults.{Shape, input, wire, register, memory, port_shape, port_declaration, item_declarations, Declaration, declarations, shape_in, IsItemOf, assign, is_target, target_of, is_set, as_wire, suits, needs, Use, Among, IsFaultless}
-use Rattle.sap_modtext.specs.Modules.{net_kind, net_port, net_input, port_input, net_wires, shape_registers, shape_memories, netlist_of}
-use Rattle.sap_modtext.proofs.NameLists.{keys, keys_map, among_left, among_mapped}
-use Rattle.sap_modtext.proofs.Good.{above_of}
+use Rattle.sap_vtext.specs.Items.{Direction, Port, Item, File}
+use Rattle.sap_vtext.specs.Items as item
+use Rattle.sap_text.specs.Best.{StandsIn}
+use Rattle.sap_vtext.specs.Names.{Shape, input, wire, register, memory, port_shape, port_declaration, item_declarations, Declaration, declarations, shape_in, IsItemOf, assign, is_target, target_of, is_set}
+use Rattle.sap_vtext.specs.Faults.{as_wire, suits, needs, Use, IsFaultless}
+use Rattle.sap_vtext.specs.Modules.{net_kind, net_port, net_input, port_input, net_wires, shape_registers, shape_memories, netlist_of}
+use Rattle.sap_vtext.proofs.NameLists.{keys, keys_map, among_left, among_mapped}
+use Rattle.sap_vtext.proofs.Good.{above_of}
 use Rattle.sap_vread.proofs.build.Entries.{declared_names, add_entry, entries, entries_append, picked, key_picked, in_order, own_shape, shape_known, shape_kept, declared_by}
 use Rattle.sap_vread.proofs.build.Sound.{names_distinct, good_use, all_set, Part}
 
@@ -267,7 +269,7 @@ module _ (f : File) (h : IsFaultless f) where
   port_shows item.output_register n width e = register_known n ∙ ap (λ o. is_some (picked register_width o)) e
   port_shows item.output_wire n width e = wire_known n ∙ ap (λ o. is_some (picked wire_width o)) e
 
-  all_mapped : (ps : List Port) → ((p : Port) → Among p ps → PortShows (netlist_of f) (net_kind p.direction) p.name.name)
+  all_mapped : (ps : List Port) → ((p : Port) → StandsIn p ps → PortShows (netlist_of f) (net_kind p.direction) p.name.name)
       → AllByRecursion (λ p. PortShows (netlist_of f) p.kind p.name) (map net_port ps)
   all_mapped [] g = tt
   all_mapped (p ∷ ps) g = (g p (inl refl), all_mapped ps (λ q m. g q (inr m)))

@@ -4,30 +4,33 @@ use Rattle.std.specs.Prelude.{◌&&◌, map, flat_map, is_some, nat_lt, nat_le}
 use Rattle.std.specs.List.{AllByRecursion}
 use Rattle.std.specs.Str.{bytes_eq}
 use Rattle.std.proofs.lemmas.Bool.{and_parts, ltb-true, leb-true}
-use Rattle.sap_modtext.proofs.FaultsLemmas.{all_alike}
+use Rattle.sap_vtext.proofs.FaultsLemmas.{all_alike}
 use Rattle.sap_maps.specs.Maps.{Name}
 use Rattle.sap_maps.specs.Scope.{Scope, find}
 use Rattle.sap_net.specs.Names.{AreDistinct}
 use Rattle.sap_net.specs.Rules.{Shapes, IsWidth, IsOperand, AreValues, AreMemories}
 use Rattle.sap_net.specs.IsNetlist.{first_readable, shapes}
-use Rattle.sap_modtext.specs.Items.{Mention, Number, Constant, Operand, Port, Item, File}
-use Rattle.sap_modtext.specs.Items as item
-use Rattle.sap_modtext.specs.Faults.{Shape, input, wire, register, memory, port_shape, port_declaration, item_declarations, Declaration, declarations, shape_in, shape_width, assign, is_set, as_value, suits, operand_uses, operand_constants, operand_width, constant_fits, constant_width, value_width, Among, HasIndex, IsFaultless}
-use Rattle.sap_modtext.specs.Modules.{netlist_of, net_operand, first_of}
-use Rattle.sap_modtext.proofs.NameLists.{keys, keys_append, key_none, new_keys, found_among, distinct_append, among_cases}
-use Rattle.sap_modtext.proofs.Good.{IsGoodUse, above_of}
+use Rattle.sap_vtext.specs.Items.{Mention, Number, Constant, Operand, Port, Item, File}
+use Rattle.sap_vtext.specs.Items as item
+use Rattle.sap_text.specs.Best.{StandsIn}
+use Rattle.sap_vtext.specs.Names.{Shape, input, wire, register, memory, port_shape, port_declaration, item_declarations, Declaration, declarations, shape_in, assign, is_set, known_above}
+use Rattle.sap_vtext.specs.Widths.{shape_width, operand_width, constant_fits, constant_width, value_width}
+use Rattle.sap_vtext.specs.Faults.{as_value, suits, operand_uses, operand_constants, HasIndex, IsFaultless}
+use Rattle.sap_vtext.specs.Modules.{netlist_of, net_operand, first_of}
+use Rattle.sap_vtext.proofs.NameLists.{keys, keys_append, key_none, new_keys, found_among, distinct_append, among_cases}
+use Rattle.sap_vtext.proofs.Good.{IsGoodUse, above_of}
 use Rattle.sap_vread.proofs.build.Entries.{entries, picked, found_entry, distinct_entries, entries_apart, declared_by}
 use Rattle.sap_vread.proofs.build.Sound.{names_distinct, small_port, small_range, good_depth, Part, part_of}
 use Rattle.sap_vread.proofs.build.Parts.{all_declared, register_entries, input_width, register_width, memory_shape, inputs_are, registers_are, memories_are, item_in, shape_below}
 
 -- Lists.
 
-among_map_back : {A B : Type 0} (g : A → B) (y : B) (xs : List A) → Among y (map g xs) → (x : A) × Among x xs × (y ≡ g x)
+among_map_back : {A B : Type 0} (g : A → B) (y : B) (xs : List A) → StandsIn y (map g xs) → (x : A) × StandsIn x xs × (y ≡ g x)
 among_map_back g y [] m = absurd m
 among_map_back g y (x ∷ xs) (inl e) = (x, inl refl, e)
 among_map_back g y (x ∷ xs) (inr m) = let r = among_map_back g y xs m in (r.0, inr r.1, r.2)
 
-among_flat : {A B : Type 0} (g : A → List B) (y : B) (xs : List A) → Among y (flat_map g xs) → (x : A) × Among x xs × Among y (g x)
+among_flat : {A B : Type 0} (g : A → List B) (y : B) (xs : List A) → StandsIn y (flat_map g xs) → (x : A) × StandsIn x xs × StandsIn y (g x)
 among_flat g y [] m = absurd m
 among_flat g y (x ∷ xs) m =
     ⊎_elim (λ p. (x, inl refl, p)) (λ p. let r = among_flat g y xs p in (r.0, inr r.1, r.2)) (among_cases y (g x) (flat_map g xs) m)
@@ -97,14 +100,14 @@ small_constant c h =
     }
 
 module _ (f : File) (h : IsFaultless f) where
-  fine_port : (p : Port) → Among p f.ports → IsFine (port_shape p.direction (p.range.value + 1))
+  fine_port : (p : Port) → StandsIn p f.ports → IsFine (port_shape p.direction (p.range.value + 1))
   fine_port p m = by_direction p.direction where
     by_direction : (d : item.Direction) → IsFine (port_shape d (p.range.value + 1))
     by_direction item.input = width_of_range p.range.value (small_port f h p m)
     by_direction item.output_register = width_of_range p.range.value (small_port f h p m)
     by_direction item.output_wire = width_of_range p.range.value (small_port f h p m)
 
-  fine_item : (x : Item) → Part x f.items → (d : Declaration) → Among d (item_declarations x) → IsFine d.shape
+  fine_item : (x : Item) → Part x f.items → (d : Declaration) → StandsIn d (item_declarations x) → IsFine d.shape
   fine_item (item.wire range x) p d (inl e) =
       subst (λ z. IsFine z.shape) (sym e) (width_of_range range.value (small_range f h (above_of f.ports p.before) (item.wire range x) (item_in f (item.wire range x) p) range (inl refl)))
   fine_item (item.wire range x) p d (inr m) = absurd m
@@ -124,7 +127,7 @@ module _ (f : File) (h : IsFaultless f) where
   fine_item (item.always x next) p d m = absurd m
   fine_item (item.always_cell condition x index value) p d m = absurd m
 
-  pub fine_declared : (d : Declaration) → Among d (all_declared f) → IsFine d.shape
+  pub fine_declared : (d : Declaration) → StandsIn d (all_declared f) → IsFine d.shape
   fine_declared d m =
       ⊎_elim
       (λ p. let r = among_map_back port_declaration d f.ports p in subst (λ z. IsFine z.shape) (sym r.2) (fine_port r.0 r.1))
@@ -228,7 +231,7 @@ module _ (f : File) (h : IsFaultless f) where
       ap (λ o. value_width o b) (shape_below f before after n v.shape e v.is ∙ sym v.is) ∙ g
 
   pub operand_is : (before after items : List Item) (sc : Scope) → f.items ≡ before ++ after → AssignsMore before items → IsReadable sc items → (o : Operand) (w : ℕ)
-      → operand_width (above_of f.ports before) o ≡ Some w → AllByRecursion (λ c. constant_fits c ≡ true) (operand_constants o) → IsOperand sc w (net_operand o)
+      → operand_width (known_above (above_of f.ports before)) o ≡ Some w → AllByRecursion (λ c. constant_fits c ≡ true) (operand_constants o) → IsOperand sc w (net_operand o)
   operand_is before after items sc e more r (item.named x) w g c =
       r x.name
       ∙ value_grows (shape_in (all_declared f) x.name) (is_set assign x.name before) (is_set assign x.name items) w (more x.name)
@@ -241,7 +244,7 @@ module _ (f : File) (h : IsFaultless f) where
 
   pub record IsWide (before : List Item) (o : Operand) : Type 0 where
     pub width : ℕ
-    pub is : operand_width (above_of f.ports before) o ≡ Some width
+    pub is : operand_width (known_above (above_of f.ports before)) o ≡ Some width
     pub fits : IsWidth width
 
   pub operand_wide : (before after : List Item) → f.items ≡ before ++ after → (o : Operand) → AllByRecursion (IsGoodUse (above_of f.ports before)) (operand_uses o)

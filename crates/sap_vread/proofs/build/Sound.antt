@@ -3,15 +3,18 @@ use Rattle.std.proofs.Common.{◌≡◌, ℕ, suc, zero, ◌+◌, ◌^◌, ◌<�
 use Rattle.std.specs.Prelude.{◌⊎◌, IsSome}
 use Rattle.std.specs.List.{AllByRecursion}
 use Rattle.std.proofs.lemmas.Bool.{cases_lt, cases_eq, true_from_ne_false, false_from_ne_true}
-use Rattle.sap_modtext.proofs.FaultsLemmas.{all_alike}
+use Rattle.sap_vtext.proofs.FaultsLemmas.{all_alike}
 use Rattle.sap_maps.specs.Maps.{Name}
 use Rattle.sap_net.specs.Names.{is_among, AreDistinct}
-use Rattle.sap_modtext.specs.Items.{Mention, Number, Operand, Constant, Right, Item, Port, File}
-use Rattle.sap_modtext.specs.Items as item
-use Rattle.sap_modtext.specs.Faults.{Shape, wire, memory, Declaration, declarations, shape_in, shape_width, Above, IsItemOf, shape_above, Setting, assign, Target, target_of, is_set, is_settable, Use, as_value, uses, suits, constants, indexes, constant_fits, operand_width, pairs, Differ, Among, HasIndex, needs, IsFaultless}
-use Rattle.sap_modtext.specs.Faults as fault
-use Rattle.sap_modtext.proofs.Good.{IsGoodUse, IsGoodIndex}
-use Rattle.sap_modtext.proofs.NameLists.{named_among, among_name, among_right}
+use Rattle.sap_vtext.specs.Items.{Mention, Number, Operand, Constant, Right, Item, Port, File}
+use Rattle.sap_vtext.specs.Items as item
+use Rattle.sap_text.specs.Best.{StandsIn}
+use Rattle.sap_vtext.specs.Names.{Shape, wire, Declaration, declarations, shape_in, Above, IsItemOf, shape_above, Setting, assign, Target, target_of, is_set, known_above}
+use Rattle.sap_vtext.specs.Widths.{shape_width, constant_fits, pairs, Differ}
+use Rattle.sap_vtext.specs.Faults.{is_settable, Use, as_value, uses, suits, constants, indexes, HasIndex, needs, IsFaultless}
+use Rattle.sap_vtext.specs.Faults as fault
+use Rattle.sap_vtext.proofs.Good.{IsGoodUse, IsGoodIndex}
+use Rattle.sap_vtext.proofs.NameLists.{named_among, among_name, among_right}
 use Rattle.sap_vread.proofs.build.Entries.{declared_names, shape_known}
 
 -- A power of two up to a bound, or none.
@@ -43,7 +46,7 @@ pub record Part {A : Type 0} (x : A) (xs : List A) : Type 0 where
   pub after : List A
   pub is : xs ≡ before ++ x ∷ after
 
-pub part_of : {A : Type 0} (x : A) (xs : List A) → Among x xs → Part x xs
+pub part_of : {A : Type 0} (x : A) (xs : List A) → StandsIn x xs → Part x xs
 part_of x [] m = absurd m
 part_of x (y ∷ ys) (inl e) = record { before = []; after = ys; is = ap (λ z. z ∷ ys) (sym e) }
 part_of x (y ∷ ys) (inr m) = let r = part_of x ys m in record { before = y ∷ r.before; after = r.after; is = ap (λ z. y ∷ z) r.is }
@@ -74,7 +77,7 @@ module _ (f : File) (h : IsFaultless f) where
 
   -- Uses, constants, widths and indexes.
 
-  pub good_use : (a : Above) (x : Item) → IsItemOf f a x → (u : Use) → Among u (uses x) → IsGoodUse a u
+  pub good_use : (a : Above) (x : Item) → IsItemOf f a x → (u : Use) → StandsIn u (uses x) → IsGoodUse a u
   good_use a x i u m = by_shape (shape_above a u.name.name) refl where
     by_shape : (o : Option Shape) → shape_above a u.name.name ≡ o → IsGoodUse a u
     by_shape None e = absurd (h.v4 u.name.place (fault.undeclared u i m e))
@@ -93,10 +96,10 @@ module _ (f : File) (h : IsFaultless f) where
   good_constants a x i =
       all_alike (λ c. constant_fits c ≡ true) (constants x) (λ c m. true_from_ne_false (constant_fits c) (λ n. h.v5 c.place (fault.unfit c i m n)))
 
-  pub good_pairs : (a : Above) (x : Item) (t : Target) → IsItemOf f a x → target_of x ≡ Some t → AllByRecursion (λ p. Differ p → ⊥) (pairs a x)
-  good_pairs a x t i e = all_alike (λ p. Differ p → ⊥) (pairs a x) (λ p m d. h.v5 t.name.place (fault.widths_differ t p i e m d))
+  pub good_pairs : (a : Above) (x : Item) (t : Target) → IsItemOf f a x → target_of x ≡ Some t → AllByRecursion (λ p. Differ p → ⊥) (pairs (known_above a) x)
+  good_pairs a x t i e = all_alike (λ p. Differ p → ⊥) (pairs (known_above a) x) (λ p m d. h.v5 t.name.place (fault.widths_differ t p i e m d))
 
-  pub good_index : (a : Above) (x : Item) → IsItemOf f a x → (m : Mention) (index : Operand) → Among {A = Mention × Operand} (m, index) (indexes x) → IsGoodIndex a (m, index)
+  pub good_index : (a : Above) (x : Item) → IsItemOf f a x → (m : Mention) (index : Operand) → StandsIn {A = Mention × Operand} (m, index) (indexes x) → IsGoodIndex a (m, index)
   good_index a x i m index among width b u e v =
       ⊎_elim (λ s. s) (λ d. absurd (h.v7 (fault.operand_place index) (fault.other_index m index i among e v d))) (cases_eq u b)
 
@@ -120,11 +123,11 @@ module _ (f : File) (h : IsFaultless f) where
 
   -- Ranges, and what is set.
 
-  pub small_port : (p : Port) → Among p f.ports → p.range.value ≤ 63
+  pub small_port : (p : Port) → StandsIn p f.ports → p.range.value ≤ 63
   small_port p m = ⊎_elim (λ w. absurd (h.v5 p.range.place (fault.wide_port p m w))) (λ q. q) (cases_lt 63 p.range.value)
 
-  pub small_range : (a : Above) (x : Item) → IsItemOf f a x → (n : Number) → Among n (fault.ranges x) → n.value ≤ 63
+  pub small_range : (a : Above) (x : Item) → IsItemOf f a x → (n : Number) → StandsIn n (fault.ranges x) → n.value ≤ 63
   small_range a x i n m = ⊎_elim (λ w. absurd (h.v5 n.place (fault.wide_range n i m w))) (λ q. q) (cases_lt 63 n.value)
 
-  pub all_set : (d : Declaration) (s : Setting) → Among d (declarations f.ports f.items) → needs d.shape s ≡ true → is_set s d.name.name f.items ≡ true
+  pub all_set : (d : Declaration) (s : Setting) → StandsIn d (declarations f.ports f.items) → needs d.shape s ≡ true → is_set s d.name.name f.items ≡ true
   all_set d s m n = true_from_ne_false (is_set s d.name.name f.items) (λ u. h.v6 d.name.place (fault.unset d s m n u))

@@ -9,17 +9,17 @@ use Rattle.sap_lemmas.proofs.Everywhere.{none_passes}
 use Rattle.sap_lemmas.proofs.Lists.{take_more}
 use Rattle.std.proofs.lemmas.List.{map-append}
 use Rattle.sap_text.proofs.NamesLemmas.{initial_inner}
-use Rattle.sap_modtext.proofs.LexingLemmas.{keywords_are}
+use Rattle.sap_vtext.proofs.LexingLemmas.{keywords_are}
 use Rattle.sap_net.specs.Names.{is_initial, is_inner, is_word, is_keyword, is_name}
-use Rattle.sap_modtext.specs.Tokens.{Word, Sign, Kind, Token, IsToken}
-use Rattle.sap_modtext.specs.Tokens as t
-use Rattle.sap_modtext.specs.Lexing.{Front, blank, token, bad, word_text, words, word_or_name, kind_of_name, name_front, sign_or_bad, sign_front, number_front, constant_front, is_constant, digits_front, digits_of_front, is_blank, front, Lexed}
-use Rattle.sap_modtext.specs.Lexing as l
-use Rattle.sap_modtext.specs.Items.{Mention, Number, Constant, Operand, Right, Port, Item, File}
-use Rattle.sap_modtext.specs.Items as item
-use Rattle.sap_modtext.specs.Faults.{port_declaration, item_declarations}
-use Rattle.sap_modtext.specs.Grammar as g
-use Rattle.sap_modtext.specs.Grammar.{IsWord, IsSign, IsName, IsNumber, IsDigit, IsConstant, IsOperand, IsRange, IsPort, ArePorts, AreParts, IsRight, IsClocked, IsLoop, IsItem, AreItems, IsFile}
+use Rattle.sap_vtext.specs.Tokens.{Word, Sign, Kind, Token, IsToken}
+use Rattle.sap_vtext.specs.Tokens as t
+use Rattle.sap_vtext.specs.Lexing.{Front, blank, token, bad, word_text, words, word_or_name, kind_of_name, name_front, sign_or_bad, sign_front, number_front, constant_front, is_constant, digits_front, digits_of_front, is_blank, front, Lexed}
+use Rattle.sap_vtext.specs.Lexing as l
+use Rattle.sap_vtext.specs.Items.{Mention, Number, Constant, Operand, Right, Port, Item, File}
+use Rattle.sap_vtext.specs.Items as item
+use Rattle.sap_vtext.specs.Names.{port_declaration, item_declarations}
+use Rattle.sap_vtext.specs.Grammar as g
+use Rattle.sap_vtext.specs.Grammar.{IsWord, IsSign, IsName, IsNumber, IsDigit, IsConstant, IsOperand, IsRange, IsPort, ArePorts, AreParts, IsRight, IsClocked, IsLoop, IsItem, AreItems, IsFile}
 use Rattle.sap_vread.specs.Build.Spelled.{IsSpelled}
 use Rattle.sap_vread.proofs.build.Entries.{declared_names}
 use Rattle.sap_vread.proofs.build.WiresFit.{HasParts}

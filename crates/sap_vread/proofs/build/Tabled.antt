@@ -1,7 +1,7 @@
 -- Loops over lists of what has a number.
 use Rattle.std.proofs.Common.{◌≡◌, ◌∙◌, ℕ, ◌+◌, ◌<◌, ◌≤◌, List, [], ◌∷◌, length, get_or, drop, refl, ap, sym, Option, Some, None}
 use Rattle.std.proofs.lemmas.List.{drop_all}
-use Rattle.sap_modtext.specs.Modules.{first_of}
+use Rattle.sap_vtext.specs.Modules.{first_of}
 use Rattle.sap_vjudge.proofs.Loops.{here}
 
 pub first_assoc : {A : Type 0} (a b c : Option A) → first_of (first_of a b) c ≡ first_of a (first_of b c)

@@ -1,6 +1,6 @@
 -- Lists of operands through their views.
 use Rattle.std.proofs.Common.{◌≡◌, List, [], ◌∷◌, map, refl, ap}
-use Rattle.sap_modtext.specs.Modules.{net_operand}
+use Rattle.sap_vtext.specs.Modules.{net_operand}
 use Rattle.sap_vparse.specs.Views.{operand_of, operands_of}
 use Rattle.sap_vparse.specs.declared.items.Operand.{Operand}
 use Rattle.sap_vread.specs.Build.Narrow.{narrow_operand}

@@ -7,7 +7,7 @@ use Rattle.std.proofs.lemmas.Bool.{cases_Bool, cases_eq, lt-ltb, le-leb, or_left
 use Rattle.sap_lemmas.proofs.Everywhere.{all_parts}
 use Rattle.sap_lemmas.proofs.Lists.{length_map}
 use Rattle.sap_lemmas.proofs.Texts.{equal_of_bytes_eq}
-use Rattle.sap_modtext.proofs.FaultsLemmas.{set_append}
+use Rattle.sap_vtext.proofs.FaultsLemmas.{set_append}
 use Rattle.sap_bits.specs.declared.Op1.{Op1}
 use Rattle.sap_bits.specs.declared.Op1.TheVariants as unary
 use Rattle.sap_bits.specs.declared.Op2.{Op2}
@@ -18,11 +18,13 @@ use Rattle.sap_maps.specs.Term.{CountFits}
 use Rattle.sap_maps.specs.Scope.{Scope, find}
 use Rattle.sap_net.specs.Rules.{IsWidth, IsOperand, AreOperands, IsRight, AreWires, readable_after}
 use Rattle.sap_net.specs.IsNetlist.{first_readable, readable, shapes}
-use Rattle.sap_modtext.specs.Items.{Mention, Number, Constant, Operand, Right, Port, Item, File}
-use Rattle.sap_modtext.specs.Items as item
-use Rattle.sap_modtext.specs.Faults.{Shape, input, wire, register, memory, declarations, shape_in, IsItemOf, shape_above, assign, target_of, is_target, is_set, as_cell, as_wire, suits, uses, operand_uses, operand_constants, operand_width, parts_width, add_widths, slice_width, memory_width, wire_width, constant_fits, value_width, unary_pairs, unary_rule, binary_pairs, binary_rule, Differ, IsFaultless}
-use Rattle.sap_modtext.specs.Modules.{netlist_of, net_operand, net_right, net_wires, declared_width}
-use Rattle.sap_modtext.proofs.Good.{IsGoodUse, above_of}
+use Rattle.sap_vtext.specs.Items.{Mention, Number, Constant, Operand, Right, Port, Item, File}
+use Rattle.sap_vtext.specs.Items as item
+use Rattle.sap_vtext.specs.Names.{Shape, input, wire, register, memory, declarations, shape_in, IsItemOf, shape_above, assign, target_of, is_target, is_set, known_above}
+use Rattle.sap_vtext.specs.Widths.{operand_width, parts_width, add_widths, slice_width, memory_width, wire_width, constant_fits, value_width, unary_pairs, unary_rule, binary_pairs, binary_rule, Differ}
+use Rattle.sap_vtext.specs.Faults.{as_cell, as_wire, suits, uses, operand_uses, operand_constants, IsFaultless}
+use Rattle.sap_vtext.specs.Modules.{netlist_of, net_operand, net_right, net_wires, declared_width}
+use Rattle.sap_vtext.proofs.Good.{IsGoodUse, above_of}
 use Rattle.sap_vread.proofs.build.Entries.{picked}
 use Rattle.sap_vread.proofs.build.Sound.{good_uses, good_constants, good_pairs, good_index, assigned_first, slice_fits, Part}
 use Rattle.sap_vread.proofs.build.Parts.{all_declared, memory_shape, item_in, shape_below}
@@ -97,7 +99,7 @@ module _ (f : File) (h : IsFaultless f) where
   -- an operand above an item, with its width
   record Reads (before : List Item) (sc : Scope) (o : Operand) : Type 0 where
     width : ℕ
-    is : operand_width (above_of f.ports before) o ≡ Some width
+    is : operand_width (known_above (above_of f.ports before)) o ≡ Some width
     fits : IsWidth width
     operand : IsOperand sc width (net_operand o)
 
@@ -109,7 +111,7 @@ module _ (f : File) (h : IsFaultless f) where
 
   record ReadsAll (before : List Item) (sc : Scope) (os : List Operand) : Type 0 where
     width : ℕ
-    is : parts_width (above_of f.ports before) os ≡ Some width
+    is : parts_width (known_above (above_of f.ports before)) os ≡ Some width
     operands : AreOperands sc width (map net_operand os)
 
   reads_all : (before after : List Item) (sc : Scope) → f.items ≡ before ++ after → IsReadable f h sc before → (os : List Operand)
@@ -123,7 +125,7 @@ module _ (f : File) (h : IsFaultless f) where
       let b = reads_all before after sc e r os u.1 c.1 in
       record {
         width = a.width + b.width;
-        is = ap (λ p. add_widths p (parts_width (above_of f.ports before) os)) a.is ∙ ap (add_widths (Some a.width)) b.is;
+        is = ap (λ p. add_widths p (parts_width (known_above (above_of f.ports before)) os)) a.is ∙ ap (add_widths (Some a.width)) b.is;
         operands = (a.width, b.width, a.fits, a.operand, b.operands, refl);
       }
 
@@ -137,7 +139,7 @@ module _ (f : File) (h : IsFaultless f) where
       let cs = good_constants f h a (item.assign x (item.copy o)) i in
       let ps = good_pairs f h a (item.assign x (item.copy o)) (record { setting = assign; name = x }) i refl in
       let y = reads_at before (item.assign x (item.copy o) ∷ after) sc e r o us.1 cs in
-      subst (λ z. IsOperand sc z (net_operand o)) (sym (equal (wire_width (shape_above a x.name)) (operand_width a o) w y.width (ap wire_width s) y.is ps.0)) y.operand
+      subst (λ z. IsOperand sc z (net_operand o)) (sym (equal (wire_width (shape_above a x.name)) (operand_width (known_above a) o) w y.width (ap wire_width s) y.is ps.0)) y.operand
   right_is before after sc x (item.one op o) w e two r s =
       let p : Part (item.assign x (item.one op o)) f.items = record { before = before; after = after; is = e } in
       let a = above_of f.ports before in
@@ -146,7 +148,7 @@ module _ (f : File) (h : IsFaultless f) where
       let cs = good_constants f h a (item.assign x (item.one op o)) i in
       let ps = good_pairs f h a (item.assign x (item.one op o)) (record { setting = assign; name = x }) i refl in
       let y = reads_at before (item.assign x (item.one op o) ∷ after) sc e r o us.1 cs in
-      (y.width, y.fits, y.operand, one_fits op w y.width (wire_width (shape_above a x.name)) (operand_width a o) (ap wire_width s) y.is ps)
+      (y.width, y.fits, y.operand, one_fits op w y.width (wire_width (shape_above a x.name)) (operand_width (known_above a) o) (ap wire_width s) y.is ps)
   right_is before after sc x (item.two op o q) w e two r s =
       let p : Part (item.assign x (item.two op o q)) f.items = record { before = before; after = after; is = e } in
       let a = above_of f.ports before in
@@ -156,7 +158,7 @@ module _ (f : File) (h : IsFaultless f) where
       let ps = good_pairs f h a (item.assign x (item.two op o q)) (record { setting = assign; name = x }) i refl in
       let y = reads_at before (item.assign x (item.two op o q) ∷ after) sc e r o us.0 cs.0 in
       let z = reads_at before (item.assign x (item.two op o q) ∷ after) sc e r q us.1 cs.1 in
-      let t = two_fits op w y.width z.width (wire_width (shape_above a x.name)) (operand_width a o) (operand_width a q) (ap wire_width s) y.is z.is ps in
+      let t = two_fits op w y.width z.width (wire_width (shape_above a x.name)) (operand_width (known_above a) o) (operand_width (known_above a) q) (ap wire_width s) y.is z.is ps in
       (y.width, z.width, y.fits, z.fits, y.operand, z.operand, t.0, t.1)
   right_is before after sc x (item.choose c o q) w e two r s =
       let right = item.choose c o q in
@@ -173,9 +175,9 @@ module _ (f : File) (h : IsFaultless f) where
       let y = reads_at before below sc e r o vs.0 ds.0 in
       let z = reads_at before below sc e r q vs.1 ds.1 in
       let target = wire_width (shape_above a x.name) in
-      let one : b.width ≡ 1 = equal (operand_width a c) (Some 1) b.width 1 b.is refl ps.0 in
-      let first : w ≡ y.width = equal target (operand_width a o) w y.width (ap wire_width s) y.is ps.1.0 in
-      let second : w ≡ z.width = equal target (operand_width a q) w z.width (ap wire_width s) z.is ps.1.1.0 in (
+      let one : b.width ≡ 1 = equal (operand_width (known_above a) c) (Some 1) b.width 1 b.is refl ps.0 in
+      let first : w ≡ y.width = equal target (operand_width (known_above a) o) w y.width (ap wire_width s) y.is ps.1.0 in
+      let second : w ≡ z.width = equal target (operand_width (known_above a) q) w z.width (ap wire_width s) z.is ps.1.1.0 in (
         subst (λ v. IsOperand sc v (net_operand c)) one b.operand,
         subst (λ v. IsOperand sc v (net_operand o)) (sym first) y.operand,
         subst (λ v. IsOperand sc v (net_operand q)) (sym second) z.operand,
@@ -188,7 +190,7 @@ module _ (f : File) (h : IsFaultless f) where
       let cs = good_constants f h a (item.assign x (item.concat os)) i in
       let ps = good_pairs f h a (item.assign x (item.concat os)) (record { setting = assign; name = x }) i refl in
       let y = reads_all before (item.assign x (item.concat os) ∷ after) sc e r os us.1 cs in
-      let same : w ≡ y.width = equal (wire_width (shape_above a x.name)) (parts_width a os) w y.width (ap wire_width s) y.is ps.0 in
+      let same : w ≡ y.width = equal (wire_width (shape_above a x.name)) (parts_width (known_above a) os) w y.width (ap wire_width s) y.is ps.0 in
       (subst (λ n. 2 ≤ n) (sym (length_map net_operand os)) two, subst (λ z. AreOperands sc z (map net_operand os)) (sym same) y.operands)
   right_is before after sc x (item.slice y high low) w e two r s =
       let p : Part (item.assign x (item.slice y high low)) f.items = record { before = before; after = after; is = e } in
@@ -200,8 +202,8 @@ module _ (f : File) (h : IsFaultless f) where
       let v = value_of (shape_above a y.name) (is_set assign y.name before) z.width z.is in
       let q = slice_fits f h a x y high low v.shape i v.is in
       let below : high < z.width = subst (λ n. high < n) v.width q.1 in
-      let width : slice_width (operand_width a (item.named y)) high low ≡ Some (high + 1 - low) = ap (λ o. slice_width o high low) z.is ∙ slice_is z.width high low q.0 below in
-      (z.width, z.fits, z.operand, q.0, below, equal (wire_width (shape_above a x.name)) (slice_width (operand_width a (item.named y)) high low) w (high + 1 - low) (ap wire_width s) width ps.0)
+      let width : slice_width (operand_width (known_above a) (item.named y)) high low ≡ Some (high + 1 - low) = ap (λ o. slice_width o high low) z.is ∙ slice_is z.width high low q.0 below in
+      (z.width, z.fits, z.operand, q.0, below, equal (wire_width (shape_above a x.name)) (slice_width (operand_width (known_above a) (item.named y)) high low) w (high + 1 - low) (ap wire_width s) width ps.0)
   right_is before after sc x (item.cell m index) w e two r s = by_shape us.1.0.shape us.1.0.declared us.1.0.suits where
     i : IsItemOf f (above_of f.ports before) (item.assign x (item.cell m index))
     i = item_in f (item.assign x (item.cell m index)) (record { before = before; after = after; is = e })

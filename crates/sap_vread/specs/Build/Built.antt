@@ -4,8 +4,8 @@ use Rattle.sap_net.specs.declared.parts.Operand.{Operand}
 use Rattle.sap_net.specs.declared.parts.Wire.{Wire}
 use Rattle.sap_net.specs.declared.parts.Register.{Register}
 use Rattle.sap_net.specs.declared.parts.Memory.{Memory}
-use Rattle.sap_modtext.specs.Items as item
-use Rattle.sap_modtext.specs.Modules.{net_operand, net_right, nothing, Write, written_memory}
+use Rattle.sap_vtext.specs.Items as item
+use Rattle.sap_vtext.specs.Modules.{net_operand, net_right, nothing, Write, written_memory}
 use Rattle.sap_vread.specs.Build.Narrow.{narrow, narrow_operand, narrow_right}
 use Rattle.sap_vparse.specs.Views.{item_of}
 use Rattle.sap_vparse.specs.declared.items.Item.{Item}

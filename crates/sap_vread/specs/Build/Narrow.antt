@@ -1,7 +1,7 @@
 -- A file whose numbers are all below 4096, as those of a file without a fault are: where one isn't, 0 stands for it.
 use Rattle.std.specs.Prelude.{ℕ, map, nat_lt, if◌then◌else◌}
-use Rattle.sap_modtext.specs.Items.{Number, Constant, Operand, Right, Port, Item, File}
-use Rattle.sap_modtext.specs.Items as item
+use Rattle.sap_vtext.specs.Items.{Number, Constant, Operand, Right, Port, Item, File}
+use Rattle.sap_vtext.specs.Items as item
 
 abbrev pub narrow : ℕ → ℕ
 narrow n = if nat_lt n 4096 then n else 0

@@ -1,8 +1,8 @@
 -- What items say of a name: the number of its range, its initial number, and where among the items its `always` stands.
 use Rattle.std.specs.Prelude.{ℕ, ◌+◌, List, [], ◌∷◌, Option, None}
-use Rattle.sap_modtext.specs.Items.{Port, Item}
-use Rattle.sap_modtext.specs.Items as item
-use Rattle.sap_modtext.specs.Modules.{first_of, when, initial_number}
+use Rattle.sap_vtext.specs.Items.{Port, Item}
+use Rattle.sap_vtext.specs.Items as item
+use Rattle.sap_vtext.specs.Modules.{first_of, when, initial_number}
 use Rattle.sap_vread.specs.declared.build.noting.Noting.{Noting}
 use Rattle.sap_vread.specs.declared.build.noting.Noting.TheVariants.{Range, Start, Next, Write}
 

@@ -1,6 +1,6 @@
 -- Files that are spelled.
 use Rattle.std.specs.Prelude.{ℕ, List}
-use Rattle.sap_modtext.specs.Items.{File}
+use Rattle.sap_vtext.specs.Items.{File}
 use Rattle.sap_vparse.specs.Text.{IsText}
 
 -- some text is this file

@@ -1,7 +1,7 @@
 -- What is noted of a whole file.
 use Rattle.std.specs.Prelude.{◌≡◌, ℕ, List}
-use Rattle.sap_modtext.specs.Items.{File}
-use Rattle.sap_modtext.specs.Modules.{first_of}
+use Rattle.sap_vtext.specs.Items.{File}
+use Rattle.sap_vtext.specs.Modules.{first_of}
 use Rattle.sap_vread.specs.Build.Firsts.{number_of}
 use Rattle.sap_vread.specs.Build.Noted.{all_noted, ports_noted}
 use Rattle.sap_vread.specs.declared.build.noting.Noting.TheVariants.{Range, Start, Next, Write}

@@ -1,8 +1,8 @@
 //! From a file without a fault to its netlist.
 
 ghost use Rattle.std.specs.Prelude.{◌≡◌, IfOk, flat_map, map};
-ghost use Rattle.sap_modtext.specs.Faults.{IsFaultless};
-ghost use Rattle.sap_modtext.specs.Modules.{net_port, netlist_of, port_input};
+ghost use Rattle.sap_vtext.specs.Faults.{IsFaultless};
+ghost use Rattle.sap_vtext.specs.Modules.{net_port, netlist_of, port_input};
 ghost use Rattle.sap_net.specs.Net.{net_of};
 ghost use Rattle.sap_vread.specs.Build.Narrow.{narrow_file, narrow_port};
 ghost use Rattle.sap_vread.specs.Build.Spelled.{IsSpelled};

@@ -1,7 +1,7 @@
 //! Registers and memories.
 
 ghost use Rattle.std.specs.Prelude.{◌≡◌, ◌++◌, IfOk, OnOk, flat_map, unwrap_or};
-ghost use Rattle.sap_modtext.specs.Modules as text;
+ghost use Rattle.sap_vtext.specs.Modules as text;
 ghost use Rattle.sap_vread.specs.Build.Built as spec;
 ghost use Rattle.sap_vread.specs.Build.Firsts.{number_of};
 ghost use Rattle.sap_vparse.specs.Views.{direction_of, item_of};

@@ -2,7 +2,7 @@
 
 ghost use Rattle.std.specs.Prelude.{◌≡◌, ℕ, List, Some, None, OnOk, if◌then◌else◌};
 ghost use Rattle.std.specs.Str.{bytes_eq};
-ghost use Rattle.sap_modtext.specs.Modules.{first_of, when};
+ghost use Rattle.sap_vtext.specs.Modules.{first_of, when};
 ghost use Rattle.sap_vread.specs.Build.Firsts.{number_of};
 
 use indexmap::IndexMap;

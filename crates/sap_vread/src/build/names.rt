@@ -1,7 +1,7 @@
 //! The declared names.
 
 ghost use Rattle.std.specs.Prelude.{◌≡◌, ◌++◌, OnOk, flat_map, map};
-ghost use Rattle.sap_modtext.specs.Faults.{item_declarations};
+ghost use Rattle.sap_vtext.specs.Names.{item_declarations};
 ghost use Rattle.sap_vparse.specs.Views.{item_of};
 
 use sap_net::parts::Name;

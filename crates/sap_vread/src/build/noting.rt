@@ -1,7 +1,7 @@
 //! What is noted of ports and items.
 
 ghost use Rattle.std.specs.Prelude.{◌≡◌, ℕ, List, OnOk};
-ghost use Rattle.sap_modtext.specs.Modules.{first_of};
+ghost use Rattle.sap_vtext.specs.Modules.{first_of};
 ghost use Rattle.sap_vread.specs.Build.Firsts.{number_of};
 ghost use Rattle.sap_vread.specs.Build.Noted as spec;
 ghost use Rattle.sap_vparse.specs.Views.{item_of, items_of, ports_of};

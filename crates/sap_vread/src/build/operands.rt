@@ -1,7 +1,7 @@
 //! Operands and right sides.
 
 ghost use Rattle.std.specs.Prelude.{◌≡◌, IfOk, map};
-ghost use Rattle.sap_modtext.specs.Modules as text;
+ghost use Rattle.sap_vtext.specs.Modules as text;
 ghost use Rattle.sap_vread.specs.Build.Narrow.{narrow_operand, narrow_right};
 ghost use Rattle.sap_vparse.specs.Views.{operand_of, right_of};
 

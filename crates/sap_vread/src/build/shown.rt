@@ -1,7 +1,7 @@
 //! Ports and inputs.
 
 ghost use Rattle.std.specs.Prelude.{◌≡◌, ◌++◌, IfOk, OnOk, flat_map, map};
-ghost use Rattle.sap_modtext.specs.Modules as text;
+ghost use Rattle.sap_vtext.specs.Modules as text;
 ghost use Rattle.sap_vread.specs.Build.Narrow.{narrow_port};
 ghost use Rattle.sap_vparse.specs.Views.{direction_of, port_of};
 

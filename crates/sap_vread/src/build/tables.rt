@@ -2,7 +2,7 @@
 
 ghost use Rattle.std.specs.Prelude.{◌≡◌, IfOk, List, ℕ};
 ghost use Rattle.sap_vread.specs.Build.Firsts.{number_of};
-ghost use Rattle.sap_modtext.specs.Modules.{first_of};
+ghost use Rattle.sap_vtext.specs.Modules.{first_of};
 ghost use Rattle.sap_vread.specs.Build.Noted.{all_noted, ports_noted};
 ghost use Rattle.sap_vread.specs.declared.build.noting.Noting.TheVariants.{Range};
 ghost use Rattle.sap_vread.specs.Build.Tables.{AreNoted};

@@ -1,5 +1,5 @@
 use Rattle.std.proofs.Common.{◌∙◌, ℕ, List, flat_map, refl, arith}
-use Rattle.sap_modtext.specs.Faults.{operand_constants}
+use Rattle.sap_vtext.specs.Faults.{operand_constants}
 use Rattle.sap_vparse.specs.declared.items.Operand.{Operand}
 use Rattle.sap_vparse.specs.Views.{operand_of, operands_of}
 use Rattle.sap_vjudge.specs.Listed.{constants_faults}

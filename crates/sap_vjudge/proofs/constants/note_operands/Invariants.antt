@@ -1,5 +1,5 @@
 use Rattle.std.proofs.Common.{◌≡◌, flat_map, drop}
-use Rattle.sap_modtext.specs.Faults.{operand_constants}
+use Rattle.sap_vtext.specs.Faults.{operand_constants}
 use Rattle.sap_vjudge.specs.Best.{best_of}
 use Rattle.sap_vjudge.specs.Listed.{constants_faults}
 use Rattle.sap_vparse.specs.Views.{operands_of}

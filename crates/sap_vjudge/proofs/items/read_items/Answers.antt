@@ -1,7 +1,8 @@
 use Rattle.std.proofs.Common.{◌∙◌, List, arith}
+use Rattle.sap_vtext.specs.Names.{Known}
 use Rattle.sap_vparse.specs.declared.items.Item.{Item}
 use Rattle.sap_vparse.specs.Views.{item_of, items_of}
-use Rattle.sap_vjudge.specs.Known.{Known, after_item, after_items}
+use Rattle.sap_vjudge.specs.Known.{after_item, after_items}
 use Rattle.sap_vjudge.specs.Listed.{item_faults, items_faults}
 use Rattle.sap_vjudge.proofs.Lists.{items_faults-none, items_faults-cons, after_items-none, after_items-cons}
 use Rattle.sap_vjudge.proofs.Loops.{loop_step, loop_end, after_step, after_end}

@@ -1,7 +1,8 @@
 use Rattle.std.proofs.Common.{◌∙◌, List, arith}
+use Rattle.sap_vtext.specs.Names.{Known}
 use Rattle.sap_vparse.specs.declared.items.Port.{Port}
 use Rattle.sap_vparse.specs.Views.{port_of, ports_of}
-use Rattle.sap_vjudge.specs.Known.{Known, after_port, after_ports}
+use Rattle.sap_vjudge.specs.Known.{after_port, after_ports}
 use Rattle.sap_vjudge.specs.Listed.{port_faults, ports_faults}
 use Rattle.sap_vjudge.proofs.Lists.{ports_faults-none, ports_faults-cons, after_ports-none, after_ports-cons}
 use Rattle.sap_vjudge.proofs.Loops.{loop_step, loop_end, after_step, after_end}

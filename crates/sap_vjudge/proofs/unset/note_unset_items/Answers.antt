@@ -1,8 +1,7 @@
 use Rattle.std.proofs.Common.{◌∙◌, List, refl, arith}
-use Rattle.sap_modtext.specs.Faults.{item_declarations}
+use Rattle.sap_vtext.specs.Names.{item_declarations, Known}
 use Rattle.sap_vparse.specs.declared.items.Item.{Item}
 use Rattle.sap_vparse.specs.Views.{item_of, items_of}
-use Rattle.sap_vjudge.specs.Known.{Known}
 use Rattle.sap_vjudge.specs.Listed.{unsets_faults, items_unset}
 use Rattle.sap_vjudge.specs.Tables.{known_of}
 use Rattle.sap_vjudge.proofs.Lists.{items_unset-none, items_unset-cons}

@@ -1,8 +1,7 @@
 use Rattle.std.proofs.Common.{◌∙◌, List, refl, arith}
-use Rattle.sap_modtext.specs.Faults.{port_declaration}
+use Rattle.sap_vtext.specs.Names.{port_declaration, Known}
 use Rattle.sap_vparse.specs.declared.items.Port.{Port}
 use Rattle.sap_vparse.specs.Views.{port_of, ports_of}
-use Rattle.sap_vjudge.specs.Known.{Known}
 use Rattle.sap_vjudge.specs.Listed.{unset_faults, ports_unset}
 use Rattle.sap_vjudge.specs.Tables.{known_of}
 use Rattle.sap_vjudge.proofs.Lists.{ports_unset-none, ports_unset-cons}

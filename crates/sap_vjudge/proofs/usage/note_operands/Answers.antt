@@ -1,8 +1,8 @@
 use Rattle.std.proofs.Common.{◌∙◌, List, flat_map, refl, arith}
-use Rattle.sap_modtext.specs.Faults.{operand_uses}
+use Rattle.sap_vtext.specs.Names.{Known}
+use Rattle.sap_vtext.specs.Faults.{operand_uses}
 use Rattle.sap_vparse.specs.declared.items.Operand.{Operand}
 use Rattle.sap_vparse.specs.Views.{operand_of, operands_of}
-use Rattle.sap_vjudge.specs.Known.{Known}
 use Rattle.sap_vjudge.specs.Listed.{uses_faults}
 use Rattle.sap_vjudge.specs.Tables.{known_of}
 use Rattle.sap_vjudge.proofs.Lists.{operands_used-none, operands_used-cons}

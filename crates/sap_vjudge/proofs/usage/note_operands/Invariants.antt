@@ -1,5 +1,5 @@
 use Rattle.std.proofs.Common.{◌≡◌, flat_map, drop}
-use Rattle.sap_modtext.specs.Faults.{operand_uses}
+use Rattle.sap_vtext.specs.Faults.{operand_uses}
 use Rattle.sap_vjudge.specs.Best.{best_of}
 use Rattle.sap_vjudge.specs.Listed.{uses_faults}
 use Rattle.sap_vjudge.specs.Tables.{known_of}

@@ -1,6 +1,5 @@
 use Rattle.std.proofs.Common.{◌≡◌, ◌*◌, ◌≤◌, ◌^◌, drop, Some}
-use Rattle.sap_modtext.specs.Faults.{add_widths}
-use Rattle.sap_vjudge.specs.Listed.{parts_width}
+use Rattle.sap_vtext.specs.Widths.{add_widths, parts_width}
 use Rattle.sap_vjudge.specs.Tables.{known_of}
 use Rattle.sap_vparse.specs.Views.{operands_of}
 use Rattle.sap_vjudge.proofs.width.parts_width.Given as goal

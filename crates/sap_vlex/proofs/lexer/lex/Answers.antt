@@ -1,8 +1,8 @@
 use Rattle.std.proofs.Common.{◌≡◌, ◌-◌, ◌∙◌, ◌+◌, ◌<◌, ◌++◌, ◌∷◌, [], ℕ, List, sym, ap, subst, arith, length-drop, length, take, drop, append_assoc}
 use Rattle.std.proofs.lemmas.List.{drop-drop, drop_all, map-append, append-nil, take_rest}
-use Rattle.sap_modtext.specs.Lexing.{Lexed, Front, end, blank_first, token_first, front}
-use Rattle.sap_modtext.specs.Lexing as l
-use Rattle.sap_modtext.specs.Tokens as t
+use Rattle.sap_vtext.specs.Lexing.{Lexed, Front, end, blank_first, token_first, front}
+use Rattle.sap_vtext.specs.Lexing as l
+use Rattle.sap_vtext.specs.Tokens as t
 use Rattle.sap_vlex.specs.Lexemes.{front_of, lexeme_of}
 use Rattle.sap_vlex.specs.Lexing.{IsBadAt, IsWithin}
 use Rattle.sap_vlex.specs.Spelling.{token_of, tokens_of, kind_of_token}
@@ -57,7 +57,7 @@ returns-in-Bad-clause-fault c =
     let text = c.args.text.now in
     let n = c.lexemes.n in
     let stands : front (drop n text) ≡ l.bad = is_front text n c.in_ok-len.field-0 (c.lexemes-test.true) c.in_ok-len.ensures.value ∙ ap front_of c.in-Bad.is in
-    c.lexemes.invariant.first n (x.here (length_rest text n c.lexemes-test.true) stands)
+    λ memory. c.lexemes.invariant.first n (x.here (length_rest text n c.lexemes-test.true) stands)
 
 pub returns-clause-tokens : goal.returns-clause-tokens
 returns-clause-tokens c =

@@ -1,6 +1,6 @@
 use Rattle.std.proofs.Common.{◌≤◌, ◌-◌, ◌++◌, ℕ, List, length, drop}
-use Rattle.sap_modtext.specs.Lexing.{Lexed}
-use Rattle.sap_modtext.specs.Tokens.{Token}
+use Rattle.sap_vtext.specs.Lexing.{Lexed}
+use Rattle.sap_vtext.specs.Tokens.{Token}
 use Rattle.sap_vlex.specs.Spelling.{tokens_of}
 use Rattle.sap_vlex.specs.Lexing.{IsBadAt}
 use Rattle.sap_vlex.proofs.lexer.lex.Given as goal

@@ -1,5 +1,5 @@
 use Rattle.std.proofs.Common.{◌∙◌, ◌∷◌, [], rules}
-use Rattle.sap_modtext.specs.Tokens as t
+use Rattle.sap_vtext.specs.Tokens as t
 use Rattle.sap_vparse.specs.Table as s
 use Rattle.sap_vparse.proofs.Faults.{fault_goes_in_row}
 use Rattle.sap_vparse.proofs.Makes.{write_tree}

@@ -1,5 +1,5 @@
 use Rattle.std.proofs.Common.{sym, subst}
-use Rattle.sap_modtext.specs.Grammar as g
+use Rattle.sap_vtext.specs.Grammar as g
 use Rattle.sap_vparse.specs.Views.{operand_of}
 use Rattle.sap_vparse.specs.declared.items.Operand.{Operand}
 use Rattle.sap_vparse.proofs.operand.operand.Goals as goal

@@ -1,7 +1,7 @@
 use Rattle.std.proofs.Common.{◌≡◌, ◌≤◌, ◌++◌, List, length}
-use Rattle.sap_modtext.specs.Grammar.{ArePorts}
-use Rattle.sap_modtext.specs.Items.{Port}
-use Rattle.sap_modtext.specs.Tokens.{Token}
+use Rattle.sap_vtext.specs.Grammar.{ArePorts}
+use Rattle.sap_vtext.specs.Items.{Port}
+use Rattle.sap_vtext.specs.Tokens.{Token}
 use Rattle.sap_vparse.specs.Reading.{reads}
 use Rattle.sap_vparse.specs.Table as s
 use Rattle.sap_vparse.specs.Views.{ports_of}

@@ -11,12 +11,12 @@ returns-in_err-list-clause-faultless c = no_ok _ c.from_residual.result c.in_err
 
 pub returns-in_err-list-clause-fault : goal.returns-in_err-list-clause-fault
 returns-in_err-list-clause-fault c =
-    in_err _ c.from_residual.result c.in_err-list.field-0.0 (search rules) (fault_lexed c.args.text.now c.in_err-list.field-0.0 c.in_err-list.ensures.fault)
+    in_err _ c.from_residual.result c.in_err-list.field-0.0 (search rules) (λ known. fault_lexed c.args.text.now c.in_err-list.field-0.0 (c.in_err-list.ensures.fault known))
 
 pub returns-in_err-list-clause-refused : goal.returns-in_err-list-clause-refused
 returns-in_err-list-clause-refused c =
     in_err _ c.from_residual.result c.in_err-list.field-0.0 (search rules)
-    (λ no file t. not_both c.args.text.now file _ t (fault_lexed c.args.text.now c.in_err-list.field-0.0 c.in_err-list.ensures.fault no))
+    (λ no file t. not_both c.args.text.now file _ t (fault_lexed c.args.text.now c.in_err-list.field-0.0 (c.in_err-list.ensures.fault no)))
 
 pub returns-in-Ok-clause-file : goal.returns-in-Ok-clause-file
 returns-in-Ok-clause-file c =

@@ -1,6 +1,6 @@
 use Rattle.std.proofs.Common.{subst}
 use Rattle.std.specs.Prelude.{IfOk}
-use Rattle.sap_modtext.specs.Grammar as g
+use Rattle.sap_vtext.specs.Grammar as g
 use Rattle.sap_vparse.specs.Reading.{Goes}
 use Rattle.sap_vparse.specs.Table as s
 use Rattle.sap_vparse.proofs.right.binary.Goals as goal

@@ -1,6 +1,6 @@
 use Rattle.std.proofs.Common.{◌∙◌, ◌++◌, ◌∷◌, [], sym, ap, subst, List, rules}
-use Rattle.sap_modtext.specs.Items as item
-use Rattle.sap_modtext.specs.Tokens as t
+use Rattle.sap_vtext.specs.Items as item
+use Rattle.sap_vtext.specs.Tokens as t
 use Rattle.sap_vparse.specs.Parts.{RightEnds}
 use Rattle.sap_vparse.specs.Table as s
 use Rattle.sap_vparse.specs.Views.{operands_of}

@@ -1,5 +1,5 @@
 use Rattle.std.proofs.Common.{sym, subst}
-use Rattle.sap_modtext.specs.Grammar as g
+use Rattle.sap_vtext.specs.Grammar as g
 use Rattle.sap_vparse.specs.Parts.{RightEnds}
 use Rattle.sap_vparse.proofs.Makes.{behind_tree}
 use Rattle.sap_vparse.proofs.right.from_constant.Goals as goal

@@ -1,5 +1,5 @@
 use Rattle.std.proofs.Common.{◌∙◌, refl, sym, subst}
-use Rattle.sap_modtext.specs.Grammar as g
+use Rattle.sap_vtext.specs.Grammar as g
 use Rattle.sap_vparse.specs.Parts.{RightEnds}
 use Rattle.sap_vparse.specs.Table as s
 use Rattle.sap_vparse.proofs.Faults.{ends_with, if_ok}

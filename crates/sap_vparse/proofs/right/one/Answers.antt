@@ -1,6 +1,6 @@
 use Rattle.std.proofs.Common.{[], ◌∷◌, ◌∙◌, rules}
-use Rattle.sap_modtext.specs.Grammar.{unary_sign}
-use Rattle.sap_modtext.specs.Tokens as t
+use Rattle.sap_vtext.specs.Grammar.{unary_sign}
+use Rattle.sap_vtext.specs.Tokens as t
 use Rattle.sap_vparse.specs.Rows.{in_turn, several}
 use Rattle.sap_vparse.specs.Table as s
 use Rattle.sap_vparse.proofs.Faults.{fault_goes, fault_goes_in_row}

@@ -1,7 +1,7 @@
 use Rattle.std.proofs.Common.{◌∙◌, ◌++◌, ◌∷◌, [], refl, sym, ap, arith, rules}
 use Rattle.std.proofs.lemmas.List.{append-nil}
-use Rattle.sap_modtext.specs.Grammar as g
-use Rattle.sap_modtext.specs.Tokens as t
+use Rattle.sap_vtext.specs.Grammar as g
+use Rattle.sap_vtext.specs.Tokens as t
 use Rattle.sap_vparse.specs.Table as s
 use Rattle.sap_vparse.specs.Views.{operand_of, operands_of}
 use Rattle.sap_vparse.specs.declared.items.Operand.{Operand}

@@ -1,7 +1,7 @@
 use Rattle.std.proofs.Common.{◌≡◌, ◌≤◌, ◌++◌, List, length}
-use Rattle.sap_modtext.specs.Grammar.{AreParts}
-use Rattle.sap_modtext.specs.Items.{Operand}
-use Rattle.sap_modtext.specs.Tokens.{Token}
+use Rattle.sap_vtext.specs.Grammar.{AreParts}
+use Rattle.sap_vtext.specs.Items.{Operand}
+use Rattle.sap_vtext.specs.Tokens.{Token}
 use Rattle.sap_vparse.specs.Reading.{reads}
 use Rattle.sap_vparse.specs.Table as s
 use Rattle.sap_vparse.specs.Views.{operands_of}

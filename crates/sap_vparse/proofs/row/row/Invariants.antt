@@ -1,5 +1,5 @@
 use Rattle.std.proofs.Common.{◌≡◌, ◌≤◌, ◌+◌, List, length, drop}
-use Rattle.sap_modtext.specs.Tokens.{Token}
+use Rattle.sap_vtext.specs.Tokens.{Token}
 use Rattle.sap_vparse.specs.Rows.{AreFixed, reads_row, symbols_of}
 use Rattle.sap_vparse.proofs.row.row.Given as goal
 

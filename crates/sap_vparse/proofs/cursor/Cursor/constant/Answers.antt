@@ -17,4 +17,4 @@ returns-in-Some-clause-tree c =
     constant_is c.args.self.now c.pass-place.new.self c.pass-place.result _ front c.pass-place.ensures
 
 pub returns-in-None-clause-goes : goal.returns-in-None-clause-goes
-returns-in-None-clause-goes c = constant_refused c.args.self.now (search rules)
+returns-in-None-clause-goes c = λ known. constant_refused c.args.self.now (search rules)

@@ -35,7 +35,7 @@ returns-then-digits-eq1-clause-tree c =
     record { place = c.pass.result; is = number_is c.args.self.now c.pass.new.self c.pass.result (c.args.digit, 1) (front ∙ ap (λ (v : ℕ × ℕ). Some v) same) c.pass.ensures }
 
 pub returns-else-value-digit-clause-goes : goal.returns-else-value-digit-clause-goes
-returns-else-value-digit-clause-goes c =
+returns-else-value-digit-clause-goes c = λ known.
     let front : front_number c.args.self.now ≡ Some (c.in-Some.value, c.in-Some.digits) = search rules in
     elim c.else-value-digit.branch [
       | else-value-digit-via-then-value-digit+else-digits-eq1 w ↦ digit_other c.args.self.now c.args.digit (c.in-Some.value, c.in-Some.digits) front (other_second _ _ _ w.if-digits-eq1.false)
@@ -43,4 +43,4 @@ returns-else-value-digit-clause-goes c =
     ]
 
 pub returns-in-None-clause-goes : goal.returns-in-None-clause-goes
-returns-in-None-clause-goes c = digit_refused c.args.self.now c.args.digit (search rules)
+returns-in-None-clause-goes c = λ known. digit_refused c.args.self.now c.args.digit (search rules)

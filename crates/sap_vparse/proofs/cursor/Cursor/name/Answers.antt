@@ -14,4 +14,4 @@ returns-in-Some-clause-tree c =
     name_is c.args.self.now c.pass-place.new.self c.pass-place.result c.in-Some.name (sym c.in_ok-name.ensures ∙ c.in-Some.is) c.pass-place.ensures
 
 pub returns-in-None-clause-goes : goal.returns-in-None-clause-goes
-returns-in-None-clause-goes c = name_refused c.args.self.now (sym c.in_ok-name.ensures ∙ c.in-None.is)
+returns-in-None-clause-goes c = λ known. name_refused c.args.self.now (sym c.in_ok-name.ensures ∙ c.in-None.is)

@@ -17,4 +17,4 @@ returns-in-Some-clause-tree c =
     record { digits = c.in-Some.field-0-1; is = number_is c.args.self.now c.pass-place.new.self c.pass-place.result _ front c.pass-place.ensures }
 
 pub returns-in-None-clause-goes : goal.returns-in-None-clause-goes
-returns-in-None-clause-goes c = number_refused c.args.self.now (search rules)
+returns-in-None-clause-goes c = λ known. number_refused c.args.self.now (search rules)

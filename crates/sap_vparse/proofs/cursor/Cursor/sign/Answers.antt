@@ -4,7 +4,7 @@ use Rattle.sap_vparse.proofs.Single.{sign_is, sign_read, sign_refused}
 use Rattle.sap_vparse.proofs.cursor.Cursor.sign.Goals as goal
 
 pub returns-then-not-at_sign-clause-goes : goal.returns-then-not-at_sign-clause-goes
-returns-then-not-at_sign-clause-goes c = sign_refused c.args.self.now _ (c.if-not-at_sign.ensures.no refl)
+returns-then-not-at_sign-clause-goes c = λ known. sign_refused c.args.self.now _ (c.if-not-at_sign.ensures.no refl)
 
 pub pass-requires : goal.pass-requires
 pass-requires c = some_head c.args.self.now _ (c.if-not-at_sign.ensures.yes refl) (λ h. absurd (cc))

@@ -4,7 +4,7 @@ use Rattle.sap_vparse.proofs.Single.{word_is, word_read, word_refused}
 use Rattle.sap_vparse.proofs.cursor.Cursor.word.Goals as goal
 
 pub returns-then-not-at_word-clause-goes : goal.returns-then-not-at_word-clause-goes
-returns-then-not-at_word-clause-goes c = word_refused c.args.self.now _ (c.if-not-at_word.ensures.no refl)
+returns-then-not-at_word-clause-goes c = λ known. word_refused c.args.self.now _ (c.if-not-at_word.ensures.no refl)
 
 pub pass-requires : goal.pass-requires
 pass-requires c = some_head c.args.self.now _ (c.if-not-at_word.ensures.yes refl) (λ h. absurd (cc))

@@ -1,6 +1,6 @@
 use Rattle.std.proofs.Common.{◌∙◌, ap, sym, subst}
 use Rattle.sap_net.specs.IsNetlist.{IsNetlist}
-use Rattle.sap_modtext.specs.Modules.{netlist_of}
+use Rattle.sap_vtext.specs.Modules.{netlist_of}
 use Rattle.sap_vparse.specs.Views.{file_of}
 use Rattle.sap_vread.proofs.build.Narrowed.{file_same}
 use Rattle.sap_vread.proofs.build.Netlist.{file_netlist}

@@ -1,6 +1,6 @@
 use Rattle.std.proofs.Common.{ap, ◌∙◌}
 use Rattle.std.specs.Prelude.{flat_map, map}
-use Rattle.sap_modtext.specs.Modules.{net_port, port_input}
+use Rattle.sap_vtext.specs.Modules.{net_port, port_input}
 use Rattle.sap_vparse.specs.Views.{port_of}
 use Rattle.sap_vread.specs.Build.Narrow.{narrow_port}
 use Rattle.sap_vread.proofs.build.building.declared_in.Goals as goal

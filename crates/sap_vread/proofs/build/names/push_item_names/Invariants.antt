@@ -1,5 +1,5 @@
 use Rattle.std.proofs.Common.{◌≡◌, ◌++◌, map, flat_map, take}
-use Rattle.sap_modtext.specs.Faults.{item_declarations}
+use Rattle.sap_vtext.specs.Names.{item_declarations}
 use Rattle.sap_vparse.specs.Views.{item_of}
 use Rattle.sap_vread.proofs.build.names.push_item_names.Given as goal
 

@@ -1,5 +1,5 @@
 use Rattle.std.proofs.Common.{ℕ, List, arith}
-use Rattle.sap_modtext.specs.Modules.{when}
+use Rattle.sap_vtext.specs.Modules.{when}
 use Rattle.sap_vparse.specs.declared.items.Port.{Port}
 use Rattle.sap_vparse.specs.Views.{port_of, ports_of}
 use Rattle.sap_vread.specs.Build.Noted.{ports_noted}

@@ -1,5 +1,5 @@
 use Rattle.std.proofs.Common.{◌≡◌, ℕ, List, drop}
-use Rattle.sap_modtext.specs.Modules.{first_of}
+use Rattle.sap_vtext.specs.Modules.{first_of}
 use Rattle.sap_vread.specs.Build.Firsts.{number_of}
 use Rattle.sap_vread.specs.Build.Noted.{ports_noted}
 use Rattle.sap_vparse.specs.Views.{ports_of}

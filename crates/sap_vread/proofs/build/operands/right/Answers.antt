@@ -1,6 +1,6 @@
 use Rattle.std.proofs.Common.{◌∙◌, ap, sym, map, List}
 use Rattle.sap_net.specs.declared.parts.Right.TheVariants.{Concat}
-use Rattle.sap_modtext.specs.Modules.{net_operand}
+use Rattle.sap_vtext.specs.Modules.{net_operand}
 use Rattle.sap_vparse.specs.Views.{operand_of}
 use Rattle.sap_vparse.specs.declared.items.Operand.{Operand}
 use Rattle.sap_vread.specs.Build.Narrow.{narrow_operand}

@@ -1,5 +1,5 @@
 use Rattle.std.proofs.Common.{◌≡◌, map, take}
-use Rattle.sap_modtext.specs.Modules as text
+use Rattle.sap_vtext.specs.Modules as text
 use Rattle.sap_vread.specs.Build.Narrow.{narrow_port}
 use Rattle.sap_vparse.specs.Views.{port_of}
 use Rattle.sap_vread.proofs.build.shown.ports.Given as goal

@@ -1,7 +1,7 @@
 -- A file without its places.
 use Rattle.std.specs.Prelude.{map}
-use Rattle.sap_modtext.specs.Items.{Mention, Number, Operand, Constant, Right, Item, Port, File}
-use Rattle.sap_modtext.specs.Items as item
+use Rattle.sap_vtext.specs.Items.{Mention, Number, Operand, Constant, Right, Item, Port, File}
+use Rattle.sap_vtext.specs.Items as item
 
 abbrev pub bare_name : Mention → Mention
 bare_name x = record { place = 0; name = x.name }

@@ -2,7 +2,7 @@
 use Rattle.std.proofs.Common.{List, [], refl, ℕ, ◌≡◌}
 use Rattle.std.specs.List.{list_any}
 use Rattle.std.specs.Str.{bytes_eq}
-use Rattle.sap_modtext.specs.Lexing.{bad, front, word_text, words}
+use Rattle.sap_vtext.specs.Lexing.{bad, front, word_text, words}
 use Rattle.sap_net.specs.Names.{is_keyword}
 
 pub front_at_end : front [] ≡ bad

@@ -1,8 +1,8 @@
 -- Two readings of the front of one list of tokens.
 use Rattle.std.proofs.Common.{◌≡◌, ℕ, List, [], ◌∷◌, Option, Some, None, sym, ap, ◌∙◌}
-use Rattle.sap_modtext.specs.Tokens.{Word, Sign, Kind, Token, IsToken}
-use Rattle.sap_modtext.specs.Items.{Mention, Number, Constant}
-use Rattle.sap_modtext.specs.Grammar.{IsWord, IsSign, IsName, IsNumber, IsDigit, IsConstant}
+use Rattle.sap_vtext.specs.Tokens.{Word, Sign, Kind, Token, IsToken}
+use Rattle.sap_vtext.specs.Items.{Mention, Number, Constant}
+use Rattle.sap_vtext.specs.Grammar.{IsWord, IsSign, IsName, IsNumber, IsDigit, IsConstant}
 
 abbrev pub first_kind : List Token → Option Kind
 first_kind [] = None

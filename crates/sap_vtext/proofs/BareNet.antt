@@ -9,13 +9,13 @@ use Rattle.sap_net.specs.declared.parts.Wire.{Wire}
 use Rattle.sap_net.specs.declared.parts.Register.{Register}
 use Rattle.sap_net.specs.declared.parts.Memory.{Memory}
 use Rattle.sap_net.specs.Net.{Net}
-use Rattle.sap_modtext.specs.Items.{Operand, Right, Item, File}
-use Rattle.sap_modtext.specs.Items as item
-use Rattle.sap_modtext.specs.Faults.{Shape, Declaration, declarations, shape_in}
-use Rattle.sap_modtext.specs.Faults as shape
-use Rattle.sap_modtext.specs.Modules.{net_operand, net_right, net_port, port_input, declared_width, net_wires, first_given, initial_number, next_operand, Write, cell_write, nothing, when, net_register, written_memory, net_memory, shape_registers, shape_memories, netlist_of}
-use Rattle.sap_modtext.proofs.Bare.{bare_operand, bare_right, bare_item, bare_port, bare}
-use Rattle.sap_modtext.proofs.BareFaults.{bare_declaration, all_declared, bare_shape_in}
+use Rattle.sap_vtext.specs.Items.{Operand, Right, Item, File}
+use Rattle.sap_vtext.specs.Items as item
+use Rattle.sap_vtext.specs.Names.{Shape, Declaration, declarations, shape_in}
+use Rattle.sap_vtext.specs.Names as shape
+use Rattle.sap_vtext.specs.Modules.{net_operand, net_right, net_port, port_input, declared_width, net_wires, first_given, initial_number, next_operand, Write, cell_write, nothing, when, net_register, written_memory, net_memory, shape_registers, shape_memories, netlist_of}
+use Rattle.sap_vtext.proofs.Bare.{bare_operand, bare_right, bare_item, bare_port, bare}
+use Rattle.sap_vtext.proofs.BareFaults.{bare_declaration, all_declared, bare_shape_in}
 
 map_bare : {A B : Type 0} (h : A → A) (f : A → B) → ((x : A) → f (h x) ≡ f x) → (xs : List A) → map f (map h xs) ≡ map f xs
 map_bare h f e [] = refl

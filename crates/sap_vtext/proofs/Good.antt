@@ -6,10 +6,13 @@ use Rattle.std.specs.Str.{bytes_eq}
 use Rattle.std.proofs.lemmas.Bool.{or_parts}
 use Rattle.std.proofs.lemmas.List.{append-nil}
 use Rattle.sap_net.specs.Names.{is_among, AreDistinct}
-use Rattle.sap_modtext.specs.Items.{Mention, Operand, Item, Port, File}
-use Rattle.sap_modtext.specs.Items as item
-use Rattle.sap_modtext.specs.Faults.{Shape, memory, wire, Declaration, declarations, shape_in, shape_width, Above, IsItemOf, shape_above, Setting, assign, Target, target_of, is_set, has_integer, Use, as_value, uses, suits, constants, ranges, indexes, constant_fits, operand_width, parts_width, pairs, Differ, Among, HasIndex, needs, V3, V4, V5, V6, V7, IsFaultless}
-use Rattle.sap_modtext.specs.Faults as fault
+use Rattle.sap_vtext.specs.Items.{Mention, Operand, Item, Port, File}
+use Rattle.sap_vtext.specs.Items as item
+use Rattle.sap_text.specs.Best.{StandsIn}
+use Rattle.sap_vtext.specs.Names.{Shape, memory, wire, Declaration, declarations, shape_in, Above, IsItemOf, shape_above, Setting, assign, Target, target_of, is_set, has_integer, known_above}
+use Rattle.sap_vtext.specs.Widths.{shape_width, constant_fits, operand_width, parts_width, pairs, Differ}
+use Rattle.sap_vtext.specs.Faults.{Use, as_value, uses, suits, constants, ranges, indexes, HasIndex, needs, V3, V4, V5, V6, V7, IsFaultless}
+use Rattle.sap_vtext.specs.Faults as fault
 
 pub record IsGoodUse (a : Above) (u : Use) : Type 0 where
   pub shape : Shape
@@ -18,13 +21,13 @@ pub record IsGoodUse (a : Above) (u : Use) : Type 0 where
   pub assigned : (width : ℕ) → u.manner ≡ as_value → shape ≡ wire width → is_set assign u.name.name a.items ≡ true
 
 abbrev pub IsGoodIndex : Above → Mention × Operand → Type 0
-IsGoodIndex a p = (width b u : ℕ) → shape_above a (p.0).name ≡ Some (memory width (2 ^ b)) → operand_width a p.1 ≡ Some u → u ≡ b
+IsGoodIndex a p = (width b u : ℕ) → shape_above a (p.0).name ≡ Some (memory width (2 ^ b)) → operand_width (known_above a) p.1 ≡ Some u → u ≡ b
 
 -- what some kinds of items have besides
 abbrev pub IsFit : Above → Item → Type 0
 IsFit a (item.memory range x last) = HasIndex (last.value + 1)
 IsFit a (item.integer place) = has_integer a.items ≡ false
-IsFit a (item.assign x (item.concat parts)) = (width : ℕ) → parts_width a parts ≡ Some width → width ≤ 64
+IsFit a (item.assign x (item.concat parts)) = (width : ℕ) → parts_width (known_above a) parts ≡ Some width → width ≤ 64
 IsFit a (item.assign x (item.slice y high low)) = (shape : Shape) → shape_above a y.name ≡ Some shape → (low ≤ high) × (high < shape_width shape)
 IsFit a (item.initial_cells place bound x value) =
     (has_integer a.items ≡ true) × ((width depth : ℕ) → shape_above a x.name ≡ Some (memory width depth) → bound.value ≡ depth)
@@ -35,7 +38,7 @@ pub record IsGoodItem (a : Above) (x : Item) : Type 0 where
   pub uses : AllByRecursion (IsGoodUse a) (uses x)
   pub ranges : AllByRecursion (λ n. n.value ≤ 63) (ranges x)
   pub constants : AllByRecursion (λ c. constant_fits c ≡ true) (constants x)
-  pub pairs : AllByRecursion (λ p. Differ p → ⊥) (pairs a x)
+  pub pairs : AllByRecursion (λ p. Differ p → ⊥) (pairs (known_above a) x)
   pub indexes : AllByRecursion (IsGoodIndex a) (indexes x)
   pub fit : IsFit a x
 
@@ -74,7 +77,7 @@ good_at ps before (w ∷ xs) (y ∷ ys) x zs h e =
 item_good : (f : File) (a : Above) (x : Item) → IsGood f → IsItemOf f a x → IsGoodItem a x
 item_good f a x g h = subst (λ ps. IsGoodItem (above_of ps a.items) x) (sym h.ports) (good_at f.ports [] f.items a.items x h.below g.items h.items)
 
-among_all : {A : Type 0} (P : A → Type 0) (x : A) (xs : List A) → AllByRecursion P xs → Among x xs → P x
+among_all : {A : Type 0} (P : A → Type 0) (x : A) (xs : List A) → AllByRecursion P xs → StandsIn x xs → P x
 among_all P x [] h m = absurd m
 among_all P x (y ∷ ys) h (inl e) = subst P (sym e) h.0
 among_all P x (y ∷ ys) h (inr m) = among_all P x ys h.1 m
@@ -109,7 +112,7 @@ v5_none f g p (fault.wide_range {above = a} {x = x} n h m w) =
     let small = among_all (λ z. z.value ≤ 63) n (ranges x) (item_good f a x g h).ranges m in absurd (omega arith)
 v5_none f g p (fault.unfit {above = a} {x = x} c h m e) =
     let fits = among_all (λ z. constant_fits z ≡ true) c (constants x) (item_good f a x g h).constants m in absurd (cc)
-v5_none f g p (fault.widths_differ {above = a} {x = x} t q h e m d) = among_all (λ z. Differ z → ⊥) q (pairs a x) (item_good f a x g h).pairs m d
+v5_none f g p (fault.widths_differ {above = a} {x = x} t q h e m d) = among_all (λ z. Differ z → ⊥) q (pairs (known_above a) x) (item_good f a x g h).pairs m d
 v5_none f g p (fault.wide_concat {above = a} {width = width} h e w) = let small = (item_good f a _ g h).fit width e in absurd (omega arith)
 v5_none f g p (fault.out_of_range {above = a} {shape = shape} h e w) = let fit = (item_good f a _ g h).fit shape e in absurd (w fit.0 fit.1)
 

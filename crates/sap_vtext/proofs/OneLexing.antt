@@ -1,8 +1,8 @@
 -- A text has at most one list of tokens.
 use Rattle.std.proofs.Common.{◌≡◌, ℕ, ◌+◌, List, drop, refl, ap, ◌∙◌}
-use Rattle.sap_modtext.proofs.LexingLemmas.{front_at_end}
-use Rattle.sap_modtext.specs.Tokens.{Token}
-use Rattle.sap_modtext.specs.Lexing.{front, Lexed, end, blank_first, token_first}
+use Rattle.sap_vtext.proofs.LexingLemmas.{front_at_end}
+use Rattle.sap_vtext.specs.Tokens.{Token}
+use Rattle.sap_vtext.specs.Lexing.{front, Lexed, end, blank_first, token_first}
 
 pub one_lexing : {from m : ℕ} {bs cs : List ℕ} {ts us : List Token} → from ≡ m → bs ≡ cs → Lexed from bs ts → Lexed m cs us → ts ≡ us
 one_lexing p q end end = refl

@@ -4,11 +4,14 @@ use Rattle.std.specs.Prelude.{◌||◌, map, flat_map, IsSome, option_map}
 use Rattle.std.specs.Str.{bytes_eq}
 use Rattle.std.proofs.Common.{inl, inr}
 use Rattle.std.proofs.lemmas.List.{map-append}
-use Rattle.sap_modtext.specs.Items.{Mention, Operand, Right, Item, Port, File}
-use Rattle.sap_modtext.specs.Items as item
-use Rattle.sap_modtext.specs.Faults
-use Rattle.sap_modtext.specs.Faults.{Declaration, port_declaration, item_declarations, declarations, shape_in, Above, IsItemOf, shape_above, Setting, Target, target_of, is_target, is_set, is_integer, has_integer, assign, value_width, unary_pairs, unary_rule, binary_pairs, binary_rule, slice_width, memory_width, wire_width, register_width, is_settable, Use, operand_uses, right_uses, uses, operand_constants, right_constants, constants, ranges, right_indexes, indexes, operand_place, operand_width, parts_width, right_pairs, pairs, add_widths, Among, V3, V4, V5, V6, V7, IsFaultless}
-use Rattle.sap_modtext.proofs.Bare.{bare_name, bare_number, bare_constant, bare_operand, bare_right, bare_item, bare_port, bare}
+use Rattle.sap_vtext.specs.Items.{Mention, Operand, Right, Item, Port, File}
+use Rattle.sap_vtext.specs.Items as item
+use Rattle.sap_vtext.specs.Faults
+use Rattle.sap_text.specs.Best.{StandsIn}
+use Rattle.sap_vtext.specs.Names.{Declaration, port_declaration, item_declarations, declarations, shape_in, Above, IsItemOf, shape_above, Setting, Target, target_of, is_target, is_set, is_integer, has_integer, assign, known_above}
+use Rattle.sap_vtext.specs.Widths.{value_width, unary_pairs, unary_rule, binary_pairs, binary_rule, slice_width, memory_width, wire_width, register_width, operand_width, parts_width, right_pairs, pairs, add_widths}
+use Rattle.sap_vtext.specs.Faults.{is_settable, Use, operand_uses, right_uses, uses, operand_constants, right_constants, constants, ranges, right_indexes, indexes, operand_place, V3, V4, V5, V6, V7, IsFaultless}
+use Rattle.sap_vtext.proofs.Bare.{bare_name, bare_number, bare_constant, bare_operand, bare_right, bare_item, bare_port, bare}
 
 abbrev pub bare_declaration : Declaration → Declaration
 bare_declaration d = record { name = bare_name d.name; shape = d.shape }
@@ -181,24 +184,24 @@ bare_indexes (item.initial x value) = refl
 bare_indexes (item.initial_cells place bound x value) = refl
 bare_indexes (item.always x next) = refl
 
-bare_width : (a : Above) (x : Operand) → operand_width (bare_above a) (bare_operand x) ≡ operand_width a x
+bare_width : (a : Above) (x : Operand) → operand_width (known_above (bare_above a)) (bare_operand x) ≡ operand_width (known_above a) x
 bare_width a (item.named x) =
     ap (λ s. value_width s (is_set assign x.name (map bare_item a.items))) (bare_shape_above a x.name) ∙ ap (value_width (shape_above a x.name)) (bare_is_set assign x.name a.items)
 bare_width a (item.constant c) = refl
 
-bare_parts_width : (a : Above) (xs : List Operand) → parts_width (bare_above a) (map bare_operand xs) ≡ parts_width a xs
+bare_parts_width : (a : Above) (xs : List Operand) → parts_width (known_above (bare_above a)) (map bare_operand xs) ≡ parts_width (known_above a) xs
 bare_parts_width a [] = refl
 bare_parts_width a (x ∷ xs) =
-    ap (λ w. add_widths w (parts_width (bare_above a) (map bare_operand xs))) (bare_width a x) ∙ ap (add_widths (operand_width a x)) (bare_parts_width a xs)
+    ap (λ w. add_widths w (parts_width (known_above (bare_above a)) (map bare_operand xs))) (bare_width a x) ∙ ap (add_widths (operand_width (known_above a) x)) (bare_parts_width a xs)
 
-bare_right_pairs : (a : Above) (target target' : Option ℕ) (right : Right) → target' ≡ target → right_pairs (bare_above a) target' (bare_right right) ≡ right_pairs a target right
+bare_right_pairs : (a : Above) (target target' : Option ℕ) (right : Right) → target' ≡ target → right_pairs (known_above (bare_above a)) target' (bare_right right) ≡ right_pairs (known_above a) target right
 bare_right_pairs a target target' (item.copy x) e = let w = bare_width a x in cc
 bare_right_pairs a target target' (item.one op x) e =
-    ap (λ w. unary_pairs (unary_rule op) target' w) (bare_width a x) ∙ ap (λ t. unary_pairs (unary_rule op) t (operand_width a x)) e
+    ap (λ w. unary_pairs (unary_rule op) target' w) (bare_width a x) ∙ ap (λ t. unary_pairs (unary_rule op) t (operand_width (known_above a) x)) e
 bare_right_pairs a target target' (item.two op x y) e =
-    ap (λ w. binary_pairs (binary_rule op) target' w (operand_width (bare_above a) (bare_operand y))) (bare_width a x)
-    ∙ ap (λ w. binary_pairs (binary_rule op) target' (operand_width a x) w) (bare_width a y)
-    ∙ ap (λ t. binary_pairs (binary_rule op) t (operand_width a x) (operand_width a y)) e
+    ap (λ w. binary_pairs (binary_rule op) target' w (operand_width (known_above (bare_above a)) (bare_operand y))) (bare_width a x)
+    ∙ ap (λ w. binary_pairs (binary_rule op) target' (operand_width (known_above a) x) w) (bare_width a y)
+    ∙ ap (λ t. binary_pairs (binary_rule op) t (operand_width (known_above a) x) (operand_width (known_above a) y)) e
 bare_right_pairs a target target' (item.choose c x y) e = let u = bare_width a c in let v = bare_width a x in let w = bare_width a y in cc
 bare_right_pairs a target target' (item.concat xs) e = let w = bare_parts_width a xs in cc
 bare_right_pairs a target target' (item.slice x high low) e =
@@ -206,7 +209,7 @@ bare_right_pairs a target target' (item.slice x high low) e =
 bare_right_pairs a target target' (item.cell m index) e =
     let w = ap memory_width (bare_shape_above a m.name) in cc
 
-bare_pairs : (a : Above) (x : Item) → pairs (bare_above a) (bare_item x) ≡ pairs a x
+bare_pairs : (a : Above) (x : Item) → pairs (known_above (bare_above a)) (bare_item x) ≡ pairs (known_above a) x
 bare_pairs a (item.wire n x) = refl
 bare_pairs a (item.register n x) = refl
 bare_pairs a (item.memory n x last) = refl
@@ -227,13 +230,13 @@ bare_item_of f a x h = record {
   items = ap (map bare_item) h.items ∙ map-append bare_item a.items (x ∷ h.below);
 }
 
-among_map : {A B : Type 0} (f : A → B) (x : A) (xs : List A) → Among x xs → Among (f x) (map f xs)
+among_map : {A B : Type 0} (f : A → B) (x : A) (xs : List A) → StandsIn x xs → StandsIn (f x) (map f xs)
 among_map f x [] h = absurd h
 among_map f x (y ∷ ys) (inl e) = inl (ap f e)
 among_map f x (y ∷ ys) (inr h) = inr (among_map f x ys h)
 
-among_uses : (x : Item) (u : Use) → Among u (uses x) → Among (bare_use u) (uses (bare_item x))
-among_uses x u h = subst (λ us. Among (bare_use u) us) (sym (bare_uses x)) (among_map bare_use u (uses x) h)
+among_uses : (x : Item) (u : Use) → StandsIn u (uses x) → StandsIn (bare_use u) (uses (bare_item x))
+among_uses x u h = subst (λ us. StandsIn (bare_use u) us) (sym (bare_uses x)) (among_map bare_use u (uses x) h)
 
 v3_bare : (f : File) (p : ℕ) → V3 f p → V3 (bare f) 0
 v3_bare f p (Faults.declared_before before after d e s) =
@@ -255,18 +258,18 @@ v4_bare f p (Faults.no_integer {above = a} h e) = Faults.no_integer (bare_item_o
 v5_bare : (f : File) (p : ℕ) → V5 f p → V5 (bare f) 0
 v5_bare f p (Faults.wide_port q m g) = Faults.wide_port (bare_port q) (among_map bare_port q f.ports m) g
 v5_bare f p (Faults.wide_range {above = a} {x = x} n h m g) =
-    Faults.wide_range (bare_number n) (bare_item_of f a x h) (subst (λ ns. Among (bare_number n) ns) (sym (bare_ranges x)) (among_map bare_number n (ranges x) m)) g
+    Faults.wide_range (bare_number n) (bare_item_of f a x h) (subst (λ ns. StandsIn (bare_number n) ns) (sym (bare_ranges x)) (among_map bare_number n (ranges x) m)) g
 v5_bare f p (Faults.unfit {above = a} {x = x} c h m e) =
-    Faults.unfit (bare_constant c) (bare_item_of f a x h) (subst (λ cs. Among (bare_constant c) cs) (sym (bare_constants x)) (among_map bare_constant c (constants x) m)) e
+    Faults.unfit (bare_constant c) (bare_item_of f a x h) (subst (λ cs. StandsIn (bare_constant c) cs) (sym (bare_constants x)) (among_map bare_constant c (constants x) m)) e
 v5_bare f p (Faults.widths_differ {above = a} {x = x} t q h e m d) =
-    Faults.widths_differ (bare_target t) q (bare_item_of f a x h) (bare_target_of x t e) (subst (λ ps. Among q ps) (sym (bare_pairs a x)) m) d
+    Faults.widths_differ (bare_target t) q (bare_item_of f a x h) (bare_target_of x t e) (subst (λ ps. StandsIn q ps) (sym (bare_pairs a x)) m) d
 v5_bare f p (Faults.wide_concat {above = a} {parts = parts} h e g) = Faults.wide_concat (bare_item_of f a _ h) (bare_parts_width a parts ∙ e) g
 v5_bare f p (Faults.out_of_range {above = a} {y = y} h e g) = Faults.out_of_range (bare_item_of f a _ h) (bare_shape_above a y.name ∙ e) g
 
 v6_bare : (f : File) (p : ℕ) → V6 f p → V6 (bare f) 0
 v6_bare f p (Faults.unset d s m n e) =
     Faults.unset (bare_declaration d) s
-    (subst (λ ds. Among (bare_declaration d) ds) (sym (all_declared f.ports f.items)) (among_map bare_declaration d (declarations f.ports f.items) m)) n
+    (subst (λ ds. StandsIn (bare_declaration d) ds) (sym (all_declared f.ports f.items)) (among_map bare_declaration d (declarations f.ports f.items) m)) n
     (bare_is_set s d.name.name f.items ∙ e)
 
 place_of_bare : (x : Operand) → operand_place (bare_operand x) ≡ 0
@@ -279,7 +282,7 @@ v7_bare f p (Faults.other_bound {above = a} {x = x} h e g) = Faults.other_bound 
 v7_bare f p (Faults.other_index {above = a} {x = x} m index h n e w g) =
     subst (λ q. V7 (bare f) q) (place_of_bare index)
     (Faults.other_index (bare_name m) (bare_operand index) (bare_item_of f a x h)
-    (subst (λ ps. Among (bare_index (m, index)) ps) (sym (bare_indexes x)) (among_map bare_index (m, index) (indexes x) n))
+    (subst (λ ps. StandsIn (bare_index (m, index)) ps) (sym (bare_indexes x)) (among_map bare_index (m, index) (indexes x) n))
     (bare_shape_above a m.name ∙ e) (bare_width a index ∙ w) g)
 v7_bare f p (Faults.other_kind {above = a} {x = x} u h m e s) =
     Faults.other_kind (bare_use u) (bare_item_of f a x h) (among_uses x u m) (bare_shape_above a u.name.name ∙ e) s

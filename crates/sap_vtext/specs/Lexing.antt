@@ -6,7 +6,7 @@ use Rattle.std.specs.Str.{byte, bytes_eq}
 use Rattle.std.specs.Str.Parse.{digits_value}
 pub use Rattle.sap_text.specs.Blanks.{is_blank, is_in_line}
 use Rattle.sap_net.specs.Names.{is_initial, is_inner}
-use Rattle.sap_modtext.specs.Tokens.{Word, module_word, endmodule_word, input_word, output_word, reg_word, wire_word, assign_word, initial_word, always_word, posedge_word, if_word, for_word, integer_word, clk_word, i_word, Sign, open_paren, close_paren, open_brace, close_brace, open_bracket, close_bracket, comma, semicolon, colon, question, at, is, equal, not_equal, less, less_or_equal, shift_left, shift_right, plus, minus, star, ampersand, bar, caret, tilde, Kind, word, sign, name, number, constant, Token}
+use Rattle.sap_vtext.specs.Tokens.{Word, module_word, endmodule_word, input_word, output_word, reg_word, wire_word, assign_word, initial_word, always_word, posedge_word, if_word, for_word, integer_word, clk_word, i_word, Sign, open_paren, close_paren, open_brace, close_brace, open_bracket, close_bracket, comma, semicolon, colon, question, at, is, equal, not_equal, less, less_or_equal, shift_left, shift_right, plus, minus, star, ampersand, bar, caret, tilde, Kind, word, sign, name, number, constant, Token}
 
 abbrev pub word_text : Word → List ℕ
 word_text module_word = codes "module"

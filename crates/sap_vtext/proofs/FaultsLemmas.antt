@@ -4,10 +4,11 @@ use Rattle.std.specs.List.{AllByRecursion}
 use Rattle.std.specs.Prelude.{◌||◌}
 use Rattle.sap_lemmas.proofs.Bools.{or_assoc}
 use Rattle.sap_maps.specs.Maps.{Name}
-use Rattle.sap_modtext.specs.Faults.{Among, Setting, is_set, is_target, target_of}
-use Rattle.sap_modtext.specs.Items as item
+use Rattle.sap_text.specs.Best.{StandsIn}
+use Rattle.sap_vtext.specs.Names.{Setting, is_set, is_target, target_of}
+use Rattle.sap_vtext.specs.Items as item
 
-pub all_alike : {A : Type 0} (P : A → Type 0) (xs : List A) → ((x : A) → Among x xs → P x) → AllByRecursion P xs
+pub all_alike : {A : Type 0} (P : A → Type 0) (xs : List A) → ((x : A) → StandsIn x xs → P x) → AllByRecursion P xs
 all_alike P [] f = tt
 all_alike P (x ∷ xs) f = (f x (inl refl), all_alike P xs (λ y m. f y (inr m)))
 

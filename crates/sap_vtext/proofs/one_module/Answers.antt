@@ -1,8 +1,8 @@
 use Rattle.std.proofs.Common.{refl, sym, ap, ◌∙◌}
-use Rattle.sap_modtext.specs.Modules.{netlist_of}
-use Rattle.sap_modtext.proofs.OneFile.{one_file}
-use Rattle.sap_modtext.proofs.OneLexing.{one_lexing}
-use Rattle.sap_modtext.proofs.one_module.Goals as goal
+use Rattle.sap_vtext.specs.Modules.{netlist_of}
+use Rattle.sap_vtext.proofs.OneFile.{one_file}
+use Rattle.sap_vtext.proofs.OneLexing.{one_lexing}
+use Rattle.sap_vtext.proofs.one_module.Goals as goal
 
 pub returns : goal.returns
 returns c = λ bytes m n a b.

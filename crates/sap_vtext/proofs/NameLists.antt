@@ -10,40 +10,40 @@ use Rattle.sap_net.proofs.NamesLemmas.{among_append}
 use Rattle.sap_maps.specs.Maps.{Name}
 use Rattle.sap_maps.specs.Scope.{find}
 use Rattle.sap_net.specs.Names.{is_among, AreDistinct}
-use Rattle.sap_modtext.specs.Faults.{Among}
+use Rattle.sap_text.specs.Best.{StandsIn}
 
 -- Tests.
 
 -- Lists.
 
-pub among_left : {A : Type 0} (x : A) (xs ys : List A) → Among x xs → Among x (xs ++ ys)
+pub among_left : {A : Type 0} (x : A) (xs ys : List A) → StandsIn x xs → StandsIn x (xs ++ ys)
 among_left x [] ys m = absurd m
 among_left x (y ∷ xs) ys (inl e) = inl e
 among_left x (y ∷ xs) ys (inr m) = inr (among_left x xs ys m)
 
-pub among_right : {A : Type 0} (x : A) (xs ys : List A) → Among x ys → Among x (xs ++ ys)
+pub among_right : {A : Type 0} (x : A) (xs ys : List A) → StandsIn x ys → StandsIn x (xs ++ ys)
 among_right x [] ys m = m
 among_right x (y ∷ xs) ys m = inr (among_right x xs ys m)
 
-pub among_cases : {A : Type 0} (x : A) (xs ys : List A) → Among x (xs ++ ys) → Among x xs ⊎ Among x ys
+pub among_cases : {A : Type 0} (x : A) (xs ys : List A) → StandsIn x (xs ++ ys) → StandsIn x xs ⊎ StandsIn x ys
 among_cases x [] ys m = inr m
 among_cases x (y ∷ xs) ys (inl e) = inl (inl e)
 among_cases x (y ∷ xs) ys (inr m) = ⊎_elim (λ p. inl (inr p)) (λ p. inr p) (among_cases x xs ys m)
 
-pub among_mapped : {A B : Type 0} (f : A → B) (x : A) (xs : List A) → Among x xs → Among (f x) (map f xs)
+pub among_mapped : {A B : Type 0} (f : A → B) (x : A) (xs : List A) → StandsIn x xs → StandsIn (f x) (map f xs)
 among_mapped f x [] m = absurd m
 among_mapped f x (y ∷ xs) (inl e) = inl (ap f e)
 among_mapped f x (y ∷ xs) (inr m) = inr (among_mapped f x xs m)
 
 -- Names.
 
-pub among_name : {A : Type 0} (name : A → Name) (y : A) (xs : List A) → Among y xs → is_among (name y) (map name xs) ≡ true
+pub among_name : {A : Type 0} (name : A → Name) (y : A) (xs : List A) → StandsIn y xs → is_among (name y) (map name xs) ≡ true
 among_name name y [] m = absurd m
 among_name name y (x ∷ xs) (inl e) =
     ap (λ b. b || is_among (name y) (map name xs)) (subst (λ z. bytes_eq (name y) (name z) ≡ true) e (bytes_eq_same (name y)))
 among_name name y (x ∷ xs) (inr m) = or_here (bytes_eq (name y) (name x)) (is_among (name y) (map name xs)) (among_name name y xs m)
 
-pub named_among : {A : Type 0} (name : A → Name) (xs : List A) (x : Name) → is_among x (map name xs) ≡ true → (y : A) × Among y xs × (name y ≡ x)
+pub named_among : {A : Type 0} (name : A → Name) (xs : List A) (x : Name) → is_among x (map name xs) ≡ true → (y : A) × StandsIn y xs × (name y ≡ x)
 named_among name [] x m = absurd (cc)
 named_among name (y ∷ ys) x m =
     ⊎_elim
@@ -133,7 +133,7 @@ found_all P (e ∷ es) x s h f = by_test (bytes_eq e.0 x) f (found_all P es x s 
   by_test true g k = let q : e.1 ≡ s = cc in subst P q h.0
   by_test false g k = k g
 
-pub among_found : {X : Type 0} (es : List (Name × X)) (x : Name) (s : X) → find es x ≡ Some s → Among {A = Name × X} (x, s) es
+pub among_found : {X : Type 0} (es : List (Name × X)) (x : Name) (s : X) → find es x ≡ Some s → StandsIn {A = Name × X} (x, s) es
 among_found [] x s f = absurd (cc)
 among_found {X = X} (e ∷ es) x s f =
     ⊎_elim
@@ -143,7 +143,7 @@ among_found {X = X} (e ∷ es) x s f =
       pair_same : {n m : Name} {a b : X} → n ≡ m → a ≡ b → ◌≡◌ {A = Name × X} (n, a) (m, b)
       pair_same p q = cc
 
-pub found_among : {X : Type 0} (es : List (Name × X)) → AreNew es → (x : Name) (s : X) → Among {A = Name × X} (x, s) es → find es x ≡ Some s
+pub found_among : {X : Type 0} (es : List (Name × X)) → AreNew es → (x : Name) (s : X) → StandsIn {A = Name × X} (x, s) es → find es x ≡ Some s
 found_among [] h x s m = absurd m
 found_among {X = X} (e ∷ es) h x s (inl p) =
     let q : x ≡ e.0 = ap (λ (z : Name × X). z.0) p in

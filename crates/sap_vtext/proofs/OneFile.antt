@@ -4,13 +4,13 @@ use Rattle.sap_bits.specs.declared.Op1.{Op1}
 use Rattle.sap_bits.specs.declared.Op1.TheVariants as unary
 use Rattle.sap_bits.specs.declared.Op2.{Op2}
 use Rattle.sap_bits.specs.declared.Op2.TheVariants as binary
-use Rattle.sap_modtext.specs.Tokens.{Sign, Kind, Token, IsToken}
-use Rattle.sap_modtext.specs.Tokens as t
-use Rattle.sap_modtext.specs.Items.{Mention, Number, Operand, Right, Direction, Port, Item, File}
-use Rattle.sap_modtext.specs.Items as item
-use Rattle.sap_modtext.specs.Grammar as g
-use Rattle.sap_modtext.specs.Grammar.{IsWord, IsSign, IsName, unary_sign, binary_sign, IsOperand, IsRange, IsPort, ArePorts, AreParts, IsRight, IsClocked, IsLoop, IsItem, AreItems, IsFile}
-use Rattle.sap_modtext.proofs.Tokens.{first_kind, others_of, kind_first, others_are, same_token, after_word, after_sign, after_digit, one_sign, Same, one_name, one_number, one_constant}
+use Rattle.sap_vtext.specs.Tokens.{Sign, Kind, Token, IsToken}
+use Rattle.sap_vtext.specs.Tokens as t
+use Rattle.sap_vtext.specs.Items.{Mention, Number, Operand, Right, Direction, Port, Item, File}
+use Rattle.sap_vtext.specs.Items as item
+use Rattle.sap_vtext.specs.Grammar as g
+use Rattle.sap_vtext.specs.Grammar.{IsWord, IsSign, IsName, unary_sign, binary_sign, IsOperand, IsRange, IsPort, ArePorts, AreParts, IsRight, IsClocked, IsLoop, IsItem, AreItems, IsFile}
+use Rattle.sap_vtext.proofs.Tokens.{first_kind, others_of, kind_first, others_are, same_token, after_word, after_sign, after_digit, one_sign, Same, one_name, one_number, one_constant}
 
 operand_one : {ts us r s : List Token} {x y : Operand} → ts ≡ us → IsOperand ts x r → IsOperand us y s → Same x y r s
 operand_one e (g.name a) (g.name b) = let w = one_name e a b in record { is = ap item.named w.is; others = w.others }

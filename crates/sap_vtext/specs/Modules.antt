@@ -14,12 +14,14 @@ use Rattle.sap_net.specs.declared.parts.Wire.{Wire}
 use Rattle.sap_net.specs.declared.parts.Register.{Register}
 use Rattle.sap_net.specs.declared.parts.Memory.{Memory}
 use Rattle.sap_net.specs.Net.{Net}
-use Rattle.sap_modtext.specs.Tokens.{Token}
-use Rattle.sap_modtext.specs.Lexing.{Lexed}
-use Rattle.sap_modtext.specs.Items.{File}
-use Rattle.sap_modtext.specs.Items as item
-use Rattle.sap_modtext.specs.Grammar.{IsFile}
-use Rattle.sap_modtext.specs.Faults.{Shape, register, memory, Declaration, declarations, shape_in, shape_width, IsFaultless}
+use Rattle.sap_vtext.specs.Tokens.{Token}
+use Rattle.sap_vtext.specs.Lexing.{Lexed}
+use Rattle.sap_vtext.specs.Items.{File}
+use Rattle.sap_vtext.specs.Items as item
+use Rattle.sap_vtext.specs.Grammar.{IsFile}
+use Rattle.sap_vtext.specs.Names.{Shape, register, memory, Declaration, declarations, shape_in}
+use Rattle.sap_vtext.specs.Widths.{shape_width}
+use Rattle.sap_vtext.specs.Faults.{IsFaultless}
 
 -- The netlist of a file. Where no fault stands, all that is looked up here is there.
 

@@ -1,7 +1,7 @@
 //! The text of a module: its tokens, its grammar, its faults, and the netlist that it stands for.
 #![tactic(auto)]
 
-ghost use Rattle.sap_modtext.specs.Modules.{OneModule};
+ghost use Rattle.sap_vtext.specs.Modules.{OneModule};
 
 /// A text is at most one module.
 pub fn one_module()

@@ -3,4 +3,6 @@ pub mod Grammar
 pub mod Items
 pub mod Lexing
 pub mod Modules
+pub mod Names
 pub mod Tokens
+pub mod Widths
