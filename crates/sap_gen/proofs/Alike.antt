@@ -28,11 +28,11 @@ use Rattle.sap_sim.specs.Labelled.LabelledRows.{register_shown, registers_shown}
 use Rattle.sap_gen.specs.Design.{generated_design}
 use Rattle.sap_gen.specs.Stream.{cycle_count, generated_stream}
 use Rattle.sap_gen.specs.Text.{generated_run, refusal_count, row_of_cycle, row_shown, summary, text_over}
-use Rattle.sap_resolve.specs.Fill.{filled_group, program_of, table}
-use Rattle.sap_resolve.specs.Resolve as resolve
+use Rattle.sap_resolved.specs.Fill.{filled_group, program_of, table}
+use Rattle.sap_resolved.specs.Resolve as resolve
 use Rattle.sap_shape.specs.Sites.{Surroundings, simple_sites, command_sites, block_sites, state_sites}
-use Rattle.sap_resolve.specs.Terms.{entity_number, level_term, level_terms, term_of}
-use Rattle.sap_resolve.specs.Worlds.{all_declared, authority_level, authority_of, declared, declared_level, group_entities, group_children, group_length, is_dynamic_kind, level_number, no_children, state_entities, states_below, states_in, world_of}
+use Rattle.sap_resolved.specs.Terms.{entity_number, level_term, level_terms, term_of}
+use Rattle.sap_resolved.specs.Worlds.{all_declared, authority_level, authority_of, declared, declared_level, group_entities, group_children, group_length, is_dynamic_kind, level_number, no_children, state_entities, states_below, states_in, world_of}
 
 module _ (l m : Levels) (names : l.names ≡ m.names) (order : order_of l ≡ order_of m) where
   level_same : (x : Mention) → level_number l x ≡ level_number m x

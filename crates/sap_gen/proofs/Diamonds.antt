@@ -25,7 +25,7 @@ use Rattle.sap_lattice.specs.declared.pair.Pair.{Pair}
 use Rattle.sap_lattice.proofs.Judged.{is_lattice_of, keeps_all}
 use Rattle.sap_lattice.proofs.Numbers.{every_at}
 use Rattle.sap_lattice.proofs.Orders.{level_in_below}
-use Rattle.sap_gen.specs.Diamond.{diamond, level_names, level_pairs, pair, table}
+use Rattle.sap_lattice.specs.Diamond.{diamond, level_names, level_pairs, pair, table}
 
 -- the levels at or above each level, as the bits of a number
 abbrev rows : List ℕ

@@ -10,7 +10,7 @@ use Rattle.sap_names.specs.declared.fault.Fault.{Fault}
 use Rattle.sap_names.specs.declared.kind.Declared.TheVariants as d
 use Rattle.sap_names.specs.Entities.{Lookup, entities_of, what_is}
 use Rattle.sap_names.specs.NameFaults.{command_faults, commands_faults, declaration_faults, declarations_faults, design_name_faults, kind_faults, simple_faults, states_faults}
-use Rattle.sap_gen.specs.Diamond.{level_names}
+use Rattle.sap_lattice.specs.Diamond.{level_names}
 use Rattle.sap_gen.specs.Design.{assignment, declared_register, design_of_counts, input_name, register_name, state, state_name, transfer}
 use Rattle.sap_tree.specs.Making.{commands, enforced, named, states}
 use Rattle.sap_gen.proofs.Entities.{each_once, what_input, what_register, what_state}

@@ -1,116 +1,97 @@
--- The row of a state, an entity after another.
-use Rattle.std.proofs.Common.{◌≡◌, ℕ, zero, suc, ◌+◌, ◌<◌, ◌≤◌, List, [], ◌∷◌, ◌++◌, Bool, true, false, Some, length, get_or, drop, refl, sym, ap, ◌∙◌, arith, append_assoc, Result, Ok, Err, OnOk, if◌then◌else◌}
-use Rattle.std.proofs.lemmas.List.{append-nil}
-use Rattle.std.specs.Prelude.{is_ok, option_map, slice_get}
+-- The registers of a row, an entity after another.
+use Rattle.std.proofs.Common.{◌≡◌, ℕ, zero, suc, ◌+◌, ◌<◌, ◌≤◌, List, [], ◌∷◌, ◌++◌, Bool, true, false, Some, length, length-append, drop, refl, sym, ap, ◌∙◌, arith, append_assoc, Result, OnOk, if◌then◌else◌}
+use Rattle.std.specs.Prelude.{option_map, slice_get}
 use Rattle.std.proofs.Math.Seq.{drop-cons}
+use Rattle.std.proofs.lemmas.List.{append-nil}
+use Rattle.std.proofs.lemmas.Option.{get_or_from_slice_get, slice_get-map}
+use Rattle.std.proofs.lemmas.Result.{on_ok_weaker}
 use Rattle.sap_lemmas.proofs.Lists.{drop_past}
-use Rattle.sap_names.proofs.EntityKindLemmas.{some_kind}
-use Rattle.sap_lattice.specs.Levels.{Levels}
+use Rattle.sap_lattice.specs.Codes.{Codes, code_of}
+use Rattle.sap_lattice.specs.Levels.{Levels, order_of}
 use Rattle.sap_tree.specs.Syntax.{DesignTree}
-use Rattle.sap_names.specs.declared.entity.Entity.{Entity}
-use Rattle.sap_names.specs.declared.kind.Declared.{Declared}
-use Rattle.sap_names.specs.declared.kind.Declared.TheVariants as what
-use Rattle.sap_names.specs.declared.kind.EntityKind.{EntityKind}
-use Rattle.sap_names.specs.declared.kind.EntityKind.TheVariants as kinds
-use Rattle.sap_names.specs.Entities.{entities_of, kind_of_declared}
-use Rattle.sap_meaning.specs.Program as program
-use Rattle.sap_meaning.specs.Program.{is_register, kind_is_register, nothing}
-use Rattle.sap_meaning.specs.Store.{Store}
-use Rattle.sap_resolve.specs.Worlds.{world_of}
-use Rattle.sap_resolve.proofs.Lookup.{AllMatch, Stands, entities_match, entities_length}
-use Rattle.sap_interface.specs.StandsFor.{Named, world}
+use Rattle.sap_names.specs.declared.entity.Entity as tree
+use Rattle.sap_names.specs.Entities.{entities_of}
+use Rattle.sap_meaning.specs.Program.{Entity, Program, is_register, nothing}
+use Rattle.sap_meaning.specs.Store.{Store, level, number, own}
+use Rattle.sap_resolved.specs.Fill.{program_of}
+use Rattle.sap_resolved.specs.Worlds.{world_of}
+use Rattle.sap_resolved.proofs.Lookup.{entities_length}
 use Rattle.sap_interface.specs.Designs.{named_of}
-use Rattle.sap_stim.specs.Rows.{Shown, all_shown, shown_text}
-use Rattle.sap_sim.specs.Labelled.LabelledRows.{register_shown, registers_shown}
-use Rattle.sap_gen.specs.Shown.{entity_shown}
+use Rattle.sap_stim.specs.Rows.{Shown, row_text, shown, shown_of}
+use Rattle.sap_sim.specs.Labelled.LabelledRows.{labelled_row, register_shown, registers_shown}
+use Rattle.sap_sim.proofs.labelled.Levels.{name_coded}
 
-abbrev pub is_register_kind : EntityKind → Bool
-is_register_kind kinds.Input = false
-is_register_kind kinds.Register = true
-is_register_kind kinds.Memory = false
-is_register_kind kinds.State = false
+shown_last : (ls : Levels) (names : List (List ℕ)) (values tags : List ℕ) (name : List ℕ) (value tag : ℕ) → length values ≡ length names → length tags ≡ length names
+    → shown_of ls (names ++ name ∷ []) (values ++ value ∷ []) (tags ++ tag ∷ []) ≡ shown_of ls names values tags ++ shown ls name value tag ∷ []
+shown_last ls [] [] [] name value tag v g = refl
+shown_last ls [] [] (h ∷ tags) name value tag v g = absurd (omega arith)
+shown_last ls [] (u ∷ values) tags name value tag v g = absurd (omega arith)
+shown_last ls (n ∷ names) [] tags name value tag v g = absurd (omega arith)
+shown_last ls (n ∷ names) (u ∷ values) [] name value tag v g = absurd (omega arith)
+shown_last ls (n ∷ names) (u ∷ values) (h ∷ tags) name value tag v g =
+    ap (λ (ss : List Shown). shown ls n u h ∷ ss) (shown_last ls names values tags name value tag (omega arith) (omega arith))
 
-no_register : (k : program.Kind) → program.kind_is_state k ≡ true → kind_is_register k ≡ false
-no_register program.input h = refl
-no_register program.register h = cc
-no_register (program.memory depth) h = refl
-no_register (program.state place last) h = refl
+module _ (ls : Levels) (t : DesignTree) (s : Store) where
+  -- the registers from an entity on
+  abbrev pub shown_from : (x : ℕ) → List Shown
+  shown_from x = registers_shown ls (named_of ls t) s x (drop x (world_of ls t).entities)
 
-kind_stands : (d : Declared) (g : program.Entity) → Stands d g → kind_is_register g.kind ≡ is_register_kind (kind_of_declared d)
-kind_stands (what.Input u) g s = ap kind_is_register s.0
-kind_stands (what.Register u) g s = ap kind_is_register s.0
-kind_stands (what.Memory u depth) g s = ap kind_is_register s.0
-kind_stands what.State g s = no_register g.kind s.0
+  abbrev shown_if : Bool → (x : ℕ) → List Shown
+  shown_if b x = if b then register_shown ls (named_of ls t) s x ∷ [] else []
 
-kinds_match : (es : List Entity) (gs : List program.Entity) → AllMatch es gs → (x : ℕ) (k : EntityKind) → option_map (λ (e : Entity). kind_of_declared e.what) (slice_get es x) ≡ Some k
-    → kind_is_register (get_or gs x nothing).kind ≡ is_register_kind k
-kinds_match [] gs m x k h = cc
-kinds_match (e ∷ es) [] m x k h = absurd m
-kinds_match (e ∷ es) (g ∷ gs) m zero k h = kind_stands e.what g m.0.what ∙ ap is_register_kind (some_kind (kind_of_declared e.what) k h)
-kinds_match (e ∷ es) (g ∷ gs) m (suc x) k h = kinds_match es gs m.1 x k h
+  shown_next : (x : ℕ) (b : Bool) → x < length (entities_of t) → is_register (world_of ls t) x ≡ b → shown_from x ≡ shown_if b x ++ shown_from (x + 1)
+  shown_next x b l e =
+      let k : suc x ≡ x + 1 = omega arith in
+      let n = entities_length ls t in
+      ap (λ (es : List Entity). registers_shown ls (named_of ls t) s x es) (drop-cons (world_of ls t).entities x nothing (omega arith))
+      ∙ ap (λ (j : ℕ). shown_if (is_register (world_of ls t) x) x ++ registers_shown ls (named_of ls t) s (x + 1) (drop j (world_of ls t).entities)) k
+      ∙ ap (λ (b : Bool). shown_if b x ++ shown_from (x + 1)) e
 
--- whether an entity of a design is a register
-pub register_by_kind : (ls : Levels) (d : DesignTree) (x : ℕ) (k : EntityKind) → option_map (λ (e : Entity). kind_of_declared e.what) (slice_get (entities_of d) x) ≡ Some k
-    → is_register (world_of ls d) x ≡ is_register_kind k
-register_by_kind ls d x k h = kinds_match (entities_of d) (world_of ls d).entities (entities_match ls d) x k h
+  -- the registers before an entity have these names, numbers and codes of levels
+  pub record Collected (x : ℕ) (names : List (List ℕ)) (values tags : List ℕ) : Type 0 where
+    pub values_length : length values ≡ length names
+    pub tags_length : length tags ≡ length names
+    pub shown : shown_of ls names values tags ++ shown_from x ≡ shown_from 0
 
-kind_other : (k : EntityKind) → (k ≡ kinds.Register → ⊥) → is_register_kind k ≡ false
-kind_other kinds.Input h = refl
-kind_other kinds.Register h = absurd (h refl)
-kind_other kinds.Memory h = refl
-kind_other kinds.State h = refl
+  module _ (p : Program) (is : p ≡ program_of ls t) (x : ℕ) (names : List (List ℕ)) (values tags : List ℕ) (before : Collected x names values tags) (low : x < length (entities_of t)) where
+    shown_here : (b : Bool) → is_register p.world x ≡ b → shown_from x ≡ shown_if b x ++ shown_from (x + 1)
+    shown_here b e = shown_next x b low (ap (λ (q : Program). is_register q.world x) (sym is) ∙ e)
 
--- what is written on success, said otherwise
-pub on_ok_same : {E : Type 0} (r : Result (Unit {0}) E) (new old a b : List ℕ) → OnOk r (new ≡ old ++ a) → a ≡ b → OnOk r (new ≡ old ++ b)
-on_ok_same (Ok u) new old a b h e = h ∙ ap (λ (x : List ℕ). old ++ x) e
-on_ok_same (Err f) new old a b h e = tt
+    -- an entity that is no register
+    pub passed : is_register p.world x ≡ false → Collected (x + 1) names values tags
+    passed f = record {
+      values_length = before.values_length;
+      tags_length = before.tags_length;
+      shown = ap (λ (ss : List Shown). shown_of ls names values tags ++ ss) (sym (shown_here false f)) ∙ before.shown;
+    }
 
-shown_if : (b : Bool) (text : List ℕ) → b ≡ true → text ≡ (if b then text else [])
-shown_if b text t = rw t refl
+    -- a register
+    pub collected : Codes (order_of ls) → 0 < length ls.names → is_register p.world x ≡ true → (name : List ℕ) (value at tag : ℕ)
+        → option_map (λ (e : tree.Entity). e.name.name) (slice_get (entities_of t) x) ≡ Some name → value ≡ number (own x) s → at ≡ level p.world (own x) s → tag ≡ code_of (order_of ls) at
+        → Collected (x + 1) (names ++ name ∷ []) (values ++ value ∷ []) (tags ++ tag ∷ [])
+    collected codes some r name value at tag n v l g =
+        let named = get_or_from_slice_get _ x name [] (slice_get-map (λ (e : tree.Entity). e.name.name) (entities_of t) x ∙ n) in
+        let one : shown ls name value tag ≡ register_shown ls (named_of ls t) s x = rw (v, g, l, is, named, name_coded ls codes some (level (world_of ls t) (own x) s)) refl in
+        let more_names = length-append names (name ∷ []) in
+        let more_values = length-append values (value ∷ []) in
+        let more_tags = length-append tags (tag ∷ []) in
+        record {
+          values_length = omega (arith, more_values, more_names, before.values_length);
+          tags_length = omega (arith, more_tags, more_names, before.tags_length);
+          shown =
+              ap (λ (ss : List Shown). ss ++ shown_from (x + 1)) (shown_last ls names values tags name value tag before.values_length before.tags_length ∙ ap (λ (r : Shown). shown_of ls names values tags ++ r ∷ []) one)
+              ∙ append_assoc (shown_of ls names values tags) (register_shown ls (named_of ls t) s x ∷ []) (shown_from (x + 1))
+              ∙ ap (λ (ss : List Shown). shown_of ls names values tags ++ ss) (sym (shown_here true r))
+              ∙ before.shown;
+        }
 
-none_if : (b : Bool) (old text : List ℕ) → b ≡ false → old ≡ old ++ (if b then text else [])
-none_if b old text f = rw f (sym (append-nil old))
-
-pub register_written : (ls : Levels) (d : DesignTree) (s : Store) (x : ℕ) (k : EntityKind) → option_map (λ (e : Entity). kind_of_declared e.what) (slice_get (entities_of d) x) ≡ Some k → k ≡ kinds.Register
-    → shown_text (register_shown ls (named_of ls d) s x) ≡ entity_shown ls (named_of ls d) s x
-register_written ls d s x k h e =
-    shown_if (is_register (world_of ls d) x) (shown_text (register_shown ls (named_of ls d) s x)) (register_by_kind ls d x k h ∙ ap is_register_kind e)
-
-pub nothing_written : (ls : Levels) (d : DesignTree) (s : Store) (x : ℕ) (k : EntityKind) (old : List ℕ) → option_map (λ (e : Entity). kind_of_declared e.what) (slice_get (entities_of d) x) ≡ Some k → (k ≡ kinds.Register → ⊥)
-    → old ≡ old ++ entity_shown ls (named_of ls d) s x
-nothing_written ls d s x k old h ne =
-    none_if (is_register (world_of ls d) x) old (shown_text (register_shown ls (named_of ls d) s x)) (register_by_kind ls d x k h ∙ kind_other k ne)
-
--- the text from an entity on
-
-abbrev pub text_from : Levels → Named → Store → (x : ℕ) → List ℕ
-text_from ls d s x = all_shown (registers_shown ls d s x (drop x (world d).entities))
-
-shown_first : (b : Bool) (r : Shown) (rest : List Shown) → all_shown ((if b then r ∷ [] else []) ++ rest) ≡ (if b then shown_text r else []) ++ all_shown rest
-shown_first true r rest = refl
-shown_first false r rest = refl
-
-text_more : (ls : Levels) (d : Named) (s : Store) (x : ℕ) → x < length (world d).entities → text_from ls d s x ≡ entity_shown ls d s x ++ text_from ls d s (x + 1)
-text_more ls d s x l =
-    let e : suc x ≡ x + 1 = omega arith in
-    ap (λ (es : List program.Entity). all_shown (registers_shown ls d s x es)) (drop-cons (world d).entities x nothing l)
-    ∙ shown_first (is_register (world d) x) (register_shown ls d s x) (registers_shown ls d s (x + 1) (drop (suc x) (world d).entities))
-    ∙ ap (λ (k : ℕ). entity_shown ls d s x ++ all_shown (registers_shown ls d s (x + 1) (drop k (world d).entities))) e
-
-pub text_step : (ls : Levels) (t : DesignTree) (s : Store) (x : ℕ) (out new whole : List ℕ) → x < length (entities_of t)
-    → out ++ text_from ls (named_of ls t) s x ≡ whole → new ≡ out ++ entity_shown ls (named_of ls t) s x → new ++ text_from ls (named_of ls t) s (x + 1) ≡ whole
-text_step ls t s x out new whole l before grown =
-    let e = entities_length ls t in
-    ap (λ (z : List ℕ). z ++ text_from ls (named_of ls t) s (x + 1)) grown
-    ∙ append_assoc out (entity_shown ls (named_of ls t) s x) (text_from ls (named_of ls t) s (x + 1))
-    ∙ ap (λ (z : List ℕ). out ++ z) (sym (text_more ls (named_of ls t) s x (omega arith)))
-    ∙ before
-
-pub text_end : {E : Type 0} (r : Result (Unit {0}) E) (ls : Levels) (t : DesignTree) (s : Store) (x : ℕ) (out new whole : List ℕ) → length (entities_of t) ≤ x
-    → out ++ text_from ls (named_of ls t) s x ≡ whole → new ≡ (if is_ok r then out ++ 10 ∷ [] else out) → OnOk r (new ≡ whole)
-text_end (Err f) ls t s x out new whole l before grown = tt
-text_end (Ok u) ls t s x out new whole l before grown =
-    let e = entities_length ls t in
-    grown
-    ∙ ap (λ (es : List program.Entity). out ++ all_shown (registers_shown ls (named_of ls t) s x es)) (sym (drop_past (world_of ls t).entities x (omega arith)))
-    ∙ before
+  -- the row of all
+  pub all_collected : {E : Type 0} (r : Result (Unit {0}) E) (x : ℕ) (names : List (List ℕ)) (values tags : List ℕ) (cycle : ℕ) (old new : List ℕ) → length (entities_of t) ≤ x → Collected x names values tags
+      → OnOk r (new ≡ old ++ row_text cycle (shown_of ls names values tags)) → OnOk r (new ≡ old ++ labelled_row ls (named_of ls t) cycle s)
+  all_collected r x names values tags cycle old new high all h =
+      let n = entities_length ls t in
+      let e : shown_of ls names values tags ≡ shown_from 0 =
+      sym (append-nil (shown_of ls names values tags))
+      ∙ ap (λ (es : List Entity). shown_of ls names values tags ++ registers_shown ls (named_of ls t) s x es) (sym (drop_past (world_of ls t).entities x (omega arith)))
+      ∙ all.shown in
+      on_ok_weaker r (λ h. h ∙ ap (λ (ss : List Shown). old ++ row_text cycle ss) e) h

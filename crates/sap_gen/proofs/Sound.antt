@@ -4,7 +4,7 @@ use Rattle.sap_lattice.specs.Levels.{Levels, order_of}
 use Rattle.sap_tree.specs.Whole.{is_whole}
 use Rattle.sap_names.specs.NameFaults.{design_name_faults}
 use Rattle.sap_shape.specs.WellFormed.{WellFormed}
-use Rattle.sap_gen.specs.Diamond.{level_names}
+use Rattle.sap_lattice.specs.Diamond.{level_names}
 use Rattle.sap_gen.specs.Design.{design_of_counts, generated_design, register_count, state_count}
 use Rattle.sap_gen.proofs.Faultless.{names_faultless}
 use Rattle.sap_gen.proofs.Shapes.{has_shape}

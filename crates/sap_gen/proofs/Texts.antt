@@ -9,10 +9,10 @@ use Rattle.sap_meaning.specs.Cycle.{run_from}
 use Rattle.sap_meaning.specs.Program.{Program}
 use Rattle.sap_meaning.specs.State.{first}
 use Rattle.sap_meaning.specs.Store.{Store}
-use Rattle.sap_resolve.specs.Fill.{program_of}
+use Rattle.sap_resolved.specs.Fill.{program_of}
 use Rattle.sap_interface.specs.Designs.{named_of}
 use Rattle.sap_sim.specs.Labelled.LabelledRows.{labelled_row}
-use Rattle.sap_gen.specs.Diamond.{diamond, level_names, level_pairs}
+use Rattle.sap_lattice.specs.Diamond.{diamond, level_names, level_pairs}
 use Rattle.sap_gen.specs.Design.{design_of_counts, generated_design, register_count, state_count}
 use Rattle.sap_gen.specs.Running.{last_store}
 use Rattle.sap_gen.specs.Stream.{cycle_count, generated_stream}

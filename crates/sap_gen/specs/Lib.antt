@@ -1,10 +1,5 @@
-pub mod Diamond
 pub mod Design
 pub mod Stream
 pub mod Text
 pub mod Running
-pub mod Shown
 pub mod Examples
-pub use Rattle.sap_lattice.specs.Built
-pub use Rattle.sap_shape.specs.WellFormed
-pub use Rattle.sap_tree.specs.Whole

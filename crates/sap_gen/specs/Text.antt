@@ -4,11 +4,11 @@ use Rattle.std.specs.Fmt.{decimal}
 use Rattle.sap_lattice.specs.Levels.{Levels}
 use Rattle.sap_meaning.specs.Store.{After}
 use Rattle.sap_meaning.specs.State.{labelled_run}
-use Rattle.sap_resolve.specs.Fill.{program_of}
+use Rattle.sap_resolved.specs.Fill.{program_of}
 use Rattle.sap_interface.specs.StandsFor.{Named}
 use Rattle.sap_interface.specs.Designs.{named_of}
 use Rattle.sap_sim.specs.Labelled.LabelledRows.{labelled_row}
-use Rattle.sap_gen.specs.Diamond.{diamond}
+use Rattle.sap_lattice.specs.Diamond.{diamond}
 use Rattle.sap_gen.specs.Design.{register_count, state_count, generated_design}
 use Rattle.sap_gen.specs.Stream.{cycle_count, generated_stream}
 

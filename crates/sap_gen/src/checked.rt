@@ -3,7 +3,7 @@
 ghost use Rattle.std.specs.Prelude.{◌≡◌, IfOk};
 ghost use Rattle.sap_check.specs.Checked.{levels_in, tree_in};
 ghost use Rattle.sap_shape.specs.WellFormed.{WellFormed};
-ghost use Rattle.sap_gen.specs.Diamond.{level_names};
+ghost use Rattle.sap_lattice.specs.Diamond.{level_names};
 ghost use Rattle.sap_gen.specs.Design.{design_of_counts};
 
 use crate::design::design;

@@ -4,7 +4,7 @@ ghost use Rattle.std.specs.Prelude.{◌≡◌, ℕ, true};
 ghost use Rattle.sap_lattice.specs.Built.{IsLatticeOf};
 ghost use Rattle.sap_tree.specs.Whole.{is_whole};
 ghost use Rattle.sap_shape.specs.WellFormed.{WellFormed};
-ghost use Rattle.sap_gen.specs.Diamond.{diamond, level_names, level_pairs};
+ghost use Rattle.sap_lattice.specs.Diamond.{diamond, level_names, level_pairs};
 ghost use Rattle.sap_gen.specs.Design.{generated_design};
 
 /// Its lattice is that of its names and pairs; its design is a tree of the grammar within the limits, and well formed over the

@@ -3,7 +3,7 @@
 ghost use Rattle.std.specs.Prelude.{◌≡◌, IfOk};
 ghost use Rattle.sap_lattice.specs.Built.{IsLatticeOf};
 ghost use Rattle.sap_lattice.specs.Rules.{KeepsAll};
-ghost use Rattle.sap_gen.specs.Diamond.{level_names, level_pairs, pair};
+ghost use Rattle.sap_lattice.specs.Diamond.{level_names, level_pairs, pair};
 
 use sap_lattice::{LatFault, Lattice, Name, Pair};
 use std::alloc::{AllocError, Global};

@@ -3,7 +3,7 @@
 ghost use Rattle.std.specs.Prelude.{◌≡◌, ◌≤◌, [], ◌∷◌, ℕ, IfOk, OnOk, length};
 ghost use Rattle.sap_meaning.specs.Cycle.{run_from};
 ghost use Rattle.sap_meaning.specs.State.{InputsFit};
-ghost use Rattle.sap_sem.specs.Machine.{program_of, refusals_of, sites_of, state_of};
+ghost use Rattle.sap_sem.specs.Machine.{program_of, refusals_of, site_count_of, state_of};
 ghost use Rattle.sap_gen.specs.Running.{last_store};
 ghost use Rattle.sap_gen.specs.Stream.{generated_stream, given};
 ghost use Rattle.sap_gen.specs.Text.{refusal_count};
@@ -14,7 +14,7 @@ use std::alloc::{AllocError, Global};
 
 /// How many check sites the last cycle refused.
 fn refused_count(machine: &Machine, sites: u32) -> u64
-    requires { sites ≡ sites_of machine.now }
+    requires { sites ≡ site_count_of machine.now }
     ensures count { result ≡ length (refusals_of machine.now) }
     ensures few { result ≤ sites }
 {
@@ -36,7 +36,7 @@ pub(crate) fn run(
 ) -> Result<u64, AllocError>
     requires within { n ≤ 1000 }
     requires fit { (c : ℕ) → InputsFit (program_of machine.old).world (given n c ∷ []) }
-    requires sites { sites ≡ sites_of machine.old }
+    requires sites { sites ≡ site_count_of machine.old }
     ensures program { program_of machine.new ≡ program_of machine.old }
     ensures refusals { IfOk result (λ k. k ≡ refusal_count (run_from (program_of machine.old) (state_of machine.old) (generated_stream n))) }
     ensures state { OnOk result (state_of machine.new ≡ last_store (state_of machine.old) (run_from (program_of machine.old) (state_of machine.old) (generated_stream n))) }

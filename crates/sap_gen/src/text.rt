@@ -7,10 +7,10 @@ ghost use Rattle.sap_check.specs.Sites as check;
 ghost use Rattle.sap_interface.specs.Designs.{named_of};
 ghost use Rattle.sap_lattice.specs.Built.{IsLatticeOf};
 ghost use Rattle.sap_meaning.specs.State.{InputsFit, first};
-ghost use Rattle.sap_resolve.specs.Fill as resolve;
-ghost use Rattle.sap_sem.specs.Machine.{program_of, sites_of, state_of};
+ghost use Rattle.sap_resolved.specs.Fill as resolve;
+ghost use Rattle.sap_sem.specs.Machine.{program_of, site_count_of, state_of};
 ghost use Rattle.sap_sim.specs.Labelled.LabelledRows.{labelled_row};
-ghost use Rattle.sap_gen.specs.Diamond.{level_names, level_pairs};
+ghost use Rattle.sap_lattice.specs.Diamond.{level_names, level_pairs};
 ghost use Rattle.sap_gen.specs.Design.{design_of_counts, register_count, state_count};
 ghost use Rattle.sap_gen.specs.Stream.{cycle_count, given};
 ghost use Rattle.sap_gen.specs.Text.{generated_text, summary};
@@ -69,7 +69,7 @@ fn checked_design(alloc: Global, size: Size) -> Result<Checked, AllocError>
 /// A machine before the first cycle.
 fn machine_of(alloc: Global, checked: &Checked) -> Result<Machine, AllocError>
     ensures program { IfOk result (λ m. program_of m ≡ resolve.program_of (levels_in checked.now) (tree_in checked.now)) }
-    ensures sites { IfOk result (λ m. sites_of m ≡ length (check.sites_of (tree_in checked.now))) }
+    ensures sites { IfOk result (λ m. site_count_of m ≡ length (check.sites_of (tree_in checked.now))) }
     ensures state { IfOk result (λ m. state_of m ≡ first (program_of m).world) }
 {
     let table = hang(alloc, checked.design(), checked.names())?;
@@ -93,7 +93,7 @@ fn text_of(
 {
     let mut out = Vec::new(alloc);
     push_summary(&mut out, n, size, refusals)?;
-    push_row(&mut out, checked, machine, 4 * n)?;
+    push_row(&mut out, alloc, checked, machine, 4 * n)?;
     Ok(out)
 }
 

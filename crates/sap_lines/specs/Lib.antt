@@ -3,8 +3,3 @@ pub mod Reader
 pub mod Answers
 pub mod Follows
 pub mod Stepping
-pub use Rattle.sap_desk.specs.Cause
-pub use Rattle.sap_desk.specs.Desk
-pub use Rattle.sap_desk.specs.Whole
-pub use Rattle.sap_stim.specs.Line
-pub use Rattle.sap_stream.specs.Spans

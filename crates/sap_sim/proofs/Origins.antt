@@ -13,8 +13,7 @@ use Rattle.sap_meaning.specs.Cycle.{Tagged as Given}
 use Rattle.sap_net.specs.declared.parts.Input.{Input}
 use Rattle.sap_net.specs.Names.{is_among}
 use Rattle.sap_sim.specs.declared.sources.Source.{Source}
-use Rattle.sap_sim.specs.Ports.{tag_of, passes}
-use Rattle.sap_interface.specs.PortNames.{value_name}
+use Rattle.sap_net.specs.PortNames.{tag_of, passes, value_name}
 use Rattle.sap_sim.specs.Fields.{tag_width, input_widths, is_tag, with_field}
 use Rattle.sap_sim.specs.Numbers.{place, field_names, value_for, number_for}
 use Rattle.sap_sim.specs.Layout.{source_of, source_place, number_from}

@@ -1,6 +1,6 @@
 -- The registers of a netlist, and those that rows show.
 use Rattle.std.proofs.Common.{Bool, ◌≡◌, ℕ, zero, suc, ◌+◌, ◌<◌, List, [], ◌∷◌, ◌++◌, true, false, cond, ◌&&◌, Option, Some, None, length, get_or, take, map, sym, ap, ◌∙◌, subst, refl, arith, bytes_eq, inl, inr}
-use Rattle.std.specs.Prelude.{◌==◌}
+use Rattle.std.specs.Prelude.{◌==◌, unwrap_or, if◌then◌else◌}
 use Rattle.std.specs.List.{All, AllByRecursion, list_all}
 use Rattle.std.specs.Str.{IsUtf8}
 use Rattle.std.proofs.lemmas.Bool.{cases_Bool, false≢true}
@@ -8,7 +8,7 @@ use Rattle.std.proofs.lemmas.Bool.Decides.{Decides-eqb}
 use Rattle.std.proofs.lemmas.Option.{same_Some}
 use Rattle.sap_lemmas.proofs.Bools.{and_left, and_right}
 use Rattle.sap_lemmas.proofs.Everywhere.{all_filter, all_of_map, map_of_all}
-use Rattle.sap_lemmas.proofs.Texts.{equal_of_bytes_eq}
+use Rattle.sap_lemmas.proofs.Texts.{bytes_eq_apart_back, bytes_eq_same, equal_of_bytes_eq}
 use Rattle.std.proofs.lemmas.List.{append-nil}
 use Rattle.sap_text.proofs.NamesLemmas.{inner_text, word_inner}
 use Rattle.sap_net.proofs.NamesLemmas.{among_behind, among_front, among_here}
@@ -20,12 +20,12 @@ use Rattle.sap_net.specs.declared.parts.PortKind.TheVariants as kind
 use Rattle.sap_net.specs.declared.parts.Register.{Register}
 use Rattle.sap_net.specs.Net.{Net}
 use Rattle.sap_net.specs.Names.{is_among, is_name, is_word, is_initial, is_inner}
-use Rattle.sap_net.specs.IsNetlist.{IsNetlist, readable, register_names, input_names, wire_names, memory_names, PortShows}
-use Rattle.sap_cycle.proofs.Distinct.{registers_readable}
+use Rattle.sap_net.specs.IsNetlist.{IsNetlist, readable, width_of, register_names, input_names, wire_names, memory_names, PortShows}
+use Rattle.sap_cycle.proofs.Distinct.{registers_found, registers_readable}
 use Rattle.sap_cycle.proofs.Learned.{all_get_or}
-use Rattle.sap_sim.specs.Ports.{value_of, behind}
-use Rattle.sap_interface.specs.PortNames.{value_name, tag_name}
-use Rattle.sap_sim.specs.Shown.{is_register, register_ports, has_tag, shown_by, shown_among}
+use Rattle.sap_net.specs.PortNames.{value_of, is_number, behind, value_name, tag_name}
+use Rattle.sap_net.specs.Shown.{is_register, register_ports, port_widths, has_tag, shown_by, shown_among}
+use Rattle.sap_sim.specs.Shown.{register_widths}
 use Rattle.sap_sim.proofs.Lists.{taken}
 
 -- what holds of each name of a list holds of one that is among them
@@ -104,15 +104,15 @@ append_three : (xs ys zs : List Name) → xs ++ (ys ++ zs) ≡ (xs ++ ys) ++ zs
 append_three [] ys zs = refl
 append_three (x ∷ xs) ys zs = ap (λ ws. x ∷ ws) (append_three xs ys zs)
 
-shown_push : (tag : ℕ) (n : Net) (ps : List Name) (p : Name) → shown_among tag n (ps ++ p ∷ []) ≡ shown_among tag n ps ++ shown_by tag n (value_of p)
-shown_push tag n [] p = append-nil (shown_by tag n (value_of p))
-shown_push tag n (q ∷ ps) p =
-    ap (λ (ys : List Name). shown_by tag n (value_of q) ++ ys) (shown_push tag n ps p)
-    ∙ append_three (shown_by tag n (value_of q)) (shown_among tag n ps) (shown_by tag n (value_of p))
+shown_push : (tag : ℕ) (widths : Scope) (ps : List Name) (p : Name) → shown_among tag widths (ps ++ p ∷ []) ≡ shown_among tag widths ps ++ shown_by tag widths (value_of p)
+shown_push tag widths [] p = append-nil (shown_by tag widths (value_of p))
+shown_push tag widths (q ∷ ps) p =
+    ap (λ (ys : List Name). shown_by tag widths (value_of q) ++ ys) (shown_push tag widths ps p)
+    ∙ append_three (shown_by tag widths (value_of q)) (shown_among tag widths ps) (shown_by tag widths (value_of p))
 
-pub shown_more : (tag : ℕ) (n : Net) (ps : List Name) (k : ℕ) (p : Name) → k < length ps → p ≡ get_or ps k p
-    → shown_among tag n (take (k + 1) ps) ≡ shown_among tag n (take k ps) ++ shown_by tag n (value_of p)
-shown_more tag n ps k p h e = ap (shown_among tag n) (taken ps k p h e) ∙ shown_push tag n (take k ps) p
+pub shown_more : (tag : ℕ) (widths : Scope) (ps : List Name) (k : ℕ) (p : Name) → k < length ps → p ≡ get_or ps k p
+    → shown_among tag widths (take (k + 1) ps) ≡ shown_among tag widths (take k ps) ++ shown_by tag widths (value_of p)
+shown_more tag widths ps k p h e = ap (shown_among tag widths) (taken ps k p h e) ∙ shown_push tag widths (take k ps) p
 
 of_kind : (n : Net) (p : Port) (ps : List Port) → AllByRecursion (λ (x : Name). is_among x (register_names n) ≡ true) (register_ports ps) → (k : PortKind) → p.kind ≡ k → PortShows n p.kind p.name
     → AllByRecursion (λ (x : Name). is_among x (register_names n) ≡ true) (register_ports (p ∷ ps))
@@ -126,6 +126,47 @@ port_is_register n (p ∷ ps) h = of_kind n p ps (port_is_register n ps h.1) p.k
 
 pub register_port_is : (n : Net) → IsNetlist n → (x : Name) → is_among x (register_ports n.ports) ≡ true → is_among x (register_names n) ≡ true
 register_port_is n net x h = among_all (λ (y : Name). is_among y (register_names n) ≡ true) (register_ports n.ports) x (port_is_register n n.ports net.ports_show) h
+
+-- the ports' widths
+
+find_port : (f : Name → ℕ) (ps : List Name) (x : Name) → find (map (λ p. (p, f p)) ps) x ≡ (if is_among x ps then Some (f x) else None)
+find_port f [] x = refl
+find_port f (p ∷ ps) x = elim (cases_Bool (bytes_eq x p)) [
+  | inl t ↦ subst (λ (y : Name). find (map (λ p. (p, f p)) (y ∷ ps)) x ≡ (if is_among x (y ∷ ps) then Some (f x) else None)) (equal_of_bytes_eq x p t) (rw (bytes_eq_same x) refl)
+  | inr g ↦ (let o : bytes_eq p x ≡ false = bytes_eq_apart_back x p g in rw (g, o) (find_port f ps x))
+]
+
+-- in both its width
+abbrev IsWide : Net → Name → Type 0
+IsWide n x = (u : ℕ) × (find (register_widths n.registers) x ≡ Some u) × (find (readable n) x ≡ Some u)
+
+all_wide : (n : Net) (rs : List Register) → AllByRecursion (λ r. find (register_widths n.registers) r.name ≡ Some r.width) rs → AllByRecursion (λ r. find (readable n) r.name ≡ Some r.width) rs
+    → AllByRecursion (λ r. IsWide n r.name) rs
+all_wide n [] h k = tt
+all_wide n (r ∷ rs) h k = ((r.width, h.0, k.0), all_wide n rs h.1 k.1)
+
+register_wide : (n : Net) → IsNetlist n → (x : Name) → is_among x (register_names n) ≡ true → IsWide n x
+register_wide n net x h =
+    among_all (IsWide n) (register_names n) x
+    (all_names (λ (r : Register). r.name) (IsWide n) n.registers (all_wide n n.registers (registers_found n net (λ r. r.width)) (registers_readable n net))) h
+
+-- a port of a width is a port that is a register of it
+pub port_wide : (tag : ℕ) (n : Net) → IsNetlist n → (x : Name)
+    → is_number tag (find (port_widths n) x) ≡ (is_among x (register_ports n.ports) && is_number tag (find (register_widths n.registers) x))
+port_wide tag n net x = ap (is_number tag) (find_port (width_of n) (register_ports n.ports) x) ∙ by_port (is_among x (register_ports n.ports)) refl
+  where
+    by_port : (b : Bool) → is_among x (register_ports n.ports) ≡ b → is_number tag (if b then Some (width_of n x) else None) ≡ (b && is_number tag (find (register_widths n.registers) x))
+    by_port false e = refl
+    by_port true e =
+        let w = register_wide n net x (register_port_is n net x e) in
+        ap (λ (o : Option ℕ). is_number tag (Some (unwrap_or o 0))) w.2 ∙ sym (ap (is_number tag) w.1)
+
+wide_port : (tag : ℕ) (n : Net) (x : Name) → is_number tag (find (port_widths n) x) ≡ true → is_among x (register_ports n.ports) ≡ true
+wide_port tag n x h = by_port (is_among x (register_ports n.ports)) refl (sym (ap (is_number tag) (find_port (width_of n) (register_ports n.ports) x)) ∙ h)
+  where
+    by_port : (b : Bool) → is_among x (register_ports n.ports) ≡ b → is_number tag (if b then Some (width_of n x) else None) ≡ true → is_among x (register_ports n.ports) ≡ true
+    by_port true e i = e
+    by_port false e i = absurd (false≢true i)
 
 -- a name is the letter, `_` and what is behind them
 pub behind_is : (letter : ℕ) (p x : Name) → behind letter p ≡ Some x → p ≡ letter ∷ (95 ∷ x)
@@ -154,24 +195,24 @@ all_join P (x ∷ xs) ys h k = (h.0, all_join P xs ys h.1 k)
 among_rest : (x p : Name) (ps : List Name) → is_among x ps ≡ true → is_among x (p ∷ ps) ≡ true
 among_rest x p ps h = elim (cases_Bool (bytes_eq x p)) [ inl t ↦ rw t refl | inr f ↦ rw f h ]
 
-shown_here : (tag : ℕ) (n : Net) (p : Name) (ps : List Name) (o : Option Name) → value_of p ≡ o → AllByRecursion (IsShown (p ∷ ps) (register_ports n.ports)) (shown_by tag n o)
+shown_here : (tag : ℕ) (n : Net) (p : Name) (ps : List Name) (o : Option Name) → value_of p ≡ o → AllByRecursion (IsShown (p ∷ ps) (register_ports n.ports)) (shown_by tag (port_widths n) o)
 shown_here tag n p ps None e = tt
 shown_here tag n p ps (Some x) e =
-    elim (cases_Bool (has_tag tag n x)) as (λ v. AllByRecursion (IsShown (p ∷ ps) (register_ports n.ports)) (shown_by tag n (Some x))) [
+    elim (cases_Bool (has_tag tag (port_widths n) x)) as (λ v. AllByRecursion (IsShown (p ∷ ps) (register_ports n.ports)) (shown_by tag (port_widths n) (Some x))) [
       | inl t ↦ (
           let i : is_among (value_name x) (p ∷ ps) ≡ true = subst (λ (y : Name). is_among y (p ∷ ps) ≡ true) (behind_is 118 p x e) (among_here p ps) in
-          let j : is_among (tag_name x) (register_ports n.ports) ≡ true = and_left (is_among (tag_name x) (register_ports n.ports)) _ t in
+          let j : is_among (tag_name x) (register_ports n.ports) ≡ true = wide_port tag n (tag_name x) t in
           rw t ((i, j), tt)
           )
       | inr f ↦ rw f tt
     ]
 
-pub all_shown : (tag : ℕ) (n : Net) (ps : List Name) → AllByRecursion (IsShown ps (register_ports n.ports)) (shown_among tag n ps)
+pub all_shown : (tag : ℕ) (n : Net) (ps : List Name) → AllByRecursion (IsShown ps (register_ports n.ports)) (shown_among tag (port_widths n) ps)
 all_shown tag n [] = tt
 all_shown tag n (p ∷ ps) =
-    all_join (IsShown (p ∷ ps) (register_ports n.ports)) (shown_by tag n (value_of p)) (shown_among tag n ps)
+    all_join (IsShown (p ∷ ps) (register_ports n.ports)) (shown_by tag (port_widths n) (value_of p)) (shown_among tag (port_widths n) ps)
     (shown_here tag n p ps (value_of p) refl)
-    (weaker (IsShown ps (register_ports n.ports)) (IsShown (p ∷ ps) (register_ports n.ports)) (λ x h. (among_rest (value_name x) p ps h.0, h.1)) (shown_among tag n ps) (all_shown tag n ps))
+    (weaker (IsShown ps (register_ports n.ports)) (IsShown (p ∷ ps) (register_ports n.ports)) (λ x h. (among_rest (value_name x) p ps h.0, h.1)) (shown_among tag (port_widths n) ps) (all_shown tag n ps))
 
 -- the facts of a list by places
 pub each : {A : Type 0} (P : A → Type 0) (list : List A) → AllByRecursion P list → (k : ℕ) (d : A) → k < length list → P (get_or list k d)
@@ -179,7 +220,7 @@ each {A} P [] h k d l = absurd (omega arith)
 each {A} P (a ∷ list) h zero d l = h.0
 each {A} P (a ∷ list) h (suc k) d l = each P list h.1 k d (omega arith)
 
-pub values_are : (tag : ℕ) (n : Net) → IsNetlist n → (xs : List Name) → xs ≡ shown_among tag n (register_ports n.ports)
+pub values_are : (tag : ℕ) (n : Net) → IsNetlist n → (xs : List Name) → xs ≡ shown_among tag (port_widths n) (register_ports n.ports)
     → (k : ℕ) (d : Name) → k < length xs → is_among (118 ∷ (95 ∷ get_or xs k d)) (register_names n) ≡ true
 values_are tag n net xs e k d l =
     each (λ (x : Name). is_among (118 ∷ (95 ∷ x)) (register_names n) ≡ true) xs
@@ -188,7 +229,7 @@ values_are tag n net xs e k d l =
     (all_shown tag n (register_ports n.ports))))
     k d l
 
-pub tags_are : (tag : ℕ) (n : Net) → IsNetlist n → (xs : List Name) → xs ≡ shown_among tag n (register_ports n.ports)
+pub tags_are : (tag : ℕ) (n : Net) → IsNetlist n → (xs : List Name) → xs ≡ shown_among tag (port_widths n) (register_ports n.ports)
     → (k : ℕ) (d : Name) → k < length xs → is_among (116 ∷ (95 ∷ get_or xs k d)) (register_names n) ≡ true
 tags_are tag n net xs e k d l =
     each (λ (x : Name). is_among (116 ∷ (95 ∷ x)) (register_names n) ≡ true) xs

@@ -8,7 +8,7 @@ use Rattle.sap_net.specs.Net.{Net}
 use Rattle.sap_net.specs.Runs.{observed}
 use Rattle.sap_lattice.specs.Levels.{Levels}
 use Rattle.sap_stim.specs.Rows.{row_text, shown_of}
-use Rattle.sap_interface.specs.PortNames.{value_name, tag_name}
+use Rattle.sap_net.specs.PortNames.{value_name, tag_name}
 use Rattle.sap_sim.specs.Shown.{row_of}
 use Rattle.sap_cycle.specs.Running.{value_names, IsPlaceOf}
 use Rattle.sap_sim.specs.Layout.{ArePlaces, seen_at}

@@ -28,7 +28,7 @@ use Rattle.sap_sim.proofs.Fits.{line_fits, stream_fits}
 use Rattle.sap_sim.proofs.Origins.{numbers_are, sources_within}
 use Rattle.sap_sim.proofs.Stepped.{line_split, told_begins, told_goes_on, told_part, cycle_shown, after_line}
 use Rattle.sap_sim.proofs.Seen.{places_count, row_is, seen_values}
-use Rattle.sap_interface.specs.PortNames.{tag_name, value_name}
+use Rattle.sap_net.specs.PortNames.{tag_name, value_name}
 
 module _ (ls : Levels) (n : Net) where
   abbrev row : ℕ → Valuation → List ℕ

@@ -9,8 +9,7 @@ use Rattle.sap_net.specs.declared.parts.Input.{Input}
 use Rattle.sap_net.specs.Net.{Net}
 use Rattle.sap_stim.specs.declared.field.Field.{Field}
 use Rattle.sap_stim.specs.declared.field.Field.TheVariants.{Tagged, Plain}
-use Rattle.sap_sim.specs.Ports.{value_of, tag_of, passes, is_number}
-use Rattle.sap_interface.specs.PortNames.{value_name, tag_name}
+use Rattle.sap_net.specs.PortNames.{value_of, tag_of, passes, is_number, value_name, tag_name}
 
 -- the width of tags
 abbrev pub tag_width : Levels → ℕ

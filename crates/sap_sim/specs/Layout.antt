@@ -10,7 +10,7 @@ use Rattle.sap_cycle.specs.Running.{value_names}
 use Rattle.sap_sim.specs.declared.sources.Source.{Source}
 use Rattle.sap_sim.specs.declared.sources.Source.TheVariants.{Value, Code}
 use Rattle.sap_sim.specs.declared.steps.Plan.{Plan}
-use Rattle.sap_interface.specs.PortNames.{value_name, tag_name}
+use Rattle.sap_net.specs.PortNames.{value_name, tag_name}
 use Rattle.sap_sim.specs.Fields.{tag_width, is_tag}
 use Rattle.sap_sim.specs.Shown.{shown_registers}
 use Rattle.sap_sim.specs.Numbers.{place, field_names, nothing, value_for}

@@ -1,4 +1,6 @@
-//! The rows of the labelled run of a design.
+//! The rows of the labelled run of a design, and what a stimulus is to it.
+
+pub mod stimulus;
 
 ghost use Rattle.std.specs.Prelude.{◌≡◌};
 ghost use Rattle.sap_tree.specs.Designs.{design_of};
@@ -18,7 +20,7 @@ use sap_tree::whole::design_is_whole;
 pub fn rows_of_run(lattice: &Lattice, design: &Design, netlist: &Netlist)
     requires stands { StandsForDesign lattice.now (design_of design.now) netlist.now }
     ensures runs { GivesRuns lattice.now (design_of design.now) netlist.now }
-    ensures fields { fields_of lattice.now netlist.now ≡ design_fields lattice.now (design_of design.now) }
+    ensures fields { fields_of lattice.now netlist.now ≡ design_fields (design_of design.now) }
 {
     design_is_whole(design);
     netlist.rules();

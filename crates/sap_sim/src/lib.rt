@@ -1,7 +1,7 @@
 //! The rows of a netlist on a stimulus.
 //!
 //! `Simulation` reads each line by the netlist's inputs, steps the netlist on it, and appends the registers after the step.
-//! `rows_of_run` says of which design the rows are.
+//! `rows_of_run` says of which design the rows are, `read_stimulus` what a stimulus is to a design.
 #![tactic(auto)]
 
 mod feed;
@@ -18,6 +18,7 @@ mod steps;
 ghost use Rattle.sap_sim.specs.Examples as examples;
 
 pub use labelled::rows_of_run;
+pub use labelled::stimulus::{design_fields, read_stimulus};
 pub use simulation::Simulation;
 
 /// The fields of a small netlist, the numbers that a line gives its inputs, and the registers that its

@@ -2,7 +2,7 @@
 
 ghost use Rattle.std.specs.Prelude.{◌≡◌, ◌++◌, [], ◌∷◌, IfOk};
 ghost use Rattle.std.specs.Option.{option_copied};
-ghost use Rattle.sap_sim.specs.Ports.{behind};
+ghost use Rattle.sap_net.specs.PortNames.{behind};
 
 use std::alloc::{AllocError, Global};
 

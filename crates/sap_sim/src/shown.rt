@@ -4,12 +4,12 @@ ghost use Rattle.std.specs.Prelude.{◌≡◌, true, ◌∷◌, ◌++◌, List, 
 ghost use Rattle.sap_maps.specs.Maps.{Name as Text};
 ghost use Rattle.sap_maps.specs.Scope.{Scope, find};
 ghost use Rattle.sap_net.specs.Names.{is_among, is_name};
-ghost use Rattle.sap_net.specs.IsNetlist.{register_names};
+ghost use Rattle.sap_net.specs.IsNetlist.{IsNetlist, register_names};
 ghost use Rattle.sap_net.specs.Net.{Net};
 ghost use Rattle.sap_cycle.specs.Running.{IsPlaceOf};
-ghost use Rattle.sap_sim.specs.Ports.{value_of, is_number};
-ghost use Rattle.sap_interface.specs.PortNames.{value_name, tag_name};
-ghost use Rattle.sap_sim.specs.Shown.{register_ports, register_widths, has_tag, shown_by, shown_among};
+ghost use Rattle.sap_net.specs.PortNames.{value_of, is_number, value_name, tag_name};
+ghost use Rattle.sap_net.specs.Shown.{register_ports, port_widths, has_tag, shown_by, shown_among};
+ghost use Rattle.sap_sim.specs.Shown.{register_widths};
 ghost use Rattle.sap_sim.specs.Lookup.{Finds};
 ghost use Rattle.sap_net.specs.NameMaps.{Indexes};
 ghost use Rattle.sap_sim.specs.Layout.{ArePlaces};
@@ -50,8 +50,8 @@ fn has_tag(
     tag: u32,
     x: &[u8],
 ) -> Result<bool, AllocError>
-    ensures { IfOk result (λ has. (n : Net) → Indexes ports.now (register_ports n.ports) → Finds widths.now (register_widths n.registers)
-        → has ≡ has_tag tag n x.now) }
+    ensures { IfOk result (λ has. (n : Net) → IsNetlist n → Indexes ports.now (register_ports n.ports) → Finds widths.now (register_widths n.registers)
+        → has ≡ has_tag tag (port_widths n) x.now) }
 {
     let name = joined(alloc, b't', x)?;
     let is_port = is_indexed(ports, &name);
@@ -69,8 +69,8 @@ fn push_shown(
     name: &Name,
 ) -> Result<(), AllocError>
     requires { is_name name.now ≡ true }
-    ensures { OnOk result ((n : Net) → Indexes ports.now (register_ports n.ports) → Finds widths.now (register_widths n.registers)
-        → xs.new.items ≡ xs.old.items ++ shown_by tag n (value_of name.now)) }
+    ensures { OnOk result ((n : Net) → IsNetlist n → Indexes ports.now (register_ports n.ports) → Finds widths.now (register_widths n.registers)
+        → xs.new.items ≡ xs.old.items ++ shown_by tag (port_widths n) (value_of name.now)) }
 {
     let Some(x) = behind(b'v', name.as_bytes()) else {
         return Ok(());
@@ -92,8 +92,8 @@ fn shown_among(
     names: &[Name],
 ) -> Result<Vec<Name>, AllocError>
     requires { All (λ x. is_name x ≡ true) names.now }
-    ensures { IfOk result (λ xs. (n : Net) → Indexes ports.now (register_ports n.ports) → Finds widths.now (register_widths n.registers)
-        → xs.items ≡ shown_among tag n names.now) }
+    ensures { IfOk result (λ xs. (n : Net) → IsNetlist n → Indexes ports.now (register_ports n.ports) → Finds widths.now (register_widths n.registers)
+        → xs.items ≡ shown_among tag (port_widths n) names.now) }
 {
     let mut xs = Vec::new(alloc);
     for name in names {
@@ -143,7 +143,7 @@ fn shown_labels(
     registers: &[Name],
 ) -> Result<Vec<Name>, AllocError>
     requires { registers.now ≡ register_ports netlist.now.ports }
-    ensures { IfOk result (λ xs. xs.items ≡ shown_among tag netlist.now (register_ports netlist.now.ports)) }
+    ensures { IfOk result (λ xs. xs.items ≡ shown_among tag (port_widths netlist.now) (register_ports netlist.now.ports)) }
 {
     netlist.rules();
     let ports = index_names(alloc, registers)?;
@@ -153,7 +153,7 @@ fn shown_labels(
 
 // The names of the registers that rows show.
 fn labels(alloc: Global, netlist: &Netlist, tag: u32) -> Result<Vec<Name>, AllocError>
-    ensures { IfOk result (λ xs. xs.items ≡ shown_among tag netlist.now (register_ports netlist.now.ports)) }
+    ensures { IfOk result (λ xs. xs.items ≡ shown_among tag (port_widths netlist.now) (register_ports netlist.now.ports)) }
 {
     let registers = register_ports(alloc, netlist.ports())?;
     shown_labels(alloc, netlist, tag, &registers)
@@ -168,7 +168,7 @@ pub struct Shown {
 }
 
 pub fn shown_of(alloc: Global, runner: &Runner, tag: u32) -> Result<Shown, AllocError>
-    ensures names { IfOk result (λ s. s.names.items ≡ shown_among tag runner.now.net (register_ports runner.now.net.ports)) }
+    ensures names { IfOk result (λ s. s.names.items ≡ shown_among tag (port_widths runner.now.net) (register_ports runner.now.net.ports)) }
     ensures values { IfOk result (λ s. ArePlaces runner.now.net (map value_name s.names.items) s.values.items) }
     ensures tags { IfOk result (λ s. ArePlaces runner.now.net (map tag_name s.names.items) s.tags.items) }
 {

@@ -7,7 +7,8 @@ use Rattle.sap_lattice.specs.Levels.{Levels}
 use Rattle.sap_meaning.specs.Cycle.{Tagged as Given}
 use Rattle.sap_stim.specs.declared.fault.StimCode.{StimCode}
 use Rattle.sap_stim.specs.declared.field.Field.{Field}
-use Rattle.sap_stim.specs.Line.{split_at, fields_of, and_then, field_of, inputs_of}
+use Rattle.sap_text.specs.Lines.{split_at}
+use Rattle.sap_stim.specs.Line.{fields_of, and_then, field_of, inputs_of}
 use Rattle.sap_stim.proofs.Pieces.{is_mark, split_marked, split_unmarked, before_unmarked}
 use Rattle.sap_stim.proofs.LastPiece.{fields_front}
 use Rattle.std.proofs.lemmas.Bool.{cases_lt}

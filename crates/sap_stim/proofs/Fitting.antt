@@ -14,7 +14,8 @@ use Rattle.sap_stim.specs.declared.fault.StimCode.TheVariants.{S1, S2, S4, S5, S
 use Rattle.sap_stim.specs.declared.field.Field.{Field}
 use Rattle.sap_stim.specs.declared.field.Field.TheVariants.{Tagged, Plain}
 use Rattle.sap_stim.specs.declared.stimulus.Parsed.{Parsed}
-use Rattle.sap_stim.specs.Line.{split_at, pieces_of, fields_of, count_in, and_then, is_value, value_of, level_named, with_level, tagged_of, plain_of, field_of, inputs_of, is_count, count_of, line_of}
+use Rattle.sap_text.specs.Lines.{split_at}
+use Rattle.sap_stim.specs.Line.{pieces_of, fields_of, count_in, and_then, is_value, value_of, level_named, with_level, tagged_of, plain_of, field_of, inputs_of, is_count, count_of, line_of}
 use Rattle.sap_stim.specs.Stimulus.{is_empty, finished, going_on, read_pieces}
 use Rattle.sap_stim.specs.Fits.{InputFits, LineFits, StreamFits, StimulusFits}
 

@@ -5,7 +5,8 @@ use Rattle.std.specs.List.{position_or_len, onto_first}
 use Rattle.std.proofs.lemmas.List.{take-append-drop, length-drop}
 use Rattle.std.proofs.lemmas.List.Sums.{sum_by-append}
 use borrow.Author.Tests.{eq-eqb}
-use Rattle.sap_stim.specs.Line.{split_at, pieces_of, is_starred, fields_in, fields_of, count_in}
+use Rattle.sap_text.specs.Lines.{split_at}
+use Rattle.sap_stim.specs.Line.{pieces_of, is_starred, fields_in, fields_of, count_in}
 use Rattle.sap_stim.proofs.Pieces.{is_mark, split_unmarked, split_count}
 
 -- no byte is the mark

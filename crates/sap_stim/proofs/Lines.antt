@@ -11,7 +11,8 @@ use Rattle.sap_stim.specs.declared.fault.StimCode.{StimCode}
 use Rattle.sap_stim.specs.declared.fault.StimFault.{StimFault}
 use Rattle.sap_stim.specs.declared.field.Field.{Field}
 use Rattle.sap_stim.specs.declared.stimulus.Parsed.{Parsed}
-use Rattle.sap_stim.specs.Line.{split_at, line_of}
+use Rattle.sap_text.specs.Lines.{split_at}
+use Rattle.sap_stim.specs.Line.{line_of}
 use Rattle.sap_stim.specs.Stimulus.{finished, going_on, read_pieces, read_from, behind}
 use Rattle.sap_stim.proofs.Fitting.{line_counts}
 use Rattle.sap_stim.proofs.Pieces.{is_mark, split_marked, split_unmarked, before_unmarked, after_unmarked, length_before, split_count}

@@ -6,7 +6,7 @@ use Rattle.std.proofs.lemmas.List.{take_all, length-take-le, length-drop, drop_a
 use Rattle.std.proofs.lemmas.Bool.Decides.{nat_tests}
 use Rattle.std.proofs.lemmas.List.Sums.{sum_by-cons}
 use Rattle.sap_lemmas.proofs.Lists.{take_more}
-use Rattle.sap_stim.specs.Line.{split_at}
+use Rattle.sap_text.specs.Lines.{split_at}
 
 -- whether a byte is the mark
 abbrev pub is_mark : ℕ → ℕ → Bool

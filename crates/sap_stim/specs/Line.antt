@@ -1,9 +1,10 @@
 -- What a line of a stimulus file gives, or the code that stands in it.
 use Rattle.std.specs.Prelude.{ℕ, List, [], ◌∷◌, drop, length, Option, Some, None, Result, Ok, Err, Bool, false, not, nat_lt, nat_le, ◌==◌, ◌&&◌, ◌^◌, ◌≤◌, position, if◌then◌else◌}
 use Rattle.std.specs.Char.{is_ascii_digit}
-use Rattle.std.specs.List.{list_all, before_first, after_first, slice_split}
+use Rattle.std.specs.List.{list_all, before_first, after_first}
 use Rattle.std.specs.Str.{byte, bytes_eq}
 use Rattle.std.specs.Str.Parse.{digits_value}
+use Rattle.sap_text.specs.Lines.{split_at}
 use Rattle.sap_lattice.specs.Levels.{Levels, order_of}
 use Rattle.sap_meaning.specs.Cycle.{Tagged as Given}
 use Rattle.sap_stream.specs.Spans.{Span}
@@ -19,10 +20,6 @@ field_width (Plain width) = width
 
 abbrev pub IsSized : Field → Type 0
 IsSized f = (1 ≤ field_width f) × (field_width f ≤ 64)
-
--- the pieces of a text between the bytes of this value: one more than there are such bytes
-abbrev pub split_at : ℕ → List ℕ → List (List ℕ)
-split_at mark text = slice_split (λ b. b == mark) text
 
 -- the pieces of a line: split at each space, an empty line has none
 abbrev pub pieces_of : List ℕ → List (List ℕ)

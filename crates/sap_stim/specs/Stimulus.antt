@@ -6,7 +6,8 @@ use Rattle.sap_stream.specs.Spans.{Span, cycles_in}
 use Rattle.sap_stim.specs.declared.fault.StimCode.{StimCode}
 use Rattle.sap_stim.specs.declared.field.Field.{Field}
 use Rattle.sap_stim.specs.declared.stimulus.Parsed.{Parsed}
-use Rattle.sap_stim.specs.Line.{split_at, line_of}
+use Rattle.sap_text.specs.Lines.{split_at}
+use Rattle.sap_stim.specs.Line.{line_of}
 
 abbrev pub is_empty : List ℕ → Bool
 is_empty [] = true

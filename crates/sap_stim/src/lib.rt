@@ -11,7 +11,7 @@ mod line;
 mod room;
 pub mod rows;
 pub mod stimulus;
-pub mod text;
+mod text;
 mod value;
 
 ghost use Rattle.sap_stim.specs.Fits.{StimulusFits};
@@ -23,6 +23,7 @@ pub use line::read_line_into;
 pub use room::{longest_level, row_room};
 pub use rows::{push_row, row, row_into};
 pub use stimulus::{Parsed, parse_stream};
+pub use text::cut;
 
 /// The largest number of bytes in a line, without its LF.
 pub const MOST_LINE_BYTES: usize = 65_536;

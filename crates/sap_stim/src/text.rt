@@ -2,7 +2,8 @@
 
 ghost use Rattle.std.specs.Prelude.{◌≡◌, ◌==◌, ◌≤◌, ◌-◌, ℕ, List, [], ◌∷◌, ◌++◌, length, take, position, count_by};
 ghost use Rattle.std.specs.List.{before_first, after_first};
-ghost use Rattle.sap_stim.specs.Line.{fields_of, is_starred, split_at};
+ghost use Rattle.sap_text.specs.Lines.{split_at};
+ghost use Rattle.sap_stim.specs.Line.{fields_of, is_starred};
 ghost use Rattle.sap_stim.specs.declared.TheConstants.{MOST_LINE_BYTES};
 
 fn find(text: &[u8], mark: u8) -> Option<usize>
@@ -29,7 +30,7 @@ fn count_spaces(line: &[u8]) -> usize
 }
 
 /// What stands behind the last space of a line, or all where there is none: its last piece.
-pub fn last_piece(line: &[u8]) -> &[u8]
+pub(crate) fn last_piece(line: &[u8]) -> &[u8]
     ensures last { (others : List (List ℕ)) × (split_at 32 line.now ≡ others ++ result.now ∷ []) }
     ensures within { length result.now ≤ length line.now }
     ensures spaces { count_by (λ b. b == 32) (take (length line.now - length result.now) line.now) ≡ count_by (λ b. b == 32) line.now }
@@ -42,7 +43,7 @@ pub fn last_piece(line: &[u8]) -> &[u8]
 }
 
 /// Whether a piece begins with `*`.
-pub fn is_starred(piece: &[u8]) -> bool
+pub(crate) fn is_starred(piece: &[u8]) -> bool
     ensures { result ≡ is_starred piece.now }
 {
     !piece.is_empty() && piece[0] == b'*'

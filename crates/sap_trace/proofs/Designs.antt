@@ -4,7 +4,7 @@ use Rattle.sap_tree.specs.Syntax.{DesignTree}
 use Rattle.sap_lattice.specs.Levels.{Levels, order_of}
 use Rattle.sap_lattice.specs.Order.{Laws}
 use Rattle.sap_lattice.specs.Codes.{Codes}
-use Rattle.sap_cycle.specs.Maps.{Valuation}
+use Rattle.sap_maps.specs.Maps.{Valuation}
 use Rattle.sap_meaning.specs.Store.{Store}
 use Rattle.sap_meaning.specs.Cycle.{Tagged, cycle}
 use Rattle.sap_meaning.specs.State.{StreamFits, first}
@@ -14,25 +14,26 @@ use Rattle.sap_net.specs.Runs.{AllFit, IsRun, observed}
 use Rattle.sap_interface.specs.StandsFor.{world}
 use Rattle.sap_interface.specs.Designs.{named_of, StandsForDesign}
 use Rattle.sap_interface.specs.Designs as interface
-use Rattle.sap_resolve.specs.Fill.{program_of}
+use Rattle.sap_resolved.specs.Fill.{program_of}
 use Rattle.sap_stim.specs.Fits.{StimulusFits}
 use Rattle.sap_check.specs.Sites.{sites_of}
 use Rattle.sap_sim.specs.Labelled.Fields.{design_fields}
 use Rattle.sap_sim.specs.Labelled.RunOf.{read_for}
 use Rattle.sap_sim.proofs.labelled.Designs.{fit_stream}
 use Rattle.sap_secure.specs.CheckSites.Numbering.{OneNumbering}
-use Rattle.sap_trace.specs.Fields.{given}
+use Rattle.sap_secure.proofs.check_sites.Counts.{count_is}
+use Rattle.sap_trace.specs.Given.{given}
 use Rattle.sap_trace.specs.Lines.{labelled_trace}
 use Rattle.sap_trace.specs.Seen.{HasSiteWires, lines_from}
 use Rattle.sap_trace.proofs.Runs.{lines_stand}
 
 module _ (ls : Levels) (d : DesignTree) (n : Net) (stands : StandsForDesign ls d n) where
-  pub site_wires : OneNumbering ls d → HasSiteWires ls d n
-  site_wires one k p q = let e : interface.sites_of d ≡ length (sites_of d) = one.count in stands.interface.site_wires k p (omega arith)
+  pub site_wires : HasSiteWires ls d n
+  site_wires k p q = let e : interface.site_count_of d ≡ length (sites_of d) = count_is d in stands.interface.declares.part.site_wires k p (omega arith)
 
   module _ (laws : Laws (order_of ls)) (fit : StimulusFits) (bytes : List ℕ) where
     fitting : StreamFits (world (named_of ls d)) (read_for ls d bytes).stream
-    fitting = fit_stream ls d (read_for ls d bytes).stream (fit ls (design_fields ls d) bytes laws.bottom_is_level)
+    fitting = fit_stream ls d (read_for ls d bytes).stream (fit ls (design_fields d) bytes laws.bottom_is_level)
 
     pub inputs_fit : AllFit n.inputs (map (given ls) (read_for ls d bytes).stream)
     inputs_fit = stands.takes (read_for ls d bytes).stream fitting

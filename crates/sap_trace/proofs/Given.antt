@@ -4,7 +4,7 @@ use Rattle.std.proofs.lemmas.List.{take_more_set, length-set}
 use Rattle.sap_lattice.specs.Levels.{Levels, order_of}
 use Rattle.sap_lattice.specs.Codes.{code_of}
 use Rattle.sap_meaning.specs.Cycle.{Tagged}
-use Rattle.sap_trace.specs.Fields.{given}
+use Rattle.sap_trace.specs.Given.{given}
 
 one_more : (ls : Levels) (xs : List Tagged) (k : ℕ) (x : Tagged) → k < length xs → x ≡ get_or xs k x
     → given ls (take (suc k) xs) ≡ (given ls (take k xs) ++ x.number ∷ []) ++ code_of (order_of ls) x.level ∷ []

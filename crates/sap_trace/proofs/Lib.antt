@@ -1,4 +1,3 @@
-mod FieldLists
 mod Given
 mod SiteWires
 mod Seen

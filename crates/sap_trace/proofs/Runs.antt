@@ -3,7 +3,7 @@ use Rattle.std.proofs.Common.{◌≡◌, ℕ, ◌+◌, ◌<◌, List, [], ◌∷
 use Rattle.sap_tree.specs.Syntax.{DesignTree}
 use Rattle.sap_lattice.specs.Levels.{Levels, order_of}
 use Rattle.sap_lattice.specs.Codes.{Codes}
-use Rattle.sap_cycle.specs.Maps.{Valuation}
+use Rattle.sap_maps.specs.Maps.{Valuation}
 use Rattle.sap_meaning.specs.Store.{Store, After}
 use Rattle.sap_meaning.specs.Cycle.{Tagged, cycle, run_from}
 use Rattle.sap_meaning.specs.Sites.{program_sites, refused_sites, Sublist}
@@ -12,7 +12,7 @@ use Rattle.sap_net.specs.Runs.{observed}
 use Rattle.sap_interface.specs.Compiled.{CyclesStand}
 use Rattle.sap_interface.specs.Designs.{named_of}
 use Rattle.sap_interface.specs.Designs as interface
-use Rattle.sap_resolve.specs.Fill.{program_of}
+use Rattle.sap_resolved.specs.Fill.{program_of}
 use Rattle.sap_secure.specs.CheckSites.Numbering.{OneNumbering}
 use Rattle.sap_trace.specs.Lines.{trace_of_run}
 use Rattle.sap_trace.specs.Seen.{lines_from}
@@ -22,7 +22,7 @@ module _ (ls : Levels) (d : DesignTree) (codes : Codes (order_of ls)) (some : 0 
     (in_order : (inputs : List Tagged) (s : Store) → Sublist (refused_sites (cycle (program_of ls d) inputs s).refused) (program_sites (program_of ls d))) where
   -- the lines of cycles that stand for those of a run
   pub lines_stand : (c : ℕ) (vs : List Valuation) (stream : List (List Tagged)) (s : Store)
-      → CyclesStand (named_of ls d) (interface.sites_of d) (map (observed n) vs) (run_from (program_of ls d) s stream)
+      → CyclesStand (named_of ls d) (interface.site_count_of d) (map (observed n) vs) (run_from (program_of ls d) s stream)
       → lines_from ls d c (map (observed n) vs) ≡ trace_of_run ls d c (run_from (program_of ls d) s stream)
   lines_stand c [] [] s h = refl
   lines_stand c [] (xs ∷ stream) s h = absurd h

@@ -6,20 +6,21 @@ use Rattle.std.proofs.lemmas.List.{append-nil}
 use Rattle.sap_tree.specs.Syntax.{DesignTree}
 use Rattle.sap_lattice.specs.Levels.{Levels, order_of}
 use Rattle.sap_lattice.specs.Codes.{Codes, code_of}
-use Rattle.sap_cycle.specs.Maps.{Valuation}
+use Rattle.sap_maps.specs.Maps.{Valuation}
 use Rattle.sap_meaning.specs.Store.{Store, Refusal}
-use Rattle.sap_meaning.specs.Sites.{program_sites, refused_sites, Sublist}
+use Rattle.sap_meaning.specs.Sites.{program_sites, refused_sites, numbers_from, Sublist}
 use Rattle.sap_check.specs.Sites.{sites_of}
-use Rattle.sap_interface.specs.PortNames.{refused_name}
-use Rattle.sap_interface.specs.PortNames as ports
+use Rattle.sap_net.specs.PortNames.{refused_name}
+use Rattle.sap_net.specs.PortNames as ports
 use Rattle.sap_interface.specs.StandsFor.{IsRefusedAt, IsRefused, StandsFor}
 use Rattle.sap_interface.specs.Designs.{named_of}
 use Rattle.sap_interface.specs.Designs as interface
-use Rattle.sap_resolve.specs.Fill.{program_of}
+use Rattle.sap_resolved.specs.Fill.{program_of}
 use Rattle.sap_stim.specs.Rows.{level_text}
 use Rattle.sap_sim.specs.Labelled.LabelledRows.{level_name}
 use Rattle.sap_sim.proofs.labelled.Levels.{name_coded}
-use Rattle.sap_secure.specs.CheckSites.Numbering.{numbers_from, OneNumbering}
+use Rattle.sap_secure.specs.CheckSites.Numbering.{OneNumbering}
+use Rattle.sap_secure.proofs.check_sites.Counts.{numbers_are, count_is}
 use Rattle.sap_trace.specs.Lines.{site_line, refusal_lines}
 use Rattle.sap_trace.specs.Seen.{coded_name, seen_line, seen_lines}
 
@@ -43,17 +44,17 @@ seen_step ls d c n v first old new h e =
     ∙ ap (λ (xs : List ℕ). first ++ xs) (sym (seen_last ls d c 1 n v) ∙ ap (λ (k : ℕ). seen_lines ls d c 1 k v) j)
 
 -- the line of a site, by the number of its wire
-pub line_shown : (ls : Levels) (d : DesignTree) (c k : ℕ) (v : Valuation) (flag tag : ℕ) (old new : List ℕ) → flag ≡ v.value (refused_name k) → tag ≡ v.value (ports.level_name k) → flag ≡ 1
+pub line_shown : (ls : Levels) (d : DesignTree) (c k : ℕ) (v : Valuation) (flag tag : ℕ) (old new : List ℕ) → flag ≡ v.value (refused_name k) → tag ≡ v.value (ports.refused_level_name k) → flag ≡ 1
     → new ≡ old ++ site_line d c k (coded_name ls tag) → new ≡ old ++ seen_line ls d c k v
 line_shown ls d c k v flag tag old new f t one e =
     let yes : (v.value (refused_name k) == 1) ≡ true = (Decides-eqb (v.value (refused_name k)) 1).1 (sym f ∙ one) in
     e ∙ ap (λ (x : ℕ). old ++ site_line d c k (coded_name ls x)) t
-    ∙ ap (λ (b : Bool). old ++ (if b then site_line d c k (coded_name ls (v.value (ports.level_name k))) else [])) (sym yes)
+    ∙ ap (λ (b : Bool). old ++ (if b then site_line d c k (coded_name ls (v.value (ports.refused_level_name k))) else [])) (sym yes)
 
 pub line_hidden : (ls : Levels) (d : DesignTree) (c k : ℕ) (v : Valuation) (flag : ℕ) (old : List ℕ) → flag ≡ v.value (refused_name k) → (flag ≡ 1 → ⊥)
     → old ≡ old ++ seen_line ls d c k v
 line_hidden ls d c k v flag old f none = sym (append-nil old) ∙ ap (λ (xs : List ℕ). old ++ xs) (sym (decided (v.value (refused_name k) == 1) refl)) where
-  decided : (b : Bool) → (v.value (refused_name k) == 1) ≡ b → (if b then site_line d c k (coded_name ls (v.value (ports.level_name k))) else []) ≡ []
+  decided : (b : Bool) → (v.value (refused_name k) == 1) ≡ b → (if b then site_line d c k (coded_name ls (v.value (ports.refused_level_name k))) else []) ≡ []
   decided true t = absurd (none (f ∙ (Decides-eqb (v.value (refused_name k)) 1).0 t))
   decided false t = refl
 
@@ -75,30 +76,30 @@ beyond m (suc n) (r ∷ rs) sub k t h = elim sub [
 -- The wires of the sites from m on, as many as n, tell the refusals of these.
 pub record Tell (ls : Levels) (v : Valuation) (m n : ℕ) (rs : List Refusal) : Type 0 where
   pub refusals : (k : ℕ) → m ≤ k → k < m + n → (v.value (refused_name k) ≡ 1) ↔ IsRefused rs k
-  pub levels : (k t : ℕ) → IsRefusedAt rs k t → v.value (ports.level_name k) ≡ code_of (order_of ls) t
+  pub levels : (k t : ℕ) → m ≤ k → k < m + n → IsRefusedAt rs k t → v.value (ports.refused_level_name k) ≡ code_of (order_of ls) t
 
 module _ (ls : Levels) (d : DesignTree) (codes : Codes (order_of ls)) (some : 0 < length ls.names) (c : ℕ) (v : Valuation) where
   -- the name of the level at which a site is refused
-  level_told : (k t : ℕ) → v.value (ports.level_name k) ≡ code_of (order_of ls) t → coded_name ls (v.value (ports.level_name k)) ≡ level_name ls t
+  level_told : (k t : ℕ) → v.value (ports.refused_level_name k) ≡ code_of (order_of ls) t → coded_name ls (v.value (ports.refused_level_name k)) ≡ level_name ls t
   level_told k t e =
       ap (λ (x : ℕ). coded_name ls x) e
       ∙ ap (λ (o : Option (List ℕ)). level_text o (code_of (order_of ls) t)) (name_coded ls codes some t)
 
-  line_told : (k t : ℕ) → v.value (refused_name k) ≡ 1 → v.value (ports.level_name k) ≡ code_of (order_of ls) t
+  line_told : (k t : ℕ) → v.value (refused_name k) ≡ 1 → v.value (ports.refused_level_name k) ≡ code_of (order_of ls) t
       → seen_line ls d c k v ≡ site_line d c k (level_name ls t)
   line_told k t one e =
       let yes : (v.value (refused_name k) == 1) ≡ true = (Decides-eqb (v.value (refused_name k)) 1).1 one in
-      ap (λ (b : Bool). if b then site_line d c k (coded_name ls (v.value (ports.level_name k))) else []) yes
+      ap (λ (b : Bool). if b then site_line d c k (coded_name ls (v.value (ports.refused_level_name k))) else []) yes
       ∙ ap (λ (xs : List ℕ). site_line d c k xs) (level_told k t e)
 
   no_line : (k : ℕ) → (v.value (refused_name k) ≡ 1 → ⊥) → seen_line ls d c k v ≡ []
   no_line k none = decided (v.value (refused_name k) == 1) refl where
-    decided : (b : Bool) → (v.value (refused_name k) == 1) ≡ b → (if b then site_line d c k (coded_name ls (v.value (ports.level_name k))) else []) ≡ []
+    decided : (b : Bool) → (v.value (refused_name k) == 1) ≡ b → (if b then site_line d c k (coded_name ls (v.value (ports.refused_level_name k))) else []) ≡ []
     decided true t = absurd (none ((Decides-eqb (v.value (refused_name k)) 1).0 t))
     decided false t = refl
 
   later : (m n : ℕ) (rs : List Refusal) → Tell ls v m (suc n) rs → Tell ls v (suc m) n rs
-  later m n rs h = record { refusals = λ k p q. h.refusals k (omega arith) (omega arith); levels = h.levels }
+  later m n rs h = record { refusals = λ k p q. h.refusals k (omega arith) (omega arith); levels = λ k t p q. h.levels k t (omega arith) (omega arith) }
 
   -- behind the first refusal
   behind : (m n : ℕ) (r : Refusal) (rs : List Refusal) → r.site ≡ m → Tell ls v m (suc n) (r ∷ rs) → Tell ls v (suc m) n rs
@@ -106,7 +107,7 @@ module _ (ls : Levels) (d : DesignTree) (codes : Codes (order_of ls)) (some : 0 
     refusals = λ k p q.
         let both = h.refusals k (omega arith) (omega arith) in
         (λ one. other k p (both.0 one), λ refused. both.1 (refused.0, inr refused.1));
-    levels = λ k t i. h.levels k t (inr i);
+    levels = λ k t p q i. h.levels k t (omega arith) (omega arith) (inr i);
   }
     where
       other : (k : ℕ) → suc m ≤ k → IsRefused (r ∷ rs) k → IsRefused rs k
@@ -123,7 +124,7 @@ module _ (ls : Levels) (d : DesignTree) (codes : Codes (order_of ls)) (some : 0 
     | inl q ↦
         let here : IsRefusedAt (r ∷ rs) m r.level = inl (q.0, refl) in
         let line : seen_line ls d c m v ≡ site_line d c m (level_name ls r.level) =
-        line_told m r.level ((h.refusals m (omega arith) (omega arith)).1 (r.level, here)) (h.levels m r.level here) in
+        line_told m r.level ((h.refusals m (omega arith) (omega arith)).1 (r.level, here)) (h.levels m r.level (omega arith) (omega arith) here) in
         ap₂ (λ (xs ys : List ℕ). xs ++ ys) (ap (λ (k : ℕ). site_line d c k (level_name ls r.level)) q.0 ∙ sym line)
         (told (suc m) n rs q.1 (behind m n r rs q.0 h))
     | inr q ↦
@@ -133,9 +134,9 @@ module _ (ls : Levels) (d : DesignTree) (codes : Codes (order_of ls)) (some : 0 
   ]
 
   -- where the wires stand for a cycle of the design
-  pub lines_told : OneNumbering ls d → (s : Store) (rs : List Refusal) → StandsFor (named_of ls d) (interface.sites_of d) v s rs
+  pub lines_told : OneNumbering ls d → (s : Store) (rs : List Refusal) → StandsFor (named_of ls d) (interface.site_count_of d) v s rs
       → Sublist (refused_sites rs) (program_sites (program_of ls d)) → refusal_lines ls d c rs ≡ seen_lines ls d c 1 (length (sites_of d)) v
   lines_told one s rs stands sub =
-      let count : interface.sites_of d ≡ length (sites_of d) = one.count in
-      told 1 (length (sites_of d)) rs (subst (λ (ks : List ℕ). Sublist (refused_sites rs) ks) one.numbers sub)
-      (record { refusals = λ k p q. stands.refusals k p (omega arith); levels = stands.refusal_levels })
+      let count : interface.site_count_of d ≡ length (sites_of d) = count_is d in
+      told 1 (length (sites_of d)) rs (subst (λ (ks : List ℕ). Sublist (refused_sites rs) ks) (numbers_are ls d one) sub)
+      (record { refusals = λ k p q. stands.refusals k p (omega arith); levels = λ k t p q. stands.refusal_levels k t p (omega arith) })

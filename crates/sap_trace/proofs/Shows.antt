@@ -4,7 +4,7 @@ use Rattle.std.specs.List.{last_or}
 use Rattle.sap_tree.specs.Syntax.{DesignTree}
 use Rattle.sap_lattice.specs.Levels.{Levels, order_of}
 use Rattle.sap_lattice.specs.Order.{Laws}
-use Rattle.sap_cycle.specs.Maps.{Valuation}
+use Rattle.sap_maps.specs.Maps.{Valuation}
 use Rattle.sap_meaning.specs.Program.{World}
 use Rattle.sap_meaning.specs.Store.{After, Refusal, Store}
 use Rattle.sap_meaning.specs.Cycle.{Tagged, cycle, run_from}
@@ -18,8 +18,8 @@ use Rattle.sap_interface.specs.Compiled.{CyclesStand}
 use Rattle.sap_interface.specs.Designs.{named_of, StandsForDesign}
 use Rattle.sap_interface.specs.Designs as interface
 use Rattle.sap_interface.specs.StandsFor.{StandsFor}
-use Rattle.sap_resolve.specs.Fill.{program_of}
-use Rattle.sap_resolve.specs.Worlds.{world_of}
+use Rattle.sap_resolved.specs.Fill.{program_of}
+use Rattle.sap_resolved.specs.Worlds.{world_of}
 use Rattle.sap_secure.specs.CheckSites.Numbering.{OneNumbering}
 use Rattle.sap_sim.specs.Labelled.Fields.{design_fields}
 use Rattle.sap_sim.specs.Labelled.RunOf.{read_for}
@@ -28,7 +28,7 @@ use Rattle.sap_sim.specs.Stepped.{Stepped}
 use Rattle.sap_sim.proofs.labelled.Designs.{fit_stream}
 use Rattle.sap_sim.proofs.Stepped.{after_line, unstepped_shows}
 use Rattle.sap_stim.specs.Fits.{StimulusFits}
-use Rattle.sap_trace.specs.Fields.{given}
+use Rattle.sap_trace.specs.Given.{given}
 use Rattle.sap_trace.specs.Shows.{IsSteppedOn, ShowsRefused, StepsShowRefused, last_refused}
 use Rattle.sap_trace.specs.Seen.{HasSiteWires}
 use Rattle.sap_trace.proofs.Designs.{site_wires}
@@ -60,11 +60,11 @@ module _ (ls : Levels) (d : DesignTree) (n : Net)
     last : Valuation
     state : Store
     is_last : (before : Option Valuation) → last_or before vs ≡ Some last
-    stands : StandsFor (named_of ls d) (interface.sites_of d) (observed n last) state rs
+    stands : StandsFor (named_of ls d) (interface.site_count_of d) (observed n last) state rs
     sites : Sublist (refused_sites rs) (program_sites (program_of ls d))
 
   last_stands : (vs : List Valuation) (stream : List (List Tagged)) (s : Store) → 0 < length stream
-      → CyclesStand (named_of ls d) (interface.sites_of d) (map (observed n) vs) (run_from (program_of ls d) s stream)
+      → CyclesStand (named_of ls d) (interface.site_count_of d) (map (observed n) vs) (run_from (program_of ls d) s stream)
       → LastStands vs (last_refused (run_from (program_of ls d) s stream))
   last_stands vs [] s l h = absurd (omega arith)
   last_stands [] (xs ∷ stream) s l h = absurd h
@@ -86,17 +86,17 @@ module _ (ls : Levels) (d : DesignTree) (n : Net)
         let e = last_stands run.0 lines (first (program_of ls d).world) some (stands.stands lines at.fit run.0 run.1) in
         let refused = last_refused (labelled_run (program_of ls d) lines) in
         record {
-          wires = subst (λ (m : Net). HasSiteWires ls d m) (sym at.net) (site_wires ls d n stands one);
+          wires = subst (λ (m : Net). HasSiteWires ls d m) (sym at.net) (site_wires ls d n stands);
           cycle = e.last;
           state = e.state;
           shows = subst (Shows r) (e.is_last None) (at.shows run.0 run.1);
-          stands = subst (λ (m : Net). StandsFor (named_of ls d) (interface.sites_of d) (observed m e.last) e.state refused) (sym at.net) e.stands;
+          stands = subst (λ (m : Net). StandsFor (named_of ls d) (interface.site_count_of d) (observed m e.last) e.state refused) (sym at.net) e.stands;
           in_order = e.sites;
         }
 
     pub steps_show : StepsShowRefused ls d n
     steps_show = record {
-      reads = λ bytes. fit_stream ls d (read_for ls d bytes).stream (fit ls (design_fields ls d) bytes laws.bottom_is_level);
+      reads = λ bytes. fit_stream ls d (read_for ls d bytes).stream (fit ls (design_fields d) bytes laws.bottom_is_level);
       takes = λ line fits. (stands.takes (line ∷ []) (fits, tt)).0;
       begins = λ r net shows. record { net = net; fit = tt; shows = unstepped_shows n (given ls) r shows };
       goes_on = stepped_on ls d n;

@@ -1,25 +1,28 @@
 -- The wires of check sites and their places.
-use Rattle.std.proofs.Common.{◌≡◌, ◌≢◌, ℕ, zero, suc, ◌+◌, ◌-◌, ◌<◌, ◌≤◌, List, [], ◌∷◌, ◌++◌, Option, Some, None, length, get_or, length-append, refl, sym, ap, ◌∙◌, subst, arith, inl, inr}
+use Rattle.std.proofs.Common.{◌≡◌, ◌≢◌, ℕ, zero, suc, ◌+◌, ◌-◌, ◌<◌, ◌≤◌, List, [], ◌∷◌, ◌++◌, Option, Some, None, length, map, bytes_eq, get_or, length-append, refl, sym, ◌∙◌, subst, arith, inl, inr}
 use Rattle.std.specs.List.{AllByRecursion}
-use Rattle.std.proofs.lemmas.Bool.{cases_lt}
+use Rattle.std.proofs.lemmas.Bool.{cases_Bool, cases_lt}
+use Rattle.sap_lemmas.proofs.Texts.{equal_of_bytes_eq}
 use Rattle.sap_tree.specs.Syntax.{DesignTree}
 use Rattle.sap_lattice.specs.Levels.{Levels}
 use Rattle.sap_check.specs.Sites.{sites_of}
-use Rattle.sap_cycle.specs.Maps.{Name}
-use Rattle.sap_cycle.specs.Scope.{Scope, find}
+use Rattle.sap_maps.specs.Maps.{Name}
+use Rattle.sap_maps.specs.Scope.{Scope, find}
 use Rattle.sap_net.specs.declared.parts.Wire.{Wire}
 use Rattle.sap_net.specs.Net.{Net}
 use Rattle.sap_net.specs.IsNetlist.{IsNetlist, readable}
 use Rattle.sap_cycle.specs.Running.{value_names, IsPlaceOf}
 use Rattle.sap_cycle.proofs.Distinct.{wires_readable}
-use Rattle.sap_interface.specs.PortNames.{refused_name, level_name}
-use Rattle.sap_interface.specs.Interface.{HasWire}
+use Rattle.sap_net.specs.PortNames.{refused_name, refused_level_name}
 use Rattle.sap_trace.specs.Seen.{HasSiteWires, AreReadable, ArePlaced}
 
-wire_has : (sc : Scope) (list : List Wire) → AllByRecursion (λ w. find sc w.name ≡ Some w.width) list → (x : Name) (u : ℕ) → HasWire list x u → find sc x ≡ Some u
-wire_has sc [] all x u h = absurd h
-wire_has sc (w ∷ list) all x u (inl e) = subst (λ (n : Name). find sc n ≡ Some u) e.0 (all.0 ∙ ap (λ (k : ℕ). Some k) e.1)
-wire_has sc (w ∷ list) all x u (inr h) = wire_has sc list all.1 x u h
+wire_has : (sc : Scope) (list : List Wire) → AllByRecursion (λ w. find sc w.name ≡ Some w.width) list → (x : Name) (u : ℕ) → find {X = ℕ} (map (λ w. (w.name, w.width)) list) x ≡ Some u
+    → find sc x ≡ Some u
+wire_has sc [] all x u h = absurd (cc)
+wire_has sc (w ∷ list) all x u h = elim (cases_Bool (bytes_eq w.name x)) [
+  | inl t ↦ (let e : Some w.width ≡ Some u = rw t at h in subst (λ (n : Name). find sc n ≡ Some u) (equal_of_bytes_eq w.name x t) (all.0 ∙ e))
+  | inr f ↦ wire_has sc list all.1 x u (rw f at h)
+]
 
 there : (o : Option ℕ) (u : ℕ) → o ≡ Some u → o ≢ None
 there o u e n = cc (e, n)
@@ -27,7 +30,7 @@ there o u e n = cc (e, n)
 pub sites_readable : (ls : Levels) (d : DesignTree) (n : Net) → IsNetlist n → HasSiteWires ls d n → AreReadable n (length (sites_of d))
 sites_readable ls d n net has = record {
   refused = λ k p q. there _ _ (wire_has (readable n) n.wires (wires_readable n net) (refused_name k) _ (has k p q).0);
-  levels = λ k p q. there _ _ (wire_has (readable n) n.wires (wires_readable n net) (level_name k) _ (has k p q).1);
+  levels = λ k p q. there _ _ (wire_has (readable n) n.wires (wires_readable n net) (refused_level_name k) _ (has k p q).1);
 }
 
 pub placed_none : (n : Net) (names : ℕ → Name) → ArePlaced n names 0 []

@@ -5,7 +5,7 @@ use Rattle.sap_tree.specs.Syntax.{DesignTree}
 use Rattle.sap_lattice.specs.Levels.{Levels, order_of}
 use Rattle.sap_lattice.specs.Codes.{Codes}
 use Rattle.sap_lattice.specs.Order.{Laws}
-use Rattle.sap_cycle.specs.Maps.{Valuation}
+use Rattle.sap_maps.specs.Maps.{Valuation}
 use Rattle.sap_meaning.specs.Store.{Store}
 use Rattle.sap_meaning.specs.Cycle.{Tagged, cycle}
 use Rattle.sap_meaning.specs.Sites.{program_sites, refused_sites, Sublist}
@@ -15,7 +15,7 @@ use Rattle.sap_net.specs.Laws.{SomeRun}
 use Rattle.sap_net.specs.Runs.{InputsFit, IsRun, observed}
 use Rattle.sap_cycle.specs.Running.{Running, Shows, ShowsNext, seen}
 use Rattle.sap_interface.specs.Designs.{StandsForDesign}
-use Rattle.sap_resolve.specs.Fill.{program_of}
+use Rattle.sap_resolved.specs.Fill.{program_of}
 use Rattle.sap_stim.specs.declared.field.Field.{Field}
 use Rattle.sap_stim.specs.Fits.{LineFits, StimulusFits}
 use Rattle.sap_sim.specs.Labelled.Fields.{design_fields}
@@ -25,7 +25,7 @@ use Rattle.sap_sim.specs.Stepped.{Stepped}
 use Rattle.sap_sim.proofs.Stepped.{line_split, told_begins, told_goes_on, told_part, cycle_shown, after_line}
 use Rattle.sap_secure.specs.CheckSites.Numbering.{OneNumbering}
 use Rattle.sap_trace.specs.declared.wires.Wires.{Wires}
-use Rattle.sap_trace.specs.Fields.{given}
+use Rattle.sap_trace.specs.Given.{given}
 use Rattle.sap_trace.specs.Lines.{labelled_trace}
 use Rattle.sap_trace.specs.Seen.{AreWires, cycle_lines, lines_from}
 use Rattle.sap_trace.specs.Stepping.{IsPlanned, IsAfter, HasLinesMore, AreLines, LinesAddUp}
@@ -86,7 +86,7 @@ module _ (ls : Levels) (d : DesignTree) (n : Net) (s : Stepped Wires) (lines : L
 
 -- the numbers of a line that fits
 module _ (ls : Levels) (d : DesignTree) (s : Stepped Wires) (line : List Tagged) (planned : IsPlanned ls d s) (fits : LineFits ls s.fields line) where
-  fits_design : LineFits ls (design_fields ls d) line
+  fits_design : LineFits ls (design_fields d) line
   fits_design = subst (λ (fs : List Field). LineFits ls fs line) planned.fields fits
 
   pub inputs_right : InputsFit s.runner.net.inputs (given ls line)

@@ -2,16 +2,7 @@ pub mod Lines
 pub mod Seen
 pub mod Rooms
 pub mod Shows
-pub mod Fields
+pub mod Given
 pub mod TraceOf
 pub mod Stepping
 pub mod Examples
-pub use Rattle.sap_check.specs.Checked
-pub use Rattle.sap_check.specs.Sites
-pub use Rattle.sap_interface.specs.Designs
-pub use Rattle.sap_meaning.specs.Cycle
-pub use Rattle.sap_meaning.specs.Store
-pub use Rattle.sap_net.specs.Net
-pub use Rattle.sap_sim.specs.Labelled.LabelledRows
-pub use Rattle.sap_sim.specs.Labelled.RunOf
-pub use Rattle.sap_stim.specs.Fits

@@ -12,7 +12,7 @@ use Rattle.sap_check.specs.Sites.{sites_of}
 use Rattle.sap_meaning.specs.Store.{Refusal, After}
 use Rattle.sap_meaning.specs.Cycle.{Tagged}
 use Rattle.sap_meaning.specs.State.{labelled_run}
-use Rattle.sap_resolve.specs.Fill.{program_of}
+use Rattle.sap_resolved.specs.Fill.{program_of}
 use Rattle.sap_check.specs.SiteTexts.{site_target}
 use Rattle.sap_sim.specs.Told.{told_from}
 use Rattle.sap_sim.specs.Labelled.LabelledRows.{level_name}

@@ -3,7 +3,7 @@ use Rattle.std.specs.Prelude.{◌≡◌, ◌<◌, ℕ, List, [], ◌∷◌, ◌+
 use Rattle.std.specs.List.{last_or}
 use Rattle.sap_tree.specs.Syntax.{DesignTree}
 use Rattle.sap_lattice.specs.Levels.{Levels}
-use Rattle.sap_cycle.specs.Maps.{Valuation}
+use Rattle.sap_maps.specs.Maps.{Valuation}
 use Rattle.sap_meaning.specs.Cycle.{Tagged as Given}
 use Rattle.sap_meaning.specs.Store.{After, Store, Refusal}
 use Rattle.sap_meaning.specs.State.{InputsFit, StreamFits, labelled_run}
@@ -12,13 +12,13 @@ use Rattle.sap_net.specs.Net.{Net}
 use Rattle.sap_net.specs.Runs.{observed}
 use Rattle.sap_net.specs.Runs as net
 use Rattle.sap_cycle.specs.Running.{Running, Shows, ShowsNext}
-use Rattle.sap_resolve.specs.Fill.{program_of}
-use Rattle.sap_resolve.specs.Worlds.{world_of}
+use Rattle.sap_resolved.specs.Fill.{program_of}
+use Rattle.sap_resolved.specs.Worlds.{world_of}
 use Rattle.sap_interface.specs.StandsFor.{StandsFor}
-use Rattle.sap_interface.specs.Designs.{named_of, sites_of}
+use Rattle.sap_interface.specs.Designs.{named_of, site_count_of}
 use Rattle.sap_sim.specs.Labelled.RunOf.{read_for}
 use Rattle.sap_sim.specs.Stepped.{ShowsLast}
-use Rattle.sap_trace.specs.Fields.{given}
+use Rattle.sap_trace.specs.Given.{given}
 use Rattle.sap_trace.specs.Seen.{HasSiteWires}
 
 -- The runner was stepped, and what it shows stands for a state of the design and these refusals: sites of the design, in the order of the text, as a cycle refuses them.
@@ -27,7 +27,7 @@ pub record ShowsRefused (ls : Levels) (d : DesignTree) (r : Running) (rs : List 
   pub cycle : Valuation
   pub state : Store
   pub shows : Shows r (Some cycle)
-  pub stands : StandsFor (named_of ls d) (sites_of d) (observed r.net cycle) state rs
+  pub stands : StandsFor (named_of ls d) (site_count_of d) (observed r.net cycle) state rs
   pub in_order : Sublist (refused_sites rs) (program_sites (program_of ls d))
 
 -- what the last cycle of a run refuses: nothing, where there is no cycle

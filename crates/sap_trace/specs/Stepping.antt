@@ -13,7 +13,7 @@ use Rattle.sap_sim.specs.Labelled.RunOf.{read_for}
 use Rattle.sap_sim.specs.Stepped as stepped
 use Rattle.sap_sim.specs.Stepped.{Stepped, TellsMore, TellsAll}
 use Rattle.sap_trace.specs.declared.wires.Wires.{Wires}
-use Rattle.sap_trace.specs.Fields.{given}
+use Rattle.sap_trace.specs.Given.{given}
 use Rattle.sap_trace.specs.Lines.{labelled_trace}
 use Rattle.sap_trace.specs.Rooms.{HoldsCycle}
 use Rattle.sap_trace.specs.Seen.{AreWires, cycle_lines}
@@ -23,7 +23,7 @@ use Rattle.sap_trace.specs.TraceOf.{IsTraceOf, Trace}
 pub record IsPlanned (ls : Levels) (d : DesignTree) (s : Stepped Wires) : Type 0 where
   pub stands : StandsForDesign ls d s.runner.net
   pub wires : AreWires s.runner.net (length (sites_of d)) s.plan
-  pub fields : s.fields ≡ design_fields ls d
+  pub fields : s.fields ≡ design_fields d
   pub sized : All IsSized s.fields
   pub room : HoldsCycle ls d s.room
 

@@ -8,12 +8,12 @@ ghost use Rattle.sap_check.specs.Checked.{levels_in, tree_in};
 ghost use Rattle.sap_meaning.specs.Store.{Store};
 ghost use Rattle.sap_meaning.specs.Cycle.{Tagged, cycle};
 ghost use Rattle.sap_meaning.specs.Sites.{Sublist, program_sites, refused_sites};
-ghost use Rattle.sap_resolve.specs.Fill.{program_of};
+ghost use Rattle.sap_resolved.specs.Fill.{program_of};
 ghost use Rattle.sap_secure.specs.CheckSites.Numbering.{OneNumbering};
 
 use sap_check::Checked;
 use sap_meaning::refusals_in_order;
-use sap_resolve::premises::well_formed_serves;
+use sap_resolved::premises::well_formed_serves;
 use sap_secure::check_sites::sites_agree;
 
 /// The laws of a design's levels and check sites.

@@ -6,18 +6,17 @@
 #![tactic(auto)]
 
 pub mod examples;
-mod fields;
 mod known;
 mod line;
+mod numbers;
 mod refusals;
 mod room;
-pub mod trace;
+mod trace;
 pub mod tracing;
 mod wires;
 
-pub use fields::take_numbers;
 pub use line::site_into;
+pub use numbers::take_numbers;
 pub use refusals::{steps_show_refused, suppressed};
 pub use room::{cycle_room, site_room};
-pub use trace::read_stimulus;
 pub use tracing::Tracing;

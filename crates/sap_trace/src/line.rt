@@ -1,7 +1,7 @@
 //! The lines of refused sites.
 
-ghost use Rattle.std.specs.Prelude.{◌≡◌, ◌≤◌, ◌<◌, ◌+◌, ◌*◌, ◌++◌, ℕ, OnErr, OnOk, length, vec_capacity};
-ghost use Rattle.sap_cycle.specs.Maps.{Valuation};
+ghost use Rattle.std.specs.Prelude.{◌≡◌, ◌≤◌, ◌<◌, ◌+◌, ◌*◌, ◌++◌, ℕ, OnErr, OnOk, length, vec_capacity, Option};
+ghost use Rattle.sap_maps.specs.Maps.{Valuation};
 ghost use Rattle.sap_check.specs.Checked.{levels_in, tree_in};
 ghost use Rattle.sap_check.specs.Sites.{sites_of};
 ghost use Rattle.sap_cycle.specs.Running.{Shows, seen};
@@ -9,7 +9,6 @@ ghost use Rattle.sap_sim.specs.Labelled.LabelledRows.{level_name};
 ghost use Rattle.sap_trace.specs.Lines.{line_before, line_head, refusal_line, site_line};
 ghost use Rattle.sap_trace.specs.Rooms.{HoldsCycle, HoldsLine, site_room};
 ghost use Rattle.sap_trace.specs.Seen.{AreWires, coded_name, seen_line, seen_lines};
-ghost use Rattle.std.specs.Prelude.{Option};
 
 use crate::wires::Wires;
 use sap_check::Checked;

@@ -1,36 +1,18 @@
-//! What a design reads of a stimulus, and the runner by which it is traced.
+//! The runner by which a design is traced.
 
-ghost use Rattle.std.specs.Prelude.{◌≡◌, ◌<◌, ◌^◌, None, IfOk, length};
+ghost use Rattle.std.specs.Prelude.{◌≡◌, None, IfOk, length};
 ghost use Rattle.sap_check.specs.Checked.{levels_in, tree_in};
 ghost use Rattle.sap_check.specs.Sites.{sites_of};
 ghost use Rattle.sap_cycle.specs.Running.{Shows};
 ghost use Rattle.sap_interface.specs.Designs.{StandsForDesign};
-ghost use Rattle.sap_sim.specs.Labelled.RunOf.{read_for};
 ghost use Rattle.sap_trace.specs.Seen.{AreWires};
 
-use crate::fields::fields_of;
 use crate::known::known;
 use crate::wires::{Wires, wires_of};
 use sap_check::Checked;
 use sap_cycle::runner::Runner;
 use sap_net::netlist::Netlist;
-use sap_stim::{Parsed, parse_stream};
 use std::alloc::{AllocError, Global};
-
-/// What the bytes of a stimulus are to a design.
-pub fn read_stimulus(
-    alloc: Global,
-    checked: &Checked,
-    stimulus: &[u8],
-) -> Result<Parsed, AllocError>
-    requires short { length stimulus.now < 2 ^ 32 }
-    ensures { IfOk result (λ parsed. parsed ≡ read_for (levels_in checked.now) (tree_in checked.now) stimulus.now) }
-{
-    let names = checked.names();
-    names.have_widths();
-    let fields = fields_of(alloc, names)?;
-    parse_stream(alloc, stimulus, &fields, checked.lattice())
-}
 
 // A runner of a netlist.
 fn load(alloc: Global, netlist: Netlist) -> Result<Runner, AllocError>

@@ -9,9 +9,9 @@ ghost use Rattle.sap_stim.specs.Fits.{LineFits};
 ghost use Rattle.sap_trace.specs.Rooms.{HoldsCycle};
 ghost use Rattle.sap_trace.specs.Stepping.{HasLinesMore, IsAfter, IsPlanned, LinesAddUp};
 
-use crate::fields::{fields_of, take_numbers};
 use crate::known::known;
 use crate::line::refused_into;
+use crate::numbers::take_numbers;
 use crate::room::cycle_room;
 use crate::trace::planned;
 use crate::wires::Wires;
@@ -20,6 +20,7 @@ use sap_cycle::runner::Runner;
 use sap_desk::RowBuf;
 use sap_net::laws::one_run;
 use sap_net::netlist::Netlist;
+use sap_sim::design_fields;
 use sap_stim::{Field, Fields, stimulus_fits};
 use sap_stream::Inputs;
 use std::alloc::{AllocError, Global};
@@ -68,12 +69,10 @@ impl Tracing {
         ensures after { IfOk result (IsAfter (levels_in checked.now) (tree_in checked.now) netlist []) }
         ensures least { IfOk result (λ s. (other : ℕ) → HoldsCycle (levels_in checked.now) (tree_in checked.now) other → s.room ≤ other) }
     {
-        let names = checked.names();
-        names.have_widths();
         let Some(room) = cycle_room(checked) else {
             return Err(AllocError);
         };
-        let fields = fields_of(alloc, names)?;
+        let fields = design_fields(alloc, checked)?;
         let numbers = zeros(alloc, fields.as_slice())?;
         let (runner, wires) = planned(alloc, checked, netlist)?;
         Ok(Tracing {

@@ -1,10 +1,10 @@
 //! The wires of check sites.
 
 ghost use Rattle.std.specs.Prelude.{◌≡◌, ◌≢◌, ◌<◌, None, IfOk, length};
-ghost use Rattle.sap_cycle.specs.Scope.{find};
+ghost use Rattle.sap_maps.specs.Scope.{find};
 ghost use Rattle.sap_net.specs.IsNetlist.{readable};
 ghost use Rattle.sap_cycle.specs.Running.{IsPlaceOf, value_names};
-ghost use Rattle.sap_interface.specs.PortNames.{level_name, refused_name};
+ghost use Rattle.sap_net.specs.PortNames.{refused_level_name, refused_name};
 ghost use Rattle.sap_trace.specs.Seen.{AreReadable, AreWires};
 
 use sap_cycle::runner::{Place, Runner};
@@ -38,8 +38,8 @@ fn refused_place(alloc: Global, runner: &Runner, site: u32) -> Result<Place, All
 }
 
 fn level_place(alloc: Global, runner: &Runner, site: u32) -> Result<Place, AllocError>
-    requires { find (readable runner.now.net) (level_name site) ≢ None }
-    ensures named { IfOk result (λ k. IsPlaceOf runner.now.net (level_name site) k) }
+    requires { find (readable runner.now.net) (refused_level_name site) ≢ None }
+    ensures named { IfOk result (λ k. IsPlaceOf runner.now.net (refused_level_name site) k) }
     ensures within { IfOk result (λ k. k < length (value_names runner.now.net)) }
 {
     let name = format!(in alloc; "l_{site}")?;

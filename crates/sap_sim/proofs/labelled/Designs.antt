@@ -14,7 +14,7 @@ use Rattle.sap_lattice.specs.Codes.{Codes, code_of}
 use Rattle.sap_maps.specs.Maps.{Name}
 use Rattle.sap_maps.specs.Scope.{Scope, find}
 use Rattle.sap_maps.proofs.Scopes.{not_first, not_behind}
-use Rattle.sap_meaning.specs.Program.{Entity, width, is_input, is_register}
+use Rattle.sap_meaning.specs.Program.{Entity, is_input, is_register}
 use Rattle.sap_meaning.specs.Cycle.{Tagged as Given}
 use Rattle.sap_meaning.specs.State.{input_widths, StreamFits}
 use Rattle.sap_meaning.specs.State as state
@@ -23,11 +23,11 @@ use Rattle.sap_net.specs.Names.{is_among, AreDistinct}
 use Rattle.sap_net.specs.Net.{Net}
 use Rattle.sap_net.specs.IsNetlist.{IsNetlist, shapes}
 use Rattle.sap_net.specs.Runs.{IsRun, observed}
-use Rattle.sap_cycle.proofs.Distinct.{AreFresh, registers_found}
-use Rattle.sap_interface.specs.PortNames.{value_name, tag_name}
+use Rattle.sap_cycle.proofs.Distinct.{AreFresh}
+use Rattle.sap_net.specs.PortNames.{tag_name}
 use Rattle.sap_interface.specs.StandsFor.{Named, name, world}
 use Rattle.sap_interface.specs.Compiled.{coded, coded_stream}
-use Rattle.sap_interface.specs.Designs.{named_of, sites_of, StandsForDesign}
+use Rattle.sap_interface.specs.Designs.{named_of, site_count_of, StandsForDesign}
 use Rattle.sap_stim.specs.declared.field.Field.{Field}
 use Rattle.sap_stim.specs.declared.field.Field.TheVariants as field
 use Rattle.sap_stim.specs.declared.stimulus.Parsed.{Parsed}
@@ -37,7 +37,9 @@ use Rattle.sap_stim.specs.Fits as stim
 use Rattle.sap_sim.specs.Fields.{tag_width, with_field, field_of, fields_of, is_tag}
 use Rattle.sap_sim.specs.Fields as fields
 use Rattle.sap_sim.specs.Numbers.{given, field_names, number_for, numbers_of}
-use Rattle.sap_sim.specs.Shown.{register_ports, register_widths, shown_registers, shown_among, rows_from}
+use Rattle.sap_net.specs.Shown.{register_ports, port_widths, shown_among}
+use Rattle.sap_sim.specs.Shown.{register_widths, shown_registers, rows_from}
+use Rattle.sap_sim.proofs.Registers.{port_wide}
 use Rattle.sap_sim.specs.Simulated.{IsSimulated, Rows}
 use Rattle.sap_sim.proofs.Fits.{inputs_found, fresh_inputs}
 use Rattle.sap_sim.specs.Labelled.Fields.{design_fields}
@@ -45,8 +47,9 @@ use Rattle.sap_sim.specs.Labelled.LabelledRows.{labelled_rows}
 use Rattle.sap_sim.specs.Labelled.RunOf.{IsRunOf}
 use Rattle.sap_sim.proofs.labelled.Ports.{pair_names, input_names_are, register_ports_are}
 use Rattle.sap_sim.proofs.labelled.Words.{input_some, register_some, value_back, tag_back, value_no_tag, tag_no_value}
-use Rattle.sap_sim.proofs.labelled.Inputs.{Known, pair_scope, value_scope, to_input, inputs_are, has_found, filtered, fields_are, numbers_are, given_back}
-use Rattle.sap_sim.proofs.labelled.Registers.{register_names, Seen, shown_are, tag_among, register_has}
+use Rattle.sap_sim.proofs.labelled.Inputs.{Known, pair_scope, value_scope, to_input, inputs_are, filtered, fields_are, numbers_are, given_back}
+use Rattle.sap_sim.proofs.labelled.DesignFields.{by_widths}
+use Rattle.sap_sim.proofs.labelled.Registers.{register_names, Seen, shown_are, tag_among}
 use Rattle.sap_sim.proofs.labelled.Cycles.{from_first, rows_stand}
 
 -- names that are found once are distinct
@@ -80,9 +83,11 @@ fit_line ls [] (x ∷ xs) h = absurd h
 fit_line ls (u ∷ us) [] h = absurd h
 fit_line ls (u ∷ us) (x ∷ xs) h = (h.0.value, h.0.level, fit_line ls us xs h.1)
 
-pub fit_stream : (ls : Levels) (t : DesignTree) (stream : List (List Given)) → stim.StreamFits ls (design_fields ls t) stream → StreamFits (world (named_of ls t)) stream
+pub fit_stream : (ls : Levels) (t : DesignTree) (stream : List (List Given)) → stim.StreamFits ls (design_fields t) stream → StreamFits (world (named_of ls t)) stream
 fit_stream ls t [] h = tt
-fit_stream ls t (xs ∷ stream) h = (fit_line ls (input_widths (world (named_of ls t)).entities) xs h.0, fit_stream ls t stream h.1)
+fit_stream ls t (xs ∷ stream) h =
+    let widths = input_widths (world (named_of ls t)).entities in
+    (fit_line ls widths xs (subst (λ (fs : List Field). LineFits ls fs xs) (by_widths ls t) h.0), fit_stream ls t stream h.1)
 
 module _ (ls : Levels) (t : DesignTree) (n : Net) (whole : is_whole t ≡ true) (net : IsNetlist n) (stands : StandsForDesign ls t n) where
   abbrev d : Named
@@ -93,21 +98,23 @@ module _ (ls : Levels) (t : DesignTree) (n : Net) (whole : is_whole t ≡ true) 
 
   known : (x : ℕ) → is_input (world (named_of ls t)) x ≡ true → Known (named_of ls t) (tag_width ls) (fields.input_widths n.inputs) x
   known x h = record {
-    value = has_found (fields.input_widths n.inputs) n.inputs (inputs_found n net) (value_name (name d x)) (width (world d) x) (stands.interface.inputs x h).0;
-    tag_is = has_found (fields.input_widths n.inputs) n.inputs (inputs_found n net) (tag_name (name d x)) (tag_width ls) (stands.interface.inputs x h).1;
+    value = (stands.interface.declares.inputs x h).0;
+    tag_is = (stands.interface.declares.inputs x h).1;
     value_base = value_back (name d x) (input_some ls t whole x h);
     tag_base = tag_back (name d x) (input_some ls t whole x h);
     no_tag = value_no_tag (name d x);
   }
 
   the_inputs : n.inputs ≡ map to_input (pair_scope (named_of ls t) (tag_width ls) 0 (world (named_of ls t)).entities)
-  the_inputs = inputs_are d (tag_width ls) n.inputs (input_names_are d (sites_of t) n net stands.interface.ports) (inputs_found n net) known
+  the_inputs = inputs_are d (tag_width ls) n.inputs (input_names_are d (site_count_of t) n net stands.interface.declares.ports) (inputs_found n net) known
 
   have_fields : with_field (tag_width ls) n.inputs ≡ map to_input (value_scope (named_of ls t) 0 (world (named_of ls t)).entities)
   have_fields = ap (filter (λ i. not (is_tag (tag_width ls) n.inputs i))) the_inputs ∙ filtered d (tag_width ls) n.inputs known 0 es
 
-  pub same_fields : fields_of ls n ≡ design_fields ls t
-  same_fields = ap (map (field_of (tag_width ls) n.inputs)) have_fields ∙ fields_are d (tag_width ls) n.inputs known 0 es (from_first d)
+  pub same_fields : fields_of ls n ≡ design_fields t
+  same_fields =
+      ap (map (field_of (tag_width ls) n.inputs)) have_fields ∙ fields_are d (tag_width ls) n.inputs known 0 es (from_first d)
+      ∙ sym (by_widths ls t)
 
   scope_firsts : (sc : Scope) → map (λ i. i.name) (map to_input sc) ≡ map (λ (e : Name × ℕ). e.0) sc
   scope_firsts [] = refl
@@ -134,32 +141,32 @@ module _ (ls : Levels) (t : DesignTree) (n : Net) (whole : is_whole t ≡ true) 
   same_stream [] fits = refl
   same_stream (xs ∷ stream) fits = ap₂ (λ (ys : List ℕ) (yss : List (List ℕ)). ys ∷ yss) (same_numbers xs fits.0) (same_stream stream fits.1)
 
-  seen : (x : ℕ) → x < length (world (named_of ls t)).entities → is_register (world (named_of ls t)) x ≡ true → Seen (named_of ls t) (tag_width ls) n x
+  seen : (x : ℕ) → x < length (world (named_of ls t)).entities → is_register (world (named_of ls t)) x ≡ true → Seen (named_of ls t) (tag_width ls) (port_widths n) x
   seen x l h =
       let z : 0 + x ≡ x = omega arith in
       let a : is_among (tag_name (name (named_of ls t) x)) (register_ports n.ports) ≡ true =
-      ap (is_among (tag_name (name d x))) (register_ports_are d (sites_of t) n stands.interface.ports)
+      ap (is_among (tag_name (name d x))) (register_ports_are d (site_count_of t) n stands.interface.declares.ports)
       ∙ subst (λ (y : ℕ). is_among (tag_name (name (named_of ls t) y)) (pair_names (is_register (world (named_of ls t))) (named_of ls t) 0 (world (named_of ls t)).entities) ≡ true) z
       (tag_among d 0 es x l (ap (is_register (world d)) z ∙ h)) in
       let f : find (register_widths n.registers) (tag_name (name (named_of ls t) x)) ≡ Some (tag_width ls) =
-      register_has (register_widths n.registers) n.registers (registers_found n net (λ r. r.width)) (tag_name (name d x)) (tag_width ls) (stands.interface.registers x h).1 in
+      (stands.interface.declares.part.registers x h).1 in
       record {
         value_base = value_back (name d x) (register_some ls t whole x h);
         no_value = tag_no_value (name d x);
-        has = rw (a, f) ((Decides-eqb (tag_width ls) (tag_width ls)).1 refl);
+        has = port_wide (tag_width ls) n net (tag_name (name d x)) ∙ rw (a, f) ((Decides-eqb (tag_width ls) (tag_width ls)).1 refl);
       }
 
   pub same_shown : shown_registers ls n ≡ register_names (named_of ls t) 0 (world (named_of ls t)).entities
   same_shown =
-      ap (shown_among (tag_width ls) n) (register_ports_are d (sites_of t) n stands.interface.ports)
-      ∙ shown_are d (tag_width ls) n (length es) seen 0 es (omega arith)
+      ap (shown_among (tag_width ls) (port_widths n)) (register_ports_are d (site_count_of t) n stands.interface.declares.ports)
+      ∙ shown_are d (tag_width ls) (port_widths n) (length es) seen 0 es (omega arith)
 
   pub is_run_of : Codes (order_of ls) → Laws (order_of ls) → 0 < length ls.names → StimulusFits → (bytes : List ℕ) (rows : Rows) → IsSimulated ls n bytes rows → IsRunOf ls t bytes rows
   is_run_of codes laws some fit bytes rows sim =
-      let p : stimulus_of ls (fields_of ls n) bytes ≡ stimulus_of ls (design_fields ls t) bytes = ap (λ (fs : List Field). stimulus_of ls fs bytes) same_fields in
+      let p : stimulus_of ls (fields_of ls n) bytes ≡ stimulus_of ls (design_fields t) bytes = ap (λ (fs : List Field). stimulus_of ls fs bytes) same_fields in
       let read = stimulus_of ls (fields_of ls n) bytes in
       let fits = fit ls (fields_of ls n) bytes laws.bottom_is_level in
-      let fits' : stim.StreamFits ls (design_fields ls t) (stimulus_of ls (fields_of ls n) bytes).stream =
+      let fits' : stim.StreamFits ls (design_fields t) (stimulus_of ls (fields_of ls n) bytes).stream =
       subst (λ (fs : List Field). stim.StreamFits ls fs (stimulus_of ls (fields_of ls n) bytes).stream) same_fields fits in
       let run : IsRun n (coded_stream (code_of (order_of ls)) (stimulus_of ls (fields_of ls n) bytes).stream) sim.run =
       subst (λ (xss : List (List ℕ)). IsRun n xss sim.run) (same_stream read.stream fits) sim.is_run in
@@ -168,6 +175,6 @@ module _ (ls : Levels) (t : DesignTree) (n : Net) (whole : is_whole t ≡ true) 
         fault = sim.fault ∙ ap (λ (q : Parsed). q.fault) p;
         text =
             sim.text ∙ ap (λ (xs : List Name). rows_from ls xs 1 (map (observed n) sim.run)) same_shown
-            ∙ rows_stand ls d (sites_of t) codes some refl 1 (map (observed n) sim.run) _ cycles
+            ∙ rows_stand ls d (site_count_of t) codes some refl 1 (map (observed n) sim.run) _ cycles
             ∙ ap (λ (q : Parsed). labelled_rows ls t q.stream) p;
       }

@@ -1,5 +1,5 @@
 -- The inputs of a module with a design's interface: their fields, and the numbers of a line.
-use Rattle.std.proofs.Common.{◌≡◌, ℕ, suc, ◌+◌, List, [], ◌∷◌, ◌++◌, Bool, true, false, Some, None, length, get_or, map, sym, ap, ap₂, ◌∙◌, subst, refl, arith, bytes_eq, if◌then◌else◌, inl, inr}
+use Rattle.std.proofs.Common.{◌≡◌, ℕ, suc, ◌+◌, List, [], ◌∷◌, ◌++◌, Bool, true, false, Some, None, length, get_or, map, sym, ap, ap₂, ◌∙◌, refl, arith, bytes_eq, if◌then◌else◌, inl, inr}
 use Rattle.std.specs.Prelude.{filter, not, ◌==◌}
 use Rattle.std.specs.List.{AllByRecursion}
 use Rattle.std.proofs.lemmas.Bool.{cases_Bool, and_right}
@@ -17,13 +17,11 @@ use Rattle.sap_meaning.specs.Program.{Entity, entity, nothing, width, is_input, 
 use Rattle.sap_meaning.specs.State.{input_widths}
 use Rattle.sap_net.specs.declared.parts.Input.{Input}
 use Rattle.sap_net.specs.Names.{is_among, AreDistinct}
-use Rattle.sap_interface.specs.PortNames.{value_name, tag_name}
+use Rattle.sap_net.specs.PortNames.{value_name, tag_name, value_of, tag_of}
 use Rattle.sap_interface.specs.StandsFor.{Named, name, world}
-use Rattle.sap_interface.specs.Interface.{HasInput}
 use Rattle.sap_interface.specs.Compiled.{coded}
 use Rattle.sap_stim.specs.declared.field.Field.{Field}
 use Rattle.sap_stim.specs.declared.field.Field.TheVariants as field
-use Rattle.sap_sim.specs.Ports.{value_of, tag_of}
 use Rattle.sap_sim.specs.Fields.{tag_width, is_tag, is_tagged, field_of}
 use Rattle.sap_sim.specs.Fields as fields
 use Rattle.sap_sim.proofs.Maps.{place_behind}
@@ -95,11 +93,6 @@ pub inputs_are : (d : Named) (tag : ℕ) (is : List Input) → map (λ i. i.name
 inputs_are d tag is h all known =
     same_inputs (fields.input_widths is) is (pair_scope d tag 0 (world d).entities) (h ∙ sym (scope_names d tag 0 (world d).entities)) all
     (all_scope d tag (fields.input_widths is) known 0 (world d).entities)
-
-pub has_found : (sc : Scope) (list : List Input) → AllByRecursion (λ i. find sc i.name ≡ Some i.width) list → (n : Name) (u : ℕ) → HasInput list n u → find sc n ≡ Some u
-has_found sc [] all n u h = absurd h
-has_found sc (i ∷ list) all n u (inl e) = subst (λ (m : Name). find sc m ≡ Some u) e.0 (all.0 ∙ ap (λ (k : ℕ). Some k) e.1)
-has_found sc (i ∷ list) all n u (inr h) = has_found sc list all.1 n u h
 
 -- the fields
 

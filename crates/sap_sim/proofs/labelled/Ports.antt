@@ -11,10 +11,10 @@ use Rattle.sap_net.specs.declared.parts.Port.{Port}
 use Rattle.sap_net.specs.Net.{Net}
 use Rattle.sap_net.specs.IsNetlist.{IsNetlist, input_names}
 use Rattle.sap_net.specs.IsNetlist as netlist
-use Rattle.sap_interface.specs.PortNames.{value_name, tag_name}
+use Rattle.sap_net.specs.PortNames.{value_name, tag_name}
 use Rattle.sap_interface.specs.StandsFor.{Named, name, world}
 use Rattle.sap_interface.specs.Interface.{Shown, pairs_of, site_ports, ports_of}
-use Rattle.sap_sim.specs.Shown as rows
+use Rattle.sap_net.specs.Shown as rows
 
 -- the names of ports that pass
 abbrev pub passing : (PortKind → Bool) → List Shown → List Name

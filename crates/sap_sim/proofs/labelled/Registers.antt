@@ -1,25 +1,20 @@
 -- The registers that rows show of a module with a design's interface.
-use Rattle.std.proofs.Common.{◌≡◌, ℕ, zero, suc, ◌+◌, ◌<◌, ◌≤◌, List, [], ◌∷◌, ◌++◌, Bool, true, false, ◌||◌, Some, None, length, map, sym, ap, ◌∙◌, subst, refl, arith, bytes_eq, if◌then◌else◌, inl, inr}
+use Rattle.std.proofs.Common.{◌≡◌, ℕ, zero, suc, ◌+◌, ◌<◌, ◌≤◌, List, [], ◌∷◌, ◌++◌, Bool, true, false, ◌||◌, Some, None, length, map, sym, ap, ◌∙◌, refl, arith, bytes_eq, if◌then◌else◌, inl, inr}
 use Rattle.std.specs.Prelude.{option_map}
-use Rattle.std.specs.List.{AllByRecursion}
 use Rattle.std.proofs.lemmas.Bool.{cases_Bool}
 use Rattle.sap_lemmas.proofs.Texts.{bytes_eq_same}
 use Rattle.sap_lattice.specs.Closure.{name_at}
 use Rattle.sap_lattice.specs.Levels.{Levels, order_of}
 use Rattle.sap_lattice.specs.Codes.{Codes, code_of}
 use Rattle.sap_maps.specs.Maps.{Name, Valuation}
-use Rattle.sap_maps.specs.Scope.{Scope, find}
+use Rattle.sap_maps.specs.Scope.{Scope}
 use Rattle.sap_meaning.specs.Program.{Entity, is_register, kind_is_register}
 use Rattle.sap_meaning.specs.Store.{Store, own, number, level}
-use Rattle.sap_net.specs.declared.parts.Register.{Register}
 use Rattle.sap_net.specs.Names.{is_among}
-use Rattle.sap_net.specs.Net.{Net}
-use Rattle.sap_interface.specs.PortNames.{value_name, tag_name}
+use Rattle.sap_net.specs.PortNames.{value_name, tag_name, value_of}
 use Rattle.sap_interface.specs.StandsFor.{Named, name, world}
-use Rattle.sap_interface.specs.Interface.{HasRegister}
 use Rattle.sap_stim.specs.Rows.{Shown, level_coded, shown_of}
-use Rattle.sap_sim.specs.Ports.{value_of}
-use Rattle.sap_sim.specs.Shown.{has_tag, shown_among}
+use Rattle.sap_net.specs.Shown.{has_tag, shown_among}
 use Rattle.sap_sim.specs.Labelled.LabelledRows.{level_name, register_shown, registers_shown}
 use Rattle.sap_sim.proofs.labelled.Inputs.{From, from_next, from_here}
 use Rattle.sap_sim.proofs.labelled.Levels.{name_coded}
@@ -30,16 +25,16 @@ abbrev pub register_names : Named → (x : ℕ) → List Entity → List Name
 register_names d x [] = []
 register_names d x (e ∷ es) = (if is_register (world d) x then name d x ∷ [] else []) ++ register_names d (x + 1) es
 
-pub record Seen (d : Named) (tag : ℕ) (n : Net) (x : ℕ) : Type 0 where
+pub record Seen (d : Named) (tag : ℕ) (widths : Scope) (x : ℕ) : Type 0 where
   pub value_base : value_of (value_name (name d x)) ≡ Some (name d x)
   pub no_value : value_of (tag_name (name d x)) ≡ None
-  pub has : has_tag tag n (name d x) ≡ true
+  pub has : has_tag tag widths (name d x) ≡ true
 
-pub shown_are : (d : Named) (tag : ℕ) (n : Net) (last : ℕ) → ((x : ℕ) → x < last → is_register (world d) x ≡ true → Seen d tag n x) → (x : ℕ) (es : List Entity) → x + length es ≤ last
-    → shown_among tag n (pair_names (is_register (world d)) d x es) ≡ register_names d x es
-shown_are d tag n last seen x [] l = refl
-shown_are d tag n last seen x (e ∷ es) l =
-    let rest : shown_among tag n (pair_names (is_register (world d)) d (x + 1) es) ≡ register_names d (x + 1) es = shown_are d tag n last seen (x + 1) es (omega arith) in
+pub shown_are : (d : Named) (tag : ℕ) (widths : Scope) (last : ℕ) → ((x : ℕ) → x < last → is_register (world d) x ≡ true → Seen d tag widths x) → (x : ℕ) (es : List Entity) → x + length es ≤ last
+    → shown_among tag widths (pair_names (is_register (world d)) d x es) ≡ register_names d x es
+shown_are d tag widths last seen x [] l = refl
+shown_are d tag widths last seen x (e ∷ es) l =
+    let rest : shown_among tag widths (pair_names (is_register (world d)) d (x + 1) es) ≡ register_names d (x + 1) es = shown_are d tag widths last seen (x + 1) es (omega arith) in
     elim (cases_Bool (is_register (world d) x)) [
       | inl t ↦ (let s = seen x (omega arith) t in rw (t, s.value_base, s.no_value, s.has) (ap (λ (zs : List Name). name d x ∷ zs) rest))
       | inr f ↦ rw f rest
@@ -69,11 +64,6 @@ tag_among d x (e ∷ es) (suc k) l t =
       | inl v ↦ rw (z, v) (third (bytes_eq (tag_name (name d (x + 1 + k))) (value_name (name d x))) (bytes_eq (tag_name (name d (x + 1 + k))) (tag_name (name d x))) _ rest)
       | inr f ↦ rw (z, f) rest
     ]
-
-pub register_has : (sc : Scope) (list : List Register) → AllByRecursion (λ r. find sc r.name ≡ Some r.width) list → (n : Name) (u : ℕ) → HasRegister list n u → find sc n ≡ Some u
-register_has sc [] all n u h = absurd h
-register_has sc (r ∷ list) all n u (inl e) = subst (λ (m : Name). find sc m ≡ Some u) e.0 (all.0 ∙ ap (λ (k : ℕ). Some k) e.1)
-register_has sc (r ∷ list) all n u (inr h) = register_has sc list all.1 n u h
 
 -- what rows show of a cycle that stands for a state
 pub shown_row : (ls : Levels) (d : Named) (v : Valuation) (s : Store) → Codes (order_of ls) → 0 < length ls.names → d.code ≡ code_of (order_of ls)

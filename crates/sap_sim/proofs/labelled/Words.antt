@@ -14,11 +14,10 @@ use Rattle.sap_maps.specs.Maps.{Name}
 use Rattle.sap_meaning.specs.Program.{Entity, nothing, kind_is_input, kind_is_register, is_input, is_register}
 use Rattle.sap_names.specs.Entities.{entity_of, declared_in, group_entities as named_group}
 use Rattle.sap_names.specs.declared.entity.Entity.{Entity as Declared}
-use Rattle.sap_resolve.specs.Worlds.{all_declared, state_entities, group_entities}
+use Rattle.sap_resolved.specs.Worlds.{all_declared, state_entities, group_entities}
 use Rattle.sap_interface.specs.StandsFor.{name, world}
 use Rattle.sap_interface.specs.Designs.{named_of}
-use Rattle.sap_sim.specs.Ports.{value_of, tag_of}
-use Rattle.sap_interface.specs.PortNames.{value_name, tag_name}
+use Rattle.sap_net.specs.PortNames.{value_of, tag_of, value_name, tag_name}
 
 abbrev pub is_plain : Entity → Bool
 is_plain e = kind_is_input e.kind || kind_is_register e.kind

@@ -7,7 +7,7 @@ use Rattle.sap_meaning.specs.Program.{Entity, kind_is_register}
 use Rattle.sap_meaning.specs.Store.{Store, After, own, number, level}
 use Rattle.sap_meaning.specs.Cycle.{Tagged}
 use Rattle.sap_meaning.specs.State.{labelled_run}
-use Rattle.sap_resolve.specs.Fill.{program_of}
+use Rattle.sap_resolved.specs.Fill.{program_of}
 use Rattle.sap_interface.specs.StandsFor.{Named, name, world}
 use Rattle.sap_interface.specs.Designs.{named_of}
 use Rattle.sap_stim.specs.Rows.{Shown, row_text}

@@ -11,7 +11,7 @@ use Rattle.sap_sim.specs.Labelled.LabelledRows.{labelled_rows}
 
 -- what the bytes of a stimulus are to a design
 abbrev pub read_for : Levels → DesignTree → List ℕ → Parsed
-read_for ls d bytes = stimulus_of ls (design_fields ls d) bytes
+read_for ls d bytes = stimulus_of ls (design_fields d) bytes
 
 -- the fault is that of the stimulus, and the text has the rows of the labelled run on the lines before it
 pub record IsRunOf (ls : Levels) (d : DesignTree) (bytes : List ℕ) (rows : Rows) : Type 0 where

@@ -6,7 +6,7 @@ use Rattle.sap_meaning.specs.Store.{put_number, put_level, put_child, raise, res
 use Rattle.sap_meaning.specs.Does.{effect, attempt, select, does, does_block, does_state, does_child}
 use Rattle.sap_meaning.specs.Cycle.{cycle, set_inputs, root_fall}
 use Rattle.sap_meaning.specs.State.{first}
-use Rattle.sap_gen.specs.Diamond.{diamond}
+use Rattle.sap_lattice.specs.Diamond.{diamond}
 use Rattle.sap_gen.specs.Design.{generated_design}
 use Rattle.sap_gen.specs.Text.{generated_text}
 use Rattle.sap_gen.proofs.examples.worked_runs.Goals as goal

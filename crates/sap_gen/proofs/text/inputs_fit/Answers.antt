@@ -2,7 +2,7 @@ use Rattle.std.proofs.Common.{[], ◌∷◌, sym, subst}
 use Rattle.sap_check.specs.Checked.{levels_in}
 use Rattle.sap_tree.specs.Syntax.{DesignTree}
 use Rattle.sap_meaning.specs.State.{InputsFit}
-use Rattle.sap_resolve.specs.Fill.{program_of}
+use Rattle.sap_resolved.specs.Fill.{program_of}
 use Rattle.sap_gen.specs.Stream.{given}
 use Rattle.sap_gen.proofs.Given.{inputs_fit}
 use Rattle.sap_gen.proofs.text.inputs_fit.Goals as goal

@@ -2,7 +2,7 @@ use Rattle.std.proofs.Common.{ℕ, map, sym, ap, ◌∙◌}
 use Rattle.sap_net.specs.Net.{Net}
 use Rattle.sap_sim.specs.Fields.{tag_width}
 use Rattle.sap_sim.specs.Layout.{source_of}
-use Rattle.sap_sim.specs.Shown.{register_ports, shown_among}
+use Rattle.sap_net.specs.Shown.{register_ports, port_widths, shown_among}
 use Rattle.sap_sim.proofs.loading.planned_of.Goals as goal
 
 pub returns-clause-plan : goal.returns-clause-plan
@@ -11,7 +11,7 @@ returns-clause-plan c =
     let m = c.in_ok-runner.runner.net in
     record {
       sources = c.requires ∙ ap (λ (n : Net). map (source_of (tag_width ls) n.inputs) n.inputs) (sym c.in_ok-runner.ensures.netlist);
-      names = c.in_ok-shown.ensures.names ∙ ap (λ (tag : ℕ). shown_among tag m (register_ports m.ports)) c.width.ensures;
+      names = c.in_ok-shown.ensures.names ∙ ap (λ (tag : ℕ). shown_among tag (port_widths m) (register_ports m.ports)) c.width.ensures;
       values = c.in_ok-shown.ensures.values;
       tags = c.in_ok-shown.ensures.tags;
     }

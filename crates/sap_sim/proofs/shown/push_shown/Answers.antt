@@ -1,5 +1,5 @@
 use Rattle.std.proofs.Common.{◌≡◌, Some, rules}
-use Rattle.sap_sim.specs.Ports.{behind}
+use Rattle.sap_net.specs.PortNames.{behind}
 use Rattle.sap_sim.proofs.Registers.{behind_inner}
 use Rattle.sap_sim.proofs.shown.push_shown.Goals as goal
 

@@ -2,7 +2,8 @@ use Rattle.std.proofs.Common.{◌≡◌, List, ap, ◌∙◌, subst, sym, true}
 use Rattle.std.proofs.lemmas.Result.{IfOk-weaker}
 use Rattle.sap_maps.specs.Maps.{Name}
 use Rattle.sap_net.specs.declared.parts.Register.{Register}
-use Rattle.sap_sim.specs.Shown.{shown_among, register_ports, register_widths}
+use Rattle.sap_net.specs.Shown.{shown_among, register_ports, port_widths}
+use Rattle.sap_sim.specs.Shown.{register_widths}
 use Rattle.sap_net.specs.NameMaps.{Indexes}
 use Rattle.sap_sim.specs.Lookup.{Finds}
 use Rattle.sap_net.specs.Names.{is_name}
@@ -21,4 +22,4 @@ returns c =
     subst (λ (ns : List Name). Indexes c.in_ok-ports.ports ns) c.requires c.in_ok-ports.ensures in
     let fw : Finds c.in_ok-widths.widths (register_widths c.args.netlist.now.registers) =
     subst (λ (rs : List Register). Finds c.in_ok-widths.widths (register_widths rs)) c.registers.ensures c.in_ok-widths.ensures in
-    IfOk-weaker c.shown_among.result _ _ (λ xs h. h n fp fw ∙ ap (shown_among c.args.tag n) c.requires) c.shown_among.ensures
+    IfOk-weaker c.shown_among.result _ _ (λ xs h. h n c.rules.ensures fp fw ∙ ap (shown_among c.args.tag (port_widths n)) c.requires) c.shown_among.ensures

@@ -2,15 +2,15 @@ use Rattle.std.proofs.Common.{◌≡◌, List, ap, ◌∙◌, map, subst}
 use Rattle.sap_maps.specs.Maps.{Name}
 use Rattle.sap_net.specs.Net.{Net}
 use Rattle.sap_net.specs.IsNetlist.{IsNetlist}
-use Rattle.sap_interface.specs.PortNames.{value_name, tag_name}
-use Rattle.sap_sim.specs.Shown.{shown_among, register_ports}
+use Rattle.sap_net.specs.PortNames.{value_name, tag_name}
+use Rattle.sap_net.specs.Shown.{shown_among, register_ports, port_widths}
 use Rattle.sap_sim.specs.Layout.{ArePlaces}
 use Rattle.sap_sim.proofs.Registers.{values_are, tags_are}
 use Rattle.sap_sim.proofs.shown.shown_of.Goals as goal
 use Rattle.sap_sim.proofs.shown.shown_of.Goals.{In_ok-names}
 
-shown_is : (c : In_ok-names) → c.in_ok-names.names.items ≡ shown_among c.args.tag c.args.runner.now.net (register_ports c.args.runner.now.net.ports)
-shown_is c = c.in_ok-names.ensures ∙ ap (λ (n : Net). shown_among c.args.tag n (register_ports n.ports)) c.netlist-netlist.ensures
+shown_is : (c : In_ok-names) → c.in_ok-names.names.items ≡ shown_among c.args.tag (port_widths c.args.runner.now.net) (register_ports c.args.runner.now.net.ports)
+shown_is c = c.in_ok-names.ensures ∙ ap (λ (n : Net). shown_among c.args.tag (port_widths n) (register_ports n.ports)) c.netlist-netlist.ensures
 
 is_net : (c : In_ok-names) → IsNetlist c.args.runner.now.net
 is_net c = subst (λ (m : Net). IsNetlist m) c.netlist-netlist.ensures c.rules.ensures

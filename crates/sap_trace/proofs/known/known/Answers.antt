@@ -3,7 +3,7 @@ use Rattle.sap_lattice.specs.Codes.{Codes}
 use Rattle.sap_lattice.specs.Levels.{Levels, order_of}
 use Rattle.sap_lattice.specs.Order.{Laws}
 use Rattle.sap_check.specs.Checked.{levels_in, tree_in}
-use Rattle.sap_resolve.specs.Fill.{program_of}
+use Rattle.sap_resolved.specs.Fill.{program_of}
 use Rattle.sap_trace.proofs.known.known.Goals as goal
 
 pub returns-clause-codes : goal.returns-clause-codes

@@ -1,6 +1,6 @@
 use Rattle.std.proofs.Common.{◌≡◌, ◌≤◌, ◌+◌, ◌*◌, ◌++◌, ℕ, Option, length}
 use Rattle.std.specs.Prelude.{vec_capacity}
-use Rattle.sap_cycle.specs.Maps.{Valuation}
+use Rattle.sap_maps.specs.Maps.{Valuation}
 use Rattle.sap_check.specs.Checked.{levels_in, tree_in}
 use Rattle.sap_cycle.specs.Running.{Shows, seen}
 use Rattle.sap_trace.specs.Rooms.{HoldsLine}

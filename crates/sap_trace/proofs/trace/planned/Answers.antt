@@ -13,7 +13,7 @@ wires_of-requires c =
     let d = tree_in c.args.checked.now in
     subst (λ (n : Net). AreReadable n c.site_count.result) (sym c.in_ok-runner.ensures.netlist)
     (subst (λ (k : ℕ). AreReadable c.args.netlist k) (sym c.site_count.ensures)
-    (sites_readable ls d c.args.netlist c.rules.ensures (site_wires ls d c.args.netlist c.requires.stands c.known.ensures.numbering)))
+    (sites_readable ls d c.args.netlist c.rules.ensures (site_wires ls d c.args.netlist c.requires.stands)))
 
 pub returns-clause-wires : goal.returns-clause-wires
 returns-clause-wires c =

@@ -1,5 +1,5 @@
 use Rattle.std.proofs.Common.{◌≡◌, ◌+◌, ℕ, List, sym, subst, arith}
-use Rattle.sap_interface.specs.PortNames.{refused_name, level_name}
+use Rattle.sap_net.specs.PortNames.{refused_name, refused_level_name}
 use Rattle.sap_trace.specs.Seen.{ArePlaced}
 use Rattle.sap_trace.proofs.SiteWires.{placed_none, placed_push, placed_all}
 use Rattle.sap_trace.proofs.wires.wires_of.Goals as goal
@@ -16,8 +16,8 @@ loop-k-init c = record {
       subst (λ (ks : List ℕ). ArePlaced c.args.runner.now.net refused_name 0 ks) (sym c.new-refused.ensures.items)
       (placed_none c.args.runner.now.net refused_name);
   levels =
-      subst (λ (ks : List ℕ). ArePlaced c.args.runner.now.net level_name 0 ks) (sym c.new-levels.ensures.items)
-      (placed_none c.args.runner.now.net level_name);
+      subst (λ (ks : List ℕ). ArePlaced c.args.runner.now.net refused_level_name 0 ks) (sym c.new-levels.ensures.items)
+      (placed_none c.args.runner.now.net refused_level_name);
 }
 
 pub loop-k-preserved : goal.loop-k-preserved
@@ -26,7 +26,7 @@ loop-k-preserved c = record {
       placed_push c.args.runner.now.net refused_name c.loop-k.k c.loop-k.refused.items _ _ c.loop-k.invariant.refused c.in_ok-refused_place.ensures.named
       c.in_ok-refused_place.ensures.within c.in_ok-push.ensures.items;
   levels =
-      placed_push c.args.runner.now.net level_name c.loop-k.k c.loop-k.levels.items _ _ c.loop-k.invariant.levels c.in_ok-level_place.ensures.named
+      placed_push c.args.runner.now.net refused_level_name c.loop-k.k c.loop-k.levels.items _ _ c.loop-k.invariant.levels c.in_ok-level_place.ensures.named
       c.in_ok-level_place.ensures.within c.in_ok-push-2.ensures.items;
 }
 
@@ -35,5 +35,5 @@ returns c =
     let e : c.loop-k.k ≡ c.args.count = omega arith in
     record {
       refused = placed_all c.args.runner.now.net refused_name c.loop-k.k c.args.count _ e c.loop-k.invariant.refused;
-      levels = placed_all c.args.runner.now.net level_name c.loop-k.k c.args.count _ e c.loop-k.invariant.levels;
+      levels = placed_all c.args.runner.now.net refused_level_name c.loop-k.k c.args.count _ e c.loop-k.invariant.levels;
     }

@@ -1,9 +1,9 @@
-use Rattle.sap_interface.specs.PortNames.{refused_name, level_name}
+use Rattle.sap_net.specs.PortNames.{refused_name, refused_level_name}
 use Rattle.sap_trace.specs.Seen.{ArePlaced}
 use Rattle.sap_trace.proofs.wires.wires_of.Given as goal
 
 abbrev pub invariant-loop-k : goal.invariant-loop-k
 invariant-loop-k l = record {
   refused : ArePlaced l.runner.net refused_name l.k l.refused.items;
-  levels : ArePlaced l.runner.net level_name l.k l.levels.items;
+  levels : ArePlaced l.runner.net refused_level_name l.k l.levels.items;
 }

@@ -7,7 +7,7 @@ use Rattle.sap_check.specs.Checked.{levels_in, tree_in}
 use Rattle.sap_check.specs.Sites.{sites_of}
 use Rattle.sap_cycle.specs.Running.{ShowsNext}
 use Rattle.sap_stim.specs.Fits.{LineFits}
-use Rattle.sap_trace.specs.Fields.{given}
+use Rattle.sap_trace.specs.Given.{given}
 use Rattle.sap_trace.specs.Seen.{AreWires}
 use Rattle.sap_sim.specs.Stepped.{Stepped}
 use Rattle.sap_trace.specs.declared.wires.Wires.{Wires}

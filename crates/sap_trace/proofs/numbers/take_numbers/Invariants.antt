@@ -1,6 +1,6 @@
 use Rattle.std.proofs.Common.{◌≡◌, ◌*◌, take}
-use Rattle.sap_trace.specs.Fields.{given}
-use Rattle.sap_trace.proofs.fields.take_numbers.Given as goal
+use Rattle.sap_trace.specs.Given.{given}
+use Rattle.sap_trace.proofs.numbers.take_numbers.Given as goal
 
 -- the numbers so far
 abbrev pub invariant-loop-k : goal.invariant-loop-k

@@ -3,9 +3,9 @@ use Rattle.std.proofs.lemmas.List.{take_all}
 use Rattle.sap_lattice.specs.Levels.{order_of}
 use Rattle.sap_lattice.specs.Codes.{code_of}
 use Rattle.sap_meaning.specs.Cycle.{Tagged}
-use Rattle.sap_trace.specs.Fields.{given}
+use Rattle.sap_trace.specs.Given.{given}
 use Rattle.sap_trace.proofs.Given.{given_written, same_item}
-use Rattle.sap_trace.proofs.fields.take_numbers.Goals as goal
+use Rattle.sap_trace.proofs.numbers.take_numbers.Goals as goal
 
 pub loop-k-preserved : goal.loop-k-preserved
 loop-k-preserved c =
