@@ -8,12 +8,12 @@ use Rattle.sap_meaning.specs.State.{InputsFit, StreamFits, labelled_run}
 use Rattle.sap_meaning.specs.Store.{Refusal}
 use Rattle.sap_net.specs.Net.{Net}
 use Rattle.sap_cycle.specs.Running.{Running, ShowsNext}
-use Rattle.sap_resolve.specs.Fill.{program_of}
-use Rattle.sap_resolve.specs.Worlds.{world_of}
+use Rattle.sap_resolved.specs.Fill.{program_of}
+use Rattle.sap_resolved.specs.Worlds.{world_of}
 use Rattle.sap_stream.specs.Spans.{Span, cycles_of}
 use Rattle.sap_sim.specs.Labelled.RunOf.{read_for}
 use Rattle.sap_stim.specs.declared.stimulus.Parsed.{Parsed}
-use Rattle.sap_trace.specs.Fields.{given}
+use Rattle.sap_trace.specs.Given.{given}
 use Rattle.sap_trace.specs.Shows.{IsSteppedOn, ShowsRefused, StepsShowRefused, last_refused}
 
 module _ (ls : Levels) (d : DesignTree) (old new : Running) (line : List Tagged) (law : StepsShowRefused ls d old.net) (fits : InputsFit (world_of ls d) line)

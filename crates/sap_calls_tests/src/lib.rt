@@ -1,5 +1,5 @@
-//! Calls that no command makes, by example: what a runner's last cycle refuses, the line of a check site, and two machines
-//! side by side.
+//! Calls that no command makes, by example: what a runner's last cycle refuses, the line of a check site, machines on the
+//! worked examples of the rules, and two machines side by side.
 #![tactic(auto)]
 
 #[cfg(test)]
@@ -8,3 +8,5 @@ mod lattice;
 mod machines;
 #[cfg(test)]
 mod refusals;
+#[cfg(test)]
+mod worked;

@@ -11,8 +11,8 @@ use sap_compile::compile;
 use sap_hang::HangTable;
 use sap_sem::machine::Machine;
 use sap_sem::pair::step_pair;
+use sap_sim::read_stimulus;
 use sap_stream::inputs::Inputs;
-use sap_trace::read_stimulus;
 use std::alloc::{AllocError, Global};
 
 const BRANCHES: &[u8] =

@@ -5,7 +5,7 @@ ghost use Rattle.sap_check.specs.Checked.{levels_in, tree_in};
 ghost use Rattle.sap_interface.specs.Designs.{StandsForDesign};
 ghost use Rattle.sap_meaning.specs.Cycle.{Tagged as Given};
 ghost use Rattle.sap_meaning.specs.State.{InputsFit};
-ghost use Rattle.sap_resolve.specs.Worlds.{world_of};
+ghost use Rattle.sap_resolved.specs.Worlds.{world_of};
 ghost use Rattle.sap_trace.specs.Shows.{IsSteppedOn, StepsShowRefused};
 
 use crate::lattice::TWO;
@@ -14,10 +14,9 @@ use sap_compile::compile;
 use sap_cycle::runner::Runner;
 use sap_desk::RowBuf;
 use sap_net::netlist::Netlist;
+use sap_sim::read_stimulus;
 use sap_stream::inputs::Inputs;
-use sap_trace::{
-    read_stimulus, site_into, site_room, steps_show_refused, suppressed, take_numbers,
-};
+use sap_trace::{site_into, site_room, steps_show_refused, suppressed, take_numbers};
 use std::alloc::{AllocError, Global};
 
 // Site 1 writes y, which stays at low; site 2 is the goto.

@@ -7,10 +7,10 @@ use Rattle.sap_latfile.specs.LatticeFile.{IsLatticeOfFile}
 use Rattle.sap_meaning.specs.Agree.{StreamsAgree}
 use Rattle.sap_meaning.specs.State.{StreamFits}
 use Rattle.sap_meaning.specs.Cycle.{Tagged}
-use Rattle.sap_compile.specs.Syntax.{DesignTree}
+use Rattle.sap_tree.specs.Syntax.{DesignTree}
 use Rattle.sap_stream.specs.Apart.{IsApart}
 use Rattle.sap_stream.specs.declared.apart.Apart.{Apart}
-use Rattle.sap_sim.specs.Net.{Net}
+use Rattle.sap_net.specs.Net.{Net}
 use Rattle.sap_interface.specs.Designs.{named_of}
 use Rattle.sap_interface.specs.StandsFor.{world}
 use Rattle.sap_compile.specs.Compiles.{IsModuleFor}

@@ -4,7 +4,7 @@ use Rattle.std.specs.Prelude.{Option, Some, None}
 use Rattle.sap_lattice.specs.Levels.{Levels, order_of}
 use Rattle.sap_lattice.specs.Order.{Order}
 use Rattle.sap_meaning.specs.Cycle.{Tagged}
-use Rattle.sap_compile.specs.Syntax.{DesignTree}
+use Rattle.sap_tree.specs.Syntax.{DesignTree}
 use Rattle.sap_stim.specs.declared.fault.StimFault.{StimFault}
 use Rattle.sap_stream.specs.declared.apart.Apart.{Apart}
 use Rattle.sap_stream.proofs.Agreeing.{at_most_one}

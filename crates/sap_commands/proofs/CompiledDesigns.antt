@@ -6,7 +6,7 @@ use Rattle.sap_lattice.specs.Levels.{Levels}
 use Rattle.sap_latfile.specs.OneLattice.{AreSame}
 use Rattle.sap_latfile.proofs.Answered.{not_both}
 use Rattle.sap_latfile.proofs.OneLattice.{one_lattice}
-use Rattle.sap_compile.specs.Syntax.{DesignTree}
+use Rattle.sap_tree.specs.Syntax.{DesignTree}
 use Rattle.sap_parse.specs.Limits.{most_bytes}
 use Rattle.sap_compile.specs.Faults.{IsCompileFault}
 use Rattle.sap_compile.specs.Parts.{design_of, levels_of}
@@ -31,7 +31,7 @@ uncompiled : (lattice source : List ℕ) (fault : CompileFault) → (fault ≢ c
 uncompiled lattice source compile.Memory first ls stands = inl refl
 uncompiled lattice source (compile.Lattice f) first ls stands =
     let h = first (λ e. cc) in
-    absurd (not_both lattice ls f h.0 stands.lattice h.1)
+    absurd (not_both lattice ls f stands.lattice h)
 uncompiled lattice source (compile.Read f) first ls stands =
     let (other, is, h) = first (λ e. cc) in
     inr (design_refused (design.Read f), refl, (design.Read f, refl, h))

@@ -5,18 +5,18 @@ use Rattle.sap_lattice.specs.Levels.{Levels, order_of}
 use Rattle.sap_lattice.specs.Order.{Order}
 use Rattle.sap_lattice.specs.Codes.{width_of}
 use Rattle.sap_latfile.specs.OneLattice.{AreSame}
-use Rattle.sap_sim.specs.Maps.{Valuation}
+use Rattle.sap_maps.specs.Maps.{Valuation}
 use Rattle.sap_meaning.specs.Agree.{StreamsAgree}
 use Rattle.sap_meaning.specs.Cycle.{Tagged}
 use Rattle.sap_meaning.specs.State.{StreamFits}
-use Rattle.sap_compile.specs.Syntax.{DesignTree}
-use Rattle.sap_sim.specs.Net.{Net}
+use Rattle.sap_tree.specs.Syntax.{DesignTree}
+use Rattle.sap_net.specs.Net.{Net}
 use Rattle.sap_net.specs.Runs.{IsRun, observed}
 use Rattle.std.specs.Prelude.{map}
 use Rattle.sap_size.specs.Items.{items}
 use Rattle.sap_size.specs.Trees.{design_nodes, entity_count}
 use Rattle.sap_interface.specs.Compiled.{NetStandsFor, coded_stream}
-use Rattle.sap_interface.specs.Designs.{named_of, sites_of}
+use Rattle.sap_interface.specs.Designs.{named_of, site_count_of}
 use Rattle.sap_interface.specs.StandsFor.{Named, world}
 use Rattle.sap_compile.specs.Agree.{CyclesAgree, CyclesLookAlike}
 use Rattle.sap_compile.specs.Compiles.{IsModuleFor}
@@ -34,7 +34,7 @@ OnStreams d o n Pair =
 module _ (l m : Levels) (same : AreSame l m) (d : DesignTree) (n : Net) where
   pub module_in : (text : List ℕ) → IsModuleFor l d n text → IsModuleFor m d n text
   module_in text is =
-      let sites : ℕ = sites_of d in
+      let sites : ℕ = site_count_of d in
       let x : Named = named_of l d in
       record {
         well_formed = well_formed_in l m d same is.well_formed;

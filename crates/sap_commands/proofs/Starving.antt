@@ -5,7 +5,7 @@ use Rattle.std.proofs.Math.Seq.{take-nil}
 use Rattle.sap_desk.specs.Desk.{Told}
 use Rattle.sap_lattice.specs.Levels.{Levels}
 use Rattle.sap_meaning.specs.Cycle.{Tagged}
-use Rattle.sap_compile.specs.Syntax.{DesignTree}
+use Rattle.sap_tree.specs.Syntax.{DesignTree}
 use Rattle.sap_stream.specs.declared.apart.Apart.{Apart}
 use Rattle.sap_words.specs.Words.{Words, compile, run, trace, fmt, sim, report, twin, gen}
 use Rattle.sap_files.specs.Asks.{Asks, file, by, gives, prints, writes, stops, IsCut, IsPrefix, Starved}

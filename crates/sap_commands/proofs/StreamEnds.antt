@@ -8,8 +8,8 @@ use Rattle.sap_latfile.specs.OneLattice.{AreSame}
 use Rattle.sap_latfile.proofs.OneLattice.{one_lattice}
 use Rattle.sap_meaning.specs.Agree.{StreamsAgree}
 use Rattle.sap_meaning.specs.Cycle.{Tagged}
-use Rattle.sap_compile.specs.Syntax.{DesignTree}
-use Rattle.sap_sim.specs.Net.{Net}
+use Rattle.sap_tree.specs.Syntax.{DesignTree}
+use Rattle.sap_net.specs.Net.{Net}
 use Rattle.sap_compile.specs.Compiles.{IsModuleFor}
 use Rattle.sap_files.specs.Ending.{Ending, done}
 use Rattle.sap_files.specs.Kinds.{IsLatticeFile, stream_file}

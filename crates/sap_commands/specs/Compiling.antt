@@ -2,9 +2,9 @@
 use Rattle.std.specs.Prelude.{ℕ, List, Result, Ok, Err}
 use Rattle.sap_lattice.specs.Levels.{Levels}
 use Rattle.sap_latfile.specs.LatticeFile.{IsLatticeOfFile}
-use Rattle.sap_compile.specs.Syntax.{DesignTree}
+use Rattle.sap_tree.specs.Syntax.{DesignTree}
 use Rattle.sap_parse.specs.Text.{IsText}
-use Rattle.sap_sim.specs.Net.{Net}
+use Rattle.sap_net.specs.Net.{Net}
 use Rattle.sap_compile.specs.Compiles.{IsModuleFor}
 use Rattle.sap_compile.specs.Parts.{design_of as compiled_design, levels_of, module_of, netlist_of}
 use Rattle.sap_compile.specs.declared.compiled.Compiled.{Compiled}

@@ -2,13 +2,13 @@
 use Rattle.std.specs.Prelude.{◌≡◌, ℕ, List, length, map}
 use Rattle.std.specs.List.{AllZip}
 use Rattle.sap_lattice.specs.Levels.{Levels}
-use Rattle.sap_sim.specs.Maps.{Valuation}
+use Rattle.sap_maps.specs.Maps.{Valuation}
 use Rattle.sap_meaning.specs.Cycle.{Tagged}
-use Rattle.sap_compile.specs.Syntax.{DesignTree}
-use Rattle.sap_sim.specs.Net.{Net}
+use Rattle.sap_tree.specs.Syntax.{DesignTree}
+use Rattle.sap_net.specs.Net.{Net}
 use Rattle.sap_net.specs.Runs.{IsRun, observed}
 use Rattle.sap_interface.specs.Compiled.{coded_stream}
-use Rattle.sap_interface.specs.Designs.{named_of, sites_of}
+use Rattle.sap_interface.specs.Designs.{named_of, site_count_of}
 use Rattle.sap_compile.specs.Agree.{CyclesAgree, CyclesLookAlike}
 use Rattle.sap_compile.specs.Compiles.{IsModuleFor}
 use Rattle.sap_compile.specs.Runs.{HasOneRun}
@@ -19,9 +19,9 @@ pub record RunsAgreeOn (ls : Levels) (d : DesignTree) (l : ℕ) (one other : Lis
   pub run : HasOneRun net (coded_stream (named_of ls d).code one)
   pub other_run : HasOneRun net (coded_stream (named_of ls d).code other)
   pub agree : (vs us : List Valuation) → IsRun net (coded_stream (named_of ls d).code one) vs → IsRun net (coded_stream (named_of ls d).code other) us
-      → AllZip (CyclesAgree (named_of ls d) (sites_of d) l) (map (observed net) vs) (map (observed net) us)
+      → AllZip (CyclesAgree (named_of ls d) (site_count_of d) l) (map (observed net) vs) (map (observed net) us)
   pub look_alike : (vs us : List Valuation) → IsRun net (coded_stream (named_of ls d).code one) vs → IsRun net (coded_stream (named_of ls d).code other) us
-      → AllZip (CyclesLookAlike (named_of ls d) (sites_of d) l) (map (observed net) vs) (map (observed net) us)
+      → AllZip (CyclesLookAlike (named_of ls d) (site_count_of d) l) (map (observed net) vs) (map (observed net) us)
 
 -- The text is the line of two streams that agree at a level; there is a module for the design, and the runs of each on these streams agree there.
 pub record IsAgreement (ls : Levels) (d : DesignTree) (l : ℕ) (one other : List (List Tagged)) (level text : List ℕ) : Type 0 where

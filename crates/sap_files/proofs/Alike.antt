@@ -8,27 +8,23 @@ use Rattle.sap_latfile.specs.OneLattice.{AreSame}
 use Rattle.sap_tree.specs.Syntax.{DesignTree}
 use Rattle.sap_names.specs.Entities.{entities_of}
 use Rattle.sap_meaning.specs.Cycle.{Tagged}
-use Rattle.sap_meaning.specs.Program.{Entity, Program, World}
+use Rattle.sap_meaning.specs.Program.{Entity, Program}
 use Rattle.sap_meaning.specs.Store.{After, Store}
-use Rattle.sap_meaning.specs.State.{input_widths, labelled_run}
-use Rattle.sap_resolve.specs.Fill.{program_of}
+use Rattle.sap_meaning.specs.State.{labelled_run}
+use Rattle.sap_resolved.specs.Fill.{program_of}
 use Rattle.sap_interface.specs.StandsFor.{Named, world}
 use Rattle.sap_interface.specs.Designs.{named_of}
-use Rattle.sap_stim.specs.declared.field.Field.TheVariants as field
 use Rattle.sap_stim.specs.declared.stimulus.Parsed.{Parsed}
-use Rattle.sap_stim.specs.Stimulus.{stimulus_of}
 use Rattle.sap_sim.specs.Simulated.{Rows}
 use Rattle.sap_sim.specs.Labelled.Fields.{design_fields}
 use Rattle.sap_sim.specs.Labelled.LabelledRows.{labelled_row, labelled_rows, register_shown, registers_shown, rows_of_run}
 use Rattle.sap_sim.specs.Labelled.RunOf.{IsRunOf, read_for}
-use Rattle.sap_files.proofs.Programs.{program_in, world_in}
+use Rattle.sap_files.proofs.Programs.{program_in}
 use Rattle.sap_files.proofs.Stimuli.{stimulus_in}
 
 module _ (l m : Levels) (same : AreSame l m) where
   pub read_in : (d : DesignTree) (bytes : List ℕ) → read_for l d bytes ≡ read_for m d bytes
-  read_in d bytes =
-      ap (λ (w : World). stimulus_of l (map (λ width. field.Tagged width) (input_widths w.entities)) bytes) (world_in l m same d)
-      ∙ stimulus_in l m same (design_fields m d) bytes
+  read_in d bytes = stimulus_in l m same (design_fields d) bytes
 
   -- rows, of one program
 

@@ -93,19 +93,19 @@ one_whole bytes v w a b =
 pub lattice_lawful : IsLawful lattice_file
 lattice_lawful = record {
   one_value = one_whole;
-  one_reason = λ bytes why other (fault, is, ne, first) (fault', was, ne', first').
-      is ∙ ap lattice_refused (one_fault bytes fault fault' ne ne' first first') ∙ sym was;
-  not_both = λ bytes v why stands (fault, is, ne, first). not_both bytes v fault ne stands.lattice first;
+  one_reason = λ bytes why other (fault, is, first) (fault', was, first').
+      is ∙ ap lattice_refused (one_fault bytes fault fault' first first') ∙ sym was;
+  not_both = λ bytes v why stands (fault, is, first). not_both bytes v fault stands.lattice first;
 }
 
 -- reading one
 
-unread : (bytes : List ℕ) (fault : LatFileFault) → FirstFault bytes fault → Refuses lattice_file bytes (ending (lattice_failure fault))
+unread : (bytes : List ℕ) (fault : LatFileFault) → (fault ≢ lattice.Memory → FirstFault bytes fault) → Refuses lattice_file bytes (ending (lattice_failure fault))
 unread bytes lattice.Memory first = inl refl
-unread bytes lattice.NotToml first = inr (lattice_refused lattice.NotToml, refl, (lattice.NotToml, refl, (λ e. cc), first))
-unread bytes lattice.Shape first = inr (lattice_refused lattice.Shape, refl, (lattice.Shape, refl, (λ e. cc), first))
-unread bytes (lattice.Rule f) first = inr (lattice_refused (lattice.Rule f), refl, (lattice.Rule f, refl, (λ e. cc), first))
+unread bytes lattice.NotToml first = inr (lattice_refused lattice.NotToml, refl, (lattice.NotToml, refl, first (λ e. cc)))
+unread bytes lattice.Shape first = inr (lattice_refused lattice.Shape, refl, (lattice.Shape, refl, first (λ e. cc)))
+unread bytes (lattice.Rule f) first = inr (lattice_refused (lattice.Rule f), refl, (lattice.Rule f, refl, first (λ e. cc)))
 
-pub lattice_unread : (bytes : List ℕ) (fault : LatFileFault) (failure : Failure) → failure ≡ lattice_failure fault → FirstFault bytes fault
+pub lattice_unread : (bytes : List ℕ) (fault : LatFileFault) (failure : Failure) → failure ≡ lattice_failure fault → (fault ≢ lattice.Memory → FirstFault bytes fault)
     → Refuses lattice_file bytes (ending failure)
 lattice_unread bytes fault failure is first = subst (λ (f : Failure). Refuses lattice_file bytes (ending f)) (sym is) (unread bytes fault first)

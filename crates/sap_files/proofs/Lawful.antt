@@ -7,12 +7,12 @@ use Rattle.sap_files.specs.Kinds.{Kind, Has, IsRefused, IsLawful}
 use Rattle.sap_files.specs.Asks.{Asks, file, by, gives, prints, writes, stops, AreLawful, Cause, EndsAtFile, Shows, end_of}
 
 module _ (k : Kind) (law : IsLawful k) (t : Told) (name : List ℕ) where
-  one_value : (v w : k.Value) → Has t name k v → Has t name k w → v ≡ w
+  pub one_value : (v w : k.Value) → Has t name k v → Has t name k w → v ≡ w
   one_value v w has had =
       let P : List ℕ → Type 0 = λ bytes. k.Stands bytes w in
       law.one_value has.bytes v w has.stands (subst P (some_unique (t.files name) had.bytes has.bytes had.file has.file) had.stands)
 
-  not_both : (v : k.Value) (why : Refusal) → Has t name k v → IsRefused t name k why → ⊥
+  pub not_both : (v : k.Value) (why : Refusal) → Has t name k v → IsRefused t name k why → ⊥
   not_both v why has is =
       let P : List ℕ → Type 0 = λ bytes. k.Refused bytes why in
       law.not_both has.bytes v why has.stands (subst P (some_unique (t.files name) is.bytes has.bytes is.file has.file) is.refused)

@@ -1,9 +1,9 @@
 -- Module files: a text is at most one module, and what reading one comes to.
 use Rattle.std.proofs.Common.{◌≡◌, ◌≢◌, ℕ, List, refl, sym, ◌∙◌, ap, subst, inl, inr}
 use Rattle.sap_net.specs.Net.{Net}
-use Rattle.sap_modtext.specs.Modules.{IsModule, netlist_of}
-use Rattle.sap_modtext.proofs.OneFile.{one_file}
-use Rattle.sap_modtext.proofs.OneLexing.{one_lexing}
+use Rattle.sap_vtext.specs.Modules.{IsModule, netlist_of}
+use Rattle.sap_vtext.proofs.OneFile.{one_file}
+use Rattle.sap_vtext.proofs.OneLexing.{one_lexing}
 use Rattle.sap_vparse.proofs.OneReading as reading
 use Rattle.sap_vread.specs.ModuleFault.{IsModuleFault}
 use Rattle.sap_vread.specs.declared.fault.ModFault.{ModFault}

@@ -2,7 +2,7 @@
 use Rattle.std.proofs.Common.{ℕ, List, subst}
 use Rattle.sap_net.specs.Net.{Net}
 use Rattle.sap_net.specs.IsNetlist.{IsNetlist}
-use Rattle.sap_modtext.specs.Modules.{IsModule}
+use Rattle.sap_vtext.specs.Modules.{IsModule}
 use Rattle.sap_vread.proofs.build.Netlist.{file_netlist}
 use Rattle.sap_vread.proofs.build.SpelledNames.{spelled_written}
 use Rattle.sap_vread.proofs.Faults.{text_of}

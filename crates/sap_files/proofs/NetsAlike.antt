@@ -28,8 +28,9 @@ use Rattle.sap_stim.specs.Rows.{Shown, shown, shown_of, row_text}
 use Rattle.sap_stim.specs.Stimulus.{stimulus_of}
 use Rattle.sap_sim.specs.Fields.{field_of, fields_of, is_tag, with_field}
 use Rattle.sap_sim.specs.Numbers.{given, numbers_of, value_for}
-use Rattle.sap_interface.specs.PortNames.{value_name, tag_name}
-use Rattle.sap_sim.specs.Shown.{register_ports, row_of, rows_from, shown_among, shown_registers}
+use Rattle.sap_net.specs.PortNames.{value_name, tag_name}
+use Rattle.sap_net.specs.Shown.{port_widths, register_ports, shown_among}
+use Rattle.sap_sim.specs.Shown.{row_of, rows_from, shown_registers}
 use Rattle.sap_sim.specs.Simulated.{IsSimulated, Rows, read_for}
 use Rattle.sap_sim.proofs.Registers.{IsShown, all_shown, register_port_is}
 use Rattle.sap_files.specs.StimulusTexts.{AreModuleRows}
@@ -59,7 +60,7 @@ module _ (l m : Levels) (same : AreSame l m) where
   numbers_in n stream = ap (λ (o : Order). map (λ xs. map (number_by o n.inputs xs) n.inputs) stream) same.order
 
   shown_in : (n : Net) → shown_registers l n ≡ shown_registers m n
-  shown_in n = ap (λ (o : Order). shown_among (width_of o) n (register_ports n.ports)) same.order
+  shown_in n = ap (λ (o : Order). shown_among (width_of o) (port_widths n) (register_ports n.ports)) same.order
 
   register_in : (name : List ℕ) (value tag : ℕ) → shown l name value tag ≡ shown m name value tag
   register_in name value tag =

@@ -17,11 +17,11 @@ use Rattle.sap_names.specs.Entities.{entities_of}
 use Rattle.sap_names.specs.declared.entity.Entity.{Entity as Named}
 use Rattle.sap_meaning.specs.Program.{World, Group, Program, root}
 use Rattle.sap_meaning.specs.Touches.{root_touches}
-use Rattle.sap_resolve.specs.Worlds.{level_number, declared_level, authority_level, authority_of, declared, all_declared, states_in, state_entities, group_entities, world_of}
-use Rattle.sap_resolve.specs.Terms.{level_term, level_terms}
+use Rattle.sap_resolved.specs.Worlds.{level_number, declared_level, authority_level, authority_of, declared, all_declared, states_in, state_entities, group_entities, world_of}
+use Rattle.sap_resolved.specs.Terms.{level_term, level_terms}
 use Rattle.sap_shape.specs.Sites.{Surroundings, simple_sites, command_sites, block_sites, state_sites}
-use Rattle.sap_resolve.specs.Resolve.{site_number, step_of, command_of, block_of, else_of, arms_of, list_of, state_of, group_of, states_of}
-use Rattle.sap_resolve.specs.Fill.{filled_group, table, program_of}
+use Rattle.sap_resolved.specs.Resolve.{site_number, step_of, command_of, block_of, else_of, arms_of, list_of, state_of, group_of, states_of}
+use Rattle.sap_resolved.specs.Fill.{filled_group, table, program_of}
 
 module _ (l m : Levels) (same : AreSame l m) where
   bottom_in : (order_of l).bottom ≡ (order_of m).bottom
@@ -61,7 +61,7 @@ module _ (l m : Levels) (same : AreSame l m) where
     group_in n x no_state = refl
     group_in n x (and_state s rest) = rw (state_in n x s, group_in (n + 1) (x + states_in s) rest) refl
 
-  pub world_in : (d : DesignTree) → world_of l d ≡ world_of m d
+  world_in : (d : DesignTree) → world_of l d ≡ world_of m d
   world_in d = rw (same.order, all_in d.declarations, group_in 0 (length d.declarations) d.states) refl
 
   -- commands

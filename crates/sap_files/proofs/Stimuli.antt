@@ -4,7 +4,8 @@ use Rattle.sap_lattice.specs.Levels.{Levels}
 use Rattle.sap_latfile.specs.OneLattice.{AreSame}
 use Rattle.sap_stim.specs.declared.field.Field.{Field}
 use Rattle.sap_stim.specs.declared.field.Field.TheVariants.{Tagged, Plain}
-use Rattle.sap_stim.specs.Line.{field_of, fields_of, inputs_of, line_of, split_at}
+use Rattle.sap_text.specs.Lines.{split_at}
+use Rattle.sap_stim.specs.Line.{field_of, fields_of, inputs_of, line_of}
 use Rattle.sap_stim.specs.Stimulus.{read_pieces, stimulus_of}
 
 module _ (l m : Levels) (same : AreSame l m) where

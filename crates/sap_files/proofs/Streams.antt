@@ -93,9 +93,9 @@ unfolding order_of order_by
 bottom_level bytes ls (names, pairs, file, is) = subst (λ (ns : List (List ℕ)). (order_of ls).bottom < length ns) (sym is.same_names) is.bottom.level
 
 module _ (lattice : List ℕ) (ls : Levels) (is : IsLatticeOfFile lattice ls) (d : DesignTree) where
-  lines_fit : (place : ℕ) (bytes : List ℕ) (stream : List (List Tagged)) → (stream_file place ls d).Stands bytes stream → LinesFit ls (design_fields ls d) stream
+  lines_fit : (place : ℕ) (bytes : List ℕ) (stream : List (List Tagged)) → (stream_file place ls d).Stands bytes stream → LinesFit ls (design_fields d) stream
   lines_fit place bytes stream stands =
-      subst (λ (p : Parsed). LinesFit ls (design_fields ls d) p.stream) stands (fits ls (design_fields ls d) bytes (bottom_level lattice ls is))
+      subst (λ (p : Parsed). LinesFit ls (design_fields d) p.stream) stands (fits ls (design_fields d) bytes (bottom_level lattice ls is))
 
   pub stream_fits : (place : ℕ) (bytes : List ℕ) (stream : List (List Tagged)) → (stream_file place ls d).Stands bytes stream → StreamFits (world (named_of ls d)) stream
   stream_fits place bytes stream stands = fit_stream ls d stream (lines_fit place bytes stream stands)
@@ -103,9 +103,9 @@ module _ (lattice : List ℕ) (ls : Levels) (is : IsLatticeOfFile lattice ls) (d
   pub one_length : (bytes more : List ℕ) (one other : List (List Tagged)) → (stream_file 1 ls d).Stands bytes one → (stream_file 2 ls d).Stands more other
       → AreOfOneLength one other
   one_length bytes more one other stands also = (
-    length (design_fields ls d),
-    counts ls (design_fields ls d) one (lines_fit 1 bytes one stands),
-    counts ls (design_fields ls d) other (lines_fit 2 more other also),
+    length (design_fields d),
+    counts ls (design_fields d) one (lines_fit 1 bytes one stands),
+    counts ls (design_fields d) other (lines_fit 2 more other also),
   )
 
 -- the name of an input, by the entities that are left from one on

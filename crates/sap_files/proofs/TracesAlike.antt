@@ -7,7 +7,7 @@ use Rattle.sap_meaning.specs.Cycle.{Tagged}
 use Rattle.sap_meaning.specs.Program.{Program}
 use Rattle.sap_meaning.specs.Store.{After, Refusal}
 use Rattle.sap_meaning.specs.State.{labelled_run}
-use Rattle.sap_resolve.specs.Fill.{program_of}
+use Rattle.sap_resolved.specs.Fill.{program_of}
 use Rattle.sap_stim.specs.declared.stimulus.Parsed.{Parsed}
 use Rattle.sap_sim.specs.Labelled.RunOf.{read_for}
 use Rattle.sap_trace.specs.TraceOf.{IsTraceOf, Trace}

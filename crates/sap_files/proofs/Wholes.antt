@@ -13,7 +13,8 @@ use Rattle.sap_net.specs.Runs.{AllFit, IsRun, observed}
 use Rattle.sap_net.proofs.Same.{run_same}
 use Rattle.sap_sim.specs.Fields.{fields_of}
 use Rattle.sap_sim.specs.Numbers.{numbers_of}
-use Rattle.sap_sim.specs.Shown.{register_ports, rows_from, shown_registers}
+use Rattle.sap_net.specs.Shown.{register_ports}
+use Rattle.sap_sim.specs.Shown.{rows_from, shown_registers}
 use Rattle.sap_sim.specs.Simulated.{read_for}
 use Rattle.sap_sim.specs.Stepping.{AreRows, RowsAddUp, rows_of}
 use Rattle.sap_sim.proofs.Registers.{all_shown}
@@ -57,7 +58,7 @@ module _ (ls : Levels) (n : Net) (rules : IsNetlist n) (some : SomeRun n) (adds 
       (whole, shown, prefix_on gained part.rest rest whole goes_on)
 
 module _ (ls : Levels) (d : DesignTree) (n : Net) (adds : LinesAddUp ls d n) where
-  pub has_whole_lines : HasWhole (AreLines ls d n) ls (design_fields ls d)
+  pub has_whole_lines : HasWhole (AreLines ls d n) ls (design_fields d)
   has_whole_lines bytes gained part =
       let whole = labelled_trace ls d (read_lines ls d bytes).stream in
       let shown : AreLines ls d n (read_lines ls d bytes).stream whole = adds.all bytes in

@@ -4,7 +4,6 @@ use Rattle.sap_desk.specs.Desk.{Told}
 use Rattle.sap_lattice.specs.Levels.{Levels, numbers, order_of}
 use Rattle.sap_latfile.specs.LatticeFile.{IsLatticeOfFile, FirstFault}
 use Rattle.sap_latfile.specs.declared.fault.LatFileFault.{LatFileFault}
-use Rattle.sap_latfile.specs.declared.fault.LatFileFault.TheVariants as lattice_fault
 use Rattle.sap_tree.specs.Syntax.{DesignTree}
 use Rattle.sap_parse.specs.Limits.{most_bytes}
 use Rattle.sap_parse.specs.Text.{IsText, IsReadFault}
@@ -14,7 +13,7 @@ use Rattle.sap_meaning.specs.Cycle.{Tagged}
 use Rattle.sap_stim.specs.declared.fault.StimFault.{StimFault}
 use Rattle.sap_sim.specs.Labelled.RunOf.{read_for}
 use Rattle.sap_net.specs.Net.{Net}
-use Rattle.sap_modtext.specs.Modules.{IsModule}
+use Rattle.sap_vtext.specs.Modules.{IsModule}
 use Rattle.sap_vread.specs.ModuleFault.{IsModuleFault}
 use Rattle.sap_vread.specs.declared.fault.ModFault.{ModFault}
 use Rattle.sap_vread.specs.declared.fault.ModFault.TheVariants as module_fault
@@ -63,7 +62,7 @@ lattice_file = record {
   most = None;
   Value = Levels;
   Stands = IsLatticeFile;
-  Refused = λ bytes why. (fault : LatFileFault) × (why ≡ lattice_refused fault) × (fault ≢ lattice_fault.Memory) × FirstFault bytes fault;
+  Refused = λ bytes why. (fault : LatFileFault) × (why ≡ lattice_refused fault) × FirstFault bytes fault;
 }
 
 -- Design files whose design is well formed over the levels of a lattice. They are read no further than shows that they are too long.

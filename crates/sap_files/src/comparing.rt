@@ -15,8 +15,8 @@ use sap_lattice::lattice::Lattice;
 use sap_lattice::level::Level;
 use sap_names::entity::Entity;
 use sap_names::kind::Declared;
+use sap_sim::read_stimulus;
 use sap_stream::{Apart, Stream, agree};
-use sap_trace::read_stimulus;
 use sap_tree::name::Name;
 use std::alloc::{AllocError, Global};
 

@@ -30,7 +30,8 @@ Example:
     state S enforced low { goto S; }
 
 Cure: Look at what stands just before the place: here `;` is missing behind `dynamic`. A design has
-its declarations first, then one state or more.
+its declarations first, then one state or more. `then` and `case` need the first line `sapper 2;`, and
+behind a first word `sapper` stand exactly `2` and `;`.
 ";
 
 const E3: &str = "E3: a name is declared twice.
@@ -193,7 +194,8 @@ Example:
     reg x : 8 dynamic;
     state S enforced low { x := 1 otherwise { x := 2; } goto S; }
 
-Cure: Leave the handler out, or make the target enforced.
+Cure: Leave the handler out, or make the target enforced. Of a `then` put the commands of its block
+behind the command, and drop `then` and `otherwise`.
 ";
 
 const E16: &str = "E16: `setTag` is used on a dynamic entity.

@@ -43,7 +43,8 @@ Cure: List 2 to 64 levels.
 const L4: &str = "L4: a level has no good name.
 
 The position of the first such level, from 1, stands behind the code. A name is a letter or `_`,
-then letters, digits and `_`, of at most 40 bytes, no keyword, and no name of an earlier level.
+then letters, digits and `_`, of at most 40 bytes, no keyword of version 1, and no name of an earlier
+level. `then` and `case` may be levels, but a design of version 2 can't name them.
 
 Example:
 

@@ -7,13 +7,16 @@ use Rattle.sap_desk.proofs.Steps.{at_name-same}
 use Rattle.sap_lattice.specs.Levels.{Levels}
 use Rattle.sap_tree.specs.Syntax.{DesignTree}
 use Rattle.sap_words.specs.Words.{Words, compile}
-use Rattle.sap_files.specs.Kinds.{Has, lattice_file, design_file}
-use Rattle.sap_files.specs.Ending.{Ending, done, refused, failed, no_memory, no_command, lattice_refused, design_refused, stimulus_refused, module_refused, level_refused, lengths_apart, inputs_apart, status_of}
-use Rattle.sap_files.specs.Asks.{Cause, Files, Leaves, Written}
+use Rattle.sap_files.specs.Kinds.{Has, IsWellFormedText, lattice_file, design_file}
+use Rattle.sap_files.specs.Ending.{Ending, Refusal, done, refused, failed, no_memory, no_command, lattice_refused, design_refused, stimulus_refused, module_refused, level_refused, lengths_apart, inputs_apart, status_of}
+use Rattle.sap_files.specs.Asks.{file, writes, Cause, Files, Leaves, Written}
 use Rattle.sap_commands.specs.Commands.{IsModuleText, asks, asks_for, asks_if}
 use Rattle.sapper.specs.Answers.{Answers}
 use Rattle.sapper.specs.Exact.{Exact}
 use Rattle.sapper.specs.Headline.{Headline, MeansDesign}
+use Rattle.sap_lemmas.proofs.Options.{some_unique}
+use Rattle.sap_files.proofs.Lattices.{lattice_lawful}
+use Rattle.sap_files.proofs.Lawful.{not_both, one_value}
 use Rattle.sap_files.proofs.Modules.{one_module}
 
 -- a text of a module for the design means it
@@ -59,6 +62,23 @@ module _ (lattice design out : List ℕ) (answer : ℕ) (t n : Told) where
     | inr (inr seven) ↦ absurd (no_want seven)
   ]
 
+-- a file that is there and stands for no well-formed design
+module _ (lattice design out : List ℕ) (t : Told) (ls : Levels) (source : List ℕ) (there : t.files design ≡ Some source)
+    (none : (d : DesignTree) → ¬ (IsWellFormedText ls source d)) where
+  at_design : (e : Ending) → Cause (file design (design_file ls) (λ d. writes out (IsModuleText ls d))) t e → 1 ≡ status_of e
+  at_design e (inl (why, ends, is)) = sym (ap status_of ends ∙ ap (λ (w : Refusal). status_of (refused w)) is.refused.1)
+  at_design e (inr (d, has, is)) =
+      absurd (none d (subst (λ (bytes : List ℕ). IsWellFormedText ls bytes d) (some_unique (t.files design) has.bytes source has.file there) has.stands))
+
+  at_lattice : Has t lattice lattice_file ls → (e : Ending) → Cause (asks (compile lattice design out)) t e → 1 ≡ status_of e
+  at_lattice has e (inl (why, ends, is)) = absurd (not_both lattice_file lattice_lawful t lattice ls why has is)
+  at_lattice has e (inr (other, had, rest)) =
+      let P : Levels → Type 0 = λ l. Cause (file design (design_file l) (λ d. writes out (IsModuleText l d))) t e in
+      at_design e (subst P (one_value lattice_file lattice_lawful t lattice other ls had has) rest)
+
+  told : (answer : ℕ) → Has t lattice lattice_file ls → (e : Ending) × Cause (asks (compile lattice design out)) t e × (answer ≡ status_of e) → answer ≡ 1
+  told answer has (e, cause, is) = is ∙ sym (at_lattice has e cause)
+
 headline : (words : List (List ℕ)) (lost now answer : ℕ) (t n : Told) → Answers words lost now answer t n → Exact words t answer → Headline words answer t n
 headline words lost now answer t n a exact = λ lattice design out is. record {
   only = λ zero.
@@ -67,6 +87,9 @@ headline words lost now answer t n a exact = λ lattice design out is. record {
       written lattice design out answer t n (subst (λ (c : Option Words). Written (asks_if c) t n.files) is left);
   always = always lattice design out answer t n
       (subst (λ (c : Option Words). (e : Ending) → Cause (asks_if c) t e → (answer ≡ status_of e) ⊎ ((answer ≡ 6) ⊎ (answer ≡ 7))) is exact.always);
+  refuses = λ ls source has there none no_failure no_want.
+      told lattice design out t ls source there none answer has
+      (subst (λ (c : Option Words). (e : Ending) × Cause (asks_if c) t e × (answer ≡ status_of e)) is (exact.only no_failure no_want));
 }
 
 pub headline_told : (words : List (List ℕ)) (lost now answer : ℕ) (old new : Option Told) → Between old new (Answers words lost now answer)

@@ -11,16 +11,16 @@ use Rattle.sap_meaning.specs.State.{StreamFits, labelled_run}
 use Rattle.sap_tree.specs.Syntax.{DesignTree}
 use Rattle.sap_net.specs.Net.{Net}
 use Rattle.sap_net.specs.Runs.{IsRun, observed}
-use Rattle.sap_modtext.specs.Modules.{IsModule}
+use Rattle.sap_vtext.specs.Modules.{IsModule}
 use Rattle.sap_interface.specs.Compiled.{CyclesStand, coded_stream}
-use Rattle.sap_interface.specs.Designs.{named_of, sites_of}
+use Rattle.sap_interface.specs.Designs.{named_of, site_count_of}
 use Rattle.sap_interface.specs.Interface.{HasInterface}
 use Rattle.sap_interface.specs.StandsFor.{world}
 use Rattle.sap_compile.specs.Agree.{RunsAgree, RunsLookAlike}
-use Rattle.sap_compile.specs.Items.{IsSmall}
+use Rattle.sap_size.specs.Items.{IsSmall}
 use Rattle.sap_compile.specs.Runs.{HasOneRunOnStreams}
 use Rattle.sap_words.specs.Words.{command_of, compile}
-use Rattle.sap_files.specs.Kinds.{Has, lattice_file, design_file}
+use Rattle.sap_files.specs.Kinds.{Has, IsWellFormedText, lattice_file, design_file}
 
 -- In every cycle of each run of a netlist on a stream of tagged inputs, levels being given as codes, it has the values, tags, active states and refused
 -- writes of the same cycle of the design's labelled run.
@@ -28,16 +28,16 @@ abbrev pub MeansInEveryCycle : Levels → DesignTree → Net → Type 0
 MeansInEveryCycle ls d net =
     (stream : List (List Tagged)) → StreamFits (world (named_of ls d)) stream
     → (vs : List Valuation) → IsRun net (coded_stream (named_of ls d).code stream) vs
-    → CyclesStand (named_of ls d) (sites_of d) (map (observed net) vs) (labelled_run (named_of ls d).program stream)
+    → CyclesStand (named_of ls d) (site_count_of d) (map (observed net) vs) (labelled_run (named_of ls d).program stream)
 
--- A text is the one module that means what a design does.
+-- A text is the one module that means what a design does: cycle for cycle, with runs that agree where streams do, and within a bound on its size.
 pub record MeansDesign (ls : Levels) (d : DesignTree) (text : List ℕ) : Type 0 where
   pub net : Net
   -- by the grammar of modules the text is this module, and no other
   pub is_module : IsModule text net
   pub no_other : (other : Net) → IsModule text other → other ≡ net
   -- its interface is the design's
-  pub interface : HasInterface (named_of ls d) (width_of (order_of ls)) (sites_of d) net
+  pub interface : HasInterface (named_of ls d) (width_of (order_of ls)) (site_count_of d) net
   -- clocked on any stream that fits the design it has one run, and that has the design's meaning
   pub one_run : HasOneRunOnStreams ls d net
   pub means : MeansInEveryCycle ls d net
@@ -55,6 +55,9 @@ pub record CompilesExactly (lattice design out : List ℕ) (answer : ℕ) (t n :
       × ((text : List ℕ) × (n.files out ≡ Some text) × MeansDesign ls d text)
   -- where the design is well formed it is done, but for a failed call on the desk (6) and want of memory (7)
   pub always : (ls : Levels) (d : DesignTree) → Has t lattice lattice_file ls → Has t design (design_file ls) d → answer ≢ 6 → answer ≢ 7 → answer ≡ 0
+  -- where no design that its bytes are is well formed it is refused as a design (1), but for these two
+  pub refuses : (ls : Levels) (source : List ℕ) → Has t lattice lattice_file ls → t.files design ≡ Some source
+      → ((d : DesignTree) → ¬ (IsWellFormedText ls source d)) → answer ≢ 6 → answer ≢ 7 → answer ≡ 1
 
 -- The words are those of a `compile`.
 abbrev pub Headline : (words : List (List ℕ)) → (answer : ℕ) → Told → Told → Type 0

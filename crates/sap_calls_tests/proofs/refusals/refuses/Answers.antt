@@ -2,7 +2,7 @@ use Rattle.std.proofs.Common.{ℕ, List, ap, ◌∙◌, subst}
 use Rattle.sap_check.specs.Checked.{levels_in, tree_in}
 use Rattle.sap_cycle.specs.Running.{ShowsNext}
 use Rattle.sap_lattice.specs.Levels.{Levels}
-use Rattle.sap_trace.specs.Fields.{given}
+use Rattle.sap_trace.specs.Given.{given}
 use Rattle.sap_calls_tests.proofs.Steps.{shown, stepped}
 use Rattle.sap_calls_tests.proofs.refusals.refuses.Goals as goal
 use Rattle.sap_calls_tests.proofs.refusals.refuses.Goals.{After-step}

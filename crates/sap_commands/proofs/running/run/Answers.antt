@@ -1,10 +1,10 @@
 use Rattle.std.proofs.Common.{◌≡◌, List, sym, ◌∙◌, ap, subst}
 use Rattle.std.proofs.lemmas.Result.{err_from_is_err_and}
 use Rattle.sap_lattice.specs.Levels.{Levels}
-use Rattle.sap_compile.specs.Syntax.{DesignTree}
-use Rattle.sap_check.specs.Designs.{design_of as tree_of}
+use Rattle.sap_tree.specs.Syntax.{DesignTree}
+use Rattle.sap_tree.specs.Designs.{design_of as tree_of}
 use Rattle.sap_check.specs.Checked.{levels_in, tree_in}
-use Rattle.sap_sim.specs.Net.{Net}
+use Rattle.sap_net.specs.Net.{Net}
 use Rattle.sap_interface.specs.Designs.{StandsForDesign}
 use Rattle.sap_stim.specs.declared.field.Field.{Field}
 use Rattle.sap_stim.specs.declared.stimulus.Parsed.{Parsed}
@@ -55,7 +55,7 @@ returns g c =
     let (source, reads, compiled) = c.in_ok-compiled.ensures in
     let same = compiled_same c.in_ok-file.file.bytes source m ls compiled c.in_ok-file.ensures.1 in
     let runs : GivesRuns k d n = rw (c.lattice.ensures, c.design.ensures, c.into_parts-checked.ensures.checked, c.into_parts-checked.ensures.netlist) at c.rows_of_run.ensures.runs in
-    let fields : fields_of k n ≡ design_fields k d = rw (c.lattice.ensures, c.design.ensures, c.into_parts-checked.ensures.checked, c.into_parts-checked.ensures.netlist) at c.rows_of_run.ensures.fields in
+    let fields : fields_of k n ≡ design_fields d = rw (c.lattice.ensures, c.design.ensures, c.into_parts-checked.ensures.checked, c.into_parts-checked.ensures.netlist) at c.rows_of_run.ensures.fields in
     let printed = rw (c.lattice-2.ensures, c.into_parts-checked.ensures.checked, c.into_parts-checked.ensures.netlist) at c.print_rows.ensures in
     past ls c.in_ok-file.ensures.0 c.in_ok-file.ensures.1
     (compiled_past c.in_ok-file.ensures.1 c.in_ok-compiled.ensures

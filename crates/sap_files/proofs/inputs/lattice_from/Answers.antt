@@ -1,7 +1,8 @@
-use Rattle.std.proofs.Common.{subst}
+use Rattle.std.proofs.Common.{◌≢◌, subst}
 use Rattle.std.specs.Prelude.{ℕ, List}
 use Rattle.sap_files.proofs.Lattices.{lattice_stands, lattice_unread}
 use Rattle.sap_latfile.specs.LatticeFile.{FirstFault, IsLatticeOfFile}
+use Rattle.sap_latfile.specs.declared.fault.LatFileFault.TheVariants as lattice
 use Rattle.sap_files.proofs.inputs.lattice_from.Goals as goal
 
 pub returns-in-Ok : goal.returns-in-Ok
@@ -11,4 +12,4 @@ returns-in-Ok c =
 pub returns-in-Err : goal.returns-in-Err
 returns-in-Err c =
     lattice_unread c.args.bytes.now c.in-Err.fault c.lattice_failure.result c.lattice_failure.ensures
-    (subst (λ (b : List ℕ). FirstFault b c.in-Err.fault) c.as_slice.ensures c.in-Err.ensures.refused)
+    (subst (λ (b : List ℕ). c.in-Err.fault ≢ lattice.Memory → FirstFault b c.in-Err.fault) c.as_slice.ensures c.in-Err.ensures.refused)

@@ -50,7 +50,7 @@ returns g c =
     let ls = levels_in c.args.checked.now in
     let d = tree_in c.args.checked.now in
     let s = c.in_ok-tracing.tracing in
-    let fields : s.fields ≡ design_fields ls d = c.in_ok-tracing.ensures.after.planned.fields in
+    let fields : s.fields ≡ design_fields d = c.in_ok-tracing.ensures.after.planned.fields in
     let holds : (bytes given : List ℕ) → AreLines ls d s.runner.net (stimulus_of ls s.fields bytes).stream given → AreTraceLines ls d bytes given
     = λ bytes given shown.
     let there : AreLines ls d s.runner.net (read_for ls d bytes).stream given
