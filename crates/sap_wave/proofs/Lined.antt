@@ -1,0 +1,47 @@
+-- The lines of a text that is made of forms.
+use Rattle.std.proofs.Common.{◌≡◌, ℕ, zero, suc, ◌<◌, ◌≤◌, List, [], ◌∷◌, ◌++◌, Bool, true, false, length, get_or, refl, ap, ◌∙◌, arith}
+use Rattle.std.specs.Prelude.{◌==◌}
+use Rattle.std.specs.List.{list_all, slice_split}
+use Rattle.std.proofs.lemmas.Bool.{and_parts}
+use Rattle.std.proofs.lemmas.Bool.Decides.{nat_tests}
+use Rattle.std.proofs.lemmas.List.{append_assoc}
+use Rattle.std.proofs.lemmas.List.Splits.{slice_split_at, length-slice_split}
+use Rattle.sap_text.specs.Blanks.{is_in_line}
+use Rattle.sap_text.specs.Places.{line}
+use Rattle.sap_text.specs.Lines.{Line, lines_between, lines_of}
+use Rattle.sap_wave.specs.Lines.{Form, form_text}
+
+abbrev pub ended_line : Form → Line
+ended_line f = record { text = form_text f; ended = true }
+
+abbrev is_end : ℕ → Bool
+is_end b = b == 10
+
+no_end : (b : ℕ) → is_in_line b ≡ true → is_end b ≡ false
+no_end b h = grind (arith, nat_tests)
+
+none_ends : (zs : List ℕ) → list_all is_in_line zs ≡ true → (k d : ℕ) → k < length zs → is_end (get_or zs k d) ≡ false
+none_ends [] h k d l = absurd (omega arith)
+none_ends (z ∷ zs) h zero d l = no_end z (and_parts (is_in_line z) (list_all is_in_line zs) h).0
+none_ends (z ∷ zs) h (suc k) d l = none_ends zs (and_parts (is_in_line z) (list_all is_in_line zs) h).1 k d (omega arith)
+
+split_line : (xs ys : List ℕ) → list_all is_in_line xs ≡ true → slice_split is_end (xs ++ (10 ∷ ys)) ≡ xs ∷ slice_split is_end ys
+split_line xs ys h = slice_split_at is_end xs 10 ys (none_ends xs h) refl
+
+some_pieces : (ys : List ℕ) → 1 ≤ length (slice_split is_end ys)
+some_pieces ys = let e = length-slice_split is_end ys in omega (arith, e)
+
+first_line : (x : List ℕ) (ps : List (List ℕ)) → 1 ≤ length ps → lines_between (x ∷ ps) ≡ record { text = x; ended = true } ∷ lines_between ps
+first_line x [] h = absurd (omega arith)
+first_line x (p ∷ ps) h = refl
+
+pub lines_more : (f : Form) (bytes : List ℕ) → list_all is_in_line (form_text f) ≡ true → lines_of (line (form_text f) ++ bytes) ≡ ended_line f ∷ lines_of bytes
+unfolding lines_of
+lines_more f bytes h =
+    ap (λ z. lines_between (slice_split is_end z)) (append_assoc (form_text f) (10 ∷ []) bytes)
+    ∙ ap lines_between (split_line (form_text f) bytes h)
+    ∙ first_line (form_text f) (slice_split is_end bytes) (some_pieces bytes)
+
+pub lines_none : lines_of [] ≡ []
+unfolding lines_of
+lines_none = refl

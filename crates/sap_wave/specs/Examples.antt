@@ -1,0 +1,69 @@
+-- A worked example: a module with two registers and their tags, one cycle.
+use Rattle.std.specs.Prelude.{◌≡◌, ℕ, List, [], ◌∷◌, ◌++◌, codes}
+use Rattle.sap_text.specs.Places.{line}
+use Rattle.sap_wave.specs.declared.fault.WaveCode.TheVariants.{Y4}
+use Rattle.sap_wave.specs.Digits.{identifier, bits}
+use Rattle.sap_wave.specs.declared.variable.Variable.{Variable}
+use Rattle.sap_wave.specs.Reading.{Wave, IsReading}
+use Rattle.sap_wave.specs.Faults.{IsFault}
+use Rattle.sap_wave.specs.Dumps.{dump_text}
+
+abbrev pub of_width : ℕ → List ℕ → Variable
+of_width width name = record { name = name; width = width }
+
+abbrev pub variables : List Variable
+variables = of_width 8 (codes "v_x") ∷ (of_width 1 (codes "t_x") ∷ (of_width 8 (codes "v_y") ∷ (of_width 1 (codes "t_y") ∷ [])))
+
+abbrev pub first : List ℕ
+first = 1 ∷ (0 ∷ (2 ∷ (0 ∷ [])))
+
+abbrev pub second : List ℕ
+second = 2 ∷ (0 ∷ (1 ∷ (0 ∷ [])))
+
+abbrev pub wave : Wave
+wave = record { variables = variables; blocks = first ∷ (second ∷ []) }
+
+abbrev pub lines : List (List ℕ) → List ℕ
+lines [] = []
+lines (text ∷ texts) = line text ++ lines texts
+
+-- the line that begins the last block is the fourteenth
+abbrev pub text : (last_block : List ℕ) → List ℕ
+text last_block =
+    lines (
+    codes "$timescale 1ns $end"
+    ∷ (codes "$scope module top $end"
+    ∷ (codes "$var reg 8 ! v_x $end"
+    ∷ (codes "$var reg 1 \" t_x $end"
+    ∷ (codes "$var reg 8 # v_y $end"
+    ∷ (codes "$var reg 1 $ t_y $end"
+    ∷ (codes "$upscope $end"
+    ∷ (codes "$enddefinitions $end"
+    ∷ (codes "#0"
+    ∷ (codes "b00000001 !"
+    ∷ (codes "b0 \""
+    ∷ (codes "b00000010 #"
+    ∷ (codes "b0 $"
+    ∷ (last_block
+    ∷ (codes "b00000010 !"
+    ∷ (codes "b00000001 #"
+    ∷ [])))))))))))))))
+    )
+
+abbrev pub Written : Type 0
+Written = dump_text variables first (second ∷ []) ≡ text (codes "#1")
+
+abbrev pub Read : Type 0
+Read = IsReading (text (codes "#1")) wave
+
+-- the second block has the number 1
+abbrev pub OtherNumber : Type 0
+OtherNumber = IsFault (text (codes "#2")) 14 Y4
+
+-- identifiers of one, two and three digits
+abbrev pub Identifiers : Type 0
+Identifiers =
+    (identifier 0 ≡ codes "!") × (identifier 93 ≡ codes "~") × (identifier 94 ≡ codes "\"!") × (identifier 8835 ≡ codes "~~") × (identifier 8836 ≡ codes "\"!!")
+
+abbrev pub Bits : Type 0
+Bits = (bits 1 0 ≡ codes "0") × (bits 8 2 ≡ codes "00000010")

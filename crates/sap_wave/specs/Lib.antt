@@ -1,0 +1,13 @@
+pub mod Digits
+pub mod Code
+pub mod FaultTexts
+pub mod Lines
+pub mod Reading
+pub mod Faults
+pub mod Dumps
+pub mod Runs
+pub mod Shown
+pub mod Dumping
+pub mod Dumper
+pub mod Laws
+pub mod Examples

@@ -1,0 +1,56 @@
+//! Value change dumps: what a dump is a reading of, what is wrong with one, and the dump of a run.
+//!
+//! Each law stands on an empty function, whose clauses a caller in another crate has by calling it.
+#![tactic(auto)]
+
+mod digits;
+pub mod dumper;
+pub mod fault;
+mod registers;
+mod room;
+mod texts;
+pub mod variable;
+
+ghost use Rattle.sap_wave.specs.Digits.{OneIdentifier, BitsReadBack};
+ghost use Rattle.sap_wave.specs.Laws.{OneWaveOrFault, EachWaveOrFault, DumpsAddUp, DumpsReadBack, RunsReadBack};
+ghost use Rattle.sap_wave.specs.Examples as examples;
+
+pub use dumper::Dumper;
+pub use fault::{WaveCode, WaveFault};
+pub use variable::Variable;
+
+/// Each variable's number has exactly one identifier, and the digits of a number spell it.
+pub fn digits_read_back()
+    ensures identifiers { OneIdentifier }
+    ensures bits { BitsReadBack }
+{}
+
+/// A text has one reading or one first fault, and not both.
+pub fn one_wave_or_fault()
+    ensures one { OneWaveOrFault }
+    ensures each { EachWaveOrFault }
+{}
+
+/// A dump reads back as what was written.
+pub fn dumps_read_back()
+    ensures { DumpsReadBack }
+{}
+
+/// The dump of a netlist's run reads back as the run: first the initial numbers, then those after each cycle's edge.
+pub fn runs_read_back()
+    ensures { RunsReadBack }
+{}
+
+/// The head and the blocks that a dumper writes, one behind another, add up to the dump of the run.
+pub fn blocks_add_up()
+    ensures { DumpsAddUp }
+{}
+
+/// What small dumps are, worked out.
+pub fn worked_dumps()
+    ensures written { examples.Written }
+    ensures read { examples.Read }
+    ensures other_number { examples.OtherNumber }
+    ensures identifiers { examples.Identifiers }
+    ensures bits { examples.Bits }
+{}
