@@ -138,8 +138,13 @@ class Edits:
         return self.in_front_of_a_command(self.draw.choice((f"goto {self.any_of(State)}; ", "fall; ")))
 
     def then_of_transfer(self):
+        """Of the transfer that stands there, or of one to any state or child."""
         command = self.any_command(is_plain_transfer)
-        return command and self.replaced(self.end_of(command), " then { } otherwise { }")
+        if command is None:
+            return None
+        start, end = self.at_place[command.place].offset, self.end_of(command).offset
+        transfer = self.draw.choice((self.text[start:end], f"goto {self.any_of(State)}", "fall"))
+        return self.text[:start] + f"{transfer} then {{ }} otherwise {{ }}" + self.text[end + 1 :]
 
     def goto_elsewhere(self):
         command = self.any_command(lambda command: isinstance(command.simple, Goto))

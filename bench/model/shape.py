@@ -113,11 +113,9 @@ class Uses:
                 self.command(command)
 
     def command(self, command):
-        """The `then` of a transfer is E10 and nothing else."""
-        if isinstance(command, Then) and isinstance(command.simple, TRANSFERS):
-            return
+        """The `then` of a transfer has E10, and no E15."""
         self.simple(command.simple)
-        if isinstance(command, (Otherwise, Then)):
+        if isinstance(command, Otherwise) or (isinstance(command, Then) and not isinstance(command.simple, TRANSFERS)):
             self.fault_if(not is_refusable(command.simple, self.declared, self.state), "E15", command.word)
 
     def simple(self, simple):
