@@ -1,0 +1,1 @@
+streams: cycle 1 input a_asks
