@@ -1,8 +1,7 @@
 -- How `twin` ends, step by step, up to its streams.
 use Rattle.std.proofs.Common.{◌≡◌, ℕ, List}
 use Rattle.std.specs.Prelude.{Some, None}
-use Rattle.sap_lattice.specs.Levels.{Levels}
-use Rattle.sap_stim.specs.Line.{level_named}
+use Rattle.sap_lattice.specs.Levels.{Levels, level_named}
 use Rattle.sap_compile.specs.Parts.{design_of}
 use Rattle.sap_compile.specs.declared.compiled.Compiled.{Compiled}
 use Rattle.sap_words.specs.Words.{twin}

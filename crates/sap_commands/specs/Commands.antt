@@ -1,11 +1,10 @@
 -- What each command asks.
 use Rattle.std.specs.Prelude.{◌≡◌, ◌↔◌, ℕ, List, [], Option, Some, None}
 use Rattle.sap_desk.specs.Desk.{Told}
-use Rattle.sap_lattice.specs.Levels.{Levels, order_of}
+use Rattle.sap_lattice.specs.Levels.{Levels, level_named, order_of}
 use Rattle.sap_meaning.specs.Cycle.{Tagged}
 use Rattle.sap_tree.specs.Syntax.{DesignTree}
 use Rattle.sap_net.specs.Net.{Net}
-use Rattle.sap_stim.specs.Line.{level_named}
 use Rattle.sap_stream.specs.declared.apart.Apart.{Apart}
 use Rattle.sap_sim.specs.Labelled.RunOf.{read_for as design_stimulus}
 use Rattle.sap_compile.specs.Compiles.{IsModuleFor}

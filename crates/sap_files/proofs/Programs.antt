@@ -1,8 +1,7 @@
 -- Two lattices that are the same give a design the same program.
-use Rattle.std.proofs.Common.{◌≡◌, ℕ, ◌+◌, List, [], ◌∷◌, length, refl, ◌∙◌, ap, bytes_eq}
-use Rattle.std.specs.List.{position_or_len}
-use Rattle.std.specs.Prelude.{Option, Some, None}
-use Rattle.sap_lattice.specs.Levels.{Levels, order_of}
+use Rattle.std.proofs.Common.{◌≡◌, ℕ, ◌+◌, List, [], ◌∷◌, length, refl, ◌∙◌, ap}
+use Rattle.std.specs.Prelude.{Option, Some, None, unwrap_or}
+use Rattle.sap_lattice.specs.Levels.{Levels, level_named, order_of}
 use Rattle.sap_lattice.specs.Order.{Order}
 use Rattle.sap_latfile.specs.OneLattice.{AreSame}
 use Rattle.sap_tree.specs.declared.name.Mention.{Mention}
@@ -28,7 +27,7 @@ module _ (l m : Levels) (same : AreSame l m) where
   bottom_in = ap (λ (o : Order). o.bottom) same.order
 
   number_in : (level : Mention) → level_number l level ≡ level_number m level
-  number_in level = ap (λ (names : List (List ℕ)). position_or_len (λ l. bytes_eq l level.name) names) same.names
+  number_in level = ap (λ (names : List (List ℕ)). unwrap_or (level_named names level.name) (length names)) same.names
 
   -- entities
 

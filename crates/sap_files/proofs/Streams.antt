@@ -7,7 +7,7 @@ use Rattle.std.proofs.lemmas.List.Sums.{position_or_len_is}
 use Rattle.std.specs.List.{position_or_len}
 use Rattle.sap_lemmas.proofs.Options.{some_unique}
 use Rattle.sap_lemmas.proofs.Texts.{bytes_eq_same, equal_of_bytes_eq}
-use Rattle.sap_lattice.specs.Levels.{Levels, order_by, order_of}
+use Rattle.sap_lattice.specs.Levels.{Levels, level_named, order_by, order_of}
 use Rattle.sap_lattice.specs.Rules.{KeepsNames, repeated}
 use Rattle.sap_latfile.specs.LatticeFile.{IsLatticeOfFile}
 use Rattle.sap_latfile.specs.OneLattice.{AreSame}
@@ -17,7 +17,6 @@ use Rattle.sap_tree.specs.Syntax.{DesignTree}
 use Rattle.sap_names.specs.declared.entity.Entity.{Entity}
 use Rattle.sap_report.proofs.Lists.{drop-at}
 use Rattle.sap_stim.specs.Fits.{StreamFits as LinesFit}
-use Rattle.sap_stim.specs.Line.{level_named}
 use Rattle.sap_stim.specs.declared.fault.StimFault.{StimFault}
 use Rattle.sap_stim.specs.declared.stimulus.Parsed.{Parsed}
 use Rattle.sap_stim.proofs.Fitting.{fits}

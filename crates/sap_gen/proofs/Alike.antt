@@ -1,10 +1,9 @@
 -- Two lattices of the same names and the same order give a design the same program, and its states the same rows.
-use Rattle.std.proofs.Common.{◌≡◌, ℕ, ◌+◌, List, [], ◌∷◌, ◌++◌, Option, Some, None, ◌-◌, length, map, refl, ap, ap₂, ◌∙◌, if◌then◌else◌, bytes_eq}
-use Rattle.std.specs.List.{position_or_len}
-use Rattle.std.specs.Prelude.{slice_get}
+use Rattle.std.proofs.Common.{◌≡◌, ℕ, ◌+◌, List, [], ◌∷◌, ◌++◌, Option, Some, None, ◌-◌, length, map, refl, ap, ap₂, ◌∙◌, if◌then◌else◌}
+use Rattle.std.specs.Prelude.{slice_get, unwrap_or}
 use Rattle.sap_lattice.specs.Closure.{name_at}
 use Rattle.sap_lattice.specs.Codes.{code_of}
-use Rattle.sap_lattice.specs.Levels.{Levels, level_in, order_of}
+use Rattle.sap_lattice.specs.Levels.{Levels, level_in, level_named, order_of}
 use Rattle.sap_lattice.specs.Order.{Order}
 use Rattle.sap_tree.specs.declared.name.Mention.{Mention}
 use Rattle.sap_tree.specs.declared.syntax.Decl.{Decl}
@@ -36,7 +35,7 @@ use Rattle.sap_resolved.specs.Worlds.{all_declared, authority_level, authority_o
 
 module _ (l m : Levels) (names : l.names ≡ m.names) (order : order_of l ≡ order_of m) where
   level_same : (x : Mention) → level_number l x ≡ level_number m x
-  level_same x = ap (λ (ns : List (List ℕ)). position_or_len (λ l. bytes_eq l x.name) ns) names
+  level_same x = ap (λ (ns : List (List ℕ)). unwrap_or (level_named ns x.name) (length ns)) names
 
   bottom_same : (order_of l).bottom ≡ (order_of m).bottom
   bottom_same = ap (λ (o : Order). o.bottom) order

@@ -18,7 +18,7 @@ use Rattle.sap_lattice.specs.Rows.{holds, le_in, order_in, tells}
 use Rattle.sap_lattice.specs.Rules.{BadName, BadPair, KeepsAll, KeepsNames, KeepsPairs}
 use Rattle.sap_lattice.specs.Rules.BadName.{no_word, keyword, too_long, repeated}
 use Rattle.sap_lattice.specs.Rules.BadPair.{lower, upper}
-use Rattle.sap_lattice.specs.Words.{is_keyword, is_word}
+use Rattle.sap_text.specs.Names.{is_word, is_among, design_keywords}
 use Rattle.sap_lattice.specs.declared.order.PairRule.{PairRule}
 use Rattle.sap_lattice.specs.declared.order.PairRule.TheVariants.{Apart, Joined}
 use Rattle.sap_lattice.specs.declared.pair.Pair.{Pair}
@@ -137,7 +137,7 @@ differ j k a b =
 apart : (m n : List ℕ) → bytes_eq m n ≡ false → m ≡ n → ⊥
 apart m n f e = both_ways (bytes_eq m n) f (ap (bytes_eq m) (sym e) ∙ bytes_eq_same m)
 
-sound_name : (k : ℕ) → k < 4 → is_word (name_at level_names k) ≡ true → is_keyword (name_at level_names k) ≡ false → length (name_at level_names k) ≤ 40 → ¬ BadName level_names k
+sound_name : (k : ℕ) → k < 4 → is_word (name_at level_names k) ≡ true → is_among (name_at level_names k) design_keywords ≡ false → length (name_at level_names k) ≤ 40 → ¬ BadName level_names k
 sound_name k l w q s (no_word e) = both_ways _ e w
 sound_name k l w q s (keyword e) = both_ways _ q e
 sound_name k l w q s (too_long e) = omega arith

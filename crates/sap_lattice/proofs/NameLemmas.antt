@@ -11,7 +11,7 @@ use Rattle.std.proofs.lemmas.Slice.Eq.{bytes_eq-Decides}
 use Rattle.sap_lattice.specs.Closure.{name_at}
 use Rattle.sap_lattice.specs.Rules.{BadName, KeepsNames}
 use Rattle.sap_lattice.specs.Rules.BadName.{no_word, keyword, too_long, repeated}
-use Rattle.sap_lattice.specs.Words.{is_word, is_keyword}
+use Rattle.sap_text.specs.Names.{is_word, is_among, design_keywords}
 use Rattle.sap_lattice.specs.declared.TheConstants.{MOST_NAME_BYTES}
 
 -- what a search for the first that passes says
@@ -66,19 +66,19 @@ stands_cases names k name None found low same r_is found_is =
     (λ t. absurd (both_ways found found_is t), λ (j, below, e). absurd (none j (omega arith) (get_or-take k names j [] below ∙ e ∙ sym same)))
 
 -- what no level may have as its name
-pub unfit_bad : (names : List (List ℕ)) (k : ℕ) → (not (is_word (name_at names k)) || (is_keyword (name_at names k) || ltb MOST_NAME_BYTES (length (name_at names k)))) ≡ true → BadName names k
+pub unfit_bad : (names : List (List ℕ)) (k : ℕ) → (not (is_word (name_at names k)) || (is_among (name_at names k) design_keywords || ltb MOST_NAME_BYTES (length (name_at names k)))) ≡ true → BadName names k
 unfit_bad names k h =
     let name : List ℕ = name_at names k in
-    elim (or_cases (not (is_word name)) (is_keyword name || ltb MOST_NAME_BYTES (length name)) h) [
+    elim (or_cases (not (is_word name)) (is_among name design_keywords || ltb MOST_NAME_BYTES (length name)) h) [
       | inl e ↦ no_word (not-true (is_word name) e)
       | inr e ↦
-          elim (or_cases (is_keyword name) (ltb MOST_NAME_BYTES (length name)) e) [
+          elim (or_cases (is_among name design_keywords) (ltb MOST_NAME_BYTES (length name)) e) [
             | inl w ↦ keyword w
             | inr l ↦ too_long (ltb-true MOST_NAME_BYTES (length name) l)
           ]
     ]
 
-pub bad_cases : (names : List (List ℕ)) (k : ℕ) → BadName names k → ((not (is_word (name_at names k)) || (is_keyword (name_at names k) || ltb MOST_NAME_BYTES (length (name_at names k)))) ≡ true) ⊎ ((j : ℕ) × (j < k) × (name_at names j ≡ name_at names k))
+pub bad_cases : (names : List (List ℕ)) (k : ℕ) → BadName names k → ((not (is_word (name_at names k)) || (is_among (name_at names k) design_keywords || ltb MOST_NAME_BYTES (length (name_at names k)))) ≡ true) ⊎ ((j : ℕ) × (j < k) × (name_at names j ≡ name_at names k))
 bad_cases names k (no_word e) = inl (or_left _ _ (not_from_false (is_word (name_at names k)) e))
 bad_cases names k (keyword e) = inl (or_right _ _ (or_left _ _ e))
 bad_cases names k (too_long h) = inl (or_right _ _ (or_right _ _ (lt-ltb MOST_NAME_BYTES (length (name_at names k)) h)))

@@ -1,12 +1,17 @@
 -- What a lattice is seen as, and its order.
-use Rattle.std.specs.Prelude.{ℕ, Bool, false, not, ◌&&◌, ◌||◌, List, [], length, slice_index_or, nat_lt, if◌then◌else◌, find, unwrap_or}
+use Rattle.std.specs.Prelude.{ℕ, Bool, false, not, ◌&&◌, ◌||◌, List, [], length, slice_index_or, nat_lt, if◌then◌else◌, find, position, Option, unwrap_or}
 use Rattle.std.specs.List.{list_all, range_with_len}
+use Rattle.std.specs.Str.{bytes_eq}
 use Rattle.sap_lattice.specs.Order.{Order}
 
 -- The names of the levels in the file's order, and in row x at place y whether level x is at or below level y.
 pub record Levels : Type 0 where
   pub names : List (List ℕ)
   pub table : List (List Bool)
+
+-- the number of the level of this name, from 0
+abbrev pub level_named : (names : List (List ℕ)) → List ℕ → Option ℕ
+level_named names name = position (λ level. bytes_eq level name) names
 
 -- the numbers below n
 abbrev pub numbers : ℕ → List ℕ

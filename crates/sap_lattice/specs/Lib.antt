@@ -13,4 +13,3 @@ pub mod Pairs
 pub mod Related
 pub mod Rows
 pub mod Rules
-pub mod Words

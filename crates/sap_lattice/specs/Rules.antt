@@ -3,7 +3,7 @@ use Rattle.std.specs.Prelude.{◌≡◌, ◌<◌, ◌≤◌, ◌+◌, ℕ, true,
 use Rattle.sap_lattice.specs.declared.pair.Pair.{Pair}
 use Rattle.sap_lattice.specs.declared.fault.LatFault.{LatFault}
 use Rattle.sap_lattice.specs.declared.fault.LatFault.TheVariants.{Count, Bad, UnknownPair, Cycle, NoJoin, NoLeast, Memory}
-use Rattle.sap_lattice.specs.Words.{is_word, is_keyword}
+use Rattle.sap_text.specs.Names.{is_word, is_among, design_keywords}
 use Rattle.sap_lattice.specs.Closure.{Below, IsLevel, IsJoin, IsLeast, name_at}
 
 -- L3: there are too few or too many levels
@@ -13,7 +13,7 @@ BadCount names = (length names < 2) ⊎ (64 < length names)
 -- what is no name for the level at place k
 pub data BadName (names : List (List ℕ)) (k : ℕ) : Type 0 where
   no_word : is_word (name_at names k) ≡ false → BadName names k
-  keyword : is_keyword (name_at names k) ≡ true → BadName names k
+  keyword : is_among (name_at names k) design_keywords ≡ true → BadName names k
   too_long : 40 < length (name_at names k) → BadName names k
   repeated : (j : ℕ) → j < k → name_at names j ≡ name_at names k → BadName names k
 

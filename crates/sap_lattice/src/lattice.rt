@@ -1,11 +1,10 @@
 // Lattices.
 
 ghost use Rattle.std.specs.Prelude.{◌≡◌, ◌≢◌, ◌<◌, ◌≤◌, ◌==◌, ℕ, IfOk, IfSome, MatchOption, length, position, slice_index_or, [], nat_lt, if◌then◌else◌, map, bit_or};
-ghost use Rattle.std.specs.Str.{bytes_eq};
 ghost use Rattle.sap_lattice.specs.Codes.{Codes, code_of, width_of, is_in_code, number_of};
 ghost use Rattle.sap_lattice.specs.Finite.{HasJoins};
 ghost use Rattle.sap_lattice.specs.Lawful.{IsAntisymmetric, IsNarrow};
-ghost use Rattle.sap_lattice.specs.Levels.{order_of, level_in, numbers};
+ghost use Rattle.sap_lattice.specs.Levels.{order_of, level_in, level_named, numbers};
 ghost use Rattle.sap_lattice.specs.Order.{Laws};
 ghost use Rattle.sap_lattice.specs.Rows.{le_in, order_in};
 ghost use Rattle.sap_lattice.specs.Rules.{KeepsNames};
@@ -211,7 +210,7 @@ impl Lattice {
 
     /// The level whose name these bytes are, looked for among all.
     fn search_name(&self, name: &[u8]) -> Option<Level>
-        ensures { result ≡ position (λ n. bytes_eq n name.now) self.now.names }
+        ensures { result ≡ level_named self.now.names name.now }
     {
         self.lawful();
         let place = place_of(self.names.as_slice(), name)?;
@@ -220,7 +219,7 @@ impl Lattice {
 
     /// The level whose name these bytes are.
     pub fn level_named(&self, name: &[u8]) -> Option<Level>
-        ensures { result ≡ position (λ n. bytes_eq n name.now) self.now.names }
+        ensures { result ≡ level_named self.now.names name.now }
     {
         self.lawful();
         match self.guess_name(name) {

@@ -3,7 +3,7 @@
 ghost use Rattle.std.specs.Prelude.{◌≡◌};
 ghost use Rattle.std.specs.List.{list_all, list_any};
 ghost use Rattle.std.specs.Str.{bytes_eq};
-ghost use Rattle.sap_lattice.specs.Words.{is_word, is_inner, is_keyword};
+ghost use Rattle.sap_text.specs.Names.{is_word, is_inner, is_among, design_keywords};
 
 pub use sap_text::name::Name;
 use sap_text::scan::{Class, is_in, is_initial};
@@ -46,13 +46,13 @@ const KEYWORDS: [&[u8]; 17] = [
 
 /// Whether these bytes are a keyword of the design language.
 pub(crate) fn is_keyword(bytes: &[u8]) -> bool
-    ensures { result ≡ is_keyword bytes.now }
+    ensures { result ≡ is_among bytes.now design_keywords }
 {
     is_among(bytes, KEYWORDS.as_slice())
 }
 
 fn is_among(bytes: &[u8], words: &[&[u8]]) -> bool
-    ensures { result ≡ list_any (λ word. bytes_eq word.now bytes.now) words.now }
+    ensures { result ≡ list_any (λ word. bytes_eq bytes.now word.now) words.now }
 {
-    words.iter().any(|word| *word == bytes)
+    words.iter().any(|word| bytes == *word)
 }

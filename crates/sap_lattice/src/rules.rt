@@ -2,7 +2,7 @@
 
 ghost use Rattle.std.specs.Prelude.{◌≡◌, ◌≢◌, ◌<◌, ◌↔◌, ◌||◌, ℕ, List, not, nat_lt, IsTrue, IfErr, OnOk, MatchOption, [], length, position, slice_index_or};
 ghost use Rattle.std.specs.Str.{bytes_eq};
-ghost use Rattle.sap_lattice.specs.Words.{is_word, is_keyword};
+ghost use Rattle.sap_text.specs.Names.{is_word, is_among, design_keywords};
 ghost use Rattle.sap_lattice.specs.Rules.{BadCount, BadLevel, IsFirst, FirstBroken, KeepsNames};
 ghost use Rattle.sap_lattice.specs.declared.pair.Pair.{Pair as PairOfNames};
 
@@ -29,7 +29,7 @@ fn stands_earlier(names: &[Name], k: usize) -> bool
 
 /// Whether no level may have this name.
 fn is_unfit(name: &[u8]) -> bool
-    ensures { result ≡ (not (is_word name.now) || (is_keyword name.now || nat_lt MOST_NAME_BYTES (length name.now))) }
+    ensures { result ≡ (not (is_word name.now) || (is_among name.now design_keywords || nat_lt MOST_NAME_BYTES (length name.now))) }
 {
     !is_word(name) || is_keyword(name) || name.len() > MOST_NAME_BYTES
 }

@@ -1,4 +1,3 @@
-pub mod Weights
 pub mod Faults
 pub mod First
 pub mod Parts

@@ -1,5 +1,5 @@
 -- The faults of names and widths, E3 to E9: each sentence once, over the tree. A list has the faults that stand, in no order that counts.
-use Rattle.std.specs.Prelude.{ℕ, List, [], ◌∷◌, ◌++◌, Option, Some, None, Bool, true, false, not, eqb, leb, ◌&&◌, ◌^◌, if◌then◌else◌, bytes_eq, position, is_some}
+use Rattle.std.specs.Prelude.{ℕ, List, [], ◌∷◌, ◌++◌, Option, Some, None, Bool, true, false, not, eqb, leb, ◌&&◌, ◌^◌, if◌then◌else◌, bytes_eq, is_some}
 use Rattle.sap_tree.specs.declared.name.Mention.{Mention}
 use Rattle.sap_text.specs.declared.place.Place.{Place}
 use Rattle.sap_tree.specs.declared.syntax.Numeral.{Numeral}
@@ -9,6 +9,7 @@ use Rattle.sap_tree.specs.declared.syntax.Kind.TheVariants.{Dynamic, Enforced}
 use Rattle.sap_tree.specs.declared.syntax.Decl.{Decl}
 use Rattle.sap_tree.specs.declared.syntax.Decl.TheVariants.{Input, Register, Memory}
 use Rattle.sap_tree.specs.Syntax.{Expression, literal, sized_literal, variable, cell_at, unary_of, binary_of, choice, slice, concat, zero_extend, Expressions, no_part, and_part, TagExpression, level_of, tag_at, level_at, join_of, TagExpressions, no_tag, and_tag, SimpleCommand, assign, write, set_tag, set_cell_tag, go_to, fall_to_child, Command, lone, try, if_else, try_then, case_of, Arms, last_arm, and_arm, CommandBlock, command_block, ElseBlock, no_else, with_else, CommandList, no_command, and_command, StateTree, state_node, StateList, no_state, and_state, DesignTree}
+use Rattle.sap_lattice.specs.Levels.{level_named}
 use Rattle.sap_names.specs.Fault.{Fault}
 use Rattle.sap_names.specs.declared.kind.Declared.{Declared}
 use Rattle.sap_names.specs.declared.kind.Declared.TheVariants as d
@@ -119,13 +120,9 @@ abbrev pub constants_faults : Lookup → (asked : Option ℕ) → Expressions �
 constants_faults what asked no_part = []
 constants_faults what asked (and_part e parts) = expression_faults what e asked ++ constants_faults what asked parts
 
--- the number of a level's name, from 0
-abbrev pub level_number : List (List ℕ) → List ℕ → Option ℕ
-level_number levels name = position (λ l. bytes_eq l name) levels
-
 -- E6: a level name that is no level
 abbrev pub is_level : List (List ℕ) → List ℕ → Bool
-is_level levels name = is_some (level_number levels name)
+is_level levels name = is_some (level_named levels name)
 
 -- both are levels, and the first is not at or below the second
 abbrev pub not_below : (ℕ → ℕ → Bool) → Option ℕ → Option ℕ → Bool
@@ -194,7 +191,7 @@ abbrev pub under_faults : List (List ℕ) → (le : ℕ → ℕ → Bool) → Me
 under_faults levels le level None = []
 under_faults levels le level (Some under) =
     level_faults levels under.level
-    ++ fault_if (not_below le (level_number levels under.level.name) (level_number levels level.name)) E9 level.place
+    ++ fault_if (not_below le (level_named levels under.level.name) (level_named levels level.name)) E9 level.place
 
 abbrev pub kind_faults : List (List ℕ) → (le : ℕ → ℕ → Bool) → Kind → List Fault
 kind_faults levels le (Dynamic place) = []

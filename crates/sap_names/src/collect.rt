@@ -83,7 +83,7 @@ fn add_state(alloc: Global, state: &State, list: &mut Vec<Entity>) -> Result<(),
 }
 
 #[cycle(states)]
-#[tactic(auto, using(crate::proofs::Weights::weights, crate::proofs::Groups::groups))]
+#[tactic(auto, using(sap_tree::proofs::Weights::weights, crate::proofs::Groups::groups))]
 fn add_states(alloc: Global, states: &[State], list: &mut Vec<Entity>) -> Result<(), AllocError>
     ensures { OnOk result (list.new.items ≡ list.old.items ++ lists.states_entities states.now) }
 {

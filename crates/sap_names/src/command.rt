@@ -32,7 +32,7 @@ fn tag_faults(lattice: &Lattice, names: &Entities, tag: &TagExpr, best: &mut Opt
 }
 
 #[cycle(tags)]
-#[tactic(auto, using(crate::proofs::Lists::tags, crate::proofs::Weights::weights, crate::proofs::Faults::noting))]
+#[tactic(auto, using(crate::proofs::Lists::tags, sap_tree::proofs::Weights::weights, crate::proofs::Faults::noting))]
 fn tags_faults(lattice: &Lattice, names: &Entities, parts: &[TagExpr], best: &mut Option<Fault>)
     ensures { best.new ≡ best_of best.old (lists.tags_faults lattice.now.names (what_is names.now) parts.now) }
 {
@@ -78,7 +78,7 @@ fn simple_faults(lattice: &Lattice, names: &Entities, command: &Simple, best: &m
 }
 
 #[cycle(commands)]
-#[tactic(auto, using(sap_tree::proofs::Views::views, crate::proofs::Lists::blocks, crate::proofs::Weights::weights, crate::proofs::Faults::noting))]
+#[tactic(auto, using(sap_tree::proofs::Views::views, crate::proofs::Lists::blocks, sap_tree::proofs::Weights::weights, crate::proofs::Faults::noting))]
 fn command_faults(lattice: &Lattice, names: &Entities, command: &Cmd, best: &mut Option<Fault>)
     ensures { best.new ≡ best_of best.old (faults.command_faults lattice.now.names (what_is names.now) (command_of command.now)) }
 {
@@ -123,7 +123,7 @@ fn constants_faults(
 
 /// The arms of a `case`, without the block after `else`.
 #[cycle(commands)]
-#[tactic(auto, using(crate::proofs::Lists::arms, crate::proofs::Weights::weights, crate::proofs::Faults::noting))]
+#[tactic(auto, using(crate::proofs::Lists::arms, sap_tree::proofs::Weights::weights, crate::proofs::Faults::noting))]
 fn arms_faults(
     lattice: &Lattice,
     names: &Entities,
@@ -140,7 +140,7 @@ fn arms_faults(
 }
 
 #[cycle(commands)]
-#[tactic(auto, using(crate::proofs::Lists::blocks, crate::proofs::Weights::weights, crate::proofs::Faults::noting))]
+#[tactic(auto, using(crate::proofs::Lists::blocks, sap_tree::proofs::Weights::weights, crate::proofs::Faults::noting))]
 fn else_faults(lattice: &Lattice, names: &Entities, other: &Option<Block>, best: &mut Option<Fault>)
     ensures { best.new ≡ best_of best.old (faults.else_faults lattice.now.names (what_is names.now) (else_of other.now)) }
 {
@@ -151,7 +151,7 @@ fn else_faults(lattice: &Lattice, names: &Entities, other: &Option<Block>, best:
 }
 
 #[cycle(commands)]
-#[tactic(auto, using(crate::proofs::Lists::commands, crate::proofs::Weights::weights, crate::proofs::Faults::noting))]
+#[tactic(auto, using(crate::proofs::Lists::commands, sap_tree::proofs::Weights::weights, crate::proofs::Faults::noting))]
 pub fn commands_faults(
     lattice: &Lattice,
     names: &Entities,

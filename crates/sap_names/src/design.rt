@@ -90,7 +90,7 @@ fn state_faults(lattice: &Lattice, names: &Entities, state: &State, best: &mut O
 }
 
 #[cycle(states)]
-#[tactic(auto, using(crate::proofs::Lists::states, crate::proofs::Weights::weights, crate::proofs::Faults::noting))]
+#[tactic(auto, using(crate::proofs::Lists::states, sap_tree::proofs::Weights::weights, crate::proofs::Faults::noting))]
 fn states_faults(lattice: &Lattice, names: &Entities, states: &[State], best: &mut Option<Fault>)
     ensures { best.new ≡ best_of best.old (lists.states_faults lattice.now.names (order_of lattice.now).le (what_is names.now) states.now) }
 {

@@ -3,7 +3,7 @@
 ghost use Rattle.std.specs.Prelude.{◌≡◌};
 ghost use Rattle.sap_names.specs.NameFaults as faults;
 ghost use Rattle.sap_names.specs.Best.{best_of};
-ghost use Rattle.sap_lattice.specs.Levels.{order_of};
+ghost use Rattle.sap_lattice.specs.Levels.{order_of, level_named};
 
 use crate::fault::{Fault, note};
 use crate::kind::Code;
@@ -13,7 +13,7 @@ use sap_tree::name::{Mention, Name};
 use sap_tree::syntax::{Kind, Under};
 
 fn level_named(lattice: &Lattice, name: &Name) -> Option<Level>
-    ensures { result ≡ faults.level_number lattice.now.names name.now }
+    ensures { result ≡ level_named lattice.now.names name.now }
 {
     lattice.level_named(name.as_bytes())
 }

@@ -1,9 +1,8 @@
 -- What the module subset takes as a name, and lists of names.
 use Rattle.std.specs.Prelude.{◌≡◌, ℕ, Bool, false, not, ◌&&◌, List, [], ◌∷◌, codes}
 use Rattle.std.specs.Fmt.{decimal}
-use Rattle.std.specs.List.{list_any}
-use Rattle.std.specs.Str.{byte, bytes_eq}
-pub use Rattle.sap_text.specs.Names.{is_initial, is_inner, is_word}
+use Rattle.std.specs.Str.{byte}
+pub use Rattle.sap_text.specs.Names.{is_initial, is_inner, is_word, is_among}
 use Rattle.sap_maps.specs.Maps.{Name}
 
 -- the keywords of the module subset
@@ -27,14 +26,10 @@ keywords =
     ∷ []
 
 abbrev pub is_keyword : List ℕ → Bool
-is_keyword name = list_any (bytes_eq name) keywords
+is_keyword name = is_among name keywords
 
 unfoldable pub is_name : List ℕ → Bool
 is_name name = is_word name && not (is_keyword name)
-
--- the name stands on the list
-abbrev pub is_among : Name → List Name → Bool
-is_among x ys = list_any (bytes_eq x) ys
 
 -- no name stands on the list twice
 abbrev pub AreDistinct : List Name → Type 0

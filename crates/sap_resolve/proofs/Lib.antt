@@ -1,4 +1,3 @@
-pub mod Positions
 pub mod Chosen
 pub mod Placed
 pub mod Lists

@@ -9,7 +9,7 @@ use Rattle.sap_tree.specs.Syntax as tree
 use Rattle.sap_tree.specs.Syntax.{last_arm}
 use Rattle.sap_tree.specs.Trees.{command_of, commands_of, block_of, arms_of, else_of, state_of, states_of}
 use Rattle.sap_tree.proofs.Views.{state_of-out}
-use Rattle.sap_names.proofs.Weights.{command_weight, commands_weight, arm_list_weight, else_weight, state_weight, states_weight, commands_weight-in, arms_weight-of, arms_weight-in, states_weight-in}
+use Rattle.sap_tree.proofs.Weights.{command_weight, commands_weight, arm_list_weight, else_weight, state_weight, states_weight, commands_weight-in, arms_weight-of, arms_weight-in, states_weight-in}
 
 pub try_lighter : (t : tree.Command) (s : tree.SimpleCommand) (place : Place) (b : Block) (seen : List Cmd) → t ≡ tree.try s place (block_of b) → seen ≡ b.commands.items
     → commands_weight (commands_of seen) < command_weight t

@@ -1,13 +1,13 @@
 -- On what stands in Worlds: what several crates cite.
-use Rattle.std.proofs.Common.{List, [], ap, length, refl, suc, ◌∷◌, ◌≡◌, ◌<◌, ℕ, Bool, true, false, not, Some, is_some, position, inl, inr, bytes_eq}
-use Rattle.std.specs.Prelude.{nat_lt}
+use Rattle.std.proofs.Common.{List, [], ap, sym, subst, ◌∙◌, arith, length, refl, suc, ◌∷◌, ◌≡◌, ◌<◌, ℕ, Bool, true, false, not, Some, is_some, position, inl, inr, bytes_eq}
+use Rattle.std.specs.Prelude.{nat_lt, unwrap_or}
 use Rattle.std.specs.List.{position_or_len}
-use Rattle.std.proofs.lemmas.Bool.{cases_Bool, not-false}
+use Rattle.std.proofs.lemmas.Bool.{cases_Bool, ltb-false, not-false}
 use Rattle.std.proofs.lemmas.Bool.Decides.{Decides-ltb}
-use Rattle.sap_lattice.specs.Levels.{Levels}
+use Rattle.std.proofs.lemmas.List.Sums.{prefix_len-le-length}
+use Rattle.sap_lattice.specs.Levels.{Levels, level_named}
 use Rattle.sap_names.specs.declared.kind.Code.TheVariants.{E6}
 use Rattle.sap_names.specs.NameFaults.{is_level, level_faults}
-use Rattle.sap_names.specs.NameFaults as faults
 use Rattle.sap_names.proofs.NameFaultsLemmas.{no_fault}
 use Rattle.sap_resolved.specs.Worlds.{all_declared, level_number, no_children}
 use Rattle.sap_tree.specs.declared.name.Mention.{Mention}
@@ -21,6 +21,13 @@ pub children_length : (ds : List Decl) → length (no_children ds) ≡ length ds
 children_length [] = refl
 children_length (d ∷ ds) = ap suc (children_length ds)
 
+-- the place of what is searched for, or that behind the last
+pub position_or_behind : {X : Type 0} (test : X → Bool) (xs : List X) → unwrap_or (position test xs) (length xs) ≡ position_or_len test xs
+position_or_behind test xs = elim (cases_Bool (nat_lt (position_or_len test xs) (length xs))) [
+  | inl t ↦ rw t refl
+  | inr f ↦ rw f (omega (arith, ltb-false (position_or_len test xs) (length xs) f, prefix_len-le-length (λ x. not (test x)) xs))
+]
+
 found : (test : List ℕ → Bool) (names : List (List ℕ)) → is_some (position test names) ≡ true
     → (position_or_len test names < length names) × (position test names ≡ Some (position_or_len test names))
 found test names h = elim (cases_Bool (nat_lt (position_or_len test names) (length names))) [
@@ -30,6 +37,9 @@ found test names h = elim (cases_Bool (nat_lt (position_or_len test names) (leng
 
 -- a name in which no fault stands is that of a level
 pub known_level : (ls : Levels) (m : Mention) → level_faults ls.names m ≡ []
-    → (level_number ls m < length ls.names) × (faults.level_number ls.names m.name ≡ Some (level_number ls m))
+    → (level_number ls m < length ls.names) × (level_named ls.names m.name ≡ Some (level_number ls m))
 known_level ls m h =
-    found (λ l. bytes_eq l m.name) ls.names (not-false (is_level ls.names m.name) (no_fault (not (is_level ls.names m.name)) E6 m.place h))
+    let test : List ℕ → Bool = λ l. bytes_eq l m.name in
+    let here = found test ls.names (not-false (is_level ls.names m.name) (no_fault (not (is_level ls.names m.name)) E6 m.place h)) in
+    let same : level_number ls m ≡ position_or_len test ls.names = position_or_behind test ls.names in
+    (subst (λ (k : ℕ). k < length ls.names) (sym same) here.0, here.1 ∙ ap Some (sym same))

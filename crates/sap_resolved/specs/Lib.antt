@@ -3,7 +3,7 @@ pub mod Terms
 pub mod Resolve
 pub mod Fill
 pub mod Examples
-pub mod Named
+pub mod WellNamed
 pub mod Sized
 pub mod Premises
 pub mod Kept

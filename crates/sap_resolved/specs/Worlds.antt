@@ -1,6 +1,5 @@
 -- What stays while a design runs: its entities, by number in the order of the text, over the levels of a lattice.
-use Rattle.std.specs.Prelude.{ℕ, ◌+◌, List, [], ◌∷◌, ◌++◌, length, Option, Some, None, true, bytes_eq}
-use Rattle.std.specs.List.{position_or_len}
+use Rattle.std.specs.Prelude.{ℕ, ◌+◌, List, [], ◌∷◌, ◌++◌, length, Option, Some, None, unwrap_or, true}
 use Rattle.sap_tree.specs.declared.name.Mention.{Mention}
 use Rattle.sap_tree.specs.declared.syntax.Numeral.{Numeral}
 use Rattle.sap_tree.specs.declared.syntax.Under.{Under}
@@ -10,13 +9,13 @@ use Rattle.sap_tree.specs.declared.syntax.Decl.{Decl}
 use Rattle.sap_tree.specs.declared.syntax.Decl.TheVariants.{Input, Register, Memory}
 use Rattle.sap_tree.specs.Syntax.{StateTree, state_node, StateList, no_state, and_state, DesignTree}
 pub use Rattle.sap_tree.specs.Touches.{is_dynamic_kind}
-use Rattle.sap_lattice.specs.Levels.{Levels, order_of}
+use Rattle.sap_lattice.specs.Levels.{Levels, level_named, order_of}
 use Rattle.sap_meaning.specs.Program.{World, Entity}
 use Rattle.sap_meaning.specs.Program as program
 
--- the number of a level's name, of the first from the front on
+-- the number of a level's name; one behind the last for a name of none
 abbrev pub level_number : Levels → Mention → ℕ
-level_number ls m = position_or_len (λ l. bytes_eq l m.name) ls.names
+level_number ls m = unwrap_or (level_named ls.names m.name) (length ls.names)
 
 abbrev pub declared_level : Levels → Kind → ℕ
 declared_level ls (Dynamic place) = (order_of ls).bottom

@@ -8,7 +8,7 @@ use Rattle.sap_tree.specs.Parts.{tree_of}
 use Rattle.sap_tree.specs.declared.version.Version.{Version}
 use Rattle.sap_tree.specs.Syntax.{StateTree}
 use Rattle.sap_tree.proofs.Views.{state_of-out}
-use Rattle.sap_names.proofs.Weights.{state_weight, states_weight}
+use Rattle.sap_tree.proofs.Weights.{state_weight, states_weight}
 use Rattle.sap_names.specs.declared.fault.Fault.{Fault}
 use Rattle.sap_names.specs.Best.{best_of}
 use Rattle.sap_names.specs.declared.entity.Entity.{Entity}

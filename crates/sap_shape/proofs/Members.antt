@@ -1,11 +1,12 @@
 -- Whether some state of a list passes a test, from a place on.
-use Rattle.std.proofs.Common.{◌≡◌, ℕ, zero, suc, ◌+◌, ◌<◌, ◌≤◌, List, [], ◌∷◌, ◌||◌, Bool, true, false, length, get_or, drop, refl, sym, ap, ◌∙◌, arith, add-one, bytes_eq}
+use Rattle.std.proofs.Common.{◌≡◌, ℕ, zero, suc, ◌+◌, ◌<◌, ◌≤◌, List, [], ◌∷◌, ◌||◌, Bool, true, false, not, length, get_or, drop, refl, sym, ap, ◌∙◌, arith, add-one, bytes_eq}
 use Rattle.std.specs.List.{list_any}
 use Rattle.sap_tree.specs.declared.syntax.State.{State, out-State}
 use Rattle.sap_tree.specs.Syntax.{StateTree, StateList, no_state, and_state}
+use Rattle.sap_tree.specs.Touches.{is_dynamic_kind}
 use Rattle.sap_tree.specs.Trees.{state_of, states_of}
 use Rattle.sap_tree.proofs.Views.{state_of-out}
-use Rattle.sap_shape.specs.Sites.{any_enforced, is_enforced_kind, kind_of_state}
+use Rattle.sap_shape.specs.Sites.{any_enforced, kind_of_state}
 use Rattle.sap_shape.specs.ShapeFaults.{is_among, name_of, is_in_group, is_within, is_leaf}
 
 module _ (test : StateTree → Bool) (any : StateList → Bool) (none : any no_state ≡ false) (more : (s : StateTree) (rest : StateList) → any (and_state s rest) ≡ (test s || any rest)) where
@@ -25,11 +26,11 @@ module _ (test : StateTree → Bool) (any : StateList → Bool) (none : any no_s
   any_here ss n d b h e t =
       any_drop ss n d h ∙ ap (λ (x : Bool). x || any (states_of (drop (n + 1) ss))) (ap (λ (s : State). test (state_of s)) (sym e) ∙ t)
 
-pub enforced_listed : (ss : List State) → any_enforced (states_of ss) ≡ list_any (λ s. is_enforced_kind (out-State s).kind) ss
+pub enforced_listed : (ss : List State) → any_enforced (states_of ss) ≡ list_any (λ s. not (is_dynamic_kind (out-State s).kind)) ss
 enforced_listed [] = refl
 enforced_listed (s ∷ ss) =
-    ap (λ (t : StateTree). is_enforced_kind (kind_of_state t) || any_enforced (states_of ss)) (state_of-out s)
-    ∙ ap (λ (b : Bool). is_enforced_kind (out-State s).kind || b) (enforced_listed ss)
+    ap (λ (t : StateTree). not (is_dynamic_kind (kind_of_state t)) || any_enforced (states_of ss)) (state_of-out s)
+    ∙ ap (λ (b : Bool). not (is_dynamic_kind (out-State s).kind) || b) (enforced_listed ss)
 
 pub among_listed : (name : List ℕ) (ss : List State) → is_among (states_of ss) name ≡ list_any (λ s. bytes_eq (out-State s).name.name name) ss
 among_listed name [] = refl

@@ -1,16 +1,11 @@
 -- Check sites: the commands that may be refused, in the order of their first tokens. One walk over the tree finds them: the check, the report and the trace
 -- tell of its list (`sap_check`, `Sites`), and the commands of a design's program are numbered by its length (`sap_resolved`, `Resolve`).
-use Rattle.std.specs.Prelude.{List, [], ◌∷◌, ◌++◌, Bool, true, false, ◌||◌, ℕ, if◌then◌else◌}
+use Rattle.std.specs.Prelude.{List, [], ◌∷◌, ◌++◌, Bool, true, false, not, ◌||◌, ℕ, if◌then◌else◌}
 use Rattle.sap_tree.specs.declared.syntax.Kind.{Kind}
-use Rattle.sap_tree.specs.declared.syntax.Kind.TheVariants.{Dynamic, Enforced}
 use Rattle.sap_tree.specs.Syntax.{SimpleCommand, assign, write, set_tag, set_cell_tag, go_to, fall_to_child, Command, lone, try, if_else, try_then, case_of, Arms, last_arm, and_arm, CommandBlock, command_block, ElseBlock, no_else, with_else, CommandList, no_command, and_command, StateTree, state_node, StateList, no_state, and_state, DesignTree}
-use Rattle.sap_tree.specs.Touches.{Home, home_of}
+use Rattle.sap_tree.specs.Touches.{Home, home_of, is_dynamic_kind}
 use Rattle.sap_names.specs.declared.entity.Entity.{Entity}
 use Rattle.sap_names.specs.Entities.{find, enforced_of, dynamic_of, entities_of}
-
-abbrev pub is_enforced_kind : Kind → Bool
-is_enforced_kind (Dynamic place) = false
-is_enforced_kind (Enforced level under) = true
 
 -- what the name stands for is enforced; is dynamic
 abbrev pub is_enforced : List Entity → List ℕ → Bool
@@ -25,7 +20,7 @@ kind_of_state (state_node place name kind body children) = kind
 
 abbrev pub any_enforced : StateList → Bool
 any_enforced no_state = false
-any_enforced (and_state s rest) = is_enforced_kind (kind_of_state s) || any_enforced rest
+any_enforced (and_state s rest) = not (is_dynamic_kind (kind_of_state s)) || any_enforced rest
 
 -- in the body of a state of this kind with these children
 abbrev pub is_site : List Entity → Kind → StateList → SimpleCommand → Bool
@@ -33,7 +28,7 @@ is_site es here children (assign target e) = is_enforced es target.name
 is_site es here children (write target index e) = is_enforced es target.name
 is_site es here children (set_tag place target tag) = true
 is_site es here children (set_cell_tag place target index tag) = true
-is_site es here children (go_to place target) = is_enforced_kind here || is_enforced es target.name
+is_site es here children (go_to place target) = not (is_dynamic_kind here) || is_enforced es target.name
 is_site es here children (fall_to_child place) = any_enforced children
 
 -- where a command stands: the entities of its design, and the state in whose body it is

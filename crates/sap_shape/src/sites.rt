@@ -7,19 +7,10 @@ ghost use Rattle.sap_tree.specs.Trees.{simple_of, states_of};
 use sap_names::table::Names;
 use sap_tree::syntax::{Kind, Simple, State};
 
-fn is_enforced_kind(kind: &Kind) -> bool
-    ensures { result ≡ sites.is_enforced_kind kind.now }
-{
-    match kind {
-        Kind::Dynamic(_) => false,
-        Kind::Enforced(_, _) => true,
-    }
-}
-
 fn any_enforced(states: &[State]) -> bool
     ensures { result ≡ sites.any_enforced (states_of states.now) }
 {
-    states.iter().any(|state| is_enforced_kind(&state.kind))
+    states.iter().any(|state| !state.kind.is_dynamic())
 }
 
 /// Whether a command in the body of a state of this kind with these children may be refused.
@@ -31,7 +22,7 @@ pub fn is_site(names: &Names, kind: &Kind, children: &[State], command: &Simple)
         Simple::Write(target, _, _) => names.is_enforced(&target.name),
         Simple::SetTag(_, _, _) => true,
         Simple::SetCellTag(_, _, _, _) => true,
-        Simple::Goto(_, target) => is_enforced_kind(kind) || names.is_enforced(&target.name),
+        Simple::Goto(_, target) => !kind.is_dynamic() || names.is_enforced(&target.name),
         Simple::Fall(_) => any_enforced(children),
     }
 }

@@ -32,7 +32,7 @@ fn below(alloc: Global, name: &Name, above: &[Name]) -> Result<Vec<Name>, AllocE
 }
 
 #[cycle(shape)]
-#[tactic(auto, using(crate::proofs::Groups::states, sap_names::proofs::Weights::weights, sap_names::proofs::Faults::noting))]
+#[tactic(auto, using(crate::proofs::Groups::states, sap_tree::proofs::Weights::weights, sap_names::proofs::Faults::noting))]
 fn state_shape(
     alloc: Global,
     names: &Names,
@@ -66,7 +66,7 @@ fn state_shape(
 /// Notes the faults of the states of a group and of those below them, but for E14. `above` has the names of the states
 /// above the group, the nearest first.
 #[cycle(shape)]
-#[tactic(auto, using(crate::proofs::Groups::groups, sap_names::proofs::Weights::weights, sap_names::proofs::Faults::noting))]
+#[tactic(auto, using(crate::proofs::Groups::groups, sap_tree::proofs::Weights::weights, sap_names::proofs::Faults::noting))]
 pub(crate) fn group_shape(
     alloc: Global,
     names: &Names,

@@ -7,6 +7,5 @@ pub mod ReadDesign
 pub mod Shown
 pub mod Spaced
 pub mod Texts
-pub mod Weights
 pub mod Within
 pub mod WithinDesign

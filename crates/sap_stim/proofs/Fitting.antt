@@ -6,7 +6,7 @@ use Rattle.std.specs.Str.{bytes_eq}
 use Rattle.std.specs.Str.Parse.{digits_value}
 use Rattle.std.proofs.lemmas.Bool.Decides.{nat_tests}
 use borrow.Author.Tests.{ltb-true}
-use Rattle.sap_lattice.specs.Levels.{Levels, order_of, order_by}
+use Rattle.sap_lattice.specs.Levels.{Levels, level_named, order_of, order_by}
 use Rattle.sap_meaning.specs.Cycle.{Tagged as Given}
 use Rattle.sap_stream.specs.Spans.{Span, IsCount}
 use Rattle.sap_stim.specs.declared.fault.StimCode.{StimCode}
@@ -15,7 +15,7 @@ use Rattle.sap_stim.specs.declared.field.Field.{Field}
 use Rattle.sap_stim.specs.declared.field.Field.TheVariants.{Tagged, Plain}
 use Rattle.sap_stim.specs.declared.stimulus.Parsed.{Parsed}
 use Rattle.sap_text.specs.Lines.{split_at}
-use Rattle.sap_stim.specs.Line.{pieces_of, fields_of, count_in, and_then, is_value, value_of, level_named, with_level, tagged_of, plain_of, field_of, inputs_of, is_count, count_of, line_of}
+use Rattle.sap_stim.specs.Line.{pieces_of, fields_of, count_in, and_then, is_value, value_of, with_level, tagged_of, plain_of, field_of, inputs_of, is_count, count_of, line_of}
 use Rattle.sap_stim.specs.Stimulus.{is_empty, finished, going_on, read_pieces}
 use Rattle.sap_stim.specs.Fits.{InputFits, LineFits, StreamFits, StimulusFits}
 

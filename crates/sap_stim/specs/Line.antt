@@ -1,11 +1,11 @@
 -- What a line of a stimulus file gives, or the code that stands in it.
-use Rattle.std.specs.Prelude.{ℕ, List, [], ◌∷◌, drop, length, Option, Some, None, Result, Ok, Err, Bool, false, not, nat_lt, nat_le, ◌==◌, ◌&&◌, ◌^◌, ◌≤◌, position, if◌then◌else◌}
+use Rattle.std.specs.Prelude.{ℕ, List, [], ◌∷◌, drop, length, Option, Some, None, Result, Ok, Err, Bool, false, not, nat_lt, nat_le, ◌==◌, ◌&&◌, ◌^◌, ◌≤◌, if◌then◌else◌}
 use Rattle.std.specs.Char.{is_ascii_digit}
 use Rattle.std.specs.List.{list_all, before_first, after_first}
-use Rattle.std.specs.Str.{byte, bytes_eq}
+use Rattle.std.specs.Str.{byte}
 use Rattle.std.specs.Str.Parse.{digits_value}
 use Rattle.sap_text.specs.Lines.{split_at}
-use Rattle.sap_lattice.specs.Levels.{Levels, order_of}
+use Rattle.sap_lattice.specs.Levels.{Levels, level_named, order_of}
 use Rattle.sap_meaning.specs.Cycle.{Tagged as Given}
 use Rattle.sap_stream.specs.Spans.{Span}
 use Rattle.sap_stim.specs.declared.fault.StimCode.{StimCode}
@@ -59,10 +59,6 @@ abbrev pub value_of : (width : ℕ) → List ℕ → Result ℕ StimCode
 value_of width text =
     if not (is_value text) then Err S1
     else (if nat_lt (digits_value 10 text) (2 ^ width) then Ok (digits_value 10 text) else Err S2)
-
--- the number of the level of this name
-abbrev pub level_named : (names : List (List ℕ)) → List ℕ → Option ℕ
-level_named names name = position (λ level. bytes_eq level name) names
 
 -- S3 where the level is none
 abbrev pub with_level : (value : ℕ) → Option ℕ → Result Given StimCode

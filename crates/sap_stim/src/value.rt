@@ -3,7 +3,8 @@
 ghost use Rattle.std.specs.Prelude.{◌≡◌, ◌≤◌, ◌^◌, nat_lt};
 ghost use Rattle.std.specs.Char.{is_ascii_digit};
 ghost use Rattle.std.specs.List.{list_all};
-ghost use Rattle.sap_stim.specs.Line.{value_of, level_named, tagged_of, plain_of, field_of, IsSized};
+ghost use Rattle.sap_lattice.specs.Levels.{level_named};
+ghost use Rattle.sap_stim.specs.Line.{value_of, tagged_of, plain_of, field_of, IsSized};
 
 use crate::MOST_DIGITS;
 use crate::fault::StimCode;

@@ -1,8 +1,8 @@
 -- What a text takes as a name, and the names that no version of the design language has.
 use Rattle.std.specs.Prelude.{ℕ, Bool, false, ◌||◌, ◌&&◌, ◌==◌, List, [], ◌∷◌, codes}
 use Rattle.std.specs.Char.{is_ascii_alphabetic, is_ascii_alphanumeric}
-use Rattle.std.specs.List.{list_all}
-use Rattle.std.specs.Str.{byte}
+use Rattle.std.specs.List.{list_all, list_any}
+use Rattle.std.specs.Str.{byte, bytes_eq}
 
 -- a letter or `_`
 abbrev pub is_initial : ℕ → Bool
@@ -16,6 +16,10 @@ is_inner c = is_ascii_alphanumeric c || c == byte "_"
 abbrev pub is_word : List ℕ → Bool
 is_word [] = false
 is_word (c ∷ cs) = is_initial c && list_all is_inner cs
+
+-- the name stands on the list
+abbrev pub is_among : List ℕ → List (List ℕ) → Bool
+is_among x ys = list_any (bytes_eq x) ys
 
 -- the words that no name of a design is, in each version of the language
 abbrev pub design_keywords : List (List ℕ)

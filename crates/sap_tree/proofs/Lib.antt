@@ -1,3 +1,4 @@
 pub mod Views
 pub mod DeclLemmas
 pub mod SyntaxLemmas
+pub mod Weights

@@ -1,9 +1,7 @@
 -- What the design language takes as a word and as a name.
 use Rattle.std.specs.Prelude.{ℕ, Bool, true, false, not, ◌&&◌, List, [], ◌∷◌, ◌++◌, length, map, nat_le, codes}
-use Rattle.std.specs.List.{list_any}
-use Rattle.std.specs.Str.{bytes_eq}
 pub use Rattle.sap_text.specs.Names.{is_initial, is_inner, is_word}
-use Rattle.sap_text.specs.Names.{design_keywords}
+use Rattle.sap_text.specs.Names.{design_keywords, is_among}
 use Rattle.sap_tree.specs.Limits.{most_name_bytes}
 use Rattle.sap_tree.specs.declared.version.Version.TheVariants as v
 use Rattle.sap_tree.specs.declared.version.Version.{Version}
@@ -51,7 +49,7 @@ keywords v.One = design_keywords
 keywords v.Two = design_keywords ++ map word_text later_words
 
 abbrev pub is_keyword : Version → List ℕ → Bool
-is_keyword version name = list_any (bytes_eq name) (keywords version)
+is_keyword version name = is_among name (keywords version)
 
 unfoldable pub is_name : Version → List ℕ → Bool
 is_name version name = is_word name && not (is_keyword version name) && nat_le (length name) most_name_bytes

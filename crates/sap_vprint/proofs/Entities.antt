@@ -1,21 +1,19 @@
 -- What a netlist has is declared once, with widths and depths in range.
 use Rattle.std.proofs.Common.{◌≡◌, ℕ, List, [], ◌∷◌, ◌++◌, true, false, Some, None, refl, sym, ap, ◌∙◌, subst, inl, inr}
-use Rattle.std.specs.Prelude.{◌⊎◌, map}
+use Rattle.std.specs.Prelude.{map}
 use Rattle.std.specs.List.{AllByRecursion}
-use Rattle.std.specs.Str.{bytes_eq}
-use Rattle.std.proofs.lemmas.Bool.{cases_Bool, or_from}
-use Rattle.sap_lemmas.proofs.Texts.{bytes_eq_apart_back, equal_of_bytes_eq}
+use Rattle.std.proofs.lemmas.Bool.{cases_Bool}
 use Rattle.sap_maps.specs.Maps.{Name}
 use Rattle.sap_maps.specs.Scope.{Scope, find}
-use Rattle.sap_maps.proofs.Scopes.{found_here, found_behind}
 use Rattle.sap_net.specs.declared.parts.Input.{Input}
 use Rattle.sap_net.specs.declared.parts.Wire.{Wire}
 use Rattle.sap_net.specs.declared.parts.Register.{Register}
 use Rattle.sap_net.specs.declared.parts.Memory.{Memory}
 use Rattle.sap_net.specs.Names.{is_among, AreDistinct}
 use Rattle.sap_net.specs.Net.{Net}
+use Rattle.sap_net.proofs.RulesLemmas.{wires_new, wires_distinct}
 use Rattle.sap_net.specs.Rules.{Shapes, IsWidth, IsMemory, AreWires, AreValues, AreMemories}
-use Rattle.sap_net.specs.IsNetlist.{IsNetlist, input_names, wire_names, register_names, memory_names, first_readable, readable, shapes}
+use Rattle.sap_net.specs.IsNetlist.{IsNetlist, names_of, input_names, wire_names, register_names, memory_names, first_readable, readable, shapes}
 use Rattle.sap_text.specs.Best.{StandsIn}
 use Rattle.sap_vtext.specs.Names.{Shape, input, wire, register, memory}
 use Rattle.sap_vtext.specs.Faults.{HasIndex}
@@ -34,24 +32,17 @@ memories_distinct : (ms : Shapes) → AreMemories ms → AreDistinct (keys ms)
 memories_distinct [] h = tt
 memories_distinct (m ∷ ms) h = (none_key ms m.0 h.1, memories_distinct ms h.2)
 
-abbrev names_of : List Wire → List Name
-names_of ws = map (λ w. w.name) ws
-
 -- what can be read is none of the wires to come
 wires_fresh : (ms : Shapes) (readable : Scope) (ws : List Wire) (n : Name) (k : ℕ) → AreWires ms readable ws → find readable n ≡ Some k → is_among n (names_of ws) ≡ false
-wires_fresh ms readable [] n k h f = refl
-wires_fresh ms readable (w ∷ ws) n k h f =
-    let apart : bytes_eq w.name n ≡ false = differ w.name (cases_Bool (bytes_eq w.name n)) h.1 in
-    or_from _ _ (bytes_eq_apart_back w.name n apart) (wires_fresh ms ((w.name, w.width) ∷ readable) ws n k h.4 (found_behind readable w.name w.width h.1 n k f)) where
-      differ : (m : Name) → (bytes_eq m n ≡ true) ⊎ (bytes_eq m n ≡ false) → find readable m ≡ None → bytes_eq m n ≡ false
-      differ m (inl t) g = absurd (let e : find readable n ≡ None = subst (λ z. find readable z ≡ None) (equal_of_bytes_eq m n t) g in cc)
-      differ m (inr t) g = t
+wires_fresh ms readable ws n k h f = elim (cases_Bool (is_among n (names_of ws))) [
+  | inl t ↦ absurd (let e = (wires_new ms ws readable h n t).0 in cc)
+  | inr t ↦ t
+]
 
-wires_distinct : (ms : Shapes) (readable : Scope) (ws : List Wire) → AreWires ms readable ws → AreDistinct (names_of ws) × NoneAmong (names_of ws) (keys ms)
-wires_distinct ms readable [] h = (tt, tt)
-wires_distinct ms readable (w ∷ ws) h =
-    let r = wires_distinct ms ((w.name, w.width) ∷ readable) ws h.4 in
-    ((wires_fresh ms ((w.name, w.width) ∷ readable) ws w.name w.width h.4 (found_here w.name w.width readable), r.0), (none_key ms w.name h.2, r.1))
+-- no wire has the name of a memory
+wires_no_memory : (ms : Shapes) (readable : Scope) (ws : List Wire) → AreWires ms readable ws → NoneAmong (names_of ws) (keys ms)
+wires_no_memory ms readable [] h = tt
+wires_no_memory ms readable (w ∷ ws) h = (none_key ms w.name h.2, wires_no_memory ms ((w.name, w.width) ∷ readable) ws h.4)
 
 readable_apart : (ms : Shapes) (es readable : Scope) (ws : List Wire) → AreWires ms readable ws → ((n : Name) (k : ℕ) → StandsIn (n, k) es → find readable n ≡ Some k)
     → NoneAmong (keys es) (names_of ws)
@@ -102,21 +93,20 @@ names_apart n h =
     let first = distinct_parts (input_names n) (register_names n) (subst AreDistinct (first_keys n) values.0) in
     let no_memory = none_among_parts (input_names n) (register_names n) (memory_names n)
     (subst (λ z. NoneAmong z (memory_names n)) (first_keys n) (subst (λ z. NoneAmong (keys (first_readable n)) z) (shape_keys n) values.1)) in
-    let wires = wires_distinct (shapes n) (first_readable n) n.wires h.assigns in
     let no_wire = none_among_parts (input_names n) (register_names n) (wire_names n)
     (subst (λ z. NoneAmong z (wire_names n)) (first_keys n)
     (readable_apart (shapes n) (first_readable n) (first_readable n) n.wires h.assigns (found_among (first_readable n) (new_keys (first_readable n) values.0)))) in
     record {
       inputs = first.0;
       registers = first.1;
-      wires = wires.0;
+      wires = wires_distinct (shapes n) n.wires (first_readable n) h.assigns;
       memories = subst AreDistinct (shape_keys n) (memories_distinct (shapes n) h.memory_shapes);
       inputs_registers = first.2;
       inputs_wires = no_wire.0;
       inputs_memories = no_memory.0;
       registers_wires = no_wire.1;
       registers_memories = no_memory.1;
-      wires_memories = subst (λ z. NoneAmong (wire_names n) z) (shape_keys n) wires.1;
+      wires_memories = subst (λ z. NoneAmong (wire_names n) z) (shape_keys n) (wires_no_memory (shapes n) (first_readable n) n.wires h.assigns);
     }
 
 pub entities_new : (n : Net) → IsNetlist n → AreNew (entities n)

@@ -30,7 +30,7 @@ use Rattle.sap_resolved.specs.Fill.{filled_step, filled, filled_arms, filled_blo
 use Rattle.sap_resolved.proofs.sized.Faultless.{none_two, none_three, none_four, settled_own, some_sound, sound_whole, extended_is}
 use Rattle.sap_resolved.proofs.premises.Places.{Laid, LaidState, laid_first, laid_rest, laid_below, laid_entity, laid_name, laid_named, state_entity}
 use Rattle.sap_resolved.specs.Kept.Kept.{IsNamed, IsLevel, IsTerm, AreParts, IsTag, AreTags, IsStep, IsConstant, AreConstants, IsCommand, AreArms, IsBlock, IsElse, IsList, IsAuthority, HasKind, IsState, IsGroup}
-use Rattle.sap_resolved.proofs.kept.Names.{named_at, level_named}
+use Rattle.sap_resolved.proofs.kept.Names.{named_at, level_has_name}
 
 -- What is known of the names of a design: a used name is that of the entity of its number.
 pub record Known (es : List Entity) : Type 0 where
@@ -150,7 +150,7 @@ module _ (es : List Entity) (k : Known es) where
   module _ (ls : Levels) where
     mutual
       tag_kept : (t : TagExpression) → tag_faults ls.names what t ≡ [] → IsTag ls es t (level_term ls es t)
-      tag_kept (level_of m) h = level_named ls m h
+      tag_kept (level_of m) h = level_has_name ls m h
       tag_kept (tag_at place e) h = term_kept e None h
       tag_kept (level_at place e) h = term_kept e None h
       tag_kept (join_of place parts) h = tags_kept parts h
@@ -244,7 +244,7 @@ module _ (ls : Levels) (h : Surroundings) (k : Known h.entities) (w : World) (at
 authority_kept : (ls : Levels) (le : ℕ → ℕ → Bool) (level : Mention) (under : Option Under) → under_faults ls.names le level under ≡ []
     → IsAuthority ls under (authority_level ls under)
 authority_kept ls le level None h = refl
-authority_kept ls le level (Some under) h = level_named ls under.level (none_two (level_faults ls.names under.level) _ h).0
+authority_kept ls le level (Some under) h = level_has_name ls under.level (none_two (level_faults ls.names under.level) _ h).0
 
 -- an entity of this kind
 pub record IsOfKind (ls : Levels) (kind : Kind) (e : program.Entity) : Type 0 where
@@ -257,7 +257,7 @@ kind_kept ls le (Dynamic place) e h i = i.dynamic
 kind_kept ls le (Enforced level under) e h i =
     let n = none_two (level_faults ls.names level) (under_faults ls.names le level under) h in (
       i.dynamic,
-      subst (λ (x : ℕ). IsLevel ls x level.name) (sym i.declared) (level_named ls level n.0),
+      subst (λ (x : ℕ). IsLevel ls x level.name) (sym i.declared) (level_has_name ls level n.0),
       subst (λ (x : ℕ). IsAuthority ls under x) (sym i.authority) (authority_kept ls le level under n.1),
     )
 

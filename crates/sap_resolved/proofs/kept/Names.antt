@@ -1,5 +1,5 @@
 -- The names of entities and levels by their numbers.
-use Rattle.std.proofs.Common.{◌≡◌, ℕ, zero, suc, ◌+◌, ◌<◌, List, [], ◌∷◌, length, sym, ap, ◌∙◌, arith, inl, inr, bytes_eq}
+use Rattle.std.proofs.Common.{◌≡◌, ℕ, zero, suc, ◌+◌, ◌<◌, Bool, List, [], ◌∷◌, length, sym, ap, subst, ◌∙◌, arith, inl, inr, bytes_eq}
 use Rattle.std.proofs.Math.Numerals.{one-add}
 use Rattle.std.proofs.lemmas.Bool.{cases_Bool}
 use Rattle.sap_lemmas.proofs.Texts.{equal_of_bytes_eq}
@@ -9,7 +9,7 @@ use Rattle.sap_names.specs.declared.entity.Entity.{Entity}
 use Rattle.sap_names.specs.NameFaults.{level_faults, twice}
 use Rattle.std.specs.List.{position_or_len}
 use Rattle.sap_resolved.specs.Worlds.{level_number}
-use Rattle.sap_resolved.proofs.WorldsLemmas.{known_level}
+use Rattle.sap_resolved.proofs.WorldsLemmas.{known_level, position_or_behind}
 use Rattle.sap_resolved.specs.Terms.{entity_number}
 use Rattle.sap_resolved.proofs.premises.Places.{name_at}
 use Rattle.sap_resolved.proofs.premises.Lookups.{unique}
@@ -44,5 +44,9 @@ level_nth (l ∷ ls) name h = elim (cases_Bool (bytes_eq l name)) [
   | inr t ↦ (let below : 1 + position_or_len (λ l. bytes_eq l name) ls < length (l ∷ ls) = rw t at h in rw (t, one-add) (level_nth ls name (omega arith)))
 ]
 
-pub level_named : (ls : Levels) (m : Mention) → level_faults ls.names m ≡ [] → IsLevel ls (level_number ls m) m.name
-level_named ls m h = level_nth ls.names m.name (known_level ls m h).0
+pub level_has_name : (ls : Levels) (m : Mention) → level_faults ls.names m ≡ [] → IsLevel ls (level_number ls m) m.name
+level_has_name ls m h =
+    let test : List ℕ → Bool = λ l. bytes_eq l m.name in
+    let same : level_number ls m ≡ position_or_len test ls.names = position_or_behind test ls.names in
+    subst (λ (k : ℕ). IsNth ls.names k m.name) (sym same)
+    (level_nth ls.names m.name (subst (λ (k : ℕ). k < length ls.names) same (known_level ls m h).0))

@@ -6,7 +6,7 @@ use Rattle.sap_meaning.specs.Checks.{Home}
 use Rattle.sap_meaning.specs.Touches.{step_assigns, assigns, arms_assign, block_assigns, state_assigns, group_assigns, among, step_hangs, hangs, arms_hang, block_hangs}
 use Rattle.sap_meaning.specs.Fine.{size, inside, transfers, Open, OpenArms, OpenBlock, Closes, Final, ClosingArms, step_writes, step_reaching, reaching, arms_reaching, block_reaching, state_reaches, group_reaches, OnceStep, Once, OnceArms, OnceBlock, OnceState, OnceGroup, step_retags, retags, arms_retag, block_retags, state_retags, group_retags, FineStep, FineCommand, FineArms, FineBlock, FineNode, FineState, FineGroup, number_of}
 use Rattle.sap_resolved.specs.Fill.{filled_step, filled, filled_arms, filled_block, filled_state, filled_group}
-use Rattle.sap_resolved.specs.Named.{NamedStep, Named, NamedArms, NamedBlock, NamedState, NamedGroup}
+use Rattle.sap_resolved.specs.WellNamed.{WellNamedStep, WellNamed, WellNamedArms, WellNamedBlock, WellNamedState, WellNamedGroup}
 
 module _ (w : World) where
   -- numbers of states
@@ -205,7 +205,7 @@ module _ (w : World) where
         block_hangs_filled (command_then c cs) x = or_equal _ _ _ _ (hangs_filled c x) (block_hangs_filled cs x)
 
     -- what is filled is named as before
-    named_step_unfilled : (k : Step) → NamedStep w (filled_step w at k) → NamedStep w k
+    named_step_unfilled : (k : Step) → WellNamedStep w (filled_step w at k) → WellNamedStep w k
     named_step_unfilled (assign site x e) h = h
     named_step_unfilled (write site m i e) h = h
     named_step_unfilled (retag site x n) h = h
@@ -214,26 +214,26 @@ module _ (w : World) where
     named_step_unfilled (fall_to_child site hang) h = h
 
     mutual
-      named_unfilled : (c : Command) → Named w (filled w at c) → Named w c
+      named_unfilled : (c : Command) → WellNamed w (filled w at c) → WellNamed w c
       named_unfilled (lone k) h = named_step_unfilled k h
       named_unfilled (try k hang b) h = (named_step_unfilled k h.0, named_block_unfilled b h.1)
       named_unfilled (if_else hang e a b) h = (h.0, named_block_unfilled a h.1, named_block_unfilled b h.2)
       named_unfilled (try_then k hang a b) h = (named_step_unfilled k h.0, named_block_unfilled a h.1, named_block_unfilled b h.2)
       named_unfilled (case_of hang e arms) h = (h.0, named_arms_unfilled arms h.1)
 
-      named_arms_unfilled : (arms : Arms) → NamedArms w (filled_arms w at arms) → NamedArms w arms
+      named_arms_unfilled : (arms : Arms) → WellNamedArms w (filled_arms w at arms) → WellNamedArms w arms
       named_arms_unfilled (last_arm b) h = named_block_unfilled b h
       named_arms_unfilled (and_arm constants b arms) h = (named_block_unfilled b h.0, named_arms_unfilled arms h.1)
 
-      named_block_unfilled : (b : Block) → NamedBlock w (filled_block w at b) → NamedBlock w b
+      named_block_unfilled : (b : Block) → WellNamedBlock w (filled_block w at b) → WellNamedBlock w b
       named_block_unfilled end_block h = h
       named_block_unfilled (command_then c cs) h = (named_unfilled c h.0, named_block_unfilled cs h.1)
 
   mutual
-    named_state_unfilled : (p : ℕ) (t : State) → NamedState w (filled_state w p t) → NamedState w t
+    named_state_unfilled : (p : ℕ) (t : State) → WellNamedState w (filled_state w p t) → WellNamedState w t
     named_state_unfilled p (state_node s b g) h = (named_block_unfilled (record { state = s; parent = p; children = g }) b h.0, named_group_unfilled s g h.1)
 
-    pub named_group_unfilled : (p : ℕ) (g : Group) → NamedGroup w (filled_group w p g) → NamedGroup w g
+    pub named_group_unfilled : (p : ℕ) (g : Group) → WellNamedGroup w (filled_group w p g) → WellNamedGroup w g
     named_group_unfilled p no_node h = h
     named_group_unfilled p (and_node t g) h = (named_state_unfilled p t h.0, named_group_unfilled p g h.1)
 

@@ -17,7 +17,7 @@ use Rattle.sap_resolved.specs.Worlds.{states_in}
 use Rattle.sap_shape.specs.Sites.{Surroundings, block_sites, state_sites}
 use Rattle.sap_resolved.specs.Resolve.{block_of, state_of, group_of}
 use Rattle.sap_resolved.specs.Terms.{entity_number}
-use Rattle.sap_resolved.specs.Named.{NamedState, NamedGroup}
+use Rattle.sap_resolved.specs.WellNamed.{WellNamedState, WellNamedGroup}
 use Rattle.sap_resolved.proofs.Lookup.{AllMatch}
 use Rattle.sap_resolved.proofs.premises.Commands.{body_fits, below_fits}
 use Rattle.sap_resolved.proofs.premises.Places.{Laid, LaidState, laid_first, laid_rest, laid_below, laid_children, laid_name, name_at}
@@ -38,7 +38,7 @@ module _ (ls : Levels) (levels : List (List ℕ)) (le : ℕ → ℕ → Bool) (e
   mutual
     fine_state : (k n x : ℕ) (q : Group) (group : StateList) (above : List (List ℕ)) (s : StateTree) → LaidState ls es w n x s → Targets q group
         → state_faults levels le (what_is es) s ≡ [] → state_shape es group above s ≡ []
-        → NamedState w (state_of ls es k x s) → FineState w q n (state_of ls es k x s)
+        → WellNamedState w (state_of ls es k x s) → FineState w q n (state_of ls es k x s)
     fine_state k n x q group above (state_node place name kind body children) laid targets f s i =
         let h : Surroundings = record { entities = es; home = record { name = name.name; kind = kind; children = children } } in
         let at : Body = record { home = record { name = name.name; kind = kind; children = children }; group = group; above = above } in
@@ -73,7 +73,7 @@ module _ (ls : Levels) (levels : List (List ℕ)) (le : ℕ → ℕ → Bool) (e
 
     pub fine_group : (k n x : ℕ) (q : Group) (group : StateList) (above : List (List ℕ)) (g : StateList) → Laid ls es w n x g → Targets q group
         → states_faults levels le (what_is es) g ≡ [] → states_shape es group above g ≡ []
-        → NamedGroup w (group_of ls es k x g) → FineGroup w q n (group_of ls es k x g)
+        → WellNamedGroup w (group_of ls es k x g) → FineGroup w q n (group_of ls es k x g)
     fine_group k n x q group above no_state laid targets f s i = tt
     fine_group k n x q group above (and_state t rest) laid targets f s i = (
       fine_state k n x q group above t (laid_first ls es w n x t rest laid) targets (nil_left _ _ f)

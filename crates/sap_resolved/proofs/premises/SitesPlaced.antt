@@ -12,7 +12,7 @@ use Rattle.sap_names.specs.Entities.{what_is}
 use Rattle.sap_names.specs.Widths.{own as own_width}
 use Rattle.sap_names.specs.declared.kind.Use.TheVariants.{Assigned as assigned, Indexed as indexed, Entered as entered}
 use Rattle.sap_names.specs.NameFaults.{simple_faults, command_faults, block_faults, arms_faults, else_faults, commands_faults, state_faults, states_faults}
-use Rattle.sap_shape.specs.Sites.{is_enforced, is_enforced_kind, any_enforced, Surroundings, CheckSite, simple_sites}
+use Rattle.sap_shape.specs.Sites.{is_enforced, any_enforced, Surroundings, CheckSite, simple_sites}
 use Rattle.sap_shape.specs.Sites as shape
 use Rattle.sap_meaning.specs.Program.{World, is_dynamic, state_node, Group}
 use Rattle.sap_meaning.specs.Checks.{site_of}
@@ -60,10 +60,6 @@ module _ (ls : Levels) where
       ap (λ (n : ℕ). n ∷ site_numbers (placed ls (suc k) ss)) (site_is s.surroundings k s.command)
       ∙ ap (λ (ns : List ℕ). k ∷ ns) (placed_numbers (suc k) ss)
 
-enforced_kind : (kind : Kind) → not (is_dynamic_kind kind) ≡ is_enforced_kind kind
-enforced_kind (Dynamic place) = refl
-enforced_kind (Enforced level under) = refl
-
 module _ (ls : Levels) (es : List declared_entity.Entity) (w : World) where
   -- a child is enforced
   some_same : (k n x : ℕ) (g : StateList) → Laid ls es w n x g → some_enforced w (group_of ls es k x g) ≡ any_enforced g
@@ -72,12 +68,12 @@ module _ (ls : Levels) (es : List declared_entity.Entity) (w : World) where
       let s : StateTree = state_node place name kind body children in
       let later : Group = group_of ls es (k + length (shape.state_sites es s)) (x + states_in s) rest in
       let mine : LaidState ls es w n x s = laid_first ls es w n x s rest laid in
-      or_equal (not (is_dynamic w x)) (some_enforced w later) (is_enforced_kind kind) (any_enforced rest)
-      (ap (λ (b : Bool). not b) (here_dynamic ls es w n x place name kind body children mine) ∙ enforced_kind kind)
+      or_equal (not (is_dynamic w x)) (some_enforced w later) (not (is_dynamic_kind kind)) (any_enforced rest)
+      (ap (λ (b : Bool). not b) (here_dynamic ls es w n x place name kind body children mine))
       (some_same (k + length (shape.state_sites es s)) (suc n) (x + states_in s) rest (laid_rest ls es w n x s rest laid))
 
 module _ (ls : Levels) (levels : List (List ℕ)) (h : Surroundings) (w : World) (match : AllMatch h.entities w.entities)
-    (x : ℕ) (g : Group) (own : not (is_dynamic w x) ≡ is_enforced_kind h.home.kind) (kids : some_enforced w g ≡ any_enforced h.home.children)
+    (x : ℕ) (g : Group) (own : not (is_dynamic w x) ≡ not (is_dynamic_kind h.home.kind)) (kids : some_enforced w g ≡ any_enforced h.home.children)
     (mine : x ≡ entity_number h.entities h.home.name) where
   abbrev What : tree.Lookup
   What = what_is h.entities
@@ -89,7 +85,7 @@ module _ (ls : Levels) (levels : List (List ℕ)) (h : Surroundings) (w : World)
   site_same n (set_tag place target tag) f = refl
   site_same n (set_cell_tag place target index tag) f = refl
   site_same n (go_to place target) f =
-      or_equal (not (is_dynamic w x)) (not (is_dynamic w (entity_number h.entities target.name))) (is_enforced_kind h.home.kind)
+      or_equal (not (is_dynamic w x)) (not (is_dynamic w (entity_number h.entities target.name))) (not (is_dynamic_kind h.home.kind))
       (is_enforced h.entities target.name) own (enforced_same h.entities w match entered target f)
   site_same n (fall_to_child place) f = kids
 
@@ -167,8 +163,8 @@ module _ (ls : Levels) (levels : List (List ℕ)) (le : ℕ → ℕ → Bool) (e
         let k' : ℕ = k + length (shape.block_sites h body) in
         let g : Group = group_of ls es k' (x + 1) children in
         let below : Laid ls es w 0 (x + 1) children = laid_below ls es w n x place name kind body children laid in
-        let own : not (is_dynamic w x) ≡ is_enforced_kind kind =
-        ap (λ (b : Bool). not b) (here_dynamic ls es w n x place name kind body children laid) ∙ enforced_kind kind in
+        let own : not (is_dynamic w x) ≡ not (is_dynamic_kind kind) =
+        ap (λ (b : Bool). not b) (here_dynamic ls es w n x place name kind body children laid) in
         let mine : x ≡ entity_number es name.name =
         sym (unique x (laid_named ls es w n x place name kind body children laid))
         ∙ ap (λ (a : List ℕ). entity_number es a) (laid_name ls es w n x place name kind body children laid) in

@@ -22,7 +22,7 @@ use Rattle.sap_meaning.specs.Fine.{size, FineStep, FineCommand, FineArms, FineBl
 use Rattle.sap_resolved.specs.Worlds.{states_in}
 use Rattle.sap_resolved.specs.Resolve.{site_number, step_of, command_of, arms_of, block_of, else_of, list_of, state_of, group_of}
 use Rattle.sap_resolved.specs.Terms.{entity_number}
-use Rattle.sap_resolved.specs.Named.{NamedStep, Named, NamedArms, NamedBlock}
+use Rattle.sap_resolved.specs.WellNamed.{WellNamedStep, WellNamed, WellNamedArms, WellNamedBlock}
 use Rattle.sap_resolved.proofs.Lookup.{AllMatch}
 use Rattle.sap_resolved.proofs.premises.Commands.{tag_named, cell_named, if_first, if_other, body_fits, below_fits}
 use Rattle.sap_resolved.proofs.premises.Places.{name_at}
@@ -121,7 +121,7 @@ module _ (ls : Levels) (levels : List (List ℕ)) (h : Surroundings) (w : World)
     -- steps with names of fitting entities, among the states of a group
     module _ (q g : Group) (targets : (name : List ℕ) → is_among at.group name ≡ true → among q (entity_number h.entities name) ≡ true)
         (falling : is_leaf at.home.children ≡ false → 0 < size g) where
-      fine_step : (n : ℕ) (c : SimpleCommand) → simple_faults levels What c ≡ [] → simple_shape h.entities at c ≡ [] → NamedStep w (step_of ls h n c)
+      fine_step : (n : ℕ) (c : SimpleCommand) → simple_faults levels What c ≡ [] → simple_shape h.entities at c ≡ [] → WellNamedStep w (step_of ls h n c)
           → FineStep w q g (step_of ls h n c)
       fine_step n (assign target e) f s i = i
       fine_step n (write target index e) f s i = i
@@ -143,7 +143,7 @@ module _ (ls : Levels) (levels : List (List ℕ)) (h : Surroundings) (w : World)
       fine_step n (fall_to_child place) f s i = falling (no_fault (is_leaf at.home.children) E12 place s)
 
       mutual
-        fine_command : (k : ℕ) (c : Command) → command_faults levels What c ≡ [] → command_shape h.entities at c ≡ [] → Ended c → Named w (command_of ls h k c)
+        fine_command : (k : ℕ) (c : Command) → command_faults levels What c ≡ [] → command_shape h.entities at c ≡ [] → Ended c → WellNamed w (command_of ls h k c)
             → FineCommand w q g (command_of ls h k c)
         fine_command k (lone c) f s o i = fine_step (site_number h k c) c f s i
         fine_command k (try c place b) f s o i = (
@@ -163,23 +163,23 @@ module _ (ls : Levels) (levels : List (List ℕ)) (h : Surroundings) (w : World)
         fine_command k (case_of place e arms) f s o i = (i.0, fine_arms (own What e) k arms (nil_right _ _ f) s (shut_arms place e arms o) i.1)
 
         fine_arms : (asked : Option ℕ) (k : ℕ) (arms : Arms) → arms_faults levels What asked arms ≡ [] → arms_shape h.entities at arms ≡ [] → ShutArms arms
-            → NamedArms w (arms_of ls h k arms) → FineArms w q g (arms_of ls h k arms)
+            → WellNamedArms w (arms_of ls h k arms) → FineArms w q g (arms_of ls h k arms)
         fine_arms asked k (last_arm b) f s o i = fine_body k b f s o i
         fine_arms asked k (and_arm constants b arms) f s o i = (
           fine_body k b (nil_right _ _ (nil_left _ _ f)) (nil_left _ _ s) (shut_arm constants b arms o) i.0,
           fine_arms asked (k + length (block_sites h b)) arms (nil_right _ _ f) (nil_right _ _ s) (shut_later constants b arms o) i.1,
         )
 
-        pub fine_body : (k : ℕ) (b : CommandBlock) → block_faults levels What b ≡ [] → block_shape h.entities at b ≡ [] → Shut b → NamedBlock w (block_of ls h k b)
+        pub fine_body : (k : ℕ) (b : CommandBlock) → block_faults levels What b ≡ [] → block_shape h.entities at b ≡ [] → Shut b → WellNamedBlock w (block_of ls h k b)
             → FineBlock w q g (block_of ls h k b)
         fine_body k (command_block cs after) f s o i = fine_list k cs f s (shut_list cs after o) i
 
-        fine_else : (k : ℕ) (b : ElseBlock) → else_faults levels What b ≡ [] → else_shape h.entities at b ≡ [] → ShutElse b → NamedBlock w (else_of ls h k b)
+        fine_else : (k : ℕ) (b : ElseBlock) → else_faults levels What b ≡ [] → else_shape h.entities at b ≡ [] → ShutElse b → WellNamedBlock w (else_of ls h k b)
             → FineBlock w q g (else_of ls h k b)
         fine_else k no_else f s o i = tt
         fine_else k (with_else b) f s o i = fine_body k b f s (shut_else b o) i
 
-        fine_list : (k : ℕ) (cs : CommandList) → commands_faults levels What cs ≡ [] → list_shape h.entities at cs ≡ [] → ShutList cs → NamedBlock w (list_of ls h k cs)
+        fine_list : (k : ℕ) (cs : CommandList) → commands_faults levels What cs ≡ [] → list_shape h.entities at cs ≡ [] → ShutList cs → WellNamedBlock w (list_of ls h k cs)
             → FineBlock w q g (list_of ls h k cs)
         fine_list k no_command f s o i = tt
         fine_list k (and_command c cs) f s o i = (

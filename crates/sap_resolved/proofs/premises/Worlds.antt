@@ -10,12 +10,11 @@ use Rattle.sap_tree.specs.declared.syntax.Decl.{Decl}
 use Rattle.sap_tree.specs.declared.syntax.Decl.TheVariants.{Input, Register, Memory}
 use Rattle.sap_tree.specs.Syntax.{StateTree, state_node, StateList, no_state, and_state, DesignTree}
 use Rattle.sap_lattice.specs.Order.{Order, Laws}
-use Rattle.sap_lattice.specs.Levels.{Levels, order_of}
+use Rattle.sap_lattice.specs.Levels.{Levels, level_named, order_of}
 use Rattle.sap_names.specs.declared.kind.Code.TheVariants.{E9}
 use Rattle.sap_names.specs.Entities as tree
 use Rattle.sap_names.specs.Entities.{entities_of, what_is}
 use Rattle.sap_names.specs.NameFaults.{not_below, level_faults, under_faults, kind_faults, declaration_faults, declarations_faults, state_faults, states_faults}
-use Rattle.sap_names.specs.NameFaults as faults
 use Rattle.sap_meaning.specs.Program.{World, Entity, nothing, entity, children, root, kind_is_input}
 use Rattle.sap_resolved.specs.Worlds.{level_number, declared_level, authority_of, is_dynamic_kind, declared, all_declared, states_in, group_length, state_entities, group_entities, group_children, no_children, world_of}
 use Rattle.sap_resolved.proofs.premises.Places.{Part, part_head, group_count, group_kids, Laid}
@@ -98,7 +97,7 @@ module _ (ls : Levels) (laws : Laws (order_of ls)) where
   kind_above (Enforced level (Some under)) h d =
       let u : under_faults ls.names O.le level (Some under) ≡ [] = nil_right _ _ h in
       let l = (known_level ls level (nil_left _ _ h)).1 in
-      let test : Bool = not_below O.le (faults.level_number ls.names under.level.name) (faults.level_number ls.names level.name) in
+      let test : Bool = not_below O.le (level_named ls.names under.level.name) (level_named ls.names level.name) in
       let m = (known_level ls under.level (nil_left _ _ u)).1 in
       let no : test ≡ false = no_fault test E9 level.place (nil_right _ _ u) in
       let no' : not (O.le (level_number ls under.level) (level_number ls level)) ≡ false = rw (l, m) at no in

@@ -21,7 +21,7 @@ use Rattle.sap_shape.specs.Sites.{Surroundings, simple_sites, command_sites, blo
 use Rattle.sap_resolved.specs.Worlds.{states_in}
 use Rattle.sap_resolved.specs.Terms.{entity_number, term_of}
 use Rattle.sap_resolved.specs.Resolve.{site_number, step_of, number_of, numbers_of, command_of, arms_of, block_of, else_of, list_of, state_of, group_of}
-use Rattle.sap_resolved.specs.Named.{NamedStep, Named, NamedArms, NamedBlock, NamedState, NamedGroup}
+use Rattle.sap_resolved.specs.WellNamed.{WellNamedStep, WellNamed, WellNamedArms, WellNamedBlock, WellNamedState, WellNamedGroup}
 use Rattle.sap_resolved.proofs.Lookup.{Stands}
 use Rattle.sap_resolved.proofs.sized.Faultless.{none_two, none_three, sound_same}
 use Rattle.sap_resolved.proofs.sized.Declared.{Sound}
@@ -65,10 +65,10 @@ module _ (ls : Levels) (h : Surroundings) (w : World) (r : Ready ls h.entities w
   what = what_is h.entities
 
   abbrev Fits : program.Command → Type 0
-  Fits c = Named w c × Sized w c
+  Fits c = WellNamed w c × Sized w c
 
   abbrev BlockFits : program.Block → Type 0
-  BlockFits b = NamedBlock w b × SizedBlock w b
+  BlockFits b = WellNamedBlock w b × SizedBlock w b
 
   -- an index and what it indexes
   record Indexing (name : List ℕ) (i : Expression) : Type 0 where
@@ -92,7 +92,7 @@ module _ (ls : Levels) (h : Surroundings) (w : World) (r : Ready ls h.entities w
         cells = ap (λ o. cell_width o) u.1 ∙ u.2.width;
       }
 
-  step_fits : (k : ℕ) (c : SimpleCommand) → simple_faults ls.names what c ≡ [] → NamedStep w (step_of ls h k c) × SizedStep w (step_of ls h k c)
+  step_fits : (k : ℕ) (c : SimpleCommand) → simple_faults ls.names what c ≡ [] → WellNamedStep w (step_of ls h k c) × SizedStep w (step_of ls h k c)
   step_fits k (assign target e) f =
       let asked = register_width (what target.name) in
       let n = none_two (name_faults assigned what target) (expression_faults what e asked) f in
@@ -182,7 +182,7 @@ module _ (ls : Levels) (h : Surroundings) (w : World) (r : Ready ls h.entities w
         let a = arms_fit (width_of w (term_of es e None)) k arms (subst (λ (o : Option ℕ). arms_faults ls.names what o arms ≡ []) mine n.1) in
         ((t.fine, a.0), ((t.fits, t.indexed), a.1))
 
-    arms_fit : (u k : ℕ) (arms : Arms) → arms_faults ls.names what (Some u) arms ≡ [] → NamedArms w (arms_of ls h k arms) × SizedArms w u (arms_of ls h k arms)
+    arms_fit : (u k : ℕ) (arms : Arms) → arms_faults ls.names what (Some u) arms ≡ [] → WellNamedArms w (arms_of ls h k arms) × SizedArms w u (arms_of ls h k arms)
     arms_fit u k (last_arm b) f = block_fits k b f
     arms_fit u k (tree.and_arm constants b arms) f =
         let n = none_three (constants_faults what (Some u) constants) (block_faults ls.names what b) (arms_faults ls.names what (Some u) arms) f in
@@ -208,7 +208,7 @@ module _ (ls : Levels) (h : Surroundings) (w : World) (r : Ready ls h.entities w
 module _ (ls : Levels) (le : ℕ → ℕ → Bool) (es : List Entity) (w : World) (r : Ready ls es w) where
   mutual
     state_fits : (k x : ℕ) (s : StateTree) → state_faults ls.names le (what_is es) s ≡ []
-        → NamedState w (state_of ls es k x s) × SizedState w (state_of ls es k x s)
+        → WellNamedState w (state_of ls es k x s) × SizedState w (state_of ls es k x s)
     state_fits k x (state_node place name kind body children) f =
         let n = none_three (kind_faults ls.names le kind) (block_faults ls.names (what_is es) body) (states_faults ls.names le (what_is es) children) f in
         let h : Surroundings = record { entities = es; home = record { name = name.name; kind = kind; children = children } } in
@@ -217,7 +217,7 @@ module _ (ls : Levels) (le : ℕ → ℕ → Bool) (es : List Entity) (w : World
         ((a.0, b.0), (a.1, b.1))
 
     pub group_fits : (k x : ℕ) (g : StateList) → states_faults ls.names le (what_is es) g ≡ []
-        → NamedGroup w (group_of ls es k x g) × SizedGroup w (group_of ls es k x g)
+        → WellNamedGroup w (group_of ls es k x g) × SizedGroup w (group_of ls es k x g)
     group_fits k x no_state f = (tt, tt)
     group_fits k x (and_state s rest) f =
         let n = none_two (state_faults ls.names le (what_is es) s) (states_faults ls.names le (what_is es) rest) f in

@@ -11,7 +11,7 @@ use Rattle.sap_meaning.specs.Sized.{SizedGroup, SizedProgram}
 use Rattle.sap_resolved.specs.Worlds.{world_of}
 use Rattle.sap_resolved.specs.Resolve.{states_of}
 use Rattle.sap_resolved.specs.Fill.{program_of}
-use Rattle.sap_resolved.specs.Named.{NamedGroup}
+use Rattle.sap_resolved.specs.WellNamed.{WellNamedGroup}
 use Rattle.sap_resolved.specs.Sized.Sound.{NamesFit, SizesFit}
 use Rattle.sap_resolved.proofs.sized.Faultless.{none_three}
 use Rattle.sap_resolved.proofs.sized.Declared.{resolved}
@@ -36,10 +36,10 @@ module _ (ls : Levels) (d : DesignTree) (laws : Laws (order_of ls)) (h : design_
   ready = record { names = resolved ls le d (faultless ls le d h).0; count = order_of-count ls; bottom = laws.bottom_is_level }
 
   -- before what hangs is filled in
-  pub states_fit : NamedGroup (world_of ls d) (states_of ls d) × SizedGroup (world_of ls d) (states_of ls d)
+  pub states_fit : WellNamedGroup (world_of ls d) (states_of ls d) × SizedGroup (world_of ls d) (states_of ls d)
   states_fit = group_fits ls le (entities_of d) (world_of ls d) ready 1 (length d.declarations) d.states (faultless ls le d h).1
 
-  pub named : NamedGroup (program_of ls d).world (program_of ls d).states
+  pub named : WellNamedGroup (program_of ls d).world (program_of ls d).states
   named = group_named (world_of ls d) (root (world_of ls d)) (states_of ls d) states_fit.0
 
   pub sized : SizedProgram (program_of ls d)

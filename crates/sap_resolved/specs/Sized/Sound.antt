@@ -6,14 +6,14 @@ use Rattle.sap_lattice.specs.Order.{Laws}
 use Rattle.sap_lattice.specs.Levels.{Levels, order_of}
 use Rattle.sap_names.specs.NameFaults.{design_name_faults}
 use Rattle.sap_meaning.specs.Sized.{SizedProgram}
-use Rattle.sap_resolved.specs.Named.{NamedGroup}
+use Rattle.sap_resolved.specs.WellNamed.{WellNamedGroup}
 use Rattle.sap_resolved.specs.Fill.{program_of}
 use Rattle.sap_resolved.specs.Sized.Ranges.{RangedProgram}
 
 -- each name is that of an entity of the kind that its place asks for, and each written level is one of the lattice
 abbrev pub NamesFit : Type 0
 NamesFit = (ls : Levels) (d : DesignTree) → Laws (order_of ls) → design_name_faults ls.names (order_of ls).le d ≡ []
-    → NamedGroup (program_of ls d).world (program_of ls d).states
+    → WellNamedGroup (program_of ls d).world (program_of ls d).states
 
 -- the widths of expressions fit where they stand, and one another, and what the entities start with fits them
 abbrev pub SizesFit : Type 0

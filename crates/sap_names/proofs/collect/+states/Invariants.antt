@@ -1,7 +1,7 @@
 use Rattle.std.proofs.Common.{◌≡◌, ◌++◌, drop}
 use Rattle.sap_tree.specs.Trees.{state_of, states_of}
 use Rattle.sap_names.specs.Lists.{states_entities}
-use Rattle.sap_names.proofs.Weights.{state_weight, states_weight}
+use Rattle.sap_tree.proofs.Weights.{state_weight, states_weight}
 use Rattle.sap_names.proofs.collect.+states.Given as goal
 
 abbrev pub decreases-add_state : goal.decreases-add_state

@@ -5,7 +5,7 @@ use Rattle.sap_tree.specs.declared.syntax.Cmd.{Cmd}
 use Rattle.sap_names.specs.Entities.{what_is}
 use Rattle.sap_names.proofs.Commands.{try_noted, if_noted, then_noted, case_noted}
 use Rattle.sap_names.proofs.Lists.{arms_step, commands_step}
-use Rattle.sap_names.proofs.Weights.{arm_list_weight, arms_lighter, commands_weight, else_lighter, last_lighter}
+use Rattle.sap_tree.proofs.Weights.{arm_list_weight, arms_lighter, commands_weight, else_lighter, last_lighter}
 use Rattle.sap_names.proofs.command.+commands.Goals as goal
 
 pub commands_faults-loop-command-preserved : goal.commands_faults-loop-command-preserved

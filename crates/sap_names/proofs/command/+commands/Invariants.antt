@@ -3,7 +3,7 @@ use Rattle.sap_tree.specs.Trees.{command_of, commands_of, else_of}
 use Rattle.sap_names.specs.Best.{best_of}
 use Rattle.sap_names.specs.Lists.{arms_faults, commands_faults}
 use Rattle.sap_names.specs.Entities.{what_is}
-use Rattle.sap_names.proofs.Weights.{arm_list_weight, command_weight, commands_weight, else_weight}
+use Rattle.sap_tree.proofs.Weights.{arm_list_weight, command_weight, commands_weight, else_weight}
 use Rattle.sap_names.proofs.command.+commands.Given as goal
 
 abbrev pub decreases-command_faults : goal.decreases-command_faults

@@ -3,7 +3,7 @@ use Rattle.sap_tree.specs.Trees.{tag_of, tags_of}
 use Rattle.sap_names.specs.Best.{best_of}
 use Rattle.sap_names.specs.Lists.{tags_faults}
 use Rattle.sap_names.specs.Entities.{what_is}
-use Rattle.sap_names.proofs.Weights.{tag_weight, tags_weight}
+use Rattle.sap_tree.proofs.Weights.{tag_weight, tags_weight}
 use Rattle.sap_names.proofs.command.+tags.Given as goal
 
 abbrev pub decreases-tag_faults : goal.decreases-tag_faults

@@ -4,7 +4,7 @@ use Rattle.sap_tree.specs.Trees.{state_of, states_of}
 use Rattle.sap_names.specs.Best.{best_of}
 use Rattle.sap_names.specs.Entities.{what_is}
 use Rattle.sap_names.specs.Lists.{states_faults}
-use Rattle.sap_names.proofs.Weights.{state_weight, states_weight}
+use Rattle.sap_tree.proofs.Weights.{state_weight, states_weight}
 use Rattle.sap_names.proofs.design.+states.Given as goal
 
 abbrev pub decreases-state_faults : goal.decreases-state_faults

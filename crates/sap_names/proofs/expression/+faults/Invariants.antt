@@ -1,5 +1,5 @@
 use Rattle.sap_tree.specs.Trees.{expression_of, expressions_of}
-use Rattle.sap_names.proofs.Weights.{weight, parts_weight}
+use Rattle.sap_tree.proofs.Weights.{weight, parts_weight}
 use Rattle.sap_names.proofs.expression.+faults.Given as goal
 
 abbrev pub decreases-expression_faults : goal.decreases-expression_faults

@@ -1,5 +1,5 @@
 use Rattle.std.proofs.Common.{◌≡◌, ◌+◌, drop, length}
-use Rattle.sap_names.proofs.Weights.{arm_list_weight, command_weight, commands_weight, else_weight}
+use Rattle.sap_tree.proofs.Weights.{arm_list_weight, command_weight, commands_weight, else_weight}
 use Rattle.sap_tree.specs.Trees.{command_of, commands_of, else_of}
 use Rattle.sap_meaning.specs.Program.{Block, end_block}
 use Rattle.sap_resolve.specs.Surroundings.{surroundings_of, rows_of}

@@ -1,5 +1,5 @@
 use Rattle.std.proofs.Common.{◌≡◌, ◌+◌, ◌++◌, drop, map}
-use Rattle.sap_names.proofs.Weights.{state_weight, states_weight}
+use Rattle.sap_tree.proofs.Weights.{state_weight, states_weight}
 use Rattle.sap_tree.specs.Trees.{state_of, states_of}
 use Rattle.sap_resolve.specs.Lists.{states_below, group_entities, group_names, own_names}
 use Rattle.sap_program.specs.Views.{entity_of}

@@ -1,5 +1,5 @@
 use Rattle.sap_tree.specs.Trees.{expression_of, expressions_of}
-use Rattle.sap_names.proofs.Weights.{weight, parts_weight}
+use Rattle.sap_tree.proofs.Weights.{weight, parts_weight}
 use Rattle.sap_resolve.proofs.numbers.+number.Given as goal
 
 abbrev pub decreases-number : goal.decreases-number

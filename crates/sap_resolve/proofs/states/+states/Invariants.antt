@@ -1,5 +1,5 @@
 use Rattle.std.proofs.Common.{◌≡◌, ◌+◌, drop, length}
-use Rattle.sap_names.proofs.Weights.{state_weight, states_weight}
+use Rattle.sap_tree.proofs.Weights.{state_weight, states_weight}
 use Rattle.sap_tree.specs.Trees.{state_of, states_of}
 use Rattle.sap_resolve.specs.Surroundings.{known_rows}
 use Rattle.sap_resolve.specs.Lists.{group_from, group_site_count, states_below}

@@ -2,7 +2,7 @@ use Rattle.std.proofs.Common.{◌≡◌, drop}
 use Rattle.sap_names.specs.Best.{best_of}
 use Rattle.sap_shape.specs.Lists.{group_shape}
 use Rattle.sap_tree.specs.Trees.{state_of, states_of}
-use Rattle.sap_names.proofs.Weights.{state_weight, states_weight}
+use Rattle.sap_tree.proofs.Weights.{state_weight, states_weight}
 use Rattle.sap_shape.proofs.states.+shape.Given as goal
 
 -- what is left gives the first of all

@@ -1,5 +1,5 @@
 use Rattle.sap_tree.specs.Trees.{tag_of, tags_of}
-use Rattle.sap_show.proofs.Weights.{tag_weight, tags_weight}
+use Rattle.sap_tree.proofs.Weights.{tag_weight, tags_weight}
 use Rattle.sap_show.proofs.expression.+tag.Given as goal
 
 abbrev pub decreases-tag : goal.decreases-tag
