@@ -1,7 +1,7 @@
 -- Two streams of a design compared at a level: the level, where they first don't agree, and what is told.
 use Rattle.std.specs.Prelude.{◌≡◌, ◌⊎◌, ℕ, Bool, true, false, List, [], ◌∷◌, ◌++◌, length, get_or, codes, Option, Some, None, Result, Ok, Err, if◌then◌else◌}
 use Rattle.std.specs.Fmt.{decimal}
-use Rattle.sap_lattice.specs.Levels.{Levels, order_of}
+use Rattle.sap_lattice.specs.Levels.{Levels, level_named, order_of}
 use Rattle.sap_lattice.specs.Order.{Order}
 use Rattle.sap_meaning.specs.Agree.{StreamsAgree}
 use Rattle.sap_meaning.specs.Cycle.{Tagged}
@@ -10,7 +10,6 @@ use Rattle.sap_names.specs.Entities.{entities_of}
 use Rattle.sap_names.specs.declared.entity.Entity.{Entity}
 use Rattle.sap_names.specs.declared.kind.Declared.{Declared}
 use Rattle.sap_names.specs.declared.kind.Declared.TheVariants as what
-use Rattle.sap_stim.specs.Line.{level_named}
 use Rattle.sap_stream.specs.Apart.{IsApart}
 use Rattle.sap_stream.specs.declared.apart.Apart.{Apart}
 use Rattle.sap_stream.specs.declared.apart.Apart.TheVariants.{Lengths, At}
