@@ -10,7 +10,8 @@ const TWO_REGISTERS: &str =
         initial v_x=8'd01; always@(posedge clk)v_x<=v_y; initial v_y=8'd2; always@(posedge clk)v_y<=v_x;
         initial t_x=1'd0; initial t_y=1'd0; always@(posedge clk)t_x<=t_y; always@(posedge clk)t_y<=t_x; endmodule";
 
-const TWO_REGISTERS_PRINTED: &str = "module top(
+const TWO_REGISTERS_PRINTED: &str = "// written by sapper
+module top(
   input clk,
   output reg [7:0] v_x,
   output reg [0:0] t_x,
@@ -29,7 +30,8 @@ endmodule
 ";
 
 // An input, two wires that are ports, a register that sums the input, and a memory whose last cell takes the sum.
-const SUMMING: &str = "module top(
+const SUMMING: &str = "// written by sapper
+module top(
   input clk,
   input [7:0] a,
   output wire [7:0] b,

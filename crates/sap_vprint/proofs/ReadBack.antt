@@ -10,7 +10,7 @@ use Rattle.sap_vtext.specs.Tokens.{Word, Sign, Token, IsToken}
 use Rattle.sap_vtext.specs.Tokens as t
 use Rattle.sap_vtext.specs.Grammar as g
 use Rattle.sap_vtext.specs.Grammar.{IsWord, IsSign, IsName, IsNumber, IsDigit, IsConstant, IsOperand, IsPort, ArePorts, AreParts, IsRight, IsItem, AreItems, IsFile}
-use Rattle.sap_vprint.specs.Text.{Piece, space, line, word, sign, name, operand, operand_text, part_pieces, right_pieces, item_pieces, port_pieces, file_pieces, end_of_ports, end_of_file}
+use Rattle.sap_vprint.specs.Text.{Piece, space, line, comment, word, sign, name, operand, operand_text, piece_text, part_pieces, right_pieces, item_pieces, port_pieces, file_pieces, end_of_ports, end_of_file}
 use Rattle.sap_vprint.proofs.Spaced.{tokens_at, kind_of_operand}
 use Rattle.sap_vtext.proofs.Bare.{bare_name, bare_operand, bare_right, bare_item, bare_port, bare}
 
@@ -315,7 +315,7 @@ file_same n {ps} {qs} {xs} {ys} p q =
 
 pub file_read : (f : File) → AllByRecursion IsWhole f.items → ReadFile f
 file_read f h =
-    let p = 0 + 6 + 1 in
+    let p = 0 + length (piece_text comment) + 1 + 6 + 1 in
     let ports = ports_read ((((((p + length f.module_name + 1) + 1) + 1) + 1 + 5) + 1) + 3) f.ports (end_of_ports ++ (flat_map item_pieces f.items ++ end_of_file)) in
     let items = items_read (((ports.at + 1) + 1) + 1 + 1) f.items end_of_file h in
     record {

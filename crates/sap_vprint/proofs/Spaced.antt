@@ -9,7 +9,7 @@ use Rattle.sap_vtext.specs.Items as item
 use Rattle.sap_vtext.specs.Lexing.{word_text, sign_text, Lexed, end, blank_first, token_first}
 use Rattle.sap_vtext.specs.Tokens.{Sign, Kind, Token}
 use Rattle.sap_vtext.specs.Tokens as t
-use Rattle.sap_vprint.specs.Text.{Piece, space, line, zero, one, word, sign, name, number, operand, operand_text, piece_text, text_of}
+use Rattle.sap_vprint.specs.Text.{Piece, space, line, comment, zero, one, word, sign, name, number, operand, operand_text, piece_text, text_of}
 use Rattle.sap_vprint.proofs.Spelled.{clings, IsSpelled, piece_spelled}
 
 abbrev pub is_blank : Piece → Bool
@@ -29,9 +29,12 @@ may_follow (sign t.less) q = is_blank q
 may_follow (sign s) q = true
 may_follow space q = true
 may_follow line q = true
+may_follow comment line = true
+may_follow comment q = false
 may_follow p q = ends_run q
 
 abbrev pub follows : Piece → List Piece → Bool
+follows comment [] = false
 follows p [] = true
 follows p (q ∷ qs) = may_follow p q
 
@@ -58,6 +61,7 @@ abbrev pub tokens_at : ℕ → List Piece → List Token
 tokens_at from [] = []
 tokens_at from (space ∷ ps) = tokens_at (from + 1) ps
 tokens_at from (line ∷ ps) = tokens_at (from + 1) ps
+tokens_at from (comment ∷ ps) = tokens_at (from + length (piece_text comment)) ps
 tokens_at from (zero ∷ ps) = at_place from (t.number 0 1) ∷ tokens_at (from + 1) ps
 tokens_at from (one ∷ ps) = at_place from (t.number 1 1) ∷ tokens_at (from + 1) ps
 tokens_at from (word w ∷ ps) = at_place from (t.word w) ∷ tokens_at (from + length (word_text w)) ps
@@ -75,6 +79,7 @@ behind_run : (q : Piece) (rest : List ℕ) → ends_run q ≡ true → (is_inner
 behind_run space rest h = refl
 behind_run line rest h = refl
 behind_run (sign s) rest h = behind_sign s rest
+behind_run comment rest h = absurd (cc)
 behind_run zero rest h = absurd (cc)
 behind_run one rest h = absurd (cc)
 behind_run (word w) rest h = absurd (cc)
@@ -91,6 +96,7 @@ behind_open s line rest h = line_byte s where
   line_byte : (s : Sign) → clings (sign s) 10 ≡ false
   line_byte t.is = refl
   line_byte _ = refl
+behind_open s comment rest h = absurd (cc)
 behind_open s zero rest h = absurd (cc)
 behind_open s one rest h = absurd (cc)
 behind_open s (sign u) rest h = absurd (cc)
@@ -108,16 +114,19 @@ apart : (p q : Piece) (rest : List ℕ) → may_follow p q ≡ true → clings p
 apart (sign s) q rest h = sign_apart s q rest h
 apart space q rest h = refl
 apart line q rest h = refl
+apart comment line rest h = refl
+apart comment _ rest h = absurd (cc)
 apart zero q rest h = behind_run q rest h
 apart _ q rest h = behind_run q rest h
 
 behind : (p : Piece) (qs : List Piece) → follows p qs ≡ true → clings p (slice_index (text_of qs) 0) ≡ false
-behind p [] h = at_end p where
-  at_end : (p : Piece) → clings p 0 ≡ false
-  at_end (sign t.is) = refl
-  at_end (sign t.less) = refl
-  at_end (sign s) = refl
-  at_end _ = refl
+behind p [] h = at_end p h where
+  at_end : (p : Piece) → follows p [] ≡ true → clings p 0 ≡ false
+  at_end comment g = absurd (cc)
+  at_end (sign t.is) g = refl
+  at_end (sign t.less) g = refl
+  at_end (sign s) g = refl
+  at_end _ g = refl
 behind p (q ∷ qs) h = apart p q (text_of qs) h
 
 -- what is left behind a piece
@@ -133,6 +142,10 @@ pieces_lexed (space ∷ ps) from h sp =
 pieces_lexed (line ∷ ps) from h sp =
     let w = and_parts (follows line ps) (is_spaced ps) sp in
     blank_first 1 (piece_spelled line (text_of ps) tt (behind line ps w.0)) (pieces_lexed ps (from + 1) h w.1)
+pieces_lexed (comment ∷ ps) from h sp =
+    let w = and_parts (follows comment ps) (is_spaced ps) sp in
+    let p = comment in
+    blank_first (length (piece_text p)) (piece_spelled p (text_of ps) tt (behind p ps w.0)) (pieces_lexed ps (from + length (piece_text p)) h w.1)
 pieces_lexed (zero ∷ ps) from h sp =
     let w = and_parts (follows zero ps) (is_spaced ps) sp in
     token_first (t.number 0 1) 1 (piece_spelled zero (text_of ps) tt (behind zero ps w.0)) (pieces_lexed ps (from + 1) h w.1)

@@ -14,10 +14,10 @@ use Rattle.std.proofs.lemmas.Bool.{and_from, and_left, and_parts}
 use Rattle.sap_net.specs.Names.{is_initial, is_inner}
 use Rattle.sap_vtext.specs.Items.{Constant}
 use Rattle.sap_vtext.specs.Items as item
-use Rattle.sap_vtext.specs.Lexing.{word_text, sign_text, is_blank, kind_of_name, name_front, sign_or_bad, number_front, constant_front, digits_of_front, is_constant, digits_front, is_below_2_64, Front, blank, token, bad, front}
+use Rattle.sap_vtext.specs.Lexing.{word_text, sign_text, is_blank, is_in_line, kind_of_name, name_front, sign_or_bad, number_front, constant_front, digits_of_front, is_constant, digits_front, is_below_2_64, Front, blank, token, bad, front}
 use Rattle.sap_vtext.specs.Tokens.{Word, Sign, Kind}
 use Rattle.sap_vtext.specs.Tokens as t
-use Rattle.sap_vprint.specs.Text.{Piece, space, line, zero, one, word, sign, name, number, operand, operand_text, piece_text}
+use Rattle.sap_vprint.specs.Text.{Piece, space, line, comment, zero, one, word, sign, name, number, operand, operand_text, piece_text}
 
 -- a byte that would join what stands before it
 abbrev pub clings : Piece → ℕ → Bool
@@ -26,6 +26,7 @@ clings (sign t.less) b = eqb b 61 || eqb b 60
 clings (sign s) b = false
 clings space b = false
 clings line b = false
+clings comment b = is_in_line b
 clings p b = is_inner b || eqb b 39
 
 -- a name of the module grammar
@@ -52,6 +53,7 @@ IsSpelled _ = Unit {0}
 abbrev pub front_of : Piece → Front
 front_of space = blank 1
 front_of line = blank 1
+front_of comment = blank (length (piece_text comment))
 front_of zero = token (t.number 0 1) 1
 front_of one = token (t.number 1 1) 1
 front_of (word w) = token (t.word w) (length (word_text w))
@@ -237,6 +239,7 @@ pub piece_spelled : (p : Piece) (rest : List ℕ) → IsSpelled p → clings p (
 unfolding front
 piece_spelled space rest h stop = refl
 piece_spelled line rest h stop = refl
+piece_spelled comment rest h stop = ap blank (prefix_run is_in_line (piece_text comment) rest refl stop)
 piece_spelled zero rest h stop = digit_spelled 48 rest refl (lit< tt) stop
 piece_spelled one rest h stop = digit_spelled 49 rest refl (lit< tt) stop
 piece_spelled (word w) rest h stop = word_spelled w rest stop

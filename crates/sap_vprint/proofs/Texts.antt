@@ -46,7 +46,7 @@ parts_grow os rest o a b c e f g =
     ∙ ap (λ z. a ++ (operand_text (operand_of o) ++ z)) (sym (more_parts_text rest))
     ∙ ap (λ z. a ++ text_of (parts_pieces (map operand_of z))) (sym e)
 
-pub begin_grows : (n o a b : List ℕ) → a ≡ o ++ codes "module " → b ≡ a ++ n → b ++ codes "(\n  input clk" ≡ o ++ text_of (head_pieces n)
+pub begin_grows : (n o a b : List ℕ) → a ≡ o ++ codes "// written by sapper\nmodule " → b ≡ a ++ n → b ++ codes "(\n  input clk" ≡ o ++ text_of (head_pieces n)
 begin_grows n o a b e f = rw (f, e) (simp append_assoc)
 
 pub port_text_is : (k : PortKind) (x : Name) (w : ℕ) → port_text (port_of k x w) ≡ codes ",\n  " ++ (direction_text k ++ (text_of (range_pieces (w - 1)) ++ x))

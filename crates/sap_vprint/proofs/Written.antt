@@ -12,7 +12,7 @@ use Rattle.sap_vtext.specs.Items.{Mention, Number, Operand, Right, Item, Port, D
 use Rattle.sap_vtext.specs.Items as item
 use Rattle.sap_vtext.specs.Lexing.{Lexed}
 use Rattle.sap_vtext.specs.Tokens as t
-use Rattle.sap_vprint.specs.Text.{Piece, space, line, zero, one, word, sign, name, number, operand, text_of, range_pieces, part_pieces, right_pieces, item_pieces, direction_pieces, port_pieces, file_pieces, end_of_ports, end_of_file}
+use Rattle.sap_vprint.specs.Text.{Piece, space, line, comment, zero, one, word, sign, name, number, operand, text_of, range_pieces, part_pieces, right_pieces, item_pieces, direction_pieces, port_pieces, file_pieces, end_of_ports, end_of_file}
 use Rattle.sap_vprint.proofs.Spelled.{IsName, IsWritable, IsSpelled}
 use Rattle.sap_vprint.proofs.Spaced.{is_spaced, follows, may_follow, ends_run, AreSpelled, tokens_at, pieces_lexed}
 use Rattle.sap_vprint.proofs.ReadBack.{HasParts, IsWhole}
@@ -93,6 +93,7 @@ spelled_append (number n ∷ ps) qs h g = (h.0, spelled_append ps qs h.1 g)
 spelled_append (operand x ∷ ps) qs h g = (h.0, spelled_append ps qs h.1 g)
 spelled_append (space ∷ ps) qs h g = spelled_append ps qs h g
 spelled_append (line ∷ ps) qs h g = spelled_append ps qs h g
+spelled_append (comment ∷ ps) qs h g = spelled_append ps qs h g
 spelled_append (zero ∷ ps) qs h g = spelled_append ps qs h g
 spelled_append (one ∷ ps) qs h g = spelled_append ps qs h g
 spelled_append (word w ∷ ps) qs h g = spelled_append ps qs h g

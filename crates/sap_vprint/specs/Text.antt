@@ -9,9 +9,9 @@ use Rattle.sap_vtext.specs.Lexing.{word_text, sign_text}
 use Rattle.sap_vtext.specs.Tokens.{Word, Sign}
 use Rattle.sap_vtext.specs.Tokens as t
 
--- a piece of the text: a token, a space, or the end of a line; the numbers 0 and 1 where the grammar asks for them are pieces of their own
+-- a piece of the text: a token, a space, the end of a line, or the comment at the head; the numbers 0 and 1 where the grammar asks for them are pieces of their own
 pub data Piece : Type 0 where
-  space line : Piece
+  space line comment : Piece
   zero one : Piece
   word : Word → Piece
   sign : Sign → Piece
@@ -26,6 +26,7 @@ operand_text (item.constant c) = decimal c.width ++ (codes "'d" ++ decimal c.val
 abbrev pub piece_text : Piece → List ℕ
 piece_text space = 32 ∷ []
 piece_text line = 10 ∷ []
+piece_text comment = codes "// written by sapper"
 piece_text zero = codes "0"
 piece_text one = codes "1"
 piece_text (word w) = word_text w
@@ -126,9 +127,10 @@ port_pieces p = new_port ++ (direction_pieces p.direction ++ (range_pieces p.ran
 unfoldable pub port_text : Port → List ℕ
 port_text p = text_of (port_pieces p)
 
--- `module NAME(` and `input clk`
+-- the comment on a line of its own, `module NAME(` and `input clk`
 abbrev pub head_pieces : List ℕ → List Piece
-head_pieces n = word t.module_word ∷ space ∷ name n ∷ sign t.open_paren ∷ line ∷ space ∷ space ∷ word t.input_word ∷ space ∷ word t.clk_word ∷ []
+head_pieces n =
+    comment ∷ line ∷ word t.module_word ∷ space ∷ name n ∷ sign t.open_paren ∷ line ∷ space ∷ space ∷ word t.input_word ∷ space ∷ word t.clk_word ∷ []
 
 abbrev pub end_of_ports : List Piece
 end_of_ports = line ∷ sign t.close_paren ∷ sign t.semicolon ∷ line ∷ []

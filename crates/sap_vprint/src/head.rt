@@ -13,11 +13,11 @@ use sap_net::parts::{Memory, Name, Port, PortKind};
 use sap_text::digits::push_number;
 use std::alloc::AllocError;
 
-/// The first lines, up to the clock.
+/// The first lines, from the comment to the clock.
 pub fn begin(out: &mut Vec<u8>, module_name: &Name) -> Result<(), AllocError>
     ensures { OnOk result (out.new.items ≡ out.old.items ++ text_of (head_pieces module_name.now)) }
 {
-    out.extend_from_slice(b"module ")?;
+    out.extend_from_slice(b"// written by sapper\nmodule ")?;
     out.extend_from_slice(module_name.as_bytes())?;
     out.extend_from_slice(b"(\n  input clk")
 }
