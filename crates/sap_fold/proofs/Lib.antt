@@ -3,6 +3,7 @@ pub mod Sets
 pub mod Numerals
 pub mod Provided
 pub mod Folds
+pub mod Settling
 pub mod Sees
 pub mod Unders
 pub mod Becoming

@@ -135,7 +135,7 @@ record PartIn (sc : Scope) (w u r : ℕ) (one : Operand) (rest : List Operand) :
 
 pub slice_of_parts : (ws : List Wire) (u : ℕ) (x : Name) (os : List Operand) (hi lo : ℕ) (r : Right) → Defines ws (Named x) (Concat os) → OfParts ws os hi lo r → Equals ws u (Slice x hi lo) r
 slice_of_parts ws u x os hi lo r k p =
-    let s = p.spot in
+    let s = p.part_at in
     let tail = s.one ∷ s.rest in
     record {
       fits = λ ms sc f a.
@@ -190,8 +190,8 @@ width_more ws y rest b u h k ms sc t f a =
     let q = h ms sc a.1 f a.4 in
     omega (arith, p, q, a.5)
 
-pub spot_at : (ws : List Wire) (xs : List Operand) (hi lo r behind u : ℕ) (y : Operand) → 0 < r → r ≤ length xs → y ≡ get_or xs (r - 1) y → HaveWidth ws (drop r xs) behind → HasWidth ws y u → behind ≤ lo → hi < behind + u → IsPartAt ws xs hi lo (r - 1) behind
-spot_at ws xs hi lo r behind u y p l e h k low high =
+pub part_found : (ws : List Wire) (xs : List Operand) (hi lo r behind u : ℕ) (y : Operand) → 0 < r → r ≤ length xs → y ≡ get_or xs (r - 1) y → HaveWidth ws (drop r xs) behind → HasWidth ws y u → behind ≤ lo → hi < behind + u → IsPartAt ws xs hi lo (r - 1) behind
+part_found ws xs hi lo r behind u y p l e h k low high =
     let j = r - 1 in
     record {
       front = take j xs;
@@ -210,13 +210,13 @@ get_front : (front : List Operand) (x : Operand) (rest : List Operand) (d : Oper
 get_front [] x rest d = refl
 get_front (y ∷ front) x rest d = get_front front x rest d
 
-pub part_at : (ws : List Wire) (xs : List Operand) (hi lo part behind : ℕ) (y z : Operand) (r : Right) → (s : IsPartAt ws xs hi lo part behind) → y ≡ get_or xs part y → z ≡ y → r ≡ sliced z (hi - behind) (lo - behind) → OfParts ws xs hi lo r
-part_at ws xs hi lo part behind y z r s e f g =
+pub part_sliced : (ws : List Wire) (xs : List Operand) (hi lo part behind : ℕ) (y z : Operand) (r : Right) → (s : IsPartAt ws xs hi lo part behind) → y ≡ get_or xs part y → z ≡ y → r ≡ sliced z (hi - behind) (lo - behind) → OfParts ws xs hi lo r
+part_sliced ws xs hi lo part behind y z r s e f g =
     let a : y ≡ s.one = e ∙ ap₂ (λ (os : List Operand) (n : ℕ). get_or os n y) s.parts s.place ∙ get_front s.front s.one s.rest y in
     record {
       part = part;
       behind = behind;
-      spot = s;
+      part_at = s;
       is = g ∙ ap (λ (o : Operand). sliced o (hi - behind) (lo - behind)) (f ∙ a);
     }
 

@@ -171,3 +171,7 @@ folded w (One op a) = of_one w op a (fold_one op a)
 folded w (Two op a b) = of_two w op a b (fold_two w op a b)
 folded w (Choose c a b) = of_choose c a b (fold_choose w c a b)
 folded w r = r
+
+-- A right side folded until the table folds it no further: a choice may become an operator on two operands, that one on one operand, and that a number.
+abbrev pub settled : (w : ℕ) → Right → Right
+settled w r = folded w (folded w (folded w r))

@@ -2,6 +2,7 @@ pub mod Names
 pub mod Wires
 pub mod Equals
 pub mod Folding
+pub mod Settled
 pub mod Seen
 pub mod Gives
 pub mod Under

@@ -42,8 +42,8 @@ pub record IsPartAt (ws : List Wire) (os : List Operand) (hi lo part behind : �
 pub record OfParts (ws : List Wire) (os : List Operand) (hi lo : ℕ) (r : Right) : Type 0 where
   pub part : ℕ
   pub behind : ℕ
-  pub spot : IsPartAt ws os hi lo part behind
-  pub is : r ≡ sliced spot.one (hi - behind) (lo - behind)
+  pub part_at : IsPartAt ws os hi lo part behind
+  pub is : r ≡ sliced part_at.one (hi - behind) (lo - behind)
 
 -- r is the slice of a wire of this right side, which it names no more
 abbrev pub SlicesRight : List Wire → Right → (hi lo : ℕ) → Right → Type 0

@@ -63,3 +63,10 @@ pub fn fold(width: u32, right: Right) -> Right
         right => right,
     }
 }
+
+/// A right side of equal value that no rule makes simpler.
+pub fn settle(width: u32, right: Right) -> Right
+    ensures { result ≡ spec.settled width right }
+{
+    fold(width, fold(width, fold(width, right)))
+}

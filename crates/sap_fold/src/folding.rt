@@ -3,7 +3,7 @@
 ghost use Rattle.std.specs.Prelude.{IfOk, OnOk};
 ghost use Rattle.sap_fold.specs.Gives.{Becomes, Gives};
 ghost use Rattle.sap_fold.specs.Names.{holds};
-ghost use Rattle.sap_share.specs.Rights.{NamesRights};
+ghost use Rattle.sap_fold.specs.Settled.{Orderly};
 
 use crate::fold::fold;
 use crate::parts::spread;
@@ -21,8 +21,8 @@ fn simpler(
     width: u32,
     given: Right,
 ) -> Result<Right, AllocError>
-    requires { NamesRights wires.old.numbers wires.old.list.items }
-    ensures names { OnOk result (NamesRights wires.new.numbers wires.new.list.items) }
+    requires { Orderly wires.old.numbers wires.old.list.items }
+    ensures orderly { OnOk result (Orderly wires.new.numbers wires.new.list.items) }
     ensures becomes { IfOk result (λ r. Becomes (holds taken.now) wires.old.list.items wires.old.next width given r wires.new.list.items wires.new.next) }
 {
     let seen = see(alloc, wires, taken, width, given)?;
@@ -39,8 +39,8 @@ pub fn fold_into(
     width: u32,
     given: Right,
 ) -> Result<Operand, AllocError>
-    requires { NamesRights wires.old.numbers wires.old.list.items }
-    ensures names { OnOk result (NamesRights wires.new.numbers wires.new.list.items) }
+    requires { Orderly wires.old.numbers wires.old.list.items }
+    ensures orderly { OnOk result (Orderly wires.new.numbers wires.new.list.items) }
     ensures gives { IfOk result (λ o. Gives (holds taken.now) wires.old.list.items wires.old.next width given o wires.new.list.items wires.new.next) }
 {
     let once = simpler(alloc, wires, taken, width, given)?;

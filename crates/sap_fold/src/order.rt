@@ -7,7 +7,7 @@ ghost use Rattle.sap_fold.specs.Equals.{Equals};
 ghost use Rattle.sap_fold.specs.Gives.{Becomes};
 ghost use Rattle.sap_fold.specs.Names.{holds};
 ghost use Rattle.sap_fold.specs.Order as spec;
-ghost use Rattle.sap_share.specs.Rights.{NamesRights};
+ghost use Rattle.sap_fold.specs.Settled.{Orderly};
 
 use crate::rules::fits;
 use crate::under::{definition, other};
@@ -187,8 +187,8 @@ pub fn see_equal(
     a: Operand,
     b: Operand,
 ) -> Result<Right, AllocError>
-    requires { NamesRights wires.old.numbers wires.old.list.items }
-    ensures names { OnOk result (NamesRights wires.new.numbers wires.new.list.items) }
+    requires { Orderly wires.old.numbers wires.old.list.items }
+    ensures orderly { OnOk result (Orderly wires.new.numbers wires.new.list.items) }
     ensures becomes { IfOk result (λ r. Becomes (holds taken.now) wires.old.list.items wires.old.next width (right.Two two.Eq a b) r wires.new.list.items wires.new.next) }
 {
     match either_bit(alloc, wires, &a, &b)? {

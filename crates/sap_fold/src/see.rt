@@ -8,7 +8,7 @@ ghost use Rattle.sap_fold.specs.Gives.{ArmGives, Becomes};
 ghost use Rattle.sap_fold.specs.Names.{holds};
 ghost use Rattle.sap_fold.specs.Seen.{Defines};
 ghost use Rattle.sap_fold.specs.Under as spec;
-ghost use Rattle.sap_share.specs.Rights.{NamesRights};
+ghost use Rattle.sap_fold.specs.Settled.{Orderly};
 
 use crate::absorb::absorb;
 use crate::fold::fold;
@@ -66,8 +66,8 @@ fn arm(
     value: bool,
     operand: Operand,
 ) -> Result<Operand, AllocError>
-    requires { NamesRights wires.old.numbers wires.old.list.items }
-    ensures names { OnOk result (NamesRights wires.new.numbers wires.new.list.items) }
+    requires { Orderly wires.old.numbers wires.old.list.items }
+    ensures orderly { OnOk result (Orderly wires.new.numbers wires.new.list.items) }
     ensures arm { IfOk result (λ p. ArmGives (holds taken.now) wires.old.list.items wires.old.next width bit.now (spec.number value) operand p wires.new.list.items wires.new.next) }
 {
     match under(alloc, wires, bit, value, &operand)? {
@@ -90,8 +90,8 @@ fn see_arms(
     a: Operand,
     b: Operand,
 ) -> Result<Right, AllocError>
-    requires { NamesRights wires.old.numbers wires.old.list.items }
-    ensures names { OnOk result (NamesRights wires.new.numbers wires.new.list.items) }
+    requires { Orderly wires.old.numbers wires.old.list.items }
+    ensures orderly { OnOk result (Orderly wires.new.numbers wires.new.list.items) }
     ensures becomes { IfOk result (λ r. Becomes (holds taken.now) wires.old.list.items wires.old.next width (right.Choose condition a b) r wires.new.list.items wires.new.next) }
 {
     let a = arm(alloc, wires, taken, width, &condition, true, a)?;
@@ -109,8 +109,8 @@ fn see_choice(
     a: Operand,
     b: Operand,
 ) -> Result<Right, AllocError>
-    requires { NamesRights wires.old.numbers wires.old.list.items }
-    ensures names { OnOk result (NamesRights wires.new.numbers wires.new.list.items) }
+    requires { Orderly wires.old.numbers wires.old.list.items }
+    ensures orderly { OnOk result (Orderly wires.new.numbers wires.new.list.items) }
     ensures becomes { IfOk result (λ r. Becomes (holds taken.now) wires.old.list.items wires.old.next width (right.Choose condition a b) r wires.new.list.items wires.new.next) }
 {
     match negated(alloc, wires, &condition)? {
@@ -140,9 +140,9 @@ fn see_bits(
     a: Operand,
     b: Operand,
 ) -> Result<Right, AllocError>
-    requires names { NamesRights wires.old.numbers wires.old.list.items }
+    requires orderly { Orderly wires.old.numbers wires.old.list.items }
     requires bits { spec.IsBitwise op }
-    ensures names { OnOk result (NamesRights wires.new.numbers wires.new.list.items) }
+    ensures orderly { OnOk result (Orderly wires.new.numbers wires.new.list.items) }
     ensures becomes { IfOk result (λ r. Becomes (holds taken.now) wires.old.list.items wires.old.next 1 (right.Two op a b) r wires.new.list.items wires.new.next) }
 {
     let value = is_and(op);
@@ -161,9 +161,9 @@ fn see_both(
     a: Operand,
     b: Operand,
 ) -> Result<Right, AllocError>
-    requires names { NamesRights wires.old.numbers wires.old.list.items }
+    requires orderly { Orderly wires.old.numbers wires.old.list.items }
     requires bits { spec.IsBitwise op }
-    ensures names { OnOk result (NamesRights wires.new.numbers wires.new.list.items) }
+    ensures orderly { OnOk result (Orderly wires.new.numbers wires.new.list.items) }
     ensures becomes { IfOk result (λ r. Becomes (holds taken.now) wires.old.list.items wires.old.next width (right.Two op a b) r wires.new.list.items wires.new.next) }
 {
     if width != 1 {
@@ -183,8 +183,8 @@ fn see_two(
     a: Operand,
     b: Operand,
 ) -> Result<Right, AllocError>
-    requires { NamesRights wires.old.numbers wires.old.list.items }
-    ensures names { OnOk result (NamesRights wires.new.numbers wires.new.list.items) }
+    requires { Orderly wires.old.numbers wires.old.list.items }
+    ensures orderly { OnOk result (Orderly wires.new.numbers wires.new.list.items) }
     ensures becomes { IfOk result (λ r. Becomes (holds taken.now) wires.old.list.items wires.old.next width (right.Two op a b) r wires.new.list.items wires.new.next) }
 {
     match op {
@@ -206,8 +206,8 @@ pub fn see(
     width: u32,
     given: Right,
 ) -> Result<Right, AllocError>
-    requires { NamesRights wires.old.numbers wires.old.list.items }
-    ensures names { OnOk result (NamesRights wires.new.numbers wires.new.list.items) }
+    requires { Orderly wires.old.numbers wires.old.list.items }
+    ensures orderly { OnOk result (Orderly wires.new.numbers wires.new.list.items) }
     ensures becomes { IfOk result (λ r. Becomes (holds taken.now) wires.old.list.items wires.old.next width given r wires.new.list.items wires.new.next) }
 {
     match given {

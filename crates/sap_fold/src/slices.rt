@@ -89,9 +89,9 @@ fn of_parts(
         return Ok(None);
     }
     match find_part(wires, operands, hi, lo) {
-        Some(spot) => {
-            let part = operands[spot.part].copy(alloc)?;
-            Ok(Some(sliced(part, hi - spot.behind, lo - spot.behind)))
+        Some(found) => {
+            let part = operands[found.part].copy(alloc)?;
+            Ok(Some(sliced(part, hi - found.behind, lo - found.behind)))
         }
         None => Ok(None),
     }

@@ -1,13 +1,16 @@
-//! Helping wires, one for each right side and width.
+//! Helping wires, one for each right side and width, that fold no further.
 
-ghost use Rattle.std.specs.Prelude.{◌≡◌, ◌≤◌, ◌<◌, ◌^◌, ◌∷◌, [], ◌++◌, ℕ, None, Some, IfOk, IfSome, OnOk, length};
+ghost use Rattle.std.specs.Prelude.{◌≡◌, ◌≤◌, ◌<◌, ◌^◌, ◌∷◌, [], ◌++◌, ℕ, None, Some, IfOk, IfSome, OnOk, false, length};
 ghost use Rattle.sap_maps.specs.Scope.{find};
 ghost use Rattle.sap_share.specs.Keys as spec;
 ghost use Rattle.sap_share.specs.Names.{helper};
 ghost use Rattle.sap_share.specs.Rights.{NamesRights, rights};
+ghost use Rattle.sap_fold.specs.Folding.{folded, settled};
 ghost use Rattle.sap_fold.specs.Names.{holds};
+ghost use Rattle.sap_fold.specs.Settled.{Orderly, is_copy};
 ghost use Rattle.sap_fold.specs.Wires.{Adds, AddsNew, HasWire, IsFree, Provides};
 
+use crate::fold::settle;
 use crate::names::has;
 use sap_net::parts::{Name, Operand, Right, Wire};
 use sap_share::keys::key;
@@ -111,8 +114,25 @@ impl Wires {
         width: u32,
         right: Right,
     ) -> Result<Operand, AllocError>
-        requires { NamesRights self.old.numbers self.old.list.items }
-        ensures names { OnOk result (NamesRights self.new.numbers self.new.list.items) }
+        requires { Orderly self.old.numbers self.old.list.items }
+        ensures orderly { OnOk result (Orderly self.new.numbers self.new.list.items) }
+        ensures provides { IfOk result (λ o. Provides (holds taken.now) self.old.list.items self.old.next width (settled width right) o self.new.list.items self.new.next) }
+    {
+        let settled = settle(width, right);
+        self.provide_settled(alloc, taken, width, settled)
+    }
+
+    /// The operand that has the value of a right side that folds no further.
+    fn provide_settled(
+        &mut self,
+        alloc: Global,
+        taken: &HashSet<Vec<u8>>,
+        width: u32,
+        right: Right,
+    ) -> Result<Operand, AllocError>
+        requires orderly { Orderly self.old.numbers self.old.list.items }
+        requires settled { folded width right ≡ right }
+        ensures orderly { OnOk result (Orderly self.new.numbers self.new.list.items) }
         ensures provides { IfOk result (λ o. Provides (holds taken.now) self.old.list.items self.old.next width right o self.new.list.items self.new.next) }
     {
         match right {
@@ -132,8 +152,10 @@ impl Wires {
         width: u32,
         right: Right,
     ) -> Result<Name, AllocError>
-        requires { NamesRights self.old.numbers self.old.list.items }
-        ensures names { OnOk result (NamesRights self.new.numbers self.new.list.items) }
+        requires orderly { Orderly self.old.numbers self.old.list.items }
+        requires settled { folded width right ≡ right }
+        requires calculated { is_copy right ≡ false }
+        ensures orderly { OnOk result (Orderly self.new.numbers self.new.list.items) }
         ensures adds { IfOk result (λ n. Adds (holds taken.now) self.old.list.items self.old.next width right n self.new.list.items self.new.next) }
     {
         let key = key(alloc, width, &right)?;
@@ -152,10 +174,12 @@ impl Wires {
         width: u32,
         right: Right,
     ) -> Result<Name, AllocError>
-        requires names { NamesRights self.old.numbers self.old.list.items }
+        requires orderly { Orderly self.old.numbers self.old.list.items }
         requires bytes { key.items ≡ spec.key width right }
         requires new { find (rights self.old.list.items) (spec.key width right) ≡ None }
-        ensures names { OnOk result (NamesRights self.new.numbers self.new.list.items) }
+        requires settled { folded width right ≡ right }
+        requires calculated { is_copy right ≡ false }
+        ensures orderly { OnOk result (Orderly self.new.numbers self.new.list.items) }
         ensures adds { IfOk result (λ n. AddsNew (holds taken.now) self.old.list.items self.old.next width right n self.new.list.items self.new.next) }
     {
         let free = free_name(alloc, taken, self.next)?;

@@ -1,5 +1,7 @@
 use Rattle.sap_fold.specs.Names.{holds}
-use Rattle.sap_fold.proofs.Becoming.{becomes_both, gives_becoming, gives_provided}
+use Rattle.sap_fold.specs.Folding.{settled}
+use Rattle.sap_fold.proofs.Becoming.{becomes_both, becomes_equal, gives_becoming, gives_provided}
+use Rattle.sap_fold.proofs.Settling.{settled_equals}
 use Rattle.sap_fold.proofs.folding.fold_into.Goals as goal
 
 pub returns-clause-gives : goal.returns-clause-gives
@@ -16,7 +18,10 @@ returns-clause-gives c =
     let d = c.in_ok-twice.twice in
     let e = c.in_ok-folded.folded in
     let o = c.in_ok-operand.operand in
-    gives_becoming f s.list.items s.next u a e o z.list.items z.next t.list.items t.next
+    let g = settled u e in
+    gives_becoming f s.list.items s.next u a g o z.list.items z.next t.list.items t.next
+    (becomes_both f s.list.items s.next u a e g z.list.items z.next z.list.items z.next
     (becomes_both f s.list.items s.next u a d e y.list.items y.next z.list.items z.next
     (becomes_both f s.list.items s.next u a b d x.list.items x.next y.list.items y.next c.in_ok-once.ensures.becomes c.in_ok-twice.ensures.becomes) c.in_ok-folded.ensures.becomes)
-    (gives_provided f z.list.items z.next u e o t.list.items t.next c.in_ok-operand.ensures.provides)
+    (becomes_equal f z.list.items z.next u e g (settled_equals z.list.items u e)))
+    (gives_provided f z.list.items z.next u g o t.list.items t.next c.in_ok-operand.ensures.provides)

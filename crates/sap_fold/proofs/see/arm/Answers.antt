@@ -3,7 +3,10 @@ use Rattle.std.specs.Prelude.{IfSome}
 use Rattle.sap_net.specs.declared.parts.Right.{Right}
 use Rattle.sap_fold.specs.Names.{holds}
 use Rattle.sap_fold.specs.Under.{number, Under}
+use Rattle.sap_fold.specs.Folding.{settled}
 use Rattle.sap_fold.proofs.Becoming.{arm_itself, arm_known}
+use Rattle.sap_fold.proofs.Sees.{equals_both}
+use Rattle.sap_fold.proofs.Settling.{settled_equals}
 use Rattle.sap_fold.proofs.see.arm.Goals as goal
 
 pub returns-in_ok-provided-in-Some-clause-arm : goal.returns-in_ok-provided-in-Some-clause-arm
@@ -12,8 +15,9 @@ returns-in_ok-provided-in-Some-clause-arm c =
     let t = c.provide.new.self in
     let n = number c.args.value in
     let k = subst (λ (o : Option Right). IfSome o (λ r. Under s.list.items c.args.bit.now n c.args.operand r)) c.in-Some.is (c.in_ok-known.ensures {u = tt}) in
-    arm_known (holds c.args.taken.now) s.list.items s.next c.args.width c.args.bit.now n c.args.operand c.in-Some.known c.in_ok-simple-in-Some.simple c.in_ok-provided-in-Some.provided t.list.items t.next
-    k (c.in_ok-simple-in-Some.ensures {u = tt}) c.in_ok-provided-in-Some.ensures.provides
+    let simple = c.in_ok-simple-in-Some.simple in
+    arm_known (holds c.args.taken.now) s.list.items s.next c.args.width c.args.bit.now n c.args.operand c.in-Some.known (settled c.args.width simple) c.in_ok-provided-in-Some.provided t.list.items t.next
+    k (equals_both s.list.items c.args.width c.in-Some.known simple (settled c.args.width simple) (c.in_ok-simple-in-Some.ensures {u = tt}) (settled_equals s.list.items c.args.width simple)) c.in_ok-provided-in-Some.ensures.provides
 
 pub returns-in-None-clause-arm : goal.returns-in-None-clause-arm
 returns-in-None-clause-arm c =

@@ -1,12 +1,12 @@
 use Rattle.std.proofs.Common.{◌≡◌, ◌+◌, ◌-◌, ◌∷◌, List, drop, sym, subst, arith}
 use Rattle.sap_net.specs.declared.parts.Operand.{Operand}
 use Rattle.sap_fold.specs.Slices.{HaveWidth}
-use Rattle.sap_fold.proofs.Slicing.{drop_less, spot_at, width_more}
+use Rattle.sap_fold.proofs.Slicing.{drop_less, part_found, width_more}
 use Rattle.sap_fold.proofs.slices.find_part.Goals as goal
 
 pub returns-then-hi-behind : goal.returns-then-hi-behind
 returns-then-hi-behind c =
-    spot_at c.args.wires.now.list.items c.args.operands.now c.args.hi c.args.lo c.loop-part.part c.loop-part.behind c.in-Some.width c.index-operands-part.result c.loop-part-test.true c.loop-part.invariant.within c.index-operands-part.is
+    part_found c.args.wires.now.list.items c.args.operands.now c.args.hi c.args.lo c.loop-part.part c.loop-part.behind c.in-Some.width c.index-operands-part.result c.loop-part-test.true c.loop-part.invariant.within c.index-operands-part.is
     c.loop-part.invariant.behind c.in-Some.ensures (omega (arith, c.if-behind-lo.false)) (omega (arith, c.if-hi-behind.true))
 
 pub loop-part-preserved : goal.loop-part-preserved

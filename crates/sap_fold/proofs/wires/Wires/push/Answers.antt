@@ -1,16 +1,18 @@
 use Rattle.std.proofs.Common.{◌≡◌, ◌++◌, [], ◌∷◌, List, ℕ, Some, sym, subst, rules}
 use Rattle.std.specs.Str.{bytes_eq}
 use Rattle.std.specs.HashMap as hash
+use Rattle.sap_lemmas.proofs.Everywhere.{all_append}
 use Rattle.sap_net.specs.declared.parts.Wire.{Wire}
 use Rattle.sap_share.specs.Keys.{key}
 use Rattle.sap_share.specs.Names.{helper}
-use Rattle.sap_share.specs.Rights.{NamesRights}
 use Rattle.sap_net.proofs.NameMaps.{same_bytes}
+use Rattle.sap_share.proofs.Differing.{all_more}
 use Rattle.sap_share.proofs.RightMaps.{one_more}
+use Rattle.sap_fold.specs.Settled.{Orderly}
 use Rattle.sap_fold.proofs.wires.Wires.push.Goals as goal
 
-pub returns-clause-names : goal.returns-clause-names
-returns-clause-names c =
+pub returns-clause-orderly : goal.returns-clause-orderly
+returns-clause-orderly c =
     let m = c.args.self.now.numbers in
     let ws = c.args.self.now.list.items in
     let m' = c.insert.new.self in
@@ -21,4 +23,11 @@ returns-clause-names c =
     let more : c.push.new.self.items ≡ ws ++ w ∷ [] = search rules in
     let h : hash.UpdatesBy same_bytes (λ b. bytes_eq c.args.key.items b.items) m m' (Some k) = c.in_ok-insert.ensures.updates in
     let updates = subst (λ (n : List ℕ). hash.UpdatesBy same_bytes (λ b. bytes_eq n b.items) m m' (Some k)) bytes h in
-    subst (NamesRights m') (sym more) (one_more m m' ws w k named c.requires.new updates c.requires.names)
+    let before = c.requires.orderly in
+    let all : Orderly m' (ws ++ w ∷ []) = record {
+      names = one_more m m' ws w k named c.requires.new updates before.names;
+      differ = all_more ws w c.requires.new before.differ;
+      settled = all_append _ ws (w ∷ []) before.settled (c.requires.settled, tt);
+      calculated = all_append _ ws (w ∷ []) before.calculated (c.requires.calculated, tt);
+    } in
+    subst (Orderly m') (sym more) all
