@@ -1,22 +1,26 @@
--- How many wires the second pass leaves.
-use Rattle.std.proofs.Common.{◌≡◌, ℕ, ◌+◌, ◌≤◌, List, [], ◌∷◌, map, length, Bool, ap, refl, inl, inr, arith, length-append}
+-- How many wires a pass leaves that folds each right side by itself.
+use Rattle.std.proofs.Common.{◌≡◌, ℕ, ◌+◌, ◌≤◌, List, [], ◌∷◌, ◌++◌, map, length, Bool, false, ap, refl, inl, inr, arith, length-append}
+use Rattle.std.specs.List.{AllByRecursion}
 use Rattle.std.proofs.lemmas.Bool.{cases_Bool}
 use Rattle.std.proofs.lemmas.List.{length-map}
 use Rattle.sap_maps.specs.Maps.{Name}
+use Rattle.sap_net.specs.Names.{is_among}
 use Rattle.sap_net.specs.Net.{Net}
 use Rattle.sap_net.specs.declared.parts.Operand.{Operand}
 use Rattle.sap_net.specs.declared.parts.Right.{Right}
 use Rattle.sap_net.specs.declared.parts.Right.TheVariants.{Copy, One, Two, Choose, Concat, Slice, Cell}
 use Rattle.sap_net.specs.declared.parts.Wire.{Wire}
 use Rattle.sap_trim.specs.Built.{built, wire_of}
-use Rattle.sap_trim.specs.Few.{calculated, HasFewWires, most_left}
+use Rattle.sap_trim.specs.Few.{calculated, HasFewWires, NeedsNoMore, most_left}
 use Rattle.sap_trim.specs.Names.{port_names, shown_wires}
 use Rattle.sap_trim.specs.Needed.{is_needed, needed, needed_wires}
 use Rattle.sap_trim.specs.Reads.{edge_reads}
 use Rattle.sap_trim.specs.Replaced.{Stands, replaced, standing}
-use Rattle.sap_trim.specs.Walked.{State, Begins, Copies, Walked}
+use Rattle.sap_trim.specs.Walked.{State, Begins, Settles, Walked}
+use Rattle.sap_fold.specs.Folding.{settled}
 use Rattle.sap_fold.specs.Slices.{sliced}
 use Rattle.sap_fold.specs.Wires.{Adds, Provides}
+use Rattle.sap_trim.proofs.Numbered.{shown_are}
 
 -- the wires that a right side needs: none if it is a copy
 
@@ -64,6 +68,15 @@ cost_replaced e (Concat os) = omega arith
 cost_replaced e (Slice x hi lo) = cost_most (sliced (standing e x) hi lo)
 cost_replaced e (Cell m i) = omega arith
 
+cost_settled : (w : ℕ) (r : Right) → cost (settled w r) ≤ cost r
+cost_settled w (Copy a) = omega arith
+cost_settled w (One op a) = cost_most (settled w (One op a))
+cost_settled w (Two op a b) = cost_most (settled w (Two op a b))
+cost_settled w (Choose c a b) = cost_most (settled w (Choose c a b))
+cost_settled w (Concat os) = omega arith
+cost_settled w (Slice x hi lo) = omega arith
+cost_settled w (Cell m i) = omega arith
+
 adds_one : (taken : Name → Bool) (ws : List Wire) (next u : ℕ) (r : Right) (n : Name) (after : List Wire) (next_after : ℕ) → Adds taken ws next u r n after next_after → length after ≤ length ws + 1
 adds_one taken ws next u r n after next_after (inl t) = let e = ap length t.wires in omega (arith, e)
 adds_one taken ws next u r n after next_after (inr a) =
@@ -82,13 +95,15 @@ provides_few taken ws next u (Cell m i) o after k p = adds_one taken ws next u (
 
 -- all steps
 
-copies_few : (taken : Name → Bool) (ws : List Wire) (s t : State) → Walked (Copies taken) s ws t → length t.wires ≤ length s.wires + costs ws
-copies_few taken [] s t k = let e = ap (λ (z : State). length z.wires) k in omega (arith, e)
-copies_few taken (w ∷ ws) s t k =
-    let p = provides_few taken s.wires s.next w.width (replaced s.stands w.right) k.1.operand k.0.wires k.0.next k.1.provides in
+settles_few : (taken : Name → Bool) (ws : List Wire) (s t : State) → Walked (Settles taken) s ws t → length t.wires ≤ length s.wires + costs ws
+settles_few taken [] s t k = let e = ap (λ (z : State). length z.wires) k in omega (arith, e)
+settles_few taken (w ∷ ws) s t k =
+    let q = replaced s.stands w.right in
+    let p = provides_few taken s.wires s.next w.width (settled w.width q) k.1.operand k.0.wires k.0.next k.1.provides in
+    let f = cost_settled w.width q in
     let c = cost_replaced s.stands w.right in
-    let r = copies_few taken ws k.0 t k.2 in
-    omega (arith, p, c, r)
+    let r = settles_few taken ws k.0 t k.2 in
+    omega (arith, p, f, c, r)
 
 costs_needed : (P E : List Name) (ws : List Wire) → costs (needed P E ws) ≤ costs ws
 costs_needed P E [] = omega arith
@@ -105,18 +120,50 @@ built_count n ws e =
 begun : (n : Net) (s : State) → Begins n s → length s.wires ≡ 0
 begun n s b = let e = ap length b.wires in omega (arith, e)
 
-pub built_left : (n : Net) (taken : Name → Bool) (s t : State) → Begins n s → Walked (Copies taken) s (needed_wires n) t → length (built n t.wires t.stands).wires ≤ most_left n
+pub built_left : (n : Net) (taken : Name → Bool) (s t : State) → Begins n s → Walked (Settles taken) s (needed_wires n) t → length (built n t.wires t.stands).wires ≤ most_left n
 built_left n taken s t b k =
-    let few = copies_few taken (needed_wires n) s t k in
+    let few = settles_few taken (needed_wires n) s t k in
     let none = begun n s b in
     let same = costs_are (needed_wires n) in
     let count = built_count n t.wires t.stands in
     omega (arith, few, none, same, count)
 
--- What is left is few.
-pub left_few : (n r : Net) → length r.wires ≤ most_left n → HasFewWires n r
-left_few n r l =
+pub left_most : (n : Net) → most_left n ≤ length (calculated n.wires) + length (shown_wires n)
+left_most n =
     let some = costs_needed (port_names n) (edge_reads n) n.wires in
     let before = costs_are n.wires in
     let after = costs_are (needed_wires n) in
-    omega (arith, l, some, before, after)
+    omega (arith, some, before, after)
+
+-- What is left is few.
+pub left_few : (n m r : Net) → NeedsNoMore n m → length r.wires ≤ most_left m → HasFewWires n r
+left_few n m r f l = omega (arith, f, l, left_most m)
+
+-- the new netlist needs no more
+
+costs_both : (ws xs : List Wire) → costs (ws ++ xs) ≡ costs ws + costs xs
+costs_both [] xs = omega arith
+costs_both (w ∷ ws) xs = let r = costs_both ws xs in omega (arith, r)
+
+costs_copies : (e : Stands) (ws : List Wire) → costs (map (wire_of e) ws) ≡ 0
+costs_copies e [] = refl
+costs_copies e (w ∷ ws) = let r = costs_copies e ws in omega (arith, r)
+
+costs_most : (ws : List Wire) → costs ws ≤ length ws
+costs_most [] = omega arith
+costs_most (w ∷ ws) = let c = cost_most w.right in let r = costs_most ws in omega (arith, c, r)
+
+pub built_few : (n : Net) (taken : Name → Bool) (s t : State) → Begins n s → Walked (Settles taken) s (needed_wires n) t → AllByRecursion (λ w. is_among w.name (port_names n) ≡ false) t.wires → NeedsNoMore n (built n t.wires t.stands)
+built_few n taken s t b k a =
+    let outs = map (wire_of t.stands) (shown_wires n) in
+    let few = settles_few taken (needed_wires n) s t k in
+    let none = begun n s b in
+    let some = costs_needed (port_names n) (edge_reads n) n.wires in
+    let before = costs_are n.wires in
+    let after = costs_are (t.wires ++ outs) in
+    let both = costs_both t.wires outs in
+    let copies = costs_copies t.stands (shown_wires n) in
+    let most = costs_most t.wires in
+    let shown = ap length (shown_are n t.wires t.stands a) in
+    let same = length-map (shown_wires n) (wire_of t.stands) in
+    omega (arith, few, none, some, before, after, both, copies, most, shown, same)

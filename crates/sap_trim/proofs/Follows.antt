@@ -29,14 +29,16 @@ use Rattle.sap_net.specs.NameMaps.{Puts}
 use Rattle.sap_trim.specs.Names.{port_names, lasting_names}
 use Rattle.sap_trim.specs.Replaced.{Stands, standing, replaced}
 use Rattle.sap_fold.specs.Equals.{Over}
+use Rattle.sap_fold.specs.Folding.{settled}
 use Rattle.sap_fold.specs.Gives as wires
 use Rattle.sap_fold.specs.Gives.{TakenApart, Provided}
 use Rattle.sap_trim.specs.Stays.{KeepsStart}
-use Rattle.sap_trim.specs.Walked.{State, Begins, SomeRegister, StartsAt, Copies, Folds, Walked}
+use Rattle.sap_trim.specs.Walked.{State, Begins, SomeRegister, StartsAt, Settles, Folds, Walked}
 use Rattle.sap_fold.proofs.Lists.{none_among}
 use Rattle.sap_trim.proofs.Replaced.{Finds, Means, stands_for, replaced_fits, replaced_same}
 use Rattle.sap_fold.proofs.Provided.{grows_more, over_first}
-use Rattle.sap_fold.proofs.Becoming.{gives_provided}
+use Rattle.sap_fold.proofs.Becoming.{becomes_equal, gives_becoming, gives_provided}
+use Rattle.sap_fold.proofs.Settling.{settled_equals}
 
 pub record Follows (taken : Name → Bool) (ms : Shapes) (so sc : Scope) (s : State) : Type 0 where
   pub fits : AreWires ms sc s.wires
@@ -76,7 +78,7 @@ step_provided : (taken : Name → Bool) (ms : Shapes) (so sc : Scope) (s t : Sta
 step_provided taken ms so sc s t w apart h i r f =
     f.gives.fits ms sc (record { apart = apart; named = h.named; fits = h.fits; wide = i }) (replaced_fits ms so (readable_after sc s.wires) s.stands h.finds w.width w.right r)
 
-follows_step : (taken : Name → Bool) (ms : Shapes) (so sc : Scope) (s t : State) (w : Wire) → TakenApart taken ms sc → Follows taken ms so sc s → IsWidth w.width → IsRight ms so w.width w.right → Folds taken s w t → Follows taken ms ((w.name, w.width) ∷ so) sc t
+pub follows_step : (taken : Name → Bool) (ms : Shapes) (so sc : Scope) (s t : State) (w : Wire) → TakenApart taken ms sc → Follows taken ms so sc s → IsWidth w.width → IsRight ms so w.width w.right → Folds taken s w t → Follows taken ms ((w.name, w.width) ∷ so) sc t
 follows_step taken ms so sc s t w apart h i r f =
     let p = step_provided taken ms so sc s t w apart h i r f in
     record {
@@ -131,19 +133,23 @@ means_walk taken ms sc wv ww v w (x ∷ ws) so s t apart h m a b c o e k =
     let next = means_step taken ms so sc s k.0 x wv ww v w apart h a.0 a.3 k.1 m wide c before e.0 in
     means_walk taken ms sc wv ww v w ws sd k.0 t apart n next a.4 b c o e.1 k.2
 
--- a wire that is only replaced
+-- a wire that is replaced and settled
 
-copies_fold : (taken : Name → Bool) (s t : State) (w : Wire) → Copies taken s w t → Folds taken s w t
-copies_fold taken s t w c =
+pub settles_fold : (taken : Name → Bool) (s t : State) (w : Wire) → Settles taken s w t → Folds taken s w t
+settles_fold taken s t w c =
+    let r = replaced s.stands w.right in
+    let f = settled w.width r in
     record {
       operand = c.operand;
-      gives = gives_provided taken s.wires s.next w.width (replaced s.stands w.right) c.operand t.wires t.next c.provides;
+      gives = gives_becoming taken s.wires s.next w.width r f c.operand s.wires s.next t.wires t.next
+          (becomes_equal taken s.wires s.next w.width r f (settled_equals s.wires w.width r))
+          (gives_provided taken s.wires s.next w.width f c.operand t.wires t.next c.provides);
       binds = c.binds;
     }
 
-pub copies_walk : (taken : Name → Bool) (ws : List Wire) (s t : State) → Walked (Copies taken) s ws t → Walked (Folds taken) s ws t
-copies_walk taken [] s t k = k
-copies_walk taken (w ∷ ws) s t k = (k.0, copies_fold taken s k.0 w k.1, copies_walk taken ws k.0 t k.2)
+pub settles_walk : (taken : Name → Bool) (ws : List Wire) (s t : State) → Walked (Settles taken) s ws t → Walked (Folds taken) s ws t
+settles_walk taken [] s t k = k
+settles_walk taken (w ∷ ws) s t k = (k.0, settles_fold taken s k.0 w k.1, settles_walk taken ws k.0 t k.2)
 
 -- the beginning
 
@@ -166,7 +172,7 @@ taken_apart n rules taken is x h =
       not_found {X = ℕ × ℕ} (λ (m : Memory). m.name) (λ m. (m.width, m.depth)) n.memories x rest.1,
     )
 
-first_among : (n : Net) (x : Name) (u : ℕ) → find (first_readable n) x ≡ Some u → is_among x (input_names n ++ register_names n) ≡ true
+pub first_among : (n : Net) (x : Name) (u : ℕ) → find (first_readable n) x ≡ Some u → is_among x (input_names n ++ register_names n) ≡ true
 first_among n x u h =
     elim (cases_Bool (is_among x (input_names n))) [
       | inl t ↦ among_front x (input_names n) (register_names n) t

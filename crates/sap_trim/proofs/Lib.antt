@@ -6,8 +6,10 @@ pub mod Built
 pub mod Cycle
 mod Counts
 pub mod Kept
-pub mod Shared
+pub mod Numbered
 pub mod Read
+pub mod Renamed
+pub mod Renaming
 pub mod Passes
 pub mod Few
 pub mod Compose

@@ -1,7 +1,7 @@
--- Helping wires: no two have the same width and right side, and they are numbered in order.
+-- Helping wires are numbered in order.
 use Rattle.std.proofs.Common.{◌≡◌, ℕ, suc, ◌+◌, List, [], ◌∷◌, ◌++◌, map, not, length, Bool, true, false, sym, ap, ap₂, ◌∙◌, subst, refl, inl, inr, arith, append-nil, length-append}
 use Rattle.std.specs.List.{AllByRecursion}
-use Rattle.sap_lemmas.proofs.Everywhere.{all_follow}
+use Rattle.sap_lemmas.proofs.Everywhere.{all_follow, map_of_all}
 use Rattle.sap_maps.specs.Maps.{Name}
 use Rattle.sap_net.specs.Names.{is_among}
 use Rattle.sap_net.specs.Net.{Net}
@@ -10,21 +10,19 @@ use Rattle.sap_net.specs.declared.parts.Right.{Right}
 use Rattle.sap_net.specs.declared.parts.Right.TheVariants.{Copy, One, Two, Choose, Concat, Slice, Cell}
 use Rattle.sap_net.specs.declared.parts.Wire.{Wire}
 use Rattle.sap_net.specs.IsNetlist.{names_of}
-use Rattle.sap_share.specs.Differing.{AllDiffer}
-use Rattle.sap_share.proofs.Differing.{all_more}
 use Rattle.sap_share.specs.Names.{helper}
 use Rattle.sap_trim.specs.Names.{numbered, port_names, shown_wires, helping_wires}
 use Rattle.sap_trim.specs.Replaced.{Stands, replaced}
+use Rattle.sap_fold.specs.Folding.{settled}
 use Rattle.sap_fold.specs.Wires.{AddsNew, Adds}
 use Rattle.sap_fold.specs.Wires.{Provides}
-use Rattle.sap_trim.specs.Walked.{State, Begins, Copies, Walked}
+use Rattle.sap_trim.specs.Walked.{State, Begins, Settles, Walked}
 use Rattle.sap_trim.specs.Built.{wire_of, built}
 use Rattle.sap_fold.proofs.Lists.{filter_append, filter_all, filter_none}
 use Rattle.sap_trim.proofs.Declared.{names_append, filter_holds}
 
 -- What is known of the helping wires.
 pub record Tidy (taken : Name → Bool) (ws : List Wire) (next : ℕ) : Type 0 where
-  pub differ : AllDiffer ws
   pub long : ((k : ℕ) → taken (helper k) ≡ false) → length ws ≡ next
   pub named : ((k : ℕ) → taken (helper k) ≡ false) → names_of ws ≡ numbered next
 
@@ -32,7 +30,6 @@ new_tidy : (taken : Name → Bool) (ws : List Wire) (next u : ℕ) (r : Right) (
 new_tidy taken ws next u r n after na a t =
     let x : Wire = record { name = n; width = u; right = r } in
     let tidy : Tidy taken (ws ++ x ∷ []) (a.number + 1) = record {
-      differ = all_more ws x a.new t.differ;
       long = λ free. let l = t.long free in let e = a.free.first (free next) in omega (arith, length-append ws (x ∷ []), l, e);
       named = λ free.
           let e = a.free.first (free next) in
@@ -60,15 +57,15 @@ provides_tidy taken ws next u (Concat os) o after na a t = adds_tidy taken ws ne
 provides_tidy taken ws next u (Slice x hi lo) o after na a t = adds_tidy taken ws next u (Slice x hi lo) a.0 after na a.2 t
 provides_tidy taken ws next u (Cell m i) o after na a t = adds_tidy taken ws next u (Cell m i) a.0 after na a.2 t
 
-pub walk_tidy : (taken : Name → Bool) (ws : List Wire) (s t : State) → Walked (Copies taken) s ws t → Tidy taken s.wires s.next → Tidy taken t.wires t.next
+pub walk_tidy : (taken : Name → Bool) (ws : List Wire) (s t : State) → Walked (Settles taken) s ws t → Tidy taken s.wires s.next → Tidy taken t.wires t.next
 walk_tidy taken [] s t e h = subst (λ (z : State). Tidy taken z.wires z.next) e h
 walk_tidy taken (w ∷ ws) s t k h =
     let c = k.1 in
-    walk_tidy taken ws k.0 t k.2 (provides_tidy taken s.wires s.next w.width (replaced s.stands w.right) c.operand k.0.wires k.0.next c.provides h)
+    walk_tidy taken ws k.0 t k.2 (provides_tidy taken s.wires s.next w.width (settled w.width (replaced s.stands w.right)) c.operand k.0.wires k.0.next c.provides h)
 
 pub begins_tidy : (taken : Name → Bool) (n : Net) (s : State) → Begins n s → Tidy taken s.wires s.next
 begins_tidy taken n s b =
-    same_tidy taken [] s.wires 0 s.next b.wires b.next (record { differ = tt; long = λ free. refl; named = λ free. refl })
+    same_tidy taken [] s.wires 0 s.next b.wires b.next (record { long = λ free. refl; named = λ free. refl })
 
 -- the helping wires of the new netlist
 shown_ports : (e : Stands) (P : List Name) (xs : List Wire) → AllByRecursion (λ w. is_among w.name P ≡ true) xs → AllByRecursion (λ w. not (is_among w.name P) ≡ false) (map (wire_of e) xs)
@@ -82,3 +79,11 @@ helping_are n ws e a =
     filter_append f ws (map (wire_of e) (shown_wires n))
     ∙ ap₂ (λ (xs ys : List Wire). xs ++ ys) (filter_all f ws (all_follow (λ w. is_among w.name P ≡ false) (λ w. f w ≡ true) ws (λ w h. ap not h) a)) (filter_none f (map (wire_of e) (shown_wires n)) (shown_ports e P (shown_wires n) (filter_holds (λ w. is_among w.name P) n.wires)))
     ∙ append-nil ws
+
+-- its port wires are as many as those of the given one
+pub shown_are : (n : Net) (ws : List Wire) (e : Stands) → AllByRecursion (λ w. is_among w.name (port_names n) ≡ false) ws → shown_wires (built n ws e) ≡ map (wire_of e) (shown_wires n)
+shown_are n ws e a =
+    let f = λ (w : Wire). is_among w.name (port_names n) in
+    let outs = map (wire_of e) (shown_wires n) in
+    filter_append f ws outs
+    ∙ ap₂ (λ (xs ys : List Wire). xs ++ ys) (filter_none f ws a) (filter_all f outs (map_of_all (λ w. f w ≡ true) (wire_of e) (shown_wires n) (filter_holds f n.wires)))

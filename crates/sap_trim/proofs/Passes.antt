@@ -1,5 +1,5 @@
--- What is known of the two passes.
-use Rattle.std.proofs.Common.{◌≡◌, ◌≤◌, ℕ, List, [], ◌∷◌, ◌++◌, filter, Some, Bool, false, sym, ap, ap₂, ◌∙◌, subst, refl, length}
+-- What is known of the passes.
+use Rattle.std.proofs.Common.{◌≡◌, ℕ, List, [], ◌∷◌, ◌++◌, filter, map, Some, Bool, true, false, sym, ap, ap₂, ◌∙◌, subst, refl, length}
 use Rattle.std.specs.List.{AllByRecursion}
 use Rattle.sap_lemmas.proofs.Everywhere.{all_filter, all_follow, all_of_map}
 use Rattle.sap_maps.specs.Maps.{Name}
@@ -11,24 +11,29 @@ use Rattle.sap_net.specs.declared.parts.Wire.{Wire}
 use Rattle.sap_net.specs.Rules.{readable_after}
 use Rattle.sap_net.specs.IsNetlist.{register_names, memory_names, first_readable, readable, shapes, IsNetlist, names_of}
 use Rattle.sap_share.specs.Names.{helper}
+use Rattle.sap_share.specs.Rights.{RightMap}
 use Rattle.sap_fold.specs.Names.{NameSet, holds}
-use Rattle.sap_trim.specs.Names.{numbered, port_names, lasting_names, helping_wires}
+use Rattle.sap_fold.specs.Settled.{IsSettled, is_copy, Orderly}
+use Rattle.sap_trim.specs.Names.{numbered, port_names, lasting_names, helping_wires, shown_wires}
 use Rattle.sap_trim.specs.Reads.{edge_reads, IsRead, ReadsWires}
 use Rattle.sap_share.specs.Differing.{AllDiffer}
-use Rattle.sap_trim.specs.Trimmed.{SharesWires, NamesWires, NumbersWires}
-use Rattle.sap_trim.specs.Walked.{State, Begins, Folds, Copies, Walked}
+use Rattle.sap_trim.specs.Trimmed.{FoldsWires, SharesWires, NamesWires, NumbersWires}
+use Rattle.sap_trim.specs.Walked.{State, Begins, Folds, Settles, StandForThemselves, Walked}
+use Rattle.sap_trim.specs.Folded.{IsFolded}
+use Rattle.sap_trim.specs.Tidied.{Tidied}
 use Rattle.sap_trim.specs.Needed.{needed_wires}
-use Rattle.sap_trim.specs.Built.{built}
+use Rattle.sap_trim.specs.Replaced.{Stands}
+use Rattle.sap_trim.specs.Built.{built, wire_of}
 use Rattle.sap_fold.proofs.Lists.{none_among}
-use Rattle.sap_trim.proofs.Follows.{taken_apart, begins_follow, follows_walk, copies_walk}
+use Rattle.sap_trim.proofs.Follows.{taken_apart, begins_follow, follows_walk, settles_walk}
 use Rattle.sap_trim.specs.Alike.{DeclaresAlike, RunsAlike}
 use Rattle.sap_trim.proofs.Built.{Walks, built_rules, registers_named, memories_named, untaken}
 use Rattle.sap_trim.proofs.Cycle.{Done, found_each, runs_alike, declares_alike}
 use Rattle.sap_trim.proofs.Kept.{AgreeOn, needed_fits, needed_agree, needed_within, needed_holds, shown_needed, edge_kept, needed_named, filter_each}
-use Rattle.sap_trim.proofs.Shared.{Tidy, walk_tidy, begins_tidy, helping_are}
+use Rattle.sap_trim.proofs.Numbered.{Tidy, walk_tidy, begins_tidy, helping_are}
 use Rattle.sap_trim.proofs.Read.{walk_reads, all_read}
-use Rattle.sap_trim.specs.Few.{most_left}
-use Rattle.sap_trim.proofs.Few.{built_left}
+use Rattle.sap_trim.proofs.Few.{built_few, built_left}
+use Rattle.sap_trim.proofs.Renaming.{settles_copy}
 
 pub done_fold : (n : Net) (taken : Name → Bool) (s t : State) (ws : List Wire) → IsNetlist n → ((x : Name) → taken x ≡ is_among x (lasting_names n)) → Begins n s → ws ≡ n.wires → Walked (Folds taken) s ws t → Done n taken n.wires s t
 done_fold n taken s t ws rules is b e k =
@@ -63,7 +68,7 @@ kept_wires n kept ws rules e h =
     ∙ filter_each (λ w. holds kept w.name) (λ w. is_among w.name (names_of (needed_wires n))) n.wires (everywhere n kept n.wires h)
     ∙ needed_named (port_names n) (edge_reads n) n.wires (wires_distinct (shapes n) n.wires (first_readable n) rules.assigns)
 
-pub needed_done : (n : Net) (taken : Name → Bool) (s t : State) → IsNetlist n → ((x : Name) → taken x ≡ is_among x (lasting_names n)) → Begins n s → Walked (Copies taken) s (needed_wires n) t → Done n taken (needed_wires n) s t
+pub needed_done : (n : Net) (taken : Name → Bool) (s t : State) → IsNetlist n → ((x : Name) → taken x ≡ is_among x (lasting_names n)) → Begins n s → Walked (Settles taken) s (needed_wires n) t → Done n taken (needed_wires n) s t
 needed_done n taken s t rules is b k =
     let sc = first_readable n in
     let P = port_names n in
@@ -72,7 +77,7 @@ needed_done n taken s t rules is b k =
     let so = readable_after sc ks in
     let same : AgreeOn _ sc sc = λ x h. refl in
     let fits = needed_fits (shapes n) P E n.wires sc sc rules.assigns same (λ x h. h) in
-    let walked = copies_walk taken ks s t k in
+    let walked = settles_walk taken ks s t k in
     let f = follows_walk taken (shapes n) sc ks sc s t (taken_apart n rules taken is) (begins_follow taken n rules s b) fits walked in
     let edge = edge_kept (readable n) so n.registers n.memories (needed_agree P E n.wires sc sc same) rules.nexts rules.writes in
     record {
@@ -93,15 +98,15 @@ needed_done n taken s t rules is b k =
       walked = walked;
     }
 
--- What is known after wires that are needed were copied.
+-- What is known after a walk over the wires that are needed.
 pub record Dropped (n : Net) (taken : Name → Bool) (s t : State) : Type 0 where
   pub done : Done n taken (needed_wires n) s t
-  pub copied : Walked (Copies taken) s (needed_wires n) t
+  pub settled : Walked (Settles taken) s (needed_wires n) t
 
-pub done_copy : (n : Net) (taken : Name → Bool) (kept : NameSet) (s t : State) (ws : List Wire) → IsNetlist n → ((x : Name) → taken x ≡ is_among x (lasting_names n)) → ((x : Name) → holds kept x ≡ is_among x (names_of (needed_wires n))) → Begins n s → ws ≡ n.wires → Walked (Copies taken) s (filter (λ w. holds kept w.name) ws) t → Dropped n taken s t
-done_copy n taken kept s t ws rules is needs b e k =
-    let copied = subst (λ (xs : List Wire). Walked (Copies taken) s xs t) (kept_wires n kept ws rules e needs) k in
-    record { done = needed_done n taken s t rules is b copied; copied = copied }
+pub done_settle : (n : Net) (taken : Name → Bool) (kept : NameSet) (s t : State) (ws : List Wire) → IsNetlist n → ((x : Name) → taken x ≡ is_among x (lasting_names n)) → ((x : Name) → holds kept x ≡ is_among x (names_of (needed_wires n))) → Begins n s → ws ≡ n.wires → Walked (Settles taken) s (filter (λ w. holds kept w.name) ws) t → Dropped n taken s t
+done_settle n taken kept s t ws rules is needs b e k =
+    let kept = subst (λ (xs : List Wire). Walked (Settles taken) s xs t) (kept_wires n kept ws rules e needs) k in
+    record { done = needed_done n taken s t rules is b kept; settled = kept }
 
 no_ports : (n : Net) (taken : Name → Bool) (so : Scope) (t : State) → Walks n taken so t → AllByRecursion (λ w. is_among w.name (port_names n) ≡ false) t.wires
 no_ports n taken so t k =
@@ -114,10 +119,18 @@ helpers_are n taken s t d =
     helping_are n t.wires t.stands (no_ports n taken (readable_after (first_readable n) (needed_wires n)) t d.done.walks)
 
 tidy : (n : Net) (taken : Name → Bool) (s t : State) → Dropped n taken s t → Tidy taken t.wires t.next
-tidy n taken s t d = walk_tidy taken (needed_wires n) s t d.copied (begins_tidy taken n s d.done.begins)
+tidy n taken s t d = walk_tidy taken (needed_wires n) s t d.settled (begins_tidy taken n s d.done.begins)
 
-pub dropped_shares : (n : Net) (taken : Name → Bool) (s t : State) → Dropped n taken s t → SharesWires (built n t.wires t.stands)
-dropped_shares n taken s t d = subst AllDiffer (sym (helpers_are n taken s t d)) (tidy n taken s t d).differ
+pub dropped_shares : (n : Net) (taken : Name → Bool) (s t : State) → Dropped n taken s t → AllDiffer t.wires → SharesWires (built n t.wires t.stands)
+dropped_shares n taken s t d a = subst AllDiffer (sym (helpers_are n taken s t d)) a
+
+each_folds : (ws : List Wire) → AllByRecursion (λ w. is_copy w.right ≡ false) ws → AllByRecursion IsSettled ws → AllByRecursion (λ w. (is_copy w.right ≡ false) × IsSettled w) ws
+each_folds [] a b = tt
+each_folds (w ∷ ws) a b = ((a.0, b.0), each_folds ws a.1 b.1)
+
+pub dropped_folds : (n : Net) (taken : Name → Bool) (s t : State) (numbers : RightMap) → Dropped n taken s t → Orderly numbers t.wires → FoldsWires (built n t.wires t.stands)
+dropped_folds n taken s t numbers d o =
+    subst (AllByRecursion (λ w. (is_copy w.right ≡ false) × IsSettled w)) (sym (helpers_are n taken s t d)) (each_folds t.wires o.calculated o.settled)
 
 pub dropped_numbers : (n : Net) (taken : Name → Bool) (s t : State) → Dropped n taken s t → NumbersWires (built n t.wires t.stands)
 dropped_numbers n taken s t d = λ none.
@@ -132,52 +145,65 @@ dropped_names n taken s t d =
     subst (λ (xs : List Wire). AllByRecursion (λ w. (k : ℕ) × (w.name ≡ helper k)) xs) (sym (helpers_are n taken s t d))
     (all_follow _ (λ (w : Wire). (k : ℕ) × (w.name ≡ helper k)) t.wires (λ w h. (h.0, h.2)) d.done.walks.follows.named.each)
 
-pub dropped_reads : (n : Net) (taken : Name → Bool) (s t : State) → Dropped n taken s t → ReadsWires (built n t.wires t.stands)
-dropped_reads n taken s t d =
+pub dropped_reads : (n : Net) (taken : Name → Bool) (s t : State) → Dropped n taken s t → IsFolded n → StandForThemselves n s → ReadsWires (built n t.wires t.stands)
+dropped_reads n taken s t d f i =
     let sc = first_readable n in
-    let r = walk_reads taken (shapes n) (needed_wires n) sc s t d.done.fits d.copied in
+    let copies = settles_copy n taken s t d.done.walks.rules d.done.walks.taken_is d.done.begins i f d.done.fits d.settled in
+    let r = walk_reads taken (shapes n) (needed_wires n) sc s t d.done.fits copies in
     subst (λ (xs : List Wire). AllByRecursion (λ w. IsRead (built n t.wires t.stands) w.name) xs) (sym (helpers_are n taken s t d)) (all_read n sc s t d.done.begins.wires r)
 
--- What is known of the first pass's netlist.
+-- the new netlist's wires, and copies behind them
+
+copies_are : (e : Stands) (ws : List Wire) → AllByRecursion (λ w. is_copy w.right ≡ true) (map (wire_of e) ws)
+copies_are e [] = tt
+copies_are e (w ∷ ws) = (refl, copies_are e ws)
+
+built_folded : (n : Net) (numbers : RightMap) (t : State) → Orderly numbers t.wires → IsFolded (built n t.wires t.stands)
+built_folded n numbers t o =
+    record {
+      helping = t.wires;
+      copies = map (wire_of t.stands) (shown_wires n);
+      wires = refl;
+      differ = o.differ;
+      settled = o.settled;
+      calculated = o.calculated;
+      copied = copies_are t.stands (shown_wires n);
+    }
+
+-- What is known of the netlist whose right sides are folded by what they read.
 pub record Folded (n r : Net) : Type 0 where
   pub rules : IsNetlist r
   pub declares : DeclaresAlike n r
   pub same : RunsAlike n r
+  pub folded : IsFolded r
 
-pub folded_all : (n : Net) (taken : Name → Bool) (s t : State) (ws : List Wire) (r : Net) → IsNetlist n → ((x : Name) → taken x ≡ is_among x (lasting_names n)) → Begins n s → ws ≡ n.wires → Walked (Folds taken) s ws t → r ≡ built n t.wires t.stands → Folded n r
-folded_all n taken s t ws r rules is b e k p =
+pub folded_all : (n : Net) (taken : Name → Bool) (s t : State) (ws : List Wire) (r : Net) → IsNetlist n → ((x : Name) → taken x ≡ is_among x (lasting_names n)) → Begins n s → ws ≡ n.wires → Walked (Folds taken) s ws t → (numbers : RightMap) → Orderly numbers t.wires → r ≡ built n t.wires t.stands → Folded n r
+folded_all n taken s t ws r rules is b e k numbers o p =
     let d = done_fold n taken s t ws rules is b e k in
     subst (Folded n) (sym p) (
     record {
       rules = built_rules n taken (readable_after (first_readable n) n.wires) t d.walks;
       declares = declares_alike n taken n.wires s t d;
       same = runs_alike n taken n.wires s t d;
+      folded = built_folded n numbers t o;
     }
     )
 
--- What is known of the second pass's netlist.
-pub record Tidied (n r : Net) : Type 0 where
-  pub rules : IsNetlist r
-  pub declares : DeclaresAlike n r
-  pub same : RunsAlike n r
-  pub named : NamesWires r
-  pub numbered : NumbersWires r
-  pub shared : SharesWires r
-  pub read : ReadsWires r
-  pub left : length r.wires ≤ most_left n
-
-pub tidied_all : (n : Net) (taken : Name → Bool) (kept : NameSet) (s t : State) (ws : List Wire) (r : Net) → IsNetlist n → ((x : Name) → taken x ≡ is_among x (lasting_names n)) → ((x : Name) → holds kept x ≡ is_among x (names_of (needed_wires n))) → Begins n s → ws ≡ n.wires → Walked (Copies taken) s (filter (λ w. holds kept w.name) ws) t → r ≡ built n t.wires t.stands → Tidied n r
-tidied_all n taken kept s t ws r rules is needs b e k p =
-    let d = done_copy n taken kept s t ws rules is needs b e k in
-    subst (Tidied n) (sym p) (
+pub tidied_all : (n : Net) (taken : Name → Bool) (kept : NameSet) (s t : State) (ws : List Wire) (r : Net) → IsNetlist n → ((x : Name) → taken x ≡ is_among x (lasting_names n)) → ((x : Name) → holds kept x ≡ is_among x (names_of (needed_wires n))) → Begins n s → ws ≡ n.wires → Walked (Settles taken) s (filter (λ w. holds kept w.name) ws) t → (numbers : RightMap) → Orderly numbers t.wires → r ≡ built n t.wires t.stands → Tidied n s r
+tidied_all n taken kept s t ws r rules is needs b e k numbers o p =
+    let d = done_settle n taken kept s t ws rules is needs b e k in
+    subst (Tidied n s) (sym p) (
     record {
       rules = built_rules n taken (readable_after (first_readable n) (needed_wires n)) t d.done.walks;
       declares = declares_alike n taken (needed_wires n) s t d.done;
       same = runs_alike n taken (needed_wires n) s t d.done;
       named = dropped_names n taken s t d;
       numbered = dropped_numbers n taken s t d;
-      shared = dropped_shares n taken s t d;
+      shared = dropped_shares n taken s t d o.differ;
+      settled = dropped_folds n taken s t numbers d o;
+      folded = built_folded n numbers t o;
+      left = built_left n taken s t b d.settled;
+      few = built_few n taken s t b d.settled (no_ports n taken (readable_after (first_readable n) (needed_wires n)) t d.done.walks);
       read = dropped_reads n taken s t d;
-      left = built_left n taken s t b d.copied;
     }
     )

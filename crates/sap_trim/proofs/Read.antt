@@ -31,13 +31,17 @@ use Rattle.sap_trim.specs.Replaced.{Stands, standing, standing_operand, replaced
 use Rattle.sap_share.specs.Rights.{rights}
 use Rattle.sap_fold.specs.Wires.{Adds}
 use Rattle.sap_fold.specs.Wires.{Provides}
-use Rattle.sap_trim.specs.Walked.{State, Copies, Walked}
+use Rattle.sap_trim.specs.Walked.{State, Steps, Walked}
 use Rattle.sap_trim.specs.Needed.{is_needed, needed, needed_wires}
 use Rattle.sap_trim.specs.Built.{wire_of, register_of, memory_of, built}
 use Rattle.sap_share.proofs.Decoding.{key_is}
 use Rattle.sap_fold.proofs.Lists.{or_elim, among_split}
 use Rattle.sap_net.proofs.NamesLemmas.{among_each}
 use Rattle.sap_trim.proofs.Replaced.{stands_for}
+
+-- a wire with its operands replaced
+abbrev pub Copies : (taken : Name → Bool) → State → Wire → State → Type 0
+Copies taken s w t = Steps taken s w.name w.width (replaced s.stands w.right) t
 
 single : (x z : Name) → is_among x (z ∷ []) ≡ true → x ≡ z
 single x z h = equal_of_bytes_eq x z (sym (or_false (bytes_eq x z)) ∙ h)
@@ -178,10 +182,10 @@ right_found ms so u (Concat os) h x t = operands_found so u os h.1 x t
 right_found ms so u (Slice z hi lo) h x t = (h.0, subst (λ (a : Name). find so a ≡ Some h.0) (sym (single x z t)) h.2)
 right_found ms so u (Cell m i) h x t = operand_found so h.0 i h.2 x t
 
-bound_here : (e f : Stands) (x : Name) (o : Operand) → Puts e x o f → f x ≡ Some o
+pub bound_here : (e f : Stands) (x : Name) (o : Operand) → Puts e x o f → f x ≡ Some o
 bound_here e f x o b = let t = bytes_eq_same x in b x ∙ rw t refl
 
-bound_other : (e f : Stands) (x : Name) (o : Operand) → Puts e x o f → (y : Name) → bytes_eq x y ≡ false → f y ≡ e y
+pub bound_other : (e f : Stands) (x : Name) (o : Operand) → Puts e x o f → (y : Name) → bytes_eq x y ≡ false → f y ≡ e y
 bound_other e f x o b y d = b y ∙ rw d refl
 
 pub walk_reads : (taken : Name → Bool) (ms : Shapes) (ws : List Wire) (so : Scope) (s t : State) → AreWires ms so ws → Walked (Copies taken) s ws t → Read ws so s t

@@ -1,15 +1,10 @@
 -- How many wires a trimmed netlist has.
-use Rattle.std.specs.Prelude.{ℕ, ◌+◌, ◌≤◌, Bool, true, false, not, List, filter, length}
+use Rattle.std.specs.Prelude.{ℕ, ◌+◌, ◌≤◌, not, List, filter, length}
 use Rattle.sap_net.specs.Net.{Net}
-use Rattle.sap_net.specs.declared.parts.Right.{Right}
-use Rattle.sap_net.specs.declared.parts.Right.TheVariants.{Copy}
 use Rattle.sap_net.specs.declared.parts.Wire.{Wire}
+pub use Rattle.sap_fold.specs.Settled.{is_copy}
 use Rattle.sap_trim.specs.Names.{shown_wires}
 use Rattle.sap_trim.specs.Needed.{needed_wires}
-
-abbrev pub is_copy : Right → Bool
-is_copy (Copy a) = true
-is_copy _ = false
 
 -- the wires that are no copies
 abbrev pub calculated : List Wire → List Wire
@@ -22,3 +17,7 @@ HasFewWires g r = length r.wires ≤ length (calculated g.wires) + length (shown
 -- one for each wire that is needed and no copy, and one for each that is a port
 abbrev pub most_left : Net → ℕ
 most_left n = length (calculated (needed_wires n)) + length (shown_wires n)
+
+-- The result needs no more wires than the given one.
+abbrev pub NeedsNoMore : (given result : Net) → Type 0
+NeedsNoMore g r = length (calculated r.wires) + length (shown_wires r) ≤ length (calculated g.wires) + length (shown_wires g)

@@ -2,9 +2,11 @@ pub mod Names
 pub mod Reads
 pub mod Alike
 pub mod Trimmed
+pub mod Folded
 pub mod Few
 pub mod Replaced
 pub mod Stays
 pub mod Walked
+pub mod Tidied
 pub mod Needed
 pub mod Built

@@ -11,6 +11,7 @@ use Rattle.sap_net.specs.declared.parts.Register.{Register}
 use Rattle.sap_net.specs.declared.parts.Wire.{Wire}
 use Rattle.sap_net.specs.NameMaps.{at_name, Puts}
 use Rattle.sap_trim.specs.declared.walk.Walk.{Walk}
+use Rattle.sap_fold.specs.Folding.{settled}
 use Rattle.sap_fold.specs.Gives.{Gives}
 use Rattle.sap_trim.specs.Replaced.{Stands, replaced}
 use Rattle.sap_fold.specs.Wires.{Provides}
@@ -37,6 +38,10 @@ StartsAt ws x o r = KeepsStart ws r × (r.name ≡ x) × (o ≡ Some (Constant r
 abbrev pub Starts : List Wire → List Register → Name → (before after : Option Operand) → Type 0
 Starts ws rs x before after = (after ≡ before) ⊎ SomeRegister (StartsAt ws x after) rs
 
+-- inputs and registers stand for themselves, and no other name for anything
+abbrev pub StandForThemselves : Net → State → Type 0
+StandForThemselves n s = (x : Name) → s.stands x ≡ (if is_among x (input_names n ++ register_names n) then Some (Named x) else None)
+
 -- At first inputs and registers stand for themselves, or a register that keeps its start for that.
 pub record Begins (n : Net) (s : State) : Type 0 where
   pub wires : s.wires ≡ []
@@ -49,9 +54,9 @@ pub record Steps (taken : Name → Bool) (s : State) (x : Name) (u : ℕ) (r : R
   pub provides : Provides taken s.wires s.next u r operand t.wires t.next
   pub binds : Puts s.stands x operand t.stands
 
--- a wire with its operands replaced
-abbrev pub Copies : (taken : Name → Bool) → State → Wire → State → Type 0
-Copies taken s w t = Steps taken s w.name w.width (replaced s.stands w.right) t
+-- a wire with its operands replaced, and its right side folded
+abbrev pub Settles : (taken : Name → Bool) → State → Wire → State → Type 0
+Settles taken s w t = Steps taken s w.name w.width (settled w.width (replaced s.stands w.right)) t
 
 -- x stands for an operand that has the value of its right side with the operands replaced
 pub record Folds (taken : Name → Bool) (s : State) (w : Wire) (t : State) : Type 0 where

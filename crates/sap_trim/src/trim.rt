@@ -6,13 +6,17 @@ ghost use Rattle.sap_net.specs.Names.{is_among};
 ghost use Rattle.sap_net.specs.IsNetlist.{IsNetlist, names_of};
 ghost use Rattle.sap_net.specs.NameMaps.{at_name};
 ghost use Rattle.sap_fold.specs.Names.{holds};
+ghost use Rattle.sap_fold.specs.Settled.{Orderly};
 ghost use Rattle.sap_trim.specs.Alike.{DeclaresAlike, RunsAlike};
 ghost use Rattle.sap_trim.specs.Built.{built};
-ghost use Rattle.sap_trim.specs.Few.{HasFewWires, most_left};
+ghost use Rattle.sap_trim.specs.Few.{HasFewWires, NeedsNoMore, most_left};
+ghost use Rattle.sap_trim.specs.Folded.{IsFolded};
 ghost use Rattle.sap_trim.specs.Names.{lasting_names, port_names};
 ghost use Rattle.sap_trim.specs.Needed.{needed_wires};
 ghost use Rattle.sap_trim.specs.Reads.{ReadsWires};
-ghost use Rattle.sap_trim.specs.Trimmed.{NamesWires, NumbersWires, SharesWires};
+ghost use Rattle.sap_trim.specs.Trimmed.{FoldsWires, NamesWires, NumbersWires, SharesWires};
+ghost use Rattle.sap_trim.specs.Tidied.{Tidied};
+ghost use Rattle.sap_trim.specs.Walked.{Begins, state_of};
 
 use crate::build::build;
 use crate::left::wires_left;
@@ -59,9 +63,10 @@ fn folded_wires(
     ensures rules { IfOk result (λ m. IsNetlist (built netlist.now m.wires.items (at_name m.stands))) }
     ensures declares { IfOk result (λ m. DeclaresAlike netlist.now (built netlist.now m.wires.items (at_name m.stands))) }
     ensures same { IfOk result (λ m. RunsAlike netlist.now (built netlist.now m.wires.items (at_name m.stands))) }
+    ensures folded { IfOk result (λ m. IsFolded (built netlist.now m.wires.items (at_name m.stands))) }
 {
     netlist.rules();
-    let mut walk = Walk::new(alloc, netlist)?;
+    let mut walk = Walk::with_starts(alloc, netlist)?;
     walk.fold_all(alloc, lasting, netlist.wires())?;
     Ok(made_by(walk))
 }
@@ -70,6 +75,7 @@ fn folded_wires(
 fn fold_wires(alloc: Global, netlist: &Netlist) -> Result<Netlist, AllocError>
     ensures declares { IfOk result (λ n. DeclaresAlike netlist.now n) }
     ensures same { IfOk result (λ n. RunsAlike netlist.now n) }
+    ensures folded { IfOk result (λ n. IsFolded n) }
 {
     let lasting = names::lasting(alloc, netlist)?;
     let shown = names::ports(alloc, netlist)?;
@@ -95,6 +101,14 @@ fn needs_of(alloc: Global, netlist: &Netlist) -> Result<Needs, AllocError>
     Ok(Needs { shown, kept })
 }
 
+// How many wires of a netlist are left at most.
+fn left_of(alloc: Global, netlist: &Netlist) -> Result<usize, AllocError>
+    ensures { IfOk result (λ k. k ≡ most_left netlist.now) }
+{
+    let needs = needs_of(alloc, netlist)?;
+    Ok(wires_left(netlist, &needs.shown, &needs.kept))
+}
+
 // A netlist with right sides folded and shared, and what it needs.
 #[derive(Drop)]
 struct Folded {
@@ -105,6 +119,7 @@ struct Folded {
 fn folded_of(alloc: Global, netlist: &Netlist) -> Result<Folded, AllocError>
     ensures declares { IfOk result (λ f. DeclaresAlike netlist.now f.netlist) }
     ensures same { IfOk result (λ f. RunsAlike netlist.now f.netlist) }
+    ensures folded { IfOk result (λ f. IsFolded f.netlist) }
     ensures shown { IfOk result (λ f. (n : spec.Name) → holds f.needs.shown n ≡ is_among n (port_names f.netlist)) }
     ensures kept { IfOk result (λ f. (n : spec.Name) → holds f.needs.kept n ≡ is_among n (names_of (needed_wires f.netlist))) }
 {
@@ -116,88 +131,101 @@ fn folded_of(alloc: Global, netlist: &Netlist) -> Result<Folded, AllocError>
     })
 }
 
-// The wires that are kept, numbered in order.
+// The wires that are kept, folded each by itself and numbered in order.
 fn kept_wires(
     alloc: Global,
     netlist: &Netlist,
     lasting: &HashSet<Vec<u8>>,
     kept: HashSet<Vec<u8>>,
+    mut walk: Walk,
 ) -> Result<Made, AllocError>
     requires lasting { (n : spec.Name) → holds lasting.now n ≡ is_among n (lasting_names netlist.now) }
     requires kept { (n : spec.Name) → holds kept n ≡ is_among n (names_of (needed_wires netlist.now)) }
-    ensures rules { IfOk result (λ m. IsNetlist (built netlist.now m.wires.items (at_name m.stands))) }
-    ensures declares { IfOk result (λ m. DeclaresAlike netlist.now (built netlist.now m.wires.items (at_name m.stands))) }
-    ensures same { IfOk result (λ m. RunsAlike netlist.now (built netlist.now m.wires.items (at_name m.stands))) }
-    ensures named { IfOk result (λ m. NamesWires (built netlist.now m.wires.items (at_name m.stands))) }
-    ensures numbered { IfOk result (λ m. NumbersWires (built netlist.now m.wires.items (at_name m.stands))) }
-    ensures shared { IfOk result (λ m. SharesWires (built netlist.now m.wires.items (at_name m.stands))) }
-    ensures read { IfOk result (λ m. ReadsWires (built netlist.now m.wires.items (at_name m.stands))) }
-    ensures left { IfOk result (λ m. length (built netlist.now m.wires.items (at_name m.stands)).wires ≤ most_left netlist.now) }
+    requires begins { Begins netlist.now (state_of walk) }
+    requires orderly { Orderly walk.wires.numbers walk.wires.list.items }
+    ensures { IfOk result (λ m. Tidied netlist.now (state_of walk) (built netlist.now m.wires.items (at_name m.stands))) }
 {
     netlist.rules();
-    let mut walk = Walk::new(alloc, netlist)?;
-    walk.copy_kept(alloc, lasting, &kept, netlist.wires())?;
+    walk.settle_kept(alloc, lasting, &kept, netlist.wires())?;
     Ok(made_by(walk))
 }
 
-/// The netlist without the wires that are not kept, the others numbered in order.
-fn keep(alloc: Global, netlist: &Netlist, needs: Needs) -> Result<Netlist, AllocError>
+/// The netlist without the wires that are not kept, the others folded each by itself and numbered in order.
+fn keep(alloc: Global, netlist: &Netlist, needs: Needs, walk: Walk) -> Result<Netlist, AllocError>
     requires shown { (n : spec.Name) → holds needs.shown n ≡ is_among n (port_names netlist.now) }
     requires kept { (n : spec.Name) → holds needs.kept n ≡ is_among n (names_of (needed_wires netlist.now)) }
-    ensures declares { IfOk result (λ n. DeclaresAlike netlist.now n) }
-    ensures same { IfOk result (λ n. RunsAlike netlist.now n) }
-    ensures named { IfOk result (λ n. NamesWires n) }
-    ensures numbered { IfOk result (λ n. NumbersWires n) }
-    ensures shared { IfOk result (λ n. SharesWires n) }
-    ensures read { IfOk result (λ n. ReadsWires n) }
-    ensures left { IfOk result (λ n. length n.wires ≤ most_left netlist.now) }
+    requires begins { Begins netlist.now (state_of walk) }
+    requires orderly { Orderly walk.wires.numbers walk.wires.list.items }
+    ensures { IfOk result (λ n. Tidied netlist.now (state_of walk) n) }
 {
     let Needs { shown, kept } = needs;
     let lasting = names::lasting(alloc, netlist)?;
-    let made = kept_wires(alloc, netlist, &lasting, kept)?;
+    let made = kept_wires(alloc, netlist, &lasting, kept, walk)?;
     let Made { wires, stands } = made;
     let parts = build(alloc, netlist, &lasting, &shown, &stands, wires)?;
     Ok(Netlist::new(parts))
 }
 
-/// The netlist without the wires that nothing reads, the others numbered in order.
-fn drop_unread(alloc: Global, netlist: Netlist) -> Result<Netlist, AllocError>
+/// The netlist of the wires that are needed, each folded by itself, with each register that keeps its start as that number.
+fn share(alloc: Global, netlist: Netlist) -> Result<Netlist, AllocError>
+    ensures declares { IfOk result (λ n. DeclaresAlike netlist n) }
+    ensures same { IfOk result (λ n. RunsAlike netlist n) }
+    ensures folded { IfOk result (λ n. IsFolded n) }
+    ensures few { IfOk result (λ n. NeedsNoMore netlist n) }
+{
+    let needs = needs_of(alloc, &netlist)?;
+    let walk = Walk::with_starts(alloc, &netlist)?;
+    let shared = keep(alloc, &netlist, needs, walk);
+    drop(netlist);
+    shared
+}
+
+/// The folded netlist without the wires that nothing reads, the others numbered in order. Inputs and registers stand for themselves here, so that nothing is
+/// left to fold.
+fn number(alloc: Global, netlist: Netlist, needs: Needs) -> Result<Netlist, AllocError>
+    requires folded { IsFolded netlist }
+    requires shown { (n : spec.Name) → holds needs.shown n ≡ is_among n (port_names netlist) }
+    requires kept { (n : spec.Name) → holds needs.kept n ≡ is_among n (names_of (needed_wires netlist)) }
     ensures declares { IfOk result (λ n. DeclaresAlike netlist n) }
     ensures same { IfOk result (λ n. RunsAlike netlist n) }
     ensures named { IfOk result (λ n. NamesWires n) }
     ensures numbered { IfOk result (λ n. NumbersWires n) }
     ensures shared { IfOk result (λ n. SharesWires n) }
+    ensures settled { IfOk result (λ n. FoldsWires n) }
     ensures read { IfOk result (λ n. ReadsWires n) }
-    ensures few { IfOk result (λ n. HasFewWires netlist n) }
+    ensures left { IfOk result (λ n. length n.wires ≤ most_left netlist) }
 {
-    let needs = needs_of(alloc, &netlist)?;
-    let plain = keep(alloc, &netlist, needs);
+    let walk = Walk::new(alloc, &netlist)?;
+    let numbered = keep(alloc, &netlist, needs, walk);
     drop(netlist);
-    plain
+    numbered
 }
 
-/// A small netlist of which the same is seen: right sides are folded and shared, and wires that nothing reads are dropped. Folding may need wires that the
-/// given netlist has not, so the netlist is left unfolded where it has fewer wires so. At no time are there more than two netlists, or one and what is made
-/// of it.
+/// A small netlist of which the same is seen: right sides are folded and shared, and wires that nothing reads are dropped. Folding by what the wires say that
+/// a right side reads may need wires that the given netlist has not, so each right side is folded by itself alone where that leaves fewer. At no time are
+/// there more than two netlists, or one and what is made of it.
 pub fn trim(alloc: Global, netlist: Netlist) -> Result<Netlist, AllocError>
     ensures declares { IfOk result (λ n. DeclaresAlike netlist n) }
     ensures same { IfOk result (λ n. RunsAlike netlist n) }
     ensures named { IfOk result (λ n. NamesWires n) }
     ensures numbered { IfOk result (λ n. NumbersWires n) }
     ensures shared { IfOk result (λ n. SharesWires n) }
+    ensures folded { IfOk result (λ n. FoldsWires n) }
     ensures read { IfOk result (λ n. ReadsWires n) }
     ensures few { IfOk result (λ n. HasFewWires netlist n) }
 {
-    let plain = drop_unread(alloc, netlist)?;
-    plain.rules();
-    let folded = folded_of(alloc, &plain)?;
+    let shared = share(alloc, netlist)?;
+    shared.rules();
+    let left = left_of(alloc, &shared)?;
+    let folded = folded_of(alloc, &shared)?;
     let Folded { netlist, needs } = folded;
     netlist.rules();
-    if plain.wires().len() < wires_left(&netlist, &needs.shown, &needs.kept) {
-        return Ok(plain);
+    if left < wires_left(&netlist, &needs.shown, &needs.kept) {
+        drop(needs);
+        drop(netlist);
+        let needs = needs_of(alloc, &shared)?;
+        return number(alloc, shared, needs);
     }
-    drop(plain);
-    let trimmed = keep(alloc, &netlist, needs);
-    drop(netlist);
-    trimmed
+    drop(shared);
+    number(alloc, netlist, needs)
 }

@@ -1,14 +1,16 @@
 //! The wires of a netlist one after another, and what each of its names stands for over the new ones.
 
-ghost use Rattle.std.specs.Prelude.{◌≡◌, ◌⊎◌, List, [], ◌∷◌, Some, filter, map, if◌then◌else◌, IfOk, OnOk};
+ghost use Rattle.std.specs.Prelude.{◌≡◌, ◌⊎◌, List, [], ◌∷◌, ◌++◌, None, Some, filter, map, if◌then◌else◌, IfOk, OnOk};
 ghost use Rattle.sap_maps.specs.Maps as spec;
 ghost use Rattle.sap_net.specs.Names.{is_among};
+ghost use Rattle.sap_net.specs.IsNetlist.{input_names, register_names};
 ghost use Rattle.sap_net.specs.declared.parts.Operand.TheVariants as operand;
 ghost use Rattle.sap_net.specs.NameMaps.{at_name, Puts};
+ghost use Rattle.sap_fold.specs.Folding.{settled};
 ghost use Rattle.sap_fold.specs.Names.{holds};
+ghost use Rattle.sap_fold.specs.Settled.{Orderly};
 ghost use Rattle.sap_trim.specs.Stays.{AllStay};
-ghost use Rattle.sap_trim.specs.Walked.{Begins, Copies, Folds, Starts, StartsAt, Steps, Walked, state_of};
-ghost use Rattle.sap_share.specs.Rights.{NamesRights};
+ghost use Rattle.sap_trim.specs.Walked.{Begins, Folds, Settles, StandForThemselves, Starts, StartsAt, Steps, Walked, state_of};
 
 use crate::replace::replace;
 use crate::stays::{Stay, keeps_start, stays};
@@ -66,6 +68,16 @@ fn bind_registers(
     Ok(())
 }
 
+/// Lets inputs and registers stand for themselves.
+fn themselves(alloc: Global, netlist: &Netlist) -> Result<HashMap<Vec<u8>, Operand>, AllocError>
+    ensures { IfOk result (λ m. (x : spec.Name) → at_name m x ≡ (if is_among x (input_names netlist.now ++ register_names netlist.now) then Some (operand.Named x) else None)) }
+{
+    let mut stands = HashMap::new(alloc);
+    bind_registers(alloc, &mut stands, netlist.registers())?;
+    bind_inputs(alloc, &mut stands, netlist.inputs())?;
+    Ok(stands)
+}
+
 /// Lets a register that keeps its start stand for that.
 fn bind_start(
     alloc: Global,
@@ -101,14 +113,23 @@ fn bind_starts(
 }
 
 impl Walk {
-    /// No wires yet.
+    /// No wires yet, and inputs and registers stand for themselves.
     pub fn new(alloc: Global, netlist: &Netlist) -> Result<Walk, AllocError>
         ensures begins { IfOk result (λ w. Begins netlist.now (state_of w)) }
-        ensures names { IfOk result (λ w. NamesRights w.wires.numbers w.wires.list.items) }
+        ensures themselves { IfOk result (λ w. StandForThemselves netlist.now (state_of w)) }
+        ensures orderly { IfOk result (λ w. Orderly w.wires.numbers w.wires.list.items) }
     {
-        let mut stands = HashMap::new(alloc);
-        bind_registers(alloc, &mut stands, netlist.registers())?;
-        bind_inputs(alloc, &mut stands, netlist.inputs())?;
+        let stands = themselves(alloc, netlist)?;
+        let wires = Wires::new(alloc);
+        Ok(Walk { wires, stands })
+    }
+
+    /// No wires yet, and a register that keeps its start stands for that.
+    pub fn with_starts(alloc: Global, netlist: &Netlist) -> Result<Walk, AllocError>
+        ensures begins { IfOk result (λ w. Begins netlist.now (state_of w)) }
+        ensures orderly { IfOk result (λ w. Orderly w.wires.numbers w.wires.list.items) }
+    {
+        let mut stands = themselves(alloc, netlist)?;
         let stays = stays(alloc, netlist)?;
         bind_starts(alloc, &mut stands, &stays, netlist.registers())?;
         let wires = Wires::new(alloc);
@@ -124,9 +145,9 @@ impl Walk {
         width: u32,
         right: Right,
     ) -> Result<(), AllocError>
-        requires { NamesRights self.old.wires.numbers self.old.wires.list.items }
-        ensures names { OnOk result (NamesRights self.new.wires.numbers self.new.wires.list.items) }
-        ensures steps { OnOk result (Steps (holds taken.now) (state_of self.old) name.now width right (state_of self.new)) }
+        requires { Orderly self.old.wires.numbers self.old.wires.list.items }
+        ensures orderly { OnOk result (Orderly self.new.wires.numbers self.new.wires.list.items) }
+        ensures steps { OnOk result (Steps (holds taken.now) (state_of self.old) name.now width (settled width right) (state_of self.new)) }
     {
         let operand = self.wires.provide(alloc, taken, width, right)?;
         put(&mut self.stands, alloc, name, operand)
@@ -138,8 +159,8 @@ impl Walk {
         taken: &HashSet<Vec<u8>>,
         wire: &Wire,
     ) -> Result<(), AllocError>
-        requires { NamesRights self.old.wires.numbers self.old.wires.list.items }
-        ensures names { OnOk result (NamesRights self.new.wires.numbers self.new.wires.list.items) }
+        requires { Orderly self.old.wires.numbers self.old.wires.list.items }
+        ensures orderly { OnOk result (Orderly self.new.wires.numbers self.new.wires.list.items) }
         ensures folds { OnOk result (Folds (holds taken.now) (state_of self.old) wire.now (state_of self.new)) }
     {
         let replaced = replace(alloc, &self.stands, &wire.right)?;
@@ -147,47 +168,49 @@ impl Walk {
         put(&mut self.stands, alloc, &wire.name, operand)
     }
 
-    fn copy_wire(
+    /// A wire with its right side folded.
+    fn settle_wire(
         &mut self,
         alloc: Global,
         taken: &HashSet<Vec<u8>>,
         wire: &Wire,
     ) -> Result<(), AllocError>
-        requires { NamesRights self.old.wires.numbers self.old.wires.list.items }
-        ensures names { OnOk result (NamesRights self.new.wires.numbers self.new.wires.list.items) }
-        ensures copies { OnOk result (Copies (holds taken.now) (state_of self.old) wire.now (state_of self.new)) }
+        requires { Orderly self.old.wires.numbers self.old.wires.list.items }
+        ensures orderly { OnOk result (Orderly self.new.wires.numbers self.new.wires.list.items) }
+        ensures settles { OnOk result (Settles (holds taken.now) (state_of self.old) wire.now (state_of self.new)) }
     {
         let right = replace(alloc, &self.stands, &wire.right)?;
         self.step(alloc, taken, &wire.name, wire.width, right)
     }
 
-    /// A wire, if its name is kept.
-    fn copy_if_kept(
+    /// A wire with its right side folded, if its name is kept.
+    fn settle_if_kept(
         &mut self,
         alloc: Global,
         taken: &HashSet<Vec<u8>>,
         kept: &HashSet<Vec<u8>>,
         wire: &Wire,
     ) -> Result<(), AllocError>
-        requires { NamesRights self.old.wires.numbers self.old.wires.list.items }
-        ensures names { OnOk result (NamesRights self.new.wires.numbers self.new.wires.list.items) }
-        ensures walked { OnOk result (Walked (Copies (holds taken.now)) (state_of self.old) (filter (λ w. holds kept.now w.name) (wire.now ∷ [])) (state_of self.new)) }
+        requires { Orderly self.old.wires.numbers self.old.wires.list.items }
+        ensures orderly { OnOk result (Orderly self.new.wires.numbers self.new.wires.list.items) }
+        ensures walked { OnOk result (Walked (Settles (holds taken.now)) (state_of self.old) (filter (λ w. holds kept.now w.name) (wire.now ∷ [])) (state_of self.new)) }
     {
         if !has(kept, &wire.name) {
             return Ok(());
         }
-        self.copy_wire(alloc, taken, wire)
+        self.settle_wire(alloc, taken, wire)
     }
 
-    /// All wires, folded.
+    /// All wires, folded by what they and the wires that they read say.
     pub fn fold_all(
         &mut self,
         alloc: Global,
         taken: &HashSet<Vec<u8>>,
         wires: &[Wire],
     ) -> Result<(), AllocError>
-        requires { NamesRights self.old.wires.numbers self.old.wires.list.items }
-        ensures { OnOk result (Walked (Folds (holds taken.now)) (state_of self.old) wires.now (state_of self.new)) }
+        requires { Orderly self.old.wires.numbers self.old.wires.list.items }
+        ensures orderly { OnOk result (Orderly self.new.wires.numbers self.new.wires.list.items) }
+        ensures walked { OnOk result (Walked (Folds (holds taken.now)) (state_of self.old) wires.now (state_of self.new)) }
     {
         for wire in wires {
             self.fold_wire(alloc, taken, wire)?;
@@ -195,19 +218,20 @@ impl Walk {
         Ok(())
     }
 
-    /// The wires with the names that are kept.
-    pub fn copy_kept(
+    /// The wires with the names that are kept, each right side folded by itself.
+    pub fn settle_kept(
         &mut self,
         alloc: Global,
         taken: &HashSet<Vec<u8>>,
         kept: &HashSet<Vec<u8>>,
         wires: &[Wire],
     ) -> Result<(), AllocError>
-        requires { NamesRights self.old.wires.numbers self.old.wires.list.items }
-        ensures { OnOk result (Walked (Copies (holds taken.now)) (state_of self.old) (filter (λ w. holds kept.now w.name) wires.now) (state_of self.new)) }
+        requires { Orderly self.old.wires.numbers self.old.wires.list.items }
+        ensures orderly { OnOk result (Orderly self.new.wires.numbers self.new.wires.list.items) }
+        ensures walked { OnOk result (Walked (Settles (holds taken.now)) (state_of self.old) (filter (λ w. holds kept.now w.name) wires.now) (state_of self.new)) }
     {
         for wire in wires {
-            self.copy_if_kept(alloc, taken, kept, wire)?;
+            self.settle_if_kept(alloc, taken, kept, wire)?;
         }
         Ok(())
     }
