@@ -6,7 +6,7 @@ use Rattle.sap_shape.specs.WellFormed.{WellFormed}
 use Rattle.sap_net.specs.Net.{Net}
 use Rattle.sap_size.specs.Items.{IsSmall}
 use Rattle.sap_trim.specs.Reads.{ReadsWires}
-use Rattle.sap_trim.specs.Trimmed.{SharesWires}
+use Rattle.sap_trim.specs.Trimmed.{FoldsWires, SharesWires}
 use Rattle.sap_vtext.specs.Modules.{IsModule}
 use Rattle.sap_interface.specs.Designs.{StandsForDesign}
 use Rattle.sap_compile.specs.Agree.{RunsAgree, RunsLookAlike}
@@ -14,7 +14,7 @@ use Rattle.sap_compile.specs.Runs.{HasOneRunOnStreams}
 
 -- The design is well formed, the text is that of a module, the module stands for the design and has exactly one run on every
 -- stream that fits, and on streams that agree at or below a level its runs agree there in every cycle. No two of its helping
--- wires are alike, and each is read. The module is small.
+-- wires are alike, each is read, and none folds any further. The module is small.
 pub record IsModuleFor (ls : Levels) (d : DesignTree) (net : Net) (text : List â„•) : Type 0 where
   pub well_formed : WellFormed ls d
   pub is_module : IsModule text net
@@ -23,5 +23,6 @@ pub record IsModuleFor (ls : Levels) (d : DesignTree) (net : Net) (text : List â
   pub agrees : RunsAgree ls d net
   pub looks_alike : RunsLookAlike ls d net
   pub shared : SharesWires net
+  pub folded : FoldsWires net
   pub read : ReadsWires net
   pub small : IsSmall ls d net

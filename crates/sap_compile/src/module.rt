@@ -10,7 +10,7 @@ ghost use Rattle.sap_hang.specs.Hang.{IsHangTable};
 ghost use Rattle.sap_interface.specs.Designs.{StandsForDesign};
 ghost use Rattle.sap_size.specs.Items.{IsSmall};
 ghost use Rattle.sap_trim.specs.Reads.{ReadsWires};
-ghost use Rattle.sap_trim.specs.Trimmed.{SharesWires};
+ghost use Rattle.sap_trim.specs.Trimmed.{FoldsWires, SharesWires};
 
 use crate::compiled::Compiled;
 use crate::stages::netlist;
@@ -45,6 +45,7 @@ fn netlist_for(alloc: Global, checked: &Checked, hang: &HangTable) -> Result<Net
     requires { IsHangTable (tree_in checked.now) hang.now }
     ensures stands { IfOk result (λ n. StandsForDesign (levels_in checked.now) (tree_in checked.now) n) }
     ensures shared { IfOk result (λ n. SharesWires n) }
+    ensures folded { IfOk result (λ n. FoldsWires n) }
     ensures read { IfOk result (λ n. ReadsWires n) }
     ensures small { IfOk result (λ n. IsSmall (levels_in checked.now) (tree_in checked.now) n) }
 {

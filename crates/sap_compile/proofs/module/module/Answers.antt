@@ -20,6 +20,7 @@ returns-clause-compiled c =
       agrees = c.runs.ensures.agree;
       looks_alike = c.runs.ensures.look_alike;
       shared = c.in_ok-netlist.ensures.shared;
+      folded = c.in_ok-netlist.ensures.folded;
       read = c.in_ok-netlist.ensures.read;
       small = c.in_ok-netlist.ensures.small;
     }
