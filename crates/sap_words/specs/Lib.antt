@@ -2,4 +2,6 @@ pub mod Words
 pub mod Table
 pub mod Called
 pub mod Parser
-pub mod Operands
+pub mod Headings
+pub mod Fits
+pub mod Found

@@ -1,7 +1,8 @@
 -- The command line that `clap` reads: a subcommand for each row of the table.
-use Rattle.std.specs.Prelude.{ℕ, List, [], ◌∷◌, map, codes, true, false}
+use Rattle.std.specs.Prelude.{ℕ, List, [], map, codes, true, false}
 use Rattle.clap.specs.Words.{App, Rule, Shape, new_rule}
 use Rattle.clap.specs.Simple.{new_shape}
+use Rattle.sap_words.specs.Words.{Row, commands}
 
 -- an operand, by its name
 abbrev pub operand : List ℕ → Rule
@@ -15,25 +16,17 @@ command name operands = record (new_shape name) { rules = map operand operands }
 abbrev pub alone : Shape → App
 alone s = record { top = s; subs = [] }
 
-abbrev pub commands : List Shape
-commands = command (codes "compile") (codes "LATTICE" ∷ codes "DESIGN" ∷ codes "OUT" ∷ [])
-    ∷ command (codes "run") (codes "LATTICE" ∷ codes "DESIGN" ∷ codes "STIM" ∷ [])
-    ∷ command (codes "trace") (codes "LATTICE" ∷ codes "DESIGN" ∷ codes "STIM" ∷ [])
-    ∷ command (codes "sim") (codes "LATTICE" ∷ codes "VERILOG" ∷ codes "STIM" ∷ [])
-    ∷ command (codes "report") (codes "LATTICE" ∷ codes "DESIGN" ∷ [])
-    ∷ command (codes "twin") (codes "LATTICE" ∷ codes "DESIGN" ∷ codes "FIRST" ∷ codes "SECOND" ∷ codes "LEVEL" ∷ [])
-    ∷ command (codes "fmt") (codes "DESIGN" ∷ [])
-    ∷ command (codes "gen") (codes "N" ∷ [])
-    ∷ []
+-- no option, no call for help, and no command yet
+abbrev pub bare : App
+bare = alone (record (new_shape (codes "sapper")) {
+  no_binary_name = true;
+  disable_help_flag = true;
+  disable_help_subcommand = true;
+})
 
--- no option, and no call for help
+-- with each command of the table
 abbrev pub parser : App
 parser = record {
-  top = record (new_shape (codes "sapper")) {
-    is_leaf = false;
-    no_binary_name = true;
-    disable_help_flag = true;
-    disable_help_subcommand = true;
-  };
-  subs = commands;
+  top = record bare.top { is_leaf = false };
+  subs = map (λ (r : Row). command r.name r.operands) commands;
 }

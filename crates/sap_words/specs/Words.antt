@@ -1,5 +1,5 @@
--- The words of a command.
-use Rattle.std.specs.Prelude.{◌≡◌, ℕ, Bool, true, not, ◌&&◌, List, [], ◌∷◌, length, nat_le, bytes_eq, eqb, codes, Option, Some, None, if◌then◌else◌}
+-- The table of commands, and the command that words are.
+use Rattle.std.specs.Prelude.{◌≡◌, ℕ, Bool, true, false, not, ◌&&◌, List, [], ◌∷◌, length, nat_le, bytes_eq, eqb, codes, find, Option, Some, None, option_and_then, if◌then◌else◌}
 use Rattle.std.specs.Str.{byte}
 use Rattle.std.specs.Char.{is_ascii_digit}
 use Rattle.std.specs.List.{list_all}
@@ -20,28 +20,48 @@ pub data Words : Type 0 where
 abbrev pub IsTwin : Option Words → Type 0
 IsTwin c = (lattice : List ℕ) × (design : List ℕ) × (first : List ℕ) × (second : List ℕ) × (level : List ℕ) × (c ≡ Some (twin lattice design first second level))
 
+-- ---- the table
+
+-- of operands N alone is a number
+abbrev pub is_number : (operand : List ℕ) → Bool
+is_number operand = bytes_eq operand (codes "N")
+
+-- what a word gives as an operand: itself, or its number
+abbrev pub Value : (is_number : Bool) → Type 0
+Value false = List ℕ
+Value true = ℕ
+
+-- what makes a command of a value for each operand
+abbrev pub Maker : (operands : List (List ℕ)) → Type 0
+Maker [] = Words
+Maker (operand ∷ operands) = Value (is_number operand) → Maker operands
+
+-- a command: its name, the names of its operands in order, and what makes it of their values
+pub record Row : Type 0 where
+  pub name : List ℕ
+  pub operands : List (List ℕ)
+  pub make : Maker operands
+
+abbrev pub row : (name : List ℕ) → (operands : List (List ℕ)) → Maker operands → Row
+row name operands make = record { name = name; operands = operands; make = make }
+
+abbrev pub commands : List Row
+commands = row (codes "compile") (codes "LATTICE" ∷ codes "DESIGN" ∷ codes "OUT" ∷ []) compile
+    ∷ row (codes "run") (codes "LATTICE" ∷ codes "DESIGN" ∷ codes "STIM" ∷ []) run
+    ∷ row (codes "trace") (codes "LATTICE" ∷ codes "DESIGN" ∷ codes "STIM" ∷ []) trace
+    ∷ row (codes "sim") (codes "LATTICE" ∷ codes "VERILOG" ∷ codes "STIM" ∷ []) sim
+    ∷ row (codes "report") (codes "LATTICE" ∷ codes "DESIGN" ∷ []) report
+    ∷ row (codes "twin") (codes "LATTICE" ∷ codes "DESIGN" ∷ codes "FIRST" ∷ codes "SECOND" ∷ codes "LEVEL" ∷ []) twin
+    ∷ row (codes "fmt") (codes "DESIGN" ∷ []) fmt
+    ∷ row (codes "gen") (codes "N" ∷ []) gen
+    ∷ []
+
+-- ---- what words are by it
+
 -- an operand begins with no `-`
 abbrev pub is_operand : List ℕ → Bool
 is_operand [] = true
 is_operand (c ∷ cs) = not (eqb c (byte "-"))
-
--- as many operands as the command has, none of which begins with `-`
-abbrev pub one : (List ℕ → Option Words) → List (List ℕ) → Option Words
-one command (a ∷ []) = if is_operand a then command a else None
-one command _ = None
-
-abbrev pub two : (List ℕ → List ℕ → Words) → List (List ℕ) → Option Words
-two command (a ∷ b ∷ []) = if is_operand a && is_operand b then Some (command a b) else None
-two command _ = None
-
-abbrev pub three : (List ℕ → List ℕ → List ℕ → Words) → List (List ℕ) → Option Words
-three command (a ∷ b ∷ c ∷ []) = if is_operand a && (is_operand b && is_operand c) then Some (command a b c) else None
-three command _ = None
-
-abbrev pub five : (List ℕ → List ℕ → List ℕ → List ℕ → List ℕ → Words) → List (List ℕ) → Option Words
-five command (a ∷ b ∷ c ∷ d ∷ e ∷ []) =
-    if is_operand a && (is_operand b && (is_operand c && (is_operand d && is_operand e))) then Some (command a b c d e) else None
-five command _ = None
 
 -- N is one to four decimal digits, and its number is from 1 to 1000
 abbrev pub are_few_digits : List ℕ → Bool
@@ -54,24 +74,25 @@ abbrev pub number_of : List ℕ → Option ℕ
 number_of text =
     if are_few_digits text then (if is_run_number (digits_value 10 text) then Some (digits_value 10 text) else None) else None
 
-abbrev pub numbered : Option ℕ → Option Words
-numbered None = None
-numbered (Some n) = Some (gen n)
+abbrev pub value_of : (is_number : Bool) → (word : List ℕ) → Option (Value is_number)
+value_of false word = Some word
+value_of true word = number_of word
 
--- the table of commands: a row for each, by its name
-abbrev pub row : (name : List ℕ) → (operands : List (List ℕ)) → Option Words
-row name operands =
-    if bytes_eq name (codes "compile") then three compile operands
-    else (if bytes_eq name (codes "run") then three run operands
-    else (if bytes_eq name (codes "trace") then three trace operands
-    else (if bytes_eq name (codes "sim") then three sim operands
-    else (if bytes_eq name (codes "report") then two report operands
-    else (if bytes_eq name (codes "twin") then five twin operands
-    else (if bytes_eq name (codes "fmt") then one (λ design. Some (fmt design)) operands
-    else (if bytes_eq name (codes "gen") then one (λ n. numbered (number_of n)) operands
-    else None)))))))
+-- the command that words make, if each gives a value and they are as many as the operands
+abbrev pub made : (operands : List (List ℕ)) → Maker operands → (words : List (List ℕ)) → Option Words
+made [] make [] = Some make
+made [] make (word ∷ words) = None
+made (operand ∷ operands) make [] = None
+made (operand ∷ operands) make (word ∷ words) = option_and_then (λ v. made operands (make v) words) (value_of (is_number operand) word)
+
+abbrev pub row_named : (name : List ℕ) → Option Row
+row_named name = find (λ r. bytes_eq name r.name) commands
+
+-- the command that words make by the row of this name
+abbrev pub made_by : (name : List ℕ) → (words : List (List ℕ)) → Option Words
+made_by name words = option_and_then (λ r. made r.operands r.make words) (row_named name)
 
 -- the command that the words are, if they are one: that of the row of the first word
 abbrev pub command_of : List (List ℕ) → Option Words
 command_of [] = None
-command_of (name ∷ operands) = row name operands
+command_of (name ∷ operands) = if list_all is_operand operands then made_by name operands else None

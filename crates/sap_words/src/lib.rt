@@ -2,6 +2,7 @@
 #![tactic(auto)]
 
 pub mod command;
+mod fits;
 mod number;
 mod parser;
 mod read;

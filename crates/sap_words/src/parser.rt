@@ -1,11 +1,13 @@
 //! The command line that `clap` reads.
 
-ghost use Rattle.std.specs.Prelude.{◌≡◌, ◌∷◌, IfErr, IfOk, [], codes, false, is_some, map, string_bytes, true};
+ghost use Rattle.std.specs.Prelude.{◌≡◌, IfErr, IfOk, false, is_some, map, string_bytes, true};
 ghost use Rattle.clap.specs.Words.{app_of, kind_of, subcommand_of, subcommand_rows_of, with_subcommand};
 ghost use Rattle.clap.specs.declared.builder.command.Command.TheViews.{out-Command};
-ghost use Rattle.sap_words.specs.Parser.{alone, command, parser};
-ghost use Rattle.sap_words.specs.Words.{command_of as words_for};
+ghost use Rattle.sap_words.specs.Parser.{alone, bare, command, parser};
+ghost use Rattle.sap_words.specs.Headings.{heading, written};
+ghost use Rattle.sap_words.specs.Words.{command_of as words_for, commands};
 
+use crate::table::COMMANDS;
 use clap::error::ErrorKind;
 use clap::{Arg, ArgMatches, Command, Error};
 use std::alloc::{AllocError, Global};
@@ -14,7 +16,7 @@ use std::alloc::{AllocError, Global};
 fn command<'a>(
     alloc: Global,
     name: &'a str,
-    operands: &[&'a str],
+    operands: &'a [&'a str],
 ) -> Result<Command<'a>, AllocError>
     ensures shape { IfOk result (λ r. app_of r ≡ alone (command name.entry.now (map (λ o. o.now) operands.now))) }
     ensures local { IfOk result (λ r. (out-Command r).has_globals ≡ false) }
@@ -31,30 +33,27 @@ fn with_row<'a>(
     alloc: Global,
     line: Command<'a>,
     name: &'a str,
-    operands: &[&'a str],
+    operands: &'a [&'a str],
 ) -> Result<Command<'a>, AllocError>
     ensures { IfOk result (λ r. app_of r ≡ with_subcommand (app_of line.entry) (command name.entry.now (map (λ o. o.now) operands.now))) }
 {
     line.subcommand(command(alloc, name, operands)?)
 }
 
-// The command line with the commands of three files more.
-fn with_runs<'a>(alloc: Global, line: Command<'a>) -> Result<Command<'a>, AllocError>
-    ensures { IfOk result (λ r. app_of r ≡ with_subcommand (with_subcommand (with_subcommand (with_subcommand (app_of line.entry) (command (codes "compile") (codes "LATTICE" ∷ codes "DESIGN" ∷ codes "OUT" ∷ []))) (command (codes "run") (codes "LATTICE" ∷ codes "DESIGN" ∷ codes "STIM" ∷ []))) (command (codes "trace") (codes "LATTICE" ∷ codes "DESIGN" ∷ codes "STIM" ∷ []))) (command (codes "sim") (codes "LATTICE" ∷ codes "VERILOG" ∷ codes "STIM" ∷ []))) }
+// The command line with the commands of these rows.
+fn with_rows<'a>(
+    alloc: Global,
+    mut line: Command<'a>,
+    rows: &'a [(&'a str, &'a [&'a str])],
+) -> Result<Command<'a>, AllocError>
+    requires bare { app_of line ≡ bare }
+    requires table { map written rows.now ≡ map heading commands }
+    ensures { IfOk result (λ r. app_of r ≡ parser) }
 {
-    let line = with_row(alloc, line, "compile", &["LATTICE", "DESIGN", "OUT"])?;
-    let line = with_row(alloc, line, "run", &["LATTICE", "DESIGN", "STIM"])?;
-    let line = with_row(alloc, line, "trace", &["LATTICE", "DESIGN", "STIM"])?;
-    with_row(alloc, line, "sim", &["LATTICE", "VERILOG", "STIM"])
-}
-
-// The command line with the commands more that tell of a design.
-fn with_reports<'a>(alloc: Global, line: Command<'a>) -> Result<Command<'a>, AllocError>
-    ensures { IfOk result (λ r. app_of r ≡ with_subcommand (with_subcommand (app_of line.entry) (command (codes "report") (codes "LATTICE" ∷ codes "DESIGN" ∷ []))) (command (codes "twin") (codes "LATTICE" ∷ codes "DESIGN" ∷ codes "FIRST" ∷ codes "SECOND" ∷ codes "LEVEL" ∷ []))) }
-{
-    let line = with_row(alloc, line, "report", &["LATTICE", "DESIGN"])?;
-    let operands = ["LATTICE", "DESIGN", "FIRST", "SECOND", "LEVEL"];
-    with_row(alloc, line, "twin", &operands)
+    for (name, operands) in rows {
+        line = with_row(alloc, line, name, operands)?;
+    }
+    Ok(line)
 }
 
 fn parser<'a>(alloc: Global) -> Result<Command<'a>, AllocError>
@@ -64,10 +63,7 @@ fn parser<'a>(alloc: Global) -> Result<Command<'a>, AllocError>
         .no_binary_name(true)
         .disable_help_flag(true)
         .disable_help_subcommand(true);
-    let line = with_runs(alloc, line)?;
-    let line = with_reports(alloc, line)?;
-    let line = with_row(alloc, line, "fmt", &["DESIGN"])?;
-    with_row(alloc, line, "gen", &["N"])
+    with_rows(alloc, line, &COMMANDS)
 }
 
 /// What `clap` reads in the words of a command. It refuses none, and fails only for want of memory.

@@ -1,130 +1,53 @@
 //! Words as a command.
 
-ghost use Rattle.std.specs.Prelude.{◌≡◌, IfErr, IfOk, List, Some, ℕ, codes, map, option_and_then, option_map, string_bytes};
+ghost use Rattle.std.specs.Prelude.{◌≡◌, IfErr, IfOk, List, Some, ℕ, map, option_map, string_bytes};
 ghost use Rattle.clap.specs.Words.{Row, first_of, first_value, found_of, subcommand_rows_of};
 ghost use Rattle.sap_words.specs.Called.{words_of};
-ghost use Rattle.sap_words.specs.Operands.{five_of, row_of, three_of, two_of};
+ghost use Rattle.sap_words.specs.Found.{found, value_at};
 ghost use Rattle.sap_words.specs.Table.{IsCommand, ReadsTable};
-ghost use Rattle.sap_words.specs.Words.{Words, command_of as words_for, compile, fmt, number_of, numbered, report, run, sim, trace, twin};
+ghost use Rattle.sap_words.specs.Words.{Words, command_of as words_for, row_named};
 
-use crate::command::{Command, RunNumber};
-use crate::number::number_of;
+use crate::command::Command;
+use crate::fits::is_command;
 use crate::parser::parse;
-use crate::table::is_command;
+use crate::table::{made, operands_of};
 use clap::ArgMatches;
 use std::alloc::{AllocError, Global};
 
-fn compile<'a>(operands: &ArgMatches<'a>) -> Option<Command<'a>>
-    ensures { option_map words_of result ≡ three_of compile (first_value (found_of operands.now) (codes "LATTICE")) (first_value (found_of operands.now) (codes "DESIGN")) (first_value (found_of operands.now) (codes "OUT")) }
+// What was found for the operand at a place.
+fn value<'a>(matches: &ArgMatches<'a>, operands: &[&str], place: usize) -> &'a str
+    ensures { result.now ≡ value_at (first_value (found_of matches.now)) (map (λ o. o.now) operands.now) place }
 {
-    Some(Command::Compile {
-        lattice: operands.get_str("LATTICE")?,
-        design: operands.get_str("DESIGN")?,
-        out: operands.get_str("OUT")?,
-    })
+    match operands.get(place) {
+        Some(operand) => matches.get_str(operand).unwrap_or(""),
+        None => "",
+    }
 }
 
-fn run<'a>(operands: &ArgMatches<'a>) -> Option<Command<'a>>
-    ensures { option_map words_of result ≡ three_of run (first_value (found_of operands.now) (codes "LATTICE")) (first_value (found_of operands.now) (codes "DESIGN")) (first_value (found_of operands.now) (codes "STIM")) }
+fn with_operands<'a>(name: &str, matches: &ArgMatches<'a>, operands: &[&str]) -> Option<Command<'a>>
+    requires { Some (map (λ o. o.now) operands.now) ≡ option_map (λ r. r.operands) (row_named name.now) }
+    ensures { option_map words_of result ≡ found name.now (first_value (found_of matches.now)) }
 {
-    Some(Command::Run {
-        lattice: operands.get_str("LATTICE")?,
-        design: operands.get_str("DESIGN")?,
-        stimulus: operands.get_str("STIM")?,
-    })
+    let first = value(matches, operands, 0);
+    let second = value(matches, operands, 1);
+    let third = value(matches, operands, 2);
+    let fourth = value(matches, operands, 3);
+    let fifth = value(matches, operands, 4);
+    made(name, first, second, third, fourth, fifth)
 }
 
-fn trace<'a>(operands: &ArgMatches<'a>) -> Option<Command<'a>>
-    ensures { option_map words_of result ≡ three_of trace (first_value (found_of operands.now) (codes "LATTICE")) (first_value (found_of operands.now) (codes "DESIGN")) (first_value (found_of operands.now) (codes "STIM")) }
+// The command of this name with the operands that were found.
+fn row<'a>(name: &str, matches: &ArgMatches<'a>) -> Option<Command<'a>>
+    ensures { option_map words_of result ≡ found name.now (first_value (found_of matches.now)) }
 {
-    Some(Command::Trace {
-        lattice: operands.get_str("LATTICE")?,
-        design: operands.get_str("DESIGN")?,
-        stimulus: operands.get_str("STIM")?,
-    })
-}
-
-fn sim<'a>(operands: &ArgMatches<'a>) -> Option<Command<'a>>
-    ensures { option_map words_of result ≡ three_of sim (first_value (found_of operands.now) (codes "LATTICE")) (first_value (found_of operands.now) (codes "VERILOG")) (first_value (found_of operands.now) (codes "STIM")) }
-{
-    Some(Command::Sim {
-        lattice: operands.get_str("LATTICE")?,
-        verilog: operands.get_str("VERILOG")?,
-        stimulus: operands.get_str("STIM")?,
-    })
-}
-
-fn report<'a>(operands: &ArgMatches<'a>) -> Option<Command<'a>>
-    ensures { option_map words_of result ≡ two_of report (first_value (found_of operands.now) (codes "LATTICE")) (first_value (found_of operands.now) (codes "DESIGN")) }
-{
-    Some(Command::Report {
-        lattice: operands.get_str("LATTICE")?,
-        design: operands.get_str("DESIGN")?,
-    })
-}
-
-fn twin<'a>(operands: &ArgMatches<'a>) -> Option<Command<'a>>
-    ensures { option_map words_of result ≡ five_of twin (first_value (found_of operands.now) (codes "LATTICE")) (first_value (found_of operands.now) (codes "DESIGN")) (first_value (found_of operands.now) (codes "FIRST")) (first_value (found_of operands.now) (codes "SECOND")) (first_value (found_of operands.now) (codes "LEVEL")) }
-{
-    Some(Command::Twin {
-        lattice: operands.get_str("LATTICE")?,
-        design: operands.get_str("DESIGN")?,
-        first: operands.get_str("FIRST")?,
-        second: operands.get_str("SECOND")?,
-        level: operands.get_str("LEVEL")?,
-    })
-}
-
-fn format<'a>(operands: &ArgMatches<'a>) -> Option<Command<'a>>
-    ensures { option_map words_of result ≡ option_map fmt (first_value (found_of operands.now) (codes "DESIGN")) }
-{
-    Some(Command::Fmt {
-        design: operands.get_str("DESIGN")?,
-    })
-}
-
-fn numbered<'a>(number: Option<RunNumber>) -> Option<Command<'a>>
-    ensures { option_map words_of result ≡ numbered (option_map (λ n. n.value) number) }
-{
-    match number {
-        Some(number) => Some(Command::Gen { number }),
+    match operands_of(name) {
+        Some(operands) => with_operands(name, matches, operands),
         None => None,
     }
 }
 
-fn generate<'a>(operands: &ArgMatches<'a>) -> Option<Command<'a>>
-    ensures { option_map words_of result ≡ option_and_then (λ word. numbered (number_of word)) (first_value (found_of operands.now) (codes "N")) }
-{
-    numbered(number_of(operands.get_str("N")?))
-}
-
-// The command of this name with these operands.
-fn row<'a>(name: &str, operands: &ArgMatches<'a>) -> Option<Command<'a>>
-    ensures { option_map words_of result ≡ row_of name.now (first_value (found_of operands.now)) }
-{
-    if name == "compile" {
-        compile(operands)
-    } else if name == "run" {
-        run(operands)
-    } else if name == "trace" {
-        trace(operands)
-    } else if name == "sim" {
-        sim(operands)
-    } else if name == "report" {
-        report(operands)
-    } else if name == "twin" {
-        twin(operands)
-    } else if name == "fmt" {
-        format(operands)
-    } else if name == "gen" {
-        generate(operands)
-    } else {
-        None
-    }
-}
-
 fn command_in<'a>(matches: &ArgMatches<'a>) -> Option<Command<'a>>
-    ensures { (name : List ℕ) (rows : List Row) → subcommand_rows_of matches.now ≡ Some (name, rows) → option_map words_of result ≡ row_of name (λ id. first_of id rows) }
+    ensures { (name : List ℕ) (rows : List Row) → subcommand_rows_of matches.now ≡ Some (name, rows) → option_map words_of result ≡ found name (λ id. first_of id rows) }
 {
     match matches.subcommand() {
         Some(found) => row(found.0, found.1),

@@ -1,70 +1,99 @@
-//! Which words are a command.
+//! The table of commands.
 
-ghost use Rattle.std.specs.Prelude.{◌≡◌, ◌&&◌, is_some, length, map, nat_eq, string_bytes};
-ghost use Rattle.std.specs.List.{list_all};
-ghost use Rattle.sap_words.specs.Words.{command_of as words_for, is_operand, number_of, numbered, one, row};
+ghost use Rattle.std.specs.Prelude.{◌≡◌, bytes_eq, find, map, option_map};
+ghost use Rattle.sap_words.specs.Called.{words_of};
+ghost use Rattle.sap_words.specs.Found.{made_of_five};
+ghost use Rattle.sap_words.specs.Headings.{heading, texts, written};
+ghost use Rattle.sap_words.specs.Words.{commands, row_named};
 
+use crate::command::Command;
 use crate::number::number_of;
 
-fn is_operand(word: &str) -> bool
-    ensures { result ≡ is_operand word.now }
-{
-    !word.starts_with('-')
-}
+/// Each command with the names of its operands.
+pub(crate) static COMMANDS: [(&str, &[&str]); 8] = [
+    ("compile", &["LATTICE", "DESIGN", "OUT"]),
+    ("run", &["LATTICE", "DESIGN", "STIM"]),
+    ("trace", &["LATTICE", "DESIGN", "STIM"]),
+    ("sim", &["LATTICE", "VERILOG", "STIM"]),
+    ("report", &["LATTICE", "DESIGN"]),
+    ("twin", &["LATTICE", "DESIGN", "FIRST", "SECOND", "LEVEL"]),
+    ("fmt", &["DESIGN"]),
+    ("gen", &["N"]),
+];
 
-fn all_operands(words: &[String]) -> bool
-    ensures { result ≡ list_all (λ word. is_operand (string_bytes word)) words.now }
+/// The command that the first of the values make by the row of this name, as many as it has operands.
+pub(crate) fn made<'a>(
+    name: &str,
+    first: &'a str,
+    second: &'a str,
+    third: &'a str,
+    fourth: &'a str,
+    fifth: &'a str,
+) -> Option<Command<'a>>
+    ensures { option_map words_of result ≡ made_of_five name.now first.now second.now third.now fourth.now fifth.now }
 {
-    words.iter().all(|word| is_operand(word))
-}
-
-// As many operands.
-fn are_operands(words: &[String], count: usize) -> bool
-    ensures { result ≡ (nat_eq (length words.now) count && list_all (λ word. is_operand (string_bytes word)) words.now) }
-{
-    words.len() == count && all_operands(words)
-}
-
-fn is_number(operands: &[String]) -> bool
-    ensures { result ≡ is_some (one (λ n. numbered (number_of n)) (map string_bytes operands.now)) }
-{
-    match operands {
-        [number] => is_operand(number) && number_of(number).is_some(),
-        _ => false,
+    match name {
+        "compile" => Some(Command::Compile {
+            lattice: first,
+            design: second,
+            out: third,
+        }),
+        "run" => Some(Command::Run {
+            lattice: first,
+            design: second,
+            stimulus: third,
+        }),
+        "trace" => Some(Command::Trace {
+            lattice: first,
+            design: second,
+            stimulus: third,
+        }),
+        "sim" => Some(Command::Sim {
+            lattice: first,
+            verilog: second,
+            stimulus: third,
+        }),
+        "report" => Some(Command::Report {
+            lattice: first,
+            design: second,
+        }),
+        "twin" => Some(Command::Twin {
+            lattice: first,
+            design: second,
+            first: third,
+            second: fourth,
+            level: fifth,
+        }),
+        "fmt" => Some(Command::Fmt { design: first }),
+        "gen" => Some(Command::Gen {
+            number: number_of(first)?,
+        }),
+        _ => None,
     }
 }
 
-// The table has a row of this name with such operands.
-fn is_row(name: &str, operands: &[String]) -> bool
-    ensures { result ≡ is_some (row name.now (map string_bytes operands.now)) }
+fn row_in(
+    rows: &[(&'static str, &'static [&'static str])],
+    name: &str,
+) -> Option<&'static [&'static str]>
+    ensures { result ≡ option_map (λ h. h.1) (find (λ h. bytes_eq name.now h.0.now) rows.now) }
 {
-    if name == "compile" {
-        are_operands(operands, 3)
-    } else if name == "run" {
-        are_operands(operands, 3)
-    } else if name == "trace" {
-        are_operands(operands, 3)
-    } else if name == "sim" {
-        are_operands(operands, 3)
-    } else if name == "report" {
-        are_operands(operands, 2)
-    } else if name == "twin" {
-        are_operands(operands, 5)
-    } else if name == "fmt" {
-        are_operands(operands, 1)
-    } else if name == "gen" {
-        is_number(operands)
-    } else {
-        false
-    }
+    rows.iter().find(|row| name == row.0).map(|row| row.1)
 }
 
-/// Whether the words are a command. It takes no memory.
-pub(crate) fn is_command(words: &[String]) -> bool
-    ensures { result ≡ is_some (words_for (map string_bytes words.now)) }
+fn operands_in(
+    rows: &[(&'static str, &'static [&'static str])],
+    name: &str,
+) -> Option<&'static [&'static str]>
+    requires { map written rows.now ≡ map heading commands }
+    ensures { option_map texts result ≡ option_map (λ r. r.operands) (row_named name.now) }
 {
-    match words {
-        [name, operands @ ..] => is_row(name, operands),
-        [] => false,
-    }
+    row_in(rows, name)
+}
+
+/// The names of the operands of the command of this name.
+pub(crate) fn operands_of(name: &str) -> Option<&'static [&'static str]>
+    ensures { option_map texts result ≡ option_map (λ r. r.operands) (row_named name.now) }
+{
+    operands_in(&COMMANDS, name)
 }
