@@ -6,22 +6,12 @@ use Rattle.sap_maps.specs.Maps.{Valuation}
 use Rattle.sap_net.specs.Net.{Net}
 use Rattle.sap_wave.specs.declared.variable.Variable.{Variable}
 use Rattle.sap_wave.specs.Lines.{Form, text_of}
-use Rattle.sap_wave.specs.Dumps.{block_of, blocks_from, dump_text, head}
+use Rattle.sap_wave.specs.Dumps.{block_of, blocks_from, dump_text, head, last_among}
 use Rattle.sap_wave.specs.Runs.{initial_numbers, numbers_after, run_dump, variables_of}
-use Rattle.sap_wave.specs.Dumping.{Dumping, IsAfter, BlocksAddUp, with_block, last_among, last_numbers}
+use Rattle.sap_wave.specs.Dumping.{Dumping, IsAfter, BlocksAddUp, with_block, last_numbers}
+use Rattle.sap_wave.proofs.Blocks.{blocks_more, last_more}
 use Rattle.sap_wave.proofs.WrittenLines.{text_append}
 use Rattle.sap_wave.proofs.Lists.{one_more_of}
-
-blocks_more : (n : ℕ) (xs : List Variable) (before : List ℕ) (rest : List (List ℕ)) (after : List ℕ)
-    → blocks_from n xs before (rest ++ (after ∷ [])) ≡ blocks_from n xs before rest ++ block_of (n + length rest) xs (last_among before rest) after
-blocks_more n xs before [] after =
-    let e : n ≡ n + 0 = omega arith in
-    append-nil (block_of n xs before after) ∙ ap (λ (k : ℕ). block_of k xs before after) e
-blocks_more n xs before (next ∷ rest) after =
-    let e : (n + 1) + length rest ≡ n + suc (length rest) = omega arith in
-    ap (λ (fs : List Form). block_of n xs before next ++ fs) (blocks_more (n + 1) xs next rest after)
-    ∙ sym (append_assoc (block_of n xs before next) (blocks_from (n + 1) xs next rest) (block_of ((n + 1) + length rest) xs (last_among next rest) after))
-    ∙ ap (λ (k : ℕ). (block_of n xs before next ++ blocks_from (n + 1) xs next rest) ++ block_of k xs (last_among next rest) after) e
 
 text_more : (xs : List Variable) (first : List ℕ) (rest : List (List ℕ)) (after : List ℕ)
     → dump_text xs first (rest ++ (after ∷ [])) ≡ dump_text xs first rest ++ text_of (block_of (1 + length rest) xs (last_among first rest) after)
@@ -30,10 +20,6 @@ text_more xs first rest after =
     ap (λ (fs : List Form). text_of (head xs first ++ fs)) (blocks_more 1 xs first rest after)
     ∙ ap text_of (sym (append_assoc (head xs first) (blocks_from 1 xs first rest) block))
     ∙ text_append (head xs first ++ blocks_from 1 xs first rest) block
-
-last_more : (before : List ℕ) (rest : List (List ℕ)) (after : List ℕ) → last_among before (rest ++ (after ∷ [])) ≡ after
-last_more before [] after = refl
-last_more before (next ∷ rest) after = last_more next rest after
 
 cycles_more : (n : Net) (vs : List Valuation) (v : Valuation) → map (numbers_after n) (vs ++ (v ∷ [])) ≡ map (numbers_after n) vs ++ (numbers_after n v ∷ [])
 cycles_more n vs v = map-append (numbers_after n) vs (v ∷ [])

@@ -11,7 +11,8 @@ use Rattle.sap_wave.specs.Digits.{identifier, bits, bits_number}
 use Rattle.sap_wave.specs.Lines.{Form}
 use Rattle.sap_wave.specs.declared.variable.Variable.{Variable}
 use Rattle.sap_wave.specs.Reading.{OpenBlock, State, in_block, IsKnown, IsChange, is_first, changed, width_at, nothing}
-use Rattle.sap_wave.specs.Dumps.{set_to, all_set, changes, NumbersFit}
+use Rattle.sap_wave.specs.Dumps.{set_to, all_set, changes}
+use Rattle.sap_wave.specs.Waves.{NumbersFit}
 use Rattle.sap_wave.proofs.DigitsLemmas.{number_back, bits_read_back}
 use Rattle.sap_wave.proofs.Formed.{change_plain}
 use Rattle.sap_wave.proofs.Going.{Goes, goes_from}

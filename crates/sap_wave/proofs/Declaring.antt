@@ -1,8 +1,7 @@
 -- The declarations of a dump.
-use Rattle.std.proofs.Common.{◌≡◌, ℕ, ◌+◌, ◌<◌, ◌^◌, List, [], ◌∷◌, ◌++◌, true, false, ◌||◌, length, refl, sym, ap, ◌∙◌, arith, subst}
+use Rattle.std.proofs.Common.{◌≡◌, ℕ, ◌+◌, List, [], ◌∷◌, ◌++◌, true, false, ◌||◌, length, refl, sym, ap, ◌∙◌, arith, subst}
 use Rattle.std.specs.List.{AllByRecursion}
 use Rattle.std.specs.Str.{bytes_eq}
-use Rattle.std.specs.Fmt.{decimal}
 use Rattle.std.specs.Str.Parse.{digits_value}
 use Rattle.std.proofs.lemmas.List.{append-nil, map-append}
 use Rattle.sap_lemmas.proofs.Bools.{neither_left, neither_right}
@@ -11,11 +10,12 @@ use Rattle.sap_maps.specs.Maps.{Name}
 use Rattle.sap_maps.specs.Ranges.{IsWidth}
 use Rattle.sap_net.specs.Names.{is_name, is_among, AreDistinct}
 use Rattle.sap_net.proofs.NamesLemmas.{among_append}
-use Rattle.sap_wave.specs.Digits.{identifier}
+use Rattle.sap_wave.specs.Digits.{identifier, numeral}
 use Rattle.sap_wave.specs.declared.variable.Variable.{Variable}
-use Rattle.sap_wave.specs.Reading.{declaring, IsVariable, names_of}
+use Rattle.sap_wave.specs.Reading.{declaring, IsVariable}
+use Rattle.sap_wave.specs.Waves.{names_of}
 use Rattle.sap_wave.specs.Dumps.{declarations}
-use Rattle.sap_wave.proofs.Formed.{variable_plain, decimal_back}
+use Rattle.sap_wave.proofs.Formed.{variable_plain, numeral_back}
 use Rattle.sap_wave.proofs.Going.{Goes, goes_from}
 use Rattle.sap_wave.proofs.Lists.{one_more_of, one_further}
 
@@ -28,27 +28,23 @@ new_name (x ∷ xs) y ys h =
     let e : bytes_eq y x ≡ false = bytes_eq_symmetric y x ∙ apart in
     rw e (new_name xs y ys h.1)
 
-width_small : (w : ℕ) → IsWidth w → w < 2 ^ 64
-width_small w h = let l = h.1 in omega (arith, l)
-
 declared : (all done xs : List Variable) (k : ℕ) → all ≡ done ++ xs → k ≡ length done → AreDistinct (names_of all)
     → AllByRecursion (λ x. is_name x.name ≡ true) xs → AllByRecursion (λ x. IsWidth x.width) xs → Goes (declaring done) (declarations k xs) (declaring all)
 declared all done [] k e l d n w = ap declaring (sym (append-nil done) ∙ sym e)
 declared all done (x ∷ xs) k e l d n w =
-    let small = width_small x.width w.0 in
-    let back = decimal_back x.width small in
+    let back = numeral_back x.width in
     let names : names_of all ≡ names_of done ++ (x.name ∷ names_of xs) = ap names_of e ∙ map-append (λ (v : Variable). v.name) done (x ∷ xs) in
-    let takes : IsVariable done (decimal x.width) (identifier k) x.name =
+    let takes : IsVariable done (numeral x.width) (identifier k) x.name =
     record {
       numbered = ap identifier l;
       sized = subst IsWidth (sym back) w.0;
       named = n.0;
       new = new_name (names_of done) x.name (names_of xs) (subst AreDistinct names d);
     } in
-    let same : declaring (done ++ (record { name = x.name; width = digits_value 10 (decimal x.width) } ∷ [])) ≡ declaring (done ++ (x ∷ [])) =
+    let same : declaring (done ++ (record { name = x.name; width = digits_value 10 (numeral x.width) } ∷ [])) ≡ declaring (done ++ (x ∷ [])) =
     ap (λ (z : ℕ). let v : Variable = record { name = x.name; width = z } in declaring (done ++ (v ∷ []))) back in
     let more : k + 1 ≡ length (done ++ (x ∷ [])) = ap (λ (z : ℕ). z + 1) l ∙ sym (one_more_of done x) in (
-      variable_plain x.width k x.name small n.0,
+      variable_plain x.width k x.name n.0,
       takes,
       goes_from _ (declaring (done ++ (x ∷ []))) (declaring all) (declarations (k + 1) xs) same
           (declared all (done ++ (x ∷ [])) xs (k + 1) (e ∙ one_further done x xs) more d n.1 w.1),

@@ -9,7 +9,7 @@ use Rattle.std.proofs.lemmas.Bool.Decides.{nat_tests}
 use Rattle.std.proofs.lemmas.List.{length-append}
 use Rattle.std.proofs.lemmas.Grind.{common_steps}
 use Rattle.sap_lemmas.proofs.Lists.{append_three}
-use Rattle.sap_wave.specs.Digits.{digits_of, spelled_behind, spelled, is_digit, are_digits, count_within, identifier_count, identifier, number_spelled, bits, bits_number, IsIdentifier, OneIdentifier, BitsReadBack}
+use Rattle.sap_wave.specs.Digits.{digits_of, spelled_behind, spelled, is_digit, are_digits, count_within, identifier_count, identifier, number_spelled, bits, bits_number, numeral, IsSpelling, OneIdentifier, BitsReadBack}
 
 spelled_append : (f b n : ℕ) (xs ys : List ℕ) → spelled_behind f b n (xs ++ ys) ≡ spelled_behind f b (spelled_behind f b n xs) ys
 spelled_append f b n [] ys = refl
@@ -172,6 +172,10 @@ spelled_above f b n (x ∷ bs) =
     let e = mul_comm q (n * b + (x - f)) in
     rw pow-suc (omega (arith, i, c, l, d, e))
 
+pub bits_number_below : (text : List ℕ) → list_all (is_digit 48 2) text ≡ true → bits_number text < 2 ^ length text
+unfolding bits_number
+bits_number_below text a = let u = spelled_below 48 2 0 text a in omega (arith, u)
+
 power_less : (b i j : ℕ) → 0 < b → b ^ i < b ^ j → i < j
 power_less b i j h l =
     elim (cases_Bool (nat_lt i j)) [
@@ -179,128 +183,163 @@ power_less b i j h l =
       | inr e ↦ let m : b ^ j ≤ b ^ i = pow-le-pow_right h (ltb-false i j e) in absurd (omega (arith, m, l))
     ]
 
--- Identifiers.
+-- The fewest digits that spell a number.
 
-first_digit : (x : ℕ) (bs : List ℕ) → list_all (is_digit 33 94) (x ∷ bs) ≡ true → 94 ^ length bs ≤ spelled 33 94 (x ∷ bs) → 33 < x
-first_digit x bs a l =
-    let p = and_parts (is_digit 33 94 x) (list_all (is_digit 33 94) bs) a in
-    let r = digit_byte 33 94 x p.0 in
-    elim (cases_Bool (nat_lt 33 x)) [
-      | inl t ↦ ltb-true 33 x t
+first_digit : (f b x : ℕ) (bs : List ℕ) → list_all (is_digit f b) (x ∷ bs) ≡ true → b ^ length bs ≤ spelled f b (x ∷ bs) → f < x
+first_digit f b x bs a l =
+    let p = and_parts (is_digit f b x) (list_all (is_digit f b) bs) a in
+    elim (cases_Bool (nat_lt f x)) [
+      | inl t ↦ ltb-true f x t
       | inr e ↦
-          let low : x ≤ 33 = ltb-false 33 x e in
-          let none : 0 * 94 + (x - 33) ≡ 0 = omega (arith, low) in
-          let u = spelled_below 33 94 (0 * 94 + (x - 33)) bs p.1 in
-          let v : spelled 33 94 (x ∷ bs) < suc 0 * 94 ^ length bs = subst (λ (z : ℕ). spelled_behind 33 94 (0 * 94 + (x - 33)) bs < suc z * 94 ^ length bs) none u in
+          let low : x ≤ f = ltb-false f x e in
+          let none : 0 * b + (x - f) ≡ 0 = omega (arith, low) in
+          let u = spelled_below f b (0 * b + (x - f)) bs p.1 in
+          let v : spelled f b (x ∷ bs) < suc 0 * b ^ length bs = subst (λ (z : ℕ). spelled_behind f b (0 * b + (x - f)) bs < suc z * b ^ length bs) none u in
           absurd (omega (arith, v, l))
     ]
 
-no_zero_first : (text : List ℕ) (n j : ℕ) → list_all (is_digit 33 94) text ≡ true → length text ≡ suc j → spelled 33 94 text ≡ n → 94 ^ j ≤ n → 33 < slice_index text 0
-no_zero_first [] n j a l s h = absurd (omega (arith, l))
-no_zero_first (x ∷ bs) n j a l s h =
+no_zero_first : (f b : ℕ) (text : List ℕ) (n j : ℕ) → list_all (is_digit f b) text ≡ true → length text ≡ suc j → spelled f b text ≡ n → b ^ j ≤ n → f < slice_index text 0
+no_zero_first f b [] n j a l s h = absurd (omega (arith, l))
+no_zero_first f b (x ∷ bs) n j a l s h =
     let e : j ≡ length bs = omega (arith, l) in
-    first_digit x bs a (subst (λ (z : ℕ). 94 ^ length bs ≤ z) (sym s) (subst (λ (z : ℕ). 94 ^ z ≤ n) e h))
+    first_digit f b x bs a (subst (λ (z : ℕ). b ^ length bs ≤ z) (sym s) (subst (λ (z : ℕ). b ^ z ≤ n) e h))
 
-pub identifier_spells : (n : ℕ) → spelled 33 94 (identifier n) ≡ n
-unfolding identifier
-identifier_spells n = digits_spell 33 94 (identifier_count n) n (omega arith) (count_above 94 n n (omega arith) (omega arith))
+-- in as many digits as it needs
+abbrev pub fewest : (first base number : ℕ) → List ℕ
+fewest first base number = digits_of first base (count_within base number number) number
 
-pub identifier_digits : (n : ℕ) → list_all (is_digit 33 94) (identifier n) ≡ true
-unfolding identifier
-identifier_digits n = all_digits 33 94 (identifier_count n) n (omega arith)
+fewest_spells : (f b n : ℕ) → 2 ≤ b → spelled f b (fewest f b n) ≡ n
+fewest_spells f b n two = digits_spell f b (count_within b n n) n (omega (arith, two)) (count_above b n n two (omega arith))
 
-pub identifier_length : (n : ℕ) → length (identifier n) ≡ identifier_count n
-unfolding identifier
-identifier_length n = digits_length 33 94 (identifier_count n) n
+fewest_digits : (f b n : ℕ) → 2 ≤ b → list_all (is_digit f b) (fewest f b n) ≡ true
+fewest_digits f b n two = all_digits f b (count_within b n n) n (omega (arith, two))
 
-pub identifier_are_digits : (n : ℕ) → are_digits 33 94 (identifier n) ≡ true
-identifier_are_digits n =
-    let l = identifier_length n in
-    let m = count_at_least 94 n n in
-    and_from (nat_le 1 (length (identifier n))) (list_all (is_digit 33 94) (identifier n)) (grind (arith, nat_tests, l, m)) (identifier_digits n)
+fewest_length : (f b n : ℕ) → length (fewest f b n) ≡ count_within b n n
+fewest_length f b n = digits_length f b (count_within b n n) n
+
+fewest_are_digits : (f b n : ℕ) → 2 ≤ b → are_digits f b (fewest f b n) ≡ true
+fewest_are_digits f b n two =
+    let l = fewest_length f b n in
+    let m = count_at_least b n n in
+    and_from (nat_le 1 (length (fewest f b n))) (list_all (is_digit f b) (fewest f b n)) (grind (arith, nat_tests, l, m)) (fewest_digits f b n two)
 
 two_more : (c : ℕ) → 2 ≤ c → (j : ℕ) × (c ≡ suc (suc j))
 two_more zero h = absurd (omega arith)
 two_more (suc zero) h = absurd (omega arith)
 two_more (suc (suc j)) h = (j, refl)
 
-identifier_is_one : (n : ℕ) → IsIdentifier (identifier n) n
-identifier_is_one n =
+fewest_is_one : (f b n : ℕ) → 2 ≤ b → IsSpelling f b (fewest f b n) n
+fewest_is_one f b n base =
     record {
-      digits = identifier_are_digits n;
+      digits = fewest_are_digits f b n base;
       no_leading_zero =
           λ two.
-          let l = identifier_length n in
-          let c = two_more (identifier_count n) (subst (λ (z : ℕ). 2 ≤ z) l two) in
-          no_zero_first (identifier n) n (suc c.0) (identifier_digits n) (l ∙ c.1) (identifier_spells n) (count_below 94 n n c.0 (omega arith) (omega arith) c.1);
-      spells = identifier_spells n;
+          let l = fewest_length f b n in
+          let c = two_more (count_within b n n) (subst (λ (z : ℕ). 2 ≤ z) l two) in
+          no_zero_first f b (fewest f b n) n (suc c.0) (fewest_digits f b n base) (l ∙ c.1) (fewest_spells f b n base)
+          (count_below b n n c.0 base (omega arith) c.1);
+      spells = fewest_spells f b n base;
     }
 
-digits_below : (text : List ℕ) (n : ℕ) → list_all (is_digit 33 94) text ≡ true → spelled 33 94 text ≡ n → n < 94 ^ length text
-digits_below text n a s = let u = spelled_below 33 94 0 text a in omega (arith, u, s)
+digits_below : (f b : ℕ) (text : List ℕ) (n : ℕ) → list_all (is_digit f b) text ≡ true → spelled f b text ≡ n → n < b ^ length text
+digits_below f b text n a s = let u = spelled_below f b 0 text a in omega (arith, u, s)
 
-one_digit_at_least : (x : ℕ) → 33 < x → 1 ≤ 0 * 94 + (x - 33)
-one_digit_at_least x h = omega (arith, h)
+one_digit_at_least : (f b x : ℕ) → f < x → 1 ≤ 0 * b + (x - f)
+one_digit_at_least f b x h = omega (arith, h)
 
-digits_above : (text : List ℕ) (n j : ℕ) → length text ≡ suc j → 33 < slice_index text 0 → spelled 33 94 text ≡ n → 94 ^ j ≤ n
-digits_above [] n j l h s = absurd (omega (arith, l))
-digits_above (x ∷ bs) n j l h s =
+digits_above : (f b : ℕ) (text : List ℕ) (n j : ℕ) → length text ≡ suc j → f < slice_index text 0 → spelled f b text ≡ n → b ^ j ≤ n
+digits_above f b [] n j l h s = absurd (omega (arith, l))
+digits_above f b (x ∷ bs) n j l h s =
     let e : length bs ≡ j = omega (arith, l) in
-    let u = spelled_above 33 94 (0 * 94 + (x - 33)) bs in
-    let d = one_digit_at_least x h in
-    let m : 94 ^ length bs * 1 ≤ 94 ^ length bs * (0 * 94 + (x - 33)) = mul-le-mul_left (94 ^ length bs) d in
-    let c = mul_comm (94 ^ length bs) (0 * 94 + (x - 33)) in
-    let v : 94 ^ length bs ≤ n = omega (arith, u, m, c, s) in
-    subst (λ (z : ℕ). 94 ^ z ≤ n) e v
+    let u = spelled_above f b (0 * b + (x - f)) bs in
+    let d = one_digit_at_least f b x h in
+    let m : b ^ length bs * 1 ≤ b ^ length bs * (0 * b + (x - f)) = mul-le-mul_left (b ^ length bs) d in
+    let c = mul_comm (b ^ length bs) (0 * b + (x - f)) in
+    let v : b ^ length bs ≤ n = omega (arith, u, m, c, s) in
+    subst (λ (z : ℕ). b ^ z ≤ n) e v
 
 one_more : (c : ℕ) → 1 ≤ c → (j : ℕ) × (c ≡ suc j)
 one_more zero h = absurd (omega arith)
 one_more (suc j) h = (j, refl)
 
-same_count : (text : List ℕ) (n : ℕ) → IsIdentifier text n → length text ≡ identifier_count n
-same_count text n h =
-    let p = and_parts (nat_le 1 (length text)) (list_all (is_digit 33 94) text) h.digits in
+same_count : (f b : ℕ) (text : List ℕ) (n : ℕ) → 2 ≤ b → IsSpelling f b text n → length text ≡ count_within b n n
+same_count f b text n base h =
+    let positive : 0 < b = omega (arith, base) in
+    let p = and_parts (nat_le 1 (length text)) (list_all (is_digit f b) text) h.digits in
     let some : 1 ≤ length text = leb-true 1 (length text) p.0 in
-    let has = count_at_least 94 n n in
+    let has = count_at_least b n n in
     let t = one_more (length text) some in
-    let c = one_more (identifier_count n) has in
-    let below = digits_below text n p.1 h.spells in
-    let above = count_above 94 n n (omega arith) (omega arith) in
-    let high : identifier_count n ≤ length text =
+    let c = one_more (count_within b n n) has in
+    let below = digits_below f b text n p.1 h.spells in
+    let above = count_above b n n base (omega arith) in
+    let high : count_within b n n ≤ length text =
     elim (cases_Bool (nat_lt c.0 1)) [
       | inl k ↦ let q = ltb-true c.0 1 k in omega (arith, q, c.1, some)
       | inr k ↦
           let q = ltb-false c.0 1 k in
           let d = one_more c.0 q in
-          let low = count_below 94 n n d.0 (omega arith) (omega arith) (c.1 ∙ ap suc d.1) in
-          let less : 94 ^ suc d.0 < 94 ^ length text = omega (arith, low, below) in
-          let r = power_less 94 (suc d.0) (length text) (omega arith) less in
+          let low = count_below b n n d.0 base (omega arith) (c.1 ∙ ap suc d.1) in
+          let less : b ^ suc d.0 < b ^ length text = omega (arith, low, below) in
+          let r = power_less b (suc d.0) (length text) positive less in
           omega (arith, r, c.1, d.1)
     ] in
-    let low : length text ≤ identifier_count n =
+    let low : length text ≤ count_within b n n =
     elim (cases_Bool (nat_lt t.0 1)) [
       | inl k ↦ let q = ltb-true t.0 1 k in omega (arith, q, t.1, has)
       | inr k ↦
           let q = ltb-false t.0 1 k in
           let two : 2 ≤ length text = omega (arith, q, t.1) in
-          let least = digits_above text n t.0 t.1 (h.no_leading_zero two) h.spells in
-          let less : 94 ^ t.0 < 94 ^ identifier_count n = omega (arith, least, above) in
-          let r = power_less 94 t.0 (identifier_count n) (omega arith) less in
+          let least = digits_above f b text n t.0 t.1 (h.no_leading_zero two) h.spells in
+          let less : b ^ t.0 < b ^ count_within b n n = omega (arith, least, above) in
+          let r = power_less b t.0 (count_within b n n) positive less in
           omega (arith, r, t.1)
     ] in
     omega (arith, high, low)
 
-identifier_no_other : (n : ℕ) (text : List ℕ) → IsIdentifier text n → text ≡ identifier n
+fewest_no_other : (f b n : ℕ) (text : List ℕ) → 2 ≤ b → IsSpelling f b text n → text ≡ fewest f b n
+fewest_no_other f b n text base h =
+    let p = and_parts (nat_le 1 (length text)) (list_all (is_digit f b) text) h.digits in
+    sym (digits_of_spelled f b text (omega (arith, base)) p.1)
+    ∙ ap (λ (z : ℕ). digits_of f b (length text) z) h.spells
+    ∙ ap (λ (z : ℕ). digits_of f b z n) (same_count f b text n base h)
+
+-- Identifiers.
+
+pub identifier_spells : (n : ℕ) → spelled 33 94 (identifier n) ≡ n
 unfolding identifier
-identifier_no_other n text h =
-    let p = and_parts (nat_le 1 (length text)) (list_all (is_digit 33 94) text) h.digits in
-    sym (digits_of_spelled 33 94 text (omega arith) p.1)
-    ∙ ap (λ (z : ℕ). digits_of 33 94 (length text) z) h.spells
-    ∙ ap (λ (z : ℕ). digits_of 33 94 z n) (same_count text n h)
+identifier_spells n = fewest_spells 33 94 n (omega arith)
+
+pub identifier_digits : (n : ℕ) → list_all (is_digit 33 94) (identifier n) ≡ true
+unfolding identifier
+identifier_digits n = fewest_digits 33 94 n (omega arith)
+
+pub identifier_length : (n : ℕ) → length (identifier n) ≡ identifier_count n
+unfolding identifier
+identifier_length n = fewest_length 33 94 n
+
+pub identifier_are_digits : (n : ℕ) → are_digits 33 94 (identifier n) ≡ true
+unfolding identifier
+identifier_are_digits n = fewest_are_digits 33 94 n (omega arith)
 
 pub number_back : (n : ℕ) → number_spelled (identifier n) ≡ n
 unfolding number_spelled
 number_back n = identifier_spells n
 
 pub one_identifier : OneIdentifier
-one_identifier = record { is_one = identifier_is_one; no_other = identifier_no_other; reads_back = number_back }
+unfolding identifier
+one_identifier =
+    record {
+      is_one = λ n. fewest_is_one 33 94 n (omega arith);
+      no_other = λ n text h. fewest_no_other 33 94 n text (omega arith) h;
+      reads_back = number_back;
+    }
+
+-- Numerals.
+
+pub numeral_is_one : (n : ℕ) → IsSpelling 48 10 (numeral n) n
+unfolding numeral
+numeral_is_one n = fewest_is_one 48 10 n (omega arith)
+
+pub numeral_no_other : (n : ℕ) (text : List ℕ) → IsSpelling 48 10 text n → text ≡ numeral n
+unfolding numeral
+numeral_no_other n text h = fewest_no_other 48 10 n text (omega arith) h

@@ -18,10 +18,13 @@ use Rattle.sap_wave.specs.Digits.{are_digits, identifier, number_spelled, bits_n
 use Rattle.sap_text.specs.Lines.{Line, lines_of}
 use Rattle.sap_wave.specs.Lines.{Form, timescale, scope, upscope, end_definitions, variable, block, change, form_text, is_id, is_formed, IsLine}
 use Rattle.sap_wave.specs.declared.variable.Variable.{Variable}
-use Rattle.sap_wave.specs.Reading.{Wave, OpenBlock, State, before_timescale, before_scope, declaring, before_end, before_blocks, in_block, is_for, is_first, is_full, blocks_of, names_of, width_at, number_now, IsVariable, IsKnown, IsChange, IsNextBlock, Takes, after, Reads, Ends, IsReading}
+use Rattle.sap_wave.specs.Reading.{OpenBlock, State, before_timescale, before_scope, declaring, before_end, before_blocks, in_block, is_for, is_first, is_full, blocks_of, width_at, number_now, IsVariable, IsKnown, IsChange, IsNextBlock, Takes, after, Reads, Ends}
 use Rattle.sap_wave.specs.Faults.{Misdeclared, other_id, no_width, no_name, again, Misplaced, unknown, not_later, other_width, IsIdle, IsWrong, Stands, no_form, wrong, StandsAtEnd, IsLeast, StopsFrom, IsFault}
+use Rattle.sap_wave.specs.Waves.{Wave, names_of}
+use Rattle.sap_wave.specs.Dumps.{IsReading}
 use Rattle.sap_wave.specs.Laws.{EachWaveOrFault}
 use Rattle.sap_wave.proofs.Forms.{one_form, is_no_space, are_digits_no_space, variable_formed, change_formed}
+use Rattle.sap_wave.proofs.Telling.{so_is_reading}
 
 -- Which form a line has.
 
@@ -310,5 +313,5 @@ reads_or_stops n s (l ∷ ls) = by (line_or_fault s l) (λ f. reads_or_stops (n 
 pub each_wave_or_fault : EachWaveOrFault
 each_wave_or_fault bytes = by (reads_or_stops 1 before_timescale (lines_of bytes)) where
   by : ReadTo before_timescale (lines_of bytes) ⊎ StopsAt 1 before_timescale (lines_of bytes) → ((w : Wave) × IsReading bytes w) ⊎ ((i : ℕ) × (c : WaveCode) × IsFault bytes i c)
-  by (inl r) = inl (r.wave, record { last = r.last; lines = r.reads; ends = r.ends })
+  by (inl r) = inl (r.wave, so_is_reading bytes r.wave (record { last = r.last; lines = r.reads; ends = r.ends }))
   by (inr r) = inr (r.line, r.code, record { stops = r.stops })

@@ -5,9 +5,13 @@ pub mod Formed
 pub mod Lined
 pub mod Going
 pub mod Lists
+pub mod Blocks
 pub mod Declaring
 pub mod Changing
 pub mod Dumping
+pub mod Moves
+pub mod Told
+pub mod Telling
 pub mod Running
 pub mod Worked
 pub mod Each

@@ -1,11 +1,11 @@
 -- The lines of a text that is made of forms.
 use Rattle.std.proofs.Common.{◌≡◌, ℕ, zero, suc, ◌<◌, ◌≤◌, List, [], ◌∷◌, ◌++◌, Bool, true, false, length, get_or, refl, ap, ◌∙◌, arith}
-use Rattle.std.specs.Prelude.{◌==◌}
-use Rattle.std.specs.List.{list_all, slice_split}
+use Rattle.std.specs.Prelude.{◌==◌, if◌then◌else◌}
+use Rattle.std.specs.List.{join_with_byte, list_all, slice_split}
 use Rattle.std.proofs.lemmas.Bool.{and_parts}
 use Rattle.std.proofs.lemmas.Bool.Decides.{nat_tests}
-use Rattle.std.proofs.lemmas.List.{append_assoc}
-use Rattle.std.proofs.lemmas.List.Splits.{slice_split_at, length-slice_split}
+use Rattle.std.proofs.lemmas.List.{append-nil, append_assoc}
+use Rattle.std.proofs.lemmas.List.Splits.{slice_split_at, length-slice_split, join_with_byte-slice_split}
 use Rattle.sap_text.specs.Blanks.{is_in_line}
 use Rattle.sap_text.specs.Places.{line}
 use Rattle.sap_text.specs.Lines.{Line, lines_between, lines_of}
@@ -45,3 +45,19 @@ lines_more f bytes h =
 pub lines_none : lines_of [] ≡ []
 unfolding lines_of
 lines_none = refl
+
+-- The text that lines are cut from.
+
+abbrev pub text_of_lines : List Line → List ℕ
+text_of_lines [] = []
+text_of_lines (l ∷ ls) = (l.text ++ (if l.ended then 10 ∷ [] else [])) ++ text_of_lines ls
+
+lines_joined : (ps : List (List ℕ)) → text_of_lines (lines_between ps) ≡ join_with_byte 10 ps
+lines_joined [] = refl
+lines_joined ([] ∷ []) = refl
+lines_joined ((b ∷ bs) ∷ []) = let some : (length (b ∷ bs) == 0) ≡ false = grind (arith, nat_tests) in rw some (append-nil ((b ∷ bs) ++ []) ∙ append-nil (b ∷ bs))
+lines_joined (p ∷ (q ∷ ps)) = append_assoc p (10 ∷ []) (text_of_lines (lines_between (q ∷ ps))) ∙ ap (λ (z : List ℕ). p ++ (10 ∷ z)) (lines_joined (q ∷ ps))
+
+pub lines_back : (bytes : List ℕ) → text_of_lines (lines_of bytes) ≡ bytes
+unfolding lines_of
+lines_back bytes = lines_joined (slice_split is_end bytes) ∙ join_with_byte-slice_split 10 bytes

@@ -6,10 +6,12 @@ use Rattle.sap_wave.specs.Code.{number}
 use Rattle.sap_text.specs.Lines.{Line, lines_of}
 use Rattle.sap_wave.specs.Lines.{Form, timescale, scope, upscope, end_definitions, variable, block, change, IsLine}
 use Rattle.sap_wave.specs.declared.variable.Variable.{Variable}
-use Rattle.sap_wave.specs.Reading.{Wave, OpenBlock, State, before_timescale, before_scope, declaring, before_end, before_blocks, in_block, is_for, Takes, after, Reads, Ends, IsVariable, IsChange, IsReading}
+use Rattle.sap_wave.specs.Reading.{OpenBlock, State, before_timescale, before_scope, declaring, before_end, before_blocks, in_block, is_for, Takes, after, Reads, Ends, IsVariable, IsChange, ReadsSo}
 use Rattle.sap_wave.specs.Faults.{Misdeclared, other_id, no_width, no_name, again, Misplaced, unknown, not_later, other_width, IsWrong, Stands, no_form, wrong, StandsAtEnd, IsLeast, StopsFrom, IsFault}
+use Rattle.sap_wave.specs.Waves.{Wave}
 use Rattle.sap_wave.specs.Laws.{OneWaveOrFault}
 use Rattle.sap_wave.proofs.Forms.{one_form}
+use Rattle.sap_wave.proofs.Telling.{reading_so}
 
 pub takes_is_for : (s : State) (f : Form) → Takes s f → is_for s f ≡ true
 takes_is_for before_timescale timescale h = refl
@@ -64,8 +66,8 @@ ends_once : (s : State) (v w : Wave) → Ends s v → Ends s w → v ≡ w
 ends_once (in_block xs o) v w a b = a.1 ∙ sym b.1
 ends_once _ v w a b = absurd a
 
-one_wave : (bytes : List ℕ) (v w : Wave) → IsReading bytes v → IsReading bytes w → v ≡ w
-one_wave bytes v w a b =
+one_so : (bytes : List ℕ) (v w : Wave) → ReadsSo bytes v → ReadsSo bytes w → v ≡ w
+one_so bytes v w a b =
     ends_once a.last v w a.ends (subst (λ (z : State). Ends z w) (sym (reads_once before_timescale a.last b.last (lines_of bytes) a.lines b.lines)) b.ends)
 
 same_code : (c d : WaveCode) → number c ≡ number d → c ≡ d
@@ -103,8 +105,13 @@ reads_or_stops n s t (l ∷ ls) w i c a e (inl b) = taken_well s l a.0 c a.1 a.2
 reads_or_stops n s t (l ∷ ls) w i c a e (inr b) =
     reads_or_stops (n + 1) (after s a.0) t ls w i c a.3 e (subst (λ (z : Form). StopsFrom (n + 1) (after s z) ls i c) (one_form b.1 a.1) b.3)
 
-not_both : (bytes : List ℕ) (w : Wave) (i : ℕ) (c : WaveCode) → IsReading bytes w → IsFault bytes i c → ⊥
-not_both bytes w i c a b = reads_or_stops 1 before_timescale a.last (lines_of bytes) w i c a.lines a.ends b.stops
+so_or_stops : (bytes : List ℕ) (w : Wave) (i : ℕ) (c : WaveCode) → ReadsSo bytes w → IsFault bytes i c → ⊥
+so_or_stops bytes w i c a b = reads_or_stops 1 before_timescale a.last (lines_of bytes) w i c a.lines a.ends b.stops
 
 pub one_wave_or_fault : OneWaveOrFault
-one_wave_or_fault = record { one_wave = one_wave; one_fault = one_fault; not_both = not_both }
+one_wave_or_fault =
+    record {
+      one_wave = λ bytes v w a b. one_so bytes v w (reading_so bytes v a) (reading_so bytes w b);
+      one_fault = one_fault;
+      not_both = λ bytes w i c a b. so_or_stops bytes w i c (reading_so bytes w a) b;
+    }

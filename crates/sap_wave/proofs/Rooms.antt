@@ -7,11 +7,12 @@ use Rattle.std.proofs.lemmas.Fmt.{length-decimal-le}
 use Rattle.sap_lemmas.proofs.Lists.{drop_past}
 use Rattle.sap_text.specs.Places.{line}
 use Rattle.sap_wave.specs.declared.variable.Variable.{Variable}
-use Rattle.sap_wave.specs.Digits.{identifier}
+use Rattle.sap_wave.specs.Digits.{identifier, numeral}
 use Rattle.sap_wave.specs.Lines.{block, form_text, text_of}
 use Rattle.sap_wave.specs.Dumps.{block_of, changes, set_to}
 use Rattle.sap_wave.specs.Dumping.{block_room, changes_room}
 use Rattle.sap_wave.proofs.DigitsLemmas.{bits_read_back}
+use Rattle.sap_wave.proofs.Formed.{numeral_is_decimal}
 use Rattle.sap_wave.proofs.WrittenLines.{one_more}
 
 -- of the variables from a place on
@@ -44,10 +45,11 @@ changes_fit k (x ∷ xs) (m ∷ ms) (n ∷ ns) =
 
 pub block_fits : (n : ℕ) (xs : List Variable) (before after : List ℕ) → n < 2 ^ 64 → length (text_of (block_of n xs before after)) ≤ block_room xs
 block_fits n xs before after small =
-    let digits : length (decimal n) ≤ 20 = length-decimal-le 20 n (omega arith) (omega arith) small in
-    let first : length (line (form_text (block (decimal n)))) ≤ 22 = simp length-append (omega (arith, digits)) in
+    let printed : length (decimal n) ≤ 20 = length-decimal-le 20 n (omega arith) (omega arith) small in
+    let digits : length (numeral n) ≤ 20 = rw (numeral_is_decimal n small) printed in
+    let first : length (line (form_text (block (numeral n)))) ≤ 22 = simp length-append (omega (arith, digits)) in
     let rest = changes_fit 0 xs before after in
-    let both = length-append (line (form_text (block (decimal n)))) (text_of (changes 0 xs before after)) in
+    let both = length-append (line (form_text (block (numeral n)))) (text_of (changes 0 xs before after)) in
     omega (arith, first, rest, both)
 
 -- what fails only for want of room succeeds where there is room

@@ -1,12 +1,11 @@
--- The dump of a run reads back as the run.
-use Rattle.std.proofs.Common.{◌≡◌, ℕ, zero, suc, ◌<◌, ◌^◌, List, [], ◌∷◌, ◌++◌, true, false, Option, Some, None, length, map, take, refl, sym, ap, ◌∙◌, subst, inl, inr}
+-- The dump of a run reads back as the run: its numbers fit.
+use Rattle.std.proofs.Common.{◌≡◌, ℕ, zero, suc, ◌<◌, ◌^◌, List, [], ◌∷◌, ◌++◌, true, false, Option, Some, None, length, map, take, refl, sym, ap, ◌∙◌, arith, subst, inl, inr}
 use Rattle.std.specs.Prelude.{unwrap_or}
 use Rattle.std.specs.List.{AllByRecursion}
 use Rattle.std.specs.Str.{bytes_eq}
 use Rattle.std.proofs.lemmas.Bool.{cases_Bool}
 use Rattle.sap_lemmas.proofs.Bools.{neither_left, neither_right}
 use Rattle.sap_lemmas.proofs.Everywhere.{all_second, all_of_map}
-use Rattle.sap_lemmas.proofs.Lists.{length_map}
 use Rattle.sap_maps.specs.Maps.{Name, Valuation}
 use Rattle.sap_maps.specs.Ranges.{IsWidth}
 use Rattle.sap_maps.specs.Scope.{Scope, find}
@@ -26,12 +25,10 @@ use Rattle.sap_net.proofs.Observed.{observed_registers}
 use Rattle.sap_net.proofs.RulesLemmas.{values_found, values_past, readable_kept}
 use Rattle.sap_net.proofs.Within.{nexts_below, widths_are}
 use Rattle.sap_wave.specs.declared.variable.Variable.{Variable}
-use Rattle.sap_wave.specs.Reading.{names_of}
-use Rattle.sap_wave.specs.Dumps.{AreVariables, NumbersFit}
+use Rattle.sap_wave.specs.Waves.{AreVariables, NumbersFit, names_of}
 use Rattle.sap_net.specs.Shown.{is_register}
 use Rattle.sap_wave.specs.Runs.{variables_among, variables_of, initial_numbers, numbers_after}
 use Rattle.sap_wave.specs.Laws.{RunsReadBack}
-use Rattle.sap_wave.proofs.Dumping.{dumps_read_back}
 
 -- The registers of a netlist.
 
@@ -182,10 +179,18 @@ all_after_fit n rules before (xs ∷ xss) (v ∷ vs) h = (
 )
 
 pub runs_read_back : RunsReadBack
-runs_read_back n xss vs rules run few =
-    dumps_read_back (variables_of n) (initial_numbers n) (map (numbers_after n) vs) (are_variables n rules)
-    (fit_of_all (λ x. initial_number n x) (variables_of n)
-    (each_shown n (λ x. initial_number n x.name < 2 ^ x.width)
-    (among_each (λ x. initial_number n x < 2 ^ width_of n x) (register_names n) (starts_fit n rules)) n.ports rules.ports_show))
-    (all_after_fit n rules None xss vs run)
-    (subst (λ (z : ℕ). z < 2 ^ 64) (sym (length_map (numbers_after n) vs)) few)
+runs_read_back n xss vs rules run =
+    record {
+      fits =
+          record {
+            variables = are_variables n rules;
+            begun = omega arith;
+            numbers = (
+              fit_of_all (λ x. initial_number n x) (variables_of n)
+                  (each_shown n (λ x. initial_number n x.name < 2 ^ x.width)
+                  (among_each (λ x. initial_number n x < 2 ^ width_of n x) (register_names n) (starts_fit n rules)) n.ports rules.ports_show),
+              all_after_fit n rules None xss vs run,
+            );
+          };
+      is_dump = refl;
+    }

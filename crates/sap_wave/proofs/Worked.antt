@@ -1,23 +1,23 @@
 -- The worked dump: its reading, and the fault of one with another number.
 use Rattle.std.proofs.Common.{◌≡◌, ℕ, ◌+◌, ◌≤◌, List, [], ◌∷◌, ◌++◌, true, false, Some, length, map, refl, sym, arith, subst, inl, inr}
 use Rattle.std.specs.Prelude.{codes}
-use Rattle.std.specs.Fmt.{digits}
 use Rattle.sap_net.specs.Names.{is_name}
 use Rattle.sap_wave.specs.declared.fault.WaveCode.{WaveCode}
 use Rattle.sap_wave.specs.declared.fault.WaveCode.TheVariants.{Y4, Y5}
 use Rattle.sap_wave.specs.Code.{number}
-use Rattle.sap_wave.specs.Digits.{identifier, bits}
+use Rattle.sap_wave.specs.Digits.{identifier, bits, numeral}
 use Rattle.sap_text.specs.Lines.{Line, lines_of}
 use Rattle.sap_wave.specs.Lines.{Form, block, change, IsLine}
-use Rattle.sap_wave.specs.Reading.{State, before_timescale, in_block, after, IsReading}
+use Rattle.sap_wave.specs.Reading.{State, before_timescale, in_block, after}
 use Rattle.sap_wave.specs.Faults.{Stands, no_form, wrong, IsWrong, StopsFrom}
-use Rattle.sap_wave.specs.Dumps.{AreVariables, NumbersFit, head}
+use Rattle.sap_wave.specs.Waves.{AreVariables, NumbersFit}
+use Rattle.sap_wave.specs.Dumps.{head}
 use Rattle.sap_wave.specs.Examples.{variables, first, second, wave, text, Written, Read, OtherNumber}
 use Rattle.sap_wave.proofs.Forms.{one_form}
 use Rattle.sap_wave.proofs.Lined.{ended_line}
 use Rattle.sap_wave.proofs.Going.{Goes}
 use Rattle.sap_wave.proofs.Changing.{open_at}
-use Rattle.sap_wave.proofs.Dumping.{dumps_read_back, head_goes}
+use Rattle.sap_wave.proofs.Dumping.{head_goes}
 
 are_variables : AreVariables variables
 unfolding is_name
@@ -35,11 +35,11 @@ second_fit : NumbersFit variables second
 second_fit = (omega arith, (omega arith, (omega arith, (omega arith, tt))))
 
 pub written : Written
-unfolding digits identifier bits
+unfolding numeral identifier bits
 written = refl
 
 pub read : Read
-read = subst (λ (z : List ℕ). IsReading z wave) written (dumps_read_back variables first (second ∷ []) are_variables first_fit (second_fit, tt) (omega arith))
+read = record { fits = record { variables = are_variables; begun = omega arith; numbers = (first_fit, (second_fit, tt)) }; is_dump = sym written }
 
 goes_stops : (n : ℕ) (s t : State) (fs : List Form) (rest : List Line) (line : ℕ) (code : WaveCode) → Goes s fs t → StopsFrom (n + length fs) t rest line code
     → StopsFrom n s (map ended_line fs ++ rest) line code
@@ -72,7 +72,7 @@ abbrev other_rest : List Line
 other_rest = ended_line other_block ∷ (ended_line (change (codes "00000010") (codes "!")) ∷ (ended_line (change (codes "00000001") (codes "#")) ∷ []))
 
 other_lines : lines_of (text (codes "#2")) ≡ map ended_line (head variables first) ++ other_rest
-unfolding lines_of digits identifier bits
+unfolding lines_of numeral identifier bits
 other_lines = refl
 
 pub other_number : OtherNumber

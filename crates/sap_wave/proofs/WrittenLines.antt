@@ -1,13 +1,13 @@
 -- Lines that are written one after another, from left to right.
 use Rattle.std.proofs.Common.{◌≡◌, ℕ, zero, suc, ◌+◌, ◌<◌, ◌≤◌, List, [], ◌∷◌, ◌++◌, Bool, true, false, Result, OnOk, length, length-append, get_or, drop, refl, sym, ap, ◌∙◌, arith, append_assoc}
 use Rattle.std.specs.Prelude.{◌==◌, if◌then◌else◌}
-use Rattle.std.specs.Fmt.{decimal}
 use Rattle.std.proofs.Math.Seq.{drop-cons}
 use Rattle.std.proofs.lemmas.List.{append-nil}
 use Rattle.sap_lemmas.proofs.Lists.{append_three, drop_past}
 use Rattle.sap_lemmas.proofs.Options.{on_ok}
 use Rattle.sap_text.specs.Places.{line}
 use Rattle.sap_wave.specs.declared.variable.Variable.{Variable}
+use Rattle.sap_wave.specs.Digits.{numeral}
 use Rattle.sap_wave.specs.Lines.{Form, timescale, scope, upscope, end_definitions, block, form_text, text_of}
 use Rattle.sap_wave.specs.Dumps.{declaration, declarations, set_to, all_set, changes, head}
 
@@ -50,8 +50,8 @@ abbrev pub closing : List ℕ
 closing = text_of (upscope ∷ (end_definitions ∷ []))
 
 head_parts : (xs : List Variable) (first : List ℕ)
-    → opening ++ (text_of (declarations 0 xs) ++ (closing ++ (line (form_text (block (decimal 0))) ++ text_of (all_set 0 xs first)))) ≡ text_of (head xs first)
-head_parts xs first = ap (λ (x : List ℕ). opening ++ x) (sym (text_append (declarations 0 xs) (upscope ∷ (end_definitions ∷ (block (decimal 0) ∷ all_set 0 xs first)))))
+    → opening ++ (text_of (declarations 0 xs) ++ (closing ++ (line (form_text (block (numeral 0))) ++ text_of (all_set 0 xs first)))) ≡ text_of (head xs first)
+head_parts xs first = ap (λ (x : List ℕ). opening ++ x) (sym (text_append (declarations 0 xs) (upscope ∷ (end_definitions ∷ (block (numeral 0) ∷ all_set 0 xs first)))))
 
 five_parts : (out a b c d e p q r s t : List ℕ) → a ≡ out ++ p → b ≡ a ++ q → c ≡ b ++ r → d ≡ c ++ s → e ≡ d ++ t → e ≡ out ++ (p ++ (q ++ (r ++ (s ++ t))))
 five_parts out a b c d e p q r s t i j k l m =
@@ -66,11 +66,11 @@ five_parts out a b c d e p q r s t i j k l m =
     ∙ append_assoc out p (q ++ (r ++ (s ++ t)))
 
 pub head_written : {T E : Type 0} (result : Result T E) (xs : List Variable) (first out a b c d e : List ℕ) → a ≡ out ++ opening → b ≡ a ++ text_of (declarations 0 xs)
-    → c ≡ b ++ closing → d ≡ c ++ line (form_text (block (decimal 0))) → OnOk result (e ≡ d ++ text_of (all_set 0 xs first))
+    → c ≡ b ++ closing → d ≡ c ++ line (form_text (block (numeral 0))) → OnOk result (e ≡ d ++ text_of (all_set 0 xs first))
     → OnOk result (e ≡ out ++ text_of (head xs first))
 head_written result xs first out a b c d e i j k l m =
     on_ok result (e ≡ d ++ text_of (all_set 0 xs first)) (e ≡ out ++ text_of (head xs first))
-    (λ n. five_parts out a b c d e opening (text_of (declarations 0 xs)) closing (line (form_text (block (decimal 0)))) (text_of (all_set 0 xs first)) i j k l n
+    (λ n. five_parts out a b c d e opening (text_of (declarations 0 xs)) closing (line (form_text (block (numeral 0)))) (text_of (all_set 0 xs first)) i j k l n
     ∙ ap (λ (x : List ℕ). out ++ x) (head_parts xs first))
     m
 

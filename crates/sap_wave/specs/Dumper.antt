@@ -1,6 +1,6 @@
 -- What a dumper keeps.
 use Rattle.std.specs.Prelude.{◌≡◌, ℕ, ◌≤◌, List, length}
-use Rattle.sap_wave.specs.Dumps.{AreVariables}
+use Rattle.sap_wave.specs.Waves.{AreVariables}
 use Rattle.sap_wave.specs.Dumping.{Dumping, block_room}
 
 -- One number for each variable, and memory for the numbers of the next block and for so many bytes of its text.

@@ -6,7 +6,7 @@ use Rattle.sap_cycle.specs.Running.{Running, Shows, seen}
 use Rattle.sap_wave.specs.declared.variable.Variable.{Variable}
 use Rattle.sap_wave.specs.Digits.{identifier}
 use Rattle.sap_wave.specs.Lines.{text_of}
-use Rattle.sap_wave.specs.Dumps.{block_of, head}
+use Rattle.sap_wave.specs.Dumps.{block_of, head, last_among}
 use Rattle.sap_wave.specs.Runs.{initial_numbers, numbers_after, run_dump, variables_of}
 
 pub record Dumping : Type 0 where
@@ -51,11 +51,6 @@ changes_room k (x ∷ xs) = x.width + length (identifier k) + 3 + changes_room (
 -- how many bytes a block takes at most: its number is counted as 20 digits
 abbrev pub block_room : List Variable → ℕ
 block_room xs = 22 + changes_room 0 xs
-
--- the last of some numbers, or those before them
-abbrev pub last_among : (before : List ℕ) → List (List ℕ) → List ℕ
-last_among before [] = before
-last_among before (after ∷ rest) = last_among after rest
 
 -- the numbers after the last of these cycles
 abbrev pub last_numbers : Net → List Valuation → List ℕ

@@ -1,17 +1,13 @@
--- The dump of variables and their numbers: its lines, by their forms.
-use Rattle.std.specs.Prelude.{◌≡◌, ℕ, ◌+◌, ◌<◌, ◌^◌, List, [], ◌∷◌, ◌++◌, true, ◌==◌, if◌then◌else◌}
-use Rattle.std.specs.Fmt.{decimal}
-use Rattle.std.specs.List.{AllByRecursion, AllZip}
-use Rattle.sap_maps.specs.Ranges.{IsWidth}
-use Rattle.sap_net.specs.Names.{is_name, AreDistinct}
-use Rattle.sap_wave.specs.Digits.{identifier, bits}
+-- The dump of variables and their numbers, line by line, and what a dump is read as.
+use Rattle.std.specs.Prelude.{◌≡◌, ℕ, ◌+◌, List, [], ◌∷◌, ◌++◌, ◌==◌, drop, get_or, if◌then◌else◌}
+use Rattle.sap_wave.specs.Digits.{bits, identifier, numeral}
 use Rattle.sap_wave.specs.Lines.{Form, timescale, scope, upscope, end_definitions, variable, block, change, text_of}
+use Rattle.sap_wave.specs.Waves.{IsFit, Wave}
 use Rattle.sap_wave.specs.declared.variable.Variable.{Variable}
-use Rattle.sap_wave.specs.Reading.{names_of}
 
 -- variable k is declared
 abbrev pub declaration : (k : ℕ) → Variable → Form
-declaration k x = variable (decimal x.width) (identifier k) x.name
+declaration k x = variable (numeral x.width) (identifier k) x.name
 
 -- each variable, the first of which has the number k
 abbrev pub declarations : (k : ℕ) → List Variable → List Form
@@ -38,16 +34,21 @@ changes k (x ∷ xs) (m ∷ ms) (n ∷ ns) = if m == n then changes (k + 1) xs m
 -- the head of a dump, with block 0
 abbrev pub head : List Variable → (first : List ℕ) → List Form
 head xs first =
-    timescale ∷ (scope ∷ (declarations 0 xs ++ (upscope ∷ (end_definitions ∷ (block (decimal 0) ∷ all_set 0 xs first)))))
+    timescale ∷ (scope ∷ (declarations 0 xs ++ (upscope ∷ (end_definitions ∷ (block (numeral 0) ∷ all_set 0 xs first)))))
 
 -- block n
 abbrev pub block_of : (n : ℕ) → List Variable → (before after : List ℕ) → List Form
-block_of n xs before after = block (decimal n) ∷ changes 0 xs before after
+block_of n xs before after = block (numeral n) ∷ changes 0 xs before after
 
 -- the blocks from n on, by the numbers before them and after each
 abbrev pub blocks_from : (n : ℕ) → List Variable → (before : List ℕ) → List (List ℕ) → List Form
 blocks_from n xs before [] = []
 blocks_from n xs before (after ∷ rest) = block_of n xs before after ++ blocks_from (n + 1) xs after rest
+
+-- the last of some numbers, or those before them
+abbrev pub last_among : (before : List ℕ) → List (List ℕ) → List ℕ
+last_among before [] = before
+last_among before (after ∷ rest) = last_among after rest
 
 abbrev pub dump : List Variable → (first : List ℕ) → (rest : List (List ℕ)) → List Form
 dump xs first rest = head xs first ++ blocks_from 1 xs first rest
@@ -55,12 +56,11 @@ dump xs first rest = head xs first ++ blocks_from 1 xs first rest
 abbrev pub dump_text : List Variable → (first : List ℕ) → (rest : List (List ℕ)) → List ℕ
 dump_text xs first rest = text_of (dump xs first rest)
 
--- variables that can be declared
-pub record AreVariables (xs : List Variable) : Type 0 where
-  pub named : AllByRecursion (λ x. is_name x.name ≡ true) xs
-  pub sized : AllByRecursion (λ x. IsWidth x.width) xs
-  pub distinct : AreDistinct (names_of xs)
+-- the dump of a wave that has a block 0
+abbrev pub dump_of : Wave → List ℕ
+dump_of w = dump_text w.variables (get_or w.blocks 0 []) (drop 1 w.blocks)
 
--- one number for each variable, within its width
-abbrev pub NumbersFit : List Variable → List ℕ → Type 0
-NumbersFit = AllZip (λ (x : Variable) (n : ℕ). n < 2 ^ x.width)
+-- The reading of a dump: the bytes are the dump of this wave.
+pub record IsReading (bytes : List ℕ) (w : Wave) : Type 0 where
+  pub fits : IsFit w
+  pub is_dump : bytes ≡ dump_of w

@@ -4,9 +4,9 @@ use Rattle.sap_text.specs.Places.{line}
 use Rattle.sap_wave.specs.declared.fault.WaveCode.TheVariants.{Y4}
 use Rattle.sap_wave.specs.Digits.{identifier, bits}
 use Rattle.sap_wave.specs.declared.variable.Variable.{Variable}
-use Rattle.sap_wave.specs.Reading.{Wave, IsReading}
+use Rattle.sap_wave.specs.Waves.{Wave}
 use Rattle.sap_wave.specs.Faults.{IsFault}
-use Rattle.sap_wave.specs.Dumps.{dump_text}
+use Rattle.sap_wave.specs.Dumps.{IsReading, dump_text}
 
 abbrev pub of_width : ℕ → List ℕ → Variable
 of_width width name = record { name = name; width = width }

@@ -10,7 +10,8 @@ use Rattle.sap_wave.specs.Digits.{identifier, number_spelled, bits_number}
 use Rattle.sap_text.specs.Lines.{Line, lines_of}
 use Rattle.sap_wave.specs.Lines.{Form, variable, block, change, IsLine}
 use Rattle.sap_wave.specs.declared.variable.Variable.{Variable}
-use Rattle.sap_wave.specs.Reading.{OpenBlock, State, before_timescale, declaring, before_blocks, in_block, is_for, is_first, is_full, names_of, width_at, number_now, IsKnown, Takes, after}
+use Rattle.sap_wave.specs.Waves.{names_of}
+use Rattle.sap_wave.specs.Reading.{OpenBlock, State, before_timescale, declaring, before_blocks, in_block, is_for, is_first, is_full, width_at, number_now, IsKnown, Takes, after}
 
 -- an identifier that isn't its number's, a width that isn't 1 to 64, no name, a name that stands earlier
 pub data Misdeclared (xs : List Variable) (width id name : List ℕ) : Type 0 where

@@ -2,9 +2,10 @@ pub mod Digits
 pub mod Code
 pub mod FaultTexts
 pub mod Lines
+pub mod Waves
+pub mod Dumps
 pub mod Reading
 pub mod Faults
-pub mod Dumps
 pub mod Runs
 pub mod Shown
 pub mod Dumping

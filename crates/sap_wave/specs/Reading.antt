@@ -1,22 +1,15 @@
--- The reading of a dump: which variables it has, and their numbers after each block.
+-- A dump line by line: which line can come behind others, and what was read then. Its faults are said by this; a law says that what reads so is the
+-- dump of a wave.
 use Rattle.std.specs.Prelude.{◌≡◌, ◌≢◌, ℕ, ◌+◌, ◌<◌, ◌≤◌, List, [], ◌∷◌, ◌++◌, Bool, true, false, Option, Some, None, is_some, unwrap_or, map, length, get_or, set, ◌==◌}
 use Rattle.std.specs.List.{list_all}
 use Rattle.std.specs.Str.Parse.{digits_value}
-use Rattle.sap_maps.specs.Maps.{Name}
 use Rattle.sap_maps.specs.Ranges.{IsWidth}
 use Rattle.sap_net.specs.Names.{is_name, is_among}
 use Rattle.sap_wave.specs.declared.variable.Variable.{Variable}
 use Rattle.sap_wave.specs.Digits.{identifier, number_spelled, bits_number}
 use Rattle.sap_text.specs.Lines.{Line, lines_of}
+use Rattle.sap_wave.specs.Waves.{Wave, names_of}
 use Rattle.sap_wave.specs.Lines.{Form, timescale, scope, upscope, end_definitions, variable, block, change, IsLine}
-
--- the variables in order, and the number of each after each block, block 0 first
-pub record Wave : Type 0 where
-  pub variables : List Variable
-  pub blocks : List (List ℕ)
-
-abbrev pub names_of : List Variable → List Name
-names_of xs = map (λ x. x.name) xs
 
 abbrev pub nothing : Variable
 nothing = record { name = []; width = 0 }
@@ -136,8 +129,8 @@ abbrev pub Ends : State → Wave → Type 0
 Ends (in_block xs o) w = (is_full o.now ≡ true) × (w ≡ record { variables = xs; blocks = blocks_of o })
 Ends _ w = ⊥
 
--- the bytes are a dump of these variables and numbers
-pub record IsReading (bytes : List ℕ) (w : Wave) : Type 0 where
+-- the bytes are lines that can come one after another, and a whole wave was read then
+pub record ReadsSo (bytes : List ℕ) (w : Wave) : Type 0 where
   pub last : State
   pub lines : Reads before_timescale (lines_of bytes) last
   pub ends : Ends last w

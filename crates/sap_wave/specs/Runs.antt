@@ -7,8 +7,8 @@ use Rattle.sap_net.specs.IsNetlist.{width_of}
 use Rattle.sap_net.specs.Shown.{is_register}
 use Rattle.sap_net.specs.Runs.{observed, initial_number}
 use Rattle.sap_wave.specs.declared.variable.Variable.{Variable}
-use Rattle.sap_wave.specs.Reading.{Wave}
-use Rattle.sap_wave.specs.Dumps.{dump_text}
+use Rattle.sap_wave.specs.Waves.{Wave}
+use Rattle.sap_wave.specs.Dumps.{dump_of}
 
 -- the registers that these ports show, in their order
 abbrev pub variables_among : Net → List Port → List Variable
@@ -27,9 +27,9 @@ initial_numbers n = initial_of n (variables_of n)
 abbrev pub numbers_after : Net → Valuation → List ℕ
 numbers_after n v = map (λ x. (observed n v).value x.name) (variables_of n)
 
--- what is written of a run, and what it tells
-abbrev pub run_dump : Net → List Valuation → List ℕ
-run_dump n vs = dump_text (variables_of n) (initial_numbers n) (map (numbers_after n) vs)
-
+-- a run as a wave, and what is written of it
 abbrev pub run_wave : Net → List Valuation → Wave
 run_wave n vs = record { variables = variables_of n; blocks = initial_numbers n ∷ map (numbers_after n) vs }
+
+abbrev pub run_dump : Net → List Valuation → List ℕ
+run_dump n vs = dump_of (run_wave n vs)

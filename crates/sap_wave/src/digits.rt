@@ -1,12 +1,22 @@
 //! Numbers as the digits of a dump.
 
 ghost use Rattle.std.specs.Prelude.{◌≡◌, ◌+◌, ◌<◌, ◌≤◌, ◌++◌, OnErr, OnOk, length, vec_capacity};
-ghost use Rattle.sap_wave.specs.Digits.{bits, identifier};
+ghost use Rattle.sap_wave.specs.Digits.{bits, identifier, numeral};
 
+use sap_text::digits::push_number;
 use std::alloc::AllocError;
 
 /// How many identifiers have one digit.
 const IDENTIFIER_BASE: usize = 94;
+
+/// Appends a number in base 10.
+pub fn push_numeral(out: &mut Vec<u8>, number: u64) -> Result<(), AllocError>
+    ensures text { OnOk result (out.new.items ≡ out.old.items ++ numeral number) }
+    ensures room { vec_capacity out.old ≤ vec_capacity out.new }
+    ensures full { OnErr result (vec_capacity out.old < length out.old.items + length (numeral number)) }
+{
+    push_number(out, number)
+}
 
 /// Appends a number in so many binary digits, the highest first.
 pub fn push_bits(out: &mut Vec<u8>, width: u32, number: u64) -> Result<(), AllocError>

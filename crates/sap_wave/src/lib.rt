@@ -11,17 +11,18 @@ mod room;
 mod texts;
 pub mod variable;
 
-ghost use Rattle.sap_wave.specs.Digits.{OneIdentifier, BitsReadBack};
-ghost use Rattle.sap_wave.specs.Laws.{OneWaveOrFault, EachWaveOrFault, DumpsAddUp, DumpsReadBack, RunsReadBack};
+ghost use Rattle.sap_wave.specs.Digits.{OneIdentifier, OneNumeral, BitsReadBack};
+ghost use Rattle.sap_wave.specs.Laws.{OneWaveOrFault, EachWaveOrFault, DumpsAddUp, DumpsReadSo, RunsReadBack};
 ghost use Rattle.sap_wave.specs.Examples as examples;
 
 pub use dumper::Dumper;
 pub use fault::{WaveCode, WaveFault};
 pub use variable::Variable;
 
-/// Each variable's number has exactly one identifier, and the digits of a number spell it.
+/// Each variable's number has exactly one identifier, each number exactly one numeral, and the bits of a number spell it.
 pub fn digits_read_back()
     ensures identifiers { OneIdentifier }
+    ensures numerals { OneNumeral }
     ensures bits { BitsReadBack }
 {}
 
@@ -31,9 +32,9 @@ pub fn one_wave_or_fault()
     ensures each { EachWaveOrFault }
 {}
 
-/// A dump reads back as what was written.
-pub fn dumps_read_back()
-    ensures { DumpsReadBack }
+/// A text is the dump of a wave exactly where its lines, one by one, read as that wave.
+pub fn dumps_read_line_by_line()
+    ensures { DumpsReadSo }
 {}
 
 /// The dump of a netlist's run reads back as the run: first the initial numbers, then those after each cycle's edge.

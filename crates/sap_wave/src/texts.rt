@@ -1,25 +1,24 @@
 //! The lines of a dump.
 
 ghost use Rattle.std.specs.Prelude.{◌≡◌, ◌+◌, ◌<◌, ◌≤◌, ◌++◌, ◌∷◌, All, OnErr, OnOk, length, vec_capacity};
-ghost use Rattle.std.specs.Fmt.{decimal};
 ghost use Rattle.sap_text.specs.Places.{line};
 ghost use Rattle.sap_maps.specs.Ranges.{IsWidth};
+ghost use Rattle.sap_wave.specs.Digits.{numeral};
 ghost use Rattle.sap_wave.specs.Lines.{block, form_text, text_of};
 ghost use Rattle.sap_wave.specs.Dumps.{all_set, changes, declaration, declarations, head, set_to};
 
-use crate::digits::{push_bits, push_identifier};
+use crate::digits::{push_bits, push_identifier, push_numeral};
 use crate::variable::Variable;
-use sap_text::digits::push_number;
 use std::alloc::AllocError;
 
 /// Appends the line that begins a block.
 pub fn push_block(out: &mut Vec<u8>, number: u64) -> Result<(), AllocError>
-    ensures text { OnOk result (out.new.items ≡ out.old.items ++ line (form_text (block (decimal number)))) }
+    ensures text { OnOk result (out.new.items ≡ out.old.items ++ line (form_text (block (numeral number)))) }
     ensures room { vec_capacity out.old ≤ vec_capacity out.new }
-    ensures full { OnErr result (vec_capacity out.old < length out.old.items + length (line (form_text (block (decimal number))))) }
+    ensures full { OnErr result (vec_capacity out.old < length out.old.items + length (line (form_text (block (numeral number))))) }
 {
     out.extend_from_slice(b"#")?;
-    push_number(out, number)?;
+    push_numeral(out, number)?;
     out.extend_from_slice(b"\n")
 }
 
@@ -85,7 +84,7 @@ fn push_declaration(out: &mut Vec<u8>, place: usize, variable: &Variable) -> Res
     ensures { OnOk result (out.new.items ≡ out.old.items ++ line (form_text (declaration place variable.now))) }
 {
     out.extend_from_slice(b"$var reg ")?;
-    push_number(out, u64::from(variable.width))?;
+    push_numeral(out, u64::from(variable.width))?;
     out.extend_from_slice(b" ")?;
     push_identifier(out, place)?;
     out.extend_from_slice(b" ")?;
