@@ -27,7 +27,7 @@ use Rattle.sap_net.proofs.Within.{nexts_below, widths_are}
 use Rattle.sap_wave.specs.declared.variable.Variable.{Variable}
 use Rattle.sap_wave.specs.Waves.{AreVariables, NumbersFit, names_of}
 use Rattle.sap_net.specs.Shown.{is_register}
-use Rattle.sap_wave.specs.Runs.{variables_among, variables_of, initial_numbers, numbers_after}
+use Rattle.sap_wave.specs.Runs.{variables_among, variables_of, numbers_after}
 use Rattle.sap_wave.specs.Laws.{RunsReadBack}
 
 -- The registers of a netlist.

@@ -1,16 +1,16 @@
 -- What reads line by line is the dump of the wave that it tells, and the other way round.
-use Rattle.std.proofs.Common.{◌≡◌, ℕ, ◌≤◌, List, [], ◌∷◌, ◌++◌, Bool, true, length, drop, get_or, refl, sym, ap, ◌∙◌, arith, subst}
+use Rattle.std.proofs.Common.{◌≡◌, ℕ, List, [], ◌∷◌, ◌++◌, Bool, length, drop, get_or, refl, sym, ap, ◌∙◌, arith, subst}
 use Rattle.std.specs.Prelude.{if◌then◌else◌}
 use Rattle.std.proofs.lemmas.List.{append-nil}
 use Rattle.sap_text.specs.Lines.{Line, lines_of}
 use Rattle.sap_wave.specs.Lines.{Form, form_text, text_of, IsLine}
 use Rattle.sap_wave.specs.Waves.{Wave, IsFit}
 use Rattle.sap_wave.specs.Dumps.{IsReading, dump_of, dump_text}
-use Rattle.sap_wave.specs.Reading.{State, before_timescale, in_block, blocks_of, numbers_in, after, Reads, Ends, ReadsSo}
+use Rattle.sap_wave.specs.Reading.{State, before_timescale, in_block, after, Reads, Ends, ReadsSo}
 use Rattle.sap_wave.specs.Laws.{DumpsReadSo}
 use Rattle.sap_wave.proofs.Lined.{text_of_lines, lines_back}
 use Rattle.sap_wave.proofs.Lists.{one_further}
-use Rattle.sap_wave.proofs.Told.{Told, Whole, is_over, tells}
+use Rattle.sap_wave.proofs.Told.{Told, is_over, tells}
 use Rattle.sap_wave.proofs.Dumping.{dump_reads}
 
 line_text : (l : Line) (f : Form) → IsLine l f → l.text ++ (if l.ended then 10 ∷ [] else []) ≡ form_text f ++ (10 ∷ [])

@@ -12,7 +12,7 @@ use Rattle.sap_wave.specs.Reading.{State, before_timescale, in_block, after}
 use Rattle.sap_wave.specs.Faults.{Stands, no_form, wrong, IsWrong, StopsFrom}
 use Rattle.sap_wave.specs.Waves.{AreVariables, NumbersFit}
 use Rattle.sap_wave.specs.Dumps.{head}
-use Rattle.sap_wave.specs.Examples.{variables, first, second, wave, text, Written, Read, OtherNumber}
+use Rattle.sap_wave.specs.Examples.{variables, first, second, text, Written, Read, OtherNumber}
 use Rattle.sap_wave.proofs.Forms.{one_form}
 use Rattle.sap_wave.proofs.Lined.{ended_line}
 use Rattle.sap_wave.proofs.Going.{Goes}
