@@ -18,7 +18,7 @@ use Rattle.sap_wave.specs.Digits.{is_digit, are_digits, bits, bits_number, numbe
 use Rattle.sap_wave.specs.Lines.{Form, timescale, scope, upscope, end_definitions, variable, block, change, is_formed, is_id, is_number, is_piece}
 use Rattle.sap_wave.specs.declared.variable.Variable.{Variable}
 use Rattle.sap_wave.specs.Waves.{AreVariables, NumbersFit, names_of}
-use Rattle.sap_wave.specs.Dumps.{all_set, block_of, blocks_from, changes, declaration, declarations, dump, head, last_among, set_to}
+use Rattle.sap_wave.specs.Dumps.{all_set, block_of, blocks_from, declaration, declarations, dump, head, last_among, set_to}
 use Rattle.sap_wave.specs.Reading.{OpenBlock, State, before_timescale, before_scope, declaring, before_end, before_blocks, in_block, is_first, is_full, numbers_in, blocks_of, nothing, width_at, IsVariable, IsChange, IsNextBlock, Takes, after, first_block, next_block, changed}
 use Rattle.sap_wave.proofs.DigitsLemmas.{bits_read_back, bits_number_below}
 use Rattle.sap_wave.proofs.Formed.{number_spells}
