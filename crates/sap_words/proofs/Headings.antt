@@ -1,6 +1,6 @@
 -- The code's table is that of the rows.
 use Rattle.std.proofs.Common.{◌≡◌, ◌∙◌, ℕ, List, [], ◌∷◌, Bool, true, false, Option, Some, None, ap, refl, sym, map, inl, inr, ◌&&◌}
-use Rattle.std.specs.Prelude.{◌||◌, bytes_eq, find, fold, is_some, length, not, option_and_then, option_map, take, if◌then◌else◌}
+use Rattle.std.specs.Prelude.{◌||◌, bytes_eq, find, fold, is_some, length, not, option_and_then, option_map, take}
 use Rattle.std.specs.List.{list_all}
 use Rattle.std.proofs.lemmas.Bool.{cases_Bool}
 use Rattle.std.proofs.lemmas.List.Folds.{list_all-map}

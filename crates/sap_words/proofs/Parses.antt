@@ -1,21 +1,21 @@
 -- What `clap` makes of words whose first is the name of a row.
-use Rattle.std.proofs.Common.{◌≡◌, ◌∙◌, List, [], ◌∷◌, ◌++◌, Some, None, Bool, true, false, ap, ap₂, refl, sym, map, ◌&&◌}
+use Rattle.std.proofs.Common.{◌≡◌, ◌∙◌, List, [], ◌∷◌, ◌++◌, Some, Bool, true, false, ap, ap₂, refl, sym, map, ◌&&◌}
 use Rattle.std.specs.Prelude.{Contains, Option, ◌||◌, bytes_eq, codes, find, fold, is_some, not, option_map}
 use Rattle.std.specs.List.{list_all}
 use Rattle.std.specs.Option.{option_map_or}
 use Rattle.clap.specs.Words.{App, Text, built, is_simple, subcommand_of, takes}
 use Rattle.clap.specs.Simple.{Shape, entered, label_of, names_of, new_shape, rows_at}
 use Rattle.clap.specs.Takes.{built_takes, default_passes, entered_passes, is_valid, level_passes, other_passes, settle_passes, step_passes, turn_passes, walk_passes}
-use Rattle.clap.specs.Walk.{Names, Walk, after_step, answers_to, finished, idle, nothing_held, rows_after, stop_after, subcommand_or_other, walk, walked}
+use Rattle.clap.specs.Walk.{Names, Walk, after_step, answers_to, finished, idle, nothing_held, stop_after, subcommand_or_other, walk, walked}
 use Rattle.clap.proofs.OnLiterals.{clap_on_literals}
 use Rattle.clap.proofs.WalkLemmas.{find-map, walk_stopped}
 use Rattle.sap_lemmas.proofs.Bools.{or_false}
 use Rattle.sap_lemmas.proofs.Texts.{bytes_eq_symmetric}
-use Rattle.sap_words.specs.Words.{Row, commands, row_named}
+use Rattle.sap_words.specs.Words.{Row, commands}
 use Rattle.sap_words.specs.Table.{AreOperands}
 use Rattle.sap_words.specs.Parser.{parser}
 use Rattle.sap_words.proofs.Rows.{named}
-use Rattle.sap_words.proofs.Walks.{AsMany, Level, at, givens, leaf, row_level}
+use Rattle.sap_words.proofs.Walks.{AsMany, at, givens, leaf, row_level}
 
 -- ---- the command line, as it is built
 

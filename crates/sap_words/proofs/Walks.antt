@@ -1,5 +1,5 @@
 -- What `clap` makes of the operands of a command.
-use Rattle.std.proofs.Common.{◌≡◌, ◌∙◌, ◌+◌, ◌++◌, ℕ, List, [], ◌∷◌, Option, Some, None, Bool, true, false, ap, ap₂, refl, sym, subst, arith, map, ◌&&◌, inl, inr, append_assoc}
+use Rattle.std.proofs.Common.{◌≡◌, ◌∙◌, ◌+◌, ◌++◌, ℕ, List, [], ◌∷◌, Option, Some, None, Bool, true, false, ap, ap₂, refl, subst, arith, map, ◌&&◌, inl, inr, append_assoc}
 use Rattle.std.specs.Prelude.{◌||◌, not, nat_eq, min, fold, take, length, slice_get, unwrap_or, bytes_eq, Contains, if◌then◌else◌}
 use Rattle.std.specs.List.{AllByRecursion, list_all}
 use Rattle.std.specs.Option.{option_map_or}
@@ -10,7 +10,7 @@ use Rattle.clap.specs.Values.{reading_of}
 use Rattle.clap.specs.Words.{Row, Rule, Text, first_of}
 use Rattle.clap.specs.Simple.{Shape, filled, filled_from, new_shape, with_index}
 use Rattle.clap.specs.Takes.{default_passes, is_valid, level_passes, positional_passes, settle_passes, step_passes, turn_passes, use_passes, values_pass, walk_passes}
-use Rattle.clap.specs.Walk.{Held, Walk, arg_by_id, arg_by_index, at_row, finished, has_row, idle, more_values, nothing_held, pushed, rows_after, settled, to_positional, used, used_by_id, value, walk, walked, with_default, with_values, without}
+use Rattle.clap.specs.Walk.{Held, Walk, arg_by_id, arg_by_index, at_row, has_row, idle, more_values, nothing_held, pushed, rows_after, settled, to_positional, used, used_by_id, value, walked, with_default, with_values}
 use Rattle.clap.specs.declared.builder.value_parser.ValueParser.TheVariants as vp
 use Rattle.clap.specs.declared.parser.matches.ValueSource.TheVariants.{CommandLine}
 use Rattle.sap_lemmas.proofs.Bools.{and_false}
