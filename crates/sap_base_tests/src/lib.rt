@@ -4,6 +4,8 @@
 #[cfg(test)]
 mod desks;
 #[cfg(test)]
+mod lines;
+#[cfg(test)]
 mod modules;
 #[cfg(test)]
 mod rows;

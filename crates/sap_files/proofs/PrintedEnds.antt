@@ -1,21 +1,23 @@
 -- From what comes of a stimulus that is printed to how the command ends.
 use Rattle.std.proofs.Common.{◌≡◌, ℕ, ◌-◌, List, [], ◌++◌, take, refl, sym, ◌∙◌, ap, subst, inl, inr, ◌⊎◌}
-use Rattle.std.specs.Prelude.{◌^◌, Bool, cond, codes, Option, Some, None}
-use Rattle.sap_desk.specs.Desk.{Told, Use, reads, IsWriting, bytes_of}
+use Rattle.std.specs.Prelude.{◌^◌, Bool, cond, Option, Some, None}
+use Rattle.std.proofs.lemmas.List.{append-nil}
+use Rattle.sap_desk.specs.Desk.{Told, Use, reads, IsWriting, blamed, bytes_of}
 use Rattle.sap_desk.specs.Cause.{counted}
 use Rattle.sap_desk.specs.Whole.{Between}
 use Rattle.sap_desk.proofs.Steps.{other_number}
 use Rattle.sap_lattice.specs.Levels.{Levels}
 use Rattle.sap_stim.specs.declared.fault.StimFault.{StimFault}
 use Rattle.sap_stim.specs.declared.field.Field.{Field}
-use Rattle.sap_lines.specs.Stepping.Followed.{IsFaultOfSome, blamed_for}
-use Rattle.sap_lines.specs.Stepping.Pace.{FaultOf, IsWritten, KeepsPace, Prints, Shows, TellsRefusal, printed_fault, printed_text}
-use Rattle.sap_lines.specs.Stepping.Printed.{BreaksOff, IsPartOf, Printed, StaysOpen, Stops, StopsFor, Unprinted}
-use Rattle.sap_lines.specs.declared.stepping.stopped.Stopped.{Stopped}
-use Rattle.sap_lines.specs.declared.stepping.stopped.Stopped.TheVariants.{Input, Output as OnOutput, Memory}
+use Rattle.sap_lines.specs.Stepping.Followed.{FailsFor, IsFaultOfSome, IsPartShown, blamed_for}
+use Rattle.sap_lines.specs.Stepping.Pace.{FaultOf, IsWritten, Prints, Shows, TellsRefusal, printed_fault, printed_text}
+use Rattle.sap_lines.specs.Stepping.Printed.{CallFailed, CutShort, MissingOrTooLong, Printed, StaysOpen, Stops}
+use Rattle.sap_lines.specs.declared.stepping.stopped.FailedCall.{FailedCall}
+use Rattle.sap_lines.specs.declared.stepping.stopped.FailedCall.TheVariants.{Input, Output as OnOutput}
+use Rattle.sap_lines.specs.declared.stepping.stopped.Stopped.TheVariants.{Call, Memory}
 use Rattle.sap_files.specs.Ending.{Ending, done, refused, failed, no_memory, IsFree}
 use Rattle.sap_files.specs.Asks.{prints, Cause, Files, IsCut, Leaves, MayEnd, Output, Shows as ShowsOn, end_of}
-use Rattle.sap_files.specs.After.{Blames, Stands, StandsFailed}
+use Rattle.sap_files.specs.After.{Blames, Stands}
 use Rattle.sap_files.specs.Outside.{OutsideOf}
 use Rattle.sap_files.specs.Steps.{Counted, Ends, FaultRose, HasWhole, Left, Moment}
 use Rattle.sap_files.proofs.Ended.{between_map, starved_left}
@@ -29,17 +31,10 @@ between_caused F P C Q (Some t) (Some n) h p c = h t n p c
 
 -- channel 2 is open as before
 
-stays_lines : (why : Stopped) (name : List ℕ) (text : Prints) (fault : FaultOf) (t : Told) (gained : List ℕ) (before after : ℕ → Use) → StaysOpen why name text fault t gained before after
+stays_lines : (why : FailedCall) (name : List ℕ) (text : Prints) (fault : FaultOf) (t : Told) (gained : List ℕ) (before after : ℕ → Use) → StaysOpen why name text fault t gained before after
     → after 2 ≡ before 2
 stays_lines why name text fault t gained before after s =
     ap (λ (u : ℕ → Use). u 2) s.uses ∙ ap (λ (b : Bool). cond b (reads name s.position) (before 2)) (other_number 2 s.channel s.above)
-
-lines_use_after : (why : Stopped) (name : List ℕ) (text : Prints) (fault : FaultOf) (t : Told) (gained : List ℕ) (before after : ℕ → Use) → BreaksOff why name text fault t gained before after
-    → after 2 ≡ before 2
-lines_use_after Input name text fault t gained before after (inl (same, none)) = ap (λ (u : ℕ → Use). u 2) same
-lines_use_after Input name text fault t gained before after (inr s) = stays_lines Input name text fault t gained before after s
-lines_use_after OnOutput name text fault t gained before after s = stays_lines OnOutput name text fault t gained before after s
-lines_use_after Memory name text fault t gained before after (same, none) = ap (λ (u : ℕ → Use). u 2) same
 
 module _ (shows : Shows) (ls : Levels) (fs : List Field) (name : List ℕ) where
   abbrev pub text : (bytes given : List ℕ) → Type 0
@@ -101,71 +96,71 @@ module _ (shows : Shows) (ls : Levels) (fs : List Field) (name : List ℕ) where
 
   -- a call failed
 
-  cut_of : HasWhole shows ls fs → (gained : List ℕ) (t : Told) → (gained ≡ []) ⊎ IsPartOf shows ls fs name gained t → IsCut (prints name text faults_of) t gained
-  cut_of whole gained t (inl none) = inl none
-  cut_of whole gained t (inr part) =
-      let (all, shown, prefix) = whole part.bytes gained part.part in
-      inr (all, (end_of (faults_of part.bytes), (part.bytes, part.file, refl, shown)), prefix)
+  cut_of : HasWhole shows ls fs → (bytes gained : List ℕ) (t : Told) → t.files name ≡ Some bytes → IsPartShown shows ls fs bytes gained → IsCut (prints name text faults_of) t gained
+  cut_of whole bytes gained t file part =
+      let (all, shown, prefix) = whole bytes gained part in
+      inr (all, (end_of (faults_of bytes), (bytes, file, refl, shown)), prefix)
 
-  unprinted_left : HasWhole shows ls fs → (why : Stopped) (F : Type 0) (t n : Told) (u : Unprinted shows ls fs why name t n)
-      → StandsFailed (prints name text faults_of) t (blamed_for why name t.blame) u.gained t.uses n.uses
-      → (F → OutsideOf (prints name text faults_of) t n) → Left (prints name text faults_of) (failed (blamed_for why name t.blame)) F t n
-  unprinted_left whole why F t n u stands outside = record {
-    leaves = inl u.grew.files;
-    gained = u.gained;
-    output = u.grew.output;
-    shows = cut_of whole u.gained t u.part;
-    blames = u.blame;
-    stands = stands;
-    same = record { lines = u.grew.lines; lines_use = lines_use_after why name text faults_of t u.gained t.uses n.uses u.stands; room = u.grew.room };
+  cut_left : HasWhole shows ls fs → (why : FailedCall) (F : Type 0) (t n : Told) → CutShort shows ls fs name why t n → (F → OutsideOf (prints name text faults_of) t n)
+      → Left (prints name text faults_of) (failed (blamed_for why name)) F t n
+  cut_left whole why F t n s outside = record {
+    leaves = inl s.grew.files;
+    gained = s.gained;
+    output = s.grew.output;
+    shows = cut_of whole s.stays.bytes s.gained t s.stays.file s.part;
+    blames = s.blame;
+    stands = inr (why, refl, s.stays);
+    same = record { lines = s.grew.lines; lines_use = stays_lines why name text faults_of t s.gained t.uses n.uses s.stays; room = s.grew.room };
     cause = inl tt;
     outside = outside;
   }
 
-  full_output : (t n : Told) → StopsFor faults_of name OnOutput t n → OutsideOf (prints name text faults_of) t n
-  full_output t n full = inr (λ is. full (subst IsWriting (sym is) tt))
+  -- the file could not be opened
+  unopened_left : (F : Type 0) (t n : Told) → n ≡ blamed name t → (F → OutsideOf (prints name text faults_of) t n) → Left (prints name text faults_of) (failed name) F t n
+  unopened_left F t n is outside = record {
+    leaves = inl (ap (λ (x : Told). x.files) is);
+    gained = [];
+    output = ap (λ (x : Told). x.written 1) is ∙ sym (append-nil (t.written 1));
+    shows = inl refl;
+    blames = ap (λ (x : Told). x.blame) is;
+    stands = inl (refl, refl, ap (λ (x : Told). x.uses) is);
+    same = record { lines = ap (λ (x : Told). x.written 2) is; lines_use = ap (λ (x : Told). x.uses 2) is; room = ap (λ (x : Told). x.room) is };
+    cause = inl tt;
+    outside = outside;
+  }
 
-  -- a call on the file failed
+  outside_for : (why : FailedCall) (t n : Told) → FailsFor (MissingOrTooLong faults_of name) why t n → OutsideOf (prints name text faults_of) t n
+  outside_for Input t n unreadable = inl unreadable
+  outside_for OnOutput t n full = inr (λ is. full (subst IsWriting (sym is) tt))
 
-  input_left : HasWhole shows ls fs → (F : Type 0) (t n : Told) → Unprinted shows ls fs Input name t n → (F → StopsFor faults_of name Input t n)
-      → Left (prints name text faults_of) (failed name) F t n
-  input_left whole F t n u cause =
-      unprinted_left whole Input F t n u (inl (refl, u.stands)) (λ rose. inl (cause rose))
+  failed_left : HasWhole shows ls fs → (why : FailedCall) (F : Type 0) (t n : Told) → CallFailed shows ls fs name why t n → (F → FailsFor (MissingOrTooLong faults_of name) why t n)
+      → Left (prints name text faults_of) (failed (blamed_for why name)) F t n
+  failed_left whole why F t n (inl (on_input, is)) cause =
+      subst (λ (by : FailedCall). Left (prints name text faults_of) (failed (blamed_for by name)) F t n) (sym on_input)
+      (unopened_left F t n is (λ rose. outside_for why t n (cause rose)))
+  failed_left whole why F t n (inr s) cause = cut_left whole why F t n s (λ rose. outside_for why t n (cause rose))
 
-  output_left : HasWhole shows ls fs → (F : Type 0) (t n : Told) → Unprinted shows ls fs OnOutput name t n → (F → StopsFor faults_of name OnOutput t n)
-      → Left (prints name text faults_of) (failed (codes "output")) F t n
-  output_left whole F t n u cause =
-      unprinted_left whole OnOutput F t n u (inr (refl, u.stands)) (λ rose. full_output t n (cause rose))
-
+  -- there was no memory
   memory_left : (F : Type 0) (t n : Told) → n ≡ t → (F → ⊥) → Left (prints name text faults_of) no_memory F t n
   memory_left F t n is never = subst (λ (x : Told). Left (prints name text faults_of) no_memory F t x) (sym is) (starved_left (prints name text faults_of) F t never)
 
-  pub input_ends : HasWhole shows ls fs → (a b : Moment) → Between a.told b.told (Stops shows ls fs name Input) → (a.sure → Between a.told b.told (StopsFor faults_of name Input))
-      → b.faults ≡ counted a.faults → b.lost ≡ a.lost → (a.sure → b.sure) → Ends (prints name text faults_of) (failed name) a b
-  input_ends whole a b told cause faults lost sure = record {
-    told = between_caused (FaultRose a b) (Stops shows ls fs name Input) (StopsFor faults_of name Input) (Left (prints name text faults_of) (failed name) (FaultRose a b)) a.told b.told
-        (λ t n u why. input_left whole (FaultRose a b) t n u why) told (λ rose. cause rose.1);
+  pub failed_ends : HasWhole shows ls fs → (why : FailedCall) (a b : Moment) → Between a.told b.told (Stops (CallFailed shows ls fs name) (Call why))
+      → (a.sure → Between a.told b.told (Stops (FailsFor (MissingOrTooLong faults_of name)) (Call why)))
+      → b.faults ≡ counted a.faults → b.lost ≡ a.lost → (a.sure → b.sure) → Ends (prints name text faults_of) (failed (blamed_for why name)) a b
+  failed_ends whole why a b told cause faults lost sure = record {
+    told = between_caused (FaultRose a b) (Stops (CallFailed shows ls fs name) (Call why)) (Stops (FailsFor (MissingOrTooLong faults_of name)) (Call why))
+        (Left (prints name text faults_of) (failed (blamed_for why name)) (FaultRose a b)) a.told b.told
+        (λ t n broke reason. failed_left whole why (FaultRose a b) t n broke reason) told (λ rose. cause rose.1);
     faults = faults;
     lost = lost;
     sure = sure;
     may = inl tt;
   }
 
-  pub output_ends : HasWhole shows ls fs → (a b : Moment) → Between a.told b.told (Stops shows ls fs name OnOutput) → (a.sure → Between a.told b.told (StopsFor faults_of name OnOutput))
-      → b.faults ≡ counted a.faults → b.lost ≡ a.lost → (a.sure → b.sure) → Ends (prints name text faults_of) (failed (codes "output")) a b
-  output_ends whole a b told cause faults lost sure = record {
-    told = between_caused (FaultRose a b) (Stops shows ls fs name OnOutput) (StopsFor faults_of name OnOutput) (Left (prints name text faults_of) (failed (codes "output")) (FaultRose a b)) a.told b.told
-        (λ t n u why. output_left whole (FaultRose a b) t n u why) told (λ rose. cause rose.1);
-    faults = faults;
-    lost = lost;
-    sure = sure;
-    may = inl tt;
-  }
-
-  pub memory_ends : (a b : Moment) → Between a.told b.told (Stops shows ls fs name Memory) → b.faults ≡ a.faults → b.lost ≡ a.lost → (a.sure → b.sure)
+  pub memory_ends : (a b : Moment) → Between a.told b.told (Stops (CallFailed shows ls fs name) Memory) → b.faults ≡ a.faults → b.lost ≡ a.lost → (a.sure → b.sure)
       → Ends (prints name text faults_of) no_memory a b
   memory_ends a b told faults lost sure = record {
-    told = between_map (Stops shows ls fs name Memory) (Left (prints name text faults_of) no_memory (FaultRose a b)) a.told b.told
+    told = between_map (Stops (CallFailed shows ls fs name) Memory) (Left (prints name text faults_of) no_memory (FaultRose a b)) a.told b.told
         (λ t n is. memory_left (FaultRose a b) t n is (λ (changed, s). changed faults)) told;
     faults = faults;
     lost = lost;
@@ -202,21 +197,11 @@ module _ (name : List ℕ) (one other : (bytes given : List ℕ) → Type 0) (fi
   tells_same : (bytes : List ℕ) → TellsRefusal later bytes → TellsRefusal first bytes
   tells_same bytes (why, all) = (why, λ rest. faults (bytes ++ rest) ∙ all rest)
 
-  written_same : (why : Stopped) (earlier read gained : List ℕ) → IsWritten why one earlier read gained → IsWritten why other earlier read gained
-  written_same Input earlier read gained is = holds read gained is
-  written_same OnOutput earlier read gained (whole, more, is, all) = (whole, more, holds earlier whole is, all)
-  written_same Memory earlier read gained is = is
+  written_same : (why : FailedCall) (bytes : List ℕ) (count : ℕ) (gained : List ℕ) → IsWritten why one bytes count gained → IsWritten why other bytes count gained
+  written_same Input bytes count gained is = holds (take count bytes) gained is
+  written_same OnOutput bytes count gained (whole, more, is, all) = (whole, more, holds (take (count - 4096) bytes) whole is, all)
 
-  pace_same : (why : Stopped) (bytes : List ℕ) (count : ℕ) (gained : List ℕ) → KeepsPace why one first bytes count gained → KeepsPace why other later bytes count gained
-  pace_same why bytes count gained pace = record {
-    earlier = pace.earlier;
-    begins = pace.begins;
-    ends = pace.ends;
-    wanted = λ told. pace.wanted (tells_same (take pace.earlier bytes) told);
-    written = written_same why (take pace.earlier bytes) (take count bytes) gained pace.written;
-  }
-
-  stays_same : (why : Stopped) (t : Told) (gained : List ℕ) (before after : ℕ → Use) → StaysOpen why name one first t gained before after → StaysOpen why name other later t gained before after
+  stays_same : (why : FailedCall) (t : Told) (gained : List ℕ) (before after : ℕ → Use) → StaysOpen why name one first t gained before after → StaysOpen why name other later t gained before after
   stays_same why t gained before after s = record {
     channel = s.channel;
     above = s.above;
@@ -225,21 +210,16 @@ module _ (name : List ℕ) (one other : (bytes given : List ℕ) → Type 0) (fi
     uses = s.uses;
     bytes = s.bytes;
     file = s.file;
-    keeps_pace = pace_same why s.bytes s.position gained s.keeps_pace;
+    needed = λ told. s.needed (tells_same (take (s.position - 4096) s.bytes) told);
+    written = written_same why s.bytes s.position gained s.written;
   }
-
-  breaks_same : (why : Stopped) (t : Told) (gained : List ℕ) (before after : ℕ → Use) → BreaksOff why name one first t gained before after → BreaksOff why name other later t gained before after
-  breaks_same Input t gained before after (inl unopened) = inl unopened
-  breaks_same Input t gained before after (inr s) = inr (stays_same Input t gained before after s)
-  breaks_same OnOutput t gained before after s = stays_same OnOutput t gained before after s
-  breaks_same Memory t gained before after h = h
 
   stands_same : (t : Told) (e : Ending) (gained : List ℕ) (before after : ℕ → Use) → Stands (prints name one first) t e gained before after
       → Stands (prints name other later) t e gained before after
   stands_same t done gained before after h = h
   stands_same t (refused why) gained before after h = h
-  stands_same t (failed blamed) gained before after (inl (is, broke)) = inl (is, breaks_same Input t gained before after broke)
-  stands_same t (failed blamed) gained before after (inr (is, broke)) = inr (is, breaks_same OnOutput t gained before after broke)
+  stands_same t (failed name_blamed) gained before after (inl unopened) = inl unopened
+  stands_same t (failed name_blamed) gained before after (inr (why, is, s)) = inr (why, is, stays_same why t gained before after s)
   stands_same t no_memory gained before after h = h
 
   cause_same : (t : Told) (e : Ending) → IsFree e ⊎ Cause (prints name one first) t e → IsFree e ⊎ Cause (prints name other later) t e
@@ -252,7 +232,7 @@ module _ (name : List ℕ) (one other : (bytes given : List ℕ) → Type 0) (fi
 
   outside_same : (t n : Told) → OutsideOf (prints name one first) t n → OutsideOf (prints name other later) t n
   outside_same t n (inl (inl missing)) = inl (inl missing)
-  outside_same t n (inl (inr far)) = inl (inr (record { long = far.long; wanted = λ told. far.wanted (tells_same (take (2 ^ 32 - 4096) (bytes_of t name)) told) }))
+  outside_same t n (inl (inr far)) = inl (inr (record { long = far.long; needed = λ told. far.needed (tells_same (take (2 ^ 32 - 4096) (bytes_of t name)) told) }))
   outside_same t n (inr full) = inr full
 
   left_same : (e : Ending) (F : Type 0) (t n : Told) → Left (prints name one first) e F t n → Left (prints name other later) e F t n

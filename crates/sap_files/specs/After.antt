@@ -2,8 +2,9 @@
 use Rattle.std.specs.Prelude.{◌≡◌, ◌⊎◌, ℕ, List, [], codes}
 use Rattle.sap_desk.specs.Desk.{Told, Use}
 use Rattle.sap_desk.specs.Whole.{OpenAfterFault}
-use Rattle.sap_lines.specs.Stepping.Printed.{BreaksOff}
-use Rattle.sap_lines.specs.declared.stepping.stopped.Stopped.TheVariants.{Input as OnInput, Output as OnOutput}
+use Rattle.sap_lines.specs.Stepping.Followed.{blamed_for}
+use Rattle.sap_lines.specs.Stepping.Printed.{StaysOpen}
+use Rattle.sap_lines.specs.declared.stepping.stopped.FailedCall.{FailedCall}
 use Rattle.sap_files.specs.Kinds.{Has}
 use Rattle.sap_files.specs.Asks.{Asks, file, by, gives, prints, writes, stops}
 use Rattle.sap_files.specs.Ending.{Ending, done, refused, failed, no_memory}
@@ -16,16 +17,17 @@ Blames blame (failed name) = blame ≡ name
 Blames blame no_memory = Unit {0}
 
 -- What stands after a failed call, which blames this: what is open, and what channel 1 gained. After one on a file that is read, or written, whole it is what was open
--- before, and that call's channel too, if it has one, and nothing was gained. Where a stimulus is printed line by line, its channel is open too, after a call on the
--- output as well, since no further call is made; how far it was read, and what was written by then, is as `BreaksOff` has it.
+-- before, and that call's channel too, if it has one, and nothing was gained. Where a stimulus is printed line by line, nothing was gained and nothing more is open if it
+-- could not be opened; else its channel is open too, after a call on the output as well, since no further call is made, and how far it was read, and what was written by
+-- then, is as `StaysOpen` has it.
 abbrev pub StandsFailed : Asks → Told → (blamed gained : List ℕ) → (before after : ℕ → Use) → Type 0
 StandsFailed (file name k rest) t blamed gained before after =
     ((blamed ≡ name) × (gained ≡ []) × OpenAfterFault name before after) ⊎ ((v : k.Value) × Has t name k v × StandsFailed (rest v) t blamed gained before after)
 StandsFailed (by V Holds rest) t blamed gained before after = (v : V) × Holds v × StandsFailed (rest v) t blamed gained before after
 StandsFailed (gives text last) t blamed gained before after = (blamed ≡ codes "output") × (after ≡ before)
 StandsFailed (prints name text fault) t blamed gained before after =
-    ((blamed ≡ name) × BreaksOff OnInput name text fault t gained before after)
-    ⊎ ((blamed ≡ codes "output") × BreaksOff OnOutput name text fault t gained before after)
+    ((blamed ≡ name) × (gained ≡ []) × (after ≡ before))
+    ⊎ ((why : FailedCall) × (blamed ≡ blamed_for why name) × StaysOpen why name text fault t gained before after)
 StandsFailed (writes name text) t blamed gained before after = (blamed ≡ name) × (gained ≡ []) × OpenAfterFault name before after
 StandsFailed (stops why) t blamed gained before after = ⊥
 

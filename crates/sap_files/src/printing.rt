@@ -4,6 +4,7 @@ ghost use Rattle.std.specs.Prelude.{◌≡◌, ◌≤◌, []};
 ghost use Rattle.sap_lines.specs.Reader.{IsNew};
 ghost use Rattle.sap_lines.specs.declared.stepping.TheConstants.{LARGE_BYTES};
 ghost use Rattle.sap_files.specs.Asks.{prints};
+ghost use Rattle.sap_lines.specs.Stepping.Followed.{blamed_for};
 ghost use Rattle.sap_lines.specs.Stepping.Pace.{printed_fault, printed_text};
 ghost use Rattle.sap_files.specs.Steps.{Ends, HasWhole, ending_of, seen};
 
@@ -11,7 +12,17 @@ use crate::buffers::Buffers;
 use crate::failure::Failure;
 use crate::output::end;
 use sap_desk::{Desk, RowBuf};
-use sap_lines::{Lines, Steps, Stopped, print};
+use sap_lines::{FailedCall, Lines, Steps, Stopped, print};
+
+// Whom a failed call blames.
+fn blamed<'a>(why: FailedCall, stimulus: &'a str) -> &'a str
+    ensures { result.now ≡ blamed_for why stimulus.now }
+{
+    match why {
+        FailedCall::Input => stimulus,
+        FailedCall::Output => "output",
+    }
+}
 
 /// Prints what the steps on the lines of a stimulus file show, and ends as its lines do. Each step is put into `out`, and
 /// what it shows waits in `waiting` to be written.
@@ -35,8 +46,7 @@ pub fn print_steps<'a, D: Desk, S: Steps>(
 {
     match print(desk, stimulus, steps, lines, out, waiting) {
         Ok(fault) => end(fault),
-        Err(Stopped::Input) => Err(Failure::Desk(stimulus)),
-        Err(Stopped::Output) => Err(Failure::Desk("output")),
+        Err(Stopped::Call(why)) => Err(Failure::Desk(blamed(why, stimulus))),
         Err(Stopped::Memory) => Err(Failure::Memory),
     }
 }

@@ -99,12 +99,16 @@ first_same ls fs s rest (inl (inr found)) = marked_same ls fs s rest (any_marked
 first_same ls fs s rest (inr none) = ap (first_of ls fs) (ap (λ (r : List ℕ). s ++ r) none ∙ append-nil s)
 
 -- one line, and then the others
-line_read : (ls : Levels) (fs : List Field) (n : ℕ) (s rest : List ℕ) → 0 < length s → IsDecided s ⊎ (rest ≡ [])
+pub line_read : (ls : Levels) (fs : List Field) (n : ℕ) (s rest : List ℕ) → 0 < length s → IsDecided s ⊎ (rest ≡ [])
     → read_from ls fs n (s ++ rest) ≡ going_on n (first_of ls fs s) (read_from ls fs (n + 1) (after (s ++ rest)))
 line_read ls fs n s rest some decided =
     let whole : length (s ++ rest) ≡ length s + length rest = length-append s rest in
     read_line ls fs n (s ++ rest) (omega arith)
     ∙ ap (λ (r : Result Span StimCode). going_on n r (read_from ls fs (n + 1) (after (s ++ rest)))) (first_same ls fs s rest decided)
+
+-- what is behind it
+pub after_more : (s rest : List ℕ) → place s < length s → after (s ++ rest) ≡ after s ++ rest
+after_more s rest marked = ap (λ (k : ℕ). drop (k + 1) (s ++ rest)) (place_more s rest marked) ∙ drop-append-le (place s + 1) s rest (omega arith)
 
 not_ended : (long : Bool) (x : Span) → Ok x ≡ (if long then Err S1 else Err S5) → ⊥
 not_ended true x e = cc
@@ -133,7 +137,7 @@ line_taken ls fs n m s rest text now ended line some decided is_line test given 
     let is : Ok line ≡ first_of ls fs s = given ∙ same in
     let marked : place s < length s = ok_marked s (ok_ended ls fs (ltb (length (before s)) (length s)) (before s) line is) in
     let size : length text ≡ place s = ap length is_line ∙ length_before 10 s marked in
-    let behind : after (s ++ rest) ≡ drop (place s + 1) s ++ rest = ap (λ (k : ℕ). drop (k + 1) (s ++ rest)) (place_more s rest marked) ∙ drop-append-le (place s + 1) s rest (omega arith) in
+    let behind : after (s ++ rest) ≡ drop (place s + 1) s ++ rest = after_more s rest marked in
     let behind_now : now ++ rest ≡ drop (place s + 1) s ++ rest = ap (λ (x : List ℕ). x ++ rest) left ∙ ap (λ (k : ℕ). drop (k + 1) s ++ rest) size in
     line_read ls fs n s rest some decided
     ∙ ap (λ (r : Result Span StimCode). going_on n r (read_from ls fs (n + 1) (after (s ++ rest)))) (sym is)

@@ -4,4 +4,5 @@ pub mod Answered
 pub mod Following
 pub mod Decided
 pub mod Undecided
+pub mod Fronts
 pub mod Shifting

@@ -1,6 +1,6 @@
 -- Bytes that don't tell the next line: neither its cycles nor its fault is known.
 use Rattle.std.proofs.Common.{◌≡◌, ℕ, zero, suc, ◌+◌, ◌<◌, ◌≤◌, Bool, true, false, not, cond, eqb, ltb, Err, List, [], ◌∷◌, ◌++◌, length, replicate, refl, sym, ap, ap₂, ◌∙◌, inl, inr, length-append, arith}
-use Rattle.std.specs.Prelude.{◌||◌, Option, Some, None, nat_lt}
+use Rattle.std.specs.Prelude.{◌||◌, Some, None, nat_lt}
 use Rattle.std.specs.List.{list_any}
 use Rattle.std.proofs.lemmas.List.{append-nil, length-replicate}
 use Rattle.std.proofs.lemmas.List.Folds.{list_any-append}
@@ -47,6 +47,13 @@ no_end ls fs s fits = let e : nat_lt 65536 (length s) ≡ false = le-ltb 65536 (
 
 too_long : (ls : Levels) (fs : List Field) (s : List ℕ) → 65536 < length s → line_of ls fs false s ≡ Err S1
 too_long ls fs s long = let e : nat_lt 65536 (length s) ≡ true = lt-ltb 65536 (length s) long in rw e refl
+
+-- it gives no cycles, however long it is
+pub none_unmarked : (ls : Levels) (fs : List Field) (n : ℕ) (s : List ℕ) → 0 < length s → length s ≤ place s → (read_from ls fs n s).stream ≡ []
+none_unmarked ls fs n s some none = elim (cases_lt 65536 (length s)) [
+  | inl long ↦ ap (λ (p : Parsed). p.stream) (unended ls fs n s S1 some none (too_long ls fs s long))
+  | inr fits ↦ ap (λ (p : Parsed). p.stream) (unended ls fs n s S5 some none (no_end ls fs s (omega (arith, fits))))
+]
 
 -- more of an unmarked line may come
 

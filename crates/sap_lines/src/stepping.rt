@@ -11,7 +11,7 @@ mod waiting;
 
 pub use printing::print;
 pub use steps::Steps;
-pub use stopped::Stopped;
+pub use stopped::{FailedCall, Stopped};
 
 /// How many bytes wait at most to be written.
 pub const LARGE_BYTES: usize = 65_536;

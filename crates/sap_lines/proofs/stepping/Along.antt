@@ -1,7 +1,9 @@
 -- Lines that were read, and what the steps in their cycles show, so far.
-use Rattle.std.proofs.Common.{rules, ◌≡◌, ◌⊎◌, inl, inr, ℕ, ◌+◌, ◌*◌, ◌<◌, ◌≤◌, List, [], ◌∷◌, ◌++◌, length, take, drop, append_assoc, refl, sym, ◌∙◌, ap, subst, arith, length-append}
+use Rattle.std.proofs.Common.{rules, ◌≡◌, ◌⊎◌, inl, inr, ℕ, ◌+◌, ◌-◌, ◌*◌, ◌<◌, ◌≤◌, List, [], ◌∷◌, ◌++◌, length, take, drop, append_assoc, refl, sym, ◌∙◌, ap, subst, arith, length-append}
 use Rattle.std.specs.Prelude.{◌^◌, Option, Some, None, IfSome, option_map}
-use Rattle.std.proofs.lemmas.List.{length-replicate}
+use Rattle.std.proofs.lemmas.Bool.{cases_lt}
+use Rattle.std.proofs.lemmas.List.{length-replicate, take_all, take-append-le}
+use Rattle.std.proofs.Math.Seq.{take-append-add}
 use Rattle.sap_stream.proofs.SpansLemmas.{cycles_more}
 use Rattle.sap_desk.specs.Desk.{Told, added, moved, rest_of}
 use Rattle.sap_desk.specs.Whole.{Between}
@@ -12,17 +14,17 @@ use Rattle.sap_stream.specs.Spans.{Span, cycles_in, cycles_of}
 use Rattle.sap_stim.specs.declared.field.Field.{Field}
 use Rattle.sap_lines.specs.declared.next.Next.{Next}
 use Rattle.sap_lines.specs.declared.next.Next.TheVariants.{Line}
-use Rattle.sap_lines.specs.declared.stepping.stopped.Stopped.TheVariants.{Output}
+use Rattle.sap_lines.specs.declared.stepping.stopped.FailedCall.TheVariants.{Output}
 use Rattle.sap_lines.specs.Answers.{TellsBy, count_after}
 use Rattle.sap_lines.specs.Fetched.{IsDecided, ReadsLeast}
 use Rattle.sap_lines.specs.Follows.{Begins, Follows, GoesOn}
-use Rattle.sap_lines.specs.Reader.{IsNew, Reader, to_come}
+use Rattle.sap_lines.specs.Reader.{IsNew, Reader}
 use Rattle.sap_lines.specs.Stepping.Cycles.{CyclesShown}
 use Rattle.sap_lines.specs.Stepping.Followed.{Going}
-use Rattle.sap_lines.specs.Stepping.Pace.{KeepsPace, Shows, printed_fault, printed_text}
+use Rattle.sap_lines.specs.Stepping.Pace.{IsNeeded, IsWritten, Shows, printed_fault, printed_text}
 use Rattle.sap_lines.proofs.stepping.Between.{knowing_two}
 use Rattle.sap_lines.proofs.stepping.Going.{going_more, going_none, rest_now}
-use Rattle.sap_lines.proofs.stepping.Pace.{front_more, pace_begins, pace_read, pace_written}
+use Rattle.sap_lines.proofs.stepping.Pace.{ShowsAlong, front_more, needed_none, needed_read, written_more, written_none, written_read}
 
 -- of the contents of the desk: so much was read, these lines were given, and what the steps in their cycles show was written, but what waits
 pub record SoFar (base shows : Shows) (ls : Levels) (fs : List Field) (channel count : ℕ) (lines : List Span) (r : Reader) (waiting : List ℕ) (t n : Told) : Type 0 where
@@ -30,7 +32,9 @@ pub record SoFar (base shows : Shows) (ls : Levels) (fs : List Field) (channel c
   pub going : Going channel count gained t n
   pub follows : (rest : List ℕ) → Follows ls fs (take count (rest_of t channel) ++ rest) lines r rest
   pub shown : shows (cycles_of lines) (gained ++ waiting)
-  pub pace : KeepsPace Output (printed_text base ls fs) (printed_fault ls fs) (rest_of t channel) count gained
+  pub shown_along : ShowsAlong base (cycles_of lines) (gained ++ waiting)
+  pub needed : IsNeeded (printed_fault ls fs) (rest_of t channel) count
+  pub written : IsWritten Output (printed_text base ls fs) (rest_of t channel) count gained
 
 -- on the way: the steps stand behind the cycles of some lines
 pub record Along (base shows : Shows) (ls : Levels) (fs : List Field) (channel : ℕ) (stands : List (List Given) → Type 0) (r : Reader) (cycle given : ℕ) (waiting : List ℕ) (before after : Option Told) : Type 0 where
@@ -50,7 +54,9 @@ module _ (shows : Shows) (ls : Levels) (fs : List Field) (channel : ℕ) where
     going = going_none channel t;
     follows = λ rest. law ls fs rest r new;
     shown = shown;
-    pace = pace_begins shows ls fs (rest_of t channel) shown;
+    shown_along = λ first. ([], [], subst (λ (cycles : List (List Given)). shows cycles []) (sym (take_all first [] (omega arith))) shown, refl);
+    needed = needed_none ls fs (rest_of t channel);
+    written = written_none shows ls fs (rest_of t channel) shown;
   }
 
   pub along_begins : (stands : List (List Given) → Type 0) (r : Reader) (given : ℕ) (waiting : List ℕ) (o : Option Told) → Begins → IsNew fs r → given ≡ 0 → waiting ≡ []
@@ -111,9 +117,13 @@ module _ (base shows : Shows) (back : (lines : List (List Given)) (text : List �
   wanted_first (inr (j, before, most, wants)) =
       inr (j, before, most, λ told. wants (subst (λ (l : List ℕ). IsDecided (r.pending ++ take j l)) (sym (left_is channel count so.gained t m so.going)) told))
 
-  pub pace_on : ReadsLeast channel r.pending k m → KeepsPace Output (printed_text base ls fs) (printed_fault ls fs) whole (count + k) so.gained
-  pace_on least =
-      pace_read base ls fs whole count lines r so.gained waiting so.follows (back (cycles_of lines) (so.gained ++ waiting) so.shown) quiet k (wanted_first least) so.pace
+  pub needed_on : ReadsLeast channel r.pending k m → IsNeeded (printed_fault ls fs) whole (count + k)
+  needed_on least =
+      needed_read base ls fs whole count lines r so.gained waiting so.follows (back (cycles_of lines) (so.gained ++ waiting) so.shown) quiet k (wanted_first least) so.needed
+
+  pub written_on : ReadsLeast channel r.pending k m → IsWritten Output (printed_text base ls fs) whole (count + k) so.gained
+  written_on least =
+      written_read base ls fs whole count lines r so.gained waiting so.follows (back (cycles_of lines) (so.gained ++ waiting) so.shown) quiet k (wanted_first least) so.shown_along so.written
 
 -- a line more
 
@@ -127,17 +137,46 @@ module _ (ls : Levels) (fs : List Field) (channel count k : ℕ) (lines : List S
         (law ls fs (take count (rest_of t channel) ++ (take k (rest_of m channel) ++ rest)) lines r s (take k (rest_of m channel) ++ rest) rest (so.follows (take k (rest_of m channel) ++ rest)) few fields counts
         (read.by rest (inl (search rules))))
 
+    -- the first of all cycles, those of the line behind the others
+    along_on : (text : List ℕ) → ((first : ℕ) → (part more : List ℕ) × ((shown : List ℕ) → shows (cycles_of lines) shown → shows (cycles_of lines ++ take first (cycles_in s.line)) (shown ++ part)) × (text ≡ part ++ more))
+        → ShowsAlong base (cycles_of lines ++ cycles_in s.line) ((so.gained ++ waiting) ++ text)
+    along_on text add first = elim (cases_lt (length (cycles_of lines)) first) [
+      | inl behind ↦
+          let sum : first ≡ length (cycles_of lines) + (first - length (cycles_of lines)) = omega (arith, behind) in
+          let (part, more, adds, is) = add (first - length (cycles_of lines)) in
+          let front : take first (cycles_of lines ++ cycles_in s.line) ≡ cycles_of lines ++ take (first - length (cycles_of lines)) (cycles_in s.line)
+          = ap (λ (n : ℕ). take n (cycles_of lines ++ cycles_in s.line)) sum ∙ take-append-add (cycles_of lines) (cycles_in s.line) (first - length (cycles_of lines)) in (
+            (so.gained ++ waiting) ++ part,
+            more,
+            subst (λ (cycles : List (List Given)). base cycles ((so.gained ++ waiting) ++ part)) (sym front)
+                (back (cycles_of lines ++ take (first - length (cycles_of lines)) (cycles_in s.line)) ((so.gained ++ waiting) ++ part) (adds (so.gained ++ waiting) so.shown)),
+            ap (λ (l : List ℕ). (so.gained ++ waiting) ++ l) is ∙ sym (append_assoc (so.gained ++ waiting) part more),
+          )
+      | inr within ↦
+          let (part, more, is, all) = so.shown_along first in (
+            part,
+            more ++ text,
+            subst (λ (cycles : List (List Given)). base cycles part) (sym (take-append-le first (cycles_of lines) (cycles_in s.line) within)) is,
+            ap (λ (l : List ℕ). l ++ text) all ∙ append_assoc part more text,
+          )
+    ]
+
     pub line_so_far : (later : Shows) (text : List ℕ) → ((shown : List ℕ) → shows (cycles_of lines) shown → later (cycles_of lines ++ cycles_in s.line) (shown ++ text))
+        → ((first : ℕ) → (part rest : List ℕ) × ((shown : List ℕ) → shows (cycles_of lines) shown → shows (cycles_of lines ++ take first (cycles_in s.line)) (shown ++ part)) × (text ≡ part ++ rest))
         → (piece left : List ℕ) → piece ++ left ≡ waiting ++ text → SoFar base later ls fs channel (count + k) (lines ++ s.line ∷ []) s left t (added 1 piece (moved channel k m))
-    line_so_far later text more piece left whole = record {
+    line_so_far later text more along piece left whole = record {
       gained = so.gained ++ piece;
       going = going_more channel count so.gained t m so.going k piece;
       follows = line_follows;
       shown =
           subst (λ (cycles : List (List Given)). later cycles ((so.gained ++ piece) ++ left)) (sym (cycles_more lines s.line))
           (subst (later (cycles_of lines ++ cycles_in s.line)) (still_whole so.gained piece waiting left text whole) (more (so.gained ++ waiting) so.shown));
-      pace = pace_written base ls fs (rest_of t channel) (count + k) so.gained piece
-          (pace_on base shows back ls fs channel count k lines r s waiting quiet t m so read.least);
+      shown_along =
+          subst (λ (cycles : List (List Given)). ShowsAlong base cycles ((so.gained ++ piece) ++ left)) (sym (cycles_more lines s.line))
+          (subst (ShowsAlong base (cycles_of lines ++ cycles_in s.line)) (still_whole so.gained piece waiting left text whole) (along_on text along));
+      needed = needed_on base shows back ls fs channel count k lines r s waiting quiet t m so read.least;
+      written = written_more base ls fs (rest_of t channel) (count + k) so.gained piece
+          (written_on base shows back ls fs channel count k lines r s waiting quiet t m so read.least);
     }
 
 pub along_more : (base shows later : Shows) (back : (lines : List (List Given)) (text : List ℕ) → shows lines text → base lines text) (ls : Levels) (fs : List Field) (channel : ℕ)
@@ -163,5 +202,7 @@ along_more base shows later back ls fs channel stands then r s cycle cycle_now g
           (knowing_two (SoFar base shows ls fs channel given a.lines r waiting) (SoFar base later ls fs channel (given + k) (a.lines ++ s.line ∷ []) s left)
           (ReadFor ls channel Line r s k) (moved channel k) (added 1 so.written.piece) before mid one two moved_on so.written.told
           (λ t m so_far known. line_so_far ls fs channel given k a.lines r s law few fields counts base shows back waiting a.quiet t m so_far known later so.text
-          (λ shown is. so.adds (cycles_of a.lines) shown a.behind a.cycle_is is) so.written.piece left so.written.whole) a.told read);
+          (λ shown is. so.adds (cycles_of a.lines) shown a.behind a.cycle_is is)
+          (λ first. (let (part, rest, adds, is) = so.along first in (part, rest, (λ shown h. adds (cycles_of a.lines) shown a.behind a.cycle_is h), is)))
+          so.written.piece left so.written.whole) a.told read);
     }

@@ -19,18 +19,18 @@ use Rattle.sap_stim.specs.Stimulus.{stimulus_of}
 use Rattle.sap_lines.specs.declared.next.Next.{Next}
 use Rattle.sap_lines.specs.declared.next.Next.TheVariants.{Line, End, Fault}
 use Rattle.sap_lines.specs.Fetched.{IsDecided}
-use Rattle.sap_lines.specs.declared.stepping.stopped.Stopped.TheVariants.{Input, Output}
+use Rattle.sap_lines.specs.declared.stepping.stopped.FailedCall.TheVariants.{Input, Output}
 use Rattle.sap_lines.specs.Answers.{Tells, count_after}
 use Rattle.sap_lines.specs.Follows.{Ends, Follows, GoesOn, Stops, parsed_as}
 use Rattle.sap_lines.specs.Reader.{Reader, to_come}
 use Rattle.sap_lines.specs.Stepping.Cycles.{Adds, CyclesCut}
-use Rattle.sap_lines.specs.Stepping.Followed.{Breaks, Broken, FollowedBut, IsPartShown}
-use Rattle.sap_lines.specs.Stepping.Pace.{IsTooLong, KeepsPace, Shows, TellsRefusal, printed_fault, printed_text}
+use Rattle.sap_lines.specs.Stepping.Followed.{Broken, FailsFor, Followed, GoesTooFar, IsPartShown}
+use Rattle.sap_lines.specs.Stepping.Pace.{IsNeeded, IsTooLong, IsWritten, Shows, printed_fault, printed_text}
 use Rattle.sap_lines.proofs.stepping.Between.{knowing, knowing_two, known_two, through_known}
 use Rattle.sap_lines.proofs.stepping.Going.{going_blamed, going_more, going_read, output_use, reading_moved, use_now}
-use Rattle.sap_lines.proofs.stepping.Pace.{not_told, pace_failed, pace_written, tells_on}
+use Rattle.sap_lines.proofs.stepping.Pace.{all_written, not_told, written_more}
 use Rattle.sap_lines.proofs.stepping.Cycles.{cycles_cut}
-use Rattle.sap_lines.proofs.stepping.Along.{Along, ReadFor, SoFar, front_is, left_is, line_follows, pace_on}
+use Rattle.sap_lines.proofs.stepping.Along.{Along, ReadFor, SoFar, front_is, left_is, line_follows, needed_on, written_on}
 
 -- a read failed where it brought what was given to its bound
 
@@ -69,7 +69,7 @@ module _ (base shows : Shows) (back : (lines : List (List Given)) (text : List �
   module _ (s : Reader) (next : Next) (lines : List Span) (fault : Option StimFault) (quiet : IsDecided r.pending ⊎ (waiting ≡ [])) (t m : Told)
       (so : SoFar base shows ls fs channel given lines r waiting t m) (read : ReadFor ls channel next r s k m) where
     closed_told : stimulus_of ls fs (rest_of t channel) ≡ parsed_as (cycles_of lines) fault → stimulus_of ls fs (take (given + k) (rest_of t channel)) ≡ parsed_as (cycles_of lines) fault
-        → FollowedBut base ls fs channel fault waiting t (moved channel k m)
+        → Followed base ls fs channel fault waiting t (moved channel k m)
     closed_told is enough = record {
       count = given + k;
       gained = so.gained;
@@ -77,7 +77,8 @@ module _ (base shows : Shows) (back : (lines : List (List Given)) (text : List �
       is_fault = sym (ap (λ (p : Parsed). p.fault) is);
       shown = subst (λ (p : Parsed). base p.stream (so.gained ++ waiting)) (sym is) (back (cycles_of lines) (so.gained ++ waiting) so.shown);
       enough = enough ∙ sym is;
-      keeps_pace = pace_on base shows back ls fs channel given k lines r s waiting quiet t m so read.least;
+      needed = needed_on base shows back ls fs channel given k lines r s waiting quiet t m so read.least;
+      written = written_on base shows back ls fs channel given k lines r s waiting quiet t m so read.least;
     }
 
     -- what all bytes give, and what those give that were read
@@ -98,9 +99,9 @@ module _ (base shows : Shows) (back : (lines : List (List Given)) (text : List �
   pub ended : (s : Reader) (before mid one : Option Told) → Ends → one ≡ option_map (moved channel k) mid
       → Between mid one (λ t n. Tells End (to_come ls r (rest_of t channel)) s.line (to_come ls s (rest_of n channel)))
       → IfSome mid (ReadFor ls channel End r s k) → Along base shows ls fs channel stands r cycle given waiting before mid
-      → Between before one (FollowedBut base ls fs channel None waiting)
+      → Between before one (Followed base ls fs channel None waiting)
   ended s before mid one law moved_on tells read a =
-      through_known (SoFar base shows ls fs channel given a.lines r waiting) (FollowedBut base ls fs channel None waiting) (moved channel k)
+      through_known (SoFar base shows ls fs channel given a.lines r waiting) (Followed base ls fs channel None waiting) (moved channel k)
       (λ t n. Tells End (to_come ls r (rest_of t channel)) s.line (to_come ls s (rest_of n channel))) (ReadFor ls channel End r s k) before mid one moved_on
       (λ t m so told known. closed_told s End a.lines None a.quiet t m so known
       (law ls fs (rest_of t channel) a.lines r (rest_of m channel) s.line (to_come ls s (rest_of (moved channel k m) channel)) (follows_all a.lines t m so) told)
@@ -109,9 +110,9 @@ module _ (base shows : Shows) (back : (lines : List (List Given)) (text : List �
   pub refused : (s : Reader) (fault : StimFault) (before mid one : Option Told) → Stops → one ≡ option_map (moved channel k) mid
       → Between mid one (λ t n. Tells (Fault fault) (to_come ls r (rest_of t channel)) s.line (to_come ls s (rest_of n channel)))
       → IfSome mid (ReadFor ls channel (Fault fault) r s k) → Along base shows ls fs channel stands r cycle given waiting before mid
-      → Between before one (FollowedBut base ls fs channel (Some fault) waiting)
+      → Between before one (Followed base ls fs channel (Some fault) waiting)
   refused s fault before mid one law moved_on tells read a =
-      through_known (SoFar base shows ls fs channel given a.lines r waiting) (FollowedBut base ls fs channel (Some fault) waiting) (moved channel k)
+      through_known (SoFar base shows ls fs channel given a.lines r waiting) (Followed base ls fs channel (Some fault) waiting) (moved channel k)
       (λ t n. Tells (Fault fault) (to_come ls r (rest_of t channel)) s.line (to_come ls s (rest_of n channel))) (ReadFor ls channel (Fault fault) r s k) before mid one moved_on
       (λ t m so told known. closed_told s (Fault fault) a.lines (Some fault) a.quiet t m so known
       (law ls fs (rest_of t channel) a.lines r (rest_of m channel) s.line (to_come ls s (rest_of (moved channel k m) channel)) fault (follows_all a.lines t m so) told)
@@ -136,15 +137,16 @@ module _ (base shows : Shows) (back : (lines : List (List Given)) (text : List �
   wants_of : (lines : List Span) (t m : Told) (so : SoFar base shows ls fs channel given lines r waiting t m) → WantsMore m → IsDecided (r.pending ++ take k (drop given (rest_of t channel))) → ⊥
   wants_of lines t m so wants = subst (λ (l : List ℕ). IsDecided (r.pending ++ take k l) → ⊥) (left_is channel given so.gained t m so.going) wants
 
-  paced : (lines : List Span) → IsDecided r.pending ⊎ (waiting ≡ []) → (t m : Told) (so : SoFar base shows ls fs channel given lines r waiting t m) → WantsMore m
-      → KeepsPace Input (printed_text base ls fs) (printed_fault ls fs) (rest_of t channel) (given + k) so.gained
-  paced lines quiet t m so wants =
-      pace_failed base ls fs (rest_of t channel) given lines r so.gained waiting so.follows (back (cycles_of lines) (so.gained ++ waiting) so.shown) quiet k (wants_of lines t m so wants)
+  written_now : (lines : List Span) → IsDecided r.pending ⊎ (waiting ≡ []) → (t m : Told) (so : SoFar base shows ls fs channel given lines r waiting t m) → WantsMore m
+      → IsWritten Input (printed_text base ls fs) (rest_of t channel) (given + k) so.gained
+  written_now lines quiet t m so wants =
+      all_written base ls fs (rest_of t channel) given lines r so.gained waiting so.follows (back (cycles_of lines) (so.gained ++ waiting) so.shown) quiet k (wants_of lines t m so wants)
 
-  never : (lines : List Span) → IsDecided r.pending ⊎ (waiting ≡ []) → (t m : Told) (so : SoFar base shows ls fs channel given lines r waiting t m) → WantsMore m
-      → TellsRefusal (printed_fault ls fs) (take (given + k) (rest_of t channel)) → ⊥
-  never lines quiet t m so wants =
-      not_told base ls fs (rest_of t channel) given lines r so.gained waiting so.follows (back (cycles_of lines) (so.gained ++ waiting) so.shown) quiet k (wants_of lines t m so wants)
+  needed_now : (lines : List Span) → IsDecided r.pending ⊎ (waiting ≡ []) → (t m : Told) (so : SoFar base shows ls fs channel given lines r waiting t m) → WantsMore m
+      → (count : ℕ) → count ≤ given + k + 4096 → IsNeeded (printed_fault ls fs) (rest_of t channel) count
+  needed_now lines quiet t m so wants count far =
+      not_told base ls fs (rest_of t channel) given lines r so.gained waiting so.follows (back (cycles_of lines) (so.gained ++ waiting) so.shown) quiet k (count - 4096) (wants_of lines t m so wants)
+      (omega (arith, far))
 
   broken_told : 2 < channel → (lines : List Span) → IsDecided r.pending ⊎ (waiting ≡ []) → (t m : Told) → SoFar base shows ls fs channel given lines r waiting t m → WantsMore m
       → Broken base ls fs channel Input t (blame_at channel (name_if_reading (m.uses channel)) (moved channel k m))
@@ -157,9 +159,9 @@ module _ (base shows : Shows) (back : (lines : List (List Given)) (text : List �
         gained = so.gained;
         going = going_blamed channel (given + k) so.gained (name_if_reading (m.uses channel)) t (moved channel k m) (going_read channel given so.gained t m so.going k);
         part = part_of lines (rest_of m channel) so.gained t (follows_all lines t m so) (back (cycles_of lines) (so.gained ++ waiting) so.shown);
-        keeps_pace = paced lines quiet t m so wants;
+        needed = needed_now lines quiet t m so wants (given + k) (omega arith);
+        written = written_now lines quiet t m so wants;
         blame = name;
-        failed = tt;
       })
 
   pub broken : 2 < channel → (before mid one : Option Told) → one ≡ option_map (λ t. blame_at channel (name_if_reading (t.uses channel)) (moved channel k t)) mid
@@ -178,7 +180,7 @@ module _ (base shows : Shows) (back : (lines : List (List Given)) (text : List �
         let left : length (rest_of m channel) ≡ length (drop given (rest_of t channel)) = ap length (left_is channel given so.gained t m so.going) in
         record {
           long = omega (arith, left, far.all, few, length-drop given (rest_of t channel));
-          wanted = λ told. never lines quiet t m so wants (tells_on (printed_fault ls fs) (rest_of t channel) (2 ^ 32 - 4096) (given + k) (omega (arith, far.near)) told);
+          needed = needed_now lines quiet t m so wants (2 ^ 32) (omega (arith, far.near));
         }
   ]
 
@@ -195,9 +197,9 @@ module _ (base shows : Shows) (back : (lines : List (List Given)) (text : List �
   failed_for now (Some m) wants fails = record { wants = wants; fails = fails }
 
   pub broken_cause : (now : ℕ) (before mid one : Option Told) → given < 2 ^ 32 → now ≡ given + k → now < 2 ^ 32 → one ≡ option_map failed_read mid → IfSome mid WantsMore
-      → IfSome one (FailsToRead channel now 4096) → Along base shows ls fs channel stands r cycle given waiting before mid → Between before one (Breaks (printed_fault ls fs) channel Input)
+      → IfSome one (FailsToRead channel now 4096) → Along base shows ls fs channel stands r cycle given waiting before mid → Between before one (FailsFor (GoesTooFar (printed_fault ls fs) channel) Input)
   broken_cause now before mid one few gave bound is wants why a =
-      knowing (SoFar base shows ls fs channel given a.lines r waiting) (Breaks (printed_fault ls fs) channel Input) failed_read (FailedFor now)
+      knowing (SoFar base shows ls fs channel given a.lines r waiting) (FailsFor (GoesTooFar (printed_fault ls fs) channel) Input) failed_read (FailedFor now)
       before mid one is (λ t m so known. reaches t m a.lines a.quiet so few known.wants (fails_before channel k given now (name_if_reading (m.uses channel)) m gave bound known.fails)) a.told
       (failed_for now mid wants (known_before failed_read (FailsToRead channel now 4096) mid one is why))
 
@@ -239,10 +241,10 @@ module _ (base shows later : Shows) (was : (lines : List (List Given)) (text : L
             shown = back (cycles_of lines ++ replicate first s.line.inputs) ((so.gained ++ take part whole_text) ++ drop part whole_text)
                 (subst (later (cycles_of lines ++ replicate first s.line.inputs)) (sym whole) shown);
           };
-          keeps_pace = pace_written base ls fs (rest_of t channel) (given + k) so.gained (take part whole_text)
-              (pace_on base shows was ls fs channel given k lines r s waiting quiet t m so read.least);
+          needed = needed_on base shows was ls fs channel given k lines r s waiting quiet t m so read.least;
+          written = written_more base ls fs (rest_of t channel) (given + k) so.gained (take part whole_text)
+              (written_on base shows was ls fs channel given k lines r s waiting quiet t m so read.least);
           blame = refl;
-          failed = tt;
         }
 
   pub cut : (before mid one two : Option Told) → one ≡ option_map (moved channel k) mid → CyclesCut stands shows later cycle s.line waiting one two
@@ -256,9 +258,9 @@ module _ (base shows later : Shows) (was : (lines : List (List Given)) (text : L
 pub cut_cause : (base shows : Shows) (ls : Levels) (fs : List Field) (channel : ℕ) (stands : List (List Given) → Type 0) (r : Reader) (cycle given k : ℕ) (waiting text : List ℕ)
     → 2 < channel → (before mid one two : Option Told) → one ≡ option_map (moved channel k) mid → CutOutput text one two
     → Between one two (λ n p. IsWriting (n.uses 1) → length (p.written 1) ≡ p.room) → Along base shows ls fs channel stands r cycle given waiting before mid
-    → Between before two (Breaks (printed_fault ls fs) channel Output)
+    → Between before two (FailsFor (GoesTooFar (printed_fault ls fs) channel) Output)
 cut_cause base shows ls fs channel stands r cycle given k waiting text above before mid one two read failed full a =
-    known_two (SoFar base shows ls fs channel given a.lines r waiting) (Breaks (printed_fault ls fs) channel Output) (λ n o. IsSomeAnd o (λ p. IsWriting (n.uses 1) → length (p.written 1) ≡ p.room)) (moved channel k)
+    known_two (SoFar base shows ls fs channel given a.lines r waiting) (FailsFor (GoesTooFar (printed_fault ls fs) channel) Output) (λ n o. IsSomeAnd o (λ p. IsWriting (n.uses 1) → length (p.written 1) ≡ p.room)) (moved channel k)
     (λ t. blamed (codes "output") (added 1 (take failed.count text) t)) before mid one two read failed.told
     (λ t m so because. λ writing. because (subst IsWriting (one_use m) (subst IsWriting (sym (output_use channel given so.gained t m so.going above)) writing))) a.told full where
       one_use : (m : Told) → m.uses 1 ≡ (moved channel k m).uses 1

@@ -1,14 +1,17 @@
 -- The cycles of a line, one after another.
-use Rattle.std.proofs.Common.{◌≡◌, ℕ, ◌+◌, ◌-◌, ◌<◌, ◌≤◌, List, [], ◌∷◌, ◌++◌, length, replicate, append_assoc, sym, ◌∙◌, ap, subst, arith, length-append}
+use Rattle.std.proofs.Common.{◌≡◌, ℕ, ◌+◌, ◌-◌, ◌<◌, ◌≤◌, List, [], ◌∷◌, ◌++◌, length, replicate, take, append_assoc, refl, sym, ◌∙◌, ap, subst, inl, inr, arith, length-append}
 use Rattle.std.specs.Prelude.{Option}
-use Rattle.std.proofs.lemmas.List.{length-replicate, replicate-append-replicate, replicate_more}
-use Rattle.sap_desk.specs.Desk.{Told}
+use Rattle.std.proofs.lemmas.Bool.{cases_lt}
+use Rattle.std.proofs.lemmas.List.{append-nil, length-replicate, replicate-append-replicate, replicate_more, take_all, take-append-le}
+use Rattle.sap_desk.specs.Desk.{Told, added}
 use Rattle.sap_desk.specs.Whole.{CutOutput}
+use Rattle.sap_desk.proofs.Steps.{option_map-id}
 use Rattle.sap_meaning.specs.Cycle.{Tagged as Given}
 use Rattle.sap_stream.specs.Spans.{Span, cycles_in}
-use Rattle.sap_lines.specs.Stepping.Cycles.{Adds, CyclesCut, CyclesShown}
+use Rattle.sap_lines.specs.Stepping.Cycles.{Adds, AddsAlong, CyclesCut, CyclesShown}
 use Rattle.sap_lines.specs.Stepping.Pace.{Shows}
 use Rattle.sap_lines.specs.Stepping.Waiting.{PieceWritten}
+use Rattle.sap_lines.proofs.stepping.Going.{added_none}
 use Rattle.sap_lines.proofs.stepping.Pieces.{cut_then, written_behind, written_then}
 
 -- what was written behind that
@@ -19,6 +22,7 @@ module _ (behind : List (List Given) → Type 0) (shows later : Shows) (count : 
   shown_then cycles left so wrote = record {
     text = so.text;
     adds = so.adds;
+    along = so.along;
     written = written_then (waited ++ so.text) waits left before mid after so.written wrote;
   }
 
@@ -31,6 +35,19 @@ module _ (behind : List (List Given) → Type 0) (shows later : Shows) (count : 
     adds = so.adds;
     cut = cut_then (waited ++ so.text) waits before mid after so.written failed;
   }
+
+-- before the first cycle
+pub none_shown : (behind : List (List Given) → Type 0) (shows : Shows) (count : ℕ) (x : List Given) (waits : List ℕ) (now : Option Told)
+    → CyclesShown behind shows shows count (replicate 0 x) waits waits now now
+none_shown behind shows count x waits now = record {
+  text = [];
+  adds = none_added;
+  along = λ first. ([], [], subst (λ (cycles : List (List Given)). Adds behind shows shows count cycles []) (sym (take_all first [] (omega arith))) none_added, refl);
+  written = record { piece = []; whole = sym (append-nil waits); told = option_map-id (added 1 []) now (λ t. added_none [] t refl) };
+} where
+  none_added : Adds behind shows shows count [] []
+  none_added cycles shown h many is_shown =
+      subst (λ (all : List (List Given)). shows all (shown ++ [])) (sym (append-nil cycles)) (subst (shows cycles) (sym (append-nil shown)) is_shown)
 
 -- as many cycles as the line has
 pub all_shown : (behind : List (List Given) → Type 0) (shows later : Shows) (count n : ℕ) (line : Span) (waited waits : List ℕ) (before after : Option Told) → n ≡ line.count
@@ -68,10 +85,32 @@ module _ (behind now : List (List Given) → Type 0) (shows later last : Shows) 
   written_so : PieceWritten ((waited ++ so.text) ++ bytes) (waits ++ bytes) before mid
   written_so = written_behind (waited ++ so.text) waits bytes before mid so.written
 
-  pub shown_more : (left : List ℕ) → PieceWritten (waits ++ bytes) left mid after → CyclesShown behind shows last count (replicate (i + 1) x) waited left before after
-  shown_more left wrote = record {
+  along_more : ((cycles : List (List Given)) (shown : List ℕ) → last cycles shown → shows cycles shown) → AddsAlong behind shows count (replicate (i + 1) x) (so.text ++ text)
+  along_more back first = elim (cases_lt i first) [
+    | inl all ↦ (
+      so.text ++ text,
+      [],
+      subst (λ (cycles : List (List Given)). Adds behind shows shows count cycles (so.text ++ text)) (sym (take_all first (replicate (i + 1) x) (omega (arith, all, length-replicate (i + 1) x))))
+          (λ cycles shown h many is_shown. back (cycles ++ replicate (i + 1) x) (shown ++ (so.text ++ text)) (adds_more cycles shown h many is_shown)),
+      sym (append-nil (so.text ++ text)),
+    )
+    | inr few ↦
+        let (part, more, adds, is) = so.along first in
+        let same : take first (replicate (i + 1) x) ≡ take first (replicate i x)
+        = ap (take first) (sym (replicate_more i x)) ∙ take-append-le first (replicate i x) (x ∷ []) (omega (arith, few, length-replicate i x)) in (
+          part,
+          more ++ text,
+          subst (λ (cycles : List (List Given)). Adds behind shows shows count cycles part) (sym same) adds,
+          ap (λ (l : List ℕ). l ++ text) is ∙ append_assoc part more text,
+        )
+  ]
+
+  pub shown_more : ((cycles : List (List Given)) (shown : List ℕ) → last cycles shown → shows cycles shown) → (left : List ℕ) → PieceWritten (waits ++ bytes) left mid after
+      → CyclesShown behind shows last count (replicate (i + 1) x) waited left before after
+  shown_more back left wrote = record {
     text = so.text ++ text;
     adds = adds_more;
+    along = along_more back;
     written =
         subst (λ (l : List ℕ). PieceWritten l left before after) bytes_more
         (written_then ((waited ++ so.text) ++ bytes) (waits ++ bytes) left before mid after written_so wrote);

@@ -9,36 +9,37 @@ use Rattle.sap_lattice.specs.Levels.{Levels}
 use Rattle.sap_stim.specs.declared.fault.StimFault.{StimFault}
 use Rattle.sap_stim.specs.declared.field.Field.{Field}
 use Rattle.sap_stim.specs.Stimulus.{stimulus_of}
-use Rattle.sap_lines.specs.declared.stepping.stopped.Stopped.TheVariants.{Output}
-use Rattle.sap_lines.specs.Stepping.Followed.{Breaks, Broken, Followed, FollowedBut}
+use Rattle.sap_lines.specs.declared.stepping.stopped.FailedCall.TheVariants.{Output}
+use Rattle.sap_lines.specs.Stepping.Followed.{Broken, FailsFor, Followed, GoesTooFar}
 use Rattle.sap_lines.specs.Stepping.Pace.{Shows, printed_fault}
 use Rattle.sap_lines.proofs.stepping.Between.{known_after, onward}
 use Rattle.sap_lines.proofs.stepping.Going.{going_added, going_blamed, output_use}
-use Rattle.sap_lines.proofs.stepping.Pace.{pace_written}
+use Rattle.sap_lines.proofs.stepping.Pace.{written_more}
 
 module _ (shows : Shows) (ls : Levels) (fs : List Field) (channel : ℕ) (fault : Option StimFault) (waiting : List ℕ) where
-  last_written : (t m : Told) → FollowedBut shows ls fs channel fault waiting t m → Followed shows ls fs channel fault t (added 1 waiting m)
+  last_written : (t m : Told) → Followed shows ls fs channel fault waiting t m → Followed shows ls fs channel fault [] t (added 1 waiting m)
   last_written t m f = record {
     count = f.count;
     gained = f.gained ++ waiting;
     going = going_added channel f.count f.gained t m f.going waiting;
     is_fault = f.is_fault;
-    shown = f.shown;
+    shown = subst (shows (stimulus_of ls fs (rest_of t channel)).stream) (sym (append-nil (f.gained ++ waiting))) f.shown;
     enough = f.enough;
-    keeps_pace = pace_written shows ls fs (rest_of t channel) f.count f.gained waiting f.keeps_pace;
+    needed = f.needed;
+    written = written_more shows ls fs (rest_of t channel) f.count f.gained waiting f.written;
   }
 
-  pub whole_written : (before mid one : Option Told) → one ≡ option_map (added 1 waiting) mid → Between before mid (FollowedBut shows ls fs channel fault waiting)
-      → Between before one (Followed shows ls fs channel fault)
+  pub whole_written : (before mid one : Option Told) → one ≡ option_map (added 1 waiting) mid → Between before mid (Followed shows ls fs channel fault waiting)
+      → Between before one (Followed shows ls fs channel fault [])
   whole_written before mid one wrote f =
-      onward (FollowedBut shows ls fs channel fault waiting) (Followed shows ls fs channel fault) (added 1 waiting) before mid one wrote last_written f
+      onward (Followed shows ls fs channel fault waiting) (Followed shows ls fs channel fault []) (added 1 waiting) before mid one wrote last_written f
 
   -- or a part of it
 
   abbrev cut_at : (part : ℕ) → Told → Told
   cut_at part m = blamed (codes "output") (added 1 (take part waiting) m)
 
-  last_cut : (part : ℕ) (t m : Told) → FollowedBut shows ls fs channel fault waiting t m → Broken shows ls fs channel Output t (cut_at part m)
+  last_cut : (part : ℕ) (t m : Told) → Followed shows ls fs channel fault waiting t m → Broken shows ls fs channel Output t (cut_at part m)
   last_cut part t m f =
       let stream = (stimulus_of ls fs (rest_of t channel)).stream in
       let whole : (f.gained ++ take part waiting) ++ drop part waiting ≡ f.gained ++ waiting
@@ -55,26 +56,26 @@ module _ (shows : Shows) (ls : Levels) (fs : List Field) (channel : ℕ) (fault 
           rest = drop part waiting;
           shown = subst (shows stream) (sym whole) f.shown;
         };
-        keeps_pace = pace_written shows ls fs (rest_of t channel) f.count f.gained (take part waiting) f.keeps_pace;
+        needed = f.needed;
+        written = written_more shows ls fs (rest_of t channel) f.count f.gained (take part waiting) f.written;
         blame = refl;
-        failed = tt;
       }
 
-  pub whole_cut : (before mid one : Option Told) → CutOutput waiting mid one → Between before mid (FollowedBut shows ls fs channel fault waiting)
+  pub whole_cut : (before mid one : Option Told) → CutOutput waiting mid one → Between before mid (Followed shows ls fs channel fault waiting)
       → Between before one (Broken shows ls fs channel Output)
   whole_cut before mid one failed f =
-      onward (FollowedBut shows ls fs channel fault waiting) (Broken shows ls fs channel Output) (cut_at failed.count) before mid one failed.told (last_cut failed.count) f
+      onward (Followed shows ls fs channel fault waiting) (Broken shows ls fs channel Output) (cut_at failed.count) before mid one failed.told (last_cut failed.count) f
 
   -- why: it fills the room
 
-  last_cause : 2 < channel → (part : ℕ) (t m : Told) → FollowedBut shows ls fs channel fault waiting t m
-      → (IsWriting (m.uses 1) → FillsRoom 1 waiting m (Some (cut_at part m))) → Breaks (printed_fault ls fs) channel Output t (cut_at part m)
+  last_cause : 2 < channel → (part : ℕ) (t m : Told) → Followed shows ls fs channel fault waiting t m
+      → (IsWriting (m.uses 1) → FillsRoom 1 waiting m (Some (cut_at part m))) → FailsFor (GoesTooFar (printed_fault ls fs) channel) Output t (cut_at part m)
   last_cause above part t m f full =
       λ writing. (full (subst IsWriting (sym (output_use channel f.count f.gained t m f.going above)) writing)).full
 
   pub whole_cause : 2 < channel → (before mid one : Option Told) → CutOutput waiting mid one
-      → IfSome mid (λ m. IsWriting (m.uses 1) → FillsRoom 1 waiting m one) → Between before mid (FollowedBut shows ls fs channel fault waiting)
-      → Between before one (Breaks (printed_fault ls fs) channel Output)
+      → IfSome mid (λ m. IsWriting (m.uses 1) → FillsRoom 1 waiting m one) → Between before mid (Followed shows ls fs channel fault waiting)
+      → Between before one (FailsFor (GoesTooFar (printed_fault ls fs) channel) Output)
   whole_cause above before mid one failed full f =
-      known_after (FollowedBut shows ls fs channel fault waiting) (Breaks (printed_fault ls fs) channel Output) (cut_at failed.count) (λ m o. IsWriting (m.uses 1) → FillsRoom 1 waiting m o)
+      known_after (Followed shows ls fs channel fault waiting) (FailsFor (GoesTooFar (printed_fault ls fs) channel) Output) (cut_at failed.count) (λ m o. IsWriting (m.uses 1) → FillsRoom 1 waiting m o)
       before mid one failed.told (last_cause above failed.count) f full

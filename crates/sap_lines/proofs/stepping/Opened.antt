@@ -1,6 +1,6 @@
 -- A stimulus that was opened, followed and finished, or not to its end.
-use Rattle.std.proofs.Common.{◌≡◌, ℕ, ◌+◌, ◌<◌, ◌≤◌, List, [], length, refl, sym, ◌∙◌, ap, subst, inl, inr, arith}
-use Rattle.std.specs.Prelude.{◌^◌, Bool, cond, Option, Some, None, IfSome, IsSome, option_map}
+use Rattle.std.proofs.Common.{◌≡◌, ℕ, ◌+◌, ◌<◌, List, [], refl, sym, ◌∙◌, ap, subst, inl, inr, arith}
+use Rattle.std.specs.Prelude.{Bool, cond, Option, Some, None, IfSome, IsSome, option_map}
 use Rattle.std.proofs.lemmas.List.{append-nil}
 use Rattle.sap_desk.specs.Desk.{Told, Use, IsOpen, IsReading, IsWriting, at_number, blame_at, blamed, bytes_of, closed, finished, moved_use, name_if_open, name_if_reading, opened, reads, rest_of, rest_of_use}
 use Rattle.sap_desk.specs.Whole.{Between}
@@ -9,13 +9,14 @@ use Rattle.sap_desk.proofs.WholeFiles.{blame_is}
 use Rattle.sap_lattice.specs.Levels.{Levels}
 use Rattle.sap_stim.specs.declared.fault.StimFault.{StimFault}
 use Rattle.sap_stim.specs.declared.field.Field.{Field}
+use Rattle.sap_stim.specs.declared.stimulus.Parsed.{Parsed}
 use Rattle.sap_stim.specs.Stimulus.{stimulus_of}
-use Rattle.sap_lines.specs.declared.stepping.stopped.Stopped.{Stopped}
-use Rattle.sap_lines.specs.declared.stepping.stopped.Stopped.TheVariants.{Input, Output, Memory}
-use Rattle.sap_lines.specs.Stepping.Followed.{Breaks, Broken, Followed, Going, IsPartShown}
-use Rattle.sap_lines.specs.Stepping.Pace.{FaultOf, IsTooLong, KeepsPace, Prints, Shows, printed_fault, printed_text}
-use Rattle.sap_lines.proofs.stepping.Pace.{pace_ended}
-use Rattle.sap_lines.specs.Stepping.Printed.{IsPartOf, MissingOrTooLong, OutputGrew, Printed, StaysOpen, Stops, StopsFor, Unprinted}
+use Rattle.sap_lines.specs.declared.stepping.stopped.FailedCall.{FailedCall}
+use Rattle.sap_lines.specs.declared.stepping.stopped.FailedCall.TheVariants.{Input, Output}
+use Rattle.sap_lines.specs.declared.stepping.stopped.Stopped.TheVariants.{Call, Memory}
+use Rattle.sap_lines.specs.Stepping.Followed.{Broken, FailsFor, Followed, Going, GoesTooFar, IsPartShown, blamed_for}
+use Rattle.sap_lines.specs.Stepping.Pace.{FaultOf, IsNeeded, IsTooLong, IsWritten, Prints, Shows, printed_fault, printed_text}
+use Rattle.sap_lines.specs.Stepping.Printed.{CallFailed, CutShort, MissingOrTooLong, OutputGrew, Printed, StaysOpen, Stops}
 
 -- what is known of a desk whose file is opened
 
@@ -71,103 +72,89 @@ module _ (channel : ℕ) (name : List ℕ) (above : 2 < channel) (t n : Told) (c
     use_is : n.uses channel ≡ reads name (0 + count)
     use_is = ap (λ (u : ℕ → Use). u channel) uses_open ∙ at_number-same channel (reads name (0 + count)) t.uses
 
-    left_open : (why : Stopped) (text : Prints) (fault : FaultOf) → KeepsPace why text fault (rest_of (opened channel name t) channel) count gained
-        → StaysOpen why name text fault t gained t.uses n.uses
-    left_open why text fault pace = record {
-      channel = channel;
-      above = above;
-      fresh = can.fresh;
-      position = 0 + count;
-      uses = uses_open;
-      bytes = bytes_of t name;
-      file = file;
-      keeps_pace =
-          subst (λ (n : ℕ). KeepsPace why text fault (bytes_of t name) n gained) (let e : count ≡ 0 + count = omega arith in e)
-          (subst (λ (bytes : List ℕ). KeepsPace why text fault bytes count gained) whole pace);
-    }
+    left_open : (why : FailedCall) (text : Prints) (fault : FaultOf) → IsNeeded fault (rest_of (opened channel name t) channel) count
+        → IsWritten why text (rest_of (opened channel name t) channel) count gained → StaysOpen why name text fault t gained t.uses n.uses
+    left_open why text fault needed written =
+        let so_far : count ≡ 0 + count = omega arith in
+        record {
+          channel = channel;
+          above = above;
+          fresh = can.fresh;
+          position = 0 + count;
+          uses = uses_open;
+          bytes = bytes_of t name;
+          file = file;
+          needed = subst (λ (n : ℕ). IsNeeded fault (bytes_of t name) n) so_far (subst (λ (bytes : List ℕ). IsNeeded fault bytes count) whole needed);
+          written = subst (λ (n : ℕ). IsWritten why text (bytes_of t name) n gained) so_far (subst (λ (bytes : List ℕ). IsWritten why text bytes count gained) whole written);
+        }
 
     grew : OutputGrew gained t n
     grew = record { files = going.files; output = going.output; lines = going.lines; room = going.room }
 
   module _ (shows : Shows) (ls : Levels) (fs : List Field) where
-    of_file : (gained : List ℕ) → IsPartShown shows ls fs (rest_of (opened channel name t) channel) gained → IsPartOf shows ls fs name gained t
-    of_file gained part = record { bytes = bytes_of t name; file = file; part = subst (λ (bytes : List ℕ). IsPartShown shows ls fs bytes gained) whole part }
+    all_shown : (fault : Option StimFault) (f : Followed shows ls fs channel fault [] (opened channel name t) n) → shows (stimulus_of ls fs (rest_of (opened channel name t) channel)).stream f.gained
+    all_shown fault f = subst (shows (stimulus_of ls fs (rest_of (opened channel name t) channel)).stream) (append-nil f.gained) f.shown
 
-    pub printed : (fault : Option StimFault) → Followed shows ls fs channel fault (opened channel name t) n → Printed shows ls fs name fault t (finished channel n)
+    pub printed : (fault : Option StimFault) → Followed shows ls fs channel fault [] (opened channel name t) n → Printed shows ls fs name fault t (finished channel n)
     printed fault f = record {
       bytes = bytes_of t name;
       file = file;
       is_fault = f.is_fault ∙ ap (λ (bytes : List ℕ). (stimulus_of ls fs bytes).fault) whole;
       gained = f.gained;
-      shown = subst (λ (bytes : List ℕ). shows (stimulus_of ls fs bytes).stream f.gained) whole f.shown;
+      shown = subst (λ (bytes : List ℕ). shows (stimulus_of ls fs bytes).stream f.gained) whole (all_shown fault f);
       grew = record { files = f.going.files; output = f.going.output; lines = f.going.lines; room = f.going.room };
       uses = uses_finished f.count f.gained f.going;
     }
 
-    pub input_broken : Broken shows ls fs channel Input (opened channel name t) n → Unprinted shows ls fs Input name t n
-    input_broken b = record {
+    pub cut_short : (why : FailedCall) → Broken shows ls fs channel why (opened channel name t) n → CutShort shows ls fs name why t n
+    unfolding left_open
+    cut_short why b = record {
       gained = b.gained;
-      part = inr (of_file b.gained b.part);
       grew = grew b.count b.gained b.going;
-      blame = b.blame ∙ ap name_if_reading (at_number-same channel (reads name 0) t.uses);
-      stands = inr (left_open b.count b.gained b.going Input (printed_text shows ls fs) (printed_fault ls fs) b.keeps_pace);
-    }
-
-    pub output_broken : Broken shows ls fs channel Output (opened channel name t) n → Unprinted shows ls fs Output name t n
-    output_broken b = record {
-      gained = b.gained;
-      part = inr (of_file b.gained b.part);
-      grew = grew b.count b.gained b.going;
-      blame = b.blame;
-      stands = left_open b.count b.gained b.going Output (printed_text shows ls fs) (printed_fault ls fs) b.keeps_pace;
+      blame = b.blame ∙ ap (λ (u : Use). blamed_for why (name_if_reading u)) (at_number-same channel (reads name 0) t.uses);
+      stays = left_open b.count b.gained b.going why (printed_text shows ls fs) (printed_fault ls fs) b.needed b.written;
+      part = subst (λ (bytes : List ℕ). IsPartShown shows ls fs bytes b.gained) whole b.part;
     }
 
     -- it was followed to its end, and could not be finished
-    pub unfinished : (fault : Option StimFault) → Followed shows ls fs channel fault (opened channel name t) n
-        → Unprinted shows ls fs Input name t (blame_at channel (name_if_open (n.uses channel)) n)
+    pub unfinished : (fault : Option StimFault) → Followed shows ls fs channel fault [] (opened channel name t) n
+        → CutShort shows ls fs name Input t (blame_at channel (name_if_open (n.uses channel)) n)
+    unfolding left_open
     unfinished fault f =
-        subst (λ (x : Told). Unprinted shows ls fs Input name t x) (sym (blame_is channel name n above (name_if_open (n.uses channel)) n))
+        let read : List ℕ = rest_of (opened channel name t) channel in
+        subst (λ (x : Told). CutShort shows ls fs name Input t x) (sym (blame_is channel name n above (name_if_open (n.uses channel)) n))
         (record {
           gained = f.gained;
-          part = inr (of_file f.gained (record {
-            lines = (stimulus_of ls fs (rest_of (opened channel name t) channel)).stream;
-            more = [];
-            stream = sym (append-nil (stimulus_of ls fs (rest_of (opened channel name t) channel)).stream);
-            rest = [];
-            shown = subst (shows (stimulus_of ls fs (rest_of (opened channel name t) channel)).stream) (sym (append-nil f.gained)) f.shown;
-          }));
           grew = record { files = f.going.files; output = f.going.output; lines = f.going.lines; room = f.going.room };
           blame = ap name_if_open (use_is f.count f.gained f.going);
-          stands = inr (left_open f.count f.gained f.going Input (printed_text shows ls fs) (printed_fault ls fs)
-              (pace_ended shows ls fs (rest_of (opened channel name t) channel) f.count f.gained f.enough f.shown f.keeps_pace));
+          stays = left_open f.count f.gained f.going Input (printed_text shows ls fs) (printed_fault ls fs) f.needed
+              (subst (λ (p : Parsed). shows p.stream f.gained) (sym f.enough) (all_shown fault f));
+          part = subst (λ (bytes : List ℕ). IsPartShown shows ls fs bytes f.gained) whole (record {
+            lines = (stimulus_of ls fs read).stream;
+            more = [];
+            stream = sym (append-nil (stimulus_of ls fs read).stream);
+            rest = [];
+            shown = f.shown;
+          });
         })
 
   -- why, at a desk on which no call is still to fail by its number
-
-  pub input_for : (fault : FaultOf) → Breaks fault channel Input (opened channel name t) n → MissingOrTooLong fault name t
-  input_for fault breaks = inr (subst (IsTooLong fault) whole (breaks (subst IsReading (sym (at_number-same channel (reads name 0) t.uses)) tt)))
-
-  pub output_for : (fault : FaultOf) → Breaks fault channel Output (opened channel name t) n → StopsFor fault name Output t n
-  output_for fault breaks = λ writing.
-      breaks (subst IsWriting (sym (ap (λ (b : Bool). cond b (reads name 0) (t.uses 1)) (other_number 1 channel (omega arith)))) writing)
+  pub fails_for : (why : FailedCall) (fault : FaultOf) → FailsFor (GoesTooFar fault channel) why (opened channel name t) n → FailsFor (MissingOrTooLong fault name) why t n
+  fails_for Input fault far = inr (subst (IsTooLong fault) whole (far (subst IsReading (sym (at_number-same channel (reads name 0) t.uses)) tt)))
+  fails_for Output fault full = λ writing.
+      full (subst IsWriting (sym (ap (λ (b : Bool). cond b (reads name 0) (t.uses 1)) (other_number 1 channel (omega arith)))) writing)
 
 -- it could not be opened
 
 pub unopened : (shows : Shows) (ls : Levels) (fs : List Field) (name : List ℕ) (old new : Option Told) → new ≡ option_map (blamed name) old
-    → Between old new (Unprinted shows ls fs Input name)
+    → Between old new (Stops (CallFailed shows ls fs name) (Call Input))
 unopened shows ls fs name None new is = tt
-unopened shows ls fs name (Some t) new is = subst (λ (o : Option Told). Between (Some t) o (Unprinted shows ls fs Input name)) (sym is) (record {
-  gained = [];
-  part = inl refl;
-  grew = record { files = refl; output = sym (append-nil (t.written 1)); lines = refl; room = refl };
-  blame = refl;
-  stands = inl (refl, refl);
-})
+unopened shows ls fs name (Some t) new is = subst (λ (o : Option Told). Between (Some t) o (Stops (CallFailed shows ls fs name) (Call Input))) (sym is) (inl (refl, refl))
 
 pub missing : (fault : FaultOf) (name : List ℕ) (old new : Option Told) → new ≡ option_map (blamed name) old → IfSome old (λ t. t.files name ≡ None)
-    → Between old new (StopsFor fault name Input)
+    → Between old new (Stops (FailsFor (MissingOrTooLong fault name)) (Call Input))
 missing fault name None new is none = tt
-missing fault name (Some t) new is none = subst (λ (o : Option Told). Between (Some t) o (StopsFor fault name Input)) (sym is) (inl none)
+missing fault name (Some t) new is none = subst (λ (o : Option Told). Between (Some t) o (Stops (FailsFor (MissingOrTooLong fault name)) (Call Input))) (sym is) (inl none)
 
 -- a channel that is open can be finished
 pub never_unfinished : (channel : ℕ) (name : List ℕ) (R Q : Told → Told → Type 0) (f : Told → Told) (old one two three : Option Told) → one ≡ option_map (opened channel name) old
@@ -189,25 +176,7 @@ still_open channel count name gained t n going =
     ∙ ap (moved_use count) (at_number-same channel (reads name 0) t.uses) in
     subst IsOpen (sym reading) tt
 
--- a call failed on the way, whichever
-pub stops : (why : Stopped) (channel : ℕ) (name : List ℕ) → 2 < channel → (shows : Shows) (ls : Levels) (fs : List Field) (t n : Told) → CanOpen channel name t
-    → Broken shows ls fs channel why (opened channel name t) n → Stops shows ls fs name why t n
-stops Input channel name above shows ls fs t n can b = input_broken channel name above t n can shows ls fs b
-stops Output channel name above shows ls fs t n can b = output_broken channel name above t n can shows ls fs b
-stops Memory channel name above shows ls fs t n can b = absurd b.failed
-
-pub stops_for : (why : Stopped) (fault : FaultOf) (channel : ℕ) (name : List ℕ) → 2 < channel → (t n : Told) → CanOpen channel name t → Breaks fault channel why (opened channel name t) n
-    → StopsFor fault name why t n
-stops_for Input fault channel name above t n can breaks = input_for channel name above t n can fault breaks
-stops_for Output fault channel name above t n can breaks = output_for channel name above t n can fault breaks
-stops_for Memory fault channel name above t n can breaks = absurd breaks
-
 -- there was no memory to open it
-
-pub unchanged : (shows : Shows) (ls : Levels) (fs : List Field) (name : List ℕ) (old new : Option Told) → new ≡ old → Between old new (Stops shows ls fs name Memory)
-unchanged shows ls fs name None new is = tt
-unchanged shows ls fs name (Some t) new is = subst (λ (o : Option Told). Between (Some t) o (Stops shows ls fs name Memory)) (sym is) refl
-
-pub no_cause : (fault : FaultOf) (name : List ℕ) (old new : Option Told) → new ≡ old → Between old new (StopsFor fault name Memory)
-no_cause fault name None new is = tt
-no_cause fault name (Some t) new is = subst (λ (o : Option Told). Between (Some t) o (StopsFor fault name Memory)) (sym is) tt
+pub unchanged : (Failure : FailedCall → Told → Told → Type 0) (old new : Option Told) → new ≡ old → Between old new (Stops Failure Memory)
+unchanged Failure None new is = tt
+unchanged Failure (Some t) new is = subst (λ (o : Option Told). Between (Some t) o (Stops Failure Memory)) (sym is) refl

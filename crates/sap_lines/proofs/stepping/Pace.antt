@@ -1,18 +1,19 @@
 -- How far a channel was read, and what was written by then, from one line to the next.
-use Rattle.std.proofs.Common.{◌≡◌, ℕ, ◌+◌, ◌-◌, ◌<◌, ◌≤◌, List, [], ◌++◌, take, drop, append_assoc, refl, sym, ◌∙◌, ap, ap₂, subst, inl, inr, ◌⊎◌, arith}
+use Rattle.std.proofs.Common.{◌≡◌, ℕ, ◌+◌, ◌-◌, ◌<◌, ◌≤◌, List, [], ◌++◌, length, take, drop, append_assoc, refl, sym, ◌∙◌, ap, ap₂, subst, inl, inr, ◌⊎◌, arith}
 use Rattle.std.specs.Prelude.{Some, None}
-use Rattle.std.proofs.lemmas.List.{append-nil, drop-take, take-append-drop, take-take}
+use Rattle.std.proofs.lemmas.List.{append-nil, drop-take, take_all, take-append-drop, take-append-le, take-take}
 use Rattle.sap_lattice.specs.Levels.{Levels}
 use Rattle.sap_meaning.specs.Cycle.{Tagged as Given}
 use Rattle.sap_stream.specs.Spans.{Span, cycles_of}
 use Rattle.sap_stim.specs.declared.field.Field.{Field}
 use Rattle.sap_stim.specs.declared.stimulus.Parsed.{Parsed}
 use Rattle.sap_stim.specs.Stimulus.{behind, read_from, stimulus_of}
-use Rattle.sap_lines.specs.declared.stepping.stopped.Stopped.TheVariants.{Input, Output}
+use Rattle.sap_lines.specs.declared.stepping.stopped.FailedCall.TheVariants.{Input, Output}
 use Rattle.sap_lines.specs.Fetched.{IsDecided}
 use Rattle.sap_lines.specs.Follows.{Follows}
 use Rattle.sap_lines.specs.Reader.{Reader}
-use Rattle.sap_lines.specs.Stepping.Pace.{FaultOf, KeepsPace, Shows, TellsRefusal, printed_fault, printed_text}
+use Rattle.sap_lines.specs.Stepping.Pace.{FaultOf, IsNeeded, IsWritten, Shows, TellsRefusal, printed_fault, printed_text}
+use Rattle.sap_lines.proofs.Fronts.{begins_so}
 use Rattle.sap_lines.proofs.Undecided.{no_cycles, no_fault, undecided_front}
 
 -- so many bytes, and then more behind them
@@ -55,21 +56,31 @@ module _ (ls : Levels) (fs : List Field) (front : List ℕ) (lines : List Span) 
       ∙ ap (λ (cycles : List (List Given)). cycles_of lines ++ cycles) (no_cycles ls r.fields (r.count + 1) (r.pending ++ more) wants)
       ∙ append-nil (cycles_of lines)
 
+-- what the first of some bytes give, of what these lines give that all of them give
+front_lines : (ls : Levels) (fs : List Field) (bytes : List ℕ) (few many : ℕ) (cycles : List (List Given)) → few ≤ many → (stimulus_of ls fs (take many bytes)).stream ≡ cycles
+    → (stimulus_of ls fs (take few bytes)).stream ≡ take (length (stimulus_of ls fs (take few bytes)).stream) cycles
+front_lines ls fs bytes few many cycles less are =
+    let first : List (List Given) = (stimulus_of ls fs (take few bytes)).stream in
+    let more : List ℕ = take (many - few) (drop few bytes) in
+    let both : take many bytes ≡ take few bytes ++ more = (let sum : many ≡ few + (many - few) = omega (arith, less) in ap (λ (n : ℕ). take n bytes) sum ∙ front_more few (many - few) bytes) in
+    let (rest, is) = begins_so ls fs 1 (take few bytes) more in
+    sym (take-append-le (length first) first rest (omega arith) ∙ take_all (length first) first (omega arith))
+    ∙ ap (take (length first)) (sym is ∙ ap (λ (l : List ℕ). (stimulus_of ls fs l).stream) (sym both) ∙ are)
+
+-- the first of these cycles, however many, show a beginning of this text
+abbrev pub ShowsAlong : Shows → (cycles : List (List Given)) → (text : List ℕ) → Type 0
+ShowsAlong base cycles text = (first : ℕ) → (part more : List ℕ) × base (take first cycles) part × (text ≡ part ++ more)
+
 module _ (base : Shows) (ls : Levels) (fs : List Field) (bytes : List ℕ) (count : ℕ) where
-  abbrev Pace : (n : ℕ) → (gained : List ℕ) → Type 0
-  Pace n gained = KeepsPace Output (printed_text base ls fs) (printed_fault ls fs) bytes n gained
+  abbrev Needed : (n : ℕ) → Type 0
+  Needed n = IsNeeded (printed_fault ls fs) bytes n
+
+  abbrev WrittenBefore : (n : ℕ) → (gained : List ℕ) → Type 0
+  WrittenBefore n gained = IsWritten Output (printed_text base ls fs) bytes n gained
 
   -- what was written more
-  pub pace_written : (gained piece : List ℕ) → Pace count gained → Pace count (gained ++ piece)
-  pace_written gained piece pace = record {
-    earlier = pace.earlier;
-    begins = pace.begins;
-    ends = pace.ends;
-    wanted = pace.wanted;
-    written =
-        let (whole, more, is, all) = pace.written in
-        (whole, more ++ piece, is, ap (λ (l : List ℕ). l ++ piece) all ∙ append_assoc whole more piece);
-  }
+  pub written_more : (gained piece : List ℕ) → WrittenBefore count gained → WrittenBefore count (gained ++ piece)
+  written_more gained piece (whole, more, is, all) = (whole, more ++ piece, is, ap (λ (l : List ℕ). l ++ piece) all ∙ append_assoc whole more piece)
 
   module _ (lines : List Span) (r : Reader) (gained waiting : List ℕ) (follows : (rest : List ℕ) → Follows ls fs (take count bytes ++ rest) lines r rest)
       (shown : base (cycles_of lines) (gained ++ waiting)) (quiet : IsDecided r.pending ⊎ (waiting ≡ [])) where
@@ -80,56 +91,45 @@ module _ (base : Shows) (ls : Levels) (fs : List Field) (bytes : List ℕ) (coun
       | inr none ↦ none
     ]
 
-    all_written : (k : ℕ) → (IsDecided (r.pending ++ take k (drop count bytes)) → ⊥) → printed_text base ls fs (take (count + k) bytes) gained
-    all_written k wants =
-        let none : gained ++ waiting ≡ gained = ap (λ (l : List ℕ). gained ++ l) (none_waits (take k (drop count bytes)) wants) ∙ append-nil gained in
-        let lines_are : (stimulus_of ls fs (take (count + k) bytes)).stream ≡ cycles_of lines
-        = ap (λ (l : List ℕ). (stimulus_of ls fs l).stream) (front_more count k bytes) ∙ lines_alone ls fs (take count bytes) lines r follows (take k (drop count bytes)) wants in
-        subst (λ (cycles : List (List Given)). base cycles gained) (sym lines_are) (subst (base (cycles_of lines)) none shown)
+    all_gained : (k : ℕ) → (IsDecided (r.pending ++ take k (drop count bytes)) → ⊥) → gained ++ waiting ≡ gained
+    all_gained k wants = ap (λ (l : List ℕ). gained ++ l) (none_waits (take k (drop count bytes)) wants) ∙ append-nil gained
 
-    pub not_told : (k : ℕ) → (IsDecided (r.pending ++ take k (drop count bytes)) → ⊥) → TellsRefusal (printed_fault ls fs) (take (count + k) bytes) → ⊥
-    not_told k wants told =
-        untold ls fs (take count bytes) lines r follows (take k (drop count bytes)) wants (subst (TellsRefusal (printed_fault ls fs)) (front_more count k bytes) told)
+    lines_are : (k : ℕ) → (IsDecided (r.pending ++ take k (drop count bytes)) → ⊥) → (stimulus_of ls fs (take (count + k) bytes)).stream ≡ cycles_of lines
+    lines_are k wants =
+        ap (λ (l : List ℕ). (stimulus_of ls fs l).stream) (front_more count k bytes) ∙ lines_alone ls fs (take count bytes) lines r follows (take k (drop count bytes)) wants
+
+    -- all is written that the bytes give
+    pub all_written : (k : ℕ) → (IsDecided (r.pending ++ take k (drop count bytes)) → ⊥) → IsWritten Input (printed_text base ls fs) bytes (count + k) gained
+    all_written k wants = subst (λ (cycles : List (List Given)). base cycles gained) (sym (lines_are k wants)) (subst (base (cycles_of lines)) (all_gained k wants) shown)
+
+    -- none of them tells a refused line, nor do fewer
+    pub not_told : (k few : ℕ) → (IsDecided (r.pending ++ take k (drop count bytes)) → ⊥) → few ≤ count + k → TellsRefusal (printed_fault ls fs) (take few bytes) → ⊥
+    not_told k few wants less told =
+        untold ls fs (take count bytes) lines r follows (take k (drop count bytes)) wants
+        (subst (TellsRefusal (printed_fault ls fs)) (front_more count k bytes) (tells_on (printed_fault ls fs) bytes few (count + k) less told))
 
     -- where the last piece was wanted for the next line
-    pub pace_read : (k : ℕ) → (k ≡ 0) ⊎ ((j : ℕ) × (j < k) × (k ≤ j + 4096) × (IsDecided (r.pending ++ take j (drop count bytes)) → ⊥)) → Pace count gained → Pace (count + k) gained
-    pace_read k (inl none) pace = subst (λ (n : ℕ). Pace n gained) (let e : count ≡ count + k = omega (arith, none) in e) pace
-    pace_read k (inr (j, before, most, wants)) pace = record {
-      earlier = count + j;
-      begins = omega (arith, before);
-      ends = omega (arith, most);
-      wanted = not_told j wants;
-      written = (gained, [], all_written j wants, sym (append-nil gained));
-    }
 
-    -- where a read failed that was wanted for it
-    pub pace_failed : (k : ℕ) → (IsDecided (r.pending ++ take k (drop count bytes)) → ⊥) → KeepsPace Input (printed_text base ls fs) (printed_fault ls fs) bytes (count + k) gained
-    pace_failed k wants = record {
-      earlier = count + k;
-      begins = omega arith;
-      ends = omega arith;
-      wanted = not_told k wants;
-      written = all_written k wants;
-    }
+    abbrev Wanted : (k : ℕ) → Type 0
+    Wanted k = (k ≡ 0) ⊎ ((j : ℕ) × (j < k) × (k ≤ j + 4096) × (IsDecided (r.pending ++ take j (drop count bytes)) → ⊥))
+
+    pub needed_read : (k : ℕ) → Wanted k → Needed count → Needed (count + k)
+    needed_read k (inl none) needed = subst Needed (let e : count ≡ count + k = omega (arith, none) in e) needed
+    needed_read k (inr (j, before, most, wants)) needed = not_told j (count + k - 4096) wants (omega (arith, most))
+
+    pub written_read : (k : ℕ) → Wanted k → ShowsAlong base (cycles_of lines) (gained ++ waiting) → WrittenBefore count gained → WrittenBefore (count + k) gained
+    written_read k (inl none) along written = subst (λ (n : ℕ). WrittenBefore n gained) (let e : count ≡ count + k = omega (arith, none) in e) written
+    written_read k (inr (j, before, most, wants)) along written =
+        let few : ℕ = count + k - 4096 in
+        let first : List (List Given) = (stimulus_of ls fs (take few bytes)).stream in
+        let front : first ≡ take (length first) (cycles_of lines) = front_lines ls fs bytes few (count + j) (cycles_of lines) (omega (arith, most)) (lines_are j wants) in
+        let (part, more, is, all) = along (length first) in
+        (part, more, subst (λ (cycles : List (List Given)). base cycles part) (sym front) is, sym (all_gained j wants) ∙ all)
 
 -- where nothing was read
-pub pace_begins : (base : Shows) (ls : Levels) (fs : List Field) (bytes : List ℕ) → base [] [] → KeepsPace Output (printed_text base ls fs) (printed_fault ls fs) bytes 0 []
-pace_begins base ls fs bytes shown = record {
-  earlier = 0;
-  begins = omega arith;
-  ends = omega arith;
-  wanted = λ told. (let (why, all) = told in let e : None ≡ Some why = all [] in let f : ⊥ = cc in f);
-  written = ([], [], shown, refl);
-}
 
--- where a file could not be finished that was followed to its end
-pub pace_ended : (base : Shows) (ls : Levels) (fs : List Field) (bytes : List ℕ) (count : ℕ) (gained : List ℕ) → stimulus_of ls fs (take count bytes) ≡ stimulus_of ls fs bytes
-    → base (stimulus_of ls fs bytes).stream gained → KeepsPace Output (printed_text base ls fs) (printed_fault ls fs) bytes count gained
-    → KeepsPace Input (printed_text base ls fs) (printed_fault ls fs) bytes count gained
-pace_ended base ls fs bytes count gained enough shown pace = record {
-  earlier = pace.earlier;
-  begins = pace.begins;
-  ends = pace.ends;
-  wanted = pace.wanted;
-  written = subst (λ (p : Parsed). base p.stream gained) (sym enough) shown;
-}
+pub needed_none : (ls : Levels) (fs : List Field) (bytes : List ℕ) → IsNeeded (printed_fault ls fs) bytes 0
+needed_none ls fs bytes told = let (why, all) = told in let e : None ≡ Some why = all [] in let f : ⊥ = cc in f
+
+pub written_none : (base : Shows) (ls : Levels) (fs : List Field) (bytes : List ℕ) → base [] [] → IsWritten Output (printed_text base ls fs) bytes 0 []
+written_none base ls fs bytes shown = ([], [], shown, refl)

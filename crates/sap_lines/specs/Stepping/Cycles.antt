@@ -1,5 +1,5 @@
 -- What the steps in some cycles of a line show.
-use Rattle.std.specs.Prelude.{◌≡◌, ℕ, ◌≤◌, List, ◌++◌, length, replicate, Option}
+use Rattle.std.specs.Prelude.{◌≡◌, ℕ, ◌≤◌, List, ◌++◌, length, replicate, take, Option}
 use Rattle.sap_desk.specs.Desk.{Told}
 use Rattle.sap_desk.specs.Whole.{CutOutput}
 use Rattle.sap_meaning.specs.Cycle.{Tagged as Given}
@@ -12,10 +12,15 @@ abbrev pub Adds : (behind : List (List Given) → Type 0) → (shows later : Sho
 Adds behind shows later count cycles text =
     (before : List (List Given)) (shown : List ℕ) → behind before → count ≡ length before → shows before shown → later (before ++ cycles) (shown ++ text)
 
+-- the first of these cycles, however many, add a beginning of this text
+abbrev pub AddsAlong : (behind : List (List Given) → Type 0) → (shows : Shows) → (count : ℕ) → (cycles : List (List Given)) → (text : List ℕ) → Type 0
+AddsAlong behind shows count cycles text = (first : ℕ) → (part more : List ℕ) × Adds behind shows shows count (take first cycles) part × (text ≡ part ++ more)
+
 -- what these cycles show was written behind what waited, but what waits now
 pub record CyclesShown (behind : List (List Given) → Type 0) (shows later : Shows) (count : ℕ) (cycles : List (List Given)) (waited waits : List ℕ) (before after : Option Told) : Type 0 where
   pub text : List ℕ
   pub adds : Adds behind shows later count cycles text
+  pub along : AddsAlong behind shows count cycles text
   pub written : PieceWritten (waited ++ text) waits before after
 
 -- a write failed: of what waited and what the first cycles of a line show only a part was written

@@ -7,9 +7,11 @@ use Rattle.sap_meaning.specs.Cycle.{Tagged as Given}
 use Rattle.sap_stim.specs.declared.fault.StimFault.{StimFault}
 use Rattle.sap_stim.specs.declared.field.Field.{Field}
 use Rattle.sap_stim.specs.Stimulus.{stimulus_of}
+use Rattle.sap_lines.specs.declared.stepping.stopped.FailedCall.{FailedCall}
+use Rattle.sap_lines.specs.declared.stepping.stopped.FailedCall.TheVariants.{Input, Output}
 use Rattle.sap_lines.specs.declared.stepping.stopped.Stopped.{Stopped}
-use Rattle.sap_lines.specs.declared.stepping.stopped.Stopped.TheVariants.{Input, Output, Memory}
-use Rattle.sap_lines.specs.Stepping.Pace.{FaultOf, IsTooLong, KeepsPace, Shows, printed_fault, printed_text}
+use Rattle.sap_lines.specs.declared.stepping.stopped.Stopped.TheVariants.{Call, Memory}
+use Rattle.sap_lines.specs.Stepping.Pace.{FaultOf, IsNeeded, IsTooLong, IsWritten, Shows, printed_fault, printed_text}
 
 -- so many bytes more were read of a channel, this was written on channel 1, and nothing else changed but the blame
 pub record Going (channel count : ℕ) (gained : List ℕ) (t n : Told) : Type 0 where
@@ -27,61 +29,47 @@ pub record IsPartShown (shows : Shows) (ls : Levels) (fs : List Field) (bytes ga
   pub rest : List ℕ
   pub shown : shows lines (gained ++ rest)
 
--- all lines before the first that is refused are shown, and the bytes that were read tell them all
-pub record Followed (shows : Shows) (ls : Levels) (fs : List Field) (channel : ℕ) (fault : Option StimFault) (t n : Told) : Type 0 where
-  pub count : ℕ
-  pub gained : List ℕ
-  pub going : Going channel count gained t n
-  pub is_fault : fault ≡ (stimulus_of ls fs (rest_of t channel)).fault
-  pub shown : shows (stimulus_of ls fs (rest_of t channel)).stream gained
-  pub enough : stimulus_of ls fs (take count (rest_of t channel)) ≡ stimulus_of ls fs (rest_of t channel)
-  pub keeps_pace : KeepsPace Output (printed_text shows ls fs) (printed_fault ls fs) (rest_of t channel) count gained
-
--- all lines before the first that is refused are shown, but what is shown of the last of them still waits to be written
-pub record FollowedBut (shows : Shows) (ls : Levels) (fs : List Field) (channel : ℕ) (fault : Option StimFault) (waiting : List ℕ) (t n : Told) : Type 0 where
+-- All lines of a channel before the first that is refused are shown, and the bytes that were read tell them all; what is shown of the last of them may still wait to be written.
+pub record Followed (shows : Shows) (ls : Levels) (fs : List Field) (channel : ℕ) (fault : Option StimFault) (waiting : List ℕ) (t n : Told) : Type 0 where
   pub count : ℕ
   pub gained : List ℕ
   pub going : Going channel count gained t n
   pub is_fault : fault ≡ (stimulus_of ls fs (rest_of t channel)).fault
   pub shown : shows (stimulus_of ls fs (rest_of t channel)).stream (gained ++ waiting)
   pub enough : stimulus_of ls fs (take count (rest_of t channel)) ≡ stimulus_of ls fs (rest_of t channel)
-  pub keeps_pace : KeepsPace Output (printed_text shows ls fs) (printed_fault ls fs) (rest_of t channel) count gained
+  pub needed : IsNeeded (printed_fault ls fs) (rest_of t channel) count
+  pub written : IsWritten Output (printed_text shows ls fs) (rest_of t channel) count gained
 
 -- on every desk: some bytes have this fault, or have none
 abbrev pub IsFaultOfSome : Levels → List Field → Option StimFault → Type 0
 IsFaultOfSome ls fs fault = (bytes : List ℕ) × (fault ≡ (stimulus_of ls fs bytes).fault)
 
--- the file or the output that a failed call blames
-abbrev pub blamed_for : Stopped → (name : List ℕ) → (before : List ℕ) → List ℕ
-blamed_for Input name before = name
-blamed_for Output name before = codes "output"
-blamed_for Memory name before = before
+-- a failed call blames its file, or the output
+abbrev pub blamed_for : FailedCall → (name : List ℕ) → List ℕ
+blamed_for Input name = name
+blamed_for Output name = codes "output"
 
--- a call failed: the one or the other
-abbrev pub IsFailedCall : Stopped → Type 0
-IsFailedCall Input = Unit {0}
-IsFailedCall Output = Unit {0}
-IsFailedCall Memory = ⊥
-
--- so it ended
-pub record Broken (shows : Shows) (ls : Levels) (fs : List Field) (channel : ℕ) (why : Stopped) (t n : Told) : Type 0 where
+-- a call failed on the way: the lines of a channel are shown in part
+pub record Broken (shows : Shows) (ls : Levels) (fs : List Field) (channel : ℕ) (why : FailedCall) (t n : Told) : Type 0 where
   pub count : ℕ
   pub gained : List ℕ
   pub going : Going channel count gained t n
   pub part : IsPartShown shows ls fs (rest_of t channel) gained
-  pub keeps_pace : KeepsPace why (printed_text shows ls fs) (printed_fault ls fs) (rest_of t channel) count gained
-  pub blame : n.blame ≡ blamed_for why (name_if_reading (t.uses channel)) t.blame
-  pub failed : IsFailedCall why
+  pub needed : IsNeeded (printed_fault ls fs) (rest_of t channel) count
+  pub written : IsWritten why (printed_text shows ls fs) (rest_of t channel) count gained
+  pub blame : n.blame ≡ blamed_for why (name_if_reading (t.uses channel))
 
--- why it failed, at a desk on which no call is still to fail by its number
-abbrev pub Breaks : FaultOf → (channel : ℕ) → Stopped → Told → Told → Type 0
-Breaks fault channel Input t n = IsReading (t.uses channel) → IsTooLong fault (rest_of t channel)
-Breaks fault channel Output t n = IsWriting (t.uses 1) → length (n.written 1) ≡ n.room
-Breaks fault channel Memory t n = ⊥
+-- Why a call failed, at a desk on which no call is still to fail by its number: the lines can't be read, or what is written fills the room.
+abbrev pub FailsFor : (Unreadable : Told → Type 0) → FailedCall → Told → Told → Type 0
+FailsFor Unreadable Input t n = Unreadable t
+FailsFor Unreadable Output t n = IsWriting (t.uses 1) → length (n.written 1) ≡ n.room
+
+-- what is left to read of a channel is too long
+abbrev pub GoesTooFar : FaultOf → (channel : ℕ) → Told → Type 0
+GoesTooFar fault channel t = IsReading (t.uses channel) → IsTooLong fault (rest_of t channel)
 
 -- a failed call counts once
 abbrev pub Counts : {T : Type 0} → Result T Stopped → (faults now : ℕ) → Type 0
 Counts (Ok x) faults now = now ≡ faults
-Counts (Err Input) faults now = now ≡ counted faults
-Counts (Err Output) faults now = now ≡ counted faults
+Counts (Err (Call why)) faults now = now ≡ counted faults
 Counts (Err Memory) faults now = now ≡ faults

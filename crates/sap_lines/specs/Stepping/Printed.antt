@@ -1,14 +1,16 @@
 -- What comes of a stimulus that is printed.
-use Rattle.std.specs.Prelude.{◌≡◌, ◌⊎◌, ℕ, ◌<◌, List, [], ◌++◌, length, Option, Some, None}
-use Rattle.sap_desk.specs.Desk.{Told, Use, closed, reads, IsWriting, at_number, bytes_of}
+use Rattle.std.specs.Prelude.{◌≡◌, ◌⊎◌, ℕ, ◌<◌, List, ◌++◌, Option, Some, None}
+use Rattle.sap_desk.specs.Desk.{Told, Use, closed, reads, at_number, blamed, bytes_of}
 use Rattle.sap_lattice.specs.Levels.{Levels}
 use Rattle.sap_stim.specs.declared.fault.StimFault.{StimFault}
 use Rattle.sap_stim.specs.declared.field.Field.{Field}
 use Rattle.sap_stim.specs.Stimulus.{stimulus_of}
+use Rattle.sap_lines.specs.declared.stepping.stopped.FailedCall.{FailedCall}
+use Rattle.sap_lines.specs.declared.stepping.stopped.FailedCall.TheVariants.{Input}
 use Rattle.sap_lines.specs.declared.stepping.stopped.Stopped.{Stopped}
-use Rattle.sap_lines.specs.declared.stepping.stopped.Stopped.TheVariants.{Input, Output, Memory}
+use Rattle.sap_lines.specs.declared.stepping.stopped.Stopped.TheVariants.{Call, Memory}
 use Rattle.sap_lines.specs.Stepping.Followed.{IsPartShown, blamed_for}
-use Rattle.sap_lines.specs.Stepping.Pace.{FaultOf, IsTooLong, KeepsPace, Prints, Shows, printed_fault, printed_text}
+use Rattle.sap_lines.specs.Stepping.Pace.{FaultOf, IsNeeded, IsTooLong, IsWritten, Prints, Shows, printed_fault, printed_text}
 
 -- this was written on channel 1, and nothing else changed but what is open and whom the desk blames
 pub record OutputGrew (gained : List ℕ) (t n : Told) : Type 0 where
@@ -27,14 +29,8 @@ pub record Printed (shows : Shows) (ls : Levels) (fs : List Field) (name : List 
   pub grew : OutputGrew gained t n
   pub uses : n.uses ≡ t.uses
 
--- the beginning of what is shown of a file, or nothing
-pub record IsPartOf (shows : Shows) (ls : Levels) (fs : List Field) (name gained : List ℕ) (t : Told) : Type 0 where
-  pub bytes : List ℕ
-  pub file : t.files name ≡ Some bytes
-  pub part : IsPartShown shows ls fs bytes gained
-
--- A call failed where so much of a file was read and written: the channel is still open that reads it, since no further call is made.
-pub record StaysOpen (why : Stopped) (name : List ℕ) (text : Prints) (fault : FaultOf) (t : Told) (gained : List ℕ) (before after : ℕ → Use) : Type 0 where
+-- A call failed where so many bytes of a file were read, and this was written: the channel is still open that reads it, since no further call is made.
+pub record StaysOpen (why : FailedCall) (name : List ℕ) (text : Prints) (fault : FaultOf) (t : Told) (gained : List ℕ) (before after : ℕ → Use) : Type 0 where
   pub channel : ℕ
   pub above : 2 < channel
   pub fresh : before channel ≡ closed
@@ -42,34 +38,26 @@ pub record StaysOpen (why : Stopped) (name : List ℕ) (text : Prints) (fault : 
   pub uses : after ≡ at_number channel (reads name position) before
   pub bytes : List ℕ
   pub file : t.files name ≡ Some bytes
-  pub keeps_pace : KeepsPace why text fault bytes position gained
+  pub needed : IsNeeded fault bytes position
+  pub written : IsWritten why text bytes position gained
 
--- What stands where a call failed: the file could not be opened, and nothing is written; or it stays open.
-abbrev pub BreaksOff : Stopped → (name : List ℕ) → Prints → FaultOf → Told → (gained : List ℕ) → (before after : ℕ → Use) → Type 0
-BreaksOff Input name text fault t gained before after = ((after ≡ before) × (gained ≡ [])) ⊎ StaysOpen Input name text fault t gained before after
-BreaksOff Output name text fault t gained before after = StaysOpen Output name text fault t gained before after
-BreaksOff Memory name text fault t gained before after = (after ≡ before) × (gained ≡ [])
-
--- a call failed: what is written is a part
-pub record Unprinted (shows : Shows) (ls : Levels) (fs : List Field) (why : Stopped) (name : List ℕ) (t n : Told) : Type 0 where
+-- a call failed once the file was open: what is written is the beginning of what is shown
+pub record CutShort (shows : Shows) (ls : Levels) (fs : List Field) (name : List ℕ) (why : FailedCall) (t n : Told) : Type 0 where
   pub gained : List ℕ
-  pub part : (gained ≡ []) ⊎ IsPartOf shows ls fs name gained t
   pub grew : OutputGrew gained t n
-  pub blame : n.blame ≡ blamed_for why name t.blame
-  pub stands : BreaksOff why name (printed_text shows ls fs) (printed_fault ls fs) t gained t.uses n.uses
+  pub blame : n.blame ≡ blamed_for why name
+  pub stays : StaysOpen why name (printed_text shows ls fs) (printed_fault ls fs) t gained t.uses n.uses
+  pub part : IsPartShown shows ls fs stays.bytes gained
 
--- it ended early
-abbrev pub Stops : Shows → Levels → List Field → (name : List ℕ) → Stopped → Told → Told → Type 0
-Stops shows ls fs name Input t n = Unprinted shows ls fs Input name t n
-Stops shows ls fs name Output t n = Unprinted shows ls fs Output name t n
-Stops shows ls fs name Memory t n = n ≡ t
+-- what stands where a call failed: the file could not be opened, and only the blame changed; or the file was opened, and printing was cut short
+abbrev pub CallFailed : Shows → Levels → List Field → (name : List ℕ) → FailedCall → Told → Told → Type 0
+CallFailed shows ls fs name why t n = ((why ≡ Input) × (n ≡ blamed name t)) ⊎ CutShort shows ls fs name why t n
+
+-- it ended early: by a failed call, of which this holds; or for want of memory, and nothing changed
+abbrev pub Stops : (Failure : FailedCall → Told → Told → Type 0) → Stopped → Told → Told → Type 0
+Stops Failure (Call why) t n = Failure why t n
+Stops Failure Memory t n = n ≡ t
 
 -- why a file can't be read that is printed line by line, at a desk on which no call is still to fail by its number
 abbrev pub MissingOrTooLong : FaultOf → (name : List ℕ) → Told → Type 0
 MissingOrTooLong fault name t = (t.files name ≡ None) ⊎ IsTooLong fault (bytes_of t name)
-
--- and so why it ended
-abbrev pub StopsFor : FaultOf → (name : List ℕ) → Stopped → Told → Told → Type 0
-StopsFor fault name Input t n = MissingOrTooLong fault name t
-StopsFor fault name Output t n = IsWriting (t.uses 1) → length (n.written 1) ≡ n.room
-StopsFor fault name Memory t n = Unit {0}

@@ -1,6 +1,7 @@
 //! Printing what the steps show.
 
-ghost use Rattle.std.specs.Prelude.{◌≡◌, ◌+◌, ◌<◌, ◌≤◌, ◌^◌, ◌⊎◌, ◌++◌, ℕ, List, [], OnOk, OnErr, IfOk, IfErr, length};
+ghost use Rattle.std.specs.Prelude.{◌≡◌, ◌+◌, ◌<◌, ◌≤◌, ◌^◌, ◌⊎◌, ◌++◌, ℕ, List, [], OnOk, OnErr, IfOk, IfErr, MatchResult, length};
+ghost use Rattle.sap_desk.specs.Cause.{counted};
 ghost use Rattle.sap_desk.specs.Desk.{IsWriting};
 ghost use Rattle.sap_desk.specs.Whole.{Between, CountsFailed};
 ghost use Rattle.sap_meaning.specs.Cycle.{Tagged as Given};
@@ -9,13 +10,13 @@ ghost use Rattle.sap_stim.specs.Fits.{LineFits};
 ghost use Rattle.sap_lines.specs.Fetched.{IsDecided};
 ghost use Rattle.sap_lines.specs.Reader.{IsNew};
 ghost use Rattle.sap_lines.specs.Stepping.Cycles.{CyclesCut, CyclesShown};
-ghost use Rattle.sap_lines.specs.Stepping.Followed.{Breaks, Broken, Counts, Followed, FollowedBut, IsFaultOfSome};
+ghost use Rattle.sap_lines.specs.Stepping.Followed.{Broken, Counts, FailsFor, Followed, GoesTooFar, IsFaultOfSome};
 ghost use Rattle.sap_lines.specs.Stepping.Pace.{printed_fault};
-ghost use Rattle.sap_lines.specs.Stepping.Printed.{Printed, Stops, StopsFor};
+ghost use Rattle.sap_lines.specs.Stepping.Printed.{CallFailed, MissingOrTooLong, Printed, Stops};
 ghost use Rattle.sap_lines.specs.declared.stepping.TheConstants.{LARGE_BYTES};
 
 use crate::stepping::steps::Steps;
-use crate::stepping::stopped::Stopped;
+use crate::stepping::stopped::{FailedCall, Stopped};
 use crate::stepping::waiting::{flush_unless_held, show, write_text};
 use crate::{Lines, Next, lines_follow};
 use sap_desk::{Desk, DeskError, Failed, RowBuf};
@@ -77,7 +78,7 @@ fn step_on<D: Desk, S: Steps>(
     lines: &mut Lines,
     out: &mut RowBuf,
     waiting: &mut RowBuf,
-) -> Result<Option<StimFault>, Stopped>
+) -> Result<Option<StimFault>, FailedCall>
     requires above { 2 < channel }
     requires unread { D.given desk.old channel ≡ 0 }
     requires lines { IsNew (S.fields steps.old) lines.old }
@@ -86,13 +87,13 @@ fn step_on<D: Desk, S: Steps>(
     requires room { S.room steps.old ≤ out.old.room }
     requires waiting { waiting.old.bytes ≡ [] }
     requires large { LARGE_BYTES ≤ waiting.old.room }
-    ensures done { IfOk result (λ fault. Between (D.told desk.old) (D.told desk.new) (FollowedBut (S.shows steps.old) (S.levels steps.old) (S.fields steps.old) channel fault waiting.new.bytes)) }
+    ensures done { IfOk result (λ fault. Between (D.told desk.old) (D.told desk.new) (Followed (S.shows steps.old) (S.levels steps.old) (S.fields steps.old) channel fault waiting.new.bytes)) }
     ensures some { IfOk result (IsFaultOfSome (S.levels steps.old) (S.fields steps.old)) }
     ensures broken { IfErr result (λ why. Between (D.told desk.old) (D.told desk.new) (Broken (S.shows steps.old) (S.levels steps.old) (S.fields steps.old) channel why)) }
-    ensures faults { Counts result (D.faults desk.old) (D.faults desk.new) }
+    ensures faults { MatchResult result (λ _. D.faults desk.new ≡ D.faults desk.old) (λ _. D.faults desk.new ≡ counted (D.faults desk.old)) }
     ensures lost { D.lost desk.new ≡ D.lost desk.old }
     ensures sure { D.sure desk.old → D.sure desk.new }
-    ensures cause { IfErr result (λ why. D.sure desk.old → Between (D.told desk.old) (D.told desk.new) (Breaks (printed_fault (S.levels steps.old) (S.fields steps.old)) channel why)) }
+    ensures cause { IfErr result (λ why. D.sure desk.old → Between (D.told desk.old) (D.told desk.new) (FailsFor (GoesTooFar (printed_fault (S.levels steps.old) (S.fields steps.old)) channel) why)) }
 {
     lines_follow();
     let mut cycle: u64 = 0;
@@ -100,11 +101,11 @@ fn step_on<D: Desk, S: Steps>(
         match lines.next(desk, channel, steps.lattice()) {
             Next::Line => match step_line(desk, steps, lines, &mut cycle, out, waiting) {
                 Ok(()) => {}
-                Err(Failed) => return Err(Stopped::Output),
+                Err(Failed) => return Err(FailedCall::Output),
             },
             Next::End => return Ok(None),
             Next::Fault(fault) => return Ok(Some(fault)),
-            Next::Failed => return Err(Stopped::Input),
+            Next::Failed => return Err(FailedCall::Input),
         }
     }
 }
@@ -117,7 +118,7 @@ fn follow<D: Desk, S: Steps>(
     lines: &mut Lines,
     out: &mut RowBuf,
     waiting: &mut RowBuf,
-) -> Result<Option<StimFault>, Stopped>
+) -> Result<Option<StimFault>, FailedCall>
     requires above { 2 < channel }
     requires unread { D.given desk.old channel ≡ 0 }
     requires lines { IsNew (S.fields steps.old) lines.old }
@@ -126,18 +127,18 @@ fn follow<D: Desk, S: Steps>(
     requires room { S.room steps.old ≤ out.old.room }
     requires waiting { waiting.old.bytes ≡ [] }
     requires large { LARGE_BYTES ≤ waiting.old.room }
-    ensures done { IfOk result (λ fault. Between (D.told desk.old) (D.told desk.new) (Followed (S.shows steps.old) (S.levels steps.old) (S.fields steps.old) channel fault)) }
+    ensures done { IfOk result (λ fault. Between (D.told desk.old) (D.told desk.new) (Followed (S.shows steps.old) (S.levels steps.old) (S.fields steps.old) channel fault [])) }
     ensures some { IfOk result (IsFaultOfSome (S.levels steps.old) (S.fields steps.old)) }
     ensures broken { IfErr result (λ why. Between (D.told desk.old) (D.told desk.new) (Broken (S.shows steps.old) (S.levels steps.old) (S.fields steps.old) channel why)) }
-    ensures faults { Counts result (D.faults desk.old) (D.faults desk.new) }
+    ensures faults { MatchResult result (λ _. D.faults desk.new ≡ D.faults desk.old) (λ _. D.faults desk.new ≡ counted (D.faults desk.old)) }
     ensures lost { D.lost desk.new ≡ D.lost desk.old }
     ensures sure { D.sure desk.old → D.sure desk.new }
-    ensures cause { IfErr result (λ why. D.sure desk.old → Between (D.told desk.old) (D.told desk.new) (Breaks (printed_fault (S.levels steps.old) (S.fields steps.old)) channel why)) }
+    ensures cause { IfErr result (λ why. D.sure desk.old → Between (D.told desk.old) (D.told desk.new) (FailsFor (GoesTooFar (printed_fault (S.levels steps.old) (S.fields steps.old)) channel) why)) }
 {
     match step_on(desk, channel, steps, lines, out, waiting) {
         Ok(fault) => match write_text(desk, waiting.bytes()) {
             Ok(()) => Ok(fault),
-            Err(Failed) => Err(Stopped::Output),
+            Err(Failed) => Err(FailedCall::Output),
         },
         Err(why) => Err(why),
     }
@@ -163,21 +164,21 @@ pub fn print<D: Desk, S: Steps>(
     requires large { LARGE_BYTES ≤ waiting.old.room }
     ensures done { IfOk result (λ fault. Between (D.told desk.old) (D.told desk.new) (Printed (S.shows steps.old) (S.levels steps.old) (S.fields steps.old) name.now fault)) }
     ensures some { IfOk result (IsFaultOfSome (S.levels steps.old) (S.fields steps.old)) }
-    ensures stopped { IfErr result (λ why. Between (D.told desk.old) (D.told desk.new) (Stops (S.shows steps.old) (S.levels steps.old) (S.fields steps.old) name.now why)) }
+    ensures stopped { IfErr result (λ why. Between (D.told desk.old) (D.told desk.new) (Stops (CallFailed (S.shows steps.old) (S.levels steps.old) (S.fields steps.old) name.now) why)) }
     ensures faults { Counts result (D.faults desk.old) (D.faults desk.new) }
     ensures lost { D.lost desk.new ≡ D.lost desk.old }
     ensures sure { D.sure desk.old → D.sure desk.new }
-    ensures cause { IfErr result (λ why. D.sure desk.old → Between (D.told desk.old) (D.told desk.new) (StopsFor (printed_fault (S.levels steps.old) (S.fields steps.old)) name.now why)) }
+    ensures cause { IfErr result (λ why. D.sure desk.old → Between (D.told desk.old) (D.told desk.new) (Stops (FailsFor (MissingOrTooLong (printed_fault (S.levels steps.old) (S.fields steps.old)) name.now)) why)) }
 {
     match desk.open_in(name) {
         Ok(channel) => match follow(desk, channel, steps, lines, out, waiting) {
             Ok(fault) => match desk.finish(channel) {
                 Ok(()) => Ok(fault),
-                Err(Failed) => Err(Stopped::Input),
+                Err(Failed) => Err(Stopped::Call(FailedCall::Input)),
             },
-            Err(why) => Err(why),
+            Err(why) => Err(Stopped::Call(why)),
         },
-        Err(DeskError::Failed) => Err(Stopped::Input),
+        Err(DeskError::Failed) => Err(Stopped::Call(FailedCall::Input)),
         Err(DeskError::Memory) => Err(Stopped::Memory),
     }
 }

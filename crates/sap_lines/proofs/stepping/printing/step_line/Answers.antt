@@ -1,9 +1,28 @@
-use Rattle.std.proofs.Common.{rules, ◌≡◌, ◌<◌, ◌∙◌, arith}
+use Rattle.std.proofs.Common.{rules, ◌≡◌, ◌<◌, refl, sym, ◌∙◌, subst, arith}
+use Rattle.std.proofs.lemmas.List.{append-nil}
 use Rattle.std.proofs.lemmas.Result.{on_err_weaker, on_ok_weaker}
 use Rattle.sap_desk.proofs.Steps.{on_err}
 use Rattle.sap_stream.specs.Spans.{cycles_in}
-use Rattle.sap_lines.proofs.stepping.Cycles.{all_shown, behind_more, cut_last, cut_more, shown_more, shown_then}
+use Rattle.sap_lines.proofs.stepping.Cycles.{all_shown, behind_more, cut_last, cut_more, none_shown, shown_more, shown_then}
 use Rattle.sap_lines.proofs.stepping.printing.step_line.Goals as goal
+
+pub loop-init : goal.loop-init
+loop-init g c = record {
+  cycle = omega arith;
+  behind = λ cycles h. subst (g.S.Steps.behind c.args.steps.now) (sym (append-nil cycles)) h;
+  shown = none_shown (g.S.Steps.behind c.args.steps.now) (g.S.Steps.shows c.args.steps.now) c.args.cycle.now c.args.lines.now.line.inputs c.args.waiting.now.bytes (g.D.Desk.told c.args.desk.now);
+  same_levels = refl;
+  same_fields = refl;
+  same_room = refl;
+  same_shows = λ cycles text h. h;
+  room = omega arith;
+  few = c.requires.few;
+  large = omega arith;
+  given = refl;
+  faults = refl;
+  lost = refl;
+  sure = λ s. s;
+}
 
 pub loop-preserved : goal.loop-preserved
 loop-preserved g c =
@@ -15,7 +34,7 @@ loop-preserved g c =
       shown = shown_more (g.S.Steps.behind c.args.steps.now) (g.S.Steps.behind c.loop.steps) (g.S.Steps.shows c.args.steps.now) (g.S.Steps.shows c.loop.steps) (g.S.Steps.shows c.step.new.self)
           c.args.cycle.now c.loop.cycle c.loop.counter x c.inputs.result.now c.args.waiting.now.bytes c.loop.waiting.bytes c.step.new.out.bytes c.bytes.result.now
           (g.D.Desk.told c.args.desk.now) (g.D.Desk.told c.loop.desk) (g.D.Desk.told c.show.new.desk) c.inputs.ensures c.bytes.ensures inv.behind inv.cycle c.step.ensures.shows inv.shown
-          c.show.new.waiting.bytes c.in_ok-show.ensures.written;
+          (λ cycles text h. inv.same_shows cycles text (c.step.ensures.same_shows cycles text h)) c.show.new.waiting.bytes c.in_ok-show.ensures.written;
       same_levels = c.step.ensures.same_levels ∙ inv.same_levels;
       same_fields = c.step.ensures.same_fields ∙ inv.same_fields;
       same_room = c.step.ensures.same_room ∙ inv.same_room;

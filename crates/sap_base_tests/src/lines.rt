@@ -1,0 +1,89 @@
+//! A stimulus line by line, where a call fails on its file.
+
+ghost use Rattle.std.specs.Prelude.{◌≢◌};
+
+use sap_desk::{Desk, MemoryDesk};
+use sap_latfile::read_lattice;
+use sap_lattice::lattice::Lattice;
+use sap_lines::{Lines, Next};
+use sap_stim::{Field, Fields};
+use std::alloc::{AllocError, Global};
+
+const TWO: &str = "levels = [\"low\", \"high\"]\nbelow = [[\"low\", \"high\"]]\n";
+
+const LINE: &[u8] = b"5@high\n";
+
+/// How many lines the stimulus has: 8,400 bytes, which are read as 4,096, 4,096, 208 and none.
+const LINES: usize = 1200;
+
+fn stimulus(alloc: Global) -> Result<Vec<u8>, AllocError> {
+    let mut bytes = Vec::new(alloc);
+    for _ in 0..LINES {
+        bytes.extend_from_slice(LINE)?;
+    }
+    Ok(bytes)
+}
+
+fn is_line(reader: &Lines) -> bool {
+    let values = reader.inputs().values();
+    reader.count() == 1
+        && values.len() == 1
+        && values[0].number() == 5
+        && values[0].level().place() == 1
+}
+
+/// How many lines come before the last answer, which is this one; none where a line is another than said.
+fn lines_before(
+    desk: &mut MemoryDesk,
+    channel: usize,
+    reader: &mut Lines,
+    lattice: &Lattice,
+    last: Next,
+) -> Option<usize>
+    requires { channel ≢ 2 }
+{
+    for count in 0..=LINES {
+        if !reader.live() {
+            return None;
+        }
+        let next = reader.next(desk, channel, lattice);
+        if next == last {
+            return if reader.live() { None } else { Some(count) };
+        }
+        if next != Next::Line || !is_line(reader) {
+            return None;
+        }
+    }
+    None
+}
+
+/// Reads the stimulus from a desk whose call of this number fails, the first being the one that opens it.
+fn read(alloc: Global, failing: u64, last: Next) -> Result<Option<usize>, AllocError> {
+    let Ok(lattice) = read_lattice(alloc, TWO.as_bytes()) else {
+        return Ok(None);
+    };
+    let mut desk = MemoryDesk::new(alloc, 0)?;
+    desk.put_file("stimulus", stimulus(alloc)?.as_slice())?;
+    desk.fail_at(failing)?;
+    let Ok(channel) = desk.open_in("stimulus") else {
+        return Ok(None);
+    };
+    let fields = Fields::new(vec![in alloc; Field::Tagged(8)]?);
+    let mut reader = Lines::new(alloc, &fields)?;
+    Ok(lines_before(&mut desk, channel, &mut reader, &lattice, last))
+}
+
+fn gives(alloc: Global, failing: u64, last: Next, lines: usize) -> bool {
+    matches!(read(alloc, failing, last), Ok(Some(count)) if count == lines)
+}
+
+// 585 lines are 4,095 bytes, and 1,170 lines are 8,190.
+#[test]
+fn gives_the_lines_before_a_failed_read(rt: HostRuntime) {
+    let alloc = rt.alloc();
+    assert!(rt; gives(alloc, 2, Next::Failed, 0));
+    assert!(rt; gives(alloc, 3, Next::Failed, 585));
+    assert!(rt; gives(alloc, 4, Next::Failed, 1170));
+    assert!(rt; gives(alloc, 5, Next::Failed, 1200));
+    assert!(rt; gives(alloc, 6, Next::End, 1200));
+}
