@@ -4,4 +4,3 @@ pub mod Agreements
 pub mod TwinEnds
 pub mod StreamEnds
 pub mod CommandLaws
-pub mod Starving

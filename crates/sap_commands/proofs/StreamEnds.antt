@@ -1,5 +1,5 @@
 -- How the streams of `twin` end, step by step, behind its design.
-use Rattle.std.proofs.Common.{◌≡◌, ℕ, List, refl, subst, inl, inr}
+use Rattle.std.proofs.Common.{◌≡◌, ℕ, List, subst, inl, inr}
 use Rattle.std.specs.Prelude.{None, Ok, Err}
 use Rattle.sap_lattice.specs.Levels.{Levels, order_of}
 use Rattle.sap_lattice.specs.Order.{Order}
@@ -11,7 +11,7 @@ use Rattle.sap_meaning.specs.Cycle.{Tagged}
 use Rattle.sap_tree.specs.Syntax.{DesignTree}
 use Rattle.sap_net.specs.Net.{Net}
 use Rattle.sap_compile.specs.Compiles.{IsModuleFor}
-use Rattle.sap_files.specs.Ending.{Ending, done}
+use Rattle.sap_files.specs.Ending.{Ending}
 use Rattle.sap_files.specs.Kinds.{IsLatticeFile, stream_file}
 use Rattle.sap_files.specs.Asks.{gives}
 use Rattle.sap_files.specs.Compared.{Finds}
@@ -62,13 +62,13 @@ module _ (lattice : List ℕ) (ls k : Levels) (d : DesignTree) (of_file : IsLatt
       agree_over agree = subst (λ (o : Order). StreamsAgree o l one other) same.order agree
 
       pub told : (net : Net) (written text : List ℕ) (e : Ending) (n : Moment) → IsModuleFor k d net written → Finds k d l one other word (Ok text)
-          → Ends (gives (λ given. given ≡ text) done) e c n → Ends (asks_streams ls d first second word l) e a n
+          → Ends (gives (λ given. given ≡ text)) e c n → Ends (asks_streams ls d first second word l) e a n
       told net written text e n some found put =
           let agree : StreamsAgree (order_of ls) l one other = agree_over found.0 in
           past one one_is.1 one_is.2
           (past other other_is.1 other_is.2
           (chosen None agree
-          (gave text done
+          (gave text
           (agreement lattice ls is.lattice d l one_is.0 other_is.0 word text one other net written one_is.2 other_is.2 agree found.1
           (module_in k ls same d net written some))
-          refl put)))
+          put)))

@@ -1,5 +1,5 @@
 -- What each command asks.
-use Rattle.std.specs.Prelude.{◌≡◌, ◌↔◌, ℕ, List, [], Option, Some, None}
+use Rattle.std.specs.Prelude.{◌≡◌, ℕ, List, Option, Some, None}
 use Rattle.sap_desk.specs.Desk.{Told}
 use Rattle.sap_lattice.specs.Levels.{Levels, level_named, order_of}
 use Rattle.sap_meaning.specs.Cycle.{Tagged}
@@ -10,13 +10,13 @@ use Rattle.sap_sim.specs.Labelled.RunOf.{read_for as design_stimulus}
 use Rattle.sap_compile.specs.Compiles.{IsModuleFor}
 use Rattle.sap_gen.specs.Text.{generated_text}
 use Rattle.sap_words.specs.Words.{Words, compile, run, trace, fmt, sim, report, twin, gen, command_of}
-use Rattle.sap_files.specs.Ending.{Ending, done, no_memory, no_command, level_refused}
+use Rattle.sap_files.specs.Ending.{Ending, no_command, level_refused}
 use Rattle.sap_files.specs.Kinds.{lattice_file, design_file, stream_file}
 use Rattle.sap_commands.specs.Twin.{IsAgreement}
 use Rattle.sap_files.specs.Compared.{IsVerdict, difference}
 use Rattle.sap_files.specs.StimulusTexts.{AreDesignRows, AreTraceLines}
 use Rattle.sap_files.specs.Uncompiled.{asks_canonical, asks_simulated, asks_report}
-use Rattle.sap_files.specs.Asks.{Asks, file, by, gives, prints, writes, stops, Cause, IsCut, IsOutput, Output}
+use Rattle.sap_files.specs.Asks.{Asks, file, by, gives, prints, writes, stops, Cause, IsOutput}
 
 -- the text is one of a module for the design
 abbrev pub IsModuleText : Levels → DesignTree → (text : List ℕ) → Type 0
@@ -29,7 +29,7 @@ at_level word rest (Some l) = rest l
 
 -- what is written of two streams of a design, by where they first don't agree at a level
 abbrev pub compared : Levels → DesignTree → (l : ℕ) → (word : List ℕ) → (one other : List (List Tagged)) → Option Apart → Asks
-compared ls d l word one other None = gives (IsAgreement ls d l one other word) done
+compared ls d l word one other None = gives (IsAgreement ls d l one other word)
 compared ls d l word one other (Some apart) = stops (difference d apart)
 
 -- two streams of a design compared at a level
@@ -53,7 +53,7 @@ asks (report lattice design) = asks_report lattice design
 asks (twin lattice design first second level) =
     file lattice lattice_file (λ ls. by (Option ℕ) (λ named. named ≡ level_named ls.names level) (at_level level (λ l.
     file design (design_file ls) (λ d. asks_streams ls d first second level l))))
-asks (gen n) = gives (λ text. text ≡ generated_text n) done
+asks (gen n) = gives (λ text. text ≡ generated_text n)
 
 -- what words ask that may be no command
 abbrev pub asks_if : Option Words → Asks
@@ -62,23 +62,6 @@ asks_if (Some c) = asks c
 
 abbrev pub asks_for : List (List ℕ) → Asks
 asks_for words = asks_if (command_of words)
-
--- it prints what its stimulus shows line by line
-abbrev pub IsPrinted : Words → Type 0
-IsPrinted (compile lattice design out) = ⊥
-IsPrinted (run lattice design stimulus) = Unit {0}
-IsPrinted (trace lattice design stimulus) = Unit {0}
-IsPrinted (fmt design) = ⊥
-IsPrinted (sim lattice verilog stimulus) = Unit {0}
-IsPrinted (report lattice design) = ⊥
-IsPrinted (twin lattice design first second level) = ⊥
-IsPrinted (gen n) = ⊥
-
--- Where there was no memory, channel 1 gained nothing by a command that prints line by line, and by every other what it may have gained by a failed call: a prefix of
--- the text that is asked for, or nothing.
-abbrev pub WithoutMemory : Type 0
-WithoutMemory = (c : Words) (t : Told) (gained : List ℕ)
-    → (IsPrinted c → Output (asks c) t gained no_memory ↔ (gained ≡ [])) × ((¬ IsPrinted c) → Output (asks c) t gained no_memory ↔ IsCut (asks c) t gained)
 
 -- the words and files of a command ask for one text
 abbrev pub OneOutput : Type 0

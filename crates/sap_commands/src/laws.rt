@@ -1,6 +1,6 @@
 //! What holds of all words and files.
 
-ghost use Rattle.sap_commands.specs.Commands.{OneCause, OneOutput, WithoutMemory};
+ghost use Rattle.sap_commands.specs.Commands.{OneCause, OneOutput};
 
 /// The words and files of a command ask for one text on channel 1.
 pub fn one_output()
@@ -10,9 +10,4 @@ pub fn one_output()
 /// The words and files of a command have at most one cause, so they determine its status and its line on channel 2, but for a failed call and want of memory.
 pub fn one_cause()
     ensures { OneCause }
-{}
-
-/// Where there was no memory, `run`, `trace` and `sim` wrote nothing on channel 1, and every other command a prefix of its text.
-pub fn without_memory()
-    ensures { WithoutMemory }
 {}

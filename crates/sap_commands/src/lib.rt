@@ -10,5 +10,5 @@ mod performing;
 mod running;
 mod tracing;
 
-pub use laws::{one_cause, one_output, without_memory};
+pub use laws::{one_cause, one_output};
 pub use performing::perform;

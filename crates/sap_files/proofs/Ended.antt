@@ -1,20 +1,17 @@
 -- The steps of a command joined, once for all of them: from how what it asks next ends to how the whole ends.
 use Rattle.std.proofs.Common.{◌≡◌, ◌≢◌, ℕ, List, [], length, take, refl, sym, ◌∙◌, ap, subst, inl, inr, arith, length-take}
 use Rattle.std.specs.Prelude.{Option, Some, None, IfSome, Bool, cond, unwrap_or}
-use Rattle.std.proofs.lemmas.List.{append-nil, take_all}
+use Rattle.std.proofs.lemmas.List.{append-nil}
 use Rattle.sap_lemmas.proofs.Texts.{bytes_eq_same}
 use Rattle.sap_desk.specs.Desk.{Told, Use}
 use Rattle.sap_desk.specs.Cause.{counted}
 use Rattle.sap_desk.specs.Whole.{Between, FailedWriting, FillsFile}
 use Rattle.sap_files.specs.Ending.{Ending, Refusal, done, refused, failed, no_memory, IsFree}
 use Rattle.sap_files.specs.Kinds.{Kind, Has, IsRefused}
-use Rattle.sap_files.specs.Asks.{Asks, file, by, gives, prints, writes, stops, Files, IsCut, IsPrefix, Leaves, Output, Starved}
+use Rattle.sap_files.specs.Asks.{Asks, file, by, gives, writes, stops, Files, IsCut, Leaves, Output}
 use Rattle.sap_files.specs.Outside.{FullFile}
 use Rattle.sap_files.specs.After.{Stands}
 use Rattle.sap_files.specs.Steps.{Counted, Ends, EndsReading, FaultRose, Left, Moment, NotRead, OpensUnread, Quiet, Reads, Refuses, Same, Stops}
-
-pub whole_prefix : (text : List ℕ) → IsPrefix text text
-whole_prefix text = (length text, omega arith, sym (take_all (length text) text (omega arith)))
 
 pub between_map : (P Q : Told → Told → Type 0) (old new : Option Told) → ((t n : Told) → P t n → Q t n) → Between old new P → Between old new Q
 between_map P Q None new h b = tt
@@ -57,9 +54,6 @@ module _ (name : List ℕ) (k : Kind) (rest : k.Value → Asks) (v : k.Value) (t
   cut_past gained (inl none) = inl none
   cut_past gained (inr (text, (e, shows), prefix)) = inr (text, (e, inr (v, has, shows)), prefix)
 
-  starved_past : (gained : List ℕ) → Starved (rest v) t gained → Starved (file name k rest) t gained
-  starved_past gained h = inr (v, has, h)
-
   stands_past : (e : Ending) (gained : List ℕ) (before after : ℕ → Use) → Stands (rest v) t e gained before after → Stands (file name k rest) t e gained before after
   stands_past done gained before after h = h
   stands_past (refused why) gained before after h = h
@@ -76,7 +70,7 @@ module _ (name : List ℕ) (k : Kind) (rest : k.Value → Asks) (v : k.Value) (t
   shows_past done gained h = inr (v, has, h)
   shows_past (refused why) gained h = inr (v, has, h)
   shows_past (failed blamed) gained h = cut_past gained h
-  shows_past no_memory gained h = starved_past gained h
+  shows_past no_memory gained h = h
 
   left_past : (e : Ending) (F G : Type 0) (n : Told) → (F → G) → Left (rest v) e G t n → Left (file name k rest) e F t n
   left_past e F G n onward l = record {
@@ -135,7 +129,7 @@ module _ (V : Type 0) (Holds : V → Type 0) (rest : V → Asks) (v : V) (t : To
   shows_chosen done gained h = (v, holds, h)
   shows_chosen (refused why) gained h = (v, holds, h)
   shows_chosen (failed blamed) gained h = cut_chosen gained h
-  shows_chosen no_memory gained h = inr (v, holds, h)
+  shows_chosen no_memory gained h = h
 
   left_chosen : (e : Ending) (F : Type 0) (n : Told) → Left (rest v) e F t n → Left (by V Holds rest) e F t n
   left_chosen e F n l = record {
@@ -169,19 +163,11 @@ free_leaves a t files (refused why) free is = absurd free
 free_leaves a t files (failed name) free is = inl is
 free_leaves a t files no_memory free is = is
 
-pub starved_none : (a : Asks) (t : Told) → Starved a t []
-starved_none (file name k rest) t = inl refl
-starved_none (by V Holds rest) t = inl refl
-starved_none (gives text last) t = inl refl
-starved_none (prints name text fault) t = refl
-starved_none (writes name text) t = refl
-starved_none (stops why) t = refl
-
 free_shows : (a : Asks) (t : Told) (e : Ending) → IsFree e → Output a t [] e
 free_shows a t done free = absurd free
 free_shows a t (refused why) free = absurd free
 free_shows a t (failed name) free = inl refl
-free_shows a t no_memory free = starved_none a t
+free_shows a t no_memory free = refl
 
 unread_stands : (name : List ℕ) (k : Kind) (rest : k.Value → Asks) (t : Told) (e : Ending) (before after : ℕ → Use) → OpensUnread name e before after
     → Stands (file name k rest) t e [] before after
@@ -222,7 +208,7 @@ starved_left a F t never = record {
   leaves = refl;
   gained = [];
   output = sym (append-nil (t.written 1));
-  shows = starved_none a t;
+  shows = refl;
   blames = tt;
   stands = refl;
   same = same_self t;
@@ -365,38 +351,36 @@ module _ (P : List ℕ → Type 0) (text : List ℕ) (holds : P text) where
   held : (x : List ℕ) → x ≡ text → P x
   held x is = subst P (sym is) holds
 
-  shows_given : (first last : Ending) → first ≡ last → (t : Told) (e : Ending) (gained : List ℕ) → Output (gives (λ x. x ≡ text) first) t gained e
-      → Output (gives P last) t gained e
-  shows_given first last same t done gained (is, it) = (is ∙ same, held gained it)
-  shows_given first last same t (refused why) gained (is, it) = (is ∙ same, held gained it)
-  shows_given first last same t (failed name) gained (inl none) = inl none
-  shows_given first last same t (failed name) gained (inr (whole, (e, (is, it)), prefix)) = inr (whole, (e, (is ∙ same, held whole it)), prefix)
-  shows_given first last same t no_memory gained (inl none) = inl none
-  shows_given first last same t no_memory gained (inr (whole, (e, (is, it)), prefix)) = inr (whole, (e, (is ∙ same, held whole it)), prefix)
+  shows_given : (t : Told) (e : Ending) (gained : List ℕ) → Output (gives (λ x. x ≡ text)) t gained e → Output (gives P) t gained e
+  shows_given t done gained (is, it) = (is, held gained it)
+  shows_given t (refused why) gained (is, it) = (is, held gained it)
+  shows_given t (failed name) gained (inl none) = inl none
+  shows_given t (failed name) gained (inr (whole, (e, (is, it)), prefix)) = inr (whole, (e, (is, held whole it)), prefix)
+  shows_given t no_memory gained h = h
 
-  leaves_given : (first last : Ending) (t : Told) (files : Files) (e : Ending) → Leaves (gives (λ x. x ≡ text) first) t files e → Leaves (gives P last) t files e
-  leaves_given first last t files done h = h
-  leaves_given first last t files (refused why) h = h
-  leaves_given first last t files (failed name) h = h
-  leaves_given first last t files no_memory h = h
+  leaves_given : (t : Told) (files : Files) (e : Ending) → Leaves (gives (λ x. x ≡ text)) t files e → Leaves (gives P) t files e
+  leaves_given t files done h = h
+  leaves_given t files (refused why) h = h
+  leaves_given t files (failed name) h = h
+  leaves_given t files no_memory h = h
 
-  stands_given : (first last : Ending) (t : Told) (e : Ending) (gained : List ℕ) (before after : ℕ → Use) → Stands (gives (λ x. x ≡ text) first) t e gained before after
-      → Stands (gives P last) t e gained before after
-  stands_given first last t done gained before after h = h
-  stands_given first last t (refused why) gained before after h = h
-  stands_given first last t (failed blamed) gained before after h = h
-  stands_given first last t no_memory gained before after h = h
+  stands_given : (t : Told) (e : Ending) (gained : List ℕ) (before after : ℕ → Use) → Stands (gives (λ x. x ≡ text)) t e gained before after
+      → Stands (gives P) t e gained before after
+  stands_given t done gained before after h = h
+  stands_given t (refused why) gained before after h = h
+  stands_given t (failed blamed) gained before after h = h
+  stands_given t no_memory gained before after h = h
 
-  left_given : (first last : Ending) → first ≡ last → (e : Ending) (F : Type 0) (t n : Told) → Left (gives (λ x. x ≡ text) first) e F t n → Left (gives P last) e F t n
-  left_given first last same e F t n l = record {
-    leaves = leaves_given first last t n.files e l.leaves;
+  left_given : (e : Ending) (F : Type 0) (t n : Told) → Left (gives (λ x. x ≡ text)) e F t n → Left (gives P) e F t n
+  left_given e F t n l = record {
+    leaves = leaves_given t n.files e l.leaves;
     gained = l.gained;
     output = l.output;
-    shows = shows_given first last same t e l.gained l.shows;
+    shows = shows_given t e l.gained l.shows;
     blames = l.blames;
-    stands = stands_given first last t e l.gained t.uses n.uses l.stands;
+    stands = stands_given t e l.gained t.uses n.uses l.stands;
     same = l.same;
-    cause = elim l.cause [ inl free ↦ inl free | inr is ↦ inr (is ∙ same) ];
+    cause = l.cause;
     outside = l.outside;
   }
 
@@ -433,17 +417,15 @@ module _ (P : List ℕ → Type 0) (text : List ℕ) (holds : P text) where
     outside = l.outside;
   }
 
-pub gave : {P : List ℕ → Type 0} {last e : Ending} {a b : Moment} (text : List ℕ) (first : Ending) → P text → first ≡ last
-    → Ends (gives (λ x. x ≡ text) first) e a b → Ends (gives P last) e a b
-gave {P = P} {last = last} {e = e} {a = a} {b = b} text first holds same ended = record {
+pub gave : {P : List ℕ → Type 0} {e : Ending} {a b : Moment} (text : List ℕ) → P text → Ends (gives (λ x. x ≡ text)) e a b → Ends (gives P) e a b
+gave {P = P} {e = e} {a = a} {b = b} text holds ended = record {
   told =
       let F : Type 0 = FaultRose a b in
-      between_map (Left (gives (λ x. x ≡ text) first) e F) (Left (gives P last) e F) a.told b.told
-      (λ t n l. left_given P text holds first last same e F t n l) ended.told;
+      between_map (Left (gives (λ x. x ≡ text)) e F) (Left (gives P) e F) a.told b.told (λ t n l. left_given P text holds e F t n l) ended.told;
   faults = ended.faults;
   lost = ended.lost;
   sure = ended.sure;
-  may = elim ended.may [ inl free ↦ inl free | inr is ↦ inr (is ∙ same) ];
+  may = ended.may;
 }
 
 pub wrote : {name : List ℕ} {P : List ℕ → Type 0} {e : Ending} {a b : Moment} (text : List ℕ) → P text

@@ -35,7 +35,7 @@ one_cause (file name k rest) law t e f (inr (v, has, one)) (inr (w, had, other))
 one_cause (by V Holds rest) law t e f (v, holds, one) (w, held, other) =
     let P : V → Type 0 = λ x. Cause (rest x) t f in
     one_cause (rest v) (law.1 v holds) t e f one (subst P (law.0 w v held holds) other)
-one_cause (gives text last) law t e f one other = one ∙ sym other
+one_cause (gives text) law t e f one other = one ∙ sym other
 one_cause (prints name text fault) law t e f (bytes, there, one) (more, here, other) =
     one ∙ ap (λ (b : List ℕ). end_of (fault b)) (some_unique (t.files name) bytes more there here) ∙ sym other
 one_cause (writes out text) law t e f one other = one ∙ sym other
@@ -51,7 +51,7 @@ one_text (file name k rest) law t e f x y (inr (v, has, one)) (inr (w, had, othe
 one_text (by V Holds rest) law t e f x y (v, holds, one) (w, held, other) =
     let P : V → Type 0 = λ z. Shows (rest z) t f y in
     one_text (rest v) (law.1 v holds) t e f x y one (subst P (law.0 w v held holds) other)
-one_text (gives text last) law t e f x y (is, one) (was, other) = law x y one other
+one_text (gives text) law t e f x y (is, one) (was, other) = law x y one other
 one_text (prints name text fault) law t e f x y (bytes, there, is, one) (more, here, was, other) =
     law bytes x y one (subst (λ (b : List ℕ). text b y) (some_unique (t.files name) more bytes here there) other)
 one_text (writes out text) law t e f x y (is, one) (was, other) = one ∙ sym other

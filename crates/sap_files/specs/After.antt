@@ -24,7 +24,7 @@ abbrev pub StandsFailed : Asks → Told → (blamed gained : List ℕ) → (befo
 StandsFailed (file name k rest) t blamed gained before after =
     ((blamed ≡ name) × (gained ≡ []) × OpenAfterFault name before after) ⊎ ((v : k.Value) × Has t name k v × StandsFailed (rest v) t blamed gained before after)
 StandsFailed (by V Holds rest) t blamed gained before after = (v : V) × Holds v × StandsFailed (rest v) t blamed gained before after
-StandsFailed (gives text last) t blamed gained before after = (blamed ≡ codes "output") × (after ≡ before)
+StandsFailed (gives text) t blamed gained before after = (blamed ≡ codes "output") × (after ≡ before)
 StandsFailed (prints name text fault) t blamed gained before after =
     ((blamed ≡ name) × (gained ≡ []) × (after ≡ before))
     ⊎ ((why : FailedCall) × (blamed ≡ blamed_for why name) × StaysOpen why name text fault t gained before after)

@@ -10,8 +10,8 @@ pub data Asks : Type 1 where
   file : (name : List ℕ) (k : Kind) → (k.Value → Asks) → Asks
   -- goes on with that of which this holds
   by : (V : Type 0) (Holds : V → Type 0) → (V → Asks) → Asks
-  -- writes the text of which this holds on channel 1, and ends so
-  gives : (text : List ℕ → Type 0) → Ending → Asks
+  -- writes the text of which this holds on channel 1, and is done
+  gives : (text : List ℕ → Type 0) → Asks
   -- reads the stimulus file of this name line by line, and writes on channel 1, line by line, the text of which this holds by its bytes; it ends by the
   -- fault of the first line that is refused, if one is, and reads no further
   prints : (name : List ℕ) → (text : (bytes given : List ℕ) → Type 0) → (fault : (bytes : List ℕ) → Option StimFault) → Asks
@@ -33,7 +33,7 @@ EndsAtFile t name k e = (why : Refusal) × (e ≡ refused why) × IsRefused t na
 abbrev pub Cause : Asks → Told → Ending → Type 0
 Cause (file name k rest) t e = EndsAtFile t name k e ⊎ ((v : k.Value) × Has t name k v × Cause (rest v) t e)
 Cause (by V Holds rest) t e = (v : V) × Holds v × Cause (rest v) t e
-Cause (gives text last) t e = e ≡ last
+Cause (gives text) t e = e ≡ done
 Cause (prints name text fault) t e = (bytes : List ℕ) × (t.files name ≡ Some bytes) × (e ≡ end_of (fault bytes))
 Cause (writes name text) t e = e ≡ done
 Cause (stops why) t e = e ≡ refused why
@@ -44,7 +44,7 @@ MayEnd (file name k rest) e =
     ((bytes : List ℕ) × (why : Refusal) × (e ≡ refused why) × k.Refused bytes why)
     ⊎ ((bytes : List ℕ) × (v : k.Value) × k.Stands bytes v × MayEnd (rest v) e)
 MayEnd (by V Holds rest) e = (v : V) × Holds v × MayEnd (rest v) e
-MayEnd (gives text last) e = e ≡ last
+MayEnd (gives text) e = e ≡ done
 MayEnd (prints name text fault) e = (bytes : List ℕ) × (e ≡ end_of (fault bytes))
 MayEnd (writes name text) e = e ≡ done
 MayEnd (stops why) e = e ≡ refused why
@@ -54,7 +54,7 @@ abbrev pub Shows : Asks → Told → Ending → (gained : List ℕ) → Type 0
 Shows (file name k rest) t e gained =
     (EndsAtFile t name k e × (gained ≡ [])) ⊎ ((v : k.Value) × Has t name k v × Shows (rest v) t e gained)
 Shows (by V Holds rest) t e gained = (v : V) × Holds v × Shows (rest v) t e gained
-Shows (gives text last) t e gained = (e ≡ last) × text gained
+Shows (gives text) t e gained = (e ≡ done) × text gained
 Shows (prints name text fault) t e gained = (bytes : List ℕ) × (t.files name ≡ Some bytes) × (e ≡ end_of (fault bytes)) × text bytes gained
 Shows (writes name text) t e gained = (e ≡ done) × (gained ≡ [])
 Shows (stops why) t e gained = (e ≡ refused why) × (gained ≡ [])
@@ -67,25 +67,16 @@ IsOutput a t text = (e : Ending) × Shows a t e text
 abbrev pub IsPrefix : (part whole : List ℕ) → Type 0
 IsPrefix part whole = (k : ℕ) × (k ≤ length whole) × (part ≡ take k whole)
 
--- a prefix of the text that is asked for, or nothing
+-- what channel 1 gained where a call failed: a prefix of the text that is asked for, or nothing
 abbrev pub IsCut : Asks → Told → (gained : List ℕ) → Type 0
 IsCut a t gained = (gained ≡ []) ⊎ ((text : List ℕ) × IsOutput a t text × IsPrefix gained text)
 
--- what channel 1 gained where there was no memory: of what is printed line by line nothing, and else a prefix
-abbrev pub Starved : Asks → Told → (gained : List ℕ) → Type 0
-Starved (file name k rest) t gained = (gained ≡ []) ⊎ ((v : k.Value) × Has t name k v × Starved (rest v) t gained)
-Starved (by V Holds rest) t gained = (gained ≡ []) ⊎ ((v : V) × Holds v × Starved (rest v) t gained)
-Starved (gives text last) t gained = IsCut (gives text last) t gained
-Starved (prints name text fault) t gained = gained ≡ []
-Starved (writes name text) t gained = gained ≡ []
-Starved (stops why) t gained = gained ≡ []
-
--- what channel 1 gained, by the ending
+-- what channel 1 gained, by the ending: where there was no memory, nothing
 abbrev pub Output : Asks → Told → (gained : List ℕ) → Ending → Type 0
 Output a t gained done = Shows a t done gained
 Output a t gained (refused why) = Shows a t (refused why) gained
 Output a t gained (failed name) = IsCut a t gained
-Output a t gained no_memory = Starved a t gained
+Output a t gained no_memory = gained ≡ []
 
 -- the files of a desk, by name
 abbrev pub Files : Type 0
@@ -95,7 +86,7 @@ Files = List ℕ → Option (List ℕ)
 abbrev pub Written : Asks → Told → Files → Type 0
 Written (file name k rest) t files = (v : k.Value) × Has t name k v × Written (rest v) t files
 Written (by V Holds rest) t files = (v : V) × Holds v × Written (rest v) t files
-Written (gives text last) t files = files ≡ t.files
+Written (gives text) t files = files ≡ t.files
 Written (prints name text fault) t files = files ≡ t.files
 Written (writes name text) t files = (whole : List ℕ) × text whole × (files ≡ at_name name (Some whole) t.files)
 Written (stops why) t files = files ≡ t.files
@@ -104,7 +95,7 @@ Written (stops why) t files = files ≡ t.files
 abbrev pub WrittenInPart : Asks → Told → (blamed : List ℕ) → Files → Type 0
 WrittenInPart (file name k rest) t blamed files = (v : k.Value) × Has t name k v × WrittenInPart (rest v) t blamed files
 WrittenInPart (by V Holds rest) t blamed files = (v : V) × Holds v × WrittenInPart (rest v) t blamed files
-WrittenInPart (gives text last) t blamed files = ⊥
+WrittenInPart (gives text) t blamed files = ⊥
 WrittenInPart (prints name text fault) t blamed files = ⊥
 WrittenInPart (writes name text) t blamed files =
     (blamed ≡ name) × ((whole part : List ℕ) × text whole × IsPrefix part whole × (files ≡ at_name name (Some part) t.files))
@@ -121,7 +112,7 @@ Leaves a t files no_memory = files ≡ t.files
 abbrev pub AreLawful : Asks → Type 0
 AreLawful (file name k rest) = IsLawful k × ((bytes : List ℕ) (v : k.Value) → k.Stands bytes v → AreLawful (rest v))
 AreLawful (by V Holds rest) = ((v w : V) → Holds v → Holds w → v ≡ w) × ((v : V) → Holds v → AreLawful (rest v))
-AreLawful (gives text last) = (one other : List ℕ) → text one → text other → one ≡ other
+AreLawful (gives text) = (one other : List ℕ) → text one → text other → one ≡ other
 AreLawful (prints name text fault) = (bytes one other : List ℕ) → text bytes one → text bytes other → one ≡ other
 AreLawful (writes name text) = Unit {0}
 AreLawful (stops why) = Unit {0}

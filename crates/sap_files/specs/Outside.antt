@@ -24,7 +24,7 @@ IsUnreadable (Some most) name t = t.files name ≡ None
 abbrev pub OutsideOf : Asks → Told → Told → Type 0
 OutsideOf (file name k rest) t n = IsUnreadable k.most name t ⊎ ((v : k.Value) × Has t name k v × OutsideOf (rest v) t n)
 OutsideOf (by V Holds rest) t n = (v : V) × Holds v × OutsideOf (rest v) t n
-OutsideOf (gives text last) t n = FullOutput t n
+OutsideOf (gives text) t n = FullOutput t n
 OutsideOf (prints name text fault) t n = MissingOrTooLong fault name t ⊎ FullOutput t n
 OutsideOf (writes name text) t n = FullFile name t n
 OutsideOf (stops why) t n = ⊥

@@ -2,7 +2,6 @@
 
 ghost use Rattle.std.specs.Prelude.{◌≡◌};
 ghost use Rattle.sap_files.specs.Asks.{end_of, gives, writes};
-ghost use Rattle.sap_files.specs.Ending.{done};
 ghost use Rattle.sap_files.specs.Steps.{Ends, ending_of, seen};
 
 use crate::failure::Failure;
@@ -22,7 +21,7 @@ pub fn end<'a>(fault: Option<StimFault>) -> Result<(), Failure<'a>>
 
 /// Writes a text on channel 1.
 pub fn put<'a, D: Desk>(desk: &mut D, text: &Bytes) -> Result<(), Failure<'a>>
-    ensures { Ends (gives (λ given. given ≡ text.now) done) (ending_of result) (seen D.told D.faults D.lost D.sure desk.old) (seen D.told D.faults D.lost D.sure desk.new) }
+    ensures { Ends (gives (λ given. given ≡ text.now)) (ending_of result) (seen D.told D.faults D.lost D.sure desk.old) (seen D.told D.faults D.lost D.sure desk.new) }
 {
     match write_output(desk, text.as_slice()) {
         Ok(()) => Ok(()),

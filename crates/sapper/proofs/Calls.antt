@@ -8,7 +8,7 @@ use Rattle.sap_desk.specs.Whole.{Between, Gained, LostAtMostOne}
 use Rattle.sap_stim.specs.declared.fault.StimFault.{StimFault}
 use Rattle.sap_words.specs.Words.{Words, IsTwin, command_of}
 use Rattle.sap_files.specs.Ending.{Ending, Refusal, done, refused, failed, no_memory, no_command, stimulus_refused, status_of, line_of, IsFree}
-use Rattle.sap_files.specs.Asks.{Asks, file, by, gives, prints, writes, stops, AreLawful, Cause, Files, Shows, Starved, end_of}
+use Rattle.sap_files.specs.Asks.{Asks, file, by, gives, prints, writes, stops, AreLawful, Cause, Files, Shows, end_of}
 use Rattle.sap_commands.specs.Commands.{asks, asks_for}
 use Rattle.sap_files.specs.After.{Blames, Stands}
 use Rattle.sap_files.specs.Outside.{FullFile, FullOutput, OutsideOf}
@@ -21,7 +21,7 @@ use Rattle.sapper.specs.Outside.{FullLines, Outside}
 use Rattle.sapper.specs.Lines.{Reports, TakesMemory, Tells, ToldLine}
 use Rattle.sap_commands.proofs.CommandLaws.{two_if}
 use Rattle.sap_files.proofs.Lawful.{one_cause}
-use Rattle.sap_files.proofs.Ended.{between_map, quiet_self, stopped_here, whole_prefix}
+use Rattle.sap_files.proofs.Ended.{between_map, quiet_self, stopped_here}
 use Rattle.sapper.proofs.Headline.{done_alone}
 
 -- what words ask
@@ -74,24 +74,24 @@ no_words words m is = rw is (stopped_here no_command (quiet_self m))
 -- a refusal for whose line there was no memory: it ended for want of memory
 
 -- nothing is written before a refusal but that of a stimulus
-starved_of : (a : Asks) (t : Told) (why : Refusal) (gained : List ℕ) → TakesMemory why → Shows a t (refused why) gained → Starved a t gained
-starved_of (file name k rest) t why gained takes (inl (at, none)) = inl none
-starved_of (file name k rest) t why gained takes (inr (v, has, shown)) = inr (v, has, starved_of (rest v) t why gained takes shown)
-starved_of (by V Holds rest) t why gained takes (v, holds, shown) = inr (v, holds, starved_of (rest v) t why gained takes shown)
-starved_of (gives text last) t why gained takes shown = inr (gained, (refused why, shown), whole_prefix gained)
-starved_of (prints name text fault) t why gained takes (bytes, there, is, shown) = absurd (never (fault bytes) is) where
+none_shown : (a : Asks) (t : Told) (why : Refusal) (gained : List ℕ) → TakesMemory why → Shows a t (refused why) gained → gained ≡ []
+none_shown (file name k rest) t why gained takes (inl (at, none)) = none
+none_shown (file name k rest) t why gained takes (inr (v, has, shown)) = none_shown (rest v) t why gained takes shown
+none_shown (by V Holds rest) t why gained takes (v, holds, shown) = none_shown (rest v) t why gained takes shown
+none_shown (gives text) t why gained takes (is, shown) = cc
+none_shown (prints name text fault) t why gained takes (bytes, there, is, shown) = absurd (never (fault bytes) is) where
   never : (o : Option StimFault) → refused why ≡ end_of o → ⊥
   never None e = cc
   never (Some f) e = let same : why ≡ stimulus_refused 1 f = cc in subst TakesMemory same takes
-starved_of (writes name text) t why gained takes shown = shown.1
-starved_of (stops other) t why gained takes shown = shown.1
+none_shown (writes name text) t why gained takes shown = shown.1
+none_shown (stops other) t why gained takes shown = shown.1
 
 starved_left : (a : Asks) (why : Refusal) (F : Type 0) (t n : Told) → TakesMemory why → Left a (refused why) F t n → Left a no_memory F t n
 starved_left a why F t n takes l = record {
   leaves = l.leaves;
   gained = l.gained;
   output = l.output;
-  shows = starved_of a t why l.gained takes l.shows;
+  shows = none_shown a t why l.gained takes l.shows;
   blames = tt;
   stands = l.stands;
   same = l.same;
@@ -171,7 +171,7 @@ outside_after : (a : Asks) (t m n : Told) → n.files ≡ m.files → n.written 
 outside_after (file name k rest) t m n files output room (inl missing) = inl missing
 outside_after (file name k rest) t m n files output room (inr (v, has, h)) = inr (v, has, outside_after (rest v) t m n files output room h)
 outside_after (by V Holds rest) t m n files output room (v, holds, h) = (v, holds, outside_after (rest v) t m n files output room h)
-outside_after (gives text last) t m n files output room h = full_output t m n output room h
+outside_after (gives text) t m n files output room h = full_output t m n output room h
 outside_after (prints name text fault) t m n files output room (inl missing) = inl missing
 outside_after (prints name text fault) t m n files output room (inr full) = inr (full_output t m n output room full)
 outside_after (writes name text) t m n files output room h = full_file name t m n files room h

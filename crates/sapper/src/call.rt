@@ -1,12 +1,12 @@
 //! The top call.
 
-ghost use Rattle.std.specs.Prelude.{◌≡◌, ◌≢◌, ◌⊎◌, ◌++◌, None, map, string_bytes, is_some, IfSome};
+ghost use Rattle.std.specs.Prelude.{◌≡◌, ◌≢◌, ◌⊎◌, None, map, string_bytes, is_some, IfSome};
 ghost use Rattle.sap_desk.specs.Cause.{counted};
 ghost use Rattle.sap_desk.specs.Whole.{Between, LostAtMostOne};
 ghost use Rattle.sap_commands.specs.Commands.{asks_for};
 ghost use Rattle.sap_words.specs.Words.{IsTwin, command_of as words_for};
 ghost use Rattle.sapper.specs.Answers.{Answers, MayAnswer};
-ghost use Rattle.sap_files.specs.Ending.{line, line_of, refused, stimulus_refused};
+ghost use Rattle.sap_files.specs.Ending.{failed, line_of, refused, stimulus_refused};
 ghost use Rattle.sapper.specs.Exact.{Exact};
 ghost use Rattle.sapper.specs.Headline.{Headline};
 ghost use Rattle.sapper.specs.Lines.{Reports, Tells};
@@ -22,11 +22,18 @@ use sap_text::digits::Digits;
 use sap_words::command_of;
 use std::alloc::Global;
 
-// Writes a fault line.
-fn tell<D: Desk>(desk: &mut D, head: &[u8], text: &[u8])
-    ensures { Tells (line (head.now ++ text.now)) (seen D.told D.faults D.lost D.sure desk.old) (seen D.told D.faults D.lost D.sure desk.new) }
+// Writes a fault line in one piece, its end included.
+fn tell<D: Desk>(desk: &mut D, line: &[u8])
+    ensures { Tells line.now (seen D.told D.faults D.lost D.sure desk.old) (seen D.told D.faults D.lost D.sure desk.new) }
 {
-    let _ = write_line(desk, &[head, text]);
+    let _ = desk.write(2, line);
+}
+
+// Tells that a call failed on the file of this name, or on the output. It takes no memory.
+fn tell_desk<D: Desk>(desk: &mut D, name: &str)
+    ensures { Tells (line_of (failed name.now)) (seen D.told D.faults D.lost D.sure desk.old) (seen D.told D.faults D.lost D.sure desk.new) }
+{
+    let _ = write_line(desk, &[b"desk: ", name.as_bytes()]);
 }
 
 // Tells that a line of a stimulus is refused. It takes no memory.
@@ -58,13 +65,13 @@ fn report_refusal<D: Desk>(alloc: Global, desk: &mut D, why: &Refusal<'_>) -> u8
             tell_stimulus(desk, *place, fault);
             4
         }
-        _ => match format!(in alloc; "{why}") {
-            Ok(text) => {
-                tell(desk, b"", text.as_bytes());
+        _ => match format!(in alloc; "{why}\n") {
+            Ok(line) => {
+                tell(desk, line.as_bytes());
                 why.status()
             }
             Err(_) => {
-                tell(desk, b"memory", b"");
+                tell(desk, b"memory\n");
                 7
             }
         },
@@ -78,11 +85,11 @@ fn report<D: Desk>(alloc: Global, desk: &mut D, failure: &Failure<'_>) -> u8
     match failure {
         Failure::Refused(why) => report_refusal(alloc, desk, why),
         Failure::Desk(name) => {
-            tell(desk, b"desk: ", name.as_bytes());
+            tell_desk(desk, name);
             6
         }
         Failure::Memory => {
-            tell(desk, b"memory", b"");
+            tell(desk, b"memory\n");
             7
         }
     }
@@ -128,7 +135,7 @@ pub fn sapper<D: Desk>(alloc: Global, words: &[String], desk: &mut D) -> u8
         Some(Ok(())) => 0,
         Some(Err(failure)) => report(alloc, desk, &failure),
         None => {
-            tell(desk, b"words", b"");
+            tell(desk, b"words\n");
             2
         }
     }

@@ -1,6 +1,4 @@
-use Rattle.std.proofs.Common.{refl}
 use Rattle.std.proofs.lemmas.Result.{err_from_is_err_and}
-use Rattle.sap_files.specs.Ending.{done}
 use Rattle.sap_files.proofs.Ended.{gave, quiet_self, starved}
 use Rattle.sap_commands.proofs.generating.generate.Goals as goal
 
@@ -10,4 +8,4 @@ returns-in_err-text g c =
     rw (p.1, p.2) (starved _ (quiet_self _))
 
 pub returns : goal.returns
-returns g c = gave c.in_ok-text.text done c.in_ok-text.ensures refl c.put.ensures
+returns g c = gave c.in_ok-text.text c.in_ok-text.ensures c.put.ensures

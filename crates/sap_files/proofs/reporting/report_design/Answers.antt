@@ -1,9 +1,8 @@
-use Rattle.std.proofs.Common.{◌≡◌, refl, ◌∙◌, ap}
+use Rattle.std.proofs.Common.{◌≡◌, ◌∙◌, ap}
 use Rattle.std.proofs.lemmas.Result.{IfOk-at_ok, err_from_is_err_and}
 use Rattle.sap_check.specs.Checked.{levels_in, tree_in}
 use Rattle.sap_lattice.specs.Levels.{Levels}
 use Rattle.sap_report.specs.Report.{report_text}
-use Rattle.sap_files.specs.Ending.{done}
 use Rattle.sap_files.specs.Steps.{whole}
 use Rattle.sap_files.proofs.Designs.{text_in}
 use Rattle.sap_files.proofs.Ended.{gave, past, quiet_self, reading_ended, starved}
@@ -41,4 +40,4 @@ returns g c =
     let same = whole_same c.in_ok-file.file.bytes l c.in_ok-file.ensures.1 in
     past (whole l) c.in_ok-file.ensures.0 c.in_ok-file.ensures.1
     (past d reads (text_in l (whole l) bytes d same formed)
-    (gave c.in_ok-text.text done (IfOk-at_ok (λ text. text ≡ report_text (levels_in c.in_ok-checked.checked) d) c.in_ok-text.was c.report_text-made.ensures ∙ ap (λ (ls : Levels). report_text ls d) levels ∙ reports_same l (whole l) same d) refl c.put.ensures))
+    (gave c.in_ok-text.text (IfOk-at_ok (λ text. text ≡ report_text (levels_in c.in_ok-checked.checked) d) c.in_ok-text.was c.report_text-made.ensures ∙ ap (λ (ls : Levels). report_text ls d) levels ∙ reports_same l (whole l) same d) c.put.ensures))

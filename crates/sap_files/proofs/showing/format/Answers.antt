@@ -1,7 +1,5 @@
-use Rattle.std.proofs.Common.{refl}
 use Rattle.std.proofs.lemmas.Result.{err_from_is_err_and}
 use Rattle.sap_tree.specs.Designs.{design_of}
-use Rattle.sap_files.specs.Ending.{done}
 use Rattle.sap_files.proofs.Ended.{gave, got, quiet_self, reading_ended, starved}
 use Rattle.sap_files.proofs.showing.format.Goals as goal
 
@@ -16,4 +14,4 @@ returns-in_err-text g c =
     rw (p.1, p.2) (got (design_of c.in_ok-tree.tree) c.in_ok-tree.ensures (starved _ (quiet_self _)))
 
 pub returns : goal.returns
-returns g c = got (design_of c.in_ok-tree.tree) c.in_ok-tree.ensures (gave c.in_ok-text.text done c.in_ok-text.ensures.canonical refl c.put.ensures)
+returns g c = got (design_of c.in_ok-tree.tree) c.in_ok-tree.ensures (gave c.in_ok-text.text c.in_ok-text.ensures.canonical c.put.ensures)

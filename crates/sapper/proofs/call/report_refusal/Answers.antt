@@ -1,5 +1,5 @@
-use Rattle.std.proofs.Common.{refl, ◌∙◌, ap}
-use Rattle.sap_files.specs.Ending.{line, refused, stimulus_refused}
+use Rattle.std.proofs.Common.{refl, ◌∙◌}
+use Rattle.sap_files.specs.Ending.{refused, stimulus_refused}
 use Rattle.sap_files.specs.Steps.{reason}
 use Rattle.sapper.proofs.Calls.{told_as}
 use Rattle.sapper.proofs.call.report_refusal.Goals as goal
@@ -10,4 +10,4 @@ returns-in-Stimulus g c =
 
 pub returns-in-Ok : goal.returns-in-Ok
 returns-in-Ok g c =
-    told_as (refused (reason c.args.why.now)) _ _ _ _ c.status.ensures (ap line (c.as_bytes.ensures.value ∙ c.in-Ok.ensures.ok)) c.tell.ensures
+    told_as (refused (reason c.args.why.now)) _ _ _ _ c.status.ensures (c.as_bytes.ensures.value ∙ c.in-Ok.ensures.ok) c.tell.ensures
