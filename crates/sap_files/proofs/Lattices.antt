@@ -1,5 +1,5 @@
 -- Lattice files: a file is at most one lattice with its whole table, and what reading one comes to.
-use Rattle.std.proofs.Common.{◌≡◌, ◌≢◌, ◌↔◌, ◌<◌, ℕ, Bool, true, false, List, [], length, refl, sym, ◌∙◌, ap, subst, inl, inr, arith, Ok}
+use Rattle.std.proofs.Common.{◌≡◌, ◌≢◌, ◌↔◌, ◌<◌, ℕ, Bool, true, false, List, [], length, refl, sym, ◌∙◌, ap, subst, inl, inr, arith}
 use Rattle.std.specs.Prelude.{map, slice_index_or}
 use Rattle.std.proofs.lemmas.List.FromFn.{get_or-map-range_with_len}
 use Rattle.sap_lattice.proofs.LevelsLemmas.{level_in_same}
