@@ -11,7 +11,7 @@ use Rattle.std.proofs.lemmas.Grind.{common_steps}
 use Rattle.sap_lemmas.proofs.Lists.{append_three}
 use Rattle.sap_wave.specs.Digits.{digits_of, spelled_behind, spelled, is_digit, are_digits, count_within, identifier_count, identifier, number_spelled, bits, bits_number, numeral, IsSpelling, OneIdentifier, BitsReadBack}
 
-spelled_append : (f b n : ℕ) (xs ys : List ℕ) → spelled_behind f b n (xs ++ ys) ≡ spelled_behind f b (spelled_behind f b n xs) ys
+pub spelled_append : (f b n : ℕ) (xs ys : List ℕ) → spelled_behind f b n (xs ++ ys) ≡ spelled_behind f b (spelled_behind f b n xs) ys
 spelled_append f b n [] ys = refl
 spelled_append f b n (x ∷ xs) ys = spelled_append f b (n * b + (x - f)) xs ys
 
@@ -47,7 +47,7 @@ all_digits f b (suc k) n h =
     (and_from (is_digit f b (f + n % b)) true (one_digit f b (n % b) (mod_below n b h)) refl)
 
 -- a digit is its byte above the first
-digit_byte : (f b x : ℕ) → is_digit f b x ≡ true → (f ≤ x) × (x < f + b)
+pub digit_byte : (f b x : ℕ) → is_digit f b x ≡ true → (f ≤ x) × (x < f + b)
 digit_byte f b x h = let a = and_parts (nat_le f x) (nat_lt x (f + b)) h in (leb-true f x a.0, ltb-true x (f + b) a.1)
 
 -- digits behind those of a number are the digits of what all spell

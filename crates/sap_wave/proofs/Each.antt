@@ -243,14 +243,14 @@ taken_or_wrong (in_block xs o) (block n) h = block_or_wrong xs o n
 taken_or_wrong (in_block xs o) (change d i) h = change_or_wrong xs o d i
 taken_or_wrong _ _ h = absurd (cc)
 
-one_least : (c : WaveCode) → 1 ≤ number c
+pub one_least : (c : WaveCode) → 1 ≤ number c
 one_least Y1 = omega arith
 one_least Y2 = omega arith
 one_least Y3 = omega arith
 one_least Y4 = omega arith
 one_least Y5 = omega arith
 
-least_stands : (s : State) (l : Line) (f : Form) → IsLine l f → is_for s f ≡ true → (c : WaveCode) → IsLeast (IsWrong s f) c → IsLeast (Stands s l) c
+pub least_stands : (s : State) (l : Line) (f : Form) → IsLine l f → is_for s f ≡ true → (c : WaveCode) → IsLeast (IsWrong s f) c → IsLeast (Stands s l) c
 least_stands s l f h p c w = record { stands = wrong f h w.stands; least = below } where
   below : (d : WaveCode) → Stands s l d → number c ≤ number d
   below d (no_form e none) = absurd (true_false _ p (none f h))

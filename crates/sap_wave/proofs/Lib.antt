@@ -21,3 +21,12 @@ pub mod Shown
 pub mod Adding
 pub mod Rooms
 pub mod Seen
+pub mod Cuts
+pub mod Spelled
+pub mod Parted
+pub mod Stepping
+pub mod Sounding
+pub mod ReadUpTo
+pub mod WorkedFaults
+pub mod Reached
+pub mod Exact

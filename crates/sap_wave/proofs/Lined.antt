@@ -5,11 +5,12 @@ use Rattle.std.specs.List.{join_with_byte, list_all, slice_split}
 use Rattle.std.proofs.lemmas.Bool.{and_parts}
 use Rattle.std.proofs.lemmas.Bool.Decides.{nat_tests}
 use Rattle.std.proofs.lemmas.List.{append-nil, append_assoc}
-use Rattle.std.proofs.lemmas.List.Splits.{slice_split_at, length-slice_split, join_with_byte-slice_split}
+use Rattle.std.proofs.lemmas.List.Splits.{slice_split_at, slice_split_none, length-slice_split, join_with_byte-slice_split}
+use Rattle.sap_lemmas.proofs.Numbers.{test_of_positive}
 use Rattle.sap_text.specs.Blanks.{is_in_line}
 use Rattle.sap_text.specs.Places.{line}
 use Rattle.sap_text.specs.Lines.{Line, lines_between, lines_of}
-use Rattle.sap_wave.specs.Lines.{Form, form_text}
+use Rattle.sap_wave.specs.Lines.{Form, form_text, ended}
 
 abbrev pub ended_line : Form → Line
 ended_line f = record { text = form_text f; ended = true }
@@ -35,12 +36,24 @@ first_line : (x : List ℕ) (ps : List (List ℕ)) → 1 ≤ length ps → lines
 first_line x [] h = absurd (omega arith)
 first_line x (p ∷ ps) h = refl
 
+-- one line and then the others
+pub lines_cut : (text bytes : List ℕ) → list_all is_in_line text ≡ true → lines_of (text ++ (10 ∷ bytes)) ≡ ended text ∷ lines_of bytes
+unfolding lines_of
+lines_cut text bytes h = ap lines_between (split_line text bytes h) ∙ first_line text (slice_split is_end bytes) (some_pieces bytes)
+
+not_empty : (text : List ℕ) → 0 < length text → lines_between (text ∷ []) ≡ record { text = text; ended = false } ∷ []
+not_empty text l = let z : (length text == 0) ≡ false = test_of_positive (length text) l in rw z refl
+
+-- no line ends
+pub line_last : (text : List ℕ) → 0 < length text → list_all is_in_line text ≡ true → lines_of text ≡ record { text = text; ended = false } ∷ []
+unfolding lines_of
+line_last text l h = ap lines_between (slice_split_none is_end text (none_ends text h)) ∙ not_empty text l
+
 pub lines_more : (f : Form) (bytes : List ℕ) → list_all is_in_line (form_text f) ≡ true → lines_of (line (form_text f) ++ bytes) ≡ ended_line f ∷ lines_of bytes
 unfolding lines_of
 lines_more f bytes h =
-    ap (λ z. lines_between (slice_split is_end z)) (append_assoc (form_text f) (10 ∷ []) bytes)
-    ∙ ap lines_between (split_line (form_text f) bytes h)
-    ∙ first_line (form_text f) (slice_split is_end bytes) (some_pieces bytes)
+    ap lines_of (append_assoc (form_text f) (10 ∷ []) bytes)
+    ∙ lines_cut (form_text f) bytes h
 
 pub lines_none : lines_of [] ≡ []
 unfolding lines_of

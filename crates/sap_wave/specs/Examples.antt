@@ -1,7 +1,7 @@
 -- A worked example: a module with two registers and their tags, one cycle.
 use Rattle.std.specs.Prelude.{◌≡◌, ℕ, List, [], ◌∷◌, ◌++◌, codes}
 use Rattle.sap_text.specs.Places.{line}
-use Rattle.sap_wave.specs.declared.fault.WaveCode.TheVariants.{Y4}
+use Rattle.sap_wave.specs.declared.fault.WaveCode.TheVariants.{Y1, Y2, Y3, Y4, Y5}
 use Rattle.sap_wave.specs.Digits.{identifier, bits}
 use Rattle.sap_wave.specs.declared.variable.Variable.{Variable}
 use Rattle.sap_wave.specs.Waves.{Wave}
@@ -59,6 +59,46 @@ Read = IsReading (text (codes "#1")) wave
 -- the second block has the number 1
 abbrev pub OtherNumber : Type 0
 OtherNumber = IsFault (text (codes "#2")) 14 Y4
+
+-- A variable of width 1, and then these lines.
+abbrev pub one_variable : (rest : List (List ℕ)) → List ℕ
+one_variable rest =
+    lines (
+    codes "$timescale 1ns $end"
+    ∷ (codes "$scope module top $end"
+    ∷ (codes "$var reg 1 ! v $end"
+    ∷ (codes "$upscope $end"
+    ∷ (codes "$enddefinitions $end"
+    ∷ rest))))
+    )
+
+-- nothing at all
+abbrev pub Nothing : Type 0
+Nothing = IsFault [] 1 Y1
+
+-- a line without LF
+abbrev pub NotEnded : Type 0
+NotEnded = IsFault (codes "$timescale 1ns $end") 1 Y1
+
+-- no block
+abbrev pub NoBlock : Type 0
+NoBlock = IsFault (one_variable []) 6 Y1
+
+-- the identifier of the second variable at the first
+abbrev pub OtherIdentifier : Type 0
+OtherIdentifier = IsFault (lines (codes "$timescale 1ns $end" ∷ (codes "$scope module top $end" ∷ (codes "$var reg 1 \" v $end" ∷ [])))) 3 Y2
+
+-- a change of a second variable, where there is one
+abbrev pub UnknownVariable : Type 0
+UnknownVariable = IsFault (one_variable (codes "#0" ∷ (codes "b0 \"" ∷ []))) 7 Y3
+
+-- a change to the number that stands
+abbrev pub SameNumber : Type 0
+SameNumber = IsFault (one_variable (codes "#0" ∷ (codes "b0 !" ∷ (codes "#1" ∷ (codes "b0 !" ∷ []))))) 9 Y5
+
+-- a block 0 without the variable
+abbrev pub NoNumber : Type 0
+NoNumber = IsFault (one_variable (codes "#0" ∷ [])) 7 Y5
 
 -- identifiers of one, two and three digits
 abbrev pub Identifiers : Type 0

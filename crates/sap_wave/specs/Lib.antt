@@ -2,10 +2,14 @@ pub mod Digits
 pub mod Code
 pub mod FaultTexts
 pub mod Lines
+pub mod Pieces
 pub mod Waves
 pub mod Dumps
 pub mod Reading
 pub mod Faults
+pub mod Steps
+pub mod Read
+pub mod Sound
 pub mod Runs
 pub mod Shown
 pub mod Dumping

@@ -50,3 +50,7 @@ pub record IsLine (l : Line) (f : Form) : Type 0 where
 abbrev pub text_of : List Form → List ℕ
 text_of [] = []
 text_of (f ∷ fs) = line (form_text f) ++ text_of fs
+
+-- the line of this text with its LF
+abbrev pub ended : (text : List ℕ) → Line
+ended text = record { text = text; ended = true }

@@ -6,10 +6,17 @@
 mod digits;
 pub mod dumper;
 pub mod fault;
+mod numbers;
+mod parts;
+mod pieces;
+mod reading;
 mod registers;
 mod room;
+mod state;
+mod steps;
 mod texts;
 pub mod variable;
+pub mod wave;
 
 ghost use Rattle.sap_wave.specs.Digits.{OneIdentifier, OneNumeral, BitsReadBack};
 ghost use Rattle.sap_wave.specs.Laws.{OneWaveOrFault, EachWaveOrFault, DumpsAddUp, DumpsReadSo, RunsReadBack};
@@ -17,7 +24,9 @@ ghost use Rattle.sap_wave.specs.Examples as examples;
 
 pub use dumper::Dumper;
 pub use fault::{WaveCode, WaveFault};
+pub use reading::read_wave;
 pub use variable::Variable;
+pub use wave::Wave;
 
 /// Each variable's number has exactly one identifier, each number exactly one numeral, and the bits of a number spell it.
 pub fn digits_read_back()
@@ -52,6 +61,13 @@ pub fn worked_dumps()
     ensures written { examples.Written }
     ensures read { examples.Read }
     ensures other_number { examples.OtherNumber }
+    ensures nothing { examples.Nothing }
+    ensures not_ended { examples.NotEnded }
+    ensures no_block { examples.NoBlock }
+    ensures other_identifier { examples.OtherIdentifier }
+    ensures unknown_variable { examples.UnknownVariable }
+    ensures same_number { examples.SameNumber }
+    ensures no_number { examples.NoNumber }
     ensures identifiers { examples.Identifiers }
     ensures bits { examples.Bits }
 {}

@@ -1,0 +1,16 @@
+use Rattle.std.proofs.Common.{subst, sym}
+use Rattle.std.specs.Prelude.{IfErr, IfOk}
+use Rattle.sap_wave.specs.declared.state.State.{State as Held}
+use Rattle.sap_wave.specs.Read.{IsFaultAt}
+use Rattle.sap_wave.specs.Reading.{Ends}
+use Rattle.sap_wave.specs.Faults.{StandsAtEnd}
+use Rattle.sap_wave.specs.Steps.{state_of}
+use Rattle.sap_wave.proofs.reading.ending.Goals as goal
+
+pub returns-in-InBlock-clause-reading : goal.returns-in-InBlock-clause-reading
+returns-in-InBlock-clause-reading c =
+    subst (λ (s : Held). IfOk c.ended_block.result (Ends (state_of s))) (sym c.in-InBlock.is) c.ended_block.ensures.reading
+
+pub returns-in-InBlock-clause-fault : goal.returns-in-InBlock-clause-fault
+returns-in-InBlock-clause-fault c =
+    subst (λ (s : Held). IfErr c.ended_block.result (IsFaultAt (StandsAtEnd (state_of s)) c.args.line)) (sym c.in-InBlock.is) c.ended_block.ensures.fault

@@ -1,0 +1,13 @@
+use Rattle.std.proofs.Common.{refl, sym, ◌∙◌}
+use Rattle.sap_lemmas.proofs.Texts.{equal_of_bytes_eq}
+use Rattle.sap_wave.specs.Lines.{timescale, form_text}
+use Rattle.sap_wave.specs.Reading.{before_timescale}
+use Rattle.sap_wave.proofs.Stepping.{differ, not_timescale, refused, taken}
+use Rattle.sap_wave.proofs.steps.first_line.Goals as goal
+
+pub returns-then-is_same : goal.returns-then-is_same
+returns-then-is_same c = (taken before_timescale timescale c.args.text.now refl tt (equal_of_bytes_eq c.args.text.now (form_text timescale) (sym c.is_same.ensures ∙ c.if-is_same.true)), tt)
+
+pub returns-else-is_same : goal.returns-else-is_same
+returns-else-is_same c =
+    refused before_timescale c.args.text.now (not_timescale c.args.text.now (differ c.args.text.now (form_text timescale) (sym c.is_same.ensures ∙ c.if-is_same.false)))

@@ -1,0 +1,85 @@
+//! The numbers that the digits of a dump spell.
+
+ghost use Rattle.std.specs.Prelude.{◌≡◌, ◌≢◌, ◌==◌, ◌+◌, ◌<◌, ◌≤◌, ◌^◌, ℕ, true, bytes_eq, length, IfNone, IfSome};
+ghost use Rattle.std.specs.List.{list_all};
+ghost use Rattle.std.specs.Str.Parse.{digits_value};
+ghost use Rattle.sap_maps.specs.Ranges.{IsWidth};
+ghost use Rattle.sap_wave.specs.Digits.{are_digits, bits_number, identifier, is_digit, number_spelled};
+
+use sap_text::scan::number;
+
+/// The number that binary digits spell.
+pub fn bits_number(digits: &[u8]) -> u64
+    requires digits { list_all (is_digit 48 2) digits.now ≡ true }
+    requires few { length digits.now ≤ 64 }
+    ensures { result ≡ bits_number digits.now }
+{
+    let mut number = 0u64;
+    for digit in digits {
+        number = number * 2 + u64::from(*digit - b'0');
+    }
+    number
+}
+
+/// The number that an identifier spells, if it is below 2^64.
+fn spelled(id: &[u8]) -> Option<usize>
+    requires { list_all (is_digit 33 94) id.now ≡ true }
+    ensures none { IfNone result (2 ^ 64 ≤ number_spelled id.now) }
+    ensures some { IfSome result (λ n. n ≡ number_spelled id.now) }
+{
+    let mut number = 0usize;
+    for digit in id {
+        number = number
+            .checked_mul(94)?
+            .checked_add(usize::from(*digit - b'!'))?;
+    }
+    Some(number)
+}
+
+/// Which of so many variables has an identifier.
+pub fn identified(id: &[u8], count: usize) -> Option<usize>
+    requires { are_digits 33 94 id.now ≡ true }
+    ensures none { IfNone result ((k : ℕ) → k < count → id.now ≢ identifier k) }
+    ensures within { IfSome result (λ k. k < count) }
+    ensures is { IfSome result (λ k. id.now ≡ identifier k) }
+{
+    if id.len() > 1 && id[0] == b'!' {
+        return None;
+    }
+    let number = spelled(id)?;
+    if number < count { Some(number) } else { None }
+}
+
+/// Whether this is the identifier of the variable of a number.
+pub fn has_identifier(id: &[u8], number: usize) -> bool
+    requires digits { are_digits 33 94 id.now ≡ true }
+    requires small { number + 1 < 2 ^ 64 }
+    ensures { result ≡ bytes_eq id.now (identifier number) }
+{
+    match identified(id, number + 1) {
+        Some(place) => place == number,
+        None => false,
+    }
+}
+
+/// The width that decimal digits are, from 1 to 64.
+pub fn width(digits: &[u8]) -> Option<u32>
+    ensures none { IfNone result (IsWidth (digits_value 10 digits.now) → ⊥) }
+    ensures is { IfSome result (λ w. w ≡ digits_value 10 digits.now) }
+    ensures width { IfSome result IsWidth }
+{
+    match number(10, digits) {
+        Some(width) if (1..=64).contains(&width) => Some(width as u32),
+        _ => None,
+    }
+}
+
+/// Whether decimal digits spell a number.
+pub fn is_number(digits: &[u8], wanted: u64) -> bool
+    ensures { result ≡ (digits_value 10 digits.now == wanted) }
+{
+    match number(10, digits) {
+        Some(number) => number == wanted,
+        None => false,
+    }
+}

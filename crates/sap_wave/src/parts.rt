@@ -1,0 +1,114 @@
+//! The parts of lines, by their forms.
+
+ghost use Rattle.std.specs.Prelude.{◌≡◌, ◌++◌, ◌&&◌, true, bytes_eq, ℕ, List, IfNone, IfSome, codes};
+ghost use Rattle.std.specs.List.{list_all};
+ghost use Rattle.sap_wave.specs.Lines.{IsLine, block, change, is_formed, is_piece, variable};
+ghost use Rattle.sap_wave.specs.Lines.{ended};
+ghost use Rattle.sap_wave.specs.Pieces.{is_not};
+
+use crate::pieces::{are_bits, cut_at, is_id, is_number, is_same};
+
+/// What stands behind a text, where it begins with these bytes.
+fn behind<'a>(text: &'a [u8], front: &[u8]) -> Option<&'a [u8]>
+    ensures none { IfNone result ((rest : List ℕ) → text.now ≡ front.now ++ rest → ⊥) }
+    ensures some { IfSome result (λ rest. text.now ≡ front.now ++ rest.now) }
+{
+    if text.starts_with(front) {
+        Some(&text[front.len()..])
+    } else {
+        None
+    }
+}
+
+/// The pieces of a line that declares a variable.
+#[derive(Clone, Copy)]
+pub struct Declaration<'a> {
+    pub width: &'a [u8],
+    pub id: &'a [u8],
+    pub name: &'a [u8],
+}
+
+fn is_piece(text: &[u8]) -> bool
+    requires { list_all (is_not 32) text.now ≡ true }
+    ensures { result ≡ is_piece text.now }
+{
+    !text.is_empty()
+}
+
+fn is_declaration(width: &[u8], id: &[u8], name: &[u8], end: &[u8]) -> bool
+    requires { list_all (is_not 32) name.now ≡ true }
+    ensures { result ≡ (is_formed (variable width.now id.now name.now) && bytes_eq end.now (codes "$end")) }
+{
+    is_number(width) && is_id(id) && is_piece(name) && is_same(end, b"$end")
+}
+
+/// The pieces of a declaration, behind its first words.
+fn declaration_behind(text: &[u8]) -> Option<Declaration<'_>>
+    ensures none { IfNone result ((w i n : List ℕ) → IsLine (ended (codes "$var reg " ++ text.now)) (variable w i n) → ⊥) }
+    ensures some { IfSome result (λ d. IsLine (ended (codes "$var reg " ++ text.now)) (variable d.width.now d.id.now d.name.now)) }
+{
+    let first = cut_at(text, b' ')?;
+    let second = cut_at(first.behind, b' ')?;
+    let third = cut_at(second.behind, b' ')?;
+    let (width, id, name) = (first.before, second.before, third.before);
+    if is_declaration(width, id, name, third.behind) {
+        Some(Declaration { width, id, name })
+    } else {
+        None
+    }
+}
+
+/// The pieces of a line that declares a variable. There is no answer where it is none.
+pub fn declaration_of(text: &[u8]) -> Option<Declaration<'_>>
+    ensures none { IfNone result ((w i n : List ℕ) → IsLine (ended text.now) (variable w i n) → ⊥) }
+    ensures some { IfSome result (λ d. IsLine (ended text.now) (variable d.width.now d.id.now d.name.now)) }
+{
+    declaration_behind(behind(text, b"$var reg ")?)
+}
+
+/// The number of a line that begins a block. There is no answer where it is none.
+pub fn block_number(text: &[u8]) -> Option<&[u8]>
+    ensures none { IfNone result ((n : List ℕ) → IsLine (ended text.now) (block n) → ⊥) }
+    ensures some { IfSome result (λ n. IsLine (ended text.now) (block n.now)) }
+{
+    let number = behind(text, b"#")?;
+    if is_number(number) {
+        Some(number)
+    } else {
+        None
+    }
+}
+
+/// The pieces of a line that sets a variable.
+#[derive(Clone, Copy)]
+pub struct Change<'a> {
+    pub digits: &'a [u8],
+    pub id: &'a [u8],
+}
+
+fn is_change(digits: &[u8], id: &[u8]) -> bool
+    ensures { result ≡ is_formed (change digits.now id.now) }
+{
+    are_bits(digits) && is_id(id)
+}
+
+fn change_behind(text: &[u8]) -> Option<Change<'_>>
+    ensures none { IfNone result ((d i : List ℕ) → IsLine (ended (codes "b" ++ text.now)) (change d i) → ⊥) }
+    ensures some { IfSome result (λ c. IsLine (ended (codes "b" ++ text.now)) (change c.digits.now c.id.now)) }
+{
+    let halves = cut_at(text, b' ')?;
+    let (digits, id) = (halves.before, halves.behind);
+    if is_change(digits, id) {
+        Some(Change { digits, id })
+    } else {
+        None
+    }
+}
+
+/// The pieces of a line that sets a variable. There is no answer where it is none.
+pub fn change_of(text: &[u8]) -> Option<Change<'_>>
+    ensures none { IfNone result ((d i : List ℕ) → IsLine (ended text.now) (change d i) → ⊥) }
+    ensures some { IfSome result (λ c. IsLine (ended text.now) (change c.digits.now c.id.now)) }
+{
+    change_behind(behind(text, b"b")?)
+}
