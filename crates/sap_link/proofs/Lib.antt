@@ -1,0 +1,9 @@
+mod Feeding
+mod Free
+mod Receiving
+mod Fitting
+mod Itself
+mod Agreeing
+mod Composites
+mod Serving
+mod Computed

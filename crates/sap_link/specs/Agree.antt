@@ -1,0 +1,19 @@
+-- When composites agree at a level l: part by part.
+use Rattle.std.specs.Prelude.{ℕ, List}
+use Rattle.std.specs.List.{AllZip}
+use Rattle.sap_meaning.specs.Agree.{StatesAgree, RefusalsAgree}
+use Rattle.sap_link.specs.Systems.{System, part, IsPart}
+use Rattle.sap_link.specs.Composites.{CompositeState, CompositeAfter, states_of}
+
+-- the states of each part agree
+abbrev pub PartsAgree : System → (l : ℕ) → CompositeState → CompositeState → Type 0
+PartsAgree y l states others = (i : ℕ) → IsPart y i → StatesAgree (part y i) l (states i) (others i)
+
+-- and so do its refusals
+pub record CompositesAgree (y : System) (l : ℕ) (a b : CompositeAfter) : Type 0 where
+  pub states : PartsAgree y l (states_of a) (states_of b)
+  pub refusals : (i : ℕ) → IsPart y i → RefusalsAgree y.order l (a i).refused (b i).refused
+
+-- as many cycles, and in each the composites agree
+abbrev pub CompositeRunsAgree : System → (l : ℕ) → List CompositeAfter → List CompositeAfter → Type 0
+CompositeRunsAgree y l run other = AllZip (CompositesAgree y l) run other

@@ -1,0 +1,6 @@
+pub mod Systems
+pub mod Composites
+pub mod Agree
+pub mod Laws
+pub mod Designs
+pub mod Examples
