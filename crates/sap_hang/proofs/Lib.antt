@@ -1,4 +1,8 @@
-pub mod Walks
-pub mod Columns
+pub mod Sets
+pub mod Assigning
+pub mod Numbers
+pub mod Adds
+pub mod Simples
+pub mod Bodies
+pub mod Groups
 pub mod Tables
-pub mod Lookup

@@ -1,53 +1,117 @@
--- Columns are the table of what hangs.
-use Rattle.std.proofs.Common.{◌≡◌, ◌+◌, ℕ, zero, suc, Bool, false, List, [], ◌∷◌, ◌++◌, drop, refl, sym, ap, ◌∙◌, add-one, append_assoc}
-use Rattle.std.specs.Prelude.{Option, Some, None, Vec, slice_get, option_map, unwrap_or}
-use Rattle.std.specs.Global.{Global}
-use Rattle.std.proofs.lemmas.List.{map-append}
-use Rattle.std.proofs.lemmas.Option.{slice_get-map}
+-- Rows are the table of what hangs; which entities are dynamic registers and memories; and the numbers of entities.
+use Rattle.std.proofs.Common.{◌≡◌, ◌∙◌, ◌+◌, ◌<◌, ◌≤◌, ℕ, zero, suc, Bool, true, false, List, [], ◌∷◌, ◌++◌, map, length, get_or, drop, refl, sym, ap, subst, add-one, append_assoc}
+use Rattle.std.specs.Prelude.{Option, Some, None, slice_get, option_map, unwrap_or, reverse, ltb}
+use Rattle.std.proofs.lemmas.Bool.{ltb-true, ltb-false}
+use Rattle.std.proofs.Math.ListN.{drop_of_length-le}
+use Rattle.std.proofs.lemmas.List.{append-nil, drop_more}
+use Rattle.std.proofs.lemmas.Option.{slice_get-map, slice_get_past, slice_get_read}
 use Rattle.sap_tree.specs.declared.syntax.Decl.{Decl}
+use Rattle.sap_tree.specs.declared.syntax.State.{State}
+use Rattle.sap_tree.specs.declared.version.Version.{Version}
+use Rattle.sap_tree.specs.Parts.{tree_of}
+use Rattle.sap_tree.specs.Points.{Point, points_of, states_points}
 use Rattle.sap_tree.specs.Syntax.{DesignTree}
-use Rattle.sap_tree.specs.Touches.{touches}
+use Rattle.sap_tree.specs.Touches.{touches, is_dynamic_store, declares_dynamic}
+use Rattle.sap_tree.specs.Trees.{states_of}
 use Rattle.sap_names.specs.declared.entity.Entity.{Entity}
-use Rattle.sap_names.specs.Entities.{entities_of}
-use Rattle.sap_hang.specs.Columns.{columns_of, items_of, touching_at}
-use Rattle.sap_hang.specs.Hang.{IsHangTable, Table, bit_of, touches_entity}
-use Rattle.sap_tree.specs.Points.{Point, points_of}
+use Rattle.sap_names.specs.Entities.{entities_of, entity_number}
+use Rattle.sap_hang.specs.Hang.{IsHangTable, Table, bit_of, says, touches_entity}
+use Rattle.sap_hang.specs.Rows.{rows_of}
+use Rattle.sap_hang.specs.Sets.{has}
+use Rattle.sap_hang.specs.Walks.{Adds, Stands, firsts_of, table_of, passing, touched_on}
+use Rattle.sap_hang.specs.declared.set.Set.{Set}
+use Rattle.sap_hang.proofs.Adds.{stands_more, starts}
 
-touch-at : (ds : List Decl) (e : Entity) (o : Option Point)
-    → unwrap_or (option_map (λ (q : Point). touches ds q.home q.command e.name.name) o) false ≡ touches_entity ds o (Some e)
-touch-at ds e None = refl
-touch-at ds e (Some q) = refl
+-- lookups
 
-nowhere : (ds : List Decl) (o : Option Point) → false ≡ touches_entity ds o None
-nowhere ds None = refl
-nowhere ds (Some q) = refl
+pub row-at : (firsts : List ℕ) (rows : List Set) (p : ℕ) → slice_get (rows_of firsts rows) p ≡ option_map (λ (s : Set). map (λ (x : ℕ). has s x) firsts) (slice_get rows p)
+row-at firsts rows p = slice_get-map (λ (s : Set). map (λ (x : ℕ). has s x) firsts) rows p
 
-bit-touches : (ds : List Decl) (ps : List Point) (o : Option Entity) (p : ℕ)
-    → bit_of (option_map (λ (e : Entity). touching_at ds e.name.name ps) o) p ≡ touches_entity ds (slice_get ps p) o
-bit-touches ds ps None p = nowhere ds (slice_get ps p)
-bit-touches ds ps (Some e) p =
-    ap (λ (o : Option Bool). unwrap_or o false) (slice_get-map (λ (q : Point). touches ds q.home q.command e.name.name) ps p) ∙ touch-at ds e (slice_get ps p)
+pub bit-at : (s : Set) (firsts : List ℕ) (x : ℕ) → slice_get (map (λ (y : ℕ). has s y) firsts) x ≡ option_map (λ (y : ℕ). has s y) (slice_get firsts x)
+bit-at s firsts x = slice_get-map (λ (y : ℕ). has s y) firsts x
 
-pub columns_serve : (d : DesignTree) (es : List Entity) (table : Table) → es ≡ entities_of d → table ≡ columns_of d.declarations es (points_of d) → IsHangTable d table
-columns_serve d es table h e zero x = refl
-columns_serve d es table h e (suc p) x =
-    ap (λ (l : Table). bit_of (slice_get l x) p) e
-    ∙ ap (λ (o : Option (List Bool)). bit_of o p) (slice_get-map (λ (k : Entity). touching_at d.declarations k.name.name (points_of d)) es x)
-    ∙ bit-touches d.declarations (points_of d) (slice_get es x) p
+module _ (firsts : List ℕ) (rows : List Set) (table : Table) (point q x : ℕ) (is : rows_of firsts rows ≡ table) (at : point ≡ suc q) where
+  told : says table point x ≡ bit_of (option_map (λ (s : Set). map (λ (y : ℕ). has s y) firsts) (slice_get rows q)) x
+  told = ap (λ (t : Table). says t point x) (sym is) ∙ ap (λ (n : ℕ). says (rows_of firsts rows) n x) at ∙ ap (λ (o : Option (List Bool)). bit_of o x) (row-at firsts rows q)
+
+  told_of : (row : Set) → true ≡ ltb q (length rows) → row ≡ get_or rows q row → says table point x ≡ unwrap_or (option_map (λ (y : ℕ). has row y) (slice_get firsts x)) false
+  told_of row l h =
+      told ∙ ap (λ (o : Option Set). bit_of (option_map (λ (s : Set). map (λ (y : ℕ). has s y) firsts) o) x) (slice_get_read rows (length rows) q row refl (ltb-true q (length rows) (sym l)) h)
+      ∙ ap (λ (o : Option Bool). unwrap_or o false) (bit-at row firsts x)
+
+  pub hung : (row : Set) (number : ℕ) (b : Bool) → true ≡ ltb q (length rows) → row ≡ get_or rows q row → true ≡ ltb x (length firsts) → number ≡ get_or firsts x number
+      → b ≡ has row number → b ≡ says table point x
+  hung row number b l h m k e =
+      e ∙ sym (told_of row l h ∙ ap (λ (o : Option ℕ). unwrap_or (option_map (λ (y : ℕ). has row y) o) false) (slice_get_read firsts (length firsts) x number refl (ltb-true x (length firsts) (sym m)) k))
+
+  pub no_entity : (row : Set) → true ≡ ltb q (length rows) → row ≡ get_or rows q row → false ≡ ltb x (length firsts) → false ≡ says table point x
+  no_entity row l h m = sym (told_of row l h ∙ ap (λ (o : Option ℕ). unwrap_or (option_map (λ (y : ℕ). has row y) o) false) (slice_get_past firsts x (ltb-false x (length firsts) (sym m))))
+
+  pub no_point : false ≡ ltb q (length rows) → false ≡ says table point x
+  no_point l = sym (told ∙ ap (λ (o : Option Set). bit_of (option_map (λ (s : Set). map (λ (y : ℕ). has s y) firsts) o) x) (slice_get_past rows q (ltb-false q (length rows) (sym l))))
+
+-- a table
+
+entity-at : (ds : List Decl) (q : Point) (o : Option Entity)
+    → unwrap_or (option_map (λ (e : Entity). touches ds q.home q.command e.name.name) o) false ≡ touches_entity ds (Some q) o
+entity-at ds q None = refl
+entity-at ds q (Some e) = refl
+
+point-at : (ds : List Decl) (es : List Entity) (o : Option Point) (x : ℕ)
+    → bit_of (option_map (λ (q : Point). passing es (λ name. touches ds q.home q.command name)) o) x ≡ touches_entity ds o (slice_get es x)
+point-at ds es None x = refl
+point-at ds es (Some q) x =
+    ap (λ (o : Option Bool). unwrap_or o false) (slice_get-map (λ (e : Entity). touches ds q.home q.command e.name.name) es x) ∙ entity-at ds q (slice_get es x)
+
+serves : (d : DesignTree) (es : List Entity) (table : Table) → es ≡ entities_of d → table ≡ touched_on es d.declarations (points_of d) → IsHangTable d table
+serves d es table h e zero x = refl
+serves d es table h e (suc p) x =
+    ap (λ (l : Table). bit_of (slice_get l p) x) e
+    ∙ ap (λ (o : Option (List Bool)). bit_of o x) (slice_get-map (λ (q : Point). passing es (λ name. touches d.declarations q.home q.command name)) (points_of d) p)
+    ∙ point-at d.declarations es (slice_get (points_of d) p) x
     ∙ ap (λ (l : List Entity). touches_entity d.declarations (slice_get (points_of d) p) (slice_get l x)) h
 
-columns-drop : (ds : List Decl) (ps : List Point) (es : List Entity) (n : ℕ) (name : List ℕ) → option_map (λ (e : Entity). e.name.name) (slice_get es n) ≡ Some name
-    → columns_of ds (drop n es) ps ≡ touching_at ds name ps ∷ columns_of ds (drop (n + 1) es) ps
-columns-drop ds ps [] n name h = absurd (cc h)
-columns-drop ds ps (e ∷ es) zero name h = ap (λ (o : Option (List ℕ)). touching_at ds (unwrap_or o []) ps ∷ columns_of ds es ps) h
-columns-drop ds ps (e ∷ es) (suc n) name h = let r = columns-drop ds ps es n name h in simp (add-one) (simp (add-one) at r)
+-- that of a design
+pub table_whole : (v : Version) (ds : List Decl) (ss : List State) (declared : List Decl) (seen : List State) (es : List Entity) (start sets rows : List Set) (firsts : List ℕ)
+    → es ≡ entities_of (tree_of v ds ss) → declared ≡ ds → seen ≡ ss → start ≡ [] → firsts ≡ firsts_of es → rows ≡ reverse sets
+    → table_of es sets ≡ touched_on es declared (states_points (states_of seen)) ++ table_of es start → IsHangTable (tree_of v ds ss) (rows_of firsts rows)
+table_whole v ds ss declared seen es start sets rows firsts he hd hs h0 hf hr h =
+    serves (tree_of v ds ss) es (rows_of firsts rows) he
+    (ap (λ (l : List ℕ). rows_of l rows) hf ∙ ap (λ (l : List Set). rows_of (firsts_of es) l) hr ∙ h
+    ∙ ap (λ (l : List Set). touched_on es declared (states_points (states_of seen)) ++ table_of es l) h0
+    ∙ append-nil (touched_on es declared (states_points (states_of seen)))
+    ∙ ap (λ (l : List Decl). touched_on es l (states_points (states_of seen))) hd
+    ∙ ap (λ (l : List State). touched_on es ds (states_points (states_of l))) hs)
 
-pub columns_step : (ds : List Decl) (ps : List Point) (es : List Entity) (n : ℕ) (name : List ℕ) (old new : List (Vec Bool Global)) (column : Vec Bool Global) (all : Table)
-    → option_map (λ (e : Entity). e.name.name) (slice_get es n) ≡ Some name → column.items ≡ touching_at ds name ps → new ≡ old ++ column ∷ []
-    → items_of old ++ columns_of ds (drop n es) ps ≡ all → items_of new ++ columns_of ds (drop (n + 1) es) ps ≡ all
-columns_step ds ps es n name old new column all h e k i =
-    ap (λ (l : List (Vec Bool Global)). items_of l ++ columns_of ds (drop (n + 1) es) ps) k
-    ∙ ap (λ (l : Table). l ++ columns_of ds (drop (n + 1) es) ps) (map-append (λ (c : Vec Bool Global). c.items) old (column ∷ []))
-    ∙ append_assoc (items_of old) (column.items ∷ []) (columns_of ds (drop (n + 1) es) ps)
-    ∙ ap (λ (c : List Bool). items_of old ++ c ∷ columns_of ds (drop (n + 1) es) ps) e
-    ∙ ap (λ (l : Table). items_of old ++ l) (sym (columns-drop ds ps es n name h)) ∙ i
+-- declarations from a place on
+
+pub stores_start : (es : List Entity) (ds : List Decl) (n : ℕ) (s : Set) → length ds ≤ n → ((x : ℕ) → has s x ≡ false) → Stands es (λ x. is_dynamic_store (drop n ds) x) s
+unfolding is_dynamic_store
+stores_start es ds n s l e = subst (λ (z : List Decl). Stands es (λ x. is_dynamic_store z x) s) (sym (drop_of_length-le ds l)) (starts es (λ x. is_dynamic_store [] x) s e (λ x. refl))
+
+pub stores_step : (es : List Entity) (ds : List Decl) (n m : ℕ) (d : Decl) (s t : Set) → n < length ds → m ≡ n + 1 → d ≡ get_or ds n d → Stands es (λ x. is_dynamic_store (drop m ds) x) s
+    → Adds es (λ x. declares_dynamic x d) s t → Stands es (λ x. is_dynamic_store (drop n ds) x) t
+unfolding is_dynamic_store
+stores_step es ds n m d s t l next e h a =
+    let rest = drop m ds in
+    let parts : drop n ds ≡ d ∷ rest = drop_more ds n d l ∙ ap (λ (k : ℕ). get_or ds n d ∷ drop k ds) (sym next) ∙ ap (λ (z : Decl). z ∷ rest) (sym e) in
+    subst (λ (z : List Decl). Stands es (λ x. is_dynamic_store z x) t) (sym parts) (stands_more es (λ x. is_dynamic_store rest x) (λ x. declares_dynamic x d) s t h a)
+
+-- numbers from an entity on
+
+abbrev pub firsts_from : List Entity → List Entity → List ℕ
+firsts_from all es = map (λ (e : Entity). entity_number all e.name.name) es
+
+firsts-drop : (all es : List Entity) (n : ℕ) (name : List ℕ) → option_map (λ (e : Entity). e.name.name) (slice_get es n) ≡ Some name
+    → firsts_from all (drop n es) ≡ entity_number all name ∷ firsts_from all (drop (n + 1) es)
+firsts-drop all [] n name h = absurd (cc h)
+firsts-drop all (e ∷ es) zero name h = ap (λ (o : Option (List ℕ)). entity_number all (unwrap_or o []) ∷ firsts_from all es) h
+firsts-drop all (e ∷ es) (suc n) name h = let r = firsts-drop all es n name h in simp (add-one) (simp (add-one) at r)
+
+pub firsts_step : (es : List Entity) (n : ℕ) (name : List ℕ) (number : ℕ) (old new all : List ℕ) → option_map (λ (e : Entity). e.name.name) (slice_get es n) ≡ Some name
+    → number ≡ entity_number es name → new ≡ old ++ number ∷ [] → old ++ firsts_from es (drop n es) ≡ all → new ++ firsts_from es (drop (n + 1) es) ≡ all
+firsts_step es n name number old new all h e k i =
+    ap (λ (l : List ℕ). l ++ firsts_from es (drop (n + 1) es)) k
+    ∙ append_assoc old (number ∷ []) (firsts_from es (drop (n + 1) es))
+    ∙ ap (λ (x : ℕ). old ++ x ∷ firsts_from es (drop (n + 1) es)) e
+    ∙ ap (λ (l : List ℕ). old ++ l) (sym (firsts-drop es es n name h)) ∙ i

@@ -17,18 +17,18 @@ abbrev pub hangs : DesignTree → (point entity : ℕ) → Bool
 hangs d zero x = false
 hangs d (suc p) x = touches_entity d.declarations (slice_get (points_of d) p) (slice_get (entities_of d) x)
 
--- a table: for each entity a column, which says of each point whether the entity hangs on it
+-- a table: for each point a row, which says of each entity whether it hangs there
 abbrev pub Table : Type 0
 Table = List (List Bool)
 
 abbrev pub bit_of : Option (List Bool) → (place : ℕ) → Bool
-bit_of None p = false
-bit_of (Some column) p = unwrap_or (slice_get column p) false
+bit_of None x = false
+bit_of (Some row) x = unwrap_or (slice_get row x) false
 
 -- what a table says
 abbrev pub says : Table → (point entity : ℕ) → Bool
 says table zero x = false
-says table (suc p) x = bit_of (slice_get table x) p
+says table (suc p) x = bit_of (slice_get table p) x
 
 -- a table of what hangs in a design
 abbrev pub IsHangTable : DesignTree → Table → Type 0

@@ -1,2 +1,5 @@
+pub mod Assigns
 pub mod Hang
-pub mod Columns
+pub mod Rows
+pub mod Sets
+pub mod Walks

@@ -1,7 +1,7 @@
 //! Which commands assign a register or a memory.
 
 ghost use Rattle.std.specs.Prelude.{◌≡◌};
-ghost use Rattle.sap_hang.specs.Columns as columns;
+ghost use Rattle.sap_hang.specs.Assigns.{arms_assign};
 ghost use Rattle.sap_tree.specs.Touches as tree;
 ghost use Rattle.sap_tree.specs.Trees.{command_of, commands_of, else_of, simple_of, state_of, states_of};
 
@@ -9,7 +9,7 @@ use sap_tree::name::Name;
 use sap_tree::syntax::{Arm, Block, Cmd, Simple, State};
 
 /// Whether a command that can have a handler assigns the entity of this name.
-pub(crate) fn simple_assigns(command: &Simple, name: &Name) -> bool
+fn simple_assigns(command: &Simple, name: &Name) -> bool
     ensures { result ≡ tree.simple_assigns (simple_of command.now) name.now }
 {
     match command {
@@ -23,7 +23,7 @@ pub(crate) fn simple_assigns(command: &Simple, name: &Name) -> bool
 }
 
 #[cycle(body)]
-#[tactic(auto, using(sap_tree::proofs::Views::views, crate::proofs::Walks::assigning))]
+#[tactic(auto, using(sap_tree::proofs::Views::views, crate::proofs::Assigning::assigning))]
 fn assigns(command: &Cmd, name: &Name) -> bool
     ensures { result ≡ tree.assigns (command_of command.now) name.now }
 {
@@ -48,9 +48,9 @@ fn assigns(command: &Cmd, name: &Name) -> bool
 
 /// The arms of a `case`, without the block after `else`.
 #[cycle(body)]
-#[tactic(auto, using(crate::proofs::Walks::pasts))]
+#[tactic(auto, using(crate::proofs::Assigning::pasts))]
 fn arms_assign(arms: &[Arm], name: &Name) -> bool
-    ensures { result ≡ columns.arms_assign arms.now name.now }
+    ensures { result ≡ arms_assign arms.now name.now }
 {
     for arm in arms {
         if list_assigns(arm.block.commands.as_slice(), name) {
@@ -61,7 +61,7 @@ fn arms_assign(arms: &[Arm], name: &Name) -> bool
 }
 
 #[cycle(body)]
-#[tactic(auto, using(crate::proofs::Walks::assigning))]
+#[tactic(auto, using(crate::proofs::Assigning::assigning))]
 fn else_assigns(other: &Option<Block>, name: &Name) -> bool
     ensures { result ≡ tree.else_assigns (else_of other.now) name.now }
 {
@@ -72,7 +72,7 @@ fn else_assigns(other: &Option<Block>, name: &Name) -> bool
 }
 
 #[cycle(body)]
-#[tactic(auto, using(crate::proofs::Walks::pasts))]
+#[tactic(auto, using(crate::proofs::Assigning::pasts))]
 fn list_assigns(commands: &[Cmd], name: &Name) -> bool
     ensures { result ≡ tree.list_assigns (commands_of commands.now) name.now }
 {
@@ -85,7 +85,7 @@ fn list_assigns(commands: &[Cmd], name: &Name) -> bool
 }
 
 #[cycle(states)]
-#[tactic(auto, using(crate::proofs::Walks::assigning))]
+#[tactic(auto, using(crate::proofs::Assigning::assigning))]
 fn state_assigns(state: &State, name: &Name) -> bool
     ensures { result ≡ tree.state_assigns (state_of state.now) name.now }
 {
@@ -95,7 +95,7 @@ fn state_assigns(state: &State, name: &Name) -> bool
 
 /// Whether the body of one of these states or of one below them assigns the entity of this name.
 #[cycle(states)]
-#[tactic(auto, using(crate::proofs::Walks::pasts))]
+#[tactic(auto, using(crate::proofs::Assigning::pasts))]
 pub(crate) fn states_assign(states: &[State], name: &Name) -> bool
     ensures { result ≡ tree.states_assign (states_of states.now) name.now }
 {

@@ -2,10 +2,13 @@
 #![tactic(auto)]
 
 mod assigns;
-mod column;
+mod body;
 pub mod hang;
 pub mod root;
+mod set;
+mod simple;
 mod standing;
+mod states;
 pub mod table;
 mod touches;
 

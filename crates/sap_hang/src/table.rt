@@ -3,34 +3,40 @@
 ghost use Rattle.std.specs.Prelude.{◌≡◌};
 ghost use Rattle.sap_hang.specs.Hang.{says};
 
+use crate::set::Set;
 use std::marker::Model;
 
-/// What hangs on each point of a design, seen as a column for each entity, which says of each point whether the entity hangs on it.
+/// What hangs on each point of a design, seen as a row for each point, which says of each entity whether it hangs there. Kept is for
+/// each point a set of numbers, and for each entity the number that it has in the sets: that of the first of its name.
 #[derive(Drop)]
 pub struct HangTable {
-    pub(crate) columns: Vec<Vec<bool>>,
+    pub(crate) rows: Vec<Set>,
+    pub(crate) firsts: Vec<u32>,
 }
 
 impl Model for HangTable {
-    ghost use Rattle.sap_hang.specs.Columns.{items_of};
     ghost use Rattle.sap_hang.specs.Hang.{Table};
 
     ghost Value = { Table };
 
-    ghost view = { λ t. items_of t.columns.items };
+    ghost use Rattle.sap_hang.specs.Rows.{rows_of};
+
+    ghost view = { λ t. rows_of t.firsts.items t.rows.items };
 }
 
 impl HangTable {
     /// Whether the entity hangs on the point. Points are numbered from 1 and entities from 0; on what is no point nothing hangs.
-    #[tactic(auto, using(crate::proofs::Lookup::lookups))]
     pub fn hangs(&self, point: u32, entity: u32) -> bool
         ensures { result ≡ says self.now point entity }
     {
         if point == 0 {
             return false;
         }
-        match self.columns.get(entity as usize) {
-            Some(column) => column.get(point as usize - 1).copied().unwrap_or(false),
+        match self.rows.get(point as usize - 1) {
+            Some(row) => match self.firsts.get(entity as usize) {
+                Some(number) => row.has(*number),
+                None => false,
+            },
             None => false,
         }
     }

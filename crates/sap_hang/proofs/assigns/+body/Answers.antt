@@ -1,6 +1,6 @@
 use Rattle.std.proofs.Common.{◌∙◌, refl, sym, arith}
 use Rattle.sap_tree.proofs.Views.{command_of-do, command_of-if, command_of-try, command_of-try_then, command_of-case}
-use Rattle.sap_hang.proofs.Walks.{arms_here, arms_past, commands_here, commands_past, assigns-do, assigns-try, assigns-if, assigns-then, assigns-case, else_assigns-none, else_assigns-some}
+use Rattle.sap_hang.proofs.Assigning.{arms_here, arms_past, commands_here, commands_past, assigns-do, assigns-try, assigns-if, assigns-then, assigns-case, else_assigns-none, else_assigns-some}
 use Rattle.sap_hang.proofs.assigns.+body.Goals as goal
 
 pub list_assigns-returns-then-assigns : goal.list_assigns-returns-then-assigns

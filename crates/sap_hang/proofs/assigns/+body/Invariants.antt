@@ -1,7 +1,7 @@
 use Rattle.std.proofs.Common.{◌≡◌, drop}
 use Rattle.sap_tree.specs.Touches.{list_assigns}
 use Rattle.sap_tree.specs.Trees.{commands_of}
-use Rattle.sap_hang.specs.Columns.{arms_assign}
+use Rattle.sap_hang.specs.Assigns.{arms_assign}
 use Rattle.sap_hang.proofs.assigns.+body.Given as goal
 
 -- the commands that are left say the same

@@ -1,5 +1,5 @@
 use Rattle.std.proofs.Common.{◌∙◌, sym, arith}
-use Rattle.sap_hang.proofs.Walks.{states_here}
+use Rattle.sap_hang.proofs.Assigning.{states_here}
 use Rattle.sap_hang.proofs.assigns.+states.Goals as goal
 
 pub states_assign-returns-then-state_assigns : goal.states_assign-returns-then-state_assigns

@@ -1,6 +1,8 @@
-use Rattle.sap_tree.specs.Designs.{design_of}
-use Rattle.sap_hang.proofs.Tables.{columns_serve}
+use Rattle.sap_hang.proofs.Tables.{table_whole}
 use Rattle.sap_hang.proofs.hang.hang.Goals as goal
 
 pub returns : goal.returns
-returns c = columns_serve (design_of c.args.design.now) c.args.names.now _ c.requires c.in_ok-columns.ensures
+returns c =
+    table_whole c.args.design.now.version c.args.design.now.declarations.items c.args.design.now.states.items c.as_slice-declarations.result.now c.as_slice.result.now c.args.names.now
+    c.new-rows.result.items c.add_states.new.rows.items _ c.in_ok-firsts.firsts.items c.requires c.as_slice-declarations.ensures.value c.as_slice.ensures.value c.new-rows.ensures.items
+    c.in_ok-firsts.ensures c.reverse.ensures.items c.in_ok-add_states.ensures.rows

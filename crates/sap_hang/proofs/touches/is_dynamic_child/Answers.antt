@@ -4,7 +4,7 @@ use Rattle.std.proofs.lemmas.Iterator.{YieldsList-from_slice}
 use Rattle.std.proofs.lemmas.Iterator.Search.{any_from_yields_List}
 use Rattle.sap_tree.specs.declared.syntax.State.{State, out-State}
 use Rattle.sap_tree.specs.Touches.{is_dynamic_kind}
-use Rattle.sap_hang.proofs.Walks.{child_listed}
+use Rattle.sap_hang.proofs.Assigning.{child_listed}
 use Rattle.sap_hang.proofs.touches.is_dynamic_child.Goals as goal
 
 pub returns : goal.returns
