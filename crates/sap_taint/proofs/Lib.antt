@@ -1,0 +1,17 @@
+pub mod Keeps
+pub mod Related
+pub mod Cycles
+pub mod Found
+pub mod Observed
+pub mod Within
+pub mod Keepers
+pub mod Levels
+pub mod Shown
+pub mod Exists
+pub mod Clashes
+pub mod Apart
+pub mod CarriesCycle
+pub mod Tagging
+pub mod TaggingMemory
+pub mod Worked
+pub mod Woven

@@ -1,0 +1,9 @@
+pub mod TagNames
+pub mod Tags
+pub mod Runs
+pub mod Alike
+pub mod TaggedForm
+pub mod Laws
+pub mod Carries
+pub mod Examples
+pub mod Worked
