@@ -1,6 +1,7 @@
 //! The text of `--help`.
 
 use clap::{Arg, ArgAction, Command};
+use sap_words::COMMANDS;
 use std::alloc::{AllocError, Global};
 
 pub(crate) const VERSION: &str = "sapper 0.1.0\n";
@@ -10,37 +11,16 @@ const ABOUT: &str =
 
 const USAGE: &str = "sapper COMMAND OPERANDS";
 
-// Each command with its operands and what it does.
-static COMMANDS: [(&str, &str); 8] = [
-    (
-        "compile",
-        "LATTICE DESIGN OUT: writes the module of a design to the file OUT",
-    ),
-    (
-        "run",
-        "LATTICE DESIGN STIM: runs a design on a stimulus, and writes a row a cycle",
-    ),
-    (
-        "trace",
-        "LATTICE DESIGN STIM: runs a design on a stimulus, and writes a line for each refused command",
-    ),
-    (
-        "sim",
-        "LATTICE VERILOG STIM: clocks a module of the subset, and writes a row a cycle",
-    ),
-    (
-        "report",
-        "LATTICE DESIGN: writes codes of levels, what hangs on which commands, and check sites",
-    ),
-    (
-        "twin",
-        "LATTICE DESIGN STIM STIM LEVEL: says whether two stimuli of a design agree at a level",
-    ),
-    ("fmt", "DESIGN: writes the canonical text of a design"),
-    (
-        "gen",
-        "N: runs a generated design, N from 1 to 1000, and writes its counts and its last row",
-    ),
+// What each command does, in the order of the table of commands.
+static DOES: [&str; 8] = [
+    "writes the module of a design to the file OUT",
+    "runs a design on a stimulus, and writes a row a cycle",
+    "runs a design on a stimulus, and writes a line for each refused command",
+    "clocks a module of the subset, and writes a row a cycle",
+    "writes codes of levels, what hangs on which commands, and check sites",
+    "says whether two stimuli of a design agree at a level",
+    "writes the canonical text of a design",
+    "runs a generated design, N from 1 to 1000, and writes its counts and its last row",
 ];
 
 const STATUSES: &str = "Statuses:
@@ -73,9 +53,35 @@ fn program<'a>(alloc: Global) -> Command<'a> {
         .disable_help_subcommand(true)
 }
 
-fn with_commands<'a>(alloc: Global, mut command: Command<'a>) -> Result<Command<'a>, AllocError> {
-    for (name, does) in &COMMANDS {
-        command = command.subcommand(Command::new(alloc, name).about(does))?;
+// The operands of a command, and what it does.
+fn about(alloc: Global, operands: &[&str], does: &str) -> Result<String, AllocError> {
+    let mut text = String::new(alloc);
+    for (place, operand) in operands.iter().enumerate() {
+        if place > 0 {
+            text.push_str(" ")?;
+        }
+        text.push_str(operand)?;
+    }
+    text.push_str(": ")?;
+    text.push_str(does)?;
+    Ok(text)
+}
+
+fn abouts(alloc: Global) -> Result<Vec<String>, AllocError> {
+    let mut texts = Vec::new(alloc);
+    for ((_, operands), does) in COMMANDS.iter().zip(&DOES) {
+        texts.push(about(alloc, operands, does)?)?;
+    }
+    Ok(texts)
+}
+
+fn with_commands<'a>(
+    alloc: Global,
+    mut command: Command<'a>,
+    abouts: &'a [String],
+) -> Result<Command<'a>, AllocError> {
+    for ((name, _), about) in COMMANDS.iter().zip(abouts) {
+        command = command.subcommand(Command::new(alloc, name).about(about.as_str()))?;
     }
     Ok(command)
 }
@@ -92,12 +98,9 @@ fn with_options<'a>(alloc: Global, command: Command<'a>) -> Result<Command<'a>, 
         .value_name("CODE"))
 }
 
-fn command<'a>(alloc: Global) -> Result<Command<'a>, AllocError> {
-    let command = with_commands(alloc, program(alloc))?;
-    with_options(alloc, command)
-}
-
 /// The text of `--help`.
 pub(crate) fn help(alloc: Global) -> Result<String, AllocError> {
-    command(alloc)?.render_help()
+    let abouts = abouts(alloc)?;
+    let command = with_commands(alloc, program(alloc), &abouts)?;
+    with_options(alloc, command)?.render_help()
 }

@@ -10,3 +10,4 @@ mod table;
 
 pub use command::{Command, RunNumber};
 pub use read::command_of;
+pub use table::COMMANDS;

@@ -10,7 +10,7 @@ use crate::command::Command;
 use crate::number::number_of;
 
 /// Each command with the names of its operands.
-pub(crate) static COMMANDS: [(&str, &[&str]); 8] = [
+pub static COMMANDS: [(&str, &[&str]); 8] = [
     ("compile", &["LATTICE", "DESIGN", "OUT"]),
     ("run", &["LATTICE", "DESIGN", "STIM"]),
     ("trace", &["LATTICE", "DESIGN", "STIM"]),

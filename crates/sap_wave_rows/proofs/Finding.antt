@@ -1,0 +1,79 @@
+-- Variables by their names.
+use Rattle.std.proofs.Common.{◌≡◌, ◌≢◌, ℕ, List, [], ◌∷◌, ◌++◌, Bool, false, Option, Some, None, length, refl, sym, ap, ◌∙◌, inl, inr}
+use Rattle.std.specs.Prelude.{◌==◌, ◌&&◌, unwrap_or, slice_get}
+use Rattle.std.specs.Option.{option_map}
+use Rattle.std.specs.Str.{bytes_eq}
+use Rattle.std.proofs.lemmas.Bool.{cases_Bool}
+use Rattle.std.proofs.lemmas.Bool.Decides.{Decides-eqb}
+use Rattle.std.proofs.lemmas.List.{append-nil, length-map}
+use Rattle.sap_lemmas.proofs.Bools.{and_left}
+use Rattle.sap_maps.specs.Maps.{Name}
+use Rattle.sap_maps.specs.Scope.{Scope, find}
+use Rattle.sap_net.specs.NameMaps.{place_in}
+use Rattle.sap_net.specs.PortNames.{is_number, value_of}
+use Rattle.sap_net.specs.Shown.{shown_among, shown_by}
+use Rattle.sap_sim.specs.Numbers.{place}
+use Rattle.sap_sim.proofs.Maps.{place_found, place_behind}
+use Rattle.sap_wave.specs.declared.variable.Variable.{Variable}
+use Rattle.sap_wave.specs.Waves.{names_of}
+use Rattle.sap_wave_rows.specs.Rows.{widths_of}
+
+-- a name that doesn't begin with `v` and `_` is that of no x
+pub not_behind_v : (name : Name) → ((rest : Name) → name ≢ 118 ∷ rest) → value_of name ≡ None
+not_behind_v [] h = refl
+not_behind_v (a ∷ []) h = refl
+not_behind_v (a ∷ (b ∷ [])) h = refl
+not_behind_v (a ∷ (b ∷ (c ∷ x))) h =
+    elim (cases_Bool (a == 118 && b == 95)) [
+      | inl t ↦ absurd (h (b ∷ (c ∷ x)) (ap (λ (l : ℕ). l ∷ (b ∷ (c ∷ x))) ((Decides-eqb a 118).0 (and_left (a == 118) (b == 95) t))))
+      | inr f ↦ rw f refl
+    ]
+
+not_behind : (rest : Name) → ((x : Name) → rest ≢ 95 ∷ x) → value_of (118 ∷ rest) ≡ None
+not_behind [] h = refl
+not_behind (b ∷ []) h = refl
+not_behind (b ∷ (c ∷ x)) h =
+    elim (cases_Bool (b == 95)) [
+      | inl t ↦ absurd (h (c ∷ x) (ap (λ (l : ℕ). l ∷ (c ∷ x)) ((Decides-eqb b 95).0 t)))
+      | inr f ↦ rw f refl
+    ]
+
+pub not_behind_line : (name rest : Name) → name ≡ 118 ∷ rest → ((x : Name) → rest ≢ 95 ∷ x) → value_of name ≡ None
+not_behind_line name rest e h = ap value_of e ∙ not_behind rest h
+
+-- the place of a name, by what a map has for it
+pub place_is : (xs : List Variable) (y : Name) (o : Option ℕ) → o ≡ place_in (names_of xs) y → unwrap_or o (length xs) ≡ place (names_of xs) y
+place_is xs y o e =
+    ap (λ (p : Option ℕ). unwrap_or p (length xs)) e
+    ∙ ap (λ (k : ℕ). unwrap_or (place_in (names_of xs) y) k) (sym (length-map xs (λ (x : Variable). x.name)))
+    ∙ place_found (names_of xs) y
+
+-- whether a name has the width of tags, by what stands at its place
+abbrev is_wide : (tag : ℕ) → Option Variable → Bool
+is_wide tag o = is_number tag (option_map (λ (x : Variable). x.width) o)
+
+-- the width of a name is that of the variable at its place
+pub width_at : (xs : List Variable) (y : Name) → find (widths_of xs) y ≡ option_map (λ (x : Variable). x.width) (slice_get xs (place (names_of xs) y))
+width_at [] y = refl
+width_at (x ∷ xs) y =
+    elim (cases_Bool (bytes_eq x.name y)) [
+      | inl t ↦ rw t refl
+      | inr f ↦ rw f (width_at xs y) ∙ ap (λ (k : ℕ). option_map (λ (v : Variable). v.width) (slice_get (x ∷ xs) k)) (sym (place_behind x.name (names_of xs) y f))
+    ]
+
+pub wide_there : (tag : ℕ) (xs : List Variable) (y : Name) (k : ℕ) (x : Variable) → k ≡ place (names_of xs) y → slice_get xs k ≡ Some x → (x.width == tag) ≡ is_number tag (find (widths_of xs) y)
+wide_there tag xs y k x e h = sym (ap (is_number tag) (width_at xs y) ∙ ap (is_wide tag) (ap (slice_get xs) (sym e) ∙ h))
+
+pub wide_nowhere : (tag : ℕ) (xs : List Variable) (y : Name) (k : ℕ) → k ≡ place (names_of xs) y → slice_get xs k ≡ None → false ≡ is_number tag (find (widths_of xs) y)
+wide_nowhere tag xs y k e h = sym (ap (is_number tag) (width_at xs y) ∙ ap (is_wide tag) (ap (slice_get xs) (sym e) ∙ h))
+
+append_three : (xs ys zs : List Name) → xs ++ (ys ++ zs) ≡ (xs ++ ys) ++ zs
+append_three [] ys zs = refl
+append_three (x ∷ xs) ys zs = ap (λ ws. x ∷ ws) (append_three xs ys zs)
+
+-- what is shown of one name more
+pub shown_push : (tag : ℕ) (widths : Scope) (ps : List Name) (p : Name) → shown_among tag widths (ps ++ p ∷ []) ≡ shown_among tag widths ps ++ shown_by tag widths (value_of p)
+shown_push tag widths [] p = append-nil (shown_by tag widths (value_of p))
+shown_push tag widths (q ∷ ps) p =
+    ap (λ (ys : List Name). shown_by tag widths (value_of q) ++ ys) (shown_push tag widths ps p)
+    ∙ append_three (shown_by tag widths (value_of q)) (shown_among tag widths ps) (shown_by tag widths (value_of p))

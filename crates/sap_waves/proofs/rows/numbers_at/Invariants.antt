@@ -1,6 +1,0 @@
-use Rattle.std.proofs.Common.{◌≡◌, take}
-use Rattle.sap_waves.specs.Places.{numbers_at}
-use Rattle.sap_waves.proofs.rows.numbers_at.Given as goal
-
-abbrev pub invariant-loop-place : goal.invariant-loop-place
-invariant-loop-place l = l.seen.items ≡ numbers_at l.numbers (take l.place-index l.places)
