@@ -1,0 +1,20 @@
+-- What holds of every copy of a netlist under other names.
+use Rattle.std.specs.Prelude.{ℕ, List, map}
+use Rattle.sap_maps.specs.Maps.{Name, Valuation}
+use Rattle.sap_net.specs.Net.{Net}
+use Rattle.sap_net.specs.IsNetlist.{IsNetlist}
+use Rattle.sap_net.specs.Runs.{IsRun, observed}
+use Rattle.sap_net.specs.Laws.{AreSame}
+use Rattle.sap_build.specs.Copies.{copy_net, KeepsApart, through}
+
+-- a run of the copy is a run of the netlist
+abbrev pub CopiesRunAlike : Type 0
+CopiesRunAlike =
+    (module_name : Name) (f : Name → Name) (n : Net) → IsNetlist n → KeepsApart f n → (xss : List (List ℕ)) (us : List Valuation)
+    → IsRun (copy_net module_name f n) xss us → IsRun n xss (map (through f) us)
+
+-- what is seen of it is the same
+abbrev pub CopiesShowAlike : Type 0
+CopiesShowAlike =
+    (module_name : Name) (f : Name → Name) (n : Net) → IsNetlist n → KeepsApart f n → (u : Valuation)
+    → AreSame n (observed n (through f u)) (through f (observed (copy_net module_name f n) u))
