@@ -62,7 +62,7 @@ found_copied f g ns one es d x u h = find_copied f g ns one es d x (found_declar
 
 -- all entries of a netlist are declared
 
-abbrev AllAmong : List Name → List Name → Type 0
+abbrev pub AllAmong : List Name → List Name → Type 0
 AllAmong xs ns = (x : Name) → is_among x xs ≡ true → is_among x ns ≡ true
 
 pub entries_declared : {X Y : Type 0} (name : Y → Name) (of : Y → X) (ns : List Name) (ys : List Y) → AllAmong (map name ys) ns → AreDeclared ns (map (λ y. (name y, of y)) ys)
@@ -85,7 +85,7 @@ inputs_among n rules x h =
     let m = memory_names n in
     rules.declared x ∙ among_front x ((i ++ w) ++ r) m (among_front x (i ++ w) r (among_front x i w h))
 
-wires_among : (n : Net) → IsNetlist n → AllAmong (wire_names n) n.names
+pub wires_among : (n : Net) → IsNetlist n → AllAmong (wire_names n) n.names
 wires_among n rules x h =
     let i = input_names n in
     let w = wire_names n in
@@ -105,12 +105,14 @@ pub memories_among : (n : Net) → IsNetlist n → AllAmong (memory_names n) n.n
 memories_among n rules x h =
     rules.declared x ∙ among_behind x ((input_names n ++ wire_names n) ++ register_names n) (memory_names n) h
 
-pub readable_declared : (n : Net) → IsNetlist n → AreDeclared n.names (readable n)
-readable_declared n rules =
-    after_declared n.names n.wires (first_readable n) (wires_among n rules)
-    (all_append {A = Name × ℕ} (λ e. is_among e.0 n.names ≡ true) (map (λ i. (i.name, i.width)) n.inputs) (map (λ r. (r.name, r.width)) n.registers)
+pub first_declared : (n : Net) → IsNetlist n → AreDeclared n.names (first_readable n)
+first_declared n rules =
+    all_append {A = Name × ℕ} (λ e. is_among e.0 n.names ≡ true) (map (λ i. (i.name, i.width)) n.inputs) (map (λ r. (r.name, r.width)) n.registers)
     (entries_declared {X = ℕ} (λ (i : Input). i.name) (λ i. i.width) n.names n.inputs (inputs_among n rules))
-    (entries_declared {X = ℕ} (λ (r : Register). r.name) (λ r. r.width) n.names n.registers (registers_among n rules)))
+    (entries_declared {X = ℕ} (λ (r : Register). r.name) (λ r. r.width) n.names n.registers (registers_among n rules))
+
+pub readable_declared : (n : Net) → IsNetlist n → AreDeclared n.names (readable n)
+readable_declared n rules = after_declared n.names n.wires (first_readable n) (wires_among n rules) (first_declared n rules)
 
 pub shapes_declared : (n : Net) → IsNetlist n → AreDeclared n.names (shapes n)
 shapes_declared n rules = entries_declared {X = ℕ × ℕ} (λ (m : Memory). m.name) (λ m. (m.width, m.depth)) n.names n.memories (memories_among n rules)
@@ -125,6 +127,9 @@ first_copied f (i ∷ is) rs = ap (λ es. (f i.name, i.width) ∷ es) (first_cop
 after_copied : (f : Name → Name) (ws : List Wire) (sc : Scope) → readable_after (copied f (λ (u : ℕ). u) sc) (map (copy_wire f) ws) ≡ copied f (λ (u : ℕ). u) (readable_after sc ws)
 after_copied f [] sc = refl
 after_copied f (w ∷ ws) sc = after_copied f ws ((w.name, w.width) ∷ sc)
+
+pub first_readable_copied : (module_name : Name) (f : Name → Name) (n : Net) → first_readable (copy_net module_name f n) ≡ copied f (λ (u : ℕ). u) (first_readable n)
+first_readable_copied module_name f n = first_copied f n.inputs n.registers
 
 pub readable_copied : (module_name : Name) (f : Name → Name) (n : Net) → readable (copy_net module_name f n) ≡ copied f (λ (u : ℕ). u) (readable n)
 readable_copied module_name f n =

@@ -1,2 +1,4 @@
 pub mod Found
 pub mod Through
+pub mod Copied
+pub mod Back

@@ -1,17 +1,30 @@
 -- What holds of every copy of a netlist under other names.
-use Rattle.std.specs.Prelude.{ℕ, List, map}
+use Rattle.std.specs.Prelude.{◌≡◌, ℕ, List, map, true}
 use Rattle.sap_maps.specs.Maps.{Name, Valuation}
+use Rattle.sap_net.specs.Names.{is_name}
 use Rattle.sap_net.specs.Net.{Net}
 use Rattle.sap_net.specs.IsNetlist.{IsNetlist}
 use Rattle.sap_net.specs.Runs.{IsRun, observed}
-use Rattle.sap_net.specs.Laws.{AreSame}
+use Rattle.sap_net.specs.Laws.{AreSame, AreSameRuns}
 use Rattle.sap_build.specs.Copies.{copy_net, KeepsApart, through}
+
+-- the copy keeps the rules of netlists
+abbrev pub CopiesAreNetlists : Type 0
+CopiesAreNetlists =
+    (module_name : Name) (f : Name → Name) (n : Net) → is_name module_name ≡ true → IsNetlist n → KeepsApart f n
+    → IsNetlist (copy_net module_name f n)
 
 -- a run of the copy is a run of the netlist
 abbrev pub CopiesRunAlike : Type 0
 CopiesRunAlike =
     (module_name : Name) (f : Name → Name) (n : Net) → IsNetlist n → KeepsApart f n → (xss : List (List ℕ)) (us : List Valuation)
     → IsRun (copy_net module_name f n) xss us → IsRun n xss (map (through f) us)
+
+-- and every run of the netlist is that of a run of the copy
+abbrev pub CopiesRunBack : Type 0
+CopiesRunBack =
+    (module_name : Name) (f : Name → Name) (n : Net) → is_name module_name ≡ true → IsNetlist n → KeepsApart f n → (xss : List (List ℕ)) (vs : List Valuation)
+    → IsRun n xss vs → (us : List Valuation) × IsRun (copy_net module_name f n) xss us × AreSameRuns n vs (map (through f) us)
 
 -- what is seen of it is the same
 abbrev pub CopiesShowAlike : Type 0
