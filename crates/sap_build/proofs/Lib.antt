@@ -2,3 +2,4 @@ pub mod Found
 pub mod Through
 pub mod Copied
 pub mod Back
+pub mod Seen

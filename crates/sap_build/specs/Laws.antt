@@ -26,8 +26,8 @@ CopiesRunBack =
     (module_name : Name) (f : Name → Name) (n : Net) → is_name module_name ≡ true → IsNetlist n → KeepsApart f n → (xss : List (List ℕ)) (vs : List Valuation)
     → IsRun n xss vs → (us : List Valuation) × IsRun (copy_net module_name f n) xss us × AreSameRuns n vs (map (through f) us)
 
--- what is seen of it is the same
+-- where the numbers of a valuation are those of one of the copy, so is what is seen of it
 abbrev pub CopiesShowAlike : Type 0
 CopiesShowAlike =
-    (module_name : Name) (f : Name → Name) (n : Net) → IsNetlist n → KeepsApart f n → (u : Valuation)
-    → AreSame n (observed n (through f u)) (through f (observed (copy_net module_name f n) u))
+    (module_name : Name) (f : Name → Name) (n : Net) → IsNetlist n → KeepsApart f n → (v u : Valuation) → AreSame n v (through f u)
+    → AreSame n (observed n v) (through f (observed (copy_net module_name f n) u))

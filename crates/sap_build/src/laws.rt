@@ -8,7 +8,7 @@ pub fn copies_are_netlists()
 {}
 
 /// A run of a copy, read through the names, is a run of the netlist on the same inputs, and every run of the netlist has the
-/// numbers of such a run; and what is seen of a valuation of the copy, cells included, is what is seen of the netlist's.
+/// numbers of such a run; and where a valuation has the numbers of one of the copy, the same is seen of both, cells included.
 pub fn copies_run_alike()
     ensures runs { CopiesRunAlike }
     ensures back { CopiesRunBack }

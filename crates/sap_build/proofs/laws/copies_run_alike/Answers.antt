@@ -1,6 +1,7 @@
 use Rattle.std.proofs.Common.{None}
 use Rattle.sap_build.proofs.Back.{run_back}
-use Rattle.sap_build.proofs.Through.{run_through, observed_through}
+use Rattle.sap_build.proofs.Seen.{seen_alike}
+use Rattle.sap_build.proofs.Through.{run_through}
 use Rattle.sap_build.proofs.laws.copies_run_alike.Goals as goal
 
 pub returns : goal.returns
@@ -8,5 +9,5 @@ returns c =
     record {
       runs = λ module_name f n rules k xss us. run_through module_name f n rules k xss None us;
       back = run_back;
-      shows = observed_through;
+      shows = seen_alike;
     }
