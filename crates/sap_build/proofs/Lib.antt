@@ -3,3 +3,4 @@ pub mod Through
 pub mod Copied
 pub mod Back
 pub mod Seen
+pub mod Examples
