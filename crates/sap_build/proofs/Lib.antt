@@ -4,3 +4,5 @@ pub mod Copied
 pub mod Back
 pub mod Seen
 pub mod Examples
+pub mod Inside
+pub mod PartRuns

@@ -40,10 +40,16 @@ cell_same sc v w a (m ∷ ms) rules x i e =
       | inr q ↦ rw q (cell_same sc v w a ms rules.1 x i e)
     ]
 
+-- where the numbers are the same, so is what is seen
+pub same_seen : (n : Net) → IsNetlist n → (v w : Valuation) → AreSame n v w → AreSame n (observed n v) (observed n w)
+same_seen n rules v w s =
+    record {
+      value = λ x u h. next_same (readable n) v w s.value n.registers rules.nexts x (s.value x u h);
+      cell = λ m d h i. cell_same (readable n) v w s.value n.memories rules.writes m i (s.cell m d h i);
+    }
+
 pub seen_alike : (module_name : Name) (f : Name → Name) (n : Net) → IsNetlist n → KeepsApart f n → (v u : Valuation) → AreSame n v (through f u) → AreSame n (observed n v) (through f (observed (copy_net module_name f n) u))
 seen_alike module_name f n rules k v u s =
     let o = observed_through module_name f n rules k u in
-    record {
-      value = λ x w h. next_same (readable n) v (through f u) s.value n.registers rules.nexts x (s.value x w h) ∙ o.value x w h;
-      cell = λ m d h i. cell_same (readable n) v (through f u) s.value n.memories rules.writes m i (s.cell m d h i) ∙ o.cell m d h i;
-    }
+    let e = same_seen n rules v (through f u) s in
+    record { value = λ x w h. e.value x w h ∙ o.value x w h; cell = λ m d h i. e.cell m d h i ∙ o.cell m d h i }

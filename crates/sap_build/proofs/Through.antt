@@ -22,12 +22,12 @@ use Rattle.sap_net.proofs.RulesLemmas.{readable_kept}
 use Rattle.sap_build.specs.Copies.{copy_operand, copy_right, copy_input, copy_wire, copy_register, copy_memory, copy_net, KeepsApart, through}
 use Rattle.sap_build.proofs.Found.{find_copied, found_copied, found_declared, entries_declared, registers_among, memories_among, readable_declared, shapes_declared, readable_copied, shapes_copied, entries_copied}
 
-operand_through : (f : Name → Name) (v : Valuation) (o : Operand) → operand_value v (copy_operand f o) ≡ operand_value (through f v) o
+pub operand_through : (f : Name → Name) (v : Valuation) (o : Operand) → operand_value v (copy_operand f o) ≡ operand_value (through f v) o
 operand_through f v (Named x) = refl
 operand_through f v (Constant w n) = refl
 
 -- the names of a scope have in the copy the widths that they have
-abbrev WidthsFollow : (Name → Name) → Scope → (Name → ℕ) → (Name → ℕ) → Type 0
+abbrev pub WidthsFollow : (Name → Name) → Scope → (Name → ℕ) → (Name → ℕ) → Type 0
 WidthsFollow f sc copies widths = (x : Name) (u : ℕ) → find sc x ≡ Some u → copies (f x) ≡ widths x
 
 width_through : (f : Name → Name) (sc : Scope) (copies widths : Name → ℕ) → WidthsFollow f sc copies widths → (u : ℕ) (o : Operand) → IsOperand sc u o → operand_width copies (copy_operand f o) ≡ operand_width widths o
@@ -69,7 +69,7 @@ right_through f ms sc copies widths v w u (Concat os) h = operands_through f sc 
 right_through f ms sc copies widths v w u (Slice x hi lo) h = refl
 right_through f ms sc copies widths v w u (Cell m i) h = ap (v.cell (f m)) (operand_through f v i)
 
-wires_through : (f : Name → Name) (ms : Shapes) (ws : List Wire) (sc : Scope) (copies widths : Name → ℕ) (v : Valuation) → AreWires ms sc ws → WidthsFollow f (readable_after sc ws) copies widths → Holds copies v (map (copy_wire f) ws) → Holds widths (through f v) ws
+pub wires_through : (f : Name → Name) (ms : Shapes) (ws : List Wire) (sc : Scope) (copies widths : Name → ℕ) (v : Valuation) → AreWires ms sc ws → WidthsFollow f (readable_after sc ws) copies widths → Holds copies v (map (copy_wire f) ws) → Holds widths (through f v) ws
 wires_through f ms [] sc copies widths v rules w h = tt
 wires_through f ms (x ∷ ws) sc copies widths v rules w h = (
   h.0 ∙ right_through f ms sc copies widths v (λ y u g. w y u (readable_kept ms (x ∷ ws) sc rules y u g)) x.width x.right rules.3,
@@ -82,7 +82,7 @@ inputs_through f [] (x ∷ xs) v h = h
 inputs_through f (i ∷ is) [] v h = h
 inputs_through f (i ∷ is) (x ∷ xs) v h = (h.0, inputs_through f is xs v h.1)
 
-written_through : (f : Name → Name) (v : Valuation) (m : Memory) (i : ℕ) → written v (copy_memory f m) i ≡ written (through f v) m i
+pub written_through : (f : Name → Name) (v : Valuation) (m : Memory) (i : ℕ) → written v (copy_memory f m) i ≡ written (through f v) m i
 written_through f v m i =
     let a = operand_through f v m.enable in
     let b = operand_through f v m.index in

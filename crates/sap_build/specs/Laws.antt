@@ -1,4 +1,4 @@
--- What holds of every copy of a netlist under other names.
+-- What holds of every copy of a netlist under other names, and of every netlist that stands in a larger one.
 use Rattle.std.specs.Prelude.{◌≡◌, ℕ, List, map, true}
 use Rattle.sap_maps.specs.Maps.{Name, Valuation}
 use Rattle.sap_net.specs.Names.{is_name}
@@ -7,6 +7,7 @@ use Rattle.sap_net.specs.IsNetlist.{IsNetlist}
 use Rattle.sap_net.specs.Runs.{IsRun, observed}
 use Rattle.sap_net.specs.Laws.{AreSame, AreSameRuns}
 use Rattle.sap_build.specs.Copies.{copy_net, KeepsApart, through}
+use Rattle.sap_build.specs.Parts.{IsPart, fed_numbers}
 
 -- the copy keeps the rules of netlists
 abbrev pub CopiesAreNetlists : Type 0
@@ -31,3 +32,23 @@ abbrev pub CopiesShowAlike : Type 0
 CopiesShowAlike =
     (module_name : Name) (f : Name → Name) (n : Net) → IsNetlist n → KeepsApart f n → (v u : Valuation) → AreSame n v (through f u)
     → AreSame n (observed n v) (through f (observed (copy_net module_name f n) u))
+
+-- ---- parts of a larger netlist
+
+-- in each run of the whole a part has a run of its own, on the numbers that feed it, ..
+abbrev pub PartsRun : Type 0
+PartsRun =
+    (f : Name → Name) (part whole : Net) → IsNetlist part → IsNetlist whole → IsPart f part whole → (xss : List (List ℕ)) (us : List Valuation)
+    → IsRun whole xss us → IsRun part (map (fed_numbers f part) us) (map (through f) us)
+
+-- .. and no other one ..
+abbrev pub PartsRunSo : Type 0
+PartsRunSo =
+    (f : Name → Name) (part whole : Net) → IsNetlist part → IsNetlist whole → IsPart f part whole → (xss : List (List ℕ)) (us vs : List Valuation)
+    → IsRun whole xss us → IsRun part (map (fed_numbers f part) us) vs → AreSameRuns part vs (map (through f) us)
+
+-- .. and what is seen of a cycle of the whole is seen of the part's
+abbrev pub PartsShow : Type 0
+PartsShow =
+    (f : Name → Name) (part whole : Net) → IsNetlist part → IsNetlist whole → IsPart f part whole → (v u : Valuation) → AreSame part v (through f u)
+    → AreSame part (observed part v) (through f (observed whole u))

@@ -1,6 +1,6 @@
-//! What holds of every copy of a netlist under other names.
+//! What holds of every copy of a netlist under other names, and of netlists side by side in a larger one.
 
-ghost use Rattle.sap_build.specs.Laws.{CopiesAreNetlists, CopiesRunAlike, CopiesRunBack, CopiesShowAlike};
+ghost use Rattle.sap_build.specs.Laws.{CopiesAreNetlists, CopiesRunAlike, CopiesRunBack, CopiesShowAlike, PartsRun, PartsRunSo, PartsShow};
 
 /// A copy whose names stay apart keeps the rules of netlists.
 pub fn copies_are_netlists()
@@ -13,4 +13,12 @@ pub fn copies_run_alike()
     ensures runs { CopiesRunAlike }
     ensures back { CopiesRunBack }
     ensures shows { CopiesShowAlike }
+{}
+
+/// In each run of a larger netlist each part has a run, and only that, on the numbers that feed it, and the same is seen of
+/// both, cells included. So where the inputs of parts are wires of the larger netlist, each part runs on what these give.
+pub fn parts_run_alike()
+    ensures runs { PartsRun }
+    ensures only { PartsRunSo }
+    ensures shows { PartsShow }
 {}
