@@ -18,7 +18,7 @@ use Rattle.sap_build.specs.Copies.{copy_input, copy_net, KeepsApart, through}
 use Rattle.sap_build.proofs.Copied.{copy_is_netlist}
 use Rattle.sap_build.proofs.Through.{run_through}
 
-inputs_found : (n : Net) → IsNetlist n → AllByRecursion (λ i. find (readable n) i.name ≡ Some i.width) n.inputs
+pub inputs_found : (n : Net) → IsNetlist n → AllByRecursion (λ i. find (readable n) i.name ≡ Some i.width) n.inputs
 inputs_found n rules =
     all_follow (λ (i : Input). find (first_readable n) i.name ≡ Some i.width) (λ i. find (readable n) i.name ≡ Some i.width) n.inputs
     (λ i h. readable_kept (shapes n) n.wires (first_readable n) rules.assigns i.name i.width h)

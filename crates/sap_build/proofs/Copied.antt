@@ -61,7 +61,7 @@ same_among f ns ms h x =
     equal_when (is_among x (map f ns)) (is_among x (map f ms)) (among_follows f ns ms (λ y k. sym (h y) ∙ k) x) (among_follows f ms ns (λ y k. h y ∙ k) x)
 
 -- of declared names, those are among the copies of others that are among these
-among_apart : (f : Name → Name) (all : List Name) → IsOneToOne f all → (x : Name) → is_among x all ≡ true → (ns : List Name) → AllAmong ns all → is_among (f x) (map f ns) ≡ is_among x ns
+pub among_apart : (f : Name → Name) (all : List Name) → IsOneToOne f all → (x : Name) → is_among x all ≡ true → (ns : List Name) → AllAmong ns all → is_among (f x) (map f ns) ≡ is_among x ns
 among_apart f all one x h ns k =
     equal_when (is_among (f x) (map f ns)) (is_among x ns)
     (λ t. let b = among_back f (f x) ns t in subst (λ (y : Name). is_among y ns ≡ true) (one b.0 x (k b.0 b.1) h b.2) b.1)
@@ -87,7 +87,7 @@ filter_copied f all one rs j (x ∷ ns) k =
       | inr q ↦ rw (e, q) (filter_copied f all one rs j ns rest)
     ]
 
-names_copied : {Z : Type 0} (f : Name → Name) (copy : Z → Z) (name : Z → Name) → ((z : Z) → name (copy z) ≡ f (name z)) → (zs : List Z) → map name (map copy zs) ≡ map f (map name zs)
+pub names_copied : {Z : Type 0} (f : Name → Name) (copy : Z → Z) (name : Z → Name) → ((z : Z) → name (copy z) ≡ f (name z)) → (zs : List Z) → map name (map copy zs) ≡ map f (map name zs)
 names_copied f copy name h [] = refl
 names_copied f copy name h (z ∷ zs) =
     let a = h z in

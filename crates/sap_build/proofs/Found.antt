@@ -77,7 +77,7 @@ after_declared ns [] sc h d = d
 after_declared ns (w ∷ ws) sc h d =
     after_declared ns ws ((w.name, w.width) ∷ sc) (λ n a. h n (or_right (bytes_eq n w.name) (is_among n (names_of ws)) a)) (h w.name (rw (bytes_eq_same w.name) refl), d)
 
-inputs_among : (n : Net) → IsNetlist n → AllAmong (input_names n) n.names
+pub inputs_among : (n : Net) → IsNetlist n → AllAmong (input_names n) n.names
 inputs_among n rules x h =
     let i = input_names n in
     let w = wire_names n in

@@ -1,6 +1,6 @@
 -- What is found of the names of a part.
-use Rattle.std.proofs.Common.{◌≡◌, ℕ, List, [], ◌∷◌, ◌++◌, map, Some, None, sym, ap, ◌∙◌, subst, inl, inr}
-use Rattle.std.specs.Prelude.{unwrap_or, false}
+use Rattle.std.proofs.Common.{◌≡◌, ℕ, List, [], ◌∷◌, map, Some, sym, ap, ◌∙◌, subst, inl, inr}
+use Rattle.std.specs.Prelude.{unwrap_or}
 use Rattle.std.specs.Str.{bytes_eq}
 use Rattle.std.specs.List.{AllByRecursion}
 use Rattle.std.proofs.lemmas.Bool.{cases_Bool}
@@ -14,12 +14,12 @@ use Rattle.sap_net.specs.declared.parts.Wire.{Wire}
 use Rattle.sap_net.specs.declared.parts.Register.{Register}
 use Rattle.sap_net.specs.declared.parts.Memory.{Memory}
 use Rattle.sap_net.specs.Net.{Net}
-use Rattle.sap_net.specs.Rules.{Shapes, AreValues, AreWires, AreMemories, readable_after}
+use Rattle.sap_net.specs.Rules.{Shapes, AreWires, readable_after}
 use Rattle.sap_net.specs.IsNetlist.{IsNetlist, first_readable, readable, shapes, width_of}
 use Rattle.sap_net.proofs.RulesLemmas.{readable_kept, values_found}
 use Rattle.sap_net.proofs.Same.{all_found}
 use Rattle.sap_build.specs.Copies.{copy_wire, copy_register, copy_memory}
-use Rattle.sap_build.specs.Parts.{IsPart, Feeds, wires_named, registers_named, memories_named}
+use Rattle.sap_build.specs.Parts.{IsPart, Feeds}
 use Rattle.sap_build.proofs.Through.{WidthsFollow}
 
 -- what holds of each thing of a list holds of the one that a name finds

@@ -6,3 +6,4 @@ pub mod Seen
 pub mod Examples
 pub mod Inside
 pub mod PartRuns
+pub mod CopiedParts

@@ -109,7 +109,7 @@ begins_through : (module_name : Name) (f : Name → Name) (n : Net) (p : Option 
 begins_through module_name f n None v h = (starts_through f n.registers v h.0, cells_start_through f n.memories v h.1)
 begins_through module_name f n (Some p) v h = (nexts_through f n.registers p v h.0, writes_through f n.memories p v h.1)
 
-readable_found : (module_name : Name) (f : Name → Name) (n : Net) → IsNetlist n → KeepsApart f n → (x : Name) (u : ℕ) → find (readable n) x ≡ Some u → find (readable (copy_net module_name f n)) (f x) ≡ Some u
+pub readable_found : (module_name : Name) (f : Name → Name) (n : Net) → IsNetlist n → KeepsApart f n → (x : Name) (u : ℕ) → find (readable n) x ≡ Some u → find (readable (copy_net module_name f n)) (f x) ≡ Some u
 readable_found module_name f n rules k x u h =
     ap (λ (sc : Scope). find sc (f x)) (readable_copied module_name f n) ∙ found_copied f (λ (w : ℕ). w) n.names k.apart (readable n) (readable_declared n rules) x u h
 

@@ -52,3 +52,7 @@ abbrev pub PartsShow : Type 0
 PartsShow =
     (f : Name → Name) (part whole : Net) → IsNetlist part → IsNetlist whole → IsPart f part whole → (v u : Valuation) → AreSame part v (through f u)
     → AreSame part (observed part v) (through f (observed whole u))
+
+-- a copy is a whole of one part
+abbrev pub CopiesAreParts : Type 0
+CopiesAreParts = (module_name : Name) (f : Name → Name) (n : Net) → IsNetlist n → KeepsApart f n → IsPart f n (copy_net module_name f n)

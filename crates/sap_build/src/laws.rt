@@ -1,6 +1,7 @@
 //! What holds of every copy of a netlist under other names, and of netlists side by side in a larger one.
 
-ghost use Rattle.sap_build.specs.Laws.{CopiesAreNetlists, CopiesRunAlike, CopiesRunBack, CopiesShowAlike, PartsRun, PartsRunSo, PartsShow};
+ghost use Rattle.sap_build.specs.SideBySide.{SideBySide};
+ghost use Rattle.sap_build.specs.Laws.{CopiesAreNetlists, CopiesRunAlike, CopiesRunBack, CopiesShowAlike, CopiesAreParts, PartsRun, PartsRunSo, PartsShow};
 
 /// A copy whose names stay apart keeps the rules of netlists.
 pub fn copies_are_netlists()
@@ -21,4 +22,10 @@ pub fn parts_run_alike()
     ensures runs { PartsRun }
     ensures only { PartsRunSo }
     ensures shows { PartsShow }
+    ensures copies { CopiesAreParts }
+{}
+
+/// Two netlists side by side, of which one feeds the other, are parts of a netlist.
+pub fn worked_parts()
+    ensures { SideBySide }
 {}

@@ -1,4 +1,5 @@
 use Rattle.std.proofs.Common.{None}
+use Rattle.sap_build.proofs.CopiedParts.{copy_is_whole}
 use Rattle.sap_build.proofs.PartRuns.{part_shows, run_inside, run_so}
 use Rattle.sap_build.proofs.laws.parts_run_alike.Goals as goal
 
@@ -8,4 +9,5 @@ returns c =
       runs = λ f p n own rules s xss us. run_inside f p n own rules s xss None us;
       only = run_so;
       shows = part_shows;
+      copies = copy_is_whole;
     }
