@@ -6,6 +6,7 @@ pub mod Folds
 pub mod Settling
 pub mod Sees
 pub mod Unders
+pub mod Negations
 pub mod Becoming
 pub mod Absorbing
 pub mod Parting

@@ -57,6 +57,11 @@ IsBitwise And = Unit {0}
 IsBitwise Or = Unit {0}
 IsBitwise _ = ⊥
 
+-- `&` or `|` of the negation of a bit d and another operand b, as a choice by d
+abbrev pub chosen_by : Op2 → (d b : Operand) → Right
+chosen_by And d b = Choose d (bit false) b
+chosen_by _ d b = Choose d b (bit true)
+
 -- Where the bit c has the number n, the operand a has the value of r.
 pub record Under (ws : List Wire) (c : Operand) (n : ℕ) (a : Operand) (r : Right) : Type 0 where
   pub fits : (memories : Shapes) (sc : Scope) (u : ℕ) → AreWires memories sc ws → IsOperand (readable_after sc ws) 1 c → IsOperand (readable_after sc ws) u a → IsRight memories (readable_after sc ws) u r

@@ -15,7 +15,7 @@ use crate::fold::fold;
 use crate::order::{see_equal, see_unequal};
 use crate::parts::see_concat;
 use crate::slices::see_slice;
-use crate::under::{definition, under};
+use crate::under::{definition, number, under};
 use crate::wires::Wires;
 use sap_bits::{Op1, Op2};
 use sap_net::parts::{Operand, Right};
@@ -131,6 +131,36 @@ fn is_and(op: Op2) -> bool
     matches!(op, Op2::And)
 }
 
+/// `&` or `|` of the negation of a bit and another, as a choice by the bit.
+fn chosen_by(op: Op2, bit: Operand, other: Operand) -> Right
+    ensures { result ≡ spec.chosen_by op bit other }
+{
+    match op {
+        Op2::And => Right::Choose(bit, number(false), other),
+        _ => Right::Choose(bit, other, number(true)),
+    }
+}
+
+/// `&` or `|` of two bits, as a choice by a bit that one of them is the negation of.
+fn see_negated(
+    alloc: Global,
+    wires: &Wires,
+    op: Op2,
+    a: Operand,
+    b: Operand,
+) -> Result<Right, AllocError>
+    requires { spec.IsBitwise op }
+    ensures { IfOk result (λ r. Equals wires.now.list.items 1 (right.Two op a b) r) }
+{
+    if let Some(bit) = negated(alloc, wires, &a)? {
+        return Ok(chosen_by(op, bit, b));
+    }
+    match negated(alloc, wires, &b)? {
+        Some(bit) => Ok(chosen_by(op, bit, a)),
+        None => Ok(Right::Two(op, a, b)),
+    }
+}
+
 /// The `&` or `|` of two bits, each simple where the other doesn't decide.
 fn see_bits(
     alloc: Global,
@@ -148,7 +178,8 @@ fn see_bits(
     let value = is_and(op);
     let b = arm(alloc, wires, taken, 1, &a, value, b)?;
     let a = arm(alloc, wires, taken, 1, &b, value, a)?;
-    Ok(Right::Two(op, a, b))
+    let seen = see_negated(alloc, wires, op, a, b)?;
+    Ok(seen)
 }
 
 /// `&` or `|`, simpler where the wires that the operands name tell.
