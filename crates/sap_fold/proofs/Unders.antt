@@ -20,8 +20,8 @@ use Rattle.sap_net.specs.Values.{operand_value, operand_width}
 use Rattle.sap_net.proofs.Within.{operand_below, operand_is_wide}
 use Rattle.sap_fold.specs.Seen.{Defines}
 use Rattle.sap_fold.specs.Folding.{same_operand}
-use Rattle.sap_fold.specs.Under.{number, bit, other, chosen, decided, right_under, tells, Under}
-use Rattle.sap_fold.proofs.Folds.{KeepsWidth, SameWidths, same_is, bit_cases, one_and, one_or}
+use Rattle.sap_fold.specs.Under.{number, bit, other, chosen, decided, right_under, tells, only_second, only_first, Under}
+use Rattle.sap_fold.proofs.Folds.{KeepsWidth, SameWidths, same_is, number_is, bit_cases, one_and, one_or}
 use Rattle.sap_fold.proofs.Sees.{defined_right, defined_same}
 
 -- an operand has one width
@@ -251,3 +251,57 @@ some_caused_negation ws c q x t (Some r) k h = caused_negation ws c q x t r k h
 pub some_caused_both : (ws : List Wire) (c p q x : Operand) (t : Bool) (op : Op2) (m : Option Right) → tells op t ≡ true → Defines ws c (Two op p q) → IfSome m (λ r. Under ws p (number t) x r ⊎ Under ws q (number t) x r) → IfSome m (λ r. Under ws c (number t) x r)
 some_caused_both ws c p q x t op None h k g = tt
 some_caused_both ws c p q x t op (Some r) h k g = caused_both ws c p q x t op r h k g
+
+-- what follows from the bit's own choice
+
+caused_arm : (ws : List Wire) (c d p q e x : Operand) (s t : Bool) (r : Right) → ((sc : Scope) → IsOperand sc 1 p → IsOperand sc 1 q → IsOperand sc 1 e) → ((v : Valuation) → operand_value v d < 2 ^ 1 → (if operand_value v d == 0 then operand_value v q else operand_value v p) ≡ number t → (operand_value v d ≡ number s) × (operand_value v e ≡ number t)) → Defines ws c (Choose d p q) → Under ws d (number s) x r ⊎ Under ws e (number t) x r → Under ws c (number t) x r
+caused_arm ws c d p q e x s t r wide both k g =
+    record {
+      fits = λ ms sc u a hc hx.
+          let h = defined_right ms sc ws c (Choose d p q) 1 a hc k in
+          elim g [
+            | inl y ↦ y.fits ms sc u a h.0 hx
+            | inr y ↦ y.fits ms sc u a (wide (readable_after sc ws) h.1 h.2) hx
+          ];
+      same = λ ms sc widths v u o hc hx i.
+          let sd = readable_after sc ws in
+          let h = defined_right ms sc ws c (Choose d p q) 1 o.wires hc k in
+          let l : operand_value v d < 2 ^ 1 = operand_below sd v o.below 1 d h.0 in
+          let b = both v l (sym (defined_same widths v ws c (Choose d p q) o.holds k) ∙ i) in
+          elim g [
+            | inl y ↦ y.same ms sc widths v u o h.0 hx b.0
+            | inr y ↦ y.same ms sc widths v u o (wide sd h.1 h.2) hx b.1
+          ];
+    }
+
+second_tells : (x y z : ℕ) → x < 2 ^ 1 → y ≡ 0 → (if x == 0 then z else y) ≡ 1 → (x ≡ 0) × (z ≡ 1)
+second_tells x y z h e f =
+    elim (bit_cases x h) [
+      | inl i ↦ (i, rw i at f)
+      | inr i ↦ absurd (let g : y ≡ 1 = rw i at f in omega (arith, e, g))
+    ]
+
+first_tells : (x y z : ℕ) → x < 2 ^ 1 → z ≡ 1 → (if x == 0 then z else y) ≡ 0 → (x ≡ 1) × (y ≡ 0)
+first_tells x y z h e f =
+    elim (bit_cases x h) [
+      | inl i ↦ absurd (let g : z ≡ 0 = rw i at f in omega (arith, e, g))
+      | inr i ↦ (i, rw i at f)
+    ]
+
+caused_second : (ws : List Wire) (c d p q x : Operand) (t : Bool) (r : Right) → only_second t p ≡ true → Defines ws c (Choose d p q) → Under ws d (number false) x r ⊎ Under ws q (number true) x r → Under ws c (number t) x r
+caused_second ws c d p q x true r h k g =
+    caused_arm ws c d p q q x false true r (λ sc a b. b) (λ v l i. second_tells (operand_value v d) (operand_value v p) (operand_value v q) l (number_is v p 0 h) i) k g
+caused_second ws c d p q x false r h k g = absurd (let e : false ≡ true = h in cc)
+
+caused_first : (ws : List Wire) (c d p q x : Operand) (t : Bool) (r : Right) → only_first t q ≡ true → Defines ws c (Choose d p q) → Under ws d (number true) x r ⊎ Under ws p (number false) x r → Under ws c (number t) x r
+caused_first ws c d p q x false r h k g =
+    caused_arm ws c d p q p x true false r (λ sc a b. a) (λ v l i. first_tells (operand_value v d) (operand_value v p) (operand_value v q) l (number_is v q 1 h) i) k g
+caused_first ws c d p q x true r h k g = absurd (let e : false ≡ true = h in cc)
+
+pub some_caused_second : (ws : List Wire) (c d p q x : Operand) (t : Bool) (m : Option Right) → only_second t p ≡ true → Defines ws c (Choose d p q) → IfSome m (λ r. Under ws d (number false) x r ⊎ Under ws q (number true) x r) → IfSome m (λ r. Under ws c (number t) x r)
+some_caused_second ws c d p q x t None h k g = tt
+some_caused_second ws c d p q x t (Some r) h k g = caused_second ws c d p q x t r h k g
+
+pub some_caused_first : (ws : List Wire) (c d p q x : Operand) (t : Bool) (m : Option Right) → only_first t q ≡ true → Defines ws c (Choose d p q) → IfSome m (λ r. Under ws d (number true) x r ⊎ Under ws p (number false) x r) → IfSome m (λ r. Under ws c (number t) x r)
+some_caused_first ws c d p q x t None h k g = tt
+some_caused_first ws c d p q x t (Some r) h k g = caused_first ws c d p q x t r h k g

@@ -1,5 +1,5 @@
 -- What operands are where a bit is known.
-use Rattle.std.specs.Prelude.{◌≡◌, ℕ, Bool, true, false, not, List, Option, Some, None, if◌then◌else◌}
+use Rattle.std.specs.Prelude.{◌≡◌, ℕ, Bool, true, false, not, ◌&&◌, List, Option, Some, None, if◌then◌else◌}
 use Rattle.sap_bits.specs.declared.Op2.{Op2}
 use Rattle.sap_bits.specs.declared.Op2.TheVariants.{And, Or}
 use Rattle.sap_maps.specs.Maps.{Name, Valuation}
@@ -12,7 +12,7 @@ use Rattle.sap_net.specs.declared.parts.Right.{Right}
 use Rattle.sap_net.specs.declared.parts.Right.TheVariants.{Two, Choose}
 use Rattle.sap_net.specs.declared.parts.Wire.{Wire}
 use Rattle.sap_fold.specs.Equals.{Over}
-use Rattle.sap_fold.specs.Folding.{same_operand}
+use Rattle.sap_fold.specs.Folding.{same_operand, is_number}
 
 -- the number of a bit
 abbrev pub number : Bool → ℕ
@@ -47,6 +47,13 @@ abbrev pub tells : Op2 → Bool → Bool
 tells And t = t
 tells Or t = not t
 tells _ t = false
+
+-- a choice between the bits a and b has the value t only by b, as a is 0; only by a, as b is 1
+abbrev pub only_second : (t : Bool) → (a : Operand) → Bool
+only_second t a = t && is_number a 0
+
+abbrev pub only_first : (t : Bool) → (b : Operand) → Bool
+only_first t b = not t && is_number b 1
 
 abbrev pub is_and : Op2 → Bool
 is_and And = true

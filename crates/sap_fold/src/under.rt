@@ -6,7 +6,7 @@ ghost use Rattle.sap_fold.specs.Seen.{Defines};
 ghost use Rattle.sap_fold.specs.Under as spec;
 
 use crate::parts::concat_under;
-use crate::rules::same;
+use crate::rules::{is, same};
 use crate::wires::Wires;
 use sap_bits::{Op1, Op2};
 use sap_net::parts::{Operand, Right, Wire};
@@ -195,24 +195,62 @@ fn tells(op: Op2, value: bool) -> bool
     }
 }
 
+/// Whether a choice between bits has the value by its second arm alone, as the first is 0.
+fn only_second(value: bool, a: &Operand) -> bool
+    ensures { result ≡ spec.only_second value a.now }
+{
+    value && is(a, 0)
+}
+
+/// Whether a choice between bits has the value by its first arm alone, as the second is 1.
+fn only_first(value: bool, b: &Operand) -> bool
+    ensures { result ≡ spec.only_first value b.now }
+{
+    !value && is(b, 1)
+}
+
 /// What an operand is where two bits are known.
 fn either(
     alloc: Global,
     wires: &Wires,
     a: &Operand,
+    first: bool,
+    b: &Operand,
+    second: bool,
+    operand: &Operand,
+) -> Result<Option<Right>, AllocError>
+    ensures { IfOk result (λ o. IfSome o (λ r. spec.Under wires.now.list.items a.now (spec.number first) operand.now r ⊎ spec.Under wires.now.list.items b.now (spec.number second) operand.now r)) }
+{
+    if let Some(right) = found(alloc, wires, a, first, operand)? {
+        return Ok(Some(right));
+    }
+    match found(alloc, wires, b, second, operand)? {
+        Some(right) => Ok(Some(right)),
+        None => Ok(None),
+    }
+}
+
+/// What an operand is where a choice between bits is known, if that tells which arm it is.
+fn caused_by_choice(
+    alloc: Global,
+    wires: &Wires,
+    by: &Operand,
+    a: &Operand,
     b: &Operand,
     value: bool,
     operand: &Operand,
 ) -> Result<Option<Right>, AllocError>
-    ensures { IfOk result (λ o. IfSome o (λ r. spec.Under wires.now.list.items a.now (spec.number value) operand.now r ⊎ spec.Under wires.now.list.items b.now (spec.number value) operand.now r)) }
+    ensures { IfOk result (λ o. (c : Operand) → Defines wires.now.list.items c (kind.Choose by.now a.now b.now) → IfSome o (λ r. spec.Under wires.now.list.items c (spec.number value) operand.now r)) }
 {
-    if let Some(right) = found(alloc, wires, a, value, operand)? {
-        return Ok(Some(right));
+    if only_second(value, a) {
+        let second = either(alloc, wires, by, false, b, true, operand)?;
+        return Ok(second);
     }
-    match found(alloc, wires, b, value, operand)? {
-        Some(right) => Ok(Some(right)),
-        None => Ok(None),
+    if only_first(value, b) {
+        let first = either(alloc, wires, by, true, a, false, operand)?;
+        return Ok(first);
     }
+    Ok(None)
 }
 
 /// What an operand is where a bit is known, by the bit's right side.
@@ -231,8 +269,12 @@ fn caused(
             Ok(told)
         }
         Some(Right::Two(op, a, b)) if tells(*op, value) => {
-            let both = either(alloc, wires, a, b, value, operand)?;
+            let both = either(alloc, wires, a, value, b, value, operand)?;
             Ok(both)
+        }
+        Some(Right::Choose(by, a, b)) => {
+            let told = caused_by_choice(alloc, wires, by, a, b, value, operand)?;
+            Ok(told)
         }
         _ => Ok(None),
     }
