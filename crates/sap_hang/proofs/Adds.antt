@@ -70,7 +70,7 @@ module _ (es : List Entity) where
   abbrev firsts_in : List Entity → List ℕ
   firsts_in rest = map (λ (e : Entity). entity_number es e.name.name) rest
 
-  shown : (f : Test) (s : Set) → Stands es f s → (rest : List Entity) → Known es rest → map (λ (x : ℕ). has s x) (firsts_in rest) ≡ passing rest f
+  pub shown : (f : Test) (s : Set) → Stands es f s → (rest : List Entity) → Known es rest → map (λ (x : ℕ). has s x) (firsts_in rest) ≡ passing rest f
   shown f s h [] k = refl
   shown f s h (e ∷ rest) k =
       ap₂ (λ (b : Bool) (l : List Bool). b ∷ l) (h.stands e.name.name (entity_number es e.name.name) (number_is (number_of es e.name.name) k.0)) (shown f s h rest k.1)

@@ -15,7 +15,7 @@ use Rattle.sap_tree.specs.Syntax.{Expression, SimpleCommand, Command, lone, try,
 use Rattle.sap_tree.specs.Touches.{Home, is_dynamic_store, simple_assigns, simple_touches, touches, assigns, block_touches, block_assigns, else_touches, else_assigns, list_touches, list_assigns, arms_touch, arms_assign}
 use Rattle.sap_tree.specs.Trees.{command_of, commands_of, block_of, arms_of, else_of}
 use Rattle.sap_names.specs.declared.entity.Entity.{Entity}
-use Rattle.sap_hang.specs.Hang.{Table}
+use Rattle.sap_hang.specs.Hang.{Rows}
 use Rattle.sap_hang.specs.Sets.{has}
 use Rattle.sap_hang.specs.Walks.{Adds, Stands, Part, Walked, command_part, else_part, arms_part, list_part, stored, passing, touched_at, table_of, entities_in, declared_in, home_of}
 use Rattle.sap_hang.specs.declared.set.Set.{Set}
@@ -40,10 +40,10 @@ module _ (s : Standing) where
   abbrev h : Home
   h = home_of s
 
-  at-both : (a b : List Command) (rows : Table) → touched_at es ds h a ++ (touched_at es ds h b ++ rows) ≡ touched_at es ds h (a ++ b) ++ rows
+  at-both : (a b : List Command) (rows : Rows) → touched_at es ds h a ++ (touched_at es ds h b ++ rows) ≡ touched_at es ds h (a ++ b) ++ rows
   at-both a b rows =
       sym (append_assoc (touched_at es ds h a) (touched_at es ds h b) rows)
-      ∙ ap (λ (l : Table). l ++ rows) (sym (map-append (λ (c : Command). passing es (λ x. touches ds h c x)) a b))
+      ∙ ap (λ (l : Rows). l ++ rows) (sym (map-append (λ (c : Command). passing es (λ x. touches ds h c x)) a b))
 
   walked_none : (p : Part) (r : List Set) (a t : Set) → p.points ≡ [] → ((x : List ℕ) → p.touches x ≡ false) → ((x : List ℕ) → p.assigns x ≡ false) → Walked s p r a t r a t
   walked_none p r a t e f g = record {
@@ -63,7 +63,7 @@ module _ (s : Standing) where
   walked_both : (p q : Part) (r0 r1 r2 : List Set) (a0 t0 a1 t1 a2 t2 : Set) → Walked s p r0 a0 t0 r1 a1 t1 → Walked s q r1 a1 t1 r2 a2 t2
       → Walked s (joined q p) r0 a0 t0 r2 a2 t2
   walked_both p q r0 r1 r2 a0 t0 a1 t1 a2 t2 v w = record {
-    rows = w.rows ∙ ap (λ (l : Table). touched_at es ds h q.points ++ l) v.rows ∙ at-both q.points p.points (table_of es r0);
+    rows = w.rows ∙ ap (λ (l : Rows). touched_at es ds h q.points ++ l) v.rows ∙ at-both q.points p.points (table_of es r0);
     assigned = adds_same es (λ x. stored ds q.assigns x || stored ds p.assigns x) (stored ds (λ x. q.assigns x || p.assigns x)) a0 a2
         (λ x. sym (and-or_distrib_left (is_dynamic_store ds x) (q.assigns x) (p.assigns x)))
         (adds_both es (stored ds p.assigns) (stored ds q.assigns) a0 a1 a2 v.assigned w.assigned);
@@ -85,7 +85,7 @@ module _ (s : Standing) where
   walked_point p c r0 r1 r2 a0 a1 none here t0 t1 e f w push more =
       let stands : Stands es (λ x. touches ds h c x) here = stands_same es p.touches (λ x. touches ds h c x) here f (stands_alone es p.touches none here e w.touched) in
       record {
-        rows = row_more es (λ x. touches ds h c x) here r1 r2 stands push ∙ ap (λ (l : Table). passing es (λ x. touches ds h c x) ∷ l) w.rows;
+        rows = row_more es (λ x. touches ds h c x) here r1 r2 stands push ∙ ap (λ (l : Rows). passing es (λ x. touches ds h c x) ∷ l) w.rows;
         assigned = w.assigned;
         touched = adds_union es (λ x. touches ds h c x) here t0 t1 stands more;
       }
@@ -95,7 +95,7 @@ module _ (s : Standing) where
       → table_of es r2 ≡ touched_at es ds h (simple_points k) ++ table_of es r1
       → Walked s (record { points = simple_points k ++ p.points; touches = p.touches; assigns = p.assigns }) r0 a0 t0 r2 a1 t1
   walked_fall p k r0 r1 r2 a0 t0 a1 t1 w f = record {
-    rows = f ∙ ap (λ (l : Table). touched_at es ds h (simple_points k) ++ l) w.rows ∙ at-both (simple_points k) p.points (table_of es r0);
+    rows = f ∙ ap (λ (l : Rows). touched_at es ds h (simple_points k) ++ l) w.rows ∙ at-both (simple_points k) p.points (table_of es r0);
     assigned = w.assigned;
     touched = w.touched;
   }

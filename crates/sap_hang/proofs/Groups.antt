@@ -11,28 +11,32 @@ use Rattle.sap_tree.specs.declared.syntax.Decl.{Decl}
 use Rattle.sap_tree.specs.declared.syntax.State.{State, out-State}
 use Rattle.sap_tree.specs.Points.{Point, point, list_points, state_points, states_points}
 use Rattle.sap_tree.specs.Syntax.{StateTree, and_state, no_state}
-use Rattle.sap_tree.specs.Touches.{Home, touches, is_dynamic_kind, is_dynamic_child, is_dynamic_store, fall_touches, state_assigns, states_assign, list_assigns}
+use Rattle.sap_tree.specs.Touches.{Home, touches, is_dynamic_kind, is_dynamic_child, is_dynamic_store, fall_touches, state_assigns, states_assign, block_assigns, list_assigns}
 use Rattle.sap_tree.specs.Trees.{commands_of, state_of, states_of}
 use Rattle.sap_tree.proofs.Views.{state_of-out}
 use Rattle.sap_names.specs.declared.entity.Entity.{Entity}
-use Rattle.sap_hang.specs.Hang.{Table}
+use Rattle.sap_hang.specs.Hang.{Rows}
 use Rattle.sap_hang.specs.Sets.{has}
 use Rattle.sap_hang.specs.Walks.{Adds, Stands, Passed, stored, passing, table_of, touched_at, touched_on}
 use Rattle.sap_hang.specs.declared.set.Set.{Set}
 use Rattle.sap_hang.proofs.Adds.{adds_same, adds_both, adds_union, stands_same, stands_more, starts}
-use Rattle.sap_hang.proofs.Assigning.{state_assigns-is}
 
 -- the state in whose body commands stand
 abbrev pub home_in : State → Home
 home_in s = record { name = (out-State s).name.name; kind = (out-State s).kind; children = states_of (out-State s).children.items }
 
+state_assigns-is : (s : State) (x : List ℕ)
+    → state_assigns (state_of s) x ≡ (list_assigns (commands_of (out-State s).body.commands.items) x || states_assign (states_of (out-State s).children.items) x)
+unfolding state_assigns block_assigns
+state_assigns-is s x = ap (λ (t : StateTree). state_assigns t x) (state_of-out s)
+
 module _ (es : List Entity) (ds : List Decl) where
   abbrev row : Point → List Bool
   row p = passing es (λ x. touches ds p.home p.command x)
 
-  on-both : (a b : List Point) (rows : Table) → touched_on es ds a ++ (touched_on es ds b ++ rows) ≡ touched_on es ds (a ++ b) ++ rows
+  on-both : (a b : List Point) (rows : Rows) → touched_on es ds a ++ (touched_on es ds b ++ rows) ≡ touched_on es ds (a ++ b) ++ rows
   on-both a b rows =
-      sym (append_assoc (touched_on es ds a) (touched_on es ds b) rows) ∙ ap (λ (l : Table). l ++ rows) (sym (map-append (λ (p : Point). row p) a b))
+      sym (append_assoc (touched_on es ds a) (touched_on es ds b) rows) ∙ ap (λ (l : Rows). l ++ rows) (sym (map-append (λ (p : Point). row p) a b))
 
   state_rows : (s : State) → touched_on es ds (state_points (state_of s))
       ≡ touched_at es ds (home_in s) (list_points (commands_of (out-State s).body.commands.items)) ++ touched_on es ds (states_points (states_of (out-State s).children.items))
@@ -42,7 +46,7 @@ module _ (es : List Entity) (ds : List Decl) where
       let below = states_points (states_of (out-State s).children.items) in
       ap (λ (t : StateTree). touched_on es ds (state_points t)) (state_of-out s)
       ∙ map-append (λ (p : Point). row p) (map (point h) cs) below
-      ∙ ap (λ (l : Table). l ++ touched_on es ds below) (map-map (λ (p : Point). row p) (point h) cs)
+      ∙ ap (λ (l : Rows). l ++ touched_on es ds below) (map-map (λ (p : Point). row p) (point h) cs)
 
   -- a state: its body in front of what lies below
   pub state_walked : (s : State) (cs : List Cmd) (ss : List State) (h : Home) (r0 r1 r2 : List Set) → cs ≡ (out-State s).body.commands.items → ss ≡ (out-State s).children.items → h ≡ home_in s
@@ -52,11 +56,11 @@ module _ (es : List Entity) (ds : List Decl) where
   state_walked s cs ss h r0 r1 r2 ec es' eh below body =
       body ∙ ap (λ (k : Home). touched_at es ds k (list_points (commands_of cs)) ++ table_of es r1) eh
       ∙ ap (λ (l : List Cmd). touched_at es ds (home_in s) (list_points (commands_of l)) ++ table_of es r1) ec
-      ∙ ap (λ (l : Table). here ++ l) (below ∙ ap (λ (l : List State). touched_on es ds (states_points (states_of l)) ++ table_of es r0) es')
+      ∙ ap (λ (l : Rows). here ++ l) (below ∙ ap (λ (l : List State). touched_on es ds (states_points (states_of l)) ++ table_of es r0) es')
       ∙ sym (append_assoc here (touched_on es ds (states_points (states_of (out-State s).children.items))) (table_of es r0))
-      ∙ ap (λ (l : Table). l ++ table_of es r0) (sym (state_rows s))
+      ∙ ap (λ (l : Rows). l ++ table_of es r0) (sym (state_rows s))
     where
-      here : Table
+      here : Rows
       here = touched_at es ds (home_in s) (list_points (commands_of (out-State s).body.commands.items))
 
   pub state_adds : (s : State) (cs : List Cmd) (ss : List State) (below a0 a1 a2 : Set) → cs ≡ (out-State s).body.commands.items → ss ≡ (out-State s).children.items
@@ -95,7 +99,7 @@ module _ (es : List Entity) (ds : List Decl) where
       let rest = drop m ss in
       let parts : drop n ss ≡ d ∷ rest = drop_more ss n d l ∙ ap (λ (k : ℕ). get_or ss n d ∷ drop k ss) (sym next) ∙ ap (λ (z : State). z ∷ rest) (sym e) in
       subst (λ (z : List State). Passed es ds z r0 r2 a2 f2) (sym parts) (record {
-        rows = r ∙ ap (λ (l : Table). touched_on es ds (state_points (state_of d)) ++ l) p.rows ∙ on-both (state_points (state_of d)) (states_points (states_of rest)) (table_of es r0);
+        rows = r ∙ ap (λ (l : Rows). touched_on es ds (state_points (state_of d)) ++ l) p.rows ∙ on-both (state_points (state_of d)) (states_points (states_of rest)) (table_of es r0);
         assigned = stands_same es (λ x. stored ds (λ y. state_assigns (state_of d) y) x || stored ds (λ y. states_assign (states_of rest) y) x) (stored ds (λ x. states_assign (states_of (d ∷ rest)) x)) a2
             (λ x. sym (and-or_distrib_left (is_dynamic_store ds x) (state_assigns (state_of d) x) (states_assign (states_of rest) x)))
             (stands_more es (stored ds (λ y. states_assign (states_of rest) y)) (stored ds (λ y. state_assigns (state_of d) y)) a1 a2 p.assigned a);

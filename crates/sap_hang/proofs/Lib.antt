@@ -1,5 +1,4 @@
 pub mod Sets
-pub mod Assigning
 pub mod Numbers
 pub mod Adds
 pub mod Simples

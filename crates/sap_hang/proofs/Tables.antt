@@ -11,16 +11,17 @@ use Rattle.sap_tree.specs.declared.version.Version.{Version}
 use Rattle.sap_tree.specs.Parts.{tree_of}
 use Rattle.sap_tree.specs.Points.{Point, points_of, states_points}
 use Rattle.sap_tree.specs.Syntax.{DesignTree}
-use Rattle.sap_tree.specs.Touches.{touches, is_dynamic_store, declares_dynamic}
+use Rattle.sap_tree.specs.Touches.{touches, root_touches, fall_touches, is_dynamic_store, declares_dynamic}
 use Rattle.sap_tree.specs.Trees.{states_of}
 use Rattle.sap_names.specs.declared.entity.Entity.{Entity}
 use Rattle.sap_names.specs.Entities.{entities_of, entity_number}
-use Rattle.sap_hang.specs.Hang.{IsHangTable, Table, bit_of, says, touches_entity}
-use Rattle.sap_hang.specs.Rows.{rows_of}
+use Rattle.sap_hang.specs.Hang.{IsHangTable, Rows, Table, bit_of, hangs, hangs_on_root, says, says_of_root, touches_entity, root_touches_entity}
+use Rattle.sap_hang.specs.Rows.{row_of, rows_of}
 use Rattle.sap_hang.specs.Sets.{has}
 use Rattle.sap_hang.specs.Walks.{Adds, Stands, firsts_of, table_of, passing, touched_on}
 use Rattle.sap_hang.specs.declared.set.Set.{Set}
-use Rattle.sap_hang.proofs.Adds.{stands_more, starts}
+use Rattle.sap_hang.proofs.Adds.{shown, stands_more, starts}
+use Rattle.sap_hang.proofs.Numbers.{known}
 
 -- lookups
 
@@ -30,9 +31,10 @@ row-at firsts rows p = slice_get-map (λ (s : Set). map (λ (x : ℕ). has s x) 
 pub bit-at : (s : Set) (firsts : List ℕ) (x : ℕ) → slice_get (map (λ (y : ℕ). has s y) firsts) x ≡ option_map (λ (y : ℕ). has s y) (slice_get firsts x)
 bit-at s firsts x = slice_get-map (λ (y : ℕ). has s y) firsts x
 
-module _ (firsts : List ℕ) (rows : List Set) (table : Table) (point q x : ℕ) (is : rows_of firsts rows ≡ table) (at : point ≡ suc q) where
+module _ (firsts : List ℕ) (rows : List Set) (table : Table) (point q x : ℕ) (is : rows_of firsts rows ≡ table.points) (at : point ≡ suc q) where
   told : says table point x ≡ bit_of (option_map (λ (s : Set). map (λ (y : ℕ). has s y) firsts) (slice_get rows q)) x
-  told = ap (λ (t : Table). says t point x) (sym is) ∙ ap (λ (n : ℕ). says (rows_of firsts rows) n x) at ∙ ap (λ (o : Option (List Bool)). bit_of o x) (row-at firsts rows q)
+  told =
+      ap (λ (n : ℕ). says table n x) at ∙ ap (λ (l : Rows). bit_of (slice_get l q) x) (sym is) ∙ ap (λ (o : Option (List Bool)). bit_of o x) (row-at firsts rows q)
 
   told_of : (row : Set) → true ≡ ltb q (length rows) → row ≡ get_or rows q row → says table point x ≡ unwrap_or (option_map (λ (y : ℕ). has row y) (slice_get firsts x)) false
   told_of row l h =
@@ -50,6 +52,17 @@ module _ (firsts : List ℕ) (rows : List Set) (table : Table) (point q x : ℕ)
   pub no_point : false ≡ ltb q (length rows) → false ≡ says table point x
   no_point l = sym (told ∙ ap (λ (o : Option Set). bit_of (option_map (λ (s : Set). map (λ (y : ℕ). has s y) firsts) o) x) (slice_get_past rows q (ltb-false q (length rows) (sym l))))
 
+module _ (firsts : List ℕ) (root : Set) (table : Table) (x : ℕ) (is : row_of firsts root ≡ table.root) where
+  told_of_root : says_of_root table x ≡ unwrap_or (option_map (λ (y : ℕ). has root y) (slice_get firsts x)) false
+  told_of_root = ap (λ (l : List Bool). unwrap_or (slice_get l x) false) (sym is) ∙ ap (λ (o : Option Bool). unwrap_or o false) (bit-at root firsts x)
+
+  pub root_hung : (number : ℕ) (b : Bool) → true ≡ ltb x (length firsts) → number ≡ get_or firsts x number → b ≡ has root number → b ≡ says_of_root table x
+  root_hung number b m k e =
+      e ∙ sym (told_of_root ∙ ap (λ (o : Option ℕ). unwrap_or (option_map (λ (y : ℕ). has root y) o) false) (slice_get_read firsts (length firsts) x number refl (ltb-true x (length firsts) (sym m)) k))
+
+  pub root_no_entity : false ≡ ltb x (length firsts) → false ≡ says_of_root table x
+  root_no_entity m = sym (told_of_root ∙ ap (λ (o : Option ℕ). unwrap_or (option_map (λ (y : ℕ). has root y) o) false) (slice_get_past firsts x (ltb-false x (length firsts) (sym m))))
+
 -- a table
 
 entity-at : (ds : List Decl) (q : Point) (o : Option Entity)
@@ -63,25 +76,59 @@ point-at ds es None x = refl
 point-at ds es (Some q) x =
     ap (λ (o : Option Bool). unwrap_or o false) (slice_get-map (λ (e : Entity). touches ds q.home q.command e.name.name) es x) ∙ entity-at ds q (slice_get es x)
 
-serves : (d : DesignTree) (es : List Entity) (table : Table) → es ≡ entities_of d → table ≡ touched_on es d.declarations (points_of d) → IsHangTable d table
-serves d es table h e zero x = refl
-serves d es table h e (suc p) x =
-    ap (λ (l : Table). bit_of (slice_get l p) x) e
-    ∙ ap (λ (o : Option (List Bool)). bit_of o x) (slice_get-map (λ (q : Point). passing es (λ name. touches d.declarations q.home q.command name)) (points_of d) p)
-    ∙ point-at d.declarations es (slice_get (points_of d) p) x
-    ∙ ap (λ (l : List Entity). touches_entity d.declarations (slice_get (points_of d) p) (slice_get l x)) h
+serves : (d : DesignTree) (es : List Entity) (rows : Rows) → es ≡ entities_of d → rows ≡ touched_on es d.declarations (points_of d) → (q x : ℕ)
+    → bit_of (slice_get rows q) x ≡ touches_entity d.declarations (slice_get (points_of d) q) (slice_get (entities_of d) x)
+serves d es rows h e q x =
+    ap (λ (l : Rows). bit_of (slice_get l q) x) e
+    ∙ ap (λ (o : Option (List Bool)). bit_of o x) (slice_get-map (λ (p : Point). passing es (λ name. touches d.declarations p.home p.command name)) (points_of d) q)
+    ∙ point-at d.declarations es (slice_get (points_of d) q) x
+    ∙ ap (λ (l : List Entity). touches_entity d.declarations (slice_get (points_of d) q) (slice_get l x)) h
+
+root-at : (d : DesignTree) (o : Option Entity) → unwrap_or (option_map (λ (e : Entity). root_touches d e.name.name) o) false ≡ root_touches_entity d o
+root-at d None = refl
+root-at d (Some e) = refl
+
+serves_root : (d : DesignTree) (es : List Entity) (row : List Bool) → es ≡ entities_of d → row ≡ passing es (λ name. root_touches d name) → (x : ℕ)
+    → unwrap_or (slice_get row x) false ≡ hangs_on_root d x
+serves_root d es row h e x =
+    ap (λ (l : List Bool). unwrap_or (slice_get l x) false) e
+    ∙ ap (λ (o : Option Bool). unwrap_or o false) (slice_get-map (λ (k : Entity). root_touches d k.name.name) es x)
+    ∙ root-at d (slice_get es x)
+    ∙ ap (λ (l : List Entity). root_touches_entity d (slice_get l x)) h
+
+says_hangs : (d : DesignTree) (table : Table)
+    → ((q x : ℕ) → bit_of (slice_get table.points q) x ≡ touches_entity d.declarations (slice_get (points_of d) q) (slice_get (entities_of d) x))
+    → (p x : ℕ) → says table p x ≡ hangs d p x
+says_hangs d table h zero x = refl
+says_hangs d table h (suc q) x = h q x
 
 -- that of a design
-pub table_whole : (v : Version) (ds : List Decl) (ss : List State) (declared : List Decl) (seen : List State) (es : List Entity) (start sets rows : List Set) (firsts : List ℕ)
-    → es ≡ entities_of (tree_of v ds ss) → declared ≡ ds → seen ≡ ss → start ≡ [] → firsts ≡ firsts_of es → rows ≡ reverse sets
-    → table_of es sets ≡ touched_on es declared (states_points (states_of seen)) ++ table_of es start → IsHangTable (tree_of v ds ss) (rows_of firsts rows)
-table_whole v ds ss declared seen es start sets rows firsts he hd hs h0 hf hr h =
-    serves (tree_of v ds ss) es (rows_of firsts rows) he
-    (ap (λ (l : List ℕ). rows_of l rows) hf ∙ ap (λ (l : List Set). rows_of (firsts_of es) l) hr ∙ h
-    ∙ ap (λ (l : List Set). touched_on es declared (states_points (states_of seen)) ++ table_of es l) h0
-    ∙ append-nil (touched_on es declared (states_points (states_of seen)))
-    ∙ ap (λ (l : List Decl). touched_on es l (states_points (states_of seen))) hd
-    ∙ ap (λ (l : List State). touched_on es ds (states_points (states_of l))) hs)
+module _ (v : Version) (ds : List Decl) (ss : List State) (declared : List Decl) (seen : List State) (es : List Entity) (firsts : List ℕ)
+    (names : es ≡ entities_of (tree_of v ds ss)) (same : declared ≡ ds) (states : seen ≡ ss) (numbers : firsts ≡ firsts_of es) where
+  rows_whole : (start sets rows : List Set) → start ≡ [] → rows ≡ reverse sets
+      → table_of es sets ≡ touched_on es declared (states_points (states_of seen)) ++ table_of es start → rows_of firsts rows ≡ touched_on es ds (states_points (states_of ss))
+  rows_whole start sets rows h0 hr h =
+      ap (λ (l : List ℕ). rows_of l rows) numbers ∙ ap (λ (l : List Set). rows_of (firsts_of es) l) hr ∙ h
+      ∙ ap (λ (l : List Set). touched_on es declared (states_points (states_of seen)) ++ table_of es l) h0
+      ∙ append-nil (touched_on es declared (states_points (states_of seen)))
+      ∙ ap (λ (l : List Decl). touched_on es l (states_points (states_of seen))) same
+      ∙ ap (λ (l : List State). touched_on es ds (states_points (states_of l))) states
+
+  root_whole : (root : Set) → Stands es (λ x. fall_touches declared (states_of seen) x) root → row_of firsts root ≡ passing es (λ x. fall_touches ds (states_of ss) x)
+  root_whole root h =
+      ap (λ (l : List ℕ). row_of l root) numbers ∙ shown es (λ x. fall_touches declared (states_of seen) x) root h es (known es)
+      ∙ ap (λ (l : List Decl). passing es (λ x. fall_touches l (states_of seen) x)) same
+      ∙ ap (λ (l : List State). passing es (λ x. fall_touches ds (states_of l) x)) states
+
+  pub table_whole : (start sets rows : List Set) (root : Set) → start ≡ [] → rows ≡ reverse sets
+      → table_of es sets ≡ touched_on es declared (states_points (states_of seen)) ++ table_of es start → Stands es (λ x. fall_touches declared (states_of seen) x) root
+      → IsHangTable (tree_of v ds ss) (record { points = rows_of firsts rows; root = row_of firsts root })
+  table_whole start sets rows root h0 hr h f =
+      let d = tree_of v ds ss in
+      record {
+        points = says_hangs d (record { points = rows_of firsts rows; root = row_of firsts root }) (serves d es (rows_of firsts rows) names (rows_whole start sets rows h0 hr h));
+        root = serves_root d es (row_of firsts root) names (root_whole root f);
+      }
 
 -- declarations from a place on
 

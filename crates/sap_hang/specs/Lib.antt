@@ -1,4 +1,3 @@
-pub mod Assigns
 pub mod Hang
 pub mod Rows
 pub mod Sets

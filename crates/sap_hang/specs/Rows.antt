@@ -1,8 +1,11 @@
--- How a table is kept: for each point a set of numbers, and for each entity its number in the sets.
-use Rattle.std.specs.Prelude.{ℕ, List, map}
-use Rattle.sap_hang.specs.Hang.{Table}
+-- How a table is kept: for each point and for the root a set of numbers, and for each entity its number in the sets.
+use Rattle.std.specs.Prelude.{ℕ, Bool, List, map}
+use Rattle.sap_hang.specs.Hang.{Rows}
 use Rattle.sap_hang.specs.Sets.{has}
 use Rattle.sap_hang.specs.declared.set.Set.{Set}
 
-abbrev pub rows_of : (firsts : List ℕ) → List Set → Table
-rows_of firsts rows = map (λ (s : Set). map (λ (x : ℕ). has s x) firsts) rows
+abbrev pub row_of : (firsts : List ℕ) → Set → List Bool
+row_of firsts s = map (λ (x : ℕ). has s x) firsts
+
+abbrev pub rows_of : (firsts : List ℕ) → List Set → Rows
+rows_of firsts rows = map (λ (s : Set). row_of firsts s) rows

@@ -10,7 +10,7 @@ use Rattle.sap_tree.specs.Touches as tree
 use Rattle.sap_tree.specs.Trees.{states_of}
 use Rattle.sap_names.specs.declared.entity.Entity.{Entity}
 use Rattle.sap_names.specs.Entities.{number_of, entity_number}
-use Rattle.sap_hang.specs.Hang.{Table}
+use Rattle.sap_hang.specs.Hang.{Rows}
 use Rattle.sap_hang.specs.Rows.{rows_of}
 use Rattle.sap_hang.specs.Sets.{has}
 use Rattle.sap_hang.specs.declared.set.Set.{Set}
@@ -33,7 +33,7 @@ abbrev pub firsts_of : List Entity → List ℕ
 firsts_of es = map (λ (e : Entity). entity_number es e.name.name) es
 
 -- rows that were found, the last of the text first
-abbrev pub table_of : List Entity → List Set → Table
+abbrev pub table_of : List Entity → List Set → Rows
 table_of es rows = rows_of (firsts_of es) (reverse rows)
 
 -- which entities pass a test
@@ -41,10 +41,10 @@ abbrev pub passing : List Entity → Test → List Bool
 passing es f = map (λ (e : Entity). f e.name.name) es
 
 -- what is touched at these commands of one body, and at these points
-abbrev pub touched_at : List Entity → List Decl → Home → List Command → Table
+abbrev pub touched_at : List Entity → List Decl → Home → List Command → Rows
 touched_at es ds h cs = map (λ (c : Command). passing es (λ x. tree.touches ds h c x)) cs
 
-abbrev pub touched_on : List Entity → List Decl → List Point → Table
+abbrev pub touched_on : List Entity → List Decl → List Point → Rows
 touched_on es ds ps = map (λ (p : Point). passing es (λ x. tree.touches ds p.home p.command x)) ps
 
 abbrev pub Knows : Walk → Type 0

@@ -47,7 +47,7 @@ fn firsts(alloc: Global, names: &Names) -> Result<Vec<u32>, AllocError>
     Ok(firsts)
 }
 
-/// What hangs on each point of a design. The names are that design's.
+/// What hangs on each point of a design and on its root. The names are that design's.
 pub fn hang(alloc: Global, design: &Design, names: &Names) -> Result<HangTable, AllocError>
     requires { names.now ≡ entities_of (design_of design.now) }
     ensures { IfOk result (λ table. IsHangTable (design_of design.now) table) }
@@ -61,7 +61,11 @@ pub fn hang(alloc: Global, design: &Design, names: &Names) -> Result<HangTable, 
         stores: stores(alloc, names, declarations)?,
     };
     let mut rows = Vec::new(alloc);
-    add_states(&walk, design.states.as_slice(), &mut rows)?;
+    let below = add_states(&walk, design.states.as_slice(), &mut rows)?;
     rows.reverse();
-    Ok(HangTable { rows, firsts })
+    Ok(HangTable {
+        rows,
+        root: below.falls,
+        firsts,
+    })
 }

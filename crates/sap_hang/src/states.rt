@@ -16,7 +16,7 @@ use std::alloc::AllocError;
 /// Of sibling states: what a `fall` into them touches, and which dynamic registers and memories they or their descendants assign.
 #[derive(Drop)]
 pub(crate) struct Below {
-    falls: Set,
+    pub falls: Set,
     assigned: Set,
 }
 

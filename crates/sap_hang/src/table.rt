@@ -1,16 +1,17 @@
 //! Tables of what hangs where.
 
 ghost use Rattle.std.specs.Prelude.{◌≡◌};
-ghost use Rattle.sap_hang.specs.Hang.{says};
+ghost use Rattle.sap_hang.specs.Hang.{says, says_of_root};
 
 use crate::set::Set;
 use std::marker::Model;
 
-/// What hangs on each point of a design, seen as a row for each point, which says of each entity whether it hangs there. Kept is for
-/// each point a set of numbers, and for each entity the number that it has in the sets: that of the first of its name.
+/// What hangs on each point of a design and on its root, seen as a row for each of them, which says of each entity whether it hangs
+/// there. Kept is for each row a set of numbers, and for each entity the number that it has in the sets: that of the first of its name.
 #[derive(Drop)]
 pub struct HangTable {
     pub(crate) rows: Vec<Set>,
+    pub(crate) root: Set,
     pub(crate) firsts: Vec<u32>,
 }
 
@@ -19,9 +20,9 @@ impl Model for HangTable {
 
     ghost Value = { Table };
 
-    ghost use Rattle.sap_hang.specs.Rows.{rows_of};
+    ghost use Rattle.sap_hang.specs.Rows.{row_of, rows_of};
 
-    ghost view = { λ t. rows_of t.firsts.items t.rows.items };
+    ghost view = { λ t. record { points = rows_of t.firsts.items t.rows.items; root = row_of t.firsts.items t.root } };
 }
 
 impl HangTable {
@@ -37,6 +38,16 @@ impl HangTable {
                 Some(number) => row.has(*number),
                 None => false,
             },
+            None => false,
+        }
+    }
+
+    /// Whether the root's fall touches the entity.
+    pub fn touched_by_root(&self, entity: u32) -> bool
+        ensures { result ≡ says_of_root self.now entity }
+    {
+        match self.firsts.get(entity as usize) {
+            Some(number) => self.root.has(*number),
             None => false,
         }
     }
