@@ -1,6 +1,5 @@
 -- The numbers below n that pass a test, in rising order.
-use Rattle.std.proofs.Common.{◌≡◌, ℕ, zero, suc, ◌+◌, ◌<◌, List, [], ◌∷◌, ◌++◌, Bool, true, false, ◌&&◌, ◌||◌, refl, sym, ap, ap₂, ◌∙◌, arith, add-one, if◌then◌else◌, inl, inr, length, Some}
-use Rattle.std.specs.Prelude.{slice_get, option_map}
+use Rattle.std.proofs.Common.{◌≡◌, ℕ, zero, suc, ◌+◌, ◌<◌, List, [], ◌∷◌, ◌++◌, Bool, true, false, ◌&&◌, ◌||◌, refl, sym, ap, ap₂, ◌∙◌, arith, add-one, if◌then◌else◌, inl, inr, length}
 use Rattle.sap_resolved.specs.Kept.Hangs.{row_of}
 use Rattle.sap_names.specs.declared.entity.Entity.{Entity}
 use Rattle.std.proofs.lemmas.Bool.Decides.{nat_tests}
@@ -99,12 +98,6 @@ abbrev pub named : List Entity → (List ℕ → Bool) → ℕ → Bool
 named [] f n = false
 named (e ∷ es) f zero = f e.name.name
 named (e ∷ es) f (suc n) = named es f n
-
-pub named_is : (es : List Entity) (f : List ℕ → Bool) (n : ℕ) (name : List ℕ) → option_map (λ (e : Entity). e.name.name) (slice_get es n) ≡ Some name → named es f n ≡ f name
-named_is [] f zero name h = absurd (cc)
-named_is [] f (suc n) name h = absurd (cc)
-named_is (e ∷ es) f zero name h = (let i : e.name.name ≡ name = cc in ap f i)
-named_is (e ∷ es) f (suc n) name h = named_is es f n name h
 
 -- a row over entities as a table
 pub table_named : (es : List Entity) (f : List ℕ → Bool) → table (length es) (named es f) ≡ row_of es f

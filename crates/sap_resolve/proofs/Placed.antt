@@ -12,13 +12,13 @@ use Rattle.sap_maps.specs.Term.{Term}
 use Rattle.sap_meaning.specs.Program.{World, Step, assign, write, retag, retag_cell, go_to, fall_to_child, Command, lone, try, if_else, try_then, case_of, Arms, last_arm, and_arm, Block, end_block, command_then, State, state_node, Group, no_node as NoState, and_node, root}
 use Rattle.sap_meaning.specs.Checks.{Home}
 use Rattle.sap_meaning.specs.Touches.{touches}
-use Rattle.sap_hang.specs.Hang.{Table, says, touches_entity, IsHangTable}
+use Rattle.sap_hang.specs.Hang.{Table, says, says_of_root, touches_entity, root_touches_entity, IsHangTable}
 use Rattle.sap_tree.specs.Points.{Point, points_of}
 use Rattle.sap_resolved.specs.Fill.{table, filled_step, filled, filled_arms, filled_block, filled_state, filled_group, program_of}
 use Rattle.sap_resolved.specs.Resolve.{states_of}
 use Rattle.sap_resolved.specs.Worlds.{world_of}
-use Rattle.sap_resolved.specs.Kept.Hangs.{step_rows, rows, arms_rows, block_rows, state_rows, group_rows, point_row, rows_of}
-use Rattle.sap_resolve.specs.Rows.{Rows, rows_in, step_points, command_points, arms_points, block_points, state_points, group_points, step_with, command_with, arms_with, block_with, state_with, group_with}
+use Rattle.sap_resolved.specs.Kept.Hangs.{step_rows, rows, arms_rows, block_rows, state_rows, group_rows, point_row, row_of, rows_of}
+use Rattle.sap_resolve.specs.Rows.{Rows, rows_in, root_row_in, step_points, command_points, arms_points, block_points, state_points, group_points, step_with, command_with, arms_with, block_with, state_with, group_with}
 use Rattle.sap_resolve.proofs.Chosen.{named, table_same, table_named}
 
 -- these rows in order, from point p on
@@ -131,8 +131,21 @@ said : (d : DesignTree) (t : Table) → IsHangTable d t → (i : ℕ) (x : Point
     → rows_in (length (entities_of d)) t (suc i) ≡ point_row d.declarations (entities_of d) x
 said d t is i x e =
     table_same (length (entities_of d)) (says t (suc i)) (named (entities_of d) (λ name. tree.touches d.declarations x.home x.command name))
-    (λ y l. is (suc i) y ∙ ap (λ (p : Option Point). touches_entity d.declarations p (slice_get (entities_of d) y)) e ∙ touched d.declarations x (entities_of d) y)
+    (λ y l. is.points (suc i) y ∙ ap (λ (p : Option Point). touches_entity d.declarations p (slice_get (entities_of d) y)) e ∙ touched d.declarations x (entities_of d) y)
     ∙ table_named (entities_of d) (λ name. tree.touches d.declarations x.home x.command name)
+
+-- and of the root, what its fall touches
+
+root_touched : (d : DesignTree) (es : List Entity) (y : ℕ) → root_touches_entity d (slice_get es y) ≡ named es (λ name. tree.root_touches d name) y
+root_touched d [] zero = refl
+root_touched d [] (suc y) = refl
+root_touched d (e ∷ es) zero = refl
+root_touched d (e ∷ es) (suc y) = root_touched d es y
+
+pub root_placed : (d : DesignTree) (t : Table) → IsHangTable d t → root_row_in (length (entities_of d)) t ≡ row_of (entities_of d) (tree.root_touches d)
+root_placed d t is =
+    table_same (length (entities_of d)) (says_of_root t) (named (entities_of d) (λ name. tree.root_touches d name)) (λ y l. is.root y ∙ root_touched d (entities_of d) y)
+    ∙ table_named (entities_of d) (λ name. tree.root_touches d name)
 
 pub placed : (ls : Levels) (d : DesignTree) (t : Table) → IsHangTable d t → group_rows (program_of ls d).states ≡ rows_of d
     → group_with (rows_in (length (entities_of d)) t) 1 (states_of ls d) ≡ (program_of ls d).states

@@ -18,9 +18,9 @@ use Rattle.sap_program.specs.declared.program.Program.{Program}
 use Rattle.sap_program.specs.Design.{IsProgramOf}
 use Rattle.sap_program.specs.Hangs.{flags}
 use Rattle.sap_resolve.specs.Lists.{names_of, own_names}
-use Rattle.sap_resolve.specs.Rows.{rows_in, group_with}
+use Rattle.sap_resolve.specs.Rows.{rows_in, root_row_in, group_with}
 use Rattle.sap_program.specs.Views.{entity_of, group_of, count}
-use Rattle.sap_resolve.proofs.Placed.{placed}
+use Rattle.sap_resolve.proofs.Placed.{placed, root_placed}
 
 abbrev build : Order → List program.Entity → List ℕ → program.Group → List Bool → program.Program
 build o entities children states hang = record { world = record { order = o; entities = entities; children = children }; states = states; hang = hang }
@@ -33,7 +33,7 @@ pub program_made : (ls m : Levels) (d e : DesignTree) (es : List Entity) (t : Ta
     → (group_rows (program_of ls d).states ≡ rows_of d) × ((program_of ls d).hang ≡ row_of (entities_of d) (root_touches d))
     → map entity_of p.entities.items ≡ (world_of m e).entities → own_names p.entities.items ≡ names_of (entities_of e) → p.children.items ≡ (world_of ls e).children
     → group_of (length es) p.states.items ≡ group_with (rows_in (length es) t) 1 (states_of m e) → p.sites ≡ length (check_sites e)
-    → flags (length es) p.hang ≡ row_of es (root_touches e) → IsProgramOf ls d p
+    → flags (length es) p.hang ≡ root_row_in (length es) t → IsProgramOf ls d p
 program_made ls m d e es t p a b c is agree entities named children states sites hang =
     let names = named ∙ ap (λ (x : DesignTree). names_of (entities_of x)) b in
     let counted : count p ≡ length (entities_of d) = sym (length_map (λ x. x.name) p.entities.items) ∙ ap length names ∙ length_map (λ x. x.name.name) (entities_of d) in
@@ -44,7 +44,7 @@ program_made ls m d e es t p a b c is agree entities named children states sites
           (children ∙ ap (λ (x : DesignTree). (world_of ls x).children) b)
           (ap (λ (n : ℕ). group_of n p.states.items) (counted ∙ sym same) ∙ states ∙ ap (λ (n : ℕ). group_with (rows_in n t) 1 (states_of m e)) same
           ∙ ap₂ (λ (l : Levels) (x : DesignTree). group_with (rows_in (length (entities_of d)) t) 1 (states_of l x)) a b ∙ placed ls d t is agree.0)
-          (ap (λ (n : ℕ). flags n p.hang) (counted ∙ sym same) ∙ hang ∙ ap₂ (λ (l : List Entity) (x : DesignTree). row_of l (root_touches x)) c b ∙ sym agree.1);
+          (ap (λ (n : ℕ). flags n p.hang) (counted ∙ sym same) ∙ hang ∙ ap (λ (n : ℕ). root_row_in n t) same ∙ root_placed d t is ∙ sym agree.1);
       names = names;
       sites = sites ∙ ap (λ (x : DesignTree). length (check_sites x)) b;
     }

@@ -1,7 +1,7 @@
 -- What hangs on the points of a program, by their numbers. Each `if`, `otherwise`, `fall`, `then` and `case` is a point, in the order of these words;
 -- the `otherwise` of a `then` is none.
 use Rattle.std.specs.Prelude.{ℕ, ◌+◌, Bool, List}
-use Rattle.sap_hang.specs.Hang.{Table, says}
+use Rattle.sap_hang.specs.Hang.{Table, says, says_of_root}
 use Rattle.sap_meaning.specs.Program.{Step, assign, write, retag, retag_cell, go_to, fall_to_child, Command, lone, try, if_else, try_then, case_of, Arms, last_arm, and_arm, Block, end_block, command_then, State, state_node, Group, no_node, and_node}
 use Rattle.sap_resolved.specs.Fill.{table}
 
@@ -12,6 +12,9 @@ Rows = ℕ → List Bool
 -- what a table says of n entities
 abbrev pub rows_in : (n : ℕ) → Table → Rows
 rows_in n t point = table n (says t point)
+
+abbrev pub root_row_in : (n : ℕ) → Table → List Bool
+root_row_in n t = table n (says_of_root t)
 
 -- how many points there are
 

@@ -67,7 +67,7 @@ pub fn resolve(alloc: Global, checked: &Checked, table: &HangTable) -> Result<Pr
     let entities = entities(alloc, design, known.lattice)?;
     let children = children(alloc, design)?;
     let (states, sites) = resolve_states(alloc, &known, design)?;
-    let hang = root_row(alloc, design, known.names)?;
+    let hang = root_row(alloc, table, known.names.count())?;
     Ok(Program {
         entities,
         children,

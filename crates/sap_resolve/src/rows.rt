@@ -1,17 +1,11 @@
-//! What hangs on points, as lists of numbers.
+//! What hangs on points and on the root, as lists of numbers.
 
-ghost use Rattle.std.specs.Prelude.{◌≡◌, IfOk, length};
-ghost use Rattle.sap_resolved.specs.Kept.Hangs.{row_of};
+ghost use Rattle.std.specs.Prelude.{◌≡◌, IfOk};
 ghost use Rattle.sap_program.specs.Hangs.{flags};
-ghost use Rattle.sap_resolve.specs.Rows.{rows_in};
-ghost use Rattle.sap_tree.specs.Designs.{design_of};
-ghost use Rattle.sap_tree.specs.Touches.{root_touches};
+ghost use Rattle.sap_resolve.specs.Rows.{root_row_in, rows_in};
 
 use sap_hang::HangTable;
-use sap_hang::root::touched_by_root;
-use sap_names::table::Names;
 use sap_program::hang::Hang;
-use sap_tree::design::Design;
 use std::alloc::{AllocError, Global};
 
 /// What hangs on a point, of the first `count` entities.
@@ -32,13 +26,13 @@ pub(crate) fn row(
     Ok(Hang::new(numbers))
 }
 
-/// What hangs on the root's fall. The names are those of the design.
-pub(crate) fn root_row(alloc: Global, design: &Design, names: &Names) -> Result<Hang, AllocError>
-    ensures { IfOk result (λ h. flags (length names.now) h ≡ row_of names.now (root_touches (design_of design.now))) }
+/// What the root's fall touches, of the first `count` entities.
+pub(crate) fn root_row(alloc: Global, table: &HangTable, count: u32) -> Result<Hang, AllocError>
+    ensures { IfOk result (λ h. flags count h ≡ root_row_in count table.now) }
 {
     let mut numbers = Vec::new(alloc);
-    for entity in 0..names.count() {
-        if touched_by_root(design, names.name(entity)) {
+    for entity in 0..count {
+        if table.touched_by_root(entity) {
             numbers.push(entity as usize)?;
         }
     }

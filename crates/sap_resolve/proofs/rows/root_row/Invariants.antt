@@ -1,8 +1,7 @@
 use Rattle.std.proofs.Common.{◌≡◌}
-use Rattle.sap_tree.specs.Designs.{design_of}
-use Rattle.sap_tree.specs.Touches.{root_touches}
-use Rattle.sap_resolve.proofs.Chosen.{chosen, named}
+use Rattle.sap_hang.specs.Hang.{says_of_root}
+use Rattle.sap_resolve.proofs.Chosen.{chosen}
 use Rattle.sap_resolve.proofs.rows.root_row.Given as goal
 
 abbrev pub invariant-loop-entity : goal.invariant-loop-entity
-invariant-loop-entity l = l.numbers.items ≡ chosen (named l.names (root_touches (design_of l.design))) l.entity
+invariant-loop-entity l = l.numbers.items ≡ chosen (says_of_root l.table) l.entity
