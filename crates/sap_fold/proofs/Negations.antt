@@ -1,8 +1,9 @@
 -- `&` and `|` of a negation as choices.
-use Rattle.std.proofs.Common.{◌≡◌, ℕ, ◌-◌, ◌^◌, ◌<◌, ◌==◌, List, Bool, false, true, sym, ap, ◌∙◌, subst, inl, inr, refl}
+use Rattle.std.proofs.Common.{◌≡◌, ℕ, ◌-◌, ◌^◌, ◌<◌, ◌==◌, List, Bool, false, true, sym, ap, ◌∙◌, subst, inl, inr, refl, arith}
 use Rattle.std.specs.Prelude.{bit_and, bit_or, if◌then◌else◌}
-use Rattle.std.specs.Int.Bits.{and_zero_l, or_zero_l}
+use Rattle.std.specs.Int.Bits.{and_zero_l}
 use Rattle.std.proofs.lemmas.Nat.{and_comm, or_comm}
+use Rattle.std.proofs.lemmas.Bool.{cases_Bool}
 use Rattle.sap_bits.specs.Arithmetic.{value2}
 use Rattle.sap_bits.specs.declared.Op1.TheVariants.{Not}
 use Rattle.sap_bits.specs.declared.Op2.{Op2}
@@ -11,30 +12,24 @@ use Rattle.sap_maps.specs.Maps.{Name, Valuation}
 use Rattle.sap_maps.specs.Scope.{Scope}
 use Rattle.sap_net.specs.declared.parts.Operand.{Operand}
 use Rattle.sap_net.specs.declared.parts.Right.{Right}
-use Rattle.sap_net.specs.declared.parts.Right.TheVariants.{One, Two, Choose}
+use Rattle.sap_net.specs.declared.parts.Right.TheVariants.{Copy, One, Two, Choose}
 use Rattle.sap_net.specs.declared.parts.Wire.{Wire}
 use Rattle.sap_net.specs.Rules.{Shapes, IsOperand, IsRight, readable_after}
 use Rattle.sap_net.specs.Values.{operand_value, operand_width}
 use Rattle.sap_net.proofs.Within.{operand_below, operand_is_wide}
 use Rattle.sap_fold.specs.Equals.{Equals}
+use Rattle.sap_fold.specs.Folding.{is_number, same_operand}
 use Rattle.sap_fold.specs.Seen.{Defines}
-use Rattle.sap_fold.specs.Under.{number, bit, IsBitwise, chosen_by}
-use Rattle.sap_fold.proofs.Folds.{KeepsWidth, SameWidths, bit_cases, one_and, one_or}
-use Rattle.sap_fold.proofs.Sees.{defined_right, defined_same, equals_both}
-use Rattle.sap_fold.proofs.Unders.{bit_fits}
+use Rattle.sap_fold.specs.Under.{number, bit, IsBitwise, chosen_by, is_masked, masked_right, Under}
+use Rattle.sap_fold.proofs.Folds.{KeepsWidth, SameWidths, same_is, number_is, bit_cases, one_and}
+use Rattle.sap_fold.proofs.Sees.{defined_right, defined_same, equals_both, equals_itself}
+use Rattle.sap_fold.proofs.Unders.{bit_fits, one_width}
 
 and_negated : (c d y : ℕ) → d < 2 ^ 1 → y < 2 ^ 1 → c ≡ 2 ^ 1 - 1 - d → bit_and c y ≡ (if d == 0 then y else 0)
 and_negated c d y h k e =
     elim (bit_cases d h) [
       | inl z ↦ rw (e, z) (one_and y k)
       | inr z ↦ rw (e, z) (and_zero_l y)
-    ]
-
-or_negated : (c d y : ℕ) → d < 2 ^ 1 → y < 2 ^ 1 → c ≡ 2 ^ 1 - 1 - d → bit_or c y ≡ (if d == 0 then 1 else y)
-or_negated c d y h k e =
-    elim (bit_cases d h) [
-      | inl z ↦ rw (e, z) (one_or y k)
-      | inr z ↦ rw (e, z) (or_zero_l y)
     ]
 
 -- a choice by d that has the value of an operator on the negation of d and b
@@ -63,11 +58,10 @@ choice_equals ws op f a d b p q keeps same is arms choice k =
     }
 
 -- the first operand is a negation
-pub negated_first : (ws : List Wire) (op : Op2) (a d b : Operand) → IsBitwise op → Defines ws a (One Not d) → Equals ws 1 (Two op a b) (chosen_by op d b)
+pub negated_first : (ws : List Wire) (op : Op2) (a d b : Operand) → IsBitwise op → Defines ws a (One Not d) → Equals ws 1 (Two op a b) (chosen_by op a d b)
 negated_first ws And a d b bits k =
     choice_equals ws And bit_and a d b (bit false) b (λ u. refl) (λ u y z. z) (λ u y z. refl) (λ sc h. (bit_fits sc 1 false refl, h)) (λ v c x. and_negated c x (operand_value v b)) k
-negated_first ws Or a d b bits k =
-    choice_equals ws Or bit_or a d b b (bit true) (λ u. refl) (λ u y z. z) (λ u y z. refl) (λ sc h. (h, bit_fits sc 1 true refl)) (λ v c x. or_negated c x (operand_value v b)) k
+negated_first ws Or a d b bits k = equals_itself ws 1 (Two Or a b)
 negated_first ws _ a d b bits k = absurd bits
 
 bits_turned : (ws : List Wire) (u : ℕ) (op : Op2) (a b : Operand) → IsBitwise op → Equals ws u (Two op a b) (Two op b a)
@@ -84,6 +78,68 @@ bits_turned ws u Or a b bits =
 bits_turned ws u _ a b bits = absurd bits
 
 -- the second operand is a negation
-pub negated_second : (ws : List Wire) (op : Op2) (a b d : Operand) → IsBitwise op → Defines ws b (One Not d) → Equals ws 1 (Two op a b) (chosen_by op d a)
+pub negated_second : (ws : List Wire) (op : Op2) (a b d : Operand) → IsBitwise op → Defines ws b (One Not d) → Equals ws 1 (Two op a b) (chosen_by op b d a)
 negated_second ws op a b d bits k =
-    equals_both ws 1 (Two op a b) (Two op b a) (chosen_by op d a) (bits_turned ws 1 op a b bits) (negated_first ws op b d a bits k)
+    equals_both ws 1 (Two op a b) (Two op b a) (chosen_by op b d a) (bits_turned ws 1 op a b bits) (negated_first ws op b d a bits k)
+
+-- a choice between 0 and the bit that is known
+
+masked_is : (c a b : Operand) → is_masked c a b ≡ true → (is_number a 0 ≡ true) × (b ≡ c)
+masked_is c a b h =
+    elim (cases_Bool (is_number a 0)) [
+      | inl t ↦ let g : same_operand b c ≡ true = rw t at h in (t, same_is b c g)
+      | inr f ↦ absurd (let g : false ≡ true = rw f at h in cc)
+    ]
+
+masked_value : (d x y : ℕ) → d < 2 ^ 1 → x ≡ 0 → y ≡ 1 → (if d == 0 then y else x) ≡ 2 ^ 1 - 1 - d
+masked_value d x y h i k =
+    elim (bit_cases d h) [
+      | inl z ↦ rw (z, k) refl
+      | inr z ↦ rw (z, i) refl
+    ]
+
+masked_zero : (d x y : ℕ) → d < 2 ^ 1 → x ≡ 0 → y ≡ 0 → (if d == 0 then y else x) ≡ 0
+masked_zero d x y h i k =
+    elim (bit_cases d h) [
+      | inl z ↦ rw (z, k) refl
+      | inr z ↦ rw (z, i) refl
+    ]
+
+-- where the bit is 1, the negation of what it chooses by; where it is 0, that
+pub masked_one : (ws : List Wire) (c x d a b : Operand) → Defines ws x (Choose d a b) → is_masked c a b ≡ true → Under ws c (number true) x (One Not d)
+masked_one ws c x d a b k m =
+    let e = masked_is c a b m in
+    record {
+      fits = λ ms sc u f hc hx.
+          let sd = readable_after sc ws in
+          let r = defined_right ms sc ws x (Choose d a b) u f hx k in
+          let w = one_width sd u 1 c (subst (IsOperand sd u) e.1 r.2) hc in
+          (1, omega arith, r.0, w);
+      same = λ ms sc widths v u o hc hx n.
+          let sd = readable_after sc ws in
+          let r = defined_right ms sc ws x (Choose d a b) u o.wires hx k in
+          let l : operand_value v d < 2 ^ 1 = operand_below sd v o.below 1 d r.0 in
+          defined_same widths v ws x (Choose d a b) o.holds k
+          ∙ masked_value (operand_value v d) (operand_value v a) (operand_value v b) l (number_is v a 0 e.0) (ap (operand_value v) e.1 ∙ n)
+          ∙ ap (λ (i : ℕ). 2 ^ i - 1 - operand_value v d) (sym (operand_is_wide sd widths o.wide 1 d r.0));
+    }
+
+pub masked_none : (ws : List Wire) (c x d a b : Operand) → Defines ws x (Choose d a b) → is_masked c a b ≡ true → Under ws c (number false) x (Copy (bit false))
+masked_none ws c x d a b k m =
+    let e = masked_is c a b m in
+    record {
+      fits = λ ms sc u f hc hx.
+          let sd = readable_after sc ws in
+          let r = defined_right ms sc ws x (Choose d a b) u f hx k in
+          bit_fits sd u false (one_width sd u 1 c (subst (IsOperand sd u) e.1 r.2) hc);
+      same = λ ms sc widths v u o hc hx n.
+          let sd = readable_after sc ws in
+          let r = defined_right ms sc ws x (Choose d a b) u o.wires hx k in
+          let l : operand_value v d < 2 ^ 1 = operand_below sd v o.below 1 d r.0 in
+          defined_same widths v ws x (Choose d a b) o.holds k
+          ∙ masked_zero (operand_value v d) (operand_value v a) (operand_value v b) l (number_is v a 0 e.0) (ap (operand_value v) e.1 ∙ n);
+    }
+
+pub masked : (ws : List Wire) (c x d a b : Operand) (t : Bool) → Defines ws x (Choose d a b) → is_masked c a b ≡ true → Under ws c (number t) x (masked_right t d)
+masked ws c x d a b true k m = masked_one ws c x d a b k m
+masked ws c x d a b false k m = masked_none ws c x d a b k m

@@ -1,5 +1,6 @@
 -- What operands are where a bit is known.
 use Rattle.std.specs.Prelude.{◌≡◌, ℕ, Bool, true, false, not, ◌&&◌, List, Option, Some, None, if◌then◌else◌}
+use Rattle.sap_bits.specs.declared.Op1.TheVariants.{Not}
 use Rattle.sap_bits.specs.declared.Op2.{Op2}
 use Rattle.sap_bits.specs.declared.Op2.TheVariants.{And, Or}
 use Rattle.sap_maps.specs.Maps.{Name, Valuation}
@@ -9,7 +10,7 @@ use Rattle.sap_net.specs.Values.{operand_value, right_value}
 use Rattle.sap_net.specs.declared.parts.Operand.{Operand}
 use Rattle.sap_net.specs.declared.parts.Operand.TheVariants.{Constant}
 use Rattle.sap_net.specs.declared.parts.Right.{Right}
-use Rattle.sap_net.specs.declared.parts.Right.TheVariants.{Two, Choose}
+use Rattle.sap_net.specs.declared.parts.Right.TheVariants.{Copy, One, Two, Choose}
 use Rattle.sap_net.specs.declared.parts.Wire.{Wire}
 use Rattle.sap_fold.specs.Equals.{Over}
 use Rattle.sap_fold.specs.Folding.{same_operand, is_number}
@@ -64,10 +65,19 @@ IsBitwise And = Unit {0}
 IsBitwise Or = Unit {0}
 IsBitwise _ = ⊥
 
--- `&` or `|` of the negation of a bit d and another operand b, as a choice by d
-abbrev pub chosen_by : Op2 → (d b : Operand) → Right
-chosen_by And d b = Choose d (bit false) b
-chosen_by _ d b = Choose d b (bit true)
+-- `&` of a, the negation of a bit d, and another operand b, as a choice by d; `|` of them
+abbrev pub chosen_by : Op2 → (a d b : Operand) → Right
+chosen_by And a d b = Choose d (bit false) b
+chosen_by op a d b = Two op a b
+
+-- a choice between 0 and c
+abbrev pub is_masked : (c a b : Operand) → Bool
+is_masked c a b = is_number a 0 && same_operand b c
+
+-- what a choice by d between 0 and c is, where c has the value t
+abbrev pub masked_right : (t : Bool) → (d : Operand) → Right
+masked_right true d = One Not d
+masked_right false d = Copy (bit false)
 
 -- Where the bit c has the number n, the operand a has the value of r.
 pub record Under (ws : List Wire) (c : Operand) (n : ℕ) (a : Operand) (r : Right) : Type 0 where

@@ -131,17 +131,17 @@ fn is_and(op: Op2) -> bool
     matches!(op, Op2::And)
 }
 
-/// `&` or `|` of the negation of a bit and another, as a choice by the bit.
-fn chosen_by(op: Op2, bit: Operand, other: Operand) -> Right
-    ensures { result ≡ spec.chosen_by op bit other }
+/// `&` of the negation of a bit and another, as a choice by the bit; `|` with the negation in front.
+fn chosen_by(op: Op2, negation: Operand, bit: Operand, other: Operand) -> Right
+    ensures { result ≡ spec.chosen_by op negation bit other }
 {
     match op {
         Op2::And => Right::Choose(bit, number(false), other),
-        _ => Right::Choose(bit, other, number(true)),
+        _ => Right::Two(op, negation, other),
     }
 }
 
-/// `&` or `|` of two bits, as a choice by a bit that one of them is the negation of.
+/// `&` or `|` of two bits, `&` as a choice by a bit that one of them is the negation of.
 fn see_negated(
     alloc: Global,
     wires: &Wires,
@@ -153,10 +153,10 @@ fn see_negated(
     ensures { IfOk result (λ r. Equals wires.now.list.items 1 (right.Two op a b) r) }
 {
     if let Some(bit) = negated(alloc, wires, &a)? {
-        return Ok(chosen_by(op, bit, b));
+        return Ok(chosen_by(op, a, bit, b));
     }
     match negated(alloc, wires, &b)? {
-        Some(bit) => Ok(chosen_by(op, bit, a)),
+        Some(bit) => Ok(chosen_by(op, b, bit, a)),
         None => Ok(Right::Two(op, a, b)),
     }
 }

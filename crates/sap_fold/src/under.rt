@@ -165,6 +165,44 @@ fn negation_under(
     }
 }
 
+/// Whether a choice is one between 0 and the bit.
+fn is_masked(bit: &Operand, a: &Operand, b: &Operand) -> bool
+    ensures { result ≡ spec.is_masked bit.now a.now b.now }
+{
+    is(a, 0) && same(b, bit)
+}
+
+/// What a choice between 0 and the known bit is.
+fn masked_right(alloc: Global, value: bool, by: &Operand) -> Result<Right, AllocError>
+    ensures { IfOk result (λ r. r ≡ spec.masked_right value by.now) }
+{
+    if !value {
+        return Ok(Right::Copy(number(false)));
+    }
+    let by = by.copy(alloc)?;
+    Ok(Right::One(Op1::Not, by))
+}
+
+/// What a choice is where a bit is known, if it is one between 0 and the bit.
+fn choice_under(
+    alloc: Global,
+    wires: &Wires,
+    bit: &Operand,
+    value: bool,
+    operand: &Operand,
+) -> Result<Option<Right>, AllocError>
+    ensures { IfOk result (λ o. IfSome o (λ r. spec.Under wires.now.list.items bit.now (spec.number value) operand.now r)) }
+{
+    let Some(Right::Choose(by, a, b)) = definition(wires, operand) else {
+        return Ok(None);
+    };
+    if is_masked(bit, a, b) {
+        let right = masked_right(alloc, value, by)?;
+        return Ok(Some(right));
+    }
+    Ok(None)
+}
+
 /// What an operand is where a bit is known, by the operand's right side.
 fn found(
     alloc: Global,
@@ -178,10 +216,10 @@ fn found(
     if let Some(right) = negation_under(alloc, wires, bit, value, operand)? {
         return Ok(Some(right));
     }
-    match direct(alloc, wires, bit, value, operand)? {
-        Some(operand) => Ok(Some(Right::Copy(operand))),
-        None => Ok(None),
+    if let Some(operand) = direct(alloc, wires, bit, value, operand)? {
+        return Ok(Some(Right::Copy(operand)));
     }
+    choice_under(alloc, wires, bit, value, operand)
 }
 
 /// Whether both operands have the value that an operator of one bit has.
