@@ -23,6 +23,7 @@ use Rattle.sap_cycle.specs.declared.steps.Slot.{Slot}
 use Rattle.sap_cycle.specs.declared.steps.Step.{Step}
 use Rattle.sap_cycle.specs.declared.steps.Part.{Part}
 use Rattle.sap_cycle.specs.declared.program.Program.{Program}
+use Rattle.sap_cycle.specs.Instructions.{step_of_instruction}
 use Rattle.sap_cycle.specs.Steps.{slot_value, settled, AreReady, AreIn, copied, stored, ArePortsReady}
 use Rattle.sap_cycle.specs.Turned.{before_edge, values_turned, cells_turned, CanTurn}
 use Rattle.sap_cycle.specs.Means.{StepsMean, NextsMean, Matches}
@@ -150,7 +151,8 @@ turn_is n rules p program before inputs values cells v ev ec cycle =
     let lr : length regs ≡ length n.registers = length-map n.registers (λ r. r.name) in
     let lw : length wires ≡ length n.wires = length-map n.wires (λ w. w.name) in
     let ln : length p.nexts.items ≡ length n.registers = nexts_long _ p.nexts.items n.registers program.nexts in
-    let ls : length p.steps.items ≡ length n.wires = steps_long _ _ _ _ p.steps.items n.wires program.steps in
+    let ss = map step_of_instruction p.steps.items in
+    let ls : length ss ≡ length n.wires = steps_long _ _ _ _ ss n.wires program.steps in
     let first : map v.value (first_names n) ≡ inputs ++ map f regs = map-append v.value ins regs ∙ ap (λ l. l ++ map v.value regs) (sym ex) ∙ ap (λ l. inputs ++ l) er in
     let lfirst : length (first_names n) ≡ length inputs + length p.nexts.items = omega (arith, lx, lr, ln, length-append ins regs) in
     let start = copied 0 inputs values in
@@ -169,10 +171,10 @@ turn_is n rules p program before inputs values cells v ev ec cycle =
       are = ec ∙ cells_equal (λ m. (seen n before).cell m.name) (λ m. v.cell m.name) n.memories (memories_begin n rules before inputs v cycle);
       found = all_found n.memories rules.memory_shapes;
     } in
-    let go = settled_matches (width_of n) n.memories (shapes n) p.parts.items v cells holding p.steps.items n.wires (first_readable n) (first_names n) start program.steps rules.assigns cycle.valuation.within.value (widths_are n) cycle.valuation.equations m (omega (arith, lstart, ls, lw)) in
+    let go = settled_matches (width_of n) n.memories (shapes n) p.parts.items v cells holding ss n.wires (first_readable n) (first_names n) start program.steps rules.assigns cycle.valuation.within.value (widths_are n) cycle.valuation.equations m (omega (arith, lstart, ls, lw)) in
     let b = before_edge p inputs values cells in
-    let mb : Matches v (value_names n) b = subst (λ (k : ℕ). Matches v (value_names n) (settled cells p.parts.items k p.steps.items start)) lfirst go.0 in
-    let lb : length b ≡ length (value_names n) = settled_long cells p.parts.items _ p.steps.items start ∙ omega (arith, lstart, length-append (first_names n) wires) in
+    let mb : Matches v (value_names n) b = subst (λ (k : ℕ). Matches v (value_names n) (settled cells p.parts.items k ss start)) lfirst go.0 in
+    let lb : length b ≡ length (value_names n) = settled_long cells p.parts.items _ ss start ∙ omega (arith, lstart, length-append (first_names n) wires) in
     let low : length (value_names n) ≤ length b = omega (arith, lb) in
     let eb : b ≡ map v.value ins ++ (map v.value regs ++ map v.value wires) = sym (take-length b) ∙ ap (λ k. take k b) lb ∙ mb ∙ three v.value ins regs wires in
     let nexts = map (slot_value b) p.nexts.items in
@@ -184,8 +186,8 @@ turn_is n rules p program before inputs values cells v ev ec cycle =
     let ports = all_stored v (value_names n) b mb low p.ports.items n.memories 0 [] refl program.ports within in
     record {
       can = record {
-        room = omega (arith, lvalues, lfirst, ls, lw);
-        ready = subst (λ (k : ℕ). AreReady cells p.parts.items k p.steps.items start) lfirst go.1;
+        room = omega (arith, lvalues, lfirst, ls, lw, length-map p.steps.items step_of_instruction);
+        ready = subst (λ (k : ℕ). AreReady cells p.parts.items k ss start) lfirst go.1;
         nexts = nexts_in (value_names n) b low p.nexts.items n.registers program.nexts;
         ports = subst (ArePortsReady b p.ports.items) (sym holding.are) ports.1;
       };

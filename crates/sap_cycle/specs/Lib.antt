@@ -1,4 +1,5 @@
 pub mod Steps
+pub mod Instructions
 pub mod Turned
 pub mod Means
 pub mod Places

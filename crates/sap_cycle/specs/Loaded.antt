@@ -1,5 +1,5 @@
 -- What a netlist is loaded into.
-use Rattle.std.specs.Prelude.{◌≡◌, ℕ, ◌+◌, List, [], ◌∷◌, Option, length}
+use Rattle.std.specs.Prelude.{◌≡◌, ℕ, ◌+◌, List, [], ◌∷◌, Option, length, map}
 use Rattle.sap_maps.specs.Maps.{Valuation}
 use Rattle.sap_net.specs.declared.parts.Memory.{Memory}
 use Rattle.sap_net.specs.Net.{Net}
@@ -7,12 +7,13 @@ use Rattle.sap_net.specs.IsNetlist.{IsNetlist, memory_names, width_of}
 use Rattle.sap_net.specs.Laws.{WithinBefore}
 use Rattle.sap_net.specs.NameMaps.{NameMap}
 use Rattle.sap_cycle.specs.declared.program.Program.{Program}
+use Rattle.sap_cycle.specs.Instructions.{step_of_instruction}
 use Rattle.sap_cycle.specs.Means.{StepsMean, NextsMean, PortsMean}
 use Rattle.sap_cycle.specs.Places.{Finds}
 use Rattle.sap_cycle.specs.Running.{Running, first_names, value_names, Shows}
 
 pub record IsProgram (n : Net) (p : Program) : Type 0 where
-  pub steps : StepsMean (width_of n) n.memories p.parts.items (first_names n) p.steps.items n.wires
+  pub steps : StepsMean (width_of n) n.memories p.parts.items (first_names n) (map step_of_instruction p.steps.items) n.wires
   pub nexts : NextsMean (value_names n) p.nexts.items n.registers
   pub ports : PortsMean (value_names n) 0 p.ports.items n.memories
 

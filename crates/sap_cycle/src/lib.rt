@@ -3,6 +3,7 @@
 //! `Runner::load` numbers the names once, so a step takes time in proportion to the netlist, and no memory.
 #![tactic(auto)]
 
+mod instructions;
 mod known;
 mod load;
 mod program;

@@ -4,14 +4,16 @@ ghost use Rattle.std.specs.Prelude.{◌≡◌, ◌++◌, false, None, length, ma
 ghost use Rattle.std.specs.List.{AllByRecursion};
 ghost use Rattle.sap_net.specs.IsNetlist.{IsNetlist, memory_names, width_of};
 ghost use Rattle.sap_cycle.specs.Loaded.{IsProgram, IsRunner, bases_of};
+ghost use Rattle.sap_cycle.specs.Instructions.{step_of_instruction};
 ghost use Rattle.sap_cycle.specs.Known.{Knows, IsKnownOperand, IsKnownPort, slot_found, ports_found, AreStored, first_numbers};
 ghost use Rattle.sap_cycle.specs.Means.{StepsMean};
 ghost use Rattle.sap_cycle.specs.Places.{Finds};
 ghost use Rattle.sap_cycle.specs.Running.{Shows, first_names, value_names};
 
+use crate::instructions::{Instruction, instruction_of};
 use crate::known::{Known, learn, learn_inputs, learn_registers, slot_of, step_of};
 use crate::program::Program;
-use crate::steps::{Part, Slot, Step, WritePort};
+use crate::steps::{Part, Slot, WritePort};
 use sap_net::name_map::put;
 use sap_net::netlist::Netlist;
 use sap_net::parts::{Memory, Register};
@@ -29,7 +31,7 @@ struct Stores {
 #[derive(Drop)]
 struct Compiled {
     parts: Vec<Part>,
-    steps: Vec<Step>,
+    steps: Vec<Instruction>,
 }
 
 /// Adds a number several times.
@@ -85,7 +87,7 @@ fn store_memories(alloc: Global, memories: &[Memory]) -> Result<Stores, AllocErr
 fn compile(known: &mut Known, alloc: Global, netlist: &Netlist) -> Result<Compiled, AllocError>
     requires rules { IsNetlist netlist.now }
     requires knows { Knows (width_of netlist.now) netlist.now.memories (first_names netlist.now) known.old }
-    ensures mean { IfOk result (λ c. StepsMean (width_of netlist.now) netlist.now.memories c.parts.items (first_names netlist.now) c.steps.items netlist.now.wires) }
+    ensures mean { IfOk result (λ c. StepsMean (width_of netlist.now) netlist.now.memories c.parts.items (first_names netlist.now) (map step_of_instruction c.steps.items) netlist.now.wires) }
     ensures knows { OnOk result (Knows (width_of netlist.now) netlist.now.memories (value_names netlist.now) known.new) }
 {
     let mut parts = Vec::new(alloc);
@@ -93,7 +95,7 @@ fn compile(known: &mut Known, alloc: Global, netlist: &Netlist) -> Result<Compil
     let wires = netlist.wires();
     for wire in wires {
         let step = step_of(known, &mut parts, &wire.right)?;
-        steps.push(step)?;
+        steps.push(instruction_of(step))?;
         learn(known, alloc, &wire.name, wire.width)?;
     }
     Ok(Compiled { parts, steps })

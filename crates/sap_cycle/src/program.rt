@@ -3,14 +3,15 @@
 ghost use Rattle.std.specs.Prelude.{◌≡◌, length};
 ghost use Rattle.sap_cycle.specs.Turned.{CanTurn, values_turned, cells_turned};
 
-use crate::steps::{Part, Slot, Step, WritePort, copy_to, read_all, settle, store_all};
+use crate::instructions::{Instruction, settle};
+use crate::steps::{Part, Slot, WritePort, copy_to, read_all, store_all};
 
 /// The steps of the wires in order, with the parts of all concatenations; what each register takes at the edge, and the
 /// write port of each memory.
 #[derive(Drop)]
 pub struct Program {
     pub parts: Vec<Part>,
-    pub steps: Vec<Step>,
+    pub steps: Vec<Instruction>,
     pub nexts: Vec<Slot>,
     pub ports: Vec<WritePort>,
 }

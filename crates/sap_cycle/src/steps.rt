@@ -1,7 +1,7 @@
 //! Operators over an array of numbers.
 
 ghost use Rattle.std.specs.Prelude.{◌≡◌, ◌≤◌, ◌+◌, length, map};
-ghost use Rattle.sap_cycle.specs.Steps.{slot_value, joined_from, step_value, SlotIn, ArePartsReady, IsReady, AreReady, settled, AreIn, copied, IsPortReady, ArePortsReady, stored};
+ghost use Rattle.sap_cycle.specs.Steps.{slot_value, joined_from, step_value, SlotIn, ArePartsReady, IsReady, AreIn, copied, IsPortReady, ArePortsReady, stored};
 
 use sap_bits::{Op1, Op2, apply1, apply2, concat, slice};
 
@@ -53,7 +53,7 @@ pub fn read(values: &[u64], slot: Slot) -> u64
 }
 
 /// The number of some parts, the foremost first.
-fn join(values: &[u64], parts: &[Part]) -> u64
+pub fn join(values: &[u64], parts: &[Part]) -> u64
     requires { ArePartsReady values.now 0 parts.now }
     ensures { result ≡ joined_from values.now 0 parts.now }
 {
@@ -83,17 +83,6 @@ pub fn evaluate(values: &[u64], cells: &[u64], parts: &[Part], step: Step) -> u6
         Step::Concat(from, to) => join(values, &parts[from..to]),
         Step::Slice(a, hi, lo) => slice(read(values, a), hi, lo),
         Step::Cell(base, index) => cells[base + read(values, index) as usize],
-    }
-}
-
-/// All steps in order, each to the place after the one before.
-pub fn settle(values: &mut [u64], cells: &[u64], parts: &[Part], base: usize, steps: &[Step])
-    requires room { base + length steps.now ≤ length values.old }
-    requires ready { AreReady cells.now parts.now base steps.now values.old }
-    ensures { values.new ≡ settled cells.now parts.now base steps.now values.old }
-{
-    for (i, step) in steps.iter().enumerate() {
-        values[base + i] = evaluate(values, cells, parts, *step);
     }
 }
 

@@ -1,7 +1,9 @@
-use Rattle.std.proofs.Common.{◌≡◌, ◌+◌, ◌<◌, ◌≤◌, List, [], ◌∷◌, ◌++◌, length, get_or, sym, ap, ◌∙◌, subst}
+use Rattle.std.proofs.Common.{◌≡◌, ◌+◌, ◌<◌, ◌≤◌, List, [], ◌∷◌, ◌++◌, length, get_or, map, sym, ap, ◌∙◌, subst}
+use Rattle.std.proofs.lemmas.List.{map-append}
 use Rattle.sap_net.specs.declared.parts.Wire.{Wire}
 use Rattle.sap_cycle.specs.declared.steps.Part.{Part}
 use Rattle.sap_cycle.specs.declared.steps.Step.{Step}
+use Rattle.sap_cycle.specs.Instructions.{step_of_instruction}
 use Rattle.sap_cycle.specs.Known.{step_found, parts_found}
 use Rattle.sap_cycle.proofs.Compiling.{Compiling, compiling_none, compiling_known, compiling_more, compiled_mean, compiled_knows}
 use Rattle.sap_cycle.proofs.load.compile.Goals as goal
@@ -18,7 +20,7 @@ step_of-requires c =
     let w = c.wire-item.result in
     let lt : i < length n.wires = subst (λ (l : List Wire). i < length l) c.wires-wires.ensures c.loop-wire-test.true in
     let is : w ≡ get_or n.wires i w = subst (λ (l : List Wire). w ≡ get_or l i w) c.wires-wires.ensures c.wire-item.is in
-    compiling_known n i c.loop-wire.known c.loop-wire.steps.items c.loop-wire.parts.items c.loop-wire.invariant w lt is
+    compiling_known n i c.loop-wire.known (map step_of_instruction c.loop-wire.steps.items) c.loop-wire.parts.items c.loop-wire.invariant w lt is
 
 pub loop-wire-preserved : goal.loop-wire-preserved
 loop-wire-preserved c =
@@ -26,12 +28,14 @@ loop-wire-preserved c =
     let i = c.loop-wire.wire-index in
     let w = c.wire-item.result in
     let k = c.loop-wire.known in
-    let ss = c.loop-wire.steps.items in
+    let ss = map step_of_instruction c.loop-wire.steps.items in
     let ps = c.loop-wire.parts.items in
     let lt : i < length n.wires = subst (λ (l : List Wire). i < length l) c.wires-wires.ensures c.loop-wire-test.true in
     let is : w ≡ get_or n.wires i w = subst (λ (l : List Wire). w ≡ get_or l i w) c.wires-wires.ensures c.wire-item.is in
-    let es : c.push.new.self.items ≡ ss ++ step_found k (length ps) w.right ∷ [] =
-    c.in_ok-push.ensures.items ∙ ap (λ (s : Step). ss ++ s ∷ []) c.in_ok-step.ensures.step in
+    let es : map step_of_instruction c.push.new.self.items ≡ ss ++ step_found k (length ps) w.right ∷ [] =
+    ap (map step_of_instruction) c.in_ok-push.ensures.items
+    ∙ map-append step_of_instruction c.loop-wire.steps.items (c.instruction_of.result ∷ [])
+    ∙ ap (λ (s : Step). ss ++ s ∷ []) (c.instruction_of.ensures ∙ c.in_ok-step.ensures.step) in
     let ep : c.step_of.new.parts.items ≡ ps ++ parts_found k w.right = c.in_ok-step.ensures.parts in
     subst (λ (l : List Step). Compiling n (i + 1) c.learn.new.known l c.step_of.new.parts.items) (sym es)
     (subst (λ (l : List Part). Compiling n (i + 1) c.learn.new.known (ss ++ step_found k (length ps) w.right ∷ []) l) (sym ep)
@@ -41,10 +45,10 @@ pub returns-clause-mean : goal.returns-clause-mean
 returns-clause-mean c =
     let n = c.args.netlist.now in
     let le : length n.wires ≤ c.loop-wire.wire-index = subst (λ (l : List Wire). length l ≤ c.loop-wire.wire-index) c.wires-wires.ensures c.loop-wire-test.false in
-    compiled_mean n c.loop-wire.wire-index c.loop-wire.known c.loop-wire.steps.items c.loop-wire.parts.items c.loop-wire.invariant le
+    compiled_mean n c.loop-wire.wire-index c.loop-wire.known (map step_of_instruction c.loop-wire.steps.items) c.loop-wire.parts.items c.loop-wire.invariant le
 
 pub returns-clause-knows : goal.returns-clause-knows
 returns-clause-knows c =
     let n = c.args.netlist.now in
     let le : length n.wires ≤ c.loop-wire.wire-index = subst (λ (l : List Wire). length l ≤ c.loop-wire.wire-index) c.wires-wires.ensures c.loop-wire-test.false in
-    compiled_knows n c.loop-wire.wire-index c.loop-wire.known c.loop-wire.steps.items c.loop-wire.parts.items c.loop-wire.invariant le
+    compiled_knows n c.loop-wire.wire-index c.loop-wire.known (map step_of_instruction c.loop-wire.steps.items) c.loop-wire.parts.items c.loop-wire.invariant le
