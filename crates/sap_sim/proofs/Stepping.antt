@@ -82,19 +82,21 @@ pub tags_count : (ls : Levels) (s : Stepped Plan) → IsPlanned ls s → length 
 tags_count ls s planned =
     places_count s.runner.net (map tag_name s.plan.shown.names.items) s.plan.shown.tags.items planned.plan.tags ∙ length-map s.plan.shown.names.items tag_name
 
+-- the plan is that of the netlist however far it runs
+pub planned_still : (ls : Levels) (s : Stepped Plan) (r : Running) → r.net ≡ s.runner.net → IsPlanned ls s
+    → IsPlanned ls (record { runner = r; plan = s.plan; fields = s.fields; room = s.room })
+planned_still ls s r same planned = record {
+  plan = subst (λ (q : Net). IsPlan ls q s.plan) (sym same) planned.plan;
+  fields = planned.fields ∙ ap (fields_of ls) (sym same);
+  sized = planned.sized;
+  room = planned.room;
+}
+
 -- a step on a line more
 module _ (ls : Levels) (n : Net) (s : Stepped Plan) (lines : List (List Given)) (line : List Given) (r : Running) (at : IsAfter ls n lines s) (same : r.net ≡ s.runner.net)
     (next : ShowsNext s.runner (numbers_of ls s.runner.net line) r) where
-  planned_still : IsPlanned ls (record { runner = r; plan = s.plan; fields = s.fields; room = s.room })
-  planned_still = record {
-    plan = subst (λ (q : Net). IsPlan ls q s.plan) (sym same) at.planned.plan;
-    fields = at.planned.fields ∙ ap (fields_of ls) (sym same);
-    sized = at.planned.sized;
-    room = at.planned.room;
-  }
-
   pub after_more : IsAfter ls n (lines ++ line ∷ []) (record { runner = r; plan = s.plan; fields = s.fields; room = s.room })
-  after_more = after_line (numbers_of ls) (IsPlanned ls) n s lines line r at same next planned_still
+  after_more = after_line (numbers_of ls) (IsPlanned ls) n s lines line r at same next (planned_still ls s r same at.planned)
 
   pub row_more : (cycle : ℕ) (old now values tags : List ℕ)
       → ((c : Option Valuation) → Shows r c → values ≡ seen_at r.net (seen r.net c) s.plan.shown.values.items)

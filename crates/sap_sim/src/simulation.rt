@@ -3,8 +3,10 @@
 ghost use Rattle.std.specs.Prelude.{◌≡◌, ◌≤◌, ◌+◌, ◌∷◌, ◌++◌, [], ℕ, List, IfOk, length};
 ghost use Rattle.sap_meaning.specs.Cycle.{Tagged as Given};
 ghost use Rattle.sap_net.specs.Net.{Net};
+ghost use Rattle.sap_cycle.specs.Running.{ShowsNext};
 ghost use Rattle.sap_stim.specs.Fits.{LineFits};
 ghost use Rattle.sap_stim.specs.Rows.{HoldsRows, row_text, shown_of};
+ghost use Rattle.sap_sim.specs.Numbers.{numbers_of};
 ghost use Rattle.sap_sim.specs.Stepping.{HasRowMore, IsAfter, IsPlanned, RowsAddUp};
 
 use crate::feed::feed_of;
@@ -17,7 +19,7 @@ use sap_lattice::name::Name;
 use sap_net::laws::one_run;
 use sap_net::netlist::Netlist;
 use sap_stim::{Fields, row_into, row_room, stimulus_fits};
-use sap_stream::Inputs;
+use sap_stream::{Inputs, Tagged};
 use std::alloc::{AllocError, Global};
 use std::marker::Model;
 
@@ -140,6 +142,28 @@ impl Simulation {
         ensures { result.now ≡ self.now.runner.net }
     {
         self.runner.netlist()
+    }
+
+    /// The netlist as it runs.
+    pub fn runner(&self) -> &Runner
+        ensures { result.now ≡ self.now.runner }
+    {
+        &self.runner
+    }
+
+    /// Steps on a line. It takes no memory.
+    pub fn step(&mut self, lattice: &Lattice, line: &[Tagged])
+        requires planned { IsPlanned lattice.now self.old }
+        requires line { LineFits lattice.now self.old.fields line.now }
+        ensures next { ShowsNext self.old.runner (numbers_of lattice.now self.old.runner.net line.now) self.new.runner }
+        ensures netlist { self.new.runner.net ≡ self.old.runner.net }
+        ensures planned { IsPlanned lattice.now self.new }
+        ensures fields { self.new.fields ≡ self.old.fields }
+    {
+        self.runner.netlist().rules();
+        lattice.lawful();
+        take_numbers(lattice, &self.plan.sources, line, &mut self.numbers);
+        self.runner.step(&self.numbers);
     }
 
     /// Steps on a line and appends the row of the cycle, for which there is room. It takes no memory.
