@@ -43,7 +43,7 @@ pub ruleset named = (text-none, each-none, text-some)
 
 -- what the table says is what hangs
 pub says_so : (d : DesignTree) (table : Table) (p x : ℕ) (b : Bool) → IsHangTable d table → b ≡ says table p x → b ≡ hangs d p x
-says_so d table p x b h e = e ∙ h p x
+says_so d table p x b h e = e ∙ h.points p x
 
 pub name_hung : (d : DesignTree) (p x : ℕ) (b : Bool) (out mid new : List ℕ) → b ≡ hangs d p x → b ≡ true → mid ≡ out ++ codes " " → new ≡ mid ++ entity_name (entities_of d) x
     → new ≡ out ++ each_name (where_hung d p x)
