@@ -205,3 +205,15 @@ pub fn keeps_start(
         None => Ok(false),
     }
 }
+
+/// How many registers of a netlist keep their start, as far as its wires tell.
+pub fn count_kept(alloc: Global, netlist: &Netlist) -> Result<usize, AllocError> {
+    let stays = stays(alloc, netlist)?;
+    let mut count = 0;
+    for register in netlist.registers() {
+        if keeps_start(alloc, &stays, register)? {
+            count += 1;
+        }
+    }
+    Ok(count)
+}

@@ -22,6 +22,7 @@ use crate::build::build;
 use crate::left::wires_left;
 use crate::names;
 use crate::needed::needed;
+use crate::stays::count_kept;
 use crate::walk::Walk;
 use sap_fold::wires::Wires;
 use sap_net::netlist::Netlist;
@@ -108,6 +109,9 @@ fn left_of(alloc: Global, netlist: &Netlist) -> Result<usize, AllocError>
     let needs = needs_of(alloc, netlist)?;
     Ok(wires_left(netlist, &needs.shown, &needs.kept))
 }
+
+// How often a netlist is folded by what its wires say, at most.
+const ROUNDS: usize = 8;
 
 // A netlist with right sides folded and shared, and what it needs.
 #[derive(Drop)]
@@ -202,8 +206,8 @@ fn number(alloc: Global, netlist: Netlist, needs: Needs) -> Result<Netlist, Allo
 }
 
 /// A small netlist of which the same is seen: right sides are folded and shared, and wires that nothing reads are dropped. Folding by what the wires say that
-/// a right side reads may need wires that the given netlist has not, so each right side is folded by itself alone where that leaves fewer. At no time are
-/// there more than two netlists, or one and what is made of it.
+/// a right side reads may need wires that the netlist before has not, so a round of it counts only where it leaves no more; and it goes on while more registers
+/// turn out to keep their start. At no time are there more than two netlists, or one and what is made of it.
 pub fn trim(alloc: Global, netlist: Netlist) -> Result<Netlist, AllocError>
     ensures declares { IfOk result (λ n. DeclaresAlike netlist n) }
     ensures same { IfOk result (λ n. RunsAlike netlist n) }
@@ -214,18 +218,27 @@ pub fn trim(alloc: Global, netlist: Netlist) -> Result<Netlist, AllocError>
     ensures read { IfOk result (λ n. ReadsWires n) }
     ensures few { IfOk result (λ n. HasFewWires netlist n) }
 {
-    let shared = share(alloc, netlist)?;
-    shared.rules();
-    let left = left_of(alloc, &shared)?;
-    let folded = folded_of(alloc, &shared)?;
-    let Folded { netlist, needs } = folded;
-    netlist.rules();
-    if left < wires_left(&netlist, &needs.shown, &needs.kept) {
-        drop(needs);
-        drop(netlist);
-        let needs = needs_of(alloc, &shared)?;
-        return number(alloc, shared, needs);
+    let mut small = share(alloc, netlist)?;
+    let mut left = left_of(alloc, &small)?;
+    let mut kept = count_kept(alloc, &small)?;
+    for _ in 0..ROUNDS {
+        small.rules();
+        let round = folded_of(alloc, &small)?;
+        let now = wires_left(&round.netlist, &round.needs.shown, &round.needs.kept);
+        if left < now {
+            break;
+        }
+        let Folded { netlist, needs } = round;
+        small = netlist;
+        left = now;
+        let before = kept;
+        kept = count_kept(alloc, &small)?;
+        if kept <= before {
+            small.rules();
+            return number(alloc, small, needs);
+        }
     }
-    drop(shared);
-    number(alloc, netlist, needs)
+    small.rules();
+    let needs = needs_of(alloc, &small)?;
+    number(alloc, small, needs)
 }
