@@ -13,9 +13,13 @@ use Rattle.std.proofs.lemmas.Grind.{common_steps}
 use Rattle.sap_meaning.specs.Cycle.{Tagged, cycle}
 use Rattle.sap_machine.specs.Machine.{machine, machine_world, block, boot_body}
 use Rattle.sap_machine.specs.Machine as M
+use Rattle.sap_machine.specs.declared.user.User.{User}
+use Rattle.sap_machine.specs.declared.user.User.TheVariants.{A, B}
+use Rattle.sap_machine.proofs.Users.{level_of, input_of, words_of}
 use Rattle.sap_machine.proofs.Entities.{apart}
-use Rattle.sap_machine.proofs.Commands.{Quiet, enforced, raise_quiet, take_then, take_else, accept, finished}
-use Rattle.sap_machine.proofs.View.{Frame, turn_of, Numbers, store_of, put, assigned, stored, nothing_raised}
+use Rattle.sap_meaning.proofs.Commands.{Quiet, raise_quiet, take_then, take_else, accept}
+use Rattle.sap_machine.proofs.Commands.{enforced, nothing_raised, finished}
+use Rattle.sap_machine.proofs.View.{Frame, held_by, Numbers, store_of, put, assigned, stored}
 use Rattle.sap_machine.proofs.Moves.{to_boot, to_kernel}
 use Rattle.sap_machine.proofs.Cycles.{at_boot, in_boot, ended, fed, settled, settles, cycle_in_boot}
 
@@ -45,15 +49,22 @@ abbrev enter : ℕ → ℕ → Store → After
 enter = does_child machine_world no_node 16
 
 abbrev pub boot_frame : (current x y : ℕ) → Frame
-boot_frame c x y = record (turn_of 0 x y) { current = c }
+boot_frame c x y = record (held_by 0 x y) { current = c }
+
+-- whether a word at level t is taken, and what it leaves of the numbers
+abbrev pub takes : User → (t : ℕ) → Bool
+takes u t = machine_world.order.le t (level_of u)
+
+abbrev pub word_put : (holds : Bool) → User → Numbers → Numbers
+word_put holds u v = if holds then put (next (words_of u) (v (own 7))) (v (own (input_of u))) v else v
 
 -- the words of the inputs, at the levels x and y
-abbrev pub word_put : (holds : Bool) (m input : ℕ) → Numbers → Numbers
-word_put holds m x v = if holds then put (next m (v (own 7))) (v (own x)) v else v
+abbrev pub both_put : (x y : ℕ) → Numbers → Numbers
+both_put x y v = word_put (takes B y) B (word_put (takes A x) A v)
 
 abbrev pub booted : (x y : ℕ) → Numbers → Numbers
 booted x y v =
-    let w : Numbers = word_put (machine_world.order.le y 2) 13 1 (word_put (machine_world.order.le x 1) 12 0 v) in
+    let w : Numbers = both_put x y v in
     put (own 7) ((w (own 7) + 1) % 16) w
 
 fork_quiet : Quiet (touches machine_world at_boot (M.if_or (M.is 4 (read M.n) 0) (M.goto 4 M.kernel ∷ []) (M.goto 5 M.boot ∷ [])))
@@ -71,12 +82,14 @@ fork = block (M.if_or (M.is 4 (read M.n) 0) (M.goto 4 M.kernel ∷ []) (M.goto 5
 forks : (last : Bool) (x y : ℕ) (v : Numbers) → eqb (v (own 7)) 0 ≡ last → does_block machine_world at_boot enter fork 0 (store_of (boot_frame 0 x y) v) ≡ stay (store_of (boot_frame (if last then 1 else 0) x y) v)
 unfolding effect
 forks true x y v is =
-    take_then at_boot enter (M.is 4 (read M.n) 0) (block (M.goto 4 M.kernel ∷ [])) (block (M.goto 5 M.boot ∷ [])) end_block M.none 0 (store_of (boot_frame 0 x y) v) (store_of (boot_frame 1 x y) v) fork_quiet refl (ap (λ b. let m : ℕ = if b then 1 else 0 in m) is)
-    (accept at_boot enter (go_to 4 17) end_block 0 (store_of (boot_frame 0 x y) v) (store_of (boot_frame 1 x y) v) kernel_quiet refl (ap stay (to_kernel (boot_frame 0 x y) v)) ∙ finished at_boot enter 0 (store_of (boot_frame 1 x y) v))
+    take_then machine_world at_boot enter end_block 0 (store_of (boot_frame 0 x y) v) (M.is 4 (read M.n) 0) M.none (block (M.goto 4 M.kernel ∷ [])) (block (M.goto 5 M.boot ∷ [])) fork_quiet refl (store_of (boot_frame 1 x y) v)
+    (ap (λ b. let m : ℕ = if b then 1 else 0 in m) is)
+    (accept machine_world at_boot enter end_block 0 (store_of (boot_frame 0 x y) v) (go_to 4 17) (store_of (boot_frame 1 x y) v) kernel_quiet refl (ap stay (to_kernel (boot_frame 0 x y) v)) ∙ finished at_boot enter 0 (store_of (boot_frame 1 x y) v))
     ∙ finished at_boot enter 0 (store_of (boot_frame 1 x y) v)
 forks false x y v is =
-    take_else at_boot enter (M.is 4 (read M.n) 0) (block (M.goto 4 M.kernel ∷ [])) (block (M.goto 5 M.boot ∷ [])) end_block M.none 0 (store_of (boot_frame 0 x y) v) (store_of (boot_frame 0 x y) v) fork_quiet refl (ap (λ b. let m : ℕ = if b then 1 else 0 in m) is)
-    (accept at_boot enter (go_to 5 16) end_block 0 (store_of (boot_frame 0 x y) v) (store_of (boot_frame 0 x y) v) boot_quiet refl (ap stay (to_boot (boot_frame 0 x y) v)) ∙ finished at_boot enter 0 (store_of (boot_frame 0 x y) v))
+    take_else machine_world at_boot enter end_block 0 (store_of (boot_frame 0 x y) v) (M.is 4 (read M.n) 0) M.none (block (M.goto 4 M.kernel ∷ [])) (block (M.goto 5 M.boot ∷ [])) fork_quiet refl (store_of (boot_frame 0 x y) v)
+    (ap (λ b. let m : ℕ = if b then 1 else 0 in m) is)
+    (accept machine_world at_boot enter end_block 0 (store_of (boot_frame 0 x y) v) (go_to 5 16) (store_of (boot_frame 0 x y) v) boot_quiet refl (ap stay (to_boot (boot_frame 0 x y) v)) ∙ finished at_boot enter 0 (store_of (boot_frame 0 x y) v))
     ∙ finished at_boot enter 0 (store_of (boot_frame 0 x y) v)
 
 abbrev pub refused_at : (site level tag : ℕ) → List Refusal
@@ -103,8 +116,8 @@ tested_b x (suc (suc (suc (suc y)))) v = rw (no_level y) refl
 boots : (last : Bool) (x y : ℕ) (v : Numbers) → eqb (booted x y v (own 7)) 0 ≡ last
     → in_boot (boot_frame 0 x y) v ≡ behind (refused_at 1 1 x) (behind (refused_at 2 2 y) (stay (store_of (boot_frame (if last then 1 else 0) x y) (booted x y v))))
 boots last x y v is =
-    let v1 : Numbers = word_put (machine_world.order.le x 1) 12 0 v in
-    let v2 : Numbers = word_put (machine_world.order.le y 2) 13 1 v1 in
+    let v1 : Numbers = word_put (takes A x) A v in
+    let v2 : Numbers = both_put x y v in
     stored_or_not (machine_world.order.le x 1) at_boot enter 1 M.pa (read M.n) (read M.wa) (block (M.store 2 M.pb (read M.n) (read M.wb) ∷ M.set 3 M.n (two Add (read M.n) (constant 4 1)) ∷ M.if_or (M.is 4 (read M.n) 0) (M.goto 4 M.kernel ∷ []) (M.goto 5 M.boot ∷ []) ∷ [])) 0 (boot_frame 0 x y) v refl (tested_a x y v)
     ∙ ap (behind (refused_at 1 1 x)) (
     stored_or_not (machine_world.order.le y 2) at_boot enter 2 M.pb (read M.n) (read M.wb) (block (M.set 3 M.n (two Add (read M.n) (constant 4 1)) ∷ M.if_or (M.is 4 (read M.n) 0) (M.goto 4 M.kernel ∷ []) (M.goto 5 M.boot ∷ []) ∷ [])) 0 (boot_frame 0 x y) v1 refl (tested_b x y v1)

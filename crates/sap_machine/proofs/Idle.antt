@@ -7,10 +7,11 @@ use Rattle.sap_meaning.specs.Store.{Store, own, After, stay}
 use Rattle.sap_meaning.specs.Does.{does_child, effect}
 use Rattle.sap_meaning.specs.Touches.{hangs, raised_alone}
 use Rattle.sap_meaning.specs.Cycle.{Tagged, cycle}
+use Rattle.sap_meaning.proofs.Commands.{Quiet, take_then, accept}
 use Rattle.sap_machine.specs.Machine.{machine, machine_world, block}
 use Rattle.sap_machine.specs.Machine as M
 use Rattle.sap_machine.proofs.Entities.{apart}
-use Rattle.sap_machine.proofs.Commands.{Quiet, enforced, take_then, accept, finished}
+use Rattle.sap_machine.proofs.Commands.{enforced, finished}
 use Rattle.sap_machine.proofs.View.{Frame, Numbers, store_of}
 use Rattle.sap_machine.proofs.Moves.{to_kernel}
 use Rattle.sap_machine.proofs.Cycles.{users, at_run, in_run, ended, fed, tagged, settled, settles, cycle_in_run}
@@ -18,23 +19,20 @@ use Rattle.sap_machine.proofs.Cycles.{users, at_run, in_run, ended, fed, tagged,
 abbrev run_enter : ℕ → ℕ → Store → After
 run_enter = does_child machine_world users 18
 
-still : Quiet (raised_alone machine_world at_run (go_to 28 17))
-still = enforced (hangs 18 users (M.goto 28 M.kernel)) refl refl (λ x. simp apart refl)
-
-moved : (f : Frame) (v : Numbers) → effect machine_world at_run run_enter (go_to 28 17) 0 (store_of f v) (store_of f v) ≡ stay (store_of (record f { current = 1 }) v)
-unfolding effect
-moved f v = ap stay (to_kernel f v)
+go_quiet : Quiet (raised_alone machine_world at_run (go_to 28 17))
+go_quiet = enforced (hangs 18 users (M.goto 28 M.kernel)) refl refl (λ x. simp apart refl)
 
 idles : (f : Frame) (v : Numbers) → eqb (v (own 5)) 0 ≡ true → in_run f v ≡ stay (store_of (record f { current = 1 }) v)
+unfolding effect
 idles f v count =
-    take_then at_run run_enter (M.is 3 (read M.cnt) 0) (block (M.goto 28 M.kernel ∷ [])) (block (M.set 29 M.cnt (two Sub (read M.cnt) (constant 3 1)) ∷ M.fall 30 ∷ [])) end_block M.none 0 (store_of f v) (store_of (record f { current = 1 }) v)
+    take_then machine_world at_run run_enter end_block 0 (store_of f v) (M.is 3 (read M.cnt) 0) M.none (block (M.goto 28 M.kernel ∷ [])) (block (M.set 29 M.cnt (two Sub (read M.cnt) (constant 3 1)) ∷ M.fall 30 ∷ []))
     (enforced (hangs 18 users (M.if_or (M.is 3 (read M.cnt) 0) (M.goto 28 M.kernel ∷ []) (M.set 29 M.cnt (two Sub (read M.cnt) (constant 3 1)) ∷ M.fall 30 ∷ []))) refl refl (λ x. simp apart refl))
-    refl (ap (λ b. let m : ℕ = if b then 1 else 0 in m) count)
-    (accept at_run run_enter (go_to 28 17) end_block 0 (store_of f v) (store_of (record f { current = 1 }) v) still refl (moved f v) ∙ finished at_run run_enter 0 (store_of (record f { current = 1 }) v))
+    refl (store_of (record f { current = 1 }) v) (ap (λ b. let m : ℕ = if b then 1 else 0 in m) count)
+    (accept machine_world at_run run_enter end_block 0 (store_of f v) (go_to 28 17) (store_of (record f { current = 1 }) v) go_quiet refl (ap stay (to_kernel f v)) ∙ finished at_run run_enter 0 (store_of (record f { current = 1 }) v))
     ∙ finished at_run run_enter 0 (store_of (record f { current = 1 }) v)
 
-pub idle_cycle : (f : Frame) (t u : Tagged) (v : Numbers) → eqb (v (own 5)) 0 ≡ true
-    → cycle machine (t ∷ u ∷ []) (store_of (record f { current = 2 }) v) ≡ stay (store_of (record (tagged t u f) { current = 1 }) (settled (fed t u v)))
-idle_cycle f t u v count =
-    cycle_in_run f v t u ∙ ap ended (idles (tagged t u (record f { current = 2 })) (fed t u v) count)
-    ∙ ap stay (settles (record (tagged t u f) { current = 1 }) (fed t u v))
+pub idle_cycle : (f : Frame) (s t : Tagged) (v : Numbers) → eqb (v (own 5)) 0 ≡ true
+    → cycle machine (s ∷ t ∷ []) (store_of (record f { current = 2 }) v) ≡ stay (store_of (record (tagged s t f) { current = 1 }) (settled (fed s t v)))
+idle_cycle f s t v count =
+    cycle_in_run f v s t ∙ ap ended (idles (tagged s t (record f { current = 2 })) (fed s t v) count)
+    ∙ ap stay (settles (record (tagged s t f) { current = 1 }) (fed s t v))

@@ -10,7 +10,8 @@ use Rattle.sap_meaning.specs.Touches.{touches}
 use Rattle.sap_meaning.specs.Does.{effect, does_block}
 use Rattle.sap_meaning.specs.State.{first_level}
 use Rattle.sap_machine.specs.Machine.{machine_world}
-use Rattle.sap_machine.proofs.Commands.{same_store, Quiet, accept, take_then, take_else}
+use Rattle.sap_meaning.proofs.Commands.{same_store, Quiet, accept, take_then, take_else}
+use Rattle.sap_machine.proofs.Commands.{nothing_raised}
 
 -- the levels of the inputs, of pc, acc, ir and User; and the place of the current child of the root
 pub record Frame : Type 0 where
@@ -29,9 +30,9 @@ levels f (next m i) = first_level machine_world (next m i)
 levels f (start_whole m) = first_level machine_world (start_whole m)
 levels f (next_whole m) = first_level machine_world (next_whole m)
 
--- in the turn of the user of this level
-abbrev pub turn_of : (holder first second : ℕ) → Frame
-turn_of l x y = record { first = x; second = y; pc = l; acc = l; ir = l; user = l; current = 2 }
+-- while the pipeline is at the level of its holder
+abbrev pub held_by : (holder first second : ℕ) → Frame
+held_by l x y = record { first = x; second = y; pc = l; acc = l; ir = l; user = l; current = 2 }
 
 abbrev pub places : Frame → ℕ → ℕ
 places f p = get_or (0 ∷ 0 ∷ 0 ∷ 0 ∷ 0 ∷ 0 ∷ 0 ∷ 0 ∷ 0 ∷ 0 ∷ 0 ∷ 0 ∷ 0 ∷ 0 ∷ 0 ∷ 0 ∷ 0 ∷ 0 ∷ 0 ∷ 0 ∷ f.current ∷ []) p 0
@@ -65,9 +66,6 @@ level_kept k t s e = same_store (put_level machine_world (own k) t s) s (λ z. r
     each (start_whole m) = refl
     each (next_whole m) = refl
 
-pub nothing_raised : Quiet (λ x. false)
-nothing_raised x = refl
-
 -- x := e, where its test holds
 pub assigned : (at : Home) (enter : ℕ → ℕ → Store → After) (site x : ℕ) (e : Term ℕ) (cs : Block) (pc : ℕ) (f : Frame) (v : Numbers)
     → is_dynamic machine_world x ≡ false → test machine_world at (assign site x e) pc (store_of f v) ≡ true
@@ -75,7 +73,7 @@ pub assigned : (at : Home) (enter : ℕ → ℕ → Store → After) (site x : �
     ≡ does_block machine_world at enter cs pc (store_of f (put (own x) (value machine_world e (store_of f v)) v))
 unfolding effect put_number
 assigned at enter site x e cs pc f v enforced holds =
-    accept at enter (assign site x e) cs pc (store_of f v) (store_of f (put (own x) (value machine_world e (store_of f v)) v)) nothing_raised holds
+    accept machine_world at enter cs pc (store_of f v) (assign site x e) (store_of f (put (own x) (value machine_world e (store_of f v)) v)) nothing_raised holds
     (rw enforced (ap stay (level_kept x (levels f (own x)) (store_of f (put (own x) (value machine_world e (store_of f v)) v)) refl)))
 
 -- m[i] := e, where its test holds
@@ -85,7 +83,7 @@ pub stored : (at : Home) (enter : ℕ → ℕ → Store → After) (site m : ℕ
     ≡ does_block machine_world at enter cs pc (store_of f (put (next m (value machine_world i (store_of f v))) (value machine_world e (store_of f v)) v))
 unfolding effect put_number
 stored at enter site m i e cs pc f v enforced holds =
-    accept at enter (write site m i e) cs pc (store_of f v) (store_of f (put (next m (value machine_world i (store_of f v))) (value machine_world e (store_of f v)) v)) nothing_raised holds
+    accept machine_world at enter cs pc (store_of f v) (write site m i e) (store_of f (put (next m (value machine_world i (store_of f v))) (value machine_world e (store_of f v)) v)) nothing_raised holds
     (rw enforced refl)
 
 -- if (e) { a } else { b }
@@ -95,5 +93,5 @@ pub chosen : (at : Home) (enter : ℕ → ℕ → Store → After) (e : Term ℕ
     → does_block machine_world at enter a pc (store_of f v) ≡ stay (store_of f yes_v)
     → does_block machine_world at enter b pc (store_of f v) ≡ stay (store_of f no_v)
     → does_block machine_world at enter (command_then (if_else hang e a b) cs) pc (store_of f v) ≡ does_block machine_world at enter cs pc (store_of f (if holds then yes_v else no_v))
-chosen at enter e a b cs hang pc f v yes_v no_v true quiet context is then_is else_is = take_then at enter e a b cs hang pc (store_of f v) (store_of f yes_v) quiet context is then_is
-chosen at enter e a b cs hang pc f v yes_v no_v false quiet context is then_is else_is = take_else at enter e a b cs hang pc (store_of f v) (store_of f no_v) quiet context is else_is
+chosen at enter e a b cs hang pc f v yes_v no_v true quiet context is then_is else_is = take_then machine_world at enter cs pc (store_of f v) e hang a b quiet context (store_of f yes_v) is then_is
+chosen at enter e a b cs hang pc f v yes_v no_v false quiet context is then_is else_is = take_else machine_world at enter cs pc (store_of f v) e hang a b quiet context (store_of f no_v) is else_is

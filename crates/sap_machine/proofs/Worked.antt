@@ -1,48 +1,50 @@
 -- The worked examples, by computation.
 use Rattle.std.proofs.Common.{refl}
-use Rattle.sap_machine.specs.Examples.{Assembles, AfterTwo, NumberTooLarge, NoForm, NoEnd, TooMany, RunOfTwo, AsmOfTwo, FaultText}
+use Rattle.std.specs.Fmt.{digits}
+use Rattle.sap_text.specs.Lines.{lines_of}
 use Rattle.sap_meaning.specs.Store.{put_number, put_level, put_child, raise, reset, settle}
 use Rattle.sap_meaning.specs.Does.{effect, attempt, select, does, does_block, does_state, does_child}
 use Rattle.sap_meaning.specs.Cycle.{cycle, set_inputs, root_fall}
 use Rattle.sap_meaning.specs.State.{first}
+use Rattle.sap_machine.specs.Machine.{machine}
 use Rattle.sap_machine.specs.Assembly.{assembled}
 use Rattle.sap_machine.specs.Slices.{after_slices}
 use Rattle.sap_machine.specs.Table.{step}
-use Rattle.std.specs.Fmt.{digits}
-use Rattle.sap_machine.specs.Text.{cpu_text, asm_text}
+use Rattle.sap_machine.specs.Text.{users_text, stimulus_text}
+use Rattle.sap_machine.specs.Examples.{AsmOfTwo, Assembles, CpuOfTwo, NoEnd, NoForm, Numbers, Refusals, RunOfTwo, TooMany}
 
 pub assembles : Assembles
-unfolding assembled
-assembles = (refl, refl)
+unfolding assembled lines_of
+assembles = (refl, refl, refl)
 
-pub after_two : AfterTwo
-unfolding cpu_text after_slices step digits
-after_two = refl
-
-pub number_too_large : NumberTooLarge
-unfolding assembled
-number_too_large = (refl, refl)
+pub numbers : Numbers
+unfolding assembled lines_of
+numbers = (refl, refl, refl)
 
 pub no_form : NoForm
-unfolding assembled
-no_form = (refl, refl, refl, refl)
+unfolding assembled lines_of
+no_form = (refl, refl, refl, refl, refl, refl, refl, refl, refl)
 
 pub no_end : NoEnd
-unfolding assembled
-no_end = refl
+unfolding assembled lines_of
+no_end = (refl, refl)
 
 pub too_many : TooMany
-unfolding assembled
-too_many = (refl, refl)
-
-pub run_of_two : RunOfTwo
-unfolding cycle set_inputs root_fall first put_number put_level put_child raise reset settle effect attempt select does does_block does_state does_child
-run_of_two = refl
+unfolding assembled lines_of
+too_many = (refl, refl, refl)
 
 pub asm_of_two : AsmOfTwo
-unfolding asm_text digits
+unfolding stimulus_text assembled lines_of digits
 asm_of_two = refl
 
-pub fault_text : FaultText
-unfolding digits
-fault_text = refl
+pub cpu_of_two : CpuOfTwo
+unfolding users_text assembled lines_of after_slices step digits
+cpu_of_two = refl
+
+pub refusals : Refusals
+unfolding assembled lines_of digits
+refusals = (refl, refl)
+
+pub run_of_two : RunOfTwo machine
+unfolding cycle set_inputs root_fall first put_number put_level put_child raise reset settle effect attempt select does does_block does_state does_child
+run_of_two = refl

@@ -1,9 +1,13 @@
--- The texts of `asm` and `cpu`.
-use Rattle.std.specs.Prelude.{ℕ, ◌+◌, ◌*◌, List, [], ◌∷◌, ◌++◌, codes, get_or}
+-- The texts that two users' programs give: a stimulus for the machine, and what the table makes of them.
+use Rattle.std.specs.Prelude.{ℕ, ◌+◌, ◌*◌, List, [], ◌∷◌, ◌++◌, Result, Ok, Err, codes, get_or}
 use Rattle.std.specs.Fmt.{decimal}
 use Rattle.sap_text.specs.Places.{line}
-use Rattle.sap_machine.specs.Assembly.{Code, b1, b2, b3, b4}
-use Rattle.sap_machine.specs.Table.{User}
+use Rattle.sap_machine.specs.declared.fault.AsmCode.{AsmCode}
+use Rattle.sap_machine.specs.declared.fault.AsmCode.TheVariants.{B1, B2, B3, B4}
+use Rattle.sap_machine.specs.declared.user.User.{User}
+use Rattle.sap_machine.specs.declared.user.User.TheVariants.{A, B}
+use Rattle.sap_machine.specs.Assembly.{AsmRule, Assembled, assembled}
+use Rattle.sap_machine.specs.Table.{UserState}
 use Rattle.sap_machine.specs.Slices.{after_slices}
 
 -- WORD@a WORD@b, for each place of two lists of words
@@ -13,25 +17,43 @@ word_lines (x ∷ a) [] = []
 word_lines (x ∷ a) (y ∷ b) = line (decimal x ++ codes "@a " ++ decimal y ++ codes "@b") ++ word_lines a b
 
 -- the stimulus of n slices: a line for each word, and one repeated for the cycles behind them
-unfoldable pub asm_text : (a b : List ℕ) → (n : ℕ) → List ℕ
-asm_text a b n = word_lines a b ++ line (codes "0@low 0@low *" ++ decimal (1 + 6 * n))
+unfoldable pub stimulus_text : (a b : List ℕ) → (n : ℕ) → List ℕ
+stimulus_text a b n = word_lines a b ++ line (codes "0@low 0@low *" ++ decimal (1 + 6 * n))
 
 -- NAME pc=PC acc=ACC
-abbrev pub user_line : (name : List ℕ) → User → List ℕ
-user_line name u = line (name ++ codes " pc=" ++ decimal u.pc ++ codes " acc=" ++ decimal u.acc)
+abbrev pub user_line : (name : List ℕ) → UserState → List ℕ
+user_line name s = line (name ++ codes " pc=" ++ decimal s.pc ++ codes " acc=" ++ decimal s.acc)
 
--- the users after n slices of their words
-unfoldable pub cpu_text : (a b : List ℕ) → (n : ℕ) → List ℕ
-cpu_text a b n =
-    let u = after_slices (λ i. get_or a i 0) (λ i. get_or b i 0) n in
-    user_line (codes "a") u.a ++ user_line (codes "b") u.b
+-- a user with these words after n slices
+abbrev pub user_after : User → (words : List ℕ) → (n : ℕ) → UserState
+user_after u words n = after_slices u (λ i. get_or words i 0) n
 
-abbrev pub code_text : Code → List ℕ
-code_text b1 = codes "B1"
-code_text b2 = codes "B2"
-code_text b3 = codes "B3"
-code_text b4 = codes "B4"
+-- both users after n slices of their words
+unfoldable pub users_text : (a b : List ℕ) → (n : ℕ) → List ℕ
+users_text a b n = user_line (codes "a") (user_after A a n) ++ user_line (codes "b") (user_after B b n)
+
+abbrev pub code_text : AsmCode → List ℕ
+code_text B1 = codes "B1"
+code_text B2 = codes "B2"
+code_text B3 = codes "B3"
+code_text B4 = codes "B4"
 
 -- asm F: CODE line L, where the file F is the first or the second
-abbrev pub fault_text : (file : ℕ) → Code → (number : ℕ) → List ℕ
-fault_text f code n = codes "asm " ++ decimal f ++ codes ": " ++ code_text code ++ codes " line " ++ decimal n
+abbrev pub refusal_text : (file : ℕ) → AsmRule → List ℕ
+refusal_text f r = codes "asm " ++ decimal f ++ codes ": " ++ code_text r.code ++ codes " line " ++ decimal r.line
+
+-- what the words of the file F give, or the text of its refusal
+abbrev pub in_file : (file : ℕ) → Assembled → (List ℕ → Result (List ℕ) (List ℕ)) → Result (List ℕ) (List ℕ)
+in_file f (Ok words) gives = gives words
+in_file f (Err rule) gives = Err (refusal_text f rule)
+
+-- what two texts in assembly give; a fault of the first comes before those of the second
+abbrev pub of_both : (gives : (a b : List ℕ) → List ℕ) → (first second : List ℕ) → Result (List ℕ) (List ℕ)
+of_both gives first second = in_file 1 (assembled first) (λ a. in_file 2 (assembled second) (λ b. Ok (gives a b)))
+
+-- the stimulus, and the users' lines, of two texts and n slices
+abbrev pub asm_text : (first second : List ℕ) → (n : ℕ) → Result (List ℕ) (List ℕ)
+asm_text first second n = of_both (λ a b. stimulus_text a b n) first second
+
+abbrev pub cpu_text : (first second : List ℕ) → (n : ℕ) → Result (List ℕ) (List ℕ)
+cpu_text first second n = of_both (λ a b. users_text a b n) first second

@@ -1,4 +1,4 @@
-use Rattle.sap_machine.proofs.Sliced.{runs_the_table, refuses_the_words}
+use Rattle.sap_machine.proofs.Run.{runs_the_table, refuses_the_words}
 use Rattle.sap_machine.proofs.machine_runs_the_table.Goals as goal
 
 pub returns : goal.returns

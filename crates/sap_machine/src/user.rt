@@ -1,0 +1,8 @@
+//! The users of the machine.
+
+/// A user of the machine.
+#[derive(Clone, Copy, Debug, PartialEq, Eq)]
+pub enum User {
+    A,
+    B,
+}
