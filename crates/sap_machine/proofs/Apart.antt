@@ -6,7 +6,7 @@ use Rattle.std.proofs.lemmas.Grind.{common_steps}
 use Rattle.sap_meaning.specs.Store.{Store}
 use Rattle.sap_meaning.specs.Cycle.{Tagged}
 use Rattle.sap_machine.specs.declared.user.User.{User}
-use Rattle.sap_machine.specs.Machine.{machine, machine_world}
+use Rattle.sap_machine.proofs.Literal.{machine, machine_world}
 use Rattle.sap_machine.specs.Table.{UserState}
 use Rattle.sap_machine.specs.Slices.{after_slices}
 use Rattle.sap_machine.specs.Laws.{word, Keeps, after_cycles, SameWords, KeptAlike, WordsDecide}

@@ -7,7 +7,7 @@ use Rattle.sap_meaning.specs.Cycle.{Tagged}
 use Rattle.sap_meaning.specs.State.{first_number}
 use Rattle.sap_machine.specs.declared.user.User.{User}
 use Rattle.sap_machine.specs.declared.user.User.TheVariants.{A, B}
-use Rattle.sap_machine.specs.Machine.{machine_world}
+use Rattle.sap_machine.proofs.Literal.{machine_world}
 use Rattle.sap_machine.specs.Table.{begun}
 use Rattle.sap_machine.proofs.Users.{of_user, input_of, words_of, cells_of}
 use Rattle.sap_machine.proofs.View.{Numbers, put}

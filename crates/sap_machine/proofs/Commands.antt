@@ -5,7 +5,7 @@ use Rattle.sap_meaning.specs.Store.{Store, After, stay}
 use Rattle.sap_meaning.specs.Checks.{Home}
 use Rattle.sap_meaning.specs.Does.{does_block}
 use Rattle.sap_meaning.proofs.Commands.{Quiet}
-use Rattle.sap_machine.specs.Machine.{machine_world}
+use Rattle.sap_machine.proofs.Literal.{machine_world}
 use Rattle.sap_machine.proofs.Entities.{entities, past}
 
 -- of the entities only the inputs, and what stands past the last, are dynamic

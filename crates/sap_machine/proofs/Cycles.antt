@@ -6,7 +6,7 @@ use Rattle.sap_meaning.specs.Checks.{Home}
 use Rattle.sap_meaning.specs.Touches.{among, group_assigns, root_touches}
 use Rattle.sap_meaning.specs.Does.{does_block, does_state, does_child}
 use Rattle.sap_meaning.specs.Cycle.{Tagged, cycle, set_inputs, root_fall}
-use Rattle.sap_machine.specs.Machine.{machine, machine_world, states, block, group, state, user_body, run_body, kernel_body, boot_body}
+use Rattle.sap_machine.proofs.Literal.{machine, machine_world, states, block, group, state, user_body, run_body, kernel_body, boot_body}
 use Rattle.sap_machine.proofs.Entities.{entities, apart}
 use Rattle.sap_meaning.proofs.Commands.{Quiet, raise_quiet, same_store}
 use Rattle.sap_machine.proofs.Commands.{enforced}

@@ -8,8 +8,8 @@ use Rattle.sap_meaning.specs.Does.{does_child, effect}
 use Rattle.sap_meaning.specs.Touches.{hangs, raised_alone}
 use Rattle.sap_meaning.specs.Cycle.{Tagged, cycle}
 use Rattle.sap_meaning.proofs.Commands.{Quiet, take_then, accept}
-use Rattle.sap_machine.specs.Machine.{machine, machine_world, block}
-use Rattle.sap_machine.specs.Machine as M
+use Rattle.sap_machine.proofs.Literal.{machine, machine_world, block}
+use Rattle.sap_machine.proofs.Literal as M
 use Rattle.sap_machine.proofs.Entities.{apart}
 use Rattle.sap_machine.proofs.Commands.{enforced, finished}
 use Rattle.sap_machine.proofs.View.{Frame, Numbers, store_of}

@@ -10,8 +10,8 @@ use Rattle.sap_meaning.specs.Cycle.{Tagged, cycle}
 use Rattle.sap_meaning.proofs.Commands.{Quiet, take_else, accept}
 use Rattle.sap_machine.specs.declared.user.User.{User}
 use Rattle.sap_machine.specs.declared.user.User.TheVariants.{A, B}
-use Rattle.sap_machine.specs.Machine.{machine, machine_world, user_body, run_body, block}
-use Rattle.sap_machine.specs.Machine as M
+use Rattle.sap_machine.proofs.Literal.{machine, machine_world, user_body, run_body, block}
+use Rattle.sap_machine.proofs.Literal as M
 use Rattle.sap_machine.proofs.Users.{turn_of, words_of, cells_of}
 use Rattle.sap_machine.proofs.Entities.{apart}
 use Rattle.sap_machine.proofs.Commands.{enforced, finished}

@@ -4,7 +4,7 @@ use Rattle.std.proofs.lemmas.Grind.{common_steps}
 use Rattle.sap_meaning.specs.Program.{below}
 use Rattle.sap_meaning.specs.Store.{Store, Slot, own, start, next, start_whole, next_whole, lowered, put_child, reset}
 use Rattle.sap_meaning.proofs.Commands.{same_store}
-use Rattle.sap_machine.specs.Machine.{machine_world}
+use Rattle.sap_machine.proofs.Literal.{machine_world}
 use Rattle.sap_machine.proofs.Entities.{entities, past, apart}
 use Rattle.sap_machine.proofs.View.{Frame, levels, places, Numbers, store_of}
 

@@ -5,7 +5,7 @@ use Rattle.sap_meaning.specs.Store.{Store, Slot, own, start, next, start_whole, 
 use Rattle.sap_meaning.specs.Checks.{Home, test}
 use Rattle.sap_meaning.specs.Does.{does_block, effect}
 use Rattle.sap_meaning.proofs.Commands.{same_store, accept}
-use Rattle.sap_machine.specs.Machine.{machine_world}
+use Rattle.sap_machine.proofs.Literal.{machine_world}
 use Rattle.sap_machine.proofs.Entities.{entities, apart}
 use Rattle.sap_machine.proofs.Commands.{nothing_raised}
 use Rattle.sap_machine.proofs.View.{Frame, levels, Numbers, store_of, put}

@@ -7,7 +7,7 @@ use Rattle.sap_meaning.specs.Cycle.{Tagged, cycle, run_from}
 use Rattle.sap_meaning.specs.State.{first, StreamFits, InputsFit}
 use Rattle.sap_machine.specs.declared.user.User.{User}
 use Rattle.sap_machine.specs.declared.user.User.TheVariants.{A, B}
-use Rattle.sap_machine.specs.Machine.{machine, machine_world}
+use Rattle.sap_machine.proofs.Literal.{machine, machine_world}
 use Rattle.sap_machine.specs.Table.{UserState}
 use Rattle.sap_machine.specs.Slices.{other, holder, after_slices}
 use Rattle.sap_machine.specs.Laws.{given, word, after_cycles, Keeps, refused_words, RunsTheTable, RefusesTheWords}

@@ -9,7 +9,7 @@ use Rattle.sap_meaning.specs.Checks.{Home, test}
 use Rattle.sap_meaning.specs.Touches.{touches}
 use Rattle.sap_meaning.specs.Does.{effect, does_block}
 use Rattle.sap_meaning.specs.State.{first_level}
-use Rattle.sap_machine.specs.Machine.{machine_world}
+use Rattle.sap_machine.proofs.Literal.{machine_world}
 use Rattle.sap_meaning.proofs.Commands.{same_store, Quiet, accept, take_then, take_else}
 use Rattle.sap_machine.proofs.Commands.{nothing_raised}
 

@@ -8,7 +8,7 @@ use Rattle.sap_meaning.specs.State.{first, first_number, first_level}
 use Rattle.sap_meaning.proofs.Commands.{same_store}
 use Rattle.sap_machine.specs.declared.user.User.{User}
 use Rattle.sap_machine.specs.declared.user.User.TheVariants.{A, B}
-use Rattle.sap_machine.specs.Machine.{machine, machine_world}
+use Rattle.sap_machine.proofs.Literal.{machine, machine_world}
 use Rattle.sap_machine.specs.Table.{UserState, begun, step, steps}
 use Rattle.sap_machine.specs.Slices.{instructions, after_slices, other, holder}
 use Rattle.sap_machine.specs.Laws.{refused_word}

@@ -1,17 +1,17 @@
 -- The worked examples, by computation.
-use Rattle.std.proofs.Common.{refl}
+use Rattle.std.proofs.Common.{rules, refl}
 use Rattle.std.specs.Fmt.{digits}
 use Rattle.sap_text.specs.Lines.{lines_of}
 use Rattle.sap_meaning.specs.Store.{put_number, put_level, put_child, raise, reset, settle}
 use Rattle.sap_meaning.specs.Does.{effect, attempt, select, does, does_block, does_state, does_child}
 use Rattle.sap_meaning.specs.Cycle.{cycle, set_inputs, root_fall}
 use Rattle.sap_meaning.specs.State.{first}
-use Rattle.sap_machine.specs.Machine.{machine}
+use Rattle.sap_machine.proofs.Literal.{machine}
 use Rattle.sap_machine.specs.Assembly.{assembled}
 use Rattle.sap_machine.specs.Slices.{after_slices}
 use Rattle.sap_machine.specs.Table.{step}
 use Rattle.sap_machine.specs.Text.{users_text, stimulus_text}
-use Rattle.sap_machine.specs.Examples.{AsmOfTwo, Assembles, CpuOfTwo, NoEnd, NoForm, Numbers, Refusals, RunOfTwo, TooMany}
+use Rattle.sap_machine.specs.Examples.{AsmOfTwo, Assembles, CpuOfTwo, NoEnd, NoForm, Numbers, Refusals, RunOfTwo, TooMany, TwinsAgree}
 
 pub assembles : Assembles
 unfolding assembled lines_of
@@ -48,3 +48,6 @@ refusals = (refl, refl)
 pub run_of_two : RunOfTwo machine
 unfolding cycle set_inputs root_fall first put_number put_level put_child raise reset settle effect attempt select does does_block does_state does_child
 run_of_two = refl
+
+pub twins_agree : TwinsAgree machine.world.order
+twins_agree = search rules

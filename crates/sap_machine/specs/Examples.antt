@@ -10,7 +10,8 @@ use Rattle.sap_meaning.specs.Examples.{at_level}
 use Rattle.sap_machine.specs.declared.fault.AsmCode.TheVariants.{B1, B2, B3, B4}
 use Rattle.sap_machine.specs.Assembly.{assembled, refused}
 use Rattle.sap_machine.specs.Text.{asm_text, cpu_text}
-use Rattle.sap_machine.specs.Machine.{low, level_a, level_b, pc, acc, ir, cnt, who, n, apc, aacc, bpc, bacc}
+use Rattle.sap_machine.specs.Machine.{entity}
+use Rattle.sap_machine.specs.Machine as the
 use Rattle.sap_machine.specs.Laws.{after_cycles}
 
 -- a's program, and b's
@@ -70,6 +71,15 @@ abbrev pub Refusals : Type 0
 Refusals = (asm_text (line (codes "ld 16")) (codes "halt") 2 ≡ Err (codes "asm 1: B2 line 1"))
     × (cpu_text program_a (line (codes "nop") ++ codes "halt") 2 ≡ Err (codes "asm 2: B4 line 2"))
 
+abbrev pub low : ℕ
+low = the.level (codes "low")
+
+abbrev pub level_a : ℕ
+level_a = the.level (codes "a")
+
+abbrev pub level_b : ℕ
+level_b = the.level (codes "b")
+
 -- the cycles that bring two lists of words, at the users' levels, and cycles that bring nothing
 abbrev pub given_words : (a b : List ℕ) → List (List Tagged)
 given_words [] b = []
@@ -84,8 +94,14 @@ idle_cycles (suc k) = (at_level low 0 ∷ at_level low 0 ∷ []) ∷ idle_cycles
 abbrev pub two_slices : (a b : List ℕ) → List (List Tagged)
 two_slices a b = given_words a b ++ idle_cycles 13
 
+abbrev pub register_names : List (List ℕ)
+register_names = codes "pc" ∷ codes "acc" ∷ codes "ir" ∷ codes "cnt" ∷ codes "who" ∷ codes "n" ∷ codes "apc" ∷ codes "aacc" ∷ codes "bpc" ∷ codes "bacc" ∷ []
+
+abbrev pub content : Program → Store → (x : ℕ) → Tagged
+content p s x = at_level (level p.world (own x) s) (number (own x) s)
+
 abbrev pub registers : Program → Store → List Tagged
-registers p s = map (λ x. at_level (level p.world (own x) s) (number (own x) s)) (pc ∷ acc ∷ ir ∷ cnt ∷ who ∷ n ∷ apc ∷ aacc ∷ bpc ∷ bacc ∷ [])
+registers p s = map (λ name. content p s (entity name)) register_names
 
 -- pc=3@a acc=10@a ir=0@a cnt=4@low who=0@low n=0@low apc=3@a aacc=10@a bpc=1@b bacc=7@b
 abbrev pub RunOfTwo : Program → Type 0

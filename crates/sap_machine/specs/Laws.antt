@@ -1,5 +1,5 @@
 -- What is true of the labelled run of the machine. Each law is over a program, so that it can be said of what is the machine.
-use Rattle.std.specs.Prelude.{◌≡◌, ℕ, ◌+◌, ◌*◌, ◌<◌, ◌≤◌, ◌&&◌, List, [], ◌∷◌, ◌++◌, length, get_or, nat_lt, if◌then◌else◌}
+use Rattle.std.specs.Prelude.{◌≡◌, ℕ, ◌+◌, ◌*◌, ◌<◌, ◌≤◌, ◌&&◌, List, [], ◌∷◌, ◌++◌, length, codes, get_or, nat_lt, if◌then◌else◌}
 use Rattle.sap_lattice.specs.Order.{Order}
 use Rattle.sap_meaning.specs.Program.{Program, World}
 use Rattle.sap_meaning.specs.Cycle.{Tagged}
@@ -8,8 +8,7 @@ use Rattle.sap_meaning.specs.State.{first, labelled_run, StreamFits}
 use Rattle.sap_meaning.specs.Agree.{SlotsAlike, StreamsAgree}
 use Rattle.sap_machine.specs.declared.user.User.{User}
 use Rattle.sap_machine.specs.declared.user.User.TheVariants.{A, B}
-use Rattle.sap_machine.specs.Machine.{pc, acc, ir}
-use Rattle.sap_machine.specs.Parts.{part}
+use Rattle.sap_machine.specs.Machine.{entity, part}
 use Rattle.sap_machine.specs.Table.{UserState, begun}
 use Rattle.sap_machine.specs.Slices.{after_slices, holder, sliced}
 
@@ -75,12 +74,12 @@ WordsDecide p = (s t : List (List Tagged)) → StreamFits p.world s → StreamFi
 pub record SamePart (w : World) (u : User) (s t : Store) : Type 0 where
   pub kept : KeptAlike u s t
   pub word : (k : ℕ) → k < 16 → number (start (part u).words k) s ≡ number (start (part u).words k) t
-  pub pc : SlotsAlike w (part u).level (own pc) s t
-  pub acc : SlotsAlike w (part u).level (own acc) s t
-  pub ir : SlotsAlike w (part u).level (own ir) s t
+  pub pc : SlotsAlike w (part u).level (own (entity (codes "pc"))) s t
+  pub acc : SlotsAlike w (part u).level (own (entity (codes "acc"))) s t
+  pub ir : SlotsAlike w (part u).level (own (entity (codes "ir"))) s t
 
--- Of streams that agree at a user's level, so that in each cycle they give this user the same and differ in words of the other
--- that aren't at or below its level alone, the user's part is the same behind every cycle.
+-- Of two streams that agree at a user's level, as those do that differ in the other's words alone, where these aren't at or below
+-- this user's level, the user's part is the same behind every cycle.
 abbrev pub OthersDontCount : Program → Type 0
 OthersDontCount p = (s t : List (List Tagged)) → StreamFits p.world s → StreamFits p.world t → (u : User) → StreamsAgree p.world.order (part u).level s t
     → (c : ℕ) → c ≤ length s → SamePart p.world u (after_cycles p c s).store (after_cycles p c t).store

@@ -7,13 +7,21 @@ pub mod examples;
 pub mod fault;
 pub mod user;
 
-ghost use Rattle.std.specs.Prelude.{◌≡◌};
+ghost use Rattle.std.specs.Prelude.{◌≡◌, true};
 ghost use Rattle.sap_lattice.specs.Diamond.{diamond};
-ghost use Rattle.sap_lattice.specs.Levels.{order_of};
-ghost use Rattle.sap_machine.specs.Machine.{machine, diamond_order};
-ghost use Rattle.sap_machine.specs.Laws.{RefusesTheWords, RunsTheTable, SlicesInTurn, WordsDecide};
+ghost use Rattle.sap_tree.specs.Whole.{is_whole};
+ghost use Rattle.sap_shape.specs.WellFormed.{WellFormed};
+ghost use Rattle.sap_machine.specs.Design.{machine_design};
+ghost use Rattle.sap_machine.specs.Machine.{machine};
+ghost use Rattle.sap_machine.specs.Laws.{OthersDontCount, RefusesTheWords, RunsTheTable, SlicesInTurn, WordsDecide};
 
-/// After each slice the kernel keeps of both users what the instruction table says. The words above their user are refused,
+/// The design is a tree of the grammar within its limits, and well formed over the lattice of four levels.
+pub fn design_is_sound()
+    ensures whole { is_whole machine_design ≡ true }
+    ensures well_formed { WellFormed diamond machine_design }
+{}
+
+/// After each slice the kernel keeps of both users what the instruction table says. The words above their users are refused,
 /// and nothing else.
 pub fn machine_runs_the_table()
     ensures runs { RunsTheTable machine }
@@ -25,12 +33,11 @@ pub fn slices_in_turn()
     ensures { SlicesInTurn }
 {}
 
-/// The order by tables is that of the lattice.
-pub fn order_is_the_lattices()
-    ensures { order_of diamond ≡ diamond_order }
-{}
-
-/// What the kernel keeps of a user is decided by this user's words alone.
+/// A user's words alone decide what is kept of it after each slice. Where two streams differ in words of the other alone that this
+/// user can't see, its part of the machine is the same behind every cycle.
 pub fn users_are_apart()
     ensures words { WordsDecide machine }
-{}
+    ensures cycles { OthersDontCount machine }
+{
+    sap_secure::designs::runs_agree()
+}
