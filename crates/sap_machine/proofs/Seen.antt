@@ -1,21 +1,20 @@
 -- What a user has of the machine behind each cycle of two runs that agree at its level.
-use Rattle.std.proofs.Common.{◌≡◌, ◌⊎◌, inl, inr, ℕ, zero, suc, Bool, true, false, ◌<◌, ◌≤◌, refl, sym, ap, ◌∙◌, arith, List, [], ◌∷◌, length, get_or}
+use Rattle.std.proofs.Common.{◌≡◌, inl, inr, ℕ, zero, suc, true, ◌<◌, ◌≤◌, refl, sym, ap, ◌∙◌, arith, List, [], ◌∷◌, length, get_or}
 use Rattle.std.specs.List.{AllZip}
 use Rattle.std.proofs.lemmas.Bool.{false≢true}
-use Rattle.sap_meaning.specs.Store.{Store, Slot, own, start, After, stay, number, level}
+use Rattle.sap_meaning.specs.Store.{Store, Slot, own, start, stay, number, level}
 use Rattle.sap_meaning.specs.Cycle.{Tagged, cycle, run_from}
 use Rattle.sap_meaning.specs.State.{first, labelled_run, StreamFits}
-use Rattle.sap_meaning.specs.Agree.{StreamsAgree, StatesAgree, RefusalsAgree, RunsAgree, SlotsAlike}
+use Rattle.sap_meaning.specs.Agree.{StatesAgree, RefusalsAgree, RunsAgree, SlotsAlike}
 use Rattle.sap_secure.specs.Laws.{LabelledAgree}
 use Rattle.sap_machine.specs.declared.user.User.{User}
 use Rattle.sap_machine.specs.declared.user.User.TheVariants.{A, B}
 use Rattle.sap_machine.specs.Laws.{after_cycles, SamePart, OthersDontCount}
 use Rattle.sap_machine.proofs.Literal.{machine, machine_world}
 use Rattle.sap_machine.proofs.Users.{of_user, level_of, words_of, cells_of, pc_of, acc_of}
-use Rattle.sap_machine.proofs.View.{Frame, levels, Numbers, store_of}
+use Rattle.sap_machine.proofs.View.{Frame, Numbers, store_of}
 use Rattle.sap_machine.proofs.Boot.{boot_frame}
 use Rattle.sap_machine.proofs.Kernel.{kernel_frame}
-use Rattle.sap_machine.proofs.Rows.{turn}
 use Rattle.sap_machine.proofs.Whole.{At, boots, first_kernel, starts, runs, leaves}
 use Rattle.sap_machine.proofs.Run.{words_in, reached}
 

@@ -11,7 +11,19 @@ use Rattle.sap_machine.specs.Assembly.{assembled}
 use Rattle.sap_machine.specs.Slices.{after_slices}
 use Rattle.sap_machine.specs.Table.{step}
 use Rattle.sap_machine.specs.Text.{users_text, stimulus_text}
-use Rattle.sap_machine.specs.Examples.{AsmOfTwo, Assembles, CpuOfTwo, NoEnd, NoForm, Numbers, Refusals, RunOfTwo, TooMany, TwinsAgree}
+use Rattle.sap_machine.specs.Examples.{AroundTheEnds, AsmOfTwo, Assembles, Branches, CpuOfTwo, NoEnd, NoForm, Numbers, Refusals, RunOfTwo, Stored, TooMany, TwinsAgree}
+
+pub around_the_ends : AroundTheEnds
+unfolding step
+around_the_ends = (refl, refl, refl)
+
+pub branches : Branches
+unfolding step
+branches = (refl, refl, refl, refl)
+
+pub stored : Stored
+unfolding step
+stored = (refl, refl)
 
 pub assembles : Assembles
 unfolding assembled lines_of

@@ -7,7 +7,6 @@ use Rattle.sap_tree.specs.Bare.{nowhere, no_spot}
 use Rattle.sap_tree.specs.Syntax.{Expression, cell_at, unary_of, binary_of, slice, level_of, Command, lone, if_else, no_else, with_else, StateTree, state_node, DesignTree}
 use Rattle.sap_tree.specs.Syntax as tree
 use Rattle.sap_tree.specs.declared.syntax.UnaryOperator.TheVariants.{Not}
-use Rattle.sap_tree.specs.declared.syntax.BinaryOperator.{BinaryOperator}
 use Rattle.sap_tree.specs.declared.syntax.BinaryOperator.TheVariants.{Add, Sub, Eq}
 use Rattle.sap_tree.specs.declared.syntax.Decl.{Decl}
 use Rattle.sap_tree.specs.declared.syntax.Decl.TheVariants.{Input, Register, Memory}

@@ -1,5 +1,5 @@
 -- Worked examples: programs in assembly, their words, the run of two of them, and what the table makes of them.
-use Rattle.std.specs.Prelude.{◌≡◌, ℕ, zero, suc, List, [], ◌∷◌, ◌++◌, Ok, Err, map, replicate, codes}
+use Rattle.std.specs.Prelude.{◌≡◌, ℕ, zero, suc, ◌+◌, List, [], ◌∷◌, ◌++◌, Ok, Err, map, replicate, codes}
 use Rattle.sap_text.specs.Places.{line}
 use Rattle.sap_lattice.specs.Order.{Order}
 use Rattle.sap_meaning.specs.Program.{Program}
@@ -9,10 +9,31 @@ use Rattle.sap_meaning.specs.Store.{Store, own, number, level}
 use Rattle.sap_meaning.specs.Examples.{at_level}
 use Rattle.sap_machine.specs.declared.fault.AsmCode.TheVariants.{B1, B2, B3, B4}
 use Rattle.sap_machine.specs.Assembly.{assembled, refused}
+use Rattle.sap_machine.specs.Table.{UserState, step}
 use Rattle.sap_machine.specs.Text.{asm_text, cpu_text}
 use Rattle.sap_machine.specs.Machine.{entity}
 use Rattle.sap_machine.specs.Machine as the
 use Rattle.sap_machine.specs.Laws.{after_cycles}
+
+-- a user with this program counter and accumulator, whose cells are all 3 and whose words are all this one
+abbrev pub user_with : (pc acc word : ℕ) → UserState
+user_with pc acc word = record { pc = pc; acc = acc; cell = λ k. 3; word = λ k. word }
+
+-- the program counter and the accumulator behind one instruction
+abbrev pub stepped : UserState → ℕ × ℕ
+stepped s = ((step s).pc, (step s).acc)
+
+-- what the numbers of a word do past their ends: add and sub modulo 256, the program counter modulo 16, a place modulo 16
+abbrev pub AroundTheEnds : Type 0
+AroundTheEnds = (stepped (user_with 15 254 1024) ≡ (0, 1)) × (stepped (user_with 4 1 1280) ≡ (5, 254)) × (stepped (user_with 4 9 (1536 + 18)) ≡ (2, 9))
+
+-- jz with and without a 0, halt, and an operation past the last
+abbrev pub Branches : Type 0
+Branches = (stepped (user_with 4 0 1799) ≡ (7, 0)) × (stepped (user_with 4 1 1799) ≡ (5, 1)) × (stepped (user_with 4 9 2048) ≡ (4, 9)) × (stepped (user_with 4 9 2304) ≡ (5, 9))
+
+-- a store changes one cell
+abbrev pub Stored : Type 0
+Stored = ((step (user_with 4 9 770)).cell 2 ≡ 9) × ((step (user_with 4 9 770)).cell 1 ≡ 3)
 
 -- a's program, and b's
 abbrev pub program_a : List ℕ

@@ -1,7 +1,14 @@
 //! Worked examples, computed from the definitions.
 
 ghost use Rattle.sap_machine.specs.Machine.{machine};
-ghost use Rattle.sap_machine.specs.Examples.{AsmOfTwo, Assembles, CpuOfTwo, NoEnd, NoForm, Numbers, Refusals, RunOfTwo, TooMany, TwinsAgree};
+ghost use Rattle.sap_machine.specs.Examples.{AroundTheEnds, AsmOfTwo, Assembles, Branches, CpuOfTwo, NoEnd, NoForm, Numbers, Refusals, RunOfTwo, Stored, TooMany, TwinsAgree};
+
+/// What single instructions do.
+pub fn worked_instructions()
+    ensures ends { AroundTheEnds }
+    ensures branches { Branches }
+    ensures stores { Stored }
+{}
 
 /// Texts in assembly, and the words that they give or the rule that they break.
 pub fn worked_assembly()

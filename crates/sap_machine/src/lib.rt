@@ -10,15 +10,20 @@ pub mod user;
 ghost use Rattle.std.specs.Prelude.{◌≡◌, true};
 ghost use Rattle.sap_lattice.specs.Diamond.{diamond};
 ghost use Rattle.sap_tree.specs.Whole.{is_whole};
+ghost use Rattle.sap_show.specs.Canonical.{canonical_text};
 ghost use Rattle.sap_shape.specs.WellFormed.{WellFormed};
 ghost use Rattle.sap_machine.specs.Design.{machine_design};
+ghost use Rattle.sap_machine.specs.DesignText.{IsTextOf, machine_text};
 ghost use Rattle.sap_machine.specs.Machine.{machine};
 ghost use Rattle.sap_machine.specs.Laws.{OthersDontCount, RefusesTheWords, RunsTheTable, SlicesInTurn, WordsDecide};
 
-/// The design is a tree of the grammar within its limits, and well formed over the lattice of four levels.
+/// The design is a tree of the grammar within its limits, and well formed over the lattice of four levels. Its canonical text is this one,
+/// which is read as the design, places aside.
 pub fn design_is_sound()
     ensures whole { is_whole machine_design ≡ true }
     ensures well_formed { WellFormed diamond machine_design }
+    ensures canonical { canonical_text machine_design ≡ machine_text }
+    ensures reads_back { IsTextOf machine_text machine_design }
 {}
 
 /// After each slice the kernel keeps of both users what the instruction table says. The words above their users are refused,
