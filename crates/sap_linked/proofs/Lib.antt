@@ -1,0 +1,7 @@
+mod Apart
+mod Reading
+mod Alike
+mod Cycles
+mod Fed
+mod Inputs
+mod Linked

@@ -1,0 +1,5 @@
+use Rattle.sap_linked.proofs.Apart.{stay_apart}
+use Rattle.sap_linked.proofs.laws.names_stay_apart.Goals as goal
+
+pub returns : goal.returns
+returns c = stay_apart

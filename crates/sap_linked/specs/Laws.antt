@@ -1,0 +1,21 @@
+-- The laws of netlists that link the netlists of parts.
+use Rattle.std.specs.Prelude.{◌≡◌, ◌<◌, ◌≤◌, ℕ, true, length}
+use Rattle.sap_maps.specs.Maps.{Name}
+use Rattle.sap_lattice.specs.Codes.{Codes}
+use Rattle.sap_net.specs.Net.{Net}
+use Rattle.sap_link.specs.Laws.{FineSystem, SizedSystem}
+use Rattle.sap_linked.specs.Parts.{NamedSystem, part_at, system_of, in_part, has_no_underscore}
+use Rattle.sap_linked.specs.Linking.{IsNetOf, LinksParts}
+use Rattle.sap_linked.specs.Standing.{RunsStand}
+
+-- Names of two bytes or more are told apart in the module of a system, and so are those of two parts whose names have no `_`.
+abbrev pub NamesStayApart : Type 0
+NamesStayApart =
+    (part other : Name) (x y : Name) → has_no_underscore part ≡ true → has_no_underscore other ≡ true → 2 ≤ length x → 2 ≤ length y
+    → in_part part x ≡ in_part other y → (part ≡ other) × (x ≡ y)
+
+-- Where each part's netlist stands for its design, one that links them stands for the composite run in each of its runs.
+abbrev pub LinkedNetsStand : Type 0
+LinkedNetsStand =
+    (s : NamedSystem) (nets : ℕ → Net) (named : ℕ → Name → Name) (whole : Net) → Codes s.order → FineSystem (system_of s) → SizedSystem (system_of s)
+    → ((i : ℕ) → i < length s.parts → IsNetOf s.order (part_at s i) (nets i)) → LinksParts s nets named whole → RunsStand s whole

@@ -1,0 +1,5 @@
+pub mod Parts
+pub mod Linking
+pub mod Interface
+pub mod Standing
+pub mod Laws

@@ -1,0 +1,19 @@
+//! What holds of every netlist that links the netlists of parts.
+
+ghost use Rattle.sap_linked.specs.Laws.{NamesStayApart, LinkedNetsStand};
+
+/// Names of parts stay apart in the module of their system.
+pub fn names_stay_apart()
+    ensures { NamesStayApart }
+{}
+
+/// A netlist that links those of parts takes every stream that fits the system, and in its run on it each cycle stands for
+/// the same cycle of the composite run, part by part: states, refusals, and what each part's inputs receive.
+pub fn linked_nets_stand()
+    ensures { LinkedNetsStand }
+{
+    sap_build::laws::parts_run_alike();
+    sap_link::states_keep();
+    sap_link::parts_run_alone();
+    sap_link::inputs_receive()
+}
