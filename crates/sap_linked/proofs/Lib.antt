@@ -5,3 +5,5 @@ mod Cycles
 mod Fed
 mod Inputs
 mod Linked
+mod Declared
+mod Designs

@@ -3,6 +3,10 @@ use Rattle.std.specs.Prelude.{◌≡◌, ◌<◌, ◌≤◌, ℕ, true, length}
 use Rattle.sap_maps.specs.Maps.{Name}
 use Rattle.sap_lattice.specs.Codes.{Codes}
 use Rattle.sap_net.specs.Net.{Net}
+use Rattle.sap_interface.specs.StandsFor.{Named}
+use Rattle.sap_interface.specs.Interface.{declared_by, DeclaresPart}
+use Rattle.sap_interface.specs.InterfaceNames.{IsInterfaceName}
+use Rattle.sap_build.specs.Parts.{IsPart}
 use Rattle.sap_link.specs.Laws.{FineSystem, SizedSystem}
 use Rattle.sap_linked.specs.Parts.{NamedSystem, part_at, system_of, in_part, has_no_underscore}
 use Rattle.sap_linked.specs.Linking.{IsNetOf, LinksParts}
@@ -19,3 +23,9 @@ abbrev pub LinkedNetsStand : Type 0
 LinkedNetsStand =
     (s : NamedSystem) (nets : ℕ → Net) (named : ℕ → Name → Name) (whole : Net) → Codes s.order → FineSystem (system_of s) → SizedSystem (system_of s)
     → ((i : ℕ) → i < length s.parts → IsNetOf s.order (part_at s i) (nets i)) → LinksParts s nets named whole → RunsStand s whole
+
+-- What a netlist declares of a design, one in which it stands declares too, under its names there.
+abbrev pub PartsDeclare : Type 0
+PartsDeclare =
+    (named behind : Name → Name) (d : Named) (tag sites : ℕ) (part whole : Net) → IsPart named part whole → DeclaresPart (λ x. x) d tag sites (declared_by part)
+    → ((x : Name) → IsInterfaceName d sites x → named x ≡ behind x) → DeclaresPart behind d tag sites (declared_by whole)

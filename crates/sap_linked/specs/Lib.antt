@@ -3,3 +3,4 @@ pub mod Linking
 pub mod Interface
 pub mod Standing
 pub mod Laws
+pub mod Designs

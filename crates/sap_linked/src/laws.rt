@@ -1,6 +1,7 @@
 //! What holds of every netlist that links the netlists of parts.
 
-ghost use Rattle.sap_linked.specs.Laws.{NamesStayApart, LinkedNetsStand};
+ghost use Rattle.sap_linked.specs.Laws.{NamesStayApart, LinkedNetsStand, PartsDeclare};
+ghost use Rattle.sap_linked.specs.Designs.{LinkedDesignsStand};
 
 /// Names of parts stay apart in the module of their system.
 pub fn names_stay_apart()
@@ -17,3 +18,16 @@ pub fn linked_nets_stand()
     sap_link::parts_run_alone();
     sap_link::inputs_receive()
 }
+
+/// So does one that links netlists of well-formed designs, over any lattice, with wires that break no rule.
+pub fn linked_designs_stand()
+    ensures { LinkedDesignsStand }
+{
+    sap_link::designs::linked_designs_serve();
+    linked_nets_stand()
+}
+
+/// A netlist declares what each of its parts declares of a design, under the part's names in it.
+pub fn parts_declare()
+    ensures { PartsDeclare }
+{}
