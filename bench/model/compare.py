@@ -28,17 +28,14 @@ class Answer(NamedTuple):
     line: str = ""
 
 
-class Comparison:
-    """One case in a folder of its own, by the program and by the model."""
+class Calls:
+    """A folder, the program's answers to words whose files are in it, and what of them isn't what is wanted."""
 
-    def __init__(self, program, seed, counts):
+    def __init__(self, program, name, counts):
         self.program = program
         self.counts = counts
-        self.case = case_of(seed)
-        self.folder = tempfile.mkdtemp(prefix=f"random_designs_{seed}_")
+        self.folder = tempfile.mkdtemp(prefix=f"{name}_")
         self.differing = []
-
-    # Files and calls.
 
     def put(self, name, text):
         with open(os.path.join(self.folder, name), "w", encoding="latin-1", newline="") as file:
@@ -64,7 +61,13 @@ class Comparison:
     def note(self, what):
         self.differing.append(what)
 
-    # The case.
+
+class Comparison(Calls):
+    """One case in a folder of its own, by the program and by the model."""
+
+    def __init__(self, program, seed, counts):
+        super().__init__(program, f"random_designs_{seed}", counts)
+        self.case = case_of(seed)
 
     def run(self):
         """What differs, in words."""
