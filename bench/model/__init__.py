@@ -11,5 +11,15 @@ the two can go wrong in different places. It takes the slow and simple way every
     streams, texts          stimuli, agreement at a level; rows, traces and reports
     random_lattices, random_expressions, random_designs, random_streams, edits, cases
                             what is drawn at random
-    examples, compare       the two scripts: the model on the repository's examples, the program beside the model
+    examples, compare       two scripts: the model on the repository's examples, the program beside the model
+
+Beside it stands a model of modules and of dumps, after docs/MODULES.md and docs/COMMANDS.md:
+
+    modules                 the text of a module, and what it does in a cycle
+    waves                   the dump of a run, the reading of a dump with its first fault, and its rows
+    random_modules, wave_damages
+                            modules, stimuli and damaged dumps drawn at random
+    wave_table, compare_waves, converted
+                            three scripts: the model on what was worked out by hand, the program beside the model, dumps through GTKWave's converters
+    measured                the designs whose modules are measured
 """

@@ -86,10 +86,26 @@ def random_case(waves, seed):
         waves.note("the model's rows of the design aren't those of its module")
     damages(waves, draw, dump, lattice)
     text = random_module(draw, lattice)
-    dump = waves.module(text, random_stimulus(draw, module_of(text), lattice), lattice)
+    stimulus = random_stimulus(draw, module_of(text), lattice)
+    dump = waves.module(text, stimulus, lattice)
+    odd_stimulus(waves, draw, stimulus)
     damages(waves, draw, dump, lattice)
     other = waves.lattice(random_lattice(draw)[1])
     waves.reading(dump, other)
+
+
+def odd_stimulus(waves, draw, stimulus):
+    """`wave` refuses a stimulus where `sim` does, in the same words, and leaves OUT as it was."""
+    at = draw.randrange(len(stimulus) + 1)
+    waves.put(STIMULUS, stimulus[:at] + draw.choice("\n \r@*09x") + stimulus[at + draw.randint(0, 1) :])
+    waves.put(OUT, BEFORE)
+    answer = waves.call("sim", LATTICE_FILE, VERILOG, STIMULUS)
+    waves.expect(answer._replace(output=""), "wave", LATTICE_FILE, VERILOG, STIMULUS, OUT)
+    waves.counts["refused"] += answer.status == 4
+    if answer.status:
+        waves.is_out(BEFORE, "a refused wave")
+    else:
+        waves.expect(answer, "unwave", LATTICE_FILE, OUT)
 
 
 def damages(waves, draw, dump, lattice):
@@ -258,6 +274,7 @@ def limited(waves, most):
 COUNTS = (
     ("calls", ("compile", "wave", "sim", "unwave")),
     ("dumps", ("blocks", "variables", "bytes")),
+    ("damaged stimuli", ("refused",)),
     ("damaged dumps by their first fault", ("Y1", "Y2", "Y3", "Y4", "Y5", "none")),
 )
 

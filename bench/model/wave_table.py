@@ -1,12 +1,16 @@
-"""The model of dumps on what was worked out by hand: the dump of a module, its row, and the first fault of that dump with some of its lines exchanged.
+"""The model of dumps on what was worked out by hand: the dump of a module, its rows, and the first fault of that dump with some of its lines exchanged; and on
+itself: the dumps of modules drawn at random read back.
 
 Usage: python3 -m model.wave_table
 """
 
+import random
 import sys
 
 from .lattice import lattice_of
 from .modules import module_of
+from .random_lattices import random_lattice
+from .random_modules import random_module, random_stimulus
 from .waves import WaveFault, dump_of, id_of, rows_of, wave_of, wave_of_run
 
 LATTICE = 'levels = ["low", "high"]\nbelow = [["low", "high"]]\n'
@@ -48,6 +52,7 @@ BARE = "module m(input clk, input [0:0] a, output wire [0:0] b); assign b = a; e
 BARE_DUMP = "$timescale 1ns $end\n$scope module top $end\n$upscope $end\n$enddefinitions $end\n#0\n#1\n"
 IDS = ((0, "!"), (1, '"'), (93, "~"), (94, '"!'), (95, '""'), (187, '"~'), (188, "#!"), (8835, "~~"), (8836, '"!!'), (830583, "~~~"), (830584, '"!!!'))
 
+MODULES = 40
 NONE = "none"
 LARGE = "9" * 1_000_000
 # First and last line that give way, what stands in their place, and the first fault.
@@ -242,6 +247,13 @@ def damaged():
     yield from TEXTS
 
 
+def wave_of_random_run(seed):
+    draw = random.Random(seed)
+    lattice = lattice_of(random_lattice(draw)[1])
+    module = module_of(random_module(draw, lattice))
+    return wave_of_run(module, random_stimulus(draw, module, lattice), lattice)
+
+
 def fault_of(text):
     try:
         wave_of(text)
@@ -260,6 +272,8 @@ def wrong():
     if dump_of(wave_of_run(module_of(BARE), "1\n", lattice)) != BARE_DUMP:
         yield "the dump of a module without registers"
     yield from (f"the ID of {number}: {id_of(number)}" for number, wanted in IDS if id_of(number) != wanted)
+    waves = [wave_of_random_run(seed) for seed in range(MODULES)]
+    yield from (f"the dump of module {seed} doesn't read back" for seed, wave in enumerate(waves) if wave_of(dump_of(wave)) != wave)
     for count, (text, wanted) in enumerate(damaged(), 1):
         if fault_of(text) != wanted:
             yield f"damaged dump {count}: {fault_of(text)} in place of {wanted}; it begins with {text[:60]!r}"
@@ -269,7 +283,7 @@ def main():
     found = list(wrong())
     for what in found:
         print(what)
-    print(f"dumps by the model: {len(EXCHANGED) + len(TEXTS)} damaged ones, {len(IDS)} IDs; {len(found) or 'none'} wrong")
+    print(f"dumps by the model: {len(EXCHANGED) + len(TEXTS)} damaged ones, {len(IDS)} IDs, {MODULES} of modules drawn at random; {len(found) or 'none'} wrong")
     return bool(found)
 
 
