@@ -1,0 +1,5 @@
+pub mod Answered
+pub mod LinkAnswered
+pub mod PartNames
+pub mod Worked
+pub mod WorkedWires

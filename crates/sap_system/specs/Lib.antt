@@ -1,0 +1,9 @@
+pub mod Document
+pub mod Examples
+pub mod FaultTexts
+pub mod Laws
+pub mod Listing
+pub mod Rules
+pub mod SystemFile
+pub mod WireExamples
+pub mod Wires
