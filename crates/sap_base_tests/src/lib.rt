@@ -1,4 +1,5 @@
-//! What no command shows, by example: desks, rows in a buffer, the layout of modules, what a runner answers.
+//! What no command shows, by example: desks, rows in a buffer, the layout of modules, what a runner answers,
+//! system files.
 #![tactic(auto)]
 
 #[cfg(test)]
@@ -9,3 +10,5 @@ mod lines;
 mod modules;
 #[cfg(test)]
 mod rows;
+#[cfg(test)]
+mod systems;
