@@ -1,0 +1,4 @@
+pub mod Dumped
+pub mod Ahead
+pub mod ToCome
+pub mod Ready
