@@ -1,12 +1,11 @@
 //! Two users by the instruction table.
 
-ghost use Rattle.std.specs.Prelude.{◌≡◌, ℕ, ◌+◌, ◌<◌, IfOk};
+ghost use Rattle.std.specs.Prelude.{◌≡◌, ℕ, ◌+◌, ◌<◌};
 ghost use Rattle.sap_cpu.specs.Views.{IsAfter, state_of, user_state, word_at};
 
 use crate::state::State;
 use crate::words::Words;
 use sap_machine::user::User;
-use std::alloc::AllocError;
 use std::marker::Model;
 
 /// Two users, and whose the next slice is.
@@ -26,15 +25,15 @@ impl Model for Cpu {
 }
 
 impl Cpu {
-    /// Before the first slice. It takes no memory.
-    pub fn new(a: &Words, b: &Words) -> Result<Cpu, AllocError>
-        ensures { IfOk result (IsAfter (word_at a.now) (word_at b.now) 0) }
+    /// Before the first slice.
+    pub fn new(a: &Words, b: &Words) -> Cpu
+        ensures { IsAfter (word_at a.now) (word_at b.now) 0 result }
     {
-        Ok(Cpu {
+        Cpu {
             a: State::new(a),
             b: State::new(b),
             holder: User::A,
-        })
+        }
     }
 
     /// One slice.

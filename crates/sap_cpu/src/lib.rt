@@ -1,6 +1,9 @@
-//! The instruction table as code: two users' programs, slice by slice.
+//! Assembly, and the instruction table as code: two users' programs, slice by slice; and the machine that does the same.
 #![tactic(auto)]
 
+pub mod assemble;
 pub mod cpu;
+mod line;
+pub mod machine;
 mod state;
 pub mod words;

@@ -36,7 +36,7 @@ impl State {
             pc: 0,
             acc: 0,
             cells: [0; 16],
-            words: words.words,
+            words: *words.as_array(),
         }
     }
 

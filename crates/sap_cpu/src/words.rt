@@ -7,7 +7,7 @@ use std::marker::Model;
 /// The sixteen words of a program, seen as a list of numbers.
 #[derive(Drop)]
 pub struct Words {
-    pub(crate) words: [u16; 16],
+    words: [u16; 16],
 }
 
 impl Model for Words {
@@ -23,5 +23,11 @@ impl Words {
         ensures { result ≡ words }
     {
         Words { words }
+    }
+
+    pub fn as_array(&self) -> &[u16; 16]
+        ensures { result.now ≡ self.now }
+    {
+        &self.words
     }
 }

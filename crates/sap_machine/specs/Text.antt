@@ -6,7 +6,8 @@ use Rattle.sap_machine.specs.declared.fault.AsmCode.{AsmCode}
 use Rattle.sap_machine.specs.declared.fault.AsmCode.TheVariants.{B1, B2, B3, B4}
 use Rattle.sap_machine.specs.declared.user.User.{User}
 use Rattle.sap_machine.specs.declared.user.User.TheVariants.{A, B}
-use Rattle.sap_machine.specs.Assembly.{AsmRule, Assembled, assembled}
+use Rattle.sap_machine.specs.declared.fault.AsmFault.{AsmFault}
+use Rattle.sap_machine.specs.Assembly.{Assembled, assembled}
 use Rattle.sap_machine.specs.Table.{UserState}
 use Rattle.sap_machine.specs.Slices.{after_slices}
 
@@ -39,13 +40,13 @@ code_text B3 = codes "B3"
 code_text B4 = codes "B4"
 
 -- asm F: CODE line L, where the file F is the first or the second
-abbrev pub refusal_text : (file : ℕ) → AsmRule → List ℕ
+abbrev pub refusal_text : (file : ℕ) → AsmFault → List ℕ
 refusal_text f r = codes "asm " ++ decimal f ++ codes ": " ++ code_text r.code ++ codes " line " ++ decimal r.line
 
 -- what the words of the file F give, or the text of its refusal
 abbrev pub in_file : (file : ℕ) → Assembled → (List ℕ → Result (List ℕ) (List ℕ)) → Result (List ℕ) (List ℕ)
 in_file f (Ok words) gives = gives words
-in_file f (Err rule) gives = Err (refusal_text f rule)
+in_file f (Err fault) gives = Err (refusal_text f fault)
 
 -- what two texts in assembly give; a fault of the first comes before those of the second
 abbrev pub of_both : (gives : (a b : List ℕ) → List ℕ) → (first second : List ℕ) → Result (List ℕ) (List ℕ)

@@ -12,3 +12,10 @@ pub enum AsmCode {
     /// The last line has no LF.
     B4,
 }
+
+/// The first line that is refused, from 1, and why.
+#[derive(Clone, Copy, Debug, PartialEq, Eq)]
+pub struct AsmFault {
+    pub line: u64,
+    pub code: AsmCode,
+}

@@ -1,0 +1,15 @@
+use Rattle.std.proofs.Common.{ap, ◌∙◌}
+use Rattle.sap_tree.specs.Bare.{bare}
+use Rattle.sap_tree.specs.Designs.{design_of}
+use Rattle.sap_machine.specs.DesignText.{machine_text}
+use Rattle.sap_cpu.proofs.machine.machine.Goals as goal
+
+pub unreachable-requires : goal.unreachable-requires
+unreachable-requires c =
+    let known = c.design_is_sound.ensures.reads_back in
+    (c.in-Err.ensures {u = tt}).refused c.in_default.not-Memory known.0 known.1
+
+pub returns-in-Ok : goal.returns-in-Ok
+returns-in-Ok c =
+    let known = c.design_is_sound.ensures.reads_back in
+    ap bare (c.one_reading.ensures.one_design machine_text (design_of c.in-Ok.design) known.0 (c.in-Ok.ensures {u = tt}).design known.1) ∙ known.2
