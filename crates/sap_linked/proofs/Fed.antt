@@ -11,8 +11,8 @@ use Rattle.sap_meaning.specs.Cycle.{Tagged}
 use Rattle.sap_meaning.specs.State.{AllFit}
 use Rattle.sap_net.specs.Runs.{InputsAre}
 use Rattle.sap_interface.specs.Compiled.{coded}
-use Rattle.sap_link.specs.Systems.{Endpoint, endpoint, Wire, no_part, same_endpoint, feeding, is_fed, inputs_from, inputs_of, free_inputs, world}
-use Rattle.sap_link.specs.Composites.{CompositeState, content_at, let_through, carried, received, received_by}
+use Rattle.sap_link.specs.Systems.{Endpoint, endpoint, Wire, System, no_part, same_endpoint, feeding, is_fed, inputs_from, inputs_of, free_inputs, world}
+use Rattle.sap_link.specs.Composites.{CompositeState, content_at, let_through, carried, received}
 use Rattle.sap_linked.specs.Parts.{NamedSystem, system_of, value_at, tag_at}
 use Rattle.sap_linked.specs.Linking.{through_level, Carries, inputs_for}
 
@@ -97,34 +97,38 @@ found_leads (u ∷ wires) e w is =
       | inr q ↦ found_leads wires e w (rw q at is)
     ]
 
+-- what holds of all free inputs, and of those to which wires lead, holds of each input of a part
+module _ (y : System) (P : Endpoint → Type 0) (free : AllByRecursion P (free_inputs y)) (fed : AllByRecursion (λ w. P w.to) y.wires) where
+  none_feeds : (e : Endpoint) → feeding y.wires e ≡ None → not (is_fed y.wires e) ≡ true
+  none_feeds e is = rw is refl
+
+  by_feed : (i x : ℕ) → is_input (world y i) x ≡ true → (feeds : Option Wire) → feeding y.wires (endpoint i x) ≡ feeds → P (endpoint i x)
+  by_feed i x is None h =
+      let all = if_passes (λ e. not (is_fed y.wires e)) P (inputs_of 0 y.parts) free in
+      let from_zero : 0 + i ≡ i = omega arith in
+      subst (λ n. not (is_fed y.wires (endpoint n x)) ≡ true → P (endpoint n x)) from_zero (at_part y.order (λ e. not (is_fed y.wires e) ≡ true → P e) 0 i y.parts all x is)
+      (none_feeds (endpoint i x) h)
+  by_feed i x is (Some w) h = subst P (found_leads y.wires (endpoint i x) w h) (found_wire (λ w. P w.to) y.wires (endpoint i x) fed w h)
+
+  pub each_input : (i x : ℕ) → is_input (world y i) x ≡ true → P (endpoint i x)
+  each_input i x is = by_feed i x is (feeding y.wires (endpoint i x)) refl
+
 through_coded : (o : Order) → Codes o → (l : Option ℕ) (t : Tagged) → through_level o l t.number (code_of o t.level) ≡ ((let_through o l t).number, code_of o (let_through o l t).level)
 through_coded o codes None t = refl
 through_coded o codes (Some l) t = ap (λ (below : Bool). ((if below then t.number else 0), code_of o l)) (codes.within t.level l)
 
-module _ (s : NamedSystem) (codes : Codes s.order) (v : Valuation) (states : CompositeState) (inputs : List Tagged)
-    (fed : AllByRecursion (λ w. Carries s v w × Has s v w.from (content_at (system_of s) states w.from)) s.wires)
-    (free : AllByRecursion (λ e. Has s v e (received (system_of s) states inputs e)) (free_inputs (system_of s))) where
-  wire_has : (w : Wire) → Carries s v w × Has s v w.from (content_at (system_of s) states w.from) → Has s v w.to (carried (system_of s) states w)
-  wire_has w h =
+module _ (s : NamedSystem) (codes : Codes s.order) (v : Valuation) (states : CompositeState) where
+  wire_has : (w : Wire) → Carries s v w → Has s v w.from (content_at (system_of s) states w.from) → Has s v w.to (carried (system_of s) states w)
+  wire_has w c h =
       let from = content_at (system_of s) states w.from in
-      let e = ap₂ (through_level s.order w.level) h.1.0 h.1.1 ∙ through_coded s.order codes w.level from in
-      (h.0.value ∙ ap (λ (p : ℕ × ℕ). p.0) e, h.0.tag ∙ ap (λ (p : ℕ × ℕ). p.1) e)
+      let e = ap₂ (through_level s.order w.level) h.0 h.1 ∙ through_coded s.order codes w.level from in
+      (c.value ∙ ap (λ (p : ℕ × ℕ). p.0) e, c.tag ∙ ap (λ (p : ℕ × ℕ). p.1) e)
 
-  none_feeds : (e : Endpoint) → feeding s.wires e ≡ None → not (is_fed s.wires e) ≡ true
-  none_feeds e is = rw is refl
-
-  from_zero : (i : ℕ) → 0 + i ≡ i
-  from_zero i = omega arith
-
-  by_feed : (i x : ℕ) → is_input (world (system_of s) i) x ≡ true → (feeds : Option Wire) → feeding s.wires (endpoint i x) ≡ feeds → Has s v (endpoint i x) (received_by (system_of s) states inputs (endpoint i x) feeds)
-  by_feed i x is None h =
-      let all = if_passes (λ e. not (is_fed s.wires e)) (λ e. Has s v e (received (system_of s) states inputs e)) (inputs_of 0 (system_of s).parts) free in
-      let here = at_part s.order (λ e. not (is_fed s.wires e) ≡ true → Has s v e (received (system_of s) states inputs e)) 0 i (system_of s).parts all x is in
-      let there = subst (λ n. not (is_fed s.wires (endpoint n x)) ≡ true → Has s v (endpoint n x) (received (system_of s) states inputs (endpoint n x))) (from_zero i) here in
-      subst (λ (f : Option Wire). Has s v (endpoint i x) (received_by (system_of s) states inputs (endpoint i x) f)) h (there (none_feeds (endpoint i x) h))
-  by_feed i x is (Some w) h =
-      subst (λ e. Has s v e (carried (system_of s) states w)) (found_leads s.wires (endpoint i x) w h)
-      (wire_has w (found_wire (λ w. Carries s v w × Has s v w.from (content_at (system_of s) states w.from)) s.wires (endpoint i x) fed w h))
-
-  pub input_has : (i x : ℕ) → is_input (world (system_of s) i) x ≡ true → Has s v (endpoint i x) (received (system_of s) states inputs (endpoint i x))
-  input_has i x is = by_feed i x is (feeding s.wires (endpoint i x)) refl
+  -- so to the input comes what it receives
+  pub wires_have : (inputs : List Tagged) (ws : List Wire) → AllByRecursion (λ w. received (system_of s) states inputs w.to ≡ carried (system_of s) states w) ws
+      → AllByRecursion (Carries s v) ws → AllByRecursion (λ w. Has s v w.from (content_at (system_of s) states w.from)) ws → AllByRecursion (λ w. Has s v w.to (received (system_of s) states inputs w.to)) ws
+  wires_have inputs [] same carry from = tt
+  wires_have inputs (w ∷ ws) same carry from = (
+    subst (λ t. Has s v w.to t) (sym same.0) (wire_has w carry.0 from.0),
+    wires_have inputs ws same.1 carry.1 from.1,
+  )

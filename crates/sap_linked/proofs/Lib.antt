@@ -5,5 +5,7 @@ mod Cycles
 mod Fed
 mod Inputs
 mod Linked
+mod Own
+mod SideBySide
 mod Declared
 mod Designs

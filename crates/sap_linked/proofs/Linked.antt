@@ -31,28 +31,28 @@ use Rattle.sap_link.specs.Systems.{no_part as no_program}
 use Rattle.sap_link.specs.Systems.{world as world_at}
 use Rattle.sap_link.specs.Composites.{CompositeState, states_of, content_at, received, part_inputs, composite_cycle, composite_run_from, first_states, run_of_part, stream_of_part}
 use Rattle.sap_link.specs.Composites.{InputsFit as InputsFitSystem, StreamFits as StreamFitsSystem}
-use Rattle.sap_link.specs.Laws.{FineSystem, SizedSystem, PartsFit, CompositesFit, StreamsOfPartsFit, FreeInputsReceive}
+use Rattle.sap_link.specs.Laws.{FineSystem, SizedSystem, PartsFit, CompositesFit, StreamsOfPartsFit, FedInputsReceive, FreeInputsReceive}
 use Rattle.sap_linked.specs.Parts.{Part, NamedSystem, no_part, part_at, system_of, in_part}
-use Rattle.sap_linked.specs.Linking.{Starts, IsNetOf, Carries, inputs_for, LinksParts}
+use Rattle.sap_linked.specs.Linking.{Starts, IsNetOf, inputs_for, LinksParts}
 use Rattle.sap_linked.specs.Standing.{names_of_inputs, RunsStand}
 use Rattle.sap_linked.specs.Laws.{LinkedNetsStand}
 use Rattle.sap_linked.proofs.Reading.{at_name}
 use Rattle.sap_linked.proofs.Alike.{register_holds, input_holds, stands_behind}
 use Rattle.sap_linked.proofs.Cycles.{StandsAfter, this_cycle, later_cycles, BeginsAs, begins_first, begins_later}
-use Rattle.sap_linked.proofs.Fed.{Has, free_have, fit_length, input_has}
+use Rattle.sap_linked.proofs.Fed.{Has, free_have, fit_length, each_input, wires_have}
 use Rattle.sap_linked.proofs.Inputs.{input_names_are, fed_by_names, IsGiven, inputs_coded}
 
-program_is : (o : Order) (ps : List Part) (i : ℕ) → get_or (map (λ (p : Part). p.design.program) ps) i (no_program o) ≡ (get_or ps i (no_part o)).design.program
+pub program_is : (o : Order) (ps : List Part) (i : ℕ) → get_or (map (λ (p : Part). p.design.program) ps) i (no_program o) ≡ (get_or ps i (no_part o)).design.program
 program_is o [] zero = refl
 program_is o [] (suc i) = refl
 program_is o (p ∷ ps) zero = refl
 program_is o (p ∷ ps) (suc i) = program_is o ps i
 
 -- the design of part i, by the system's program
-abbrev design_at : NamedSystem → ℕ → Named
+abbrev pub design_at : NamedSystem → ℕ → Named
 design_at s i = record { program = part (system_of s) i; names = (part_at s i).design.names; code = code_of s.order }
 
-design_is : (s : NamedSystem) (i : ℕ) → (part_at s i).design.code ≡ code_of s.order → design_at s i ≡ (part_at s i).design
+pub design_is : (s : NamedSystem) (i : ℕ) → (part_at s i).design.code ≡ code_of s.order → design_at s i ≡ (part_at s i).design
 design_is s i same =
     ap₂ {A = Program} {B = ℕ → ℕ} {C = Named} (λ p c. record { program = p; names = (part_at s i).design.names; code = c }) (program_is s.order s.parts i) (sym same)
 
@@ -68,7 +68,7 @@ stream_taken : (s : NamedSystem) → Codes s.order → (stream : List (List Tagg
 stream_taken s codes [] fit = tt
 stream_taken s codes (inputs ∷ rest) fit = (inputs_take s codes (free_inputs (system_of s)) inputs fit.0, stream_taken s codes rest fit.1)
 
-module _ (runs : PartsRun) (shows : PartsShow) (fits : CompositesFit) (streams : StreamsOfPartsFit) (free_receive : FreeInputsReceive)
+module _ (runs : PartsRun) (shows : PartsShow) (fits : CompositesFit) (streams : StreamsOfPartsFit) (fed_receive : FedInputsReceive) (free_receive : FreeInputsReceive)
     (s : NamedSystem) (nets : ℕ → Net) (named : ℕ → Name → Name) (whole : Net)
     (codes : Codes s.order) (fine : FineSystem (system_of s)) (sized : SizedSystem (system_of s))
     (each : (i : ℕ) → i < length s.parts → IsNetOf s.order (part_at s i) (nets i)) (links : LinksParts s nets named whole) where
@@ -117,12 +117,9 @@ module _ (runs : PartsRun) (shows : PartsShow) (fits : CompositesFit) (streams :
           ap (λ x. u.value x) (sym (behind_part e.part low (tag_name (name d e.entity)) (tag_of e.entity (register_holds d e.entity is)))) ∙ r.tags e.entity is,
         )
 
-    wires_have : (ws : List Wire) → AllByRecursion (Connects y) ws → AllByRecursion (Carries s u) ws → AllByRecursion (λ w. Carries s u w × Has s u w.from (content_at y states w.from)) ws
-    wires_have [] good carry = tt
-    wires_have (w ∷ ws) good carry = (
-      (carry.0, register_has w.from (is_low w.from.part good.0.from_part) good.0.register),
-      wires_have ws good.1 carry.1,
-    )
+    wires_from : (ws : List Wire) → AllByRecursion (Connects y) ws → AllByRecursion (λ w. Has s u w.from (content_at y states w.from)) ws
+    wires_from [] good = tt
+    wires_from (w ∷ ws) good = (register_has w.from (is_low w.from.part good.0.from_part) good.0.register, wires_from ws good.1)
 
     given_free : AllByRecursion (λ e. Has s u e (received y states inputs e)) (free_inputs y)
     given_free =
@@ -132,7 +129,9 @@ module _ (runs : PartsRun) (shows : PartsShow) (fits : CompositesFit) (streams :
         (subst (λ is. InputsAre u is (coded (code_of s.order) inputs)) links.inputs c.given))
 
     all_has : (i x : ℕ) → is_input (world_at y i) x ≡ true → Has s u (endpoint i x) (received y states inputs (endpoint i x))
-    all_has i x is = input_has s codes u states inputs (wires_have s.wires fine.wires.each (links.carries u c.valuation)) given_free i x is
+    all_has =
+        each_input y (λ e. Has s u e (received y states inputs e)) given_free
+        (wires_have s codes u states inputs s.wires (fed_receive y fine.wires.once states inputs) (links.carries u c.valuation) (wires_from s.wires fine.wires.each))
 
     module _ (i : ℕ) (low : i < length s.parts) where
       interface : HasInterface (design_at s i) (width_of s.order) (part_at s i).sites (nets i)
@@ -235,5 +234,5 @@ module _ (runs : PartsRun) (shows : PartsShow) (fits : CompositesFit) (streams :
             record { cycles = there.0; received = there.1 };
       }
 
-pub linked_nets_stand : PartsRun → PartsShow → CompositesFit → StreamsOfPartsFit → FreeInputsReceive → LinkedNetsStand
-linked_nets_stand runs shows fits streams free s nets named whole codes fine sized each links = runs_stand runs shows fits streams free s nets named whole codes fine sized each links
+pub linked_nets_stand : PartsRun → PartsShow → CompositesFit → StreamsOfPartsFit → FedInputsReceive → FreeInputsReceive → LinkedNetsStand
+linked_nets_stand runs shows fits streams fed free s nets named whole codes fine sized each links = runs_stand runs shows fits streams fed free s nets named whole codes fine sized each links

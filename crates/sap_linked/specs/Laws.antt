@@ -3,6 +3,7 @@ use Rattle.std.specs.Prelude.{◌≡◌, ◌<◌, ◌≤◌, ℕ, true, length}
 use Rattle.sap_maps.specs.Maps.{Name}
 use Rattle.sap_lattice.specs.Codes.{Codes}
 use Rattle.sap_net.specs.Net.{Net}
+use Rattle.sap_net.specs.IsNetlist.{IsNetlist}
 use Rattle.sap_interface.specs.StandsFor.{Named}
 use Rattle.sap_interface.specs.Interface.{declared_by, DeclaresPart}
 use Rattle.sap_interface.specs.InterfaceNames.{IsInterfaceName}
@@ -11,6 +12,7 @@ use Rattle.sap_link.specs.Laws.{FineSystem, SizedSystem}
 use Rattle.sap_linked.specs.Parts.{NamedSystem, part_at, system_of, in_part, has_no_underscore}
 use Rattle.sap_linked.specs.Linking.{IsNetOf, LinksParts}
 use Rattle.sap_linked.specs.Standing.{RunsStand}
+use Rattle.sap_linked.specs.Netlist.{linked_net}
 
 -- Names of two bytes or more are told apart in the module of a system, and so are those of two parts whose names have no `_`.
 abbrev pub NamesStayApart : Type 0
@@ -29,3 +31,9 @@ abbrev pub PartsDeclare : Type 0
 PartsDeclare =
     (named behind : Name → Name) (d : Named) (tag sites : ℕ) (part whole : Net) → IsPart named part whole → DeclaresPart (λ x. x) d tag sites (declared_by part)
     → ((x : Name) → IsInterfaceName d sites x → named x ≡ behind x) → DeclaresPart behind d tag sites (declared_by whole)
+
+-- The netlist of a system links the netlists of its parts, where it is a netlist.
+abbrev pub LinkedNetLinks : Type 0
+LinkedNetLinks =
+    (s : NamedSystem) (nets : ℕ → Net) → ((i : ℕ) → i < length s.parts → IsNetOf s.order (part_at s i) (nets i)) → IsNetlist (linked_net s nets)
+    → LinksParts s nets (λ i. in_part (part_at s i).name) (linked_net s nets)

@@ -1,6 +1,6 @@
 //! What holds of every netlist that links the netlists of parts.
 
-ghost use Rattle.sap_linked.specs.Laws.{NamesStayApart, LinkedNetsStand, PartsDeclare};
+ghost use Rattle.sap_linked.specs.Laws.{NamesStayApart, LinkedNetsStand, PartsDeclare, LinkedNetLinks};
 ghost use Rattle.sap_linked.specs.Designs.{LinkedDesignsStand};
 
 /// Names of parts stay apart in the module of their system.
@@ -30,4 +30,9 @@ pub fn linked_designs_stand()
 /// A netlist declares what each of its parts declares of a design, under the part's names in it.
 pub fn parts_declare()
     ensures { PartsDeclare }
+{}
+
+/// The netlist of a system, where it keeps the rules of netlists, links the netlists of the parts.
+pub fn linked_net_links()
+    ensures { LinkedNetLinks }
 {}
