@@ -23,7 +23,7 @@ some_same : {Y : Type 0} {a b : Y} → Some a ≡ Some b → a ≡ b
 some_same e = cc
 
 -- what is found of an entry
-found_of : {X Y : Type 0} (name : Y → Name) (of : Y → X) (ys : List Y) (x : Name) (y : Y) → find (map (λ y. (name y, y)) ys) x ≡ Some y → find (map (λ y. (name y, of y)) ys) x ≡ Some (of y)
+pub found_of : {X Y : Type 0} (name : Y → Name) (of : Y → X) (ys : List Y) (x : Name) (y : Y) → find (map (λ y. (name y, y)) ys) x ≡ Some y → find (map (λ y. (name y, of y)) ys) x ≡ Some (of y)
 found_of name of [] x y h = absurd (cc)
 found_of {X} {Y} name of (z ∷ ys) x y h =
     elim (cases_Bool (bytes_eq (name z) x)) [

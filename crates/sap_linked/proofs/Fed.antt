@@ -1,5 +1,5 @@
 -- What the inputs of parts have in a cycle of the whole.
-use Rattle.std.proofs.Common.{◌≡◌, ℕ, zero, suc, ◌+◌, Bool, true, not, List, [], ◌∷◌, map, filter, get_or, length, Option, Some, None, if◌then◌else◌, refl, sym, ◌∙◌, ap, ap₂, subst, inl, inr, arith}
+use Rattle.std.proofs.Common.{◌≡◌, ℕ, zero, suc, ◌+◌, Bool, true, not, List, [], ◌∷◌, map, filter, get_or, length, Option, Some, None, is_some, if◌then◌else◌, refl, sym, ◌∙◌, ap, ap₂, subst, inl, inr, arith}
 use Rattle.std.specs.List.{AllByRecursion}
 use Rattle.std.proofs.lemmas.Bool.{cases_Bool}
 use Rattle.sap_lemmas.proofs.Everywhere.{all_parts}
@@ -97,21 +97,28 @@ found_leads (u ∷ wires) e w is =
       | inr q ↦ found_leads wires e w (rw q at is)
     ]
 
--- what holds of all free inputs, and of those to which wires lead, holds of each input of a part
-module _ (y : System) (P : Endpoint → Type 0) (free : AllByRecursion P (free_inputs y)) (fed : AllByRecursion (λ w. P w.to) y.wires) where
-  none_feeds : (e : Endpoint) → feeding y.wires e ≡ None → not (is_fed y.wires e) ≡ true
-  none_feeds e is = rw is refl
+-- what holds of all free inputs holds of each input that no wire feeds, ..
+pub of_free : (y : System) (P : Endpoint → Type 0) → AllByRecursion P (free_inputs y) → (i x : ℕ) → is_input (world y i) x ≡ true → not (is_fed y.wires (endpoint i x)) ≡ true → P (endpoint i x)
+of_free y P free i x is none =
+    let all = if_passes (λ e. not (is_fed y.wires e)) P (inputs_of 0 y.parts) free in
+    let from_zero : 0 + i ≡ i = omega arith in
+    subst (λ n. not (is_fed y.wires (endpoint n x)) ≡ true → P (endpoint n x)) from_zero (at_part y.order (λ e. not (is_fed y.wires e) ≡ true → P e) 0 i y.parts all x is) none
 
-  by_feed : (i x : ℕ) → is_input (world y i) x ≡ true → (feeds : Option Wire) → feeding y.wires (endpoint i x) ≡ feeds → P (endpoint i x)
-  by_feed i x is None h =
-      let all = if_passes (λ e. not (is_fed y.wires e)) P (inputs_of 0 y.parts) free in
-      let from_zero : 0 + i ≡ i = omega arith in
-      subst (λ n. not (is_fed y.wires (endpoint n x)) ≡ true → P (endpoint n x)) from_zero (at_part y.order (λ e. not (is_fed y.wires e) ≡ true → P e) 0 i y.parts all x is)
-      (none_feeds (endpoint i x) h)
-  by_feed i x is (Some w) h = subst P (found_leads y.wires (endpoint i x) w h) (found_wire (λ w. P w.to) y.wires (endpoint i x) fed w h)
+-- .. what holds of all to which wires lead holds of each that is fed, ..
+by_found : (wires : List Wire) (P : Endpoint → Type 0) → AllByRecursion (λ w. P w.to) wires → (e : Endpoint) (feeds : Option Wire) → feeding wires e ≡ feeds → is_some feeds ≡ true → P e
+by_found wires P fed e None h is = absurd (cc)
+by_found wires P fed e (Some w) h is = subst P (found_leads wires e w h) (found_wire (λ w. P w.to) wires e fed w h)
 
-  pub each_input : (i x : ℕ) → is_input (world y i) x ≡ true → P (endpoint i x)
-  each_input i x is = by_feed i x is (feeding y.wires (endpoint i x)) refl
+pub of_fed : (wires : List Wire) (P : Endpoint → Type 0) → AllByRecursion (λ w. P w.to) wires → (e : Endpoint) → is_fed wires e ≡ true → P e
+of_fed wires P fed e is = by_found wires P fed e (feeding wires e) refl is
+
+-- .. and what holds of both holds of each input of a part
+pub each_input : (y : System) (P : Endpoint → Type 0) → AllByRecursion P (free_inputs y) → AllByRecursion (λ w. P w.to) y.wires → (i x : ℕ) → is_input (world y i) x ≡ true → P (endpoint i x)
+each_input y P free fed i x is =
+    elim (cases_Bool (is_fed y.wires (endpoint i x))) [
+      | inl t ↦ of_fed y.wires P fed (endpoint i x) t
+      | inr q ↦ of_free y P free i x is (rw q refl)
+    ]
 
 through_coded : (o : Order) → Codes o → (l : Option ℕ) (t : Tagged) → through_level o l t.number (code_of o t.level) ≡ ((let_through o l t).number, code_of o (let_through o l t).level)
 through_coded o codes None t = refl

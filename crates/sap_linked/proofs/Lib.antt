@@ -8,4 +8,5 @@ mod Linked
 mod Own
 mod SideBySide
 mod Declared
+mod Declaring
 mod Designs

@@ -3,7 +3,7 @@ use Rattle.std.proofs.Common.{◌≡◌, ℕ, zero, suc, ◌+◌, ◌<◌, Bool,
 use Rattle.std.specs.Prelude.{◌==◌, bit_or}
 use Rattle.std.specs.List.{AllByRecursion}
 use Rattle.std.proofs.lemmas.Bool.{cases_Bool}
-use Rattle.sap_lemmas.proofs.Everywhere.{all_of_map, all_parts, all_second}
+use Rattle.sap_lemmas.proofs.Everywhere.{all_append, all_of_map, all_parts, all_second, map_of_all}
 use Rattle.sap_lemmas.proofs.Options.{some_unique}
 use Rattle.sap_maps.specs.Maps.{Name, Valuation}
 use Rattle.sap_maps.specs.Scope.{find}
@@ -57,6 +57,18 @@ from_zero n = omega arith
 of_first : {X : Type 0} (items : ℕ → List X) (copy : (Name → Name) → X → X) (P : X → Type 0) (s : NamedSystem) (i : ℕ) → AllByRecursion P (copies_of items copy 0 s.parts) → i < length s.parts
     → AllByRecursion (λ x. P (copy (in_part (part_at s i).name) x)) (items i)
 of_first items copy P s i a low = subst (λ (n : ℕ). AllByRecursion (λ x. P (copy (in_part (part_at s i).name) x)) (items n)) (from_zero i) (at_copies items copy P s.order 0 i s.parts a low)
+
+-- and what holds of the copies of each part holds of all
+pub to_copies : {X : Type 0} (items : ℕ → List X) (copy : (Name → Name) → X → X) (P : X → Type 0) (o : Order) (k : ℕ) (ps : List Part)
+    → ((i : ℕ) → i < length ps → AllByRecursion (λ x. P (copy (in_part (get_or ps i (no_part o)).name) x)) (items (k + i))) → AllByRecursion P (copies_of items copy k ps)
+to_copies items copy P o k [] h = tt
+to_copies {X} items copy P o k (p ∷ ps) h =
+    let here : k + 0 ≡ k = omega arith in
+    all_append P (map (copy (in_part p.name)) (items k)) (copies_of items copy (suc k) ps)
+    (map_of_all P (copy (in_part p.name)) (items k) (subst (λ (n : ℕ). AllByRecursion (λ x. P (copy (in_part p.name) x)) (items n)) here (h 0 (omega arith))))
+    (to_copies items copy P o (suc k) ps (λ i low.
+    let same : k + suc i ≡ suc k + i = omega arith in
+    subst (λ (n : ℕ). AllByRecursion (λ x. P (copy (in_part (get_or ps i (no_part o)).name) x)) (items n)) same (h (suc i) (omega (arith, low)))))
 
 -- what holds of those that pass a test and of the others holds of all
 of_two : {X : Type 0} (test : X → Bool) (P : X → Type 0) (xs : List X) → AllByRecursion P (filter test xs) → AllByRecursion P (filter (λ x. not (test x)) xs) → AllByRecursion P xs

@@ -60,12 +60,16 @@ pub record DeclaresLinkedPart (s : NamedSystem) (i : ℕ) (p : Part) (declared :
       × (find declared.wires (in_part p.name (tag_name (name p.design x))) ≡ Some (width_of s.order))
   pub rest : DeclaresPart (in_part p.name) p.design (width_of s.order) p.sites declared
 
-pub record HasLinkedInterface (s : NamedSystem) (n : Net) : Type 0 where
+-- What it declares for the system, helping wires aside.
+pub record DeclaresSystem (s : NamedSystem) (n : Net) : Type 0 where
   pub module_name : n.module_name ≡ top_name
   pub ports : (declared_by n).ports ≡ linked_ports s
   pub parts : (i : ℕ) → i < length s.parts → DeclaresLinkedPart s i (part_at s i) (declared_by n)
   -- its registers and memories have no other names
   pub register_names : AllByRecursion (λ r. IsPartName s r.name) n.registers
   pub memory_names : AllByRecursion (λ m. IsPartName s m.name) n.memories
+
+pub record HasLinkedInterface (s : NamedSystem) (n : Net) : Type 0 where
+  pub declares : DeclaresSystem s n
   -- it declares nothing else but helping wires
   pub names : AllByRecursion (λ x. IsPartName s x ⊎ IsHelpingName x) n.names

@@ -11,6 +11,7 @@ use Rattle.sap_build.specs.Parts.{IsPart}
 use Rattle.sap_link.specs.Laws.{FineSystem, SizedSystem}
 use Rattle.sap_linked.specs.Parts.{NamedSystem, part_at, system_of, in_part, has_no_underscore}
 use Rattle.sap_linked.specs.Linking.{IsNetOf, LinksParts}
+use Rattle.sap_linked.specs.Interface.{DeclaresSystem}
 use Rattle.sap_linked.specs.Standing.{RunsStand}
 use Rattle.sap_linked.specs.Netlist.{linked_net}
 
@@ -37,3 +38,9 @@ abbrev pub LinkedNetLinks : Type 0
 LinkedNetLinks =
     (s : NamedSystem) (nets : ℕ → Net) → ((i : ℕ) → i < length s.parts → IsNetOf s.order (part_at s i) (nets i)) → IsNetlist (linked_net s nets)
     → LinksParts s nets (λ i. in_part (part_at s i).name) (linked_net s nets)
+
+-- And it declares what the module of the system is to declare, under the same condition.
+abbrev pub LinkedNetDeclares : Type 0
+LinkedNetDeclares =
+    (s : NamedSystem) (nets : ℕ → Net) → ((i : ℕ) → i < length s.parts → IsNetOf s.order (part_at s i) (nets i)) → IsNetlist (linked_net s nets)
+    → DeclaresSystem s (linked_net s nets)

@@ -1,6 +1,6 @@
 //! What holds of every netlist that links the netlists of parts.
 
-ghost use Rattle.sap_linked.specs.Laws.{NamesStayApart, LinkedNetsStand, PartsDeclare, LinkedNetLinks};
+ghost use Rattle.sap_linked.specs.Laws.{NamesStayApart, LinkedNetsStand, PartsDeclare, LinkedNetLinks, LinkedNetDeclares};
 ghost use Rattle.sap_linked.specs.Designs.{LinkedDesignsStand};
 
 /// Names of parts stay apart in the module of their system.
@@ -32,7 +32,9 @@ pub fn parts_declare()
     ensures { PartsDeclare }
 {}
 
-/// The netlist of a system, where it keeps the rules of netlists, links the netlists of the parts.
+/// The netlist of a system, where it keeps the rules of netlists, links the netlists of the parts, and declares the ports,
+/// inputs, registers, memories and wires of the system's interface.
 pub fn linked_net_links()
-    ensures { LinkedNetLinks }
+    ensures links { LinkedNetLinks }
+    ensures declares { LinkedNetDeclares }
 {}
