@@ -10,3 +10,4 @@ mod SideBySide
 mod Declared
 mod Declaring
 mod Designs
+mod Computed

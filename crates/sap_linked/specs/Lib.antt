@@ -5,3 +5,4 @@ pub mod Standing
 pub mod Netlist
 pub mod Laws
 pub mod Designs
+pub mod Examples
