@@ -1,4 +1,5 @@
 mod Apart
+mod Keeping
 mod Reading
 mod Alike
 mod Cycles

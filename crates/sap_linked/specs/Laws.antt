@@ -1,12 +1,15 @@
 -- The laws of netlists that link the netlists of parts.
 use Rattle.std.specs.Prelude.{◌≡◌, ◌<◌, ◌≤◌, ℕ, true, length}
+use Rattle.std.specs.List.{list_all}
 use Rattle.sap_maps.specs.Maps.{Name}
 use Rattle.sap_lattice.specs.Codes.{Codes}
+use Rattle.sap_net.specs.Names.{is_inner}
 use Rattle.sap_net.specs.Net.{Net}
 use Rattle.sap_net.specs.IsNetlist.{IsNetlist}
 use Rattle.sap_interface.specs.StandsFor.{Named}
-use Rattle.sap_interface.specs.Interface.{declared_by, DeclaresPart}
+use Rattle.sap_interface.specs.Interface.{declared_by, DeclaresPart, HasInterface}
 use Rattle.sap_interface.specs.InterfaceNames.{IsInterfaceName}
+use Rattle.sap_build.specs.Copies.{KeepsApart}
 use Rattle.sap_build.specs.Parts.{IsPart}
 use Rattle.sap_link.specs.Laws.{FineSystem, SizedSystem}
 use Rattle.sap_linked.specs.Parts.{NamedSystem, part_at, system_of, in_part, has_no_underscore}
@@ -20,6 +23,12 @@ abbrev pub NamesStayApart : Type 0
 NamesStayApart =
     (part other : Name) (x y : Name) → has_no_underscore part ≡ true → has_no_underscore other ≡ true → 2 ≤ length x → 2 ≤ length y
     → in_part part x ≡ in_part other y → (part ≡ other) × (x ≡ y)
+
+-- So behind the name of a part the names of a netlist with a design's interface stay apart, and are names that a module can have.
+abbrev pub PartsKeepApart : Type 0
+PartsKeepApart =
+    (part : Name) (d : Named) (tag sites : ℕ) (n : Net) → has_no_underscore part ≡ true → list_all is_inner part ≡ true → IsNetlist n → HasInterface d tag sites n
+    → KeepsApart (in_part part) n
 
 -- Where each part's netlist stands for its design, one that links them stands for the composite run in each of its runs.
 abbrev pub LinkedNetsStand : Type 0

@@ -1,5 +1,6 @@
 use Rattle.sap_linked.proofs.Apart.{stay_apart}
+use Rattle.sap_linked.proofs.Keeping.{parts_keep_apart}
 use Rattle.sap_linked.proofs.laws.names_stay_apart.Goals as goal
 
 pub returns : goal.returns
-returns c = stay_apart
+returns c = record { all = stay_apart; part = parts_keep_apart }
