@@ -32,6 +32,10 @@ abbrev pub level_text : Option (List ℕ) → (tag : ℕ) → List ℕ
 level_text (Some name) tag = name
 level_text None tag = codes "#" ++ decimal tag
 
+-- what stands before the number of the register of a name
+abbrev pub label_text : (name : List ℕ) → List ℕ
+label_text name = codes " " ++ name ++ codes "="
+
 abbrev pub shown_text : Shown → List ℕ
 shown_text s = codes " " ++ s.name ++ codes "=" ++ decimal s.value ++ codes "@" ++ level_text s.level s.tag
 

@@ -1,12 +1,14 @@
 //! Stimulus files, line by line, and the rows of a run.
 //!
 //! `parse_stream` reads the lines of a stimulus file before the first that is refused, and says which
-//! one that is and why. `push_row`, `row` and `row_into` print a cycle's registers.
+//! one that is and why. `push_row`, `row` and `row_into` print a cycle's registers;
+//! `labelled_row_into` does so with labels made beforehand.
 #![tactic(auto)]
 
 mod count;
 pub mod fault;
 pub mod field;
+pub mod label;
 mod line;
 mod room;
 pub mod rows;
@@ -19,9 +21,10 @@ ghost use Rattle.sap_stim.specs.Examples as examples;
 
 pub use fault::{StimCode, StimFault};
 pub use field::{Field, Fields};
+pub use label::{RowLabel, labels_of};
 pub use line::read_line_into;
 pub use room::{longest_level, row_room};
-pub use rows::{push_row, row, row_into};
+pub use rows::{labelled_row_into, push_row, row, row_into};
 pub use stimulus::{Parsed, parse_stream};
 pub use text::cut;
 

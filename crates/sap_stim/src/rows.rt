@@ -5,6 +5,7 @@ ghost use Rattle.std.specs.Fmt.{decimal};
 ghost use Rattle.sap_lattice.specs.Closure.{name_at};
 ghost use Rattle.sap_stim.specs.Rows.{row_room, row_text, shown, shown_of, shown_text, level_coded, level_text, all_shown};
 
+use crate::label::RowLabel;
 use sap_desk::{Bytes, RowBuf};
 use sap_lattice::lattice::Lattice;
 use sap_lattice::level::Level;
@@ -131,5 +132,82 @@ pub fn row_into(
 {
     let mut bytes = out.take();
     push_row(&mut bytes, cycle, names, values, tags, lattice).unwrap();
+    out.put(bytes);
+}
+
+fn push_labelled(
+    out: &mut Vec<u8>,
+    label: &RowLabel,
+    value: u64,
+    tag: u64,
+    lattice: &Lattice,
+) -> Result<(), AllocError>
+    ensures text { OnOk result (out.new.items ≡ out.old.items ++ shown_text (shown lattice.now label.now value tag)) }
+    ensures room { vec_capacity out.old ≤ vec_capacity out.new }
+    ensures full { OnErr result (vec_capacity out.old < length out.old.items + length (shown_text (shown lattice.now label.now value tag))) }
+{
+    out.extend_from_slice(label.as_bytes())?;
+    push_number(out, value)?;
+    out.push(b'@')?;
+    push_level(out, tag, lattice)
+}
+
+fn push_all_labelled(
+    out: &mut Vec<u8>,
+    labels: &[RowLabel],
+    values: &[u64],
+    tags: &[u64],
+    lattice: &Lattice,
+) -> Result<(), AllocError>
+    requires values { length values.now ≡ length labels.now }
+    requires tags { length tags.now ≡ length labels.now }
+    ensures text { OnOk result (out.new.items ≡ out.old.items ++ all_shown (shown_of lattice.now labels.now values.now tags.now)) }
+    ensures room { vec_capacity out.old ≤ vec_capacity out.new }
+    ensures full { OnErr result (vec_capacity out.old < length out.old.items + length (all_shown (shown_of lattice.now labels.now values.now tags.now))) }
+{
+    for i in 0..labels.len() {
+        push_labelled(out, &labels[i], values[i], tags[i], lattice)?;
+    }
+    out.extend_from_slice(b"\n")
+}
+
+fn push_labelled_row(
+    out: &mut Vec<u8>,
+    cycle: u64,
+    labels: &[RowLabel],
+    values: &[u64],
+    tags: &[u64],
+    lattice: &Lattice,
+) -> Result<(), AllocError>
+    requires values { length values.now ≡ length labels.now }
+    requires tags { length tags.now ≡ length labels.now }
+    ensures text { OnOk result (out.new.items ≡ out.old.items ++ row_text cycle (shown_of lattice.now labels.now values.now tags.now)) }
+    ensures room { vec_capacity out.old ≤ vec_capacity out.new }
+    ensures full { OnErr result (vec_capacity out.old < length out.old.items + length (row_text cycle (shown_of lattice.now labels.now values.now tags.now))) }
+{
+    out.extend_from_slice(b"cycle ")?;
+    push_number(out, cycle)?;
+    out.extend_from_slice(b":")?;
+    push_all_labelled(out, labels, values, tags, lattice)
+}
+
+/// Appends the row of a cycle as `row_into` does, the labels of its registers made beforehand. It takes no
+/// memory.
+pub fn labelled_row_into(
+    out: &mut RowBuf,
+    cycle: u64,
+    labels: &[RowLabel],
+    values: &[u64],
+    tags: &[u64],
+    lattice: &Lattice,
+)
+    requires values { length values.now ≡ length labels.now }
+    requires tags { length tags.now ≡ length labels.now }
+    requires fits { length out.old.bytes + row_room (shown_of lattice.now labels.now values.now tags.now) ≤ out.old.room }
+    ensures text { out.new.bytes ≡ out.old.bytes ++ row_text cycle (shown_of lattice.now labels.now values.now tags.now) }
+    ensures room { out.old.room ≤ out.new.room }
+{
+    let mut bytes = out.take();
+    push_labelled_row(&mut bytes, cycle, labels, values, tags, lattice).unwrap();
     out.put(bytes);
 }

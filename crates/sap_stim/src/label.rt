@@ -1,0 +1,65 @@
+//! The labels of registers in rows.
+
+ghost use Rattle.std.specs.Prelude.{◌≡◌, IfOk};
+ghost use Rattle.sap_stim.specs.Rows.{label_text};
+
+use sap_lattice::name::Name;
+use std::alloc::{AllocError, Global};
+use std::marker::Model;
+
+/// What stands before the number of a register in a row, seen as the register's name.
+#[derive(Drop)]
+pub struct RowLabel {
+    text: Vec<u8>,
+}
+
+impl Model for RowLabel {
+    ghost use Rattle.std.specs.Prelude.{◌≡◌, ◌-◌, ℕ, List, drop, length, take};
+    ghost use Rattle.sap_stim.specs.Rows.{label_text};
+
+    ghost Value = { List ℕ };
+
+    // between the space and the `=`
+    ghost view = { λ l. take (length l.text.items - 2) (drop 1 l.text.items) };
+
+    ghost invariant = { λ l. l.text.items ≡ label_text (take (length l.text.items - 2) (drop 1 l.text.items)) };
+}
+
+// The bytes of a label.
+fn label_text(alloc: Global, name: &[u8]) -> Result<Vec<u8>, AllocError>
+    ensures { IfOk result (λ text. text.items ≡ label_text name.now) }
+{
+    let mut text = Vec::with_capacity(alloc, name.len().saturating_add(2))?;
+    text.extend_from_slice(b" ")?;
+    text.extend_from_slice(name)?;
+    text.extend_from_slice(b"=")?;
+    Ok(text)
+}
+
+impl RowLabel {
+    /// The label of the register of a name.
+    pub fn new(alloc: Global, name: &Name) -> Result<RowLabel, AllocError>
+        ensures { IfOk result (λ label. label ≡ name.now) }
+    {
+        let text = label_text(alloc, name.as_bytes())?;
+        Ok(RowLabel { text })
+    }
+
+    /// The name between a space and `=`.
+    pub fn as_bytes(&self) -> &[u8]
+        ensures { result.now ≡ label_text self.now }
+    {
+        &self.text
+    }
+}
+
+/// The labels of the registers of these names.
+pub fn labels_of(alloc: Global, names: &[Name]) -> Result<Vec<RowLabel>, AllocError>
+    ensures { IfOk result (λ labels. labels.items ≡ names.now) }
+{
+    let mut labels = Vec::new(alloc);
+    for name in names {
+        labels.push(RowLabel::new(alloc, name)?)?;
+    }
+    Ok(labels)
+}
