@@ -50,6 +50,14 @@ level_written ls tag level text old new r coded small t e =
     joined_part_on_last r new old text (level_text (option_map (name_at ls.names) (level_coded ls tag)) tag) e
     (t ∙ ap (λ (k : ℕ). get_or ls.names k []) (level_in_same (length ls.names) level small) ∙ ap (λ (o : Option ℕ). level_text (option_map (name_at ls.names) o) tag) coded)
 
+-- a text more of the next tag
+pub texts_grow : (f : ℕ → List ℕ) (texts : List (List ℕ)) (text : List ℕ) → ((k : ℕ) (other : List ℕ) → k < length texts → get_or texts k other ≡ f k) → text ≡ f (length texts)
+    → (k : ℕ) (other : List ℕ) → k < length (texts ++ text ∷ []) → get_or (texts ++ text ∷ []) k other ≡ f k
+texts_grow f [] text at next zero other h = next
+texts_grow f [] text at next (suc k) other h = absurd (omega arith)
+texts_grow f (x ∷ xs) text at next zero other h = at zero other (omega arith)
+texts_grow f (x ∷ xs) text at next (suc k) other h = texts_grow (λ i. f (suc i)) xs text (λ i e small. at (suc i) e (omega arith)) next k other (omega arith)
+
 -- the room of texts
 
 pub row_fits : (cycle : ℕ) (ss : List Shown) → cycle < 2 ^ 64 → length (row_text cycle ss) ≤ row_room ss

@@ -1,5 +1,5 @@
 -- The row of a cycle: `cycle N:`, then ` NAME=VALUE@LEVEL` for each register in order, then LF.
-use Rattle.std.specs.Prelude.{ℕ, ◌+◌, ◌^◌, ◌<◌, ◌≤◌, All, List, [], ◌∷◌, ◌++◌, ◌==◌, codes, length, find, Option, Some, None, option_map}
+use Rattle.std.specs.Prelude.{◌≡◌, ℕ, ◌+◌, ◌^◌, ◌<◌, ◌≤◌, All, List, [], ◌∷◌, ◌++◌, ◌==◌, codes, length, get_or, find, Option, Some, None, option_map}
 use Rattle.std.specs.Fmt.{decimal}
 use Rattle.std.specs.Str.{byte}
 use Rattle.sap_lattice.specs.Closure.{name_at}
@@ -35,6 +35,14 @@ level_text None tag = codes "#" ++ decimal tag
 -- what stands before the number of the register of a name
 abbrev pub label_text : (name : List ℕ) → List ℕ
 label_text name = codes " " ++ name ++ codes "="
+
+-- what stands behind the number of a register with a tag
+abbrev pub at_level : Levels → (tag : ℕ) → List ℕ
+at_level ls tag = codes "@" ++ level_text (option_map (name_at ls.names) (level_coded ls tag)) tag
+
+-- what stands behind numbers, for each tag below so many
+abbrev pub AreLevelTexts : Levels → (texts : List (List ℕ)) → Type 0
+AreLevelTexts ls texts = (tag : ℕ) (other : List ℕ) → tag < length texts → get_or texts tag other ≡ at_level ls tag
 
 abbrev pub shown_text : Shown → List ℕ
 shown_text s = codes " " ++ s.name ++ codes "=" ++ decimal s.value ++ codes "@" ++ level_text s.level s.tag

@@ -1,11 +1,17 @@
-//! The labels of registers in rows.
+//! The parts of rows that are made once: the labels of registers, and the texts of levels.
 
 ghost use Rattle.std.specs.Prelude.{◌≡◌, IfOk};
-ghost use Rattle.sap_stim.specs.Rows.{label_text};
+ghost use Rattle.sap_stim.specs.Rows.{AreLevelTexts, at_level, label_text};
 
+use crate::rows::push_level;
+use sap_desk::Bytes;
+use sap_lattice::lattice::Lattice;
 use sap_lattice::name::Name;
 use std::alloc::{AllocError, Global};
 use std::marker::Model;
+
+/// How many tags have their text made beforehand.
+const TAGS_WITH_TEXT: u64 = 16;
 
 /// What stands before the number of a register in a row, seen as the register's name.
 #[derive(Drop)]
@@ -62,4 +68,25 @@ pub fn labels_of(alloc: Global, names: &[Name]) -> Result<Vec<RowLabel>, AllocEr
         labels.push(RowLabel::new(alloc, name)?)?;
     }
     Ok(labels)
+}
+
+// What stands behind the number of a register with a tag.
+fn level_text(alloc: Global, tag: u64, lattice: &Lattice) -> Result<Bytes, AllocError>
+    ensures { IfOk result (λ text. text ≡ at_level lattice.now tag) }
+{
+    let mut text = Vec::new(alloc);
+    text.push(b'@')?;
+    push_level(&mut text, tag, lattice)?;
+    Ok(Bytes::new(text))
+}
+
+/// What stands behind numbers, for the first tags.
+pub fn level_texts(alloc: Global, lattice: &Lattice) -> Result<Vec<Bytes>, AllocError>
+    ensures { IfOk result (λ texts. AreLevelTexts lattice.now texts.items) }
+{
+    let mut texts = Vec::new(alloc);
+    for tag in 0..TAGS_WITH_TEXT {
+        texts.push(level_text(alloc, tag, lattice)?)?;
+    }
+    Ok(texts)
 }

@@ -2,7 +2,7 @@
 //!
 //! `parse_stream` reads the lines of a stimulus file before the first that is refused, and says which
 //! one that is and why. `push_row`, `row` and `row_into` print a cycle's registers;
-//! `labelled_row_into` does so with labels made beforehand.
+//! `labelled_row_into` does so with the labels of registers and texts of levels made beforehand.
 #![tactic(auto)]
 
 mod count;
@@ -21,7 +21,7 @@ ghost use Rattle.sap_stim.specs.Examples as examples;
 
 pub use fault::{StimCode, StimFault};
 pub use field::{Field, Fields};
-pub use label::{RowLabel, labels_of};
+pub use label::{RowLabel, labels_of, level_texts};
 pub use line::read_line_into;
 pub use room::{longest_level, row_room};
 pub use rows::{labelled_row_into, push_row, row, row_into};

@@ -3,7 +3,7 @@
 ghost use Rattle.std.specs.Prelude.{◌≡◌, ◌+◌, ◌<◌, ◌≤◌, ◌++◌, IfOk, IfSome, OnErr, OnOk, length, vec_capacity, Option, option_map};
 ghost use Rattle.std.specs.Fmt.{decimal};
 ghost use Rattle.sap_lattice.specs.Closure.{name_at};
-ghost use Rattle.sap_stim.specs.Rows.{row_room, row_text, shown, shown_of, shown_text, level_coded, level_text, all_shown};
+ghost use Rattle.sap_stim.specs.Rows.{AreLevelTexts, at_level, row_room, row_text, shown, shown_of, shown_text, level_coded, level_text, all_shown};
 
 use crate::label::RowLabel;
 use sap_desk::{Bytes, RowBuf};
@@ -135,21 +135,41 @@ pub fn row_into(
     out.put(bytes);
 }
 
+// Appends `@` and the name of the level of a tag.
+fn push_at_level(
+    out: &mut Vec<u8>,
+    tag: u64,
+    levels: &[Bytes],
+    lattice: &Lattice,
+) -> Result<(), AllocError>
+    requires { AreLevelTexts lattice.now levels.now }
+    ensures text { OnOk result (out.new.items ≡ out.old.items ++ at_level lattice.now tag) }
+    ensures room { vec_capacity out.old ≤ vec_capacity out.new }
+    ensures full { OnErr result (vec_capacity out.old < length out.old.items + length (at_level lattice.now tag)) }
+{
+    if tag < levels.len() as u64 {
+        return out.extend_from_slice(levels[tag as usize].as_slice());
+    }
+    out.push(b'@')?;
+    push_level(out, tag, lattice)
+}
+
 fn push_labelled(
     out: &mut Vec<u8>,
     label: &RowLabel,
     value: u64,
     tag: u64,
+    levels: &[Bytes],
     lattice: &Lattice,
 ) -> Result<(), AllocError>
+    requires { AreLevelTexts lattice.now levels.now }
     ensures text { OnOk result (out.new.items ≡ out.old.items ++ shown_text (shown lattice.now label.now value tag)) }
     ensures room { vec_capacity out.old ≤ vec_capacity out.new }
     ensures full { OnErr result (vec_capacity out.old < length out.old.items + length (shown_text (shown lattice.now label.now value tag))) }
 {
     out.extend_from_slice(label.as_bytes())?;
     push_number(out, value)?;
-    out.push(b'@')?;
-    push_level(out, tag, lattice)
+    push_at_level(out, tag, levels, lattice)
 }
 
 fn push_all_labelled(
@@ -157,16 +177,18 @@ fn push_all_labelled(
     labels: &[RowLabel],
     values: &[u64],
     tags: &[u64],
+    levels: &[Bytes],
     lattice: &Lattice,
 ) -> Result<(), AllocError>
     requires values { length values.now ≡ length labels.now }
+    requires levels { AreLevelTexts lattice.now levels.now }
     requires tags { length tags.now ≡ length labels.now }
     ensures text { OnOk result (out.new.items ≡ out.old.items ++ all_shown (shown_of lattice.now labels.now values.now tags.now)) }
     ensures room { vec_capacity out.old ≤ vec_capacity out.new }
     ensures full { OnErr result (vec_capacity out.old < length out.old.items + length (all_shown (shown_of lattice.now labels.now values.now tags.now))) }
 {
     for i in 0..labels.len() {
-        push_labelled(out, &labels[i], values[i], tags[i], lattice)?;
+        push_labelled(out, &labels[i], values[i], tags[i], levels, lattice)?;
     }
     out.extend_from_slice(b"\n")
 }
@@ -177,9 +199,11 @@ fn push_labelled_row(
     labels: &[RowLabel],
     values: &[u64],
     tags: &[u64],
+    levels: &[Bytes],
     lattice: &Lattice,
 ) -> Result<(), AllocError>
     requires values { length values.now ≡ length labels.now }
+    requires levels { AreLevelTexts lattice.now levels.now }
     requires tags { length tags.now ≡ length labels.now }
     ensures text { OnOk result (out.new.items ≡ out.old.items ++ row_text cycle (shown_of lattice.now labels.now values.now tags.now)) }
     ensures room { vec_capacity out.old ≤ vec_capacity out.new }
@@ -188,26 +212,28 @@ fn push_labelled_row(
     out.extend_from_slice(b"cycle ")?;
     push_number(out, cycle)?;
     out.extend_from_slice(b":")?;
-    push_all_labelled(out, labels, values, tags, lattice)
+    push_all_labelled(out, labels, values, tags, levels, lattice)
 }
 
-/// Appends the row of a cycle as `row_into` does, the labels of its registers made beforehand. It takes no
-/// memory.
+/// Appends the row of a cycle as `row_into` does, the labels of its registers and texts of levels made
+/// beforehand. It takes no memory.
 pub fn labelled_row_into(
     out: &mut RowBuf,
     cycle: u64,
     labels: &[RowLabel],
     values: &[u64],
     tags: &[u64],
+    levels: &[Bytes],
     lattice: &Lattice,
 )
     requires values { length values.now ≡ length labels.now }
+    requires levels { AreLevelTexts lattice.now levels.now }
     requires tags { length tags.now ≡ length labels.now }
     requires fits { length out.old.bytes + row_room (shown_of lattice.now labels.now values.now tags.now) ≤ out.old.room }
     ensures text { out.new.bytes ≡ out.old.bytes ++ row_text cycle (shown_of lattice.now labels.now values.now tags.now) }
     ensures room { out.old.room ≤ out.new.room }
 {
     let mut bytes = out.take();
-    push_labelled_row(&mut bytes, cycle, labels, values, tags, lattice).unwrap();
+    push_labelled_row(&mut bytes, cycle, labels, values, tags, levels, lattice).unwrap();
     out.put(bytes);
 }
