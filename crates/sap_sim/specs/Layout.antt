@@ -7,6 +7,7 @@ use Rattle.sap_meaning.specs.Cycle.{Tagged as Given}
 use Rattle.sap_net.specs.declared.parts.Input.{Input}
 use Rattle.sap_net.specs.Net.{Net}
 use Rattle.sap_cycle.specs.Running.{value_names}
+use Rattle.sap_stim.specs.Rows.{AreLevelTexts}
 use Rattle.sap_sim.specs.declared.sources.Source.{Source}
 use Rattle.sap_sim.specs.declared.sources.Source.TheVariants.{Value, Code}
 use Rattle.sap_sim.specs.declared.steps.Plan.{Plan}
@@ -36,9 +37,10 @@ pub record ArePlaces (n : Net) (names : List Name) (places : List ℕ) : Type 0 
 abbrev pub seen_at : Net → Valuation → List ℕ → List ℕ
 seen_at n v places = map (λ k. v.value (get_or (value_names n) k [])) places
 
--- The plan of a netlist: the sources of the numbers of its inputs, and the registers that rows show, with the places of their numbers and tags.
+-- The plan of a netlist: the sources of the numbers of its inputs, and the registers that rows show, with the places of their numbers and tags, and texts of levels.
 pub record IsPlan (ls : Levels) (n : Net) (p : Plan) : Type 0 where
   pub sources : p.sources.items ≡ map (source_of (tag_width ls) n.inputs) n.inputs
   pub names : p.shown.names.items ≡ shown_registers ls n
   pub values : ArePlaces n (map value_name p.shown.names.items) p.shown.values.items
   pub tags : ArePlaces n (map tag_name p.shown.names.items) p.shown.tags.items
+  pub levels : AreLevelTexts ls p.levels.items

@@ -11,6 +11,7 @@ use crate::steps::Plan;
 use sap_cycle::runner::Runner;
 use sap_lattice::Lattice;
 use sap_net::netlist::Netlist;
+use sap_stim::level_texts;
 use std::alloc::{AllocError, Global};
 
 fn loaded(alloc: Global, netlist: Netlist) -> Result<Runner, AllocError>
@@ -44,8 +45,13 @@ pub fn planned_of(
 {
     let runner = loaded(alloc, netlist)?;
     let shown = shown_of(alloc, &runner, lattice.width())?;
+    let levels = level_texts(alloc, lattice)?;
     Ok(Planned {
         runner,
-        plan: Plan { sources, shown },
+        plan: Plan {
+            sources,
+            shown,
+            levels,
+        },
     })
 }

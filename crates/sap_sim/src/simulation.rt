@@ -5,7 +5,7 @@ ghost use Rattle.sap_meaning.specs.Cycle.{Tagged as Given};
 ghost use Rattle.sap_net.specs.Net.{Net};
 ghost use Rattle.sap_cycle.specs.Running.{ShowsNext};
 ghost use Rattle.sap_stim.specs.Fits.{LineFits};
-ghost use Rattle.sap_stim.specs.Rows.{HoldsRows, row_text, shown_of};
+ghost use Rattle.sap_stim.specs.Rows.{AreLevelTexts, HoldsRows, row_text, shown_of};
 ghost use Rattle.sap_sim.specs.Numbers.{numbers_of};
 ghost use Rattle.sap_sim.specs.Stepping.{HasRowMore, IsAfter, IsPlanned, RowsAddUp};
 
@@ -13,12 +13,11 @@ use crate::feed::feed_of;
 use crate::loading::planned_of;
 use crate::steps::{Plan, take_numbers, take_seen};
 use sap_cycle::runner::Runner;
-use sap_desk::RowBuf;
+use sap_desk::{Bytes, RowBuf};
 use sap_lattice::Lattice;
-use sap_lattice::name::Name;
 use sap_net::laws::one_run;
 use sap_net::netlist::Netlist;
-use sap_stim::{Fields, row_into, row_room, stimulus_fits};
+use sap_stim::{Fields, RowLabel, labelled_row_into, labels_of, row_room, stimulus_fits};
 use sap_stream::{Inputs, Tagged};
 use std::alloc::{AllocError, Global};
 use std::marker::Model;
@@ -31,6 +30,8 @@ pub struct Simulation {
     plan: Plan,
     fields: Fields,
     room: usize,
+    // what stands before the numbers in a row
+    labels: Vec<RowLabel>,
     // the numbers of the inputs, and what the rows show
     numbers: Vec<u64>,
     values: Vec<u64>,
@@ -47,7 +48,8 @@ impl Model for Simulation {
     ghost view = { λ s. record { runner = s.runner; plan = s.plan; fields = s.fields; room = s.room } };
 
     ghost invariant = { λ s. (length s.numbers.items ≡ length s.plan.sources.items)
-        × (length s.values.items ≡ length s.plan.shown.values.items) × (length s.tags.items ≡ length s.plan.shown.tags.items) };
+        × (length s.values.items ≡ length s.plan.shown.values.items) × (length s.tags.items ≡ length s.plan.shown.tags.items)
+        × (s.labels.items ≡ s.plan.shown.names.items) };
 }
 
 fn zeros(alloc: Global, count: usize) -> Result<Vec<u64>, AllocError>
@@ -58,10 +60,11 @@ fn zeros(alloc: Global, count: usize) -> Result<Vec<u64>, AllocError>
     Ok(zeros)
 }
 
-/// The room that a row takes, the numbers of the inputs of a cycle, and what its row shows.
+/// The room that a row takes and its labels, the numbers of the inputs of a cycle, and what its row shows.
 #[derive(Drop)]
 struct Held {
     room: usize,
+    labels: Vec<RowLabel>,
     numbers: Vec<u64>,
     values: Vec<u64>,
     tags: Vec<u64>,
@@ -70,6 +73,7 @@ struct Held {
 fn held_for(alloc: Global, lattice: &Lattice, plan: &Plan) -> Result<Held, AllocError>
     ensures holds { IfOk result (λ h. HoldsRows lattice.now plan.now.shown.names.items h.room) }
     ensures least { IfOk result (λ h. (other : ℕ) → HoldsRows lattice.now plan.now.shown.names.items other → h.room ≤ other) }
+    ensures labels { IfOk result (λ h. h.labels.items ≡ plan.now.shown.names.items) }
     ensures numbers { IfOk result (λ h. length h.numbers.items ≡ length plan.now.sources.items) }
     ensures values { IfOk result (λ h. length h.values.items ≡ length plan.now.shown.values.items) }
     ensures tags { IfOk result (λ h. length h.tags.items ≡ length plan.now.shown.tags.items) }
@@ -79,6 +83,7 @@ fn held_for(alloc: Global, lattice: &Lattice, plan: &Plan) -> Result<Held, Alloc
     };
     Ok(Held {
         room,
+        labels: labels_of(alloc, &plan.shown.names)?,
         numbers: zeros(alloc, plan.sources.len())?,
         values: zeros(alloc, plan.shown.values.len())?,
         tags: zeros(alloc, plan.shown.tags.len())?,
@@ -89,18 +94,20 @@ fn held_for(alloc: Global, lattice: &Lattice, plan: &Plan) -> Result<Held, Alloc
 fn push_held(
     out: &mut RowBuf,
     cycle: u64,
-    names: &[Name],
+    labels: &[RowLabel],
     values: &[u64],
     tags: &[u64],
+    levels: &[Bytes],
     lattice: &Lattice,
 )
-    requires values { length values.now ≡ length names.now }
-    requires tags { length tags.now ≡ length names.now }
-    requires room { (room : ℕ) × HoldsRows lattice.now names.now room × (length out.old.bytes + room ≤ out.old.room) }
-    ensures text { out.new.bytes ≡ out.old.bytes ++ row_text cycle (shown_of lattice.now names.now values.now tags.now) }
+    requires values { length values.now ≡ length labels.now }
+    requires tags { length tags.now ≡ length labels.now }
+    requires levels { AreLevelTexts lattice.now levels.now }
+    requires room { (room : ℕ) × HoldsRows lattice.now labels.now room × (length out.old.bytes + room ≤ out.old.room) }
+    ensures text { out.new.bytes ≡ out.old.bytes ++ row_text cycle (shown_of lattice.now labels.now values.now tags.now) }
     ensures memory { out.old.room ≤ out.new.room }
 {
-    row_into(out, cycle, names, values, tags, lattice);
+    labelled_row_into(out, cycle, labels, values, tags, levels, lattice);
 }
 
 impl Simulation {
@@ -117,6 +124,7 @@ impl Simulation {
             plan: planned.plan,
             fields: feed.fields,
             room: held.room,
+            labels: held.labels,
             numbers: held.numbers,
             values: held.values,
             tags: held.tags,
@@ -192,9 +200,10 @@ impl Simulation {
         push_held(
             out,
             cycle,
-            &self.plan.shown.names,
+            &self.labels,
             &self.values,
             &self.tags,
+            &self.plan.levels,
             lattice,
         );
     }

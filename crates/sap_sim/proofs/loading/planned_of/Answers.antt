@@ -14,4 +14,5 @@ returns-clause-plan c =
       names = c.in_ok-shown.ensures.names ∙ ap (λ (tag : ℕ). shown_among tag (port_widths m) (register_ports m.ports)) c.width.ensures;
       values = c.in_ok-shown.ensures.values;
       tags = c.in_ok-shown.ensures.tags;
+      levels = c.in_ok-levels.ensures;
     }

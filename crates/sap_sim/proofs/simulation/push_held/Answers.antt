@@ -3,8 +3,8 @@ use Rattle.std.specs.Prelude.{All}
 use Rattle.std.proofs.lemmas.List.Elements.{All-from_get_or}
 use Rattle.sap_sim.proofs.simulation.push_held.Goals as goal
 
-pub row_into-requires-clause-fits : goal.row_into-requires-clause-fits
-row_into-requires-clause-fits c =
+pub labelled_row_into-requires-clause-fits : goal.labelled_row_into-requires-clause-fits
+labelled_row_into-requires-clause-fits c =
     let values : All (λ n. n < 2 ^ 64) c.args.values.now = All-from_get_or (λ n. n < 2 ^ 64) c.args.values.now 0 (λ k h. (c.type_inv.values k).fits) in
     let tags : All (λ n. n < 2 ^ 64) c.args.tags.now = All-from_get_or (λ n. n < 2 ^ 64) c.args.tags.now 0 (λ k h. (c.type_inv.tags k).fits) in
     let held = c.requires.room.1 c.args.values.now c.args.tags.now values tags in

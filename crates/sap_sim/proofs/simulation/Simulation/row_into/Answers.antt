@@ -6,7 +6,7 @@ use Rattle.sap_meaning.specs.Cycle.{Tagged as Given}
 use Rattle.sap_net.specs.IsNetlist.{IsNetlist}
 use Rattle.sap_cycle.specs.Running.{seen, ShowsNext}
 use Rattle.sap_stim.specs.Fits.{LineFits}
-use Rattle.sap_stim.specs.Rows.{HoldsRows, row_text, shown_of}
+use Rattle.sap_stim.specs.Rows.{AreLevelTexts, HoldsRows, row_text, shown_of}
 use Rattle.sap_sim.specs.declared.sources.Source.{Source}
 use Rattle.sap_sim.specs.Layout.{number_from, seen_at, source_place}
 use Rattle.sap_sim.specs.Numbers.{numbers_of}
@@ -15,7 +15,7 @@ use Rattle.sap_sim.specs.Stepped.{Stepped}
 use Rattle.sap_sim.specs.Stepping.{IsAfter, IsPlanned}
 use Rattle.sap_sim.proofs.Stepping.{after_more, inputs_right, numbers_right, row_more, sources_there, tags_count, values_count}
 use Rattle.sap_sim.proofs.simulation.Simulation.row_into.Goals as goal
-use Rattle.sap_sim.proofs.simulation.Simulation.row_into.Goals.{After-deref-2, After-values}
+use Rattle.sap_sim.proofs.simulation.Simulation.row_into.Goals.{After-deref-2, After-deref-5, After-values}
 
 -- what the call finds
 abbrev the : After-values → Stepped Plan
@@ -45,23 +45,32 @@ step-requires c =
     inputs_right c.args.lattice.now (the d) c.args.line.now (planned d) (fits d) c.deref-2.result.now c.lawful.ensures.codes (subst IsNetlist c.netlist.ensures c.rules.ensures)
     (numbers_taken (goal.at.step-requires c).After-deref-2)
 
+-- the labels are those of the names
+named : (c : After-deref-5) → c.deref-5.result.now ≡ c.self.inside.plan.shown.names.items
+named c = c.deref-5.ensures.value ∙ c.self.invariant.3
+
 pub push_held-requires-clause-values : goal.push_held-requires-clause-values
 push_held-requires-clause-values c =
     let d = (goal.at.push_held-requires-clause-values c).After-values in
     ap length (c.deref-6.ensures.value ∙ with_items_is c.self.inside.values c.take_seen.new.numbers (search (rules, places))) ∙ c.take_seen.ensures.count ∙ ap length c.deref-3.ensures.value
-    ∙ values_count c.args.lattice.now (the d) (planned d) ∙ sym (ap length c.deref-5.ensures.value)
+    ∙ values_count c.args.lattice.now (the d) (planned d) ∙ sym (ap length (named (goal.at.push_held-requires-clause-values c).After-deref-5))
 
 pub push_held-requires-clause-tags : goal.push_held-requires-clause-tags
 push_held-requires-clause-tags c =
     let d = (goal.at.push_held-requires-clause-tags c).After-values in
     ap length (c.deref-7.ensures.value ∙ with_items_is c.self.inside.tags c.take_seen-2.new.numbers (search (rules, places))) ∙ c.take_seen-2.ensures.count ∙ ap length c.deref-4.ensures.value
-    ∙ tags_count c.args.lattice.now (the d) (planned d) ∙ sym (ap length c.deref-5.ensures.value)
+    ∙ tags_count c.args.lattice.now (the d) (planned d) ∙ sym (ap length (named (goal.at.push_held-requires-clause-tags c).After-deref-5))
+
+pub push_held-requires-clause-levels : goal.push_held-requires-clause-levels
+push_held-requires-clause-levels c =
+    let d = (goal.at.push_held-requires-clause-levels c).After-values in
+    subst (AreLevelTexts c.args.lattice.now) (sym c.deref-8.ensures.value) (planned d).plan.levels
 
 pub push_held-requires-clause-room : goal.push_held-requires-clause-room
 push_held-requires-clause-room c =
     let d = (goal.at.push_held-requires-clause-room c).After-values in (
       c.self.inside.room,
-      subst (λ (names : List Name). HoldsRows c.args.lattice.now names c.self.inside.room) (sym c.deref-5.ensures.value) (planned d).room,
+      subst (λ (names : List Name). HoldsRows c.args.lattice.now names c.self.inside.room) (sym (named (goal.at.push_held-requires-clause-room c).After-deref-5)) (planned d).room,
       subst (λ (s : Stepped Plan). length c.args.out.now.bytes + s.room ≤ c.args.out.now.room) (sym c.self.view_is) c.requires.room,
     )
 
@@ -86,4 +95,4 @@ returns-clause-row c = λ n lines at.
     c.args.cycle c.args.out.now.bytes c.push_held.new.out.bytes c.deref-6.result.now c.deref-7.result.now
     (λ k shows. c.deref-6.ensures.value ∙ with_items_is c.self.inside.values c.take_seen.new.numbers (search (rules, places)) ∙ c.take_seen.ensures.seen k shows ∙ ap (seen_at m (seen m k)) c.deref-3.ensures.value)
     (λ k shows. c.deref-7.ensures.value ∙ with_items_is c.self.inside.tags c.take_seen-2.new.numbers (search (rules, places)) ∙ c.take_seen-2.ensures.seen k shows ∙ ap (seen_at m (seen m k)) c.deref-4.ensures.value)
-    (c.push_held.ensures.text ∙ ap (λ (names : List Name). c.args.out.now.bytes ++ row_text c.args.cycle (shown_of ls names c.deref-6.result.now c.deref-7.result.now)) c.deref-5.ensures.value)
+    (c.push_held.ensures.text ∙ ap (λ (names : List Name). c.args.out.now.bytes ++ row_text c.args.cycle (shown_of ls names c.deref-6.result.now c.deref-7.result.now)) (named (goal.at.returns-clause-row c).After-deref-5))
