@@ -1,4 +1,4 @@
-use Rattle.std.proofs.Common.{◌≡◌, ◌∙◌, sym, ap, subst, length, arith}
+use Rattle.std.proofs.Common.{◌∙◌, sym, ap, subst, arith}
 use Rattle.sap_stim.specs.Rows.{AreLevelTexts, at_level}
 use Rattle.sap_stim.proofs.RowTexts.{texts_grow}
 use Rattle.sap_stim.proofs.label.level_texts.Goals as goal
