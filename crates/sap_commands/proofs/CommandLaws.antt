@@ -11,9 +11,10 @@ use Rattle.sap_stream.proofs.Agreeing.{at_most_one}
 use Rattle.sap_sim.specs.Labelled.RunOf.{read_for as design_stimulus}
 use Rattle.sap_sim.specs.Simulated.{read_for as module_stimulus}
 use Rattle.sap_files.specs.Ending.{Ending, Refusal, done, refused, failed, no_memory, status_of, status_of_refusal, IsFree}
-use Rattle.sap_files.specs.Kinds.{design_file, design_text_file, lattice_file, module_file, stream_file}
+use Rattle.sap_files.specs.Kinds.{design_file, design_text_file, lattice_file, module_file, module_stream_file, stream_file, wave_file}
 use Rattle.sap_files.specs.Compared.{IsVerdict}
-use Rattle.sap_words.specs.Words.{Words, IsTwin, compile, run, trace, fmt, sim, report, twin, gen, command_of}
+use Rattle.sap_net.specs.Net.{Net}
+use Rattle.sap_words.specs.Words.{Words, IsTwin, compile, run, trace, fmt, sim, wave, unwave, report, twin, gen, command_of}
 use Rattle.sap_files.specs.Asks.{Asks, file, by, AreLawful, MayEnd, end_of}
 use Rattle.sap_commands.specs.Commands.{OneCause, OneOutput, asks, asks_for, asks_if, at_level, compared}
 use Rattle.sap_files.proofs.Lattices.{lattice_lawful}
@@ -21,7 +22,8 @@ use Rattle.sap_files.proofs.Designs.{design_lawful, text_lawful}
 use Rattle.sap_files.proofs.Modules.{module_lawful}
 use Rattle.sap_files.proofs.Netlists.{module_netlist}
 use Rattle.sap_files.proofs.NetsAlike.{one_rows}
-use Rattle.sap_files.proofs.Streams.{stream_lawful}
+use Rattle.sap_files.proofs.Streams.{module_stream_lawful, stream_lawful}
+use Rattle.sap_files.proofs.Dumps.{wave_lawful}
 use Rattle.sap_files.proofs.Lawful.{one_cause, one_text}
 
 -- two streams
@@ -62,6 +64,9 @@ lawful (trace lattice design stimulus) =
 lawful (fmt design) = (text_lawful, λ source d a text other x y. x ∙ sym y)
 lawful (sim lattice verilog stimulus) =
     (lattice_lawful, λ bytes ls a. (module_lawful, λ text net b. λ found. one_rows ls net (module_netlist text net b) found))
+lawful (wave lattice verilog stimulus out) =
+    (lattice_lawful, λ bytes ls a. (module_lawful, λ text net b. (module_stream_lawful ls net, λ lines stream d. tt)))
+lawful (unwave lattice dump) = (lattice_lawful, λ bytes ls a. (wave_lawful, λ text w b one other x y. x ∙ sym y))
 lawful (report lattice design) = (lattice_lawful, λ bytes ls a. (design_lawful ls, λ source d b text other x y. x ∙ sym y))
 lawful (twin lattice design first second level) = (
   lattice_lawful,
@@ -105,6 +110,12 @@ text_two e bytes why is refusal two = not_two e why 1 is (ap status_of_refusal r
 module_two : (e : Ending) (bytes : List ℕ) (why : Refusal) → e ≡ refused why → module_file.Refused bytes why → status_of e ≡ 2 → ⊥
 module_two e bytes why is refusal two = not_two e why 5 is (ap status_of_refusal refusal.1) (λ x. omega (arith, x)) two
 
+stream_two : (ls : Levels) (net : Net) (e : Ending) (bytes : List ℕ) (why : Refusal) → e ≡ refused why → (module_stream_file ls net).Refused bytes why → status_of e ≡ 2 → ⊥
+stream_two ls net e bytes why is refusal two = not_two e why 4 is (ap status_of_refusal refusal.1) (λ x. omega (arith, x)) two
+
+wave_two : (e : Ending) (bytes : List ℕ) (why : Refusal) → e ≡ refused why → wave_file.Refused bytes why → status_of e ≡ 2 → ⊥
+wave_two e bytes why is refusal two = not_two e why 10 is (ap status_of_refusal refusal.1) (λ x. omega (arith, x)) two
+
 two_twin : (c : Words) (e : Ending) → MayEnd (asks c) e → status_of e ≡ 2 → IsTwin (Some c)
 two_twin (twin lattice design first second level) e may two = (lattice, design, first, second, level, refl)
 two_twin (compile lattice design out) e (inl (bytes, why, is, r)) two = absurd (lattice_two e bytes why is r two)
@@ -121,6 +132,13 @@ two_twin (fmt design) e (inr (source, d, a, is)) two = absurd (is_done e is two)
 two_twin (sim lattice verilog stimulus) e (inl (bytes, why, is, r)) two = absurd (lattice_two e bytes why is r two)
 two_twin (sim lattice verilog stimulus) e (inr (bytes, ls, a, inl (text, why, is, r))) two = absurd (module_two e text why is r two)
 two_twin (sim lattice verilog stimulus) e (inr (bytes, ls, a, inr (text, net, b, (found, is)))) two = absurd (rows_end (module_stimulus ls net found).fault e is two)
+two_twin (wave lattice verilog stimulus out) e (inl (bytes, why, is, r)) two = absurd (lattice_two e bytes why is r two)
+two_twin (wave lattice verilog stimulus out) e (inr (bytes, ls, a, inl (text, why, is, r))) two = absurd (module_two e text why is r two)
+two_twin (wave lattice verilog stimulus out) e (inr (bytes, ls, a, inr (text, net, b, inl (lines, why, is, r)))) two = absurd (stream_two ls net e lines why is r two)
+two_twin (wave lattice verilog stimulus out) e (inr (bytes, ls, a, inr (text, net, b, inr (lines, stream, d, is)))) two = absurd (is_done e is two)
+two_twin (unwave lattice dump) e (inl (bytes, why, is, r)) two = absurd (lattice_two e bytes why is r two)
+two_twin (unwave lattice dump) e (inr (bytes, ls, a, inl (text, why, is, r))) two = absurd (wave_two e text why is r two)
+two_twin (unwave lattice dump) e (inr (bytes, ls, a, inr (text, w, b, is))) two = absurd (is_done e is two)
 two_twin (report lattice design) e (inl (bytes, why, is, r)) two = absurd (lattice_two e bytes why is r two)
 two_twin (report lattice design) e (inr (bytes, ls, a, inl (source, why, is, r))) two = absurd (design_two ls e source why is r two)
 two_twin (report lattice design) e (inr (bytes, ls, a, inr (source, d, b, is))) two = absurd (is_done e is two)

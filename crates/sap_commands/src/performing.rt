@@ -11,7 +11,7 @@ use crate::running::run;
 use crate::tracing::trace_design;
 use sap_desk::Desk;
 use sap_files::failure::Failure;
-use sap_files::{format, report_design, simulate};
+use sap_files::{format, report_design, simulate, unwave, wave};
 use sap_words::Command;
 use std::alloc::Global;
 
@@ -45,6 +45,13 @@ pub fn perform<'a, D: Desk>(
             verilog,
             stimulus,
         } => simulate(alloc, desk, lattice, verilog, stimulus),
+        Command::Wave {
+            lattice,
+            verilog,
+            stimulus,
+            out,
+        } => wave(alloc, desk, lattice, verilog, stimulus, out),
+        Command::Unwave { lattice, wave } => unwave(alloc, desk, lattice, wave),
         Command::Report { lattice, design } => report_design(alloc, desk, lattice, design),
         Command::Twin {
             lattice,

@@ -16,3 +16,4 @@ pub mod Fronts
 pub mod Reading
 pub mod Streams
 pub mod Wholes
+pub mod Dumps

@@ -1,5 +1,5 @@
 -- A module has one text of rows on a stimulus, and two lattices that are the same give it the same.
-use Rattle.std.proofs.Common.{◌≡◌, ℕ, ◌+◌, true, false, List, [], ◌∷◌, ◌++◌, map, None, refl, sym, ◌∙◌, ap, subst, inl, inr}
+use Rattle.std.proofs.Common.{◌≡◌, ℕ, ◌+◌, true, false, List, [], ◌∷◌, ◌++◌, drop, map, None, refl, sym, ◌∙◌, ap, subst, inl, inr}
 use Rattle.std.specs.Prelude.{◌==◌, bytes_eq, find as find_level, if◌then◌else◌, length, option_map}
 use Rattle.std.specs.List.{AllByRecursion}
 use Rattle.std.proofs.lemmas.Bool.{cases_Bool, false≢true}
@@ -33,6 +33,8 @@ use Rattle.sap_net.specs.Shown.{port_widths, register_ports, shown_among}
 use Rattle.sap_sim.specs.Shown.{row_of, rows_from, shown_registers}
 use Rattle.sap_sim.specs.Simulated.{IsSimulated, Rows, read_for}
 use Rattle.sap_sim.proofs.Registers.{IsShown, all_shown, register_port_is}
+use Rattle.sap_wave.specs.Waves.{Wave, names_of}
+use Rattle.sap_wave_rows.specs.Rows.{by_name, rows_of_wave, shown_variables, widths_of}
 use Rattle.sap_files.specs.StimulusTexts.{AreModuleRows}
 use Rattle.sap_files.proofs.Stimuli.{stimulus_in}
 
@@ -55,6 +57,9 @@ module _ (l m : Levels) (same : AreSame l m) where
   read_net_in n bytes =
       ap (λ (o : Order). stimulus_of l (map (field_of (width_of o) n.inputs) (with_field (width_of o) n.inputs)) bytes) same.order
       ∙ stimulus_in l m same (fields_of m n) bytes
+
+  pub line_numbers_in : (n : Net) → numbers_of l n ≡ numbers_of m n
+  line_numbers_in n = ap (λ (o : Order) (xs : List Given). map (number_by o n.inputs xs) n.inputs) same.order
 
   numbers_in : (n : Net) (stream : List (List Given)) → map (numbers_of l n) stream ≡ map (numbers_of m n) stream
   numbers_in n stream = ap (λ (o : Order). map (λ xs. map (number_by o n.inputs xs) n.inputs) stream) same.order
@@ -80,6 +85,12 @@ module _ (l m : Levels) (same : AreSame l m) where
   from_in xs k [] = refl
   from_in xs k (v ∷ vs) =
       ap (λ (text : List ℕ). text ++ rows_from l xs (k + 1) vs) (row_in xs k v) ∙ ap (λ (text : List ℕ). row_of m xs k v ++ text) (from_in xs (k + 1) vs)
+
+  pub waves_in : (w : Wave) → rows_of_wave l w ≡ rows_of_wave m w
+  waves_in w =
+      let numbers = map (by_name w.variables) (drop 1 w.blocks) in
+      from_in (shown_variables l w.variables) 1 numbers
+      ∙ ap (λ (o : Order). rows_from m (shown_among (width_of o) (widths_of w.variables) (names_of w.variables)) 1 numbers) same.order
 
 -- two runs of a netlist have the same rows
 

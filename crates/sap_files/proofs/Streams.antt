@@ -24,11 +24,13 @@ use Rattle.sap_stream.specs.Apart.{AreOfOneLength}
 use Rattle.sap_sim.proofs.Fits.{counts}
 use Rattle.sap_sim.specs.Labelled.Fields.{design_fields}
 use Rattle.sap_sim.specs.Labelled.RunOf.{read_for}
+use Rattle.sap_sim.specs.Simulated.{read_for as read_for_module}
+use Rattle.sap_net.specs.Net.{Net}
 use Rattle.sap_sim.proofs.labelled.Designs.{fit_stream}
 use Rattle.sap_interface.specs.Designs.{named_of}
 use Rattle.sap_interface.specs.StandsFor.{world}
 use Rattle.sap_files.specs.Ending.{Ending, stimulus_refused}
-use Rattle.sap_files.specs.Kinds.{IsLawful, stream_file}
+use Rattle.sap_files.specs.Kinds.{IsLawful, stream_by, stream_file, module_stream_file}
 use Rattle.sap_files.specs.Compared.{input_names, is_input}
 use Rattle.sap_files.specs.Steps.{Refuses}
 use Rattle.sap_files.proofs.Alike.{read_in}
@@ -68,13 +70,19 @@ module _ (names : List (List ℕ)) (word : List ℕ) where
 fault_stream : (o : Option StimFault) (fault : StimFault) → o ≡ None → o ≡ Some fault → ⊥
 fault_stream o fault none some = cc
 
-pub stream_lawful : (place : ℕ) (ls : Levels) (d : DesignTree) → IsLawful (stream_file place ls d)
-stream_lawful place ls d = record {
+lawful_by : (place : ℕ) (read : List ℕ → Parsed) → IsLawful (stream_by place read)
+lawful_by place read = record {
   one_value = λ bytes v w is was. ap (λ (p : Parsed). p.stream) (sym is ∙ was);
   one_reason = λ bytes why other (fault, is, stands) (fault', was, stands').
-      is ∙ ap (stimulus_refused place) (some_unique (read_for ls d bytes).fault fault fault' stands stands') ∙ sym was;
-  not_both = λ bytes v why is refusal. fault_stream (read_for ls d bytes).fault refusal.0 (ap (λ (p : Parsed). p.fault) is) refusal.2;
+      is ∙ ap (stimulus_refused place) (some_unique (read bytes).fault fault fault' stands stands') ∙ sym was;
+  not_both = λ bytes v why is refusal. fault_stream (read bytes).fault refusal.0 (ap (λ (p : Parsed). p.fault) is) refusal.2;
 }
+
+pub stream_lawful : (place : ℕ) (ls : Levels) (d : DesignTree) → IsLawful (stream_file place ls d)
+stream_lawful place ls d = lawful_by place (read_for ls d)
+
+pub module_stream_lawful : (ls : Levels) (net : Net) → IsLawful (module_stream_file ls net)
+module_stream_lawful ls net = lawful_by 1 (read_for_module ls net)
 
 module _ (l m : Levels) (same : AreSame l m) (place : ℕ) (d : DesignTree) (bytes : List ℕ) where
   pub stream_in : (stream : List (List Tagged)) → (stream_file place l d).Stands bytes stream → (stream_file place m d).Stands bytes stream

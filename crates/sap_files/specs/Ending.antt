@@ -12,6 +12,8 @@ use Rattle.sap_vread.specs.FaultTexts.{module_text}
 use Rattle.sap_vread.specs.declared.fault.ModFault.{ModFault}
 use Rattle.sap_stim.specs.FaultTexts.{stimulus_text}
 use Rattle.sap_stim.specs.declared.fault.StimFault.{StimFault}
+use Rattle.sap_wave.specs.FaultTexts.{wave_text}
+use Rattle.sap_wave.specs.declared.fault.WaveFault.{WaveFault}
 
 -- what is refused of the words and files, and why
 pub data Refusal : Type 0 where
@@ -26,6 +28,7 @@ pub data Refusal : Type 0 where
   -- two streams have not as many cycles; or they first don't agree in this cycle, at this input
   lengths_apart : (one other : ℕ) → Refusal
   inputs_apart : (cycle : ℕ) (name : List ℕ) → Refusal
+  wave_refused : WaveFault → Refusal
 
 pub data Ending : Type 0 where
   done : Ending
@@ -43,6 +46,7 @@ status_of_refusal (stimulus_refused place fault) = 4
 status_of_refusal (module_refused fault) = 5
 status_of_refusal (lengths_apart one other) = 8
 status_of_refusal (inputs_apart cycle name) = 8
+status_of_refusal (wave_refused fault) = 10
 
 abbrev pub status_of : Ending → ℕ
 status_of done = 0
@@ -71,6 +75,7 @@ refusal_text (module_refused fault) = codes "module: " ++ module_text fault
 refusal_text (level_refused word) = codes "level " ++ word
 refusal_text (lengths_apart one other) = codes "streams: lengths " ++ decimal one ++ codes " and " ++ decimal other
 refusal_text (inputs_apart cycle name) = codes "streams: cycle " ++ decimal cycle ++ codes " input " ++ name
+refusal_text (wave_refused fault) = codes "wave: " ++ wave_text fault
 
 -- nothing where the call is done
 abbrev pub line_of : Ending → List ℕ

@@ -11,16 +11,22 @@ use Rattle.sap_lex.specs.declared.fault.ReadFault.{ReadFault}
 use Rattle.sap_shape.specs.WellFormed.{WellFormed}
 use Rattle.sap_meaning.specs.Cycle.{Tagged}
 use Rattle.sap_stim.specs.declared.fault.StimFault.{StimFault}
+use Rattle.sap_stim.specs.declared.stimulus.Parsed.{Parsed}
 use Rattle.sap_sim.specs.Labelled.RunOf.{read_for}
+use Rattle.sap_sim.specs.Simulated.{read_for as read_for_module}
 use Rattle.sap_net.specs.Net.{Net}
 use Rattle.sap_vtext.specs.Modules.{IsModule}
 use Rattle.sap_vread.specs.ModuleFault.{IsModuleFault}
 use Rattle.sap_vread.specs.declared.fault.ModFault.{ModFault}
 use Rattle.sap_vread.specs.declared.fault.ModFault.TheVariants as module_fault
+use Rattle.sap_wave.specs.Dumps.{IsReading}
+use Rattle.sap_wave.specs.Read.{IsWaveFault}
+use Rattle.sap_wave.specs.Waves.{Wave}
+use Rattle.sap_wave.specs.declared.fault.WaveFault.{WaveFault}
 use Rattle.sap_files.specs.DesignFaults.{IsDesignFault}
 use Rattle.sap_files.specs.declared.fault.DesignFault.{DesignFault}
 use Rattle.sap_files.specs.declared.fault.DesignFault.TheVariants as design_fault
-use Rattle.sap_files.specs.Ending.{Refusal, lattice_refused, design_refused, stimulus_refused, module_refused}
+use Rattle.sap_files.specs.Ending.{Refusal, lattice_refused, design_refused, stimulus_refused, module_refused, wave_refused}
 
 -- What a file is read as: the number of bytes behind which it is read no further, if any; when its bytes stand for a value; and when they are
 -- refused, and why.
@@ -97,11 +103,29 @@ module_file = record {
   Refused = λ text why. (fault : ModFault) × (why ≡ module_refused fault) × (fault ≢ module_fault.Memory) × IsModuleFault text fault;
 }
 
--- stimulus files of a design whose every line is taken, the first or the second of the words
-abbrev pub stream_file : (place : ℕ) → Levels → DesignTree → Kind
-stream_file place ls d = record {
+-- Stimulus files whose every line is taken, the first or the second of the words, by what bytes are read as.
+
+abbrev pub stream_by : (place : ℕ) → (read : List ℕ → Parsed) → Kind
+stream_by place read = record {
   most = None;
   Value = List (List Tagged);
-  Stands = λ bytes stream. read_for ls d bytes ≡ record { stream = stream; fault = None };
-  Refused = λ bytes why. (fault : StimFault) × (why ≡ stimulus_refused place fault) × ((read_for ls d bytes).fault ≡ Some fault);
+  Stands = λ bytes stream. read bytes ≡ record { stream = stream; fault = None };
+  Refused = λ bytes why. (fault : StimFault) × (why ≡ stimulus_refused place fault) × ((read bytes).fault ≡ Some fault);
+}
+
+-- those of a design
+abbrev pub stream_file : (place : ℕ) → Levels → DesignTree → Kind
+stream_file place ls d = stream_by place (read_for ls d)
+
+-- and of a module
+abbrev pub module_stream_file : Levels → Net → Kind
+module_stream_file ls net = stream_by 1 (read_for_module ls net)
+
+-- value change dumps
+abbrev pub wave_file : Kind
+wave_file = record {
+  most = None;
+  Value = Wave;
+  Stands = IsReading;
+  Refused = λ bytes why. (fault : WaveFault) × (why ≡ wave_refused fault) × IsWaveFault bytes fault;
 }

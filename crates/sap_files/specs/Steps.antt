@@ -15,8 +15,10 @@ use Rattle.sap_check.specs.Checked.{levels_in, tree_in}
 use Rattle.sap_check.specs.declared.checked.Checked.{Checked}
 use Rattle.sap_vread.specs.declared.fault.ModFault.{ModFault}
 use Rattle.sap_vread.specs.declared.fault.ModFault.TheVariants as module_fault
+use Rattle.sap_wave.specs.declared.fault.WaveFault.{WaveFault}
+use Rattle.sap_wave.specs.declared.fault.WaveFault.TheVariants as wave_fault
 use Rattle.sap_files.specs.declared.fault.DesignFault.TheVariants as design_fault
-use Rattle.sap_files.specs.Ending.{Ending, Refusal as Reason, done, refused, failed, no_memory, lattice_refused, design_refused, stimulus_refused, module_refused, level_refused, lengths_apart, inputs_apart, IsFree}
+use Rattle.sap_files.specs.Ending.{Ending, Refusal as Reason, done, refused, failed, no_memory, lattice_refused, design_refused, stimulus_refused, module_refused, level_refused, lengths_apart, inputs_apart, wave_refused, IsFree}
 use Rattle.sap_files.specs.Kinds.{Kind, IsLatticeFile, IsWellFormedText, design_file, lattice_file, table_by}
 use Rattle.sap_stim.specs.declared.field.Field.{Field}
 use Rattle.sap_stim.specs.Stimulus.{stimulus_of}
@@ -29,7 +31,7 @@ use Rattle.sap_files.specs.declared.files.LatticeFile.{LatticeFile}
 use Rattle.sap_files.specs.declared.failure.Failure.{Failure}
 use Rattle.sap_files.specs.declared.failure.Failure.TheVariants.{Refused, Desk, Memory}
 use Rattle.sap_files.specs.declared.refusal.Refusal.{Refusal}
-use Rattle.sap_files.specs.declared.refusal.Refusal.TheVariants.{Lattice, Design, Stimulus, Module, Level, Lengths, Input}
+use Rattle.sap_files.specs.declared.refusal.Refusal.TheVariants.{Lattice, Design, Stimulus, Module, Level, Lengths, Input, Wave}
 
 abbrev pub reason : Refusal → Reason
 reason (Lattice fault) = lattice_refused fault
@@ -39,8 +41,9 @@ reason (Module fault) = module_refused fault
 reason (Level word) = level_refused word.now
 reason (Lengths one other) = lengths_apart one other
 reason (Input cycle name) = inputs_apart cycle name
+reason (Wave fault) = wave_refused fault
 
--- why the bytes of a lattice file, of a design file and of a module file end a command
+-- why the bytes of a lattice file, of a design file, of a module file and of a dump end a command
 
 abbrev pub lattice_failure : LatFileFault → Failure
 lattice_failure lattice_fault.Memory = Memory
@@ -57,6 +60,10 @@ check_failure fault = Refused (Design (design_fault.Check fault))
 abbrev pub module_failure : ModFault → Failure
 module_failure module_fault.Memory = Memory
 module_failure fault = Refused (Module fault)
+
+abbrev pub wave_failure : WaveFault → Failure
+wave_failure wave_fault.Memory = Memory
+wave_failure fault = Refused (Wave fault)
 
 abbrev pub ending : Failure → Ending
 ending (Refused why) = refused (reason why)

@@ -1,11 +1,14 @@
--- What the commands ask that need no module: a design as its canonical text, a module's rows, a report.
+-- What the commands ask that compile nothing: a design as its canonical text, a module's rows, a report, a module's dump, the rows of a dump.
 use Rattle.std.specs.Prelude.{◌≡◌, ℕ, List}
+use Rattle.sap_sim.specs.Numbers.{numbers_of}
 use Rattle.sap_sim.specs.Simulated.{read_for as module_stimulus}
 use Rattle.sap_show.specs.Canonical.{canonical_text}
 use Rattle.sap_report.specs.Report.{report_text}
-use Rattle.sap_files.specs.Kinds.{lattice_file, design_file, design_text_file, module_file}
+use Rattle.sap_wave_rows.specs.Rows.{rows_of_wave}
+use Rattle.sap_wave_run.specs.Dumped.{IsDumpOn}
+use Rattle.sap_files.specs.Kinds.{lattice_file, design_file, design_text_file, module_file, module_stream_file, wave_file}
 use Rattle.sap_files.specs.StimulusTexts.{AreModuleRows}
-use Rattle.sap_files.specs.Asks.{Asks, file, gives, prints}
+use Rattle.sap_files.specs.Asks.{Asks, file, gives, prints, writes}
 
 abbrev pub asks_canonical : (design : List ℕ) → Asks
 asks_canonical design = file design design_text_file (λ d. gives (λ text. text ≡ canonical_text d))
@@ -18,3 +21,12 @@ asks_simulated lattice verilog stimulus =
 abbrev pub asks_report : (lattice design : List ℕ) → Asks
 asks_report lattice design =
     file lattice lattice_file (λ ls. file design (design_file ls) (λ d. gives (λ text. text ≡ report_text ls d)))
+
+abbrev pub asks_wave : (lattice verilog stimulus out : List ℕ) → Asks
+asks_wave lattice verilog stimulus out =
+    file lattice lattice_file (λ ls. file verilog module_file (λ net. file stimulus (module_stream_file ls net) (λ stream.
+    writes out (IsDumpOn net (numbers_of ls net) stream))))
+
+abbrev pub asks_unwave : (lattice dump : List ℕ) → Asks
+asks_unwave lattice dump =
+    file lattice lattice_file (λ ls. file dump wave_file (λ wave. gives (λ text. text ≡ rows_of_wave ls wave)))

@@ -1,19 +1,26 @@
 //! A file read as one of a kind: what its bytes stand for, or how the command ends there.
 
+ghost use Rattle.std.specs.Prelude.{All};
 ghost use Rattle.sap_check.specs.Checked.{levels_in, tree_in};
+ghost use Rattle.sap_stim.specs.Line.{IsSized};
+ghost use Rattle.sap_stim.specs.Stimulus.{stimulus_of};
 ghost use Rattle.sap_tree.specs.Designs.{design_of as tree_of};
-ghost use Rattle.sap_files.specs.Kinds.{design_text_file, module_file, stream_file};
+ghost use Rattle.sap_files.specs.Kinds.{design_text_file, module_file, stream_by, stream_file, wave_file};
 ghost use Rattle.sap_files.specs.Steps.{Gets, GetsChecked, GetsLattice, seen};
 
 use crate::comparing::stream_of;
 use crate::failure::Failure;
-use crate::inputs::{checked_from, lattice_from, module_from, read, read_design, text_from};
+use crate::inputs::{
+    checked_from, lattice_from, lines_from, module_from, read, read_design, text_from, wave_from,
+};
 use sap_check::Checked;
 use sap_desk::{Bytes, Desk};
 use sap_lattice::Lattice;
 use sap_net::netlist::Netlist;
+use sap_stim::Fields;
 use sap_stream::Stream;
 use sap_tree::design::Design;
+use sap_wave::Wave;
 use std::alloc::Global;
 
 /// A lattice file that was read.
@@ -87,4 +94,31 @@ pub fn stream_of_file<'a, D: Desk>(
 {
     let lines = read(alloc, desk, name)?;
     stream_of(alloc, checked, place, &lines)
+}
+
+/// Reads a stimulus file whole, with these fields in each line.
+pub fn lines_of_file<'a, D: Desk>(
+    alloc: Global,
+    desk: &mut D,
+    lattice: &Lattice,
+    fields: &Fields,
+    name: &'a str,
+) -> Result<Stream, Failure<'a>>
+    requires { All IsSized fields.now }
+    ensures { Gets name.now (stream_by 1 (stimulus_of lattice.now fields.now)) (λ stream. stream) result (seen D.told D.faults D.lost D.sure desk.old) (seen D.told D.faults D.lost D.sure desk.new) }
+{
+    let lines = read(alloc, desk, name)?;
+    lines_from(alloc, lattice, fields, &lines)
+}
+
+/// Reads a value change dump.
+pub fn wave_of_file<'a, D: Desk>(
+    alloc: Global,
+    desk: &mut D,
+    name: &'a str,
+) -> Result<Wave, Failure<'a>>
+    ensures { Gets name.now wave_file (λ wave. wave) result (seen D.told D.faults D.lost D.sure desk.old) (seen D.told D.faults D.lost D.sure desk.new) }
+{
+    let text = read(alloc, desk, name)?;
+    wave_from(alloc, &text)
 }

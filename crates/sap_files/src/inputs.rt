@@ -1,10 +1,12 @@
 //! What a command reads: the bytes of files, and what they stand for.
 
-ghost use Rattle.std.specs.Prelude.{◌≡◌, ◌<◌, ◌^◌, IfOk, length};
+ghost use Rattle.std.specs.Prelude.{◌≡◌, ◌<◌, ◌^◌, All, IfOk, length};
 ghost use Rattle.sap_check.specs.Checked.{tree_in};
+ghost use Rattle.sap_stim.specs.Line.{IsSized};
+ghost use Rattle.sap_stim.specs.Stimulus.{stimulus_of};
 ghost use Rattle.sap_tree.specs.Designs.{design_of as tree_of};
-ghost use Rattle.sap_files.specs.Kinds.{lattice_file, design_file, design_text_file, module_file};
-ghost use Rattle.sap_files.specs.Steps.{Gives, IsChecked, Read, ReadDesign, check_failure, lattice_failure, module_failure, read_failure, seen, whole};
+ghost use Rattle.sap_files.specs.Kinds.{lattice_file, design_file, design_text_file, module_file, stream_by, wave_file};
+ghost use Rattle.sap_files.specs.Steps.{Gives, IsChecked, Read, ReadDesign, check_failure, lattice_failure, module_failure, read_failure, seen, wave_failure, whole};
 
 use crate::failure::Failure;
 use crate::fault::DesignFault;
@@ -18,9 +20,12 @@ use sap_lex::fault::ReadFault;
 use sap_names::fault::CheckFault;
 use sap_net::netlist::Netlist;
 use sap_parse::parse;
+use sap_stim::{Fields, parse_stream};
+use sap_stream::Stream;
 use sap_tree::design::Design;
 use sap_vread::fault::ModFault;
 use sap_vread::read as read_module;
+use sap_wave::{Wave, WaveFault, read_wave};
 use std::alloc::Global;
 
 /// The bytes of a file.
@@ -131,5 +136,42 @@ pub fn module_from<'a>(alloc: Global, text: &Bytes) -> Result<Netlist, Failure<'
     match read_module(alloc, text.as_slice()) {
         Ok(netlist) => Ok(netlist),
         Err(fault) => Err(module_failure(fault)),
+    }
+}
+
+/// The stream of a stimulus file's bytes, with these fields in each line.
+pub fn lines_from<'a>(
+    alloc: Global,
+    lattice: &Lattice,
+    fields: &Fields,
+    bytes: &Bytes,
+) -> Result<Stream, Failure<'a>>
+    requires sized { All IsSized fields.now }
+    requires short { length bytes.now < 2 ^ 32 }
+    ensures { Gives (stream_by 1 (stimulus_of lattice.now fields.now)) (λ stream. stream) bytes.now result }
+{
+    let parsed = parse_stream(alloc, bytes.as_slice(), fields, lattice)?;
+    match parsed.fault {
+        None => Ok(parsed.stream),
+        Some(fault) => Err(Failure::Refused(Refusal::Stimulus(1, fault))),
+    }
+}
+
+fn wave_failure<'a>(fault: WaveFault) -> Failure<'a>
+    ensures { result ≡ wave_failure fault }
+{
+    match fault {
+        WaveFault::Memory => Failure::Memory,
+        fault => Failure::Refused(Refusal::Wave(fault)),
+    }
+}
+
+/// What the bytes of a dump are read as.
+pub fn wave_from<'a>(alloc: Global, bytes: &Bytes) -> Result<Wave, Failure<'a>>
+    ensures { Gives wave_file (λ wave. wave) bytes.now result }
+{
+    match read_wave(alloc, bytes.as_slice()) {
+        Ok(wave) => Ok(wave),
+        Err(fault) => Err(wave_failure(fault)),
     }
 }

@@ -16,6 +16,7 @@ mod rows;
 mod showing;
 mod simulating;
 mod traces;
+mod waves;
 
 pub use comparing::{level_of, verdict};
 pub use fault::DesignFault;
@@ -27,3 +28,4 @@ pub use rows::print_rows;
 pub use showing::format;
 pub use simulating::simulate;
 pub use traces::print_trace;
+pub use waves::{unwave, wave};

@@ -9,6 +9,7 @@ use sap_latfile::LatFileFault;
 use sap_stim::fault::StimFault;
 use sap_tree::name::Name;
 use sap_vread::fault::ModFault;
+use sap_wave::WaveFault;
 use std::fmt;
 
 /// Why a file is refused, a level, or two streams.
@@ -25,6 +26,7 @@ pub enum Refusal<'a> {
     Lengths(u64, u64),
     /// Two streams first don't agree in this cycle, at this input.
     Input(u64, Name),
+    Wave(WaveFault),
 }
 
 impl Refusal<'_> {
@@ -39,6 +41,7 @@ impl Refusal<'_> {
             Refusal::Module(_) => 5,
             Refusal::Level(_) => 2,
             Refusal::Lengths(_, _) | Refusal::Input(_, _) => 8,
+            Refusal::Wave(_) => 10,
         }
     }
 }
@@ -59,6 +62,7 @@ impl fmt::Display for Refusal<'_> {
             Refusal::Level(word) => write!(f, "level {word}"),
             Refusal::Lengths(one, other) => write!(f, "streams: lengths {one} and {other}"),
             Refusal::Input(cycle, name) => write!(f, "streams: cycle {cycle} input {name}"),
+            Refusal::Wave(fault) => write!(f, "wave: {fault}"),
         }
     }
 }

@@ -7,6 +7,7 @@ use crate::design::design_fault;
 use crate::lattice::lattice_fault;
 use crate::module::module_fault;
 use crate::stimulus::stimulus_fault;
+use crate::wave::wave_fault;
 
 /// What the code of a fault means, with a small example and its cure; none where it is no code.
 pub fn explain(code: &str) -> Option<&'static str>
@@ -22,5 +23,8 @@ pub fn explain(code: &str) -> Option<&'static str>
     if let Some(text) = stimulus_fault(code) {
         return Some(text);
     }
-    module_fault(code)
+    if let Some(text) = module_fault(code) {
+        return Some(text);
+    }
+    wave_fault(code)
 }

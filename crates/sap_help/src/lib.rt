@@ -9,6 +9,7 @@ mod module;
 mod page;
 mod stimulus;
 mod text;
+mod wave;
 
 pub use asking::answer;
 pub use explaining::explain;

@@ -12,11 +12,13 @@ const ABOUT: &str =
 const USAGE: &str = "sapper COMMAND OPERANDS";
 
 // What each command does, in the order of the table of commands.
-static DOES: [&str; 8] = [
+static DOES: [&str; 10] = [
     "writes the module of a design to the file OUT",
     "runs a design on a stimulus, and writes a row a cycle",
     "runs a design on a stimulus, and writes a line for each refused command",
     "clocks a module of the subset, and writes a row a cycle",
+    "clocks a module of the subset, and writes its value change dump to the file OUT",
+    "writes the rows of a value change dump",
     "writes codes of levels, what hangs on which commands, and check sites",
     "says whether two stimuli of a design agree at a level",
     "writes the canonical text of a design",
@@ -33,6 +35,7 @@ const STATUSES: &str = "Statuses:
   6  a call on a file or on the output failed: `desk: NAME`
   7  there was no memory: `memory`
   8  the streams of twin don't agree: `streams: ..`
+  10 the dump is refused: `wave: CODE line N`
 
 What a status is told by stands on standard error, in one line.
 

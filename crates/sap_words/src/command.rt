@@ -36,6 +36,16 @@ pub enum Command<'a> {
         verilog: &'a str,
         stimulus: &'a str,
     },
+    Wave {
+        lattice: &'a str,
+        verilog: &'a str,
+        stimulus: &'a str,
+        out: &'a str,
+    },
+    Unwave {
+        lattice: &'a str,
+        wave: &'a str,
+    },
     Report {
         lattice: &'a str,
         design: &'a str,

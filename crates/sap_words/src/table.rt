@@ -10,11 +10,13 @@ use crate::command::Command;
 use crate::number::number_of;
 
 /// Each command with the names of its operands.
-pub static COMMANDS: [(&str, &[&str]); 8] = [
+pub static COMMANDS: [(&str, &[&str]); 10] = [
     ("compile", &["LATTICE", "DESIGN", "OUT"]),
     ("run", &["LATTICE", "DESIGN", "STIM"]),
     ("trace", &["LATTICE", "DESIGN", "STIM"]),
     ("sim", &["LATTICE", "VERILOG", "STIM"]),
+    ("wave", &["LATTICE", "VERILOG", "STIM", "OUT"]),
+    ("unwave", &["LATTICE", "WAVE"]),
     ("report", &["LATTICE", "DESIGN"]),
     ("twin", &["LATTICE", "DESIGN", "FIRST", "SECOND", "LEVEL"]),
     ("fmt", &["DESIGN"]),
@@ -52,6 +54,16 @@ pub(crate) fn made<'a>(
             lattice: first,
             verilog: second,
             stimulus: third,
+        }),
+        "wave" => Some(Command::Wave {
+            lattice: first,
+            verilog: second,
+            stimulus: third,
+            out: fourth,
+        }),
+        "unwave" => Some(Command::Unwave {
+            lattice: first,
+            wave: second,
         }),
         "report" => Some(Command::Report {
             lattice: first,

@@ -22,7 +22,7 @@ use Rattle.sapper.specs.Lines.{Reports, TakesMemory, Tells, ToldLine}
 use Rattle.sap_commands.proofs.CommandLaws.{two_if}
 use Rattle.sap_files.proofs.Lawful.{one_cause}
 use Rattle.sap_files.proofs.Ended.{between_map, quiet_self, stopped_here}
-use Rattle.sapper.proofs.Headline.{done_alone}
+use Rattle.sapper.proofs.Headline.{done_alone, free_status}
 
 -- what words ask
 
@@ -32,14 +32,6 @@ named words c e a b is ended = rw is ended
 -- an ending by its result
 pub same_end : (words : List (List ℕ)) (r s : Result (Unit {0}) Failure) (a b : Moment) → r ≡ s → Ends (asks_for words) (ending_of r) a b → Ends (asks_for words) (ending_of s) a b
 same_end words r s a b is ended = subst (λ x. Ends (asks_for words) (ending_of x) a b) is ended
-
--- statuses
-
-free_status : (e : Ending) → IsFree e → (status_of e ≡ 6) ⊎ (status_of e ≡ 7)
-free_status done free = absurd free
-free_status (refused why) free = absurd free
-free_status (failed name) free = inl refl
-free_status no_memory free = inr refl
 
 -- nothing is told
 

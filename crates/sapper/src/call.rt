@@ -11,6 +11,7 @@ ghost use Rattle.sapper.specs.Exact.{Exact};
 ghost use Rattle.sapper.specs.Headline.{Headline};
 ghost use Rattle.sapper.specs.Lines.{Reports, Tells};
 ghost use Rattle.sapper.specs.Outside.{Outside, FullLines};
+ghost use Rattle.sapper.specs.Waves.{Unwaves, Waves};
 ghost use Rattle.sap_files.specs.Steps.{Ends, ending, ending_of, reason, seen};
 
 use sap_commands::perform;
@@ -116,6 +117,8 @@ fn ask<'a, D: Desk>(
 /// Does what the words ask over a desk, and answers the status.
 pub fn sapper<D: Desk>(alloc: Global, words: &[String], desk: &mut D) -> u8
     ensures headline { Between (D.told desk.old) (D.told desk.new) (Headline (map string_bytes words.now) result) }
+    ensures waves { Between (D.told desk.old) (D.told desk.new) (Waves (map string_bytes words.now) result) }
+    ensures unwaves { Between (D.told desk.old) (D.told desk.new) (Unwaves (map string_bytes words.now) (D.lost desk.old) (D.lost desk.new) result) }
     ensures answers { Between (D.told desk.old) (D.told desk.new) (Answers (map string_bytes words.now) (D.lost desk.old) (D.lost desk.new) result) }
     ensures exact { IfSome (D.told desk.old) (λ t. Exact (map string_bytes words.now) t result) }
     ensures outside { (D.faults desk.new ≢ D.faults desk.old) → D.sure desk.old → Between (D.told desk.old) (D.told desk.new) (Outside (map string_bytes words.now)) }

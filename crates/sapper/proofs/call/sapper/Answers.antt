@@ -6,6 +6,7 @@ use Rattle.sap_files.specs.Steps.{ending, seen}
 use Rattle.sapper.specs.Lines.{Tells}
 use Rattle.sapper.proofs.Calls.{answers, exact, full_lines, lost_once, may_answer, no_words, outside, same_end, silent, told_end, told_not_done, two_words}
 use Rattle.sapper.proofs.Headline.{headline_told}
+use Rattle.sapper.proofs.Waves.{unwaves_told, waves_told}
 use Rattle.sap_commands.proofs.CommandLaws.{lawful_words}
 use Rattle.sapper.proofs.call.sapper.Goals as goal
 
@@ -111,3 +112,27 @@ returns-in-Some-Err-clause-headline g c =
 pub returns-in-None-clause-headline : goal.returns-in-None-clause-headline
 returns-in-None-clause-headline g c =
     headline_told (map string_bytes c.args.words.now) _ _ 2 _ _ (returns-in-None-clause-answers g c) (returns-in-None-clause-exact g c)
+
+pub returns-in-Some-Ok-clause-waves : goal.returns-in-Some-Ok-clause-waves
+returns-in-Some-Ok-clause-waves g c =
+    waves_told (map string_bytes c.args.words.now) _ _ 0 _ _ (returns-in-Some-Ok-clause-answers g c) (returns-in-Some-Ok-clause-exact g c)
+
+pub returns-in-Some-Err-clause-waves : goal.returns-in-Some-Err-clause-waves
+returns-in-Some-Err-clause-waves g c =
+    waves_told (map string_bytes c.args.words.now) _ _ c.report.result _ _ (returns-in-Some-Err-clause-answers g c) (returns-in-Some-Err-clause-exact g c)
+
+pub returns-in-None-clause-waves : goal.returns-in-None-clause-waves
+returns-in-None-clause-waves g c =
+    waves_told (map string_bytes c.args.words.now) _ _ 2 _ _ (returns-in-None-clause-answers g c) (returns-in-None-clause-exact g c)
+
+pub returns-in-Some-Ok-clause-unwaves : goal.returns-in-Some-Ok-clause-unwaves
+returns-in-Some-Ok-clause-unwaves g c =
+    unwaves_told (map string_bytes c.args.words.now) _ _ 0 _ _ (returns-in-Some-Ok-clause-answers g c) (returns-in-Some-Ok-clause-exact g c)
+
+pub returns-in-Some-Err-clause-unwaves : goal.returns-in-Some-Err-clause-unwaves
+returns-in-Some-Err-clause-unwaves g c =
+    unwaves_told (map string_bytes c.args.words.now) _ _ c.report.result _ _ (returns-in-Some-Err-clause-answers g c) (returns-in-Some-Err-clause-exact g c)
+
+pub returns-in-None-clause-unwaves : goal.returns-in-None-clause-unwaves
+returns-in-None-clause-unwaves g c =
+    unwaves_told (map string_bytes c.args.words.now) _ _ 2 _ _ (returns-in-None-clause-answers g c) (returns-in-None-clause-exact g c)

@@ -1,0 +1,56 @@
+use Rattle.std.proofs.Common.{◌≡◌, ◌∙◌, List, sym, subst}
+use Rattle.std.specs.Prelude.{All, None}
+use Rattle.std.proofs.lemmas.Result.{err_from_is_err_and}
+use Rattle.sap_net.specs.Net.{Net}
+use Rattle.sap_stim.specs.declared.field.Field.{Field}
+use Rattle.sap_stim.specs.declared.stimulus.Parsed.{Parsed}
+use Rattle.sap_stim.specs.Fits.{StreamFits}
+use Rattle.sap_stim.specs.Line.{IsSized}
+use Rattle.sap_stim.specs.Stimulus.{stimulus_of}
+use Rattle.sap_sim.specs.Fields.{fields_of}
+use Rattle.sap_sim.specs.Numbers.{numbers_of}
+use Rattle.sap_wave_run.specs.Dumped.{IsDumpOn}
+use Rattle.sap_wave_run.specs.Ready.{IsReady}
+use Rattle.sap_files.specs.Asks.{writes}
+use Rattle.sap_files.specs.Kinds.{stream_by}
+use Rattle.sap_files.specs.Steps.{Ends, EndsReading, Reads, ending, ending_of}
+use Rattle.sap_files.proofs.Ended.{got, quiet_self, reading_ended, starved}
+use Rattle.sap_files.proofs.waves.record.Goals as goal
+
+pub returns-in_err-recording : goal.returns-in_err-recording
+returns-in_err-recording g c =
+    let p = err_from_is_err_and c.from_residual.result c.from_residual.ensures.1 in
+    rw (p.1, p.2) (starved _ (quiet_self _))
+
+pub lines_of_file-requires : goal.lines_of_file-requires
+lines_of_file-requires g c = subst (λ (fs : List Field). All IsSized fs) (sym c.fields.ensures) c.in_ok-recording.ensures.planned.sized
+
+pub returns-in_err-stream : goal.returns-in_err-stream
+returns-in_err-stream g c =
+    let p = err_from_is_err_and c.from_residual-in_err-stream.result c.from_residual-in_err-stream.ensures.1 in
+    let k = c.args.lattice.now in
+    let ready = c.in_ok-recording.ensures in
+    let fields : c.fields.result.now ≡ fields_of k c.args.netlist = c.fields.ensures ∙ ready.planned.fields ∙ (λ i. fields_of k (ready.net i)) in
+    rw (p.1, p.2)
+    (reading_ended (subst (λ (fs : List Field). EndsReading c.args.stimulus.now (stream_by 1 (stimulus_of k fs)) _ _ _) fields c.in_err-stream.ensures))
+
+pub write_dump-requires-clause-ready : goal.write_dump-requires-clause-ready
+write_dump-requires-clause-ready g c =
+    let ready = c.in_ok-recording.ensures in
+    subst (λ (n : Net). IsReady c.args.lattice.now n c.in_ok-recording.recording) (sym ready.net) ready
+
+pub write_dump-requires-clause-fits : goal.write_dump-requires-clause-fits
+write_dump-requires-clause-fits g c =
+    let k = c.args.lattice.now in
+    let (bytes, reads, is) = c.in_ok-stream.ensures in
+    subst (λ (fs : List Field). StreamFits k fs c.in_ok-stream.stream) c.fields.ensures
+    (subst (λ (read : Parsed). StreamFits k c.fields.result.now read.stream) is (c.stimulus_fits.ensures k c.fields.result.now bytes c.lawful.ensures.order.bottom_is_level))
+
+pub returns : goal.returns
+returns g c =
+    let k = c.args.lattice.now in
+    let ready = c.in_ok-recording.ensures in
+    let fields : c.fields.result.now ≡ fields_of k c.args.netlist = c.fields.ensures ∙ ready.planned.fields ∙ (λ i. fields_of k (ready.net i)) in
+    let (bytes, reads, is) = c.in_ok-stream.ensures in
+    got c.in_ok-stream.stream (bytes, reads, subst (λ (fs : List Field). stimulus_of k fs bytes ≡ record { stream = c.in_ok-stream.stream; fault = None }) fields is)
+    (subst (λ (n : Net). Ends (writes c.args.out.now (IsDumpOn n (numbers_of k n) c.in_ok-stream.stream)) (ending_of c.write_dump.result) _ _) ready.net c.write_dump.ensures)
