@@ -20,7 +20,7 @@ use Rattle.sap_wave_run.specs.Dumped.{IsDumpOn}
 use Rattle.sap_files.specs.Ending.{Ending, done, wave_refused}
 use Rattle.sap_files.specs.Kinds.{IsLawful, stream_by, wave_file}
 use Rattle.sap_files.specs.Asks.{Asks, file, writes}
-use Rattle.sap_files.specs.Steps.{Ends, FaultRose, Left, Moment, Refuses, ending, wave_failure}
+use Rattle.sap_files.specs.Steps.{Ends, EndsReading, FaultRose, Left, Moment, Refuses, ending, wave_failure}
 use Rattle.sap_files.specs.declared.failure.Failure.{Failure}
 use Rattle.sap_files.proofs.Ended.{between_map}
 use Rattle.sap_files.proofs.NetsAlike.{line_numbers_in, read_net_in}
@@ -83,6 +83,16 @@ written_whole name text before after wrote faults lost sure = record {
   sure = sure;
   may = inr refl;
 }
+
+-- bytes that are read alike, and one netlist for another
+
+pub reading_as : {name : List ℕ} {e : Ending} {a b : Moment} (place : ℕ) (one other : List ℕ → Parsed) → one ≡ other → EndsReading name (stream_by place one) e a b
+    → EndsReading name (stream_by place other) e a b
+reading_as {name} {e} {a} {b} place one other same h = subst (λ (read : List ℕ → Parsed). EndsReading name (stream_by place read) e a b) same h
+
+pub dumped_as : {out : List ℕ} {e : Ending} {a b : Moment} (ls : Levels) (stream : List (List Given)) (n m : Net) → n ≡ m
+    → Ends (writes out (IsDumpOn n (numbers_of ls n) stream)) e a b → Ends (writes out (IsDumpOn m (numbers_of ls m) stream)) e a b
+dumped_as {out} {e} {a} {b} ls stream n m same h = subst (λ (k : Net). Ends (writes out (IsDumpOn k (numbers_of ls k) stream)) e a b) same h
 
 -- two lattices that are the same
 

@@ -59,7 +59,9 @@ module _ (l m : Levels) (same : AreSame l m) where
       ∙ stimulus_in l m same (fields_of m n) bytes
 
   pub line_numbers_in : (n : Net) → numbers_of l n ≡ numbers_of m n
-  line_numbers_in n = ap (λ (o : Order) (xs : List Given). map (number_by o n.inputs xs) n.inputs) same.order
+  line_numbers_in n =
+      let by_order : Order → List Given → List ℕ = λ o xs. map (number_by o n.inputs xs) n.inputs in
+      ap by_order same.order
 
   numbers_in : (n : Net) (stream : List (List Given)) → map (numbers_of l n) stream ≡ map (numbers_of m n) stream
   numbers_in n stream = ap (λ (o : Order). map (λ xs. map (number_by o n.inputs xs) n.inputs) stream) same.order

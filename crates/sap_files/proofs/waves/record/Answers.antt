@@ -1,4 +1,4 @@
-use Rattle.std.proofs.Common.{◌≡◌, ◌∙◌, List, sym, subst}
+use Rattle.std.proofs.Common.{◌≡◌, ◌∙◌, List, sym, ap, subst}
 use Rattle.std.specs.Prelude.{All, None}
 use Rattle.std.proofs.lemmas.Result.{err_from_is_err_and}
 use Rattle.sap_net.specs.Net.{Net}
@@ -8,12 +8,8 @@ use Rattle.sap_stim.specs.Fits.{StreamFits}
 use Rattle.sap_stim.specs.Line.{IsSized}
 use Rattle.sap_stim.specs.Stimulus.{stimulus_of}
 use Rattle.sap_sim.specs.Fields.{fields_of}
-use Rattle.sap_sim.specs.Numbers.{numbers_of}
-use Rattle.sap_wave_run.specs.Dumped.{IsDumpOn}
 use Rattle.sap_wave_run.specs.Ready.{IsReady}
-use Rattle.sap_files.specs.Asks.{writes}
-use Rattle.sap_files.specs.Kinds.{stream_by}
-use Rattle.sap_files.specs.Steps.{Ends, EndsReading, Reads, ending, ending_of}
+use Rattle.sap_files.proofs.Dumps.{dumped_as, reading_as}
 use Rattle.sap_files.proofs.Ended.{got, quiet_self, reading_ended, starved}
 use Rattle.sap_files.proofs.waves.record.Goals as goal
 
@@ -32,7 +28,7 @@ returns-in_err-stream g c =
     let ready = c.in_ok-recording.ensures in
     let fields : c.fields.result.now ≡ fields_of k c.args.netlist = c.fields.ensures ∙ ready.planned.fields ∙ (λ i. fields_of k (ready.net i)) in
     rw (p.1, p.2)
-    (reading_ended (subst (λ (fs : List Field). EndsReading c.args.stimulus.now (stream_by 1 (stimulus_of k fs)) _ _ _) fields c.in_err-stream.ensures))
+    (reading_ended (reading_as 1 (stimulus_of k c.fields.result.now) (stimulus_of k (fields_of k c.args.netlist)) (ap (stimulus_of k) fields) c.in_err-stream.ensures))
 
 pub write_dump-requires-clause-ready : goal.write_dump-requires-clause-ready
 write_dump-requires-clause-ready g c =
@@ -53,4 +49,4 @@ returns g c =
     let fields : c.fields.result.now ≡ fields_of k c.args.netlist = c.fields.ensures ∙ ready.planned.fields ∙ (λ i. fields_of k (ready.net i)) in
     let (bytes, reads, is) = c.in_ok-stream.ensures in
     got c.in_ok-stream.stream (bytes, reads, subst (λ (fs : List Field). stimulus_of k fs bytes ≡ record { stream = c.in_ok-stream.stream; fault = None }) fields is)
-    (subst (λ (n : Net). Ends (writes c.args.out.now (IsDumpOn n (numbers_of k n) c.in_ok-stream.stream)) (ending_of c.write_dump.result) _ _) ready.net c.write_dump.ensures)
+    (dumped_as k c.in_ok-stream.stream c.in_ok-recording.recording.simulation.runner.net c.args.netlist ready.net c.write_dump.ensures)
