@@ -1,4 +1,4 @@
--- What is true of the labelled run of the machine. Each law is over a program, so that it can be said of what is the machine.
+-- What is true of the labelled run of the machine, said of any program.
 use Rattle.std.specs.Prelude.{◌≡◌, ℕ, ◌+◌, ◌*◌, ◌<◌, ◌≤◌, ◌&&◌, List, [], ◌∷◌, ◌++◌, length, codes, get_or, nat_lt, if◌then◌else◌}
 use Rattle.sap_lattice.specs.Order.{Order}
 use Rattle.sap_meaning.specs.Program.{Program, World}
@@ -50,6 +50,7 @@ abbrev pub refused_words : Order → List (List Tagged) → (c : ℕ) → List R
 refused_words o stream c =
     if nat_lt c 16 then refused_word o A (given stream (part A).input c) ++ refused_word o B (given stream (part B).input c) else []
 
+-- Each cycle refuses exactly these words.
 abbrev pub RefusesTheWords : Program → Type 0
 RefusesTheWords p = (stream : List (List Tagged)) → StreamFits p.world stream → (c : ℕ) → c < length stream
     → (after_cycles p (c + 1) stream).refused ≡ refused_words p.world.order stream c
