@@ -10,7 +10,7 @@ use Rattle.sap_machine.specs.declared.user.User.TheVariants.{A, B}
 use Rattle.sap_machine.proofs.Literal.{machine, machine_world}
 use Rattle.sap_machine.specs.Table.{UserState}
 use Rattle.sap_machine.specs.Slices.{other, holder, after_slices}
-use Rattle.sap_machine.specs.Laws.{given, word, after_cycles, Keeps, refused_words, RunsTheTable, RefusesTheWords}
+use Rattle.sap_machine.specs.Laws.{given, input_in, word, after_cycles, Keeps, refused_words, RunsTheTable, RefusesTheWords}
 use Rattle.sap_machine.proofs.Users.{of_user, of_both, input_of}
 use Rattle.sap_machine.proofs.Boot.{takes}
 use Rattle.sap_machine.proofs.Booting.{Comes, begins}
@@ -31,10 +31,6 @@ pair_of [] fit = elim fit [ ]
 pair_of (t ∷ []) fit = elim fit.2 [ ]
 pair_of (t ∷ (u ∷ [])) fit = record { a = t; b = u; are = refl; small_a = fit.0; small_b = fit.2.0 }
 pair_of (t ∷ (u ∷ (x ∷ xs))) fit = elim fit.2.2 [ ]
-
--- what an input gets in one cycle
-abbrev input_in : List Tagged → (x : ℕ) → Tagged
-input_in inputs x = get_or inputs x (record { number = 0; level = 0 })
 
 given_small : (u : User) (stream : List (List Tagged)) → StreamFits machine_world stream → (i : ℕ) → (given stream (input_of u) i).number < 4096
 given_small u [] fit i = omega arith

@@ -1,15 +1,15 @@
 -- What a user has of the machine behind each cycle of two runs that agree at its level.
-use Rattle.std.proofs.Common.{◌≡◌, inl, inr, ℕ, zero, suc, true, ◌<◌, ◌≤◌, refl, sym, ap, ◌∙◌, arith, List, [], ◌∷◌, length, get_or}
+use Rattle.std.proofs.Common.{◌≡◌, inl, inr, ℕ, zero, suc, true, ◌<◌, ◌≤◌, refl, sym, ap, subst, ◌∙◌, arith, List, [], ◌∷◌, length, get_or, Bool, false, ◌⊎◌}
 use Rattle.std.specs.List.{AllZip}
 use Rattle.std.proofs.lemmas.Bool.{false≢true}
 use Rattle.sap_meaning.specs.Store.{Store, Slot, own, start, stay, number, level}
 use Rattle.sap_meaning.specs.Cycle.{Tagged, cycle, run_from}
-use Rattle.sap_meaning.specs.State.{first, labelled_run, StreamFits}
-use Rattle.sap_meaning.specs.Agree.{StatesAgree, RefusalsAgree, RunsAgree, SlotsAlike}
+use Rattle.sap_meaning.specs.State.{first, labelled_run, InputsFit, StreamFits}
+use Rattle.sap_meaning.specs.Agree.{Alike, High, InputsAgree, RefusalsAgree, RunsAgree, SlotsAlike, StatesAgree, StreamsAgree}
 use Rattle.sap_secure.specs.Laws.{LabelledAgree}
 use Rattle.sap_machine.specs.declared.user.User.{User}
 use Rattle.sap_machine.specs.declared.user.User.TheVariants.{A, B}
-use Rattle.sap_machine.specs.Laws.{after_cycles, SamePart, OthersDontCount}
+use Rattle.sap_machine.specs.Laws.{after_cycles, SamePart, OthersDontCount, OthersWordDiffers, OthersWordsDontCount}
 use Rattle.sap_machine.proofs.Literal.{machine, machine_world}
 use Rattle.sap_machine.proofs.Users.{of_user, level_of, words_of, cells_of, pc_of, acc_of}
 use Rattle.sap_machine.proofs.View.{Frame, Numbers, store_of}
@@ -108,3 +108,43 @@ behind s t fit u agree (suc c) short =
 pub others_dont_count : LabelledAgree machine → OthersDontCount machine
 others_dont_count agree s t fit_s fit_t A same c short = behind s t fit_s A (agree 1 s t same) c short
 others_dont_count agree s t fit_s fit_t B same c short = behind s t fit_s B (agree 2 s t same) c short
+
+-- what is the same, or hidden in both, looks alike
+
+abbrev alike : (l : ℕ) → Tagged → Tagged → Type 0
+alike l x y = Alike machine_world.order l (x.number ≡ y.number) x.level y.level
+
+self_alike : (l : ℕ) (x : Tagged) → alike l x x
+self_alike l x = by (machine_world.order.le x.level l) refl
+  where
+    by : (b : Bool) → machine_world.order.le x.level l ≡ b → alike l x x
+    by true low = inl (refl, refl, low)
+    by false high = inr (high, high)
+
+same_alike : (l : ℕ) (x y : Tagged) → x ≡ y → alike l x y
+same_alike l x y e = subst (λ y. alike l x y) e (self_alike l x)
+
+hidden_alike : (l : ℕ) (x y : Tagged) → (x ≡ y) ⊎ (High machine_world.order l x.level × High machine_world.order l y.level) → alike l x y
+hidden_alike l x y (inl e) = same_alike l x y e
+hidden_alike l x y (inr h) = inr h
+
+inputs_agree : (u : User) (i j : List Tagged) → InputsFit machine_world i → InputsFit machine_world j → OthersWordDiffers machine_world.order u i j → InputsAgree machine_world.order (level_of u) i j
+inputs_agree u [] j fi fj d = elim fi [ ]
+inputs_agree u (a ∷ []) j fi fj d = elim fi.2 [ ]
+inputs_agree u (a ∷ (b ∷ (x ∷ xs))) j fi fj d = elim fi.2.2 [ ]
+inputs_agree u (a ∷ (b ∷ [])) [] fi fj d = elim fj [ ]
+inputs_agree u (a ∷ (b ∷ [])) (c ∷ []) fi fj d = elim fj.2 [ ]
+inputs_agree u (a ∷ (b ∷ [])) (c ∷ (e ∷ (x ∷ xs))) fi fj d = elim fj.2.2 [ ]
+inputs_agree A (a ∷ (b ∷ [])) (c ∷ (e ∷ [])) fi fj d = (same_alike 1 a c d.own, (hidden_alike 1 b e d.other, tt))
+inputs_agree B (a ∷ (b ∷ [])) (c ∷ (e ∷ [])) fi fj d = (hidden_alike 2 a c d.other, (same_alike 2 b e d.own, tt))
+
+streams_agree : (u : User) (s t : List (List Tagged)) → StreamFits machine_world s → StreamFits machine_world t → AllZip (OthersWordDiffers machine_world.order u) s t
+    → StreamsAgree machine_world.order (level_of u) s t
+streams_agree u [] [] fs ft d = tt
+streams_agree u [] (j ∷ t) fs ft d = absurd d
+streams_agree u (i ∷ s) [] fs ft d = absurd d
+streams_agree u (i ∷ s) (j ∷ t) fs ft d = (inputs_agree u i j fs.0 ft.0 d.0, streams_agree u s t fs.1 ft.1 d.1)
+
+pub others_words_dont_count : OthersDontCount machine → OthersWordsDontCount machine
+others_words_dont_count law s t fs ft A d c short = law s t fs ft A (streams_agree A s t fs ft d) c short
+others_words_dont_count law s t fs ft B d c short = law s t fs ft B (streams_agree B s t fs ft d) c short

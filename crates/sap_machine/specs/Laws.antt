@@ -1,20 +1,25 @@
 -- What is true of the labelled run of the machine, said of any program.
-use Rattle.std.specs.Prelude.{◌≡◌, ℕ, ◌+◌, ◌*◌, ◌<◌, ◌≤◌, ◌&&◌, List, [], ◌∷◌, ◌++◌, length, codes, get_or, nat_lt, if◌then◌else◌}
+use Rattle.std.specs.Prelude.{◌≡◌, ℕ, ◌+◌, ◌*◌, ◌<◌, ◌≤◌, ◌&&◌, ◌⊎◌, List, [], ◌∷◌, ◌++◌, length, codes, get_or, nat_lt, if◌then◌else◌}
+use Rattle.std.specs.List.{AllZip}
 use Rattle.sap_lattice.specs.Order.{Order}
 use Rattle.sap_meaning.specs.Program.{Program, World}
 use Rattle.sap_meaning.specs.Cycle.{Tagged}
 use Rattle.sap_meaning.specs.Store.{Store, own, start, number, Refusal, After, stay}
 use Rattle.sap_meaning.specs.State.{first, labelled_run, StreamFits}
-use Rattle.sap_meaning.specs.Agree.{SlotsAlike, StreamsAgree}
+use Rattle.sap_meaning.specs.Agree.{High, SlotsAlike, StreamsAgree}
 use Rattle.sap_machine.specs.declared.user.User.{User}
 use Rattle.sap_machine.specs.declared.user.User.TheVariants.{A, B}
 use Rattle.sap_machine.specs.Machine.{entity, part}
 use Rattle.sap_machine.specs.Table.{UserState, begun}
-use Rattle.sap_machine.specs.Slices.{after_slices, holder, sliced}
+use Rattle.sap_machine.specs.Slices.{after_slices, holder, other, sliced}
 
--- what an input gets in the cycle behind i cycles; past the end, 0 at level 0
+-- what an input gets by these; past the end, 0 at level 0
+abbrev pub input_in : List Tagged → (input : ℕ) → Tagged
+input_in inputs x = get_or inputs x (record { number = 0; level = 0 })
+
+-- what it gets in the cycle behind i cycles
 abbrev pub given : List (List Tagged) → (input i : ℕ) → Tagged
-given stream x i = get_or (get_or stream i []) x (record { number = 0; level = 0 })
+given stream x i = input_in (get_or stream i []) x
 
 -- The word i of a user is that of cycle i + 1, for i below 16, if its level is at or below the user's; else 0.
 unfoldable pub word : Order → User → List (List Tagged) → (i : ℕ) → ℕ
@@ -79,10 +84,20 @@ pub record SamePart (w : World) (u : User) (s t : Store) : Type 0 where
   pub acc : SlotsAlike w (part u).level (own (entity (codes "acc"))) s t
   pub ir : SlotsAlike w (part u).level (own (entity (codes "ir"))) s t
 
--- Of two streams that agree at a user's level, as those do that differ in the other's words alone, where these aren't at or below
--- this user's level, the user's part is the same behind every cycle.
+-- Of two streams that agree at a user's level the user's part is the same behind every cycle.
 abbrev pub OthersDontCount : Program → Type 0
 OthersDontCount p = (s t : List (List Tagged)) → StreamFits p.world s → StreamFits p.world t → (u : User) → StreamsAgree p.world.order (part u).level s t
+    → (c : ℕ) → c ≤ length s → SamePart p.world u (after_cycles p c s).store (after_cycles p c t).store
+
+-- a user gets the same at the same level; and so does the other, or neither of its words is at or below this user's level
+pub record OthersWordDiffers (o : Order) (u : User) (inputs others : List Tagged) : Type 0 where
+  pub own : input_in inputs (part u).input ≡ input_in others (part u).input
+  pub other : (input_in inputs (part (other u)).input ≡ input_in others (part (other u)).input)
+      ⊎ (High o (part u).level (input_in inputs (part (other u)).input).level × High o (part u).level (input_in others (part (other u)).input).level)
+
+-- So a user's part is the same behind every cycle of streams that differ in words of the other alone.
+abbrev pub OthersWordsDontCount : Program → Type 0
+OthersWordsDontCount p = (s t : List (List Tagged)) → StreamFits p.world s → StreamFits p.world t → (u : User) → AllZip (OthersWordDiffers p.world.order u) s t
     → (c : ℕ) → c ≤ length s → SamePart p.world u (after_cycles p c s).store (after_cycles p c t).store
 
 -- the users' states slice by slice: they begin with their words, and a slice is three instructions of its holder

@@ -15,7 +15,7 @@ ghost use Rattle.sap_shape.specs.WellFormed.{WellFormed};
 ghost use Rattle.sap_machine.specs.Design.{machine_design};
 ghost use Rattle.sap_machine.specs.DesignText.{IsTextOf, machine_text};
 ghost use Rattle.sap_machine.specs.Machine.{machine};
-ghost use Rattle.sap_machine.specs.Laws.{OthersDontCount, RefusesTheWords, RunsTheTable, SlicesInTurn, WordsDecide};
+ghost use Rattle.sap_machine.specs.Laws.{OthersDontCount, OthersWordsDontCount, RefusesTheWords, RunsTheTable, SlicesInTurn, WordsDecide};
 
 /// The design is a tree of the grammar within its limits, and well formed over the lattice of four levels. Its canonical text is this one,
 /// which is read as the design, places aside.
@@ -38,11 +38,12 @@ pub fn slices_in_turn()
     ensures { SlicesInTurn }
 {}
 
-/// A user's words alone decide what is kept of it after each slice. Where two streams differ in words of the other alone that this
-/// user can't see, its part of the machine is the same behind every cycle.
+/// A user's words alone decide what is kept of it after each slice. Its part of the machine is the same behind every cycle of streams
+/// that agree at its level, and so of those that differ in words of the other alone, where these aren't at or below its level.
 pub fn users_are_apart()
     ensures words { WordsDecide machine }
-    ensures cycles { OthersDontCount machine }
+    ensures agreeing { OthersDontCount machine }
+    ensures differing { OthersWordsDontCount machine }
 {
     sap_secure::designs::runs_agree()
 }
