@@ -1,3 +1,4 @@
 pub mod Instructions
 pub mod Sliced
 pub mod Assembled
+pub mod Texts

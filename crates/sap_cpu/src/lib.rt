@@ -6,4 +6,5 @@ pub mod cpu;
 mod line;
 pub mod machine;
 mod state;
+pub mod text;
 pub mod words;
