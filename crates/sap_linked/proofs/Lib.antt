@@ -5,6 +5,7 @@ mod Alike
 mod Cycles
 mod Fed
 mod Inputs
+mod Order
 mod Linked
 mod Own
 mod SideBySide

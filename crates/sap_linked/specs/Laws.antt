@@ -1,20 +1,22 @@
 -- The laws of netlists that link the netlists of parts.
-use Rattle.std.specs.Prelude.{◌≡◌, ◌<◌, ◌≤◌, ℕ, true, length}
+use Rattle.std.specs.Prelude.{◌≡◌, ◌<◌, ◌≤◌, ℕ, true, length, map}
 use Rattle.std.specs.List.{list_all}
 use Rattle.sap_maps.specs.Maps.{Name}
 use Rattle.sap_lattice.specs.Codes.{Codes}
+use Rattle.sap_net.specs.declared.parts.Input.{Input}
 use Rattle.sap_net.specs.Names.{is_inner}
 use Rattle.sap_net.specs.Net.{Net}
 use Rattle.sap_net.specs.IsNetlist.{IsNetlist}
 use Rattle.sap_interface.specs.StandsFor.{Named}
-use Rattle.sap_interface.specs.Interface.{declared_by, DeclaresPart, HasInterface}
+use Rattle.sap_interface.specs.Interface.{Shown, declared_by, DeclaresPart, HasInterface}
 use Rattle.sap_interface.specs.InterfaceNames.{IsInterfaceName}
 use Rattle.sap_build.specs.Copies.{KeepsApart}
 use Rattle.sap_build.specs.Parts.{IsPart}
+use Rattle.sap_link.specs.Systems.{free_inputs}
 use Rattle.sap_link.specs.Laws.{FineSystem, SizedSystem}
 use Rattle.sap_linked.specs.Parts.{NamedSystem, part_at, system_of, in_part, has_no_underscore}
-use Rattle.sap_linked.specs.Linking.{IsNetOf, LinksParts}
-use Rattle.sap_linked.specs.Interface.{DeclaresSystem}
+use Rattle.sap_linked.specs.Linking.{IsNetOf, inputs_for, LinksParts}
+use Rattle.sap_linked.specs.Interface.{input_ports, DeclaresSystem}
 use Rattle.sap_linked.specs.Standing.{RunsStand}
 use Rattle.sap_linked.specs.Netlist.{linked_net}
 
@@ -29,6 +31,11 @@ abbrev pub PartsKeepApart : Type 0
 PartsKeepApart =
     (part : Name) (d : Named) (tag sites : ℕ) (n : Net) → has_no_underscore part ≡ true → list_all is_inner part ≡ true → IsNetlist n → HasInterface d tag sites n
     → KeepsApart (in_part part) n
+
+-- What a stream gives, the value and the tag of each free input, comes in the order of the ports.
+abbrev pub InputsInOrder : Type 0
+InputsInOrder = (s : NamedSystem)
+    → map (λ (i : Input). i.name) (inputs_for s (free_inputs (system_of s))) ≡ map (λ (port : Shown). port.0) (input_ports s.wires 0 s.parts)
 
 -- Where each part's netlist stands for its design, one that links them stands for the composite run in each of its runs.
 abbrev pub LinkedNetsStand : Type 0

@@ -1,12 +1,17 @@
 //! What holds of every netlist that links the netlists of parts.
 
-ghost use Rattle.sap_linked.specs.Laws.{NamesStayApart, PartsKeepApart, LinkedNetsStand, PartsDeclare, LinkedNetLinks, LinkedNetDeclares};
+ghost use Rattle.sap_linked.specs.Laws.{NamesStayApart, PartsKeepApart, InputsInOrder, LinkedNetsStand, PartsDeclare, LinkedNetLinks, LinkedNetDeclares};
 ghost use Rattle.sap_linked.specs.Designs.{LinkedDesignsStand};
 
 /// Names of parts stay apart in the module of their system, and so do those of each part's netlist.
 pub fn names_stay_apart()
     ensures all { NamesStayApart }
     ensures part { PartsKeepApart }
+{}
+
+/// The free inputs of a system come in the order of its ports.
+pub fn inputs_in_order()
+    ensures { InputsInOrder }
 {}
 
 /// A netlist that links those of parts takes every stream that fits the system, and in its run on it each cycle stands for
