@@ -91,7 +91,7 @@ no_memory ms (w ∷ ws) sc rules a x k h =
     x k h
 
 -- a tag on a list of tags is that of a name
-of_whom : (x : Name) (ys : List Name) → is_among x (map name_of_tag ys) ≡ true → (y : Name) × (is_among y ys ≡ true) × (x ≡ name_of_tag y)
+pub of_whom : (x : Name) (ys : List Name) → is_among x (map name_of_tag ys) ≡ true → (y : Name) × (is_among y ys ≡ true) × (x ≡ name_of_tag y)
 of_whom x [] h = absurd (cc)
 of_whom x (y ∷ ys) h =
     elim (cases_Bool (bytes_eq x (name_of_tag y))) [
@@ -99,7 +99,7 @@ of_whom x (y ∷ ys) h =
       | inr f ↦ (let r = of_whom x ys (rw f at h) in (r.0, or_right (bytes_eq r.0 y) (is_among r.0 ys) r.1, r.2))
     ]
 
-tag_among : (x : Name) (ys : List Name) → is_among x ys ≡ true → is_among (name_of_tag x) (map name_of_tag ys) ≡ true
+pub tag_among : (x : Name) (ys : List Name) → is_among x ys ≡ true → is_among (name_of_tag x) (map name_of_tag ys) ≡ true
 tag_among x [] h = absurd (cc)
 tag_among x (y ∷ ys) h =
     elim (cases_Bool (bytes_eq x y)) [
@@ -108,7 +108,7 @@ tag_among x (y ∷ ys) h =
     ]
 
 -- different names have different tags
-one_tag_each : (xs : List Name) → AreDistinct (map name_of_tag xs) → (x y : Name) → is_among x xs ≡ true → is_among y xs ≡ true → name_of_tag x ≡ name_of_tag y → x ≡ y
+pub one_tag_each : (xs : List Name) → AreDistinct (map name_of_tag xs) → (x y : Name) → is_among x xs ≡ true → is_among y xs ≡ true → name_of_tag x ≡ name_of_tag y → x ≡ y
 one_tag_each [] d x y a b e = absurd (cc)
 one_tag_each (z ∷ zs) d x y a b e =
     elim (cases_Bool (bytes_eq x z)) [
@@ -129,7 +129,7 @@ one_tag_each (z ∷ zs) d x y a b e =
     ]
 
 -- a tag's name is no declared name
-no_tag : (n : Net) → HasRoomForTags n → (x y : Name) → is_among x n.names ≡ true → is_among y n.names ≡ true → x ≡ name_of_tag y → ⊥
+pub no_tag : (n : Net) → HasRoomForTags n → (x y : Name) → is_among x n.names ≡ true → is_among y n.names ≡ true → x ≡ name_of_tag y → ⊥
 no_tag n free x y a b e =
     let f = apart_from_tags n.names free.distinct x a in
     let g : is_among x (map name_of_tag n.names) ≡ true = subst (λ (q : Name). is_among q (map name_of_tag n.names) ≡ true) (sym e) (tag_among y n.names b) in

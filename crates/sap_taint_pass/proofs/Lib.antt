@@ -1,0 +1,15 @@
+pub mod InOrder
+pub mod Numbered
+pub mod Joins
+pub mod Setting
+pub mod TagWires
+pub mod WriteWires
+pub mod FirstScope
+pub mod Readable
+pub mod Filters
+pub mod IsTainted
+pub mod TaintedRules
+pub mod Form
+pub mod Cycle
+pub mod FreeNames
+pub mod Carries

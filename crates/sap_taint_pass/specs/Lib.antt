@@ -1,0 +1,3 @@
+pub mod Tainted
+pub mod Helping
+pub mod Laws
