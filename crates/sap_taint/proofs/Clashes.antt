@@ -76,7 +76,7 @@ all_distinct (x ∷ xs) a b k =
       ),
     )
 
-room_of : (n : Net) → IsNetlist n → NoneClashes n [] n.names → HasRoomForTags n
+pub room_of : (n : Net) → IsNetlist n → NoneClashes n [] n.names → HasRoomForTags n
 room_of n rules h =
     let module_or_name = λ (y : Name) (a : is_among y (n.module_name ∷ n.names) ≡ true). among_front y (n.module_name ∷ n.names) [] a in
     record {
@@ -86,7 +86,7 @@ room_of n rules h =
     }
 
 -- one name more of which none clashes
-one_more : (n : Net) (start earlier : List Name) (x : Name) → NoneClashes n start earlier → clashes n (start ++ earlier) x ≡ false → NoneClashes n start (earlier ++ x ∷ [])
+pub one_more : (n : Net) (start earlier : List Name) (x : Name) → NoneClashes n start earlier → clashes n (start ++ earlier) x ≡ false → NoneClashes n start (earlier ++ x ∷ [])
 one_more n start [] x a b = (subst (λ (ys : List Name). clashes n ys x ≡ false) (append-nil start) b, tt)
 one_more n start (y ∷ ys) x a b =
     (a.0, one_more n (start ++ y ∷ []) ys x a.1 (subst (λ (zs : List Name). clashes n zs x ≡ false) (sym (append_assoc start (y ∷ []) ys)) b))

@@ -31,7 +31,7 @@ use Rattle.sap_taint_pass.specs.Tainted.{tags_read, tag_operand, joined, help_fo
 use Rattle.sap_build.proofs.Found.{entries_declared, registers_among}
 use Rattle.sap_taint_pass.proofs.FirstScope as first
 use Rattle.sap_taint_pass.proofs.InOrder.{names_in, all_unordered}
-use Rattle.sap_taint_pass.proofs.Joins.{tags_in, joined_value, join_is_tag}
+use Rattle.sap_taint_pass.proofs.JoinWires.{tags_in, joined_value, join_is_tag}
 use Rattle.sap_taint_pass.proofs.Setting.{Setting}
 use Rattle.sap_taint_pass.proofs.WriteWires.{memories_take}
 use Rattle.sap_taint_pass.proofs.Readable.{the_tag_wires, the_write_wires, stocked, memories_fit, right_grows}

@@ -18,7 +18,7 @@ use Rattle.sap_taint_pass.specs.Helping.{taken_names, numbered, free_from, free_
 
 -- one name a number
 
-small : (k : ℕ) → k < 2 ^ 64 → numbered k ≡ helper k
+pub small : (k : ℕ) → k < 2 ^ 64 → numbered k ≡ helper k
 unfolding numbered
 small k l = rw (lt-ltb k (2 ^ 64) l) refl
 

@@ -1,6 +1,6 @@
 pub mod InOrder
 pub mod Numbered
-pub mod Joins
+pub mod JoinWires
 pub mod Setting
 pub mod TagWires
 pub mod WriteWires
@@ -13,3 +13,5 @@ pub mod Form
 pub mod Cycle
 pub mod FreeNames
 pub mod Carries
+pub mod NameTexts
+pub mod Clashing

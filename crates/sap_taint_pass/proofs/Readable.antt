@@ -27,7 +27,7 @@ use Rattle.sap_taint.proofs.Apart.{tag_among}
 use Rattle.sap_build.proofs.Found.{AreDeclared, AllAmong, found_declared, first_declared, shapes_declared, wires_among, entries_declared, registers_among}
 use Rattle.sap_taint_pass.proofs.FirstScope as first
 use Rattle.sap_taint_pass.proofs.InOrder.{all_ordered}
-use Rattle.sap_taint_pass.proofs.Joins.{HelpingNew}
+use Rattle.sap_taint_pass.proofs.JoinWires.{HelpingNew}
 use Rattle.sap_taint_pass.proofs.Numbered.{some_names, other_number, one_of_some}
 use Rattle.sap_taint_pass.proofs.Setting.{Setting, IsDeclared, help_free, help_undeclared, help_apart_tag, help_no_memory, tag_undeclared, not_declared}
 use Rattle.sap_taint_pass.proofs.TagWires.{Tagged, Stands, readable_other, readable_new, tag_wires_fit, tag_wires_wide, tag_wires_names}

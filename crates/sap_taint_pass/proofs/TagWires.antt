@@ -24,7 +24,7 @@ use Rattle.sap_net.proofs.RulesLemmas.{wires_both, readable_kept}
 use Rattle.sap_taint.specs.TagNames.{name_of_tag}
 use Rattle.sap_taint_pass.specs.Tainted.{operands_of, tags_of, tags_read, joins, joined, help_for, tag_wires, help_for_wires}
 use Rattle.sap_taint_pass.proofs.Numbered.{some_names, numbered, other_number, numbers_both}
-use Rattle.sap_taint_pass.proofs.Joins.{AreTags, HelpingNew, joined_are_wires, joined_names}
+use Rattle.sap_taint_pass.proofs.JoinWires.{AreTags, HelpingNew, joined_are_wires, joined_names}
 use Rattle.sap_taint_pass.proofs.Setting.{Setting, IsDeclared, tags_apart, help_apart_tag, tag_no_memory, help_no_memory}
 
 -- names that no wire has are found as before

@@ -19,7 +19,7 @@ use Rattle.sap_taint.specs.TagNames.{name_of_tag}
 use Rattle.sap_taint.specs.Tags.{operand_tag, written_tag}
 use Rattle.sap_taint_pass.specs.Tainted.{tag_operand, joint, write_wires, help_for_writes, memory_tags}
 use Rattle.sap_taint_pass.proofs.Numbered.{AreApart, some_names, apart_names}
-use Rattle.sap_taint_pass.proofs.Joins.{HelpingNew, NoMemory, help_used, tags_in}
+use Rattle.sap_taint_pass.proofs.JoinWires.{HelpingNew, NoMemory, help_used, tags_in}
 use Rattle.sap_taint_pass.proofs.TagWires.{Tagged, AreWide}
 
 -- a name is there, with its tag

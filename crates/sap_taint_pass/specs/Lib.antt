@@ -1,3 +1,4 @@
 pub mod Tainted
 pub mod Helping
+pub mod FaultTexts
 pub mod Laws

@@ -46,6 +46,9 @@ joint w (Constant u n) b = Copy (tag_operand w b)
 abbrev pub tag_wire : (w : ℕ) → Name → Right → Wire
 tag_wire w x right = record { name = x; width = w; right = right }
 
+abbrev pub union : (w : ℕ) → (x a b : Name) → Wire
+union w x a b = tag_wire w x (Two Or (Named a) (Named b))
+
 -- The wires by which x becomes the join of a tag with others, one more in each wire. All but the last have helping names, from the k-th on.
 abbrev pub joins : (helping : ℕ → Name) (w k : ℕ) (x so_far : Name) → List Name → List Wire
 joins helping w k x t [] = tag_wire w x (Copy (Named t)) ∷ []

@@ -1,4 +1,6 @@
-//! The netlist that carries the taint of another, as a function of it.
+//! The netlist that carries the taint of another, as a function of it, and the first name whose tag can't have its own.
 #![tactic(auto)]
 
+pub mod fault;
 pub mod laws;
+pub mod names;
