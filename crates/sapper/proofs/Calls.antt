@@ -7,7 +7,7 @@ use Rattle.sap_desk.specs.Cause.{counted}
 use Rattle.sap_desk.specs.Whole.{Between, Gained, LostAtMostOne}
 use Rattle.sap_stim.specs.declared.fault.StimFault.{StimFault}
 use Rattle.sap_words.specs.Words.{Words, IsTwin, command_of}
-use Rattle.sap_files.specs.Ending.{Ending, Refusal, done, refused, failed, no_memory, no_command, stimulus_refused, status_of, line_of, IsFree}
+use Rattle.sap_files.specs.Ending.{Ending, Refusal, done, refused, no_memory, no_command, stimulus_refused, status_of, line_of, IsFree}
 use Rattle.sap_files.specs.Asks.{Asks, file, by, gives, prints, writes, stops, AreLawful, Cause, Files, Shows, end_of}
 use Rattle.sap_commands.specs.Commands.{asks, asks_for}
 use Rattle.sap_files.specs.After.{Blames, Stands}

@@ -6,14 +6,12 @@ use Rattle.sap_desk.specs.Desk.{Told}
 use Rattle.sap_desk.specs.Whole.{Between, Gained}
 use Rattle.sap_desk.proofs.Steps.{at_name-same}
 use Rattle.sap_lattice.specs.Levels.{Levels}
-use Rattle.sap_maps.specs.Maps.{Valuation}
 use Rattle.sap_meaning.specs.Cycle.{Tagged}
 use Rattle.sap_net.specs.IsNetlist.{IsNetlist}
 use Rattle.sap_net.specs.Net.{Net}
 use Rattle.sap_vtext.specs.Modules.{IsModule}
 use Rattle.sap_stim.specs.declared.stimulus.Parsed.{Parsed}
 use Rattle.sap_sim.specs.Numbers.{numbers_of}
-use Rattle.sap_sim.specs.Simulated.{read_for}
 use Rattle.sap_sim.specs.Stepped.{IsRunOn}
 use Rattle.sap_wave.specs.declared.fault.WaveCode.{WaveCode}
 use Rattle.sap_wave.specs.declared.fault.WaveFault.{WaveFault}
@@ -30,8 +28,8 @@ use Rattle.sap_wave_rows.proofs.RowsOfRuns.{rows_of_runs}
 use Rattle.sap_wave_run.specs.Dumped.{IsDumpOn}
 use Rattle.sap_words.specs.Words.{Words, wave, unwave}
 use Rattle.sap_files.specs.Ending.{Ending, Refusal, done, refused, wave_refused, status_of, line_of, IsFree}
-use Rattle.sap_files.specs.Kinds.{Kind, Has, IsRefused, IsLawful, lattice_file, module_file, module_stream_file, wave_file}
-use Rattle.sap_files.specs.Asks.{Asks, file, Cause, Files, Leaves, Output, Shows, Written}
+use Rattle.sap_files.specs.Kinds.{Kind, Has, IsLawful, lattice_file, module_file, module_stream_file, wave_file}
+use Rattle.sap_files.specs.Asks.{Asks, file, gives, writes, Cause, Files, Leaves, Output, Shows, Written}
 use Rattle.sap_files.specs.StimulusTexts.{AreModuleRows}
 use Rattle.sap_commands.specs.Commands.{asks, asks_for, asks_if}
 use Rattle.sap_files.proofs.Lattices.{lattice_lawful}
@@ -40,7 +38,7 @@ use Rattle.sap_files.proofs.Modules.{module_lawful}
 use Rattle.sap_files.proofs.Netlists.{module_netlist}
 use Rattle.sapper.specs.Answers.{Answers}
 use Rattle.sapper.specs.Exact.{Exact}
-use Rattle.sapper.specs.Waves.{AreForRun, TellsRun, Unwaves, UnwavesExactly, Waves, WavesExactly}
+use Rattle.sapper.specs.Waves.{AreForRun, TellsRun, Unwaves, Waves}
 use Rattle.sapper.proofs.Headline.{done_alone, free_status}
 
 -- ---- a cause, file by file
@@ -82,6 +80,13 @@ tells ls net stream text rules d =
     }
 
 module _ (lattice verilog stimulus out : List ℕ) (answer : ℕ) (t n : Told) where
+  -- what is asked behind LATTICE, and behind VERILOG
+  abbrev behind_module : Levels → Net → Asks
+  behind_module ls net = file stimulus (module_stream_file ls net) (λ stream. writes out (IsDumpOn net (numbers_of ls net) stream))
+
+  abbrev behind_lattice : Levels → Asks
+  behind_lattice ls = file verilog module_file (λ net. behind_module ls net)
+
   abbrev IsCaused : Ending → Type 0
   IsCaused e = Cause (asks (wave lattice verilog stimulus out)) t e
 
@@ -103,15 +108,17 @@ module _ (lattice verilog stimulus out : List ℕ) (answer : ℕ) (t n : Told) w
   no_module : (e : Ending) × IsCaused e × (answer ≡ status_of e) → (ls : Levels) (text : List ℕ) → Has t lattice lattice_file ls → t.files verilog ≡ Some text
       → ((net : Net) → ¬ (IsModule text net)) → answer ≡ 5
   no_module (e, cause, is) ls text has there none =
-      let (why, ends, (fault, was, rest)) = refused_at t verilog module_file _ e text there none (past_file t lattice lattice_file _ e lattice_lawful ls has cause) in
-      is ∙ ap status_of ends ∙ ap (λ (w : Refusal). status_of (refused w)) was
+      let behind : Cause (behind_lattice ls) t e = past_file t lattice lattice_file behind_lattice e lattice_lawful ls has cause in
+      let r = refused_at t verilog module_file (behind_module ls) e text there none behind in
+      is ∙ ap status_of r.1 ∙ ap (λ (w : Refusal). status_of (refused w)) r.2.1
 
   no_stimulus : (e : Ending) × IsCaused e × (answer ≡ status_of e) → (ls : Levels) (net : Net) (bytes : List ℕ) → Has t lattice lattice_file ls → Has t verilog module_file net
       → t.files stimulus ≡ Some bytes → ((stream : List (List Tagged)) → ¬ ((module_stream_file ls net).Stands bytes stream)) → answer ≡ 4
   no_stimulus (e, cause, is) ls net bytes has had there none =
-      let behind = past_file t verilog module_file _ e module_lawful net had (past_file t lattice lattice_file _ e lattice_lawful ls has cause) in
-      let (why, ends, (fault, was, rest)) = refused_at t stimulus (module_stream_file ls net) _ e bytes there none behind in
-      is ∙ ap status_of ends ∙ ap (λ (w : Refusal). status_of (refused w)) was
+      let behind : Cause (behind_lattice ls) t e = past_file t lattice lattice_file behind_lattice e lattice_lawful ls has cause in
+      let further : Cause (behind_module ls net) t e = past_file t verilog module_file (behind_module ls) e module_lawful net had behind in
+      let r = refused_at t stimulus (module_stream_file ls net) (λ stream. writes out (IsDumpOn net (numbers_of ls net) stream)) e bytes there none further in
+      is ∙ ap status_of r.1 ∙ ap (λ (w : Refusal). status_of (refused w)) r.2.1
 
 waves : (words : List (List ℕ)) (lost now answer : ℕ) (t n : Told) → Answers words lost now answer t n → Exact words t answer → Waves words answer t n
 waves words lost now answer t n a exact = λ lattice verilog stimulus out is.
@@ -132,6 +139,9 @@ waves words lost now answer t n a exact = λ lattice verilog stimulus out is.
 -- ---- `unwave`
 
 module _ (lattice dump : List ℕ) (t : Told) where
+  abbrev rows_asked : Levels → Asks
+  rows_asked ls = file dump wave_file (λ wave. gives (λ text. text ≡ rows_of_wave ls wave))
+
   shown : (gained : List ℕ) → Shows (asks (unwave lattice dump)) t done gained
       → (ls : Levels) × (w : Wave) × Has t lattice lattice_file ls × Has t dump wave_file w × (gained ≡ rows_of_wave ls w)
   shown gained (inl ((why, is, at), none)) = absurd (cc)
@@ -142,8 +152,9 @@ module _ (lattice dump : List ℕ) (t : Told) where
   first_fault : (e : Ending) → Cause (asks (unwave lattice dump)) t e → (ls : Levels) (bytes : List ℕ) → Has t lattice lattice_file ls → t.files dump ≡ Some bytes
       → ((w : Wave) → ¬ (IsReading bytes w)) → (line : ℕ) × (code : WaveCode) × IsFault bytes line code × (e ≡ refused (wave_refused (Rule code line)))
   first_fault e cause ls bytes has there none =
-      let (why, ends, (fault, was, stands)) = refused_at t dump wave_file _ e bytes there none (past_file t lattice lattice_file _ e lattice_lawful ls has cause) in
-      of_fault fault stands (ends ∙ ap refused was)
+      let behind : Cause (rows_asked ls) t e = past_file t lattice lattice_file rows_asked e lattice_lawful ls has cause in
+      let r = refused_at t dump wave_file (λ wave. gives (λ text. text ≡ rows_of_wave ls wave)) e bytes there none behind in
+      of_fault r.2.0 r.2.2 (r.1 ∙ ap refused r.2.1)
     where
       of_fault : (fault : WaveFault) → IsWaveFault bytes fault → e ≡ refused (wave_refused fault)
           → (line : ℕ) × (code : WaveCode) × IsFault bytes line code × (e ≡ refused (wave_refused (Rule code line)))
