@@ -6,5 +6,6 @@ pub mod cpu;
 mod line;
 pub mod machine;
 mod state;
+pub mod stimulus;
 pub mod text;
 pub mod words;

@@ -1,6 +1,6 @@
 //! The words of a user's program.
 
-ghost use Rattle.std.specs.Prelude.{◌≡◌};
+ghost use Rattle.std.specs.Prelude.{◌≡◌, length};
 
 use std::marker::Model;
 
@@ -26,7 +26,8 @@ impl Words {
     }
 
     pub fn as_array(&self) -> &[u16; 16]
-        ensures { result.now ≡ self.now }
+        ensures words { result.now ≡ self.now }
+        ensures size { length result.now ≡ 16 }
     {
         &self.words
     }

@@ -11,11 +11,15 @@ use Rattle.sap_machine.specs.Assembly.{Assembled, assembled}
 use Rattle.sap_machine.specs.Table.{UserState}
 use Rattle.sap_machine.specs.Slices.{after_slices}
 
--- WORD@a WORD@b, for each place of two lists of words
+-- WORD@a WORD@b
+abbrev pub word_line : (x y : ℕ) → List ℕ
+word_line x y = line (decimal x ++ codes "@a " ++ decimal y ++ codes "@b")
+
+-- such a line for each place of two lists of words
 abbrev pub word_lines : (a b : List ℕ) → List ℕ
 word_lines [] b = []
 word_lines (x ∷ a) [] = []
-word_lines (x ∷ a) (y ∷ b) = line (decimal x ++ codes "@a " ++ decimal y ++ codes "@b") ++ word_lines a b
+word_lines (x ∷ a) (y ∷ b) = word_line x y ++ word_lines a b
 
 -- the stimulus of n slices: a line for each word, and one repeated for the cycles behind them
 unfoldable pub stimulus_text : (a b : List ℕ) → (n : ℕ) → List ℕ
