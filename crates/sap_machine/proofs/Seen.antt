@@ -135,8 +135,8 @@ inputs_agree u (a ∷ (b ∷ (x ∷ xs))) j fi fj d = elim fi.2.2 [ ]
 inputs_agree u (a ∷ (b ∷ [])) [] fi fj d = elim fj [ ]
 inputs_agree u (a ∷ (b ∷ [])) (c ∷ []) fi fj d = elim fj.2 [ ]
 inputs_agree u (a ∷ (b ∷ [])) (c ∷ (e ∷ (x ∷ xs))) fi fj d = elim fj.2.2 [ ]
-inputs_agree A (a ∷ (b ∷ [])) (c ∷ (e ∷ [])) fi fj d = (same_alike 1 a c d.own, (hidden_alike 1 b e d.other, tt))
-inputs_agree B (a ∷ (b ∷ [])) (c ∷ (e ∷ [])) fi fj d = (hidden_alike 2 a c d.other, (same_alike 2 b e d.own, tt))
+inputs_agree A (a ∷ (b ∷ [])) (c ∷ (e ∷ [])) fi fj d = (same_alike 1 a c d.own, (hidden_alike 1 b e d.hidden, tt))
+inputs_agree B (a ∷ (b ∷ [])) (c ∷ (e ∷ [])) fi fj d = (hidden_alike 2 a c d.hidden, (same_alike 2 b e d.own, tt))
 
 streams_agree : (u : User) (s t : List (List Tagged)) → StreamFits machine_world s → StreamFits machine_world t → AllZip (OthersWordDiffers machine_world.order u) s t
     → StreamsAgree machine_world.order (level_of u) s t

@@ -92,7 +92,7 @@ OthersDontCount p = (s t : List (List Tagged)) → StreamFits p.world s → Stre
 -- a user gets the same at the same level; and so does the other, or neither of its words is at or below this user's level
 pub record OthersWordDiffers (o : Order) (u : User) (inputs others : List Tagged) : Type 0 where
   pub own : input_in inputs (part u).input ≡ input_in others (part u).input
-  pub other : (input_in inputs (part (other u)).input ≡ input_in others (part (other u)).input)
+  pub hidden : (input_in inputs (part (other u)).input ≡ input_in others (part (other u)).input)
       ⊎ (High o (part u).level (input_in inputs (part (other u)).input).level × High o (part u).level (input_in others (part (other u)).input).level)
 
 -- So a user's part is the same behind every cycle of streams that differ in words of the other alone.
