@@ -48,7 +48,7 @@ helper_long : (x : Name) → IsHelpingName x → 2 ≤ length x
 unfolding helper
 helper_long x h = let some = some_digits h.0 in let long : 2 ≤ length (helper h.0) = omega (arith, some) in subst (λ (y : Name). 2 ≤ length y) (sym h.1) long
 
-either_long : (d : Named) (sites : ℕ) (x : Name) → IsInterfaceName d sites x ⊎ IsHelpingName x → 2 ≤ length x
+pub either_long : (d : Named) (sites : ℕ) (x : Name) → IsInterfaceName d sites x ⊎ IsHelpingName x → 2 ≤ length x
 either_long d sites x (inl is) = interface_long d sites x is
 either_long d sites x (inr is) = helper_long x is
 

@@ -9,6 +9,11 @@ mod Order
 mod Linked
 mod Own
 mod SideBySide
+mod Families
+mod Entities
+mod PartNames
+mod Ends
+mod Differing
 mod Declared
 mod Declaring
 mod Designs

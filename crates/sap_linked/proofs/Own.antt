@@ -36,7 +36,7 @@ no_register rs x none =
       | inr q ↦ q
     ]
 
-inputs_apart : (ms : Shapes) (is : List Input) (rs : List Register) → AreValues ms (map (λ i. (i.name, i.width)) is ++ map (λ r. (r.name, r.width)) rs) → AllByRecursion (λ i. is_among i.name (map (λ (r : Register). r.name) rs) ≡ false) is
+pub inputs_apart : (ms : Shapes) (is : List Input) (rs : List Register) → AreValues ms (map (λ i. (i.name, i.width)) is ++ map (λ r. (r.name, r.width)) rs) → AllByRecursion (λ i. is_among i.name (map (λ (r : Register). r.name) rs) ≡ false) is
 inputs_apart ms [] rs rules = tt
 inputs_apart ms (i ∷ is) rs rules = (no_register rs i.name (past_inputs is (map (λ r. (r.name, r.width)) rs) i.name rules.1), inputs_apart ms is rs rules.3)
 
@@ -66,7 +66,7 @@ not_in_front {X} (e ∷ es) fs x h =
       | inr q ↦ rw q (not_in_front es fs x (rw q at h))
     ]
 
-values_front : (ms : Shapes) (es fs : Scope) → AreValues ms (es ++ fs) → AreValues ms es
+pub values_front : (ms : Shapes) (es fs : Scope) → AreValues ms (es ++ fs) → AreValues ms es
 values_front ms [] fs a = tt
 values_front ms (e ∷ es) fs a = (a.0, not_in_front es fs e.0 a.1, a.2, values_front ms es fs a.3)
 

@@ -4,7 +4,7 @@ use Rattle.std.specs.List.{list_all}
 use Rattle.sap_maps.specs.Maps.{Name}
 use Rattle.sap_lattice.specs.Codes.{Codes}
 use Rattle.sap_net.specs.declared.parts.Input.{Input}
-use Rattle.sap_net.specs.Names.{is_inner}
+use Rattle.sap_net.specs.Names.{is_inner, AreDistinct}
 use Rattle.sap_net.specs.Net.{Net}
 use Rattle.sap_net.specs.IsNetlist.{IsNetlist}
 use Rattle.sap_interface.specs.StandsFor.{Named}
@@ -12,13 +12,13 @@ use Rattle.sap_interface.specs.Interface.{Shown, declared_by, DeclaresPart, HasI
 use Rattle.sap_interface.specs.InterfaceNames.{IsInterfaceName}
 use Rattle.sap_build.specs.Copies.{KeepsApart}
 use Rattle.sap_build.specs.Parts.{IsPart}
-use Rattle.sap_link.specs.Systems.{free_inputs}
+use Rattle.sap_link.specs.Systems.{free_inputs, WiresFit}
 use Rattle.sap_link.specs.Laws.{FineSystem, SizedSystem}
-use Rattle.sap_linked.specs.Parts.{NamedSystem, part_at, system_of, in_part, has_no_underscore}
+use Rattle.sap_linked.specs.Parts.{NamedSystem, part_at, system_of, in_part, has_no_underscore, NamesFit}
 use Rattle.sap_linked.specs.Linking.{IsNetOf, inputs_for, LinksParts}
 use Rattle.sap_linked.specs.Interface.{input_ports, DeclaresSystem}
 use Rattle.sap_linked.specs.Standing.{RunsStand}
-use Rattle.sap_linked.specs.Netlist.{linked_net}
+use Rattle.sap_linked.specs.Netlist.{inner_names, linked_net}
 
 -- Names of two bytes or more are told apart in the module of a system, and so are those of two parts whose names have no `_`.
 abbrev pub NamesStayApart : Type 0
@@ -60,3 +60,9 @@ abbrev pub LinkedNetDeclares : Type 0
 LinkedNetDeclares =
     (s : NamedSystem) (nets : ℕ → Net) → ((i : ℕ) → i < length s.parts → IsNetOf s.order (part_at s i) (nets i)) → IsNetlist (linked_net s nets)
     → DeclaresSystem s (linked_net s nets)
+
+-- Where the names of parts and the wires break no rule, no two wires, registers or memories of the netlist of a system have one name.
+abbrev pub InnerNamesDiffer : Type 0
+InnerNamesDiffer =
+    (s : NamedSystem) (nets : ℕ → Net) → NamesFit s → WiresFit (system_of s) → ((i : ℕ) → i < length s.parts → IsNetOf s.order (part_at s i) (nets i))
+    → AreDistinct (inner_names s nets)

@@ -60,6 +60,13 @@ copies_of items copy i (p ∷ ps) = map (copy (in_part p.name)) (items i) ++ cop
 abbrev pub shown_names : NamedSystem → List Name
 shown_names s = map (λ (port : Shown). port.0) (linked_ports s)
 
+-- the names of all wires, registers and memories
+abbrev pub inner_names : NamedSystem → (nets : ℕ → Net) → List Name
+inner_names s nets =
+    map (λ (w : Wire). w.name) (feeds s s.wires ++ copies_of (λ i. (nets i).wires) copy_wire 0 s.parts)
+    ++ map (λ (r : Register). r.name) (copies_of (λ i. (nets i).registers) copy_register 0 s.parts)
+    ++ map (λ (m : Memory). m.name) (copies_of (λ i. (nets i).memories) copy_memory 0 s.parts)
+
 -- Wires that feed stand first: they read nothing but registers. Names and registers that ports show stand in front of the others.
 abbrev pub linked_net : NamedSystem → (nets : ℕ → Net) → Net
 linked_net s nets =
@@ -70,8 +77,7 @@ linked_net s nets =
       module_name = top_name;
       names =
           shown_names s
-          ++ filter (λ x. not (is_among x (shown_names s)))
-          (map (λ (w : Wire). w.name) wires ++ map (λ (r : Register). r.name) registers ++ map (λ (m : Memory). m.name) memories);
+          ++ filter (λ x. not (is_among x (shown_names s))) (inner_names s nets);
       ports = map {B = Port} (λ (port : Shown). record { name = port.0; kind = port.1 }) (linked_ports s);
       inputs = inputs_for s (free_inputs (system_of s));
       wires = wires;

@@ -1,10 +1,11 @@
 -- Parts of a system with their names, and what their names are in the module of the system.
-use Rattle.std.specs.Prelude.{ℕ, Bool, not, ◌==◌, List, [], ◌++◌, map, get_or, take, drop, codes}
+use Rattle.std.specs.Prelude.{◌≡◌, ◌<◌, true, length, ℕ, Bool, not, ◌==◌, List, [], ◌++◌, map, get_or, take, drop, codes}
 use Rattle.std.specs.List.{list_all}
 use Rattle.std.specs.Str.{byte}
 use Rattle.sap_maps.specs.Maps.{Name}
 use Rattle.sap_lattice.specs.Order.{Order}
 use Rattle.sap_lattice.specs.Codes.{code_of}
+use Rattle.sap_net.specs.Names.{is_inner}
 use Rattle.sap_net.specs.PortNames.{value_name, tag_name}
 use Rattle.sap_interface.specs.StandsFor.{Named, name}
 use Rattle.sap_link.specs.Systems.{Endpoint, Wire, System}
@@ -47,3 +48,9 @@ tag_at s e = let p = part_at s e.part in in_part p.name (tag_name (name p.design
 -- the name of a part has no `_`
 abbrev pub has_no_underscore : Name → Bool
 has_no_underscore part = list_all (λ b. not (b == byte "_")) part
+
+-- the names of parts are made of letters and digits, without `_`, and differ
+pub record NamesFit (s : NamedSystem) : Type 0 where
+  pub inner : (i : ℕ) → i < length s.parts → list_all is_inner (part_at s i).name ≡ true
+  pub whole : (i : ℕ) → i < length s.parts → has_no_underscore (part_at s i).name ≡ true
+  pub distinct : (i j : ℕ) → i < length s.parts → j < length s.parts → (part_at s i).name ≡ (part_at s j).name → i ≡ j
