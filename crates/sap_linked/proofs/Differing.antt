@@ -1,10 +1,13 @@
--- No two wires, registers or memories of the netlist of a system have one name.
+-- No two inputs, wires, registers or memories of the netlist of a system have one name.
 use Rattle.std.proofs.Common.{◌≡◌, ◌⊎◌, ℕ, ◌+◌, ◌<◌, ◌≤◌, true, false, List, [], ◌∷◌, ◌++◌, length, refl, sym, ◌∙◌, ap, ap₂, subst, inl, inr, arith}
 use Rattle.std.specs.List.{AllByRecursion}
-use Rattle.std.proofs.lemmas.Bool.{cases_Bool, or_cases}
+use Rattle.std.specs.Str.{byte}
+use Rattle.std.specs.Prelude.{Bool, not, suc, map}
+use Rattle.std.proofs.lemmas.Bool.{and_parts, cases_Bool, or_cases}
 use Rattle.sap_lemmas.proofs.Lists.{length_map}
 use Rattle.sap_maps.specs.Maps.{Name}
 use Rattle.sap_lattice.specs.Codes.{width_of}
+use Rattle.sap_meaning.specs.Program.{is_input}
 use Rattle.sap_net.specs.declared.parts.Wire.{Wire}
 use Rattle.sap_net.specs.declared.parts.Register.{Register}
 use Rattle.sap_net.specs.declared.parts.Memory.{Memory}
@@ -13,17 +16,24 @@ use Rattle.sap_net.specs.Net.{Net}
 use Rattle.sap_net.specs.IsNetlist.{first_readable, input_names, memory_names, names_of, register_names, shapes, wire_names}
 use Rattle.sap_net.proofs.NamesLemmas.{among_append, distinct_both, filter_distinct}
 use Rattle.sap_net.proofs.RulesLemmas.{wires_distinct}
+use Rattle.sap_net.specs.PortNames.{value_name, tag_name}
+use Rattle.sap_net.specs.declared.parts.PortKind.TheVariants as kind
+use Rattle.sap_interface.specs.StandsFor.{Named, name, world}
+use Rattle.sap_interface.specs.Interface.{Shown, pairs_of}
 use Rattle.sap_build.specs.Copies.{copy_wire, copy_register, copy_memory}
 use Rattle.sap_build.proofs.Found.{memories_among, registers_among, wires_among}
-use Rattle.sap_link.specs.Systems.{WiresFit, Connects}
+use Rattle.sap_link.specs.Systems.{Endpoint, endpoint, is_fed, same_endpoint, WiresFit, Connects}
 use Rattle.sap_link.specs.Systems.{Wire as SystemWire}
-use Rattle.sap_linked.specs.Parts.{Part, NamedSystem, part_at, system_of, NamesFit}
+use Rattle.sap_linked.specs.Parts.{Part, NamedSystem, part_at, system_of, in_part, NamesFit}
 use Rattle.sap_linked.specs.Linking.{IsNetOf}
 use Rattle.sap_linked.specs.Netlist.{copies_of, feeds}
-use Rattle.sap_linked.specs.Laws.{InnerNamesDiffer}
-use Rattle.sap_linked.proofs.Ends.{end_apart, feeds_distinct, interface_at, of_feeds, AllTo, IsInput}
-use Rattle.sap_linked.proofs.Families.{copies_distinct, copies_named, map_both, meets, named_copies, of_among, Suffix}
-use Rattle.sap_linked.proofs.Linked.{design_at}
+use Rattle.sap_linked.specs.Laws.{InputsInOrder, AllNamesDiffer}
+use Rattle.sap_linked.specs.Interface.{input_ports, is_free, ports_in}
+use Rattle.sap_linked.specs.Standing.{names_of_inputs}
+use Rattle.sap_linked.proofs.Ends.{end_apart, feeds_distinct, interface_at, of_feeds, one_end, pairs_distinct, AllTo, IsEnd, IsInput}
+use Rattle.sap_linked.proofs.Families.{copies_distinct, copies_named, later, map_both, meets, named_copies, of_among, this, Suffix}
+use Rattle.sap_linked.proofs.Entities.{names_of_pairs, of_pair, still_distinct}
+use Rattle.sap_linked.proofs.Linked.{design_at, design_is}
 use Rattle.sap_linked.proofs.PartNames.{input_no_memory, input_no_register, name_long, register_no_memory, wire_no_input, wire_no_memory, wire_no_register}
 
 absent : (z : Name) (xs : List Name) → (is_among z xs ≡ true → ⊥) → is_among z xs ≡ false
@@ -147,12 +157,113 @@ module _ (s : NamedSystem) (nets : ℕ → Net) (fit : NamesFit s) (good : Wires
         | inr r ↦ registers_memories z r k
       ]))
 
-pub inner_names_differ : InnerNamesDiffer
-inner_names_differ s nets fit good each =
+  -- ---- with the free inputs
+
+  abbrev free_in : ℕ → List Name
+  free_in i = names_of_pairs (part_at s i).design kind.Input (is_free s.wires (part_at s i) i) 0 (world (part_at s i).design).entities
+
+  abbrev free_there : List Name
+  free_there = named_copies free_in 0 s.parts
+
+  names_behind : (p : Part) (shown : List Shown) → map (λ (port : Shown). port.0) (ports_in p shown) ≡ map (in_part p.name) (map (λ (port : Shown). port.0) shown)
+  names_behind p [] = refl
+  names_behind p (x ∷ xs) = ap (λ (ns : List Name). in_part p.name x.0 ∷ ns) (names_behind p xs)
+
+  free_copies : (k : ℕ) (ps : List Part) → Suffix s k ps → map (λ (port : Shown). port.0) (input_ports s.wires k ps) ≡ named_copies free_in k ps
+  free_copies k [] at = refl
+  free_copies k (p ∷ ps) at =
+      let shown = pairs_of (is_free s.wires p k) kind.Input p.design 0 (world p.design).entities in
+      map_both (λ (port : Shown). port.0) (ports_in p shown) (input_ports s.wires (suc k) ps)
+      ∙ ap₂ (λ (xs ys : List Name). xs ++ ys)
+      (names_behind p shown ∙ ap (λ (q : Part). map (in_part p.name) (names_of_pairs q.design kind.Input (is_free s.wires q k) 0 (world q.design).entities)) (sym (this s k p ps at)))
+      (free_copies (suc k) ps (later s k p ps at))
+
+  same_design : (i : ℕ) → i < length s.parts → design_at s i ≡ (part_at s i).design
+  same_design i low = design_is s i (each i low).codes
+
+  own_pairs : (i : ℕ) → i < length s.parts → AreDistinct (names_of_inputs (part_at s i).design)
+  own_pairs i low = subst (λ (d : Named). AreDistinct (names_of_inputs d)) (same_design i low) (pairs_distinct s nets fit each i low)
+
+  free_distinct : (i : ℕ) → i < length s.parts → AreDistinct (free_in i)
+  free_distinct i low =
+      let d = (part_at s i).design in
+      still_distinct d kind.Input (is_input (world d)) (is_free s.wires (part_at s i) i) (λ x is. (and_parts (is_input (world d) x) (not (is_fed s.wires (endpoint i x))) is).0) 0 (world d).entities (own_pairs i low)
+
+  pair_long : (i : ℕ) (z : Name) (x : ℕ) → (z ≡ value_name (name (part_at s i).design x)) ⊎ (z ≡ tag_name (name (part_at s i).design x)) → 2 ≤ length z
+  pair_long i z x (inl e) = let l : 2 ≤ length (value_name (name (part_at s i).design x)) = omega arith in subst (λ (n : Name). 2 ≤ length n) (sym e) l
+  pair_long i z x (inr e) = let l : 2 ≤ length (tag_name (name (part_at s i).design x)) = omega arith in subst (λ (n : Name). 2 ≤ length n) (sym e) l
+
+  free_long : (i : ℕ) → i < length s.parts → (x : Name) → is_among x (free_in i) ≡ true → 2 ≤ length x
+  free_long i low z h = let r = of_pair (part_at s i).design kind.Input (is_free s.wires (part_at s i) i) z 0 (world (part_at s i).design).entities h in pair_long i z r.0 r.2
+
+  abbrev IsUnfed : Endpoint → Type 0
+  IsUnfed e = not (is_fed s.wires e) ≡ true
+
+  free_end : (z : Name) → is_among z free_there ≡ true → IsEnd s nets fit each IsUnfed z
+  free_end z h =
+      let b = of_among s free_in 0 s.parts whole_list z h in
+      let i = b.part in
+      let r = of_pair (part_at s i).design kind.Input (is_free s.wires (part_at s i) i) b.name 0 (world (part_at s i).design).entities b.is in
+      let two = and_parts (is_input (world (part_at s i).design) r.0) (not (is_fed s.wires (endpoint i r.0))) r.1 in
+      let input : is_input (world (design_at s i)) r.0 ≡ true = subst (λ (d : Named). is_input (world d) r.0 ≡ true) (sym (same_design i b.low)) two.0 in
+      elim r.2 [
+        | inl e ↦ record { letter = byte "v"; end = endpoint i r.0; is = record { low = b.low; input = input }; holds = two.1; known = inl (inl refl); named = b.behind ∙ ap (in_part (part_at s i).name) e }
+        | inr e ↦ record { letter = byte "t"; end = endpoint i r.0; is = record { low = b.low; input = input }; holds = two.1; known = inl (inr refl); named = b.behind ∙ ap (in_part (part_at s i).name) e }
+      ]
+
+  fed_more : (v : SystemWire) (ws some : List SystemWire) → AllByRecursion (λ w. is_fed ws w.to ≡ true) some → AllByRecursion (λ w. is_fed (v ∷ ws) w.to ≡ true) some
+  fed_more v ws [] a = tt
+  fed_more v ws (w ∷ some) a = (elim (cases_Bool (same_endpoint v.to w.to)) [ inl t ↦ rw t refl | inr q ↦ rw q a.0 ], fed_more v ws some a.1)
+
+  same_self : (e : Endpoint) → same_endpoint e e ≡ true
+  same_self e = grind arith
+
+  each_fed : (ws : List SystemWire) → AllByRecursion (λ w. is_fed ws w.to ≡ true) ws
+  each_fed [] = tt
+  each_fed (w ∷ ws) = (rw (same_self w.to) refl, fed_more w ws ws (each_fed ws))
+
+  to_fed : (ws : List SystemWire) → AllByRecursion (λ w. IsInput s nets fit each w.to) ws → AllByRecursion (λ w. is_fed s.wires w.to ≡ true) ws → AllTo s nets fit each (λ e. is_fed s.wires e ≡ true) ws
+  to_fed [] a b = tt
+  to_fed (w ∷ ws) a b = ((a.0, b.0), to_fed ws a.1 b.1)
+
+  unfed_fed : (b : Bool) → not b ≡ true → b ≡ true → ⊥
+  unfed_fed b h k = cc
+
+  free_fed : (z : Name) → is_among z free_there ≡ true → is_among z fed ≡ true → ⊥
+  free_fed z h k =
+      let a = free_end z h in
+      let b = of_feeds s nets fit each (λ e. is_fed s.wires e ≡ true) s.wires (to_fed s.wires (all_inputs s.wires good.each) (each_fed s.wires)) z k in
+      let e = one_end s nets fit each IsUnfed (λ e. is_fed s.wires e ≡ true) z a b in
+      unfed_fed (is_fed s.wires b.end) (subst (λ (f : Endpoint). not (is_fed s.wires f) ≡ true) e a.holds) b.holds
+
+  module _ (ns : ℕ → List Name) (declared : (i : ℕ) → i < length s.parts → (x : Name) → is_among x (ns i) ≡ true → is_among x (nets i).names ≡ true)
+      (others : (i : ℕ) → i < length s.parts → (x : Name) → is_among x (ns i) ≡ true → is_among x (input_names (nets i)) ≡ true → ⊥) where
+    free_apart : (z : Name) → is_among z free_there ≡ true → is_among z (named_copies ns 0 s.parts) ≡ true → ⊥
+    free_apart z h k =
+        end_apart s nets fit each IsUnfed ns declared others (λ i low x is. long i low x (declared i low x is)) 0 z (free_end z h) (of_among s ns 0 s.parts whole_list z k)
+
+  with_inputs : AreDistinct (free_there ++ (fed ++ wires_there ++ registers_there ++ memories_there))
+  with_inputs =
+      distinct_both free_there (fed ++ wires_there ++ registers_there ++ memories_there) (copies_distinct s fit free_in free_long free_distinct 0 s.parts whole_list) with_memories
+      (λ z h. absent z (fed ++ wires_there ++ registers_there ++ memories_there) (λ k. elim (either (fed ++ wires_there ++ registers_there) memories_there z k) [
+        | inl a ↦ elim (either (fed ++ wires_there) registers_there z a) [
+          | inl b ↦ elim (either fed wires_there z b) [
+            | inl f ↦ free_fed z h f
+            | inr w ↦ free_apart wires_in wires_declared no_inputs_wires z h w
+          ]
+          | inr r ↦ free_apart registers_in registers_declared no_inputs_registers z h r
+        ]
+        | inr m ↦ free_apart memories_in memories_declared no_inputs_memories z h m
+      ]))
+
+pub all_names_differ : InputsInOrder → AllNamesDiffer
+all_names_differ order s nets fit good each =
     let wires =
     map_both (λ (w : Wire). w.name) (feeds s s.wires) (copies_of (λ i. (nets i).wires) copy_wire 0 s.parts)
     ∙ ap (λ (ns : List Name). names_of (feeds s s.wires) ++ ns) (copies_named (λ i. (nets i).wires) copy_wire (λ (w : Wire). w.name) (λ f w. refl) 0 s.parts)
     in
     let registers = copies_named (λ i. (nets i).registers) copy_register (λ (r : Register). r.name) (λ f r. refl) 0 s.parts in
     let memories = copies_named (λ i. (nets i).memories) copy_memory (λ (m : Memory). m.name) (λ f m. refl) 0 s.parts in
-    subst (λ (ns : List Name). AreDistinct ns) (sym (ap₂ (λ (xs ys : List Name). xs ++ ys) (ap₂ (λ (xs ys : List Name). xs ++ ys) wires registers) memories)) (with_memories s nets fit good each)
+    let inner = ap₂ (λ (xs ys : List Name). xs ++ ys) (ap₂ (λ (xs ys : List Name). xs ++ ys) wires registers) memories in
+    let inputs = order s ∙ free_copies s nets fit good each 0 s.parts (whole_list s nets fit good each) in
+    subst (λ (ns : List Name). AreDistinct ns) (sym (ap₂ (λ (xs ys : List Name). xs ++ ys) inputs inner)) (with_inputs s nets fit good each)

@@ -1,12 +1,12 @@
 -- The laws of netlists that link the netlists of parts.
-use Rattle.std.specs.Prelude.{◌≡◌, ◌<◌, ◌≤◌, ℕ, true, length, map}
+use Rattle.std.specs.Prelude.{◌≡◌, ◌<◌, ◌≤◌, ℕ, true, ◌++◌, length, map}
 use Rattle.std.specs.List.{list_all}
 use Rattle.sap_maps.specs.Maps.{Name}
 use Rattle.sap_lattice.specs.Codes.{Codes}
 use Rattle.sap_net.specs.declared.parts.Input.{Input}
 use Rattle.sap_net.specs.Names.{is_inner, AreDistinct}
 use Rattle.sap_net.specs.Net.{Net}
-use Rattle.sap_net.specs.IsNetlist.{IsNetlist}
+use Rattle.sap_net.specs.IsNetlist.{input_names, IsNetlist}
 use Rattle.sap_interface.specs.StandsFor.{Named}
 use Rattle.sap_interface.specs.Interface.{Shown, declared_by, DeclaresPart, HasInterface}
 use Rattle.sap_interface.specs.InterfaceNames.{IsInterfaceName}
@@ -61,8 +61,8 @@ LinkedNetDeclares =
     (s : NamedSystem) (nets : ℕ → Net) → ((i : ℕ) → i < length s.parts → IsNetOf s.order (part_at s i) (nets i)) → IsNetlist (linked_net s nets)
     → DeclaresSystem s (linked_net s nets)
 
--- Where the names of parts and the wires break no rule, no two wires, registers or memories of the netlist of a system have one name.
-abbrev pub InnerNamesDiffer : Type 0
-InnerNamesDiffer =
+-- Where the names of parts and the wires break no rule, no two inputs, wires, registers or memories of the netlist of a system have one name.
+abbrev pub AllNamesDiffer : Type 0
+AllNamesDiffer =
     (s : NamedSystem) (nets : ℕ → Net) → NamesFit s → WiresFit (system_of s) → ((i : ℕ) → i < length s.parts → IsNetOf s.order (part_at s i) (nets i))
-    → AreDistinct (inner_names s nets)
+    → AreDistinct (input_names (linked_net s nets) ++ inner_names s nets)

@@ -1,6 +1,6 @@
 //! What holds of every netlist that links the netlists of parts.
 
-ghost use Rattle.sap_linked.specs.Laws.{NamesStayApart, PartsKeepApart, InputsInOrder, LinkedNetsStand, PartsDeclare, LinkedNetLinks, LinkedNetDeclares, InnerNamesDiffer};
+ghost use Rattle.sap_linked.specs.Laws.{NamesStayApart, PartsKeepApart, InputsInOrder, LinkedNetsStand, PartsDeclare, LinkedNetLinks, LinkedNetDeclares, AllNamesDiffer};
 ghost use Rattle.sap_linked.specs.Designs.{LinkedDesignsStand};
 
 /// Names of parts stay apart in the module of their system, and so do those of each part's netlist.
@@ -45,7 +45,9 @@ pub fn linked_net_links()
     ensures declares { LinkedNetDeclares }
 {}
 
-/// The wires that feed and what stands in the netlists of parts have different names in the netlist of a system.
-pub fn inner_names_differ()
-    ensures { InnerNamesDiffer }
-{}
+/// The free inputs, the wires that feed and what stands in the netlists of parts have different names in the netlist of a system.
+pub fn all_names_differ()
+    ensures { AllNamesDiffer }
+{
+    inputs_in_order()
+}
