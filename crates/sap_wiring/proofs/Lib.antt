@@ -1,0 +1,6 @@
+pub mod Answered
+pub mod Feeding
+pub mod Fitting
+pub mod Judging
+pub mod Naming
+pub mod Parts
