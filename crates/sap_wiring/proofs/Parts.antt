@@ -10,7 +10,11 @@ use Rattle.sap_text.proofs.NamesLemmas.{word_inner}
 use Rattle.sap_lattice.specs.Closure.{name_at}
 use Rattle.sap_lattice.specs.Rules.BadName.{no_word, repeated}
 use Rattle.sap_lattice.proofs.NameLemmas.{position_cases}
+use Rattle.sap_system.specs.Rules.{BadPartName}
 use Rattle.sap_system.specs.Rules.BadPartName.{bad}
+use Rattle.sap_system.specs.declared.file.Part.{Part}
+use Rattle.sap_lemmas.proofs.Lists.{length_map}
+use Rattle.sap_wiring.specs.Laws.{FileNamesServe}
 use Rattle.sap_system.specs.Wires.{NamedPart, Surroundings}
 use Rattle.sap_wiring.specs.Wiring.{named_part, names_in, PartsNamed}
 use Rattle.sap_wiring.specs.declared.surroundings.PartNames.{PartNames}
@@ -105,3 +109,9 @@ part_found parts name k d h =
     let (q, at, called) = part_cases parts name (Some k) h in
     let same : get_or parts k d ≡ q = get_or_from_slice_get parts k q d at in
     (slice_get-map named_part parts k ∙ ap (λ o. option_map named_part o) at ∙ ap (λ (x : PartNames). Some (named_part x)) (sym same), ap (λ (x : PartNames). x.name.now) same ∙ called)
+
+pub file_names_serve : FileNamesServe
+file_names_serve parts u keeps same k low broken = keeps.named k (
+  subst (λ n. k < n) (sym (length_map (λ (p : NamedPart). p.name) u.parts) ∙ ap length same ∙ length_map (λ (p : Part). p.name) parts) low,
+  subst (λ names. BadPartName names k) same broken,
+)

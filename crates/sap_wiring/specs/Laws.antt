@@ -4,15 +4,21 @@ use Rattle.std.specs.List.{AllZip}
 use Rattle.sap_tree.specs.Syntax.{DesignTree}
 use Rattle.sap_lattice.specs.Levels.{Levels}
 use Rattle.sap_names.specs.Entities.{entities_of}
+use Rattle.sap_system.specs.Rules.{KeepsParts, part_names}
+use Rattle.sap_system.specs.declared.file.Part.{Part}
 use Rattle.sap_system.specs.Wires.{NamedPart, Surroundings, KeepsWires}
 use Rattle.sap_system.specs.declared.file.WireText.{WireText}
 use Rattle.sap_link.specs.Systems.{Wire, WiresFit}
 use Rattle.sap_link.specs.Designs.{linked}
-use Rattle.sap_wiring.specs.Wiring.{PartsNamed, AreWiresOf}
+use Rattle.sap_wiring.specs.Wiring.{names_in, PartsNamed, AreWiresOf}
 
 -- texts stand for at most one list of wires
 abbrev pub OneWiring : Type 0
 OneWiring = (u : Surroundings) → PartsNamed u → (texts : List WireText) (one other : List Wire) → AreWiresOf u texts one → AreWiresOf u texts other → one ≡ other
+
+-- parts with the names that a system file gives them have names that they may have
+abbrev pub FileNamesServe : Type 0
+FileNamesServe = (parts : List Part) (u : Surroundings) → KeepsParts parts → names_in u ≡ part_names parts → PartsNamed u
 
 -- the parts declare what these designs do, one for each, and the levels are those of a lattice
 pub record AreOfDesigns (ls : Levels) (designs : List DesignTree) (u : Surroundings) : Type 0 where
