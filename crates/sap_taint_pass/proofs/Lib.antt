@@ -15,3 +15,4 @@ pub mod FreeNames
 pub mod Carries
 pub mod NameTexts
 pub mod Clashing
+pub mod Helped

@@ -1,4 +1,5 @@
 pub mod Tainted
 pub mod Helping
 pub mod FaultTexts
+pub mod Helped
 pub mod Laws

@@ -52,9 +52,9 @@ union w x a b = tag_wire w x (Two Or (Named a) (Named b))
 -- The wires by which x becomes the join of a tag with others, one more in each wire. All but the last have helping names, from the k-th on.
 abbrev pub joins : (helping : ℕ → Name) (w k : ℕ) (x so_far : Name) → List Name → List Wire
 joins helping w k x t [] = tag_wire w x (Copy (Named t)) ∷ []
-joins helping w k x t (a ∷ []) = tag_wire w x (Two Or (Named t) (Named a)) ∷ []
+joins helping w k x t (a ∷ []) = union w x t a ∷ []
 joins helping w k x t (a ∷ (b ∷ ts)) =
-    tag_wire w (helping k) (Two Or (Named t) (Named a)) ∷ joins helping w (k + 1) x (helping k) (b ∷ ts)
+    union w (helping k) t a ∷ joins helping w (k + 1) x (helping k) (b ∷ ts)
 
 abbrev pub joined : (helping : ℕ → Name) (w k : ℕ) (x : Name) → List Name → List Wire
 joined helping w k x [] = tag_wire w x (Copy (Constant w 0)) ∷ []
@@ -78,24 +78,30 @@ help_for_wires (x ∷ xs) = help_for (tags_read x) + help_for_wires xs
 
 -- What the tag of a memory takes at the edge, in four helping wires: its own with that of the condition, those of the index and the value, these where
 -- the condition is 1, and all.
+abbrev pub write_by : (w : ℕ) → Memory → (kept new chosen all : Name) → List Wire
+write_by w m kept new chosen all =
+    tag_wire w kept (joint w (Named m.name) m.enable)
+    ∷ tag_wire w new (joint w m.index m.value)
+    ∷ tag_wire w chosen (Choose m.enable (Named new) (Constant w 0))
+    ∷ union w all kept chosen
+    ∷ []
+
 abbrev pub write_wires : (helping : ℕ → Name) (w k : ℕ) → List Memory → List Wire
 write_wires helping w k [] = []
 write_wires helping w k (m ∷ ms) =
-    tag_wire w (helping k) (joint w (Named m.name) m.enable)
-    ∷ tag_wire w (helping (k + 1)) (joint w m.index m.value)
-    ∷ tag_wire w (helping (k + 2)) (Choose m.enable (Named (helping (k + 1))) (Constant w 0))
-    ∷ tag_wire w (helping (k + 3)) (Two Or (Named (helping k)) (Named (helping (k + 2))))
-    ∷ write_wires helping w (k + 4) ms
+    write_by w m (helping k) (helping (k + 1)) (helping (k + 2)) (helping (k + 3)) ++ write_wires helping w (k + 4) ms
 
 abbrev pub help_for_writes : List Memory → ℕ
 help_for_writes [] = 0
 help_for_writes (m ∷ ms) = 4 + help_for_writes ms
 
 -- the tags of memories, by the last of those wires
+abbrev pub memory_tag : (w : ℕ) → Memory → (next : Name) → Register
+memory_tag w m next = record { name = name_of_tag m.name; width = w; start = 0; next = Named next }
+
 abbrev pub memory_tags : (helping : ℕ → Name) (w k : ℕ) → List Memory → List Register
 memory_tags helping w k [] = []
-memory_tags helping w k (m ∷ ms) =
-    record { name = name_of_tag m.name; width = w; start = 0; next = Named (helping (k + 3)) } ∷ memory_tags helping w (k + 4) ms
+memory_tags helping w k (m ∷ ms) = memory_tag w m (helping (k + 3)) ∷ memory_tags helping w (k + 4) ms
 
 -- each register with its tag, which is another
 abbrev pub tagged_registers : (w : ℕ) → List Register → List Register

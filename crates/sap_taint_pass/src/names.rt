@@ -24,7 +24,7 @@ fn behind_v(name: &str) -> Option<&str>
 
 /// The name of a name's tag.
 #[tactic(auto, unfolding(sap_taint::specs::TagNames::name_of_tag))]
-fn tag_name(alloc: Global, name: &Name) -> Result<Name, AllocError>
+pub(crate) fn tag_name(alloc: Global, name: &Name) -> Result<Name, AllocError>
     ensures { IfOk result (λ tag. tag ≡ name_of_tag name.now) }
 {
     let text = name.as_str();
