@@ -1,12 +1,12 @@
 -- Names for helping wires, one after another.
-use Rattle.std.proofs.Common.{◌≡◌, ◌<◌, ◌≤◌, ℕ, ◌+◌, ◌-◌, ◌*◌, ◌^◌, zero, suc, Bool, List, [], ◌∷◌, ◌++◌, map, length, drop, get_or, true, false, ◌||◌, ap, ap₂, sym, ◌∙◌, subst, refl, arith, inl, inr}
+use Rattle.std.proofs.Common.{◌≡◌, ◌<◌, ◌≤◌, ℕ, ◌+◌, ◌-◌, ◌*◌, ◌^◌, zero, suc, List, [], ◌∷◌, ◌++◌, map, length, drop, get_or, true, false, ◌||◌, ap, ap₂, sym, ◌∙◌, refl, arith, inl, inr}
 use Rattle.std.specs.Prelude.{Option, Some, None, Ok, Result}
 use Rattle.std.specs.Option.{SomeIff, ok_or}
 use Rattle.std.specs.Str.{bytes_eq}
 use Rattle.std.proofs.lemmas.Bool.{cases_Bool}
 use Rattle.std.proofs.Math.Seq.{drop-cons}
 use Rattle.sap_lemmas.proofs.Lists.{drop_past}
-use Rattle.std.proofs.lemmas.List.{map-append, append_assoc, length-append}
+use Rattle.std.proofs.lemmas.List.{append_assoc, length-append}
 use Rattle.sap_maps.specs.Maps.{Name}
 use Rattle.sap_net.specs.declared.parts.Wire.{Wire}
 use Rattle.sap_net.specs.Net.{Net}
@@ -16,7 +16,7 @@ use Rattle.sap_taint.specs.TagNames.{name_of_tag, with_tags}
 use Rattle.sap_taint_pass.specs.declared.helping.Helping.{Helping}
 use Rattle.sap_taint_pass.specs.Tainted.{numbers_from, joins, joined, union, help_for}
 use Rattle.sap_taint_pass.specs.Helping.{taken_names, numbered, free_from, next_free, free_number, helping_name}
-use Rattle.sap_taint_pass.specs.Helped.{start_at, IsHelping, Puts}
+use Rattle.sap_taint_pass.specs.Helped.{start_at, Puts}
 use Rattle.sap_taint_pass.proofs.Numbered.{numbers_both}
 use Rattle.sap_taint_pass.proofs.Setting.{among_with_tags}
 use Rattle.sap_taint_pass.proofs.FreeNames.{small}

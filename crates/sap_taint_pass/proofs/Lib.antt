@@ -16,3 +16,4 @@ pub mod Carries
 pub mod NameTexts
 pub mod Clashing
 pub mod Helped
+pub mod Placed

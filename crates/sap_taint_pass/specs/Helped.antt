@@ -2,6 +2,7 @@
 use Rattle.std.specs.Prelude.{◌≡◌, ℕ, ◌+◌, suc, zero, List, ◌∷◌, ◌++◌, length, map}
 use Rattle.sap_maps.specs.Maps.{Name}
 use Rattle.sap_net.specs.declared.parts.Wire.{Wire}
+use Rattle.sap_net.specs.declared.parts.Register.{Register}
 use Rattle.sap_net.specs.Net.{Net}
 use Rattle.sap_net.specs.NameMaps.{Indexes}
 use Rattle.sap_taint.specs.TagNames.{name_of_tag}
@@ -35,3 +36,10 @@ pub record HasWriteNames (n : Net) (before after : Helping) (kept new chosen all
   pub second : new ≡ helping_name n (length before.names.items + 1)
   pub third : chosen ≡ helping_name n (length before.names.items + 2)
   pub fourth : all ≡ helping_name n (length before.names.items + 3)
+
+-- the same, with registers behind others
+pub record PutsWrites (n : Net) (before after : Helping) (old new : List Wire) (old_tags new_tags : List Register) (wires : ℕ → List Wire) (tags : ℕ → List Register) (count : ℕ) : Type 0 where
+  pub helps : IsHelping n after
+  pub more : length after.names.items ≡ length before.names.items + count
+  pub put : new ≡ old ++ wires (length before.names.items)
+  pub put_tags : new_tags ≡ old_tags ++ tags (length before.names.items)

@@ -86,10 +86,12 @@ write_by w m kept new chosen all =
     ∷ union w all kept chosen
     ∷ []
 
+abbrev pub write_at : (helping : ℕ → Name) (w k : ℕ) → Memory → List Wire
+write_at helping w k m = write_by w m (helping k) (helping (k + 1)) (helping (k + 2)) (helping (k + 3))
+
 abbrev pub write_wires : (helping : ℕ → Name) (w k : ℕ) → List Memory → List Wire
 write_wires helping w k [] = []
-write_wires helping w k (m ∷ ms) =
-    write_by w m (helping k) (helping (k + 1)) (helping (k + 2)) (helping (k + 3)) ++ write_wires helping w (k + 4) ms
+write_wires helping w k (m ∷ ms) = write_at helping w k m ++ write_wires helping w (k + 4) ms
 
 abbrev pub help_for_writes : List Memory → ℕ
 help_for_writes [] = 0
@@ -104,10 +106,12 @@ memory_tags helping w k [] = []
 memory_tags helping w k (m ∷ ms) = memory_tag w m (helping (k + 3)) ∷ memory_tags helping w (k + 4) ms
 
 -- each register with its tag, which is another
+abbrev pub register_tag : (w : ℕ) → Register → Register
+register_tag w r = record { name = name_of_tag r.name; width = w; start = 0; next = tag_operand w r.next }
+
 abbrev pub tagged_registers : (w : ℕ) → List Register → List Register
 tagged_registers w [] = []
-tagged_registers w (r ∷ rs) =
-    r ∷ record { name = name_of_tag r.name; width = w; start = 0; next = tag_operand w r.next } ∷ tagged_registers w rs
+tagged_registers w (r ∷ rs) = r ∷ register_tag w r ∷ tagged_registers w rs
 
 -- the registers of these names, in the order of the names
 abbrev pub found_first : Option Register → List Register → List Register

@@ -48,11 +48,7 @@ fn first_free(
 
 impl Helping {
     /// No name yet, where these are taken: the module's, all declared ones and those of their tags.
-    pub(crate) fn new(
-        alloc: Global,
-        netlist: &Netlist,
-        taken: HashMap<Vec<u8>, usize>,
-    ) -> Helping
+    pub(crate) fn new(alloc: Global, netlist: &Netlist, taken: HashMap<Vec<u8>, usize>) -> Helping
         requires { Indexes taken (netlist.now.module_name ∷ netlist.now.names ++ map name_of_tag netlist.now.names) }
         ensures helps { IsHelping netlist.now result }
         ensures none { result.names.items ≡ [] }

@@ -7,5 +7,7 @@ mod helping;
 mod joins;
 pub mod laws;
 pub mod names;
+mod ports;
+mod registers;
 mod wires;
 mod writes;

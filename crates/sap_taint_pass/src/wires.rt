@@ -22,7 +22,7 @@ fn add_tag_wire(
 ) -> Result<(), AllocError>
     ensures { OnOk result ((n : Net) → IsHelping n helping.old
         → Puts n helping.old helping.new made.old.items made.new.items
-            (λ k. spec.joined (helping_name n) width k (name_of_tag wire.now.name) (spec.tags_read wire.now)) (spec.help_for (spec.tags_read wire.now))) }
+        (λ k. spec.joined (helping_name n) width k (name_of_tag wire.now.name) (spec.tags_read wire.now)) (spec.help_for (spec.tags_read wire.now))) }
 {
     let name = tag_name(alloc, &wire.name)?;
     let tags = tags_read(alloc, &wire.right)?;

@@ -5,7 +5,7 @@ ghost use Rattle.sap_net.specs.Net.{Net};
 ghost use Rattle.sap_net.specs.declared.parts.Operand.TheVariants.{Named};
 ghost use Rattle.sap_taint_pass.specs.Tainted as spec;
 ghost use Rattle.sap_taint_pass.specs.Helping.{helping_name};
-ghost use Rattle.sap_taint_pass.specs.Helped.{IsHelping, HasWriteNames};
+ghost use Rattle.sap_taint_pass.specs.Helped.{IsHelping, HasWriteNames, PutsWrites};
 
 use crate::helping::Helping;
 use crate::joins::{joint, union};
@@ -38,7 +38,12 @@ fn write_names(alloc: Global, helping: &mut Helping) -> Result<WriteNames, Alloc
 }
 
 /// The tag of a memory, which takes the last of its wires.
-fn memory_tag(alloc: Global, width: u32, memory: &Memory, next: &Name) -> Result<Register, AllocError>
+fn memory_tag(
+    alloc: Global,
+    width: u32,
+    memory: &Memory,
+    next: &Name,
+) -> Result<Register, AllocError>
     ensures { IfOk result (λ r. r ≡ spec.memory_tag width memory.now next.now) }
 {
     Ok(Register {
@@ -83,5 +88,43 @@ fn add_write(
         right: Right::Choose(condition, Operand::Named(names.new), none),
     })?;
     made.push(union(names.all, width, names.kept, names.chosen))?;
+    Ok(())
+}
+
+// The wires and the tag of a memory.
+fn add_memory(
+    alloc: Global,
+    helping: &mut Helping,
+    made: &mut Vec<Wire>,
+    tags: &mut Vec<Register>,
+    width: u32,
+    memory: &Memory,
+) -> Result<(), AllocError>
+    ensures { OnOk result ((n : Net) → IsHelping n helping.old
+        → PutsWrites n helping.old helping.new made.old.items made.new.items tags.old.items tags.new.items (λ k. spec.write_at (helping_name n) width k memory.now)
+        (λ k. spec.memory_tag width memory.now (helping_name n (k + 3)) ∷ []) 4) }
+{
+    let names = write_names(alloc, helping)?;
+    tags.push(memory_tag(alloc, width, memory, &names.all)?)?;
+    add_write(alloc, made, width, memory, names)?;
+    Ok(())
+}
+
+/// The wires of what the tags of memories take, behind others, and these tags.
+pub(crate) fn add_memories(
+    alloc: Global,
+    helping: &mut Helping,
+    made: &mut Vec<Wire>,
+    tags: &mut Vec<Register>,
+    width: u32,
+    memories: &[Memory],
+) -> Result<(), AllocError>
+    ensures { OnOk result ((n : Net) → IsHelping n helping.old
+        → PutsWrites n helping.old helping.new made.old.items made.new.items tags.old.items tags.new.items (λ k. spec.write_wires (helping_name n) width k memories.now)
+        (λ k. spec.memory_tags (helping_name n) width k memories.now) (spec.help_for_writes memories.now)) }
+{
+    for memory in memories {
+        add_memory(alloc, helping, made, tags, width, memory)?;
+    }
     Ok(())
 }

@@ -1,4 +1,4 @@
-use Rattle.std.proofs.Common.{◌≡◌, ◌<◌, ◌+◌, ◌-◌, ◌^◌, ℕ, true, false, ap, sym, ◌∙◌, subst, rules, arith}
+use Rattle.std.proofs.Common.{◌≡◌, ◌-◌, ℕ, true, false, ap, sym, ◌∙◌, subst, rules, arith}
 use Rattle.sap_maps.specs.Maps.{Name}
 use Rattle.sap_net.specs.Names.{is_among, helper}
 use Rattle.sap_taint_pass.specs.Helping.{numbered, free_from}
@@ -19,8 +19,7 @@ pub loop-left-preserved : goal.loop-left-preserved
 loop-left-preserved c =
     let number = c.loop-left.number in
     let left = c.loop-left.left in
-    let next = counted _ c.checked_add.result number c.in_ok-number.number c.checked_add.ensures c.in_ok-number.ensures.value in
-    (
+    let next = counted _ c.checked_add.result number c.in_ok-number.number c.checked_add.ensures c.in_ok-number.ensures.value in (
       next.1,
       λ names i.
           let text : c.as_bytes.result.now ≡ helper number = search rules in

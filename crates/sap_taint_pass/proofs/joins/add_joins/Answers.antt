@@ -1,17 +1,14 @@
-use Rattle.std.proofs.Common.{◌≡◌, ◌<◌, ◌+◌, ◌∷◌, ◌++◌, [], ℕ, List, length, drop, get_or, suc, ap, ap₂, sym, ◌∙◌, subst, refl, rules, arith, length-drop, append-nil}
-use Rattle.std.proofs.Math.Seq.{drop-cons}
+use Rattle.std.proofs.Common.{◌≡◌, ◌+◌, ◌∷◌, ◌++◌, [], List, length, drop, ap, ap₂, sym, ◌∙◌, refl, rules, arith}
 use Rattle.sap_maps.specs.Maps.{Name}
 use Rattle.sap_net.specs.declared.parts.Wire.{Wire}
 use Rattle.sap_taint_pass.specs.Tainted.{joins, union}
 use Rattle.sap_taint_pass.specs.Helping.{helping_name}
-use Rattle.sap_taint_pass.specs.Helped.{IsHelping, Puts}
 use Rattle.sap_taint_pass.proofs.Helped.{step_joins, tail_of, nothing_left}
 use Rattle.sap_taint_pass.proofs.joins.add_joins.Goals as goal
 
 pub loop-tag-init : goal.loop-tag-init
 loop-tag-init c = λ n h.
-    let same : c.in_ok-so_far.so_far ≡ c.args.first.now = search rules in
-    (
+    let same : c.in_ok-so_far.so_far ≡ c.args.first.now = search rules in (
       h,
       refl,
       ap (λ (t : Name). c.args.made.now.items ++ joins (helping_name n) c.args.width (length c.args.helping.now.names.items) c.args.name t (c.args.middle.now ++ c.args.last.now ∷ [])) same,
@@ -32,8 +29,7 @@ loop-tag-preserved c = λ n h.
     let made : c.union.result ≡ union c.args.width c.in_ok-next.next c.loop-tag.so_far c.in_ok-copy.field-0 = search rules in
     let wire : c.union.result ≡ union c.args.width (helping_name n k) c.loop-tag.so_far tag =
     made ∙ ap₂ (λ (x y : Name). union c.args.width x c.loop-tag.so_far y) next other in
-    let items : c.push.new.self.items ≡ c.loop-tag.made.items ++ c.union.result ∷ [] = search rules in
-    (
+    let items : c.push.new.self.items ≡ c.loop-tag.made.items ++ c.union.result ∷ [] = search rules in (
       e.helps n i.0,
       let l = ap length parts in omega (arith, i.1, e.one_more, l),
       step_joins (helping_name n) c.args.width c.loop-tag.made.items c.push.new.self.items c.union.result k (length c.name-in-loop-tag.new.self.names.items) c.args.name c.loop-tag.so_far
@@ -59,6 +55,6 @@ returns c = λ n h.
           items
           ∙ ap (λ (y : Wire). c.loop-tag.made.items ++ y ∷ []) wire
           ∙ ap (λ (ys : List Name). c.loop-tag.made.items ++ joins (helping_name n) c.args.width (length c.loop-tag.helping.names.items) c.args.name c.loop-tag.so_far (ys ++ c.args.last.now ∷ []))
-            (sym none)
+          (sym none)
           ∙ i.2;
     }

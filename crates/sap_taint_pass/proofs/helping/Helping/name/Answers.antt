@@ -1,9 +1,8 @@
-use Rattle.std.proofs.Common.{◌≡◌, ◌<◌, ◌+◌, ◌^◌, ◌∷◌, ◌++◌, [], ℕ, List, length, map, ap, ap₂, sym, ◌∙◌, subst, rules, arith, length-append}
+use Rattle.std.proofs.Common.{◌≡◌, ◌+◌, ◌∷◌, ◌++◌, [], ℕ, List, length, map, ap, ap₂, sym, ◌∙◌, rules, arith, length-append}
 use Rattle.sap_maps.specs.Maps.{Name}
 use Rattle.sap_net.specs.Names.{helper}
 use Rattle.sap_taint_pass.specs.Tainted.{numbers_from}
-use Rattle.sap_taint_pass.specs.Helping.{taken_names, free_number, helping_name}
-use Rattle.sap_taint_pass.specs.Helped.{start_at, IsHelping}
+use Rattle.sap_taint_pass.specs.Helping.{taken_names, helping_name}
 use Rattle.sap_taint_pass.proofs.Helped.{indexed_names, found_number, found_name, one_name_more, next_start, counted}
 use Rattle.sap_taint_pass.proofs.helping.Helping.name.Goals as goal
 

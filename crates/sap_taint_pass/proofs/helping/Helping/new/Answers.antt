@@ -1,8 +1,8 @@
-use Rattle.std.proofs.Common.{◌≡◌, ◌∙◌, ℕ, ◌+◌, ◌*◌, List, [], length, map, ap, sym, refl, rules}
+use Rattle.std.proofs.Common.{◌≡◌, ◌∙◌, ◌+◌, ◌*◌, List, [], length, map, ap, sym}
 use Rattle.sap_maps.specs.Maps.{Name}
 use Rattle.sap_taint_pass.specs.Tainted.{numbers_from}
 use Rattle.sap_taint_pass.specs.Helping.{taken_names, helping_name}
-use Rattle.sap_taint_pass.specs.Helped.{start_at, IsHelping}
+use Rattle.sap_taint_pass.specs.Helped.{start_at}
 use Rattle.sap_taint_pass.proofs.Helped.{taken_length}
 use Rattle.sap_taint_pass.proofs.helping.Helping.new.Goals as goal
 
