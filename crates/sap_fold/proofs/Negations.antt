@@ -1,6 +1,6 @@
--- `&` and `|` of a negation as choices.
+-- `&` and `|` of a negation as choices, and choices between 0 and a bit.
 use Rattle.std.proofs.Common.{◌≡◌, ℕ, ◌-◌, ◌^◌, ◌<◌, ◌==◌, List, Bool, false, true, sym, ap, ◌∙◌, subst, inl, inr, refl, arith}
-use Rattle.std.specs.Prelude.{bit_and, bit_or, if◌then◌else◌}
+use Rattle.std.specs.Prelude.{bit_and, if◌then◌else◌}
 use Rattle.std.specs.Int.Bits.{and_zero_l}
 use Rattle.std.proofs.lemmas.Nat.{and_comm, or_comm}
 use Rattle.std.proofs.lemmas.Bool.{cases_Bool}
@@ -11,17 +11,19 @@ use Rattle.sap_bits.specs.declared.Op2.TheVariants.{And, Or}
 use Rattle.sap_maps.specs.Maps.{Name, Valuation}
 use Rattle.sap_maps.specs.Scope.{Scope}
 use Rattle.sap_net.specs.declared.parts.Operand.{Operand}
-use Rattle.sap_net.specs.declared.parts.Right.{Right}
 use Rattle.sap_net.specs.declared.parts.Right.TheVariants.{Copy, One, Two, Choose}
 use Rattle.sap_net.specs.declared.parts.Wire.{Wire}
 use Rattle.sap_net.specs.Rules.{Shapes, IsOperand, IsRight, readable_after}
 use Rattle.sap_net.specs.Values.{operand_value, operand_width}
 use Rattle.sap_net.proofs.Within.{operand_below, operand_is_wide}
+use Rattle.sap_net.proofs.RulesLemmas.{operand_grows}
 use Rattle.sap_fold.specs.Equals.{Equals}
 use Rattle.sap_fold.specs.Folding.{is_number, same_operand}
+use Rattle.sap_fold.specs.Gives.{ArmGives, Becomes}
 use Rattle.sap_fold.specs.Seen.{Defines}
 use Rattle.sap_fold.specs.Under.{number, bit, IsBitwise, chosen_by, is_masked, masked_right, Under}
 use Rattle.sap_fold.proofs.Folds.{KeepsWidth, SameWidths, same_is, number_is, bit_cases, one_and}
+use Rattle.sap_fold.proofs.Provided.{grows_more, over_first}
 use Rattle.sap_fold.proofs.Sees.{defined_right, defined_same, equals_both, equals_itself}
 use Rattle.sap_fold.proofs.Unders.{bit_fits, one_width}
 
@@ -143,3 +145,32 @@ masked_none ws c x d a b k m =
 pub masked : (ws : List Wire) (c x d a b : Operand) (t : Bool) → Defines ws x (Choose d a b) → is_masked c a b ≡ true → Under ws c (number t) x (masked_right t d)
 masked ws c x d a b true k m = masked_one ws c x d a b k m
 masked ws c x d a b false k m = masked_none ws c x d a b k m
+
+-- a choice between 0 and a bit: its condition counts only where the bit is 1
+pub condition_becomes : (taken : Name → Bool) (ws : List Wire) (next u : ℕ) (c p a b : Operand) (after : List Wire) (na : ℕ) → u ≡ 1 → is_number a 0 ≡ true → ArmGives taken ws next u b 1 c p after na → Becomes taken ws next u (Choose c a b) (Choose p a b) after na
+condition_becomes taken ws next u c p a b after na wide zero d =
+    let as_bit : (sc : Scope) (k : ℕ) (o : Operand) → k ≡ 1 → IsOperand sc k o → IsOperand sc 1 o = λ sc k o e h. subst (λ (j : ℕ). IsOperand sc j o) e h in
+    let as_wide : (sc : Scope) (o : Operand) → IsOperand sc 1 o → IsOperand sc u o = λ sc o h. subst (λ (j : ℕ). IsOperand sc j o) (sym wide) h in
+    record {
+      grown = λ ms sc s h.
+          let g = d.fits ms sc s (as_bit (readable_after sc ws) u b wide h.2) (as_wide (readable_after sc ws) c h.0) in
+          record { fits = g.fits; named = g.named; more = g.more; wires = g.wires };
+      fits = λ ms sc s h.
+          let g = d.fits ms sc s (as_bit (readable_after sc ws) u b wide h.2) (as_wide (readable_after sc ws) c h.0) in
+          let m = grows_more ms sc ws after g.more g.wires g.fits in
+          (as_bit (readable_after sc after) u p wide g.operand, operand_grows _ _ m u a h.1, operand_grows _ _ m u b h.2);
+      same = λ ms sc widths v s h over.
+          let hb = as_bit (readable_after sc ws) u b wide h.2 in
+          let hc = as_wide (readable_after sc ws) c h.0 in
+          let g = d.fits ms sc s hb hc in
+          let first = over_first ms sc ws after g.more widths v g.wires over in
+          let vb : operand_value v b < 2 ^ 1 = operand_below (readable_after sc ws) v first.below 1 b hb in
+          let vc : operand_value v c < 2 ^ 1 = operand_below (readable_after sc ws) v first.below 1 c h.0 in
+          let vp : operand_value v p < 2 ^ 1 = operand_below (readable_after sc after) v over.below 1 p (as_bit (readable_after sc after) u p wide g.operand) in
+          elim (bit_cases (operand_value v b) vb) [
+            | inl e ↦
+                masked_zero (operand_value v c) (operand_value v a) (operand_value v b) vc (number_is v a 0 zero) e
+                ∙ sym (masked_zero (operand_value v p) (operand_value v a) (operand_value v b) vp (number_is v a 0 zero) e)
+            | inr e ↦ ap (λ (x : ℕ). if x == 0 then operand_value v b else operand_value v a) (d.same ms sc widths v s hb hc over e)
+          ];
+    }

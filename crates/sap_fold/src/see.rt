@@ -14,6 +14,7 @@ use crate::absorb::absorb;
 use crate::fold::fold;
 use crate::order::{see_equal, see_unequal};
 use crate::parts::see_concat;
+use crate::rules::is;
 use crate::slices::see_slice;
 use crate::under::{definition, number, under};
 use crate::wires::Wires;
@@ -80,7 +81,28 @@ fn arm(
     }
 }
 
-/// A choice whose arms are simple where the condition is known.
+/// The condition of a choice, simple where it counts: of one between 0 and a bit that is where the bit is 1.
+fn see_condition(
+    alloc: Global,
+    wires: &mut Wires,
+    taken: &HashSet<Vec<u8>>,
+    width: u32,
+    condition: Operand,
+    a: &Operand,
+    b: &Operand,
+) -> Result<Operand, AllocError>
+    requires { Orderly wires.old.numbers wires.old.list.items }
+    ensures orderly { OnOk result (Orderly wires.new.numbers wires.new.list.items) }
+    ensures becomes { IfOk result (λ c. Becomes (holds taken.now) wires.old.list.items wires.old.next width (right.Choose condition a.now b.now) (right.Choose c a.now b.now) wires.new.list.items wires.new.next) }
+{
+    if width == 1 && is(a, 0) {
+        let known = arm(alloc, wires, taken, width, b, true, condition)?;
+        return Ok(known);
+    }
+    Ok(condition)
+}
+
+/// A choice whose condition is simple where it counts, and whose arms are where the condition is known.
 fn see_arms(
     alloc: Global,
     wires: &mut Wires,
@@ -94,6 +116,7 @@ fn see_arms(
     ensures orderly { OnOk result (Orderly wires.new.numbers wires.new.list.items) }
     ensures becomes { IfOk result (λ r. Becomes (holds taken.now) wires.old.list.items wires.old.next width (right.Choose condition a b) r wires.new.list.items wires.new.next) }
 {
+    let condition = see_condition(alloc, wires, taken, width, condition, &a, &b)?;
     let a = arm(alloc, wires, taken, width, &condition, true, a)?;
     let b = arm(alloc, wires, taken, width, &condition, false, b)?;
     Ok(Right::Choose(condition, a, b))
