@@ -1,7 +1,7 @@
 -- The words of a command that was read.
-use Rattle.sap_words.specs.Words.{Words, compile, run, trace, fmt, sim, wave, unwave, report, twin, gen}
+use Rattle.sap_words.specs.Words.{Words, compile, run, trace, fmt, sim, wave, unwave, report, twin, gen, machine, asm, cpu}
 use Rattle.sap_words.specs.declared.command.Command.{Command}
-use Rattle.sap_words.specs.declared.command.Command.TheVariants.{Compile, Run, Trace, Fmt, Sim, Wave, Unwave, Report, Twin, Gen}
+use Rattle.sap_words.specs.declared.command.Command.TheVariants.{Compile, Run, Trace, Fmt, Sim, Wave, Unwave, Report, Twin, Gen, Machine, Asm, Cpu}
 
 abbrev pub words_of : Command → Words
 words_of (Compile lattice design out) = compile lattice.now design.now out.now
@@ -14,3 +14,6 @@ words_of (Unwave lattice dump) = unwave lattice.now dump.now
 words_of (Report lattice design) = report lattice.now design.now
 words_of (Twin lattice design first second level) = twin lattice.now design.now first.now second.now level.now
 words_of (Gen number) = gen number.value
+words_of Machine = machine
+words_of (Asm first second number) = asm first.now second.now number.value
+words_of (Cpu first second number) = cpu first.now second.now number.value

@@ -17,6 +17,9 @@ pub data Words : Type 0 where
   report : (lattice design : List ℕ) → Words
   twin : (lattice design first second level : List ℕ) → Words
   gen : (n : ℕ) → Words
+  machine : Words
+  asm : (first second : List ℕ) (n : ℕ) → Words
+  cpu : (first second : List ℕ) (n : ℕ) → Words
 
 -- the command is `twin`
 abbrev pub IsTwin : Option Words → Type 0
@@ -58,6 +61,9 @@ commands = row (codes "compile") (codes "LATTICE" ∷ codes "DESIGN" ∷ codes "
     ∷ row (codes "twin") (codes "LATTICE" ∷ codes "DESIGN" ∷ codes "FIRST" ∷ codes "SECOND" ∷ codes "LEVEL" ∷ []) twin
     ∷ row (codes "fmt") (codes "DESIGN" ∷ []) fmt
     ∷ row (codes "gen") (codes "N" ∷ []) gen
+    ∷ row (codes "machine") [] machine
+    ∷ row (codes "asm") (codes "A" ∷ codes "B" ∷ codes "N" ∷ []) asm
+    ∷ row (codes "cpu") (codes "A" ∷ codes "B" ∷ codes "N" ∷ []) cpu
     ∷ []
 
 -- ---- what words are by it

@@ -2,7 +2,7 @@
 
 ghost use Rattle.std.specs.Prelude.{◌≤◌};
 
-/// The number of a generated run.
+/// The number of a generated run, or of slices of the machine.
 #[derive(Clone, Copy, Debug)]
 pub struct RunNumber {
     pub value: u32,
@@ -10,7 +10,7 @@ pub struct RunNumber {
     ghost within: { value ≤ 1000 },
 }
 
-/// A command with its operands: names of files and of a level, and the number of a generated run.
+/// A command with its operands: names of files and of a level, and a number.
 #[derive(Clone, Copy, Debug)]
 pub enum Command<'a> {
     Compile {
@@ -58,6 +58,17 @@ pub enum Command<'a> {
         level: &'a str,
     },
     Gen {
+        number: RunNumber,
+    },
+    Machine,
+    Asm {
+        first: &'a str,
+        second: &'a str,
+        number: RunNumber,
+    },
+    Cpu {
+        first: &'a str,
+        second: &'a str,
         number: RunNumber,
     },
 }

@@ -10,7 +10,7 @@ use crate::command::Command;
 use crate::number::number_of;
 
 /// Each command with the names of its operands.
-pub static COMMANDS: [(&str, &[&str]); 10] = [
+pub static COMMANDS: [(&str, &[&str]); 13] = [
     ("compile", &["LATTICE", "DESIGN", "OUT"]),
     ("run", &["LATTICE", "DESIGN", "STIM"]),
     ("trace", &["LATTICE", "DESIGN", "STIM"]),
@@ -21,6 +21,9 @@ pub static COMMANDS: [(&str, &[&str]); 10] = [
     ("twin", &["LATTICE", "DESIGN", "FIRST", "SECOND", "LEVEL"]),
     ("fmt", &["DESIGN"]),
     ("gen", &["N"]),
+    ("machine", &[]),
+    ("asm", &["A", "B", "N"]),
+    ("cpu", &["A", "B", "N"]),
 ];
 
 /// The command that the first of the values make by the row of this name, as many as it has operands.
@@ -79,6 +82,17 @@ pub(crate) fn made<'a>(
         "fmt" => Some(Command::Fmt { design: first }),
         "gen" => Some(Command::Gen {
             number: number_of(first)?,
+        }),
+        "machine" => Some(Command::Machine),
+        "asm" => Some(Command::Asm {
+            first,
+            second,
+            number: number_of(third)?,
+        }),
+        "cpu" => Some(Command::Cpu {
+            first,
+            second,
+            number: number_of(third)?,
         }),
         _ => None,
     }
