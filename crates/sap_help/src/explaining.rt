@@ -3,6 +3,7 @@
 ghost use Rattle.std.specs.Prelude.{◌≡◌, IfSome, is_some};
 ghost use Rattle.sap_help.specs.Codes.{IsTextOf, is_code};
 
+use crate::assembly::assembly_fault;
 use crate::design::design_fault;
 use crate::lattice::lattice_fault;
 use crate::module::module_fault;
@@ -26,5 +27,8 @@ pub fn explain(code: &str) -> Option<&'static str>
     if let Some(text) = module_fault(code) {
         return Some(text);
     }
-    wave_fault(code)
+    if let Some(text) = wave_fault(code) {
+        return Some(text);
+    }
+    assembly_fault(code)
 }

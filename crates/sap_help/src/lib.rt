@@ -2,6 +2,7 @@
 #![tactic(auto)]
 
 mod asking;
+mod assembly;
 mod design;
 mod explaining;
 mod lattice;

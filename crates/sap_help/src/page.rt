@@ -12,7 +12,7 @@ const ABOUT: &str =
 const USAGE: &str = "sapper COMMAND OPERANDS";
 
 // What each command does, in the order of the table of commands.
-static DOES: [&str; 10] = [
+static DOES: [&str; 13] = [
     "writes the module of a design to the file OUT",
     "runs a design on a stimulus, and writes a row a cycle",
     "runs a design on a stimulus, and writes a line for each refused command",
@@ -23,6 +23,9 @@ static DOES: [&str; 10] = [
     "says whether two stimuli of a design agree at a level",
     "writes the canonical text of a design",
     "runs a generated design, N from 1 to 1000, and writes its counts and its last row",
+    "writes the design of a machine whose time two users share",
+    "writes the stimulus for that machine of two programs and N slices, N from 1 to 1000",
+    "writes what the instruction table makes of two programs in N slices",
 ];
 
 const STATUSES: &str = "Statuses:
@@ -36,6 +39,7 @@ const STATUSES: &str = "Statuses:
   7  there was no memory: `memory`
   8  the streams of twin don't agree: `streams: ..`
   10 the dump is refused: `wave: CODE line N`
+  11 a program is refused: `asm F: CODE line L`
 
 What a status is told by stands on standard error, in one line.
 
