@@ -69,7 +69,9 @@ fn about(alloc: Global, operands: &[&str], does: &str) -> Result<String, AllocEr
         }
         text.push_str(operand)?;
     }
-    text.push_str(": ")?;
+    if !operands.is_empty() {
+        text.push_str(": ")?;
+    }
     text.push_str(does)?;
     Ok(text)
 }
