@@ -1,4 +1,4 @@
-//! The number of a generated run.
+//! The number N of a command: of a generated run, or of slices of the machine.
 
 ghost use Rattle.std.specs.Prelude.{◌≡◌, true, option_map};
 ghost use Rattle.std.specs.Char.{is_ascii_digit};
@@ -30,7 +30,7 @@ fn value(digits: &str) -> u32
     }
 }
 
-/// The number that the word is, if it is one of a generated run.
+/// The number that the word is, if it is 1 to 1000 in one to four digits.
 pub(crate) fn number_of(word: &str) -> Option<RunNumber>
     ensures { option_map (λ n. n.value) result ≡ number_of word.now }
 {
