@@ -17,3 +17,4 @@ pub mod Reading
 pub mod Streams
 pub mod Wholes
 pub mod Dumps
+pub mod Assemblies

@@ -14,6 +14,8 @@ use Rattle.sap_stim.specs.FaultTexts.{stimulus_text}
 use Rattle.sap_stim.specs.declared.fault.StimFault.{StimFault}
 use Rattle.sap_wave.specs.FaultTexts.{wave_text}
 use Rattle.sap_wave.specs.declared.fault.WaveFault.{WaveFault}
+use Rattle.sap_machine.specs.Text.{refusal_text as assembly_text}
+use Rattle.sap_machine.specs.declared.fault.AsmFault.{AsmFault}
 
 -- what is refused of the words and files, and why
 pub data Refusal : Type 0 where
@@ -29,6 +31,8 @@ pub data Refusal : Type 0 where
   lengths_apart : (one other : ℕ) → Refusal
   inputs_apart : (cycle : ℕ) (name : List ℕ) → Refusal
   wave_refused : WaveFault → Refusal
+  -- the first assembly file of the words, or the second
+  asm_refused : (place : ℕ) → AsmFault → Refusal
 
 pub data Ending : Type 0 where
   done : Ending
@@ -47,6 +51,7 @@ status_of_refusal (module_refused fault) = 5
 status_of_refusal (lengths_apart one other) = 8
 status_of_refusal (inputs_apart cycle name) = 8
 status_of_refusal (wave_refused fault) = 10
+status_of_refusal (asm_refused place fault) = 11
 
 abbrev pub status_of : Ending → ℕ
 status_of done = 0
@@ -76,6 +81,7 @@ refusal_text (level_refused word) = codes "level " ++ word
 refusal_text (lengths_apart one other) = codes "streams: lengths " ++ decimal one ++ codes " and " ++ decimal other
 refusal_text (inputs_apart cycle name) = codes "streams: cycle " ++ decimal cycle ++ codes " input " ++ name
 refusal_text (wave_refused fault) = codes "wave: " ++ wave_text fault
+refusal_text (asm_refused place fault) = assembly_text place fault
 
 -- nothing where the call is done
 abbrev pub line_of : Ending → List ℕ

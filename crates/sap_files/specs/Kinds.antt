@@ -1,5 +1,5 @@
 -- The kinds of files that commands read.
-use Rattle.std.specs.Prelude.{◌≡◌, ◌≢◌, ℕ, Bool, List, length, map, Option, Some, None}
+use Rattle.std.specs.Prelude.{◌≡◌, ◌≢◌, ℕ, Bool, List, length, map, Option, Some, None, Ok, Err}
 use Rattle.sap_desk.specs.Desk.{Told}
 use Rattle.sap_lattice.specs.Levels.{Levels, numbers, order_of}
 use Rattle.sap_latfile.specs.LatticeFile.{IsLatticeOfFile, FirstFault}
@@ -23,10 +23,12 @@ use Rattle.sap_wave.specs.Dumps.{IsReading}
 use Rattle.sap_wave.specs.Read.{IsWaveFault}
 use Rattle.sap_wave.specs.Waves.{Wave}
 use Rattle.sap_wave.specs.declared.fault.WaveFault.{WaveFault}
+use Rattle.sap_machine.specs.Assembly.{assembled}
+use Rattle.sap_machine.specs.declared.fault.AsmFault.{AsmFault}
 use Rattle.sap_files.specs.DesignFaults.{IsDesignFault}
 use Rattle.sap_files.specs.declared.fault.DesignFault.{DesignFault}
 use Rattle.sap_files.specs.declared.fault.DesignFault.TheVariants as design_fault
-use Rattle.sap_files.specs.Ending.{Refusal, lattice_refused, design_refused, stimulus_refused, module_refused, wave_refused}
+use Rattle.sap_files.specs.Ending.{Refusal, lattice_refused, design_refused, stimulus_refused, module_refused, wave_refused, asm_refused}
 
 -- What a file is read as: the number of bytes behind which it is read no further, if any; when its bytes stand for a value; and when they are
 -- refused, and why.
@@ -128,4 +130,13 @@ wave_file = record {
   Value = Wave;
   Stands = IsReading;
   Refused = λ bytes why. (fault : WaveFault) × (why ≡ wave_refused fault) × IsWaveFault bytes fault;
+}
+
+-- assembly, the first file or the second of the words: it stands for its sixteen words
+abbrev pub assembly_file : (place : ℕ) → Kind
+assembly_file place = record {
+  most = None;
+  Value = List ℕ;
+  Stands = λ text words. assembled text ≡ Ok words;
+  Refused = λ text why. (fault : AsmFault) × (why ≡ asm_refused place fault) × (assembled text ≡ Err fault);
 }

@@ -18,7 +18,7 @@ use Rattle.sap_vread.specs.declared.fault.ModFault.TheVariants as module_fault
 use Rattle.sap_wave.specs.declared.fault.WaveFault.{WaveFault}
 use Rattle.sap_wave.specs.declared.fault.WaveFault.TheVariants as wave_fault
 use Rattle.sap_files.specs.declared.fault.DesignFault.TheVariants as design_fault
-use Rattle.sap_files.specs.Ending.{Ending, Refusal as Reason, done, refused, failed, no_memory, lattice_refused, design_refused, stimulus_refused, module_refused, level_refused, lengths_apart, inputs_apart, wave_refused, IsFree}
+use Rattle.sap_files.specs.Ending.{Ending, Refusal as Reason, done, refused, failed, no_memory, lattice_refused, design_refused, stimulus_refused, module_refused, level_refused, lengths_apart, inputs_apart, wave_refused, asm_refused, IsFree}
 use Rattle.sap_files.specs.Kinds.{Kind, IsLatticeFile, IsWellFormedText, design_file, lattice_file, table_by}
 use Rattle.sap_stim.specs.declared.field.Field.{Field}
 use Rattle.sap_stim.specs.Stimulus.{stimulus_of}
@@ -31,7 +31,7 @@ use Rattle.sap_files.specs.declared.files.LatticeFile.{LatticeFile}
 use Rattle.sap_files.specs.declared.failure.Failure.{Failure}
 use Rattle.sap_files.specs.declared.failure.Failure.TheVariants.{Refused, Desk, Memory}
 use Rattle.sap_files.specs.declared.refusal.Refusal.{Refusal}
-use Rattle.sap_files.specs.declared.refusal.Refusal.TheVariants.{Lattice, Design, Stimulus, Module, Level, Lengths, Input, Wave}
+use Rattle.sap_files.specs.declared.refusal.Refusal.TheVariants.{Lattice, Design, Stimulus, Module, Level, Lengths, Input, Wave, Assembly}
 
 abbrev pub reason : Refusal → Reason
 reason (Lattice fault) = lattice_refused fault
@@ -42,6 +42,7 @@ reason (Level word) = level_refused word.now
 reason (Lengths one other) = lengths_apart one other
 reason (Input cycle name) = inputs_apart cycle name
 reason (Wave fault) = wave_refused fault
+reason (Assembly place fault) = asm_refused place fault
 
 -- why the bytes of a lattice file, of a design file, of a module file and of a dump end a command
 

@@ -1,4 +1,5 @@
--- What the commands ask that compile nothing: a design as its canonical text, a module's rows, a report, a module's dump, the rows of a dump.
+-- What the commands ask that compile nothing: a design as its canonical text, a module's rows, a report, a module's dump, the rows of a dump, the machine and
+-- what two programs make of it.
 use Rattle.std.specs.Prelude.{◌≡◌, ℕ, List}
 use Rattle.sap_sim.specs.Numbers.{numbers_of}
 use Rattle.sap_sim.specs.Simulated.{read_for as module_stimulus}
@@ -6,7 +7,9 @@ use Rattle.sap_show.specs.Canonical.{canonical_text}
 use Rattle.sap_report.specs.Report.{report_text}
 use Rattle.sap_wave_rows.specs.Rows.{rows_of_wave}
 use Rattle.sap_wave_run.specs.Dumped.{IsDumpOn}
-use Rattle.sap_files.specs.Kinds.{lattice_file, design_file, design_text_file, module_file, module_stream_file, wave_file}
+use Rattle.sap_machine.specs.DesignText.{machine_text}
+use Rattle.sap_machine.specs.Text.{stimulus_text, users_text}
+use Rattle.sap_files.specs.Kinds.{assembly_file, lattice_file, design_file, design_text_file, module_file, module_stream_file, wave_file}
 use Rattle.sap_files.specs.StimulusTexts.{AreModuleRows}
 use Rattle.sap_files.specs.Asks.{Asks, file, gives, prints, writes}
 
@@ -30,3 +33,17 @@ asks_wave lattice verilog stimulus out =
 abbrev pub asks_unwave : (lattice dump : List ℕ) → Asks
 asks_unwave lattice dump =
     file lattice lattice_file (λ ls. file dump wave_file (λ wave. gives (λ text. text ≡ rows_of_wave ls wave)))
+
+abbrev pub asks_machine : Asks
+asks_machine = gives (λ text. text ≡ machine_text)
+
+-- what is given of the words of two assembly files
+abbrev pub asks_programs : (text_of : (a b : List ℕ) → List ℕ) → (first second : List ℕ) → Asks
+asks_programs text_of first second =
+    file first (assembly_file 1) (λ a. file second (assembly_file 2) (λ b. gives (λ text. text ≡ text_of a b)))
+
+abbrev pub asks_asm : (first second : List ℕ) → (n : ℕ) → Asks
+asks_asm first second n = asks_programs (λ a b. stimulus_text a b n) first second
+
+abbrev pub asks_cpu : (first second : List ℕ) → (n : ℕ) → Asks
+asks_cpu first second n = asks_programs (λ a b. users_text a b n) first second

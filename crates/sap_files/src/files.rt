@@ -5,15 +5,17 @@ ghost use Rattle.sap_check.specs.Checked.{levels_in, tree_in};
 ghost use Rattle.sap_stim.specs.Line.{IsSized};
 ghost use Rattle.sap_stim.specs.Stimulus.{stimulus_of};
 ghost use Rattle.sap_tree.specs.Designs.{design_of as tree_of};
-ghost use Rattle.sap_files.specs.Kinds.{design_text_file, module_file, stream_by, stream_file, wave_file};
+ghost use Rattle.sap_files.specs.Kinds.{assembly_file, design_text_file, module_file, stream_by, stream_file, wave_file};
 ghost use Rattle.sap_files.specs.Steps.{Gets, GetsChecked, GetsLattice, seen};
 
 use crate::comparing::stream_of;
 use crate::failure::Failure;
 use crate::inputs::{
     checked_from, lattice_from, lines_from, module_from, read, read_design, text_from, wave_from,
+    words_from,
 };
 use sap_check::Checked;
+use sap_cpu::words::Words;
 use sap_desk::{Bytes, Desk};
 use sap_lattice::Lattice;
 use sap_net::netlist::Netlist;
@@ -121,4 +123,17 @@ pub fn wave_of_file<'a, D: Desk>(
 {
     let text = read(alloc, desk, name)?;
     wave_from(alloc, &text)
+}
+
+/// Reads assembly, the first file or the second of the words of a command.
+pub fn words_of_file<'a, D: Desk>(
+    alloc: Global,
+    desk: &mut D,
+    place: u64,
+    name: &'a str,
+) -> Result<Words, Failure<'a>>
+    ensures { Gets name.now (assembly_file place) (λ words. words) result (seen D.told D.faults D.lost D.sure desk.old) (seen D.told D.faults D.lost D.sure desk.new) }
+{
+    let text = read(alloc, desk, name)?;
+    words_from(place, &text)
 }

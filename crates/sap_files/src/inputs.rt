@@ -5,7 +5,7 @@ ghost use Rattle.sap_check.specs.Checked.{tree_in};
 ghost use Rattle.sap_stim.specs.Line.{IsSized};
 ghost use Rattle.sap_stim.specs.Stimulus.{stimulus_of};
 ghost use Rattle.sap_tree.specs.Designs.{design_of as tree_of};
-ghost use Rattle.sap_files.specs.Kinds.{lattice_file, design_file, design_text_file, module_file, stream_by, wave_file};
+ghost use Rattle.sap_files.specs.Kinds.{lattice_file, design_file, assembly_file, design_text_file, module_file, stream_by, wave_file};
 ghost use Rattle.sap_files.specs.Steps.{Gives, IsChecked, Read, ReadDesign, check_failure, lattice_failure, module_failure, read_failure, seen, wave_failure, whole};
 
 use crate::failure::Failure;
@@ -13,6 +13,8 @@ use crate::fault::DesignFault;
 use crate::refusal::Refusal;
 use sap_check::Checked;
 use sap_check::check::check;
+use sap_cpu::assemble::assemble;
+use sap_cpu::words::Words;
 use sap_desk::{Bytes, Desk, DeskError, read_file, read_front};
 use sap_latfile::{LatFileFault, read_lattice};
 use sap_lattice::Lattice;
@@ -173,5 +175,15 @@ pub fn wave_from<'a>(alloc: Global, bytes: &Bytes) -> Result<Wave, Failure<'a>>
     match read_wave(alloc, bytes.as_slice()) {
         Ok(wave) => Ok(wave),
         Err(fault) => Err(wave_failure(fault)),
+    }
+}
+
+/// The words of assembly, the first file or the second of the words of a command.
+pub fn words_from<'a>(place: u64, text: &Bytes) -> Result<Words, Failure<'a>>
+    ensures { Gives (assembly_file place) (λ words. words) text.now result }
+{
+    match assemble(text.as_slice()) {
+        Ok(words) => Ok(words),
+        Err(fault) => Err(Failure::Refused(Refusal::Assembly(place, fault))),
     }
 }

@@ -19,14 +19,21 @@ pub fn end<'a>(fault: Option<StimFault>) -> Result<(), Failure<'a>>
     }
 }
 
+/// Writes bytes on channel 1.
+pub fn put_bytes<'a, D: Desk>(desk: &mut D, text: &[u8]) -> Result<(), Failure<'a>>
+    ensures { Ends (gives (λ given. given ≡ text.now)) (ending_of result) (seen D.told D.faults D.lost D.sure desk.old) (seen D.told D.faults D.lost D.sure desk.new) }
+{
+    match write_output(desk, text) {
+        Ok(()) => Ok(()),
+        Err(_) => Err(Failure::Desk("output")),
+    }
+}
+
 /// Writes a text on channel 1.
 pub fn put<'a, D: Desk>(desk: &mut D, text: &Bytes) -> Result<(), Failure<'a>>
     ensures { Ends (gives (λ given. given ≡ text.now)) (ending_of result) (seen D.told D.faults D.lost D.sure desk.old) (seen D.told D.faults D.lost D.sure desk.new) }
 {
-    match write_output(desk, text.as_slice()) {
-        Ok(()) => Ok(()),
-        Err(_) => Err(Failure::Desk("output")),
-    }
+    put_bytes(desk, text.as_slice())
 }
 
 /// Writes a text to a file.

@@ -1,11 +1,13 @@
 //! What a command refuses of its words and files.
 
 ghost use Rattle.std.specs.Prelude.{◌≡◌};
+ghost use Rattle.sap_machine.specs.Text.{code_text};
 ghost use Rattle.sap_files.specs.Ending.{status_of_refusal};
 ghost use Rattle.sap_files.specs.Steps.{reason};
 
 use crate::fault::DesignFault;
 use sap_latfile::LatFileFault;
+use sap_machine::fault::{AsmCode, AsmFault};
 use sap_stim::fault::StimFault;
 use sap_tree::name::Name;
 use sap_vread::fault::ModFault;
@@ -27,6 +29,19 @@ pub enum Refusal<'a> {
     /// Two streams first don't agree in this cycle, at this input.
     Input(u64, Name),
     Wave(WaveFault),
+    /// The first assembly file of the words, or the second.
+    Assembly(u64, AsmFault),
+}
+
+fn code_text(code: AsmCode) -> &'static str
+    ensures { result.now ≡ code_text code }
+{
+    match code {
+        AsmCode::B1 => "B1",
+        AsmCode::B2 => "B2",
+        AsmCode::B3 => "B3",
+        AsmCode::B4 => "B4",
+    }
 }
 
 impl Refusal<'_> {
@@ -42,6 +57,7 @@ impl Refusal<'_> {
             Refusal::Level(_) => 2,
             Refusal::Lengths(_, _) | Refusal::Input(_, _) => 8,
             Refusal::Wave(_) => 10,
+            Refusal::Assembly(_, _) => 11,
         }
     }
 }
@@ -63,6 +79,12 @@ impl fmt::Display for Refusal<'_> {
             Refusal::Lengths(one, other) => write!(f, "streams: lengths {one} and {other}"),
             Refusal::Input(cycle, name) => write!(f, "streams: cycle {cycle} input {name}"),
             Refusal::Wave(fault) => write!(f, "wave: {fault}"),
+            Refusal::Assembly(place, fault) => write!(
+                f,
+                "asm {place}: {} line {}",
+                code_text(fault.code),
+                fault.line
+            ),
         }
     }
 }
