@@ -11,10 +11,12 @@ use Rattle.sap_stream.proofs.Agreeing.{at_most_one}
 use Rattle.sap_sim.specs.Labelled.RunOf.{read_for as design_stimulus}
 use Rattle.sap_sim.specs.Simulated.{read_for as module_stimulus}
 use Rattle.sap_files.specs.Ending.{Ending, Refusal, done, refused, failed, no_memory, status_of, status_of_refusal, IsFree}
-use Rattle.sap_files.specs.Kinds.{design_file, design_text_file, lattice_file, module_file, module_stream_file, stream_file, wave_file}
+use Rattle.sap_files.specs.Kinds.{assembly_file, design_file, design_text_file, lattice_file, module_file, module_stream_file, stream_file, wave_file}
 use Rattle.sap_files.specs.Compared.{IsVerdict}
 use Rattle.sap_net.specs.Net.{Net}
-use Rattle.sap_words.specs.Words.{Words, IsTwin, compile, run, trace, fmt, sim, wave, unwave, report, twin, gen, command_of}
+use Rattle.sap_words.specs.Words.{Words, IsTwin, compile, run, trace, fmt, sim, wave, unwave, report, twin, gen, machine, asm, cpu, command_of}
+use Rattle.sap_machine.specs.Text.{stimulus_text, users_text}
+use Rattle.sap_files.specs.Uncompiled.{asks_programs}
 use Rattle.sap_files.specs.Asks.{Asks, file, by, AreLawful, MayEnd, end_of}
 use Rattle.sap_commands.specs.Commands.{OneCause, OneOutput, asks, asks_for, asks_if, at_level, compared}
 use Rattle.sap_files.proofs.Lattices.{lattice_lawful}
@@ -24,6 +26,7 @@ use Rattle.sap_files.proofs.Netlists.{module_netlist}
 use Rattle.sap_files.proofs.NetsAlike.{one_rows}
 use Rattle.sap_files.proofs.Streams.{module_stream_lawful, stream_lawful}
 use Rattle.sap_files.proofs.Dumps.{wave_lawful}
+use Rattle.sap_files.proofs.Assemblies.{assembly_lawful}
 use Rattle.sap_files.proofs.Lawful.{one_cause, one_text}
 
 -- two streams
@@ -55,6 +58,14 @@ lawful_streams ls first second word d l = (
   ),
 )
 
+-- two programs
+
+lawful_programs : (text_of : (a b : List ℕ) → List ℕ) (first second : List ℕ) → AreLawful (asks_programs text_of first second)
+lawful_programs text_of first second =
+    (assembly_lawful 1, λ bytes a is. (assembly_lawful 2, λ more b was. λ text other x y. x ∙ sym y))
+
+-- each command
+
 lawful : (c : Words) → AreLawful (asks c)
 lawful (compile lattice design out) = (lattice_lawful, λ bytes ls a. (design_lawful ls, λ source d b. tt))
 lawful (run lattice design stimulus) =
@@ -77,6 +88,9 @@ lawful (twin lattice design first second level) = (
   ),
 )
 lawful (gen n) = λ text other x y. x ∙ sym y
+lawful machine = λ text other x y. x ∙ sym y
+lawful (asm first second n) = lawful_programs (λ a b. stimulus_text a b n) first second
+lawful (cpu first second n) = lawful_programs (λ a b. users_text a b n) first second
 
 lawful_if : (o : Option Words) → AreLawful (asks_if o)
 lawful_if None = tt
@@ -116,6 +130,14 @@ stream_two ls net e bytes why is refusal two = not_two e why 4 is (ap status_of_
 wave_two : (e : Ending) (bytes : List ℕ) (why : Refusal) → e ≡ refused why → wave_file.Refused bytes why → status_of e ≡ 2 → ⊥
 wave_two e bytes why is refusal two = not_two e why 10 is (ap status_of_refusal refusal.1) (λ x. omega (arith, x)) two
 
+assembly_two : (place : ℕ) (e : Ending) (bytes : List ℕ) (why : Refusal) → e ≡ refused why → (assembly_file place).Refused bytes why → status_of e ≡ 2 → ⊥
+assembly_two place e bytes why is refusal two = not_two e why 11 is (ap status_of_refusal refusal.1) (λ x. omega (arith, x)) two
+
+programs_two : (text_of : (a b : List ℕ) → List ℕ) (first second : List ℕ) (e : Ending) → MayEnd (asks_programs text_of first second) e → status_of e ≡ 2 → ⊥
+programs_two text_of first second e (inl (bytes, why, is, r)) two = assembly_two 1 e bytes why is r two
+programs_two text_of first second e (inr (bytes, words, a, inl (text, why, is, r))) two = assembly_two 2 e text why is r two
+programs_two text_of first second e (inr (bytes, words, a, inr (text, others, b, is))) two = is_done e is two
+
 two_twin : (c : Words) (e : Ending) → MayEnd (asks c) e → status_of e ≡ 2 → IsTwin (Some c)
 two_twin (twin lattice design first second level) e may two = (lattice, design, first, second, level, refl)
 two_twin (compile lattice design out) e (inl (bytes, why, is, r)) two = absurd (lattice_two e bytes why is r two)
@@ -143,6 +165,9 @@ two_twin (report lattice design) e (inl (bytes, why, is, r)) two = absurd (latti
 two_twin (report lattice design) e (inr (bytes, ls, a, inl (source, why, is, r))) two = absurd (design_two ls e source why is r two)
 two_twin (report lattice design) e (inr (bytes, ls, a, inr (source, d, b, is))) two = absurd (is_done e is two)
 two_twin (gen n) e is two = absurd (is_done e is two)
+two_twin machine e is two = absurd (is_done e is two)
+two_twin (asm first second n) e may two = absurd (programs_two (λ a b. stimulus_text a b n) first second e may two)
+two_twin (cpu first second n) e may two = absurd (programs_two (λ a b. users_text a b n) first second e may two)
 
 free_two : (e : Ending) → IsFree e → status_of e ≡ 2 → ⊥
 free_two done free two = free

@@ -9,13 +9,13 @@ use Rattle.sap_stream.specs.declared.apart.Apart.{Apart}
 use Rattle.sap_sim.specs.Labelled.RunOf.{read_for as design_stimulus}
 use Rattle.sap_compile.specs.Compiles.{IsModuleFor}
 use Rattle.sap_gen.specs.Text.{generated_text}
-use Rattle.sap_words.specs.Words.{Words, compile, run, trace, fmt, sim, wave, unwave, report, twin, gen, command_of}
+use Rattle.sap_words.specs.Words.{Words, compile, run, trace, fmt, sim, wave, unwave, report, twin, gen, machine, asm, cpu, command_of}
 use Rattle.sap_files.specs.Ending.{Ending, no_command, level_refused}
 use Rattle.sap_files.specs.Kinds.{lattice_file, design_file, stream_file}
 use Rattle.sap_commands.specs.Twin.{IsAgreement}
 use Rattle.sap_files.specs.Compared.{IsVerdict, difference}
 use Rattle.sap_files.specs.StimulusTexts.{AreDesignRows, AreTraceLines}
-use Rattle.sap_files.specs.Uncompiled.{asks_canonical, asks_simulated, asks_report, asks_unwave, asks_wave}
+use Rattle.sap_files.specs.Uncompiled.{asks_asm, asks_canonical, asks_cpu, asks_machine, asks_simulated, asks_report, asks_unwave, asks_wave}
 use Rattle.sap_files.specs.Asks.{Asks, file, by, gives, prints, writes, stops, Cause, IsOutput}
 
 -- the text is one of a module for the design
@@ -56,6 +56,9 @@ asks (twin lattice design first second level) =
     file lattice lattice_file (λ ls. by (Option ℕ) (λ named. named ≡ level_named ls.names level) (at_level level (λ l.
     file design (design_file ls) (λ d. asks_streams ls d first second level l))))
 asks (gen n) = gives (λ text. text ≡ generated_text n)
+asks machine = asks_machine
+asks (asm first second n) = asks_asm first second n
+asks (cpu first second n) = asks_cpu first second n
 
 -- what words ask that may be no command
 abbrev pub asks_if : Option Words → Asks

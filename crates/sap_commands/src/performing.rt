@@ -11,7 +11,7 @@ use crate::running::run;
 use crate::tracing::trace_design;
 use sap_desk::Desk;
 use sap_files::failure::Failure;
-use sap_files::{format, report_design, simulate, unwave, wave};
+use sap_files::{asm, cpu, format, machine, report_design, simulate, unwave, wave};
 use sap_words::Command;
 use std::alloc::Global;
 
@@ -61,5 +61,16 @@ pub fn perform<'a, D: Desk>(
             level,
         } => twin(alloc, desk, lattice, design, first, second, level),
         Command::Gen { number } => generate(alloc, desk, number),
+        Command::Machine => machine(desk),
+        Command::Asm {
+            first,
+            second,
+            number,
+        } => asm(alloc, desk, first, second, number.value),
+        Command::Cpu {
+            first,
+            second,
+            number,
+        } => cpu(alloc, desk, first, second, number.value),
     }
 }
