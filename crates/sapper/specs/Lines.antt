@@ -2,7 +2,7 @@
 use Rattle.std.specs.Prelude.{◌≡◌, ◌≢◌, ◌⊎◌, ℕ, List}
 use Rattle.sap_desk.specs.Desk.{Told}
 use Rattle.sap_desk.specs.Whole.{Between, Gained, LostAtMostOne}
-use Rattle.sap_files.specs.Ending.{Ending, Refusal as Reason, refused, no_memory, no_command, lattice_refused, design_refused, stimulus_refused, module_refused, level_refused, lengths_apart, inputs_apart, wave_refused, status_of, line_of}
+use Rattle.sap_files.specs.Ending.{Ending, Refusal as Reason, refused, no_memory, no_command, lattice_refused, design_refused, stimulus_refused, module_refused, level_refused, lengths_apart, inputs_apart, wave_refused, asm_refused, status_of, line_of}
 use Rattle.sap_files.specs.Steps.{Moment}
 use Rattle.sapper.specs.Outside.{FullLines}
 
@@ -33,6 +33,7 @@ TakesMemory (level_refused word) = Unit {0}
 TakesMemory (lengths_apart one other) = Unit {0}
 TakesMemory (inputs_apart cycle name) = Unit {0}
 TakesMemory (wave_refused fault) = Unit {0}
+TakesMemory (asm_refused place fault) = Unit {0}
 
 -- an ending is told by its status and its line; want of memory in its place where there is none for the line of a refusal
 pub record Reports (e : Ending) (answer : ℕ) (before after : Moment) : Type 0 where
