@@ -14,6 +14,7 @@ ghost use Rattle.sap_resolved.specs.Sized.Ranges.{RangedProgram};
 ghost use Rattle.sap_tagged.specs.Law.{IsSound, PlainStandsForDesign};
 ghost use Rattle.sap_tagged.specs.Plain.{first_wires, group_wires, inner_wires, plain_of, seat_registers, shown_registers, site_wires, tag_registers};
 ghost use Rattle.sap_tagged.specs.States.{wires_group};
+ghost use Rattle.sap_tags.specs.Starts.{PlainStartsAsDesign};
 ghost use Rattle.sap_tags_terms.specs.Parts.{StatesFew};
 ghost use Rattle.sap_tags_terms.specs.Code.{entities_in, named_in, tag_width};
 
@@ -136,11 +137,12 @@ fn is_sound(checked: &Checked)
     design_is_whole(design);
 }
 
-/// Nested states with ordinary variables for tags, which stand for the design and weigh no more than its module may have
-/// items. The program is that design's.
+/// Nested states with ordinary variables for tags, which start as the design does, stand for it and weigh no more than its
+/// module may have items. The program is that design's.
 pub fn insert(alloc: Global, checked: &Checked, program: &Program) -> Result<Plain, AllocError>
     requires { IsProgramOf (levels_in checked.now) (tree_in checked.now) program.now }
     ensures stands { IfOk result (λ p. PlainStandsForDesign (levels_in checked.now) (tree_in checked.now) (nested_of p)) }
+    ensures starts { IfOk result (λ p. PlainStartsAsDesign (levels_in checked.now) (tree_in checked.now) (nested_of p)) }
     ensures once { IfOk result (λ p. PlainWritesOnce (nested_of p)) }
     ensures small { IfOk result (λ p. nested_weight (nested_of p) ≤ most_items (levels_in checked.now) (tree_in checked.now)) }
 {

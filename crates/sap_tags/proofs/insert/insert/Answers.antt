@@ -6,6 +6,8 @@ use Rattle.sap_size.specs.Items.{most_items}
 use Rattle.sap_size.specs.Nested.{nested_weight}
 use Rattle.sap_tagged.specs.Law.{PlainStandsForDesign}
 use Rattle.sap_tags.proofs.Found.{arms_found, few_found, narrow_found, plain_found, ranged_found}
+use Rattle.sap_tags.proofs.Starts.{plain_starts}
+use Rattle.sap_tags.specs.Starts.{PlainStartsAsDesign}
 use Rattle.sap_tags.proofs.insert.insert.Goals as goal
 
 pub invariant_of-setting : goal.invariant_of-setting
@@ -37,6 +39,13 @@ returns-clause-stands c =
     let d = tree_in c.args.checked.now in
     let e = c.new.ensures ∙ (c.in_ok-parts.ensures ∙ plain_found c.lattice.result.now ls d c.args.program.now c.lattice.ensures c.requires) in
     subst (λ p. PlainStandsForDesign ls d p) (sym e) (c.plain_stands.ensures.stands ls d c.is_sound.ensures)
+
+pub returns-clause-starts : goal.returns-clause-starts
+returns-clause-starts c =
+    let ls = levels_in c.args.checked.now in
+    let d = tree_in c.args.checked.now in
+    let e = c.new.ensures ∙ (c.in_ok-parts.ensures ∙ plain_found c.lattice.result.now ls d c.args.program.now c.lattice.ensures c.requires) in
+    subst (λ p. PlainStartsAsDesign ls d p) (sym e) (plain_starts ls d c.is_sound.ensures)
 
 pub returns-clause-once : goal.returns-clause-once
 returns-clause-once c =
