@@ -6,3 +6,4 @@ pub mod Declared
 pub mod Helping
 pub mod Alike
 pub mod Small
+pub mod Starting

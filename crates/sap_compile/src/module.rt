@@ -6,6 +6,7 @@ ghost use Rattle.sap_compile.specs.Agree.{RunsAgree, RunsLookAlike};
 ghost use Rattle.sap_compile.specs.Compiles.{IsModuleFor};
 ghost use Rattle.sap_compile.specs.Parts.{checked_of, hang_of, module_of, netlist_of};
 ghost use Rattle.sap_compile.specs.Runs.{HasOneRunOnStreams};
+ghost use Rattle.sap_compile.specs.Starts.{StartsAsDesign};
 ghost use Rattle.sap_hang.specs.Hang.{IsHangTable};
 ghost use Rattle.sap_interface.specs.Designs.{StandsForDesign};
 ghost use Rattle.sap_size.specs.Items.{IsSmall};
@@ -44,6 +45,7 @@ fn runs(checked: &Checked, netlist: &Netlist)
 fn netlist_for(alloc: Global, checked: &Checked, hang: &HangTable) -> Result<Netlist, AllocError>
     requires { IsHangTable (tree_in checked.now) hang.now }
     ensures stands { IfOk result (λ n. StandsForDesign (levels_in checked.now) (tree_in checked.now) n) }
+    ensures starts { IfOk result (λ n. StartsAsDesign (levels_in checked.now) (tree_in checked.now) n) }
     ensures shared { IfOk result (λ n. SharesWires n) }
     ensures folded { IfOk result (λ n. FoldsWires n) }
     ensures read { IfOk result (λ n. ReadsWires n) }

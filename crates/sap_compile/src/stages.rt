@@ -7,7 +7,7 @@ ghost use Rattle.sap_size.specs.Items.{items};
 ghost use Rattle.sap_size.specs.Nested.{nested_weight};
 ghost use Rattle.sap_trim.specs.Reads.{ReadsWires};
 ghost use Rattle.sap_trim.specs.Trimmed.{FoldsWires, SharesWires};
-ghost use Rattle.sap_compile.specs.Stages.Stages.{StandsForTheSame};
+ghost use Rattle.sap_compile.specs.Stages.Stages.{StandsForTheSame, StartsAsTheSame};
 
 use sap_flat::flatten::flatten;
 use sap_ir::plain::program::Plain;
@@ -21,6 +21,7 @@ use std::alloc::{AllocError, Global};
 pub fn netlist(alloc: Global, program: &Plain) -> Result<Netlist, AllocError>
     requires once { PlainWritesOnce (nested_of program.now) }
     ensures stands { IfOk result (λ n. StandsForTheSame (nested_of program.now) n) }
+    ensures starts { IfOk result (λ n. StartsAsTheSame (nested_of program.now) n) }
     ensures shared { IfOk result (λ n. SharesWires n) }
     ensures folded { IfOk result (λ n. FoldsWires n) }
     ensures read { IfOk result (λ n. ReadsWires n) }

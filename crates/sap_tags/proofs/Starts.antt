@@ -1,5 +1,5 @@
 -- The plain program of a design starts as the design does.
-use Rattle.std.proofs.Common.{◌≡◌, ℕ, ◌<◌, ◌≤◌, List, [], ◌++◌, true, None, sym, ap, ◌∙◌, if◌then◌else◌, arith}
+use Rattle.std.proofs.Common.{◌≡◌, ℕ, ◌<◌, ◌≤◌, [], ◌++◌, true, None, sym, ap, ◌∙◌, if◌then◌else◌, arith}
 use Rattle.std.proofs.lemmas.Bool.{lt-ltb}
 use Rattle.sap_maps.specs.Maps.{Name}
 use Rattle.sap_tree.specs.Syntax.{DesignTree}
@@ -10,7 +10,7 @@ use Rattle.sap_meaning.specs.State.{first, first_level}
 use Rattle.sap_meaning.specs.Store.{start, start_whole}
 use Rattle.sap_meaning.proofs.ProgramLemmas.{state_no_memory}
 use Rattle.sap_net.proofs.NamesLemmas.{among_front}
-use Rattle.sap_net.specs.PortNames.{root_seat, refused_name}
+use Rattle.sap_net.specs.PortNames.{refused_name}
 use Rattle.sap_ir.specs.declared.guarded.Var.{Var}
 use Rattle.sap_ir.specs.declared.guarded.MemoryVariable.{MemoryVariable}
 use Rattle.sap_ir.specs.Guarded.{register_number, cell_at_start}

@@ -16,6 +16,7 @@ returns-clause-compiled c =
       well_formed = c.lawful.ensures;
       is_module = search rules;
       stands = c.in_ok-netlist.ensures.stands;
+      starts = c.in_ok-netlist.ensures.starts;
       has_one_run = c.runs.ensures.one;
       agrees = c.runs.ensures.agree;
       looks_alike = c.runs.ensures.look_alike;

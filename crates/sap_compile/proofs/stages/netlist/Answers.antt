@@ -3,6 +3,7 @@ use Rattle.sap_ir.specs.Program.{source_of}
 use Rattle.sap_ir.specs.Plain.Program.{nested_of}
 use Rattle.sap_compile.proofs.stages.Joined.{stands_for_the_same}
 use Rattle.sap_compile.proofs.stages.Small.{stays_small}
+use Rattle.sap_compile.proofs.stages.Starting.{starts_as_the_same}
 use Rattle.sap_compile.proofs.stages.netlist.Goals as goal
 
 pub lower-requires : goal.lower-requires
@@ -13,6 +14,11 @@ returns-clause-stands c =
     stands_for_the_same (nested_of c.args.program.now) (source_of c.in_ok-source.source) c.in_ok-lowered.lowered c.in_ok-net.net c.rules.ensures
     c.in_ok-source.ensures.declares c.in_ok-source.ensures.same c.in_ok-lowered.ensures.declares c.in_ok-lowered.ensures.same c.rules-2.ensures c.one_run.ensures.some
     c.rules-3.ensures c.in_ok-net.ensures.declares c.in_ok-net.ensures.same c.in_ok-net.ensures.numbered
+
+pub returns-clause-starts : goal.returns-clause-starts
+returns-clause-starts c =
+    starts_as_the_same (nested_of c.args.program.now) (source_of c.in_ok-source.source) c.in_ok-lowered.lowered c.in_ok-net.net
+    c.in_ok-source.ensures.declares c.in_ok-lowered.ensures.declares c.in_ok-net.ensures.declares
 
 pub returns-clause-small : goal.returns-clause-small
 returns-clause-small c =
