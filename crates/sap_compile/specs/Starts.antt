@@ -7,7 +7,7 @@ use Rattle.sap_tree.specs.Syntax.{DesignTree}
 use Rattle.sap_meaning.specs.State.{first}
 use Rattle.sap_net.specs.Net.{Net}
 use Rattle.sap_net.specs.Runs.{initial_number}
-use Rattle.sap_interface.specs.StandsFor.{world, StandsFor}
+use Rattle.sap_interface.specs.StandsFor.{Named, world, StandsFor}
 use Rattle.sap_interface.specs.Designs.{named_of, site_count_of}
 
 -- the number of a memory's cells before the first cycle
@@ -20,5 +20,9 @@ initial n = record { value = initial_number n; cell = λ x i. initial_cell n x }
 
 -- They stand for the design's first state, with nothing refused: each register, each memory's cell, each state's tag and each current child has
 -- the number, or the code of the level, that it has there.
+abbrev pub NetStartsAs : Named → (sites : ℕ) → Net → Type 0
+NetStartsAs d sites n = StandsFor d sites (initial n) (first (world d)) []
+
+-- the netlist starts as the design
 abbrev pub StartsAsDesign : Levels → DesignTree → Net → Type 0
-StartsAsDesign ls d n = StandsFor (named_of ls d) (site_count_of d) (initial n) (first (world (named_of ls d))) []
+StartsAsDesign ls d n = NetStartsAs (named_of ls d) (site_count_of d) n
