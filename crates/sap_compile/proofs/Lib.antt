@@ -1,3 +1,4 @@
 pub mod Paths
 pub mod Agreeing
 pub mod Faults
+pub mod Beginning

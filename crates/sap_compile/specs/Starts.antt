@@ -1,12 +1,13 @@
 -- With which numbers a module starts, and when it starts as its design does.
-use Rattle.std.specs.Prelude.{ℕ, [], map, unwrap_or}
+use Rattle.std.specs.Prelude.{ℕ, [], map, None, unwrap_or}
 use Rattle.sap_lattice.specs.Levels.{Levels}
 use Rattle.sap_maps.specs.Maps.{Name, Valuation}
 use Rattle.sap_maps.specs.Scope.{find}
 use Rattle.sap_tree.specs.Syntax.{DesignTree}
 use Rattle.sap_meaning.specs.State.{first}
 use Rattle.sap_net.specs.Net.{Net}
-use Rattle.sap_net.specs.Runs.{initial_number}
+use Rattle.sap_net.specs.IsNetlist.{IsNetlist}
+use Rattle.sap_net.specs.Runs.{Begins, initial_number}
 use Rattle.sap_interface.specs.StandsFor.{Named, world, StandsFor}
 use Rattle.sap_interface.specs.Designs.{named_of, site_count_of}
 
@@ -17,6 +18,10 @@ initial_cell n x = unwrap_or (find (map (λ m. (m.name, m.start)) n.memories) x)
 -- the numbers before the first cycle: registers and memories have their starts, all else is 0
 abbrev pub initial : Net → Valuation
 initial n = record { value = initial_number n; cell = λ x i. initial_cell n x }
+
+-- The first cycle of each netlist begins with them.
+abbrev pub NetlistsBegin : Type 0
+NetlistsBegin = (n : Net) → IsNetlist n → Begins n None (initial n)
 
 -- They stand for the design's first state, with nothing refused: each register, each memory's cell, each state's tag and each current child has
 -- the number, or the code of the level, that it has there.

@@ -4,6 +4,7 @@
 mod compiled;
 mod compiler;
 mod fault;
+pub mod laws;
 mod module;
 mod read;
 pub mod stages;
