@@ -21,6 +21,7 @@ use Rattle.sap_interface.specs.StandsFor.{Named, world}
 use Rattle.sap_compile.specs.Agree.{CyclesAgree, CyclesLookAlike}
 use Rattle.sap_compile.specs.Compiles.{IsModuleFor}
 use Rattle.sap_compile.specs.Runs.{HasOneRun}
+use Rattle.sap_compile.specs.Starts.{NetStartsAs}
 use Rattle.sap_files.proofs.Alike.{named_in}
 use Rattle.sap_files.proofs.Designs.{well_formed_in}
 
@@ -42,6 +43,7 @@ module _ (l m : Levels) (same : AreSame l m) (d : DesignTree) (n : Net) where
         stands =
             subst (λ (y : Named). NetStandsFor y (width_of (order_of m)) sites n) (named_in l m same d)
             (subst (λ (o : Order). NetStandsFor x (width_of o) sites n) same.order is.stands);
+        starts = subst (λ (y : Named). NetStartsAs y sites n) (named_in l m same d) is.starts;
         has_one_run =
             subst (λ (y : Named). (stream : List (List Tagged)) → StreamFits (world y) stream → HasOneRun n (coded_stream y.code stream)) (named_in l m same d)
             is.has_one_run;
