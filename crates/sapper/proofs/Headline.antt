@@ -26,6 +26,7 @@ means ls d text (net, is) = record {
   is_module = is.is_module;
   no_other = λ other other_is. one_module text other net other_is is.is_module;
   interface = is.stands.interface;
+  starts = is.starts;
   one_run = is.has_one_run;
   means = is.stands.stands;
   agree = is.agrees;

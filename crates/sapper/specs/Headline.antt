@@ -20,6 +20,7 @@ use Rattle.sap_compile.specs.Agree.{RunsAgree, RunsLookAlike}
 use Rattle.sap_size.specs.Items.{IsSmall}
 use Rattle.sap_trim.specs.Trimmed.{FoldsWires}
 use Rattle.sap_compile.specs.Runs.{HasOneRunOnStreams}
+use Rattle.sap_compile.specs.Starts.{StartsAsDesign}
 use Rattle.sap_words.specs.Words.{command_of, compile}
 use Rattle.sap_files.specs.Kinds.{Has, IsWellFormedText, lattice_file, design_file}
 
@@ -39,6 +40,8 @@ pub record MeansDesign (ls : Levels) (d : DesignTree) (text : List ℕ) : Type 0
   pub no_other : (other : Net) → IsModule text other → other ≡ net
   -- its interface is the design's
   pub interface : HasInterface (named_of ls d) (width_of (order_of ls)) (site_count_of d) net
+  -- its numbers before the first cycle stand for the design's first state
+  pub starts : StartsAsDesign ls d net
   -- clocked on any stream that fits the design it has one run, and that has the design's meaning
   pub one_run : HasOneRunOnStreams ls d net
   pub means : MeansInEveryCycle ls d net
