@@ -15,13 +15,12 @@ use Rattle.sap_net.specs.Runs.{IsRun, observed}
 use Rattle.std.specs.Prelude.{map}
 use Rattle.sap_size.specs.Items.{items}
 use Rattle.sap_size.specs.Trees.{design_nodes, entity_count}
-use Rattle.sap_interface.specs.Compiled.{NetStandsFor, coded_stream}
+use Rattle.sap_interface.specs.Compiled.{NetStandsFor, NetStartsAs, coded_stream}
 use Rattle.sap_interface.specs.Designs.{named_of, site_count_of}
 use Rattle.sap_interface.specs.StandsFor.{Named, world}
 use Rattle.sap_compile.specs.Agree.{CyclesAgree, CyclesLookAlike}
 use Rattle.sap_compile.specs.Compiles.{IsModuleFor}
 use Rattle.sap_compile.specs.Runs.{HasOneRun}
-use Rattle.sap_compile.specs.Starts.{NetStartsAs}
 use Rattle.sap_files.proofs.Alike.{named_in}
 use Rattle.sap_files.proofs.Designs.{well_formed_in}
 

@@ -1,4 +1,3 @@
 pub mod Paths
 pub mod Agreeing
 pub mod Faults
-pub mod Beginning

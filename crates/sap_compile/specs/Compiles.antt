@@ -8,10 +8,9 @@ use Rattle.sap_size.specs.Items.{IsSmall}
 use Rattle.sap_trim.specs.Reads.{ReadsWires}
 use Rattle.sap_trim.specs.Trimmed.{FoldsWires, SharesWires}
 use Rattle.sap_vtext.specs.Modules.{IsModule}
-use Rattle.sap_interface.specs.Designs.{StandsForDesign}
+use Rattle.sap_interface.specs.Designs.{StandsForDesign, StartsAsDesign}
 use Rattle.sap_compile.specs.Agree.{RunsAgree, RunsLookAlike}
 use Rattle.sap_compile.specs.Runs.{HasOneRunOnStreams}
-use Rattle.sap_compile.specs.Starts.{StartsAsDesign}
 
 -- The design is well formed, the text is that of a module, the module stands for the design, starts as it does and has exactly
 -- one run on every stream that fits, and on streams that agree at or below a level its runs agree there in every cycle. No two of

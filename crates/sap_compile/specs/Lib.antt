@@ -5,7 +5,6 @@ pub mod Faults
 pub mod Parts
 pub mod Runs
 pub mod Stages
-pub mod Starts
 pub use Rattle.sap_hang.specs.Hang
 pub use Rattle.sap_ir.specs.Plain.Program
 pub use Rattle.sap_ir.specs.Plain.Writes

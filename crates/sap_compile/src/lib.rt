@@ -4,7 +4,6 @@
 mod compiled;
 mod compiler;
 mod fault;
-pub mod laws;
 mod module;
 mod read;
 pub mod stages;

@@ -4,9 +4,9 @@ use Rattle.std.specs.List.{AllZip}
 use Rattle.sap_maps.specs.Maps.{Valuation}
 use Rattle.sap_meaning.specs.Cycle.{Tagged}
 use Rattle.sap_meaning.specs.Store.{After}
-use Rattle.sap_meaning.specs.State.{StreamFits, labelled_run}
+use Rattle.sap_meaning.specs.State.{first, StreamFits, labelled_run}
 use Rattle.sap_net.specs.Net.{Net}
-use Rattle.sap_net.specs.Runs.{AllFit, IsRun, observed}
+use Rattle.sap_net.specs.Runs.{initial, AllFit, IsRun, observed}
 use Rattle.sap_interface.specs.StandsFor.{Named, world, StandsFor}
 use Rattle.sap_interface.specs.Interface.{HasInterface}
 
@@ -29,3 +29,8 @@ pub record NetStandsFor (d : Named) (tag sites : ℕ) (n : Net) : Type 0 where
   pub takes : (stream : List (List Tagged)) → StreamFits (world d) stream → AllFit n.inputs (coded_stream d.code stream)
   pub stands : (stream : List (List Tagged)) → StreamFits (world d) stream
       → (vs : List Valuation) → IsRun n (coded_stream d.code stream) vs → CyclesStand d sites (map (observed n) vs) (labelled_run d.program stream)
+
+-- The numbers before the first cycle stand for the design's first state, with nothing refused: each register, each memory's cell, each state's tag
+-- and each current child has the number, or the code of the level, that it has there.
+abbrev pub NetStartsAs : Named → (sites : ℕ) → Net → Type 0
+NetStartsAs d sites n = StandsFor d sites (initial n) (first (world d)) []

@@ -8,7 +8,7 @@ use Rattle.sap_shape.specs.Sites.{check_sites}
 use Rattle.sap_resolved.specs.Fill.{program_of}
 use Rattle.sap_net.specs.Net.{Net}
 use Rattle.sap_interface.specs.StandsFor.{Named}
-use Rattle.sap_interface.specs.Compiled.{NetStandsFor}
+use Rattle.sap_interface.specs.Compiled.{NetStandsFor, NetStartsAs}
 
 -- the program of a design over the levels of a lattice, with the names of its entities and the codes of its levels
 abbrev pub named_of : Levels → DesignTree → Named
@@ -21,3 +21,7 @@ site_count_of d = length (check_sites d)
 -- the netlist stands for the design
 abbrev pub StandsForDesign : Levels → DesignTree → Net → Type 0
 StandsForDesign ls d n = NetStandsFor (named_of ls d) (width_of (order_of ls)) (site_count_of d) n
+
+-- the netlist starts as the design does
+abbrev pub StartsAsDesign : Levels → DesignTree → Net → Type 0
+StartsAsDesign ls d n = NetStartsAs (named_of ls d) (site_count_of d) n

@@ -20,8 +20,7 @@ use Rattle.sap_net.specs.PortNames.{value_name, tag_name}
 use Rattle.sap_net.proofs.Observed.{observed_registers}
 use Rattle.sap_interface.specs.StandsFor.{Named, name, world, StandsFor}
 use Rattle.sap_interface.specs.Interface.{declared_by, DeclaresPart}
-use Rattle.sap_interface.specs.Compiled.{coded, coded_stream, CyclesStand}
-use Rattle.sap_linked.specs.Linking.{Starts}
+use Rattle.sap_interface.specs.Compiled.{coded, coded_stream, CyclesStand, NetStartsAs}
 use Rattle.sap_linked.proofs.Reading.{at_name}
 
 -- from the cycle `before` on, each cycle stands for one from the state s on
@@ -60,11 +59,11 @@ both f g h [] a b = tt
 both f g h (r ∷ rs) a b = (a.0 ∙ sym b.0, both f g h rs a.1 b.1)
 
 module _ (d : Named) (tag sites : ℕ) (n : Net) (declares : DeclaresPart (λ x. x) d tag sites (declared_by n)) where
-  pub begins_first : Starts d n → BeginsAs d n None (first (world d))
+  pub begins_first : NetStartsAs d sites n → BeginsAs d n None (first (world d))
   begins_first starts v b =
       record {
-        values = λ x is. first_at v n.registers b.0 (value_name (name d x)) _ (declares.registers x is).0 ∙ starts.values x is;
-        tags = λ x is. first_at v n.registers b.0 (tag_name (name d x)) _ (declares.registers x is).1 ∙ starts.tags x is;
+        values = λ x is. first_at v n.registers b.0 (value_name (name d x)) _ (declares.registers x is).0 ∙ starts.register_values x is;
+        tags = λ x is. first_at v n.registers b.0 (tag_name (name d x)) _ (declares.registers x is).1 ∙ starts.register_tags x is;
       }
 
   pub begins_later : IsNetlist n → (p : Valuation) (s : Store) (refused : List Refusal) → StandsFor d sites (observed n p) s refused → BeginsAs d n (Some p) s

@@ -22,7 +22,7 @@ use Rattle.sap_net.proofs.NamesLemmas.{not_found}
 use Rattle.sap_interface.specs.StandsFor.{Named, name, StandsFor}
 use Rattle.sap_interface.specs.Interface.{HasInterface}
 use Rattle.sap_interface.specs.InterfaceNames.{IsInterfaceName, value_of, tag_of}
-use Rattle.sap_interface.specs.Compiled.{coded, coded_stream, CyclesStand, NetStandsFor}
+use Rattle.sap_interface.specs.Compiled.{coded, coded_stream, CyclesStand, NetStandsFor, NetStartsAs}
 use Rattle.sap_build.specs.Copies.{through}
 use Rattle.sap_build.specs.Parts.{Feeds, fed_numbers}
 use Rattle.sap_build.specs.Laws.{PartsRun, PartsShow}
@@ -33,7 +33,7 @@ use Rattle.sap_link.specs.Composites.{CompositeState, states_of, content_at, rec
 use Rattle.sap_link.specs.Composites.{InputsFit as InputsFitSystem, StreamFits as StreamFitsSystem}
 use Rattle.sap_link.specs.Laws.{FineSystem, SizedSystem, PartsFit, CompositesFit, StreamsOfPartsFit, FedInputsReceive, FreeInputsReceive}
 use Rattle.sap_linked.specs.Parts.{Part, NamedSystem, no_part, part_at, system_of, in_part}
-use Rattle.sap_linked.specs.Linking.{Starts, IsNetOf, inputs_for, LinksParts}
+use Rattle.sap_linked.specs.Linking.{IsNetOf, inputs_for, LinksParts}
 use Rattle.sap_linked.specs.Standing.{names_of_inputs, RunsStand}
 use Rattle.sap_linked.specs.Laws.{LinkedNetsStand}
 use Rattle.sap_linked.proofs.Reading.{at_name}
@@ -88,8 +88,8 @@ module _ (runs : PartsRun) (shows : PartsShow) (fits : CompositesFit) (streams :
     net_stands : NetStandsFor (design_at s i) (width_of s.order) (part_at s i).sites (nets i)
     net_stands = subst (λ d. NetStandsFor d (width_of s.order) (part_at s i).sites (nets i)) (sym same_design) (each i low).stands
 
-    net_starts : Starts (design_at s i) (nets i)
-    net_starts = subst (λ d. Starts d (nets i)) (sym same_design) (each i low).starts
+    net_starts : NetStartsAs (design_at s i) (part_at s i).sites (nets i)
+    net_starts = subst (λ d. NetStartsAs d (part_at s i).sites (nets i)) (sym same_design) (each i low).starts
 
     behind_part : (x : Name) → IsInterfaceName (design_at s i) (part_at s i).sites x → named i x ≡ in_part (part_at s i).name x
     behind_part x is = links.interface_names i low x (subst (λ d. IsInterfaceName d (part_at s i).sites x) same_design is)

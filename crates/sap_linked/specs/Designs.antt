@@ -7,11 +7,11 @@ use Rattle.sap_lattice.specs.Levels.{Levels, order_of}
 use Rattle.sap_lattice.specs.Codes.{Codes}
 use Rattle.sap_net.specs.Net.{Net}
 use Rattle.sap_net.specs.IsNetlist.{IsNetlist}
-use Rattle.sap_interface.specs.Designs.{named_of, site_count_of, StandsForDesign}
+use Rattle.sap_interface.specs.Designs.{named_of, site_count_of, StandsForDesign, StartsAsDesign}
 use Rattle.sap_link.specs.Systems.{Wire}
 use Rattle.sap_link.specs.Designs.{WellLinked}
 use Rattle.sap_linked.specs.Parts.{Part, NamedSystem}
-use Rattle.sap_linked.specs.Linking.{Starts, LinksParts}
+use Rattle.sap_linked.specs.Linking.{LinksParts}
 use Rattle.sap_linked.specs.Standing.{RunsStand}
 
 -- a design under the name of a part
@@ -32,7 +32,7 @@ named_system ls ds wires = record { order = order_of ls; parts = map (part_of ls
 pub record IsNetOfDesign (ls : Levels) (d : DesignTree) (n : Net) : Type 0 where
   pub netlist : IsNetlist n
   pub stands : StandsForDesign ls d n
-  pub starts : Starts (named_of ls d) n
+  pub starts : StartsAsDesign ls d n
 
 -- A netlist that links those of well-formed designs, with wires that break no rule, stands for the composite run in each of its runs.
 abbrev pub LinkedDesignsStand : Type 0

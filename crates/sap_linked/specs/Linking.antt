@@ -4,32 +4,22 @@ use Rattle.std.specs.List.{AllByRecursion}
 use Rattle.sap_maps.specs.Maps.{Name, Valuation}
 use Rattle.sap_lattice.specs.Order.{Order}
 use Rattle.sap_lattice.specs.Codes.{code_of, width_of}
-use Rattle.sap_meaning.specs.Program.{is_register}
-use Rattle.sap_meaning.specs.Store.{own, number, level}
-use Rattle.sap_meaning.specs.State.{first}
 use Rattle.sap_net.specs.declared.parts.Input.{Input}
 use Rattle.sap_net.specs.Net.{Net}
 use Rattle.sap_net.specs.IsNetlist.{IsNetlist}
-use Rattle.sap_net.specs.Runs.{IsValuation, initial_number}
-use Rattle.sap_net.specs.PortNames.{value_name, tag_name}
-use Rattle.sap_interface.specs.StandsFor.{Named, name, world}
+use Rattle.sap_net.specs.Runs.{IsValuation}
 use Rattle.sap_interface.specs.InterfaceNames.{IsInterfaceName}
-use Rattle.sap_interface.specs.Compiled.{NetStandsFor}
+use Rattle.sap_interface.specs.Compiled.{NetStandsFor, NetStartsAs}
 use Rattle.sap_build.specs.Parts.{IsPart}
 use Rattle.sap_link.specs.Systems.{Endpoint, Wire, width_at, free_inputs}
 use Rattle.sap_linked.specs.Parts.{Part, NamedSystem, part_at, system_of, in_part, value_at, tag_at}
-
--- Before the first cycle each register has the number and the code of the level that the first state has.
-pub record Starts (d : Named) (n : Net) : Type 0 where
-  pub values : (x : ℕ) → is_register (world d) x ≡ true → initial_number n (value_name (name d x)) ≡ number (own x) (first (world d))
-  pub tags : (x : ℕ) → is_register (world d) x ≡ true → initial_number n (tag_name (name d x)) ≡ d.code (level (world d) (own x) (first (world d)))
 
 -- A netlist of a part: it stands for the part's design, levels as the order's codes, and starts as the design does.
 pub record IsNetOf (o : Order) (p : Part) (n : Net) : Type 0 where
   pub codes : p.design.code ≡ code_of o
   pub netlist : IsNetlist n
   pub stands : NetStandsFor p.design (width_of o) p.sites n
-  pub starts : Starts p.design n
+  pub starts : NetStartsAs p.design p.sites n
 
 -- The number and the code that come out of a wire, where the register has the number n and the code t: these; through a level the number where
 -- t is the code of a level at or below that one, else 0, and the code of that level.

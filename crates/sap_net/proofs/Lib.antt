@@ -10,3 +10,4 @@ pub mod NamesLemmas
 pub mod NameMaps
 pub mod RulesLemmas
 pub mod Places
+pub mod Beginning

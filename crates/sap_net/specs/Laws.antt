@@ -4,9 +4,8 @@ use Rattle.std.specs.List.{AllZip}
 use Rattle.sap_maps.specs.Maps.{Name, Valuation}
 use Rattle.sap_maps.specs.Scope.{find}
 use Rattle.sap_net.specs.Net.{Net}
-use Rattle.sap_net.specs.IsNetlist.{readable, shapes, width_of}
-use Rattle.sap_net.specs.Values.{Holds}
-use Rattle.sap_net.specs.Runs.{IsWithin, Begins, InputsFit, InputsAre, AllFit, IsCycle, IsRun}
+use Rattle.sap_net.specs.IsNetlist.{IsNetlist, readable, shapes}
+use Rattle.sap_net.specs.Runs.{IsWithin, Begins, initial, InputsFit, AllFit, IsCycle, IsRun}
 
 -- equal numbers at all inputs, registers and wires, and in all memories
 pub record AreSame (n : Net) (v w : Valuation) : Type 0 where
@@ -44,3 +43,7 @@ SomeCycle n =
 abbrev pub OneCycle : Net → Type 0
 OneCycle n =
     (p q : Option Valuation) (xs : List ℕ) (v w : Valuation) → SameBefore n p q → IsCycle n p xs v → IsCycle n q xs w → AreSame n v w
+
+-- the first cycle begins with the numbers before it
+abbrev pub BeginsWithInitial : Type 0
+BeginsWithInitial = (n : Net) → IsNetlist n → Begins n None (initial n)

@@ -38,6 +38,14 @@ Begins n (Some p) v =
 abbrev pub initial_number : Net → Name → ℕ
 initial_number n x = unwrap_or (find (map (λ r. (r.name, r.start)) n.registers) x) 0
 
+-- the number of a memory's cells before the first cycle
+abbrev pub initial_cell : Net → Name → ℕ
+initial_cell n x = unwrap_or (find (map (λ m. (m.name, m.start)) n.memories) x) 0
+
+-- the numbers before the first cycle: registers and memories have their starts, all else is 0
+abbrev pub initial : Net → Valuation
+initial n = record { value = initial_number n; cell = λ x i. initial_cell n x }
+
 -- one number for each input, within its width
 abbrev pub InputsFit : List Input → List ℕ → Type 0
 InputsFit = AllZip (λ (i : Input) (x : ℕ). x < 2 ^ i.width)

@@ -1,6 +1,6 @@
 //! What holds of every netlist.
 
-ghost use Rattle.sap_net.specs.Laws.{SomeRun, OneRun, SomeCycle, OneCycle};
+ghost use Rattle.sap_net.specs.Laws.{SomeRun, OneRun, SomeCycle, OneCycle, BeginsWithInitial};
 
 use crate::netlist::Netlist;
 
@@ -19,3 +19,8 @@ pub fn one_cycle(netlist: &Netlist)
 {
     netlist.rules();
 }
+
+/// A first cycle begins with the starts of registers and memories, whatever the netlist.
+pub fn begins_with_initial()
+    ensures { BeginsWithInitial }
+{}

@@ -13,14 +13,13 @@ use Rattle.sap_net.specs.Net.{Net}
 use Rattle.sap_net.specs.Runs.{IsRun, observed}
 use Rattle.sap_vtext.specs.Modules.{IsModule}
 use Rattle.sap_interface.specs.Compiled.{CyclesStand, coded_stream}
-use Rattle.sap_interface.specs.Designs.{named_of, site_count_of}
+use Rattle.sap_interface.specs.Designs.{named_of, site_count_of, StartsAsDesign}
 use Rattle.sap_interface.specs.Interface.{HasInterface}
 use Rattle.sap_interface.specs.StandsFor.{world}
 use Rattle.sap_compile.specs.Agree.{RunsAgree, RunsLookAlike}
 use Rattle.sap_size.specs.Items.{IsSmall}
 use Rattle.sap_trim.specs.Trimmed.{FoldsWires}
 use Rattle.sap_compile.specs.Runs.{HasOneRunOnStreams}
-use Rattle.sap_compile.specs.Starts.{StartsAsDesign}
 use Rattle.sap_words.specs.Words.{command_of, compile}
 use Rattle.sap_files.specs.Kinds.{Has, IsWellFormedText, lattice_file, design_file}
 

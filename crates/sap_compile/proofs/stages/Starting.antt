@@ -19,7 +19,7 @@ use Rattle.sap_lower.specs.Same as low
 use Rattle.sap_trim.specs.Alike.{DeclaresAlike}
 use Rattle.sap_interface.specs.StandsFor.{Named, StandsFor, IsRefused}
 use Rattle.sap_tags.specs.Starts.{plain_initial}
-use Rattle.sap_compile.specs.Starts.{initial}
+use Rattle.sap_net.specs.Runs.{initial}
 use Rattle.sap_compile.specs.Stages.Stages.{StartsAsTheSame}
 use Rattle.sap_compile.proofs.stages.Found.{Shape, Stored, memory_stored, store_stored}
 use Rattle.sap_compile.proofs.stages.Declared.{Kept}

@@ -3,10 +3,9 @@ use Rattle.sap_tree.specs.Syntax.{DesignTree}
 use Rattle.sap_lattice.specs.Levels.{Levels}
 use Rattle.sap_net.specs.Net.{Net}
 use Rattle.sap_ir.specs.Plain.Nested.{Nested}
-use Rattle.sap_interface.specs.Designs.{StandsForDesign}
+use Rattle.sap_interface.specs.Designs.{StandsForDesign, StartsAsDesign}
 use Rattle.sap_tagged.specs.Law.{PlainStandsForDesign}
 use Rattle.sap_tags.specs.Starts.{PlainStartsAsDesign}
-use Rattle.sap_compile.specs.Starts.{StartsAsDesign}
 
 -- Over any lattice, the netlist stands for each design for which the nested states stand.
 abbrev pub StandsForTheSame : Nested → Net → Type 0
