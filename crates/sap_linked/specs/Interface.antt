@@ -38,6 +38,16 @@ abbrev pub refusal_ports : List Part → List Shown
 refusal_ports [] = []
 refusal_ports (p ∷ ps) = ports_in p (site_ports 1 p.sites) ++ refusal_ports ps
 
+-- x is an input of part i that a wire feeds
+abbrev pub is_fed_input : List Wire → Part → (i : ℕ) → (x : ℕ) → Bool
+is_fed_input wires p i x = is_input (world p.design) x && is_fed wires (endpoint i x)
+
+-- the wires that stand for inputs that are fed; i is the number of the first part
+abbrev pub fed_inputs : List Wire → (i : ℕ) → List Part → List Shown
+fed_inputs wires i [] = []
+fed_inputs wires i (p ∷ ps) =
+    ports_in p (pairs_of (is_fed_input wires p i) kind.Wire p.design 0 (world p.design).entities) ++ fed_inputs wires (suc i) ps
+
 -- all free inputs, then all registers, then all sites, parts in order
 abbrev pub linked_ports : NamedSystem → List Shown
 linked_ports s = input_ports s.wires 0 s.parts ++ register_ports s.parts ++ refusal_ports s.parts

@@ -18,7 +18,7 @@ use Rattle.sap_linked.specs.Parts.{NamedSystem, part_at, system_of, in_part, has
 use Rattle.sap_linked.specs.Linking.{IsNetOf, inputs_for, LinksParts}
 use Rattle.sap_linked.specs.Interface.{input_ports, DeclaresSystem}
 use Rattle.sap_linked.specs.Standing.{RunsStand}
-use Rattle.sap_linked.specs.Netlist.{inner_names, linked_net}
+use Rattle.sap_linked.specs.Netlist.{inner_names, linked_net, without_fed}
 
 -- Names of two bytes or more are told apart in the module of a system, and so are those of two parts whose names have no `_`.
 abbrev pub NamesStayApart : Type 0
@@ -55,11 +55,17 @@ LinkedNetLinks =
     (s : NamedSystem) (nets : ℕ → Net) → ((i : ℕ) → i < length s.parts → IsNetOf s.order (part_at s i) (nets i)) → IsNetlist (linked_net s nets)
     → LinksParts s nets (λ i. in_part (part_at s i).name) (linked_net s nets)
 
--- And it declares what the module of the system is to declare, under the same condition.
+-- And it declares what the module of the system is to declare, under the same condition, where no port shows what feeds.
 abbrev pub LinkedNetDeclares : Type 0
 LinkedNetDeclares =
     (s : NamedSystem) (nets : ℕ → Net) → ((i : ℕ) → i < length s.parts → IsNetOf s.order (part_at s i) (nets i)) → IsNetlist (linked_net s nets)
-    → DeclaresSystem s (linked_net s nets)
+    → DeclaresSystem s (without_fed s (linked_net s nets))
+
+-- It is a netlist, where names of parts and wires break no rule.
+abbrev pub LinkedNetIsNetlist : Type 0
+LinkedNetIsNetlist =
+    (s : NamedSystem) (nets : ℕ → Net) → Codes s.order → SizedSystem (system_of s) → NamesFit s → WiresFit (system_of s)
+    → ((i : ℕ) → i < length s.parts → IsNetOf s.order (part_at s i) (nets i)) → IsNetlist (linked_net s nets)
 
 -- Where the names of parts and the wires break no rule, no two inputs, wires, registers or memories of the netlist of a system have one name.
 abbrev pub AllNamesDiffer : Type 0

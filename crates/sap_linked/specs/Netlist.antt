@@ -1,5 +1,5 @@
 -- The netlist of a system: the netlists of all parts side by side, each name behind its part's, and in front of them the wires that feed.
-use Rattle.std.specs.Prelude.{ℕ, suc, not, List, [], ◌∷◌, ◌++◌, map, filter, Option, Some, None, codes}
+use Rattle.std.specs.Prelude.{ℕ, suc, not, List, [], ◌∷◌, ◌++◌, length, take, map, filter, Option, Some, None, codes}
 use Rattle.sap_bits.specs.declared.Op2.TheVariants.{Or, Eq}
 use Rattle.sap_maps.specs.Maps.{Name}
 use Rattle.sap_lattice.specs.Codes.{code_of, width_of}
@@ -20,7 +20,7 @@ use Rattle.sap_link.specs.Systems.{Endpoint, width_at, free_inputs}
 use Rattle.sap_link.specs.Systems.{Wire as SystemWire}
 use Rattle.sap_linked.specs.Parts.{Part, NamedSystem, part_at, system_of, in_part, value_at, tag_at}
 use Rattle.sap_linked.specs.Linking.{inputs_for}
-use Rattle.sap_linked.specs.Interface.{linked_ports}
+use Rattle.sap_linked.specs.Interface.{fed_inputs, linked_ports}
 
 -- For an input that is fed through a level: the join of the register's code with that of the level, and whether that is the code of the level.
 abbrev pub joined_at : NamedSystem → Endpoint → Name
@@ -57,8 +57,12 @@ abbrev pub copies_of : {X : Type 0} → (items : ℕ → List X) → (copy : (Na
 copies_of items copy i [] = []
 copies_of items copy i (p ∷ ps) = map (copy (in_part p.name)) (items i) ++ copies_of items copy (suc i) ps
 
+-- What feeds inputs is shown too, behind the ports, so that it keeps its names when the netlist is made small; `without_fed` takes it off.
+abbrev pub held_ports : NamedSystem → List Shown
+held_ports s = linked_ports s ++ fed_inputs s.wires 0 s.parts
+
 abbrev pub shown_names : NamedSystem → List Name
-shown_names s = map (λ (port : Shown). port.0) (linked_ports s)
+shown_names s = map (λ (port : Shown). port.0) (held_ports s)
 
 -- the names of all wires, registers and memories
 abbrev pub inner_names : NamedSystem → (nets : ℕ → Net) → List Name
@@ -78,11 +82,24 @@ linked_net s nets =
       names =
           shown_names s
           ++ filter (λ x. not (is_among x (shown_names s))) (inner_names s nets);
-      ports = map {B = Port} (λ (port : Shown). record { name = port.0; kind = port.1 }) (linked_ports s);
+      ports = map {B = Port} (λ (port : Shown). record { name = port.0; kind = port.1 }) (held_ports s);
       inputs = inputs_for s (free_inputs (system_of s));
       wires = wires;
       registers =
           filter (λ (r : Register). is_among r.name (shown_names s)) registers
           ++ filter (λ (r : Register). not (is_among r.name (shown_names s))) registers;
       memories = memories;
+    }
+
+-- the netlist with the ports of the system's module alone
+abbrev pub without_fed : NamedSystem → Net → Net
+without_fed s n =
+    record {
+      module_name = n.module_name;
+      names = n.names;
+      ports = take (length (linked_ports s)) n.ports;
+      inputs = n.inputs;
+      wires = n.wires;
+      registers = n.registers;
+      memories = n.memories;
     }
