@@ -58,6 +58,15 @@ free_status (refused why) free = absurd free
 free_status (failed name) free = inl refl
 free_status no_memory free = inr refl
 
+-- and where it has neither it has a cause
+pub by_cause : (words : List (List ℕ)) (t : Told) (answer : ℕ) (e : Ending) → answer ≡ status_of e → IsFree e ⊎ Cause (asks_for words) t e → answer ≢ 6 → answer ≢ 7
+    → Cause (asks_for words) t e
+by_cause words t answer e status (inl free) no_failure no_want = elim (free_status e free) [
+  | inl six ↦ absurd (no_failure (status ∙ six))
+  | inr seven ↦ absurd (no_want (status ∙ seven))
+]
+by_cause words t answer e status (inr cause) no_failure no_want = cause
+
 module _ (lattice design out : List ℕ) (answer : ℕ) (t n : Told) where
   written : Written (asks (compile lattice design out)) t n.files
       → (ls : Levels) × (d : DesignTree) × Has t lattice lattice_file ls × Has t design (design_file ls) d

@@ -1,3 +1,4 @@
 pub mod Calls
 pub mod Headline
 pub mod Waves
+pub mod Machines

@@ -27,7 +27,7 @@ use Rattle.sap_wave_rows.specs.Rows.{rows_of_wave}
 use Rattle.sap_wave_rows.proofs.RowsOfRuns.{rows_of_runs}
 use Rattle.sap_wave_run.specs.Dumped.{IsDumpOn}
 use Rattle.sap_words.specs.Words.{Words, wave, unwave}
-use Rattle.sap_files.specs.Ending.{Ending, Refusal, done, refused, wave_refused, status_of, line_of, IsFree}
+use Rattle.sap_files.specs.Ending.{Ending, Refusal, done, refused, wave_refused, status_of, line_of}
 use Rattle.sap_files.specs.Kinds.{Kind, Has, IsLawful, lattice_file, module_file, module_stream_file, wave_file}
 use Rattle.sap_files.specs.Asks.{Asks, file, gives, writes, Cause, Files, Leaves, Output, Shows, Written}
 use Rattle.sap_files.specs.StimulusTexts.{AreModuleRows}
@@ -39,7 +39,7 @@ use Rattle.sap_files.proofs.Netlists.{module_netlist}
 use Rattle.sapper.specs.Answers.{Answers}
 use Rattle.sapper.specs.Exact.{Exact}
 use Rattle.sapper.specs.Waves.{AreForRun, TellsRun, Unwaves, Waves}
-use Rattle.sapper.proofs.Headline.{done_alone, free_status}
+use Rattle.sapper.proofs.Headline.{by_cause, done_alone}
 
 -- ---- a cause, file by file
 
@@ -190,7 +190,7 @@ unwaves words lost now answer t n a exact = λ lattice dump is.
           ((subst (λ (c : Option Words). (e : Ending) → Cause (asks_if c) t e → (answer ≡ status_of e) ⊎ ((answer ≡ 6) ⊎ (answer ≡ 7))) is exact.always) done
           (inr (ls, has, inr (w, had, refl))));
       refuses = λ ls bytes has there none no_failure no_want.
-          let caused : Cause (asks_for words) t a.ending = by_cause a.cause no_failure no_want in
+          let caused : Cause (asks_for words) t a.ending = by_cause words t answer a.ending a.status a.cause no_failure no_want in
           let (line, code, fault, ends) = first_fault lattice dump t a.ending (subst (λ (c : Option Words). Cause (asks_if c) t a.ending) is caused) ls bytes has there none in
           (a.status ∙ ap status_of ends, (line, code, fault, subst (λ (e : Ending). Gained (line_of e) lost now t n) ends a.line));
       gives_back = λ zero ls net bytes text stream has there stands told.
@@ -203,13 +203,6 @@ unwaves words lost now answer t n a exact = λ lattice dump is.
             rows_back ls other net bytes text stream w same is_read stands told,
           );
     }
-  where
-    by_cause : IsFree a.ending ⊎ Cause (asks_for words) t a.ending → answer ≢ 6 → answer ≢ 7 → Cause (asks_for words) t a.ending
-    by_cause (inl free) no_failure no_want = elim (free_status a.ending free) [
-      | inl six ↦ absurd (no_failure (a.status ∙ six))
-      | inr seven ↦ absurd (no_want (a.status ∙ seven))
-    ]
-    by_cause (inr cause) no_failure no_want = cause
 
 -- ---- between what a desk tells before and after
 

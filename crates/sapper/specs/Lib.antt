@@ -2,6 +2,7 @@ pub mod Answers
 pub mod Exact
 pub mod Headline
 pub mod Waves
+pub mod Machines
 pub mod Outside
 pub mod Lines
 pub use Rattle.sap_desk.specs.Cause

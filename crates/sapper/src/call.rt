@@ -10,6 +10,7 @@ ghost use Rattle.sap_files.specs.Ending.{failed, line_of, refused, stimulus_refu
 ghost use Rattle.sapper.specs.Exact.{Exact};
 ghost use Rattle.sapper.specs.Headline.{Headline};
 ghost use Rattle.sapper.specs.Lines.{Reports, Tells};
+ghost use Rattle.sapper.specs.Machines.{Machines};
 ghost use Rattle.sapper.specs.Outside.{Outside, FullLines};
 ghost use Rattle.sapper.specs.Waves.{Unwaves, Waves};
 ghost use Rattle.sap_files.specs.Steps.{Ends, ending, ending_of, reason, seen};
@@ -119,6 +120,7 @@ pub fn sapper<D: Desk>(alloc: Global, words: &[String], desk: &mut D) -> u8
     ensures headline { Between (D.told desk.old) (D.told desk.new) (Headline (map string_bytes words.now) result) }
     ensures waves { Between (D.told desk.old) (D.told desk.new) (Waves (map string_bytes words.now) result) }
     ensures unwaves { Between (D.told desk.old) (D.told desk.new) (Unwaves (map string_bytes words.now) (D.lost desk.old) (D.lost desk.new) result) }
+    ensures machines { Between (D.told desk.old) (D.told desk.new) (Machines (map string_bytes words.now) (D.lost desk.old) (D.lost desk.new) result) }
     ensures answers { Between (D.told desk.old) (D.told desk.new) (Answers (map string_bytes words.now) (D.lost desk.old) (D.lost desk.new) result) }
     ensures exact { IfSome (D.told desk.old) (λ t. Exact (map string_bytes words.now) t result) }
     ensures outside { (D.faults desk.new ≢ D.faults desk.old) → D.sure desk.old → Between (D.told desk.old) (D.told desk.new) (Outside (map string_bytes words.now)) }

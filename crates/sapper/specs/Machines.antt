@@ -1,0 +1,34 @@
+-- The machine. A `machine` writes the canonical text of its design. An `asm` and a `cpu` write what the texts of two assembly files give, or are refused by the
+-- line that these give.
+use Rattle.std.specs.Prelude.{◌≡◌, ◌≢◌, ℕ, List, ◌++◌, Some, Result, Ok, Err}
+use Rattle.sap_desk.specs.Desk.{Told}
+use Rattle.sap_desk.specs.Whole.{Gained}
+use Rattle.sap_show.specs.Canonical.{canonical_text}
+use Rattle.sap_machine.specs.Design.{machine_design}
+use Rattle.sap_machine.specs.Text.{asm_text, cpu_text}
+use Rattle.sap_words.specs.Words.{command_of, machine, asm, cpu}
+use Rattle.sap_files.specs.Ending.{line}
+
+-- of the answer of a `machine` and the desk before and after it: but for a failed call on the desk (6) and want of memory (7) it is done
+pub record WritesMachine (answer : ℕ) (t n : Told) : Type 0 where
+  pub only : answer ≡ 0 → n.written 1 ≡ t.written 1 ++ canonical_text machine_design
+  pub always : answer ≢ 6 → answer ≢ 7 → answer ≡ 0
+
+-- of that of a command that gives a text of two files, or the text of its refusal
+pub record GivesOfBoth (given : (x y : List ℕ) → Result (List ℕ) (List ℕ)) (first second : List ℕ) (lost lost_now answer : ℕ) (t n : Told) : Type 0 where
+  -- where it is done both files are there, and channel 1 gained what they give
+  pub only : answer ≡ 0
+      → (x : List ℕ) × (y : List ℕ) × (text : List ℕ) × (t.files first ≡ Some x) × (t.files second ≡ Some y) × (given x y ≡ Ok text) × (n.written 1 ≡ t.written 1 ++ text)
+  -- where they are there and give a text it is done, but for these two
+  pub always : (x y text : List ℕ) → t.files first ≡ Some x → t.files second ≡ Some y → given x y ≡ Ok text → answer ≢ 6 → answer ≢ 7 → answer ≡ 0
+  -- and where they give a refusal, it is told (11)
+  pub refuses : (x y why : List ℕ) → t.files first ≡ Some x → t.files second ≡ Some y → given x y ≡ Err why → answer ≢ 6 → answer ≢ 7
+      → (answer ≡ 11) × Gained (line why) lost lost_now t n
+
+-- by what the words are
+pub record Machines (words : List (List ℕ)) (lost lost_now answer : ℕ) (t n : Told) : Type 0 where
+  pub design : command_of words ≡ Some machine → WritesMachine answer t n
+  pub stimulus : (first second : List ℕ) (slices : ℕ) → command_of words ≡ Some (asm first second slices)
+      → GivesOfBoth (λ x y. asm_text x y slices) first second lost lost_now answer t n
+  pub users : (first second : List ℕ) (slices : ℕ) → command_of words ≡ Some (cpu first second slices)
+      → GivesOfBoth (λ x y. cpu_text x y slices) first second lost lost_now answer t n
