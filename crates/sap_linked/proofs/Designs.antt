@@ -5,13 +5,13 @@ use Rattle.sap_lattice.specs.Levels.{Levels, order_of}
 use Rattle.sap_meaning.specs.Program.{Program}
 use Rattle.sap_net.specs.Net.{Net}
 use Rattle.sap_resolved.specs.Fill.{program_of}
-use Rattle.sap_link.specs.Systems.{Wire, System}
+use Rattle.sap_link.specs.Systems.{Wire, System, WiresFit}
 use Rattle.sap_link.specs.Laws.{FineSystem, SizedSystem}
 use Rattle.sap_link.specs.Designs.{linked, LinkedDesignsServe}
 use Rattle.sap_linked.specs.Parts.{Part, no_part, system_of}
 use Rattle.sap_linked.specs.Linking.{IsNetOf}
-use Rattle.sap_linked.specs.Laws.{LinkedNetsStand}
-use Rattle.sap_linked.specs.Designs.{NamedDesign, part_of, trees, named_system, IsNetOfDesign, LinkedDesignsStand}
+use Rattle.sap_linked.specs.Laws.{LinkedNetIsNetlist, LinkedNetsStand}
+use Rattle.sap_linked.specs.Designs.{NamedDesign, part_of, trees, named_system, IsNetOfDesign, LinkedDesignsAreNetlists, LinkedDesignsStand}
 
 same_programs : (ls : Levels) (ds : List NamedDesign) → map (program_of ls) (trees ds) ≡ map (λ (p : Part). p.design.program) (map (part_of ls) ds)
 same_programs ls [] = refl
@@ -32,3 +32,7 @@ linked_designs_stand serve stand ls ds wires laws codes well nets named whole ea
     let same = same_system ls ds wires in
     stand (named_system ls ds wires) nets named whole codes (subst (λ (y : System). FineSystem y) same served.0) (subst (λ (y : System). SizedSystem y) same served.1)
     (λ i low. each_net ls ds i (nets i) low (λ d is. each i d is)) links
+
+pub linked_designs_are_netlists : LinkedNetIsNetlist → LinkedDesignsAreNetlists
+linked_designs_are_netlists is ls ds wires codes well fit nets each =
+    is (named_system ls ds wires) nets codes fit (subst (λ (y : System). WiresFit y) (same_system ls ds wires) well.wires_fit) (λ i low. each_net ls ds i (nets i) low (λ d is. each i d is))

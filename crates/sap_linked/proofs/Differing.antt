@@ -1,9 +1,9 @@
 -- No two inputs, wires, registers or memories of the netlist of a system have one name.
-use Rattle.std.proofs.Common.{◌≡◌, ◌⊎◌, ℕ, ◌+◌, ◌<◌, ◌≤◌, true, false, List, [], ◌∷◌, ◌++◌, length, refl, sym, ◌∙◌, ap, ap₂, subst, inl, inr, arith}
+use Rattle.std.proofs.Common.{◌≡◌, ◌⊎◌, ℕ, ◌<◌, ◌≤◌, true, List, [], ◌∷◌, ◌++◌, length, refl, sym, ◌∙◌, ap, ap₂, subst, inl, inr, arith}
 use Rattle.std.specs.List.{AllByRecursion}
 use Rattle.std.specs.Str.{byte}
-use Rattle.std.specs.Prelude.{Bool, not, suc, map}
-use Rattle.std.proofs.lemmas.Bool.{and_parts, cases_Bool, or_cases}
+use Rattle.std.specs.Prelude.{Bool, not}
+use Rattle.std.proofs.lemmas.Bool.{and_parts, cases_Bool}
 use Rattle.sap_lemmas.proofs.Lists.{length_map}
 use Rattle.sap_maps.specs.Maps.{Name}
 use Rattle.sap_lattice.specs.Codes.{width_of}
@@ -14,73 +14,68 @@ use Rattle.sap_net.specs.declared.parts.Memory.{Memory}
 use Rattle.sap_net.specs.Names.{is_among, AreDistinct}
 use Rattle.sap_net.specs.Net.{Net}
 use Rattle.sap_net.specs.IsNetlist.{first_readable, input_names, memory_names, names_of, register_names, shapes, wire_names}
-use Rattle.sap_net.proofs.NamesLemmas.{among_append, distinct_both, filter_distinct}
+use Rattle.sap_net.proofs.NamesLemmas.{distinct_both, filter_distinct}
 use Rattle.sap_net.proofs.RulesLemmas.{wires_distinct}
 use Rattle.sap_net.specs.PortNames.{value_name, tag_name}
 use Rattle.sap_net.specs.declared.parts.PortKind.TheVariants as kind
 use Rattle.sap_interface.specs.StandsFor.{Named, name, world}
-use Rattle.sap_interface.specs.Interface.{Shown, pairs_of}
 use Rattle.sap_build.specs.Copies.{copy_wire, copy_register, copy_memory}
 use Rattle.sap_build.proofs.Found.{memories_among, registers_among, wires_among}
 use Rattle.sap_link.specs.Systems.{Endpoint, endpoint, is_fed, same_endpoint, WiresFit, Connects}
 use Rattle.sap_link.specs.Systems.{Wire as SystemWire}
 use Rattle.sap_linked.specs.Parts.{Part, NamedSystem, part_at, system_of, in_part, NamesFit}
 use Rattle.sap_linked.specs.Linking.{IsNetOf}
-use Rattle.sap_linked.specs.Netlist.{copies_of, feeds}
+use Rattle.sap_linked.specs.Netlist.{copies_of, feeds, linked_net}
 use Rattle.sap_linked.specs.Laws.{InputsInOrder, AllNamesDiffer}
-use Rattle.sap_linked.specs.Interface.{input_ports, is_free, ports_in}
+use Rattle.sap_linked.specs.Interface.{is_free}
 use Rattle.sap_linked.specs.Standing.{names_of_inputs}
 use Rattle.sap_linked.proofs.Ends.{end_apart, feeds_distinct, interface_at, of_feeds, one_end, pairs_distinct, AllTo, IsEnd, IsInput}
-use Rattle.sap_linked.proofs.Families.{copies_distinct, copies_named, later, map_both, meets, named_copies, of_among, this, Suffix}
+use Rattle.sap_linked.proofs.Families.{copies_distinct, copies_named, map_both, meets, named_copies, of_among, whole_list}
 use Rattle.sap_linked.proofs.Entities.{names_of_pairs, of_pair, still_distinct}
 use Rattle.sap_linked.proofs.Linked.{design_at, design_is}
+use Rattle.sap_linked.proofs.Parted.{absent, either}
+use Rattle.sap_linked.proofs.Ports.{block_names, free_of, inputs_are, names_in}
 use Rattle.sap_linked.proofs.PartNames.{input_no_memory, input_no_register, name_long, register_no_memory, wire_no_input, wire_no_memory, wire_no_register}
 
-absent : (z : Name) (xs : List Name) → (is_among z xs ≡ true → ⊥) → is_among z xs ≡ false
-absent z xs h = elim (cases_Bool (is_among z xs)) [ inl t ↦ absurd (h t) | inr q ↦ q ]
-
 module _ (s : NamedSystem) (nets : ℕ → Net) (fit : NamesFit s) (good : WiresFit (system_of s)) (each : (i : ℕ) → i < length s.parts → IsNetOf s.order (part_at s i) (nets i)) where
-  abbrev wires_in : ℕ → List Name
+  abbrev pub wires_in : ℕ → List Name
   wires_in i = wire_names (nets i)
 
-  abbrev registers_in : ℕ → List Name
+  abbrev pub registers_in : ℕ → List Name
   registers_in i = register_names (nets i)
 
-  abbrev memories_in : ℕ → List Name
+  abbrev pub memories_in : ℕ → List Name
   memories_in i = memory_names (nets i)
 
-  whole_list : Suffix s 0 s.parts
-  whole_list = ((λ j. let same : 0 + j ≡ j = omega arith in ap (part_at s) same), (let same : 0 + length s.parts ≡ length s.parts = omega arith in same))
-
-  long : (i : ℕ) → i < length s.parts → (x : Name) → is_among x (nets i).names ≡ true → 2 ≤ length x
+  pub long : (i : ℕ) → i < length s.parts → (x : Name) → is_among x (nets i).names ≡ true → 2 ≤ length x
   long i low x h = name_long (design_at s i) (width_of s.order) (part_at s i).sites (nets i) (interface_at s nets fit each i low) x h
 
-  wires_declared : (i : ℕ) → i < length s.parts → (x : Name) → is_among x (wires_in i) ≡ true → is_among x (nets i).names ≡ true
+  pub wires_declared : (i : ℕ) → i < length s.parts → (x : Name) → is_among x (wires_in i) ≡ true → is_among x (nets i).names ≡ true
   wires_declared i low = wires_among (nets i) (each i low).netlist
 
-  registers_declared : (i : ℕ) → i < length s.parts → (x : Name) → is_among x (registers_in i) ≡ true → is_among x (nets i).names ≡ true
+  pub registers_declared : (i : ℕ) → i < length s.parts → (x : Name) → is_among x (registers_in i) ≡ true → is_among x (nets i).names ≡ true
   registers_declared i low = registers_among (nets i) (each i low).netlist
 
-  memories_declared : (i : ℕ) → i < length s.parts → (x : Name) → is_among x (memories_in i) ≡ true → is_among x (nets i).names ≡ true
+  pub memories_declared : (i : ℕ) → i < length s.parts → (x : Name) → is_among x (memories_in i) ≡ true → is_among x (nets i).names ≡ true
   memories_declared i low = memories_among (nets i) (each i low).netlist
 
-  wires_long : (i : ℕ) → i < length s.parts → (x : Name) → is_among x (wires_in i) ≡ true → 2 ≤ length x
+  pub wires_long : (i : ℕ) → i < length s.parts → (x : Name) → is_among x (wires_in i) ≡ true → 2 ≤ length x
   wires_long i low x h = long i low x (wires_declared i low x h)
 
-  registers_long : (i : ℕ) → i < length s.parts → (x : Name) → is_among x (registers_in i) ≡ true → 2 ≤ length x
+  pub registers_long : (i : ℕ) → i < length s.parts → (x : Name) → is_among x (registers_in i) ≡ true → 2 ≤ length x
   registers_long i low x h = long i low x (registers_declared i low x h)
 
-  memories_long : (i : ℕ) → i < length s.parts → (x : Name) → is_among x (memories_in i) ≡ true → 2 ≤ length x
+  pub memories_long : (i : ℕ) → i < length s.parts → (x : Name) → is_among x (memories_in i) ≡ true → 2 ≤ length x
   memories_long i low x h = long i low x (memories_declared i low x h)
 
-  is_low : (i : ℕ) → i < length (system_of s).parts → i < length s.parts
+  pub is_low : (i : ℕ) → i < length (system_of s).parts → i < length s.parts
   is_low i is = let same = length_map (λ (p : Part). p.design.program) s.parts in omega (arith, same, is)
 
-  all_inputs : (ws : List SystemWire) → AllByRecursion (Connects (system_of s)) ws → AllByRecursion (λ w. IsInput s nets fit each w.to) ws
+  pub all_inputs : (ws : List SystemWire) → AllByRecursion (Connects (system_of s)) ws → AllByRecursion (λ w. IsInput s nets fit each w.to) ws
   all_inputs [] a = tt
   all_inputs (w ∷ ws) a = (record { low = is_low w.to.part a.0.to_part; input = a.0.input }, all_inputs ws a.1)
 
-  all_to : (ws : List SystemWire) → AllByRecursion (λ w. IsInput s nets fit each w.to) ws → AllTo s nets fit each (λ e. Unit {0}) ws
+  pub all_to : (ws : List SystemWire) → AllByRecursion (λ w. IsInput s nets fit each w.to) ws → AllTo s nets fit each (λ e. Unit {0}) ws
   all_to [] a = tt
   all_to (w ∷ ws) a = ((a.0, tt), all_to ws a.1)
 
@@ -101,7 +96,7 @@ module _ (s : NamedSystem) (nets : ℕ → Net) (fit : NamesFit s) (good : Wires
     fed_apart : (z : Name) → is_among z fed ≡ true → is_among z (named_copies ns 0 s.parts) ≡ true → ⊥
     fed_apart z h k =
         end_apart s nets fit each (λ e. Unit {0}) ns declared others (λ i low x is. long i low x (declared i low x is)) 0 z
-        (of_feeds s nets fit each (λ e. Unit {0}) s.wires (all_to s.wires (all_inputs s.wires good.each)) z h) (of_among s ns 0 s.parts whole_list z k)
+        (of_feeds s nets fit each (λ e. Unit {0}) s.wires (all_to s.wires (all_inputs s.wires good.each)) z h) (of_among s ns 0 s.parts (whole_list s) z k)
 
   no_inputs_wires : (i : ℕ) → i < length s.parts → (x : Name) → is_among x (wires_in i) ≡ true → is_among x (input_names (nets i)) ≡ true → ⊥
   no_inputs_wires i low x = wire_no_input (nets i) (each i low).netlist x
@@ -114,32 +109,29 @@ module _ (s : NamedSystem) (nets : ℕ → Net) (fit : NamesFit s) (good : Wires
 
   wires_registers : (z : Name) → is_among z wires_there ≡ true → is_among z registers_there ≡ true → ⊥
   wires_registers z h k =
-      let m = meets s fit wires_in registers_in wires_long registers_long 0 0 z (of_among s wires_in 0 s.parts whole_list z h) (of_among s registers_in 0 s.parts whole_list z k) in
+      let m = meets s fit wires_in registers_in wires_long registers_long 0 0 z (of_among s wires_in 0 s.parts (whole_list s) z h) (of_among s registers_in 0 s.parts (whole_list s) z k) in
       wire_no_register (nets m.0) (each m.0 m.2).netlist m.1 m.3 m.4
 
   wires_memories : (z : Name) → is_among z wires_there ≡ true → is_among z memories_there ≡ true → ⊥
   wires_memories z h k =
-      let m = meets s fit wires_in memories_in wires_long memories_long 0 0 z (of_among s wires_in 0 s.parts whole_list z h) (of_among s memories_in 0 s.parts whole_list z k) in
+      let m = meets s fit wires_in memories_in wires_long memories_long 0 0 z (of_among s wires_in 0 s.parts (whole_list s) z h) (of_among s memories_in 0 s.parts (whole_list s) z k) in
       wire_no_memory (nets m.0) (each m.0 m.2).netlist m.1 m.3 m.4
 
   registers_memories : (z : Name) → is_among z registers_there ≡ true → is_among z memories_there ≡ true → ⊥
   registers_memories z h k =
-      let m = meets s fit registers_in memories_in registers_long memories_long 0 0 z (of_among s registers_in 0 s.parts whole_list z h) (of_among s memories_in 0 s.parts whole_list z k) in
+      let m = meets s fit registers_in memories_in registers_long memories_long 0 0 z (of_among s registers_in 0 s.parts (whole_list s) z h) (of_among s memories_in 0 s.parts (whole_list s) z k) in
       register_no_memory (nets m.0) (each m.0 m.2).netlist m.1 m.3 m.4
-
-  either : (xs ys : List Name) (z : Name) → is_among z (xs ++ ys) ≡ true → (is_among z xs ≡ true) ⊎ (is_among z ys ≡ true)
-  either xs ys z h = or_cases (is_among z xs) (is_among z ys) (sym (among_append z xs ys) ∙ h)
 
   all_wires_distinct : AreDistinct (fed ++ wires_there)
   all_wires_distinct =
       distinct_both fed wires_there (feeds_distinct s nets fit each s.wires good.once (all_inputs s.wires good.each))
-      (copies_distinct s fit wires_in wires_long (λ i low. wires_distinct (shapes (nets i)) (nets i).wires (first_readable (nets i)) (each i low).netlist.assigns) 0 s.parts whole_list)
+      (copies_distinct s fit wires_in wires_long (λ i low. wires_distinct (shapes (nets i)) (nets i).wires (first_readable (nets i)) (each i low).netlist.assigns) 0 s.parts (whole_list s))
       (λ z h. absent z wires_there (fed_apart wires_in wires_declared no_inputs_wires z h))
 
   with_registers : AreDistinct (fed ++ wires_there ++ registers_there)
   with_registers =
       distinct_both (fed ++ wires_there) registers_there all_wires_distinct
-      (copies_distinct s fit registers_in registers_long (λ i low. subst (λ (ns : List Name). AreDistinct ns) (each i low).netlist.registers_in_order (filter_distinct (λ x. is_among x (registers_in i)) (nets i).names (each i low).netlist.declared_once)) 0 s.parts whole_list)
+      (copies_distinct s fit registers_in registers_long (λ i low. subst (λ (ns : List Name). AreDistinct ns) (each i low).netlist.registers_in_order (filter_distinct (λ x. is_among x (registers_in i)) (nets i).names (each i low).netlist.declared_once)) 0 s.parts (whole_list s))
       (λ z h. absent z registers_there (λ k. elim (either fed wires_there z h) [
         | inl f ↦ fed_apart registers_in registers_declared no_inputs_registers z f k
         | inr w ↦ wires_registers z w k
@@ -148,7 +140,7 @@ module _ (s : NamedSystem) (nets : ℕ → Net) (fit : NamesFit s) (good : Wires
   with_memories : AreDistinct (fed ++ wires_there ++ registers_there ++ memories_there)
   with_memories =
       distinct_both (fed ++ wires_there ++ registers_there) memories_there with_registers
-      (copies_distinct s fit memories_in memories_long (λ i low. subst (λ (ns : List Name). AreDistinct ns) (each i low).netlist.memories_in_order (filter_distinct (λ x. is_among x (memories_in i)) (nets i).names (each i low).netlist.declared_once)) 0 s.parts whole_list)
+      (copies_distinct s fit memories_in memories_long (λ i low. subst (λ (ns : List Name). AreDistinct ns) (each i low).netlist.memories_in_order (filter_distinct (λ x. is_among x (memories_in i)) (nets i).names (each i low).netlist.declared_once)) 0 s.parts (whole_list s))
       (λ z h. absent z memories_there (λ k. elim (either (fed ++ wires_there) registers_there z h) [
         | inl f ↦ elim (either fed wires_there z f) [
           | inl g ↦ fed_apart memories_in memories_declared no_inputs_memories z g k
@@ -159,49 +151,39 @@ module _ (s : NamedSystem) (nets : ℕ → Net) (fit : NamesFit s) (good : Wires
 
   -- ---- with the free inputs
 
-  abbrev free_in : ℕ → List Name
+  abbrev pub free_in : ℕ → List Name
   free_in i = names_of_pairs (part_at s i).design kind.Input (is_free s.wires (part_at s i) i) 0 (world (part_at s i).design).entities
 
-  abbrev free_there : List Name
+  abbrev pub free_there : List Name
   free_there = named_copies free_in 0 s.parts
 
-  names_behind : (p : Part) (shown : List Shown) → map (λ (port : Shown). port.0) (ports_in p shown) ≡ map (in_part p.name) (map (λ (port : Shown). port.0) shown)
-  names_behind p [] = refl
-  names_behind p (x ∷ xs) = ap (λ (ns : List Name). in_part p.name x.0 ∷ ns) (names_behind p xs)
-
-  free_copies : (k : ℕ) (ps : List Part) → Suffix s k ps → map (λ (port : Shown). port.0) (input_ports s.wires k ps) ≡ named_copies free_in k ps
-  free_copies k [] at = refl
-  free_copies k (p ∷ ps) at =
-      let shown = pairs_of (is_free s.wires p k) kind.Input p.design 0 (world p.design).entities in
-      map_both (λ (port : Shown). port.0) (ports_in p shown) (input_ports s.wires (suc k) ps)
-      ∙ ap₂ (λ (xs ys : List Name). xs ++ ys)
-      (names_behind p shown ∙ ap (λ (q : Part). map (in_part p.name) (names_of_pairs q.design kind.Input (is_free s.wires q k) 0 (world q.design).entities)) (sym (this s k p ps at)))
-      (free_copies (suc k) ps (later s k p ps at))
+  pub inputs_there : InputsInOrder → input_names (linked_net s nets) ≡ free_there
+  inputs_there order = order s ∙ ap names_in (inputs_are s.wires 0 s.parts) ∙ block_names s (free_of s.wires) 0 s.parts (whole_list s)
 
   same_design : (i : ℕ) → i < length s.parts → design_at s i ≡ (part_at s i).design
   same_design i low = design_is s i (each i low).codes
 
-  own_pairs : (i : ℕ) → i < length s.parts → AreDistinct (names_of_inputs (part_at s i).design)
+  pub own_pairs : (i : ℕ) → i < length s.parts → AreDistinct (names_of_inputs (part_at s i).design)
   own_pairs i low = subst (λ (d : Named). AreDistinct (names_of_inputs d)) (same_design i low) (pairs_distinct s nets fit each i low)
 
-  free_distinct : (i : ℕ) → i < length s.parts → AreDistinct (free_in i)
+  pub free_distinct : (i : ℕ) → i < length s.parts → AreDistinct (free_in i)
   free_distinct i low =
       let d = (part_at s i).design in
       still_distinct d kind.Input (is_input (world d)) (is_free s.wires (part_at s i) i) (λ x is. (and_parts (is_input (world d) x) (not (is_fed s.wires (endpoint i x))) is).0) 0 (world d).entities (own_pairs i low)
 
-  pair_long : (i : ℕ) (z : Name) (x : ℕ) → (z ≡ value_name (name (part_at s i).design x)) ⊎ (z ≡ tag_name (name (part_at s i).design x)) → 2 ≤ length z
+  pub pair_long : (i : ℕ) (z : Name) (x : ℕ) → (z ≡ value_name (name (part_at s i).design x)) ⊎ (z ≡ tag_name (name (part_at s i).design x)) → 2 ≤ length z
   pair_long i z x (inl e) = let l : 2 ≤ length (value_name (name (part_at s i).design x)) = omega arith in subst (λ (n : Name). 2 ≤ length n) (sym e) l
   pair_long i z x (inr e) = let l : 2 ≤ length (tag_name (name (part_at s i).design x)) = omega arith in subst (λ (n : Name). 2 ≤ length n) (sym e) l
 
-  free_long : (i : ℕ) → i < length s.parts → (x : Name) → is_among x (free_in i) ≡ true → 2 ≤ length x
+  pub free_long : (i : ℕ) → i < length s.parts → (x : Name) → is_among x (free_in i) ≡ true → 2 ≤ length x
   free_long i low z h = let r = of_pair (part_at s i).design kind.Input (is_free s.wires (part_at s i) i) z 0 (world (part_at s i).design).entities h in pair_long i z r.0 r.2
 
-  abbrev IsUnfed : Endpoint → Type 0
+  abbrev pub IsUnfed : Endpoint → Type 0
   IsUnfed e = not (is_fed s.wires e) ≡ true
 
-  free_end : (z : Name) → is_among z free_there ≡ true → IsEnd s nets fit each IsUnfed z
+  pub free_end : (z : Name) → is_among z free_there ≡ true → IsEnd s nets fit each IsUnfed z
   free_end z h =
-      let b = of_among s free_in 0 s.parts whole_list z h in
+      let b = of_among s free_in 0 s.parts (whole_list s) z h in
       let i = b.part in
       let r = of_pair (part_at s i).design kind.Input (is_free s.wires (part_at s i) i) b.name 0 (world (part_at s i).design).entities b.is in
       let two = and_parts (is_input (world (part_at s i).design) r.0) (not (is_fed s.wires (endpoint i r.0))) r.1 in
@@ -218,11 +200,11 @@ module _ (s : NamedSystem) (nets : ℕ → Net) (fit : NamesFit s) (good : Wires
   same_self : (e : Endpoint) → same_endpoint e e ≡ true
   same_self e = grind arith
 
-  each_fed : (ws : List SystemWire) → AllByRecursion (λ w. is_fed ws w.to ≡ true) ws
+  pub each_fed : (ws : List SystemWire) → AllByRecursion (λ w. is_fed ws w.to ≡ true) ws
   each_fed [] = tt
   each_fed (w ∷ ws) = (rw (same_self w.to) refl, fed_more w ws ws (each_fed ws))
 
-  to_fed : (ws : List SystemWire) → AllByRecursion (λ w. IsInput s nets fit each w.to) ws → AllByRecursion (λ w. is_fed s.wires w.to ≡ true) ws → AllTo s nets fit each (λ e. is_fed s.wires e ≡ true) ws
+  pub to_fed : (ws : List SystemWire) → AllByRecursion (λ w. IsInput s nets fit each w.to) ws → AllByRecursion (λ w. is_fed s.wires w.to ≡ true) ws → AllTo s nets fit each (λ e. is_fed s.wires e ≡ true) ws
   to_fed [] a b = tt
   to_fed (w ∷ ws) a b = ((a.0, b.0), to_fed ws a.1 b.1)
 
@@ -240,11 +222,11 @@ module _ (s : NamedSystem) (nets : ℕ → Net) (fit : NamesFit s) (good : Wires
       (others : (i : ℕ) → i < length s.parts → (x : Name) → is_among x (ns i) ≡ true → is_among x (input_names (nets i)) ≡ true → ⊥) where
     free_apart : (z : Name) → is_among z free_there ≡ true → is_among z (named_copies ns 0 s.parts) ≡ true → ⊥
     free_apart z h k =
-        end_apart s nets fit each IsUnfed ns declared others (λ i low x is. long i low x (declared i low x is)) 0 z (free_end z h) (of_among s ns 0 s.parts whole_list z k)
+        end_apart s nets fit each IsUnfed ns declared others (λ i low x is. long i low x (declared i low x is)) 0 z (free_end z h) (of_among s ns 0 s.parts (whole_list s) z k)
 
   with_inputs : AreDistinct (free_there ++ (fed ++ wires_there ++ registers_there ++ memories_there))
   with_inputs =
-      distinct_both free_there (fed ++ wires_there ++ registers_there ++ memories_there) (copies_distinct s fit free_in free_long free_distinct 0 s.parts whole_list) with_memories
+      distinct_both free_there (fed ++ wires_there ++ registers_there ++ memories_there) (copies_distinct s fit free_in free_long free_distinct 0 s.parts (whole_list s)) with_memories
       (λ z h. absent z (fed ++ wires_there ++ registers_there ++ memories_there) (λ k. elim (either (fed ++ wires_there ++ registers_there) memories_there z k) [
         | inl a ↦ elim (either (fed ++ wires_there) registers_there z a) [
           | inl b ↦ elim (either fed wires_there z b) [
@@ -265,5 +247,5 @@ all_names_differ order s nets fit good each =
     let registers = copies_named (λ i. (nets i).registers) copy_register (λ (r : Register). r.name) (λ f r. refl) 0 s.parts in
     let memories = copies_named (λ i. (nets i).memories) copy_memory (λ (m : Memory). m.name) (λ f m. refl) 0 s.parts in
     let inner = ap₂ (λ (xs ys : List Name). xs ++ ys) (ap₂ (λ (xs ys : List Name). xs ++ ys) wires registers) memories in
-    let inputs = order s ∙ free_copies s nets fit good each 0 s.parts (whole_list s nets fit good each) in
+    let inputs = inputs_there s nets fit good each order in
     subst (λ (ns : List Name). AreDistinct ns) (sym (ap₂ (λ (xs ys : List Name). xs ++ ys) inputs inner)) (with_inputs s nets fit good each)

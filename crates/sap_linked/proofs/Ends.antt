@@ -52,7 +52,7 @@ heads e = cc
 tails : {a b : ℕ} {xs ys : Name} → a ∷ xs ≡ b ∷ ys → xs ≡ ys
 tails e = cc
 
-abbrev IsLetter : ℕ → Type 0
+abbrev pub IsLetter : ℕ → Type 0
 IsLetter c = ((c ≡ byte "v") ⊎ (c ≡ byte "t")) ⊎ IsFeedLetter c
 
 module _ (s : NamedSystem) (nets : ℕ → Net) (fit : NamesFit s) (each : (i : ℕ) → i < length s.parts → IsNetOf s.order (part_at s i) (nets i)) where
@@ -88,7 +88,7 @@ module _ (s : NamedSystem) (nets : ℕ → Net) (fit : NamesFit s) (each : (i : 
       | inr unlike ↦ elim unlike [ inl less ↦ absurd (apart_entities x z is other e less) | inr more ↦ absurd (apart_entities z x other is (sym e) more) ]
     ]
 
-  abbrev end_name : ℕ → Endpoint → Name
+  abbrev pub end_name : ℕ → Endpoint → Name
   end_name c e = in_part (part_at s e.part).name (c ∷ (byte "_" ∷ name (part_at s e.part).design e.entity))
 
   -- an input of a part

@@ -1,5 +1,6 @@
 -- The names of the inputs of a design differ.
 use Rattle.std.proofs.Common.{◌≡◌, ◌⊎◌, ℕ, zero, suc, ◌+◌, ◌<◌, Bool, true, false, List, [], ◌∷◌, map, get_or, length, refl, sym, ◌∙◌, ap, subst, inl, inr, arith}
+use Rattle.std.specs.List.{AllByRecursion}
 use Rattle.std.specs.Str.{bytes_eq}
 use Rattle.std.proofs.lemmas.Bool.{cases_Bool, or_cases, or_right}
 use Rattle.sap_lemmas.proofs.Bools.{neither_right}
@@ -12,6 +13,7 @@ use Rattle.sap_net.specs.PortNames.{value_name, tag_name}
 use Rattle.sap_net.proofs.NamesLemmas.{among_behind, among_here}
 use Rattle.sap_interface.specs.StandsFor.{Named, name}
 use Rattle.sap_interface.specs.Interface.{Shown, pairs_of}
+use Rattle.sap_linked.proofs.Parted.{contradicted}
 
 pub input_low : (es : List Entity) (x : ℕ) → kind_is_input (get_or es x nothing).kind ≡ true → x < length es
 input_low [] zero is = cc
@@ -27,9 +29,6 @@ compared (suc x) (suc y) = elim (compared x y) [
   | inl e ↦ inl (ap suc e)
   | inr s ↦ elim s [ inl l ↦ inr (inl (omega (arith, l))) | inr g ↦ inr (inr (omega (arith, g))) ]
 ]
-
-contradicted : (b : Bool) → b ≡ false → b ≡ true → ⊥
-contradicted b lacks has = cc
 
 module _ (d : Named) (k : PortKind) where
   abbrev pub names_of_pairs : (ℕ → Bool) → ℕ → List Entity → List Name
@@ -129,3 +128,13 @@ module _ (d : Named) (k : PortKind) where
             ]
         | inr q ↦ of_pair picks z (n + 1) es (rw q at h)
       ]
+
+-- what holds of the names of each input of a design holds of all
+pub of_pairs : (Q : Name → Type 0) (picks : ℕ → Bool) (k : PortKind) (d : Named) → ((x : ℕ) → picks x ≡ true → Q (value_name (name d x)) × Q (tag_name (name d x))) → (n : ℕ) (es : List Entity)
+    → AllByRecursion Q (map (λ (p : Shown). p.0) (pairs_of picks k d n es))
+of_pairs Q picks k d h n [] = tt
+of_pairs Q picks k d h n (e ∷ es) =
+    elim (cases_Bool (picks n)) [
+      | inl t ↦ rw t ((h n t).0, ((h n t).1, of_pairs Q picks k d h (n + 1) es))
+      | inr q ↦ rw q (of_pairs Q picks k d h (n + 1) es)
+    ]

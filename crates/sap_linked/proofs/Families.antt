@@ -5,10 +5,12 @@ use Rattle.std.proofs.lemmas.Bool.{cases_Bool, or_cases}
 use Rattle.sap_lemmas.proofs.Texts.{equal_of_bytes_eq}
 use Rattle.sap_maps.specs.Maps.{Name}
 use Rattle.sap_net.specs.Names.{is_among, AreDistinct}
-use Rattle.sap_net.proofs.NamesLemmas.{among_append, among_behind, among_here, distinct_both}
+use Rattle.sap_net.proofs.NamesLemmas.{among_append, among_behind, among_front, among_here, distinct_both}
+use Rattle.sap_build.proofs.Copied.{among_copied}
 use Rattle.sap_linked.specs.Parts.{Part, NamedSystem, no_part, part_at, in_part, NamesFit}
 use Rattle.sap_linked.specs.Netlist.{copies_of}
 use Rattle.sap_linked.proofs.Apart.{stay_apart}
+use Rattle.sap_linked.proofs.Entities.{compared}
 
 abbrev pub named_copies : (ns : ℕ → List Name) → ℕ → List Part → List Name
 named_copies ns k [] = []
@@ -39,7 +41,7 @@ pub record Behind (s : NamedSystem) (ns : ℕ → List Name) (k : ℕ) (z : Name
   pub is : is_among name (ns part) ≡ true
   pub behind : z ≡ in_part (part_at s part).name name
 
-of_map : (f : Name → Name) (xs : List Name) (z : Name) → is_among z (map f xs) ≡ true → (x : Name) × (is_among x xs ≡ true) × (z ≡ f x)
+pub of_map : (f : Name → Name) (xs : List Name) (z : Name) → is_among z (map f xs) ≡ true → (x : Name) × (is_among x xs ≡ true) × (z ≡ f x)
 of_map f [] z h = absurd (cc)
 of_map f (x ∷ xs) z h =
     elim (cases_Bool (bytes_eq z (f x))) [
@@ -53,6 +55,9 @@ Suffix s k ps = ((j : ℕ) → part_at s (k + j) ≡ get_or ps j (no_part s.orde
 module _ (s : NamedSystem) where
   no_more : (n : ℕ) → n + 0 ≡ n
   no_more n = omega arith
+
+  pub whole_list : Suffix s 0 s.parts
+  whole_list = ((λ j. let same : 0 + j ≡ j = omega arith in ap (part_at s) same), (let same : 0 + length s.parts ≡ length s.parts = omega arith in same))
 
   pub later : (k : ℕ) (p : Part) (ps : List Part) → Suffix s k (p ∷ ps) → Suffix s (suc k) ps
   later k p ps at = (
@@ -81,6 +86,24 @@ module _ (s : NamedSystem) where
             let b = of_among ns (suc k) ps (later k p ps at) z t in
             record { part = b.part; from = let f = b.from in omega (arith, f); low = b.low; name = b.name; is = b.is; behind = b.behind }
       ]
+
+  -- what part i has stands among all
+  pub among_copies : (ns : ℕ → List Name) (k : ℕ) (ps : List Part) → Suffix s k ps → (i : ℕ) → k ≤ i → i < length s.parts → (x : Name) → is_among x (ns i) ≡ true
+      → is_among (in_part (part_at s i).name x) (named_copies ns k ps) ≡ true
+  among_copies ns k [] at i from low x h = absurd (let e = at.1 in omega (arith, e, from, low))
+  among_copies ns k (p ∷ ps) at i from low x h = elim (compared k i) [
+    | inl e ↦
+        let here : is_among (in_part p.name x) (map (in_part p.name) (ns k)) ≡ true = among_copied (in_part p.name) x (ns k) (subst (λ (j : ℕ). is_among x (ns j) ≡ true) (sym e) h) in
+        subst (λ (j : ℕ). is_among (in_part (part_at s j).name x) (named_copies ns k (p ∷ ps)) ≡ true) e
+        (subst (λ (q : Part). is_among (in_part q.name x) (named_copies ns k (p ∷ ps)) ≡ true) (sym (this k p ps at))
+        (among_front (in_part p.name x) (map (in_part p.name) (ns k)) (named_copies ns (suc k) ps) here))
+    | inr unlike ↦ elim unlike [
+      | inl less ↦
+          among_behind (in_part (part_at s i).name x) (map (in_part p.name) (ns k)) (named_copies ns (suc k) ps)
+          (among_copies ns (suc k) ps (later k p ps at) i (omega (arith, less)) low x h)
+      | inr more ↦ absurd (omega (arith, more, from))
+    ]
+  ]
 
   module _ (fit : NamesFit s) where
     abbrev Long : (ℕ → List Name) → Type 0

@@ -21,16 +21,16 @@ use Rattle.sap_link.specs.Systems.{inputs_from, inputs_in}
 use Rattle.sap_linked.specs.Standing.{names_of_inputs}
 
 -- the names of ports that are inputs
-abbrev inputs_among : List Shown → List Name
+abbrev pub inputs_among : List Shown → List Name
 inputs_among [] = []
 inputs_among (p ∷ ps) = if is_input_port p.1 then p.0 ∷ inputs_among ps else inputs_among ps
 
-of_ports : (ps : List Port) → map (λ (p : Port). p.name) (filter (λ p. is_input_port p.kind) ps) ≡ inputs_among (map (λ p. (p.name, p.kind)) ps)
+pub of_ports : (ps : List Port) → map (λ (p : Port). p.name) (filter (λ p. is_input_port p.kind) ps) ≡ inputs_among (map (λ p. (p.name, p.kind)) ps)
 of_ports [] = refl
 of_ports (p ∷ ps) =
     elim (cases_Bool (is_input_port p.kind)) [ inl t ↦ rw t (ap (λ (xs : List Name). p.name ∷ xs) (of_ports ps)) | inr q ↦ rw q (of_ports ps) ]
 
-of_both : (xs ys : List Shown) → inputs_among (xs ++ ys) ≡ inputs_among xs ++ inputs_among ys
+pub of_both : (xs ys : List Shown) → inputs_among (xs ++ ys) ≡ inputs_among xs ++ inputs_among ys
 of_both [] ys = refl
 of_both (x ∷ xs) ys =
     elim (cases_Bool (is_input_port x.1)) [ inl t ↦ rw t (ap (λ (zs : List Name). x.0 ∷ zs) (of_both xs ys)) | inr q ↦ rw q (of_both xs ys) ]

@@ -76,12 +76,9 @@ keywords_whole = (refl, (refl, (refl, (refl, (refl, (refl, (refl, (refl, (refl, 
 not_true : (b : Bool) → b ≡ false → not b ≡ true
 not_true b h = rw h refl
 
-in_part_named : (part x : Name) → list_all is_inner part ≡ true → 2 ≤ length x → is_name x ≡ true → is_name (in_part part x) ≡ true
+pub in_part_named : (part : Name) (a b : ℕ) (x : Name) → list_all is_inner part ≡ true → is_word (a ∷ (b ∷ x)) ≡ true → is_name (in_part part (a ∷ (b ∷ x))) ≡ true
 unfolding is_name
-in_part_named part [] inner long named = absurd (omega (arith, long))
-in_part_named part (a ∷ []) inner long named = absurd (omega (arith, long))
-in_part_named part (a ∷ (b ∷ x)) inner long named =
-    let word = (and_parts (is_word (a ∷ (b ∷ x))) (not (is_keyword (a ∷ (b ∷ x)))) named).0 in
+in_part_named part a b x inner word =
     let first = and_parts (is_initial a) (is_inner b && list_all is_inner x) word in
     let second = and_parts (is_inner b) (list_all is_inner x) first.1 in
     let z = part ++ (codes "_" ++ x) in
@@ -91,6 +88,12 @@ in_part_named part (a ∷ (b ∷ x)) inner long named =
     (and_from (is_initial a) (is_inner b && list_all is_inner z) first.0 (and_from (is_inner b) (list_all is_inner z) second.0 rest))
     (not_true (is_keyword (a ∷ (b ∷ z))) (no_keyword (a ∷ (b ∷ z)) keywords keywords_whole under))
 
+long_named : (part x : Name) → list_all is_inner part ≡ true → 2 ≤ length x → is_name x ≡ true → is_name (in_part part x) ≡ true
+unfolding is_name
+long_named part [] inner long named = absurd (omega (arith, long))
+long_named part (a ∷ []) inner long named = absurd (omega (arith, long))
+long_named part (a ∷ (b ∷ x)) inner long named = in_part_named part a b x inner (and_parts (is_word (a ∷ (b ∷ x))) (not (is_keyword (a ∷ (b ∷ x)))) named).0
+
 pub parts_keep_apart : PartsKeepApart
 parts_keep_apart part d tag sites n none inner rules interface =
     let long = among_each (λ x. IsInterfaceName d sites x ⊎ IsHelpingName x) n.names interface.names in
@@ -98,5 +101,5 @@ parts_keep_apart part d tag sites n none inner rules interface =
       apart = λ x y hx hy e. (stay_apart part part x y none none (either_long d sites x (long x hx)) (either_long d sites y (long y hy)) e).1;
       named =
           both (λ (x : Name). IsInterfaceName d sites x ⊎ IsHelpingName x) (λ x. is_name x ≡ true) (λ x. is_name (in_part part x) ≡ true) n.names
-          (λ x is named. in_part_named part x inner (either_long d sites x is) named) interface.names rules.named;
+          (λ x is named. long_named part x inner (either_long d sites x is) named) interface.names rules.named;
     }

@@ -48,7 +48,7 @@ unclocked_wires : (n : Net) (ws : List Wire) (sc : Scope) → AreWires (shapes n
 unclocked_wires n [] sc a h = tt
 unclocked_wires n (w ∷ ws) sc a h = (h w.name a.1, unclocked_wires n ws ((w.name, w.width) ∷ sc) a.4 (λ x none. h x (not_behind (w.name, w.width) sc x none)))
 
-wires_read : (ms : Shapes) (ws : List Wire) (sc : Scope) → AreWires ms sc ws → AllByRecursion (λ w. find (readable_after sc ws) w.name ≡ Some w.width) ws
+pub wires_read : (ms : Shapes) (ws : List Wire) (sc : Scope) → AreWires ms sc ws → AllByRecursion (λ w. find (readable_after sc ws) w.name ≡ Some w.width) ws
 wires_read ms [] sc a = tt
 wires_read ms (w ∷ ws) sc a = (
   readable_kept ms ws ((w.name, w.width) ∷ sc) a.4 w.name w.width (found_here w.name w.width sc),

@@ -10,9 +10,10 @@ use Rattle.sap_net.specs.IsNetlist.{IsNetlist}
 use Rattle.sap_interface.specs.Designs.{named_of, site_count_of, StandsForDesign, StartsAsDesign}
 use Rattle.sap_link.specs.Systems.{Wire}
 use Rattle.sap_link.specs.Designs.{WellLinked}
-use Rattle.sap_linked.specs.Parts.{Part, NamedSystem}
+use Rattle.sap_linked.specs.Parts.{Part, NamedSystem, NamesFit}
 use Rattle.sap_linked.specs.Linking.{LinksParts}
 use Rattle.sap_linked.specs.Standing.{RunsStand}
+use Rattle.sap_linked.specs.Netlist.{linked_net}
 
 -- a design under the name of a part
 pub record NamedDesign : Type 0 where
@@ -41,3 +42,10 @@ LinkedDesignsStand =
     → let s = named_system ls designs wires in
     (nets : ℕ → Net) (named : ℕ → Name → Name) (whole : Net) → ((i : ℕ) (d : NamedDesign) → slice_get designs i ≡ Some d → IsNetOfDesign ls d.design (nets i))
     → LinksParts s nets named whole → RunsStand s whole
+
+-- And the netlist of a system of designs, whose names fit, with wires that break no rule, is a netlist.
+abbrev pub LinkedDesignsAreNetlists : Type 0
+LinkedDesignsAreNetlists =
+    (ls : Levels) (designs : List NamedDesign) (wires : List Wire) → Codes (order_of ls) → WellLinked ls (trees designs) wires
+    → let s = named_system ls designs wires in
+    NamesFit s → (nets : ℕ → Net) → ((i : ℕ) (d : NamedDesign) → slice_get designs i ≡ Some d → IsNetOfDesign ls d.design (nets i)) → IsNetlist (linked_net s nets)

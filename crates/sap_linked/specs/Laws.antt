@@ -61,14 +61,14 @@ LinkedNetDeclares =
     (s : NamedSystem) (nets : ℕ → Net) → ((i : ℕ) → i < length s.parts → IsNetOf s.order (part_at s i) (nets i)) → IsNetlist (linked_net s nets)
     → DeclaresSystem s (without_fed s (linked_net s nets))
 
--- It is a netlist, where names of parts and wires break no rule.
-abbrev pub LinkedNetIsNetlist : Type 0
-LinkedNetIsNetlist =
-    (s : NamedSystem) (nets : ℕ → Net) → Codes s.order → SizedSystem (system_of s) → NamesFit s → WiresFit (system_of s)
-    → ((i : ℕ) → i < length s.parts → IsNetOf s.order (part_at s i) (nets i)) → IsNetlist (linked_net s nets)
-
 -- Where the names of parts and the wires break no rule, no two inputs, wires, registers or memories of the netlist of a system have one name.
 abbrev pub AllNamesDiffer : Type 0
 AllNamesDiffer =
     (s : NamedSystem) (nets : ℕ → Net) → NamesFit s → WiresFit (system_of s) → ((i : ℕ) → i < length s.parts → IsNetOf s.order (part_at s i) (nets i))
     → AreDistinct (input_names (linked_net s nets) ++ inner_names s nets)
+
+-- So the netlist of a system is a netlist, as each part's is.
+abbrev pub LinkedNetIsNetlist : Type 0
+LinkedNetIsNetlist =
+    (s : NamedSystem) (nets : ℕ → Net) → Codes s.order → NamesFit s → WiresFit (system_of s) → ((i : ℕ) → i < length s.parts → IsNetOf s.order (part_at s i) (nets i))
+    → IsNetlist (linked_net s nets)

@@ -1,5 +1,5 @@
 -- What a netlist keeps that links the netlists of parts, each whole under names of its own.
-use Rattle.std.specs.Prelude.{◌≡◌, ◌<◌, ℕ, true, List, [], ◌∷◌, length, ◌==◌, if◌then◌else◌, Option, Some, None, bit_or}
+use Rattle.std.specs.Prelude.{◌≡◌, ◌<◌, ℕ, List, [], ◌∷◌, length, ◌==◌, if◌then◌else◌, Option, Some, None, bit_or}
 use Rattle.std.specs.List.{AllByRecursion}
 use Rattle.sap_maps.specs.Maps.{Name, Valuation}
 use Rattle.sap_lattice.specs.Order.{Order}

@@ -1,7 +1,7 @@
 //! What holds of every netlist that links the netlists of parts.
 
-ghost use Rattle.sap_linked.specs.Laws.{NamesStayApart, PartsKeepApart, InputsInOrder, LinkedNetsStand, PartsDeclare, LinkedNetLinks, LinkedNetDeclares, AllNamesDiffer};
-ghost use Rattle.sap_linked.specs.Designs.{LinkedDesignsStand};
+ghost use Rattle.sap_linked.specs.Laws.{NamesStayApart, PartsKeepApart, InputsInOrder, LinkedNetsStand, PartsDeclare, LinkedNetLinks, LinkedNetDeclares, AllNamesDiffer, LinkedNetIsNetlist};
+ghost use Rattle.sap_linked.specs.Designs.{LinkedDesignsStand, LinkedDesignsAreNetlists};
 
 /// Names of parts stay apart in the module of their system, and so do those of each part's netlist.
 pub fn names_stay_apart()
@@ -38,8 +38,8 @@ pub fn parts_declare()
     ensures { PartsDeclare }
 {}
 
-/// The netlist of a system, where it keeps the rules of netlists, links the netlists of the parts, and declares the ports,
-/// inputs, registers, memories and wires of the system's interface.
+/// The netlist of a system, where it keeps the rules of netlists, links the netlists of the parts, and without the ports of what
+/// feeds inputs it declares the ports, inputs, registers, memories and wires of the system's interface.
 pub fn linked_net_links()
     ensures links { LinkedNetLinks }
     ensures declares { LinkedNetDeclares }
@@ -50,4 +50,13 @@ pub fn all_names_differ()
     ensures { AllNamesDiffer }
 {
     inputs_in_order()
+}
+
+/// Where the names of parts and the wires break no rule, the netlist of a system keeps the rules of netlists, and so does that
+/// of a system of well-formed designs over any lattice.
+pub fn linked_net_is_netlist()
+    ensures all { LinkedNetIsNetlist }
+    ensures designs { LinkedDesignsAreNetlists }
+{
+    sap_build::laws::copies_are_netlists()
 }
