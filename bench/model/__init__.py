@@ -22,4 +22,11 @@ Beside it stands a model of modules and of dumps, after docs/MODULES.md and docs
     wave_table, compare_waves, converted
                             three scripts: the model on what was worked out by hand, the program beside the model, dumps through GTKWave's converters
     measured                the designs whose modules are measured
+
+And of the time-sliced machine, after docs/COMMANDS.md:
+
+    programs                assembly, the instruction table, slices, and the texts of two programs
+    random_programs         programs and streams of words drawn at random
+    program_table, compare_programs
+                            two scripts: the model on what was worked out by hand, the program beside the model
 """
