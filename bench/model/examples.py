@@ -10,6 +10,7 @@ import sys
 
 from .design import design_of
 from .lattice import lattice_of
+from .programs import stimulus_text, words_of
 from .streams import first_difference, stream_of
 from .texts import report, rows_and_trace
 from .tokens import Fault
@@ -23,7 +24,11 @@ TWINS = (
     ("bus", "requests", "one", "open", "b", "streams: cycle 1 input a_asks"),
     ("bus", "slots", "one", "other", "b", None),
     ("processor", "kernel", "one", "other", "b", None),
+    ("machine", "machine", "one", "other", "b", None),
+    ("machine", "machine", "one", "other", "a", "streams: cycle 1 input wa"),
 )
+# Stimuli of examples/machine, each with its two programs, and their slices.
+STIMULI = (("one", ("multiply", "pry"), 20), ("other", ("count", "pry"), 20))
 # The lattice of the examples of faults.
 LATTICE = 'levels = ["low", "high"]\nbelow = [["low", "high"]]\n'
 # E18 is of limits, of which the model knows nothing.
@@ -66,6 +71,13 @@ def wrong_twins(top):
     return len(TWINS), wrong
 
 
+def wrong_stimuli(top):
+    """The stimuli of two programs."""
+    folder = os.path.join(top, "examples", "machine")
+    said = [(name, stimulus_text([words_of(held(folder, f"{one}.asm")) for one in programs], slices)) for name, programs, slices in STIMULI]
+    return len(said), [f"{name}.txt of {folder} isn't what the model says" for name, text in said if held(folder, f"{name}.txt") != text]
+
+
 def wrong_codes(top):
     """The example of each code of a design in docs/FAULTS.md."""
     sections = re.findall(r"### (E\d+):.*?\nExample:\n\n((?:    [^\n]*\n)+)", held(top, "docs", "FAULTS.md"), re.DOTALL)
@@ -85,11 +97,12 @@ def code_of(text):
 def main(top):
     files, wrong_by_file = wrong_files(top)
     twins, wrong_by_twin = wrong_twins(top)
+    stimuli, wrong_by_stimulus = wrong_stimuli(top)
     codes, wrong_by_code = wrong_codes(top)
-    wrong = wrong_by_file + wrong_by_twin + wrong_by_code
+    wrong = wrong_by_file + wrong_by_twin + wrong_by_stimulus + wrong_by_code
     for what in wrong:
         print(what)
-    print(f"the examples' rows and traces by the model: {files} files, {twins} pairs of streams, {codes} codes of faults; {len(wrong) or 'none'} wrong")
+    print(f"the examples' rows and traces by the model: {files} files, {twins} pairs of streams, {stimuli} stimuli of programs, {codes} codes of faults; {len(wrong) or 'none'} wrong")
     return bool(wrong) or 0 in (files, codes)
 
 
