@@ -1,0 +1,1 @@
+agree at b for 137 cycles
