@@ -17,10 +17,10 @@ same_programs : (ls : Levels) (ds : List NamedDesign) → map (program_of ls) (t
 same_programs ls [] = refl
 same_programs ls (d ∷ ds) = ap (λ (ps : List Program). program_of ls d.design ∷ ps) (same_programs ls ds)
 
-same_system : (ls : Levels) (ds : List NamedDesign) (wires : List Wire) → linked ls (trees ds) wires ≡ system_of (named_system ls ds wires)
+pub same_system : (ls : Levels) (ds : List NamedDesign) (wires : List Wire) → linked ls (trees ds) wires ≡ system_of (named_system ls ds wires)
 same_system ls ds wires = ap (λ (ps : List Program). record { order = order_of ls; parts = ps; wires = wires }) (same_programs ls ds)
 
-each_net : (ls : Levels) (ds : List NamedDesign) (i : ℕ) (n : Net) → i < length (map (part_of ls) ds) → ((d : NamedDesign) → slice_get ds i ≡ Some d → IsNetOfDesign ls d.design n)
+pub each_net : (ls : Levels) (ds : List NamedDesign) (i : ℕ) (n : Net) → i < length (map (part_of ls) ds) → ((d : NamedDesign) → slice_get ds i ≡ Some d → IsNetOfDesign ls d.design n)
     → IsNetOf (order_of ls) (get_or (map (part_of ls) ds) i (no_part (order_of ls))) n
 each_net ls [] i n low is = absurd (omega arith)
 each_net ls (d ∷ ds) zero n low is = let net = is d refl in record { codes = refl; netlist = net.netlist; stands = net.stands; starts = net.starts }

@@ -1,21 +1,21 @@
 mod Apart
 mod Keeping
-mod Reading
-mod Alike
+pub mod Reading
+pub mod Alike
 mod Cycles
 mod Fed
 mod Inputs
-mod Order
+pub mod Order
 mod Linked
-mod Own
-mod Parted
-mod Entities
+pub mod Own
+pub mod Parted
+pub mod Entities
 mod EachInput
 mod SideBySide
-mod Families
+pub mod Families
 mod PartNames
 mod Ends
-mod Ports
+pub mod Ports
 mod Differing
 mod Wider
 mod Showing
@@ -27,5 +27,5 @@ mod InOrder
 mod Rules
 mod Declared
 mod Declaring
-mod Designs
+pub mod Designs
 mod Computed

@@ -1,0 +1,6 @@
+mod Entries
+mod Held
+mod Fewer
+mod Carried
+mod Standing
+mod Designs
