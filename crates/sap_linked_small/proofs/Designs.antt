@@ -1,6 +1,5 @@
 -- So it is for systems of designs.
-use Rattle.std.proofs.Common.{◌≡◌, ℕ, List, subst}
-use Rattle.sap_lattice.specs.Levels.{Levels}
+use Rattle.std.proofs.Common.{subst}
 use Rattle.sap_link.specs.Systems.{System}
 use Rattle.sap_link.specs.Laws.{FineSystem, SizedSystem}
 use Rattle.sap_link.specs.Designs.{LinkedDesignsServe}

@@ -1,12 +1,12 @@
 -- A netlist without the ports of what feeds inputs: its rules and its runs.
-use Rattle.std.proofs.Common.{◌≡◌, ℕ, zero, suc, true, false, ◌<◌, List, [], ◌∷◌, ◌++◌, map, filter, length, take, Option, Some, None, refl, sym, ◌∙◌, ap, ap₂, subst, inl, inr}
+use Rattle.std.proofs.Common.{◌≡◌, ℕ, zero, suc, false, List, [], ◌∷◌, ◌++◌, map, filter, length, take, Option, Some, None, refl, sym, ◌∙◌, ap, ap₂, subst, inl, inr}
 use Rattle.std.specs.List.{AllByRecursion}
 use Rattle.std.proofs.lemmas.Bool.{cases_Bool}
 use Rattle.sap_maps.specs.Maps.{Name, Valuation}
 use Rattle.sap_net.specs.declared.parts.PortKind.TheVariants as kind
 use Rattle.sap_net.specs.declared.parts.Port.{Port}
 use Rattle.sap_net.specs.Net.{Net}
-use Rattle.sap_net.specs.IsNetlist.{input_names, is_input, IsNetlist, PortShows}
+use Rattle.sap_net.specs.IsNetlist.{is_input, IsNetlist, PortShows}
 use Rattle.sap_net.specs.Runs.{IsCycle, IsRunAfter}
 use Rattle.sap_interface.specs.StandsFor.{world}
 use Rattle.sap_interface.specs.Interface.{Shown}

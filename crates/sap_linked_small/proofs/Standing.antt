@@ -1,11 +1,11 @@
 -- A netlist of which the same is seen as of the netlist of a system stands for it.
-use Rattle.std.proofs.Common.{◌≡◌, ◌<◌, ℕ, true, List, [], ◌∷◌, map, length, Some, None, refl, sym, ◌∙◌, ap, ap₂, subst}
+use Rattle.std.proofs.Common.{◌≡◌, ◌<◌, ℕ, List, [], ◌∷◌, map, length, Some, None, refl, sym, ◌∙◌, ap₂, subst}
 use Rattle.std.specs.Prelude.{◌↔◌}
 use Rattle.std.specs.List.{AllByRecursion, AllZip}
 use Rattle.sap_lemmas.proofs.Everywhere.{all_follow, all_of_map}
 use Rattle.sap_maps.specs.Maps.{Name, Valuation}
 use Rattle.sap_maps.specs.Scope.{find}
-use Rattle.sap_lattice.specs.Codes.{code_of, width_of, Codes}
+use Rattle.sap_lattice.specs.Codes.{code_of, width_of}
 use Rattle.sap_meaning.specs.Program.{is_input}
 use Rattle.sap_meaning.specs.Cycle.{Tagged}
 use Rattle.sap_meaning.specs.Store.{After, Refusal, Store}
@@ -16,21 +16,18 @@ use Rattle.sap_net.specs.declared.parts.Register.{Register}
 use Rattle.sap_net.specs.declared.parts.Memory.{Memory}
 use Rattle.sap_net.specs.Net.{Net}
 use Rattle.sap_net.specs.IsNetlist.{IsNetlist}
-use Rattle.sap_net.specs.Runs.{AllFit, IsRun, observed}
-use Rattle.sap_net.specs.PortNames.{value_name, tag_name, refused_name, refused_level_name, root_seat}
+use Rattle.sap_net.specs.Runs.{AllFit, observed}
 use Rattle.sap_net.proofs.Exists.{run_exists}
-use Rattle.sap_interface.specs.StandsFor.{IsRefused, Named, name, world, StandsFor}
+use Rattle.sap_interface.specs.StandsFor.{IsRefused, Named, world, StandsFor}
 use Rattle.sap_interface.specs.Interface.{Shown, declared_by, DeclaresPart}
 use Rattle.sap_interface.specs.Compiled.{coded_stream, CyclesStand}
 use Rattle.sap_build.specs.Copies.{through}
 use Rattle.sap_trim.specs.Alike.{ShowsAlike}
-use Rattle.sap_link.specs.Composites.{composite_run, first_states, run_of_part, stream_of_part, StreamFits}
-use Rattle.sap_link.specs.Laws.{FineSystem, SizedSystem}
-use Rattle.sap_linked.specs.Parts.{NamedSystem, part_at, system_of, in_part, NamesFit}
-use Rattle.sap_linked.specs.Linking.{IsNetOf}
+use Rattle.sap_link.specs.Composites.{composite_run, run_of_part, StreamFits}
+use Rattle.sap_linked.specs.Parts.{NamedSystem, part_at, system_of, in_part}
 use Rattle.sap_linked.specs.Interface.{DeclaresSystem}
 use Rattle.sap_linked.specs.Netlist.{held_ports, linked_net, without_fed}
-use Rattle.sap_linked.specs.Standing.{names_of_inputs, NetStandsForSystem, PartStands, RunsStand}
+use Rattle.sap_linked.specs.Standing.{names_of_inputs, RunsStand}
 use Rattle.sap_linked.specs.Laws.{LinkedNetDeclares, LinkedNetIsNetlist, LinkedNetLinks, LinkedNetsStand}
 use Rattle.sap_linked.proofs.Entities.{of_pairs}
 use Rattle.sap_linked.proofs.Reading.{at_name}
@@ -152,7 +149,7 @@ small_nets_stand stand links declare keep s nets small codes fine sized fit each
     let runs = stand s nets (λ i. in_part (part_at s i).name) (linked_net s nets) codes fine sized each (links s nets each before) in (
       fewer_rules s small is.declares.ports is.netlist,
       record {
-        interface = small_interface s nets small before is.netlist is.declares declares is.helping;
+        interface = small_interface s nets small before is.netlist is.declares declares is.wires;
         runs = small_runs s nets small declares before is runs;
       },
     )

@@ -1,14 +1,12 @@
 -- The law of netlists of which the same is seen as of the netlist of a system.
 use Rattle.std.specs.Prelude.{◌≡◌, ◌<◌, ℕ, List, Some, length, slice_get}
-use Rattle.std.specs.List.{AllByRecursion}
 use Rattle.sap_lattice.specs.Order.{Laws}
 use Rattle.sap_lattice.specs.Levels.{Levels, order_of}
 use Rattle.sap_lattice.specs.Codes.{Codes}
-use Rattle.sap_net.specs.Names.{IsHelpingName}
 use Rattle.sap_net.specs.Net.{Net}
 use Rattle.sap_net.specs.IsNetlist.{IsNetlist}
 use Rattle.sap_trim.specs.Alike.{DeclaresAlike, RunsAlike}
-use Rattle.sap_trim.specs.Names.{helping_wires}
+use Rattle.sap_trim.specs.Trimmed.{NamesWires}
 use Rattle.sap_link.specs.Systems.{Wire}
 use Rattle.sap_link.specs.Laws.{FineSystem, SizedSystem}
 use Rattle.sap_link.specs.Designs.{WellLinked}
@@ -18,12 +16,12 @@ use Rattle.sap_linked.specs.Netlist.{linked_net, without_fed}
 use Rattle.sap_linked.specs.Standing.{NetStandsForSystem}
 use Rattle.sap_linked.specs.Designs.{NamedDesign, trees, named_system, IsNetOfDesign}
 
--- The small netlist declares what the given one does, and in its runs shows the same; its other wires have helping names.
+-- The small netlist declares what the given one does and shows the same in its runs; its wires that are no ports have helping names.
 pub record IsSmall (given small : Net) : Type 0 where
   pub netlist : IsNetlist small
   pub declares : DeclaresAlike given small
   pub runs : RunsAlike given small
-  pub helping : AllByRecursion (λ w. IsHelpingName w.name) (helping_wires small)
+  pub wires : NamesWires small
 
 -- Such a netlist of a system is a netlist that stands for the system, without the ports of what feeds inputs.
 abbrev pub SmallNetsStand : Type 0
