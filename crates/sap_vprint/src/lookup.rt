@@ -174,10 +174,40 @@ fn memory(netlist: &Netlist, name: &Name, hints: &mut Hints) -> Option<Entity>
     })
 }
 
+/// Whether a list has the name at a place.
+fn stands_at<T: Named>(list: &[T], name: &Name, at: usize) -> bool {
+    match list.get(at) {
+        Some(x) => x.name().same(name),
+        None => false,
+    }
+}
+
+/// What the netlist has under the name, if that stands next on a list.
+fn next(netlist: &Netlist, name: &Name, hints: &mut Hints) -> Option<Entity>
+    ensures { IfSome result (λ x. find (entities netlist.now) name.now ≡ Some (shape_of x)) }
+{
+    if stands_at(netlist.wires(), name, hints.wire) {
+        return wire(netlist, name, hints);
+    }
+    if stands_at(netlist.registers(), name, hints.register) {
+        return register(netlist, name, hints);
+    }
+    if stands_at(netlist.inputs(), name, hints.input) {
+        return input(netlist, name, hints);
+    }
+    if stands_at(netlist.memories(), name, hints.memory) {
+        return memory(netlist, name, hints);
+    }
+    None
+}
+
 /// What the netlist has under the name.
 pub fn look_up(netlist: &Netlist, name: &Name, hints: &mut Hints) -> Option<Entity>
     ensures { shape_found result ≡ find (entities netlist.now) name.now }
 {
+    if let Some(x) = next(netlist, name, hints) {
+        return Some(x);
+    }
     if let Some(x) = wire(netlist, name, hints) {
         return Some(x);
     }
