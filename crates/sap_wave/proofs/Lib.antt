@@ -17,10 +17,12 @@ pub mod Worked
 pub mod Each
 pub mod Written
 pub mod WrittenLines
+pub mod Quads
 pub mod Shown
 pub mod Adding
 pub mod Rooms
 pub mod Seen
+pub mod Placed
 pub mod Cuts
 pub mod Spelled
 pub mod Parted

@@ -1,8 +1,8 @@
 -- A dump that is written block by block, as a netlist runs.
-use Rattle.std.specs.Prelude.{◌≡◌, ℕ, ◌+◌, List, [], ◌∷◌, ◌++◌, Option, length, map}
+use Rattle.std.specs.Prelude.{◌≡◌, ℕ, ◌+◌, List, [], ◌∷◌, ◌++◌, Option, Some, length, map, slice_get}
 use Rattle.sap_maps.specs.Maps.{Valuation}
 use Rattle.sap_net.specs.Net.{Net}
-use Rattle.sap_cycle.specs.Running.{Running, Shows, seen}
+use Rattle.sap_cycle.specs.Running.{Running, Shows, seen, value_names}
 use Rattle.sap_wave.specs.declared.variable.Variable.{Variable}
 use Rattle.sap_wave.specs.Digits.{identifier}
 use Rattle.sap_wave.specs.Lines.{text_of}
@@ -38,6 +38,10 @@ with_block d numbers =
 -- the numbers that are seen of the variables
 abbrev pub numbers_seen : Net → (cycle : Option Valuation) → List ℕ
 numbers_seen n cycle = map (λ x. (seen n cycle).value x.name) (variables_of n)
+
+-- each variable has its place in a runner of the netlist
+abbrev pub StandAt : Net → List Variable → (places : List ℕ) → Type 0
+StandAt n xs places = map (slice_get (value_names n)) places ≡ map (λ x. Some x.name) xs
 
 -- one block more, by what a runner shows
 abbrev pub AddsBlock : Running → (old new : Dumping) → Type 0

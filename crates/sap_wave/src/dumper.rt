@@ -5,17 +5,17 @@ ghost use Rattle.sap_maps.specs.Maps.{Valuation};
 ghost use Rattle.sap_maps.specs.Ranges.{IsWidth};
 ghost use Rattle.sap_net.specs.IsNetlist.{register_names};
 ghost use Rattle.sap_net.specs.Names.{is_among};
-ghost use Rattle.sap_cycle.specs.Running.{Shows, seen};
+ghost use Rattle.sap_cycle.specs.Running.{IsPlaceOf, Shows, seen, value_names};
 ghost use Rattle.sap_wave.specs.Lines.{text_of};
 ghost use Rattle.sap_wave.specs.Dumps.{block_of, head};
-ghost use Rattle.sap_wave.specs.Dumping.{AddsBlock, begun, block_room, numbers_seen};
+ghost use Rattle.sap_wave.specs.Dumping.{AddsBlock, StandAt, begun, block_room, numbers_seen};
 ghost use Rattle.sap_wave.specs.Runs.{variables_of};
 
 use crate::registers::{Shown, shown_by_ports};
 use crate::room::block_room;
 use crate::texts::{push_block, push_changes, push_head};
 use crate::variable::Variable;
-use sap_cycle::runner::Runner;
+use sap_cycle::runner::{Place, Runner};
 use sap_desk::{Bytes, RowBuf};
 use sap_net::netlist::Netlist;
 use sap_net::parts::Name;
@@ -23,16 +23,42 @@ use std::alloc::{AllocError, Global};
 use std::marker::Model;
 use std::mem;
 
+/// The place of a register.
+fn place(runner: &Runner, name: &Name) -> Place
+    requires { is_among name.now (register_names runner.now.net) ≡ true }
+    ensures is { IsPlaceOf runner.now.net name.now result }
+    ensures within { result < length (value_names runner.now.net) }
+{
+    runner.netlist().rules();
+    match runner.find(name.as_str()) {
+        Some(place) => place,
+        None => unreachable!(),
+    }
+}
+
+/// The places of the variables.
+fn places_of(
+    alloc: Global,
+    runner: &Runner,
+    variables: &[Variable],
+) -> Result<Vec<Place>, AllocError>
+    requires { variables.now ≡ variables_of runner.now.net }
+    ensures { IfOk result (λ places. StandAt runner.now.net variables.now places.items) }
+{
+    runner.netlist().rules();
+    let mut places = Vec::new(alloc);
+    for variable in variables {
+        places.push(place(runner, &variable.name))?;
+    }
+    Ok(places)
+}
+
 /// The number of a register.
 fn number(runner: &Runner, name: &Name) -> u64
     requires { is_among name.now (register_names runner.now.net) ≡ true }
     ensures { (cycle : Option Valuation) → Shows runner.now cycle → result ≡ (seen runner.now.net cycle).value name.now }
 {
-    runner.netlist().rules();
-    match runner.find(name.as_str()) {
-        Some(place) => runner.at(place),
-        None => unreachable!(),
-    }
+    runner.at(place(runner, name))
 }
 
 /// Takes the numbers of the variables, in place of others.
@@ -45,6 +71,18 @@ fn take_seen(runner: &Runner, variables: &[Variable], numbers: &mut [u64])
     runner.netlist().rules();
     for k in 0..variables.len() {
         numbers[k] = number(runner, &variables[k].name);
+    }
+}
+
+/// Takes the numbers of the variables at their places, in place of others.
+fn take_at(runner: &Runner, places: &[Place], numbers: &mut [u64])
+    requires places { StandAt runner.now.net (variables_of runner.now.net) places.now }
+    requires count { length numbers.old ≡ length places.now }
+    ensures count { length numbers.new ≡ length places.now }
+    ensures seen { (cycle : Option Valuation) → Shows runner.now cycle → numbers.new ≡ numbers_seen runner.now.net cycle }
+{
+    for k in 0..places.len() {
+        numbers[k] = runner.at(places[k]);
     }
 }
 
@@ -154,6 +192,37 @@ impl Dumper {
         ensures count { self.new.count ≡ self.old.count + 1 }
     {
         take_seen(runner, &self.variables, &mut self.next);
+        self.count += 1;
+        fill_block(
+            &mut self.block,
+            self.count,
+            &self.variables,
+            &self.last,
+            &self.next,
+        );
+        mem::swap(&mut self.last, &mut self.next);
+    }
+
+    /// Where the variables stand in a runner of the netlist.
+    pub fn places(&self, alloc: Global, runner: &Runner) -> Result<Vec<Place>, AllocError>
+        requires variables { variables_of runner.now.net ≡ self.now.variables }
+        ensures { IfOk result (λ places. StandAt runner.now.net self.now.variables places.items) }
+    {
+        places_of(alloc, runner, &self.variables)
+    }
+
+    /// Writes the next block as `write_block` does, by the places of the variables in the runner, without a search. It takes
+    /// no memory.
+    pub fn write_block_at(&mut self, runner: &Runner, places: &[Place])
+        requires variables { variables_of runner.now.net ≡ self.old.variables }
+        requires places { StandAt runner.now.net self.old.variables places.now }
+        requires few { self.old.count < 2 ^ 48 }
+        ensures block { AddsBlock runner.now self.old self.new }
+        ensures variables { self.new.variables ≡ self.old.variables }
+        ensures first { self.new.first ≡ self.old.first }
+        ensures count { self.new.count ≡ self.old.count + 1 }
+    {
+        take_at(runner, places, &mut self.next);
         self.count += 1;
         fill_block(
             &mut self.block,

@@ -3,7 +3,7 @@ use Rattle.sap_maps.specs.Scope.{find}
 use Rattle.sap_net.specs.Net.{Net}
 use Rattle.sap_net.specs.IsNetlist.{IsNetlist, readable}
 use Rattle.sap_wave.proofs.Seen.{can_be_found}
-use Rattle.sap_wave.proofs.dumper.number.Goals as goal
+use Rattle.sap_wave.proofs.dumper.place.Goals as goal
 
 pub unreachable-requires : goal.unreachable-requires
 unreachable-requires c =
