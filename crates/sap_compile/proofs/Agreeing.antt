@@ -100,7 +100,7 @@ module _ (d : Named) (within : (x y : ℕ) → (bit_or (d.code x) (d.code y) == 
 
 -- every cycle
 
-abbrev AllStates : Named → List After → Type 0
+abbrev pub AllStates : Named → List After → Type 0
 AllStates d [] = Unit {0}
 AllStates d (a ∷ rest) = IsState d a.store × AllStates d rest
 
@@ -112,7 +112,7 @@ module _ (d : Named) (keeps : (inputs : List Tagged) (s : Store) → Resting (wo
       let next : IsState d (cycle d.program inputs s).store = record { rests = keeps inputs s is.rests; fits = fits inputs s fit.0 is.fits } in
       (next, all_states (cycle d.program inputs s).store rest fit.1 next)
 
-each_agrees : (d : Named) (sites l : ℕ) (vs us : List Valuation) (as' bs : List After) → CyclesStand d sites vs as' → CyclesStand d sites us bs
+pub each_agrees : (d : Named) (sites l : ℕ) (vs us : List Valuation) (as' bs : List After) → CyclesStand d sites vs as' → CyclesStand d sites us bs
     → AllStates d as' → AllStates d bs → meaning.RunsAgree d.program l as' bs → AllZip (CyclesAgree d sites l) vs us
 each_agrees d sites l [] [] as' bs p q s t r = tt
 each_agrees d sites l [] (u ∷ us) [] [] p q s t r = absurd q
@@ -135,19 +135,24 @@ each_agrees d sites l (v ∷ vs) (u ∷ us) (a ∷ as') (b ∷ bs) p q s t r = (
   each_agrees d sites l vs us as' bs p.1 q.1 s.1 t.1 r.1,
 )
 
-in_each : (P Q : Valuation → Valuation → Type 0) → ((v u : Valuation) → P v u → Q v u) → (vs us : List Valuation) → AllZip P vs us → AllZip Q vs us
+pub in_each : (P Q : Valuation → Valuation → Type 0) → ((v u : Valuation) → P v u → Q v u) → (vs us : List Valuation) → AllZip P vs us → AllZip Q vs us
 in_each P Q f [] [] h = h
 in_each P Q f [] (u ∷ us) h = h
 in_each P Q f (v ∷ vs) [] h = h
 in_each P Q f (v ∷ vs) (u ∷ us) h = (f v u h.0, in_each P Q f vs us h.1)
 
+-- what a design's labelled run comes to are states
+pub labelled_states : (ls : Levels) (laws : Laws (order_of ls)) (keeps : DesignStatesRest) (fit : DesignNumbersFit) (d : DesignTree) → WellFormed ls d
+    → (stream : List (List Tagged)) → StreamFits (world (named_of ls d)) stream → AllStates (named_of ls d) (labelled_run (program_of ls d) stream)
+labelled_states ls laws keeps fit d formed stream fits =
+    let k = keeps ls d laws formed in
+    let f = fit ls d laws formed in
+    all_states (named_of ls d) k.1 f.1 (first (program_of ls d).world) stream fits (record { rests = k.0; fits = f.0 })
+
 module _ (ls : Levels) (laws : Laws (order_of ls)) (codes : Codes (order_of ls)) (agree : RunsOfDesignsAgree) (keeps : DesignStatesRest) (fit : DesignNumbersFit) (fine : ProgramsAreFine)
     (d : DesignTree) (n : Net) (formed : WellFormed ls d) (stands : StandsForDesign ls d n) where
   states_of : (stream : List (List Tagged)) → StreamFits (world (named_of ls d)) stream → AllStates (named_of ls d) (labelled_run (program_of ls d) stream)
-  states_of stream fits =
-      let k = keeps ls d laws formed in
-      let f = fit ls d laws formed in
-      all_states (named_of ls d) k.1 f.1 (first (program_of ls d).world) stream fits (record { rests = k.0; fits = f.0 })
+  states_of = labelled_states ls laws keeps fit d formed
 
   pub runs_agree : RunsAgree ls d n
   runs_agree = λ l a b fa fb same vs us rv ru.
