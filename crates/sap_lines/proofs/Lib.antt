@@ -1,4 +1,5 @@
 pub mod FirstLine
+pub mod Ended
 pub mod Reading
 pub mod Answered
 pub mod Following

@@ -10,14 +10,15 @@ use crate::held::Held;
 use sap_desk::{Desk, Failed};
 use sap_stim::MOST_LINE_BYTES;
 
-// Whether the next line is told by these bytes: it ends in them, or is too long.
-pub(crate) fn is_decided(bytes: &[u8]) -> bool
-    ensures { IsTrue result ↔ IsDecided bytes.now }
+// Whether the next line is told by the bytes that are held: it ends in them, or is too long.
+pub(crate) fn is_decided(held: &Held) -> bool
+    ensures { IsTrue result ↔ IsDecided held.now }
 {
+    let bytes = held.as_slice();
     if bytes.len() > MOST_LINE_BYTES {
         return true;
     }
-    bytes.contains(&b'\n')
+    held.line().len() < bytes.len()
 }
 
 // Reads pieces of a channel until the bytes that are held tell the next line, or the channel is at its end.
@@ -35,7 +36,7 @@ fn read_pieces<D: Desk>(held: &mut Held, desk: &mut D, channel: usize) -> Result
     ensures cause { OnErr result (D.sure desk.old → IfSome (D.told desk.new) (FailsToRead channel (D.given desk.new channel) PIECE_BYTES)) }
 {
     let mut piece = [0u8; PIECE_BYTES];
-    while !is_decided(held.as_slice()) {
+    while !is_decided(held) {
         let count = desk.read(channel, &mut piece)?;
         if count == 0 {
             return Ok(());
@@ -61,7 +62,7 @@ pub fn fetch<D: Desk>(held: &mut Held, desk: &mut D, channel: usize) -> Result<(
     ensures sure { D.sure desk.old → D.sure desk.new }
     ensures cause { OnErr result (D.sure desk.old → IfSome (D.told desk.new) (FailsToRead channel (D.given desk.new channel) PIECE_BYTES)) }
 {
-    if is_decided(held.as_slice()) {
+    if is_decided(held) {
         return Ok(());
     }
     read_pieces(held, desk, channel)

@@ -94,7 +94,7 @@ impl Lines {
     pub fn holds_line(&self) -> bool
         ensures { IsTrue result ↔ IsDecided self.now.pending }
     {
-        is_decided(self.held.as_slice())
+        is_decided(&self.held)
     }
 
     /// Reads the next line. Where the bytes that were read before tell it, it makes no call on the desk,

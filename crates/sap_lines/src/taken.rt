@@ -10,7 +10,7 @@ ghost use Rattle.sap_lines.specs.Fetched.{IsDecided};
 use crate::Next;
 use crate::held::Held;
 use sap_lattice::lattice::Lattice;
-use sap_stim::{Field, StimCode, StimFault, cut, read_line_into};
+use sap_stim::{Field, StimCode, StimFault, read_line_into};
 use sap_stream::{Inputs, Span};
 use std::alloc::Global;
 use std::mem;
@@ -71,7 +71,7 @@ pub fn take_line(
     if bytes.is_empty() {
         return Next::End;
     }
-    let (text, _) = cut(bytes, b'\n');
+    let text = held.line();
     let len = text.len();
     let ended = len < bytes.len();
     match read_span(alloc, text, ended, fields, lattice, line) {

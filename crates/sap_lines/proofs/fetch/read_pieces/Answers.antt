@@ -1,4 +1,4 @@
-use Rattle.std.proofs.Common.{rules, tests, ◌≡◌, true, ◌++◌, ◌<◌, ◌≤◌, [], length, take, refl, sym, subst, inl, arith, length-take}
+use Rattle.std.proofs.Common.{rules, tests, ◌≡◌, true, ◌++◌, ◌<◌, ◌≤◌, [], length, take, refl, sym, inl, arith, length-take}
 use Rattle.std.proofs.lemmas.List.{append-nil}
 use Rattle.sap_desk.proofs.Steps.{on_err}
 use Rattle.sap_lines.specs.Fetched.{IsDecided}
@@ -21,7 +21,7 @@ loop-piece-preserved g c =
     let items : c.add.new.self ≡ c.loop-piece.held ++ take c.in_ok-count.count c.read.new.buf = search rules in
     let within : c.in_ok-count.count ≤ length c.read.new.buf = search rules in
     let undecided : IsDecided c.loop-piece.held → ⊥ =
-    λ decided. (let told : c.is_decided.result ≡ true = c.is_decided.ensures.1 (subst IsDecided (sym c.as_slice.ensures) decided) in let no : ⊥ = search (rules, tests) in no) in
+    λ decided. (let told : c.is_decided.result ≡ true = c.is_decided.ensures.1 decided in let no : ⊥ = search (rules, tests) in no) in
     let grown : length c.args.held.now ≤ length c.loop-piece.held = omega (arith, c.loop-piece.invariant.more.size) in
     let some : 0 < length (take c.in_ok-count.count c.read.new.buf) = omega (arith, length-take c.in_ok-count.count c.read.new.buf) in
     let most : length (take c.in_ok-count.count c.read.new.buf) ≤ 4096 = omega (arith, length-take c.in_ok-count.count c.read.new.buf) in
@@ -51,4 +51,4 @@ returns-then-count-eq0-clause-decided g c = end_read _ _ _ _ _ _ _ c.if-count-eq
 pub returns-in_err-count-clause-wanted : goal.returns-in_err-count-clause-wanted
 returns-in_err-count-clause-wanted g c =
     on_err c.from_residual.result (λ decided.
-    (let told : c.is_decided.result ≡ true = c.is_decided.ensures.1 (subst IsDecided (sym c.as_slice.ensures) decided) in let no : ⊥ = search (rules, tests) in no))
+    (let told : c.is_decided.result ≡ true = c.is_decided.ensures.1 decided in let no : ⊥ = search (rules, tests) in no))
