@@ -13,7 +13,7 @@ use Rattle.sap_stim.specs.Fits.{StreamFits}
 use Rattle.sap_sim.specs.Numbers.{numbers_of}
 use Rattle.sap_sim.specs.Stepped.{IsRunOn}
 use Rattle.sap_sim.proofs.Fits.{stream_fits}
-use Rattle.sap_wave.specs.Dumping.{Dumping}
+use Rattle.sap_wave.specs.Dumping.{Dumping, StandAt}
 use Rattle.sap_wave.specs.Dumps.{blocks_from, head}
 use Rattle.sap_wave.specs.Lines.{text_of}
 use Rattle.sap_wave.specs.Runs.{initial_numbers, numbers_after, variables_of}
@@ -38,12 +38,13 @@ module _ (ls : Levels) (r : Recording) (stream : List (List Given)) (ready : IsR
       some (map (numbers_of ls n) stream) (stream_fits ls codes n net stream right)
 
   module _ (run : List Valuation) (is_run : IsRunOn n (numbers_of ls n) stream run) where
-    pub comes : length stream ≤ 2 ^ 48 → IsToCome ls r.simulation r.dumper stream (blocks_text n run)
+    pub comes : length stream ≤ 2 ^ 48 → IsToCome ls r.simulation r.dumper r.places.items stream (blocks_text n run)
     comes short = record {
       can = record {
         planned = ready.planned;
         fits = fits;
         variables = ap (λ (d : Dumping). d.variables) ready.begun;
+        stand = subst (λ (d : Dumping). StandAt n d.variables r.places.items) (sym ready.begun) ready.places;
         few = let none : r.dumper.count ≡ 0 = ap (λ (d : Dumping). d.count) ready.begun in omega (arith, short, none);
       };
       run = run;

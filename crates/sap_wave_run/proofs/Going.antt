@@ -12,31 +12,35 @@ use Rattle.sap_sim.specs.declared.steps.Plan.{Plan}
 use Rattle.sap_sim.specs.Numbers.{numbers_of}
 use Rattle.sap_sim.specs.Stepped.{Stepped}
 use Rattle.sap_sim.specs.Stepping.{IsPlanned}
-use Rattle.sap_wave.specs.Dumping.{AddsBlock, Dumping, numbers_seen, with_block}
+use Rattle.sap_wave.specs.declared.variable.Variable.{Variable}
+use Rattle.sap_wave.specs.Dumping.{AddsBlock, Dumping, StandAt, numbers_seen, with_block}
 use Rattle.sap_wave.specs.Dumps.{block_of, blocks_from}
 use Rattle.sap_wave.specs.Lines.{text_of}
 use Rattle.sap_wave.specs.Runs.{numbers_after, variables_of}
 use Rattle.sap_wave.proofs.WrittenLines.{text_append}
 use Rattle.sap_wave_run.specs.ToCome.{CanGoOn, IsToCome}
 
-module _ (ls : Levels) (s new : Stepped Plan) (d after : Dumping) (line : List Given) (next : ShowsNext s.runner (numbers_of ls s.runner.net line) new.runner)
+module _ (ls : Levels) (s new : Stepped Plan) (d after : Dumping) (places : List ℕ) (line : List Given) (next : ShowsNext s.runner (numbers_of ls s.runner.net line) new.runner)
     (net : new.runner.net ≡ s.runner.net) (planned : IsPlanned ls new) (fields : new.fields ≡ s.fields) (adds : AddsBlock new.runner d after)
     (variables : after.variables ≡ d.variables) (count : after.count ≡ d.count + 1) where
-  can_still : (ahead : List (List Given)) → CanGoOn ls s d (line ∷ ahead) → CanGoOn ls new after ahead
+  can_still : (ahead : List (List Given)) → CanGoOn ls s d places (line ∷ ahead) → CanGoOn ls new after places ahead
   can_still ahead can = record {
     planned = planned;
     fits = subst (λ (fs : List Field). StreamFits ls fs ahead) (sym fields) can.fits.1;
     variables = variables ∙ can.variables ∙ ap variables_of (sym net);
+    stand =
+        subst (λ (m : Net). StandAt m after.variables places) (sym net)
+        (subst (λ (xs : List Variable). StandAt s.runner.net xs places) (sym variables) can.stand);
     few = omega (arith, can.few, count);
   }
 
-  module _ (ahead : List (List Given)) (text : List ℕ) (can : CanGoOn ls s d (line ∷ ahead)) (before : Option Valuation) (shows : Shows s.runner before) where
+  module _ (ahead : List (List Given)) (text : List ℕ) (can : CanGoOn ls s d places (line ∷ ahead)) (before : Option Valuation) (shows : Shows s.runner before) where
     -- the text of the blocks behind one, by the dump that it is written behind
     abbrev behind : Dumping → Net → List Valuation → List ℕ
     behind e n vs = text_of (blocks_from (e.count + 1) e.variables e.last (map (numbers_after n) vs))
 
     from : (run : List Valuation) → IsRunAfter s.runner.net before (map (numbers_of ls s.runner.net) (line ∷ ahead)) run → text ≡ behind d s.runner.net run
-        → (rest : List ℕ) × (text ≡ after.block ++ rest) × IsToCome ls new after ahead rest
+        → (rest : List ℕ) × (text ≡ after.block ++ rest) × IsToCome ls new after places ahead rest
     from [] run is = absurd run
     from (v ∷ vs) run is =
         let n = s.runner.net in
@@ -61,12 +65,12 @@ module _ (ls : Levels) (s new : Stepped Plan) (d after : Dumping) (line : List G
           },
         )
 
-  pub block_more : (ahead : List (List Given)) (text : List ℕ) → IsToCome ls s d (line ∷ ahead) text → (rest : List ℕ) × (text ≡ after.block ++ rest) × IsToCome ls new after ahead rest
+  pub block_more : (ahead : List (List Given)) (text : List ℕ) → IsToCome ls s d places (line ∷ ahead) text → (rest : List ℕ) × (text ≡ after.block ++ rest) × IsToCome ls new after places ahead rest
   block_more ahead text is = from ahead text is.can is.goes_on.before is.goes_on.shows is.run is.goes_on.is_run is.is_text
 
 -- no line has no block
-pub none_more : (ls : Levels) (s : Stepped Plan) (d : Dumping) (text : List ℕ) → IsToCome ls s d [] text → text ≡ []
-none_more ls s d text is = from is.run is.goes_on.is_run is.is_text where
+pub none_more : (ls : Levels) (s : Stepped Plan) (d : Dumping) (places : List ℕ) (text : List ℕ) → IsToCome ls s d places [] text → text ≡ []
+none_more ls s d places text is = from is.run is.goes_on.is_run is.is_text where
   from : (run : List Valuation) → IsRunAfter s.runner.net is.goes_on.before [] run → text ≡ text_of (blocks_from (d.count + 1) d.variables d.last (map (numbers_after s.runner.net) run)) → text ≡ []
   from [] run e = e
   from (v ∷ vs) run e = absurd run

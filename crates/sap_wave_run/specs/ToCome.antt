@@ -11,7 +11,7 @@ use Rattle.sap_sim.specs.declared.steps.Plan.{Plan}
 use Rattle.sap_sim.specs.Numbers.{numbers_of}
 use Rattle.sap_sim.specs.Stepped.{Stepped}
 use Rattle.sap_sim.specs.Stepping.{IsPlanned}
-use Rattle.sap_wave.specs.Dumping.{Dumping}
+use Rattle.sap_wave.specs.Dumping.{Dumping, StandAt}
 use Rattle.sap_wave.specs.Dumps.{blocks_from}
 use Rattle.sap_wave.specs.Lines.{text_of}
 use Rattle.sap_wave.specs.Runs.{numbers_after, variables_of}
@@ -22,16 +22,17 @@ pub record GoesOn (numbers : Net → List Given → List ℕ) (r : Running) (ahe
   pub shows : Shows r before
   pub is_run : IsRunAfter r.net before (map (numbers r.net) ahead) run
 
--- A simulation and the dump of its netlist so far can go on with these lines.
-pub record CanGoOn (ls : Levels) (s : Stepped Plan) (d : Dumping) (ahead : List (List Given)) : Type 0 where
+-- A simulation and the dump of its netlist so far, whose variables have these places, can go on with these lines.
+pub record CanGoOn (ls : Levels) (s : Stepped Plan) (d : Dumping) (places : List ℕ) (ahead : List (List Given)) : Type 0 where
   pub planned : IsPlanned ls s
   pub fits : StreamFits ls s.fields ahead
   pub variables : d.variables ≡ variables_of s.runner.net
+  pub stand : StandAt s.runner.net d.variables places
   pub few : d.count + length ahead ≤ 2 ^ 48
 
 -- The text is that of the blocks of the cycles on these lines.
-pub record IsToCome (ls : Levels) (s : Stepped Plan) (d : Dumping) (ahead : List (List Given)) (text : List ℕ) : Type 0 where
-  pub can : CanGoOn ls s d ahead
+pub record IsToCome (ls : Levels) (s : Stepped Plan) (d : Dumping) (places : List ℕ) (ahead : List (List Given)) (text : List ℕ) : Type 0 where
+  pub can : CanGoOn ls s d places ahead
   pub run : List Valuation
   pub goes_on : GoesOn (numbers_of ls) s.runner ahead run
   pub is_text : text ≡ text_of (blocks_from (d.count + 1) d.variables d.last (map (numbers_after s.runner.net) run))

@@ -3,6 +3,7 @@
 ghost use Rattle.std.specs.Prelude.{◌≡◌, IfOk};
 ghost use Rattle.sap_wave_run.specs.Ready.{IsReady};
 
+use sap_cycle::runner::Place;
 use sap_desk::{Bytes, RowBuf};
 use sap_lattice::Lattice;
 use sap_net::netlist::Netlist;
@@ -17,6 +18,8 @@ use std::alloc::{AllocError, Global};
 pub struct Recording {
     pub simulation: Simulation,
     pub dumper: Dumper,
+    /// Where the dumper's variables stand in the simulation's runner.
+    pub places: Vec<Place>,
     /// The declarations and block 0.
     pub head: Bytes,
     pub waiting: RowBuf,
@@ -29,11 +32,13 @@ impl Recording {
     {
         let simulation = Simulation::new(alloc, lattice, netlist)?;
         let dumper = Dumper::load(alloc, simulation.netlist())?;
+        let places = dumper.places(alloc, simulation.runner())?;
         let head = dumper.head(alloc)?;
         let waiting = RowBuf::new(alloc, LARGE_BYTES)?;
         Ok(Recording {
             simulation,
             dumper,
+            places,
             head,
             waiting,
         })

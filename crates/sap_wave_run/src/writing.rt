@@ -39,6 +39,7 @@ pub fn write_run<D: Desk>(
     let Recording {
         simulation,
         dumper,
+        places,
         head,
         mut waiting,
     } = recording;
@@ -50,6 +51,7 @@ pub fn write_run<D: Desk>(
     let mut dump = Dump {
         simulation,
         dumper,
+        places,
         lattice,
         cycles,
     };

@@ -1,6 +1,7 @@
 use Rattle.std.proofs.Common.{◌∙◌, sym, ap, subst, arith}
 use Rattle.sap_cycle.specs.Running.{Running}
-use Rattle.sap_wave.specs.Dumping.{AddsBlock}
+use Rattle.sap_net.specs.Net.{Net}
+use Rattle.sap_wave.specs.Dumping.{AddsBlock, StandAt}
 use Rattle.sap_wave.specs.Runs.{variables_of}
 use Rattle.sap_wave_run.proofs.Going.{block_more}
 use Rattle.sap_wave_run.proofs.dump.step.Goals as goal
@@ -11,17 +12,21 @@ step-requires-clause-planned c = c.requires.1.planned
 pub step-requires-clause-line : goal.step-requires-clause-line
 step-requires-clause-line c = c.requires.1.fits.0
 
-pub write_block-requires-clause-variables : goal.write_block-requires-clause-variables
-write_block-requires-clause-variables c =
+pub write_block_at-requires-clause-variables : goal.write_block_at-requires-clause-variables
+write_block_at-requires-clause-variables c =
     sym (c.requires.1.variables ∙ ap variables_of (sym (ap (λ (r : Running). r.net) c.runner.ensures ∙ c.step.ensures.netlist)))
 
-pub write_block-requires-clause-few : goal.write_block-requires-clause-few
-write_block-requires-clause-few c = omega (arith, c.requires.1.few)
+pub write_block_at-requires-clause-places : goal.write_block_at-requires-clause-places
+write_block_at-requires-clause-places c =
+    subst (λ (m : Net). StandAt m c.args.dumper.now.variables c.args.places.now) (sym (ap (λ (r : Running). r.net) c.runner.ensures ∙ c.step.ensures.netlist)) c.requires.1.stand
+
+pub write_block_at-requires-clause-few : goal.write_block_at-requires-clause-few
+write_block_at-requires-clause-few c = omega (arith, c.requires.1.few)
 
 pub returns : goal.returns
 returns c =
     let new = c.step.new.self in
-    let adds : AddsBlock new.runner c.args.dumper.now c.write_block.new.self
-    = subst (λ (r : Running). AddsBlock r c.args.dumper.now c.write_block.new.self) c.runner.ensures c.write_block.ensures.block in
-    block_more c.args.lattice.now c.args.simulation.now new c.args.dumper.now c.write_block.new.self c.args.line.now c.step.ensures.next c.step.ensures.netlist c.step.ensures.planned
-    c.step.ensures.fields adds c.write_block.ensures.variables c.write_block.ensures.count
+    let adds : AddsBlock new.runner c.args.dumper.now c.write_block_at.new.self
+    = subst (λ (r : Running). AddsBlock r c.args.dumper.now c.write_block_at.new.self) c.runner.ensures c.write_block_at.ensures.block in
+    block_more c.args.lattice.now c.args.simulation.now new c.args.dumper.now c.write_block_at.new.self c.args.places.now c.args.line.now c.step.ensures.next c.step.ensures.netlist c.step.ensures.planned
+    c.step.ensures.fields adds c.write_block_at.ensures.variables c.write_block_at.ensures.count
