@@ -4,3 +4,4 @@ pub mod Helpers
 pub mod RightMaps
 pub mod Found
 pub mod Differing
+pub mod Lookups

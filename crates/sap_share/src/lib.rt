@@ -1,6 +1,9 @@
-//! Helping wires: their names, and the bytes that tell their right sides apart, so that equal ones can be one wire.
+//! What passes over netlists share. Helping wires: their names, and the bytes that tell their right sides apart, so that equal ones can be one
+//! wire. And lists by name.
 #![tactic(auto)]
 
 pub mod keys;
 pub mod names;
+pub mod places;
 pub mod rights;
+pub mod table;

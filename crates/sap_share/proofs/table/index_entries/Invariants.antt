@@ -1,0 +1,7 @@
+use Rattle.std.proofs.Common.{take}
+use Rattle.std.specs.Map.{keys_of}
+use Rattle.sap_net.specs.NameMaps.{Indexes}
+use Rattle.sap_share.proofs.table.index_entries.Given as goal
+
+abbrev pub invariant-loop-k : goal.invariant-loop-k
+invariant-loop-k g l = Indexes l.places (keys_of (take l.k l.entries))

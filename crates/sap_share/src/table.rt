@@ -1,0 +1,79 @@
+//! Values by name.
+
+ghost use Rattle.std.specs.Prelude.{◌≡◌, IfOk};
+ghost use Rattle.std.specs.Map.{keys_of};
+ghost use Rattle.std.specs.Option.{option_map};
+ghost use Rattle.sap_maps.specs.Scope.{find};
+ghost use Rattle.sap_net.specs.NameMaps.{Indexes};
+ghost use Rattle.sap_share.specs.Tables.{replaced};
+
+use sap_net::name_map::{at_name, index};
+use sap_net::parts::Name;
+use std::alloc::{AllocError, Global};
+use std::collections::HashMap;
+use std::marker::Model;
+
+/// Values under names, in order, seen as their list. A name has the value of its first place.
+#[derive(Drop)]
+pub struct Table<T> {
+    entries: Vec<(Name, T)>,
+    places: HashMap<Vec<u8>, usize>,
+}
+
+impl<T> Model for Table<T> {
+    ghost use Rattle.std.specs.Prelude.{ℕ, List};
+    ghost use Rattle.std.specs.Coded.{coded_list, coded×, coded_ℕ};
+    ghost use Rattle.std.specs.Map.{keys_of};
+    ghost use Rattle.sap_net.specs.NameMaps.{Indexes};
+
+    ghost Value = { List (List ℕ × T) };
+
+    ghost coded = { coded_list (coded× (coded_list coded_ℕ) T.code) };
+
+    ghost view = { λ t. t.entries.items };
+
+    ghost invariant = { λ t. Indexes t.places (keys_of t.entries.items) };
+}
+
+/// The first places of the names.
+fn index_entries<T>(
+    alloc: Global,
+    entries: &[(Name, T)],
+) -> Result<HashMap<Vec<u8>, usize>, AllocError>
+    ensures { IfOk result (λ m. Indexes m (keys_of entries.now)) }
+{
+    let mut places = HashMap::new(alloc);
+    for (k, entry) in entries.iter().enumerate() {
+        index(&mut places, alloc, &entry.0, k)?;
+    }
+    Ok(places)
+}
+
+impl<T: Drop> Table<T> {
+    pub fn new(alloc: Global, entries: Vec<(Name, T)>) -> Result<Table<T>, AllocError>
+        ensures { IfOk result (λ t. t ≡ entries.items) }
+    {
+        let places = index_entries(alloc, &entries)?;
+        Ok(Table { entries, places })
+    }
+
+    /// The value of a name.
+    pub fn get(&self, name: &Name) -> Option<&T>
+        ensures { option_map (λ x. x.now) result ≡ find self.now name.now }
+    {
+        match at_name(&self.places, name.as_bytes()) {
+            Some(k) => Some(&self.entries[k].1),
+            None => None,
+        }
+    }
+
+    /// Gives a name that has a value another one.
+    pub fn replace(&mut self, name: &Name, value: T)
+        ensures { self.new ≡ replaced self.old name.now value }
+    {
+        match at_name(&self.places, name.as_bytes()) {
+            Some(k) => self.entries[k].1 = value,
+            None => {}
+        }
+    }
+}
