@@ -20,8 +20,9 @@ use Rattle.sap_ir.specs.IsGuarded.{TermFine}
 use Rattle.sap_lower.specs.declared.parts.Part.{Part}
 use Rattle.sap_lower.specs.declared.parts.WritePort.{WritePort}
 use Rattle.sap_lower.specs.Lowering.{nothing, present, plus, low}
-use Rattle.sap_lower.specs.Commands.{replaced}
-use Rattle.sap_lower.specs.Commands.{State, no_port, port_of, low_set, low_put, low_action, low_command, low_commands}
+use Rattle.sap_share.specs.Tables.{replaced}
+use Rattle.sap_lower.specs.declared.lowering.Lowering.{Lowering}
+use Rattle.sap_lower.specs.Commands.{no_port, port_of, low_set, low_put, low_action, low_command, low_commands}
 use Rattle.sap_lower.proofs.Stands.{HasEntries, replaced_same, replaced_other, replaced_has}
 use Rattle.sap_lower.proofs.Standing.{ActionOk, CommandOk}
 use Rattle.sap_lower.proofs.Fits.{Fits, NoHelpers, EnvFits, env_grows, Lowered, plus_at, plus_long, low_long, low_fits}
@@ -43,7 +44,7 @@ pub record PortFits (sc : Scope) (p : WritePort) (width depth : ℕ) : Type 0 wh
 abbrev pub PortsFit : Shapes → Scope → List (Name × WritePort) → Type 0
 PortsFit ms sc ps = (m : Name) (e : ℕ × ℕ) → find ms m ≡ Some e → PortFits sc (port_of ps m) e.0 e.1
 
-pub record StateFits (ms : Shapes) (sc vars : Scope) (s : State) : Type 0 where
+pub record StateFits (ms : Shapes) (sc vars : Scope) (s : Lowering) : Type 0 where
   pub fits : Fits ms sc s.wires
   pub env : EnvFits (readable_after sc s.wires) vars s.entries
   pub has : HasEntries vars s.entries
@@ -63,7 +64,7 @@ port_grows sc sd g p w d f =
 neither : (a b : ℕ) → nat_lt a b ≡ false → nat_lt b a ≡ false → a ≡ b
 neither a b f g = grind (arith, nat_tests)
 
-set_long : (ms : Shapes) (s : State) (c : Term Name) (n : Name) (t : Term Name) → length s.wires ≤ length (low_set ms s c n t).wires
+set_long : (ms : Shapes) (s : Lowering) (c : Term Name) (n : Name) (t : Term Name) → length s.wires ≤ length (low_set ms s c n t).wires
 set_long ms s c n t =
     let es = s.entries in
     let z = low ms es c s.wires in
@@ -83,18 +84,18 @@ put_long ms es p c i t ws =
     let rl = Choose z.part.operand x.part.operand p.value in
     omega (arith, low_long ms es c ws, low_long ms es i z.wires, low_long ms es t y.wires, plus_long x.wires 1 re, plus_long e.wires p.bits rj, plus_long j.wires p.width rl)
 
-action_long : (ms : Shapes) (s : State) (c : Term Name) (a : Action) → length s.wires ≤ length (low_action ms s c a).wires
+action_long : (ms : Shapes) (s : Lowering) (c : Term Name) (a : Action) → length s.wires ≤ length (low_action ms s c a).wires
 action_long ms s c (set x t) = set_long ms s c x t
 action_long ms s c (put m i t) = put_long ms s.entries (port_of s.ports m) c i t s.wires
 
-commands_long : (ms : Shapes) (cs : List Command) (s : State) → length s.wires ≤ length (low_commands ms s cs).wires
+commands_long : (ms : Shapes) (cs : List Command) (s : Lowering) → length s.wires ≤ length (low_commands ms s cs).wires
 commands_long ms [] s = omega arith
 commands_long ms (c ∷ cs) s = omega (arith, action_long ms s c.when c.act, commands_long ms cs (low_command ms s c))
 
 ports_grow : (ms : Shapes) (sc sd : Scope) (ps : List (Name × WritePort)) → Grows sc sd → PortsFit ms sc ps → PortsFit ms sd ps
 ports_grow ms sc sd ps g f m e h = port_grows sc sd g (port_of ps m) e.0 e.1 (f m e h)
 
-set_fits : (ms : Shapes) (sc vars : Scope) → NoHelpers ms → AllWide vars → (s : State) (c : Term Name) (n : Name) (t : Term Name) (u : ℕ) → find vars n ≡ Some u → TermFine ms vars 1 c → TermFine ms vars u t → StateFits ms sc vars s → length (low_set ms s c n t).wires < 2 ^ 64
+set_fits : (ms : Shapes) (sc vars : Scope) → NoHelpers ms → AllWide vars → (s : Lowering) (c : Term Name) (n : Name) (t : Term Name) (u : ℕ) → find vars n ≡ Some u → TermFine ms vars 1 c → TermFine ms vars u t → StateFits ms sc vars s → length (low_set ms s c n t).wires < 2 ^ 64
     → Lowered ms sc s.wires (low_set ms s c n t).wires (low_set ms s c n t).part u
 set_fits ms sc vars apart wide s c n t u found fc ft k l =
     let es = s.entries in
@@ -119,7 +120,7 @@ set_fits ms sc vars apart wide s c n t u found fc ft k l =
       width = p.width;
     }
 
-set_state_fits : (ms : Shapes) (sc vars : Scope) → NoHelpers ms → AllWide vars → (s : State) (c : Term Name) (n : Name) (t : Term Name) (u : ℕ) → find vars n ≡ Some u → TermFine ms vars 1 c → TermFine ms vars u t → StateFits ms sc vars s → length (low_set ms s c n t).wires < 2 ^ 64
+set_state_fits : (ms : Shapes) (sc vars : Scope) → NoHelpers ms → AllWide vars → (s : Lowering) (c : Term Name) (n : Name) (t : Term Name) (u : ℕ) → find vars n ≡ Some u → TermFine ms vars 1 c → TermFine ms vars u t → StateFits ms sc vars s → length (low_set ms s c n t).wires < 2 ^ 64
     → StateFits ms sc vars (low_action ms s c (set n t))
 set_state_fits ms sc vars apart wide s c n t u found fc ft k l =
     let p = set_fits ms sc vars apart wide s c n t u found fc ft k l in
@@ -147,7 +148,7 @@ set_state_fits ms sc vars apart wide s c n t u found fc ft k l =
           ];
     }
 
-put_state_fits : (ms : Shapes) (sc vars : Scope) → NoHelpers ms → AllCellsWide ms → (s : State) (c : Term Name) (m : Name) (i t : Term Name) (w b : ℕ) → IsWidth b → find ms m ≡ Some (w, 2 ^ b) → TermFine ms vars 1 c → TermFine ms vars b i → TermFine ms vars w t → StateFits ms sc vars s → length (low_action ms s c (put m i t)).wires < 2 ^ 64
+put_state_fits : (ms : Shapes) (sc vars : Scope) → NoHelpers ms → AllCellsWide ms → (s : Lowering) (c : Term Name) (m : Name) (i t : Term Name) (w b : ℕ) → IsWidth b → find ms m ≡ Some (w, 2 ^ b) → TermFine ms vars 1 c → TermFine ms vars b i → TermFine ms vars w t → StateFits ms sc vars s → length (low_action ms s c (put m i t)).wires < 2 ^ 64
     → StateFits ms sc vars (low_action ms s c (put m i t))
 put_state_fits ms sc vars apart wide s c m i t w b ib found fc fi ft k len =
     let es = s.entries in
@@ -223,11 +224,11 @@ put_state_fits ms sc vars apart wide s c m i t w b ib found fc fi ft k len =
           ];
     }
 
-action_fits : (ms : Shapes) (sc vars : Scope) → NoHelpers ms → AllWide vars → AllCellsWide ms → (s : State) (c : Term Name) (a : Action) → TermFine ms vars 1 c → ActionOk ms vars a → StateFits ms sc vars s → length (low_action ms s c a).wires < 2 ^ 64 → StateFits ms sc vars (low_action ms s c a)
+action_fits : (ms : Shapes) (sc vars : Scope) → NoHelpers ms → AllWide vars → AllCellsWide ms → (s : Lowering) (c : Term Name) (a : Action) → TermFine ms vars 1 c → ActionOk ms vars a → StateFits ms sc vars s → length (low_action ms s c a).wires < 2 ^ 64 → StateFits ms sc vars (low_action ms s c a)
 action_fits ms sc vars apart wide cells s c (set x t) fc f k l = set_state_fits ms sc vars apart wide s c x t f.0 f.1 fc f.2 k l
 action_fits ms sc vars apart wide cells s c (put m i t) fc f k l = put_state_fits ms sc vars apart cells s c m i t f.0 f.1 f.2 f.3 fc f.4 f.5 k l
 
-pub commands_fit : (ms : Shapes) (sc vars : Scope) → NoHelpers ms → AllWide vars → AllCellsWide ms → (cs : List Command) (s : State) → AllByRecursion (CommandOk ms vars) cs → StateFits ms sc vars s → length (low_commands ms s cs).wires < 2 ^ 64 → StateFits ms sc vars (low_commands ms s cs)
+pub commands_fit : (ms : Shapes) (sc vars : Scope) → NoHelpers ms → AllWide vars → AllCellsWide ms → (cs : List Command) (s : Lowering) → AllByRecursion (CommandOk ms vars) cs → StateFits ms sc vars s → length (low_commands ms s cs).wires < 2 ^ 64 → StateFits ms sc vars (low_commands ms s cs)
 commands_fit ms sc vars apart wide cells [] s f k l = k
 commands_fit ms sc vars apart wide cells (c ∷ cs) s f k l =
     let one = action_fits ms sc vars apart wide cells s c.when c.act f.0.0 f.0.1 k (omega (arith, commands_long ms cs (low_command ms s c))) in

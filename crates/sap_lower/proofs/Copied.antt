@@ -15,7 +15,7 @@ use Rattle.sap_ir.specs.IsGuarded.{variable_names, memory_names, IsGuarded}
 use Rattle.sap_ir.proofs.Declared.{not_front, not_behind_list}
 use Rattle.sap_lower.specs.declared.parts.Part.{Part}
 use Rattle.sap_share.specs.Names.{helper}
-use Rattle.sap_lower.specs.Lowered.{listed, out_wire, all_wires, last_state, lowered}
+use Rattle.sap_lower.specs.Lowered.{listed, out_wire, all_wires, last_lowering, lowered}
 use Rattle.sap_lower.specs.Same.{CopiesPorts}
 use Rattle.sap_lower.proofs.Fits.{IsHelper}
 use Rattle.sap_lower.proofs.Netlist.{helpers_apart, last_fits}
@@ -49,7 +49,7 @@ each_copied ps es (w ∷ ws) xs d = (λ h. absurd (let f = d.0 in cc), each_copi
 
 pub copies_ports : (s : Source) → IsGuarded s → length (all_wires s) < 2 ^ 64 → CopiesPorts (lowered s)
 copies_ports s g l =
-    let t = last_state s in
+    let t = last_lowering s in
     let fits = last_fits s g (last_short s l) in
     subst (λ (ns : List Name). AllByRecursion (λ w. is_among w.name ns ≡ true → (a : Operand) × (w.right ≡ Copy a)) (all_wires s)) (sym (ports_named s.registers s.inputs s.ports))
     (each_copied (variable_names s.inputs ++ s.ports) t.entries t.wires (listed s.ports s.wires) (no_ports s g t.wires fits.fits.helping))

@@ -28,7 +28,7 @@ use Rattle.sap_lower.specs.declared.parts.Part.{Part}
 use Rattle.sap_lower.specs.declared.parts.WritePort.{WritePort}
 use Rattle.sap_lower.specs.Lowering.{present}
 use Rattle.sap_lower.specs.Commands.{port_of, no_port}
-use Rattle.sap_lower.specs.Lowered.{first_entries, first_port, input_of, listed, out_wire, register_of, memory_of, registers_declared, first_state, last_state, lowered}
+use Rattle.sap_lower.specs.Lowered.{first_entries, first_port, input_of, listed, out_wire, register_of, memory_of, registers_declared, first_lowering, last_lowering, lowered}
 use Rattle.sap_lower.specs.Same.{SameNumbers, RunsAlike}
 use Rattle.sap_lower.proofs.Shared.{Gives}
 use Rattle.sap_lower.proofs.Means.{Env, SameCells, Around, gives_front, gives_behind}
@@ -66,8 +66,8 @@ known_from n v w (x ∷ xs) a =
 
 -- the netlist's cycle before and the program's cycle before have equal numbers after the edge
 pub record SameAfter (s : Source) (p e : Valuation) : Type 0 where
-  pub registers : AllByRecursion (λ x. operand_value p (present (last_state s).entries x.name).operand ≡ e.value x.name) s.registers
-  pub memories : AllByRecursion (λ m. (i : ℕ) → written p (memory_of (last_state s).ports m) i ≡ e.cell m.name i) s.memories
+  pub registers : AllByRecursion (λ x. operand_value p (present (last_lowering s).entries x.name).operand ≡ e.value x.name) s.registers
+  pub memories : AllByRecursion (λ m. (i : ℕ) → written p (memory_of (last_lowering s).ports m) i ≡ e.cell m.name i) s.memories
 
 abbrev pub SameBefore : Source → (p e : Option Valuation) → Type 0
 SameBefore s None None = Unit {0}
@@ -85,21 +85,21 @@ joined_all_at f g h (x ∷ xs) a b = (λ i. a.0 i ∙ b.0 i, joined_all_at f g h
 
 registers_begin : (s : Source) → Known s → (p e : Option Valuation) (xs : List ℕ) (v : Valuation) → SameBefore s p e → IsCycle (lowered s) p xs v → AllByRecursion (λ x. v.value x.name ≡ first_number e x) s.registers
 registers_begin s k None None xs v b c =
-    let es = (last_state s).entries in
+    let es = (last_lowering s).entries in
     from_declared (λ x. v.value x.name ≡ x.start) s.registers s.ports k.registers_differ (all_of_map (λ r. v.value r.name ≡ r.start) (register_of es) (registers_declared s) c.begins.0)
 registers_begin s k None (Some e) xs v b c = absurd b
 registers_begin s k (Some p) None xs v b c = absurd b
 registers_begin s k (Some p) (Some e) xs v b c =
-    let es = (last_state s).entries in
+    let es = (last_lowering s).entries in
     let a = from_declared (λ x. v.value x.name ≡ operand_value p (present es x.name).operand) s.registers s.ports k.registers_differ (all_of_map (λ r. v.value r.name ≡ operand_value p r.next) (register_of es) (registers_declared s) c.begins.0) in
     joined_all (λ (x : Var). v.value x.name) (λ x. operand_value p (present es x.name).operand) (λ x. e.value x.name) s.registers a b.registers
 
 cells_begin : (s : Source) (p e : Option Valuation) (xs : List ℕ) (v : Valuation) → SameBefore s p e → IsCycle (lowered s) p xs v → AllByRecursion (λ m. (i : ℕ) → v.cell m.name i ≡ first_cell e m i) s.memories
-cells_begin s None None xs v b c = all_of_map (λ m. (i : ℕ) → v.cell m.name i ≡ m.start) (memory_of (last_state s).ports) s.memories c.begins.1
+cells_begin s None None xs v b c = all_of_map (λ m. (i : ℕ) → v.cell m.name i ≡ m.start) (memory_of (last_lowering s).ports) s.memories c.begins.1
 cells_begin s None (Some e) xs v b c = absurd b
 cells_begin s (Some p) None xs v b c = absurd b
 cells_begin s (Some p) (Some e) xs v b c =
-    let ps = (last_state s).ports in
+    let ps = (last_lowering s).ports in
     let a = all_of_map (λ m. (i : ℕ) → v.cell m.name i ≡ written p m i) (memory_of ps) s.memories c.begins.1 in
     joined_all_at (λ (m : MemoryVariable) i. v.cell m.name i) (λ m i. written p (memory_of ps m) i) (λ m i. e.cell m.name i) s.memories a b.memories
 
@@ -160,7 +160,7 @@ cycle_same s k once p e xs v b c =
     let vars = source.readable s in
     let vw = source.width_of s in
     let g = begun s e xs in
-    let t = last_state s in
+    let t = last_lowering s in
     let shown = listed s.ports s.wires in
     let w = c.valuation.within in
     let gives = gives_from widths v (shapes n) n.wires (first_readable n) k.netlist.assigns (widths_are n) c.valuation.equations in
@@ -175,12 +175,12 @@ cycle_same s k once p e xs v b c =
     record { declared = source_widths s k.rules.declared_once; env = env; memories = memories } in
     let ports : PortsAre ms v (map first_port s.memories) g (λ m. false) =
     λ m d f. let r = ap (λ o. unwrap_or o no_port) (first_port_found s.memories m d f) in rw r (record { written = refl; next = λ j. refl }) in
-    let first : Standing ms vars vw widths v (first_state s) g (λ m. false) =
+    let first : Standing ms vars vw widths v (first_lowering s) g (λ m. false) =
     record { around = around; has = k.entries; has_ports = k.ports; ports = ports } in
     let fits = within_before s k e v below (all_below widths v s.registers known.1) starts cells in
     let given = numbers_fit s.inputs xs v c.given (all_below widths v s.inputs known.0) in
     let later : Later (λ m. false) (memories_written vw g s.commands) = record { distinct = once e xs fits given; apart = λ m h. refl } in
-    let last = commands_stand ms vars vw widths v s.commands (first_state s) g (λ m. false) first k.commands later (gives_front widths v t.wires (map (out_wire t.entries) shown) gives) in
+    let last = commands_stand ms vars vw widths v s.commands (first_lowering s) g (λ m. false) first k.commands later (gives_front widths v t.wires (map (out_wire t.entries) shown) gives) in
     let end = after vw g s.commands in
     let l = last.1 in
     let ends = ends_same widths v vars t.entries end.now.value l.around.env in
@@ -198,7 +198,7 @@ cycle_same s k once p e xs v b c =
 pub cycle_seen : (s : Source) → Known s → (v e : Valuation) → CycleSame s v e → SameNumbers s (lowered s) v e
 cycle_seen s k v e same =
     let n = lowered s in
-    let t = last_state s in
+    let t = last_lowering s in
     let shown = listed s.ports s.wires in
     let rs = from_declared (λ x. (observed n v).value x.name ≡ operand_value v (present t.entries x.name).operand) s.registers s.ports k.registers_differ
     (all_of_map (λ r. (observed n v).value r.name ≡ operand_value v r.next) (register_of t.entries) (registers_declared s) (observed_registers n k.netlist v)) in

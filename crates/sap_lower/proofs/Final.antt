@@ -24,7 +24,7 @@ use Rattle.sap_ir.specs.Source as source
 use Rattle.sap_ir.specs.IsGuarded as ir
 use Rattle.sap_ir.specs.IsGuarded.{variable_names, declared, IsGuarded}
 use Rattle.sap_ir.proofs.Declared.{distinct_front, distinct_behind, apart_lists, apart_lists_back}
-use Rattle.sap_lower.specs.Lowered.{listed, register_of, memory_of, input_port, port_shown, registers_declared, all_wires, names_declared, last_state, lowered}
+use Rattle.sap_lower.specs.Lowered.{listed, register_of, memory_of, input_port, port_shown, registers_declared, all_wires, names_declared, last_lowering, lowered}
 use Rattle.sap_lower.proofs.Order.{to_declared}
 use Rattle.sap_lower.proofs.Begins.{scope_of}
 use Rattle.sap_lower.proofs.Declares.{filter_same}
@@ -84,7 +84,7 @@ kinds_of s g w =
       wires = wires_distinct (source.shapes s) (all_wires s) (first_scope s) w;
       port_is = λ n h.
           let e : (is_among n R || is_among n W) ≡ true = sym (among_append n R W) ∙ port n h in
-          or_follows (is_among n R) (is_among n W) (is_among n (names_of (all_wires s))) (λ t. rw (outs_named (last_state s).entries (last_state s).wires (listed s.ports s.wires)) (among_behind n (names_of (last_state s).wires) (variable_names (listed s.ports s.wires)) (into_listed s.ports s.wires n t h))) e;
+          or_follows (is_among n R) (is_among n W) (is_among n (names_of (all_wires s))) (λ t. rw (outs_named (last_lowering s).entries (last_lowering s).wires (listed s.ports s.wires)) (among_behind n (names_of (last_lowering s).wires) (variable_names (listed s.ports s.wires)) (into_listed s.ports s.wires n t h))) e;
       port_no_input = λ n h. apart_lists I (R ++ (W ++ M)) d n (subst (λ (l : List Name). is_among n l ≡ true) (append_assoc R W M) (among_front n (R ++ W) M (port n h)));
       port_no_memory = λ n h. apart_lists_back (R ++ W) M (subst AreDistinct (sym (append_assoc R W M)) d1) n (port n h);
       register_no_input = λ n h. apart_lists I (R ++ (W ++ M)) d n (among_front n R (W ++ M) h);
@@ -103,7 +103,7 @@ shows_ports : (s : Source) → Kinds (variable_names s.inputs) (variable_names s
 shows_ports s k [] a = tt
 shows_ports s k (p ∷ ps) a = (
   elim (cases_Bool (is_among p (variable_names s.registers))) [
-    | inl t ↦ rw t (ap (λ (ns : List Name). is_among p ns) (registers_named (last_state s).entries (registers_declared s)) ∙ declared_among s.registers s.ports p ∙ t)
+    | inl t ↦ rw t (ap (λ (ns : List Name). is_among p ns) (registers_named (last_lowering s).entries (registers_declared s)) ∙ declared_among s.registers s.ports p ∙ t)
     | inr f ↦ let h : (false || is_among p (names_of (all_wires s))) ≡ true = rw f at a.0 in rw f h
   ],
   shows_ports s k ps a.1,
@@ -116,7 +116,7 @@ shows_inputs s (x ∷ xs) a = (ap (λ (ns : List Name). is_among x.name ns) (inp
 pub lowered_rules : (s : Source) → IsGuarded s → length (all_wires s) < 2 ^ 64 → IsNetlist (lowered s)
 lowered_rules s g l =
     let n = lowered s in
-    let t = last_state s in
+    let t = last_lowering s in
     let I = variable_names s.inputs in
     let R = variable_names s.registers in
     let W = variable_names s.wires in

@@ -10,7 +10,7 @@ use Rattle.sap_net.specs.Names.{is_among}
 use Rattle.sap_net.specs.declared.parts.Wire.{Wire}
 use Rattle.sap_ir.specs.Source.{Source}
 use Rattle.sap_ir.specs.IsGuarded.{variable_names, memory_names, IsGuarded}
-use Rattle.sap_lower.specs.Lowered.{last_state, listed, all_wires, unported, names_declared}
+use Rattle.sap_lower.specs.Lowered.{last_lowering, listed, all_wires, unported, names_declared}
 use Rattle.sap_net.specs.Names.{IsHelpingName}
 use Rattle.sap_net.specs.IsNetlist.{names_of}
 use Rattle.sap_lower.specs.Same.{IsKept}
@@ -32,12 +32,12 @@ no_port false p h e = cc
 abbrev IsNamed : Source → Name → Type 0
 IsNamed s x = IsKept s x ⊎ IsHelpingName x
 
-module _ (s : Source) (g : IsGuarded s) (helping : AllByRecursion IsHelper (last_state s).wires) where
+module _ (s : Source) (g : IsGuarded s) (helping : AllByRecursion IsHelper (last_lowering s).wires) where
   abbrev all : List Name
   all = names_of (all_wires s)
 
   abbrev helpers : List Name
-  helpers = names_of (last_state s).wires
+  helpers = names_of (last_lowering s).wires
 
   abbrev shown : List Name
   shown = variable_names (listed s.ports s.wires)
@@ -54,12 +54,12 @@ module _ (s : Source) (g : IsGuarded s) (helping : AllByRecursion IsHelper (last
 
   all_among : (x : Name) → is_among x all ≡ true → (is_among x helpers || is_among x shown) ≡ true
   all_among x h =
-      sym (among_append x helpers shown) ∙ sym (ap (λ (ns : List Name). is_among x ns) (outs_named (last_state s).entries (last_state s).wires (listed s.ports s.wires))) ∙ h
+      sym (among_append x helpers shown) ∙ sym (ap (λ (ns : List Name). is_among x ns) (outs_named (last_lowering s).entries (last_lowering s).wires (listed s.ports s.wires))) ∙ h
 
   wire_named : (x : Name) → is_among x (unported s.ports all) ≡ true → IsNamed s x
   wire_named x h =
       elim (cases_Bool (is_among x helpers)) [
-        | inl t ↦ inr (among_each IsHelpingName helpers (helping_names (last_state s).wires helping) x t)
+        | inl t ↦ inr (among_each IsHelpingName helpers (helping_names (last_lowering s).wires helping) x t)
         | inr f ↦
             let p = listed_port s.ports s.wires x (or_other (is_among x helpers) (is_among x shown) (all_among x (of_unported s.ports all x h)) f) in
             absurd (no_port (is_among x all) (is_among x s.ports) (sym (unported_among s.ports all x) ∙ h) p)

@@ -1,5 +1,4 @@
 pub mod Shared
-pub mod Lookups
 pub mod Glue
 pub mod Means
 pub mod Stands

@@ -1,6 +1,5 @@
 -- What is made of a program is its netlist, with all that is known of it.
 use Rattle.std.proofs.Common.{◌≡◌, ℕ, ◌^◌, ◌<◌, List, [], ◌∷◌, ◌++◌, map, length, Some, true, false, sym, ap, ◌∙◌, subst, refl}
-use Rattle.std.specs.Map.{keys_of}
 use Rattle.sap_net.proofs.RulesLemmas.{readable_kept, wires_distinct}
 use Rattle.sap_net.proofs.NamesLemmas.{not_found}
 use Rattle.sap_maps.proofs.ScopeLemmas.{found_second}
@@ -15,18 +14,16 @@ use Rattle.sap_net.specs.declared.parts.Register.{Register}
 use Rattle.sap_net.specs.declared.parts.Memory.{Memory}
 use Rattle.sap_ir.specs.declared.guarded.Var.{Var}
 use Rattle.sap_ir.specs.declared.guarded.MemoryVariable.{MemoryVariable}
-use Rattle.sap_ir.specs.Source.{Source, Command}
+use Rattle.sap_ir.specs.Source.{Source}
 use Rattle.sap_ir.specs.Source as source
 use Rattle.sap_ir.specs.IsGuarded as ir
 use Rattle.sap_ir.specs.IsGuarded.{variable_names, IsGuarded}
 use Rattle.sap_ir.proofs.Declared.{not_front, distinct_front, distinct_behind, apart_lists, apart_lists_back}
 use Rattle.sap_lower.specs.declared.parts.Part.{Part}
 use Rattle.sap_lower.specs.declared.parts.WritePort.{WritePort}
-use Rattle.sap_lower.specs.Commands.{State, low_commands}
-use Rattle.sap_lower.specs.Lookup.{shapes_of}
-use Rattle.sap_lower.specs.Lowered.{named_entry, zero_entry, first_entries, first_port, first_state, last_state, listed, out_wire, register_of, memory_of, registers_declared, all_wires, net_declared, lowered}
+use Rattle.sap_lower.specs.declared.lowering.Lowering.{Lowering}
+use Rattle.sap_lower.specs.Lowered.{last_lowering, listed, out_wire, register_of, memory_of, registers_declared, all_wires, net_declared, lowered}
 use Rattle.sap_lower.specs.Same.{Declares}
-use Rattle.sap_lower.proofs.Steps.{same_state}
 use Rattle.sap_lower.proofs.Order.{same_found, found_of}
 use Rattle.sap_lower.proofs.Begins.{scope_of}
 use Rattle.sap_lower.proofs.Cycle.{Known}
@@ -89,7 +86,7 @@ outs_scope es [] (x ∷ xs) = ap (λ (l : Scope). (x.name, x.width) ∷ l) (outs
 
 pub declares_all : (s : Source) → IsGuarded s → length (all_wires s) < 2 ^ 64 → Declares s (lowered s)
 declares_all s g l =
-    let t = last_state s in
+    let t = last_lowering s in
     let M = ir.memory_names s.memories in
     let shown = listed s.ports s.wires in
     let W = variable_names shown in
@@ -112,29 +109,9 @@ declares_all s g l =
 
 -- what the code makes
 
-pub first_ports_named : (ms : List MemoryVariable) → keys_of (map first_port ms) ≡ map (λ m. m.name) ms
-first_ports_named [] = refl
-first_ports_named (m ∷ ms) = ap (λ (ns : List Name). m.name ∷ ns) (first_ports_named ms)
-
-pub made_is : (s : Source) (net : Net) (is rs ws : List Var) (ms : List MemoryVariable) (cs : List Command) (w0 w1 : List Wire) (e0 e1 e2 : List (Name × Part)) (p0 p1 p2 : List (Name × WritePort))
-    → is ≡ s.inputs → rs ≡ s.registers → ws ≡ s.wires → ms ≡ s.memories → cs ≡ s.commands
-    → e0 ≡ map named_entry is ++ map named_entry rs ++ map zero_entry ws → p0 ≡ map first_port ms → w0 ≡ []
-    → w1 ≡ (low_commands (shapes_of ms) (record { wires = w0; entries = e0; ports = p0 }) cs).wires
-    → e1 ≡ (low_commands (shapes_of ms) (record { wires = w0; entries = e0; ports = p0 }) cs).entries
-    → p1 ≡ (low_commands (shapes_of ms) (record { wires = w0; entries = e0; ports = p0 }) cs).ports
-    → e2 ≡ e1 → p2 ≡ p1 → net ≡ net_declared s (w1 ++ map (out_wire e2) (listed s.ports s.wires)) e2 p2 → net ≡ lowered s
-made_is s net is rs ws ms cs w0 w1 e0 e1 e2 p0 p1 p2 ei er ew em ec he hp hw h1 h2 h3 k2 k3 hn =
-    let fe : e0 ≡ first_entries s = he ∙ ap (λ (l : List Var). map named_entry l ++ map named_entry rs ++ map zero_entry ws) ei ∙ ap (λ (l : List Var). map named_entry s.inputs ++ map named_entry l ++ map zero_entry ws) er ∙ ap (λ (l : List Var). map named_entry s.inputs ++ map named_entry s.registers ++ map zero_entry l) ew in
-    let fp : p0 ≡ map first_port s.memories = hp ∙ ap (λ (l : List MemoryVariable). map first_port l) em in
-    let st = same_state w0 [] e0 (first_entries s) p0 (map first_port s.memories) hw fe fp in
-    let t = last_state s in
-    let last : low_commands (shapes_of ms) (record { wires = w0; entries = e0; ports = p0 }) cs ≡ t =
-    ap (λ (l : List MemoryVariable). low_commands (shapes_of l) (record { wires = w0; entries = e0; ports = p0 }) cs) em
-    ∙ ap (λ (q : State). low_commands (source.shapes s) q cs) st ∙ ap (λ (l : List Command). low_commands (source.shapes s) (first_state s) l) ec in
-    let a1 : w1 ≡ t.wires = h1 ∙ ap (λ (q : State). q.wires) last in
-    let a2 : e2 ≡ t.entries = k2 ∙ h2 ∙ ap (λ (q : State). q.entries) last in
-    let a3 : p2 ≡ t.ports = k3 ∙ h3 ∙ ap (λ (q : State). q.ports) last in
-    hn
-    ∙ ap (λ (x : List Wire). net_declared s (x ++ map (out_wire e2) (listed s.ports s.wires)) e2 p2) a1
-    ∙ ap (λ (y : List (Name × Part)). net_declared s (t.wires ++ map (out_wire y) (listed s.ports s.wires)) y p2) a2
-    ∙ ap (λ (z : List (Name × WritePort)). net_declared s (all_wires s) t.entries z) a3
+pub made_is : (s : Source) (net : Net) (l : Lowering) (ws : List Wire) → l ≡ last_lowering s → ws ≡ l.wires ++ map (out_wire l.entries) (listed s.ports s.wires)
+    → net ≡ net_declared s ws l.entries l.ports → net ≡ lowered s
+made_is s net l ws last all h =
+    h
+    ∙ ap (λ (x : List Wire). net_declared s x l.entries l.ports) all
+    ∙ ap (λ (q : Lowering). net_declared s (q.wires ++ map (out_wire q.entries) (listed s.ports s.wires)) q.entries q.ports) last

@@ -24,7 +24,7 @@ use Rattle.sap_lower.specs.declared.parts.Part.{Part}
 use Rattle.sap_share.specs.Names.{helper}
 use Rattle.sap_lower.specs.Lowering.{present}
 use Rattle.sap_lower.specs.Commands.{no_port, port_of}
-use Rattle.sap_lower.specs.Lowered.{named_entry, zero_entry, first_entries, first_port, index_bits, first_state, last_state, registers_declared}
+use Rattle.sap_lower.specs.Lowered.{named_entry, zero_entry, first_entries, first_port, index_bits, first_lowering, last_lowering, registers_declared}
 use Rattle.sap_lower.proofs.Standing.{ActionOk, CommandOk}
 use Rattle.sap_lower.proofs.Stands.{HasEntries}
 use Rattle.sap_lower.proofs.Fits.{NoHelpers, EnvFits}
@@ -213,13 +213,13 @@ no_helping_value s g k l =
     ∙ found_second (scope_of s.inputs) (scope_of s.registers) (helper k) (not_found {X = ℕ} (λ (x : Var). x.name) (λ x. x.width) s.inputs (helper k) a)
     ∙ not_found {X = ℕ} (λ (x : Var). x.name) (λ x. x.width) s.registers (helper k) b
 
-pub last_fits : (s : Source) → IsGuarded s → length (last_state s).wires < 2 ^ 64 → StateFits (source.shapes s) (first_scope s) (source.readable s) (last_state s)
+pub last_fits : (s : Source) → IsGuarded s → length (last_lowering s).wires < 2 ^ 64 → StateFits (source.shapes s) (first_scope s) (source.readable s) (last_lowering s)
 last_fits s g l =
-    let first : StateFits (source.shapes s) (first_scope s) (source.readable s) (first_state s) = record {
+    let first : StateFits (source.shapes s) (first_scope s) (source.readable s) (first_lowering s) = record {
       fits = record { wires = tt; named = tt; helping = tt; fresh = λ k a b. no_helping_value s g k b; others = λ n h. refl };
       env = first_env s;
       has = entries_have s;
       has_ports = ports_have s;
       ports = first_ports_fit s g (first_scope s);
     } in
-    commands_fit (source.shapes s) (first_scope s) (source.readable s) (no_helping_memory s g) (readable_wide s g) (λ m e h. (store_found s.memories g.memories m e h).0) s.commands (first_state s) (source_commands s g) first l
+    commands_fit (source.shapes s) (first_scope s) (source.readable s) (no_helping_memory s g) (readable_wide s g) (λ m e h. (store_found s.memories g.memories m e h).0) s.commands (first_lowering s) (source_commands s g) first l

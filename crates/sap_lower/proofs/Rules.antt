@@ -25,7 +25,7 @@ use Rattle.sap_ir.proofs.Declared.{distinct_behind, apart_lists, apart_lists_bac
 use Rattle.sap_lower.specs.declared.parts.Part.{Part}
 use Rattle.sap_lower.specs.declared.parts.WritePort.{WritePort}
 use Rattle.sap_lower.specs.Lowering.{present}
-use Rattle.sap_lower.specs.Lowered.{out_wire, register_of, memory_of, input_of, registers_declared, last_state, lowered}
+use Rattle.sap_lower.specs.Lowered.{out_wire, register_of, memory_of, input_of, registers_declared, last_lowering, lowered}
 use Rattle.sap_lower.proofs.Begins.{scope_of, shapes_list}
 use Rattle.sap_lower.proofs.Netlist.{first_scope}
 
@@ -40,14 +40,14 @@ registers_scope_is es [] = refl
 registers_scope_is es (x ∷ xs) = ap (λ ds. (x.name, x.width) ∷ ds) (registers_scope_is es xs)
 
 pub first_readable_is : (s : Source) → first_readable (lowered s) ≡ first_scope s
-first_readable_is s = ap₂ (λ (a b : Scope). a ++ b) (inputs_scope s.inputs) (registers_scope_is (last_state s).entries (registers_declared s))
+first_readable_is s = ap₂ (λ (a b : Scope). a ++ b) (inputs_scope s.inputs) (registers_scope_is (last_lowering s).entries (registers_declared s))
 
 shapes_of_memories : (ps : List (Name × WritePort)) (ms : List MemoryVariable) → map (λ (m : Memory). (m.name, (m.width, m.depth))) (map (memory_of ps) ms) ≡ shapes_list ms
 shapes_of_memories ps [] = refl
 shapes_of_memories ps (m ∷ ms) = ap (λ ds. (m.name, (m.width, m.depth)) ∷ ds) (shapes_of_memories ps ms)
 
 pub shapes_are : (s : Source) → shapes (lowered s) ≡ source.shapes s
-shapes_are s = shapes_of_memories (last_state s).ports s.memories
+shapes_are s = shapes_of_memories (last_lowering s).ports s.memories
 
 -- the wires that the program has
 

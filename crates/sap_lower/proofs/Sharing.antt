@@ -25,8 +25,9 @@ use Rattle.sap_share.specs.Names.{helper}
 use Rattle.sap_share.specs.Rights.{rights}
 use Rattle.sap_share.proofs.Differing.{all_more}
 use Rattle.sap_lower.specs.Lowering.{present, shared, plus, leaves_nothing, sliced, is_outside, cell_width, low, nothing}
-use Rattle.sap_lower.specs.Commands.{State, port_of, low_set, low_put, low_action, low_command, low_commands}
-use Rattle.sap_lower.specs.Lowered.{listed, out_wire, all_wires, first_state, last_state, lowered}
+use Rattle.sap_lower.specs.declared.lowering.Lowering.{Lowering}
+use Rattle.sap_lower.specs.Commands.{port_of, low_set, low_put, low_action, low_command, low_commands}
+use Rattle.sap_lower.specs.Lowered.{listed, out_wire, all_wires, first_lowering, last_lowering, lowered}
 use Rattle.sap_lower.specs.Same.{SharesWires}
 use Rattle.sap_lower.proofs.Fits.{IsHelper}
 use Rattle.sap_lower.proofs.Listed.{listed_holds}
@@ -91,7 +92,7 @@ put_differ ms es p c i t ws a =
     plus_differ j.wires p.width (Choose z.part.operand x.part.operand p.value)
     (plus_differ e.wires p.bits rj (plus_differ x.wires 1 re (low_differ ms es t y.wires (low_differ ms es i z.wires (low_differ ms es c ws a)))))
 
-set_differ : (ms : Shapes) (s : State) (c : Term Name) (n : Name) (t : Term Name) → AllDiffer s.wires → AllDiffer (low_set ms s c n t).wires
+set_differ : (ms : Shapes) (s : Lowering) (c : Term Name) (n : Name) (t : Term Name) → AllDiffer s.wires → AllDiffer (low_set ms s c n t).wires
 set_differ ms s c n t a =
     let es = s.entries in
     let z = low ms es c s.wires in
@@ -99,11 +100,11 @@ set_differ ms s c n t a =
     let old = present es n in
     plus_differ x.wires old.width (Choose z.part.operand x.part.operand old.operand) (low_differ ms es t z.wires (low_differ ms es c s.wires a))
 
-action_differ : (ms : Shapes) (s : State) (c : Term Name) (k : Action) → AllDiffer s.wires → AllDiffer (low_action ms s c k).wires
+action_differ : (ms : Shapes) (s : Lowering) (c : Term Name) (k : Action) → AllDiffer s.wires → AllDiffer (low_action ms s c k).wires
 action_differ ms s c (set x t) a = set_differ ms s c x t a
 action_differ ms s c (put m i t) a = put_differ ms s.entries (port_of s.ports m) c i t s.wires a
 
-commands_differ : (ms : Shapes) (cs : List Command) (s : State) → AllDiffer s.wires → AllDiffer (low_commands ms s cs).wires
+commands_differ : (ms : Shapes) (cs : List Command) (s : Lowering) → AllDiffer s.wires → AllDiffer (low_commands ms s cs).wires
 commands_differ ms [] s a = a
 commands_differ ms (c ∷ cs) s a = commands_differ ms cs (low_command ms s c) (action_differ ms s c.when c.act a)
 
@@ -129,9 +130,9 @@ no_wires s g (w ∷ ws) a =
 
 pub shares_wires : (s : Source) → IsGuarded s → length (all_wires s) < 2 ^ 64 → SharesWires s (lowered s)
 shares_wires s g l =
-    let t = last_state s in
+    let t = last_lowering s in
     let names = variable_names s.wires in
     let fits = last_fits s g (last_short s l) in
     let there = each_variable (λ x. is_among x.name names ≡ true) s.wires (λ x a. a) in
     let e = helping_is names t.entries t.wires (listed s.ports s.wires) (no_wires s g t.wires fits.fits.helping) (listed_holds (λ x. is_among x.name names ≡ true) s.ports s.wires there) in
-    subst AllDiffer (sym e) (commands_differ (shapes s) s.commands (first_state s) tt)
+    subst AllDiffer (sym e) (commands_differ (shapes s) s.commands (first_lowering s) tt)

@@ -33,8 +33,9 @@ use Rattle.sap_share.specs.Keys.{key}
 use Rattle.sap_share.specs.Names.{helper}
 use Rattle.sap_share.specs.Rights.{rights}
 use Rattle.sap_lower.specs.Lowering.{nothing, present, Low, shared, plus, leaves_nothing, low_two, sliced, is_outside, low_slice, cell_width, low_join, low}
-use Rattle.sap_lower.specs.Commands.{State, port_of, low_chosen, merged_port, low_put, low_action, low_command, low_commands}
-use Rattle.sap_lower.specs.Lowered.{first_state, last_state, out_wire, listed, unlisted, unported, picked, register_of, memory_of, registers_declared, lowered}
+use Rattle.sap_lower.specs.declared.lowering.Lowering.{Lowering}
+use Rattle.sap_lower.specs.Commands.{port_of, low_chosen, merged_port, low_put, low_action, low_command, low_commands}
+use Rattle.sap_lower.specs.Lowered.{first_lowering, last_lowering, out_wire, listed, unlisted, unported, picked, register_of, memory_of, registers_declared, lowered}
 use Rattle.sap_lower.proofs.Declares.{picked_names, unlisted_names}
 use Rattle.sap_lower.proofs.Listed.{listed_names}
 use Rattle.sap_share.proofs.RightMaps.{last_here}
@@ -392,11 +393,11 @@ put_adds ms es p c i a ws =
     let n = port_adds p z.part.operand y.part.operand x.part.operand x.wires in
     omega (arith, k, l, m, n)
 
-action_adds : (ms : Shapes) (s : State) (c : Term Name) (a : Action) → length (low_action ms s c a).wires ≤ length s.wires + (operations c + action_weight a)
+action_adds : (ms : Shapes) (s : Lowering) (c : Term Name) (a : Action) → length (low_action ms s c a).wires ≤ length s.wires + (operations c + action_weight a)
 action_adds ms s c (set x a) = let p = chosen_adds ms s.entries s.wires c x a in omega (arith, p)
 action_adds ms s c (put m i a) = let p = put_adds ms s.entries (port_of s.ports m) c i a s.wires in omega (arith, p)
 
-commands_add : (ms : Shapes) (s : State) (cs : List Command) → length (low_commands ms s cs).wires ≤ length s.wires + commands_weight cs
+commands_add : (ms : Shapes) (s : Lowering) (cs : List Command) → length (low_commands ms s cs).wires ≤ length s.wires + commands_weight cs
 commands_add ms s [] = omega arith
 commands_add ms s (c ∷ cs) =
     let p = action_adds ms s c.when c.act in
@@ -467,9 +468,9 @@ lowered_small s g =
     let R = variable_names s.registers in
     let W = variable_names s.wires in
     let M = memory_names s.memories in
-    let t = last_state s in
+    let t = last_lowering s in
     let d = distinct_front W M (distinct_behind R (W ++ M) (distinct_behind I (R ++ (W ++ M)) g.declared_once)) in
-    let a = commands_add (shapes s) (first_state s) s.commands in
+    let a = commands_add (shapes s) (first_lowering s) s.commands in
     let b = shown_count s d in
     let c = registers_count s g.ports_once in
     let e = length-append t.wires (map (out_wire t.entries) (listed s.ports s.wires)) in

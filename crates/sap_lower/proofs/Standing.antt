@@ -15,8 +15,9 @@ use Rattle.sap_ir.specs.Guarded.{Going, value_in, set_cell, after_action, after_
 use Rattle.sap_ir.specs.IsGuarded.{TermFine}
 use Rattle.sap_ir.specs.Writes.{with_memory, memories_written}
 use Rattle.sap_lower.specs.declared.parts.WritePort.{WritePort}
-use Rattle.sap_lower.specs.Commands.{replaced}
-use Rattle.sap_lower.specs.Commands.{State, no_port, port_of, low_set, low_put, low_action, low_command, low_commands}
+use Rattle.sap_share.specs.Tables.{replaced}
+use Rattle.sap_lower.specs.declared.lowering.Lowering.{Lowering}
+use Rattle.sap_lower.specs.Commands.{no_port, port_of, low_set, low_put, low_action, low_command, low_commands}
 use Rattle.sap_lower.proofs.Shared.{Gives}
 use Rattle.sap_lower.proofs.Means.{SameCells, Around}
 use Rattle.sap_lower.proofs.Stands.{HasEntries, replaced_same, replaced_other, replaced_has, set_front, set_stands}
@@ -33,7 +34,7 @@ CommandOk ms vars c = TermFine ms vars 1 c.when × ActionOk ms vars c.act
 abbrev pub PortsAre : Shapes → Valuation → List (Name × WritePort) → Going → (Name → Bool) → Type 0
 PortsAre ms v ps g done = (m : Name) (e : ℕ × ℕ) → find ms m ≡ Some e → PortIs v (port_of ps m) m g (done m)
 
-pub record Standing (ms : Shapes) (vars : Scope) (vw widths : Name → ℕ) (v : Valuation) (s : State) (g : Going) (done : Name → Bool) : Type 0 where
+pub record Standing (ms : Shapes) (vars : Scope) (vw widths : Name → ℕ) (v : Valuation) (s : Lowering) (g : Going) (done : Name → Bool) : Type 0 where
   pub around : Around ms vars vw widths v s.entries g.now.value g.now.cell
   pub has : HasEntries vars s.entries
   pub has_ports : HasEntries ms s.ports
@@ -48,11 +49,11 @@ abbrev pub done_after : (off : Bool) → Action → (Name → Bool) → Name →
 done_after off (set x a) done n = done n
 done_after off (put m i a) done n = if off then done n else (if bytes_eq m n then true else done n)
 
-actions_front : (widths : Name → ℕ) (v : Valuation) (ms : Shapes) (s : State) (c : Term Name) (a : Action) → Gives widths v (low_action ms s c a).wires → Gives widths v s.wires
+actions_front : (widths : Name → ℕ) (v : Valuation) (ms : Shapes) (s : Lowering) (c : Term Name) (a : Action) → Gives widths v (low_action ms s c a).wires → Gives widths v s.wires
 actions_front widths v ms s c (set x a) h = set_front widths v ms s c x a h
 actions_front widths v ms s c (put m i a) h = put_front widths v ms s.entries (port_of s.ports m) c i a s.wires h
 
-pub commands_front : (widths : Name → ℕ) (v : Valuation) (ms : Shapes) (cs : List Command) (s : State) → Gives widths v (low_commands ms s cs).wires → Gives widths v s.wires
+pub commands_front : (widths : Name → ℕ) (v : Valuation) (ms : Shapes) (cs : List Command) (s : Lowering) → Gives widths v (low_commands ms s cs).wires → Gives widths v s.wires
 commands_front widths v ms [] s h = h
 commands_front widths v ms (c ∷ cs) s h =
     actions_front widths v ms s c.when c.act (commands_front widths v ms cs (low_command ms s c) h)
@@ -65,7 +66,7 @@ same_else : (off d b : Bool) → b ≡ false → (if off then d else (if b then 
 same_else true d b f = refl
 same_else false d b f = rw f refl
 
-action_stands : (ms : Shapes) (vars : Scope) (vw widths : Name → ℕ) (v : Valuation) (s : State) (g : Going) (done : Name → Bool) → Standing ms vars vw widths v s g done → (c : Term Name) (a : Action) → TermFine ms vars 1 c → ActionOk ms vars a → ((m : Name) → (value_in vw g c == 0) ≡ false → is_among m (with_memory a []) ≡ true → done m ≡ false) → Gives widths v (low_action ms s c a).wires
+action_stands : (ms : Shapes) (vars : Scope) (vw widths : Name → ℕ) (v : Valuation) (s : Lowering) (g : Going) (done : Name → Bool) → Standing ms vars vw widths v s g done → (c : Term Name) (a : Action) → TermFine ms vars 1 c → ActionOk ms vars a → ((m : Name) → (value_in vw g c == 0) ≡ false → is_among m (with_memory a []) ≡ true → done m ≡ false) → Gives widths v (low_action ms s c a).wires
     → Standing ms vars vw widths v (low_action ms s c a) (if value_in vw g c == 0 then g else after_action vw g a) (done_after (value_in vw g c == 0) a done)
 action_stands ms vars vw widths v s g done k c (set x t) fc f once h =
     let off = value_in vw g c == 0 in
@@ -134,7 +135,7 @@ once_now false (put n i a) done others l m o h =
     elim (cases_Bool (bytes_eq m n)) [ inl t ↦ l.apart m (rw t refl) | inr f ↦ absurd (let e : (false || false) ≡ true = rw f at h in cc) ]
 
 -- all commands
-pub commands_stand : (ms : Shapes) (vars : Scope) (vw widths : Name → ℕ) (v : Valuation) (cs : List Command) (s : State) (g : Going) (done : Name → Bool) → Standing ms vars vw widths v s g done → AllByRecursion (CommandOk ms vars) cs → Later done (memories_written vw g cs) → Gives widths v (low_commands ms s cs).wires
+pub commands_stand : (ms : Shapes) (vars : Scope) (vw widths : Name → ℕ) (v : Valuation) (cs : List Command) (s : Lowering) (g : Going) (done : Name → Bool) → Standing ms vars vw widths v s g done → AllByRecursion (CommandOk ms vars) cs → Later done (memories_written vw g cs) → Gives widths v (low_commands ms s cs).wires
     → (last : Name → Bool) × Standing ms vars vw widths v (low_commands ms s cs) (after vw g cs) last
 commands_stand ms vars vw widths v [] s g done k f l h = (done, k)
 commands_stand ms vars vw widths v (c ∷ cs) s g done k f l h =

@@ -13,8 +13,9 @@ use Rattle.sap_net.specs.declared.parts.Right.TheVariants.{Choose}
 use Rattle.sap_ir.specs.Guarded.{Going, value_in}
 use Rattle.sap_ir.specs.IsGuarded.{TermFine}
 use Rattle.sap_lower.specs.Lowering.{nothing, present, low}
-use Rattle.sap_lower.specs.Commands.{replaced}
-use Rattle.sap_lower.specs.Commands.{State, low_set}
+use Rattle.sap_share.specs.Tables.{replaced}
+use Rattle.sap_lower.specs.declared.lowering.Lowering.{Lowering}
+use Rattle.sap_lower.specs.Commands.{low_set}
 use Rattle.sap_lower.proofs.Shared.{Gives}
 use Rattle.sap_lower.proofs.Means.{Stands, Env, Around, plus_front, plus_shows, low_front, low_stands}
 
@@ -58,7 +59,7 @@ set_at_same : (b : Bool) (g : Going) (n : Name) (a : ℕ) → (if b then g else 
 set_at_same true g n a = refl
 set_at_same false g n a = rw (bytes_eq_same n) refl
 
-pub set_front : (widths : Name → ℕ) (v : Valuation) (ms : Shapes) (s : State) (c : Term Name) (n : Name) (t : Term Name) → Gives widths v (low_set ms s c n t).wires → Gives widths v s.wires
+pub set_front : (widths : Name → ℕ) (v : Valuation) (ms : Shapes) (s : Lowering) (c : Term Name) (n : Name) (t : Term Name) → Gives widths v (low_set ms s c n t).wires → Gives widths v s.wires
 set_front widths v ms s c n t h =
     let es = s.entries in
     let z = low ms es c s.wires in
@@ -68,7 +69,7 @@ set_front widths v ms s c n t h =
     low_front widths v ms es c s.wires (low_front widths v ms es t z.wires hx)
 
 -- one assignment: what the name stands for, and the others as before
-set_here : (ms : Shapes) (vars : Scope) (vw widths : Name → ℕ) (v : Valuation) (s : State) (g : Going) → Around ms vars vw widths v s.entries g.now.value g.now.cell → (c : Term Name) (n : Name) (t : Term Name) (u : ℕ) → find vars n ≡ Some u → TermFine ms vars 1 c → TermFine ms vars u t → Gives widths v (low_set ms s c n t).wires → Stands widths v (low_set ms s c n t).part u (if value_in vw g c == 0 then g.now.value n else value_in vw g t)
+set_here : (ms : Shapes) (vars : Scope) (vw widths : Name → ℕ) (v : Valuation) (s : Lowering) (g : Going) → Around ms vars vw widths v s.entries g.now.value g.now.cell → (c : Term Name) (n : Name) (t : Term Name) (u : ℕ) → find vars n ≡ Some u → TermFine ms vars 1 c → TermFine ms vars u t → Gives widths v (low_set ms s c n t).wires → Stands widths v (low_set ms s c n t).part u (if value_in vw g c == 0 then g.now.value n else value_in vw g t)
 set_here ms vars vw widths v s g k c n t u found fc ft h =
     let es = s.entries in
     let z = low ms es c s.wires in
@@ -85,7 +86,7 @@ set_here ms vars vw widths v s g k c n t u found fc ft h =
       below = below_both (value_in vw g c == 0) (g.now.value n) (value_in vw g t) (2 ^ u) so.below sx.below;
     }
 
-pub set_stands : (ms : Shapes) (vars : Scope) (vw widths : Name → ℕ) (v : Valuation) (s : State) (g : Going) → Around ms vars vw widths v s.entries g.now.value g.now.cell → HasEntries vars s.entries → (c : Term Name) (n : Name) (t : Term Name) (u : ℕ) → find vars n ≡ Some u → TermFine ms vars 1 c → TermFine ms vars u t → Gives widths v (low_set ms s c n t).wires
+pub set_stands : (ms : Shapes) (vars : Scope) (vw widths : Name → ℕ) (v : Valuation) (s : Lowering) (g : Going) → Around ms vars vw widths v s.entries g.now.value g.now.cell → HasEntries vars s.entries → (c : Term Name) (n : Name) (t : Term Name) (u : ℕ) → find vars n ≡ Some u → TermFine ms vars 1 c → TermFine ms vars u t → Gives widths v (low_set ms s c n t).wires
     → Env widths v vars (replaced s.entries n (low_set ms s c n t).part) (if value_in vw g c == 0 then g else record { now = set_value g.now n (value_in vw g t); next = g.next }).now.value
 set_stands ms vars vw widths v s g k has c n t u found fc ft h m w f =
     let b = value_in vw g c == 0 in

@@ -23,7 +23,7 @@ use Rattle.sap_lower.specs.declared.parts.Part.{Part}
 use Rattle.sap_lower.specs.declared.parts.WritePort.{WritePort}
 use Rattle.sap_lower.specs.Lowering.{present}
 use Rattle.sap_lower.specs.Commands.{port_of}
-use Rattle.sap_lower.specs.Lowered.{listed, out_wire, register_of, memory_of, all_wires, last_state}
+use Rattle.sap_lower.specs.Lowered.{listed, out_wire, register_of, memory_of, all_wires, last_lowering}
 use Rattle.sap_lower.proofs.Fits.{EnvFits}
 use Rattle.sap_lower.proofs.CommandsFit.{PortsFit, StateFits}
 use Rattle.sap_lower.proofs.Begins.{scope_of, shapes_list}
@@ -35,8 +35,8 @@ long_front : (ws vs : List Wire) → length ws ≤ length (ws ++ vs)
 long_front [] vs = omega arith
 long_front (w ∷ ws) vs = omega (arith, long_front ws vs)
 
-pub last_short : (s : Source) → length (all_wires s) < 2 ^ 64 → length (last_state s).wires < 2 ^ 64
-last_short s l = omega (arith, long_front (last_state s).wires (map (out_wire (last_state s).entries) (listed s.ports s.wires)))
+pub last_short : (s : Source) → length (all_wires s) < 2 ^ 64 → length (last_lowering s).wires < 2 ^ 64
+last_short s l = omega (arith, long_front (last_lowering s).wires (map (out_wire (last_lowering s).entries) (listed s.ports s.wires)))
 
 pub both_hold : (P Q R : Var → Type 0) (xs : List Var) → ((x : Var) → P x → Q x → R x) → AllByRecursion P xs → AllByRecursion Q xs → AllByRecursion R xs
 both_hold P Q R [] h a b = tt
@@ -83,11 +83,11 @@ env_operands sc vars es e [] f = tt
 env_operands sc vars es e (x ∷ xs) f = ((e x.name x.width f.0).0, env_operands sc vars es e xs f.1)
 
 abbrev outs : Source → List Wire
-outs s = map (out_wire (last_state s).entries) (listed s.ports s.wires)
+outs s = map (out_wire (last_lowering s).entries) (listed s.ports s.wires)
 
-outs_are : (s : Source) → IsGuarded s → StateFits (source.shapes s) (first_scope s) (source.readable s) (last_state s) → AreWires (source.shapes s) (readable_after (first_scope s) (last_state s).wires) (outs s)
+outs_are : (s : Source) → IsGuarded s → StateFits (source.shapes s) (first_scope s) (source.readable s) (last_lowering s) → AreWires (source.shapes s) (readable_after (first_scope s) (last_lowering s).wires) (outs s)
 outs_are s g k =
-    let t = last_state s in
+    let t = last_lowering s in
     let sc = readable_after (first_scope s) t.wires in
     let d2 = distinct_behind (variable_names s.registers) (variable_names s.wires ++ memory_names s.memories) (distinct_behind (variable_names s.inputs) (variable_names s.registers ++ (variable_names s.wires ++ memory_names s.memories)) g.declared_once) in
     let P = s.ports in
@@ -101,14 +101,14 @@ outs_are s g k =
     (listed_holds (λ x. find (source.shapes s) x.name ≡ None) P W (each_variable (λ x. find (source.shapes s) x.name ≡ None) W (λ x a. not_found {X = ℕ × ℕ} (λ (m : MemoryVariable). m.name) (λ m. (m.width, m.depth)) s.memories x.name (wire_among s g.declared_once x.name a).2)))
     (env_operands sc (source.readable s) t.entries k.env (listed P W) (listed_holds (λ x. find (source.readable s) x.name ≡ Some x.width) P W (wires_found s g)))
 
-pub wires_are : (s : Source) → IsGuarded s → StateFits (source.shapes s) (first_scope s) (source.readable s) (last_state s) → AreWires (source.shapes s) (first_scope s) (all_wires s)
-wires_are s g k = wires_both (source.shapes s) (last_state s).wires (outs s) (first_scope s) k.fits.wires (outs_are s g k)
+pub wires_are : (s : Source) → IsGuarded s → StateFits (source.shapes s) (first_scope s) (source.readable s) (last_lowering s) → AreWires (source.shapes s) (first_scope s) (all_wires s)
+wires_are s g k = wires_both (source.shapes s) (last_lowering s).wires (outs s) (first_scope s) k.fits.wires (outs_are s g k)
 
 -- what can be read behind the helping wires can be read behind all
-pub grows_to_all : (s : Source) → IsGuarded s → (k : StateFits (source.shapes s) (first_scope s) (source.readable s) (last_state s)) → Grows (readable_after (first_scope s) (last_state s).wires) (readable_after (first_scope s) (all_wires s))
+pub grows_to_all : (s : Source) → IsGuarded s → (k : StateFits (source.shapes s) (first_scope s) (source.readable s) (last_lowering s)) → Grows (readable_after (first_scope s) (last_lowering s).wires) (readable_after (first_scope s) (all_wires s))
 grows_to_all s g k n u h =
-    let sc = readable_after (first_scope s) (last_state s).wires in
-    subst (λ (sd : Scope). find sd n ≡ Some u) (sym (readable_both (last_state s).wires (outs s) (first_scope s))) (readable_kept (source.shapes s) (outs s) sc (outs_are s g k) n u h)
+    let sc = readable_after (first_scope s) (last_lowering s).wires in
+    subst (λ (sd : Scope). find sd n ≡ Some u) (sym (readable_both (last_lowering s).wires (outs s) (first_scope s))) (readable_kept (source.shapes s) (outs s) sc (outs_are s g k) n u h)
 
 pub nexts_are : (sc sd vars : Scope) (es : List (Name × Part)) → Grows sc sd → EnvFits sc vars es → (xs : List Var) → AllByRecursion (λ x. find vars x.name ≡ Some x.width) xs → AllByRecursion IsRegisterVar xs → AllByRecursion (λ x. IsRegister sd (register_of es x)) xs
 nexts_are sc sd vars es g e [] f a = tt

@@ -18,10 +18,11 @@ use Rattle.sap_ir.specs.declared.guarded.Var.{Var}
 use Rattle.sap_ir.specs.declared.guarded.MemoryVariable.{MemoryVariable}
 use Rattle.sap_ir.specs.Source.{Source, shapes}
 use Rattle.sap_ir.specs.IsGuarded.{variable_names, memory_names}
+use Rattle.sap_lower.specs.declared.lowering.Lowering.{Lowering}
 use Rattle.sap_lower.specs.declared.parts.Part.{Part}
 use Rattle.sap_lower.specs.declared.parts.WritePort.{WritePort}
 use Rattle.sap_lower.specs.Lowering.{present}
-use Rattle.sap_lower.specs.Commands.{State, port_of, low_commands}
+use Rattle.sap_lower.specs.Commands.{port_of, low_commands}
 
 -- Inputs and registers stand for themselves at first, wires for 0.
 
@@ -46,11 +47,11 @@ abbrev pub first_port : MemoryVariable → Name × WritePort
 first_port m =
     (m.name, record { width = m.width; bits = index_bits m.depth; enable = Constant 1 0; index = Constant (index_bits m.depth) 0; value = Constant m.width 0 })
 
-abbrev pub first_state : Source → State
-first_state s = record { wires = []; entries = first_entries s; ports = map first_port s.memories }
+abbrev pub first_lowering : Source → Lowering
+first_lowering s = record { wires = []; entries = first_entries s; ports = map first_port s.memories }
 
-abbrev pub last_state : Source → State
-last_state s = low_commands (shapes s) (first_state s) s.commands
+abbrev pub last_lowering : Source → Lowering
+last_lowering s = low_commands (shapes s) (first_lowering s) s.commands
 
 -- a copy of what a wire stands for at the end
 abbrev pub out_wire : List (Name × Part) → Var → Wire
@@ -93,11 +94,15 @@ input_port x = record { name = x.name; kind = kind.Input }
 abbrev pub kind_shown : (is_register : Bool) → PortKind
 kind_shown b = if b then kind.Register else kind.Wire
 
+-- a port of one of these registers, or else of a wire
+abbrev pub port_among : (registers : List Name) → Name → Port
+port_among rs p = record { name = p; kind = kind_shown (is_among p rs) }
+
 abbrev pub port_shown : List Var → Name → Port
-port_shown rs p = record { name = p; kind = kind_shown (is_among p (variable_names rs)) }
+port_shown rs p = port_among (variable_names rs) p
 
 abbrev pub all_wires : Source → List Wire
-all_wires s = let t = last_state s in t.wires ++ map (out_wire t.entries) (listed s.ports s.wires)
+all_wires s = let t = last_lowering s in t.wires ++ map (out_wire t.entries) (listed s.ports s.wires)
 
 -- what no port declares
 abbrev pub unported : List Name → List Name → List Name
@@ -121,4 +126,4 @@ net_declared s ws es ps =
     }
 
 abbrev pub lowered : Source → Net
-lowered s = net_declared s (all_wires s) (last_state s).entries (last_state s).ports
+lowered s = net_declared s (all_wires s) (last_lowering s).entries (last_lowering s).ports

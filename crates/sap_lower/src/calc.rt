@@ -1,22 +1,18 @@
 //! Expressions to wires of one operator each.
 
 ghost use Rattle.std.specs.Prelude.{◌≡◌, ◌-◌, ◌+◌, ◌<◌, ◌≤◌, map, IfOk, OnOk};
-ghost use Rattle.std.specs.Map.{keys_of};
 ghost use Rattle.sap_bits.specs.Arithmetic.{width1, width2, slice_of};
 ghost use Rattle.sap_ir.specs.Calcs.{term_of};
-ghost use Rattle.sap_net.specs.NameMaps.{Indexes};
 ghost use Rattle.sap_lower.specs.Lowering.{cell_width, leaves_nothing, low, low_join, low_slice, low_two, nothing, present};
 ghost use Rattle.sap_lower.specs.Parts.{glued, low_all};
-ghost use Rattle.sap_lower.specs.Lookup.{shapes_of};
 
 use crate::parts::Part;
 use crate::wires::Wires;
 use sap_bits::{Op1, Op2, slice};
-use sap_ir::guarded::{Calc, MemoryVariable};
-use sap_net::name_map::at_name;
+use sap_ir::guarded::Calc;
 use sap_net::parts::{Name, Operand, Operands, Right};
+use sap_share::table::Table;
 use std::alloc::{AllocError, Global};
-use std::collections::HashMap;
 
 /// The operand of what has no part.
 fn nothing_yet() -> Part
@@ -29,28 +25,21 @@ fn nothing_yet() -> Part
 }
 
 /// What a name stands for.
-pub fn present_part(
-    alloc: Global,
-    places: &HashMap<Vec<u8>, usize>,
-    entries: &[(Name, Part)],
-    name: &Name,
-) -> Result<Part, AllocError>
-    requires { Indexes places.now (keys_of entries.now) }
+pub fn present_part(alloc: Global, entries: &Table<Part>, name: &Name) -> Result<Part, AllocError>
     ensures { IfOk result (λ p. p ≡ present entries.now name.now) }
 {
-    match at_name(places, name.as_bytes()) {
-        Some(k) => entries[k].1.copy(alloc),
+    match entries.get(name) {
+        Some(part) => part.copy(alloc),
         None => Ok(nothing_yet()),
     }
 }
 
 /// The width of a memory's cells.
-fn width_of_cells(places: &HashMap<Vec<u8>, usize>, stores: &[MemoryVariable], memory: &Name) -> u32
-    requires { Indexes places.now (map (λ m. m.name) stores.now) }
-    ensures { result ≡ cell_width (shapes_of stores.now) memory.now }
+fn width_of_cells(memories: &Table<(u32, u32)>, memory: &Name) -> u32
+    ensures { result ≡ cell_width memories.now memory.now }
 {
-    match at_name(places, memory.as_bytes()) {
-        Some(k) => stores[k].width,
+    match memories.get(memory) {
+        Some(shape) => shape.0,
         None => 0,
     }
 }
@@ -166,16 +155,12 @@ fn glue(alloc: Global, wires: &mut Wires, parts: Vec<Part>) -> Result<Part, Allo
 pub fn lower_calc(
     alloc: Global,
     wires: &mut Wires,
-    places: &HashMap<Vec<u8>, usize>,
-    entries: &[(Name, Part)],
-    store_places: &HashMap<Vec<u8>, usize>,
-    stores: &[MemoryVariable],
+    entries: &Table<Part>,
+    memories: &Table<(u32, u32)>,
     calc: &Calc,
 ) -> Result<Part, AllocError>
-    requires places { Indexes places.now (keys_of entries.now) }
-    requires stores { Indexes store_places.now (map (λ m. m.name) stores.now) }
-    ensures wires { OnOk result (wires.new ≡ (low (shapes_of stores.now) entries.now (term_of calc.now) wires.old).wires) }
-    ensures part { IfOk result (λ p. p ≡ (low (shapes_of stores.now) entries.now (term_of calc.now) wires.old).part) }
+    ensures wires { OnOk result (wires.new ≡ (low memories.now entries.now (term_of calc.now) wires.old).wires) }
+    ensures part { IfOk result (λ p. p ≡ (low memories.now entries.now (term_of calc.now) wires.old).part) }
 {
     match calc {
         Calc::Constant { width, value } => Ok(Part {
@@ -185,10 +170,10 @@ pub fn lower_calc(
             },
             width: *width,
         }),
-        Calc::Read(name) => present_part(alloc, places, entries, name),
+        Calc::Read(name) => present_part(alloc, entries, name),
         Calc::Cell { memory, index } => {
-            let index = lower_calc(alloc, wires, places, entries, store_places, stores, index)?;
-            let width = width_of_cells(store_places, stores, memory);
+            let index = lower_calc(alloc, wires, entries, memories, index)?;
+            let width = width_of_cells(memories, memory);
             let memory = memory.copy(alloc)?;
             wires.add(
                 alloc,
@@ -200,18 +185,18 @@ pub fn lower_calc(
             )
         }
         Calc::One(op, a) => {
-            let a = lower_calc(alloc, wires, places, entries, store_places, stores, a)?;
+            let a = lower_calc(alloc, wires, entries, memories, a)?;
             wires.add(alloc, width_one(*op, a.width), Right::One(*op, a.operand))
         }
         Calc::Two(op, a, b) => {
-            let a = lower_calc(alloc, wires, places, entries, store_places, stores, a)?;
-            let b = lower_calc(alloc, wires, places, entries, store_places, stores, b)?;
+            let a = lower_calc(alloc, wires, entries, memories, a)?;
+            let b = lower_calc(alloc, wires, entries, memories, b)?;
             lower_two(alloc, wires, *op, a, b)
         }
         Calc::Choose(c, a, b) => {
-            let c = lower_calc(alloc, wires, places, entries, store_places, stores, c)?;
-            let a = lower_calc(alloc, wires, places, entries, store_places, stores, a)?;
-            let b = lower_calc(alloc, wires, places, entries, store_places, stores, b)?;
+            let c = lower_calc(alloc, wires, entries, memories, c)?;
+            let a = lower_calc(alloc, wires, entries, memories, a)?;
+            let b = lower_calc(alloc, wires, entries, memories, b)?;
             wires.add(
                 alloc,
                 a.width,
@@ -219,11 +204,11 @@ pub fn lower_calc(
             )
         }
         Calc::Concat(parts) => {
-            let parts = lower_all(alloc, wires, places, entries, store_places, stores, parts)?;
+            let parts = lower_all(alloc, wires, entries, memories, parts)?;
             glue(alloc, wires, parts)
         }
         Calc::Slice { of, hi, lo } => {
-            let of = lower_calc(alloc, wires, places, entries, store_places, stores, of)?;
+            let of = lower_calc(alloc, wires, entries, memories, of)?;
             lower_slice(alloc, wires, of.operand, *hi, *lo)
         }
     }
@@ -234,20 +219,16 @@ pub fn lower_calc(
 fn lower_all(
     alloc: Global,
     wires: &mut Wires,
-    places: &HashMap<Vec<u8>, usize>,
-    entries: &[(Name, Part)],
-    store_places: &HashMap<Vec<u8>, usize>,
-    stores: &[MemoryVariable],
+    entries: &Table<Part>,
+    memories: &Table<(u32, u32)>,
     calcs: &[Calc],
 ) -> Result<Vec<Part>, AllocError>
-    requires places { Indexes places.now (keys_of entries.now) }
-    requires stores { Indexes store_places.now (map (λ m. m.name) stores.now) }
-    ensures wires { OnOk result (wires.new ≡ (low_all (shapes_of stores.now) entries.now (map term_of calcs.now) wires.old).wires) }
-    ensures parts { IfOk result (λ ps. ps.items ≡ (low_all (shapes_of stores.now) entries.now (map term_of calcs.now) wires.old).parts) }
+    ensures wires { OnOk result (wires.new ≡ (low_all memories.now entries.now (map term_of calcs.now) wires.old).wires) }
+    ensures parts { IfOk result (λ ps. ps.items ≡ (low_all memories.now entries.now (map term_of calcs.now) wires.old).parts) }
 {
     let mut parts = Vec::new(alloc);
     for calc in calcs {
-        let part = lower_calc(alloc, wires, places, entries, store_places, stores, calc)?;
+        let part = lower_calc(alloc, wires, entries, memories, calc)?;
         parts.push(part)?;
     }
     Ok(parts)

@@ -1,35 +1,25 @@
 //! The declarations of the netlist.
 
-ghost use Rattle.std.specs.Prelude.{◌≡◌, List, [], ◌∷◌, ◌++◌, map, IfOk, OnOk};
-ghost use Rattle.sap_maps.specs.Maps.{Name as Text};
-ghost use Rattle.sap_ir.specs.declared.guarded.Var.{Var as Variable};
+ghost use Rattle.std.specs.Prelude.{◌≡◌, [], ◌∷◌, ◌++◌, map, IfOk, OnOk};
 ghost use Rattle.sap_net.specs.IsNetlist.{names_of};
-ghost use Rattle.std.specs.Map.{keys_of};
 ghost use Rattle.sap_ir.specs.IsGuarded.{memory_names, variable_names};
-ghost use Rattle.sap_net.specs.NameMaps.{Indexes};
-ghost use Rattle.sap_lower.specs.Lowered.{input_of, input_port, listed, memory_of, net_declared, out_wire, picked, port_shown, register_of, unlisted, unported};
+ghost use Rattle.sap_lower.specs.Lowered.{input_of, input_port, listed, memory_of, out_wire, picked, port_among, register_of, unlisted, unported};
 
 use crate::calc::present_part;
-use crate::commands::present_port;
 use crate::parts::{Part, WritePort};
+use crate::write_ports::present_port;
 use sap_ir::guarded::{MemoryVariable, Var, variable_names};
-use sap_net::name_map::{at_name, is_indexed};
 use sap_net::parts::{Input, Memory, Name, Port, PortKind, Register, Right, Wire};
+use sap_share::places::Places;
+use sap_share::table::Table;
 use sap_text::name::copy_names;
 use std::alloc::{AllocError, Global};
-use std::collections::HashMap;
 
-fn register(
-    alloc: Global,
-    places: &HashMap<Vec<u8>, usize>,
-    entries: &[(Name, Part)],
-    variable: &Var,
-) -> Result<Register, AllocError>
-    requires { Indexes places.now (keys_of entries.now) }
+fn register(alloc: Global, entries: &Table<Part>, variable: &Var) -> Result<Register, AllocError>
     ensures { IfOk result (λ r. r ≡ register_of entries.now variable.now) }
 {
     let name = variable.name.copy(alloc)?;
-    let next = present_part(alloc, places, entries, &variable.name)?;
+    let next = present_part(alloc, entries, &variable.name)?;
     Ok(Register {
         name,
         width: variable.width,
@@ -38,17 +28,11 @@ fn register(
     })
 }
 
-fn wire(
-    alloc: Global,
-    places: &HashMap<Vec<u8>, usize>,
-    entries: &[(Name, Part)],
-    variable: &Var,
-) -> Result<Wire, AllocError>
-    requires { Indexes places.now (keys_of entries.now) }
+fn wire(alloc: Global, entries: &Table<Part>, variable: &Var) -> Result<Wire, AllocError>
     ensures { IfOk result (λ w. w ≡ out_wire entries.now variable.now) }
 {
     let name = variable.name.copy(alloc)?;
-    let end = present_part(alloc, places, entries, &variable.name)?;
+    let end = present_part(alloc, entries, &variable.name)?;
     Ok(Wire {
         name,
         width: variable.width,
@@ -58,15 +42,13 @@ fn wire(
 
 fn memory(
     alloc: Global,
-    places: &HashMap<Vec<u8>, usize>,
-    ports: &[(Name, WritePort)],
+    ports: &Table<WritePort>,
     store: &MemoryVariable,
 ) -> Result<Memory, AllocError>
-    requires { Indexes places.now (keys_of ports.now) }
     ensures { IfOk result (λ m. m ≡ memory_of ports.now store.now) }
 {
     let name = store.name.copy(alloc)?;
-    let port = present_port(alloc, places, ports, &store.name)?;
+    let port = present_port(alloc, ports, &store.name)?;
     Ok(Memory {
         name,
         width: store.width,
@@ -82,17 +64,15 @@ fn memory(
 pub fn out_wires(
     alloc: Global,
     wires: &mut Vec<Wire>,
-    places: &HashMap<Vec<u8>, usize>,
-    entries: &[(Name, Part)],
-    port_places: &HashMap<Vec<u8>, usize>,
+    entries: &Table<Part>,
+    ports: &Places,
     variables: &[Var],
 ) -> Result<(), AllocError>
-    requires { Indexes places.now (keys_of entries.now) }
-    ensures { OnOk result ((ports : List Text) → Indexes port_places.now ports → wires.new.items ≡ wires.old.items ++ map (out_wire entries.now) (listed ports variables.now)) }
+    ensures { OnOk result (wires.new.items ≡ wires.old.items ++ map (out_wire entries.now) (listed ports.now variables.now)) }
 {
     for variable in variables {
-        if is_indexed(port_places, variable.name.as_bytes()) {
-            wires.push(wire(alloc, places, entries, variable)?)?;
+        if ports.holds(&variable.name) {
+            wires.push(wire(alloc, entries, variable)?)?;
         }
     }
     Ok(())
@@ -100,16 +80,14 @@ pub fn out_wires(
 
 pub fn memories(
     alloc: Global,
-    places: &HashMap<Vec<u8>, usize>,
-    ports: &[(Name, WritePort)],
+    ports: &Table<WritePort>,
     stores: &[MemoryVariable],
 ) -> Result<Vec<Memory>, AllocError>
-    requires { Indexes places.now (keys_of ports.now) }
     ensures { IfOk result (λ ms. ms.items ≡ map (memory_of ports.now) stores.now) }
 {
     let mut made = Vec::new(alloc);
     for store in stores {
-        made.push(memory(alloc, places, ports, store)?)?;
+        made.push(memory(alloc, ports, store)?)?;
     }
     Ok(made)
 }
@@ -118,19 +96,17 @@ pub fn memories(
 fn port_register(
     alloc: Global,
     made: &mut Vec<Register>,
-    places: &HashMap<Vec<u8>, usize>,
-    entries: &[(Name, Part)],
-    register_places: &HashMap<Vec<u8>, usize>,
+    entries: &Table<Part>,
+    places: &Places,
     registers: &[Var],
     port: &Name,
 ) -> Result<(), AllocError>
-    requires entries { Indexes places.now (keys_of entries.now) }
-    requires registers { Indexes register_places.now (map (λ x. x.name) registers.now) }
+    requires { places.now ≡ variable_names registers.now }
     ensures { OnOk result (made.new.items ≡ made.old.items ++ map (register_of entries.now) (picked registers.now (port.now ∷ []))) }
 {
-    match at_name(register_places, port.as_bytes()) {
+    match places.place(port) {
         Some(k) => {
-            let next = register(alloc, places, entries, &registers[k])?;
+            let next = register(alloc, entries, &registers[k])?;
             made.push(next)?;
             Ok(())
         }
@@ -142,26 +118,16 @@ fn port_register(
 fn port_registers(
     alloc: Global,
     made: &mut Vec<Register>,
-    places: &HashMap<Vec<u8>, usize>,
-    entries: &[(Name, Part)],
-    register_places: &HashMap<Vec<u8>, usize>,
+    entries: &Table<Part>,
+    places: &Places,
     registers: &[Var],
     ports: &[Name],
 ) -> Result<(), AllocError>
-    requires entries { Indexes places.now (keys_of entries.now) }
-    requires registers { Indexes register_places.now (map (λ x. x.name) registers.now) }
+    requires { places.now ≡ variable_names registers.now }
     ensures { OnOk result (made.new.items ≡ made.old.items ++ map (register_of entries.now) (picked registers.now ports.now)) }
 {
     for port in ports {
-        port_register(
-            alloc,
-            made,
-            places,
-            entries,
-            register_places,
-            registers,
-            port,
-        )?;
+        port_register(alloc, made, entries, places, registers, port)?;
     }
     Ok(())
 }
@@ -170,17 +136,15 @@ fn port_registers(
 fn other_registers(
     alloc: Global,
     made: &mut Vec<Register>,
-    places: &HashMap<Vec<u8>, usize>,
-    entries: &[(Name, Part)],
-    port_places: &HashMap<Vec<u8>, usize>,
+    entries: &Table<Part>,
+    ports: &Places,
     registers: &[Var],
 ) -> Result<(), AllocError>
-    requires { Indexes places.now (keys_of entries.now) }
-    ensures { OnOk result ((ports : List Text) → Indexes port_places.now ports → made.new.items ≡ made.old.items ++ map (register_of entries.now) (unlisted ports registers.now)) }
+    ensures { OnOk result (made.new.items ≡ made.old.items ++ map (register_of entries.now) (unlisted ports.now registers.now)) }
 {
     for variable in registers {
-        if !is_indexed(port_places, variable.name.as_bytes()) {
-            made.push(register(alloc, places, entries, variable)?)?;
+        if !ports.holds(&variable.name) {
+            made.push(register(alloc, entries, variable)?)?;
         }
     }
     Ok(())
@@ -189,29 +153,17 @@ fn other_registers(
 /// The registers in the order of their declaration.
 pub fn registers(
     alloc: Global,
-    places: &HashMap<Vec<u8>, usize>,
-    entries: &[(Name, Part)],
-    register_places: &HashMap<Vec<u8>, usize>,
+    entries: &Table<Part>,
+    places: &Places,
     variables: &[Var],
-    port_places: &HashMap<Vec<u8>, usize>,
-    ports: &[Name],
+    ports: &Places,
 ) -> Result<Vec<Register>, AllocError>
-    requires entries { Indexes places.now (keys_of entries.now) }
-    requires registers { Indexes register_places.now (map (λ x. x.name) variables.now) }
-    requires ports { Indexes port_places.now ports.now }
+    requires { places.now ≡ variable_names variables.now }
     ensures { IfOk result (λ rs. rs.items ≡ map (register_of entries.now) (picked variables.now ports.now) ++ map (register_of entries.now) (unlisted ports.now variables.now)) }
 {
     let mut made = Vec::new(alloc);
-    port_registers(
-        alloc,
-        &mut made,
-        places,
-        entries,
-        register_places,
-        variables,
-        ports,
-    )?;
-    other_registers(alloc, &mut made, places, entries, port_places, variables)?;
+    port_registers(alloc, &mut made, entries, places, variables, ports.names())?;
+    other_registers(alloc, &mut made, entries, ports, variables)?;
     Ok(made)
 }
 
@@ -244,15 +196,11 @@ fn input_ports(alloc: Global, variables: &[Var]) -> Result<Vec<Port>, AllocError
 }
 
 /// A port of a register or of a wire.
-fn shown(
-    alloc: Global,
-    register_places: &HashMap<Vec<u8>, usize>,
-    name: &Name,
-) -> Result<Port, AllocError>
-    ensures { IfOk result (λ p. (registers : List Variable) → Indexes register_places.now (variable_names registers) → p ≡ port_shown registers name.now) }
+fn shown(alloc: Global, registers: &Places, name: &Name) -> Result<Port, AllocError>
+    ensures { IfOk result (λ p. p ≡ port_among registers.now name.now) }
 {
     let copy = name.copy(alloc)?;
-    if is_indexed(register_places, name.as_bytes()) {
+    if registers.holds(name) {
         Ok(Port {
             name: copy,
             kind: PortKind::Register,
@@ -269,14 +217,14 @@ fn shown(
 pub fn ports(
     alloc: Global,
     variables: &[Var],
-    register_places: &HashMap<Vec<u8>, usize>,
+    registers: &Places,
     names: &[Name],
 ) -> Result<Vec<Port>, AllocError>
-    ensures { IfOk result (λ ps. (registers : List Variable) → Indexes register_places.now (variable_names registers) → ps.items ≡ map input_port variables.now ++ map (port_shown registers) names.now) }
+    ensures { IfOk result (λ ps. ps.items ≡ map input_port variables.now ++ map (port_among registers.now) names.now) }
 {
     let mut made = input_ports(alloc, variables)?;
     for name in names {
-        made.push(shown(alloc, register_places, name)?)?;
+        made.push(shown(alloc, registers, name)?)?;
     }
     Ok(made)
 }
@@ -284,13 +232,13 @@ pub fn ports(
 fn add_wires(
     alloc: Global,
     made: &mut Vec<Name>,
-    port_places: &HashMap<Vec<u8>, usize>,
+    ports: &Places,
     wires: &[Wire],
 ) -> Result<(), AllocError>
-    ensures { OnOk result ((ports : List Text) → Indexes port_places.now ports → made.new.items ≡ made.old.items ++ unported ports (names_of wires.now)) }
+    ensures { OnOk result (made.new.items ≡ made.old.items ++ unported ports.now (names_of wires.now)) }
 {
     for wire in wires {
-        if !is_indexed(port_places, wire.name.as_bytes()) {
+        if !ports.holds(&wire.name) {
             made.push(wire.name.copy(alloc)?)?;
         }
     }
@@ -300,13 +248,13 @@ fn add_wires(
 fn add_registers(
     alloc: Global,
     made: &mut Vec<Name>,
-    port_places: &HashMap<Vec<u8>, usize>,
+    ports: &Places,
     registers: &[Var],
 ) -> Result<(), AllocError>
-    ensures { OnOk result ((ports : List Text) → Indexes port_places.now ports → made.new.items ≡ made.old.items ++ unported ports (variable_names registers.now)) }
+    ensures { OnOk result (made.new.items ≡ made.old.items ++ unported ports.now (variable_names registers.now)) }
 {
     for variable in registers {
-        if !is_indexed(port_places, variable.name.as_bytes()) {
+        if !ports.holds(&variable.name) {
             made.push(variable.name.copy(alloc)?)?;
         }
     }
@@ -330,19 +278,17 @@ fn add_memories(
 pub fn names(
     alloc: Global,
     inputs: &[Var],
-    port_places: &HashMap<Vec<u8>, usize>,
-    ports: &[Name],
+    ports: &Places,
     wires: &[Wire],
     registers: &[Var],
     stores: &[MemoryVariable],
 ) -> Result<Vec<Name>, AllocError>
-    requires { Indexes port_places.now ports.now }
     ensures { IfOk result (λ ns. ns.items ≡ variable_names inputs.now ++ (ports.now ++ (unported ports.now (names_of wires.now) ++ (unported ports.now (variable_names registers.now) ++ memory_names stores.now)))) }
 {
     let mut made = variable_names(alloc, inputs)?;
-    made.append(&mut copy_names(alloc, ports)?)?;
-    add_wires(alloc, &mut made, port_places, wires)?;
-    add_registers(alloc, &mut made, port_places, registers)?;
+    made.append(&mut copy_names(alloc, ports.names())?)?;
+    add_wires(alloc, &mut made, ports, wires)?;
+    add_registers(alloc, &mut made, ports, registers)?;
     add_memories(alloc, &mut made, stores)?;
     Ok(made)
 }

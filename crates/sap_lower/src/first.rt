@@ -1,11 +1,15 @@
-//! What each name stands for at first, and the write ports of memories that aren't written.
+//! What each name stands for at first, the shapes of memories, and the write ports of memories that aren't written.
 
 ghost use Rattle.std.specs.Prelude.{◌≡◌, ◌++◌, map, IfOk, OnOk};
-ghost use Rattle.sap_lower.specs.Lowered.{first_port, index_bits, named_entry, zero_entry};
+ghost use Rattle.sap_ir.specs.Program.{source_of};
+ghost use Rattle.sap_lower.specs.Lookup.{shapes_of};
+ghost use Rattle.sap_lower.specs.Lowered.{first_entries, first_port, index_bits, named_entry, zero_entry};
 
 use crate::parts::{Part, WritePort};
 use sap_ir::guarded::{MemoryVariable, Var};
+use sap_ir::program::Guarded;
 use sap_net::parts::{Name, Operand};
+use sap_share::table::Table;
 use std::alloc::{AllocError, Global};
 
 /// The bits of an index into so many cells, a power of two up to 4096.
@@ -76,7 +80,7 @@ fn add_zeros(
     Ok(())
 }
 
-pub fn entries(
+fn entry_list(
     alloc: Global,
     inputs: &[Var],
     registers: &[Var],
@@ -91,7 +95,14 @@ pub fn entries(
     Ok(made)
 }
 
-pub fn ports(alloc: Global, stores: &[MemoryVariable]) -> Result<Vec<(Name, WritePort)>, AllocError>
+pub fn entries(alloc: Global, source: &Guarded) -> Result<Table<Part>, AllocError>
+    ensures { IfOk result (λ es. es ≡ first_entries (source_of source.now)) }
+{
+    let made = entry_list(alloc, source.inputs(), source.registers(), source.wires())?;
+    Table::new(alloc, made)
+}
+
+fn port_list(alloc: Global, stores: &[MemoryVariable]) -> Result<Vec<(Name, WritePort)>, AllocError>
     ensures { IfOk result (λ ps. ps.items ≡ map first_port stores.now) }
 {
     let mut made = Vec::new(alloc);
@@ -116,4 +127,32 @@ pub fn ports(alloc: Global, stores: &[MemoryVariable]) -> Result<Vec<(Name, Writ
         ))?;
     }
     Ok(made)
+}
+
+pub fn ports(alloc: Global, stores: &[MemoryVariable]) -> Result<Table<WritePort>, AllocError>
+    ensures { IfOk result (λ ps. ps ≡ map first_port stores.now) }
+{
+    let made = port_list(alloc, stores)?;
+    Table::new(alloc, made)
+}
+
+fn shape_list(
+    alloc: Global,
+    stores: &[MemoryVariable],
+) -> Result<Vec<(Name, (u32, u32))>, AllocError>
+    ensures { IfOk result (λ ms. ms.items ≡ shapes_of stores.now) }
+{
+    let mut made = Vec::new(alloc);
+    for store in stores {
+        made.push((store.name.copy(alloc)?, (store.width, store.depth)))?;
+    }
+    Ok(made)
+}
+
+/// The width and depth of each memory.
+pub fn shapes(alloc: Global, stores: &[MemoryVariable]) -> Result<Table<(u32, u32)>, AllocError>
+    ensures { IfOk result (λ ms. ms ≡ shapes_of stores.now) }
+{
+    let made = shape_list(alloc, stores)?;
+    Table::new(alloc, made)
 }

@@ -2,10 +2,10 @@
 #![tactic(auto)]
 
 mod calc;
-mod commands;
 mod declare;
 mod first;
 pub mod lower;
+mod lowering;
 mod parts;
-mod places;
 mod wires;
+mod write_ports;

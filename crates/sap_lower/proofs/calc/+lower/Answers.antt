@@ -7,7 +7,6 @@ use Rattle.sap_ir.specs.Calcs.{term_of, joined_terms}
 use Rattle.sap_ir.proofs.Views.{concat_term}
 use Rattle.sap_lower.specs.declared.parts.Part.{Part}
 use Rattle.sap_lower.specs.Lowering.{Low, low}
-use Rattle.sap_lower.specs.Lookup.{shapes_of}
 use Rattle.sap_lower.specs.Parts.{glued, low_all}
 use Rattle.sap_lower.proofs.Glue.{low_joined}
 use Rattle.sap_lower.proofs.calc.+lower.Goals as goal
@@ -16,7 +15,7 @@ pub lower_calc-returns-in_ok-parts-in-Concat-clause-wires :
     goal.lower_calc-returns-in_ok-parts-in-Concat-clause-wires
 lower_calc-returns-in_ok-parts-in-Concat-clause-wires t c =
     let cs : List Calc = c.deref-in-Concat.result.now in
-    let ms = shapes_of c.args.stores.now in
+    let ms = c.args.memories.now in
     let es = c.args.entries.now in
     let ws = c.args.wires.now in
     let ew : c.lower_all.new.wires ≡ (low_all ms es (map term_of cs) ws).wires = c.in_ok-parts-in-Concat.ensures.wires in
@@ -31,7 +30,7 @@ pub lower_calc-returns-in_ok-parts-in-Concat-clause-part :
     goal.lower_calc-returns-in_ok-parts-in-Concat-clause-part
 lower_calc-returns-in_ok-parts-in-Concat-clause-part t c =
     let cs : List Calc = c.deref-in-Concat.result.now in
-    let ms = shapes_of c.args.stores.now in
+    let ms = c.args.memories.now in
     let es = c.args.entries.now in
     let ws = c.args.wires.now in
     let ew : c.lower_all.new.wires ≡ (low_all ms es (map term_of cs) ws).wires = c.in_ok-parts-in-Concat.ensures.wires in

@@ -1,12 +1,11 @@
 use Rattle.std.proofs.Common.{◌≡◌, ◌++◌, map, drop}
 use Rattle.sap_ir.specs.Calcs.{term_of}
-use Rattle.sap_lower.specs.Lookup.{shapes_of}
 use Rattle.sap_lower.specs.Parts.{low_all}
 use Rattle.sap_lower.proofs.calc.+lower.Given as goal
 
 abbrev pub invariant-lower_all-loop-calc : goal.invariant-lower_all-loop-calc
 invariant-lower_all-loop-calc l =
     let rest = map term_of (drop l.calc-index l.calcs) in
-    let behind = low_all (shapes_of l.stores) l.entries rest l.wires in
-    let all = low_all (shapes_of l.stores) l.entries (map term_of l.calcs) l.fn.wires in
+    let behind = low_all l.memories l.entries rest l.wires in
+    let all = low_all l.memories l.entries (map term_of l.calcs) l.fn.wires in
     (behind.wires ≡ all.wires) × (l.parts.items ++ behind.parts ≡ all.parts)

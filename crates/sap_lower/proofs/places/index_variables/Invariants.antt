@@ -1,6 +1,0 @@
-use Rattle.std.proofs.Common.{take, map}
-use Rattle.sap_net.specs.NameMaps.{Indexes}
-use Rattle.sap_lower.proofs.places.index_variables.Given as goal
-
-abbrev pub invariant-loop-k : goal.invariant-loop-k
-invariant-loop-k l = Indexes l.places (map (λ x. x.name) (take l.k l.variables))
