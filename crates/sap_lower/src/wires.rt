@@ -98,8 +98,8 @@ impl Wires {
     {
         let number = self.list.len() as u64;
         let name = helper_name(alloc, number)?;
+        let shown = name.copy(alloc)?;
         self.put(key, number, Wire { name, width, right })?;
-        let shown = helper_name(alloc, number)?;
         Ok(Part {
             operand: Operand::Named(shown),
             width,
