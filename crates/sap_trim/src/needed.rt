@@ -117,7 +117,7 @@ fn mark(
     ensures read { OnOk result ((n : spec.Name) → holds read.new n ≡ (if holds ports.now wire.now.name || holds read.old wire.now.name then is_among n (right_reads wire.now.right) || holds read.old n else holds read.old n)) }
     ensures needed { OnOk result ((n : spec.Name) → holds needed.new n ≡ (if holds ports.now wire.now.name || holds read.old wire.now.name then bytes_eq n wire.now.name || holds needed.old n else holds needed.old n)) }
 {
-    if has(ports, &wire.name) || has(read, &wire.name) {
+    if has(read, &wire.name) || has(ports, &wire.name) {
         add_right(alloc, read, &wire.right)?;
         add(alloc, needed, &wire.name)?;
     }
