@@ -100,7 +100,7 @@ fn add_memories(
 fn edge(alloc: Global, netlist: &Netlist) -> Result<HashSet<Vec<u8>>, AllocError>
     ensures { IfOk result (λ s. (n : spec.Name) → holds s n ≡ is_among n (edge_reads netlist.now)) }
 {
-    let mut read = HashSet::with_capacity(alloc, netlist.names().len())?;
+    let mut read = HashSet::new(alloc);
     add_memories(alloc, &mut read, netlist.memories())?;
     add_registers(alloc, &mut read, netlist.registers())?;
     Ok(read)
@@ -134,8 +134,8 @@ pub fn needed(
     ensures { IfOk result (λ s. (n : spec.Name) → holds s n ≡ is_among n (names_of (needed_wires netlist.now))) }
 {
     let mut read = edge(alloc, netlist)?;
+    let mut needed = HashSet::new(alloc);
     let wires = netlist.wires();
-    let mut needed = HashSet::with_capacity(alloc, wires.len())?;
     let mut rest = wires.len();
     while rest > 0 {
         rest -= 1;

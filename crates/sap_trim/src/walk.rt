@@ -72,7 +72,7 @@ fn bind_registers(
 fn themselves(alloc: Global, netlist: &Netlist) -> Result<HashMap<Vec<u8>, Operand>, AllocError>
     ensures { IfOk result (λ m. (x : spec.Name) → at_name m x ≡ (if is_among x (input_names netlist.now ++ register_names netlist.now) then Some (operand.Named x) else None)) }
 {
-    let mut stands = HashMap::with_capacity(alloc, netlist.names().len())?;
+    let mut stands = HashMap::new(alloc);
     bind_registers(alloc, &mut stands, netlist.registers())?;
     bind_inputs(alloc, &mut stands, netlist.inputs())?;
     Ok(stands)

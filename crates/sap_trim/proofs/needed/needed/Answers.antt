@@ -1,4 +1,4 @@
-use Rattle.std.proofs.Common.{◌≡◌, ◌∙◌, ◌-◌, ◌++◌, ◌∷◌, ℕ, List, drop, sym, ap, arith}
+use Rattle.std.proofs.Common.{◌≡◌, ◌∙◌, ◌-◌, ◌++◌, ◌∷◌, List, drop, sym, ap, arith}
 use Rattle.sap_maps.specs.Maps.{Name}
 use Rattle.sap_net.specs.Names.{is_among}
 use Rattle.sap_net.specs.declared.parts.Wire.{Wire}
@@ -28,13 +28,3 @@ loop-rest-preserved c =
       read = λ x. marked P E w ks ports (λ y. holds c.loop-rest.read y) (λ y. holds c.mark.new.read y) c.requires i.read q.read x ∙ ap (λ (xs : List Wire). is_among x (wire_reads (needed P E xs) ++ E)) (sym e);
       needed = λ x. marked_needed P E w ks ports (λ y. holds c.loop-rest.read y) (λ y. holds c.loop-rest.needed y) (λ y. holds c.mark.new.needed y) c.requires i.read i.needed q.needed x ∙ ap (λ (xs : List Wire). is_among x (names_of (needed P E xs))) (sym e);
     }
-
-pub returns : goal.returns
-returns c = λ x.
-    let n = c.args.netlist.now in
-    let P = port_names n in
-    let E = edge_reads n in
-    let none : c.loop-rest.rest ≡ 0 = omega (arith, c.loop-rest-test.false) in
-    c.loop-rest.invariant.needed x
-    ∙ ap (λ (k : ℕ). is_among x (names_of (needed P E (drop k c.wires-wires.result.now)))) none
-    ∙ ap (λ (ws : List Wire). is_among x (names_of (needed P E ws))) c.wires-wires.ensures

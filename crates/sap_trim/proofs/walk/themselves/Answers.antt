@@ -4,5 +4,5 @@ use Rattle.sap_net.specs.NameMaps.{at_name}
 
 pub returns : goal.returns
 returns c = λ x.
-    both_itself c.args.netlist.now c.inputs.result.now c.registers.result.now (at_name c.in_ok-stands.stands) (at_name c.bind_registers.new.stands) (at_name c.bind_inputs.new.stands)
-    (empty_stands c.in_ok-stands.stands c.in_ok-stands.ensures.empty) c.inputs.ensures c.registers.ensures (c.in_ok-bind_registers.ensures {u = tt}) (c.in_ok-bind_inputs.ensures {u = tt}) x
+    both_itself c.args.netlist.now c.inputs.result.now c.registers.result.now (at_name c.new-stands.result) (at_name c.bind_registers.new.stands) (at_name c.bind_inputs.new.stands)
+    (empty_stands c.new-stands.result c.new-stands.ensures.empty) c.inputs.ensures c.registers.ensures (c.in_ok-bind_registers.ensures {u = tt}) (c.in_ok-bind_inputs.ensures {u = tt}) x
