@@ -21,6 +21,10 @@ Beside it stands a model of modules and of dumps, after docs/MODULES.md and docs
                             modules, stimuli and damaged dumps drawn at random
     wave_table, compare_waves, converted
                             three scripts: the model on what was worked out by hand, the program beside the model, dumps through GTKWave's converters
+    taints                  the names and numbers of tags that are added to a module
+    random_taints           modules whose names leave room for tags, or don't
+    taint_table, compare_taints
+                            two scripts: the model of tags on what was worked out by hand, the program beside it
     measured                the designs whose modules are measured
 
 And of the time-sliced machine, after docs/COMMANDS.md:

@@ -23,7 +23,7 @@ class Const(NamedTuple):
 
 @dataclass
 class Module:
-    """What a module declares, by name. An operand is a name or a Const; a right side is a function of a run."""
+    """What a module declares, by name, in the order of the text. An operand is a name or a Const; a right side is a function of a run, and stands as its tokens too."""
 
     name: str = ""
     ports: list = field(default_factory=list)
@@ -31,6 +31,7 @@ class Module:
     depths: dict = field(default_factory=dict)
     starts: dict = field(default_factory=dict)
     wires: list = field(default_factory=list)
+    tokens: dict = field(default_factory=dict)
     edges: dict = field(default_factory=dict)
     writes: dict = field(default_factory=dict)
 
@@ -148,6 +149,7 @@ class Reader:
             right.append(self.next())
         self.skip(";")
         self.module.wires.append((name, right_side(right, self.module)))
+        self.module.tokens[name] = right
 
 
 def operand_of(token):
@@ -226,9 +228,16 @@ class Clocked:
 
     def cycle(self, inputs):
         """One cycle on a number for each input, by name: the wires in order, then all registers and memories at once."""
+        self.settle(inputs)
+        self.edge()
+
+    def settle(self, inputs):
+        """What comes before the edge."""
         self.values.update(inputs)
         for name, right in self.module.wires:
             self.values[name] = right(self)
+
+    def edge(self):
         taken = {name: self.read(operand) for name, operand in self.module.edges.items()}
         written = [(name, *map(self.read, write)) for name, write in self.module.writes.items()]
         self.values.update(taken)
