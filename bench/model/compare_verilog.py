@@ -1,0 +1,120 @@
+"""examples/verilog/to_subset beside Icarus Verilog. Usage: python3 -m model.compare_verilog TOP COUNT SEED"""
+
+import glob
+import os
+import random
+import shutil
+import subprocess
+import sys
+import tempfile
+from collections import Counter
+
+from .brought_over import brought_over, rows_by_model
+from .icarus import IcarusFailed, rows_by_icarus
+from .random_streams import random_value
+from .random_verilog import random_verilog
+from .verilog_table import BROUGHT_OVER, REFUSED
+
+CYCLES = 60
+# The name of an input that is held for the first cycles, whose rows aren't compared.
+RESET, HELD = "rst", 2
+
+
+class Case:
+    """A folder with a module of Verilog, and what isn't as it is to be."""
+
+    def __init__(self, script, name, text, counts):
+        self.script, self.text, self.counts = script, text, counts
+        self.folder = tempfile.mkdtemp(prefix=f"verilog_{name}_")
+        self.differing = []
+        self.put("given.v", text)
+
+    def put(self, name, text):
+        with open(os.path.join(self.folder, name), "w", encoding="ascii") as file:
+            file.write(text)
+
+    def call(self):
+        return subprocess.run([sys.executable, self.script, "out.v", "given.v"], cwd=self.folder, capture_output=True, text=True, check=False)
+
+    def refused(self, line):
+        """Refused in one line, and nothing is written."""
+        done = self.call()
+        said = done.stderr.replace("given.v", "FILE").removeprefix("to_subset: ").strip()
+        if (done.returncode, done.stdout, os.path.exists(os.path.join(self.folder, "out.v"))) != (1, "", False) or "\n" in said or said != (line or said):
+            self.differing.append(f"status {done.returncode}, {said!r} in place of {line!r}")
+        self.counts["refused"] += 1
+
+    def same(self, draw):
+        """The rows of what is written, by Icarus Verilog and by the model, are those of the given module."""
+        done = self.call()
+        if done.returncode or done.stdout or done.stderr:
+            self.differing.append(f"status {done.returncode}, {(done.stderr or done.stdout)[:300]!r}")
+            return
+        with open(os.path.join(self.folder, "out.v"), encoding="ascii") as file:
+            over = brought_over(file.read())
+        pins = over.given_pins()
+        inputs = [pin for pin in pins if not pin.is_output]
+        stimulus = [[random_value(draw, pin.width) for pin in inputs] for _ in range(CYCLES)]
+        held = HELD if any(pin.name == RESET for pin in inputs) else 0
+        for numbers in stimulus[:held]:
+            numbers[[pin.name for pin in inputs].index(RESET)] = 1
+        try:
+            given = rows_by_icarus(self.folder, "given.v", self.name_of_top(), over.clock, pins, stimulus)
+            written = rows_by_icarus(self.folder, "out.v", "top", "clk", over.own_pins(), stimulus)
+        except IcarusFailed as what:
+            self.differing.append(str(what))
+            return
+        module = over.module()
+        if written != rows_by_model(module, stimulus):
+            self.differing.append("the rows of what is written aren't the model's")
+        for cycle, (row, own) in enumerate(list(zip(given, written))[held:], held + 1):
+            self.same_row(cycle, row, own)
+        self.counts["brought over"] += 1
+        self.counts["items"] += len(module.wires) + len(module.edges) + len(module.writes)
+        self.counts["memories"] += len(module.depths)
+
+    def name_of_top(self):
+        return self.text[self.text.rindex("module ", 0, self.text.rindex("endmodule")) :].split("(")[0].split()[1]
+
+    def same_row(self, cycle, row, own):
+        """Each bit that the given module says."""
+        for name, bits in row.items():
+            for bit, beside in zip(bits, own[f"v_{name}"], strict=True):
+                self.counts["bits" if bit in "01" else "bits that aren't said"] += 1
+                if bit in "01" and bit != beside:
+                    self.differing.append(f"cycle {cycle}: {name} is {bits}, and {own[f'v_{name}']} in what is written")
+                    return
+
+
+def cases(top, count, seed):
+    """The name of each case, the text, and what is tried of it."""
+    for name, text in BROUGHT_OVER.items():
+        yield name, text, lambda case: case.same(random.Random(1))
+    for name, (text, line) in REFUSED.items():
+        yield name, text, lambda case, line=line: case.refused(line)
+    for path in sorted(glob.glob(os.path.join(top, "examples", "verilog", "*.v"))):
+        with open(path, encoding="ascii") as file:
+            yield os.path.basename(path), file.read(), lambda case: case.same(random.Random(1))
+    for number in range(seed, seed + count):
+        yield f"seed_{number}", random_verilog(random.Random(number)), lambda case, number=number: case.same(random.Random(number))
+
+
+def main(top, count, seed):
+    counts, wrong = Counter(), 0
+    for name, text, tried in cases(top, count, seed):
+        case = Case(os.path.join(os.path.realpath(top), "examples", "verilog", "to_subset"), name, text, counts)
+        tried(case)
+        if not case.differing:
+            shutil.rmtree(case.folder)
+            continue
+        wrong += 1
+        print(f"DIFFERS: {name}, files in {case.folder}")
+        for what in case.differing[:3]:
+            print(f"  {what}")
+    print(", ".join(f"{what} {counts[what]}" for what in ("brought over", "refused", "items", "memories", "bits", "bits that aren't said")))
+    print(f"{wrong} cases differ" if wrong else "no case differs")
+    return bool(wrong)
+
+
+if __name__ == "__main__":
+    sys.exit(main(sys.argv[1], int(sys.argv[2]), int(sys.argv[3])))
