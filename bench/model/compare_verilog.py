@@ -10,10 +10,15 @@ import tempfile
 from collections import Counter
 
 from .brought_over import brought_over, rows_by_model
+from .examples import held
 from .icarus import IcarusFailed, rows_by_icarus
+from .lattice import lattice_of
+from .modules import module_of
 from .random_streams import random_value
 from .random_verilog import random_verilog
+from .taints import wave_of_taint
 from .verilog_table import BROUGHT_OVER, REFUSED
+from .waves import rows_of
 
 CYCLES = 60
 # The name of an input that is held for the first cycles, whose rows aren't compared.
@@ -50,13 +55,12 @@ class Case:
         if done.returncode or done.stdout or done.stderr:
             self.differing.append(f"status {done.returncode}, {(done.stderr or done.stdout)[:300]!r}")
             return
-        with open(os.path.join(self.folder, "out.v"), encoding="ascii") as file:
-            over = brought_over(file.read())
+        over = brought_over(held(self.folder, "out.v"))
         pins = over.given_pins()
         inputs = [pin for pin in pins if not pin.is_output]
         stimulus = [[random_value(draw, pin.width) for pin in inputs] for _ in range(CYCLES)]
-        held = HELD if any(pin.name == RESET for pin in inputs) else 0
-        for numbers in stimulus[:held]:
+        first = HELD if any(pin.name == RESET for pin in inputs) else 0
+        for numbers in stimulus[:first]:
             numbers[[pin.name for pin in inputs].index(RESET)] = 1
         try:
             given = rows_by_icarus(self.folder, "given.v", self.name_of_top(), over.clock, pins, stimulus)
@@ -67,11 +71,18 @@ class Case:
         module = over.module()
         if written != rows_by_model(module, stimulus):
             self.differing.append("the rows of what is written aren't the model's")
-        for cycle, (row, own) in enumerate(list(zip(given, written))[held:], held + 1):
+        for cycle, (row, own) in enumerate(list(zip(given, written))[first:], first + 1):
             self.same_row(cycle, row, own)
         self.counts["brought over"] += 1
         self.counts["items"] += len(module.wires) + len(module.edges) + len(module.writes)
         self.counts["memories"] += len(module.depths)
+
+    def tagged(self, folder, stimulus, rows):
+        """The rows with tags of what is written, on a stimulus of the folder, are these."""
+        done, lattice = self.call(), lattice_of(held(folder, "lattice.toml"))
+        if done.returncode or rows_of(wave_of_taint(module_of(held(self.folder, "out.v")), held(folder, f"{stimulus}.txt"), lattice), lattice) != rows:
+            self.differing.append(f"the rows with tags on {stimulus}.txt aren't the model's")
+        self.counts["rows with tags"] += rows.count("\n")
 
     def name_of_top(self):
         return self.text[self.text.rindex("module ", 0, self.text.rindex("endmodule")) :].split("(")[0].split()[1]
@@ -92,9 +103,12 @@ def cases(top, count, seed):
         yield name, text, lambda case: case.same(random.Random(1))
     for name, (text, line) in REFUSED.items():
         yield name, text, lambda case, line=line: case.refused(line)
-    for path in sorted(glob.glob(os.path.join(top, "examples", "verilog", "*.v"))):
-        with open(path, encoding="ascii") as file:
-            yield os.path.basename(path), file.read(), lambda case: case.same(random.Random(1))
+    folder = os.path.join(top, "examples", "verilog")
+    for path in sorted(glob.glob(os.path.join(folder, "*.v"))):
+        yield os.path.basename(path), held(path), lambda case: case.same(random.Random(1))
+    for path in sorted(glob.glob(os.path.join(folder, "tagged", "*.rows"))):
+        name, stimulus, _ = os.path.basename(path).split(".")
+        yield os.path.basename(path), held(folder, f"{name}.v"), lambda case, stimulus=stimulus, path=path: case.tagged(folder, stimulus, held(path))
     for number in range(seed, seed + count):
         yield f"seed_{number}", random_verilog(random.Random(number)), lambda case, number=number: case.same(random.Random(number))
 
@@ -111,7 +125,7 @@ def main(top, count, seed):
         print(f"DIFFERS: {name}, files in {case.folder}")
         for what in case.differing[:3]:
             print(f"  {what}")
-    print(", ".join(f"{what} {counts[what]}" for what in ("brought over", "refused", "items", "memories", "bits", "bits that aren't said")))
+    print(", ".join(f"{what} {counts[what]}" for what in ("brought over", "refused", "items", "memories", "bits", "bits that aren't said", "rows with tags")))
     print(f"{wrong} cases differ" if wrong else "no case differs")
     return bool(wrong)
 
