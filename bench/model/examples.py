@@ -26,6 +26,8 @@ TWINS = (
     ("processor", "kernel", "one", "other", "b", None),
     ("machine", "machine", "one", "other", "b", None),
     ("machine", "machine", "one", "other", "a", "streams: cycle 1 input wa"),
+    ("verilog", "comparer", "near", "far", "b", None),
+    ("verilog", "fifo", "pushed", "quiet", "b", None),
 )
 # Stimuli of examples/machine, each with its two programs, and their slices.
 STIMULI = (("one", ("multiply", "pry"), 20), ("other", ("count", "pry"), 20))

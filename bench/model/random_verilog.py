@@ -1,7 +1,7 @@
 """Modules of Verilog drawn at random: expressions of all operators, signed and unsigned, `if` and `case` in clocked blocks and in blocks of wires, and memories.
 
-Left out is what Yosys 0.23 was seen to take otherwise than Icarus Verilog does: a `casez` over a constant with a `?` in an arm, a signed value that is assigned
-to a bit or a run of bits whose index isn't constant, and a concatenation of one signed part.
+Left out is what one of the tools was seen to take otherwise than the standard has it. Yosys 0.23: a `casez` over a constant with a `?` in an arm, a signed value
+that is assigned to a bit or a run of bits whose index isn't constant, a concatenation of one signed part. Icarus Verilog 11: all bits of a signed name as a part.
 """
 
 from typing import NamedTuple
@@ -138,7 +138,10 @@ class Modules:
             return self.number(width)
         one = self.draw.choice(names)
         low = self.draw.randint(0, one.width - width)
-        return f"{one.text}[{low + width - 1}:{low}]"
+        return self.bits_of(one, low + width - 1, low)
+
+    def bits_of(self, one, high, low):
+        return self.unsigned(one) if high - low + 1 == one.width else f"{one.text}[{high}:{low}]"
 
     def leaf(self):
         if self.draw.random() < 0.2:
@@ -198,7 +201,7 @@ class Modules:
         if one.width == 1:
             return None
         low, high = sorted(self.draw.sample(range(one.width), 2))
-        return Drawn(f"{one.text}[{high}:{low}]", high - low + 1)
+        return Drawn(self.bits_of(one, high, low), high - low + 1)
 
     def bit(self, _):
         one = self.draw.choice(self.sources)
