@@ -16,7 +16,7 @@ from .lattice import lattice_of
 from .modules import module_of
 from .random_streams import random_value
 from .random_verilog import random_verilog
-from .taints import wave_of_taint
+from .taints import first_clash, wave_of_taint
 from .verilog_table import BROUGHT_OVER, REFUSED
 from .waves import rows_of
 
@@ -69,6 +69,8 @@ class Case:
             self.differing.append(str(what))
             return
         module = over.module()
+        if first_clash(module):
+            self.differing.append(f"no room for the tag of {first_clash(module)}")
         if written != rows_by_model(module, stimulus):
             self.differing.append("the rows of what is written aren't the model's")
         for cycle, (row, own) in enumerate(list(zip(given, written))[first:], first + 1):

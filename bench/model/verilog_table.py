@@ -214,7 +214,7 @@ REFUSED = {
     ),
     "wide_word": ("module top(input [63:0] a, b, output c);\n  assign c = {a, b} == {b, a};\nendmodule\n", "FILE:2.14-2.30: a word of 128 bits"),
     "division": ("module top(input [7:0] a, b, output [7:0] c);\n  assign c = a / b;\nendmodule\n", "FILE:2.14-2.19: a division or a power"),
-    "loop": ("module top(input a, output b);\n  wire c = a ^ d;\n  wire d = c & a;\n  assign b = d;\nendmodule\n", None),
+    "loop": ("module top(input a, output b);\n  wire c = a ^ d;\n  wire d = c & a;\n  assign b = d;\nendmodule\n", "FILE:3.12-3.17: a loop of wires without a register"),
     "three_states": ("module top(input a, on, output b);\n  assign b = on ? a : 1'bz;\nendmodule\n", "FILE:2.14-2.27: a wire that may be driven by nothing"),
     "driven_by_nothing": ("module top(input a, output b, output c);\n  assign b = a;\nendmodule\n", "output c: a bit that is x or z, or driven by nothing"),
     "two_drivers": ("module top(input clk, input a, input b, output reg q);\n  always @(posedge clk) q <= a;\n  always @(posedge clk) q <= b;\nendmodule\n", "FILE:2.3-2.32: a second driver of a wire or register"),
