@@ -1,4 +1,4 @@
-"""examples/verilog/to_subset beside Icarus Verilog. Usage: python3 -m model.compare_verilog TOP COUNT SEED"""
+"""examples/verilog/to_subset beside Icarus Verilog. Usage: python3 -m model.compare_verilog TOP COUNT SEED [PROGRAM]"""
 
 import glob
 import os
@@ -16,9 +16,10 @@ from .lattice import lattice_of
 from .modules import module_of
 from .random_streams import random_value
 from .random_verilog import random_verilog
+from .taint_table import TWO
 from .taints import first_clash, wave_of_taint
 from .verilog_table import BROUGHT_OVER, REFUSED
-from .waves import rows_of
+from .waves import dump_of, rows_of, wave_of_run
 
 CYCLES = 60
 # The name of an input that is held for the first cycles, whose rows aren't compared.
@@ -28,8 +29,8 @@ RESET, HELD = "rst", 2
 class Case:
     """A folder with a module of Verilog, and what isn't as it is to be."""
 
-    def __init__(self, script, name, text, counts):
-        self.script, self.text, self.counts = script, text, counts
+    def __init__(self, script, program, name, text, counts):
+        self.script, self.program, self.text, self.counts = script, program, text, counts
         self.folder = tempfile.mkdtemp(prefix=f"verilog_{name}_")
         self.differing = []
         self.put("given.v", text)
@@ -49,8 +50,9 @@ class Case:
             self.differing.append(f"status {done.returncode}, {said!r} in place of {line!r}")
         self.counts["refused"] += 1
 
-    def same(self, draw):
-        """The rows of what is written, by Icarus Verilog and by the model, are those of the given module."""
+    def same(self, draw, is_drawn=False):
+        """The rows of what is written, by Icarus Verilog and by the model, are those of the given module. One that was drawn may be more than Icarus Verilog
+        takes."""
         done = self.call()
         if done.returncode or done.stdout or done.stderr:
             self.differing.append(f"status {done.returncode}, {(done.stderr or done.stdout)[:300]!r}")
@@ -66,18 +68,32 @@ class Case:
             given = rows_by_icarus(self.folder, "given.v", self.name_of_top(), over.clock, pins, stimulus)
             written = rows_by_icarus(self.folder, "out.v", "top", "clk", over.own_pins(), stimulus)
         except IcarusFailed as what:
-            self.differing.append(str(what))
+            self.counts["not taken by Icarus Verilog"] += 1
+            self.differing += [] if is_drawn and what.file == "given.v" else [str(what)]
             return
         module = over.module()
         if first_clash(module):
             self.differing.append(f"no room for the tag of {first_clash(module)}")
         if written != rows_by_model(module, stimulus):
             self.differing.append("the rows of what is written aren't the model's")
+        if self.program:
+            self.by_program(module, stimulus)
         for cycle, (row, own) in enumerate(list(zip(given, written))[first:], first + 1):
             self.same_row(cycle, row, own)
         self.counts["brought over"] += 1
         self.counts["items"] += len(module.wires) + len(module.edges) + len(module.writes)
         self.counts["memories"] += len(module.depths)
+
+    def by_program(self, module, stimulus):
+        """The built program takes what is written, and its dump is the model's."""
+        text = "".join(" ".join(map(str, numbers)) + "\n" for numbers in stimulus)
+        self.put("lattice.toml", TWO)
+        self.put("stimulus.txt", text)
+        words = [self.program, "wave", "lattice.toml", "out.v", "stimulus.txt", "out.vcd"]
+        done = subprocess.run(words, cwd=self.folder, capture_output=True, text=True, check=False)
+        if done.returncode or held(self.folder, "out.vcd") != dump_of(wave_of_run(module, text, lattice_of(TWO))):
+            self.differing.append(f"wave of what is written: status {done.returncode}, {done.stderr.strip()!r}, or a dump that isn't the model's")
+        self.counts["dumps"] += 1
 
     def tagged(self, folder, stimulus, rows):
         """The rows with tags of what is written, on a stimulus of the folder, are these."""
@@ -112,13 +128,14 @@ def cases(top, count, seed):
         name, stimulus, _ = os.path.basename(path).split(".")
         yield os.path.basename(path), held(folder, f"{name}.v"), lambda case, stimulus=stimulus, path=path: case.tagged(folder, stimulus, held(path))
     for number in range(seed, seed + count):
-        yield f"seed_{number}", random_verilog(random.Random(number)), lambda case, number=number: case.same(random.Random(number))
+        yield f"seed_{number}", random_verilog(random.Random(number)), lambda case, number=number: case.same(random.Random(number), is_drawn=True)
 
 
-def main(top, count, seed):
+def main(top, count, seed, program=None):
     counts, wrong = Counter(), 0
+    script = os.path.join(os.path.realpath(top), "examples", "verilog", "to_subset")
     for name, text, tried in cases(top, count, seed):
-        case = Case(os.path.join(os.path.realpath(top), "examples", "verilog", "to_subset"), name, text, counts)
+        case = Case(script, program, name, text, counts)
         tried(case)
         if not case.differing:
             shutil.rmtree(case.folder)
@@ -127,10 +144,10 @@ def main(top, count, seed):
         print(f"DIFFERS: {name}, files in {case.folder}")
         for what in case.differing[:3]:
             print(f"  {what}")
-    print(", ".join(f"{what} {counts[what]}" for what in ("brought over", "refused", "items", "memories", "bits", "bits that aren't said", "rows with tags")))
+    print(", ".join(f"{what} {counts[what]}" for what in ("brought over", "refused", "items", "memories", "bits", "bits that aren't said", "dumps", "rows with tags", "not taken by Icarus Verilog")))
     print(f"{wrong} cases differ" if wrong else "no case differs")
     return bool(wrong)
 
 
 if __name__ == "__main__":
-    sys.exit(main(sys.argv[1], int(sys.argv[2]), int(sys.argv[3])))
+    sys.exit(main(sys.argv[1], int(sys.argv[2]), int(sys.argv[3]), *map(os.path.realpath, sys.argv[4:])))

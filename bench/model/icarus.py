@@ -57,7 +57,11 @@ def bench_of(name, clock, pins, cycles):
 
 
 class IcarusFailed(Exception):
-    """What a tool says of a module."""
+    """What a tool says of the module of a file."""
+
+    def __init__(self, file, said):
+        super().__init__(f"{file}: {said}")
+        self.file = file
 
 
 def rows_by_icarus(folder, file, name, clock, pins, stimulus):
@@ -67,14 +71,14 @@ def rows_by_icarus(folder, file, name, clock, pins, stimulus):
     for path, text in (("lines.txt", "".join(f"{line}\n" for line in lines)), ("bench.v", bench_of(name, clock, pins, len(stimulus)))):
         with open(os.path.join(folder, path), "w", encoding="ascii") as out:
             out.write(text)
-    called(folder, "iverilog", "-g2005", "-o", "bench.out", "-s", "bench_of_rows", "bench.v", file)
-    rows = [line.split(" ") for line in called(folder, "vvp", "-n", "bench.out").splitlines()]
+    called(folder, file, "iverilog", "-g2005", "-o", "bench.out", "-s", "bench_of_rows", "bench.v", file)
+    rows = [line.split(" ") for line in called(folder, file, "vvp", "-n", "bench.out").splitlines()]
     outputs = [pin.name for pin in pins if pin.is_output]
     return [dict(zip(outputs, row)) for row in rows]
 
 
-def called(folder, *words):
+def called(folder, file, *words):
     done = subprocess.run(words, cwd=folder, capture_output=True, text=True, check=False)
     if done.returncode or done.stderr:
-        raise IcarusFailed(f"{words[0]}: {(done.stderr or done.stdout).strip()[:300]}")
+        raise IcarusFailed(file, f"{words[0]}: {(done.stderr or done.stdout).strip()[:300]}")
     return done.stdout
