@@ -1,4 +1,7 @@
-"""`taint` of the built program beside the model of tags, and `sim` and `wave` of what it writes. Usage: python3 -m model.compare_taints PROGRAM TOP COUNT SEED"""
+"""`taint` of the built program beside the model of tags, and `sim` and `wave` of what it writes.
+
+Usage: python3 -m model.compare_taints PROGRAM TOP COUNT SEED
+"""
 
 import glob
 import os

@@ -25,6 +25,8 @@ CYCLES = 60
 # The name of an input that is held for the first cycles, whose rows aren't compared.
 RESET, HELD = "rst", 2
 
+COUNTS = ("brought over", "refused", "items", "memories", "bits", "bits that aren't said", "dumps", "rows with tags", "not taken by Icarus Verilog")
+
 
 class Case:
     """A folder with a module of Verilog, and what isn't as it is to be."""
@@ -144,7 +146,7 @@ def main(top, count, seed, program=None):
         print(f"DIFFERS: {name}, files in {case.folder}")
         for what in case.differing[:3]:
             print(f"  {what}")
-    print(", ".join(f"{what} {counts[what]}" for what in ("brought over", "refused", "items", "memories", "bits", "bits that aren't said", "dumps", "rows with tags", "not taken by Icarus Verilog")))
+    print(", ".join(f"{what} {counts[what]}" for what in COUNTS))
     print(f"{wrong} cases differ" if wrong else "no case differs")
     return bool(wrong)
 

@@ -23,7 +23,7 @@ class Const(NamedTuple):
 
 @dataclass
 class Module:
-    """What a module declares, by name, in the order of the text. An operand is a name or a Const; a right side is a function of a run, and stands as its tokens too."""
+    """What a module declares, by name, in the order of the text. An operand is a name or a Const; a right side is a function of a run, and kept as tokens."""
 
     name: str = ""
     ports: list = field(default_factory=list)

@@ -1,7 +1,8 @@
-"""Modules of Verilog drawn at random: expressions of all operators, signed and unsigned, `if` and `case` in clocked blocks and in blocks of wires, and memories.
+"""Modules of Verilog drawn at random: expressions of all operators, signed and unsigned, `if` and `case` in clocked blocks and in blocks of wires, memories.
 
-Left out is what one of the tools was seen to take otherwise than the standard has it. Yosys 0.23: a `casez` over a constant with a `?` in an arm, a signed value
-that is assigned to a bit or a run of bits whose index isn't constant, a concatenation of one signed part. Icarus Verilog 11: all bits of a signed name as a part.
+Left out is what one of the tools was seen to take otherwise than the standard has it. Yosys 0.23: a `casez` over a constant with a `?` in an arm, a signed
+value that is assigned to a bit or a run of bits whose index isn't constant, a concatenation of one signed part. Icarus Verilog 11: all bits of a signed name
+as a part.
 """
 
 from typing import NamedTuple
@@ -88,7 +89,8 @@ class Modules:
         """It reads an input, without which a block may never be looked at."""
         one = self.drawn_name(name)
         self.items.append(f"reg {self.declaration(one)};")
-        self.items.append(f"always @* begin {name} = {self.draw.choice(self.inputs).text}; {name} = {self.expression(2).text}; {self.statement(one, '=', 2)} end")
+        first = f"{name} = {self.draw.choice(self.inputs).text}; {name} = {self.expression(2).text};"
+        self.items.append(f"always @* begin {first} {self.statement(one, '=', 2)} end")
         self.sources.append(one)
 
     # Statements, each with a name as its target.

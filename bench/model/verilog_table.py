@@ -199,12 +199,18 @@ REFUSED = {
         "module top(input a, input b, input d, output reg p, output reg q);\n  always @(posedge a) p <= d;\n  always @(posedge b) q <= p;\nendmodule\n",
         "FILE:2.3-2.30: a second clock",
     ),
-    "falling_edge": ("module top(input clk, input d, output reg q);\n  always @(negedge clk) q <= d;\nendmodule\n", "FILE:2.3-2.32: a falling edge, or a write without an edge"),
+    "falling_edge": (
+        "module top(input clk, input d, output reg q);\n  always @(negedge clk) q <= d;\nendmodule\n",
+        "FILE:2.3-2.32: a falling edge, or a write without an edge",
+    ),
     "gated_clock": (
         "module top(input clk, input on, input d, output reg q);\n  wire gated = clk & on;\n  always @(posedge gated) q <= d;\nendmodule\n",
         "FILE:3.3-3.34: a clock that is no input of one bit",
     ),
-    "clock_as_value": ("module top(input clk, input d, output reg q, output c);\n  always @(posedge clk) q <= d;\n  assign c = clk;\nendmodule\n", "output c: the clock as a value"),
+    "clock_as_value": (
+        "module top(input clk, input d, output reg q, output c);\n  always @(posedge clk) q <= d;\n  assign c = clk;\nendmodule\n",
+        "output c: the clock as a value",
+    ),
     "wide_port": ("module top(input [64:0] a, output b);\n  assign b = ^a;\nendmodule\n", "port a: an inout, or more than 64 bits, or no name of the subset"),
     "inout": ("module top(inout a, output b);\n  assign b = a;\nendmodule\n", "port a: an inout, or more than 64 bits, or no name of the subset"),
     "odd_port": ("module top(input \\a.b , output c);\n  assign c = \\a.b ;\nendmodule\n", "port a.b: an inout, or more than 64 bits, or no name of the subset"),
@@ -217,7 +223,10 @@ REFUSED = {
     "loop": ("module top(input a, output b);\n  wire c = a ^ d;\n  wire d = c & a;\n  assign b = d;\nendmodule\n", "FILE:3.12-3.17: a loop of wires without a register"),
     "three_states": ("module top(input a, on, output b);\n  assign b = on ? a : 1'bz;\nendmodule\n", "FILE:2.14-2.27: a wire that may be driven by nothing"),
     "driven_by_nothing": ("module top(input a, output b, output c);\n  assign b = a;\nendmodule\n", "output c: a bit that is x or z, or driven by nothing"),
-    "two_drivers": ("module top(input clk, input a, input b, output reg q);\n  always @(posedge clk) q <= a;\n  always @(posedge clk) q <= b;\nendmodule\n", "FILE:2.3-2.32: a second driver of a wire or register"),
+    "two_drivers": (
+        "module top(input clk, input a, input b, output reg q);\n  always @(posedge clk) q <= a;\n  always @(posedge clk) q <= b;\nendmodule\n",
+        "FILE:2.3-2.32: a second driver of a wire or register",
+    ),
     "two_writes": (
         "module top(input clk, input [1:0] at, by, input [3:0] d, e, input [1:0] of, output [3:0] q);\n  reg [3:0] m [0:3];\n"
         "  always @(posedge clk) begin m[at] <= d; m[by] <= e; end\n  assign q = m[of];\nendmodule\n",
