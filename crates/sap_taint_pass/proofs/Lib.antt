@@ -17,3 +17,4 @@ pub mod NameTexts
 pub mod Clashing
 pub mod Helped
 pub mod Placed
+pub mod Small

@@ -3,3 +3,4 @@ pub mod Helping
 pub mod FaultTexts
 pub mod Helped
 pub mod Laws
+pub mod Small
