@@ -17,4 +17,6 @@ pub mod NameTexts
 pub mod Clashing
 pub mod Helped
 pub mod Placed
+pub mod Made
 pub mod Small
+pub mod Kept

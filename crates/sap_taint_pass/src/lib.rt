@@ -9,5 +9,6 @@ pub mod laws;
 pub mod names;
 mod ports;
 mod registers;
+pub mod taint;
 mod wires;
 mod writes;
