@@ -17,9 +17,9 @@ lattice_codes = codes "L1" ∷ codes "L2" ∷ codes "L3" ∷ codes "L4" ∷ code
 abbrev pub stimulus_codes : List (List ℕ)
 stimulus_codes = codes "S1" ∷ codes "S2" ∷ codes "S3" ∷ codes "S4" ∷ codes "S5" ∷ codes "S6" ∷ []
 
--- of modules
+-- of modules, and of one to which tags are added
 abbrev pub module_codes : List (List ℕ)
-module_codes = codes "V1" ∷ codes "V2" ∷ codes "V3" ∷ codes "V4" ∷ codes "V5" ∷ codes "V6" ∷ codes "V7" ∷ []
+module_codes = codes "V1" ∷ codes "V2" ∷ codes "V3" ∷ codes "V4" ∷ codes "V5" ∷ codes "V6" ∷ codes "V7" ∷ codes "X1" ∷ []
 
 -- of value change dumps
 abbrev pub wave_codes : List (List ℕ)

@@ -98,8 +98,23 @@ Cure: An input gets its number from outside: assign to a wire. The number behind
 its depth less 1: `[0:3]` is one of 4 cells, with an index of 2 bits.
 ";
 
+const X1: &str = "X1: a name of the module is in the way of a tag.
+
+`taint` names the tag of `v_x` `t_x`, and that of any other name `z` `t_z`. Told is the first declared
+name whose tag would have a name that the module has, its own name included, or that an earlier
+tag has.
+
+Example:
+
+    wire [7:0] n0;
+    wire [7:0] t_n0;
+
+Cure: Give the name that is in the way another. A module that `compile` or `taint` wrote has tags
+already.
+";
+
 // Each code with its text.
-static MODULE_FAULTS: [(&str, &str); 7] = [
+static MODULE_FAULTS: [(&str, &str); 8] = [
     ("V1", V1),
     ("V2", V2),
     ("V3", V3),
@@ -107,6 +122,7 @@ static MODULE_FAULTS: [(&str, &str); 7] = [
     ("V5", V5),
     ("V6", V6),
     ("V7", V7),
+    ("X1", X1),
 ];
 
 pub(crate) fn module_fault(code: &str) -> Option<&'static str>

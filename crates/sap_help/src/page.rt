@@ -12,11 +12,12 @@ const ABOUT: &str =
 const USAGE: &str = "sapper COMMAND OPERANDS";
 
 // What each command does, in the order of the table of commands.
-static DOES: [&str; 13] = [
+static DOES: [&str; 14] = [
     "writes the module of a design to the file OUT",
     "runs a design on a stimulus, and writes a row a cycle",
     "runs a design on a stimulus, and writes a line for each refused command",
     "clocks a module of the subset, and writes a row a cycle",
+    "writes a module of the subset with a tag for each name to the file OUT",
     "clocks a module of the subset, and writes its value change dump to the file OUT",
     "writes the rows of a value change dump",
     "writes codes of levels, what hangs on which commands, and check sites",
@@ -34,7 +35,7 @@ const STATUSES: &str = "Statuses:
   2  the words are no command: `words`; or LEVEL is no level: `level WORD`
   3  the lattice is refused: `lattice: CODE` and its names or positions
   4  a stimulus is refused: `stimulus F: CODE line N`
-  5  the module is refused: `module: CODE LINE:COL`
+  5  the module is refused: `module: CODE LINE:COL`; or it has no name left for a tag: `module: X1 NAME`
   6  a call on a file or on the output failed: `desk: NAME`
   7  there was no memory: `memory`
   8  the streams of twin don't agree: `streams: ..`

@@ -1,7 +1,7 @@
 -- The words of a command that was read.
-use Rattle.sap_words.specs.Words.{Words, compile, run, trace, fmt, sim, wave, unwave, report, twin, gen, machine, asm, cpu}
+use Rattle.sap_words.specs.Words.{Words, compile, run, trace, fmt, sim, taint, wave, unwave, report, twin, gen, machine, asm, cpu}
 use Rattle.sap_words.specs.declared.command.Command.{Command}
-use Rattle.sap_words.specs.declared.command.Command.TheVariants.{Compile, Run, Trace, Fmt, Sim, Wave, Unwave, Report, Twin, Gen, Machine, Asm, Cpu}
+use Rattle.sap_words.specs.declared.command.Command.TheVariants.{Compile, Run, Trace, Fmt, Sim, Taint, Wave, Unwave, Report, Twin, Gen, Machine, Asm, Cpu}
 
 abbrev pub words_of : Command → Words
 words_of (Compile lattice design out) = compile lattice.now design.now out.now
@@ -9,6 +9,7 @@ words_of (Run lattice design stimulus) = run lattice.now design.now stimulus.now
 words_of (Trace lattice design stimulus) = trace lattice.now design.now stimulus.now
 words_of (Fmt design) = fmt design.now
 words_of (Sim lattice verilog stimulus) = sim lattice.now verilog.now stimulus.now
+words_of (Taint lattice verilog out) = taint lattice.now verilog.now out.now
 words_of (Wave lattice verilog stimulus out) = wave lattice.now verilog.now stimulus.now out.now
 words_of (Unwave lattice dump) = unwave lattice.now dump.now
 words_of (Report lattice design) = report lattice.now design.now

@@ -12,6 +12,7 @@ pub data Words : Type 0 where
   trace : (lattice design stimulus : List ℕ) → Words
   fmt : (design : List ℕ) → Words
   sim : (lattice verilog stimulus : List ℕ) → Words
+  taint : (lattice verilog out : List ℕ) → Words
   wave : (lattice verilog stimulus out : List ℕ) → Words
   unwave : (lattice dump : List ℕ) → Words
   report : (lattice design : List ℕ) → Words
@@ -55,6 +56,7 @@ commands = row (codes "compile") (codes "LATTICE" ∷ codes "DESIGN" ∷ codes "
     ∷ row (codes "run") (codes "LATTICE" ∷ codes "DESIGN" ∷ codes "STIM" ∷ []) run
     ∷ row (codes "trace") (codes "LATTICE" ∷ codes "DESIGN" ∷ codes "STIM" ∷ []) trace
     ∷ row (codes "sim") (codes "LATTICE" ∷ codes "VERILOG" ∷ codes "STIM" ∷ []) sim
+    ∷ row (codes "taint") (codes "LATTICE" ∷ codes "VERILOG" ∷ codes "OUT" ∷ []) taint
     ∷ row (codes "wave") (codes "LATTICE" ∷ codes "VERILOG" ∷ codes "STIM" ∷ codes "OUT" ∷ []) wave
     ∷ row (codes "unwave") (codes "LATTICE" ∷ codes "WAVE" ∷ []) unwave
     ∷ row (codes "report") (codes "LATTICE" ∷ codes "DESIGN" ∷ []) report

@@ -36,6 +36,11 @@ pub enum Command<'a> {
         verilog: &'a str,
         stimulus: &'a str,
     },
+    Taint {
+        lattice: &'a str,
+        verilog: &'a str,
+        out: &'a str,
+    },
     Wave {
         lattice: &'a str,
         verilog: &'a str,

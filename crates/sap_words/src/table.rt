@@ -10,11 +10,12 @@ use crate::command::Command;
 use crate::number::number_of;
 
 /// Each command with the names of its operands.
-pub static COMMANDS: [(&str, &[&str]); 13] = [
+pub static COMMANDS: [(&str, &[&str]); 14] = [
     ("compile", &["LATTICE", "DESIGN", "OUT"]),
     ("run", &["LATTICE", "DESIGN", "STIM"]),
     ("trace", &["LATTICE", "DESIGN", "STIM"]),
     ("sim", &["LATTICE", "VERILOG", "STIM"]),
+    ("taint", &["LATTICE", "VERILOG", "OUT"]),
     ("wave", &["LATTICE", "VERILOG", "STIM", "OUT"]),
     ("unwave", &["LATTICE", "WAVE"]),
     ("report", &["LATTICE", "DESIGN"]),
@@ -57,6 +58,11 @@ pub(crate) fn made<'a>(
             lattice: first,
             verilog: second,
             stimulus: third,
+        }),
+        "taint" => Some(Command::Taint {
+            lattice: first,
+            verilog: second,
+            out: third,
         }),
         "wave" => Some(Command::Wave {
             lattice: first,
