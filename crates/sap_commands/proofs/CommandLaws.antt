@@ -14,7 +14,7 @@ use Rattle.sap_files.specs.Ending.{Ending, Refusal, done, refused, failed, no_me
 use Rattle.sap_files.specs.Kinds.{assembly_file, design_file, design_text_file, lattice_file, module_file, module_stream_file, stream_file, wave_file}
 use Rattle.sap_files.specs.Compared.{IsVerdict}
 use Rattle.sap_net.specs.Net.{Net}
-use Rattle.sap_words.specs.Words.{Words, IsTwin, compile, run, trace, fmt, sim, wave, unwave, report, twin, gen, machine, asm, cpu, command_of}
+use Rattle.sap_words.specs.Words.{Words, IsTwin, compile, run, trace, fmt, sim, taint, wave, unwave, report, twin, gen, machine, asm, cpu, command_of}
 use Rattle.sap_machine.specs.Text.{stimulus_text, users_text}
 use Rattle.sap_files.specs.Uncompiled.{asks_programs}
 use Rattle.sap_files.specs.Asks.{Asks, file, by, AreLawful, MayEnd, end_of}
@@ -64,6 +64,18 @@ lawful_programs : (text_of : (a b : List ℕ) → List ℕ) (first second : List
 lawful_programs text_of first second =
     (assembly_lawful 1, λ bytes a is. (assembly_lawful 2, λ more b was. λ text other x y. x ∙ sym y))
 
+-- a module with tags
+
+lawful_tags : (ls : Levels) (net : Net) (out : List ℕ) (clash : Option (List ℕ)) → AreLawful (with_tags ls net out clash)
+lawful_tags ls net out None = tt
+lawful_tags ls net out (Some x) = tt
+
+one_first_clash : (net : Net) (v w : Option (List ℕ)) → FirstClash net v → FirstClash net w → v ≡ w
+one_first_clash net None None a b = refl
+one_first_clash net None (Some x) a b = absurd (no_clash_with_room net x b a)
+one_first_clash net (Some x) None a b = absurd (no_clash_with_room net x a b)
+one_first_clash net (Some x) (Some y) a b = ap (λ (z : List ℕ). Some z) (one_clash net x y a b)
+
 -- each command
 
 lawful : (c : Words) → AreLawful (asks c)
@@ -75,6 +87,8 @@ lawful (trace lattice design stimulus) =
 lawful (fmt design) = (text_lawful, λ source d a text other x y. x ∙ sym y)
 lawful (sim lattice verilog stimulus) =
     (lattice_lawful, λ bytes ls a. (module_lawful, λ text net b. λ found. one_rows ls net (module_netlist text net b) found))
+lawful (taint lattice verilog out) =
+    (lattice_lawful, λ bytes ls a. (module_lawful, λ text net b. (one_first_clash net, λ clash is. lawful_tags ls net out clash)))
 lawful (wave lattice verilog stimulus out) =
     (lattice_lawful, λ bytes ls a. (module_lawful, λ text net b. (module_stream_lawful ls net, λ lines stream d. tt)))
 lawful (unwave lattice dump) = (lattice_lawful, λ bytes ls a. (wave_lawful, λ text w b one other x y. x ∙ sym y))
@@ -154,6 +168,11 @@ two_twin (fmt design) e (inr (source, d, a, is)) two = absurd (is_done e is two)
 two_twin (sim lattice verilog stimulus) e (inl (bytes, why, is, r)) two = absurd (lattice_two e bytes why is r two)
 two_twin (sim lattice verilog stimulus) e (inr (bytes, ls, a, inl (text, why, is, r))) two = absurd (module_two e text why is r two)
 two_twin (sim lattice verilog stimulus) e (inr (bytes, ls, a, inr (text, net, b, (found, is)))) two = absurd (rows_end (module_stimulus ls net found).fault e is two)
+two_twin (taint lattice verilog out) e (inl (bytes, why, is, r)) two = absurd (lattice_two e bytes why is r two)
+two_twin (taint lattice verilog out) e (inr (bytes, ls, a, inl (text, why, is, r))) two = absurd (module_two e text why is r two)
+two_twin (taint lattice verilog out) e (inr (bytes, ls, a, inr (text, net, b, (None, room, is)))) two = absurd (is_done e is two)
+two_twin (taint lattice verilog out) e (inr (bytes, ls, a, inr (text, net, b, (Some x, clash, is)))) two =
+    absurd (not_two e (taint_refused (Clash x)) 5 is refl (λ five. omega (arith, five)) two)
 two_twin (wave lattice verilog stimulus out) e (inl (bytes, why, is, r)) two = absurd (lattice_two e bytes why is r two)
 two_twin (wave lattice verilog stimulus out) e (inr (bytes, ls, a, inl (text, why, is, r))) two = absurd (module_two e text why is r two)
 two_twin (wave lattice verilog stimulus out) e (inr (bytes, ls, a, inr (text, net, b, inl (lines, why, is, r)))) two = absurd (stream_two ls net e lines why is r two)

@@ -9,13 +9,13 @@ use Rattle.sap_stream.specs.declared.apart.Apart.{Apart}
 use Rattle.sap_sim.specs.Labelled.RunOf.{read_for as design_stimulus}
 use Rattle.sap_compile.specs.Compiles.{IsModuleFor}
 use Rattle.sap_gen.specs.Text.{generated_text}
-use Rattle.sap_words.specs.Words.{Words, compile, run, trace, fmt, sim, wave, unwave, report, twin, gen, machine, asm, cpu, command_of}
+use Rattle.sap_words.specs.Words.{Words, compile, run, trace, fmt, sim, taint, wave, unwave, report, twin, gen, machine, asm, cpu, command_of}
 use Rattle.sap_files.specs.Ending.{Ending, no_command, level_refused}
 use Rattle.sap_files.specs.Kinds.{lattice_file, design_file, stream_file}
 use Rattle.sap_commands.specs.Twin.{IsAgreement}
 use Rattle.sap_files.specs.Compared.{IsVerdict, difference}
 use Rattle.sap_files.specs.StimulusTexts.{AreDesignRows, AreTraceLines}
-use Rattle.sap_files.specs.Uncompiled.{asks_asm, asks_canonical, asks_cpu, asks_machine, asks_simulated, asks_report, asks_unwave, asks_wave}
+use Rattle.sap_files.specs.Uncompiled.{asks_asm, asks_canonical, asks_cpu, asks_machine, asks_simulated, asks_report, asks_taint, asks_unwave, asks_wave}
 use Rattle.sap_files.specs.Asks.{Asks, file, by, gives, prints, writes, stops, Cause, IsOutput}
 
 -- the text is one of a module for the design
@@ -49,6 +49,7 @@ asks (trace lattice design stimulus) =
     prints stimulus (AreTraceLines ls d) (λ bytes. (design_stimulus ls d bytes).fault)))
 asks (fmt design) = asks_canonical design
 asks (sim lattice verilog stimulus) = asks_simulated lattice verilog stimulus
+asks (taint lattice verilog out) = asks_taint lattice verilog out
 asks (wave lattice verilog stimulus out) = asks_wave lattice verilog stimulus out
 asks (unwave lattice dump) = asks_unwave lattice dump
 asks (report lattice design) = asks_report lattice design

@@ -11,7 +11,7 @@ use crate::running::run;
 use crate::tracing::trace_design;
 use sap_desk::Desk;
 use sap_files::failure::Failure;
-use sap_files::{asm, cpu, format, machine, report_design, simulate, unwave, wave};
+use sap_files::{asm, cpu, format, machine, report_design, simulate, taint, unwave, wave};
 use sap_words::Command;
 use std::alloc::Global;
 
@@ -45,6 +45,11 @@ pub fn perform<'a, D: Desk>(
             verilog,
             stimulus,
         } => simulate(alloc, desk, lattice, verilog, stimulus),
+        Command::Taint {
+            lattice,
+            verilog,
+            out,
+        } => taint(alloc, desk, lattice, verilog, out),
         Command::Wave {
             lattice,
             verilog,

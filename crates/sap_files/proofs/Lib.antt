@@ -18,3 +18,4 @@ pub mod Streams
 pub mod Wholes
 pub mod Dumps
 pub mod Assemblies
+pub mod Taints

@@ -10,6 +10,8 @@ use Rattle.sap_files.specs.declared.fault.DesignFault.{DesignFault}
 use Rattle.sap_files.specs.declared.fault.DesignFault.TheVariants.{Read, Check}
 use Rattle.sap_vread.specs.FaultTexts.{module_text}
 use Rattle.sap_vread.specs.declared.fault.ModFault.{ModFault}
+use Rattle.sap_taint_pass.specs.FaultTexts.{taint_text}
+use Rattle.sap_taint_pass.specs.declared.fault.TaintFault.{TaintFault}
 use Rattle.sap_stim.specs.FaultTexts.{stimulus_text}
 use Rattle.sap_stim.specs.declared.fault.StimFault.{StimFault}
 use Rattle.sap_wave.specs.FaultTexts.{wave_text}
@@ -25,6 +27,8 @@ pub data Refusal : Type 0 where
   -- the first stimulus of the words, or the second
   stimulus_refused : (place : ℕ) → StimFault → Refusal
   module_refused : ModFault → Refusal
+  -- a module has no name left for a tag
+  taint_refused : TaintFault → Refusal
   -- the word is no level of the lattice
   level_refused : (word : List ℕ) → Refusal
   -- two streams have not as many cycles; or they first don't agree in this cycle, at this input
@@ -48,6 +52,7 @@ status_of_refusal (level_refused word) = 2
 status_of_refusal (lattice_refused fault) = 3
 status_of_refusal (stimulus_refused place fault) = 4
 status_of_refusal (module_refused fault) = 5
+status_of_refusal (taint_refused fault) = 5
 status_of_refusal (lengths_apart one other) = 8
 status_of_refusal (inputs_apart cycle name) = 8
 status_of_refusal (wave_refused fault) = 10
@@ -77,6 +82,7 @@ refusal_text (lattice_refused fault) = codes "lattice: " ++ lattice_text fault
 refusal_text (design_refused fault) = codes "design: " ++ design_text fault
 refusal_text (stimulus_refused place fault) = codes "stimulus " ++ decimal place ++ codes ": " ++ stimulus_text fault
 refusal_text (module_refused fault) = codes "module: " ++ module_text fault
+refusal_text (taint_refused fault) = codes "module: " ++ taint_text fault
 refusal_text (level_refused word) = codes "level " ++ word
 refusal_text (lengths_apart one other) = codes "streams: lengths " ++ decimal one ++ codes " and " ++ decimal other
 refusal_text (inputs_apart cycle name) = codes "streams: cycle " ++ decimal cycle ++ codes " input " ++ name

@@ -7,4 +7,5 @@ pub mod Outside
 pub mod Steps
 pub mod Compared
 pub mod StimulusTexts
+pub mod Tainting
 pub mod Uncompiled

@@ -15,10 +15,15 @@ use Rattle.sap_check.specs.Checked.{levels_in, tree_in}
 use Rattle.sap_check.specs.declared.checked.Checked.{Checked}
 use Rattle.sap_vread.specs.declared.fault.ModFault.{ModFault}
 use Rattle.sap_vread.specs.declared.fault.ModFault.TheVariants as module_fault
+use Rattle.sap_net.specs.Net.{Net}
+use Rattle.sap_taint.specs.TagNames.{IsClash, HasRoomForTags}
+use Rattle.sap_taint_pass.specs.declared.fault.TaintFault.{TaintFault}
+use Rattle.sap_taint_pass.specs.declared.fault.TaintFault.TheVariants as taint_fault
 use Rattle.sap_wave.specs.declared.fault.WaveFault.{WaveFault}
 use Rattle.sap_wave.specs.declared.fault.WaveFault.TheVariants as wave_fault
 use Rattle.sap_files.specs.declared.fault.DesignFault.TheVariants as design_fault
-use Rattle.sap_files.specs.Ending.{Ending, Refusal as Reason, done, refused, failed, no_memory, lattice_refused, design_refused, stimulus_refused, module_refused, level_refused, lengths_apart, inputs_apart, wave_refused, asm_refused, IsFree}
+use Rattle.sap_files.specs.Ending.{Ending, Refusal as Reason, done, refused, failed, no_memory, lattice_refused, design_refused, stimulus_refused, module_refused, taint_refused, level_refused, lengths_apart, inputs_apart, wave_refused, asm_refused, IsFree}
+use Rattle.sap_files.specs.Tainting.{HasTaintOf, IsTaintedText}
 use Rattle.sap_files.specs.Kinds.{Kind, IsLatticeFile, IsWellFormedText, design_file, lattice_file, table_by}
 use Rattle.sap_stim.specs.declared.field.Field.{Field}
 use Rattle.sap_stim.specs.Stimulus.{stimulus_of}
@@ -31,13 +36,14 @@ use Rattle.sap_files.specs.declared.files.LatticeFile.{LatticeFile}
 use Rattle.sap_files.specs.declared.failure.Failure.{Failure}
 use Rattle.sap_files.specs.declared.failure.Failure.TheVariants.{Refused, Desk, Memory}
 use Rattle.sap_files.specs.declared.refusal.Refusal.{Refusal}
-use Rattle.sap_files.specs.declared.refusal.Refusal.TheVariants.{Lattice, Design, Stimulus, Module, Level, Lengths, Input, Wave, Assembly}
+use Rattle.sap_files.specs.declared.refusal.Refusal.TheVariants.{Lattice, Design, Stimulus, Module, Taint, Level, Lengths, Input, Wave, Assembly}
 
 abbrev pub reason : Refusal → Reason
 reason (Lattice fault) = lattice_refused fault
 reason (Design fault) = design_refused fault
 reason (Stimulus place fault) = stimulus_refused place fault
 reason (Module fault) = module_refused fault
+reason (Taint fault) = taint_refused fault
 reason (Level word) = level_refused word.now
 reason (Lengths one other) = lengths_apart one other
 reason (Input cycle name) = inputs_apart cycle name
@@ -61,6 +67,10 @@ check_failure fault = Refused (Design (design_fault.Check fault))
 abbrev pub module_failure : ModFault → Failure
 module_failure module_fault.Memory = Memory
 module_failure fault = Refused (Module fault)
+
+abbrev pub taint_failure : TaintFault → Failure
+taint_failure taint_fault.Memory = Memory
+taint_failure fault = Refused (Taint fault)
 
 abbrev pub wave_failure : WaveFault → Failure
 wave_failure wave_fault.Memory = Memory
@@ -185,6 +195,16 @@ Gives k value bytes (Err e) = Refuses k bytes (ending e)
 -- the levels of a lattice with the table that a lattice file has
 abbrev pub whole : Levels → Levels
 whole ls = record { names = ls.names; table = table_by (length ls.names) (order_of ls).le }
+
+-- what a module gives to which tags are added: the netlist with tags, or why there is none
+abbrev pub Tags : Levels → Net → Result Net Failure → Type 0
+Tags ls net (Ok tagged) = HasRoomForTags net × HasTaintOf (order_of ls) net tagged
+Tags ls net (Err e) = (ending e ≡ no_memory) ⊎ ((x : List ℕ) × IsClash net x × (ending e ≡ refused (taint_refused (taint_fault.Clash x))))
+
+-- and the text of its module
+abbrev pub Taints : Levels → Net → Result (List ℕ) Failure → Type 0
+Taints ls net (Ok text) = HasRoomForTags net × IsTaintedText ls net text
+Taints ls net (Err e) = (ending e ≡ no_memory) ⊎ ((x : List ℕ) × IsClash net x × (ending e ≡ refused (taint_refused (taint_fault.Clash x))))
 
 -- what a design file gives over the levels of a lattice
 abbrev pub IsChecked : Levels → (source : List ℕ) → Result Checked Failure → Type 0

@@ -1,6 +1,6 @@
--- What the commands ask that compile nothing: a design as its canonical text, a module's rows, a report, a module's dump, the rows of a dump, the machine and
--- what two programs make of it.
-use Rattle.std.specs.Prelude.{◌≡◌, ℕ, List}
+-- What the commands ask that compile nothing: a design as its canonical text, a module's rows, a module with tags, a report, a module's dump, the rows of a
+-- dump, the machine and what two programs make of it.
+use Rattle.std.specs.Prelude.{◌≡◌, ℕ, List, Option}
 use Rattle.sap_sim.specs.Numbers.{numbers_of}
 use Rattle.sap_sim.specs.Simulated.{read_for as module_stimulus}
 use Rattle.sap_show.specs.Canonical.{canonical_text}
@@ -11,7 +11,8 @@ use Rattle.sap_machine.specs.DesignText.{machine_text}
 use Rattle.sap_machine.specs.Text.{stimulus_text, users_text}
 use Rattle.sap_files.specs.Kinds.{assembly_file, lattice_file, design_file, design_text_file, module_file, module_stream_file, wave_file}
 use Rattle.sap_files.specs.StimulusTexts.{AreModuleRows}
-use Rattle.sap_files.specs.Asks.{Asks, file, gives, prints, writes}
+use Rattle.sap_files.specs.Tainting.{FirstClash, with_tags}
+use Rattle.sap_files.specs.Asks.{Asks, file, by, gives, prints, writes}
 
 abbrev pub asks_canonical : (design : List ℕ) → Asks
 asks_canonical design = file design design_text_file (λ d. gives (λ text. text ≡ canonical_text d))
@@ -20,6 +21,10 @@ abbrev pub asks_simulated : (lattice verilog stimulus : List ℕ) → Asks
 asks_simulated lattice verilog stimulus =
     file lattice lattice_file (λ ls. file verilog module_file (λ net.
     prints stimulus (AreModuleRows ls net) (λ bytes. (module_stimulus ls net bytes).fault)))
+
+abbrev pub asks_taint : (lattice verilog out : List ℕ) → Asks
+asks_taint lattice verilog out =
+    file lattice lattice_file (λ ls. file verilog module_file (λ net. by (Option (List ℕ)) (FirstClash net) (with_tags ls net out)))
 
 abbrev pub asks_report : (lattice design : List ℕ) → Asks
 asks_report lattice design =

@@ -16,6 +16,7 @@ mod reporting;
 mod rows;
 mod showing;
 mod simulating;
+mod tainting;
 mod traces;
 mod waves;
 
@@ -29,5 +30,6 @@ pub use reporting::report_design;
 pub use rows::print_rows;
 pub use showing::format;
 pub use simulating::simulate;
+pub use tainting::taint;
 pub use traces::print_trace;
 pub use waves::{unwave, wave};

@@ -9,6 +9,7 @@ use crate::fault::DesignFault;
 use sap_latfile::LatFileFault;
 use sap_machine::fault::{AsmCode, AsmFault};
 use sap_stim::fault::StimFault;
+use sap_taint_pass::fault::TaintFault;
 use sap_tree::name::Name;
 use sap_vread::fault::ModFault;
 use sap_wave::WaveFault;
@@ -22,6 +23,8 @@ pub enum Refusal<'a> {
     /// The first stimulus of the words, or the second.
     Stimulus(u64, StimFault),
     Module(ModFault),
+    /// The module has no name left for a tag.
+    Taint(TaintFault),
     /// The word is no level of the lattice.
     Level(&'a str),
     /// Two streams have not as many cycles.
@@ -53,7 +56,7 @@ impl Refusal<'_> {
             Refusal::Design(_) => 1,
             Refusal::Lattice(_) => 3,
             Refusal::Stimulus(_, _) => 4,
-            Refusal::Module(_) => 5,
+            Refusal::Module(_) | Refusal::Taint(_) => 5,
             Refusal::Level(_) => 2,
             Refusal::Lengths(_, _) | Refusal::Input(_, _) => 8,
             Refusal::Wave(_) => 10,
@@ -75,6 +78,7 @@ impl fmt::Display for Refusal<'_> {
             Refusal::Design(fault) => write!(f, "design: {fault}"),
             Refusal::Stimulus(place, fault) => write!(f, "stimulus {place}: {fault}"),
             Refusal::Module(fault) => write!(f, "module: {fault}"),
+            Refusal::Taint(fault) => write!(f, "module: {fault}"),
             Refusal::Level(word) => write!(f, "level {word}"),
             Refusal::Lengths(one, other) => write!(f, "streams: lengths {one} and {other}"),
             Refusal::Input(cycle, name) => write!(f, "streams: cycle {cycle} input {name}"),

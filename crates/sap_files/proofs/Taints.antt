@@ -1,0 +1,40 @@
+-- What comes of a module to which tags are added.
+use Rattle.std.proofs.Common.{◌≡◌, ◌⊎◌, List, ℕ, sym, ◌∙◌, subst, inl, inr, refl}
+use Rattle.std.specs.Prelude.{Option, Some, None}
+use Rattle.sap_lattice.specs.Levels.{Levels, order_of}
+use Rattle.sap_lattice.specs.Order.{Order}
+use Rattle.sap_latfile.specs.OneLattice.{AreSame}
+use Rattle.sap_net.specs.Net.{Net}
+use Rattle.sap_taint.specs.TagNames.{IsClash}
+use Rattle.sap_taint_pass.specs.FaultTexts.{IsTaintFault}
+use Rattle.sap_taint_pass.specs.declared.fault.TaintFault.{TaintFault}
+use Rattle.sap_taint_pass.specs.declared.fault.TaintFault.TheVariants.{Clash, Memory}
+use Rattle.sap_files.specs.Ending.{Ending, refused, no_memory, taint_refused}
+use Rattle.sap_files.specs.Tainting.{FirstClash, HasTaintOf, IsTaintedText, with_tags}
+use Rattle.sap_files.specs.Asks.{by}
+use Rattle.sap_files.specs.Steps.{Ends, Moment, ending, taint_failure}
+use Rattle.sap_files.specs.declared.failure.Failure.{Failure}
+use Rattle.sap_files.proofs.Ended.{chosen, quiet_self, starved, stopped_by}
+
+-- why there are no tags
+abbrev pub Untagged : Net → Ending → Type 0
+Untagged n e = (e ≡ no_memory) ⊎ ((x : List ℕ) × IsClash n x × (e ≡ refused (taint_refused (Clash x))))
+
+untagged_by : (n : Net) (fault : TaintFault) → IsTaintFault n fault → Untagged n (ending (taint_failure fault))
+untagged_by n (Clash x) is = inr (x, is, refl)
+untagged_by n Memory is = inl refl
+
+pub untagged : (n : Net) (fault : TaintFault) (failure : Failure) → failure ≡ taint_failure fault → IsTaintFault n fault → Untagged n (ending failure)
+untagged n fault failure same is = subst (λ (f : Failure). Untagged n (ending f)) (sym same) (untagged_by n fault is)
+
+-- so the command ends there
+pub untagged_ended : (ls : Levels) (n : Net) (out : List ℕ) (e : Ending) (m : Moment) → Untagged n e → Ends (by (Option (List ℕ)) (FirstClash n) (with_tags ls n out)) e m m
+untagged_ended ls n out e m (inl is) =
+    subst (λ (f : Ending). Ends (by (Option (List ℕ)) (FirstClash n) (with_tags ls n out)) f m m) (sym is)
+    (starved (by (Option (List ℕ)) (FirstClash n) (with_tags ls n out)) (quiet_self m))
+untagged_ended ls n out e m (inr (x, clash, is)) = chosen (Some x) clash (stopped_by (taint_refused (Clash x)) e is (quiet_self m))
+
+-- two lattices that are the same give the same tags
+pub tainted_in : (l m : Levels) → AreSame l m → (n : Net) (text : List ℕ) → IsTaintedText l n text → IsTaintedText m n text
+tainted_in l m same n text is =
+    record { tagged = is.tagged; is_module = is.is_module; taint = subst (λ (o : Order). HasTaintOf o n is.tagged) same.order is.taint }
