@@ -10,9 +10,12 @@ use Rattle.sap_stream.specs.declared.apart.Apart.{Apart}
 use Rattle.sap_stream.proofs.Agreeing.{at_most_one}
 use Rattle.sap_sim.specs.Labelled.RunOf.{read_for as design_stimulus}
 use Rattle.sap_sim.specs.Simulated.{read_for as module_stimulus}
-use Rattle.sap_files.specs.Ending.{Ending, Refusal, done, refused, failed, no_memory, status_of, status_of_refusal, IsFree}
+use Rattle.sap_files.specs.Ending.{Ending, Refusal, done, refused, failed, no_memory, taint_refused, status_of, status_of_refusal, IsFree}
 use Rattle.sap_files.specs.Kinds.{assembly_file, design_file, design_text_file, lattice_file, module_file, module_stream_file, stream_file, wave_file}
 use Rattle.sap_files.specs.Compared.{IsVerdict}
+use Rattle.sap_files.specs.Tainting.{FirstClash, with_tags}
+use Rattle.sap_taint_pass.specs.declared.fault.TaintFault.TheVariants.{Clash}
+use Rattle.sap_taint.proofs.Clashes.{no_clash_with_room, one_clash}
 use Rattle.sap_net.specs.Net.{Net}
 use Rattle.sap_words.specs.Words.{Words, IsTwin, compile, run, trace, fmt, sim, taint, wave, unwave, report, twin, gen, machine, asm, cpu, command_of}
 use Rattle.sap_machine.specs.Text.{stimulus_text, users_text}

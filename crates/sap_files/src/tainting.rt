@@ -25,11 +25,7 @@ fn taint_failure<'a>(fault: TaintFault) -> Failure<'a>
     }
 }
 
-fn tagged<'a>(
-    alloc: Global,
-    lattice: &Lattice,
-    netlist: &Netlist,
-) -> Result<Netlist, Failure<'a>>
+fn tagged<'a>(alloc: Global, lattice: &Lattice, netlist: &Netlist) -> Result<Netlist, Failure<'a>>
     ensures { Tags lattice.now netlist.now result }
 {
     match add_tags(alloc, netlist, lattice) {

@@ -1,4 +1,5 @@
 pub mod Calls
 pub mod Headline
 pub mod Waves
+pub mod Taints
 pub mod Machines

@@ -45,14 +45,14 @@ use Rattle.sapper.proofs.Headline.{by_cause, done_alone}
 
 module _ (t : Told) (name : List ℕ) (k : Kind) (rest : k.Value → Asks) (e : Ending) where
   -- behind a file that stands for a value
-  past_file : IsLawful k → (v : k.Value) → Has t name k v → Cause (file name k rest) t e → Cause (rest v) t e
+  pub past_file : IsLawful k → (v : k.Value) → Has t name k v → Cause (file name k rest) t e → Cause (rest v) t e
   past_file law v has (inl (why, ends, is)) = absurd (not_both k law t name v why has is)
   past_file law v has (inr (w, had, cause)) =
       let P : k.Value → Type 0 = λ x. Cause (rest x) t e in
       subst P (one_value k law t name w v had has) cause
 
   -- at one that stands for none
-  refused_at : (bytes : List ℕ) → t.files name ≡ Some bytes → ((v : k.Value) → ¬ (k.Stands bytes v)) → Cause (file name k rest) t e
+  pub refused_at : (bytes : List ℕ) → t.files name ≡ Some bytes → ((v : k.Value) → ¬ (k.Stands bytes v)) → Cause (file name k rest) t e
       → (why : Refusal) × (e ≡ refused why) × k.Refused bytes why
   refused_at bytes there none (inl (why, ends, is)) =
       let P : List ℕ → Type 0 = λ b. k.Refused b why in
@@ -61,7 +61,7 @@ module _ (t : Told) (name : List ℕ) (k : Kind) (rest : k.Value → Asks) (e : 
       let P : List ℕ → Type 0 = λ b. k.Stands b v in
       absurd (none v (subst P (some_unique (t.files name) has.bytes bytes has.file there) has.stands))
 
-zero_of : (answer : ℕ) → (answer ≡ 0) ⊎ ((answer ≡ 6) ⊎ (answer ≡ 7)) → answer ≢ 6 → answer ≢ 7 → answer ≡ 0
+pub zero_of : (answer : ℕ) → (answer ≡ 0) ⊎ ((answer ≡ 6) ⊎ (answer ≡ 7)) → answer ≢ 6 → answer ≢ 7 → answer ≡ 0
 zero_of answer (inl zero) no_failure no_want = zero
 zero_of answer (inr (inl six)) no_failure no_want = absurd (no_failure six)
 zero_of answer (inr (inr seven)) no_failure no_want = absurd (no_want seven)

@@ -2,7 +2,7 @@
 use Rattle.std.specs.Prelude.{◌≡◌, ◌≢◌, ◌⊎◌, ℕ, List}
 use Rattle.sap_desk.specs.Desk.{Told}
 use Rattle.sap_desk.specs.Whole.{Between, Gained, LostAtMostOne}
-use Rattle.sap_files.specs.Ending.{Ending, Refusal as Reason, refused, no_memory, no_command, lattice_refused, design_refused, stimulus_refused, module_refused, level_refused, lengths_apart, inputs_apart, wave_refused, asm_refused, status_of, line_of}
+use Rattle.sap_files.specs.Ending.{Ending, Refusal as Reason, refused, no_memory, no_command, lattice_refused, design_refused, stimulus_refused, module_refused, taint_refused, level_refused, lengths_apart, inputs_apart, wave_refused, asm_refused, status_of, line_of}
 use Rattle.sap_files.specs.Steps.{Moment}
 use Rattle.sapper.specs.Outside.{FullLines}
 
@@ -29,6 +29,7 @@ TakesMemory (lattice_refused fault) = Unit {0}
 TakesMemory (design_refused fault) = Unit {0}
 TakesMemory (stimulus_refused place fault) = ⊥
 TakesMemory (module_refused fault) = Unit {0}
+TakesMemory (taint_refused fault) = Unit {0}
 TakesMemory (level_refused word) = Unit {0}
 TakesMemory (lengths_apart one other) = Unit {0}
 TakesMemory (inputs_apart cycle name) = Unit {0}
