@@ -1,0 +1,25 @@
+-- Parts and feeds as the code has them, and maps that stand for tests of names.
+use Rattle.std.specs.Prelude.{ℕ, Bool, is_some}
+use Rattle.sap_maps.specs.Maps.{Name}
+use Rattle.sap_net.specs.NameMaps.{NameMap, at_name}
+use Rattle.sap_joined.specs.Joined.{NamedNet, Feed}
+use Rattle.sap_joined.specs.declared.parts.NamedNet as code_net
+use Rattle.sap_joined.specs.declared.parts.Feed as code_feed
+
+abbrev pub named_net : code_net.NamedNet → NamedNet
+named_net p = record { name = p.name.now; net = p.netlist.now }
+
+abbrev pub feed : code_feed.Feed → Feed
+feed f =
+    record {
+      from_part = f.from_part.now;
+      from = f.from.now;
+      to_part = f.to_part.now;
+      to = f.to.now;
+      width = f.width;
+      level = f.level;
+    }
+
+-- the map has something for a name
+abbrev pub has : NameMap ℕ → Name → Bool
+has m x = is_some (at_name m x)

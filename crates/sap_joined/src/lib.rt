@@ -1,0 +1,14 @@
+//! One netlist of the netlists of several parts, each behind its part's name, in which registers feed inputs.
+#![tactic(auto)]
+
+mod copies;
+mod feeds;
+mod names;
+pub mod parts;
+mod ports;
+mod registers;
+mod sets;
+mod whole;
+
+pub use parts::{Feed, NamedNet};
+pub use whole::join;
