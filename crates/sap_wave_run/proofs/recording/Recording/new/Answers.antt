@@ -11,7 +11,11 @@ use Rattle.sap_wave_run.proofs.recording.Recording.new.Goals as goal
 
 pub places-requires : goal.places-requires
 places-requires c =
-    ap (λ (r : Running). variables_of r.net) c.runner.ensures ∙ sym (ap (λ (n : Net). variables_of n) c.netlist.ensures) ∙ sym (ap (λ (d : Dumping). d.variables) c.in_ok-dumper.ensures)
+    record {
+      variables =
+          ap (λ (r : Running). variables_of r.net) c.runner.ensures ∙ sym (ap (λ (n : Net). variables_of n) c.netlist.ensures)
+          ∙ sym (ap (λ (d : Dumping). d.variables) c.in_ok-dumper.ensures);
+    }
 
 pub returns : goal.returns
 returns c =
