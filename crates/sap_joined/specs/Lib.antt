@@ -1,3 +1,4 @@
 pub mod Joined
 pub mod Seen
 pub mod Spelled
+pub mod Systems

@@ -3,6 +3,7 @@
 
 mod copies;
 mod feeds;
+pub mod laws;
 mod names;
 pub mod parts;
 mod ports;
