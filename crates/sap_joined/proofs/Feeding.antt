@@ -1,5 +1,5 @@
 -- The wires that feed by names, and which inputs they feed.
-use Rattle.std.proofs.Common.{◌≡◌, ℕ, zero, suc, ◌+◌, ◌<◌, Bool, true, false, List, [], ◌∷◌, ◌++◌, map, get_or, length, Option, Some, None, is_some, refl, sym, ◌∙◌, ap, ap₂, subst, inl, inr, arith}
+use Rattle.std.proofs.Common.{◌≡◌, ℕ, zero, suc, ◌+◌, ◌<◌, Bool, true, false, List, [], ◌∷◌, ◌++◌, map, get_or, length, Option, Some, None, refl, sym, ◌∙◌, ap, ap₂, subst, inl, inr, arith}
 use Rattle.std.specs.Prelude.{not}
 use Rattle.std.specs.Option.{option_map}
 use Rattle.std.specs.Str.{bytes_eq}
@@ -17,11 +17,11 @@ use Rattle.sap_net.specs.Names.{is_among, AreDistinct}
 use Rattle.sap_net.specs.Net.{Net}
 use Rattle.sap_net.specs.IsNetlist.{names_of, input_names}
 use Rattle.sap_net.specs.PortNames.{value_name, tag_name}
-use Rattle.sap_net.proofs.NamesLemmas.{among_append, among_behind, among_front, among_here}
+use Rattle.sap_net.proofs.NamesLemmas.{among_behind, among_front, among_here}
 use Rattle.sap_interface.specs.StandsFor.{Named, name, world}
 use Rattle.sap_interface.specs.Interface.{Shown, pairs_of}
 use Rattle.sap_build.specs.Copies.{copy_wire, copy_register, copy_memory}
-use Rattle.sap_link.specs.Systems.{Endpoint, endpoint, same_endpoint, feeding}
+use Rattle.sap_link.specs.Systems.{Endpoint, endpoint, same_endpoint}
 use Rattle.sap_link.specs.Systems.{Wire as SystemWire, is_fed as is_fed_end}
 use Rattle.sap_linked.specs.Parts.{Part, NamedSystem, no_part, part_at, in_part, value_at, tag_at}
 use Rattle.sap_linked.specs.Interface.{ports_in, is_free, input_ports}
