@@ -1,0 +1,4 @@
+//! One module of several designs that are clocked together.
+#![tactic(auto)]
+
+pub mod laws;
