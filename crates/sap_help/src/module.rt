@@ -107,7 +107,9 @@ tag has.
 Example:
 
     wire [7:0] n0;
+    assign n0 = v_a;
     wire [7:0] t_n0;
+    assign t_n0 = v_b;
 
 Cure: Give the name that is in the way another. A module that `compile` or `taint` wrote has tags
 already.
