@@ -25,7 +25,7 @@ mod Feeding
 mod Assigning
 mod InOrder
 mod Rules
-mod Declared
+pub mod Declared
 mod Declaring
 pub mod Designs
 mod Computed

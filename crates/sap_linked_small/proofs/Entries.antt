@@ -1,12 +1,14 @@
 -- What two netlists that declare alike have under their names.
 use Rattle.std.proofs.Common.{◌≡◌, ℕ, List, [], ◌∷◌, map, refl, sym, ◌∙◌, ap}
+use Rattle.std.specs.Prelude.{unwrap_or}
 use Rattle.sap_maps.specs.Maps.{Name}
-use Rattle.sap_maps.specs.Scope.{Scope}
+use Rattle.sap_maps.specs.Scope.{Scope, find}
 use Rattle.sap_net.specs.declared.parts.Register.{Register}
 use Rattle.sap_net.specs.declared.parts.Memory.{Memory}
 use Rattle.sap_net.specs.Net.{Net}
 use Rattle.sap_net.specs.Rules.{Shapes}
 use Rattle.sap_net.specs.IsNetlist.{memory_names, register_names, shapes}
+use Rattle.sap_net.specs.Runs.{initial_cell, initial_number}
 use Rattle.sap_trim.specs.Alike.{DeclaresAlike}
 use Rattle.sap_linked.proofs.Parted.{entry_names}
 
@@ -23,6 +25,14 @@ register_widths (r ∷ rs) = ap (λ (es : Scope). (r.name, r.width) ∷ es) (reg
 memory_shapes : (ms : List Memory) → map {B = Name × (ℕ × ℕ)} (λ (e : Stored). (e.0, (e.1.0, e.1.1.0))) (map {B = Stored} (λ m. (m.name, (m.width, (m.depth, m.start)))) ms) ≡ map {B = Name × (ℕ × ℕ)} (λ m. (m.name, (m.width, m.depth))) ms
 memory_shapes [] = refl
 memory_shapes (m ∷ ms) = ap (λ (es : Shapes). (m.name, (m.width, m.depth)) ∷ es) (memory_shapes ms)
+
+register_starts : (rs : List Register) → map {B = Name × ℕ} (λ (e : Kept). (e.0, e.1.1)) (map {B = Kept} (λ r. (r.name, (r.width, r.start))) rs) ≡ map {B = Name × ℕ} (λ r. (r.name, r.start)) rs
+register_starts [] = refl
+register_starts (r ∷ rs) = ap (λ (es : Scope). (r.name, r.start) ∷ es) (register_starts rs)
+
+memory_starts : (ms : List Memory) → map {B = Name × ℕ} (λ (e : Stored). (e.0, e.1.1.1)) (map {B = Stored} (λ m. (m.name, (m.width, (m.depth, m.start)))) ms) ≡ map {B = Name × ℕ} (λ m. (m.name, m.start)) ms
+memory_starts [] = refl
+memory_starts (m ∷ ms) = ap (λ (es : Scope). (m.name, m.start) ∷ es) (memory_starts ms)
 
 module _ (given small : Net) (declares : DeclaresAlike given small) where
   pub same_registers : map {B = Name × ℕ} (λ (r : Register). (r.name, r.width)) small.registers ≡ map {B = Name × ℕ} (λ (r : Register). (r.name, r.width)) given.registers
@@ -42,3 +52,17 @@ module _ (given small : Net) (declares : DeclaresAlike given small) where
   same_memory_names =
       sym (entry_names (λ (m : Memory). m.name) (λ m. (m.width, m.depth)) small.memories) ∙ ap (λ (es : Shapes). map (λ (e : Name × (ℕ × ℕ)). e.0) es) same_memories
       ∙ entry_names (λ (m : Memory). m.name) (λ m. (m.width, m.depth)) given.memories
+
+  same_register_starts : map {B = Name × ℕ} (λ (r : Register). (r.name, r.start)) small.registers ≡ map {B = Name × ℕ} (λ (r : Register). (r.name, r.start)) given.registers
+  same_register_starts =
+      sym (register_starts small.registers) ∙ ap (λ (es : List Kept). map {B = Name × ℕ} (λ (e : Kept). (e.0, e.1.1)) es) declares.registers ∙ register_starts given.registers
+
+  same_memory_starts : map {B = Name × ℕ} (λ (m : Memory). (m.name, m.start)) small.memories ≡ map {B = Name × ℕ} (λ (m : Memory). (m.name, m.start)) given.memories
+  same_memory_starts =
+      sym (memory_starts small.memories) ∙ ap (λ (es : List Stored). map {B = Name × ℕ} (λ (e : Stored). (e.0, e.1.1.1)) es) declares.memories ∙ memory_starts given.memories
+
+  pub same_number : (x : Name) → initial_number small x ≡ initial_number given x
+  same_number x = ap (λ (es : Scope). unwrap_or (find es x) 0) same_register_starts
+
+  pub same_cell : (x : Name) → initial_cell small x ≡ initial_cell given x
+  same_cell x = ap (λ (es : Scope). unwrap_or (find es x) 0) same_memory_starts

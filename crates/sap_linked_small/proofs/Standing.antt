@@ -35,6 +35,7 @@ use Rattle.sap_linked_small.specs.Laws.{IsSmall, SmallNetsStand}
 use Rattle.sap_linked_small.proofs.Carried.{small_interface}
 use Rattle.sap_linked_small.proofs.Fewer.{fewer_rules, port_of, run_back}
 use Rattle.sap_linked_small.proofs.Held.{at_input, at_site}
+use Rattle.sap_linked_small.proofs.Starting.{small_starts}
 
 maps_alike : (f g : Name → ℕ) (xs : List Name) → AllByRecursion (λ x. f x ≡ g x) xs → map f xs ≡ map g xs
 maps_alike f g [] a = refl
@@ -143,13 +144,16 @@ module _ (s : NamedSystem) (nets : ℕ → Net) (small : Net) (declares : Declar
       takes stream fit = subst (λ (inputs : List Input). AllFit inputs (coded_stream (code_of s.order) stream)) (sym is.declares.inputs) (stand.takes stream fit)
 
 pub small_nets_stand : LinkedNetsStand → LinkedNetLinks → LinkedNetDeclares → LinkedNetIsNetlist → SmallNetsStand
-small_nets_stand stand links declare keep s nets small codes fine sized fit each is =
+small_nets_stand stand link declare keep s nets small codes fine sized fit each is =
     let before = keep s nets codes fit fine.wires each in
     let declares = declare s nets each before in
-    let runs = stand s nets (λ i. in_part (part_at s i).name) (linked_net s nets) codes fine sized each (links s nets each before) in (
-      fewer_rules s small is.declares.ports is.netlist,
-      record {
+    let links = link s nets each before in
+    let runs = stand s nets (λ i. in_part (part_at s i).name) (linked_net s nets) codes fine sized each links in
+    record {
+      netlist = fewer_rules s small is.declares.ports is.netlist;
+      stands = record {
         interface = small_interface s nets small before is.netlist is.declares declares is.wires;
         runs = small_runs s nets small declares before is runs;
-      },
-    )
+      };
+      starts = λ i low. small_starts s nets small before is.declares i (each i low) (links.parts i low);
+    }

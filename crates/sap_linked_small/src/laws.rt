@@ -3,7 +3,8 @@
 ghost use Rattle.sap_linked_small.specs.Laws.{SmallNetsStand, SmallDesignsStand};
 
 /// A netlist that declares the same as the netlist of a system, shows the same numbers in its runs, and has no other wires than
-/// helping ones, stands for the system without the ports of what feeds inputs, for systems of well-formed designs too.
+/// helping ones, stands for the system without the ports of what feeds inputs, and starts as it does, for systems of well-formed
+/// designs too.
 pub fn small_nets_stand()
     ensures all { SmallNetsStand }
     ensures designs { SmallDesignsStand }
