@@ -37,4 +37,11 @@ And of the time-sliced machine, after docs/COMMANDS.md:
     random_programs         programs and streams of words drawn at random
     program_table, compare_programs
                             two scripts: the model on what was worked out by hand, the program beside the model
+
+And of linked designs, after docs/COMMANDS.md:
+
+    links                   a system file with its first fault, the composite run, its rows, and the ports of its module
+    random_links            systems drawn at random, and damaged ones
+    link_table, link_examples, compare_links
+                            three scripts: the model on what was worked out by hand, on the examples, the program beside the model
 """
