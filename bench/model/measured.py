@@ -34,3 +34,36 @@ def stimulus(cycles):
 
 def stimulus_text(lines):
     return "".join(" ".join(f"{v}@{('low', 'high')[t]}" for v, t in line) + "\n" for line in lines)
+
+
+# Designs near limits.
+
+DEPTH = 16
+
+
+def kind(i):
+    return "dynamic" if i % 2 else "enforced high"
+
+
+def chains(states, commands, registers):
+    """Chains of states, each inside the one before, down to the deepest that is allowed. All but the last of a chain fall."""
+    lines, made = [], 0
+    while made < states:
+        length = min(DEPTH, states - made)
+        for i in range(length):
+            number = made + i
+            mine = commands * (number + 1) // states - commands * number // states
+            lines += [f"state S{number} enforced low {{"]
+            lines += [f"  x{(number + j) % registers} := x{(number + j + 7) % registers} + a;" for j in range(mine - 1)]
+            lines += ["  fall;" if i + 1 < length else f"  goto S{number};"]
+        lines += ["}"] * length
+        made += length
+    return lines
+
+
+def near_limits():
+    """Lines of a design near all limits at once."""
+    lines = ["input a : 8;"] + [f"input i{n} : 8;" for n in range(63)]
+    lines += [f"reg x{i} : 8 {kind(i)};" for i in range(256)]
+    lines += [f"mem m{i} : 8[16] {kind(i)};" for i in range(16)]
+    return lines + chains(256, 4096, 256)
