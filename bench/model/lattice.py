@@ -16,6 +16,7 @@ class Lattice:
         self.at_these = {levels: level for level, levels in enumerate(self.above)}
         self.bottom = self.at_these[frozenset(self.levels)]
         self.top = next(level for level in self.levels if all(level in levels for levels in self.above))
+        self.irreducibles = [level for level in self.levels if level != self.top and len(self.upper_covers(level)) == 1]
 
     def closed(self, below):
         """For each level the set of all levels at or above it: the reflexive transitive closure of the pairs."""
@@ -44,7 +45,7 @@ class Lattice:
 
     def meet_irreducibles(self):
         """The levels but top that have exactly one upper cover, in the order of the file."""
-        return [level for level in self.levels if level != self.top and len(self.upper_covers(level)) == 1]
+        return self.irreducibles
 
     def code(self, level):
         """The meet-irreducibles that the level isn't at or below, a bit each."""
