@@ -99,6 +99,7 @@ class Linked:
     def __init__(self, parts, wires, lattice):
         self.parts = parts
         self.lattice = lattice
+        self.codes = [lattice.code(level) for level in lattice.levels]
         self.feeds = {}
         for number, wire in enumerate(wires, 1):
             self.add_wire(number, *wire)
@@ -255,36 +256,35 @@ def numbers_between_cycles(run):
     """The number of each register, and the numbers of each memory, that the module has behind a cycle, by name."""
     numbers = {}
     for (part, _), own in zip(run.linked.parts, run.runs):
-        numbers |= numbers_of_part(own, f"{part}_")
+        numbers |= numbers_of_part(own, part, run.linked.codes)
     return numbers
 
 
-def numbers_of_part(run, part=""):
-    """Those of one design, behind the name of the part and `_`."""
-    code, numbers = run.lattice.code, {}
+def numbers_of_part(run, part, codes):
+    numbers = {}
     for name, (value, level) in run.registers.items():
-        numbers |= {f"v_{part}{name}": value, f"t_{part}{name}": code(level)}
+        numbers |= {f"v_{part}_{name}": value, f"t_{part}_{name}": codes[level]}
     for one in run.design.of_sort(Memory):
         contents = run.memories[one.name]
-        numbers[f"v_{part}{one.name}"] = contents.values
-        numbers[f"t_{part}{one.name}"] = code(contents.whole) if one.is_dynamic else [code(level) for level in contents.levels]
+        numbers[f"v_{part}_{one.name}"] = contents.values
+        numbers[f"t_{part}_{one.name}"] = codes[contents.whole] if one.is_dynamic else [codes[level] for level in contents.levels]
     for one in run.design.of_sort(State):
-        numbers[f"t_{part}{one.name}"] = code(run.tags[one.name])
+        numbers[f"t_{part}_{one.name}"] = codes[run.tags[one.name]]
     for name, child in run.current.items():
-        numbers[f"s_{part}{0 if name is None else name}"] = child
+        numbers[f"s_{part}_{0 if name is None else name}"] = child
     return numbers
 
 
 def numbers_in_cycle(run, refusals):
     """The numbers of the wires of fed inputs and of check sites in the cycle that was done last; `l_` only where `c_` is 1."""
-    code, numbers = run.linked.lattice.code, {}
+    codes, numbers = run.linked.codes, {}
     for (part, name), (value, level) in run.fed.items():
         name = f"{run.linked.parts[part][0]}_{name}"
-        numbers |= {f"v_{name}": value, f"t_{name}": code(level)}
+        numbers |= {f"v_{name}": value, f"t_{name}": codes[level]}
     for (part, design), own in zip(run.linked.parts, refusals):
         numbers |= {f"c_{part}_{number}": 0 for number in range(1, len(design.sites) + 1)}
         for refusal in own:
-            numbers |= {f"c_{part}_{refusal.site}": 1, f"l_{part}_{refusal.site}": code(refusal.level)}
+            numbers |= {f"c_{part}_{refusal.site}": 1, f"l_{part}_{refusal.site}": codes[refusal.level]}
     return numbers
 
 
@@ -293,5 +293,5 @@ def inputs_in_cycle(linked, inputs):
     numbers = {}
     for (part, name, _), (value, level) in zip(linked.free_inputs, inputs):
         name = f"{linked.parts[part][0]}_{name}"
-        numbers |= {f"v_{name}": value, f"t_{name}": linked.lattice.code(level)}
+        numbers |= {f"v_{name}": value, f"t_{name}": linked.codes[level]}
     return numbers
