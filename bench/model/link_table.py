@@ -32,6 +32,7 @@ FILES = {
     "starts_at_2.sapper": one_state("input a : 8;", "reg x : 8 dynamic = 2;", body="x := a;"),
     "counts.sapper": one_state("input a : 8;", "reg x : 8 dynamic = 254;", body="x := a + 1;"),
     "sink.sapper": one_state("input a : 8;", "input b : 8;", "reg x : 8 dynamic;", "reg y : 8 dynamic;", body="x := a; y := b;"),
+    "long_names.sapper": one_state(f"input {'a' * 40} : 1;", f"reg {'x' * 40} : 1 dynamic;", body=f"{'x' * 40} := ~{'a' * 40};"),
     "bare.sapper": "state S enforced low { goto S; }\n",
     "-dash.sapper": ADDS,
     "unread.sapper": "input a : 8\nreg x : 8 dynamic;\n",
@@ -309,6 +310,12 @@ RUNS = (
     ),
     Linking(LATTICE, KEEPS, (("p.x", "q.a", "high"),), THREE, rows_of_registers("p_x=6@high q_x=7@low", "p_x=2@low q_x=7@low", "p_x=1@low q_x=7@low")),
     Linking(LATTICE, KEEPS, (("p.x", "q.a", "low"),), THREE, rows_of_registers("p_x=6@high q_x=0@low", "p_x=2@low q_x=0@low", "p_x=1@low q_x=2@low")),
+    # names of 83 bytes
+    Linking(
+        LATTICE, ((FORTY, "long_names.sapper"),), (), "1@high\n0@low\n",
+        rows_of_registers(f"{FORTY}_{'x' * 40}=0@high", f"{FORTY}_{'x' * 40}=1@low"),
+        " ".join(f"{letter}_{FORTY}_{name * 40}" for name in "ax" for letter in "vt") + f" c_{FORTY}_1 l_{FORTY}_1",
+    ),
     # no inputs, no registers
     Linking(LATTICE, (("p", "bare.sapper"),), (), "\n\n", "cycle 1:\ncycle 2:\n", "c_p_1 l_p_1"),
     # an enforced register is at its level from the start
