@@ -173,6 +173,8 @@ def files(links, _):
     links.expect(Answer(6, line="desk: none/out.v\n"), "link", LATTICE_FILE, SYSTEM, "none/out.v")
     os.mkdir(os.path.join(links.folder, "folder"))
     links.expect(Answer(6, line="desk: folder\n"), "link", LATTICE_FILE, SYSTEM, "folder")
+    links.put("folder_for_a_part.toml", system([("p", "adds.sapper"), ("q", "folder")], [("", "")]))
+    links.expect(Answer(6, line="desk: folder\n"), "link", LATTICE_FILE, "folder_for_a_part.toml", OUT)
     # a part's file isn't looked for beside the system
     links.put("folder/system.toml", good)
     links.expect(Answer(0), "link", LATTICE_FILE, "folder/system.toml", OUT)

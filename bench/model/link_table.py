@@ -19,6 +19,13 @@ def one_state(*declarations, body=""):
     return "".join(f"{line}\n" for line in declarations) + f"state S enforced low {{ {body} goto S; }}\n"
 
 
+def padded(text, size):
+    """The text behind a comment, so many bytes in all."""
+    return "//" + " " * (size - len(text) - 3) + "\n" + text
+
+
+# The most bytes of a design file.
+MOST_BYTES = 1 << 20
 ADDS = one_state("input a : 8;", "reg x : 8 dynamic;", body="x := a + 1;")
 TAKES = one_state("input b : 8;", "reg y : 8 dynamic;", body="y := b;")
 FILES = {
@@ -35,12 +42,13 @@ FILES = {
     "long_names.sapper": one_state(f"input {'a' * 40} : 1;", f"reg {'x' * 40} : 1 dynamic;", body=f"{'x' * 40} := ~{'a' * 40};"),
     "bare.sapper": "state S enforced low { goto S; }\n",
     "-dash.sapper": ADDS,
+    "most.sapper": padded(ADDS, MOST_BYTES),
     "unread.sapper": "input a : 8\nreg x : 8 dynamic;\n",
     "narrow.sapper": one_state("input a : 8;", "reg x : 7 dynamic;", body="x := a;"),
     "open.sapper": "reg x : 8 dynamic;\nstate S enforced low {\n  x := 1;\n}\n",
     # refused by a limit, of which the model knows nothing
     "inputs.sapper": "".join(f"input i{number} : 8;\n" for number in range(65)) + "state S enforced low { goto S; }\n",
-    "large.sapper": "//" + " " * (1 << 20) + "\n" + ADDS,
+    "large.sapper": padded(ADDS, MOST_BYTES + 1),
 }
 BY_LIMIT = {"inputs.sapper": "E18 65:1 inputs", "large.sapper": "E18 1:1 bytes"}
 
@@ -219,6 +227,7 @@ def linked():
     yield system(parts_of(*MANY[:8]))
     yield system([("p", "-dash.sapper"), ("q", "./takes.sapper"), ("r", "bare.sapper")])
     yield system([("p", "bare.sapper")])
+    yield system([("p", "most.sapper"), ("q", "most.sapper")], [["q.x", "p.a"]])
     yield system([("p", "adds.sapper"), ("q", "second.sapper")], [["p.x", "q.a"], ["q.x", "p.a", "high"]])
     yield system([("p", "second.sapper"), ("then", "adds.sapper")], [["p.x", "then.a"]])
     yield "# a comment\nwires = [[ 'p.x', \"\"\"q.b\"\"\" ], ]\nparts = [\n  ['p', \"adds.sapper\"], # another\n  [\"q\", \"\\u0074akes.sapper\"],\n]\n"
