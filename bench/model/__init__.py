@@ -29,7 +29,7 @@ Beside it stands a model of modules and of dumps, after docs/MODULES.md and docs
     verilog_table, random_verilog
                             modules of Verilog that are brought over or refused, and such drawn at random
     compare_verilog         a script: the script of the example beside Icarus Verilog
-    measured                the designs whose modules are measured
+    measured, operators     the designs whose modules are measured, and the operators of a module beside those that Yosys leaves
 
 And of the time-sliced machine, after docs/COMMANDS.md:
 
