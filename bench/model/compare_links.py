@@ -3,16 +3,10 @@
 import os
 import random
 import re
-import resource
-import shutil
-import signal
-import subprocess
 import sys
-from collections import Counter
 
-from .compare import Answer, Calls
+from .compare import Answer
 from .examples import held
-from .lattice import lattice_of
 from .link_examples import agree, linked_in as linked_in_example, seen, told
 from .link_table import FILES, LATTICE, RUNS, TWO, WIRE, bytes_of, files_over, linked, linked_in, refused, system
 from .links import (
@@ -21,14 +15,14 @@ from .links import (
 from .modules import Clocked, module_of
 from .random_lattices import random_lattice
 from .random_links import damaged, random_parts, random_wires, stimuli_of
+from .writing import BEFORE, LATTICE_FILE, Writing, compared
 
-LATTICE_FILE, SYSTEM, OUT, STIMULI = "lattice.toml", "system.toml", "out.v", ("one.txt", "other.txt")
-BEFORE = "what stood there before\n" * 10
+SYSTEM, OUT, STIMULI = "system.toml", "out.v", ("one.txt", "other.txt")
 DAMAGES_OF_A_SYSTEM = 12
 HELPING = re.compile(r"n\d+")
 
 
-class Links(Calls):
+class Links(Writing):
     """Calls over systems."""
 
     def put_bytes(self, name, data):
@@ -38,14 +32,6 @@ class Links(Calls):
     def put_files(self, files):
         for name, text in files.texts.items():
             self.put(name, text)
-
-    def held(self, name):
-        with open(os.path.join(self.folder, name), encoding="latin-1", newline="") as file:
-            return file.read()
-
-    def lattice(self, text):
-        self.put(LATTICE_FILE, text)
-        return lattice_of(text)
 
     def refused(self, answer, system_file=SYSTEM):
         """A system that is refused: OUT stands as before."""
@@ -204,25 +190,11 @@ def no_room(links, wanted):
         links.expect(Answer(6, line="desk: /dev/full\n"), "link", LATTICE_FILE, SYSTEM, "/dev/full")
     for most in (0, 1, 100, len(wanted) - 1, len(wanted)):
         links.put(OUT, BEFORE[:most])
-        got = limited(links, most)
+        got = links.limited(most, "link", LATTICE_FILE, SYSTEM, OUT)
         if got != ((6, f"desk: {OUT}\n") if most < len(wanted) else (0, "")):
             links.note(f"link with {most} bytes for OUT: {got}")
         if not wanted.startswith(links.held(OUT)) or got[0] == 0 and links.held(OUT) != wanted:
             links.note(f"link with {most} bytes for OUT: it doesn't hold a prefix of the module, or not all of it")
-
-
-def limited(links, most):
-    """`link` where no file may grow beyond a number of bytes."""
-
-    def limit():
-        signal.signal(signal.SIGXFSZ, signal.SIG_IGN)
-        resource.setrlimit(resource.RLIMIT_FSIZE, (most, resource.getrlimit(resource.RLIMIT_FSIZE)[1]))
-
-    links.counts["link"] += 1
-    done = subprocess.run(
-        [links.program, "link", LATTICE_FILE, SYSTEM, OUT], stderr=subprocess.PIPE, stdout=subprocess.DEVNULL, cwd=links.folder, preexec_fn=limit, check=False
-    )
-    return done.returncode, done.stderr.decode("latin-1")
 
 
 # The examples.
@@ -288,28 +260,10 @@ COUNTS = (
 )
 
 
-def differs(program, counts, name, case, word):
-    """Whether a case differs. The folder of one that does is kept."""
-    links = Links(program, f"links_{name}", counts)
-    case(links, word)
-    if not links.differing:
-        shutil.rmtree(links.folder)
-        return False
-    print(f"DIFFERS: {name}, files in {links.folder}")
-    for what in links.differing[:20]:
-        print(f"  {what}")
-    return True
-
-
 def main(program, top, count, seed):
     cases = [(case.__name__, case, top) for case in (by_hand, files, examples)]
     cases += [(f"seed_{number}", random_case, number) for number in range(seed, seed + count)]
-    counts = Counter()
-    wrong = sum(differs(program, counts, *case) for case in cases)
-    for what, kinds in COUNTS:
-        print(f"{what}: " + ", ".join(f"{kind} {counts[kind]}" for kind in kinds))
-    print(f"{wrong} of {len(cases)} cases differ" if wrong else f"none of {len(cases)} cases differs")
-    return bool(wrong)
+    return compared(Links, program, cases, COUNTS)
 
 
 if __name__ == "__main__":

@@ -6,17 +6,11 @@ Usage: python3 -m model.compare_taints PROGRAM TOP COUNT SEED
 import glob
 import os
 import random
-import resource
-import shutil
-import signal
-import subprocess
 import sys
-from collections import Counter
 
 from .cases import case_of
-from .compare import Answer, Calls
+from .compare import Answer
 from .examples import held
-from .lattice import lattice_of
 from .modules import Clocked, module_of, numbers_of, tag_width
 from .random_lattices import random_lattice
 from .random_modules import random_module, random_stimulus
@@ -25,22 +19,14 @@ from .streams import cycles_of
 from .taint_table import CLASHES, LONG, MODULE, TWO, WORKED, inputs
 from .taints import Tainted, fields_with_tags, first_clash, items_of, most_items, tag_name, tagged_ports, wave_of_taint, with_ports
 from .waves import dump_of, rows_of
+from .writing import BEFORE, LATTICE_FILE, Writing, compared
 
-LATTICE_FILE, DESIGN, VERILOG, STIMULUS_FILE, OUT, DUMP, AGAIN = "lattice.toml", "design.sapper", "given.v", "stimulus.txt", "out.v", "out.vcd", "again.v"
-BEFORE = "what stood there before\n" * 10
+DESIGN, VERILOG, STIMULUS_FILE, OUT, DUMP, AGAIN = "design.sapper", "given.v", "stimulus.txt", "out.v", "out.vcd", "again.v"
 ODD_NAMES_OF_A_CASE = 4
 
 
-class Taints(Calls):
+class Taints(Writing):
     """Calls that add tags."""
-
-    def held(self, name):
-        with open(os.path.join(self.folder, name), encoding="latin-1", newline="") as file:
-            return file.read()
-
-    def lattice(self, text):
-        self.put(LATTICE_FILE, text)
-        return lattice_of(text)
 
     def refused(self, answer, verilog=VERILOG):
         """A refusal leaves OUT as it was."""
@@ -313,26 +299,12 @@ def no_room(taints):
         taints.expect(Answer(6, line="desk: /dev/full\n"), "taint", LATTICE_FILE, VERILOG, "/dev/full")
     for most in (0, 1, 100, 4096, len(text) - 1, len(text)):
         taints.put(OUT, BEFORE[:most])
-        status, line = limited(taints, most)
+        status, line = taints.limited(most, "taint", LATTICE_FILE, VERILOG, OUT)
         wanted = (6, f"desk: {OUT}\n") if most < len(text) else (0, "")
         if (status, line) != wanted:
             taints.note(f"taint with {most} bytes for OUT: status {status}, {line!r}")
         if not text.startswith(taints.held(OUT)) or status == 0 and taints.held(OUT) != text:
             taints.note(f"taint with {most} bytes for OUT: it doesn't hold a prefix of the module, or not all of it")
-
-
-def limited(taints, most):
-    """`taint` where no file may grow beyond a number of bytes."""
-
-    def limit():
-        signal.signal(signal.SIGXFSZ, signal.SIG_IGN)
-        resource.setrlimit(resource.RLIMIT_FSIZE, (most, most))
-
-    taints.counts["taint"] += 1
-    done = subprocess.run(
-        [taints.program, "taint", LATTICE_FILE, VERILOG, OUT], stderr=subprocess.PIPE, stdout=subprocess.DEVNULL, cwd=taints.folder, preexec_fn=limit
-    )
-    return done.returncode, done.stderr.decode("latin-1")
 
 
 COUNTS = (
@@ -342,44 +314,10 @@ COUNTS = (
 )
 
 
-def is_there(program):
-    """Whether the program has the command."""
-    taints = Taints(program, "taints", Counter())
-    taints.put(LATTICE_FILE, TWO)
-    taints.put(VERILOG, MODULE)
-    answer = taints.call("taint", LATTICE_FILE, VERILOG, OUT)
-    shutil.rmtree(taints.folder)
-    return answer != Answer(2, line="words\n")
-
-
-def differs(program, counts, name, case, word):
-    """Whether a case differs. The folder of one that does is kept."""
-    taints = Taints(program, f"taints_{name}", counts)
-    try:
-        case(taints, word)
-    except (AssertionError, LookupError, ValueError, FileNotFoundError) as what:
-        taints.note(f"what was written can't be read: {what!r}")
-    if not taints.differing:
-        shutil.rmtree(taints.folder)
-        return False
-    print(f"DIFFERS: {name}, files in {taints.folder}")
-    for what in taints.differing:
-        print(f"  {what}")
-    return True
-
-
 def main(program, top, count, seed):
-    if not is_there(program):
-        print("skipped: the program has no command `taint` yet")
-        return False
     cases = [(case.__name__, case, top) for case in (by_hand, examples, sizes, files)]
     cases += [(f"seed_{number}", random_case, number) for number in range(seed, seed + count)]
-    counts = Counter()
-    wrong = sum(differs(program, counts, *case) for case in cases)
-    for what, kinds in COUNTS:
-        print(f"{what}: " + ", ".join(f"{kind} {counts[kind]}" for kind in kinds))
-    print(f"{wrong} of {len(cases)} cases differ" if wrong else f"none of {len(cases)} cases differs")
-    return bool(wrong)
+    return compared(Taints, program, cases, COUNTS)
 
 
 if __name__ == "__main__":

@@ -3,17 +3,11 @@
 import glob
 import os
 import random
-import resource
-import shutil
-import signal
-import subprocess
 import sys
-from collections import Counter
 
 from .cases import case_of
-from .compare import Answer, Calls
+from .compare import Answer
 from .examples import held
-from .lattice import lattice_of
 from .modules import module_of
 from .random_lattices import random_lattice
 from .random_modules import random_module, random_stimulus
@@ -21,29 +15,21 @@ from .texts import rows_and_trace
 from .wave_damages import damaged
 from .wave_table import DUMP, LATTICE, MODULE, NONE, damaged as damaged_by_hand
 from .waves import WaveFault, dump_of, rows_of, wave_of, wave_of_run
+from .writing import BEFORE, LATTICE_FILE, Writing, compared
 
-LATTICE_FILE, DESIGN, VERILOG, STIMULUS, OUT, DAMAGED = "lattice.toml", "design.sapper", "top.v", "stimulus.txt", "out.vcd", "damaged.vcd"
-BEFORE = "what stood there before\n" * 10
+DESIGN, VERILOG, STIMULUS, OUT, DAMAGED = "design.sapper", "top.v", "stimulus.txt", "out.vcd", "damaged.vcd"
 DAMAGES_OF_A_DUMP = 8
 # IDs of one digit, of two and of three begin behind 0, 94 and 8,836 variables.
 COUNTS_OF_REGISTERS = (1, 94, 95, 188, 8836, 8837)
 
 
-class Waves(Calls):
+class Waves(Writing):
     """Calls over dumps."""
-
-    def held(self, name):
-        with open(os.path.join(self.folder, name), encoding="latin-1", newline="") as file:
-            return file.read()
 
     def is_out(self, wanted, what):
         if self.held(OUT) != wanted:
             self.note(f"{what}: OUT isn't what is wanted, which is kept in wanted_out")
             self.put("wanted_out", wanted)
-
-    def lattice(self, text):
-        self.put(LATTICE_FILE, text)
-        return lattice_of(text)
 
     def module(self, text, stimulus, lattice):
         """The dump of a module's run, and its rows by `sim` and by `unwave`. Answers the dump."""
@@ -249,26 +235,12 @@ def no_room(waves, lattice):
         waves.expect(Answer(6, line="desk: /dev/full\n"), "wave", LATTICE_FILE, VERILOG, STIMULUS, "/dev/full")
     for most in (0, 1, 100, 4096, 100_000, len(dump) - 1, len(dump)):
         waves.put(OUT, BEFORE[:most])
-        status, line = limited(waves, most)
+        status, line = waves.limited(most, "wave", LATTICE_FILE, VERILOG, STIMULUS, OUT)
         wanted = (6, f"desk: {OUT}\n") if most < len(dump) else (0, "")
         if (status, line) != wanted:
             waves.note(f"wave with {most} bytes for OUT: status {status}, {line!r}")
         if not dump.startswith(waves.held(OUT)) or status == 0 and waves.held(OUT) != dump:
             waves.note(f"wave with {most} bytes for OUT: it doesn't hold a prefix of the dump, or not all of it")
-
-
-def limited(waves, most):
-    """`wave` where no file may grow beyond a number of bytes."""
-
-    def limit():
-        signal.signal(signal.SIGXFSZ, signal.SIG_IGN)
-        resource.setrlimit(resource.RLIMIT_FSIZE, (most, most))
-
-    waves.counts["wave"] += 1
-    done = subprocess.run(
-        [waves.program, "wave", LATTICE_FILE, VERILOG, STIMULUS, OUT], stderr=subprocess.PIPE, stdout=subprocess.DEVNULL, cwd=waves.folder, preexec_fn=limit
-    )
-    return done.returncode, done.stderr.decode("latin-1")
 
 
 COUNTS = (
@@ -279,28 +251,10 @@ COUNTS = (
 )
 
 
-def differs(program, counts, name, case, word):
-    """Whether a case differs. The folder of one that does is kept."""
-    waves = Waves(program, f"waves_{name}", counts)
-    case(waves, word)
-    if not waves.differing:
-        shutil.rmtree(waves.folder)
-        return False
-    print(f"DIFFERS: {name}, files in {waves.folder}")
-    for what in waves.differing:
-        print(f"  {what}")
-    return True
-
-
 def main(program, top, count, seed):
     cases = [(case.__name__, case, top) for case in (by_hand, examples, sizes, files)]
     cases += [(f"seed_{number}", random_case, number) for number in range(seed, seed + count)]
-    counts = Counter()
-    wrong = sum(differs(program, counts, *case) for case in cases)
-    for what, kinds in COUNTS:
-        print(f"{what}: " + ", ".join(f"{kind} {counts[kind]}" for kind in kinds))
-    print(f"{wrong} of {len(cases)} cases differ" if wrong else f"none of {len(cases)} cases differs")
-    return bool(wrong)
+    return compared(Waves, program, cases, COUNTS)
 
 
 if __name__ == "__main__":
