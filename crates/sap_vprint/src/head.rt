@@ -50,7 +50,7 @@ fn port(
 ) -> Result<(), AllocError>
     ensures { OnOk result (out.new.items ≡ out.old.items ++ port_text (printed_port netlist.now port.now)) }
 {
-    let width = match look_up(netlist, &port.name, hints) {
+    let width = match look_up(netlist, &port.name, hints)? {
         Some(entity) => entity.width(),
         None => 0,
     };
@@ -109,7 +109,7 @@ fn declaration(
 ) -> Result<(), AllocError>
     ensures { OnOk result (out.new.items ≡ out.old.items ++ items_text (declared_items name.now (find (entities netlist.now) name.now))) }
 {
-    let found = look_up(netlist, name, hints);
+    let found = look_up(netlist, name, hints)?;
     entity_line(out, name, found)
 }
 

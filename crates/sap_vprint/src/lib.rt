@@ -31,6 +31,7 @@ fn inner(out: &mut Vec<u8>, netlist: &Netlist, hints: &mut lookup::Hints) -> Res
 {
     netlist.rules();
     let names = &netlist.names()[netlist.ports().len()..];
+    hints.restart_wires();
     head::declarations(out, netlist, names, hints)?;
     head::integer(out, netlist.memories())
 }
@@ -54,7 +55,7 @@ pub fn print(alloc: Global, netlist: &Netlist) -> Result<Bytes, AllocError>
 {
     netlist.rules();
     let mut out = Vec::new(alloc);
-    let mut hints = lookup::Hints::new();
+    let mut hints = lookup::Hints::new(alloc);
     front(&mut out, netlist, &mut hints)?;
     inner(&mut out, netlist, &mut hints)?;
     body(&mut out, netlist)?;

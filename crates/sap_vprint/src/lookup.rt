@@ -1,6 +1,6 @@
 //! Looks up what a netlist has under a name.
 
-ghost use Rattle.std.specs.Prelude.{◌≡◌, ◌<◌, ◌≤◌, ℕ, List, length, map, slice_index_or, IfSome, IfNone, Some, false};
+ghost use Rattle.std.specs.Prelude.{◌≡◌, ◌<◌, ◌≤◌, ℕ, List, length, map, slice_index_or, IfSome, IfNone, IfOk, Some, false};
 ghost use Rattle.std.specs.List.{HoldsAt};
 ghost use Rattle.sap_maps.specs.Scope.{find};
 ghost use Rattle.sap_net.specs.Names.{is_among};
@@ -9,8 +9,11 @@ ghost use Rattle.sap_vtext.specs.Widths.{shape_width};
 ghost use Rattle.sap_vprint.specs.Printed.{entities};
 ghost use Rattle.sap_vprint.specs.Lookup.{shape_of, shape_found};
 
+use sap_net::name_map::{at_name, put};
 use sap_net::netlist::Netlist;
 use sap_net::parts::{Input, Memory, Name, Register, Wire};
+use std::alloc::{AllocError, Global};
+use std::collections::HashMap;
 
 /// What a netlist has under a name, with its width; of a memory the depth too.
 #[derive(Clone, Copy, Debug, PartialEq, Eq)]
@@ -100,23 +103,34 @@ fn position<T: Named>(list: &[T], name: &Name, from: usize) -> Option<usize>
     }
 }
 
-/// Where a name was last found in each list, and behind which the next one is mostly found.
-#[derive(Debug, Drop)]
+/// Where the next name is sought in each list: behind the last one that was found there. Only wires may be declared in another
+/// order than their list's.
+#[derive(Drop)]
 pub struct Hints {
+    alloc: Global,
     input: usize,
     wire: usize,
     register: usize,
     memory: usize,
+    // the places of all wires, once one stood before the last one; most modules declare their wires in order and never need it
+    places: HashMap<Vec<u8>, usize>,
 }
 
 impl Hints {
-    pub fn new() -> Self {
+    pub fn new(alloc: Global) -> Self {
         Hints {
+            alloc,
             input: 0,
             wire: 0,
             register: 0,
             memory: 0,
+            places: HashMap::new(alloc),
         }
+    }
+
+    /// Seeks the next wire from the first one on.
+    pub fn restart_wires(&mut self) {
+        self.wire = 0;
     }
 }
 
@@ -174,6 +188,32 @@ fn memory(netlist: &Netlist, name: &Name, hints: &mut Hints) -> Option<Entity>
     })
 }
 
+fn index_wires(
+    places: &mut HashMap<Vec<u8>, usize>,
+    alloc: Global,
+    wires: &[Wire],
+) -> Result<(), AllocError> {
+    for (k, wire) in wires.iter().enumerate() {
+        put(places, alloc, &wire.name, k)?;
+    }
+    Ok(())
+}
+
+/// Goes to the wire of the name, if there is one.
+fn seek_wire(wires: &[Wire], name: &Name, hints: &mut Hints) -> Result<(), AllocError> {
+    if hints.places.is_empty() {
+        if let Some(i) = position_within(wires, name, hints.wire, wires.len()) {
+            hints.wire = i;
+            return Ok(());
+        }
+        index_wires(&mut hints.places, hints.alloc, wires)?;
+    }
+    if let Some(i) = at_name(&hints.places, name.as_bytes()) {
+        hints.wire = i;
+    }
+    Ok(())
+}
+
 /// Whether a list has the name at a place.
 fn stands_at<T: Named>(list: &[T], name: &Name, at: usize) -> bool {
     match list.get(at) {
@@ -202,20 +242,25 @@ fn next(netlist: &Netlist, name: &Name, hints: &mut Hints) -> Option<Entity>
 }
 
 /// What the netlist has under the name.
-pub fn look_up(netlist: &Netlist, name: &Name, hints: &mut Hints) -> Option<Entity>
-    ensures { shape_found result ≡ find (entities netlist.now) name.now }
+pub fn look_up(
+    netlist: &Netlist,
+    name: &Name,
+    hints: &mut Hints,
+) -> Result<Option<Entity>, AllocError>
+    ensures { IfOk result (λ found. shape_found found ≡ find (entities netlist.now) name.now) }
 {
     if let Some(x) = next(netlist, name, hints) {
-        return Some(x);
+        return Ok(Some(x));
     }
+    seek_wire(netlist.wires(), name, hints)?;
     if let Some(x) = wire(netlist, name, hints) {
-        return Some(x);
+        return Ok(Some(x));
     }
     if let Some(x) = register(netlist, name, hints) {
-        return Some(x);
+        return Ok(Some(x));
     }
     if let Some(x) = input(netlist, name, hints) {
-        return Some(x);
+        return Ok(Some(x));
     }
-    memory(netlist, name, hints)
+    Ok(memory(netlist, name, hints))
 }
