@@ -11,3 +11,4 @@ pub mod stages;
 pub use compiled::Compiled;
 pub use compiler::compile;
 pub use fault::CompileFault;
+pub use module::design_netlist;

@@ -55,6 +55,19 @@ fn netlist_for(alloc: Global, checked: &Checked, hang: &HangTable) -> Result<Net
     netlist(alloc, &plain)
 }
 
+/// The small netlist of a checked design.
+pub fn design_netlist(alloc: Global, checked: &Checked) -> Result<Netlist, AllocError>
+    ensures stands { IfOk result (λ n. StandsForDesign (levels_in checked.now) (tree_in checked.now) n) }
+    ensures starts { IfOk result (λ n. StartsAsDesign (levels_in checked.now) (tree_in checked.now) n) }
+    ensures shared { IfOk result (λ n. SharesWires n) }
+    ensures folded { IfOk result (λ n. FoldsWires n) }
+    ensures read { IfOk result (λ n. ReadsWires n) }
+    ensures small { IfOk result (λ n. IsSmall (levels_in checked.now) (tree_in checked.now) n) }
+{
+    let hang = hang(alloc, checked.design(), checked.names())?;
+    netlist_for(alloc, checked, &hang)
+}
+
 /// Compiles a checked design.
 pub(crate) fn module(alloc: Global, checked: Checked) -> Result<Compiled, AllocError>
     ensures same { IfOk result (λ c. checked_of c ≡ checked) }

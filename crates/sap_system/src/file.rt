@@ -1,6 +1,6 @@
 //! What a system file lists.
 
-ghost use Rattle.std.specs.Prelude.{◌≡◌};
+ghost use Rattle.std.specs.Prelude.{◌≡◌, ◌<◌, Some, length, slice_get};
 ghost use Rattle.sap_system.specs.Rules.{KeepsParts};
 ghost use Rattle.sap_system.specs.Listing.{listing};
 
@@ -61,6 +61,15 @@ impl SystemFile {
         ensures { result.now ≡ self.now.parts }
     {
         self.parts.as_slice()
+    }
+
+    /// Takes one part out, by its place from 0.
+    pub fn into_part(self, place: usize) -> Part
+        requires { place < length self.parts }
+        ensures { slice_get self.parts place ≡ Some result }
+    {
+        let mut parts = self.parts;
+        parts.swap_remove(place)
     }
 
     pub fn wires(&self) -> &[WireText]
