@@ -151,7 +151,7 @@ turn_is n rules p program before inputs values cells v ev ec cycle =
     let lr : length regs ≡ length n.registers = length-map n.registers (λ r. r.name) in
     let lw : length wires ≡ length n.wires = length-map n.wires (λ w. w.name) in
     let ln : length p.nexts.items ≡ length n.registers = nexts_long _ p.nexts.items n.registers program.nexts in
-    let ss = map step_of_instruction p.steps.items in
+    let ss = map (step_of_instruction p.others.items) p.steps.items in
     let ls : length ss ≡ length n.wires = steps_long _ _ _ _ ss n.wires program.steps in
     let first : map v.value (first_names n) ≡ inputs ++ map f regs = map-append v.value ins regs ∙ ap (λ l. l ++ map v.value regs) (sym ex) ∙ ap (λ l. inputs ++ l) er in
     let lfirst : length (first_names n) ≡ length inputs + length p.nexts.items = omega (arith, lx, lr, ln, length-append ins regs) in
@@ -186,7 +186,7 @@ turn_is n rules p program before inputs values cells v ev ec cycle =
     let ports = all_stored v (value_names n) b mb low p.ports.items n.memories 0 [] refl program.ports within in
     record {
       can = record {
-        room = omega (arith, lvalues, lfirst, ls, lw, length-map p.steps.items step_of_instruction);
+        room = omega (arith, lvalues, lfirst, ls, lw, length-map p.steps.items (step_of_instruction p.others.items));
         ready = subst (λ (k : ℕ). AreReady cells p.parts.items k ss start) lfirst go.1;
         nexts = nexts_in (value_names n) b low p.nexts.items n.registers program.nexts;
         ports = subst (ArePortsReady b p.ports.items) (sym holding.are) ports.1;

@@ -7,5 +7,6 @@ pub mod Cycle
 pub mod Looked
 pub mod Kept
 pub mod Learned
+pub mod Others
 pub mod Compiling
 pub mod First

@@ -13,7 +13,7 @@ use Rattle.sap_cycle.specs.Places.{Finds}
 use Rattle.sap_cycle.specs.Running.{Running, first_names, value_names, Shows}
 
 pub record IsProgram (n : Net) (p : Program) : Type 0 where
-  pub steps : StepsMean (width_of n) n.memories p.parts.items (first_names n) (map step_of_instruction p.steps.items) n.wires
+  pub steps : StepsMean (width_of n) n.memories p.parts.items (first_names n) (map (step_of_instruction p.others.items) p.steps.items) n.wires
   pub nexts : NextsMean (value_names n) p.nexts.items n.registers
   pub ports : PortsMean (value_names n) 0 p.ports.items n.memories
 

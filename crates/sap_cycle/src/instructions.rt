@@ -1,105 +1,205 @@
-//! Steps by operator, those over places alone without a look at what their operands are.
+//! Steps in few bytes, by operator, those over places alone without a look at what their operands are.
 
-ghost use Rattle.std.specs.Prelude.{◌≡◌, ◌≤◌, ◌+◌, length, map};
+ghost use Rattle.std.specs.Prelude.{◌≡◌, ◌≤◌, ◌+◌, ◌++◌, [], ◌∷◌, List, length, map, IfOk, IfSome, OnOk};
+ghost use Rattle.sap_cycle.specs.declared.steps.Step.{Step as Whole};
 ghost use Rattle.sap_cycle.specs.declared.steps.Step.TheVariants.{Two};
-ghost use Rattle.sap_cycle.specs.declared.steps.Slot.TheVariants.{At};
+ghost use Rattle.sap_cycle.specs.declared.steps.Slot.TheVariants.{At, Number};
 ghost use Rattle.sap_cycle.specs.Steps.{step_value, IsReady, settled, AreReady};
-ghost use Rattle.sap_cycle.specs.Instructions.{step_of_instruction};
+ghost use Rattle.sap_cycle.specs.Instructions.{step_of_instruction, step_at, IsWithin, StandsFor};
 
 use crate::steps::{Part, Slot, Step, evaluate, join};
 use sap_bits::{Op1, Op2, apply1, apply2, slice};
+use std::alloc::AllocError;
 
-/// A step. Each operator that is common over places has a variant of its own, so that one branch finds what to do.
+/// A step in sixteen bytes. Each operator that is common over places has a variant of its own, so that one branch finds
+/// what to do.
 #[derive(Clone, Copy)]
 pub enum Instruction {
-    Copy(usize),
-    Not(u32, usize),
-    Add(u32, usize, usize),
-    Sub(u32, usize, usize),
-    And(u32, usize, usize),
-    Or(u32, usize, usize),
-    Xor(u32, usize, usize),
-    Eq(u32, usize, usize),
-    Ne(u32, usize, usize),
-    Lt(u32, usize, usize),
-    EqNumber(u32, usize, u64),
-    Choose(usize, usize, usize),
-    Concat(usize, usize),
-    Slice(usize, u32, u32),
-    Other(Step),
+    Number(u64),
+    Copy(u32),
+    Not(u32, u32),
+    Add(u32, u32, u32),
+    Sub(u32, u32, u32),
+    And(u32, u32, u32),
+    Or(u32, u32, u32),
+    Xor(u32, u32, u32),
+    Eq(u32, u32, u32),
+    Ne(u32, u32, u32),
+    Lt(u32, u32, u32),
+    EqNumber(u8, u32, u64),
+    Choose(u32, u32, u32),
+    Concat(u32, u32),
+    Slice(u32, u32, u32),
+    /// The step at a place in a list of its own.
+    Other(usize),
+}
+
+// A place in 32 bits.
+fn short(place: usize) -> Option<u32>
+    ensures { IfSome result (λ k. k ≡ place) }
+{
+    if place <= u32::MAX as usize {
+        Some(place as u32)
+    } else {
+        None
+    }
+}
+
+// A width in 8 bits.
+fn narrow(width: u32) -> Option<u8>
+    ensures { IfSome result (λ w. w ≡ width) }
+{
+    if width <= u8::MAX as u32 {
+        Some(width as u8)
+    } else {
+        None
+    }
 }
 
 /// An operator on the numbers at two places.
-fn on_places(op: Op2, width: u32, a: usize, b: usize) -> Instruction
-    ensures { step_of_instruction result ≡ Two op width (At a) (At b) }
+fn on_places(op: Op2, width: u32, a: usize, b: usize) -> Option<Instruction>
+    ensures { IfSome result (StandsFor (Two op width (At a) (At b))) }
 {
+    let a = short(a)?;
+    let b = short(b)?;
     match op {
-        Op2::Add => Instruction::Add(width, a, b),
-        Op2::Sub => Instruction::Sub(width, a, b),
-        Op2::And => Instruction::And(width, a, b),
-        Op2::Or => Instruction::Or(width, a, b),
-        Op2::Xor => Instruction::Xor(width, a, b),
-        Op2::Eq => Instruction::Eq(width, a, b),
-        Op2::Ne => Instruction::Ne(width, a, b),
-        Op2::Lt => Instruction::Lt(width, a, b),
-        Op2::Mul | Op2::Le | Op2::Shl | Op2::Shr => {
-            Instruction::Other(Step::Two(op, width, Slot::At(a), Slot::At(b)))
+        Op2::Add => Some(Instruction::Add(width, a, b)),
+        Op2::Sub => Some(Instruction::Sub(width, a, b)),
+        Op2::And => Some(Instruction::And(width, a, b)),
+        Op2::Or => Some(Instruction::Or(width, a, b)),
+        Op2::Xor => Some(Instruction::Xor(width, a, b)),
+        Op2::Eq => Some(Instruction::Eq(width, a, b)),
+        Op2::Ne => Some(Instruction::Ne(width, a, b)),
+        Op2::Lt => Some(Instruction::Lt(width, a, b)),
+        Op2::Mul | Op2::Le | Op2::Shl | Op2::Shr => None,
+    }
+}
+
+// The instruction of a step, without the list.
+fn short_of(step: Step) -> Option<Instruction>
+    ensures { IfSome result (StandsFor step) }
+{
+    match step {
+        Step::Copy(Slot::Number(x)) => Some(Instruction::Number(x)),
+        Step::Copy(Slot::At(a)) => Some(Instruction::Copy(short(a)?)),
+        Step::One(Op1::Not, width, Slot::At(a)) => Some(Instruction::Not(width, short(a)?)),
+        Step::Two(op, width, Slot::At(a), Slot::At(b)) => on_places(op, width, a, b),
+        Step::Two(Op2::Eq, width, Slot::At(a), Slot::Number(x)) => {
+            Some(Instruction::EqNumber(narrow(width)?, short(a)?, x))
+        }
+        Step::Choose(Slot::At(c), Slot::At(a), Slot::At(b)) => {
+            Some(Instruction::Choose(short(c)?, short(a)?, short(b)?))
+        }
+        Step::Concat(from, to) => Some(Instruction::Concat(short(from)?, short(to)?)),
+        Step::Slice(Slot::At(a), hi, lo) => Some(Instruction::Slice(short(a)?, hi, lo)),
+        _ => None,
+    }
+}
+
+/// The instruction of a step. Behind the list stands what has none of its own.
+pub fn instruction_of(others: &mut Vec<Step>, step: Step) -> Result<Instruction, AllocError>
+    ensures step { IfOk result (λ i. step_of_instruction others.new.items i ≡ step) }
+    ensures within { IfOk result (IsWithin (length others.new.items)) }
+    ensures more { OnOk result ((more : List Whole) × (others.new.items ≡ others.old.items ++ more)) }
+{
+    match short_of(step) {
+        Some(instruction) => Ok(instruction),
+        None => {
+            let place = others.len();
+            others.push(step)?;
+            Ok(Instruction::Other(place))
         }
     }
 }
 
-pub fn instruction_of(step: Step) -> Instruction
-    ensures { step_of_instruction result ≡ step }
+// The number of the step at a place of the list.
+fn perform_other(
+    values: &[u64],
+    cells: &[u64],
+    parts: &[Part],
+    others: &[Step],
+    place: usize,
+) -> u64
+    requires { IsReady values.now cells.now parts.now (step_at others.now place) }
+    ensures { result ≡ step_value values.now cells.now parts.now (step_at others.now place) }
 {
-    match step {
-        Step::Copy(Slot::At(a)) => Instruction::Copy(a),
-        Step::One(Op1::Not, width, Slot::At(a)) => Instruction::Not(width, a),
-        Step::Two(op, width, Slot::At(a), Slot::At(b)) => on_places(op, width, a, b),
-        Step::Two(Op2::Eq, width, Slot::At(a), Slot::Number(x)) => {
-            Instruction::EqNumber(width, a, x)
-        }
-        Step::Choose(Slot::At(c), Slot::At(a), Slot::At(b)) => Instruction::Choose(c, a, b),
-        Step::Concat(from, to) => Instruction::Concat(from, to),
-        Step::Slice(Slot::At(a), hi, lo) => Instruction::Slice(a, hi, lo),
-        _ => Instruction::Other(step),
+    match others.get(place) {
+        Some(step) => evaluate(values, cells, parts, *step),
+        None => 0,
     }
 }
 
 /// The number of an instruction.
-fn perform(values: &[u64], cells: &[u64], parts: &[Part], instruction: &Instruction) -> u64
-    requires { IsReady values.now cells.now parts.now (step_of_instruction instruction.now) }
-    ensures { result ≡ step_value values.now cells.now parts.now (step_of_instruction instruction.now) }
+fn perform(
+    values: &[u64],
+    cells: &[u64],
+    parts: &[Part],
+    others: &[Step],
+    instruction: &Instruction,
+) -> u64
+    requires { IsReady values.now cells.now parts.now (step_of_instruction others.now instruction.now) }
+    ensures { result ≡ step_value values.now cells.now parts.now (step_of_instruction others.now instruction.now) }
 {
     match instruction {
-        Instruction::Copy(a) => values[*a],
-        Instruction::Not(w, a) => apply1(Op1::Not, *w, values[*a]),
-        Instruction::Add(w, a, b) => apply2(Op2::Add, *w, values[*a], values[*b]),
-        Instruction::Sub(w, a, b) => apply2(Op2::Sub, *w, values[*a], values[*b]),
-        Instruction::And(w, a, b) => apply2(Op2::And, *w, values[*a], values[*b]),
-        Instruction::Or(w, a, b) => apply2(Op2::Or, *w, values[*a], values[*b]),
-        Instruction::Xor(w, a, b) => apply2(Op2::Xor, *w, values[*a], values[*b]),
-        Instruction::Eq(w, a, b) => apply2(Op2::Eq, *w, values[*a], values[*b]),
-        Instruction::Ne(w, a, b) => apply2(Op2::Ne, *w, values[*a], values[*b]),
-        Instruction::Lt(w, a, b) => apply2(Op2::Lt, *w, values[*a], values[*b]),
-        Instruction::EqNumber(w, a, x) => apply2(Op2::Eq, *w, values[*a], *x),
+        Instruction::Number(x) => *x,
+        Instruction::Copy(a) => values[*a as usize],
+        Instruction::Not(w, a) => apply1(Op1::Not, *w, values[*a as usize]),
+        Instruction::Add(w, a, b) => {
+            apply2(Op2::Add, *w, values[*a as usize], values[*b as usize])
+        }
+        Instruction::Sub(w, a, b) => {
+            apply2(Op2::Sub, *w, values[*a as usize], values[*b as usize])
+        }
+        Instruction::And(w, a, b) => {
+            apply2(Op2::And, *w, values[*a as usize], values[*b as usize])
+        }
+        Instruction::Or(w, a, b) => {
+            apply2(Op2::Or, *w, values[*a as usize], values[*b as usize])
+        }
+        Instruction::Xor(w, a, b) => {
+            apply2(Op2::Xor, *w, values[*a as usize], values[*b as usize])
+        }
+        Instruction::Eq(w, a, b) => {
+            apply2(Op2::Eq, *w, values[*a as usize], values[*b as usize])
+        }
+        Instruction::Ne(w, a, b) => {
+            apply2(Op2::Ne, *w, values[*a as usize], values[*b as usize])
+        }
+        Instruction::Lt(w, a, b) => {
+            apply2(Op2::Lt, *w, values[*a as usize], values[*b as usize])
+        }
+        Instruction::EqNumber(w, a, x) => {
+            apply2(Op2::Eq, u32::from(*w), values[*a as usize], *x)
+        }
         Instruction::Choose(c, a, b) => {
             // both are read, so that no branch depends on the number
-            let (chosen, other) = (values[*a], values[*b]);
-            if values[*c] == 0 { other } else { chosen }
+            let (chosen, other) = (values[*a as usize], values[*b as usize]);
+            if values[*c as usize] == 0 {
+                other
+            } else {
+                chosen
+            }
         }
-        Instruction::Concat(from, to) => join(values, &parts[*from..*to]),
-        Instruction::Slice(a, hi, lo) => slice(values[*a], *hi, *lo),
-        Instruction::Other(step) => evaluate(values, cells, parts, *step),
+        Instruction::Concat(from, to) => join(values, &parts[*from as usize..*to as usize]),
+        Instruction::Slice(a, hi, lo) => slice(values[*a as usize], *hi, *lo),
+        Instruction::Other(place) => perform_other(values, cells, parts, others, *place),
     }
 }
 
 /// All instructions in order, each to the place after the one before.
-pub fn settle(values: &mut [u64], cells: &[u64], parts: &[Part], base: usize, steps: &[Instruction])
+pub fn settle(
+    values: &mut [u64],
+    cells: &[u64],
+    parts: &[Part],
+    others: &[Step],
+    base: usize,
+    steps: &[Instruction],
+)
     requires room { base + length steps.now ≤ length values.old }
-    requires ready { AreReady cells.now parts.now base (map step_of_instruction steps.now) values.old }
-    ensures { values.new ≡ settled cells.now parts.now base (map step_of_instruction steps.now) values.old }
+    requires ready { AreReady cells.now parts.now base (map (step_of_instruction others.now) steps.now) values.old }
+    ensures { values.new ≡ settled cells.now parts.now base (map (step_of_instruction others.now) steps.now) values.old }
 {
     for (i, step) in steps.iter().enumerate() {
-        values[base + i] = perform(values, cells, parts, step);
+        values[base + i] = perform(values, cells, parts, others, step);
     }
 }

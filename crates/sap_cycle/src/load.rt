@@ -13,7 +13,7 @@ ghost use Rattle.sap_cycle.specs.Running.{Shows, first_names, value_names};
 use crate::instructions::{Instruction, instruction_of};
 use crate::known::{Known, learn, learn_inputs, learn_registers, slot_of, step_of};
 use crate::program::Program;
-use crate::steps::{Part, Slot, WritePort};
+use crate::steps::{Part, Slot, Step, WritePort};
 use sap_net::name_map::put;
 use sap_net::netlist::Netlist;
 use sap_net::parts::{Memory, Register};
@@ -31,6 +31,7 @@ struct Stores {
 #[derive(Drop)]
 struct Compiled {
     parts: Vec<Part>,
+    others: Vec<Step>,
     steps: Vec<Instruction>,
 }
 
@@ -87,18 +88,24 @@ fn store_memories(alloc: Global, memories: &[Memory]) -> Result<Stores, AllocErr
 fn compile(known: &mut Known, alloc: Global, netlist: &Netlist) -> Result<Compiled, AllocError>
     requires rules { IsNetlist netlist.now }
     requires knows { Knows (width_of netlist.now) netlist.now.memories (first_names netlist.now) known.old }
-    ensures mean { IfOk result (λ c. StepsMean (width_of netlist.now) netlist.now.memories c.parts.items (first_names netlist.now) (map step_of_instruction c.steps.items) netlist.now.wires) }
+    ensures mean { IfOk result (λ c. StepsMean (width_of netlist.now) netlist.now.memories c.parts.items (first_names netlist.now) (map (step_of_instruction c.others.items) c.steps.items) netlist.now.wires) }
     ensures knows { OnOk result (Knows (width_of netlist.now) netlist.now.memories (value_names netlist.now) known.new) }
 {
     let mut parts = Vec::new(alloc);
+    let mut others = Vec::new(alloc);
     let mut steps = Vec::new(alloc);
     let wires = netlist.wires();
     for wire in wires {
         let step = step_of(known, &mut parts, &wire.right)?;
-        steps.push(instruction_of(step))?;
+        let instruction = instruction_of(&mut others, step)?;
+        steps.push(instruction)?;
         learn(known, alloc, &wire.name, wire.width)?;
     }
-    Ok(Compiled { parts, steps })
+    Ok(Compiled {
+        parts,
+        others,
+        steps,
+    })
 }
 
 /// What each register takes at the edge.
@@ -149,9 +156,14 @@ fn make_program(known: &mut Known, alloc: Global, netlist: &Netlist) -> Result<P
     let compiled = compile(known, alloc, netlist)?;
     let nexts = next_slots(known, alloc, netlist.registers())?;
     let ports = write_ports(known, alloc, netlist.memories())?;
-    let Compiled { parts, steps } = compiled;
+    let Compiled {
+        parts,
+        others,
+        steps,
+    } = compiled;
     Ok(Program {
         parts,
+        others,
         steps,
         nexts,
         ports,

@@ -4,13 +4,14 @@ ghost use Rattle.std.specs.Prelude.{◌≡◌, length};
 ghost use Rattle.sap_cycle.specs.Turned.{CanTurn, values_turned, cells_turned};
 
 use crate::instructions::{Instruction, settle};
-use crate::steps::{Part, Slot, WritePort, copy_to, read_all, store_all};
+use crate::steps::{Part, Slot, Step, WritePort, copy_to, read_all, store_all};
 
-/// The steps of the wires in order, with the parts of all concatenations; what each register takes at the edge, and the
-/// write port of each memory.
+/// The steps of the wires in order, with the parts of all concatenations and the steps that have no instruction of their
+/// own; what each register takes at the edge, and the write port of each memory.
 #[derive(Drop)]
 pub struct Program {
     pub parts: Vec<Part>,
+    pub others: Vec<Step>,
     pub steps: Vec<Instruction>,
     pub nexts: Vec<Slot>,
     pub ports: Vec<WritePort>,
@@ -31,7 +32,14 @@ pub fn turn(
 {
     copy_to(values, 0, inputs);
     let first_wire = inputs.len() + edge.len();
-    settle(values, cells, &program.parts, first_wire, &program.steps);
+    settle(
+        values,
+        cells,
+        &program.parts,
+        &program.others,
+        first_wire,
+        &program.steps,
+    );
     read_all(edge, values, &program.nexts);
     store_all(cells, values, &program.ports);
     copy_to(values, inputs.len(), edge);

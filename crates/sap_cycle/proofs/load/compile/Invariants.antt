@@ -1,7 +1,10 @@
-use Rattle.std.proofs.Common.{map}
-use Rattle.sap_cycle.specs.Instructions.{step_of_instruction}
+use Rattle.std.proofs.Common.{length, map}
+use Rattle.std.specs.List.{AllByRecursion}
+use Rattle.sap_cycle.specs.Instructions.{step_of_instruction, IsWithin}
 use Rattle.sap_cycle.proofs.Compiling.{Compiling}
 use Rattle.sap_cycle.proofs.load.compile.Given as goal
 
 abbrev pub invariant-loop-wire : goal.invariant-loop-wire
-invariant-loop-wire l = Compiling l.netlist l.wire-index l.known (map step_of_instruction l.steps.items) l.parts.items
+invariant-loop-wire l =
+    Compiling l.netlist l.wire-index l.known (map (step_of_instruction l.others.items) l.steps.items) l.parts.items
+    × AllByRecursion (IsWithin (length l.others.items)) l.steps.items
