@@ -28,28 +28,33 @@ pub record SamePieces (xs ys r s : List ℕ) : Type 0 where
   pub piece : xs ≡ ys
   pub rest : r ≡ s
 
-first_same : (x y : ℕ) (xs ys : List ℕ) → x ∷ xs ≡ y ∷ ys → x ≡ y
+pub first_same : (x y : ℕ) (xs ys : List ℕ) → x ∷ xs ≡ y ∷ ys → x ≡ y
 first_same x y xs ys e = ap (λ (z : List ℕ). slice_index z 0) e
 
-rest_same : (x y : ℕ) (xs ys : List ℕ) → x ∷ xs ≡ y ∷ ys → xs ≡ ys
+pub rest_same : (x y : ℕ) (xs ys : List ℕ) → x ∷ xs ≡ y ∷ ys → xs ≡ ys
 rest_same x y xs ys e = ap (λ (z : List ℕ). drop 1 z) e
 
-space_is_space : (b : ℕ) → b ≡ 32 → is_no_space b ≡ true → ⊥
-space_is_space b e h = grind (arith, nat_tests)
+mark_is_mark : (m b : ℕ) → b ≡ m → not (b == m) ≡ true → ⊥
+mark_is_mark m b e h = grind (arith, nat_tests)
+
+-- what stands before the first mark, and behind it
+pub same_cut : (m : ℕ) (xs ys r s : List ℕ) → list_all (λ b. not (b == m)) xs ≡ true → list_all (λ b. not (b == m)) ys ≡ true → xs ++ (m ∷ r) ≡ ys ++ (m ∷ s)
+    → SamePieces xs ys r s
+same_cut m [] [] r s h k e = record { piece = refl; rest = rest_same m m r s e }
+same_cut m [] (y ∷ ys) r s h k e =
+    absurd (mark_is_mark m y (sym (first_same m y r (ys ++ (m ∷ s)) e)) (and_parts (not (y == m)) (list_all (λ b. not (b == m)) ys) k).0)
+same_cut m (x ∷ xs) [] r s h k e =
+    absurd (mark_is_mark m x (first_same x m (xs ++ (m ∷ r)) s e) (and_parts (not (x == m)) (list_all (λ b. not (b == m)) xs) h).0)
+same_cut m (x ∷ xs) (y ∷ ys) r s h k e =
+    let p = and_parts (not (x == m)) (list_all (λ b. not (b == m)) xs) h in
+    let q = and_parts (not (y == m)) (list_all (λ b. not (b == m)) ys) k in
+    let i = same_cut m xs ys r s p.1 q.1 (rest_same x y (xs ++ (m ∷ r)) (ys ++ (m ∷ s)) e) in
+    let f = first_same x y (xs ++ (m ∷ r)) (ys ++ (m ∷ s)) e in
+    record { piece = ap (λ (z : ℕ). z ∷ xs) f ∙ ap (λ (z : List ℕ). y ∷ z) i.piece; rest = i.rest }
 
 -- what stands before the first space, and behind it
 pub same_pieces : (xs ys r s : List ℕ) → list_all is_no_space xs ≡ true → list_all is_no_space ys ≡ true → xs ++ (32 ∷ r) ≡ ys ++ (32 ∷ s) → SamePieces xs ys r s
-same_pieces [] [] r s h k e = record { piece = refl; rest = rest_same 32 32 r s e }
-same_pieces [] (y ∷ ys) r s h k e =
-    absurd (space_is_space y (sym (first_same 32 y r (ys ++ (32 ∷ s)) e)) (and_parts (is_no_space y) (list_all is_no_space ys) k).0)
-same_pieces (x ∷ xs) [] r s h k e =
-    absurd (space_is_space x (first_same x 32 (xs ++ (32 ∷ r)) s e) (and_parts (is_no_space x) (list_all is_no_space xs) h).0)
-same_pieces (x ∷ xs) (y ∷ ys) r s h k e =
-    let p = and_parts (is_no_space x) (list_all is_no_space xs) h in
-    let q = and_parts (is_no_space y) (list_all is_no_space ys) k in
-    let i = same_pieces xs ys r s p.1 q.1 (rest_same x y (xs ++ (32 ∷ r)) (ys ++ (32 ∷ s)) e) in
-    let f = first_same x y (xs ++ (32 ∷ r)) (ys ++ (32 ∷ s)) e in
-    record { piece = ap (λ (z : ℕ). z ∷ xs) f ∙ ap (λ (z : List ℕ). y ∷ z) i.piece; rest = i.rest }
+same_pieces xs ys r s h k e = same_cut 32 xs ys r s h k e
 
 -- the byte that tells a form, the second of those that begin with `$`
 abbrev mark : Form → ℕ

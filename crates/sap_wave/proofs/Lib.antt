@@ -26,9 +26,11 @@ pub mod Placed
 pub mod Cuts
 pub mod Spelled
 pub mod Parted
+pub mod Fronts
 pub mod Stepping
 pub mod Sounding
 pub mod ReadUpTo
+pub mod ChangesRead
 pub mod WorkedFaults
 pub mod Reached
 pub mod Exact

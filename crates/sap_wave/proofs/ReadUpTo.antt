@@ -15,18 +15,12 @@ use Rattle.sap_wave.specs.Pieces.{IsCut, is_not}
 use Rattle.sap_wave.specs.Waves.{Wave}
 use Rattle.sap_wave.specs.Reading.{State, before_timescale, Reads, Ends, ReadsSo}
 use Rattle.sap_wave.specs.Faults.{IsLeast, Stands, no_form, StandsAtEnd, StopsFrom, IsFault}
-use Rattle.sap_wave.specs.Read.{IsFaultAt, IsWaveFault, fault_at}
+use Rattle.sap_wave.specs.Read.{IsFaultAt, IsWaveFault, ReadUpTo, fault_at}
 use Rattle.sap_wave.specs.Sound.{IsSound}
 use Rattle.sap_wave.specs.Steps.{LineRead, Reaches}
 use Rattle.sap_wave.proofs.Each.{one_least}
 use Rattle.sap_wave.proofs.Lined.{line_last, lines_cut, lines_none}
 use Rattle.sap_wave.proofs.Sounding.{sound_after}
-
--- what is left of the text begins in this line and state
-pub record ReadUpTo (bytes rest : List ℕ) (n : ℕ) (s : State) : Type 0 where
-  pub reads : (t : State) → Reads s (lines_of rest) t → Reads before_timescale (lines_of bytes) t
-  pub stops : (line : ℕ) (code : WaveCode) → StopsFrom n s (lines_of rest) line code → StopsFrom 1 before_timescale (lines_of bytes) line code
-  pub sound : IsSound s
 
 pub begins : (bytes : List ℕ) → ReadUpTo bytes bytes 1 before_timescale
 begins bytes = record { reads = λ t r. r; stops = λ line code r. r; sound = tt }
@@ -111,3 +105,6 @@ read_end_so bytes (b ∷ bs) n s r a none cut h against =
 pub refused_so : (bytes : List ℕ) (r : Result Wave WaveFault) (fault : WaveFault) → r ≡ Err fault → (fault ≢ Memory → IsWaveFault bytes fault)
     → IfErr r (λ f. f ≢ Memory → IsWaveFault bytes f)
 refused_so bytes r fault e h = subst (λ (z : Result Wave WaveFault). IfErr z (λ f. f ≢ Memory → IsWaveFault bytes f)) (sym e) h
+
+pub err_so : {T : Type 0} (P : WaveFault → Type 0) (r : Result T WaveFault) (fault : WaveFault) → r ≡ Err fault → P fault → IfErr r P
+err_so {T} P r fault e h = subst (λ (z : Result T WaveFault). IfErr z P) (sym e) h

@@ -7,6 +7,7 @@ pub mod Waves
 pub mod Dumps
 pub mod Reading
 pub mod Faults
+pub mod Changes
 pub mod Steps
 pub mod Read
 pub mod Sound

@@ -1,24 +1,42 @@
 //! The numbers that the digits of a dump spell.
 
-ghost use Rattle.std.specs.Prelude.{◌≡◌, ◌≢◌, ◌==◌, ◌+◌, ◌<◌, ◌≤◌, ◌^◌, ℕ, true, bytes_eq, length, IfNone, IfSome};
+ghost use Rattle.std.specs.Prelude.{◌≡◌, ◌≢◌, ◌==◌, ◌+◌, ◌++◌, ◌<◌, ◌≤◌, ◌^◌, ℕ, true, false, bytes_eq, length, slice_index, IfNone, IfSome};
 ghost use Rattle.std.specs.List.{list_all};
 ghost use Rattle.std.specs.Str.Parse.{digits_value};
 ghost use Rattle.sap_maps.specs.Ranges.{IsWidth};
 ghost use Rattle.sap_wave.specs.Digits.{are_digits, bits_number, identifier, is_digit, number_spelled};
 
+use crate::pieces::is_digit;
 use sap_text::scan::number;
 
-/// The number that binary digits spell.
-pub fn bits_number(digits: &[u8]) -> u64
-    requires digits { list_all (is_digit 48 2) digits.now ≡ true }
-    requires few { length digits.now ≤ 64 }
-    ensures { result ≡ bits_number digits.now }
+/// The binary digits at the front of a text, the number that they spell where they are 64 at most, and what stands behind
+/// them.
+#[derive(Clone, Copy)]
+pub struct Front<'a> {
+    pub digits: &'a [u8],
+    pub number: u64,
+    pub behind: &'a [u8],
+}
+
+/// Takes the binary digits off the front of a text.
+pub fn bits_at(text: &[u8]) -> Front<'_>
+    ensures whole { text.now ≡ result.digits.now ++ result.behind.now }
+    ensures digits { list_all (is_digit 48 2) result.digits.now ≡ true }
+    ensures others { is_digit 48 2 (slice_index result.behind.now 0) ≡ false }
+    ensures number { length result.digits.now ≤ 64 → result.number ≡ bits_number result.digits.now }
 {
     let mut number = 0u64;
-    for digit in digits {
-        number = number * 2 + u64::from(*digit - b'0');
+    let mut count = 0;
+    'digits: while count < text.len() && is_digit(text[count], b'0', 2) {
+        let digit = text[count] - b'0';
+        number = number.wrapping_mul(2).wrapping_add(u64::from(digit));
+        count += 1;
     }
-    number
+    Front {
+        digits: &text[..count],
+        number,
+        behind: &text[count..],
+    }
 }
 
 /// The number that an identifier spells, if it is below 2^64.

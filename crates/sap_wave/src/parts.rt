@@ -3,10 +3,13 @@
 ghost use Rattle.std.specs.Prelude.{◌≡◌, ◌++◌, ◌&&◌, true, bytes_eq, ℕ, List, IfNone, IfSome, codes};
 ghost use Rattle.std.specs.List.{list_all};
 ghost use Rattle.sap_wave.specs.Lines.{IsLine, block, change, is_formed, is_piece, variable};
+ghost use Rattle.sap_wave.specs.Digits.{is_digit};
 ghost use Rattle.sap_wave.specs.Lines.{ended};
+ghost use Rattle.sap_wave.specs.Changes.{IsChangeAt, IsNoChange};
 ghost use Rattle.sap_wave.specs.Pieces.{is_not};
 
-use crate::pieces::{are_bits, cut_at, is_id, is_number, is_same};
+use crate::numbers::bits_at;
+use crate::pieces::{cut_at, is_id, is_number, is_same};
 
 /// What stands behind a text, where it begins with these bytes.
 fn behind<'a>(text: &'a [u8], front: &[u8]) -> Option<&'a [u8]>
@@ -79,36 +82,39 @@ pub fn block_number(text: &[u8]) -> Option<&[u8]>
     }
 }
 
-/// The pieces of a line that sets a variable.
+/// A line that sets a variable, and what stands behind it.
 #[derive(Clone, Copy)]
 pub struct Change<'a> {
     pub digits: &'a [u8],
+    /// What the digits spell, where they are 64 at most.
+    pub number: u64,
     pub id: &'a [u8],
+    pub behind: &'a [u8],
 }
 
 fn is_change(digits: &[u8], id: &[u8]) -> bool
+    requires { list_all (is_digit 48 2) digits.now ≡ true }
     ensures { result ≡ is_formed (change digits.now id.now) }
 {
-    are_bits(digits) && is_id(id)
+    !digits.is_empty() && is_id(id)
 }
 
-fn change_behind(text: &[u8]) -> Option<Change<'_>>
-    ensures none { IfNone result ((d i : List ℕ) → IsLine (ended (codes "b" ++ text.now)) (change d i) → ⊥) }
-    ensures some { IfSome result (λ c. IsLine (ended (codes "b" ++ text.now)) (change c.digits.now c.id.now)) }
+/// The change that the first line of a text is. There is no answer where it is none.
+pub fn change_at(text: &[u8]) -> Option<Change<'_>>
+    ensures none { IfNone result (IsNoChange text.now) }
+    ensures some { IfSome result (λ c. IsChangeAt text.now c.digits.now c.id.now c.number c.behind.now) }
 {
-    let halves = cut_at(text, b' ')?;
-    let (digits, id) = (halves.before, halves.behind);
-    if is_change(digits, id) {
-        Some(Change { digits, id })
+    let front = bits_at(behind(text, b"b")?);
+    let halves = cut_at(front.behind, b'\n')?;
+    let id = behind(halves.before, b" ")?;
+    if is_change(front.digits, id) {
+        Some(Change {
+            digits: front.digits,
+            number: front.number,
+            id,
+            behind: halves.behind,
+        })
     } else {
         None
     }
-}
-
-/// The pieces of a line that sets a variable. There is no answer where it is none.
-pub fn change_of(text: &[u8]) -> Option<Change<'_>>
-    ensures none { IfNone result ((d i : List ℕ) → IsLine (ended text.now) (change d i) → ⊥) }
-    ensures some { IfSome result (λ c. IsLine (ended text.now) (change c.digits.now c.id.now)) }
-{
-    change_behind(behind(text, b"b")?)
 }

@@ -45,7 +45,7 @@ pub fn cut_at(text: &[u8], mark: u8) -> Option<Halves<'_>>
 }
 
 /// Whether a byte is one of so many digits, of which the first is this byte.
-fn is_digit(b: u8, first: u8, base: u8) -> bool
+pub fn is_digit(b: u8, first: u8, base: u8) -> bool
     ensures { result ≡ is_digit first base b }
 {
     b >= first && b - first < base
@@ -76,13 +76,6 @@ pub fn is_id(text: &[u8]) -> bool
     ensures { result ≡ is_id text.now }
 {
     are_digits(text, b'!', 94)
-}
-
-/// Whether a text is binary digits.
-pub fn are_bits(text: &[u8]) -> bool
-    ensures { result ≡ are_digits 48 2 text.now }
-{
-    are_digits(text, b'0', 2)
 }
 
 fn is_keyword(name: &[u8]) -> bool

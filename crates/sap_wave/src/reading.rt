@@ -1,18 +1,20 @@
 //! What a text is read as.
 
-ghost use Rattle.std.specs.Prelude.{◌≡◌, ◌≢◌, ◌<◌, ℕ, true, Err, IfErr, IfOk, MatchResult, length};
+ghost use Rattle.std.specs.Prelude.{◌≡◌, ◌≢◌, ◌+◌, ◌<◌, ◌≤◌, ◌^◌, ℕ, List, true, Err, IfErr, IfOk, MatchResult, length};
 ghost use Rattle.sap_wave.specs.declared.fault.WaveCode.{WaveCode as AnyCode};
 ghost use Rattle.sap_wave.specs.declared.fault.WaveCode.TheVariants.{Y1};
 ghost use Rattle.sap_wave.specs.declared.fault.WaveFault.TheVariants.{Memory, Rule};
 ghost use Rattle.sap_wave.specs.Dumps.{IsReading};
 ghost use Rattle.sap_wave.specs.Lines.{ended};
-ghost use Rattle.sap_wave.specs.Read.{IsFaultAt, IsWaveFault};
+ghost use Rattle.sap_wave.specs.Changes.{AreChangesRead, IsOtherIn};
+ghost use Rattle.sap_wave.specs.Read.{IsFaultAt, IsWaveFault, ReadUpTo};
 ghost use Rattle.sap_wave.specs.Waves.{Wave as Read};
 ghost use Rattle.sap_wave.specs.Reading.{Ends, in_block, is_full, ReadsSo};
 ghost use Rattle.sap_wave.specs.Faults.{IsFault, Stands, StandsAtEnd};
 ghost use Rattle.sap_wave.specs.Sound.{IsSound};
 ghost use Rattle.sap_wave.specs.Steps.{IsIndexed, Reaches, open_of, state_of};
 
+use crate::changes::{Rest, read_changes};
 use crate::fault::{WaveCode, WaveFault};
 use crate::pieces::cut_at;
 use crate::state::{Block, State};
@@ -24,7 +26,7 @@ use std::alloc::{AllocError, Global};
 
 /// What is read of this line, which has an LF.
 fn read_numbered(alloc: Global, state: State, line: u64, text: &[u8]) -> Result<State, WaveFault>
-    requires sound { IsSound (state_of state) }
+    requires other { IsOtherIn (state_of state) text.now }
     requires indexed { IsIndexed state }
     ensures reached { IfOk result (λ t. Reaches (state_of state) (ended text.now) (state_of t)) }
     ensures indexed { IfOk result IsIndexed }
@@ -90,6 +92,38 @@ fn read_end(alloc: Global, state: State, rest: &[u8], line: u64) -> Result<Wave,
     ending(alloc, state, line)
 }
 
+/// What was read of a text, what is left of it, and the line in which that begins.
+#[derive(Drop)]
+struct Reached<'a> {
+    state: State,
+    rest: Rest<'a>,
+}
+
+/// Reads the changes that come next, where a block is open.
+fn behind_changes(state: State, text: &[u8], line: u64) -> Result<Reached<'_>, WaveFault>
+    requires sound { IsSound (state_of state) }
+    requires indexed { IsIndexed state }
+    requires few { line + length text.now < 2 ^ 64 }
+    ensures read { IfOk result (λ r. (bytes : List ℕ) → ReadUpTo bytes text.now line (state_of state) → ReadUpTo bytes r.rest.text.now r.rest.line (state_of r.state)) }
+    ensures few { IfOk result (λ r. r.rest.line + length r.rest.text.now ≤ line + length text.now) }
+    ensures shorter { IfOk result (λ r. length r.rest.text.now ≤ length text.now) }
+    ensures indexed { IfOk result (λ r. IsIndexed r.state) }
+    ensures others { IfOk result (λ r. AreChangesRead (state_of r.state) r.rest.text.now) }
+    ensures fault { IfErr result (λ fault. (bytes : List ℕ) → ReadUpTo bytes text.now line (state_of state) → IsWaveFault bytes fault) }
+{
+    match state {
+        State::InBlock(variables, mut block) => {
+            let rest = read_changes(&variables, &mut block, text, line)?;
+            let state = State::InBlock(variables, block);
+            Ok(Reached { state, rest })
+        }
+        state => Ok(Reached {
+            state,
+            rest: Rest { text, line },
+        }),
+    }
+}
+
 /// The reading of a text, or its first fault.
 fn read(alloc: Global, bytes: &[u8]) -> Result<Wave, WaveFault>
     ensures reading { IfOk result (ReadsSo bytes.now) }
@@ -99,12 +133,14 @@ fn read(alloc: Global, bytes: &[u8]) -> Result<Wave, WaveFault>
     let mut rest = bytes;
     let mut line = 1u64;
     'lines: loop {
-        let Some(halves) = cut_at(rest, b'\n') else {
-            return read_end(alloc, state, rest, line);
+        let reached = behind_changes(state, rest, line)?;
+        let Rest { text, line: next } = reached.rest;
+        let Some(halves) = cut_at(text, b'\n') else {
+            return read_end(alloc, reached.state, text, next);
         };
-        state = read_numbered(alloc, state, line, halves.before)?;
+        state = read_numbered(alloc, reached.state, next, halves.before)?;
         rest = halves.behind;
-        line += 1;
+        line = next + 1;
     }
 }
 

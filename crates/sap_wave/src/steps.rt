@@ -1,19 +1,19 @@
-//! What is read of one line after another.
+//! What is read of the lines that are no changes.
 
-ghost use Rattle.std.specs.Prelude.{◌≡◌, ◌<◌, ◌++◌, ◌∷◌, [], ◌&&◌, List, true, not, get_or, length, IfNone, IfOk, IfSome, None, OnOk, replicate};
+ghost use Rattle.std.specs.Prelude.{◌≡◌, ◌++◌, ◌∷◌, [], List, true, length, IfNone, IfOk, IfSome, None, OnOk, replicate};
 ghost use Rattle.std.specs.Str.Parse.{digits_value};
 ghost use Rattle.sap_net.specs.NameMaps.{Indexes};
 ghost use Rattle.sap_net.specs.Names.{is_name};
-ghost use Rattle.sap_wave.specs.Lines.{block, change, is_formed, is_id, variable};
+ghost use Rattle.sap_wave.specs.Lines.{block, is_formed, is_id, variable};
 ghost use Rattle.sap_wave.specs.Waves.{names_of};
-ghost use Rattle.sap_wave.specs.Reading.{IsNextBlock, IsVariable, before_blocks, before_end, before_scope, before_timescale, declaring, in_block, is_first, is_full, next_block, numbers_in};
-ghost use Rattle.sap_wave.specs.Faults.{IsLeast, IsWrong, Misdeclared, Misplaced};
-ghost use Rattle.sap_wave.specs.Sound.{IsSound};
-ghost use Rattle.sap_wave.specs.Steps.{FormRead, IsIndexed, IsPlaced, LineRead, is_number, open_of, state_of, with_number};
+ghost use Rattle.sap_wave.specs.Reading.{IsNextBlock, IsVariable, before_blocks, before_end, before_scope, before_timescale, declaring, in_block, is_full, next_block, numbers_in};
+ghost use Rattle.sap_wave.specs.Faults.{IsLeast, IsWrong, Misdeclared};
+ghost use Rattle.sap_wave.specs.Changes.{IsOther, IsOtherIn};
+ghost use Rattle.sap_wave.specs.Steps.{FormRead, IsIndexed, LineRead, open_of, state_of};
 
 use crate::fault::WaveCode;
-use crate::numbers::{bits_number, has_identifier, identified, is_number, width};
-use crate::parts::{Change, Declaration, block_number, change_of, declaration_of};
+use crate::numbers::{has_identifier, is_number, width};
+use crate::parts::{Declaration, block_number, declaration_of};
 use crate::pieces::{is_name, is_same};
 use crate::state::{Block, State, Stop};
 use crate::variable::Variable;
@@ -225,88 +225,24 @@ fn next_block(
     Ok(State::InBlock(variables, reached))
 }
 
-/// Whether a variable has a number.
-fn has_number(now: &[Option<u64>], place: usize, number: u64) -> bool
-    requires { place < length now.now }
-    ensures { result ≡ is_number number (get_or now.now place None) }
-{
-    match now[place] {
-        Some(other) => other == number,
-        None => false,
-    }
-}
-
-/// Whether a block isn't the first, and a variable has a number there already.
-fn stands(reached: &Block, place: usize, number: u64) -> bool
-    requires { place < length reached.now.numbers.items }
-    ensures { result ≡ (not (is_first (open_of reached.now)) && is_number number (get_or reached.now.numbers.items place None)) }
-{
-    !reached.before.is_empty() && has_number(&reached.numbers, place, number)
-}
-
-/// Which variable a change is of, where it is in place.
-fn placed(variables: &[Variable], reached: &Block, parts: &Change<'_>) -> Option<usize>
-    requires { is_id parts.now.id.now ≡ true }
-    ensures none { IfNone result (Misplaced variables.now (open_of reached.now) parts.now.digits.now parts.now.id.now) }
-    ensures some { IfSome result (IsPlaced variables.now (open_of reached.now) parts.now.digits.now parts.now.id.now) }
-{
-    let place = identified(parts.id, variables.len())?;
-    if place < reached.next {
-        return None;
-    }
-    if parts.digits.len() != variables[place].width as usize {
-        return None;
-    }
-    Some(place)
-}
-
-/// Sets a variable, behind which the next can change.
-fn set(reached: &mut Block, place: usize, number: u64)
-    requires { place < length reached.old.numbers.items }
-    ensures { open_of reached.new ≡ with_number (open_of reached.old) place number }
-{
-    reached.numbers[place] = Some(number);
-    reached.next = place + 1;
-}
-
-/// Changes a variable.
-fn changed(variables: Vec<Variable>, mut reached: Block, parts: &Change<'_>) -> Result<State, Stop>
-    requires sound { IsSound (in_block variables.items (open_of reached)) }
-    requires formed { is_formed (change parts.now.digits.now parts.now.id.now) ≡ true }
-    ensures { FormRead (in_block variables.items (open_of reached)) (change parts.now.digits.now parts.now.id.now) result }
-{
-    let Some(place) = placed(&variables, &reached, parts) else {
-        return Err(Stop::Code(WaveCode::Y3));
-    };
-    let number = bits_number(parts.digits);
-    if stands(&reached, place, number) {
-        return Err(Stop::Code(WaveCode::Y5));
-    }
-    set(&mut reached, place, number);
-    Ok(State::InBlock(variables, reached))
-}
-
 fn block_line(
     alloc: Global,
     variables: Vec<Variable>,
     reached: Block,
     text: &[u8],
 ) -> Result<State, Stop>
-    requires { IsSound (in_block variables.items (open_of reached)) }
+    requires { IsOther text.now }
     ensures { LineRead (in_block variables.items (open_of reached)) text.now result }
 {
     match block_number(text) {
         Some(digits) => next_block(alloc, variables, reached, digits),
-        None => match change_of(text) {
-            Some(parts) => changed(variables, reached, &parts),
-            None => Err(Stop::Code(WaveCode::Y1)),
-        },
+        None => Err(Stop::Code(WaveCode::Y1)),
     }
 }
 
-/// What is read of a line with an LF.
+/// What is read of a line with an LF, which in an open block is no change.
 pub fn read_line(alloc: Global, state: State, text: &[u8]) -> Result<State, Stop>
-    requires sound { IsSound (state_of state) }
+    requires other { IsOtherIn (state_of state) text.now }
     requires indexed { IsIndexed state }
     ensures { LineRead (state_of state) text.now result }
 {

@@ -1,5 +1,5 @@
 use Rattle.std.proofs.Common.{refl}
-use Rattle.sap_wave.specs.Lines.{block, change}
+use Rattle.sap_wave.specs.Lines.{block}
 use Rattle.sap_wave.specs.Reading.{in_block}
 use Rattle.sap_wave.specs.Steps.{open_of}
 use Rattle.sap_wave.proofs.Stepping.{form_read, not_in_block, refused}
@@ -9,16 +9,8 @@ pub returns-in-Some : goal.returns-in-Some
 returns-in-Some c =
     form_read (in_block c.args.variables.items (open_of c.args.reached)) (block c.in-Some.digits.now) c.args.text.now c.next_block.result c.in-Some.ensures.some refl c.next_block.ensures
 
-pub changed-requires-clause-formed : goal.changed-requires-clause-formed
-changed-requires-clause-formed c = c.in-Some-change_of.ensures.some.formed
-
-pub returns-in-Some-change_of : goal.returns-in-Some-change_of
-returns-in-Some-change_of c =
-    let p = c.in-Some-change_of.parts in
-    form_read (in_block c.args.variables.items (open_of c.args.reached)) (change p.digits.now p.id.now) c.args.text.now c.changed.result c.in-Some-change_of.ensures.some refl c.changed.ensures
-
-pub returns-in-None-change_of : goal.returns-in-None-change_of
-returns-in-None-change_of c =
+pub returns-in-None : goal.returns-in-None
+returns-in-None c =
     let xs = c.args.variables.items in
     let o = open_of c.args.reached in
-    refused (in_block xs o) c.args.text.now (not_in_block xs o c.args.text.now c.in-None.ensures.none c.in-None-change_of.ensures.none)
+    refused (in_block xs o) c.args.text.now (not_in_block xs o c.args.text.now c.in-None.ensures.none c.requires)

@@ -1,6 +1,6 @@
 use Rattle.std.proofs.Common.{subst, sym}
 use Rattle.sap_wave.specs.declared.state.State.{State as Held}
-use Rattle.sap_wave.specs.Sound.{IsSound}
+use Rattle.sap_wave.specs.Changes.{IsOtherIn}
 use Rattle.sap_wave.specs.Steps.{IsIndexed, LineRead, state_of}
 use Rattle.sap_wave.proofs.steps.read_line.Goals as goal
 
@@ -23,7 +23,7 @@ pub returns-in-BeforeBlocks : goal.returns-in-BeforeBlocks
 returns-in-BeforeBlocks c = subst (λ (s : Held). LineRead (state_of s) c.args.text.now c.blocks_line.result) (sym c.in-BeforeBlocks.is) c.blocks_line.ensures
 
 pub block_line-requires : goal.block_line-requires
-block_line-requires c = subst (λ (s : Held). IsSound (state_of s)) c.in-InBlock.is c.requires.sound
+block_line-requires c = subst (λ (s : Held). IsOtherIn (state_of s) c.args.text.now) c.in-InBlock.is c.requires.other
 
 pub returns-in-InBlock : goal.returns-in-InBlock
 returns-in-InBlock c = subst (λ (s : Held). LineRead (state_of s) c.args.text.now c.block_line.result) (sym c.in-InBlock.is) c.block_line.ensures

@@ -7,7 +7,7 @@ use Rattle.sap_wave.specs.Steps.{open_of}
 use Rattle.sap_wave.proofs.Reached.{other_digits, too_early}
 use Rattle.sap_wave.proofs.Spelled.{on_none}
 use Rattle.sap_wave.proofs.Stepping.{unidentified}
-use Rattle.sap_wave.proofs.steps.placed.Goals as goal
+use Rattle.sap_wave.proofs.changes.placed.Goals as goal
 
 pub returns-in_err-place-clause-none : goal.returns-in_err-place-clause-none
 returns-in_err-place-clause-none c =
