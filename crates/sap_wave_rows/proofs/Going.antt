@@ -3,7 +3,7 @@ use Rattle.std.proofs.Common.{◌≡◌, ℕ, zero, suc, ◌+◌, ◌<◌, ◌�
 use Rattle.sap_lattice.specs.Levels.{Levels}
 use Rattle.sap_maps.specs.Maps.{Name}
 use Rattle.sap_net.specs.PortNames.{value_name, tag_name}
-use Rattle.sap_stim.specs.Rows.{row_text, shown_of}
+use Rattle.sap_stim.specs.Rows.{HoldsRows, row_text, shown_of}
 use Rattle.sap_sim.specs.Shown.{row_of, rows_from}
 use Rattle.sap_sim.proofs.Lists.{taken}
 use Rattle.sap_sim.proofs.Seen.{map_twice, row_is}
@@ -47,3 +47,7 @@ rows_more ls vs xs blocks k numbers l h e =
     ap (λ (bs : List (List ℕ)). rows_from ls xs 1 (map (by_name vs) bs)) (behind_more blocks k numbers l h e)
     ∙ mapped_push (row_of ls xs) (by_name vs) 1 (drop 1 (take k blocks)) numbers
     ∙ ap (λ (j : ℕ). rows_from ls xs 1 (map (by_name vs) (drop 1 (take k blocks))) ++ row_of ls xs j (by_name vs numbers)) (behind_count blocks k l h)
+
+-- more room holds any row too
+pub more_room : (ls : Levels) (names : List Name) (room more : ℕ) → HoldsRows ls names room → room ≤ more → HoldsRows ls names more
+more_room ls names room more holds l = λ values tags a b. let fits = holds values tags a b in omega (arith, fits, l)

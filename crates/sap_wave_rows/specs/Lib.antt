@@ -1,4 +1,5 @@
 pub mod Rows
 pub mod Places
+pub mod Held
 pub mod Laws
 pub mod Examples

@@ -1,47 +1,110 @@
 //! The rows of a wave.
 
-ghost use Rattle.std.specs.Prelude.{◌≡◌, ◌++◌, List, IfOk, OnOk, length};
+ghost use Rattle.std.specs.Prelude.{◌≡◌, ◌≤◌, ◌++◌, List, IfOk, OnOk, length};
 ghost use Rattle.sap_sim.specs.Shown.{row_of};
+ghost use Rattle.sap_stim.specs.Rows.{AreLevelTexts, HoldsRows, row_text, shown_of};
 ghost use Rattle.sap_wave.specs.declared.variable.Variable.{Variable as OfWave};
 ghost use Rattle.sap_wave_rows.specs.Places.{numbers_at, tag_places, value_places};
+ghost use Rattle.sap_wave_rows.specs.Held.{IsHeld};
 ghost use Rattle.sap_wave_rows.specs.Rows.{by_name, rows_of_wave};
 
 use crate::shown::{Shown, shown_of};
-use sap_desk::Bytes;
+use sap_desk::{Bytes, RowBuf};
 use sap_lattice::Lattice;
-use sap_stim::push_row;
+use sap_net::parts::Name;
+use sap_stim::{RowLabel, labelled_row_into, labels_of, level_texts, row_room};
 use sap_wave::Wave;
 use std::alloc::{AllocError, Global};
 
-/// The numbers at places; 0 where there is none.
-fn numbers_at(alloc: Global, numbers: &[u64], places: &[usize]) -> Result<Vec<u64>, AllocError>
-    ensures { IfOk result (λ seen. seen.items ≡ numbers_at numbers.now places.now) }
+/// What each row is made with: the labels of its registers and the texts of levels, the numbers that it shows, and a buffer
+/// that has room for any row.
+#[derive(Drop)]
+pub struct Held {
+    pub labels: Vec<RowLabel>,
+    pub levels: Vec<Bytes>,
+    pub values: Vec<u64>,
+    pub tags: Vec<u64>,
+    pub row: RowBuf,
+}
+
+/// What the rows of the registers of these names are made with.
+fn held_for(alloc: Global, lattice: &Lattice, names: &[Name]) -> Result<Held, AllocError>
+    ensures { IfOk result (IsHeld lattice.now names.now) }
 {
-    let mut seen = Vec::new(alloc);
+    let Some(room) = row_room(names, lattice) else {
+        return Err(AllocError);
+    };
+    Ok(Held {
+        labels: labels_of(alloc, names)?,
+        levels: level_texts(alloc, lattice)?,
+        values: Vec::new(alloc),
+        tags: Vec::new(alloc),
+        row: RowBuf::new(alloc, room)?,
+    })
+}
+
+/// Takes the numbers at places; 0 where there is none.
+fn take_numbers(seen: &mut Vec<u64>, numbers: &[u64], places: &[usize]) -> Result<(), AllocError>
+    ensures { OnOk result (seen.new.items ≡ numbers_at numbers.now places.now) }
+{
+    seen.clear();
     for place in places {
         let number = numbers.get(*place).copied().unwrap_or(0);
         seen.push(number)?;
     }
-    Ok(seen)
+    Ok(())
+}
+
+/// Writes the row of a cycle in place of what stands in a buffer that has room for any row.
+fn write_row(
+    row: &mut RowBuf,
+    cycle: u64,
+    labels: &[RowLabel],
+    values: &[u64],
+    tags: &[u64],
+    levels: &[Bytes],
+    lattice: &Lattice,
+)
+    requires values { length values.now ≡ length labels.now }
+    requires tags { length tags.now ≡ length labels.now }
+    requires levels { AreLevelTexts lattice.now levels.now }
+    requires room { HoldsRows lattice.now labels.now row.old.room }
+    ensures text { row.new.bytes ≡ row_text cycle (shown_of lattice.now labels.now values.now tags.now) }
+    ensures room { row.old.room ≤ row.new.room }
+{
+    row.clear();
+    labelled_row_into(row, cycle, labels, values, tags, levels, lattice);
 }
 
 /// Appends the row of a block.
 fn push_block(
     out: &mut Vec<u8>,
-    alloc: Global,
+    held: &mut Held,
     cycle: u64,
     numbers: &[u64],
     shown: &Shown,
     lattice: &Lattice,
 ) -> Result<(), AllocError>
+    requires held { IsHeld lattice.now shown.now.names.items held.old }
     requires values { length shown.now.values.items ≡ length shown.now.names.items }
     requires tags { length shown.now.tags.items ≡ length shown.now.names.items }
-    ensures { OnOk result ((vs : List OfWave) → shown.now.values.items ≡ value_places vs shown.now.names.items → shown.now.tags.items ≡ tag_places vs shown.now.names.items
+    ensures row { OnOk result ((vs : List OfWave) → shown.now.values.items ≡ value_places vs shown.now.names.items → shown.now.tags.items ≡ tag_places vs shown.now.names.items
         → out.new.items ≡ out.old.items ++ row_of lattice.now shown.now.names.items cycle (by_name vs numbers.now)) }
+    ensures held { OnOk result (IsHeld lattice.now shown.now.names.items held.new) }
 {
-    let values = numbers_at(alloc, numbers, &shown.values)?;
-    let tags = numbers_at(alloc, numbers, &shown.tags)?;
-    push_row(out, cycle, &shown.names, &values, &tags, lattice)
+    take_numbers(&mut held.values, numbers, &shown.values)?;
+    take_numbers(&mut held.tags, numbers, &shown.tags)?;
+    write_row(
+        &mut held.row,
+        cycle,
+        &held.labels,
+        &held.values,
+        &held.tags,
+        &held.levels,
+        lattice,
+    );
+    out.extend_from_slice(held.row.bytes())?;
+    Ok(())
 }
 
 /// The rows of a wave, over the levels of a lattice.
@@ -49,11 +112,12 @@ pub fn wave_rows(alloc: Global, lattice: &Lattice, wave: &Wave) -> Result<Bytes,
     ensures { IfOk result (λ rows. rows ≡ rows_of_wave lattice.now wave.now) }
 {
     let shown = shown_of(alloc, wave.variables(), lattice.width())?;
+    let mut held = held_for(alloc, lattice, &shown.names)?;
     let mut rows = Vec::new(alloc);
     for number in 1..wave.block_count() {
         push_block(
             &mut rows,
-            alloc,
+            &mut held,
             number as u64,
             wave.block(number),
             &shown,

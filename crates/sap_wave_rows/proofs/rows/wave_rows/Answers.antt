@@ -1,4 +1,4 @@
-use Rattle.std.proofs.Common.{◌<◌, ◌≤◌, ℕ, List, ◌++◌, length, map, drop, sym, ap, ap₂, ◌∙◌, arith, rules}
+use Rattle.std.proofs.Common.{◌<◌, ◌≤◌, ℕ, List, ◌++◌, length, map, drop, sym, subst, ap, ap₂, ◌∙◌, arith, rules}
 use Rattle.std.proofs.lemmas.List.{take_all}
 use Rattle.std.proofs.lemmas.Option.{get_or_from_slice_get}
 use Rattle.sap_maps.specs.Maps.{Name}
@@ -7,9 +7,18 @@ use Rattle.sap_sim.specs.Shown.{row_of, rows_from}
 use Rattle.sap_wave.specs.declared.variable.Variable.{Variable}
 use Rattle.sap_wave.specs.Waves.{names_of}
 use Rattle.sap_wave_rows.specs.Places.{value_places, tag_places}
+use Rattle.sap_wave_rows.specs.Held.{IsHeld}
 use Rattle.sap_wave_rows.specs.Rows.{by_name, widths_of}
 use Rattle.sap_wave_rows.proofs.Going.{rows_more}
 use Rattle.sap_wave_rows.proofs.rows.wave_rows.Goals as goal
+
+pub loop-number-init : goal.loop-number-init
+loop-number-init c =
+    record {
+      begun = omega arith;
+      held = subst (λ (xs : List Name). IsHeld c.args.lattice.now xs c.in_ok-held.held) c.deref.ensures.value c.in_ok-held.ensures;
+      rows = search rules;
+    }
 
 pub loop-number-preserved : goal.loop-number-preserved
 loop-number-preserved c =
@@ -24,8 +33,9 @@ loop-number-preserved c =
     let within : c.loop-number.number < length c.args.wave.now.blocks = search rules in
     record {
       begun = omega arith;
+      held = c.in_ok-push_block.ensures.held;
       rows =
-          c.in_ok-push_block.ensures vs values tags
+          c.in_ok-push_block.ensures.row vs values tags
           ∙ ap (λ (text : List ℕ). text ++ row_of ls shown.names.items k (by_name vs numbers)) c.loop-number.invariant.rows
           ∙ sym (rows_more ls vs shown.names.items blocks k numbers c.loop-number.invariant.begun within (sym (get_or_from_slice_get blocks k numbers numbers c.block.ensures)));
     }
