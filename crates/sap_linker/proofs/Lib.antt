@@ -1,2 +1,9 @@
 pub mod Naming
 pub mod Modules
+pub mod Meeting
+pub mod Counting
+pub mod Joining
+pub mod Whole
+pub mod Shown
+pub mod Fed
+pub mod Sizes

@@ -1,5 +1,5 @@
 -- What comes of the netlist of a system when it is made small.
-use Rattle.std.proofs.Common.{◌≡◌, ℕ, false, not, List, [], ◌∷◌, map, filter, refl, sym, ap, ◌∙◌, subst}
+use Rattle.std.proofs.Common.{◌≡◌, ℕ, false, not, List, [], ◌∷◌, map, filter, refl, ap, ◌∙◌, subst}
 use Rattle.std.specs.List.{AllByRecursion}
 use Rattle.sap_maps.specs.Maps.{Name}
 use Rattle.sap_net.specs.declared.parts.Port.{Port}
@@ -7,11 +7,10 @@ use Rattle.sap_net.specs.declared.parts.Wire.{Wire}
 use Rattle.sap_net.specs.Names.{is_among}
 use Rattle.sap_net.specs.Net.{Net}
 use Rattle.sap_fold.specs.Settled.{IsSettled, is_copy}
-use Rattle.sap_trim.specs.Names.{port_names}
 use Rattle.sap_trim.specs.Trimmed.{FoldsWires}
 use Rattle.sap_interface.specs.Interface.{Shown}
 use Rattle.sap_linked.specs.Parts.{NamedSystem}
-use Rattle.sap_linked.specs.Netlist.{held_ports, linked_net, shown_names, without_fed}
+use Rattle.sap_linked.specs.Netlist.{held_ports, linked_net, without_fed}
 use Rattle.sap_linked.specs.Designs.{named_system}
 use Rattle.sap_linked_small.specs.Laws.{SmallDesignsStand}
 use Rattle.sap_linked_agree.specs.Laws.{ModulesAgree, ModulesHaveOneRun}

@@ -7,6 +7,7 @@ use Rattle.sap_net.specs.Net.{Net}
 use Rattle.sap_trim.specs.Trimmed.{FoldsWires}
 use Rattle.sap_system.specs.Rules.{KeepsParts, part_names}
 use Rattle.sap_system.specs.declared.file.Part.{Part}
+use Rattle.sap_system.specs.Wires.{Surroundings}
 use Rattle.sap_link.specs.Systems.{Wire}
 use Rattle.sap_link.specs.Designs.{WellLinked}
 use Rattle.sap_linked.specs.Parts.{NamedSystem, NamesFit}
@@ -14,12 +15,17 @@ use Rattle.sap_linked.specs.Parts.{Part as SystemPart}
 use Rattle.sap_linked.specs.Netlist.{linked_net, without_fed}
 use Rattle.sap_linked.specs.Designs.{NamedDesign, trees, named_system, IsNetOfDesign}
 use Rattle.sap_linked_small.specs.Laws.{IsSmall}
+use Rattle.sap_wiring.specs.Wiring.{PartsNamed, names_in}
 use Rattle.sap_linker.specs.Modules.{IsModuleOfSystem}
 
 abbrev pub names_of : NamedSystem → List (List ℕ)
 names_of s = map (λ (p : SystemPart). p.name) s.parts
 
--- Parts with the names that a system file gives them have names that stay apart in the module of the system.
+-- Parts with names that they may have, by the rules on names of parts, have names that stay apart in the module of the system; ..
+abbrev pub NamedPartsFit : Type 0
+NamedPartsFit = (u : Surroundings) (s : NamedSystem) → PartsNamed u → names_of s ≡ names_in u → NamesFit s
+
+-- .. and so have those with the names that a system file gives them.
 abbrev pub FileNamesFit : Type 0
 FileNamesFit = (parts : List Part) (s : NamedSystem) → KeepsParts parts → names_of s ≡ part_names parts → NamesFit s
 

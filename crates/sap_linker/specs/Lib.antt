@@ -1,2 +1,5 @@
 pub mod Modules
 pub mod Laws
+pub mod Given
+pub mod Linking
+pub mod Sizes

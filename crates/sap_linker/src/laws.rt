@@ -1,10 +1,11 @@
 //! What holds of the modules of systems.
 
-ghost use Rattle.sap_linker.specs.Laws.{FileNamesFit, SmallNetsAreModules};
+ghost use Rattle.sap_linker.specs.Laws.{FileNamesFit, NamedPartsFit, SmallNetsAreModules};
 
-/// The names that a system file gives to parts stay apart in the module of the system.
+/// Names that parts may have stay apart in the module of the system, and so do those that a system file gives.
 pub fn file_names_fit()
-    ensures { FileNamesFit }
+    ensures named { NamedPartsFit }
+    ensures listed { FileNamesFit }
 {}
 
 /// What comes of the netlist of a system, made small and folded, is the module of the system.

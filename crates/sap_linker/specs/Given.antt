@@ -1,0 +1,61 @@
+-- What is given of a system: the designs and the netlists of its parts, under their names.
+use Rattle.std.specs.Prelude.{◌≡◌, ◌<◌, ℕ, List, [], length, map, get_or, Some, slice_get}
+use Rattle.std.specs.List.{AllByRecursion}
+use Rattle.sap_lattice.specs.Levels.{Levels}
+use Rattle.sap_names.specs.Entities.{entities_of}
+use Rattle.sap_shape.specs.WellFormed.{WellFormed}
+use Rattle.sap_check.specs.Checked.{tree_in}
+use Rattle.sap_net.specs.Net.{Net}
+use Rattle.sap_system.specs.Wires.{NamedPart, Surroundings}
+use Rattle.sap_link.specs.Systems.{Endpoint, Wire}
+use Rattle.sap_linked.specs.Designs.{NamedDesign, IsNetOfDesign}
+use Rattle.sap_joined.specs.Joined.{NamedNet}
+use Rattle.sap_linker.specs.declared.parts.LinkedPart.{LinkedPart}
+
+abbrev pub named_design : LinkedPart → NamedDesign
+named_design p = record { name = p.name.now; design = tree_in p.checked.now }
+
+abbrev pub designs_of : List LinkedPart → List NamedDesign
+designs_of parts = map named_design parts
+
+abbrev pub design_names : List NamedDesign → List (List ℕ)
+design_names ds = map (λ (d : NamedDesign). d.name) ds
+
+abbrev pub named_net : LinkedPart → NamedNet
+named_net p = record { name = p.name.now; net = p.netlist.now }
+
+-- a part's name, and what its design declares
+abbrev pub declares : LinkedPart → NamedPart
+declares p = record { name = p.name.now; entities = entities_of (tree_in p.checked.now) }
+
+-- what the texts of wires between designs are held against
+abbrev pub surroundings : Levels → List NamedDesign → Surroundings
+surroundings ls ds = record { parts = map (λ (d : NamedDesign). record { name = d.name; entities = entities_of d.design }) ds; levels = ls.names }
+
+-- Its design is well formed over these levels, and its netlist stands for the design and starts as it does.
+pub record IsOver (ls : Levels) (p : LinkedPart) : Type 0 where
+  pub formed : WellFormed ls (tree_in p.checked.now)
+  pub net : IsNetOfDesign ls (tree_in p.checked.now) p.netlist.now
+
+abbrev pub AreOver : Levels → List LinkedPart → Type 0
+AreOver ls parts = AllByRecursion (IsOver ls) parts
+
+-- the netlists of parts by number, and what a number past the last stands for
+abbrev pub no_net : Net
+no_net = record { module_name = []; names = []; ports = []; inputs = []; wires = []; registers = []; memories = [] }
+
+abbrev pub net_at : List LinkedPart → ℕ → Net
+net_at parts i = get_or (map (λ (p : LinkedPart). p.netlist.now) parts) i no_net
+
+-- the part is there, and so is its entity
+pub record IsThere (ds : List NamedDesign) (e : Endpoint) : Type 0 where
+  pub design : NamedDesign
+  pub is_design : slice_get ds e.part ≡ Some design
+  pub entity : e.entity < length (entities_of design.design)
+
+pub record Meets (ds : List NamedDesign) (w : Wire) : Type 0 where
+  pub from : IsThere ds w.from
+  pub to : IsThere ds w.to
+
+abbrev pub WiresMeet : List NamedDesign → List Wire → Type 0
+WiresMeet ds wires = AllByRecursion (Meets ds) wires

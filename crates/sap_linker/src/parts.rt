@@ -1,0 +1,13 @@
+//! The parts of a system.
+
+use sap_check::Checked;
+use sap_net::netlist::Netlist;
+use sap_text::name::Name;
+
+/// A part's name, its design and a netlist that stands for the design.
+#[derive(Clone, Copy, Drop)]
+pub struct LinkedPart<'a> {
+    pub name: &'a Name,
+    pub checked: &'a Checked,
+    pub netlist: &'a Netlist,
+}
