@@ -9,13 +9,14 @@ use Rattle.sap_stream.specs.declared.apart.Apart.{Apart}
 use Rattle.sap_sim.specs.Labelled.RunOf.{read_for as design_stimulus}
 use Rattle.sap_compile.specs.Compiles.{IsModuleFor}
 use Rattle.sap_gen.specs.Text.{generated_text}
-use Rattle.sap_words.specs.Words.{Words, compile, run, trace, fmt, sim, taint, wave, unwave, report, twin, gen, machine, asm, cpu, command_of}
+use Rattle.sap_words.specs.Words.{Words, compile, link, run, trace, fmt, sim, taint, wave, unwave, report, twin, gen, machine, asm, cpu, command_of}
 use Rattle.sap_files.specs.Ending.{Ending, no_command, level_refused}
 use Rattle.sap_files.specs.Kinds.{lattice_file, design_file, stream_file}
 use Rattle.sap_commands.specs.Twin.{IsAgreement}
 use Rattle.sap_files.specs.Compared.{IsVerdict, difference}
 use Rattle.sap_files.specs.StimulusTexts.{AreDesignRows, AreTraceLines}
 use Rattle.sap_files.specs.Uncompiled.{asks_asm, asks_canonical, asks_cpu, asks_machine, asks_simulated, asks_report, asks_taint, asks_unwave, asks_wave}
+use Rattle.sap_linking.specs.Asked.{asks_link}
 use Rattle.sap_files.specs.Asks.{Asks, file, by, gives, prints, writes, stops, Cause, IsOutput}
 
 -- the text is one of a module for the design
@@ -41,6 +42,7 @@ asks_streams ls d first second word l =
 abbrev pub asks : Words → Asks
 asks (compile lattice design out) =
     file lattice lattice_file (λ ls. file design (design_file ls) (λ d. writes out (IsModuleText ls d)))
+asks (link lattice system out) = asks_link lattice system out
 asks (run lattice design stimulus) =
     file lattice lattice_file (λ ls. file design (design_file ls) (λ d.
     prints stimulus (AreDesignRows ls d) (λ bytes. (design_stimulus ls d bytes).fault)))

@@ -12,6 +12,7 @@ use crate::tracing::trace_design;
 use sap_desk::Desk;
 use sap_files::failure::Failure;
 use sap_files::{asm, cpu, format, machine, report_design, simulate, taint, unwave, wave};
+use sap_linking::link;
 use sap_words::Command;
 use std::alloc::Global;
 
@@ -29,6 +30,11 @@ pub fn perform<'a, D: Desk>(
             design,
             out,
         } => compile(alloc, desk, lattice, design, out),
+        Command::Link {
+            lattice,
+            system,
+            out,
+        } => link(alloc, desk, lattice, system, out),
         Command::Run {
             lattice,
             design,

@@ -16,6 +16,9 @@ use Rattle.sap_stim.specs.FaultTexts.{stimulus_text}
 use Rattle.sap_stim.specs.declared.fault.StimFault.{StimFault}
 use Rattle.sap_wave.specs.FaultTexts.{wave_text}
 use Rattle.sap_wave.specs.declared.fault.WaveFault.{WaveFault}
+use Rattle.sap_system.specs.FaultTexts.{system_text, wire_text}
+use Rattle.sap_system.specs.declared.fault.SysFault.{SysFault}
+use Rattle.sap_system.specs.declared.link_fault.LinkFault.{LinkFault}
 use Rattle.sap_machine.specs.Text.{refusal_text as assembly_text}
 use Rattle.sap_machine.specs.declared.fault.AsmFault.{AsmFault}
 
@@ -24,6 +27,11 @@ pub data Refusal : Type 0 where
   no_command : Refusal
   lattice_refused : LatFileFault → Refusal
   design_refused : DesignFault → Refusal
+  -- the design of the part of this name in a system
+  part_refused : (part : List ℕ) → DesignFault → Refusal
+  -- a system file, and the wires that it lists
+  system_refused : SysFault → Refusal
+  wires_refused : LinkFault → Refusal
   -- the first stimulus of the words, or the second
   stimulus_refused : (place : ℕ) → StimFault → Refusal
   module_refused : ModFault → Refusal
@@ -47,6 +55,7 @@ pub data Ending : Type 0 where
 
 abbrev pub status_of_refusal : Refusal → ℕ
 status_of_refusal (design_refused fault) = 1
+status_of_refusal (part_refused part fault) = 1
 status_of_refusal no_command = 2
 status_of_refusal (level_refused word) = 2
 status_of_refusal (lattice_refused fault) = 3
@@ -55,6 +64,8 @@ status_of_refusal (module_refused fault) = 5
 status_of_refusal (taint_refused fault) = 5
 status_of_refusal (lengths_apart one other) = 8
 status_of_refusal (inputs_apart cycle name) = 8
+status_of_refusal (system_refused fault) = 9
+status_of_refusal (wires_refused fault) = 9
 status_of_refusal (wave_refused fault) = 10
 status_of_refusal (asm_refused place fault) = 11
 
@@ -80,6 +91,9 @@ abbrev pub refusal_text : Refusal → List ℕ
 refusal_text no_command = codes "words"
 refusal_text (lattice_refused fault) = codes "lattice: " ++ lattice_text fault
 refusal_text (design_refused fault) = codes "design: " ++ design_text fault
+refusal_text (part_refused part fault) = codes "part " ++ part ++ codes ": " ++ design_text fault
+refusal_text (system_refused fault) = codes "system: " ++ system_text fault
+refusal_text (wires_refused fault) = codes "system: " ++ wire_text fault
 refusal_text (stimulus_refused place fault) = codes "stimulus " ++ decimal place ++ codes ": " ++ stimulus_text fault
 refusal_text (module_refused fault) = codes "module: " ++ module_text fault
 refusal_text (taint_refused fault) = codes "module: " ++ taint_text fault

@@ -22,7 +22,7 @@ use Rattle.sap_taint_pass.specs.declared.fault.TaintFault.TheVariants as taint_f
 use Rattle.sap_wave.specs.declared.fault.WaveFault.{WaveFault}
 use Rattle.sap_wave.specs.declared.fault.WaveFault.TheVariants as wave_fault
 use Rattle.sap_files.specs.declared.fault.DesignFault.TheVariants as design_fault
-use Rattle.sap_files.specs.Ending.{Ending, Refusal as Reason, done, refused, failed, no_memory, lattice_refused, design_refused, stimulus_refused, module_refused, taint_refused, level_refused, lengths_apart, inputs_apart, wave_refused, asm_refused, IsFree}
+use Rattle.sap_files.specs.Ending.{Ending, Refusal as Reason, done, refused, failed, no_memory, lattice_refused, design_refused, part_refused, system_refused, wires_refused, stimulus_refused, module_refused, taint_refused, level_refused, lengths_apart, inputs_apart, wave_refused, asm_refused, IsFree}
 use Rattle.sap_files.specs.Tainting.{HasTaintOf, IsTaintedText}
 use Rattle.sap_files.specs.Kinds.{Kind, IsLatticeFile, IsWellFormedText, design_file, lattice_file, table_by}
 use Rattle.sap_stim.specs.declared.field.Field.{Field}
@@ -34,13 +34,16 @@ use Rattle.sap_files.specs.After.{Blames, Stands}
 use Rattle.sap_files.specs.Outside.{IsUnreadable, OutsideOf}
 use Rattle.sap_files.specs.declared.files.LatticeFile.{LatticeFile}
 use Rattle.sap_files.specs.declared.failure.Failure.{Failure}
-use Rattle.sap_files.specs.declared.failure.Failure.TheVariants.{Refused, Desk, Memory}
+use Rattle.sap_files.specs.declared.failure.Failure.TheVariants.{Refused, Desk, PartFile, Memory}
 use Rattle.sap_files.specs.declared.refusal.Refusal.{Refusal}
-use Rattle.sap_files.specs.declared.refusal.Refusal.TheVariants.{Lattice, Design, Stimulus, Module, Taint, Level, Lengths, Input, Wave, Assembly}
+use Rattle.sap_files.specs.declared.refusal.Refusal.TheVariants.{Lattice, Design, Part, System, Wires, Stimulus, Module, Taint, Level, Lengths, Input, Wave, Assembly}
 
 abbrev pub reason : Refusal → Reason
 reason (Lattice fault) = lattice_refused fault
 reason (Design fault) = design_refused fault
+reason (Part part fault) = part_refused part fault
+reason (System fault) = system_refused fault
+reason (Wires fault) = wires_refused fault
 reason (Stimulus place fault) = stimulus_refused place fault
 reason (Module fault) = module_refused fault
 reason (Taint fault) = taint_refused fault
@@ -79,6 +82,7 @@ wave_failure fault = Refused (Wave fault)
 abbrev pub ending : Failure → Ending
 ending (Refused why) = refused (reason why)
 ending (Desk name) = failed name.now
+ending (PartFile name) = failed name
 ending Memory = no_memory
 
 abbrev pub ending_of : {T : Type 0} → Result T Failure → Ending

@@ -1,6 +1,7 @@
 //! Why a command ends without its result.
 
 use crate::refusal::Refusal;
+use sap_text::name::Name;
 use std::alloc::AllocError;
 
 /// Why a command ends without its result.
@@ -9,6 +10,8 @@ pub enum Failure<'a> {
     Refused(Refusal<'a>),
     /// A call failed on the file of this name, or on the output.
     Desk(&'a str),
+    /// A call failed on the file of a part of a system.
+    PartFile(Name),
     Memory,
 }
 

@@ -23,7 +23,7 @@ mod waves;
 pub use comparing::{level_of, verdict};
 pub use fault::DesignFault;
 pub use files::{LatticeFile, lattice_of_file, stream_of_file};
-pub use inputs::read_design;
+pub use inputs::{read, read_design};
 pub use machines::{asm, cpu, machine};
 pub use output::{put, write};
 pub use reporting::report_design;

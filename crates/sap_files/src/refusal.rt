@@ -9,6 +9,7 @@ use crate::fault::DesignFault;
 use sap_latfile::LatFileFault;
 use sap_machine::fault::{AsmCode, AsmFault};
 use sap_stim::fault::StimFault;
+use sap_system::{LinkFault, SysFault};
 use sap_taint_pass::fault::TaintFault;
 use sap_tree::name::Name;
 use sap_vread::fault::ModFault;
@@ -20,6 +21,12 @@ use std::fmt;
 pub enum Refusal<'a> {
     Lattice(LatFileFault),
     Design(DesignFault),
+    /// The design of the part of this name in a system.
+    Part(Name, DesignFault),
+    /// A system file.
+    System(SysFault),
+    /// The wires that a system file lists.
+    Wires(LinkFault),
     /// The first stimulus of the words, or the second.
     Stimulus(u64, StimFault),
     Module(ModFault),
@@ -53,12 +60,13 @@ impl Refusal<'_> {
         ensures { result ≡ status_of_refusal (reason self.now) }
     {
         match self {
-            Refusal::Design(_) => 1,
+            Refusal::Design(_) | Refusal::Part(_, _) => 1,
             Refusal::Lattice(_) => 3,
             Refusal::Stimulus(_, _) => 4,
             Refusal::Module(_) | Refusal::Taint(_) => 5,
             Refusal::Level(_) => 2,
             Refusal::Lengths(_, _) | Refusal::Input(_, _) => 8,
+            Refusal::System(_) | Refusal::Wires(_) => 9,
             Refusal::Wave(_) => 10,
             Refusal::Assembly(_, _) => 11,
         }
@@ -76,6 +84,9 @@ impl fmt::Display for Refusal<'_> {
         match self {
             Refusal::Lattice(fault) => write!(f, "lattice: {fault}"),
             Refusal::Design(fault) => write!(f, "design: {fault}"),
+            Refusal::Part(part, fault) => write!(f, "part {part}: {fault}"),
+            Refusal::System(fault) => write!(f, "system: {fault}"),
+            Refusal::Wires(fault) => write!(f, "system: {fault}"),
             Refusal::Stimulus(place, fault) => write!(f, "stimulus {place}: {fault}"),
             Refusal::Module(fault) => write!(f, "module: {fault}"),
             Refusal::Taint(fault) => write!(f, "module: {fault}"),

@@ -21,6 +21,10 @@ stimulus_codes = codes "S1" ∷ codes "S2" ∷ codes "S3" ∷ codes "S4" ∷ cod
 abbrev pub module_codes : List (List ℕ)
 module_codes = codes "V1" ∷ codes "V2" ∷ codes "V3" ∷ codes "V4" ∷ codes "V5" ∷ codes "V6" ∷ codes "V7" ∷ codes "X1" ∷ []
 
+-- of systems of linked designs
+abbrev pub system_codes : List (List ℕ)
+system_codes = codes "K1" ∷ codes "K2" ∷ codes "K3" ∷ codes "K4" ∷ codes "K5" ∷ codes "K6" ∷ codes "K7" ∷ codes "K8" ∷ codes "K9" ∷ []
+
 -- of value change dumps
 abbrev pub wave_codes : List (List ℕ)
 wave_codes = codes "Y1" ∷ codes "Y2" ∷ codes "Y3" ∷ codes "Y4" ∷ codes "Y5" ∷ []
@@ -30,7 +34,7 @@ abbrev pub assembly_codes : List (List ℕ)
 assembly_codes = codes "B1" ∷ codes "B2" ∷ codes "B3" ∷ codes "B4" ∷ []
 
 abbrev pub is_code : List ℕ → Bool
-is_code code = is_one_of design_codes code || (is_one_of lattice_codes code || (is_one_of stimulus_codes code || (is_one_of module_codes code || (is_one_of wave_codes code || is_one_of assembly_codes code))))
+is_code code = is_one_of design_codes code || (is_one_of lattice_codes code || (is_one_of stimulus_codes code || (is_one_of module_codes code || (is_one_of system_codes code || (is_one_of wave_codes code || is_one_of assembly_codes code)))))
 
 -- the text of a code begins with it and a colon
 abbrev pub IsTextOf : (code text : List ℕ) → Type 0

@@ -8,6 +8,7 @@ use crate::design::design_fault;
 use crate::lattice::lattice_fault;
 use crate::module::module_fault;
 use crate::stimulus::stimulus_fault;
+use crate::system::system_fault;
 use crate::wave::wave_fault;
 
 /// What the code of a fault means, with a small example and its cure; none where it is no code.
@@ -25,6 +26,9 @@ pub fn explain(code: &str) -> Option<&'static str>
         return Some(text);
     }
     if let Some(text) = module_fault(code) {
+        return Some(text);
+    }
+    if let Some(text) = system_fault(code) {
         return Some(text);
     }
     if let Some(text) = wave_fault(code) {

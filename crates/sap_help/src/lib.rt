@@ -9,6 +9,7 @@ mod lattice;
 mod module;
 mod page;
 mod stimulus;
+mod system;
 mod text;
 mod wave;
 

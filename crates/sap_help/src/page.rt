@@ -12,8 +12,9 @@ const ABOUT: &str =
 const USAGE: &str = "sapper COMMAND OPERANDS";
 
 // What each command does, in the order of the table of commands.
-static DOES: [&str; 14] = [
+static DOES: [&str; 15] = [
     "writes the module of a design to the file OUT",
+    "writes one module of several designs that are clocked together to the file OUT",
     "runs a design on a stimulus, and writes a row a cycle",
     "runs a design on a stimulus, and writes a line for each refused command",
     "clocks a module of the subset, and writes a row a cycle",
@@ -31,7 +32,7 @@ static DOES: [&str; 14] = [
 
 const STATUSES: &str = "Statuses:
   0  done
-  1  the design is refused: `design: CODE LINE:COL`
+  1  the design is refused: `design: CODE LINE:COL`; or that of a part: `part NAME: CODE LINE:COL`
   2  the words are no command: `words`; or LEVEL is no level: `level WORD`
   3  the lattice is refused: `lattice: CODE` and its names or positions
   4  a stimulus is refused: `stimulus F: CODE line N`
@@ -39,6 +40,7 @@ const STATUSES: &str = "Statuses:
   6  a call on a file or on the output failed: `desk: NAME`
   7  there was no memory: `memory`
   8  the streams of twin don't agree: `streams: ..`
+  9  the system is refused: `system: CODE` and, behind K3 to K9, a number
   10 the dump is refused: `wave: CODE line N`
   11 a program is refused: `asm F: CODE line L`
 

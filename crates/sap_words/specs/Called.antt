@@ -1,10 +1,11 @@
 -- The words of a command that was read.
-use Rattle.sap_words.specs.Words.{Words, compile, run, trace, fmt, sim, taint, wave, unwave, report, twin, gen, machine, asm, cpu}
+use Rattle.sap_words.specs.Words.{Words, compile, link, run, trace, fmt, sim, taint, wave, unwave, report, twin, gen, machine, asm, cpu}
 use Rattle.sap_words.specs.declared.command.Command.{Command}
-use Rattle.sap_words.specs.declared.command.Command.TheVariants.{Compile, Run, Trace, Fmt, Sim, Taint, Wave, Unwave, Report, Twin, Gen, Machine, Asm, Cpu}
+use Rattle.sap_words.specs.declared.command.Command.TheVariants.{Compile, Link, Run, Trace, Fmt, Sim, Taint, Wave, Unwave, Report, Twin, Gen, Machine, Asm, Cpu}
 
 abbrev pub words_of : Command → Words
 words_of (Compile lattice design out) = compile lattice.now design.now out.now
+words_of (Link lattice system out) = link lattice.now system.now out.now
 words_of (Run lattice design stimulus) = run lattice.now design.now stimulus.now
 words_of (Trace lattice design stimulus) = trace lattice.now design.now stimulus.now
 words_of (Fmt design) = fmt design.now

@@ -8,6 +8,7 @@ use Rattle.std.specs.Str.Parse.{digits_value}
 -- Each operand is the name of a file, but LEVEL, which is that of a level, and N, which is a number.
 pub data Words : Type 0 where
   compile : (lattice design out : List ℕ) → Words
+  link : (lattice system out : List ℕ) → Words
   run : (lattice design stimulus : List ℕ) → Words
   trace : (lattice design stimulus : List ℕ) → Words
   fmt : (design : List ℕ) → Words
@@ -53,6 +54,7 @@ row name operands make = record { name = name; operands = operands; make = make 
 
 abbrev pub commands : List Row
 commands = row (codes "compile") (codes "LATTICE" ∷ codes "DESIGN" ∷ codes "OUT" ∷ []) compile
+    ∷ row (codes "link") (codes "LATTICE" ∷ codes "SYSTEM" ∷ codes "OUT" ∷ []) link
     ∷ row (codes "run") (codes "LATTICE" ∷ codes "DESIGN" ∷ codes "STIM" ∷ []) run
     ∷ row (codes "trace") (codes "LATTICE" ∷ codes "DESIGN" ∷ codes "STIM" ∷ []) trace
     ∷ row (codes "sim") (codes "LATTICE" ∷ codes "VERILOG" ∷ codes "STIM" ∷ []) sim

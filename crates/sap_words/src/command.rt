@@ -18,6 +18,11 @@ pub enum Command<'a> {
         design: &'a str,
         out: &'a str,
     },
+    Link {
+        lattice: &'a str,
+        system: &'a str,
+        out: &'a str,
+    },
     Run {
         lattice: &'a str,
         design: &'a str,

@@ -10,8 +10,9 @@ use crate::command::Command;
 use crate::number::number_of;
 
 /// Each command with the names of its operands.
-pub static COMMANDS: [(&str, &[&str]); 14] = [
+pub static COMMANDS: [(&str, &[&str]); 15] = [
     ("compile", &["LATTICE", "DESIGN", "OUT"]),
+    ("link", &["LATTICE", "SYSTEM", "OUT"]),
     ("run", &["LATTICE", "DESIGN", "STIM"]),
     ("trace", &["LATTICE", "DESIGN", "STIM"]),
     ("sim", &["LATTICE", "VERILOG", "STIM"]),
@@ -42,6 +43,11 @@ pub(crate) fn made<'a>(
         "compile" => Some(Command::Compile {
             lattice: first,
             design: second,
+            out: third,
+        }),
+        "link" => Some(Command::Link {
+            lattice: first,
+            system: second,
             out: third,
         }),
         "run" => Some(Command::Run {

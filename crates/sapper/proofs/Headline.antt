@@ -8,7 +8,7 @@ use Rattle.sap_lattice.specs.Levels.{Levels}
 use Rattle.sap_tree.specs.Syntax.{DesignTree}
 use Rattle.sap_words.specs.Words.{Words, compile}
 use Rattle.sap_files.specs.Kinds.{Has, IsWellFormedText, lattice_file, design_file}
-use Rattle.sap_files.specs.Ending.{Ending, Refusal, done, refused, failed, no_memory, no_command, lattice_refused, design_refused, stimulus_refused, module_refused, taint_refused, level_refused, lengths_apart, inputs_apart, wave_refused, asm_refused, status_of, IsFree}
+use Rattle.sap_files.specs.Ending.{Ending, Refusal, done, refused, failed, no_memory, no_command, lattice_refused, design_refused, part_refused, system_refused, wires_refused, stimulus_refused, module_refused, taint_refused, level_refused, lengths_apart, inputs_apart, wave_refused, asm_refused, status_of, IsFree}
 use Rattle.sap_files.specs.Asks.{file, writes, Cause, Files, Leaves, Written}
 use Rattle.sap_commands.specs.Commands.{IsModuleText, asks, asks_for, asks_if}
 use Rattle.sapper.specs.Answers.{Answers}
@@ -42,6 +42,9 @@ done_alone (refused (design_refused fault)) is = absurd (omega (arith, is))
 done_alone (refused no_command) is = absurd (omega (arith, is))
 done_alone (refused (level_refused word)) is = absurd (omega (arith, is))
 done_alone (refused (lattice_refused fault)) is = absurd (omega (arith, is))
+done_alone (refused (part_refused part fault)) is = absurd (omega (arith, is))
+done_alone (refused (system_refused fault)) is = absurd (omega (arith, is))
+done_alone (refused (wires_refused fault)) is = absurd (omega (arith, is))
 done_alone (refused (stimulus_refused place fault)) is = absurd (omega (arith, is))
 done_alone (refused (module_refused fault)) is = absurd (omega (arith, is))
 done_alone (refused (taint_refused fault)) is = absurd (omega (arith, is))

@@ -1,6 +1,7 @@
 pub mod Answers
 pub mod Exact
 pub mod Headline
+pub mod Links
 pub mod Taints
 pub mod Waves
 pub mod Machines

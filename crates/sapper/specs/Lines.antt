@@ -2,7 +2,7 @@
 use Rattle.std.specs.Prelude.{◌≡◌, ◌≢◌, ◌⊎◌, ℕ, List}
 use Rattle.sap_desk.specs.Desk.{Told}
 use Rattle.sap_desk.specs.Whole.{Between, Gained, LostAtMostOne}
-use Rattle.sap_files.specs.Ending.{Ending, Refusal as Reason, refused, no_memory, no_command, lattice_refused, design_refused, stimulus_refused, module_refused, taint_refused, level_refused, lengths_apart, inputs_apart, wave_refused, asm_refused, status_of, line_of}
+use Rattle.sap_files.specs.Ending.{Ending, Refusal as Reason, refused, no_memory, no_command, lattice_refused, design_refused, part_refused, system_refused, wires_refused, stimulus_refused, module_refused, taint_refused, level_refused, lengths_apart, inputs_apart, wave_refused, asm_refused, status_of, line_of}
 use Rattle.sap_files.specs.Steps.{Moment}
 use Rattle.sapper.specs.Outside.{FullLines}
 
@@ -27,6 +27,9 @@ abbrev pub TakesMemory : Reason → Type 0
 TakesMemory no_command = Unit {0}
 TakesMemory (lattice_refused fault) = Unit {0}
 TakesMemory (design_refused fault) = Unit {0}
+TakesMemory (part_refused part fault) = Unit {0}
+TakesMemory (system_refused fault) = Unit {0}
+TakesMemory (wires_refused fault) = Unit {0}
 TakesMemory (stimulus_refused place fault) = ⊥
 TakesMemory (module_refused fault) = Unit {0}
 TakesMemory (taint_refused fault) = Unit {0}

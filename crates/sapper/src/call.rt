@@ -10,6 +10,7 @@ ghost use Rattle.sap_files.specs.Ending.{failed, line_of, refused, stimulus_refu
 ghost use Rattle.sapper.specs.Exact.{Exact};
 ghost use Rattle.sapper.specs.Headline.{Headline};
 ghost use Rattle.sapper.specs.Lines.{Reports, Tells};
+ghost use Rattle.sapper.specs.Links.{Links};
 ghost use Rattle.sapper.specs.Machines.{Machines};
 ghost use Rattle.sapper.specs.Outside.{Outside, FullLines};
 ghost use Rattle.sapper.specs.Taints.{Taints};
@@ -91,6 +92,10 @@ fn report<D: Desk>(alloc: Global, desk: &mut D, failure: &Failure<'_>) -> u8
             tell_desk(desk, name);
             6
         }
+        Failure::PartFile(name) => {
+            tell_desk(desk, name.as_str());
+            6
+        }
         Failure::Memory => {
             tell(desk, b"memory\n");
             7
@@ -119,6 +124,7 @@ fn ask<'a, D: Desk>(
 /// Does what the words ask over a desk, and answers the status.
 pub fn sapper<D: Desk>(alloc: Global, words: &[String], desk: &mut D) -> u8
     ensures headline { Between (D.told desk.old) (D.told desk.new) (Headline (map string_bytes words.now) result) }
+    ensures links { Between (D.told desk.old) (D.told desk.new) (Links (map string_bytes words.now) (D.lost desk.old) (D.lost desk.new) result) }
     ensures taints { Between (D.told desk.old) (D.told desk.new) (Taints (map string_bytes words.now) (D.lost desk.old) (D.lost desk.new) result) }
     ensures waves { Between (D.told desk.old) (D.told desk.new) (Waves (map string_bytes words.now) result) }
     ensures unwaves { Between (D.told desk.old) (D.told desk.new) (Unwaves (map string_bytes words.now) (D.lost desk.old) (D.lost desk.new) result) }

@@ -1,0 +1,97 @@
+-- What the files of parts give, read one after another: the words of the contracts of the steps.
+use Rattle.std.specs.Prelude.{◌≡◌, ◌⊎◌, ℕ, List, map, take, slice_get, Option, Some, Result, Ok, Err, IfSome}
+use Rattle.std.specs.List.{AllZip}
+use Rattle.sap_desk.specs.Desk.{Told}
+use Rattle.sap_lattice.specs.Levels.{Levels}
+use Rattle.sap_check.specs.Checked.{tree_in}
+use Rattle.sap_system.specs.Wires.{FirstLinkFault, KeepsWires}
+use Rattle.sap_system.specs.declared.file.Part.{Part}
+use Rattle.sap_system.specs.declared.file.WireText.{WireText}
+use Rattle.sap_system.specs.declared.fault.SysFault.{SysFault}
+use Rattle.sap_system.specs.declared.fault.SysFault.TheVariants as system_fault
+use Rattle.sap_system.specs.declared.link_fault.LinkFault.{LinkFault}
+use Rattle.sap_system.specs.declared.link_fault.LinkFault.TheVariants as link_fault
+use Rattle.sap_linked.specs.Designs.{NamedDesign, IsNetOfDesign}
+use Rattle.sap_linker.specs.Given.{surroundings}
+use Rattle.sap_files.specs.Ending.{Ending, refused, failed, no_memory, part_refused, wires_refused}
+use Rattle.sap_files.specs.Kinds.{IsWellFormedText}
+use Rattle.sap_files.specs.Steps.{EndsReading, Moment, Quiet, Reads, ending}
+use Rattle.sap_files.specs.declared.failure.Failure.{Failure}
+use Rattle.sap_files.specs.declared.failure.Failure.TheVariants as failure
+use Rattle.sap_files.specs.declared.refusal.Refusal.TheVariants as refusal
+use Rattle.sap_linking.specs.Asked.{IsLinkedText}
+use Rattle.sap_linking.specs.Kinds.{part_file}
+use Rattle.sap_linking.specs.declared.parts.LoadedPart.{LoadedPart}
+use Rattle.sap_linking.specs.declared.parts.Stopped.{Stopped}
+use Rattle.sap_linking.specs.declared.parts.Stopped.TheVariants.{Refused, Failed, Memory}
+
+abbrev pub loaded_design : LoadedPart → NamedDesign
+loaded_design p = record { name = p.name; design = tree_in p.checked }
+
+abbrev pub loaded_designs : List LoadedPart → List NamedDesign
+loaded_designs parts = map loaded_design parts
+
+-- its netlist stands for its design, and starts as that does
+abbrev pub HasNet : Levels → LoadedPart → Type 0
+HasNet ls p = IsNetOfDesign ls (tree_in p.checked) p.netlist
+
+-- how the command ends at a part
+abbrev pub stop_of : Part → Stopped → Ending
+stop_of p (Refused fault) = refused (part_refused p.name fault)
+stop_of p Failed = failed p.file
+stop_of p Memory = no_memory
+
+-- why a part isn't loaded whose file can't be read as a design, by how reading one fails; of a design file nothing else is refused
+abbrev pub stop_from : Failure → Stopped
+stop_from (failure.Refused (refusal.Design fault)) = Refused fault
+stop_from (failure.Desk name) = Failed
+stop_from (failure.PartFile name) = Failed
+stop_from e = Memory
+
+-- the design file of a part was read, and its bytes stand for its design over these levels
+pub record ReadsPart (ls : Levels) (p : Part) (d : NamedDesign) (before after : Moment) : Type 0 where
+  pub name : d.name ≡ p.name
+  pub bytes : List ℕ
+  pub reads : Reads p.file bytes before after
+  pub stands : IsWellFormedText ls bytes d.design
+
+-- so it was, and the part was loaded; or the command ends there
+abbrev pub GetsPart : Levels → Part → Result LoadedPart Stopped → Moment → Moment → Type 0
+GetsPart ls p (Ok loaded) before after = ReadsPart ls p (loaded_design loaded) before after × HasNet ls loaded
+GetsPart ls p (Err why) before after = EndsReading p.file (part_file ls p.name) (stop_of p why) before after
+
+-- the file of a part, on a desk that is told, has bytes that stand for a design under the part's name
+pub record HasPart (ls : Levels) (told : Option Told) (p : Part) (d : NamedDesign) : Type 0 where
+  pub name : d.name ≡ p.name
+  pub bytes : List ℕ
+  pub file : IfSome told (λ t. t.files p.file ≡ Some bytes)
+  pub stands : IsWellFormedText ls bytes d.design
+
+-- the files of parts were read in order, and nothing changed
+pub record ReadsParts (ls : Levels) (parts : List Part) (designs : List NamedDesign) (before after : Moment) : Type 0 where
+  pub quiet : Quiet before after
+  pub have : AllZip (HasPart ls before.told) parts designs
+
+-- the command ends at the part of this place, from 0, those before it having designs
+pub record EndsAtPart (ls : Levels) (parts : List Part) (place : ℕ) (why : Stopped) (before after : Moment) : Type 0 where
+  pub part : Part
+  pub is_part : slice_get parts place ≡ Some part
+  pub designs : List NamedDesign
+  pub have : AllZip (HasPart ls before.told) (take place parts) designs
+  pub ends : EndsReading part.file (part_file ls part.name) (stop_of part why) before after
+
+-- why a system file gives no parts, and why wires end the command
+
+abbrev pub system_failure : SysFault → Failure
+system_failure system_fault.Memory = failure.Memory
+system_failure fault = failure.Refused (refusal.System fault)
+
+abbrev pub wires_failure : LinkFault → Failure
+wires_failure link_fault.Memory = failure.Memory
+wires_failure fault = failure.Refused (refusal.Wires fault)
+
+-- what linking parts gives: the text of a module, or the first rule that a wire breaks
+abbrev pub Links : Levels → List NamedDesign → List WireText → Result (List ℕ) Failure → Type 0
+Links ls designs wires (Ok text) = KeepsWires (surroundings ls designs) wires × IsLinkedText ls designs wires text
+Links ls designs wires (Err e) =
+    (ending e ≡ no_memory) ⊎ ((fault : LinkFault) × FirstLinkFault (surroundings ls designs) wires fault × (ending e ≡ refused (wires_refused fault)))
