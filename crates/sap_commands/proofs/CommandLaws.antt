@@ -13,7 +13,7 @@ use Rattle.sap_sim.specs.Simulated.{read_for as module_stimulus}
 use Rattle.sap_files.specs.Ending.{Ending, Refusal, done, refused, failed, no_memory, taint_refused, status_of, status_of_refusal, IsFree}
 use Rattle.sap_files.specs.Kinds.{assembly_file, design_file, design_text_file, lattice_file, module_file, module_stream_file, stream_file, wave_file}
 use Rattle.sap_files.specs.Compared.{IsVerdict}
-use Rattle.sap_files.specs.Tainting.{FirstClash, with_tags}
+use Rattle.sap_files.specs.Tainting.{FirstClash, tagged_or_refused}
 use Rattle.sap_taint_pass.specs.declared.fault.TaintFault.TheVariants.{Clash}
 use Rattle.sap_taint.proofs.Clashes.{no_clash_with_room, one_clash}
 use Rattle.sap_net.specs.Net.{Net}
@@ -69,7 +69,7 @@ lawful_programs text_of first second =
 
 -- a module with tags
 
-lawful_tags : (ls : Levels) (net : Net) (out : List ℕ) (clash : Option (List ℕ)) → AreLawful (with_tags ls net out clash)
+lawful_tags : (ls : Levels) (net : Net) (out : List ℕ) (clash : Option (List ℕ)) → AreLawful (tagged_or_refused ls net out clash)
 lawful_tags ls net out None = tt
 lawful_tags ls net out (Some x) = tt
 

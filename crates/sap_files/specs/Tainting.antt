@@ -35,6 +35,6 @@ FirstClash net None = HasRoomForTags net
 FirstClash net (Some x) = IsClash net x
 
 -- what is written of a module, by its first clash
-abbrev pub with_tags : Levels → Net → (out : List ℕ) → Option (List ℕ) → Asks
-with_tags ls net out None = writes out (IsTaintedText ls net)
-with_tags ls net out (Some x) = stops (taint_refused (Clash x))
+abbrev pub tagged_or_refused : Levels → Net → (out : List ℕ) → Option (List ℕ) → Asks
+tagged_or_refused ls net out None = writes out (IsTaintedText ls net)
+tagged_or_refused ls net out (Some x) = stops (taint_refused (Clash x))
