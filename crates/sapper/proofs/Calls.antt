@@ -14,7 +14,7 @@ use Rattle.sap_files.specs.After.{Blames, Stands}
 use Rattle.sap_files.specs.Outside.{FullFile, FullOutput, OutsideOf}
 use Rattle.sap_files.specs.Steps.{Ends, FaultRose, Left, Moment, ending, ending_of}
 use Rattle.sap_files.specs.declared.failure.Failure.{Failure}
-use Rattle.sap_files.specs.declared.failure.Failure.TheVariants.{Refused, Desk, Memory}
+use Rattle.sap_files.specs.declared.failure.Failure.TheVariants.{Refused, Desk, PartFile, Memory}
 use Rattle.sapper.specs.Answers.{Answers, MayAnswer}
 use Rattle.sapper.specs.Exact.{Exact}
 use Rattle.sapper.specs.Outside.{FullLines, Outside}
@@ -124,6 +124,7 @@ told_end a e answer b c d ended r = elim r.is_it [
 not_done : (f : Failure) → done ≡ ending f → ⊥
 not_done (Refused why) is = cc
 not_done (Desk name) is = cc
+not_done (PartFile name) is = cc
 not_done Memory is = cc
 
 pub told_not_done : (f : Failure) (answer : ℕ) (b c : Moment) → Reports (ending f) answer b c → answer ≢ 0

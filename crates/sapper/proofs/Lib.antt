@@ -1,5 +1,6 @@
 pub mod Calls
 pub mod Headline
 pub mod Waves
+pub mod Links
 pub mod Taints
 pub mod Machines

@@ -6,6 +6,7 @@ use Rattle.sap_files.specs.Steps.{ending, seen}
 use Rattle.sapper.specs.Lines.{Tells}
 use Rattle.sapper.proofs.Calls.{answers, exact, full_lines, lost_once, may_answer, no_words, outside, same_end, silent, told_end, told_not_done, two_words}
 use Rattle.sapper.proofs.Headline.{headline_told}
+use Rattle.sapper.proofs.Links.{links_told}
 use Rattle.sapper.proofs.Machines.{machines_told}
 use Rattle.sapper.proofs.Taints.{taints_told}
 use Rattle.sapper.proofs.Waves.{unwaves_told, waves_told}
@@ -147,6 +148,18 @@ returns-in-Some-Err-clause-machines g c = machines_told (map string_bytes c.args
 
 pub returns-in-None-clause-machines : goal.returns-in-None-clause-machines
 returns-in-None-clause-machines g c = machines_told (map string_bytes c.args.words.now) _ _ 2 _ _ (returns-in-None-clause-answers g c)
+
+pub returns-in-Some-Ok-clause-links : goal.returns-in-Some-Ok-clause-links
+returns-in-Some-Ok-clause-links g c =
+    links_told (map string_bytes c.args.words.now) _ _ 0 _ _ (returns-in-Some-Ok-clause-answers g c) (returns-in-Some-Ok-clause-exact g c)
+
+pub returns-in-Some-Err-clause-links : goal.returns-in-Some-Err-clause-links
+returns-in-Some-Err-clause-links g c =
+    links_told (map string_bytes c.args.words.now) _ _ c.report.result _ _ (returns-in-Some-Err-clause-answers g c) (returns-in-Some-Err-clause-exact g c)
+
+pub returns-in-None-clause-links : goal.returns-in-None-clause-links
+returns-in-None-clause-links g c =
+    links_told (map string_bytes c.args.words.now) _ _ 2 _ _ (returns-in-None-clause-answers g c) (returns-in-None-clause-exact g c)
 
 pub returns-in-Some-Ok-clause-taints : goal.returns-in-Some-Ok-clause-taints
 returns-in-Some-Ok-clause-taints g c =
