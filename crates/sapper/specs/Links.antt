@@ -17,7 +17,6 @@ use Rattle.sap_system.specs.declared.file.WireText.{WireText}
 use Rattle.sap_system.specs.declared.link_fault.LinkFault.{LinkFault}
 use Rattle.sap_link.specs.Systems.{Wire}
 use Rattle.sap_linked.specs.Designs.{NamedDesign, named_system}
-use Rattle.sap_linked.specs.Parts.{NamedSystem}
 use Rattle.sap_linked.specs.Standing.{NetStandsForSystem}
 use Rattle.sap_linked_small.specs.Laws.{NetStartsAsSystem}
 use Rattle.sap_linked_agree.specs.Agree.{SystemRunsAgree, SystemRunsLookAlike, HasOneRunOnStreams}
