@@ -1,5 +1,5 @@
 -- What each command asks is lawful.
-use Rattle.std.proofs.Common.{◌≡◌, ℕ, List, refl, sym, ◌∙◌, ap, inl, inr, ◌⊎◌, arith}
+use Rattle.std.proofs.Common.{◌≡◌, ℕ, List, [], ◌∷◌, refl, sym, ◌∙◌, ap, inl, inr, ◌⊎◌, arith}
 use Rattle.std.specs.Prelude.{Option, Some, None}
 use Rattle.sap_lattice.specs.Levels.{Levels, order_of}
 use Rattle.sap_lattice.specs.Order.{Order}
@@ -10,15 +10,21 @@ use Rattle.sap_stream.specs.declared.apart.Apart.{Apart}
 use Rattle.sap_stream.proofs.Agreeing.{at_most_one}
 use Rattle.sap_sim.specs.Labelled.RunOf.{read_for as design_stimulus}
 use Rattle.sap_sim.specs.Simulated.{read_for as module_stimulus}
-use Rattle.sap_files.specs.Ending.{Ending, Refusal, done, refused, failed, no_memory, taint_refused, status_of, status_of_refusal, IsFree}
+use Rattle.sap_files.specs.Ending.{Ending, Refusal, done, refused, failed, no_memory, taint_refused, wires_refused, status_of, status_of_refusal, IsFree}
 use Rattle.sap_files.specs.Kinds.{assembly_file, design_file, design_text_file, lattice_file, module_file, module_stream_file, stream_file, wave_file}
 use Rattle.sap_files.specs.Compared.{IsVerdict}
 use Rattle.sap_files.specs.Tainting.{FirstClash, tagged_or_refused}
 use Rattle.sap_taint_pass.specs.declared.fault.TaintFault.TheVariants.{Clash}
 use Rattle.sap_taint.proofs.Clashes.{no_clash_with_room, one_clash}
 use Rattle.sap_net.specs.Net.{Net}
-use Rattle.sap_words.specs.Words.{Words, IsTwin, compile, run, trace, fmt, sim, taint, wave, unwave, report, twin, gen, machine, asm, cpu, command_of}
+use Rattle.sap_words.specs.Words.{Words, IsTwin, compile, link, run, trace, fmt, sim, taint, wave, unwave, report, twin, gen, machine, asm, cpu, command_of}
 use Rattle.sap_machine.specs.Text.{stimulus_text, users_text}
+use Rattle.sap_system.specs.declared.file.Part.{Part}
+use Rattle.sap_system.specs.declared.file.WireText.{WireText}
+use Rattle.sap_linked.specs.Designs.{NamedDesign}
+use Rattle.sap_linking.specs.Asked.{asks_parts, asks_wired}
+use Rattle.sap_linking.specs.Kinds.{part_file, system_file}
+use Rattle.sap_linking.proofs.Lawful.{lawful_link}
 use Rattle.sap_files.specs.Uncompiled.{asks_programs}
 use Rattle.sap_files.specs.Asks.{Asks, file, by, AreLawful, MayEnd, end_of}
 use Rattle.sap_commands.specs.Commands.{OneCause, OneOutput, asks, asks_for, asks_if, at_level, compared}
@@ -83,6 +89,7 @@ one_first_clash net (Some x) (Some y) a b = ap (λ (z : List ℕ). Some z) (one_
 
 lawful : (c : Words) → AreLawful (asks c)
 lawful (compile lattice design out) = (lattice_lawful, λ bytes ls a. (design_lawful ls, λ source d b. tt))
+lawful (link lattice system out) = lawful_link lattice system out
 lawful (run lattice design stimulus) =
     (lattice_lawful, λ bytes ls a. (design_lawful ls, λ source d b. λ found text other x y. x.1.text ∙ sym y.1.text))
 lawful (trace lattice design stimulus) =
@@ -150,6 +157,24 @@ wave_two e bytes why is refusal two = not_two e why 10 is (ap status_of_refusal 
 assembly_two : (place : ℕ) (e : Ending) (bytes : List ℕ) (why : Refusal) → e ≡ refused why → (assembly_file place).Refused bytes why → status_of e ≡ 2 → ⊥
 assembly_two place e bytes why is refusal two = not_two e why 11 is (ap status_of_refusal refusal.1) (λ x. omega (arith, x)) two
 
+-- and of a system, or of a part of one, or what its wires come to
+
+system_two : (e : Ending) (bytes : List ℕ) (why : Refusal) → e ≡ refused why → system_file.Refused bytes why → status_of e ≡ 2 → ⊥
+system_two e bytes why is refusal two = not_two e why 9 is (ap status_of_refusal refusal.1) (λ x. omega (arith, x)) two
+
+part_two : (ls : Levels) (part : List ℕ) (e : Ending) (bytes : List ℕ) (why : Refusal) → e ≡ refused why → (part_file ls part).Refused bytes why → status_of e ≡ 2 → ⊥
+part_two ls part e bytes why is refusal two = not_two e why 1 is (ap status_of_refusal refusal.1) (λ x. omega (arith, x)) two
+
+wired_two : (ls : Levels) (texts : List WireText) (out : List ℕ) (ds : List NamedDesign) (e : Ending) → MayEnd (asks_wired ls texts out ds) e → status_of e ≡ 2 → ⊥
+wired_two ls texts out ds e (None, keeps, is) two = is_done e is two
+wired_two ls texts out ds e (Some fault, first, is) two = not_two e (wires_refused fault) 9 is refl (λ nine. omega (arith, nine)) two
+
+parts_two : (ls : Levels) (ps : List Part) (rest : List NamedDesign → Asks) (e : Ending) → ((ds : List NamedDesign) → MayEnd (rest ds) e → status_of e ≡ 2 → ⊥)
+    → MayEnd (asks_parts ls ps rest) e → status_of e ≡ 2 → ⊥
+parts_two ls [] rest e other may two = other [] may two
+parts_two ls (p ∷ ps) rest e other (inl (source, why, is, r)) two = part_two ls p.name e source why is r two
+parts_two ls (p ∷ ps) rest e other (inr (source, d, a, may)) two = parts_two ls ps _ e (λ ds. other (record { name = p.name; design = d } ∷ ds)) may two
+
 programs_two : (text_of : (a b : List ℕ) → List ℕ) (first second : List ℕ) (e : Ending) → MayEnd (asks_programs text_of first second) e → status_of e ≡ 2 → ⊥
 programs_two text_of first second e (inl (bytes, why, is, r)) two = assembly_two 1 e bytes why is r two
 programs_two text_of first second e (inr (bytes, words, a, inl (text, why, is, r))) two = assembly_two 2 e text why is r two
@@ -160,6 +185,10 @@ two_twin (twin lattice design first second level) e may two = (lattice, design, 
 two_twin (compile lattice design out) e (inl (bytes, why, is, r)) two = absurd (lattice_two e bytes why is r two)
 two_twin (compile lattice design out) e (inr (bytes, ls, a, inl (source, why, is, r))) two = absurd (design_two ls e source why is r two)
 two_twin (compile lattice design out) e (inr (bytes, ls, a, inr (source, d, b, is))) two = absurd (is_done e is two)
+two_twin (link lattice system out) e (inl (bytes, why, is, r)) two = absurd (lattice_two e bytes why is r two)
+two_twin (link lattice system out) e (inr (bytes, ls, a, inl (text, why, is, r))) two = absurd (system_two e text why is r two)
+two_twin (link lattice system out) e (inr (bytes, ls, a, inr (text, s, b, may))) two =
+    absurd (parts_two ls s.parts (asks_wired ls s.wires out) e (λ ds. wired_two ls s.wires out ds e) may two)
 two_twin (run lattice design stimulus) e (inl (bytes, why, is, r)) two = absurd (lattice_two e bytes why is r two)
 two_twin (run lattice design stimulus) e (inr (bytes, ls, a, inl (source, why, is, r))) two = absurd (design_two ls e source why is r two)
 two_twin (run lattice design stimulus) e (inr (bytes, ls, a, inr (source, d, b, (found, is)))) two = absurd (rows_end (design_stimulus ls d found).fault e is two)

@@ -1,13 +1,13 @@
 //! The command `link`.
 
-ghost use Rattle.std.specs.Prelude.{◌≡◌, ◌<◌, IfOk, Some, length, slice_get};
+ghost use Rattle.std.specs.Prelude.{◌≡◌, ◌<◌, IfOk, Some, length, map, slice_get};
 ghost use Rattle.std.specs.List.{AllByRecursion};
 ghost use Rattle.sap_system.specs.Rules.{part_names};
 ghost use Rattle.sap_system.specs.declared.file.Part.{Part as AnyPart};
 ghost use Rattle.sap_files.specs.Steps.{Ends, ending, ending_of, seen};
-ghost use Rattle.sap_linker.specs.Given.{AreOver, design_names, designs_of};
+ghost use Rattle.sap_linker.specs.Given.{design_names};
 ghost use Rattle.sap_linking.specs.Asked.{asks_link};
-ghost use Rattle.sap_linking.specs.Parts.{HasNet, Links, loaded_designs, stop_of, wires_failure};
+ghost use Rattle.sap_linking.specs.Parts.{HasNet, Links, linked_net, loaded_designs, loaded_net, stop_of, wires_failure};
 
 use crate::parts::{LoadedPart, Stopped, StoppedAt};
 use crate::reading::{load_parts, system_of_file};
@@ -43,12 +43,12 @@ fn failure_at<'a>(system: SystemFile, stopped: StoppedAt) -> Failure<'a>
     }
 }
 
-/// The parts by reference.
+/// The parts as they are handed on.
 fn linked_parts<'p>(
     alloc: Global,
     loaded: &'p [LoadedPart],
 ) -> Result<Vec<LinkedPart<'p>>, AllocError>
-    ensures designs { IfOk result (λ parts. designs_of parts.items ≡ loaded_designs loaded.now) }
+    ensures { IfOk result (λ parts. map linked_net parts.items ≡ map loaded_net loaded.now) }
 {
     let mut parts = Vec::new(alloc);
     for part in loaded {

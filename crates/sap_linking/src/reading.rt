@@ -52,7 +52,7 @@ pub(crate) fn system_of_file<'a, D: Desk>(
 }
 
 fn stopped(failure: Failure<'_>) -> Stopped
-    ensures { result ≡ stop_from failure }
+    ensures { result ≡ stop_from failure.entry }
 {
     match failure {
         Failure::Refused(Refusal::Design(fault)) => Stopped::Refused(fault),

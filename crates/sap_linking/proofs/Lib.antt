@@ -1,0 +1,10 @@
+pub mod KindLaws
+pub mod PartEnds
+pub mod Later
+pub mod Asked
+pub mod Loading
+pub mod Alike
+pub mod Linked
+pub mod Lawful
+pub mod Handed
+pub mod Steps

@@ -1,0 +1,83 @@
+-- The parts whose files were read so far.
+use Rattle.std.proofs.Common.{◌≡◌, ◌+◌, ◌≤◌, ℕ, zero, suc, List, [], ◌∷◌, ◌++◌, length, take, map, refl, sym, ◌∙◌, ap, subst, inl, inr, arith}
+use Rattle.std.specs.Prelude.{Option, Some, IfSome, Ok, Err, slice_get}
+use Rattle.std.specs.List.{AllByRecursion, AllZip}
+use Rattle.std.proofs.lemmas.Option.{none-some, same_Some}
+use Rattle.sap_desk.specs.Desk.{Told}
+use Rattle.sap_lattice.specs.Levels.{Levels}
+use Rattle.sap_system.specs.declared.file.Part.{Part}
+use Rattle.sap_linked.specs.Designs.{NamedDesign}
+use Rattle.sap_files.specs.Steps.{Moment, Quiet}
+use Rattle.sap_files.proofs.Ended.{quiet_self, quiet_then}
+use Rattle.sap_lemmas.proofs.Everywhere.{all_append}
+use Rattle.sap_linking.specs.Parts.{EndsAtPart, GetsPart, HasNet, HasPart, ReadsPart, ReadsParts, loaded_design, loaded_designs}
+use Rattle.sap_linking.specs.declared.parts.LoadedPart.{LoadedPart}
+use Rattle.sap_linking.specs.declared.parts.Stopped.{Stopped}
+use Rattle.sap_linking.specs.declared.parts.Stopped.TheVariants.{Memory}
+use Rattle.sap_linking.proofs.Later.{reading_ends_later}
+use Rattle.sap_linking.proofs.PartEnds.{starved_there}
+
+-- the files of so many parts were read
+pub record HaveLoaded (ls : Levels) (parts : List Part) (count : ℕ) (loaded : List LoadedPart) (before now : Moment) : Type 0 where
+  pub quiet : Quiet before now
+  pub have : AllZip (HasPart ls before.told) (take count parts) (loaded_designs loaded)
+  pub nets : AllByRecursion (HasNet ls) loaded
+
+pub none_loaded : (ls : Levels) (parts : List Part) (loaded : List LoadedPart) (m : Moment) → loaded ≡ [] → HaveLoaded ls parts 0 loaded m m
+none_loaded ls parts loaded m none =
+    subst (λ (l : List LoadedPart). HaveLoaded ls parts 0 l m m) (sym none) (record { quiet = quiet_self m; have = no_parts parts; nets = tt })
+  where
+    no_parts : (ps : List Part) → AllZip (HasPart ls m.told) (take 0 ps) []
+    no_parts [] = tt
+    no_parts (p ∷ ps) = tt
+
+designs_more : (loaded : List LoadedPart) (one : LoadedPart) → loaded_designs loaded ++ loaded_design one ∷ [] ≡ loaded_designs (loaded ++ one ∷ [])
+designs_more [] one = refl
+designs_more (l ∷ ls) one = ap (λ (ds : List NamedDesign). loaded_design l ∷ ds) (designs_more ls one)
+
+module _ {A B : Type 0} (R : A → B → Type 0) where
+  zip_more : (xs : List A) (k : ℕ) (x : A) (ys : List B) (y : B) → slice_get xs k ≡ Some x → AllZip R (take k xs) ys → R x y → AllZip R (take (suc k) xs) (ys ++ y ∷ [])
+  zip_more [] k x ys y at all is = absurd (none-some x at)
+  zip_more (z ∷ zs) zero x [] y at all is = (subst (λ (w : A). R w y) (sym (same_Some z x at)) is, tt)
+  zip_more (z ∷ zs) zero x (v ∷ vs) y at all is = absurd all
+  zip_more (z ∷ zs) (suc k) x [] y at all is = absurd all
+  zip_more (z ∷ zs) (suc k) x (v ∷ vs) y at all is = (all.0, zip_more zs k x vs y at all.1 is)
+
+module _ {ls : Levels} {parts : List Part} {k : ℕ} {loaded : List LoadedPart} {a b c : Moment} (so_far : HaveLoaded ls parts k loaded a b) (p : Part) (at : slice_get parts k ≡ Some p) where
+  has : (d : NamedDesign) → ReadsPart ls p d b c → HasPart ls a.told p d
+  has d r = record {
+    name = r.name;
+    bytes = r.bytes;
+    file = subst (λ (o : Option Told). IfSome o (λ t. t.files p.file ≡ Some r.bytes)) so_far.quiet.told r.reads.file;
+    stands = r.stands;
+  }
+
+  -- one more
+  pub one_more : (one : LoadedPart) → GetsPart ls p (Ok one) b c → HaveLoaded ls parts (suc k) (loaded ++ one ∷ []) a c
+  one_more one (r, net) = record {
+    quiet = quiet_then so_far.quiet r.reads.quiet;
+    have =
+        subst (AllZip (HasPart ls a.told) (take (suc k) parts)) (designs_more loaded one)
+        (zip_more (HasPart ls a.told) parts k p (loaded_designs loaded) (loaded_design one) at so_far.have (has (loaded_design one) r));
+    nets = all_append (HasNet ls) loaded (one ∷ []) so_far.nets (net, tt);
+  }
+
+  -- the command ends at this one
+  pub stopped_here : (why : Stopped) → GetsPart ls p (Err why) b c → EndsAtPart ls parts k why a c
+  stopped_here why ends =
+      record { part = p; is_part = at; designs = loaded_designs loaded; have = so_far.have; ends = reading_ends_later so_far.quiet ends }
+
+  -- there is no room for it
+  pub no_room : (one : LoadedPart) → GetsPart ls p (Ok one) b c → EndsAtPart ls parts k Memory a c
+  no_room one (r, net) = record {
+    part = p;
+    is_part = at;
+    designs = loaded_designs loaded;
+    have = so_far.have;
+    ends = reading_ends_later so_far.quiet (starved_there ls p b c r.bytes r.reads);
+  }
+
+pub all_loaded : {ls : Levels} {parts : List Part} {k : ℕ} {loaded : List LoadedPart} {a b : Moment} → HaveLoaded ls parts k loaded a b → take k parts ≡ parts
+    → ReadsParts ls parts (loaded_designs loaded) a b
+all_loaded {ls = ls} {loaded = loaded} {a = a} so_far all =
+    record { quiet = so_far.quiet; have = subst (λ (ps : List Part). AllZip (HasPart ls a.told) ps (loaded_designs loaded)) all so_far.have }

@@ -1,0 +1,62 @@
+-- From the steps of `link` to how the whole ends.
+use Rattle.std.proofs.Common.{◌≡◌, ℕ, List, sym, subst}
+use Rattle.std.specs.Prelude.{Some, Ok, Err, slice_get}
+use Rattle.sap_lattice.specs.Levels.{Levels}
+use Rattle.sap_latfile.specs.OneLattice.{AreSame}
+use Rattle.sap_system.specs.Listing.{Listing}
+use Rattle.sap_system.specs.declared.file.Part.{Part}
+use Rattle.sap_linked.specs.Designs.{NamedDesign}
+use Rattle.sap_files.specs.Ending.{Ending}
+use Rattle.sap_files.specs.Kinds.{IsLatticeFile}
+use Rattle.sap_files.specs.Asks.{Asks, writes}
+use Rattle.sap_files.specs.Steps.{Ends, EndsReading, Moment, Reads, ending, whole}
+use Rattle.sap_files.specs.declared.failure.Failure.{Failure}
+use Rattle.sap_files.proofs.Ended.{got, past, reading_ended}
+use Rattle.sap_files.proofs.Lattices.{whole_same}
+use Rattle.sap_linking.specs.Asked.{asks_link, asks_parts, asks_wired}
+use Rattle.sap_linking.specs.Kinds.{system_file}
+use Rattle.sap_linking.specs.Parts.{EndsAtPart, Links, ReadsParts, stop_of}
+use Rattle.sap_linking.specs.declared.parts.Stopped.{Stopped}
+use Rattle.sap_linking.proofs.Alike.{ends_in, links_in, reads_in}
+use Rattle.sap_linking.proofs.Asked.{part_stopped, parts_read}
+use Rattle.sap_linking.proofs.Linked.{linked_ended, unlinked_ended}
+
+module _ {lattice system out bytes : List ℕ} {a b c : Moment} (k : Levels) (reads : Reads lattice bytes a b) (stands : IsLatticeFile bytes (whole k)) where
+  abbrev ls : Levels
+  ls = whole k
+
+  same : AreSame k ls
+  same = whole_same bytes k stands
+
+  -- SYSTEM is no system
+  pub not_listed : {e : Ending} → EndsReading system system_file e b c → Ends (asks_link lattice system out) e a c
+  not_listed ends = past ls reads stands (reading_ended ends)
+
+  module _ {d : Moment} (s : Listing) (listed : (text : List ℕ) × Reads system text b c × system_file.Stands text s) (ps : List Part) (is : ps ≡ s.parts) where
+    abbrev asked : Asks
+    asked = asks_parts ls s.parts (asks_wired ls s.wires out)
+
+    behind : {e : Ending} {f : Moment} → Ends asked e c f → Ends (asks_link lattice system out) e a f
+    behind ended = past ls reads stands (got s listed ended)
+
+    read_in : (ds : List NamedDesign) → ReadsParts k ps ds c d → ReadsParts ls s.parts ds c d
+    read_in ds parts = subst (λ (qs : List Part). ReadsParts ls qs ds c d) is (reads_in k ls same parts)
+
+    -- a part is not loaded
+    pub stopped : (place : ℕ) (why : Stopped) (failure : Failure) → EndsAtPart k ps place why c d
+        → ((p : Part) → slice_get s.parts place ≡ Some p → ending failure ≡ stop_of p why) → Ends (asks_link lattice system out) (ending failure) a d
+    stopped place why failure at told =
+        let there : EndsAtPart ls s.parts place why c d = subst (λ (qs : List Part). EndsAtPart ls qs place why c d) is (ends_in k ls same at) in
+        behind (subst (λ (e : Ending). Ends asked e c d) (sym (told there.part there.is_part)) (part_stopped s.parts place why there))
+
+    -- the wires give no module
+    pub not_linked : (ds : List NamedDesign) (failure : Failure) → ReadsParts k ps ds c d → Links k ds s.wires (Err failure)
+        → Ends (asks_link lattice system out) (ending failure) a d
+    not_linked ds failure parts links =
+        behind (parts_read s.parts ds (read_in ds parts) (unlinked_ended ls ds s.wires out failure d (links_in k ls same ds s.wires (Err failure) links)))
+
+    -- they give one
+    pub linked : {e : Ending} {f : Moment} (ds : List NamedDesign) (text : List ℕ) → ReadsParts k ps ds c d → Links k ds s.wires (Ok text)
+        → Ends (writes out (λ written. written ≡ text)) e d f → Ends (asks_link lattice system out) e a f
+    linked ds text parts links ended =
+        behind (parts_read s.parts ds (read_in ds parts) (linked_ended ls ds s.wires out text (links_in k ls same ds s.wires (Ok text) links) ended))
