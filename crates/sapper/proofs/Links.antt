@@ -24,7 +24,7 @@ use Rattle.sap_files.proofs.Lattices.{lattice_lawful}
 use Rattle.sap_files.proofs.Modules.{one_module}
 use Rattle.sap_linking.specs.Kinds.{part_file, system_file}
 use Rattle.sap_linking.specs.Asked.{IsLinkedText, asks_parts, asks_wired}
-use Rattle.sap_linking.proofs.Kinds.{part_lawful, system_lawful}
+use Rattle.sap_linking.proofs.KindLaws.{part_lawful, system_lawful}
 use Rattle.sap_commands.specs.Commands.{asks, asks_for, asks_if}
 use Rattle.sap_commands.proofs.CommandLaws.{one_cause_lem}
 use Rattle.sapper.specs.Answers.{Answers}
