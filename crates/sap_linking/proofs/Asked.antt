@@ -47,12 +47,12 @@ module _ (ls : Levels) (e : Ending) (a b : Moment) where
       past_part q d ps rest have.0 (at_part ps place p ds (λ designs. rest (called q.name d ∷ designs)) is have.1 ends)
 
 -- all were read, and what is asked behind them ends so
-pub parts_read : {ls : Levels} {rest : List NamedDesign → Asks} {e : Ending} {a b c : Moment} (parts : List Part) (designs : List NamedDesign)
+pub parts_read : {ls : Levels} {e : Ending} {a b c : Moment} (rest : List NamedDesign → Asks) (parts : List Part) (designs : List NamedDesign)
     → ReadsParts ls parts designs a b → Ends (rest designs) e b c → Ends (asks_parts ls parts rest) e a c
-parts_read {ls = ls} {rest = rest} {e = e} {a = a} {c = c} parts designs reads ended = past_parts ls e a c parts designs rest reads.have (ends_later reads.quiet ended)
+parts_read {ls = ls} {e = e} {a = a} {c = c} rest parts designs reads ended = past_parts ls e a c parts designs rest reads.have (ends_later reads.quiet ended)
 
 -- or the command ends at one of them
-pub part_stopped : {ls : Levels} {rest : List NamedDesign → Asks} {a b : Moment} (parts : List Part) (place : ℕ) (why : Stopped) (at : EndsAtPart ls parts place why a b)
+pub part_stopped : {ls : Levels} {a b : Moment} (rest : List NamedDesign → Asks) (parts : List Part) (place : ℕ) (why : Stopped) (at : EndsAtPart ls parts place why a b)
     → Ends (asks_parts ls parts rest) (stop_of at.part why) a b
-part_stopped {ls = ls} {rest = rest} {a = a} {b = b} parts place why at =
+part_stopped {ls = ls} {a = a} {b = b} rest parts place why at =
     at_part ls (stop_of at.part why) a b parts place at.part at.designs rest at.is_part at.have at.ends

@@ -1,6 +1,6 @@
 -- The parts whose files were read so far.
-use Rattle.std.proofs.Common.{◌≡◌, ◌+◌, ◌≤◌, ℕ, zero, suc, List, [], ◌∷◌, ◌++◌, length, take, map, refl, sym, ◌∙◌, ap, subst, inl, inr, arith}
-use Rattle.std.specs.Prelude.{Option, Some, IfSome, Ok, Err, slice_get}
+use Rattle.std.proofs.Common.{◌≡◌, ◌+◌, ◌<◌, ◌≤◌, get_or, Bool, false, ℕ, zero, suc, List, [], ◌∷◌, ◌++◌, length, take, map, refl, sym, ◌∙◌, ap, subst, inl, inr, arith}
+use Rattle.std.specs.Prelude.{Option, Some, IfSome, Ok, Err, not, if◌then◌else◌, slice_get}
 use Rattle.std.specs.List.{AllByRecursion, AllZip}
 use Rattle.std.proofs.lemmas.Option.{none-some, same_Some}
 use Rattle.sap_desk.specs.Desk.{Told}
@@ -10,12 +10,23 @@ use Rattle.sap_linked.specs.Designs.{NamedDesign}
 use Rattle.sap_files.specs.Steps.{Moment, Quiet}
 use Rattle.sap_files.proofs.Ended.{quiet_self, quiet_then}
 use Rattle.sap_lemmas.proofs.Everywhere.{all_append}
+use Rattle.sap_linking.specs.Kinds.{part_file}
 use Rattle.sap_linking.specs.Parts.{EndsAtPart, GetsPart, HasNet, HasPart, ReadsPart, ReadsParts, loaded_design, loaded_designs}
 use Rattle.sap_linking.specs.declared.parts.LoadedPart.{LoadedPart}
 use Rattle.sap_linking.specs.declared.parts.Stopped.{Stopped}
 use Rattle.sap_linking.specs.declared.parts.Stopped.TheVariants.{Memory}
 use Rattle.sap_linking.proofs.Later.{reading_ends_later}
 use Rattle.sap_linking.proofs.PartEnds.{starved_there}
+
+-- what an element at a place is, by its place
+pub there : {A : Type 0} (xs : List A) (k : ℕ) (x : A) → k < length xs → x ≡ get_or xs k x → slice_get xs k ≡ Some x
+there [] k x low is = absurd (omega (arith, low))
+there (y ∷ ys) zero x low is = ap Some (sym is)
+there (y ∷ ys) (suc k) x low is = there ys k x (omega (arith, low)) is
+
+-- what stands behind a push that succeeded
+pub pushed : {A : Type 0} (made old more : List A) (ok failed : Bool) → made ≡ (if ok then more else old) → ok ≡ not failed → failed ≡ false → made ≡ more
+pushed made old more ok failed is negation none = is ∙ ap (λ (b : Bool). if b then more else old) (negation ∙ ap not none)
 
 -- the files of so many parts were read
 pub record HaveLoaded (ls : Levels) (parts : List Part) (count : ℕ) (loaded : List LoadedPart) (before now : Moment) : Type 0 where
@@ -65,7 +76,7 @@ module _ {ls : Levels} {parts : List Part} {k : ℕ} {loaded : List LoadedPart} 
   -- the command ends at this one
   pub stopped_here : (why : Stopped) → GetsPart ls p (Err why) b c → EndsAtPart ls parts k why a c
   stopped_here why ends =
-      record { part = p; is_part = at; designs = loaded_designs loaded; have = so_far.have; ends = reading_ends_later so_far.quiet ends }
+      record { part = p; is_part = at; designs = loaded_designs loaded; have = so_far.have; ends = reading_ends_later so_far.quiet (part_file ls p.name) ends }
 
   -- there is no room for it
   pub no_room : (one : LoadedPart) → GetsPart ls p (Ok one) b c → EndsAtPart ls parts k Memory a c
@@ -74,10 +85,21 @@ module _ {ls : Levels} {parts : List Part} {k : ℕ} {loaded : List LoadedPart} 
     is_part = at;
     designs = loaded_designs loaded;
     have = so_far.have;
-    ends = reading_ends_later so_far.quiet (starved_there ls p b c r.bytes r.reads);
+    ends = reading_ends_later so_far.quiet (part_file ls p.name) (starved_there ls p b c r.bytes r.reads);
   }
 
 pub all_loaded : {ls : Levels} {parts : List Part} {k : ℕ} {loaded : List LoadedPart} {a b : Moment} → HaveLoaded ls parts k loaded a b → take k parts ≡ parts
     → ReadsParts ls parts (loaded_designs loaded) a b
 all_loaded {ls = ls} {loaded = loaded} {a = a} so_far all =
     record { quiet = so_far.quiet; have = subst (λ (ps : List Part). AllZip (HasPart ls a.told) ps (loaded_designs loaded)) all so_far.have }
+
+-- the count as a loop has it, and the parts as they stand behind a push
+pub next : {ls : Levels} {parts : List Part} {k : ℕ} {loaded made : List LoadedPart} {a b : Moment} → HaveLoaded ls parts (suc k) loaded a b → made ≡ loaded → HaveLoaded ls parts (k + 1) made a b
+next {ls = ls} {parts = parts} {k = k} {loaded = loaded} {made = made} {a = a} {b = b} so_far is =
+    subst (λ (n : ℕ). HaveLoaded ls parts n made a b) (omega arith) (subst (λ (l : List LoadedPart). HaveLoaded ls parts (suc k) l a b) (sym is) so_far)
+
+-- the same parts by another name of their list
+pub read_as : {ls : Levels} {parts : List Part} {loaded : List LoadedPart} {a b : Moment} (made : List LoadedPart) → made ≡ loaded → ReadsParts ls parts (loaded_designs loaded) a b
+    → ReadsParts ls parts (loaded_designs made) a b
+read_as {ls = ls} {parts = parts} {loaded = loaded} {a = a} {b = b} made is reads =
+    subst (λ (l : List LoadedPart). ReadsParts ls parts (loaded_designs l) a b) (sym is) reads

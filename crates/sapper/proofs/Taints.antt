@@ -13,7 +13,7 @@ use Rattle.sap_words.specs.Words.{Words, taint}
 use Rattle.sap_files.specs.Ending.{Ending, Refusal, done, refused, taint_refused, status_of, line_of}
 use Rattle.sap_files.specs.Kinds.{Has, lattice_file, module_file}
 use Rattle.sap_files.specs.Asks.{Asks, file, by, Cause, Files, Leaves, Written}
-use Rattle.sap_files.specs.Tainting.{FirstClash, IsTaintedText, with_tags}
+use Rattle.sap_files.specs.Tainting.{FirstClash, IsTaintedText, tagged_or_refused}
 use Rattle.sap_files.proofs.Lattices.{lattice_lawful}
 use Rattle.sap_files.proofs.Modules.{module_lawful, one_module}
 use Rattle.sap_taint.proofs.Clashes.{no_clash_with_room}
@@ -40,7 +40,7 @@ tells ls net text is = record {
 
 module _ (lattice verilog out : List ℕ) (answer : ℕ) (t n : Told) where
   abbrev behind_module : Levels → Net → Asks
-  behind_module ls net = by (Option (List ℕ)) (FirstClash net) (with_tags ls net out)
+  behind_module ls net = by (Option (List ℕ)) (FirstClash net) (tagged_or_refused ls net out)
 
   abbrev behind_lattice : Levels → Asks
   behind_lattice ls = file verilog module_file (λ net. behind_module ls net)
