@@ -47,9 +47,6 @@ class Links(Writing):
         text = self.held(out)
         self.counts["parts"] += len(system_in.parts)
         self.counts["wires of systems"] += len(system_in.feeds)
-        if not text.startswith("module"):
-            self.note("OUT holds no module")
-            return []
         module = module_of(text)
         self.interface(system_in, module)
         runs = [rows_and_trace(system_in, stimulus) for stimulus in stimuli]
