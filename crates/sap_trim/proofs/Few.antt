@@ -153,12 +153,11 @@ costs_most : (ws : List Wire) → costs ws ≤ length ws
 costs_most [] = omega arith
 costs_most (w ∷ ws) = let c = cost_most w.right in let r = costs_most ws in omega (arith, c, r)
 
-pub built_few : (n : Net) (taken : Name → Bool) (s t : State) → Begins n s → Walked (Settles taken) s (needed_wires n) t → AllByRecursion (λ w. is_among w.name (port_names n) ≡ false) t.wires → NeedsNoMore n (built n t.wires t.stands)
+pub built_few : (n : Net) (taken : Name → Bool) (s t : State) → Begins n s → Walked (Settles taken) s n.wires t → AllByRecursion (λ w. is_among w.name (port_names n) ≡ false) t.wires → NeedsNoMore n (built n t.wires t.stands)
 built_few n taken s t b k a =
     let outs = map (wire_of t.stands) (shown_wires n) in
-    let few = settles_few taken (needed_wires n) s t k in
+    let few = settles_few taken n.wires s t k in
     let none = begun n s b in
-    let some = costs_needed (port_names n) (edge_reads n) n.wires in
     let before = costs_are n.wires in
     let after = costs_are (t.wires ++ outs) in
     let both = costs_both t.wires outs in
@@ -166,4 +165,4 @@ built_few n taken s t b k a =
     let most = costs_most t.wires in
     let shown = ap length (shown_are n t.wires t.stands a) in
     let same = length-map (shown_wires n) (wire_of t.stands) in
-    omega (arith, few, none, some, before, after, both, copies, most, shown, same)
+    omega (arith, few, none, before, after, both, copies, most, shown, same)

@@ -20,7 +20,7 @@ use Rattle.sap_share.specs.Differing.{AllDiffer}
 use Rattle.sap_trim.specs.Trimmed.{FoldsWires, SharesWires, NamesWires, NumbersWires}
 use Rattle.sap_trim.specs.Walked.{State, Begins, Folds, Settles, StandForThemselves, Walked}
 use Rattle.sap_trim.specs.Folded.{IsFolded}
-use Rattle.sap_trim.specs.Tidied.{Tidied}
+use Rattle.sap_trim.specs.Tidied.{SettledNet, Tidied}
 use Rattle.sap_trim.specs.Needed.{needed_wires}
 use Rattle.sap_trim.specs.Replaced.{Stands}
 use Rattle.sap_trim.specs.Built.{built, wire_of}
@@ -201,9 +201,22 @@ tidied_all n taken kept s t ws r rules is needs b e k numbers o p =
       numbered = dropped_numbers n taken s t d;
       shared = dropped_shares n taken s t d o.differ;
       settled = dropped_folds n taken s t numbers d o;
-      folded = built_folded n numbers t o;
       left = built_left n taken s t b d.settled;
-      few = built_few n taken s t b d.settled (no_ports n taken (readable_after (first_readable n) (needed_wires n)) t d.done.walks);
       read = dropped_reads n taken s t d;
+    }
+    )
+
+pub settled_all : (n : Net) (taken : Name → Bool) (s t : State) (ws : List Wire) (r : Net) → IsNetlist n → ((x : Name) → taken x ≡ is_among x (lasting_names n)) → Begins n s → ws ≡ n.wires → Walked (Settles taken) s ws t → (numbers : RightMap) → Orderly numbers t.wires → r ≡ built n t.wires t.stands → SettledNet n r
+settled_all n taken s t ws r rules is b e k numbers o p =
+    let d = done_fold n taken s t ws rules is b e (settles_walk taken ws s t k) in
+    let all = subst (λ (xs : List Wire). Walked (Settles taken) s xs t) e k in
+    let so = readable_after (first_readable n) n.wires in
+    subst (SettledNet n) (sym p) (
+    record {
+      rules = built_rules n taken so t d.walks;
+      declares = declares_alike n taken n.wires s t d;
+      same = runs_alike n taken n.wires s t d;
+      folded = built_folded n numbers t o;
+      few = built_few n taken s t b all (no_ports n taken so t d.walks);
     }
     )

@@ -18,8 +18,14 @@ pub record Tidied (given : Net) (begin : State) (result : Net) : Type 0 where
   pub numbered : NumbersWires result
   pub shared : SharesWires result
   pub settled : FoldsWires result
-  pub folded : IsFolded result
   pub left : length result.wires ≤ most_left given
-  pub few : NeedsNoMore given result
   -- where the given one is folded and inputs and registers stand for themselves
   pub read : IsFolded given → StandForThemselves given begin → ReadsWires result
+
+-- What holds of a netlist of all wires of another one, each folded by itself.
+pub record SettledNet (given result : Net) : Type 0 where
+  pub rules : IsNetlist result
+  pub declares : DeclaresAlike given result
+  pub same : RunsAlike given result
+  pub folded : IsFolded result
+  pub few : NeedsNoMore given result

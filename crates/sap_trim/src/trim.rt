@@ -9,13 +9,13 @@ ghost use Rattle.sap_fold.specs.Names.{holds};
 ghost use Rattle.sap_fold.specs.Settled.{Orderly};
 ghost use Rattle.sap_trim.specs.Alike.{DeclaresAlike, RunsAlike};
 ghost use Rattle.sap_trim.specs.Built.{built};
-ghost use Rattle.sap_trim.specs.Few.{HasFewWires, NeedsNoMore, most_left};
+ghost use Rattle.sap_trim.specs.Few.{HasFewWires, most_left};
 ghost use Rattle.sap_trim.specs.Folded.{IsFolded};
 ghost use Rattle.sap_trim.specs.Names.{lasting_names, port_names};
 ghost use Rattle.sap_trim.specs.Needed.{needed_wires};
 ghost use Rattle.sap_trim.specs.Reads.{ReadsWires};
 ghost use Rattle.sap_trim.specs.Trimmed.{FoldsWires, NamesWires, NumbersWires, SharesWires};
-ghost use Rattle.sap_trim.specs.Tidied.{Tidied};
+ghost use Rattle.sap_trim.specs.Tidied.{SettledNet, Tidied};
 ghost use Rattle.sap_trim.specs.Walked.{Begins, state_of};
 
 use crate::build::build;
@@ -170,18 +170,32 @@ fn keep(alloc: Global, netlist: &Netlist, needs: Needs, walk: Walk) -> Result<Ne
     Ok(Netlist::new(parts))
 }
 
-/// The netlist of the wires that are needed, each folded by itself, with each register that keeps its start as that number.
-fn share(alloc: Global, netlist: Netlist) -> Result<Netlist, AllocError>
-    ensures declares { IfOk result (λ n. DeclaresAlike netlist n) }
-    ensures same { IfOk result (λ n. RunsAlike netlist n) }
-    ensures folded { IfOk result (λ n. IsFolded n) }
-    ensures few { IfOk result (λ n. NeedsNoMore netlist n) }
+// The wires each folded by itself, with each register that keeps its start as that number.
+fn settled_wires(
+    alloc: Global,
+    netlist: &Netlist,
+    lasting: &HashSet<Vec<u8>>,
+) -> Result<Made, AllocError>
+    requires { (n : spec.Name) → holds lasting.now n ≡ is_among n (lasting_names netlist.now) }
+    ensures { IfOk result (λ m. SettledNet netlist.now (built netlist.now m.wires.items (at_name m.stands))) }
 {
-    let needs = needs_of(alloc, &netlist)?;
-    let walk = Walk::with_starts(alloc, &netlist)?;
-    let shared = keep(alloc, &netlist, needs, walk);
+    netlist.rules();
+    let mut walk = Walk::with_starts(alloc, netlist)?;
+    walk.settle_all(alloc, lasting, netlist.wires())?;
+    Ok(made_by(walk))
+}
+
+/// The netlist with each right side folded by itself, and each register that keeps its start as that number.
+fn share(alloc: Global, netlist: Netlist) -> Result<Netlist, AllocError>
+    ensures { IfOk result (λ n. SettledNet netlist n) }
+{
+    let lasting = names::lasting(alloc, &netlist)?;
+    let shown = names::ports(alloc, &netlist)?;
+    let made = settled_wires(alloc, &netlist, &lasting)?;
+    let Made { wires, stands } = made;
+    let parts = build(alloc, &netlist, &lasting, &shown, &stands, wires)?;
     drop(netlist);
-    shared
+    Ok(Netlist::new(parts))
 }
 
 /// The folded netlist without the wires that nothing reads, the others numbered in order. Inputs and registers stand for themselves here, so that nothing is

@@ -183,6 +183,23 @@ impl Walk {
         self.step(alloc, taken, &wire.name, wire.width, right)
     }
 
+    /// All wires, each right side folded by itself.
+    pub fn settle_all(
+        &mut self,
+        alloc: Global,
+        taken: &HashSet<Vec<u8>>,
+        wires: &[Wire],
+    ) -> Result<(), AllocError>
+        requires { Orderly self.old.wires.numbers self.old.wires.list.items }
+        ensures orderly { OnOk result (Orderly self.new.wires.numbers self.new.wires.list.items) }
+        ensures walked { OnOk result (Walked (Settles (holds taken.now)) (state_of self.old) wires.now (state_of self.new)) }
+    {
+        for wire in wires {
+            self.settle_wire(alloc, taken, wire)?;
+        }
+        Ok(())
+    }
+
     /// A wire with its right side folded, if its name is kept.
     fn settle_if_kept(
         &mut self,

@@ -1,14 +1,10 @@
-use Rattle.std.proofs.lemmas.Result.{IfOk-weaker}
+use Rattle.std.proofs.Common.{◌∙◌, sym, subst}
+use Rattle.sap_net.specs.IsNetlist.{IsNetlist}
+use Rattle.sap_trim.specs.Tidied.{SettledNet}
 use Rattle.sap_trim.proofs.trim.share.Goals as goal
 
-pub returns-clause-declares : goal.returns-clause-declares
-returns-clause-declares c = IfOk-weaker c.keep-shared.result _ _ (λ n h. h.declares) c.keep-shared.ensures
+pub new-requires : goal.new-requires
+new-requires c = subst IsNetlist (sym (c.in_ok-parts.ensures {u = tt})) (c.in_ok-made.ensures {u = tt}).rules
 
-pub returns-clause-same : goal.returns-clause-same
-returns-clause-same c = IfOk-weaker c.keep-shared.result _ _ (λ n h. h.same) c.keep-shared.ensures
-
-pub returns-clause-folded : goal.returns-clause-folded
-returns-clause-folded c = IfOk-weaker c.keep-shared.result _ _ (λ n h. h.folded) c.keep-shared.ensures
-
-pub returns-clause-few : goal.returns-clause-few
-returns-clause-few c = IfOk-weaker c.keep-shared.result _ _ (λ n h. h.few) c.keep-shared.ensures
+pub returns : goal.returns
+returns c = subst (SettledNet c.args.netlist) (sym (c.new.ensures ∙ c.in_ok-parts.ensures {u = tt})) (c.in_ok-made.ensures {u = tt})

@@ -6,12 +6,13 @@ use Rattle.sap_trim.proofs.trim.trim.Goals as goal
 
 pub loop-init : goal.loop-init
 loop-init c =
+    let small = c.in_ok-small.ensures {u = tt} in
     record {
-      declares = c.in_ok-small.ensures.declares;
-      same = c.in_ok-small.ensures.same;
-      folded = c.in_ok-small.ensures.folded;
+      declares = small.declares;
+      same = small.same;
+      folded = small.folded;
       left = c.in_ok-left.ensures {u = tt};
-      few = let most = left_most c.in_ok-small.small in let few = c.in_ok-small.ensures.few in omega (arith, few, most);
+      few = let most = left_most c.in_ok-small.small in let few = small.few in omega (arith, few, most);
     }
 
 pub loop-preserved : goal.loop-preserved
