@@ -35,5 +35,5 @@ abbrev pub SystemRunsLookAlike : NamedSystem → Net → Type 0
 SystemRunsLookAlike s n = OnAgreeingStreams s n (λ p. CyclesLookAlike p.design p.sites)
 
 -- On every stream that fits the system, its levels given as codes, the netlist has exactly one run.
-abbrev pub HasOneRunOnStreams : NamedSystem → Net → Type 0
-HasOneRunOnStreams s n = (stream : List (List Tagged)) → StreamFits (system_of s) stream → HasOneRun n (coded_stream (code_of s.order) stream)
+abbrev pub SystemHasOneRun : NamedSystem → Net → Type 0
+SystemHasOneRun s n = (stream : List (List Tagged)) → StreamFits (system_of s) stream → HasOneRun n (coded_stream (code_of s.order) stream)

@@ -10,7 +10,7 @@ use Rattle.sap_link.specs.Designs.{WellLinked}
 use Rattle.sap_linked.specs.Parts.{NamedSystem}
 use Rattle.sap_linked.specs.Standing.{RunsStand}
 use Rattle.sap_linked.specs.Designs.{NamedDesign, trees, named_system}
-use Rattle.sap_linked_agree.specs.Agree.{SystemRunsAgree, SystemRunsLookAlike, HasOneRunOnStreams}
+use Rattle.sap_linked_agree.specs.Agree.{SystemRunsAgree, SystemRunsLookAlike, SystemHasOneRun}
 
 -- What stands for a system of well-formed designs has runs that agree, and look alike, where their streams agree.
 abbrev pub ModulesAgree : Type 0
@@ -20,4 +20,4 @@ ModulesAgree =
 
 -- And one run on each stream.
 abbrev pub ModulesHaveOneRun : Type 0
-ModulesHaveOneRun = (s : NamedSystem) (n : Net) → IsNetlist n → RunsStand s n → HasOneRunOnStreams s n
+ModulesHaveOneRun = (s : NamedSystem) (n : Net) → IsNetlist n → RunsStand s n → SystemHasOneRun s n

@@ -15,13 +15,13 @@ use Rattle.sap_linked.specs.Designs.{named_system}
 use Rattle.sap_linked_small.specs.Laws.{SmallDesignsStand}
 use Rattle.sap_linked_agree.specs.Laws.{ModulesAgree, ModulesHaveOneRun}
 use Rattle.sap_linker.specs.Laws.{SmallNetsAreModules}
-use Rattle.sap_linker.specs.Modules.{FoldsHelpingWires}
+use Rattle.sap_linker.specs.Modules.{FoldsInnerWires}
 
 names_kept : (ps : List Shown) → map (λ (p : Port). p.name) (map {B = Port} (λ (port : Shown). record { name = port.0; kind = port.1 }) ps) ≡ map (λ (port : Shown). port.0) ps
 names_kept [] = refl
 names_kept (p ∷ ps) = ap (λ (xs : List Name). p.0 ∷ xs) (names_kept ps)
 
-folds : (s : NamedSystem) (nets : ℕ → Net) (small : Net) → small.ports ≡ (linked_net s nets).ports → FoldsWires small → FoldsHelpingWires s (without_fed s small)
+folds : (s : NamedSystem) (nets : ℕ → Net) (small : Net) → small.ports ≡ (linked_net s nets).ports → FoldsWires small → FoldsInnerWires s (without_fed s small)
 folds s nets small same = subst
     (λ (names : List Name). AllByRecursion (λ w. (is_copy w.right ≡ false) × IsSettled w) (filter (λ (w : Wire). not (is_among w.name names)) small.wires))
     (ap (λ (ps : List Port). map (λ (p : Port). p.name) ps) same ∙ names_kept (held_ports s))

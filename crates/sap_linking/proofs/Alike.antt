@@ -25,11 +25,11 @@ use Rattle.sap_linked.specs.Designs.{NamedDesign, named_system, part_of, trees}
 use Rattle.sap_linked.specs.Parts.{NamedSystem}
 use Rattle.sap_linked.specs.Parts.{Part as SystemPart}
 use Rattle.sap_linked_small.specs.Laws.{IsNetOfSystem}
-use Rattle.sap_linked_agree.specs.Agree.{SystemRunsAgree, SystemRunsLookAlike, HasOneRunOnStreams}
+use Rattle.sap_linked_agree.specs.Agree.{SystemRunsAgree, SystemRunsLookAlike, SystemHasOneRun}
 use Rattle.sap_wiring.specs.Wiring.{AreWiresOf}
 use Rattle.sap_linker.specs.Given.{surroundings}
 use Rattle.sap_linker.specs.Linking.{IsLinked}
-use Rattle.sap_linker.specs.Modules.{FoldsHelpingWires, IsModuleOfSystem}
+use Rattle.sap_linker.specs.Modules.{FoldsInnerWires, IsModuleOfSystem}
 use Rattle.sap_files.specs.Ending.{Ending}
 use Rattle.sap_files.specs.Steps.{EndsReading, Moment, Refuses}
 use Rattle.sap_files.specs.declared.failure.Failure.{Failure}
@@ -106,10 +106,10 @@ module _ (l m : Levels) (same : AreSame l m) where
       record {
         linked = well_linked_in (trees ds) wires is.linked;
         stands = subst (λ (s : NamedSystem). IsNetOfSystem s n) alike is.stands;
-        one_run = subst (λ (s : NamedSystem). HasOneRunOnStreams s n) alike is.one_run;
+        one_run = subst (λ (s : NamedSystem). SystemHasOneRun s n) alike is.one_run;
         agree = subst (λ (s : NamedSystem). SystemRunsAgree s n) alike is.agree;
         look_alike = subst (λ (s : NamedSystem). SystemRunsLookAlike s n) alike is.look_alike;
-        folded = subst (λ (s : NamedSystem). FoldsHelpingWires s n) alike is.folded;
+        folded = subst (λ (s : NamedSystem). FoldsInnerWires s n) alike is.folded;
       }
 
   linked_in : (ds : List NamedDesign) (texts : List WireText) (n : Net) → IsLinked l ds texts n → IsLinked m ds texts n

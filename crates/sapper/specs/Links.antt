@@ -19,10 +19,10 @@ use Rattle.sap_link.specs.Systems.{Wire}
 use Rattle.sap_linked.specs.Designs.{NamedDesign, named_system}
 use Rattle.sap_linked.specs.Standing.{NetStandsForSystem}
 use Rattle.sap_linked_small.specs.Laws.{NetStartsAsSystem}
-use Rattle.sap_linked_agree.specs.Agree.{SystemRunsAgree, SystemRunsLookAlike, HasOneRunOnStreams}
+use Rattle.sap_linked_agree.specs.Agree.{SystemRunsAgree, SystemRunsLookAlike, SystemHasOneRun}
 use Rattle.sap_wiring.specs.Wiring.{AreWiresOf}
 use Rattle.sap_linker.specs.Given.{surroundings}
-use Rattle.sap_linker.specs.Modules.{FoldsHelpingWires}
+use Rattle.sap_linker.specs.Modules.{FoldsInnerWires}
 use Rattle.sap_words.specs.Words.{command_of, link}
 use Rattle.sap_files.specs.Ending.{line_of, refused, wires_refused}
 use Rattle.sap_files.specs.Kinds.{Has, IsWellFormedText, lattice_file, design_file}
@@ -44,12 +44,12 @@ pub record MeansSystem (ls : Levels) (designs : List NamedDesign) (texts : List 
   -- its numbers before the first cycle stand for the parts' first states
   pub starts : NetStartsAsSystem (named_system ls designs wires) net
   -- on any stream that fits the free inputs it has one run
-  pub one_run : HasOneRunOnStreams (named_system ls designs wires) net
+  pub one_run : SystemHasOneRun (named_system ls designs wires) net
   -- on streams that agree at or below a level the runs agree there in every cycle, part by part, in states and refusals and in plain numbers
   pub agree : SystemRunsAgree (named_system ls designs wires) net
   pub look_alike : SystemRunsLookAlike (named_system ls designs wires) net
   -- no helping wire is a copy, and no rule for a right side by itself makes one simpler
-  pub folded : FoldsHelpingWires (named_system ls designs wires) net
+  pub folded : FoldsInnerWires (named_system ls designs wires) net
 
 -- the file of a part has the bytes of a design that is well formed, and that has the part's name in the system
 pub record HasDesign (ls : Levels) (t : Told) (p : Part) (d : NamedDesign) : Type 0 where
