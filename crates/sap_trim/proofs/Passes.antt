@@ -17,7 +17,7 @@ use Rattle.sap_fold.specs.Settled.{IsSettled, is_copy, Orderly}
 use Rattle.sap_trim.specs.Names.{numbered, port_names, lasting_names, helping_wires, shown_wires}
 use Rattle.sap_trim.specs.Reads.{edge_reads, IsRead, ReadsWires}
 use Rattle.sap_share.specs.Differing.{AllDiffer}
-use Rattle.sap_trim.specs.Trimmed.{FoldsWires, SharesWires, NamesWires, NumbersWires}
+use Rattle.sap_trim.specs.Trimmed.{CopiesPorts, FoldsWires, SharesWires, NamesWires, NumbersWires}
 use Rattle.sap_trim.specs.Walked.{State, Begins, Folds, Settles, StandForThemselves, Walked}
 use Rattle.sap_trim.specs.Folded.{IsFolded}
 use Rattle.sap_trim.specs.Tidied.{SettledNet, Tidied}
@@ -30,7 +30,7 @@ use Rattle.sap_trim.specs.Alike.{DeclaresAlike, RunsAlike}
 use Rattle.sap_trim.proofs.Built.{Walks, built_rules, registers_named, memories_named, untaken}
 use Rattle.sap_trim.proofs.Cycle.{Done, found_each, runs_alike, declares_alike}
 use Rattle.sap_trim.proofs.Kept.{AgreeOn, needed_fits, needed_agree, needed_within, needed_holds, shown_needed, edge_kept, needed_named, filter_each}
-use Rattle.sap_trim.proofs.Numbered.{Tidy, walk_tidy, begins_tidy, helping_are}
+use Rattle.sap_trim.proofs.Numbered.{Tidy, walk_tidy, begins_tidy, helping_are, shown_are}
 use Rattle.sap_trim.proofs.Read.{walk_reads, all_read}
 use Rattle.sap_trim.proofs.Few.{built_few, built_left}
 use Rattle.sap_trim.proofs.Renaming.{settles_copy}
@@ -158,6 +158,11 @@ copies_are : (e : Stands) (ws : List Wire) → AllByRecursion (λ w. is_copy w.r
 copies_are e [] = tt
 copies_are e (w ∷ ws) = (refl, copies_are e ws)
 
+dropped_copies : (n : Net) (taken : Name → Bool) (s t : State) → Dropped n taken s t → CopiesPorts (built n t.wires t.stands)
+dropped_copies n taken s t d =
+    subst (AllByRecursion (λ w. is_copy w.right ≡ true)) (sym (shown_are n t.wires t.stands (no_ports n taken (readable_after (first_readable n) (needed_wires n)) t d.done.walks)))
+    (copies_are t.stands (shown_wires n))
+
 built_folded : (n : Net) (numbers : RightMap) (t : State) → Orderly numbers t.wires → IsFolded (built n t.wires t.stands)
 built_folded n numbers t o =
     record {
@@ -201,6 +206,7 @@ tidied_all n taken kept s t ws r rules is needs b e k numbers o p =
       numbered = dropped_numbers n taken s t d;
       shared = dropped_shares n taken s t d o.differ;
       settled = dropped_folds n taken s t numbers d o;
+      copies = dropped_copies n taken s t d;
       left = built_left n taken s t b d.settled;
       read = dropped_reads n taken s t d;
     }

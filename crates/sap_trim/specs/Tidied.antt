@@ -6,7 +6,7 @@ use Rattle.sap_trim.specs.Alike.{DeclaresAlike, RunsAlike}
 use Rattle.sap_trim.specs.Few.{NeedsNoMore, most_left}
 use Rattle.sap_trim.specs.Folded.{IsFolded}
 use Rattle.sap_trim.specs.Reads.{ReadsWires}
-use Rattle.sap_trim.specs.Trimmed.{FoldsWires, NamesWires, NumbersWires, SharesWires}
+use Rattle.sap_trim.specs.Trimmed.{CopiesPorts, FoldsWires, NamesWires, NumbersWires, SharesWires}
 use Rattle.sap_trim.specs.Walked.{State, StandForThemselves}
 
 -- What holds of it, where the walk over the given one begins so.
@@ -18,6 +18,7 @@ pub record Tidied (given : Net) (begin : State) (result : Net) : Type 0 where
   pub numbered : NumbersWires result
   pub shared : SharesWires result
   pub settled : FoldsWires result
+  pub copies : CopiesPorts result
   pub left : length result.wires ≤ most_left given
   -- where the given one is folded and inputs and registers stand for themselves
   pub read : IsFolded given → StandForThemselves given begin → ReadsWires result

@@ -1,12 +1,12 @@
--- The helping wires of a netlist: their names and right sides.
-use Rattle.std.specs.Prelude.{◌≡◌, ℕ, false, length}
+-- The wires of a netlist: the names and right sides of helping ones, and the right sides of those that are ports.
+use Rattle.std.specs.Prelude.{◌≡◌, ℕ, true, false, length}
 use Rattle.std.specs.List.{AllByRecursion}
 use Rattle.sap_net.specs.Net.{Net}
 use Rattle.sap_net.specs.IsNetlist.{names_of}
 use Rattle.sap_share.specs.Differing.{AllDiffer}
 use Rattle.sap_share.specs.Names.{helper}
 use Rattle.sap_fold.specs.Settled.{IsSettled, is_copy}
-use Rattle.sap_trim.specs.Names.{numbered, helping_wires, NoneNumbered}
+use Rattle.sap_trim.specs.Names.{numbered, helping_wires, shown_wires, NoneNumbered}
 
 -- No two helping wires have the same width and the same right side.
 abbrev pub SharesWires : Net → Type 0
@@ -15,6 +15,10 @@ SharesWires n = AllDiffer (helping_wires n)
 -- The right side of each helping wire is no copy, and folds to itself.
 abbrev pub FoldsWires : Net → Type 0
 FoldsWires n = AllByRecursion (λ w. (is_copy w.right ≡ false) × IsSettled w) (helping_wires n)
+
+-- Each wire that is a port only copies what it shows.
+abbrev pub CopiesPorts : Net → Type 0
+CopiesPorts n = AllByRecursion (λ w. is_copy w.right ≡ true) (shown_wires n)
 
 -- Each helping wire is named n and a number.
 abbrev pub NamesWires : Net → Type 0

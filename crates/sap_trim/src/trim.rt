@@ -14,7 +14,7 @@ ghost use Rattle.sap_trim.specs.Folded.{IsFolded};
 ghost use Rattle.sap_trim.specs.Names.{lasting_names, port_names};
 ghost use Rattle.sap_trim.specs.Needed.{needed_wires};
 ghost use Rattle.sap_trim.specs.Reads.{ReadsWires};
-ghost use Rattle.sap_trim.specs.Trimmed.{FoldsWires, NamesWires, NumbersWires, SharesWires};
+ghost use Rattle.sap_trim.specs.Trimmed.{CopiesPorts, FoldsWires, NamesWires, NumbersWires, SharesWires};
 ghost use Rattle.sap_trim.specs.Tidied.{SettledNet, Tidied};
 ghost use Rattle.sap_trim.specs.Walked.{Begins, state_of};
 
@@ -210,6 +210,7 @@ fn number(alloc: Global, netlist: Netlist, needs: Needs) -> Result<Netlist, Allo
     ensures numbered { IfOk result (λ n. NumbersWires n) }
     ensures shared { IfOk result (λ n. SharesWires n) }
     ensures settled { IfOk result (λ n. FoldsWires n) }
+    ensures copies { IfOk result (λ n. CopiesPorts n) }
     ensures read { IfOk result (λ n. ReadsWires n) }
     ensures left { IfOk result (λ n. length n.wires ≤ most_left netlist) }
 {
@@ -229,6 +230,7 @@ pub fn trim(alloc: Global, netlist: Netlist) -> Result<Netlist, AllocError>
     ensures numbered { IfOk result (λ n. NumbersWires n) }
     ensures shared { IfOk result (λ n. SharesWires n) }
     ensures folded { IfOk result (λ n. FoldsWires n) }
+    ensures copies { IfOk result (λ n. CopiesPorts n) }
     ensures read { IfOk result (λ n. ReadsWires n) }
     ensures few { IfOk result (λ n. HasFewWires netlist n) }
 {

@@ -19,6 +19,9 @@ returns-clause-shared c = IfOk-weaker c.keep-numbered.result _ _ (λ n h. h.shar
 pub returns-clause-settled : goal.returns-clause-settled
 returns-clause-settled c = IfOk-weaker c.keep-numbered.result _ _ (λ n h. h.settled) c.keep-numbered.ensures
 
+pub returns-clause-copies : goal.returns-clause-copies
+returns-clause-copies c = IfOk-weaker c.keep-numbered.result _ _ (λ n h. h.copies) c.keep-numbered.ensures
+
 pub returns-clause-read : goal.returns-clause-read
 returns-clause-read c = IfOk-weaker c.keep-numbered.result _ _ (λ n h. h.read c.requires.folded c.in_ok-walk.ensures.themselves) c.keep-numbered.ensures
 
