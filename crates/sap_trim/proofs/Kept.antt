@@ -1,14 +1,14 @@
 -- The wires that are needed: they fit without the others, and what is read behind them is found.
-use Rattle.std.proofs.Common.{◌≡◌, ℕ, List, [], ◌∷◌, ◌++◌, filter, Some, None, Bool, true, false, sym, ap, ◌∙◌, subst, refl, inl, inr, append_assoc}
+use Rattle.std.proofs.Common.{◌≡◌, ℕ, List, [], ◌∷◌, ◌++◌, filter, Some, None, true, false, sym, ◌∙◌, subst, refl, inl, inr, append_assoc}
 use Rattle.std.specs.Str.{bytes_eq}
 use Rattle.std.specs.List.{AllByRecursion}
 use Rattle.std.proofs.lemmas.Bool.{cases_Bool, or_parts}
-use Rattle.sap_lemmas.proofs.Texts.{bytes_eq_apart_back, equal_of_bytes_eq}
+use Rattle.sap_lemmas.proofs.Texts.{equal_of_bytes_eq}
 use Rattle.sap_net.proofs.NamesLemmas.{among_behind, among_front, among_here}
 use Rattle.sap_maps.specs.Maps.{Name, Valuation}
 use Rattle.sap_maps.specs.Scope.{Scope, find}
 use Rattle.sap_maps.proofs.Scopes.{not_behind, found_behind}
-use Rattle.sap_net.specs.Names.{is_among, AreDistinct}
+use Rattle.sap_net.specs.Names.{is_among}
 use Rattle.sap_net.specs.declared.parts.Operand.{Operand}
 use Rattle.sap_net.specs.declared.parts.Operand.TheVariants.{Named, Constant}
 use Rattle.sap_net.specs.declared.parts.Right.{Right}
@@ -19,7 +19,6 @@ use Rattle.sap_net.specs.declared.parts.Wire.{Wire}
 use Rattle.sap_net.specs.Rules.{Shapes, IsOperand, AreOperands, IsRight, AreWires, readable_after, IsRegister, IsMemory}
 use Rattle.sap_net.specs.Values.{Holds}
 use Rattle.sap_net.proofs.RulesLemmas.{Grows}
-use Rattle.sap_net.specs.IsNetlist.{names_of}
 use Rattle.sap_trim.specs.Reads.{operand_reads, operands_reads, right_reads, wire_reads, register_reads, memory_reads}
 use Rattle.sap_trim.specs.Needed.{is_needed, needed}
 
@@ -184,47 +183,3 @@ writes_kept so sk (m ∷ ms) a h =
 pub edge_kept : (so sk : Scope) (rs : List Register) (ms : List Memory) → AgreeOn (register_reads rs ++ memory_reads ms) so sk → AllByRecursion (IsRegister so) rs → AllByRecursion (IsMemory so) ms → AllByRecursion (IsRegister sk) rs × AllByRecursion (IsMemory sk) ms
 edge_kept so sk rs ms a h k =
     (nexts_kept so sk rs (on_front (register_reads rs) (memory_reads ms) so sk a) h, writes_kept so sk ms (on_behind (register_reads rs) (memory_reads ms) so sk a) k)
-
--- the needed wires are those of their names
-
-pub filter_each : (f g : Wire → Bool) (ws : List Wire) → AllByRecursion (λ w. f w ≡ g w) ws → filter f ws ≡ filter g ws
-filter_each f g [] a = refl
-filter_each f g (w ∷ ws) a =
-    elim (cases_Bool (g w)) [
-      | inl t ↦ let u : f w ≡ true = a.0 ∙ t in rw (u, t) (ap (λ (xs : List Wire). w ∷ xs) (filter_each f g ws a.1))
-      | inr e ↦ let u : f w ≡ false = a.0 ∙ e in rw (u, e) (filter_each f g ws a.1)
-    ]
-
-needed_among : (P E : List Name) (ws : List Wire) (x : Name) → is_among x (names_of ws) ≡ false → is_among x (names_of (needed P E ws)) ≡ false
-needed_among P E [] x h = refl
-needed_among P E (w ∷ ws) x h =
-    let ks = needed P E ws in
-    let r = or_parts (bytes_eq x w.name) (is_among x (names_of ws)) h in
-    elim (cases_Bool (is_needed P E w ks)) [
-      | inl t ↦ let q = r.0 in rw (t, q) (needed_among P E ws x r.1)
-      | inr e ↦ rw e (needed_among P E ws x r.1)
-    ]
-
-others : (n : Name) (ks : List Wire) (ws : List Wire) → is_among n (names_of ws) ≡ false → AllByRecursion (λ w. is_among w.name (n ∷ names_of ks) ≡ is_among w.name (names_of ks)) ws
-others n ks [] h = tt
-others n ks (w ∷ ws) h =
-    let r = or_parts (bytes_eq n w.name) (is_among n (names_of ws)) h in
-    let q = bytes_eq_apart_back n w.name r.0 in
-    (rw q refl, others n ks ws r.1)
-
-pub needed_named : (P E : List Name) (ws : List Wire) → AreDistinct (names_of ws) → filter (λ w. is_among w.name (names_of (needed P E ws))) ws ≡ needed P E ws
-needed_named P E [] d = refl
-needed_named P E (w ∷ ws) d =
-    let ks = needed P E ws in
-    elim (cases_Bool (is_needed P E w ks)) [
-      | inl t ↦
-          let here : is_among w.name (w.name ∷ names_of ks) ≡ true = among_here w.name (names_of ks) in
-          let rest : filter (λ x. is_among x.name (w.name ∷ names_of ks)) ws ≡ ks =
-          filter_each (λ x. is_among x.name (w.name ∷ names_of ks)) (λ x. is_among x.name (names_of ks)) ws (others w.name ks ws d.0) ∙ needed_named P E ws d.1 in
-          let e : needed P E (w ∷ ws) ≡ w ∷ ks = rw t refl in
-          subst (λ (zs : List Wire). filter (λ x. is_among x.name (names_of zs)) (w ∷ ws) ≡ zs) (sym e) (rw here (ap (λ (xs : List Wire). w ∷ xs) rest))
-      | inr e ↦
-          let gone = needed_among P E ws w.name d.0 in
-          let k : needed P E (w ∷ ws) ≡ ks = rw e refl in
-          subst (λ (zs : List Wire). filter (λ x. is_among x.name (names_of zs)) (w ∷ ws) ≡ zs) (sym k) (rw gone (needed_named P E ws d.1))
-    ]

@@ -13,4 +13,5 @@ pub mod Renaming
 pub mod Passes
 pub mod Few
 pub mod Compose
+pub mod Marked
 pub mod Loops

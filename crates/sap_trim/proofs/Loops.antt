@@ -1,5 +1,5 @@
 -- Steps of loops over the parts of a netlist.
-use Rattle.std.proofs.Common.{◌≡◌, ℕ, ◌-◌, ◌<◌, ◌||◌, List, [], ◌∷◌, ◌++◌, map, drop, length, Option, Some, None, Bool, true, false, sym, ap, ap₂, ◌∙◌, subst, refl, inl, inr, append_assoc, suc, ◌≤◌, get_or, drop-cons, arith}
+use Rattle.std.proofs.Common.{◌≡◌, ℕ, ◌-◌, ◌<◌, ◌||◌, List, [], ◌∷◌, ◌++◌, map, drop, length, Option, Some, None, Bool, true, false, sym, ap, ap₂, ◌∙◌, subst, refl, inl, inr, suc, ◌≤◌, get_or, drop-cons, arith}
 use Rattle.std.specs.Prelude.{◌⊎◌, if◌then◌else◌}
 use Rattle.std.specs.Str.{bytes_eq}
 use Rattle.std.specs.List.{list_any}
@@ -10,7 +10,7 @@ use Rattle.std.specs.Map.{lookup}
 use Rattle.sap_maps.specs.Maps.{Name}
 use Rattle.sap_net.specs.Names.{is_among}
 use Rattle.sap_net.specs.Net.{Net}
-use Rattle.sap_net.specs.IsNetlist.{input_names, register_names, names_of}
+use Rattle.sap_net.specs.IsNetlist.{input_names, register_names}
 use Rattle.sap_net.specs.declared.parts.Port.{Port}
 use Rattle.sap_net.specs.declared.parts.Input.{Input}
 use Rattle.sap_net.specs.declared.parts.Register.{Register}
@@ -20,8 +20,6 @@ use Rattle.sap_net.specs.declared.parts.Operand.TheVariants.{Named, Constant}
 use Rattle.sap_net.specs.declared.parts.Wire.{Wire}
 use Rattle.sap_fold.specs.Names.{NameSet, holds}
 use Rattle.sap_trim.specs.Names.{lasting_names}
-use Rattle.sap_trim.specs.Reads.{register_reads, memory_reads, edge_reads, right_reads, wire_reads}
-use Rattle.sap_trim.specs.Needed.{is_needed}
 use Rattle.sap_lemmas.proofs.Bools.{or_false, or_true}
 use Rattle.sap_lemmas.proofs.Texts.{bytes_eq_apart_back, bytes_eq_same, equal_of_bytes_eq}
 use Rattle.sap_net.proofs.NamesLemmas.{among_append}
@@ -43,14 +41,6 @@ lasting_held n net ps rs ms s0 s1 s2 s3 e p r m a b c =
     let b' : holds s2 n ≡ (is_among n R || is_among n M) = b ∙ ap₂ (λ (xs : List Register) (y : Bool). is_among n (map (λ x. x.name) xs) || y) r a' in
     let c' : holds s3 n ≡ (is_among n P || (is_among n R || is_among n M)) = c ∙ ap₂ (λ (xs : List Port) (y : Bool). is_among n (map (λ x. x.name) xs) || y) p b' in
     c' ∙ sym (among_append n P (R ++ M) ∙ ap (λ (y : Bool). is_among n P || y) (among_append n R M))
-
-pub edge_held : (n : Name) (net : Net) (rs : List Register) (ms : List Memory) (s0 s1 s2 : NameSet) → s0.keys ≡ [] → rs ≡ net.registers → ms ≡ net.memories
-    → holds s1 n ≡ (is_among n (memory_reads ms) || holds s0 n) → holds s2 n ≡ (is_among n (register_reads rs) || holds s1 n) → holds s2 n ≡ is_among n (edge_reads net)
-edge_held n net rs ms s0 s1 s2 e r m a b =
-    let R = register_reads net.registers in
-    let M = memory_reads net.memories in
-    let a' : holds s1 n ≡ is_among n M = a ∙ ap₂ (λ (xs : List Memory) (y : Bool). is_among n (memory_reads xs) || y) m (empty_holds s0 n e) ∙ or_false (is_among n M) in
-    b ∙ ap₂ (λ (xs : List Register) (y : Bool). is_among n (register_reads xs) || y) r a' ∙ sym (among_append n R M)
 
 -- one more name stands for itself
 
@@ -105,31 +95,6 @@ drop_less ws r w p h e =
     let l : k < length ws = omega arith in
     let s : suc k ≡ r = omega arith in
     drop-cons ws k w l ∙ ap₂ (λ (x : Wire) (n : ℕ). x ∷ drop n ws) (sym e) s
-
--- one more wire that may be needed
-pub marked : (P E : List Name) (w : Wire) (ks : List Wire) (ports read after : Name → Bool) → ((n : Name) → ports n ≡ is_among n P) → ((n : Name) → read n ≡ is_among n (wire_reads ks ++ E))
-    → ((n : Name) → after n ≡ (if ports w.name || read w.name then is_among n (right_reads w.right) || read n else read n))
-    → (n : Name) → after n ≡ is_among n (wire_reads (if is_needed P E w ks then w ∷ ks else ks) ++ E)
-marked P E w ks ports read after p r a n =
-    let t : (ports w.name || read w.name) ≡ is_needed P E w ks = ap₂ (λ (x y : Bool). x || y) (p w.name) (r w.name) in
-    let q : after n ≡ (if is_needed P E w ks then is_among n (right_reads w.right) || read n else read n) = a n ∙ ap (λ (x : Bool). if x then is_among n (right_reads w.right) || read n else read n) t in
-    elim (cases_Bool (is_needed P E w ks)) [
-      | inl y ↦
-          let s : after n ≡ (is_among n (right_reads w.right) || read n) = rw y at q in
-          rw y (s ∙ ap (λ (x : Bool). is_among n (right_reads w.right) || x) (r n) ∙ sym (ap (is_among n) (append_assoc (right_reads w.right) (wire_reads ks) E) ∙ among_append n (right_reads w.right) (wire_reads ks ++ E)))
-      | inr y ↦ let s : after n ≡ read n = rw y at q in rw y (s ∙ r n)
-    ]
-
-pub marked_needed : (P E : List Name) (w : Wire) (ks : List Wire) (ports read old new : Name → Bool) → ((n : Name) → ports n ≡ is_among n P) → ((n : Name) → read n ≡ is_among n (wire_reads ks ++ E)) → ((n : Name) → old n ≡ is_among n (names_of ks))
-    → ((n : Name) → new n ≡ (if ports w.name || read w.name then bytes_eq n w.name || old n else old n))
-    → (n : Name) → new n ≡ is_among n (names_of (if is_needed P E w ks then w ∷ ks else ks))
-marked_needed P E w ks ports read old new p r o a n =
-    let t : (ports w.name || read w.name) ≡ is_needed P E w ks = ap₂ (λ (x y : Bool). x || y) (p w.name) (r w.name) in
-    let q : new n ≡ (if is_needed P E w ks then bytes_eq n w.name || old n else old n) = a n ∙ ap (λ (x : Bool). if x then bytes_eq n w.name || old n else old n) t in
-    elim (cases_Bool (is_needed P E w ks)) [
-      | inl y ↦ let s : new n ≡ (bytes_eq n w.name || old n) = rw y at q in rw y (s ∙ ap (λ (x : Bool). bytes_eq n w.name || x) (o n))
-      | inr y ↦ let s : new n ≡ old n = rw y at q in rw y (s ∙ o n)
-    ]
 
 pub inputs_push : (xs : List Input) (y : Input) → map (λ z. z.name) (xs ++ y ∷ []) ≡ map (λ z. z.name) xs ++ y.name ∷ []
 inputs_push [] y = refl

@@ -1,10 +1,9 @@
 -- What is known of the passes.
-use Rattle.std.proofs.Common.{◌≡◌, ℕ, List, [], ◌∷◌, ◌++◌, filter, map, Some, Bool, true, false, sym, ap, ap₂, ◌∙◌, subst, refl, length}
+use Rattle.std.proofs.Common.{◌≡◌, ℕ, List, [], ◌∷◌, ◌++◌, map, Some, Bool, true, false, sym, ap, ap₂, ◌∙◌, subst, refl, length}
 use Rattle.std.specs.List.{AllByRecursion}
 use Rattle.sap_lemmas.proofs.Everywhere.{all_filter, all_follow, all_of_map}
 use Rattle.sap_maps.specs.Maps.{Name}
 use Rattle.sap_maps.specs.Scope.{Scope, find}
-use Rattle.sap_net.proofs.RulesLemmas.{wires_distinct}
 use Rattle.sap_net.specs.Names.{is_among}
 use Rattle.sap_net.specs.Net.{Net}
 use Rattle.sap_net.specs.declared.parts.Wire.{Wire}
@@ -12,7 +11,6 @@ use Rattle.sap_net.specs.Rules.{readable_after}
 use Rattle.sap_net.specs.IsNetlist.{register_names, memory_names, first_readable, readable, shapes, IsNetlist, names_of}
 use Rattle.sap_share.specs.Names.{helper}
 use Rattle.sap_share.specs.Rights.{RightMap}
-use Rattle.sap_fold.specs.Names.{NameSet, holds}
 use Rattle.sap_fold.specs.Settled.{IsSettled, is_copy, Orderly}
 use Rattle.sap_trim.specs.Names.{numbered, port_names, lasting_names, helping_wires, shown_wires}
 use Rattle.sap_trim.specs.Reads.{edge_reads, IsRead, ReadsWires}
@@ -21,7 +19,7 @@ use Rattle.sap_trim.specs.Trimmed.{CopiesPorts, FoldsWires, SharesWires, NamesWi
 use Rattle.sap_trim.specs.Walked.{State, Begins, Folds, Settles, StandForThemselves, Walked}
 use Rattle.sap_trim.specs.Folded.{IsFolded}
 use Rattle.sap_trim.specs.Tidied.{SettledNet, Tidied}
-use Rattle.sap_trim.specs.Needed.{needed_wires}
+use Rattle.sap_trim.specs.Needed.{MarksNeeded, marked, needed_wires}
 use Rattle.sap_trim.specs.Replaced.{Stands}
 use Rattle.sap_trim.specs.Built.{built, wire_of}
 use Rattle.sap_fold.proofs.Lists.{none_among}
@@ -29,7 +27,7 @@ use Rattle.sap_trim.proofs.Follows.{taken_apart, begins_follow, follows_walk, se
 use Rattle.sap_trim.specs.Alike.{DeclaresAlike, RunsAlike}
 use Rattle.sap_trim.proofs.Built.{Walks, built_rules, registers_named, memories_named, untaken}
 use Rattle.sap_trim.proofs.Cycle.{Done, found_each, runs_alike, declares_alike}
-use Rattle.sap_trim.proofs.Kept.{AgreeOn, needed_fits, needed_agree, needed_within, needed_holds, shown_needed, edge_kept, needed_named, filter_each}
+use Rattle.sap_trim.proofs.Kept.{AgreeOn, needed_fits, needed_agree, needed_within, needed_holds, shown_needed, edge_kept}
 use Rattle.sap_trim.proofs.Numbered.{Tidy, walk_tidy, begins_tidy, helping_are, shown_are}
 use Rattle.sap_trim.proofs.Read.{walk_reads, all_read}
 use Rattle.sap_trim.proofs.Few.{built_few, built_left}
@@ -58,15 +56,8 @@ done_fold n taken s t ws rules is b e k =
       walked = walked;
     }
 
-everywhere : (n : Net) (kept : NameSet) (ws : List Wire) → ((x : Name) → holds kept x ≡ is_among x (names_of (needed_wires n))) → AllByRecursion (λ w. holds kept w.name ≡ is_among w.name (names_of (needed_wires n))) ws
-everywhere n kept [] h = tt
-everywhere n kept (w ∷ ws) h = (h w.name, everywhere n kept ws h)
-
-pub kept_wires : (n : Net) (kept : NameSet) (ws : List Wire) → IsNetlist n → ws ≡ n.wires → ((x : Name) → holds kept x ≡ is_among x (names_of (needed_wires n))) → filter (λ w. holds kept w.name) ws ≡ needed_wires n
-kept_wires n kept ws rules e h =
-    ap (λ (xs : List Wire). filter (λ w. holds kept w.name) xs) e
-    ∙ filter_each (λ w. holds kept w.name) (λ w. is_among w.name (names_of (needed_wires n))) n.wires (everywhere n kept n.wires h)
-    ∙ needed_named (port_names n) (edge_reads n) n.wires (wires_distinct (shapes n) n.wires (first_readable n) rules.assigns)
+pub kept_wires : (n : Net) (kept : List Bool) (ws : List Wire) → ws ≡ n.wires → MarksNeeded n kept → marked kept ws ≡ needed_wires n
+kept_wires n kept ws e h = ap (λ (xs : List Wire). marked kept xs) e ∙ h.needed
 
 pub needed_done : (n : Net) (taken : Name → Bool) (s t : State) → IsNetlist n → ((x : Name) → taken x ≡ is_among x (lasting_names n)) → Begins n s → Walked (Settles taken) s (needed_wires n) t → Done n taken (needed_wires n) s t
 needed_done n taken s t rules is b k =
@@ -103,9 +94,9 @@ pub record Dropped (n : Net) (taken : Name → Bool) (s t : State) : Type 0 wher
   pub done : Done n taken (needed_wires n) s t
   pub settled : Walked (Settles taken) s (needed_wires n) t
 
-pub done_settle : (n : Net) (taken : Name → Bool) (kept : NameSet) (s t : State) (ws : List Wire) → IsNetlist n → ((x : Name) → taken x ≡ is_among x (lasting_names n)) → ((x : Name) → holds kept x ≡ is_among x (names_of (needed_wires n))) → Begins n s → ws ≡ n.wires → Walked (Settles taken) s (filter (λ w. holds kept w.name) ws) t → Dropped n taken s t
+pub done_settle : (n : Net) (taken : Name → Bool) (kept : List Bool) (s t : State) (ws : List Wire) → IsNetlist n → ((x : Name) → taken x ≡ is_among x (lasting_names n)) → MarksNeeded n kept → Begins n s → ws ≡ n.wires → Walked (Settles taken) s (marked kept ws) t → Dropped n taken s t
 done_settle n taken kept s t ws rules is needs b e k =
-    let kept = subst (λ (xs : List Wire). Walked (Settles taken) s xs t) (kept_wires n kept ws rules e needs) k in
+    let kept = subst (λ (xs : List Wire). Walked (Settles taken) s xs t) (kept_wires n kept ws e needs) k in
     record { done = needed_done n taken s t rules is b kept; settled = kept }
 
 no_ports : (n : Net) (taken : Name → Bool) (so : Scope) (t : State) → Walks n taken so t → AllByRecursion (λ w. is_among w.name (port_names n) ≡ false) t.wires
@@ -194,7 +185,7 @@ folded_all n taken s t ws r rules is b e k numbers o p =
     }
     )
 
-pub tidied_all : (n : Net) (taken : Name → Bool) (kept : NameSet) (s t : State) (ws : List Wire) (r : Net) → IsNetlist n → ((x : Name) → taken x ≡ is_among x (lasting_names n)) → ((x : Name) → holds kept x ≡ is_among x (names_of (needed_wires n))) → Begins n s → ws ≡ n.wires → Walked (Settles taken) s (filter (λ w. holds kept w.name) ws) t → (numbers : RightMap) → Orderly numbers t.wires → r ≡ built n t.wires t.stands → Tidied n s r
+pub tidied_all : (n : Net) (taken : Name → Bool) (kept : List Bool) (s t : State) (ws : List Wire) (r : Net) → IsNetlist n → ((x : Name) → taken x ≡ is_among x (lasting_names n)) → MarksNeeded n kept → Begins n s → ws ≡ n.wires → Walked (Settles taken) s (marked kept ws) t → (numbers : RightMap) → Orderly numbers t.wires → r ≡ built n t.wires t.stands → Tidied n s r
 tidied_all n taken kept s t ws r rules is needs b e k numbers o p =
     let d = done_settle n taken kept s t ws rules is needs b e k in
     subst (Tidied n s) (sym p) (

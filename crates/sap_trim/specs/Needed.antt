@@ -1,7 +1,8 @@
 -- The wires that are ports, or that what is needed reads.
-use Rattle.std.specs.Prelude.{Bool, ◌||◌, List, [], ◌∷◌, ◌++◌, if◌then◌else◌}
+use Rattle.std.specs.Prelude.{◌≡◌, ℕ, ◌<◌, ◌==◌, Bool, false, ◌||◌, List, [], ◌∷◌, ◌++◌, length, slice_index_or, Option, Some, None, if◌then◌else◌}
 use Rattle.sap_maps.specs.Maps.{Name}
 use Rattle.sap_net.specs.Names.{is_among}
+use Rattle.sap_net.specs.NameMaps.{NameMap, at_name}
 use Rattle.sap_net.specs.Net.{Net}
 use Rattle.sap_net.specs.declared.parts.Wire.{Wire}
 use Rattle.sap_trim.specs.Names.{port_names}
@@ -18,3 +19,32 @@ needed ports edge (w ∷ ws) =
 
 abbrev pub needed_wires : Net → List Wire
 needed_wires n = needed (port_names n) (edge_reads n) n.wires
+
+-- Marks of wires, by their places.
+
+abbrev pub is_marked : List Bool → (place : ℕ) → Bool
+is_marked bs k = slice_index_or bs k false
+
+abbrev pub is_at : Option ℕ → (place : ℕ) → Bool
+is_at None k = false
+is_at (Some j) k = j == k
+
+-- one of the names has the place
+abbrev pub has_place : NameMap ℕ → List Name → (place : ℕ) → Bool
+has_place m [] k = false
+has_place m (x ∷ xs) k = is_at (at_name m x) k || has_place m xs k
+
+-- the places of the names are marked too
+pub record Marks (places : NameMap ℕ) (xs : List Name) (before after : List Bool) : Type 0 where
+  pub long : length after ≡ length before
+  pub each : (k : ℕ) → k < length before → is_marked after k ≡ (has_place places xs k || is_marked before k)
+
+abbrev pub marked : List Bool → List Wire → List Wire
+marked bs [] = []
+marked [] (w ∷ ws) = []
+marked (b ∷ bs) (w ∷ ws) = if b then w ∷ marked bs ws else marked bs ws
+
+-- a mark for each wire, which those have that are needed
+pub record MarksNeeded (n : Net) (marks : List Bool) : Type 0 where
+  pub long : length marks ≡ length n.wires
+  pub needed : marked marks n.wires ≡ needed_wires n

@@ -3,11 +3,10 @@
 ghost use Rattle.std.specs.Prelude.{◌≡◌, ◌≤◌, [], ◌∷◌, filter, length};
 ghost use Rattle.sap_maps.specs.Maps as spec;
 ghost use Rattle.sap_net.specs.Names.{is_among};
-ghost use Rattle.sap_net.specs.IsNetlist.{names_of};
 ghost use Rattle.sap_fold.specs.Names.{holds};
 ghost use Rattle.sap_trim.specs.Few.{calculated, most_left};
 ghost use Rattle.sap_trim.specs.Names.{port_names};
-ghost use Rattle.sap_trim.specs.Needed.{needed_wires};
+ghost use Rattle.sap_trim.specs.Needed.{MarksNeeded, marked};
 
 use sap_fold::names::has;
 use sap_net::netlist::Netlist;
@@ -15,11 +14,11 @@ use sap_net::parts::{Right, Wire};
 use std::collections::HashSet;
 
 /// One for a wire that is kept and no copy.
-fn calculates(kept: &HashSet<Vec<u8>>, wire: &Wire) -> usize
-    ensures same { result ≡ length (calculated (filter (λ w. holds kept.now w.name) (wire.now ∷ []))) }
+fn calculates(is_kept: bool, wire: &Wire) -> usize
+    ensures same { result ≡ length (calculated (marked (is_kept ∷ []) (wire.now ∷ []))) }
     ensures most { result ≤ 1 }
 {
-    if !has(kept, &wire.name) {
+    if !is_kept {
         return 0;
     }
     match wire.right {
@@ -28,14 +27,15 @@ fn calculates(kept: &HashSet<Vec<u8>>, wire: &Wire) -> usize
     }
 }
 
-/// How many of the wires with the names that are kept are no copies.
-fn count_calculated(kept: &HashSet<Vec<u8>>, wires: &[Wire]) -> usize
-    ensures same { result ≡ length (calculated (filter (λ w. holds kept.now w.name) wires.now)) }
+/// How many of the wires that are kept are no copies.
+fn count_calculated(kept: &[bool], wires: &[Wire]) -> usize
+    requires { length kept.now ≡ length wires.now }
+    ensures same { result ≡ length (calculated (marked kept.now wires.now)) }
     ensures most { result ≤ length wires.now }
 {
     let mut count = 0;
-    for wire in wires {
-        count += calculates(kept, wire);
+    for (k, wire) in wires.iter().enumerate() {
+        count += calculates(kept[k], wire);
     }
     count
 }
@@ -61,9 +61,9 @@ fn count_shown(shown: &HashSet<Vec<u8>>, wires: &[Wire]) -> usize
 }
 
 /// How many wires are left at most without those that nothing reads.
-pub fn wires_left(netlist: &Netlist, shown: &HashSet<Vec<u8>>, kept: &HashSet<Vec<u8>>) -> usize
+pub fn wires_left(netlist: &Netlist, shown: &HashSet<Vec<u8>>, kept: &[bool]) -> usize
     requires shown { (n : spec.Name) → holds shown.now n ≡ is_among n (port_names netlist.now) }
-    requires kept { (n : spec.Name) → holds kept.now n ≡ is_among n (names_of (needed_wires netlist.now)) }
+    requires kept { MarksNeeded netlist.now kept.now }
     ensures { result ≡ most_left netlist.now }
 {
     netlist.rules();

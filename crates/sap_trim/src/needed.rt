@@ -1,145 +1,182 @@
-//! The wires that are needed.
+//! The wires that are needed, by a mark for each.
 
-ghost use Rattle.std.specs.Prelude.{◌≡◌, ◌||◌, ◌++◌, if◌then◌else◌, IfOk, OnOk};
-ghost use Rattle.std.specs.Str.{bytes_eq};
-ghost use Rattle.sap_maps.specs.Maps as spec;
-ghost use Rattle.sap_net.specs.Names.{is_among};
+ghost use Rattle.std.specs.Prelude.{◌≡◌, ◌<◌, ◌++◌, [], ◌∷◌, length, map, replicate, slice_index_or, slice_set, false, true, if◌then◌else◌, IfOk, OnOk};
+ghost use Rattle.sap_net.specs.NameMaps.{Indexes, at_name};
 ghost use Rattle.sap_net.specs.IsNetlist.{names_of};
-ghost use Rattle.sap_fold.specs.Names.{holds};
 ghost use Rattle.sap_trim.specs.Names.{port_names};
-ghost use Rattle.sap_trim.specs.Needed.{needed_wires};
+ghost use Rattle.sap_trim.specs.Needed.{Marks, MarksNeeded, is_marked};
 ghost use Rattle.sap_trim.specs.Reads.{edge_reads, memory_reads, operand_reads, operands_reads, register_reads, right_reads};
 
-use sap_fold::names::{add, has};
+use sap_net::name_map::{at_name, index};
 use sap_net::netlist::Netlist;
-use sap_net::parts::{Memory, Operand, Register, Right, Wire};
+use sap_net::parts::{Memory, Name, Operand, Port, Register, Right, Wire};
 use std::alloc::{AllocError, Global};
-use std::collections::HashSet;
+use std::collections::HashMap;
 
-fn add_operand(
-    alloc: Global,
-    read: &mut HashSet<Vec<u8>>,
-    operand: &Operand,
-) -> Result<(), AllocError>
-    ensures { OnOk result ((n : spec.Name) → holds read.new n ≡ (is_among n (operand_reads operand.now) || holds read.old n)) }
+/// The places of the wires, by their names.
+fn places_of(alloc: Global, wires: &[Wire]) -> Result<HashMap<Vec<u8>, usize>, AllocError>
+    ensures { IfOk result (λ m. Indexes m (names_of wires.now)) }
+{
+    let mut places = HashMap::new(alloc);
+    for (k, wire) in wires.iter().enumerate() {
+        index(&mut places, alloc, &wire.name, k)?;
+    }
+    Ok(places)
+}
+
+fn fill(marks: &mut Vec<bool>, count: usize) -> Result<(), AllocError>
+    ensures { OnOk result (marks.new.items ≡ marks.old.items ++ replicate count false) }
+{
+    for i in 0..count {
+        marks.push(false)?;
+    }
+    Ok(())
+}
+
+/// So many marks, of which none is set.
+fn unmarked(alloc: Global, count: usize) -> Result<Vec<bool>, AllocError>
+    ensures { IfOk result (λ m. m.items ≡ replicate count false) }
+{
+    let mut marks = Vec::new(alloc);
+    fill(&mut marks, count)?;
+    Ok(marks)
+}
+
+fn set(marks: &mut [bool], place: usize, mark: bool)
+    ensures { marks.new ≡ slice_set marks.old place mark }
+{
+    if place < marks.len() {
+        marks[place] = mark;
+    }
+}
+
+fn mark_name(marks: &mut [bool], places: &HashMap<Vec<u8>, usize>, name: &Name)
+    ensures { Marks places.now (name.now ∷ []) marks.old marks.new }
+{
+    match at_name(places, name.as_bytes()) {
+        Some(place) => set(marks, place, true),
+        None => {}
+    }
+}
+
+fn mark_operand(marks: &mut [bool], places: &HashMap<Vec<u8>, usize>, operand: &Operand)
+    ensures { Marks places.now (operand_reads operand.now) marks.old marks.new }
 {
     match operand {
-        Operand::Named(name) => add(alloc, read, name),
-        Operand::Constant { .. } => Ok(()),
+        Operand::Named(name) => mark_name(marks, places, name),
+        Operand::Constant { .. } => {}
     }
 }
 
-fn add_operands(
-    alloc: Global,
-    read: &mut HashSet<Vec<u8>>,
-    operands: &[Operand],
-) -> Result<(), AllocError>
-    ensures { OnOk result ((n : spec.Name) → holds read.new n ≡ (is_among n (operands_reads operands.now) || holds read.old n)) }
+fn mark_pair(marks: &mut [bool], places: &HashMap<Vec<u8>, usize>, a: &Operand, b: &Operand)
+    ensures { Marks places.now (operand_reads a.now ++ operand_reads b.now) marks.old marks.new }
+{
+    mark_operand(marks, places, a);
+    mark_operand(marks, places, b);
+}
+
+fn mark_three(
+    marks: &mut [bool],
+    places: &HashMap<Vec<u8>, usize>,
+    a: &Operand,
+    b: &Operand,
+    c: &Operand,
+)
+    ensures { Marks places.now (operand_reads a.now ++ (operand_reads b.now ++ operand_reads c.now)) marks.old marks.new }
+{
+    mark_operand(marks, places, a);
+    mark_pair(marks, places, b, c);
+}
+
+fn mark_operands(marks: &mut [bool], places: &HashMap<Vec<u8>, usize>, operands: &[Operand])
+    ensures { Marks places.now (operands_reads operands.now) marks.old marks.new }
 {
     for operand in operands {
-        add_operand(alloc, read, operand)?;
+        mark_operand(marks, places, operand);
     }
-    Ok(())
 }
 
-fn add_right(alloc: Global, read: &mut HashSet<Vec<u8>>, right: &Right) -> Result<(), AllocError>
-    ensures { OnOk result ((n : spec.Name) → holds read.new n ≡ (is_among n (right_reads right.now) || holds read.old n)) }
+fn mark_right(marks: &mut [bool], places: &HashMap<Vec<u8>, usize>, right: &Right)
+    ensures { Marks places.now (right_reads right.now) marks.old marks.new }
 {
     match right {
-        Right::Copy(a) | Right::One(_, a) => add_operand(alloc, read, a),
-        Right::Two(_, a, b) => {
-            add_operand(alloc, read, b)?;
-            add_operand(alloc, read, a)
-        }
-        Right::Choose(c, a, b) => {
-            add_operand(alloc, read, b)?;
-            add_operand(alloc, read, a)?;
-            add_operand(alloc, read, c)
-        }
-        Right::Concat(operands) => add_operands(alloc, read, operands.as_slice()),
-        Right::Slice { name, .. } => add(alloc, read, name),
-        Right::Cell { index, .. } => add_operand(alloc, read, index),
+        Right::Copy(a) => mark_operand(marks, places, a),
+        Right::One(_, a) => mark_operand(marks, places, a),
+        Right::Two(_, a, b) => mark_pair(marks, places, a, b),
+        Right::Choose(c, a, b) => mark_three(marks, places, c, a, b),
+        Right::Concat(operands) => mark_operands(marks, places, operands.as_slice()),
+        Right::Slice { name, .. } => mark_name(marks, places, name),
+        Right::Cell { index, .. } => mark_operand(marks, places, index),
     }
 }
 
-fn add_registers(
-    alloc: Global,
-    read: &mut HashSet<Vec<u8>>,
-    registers: &[Register],
-) -> Result<(), AllocError>
-    ensures { OnOk result ((n : spec.Name) → holds read.new n ≡ (is_among n (register_reads registers.now) || holds read.old n)) }
+fn mark_ports(marks: &mut [bool], places: &HashMap<Vec<u8>, usize>, ports: &[Port])
+    ensures { Marks places.now (map (λ p. p.name) ports.now) marks.old marks.new }
+{
+    for port in ports {
+        mark_name(marks, places, &port.name);
+    }
+}
+
+fn mark_registers(marks: &mut [bool], places: &HashMap<Vec<u8>, usize>, registers: &[Register])
+    ensures { Marks places.now (register_reads registers.now) marks.old marks.new }
 {
     for register in registers {
-        add_operand(alloc, read, &register.next)?;
+        mark_operand(marks, places, &register.next);
     }
-    Ok(())
 }
 
-fn add_memory(alloc: Global, read: &mut HashSet<Vec<u8>>, memory: &Memory) -> Result<(), AllocError>
-    ensures { OnOk result ((n : spec.Name) → holds read.new n ≡ (is_among n (operand_reads memory.now.enable ++ (operand_reads memory.now.index ++ operand_reads memory.now.value)) || holds read.old n)) }
-{
-    add_operand(alloc, read, &memory.value)?;
-    add_operand(alloc, read, &memory.index)?;
-    add_operand(alloc, read, &memory.enable)
-}
-
-fn add_memories(
-    alloc: Global,
-    read: &mut HashSet<Vec<u8>>,
-    memories: &[Memory],
-) -> Result<(), AllocError>
-    ensures { OnOk result ((n : spec.Name) → holds read.new n ≡ (is_among n (memory_reads memories.now) || holds read.old n)) }
+fn mark_memories(marks: &mut [bool], places: &HashMap<Vec<u8>, usize>, memories: &[Memory])
+    ensures { Marks places.now (memory_reads memories.now) marks.old marks.new }
 {
     for memory in memories {
-        add_memory(alloc, read, memory)?;
+        mark_three(marks, places, &memory.enable, &memory.index, &memory.value);
     }
-    Ok(())
 }
 
-/// What registers and memories take at the edge.
-fn edge(alloc: Global, netlist: &Netlist) -> Result<HashSet<Vec<u8>>, AllocError>
-    ensures { IfOk result (λ s. (n : spec.Name) → holds s n ≡ is_among n (edge_reads netlist.now)) }
+/// Marks the wires that are ports, and those that registers and memories take at the edge.
+fn mark_ends(marks: &mut [bool], places: &HashMap<Vec<u8>, usize>, netlist: &Netlist)
+    ensures { Marks places.now (port_names netlist.now ++ edge_reads netlist.now) marks.old marks.new }
 {
-    let mut read = HashSet::new(alloc);
-    add_memories(alloc, &mut read, netlist.memories())?;
-    add_registers(alloc, &mut read, netlist.registers())?;
-    Ok(read)
+    mark_ports(marks, places, netlist.ports());
+    mark_registers(marks, places, netlist.registers());
+    mark_memories(marks, places, netlist.memories());
 }
 
-/// Marks a wire if it is a port or read, and what it reads then.
-fn mark(
-    alloc: Global,
-    ports: &HashSet<Vec<u8>>,
-    read: &mut HashSet<Vec<u8>>,
-    needed: &mut HashSet<Vec<u8>>,
-    wire: &Wire,
-) -> Result<(), AllocError>
-    ensures read { OnOk result ((n : spec.Name) → holds read.new n ≡ (if holds ports.now wire.now.name || holds read.old wire.now.name then is_among n (right_reads wire.now.right) || holds read.old n else holds read.old n)) }
-    ensures needed { OnOk result ((n : spec.Name) → holds needed.new n ≡ (if holds ports.now wire.now.name || holds read.old wire.now.name then bytes_eq n wire.now.name || holds needed.old n else holds needed.old n)) }
+/// Keeps the wire at a place if it is a port or read, and marks then what it reads.
+fn keep_wire(
+    kept: &mut [bool],
+    read: &mut [bool],
+    places: &HashMap<Vec<u8>, usize>,
+    wires: &[Wire],
+    place: usize,
+)
+    requires place { place < length wires.now }
+    requires read { length read.old ≡ length wires.now }
+    ensures kept { kept.new ≡ slice_set kept.old place (is_marked read.old place) }
+    ensures read { (w : Wire) → w ≡ slice_index_or wires.now place w → Marks places.now (if is_marked read.old place then right_reads w.right else []) read.old read.new }
 {
-    if has(read, &wire.name) || has(ports, &wire.name) {
-        add_right(alloc, read, &wire.right)?;
-        add(alloc, needed, &wire.name)?;
+    let is_read = read[place];
+    set(kept, place, is_read);
+    if is_read {
+        mark_right(read, places, &wires[place].right);
     }
-    Ok(())
 }
 
-/// The names of the wires that are ports, or that what is needed reads.
-pub fn needed(
-    alloc: Global,
-    netlist: &Netlist,
-    ports: &HashSet<Vec<u8>>,
-) -> Result<HashSet<Vec<u8>>, AllocError>
-    requires { (n : spec.Name) → holds ports.now n ≡ is_among n (port_names netlist.now) }
-    ensures { IfOk result (λ s. (n : spec.Name) → holds s n ≡ is_among n (names_of (needed_wires netlist.now))) }
+/// A mark for each wire: those that are ports, or that what is needed reads, have it.
+pub fn needed(alloc: Global, netlist: &Netlist) -> Result<Vec<bool>, AllocError>
+    ensures { IfOk result (λ m. MarksNeeded netlist.now m.items) }
 {
-    let mut read = edge(alloc, netlist)?;
-    let mut needed = HashSet::new(alloc);
+    netlist.rules();
     let wires = netlist.wires();
+    let places = places_of(alloc, wires)?;
+    let mut read = unmarked(alloc, wires.len())?;
+    let mut kept = unmarked(alloc, wires.len())?;
+    mark_ends(&mut read, &places, netlist);
     let mut rest = wires.len();
     while rest > 0 {
         rest -= 1;
-        mark(alloc, ports, &mut read, &mut needed, &wires[rest])?;
+        keep_wire(&mut kept, &mut read, &places, wires, rest);
     }
-    Ok(needed)
+    Ok(kept)
 }

@@ -3,7 +3,7 @@
 ghost use Rattle.std.specs.Prelude.{◌≡◌, ◌≤◌, length, IfOk};
 ghost use Rattle.sap_maps.specs.Maps as spec;
 ghost use Rattle.sap_net.specs.Names.{is_among};
-ghost use Rattle.sap_net.specs.IsNetlist.{IsNetlist, names_of};
+ghost use Rattle.sap_net.specs.IsNetlist.{IsNetlist};
 ghost use Rattle.sap_net.specs.NameMaps.{at_name};
 ghost use Rattle.sap_fold.specs.Names.{holds};
 ghost use Rattle.sap_fold.specs.Settled.{Orderly};
@@ -12,7 +12,7 @@ ghost use Rattle.sap_trim.specs.Built.{built};
 ghost use Rattle.sap_trim.specs.Few.{HasFewWires, most_left};
 ghost use Rattle.sap_trim.specs.Folded.{IsFolded};
 ghost use Rattle.sap_trim.specs.Names.{lasting_names, port_names};
-ghost use Rattle.sap_trim.specs.Needed.{needed_wires};
+ghost use Rattle.sap_trim.specs.Needed.{MarksNeeded};
 ghost use Rattle.sap_trim.specs.Reads.{ReadsWires};
 ghost use Rattle.sap_trim.specs.Trimmed.{CopiesPorts, FoldsWires, NamesWires, NumbersWires, SharesWires};
 ghost use Rattle.sap_trim.specs.Tidied.{SettledNet, Tidied};
@@ -86,19 +86,19 @@ fn fold_wires(alloc: Global, netlist: &Netlist) -> Result<Netlist, AllocError>
     Ok(Netlist::new(parts))
 }
 
-// The names of the ports of a netlist, and those of the wires that are needed.
+// The names of the ports of a netlist, and a mark for each of its wires, which those have that are needed.
 #[derive(Drop)]
 struct Needs {
     shown: HashSet<Vec<u8>>,
-    kept: HashSet<Vec<u8>>,
+    kept: Vec<bool>,
 }
 
 fn needs_of(alloc: Global, netlist: &Netlist) -> Result<Needs, AllocError>
     ensures shown { IfOk result (λ s. (n : spec.Name) → holds s.shown n ≡ is_among n (port_names netlist.now)) }
-    ensures kept { IfOk result (λ s. (n : spec.Name) → holds s.kept n ≡ is_among n (names_of (needed_wires netlist.now))) }
+    ensures kept { IfOk result (λ s. MarksNeeded netlist.now s.kept.items) }
 {
     let shown = names::ports(alloc, netlist)?;
-    let kept = needed(alloc, netlist, &shown)?;
+    let kept = needed(alloc, netlist)?;
     Ok(Needs { shown, kept })
 }
 
@@ -125,7 +125,7 @@ fn folded_of(alloc: Global, netlist: &Netlist) -> Result<Folded, AllocError>
     ensures same { IfOk result (λ f. RunsAlike netlist.now f.netlist) }
     ensures folded { IfOk result (λ f. IsFolded f.netlist) }
     ensures shown { IfOk result (λ f. (n : spec.Name) → holds f.needs.shown n ≡ is_among n (port_names f.netlist)) }
-    ensures kept { IfOk result (λ f. (n : spec.Name) → holds f.needs.kept n ≡ is_among n (names_of (needed_wires f.netlist))) }
+    ensures kept { IfOk result (λ f. MarksNeeded f.netlist f.needs.kept.items) }
 {
     let folded = fold_wires(alloc, netlist)?;
     let needs = needs_of(alloc, &folded)?;
@@ -140,11 +140,11 @@ fn kept_wires(
     alloc: Global,
     netlist: &Netlist,
     lasting: &HashSet<Vec<u8>>,
-    kept: HashSet<Vec<u8>>,
+    kept: Vec<bool>,
     mut walk: Walk,
 ) -> Result<Made, AllocError>
     requires lasting { (n : spec.Name) → holds lasting.now n ≡ is_among n (lasting_names netlist.now) }
-    requires kept { (n : spec.Name) → holds kept n ≡ is_among n (names_of (needed_wires netlist.now)) }
+    requires kept { MarksNeeded netlist.now kept.items }
     requires begins { Begins netlist.now (state_of walk) }
     requires orderly { Orderly walk.wires.numbers walk.wires.list.items }
     ensures { IfOk result (λ m. Tidied netlist.now (state_of walk) (built netlist.now m.wires.items (at_name m.stands))) }
@@ -157,7 +157,7 @@ fn kept_wires(
 /// The netlist without the wires that are not kept, the others folded each by itself and numbered in order.
 fn keep(alloc: Global, netlist: &Netlist, needs: Needs, walk: Walk) -> Result<Netlist, AllocError>
     requires shown { (n : spec.Name) → holds needs.shown n ≡ is_among n (port_names netlist.now) }
-    requires kept { (n : spec.Name) → holds needs.kept n ≡ is_among n (names_of (needed_wires netlist.now)) }
+    requires kept { MarksNeeded netlist.now needs.kept.items }
     requires begins { Begins netlist.now (state_of walk) }
     requires orderly { Orderly walk.wires.numbers walk.wires.list.items }
     ensures { IfOk result (λ n. Tidied netlist.now (state_of walk) n) }
@@ -203,7 +203,7 @@ fn share(alloc: Global, netlist: Netlist) -> Result<Netlist, AllocError>
 fn number(alloc: Global, netlist: Netlist, needs: Needs) -> Result<Netlist, AllocError>
     requires folded { IsFolded netlist }
     requires shown { (n : spec.Name) → holds needs.shown n ≡ is_among n (port_names netlist) }
-    requires kept { (n : spec.Name) → holds needs.kept n ≡ is_among n (names_of (needed_wires netlist)) }
+    requires kept { MarksNeeded netlist needs.kept.items }
     ensures declares { IfOk result (λ n. DeclaresAlike netlist n) }
     ensures same { IfOk result (λ n. RunsAlike netlist n) }
     ensures named { IfOk result (λ n. NamesWires n) }

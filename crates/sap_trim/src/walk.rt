@@ -1,6 +1,6 @@
 //! The wires of a netlist one after another, and what each of its names stands for over the new ones.
 
-ghost use Rattle.std.specs.Prelude.{◌≡◌, ◌⊎◌, List, [], ◌∷◌, ◌++◌, None, Some, filter, map, if◌then◌else◌, IfOk, OnOk};
+ghost use Rattle.std.specs.Prelude.{◌≡◌, ◌<◌, ◌⊎◌, List, [], ◌∷◌, ◌++◌, None, Some, length, map, if◌then◌else◌, IfOk, OnOk};
 ghost use Rattle.sap_maps.specs.Maps as spec;
 ghost use Rattle.sap_net.specs.Names.{is_among};
 ghost use Rattle.sap_net.specs.IsNetlist.{input_names, register_names};
@@ -9,13 +9,13 @@ ghost use Rattle.sap_net.specs.NameMaps.{at_name, Puts};
 ghost use Rattle.sap_fold.specs.Folding.{settled};
 ghost use Rattle.sap_fold.specs.Names.{holds};
 ghost use Rattle.sap_fold.specs.Settled.{Orderly};
+ghost use Rattle.sap_trim.specs.Needed.{is_marked, marked};
 ghost use Rattle.sap_trim.specs.Stays.{AllStay};
 ghost use Rattle.sap_trim.specs.Walked.{Begins, Folds, Settles, StandForThemselves, Starts, StartsAt, Steps, Walked, state_of};
 
 use crate::replace::replace;
 use crate::stays::{Stay, keeps_start, stays};
 use sap_fold::folding::fold_into;
-use sap_fold::names::has;
 use sap_fold::wires::Wires;
 use sap_net::name_map::put;
 use sap_net::netlist::Netlist;
@@ -200,19 +200,21 @@ impl Walk {
         Ok(())
     }
 
-    /// A wire with its right side folded, if its name is kept.
+    /// A wire with its right side folded, if it is kept.
     fn settle_if_kept(
         &mut self,
         alloc: Global,
         taken: &HashSet<Vec<u8>>,
-        kept: &HashSet<Vec<u8>>,
+        kept: &[bool],
+        place: usize,
         wire: &Wire,
     ) -> Result<(), AllocError>
-        requires { Orderly self.old.wires.numbers self.old.wires.list.items }
+        requires orderly { Orderly self.old.wires.numbers self.old.wires.list.items }
+        requires place { place < length kept.now }
         ensures orderly { OnOk result (Orderly self.new.wires.numbers self.new.wires.list.items) }
-        ensures walked { OnOk result (Walked (Settles (holds taken.now)) (state_of self.old) (filter (λ w. holds kept.now w.name) (wire.now ∷ [])) (state_of self.new)) }
+        ensures walked { OnOk result (Walked (Settles (holds taken.now)) (state_of self.old) (marked (is_marked kept.now place ∷ []) (wire.now ∷ [])) (state_of self.new)) }
     {
-        if !has(kept, &wire.name) {
+        if !kept[place] {
             return Ok(());
         }
         self.settle_wire(alloc, taken, wire)
@@ -235,20 +237,21 @@ impl Walk {
         Ok(())
     }
 
-    /// The wires with the names that are kept, each right side folded by itself.
+    /// The wires that are kept, each right side folded by itself.
     pub fn settle_kept(
         &mut self,
         alloc: Global,
         taken: &HashSet<Vec<u8>>,
-        kept: &HashSet<Vec<u8>>,
+        kept: &[bool],
         wires: &[Wire],
     ) -> Result<(), AllocError>
-        requires { Orderly self.old.wires.numbers self.old.wires.list.items }
+        requires orderly { Orderly self.old.wires.numbers self.old.wires.list.items }
+        requires long { length kept.now ≡ length wires.now }
         ensures orderly { OnOk result (Orderly self.new.wires.numbers self.new.wires.list.items) }
-        ensures walked { OnOk result (Walked (Settles (holds taken.now)) (state_of self.old) (filter (λ w. holds kept.now w.name) wires.now) (state_of self.new)) }
+        ensures walked { OnOk result (Walked (Settles (holds taken.now)) (state_of self.old) (marked kept.now wires.now) (state_of self.new)) }
     {
-        for wire in wires {
-            self.settle_if_kept(alloc, taken, kept, wire)?;
+        for (k, wire) in wires.iter().enumerate() {
+            self.settle_if_kept(alloc, taken, kept, k, wire)?;
         }
         Ok(())
     }

@@ -1,5 +1,6 @@
-use Rattle.std.proofs.Common.{arith}
+use Rattle.std.proofs.Common.{sym, subst, arith}
 use Rattle.std.proofs.lemmas.Result.{IfOk-weaker}
+use Rattle.sap_trim.specs.Needed.{MarksNeeded}
 use Rattle.sap_trim.proofs.Compose.{declares_both, runs_both}
 use Rattle.sap_trim.proofs.Few.{left_most}
 use Rattle.sap_trim.proofs.trim.trim.Goals as goal
@@ -14,6 +15,9 @@ loop-init c =
       left = c.in_ok-left.ensures {u = tt};
       few = let most = left_most c.in_ok-small.small in let few = small.few in omega (arith, few, most);
     }
+
+pub wires_left-now-requires-clause-kept : goal.wires_left-now-requires-clause-kept
+wires_left-now-requires-clause-kept c = subst (MarksNeeded c.in_ok-round.round.netlist) (sym c.deref.ensures.value) c.in_ok-round.ensures.kept
 
 pub loop-preserved : goal.loop-preserved
 loop-preserved c =
