@@ -13,11 +13,13 @@ use crate::feed::feed_of;
 use crate::loading::planned_of;
 use crate::steps::{Plan, take_numbers, take_seen};
 use sap_cycle::runner::Runner;
-use sap_desk::{Bytes, RowBuf};
+use sap_desk::RowBuf;
 use sap_lattice::Lattice;
 use sap_net::laws::one_run;
 use sap_net::netlist::Netlist;
-use sap_stim::{Fields, RowLabel, labelled_row_into, labels_of, row_room, stimulus_fits};
+use sap_stim::{
+    Fields, RowLabel, Short, labelled_row_into, labels_of, row_array, row_room, stimulus_fits,
+};
 use sap_stream::{Inputs, Tagged};
 use std::alloc::{AllocError, Global};
 use std::marker::Model;
@@ -36,6 +38,8 @@ pub struct Simulation {
     numbers: Vec<u64>,
     values: Vec<u64>,
     tags: Vec<u64>,
+    // where a row is written first
+    array: Vec<u8>,
 }
 
 impl Model for Simulation {
@@ -60,7 +64,7 @@ fn zeros(alloc: Global, count: usize) -> Result<Vec<u64>, AllocError>
     Ok(zeros)
 }
 
-/// The room that a row takes and its labels, the numbers of the inputs of a cycle, and what its row shows.
+/// The room that a row takes, its labels and its array, the numbers of the inputs of a cycle, and what its row shows.
 #[derive(Drop)]
 struct Held {
     room: usize,
@@ -68,6 +72,7 @@ struct Held {
     numbers: Vec<u64>,
     values: Vec<u64>,
     tags: Vec<u64>,
+    array: Vec<u8>,
 }
 
 fn held_for(alloc: Global, lattice: &Lattice, plan: &Plan) -> Result<Held, AllocError>
@@ -87,17 +92,19 @@ fn held_for(alloc: Global, lattice: &Lattice, plan: &Plan) -> Result<Held, Alloc
         numbers: zeros(alloc, plan.sources.len())?,
         values: zeros(alloc, plan.shown.values.len())?,
         tags: zeros(alloc, plan.shown.tags.len())?,
+        array: row_array(alloc, room)?,
     })
 }
 
 // Appends a row to a buffer that has room for any row.
 fn push_held(
     out: &mut RowBuf,
+    array: &mut [u8],
     cycle: u64,
     labels: &[RowLabel],
     values: &[u64],
     tags: &[u64],
-    levels: &[Bytes],
+    levels: &[Short],
     lattice: &Lattice,
 )
     requires values { length values.now ≡ length labels.now }
@@ -107,7 +114,7 @@ fn push_held(
     ensures text { out.new.bytes ≡ out.old.bytes ++ row_text cycle (shown_of lattice.now labels.now values.now tags.now) }
     ensures memory { out.old.room ≤ out.new.room }
 {
-    labelled_row_into(out, cycle, labels, values, tags, levels, lattice);
+    labelled_row_into(out, array, cycle, labels, values, tags, levels, lattice);
 }
 
 impl Simulation {
@@ -128,6 +135,7 @@ impl Simulation {
             numbers: held.numbers,
             values: held.values,
             tags: held.tags,
+            array: held.array,
         })
     }
 
@@ -199,6 +207,7 @@ impl Simulation {
         take_seen(&self.runner, &self.plan.shown.tags, &mut self.tags);
         push_held(
             out,
+            &mut self.array,
             cycle,
             &self.labels,
             &self.values,

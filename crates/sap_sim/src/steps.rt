@@ -8,8 +8,8 @@ ghost use Rattle.sap_sim.specs.Layout.{number_from, seen_at, source_place};
 use crate::shown::Shown;
 use crate::sources::Source;
 use sap_cycle::runner::{Place, Runner};
-use sap_desk::Bytes;
 use sap_lattice::Lattice;
+use sap_stim::Short;
 use sap_stream::Tagged;
 
 /// Where the numbers of inputs come from, what rows show, and the texts of levels in rows.
@@ -17,7 +17,7 @@ use sap_stream::Tagged;
 pub struct Plan {
     pub sources: Vec<Source>,
     pub shown: Shown,
-    pub levels: Vec<Bytes>,
+    pub levels: Vec<Short>,
 }
 
 /// Takes the numbers that a line gives the inputs, in place of others.

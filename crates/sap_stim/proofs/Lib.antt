@@ -5,6 +5,7 @@ pub mod EachField
 pub mod Fitting
 pub mod Lines
 pub mod Coded
+pub mod Placed
 pub mod RowTexts
 pub mod RowRoom
 pub mod RowLeast

@@ -1,9 +1,10 @@
 //! The parts of rows that are made once: the labels of registers, and the texts of levels.
 
-ghost use Rattle.std.specs.Prelude.{◌≡◌, IfOk};
+ghost use Rattle.std.specs.Prelude.{◌≡◌, ◌++◌, IfOk, IfSome, take};
 ghost use Rattle.sap_stim.specs.Rows.{AreLevelTexts, at_level, label_text};
 
 use crate::rows::push_level;
+use crate::short::{Short, put_text};
 use sap_desk::Bytes;
 use sap_lattice::lattice::Lattice;
 use sap_lattice::name::Name;
@@ -17,10 +18,12 @@ const TAGS_WITH_TEXT: u64 = 16;
 #[derive(Drop)]
 pub struct RowLabel {
     text: Vec<u8>,
+    // the text once more, where it is short
+    short: Option<Short>,
 }
 
 impl Model for RowLabel {
-    ghost use Rattle.std.specs.Prelude.{◌≡◌, ◌-◌, ℕ, List, drop, length, take};
+    ghost use Rattle.std.specs.Prelude.{◌≡◌, ◌-◌, ℕ, List, IfSome, drop, length, take};
     ghost use Rattle.sap_stim.specs.Rows.{label_text};
 
     ghost Value = { List ℕ };
@@ -28,7 +31,7 @@ impl Model for RowLabel {
     // between the space and the `=`
     ghost view = { λ l. take (length l.text.items - 2) (drop 1 l.text.items) };
 
-    ghost invariant = { λ l. l.text.items ≡ label_text (take (length l.text.items - 2) (drop 1 l.text.items)) };
+    ghost invariant = { λ l. (l.text.items ≡ label_text (take (length l.text.items - 2) (drop 1 l.text.items))) × IfSome l.short (λ s. s ≡ l.text.items) };
 }
 
 // The bytes of a label.
@@ -48,7 +51,8 @@ impl RowLabel {
         ensures { IfOk result (λ label. label ≡ name.now) }
     {
         let text = label_text(alloc, name.as_bytes())?;
-        Ok(RowLabel { text })
+        let short = Short::new(&text);
+        Ok(RowLabel { text, short })
     }
 
     /// The name between a space and `=`.
@@ -56,6 +60,16 @@ impl RowLabel {
         ensures { result.now ≡ label_text self.now }
     {
         &self.text
+    }
+
+    /// Writes the name between a space and `=` at a place, and tells where that ends; none where there is little room.
+    pub(crate) fn put(&self, bytes: &mut [u8], at: usize) -> Option<usize>
+        ensures { IfSome result (λ end. take end bytes.new ≡ take at bytes.old ++ label_text self.now) }
+    {
+        match &self.short {
+            Some(short) => short.put(bytes, at),
+            None => put_text(bytes, at, &self.text),
+        }
     }
 }
 
@@ -80,13 +94,17 @@ fn level_text(alloc: Global, tag: u64, lattice: &Lattice) -> Result<Bytes, Alloc
     Ok(Bytes::new(text))
 }
 
-/// What stands behind numbers, for the first tags.
-pub fn level_texts(alloc: Global, lattice: &Lattice) -> Result<Vec<Bytes>, AllocError>
+/// What stands behind numbers, for the first tags whose texts are short.
+pub fn level_texts(alloc: Global, lattice: &Lattice) -> Result<Vec<Short>, AllocError>
     ensures { IfOk result (λ texts. AreLevelTexts lattice.now texts.items) }
 {
     let mut texts = Vec::new(alloc);
     for tag in 0..TAGS_WITH_TEXT {
-        texts.push(level_text(alloc, tag, lattice)?)?;
+        let text = level_text(alloc, tag, lattice)?;
+        let Some(short) = Short::new(text.as_slice()) else {
+            return Ok(texts);
+        };
+        texts.push(short)?;
     }
     Ok(texts)
 }

@@ -8,10 +8,12 @@
 mod count;
 pub mod fault;
 pub mod field;
+mod flat;
 pub mod label;
 mod line;
 mod room;
 pub mod rows;
+mod short;
 pub mod stimulus;
 mod text;
 mod value;
@@ -23,8 +25,9 @@ pub use fault::{StimCode, StimFault};
 pub use field::{Field, Fields};
 pub use label::{RowLabel, labels_of, level_texts};
 pub use line::read_line_into;
-pub use room::{longest_level, row_room};
+pub use room::{longest_level, row_array, row_room};
 pub use rows::{labelled_row_into, push_row, row, row_into};
+pub use short::Short;
 pub use stimulus::{Parsed, parse_stream};
 pub use text::cut;
 

@@ -4,8 +4,10 @@ ghost use Rattle.std.specs.Prelude.{◌≡◌, ◌≤◌, ◌<◌, ◌^◌, ◌�
 ghost use Rattle.sap_lattice.specs.Closure.{name_at};
 ghost use Rattle.sap_stim.specs.Rows.{HoldsRows};
 
+use crate::short::MOST_SHORT;
 use sap_lattice::lattice::Lattice;
 use sap_lattice::name::Name;
+use std::alloc::{AllocError, Global};
 
 /// The most bytes in the text of a level: a name, or `#` and 20 digits.
 pub fn longest_level(lattice: &Lattice) -> usize
@@ -36,4 +38,11 @@ pub fn row_room(names: &[Name], lattice: &Lattice) -> Option<usize>
         room = room.checked_add(size)?;
     }
     Some(room)
+}
+
+/// An array for rows that take this room, with some to spare for copies of short texts.
+pub fn row_array(alloc: Global, room: usize) -> Result<Vec<u8>, AllocError> {
+    let mut array = Vec::new(alloc);
+    array.resize(room.saturating_add(MOST_SHORT), 0)?;
+    Ok(array)
 }

@@ -5,7 +5,9 @@ ghost use Rattle.std.specs.Fmt.{decimal};
 ghost use Rattle.sap_lattice.specs.Closure.{name_at};
 ghost use Rattle.sap_stim.specs.Rows.{AreLevelTexts, at_level, row_room, row_text, shown, shown_of, shown_text, level_coded, level_text, all_shown};
 
+use crate::flat::put_row;
 use crate::label::RowLabel;
+use crate::short::Short;
 use sap_desk::{Bytes, RowBuf};
 use sap_lattice::lattice::Lattice;
 use sap_lattice::level::Level;
@@ -14,7 +16,7 @@ use sap_text::digits::push_number;
 use std::alloc::{AllocError, Global};
 
 /// The level whose code is the tag.
-fn level_of_tag(lattice: &Lattice, tag: u64) -> Option<Level>
+pub(crate) fn level_of_tag(lattice: &Lattice, tag: u64) -> Option<Level>
     ensures coded { result ≡ level_coded lattice.now tag }
     ensures level { IfSome result (λ x. x < length lattice.now.names) }
 {
@@ -139,7 +141,7 @@ pub fn row_into(
 fn push_at_level(
     out: &mut Vec<u8>,
     tag: u64,
-    levels: &[Bytes],
+    levels: &[Short],
     lattice: &Lattice,
 ) -> Result<(), AllocError>
     requires { AreLevelTexts lattice.now levels.now }
@@ -159,7 +161,7 @@ fn push_labelled(
     label: &RowLabel,
     value: u64,
     tag: u64,
-    levels: &[Bytes],
+    levels: &[Short],
     lattice: &Lattice,
 ) -> Result<(), AllocError>
     requires { AreLevelTexts lattice.now levels.now }
@@ -177,7 +179,7 @@ fn push_all_labelled(
     labels: &[RowLabel],
     values: &[u64],
     tags: &[u64],
-    levels: &[Bytes],
+    levels: &[Short],
     lattice: &Lattice,
 ) -> Result<(), AllocError>
     requires values { length values.now ≡ length labels.now }
@@ -199,7 +201,7 @@ fn push_labelled_row(
     labels: &[RowLabel],
     values: &[u64],
     tags: &[u64],
-    levels: &[Bytes],
+    levels: &[Short],
     lattice: &Lattice,
 ) -> Result<(), AllocError>
     requires values { length values.now ≡ length labels.now }
@@ -215,15 +217,40 @@ fn push_labelled_row(
     push_all_labelled(out, labels, values, tags, levels, lattice)
 }
 
-/// Appends the row of a cycle as `row_into` does, the labels of its registers and texts of levels made
-/// beforehand. It takes no memory.
-pub fn labelled_row_into(
-    out: &mut RowBuf,
+// Appends the row of a cycle, by way of an array of bytes where that is large enough.
+fn push_row_by(
+    out: &mut Vec<u8>,
+    bytes: &mut [u8],
     cycle: u64,
     labels: &[RowLabel],
     values: &[u64],
     tags: &[u64],
-    levels: &[Bytes],
+    levels: &[Short],
+    lattice: &Lattice,
+) -> Result<(), AllocError>
+    requires values { length values.now ≡ length labels.now }
+    requires levels { AreLevelTexts lattice.now levels.now }
+    requires tags { length tags.now ≡ length labels.now }
+    ensures text { OnOk result (out.new.items ≡ out.old.items ++ row_text cycle (shown_of lattice.now labels.now values.now tags.now)) }
+    ensures room { vec_capacity out.old ≤ vec_capacity out.new }
+    ensures full { OnErr result (vec_capacity out.old < length out.old.items + length (row_text cycle (shown_of lattice.now labels.now values.now tags.now))) }
+{
+    match put_row(bytes, cycle, labels, values, tags, levels, lattice) {
+        Some(end) if end <= bytes.len() => out.extend_from_slice(&bytes[..end]),
+        _ => push_labelled_row(out, cycle, labels, values, tags, levels, lattice),
+    }
+}
+
+/// Appends the row of a cycle as `row_into` does, the labels of its registers and texts of levels made
+/// beforehand. The row is written to an array of bytes first, where that is large enough. It takes no memory.
+pub fn labelled_row_into(
+    out: &mut RowBuf,
+    array: &mut [u8],
+    cycle: u64,
+    labels: &[RowLabel],
+    values: &[u64],
+    tags: &[u64],
+    levels: &[Short],
     lattice: &Lattice,
 )
     requires values { length values.now ≡ length labels.now }
@@ -234,6 +261,9 @@ pub fn labelled_row_into(
     ensures room { out.old.room ≤ out.new.room }
 {
     let mut bytes = out.take();
-    push_labelled_row(&mut bytes, cycle, labels, values, tags, levels, lattice).unwrap();
+    push_row_by(
+        &mut bytes, array, cycle, labels, values, tags, levels, lattice,
+    )
+    .unwrap();
     out.put(bytes);
 }

@@ -12,18 +12,19 @@ use crate::shown::{Shown, shown_of};
 use sap_desk::{Bytes, RowBuf};
 use sap_lattice::Lattice;
 use sap_net::parts::Name;
-use sap_stim::{RowLabel, labelled_row_into, labels_of, level_texts, row_room};
+use sap_stim::{RowLabel, Short, labelled_row_into, labels_of, level_texts, row_array, row_room};
 use sap_wave::Wave;
 use std::alloc::{AllocError, Global};
 
-/// What each row is made with: the labels of its registers and the texts of levels, the numbers that it shows, and a buffer
-/// that has room for any row.
+/// What each row is made with: the labels of its registers and the texts of levels, the numbers that it shows, an array that
+/// it is written to first, and a buffer that has room for any row.
 #[derive(Drop)]
 pub struct Held {
     pub labels: Vec<RowLabel>,
-    pub levels: Vec<Bytes>,
+    pub levels: Vec<Short>,
     pub values: Vec<u64>,
     pub tags: Vec<u64>,
+    pub array: Vec<u8>,
     pub row: RowBuf,
 }
 
@@ -39,6 +40,7 @@ fn held_for(alloc: Global, lattice: &Lattice, names: &[Name]) -> Result<Held, Al
         levels: level_texts(alloc, lattice)?,
         values: Vec::new(alloc),
         tags: Vec::new(alloc),
+        array: row_array(alloc, room)?,
         row: RowBuf::new(alloc, room)?,
     })
 }
@@ -58,11 +60,12 @@ fn take_numbers(seen: &mut Vec<u64>, numbers: &[u64], places: &[usize]) -> Resul
 /// Writes the row of a cycle in place of what stands in a buffer that has room for any row.
 fn write_row(
     row: &mut RowBuf,
+    array: &mut [u8],
     cycle: u64,
     labels: &[RowLabel],
     values: &[u64],
     tags: &[u64],
-    levels: &[Bytes],
+    levels: &[Short],
     lattice: &Lattice,
 )
     requires values { length values.now ≡ length labels.now }
@@ -73,7 +76,7 @@ fn write_row(
     ensures room { row.old.room ≤ row.new.room }
 {
     row.clear();
-    labelled_row_into(row, cycle, labels, values, tags, levels, lattice);
+    labelled_row_into(row, array, cycle, labels, values, tags, levels, lattice);
 }
 
 /// Appends the row of a block.
@@ -96,6 +99,7 @@ fn push_block(
     take_numbers(&mut held.tags, numbers, &shown.tags)?;
     write_row(
         &mut held.row,
+        &mut held.array,
         cycle,
         &held.labels,
         &held.values,

@@ -9,5 +9,5 @@ unwrap-requires c =
     let ss = shown_of c.args.lattice.now c.args.labels.now c.args.values.now c.args.tags.now in
     let fits = row_fits c.args.cycle ss c.ranges.cycle.fits in
     let size : length c.take-bytes.result.items ≡ length c.args.out.now.bytes = ap length c.take-bytes.ensures.bytes in
-    ok_with_room c.push_labelled_row.result (vec_capacity c.take-bytes.result) (length c.take-bytes.result.items + length (row_text c.args.cycle ss)) c.push_labelled_row.ensures.full
+    ok_with_room c.push_row_by.result (vec_capacity c.take-bytes.result) (length c.take-bytes.result.items + length (row_text c.args.cycle ss)) c.push_row_by.ensures.full
     (omega (arith, fits, size, c.requires.fits, c.take-bytes.ensures.room))

@@ -1,0 +1,175 @@
+//! Rows in an array of bytes. Each call writes at a place and tells where the text ends, or stops where there is little room.
+
+ghost use Rattle.std.specs.Prelude.{◌≡◌, ◌<◌, ◌+◌, ◌++◌, [], ◌∷◌, IfSome, codes, length, take};
+ghost use Rattle.std.specs.Fmt.{decimal};
+ghost use Rattle.sap_stim.specs.Rows.{AreLevelTexts, all_shown, at_level, row_text, shown, shown_of, shown_text, label_text};
+
+use crate::label::RowLabel;
+use crate::rows::level_of_tag;
+use crate::short::{Short, put_text};
+use sap_lattice::lattice::Lattice;
+use sap_text::digits::Digits;
+
+fn put_byte(bytes: &mut [u8], at: usize, byte: u8) -> Option<usize>
+    ensures { IfSome result (λ end. take end bytes.new ≡ take at bytes.old ++ byte ∷ []) }
+{
+    if at >= bytes.len() {
+        return None;
+    }
+    bytes[at] = byte;
+    Some(at + 1)
+}
+
+// Writes a digit.
+fn put_digit(bytes: &mut [u8], at: usize, digit: u64) -> Option<usize>
+    requires { digit < 10 }
+    ensures { IfSome result (λ end. take end bytes.new ≡ take at bytes.old ++ (48 + digit) ∷ []) }
+{
+    put_byte(bytes, at, b'0' + digit as u8)
+}
+
+fn put_below_100(bytes: &mut [u8], at: usize, number: u64) -> Option<usize>
+    requires { number < 100 }
+    ensures { IfSome result (λ end. take end bytes.new ≡ take at bytes.old ++ decimal number) }
+{
+    if number < 10 {
+        return put_digit(bytes, at, number);
+    }
+    let end = put_digit(bytes, at, number / 10)?;
+    put_digit(bytes, end, number % 10)
+}
+
+fn put_below_1000(bytes: &mut [u8], at: usize, number: u64) -> Option<usize>
+    requires { number < 1000 }
+    ensures { IfSome result (λ end. take end bytes.new ≡ take at bytes.old ++ decimal number) }
+{
+    if number < 100 {
+        return put_below_100(bytes, at, number);
+    }
+    let end = put_below_100(bytes, at, number / 10)?;
+    put_digit(bytes, end, number % 10)
+}
+
+fn put_below_10000(bytes: &mut [u8], at: usize, number: u64) -> Option<usize>
+    requires { number < 10000 }
+    ensures { IfSome result (λ end. take end bytes.new ≡ take at bytes.old ++ decimal number) }
+{
+    if number < 1000 {
+        return put_below_1000(bytes, at, number);
+    }
+    let end = put_below_1000(bytes, at, number / 10)?;
+    put_digit(bytes, end, number % 10)
+}
+
+fn put_below_100000(bytes: &mut [u8], at: usize, number: u64) -> Option<usize>
+    requires { number < 100000 }
+    ensures { IfSome result (λ end. take end bytes.new ≡ take at bytes.old ++ decimal number) }
+{
+    if number < 10_000 {
+        return put_below_10000(bytes, at, number);
+    }
+    let end = put_below_10000(bytes, at, number / 10)?;
+    put_digit(bytes, end, number % 10)
+}
+
+/// Writes a number in decimal digits.
+fn put_number(bytes: &mut [u8], at: usize, number: u64) -> Option<usize>
+    ensures { IfSome result (λ end. take end bytes.new ≡ take at bytes.old ++ decimal number) }
+{
+    if number < 100_000 {
+        return put_below_100000(bytes, at, number);
+    }
+    put_text(bytes, at, Digits::new(number).as_bytes())
+}
+
+// Writes `@` and the text of a tag that has none made beforehand.
+fn put_tag(bytes: &mut [u8], at: usize, tag: u64, lattice: &Lattice) -> Option<usize>
+    ensures { IfSome result (λ end. take end bytes.new ≡ take at bytes.old ++ at_level lattice.now tag) }
+{
+    match level_of_tag(lattice, tag) {
+        Some(level) => {
+            let end = put_text(bytes, at, b"@")?;
+            put_text(bytes, end, lattice.name(level).as_bytes())
+        }
+        None => {
+            let end = put_text(bytes, at, b"@#")?;
+            put_number(bytes, end, tag)
+        }
+    }
+}
+
+// Writes `@` and the text of a tag.
+fn put_at_level(
+    bytes: &mut [u8],
+    at: usize,
+    tag: u64,
+    levels: &[Short],
+    lattice: &Lattice,
+) -> Option<usize>
+    requires { AreLevelTexts lattice.now levels.now }
+    ensures { IfSome result (λ end. take end bytes.new ≡ take at bytes.old ++ at_level lattice.now tag) }
+{
+    if tag < levels.len() as u64 {
+        return levels[tag as usize].put(bytes, at);
+    }
+    put_tag(bytes, at, tag, lattice)
+}
+
+fn put_shown(
+    bytes: &mut [u8],
+    at: usize,
+    label: &RowLabel,
+    value: u64,
+    tag: u64,
+    levels: &[Short],
+    lattice: &Lattice,
+) -> Option<usize>
+    requires { AreLevelTexts lattice.now levels.now }
+    ensures { IfSome result (λ end. take end bytes.new ≡ take at bytes.old ++ shown_text (shown lattice.now label.now value tag)) }
+{
+    let end = label.put(bytes, at)?;
+    let end = put_number(bytes, end, value)?;
+    put_at_level(bytes, end, tag, levels, lattice)
+}
+
+fn put_all(
+    bytes: &mut [u8],
+    at: usize,
+    labels: &[RowLabel],
+    values: &[u64],
+    tags: &[u64],
+    levels: &[Short],
+    lattice: &Lattice,
+) -> Option<usize>
+    requires values { length values.now ≡ length labels.now }
+    requires levels { AreLevelTexts lattice.now levels.now }
+    requires tags { length tags.now ≡ length labels.now }
+    ensures { IfSome result (λ end. take end bytes.new ≡ take at bytes.old ++ all_shown (shown_of lattice.now labels.now values.now tags.now)) }
+{
+    let mut end = at;
+    for i in 0..labels.len() {
+        end = put_shown(bytes, end, &labels[i], values[i], tags[i], levels, lattice)?;
+    }
+    put_byte(bytes, end, b'\n')
+}
+
+/// Writes the row of a cycle at the front, and tells where it ends; none where there is little room.
+pub fn put_row(
+    bytes: &mut [u8],
+    cycle: u64,
+    labels: &[RowLabel],
+    values: &[u64],
+    tags: &[u64],
+    levels: &[Short],
+    lattice: &Lattice,
+) -> Option<usize>
+    requires values { length values.now ≡ length labels.now }
+    requires levels { AreLevelTexts lattice.now levels.now }
+    requires tags { length tags.now ≡ length labels.now }
+    ensures { IfSome result (λ end. take end bytes.new ≡ row_text cycle (shown_of lattice.now labels.now values.now tags.now)) }
+{
+    let end = put_text(bytes, 0, b"cycle ")?;
+    let end = put_number(bytes, end, cycle)?;
+    let end = put_text(bytes, end, b":")?;
+    put_all(bytes, end, labels, values, tags, levels, lattice)
+}
