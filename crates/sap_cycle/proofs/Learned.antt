@@ -18,10 +18,10 @@ use Rattle.sap_net.specs.NameMaps.{at_name}
 use Rattle.sap_cycle.specs.declared.known.Known.{Known}
 use Rattle.sap_cycle.specs.declared.steps.Part.{Part}
 use Rattle.sap_cycle.specs.declared.steps.Step.{Step}
-use Rattle.sap_cycle.specs.declared.steps.Step.TheVariants.{Copy, One, Two, Choose, Concat, Slice, Cell}
-use Rattle.sap_cycle.specs.Means.{SlotMeans, PartsMean, BeginsAt, cell_count, StepMeans, StepsMean}
+use Rattle.sap_cycle.specs.declared.steps.Step.TheVariants.{Copy, One, Two, Choose, Concat, Pair, Slice, Cell}
+use Rattle.sap_cycle.specs.Means.{SlotMeans, PartsMean, RangeMeans, BeginsAt, cell_count, StepMeans, StepsMean}
 use Rattle.sap_cycle.specs.Loaded.{bases_of}
-use Rattle.sap_cycle.specs.Known.{Knows, IsKnown, IsKnownMemory, IsKnownOperand, IsKnownRight, slot_found, width_found, part_found, base_found, step_found, parts_found}
+use Rattle.sap_cycle.specs.Known.{Knows, IsKnown, IsKnownMemory, IsKnownOperand, IsKnownRight, slot_found, width_found, part_found, base_found, concat_found, concat_parts, step_found, parts_found}
 use Rattle.sap_cycle.proofs.Looked.{Covers, cases_option, none_there, number_there}
 use Rattle.sap_cycle.proofs.Kept.{is_at, at_within}
 
@@ -128,15 +128,10 @@ base_means f ms names k knows x h =
           ∙ (let e : 0 + cell_count a.before ≡ cell_count a.before = omega arith in e);
     }
 
-pub step_means : (f : Name → ℕ) (ms : List Memory) (names : List Name) (k : Known) → Knows f ms names k → (parts : List Part) (r : Right) → IsKnownRight k r
-    → StepMeans f ms (parts ++ parts_found k r) names (step_found k (length parts) r) r
-step_means f ms names k knows parts (right.Copy a) h = slot_means f ms names k knows a h
-step_means f ms names k knows parts (right.One op a) h = (refl, width_means f ms names k knows a h, slot_means f ms names k knows a h)
-step_means f ms names k knows parts (right.Two op a b) h =
-    (refl, width_means f ms names k knows a h.0, slot_means f ms names k knows a h.0, slot_means f ms names k knows b h.1)
-step_means f ms names k knows parts (right.Choose c a b) h =
-    (slot_means f ms names k knows c h.0, slot_means f ms names k knows a h.1, slot_means f ms names k knows b h.2)
-step_means f ms names k knows parts (right.Concat os) h =
+-- parts behind others
+range_means : (f : Name → ℕ) (ms : List Memory) (names : List Name) (k : Known) → Knows f ms names k → (parts : List Part) (os : List Operand) → AllByRecursion (IsKnownOperand k) os
+    → RangeMeans f names (parts ++ map (part_found k) os) (length parts) (length parts + length os) os
+range_means f ms names k knows parts os h =
     record {
       before = parts;
       range = map (part_found k) os;
@@ -146,6 +141,24 @@ step_means f ms names k knows parts (right.Concat os) h =
       to_is = ap (λ n. length parts + n) (sym (length-map os (part_found k)));
       mean = parts_mean f ms names k knows os h;
     }
+
+concat_means : (f : Name → ℕ) (ms : List Memory) (names : List Name) (k : Known) → Knows f ms names k → (parts : List Part) (os : List Operand) → AllByRecursion (IsKnownOperand k) os
+    → StepMeans f ms (parts ++ concat_parts k os) names (concat_found k (length parts) os) (right.Concat os)
+concat_means f ms names k knows parts [] h = range_means f ms names k knows parts [] h
+concat_means f ms names k knows parts (a ∷ []) h = range_means f ms names k knows parts (a ∷ []) h
+concat_means f ms names k knows parts (a ∷ (b ∷ [])) h =
+    (slot_means f ms names k knows a h.0, slot_means f ms names k knows b h.1.0, width_means f ms names k knows b h.1.0)
+concat_means f ms names k knows parts (a ∷ (b ∷ (c ∷ os))) h = range_means f ms names k knows parts (a ∷ (b ∷ (c ∷ os))) h
+
+pub step_means : (f : Name → ℕ) (ms : List Memory) (names : List Name) (k : Known) → Knows f ms names k → (parts : List Part) (r : Right) → IsKnownRight k r
+    → StepMeans f ms (parts ++ parts_found k r) names (step_found k (length parts) r) r
+step_means f ms names k knows parts (right.Copy a) h = slot_means f ms names k knows a h
+step_means f ms names k knows parts (right.One op a) h = (refl, width_means f ms names k knows a h, slot_means f ms names k knows a h)
+step_means f ms names k knows parts (right.Two op a b) h =
+    (refl, width_means f ms names k knows a h.0, slot_means f ms names k knows a h.0, slot_means f ms names k knows b h.1)
+step_means f ms names k knows parts (right.Choose c a b) h =
+    (slot_means f ms names k knows c h.0, slot_means f ms names k knows a h.1, slot_means f ms names k knows b h.2)
+step_means f ms names k knows parts (right.Concat os) h = concat_means f ms names k knows parts os h
 step_means f ms names k knows parts (right.Slice x hi lo) h = (slot_means f ms names k knows (Named x) h, refl, refl)
 step_means f ms names k knows parts (right.Cell m i) h = (base_means f ms names k knows m h.0, slot_means f ms names k knows i h.1)
 
@@ -168,6 +181,7 @@ step_keeps f ms names parts more (Concat from to) (right.Concat os) h =
       to_is = h.to_is;
       mean = h.mean;
     }
+step_keeps f ms names parts more (Pair w s t) (right.Concat os) h = h
 step_keeps f ms names parts more (Slice s hi lo) (right.Slice x i j) h = h
 step_keeps f ms names parts more (Cell base s) (right.Cell m i) h = h
 step_keeps f ms names parts more _ _ h = absurd h

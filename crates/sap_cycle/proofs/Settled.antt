@@ -15,15 +15,17 @@ use Rattle.sap_net.specs.declared.parts.Right.{Right}
 use Rattle.sap_net.specs.declared.parts.Right.TheVariants as right
 use Rattle.sap_net.specs.declared.parts.Wire.{Wire}
 use Rattle.sap_net.specs.declared.parts.Memory.{Memory}
-use Rattle.sap_net.specs.Values.{operand_value, operands_width, operands_value, right_value, Holds}
-use Rattle.sap_net.specs.Rules.{Shapes, IsRight, AreWires, readable_after, IsWidth}
+use Rattle.sap_bits.specs.Arithmetic.{joined}
+use Rattle.sap_net.specs.Values.{operand_value, operand_width, operands_width, operands_value, right_value, Holds}
+use Rattle.sap_net.specs.Rules.{Shapes, AreOperands, IsRight, AreWires, readable_after, IsWidth}
 use Rattle.sap_net.proofs.Same.{AreFound}
 use Rattle.sap_net.proofs.Within.{ValuesBelow, WidthsAre, operand_below, operand_is_wide}
 use Rattle.sap_cycle.specs.declared.steps.Part.{Part}
+use Rattle.sap_cycle.specs.declared.steps.Slot.{Slot}
 use Rattle.sap_cycle.specs.declared.steps.Step.{Step}
-use Rattle.sap_cycle.specs.declared.steps.Step.TheVariants.{Copy, One, Two, Choose, Concat, Slice, Cell}
-use Rattle.sap_cycle.specs.Steps.{joined_from, step_value, IsReady, settled, AreReady}
-use Rattle.sap_cycle.specs.Means.{RangeMeans, BeginsAt, StepMeans, StepsMean, Matches}
+use Rattle.sap_cycle.specs.declared.steps.Step.TheVariants.{Copy, One, Two, Choose, Concat, Pair, Slice, Cell}
+use Rattle.sap_cycle.specs.Steps.{joined_from, slot_value, SlotIn, ArePartsReady, step_value, IsReady, settled, AreReady}
+use Rattle.sap_cycle.specs.Means.{PartsMean, RangeMeans, PairMeans, BeginsAt, StepMeans, StepsMean, Matches}
 use Rattle.sap_cycle.specs.Running.{cells_of}
 use Rattle.sap_cycle.proofs.Slots.{slot_is, slot_in, joined_is, parts_ready}
 use Rattle.sap_cycle.proofs.Cells.{cells_long, cell_at, count_more}
@@ -37,6 +39,28 @@ range_is widths names parts from to os r =
 
 front_zero : (x y : ℕ) → 0 * x + y ≡ y
 front_zero x y = omega arith
+
+-- two slots as parts
+abbrev pair_parts : (widths : Name → ℕ) (w : ℕ) (s t : Slot) (a : Operand) → List Part
+pair_parts widths w s t a = record { slot = s; width = operand_width widths a } ∷ (record { slot = t; width = w } ∷ [])
+
+pair_mean : (widths : Name → ℕ) (names : List Name) (w : ℕ) (s t : Slot) (a b : Operand) → PairMeans widths names w s t (a ∷ (b ∷ [])) → PartsMean widths names (pair_parts widths w s t a) (a ∷ (b ∷ []))
+pair_mean widths names w s t a b h = (h.0, refl, (h.1, h.2, tt))
+
+pair_is : (widths : Name → ℕ) (v : Valuation) (names : List Name) (values : List ℕ) → Matches v names values → (w : ℕ) (s t : Slot) (a b : Operand) → PairMeans widths names w s t (a ∷ (b ∷ []))
+    → joined (slot_value values s) w (slot_value values t) ≡ operands_value widths v (a ∷ (b ∷ []))
+pair_is widths v names values m w s t a b h =
+    ap (λ x. joined x w (slot_value values t)) (sym (front_zero (2 ^ operand_width widths a) (slot_value values s)))
+    ∙ joined_is widths v names values m (pair_parts widths w s t a) (a ∷ (b ∷ [])) (pair_mean widths names w s t a b h) 0
+    ∙ front_zero (2 ^ operands_width widths (a ∷ (b ∷ []))) (operands_value widths v (a ∷ (b ∷ [])))
+
+pair_ready : (widths : Name → ℕ) (sc : Scope) (v : Valuation) (names : List Name) (values : List ℕ) → ValuesBelow sc v → WidthsAre sc widths → Matches v names values → length names ≤ length values
+    → (u : ℕ) → u ≤ 64 → (w : ℕ) (s t : Slot) (a b : Operand) → PairMeans widths names w s t (a ∷ (b ∷ [])) → AreOperands sc u (a ∷ (b ∷ []))
+    → SlotIn values s × SlotIn values t × (1 ≤ w) × (w ≤ 64) × (slot_value values s < 2 ^ (64 - w)) × (slot_value values t < 2 ^ w)
+pair_ready widths sc v names values below wide m le u narrow w s t a b h rules =
+    let p : ArePartsReady values 0 (pair_parts widths w s t a) =
+    parts_ready widths sc v names values below wide m le (pair_parts widths w s t a) (a ∷ (b ∷ [])) (pair_mean widths names w s t a b h) u 0 0 rules (omega arith) (omega (arith, narrow)) in
+    (p.0, p.5.0, p.5.1, p.5.2, subst (λ x. x < 2 ^ (64 - w)) (front_zero (2 ^ operand_width widths a) (slot_value values s)) p.5.3, p.5.4)
 
 -- the cells that memories have
 pub record Holding (ms : List Memory) (shapes : Shapes) (v : Valuation) (cells : List ℕ) : Type 0 where
@@ -88,6 +112,8 @@ step_is widths ms shapes sc parts v names values cells b m c u (Concat from to) 
     ap (joined_from values 0) (range_is widths names parts from to os h)
     ∙ joined_is widths v names values m h.range os h.mean 0
     ∙ front_zero (2 ^ operands_width widths os) (operands_value widths v os)
+step_is widths ms shapes sc parts v names values cells b m c u (Pair w s t) (right.Concat (a ∷ (d ∷ []))) h rules =
+    pair_is widths v names values m w s t a d h
 step_is widths ms shapes sc parts v names values cells b m c u (Slice s hi lo) (right.Slice x i j) h rules =
     let e = slot_is v names values m s (Named x) h.0 in
     let f = h.1 in
@@ -125,6 +151,8 @@ ready widths ms shapes sc parts v names values cells b w m le c u wide (Concat f
       omega (arith, h.from_is, h.to_is, l),
       rw (range_is widths names parts from to os h) (parts_ready widths sc v names values b w m le h.range os h.mean u 0 0 rules.1 (omega arith) (omega (arith, wide.1))),
     )
+ready widths ms shapes sc parts v names values cells b w m le c u wide (Pair k s t) (right.Concat (a ∷ (d ∷ []))) h rules =
+    pair_ready widths sc v names values b w m le u wide.1 k s t a d h rules.1
 ready widths ms shapes sc parts v names values cells b w m le c u wide (Slice s hi lo) (right.Slice x i j) h rules =
     (slot_in names values le s (Named x) h.0, omega (arith, h.1, rules.1.1, rules.4), omega (arith, h.1, h.2, rules.3))
 ready widths ms shapes sc parts v names values cells b w m le c u wide (Cell base s) (right.Cell x i) h rules =

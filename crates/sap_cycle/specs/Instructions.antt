@@ -4,7 +4,7 @@ use Rattle.sap_bits.specs.declared.Op1.TheVariants.{Not}
 use Rattle.sap_bits.specs.declared.Op2.TheVariants.{Add, Sub, And, Or, Xor, Eq, Ne, Lt}
 use Rattle.sap_cycle.specs.declared.steps.Slot.TheVariants.{At, Number}
 use Rattle.sap_cycle.specs.declared.steps.Step.{Step}
-use Rattle.sap_cycle.specs.declared.steps.Step.TheVariants.{Copy, One, Two, Choose, Concat, Slice}
+use Rattle.sap_cycle.specs.declared.steps.Step.TheVariants.{Copy, One, Two, Choose, Concat, Pair, Slice}
 use Rattle.sap_cycle.specs.declared.instructions.Instruction.{Instruction}
 use Rattle.sap_cycle.specs.declared.instructions.Instruction.TheVariants as instruction
 
@@ -28,6 +28,7 @@ step_of_instruction others (instruction.Lt w a b) = Two Lt w (At a) (At b)
 step_of_instruction others (instruction.EqNumber w a n) = Two Eq w (At a) (Number n)
 step_of_instruction others (instruction.Choose c a b) = Choose (At c) (At a) (At b)
 step_of_instruction others (instruction.Concat from to) = Concat from to
+step_of_instruction others (instruction.Pair w a b) = Pair w (At a) (At b)
 step_of_instruction others (instruction.Slice a hi lo) = Slice (At a) hi lo
 step_of_instruction others (instruction.Other k) = step_at others k
 

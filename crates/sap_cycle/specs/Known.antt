@@ -12,7 +12,7 @@ use Rattle.sap_cycle.specs.declared.steps.Slot.{Slot}
 use Rattle.sap_cycle.specs.declared.steps.Slot.TheVariants.{At, Number}
 use Rattle.sap_cycle.specs.declared.steps.Part.{Part}
 use Rattle.sap_cycle.specs.declared.steps.Step.{Step}
-use Rattle.sap_cycle.specs.declared.steps.Step.TheVariants.{Copy, One, Two, Choose, Concat, Slice, Cell}
+use Rattle.sap_cycle.specs.declared.steps.Step.TheVariants.{Copy, One, Two, Choose, Concat, Pair, Slice, Cell}
 use Rattle.sap_net.specs.Net.{Net}
 use Rattle.sap_net.specs.NameMaps.{at_name, NameMap}
 use Rattle.sap_cycle.specs.declared.steps.WritePort.{WritePort}
@@ -63,18 +63,31 @@ part_found k o = record { slot = slot_found k o; width = width_found k o }
 abbrev pub base_found : Known → Name → ℕ
 base_found k x = slice_index k.bases.items (unwrap_or (at_name k.memories x) 0)
 
+-- the step of a concatenation of two operands
+abbrev pub pair_found : Known → Operand → Operand → Step
+pair_found k a b = Pair (width_found k b) (slot_found k a) (slot_found k b)
+
+-- the step of a concatenation whose parts, if it has any, stand from a place on
+abbrev pub concat_found : Known → (from : ℕ) → List Operand → Step
+concat_found k from (a ∷ (b ∷ [])) = pair_found k a b
+concat_found k from os = Concat from (from + length os)
+
+abbrev pub concat_parts : Known → List Operand → List Part
+concat_parts k (a ∷ (b ∷ [])) = []
+concat_parts k os = map (part_found k) os
+
 -- the step of a right side whose parts, if it has any, stand from a place on
 abbrev pub step_found : Known → (from : ℕ) → Right → Step
 step_found k from (right.Copy a) = Copy (slot_found k a)
 step_found k from (right.One op a) = One op (width_found k a) (slot_found k a)
 step_found k from (right.Two op a b) = Two op (width_found k a) (slot_found k a) (slot_found k b)
 step_found k from (right.Choose c a b) = Choose (slot_found k c) (slot_found k a) (slot_found k b)
-step_found k from (right.Concat os) = Concat from (from + length os)
+step_found k from (right.Concat os) = concat_found k from os
 step_found k from (right.Slice x hi lo) = Slice (At (unwrap_or (at_name k.places x) 0)) hi lo
 step_found k from (right.Cell m i) = Cell (base_found k m) (slot_found k i)
 
 abbrev pub parts_found : Known → Right → List Part
-parts_found k (right.Concat os) = map (part_found k) os
+parts_found k (right.Concat os) = concat_parts k os
 parts_found k _ = []
 
 abbrev pub IsKnownPort : Known → Memory → Type 0

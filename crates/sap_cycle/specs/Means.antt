@@ -13,7 +13,7 @@ use Rattle.sap_cycle.specs.declared.steps.Slot.{Slot}
 use Rattle.sap_cycle.specs.declared.steps.Slot.TheVariants.{At, Number}
 use Rattle.sap_cycle.specs.declared.steps.Part.{Part}
 use Rattle.sap_cycle.specs.declared.steps.Step.{Step}
-use Rattle.sap_cycle.specs.declared.steps.Step.TheVariants.{Copy, One, Two, Choose, Concat, Slice, Cell}
+use Rattle.sap_cycle.specs.declared.steps.Step.TheVariants.{Copy, One, Two, Choose, Concat, Pair, Slice, Cell}
 use Rattle.sap_cycle.specs.declared.steps.WritePort.{WritePort}
 
 -- `names` has the name of each place
@@ -38,6 +38,11 @@ pub record RangeMeans (widths : Name → ℕ) (names : List Name) (parts : List 
   pub to_is : to ≡ from + length range
   pub mean : PartsMean widths names range os
 
+-- Two slots mean two operands, of which the second has this width.
+abbrev pub PairMeans : (widths : Name → ℕ) → (names : List Name) → (width : ℕ) → Slot → Slot → List Operand → Type 0
+PairMeans widths names w s t (a ∷ (b ∷ [])) = SlotMeans names s a × SlotMeans names t b × (w ≡ operand_width widths b)
+PairMeans widths names w s t _ = ⊥
+
 -- how many cells memories have
 abbrev pub cell_count : List Memory → ℕ
 cell_count [] = 0
@@ -59,6 +64,7 @@ StepMeans widths ms parts names (Two op w s t) (right.Two o a b) =
     (op ≡ o) × (w ≡ operand_width widths a) × SlotMeans names s a × SlotMeans names t b
 StepMeans widths ms parts names (Choose q s t) (right.Choose c a b) = SlotMeans names q c × SlotMeans names s a × SlotMeans names t b
 StepMeans widths ms parts names (Concat from to) (right.Concat os) = RangeMeans widths names parts from to os
+StepMeans widths ms parts names (Pair w s t) (right.Concat os) = PairMeans widths names w s t os
 StepMeans widths ms parts names (Slice s hi lo) (right.Slice x h l) = SlotMeans names s (Named x) × (hi ≡ h) × (lo ≡ l)
 StepMeans widths ms parts names (Cell base s) (right.Cell m i) = BeginsAt ms m base × SlotMeans names s i
 StepMeans widths ms parts names _ _ = ⊥

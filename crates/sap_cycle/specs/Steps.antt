@@ -6,7 +6,7 @@ use Rattle.sap_cycle.specs.declared.steps.Slot.{Slot}
 use Rattle.sap_cycle.specs.declared.steps.Slot.TheVariants.{At, Number}
 use Rattle.sap_cycle.specs.declared.steps.Part.{Part}
 use Rattle.sap_cycle.specs.declared.steps.Step.{Step}
-use Rattle.sap_cycle.specs.declared.steps.Step.TheVariants.{Copy, One, Two, Choose, Concat, Slice, Cell}
+use Rattle.sap_cycle.specs.declared.steps.Step.TheVariants.{Copy, One, Two, Choose, Concat, Pair, Slice, Cell}
 use Rattle.sap_cycle.specs.declared.steps.WritePort.{WritePort}
 
 abbrev pub slot_value : (values : List ℕ) → Slot → ℕ
@@ -24,6 +24,7 @@ step_value values cells parts (One op w a) = value1 op w (slot_value values a)
 step_value values cells parts (Two op w a b) = value2 op w (slot_value values a) (slot_value values b)
 step_value values cells parts (Choose c a b) = if slot_value values c == 0 then slot_value values b else slot_value values a
 step_value values cells parts (Concat from to) = joined_from values 0 (slice_range parts from to)
+step_value values cells parts (Pair w a b) = joined (slot_value values a) w (slot_value values b)
 step_value values cells parts (Slice a hi lo) = slice_of (slot_value values a) hi lo
 step_value values cells parts (Cell base i) = slice_index cells (base + slot_value values i)
 
@@ -49,6 +50,8 @@ IsReady values cells parts (Two op w a b) =
     (1 ≤ w) × (w ≤ 64) × SlotIn values a × SlotIn values b × (slot_value values a < 2 ^ w) × RightFits op w (slot_value values b)
 IsReady values cells parts (Choose c a b) = SlotIn values c × SlotIn values a × SlotIn values b
 IsReady values cells parts (Concat from to) = (from ≤ to) × (to ≤ length parts) × ArePartsReady values 0 (slice_range parts from to)
+IsReady values cells parts (Pair w a b) =
+    SlotIn values a × SlotIn values b × (1 ≤ w) × (w ≤ 64) × (slot_value values a < 2 ^ (64 - w)) × (slot_value values b < 2 ^ w)
 IsReady values cells parts (Slice a hi lo) = SlotIn values a × (hi < 64) × (lo ≤ hi)
 IsReady values cells parts (Cell base i) = SlotIn values i × (base + slot_value values i < length cells)
 

@@ -8,7 +8,7 @@ ghost use Rattle.sap_cycle.specs.Steps.{step_value, IsReady, settled, AreReady};
 ghost use Rattle.sap_cycle.specs.Instructions.{step_of_instruction, step_at, IsWithin, StandsFor};
 
 use crate::steps::{Part, Slot, Step, evaluate, join};
-use sap_bits::{Op1, Op2, apply1, apply2, slice};
+use sap_bits::{Op1, Op2, apply1, apply2, concat, slice};
 use std::alloc::AllocError;
 
 /// A step in sixteen bytes. Each operator that is common over places has a variant of its own, so that one branch finds
@@ -29,6 +29,7 @@ pub enum Instruction {
     EqNumber(u8, u32, u64),
     Choose(u32, u32, u32),
     Concat(u32, u32),
+    Pair(u32, u32, u32),
     Slice(u32, u32, u32),
     /// The step at a place in a list of its own.
     Other(usize),
@@ -91,6 +92,9 @@ fn short_of(step: Step) -> Option<Instruction>
             Some(Instruction::Choose(short(c)?, short(a)?, short(b)?))
         }
         Step::Concat(from, to) => Some(Instruction::Concat(short(from)?, short(to)?)),
+        Step::Pair(width, Slot::At(a), Slot::At(b)) => {
+            Some(Instruction::Pair(width, short(a)?, short(b)?))
+        }
         Step::Slice(Slot::At(a), hi, lo) => Some(Instruction::Slice(short(a)?, hi, lo)),
         _ => None,
     }
@@ -181,6 +185,7 @@ fn perform(
             }
         }
         Instruction::Concat(from, to) => join(values, &parts[*from as usize..*to as usize]),
+        Instruction::Pair(w, a, b) => concat(values[*a as usize], *w, values[*b as usize]),
         Instruction::Slice(a, hi, lo) => slice(values[*a as usize], *hi, *lo),
         Instruction::Other(place) => perform_other(values, cells, parts, others, *place),
     }

@@ -5,7 +5,7 @@ ghost use Rattle.std.specs.List.{AllByRecursion};
 ghost use Rattle.sap_maps.specs.Maps.{Name as Text};
 ghost use Rattle.sap_net.specs.declared.parts.Memory.{Memory as Stored};
 ghost use Rattle.sap_net.specs.NameMaps.{at_name};
-ghost use Rattle.sap_cycle.specs.Known.{Knows, IsKnown, IsKnownMemory, IsKnownOperand, IsKnownRight, slot_found, width_found, part_found, base_found, step_found, parts_found};
+ghost use Rattle.sap_cycle.specs.Known.{Knows, IsKnown, IsKnownMemory, IsKnownOperand, IsKnownRight, slot_found, width_found, part_found, base_found, pair_found, concat_found, concat_parts, step_found, parts_found};
 
 use crate::steps::{Part, Slot, Step};
 use sap_net::name_map::{at_name, put};
@@ -111,6 +111,33 @@ fn push_parts(known: &Known, parts: &mut Vec<Part>, operands: &[Operand]) -> Res
     Ok(())
 }
 
+/// The step of a concatenation of two operands.
+fn pair_of(known: &Known, first: &Operand, second: &Operand) -> Step
+    requires first { IsKnownOperand known.now first.now }
+    requires second { IsKnownOperand known.now second.now }
+    ensures { result ≡ pair_found known.now first.now second.now }
+{
+    Step::Pair(
+        operand_width(known, second),
+        slot_of(known, first),
+        slot_of(known, second),
+    )
+}
+
+/// The step of a concatenation, and its parts.
+fn concat_of(known: &Known, parts: &mut Vec<Part>, operands: &[Operand]) -> Result<Step, AllocError>
+    requires { AllByRecursion (IsKnownOperand known.now) operands.now }
+    ensures step { IfOk result (λ s. s ≡ concat_found known.now (length parts.old.items) operands.now) }
+    ensures parts { OnOk result (parts.new.items ≡ parts.old.items ++ concat_parts known.now operands.now) }
+{
+    if operands.len() == 2 {
+        return Ok(pair_of(known, &operands[0], &operands[1]));
+    }
+    let from = parts.len();
+    push_parts(known, parts, operands)?;
+    Ok(Step::Concat(from, parts.len()))
+}
+
 /// The step of a right side, and the parts of a concatenation.
 pub fn step_of(known: &Known, parts: &mut Vec<Part>, right: &Right) -> Result<Step, AllocError>
     requires { IsKnownRight known.now right.now }
@@ -131,11 +158,7 @@ pub fn step_of(known: &Known, parts: &mut Vec<Part>, right: &Right) -> Result<St
             slot_of(known, a),
             slot_of(known, b),
         )),
-        Right::Concat(operands) => {
-            let from = parts.len();
-            push_parts(known, parts, operands.as_slice())?;
-            Ok(Step::Concat(from, parts.len()))
-        }
+        Right::Concat(operands) => concat_of(known, parts, operands.as_slice()),
         Right::Slice { name, hi, lo } => Ok(Step::Slice(Slot::At(place(known, name)), *hi, *lo)),
         Right::Cell { memory, index } => Ok(Step::Cell(base(known, memory), slot_of(known, index))),
     }

@@ -28,6 +28,8 @@ pub enum Step {
     Choose(Slot, Slot, Slot),
     /// The parts from the first place up to the second.
     Concat(usize, usize),
+    /// Two parts, of which the second has this width.
+    Pair(u32, Slot, Slot),
     Slice(Slot, u32, u32),
     /// A memory whose cells begin at a place in the array of cells, and the index in it.
     Cell(usize, Slot),
@@ -81,6 +83,7 @@ pub fn evaluate(values: &[u64], cells: &[u64], parts: &[Part], step: Step) -> u6
             }
         }
         Step::Concat(from, to) => join(values, &parts[from..to]),
+        Step::Pair(w, a, b) => concat(read(values, a), w, read(values, b)),
         Step::Slice(a, hi, lo) => slice(read(values, a), hi, lo),
         Step::Cell(base, index) => cells[base + read(values, index) as usize],
     }
