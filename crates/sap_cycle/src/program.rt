@@ -6,8 +6,8 @@ ghost use Rattle.sap_cycle.specs.Turned.{CanTurn, values_turned, cells_turned};
 use crate::instructions::{Instruction, settle};
 use crate::steps::{Part, Slot, Step, WritePort, copy_to, read_all, store_all};
 
-/// The steps of the wires in order, with the parts of longer concatenations and the steps that have no instruction of their
-/// own; what each register takes at the edge, and the write port of each memory.
+/// The steps of the wires in order, with the parts of longer concatenations and the steps that have no instruction of
+/// their own; what each register takes at the edge, and the write port of each memory.
 #[derive(Drop)]
 pub struct Program {
     pub parts: Vec<Part>,
