@@ -1,5 +1,4 @@
 pub mod Lists
-pub mod Sets
 pub mod Numerals
 pub mod Provided
 pub mod Folds

@@ -1,4 +1,3 @@
-pub mod Names
 pub mod Wires
 pub mod Equals
 pub mod Folding

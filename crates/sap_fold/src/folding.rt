@@ -2,7 +2,7 @@
 
 ghost use Rattle.std.specs.Prelude.{IfOk, OnOk};
 ghost use Rattle.sap_fold.specs.Gives.{Becomes, Gives};
-ghost use Rattle.sap_fold.specs.Names.{holds};
+ghost use Rattle.sap_share.specs.Sets.{holds};
 ghost use Rattle.sap_fold.specs.Settled.{Orderly};
 
 use crate::fold::fold;
@@ -10,14 +10,14 @@ use crate::parts::spread;
 use crate::see::see;
 use crate::wires::Wires;
 use sap_net::parts::{Operand, Right};
+use sap_share::name_set::NameSet;
 use std::alloc::{AllocError, Global};
-use std::collections::HashSet;
 
 /// A right side of equal value, after one round of the rules.
 fn simpler(
     alloc: Global,
     wires: &mut Wires,
-    taken: &HashSet<Vec<u8>>,
+    taken: &NameSet,
     width: u32,
     given: Right,
 ) -> Result<Right, AllocError>
@@ -35,7 +35,7 @@ fn simpler(
 pub fn fold_into(
     alloc: Global,
     wires: &mut Wires,
-    taken: &HashSet<Vec<u8>>,
+    taken: &NameSet,
     width: u32,
     given: Right,
 ) -> Result<Operand, AllocError>

@@ -4,7 +4,6 @@
 mod absorb;
 mod fold;
 pub mod folding;
-pub mod names;
 mod order;
 mod parts;
 mod rules;

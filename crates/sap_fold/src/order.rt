@@ -5,7 +5,7 @@ ghost use Rattle.sap_bits.specs.declared.Op2.TheVariants as two;
 ghost use Rattle.sap_net.specs.declared.parts.Right.TheVariants as right;
 ghost use Rattle.sap_fold.specs.Equals.{Equals};
 ghost use Rattle.sap_fold.specs.Gives.{Becomes};
-ghost use Rattle.sap_fold.specs.Names.{holds};
+ghost use Rattle.sap_share.specs.Sets.{holds};
 ghost use Rattle.sap_fold.specs.Order as spec;
 ghost use Rattle.sap_fold.specs.Settled.{Orderly};
 
@@ -14,8 +14,8 @@ use crate::under::{definition, other};
 use crate::wires::Wires;
 use sap_bits::{Op1, Op2, mask};
 use sap_net::parts::{Name, Operand, Right};
+use sap_share::name_set::NameSet;
 use std::alloc::{AllocError, Global};
-use std::collections::HashSet;
 
 /// The place of the one bit that is 0 in a number, if there is just one.
 fn gap(operand: &Operand) -> Option<u32>
@@ -182,7 +182,7 @@ pub fn see_unequal(
 pub fn see_equal(
     alloc: Global,
     wires: &mut Wires,
-    taken: &HashSet<Vec<u8>>,
+    taken: &NameSet,
     width: u32,
     a: Operand,
     b: Operand,

@@ -5,7 +5,7 @@ ghost use Rattle.sap_bits.specs.declared.Op1.TheVariants as one;
 ghost use Rattle.sap_net.specs.declared.parts.Right.TheVariants as right;
 ghost use Rattle.sap_fold.specs.Equals.{Equals};
 ghost use Rattle.sap_fold.specs.Gives.{ArmGives, Becomes};
-ghost use Rattle.sap_fold.specs.Names.{holds};
+ghost use Rattle.sap_share.specs.Sets.{holds};
 ghost use Rattle.sap_fold.specs.Seen.{Defines};
 ghost use Rattle.sap_fold.specs.Under as spec;
 ghost use Rattle.sap_fold.specs.Settled.{Orderly};
@@ -20,8 +20,8 @@ use crate::under::{definition, number, under};
 use crate::wires::Wires;
 use sap_bits::{Op1, Op2};
 use sap_net::parts::{Operand, Right};
+use sap_share::name_set::NameSet;
 use std::alloc::{AllocError, Global};
-use std::collections::HashSet;
 
 /// What an operand is the negation of.
 fn negated(alloc: Global, wires: &Wires, operand: &Operand) -> Result<Option<Operand>, AllocError>
@@ -61,7 +61,7 @@ fn plain(alloc: Global, wires: &Wires, width: u32, given: Right) -> Result<Right
 fn arm(
     alloc: Global,
     wires: &mut Wires,
-    taken: &HashSet<Vec<u8>>,
+    taken: &NameSet,
     width: u32,
     bit: &Operand,
     value: bool,
@@ -85,7 +85,7 @@ fn arm(
 fn see_condition(
     alloc: Global,
     wires: &mut Wires,
-    taken: &HashSet<Vec<u8>>,
+    taken: &NameSet,
     width: u32,
     condition: Operand,
     a: &Operand,
@@ -106,7 +106,7 @@ fn see_condition(
 fn see_arms(
     alloc: Global,
     wires: &mut Wires,
-    taken: &HashSet<Vec<u8>>,
+    taken: &NameSet,
     width: u32,
     condition: Operand,
     a: Operand,
@@ -126,7 +126,7 @@ fn see_arms(
 fn see_choice(
     alloc: Global,
     wires: &mut Wires,
-    taken: &HashSet<Vec<u8>>,
+    taken: &NameSet,
     width: u32,
     condition: Operand,
     a: Operand,
@@ -188,7 +188,7 @@ fn see_negated(
 fn see_bits(
     alloc: Global,
     wires: &mut Wires,
-    taken: &HashSet<Vec<u8>>,
+    taken: &NameSet,
     op: Op2,
     a: Operand,
     b: Operand,
@@ -209,7 +209,7 @@ fn see_bits(
 fn see_both(
     alloc: Global,
     wires: &mut Wires,
-    taken: &HashSet<Vec<u8>>,
+    taken: &NameSet,
     width: u32,
     op: Op2,
     a: Operand,
@@ -231,7 +231,7 @@ fn see_both(
 fn see_two(
     alloc: Global,
     wires: &mut Wires,
-    taken: &HashSet<Vec<u8>>,
+    taken: &NameSet,
     width: u32,
     op: Op2,
     a: Operand,
@@ -256,7 +256,7 @@ fn see_two(
 pub fn see(
     alloc: Global,
     wires: &mut Wires,
-    taken: &HashSet<Vec<u8>>,
+    taken: &NameSet,
     width: u32,
     given: Right,
 ) -> Result<Right, AllocError>

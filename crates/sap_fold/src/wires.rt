@@ -6,18 +6,18 @@ ghost use Rattle.sap_share.specs.Keys as spec;
 ghost use Rattle.sap_share.specs.Names.{helper};
 ghost use Rattle.sap_share.specs.Rights.{NamesRights, rights};
 ghost use Rattle.sap_fold.specs.Folding.{folded, settled};
-ghost use Rattle.sap_fold.specs.Names.{holds};
+ghost use Rattle.sap_share.specs.Sets.{holds};
 ghost use Rattle.sap_fold.specs.Settled.{Orderly, is_copy};
 ghost use Rattle.sap_fold.specs.Wires.{Adds, AddsNew, HasWire, IsFree, Provides};
 
 use crate::fold::settle;
-use crate::names::has;
 use sap_net::parts::{Name, Operand, Right, Wire};
 use sap_share::keys::key;
+use sap_share::name_set::NameSet;
 use sap_share::names::helper_name;
 use sap_share::rights::known;
 use std::alloc::{AllocError, Global};
-use std::collections::{HashMap, HashSet};
+use std::collections::HashMap;
 
 /// The helping wires so far, in order, and by the bytes of its right side the number in the name of each. The next one has number `next` or the first
 /// behind it that is not taken, so that the numbers rise.
@@ -36,12 +36,12 @@ struct Free {
 }
 
 /// The first number from `from` on whose name is not taken. A netlist never has so many names that there is none.
-fn free_name(alloc: Global, taken: &HashSet<Vec<u8>>, from: u64) -> Result<Free, AllocError>
+fn free_name(alloc: Global, taken: &NameSet, from: u64) -> Result<Free, AllocError>
     ensures { IfOk result (λ f. IsFree (holds taken.now) from f.number f.name) }
 {
     for number in from..u64::MAX {
         let name = helper_name(alloc, number)?;
-        if !has(taken, &name) {
+        if !taken.has(&name) {
             return Ok(Free { number, name });
         }
     }
@@ -110,7 +110,7 @@ impl Wires {
     pub fn provide(
         &mut self,
         alloc: Global,
-        taken: &HashSet<Vec<u8>>,
+        taken: &NameSet,
         width: u32,
         right: Right,
     ) -> Result<Operand, AllocError>
@@ -126,7 +126,7 @@ impl Wires {
     fn provide_settled(
         &mut self,
         alloc: Global,
-        taken: &HashSet<Vec<u8>>,
+        taken: &NameSet,
         width: u32,
         right: Right,
     ) -> Result<Operand, AllocError>
@@ -148,7 +148,7 @@ impl Wires {
     fn add(
         &mut self,
         alloc: Global,
-        taken: &HashSet<Vec<u8>>,
+        taken: &NameSet,
         width: u32,
         right: Right,
     ) -> Result<Name, AllocError>
@@ -169,7 +169,7 @@ impl Wires {
     fn push(
         &mut self,
         alloc: Global,
-        taken: &HashSet<Vec<u8>>,
+        taken: &NameSet,
         key: Vec<u8>,
         width: u32,
         right: Right,

@@ -5,3 +5,4 @@ pub mod RightMaps
 pub mod Found
 pub mod Differing
 pub mod Lookups
+pub mod Held

@@ -3,3 +3,4 @@ pub mod Names
 pub mod Rights
 pub mod Differing
 pub mod Tables
+pub mod Sets

@@ -18,7 +18,7 @@ use Rattle.sap_net.specs.declared.parts.Memory.{Memory}
 use Rattle.sap_net.specs.declared.parts.Operand.{Operand}
 use Rattle.sap_net.specs.declared.parts.Operand.TheVariants.{Named, Constant}
 use Rattle.sap_net.specs.declared.parts.Wire.{Wire}
-use Rattle.sap_fold.specs.Names.{NameSet, holds}
+use Rattle.sap_share.specs.Sets.{holds}
 use Rattle.sap_trim.specs.Names.{lasting_names}
 use Rattle.sap_lemmas.proofs.Bools.{or_false, or_true}
 use Rattle.sap_lemmas.proofs.Texts.{bytes_eq_apart_back, bytes_eq_same, equal_of_bytes_eq}
@@ -28,10 +28,10 @@ use Rattle.sap_trim.specs.Replaced.{Stands}
 use Rattle.sap_trim.specs.Stays.{KeepsStart}
 use Rattle.sap_trim.specs.Walked.{State, Walked, SomeRegister, StartsAt, Starts}
 
-empty_holds : (s : NameSet) (n : Name) → s.keys ≡ [] → holds s n ≡ false
-empty_holds s n e = ap (λ (ks : List (Vec ℕ Global)). list_any (λ k. bytes_eq n k.items) ks) e
+empty_holds : (s : List Name) (n : Name) → s ≡ [] → holds s n ≡ false
+empty_holds s n e = ap (λ (ns : List Name). holds ns n) e
 
-pub lasting_held : (n : Name) (net : Net) (ps : List Port) (rs : List Register) (ms : List Memory) (s0 s1 s2 s3 : NameSet) → s0.keys ≡ [] → ps ≡ net.ports → rs ≡ net.registers → ms ≡ net.memories
+pub lasting_held : (n : Name) (net : Net) (ps : List Port) (rs : List Register) (ms : List Memory) (s0 s1 s2 s3 : List Name) → s0 ≡ [] → ps ≡ net.ports → rs ≡ net.registers → ms ≡ net.memories
     → holds s1 n ≡ (is_among n (map (λ m. m.name) ms) || holds s0 n) → holds s2 n ≡ (is_among n (map (λ r. r.name) rs) || holds s1 n) → holds s3 n ≡ (is_among n (map (λ p. p.name) ps) || holds s2 n) → holds s3 n ≡ is_among n (lasting_names net)
 lasting_held n net ps rs ms s0 s1 s2 s3 e p r m a b c =
     let P = map (λ x. x.name) net.ports in

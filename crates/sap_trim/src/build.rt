@@ -1,32 +1,30 @@
 //! The parts of the new netlist.
 
 ghost use Rattle.std.specs.Prelude.{◌≡◌, ◌++◌, map, filter, IfOk, OnOk};
-ghost use Rattle.sap_maps.specs.Maps as spec;
-ghost use Rattle.sap_net.specs.Names.{is_among};
 ghost use Rattle.sap_net.specs.Net.{net_of};
 ghost use Rattle.sap_net.specs.IsNetlist.{names_of};
 ghost use Rattle.sap_net.specs.NameMaps.{at_name};
 ghost use Rattle.sap_trim.specs.Built.{built, memory_of, register_of, wire_of};
-ghost use Rattle.sap_fold.specs.Names.{holds};
+ghost use Rattle.sap_share.specs.Sets.{AreSame, holds};
 ghost use Rattle.sap_trim.specs.Names.{lasting_names, port_names};
 
 use crate::replace::{stand, stand_name};
-use sap_fold::names::has;
 use sap_net::netlist::Netlist;
 use sap_net::parts::{Input, Memory, Name, Operand, Parts, Port, Register, Right, Wire};
+use sap_share::name_set::NameSet;
 use std::alloc::{AllocError, Global};
-use std::collections::{HashMap, HashSet};
+use std::collections::HashMap;
 
 fn add_lasting(
     alloc: Global,
     made: &mut Vec<Name>,
-    lasting: &HashSet<Vec<u8>>,
+    lasting: &NameSet,
     names: &[Name],
 ) -> Result<(), AllocError>
     ensures { OnOk result (made.new.items ≡ made.old.items ++ filter (holds lasting.now) names.now) }
 {
     for name in names {
-        if has(lasting, name) {
+        if lasting.has(name) {
             made.push(name.copy(alloc)?)?;
         }
     }
@@ -86,14 +84,14 @@ fn wire(alloc: Global, stands: &HashMap<Vec<u8>, Operand>, shown: &Wire) -> Resu
 fn add_shown(
     alloc: Global,
     made: &mut Vec<Wire>,
-    ports: &HashSet<Vec<u8>>,
+    ports: &NameSet,
     stands: &HashMap<Vec<u8>, Operand>,
     wires: &[Wire],
 ) -> Result<(), AllocError>
     ensures { OnOk result (made.new.items ≡ made.old.items ++ map (wire_of (at_name stands.now)) (filter (λ w. holds ports.now w.name) wires.now)) }
 {
     for shown in wires {
-        if has(ports, &shown.name) {
+        if ports.has(&shown.name) {
             made.push(wire(alloc, stands, shown)?)?;
         }
     }
@@ -171,13 +169,13 @@ fn memories(
 pub fn build(
     alloc: Global,
     netlist: &Netlist,
-    lasting: &HashSet<Vec<u8>>,
-    shown: &HashSet<Vec<u8>>,
+    lasting: &NameSet,
+    shown: &NameSet,
     stands: &HashMap<Vec<u8>, Operand>,
     mut wires: Vec<Wire>,
 ) -> Result<Parts, AllocError>
-    requires lasting { (n : spec.Name) → holds lasting.now n ≡ is_among n (lasting_names netlist.now) }
-    requires shown { (n : spec.Name) → holds shown.now n ≡ is_among n (port_names netlist.now) }
+    requires lasting { AreSame lasting.now (lasting_names netlist.now) }
+    requires shown { AreSame shown.now (port_names netlist.now) }
     ensures { IfOk result (λ p. net_of p ≡ built netlist.now wires.items (at_name stands.now)) }
 {
     let module_name = netlist.module_name().copy(alloc)?;

@@ -1,17 +1,14 @@
 //! How many wires are left.
 
 ghost use Rattle.std.specs.Prelude.{◌≡◌, ◌≤◌, [], ◌∷◌, filter, length};
-ghost use Rattle.sap_maps.specs.Maps as spec;
-ghost use Rattle.sap_net.specs.Names.{is_among};
-ghost use Rattle.sap_fold.specs.Names.{holds};
+ghost use Rattle.sap_share.specs.Sets.{AreSame, holds};
 ghost use Rattle.sap_trim.specs.Few.{calculated, most_left};
 ghost use Rattle.sap_trim.specs.Names.{port_names};
 ghost use Rattle.sap_trim.specs.Needed.{MarksNeeded, marked};
 
-use sap_fold::names::has;
 use sap_net::netlist::Netlist;
 use sap_net::parts::{Right, Wire};
-use std::collections::HashSet;
+use sap_share::name_set::NameSet;
 
 /// One for a wire that is kept and no copy.
 fn calculates(is_kept: bool, wire: &Wire) -> usize
@@ -41,15 +38,15 @@ fn count_calculated(kept: &[bool], wires: &[Wire]) -> usize
 }
 
 /// One for a wire that is a port.
-fn shows(shown: &HashSet<Vec<u8>>, wire: &Wire) -> usize
+fn shows(shown: &NameSet, wire: &Wire) -> usize
     ensures same { result ≡ length (filter (λ w. holds shown.now w.name) (wire.now ∷ [])) }
     ensures most { result ≤ 1 }
 {
-    if has(shown, &wire.name) { 1 } else { 0 }
+    if shown.has(&wire.name) { 1 } else { 0 }
 }
 
 /// How many of the wires are ports.
-fn count_shown(shown: &HashSet<Vec<u8>>, wires: &[Wire]) -> usize
+fn count_shown(shown: &NameSet, wires: &[Wire]) -> usize
     ensures same { result ≡ length (filter (λ w. holds shown.now w.name) wires.now) }
     ensures most { result ≤ length wires.now }
 {
@@ -61,8 +58,8 @@ fn count_shown(shown: &HashSet<Vec<u8>>, wires: &[Wire]) -> usize
 }
 
 /// How many wires are left at most without those that nothing reads.
-pub fn wires_left(netlist: &Netlist, shown: &HashSet<Vec<u8>>, kept: &[bool]) -> usize
-    requires shown { (n : spec.Name) → holds shown.now n ≡ is_among n (port_names netlist.now) }
+pub fn wires_left(netlist: &Netlist, shown: &NameSet, kept: &[bool]) -> usize
+    requires shown { AreSame shown.now (port_names netlist.now) }
     requires kept { MarksNeeded netlist.now kept.now }
     ensures { result ≡ most_left netlist.now }
 {

@@ -1,11 +1,9 @@
 //! Whole netlists.
 
 ghost use Rattle.std.specs.Prelude.{◌≡◌, ◌≤◌, length, IfOk};
-ghost use Rattle.sap_maps.specs.Maps as spec;
-ghost use Rattle.sap_net.specs.Names.{is_among};
 ghost use Rattle.sap_net.specs.IsNetlist.{IsNetlist};
 ghost use Rattle.sap_net.specs.NameMaps.{at_name};
-ghost use Rattle.sap_fold.specs.Names.{holds};
+ghost use Rattle.sap_share.specs.Sets.{AreSame};
 ghost use Rattle.sap_fold.specs.Settled.{Orderly};
 ghost use Rattle.sap_trim.specs.Alike.{DeclaresAlike, RunsAlike};
 ghost use Rattle.sap_trim.specs.Built.{built};
@@ -27,8 +25,9 @@ use crate::walk::Walk;
 use sap_fold::wires::Wires;
 use sap_net::netlist::Netlist;
 use sap_net::parts::{Operand, Wire};
+use sap_share::name_set::NameSet;
 use std::alloc::{AllocError, Global};
-use std::collections::{HashMap, HashSet};
+use std::collections::HashMap;
 
 // The wires that are made of those of a netlist, and what its names stand for over them.
 #[derive(Drop)]
@@ -55,12 +54,8 @@ fn made_by(walk: Walk) -> Made
 }
 
 // The wires with their right sides folded and shared.
-fn folded_wires(
-    alloc: Global,
-    netlist: &Netlist,
-    lasting: &HashSet<Vec<u8>>,
-) -> Result<Made, AllocError>
-    requires { (n : spec.Name) → holds lasting.now n ≡ is_among n (lasting_names netlist.now) }
+fn folded_wires(alloc: Global, netlist: &Netlist, lasting: &NameSet) -> Result<Made, AllocError>
+    requires { AreSame lasting.now (lasting_names netlist.now) }
     ensures rules { IfOk result (λ m. IsNetlist (built netlist.now m.wires.items (at_name m.stands))) }
     ensures declares { IfOk result (λ m. DeclaresAlike netlist.now (built netlist.now m.wires.items (at_name m.stands))) }
     ensures same { IfOk result (λ m. RunsAlike netlist.now (built netlist.now m.wires.items (at_name m.stands))) }
@@ -89,12 +84,12 @@ fn fold_wires(alloc: Global, netlist: &Netlist) -> Result<Netlist, AllocError>
 // The names of the ports of a netlist, and a mark for each of its wires, which those have that are needed.
 #[derive(Drop)]
 struct Needs {
-    shown: HashSet<Vec<u8>>,
+    shown: NameSet,
     kept: Vec<bool>,
 }
 
 fn needs_of(alloc: Global, netlist: &Netlist) -> Result<Needs, AllocError>
-    ensures shown { IfOk result (λ s. (n : spec.Name) → holds s.shown n ≡ is_among n (port_names netlist.now)) }
+    ensures shown { IfOk result (λ s. AreSame s.shown (port_names netlist.now)) }
     ensures kept { IfOk result (λ s. MarksNeeded netlist.now s.kept.items) }
 {
     let shown = names::ports(alloc, netlist)?;
@@ -124,7 +119,7 @@ fn folded_of(alloc: Global, netlist: &Netlist) -> Result<Folded, AllocError>
     ensures declares { IfOk result (λ f. DeclaresAlike netlist.now f.netlist) }
     ensures same { IfOk result (λ f. RunsAlike netlist.now f.netlist) }
     ensures folded { IfOk result (λ f. IsFolded f.netlist) }
-    ensures shown { IfOk result (λ f. (n : spec.Name) → holds f.needs.shown n ≡ is_among n (port_names f.netlist)) }
+    ensures shown { IfOk result (λ f. AreSame f.needs.shown (port_names f.netlist)) }
     ensures kept { IfOk result (λ f. MarksNeeded f.netlist f.needs.kept.items) }
 {
     let folded = fold_wires(alloc, netlist)?;
@@ -139,11 +134,11 @@ fn folded_of(alloc: Global, netlist: &Netlist) -> Result<Folded, AllocError>
 fn kept_wires(
     alloc: Global,
     netlist: &Netlist,
-    lasting: &HashSet<Vec<u8>>,
+    lasting: &NameSet,
     kept: Vec<bool>,
     mut walk: Walk,
 ) -> Result<Made, AllocError>
-    requires lasting { (n : spec.Name) → holds lasting.now n ≡ is_among n (lasting_names netlist.now) }
+    requires lasting { AreSame lasting.now (lasting_names netlist.now) }
     requires kept { MarksNeeded netlist.now kept.items }
     requires begins { Begins netlist.now (state_of walk) }
     requires orderly { Orderly walk.wires.numbers walk.wires.list.items }
@@ -156,7 +151,7 @@ fn kept_wires(
 
 /// The netlist without the wires that are not kept, the others folded each by itself and numbered in order.
 fn keep(alloc: Global, netlist: &Netlist, needs: Needs, walk: Walk) -> Result<Netlist, AllocError>
-    requires shown { (n : spec.Name) → holds needs.shown n ≡ is_among n (port_names netlist.now) }
+    requires shown { AreSame needs.shown (port_names netlist.now) }
     requires kept { MarksNeeded netlist.now needs.kept.items }
     requires begins { Begins netlist.now (state_of walk) }
     requires orderly { Orderly walk.wires.numbers walk.wires.list.items }
@@ -171,12 +166,8 @@ fn keep(alloc: Global, netlist: &Netlist, needs: Needs, walk: Walk) -> Result<Ne
 }
 
 // The wires each folded by itself, with each register that keeps its start as that number.
-fn settled_wires(
-    alloc: Global,
-    netlist: &Netlist,
-    lasting: &HashSet<Vec<u8>>,
-) -> Result<Made, AllocError>
-    requires { (n : spec.Name) → holds lasting.now n ≡ is_among n (lasting_names netlist.now) }
+fn settled_wires(alloc: Global, netlist: &Netlist, lasting: &NameSet) -> Result<Made, AllocError>
+    requires { AreSame lasting.now (lasting_names netlist.now) }
     ensures { IfOk result (λ m. SettledNet netlist.now (built netlist.now m.wires.items (at_name m.stands))) }
 {
     netlist.rules();
@@ -202,7 +193,7 @@ fn share(alloc: Global, netlist: Netlist) -> Result<Netlist, AllocError>
 /// left to fold.
 fn number(alloc: Global, netlist: Netlist, needs: Needs) -> Result<Netlist, AllocError>
     requires folded { IsFolded netlist }
-    requires shown { (n : spec.Name) → holds needs.shown n ≡ is_among n (port_names netlist) }
+    requires shown { AreSame needs.shown (port_names netlist) }
     requires kept { MarksNeeded netlist needs.kept.items }
     ensures declares { IfOk result (λ n. DeclaresAlike netlist n) }
     ensures same { IfOk result (λ n. RunsAlike netlist n) }

@@ -7,7 +7,7 @@ ghost use Rattle.sap_net.specs.IsNetlist.{input_names, register_names};
 ghost use Rattle.sap_net.specs.declared.parts.Operand.TheVariants as operand;
 ghost use Rattle.sap_net.specs.NameMaps.{at_name, Puts};
 ghost use Rattle.sap_fold.specs.Folding.{settled};
-ghost use Rattle.sap_fold.specs.Names.{holds};
+ghost use Rattle.sap_share.specs.Sets.{holds};
 ghost use Rattle.sap_fold.specs.Settled.{Orderly};
 ghost use Rattle.sap_trim.specs.Needed.{is_marked, marked};
 ghost use Rattle.sap_trim.specs.Stays.{AllStay};
@@ -20,8 +20,9 @@ use sap_fold::wires::Wires;
 use sap_net::name_map::put;
 use sap_net::netlist::Netlist;
 use sap_net::parts::{Input, Name, Operand, Register, Right, Wire};
+use sap_share::name_set::NameSet;
 use std::alloc::{AllocError, Global};
-use std::collections::{HashMap, HashSet};
+use std::collections::HashMap;
 
 /// The wires so far, and what each name of the netlist stands for over them.
 #[derive(Drop)]
@@ -140,7 +141,7 @@ impl Walk {
     fn step(
         &mut self,
         alloc: Global,
-        taken: &HashSet<Vec<u8>>,
+        taken: &NameSet,
         name: &Name,
         width: u32,
         right: Right,
@@ -153,12 +154,7 @@ impl Walk {
         put(&mut self.stands, alloc, name, operand)
     }
 
-    fn fold_wire(
-        &mut self,
-        alloc: Global,
-        taken: &HashSet<Vec<u8>>,
-        wire: &Wire,
-    ) -> Result<(), AllocError>
+    fn fold_wire(&mut self, alloc: Global, taken: &NameSet, wire: &Wire) -> Result<(), AllocError>
         requires { Orderly self.old.wires.numbers self.old.wires.list.items }
         ensures orderly { OnOk result (Orderly self.new.wires.numbers self.new.wires.list.items) }
         ensures folds { OnOk result (Folds (holds taken.now) (state_of self.old) wire.now (state_of self.new)) }
@@ -169,12 +165,7 @@ impl Walk {
     }
 
     /// A wire with its right side folded.
-    fn settle_wire(
-        &mut self,
-        alloc: Global,
-        taken: &HashSet<Vec<u8>>,
-        wire: &Wire,
-    ) -> Result<(), AllocError>
+    fn settle_wire(&mut self, alloc: Global, taken: &NameSet, wire: &Wire) -> Result<(), AllocError>
         requires { Orderly self.old.wires.numbers self.old.wires.list.items }
         ensures orderly { OnOk result (Orderly self.new.wires.numbers self.new.wires.list.items) }
         ensures settles { OnOk result (Settles (holds taken.now) (state_of self.old) wire.now (state_of self.new)) }
@@ -187,7 +178,7 @@ impl Walk {
     pub fn settle_all(
         &mut self,
         alloc: Global,
-        taken: &HashSet<Vec<u8>>,
+        taken: &NameSet,
         wires: &[Wire],
     ) -> Result<(), AllocError>
         requires { Orderly self.old.wires.numbers self.old.wires.list.items }
@@ -204,7 +195,7 @@ impl Walk {
     fn settle_if_kept(
         &mut self,
         alloc: Global,
-        taken: &HashSet<Vec<u8>>,
+        taken: &NameSet,
         kept: &[bool],
         place: usize,
         wire: &Wire,
@@ -224,7 +215,7 @@ impl Walk {
     pub fn fold_all(
         &mut self,
         alloc: Global,
-        taken: &HashSet<Vec<u8>>,
+        taken: &NameSet,
         wires: &[Wire],
     ) -> Result<(), AllocError>
         requires { Orderly self.old.wires.numbers self.old.wires.list.items }
@@ -241,7 +232,7 @@ impl Walk {
     pub fn settle_kept(
         &mut self,
         alloc: Global,
-        taken: &HashSet<Vec<u8>>,
+        taken: &NameSet,
         kept: &[bool],
         wires: &[Wire],
     ) -> Result<(), AllocError>

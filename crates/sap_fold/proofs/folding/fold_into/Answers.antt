@@ -1,4 +1,4 @@
-use Rattle.sap_fold.specs.Names.{holds}
+use Rattle.sap_share.specs.Sets.{holds}
 use Rattle.sap_fold.specs.Folding.{settled}
 use Rattle.sap_fold.proofs.Becoming.{becomes_both, becomes_equal, gives_becoming, gives_provided}
 use Rattle.sap_fold.proofs.Settling.{settled_equals}

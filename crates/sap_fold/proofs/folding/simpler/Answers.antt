@@ -1,5 +1,5 @@
 use Rattle.std.proofs.Common.{refl}
-use Rattle.sap_fold.specs.Names.{holds}
+use Rattle.sap_share.specs.Sets.{holds}
 use Rattle.sap_fold.proofs.Becoming.{becomes_equal, becomes_both}
 use Rattle.sap_fold.proofs.Folds.{folded_equals}
 use Rattle.sap_fold.proofs.Sees.{equals_both}

@@ -3,7 +3,7 @@ use Rattle.std.specs.Prelude.{IfSome}
 use Rattle.sap_bits.specs.declared.Op2.TheVariants.{Eq}
 use Rattle.sap_net.specs.declared.parts.Right.TheVariants.{Two}
 use Rattle.sap_fold.specs.declared.order.Bit.{Bit}
-use Rattle.sap_fold.specs.Names.{holds}
+use Rattle.sap_share.specs.Sets.{holds}
 use Rattle.sap_fold.specs.Order.{EitherAsks}
 use Rattle.sap_fold.proofs.Becoming.{becomes_equal}
 use Rattle.sap_fold.proofs.Ordering.{equal_bit}

@@ -1,7 +1,7 @@
 use Rattle.std.proofs.Common.{Option, subst}
 use Rattle.std.specs.Prelude.{IfSome}
 use Rattle.sap_net.specs.declared.parts.Right.{Right}
-use Rattle.sap_fold.specs.Names.{holds}
+use Rattle.sap_share.specs.Sets.{holds}
 use Rattle.sap_fold.specs.Under.{number, Under}
 use Rattle.sap_fold.specs.Folding.{settled}
 use Rattle.sap_fold.proofs.Becoming.{arm_itself, arm_known}

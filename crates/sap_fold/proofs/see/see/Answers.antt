@@ -3,7 +3,7 @@ use Rattle.sap_bits.specs.declared.Op1.TheVariants.{Not}
 use Rattle.sap_net.specs.declared.parts.Right.{Right}
 use Rattle.sap_net.specs.declared.parts.Right.TheVariants.{One, Concat, Slice}
 use Rattle.sap_fold.specs.Gives.{Becomes}
-use Rattle.sap_fold.specs.Names.{holds}
+use Rattle.sap_share.specs.Sets.{holds}
 use Rattle.sap_fold.proofs.Becoming.{becomes_equal}
 use Rattle.sap_fold.proofs.see.see.Goals as goal
 

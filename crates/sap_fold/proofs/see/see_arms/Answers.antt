@@ -1,5 +1,5 @@
 use Rattle.sap_net.specs.declared.parts.Right.TheVariants.{Choose}
-use Rattle.sap_fold.specs.Names.{holds}
+use Rattle.sap_share.specs.Sets.{holds}
 use Rattle.sap_fold.proofs.Becoming.{arms_become, becomes_both}
 use Rattle.sap_fold.proofs.see.see_arms.Goals as goal
 

@@ -1,6 +1,6 @@
 use Rattle.std.proofs.Common.{Bool, subst}
 use Rattle.sap_net.specs.declared.parts.Right.TheVariants.{Two}
-use Rattle.sap_fold.specs.Names.{holds}
+use Rattle.sap_share.specs.Sets.{holds}
 use Rattle.sap_fold.specs.Gives.{ArmGives}
 use Rattle.sap_fold.specs.Under.{number}
 use Rattle.sap_fold.proofs.Becoming.{becomes_both, becomes_equal, bits_become}

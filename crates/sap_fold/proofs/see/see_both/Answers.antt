@@ -1,5 +1,5 @@
 use Rattle.sap_net.specs.declared.parts.Right.TheVariants.{Two}
-use Rattle.sap_fold.specs.Names.{holds}
+use Rattle.sap_share.specs.Sets.{holds}
 use Rattle.sap_fold.proofs.Becoming.{becomes_equal}
 use Rattle.sap_fold.proofs.see.see_both.Goals as goal
 

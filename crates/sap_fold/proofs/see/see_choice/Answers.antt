@@ -3,7 +3,7 @@ use Rattle.std.specs.Prelude.{IfSome}
 use Rattle.sap_bits.specs.declared.Op1.TheVariants.{Not}
 use Rattle.sap_net.specs.declared.parts.Operand.{Operand}
 use Rattle.sap_net.specs.declared.parts.Right.TheVariants.{One, Choose}
-use Rattle.sap_fold.specs.Names.{holds}
+use Rattle.sap_share.specs.Sets.{holds}
 use Rattle.sap_fold.specs.Seen.{Defines}
 use Rattle.sap_fold.proofs.Becoming.{becomes_equal, becomes_both}
 use Rattle.sap_fold.proofs.Sees.{choose_turned}

@@ -1,5 +1,5 @@
 use Rattle.std.proofs.Common.{sym, ◌∙◌}
-use Rattle.sap_fold.specs.Names.{holds}
+use Rattle.sap_share.specs.Sets.{holds}
 use Rattle.sap_fold.proofs.Negations.{condition_becomes}
 use Rattle.sap_fold.proofs.see.see_condition.Goals as goal
 

@@ -1,5 +1,5 @@
 use Rattle.std.proofs.Common.{◌≡◌, ◌++◌, drop, filter}
-use Rattle.sap_fold.specs.Names.{holds}
+use Rattle.sap_share.specs.Sets.{holds}
 use Rattle.sap_trim.proofs.build.add_lasting.Given as goal
 
 abbrev pub invariant-loop-name : goal.invariant-loop-name

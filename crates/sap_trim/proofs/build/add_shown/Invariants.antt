@@ -1,5 +1,5 @@
 use Rattle.std.proofs.Common.{◌≡◌, ◌++◌, drop, map, filter}
-use Rattle.sap_fold.specs.Names.{holds}
+use Rattle.sap_share.specs.Sets.{holds}
 use Rattle.sap_trim.specs.Built.{wire_of}
 use Rattle.sap_trim.proofs.build.add_shown.Given as goal
 use Rattle.sap_net.specs.NameMaps.{at_name}

@@ -1,6 +1,6 @@
 use Rattle.std.proofs.Common.{arith}
 use Rattle.sap_net.specs.declared.parts.Wire.{Wire}
-use Rattle.sap_fold.specs.Names.{holds}
+use Rattle.sap_share.specs.Sets.{holds}
 use Rattle.sap_trim.proofs.Counts.{count_next}
 use Rattle.sap_trim.proofs.left.count_shown.Goals as goal
 

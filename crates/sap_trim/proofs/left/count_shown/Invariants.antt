@@ -1,5 +1,5 @@
 use Rattle.std.proofs.Common.{◌≡◌, ◌≤◌, take, filter, length}
-use Rattle.sap_fold.specs.Names.{holds}
+use Rattle.sap_share.specs.Sets.{holds}
 use Rattle.sap_trim.proofs.left.count_shown.Given as goal
 
 abbrev pub invariant-loop-wire : goal.invariant-loop-wire

@@ -1,7 +1,7 @@
 use Rattle.std.proofs.Common.{◌≡◌, List, filter, length, sym, ap, ◌∙◌, arith}
 use Rattle.sap_net.specs.declared.parts.Wire.{Wire}
 use Rattle.sap_net.specs.Names.{is_among}
-use Rattle.sap_fold.specs.Names.{holds}
+use Rattle.sap_share.specs.Sets.{holds}
 use Rattle.sap_fold.proofs.Lists.{filter_same}
 use Rattle.sap_trim.specs.Few.{calculated}
 use Rattle.sap_trim.specs.Names.{port_names, shown_wires}

@@ -1,7 +1,7 @@
 use Rattle.std.proofs.Common.{◌∙◌, List, Bool, length, ap, ap₂, sym, subst}
 use Rattle.sap_net.specs.declared.parts.Wire.{Wire}
 use Rattle.sap_net.specs.NameMaps.{at_name}
-use Rattle.sap_fold.specs.Names.{holds}
+use Rattle.sap_share.specs.Sets.{holds}
 use Rattle.sap_trim.specs.Needed.{MarksNeeded}
 use Rattle.sap_trim.specs.Walked.{state_of}
 use Rattle.sap_trim.specs.Built.{built}

@@ -1,5 +1,5 @@
 use Rattle.std.proofs.Common.{take}
-use Rattle.sap_fold.specs.Names.{holds}
+use Rattle.sap_share.specs.Sets.{holds}
 use Rattle.sap_trim.specs.Walked.{Folds, Walked, state_of}
 use Rattle.sap_fold.specs.Settled.{Orderly}
 use Rattle.sap_trim.proofs.walk.Walk.fold_all.Given as goal

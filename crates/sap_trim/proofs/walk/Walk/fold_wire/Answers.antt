@@ -2,7 +2,7 @@ use Rattle.std.proofs.Common.{subst}
 use Rattle.std.proofs.lemmas.Result.{on_ok_weaker}
 use Rattle.sap_net.specs.declared.parts.Right.{Right}
 use Rattle.sap_fold.specs.Gives.{Gives}
-use Rattle.sap_fold.specs.Names.{holds}
+use Rattle.sap_share.specs.Sets.{holds}
 use Rattle.sap_trim.proofs.walk.Walk.fold_wire.Goals as goal
 
 pub returns-clause-folds : goal.returns-clause-folds

@@ -1,6 +1,6 @@
 use Rattle.std.proofs.Common.{[], ◌∷◌, List, take, sym, subst, arith}
 use Rattle.sap_net.specs.declared.parts.Wire.{Wire}
-use Rattle.sap_fold.specs.Names.{holds}
+use Rattle.sap_share.specs.Sets.{holds}
 use Rattle.sap_trim.specs.Needed.{is_marked, marked}
 use Rattle.sap_trim.specs.Walked.{Settles, Walked, state_of}
 use Rattle.sap_trim.proofs.Loops.{walked_both}

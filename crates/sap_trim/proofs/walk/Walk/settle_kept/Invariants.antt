@@ -1,5 +1,5 @@
 use Rattle.std.proofs.Common.{take}
-use Rattle.sap_fold.specs.Names.{holds}
+use Rattle.sap_share.specs.Sets.{holds}
 use Rattle.sap_fold.specs.Settled.{Orderly}
 use Rattle.sap_trim.specs.Needed.{marked}
 use Rattle.sap_trim.specs.Walked.{Settles, Walked, state_of}
