@@ -16,7 +16,7 @@ use Rattle.sap_ir.proofs.Declared.{not_front, not_behind_list}
 use Rattle.sap_lower.specs.declared.parts.Part.{Part}
 use Rattle.sap_share.specs.Names.{helper}
 use Rattle.sap_lower.specs.Lowered.{listed, out_wire, all_wires, last_lowering, lowered}
-use Rattle.sap_lower.specs.Same.{CopiesPorts}
+use Rattle.sap_share.specs.Copying.{CopiesPorts}
 use Rattle.sap_lower.proofs.Fits.{IsHelper}
 use Rattle.sap_lower.proofs.Netlist.{helpers_apart, last_fits}
 use Rattle.sap_lower.proofs.Whole.{last_short}

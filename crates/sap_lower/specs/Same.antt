@@ -71,7 +71,3 @@ helping s ws = filter (λ w. not (is_among w.name (variable_names s.wires))) ws
 -- No two helping wires have the same width and the same right side.
 abbrev pub SharesWires : Source → Net → Type 0
 SharesWires s n = AllDiffer (helping s n.wires)
-
--- Each wire that is a port is a copy.
-abbrev pub CopiesPorts : Net → Type 0
-CopiesPorts n = AllByRecursion (λ w. is_among w.name (map (λ p. p.name) n.ports) ≡ true → (a : Operand) × (w.right ≡ Copy a)) n.wires

@@ -9,7 +9,8 @@ ghost use Rattle.sap_size.specs.Flat.{source_weight};
 ghost use Rattle.sap_size.specs.Items.{items};
 ghost use Rattle.sap_lower.specs.Lowered as spec;
 ghost use Rattle.sap_lower.specs.Lowered.{input_of, input_port, last_lowering, listed, memory_of, names_declared, net_declared, out_wire, port_shown, register_of, registers_declared};
-ghost use Rattle.sap_lower.specs.Same.{CopiesPorts, Declares, RunsAlike, SharesWires};
+ghost use Rattle.sap_share.specs.Copying.{CopiesPorts};
+ghost use Rattle.sap_lower.specs.Same.{Declares, RunsAlike, SharesWires};
 
 use crate::lowering::Lowering;
 use crate::parts::{Part, WritePort};

@@ -4,3 +4,4 @@ pub mod Rights
 pub mod Differing
 pub mod Tables
 pub mod Sets
+pub mod Copying

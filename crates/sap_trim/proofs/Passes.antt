@@ -1,11 +1,15 @@
 -- What is known of the passes.
-use Rattle.std.proofs.Common.{◌≡◌, ℕ, List, [], ◌∷◌, ◌++◌, map, Some, Bool, true, false, sym, ap, ap₂, ◌∙◌, subst, refl, length}
+use Rattle.std.proofs.Common.{◌≡◌, ℕ, List, [], ◌∷◌, ◌++◌, map, filter, Some, Bool, true, false, sym, ap, ap₂, ◌∙◌, subst, refl, length, inl, inr}
+use Rattle.std.proofs.lemmas.Bool.{cases_Bool}
 use Rattle.std.specs.List.{AllByRecursion}
 use Rattle.sap_lemmas.proofs.Everywhere.{all_filter, all_follow, all_of_map}
 use Rattle.sap_maps.specs.Maps.{Name}
 use Rattle.sap_maps.specs.Scope.{Scope, find}
 use Rattle.sap_net.specs.Names.{is_among}
 use Rattle.sap_net.specs.Net.{Net}
+use Rattle.sap_net.specs.declared.parts.Operand.{Operand}
+use Rattle.sap_net.specs.declared.parts.Right.{Right}
+use Rattle.sap_net.specs.declared.parts.Right.TheVariants.{Copy}
 use Rattle.sap_net.specs.declared.parts.Wire.{Wire}
 use Rattle.sap_net.specs.Rules.{readable_after}
 use Rattle.sap_net.specs.IsNetlist.{register_names, memory_names, first_readable, readable, shapes, IsNetlist, names_of}
@@ -15,7 +19,8 @@ use Rattle.sap_fold.specs.Settled.{IsSettled, is_copy, Orderly}
 use Rattle.sap_trim.specs.Names.{numbered, port_names, lasting_names, helping_wires, shown_wires}
 use Rattle.sap_trim.specs.Reads.{edge_reads, IsRead, ReadsWires}
 use Rattle.sap_share.specs.Differing.{AllDiffer}
-use Rattle.sap_trim.specs.Trimmed.{CopiesPorts, FoldsWires, SharesWires, NamesWires, NumbersWires}
+use Rattle.sap_share.specs.Copying.{CopiesPorts}
+use Rattle.sap_trim.specs.Trimmed.{FoldsWires, SharesWires, NamesWires, NumbersWires}
 use Rattle.sap_trim.specs.Walked.{State, Begins, Folds, Settles, StandForThemselves, Walked}
 use Rattle.sap_trim.specs.Folded.{IsFolded}
 use Rattle.sap_trim.specs.Tidied.{SettledNet, Tidied}
@@ -149,10 +154,28 @@ copies_are : (e : Stands) (ws : List Wire) → AllByRecursion (λ w. is_copy w.r
 copies_are e [] = tt
 copies_are e (w ∷ ws) = (refl, copies_are e ws)
 
+copied : (r : Right) → is_copy r ≡ true → (a : Operand) × (r ≡ Copy a)
+copied (Copy a) c = (a, refl)
+
+each_copied : (ps : List Name) (ws : List Wire) → AllByRecursion (λ w. is_copy w.right ≡ true) (filter (λ w. is_among w.name ps) ws)
+    → AllByRecursion (λ w. is_among w.name ps ≡ true → (a : Operand) × (w.right ≡ Copy a)) ws
+each_copied ps [] c = tt
+each_copied ps (w ∷ ws) c =
+    elim (cases_Bool (is_among w.name ps)) [
+      | inl t ↦
+          let both : AllByRecursion (λ w. is_copy w.right ≡ true) (w ∷ filter (λ w. is_among w.name ps) ws) = rw t at c in
+          ((λ h. copied w.right both.0), each_copied ps ws both.1)
+      | inr f ↦
+          let rest : AllByRecursion (λ w. is_copy w.right ≡ true) (filter (λ w. is_among w.name ps) ws) = rw f at c in
+          ((λ h. absurd cc), each_copied ps ws rest)
+    ]
+
 dropped_copies : (n : Net) (taken : Name → Bool) (s t : State) → Dropped n taken s t → CopiesPorts (built n t.wires t.stands)
 dropped_copies n taken s t d =
-    subst (AllByRecursion (λ w. is_copy w.right ≡ true)) (sym (shown_are n t.wires t.stands (no_ports n taken (readable_after (first_readable n) (needed_wires n)) t d.done.walks)))
-    (copies_are t.stands (shown_wires n))
+    let small = built n t.wires t.stands in
+    each_copied (port_names small) small.wires
+    (subst (AllByRecursion (λ w. is_copy w.right ≡ true)) (sym (shown_are n t.wires t.stands (no_ports n taken (readable_after (first_readable n) (needed_wires n)) t d.done.walks)))
+    (copies_are t.stands (shown_wires n)))
 
 built_folded : (n : Net) (numbers : RightMap) (t : State) → Orderly numbers t.wires → IsFolded (built n t.wires t.stands)
 built_folded n numbers t o =

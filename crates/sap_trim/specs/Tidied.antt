@@ -6,7 +6,8 @@ use Rattle.sap_trim.specs.Alike.{DeclaresAlike, RunsAlike}
 use Rattle.sap_trim.specs.Few.{NeedsNoMore, most_left}
 use Rattle.sap_trim.specs.Folded.{IsFolded}
 use Rattle.sap_trim.specs.Reads.{ReadsWires}
-use Rattle.sap_trim.specs.Trimmed.{CopiesPorts, FoldsWires, NamesWires, NumbersWires, SharesWires}
+use Rattle.sap_share.specs.Copying.{CopiesPorts}
+use Rattle.sap_trim.specs.Trimmed.{FoldsWires, NamesWires, NumbersWires, SharesWires}
 use Rattle.sap_trim.specs.Walked.{State, StandForThemselves}
 
 -- What holds of it, where the walk over the given one begins so.

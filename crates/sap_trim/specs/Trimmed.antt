@@ -16,10 +16,6 @@ SharesWires n = AllDiffer (helping_wires n)
 abbrev pub FoldsWires : Net → Type 0
 FoldsWires n = AllByRecursion (λ w. (is_copy w.right ≡ false) × IsSettled w) (helping_wires n)
 
--- Each wire that is a port only copies what it shows.
-abbrev pub CopiesPorts : Net → Type 0
-CopiesPorts n = AllByRecursion (λ w. is_copy w.right ≡ true) (shown_wires n)
-
 -- Each helping wire is named n and a number.
 abbrev pub NamesWires : Net → Type 0
 NamesWires n = AllByRecursion (λ w. (k : ℕ) × (w.name ≡ helper k)) (helping_wires n)

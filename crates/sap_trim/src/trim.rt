@@ -12,7 +12,8 @@ ghost use Rattle.sap_trim.specs.Folded.{IsFolded};
 ghost use Rattle.sap_trim.specs.Names.{lasting_names, port_names};
 ghost use Rattle.sap_trim.specs.Needed.{MarksNeeded};
 ghost use Rattle.sap_trim.specs.Reads.{ReadsWires};
-ghost use Rattle.sap_trim.specs.Trimmed.{CopiesPorts, FoldsWires, NamesWires, NumbersWires, SharesWires};
+ghost use Rattle.sap_share.specs.Copying.{CopiesPorts};
+ghost use Rattle.sap_trim.specs.Trimmed.{FoldsWires, NamesWires, NumbersWires, SharesWires};
 ghost use Rattle.sap_trim.specs.Tidied.{SettledNet, Tidied};
 ghost use Rattle.sap_trim.specs.Walked.{Begins, state_of};
 

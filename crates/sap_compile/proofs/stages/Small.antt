@@ -12,7 +12,7 @@ use Rattle.sap_net.specs.declared.parts.Wire.{Wire}
 use Rattle.sap_net.specs.declared.parts.Register.{Register}
 use Rattle.sap_net.specs.declared.parts.Memory.{Memory}
 use Rattle.sap_size.specs.Items.{items}
-use Rattle.sap_lower.specs.Same.{CopiesPorts}
+use Rattle.sap_share.specs.Copying.{CopiesPorts}
 use Rattle.sap_trim.specs.Alike.{DeclaresAlike}
 use Rattle.sap_trim.specs.Few.{is_copy, calculated, HasFewWires}
 use Rattle.sap_trim.specs.Names.{port_names}

@@ -6,7 +6,8 @@ use Rattle.sap_ir.specs.Program.{source_of}
 use Rattle.sap_size.specs.Flat.{source_weight}
 use Rattle.sap_size.specs.Items.{items}
 use Rattle.sap_lower.specs.Lowered.{all_wires}
-use Rattle.sap_lower.specs.Same.{CopiesPorts, Declares, RunsAlike, SharesWires}
+use Rattle.sap_share.specs.Copying.{CopiesPorts}
+use Rattle.sap_lower.specs.Same.{Declares, RunsAlike, SharesWires}
 use Rattle.sap_lower.proofs.Copied.{copies_ports}
 use Rattle.sap_lower.proofs.Cycle.{runs_alike}
 use Rattle.sap_lower.proofs.Final.{lowered_rules}
