@@ -7,3 +7,6 @@ pub mod Examples
 pub mod Inside
 pub mod PartRuns
 pub mod CopiedParts
+pub mod Writing
+pub mod Grown
+pub mod NameSets

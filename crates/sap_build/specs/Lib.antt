@@ -2,3 +2,4 @@ pub mod Copies
 pub mod Laws
 pub mod Parts
 pub mod SideBySide
+pub mod Writing

@@ -1,4 +1,7 @@
-//! Netlists made from netlists: copies under other names.
+//! Netlists made from netlists: copies under other names, copies of parts, and netlists written part by part.
 #![tactic(auto)]
 
+pub mod copies;
 pub mod laws;
+pub mod set;
+pub mod writer;

@@ -1,0 +1,20 @@
+use Rattle.std.proofs.Common.{◌≡◌, ◌++◌, [], ◌∷◌, List, Some, false, length, sym, subst, rules}
+use Rattle.std.specs.HashMap as hash
+use Rattle.sap_maps.specs.Maps.{Name}
+use Rattle.sap_net.specs.Names.{is_among}
+use Rattle.sap_net.specs.NameMaps.{Indexes}
+use Rattle.sap_net.proofs.NameMaps.{same_bytes}
+use Rattle.sap_build.proofs.NameSets.{added}
+use Rattle.sap_build.proofs.set.NameSet.put.Goals as goal
+
+pub invariant_of-self-else-is_err : goal.invariant_of-self-else-is_err
+invariant_of-self-else-is_err c =
+    let m = c.self.inside.places in
+    let names = c.self.inside.list.items in
+    let m' = c.insert.new.self in
+    let x = c.args.name in
+    let more : c.push.new.self.items ≡ names ++ x ∷ [] = search rules in
+    let place : length names ≡ c.len-place.result = search rules in
+    let other : is_among x names ≡ false = subst (λ (xs : List Name). is_among x xs ≡ false) (sym c.self.view_is) c.requires.other in
+    let h : hash.UpdatesBy same_bytes (same_bytes c.args.key) m m' (Some c.len-place.result) = search rules in
+    subst (Indexes m') (sym more) (added m m' names c.args.key x c.len-place.result c.requires.bytes other place h c.self.invariant)
