@@ -97,7 +97,7 @@ without_others x z (y ∷ ys) d =
     ]
 
 -- Left to look at from k on: what of the taken names has a number that large.
-abbrev Left : (taken left : List Name) (k : ℕ) → Type 0
+abbrev pub Left : (taken left : List Name) (k : ℕ) → Type 0
 Left taken left k = (j : ℕ) → k ≤ j → is_among (numbered j) left ≡ is_among (numbered j) taken
 
 numbers_apart : (i j : ℕ) → i < j → bytes_eq (numbered j) (numbered i) ≡ false
@@ -141,14 +141,14 @@ search_free (suc tries) k taken left few a =
 
 -- the numbers of helping wires
 
-record Reached (taken : List Name) (k : ℕ) : Type 0 where
-  free : is_among (numbered (free_number taken k)) taken ≡ false
+pub record Reached (taken : List Name) (k : ℕ) : Type 0 where
+  pub free : is_among (numbered (free_number taken k)) taken ≡ false
   rest : List Name
   left : Left taken rest (free_number taken k + 1)
   few : length rest ≤ length taken
   fewer : free_number taken k + length rest ≤ 1 + k + length taken
 
-reached : (taken : List Name) (k : ℕ) → Reached taken k
+pub reached : (taken : List Name) (k : ℕ) → Reached taken k
 reached taken zero =
     let r = search_free (length taken) 1 taken taken (omega arith) (λ j l. refl) in
     record { free = r.free; rest = r.rest; left = r.left; few = omega (arith, r.fewer, r.least); fewer = omega (arith, r.fewer) }
@@ -174,7 +174,7 @@ ascending taken i (suc j) l =
       | inr f ↦ (let a = ascending taken i j (below_unequal_of i j f (omega arith)) in let b = further taken j in omega arith)
     ]
 
-trichotomy : (i j : ℕ) → (i < j) ⊎ ((i ≡ j) ⊎ (j < i))
+pub trichotomy : (i j : ℕ) → (i < j) ⊎ ((i ≡ j) ⊎ (j < i))
 trichotomy zero zero = inr (inl refl)
 trichotomy zero (suc j) = inl (omega arith)
 trichotomy (suc i) zero = inr (inr (omega arith))
@@ -184,7 +184,7 @@ trichotomy (suc i) (suc j) =
       | inr r ↦ inr (elim r [ inl e ↦ inl (ap suc e) | inr g ↦ inr (omega arith) ])
     ]
 
-one_number : (taken : List Name) (i j : ℕ) → free_number taken i ≡ free_number taken j → i ≡ j
+pub one_number : (taken : List Name) (i j : ℕ) → free_number taken i ≡ free_number taken j → i ≡ j
 one_number taken i j e =
     elim (trichotomy i j) [
       | inl l ↦ (let a = ascending taken i j l in absurd (omega arith))

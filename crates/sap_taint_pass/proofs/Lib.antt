@@ -15,6 +15,7 @@ pub mod FreeNames
 pub mod Carries
 pub mod NameTexts
 pub mod Clashing
+pub mod NextName
 pub mod Helped
 pub mod Placed
 pub mod Made

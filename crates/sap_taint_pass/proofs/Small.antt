@@ -1,5 +1,5 @@
 -- The tainted netlist has few items.
-use Rattle.std.proofs.Common.{◌≡◌, ◌≤◌, ◌+◌, ◌*◌, ℕ, suc, zero, Bool, List, [], ◌∷◌, ◌++◌, length, filter, true, false, ◌||◌, ap, sym, ◌∙◌, refl, inl, inr, arith}
+use Rattle.std.proofs.Common.{◌≡◌, ◌≤◌, ◌+◌, ◌*◌, ℕ, suc, Bool, List, [], ◌∷◌, ◌++◌, length, filter, true, false, ◌||◌, ap, sym, ◌∙◌, refl, inl, inr, arith}
 use Rattle.std.specs.Str.{bytes_eq}
 use Rattle.std.proofs.lemmas.Bool.{cases_Bool}
 use Rattle.std.proofs.lemmas.List.{length-append, length-map}
@@ -16,7 +16,7 @@ use Rattle.sap_net.specs.Net.{Net}
 use Rattle.sap_net.specs.Names.{is_among, AreDistinct}
 use Rattle.sap_taint.specs.TagNames.{name_of_tag, with_tags}
 use Rattle.sap_taint_pass.specs.Tainted.{operands_of, tags_of, joins, joined, help_for, tag_wires, write_wires, memory_tags, tagged_registers, help_for_wires, all_wires, all_registers, in_order}
-use Rattle.sap_taint_pass.specs.Helping.{helping_name, tainted}
+use Rattle.sap_taint_pass.specs.Helping.{helping_name}
 use Rattle.sap_taint_pass.specs.Small.{concatenated, all_concatenated, TaintedIsSmall}
 use Rattle.sap_taint_pass.proofs.Filters.{filter_none}
 use Rattle.sap_taint_pass.proofs.InOrder.{names_in, ordered_names}

@@ -1,45 +1,51 @@
--- What gives names to helping wires.
-use Rattle.std.specs.Prelude.{◌≡◌, ℕ, ◌+◌, suc, zero, List, ◌∷◌, ◌++◌, length, map}
+-- A tainted netlist in the making.
+use Rattle.std.specs.Prelude.{◌≡◌, ℕ, ◌+◌, List, ◌++◌, map}
 use Rattle.sap_maps.specs.Maps.{Name}
 use Rattle.sap_net.specs.declared.parts.Wire.{Wire}
 use Rattle.sap_net.specs.declared.parts.Register.{Register}
 use Rattle.sap_net.specs.Net.{Net}
-use Rattle.sap_net.specs.NameMaps.{Indexes}
-use Rattle.sap_taint.specs.TagNames.{name_of_tag}
-use Rattle.sap_taint_pass.specs.declared.helping.Helping.{Helping}
-use Rattle.sap_taint_pass.specs.Tainted.{numbers_from}
-use Rattle.sap_taint_pass.specs.Helping.{taken_names, free_number, helping_name}
+use Rattle.sap_build.specs.Writing.{grown}
+use Rattle.sap_taint.specs.TagNames.{with_tags}
+use Rattle.sap_taint.specs.TaggedForm.{tagged_ports, tagged_inputs}
+use Rattle.sap_taint_pass.specs.Tainted.{tagged_registers, tag_wires, help_for_wires, write_wires, memory_tags, help_count, numbers_from}
+use Rattle.sap_taint_pass.specs.Helping.{helping_name}
 
--- where the search for the k-th name begins
-abbrev pub start_at : (taken : List Name) (k : ℕ) → ℕ
-start_at taken zero = 1
-start_at taken (suc k) = free_number taken k + 1
+-- some names for helping wires, from the k-th on
+abbrev pub help_from : Net → (k count : ℕ) → List Name
+help_from n k count = map (helping_name n) (numbers_from k count)
 
--- It has given the first names for helping wires of a netlist, and is to give the next.
-pub record IsHelping (n : Net) (h : Helping) : Type 0 where
-  pub taken : Indexes h.taken (n.module_name ∷ n.names ++ map name_of_tag n.names)
-  pub tries : h.tries ≡ length (taken_names n)
-  pub next : h.next ≡ start_at (taken_names n) (length h.names.items)
-  pub names : h.names.items ≡ map (helping_name n) (numbers_from 0 (length h.names.items))
+-- m declares the names of n and their tags, and k helping wires
+pub record Helped (n : Net) (k : ℕ) (m : Net) : Type 0 where
+  pub module_named : m.module_name ≡ n.module_name
+  pub names : m.names ≡ with_tags n.names ++ help_from n 0 k
 
--- With so many names more, wires were put behind others that depend on the number of the first.
-pub record Puts (n : Net) (before after : Helping) (old new : List Wire) (wires : ℕ → List Wire) (count : ℕ) : Type 0 where
-  pub helps : IsHelping n after
-  pub more : length after.names.items ≡ length before.names.items + count
-  pub put : new ≡ old ++ wires (length before.names.items)
+-- So many helping wires more, from the k-th on, and wires and registers.
+abbrev pub Adds : (n : Net) (k count : ℕ) → List Wire → List Register → (old new : Net) → Type 0
+Adds n k count ws rs old new = new ≡ grown (help_from n k count) ws rs old
 
--- four names more
-pub record HasWriteNames (n : Net) (before after : Helping) (kept new chosen all : Name) : Type 0 where
-  pub helps : IsHelping n after
-  pub more : length after.names.items ≡ length before.names.items + 4
-  pub first : kept ≡ helping_name n (length before.names.items)
-  pub second : new ≡ helping_name n (length before.names.items + 1)
-  pub third : chosen ≡ helping_name n (length before.names.items + 2)
-  pub fourth : all ≡ helping_name n (length before.names.items + 3)
+-- the four names from the k-th on
+pub record AreWriteNames (helping : ℕ → Name) (k : ℕ) (kept new chosen all : Name) : Type 0 where
+  pub first : kept ≡ helping k
+  pub second : new ≡ helping (k + 1)
+  pub third : chosen ≡ helping (k + 2)
+  pub fourth : all ≡ helping (k + 3)
 
--- the same, with registers behind others
-pub record PutsWrites (n : Net) (before after : Helping) (old new : List Wire) (old_tags new_tags : List Register) (wires : ℕ → List Wire) (tags : ℕ → List Register) (count : ℕ) : Type 0 where
-  pub helps : IsHelping n after
-  pub more : length after.names.items ≡ length before.names.items + count
-  pub put : new ≡ old ++ wires (length before.names.items)
-  pub put_tags : new_tags ≡ old_tags ++ tags (length before.names.items)
+-- what the tainted netlist has before any wire of a tag and any tag of a memory, its registers in another order
+abbrev pub begun : (w : ℕ) → Net → Net
+begun w n =
+    record {
+      module_name = n.module_name;
+      names = with_tags n.names;
+      ports = tagged_ports n.ports;
+      inputs = tagged_inputs w n.inputs;
+      wires = n.wires;
+      registers = tagged_registers w n.registers;
+      memories = n.memories;
+    }
+
+-- and with them
+abbrev pub driven : (w : ℕ) → Net → Net
+driven w n =
+    let helping = helping_name n in
+    let k = help_for_wires n.wires in
+    grown (help_from n 0 (help_count n)) (tag_wires helping w 0 n.wires ++ write_wires helping w k n.memories) (memory_tags helping w k n.memories) (begun w n)

@@ -1,14 +1,15 @@
 //! Wires that join tags.
 
-ghost use Rattle.std.specs.Prelude.{◌≡◌, ◌++◌, ◌∷◌, [], IfOk, OnOk, length};
+ghost use Rattle.std.specs.Prelude.{◌≡◌, ℕ, List, ◌++◌, ◌∷◌, [], IfOk, OnOk, length};
 ghost use Rattle.sap_net.specs.Net.{Net};
+ghost use Rattle.sap_build.specs.Writing.{assigned};
 ghost use Rattle.sap_taint_pass.specs.Tainted as spec;
 ghost use Rattle.sap_taint_pass.specs.Helping.{helping_name};
-ghost use Rattle.sap_taint_pass.specs.Helped.{IsHelping, Puts};
+ghost use Rattle.sap_taint_pass.specs.Helped.{Helped, Adds};
 
-use crate::helping::Helping;
 use crate::names::tag_name;
 use sap_bits::Op2;
+use sap_build::writer::Writer;
 use sap_net::parts::{Name, Operand, Right, Wire};
 use std::alloc::{AllocError, Global};
 
@@ -105,53 +106,50 @@ pub(crate) fn union(name: Name, width: u32, a: Name, b: Name) -> Wire
     }
 }
 
-// The wires that join a tag with some others and a last one.
-fn add_joins(
+/// Wires that join a tag with others, one more in each; gives the name of the last, or of the tag alone.
+fn add_unions(
     alloc: Global,
-    helping: &mut Helping,
-    made: &mut Vec<Wire>,
+    writer: &mut Writer,
     width: u32,
-    name: Name,
     first: &Name,
-    middle: &[Name],
-    last: &Name,
-) -> Result<(), AllocError>
-    ensures { OnOk result ((n : Net) → IsHelping n helping.old
-        → Puts n helping.old helping.new made.old.items made.new.items (λ k. spec.joins (helping_name n) width k name first.now (middle.now ++ last.now ∷ [])) (length middle.now)) }
+    others: &[Name],
+) -> Result<Name, AllocError>
+    ensures { IfOk result (λ so_far. (n : Net) (k : ℕ) (x last : List ℕ) → Helped n k writer.old
+        → Adds n k (length others.now) (spec.joins (helping_name n) width k x first.now (others.now ++ last ∷ [])) [] writer.old
+        (assigned (spec.union width x so_far last) writer.new)) }
 {
     let mut so_far = first.copy(alloc)?;
-    for tag in middle {
-        let next = helping.name(alloc)?;
+    for tag in others {
+        let next = writer.helper(alloc)?;
         let shown = next.copy(alloc)?;
-        made.push(union(next, width, so_far, tag.copy(alloc)?))?;
+        writer.assign(union(next, width, so_far, tag.copy(alloc)?))?;
         so_far = shown;
     }
-    made.push(union(name, width, so_far, last.copy(alloc)?))?;
-    Ok(())
+    Ok(so_far)
 }
 
 /// The wires by which one becomes the join of some tags.
 pub(crate) fn add_joined(
     alloc: Global,
-    helping: &mut Helping,
-    made: &mut Vec<Wire>,
+    writer: &mut Writer,
     width: u32,
     name: Name,
     mut tags: Vec<Name>,
 ) -> Result<(), AllocError>
-    ensures { OnOk result ((n : Net) → IsHelping n helping.old
-        → Puts n helping.old helping.new made.old.items made.new.items (λ k. spec.joined (helping_name n) width k name tags.items) (spec.help_for tags.items)) }
+    ensures { OnOk result ((n : Net) (k : ℕ) → Helped n k writer.old
+        → Adds n k (spec.help_for tags.items) (spec.joined (helping_name n) width k name tags.items) [] writer.old writer.new) }
 {
     let Some(last) = tags.pop() else {
         let right = Right::Copy(Operand::Constant { width, value: 0 });
-        made.push(Wire { name, width, right })?;
+        writer.assign(Wire { name, width, right })?;
         return Ok(());
     };
-    let Some((first, middle)) = tags.split_first() else {
+    let Some((first, others)) = tags.split_first() else {
         let right = Right::Copy(Operand::Named(last));
-        made.push(Wire { name, width, right })?;
+        writer.assign(Wire { name, width, right })?;
         return Ok(());
     };
-    add_joins(alloc, helping, made, width, name, first, middle, &last)?;
+    let so_far = add_unions(alloc, writer, width, first, others)?;
+    writer.assign(union(name, width, so_far, last))?;
     Ok(())
 }

@@ -1,9 +1,7 @@
 //! The netlist that carries the taint of another, as a function of it, and the first name whose tag can't have its own.
 #![tactic(auto)]
 
-mod copies;
 pub mod fault;
-mod helping;
 mod joins;
 pub mod laws;
 pub mod names;

@@ -1,17 +1,16 @@
 //! The names of tags, and which are taken.
 
-ghost use Rattle.std.specs.Prelude.{◌≡◌, ℕ, List, ◌∷◌, ◌++◌, map, IfOk, IfErr, option_copied};
-ghost use Rattle.sap_net.specs.NameMaps.{Indexes};
+ghost use Rattle.std.specs.Prelude.{◌≡◌, ◌∷◌, ◌++◌, map, IfOk, IfErr, option_copied};
 ghost use Rattle.sap_net.specs.PortNames.{value_of};
-ghost use Rattle.sap_taint.specs.TagNames.{name_of_tag, with_tags, HasRoomForTags};
+ghost use Rattle.sap_taint.specs.TagNames.{name_of_tag, HasRoomForTags};
 ghost use Rattle.sap_taint_pass.specs.FaultTexts.{IsTaintFault};
 
 use crate::fault::TaintFault;
-use sap_net::name_map::{index, is_indexed};
+use sap_build::copies::copy_names;
+use sap_build::set::NameSet;
 use sap_net::netlist::Netlist;
 use sap_net::parts::Name;
 use std::alloc::{AllocError, Global};
-use std::collections::HashMap;
 
 /// x, where a name is `v_x`.
 fn behind_v(name: &str) -> Option<&str>
@@ -33,33 +32,32 @@ pub(crate) fn tag_name(alloc: Global, name: &Name) -> Result<Name, AllocError>
     Ok(Name::new(tag))
 }
 
-// The names that a tag can't have before any has one.
-fn index_declared(alloc: Global, netlist: &Netlist) -> Result<HashMap<Vec<u8>, usize>, AllocError>
-    ensures { IfOk result (λ m. Indexes m (netlist.now.module_name ∷ netlist.now.names)) }
+/// The names that a tag can't have before any has one.
+fn declared(alloc: Global, netlist: &Netlist) -> Result<NameSet, AllocError>
+    ensures { IfOk result (λ names. names ≡ netlist.now.module_name ∷ netlist.now.names) }
 {
-    let mut places = HashMap::new(alloc);
-    index(&mut places, alloc, netlist.module_name(), 0)?;
-    for (k, name) in netlist.names().iter().enumerate() {
-        index(&mut places, alloc, name, k + 1)?;
-    }
-    Ok(places)
+    let mut names = Vec::new(alloc);
+    names.push(netlist.module_name().copy(alloc)?)?;
+    let mut others = copy_names(alloc, netlist.names())?;
+    names.append(&mut others)?;
+    NameSet::new(alloc, names)
 }
 
 /// All names that are taken once the tags have theirs, or the first name whose tag can't have its own.
-pub fn index_tags(alloc: Global, netlist: &Netlist) -> Result<HashMap<Vec<u8>, usize>, TaintFault>
-    ensures room { IfOk result (λ m. HasRoomForTags netlist.now) }
-    ensures taken { IfOk result (λ m. Indexes m (netlist.now.module_name ∷ netlist.now.names ++ map name_of_tag netlist.now.names)) }
+pub fn index_tags(alloc: Global, netlist: &Netlist) -> Result<NameSet, TaintFault>
+    ensures room { IfOk result (λ taken. HasRoomForTags netlist.now) }
+    ensures taken { IfOk result (λ taken. taken ≡ netlist.now.module_name ∷ netlist.now.names ++ map name_of_tag netlist.now.names) }
     ensures clash { IfErr result (λ fault. IsTaintFault netlist.now fault) }
 {
     netlist.rules();
-    let mut places = index_declared(alloc, netlist)?;
+    let mut taken = declared(alloc, netlist)?;
     let names = netlist.names();
-    for (k, name) in names.iter().enumerate() {
+    for name in names {
         let tag = tag_name(alloc, name)?;
-        if is_indexed(&places, tag.as_bytes()) {
+        if taken.holds(&tag) {
             return Err(TaintFault::Clash(name.copy(alloc)?));
         }
-        index(&mut places, alloc, &tag, 1 + names.len() + k)?;
+        taken.add(alloc, tag)?;
     }
-    Ok(places)
+    Ok(taken)
 }

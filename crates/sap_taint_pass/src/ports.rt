@@ -1,6 +1,6 @@
 //! Names, ports and inputs with their tags.
 
-ghost use Rattle.std.specs.Prelude.{◌≡◌, ◌++◌, IfOk, OnOk};
+ghost use Rattle.std.specs.Prelude.{◌≡◌, IfOk};
 ghost use Rattle.sap_taint.specs.TagNames.{with_tags};
 ghost use Rattle.sap_taint.specs.TaggedForm as form;
 
@@ -18,20 +18,6 @@ pub(crate) fn names_with_tags(alloc: Global, names: &[Name]) -> Result<Vec<Name>
         made.push(tag_name(alloc, name)?)?;
     }
     Ok(made)
-}
-
-/// Names behind others.
-pub(crate) fn add_names(
-    alloc: Global,
-    made: &mut Vec<Name>,
-    names: &[Name],
-) -> Result<(), AllocError>
-    ensures { OnOk result (made.new.items ≡ made.old.items ++ names.now) }
-{
-    for name in names {
-        made.push(name.copy(alloc)?)?;
-    }
-    Ok(())
 }
 
 /// Each port with its tag's behind it.

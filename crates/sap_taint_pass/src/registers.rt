@@ -2,16 +2,14 @@
 
 ghost use Rattle.std.specs.Prelude.{◌≡◌, ◌++◌, [], map, IfOk, OnOk};
 ghost use Rattle.sap_maps.specs.Scope.{find};
-ghost use Rattle.sap_net.specs.NameMaps.{Indexes};
 ghost use Rattle.sap_taint_pass.specs.Tainted as spec;
 
-use crate::copies::copy_register;
 use crate::joins::tag_operand;
 use crate::names::tag_name;
-use sap_net::name_map::{at_name, index};
+use sap_build::copies::copy_register;
 use sap_net::parts::{Name, Register};
+use sap_share::table::Table;
 use std::alloc::{AllocError, Global};
-use std::collections::HashMap;
 
 /// The tag of a register.
 fn register_tag(alloc: Global, width: u32, register: &Register) -> Result<Register, AllocError>
@@ -41,34 +39,31 @@ pub(crate) fn tagged_registers(
     Ok(made)
 }
 
-fn index_registers(
-    alloc: Global,
-    registers: &[Register],
-) -> Result<HashMap<Vec<u8>, usize>, AllocError>
-    ensures { IfOk result (λ m. Indexes m (map (λ r. r.name) registers.now)) }
+/// The registers under their names.
+fn by_name(alloc: Global, registers: &[Register]) -> Result<Table<Register>, AllocError>
+    ensures { IfOk result (λ table. table ≡ map (λ r. (r.name, r)) registers.now) }
 {
-    let mut places = HashMap::new(alloc);
-    for (k, register) in registers.iter().enumerate() {
-        index(&mut places, alloc, &register.name, k)?;
+    let mut entries = Vec::new(alloc);
+    for register in registers {
+        let name = register.name.copy(alloc)?;
+        entries.push((name, copy_register(alloc, register)?))?;
     }
-    Ok(places)
+    Table::new(alloc, entries)
 }
 
-// The register of a name, where there is one.
+/// The register of a name, where there is one.
 fn add_found(
     alloc: Global,
     made: &mut Vec<Register>,
-    places: &HashMap<Vec<u8>, usize>,
-    registers: &[Register],
+    registers: &Table<Register>,
     name: &Name,
 ) -> Result<(), AllocError>
-    requires { Indexes places.now (map (λ r. r.name) registers.now) }
-    ensures { OnOk result (made.new.items ≡ made.old.items ++ spec.found_first (find (map (λ r. (r.name, r)) registers.now) name.now) []) }
+    ensures { OnOk result (made.new.items ≡ made.old.items ++ spec.found_first (find registers.now name.now) []) }
 {
-    let Some(k) = at_name(places, name.as_bytes()) else {
+    let Some(register) = registers.get(name) else {
         return Ok(());
     };
-    made.push(copy_register(alloc, &registers[k])?)?;
+    made.push(copy_register(alloc, register)?)?;
     Ok(())
 }
 
@@ -80,10 +75,10 @@ pub(crate) fn in_order(
 ) -> Result<Vec<Register>, AllocError>
     ensures { IfOk result (λ made. made.items ≡ spec.in_order names.now registers.now) }
 {
-    let places = index_registers(alloc, registers)?;
+    let table = by_name(alloc, registers)?;
     let mut made = Vec::new(alloc);
     for name in names {
-        add_found(alloc, &mut made, &places, registers, name)?;
+        add_found(alloc, &mut made, &table, name)?;
     }
     Ok(made)
 }

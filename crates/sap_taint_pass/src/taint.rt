@@ -1,93 +1,65 @@
 //! The call that adds tags to a netlist.
 
-ghost use Rattle.std.specs.Prelude.{◌≡◌, ◌∷◌, ◌++◌, map, IfOk, IfErr};
+ghost use Rattle.std.specs.Prelude.{◌≡◌, IfOk, IfErr};
 ghost use Rattle.sap_lattice.specs.Codes.{width_of};
 ghost use Rattle.sap_lattice.specs.Levels.{order_of};
-ghost use Rattle.sap_net.specs.NameMaps.{Indexes};
 ghost use Rattle.sap_net.specs.Net.{net_of};
 ghost use Rattle.sap_taint.specs.Carries.{CarriesTaint, TakesTags, OneTaggedRun, ShowsTaint, TagsStayCodes, RunsWithTagsAgree};
 ghost use Rattle.sap_taint.specs.TaggedForm.{HasTaggedForm};
-ghost use Rattle.sap_taint.specs.TagNames.{name_of_tag, HasRoomForTags};
+ghost use Rattle.sap_taint.specs.TagNames.{HasRoomForTags};
 ghost use Rattle.sap_taint_pass.specs.FaultTexts.{IsTaintFault};
-ghost use Rattle.sap_taint_pass.specs.Helping.{helping_name, tainted};
+ghost use Rattle.sap_taint_pass.specs.Helped.{begun, driven};
+ghost use Rattle.sap_taint_pass.specs.Helping.{tainted};
 ghost use Rattle.sap_taint_pass.specs.Small.{HasFewItems};
-ghost use Rattle.sap_taint_pass.specs.Tainted as spec;
 
-use crate::copies::{copy_memories, copy_wires};
 use crate::fault::TaintFault;
-use crate::helping::Helping;
 use crate::names::index_tags;
-use crate::ports::{add_names, names_with_tags, tagged_inputs, tagged_ports};
+use crate::ports::{names_with_tags, tagged_inputs, tagged_ports};
 use crate::registers::{in_order, tagged_registers};
 use crate::wires::add_tag_wires;
 use crate::writes::add_memories;
+use sap_build::copies::{copy_memories, copy_wires};
+use sap_build::writer::Writer;
 use sap_lattice::lattice::Lattice;
 use sap_net::netlist::Netlist;
-use sap_net::parts::{Name, Parts, Register, Wire};
+use sap_net::parts::Parts;
 use sap_taint::laws::carried;
 use std::alloc::{AllocError, Global};
-use std::collections::HashMap;
 
-/// What is driven in a tainted netlist, registers in any order, and the names of its helping wires.
-#[derive(Drop)]
-struct Driven {
-    wires: Vec<Wire>,
-    registers: Vec<Register>,
-    helping: Vec<Name>,
-}
-
-fn drive(
-    alloc: Global,
-    netlist: &Netlist,
-    width: u32,
-    taken: HashMap<Vec<u8>, usize>,
-) -> Result<Driven, AllocError>
-    requires { Indexes taken (netlist.now.module_name ∷ netlist.now.names ++ map name_of_tag netlist.now.names) }
-    ensures wires { IfOk result (λ d. d.wires.items ≡ spec.all_wires (helping_name netlist.now) width netlist.now) }
-    ensures registers { IfOk result (λ d. d.registers.items ≡ spec.all_registers (helping_name netlist.now) width netlist.now) }
-    ensures helping { IfOk result (λ d. d.helping.items ≡ spec.helping_names (helping_name netlist.now) netlist.now) }
+/// The tainted netlist but for helping wires, the wires of tags, and the tags of memories.
+fn begin(alloc: Global, netlist: &Netlist, width: u32) -> Result<Parts, AllocError>
+    ensures { IfOk result (λ p. net_of p ≡ begun width netlist.now) }
 {
-    let mut helping = Helping::new(alloc, netlist, taken);
-    let mut wires = copy_wires(alloc, netlist.wires())?;
-    add_tag_wires(alloc, &mut helping, &mut wires, width, netlist.wires())?;
-    let mut registers = tagged_registers(alloc, width, netlist.registers())?;
-    add_memories(
-        alloc,
-        &mut helping,
-        &mut wires,
-        &mut registers,
-        width,
-        netlist.memories(),
-    )?;
-    Ok(Driven {
-        wires,
-        registers,
-        helping: helping.names,
-    })
-}
-
-fn tainted_parts(
-    alloc: Global,
-    netlist: &Netlist,
-    width: u32,
-    taken: HashMap<Vec<u8>, usize>,
-) -> Result<Parts, AllocError>
-    requires { Indexes taken (netlist.now.module_name ∷ netlist.now.names ++ map name_of_tag netlist.now.names) }
-    ensures { IfOk result (λ p. net_of p ≡ tainted width netlist.now) }
-{
-    let driven = drive(alloc, netlist, width, taken)?;
-    let mut names = names_with_tags(alloc, netlist.names())?;
-    let registers = in_order(alloc, &names, &driven.registers)?;
-    add_names(alloc, &mut names, &driven.helping)?;
     Ok(Parts {
         module_name: netlist.module_name().copy(alloc)?,
-        names,
+        names: names_with_tags(alloc, netlist.names())?,
         ports: tagged_ports(alloc, netlist.ports())?,
         inputs: tagged_inputs(alloc, width, netlist.inputs())?,
-        wires: driven.wires,
-        registers,
+        wires: copy_wires(alloc, netlist.wires())?,
+        registers: tagged_registers(alloc, width, netlist.registers())?,
         memories: copy_memories(alloc, netlist.memories())?,
     })
+}
+
+/// The tainted netlist but for the order of registers.
+fn drive(alloc: Global, netlist: &Netlist, width: u32) -> Result<Parts, AllocError>
+    ensures { IfOk result (λ p. net_of p ≡ driven width netlist.now) }
+{
+    let parts = begin(alloc, netlist, width)?;
+    let mut writer = Writer::resume(alloc, parts)?;
+    add_tag_wires(alloc, &mut writer, width, netlist.wires())?;
+    add_memories(alloc, &mut writer, width, netlist.memories())?;
+    Ok(writer.into_parts())
+}
+
+fn tainted_parts(alloc: Global, netlist: &Netlist, width: u32) -> Result<Parts, AllocError>
+    ensures { IfOk result (λ p. net_of p ≡ tainted width netlist.now) }
+{
+    let mut parts = drive(alloc, netlist, width)?;
+    let names = names_with_tags(alloc, netlist.names())?;
+    let registers = in_order(alloc, &names, &parts.registers)?;
+    parts.registers = registers;
+    Ok(parts)
 }
 
 /// The netlist with a tag for each name, as wide as codes of levels are, or the first name whose tag's name is taken. It has
@@ -109,8 +81,8 @@ pub fn taint(alloc: Global, netlist: &Netlist, lattice: &Lattice) -> Result<Netl
 {
     netlist.rules();
     lattice.lawful();
-    let taken = index_tags(alloc, netlist)?;
-    let parts = tainted_parts(alloc, netlist, lattice.width(), taken)?;
+    index_tags(alloc, netlist)?;
+    let parts = tainted_parts(alloc, netlist, lattice.width())?;
     let made = Netlist::new(parts);
     carried(netlist, &made, lattice);
     Ok(made)

@@ -1,15 +1,15 @@
 //! The wires of what the tags of memories take, and these tags.
 
-ghost use Rattle.std.specs.Prelude.{◌≡◌, ◌+◌, ◌++◌, ◌∷◌, [], IfOk, OnOk, length};
+ghost use Rattle.std.specs.Prelude.{◌≡◌, ◌+◌, ℕ, ◌∷◌, [], IfOk, OnOk};
 ghost use Rattle.sap_net.specs.Net.{Net};
-ghost use Rattle.sap_net.specs.declared.parts.Operand.TheVariants.{Named};
+ghost use Rattle.sap_build.specs.Writing.{grown};
 ghost use Rattle.sap_taint_pass.specs.Tainted as spec;
 ghost use Rattle.sap_taint_pass.specs.Helping.{helping_name};
-ghost use Rattle.sap_taint_pass.specs.Helped.{IsHelping, HasWriteNames, PutsWrites};
+ghost use Rattle.sap_taint_pass.specs.Helped.{Helped, Adds, AreWriteNames};
 
-use crate::helping::Helping;
 use crate::joins::{joint, union};
 use crate::names::tag_name;
+use sap_build::writer::Writer;
 use sap_net::parts::{Memory, Name, Operand, Register, Right, Wire};
 use std::alloc::{AllocError, Global};
 
@@ -22,13 +22,14 @@ struct WriteNames {
     all: Name,
 }
 
-fn write_names(alloc: Global, helping: &mut Helping) -> Result<WriteNames, AllocError>
-    ensures { IfOk result (λ names. (n : Net) → IsHelping n helping.old → HasWriteNames n helping.old helping.new names.kept names.new names.chosen names.all) }
+fn write_names(alloc: Global, writer: &mut Writer) -> Result<WriteNames, AllocError>
+    ensures names { IfOk result (λ names. (n : Net) (k : ℕ) → Helped n k writer.old → AreWriteNames (helping_name n) k names.kept names.new names.chosen names.all) }
+    ensures declared { OnOk result ((n : Net) (k : ℕ) → Helped n k writer.old → Adds n k 4 [] [] writer.old writer.new) }
 {
-    let kept = helping.name(alloc)?;
-    let new = helping.name(alloc)?;
-    let chosen = helping.name(alloc)?;
-    let all = helping.name(alloc)?;
+    let kept = writer.helper(alloc)?;
+    let new = writer.helper(alloc)?;
+    let chosen = writer.helper(alloc)?;
+    let all = writer.helper(alloc)?;
     Ok(WriteNames {
         kept,
         new,
@@ -57,24 +58,24 @@ fn memory_tag(
 /// The four wires of a memory.
 fn add_write(
     alloc: Global,
-    made: &mut Vec<Wire>,
+    writer: &mut Writer,
     width: u32,
     memory: &Memory,
     names: WriteNames,
 ) -> Result<(), AllocError>
-    ensures { OnOk result (made.new.items ≡ made.old.items ++ spec.write_by width memory.now names.kept names.new names.chosen names.all) }
+    ensures { OnOk result (writer.new ≡ grown [] (spec.write_by width memory.now names.kept names.new names.chosen names.all) [] writer.old) }
 {
     let itself = Operand::Named(memory.name.copy(alloc)?);
     let kept = names.kept.copy(alloc)?;
     let right = joint(alloc, width, &itself, &memory.enable)?;
-    made.push(Wire {
+    writer.assign(Wire {
         name: kept,
         width,
         right,
     })?;
     let new = names.new.copy(alloc)?;
     let right = joint(alloc, width, &memory.index, &memory.value)?;
-    made.push(Wire {
+    writer.assign(Wire {
         name: new,
         width,
         right,
@@ -82,49 +83,44 @@ fn add_write(
     let chosen = names.chosen.copy(alloc)?;
     let condition = memory.enable.copy(alloc)?;
     let none = Operand::Constant { width, value: 0 };
-    made.push(Wire {
+    writer.assign(Wire {
         name: chosen,
         width,
         right: Right::Choose(condition, Operand::Named(names.new), none),
     })?;
-    made.push(union(names.all, width, names.kept, names.chosen))?;
+    writer.assign(union(names.all, width, names.kept, names.chosen))?;
     Ok(())
 }
 
-// The wires and the tag of a memory.
+/// The wires and the tag of a memory.
 fn add_memory(
     alloc: Global,
-    helping: &mut Helping,
-    made: &mut Vec<Wire>,
-    tags: &mut Vec<Register>,
+    writer: &mut Writer,
     width: u32,
     memory: &Memory,
 ) -> Result<(), AllocError>
-    ensures { OnOk result ((n : Net) → IsHelping n helping.old
-        → PutsWrites n helping.old helping.new made.old.items made.new.items tags.old.items tags.new.items (λ k. spec.write_at (helping_name n) width k memory.now)
-        (λ k. spec.memory_tag width memory.now (helping_name n (k + 3)) ∷ []) 4) }
+    ensures { OnOk result ((n : Net) (k : ℕ) → Helped n k writer.old
+        → Adds n k 4 (spec.write_at (helping_name n) width k memory.now) (spec.memory_tag width memory.now (helping_name n (k + 3)) ∷ []) writer.old writer.new) }
 {
-    let names = write_names(alloc, helping)?;
-    tags.push(memory_tag(alloc, width, memory, &names.all)?)?;
-    add_write(alloc, made, width, memory, names)?;
+    let names = write_names(alloc, writer)?;
+    writer.register(memory_tag(alloc, width, memory, &names.all)?)?;
+    add_write(alloc, writer, width, memory, names)?;
     Ok(())
 }
 
 /// The wires of what the tags of memories take, behind others, and these tags.
 pub(crate) fn add_memories(
     alloc: Global,
-    helping: &mut Helping,
-    made: &mut Vec<Wire>,
-    tags: &mut Vec<Register>,
+    writer: &mut Writer,
     width: u32,
     memories: &[Memory],
 ) -> Result<(), AllocError>
-    ensures { OnOk result ((n : Net) → IsHelping n helping.old
-        → PutsWrites n helping.old helping.new made.old.items made.new.items tags.old.items tags.new.items (λ k. spec.write_wires (helping_name n) width k memories.now)
-        (λ k. spec.memory_tags (helping_name n) width k memories.now) (spec.help_for_writes memories.now)) }
+    ensures { OnOk result ((n : Net) (k : ℕ) → Helped n k writer.old
+        → Adds n k (spec.help_for_writes memories.now) (spec.write_wires (helping_name n) width k memories.now) (spec.memory_tags (helping_name n) width k memories.now)
+        writer.old writer.new) }
 {
     for memory in memories {
-        add_memory(alloc, helping, made, tags, width, memory)?;
+        add_memory(alloc, writer, width, memory)?;
     }
     Ok(())
 }
