@@ -1,5 +1,5 @@
 -- The parts of the whole, put together.
-use Rattle.std.proofs.Common.{◌≡◌, ℕ, Bool, List, [], ◌∷◌, ◌++◌, map, filter, Option, is_some, refl, sym, ◌∙◌, ap, ap₂, inl, inr}
+use Rattle.std.proofs.Common.{◌≡◌, ℕ, Bool, List, [], ◌∷◌, ◌++◌, map, filter, refl, sym, ◌∙◌, ap, ap₂, inl, inr}
 use Rattle.std.proofs.lemmas.Bool.{cases_Bool}
 use Rattle.std.proofs.lemmas.List.Elements.{filter-append}
 use Rattle.sap_maps.specs.Maps.{Name}
@@ -8,21 +8,13 @@ use Rattle.sap_net.specs.declared.parts.Input.{Input}
 use Rattle.sap_net.specs.declared.parts.Wire.{Wire}
 use Rattle.sap_net.specs.declared.parts.Register.{Register}
 use Rattle.sap_net.specs.declared.parts.Memory.{Memory}
-use Rattle.sap_net.specs.NameMaps.{NameMap, Indexes}
 use Rattle.sap_net.specs.Names.{is_among}
 use Rattle.sap_net.specs.Net.{Net}
 use Rattle.sap_net.specs.PortNames.{top_name}
-use Rattle.sap_net.proofs.Places.{placed}
 use Rattle.sap_build.specs.Copies.{copy_wire, copy_memory}
 use Rattle.sap_joined.specs.Joined as spec
 use Rattle.sap_joined.specs.Joined.{NamedNet, Feed}
 use Rattle.sap_joined.specs.Seen.{has}
-
--- a map tells of the names whose places it has
-has_names : (m : NameMap ℕ) (names : List Name) → Indexes m names → has m ≡ (λ x. is_among x names)
-has_names m names is =
-    let e : (x : Name) → has m x ≡ is_among x names = λ x. ap (λ (o : Option ℕ). is_some o) (is x) ∙ placed names x in
-    λ i x. e x i
 
 -- the names of hidden registers are the hidden ones of their names
 hidden_named : (shown : Name → Bool) (rs : List Register) → map (λ (r : Register). r.name) (filter (spec.is_hidden_register shown) rs) ≡ filter (spec.is_hidden shown) (map (λ (r : Register). r.name) rs)
@@ -71,18 +63,18 @@ module _ (tag : ℕ) (parts : List NamedNet) (feeds : List Feed) where
   abbrev is_shown : Name → Bool
   is_shown x = is_among x (spec.port_names all_ports)
 
-  pub whole_is : (fed shown : NameMap ℕ) (x : Name) (names : List Name) (ports : List Port) (inputs : List Input) (wires : List Wire) (first last registers : List Register) (memories : List Memory)
-      → Indexes fed (spec.fed_names feeds) → ports ≡ spec.ports_by (has fed) (spec.part_ports parts) → inputs ≡ filter (spec.is_free_input (has fed)) (spec.part_inputs parts)
-      → Indexes shown (spec.port_names ports) → wires ≡ all_wires
+  pub whole_is : (fed shown : List Name) (x : Name) (names : List Name) (ports : List Port) (inputs : List Input) (wires : List Wire) (first last registers : List Register) (memories : List Memory)
+      → fed ≡ spec.fed_names feeds → ports ≡ spec.ports_by (has fed) (spec.part_ports parts) → inputs ≡ filter (spec.is_free_input (has fed)) (spec.part_inputs parts)
+      → shown ≡ spec.port_names ports → wires ≡ all_wires
       → first ≡ filter (spec.is_shown_register (has shown)) all_registers → last ≡ filter (spec.is_hidden_register (has shown)) all_registers → registers ≡ first ++ last
       → memories ≡ all_memories
       → names ≡ spec.port_names ports ++ ((filter (spec.is_hidden (has shown)) (map (λ (w : Wire). w.name) wires) ++ map (λ (r : Register). r.name) last) ++ filter (spec.is_hidden (has shown)) (map (λ (m : Memory). m.name) memories))
       → x ≡ top_name → net x names ports inputs wires registers memories ≡ spec.joined tag parts feeds
   whole_is fed shown x names ports inputs wires first last registers memories fed_is ports_are inputs_are shown_is wires_are first_is last_is registers_are memories_are names_are top =
-      let f : has fed ≡ spec.is_fed feeds = has_names fed (spec.fed_names feeds) fed_is in
+      let f : has fed ≡ spec.is_fed feeds = ap (λ (xs : List Name). has xs) fed_is in
       let ps : ports ≡ all_ports = ports_are ∙ ap (λ (t : Name → Bool). spec.ports_by t (spec.part_ports parts)) f in
       let is : inputs ≡ spec.free_inputs parts feeds = inputs_are ∙ ap (λ (t : Name → Bool). filter (spec.is_free_input t) (spec.part_inputs parts)) f in
-      let h : has shown ≡ is_shown = has_names shown (spec.port_names ports) shown_is ∙ ap (λ (qs : List Port). λ (z : Name). is_among z (spec.port_names qs)) ps in
+      let h : has shown ≡ is_shown = ap (λ (xs : List Name). has xs) (shown_is ∙ ap spec.port_names ps) in
       let first_are : first ≡ filter (spec.is_shown_register is_shown) all_registers = first_is ∙ ap (λ (t : Name → Bool). filter (spec.is_shown_register t) all_registers) h in
       let last_are : last ≡ filter (spec.is_hidden_register is_shown) all_registers = last_is ∙ ap (λ (t : Name → Bool). filter (spec.is_hidden_register t) all_registers) h in
       let rs : registers ≡ spec.shown_first is_shown all_registers = registers_are ∙ ap₂ (λ (xs ys : List Register). xs ++ ys) first_are last_are in

@@ -1,7 +1,7 @@
--- Parts and feeds as the code has them, and maps that stand for tests of names.
-use Rattle.std.specs.Prelude.{ℕ, Bool, is_some}
+-- Parts and feeds as the code has them, and lists that stand for tests of names.
+use Rattle.std.specs.Prelude.{Bool, List}
 use Rattle.sap_maps.specs.Maps.{Name}
-use Rattle.sap_net.specs.NameMaps.{NameMap, at_name}
+use Rattle.sap_net.specs.Names.{is_among}
 use Rattle.sap_joined.specs.Joined.{NamedNet, Feed}
 use Rattle.sap_joined.specs.declared.parts.NamedNet as code_net
 use Rattle.sap_joined.specs.declared.parts.Feed as code_feed
@@ -20,6 +20,6 @@ feed f =
       level = f.level;
     }
 
--- the map has something for a name
-abbrev pub has : NameMap ℕ → Name → Bool
-has m x = is_some (at_name m x)
+-- the name is one of these
+abbrev pub has : List Name → Name → Bool
+has xs x = is_among x xs

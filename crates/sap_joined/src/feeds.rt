@@ -1,7 +1,6 @@
 //! The wires by which registers feed inputs.
 
 ghost use Rattle.std.specs.Prelude.{◌≡◌, ◌++◌, None, Some, map, IfOk, OnOk};
-ghost use Rattle.sap_net.specs.NameMaps.{Indexes};
 ghost use Rattle.sap_linked.specs.Netlist as linked;
 ghost use Rattle.sap_joined.specs.Joined as spec;
 ghost use Rattle.sap_joined.specs.Seen as seen;
@@ -9,10 +8,9 @@ ghost use Rattle.sap_joined.specs.Seen as seen;
 use crate::names::{below_to, joined_to, tag_from, tag_to, value_from, value_to};
 use crate::parts::Feed;
 use sap_bits::Op2;
-use sap_net::name_map::index_names;
 use sap_net::parts::{Name, Operand, Right, Wire};
+use sap_share::places::Places;
 use std::alloc::{AllocError, Global};
-use std::collections::HashMap;
 
 fn assign(name: Name, width: u32, right: Right) -> Wire
     ensures { result ≡ linked.assign name width right }
@@ -130,12 +128,9 @@ fn fed_names(alloc: Global, feeds: &[Feed<'_>]) -> Result<Vec<Name>, AllocError>
 }
 
 /// A set of these names.
-pub(crate) fn index_fed(
-    alloc: Global,
-    feeds: &[Feed<'_>],
-) -> Result<HashMap<Vec<u8>, usize>, AllocError>
-    ensures { IfOk result (λ m. Indexes m (spec.fed_names (map seen.feed feeds.now))) }
+pub(crate) fn index_fed(alloc: Global, feeds: &[Feed<'_>]) -> Result<Places, AllocError>
+    ensures { IfOk result (λ fed. fed ≡ spec.fed_names (map seen.feed feeds.now)) }
 {
     let names = fed_names(alloc, feeds)?;
-    index_names(alloc, names.as_slice())
+    Places::new(alloc, names)
 }

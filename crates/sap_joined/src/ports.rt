@@ -9,10 +9,9 @@ ghost use Rattle.sap_linked.specs.Parts as parts;
 
 use crate::names::in_part;
 use crate::parts::NamedNet;
-use crate::sets::has;
 use sap_net::parts::{Input, Name, Port, PortKind};
+use sap_share::places::Places;
 use std::alloc::{AllocError, Global};
-use std::collections::HashMap;
 
 /// Ports of parts, by what the whole has them as.
 #[derive(Drop)]
@@ -23,11 +22,7 @@ struct Sorted {
     fed: Vec<Port>,
 }
 
-fn add_port(
-    sorted: &mut Sorted,
-    fed: &HashMap<Vec<u8>, usize>,
-    port: Port,
-) -> Result<(), AllocError>
+fn add_port(sorted: &mut Sorted, fed: &Places, port: Port) -> Result<(), AllocError>
     ensures free { OnOk result (sorted.new.free.items ≡ sorted.old.free.items ++ filter (spec.is_free_port (seen.has fed.now)) (port ∷ [])) }
     ensures registers { OnOk result (sorted.new.registers.items ≡ sorted.old.registers.items ++ filter spec.is_register_port (port ∷ [])) }
     ensures wires { OnOk result (sorted.new.wires.items ≡ sorted.old.wires.items ++ filter spec.is_wire_port (port ∷ [])) }
@@ -35,7 +30,7 @@ fn add_port(
 {
     match port.kind {
         PortKind::Input => {
-            if has(fed, &port.name) {
+            if fed.holds(&port.name) {
                 sorted.fed.push(Port {
                     name: port.name,
                     kind: PortKind::Wire,
@@ -53,7 +48,7 @@ fn add_port(
 fn add_ports_of(
     alloc: Global,
     sorted: &mut Sorted,
-    fed: &HashMap<Vec<u8>, usize>,
+    fed: &Places,
     part: &Name,
     ports: &[Port],
 ) -> Result<(), AllocError>
@@ -74,11 +69,7 @@ fn add_ports_of(
 }
 
 #[tactic(auto, using(crate::proofs::Spelling::ports_spelled))]
-fn sort_ports(
-    alloc: Global,
-    parts: &[NamedNet<'_>],
-    fed: &HashMap<Vec<u8>, usize>,
-) -> Result<Sorted, AllocError>
+fn sort_ports(alloc: Global, parts: &[NamedNet<'_>], fed: &Places) -> Result<Sorted, AllocError>
     ensures free { IfOk result (λ sorted. sorted.free.items ≡ filter (spec.is_free_port (seen.has fed.now)) (spec.part_ports (map seen.named_net parts.now))) }
     ensures registers { IfOk result (λ sorted. sorted.registers.items ≡ filter spec.is_register_port (spec.part_ports (map seen.named_net parts.now))) }
     ensures wires { IfOk result (λ sorted. sorted.wires.items ≡ filter spec.is_wire_port (spec.part_ports (map seen.named_net parts.now))) }
@@ -101,7 +92,7 @@ fn sort_ports(
 pub(crate) fn joined_ports(
     alloc: Global,
     parts: &[NamedNet<'_>],
-    fed: &HashMap<Vec<u8>, usize>,
+    fed: &Places,
 ) -> Result<Vec<Port>, AllocError>
     ensures { IfOk result (λ made. made.items ≡ spec.ports_by (seen.has fed.now) (spec.part_ports (map seen.named_net parts.now))) }
 {
@@ -121,7 +112,7 @@ pub(crate) fn joined_ports(
 fn add_input(
     alloc: Global,
     made: &mut Vec<Input>,
-    fed: &HashMap<Vec<u8>, usize>,
+    fed: &Places,
     part: &Name,
     input: &Input,
 ) -> Result<(), AllocError>
@@ -129,7 +120,7 @@ fn add_input(
     ensures { OnOk result (made.new.items ≡ made.old.items ++ filter (spec.is_free_input (seen.has fed.now)) (copies.copy_input (parts.in_part part.now) input.now ∷ [])) }
 {
     let name = in_part(alloc, part, &input.name)?;
-    if !has(fed, &name) {
+    if !fed.holds(&name) {
         made.push(Input {
             name,
             width: input.width,
@@ -141,7 +132,7 @@ fn add_input(
 fn add_inputs_of(
     alloc: Global,
     made: &mut Vec<Input>,
-    fed: &HashMap<Vec<u8>, usize>,
+    fed: &Places,
     part: &Name,
     inputs: &[Input],
 ) -> Result<(), AllocError>
@@ -159,7 +150,7 @@ fn add_inputs_of(
 pub(crate) fn free_inputs(
     alloc: Global,
     parts: &[NamedNet<'_>],
-    fed: &HashMap<Vec<u8>, usize>,
+    fed: &Places,
 ) -> Result<Vec<Input>, AllocError>
     ensures { IfOk result (λ made. made.items ≡ filter (spec.is_free_input (seen.has fed.now)) (spec.part_inputs (map seen.named_net parts.now))) }
 {

@@ -9,10 +9,9 @@ ghost use Rattle.sap_linked.specs.Parts as parts;
 
 use crate::copies::copy_register;
 use crate::parts::NamedNet;
-use crate::sets::has;
 use sap_net::parts::{Name, Register};
+use sap_share::places::Places;
 use std::alloc::{AllocError, Global};
-use std::collections::HashMap;
 
 /// Registers that ports show, and the others.
 #[derive(Drop)]
@@ -23,13 +22,13 @@ pub(crate) struct Registers {
 
 fn add_register(
     registers: &mut Registers,
-    shown: &HashMap<Vec<u8>, usize>,
+    shown: &Places,
     register: Register,
 ) -> Result<(), AllocError>
     ensures shown { OnOk result (registers.new.shown.items ≡ registers.old.shown.items ++ filter (spec.is_shown_register (seen.has shown.now)) (register ∷ [])) }
     ensures hidden { OnOk result (registers.new.hidden.items ≡ registers.old.hidden.items ++ filter (spec.is_hidden_register (seen.has shown.now)) (register ∷ [])) }
 {
-    if has(shown, &register.name) {
+    if shown.holds(&register.name) {
         registers.shown.push(register)?;
     } else {
         registers.hidden.push(register)?;
@@ -40,7 +39,7 @@ fn add_register(
 fn add_registers_of(
     alloc: Global,
     registers: &mut Registers,
-    shown: &HashMap<Vec<u8>, usize>,
+    shown: &Places,
     part: &Name,
     given: &[Register],
 ) -> Result<(), AllocError>
@@ -59,7 +58,7 @@ fn add_registers_of(
 pub(crate) fn sort_registers(
     alloc: Global,
     parts: &[NamedNet<'_>],
-    shown: &HashMap<Vec<u8>, usize>,
+    shown: &Places,
 ) -> Result<Registers, AllocError>
     ensures shown { IfOk result (λ made. made.shown.items ≡ filter (spec.is_shown_register (seen.has shown.now)) (spec.part_registers (map seen.named_net parts.now))) }
     ensures hidden { IfOk result (λ made. made.hidden.items ≡ filter (spec.is_hidden_register (seen.has shown.now)) (spec.part_registers (map seen.named_net parts.now))) }

@@ -10,10 +10,10 @@ use crate::feeds::{feed_wires, index_fed};
 use crate::parts::{Feed, NamedNet};
 use crate::ports::{free_inputs, joined_ports};
 use crate::registers::{Registers, sort_registers};
-use crate::sets::{has, index_ports};
+use crate::sets::index_ports;
 use sap_net::parts::{Memory, Name, Parts, Port, Register, Wire};
+use sap_share::places::Places;
 use std::alloc::{AllocError, Global};
-use std::collections::HashMap;
 
 fn add_port_names(alloc: Global, made: &mut Vec<Name>, ports: &[Port]) -> Result<(), AllocError>
     ensures { OnOk result (made.new.items ≡ made.old.items ++ spec.port_names ports.now) }
@@ -27,12 +27,12 @@ fn add_port_names(alloc: Global, made: &mut Vec<Name>, ports: &[Port]) -> Result
 fn add_hidden(
     alloc: Global,
     made: &mut Vec<Name>,
-    shown: &HashMap<Vec<u8>, usize>,
+    shown: &Places,
     name: &Name,
 ) -> Result<(), AllocError>
     ensures { OnOk result (made.new.items ≡ made.old.items ++ filter (spec.is_hidden (seen.has shown.now)) (name.now ∷ [])) }
 {
-    if !has(shown, name) {
+    if !shown.holds(name) {
         made.push(name.copy(alloc)?)?;
     }
     Ok(())
@@ -41,7 +41,7 @@ fn add_hidden(
 fn add_wire_names(
     alloc: Global,
     made: &mut Vec<Name>,
-    shown: &HashMap<Vec<u8>, usize>,
+    shown: &Places,
     wires: &[Wire],
 ) -> Result<(), AllocError>
     ensures { OnOk result (made.new.items ≡ made.old.items ++ filter (spec.is_hidden (seen.has shown.now)) (map (λ w. w.name) wires.now)) }
@@ -68,7 +68,7 @@ fn add_register_names(
 fn add_memory_names(
     alloc: Global,
     made: &mut Vec<Name>,
-    shown: &HashMap<Vec<u8>, usize>,
+    shown: &Places,
     memories: &[Memory],
 ) -> Result<(), AllocError>
     ensures { OnOk result (made.new.items ≡ made.old.items ++ filter (spec.is_hidden (seen.has shown.now)) (map (λ m. m.name) memories.now)) }
@@ -82,7 +82,7 @@ fn add_memory_names(
 /// The names of ports, and then those of other wires, registers and memories.
 fn all_names(
     alloc: Global,
-    shown: &HashMap<Vec<u8>, usize>,
+    shown: &Places,
     ports: &[Port],
     wires: &[Wire],
     hidden: &[Register],

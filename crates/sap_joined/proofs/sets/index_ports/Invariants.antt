@@ -1,7 +1,6 @@
-use Rattle.std.proofs.Common.{take}
-use Rattle.sap_net.specs.NameMaps.{Indexes}
+use Rattle.std.proofs.Common.{◌≡◌, ◌++◌, drop}
 use Rattle.sap_joined.specs.Joined as spec
 use Rattle.sap_joined.proofs.sets.index_ports.Given as goal
 
-abbrev pub invariant-loop-k : goal.invariant-loop-k
-invariant-loop-k l = Indexes l.places (spec.port_names (take l.k l.ports))
+abbrev pub invariant-loop-port : goal.invariant-loop-port
+invariant-loop-port l = l.names.items ++ spec.port_names (drop l.port-index l.ports) ≡ spec.port_names l.ports

@@ -1,9 +1,8 @@
-use Rattle.std.proofs.Common.{◌≡◌, ◌++◌, List, map, filter, ap, ap₂, subst, ◌∙◌, rules}
+use Rattle.std.proofs.Common.{◌≡◌, ◌++◌, List, map, filter, ap, ap₂, ◌∙◌, rules}
 use Rattle.sap_net.specs.declared.parts.Port.{Port}
 use Rattle.sap_net.specs.declared.parts.Wire.{Wire}
 use Rattle.sap_net.specs.declared.parts.Register.{Register}
 use Rattle.sap_net.specs.declared.parts.Memory.{Memory}
-use Rattle.sap_net.specs.NameMaps.{Indexes}
 use Rattle.sap_net.specs.PortNames.{top_name}
 use Rattle.sap_build.specs.Copies.{copy_wire, copy_memory}
 use Rattle.sap_joined.specs.Joined as spec
@@ -28,11 +27,11 @@ returns c =
     let copies = spec.copies_of (λ n. n.wires) copy_wire ps in
     let listed = λ (qs : List Port) (ws : List Wire) (rs : List Register) (ms : List Memory).
     spec.port_names qs ++ ((filter (spec.is_hidden (seen.has shown)) (map (λ (w : Wire). w.name) ws) ++ map (λ (r : Register). r.name) rs) ++ filter (spec.is_hidden (seen.has shown)) (map (λ (m : Memory). m.name) ms)) in
-    let fed_is : Indexes fed (spec.fed_names fs) = search rules in
+    let fed_is : fed ≡ spec.fed_names fs = search rules in
     let ports_are : ports ≡ spec.ports_by (seen.has fed) (spec.part_ports ps) = search rules in
     let inputs_are : inputs ≡ filter (spec.is_free_input (seen.has fed)) (spec.part_inputs ps) = search rules in
-    let shown_by : Indexes shown (spec.port_names c.as_slice.result.now) = search rules in
-    let shown_is : Indexes shown (spec.port_names ports) = subst (λ (qs : List Port). Indexes shown (spec.port_names qs)) c.as_slice.ensures.value shown_by in
+    let shown_by : shown ≡ spec.port_names c.as_slice.result.now = search rules in
+    let shown_is : shown ≡ spec.port_names ports = shown_by ∙ ap spec.port_names c.as_slice.ensures.value in
     let fed_wires : c.in_ok-wires.wires.items ≡ spec.feed_wires c.args.tag fs = search rules in
     let all_wires : wires ≡ c.in_ok-wires.wires.items ++ copies = c.in_ok-add_wires.ensures {u = tt} in
     let first_is : first ≡ filter (spec.is_shown_register (seen.has shown)) (spec.part_registers ps) = search rules in
