@@ -9,4 +9,3 @@ pub mod PartRuns
 pub mod CopiedParts
 pub mod Writing
 pub mod Grown
-pub mod NameSets

@@ -3,5 +3,4 @@
 
 pub mod copies;
 pub mod laws;
-pub mod set;
 pub mod writer;

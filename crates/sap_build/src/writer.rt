@@ -6,10 +6,10 @@ ghost use Rattle.sap_net.specs.Net.{net_of};
 ghost use Rattle.sap_net.specs.IsNetlist.{IsNetlist};
 ghost use Rattle.sap_build.specs.Writing as spec;
 
-use crate::set::NameSet;
 use sap_net::netlist::Netlist;
 use sap_net::parts::{Input, Memory, Name, Parts, Port, PortKind, Register, Wire};
 use sap_share::names::helper_name;
+use sap_share::places::Places;
 use std::alloc::{AllocError, Global};
 use std::marker::Model;
 
@@ -17,7 +17,7 @@ use std::marker::Model;
 #[derive(Drop)]
 pub struct Writer {
     module_name: Name,
-    names: NameSet,
+    names: Places,
     ports: Vec<Port>,
     inputs: Vec<Input>,
     wires: Vec<Wire>,
@@ -55,7 +55,7 @@ impl Writer {
     {
         Ok(Writer {
             module_name,
-            names: NameSet::new(alloc, Vec::new(alloc))?,
+            names: Places::new(alloc, Vec::new(alloc))?,
             ports: Vec::new(alloc),
             inputs: Vec::new(alloc),
             wires: Vec::new(alloc),
@@ -80,7 +80,7 @@ impl Writer {
         } = parts;
         Ok(Writer {
             module_name,
-            names: NameSet::new(alloc, names)?,
+            names: Places::new(alloc, names)?,
             ports,
             inputs,
             wires,

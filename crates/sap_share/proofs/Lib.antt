@@ -6,3 +6,4 @@ pub mod Found
 pub mod Differing
 pub mod Lookups
 pub mod Held
+pub mod Growing

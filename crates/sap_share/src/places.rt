@@ -1,6 +1,6 @@
 //! Names by their places on a list.
 
-ghost use Rattle.std.specs.Prelude.{◌≡◌, IfOk};
+ghost use Rattle.std.specs.Prelude.{◌≡◌, ◌++◌, [], ◌∷◌, true, false, IfOk, OnOk, OnErr};
 ghost use Rattle.sap_net.specs.NameMaps.{place_in};
 ghost use Rattle.sap_net.specs.Names.{is_among};
 
@@ -10,7 +10,7 @@ use std::alloc::{AllocError, Global};
 use std::collections::HashMap;
 use std::marker::Model;
 
-/// Names in order, seen as their list, with the first place of each.
+/// Names in order, to which more can be added, seen as their list, with the first place of each.
 #[derive(Drop)]
 pub struct Places {
     names: Vec<Name>,
@@ -53,5 +53,51 @@ impl Places {
         ensures { result ≡ is_among name.now self.now }
     {
         is_indexed(&self.places, name.as_bytes())
+    }
+
+    /// Gives the names.
+    pub fn into_names(self) -> Vec<Name>
+        ensures { result.items ≡ self }
+    {
+        self.names
+    }
+
+    /// One more name, behind the others; none for want of memory.
+    pub fn add(&mut self, alloc: Global, name: Name) -> Result<(), AllocError>
+        ensures more { OnOk result (self.new ≡ self.old ++ name ∷ []) }
+        ensures same { OnErr result (self.new ≡ self.old) }
+    {
+        if self.holds(&name) {
+            self.add_again(name)
+        } else {
+            let key = name.as_bytes().to_vec(alloc)?;
+            self.add_new(key, name)
+        }
+    }
+
+    /// Adds a name that has a place.
+    fn add_again(&mut self, name: Name) -> Result<(), AllocError>
+        requires { is_among name self.old ≡ true }
+        ensures more { OnOk result (self.new ≡ self.old ++ name ∷ []) }
+        ensures same { OnErr result (self.new ≡ self.old) }
+    {
+        self.names.push(name)?;
+        Ok(())
+    }
+
+    /// Adds a name that has none, with its bytes.
+    fn add_new(&mut self, key: Vec<u8>, name: Name) -> Result<(), AllocError>
+        requires bytes { key.items ≡ name }
+        requires other { is_among name self.old ≡ false }
+        ensures more { OnOk result (self.new ≡ self.old ++ name ∷ []) }
+        ensures same { OnErr result (self.new ≡ self.old) }
+    {
+        let place = self.names.len();
+        self.names.push(name)?;
+        if self.places.insert(key, place).is_err() {
+            self.names.pop();
+            return Err(AllocError);
+        }
+        Ok(())
     }
 }

@@ -7,9 +7,9 @@ ghost use Rattle.sap_taint_pass.specs.FaultTexts.{IsTaintFault};
 
 use crate::fault::TaintFault;
 use sap_build::copies::copy_names;
-use sap_build::set::NameSet;
 use sap_net::netlist::Netlist;
 use sap_net::parts::Name;
+use sap_share::places::Places;
 use std::alloc::{AllocError, Global};
 
 /// x, where a name is `v_x`.
@@ -33,18 +33,18 @@ pub(crate) fn tag_name(alloc: Global, name: &Name) -> Result<Name, AllocError>
 }
 
 /// The names that a tag can't have before any has one.
-fn declared(alloc: Global, netlist: &Netlist) -> Result<NameSet, AllocError>
+fn declared(alloc: Global, netlist: &Netlist) -> Result<Places, AllocError>
     ensures { IfOk result (λ names. names ≡ netlist.now.module_name ∷ netlist.now.names) }
 {
     let mut names = Vec::new(alloc);
     names.push(netlist.module_name().copy(alloc)?)?;
     let mut others = copy_names(alloc, netlist.names())?;
     names.append(&mut others)?;
-    NameSet::new(alloc, names)
+    Places::new(alloc, names)
 }
 
 /// All names that are taken once the tags have theirs, or the first name whose tag can't have its own.
-pub fn index_tags(alloc: Global, netlist: &Netlist) -> Result<NameSet, TaintFault>
+pub fn index_tags(alloc: Global, netlist: &Netlist) -> Result<Places, TaintFault>
     ensures room { IfOk result (λ taken. HasRoomForTags netlist.now) }
     ensures taken { IfOk result (λ taken. taken ≡ netlist.now.module_name ∷ netlist.now.names ++ map name_of_tag netlist.now.names) }
     ensures clash { IfErr result (λ fault. IsTaintFault netlist.now fault) }

@@ -1,4 +1,4 @@
--- A set of names, as one more is added.
+-- Places, as one more name is added.
 use Rattle.std.proofs.Common.{◌≡◌, ℕ, List, [], ◌∷◌, ◌++◌, Option, Some, None, true, false, length, is_some, ◌∙◌, refl}
 use Rattle.std.specs.HashMap as hash
 use Rattle.std.specs.declared.vec.Vec.{Vec}

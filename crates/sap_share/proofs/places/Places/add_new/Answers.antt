@@ -4,13 +4,13 @@ use Rattle.sap_maps.specs.Maps.{Name}
 use Rattle.sap_net.specs.Names.{is_among}
 use Rattle.sap_net.specs.NameMaps.{Indexes}
 use Rattle.sap_net.proofs.NameMaps.{same_bytes}
-use Rattle.sap_build.proofs.NameSets.{added}
-use Rattle.sap_build.proofs.set.NameSet.put.Goals as goal
+use Rattle.sap_share.proofs.Growing.{added}
+use Rattle.sap_share.proofs.places.Places.add_new.Goals as goal
 
 pub invariant_of-self-else-is_err : goal.invariant_of-self-else-is_err
 invariant_of-self-else-is_err c =
     let m = c.self.inside.places in
-    let names = c.self.inside.list.items in
+    let names = c.self.inside.names.items in
     let m' = c.insert.new.self in
     let x = c.args.name in
     let more : c.push.new.self.items ≡ names ++ x ∷ [] = search rules in
