@@ -6,7 +6,7 @@ use Rattle.sap_shape.specs.WellFormed.{WellFormed}
 use Rattle.sap_net.specs.Net.{Net}
 use Rattle.sap_size.specs.Items.{IsSmall}
 use Rattle.sap_trim.specs.Reads.{ReadsWires}
-use Rattle.sap_trim.specs.Trimmed.{FoldsWires, SharesWires}
+use Rattle.sap_trim.specs.Trimmed.{CopiesPorts, FoldsWires, SharesWires}
 use Rattle.sap_vtext.specs.Modules.{IsModule}
 use Rattle.sap_interface.specs.Designs.{StandsForDesign, StartsAsDesign}
 use Rattle.sap_compile.specs.Agree.{RunsAgree, RunsLookAlike}
@@ -14,7 +14,7 @@ use Rattle.sap_compile.specs.Runs.{HasOneRunOnStreams}
 
 -- The design is well formed, the text is that of a module, the module stands for the design, starts as it does and has exactly
 -- one run on every stream that fits, and on streams that agree at or below a level its runs agree there in every cycle. No two of
--- its helping wires are alike, each is read, and none folds any further. The module is small.
+-- its helping wires are alike, each is read, and none folds any further; wires that are ports are copies. The module is small.
 pub record IsModuleFor (ls : Levels) (d : DesignTree) (net : Net) (text : List â„•) : Type 0 where
   pub well_formed : WellFormed ls d
   pub is_module : IsModule text net
@@ -26,4 +26,5 @@ pub record IsModuleFor (ls : Levels) (d : DesignTree) (net : Net) (text : List â
   pub shared : SharesWires net
   pub folded : FoldsWires net
   pub read : ReadsWires net
+  pub copies : CopiesPorts net
   pub small : IsSmall ls d net

@@ -10,7 +10,7 @@ ghost use Rattle.sap_hang.specs.Hang.{IsHangTable};
 ghost use Rattle.sap_interface.specs.Designs.{StandsForDesign, StartsAsDesign};
 ghost use Rattle.sap_size.specs.Items.{IsSmall};
 ghost use Rattle.sap_trim.specs.Reads.{ReadsWires};
-ghost use Rattle.sap_trim.specs.Trimmed.{FoldsWires, SharesWires};
+ghost use Rattle.sap_trim.specs.Trimmed.{CopiesPorts, FoldsWires, SharesWires};
 
 use crate::compiled::Compiled;
 use crate::stages::netlist;
@@ -48,6 +48,7 @@ fn netlist_for(alloc: Global, checked: &Checked, hang: &HangTable) -> Result<Net
     ensures shared { IfOk result (λ n. SharesWires n) }
     ensures folded { IfOk result (λ n. FoldsWires n) }
     ensures read { IfOk result (λ n. ReadsWires n) }
+    ensures copies { IfOk result (λ n. CopiesPorts n) }
     ensures small { IfOk result (λ n. IsSmall (levels_in checked.now) (tree_in checked.now) n) }
 {
     let program = resolve(alloc, checked, hang)?;
@@ -62,6 +63,7 @@ pub fn design_netlist(alloc: Global, checked: &Checked) -> Result<Netlist, Alloc
     ensures shared { IfOk result (λ n. SharesWires n) }
     ensures folded { IfOk result (λ n. FoldsWires n) }
     ensures read { IfOk result (λ n. ReadsWires n) }
+    ensures copies { IfOk result (λ n. CopiesPorts n) }
     ensures small { IfOk result (λ n. IsSmall (levels_in checked.now) (tree_in checked.now) n) }
 {
     let hang = hang(alloc, checked.design(), checked.names())?;

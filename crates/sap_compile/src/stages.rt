@@ -6,7 +6,7 @@ ghost use Rattle.sap_ir.specs.Plain.Writes.{PlainWritesOnce};
 ghost use Rattle.sap_size.specs.Items.{items};
 ghost use Rattle.sap_size.specs.Nested.{nested_weight};
 ghost use Rattle.sap_trim.specs.Reads.{ReadsWires};
-ghost use Rattle.sap_trim.specs.Trimmed.{FoldsWires, SharesWires};
+ghost use Rattle.sap_trim.specs.Trimmed.{CopiesPorts, FoldsWires, SharesWires};
 ghost use Rattle.sap_compile.specs.Stages.Stages.{StandsForTheSame, StartsAsTheSame};
 
 use sap_flat::flatten::flatten;
@@ -25,6 +25,7 @@ pub fn netlist(alloc: Global, program: &Plain) -> Result<Netlist, AllocError>
     ensures shared { IfOk result (λ n. SharesWires n) }
     ensures folded { IfOk result (λ n. FoldsWires n) }
     ensures read { IfOk result (λ n. ReadsWires n) }
+    ensures copies { IfOk result (λ n. CopiesPorts n) }
     ensures small { IfOk result (λ n. items n ≤ nested_weight (nested_of program.now)) }
 {
     program.rules();

@@ -23,6 +23,7 @@ returns-clause-compiled c =
       shared = c.in_ok-netlist.ensures.shared;
       folded = c.in_ok-netlist.ensures.folded;
       read = c.in_ok-netlist.ensures.read;
+      copies = c.in_ok-netlist.ensures.copies;
       small = c.in_ok-netlist.ensures.small;
     }
 
