@@ -6,7 +6,8 @@ use Rattle.sap_shape.specs.WellFormed.{WellFormed}
 use Rattle.sap_net.specs.Net.{Net}
 use Rattle.sap_size.specs.Items.{IsSmall}
 use Rattle.sap_trim.specs.Reads.{ReadsWires}
-use Rattle.sap_trim.specs.Trimmed.{CopiesPorts, FoldsWires, SharesWires}
+use Rattle.sap_share.specs.Copying.{CopiesPorts}
+use Rattle.sap_trim.specs.Trimmed.{FoldsWires, SharesWires}
 use Rattle.sap_vtext.specs.Modules.{IsModule}
 use Rattle.sap_interface.specs.Designs.{StandsForDesign, StartsAsDesign}
 use Rattle.sap_compile.specs.Agree.{RunsAgree, RunsLookAlike}

@@ -10,7 +10,8 @@ ghost use Rattle.sap_hang.specs.Hang.{IsHangTable};
 ghost use Rattle.sap_interface.specs.Designs.{StandsForDesign, StartsAsDesign};
 ghost use Rattle.sap_size.specs.Items.{IsSmall};
 ghost use Rattle.sap_trim.specs.Reads.{ReadsWires};
-ghost use Rattle.sap_trim.specs.Trimmed.{CopiesPorts, FoldsWires, SharesWires};
+ghost use Rattle.sap_share.specs.Copying.{CopiesPorts};
+ghost use Rattle.sap_trim.specs.Trimmed.{FoldsWires, SharesWires};
 
 use crate::compiled::Compiled;
 use crate::stages::netlist;

@@ -6,7 +6,8 @@ ghost use Rattle.sap_ir.specs.Plain.Writes.{PlainWritesOnce};
 ghost use Rattle.sap_size.specs.Items.{items};
 ghost use Rattle.sap_size.specs.Nested.{nested_weight};
 ghost use Rattle.sap_trim.specs.Reads.{ReadsWires};
-ghost use Rattle.sap_trim.specs.Trimmed.{CopiesPorts, FoldsWires, SharesWires};
+ghost use Rattle.sap_share.specs.Copying.{CopiesPorts};
+ghost use Rattle.sap_trim.specs.Trimmed.{FoldsWires, SharesWires};
 ghost use Rattle.sap_compile.specs.Stages.Stages.{StandsForTheSame, StartsAsTheSame};
 
 use sap_flat::flatten::flatten;
