@@ -1,8 +1,7 @@
 -- The search for a clash, name by name.
 use Rattle.std.proofs.Common.{◌≡◌, ◌<◌, ◌≤◌, ℕ, ◌+◌, suc, List, [], ◌∷◌, ◌++◌, map, length, take, drop, get_or, true, false, ap, sym, ◌∙◌, subst, arith}
 use Rattle.std.proofs.Math.Seq.{take-suc, drop-cons}
-use Rattle.std.proofs.lemmas.List.{map-append, append_assoc, take-append-drop, take_all, length-take, length-append}
-use Rattle.sap_lemmas.proofs.Lists.{length_map}
+use Rattle.std.proofs.lemmas.List.{map-append, append_assoc, take-append-drop, take_all}
 use Rattle.sap_maps.specs.Maps.{Name}
 use Rattle.sap_net.specs.Net.{Net}
 use Rattle.sap_net.specs.IsNetlist.{IsNetlist}
@@ -31,14 +30,3 @@ pub tags_more : (ns : List Name) (k : ℕ) (x : Name) → k < length ns → x �
 tags_more ns k x l e front =
     append_assoc front (map name_of_tag (take k ns)) (name_of_tag x ∷ [])
     ∙ ap (λ ys. front ++ ys) (sym (map-append name_of_tag (take k ns) (x ∷ [])) ∙ ap (map name_of_tag) (sym (take_more ns k x l e)))
-
-pub front_length : (m : Name) (ns : List Name) (k : ℕ) → k ≤ length ns → length (m ∷ take k ns) ≡ k + 1
-front_length m ns k l = let e = length-take k ns in omega arith
-
-pub tags_length : (m : Name) (names ns : List Name) (k : ℕ) → ns ≡ names → k ≤ length ns → length (m ∷ names ++ map name_of_tag (take k ns)) ≡ 1 + length ns + k
-tags_length m names ns k same l =
-    let a = length-append (m ∷ names) (map name_of_tag (take k ns)) in
-    let b = length_map name_of_tag (take k ns) in
-    let e = length-take k ns in
-    let g = ap length same in
-    omega arith

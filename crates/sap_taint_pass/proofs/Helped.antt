@@ -88,16 +88,6 @@ pub four_declared : (n : Net) (k : ℕ) (m m1 m2 m3 m4 : Net) (a b c d : Name) �
     → IsFresh (taken m2) c → m3 ≡ declared c m2 → IsFresh (taken m3) d → m4 ≡ declared d m3 → Adds n k 4 [] [] m m4
 four_declared n k m m1 m2 m3 m4 a b c d h fa ea fb eb fc ec fd ed = (four n k m m1 m2 m3 m4 a b c d h fa ea fb eb fc ec fd ed).adds
 
--- four assigns
-
-pub four_assigned : (m m1 m2 m3 m4 : Net) (a b c d : Wire) → m1 ≡ assigned a m → m2 ≡ assigned b m1 → m3 ≡ assigned c m2 → m4 ≡ assigned d m3
-    → m4 ≡ grown [] (a ∷ b ∷ c ∷ d ∷ []) [] m
-four_assigned m m1 m2 m3 m4 a b c d ea eb ec ed =
-    let g1 = ea ∙ assigned_grows a m in
-    let g2 = eb ∙ assigned_grows b m1 ∙ ap (grown [] (b ∷ []) []) g1 ∙ grown_twice [] [] (a ∷ []) (b ∷ []) [] [] m in
-    let g3 = ec ∙ assigned_grows c m2 ∙ ap (grown [] (c ∷ []) []) g2 ∙ grown_twice [] [] (a ∷ b ∷ []) (c ∷ []) [] [] m in
-    ed ∙ assigned_grows d m3 ∙ ap (grown [] (d ∷ []) []) g3 ∙ grown_twice [] [] (a ∷ b ∷ c ∷ []) (d ∷ []) [] [] m
-
 -- names, then a register, then wires
 pub all_added : (n : Net) (k count : ℕ) (ws : List Wire) (r : Register) (m m1 m2 m3 : Net) → Adds n k count [] [] m m1 → m2 ≡ registered r m1 → m3 ≡ grown [] ws [] m2
     → Adds n k count ws (r ∷ []) m m3
