@@ -9,8 +9,9 @@ ghost use Rattle.sap_share.specs.Sets.{AreSame, holds};
 ghost use Rattle.sap_trim.specs.Names.{lasting_names, port_names};
 
 use crate::replace::{stand, stand_name};
+use sap_build::copies::{copy_inputs, copy_ports};
 use sap_net::netlist::Netlist;
-use sap_net::parts::{Input, Memory, Name, Operand, Parts, Port, Register, Right, Wire};
+use sap_net::parts::{Memory, Name, Operand, Parts, Register, Right, Wire};
 use sap_share::name_set::NameSet;
 use std::alloc::{AllocError, Global};
 use std::collections::HashMap;
@@ -38,34 +39,6 @@ fn add_wires(alloc: Global, made: &mut Vec<Name>, wires: &[Wire]) -> Result<(), 
         made.push(wire.name.copy(alloc)?)?;
     }
     Ok(())
-}
-
-fn ports(alloc: Global, ports: &[Port]) -> Result<Vec<Port>, AllocError>
-    ensures { IfOk result (λ ps. ps.items ≡ ports.now) }
-{
-    let mut made = Vec::new(alloc);
-    for port in ports {
-        let name = port.name.copy(alloc)?;
-        made.push(Port {
-            name,
-            kind: port.kind,
-        })?;
-    }
-    Ok(made)
-}
-
-fn inputs(alloc: Global, inputs: &[Input]) -> Result<Vec<Input>, AllocError>
-    ensures { IfOk result (λ is. is.items ≡ inputs.now) }
-{
-    let mut made = Vec::new(alloc);
-    for input in inputs {
-        let name = input.name.copy(alloc)?;
-        made.push(Input {
-            name,
-            width: input.width,
-        })?;
-    }
-    Ok(made)
 }
 
 fn wire(alloc: Global, stands: &HashMap<Vec<u8>, Operand>, shown: &Wire) -> Result<Wire, AllocError>
@@ -183,8 +156,8 @@ pub fn build(
     add_lasting(alloc, &mut names, lasting, netlist.names())?;
     add_wires(alloc, &mut names, &wires)?;
     add_shown(alloc, &mut wires, shown, stands, netlist.wires())?;
-    let ports = ports(alloc, netlist.ports())?;
-    let inputs = inputs(alloc, netlist.inputs())?;
+    let ports = copy_ports(alloc, netlist.ports())?;
+    let inputs = copy_inputs(alloc, netlist.inputs())?;
     let registers = registers(alloc, stands, netlist.registers())?;
     let memories = memories(alloc, stands, netlist.memories())?;
     Ok(Parts {
