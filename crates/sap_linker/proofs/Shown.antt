@@ -1,7 +1,8 @@
--- A netlist has no more wires that ports show than ports that show wires.
-use Rattle.std.proofs.Common.{◌≡◌, ℕ, suc, ◌≤◌, Bool, true, false, not, List, [], ◌∷◌, ◌++◌, map, filter, length, bytes_eq, Some, None, refl, sym, ap, ◌∙◌, subst, inl, inr, arith}
+-- A netlist has as many wires that ports show as ports that show wires.
+use Rattle.std.proofs.Common.{◌≡◌, ℕ, suc, ◌≤◌, Bool, true, false, not, List, [], ◌∷◌, ◌++◌, map, filter, length, take, drop, bytes_eq, Some, None, refl, sym, ap, ◌∙◌, subst, inl, inr, arith}
 use Rattle.std.specs.List.{AllByRecursion}
 use Rattle.std.proofs.lemmas.Bool.{and_parts, cases_Bool}
+use Rattle.std.proofs.lemmas.List.{take-append-drop}
 use Rattle.std.proofs.lemmas.Option.{none-some}
 use Rattle.sap_lemmas.proofs.Lists.{length_map}
 use Rattle.sap_lemmas.proofs.Texts.{bytes_eq_apart_back, equal_of_bytes_eq}
@@ -19,6 +20,7 @@ use Rattle.sap_net.specs.IsNetlist.{IsNetlist, PortShows, first_readable, input_
 use Rattle.sap_net.proofs.NamesLemmas.{among_behind, among_here, apart_by_membership, filter_among, filter_distinct, found_of}
 use Rattle.sap_net.proofs.RulesLemmas.{wires_distinct, wires_new}
 use Rattle.sap_trim.specs.Names.{port_names, shown_wires}
+use Rattle.sap_linked.proofs.Parted.{distinct_front}
 
 -- ---- different names, each of which is among others, are no more than those
 
@@ -65,6 +67,32 @@ found_behind [] sd x u h = (u, h)
 found_behind (e ∷ sc) sd x u h = elim (cases_Bool (bytes_eq e.0 x)) [
   | inl t ↦ (e.1, rw t refl)
   | inr f ↦ (let r = found_behind sc sd x u h in (r.0, rw f r.1))
+]
+
+-- ---- some of the ports
+
+among_some : (f : Port → Bool) (ps : List Port) (x : Name) → is_among x (map (λ (p : Port). p.name) (filter f ps)) ≡ true → is_among x (map (λ (p : Port). p.name) ps) ≡ true
+among_some f [] x h = h
+among_some f (p ∷ ps) x h = elim (cases_Bool (bytes_eq x p.name)) [
+  | inl t ↦ rw t refl
+  | inr e ↦
+      elim (cases_Bool (f p)) [
+        | inl a ↦ rw e (among_some f ps x (rw e at (rw a at h)))
+        | inr b ↦ rw e (among_some f ps x (rw b at h))
+      ]
+]
+
+not_among_some : (f : Port → Bool) (ps : List Port) (x : Name) → is_among x (map (λ (p : Port). p.name) ps) ≡ false → is_among x (map (λ (p : Port). p.name) (filter f ps)) ≡ false
+not_among_some f ps x none = elim (cases_Bool (is_among x (map (λ (p : Port). p.name) (filter f ps)))) [
+  | inl t ↦ absurd (let there = among_some f ps x t in cc)
+  | inr e ↦ e
+]
+
+some_distinct : (f : Port → Bool) (ps : List Port) → AreDistinct (map (λ (p : Port). p.name) ps) → AreDistinct (map (λ (p : Port). p.name) (filter f ps))
+some_distinct f [] d = tt
+some_distinct f (p ∷ ps) d = elim (cases_Bool (f p)) [
+  | inl a ↦ rw a (not_among_some f ps p.name d.0, some_distinct f ps d.1)
+  | inr b ↦ rw b (some_distinct f ps d.1)
 ]
 
 -- ---- wires that are shown
@@ -127,4 +155,41 @@ module _ (n : Net) (rules : IsNetlist n) where
       let few = fewer (names_of (shown_wires n)) (map (λ (p : Port). p.name) (filter (λ (p : Port). is_wire p.kind) n.ports)) distinct each in
       let a = length_map (λ (w : Wire). w.name) (shown_wires n) in
       let b = length_map (λ (p : Port). p.name) (filter (λ (p : Port). is_wire p.kind) n.ports) in
+      omega (arith, few, a, b)
+
+  ports_distinct : AreDistinct (port_names n)
+  ports_distinct =
+      subst (λ (xs : List Name). AreDistinct xs) (sym rules.ports_first)
+      (distinct_front (take (length n.ports) n.names) (drop (length n.ports) n.names)
+      (subst (λ (xs : List Name). AreDistinct xs) (sym (take-append-drop (length n.ports) n.names)) rules.declared_once))
+
+  is_there : (k : PortKind) (x : Name) → is_wire k ≡ true → PortShows n k x → is_among x (wire_names n) ≡ true
+  is_there kind.Input x w s = absurd (cc)
+  is_there kind.Register x w s = absurd (cc)
+  is_there kind.Wire x w s = s
+
+  wire_of : (ps : List Port) → AllByRecursion (λ (p : Port). PortShows n p.kind p.name) ps → (x : Name)
+      → is_among x (map (λ (p : Port). p.name) (filter (λ (p : Port). is_wire p.kind) ps)) ≡ true → is_among x (wire_names n) ≡ true
+  wire_of [] a x m = absurd (cc)
+  wire_of (p ∷ ps) a x m = elim (cases_Bool (is_wire p.kind)) [
+    | inl w ↦
+        elim (cases_Bool (bytes_eq x p.name)) [
+          | inl t ↦ is_there p.kind x w (subst (λ (y : Name). PortShows n p.kind y) (sym (equal_of_bytes_eq x p.name t)) a.0)
+          | inr f ↦ wire_of ps a.1 x (rw f at (rw w at m))
+        ]
+    | inr o ↦ wire_of ps a.1 x (rw o at m)
+  ]
+
+  pub shown_many : length (filter (λ (p : Port). is_wire p.kind) n.ports) ≤ length (shown_wires n)
+  shown_many =
+      let some : List Port = filter (λ (p : Port). is_wire p.kind) n.ports in
+      let test : Name → Bool = λ x. is_among x (port_names n) in
+      let each : (x : Name) → is_among x (map (λ (p : Port). p.name) some) ≡ true → is_among x (names_of (shown_wires n)) ≡ true =
+      λ x m.
+      let wire = wire_of n.ports rules.ports_show x m in
+      let port = among_some (λ (p : Port). is_wire p.kind) n.ports x m in
+      ap (is_among x) (names_filtered test n.wires) ∙ filter_among test (wire_names n) x ∙ rw (wire, port) refl in
+      let few = fewer (map (λ (p : Port). p.name) some) (names_of (shown_wires n)) (some_distinct (λ (p : Port). is_wire p.kind) n.ports ports_distinct) each in
+      let a = length_map (λ (w : Wire). w.name) (shown_wires n) in
+      let b = length_map (λ (p : Port). p.name) some in
       omega (arith, few, a, b)

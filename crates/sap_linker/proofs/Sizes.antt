@@ -1,5 +1,5 @@
 -- How many items the netlist of a system has when it is made small.
-use Rattle.std.proofs.Common.{◌≡◌, ℕ, zero, suc, ◌+◌, ◌*◌, ◌≤◌, Bool, false, not, List, [], ◌∷◌, ◌++◌, map, filter, length, sum_by, Option, Some, None, refl, sym, ap, ◌∙◌, subst, inl, inr, arith}
+use Rattle.std.proofs.Common.{◌≡◌, ℕ, zero, suc, ◌+◌, ◌*◌, ◌≤◌, Bool, true, false, not, List, [], ◌∷◌, ◌++◌, map, filter, length, sum_by, Option, Some, None, refl, sym, ap, ◌∙◌, subst, inl, inr, arith}
 use Rattle.std.specs.List.{AllZip}
 use Rattle.std.proofs.lemmas.Bool.{cases_Bool}
 use Rattle.std.proofs.lemmas.List.Elements.{filter-append}
@@ -9,35 +9,37 @@ use Rattle.sap_lemmas.proofs.Lists.{length_map}
 use Rattle.sap_maps.specs.Maps.{Name}
 use Rattle.sap_lattice.specs.Levels.{Levels}
 use Rattle.sap_check.specs.Checked.{tree_in}
-use Rattle.sap_meaning.specs.Program.{Entity, is_register}
+use Rattle.sap_meaning.specs.Program.{Entity, is_input, is_register}
 use Rattle.sap_net.specs.declared.parts.PortKind.{PortKind}
 use Rattle.sap_net.specs.declared.parts.PortKind.TheVariants as kind
 use Rattle.sap_net.specs.declared.parts.Port.{Port}
 use Rattle.sap_net.specs.declared.parts.Register.{Register}
 use Rattle.sap_net.specs.declared.parts.Memory.{Memory}
+use Rattle.sap_net.specs.declared.parts.Right.{Right}
+use Rattle.sap_net.specs.declared.parts.Right.TheVariants.{Copy, One, Two, Choose, Concat, Slice, Cell}
 use Rattle.sap_net.specs.declared.parts.Wire.{Wire}
 use Rattle.sap_net.specs.Names.{is_among}
 use Rattle.sap_net.specs.Net.{Net}
 use Rattle.sap_net.specs.IsNetlist.{IsNetlist}
 use Rattle.sap_trim.specs.Alike.{DeclaresAlike}
 use Rattle.sap_trim.specs.Few.{HasFewWires, calculated, is_copy}
-use Rattle.sap_trim.specs.Names.{shown_wires}
-use Rattle.sap_interface.specs.Designs.{site_count_of}
+use Rattle.sap_trim.specs.Names.{port_names, shown_wires}
+use Rattle.sap_interface.specs.Designs.{named_of, site_count_of}
 use Rattle.sap_interface.specs.StandsFor.{Named, world}
 use Rattle.sap_interface.specs.Interface.{Shown, pairs_of, site_ports}
-use Rattle.sap_build.specs.Copies.{copy_wire, copy_register, copy_memory}
+use Rattle.sap_build.specs.Copies.{copy_right, copy_wire, copy_register, copy_memory}
 use Rattle.sap_link.specs.Systems.{Wire as SystemWire}
 use Rattle.sap_linked.specs.Parts.{Part, NamedSystem, in_part}
 use Rattle.sap_linked.specs.Interface.{fed_inputs, input_ports, is_free, linked_ports, ports_in, register_ports, refusal_ports}
 use Rattle.sap_linked.specs.Netlist.{copies_of, feeds, feeds_through, held_ports, linked_net, shown_names}
 use Rattle.sap_linked.specs.Designs.{named_system, part_of}
 use Rattle.sap_linker.specs.declared.parts.LinkedPart.{LinkedPart}
-use Rattle.sap_linker.specs.Given.{designs_of, named_design, net_at}
+use Rattle.sap_linker.specs.Given.{AreOver, IsOver, designs_of, named_design, net_at, nets_of}
 use Rattle.sap_linker.specs.Linking.{with_ports}
-use Rattle.sap_linker.specs.Sizes.{HasFewItems, part_items}
+use Rattle.sap_linker.specs.Sizes.{HasFewItems, net_items}
 use Rattle.sap_linker.proofs.Counting.{both_lengths}
 use Rattle.sap_linker.proofs.Fed.{fed_few}
-use Rattle.sap_linker.proofs.Shown.{is_wire, shown_few}
+use Rattle.sap_linker.proofs.Shown.{is_wire, shown_few, shown_many}
 
 -- ---- ports that show wires
 
@@ -84,24 +86,52 @@ site_wires : (k sites : ℕ) → length (site_ports k sites) ≡ 2 * sites
 site_wires k zero = omega arith
 site_wires k (suc n) = let rest = site_wires (k + 1) n in omega (arith, rest)
 
-refusal_wires : (ls : Levels) (parts : List LinkedPart)
-    → length (refusal_ports (map (part_of ls) (designs_of parts))) ≡ sum_by (λ (p : LinkedPart). 2 * site_count_of (tree_in p.checked.now)) parts
-refusal_wires ls [] = refl
-refusal_wires ls (p ∷ parts) =
-    let q : Part = part_of ls (named_design p) in
-    let rest = refusal_wires ls parts in
-    let more = refusal_ports (map (part_of ls) (designs_of parts)) in
-    let both = both_lengths (ports_in q (site_ports 1 q.sites)) more in
-    let own = length_map {B = Shown} (λ (port : Shown). (in_part q.name port.0, port.1)) (site_ports 1 q.sites) in
-    let sites = site_wires 1 q.sites in
-    let sum = sum_by-cons (λ (r : LinkedPart). 2 * site_count_of (tree_in r.checked.now)) p parts in
-    omega (arith, rest, both, own, sites, sum)
-
 ports_that_show : (ps : List Shown)
     → length (filter (λ (p : Port). is_wire p.kind) (map {B = Port} (λ (port : Shown). record { name = port.0; kind = port.1 }) ps)) ≡ wires_among ps
 ports_that_show [] = refl
 ports_that_show (p ∷ ps) =
     elim (cases_Bool (is_wire p.1)) [ inl t ↦ rw t (ap suc (ports_that_show ps)) | inr f ↦ rw f (ports_that_show ps) ]
+
+sites_are_wires : (k sites : ℕ) → wires_among (site_ports k sites) ≡ 2 * sites
+sites_are_wires k zero = omega arith
+sites_are_wires k (suc n) = let rest = sites_are_wires (k + 1) n in omega (arith, rest)
+
+kinds_of_ports : (ps : List Port) → wires_among (map (λ (p : Port). (p.name, p.kind)) ps) ≡ length (filter (λ (p : Port). is_wire p.kind) ps)
+kinds_of_ports [] = refl
+kinds_of_ports (p ∷ ps) =
+    elim (cases_Bool (is_wire p.kind)) [ inl t ↦ rw t (ap suc (kinds_of_ports ps)) | inr f ↦ rw f (kinds_of_ports ps) ]
+
+-- the netlist of a part shows two wires for each check site, or more
+sites_shown : (ls : Levels) (p : LinkedPart) → IsOver ls p → 2 * site_count_of (tree_in p.checked.now) ≤ length (shown_wires p.netlist.now)
+sites_shown ls p over =
+    let n : Net = p.netlist.now in
+    let d : Named = named_of ls (tree_in p.checked.now) in
+    let sites = site_count_of (tree_in p.checked.now) in
+    let inputs = pairs_of (is_input (world d)) kind.Input d 0 (world d).entities in
+    let registers = pairs_of (is_register (world d)) kind.Register d 0 (world d).entities in
+    let many : length (filter (λ (p : Port). is_wire p.kind) n.ports) ≤ length (shown_wires n) = shown_many n over.net.netlist in
+    let kinds = kinds_of_ports n.ports in
+    let same : wires_among (map (λ (p : Port). (p.name, p.kind)) n.ports) ≡ wires_among (inputs ++ registers ++ site_ports 1 sites) =
+    ap (λ (ps : List Shown). wires_among ps) over.net.stands.interface.declares.ports in
+    let a = wires_among_both (inputs ++ registers) (site_ports 1 sites) in
+    let b = sites_are_wires 1 sites in
+    omega (arith, many, kinds, same, a, b)
+
+abbrev shown_in : List LinkedPart → ℕ
+shown_in parts = sum_by (λ (p : LinkedPart). length (shown_wires p.netlist.now)) parts
+
+refusal_wires : (ls : Levels) (parts : List LinkedPart) → AreOver ls parts → length (refusal_ports (map (part_of ls) (designs_of parts))) ≤ shown_in parts
+refusal_wires ls [] over = omega arith
+refusal_wires ls (p ∷ parts) over =
+    let q : Part = part_of ls (named_design p) in
+    let rest = refusal_wires ls parts over.1 in
+    let more = refusal_ports (map (part_of ls) (designs_of parts)) in
+    let both = both_lengths (ports_in q (site_ports 1 q.sites)) more in
+    let own = length_map {B = Shown} (λ (port : Shown). (in_part q.name port.0, port.1)) (site_ports 1 q.sites) in
+    let sites = site_wires 1 q.sites in
+    let shown = sites_shown ls p over.0 in
+    let sum = sum_by-cons (λ (r : LinkedPart). length (shown_wires r.netlist.now)) p parts in
+    omega (arith, rest, both, own, sites, shown, sum)
 
 -- ---- what is copied, and what feeds
 
@@ -126,11 +156,36 @@ calculated_both : (ws us : List Wire) → length (calculated (ws ++ us)) ≡ len
 calculated_both ws us =
     ap (λ (vs : List Wire). length vs) (filter-append (λ (w : Wire). not (is_copy w.right)) ws us) ∙ both_lengths (calculated ws) (calculated us)
 
-calculated_few : (ws : List Wire) → length (calculated ws) ≤ length ws
-calculated_few [] = omega arith
-calculated_few (w ∷ ws) =
-    let rest = calculated_few ws in
-    elim (cases_Bool (is_copy w.right)) [ inl t ↦ rw t (omega (arith, rest)) | inr f ↦ rw f (omega (arith, rest)) ]
+copy_stays : (f : Name → Name) (r : Right) → is_copy (copy_right f r) ≡ is_copy r
+copy_stays f (Copy a) = refl
+copy_stays f (One op a) = refl
+copy_stays f (Two op a b) = refl
+copy_stays f (Choose c a b) = refl
+copy_stays f (Concat os) = refl
+copy_stays f (Slice x hi lo) = refl
+copy_stays f (Cell m i) = refl
+
+calculated_same : (f : Name → Name) (ws : List Wire) → length (calculated (map (copy_wire f) ws)) ≡ length (calculated ws)
+calculated_same f [] = refl
+calculated_same f (w ∷ ws) =
+    let rest = calculated_same f ws in
+    let stays = copy_stays f w.right in
+    elim (cases_Bool (is_copy w.right)) [ inl t ↦ rw (stays, t) rest | inr e ↦ rw (stays, e) (ap suc rest) ]
+
+abbrev calculated_in : List LinkedPart → ℕ
+calculated_in parts = sum_by (λ (p : LinkedPart). length (calculated p.netlist.now.wires)) parts
+
+calculated_copies : (ls : Levels) (nets : ℕ → Net) (k : ℕ) (parts : List LinkedPart) → ((j : ℕ) → nets (k + j) ≡ net_at parts j)
+    → length (calculated (copies_of (λ i. (nets i).wires) copy_wire k (map (part_of ls) (designs_of parts)))) ≡ calculated_in parts
+calculated_copies ls nets k [] at = refl
+calculated_copies ls nets k (p ∷ parts) at =
+    let here : nets k ≡ p.netlist.now = ap nets (omega arith) ∙ at 0 in
+    let rest = calculated_copies ls nets (suc k) parts (λ j. let next : suc k + j ≡ k + suc j = omega arith in ap nets next ∙ at (suc j)) in
+    let own = calculated_same (in_part p.name.now) (nets k).wires in
+    let same = ap (λ (n : Net). length (calculated n.wires)) here in
+    let both = calculated_both (map (copy_wire (in_part p.name.now)) (nets k).wires) (copies_of (λ i. (nets i).wires) copy_wire (suc k) (map (part_of ls) (designs_of parts))) in
+    let sum = sum_by-cons (λ (r : LinkedPart). length (calculated r.netlist.now.wires)) p parts in
+    omega (arith, rest, own, same, both, sum)
 
 few_feeds : (s : NamedSystem) (ws : List SystemWire) → length (calculated (feeds s ws)) ≤ 3 * length ws
 few_feeds s [] = omega arith
@@ -142,30 +197,37 @@ few_feeds s (w ∷ ws) =
 
 -- ---- all
 
-abbrev wires_in : List LinkedPart → ℕ
-wires_in parts = sum_by (λ (p : LinkedPart). length p.netlist.now.wires) parts
-
 abbrev registers_in : List LinkedPart → ℕ
 registers_in parts = sum_by (λ (p : LinkedPart). length p.netlist.now.registers) parts
 
 abbrev memories_in : List LinkedPart → ℕ
 memories_in parts = sum_by (λ (p : LinkedPart). length p.netlist.now.memories) parts
 
-abbrev sites_in : List LinkedPart → ℕ
-sites_in parts = sum_by (λ (p : LinkedPart). 2 * site_count_of (tree_in p.checked.now)) parts
+-- of wires that are calculated, and those that are ports, only those are counted twice that are both
+twice : (ps : List Name) (ws : List Wire)
+    → length (calculated ws) + length (filter (λ (w : Wire). is_among w.name ps) ws) ≤ length ws + length (calculated (filter (λ (w : Wire). is_among w.name ps) ws))
+twice ps [] = omega arith
+twice ps (w ∷ ws) =
+    let rest = twice ps ws in
+    elim (cases_Bool (is_among w.name ps)) [
+      | inl t ↦ elim (cases_Bool (is_copy w.right)) [ inl e ↦ rw (t, e) (omega (arith, rest)) | inr f ↦ rw (t, f) (omega (arith, rest)) ]
+      | inr g ↦ elim (cases_Bool (is_copy w.right)) [ inl e ↦ rw (g, e) (omega (arith, rest)) | inr f ↦ rw (g, f) (omega (arith, rest)) ]
+    ]
 
-summed : (parts : List LinkedPart) → (wires_in parts + registers_in parts + memories_in parts) + sites_in parts ≡ sum_by part_items parts
-summed [] = refl
+summed : (parts : List LinkedPart) → calculated_in parts + shown_in parts + registers_in parts + memories_in parts ≤ sum_by net_items (nets_of parts)
+summed [] = omega arith
 summed (p ∷ parts) =
     let rest = summed parts in
-    let a = sum_by-cons (λ (r : LinkedPart). length r.netlist.now.wires) p parts in
-    let b = sum_by-cons (λ (r : LinkedPart). length r.netlist.now.registers) p parts in
-    let c = sum_by-cons (λ (r : LinkedPart). length r.netlist.now.memories) p parts in
-    let d = sum_by-cons (λ (r : LinkedPart). 2 * site_count_of (tree_in r.checked.now)) p parts in
-    let e = sum_by-cons part_items p parts in
-    omega (arith, rest, a, b, c, d, e)
+    let own : length (calculated p.netlist.now.wires) + length (shown_wires p.netlist.now) ≤ length p.netlist.now.wires + length (calculated (shown_wires p.netlist.now)) =
+    twice (port_names p.netlist.now) p.netlist.now.wires in
+    let a = sum_by-cons (λ (r : LinkedPart). length (calculated r.netlist.now.wires)) p parts in
+    let b = sum_by-cons (λ (r : LinkedPart). length (shown_wires r.netlist.now)) p parts in
+    let c = sum_by-cons (λ (r : LinkedPart). length r.netlist.now.registers) p parts in
+    let d = sum_by-cons (λ (r : LinkedPart). length r.netlist.now.memories) p parts in
+    let e : sum_by net_items (nets_of (p ∷ parts)) ≡ net_items p.netlist.now + sum_by net_items (nets_of parts) = sum_by-cons net_items p.netlist.now (nets_of parts) in
+    omega (arith, rest, own, a, b, c, d, e)
 
-module _ (ls : Levels) (wires : List SystemWire) (parts : List LinkedPart) where
+module _ (ls : Levels) (wires : List SystemWire) (parts : List LinkedPart) (over : AreOver ls parts) where
   abbrev s : NamedSystem
   s = named_system ls (designs_of parts) wires
 
@@ -175,16 +237,15 @@ module _ (ls : Levels) (wires : List SystemWire) (parts : List LinkedPart) where
   from_first : (j : ℕ) → net_at parts (0 + j) ≡ net_at parts j
   from_first j = let same : 0 + j ≡ j = omega arith in ap (net_at parts) same
 
-  wires_calculated : length (calculated all.wires) ≤ 3 * length wires + wires_in parts
+  wires_calculated : length (calculated all.wires) ≤ 3 * length wires + calculated_in parts
   wires_calculated =
       let copies = copies_of (λ i. (net_at parts i).wires) copy_wire 0 s.parts in
       let both = calculated_both (feeds s wires) copies in
       let fed = few_feeds s wires in
-      let few = calculated_few copies in
-      let own = copied (λ (n : Net). n.wires) copy_wire ls (net_at parts) 0 parts from_first in
-      omega (arith, both, fed, few, own)
+      let own = calculated_copies ls (net_at parts) 0 parts from_first in
+      omega (arith, both, fed, own)
 
-  wires_shown : IsNetlist all → length (shown_wires all) ≤ 2 * length wires + sites_in parts
+  wires_shown : IsNetlist all → length (shown_wires all) ≤ 2 * length wires + shown_in parts
   wires_shown rules =
       let few = shown_few all rules in
       let ports = ports_that_show (held_ports s) in
@@ -195,7 +256,7 @@ module _ (ls : Levels) (wires : List SystemWire) (parts : List LinkedPart) where
       let r = no_register_wires s.parts in
       let f = wires_among_few (refusal_ports s.parts) in
       let g = wires_among_few (fed_inputs wires 0 s.parts) in
-      let sites = refusal_wires ls parts in
+      let sites = refusal_wires ls parts over in
       let fed = fed_few wires 0 s.parts in
       omega (arith, few, ports, a, b, c, i, r, f, g, sites, fed)
 
@@ -210,7 +271,7 @@ module _ (ls : Levels) (wires : List SystemWire) (parts : List LinkedPart) where
   memories_there = copied (λ (n : Net). n.memories) copy_memory ls (net_at parts) 0 parts from_first
 
   pub few_items : (count : ℕ) (whole small : Net) → whole ≡ all → IsNetlist whole → DeclaresAlike whole small → HasFewWires whole small
-      → HasFewItems parts (length wires) (with_ports count small)
+      → HasFewItems (nets_of parts) (length wires) (with_ports count small)
   few_items count whole small same rules declares few =
       let a : length small.wires ≤ length (calculated all.wires) + length (shown_wires all) = subst (λ n. HasFewWires n small) same few in
       let b = wires_calculated in

@@ -2,6 +2,7 @@
 use Rattle.std.specs.Prelude.{◌≡◌, ◌<◌, ℕ, List, [], length, map, get_or, Some, slice_get}
 use Rattle.std.specs.List.{AllByRecursion}
 use Rattle.sap_lattice.specs.Levels.{Levels}
+use Rattle.sap_tree.specs.Syntax.{DesignTree}
 use Rattle.sap_names.specs.Entities.{entities_of}
 use Rattle.sap_shape.specs.WellFormed.{WellFormed}
 use Rattle.sap_check.specs.Checked.{tree_in}
@@ -24,6 +25,10 @@ design_names ds = map (λ (d : NamedDesign). d.name) ds
 abbrev pub named_net : LinkedPart → NamedNet
 named_net p = record { name = p.name.now; net = p.netlist.now }
 
+-- a part's design under its name, and its netlist
+abbrev pub design_with_net : LinkedPart → NamedDesign × Net
+design_with_net p = (named_design p, p.netlist.now)
+
 -- a part's name, and what its design declares
 abbrev pub declares : LinkedPart → NamedPart
 declares p = record { name = p.name.now; entities = entities_of (tree_in p.checked.now) }
@@ -32,10 +37,13 @@ declares p = record { name = p.name.now; entities = entities_of (tree_in p.check
 abbrev pub surroundings : Levels → List NamedDesign → Surroundings
 surroundings ls ds = record { parts = map (λ (d : NamedDesign). record { name = d.name; entities = entities_of d.design }) ds; levels = ls.names }
 
--- Its design is well formed over these levels, and its netlist stands for the design and starts as it does.
-pub record IsOver (ls : Levels) (p : LinkedPart) : Type 0 where
-  pub formed : WellFormed ls (tree_in p.checked.now)
-  pub net : IsNetOfDesign ls (tree_in p.checked.now) p.netlist.now
+-- A design is well formed over these levels, and a netlist stands for it and starts as it does.
+pub record HasNetlist (ls : Levels) (d : DesignTree) (n : Net) : Type 0 where
+  pub formed : WellFormed ls d
+  pub net : IsNetOfDesign ls d n
+
+abbrev pub IsOver : Levels → LinkedPart → Type 0
+IsOver ls p = HasNetlist ls (tree_in p.checked.now) p.netlist.now
 
 abbrev pub AreOver : Levels → List LinkedPart → Type 0
 AreOver ls parts = AllByRecursion (IsOver ls) parts
@@ -44,8 +52,11 @@ AreOver ls parts = AllByRecursion (IsOver ls) parts
 abbrev pub no_net : Net
 no_net = record { module_name = []; names = []; ports = []; inputs = []; wires = []; registers = []; memories = [] }
 
+abbrev pub nets_of : List LinkedPart → List Net
+nets_of parts = map (λ (p : LinkedPart). p.netlist.now) parts
+
 abbrev pub net_at : List LinkedPart → ℕ → Net
-net_at parts i = get_or (map (λ (p : LinkedPart). p.netlist.now) parts) i no_net
+net_at parts i = get_or (nets_of parts) i no_net
 
 -- the part is there, and so is its entity
 pub record IsThere (ds : List NamedDesign) (e : Endpoint) : Type 0 where

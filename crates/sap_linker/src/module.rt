@@ -9,7 +9,7 @@ ghost use Rattle.sap_link.specs.Designs.{WellLinked};
 ghost use Rattle.sap_linked.specs.Netlist.{linked_net};
 ghost use Rattle.sap_linked.specs.Parts.{NamesFit};
 ghost use Rattle.sap_linked.specs.Designs.{named_system, trees};
-ghost use Rattle.sap_linker.specs.Given.{AreOver, WiresMeet, design_names, designs_of, net_at, surroundings};
+ghost use Rattle.sap_linker.specs.Given.{AreOver, WiresMeet, design_names, designs_of, net_at, nets_of, surroundings};
 ghost use Rattle.sap_linker.specs.Modules.{IsModuleOfSystem};
 ghost use Rattle.sap_linker.specs.Linking.{IsLinked, inputs_within, with_ports};
 ghost use Rattle.sap_linker.specs.Sizes.{HasFewItems};
@@ -81,7 +81,7 @@ fn module(
     requires linked { WellLinked lattice.now (trees (designs_of parts.now)) wires.now }
     requires wires { WiresMeet (designs_of parts.now) wires.now }
     ensures is_module { IfOk result (λ n. IsModuleOfSystem lattice.now (designs_of parts.now) wires.now n) }
-    ensures small { IfOk result (λ n. HasFewItems parts.now (length wires.now) n) }
+    ensures small { IfOk result (λ n. HasFewItems (nets_of parts.now) (length wires.now) n) }
 {
     lattice.lawful();
     sap_linked::laws::inputs_in_order();
@@ -104,7 +104,7 @@ fn linked(
     requires named { design_names (designs_of parts.now) ≡ part_names system.now.parts }
     requires parts { AreOver lattice.now parts.now }
     ensures linked { IfOk result (λ n. IsLinked lattice.now (designs_of parts.now) system.now.wires n) }
-    ensures small { IfOk result (λ n. HasFewItems parts.now (length system.now.wires) n) }
+    ensures small { IfOk result (λ n. HasFewItems (nets_of parts.now) (length system.now.wires) n) }
     ensures kept { OnOk result (KeepsWires (surroundings lattice.now (designs_of parts.now)) system.now.wires) }
     ensures refused { IfErr result (λ fault. fault ≢ LinkFault.Memory → FirstLinkFault (surroundings lattice.now (designs_of parts.now)) system.now.wires fault) }
 {
@@ -126,7 +126,7 @@ pub fn link(
     requires named { design_names (designs_of parts.now) ≡ part_names system.now.parts }
     requires parts { AreOver lattice.now parts.now }
     ensures linked { IfOk result (λ n. IsLinked lattice.now (designs_of parts.now) system.now.wires n) }
-    ensures small { IfOk result (λ n. HasFewItems parts.now (length system.now.wires) n) }
+    ensures small { IfOk result (λ n. HasFewItems (nets_of parts.now) (length system.now.wires) n) }
     ensures kept { OnOk result (KeepsWires (surroundings lattice.now (designs_of parts.now)) system.now.wires) }
     ensures refused { IfErr result (λ fault. fault ≢ LinkFault.Memory → FirstLinkFault (surroundings lattice.now (designs_of parts.now)) system.now.wires fault) }
     ensures valid { KeepsWires (surroundings lattice.now (designs_of parts.now)) system.now.wires → IsOkUnless result LinkFault.Memory }

@@ -5,7 +5,7 @@ use Rattle.sap_link.specs.Systems.{Wire}
 use Rattle.sap_link.specs.Designs.{WellLinked}
 use Rattle.sap_linked.specs.Designs.{named_system, trees}
 use Rattle.sap_wiring.specs.Wiring.{AreWiresOf, IsWireOf}
-use Rattle.sap_linker.specs.Given.{WiresMeet, designs_of, surroundings}
+use Rattle.sap_linker.specs.Given.{WiresMeet, designs_of, nets_of, surroundings}
 use Rattle.sap_linker.specs.Modules.{IsModuleOfSystem}
 use Rattle.sap_linker.specs.Sizes.{HasFewItems}
 use Rattle.sap_linker.proofs.Meeting.{are_of_designs, designs_formed, names_given, names_same, wires_meet}
@@ -48,7 +48,7 @@ returns-clause-small c =
     let texts = as_many (IsWireOf (surroundings c.args.lattice.now ds)) c.wires.result.now c.in_ok-wires.wires.items c.in_ok-wires.ensures.wires in
     let same : length c.as_slice.result.now ≡ length c.args.system.now.wires =
     ap (λ (ws : List Wire). length ws) c.as_slice.ensures.value ∙ sym texts ∙ ap (λ (ts : List WireText). length ts) c.wires.ensures in
-    subst (λ k. HasFewItems c.args.parts.now k c.in_ok-module.field-0) same c.in_ok-module.ensures.small
+    subst (λ k. HasFewItems (nets_of c.args.parts.now) k c.in_ok-module.field-0) same c.in_ok-module.ensures.small
 
 pub returns-clause-linked : goal.returns-clause-linked
 returns-clause-linked c =

@@ -2,7 +2,7 @@ use Rattle.sap_linker.specs.Modules.{IsModuleOfSystem}
 use Rattle.std.proofs.Common.{length, subst, sym}
 use Rattle.sap_net.specs.Net.{Net}
 use Rattle.sap_linked_small.specs.Laws.{IsSmall}
-use Rattle.sap_linker.specs.Given.{designs_of}
+use Rattle.sap_linker.specs.Given.{designs_of, nets_of}
 use Rattle.sap_linker.specs.Sizes.{HasFewItems}
 use Rattle.sap_linker.proofs.Counting.{inputs_few}
 use Rattle.sap_linker.proofs.Sizes.{few_items}
@@ -32,6 +32,6 @@ returns-clause-is_module c =
 
 pub returns-clause-small : goal.returns-clause-small
 returns-clause-small c =
-    subst (λ (n : Net). HasFewItems c.args.parts.now (length c.args.wires.now) n) (sym c.keep_ports.ensures)
-    (few_items c.args.lattice.now c.args.wires.now c.args.parts.now c.count_shown-shown.result c.in_ok-whole.whole c.in_ok-small.small c.in_ok-whole.ensures
+    subst (λ (n : Net). HasFewItems (nets_of c.args.parts.now) (length c.args.wires.now) n) (sym c.keep_ports.ensures)
+    (few_items c.args.lattice.now c.args.wires.now c.args.parts.now c.requires.parts c.count_shown-shown.result c.in_ok-whole.whole c.in_ok-small.small c.in_ok-whole.ensures
     c.rules.ensures c.in_ok-small.ensures.declares c.in_ok-small.ensures.few)
