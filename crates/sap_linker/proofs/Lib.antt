@@ -7,3 +7,4 @@ pub mod Whole
 pub mod Shown
 pub mod Fed
 pub mod Sizes
+pub mod Adding

@@ -3,3 +3,4 @@ pub mod Laws
 pub mod Given
 pub mod Linking
 pub mod Sizes
+pub mod Adding

@@ -23,7 +23,8 @@ abbrev pub FoldsInnerWires : NamedSystem → Net → Type 0
 FoldsInnerWires s n = AllByRecursion (λ w. (is_copy w.right ≡ false) × IsSettled w) (inner_wires s n)
 
 -- The designs are well formed and the wires break no rule; the netlist stands for the composite run and starts as the system does; it has one run on each
--- stream that fits; and on two that agree at a level its runs agree there in every cycle, part by part, in states and refusals and in plain numbers.
+-- stream that fits; and on two that agree at a level its runs agree there in every cycle, part by part, in states and refusals and in plain numbers. The right
+-- side of each inner wire is no copy, and folds to itself.
 pub record IsModuleOfSystem (ls : Levels) (designs : List NamedDesign) (wires : List SystemWire) (n : Net) : Type 0 where
   pub linked : WellLinked ls (trees designs) wires
   pub stands : IsNetOfSystem (named_system ls designs wires) n

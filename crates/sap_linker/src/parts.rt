@@ -11,3 +11,10 @@ pub struct LinkedPart<'a> {
     pub checked: &'a Checked,
     pub netlist: &'a Netlist,
 }
+
+/// The design of a part, and a netlist that stands for it.
+#[derive(Clone, Copy, Drop)]
+pub struct AddedPart<'a> {
+    pub checked: &'a Checked,
+    pub netlist: &'a Netlist,
+}
