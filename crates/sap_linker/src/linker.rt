@@ -9,8 +9,8 @@ ghost use Rattle.sap_linker.specs.Linking.{IsLinked};
 ghost use Rattle.sap_linker.specs.Adding.{AddsPart, added_designs, added_nets, surroundings_of};
 ghost use Rattle.sap_linker.specs.Sizes.{HasFewItems};
 
-use crate::named::under_names;
 use crate::module::link;
+use crate::named::under_names;
 use crate::parts::AddedPart;
 use sap_check::Checked;
 use sap_lattice::lattice::Lattice;
