@@ -1,5 +1,5 @@
 -- Two lattices that are the same have the same systems.
-use Rattle.std.proofs.Common.{◌≡◌, ℕ, List, [], ◌∷◌, map, take, refl, sym, ◌∙◌, ap, ap₂, subst, inl, inr}
+use Rattle.std.proofs.Common.{◌≡◌, ℕ, ◌+◌, ◌*◌, ◌≤◌, List, [], ◌∷◌, length, map, sum_by, take, refl, sym, ◌∙◌, ap, ap₂, subst, inl, inr}
 use Rattle.std.specs.Prelude.{Option, Result, Ok, Err}
 use Rattle.std.specs.List.{AllByRecursion, AllZip}
 use Rattle.sap_desk.specs.Desk.{Told}
@@ -11,6 +11,8 @@ use Rattle.sap_tree.specs.Syntax.{DesignTree}
 use Rattle.sap_names.specs.Entities.{entities_of}
 use Rattle.sap_shape.specs.WellFormed.{WellFormed}
 use Rattle.sap_net.specs.Net.{Net}
+use Rattle.sap_size.specs.Items.{items}
+use Rattle.sap_size.specs.Trees.{design_nodes, entity_count}
 use Rattle.sap_meaning.specs.Program.{Program}
 use Rattle.sap_resolved.specs.Fill.{program_of}
 use Rattle.sap_interface.specs.StandsFor.{Named}
@@ -30,6 +32,7 @@ use Rattle.sap_wiring.specs.Wiring.{AreWiresOf}
 use Rattle.sap_linker.specs.Given.{surroundings}
 use Rattle.sap_linker.specs.Linking.{IsLinked}
 use Rattle.sap_linker.specs.Modules.{FoldsInnerWires, IsModuleOfSystem}
+use Rattle.sap_linker.specs.Sizes.{IsSmallSystem}
 use Rattle.sap_files.specs.Ending.{Ending}
 use Rattle.sap_files.specs.Steps.{EndsReading, Moment, Refuses}
 use Rattle.sap_files.specs.declared.failure.Failure.{Failure}
@@ -119,9 +122,14 @@ module _ (l m : Levels) (same : AreSame l m) where
     is_module = module_in ds is.wires n is.is_module;
   }
 
+  small_in : (ds : List NamedDesign) (wires : ℕ) (n : Net) → IsSmallSystem l ds wires n → IsSmallSystem m ds wires n
+  small_in ds wires n = subst
+      (λ (names : List (List ℕ)). items n ≤ sum_by (λ (d : NamedDesign). 8 * (1 + design_nodes d.design) * (1 + entity_count d.design + length names)) ds + 5 * wires)
+      same.names
+
   pub links_in : (ds : List NamedDesign) (texts : List WireText) (r : Result (List ℕ) Failure) → Links l ds texts r → Links m ds texts r
-  links_in ds texts (Ok text) (keeps, (n, is_module, is)) =
-      (subst (λ (u : Surroundings). KeepsWires u texts) (surroundings_in ds) keeps, (n, is_module, linked_in ds texts n is))
+  links_in ds texts (Ok text) (keeps, (n, is_module, is, small)) =
+      (subst (λ (u : Surroundings). KeepsWires u texts) (surroundings_in ds) keeps, (n, is_module, linked_in ds texts n is, small_in ds (length texts) n small))
   links_in ds texts (Err e) (inl is) = inl is
   links_in ds texts (Err e) (inr (fault, first, is)) =
       inr (fault, subst (λ (u : Surroundings). FirstLinkFault u texts fault) (surroundings_in ds) first, is)

@@ -8,3 +8,4 @@ pub mod Linked
 pub mod Lawful
 pub mod Handed
 pub mod Steps
+pub mod Small

@@ -1,5 +1,5 @@
 -- What `link` asks: the files of a system, one after another, and what is written of them.
-use Rattle.std.specs.Prelude.{ℕ, List, [], ◌∷◌, Option, Some, None}
+use Rattle.std.specs.Prelude.{ℕ, List, [], ◌∷◌, length, Option, Some, None}
 use Rattle.sap_lattice.specs.Levels.{Levels}
 use Rattle.sap_net.specs.Net.{Net}
 use Rattle.sap_vtext.specs.Modules.{IsModule}
@@ -10,14 +10,15 @@ use Rattle.sap_system.specs.declared.link_fault.LinkFault.{LinkFault}
 use Rattle.sap_linked.specs.Designs.{NamedDesign}
 use Rattle.sap_linker.specs.Given.{surroundings}
 use Rattle.sap_linker.specs.Linking.{IsLinked}
+use Rattle.sap_linker.specs.Sizes.{IsSmallSystem}
 use Rattle.sap_files.specs.Ending.{wires_refused}
 use Rattle.sap_files.specs.Kinds.{lattice_file}
 use Rattle.sap_files.specs.Asks.{Asks, file, by, writes, stops}
 use Rattle.sap_linking.specs.Kinds.{system_file, part_file}
 
--- the text is one of the module of these designs, and of the wires that these texts stand for
+-- the text is one of the module of these designs, and of the wires that these texts stand for, and the module is small
 abbrev pub IsLinkedText : Levels → List NamedDesign → List WireText → (text : List ℕ) → Type 0
-IsLinkedText ls designs wires text = (net : Net) × IsModule text net × IsLinked ls designs wires net
+IsLinkedText ls designs wires text = (net : Net) × IsModule text net × IsLinked ls designs wires net × IsSmallSystem ls designs (length wires) net
 
 -- the first rule that the wires break, where they break one
 abbrev pub FirstBroken : Surroundings → List WireText → Option LinkFault → Type 0

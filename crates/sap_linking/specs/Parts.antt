@@ -6,6 +6,8 @@ use Rattle.sap_lattice.specs.Levels.{Levels}
 use Rattle.sap_shape.specs.WellFormed.{WellFormed}
 use Rattle.sap_check.specs.Checked.{tree_in}
 use Rattle.sap_net.specs.Net.{Net}
+use Rattle.sap_size.specs.Items.{IsSmall}
+use Rattle.sap_trim.specs.Trimmed.{CopiesPorts}
 use Rattle.sap_system.specs.Wires.{FirstLinkFault, KeepsWires}
 use Rattle.sap_system.specs.declared.file.Part.{Part}
 use Rattle.sap_system.specs.declared.file.WireText.{WireText}
@@ -14,8 +16,7 @@ use Rattle.sap_system.specs.declared.fault.SysFault.TheVariants as system_fault
 use Rattle.sap_system.specs.declared.link_fault.LinkFault.{LinkFault}
 use Rattle.sap_system.specs.declared.link_fault.LinkFault.TheVariants as link_fault
 use Rattle.sap_linked.specs.Designs.{NamedDesign, IsNetOfDesign}
-use Rattle.sap_linker.specs.Given.{named_design, surroundings}
-use Rattle.sap_linker.specs.declared.parts.LinkedPart.{LinkedPart}
+use Rattle.sap_linker.specs.Given.{surroundings}
 use Rattle.sap_files.specs.Ending.{Ending, refused, failed, no_memory, part_refused, wires_refused}
 use Rattle.sap_files.specs.Kinds.{IsWellFormedText}
 use Rattle.sap_files.specs.Steps.{EndsReading, Moment, Quiet, Reads, ending}
@@ -34,17 +35,16 @@ loaded_design p = record { name = p.name; design = tree_in p.checked }
 abbrev pub loaded_designs : List LoadedPart → List NamedDesign
 loaded_designs parts = map loaded_design parts
 
--- a part's design and its netlist, as it was loaded, and as it is handed on
+-- a part's design and its netlist, as it was loaded
 abbrev pub loaded_net : LoadedPart → NamedDesign × Net
 loaded_net p = (loaded_design p, p.netlist)
 
-abbrev pub linked_net : LinkedPart → NamedDesign × Net
-linked_net p = (named_design p, p.netlist.now)
-
--- its design is well formed over these levels, and its netlist stands for the design and starts as that does
+-- Its design is well formed over these levels, and its netlist stands for the design and starts as that does; it is small, and each wire of it that is a port is a copy.
 pub record HasNet (ls : Levels) (p : LoadedPart) : Type 0 where
   pub formed : WellFormed ls (tree_in p.checked)
   pub net : IsNetOfDesign ls (tree_in p.checked) p.netlist
+  pub small : IsSmall ls (tree_in p.checked) p.netlist
+  pub copies : CopiesPorts p.netlist
 
 -- how the command ends at a part
 abbrev pub stop_of : Part → Stopped → Ending

@@ -5,9 +5,9 @@ ghost use Rattle.std.specs.List.{AllByRecursion};
 ghost use Rattle.sap_system.specs.Rules.{part_names};
 ghost use Rattle.sap_system.specs.declared.file.Part.{Part as AnyPart};
 ghost use Rattle.sap_files.specs.Steps.{Ends, ending, ending_of, seen};
-ghost use Rattle.sap_linker.specs.Given.{design_names};
+ghost use Rattle.sap_linker.specs.Given.{design_names, design_with_net};
 ghost use Rattle.sap_linking.specs.Asked.{asks_link};
-ghost use Rattle.sap_linking.specs.Parts.{HasNet, Links, linked_net, loaded_designs, loaded_net, stop_of, wires_failure};
+ghost use Rattle.sap_linking.specs.Parts.{HasNet, Links, loaded_designs, loaded_net, stop_of, wires_failure};
 
 use crate::parts::{LoadedPart, Stopped, StoppedAt};
 use crate::reading::{load_parts, system_of_file};
@@ -48,7 +48,7 @@ fn linked_parts<'p>(
     alloc: Global,
     loaded: &'p [LoadedPart],
 ) -> Result<Vec<LinkedPart<'p>>, AllocError>
-    ensures { IfOk result (λ parts. map linked_net parts.items ≡ map loaded_net loaded.now) }
+    ensures { IfOk result (λ parts. map design_with_net parts.items ≡ map loaded_net loaded.now) }
 {
     let mut parts = Vec::new(alloc);
     for part in loaded {

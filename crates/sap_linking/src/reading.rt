@@ -3,6 +3,8 @@
 ghost use Rattle.std.specs.Prelude.{◌≡◌, IfErr, IfOk};
 ghost use Rattle.std.specs.List.{AllByRecursion};
 ghost use Rattle.sap_check.specs.Checked.{levels_in, tree_in};
+ghost use Rattle.sap_size.specs.Items.{IsSmall};
+ghost use Rattle.sap_trim.specs.Trimmed.{CopiesPorts};
 ghost use Rattle.sap_linked.specs.Designs.{IsNetOfDesign};
 ghost use Rattle.sap_files.specs.Steps.{Gets, Gives, seen};
 ghost use Rattle.sap_linking.specs.Kinds.{system_file};
@@ -66,6 +68,8 @@ fn loaded(alloc: Global, part: &Part, checked: Checked) -> Result<LoadedPart, Al
     ensures name { IfOk result (λ p. p.name ≡ part.now.name) }
     ensures design { IfOk result (λ p. tree_in p.checked ≡ tree_in checked) }
     ensures net { IfOk result (λ p. IsNetOfDesign (levels_in checked) (tree_in checked) p.netlist) }
+    ensures small { IfOk result (λ p. IsSmall (levels_in checked) (tree_in checked) p.netlist) }
+    ensures copies { IfOk result (λ p. CopiesPorts p.netlist) }
 {
     let name = part.name.copy(alloc)?;
     let netlist = design_netlist(alloc, &checked)?;

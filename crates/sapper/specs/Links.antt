@@ -1,7 +1,7 @@
 -- Linked designs. A `link` is done exactly when the system breaks no rule and the design of each of its parts is well formed; the module written, read by its
 -- grammar and clocked on any tagged input stream, has in every cycle what the composite run has, part by part; and for two streams that agree at or below a
 -- level, the module's runs agree there in every cycle, timing included.
-use Rattle.std.specs.Prelude.{◌≡◌, ◌≢◌, ℕ, List, ◌++◌, ◌∷◌, Some}
+use Rattle.std.specs.Prelude.{◌≡◌, ◌≢◌, ℕ, List, ◌++◌, ◌∷◌, length, Some}
 use Rattle.std.specs.List.{AllZip}
 use Rattle.sap_desk.specs.Desk.{Told}
 use Rattle.sap_desk.specs.Whole.{Gained}
@@ -23,13 +23,14 @@ use Rattle.sap_linked_agree.specs.Agree.{SystemRunsAgree, SystemRunsLookAlike, S
 use Rattle.sap_wiring.specs.Wiring.{AreWiresOf}
 use Rattle.sap_linker.specs.Given.{surroundings}
 use Rattle.sap_linker.specs.Modules.{FoldsInnerWires}
+use Rattle.sap_linker.specs.Sizes.{IsSmallSystem}
 use Rattle.sap_words.specs.Words.{command_of, link}
 use Rattle.sap_files.specs.Ending.{line_of, refused, wires_refused}
 use Rattle.sap_files.specs.Kinds.{Has, IsWellFormedText, lattice_file, design_file}
 use Rattle.sap_linking.specs.Kinds.{system_file}
 
 -- A text is the one module that means what designs do that are linked by the wires that texts stand for: cycle for cycle, with runs that agree where streams
--- do, and folded.
+-- do, folded, and within a bound on its size.
 pub record MeansSystem (ls : Levels) (designs : List NamedDesign) (texts : List WireText) (text : List ℕ) : Type 0 where
   pub net : Net
   -- by the grammar of modules the text is this module, and no other
@@ -50,6 +51,8 @@ pub record MeansSystem (ls : Levels) (designs : List NamedDesign) (texts : List 
   pub look_alike : SystemRunsLookAlike (named_system ls designs wires) net
   -- no helping wire is a copy, and no rule for a right side by itself makes one simpler
   pub folded : FoldsInnerWires (named_system ls designs wires) net
+  -- it is small
+  pub small : IsSmallSystem ls designs (length texts) net
 
 -- the file of a part has the bytes of a design that is well formed, and that has the part's name in the system
 pub record HasDesign (ls : Levels) (t : Told) (p : Part) (d : NamedDesign) : Type 0 where
