@@ -5,7 +5,7 @@ use Rattle.sap_lattice.specs.Levels.{Levels}
 use Rattle.sap_net.specs.Net.{Net}
 use Rattle.sap_shape.specs.WellFormed.{WellFormed}
 use Rattle.sap_size.specs.Items.{IsSmall}
-use Rattle.sap_trim.specs.Trimmed.{CopiesPorts}
+use Rattle.sap_share.specs.Copying.{CopiesPorts}
 use Rattle.sap_linked.specs.Designs.{IsNetOfDesign, NamedDesign}
 use Rattle.sap_linker.specs.Given.{AreOver, design_with_net, designs_of}
 use Rattle.sap_linker.specs.declared.parts.LinkedPart.{LinkedPart}

@@ -7,7 +7,7 @@ use Rattle.sap_shape.specs.WellFormed.{WellFormed}
 use Rattle.sap_check.specs.Checked.{tree_in}
 use Rattle.sap_net.specs.Net.{Net}
 use Rattle.sap_size.specs.Items.{IsSmall}
-use Rattle.sap_trim.specs.Trimmed.{CopiesPorts}
+use Rattle.sap_share.specs.Copying.{CopiesPorts}
 use Rattle.sap_system.specs.Wires.{FirstLinkFault, KeepsWires}
 use Rattle.sap_system.specs.declared.file.Part.{Part}
 use Rattle.sap_system.specs.declared.file.WireText.{WireText}

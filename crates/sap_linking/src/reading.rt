@@ -4,7 +4,7 @@ ghost use Rattle.std.specs.Prelude.{◌≡◌, IfErr, IfOk};
 ghost use Rattle.std.specs.List.{AllByRecursion};
 ghost use Rattle.sap_check.specs.Checked.{levels_in, tree_in};
 ghost use Rattle.sap_size.specs.Items.{IsSmall};
-ghost use Rattle.sap_trim.specs.Trimmed.{CopiesPorts};
+ghost use Rattle.sap_share.specs.Copying.{CopiesPorts};
 ghost use Rattle.sap_linked.specs.Designs.{IsNetOfDesign};
 ghost use Rattle.sap_files.specs.Steps.{Gets, Gives, seen};
 ghost use Rattle.sap_linking.specs.Kinds.{system_file};
