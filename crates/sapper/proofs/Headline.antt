@@ -32,6 +32,7 @@ means ls d text (net, is) = record {
   agree = is.agrees;
   look_alike = is.looks_alike;
   folded = is.folded;
+  copies = is.copies;
   small = is.small;
 }
 

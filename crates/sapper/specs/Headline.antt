@@ -18,6 +18,7 @@ use Rattle.sap_interface.specs.Interface.{HasInterface}
 use Rattle.sap_interface.specs.StandsFor.{world}
 use Rattle.sap_compile.specs.Agree.{RunsAgree, RunsLookAlike}
 use Rattle.sap_size.specs.Items.{IsSmall}
+use Rattle.sap_share.specs.Copying.{CopiesPorts}
 use Rattle.sap_trim.specs.Trimmed.{FoldsWires}
 use Rattle.sap_compile.specs.Runs.{HasOneRunOnStreams}
 use Rattle.sap_words.specs.Words.{command_of, compile}
@@ -49,6 +50,8 @@ pub record MeansDesign (ls : Levels) (d : DesignTree) (text : List ℕ) : Type 0
   pub look_alike : RunsLookAlike ls d net
   -- no helping wire is a copy, and no rule for a right side by itself makes one simpler
   pub folded : FoldsWires net
+  -- each wire that is a port, so each of the two of a check site, is a copy
+  pub copies : CopiesPorts net
   -- it is small
   pub small : IsSmall ls d net
 
