@@ -9,7 +9,7 @@ use Rattle.sap_net.specs.Names.{is_among}
 use Rattle.sap_net.specs.Net.{Net}
 use Rattle.sap_net.specs.declared.parts.Operand.{Operand}
 use Rattle.sap_net.specs.declared.parts.Right.{Right}
-use Rattle.sap_net.specs.declared.parts.Right.TheVariants.{Copy}
+use Rattle.sap_net.specs.declared.parts.Right.TheVariants.{Copy, One, Two, Choose, Concat, Slice, Cell}
 use Rattle.sap_net.specs.declared.parts.Wire.{Wire}
 use Rattle.sap_net.specs.Rules.{readable_after}
 use Rattle.sap_net.specs.IsNetlist.{register_names, memory_names, first_readable, readable, shapes, IsNetlist, names_of}
@@ -156,6 +156,12 @@ copies_are e (w ∷ ws) = (refl, copies_are e ws)
 
 copied : (r : Right) → is_copy r ≡ true → (a : Operand) × (r ≡ Copy a)
 copied (Copy a) c = (a, refl)
+copied (One op a) c = absurd cc
+copied (Two op a b) c = absurd cc
+copied (Choose c a b) e = absurd cc
+copied (Concat operands) c = absurd cc
+copied (Slice x hi lo) c = absurd cc
+copied (Cell m a) c = absurd cc
 
 each_copied : (ps : List Name) (ws : List Wire) → AllByRecursion (λ w. is_copy w.right ≡ true) (filter (λ w. is_among w.name ps) ws)
     → AllByRecursion (λ w. is_among w.name ps ≡ true → (a : Operand) × (w.right ≡ Copy a)) ws
