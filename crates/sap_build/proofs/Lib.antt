@@ -9,3 +9,6 @@ pub mod PartRuns
 pub mod CopiedParts
 pub mod Writing
 pub mod Grown
+pub mod Inserted
+pub mod OneMore
+pub mod Written

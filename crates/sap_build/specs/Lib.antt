@@ -3,3 +3,4 @@ pub mod Laws
 pub mod Parts
 pub mod SideBySide
 pub mod Writing
+pub mod Written

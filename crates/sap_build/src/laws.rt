@@ -1,6 +1,7 @@
 //! What holds of every copy of a netlist under other names, and of netlists side by side in a larger one.
 
 ghost use Rattle.sap_build.specs.SideBySide.{SideBySide};
+ghost use Rattle.sap_build.specs.Written.{BlankIsNetlist, HelpersAreNew, InputsAreAdded, WiresAreAdded, ShownWiresAreAdded, RegistersAreAdded, ShownRegistersAreAdded, MemoriesAreAdded};
 ghost use Rattle.sap_build.specs.Laws.{CopiesAreNetlists, CopiesRunAlike, CopiesRunBack, CopiesShowAlike, CopiesAreParts, PartsRun, PartsRunSo, PartsShow};
 
 /// A copy whose names stay apart keeps the rules of netlists.
@@ -28,4 +29,16 @@ pub fn parts_run_alike()
 /// Two netlists side by side, of which one feeds the other, are parts of a netlist.
 pub fn worked_parts()
     ensures { SideBySide }
+{}
+
+/// Where a netlist keeps the rules of netlists, so does the netlist with one more part that fits.
+pub fn written_nets_are_netlists()
+    ensures blank { BlankIsNetlist }
+    ensures helpers { HelpersAreNew }
+    ensures inputs { InputsAreAdded }
+    ensures wires { WiresAreAdded }
+    ensures shown_wires { ShownWiresAreAdded }
+    ensures registers { RegistersAreAdded }
+    ensures shown_registers { ShownRegistersAreAdded }
+    ensures memories { MemoriesAreAdded }
 {}
