@@ -6,6 +6,8 @@ use Rattle.sap_parse.specs.Limits.{most_bytes}
 use Rattle.sap_tree.specs.Syntax.{DesignTree}
 use Rattle.sap_check.specs.Checked.{levels_in, tree_in}
 use Rattle.sap_check.specs.declared.checked.Checked.{Checked}
+use Rattle.sap_size.specs.Items.{IsSmall}
+use Rattle.sap_share.specs.Copying.{CopiesPorts}
 use Rattle.sap_system.specs.declared.file.Part.{Part}
 use Rattle.sap_linked.specs.Designs.{IsNetOfDesign}
 use Rattle.sap_files.specs.declared.fault.DesignFault.{DesignFault}
@@ -102,10 +104,16 @@ module _ (ls : Levels) (p : Part) (a b : Moment) (name : List ℕ) (same : name 
 
   -- it has a design, and the design has a netlist
   pub got_part : (one : LoadedPart) → one.name ≡ p.name → tree_in one.checked ≡ tree_in checked → IsNetOfDesign (levels_in checked) (tree_in checked) one.netlist
-      → GetsPart ls p (Ok one) a b
-  got_part one named tree net =
+      → IsSmall (levels_in checked) (tree_in checked) one.netlist → CopiesPorts one.netlist → GetsPart ls p (Ok one) a b
+  got_part one named tree net small copies =
       let stands : IsWellFormedText ls got.0 (tree_in one.checked) = subst (λ (d : DesignTree). IsWellFormedText ls got.0 d) (sym tree) got.2 in
-      let over : IsNetOfDesign ls (tree_in checked) one.netlist = subst (λ (l : Levels). IsNetOfDesign l (tree_in checked) one.netlist) got.3 net in (
+      let over : IsNetOfDesign ls (tree_in checked) one.netlist = subst (λ (l : Levels). IsNetOfDesign l (tree_in checked) one.netlist) got.3 net in
+      let few : IsSmall ls (tree_in checked) one.netlist = subst (λ (l : Levels). IsSmall l (tree_in checked) one.netlist) got.3 small in (
         record { name = named; bytes = got.0; reads = here; stands = stands },
-        record { formed = stands.well_formed; net = subst (λ (d : DesignTree). IsNetOfDesign ls d one.netlist) (sym tree) over },
+        record {
+          formed = stands.well_formed;
+          net = subst (λ (d : DesignTree). IsNetOfDesign ls d one.netlist) (sym tree) over;
+          small = subst (λ (d : DesignTree). IsSmall ls d one.netlist) (sym tree) few;
+          copies = copies;
+        },
       )
