@@ -54,6 +54,7 @@ module _ (l m : Levels) (same : AreSame l m) (d : DesignTree) (n : Net) where
             (subst (λ (o : Order). OnStreams x o n (CyclesLookAlike x sites)) same.order is.looks_alike);
         shared = is.shared;
         folded = is.folded;
+        copies = is.copies;
         read = is.read;
         small = subst (λ (ns : List (List ℕ)). items n ≤ 8 * (1 + design_nodes d) * (1 + entity_count d + length ns)) same.names is.small;
       }
