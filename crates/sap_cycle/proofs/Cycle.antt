@@ -1,10 +1,9 @@
 -- A cycle on the arrays is a cycle of the netlist.
 use Rattle.std.proofs.Common.{◌≡◌, ℕ, ◌+◌, ◌<◌, ◌≤◌, List, [], ◌∷◌, ◌++◌, map, Option, Some, None, length, take, drop, sym, ap, ◌∙◌, subst, arith, refl, length-append, append_assoc}
-use Rattle.std.specs.Prelude.{unwrap_or}
+use Rattle.std.specs.Prelude.{unwrap_or, slice_index}
 use Rattle.std.specs.List.{AllByRecursion}
-use Rattle.std.proofs.Math.ListN.{length-set}
 use Rattle.std.proofs.Math.Seq.{drop-append_seam, take-append_seam, take-length, drop-length}
-use Rattle.std.proofs.lemmas.List.{map-append, length-map, append-nil}
+use Rattle.std.proofs.lemmas.List.{map-append, length-map, append-nil, get_or_append_left}
 use Rattle.sap_maps.specs.Maps.{Name, Valuation}
 use Rattle.sap_maps.specs.Scope.{Scope, find}
 use Rattle.sap_net.specs.declared.parts.Input.{Input}
@@ -23,15 +22,16 @@ use Rattle.sap_cycle.specs.declared.steps.Slot.{Slot}
 use Rattle.sap_cycle.specs.declared.steps.Step.{Step}
 use Rattle.sap_cycle.specs.declared.steps.Part.{Part}
 use Rattle.sap_cycle.specs.declared.program.Program.{Program}
-use Rattle.sap_cycle.specs.Instructions.{step_of_instruction}
-use Rattle.sap_cycle.specs.Steps.{slot_value, settled, AreReady, AreIn, copied, stored, ArePortsReady}
+use Rattle.sap_cycle.specs.Instructions.{placed_step}
+use Rattle.sap_cycle.specs.Steps.{slot_value, AreIn, copied, stored, ArePortsReady}
 use Rattle.sap_cycle.specs.Turned.{before_edge, values_turned, cells_turned, CanTurn}
 use Rattle.sap_cycle.specs.Means.{StepsMean, NextsMean, Matches}
 use Rattle.sap_cycle.specs.Running.{first_names, value_names, cells_of, seen}
 use Rattle.sap_cycle.specs.Loaded.{IsProgram}
 use Rattle.sap_cycle.proofs.Slots.{slot_is, slot_in}
 use Rattle.sap_cycle.proofs.Cells.{cells_equal, all_stored}
-use Rattle.sap_cycle.proofs.Settled.{Holding, settled_matches}
+use Rattle.sap_cycle.proofs.Settled.{Holding, step_numbers}
+use Rattle.sap_cycle.proofs.Ordered.{Agree, order_settles}
 use Rattle.sap_cycle.proofs.Distinct.{registers_found, memories_found}
 
 inputs_are : (v : Valuation) (is : List Input) (xs : List ℕ) → InputsAre v is xs → xs ≡ map v.value (map (λ i. i.name) is)
@@ -80,7 +80,7 @@ memories_begin n rules None xs v cycle =
 memories_begin n rules (Some p) xs v cycle =
     all_joined_at (λ m. v.cell m.name) (written p) (λ m. (observed n p).cell m.name) n.memories cycle.begins.1 (observed_memories n rules p)
 
-steps_long : (widths : Name → ℕ) (ms : List Memory) (parts : List Part) (names : List Name) (ss : List Step) (ws : List Wire) → StepsMean widths ms parts names ss ws → length ss ≡ length ws
+pub steps_long : (widths : Name → ℕ) (ms : List Memory) (parts : List Part) (names : List Name) (ss : List Step) (ws : List Wire) → StepsMean widths ms parts names ss ws → length ss ≡ length ws
 steps_long widths ms parts names [] [] h = refl
 steps_long widths ms parts names [] (w ∷ ws) h = absurd h
 steps_long widths ms parts names (s ∷ ss) [] h = absurd h
@@ -123,10 +123,6 @@ copied_middle a b c d k e f =
     let i : drop (k + length d) (a ++ (b ++ c)) ≡ c = rw (← append_assoc a b c, ← g) (drop-append_seam (a ++ b) c) in
     cc
 
-settled_long : (cells : List ℕ) (parts : List Part) (k : ℕ) (ss : List Step) (values : List ℕ) → length (settled cells parts k ss values) ≡ length values
-settled_long cells parts k [] values = refl
-settled_long cells parts k (s ∷ ss) values = settled_long cells parts (k + 1) ss _ ∙ length-set values k _
-
 -- the numbers of all names, in three parts
 three : (f : Name → ℕ) (a b c : List Name) → map f ((a ++ b) ++ c) ≡ map f a ++ (map f b ++ map f c)
 three f a b c = map-append f (a ++ b) c ∙ ap (λ l. l ++ map f c) (map-append f a b) ∙ append_assoc (map f a) (map f b) (map f c)
@@ -151,8 +147,9 @@ turn_is n rules p program before inputs values cells v ev ec cycle =
     let lr : length regs ≡ length n.registers = length-map n.registers (λ r. r.name) in
     let lw : length wires ≡ length n.wires = length-map n.wires (λ w. w.name) in
     let ln : length p.nexts.items ≡ length n.registers = nexts_long _ p.nexts.items n.registers program.nexts in
-    let ss = map (step_of_instruction p.others.items) p.steps.items in
-    let ls : length ss ≡ length n.wires = steps_long _ _ _ _ ss n.wires program.steps in
+    let ss = program.steps.0 in
+    let ps = map (placed_step p.others.items) p.steps.items in
+    let ls : length ss ≡ length n.wires = steps_long _ _ _ _ ss n.wires program.steps.1 in
     let first : map v.value (first_names n) ≡ inputs ++ map f regs = map-append v.value ins regs ∙ ap (λ l. l ++ map v.value regs) (sym ex) ∙ ap (λ l. inputs ++ l) er in
     let lfirst : length (first_names n) ≡ length inputs + length p.nexts.items = omega (arith, lx, lr, ln, length-append ins regs) in
     let start = copied 0 inputs values in
@@ -161,22 +158,26 @@ turn_is n rules p program before inputs values cells v ev ec cycle =
     ∙ copied_middle [] (map f ins) (map f regs ++ map f wires) inputs 0 refl (omega (arith, lx, lf))
     ∙ sym (append_assoc inputs (map f regs) (map f wires))
     ∙ ap (λ l. l ++ map f wires) (sym first) in
-    let m : Matches v (first_names n) start =
-    ap (take (length (first_names n))) es
-    ∙ ap (λ k. take k (map v.value (first_names n) ++ map f wires)) (sym (length-map (first_names n) v.value))
-    ∙ take-append_seam (map v.value (first_names n)) (map f wires) in
     let lstart : length start ≡ length (first_names n) + length wires = ap length es ∙ omega (arith, length-append (map v.value (first_names n)) (map f wires), length-map (first_names n) v.value, length-map wires f) in
     let lvalues : length values ≡ length (first_names n) + length wires = ap length ev ∙ omega (arith, length-map (value_names n) f, length-append (first_names n) wires) in
     let holding : Holding n.memories (shapes n) v cells = record {
       are = ec ∙ cells_equal (λ m. (seen n before).cell m.name) (λ m. v.cell m.name) n.memories (memories_begin n rules before inputs v cycle);
       found = all_found n.memories rules.memory_shapes;
     } in
-    let go = settled_matches (width_of n) n.memories (shapes n) p.parts.items v cells holding ss n.wires (first_readable n) (first_names n) start program.steps rules.assigns cycle.valuation.within.value (widths_are n) cycle.valuation.equations m (omega (arith, lstart, ls, lw)) in
+    let last = map v.value (value_names n) in
+    let llast : length last ≡ length (first_names n) + length wires = length-map (value_names n) v.value ∙ length-append (first_names n) wires in
+    let agree : (k : ℕ) → k < length (first_names n) → Agree start last k = λ k lt.
+    let known : k < length (map v.value (first_names n)) = omega (arith, lt, length-map (first_names n) v.value) in
+    ap (λ l. slice_index l k) es
+    ∙ get_or_append_left (map v.value (first_names n)) (map f wires) 0 k known
+    ∙ sym (ap (λ l. slice_index l k) (map-append v.value (first_names n) wires) ∙ get_or_append_left (map v.value (first_names n)) (map v.value wires) 0 k known) in
+    let numbers = step_numbers (width_of n) n.memories (shapes n) p.parts.items v cells holding ss n.wires (first_readable n) (first_names n) last program.steps.1 rules.assigns cycle.valuation.within.value (widths_are n) cycle.valuation.equations refl in
+    let go = order_settles cells last p.parts.items (length (first_names n)) ss ps program.steps.2 numbers start (omega (arith, lstart, llast)) (omega (arith, llast, ls, lw)) agree in
     let b = before_edge p inputs values cells in
-    let mb : Matches v (value_names n) b = subst (λ (k : ℕ). Matches v (value_names n) (settled cells p.parts.items k ss start)) lfirst go.0 in
-    let lb : length b ≡ length (value_names n) = settled_long cells p.parts.items _ ss start ∙ omega (arith, lstart, length-append (first_names n) wires) in
+    let lb : length b ≡ length (value_names n) = ap length go.1 ∙ length-map (value_names n) v.value in
+    let mb : Matches v (value_names n) b = ap (λ k. take k b) (sym lb) ∙ take-length b ∙ go.1 in
     let low : length (value_names n) ≤ length b = omega (arith, lb) in
-    let eb : b ≡ map v.value ins ++ (map v.value regs ++ map v.value wires) = sym (take-length b) ∙ ap (λ k. take k b) lb ∙ mb ∙ three v.value ins regs wires in
+    let eb : b ≡ map v.value ins ++ (map v.value regs ++ map v.value wires) = go.1 ∙ three v.value ins regs wires in
     let nexts = map (slot_value b) p.nexts.items in
     let en : nexts ≡ map o regs = nexts_are v o (value_names n) b mb p.nexts.items n.registers program.nexts (observed_registers n rules v) in
     let lnexts : length nexts ≡ length (map v.value regs) = omega (arith, length-map p.nexts.items (slot_value b), ln, lr, length-map regs v.value) in
@@ -186,8 +187,8 @@ turn_is n rules p program before inputs values cells v ev ec cycle =
     let ports = all_stored v (value_names n) b mb low p.ports.items n.memories 0 [] refl program.ports within in
     record {
       can = record {
-        room = omega (arith, lvalues, lfirst, ls, lw, length-map p.steps.items (step_of_instruction p.others.items));
-        ready = subst (λ (k : ℕ). AreReady cells p.parts.items k ss start) lfirst go.1;
+        room = omega (arith, lvalues, lfirst);
+        ready = go.0;
         nexts = nexts_in (value_names n) b low p.nexts.items n.registers program.nexts;
         ports = subst (ArePortsReady b p.ports.items) (sym holding.are) ports.1;
       };

@@ -10,3 +10,7 @@ pub mod Learned
 pub mod Others
 pub mod Compiling
 pub mod First
+pub mod Ordered
+pub mod Row
+pub mod Arranging
+pub mod Ends

@@ -1,10 +1,9 @@
 -- Steps over places give the wires' numbers.
-use Rattle.std.proofs.Common.{◌≡◌, ℕ, ◌+◌, ◌*◌, ◌^◌, ◌<◌, ◌≤◌, List, [], ◌∷◌, ◌++◌, map, Some, length, take, drop, sym, ap, ◌∙◌, subst, arith, refl, length-append, append-nil, append_assoc}
-use Rattle.std.specs.Prelude.{slice_set, slice_index, slice_range, ◌-◌}
-use Rattle.std.proofs.Math.ListN.{length-set}
-use Rattle.std.proofs.lemmas.Grind.{take-set_at}
-use Rattle.std.proofs.lemmas.List.{map-append, take_at, drop_at}
-use Rattle.std.proofs.lemmas.Option.{some_pair_parts}
+use Rattle.std.proofs.Common.{◌≡◌, ℕ, zero, suc, ◌+◌, ◌*◌, ◌^◌, ◌<◌, ◌≤◌, List, [], ◌∷◌, ◌++◌, map, Some, length, take, drop, sym, ap, ◌∙◌, subst, arith, refl, length-append, append-nil, append_assoc}
+use Rattle.std.specs.Prelude.{slice_get, slice_index, slice_range, ◌-◌}
+use Rattle.std.proofs.Math.Seq.{get_or-append_seam}
+use Rattle.std.proofs.lemmas.List.{length-map, map-append, take_at, drop_at}
+use Rattle.std.proofs.lemmas.Option.{some_pair_parts, slice_get_within}
 use Rattle.sap_net.proofs.RulesLemmas.{readable_kept}
 use Rattle.sap_maps.specs.Maps.{Name, Valuation}
 use Rattle.sap_maps.specs.Scope.{Scope, find}
@@ -22,13 +21,16 @@ use Rattle.sap_net.proofs.Same.{AreFound}
 use Rattle.sap_net.proofs.Within.{ValuesBelow, WidthsAre, operand_below, operand_is_wide}
 use Rattle.sap_cycle.specs.declared.steps.Part.{Part}
 use Rattle.sap_cycle.specs.declared.steps.Slot.{Slot}
+use Rattle.sap_cycle.specs.declared.steps.Slot.TheVariants.{At, Number}
 use Rattle.sap_cycle.specs.declared.steps.Step.{Step}
 use Rattle.sap_cycle.specs.declared.steps.Step.TheVariants.{Copy, One, Two, Choose, Concat, Pair, Slice, Cell}
-use Rattle.sap_cycle.specs.Steps.{joined_from, slot_value, SlotIn, ArePartsReady, step_value, IsReady, settled, AreReady}
-use Rattle.sap_cycle.specs.Means.{PartsMean, RangeMeans, PairMeans, BeginsAt, StepMeans, StepsMean, Matches}
+use Rattle.sap_cycle.specs.Steps.{joined_from, slot_value, SlotIn, ArePartsReady, step_value, IsReady}
+use Rattle.sap_cycle.specs.Means.{PartsMean, SlotMeans, RangeMeans, PairMeans, BeginsAt, StepMeans, StepsMean, Matches}
+use Rattle.sap_cycle.specs.Order.{SlotAmong, PartsAmong, ReadsAmong}
 use Rattle.sap_cycle.specs.Running.{cells_of}
 use Rattle.sap_cycle.proofs.Slots.{slot_is, slot_in, joined_is, parts_ready}
 use Rattle.sap_cycle.proofs.Cells.{cells_long, cell_at, count_more}
+use Rattle.sap_cycle.proofs.Ordered.{HasNumber}
 
 -- the parts of a concatenation are those of its range
 range_is : (widths : Name → ℕ) (names : List Name) (parts : List Part) (from to : ℕ) (os : List Operand) → (r : RangeMeans widths names parts from to os) → slice_range parts from to ≡ r.range
@@ -162,32 +164,67 @@ ready widths ms shapes sc parts v names values cells b w m le c u wide (Cell bas
     )
 ready widths ms shapes sc parts v names values cells b w m le c u wide _ _ h rules = absurd h
 
--- one more number
-matches_more : (v : Valuation) (names : List Name) (values : List ℕ) (x : Name) (k : ℕ) → length names < length values → Matches v names values → k ≡ v.value x → Matches v (names ++ x ∷ []) (slice_set values (length names) k)
-matches_more v names values x k lt m e =
-    let l : length (names ++ x ∷ []) ≡ length names + 1 = omega (arith, length-append names (x ∷ [])) in
-    ap (λ n. take n (slice_set values (length names) k)) l
-    ∙ take-set_at values (length names) (length names + 1) k refl lt
-    ∙ ap (λ l. l ++ k ∷ []) m
-    ∙ ap (λ y. map v.value names ++ y ∷ []) e
-    ∙ sym (map-append v.value names (x ∷ []))
+-- the places of the first names among all
+prefix_matches : (v : Valuation) (names more : List Name) (values : List ℕ) → values ≡ map v.value (names ++ more) → Matches v names values
+prefix_matches v names more values e =
+    ap (take (length names)) (e ∙ map-append v.value names more)
+    ∙ take_at (map v.value names) (map v.value more) (length names) (length-map names v.value)
 
-pub settled_matches : (widths : Name → ℕ) (ms : List Memory) (shapes : Shapes) (parts : List Part) (v : Valuation) (cells : List ℕ) → Holding ms shapes v cells
+seam_number : (v : Valuation) (names more : List Name) (x : Name) (values : List ℕ) → values ≡ map v.value (names ++ x ∷ more) → slice_index values (length names + 0) ≡ v.value x
+seam_number v names more x values e =
+    let l : length names + 0 ≡ length (map v.value names) = omega (arith, length-map names v.value) in
+    ap (λ (k : ℕ). slice_index values k) l
+    ∙ ap (λ (xs : List ℕ). slice_index xs (length (map v.value names))) (e ∙ map-append v.value names (x ∷ more))
+    ∙ get_or-append_seam (map v.value names) (v.value x) (map v.value more) 0
+
+-- Over the numbers of all names each wire's step gives the wire's number.
+pub step_numbers : (widths : Name → ℕ) (ms : List Memory) (shapes : Shapes) (parts : List Part) (v : Valuation) (cells : List ℕ) → Holding ms shapes v cells
     → (ss : List Step) (ws : List Wire) (sc : Scope) (names : List Name) (values : List ℕ) → StepsMean widths ms parts names ss ws → AreWires shapes sc ws
-    → ValuesBelow (readable_after sc ws) v → WidthsAre (readable_after sc ws) widths → Holds widths v ws → Matches v names values → length names + length ss ≤ length values
-    → Matches v (names ++ map (λ w. w.name) ws) (settled cells parts (length names) ss values) × AreReady cells parts (length names) ss values
-settled_matches widths ms shapes parts v cells c [] [] sc names values mean rules b w holds m le = (rw append-nil m, tt)
-settled_matches widths ms shapes parts v cells c [] (y ∷ ws) sc names values mean rules b w holds m le = absurd mean
-settled_matches widths ms shapes parts v cells c (s ∷ ss) [] sc names values mean rules b w holds m le = absurd mean
-settled_matches widths ms shapes parts v cells c (s ∷ ss) (y ∷ ws) sc names values mean rules b w holds m le =
-    let x = step_value values cells parts s in
-    let b' : ValuesBelow sc v = λ n u h. b n u (readable_kept shapes (y ∷ ws) sc rules n u h) in
-    let w' : WidthsAre sc widths = λ n u h. w n u (readable_kept shapes (y ∷ ws) sc rules n u h) in
-    let e : x ≡ v.value y.name = step_is widths ms shapes sc parts v names values cells b' m c y.width s y.right mean.0 rules.3 ∙ sym holds.0 in
-    let l : length (names ++ y.name ∷ []) ≡ length names + 1 = omega (arith, length-append names (y.name ∷ [])) in
-    let m' = matches_more v names values y.name x (omega arith) m e in
-    let go = settled_matches widths ms shapes parts v cells c ss ws ((y.name, y.width) ∷ sc) (names ++ y.name ∷ []) (slice_set values (length names) x) mean.1 rules.4 b w holds.1 m' (omega (arith, l, length-set values (length names) x)) in
-    let r = ready widths ms shapes sc parts v names values cells b' w' m (omega arith) c y.width rules.0 s y.right mean.0 rules.3 in (
-      rw (← l, ← append_assoc names (y.name ∷ []) (map (λ w. w.name) ws)) go.0,
-      (r, rw (← l) go.1),
-    )
+    → ValuesBelow (readable_after sc ws) v → WidthsAre (readable_after sc ws) widths → Holds widths v ws → values ≡ map v.value (names ++ map (λ w. w.name) ws)
+    → (k : ℕ) (s : Step) → slice_get ss k ≡ Some s → HasNumber values cells parts (length names + k, s)
+step_numbers widths ms shapes parts v cells c [] ws sc names values mean rules b w holds e k s h = absurd (cc)
+step_numbers widths ms shapes parts v cells c (t ∷ ss) [] sc names values mean rules b w holds e k s h = absurd mean
+step_numbers widths ms shapes parts v cells c (t ∷ ss) (y ∷ ws) sc names values mean rules b w holds e zero s h =
+    let b' : ValuesBelow sc v = λ n u g. b n u (readable_kept shapes (y ∷ ws) sc rules n u g) in
+    let w' : WidthsAre sc widths = λ n u g. w n u (readable_kept shapes (y ∷ ws) sc rules n u g) in
+    let more = map (λ (x : Wire). x.name) ws in
+    let m : Matches v names values = prefix_matches v names (y.name ∷ more) values e in
+    let long : length values ≡ length names + length (y.name ∷ more) = ap length e ∙ length-map (names ++ y.name ∷ more) v.value ∙ length-append names (y.name ∷ more) in
+    let q : t ≡ s = cc in
+    subst (λ (x : Step). HasNumber values cells parts (length names + 0, x)) q
+    (record {
+      within = omega (arith, long);
+      ready = ready widths ms shapes sc parts v names values cells b' w' m (omega (arith, long)) c y.width rules.0 t y.right mean.0 rules.3;
+      number =
+          step_is widths ms shapes sc parts v names values cells b' m c y.width t y.right mean.0 rules.3
+          ∙ sym holds.0
+          ∙ sym (seam_number v names more y.name values e);
+    })
+step_numbers widths ms shapes parts v cells c (t ∷ ss) (y ∷ ws) sc names values mean rules b w holds e (suc k) s h =
+    let l : length (names ++ y.name ∷ []) + k ≡ length names + suc k = omega (arith, length-append names (y.name ∷ [])) in
+    let e' : values ≡ map v.value ((names ++ y.name ∷ []) ++ map (λ (x : Wire). x.name) ws) = e ∙ ap (map v.value) (sym (append_assoc names (y.name ∷ []) (map (λ (x : Wire). x.name) ws))) in
+    subst (λ (i : ℕ). HasNumber values cells parts (i, s)) l
+    (step_numbers widths ms shapes parts v cells c ss ws ((y.name, y.width) ∷ sc) (names ++ y.name ∷ []) values mean.1 rules.4 b w holds.1 e' k s h)
+
+-- the places that the operands of a wire have are those of names before it
+slot_below : (names : List Name) (s : Slot) (o : Operand) → SlotMeans names s o → SlotAmong (λ k. k < length names) s
+slot_below names (At k) (Named x) h = slice_get_within names k x h
+slot_below names (Number n) o h = tt
+slot_below names _ _ h = absurd h
+
+parts_below : (widths : Name → ℕ) (names : List Name) (ps : List Part) (os : List Operand) → PartsMean widths names ps os → PartsAmong (λ k. k < length names) ps
+parts_below widths names [] os h = tt
+parts_below widths names (p ∷ ps) [] h = absurd h
+parts_below widths names (p ∷ ps) (o ∷ os) h = (slot_below names p.slot o h.0, parts_below widths names ps os h.2)
+
+pub reads_below : (widths : Name → ℕ) (ms : List Memory) (parts : List Part) (names : List Name) (s : Step) (r : Right) → StepMeans widths ms parts names s r → ReadsAmong (λ k. k < length names) parts s
+reads_below widths ms parts names (Copy s) (right.Copy a) h = slot_below names s a h
+reads_below widths ms parts names (One op w s) (right.One o a) h = slot_below names s a h.2
+reads_below widths ms parts names (Two op w s t) (right.Two o a b) h = (slot_below names s a h.2, slot_below names t b h.3)
+reads_below widths ms parts names (Choose q s t) (right.Choose c a b) h = (slot_below names q c h.0, slot_below names s a h.1, slot_below names t b h.2)
+reads_below widths ms parts names (Concat from to) (right.Concat os) h =
+    subst (PartsAmong (λ k. k < length names)) (sym (range_is widths names parts from to os h)) (parts_below widths names h.range os h.mean)
+reads_below widths ms parts names (Pair w s t) (right.Concat (a ∷ (b ∷ []))) h = (slot_below names s a h.0, slot_below names t b h.1)
+reads_below widths ms parts names (Slice s hi lo) (right.Slice x i j) h = slot_below names s (Named x) h.0
+reads_below widths ms parts names (Cell base s) (right.Cell x i) h = slot_below names s i h.1
+reads_below widths ms parts names _ _ h = absurd h

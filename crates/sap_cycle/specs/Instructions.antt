@@ -6,6 +6,7 @@ use Rattle.sap_cycle.specs.declared.steps.Slot.TheVariants.{At, Number}
 use Rattle.sap_cycle.specs.declared.steps.Step.{Step}
 use Rattle.sap_cycle.specs.declared.steps.Step.TheVariants.{Copy, One, Two, Choose, Concat, Pair, Slice}
 use Rattle.sap_cycle.specs.declared.instructions.Instruction.{Instruction}
+use Rattle.sap_cycle.specs.declared.instructions.Placed.{Placed}
 use Rattle.sap_cycle.specs.declared.instructions.Instruction.TheVariants as instruction
 
 -- the step at a place, and that which gives 0 behind the last
@@ -31,6 +32,10 @@ step_of_instruction others (instruction.Concat from to) = Concat from to
 step_of_instruction others (instruction.Pair w a b) = Pair w (At a) (At b)
 step_of_instruction others (instruction.Slice a hi lo) = Slice (At a) hi lo
 step_of_instruction others (instruction.Other k) = step_at others k
+
+-- the place of an instruction's number, and its step
+abbrev pub placed_step : (others : List Step) → Placed → ℕ × Step
+placed_step others p = (p.target, step_of_instruction others p.instruction)
 
 -- the place that an instruction names in the list, if any, is below a length
 abbrev pub IsWithin : (count : ℕ) → Instruction → Type 0

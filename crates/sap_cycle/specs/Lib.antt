@@ -6,3 +6,4 @@ pub mod Places
 pub mod Running
 pub mod Loaded
 pub mod Known
+pub mod Order

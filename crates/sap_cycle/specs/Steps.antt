@@ -55,15 +55,15 @@ IsReady values cells parts (Pair w a b) =
 IsReady values cells parts (Slice a hi lo) = SlotIn values a × (hi < 64) × (lo ≤ hi)
 IsReady values cells parts (Cell base i) = SlotIn values i × (base + slot_value values i < length cells)
 
--- the array after some steps, from a place on
-abbrev pub settled : (cells : List ℕ) → List Part → (place : ℕ) → List Step → List ℕ → List ℕ
-settled cells parts k [] values = values
-settled cells parts k (s ∷ ss) values = settled cells parts (k + 1) ss (slice_set values k (step_value values cells parts s))
+-- the array after some steps, each with the place of its number
+abbrev pub settled : (cells : List ℕ) → List Part → List (ℕ × Step) → List ℕ → List ℕ
+settled cells parts [] values = values
+settled cells parts (p ∷ ps) values = settled cells parts ps (slice_set values p.0 (step_value values cells parts p.1))
 
-abbrev pub AreReady : (cells : List ℕ) → List Part → (place : ℕ) → List Step → List ℕ → Type 0
-AreReady cells parts k [] values = Unit {0}
-AreReady cells parts k (s ∷ ss) values =
-    IsReady values cells parts s × AreReady cells parts (k + 1) ss (slice_set values k (step_value values cells parts s))
+abbrev pub AreReady : (cells : List ℕ) → List Part → List (ℕ × Step) → List ℕ → Type 0
+AreReady cells parts [] values = Unit {0}
+AreReady cells parts (p ∷ ps) values =
+    (p.0 < length values) × IsReady values cells parts p.1 × AreReady cells parts ps (slice_set values p.0 (step_value values cells parts p.1))
 
 -- the array with other numbers at a place
 abbrev pub copied : (place : ℕ) → List ℕ → List ℕ → List ℕ

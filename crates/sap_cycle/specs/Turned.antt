@@ -1,13 +1,13 @@
 -- A cycle on the arrays of values and cells.
 use Rattle.std.specs.Prelude.{ℕ, ◌+◌, ◌≤◌, List, length, map}
 use Rattle.sap_cycle.specs.declared.program.Program.{Program}
-use Rattle.sap_cycle.specs.Instructions.{step_of_instruction}
+use Rattle.sap_cycle.specs.Instructions.{placed_step}
 use Rattle.sap_cycle.specs.Steps.{slot_value, settled, AreReady, AreIn, copied, stored, ArePortsReady}
 
 -- the values with these inputs and the wires' numbers, and the registers as before
 abbrev pub before_edge : Program → (inputs values cells : List ℕ) → List ℕ
 before_edge p inputs values cells =
-    settled cells p.parts.items (length inputs + length p.nexts.items) (map (step_of_instruction p.others.items) p.steps.items) (copied 0 inputs values)
+    settled cells p.parts.items (map (placed_step p.others.items) p.steps.items) (copied 0 inputs values)
 
 abbrev pub values_turned : Program → (inputs values cells : List ℕ) → List ℕ
 values_turned p inputs values cells =
@@ -17,7 +17,7 @@ abbrev pub cells_turned : Program → (inputs values cells : List ℕ) → List 
 cells_turned p inputs values cells = stored (before_edge p inputs values cells) p.ports.items cells
 
 pub record CanTurn (p : Program) (inputs values cells : List ℕ) : Type 0 where
-  pub room : length inputs + length p.nexts.items + length p.steps.items ≤ length values
-  pub ready : AreReady cells p.parts.items (length inputs + length p.nexts.items) (map (step_of_instruction p.others.items) p.steps.items) (copied 0 inputs values)
+  pub room : length inputs + length p.nexts.items ≤ length values
+  pub ready : AreReady cells p.parts.items (map (placed_step p.others.items) p.steps.items) (copied 0 inputs values)
   pub nexts : AreIn (before_edge p inputs values cells) p.nexts.items
   pub ports : ArePortsReady (before_edge p inputs values cells) p.ports.items cells

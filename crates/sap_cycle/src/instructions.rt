@@ -1,11 +1,11 @@
 //! Steps in few bytes, by operator, those over places alone without a look at what their operands are.
 
-ghost use Rattle.std.specs.Prelude.{◌≡◌, ◌≤◌, ◌+◌, ◌++◌, [], ◌∷◌, List, length, map, IfOk, IfSome, OnOk};
+ghost use Rattle.std.specs.Prelude.{◌≡◌, ◌++◌, List, length, map, IfOk, IfSome, OnOk};
 ghost use Rattle.sap_cycle.specs.declared.steps.Step.{Step as Whole};
 ghost use Rattle.sap_cycle.specs.declared.steps.Step.TheVariants.{Two};
 ghost use Rattle.sap_cycle.specs.declared.steps.Slot.TheVariants.{At, Number};
 ghost use Rattle.sap_cycle.specs.Steps.{step_value, IsReady, settled, AreReady};
-ghost use Rattle.sap_cycle.specs.Instructions.{step_of_instruction, step_at, IsWithin, StandsFor};
+ghost use Rattle.sap_cycle.specs.Instructions.{step_of_instruction, placed_step, step_at, IsWithin, StandsFor};
 
 use crate::steps::{Part, Slot, Step, evaluate, join};
 use sap_bits::{Op1, Op2, apply1, apply2, concat, slice};
@@ -33,6 +33,13 @@ pub enum Instruction {
     Slice(u32, u32, u32),
     /// The step at a place in a list of its own.
     Other(usize),
+}
+
+/// An instruction, and the place of its number.
+#[derive(Clone, Copy)]
+pub struct Placed {
+    pub target: usize,
+    pub instruction: Instruction,
 }
 
 // A place in 32 bits.
@@ -116,6 +123,42 @@ pub fn instruction_of(others: &mut Vec<Step>, step: Step) -> Result<Instruction,
     }
 }
 
+fn at(place: u32) -> Slot
+    ensures { result ≡ At place }
+{
+    Slot::At(place as usize)
+}
+
+/// The step of an instruction.
+pub fn step_of(others: &[Step], instruction: &Instruction) -> Step
+    ensures { result ≡ step_of_instruction others.now instruction.now }
+{
+    match instruction {
+        Instruction::Number(x) => Step::Copy(Slot::Number(*x)),
+        Instruction::Copy(a) => Step::Copy(at(*a)),
+        Instruction::Not(w, a) => Step::One(Op1::Not, *w, at(*a)),
+        Instruction::Add(w, a, b) => Step::Two(Op2::Add, *w, at(*a), at(*b)),
+        Instruction::Sub(w, a, b) => Step::Two(Op2::Sub, *w, at(*a), at(*b)),
+        Instruction::And(w, a, b) => Step::Two(Op2::And, *w, at(*a), at(*b)),
+        Instruction::Or(w, a, b) => Step::Two(Op2::Or, *w, at(*a), at(*b)),
+        Instruction::Xor(w, a, b) => Step::Two(Op2::Xor, *w, at(*a), at(*b)),
+        Instruction::Eq(w, a, b) => Step::Two(Op2::Eq, *w, at(*a), at(*b)),
+        Instruction::Ne(w, a, b) => Step::Two(Op2::Ne, *w, at(*a), at(*b)),
+        Instruction::Lt(w, a, b) => Step::Two(Op2::Lt, *w, at(*a), at(*b)),
+        Instruction::EqNumber(w, a, x) => {
+            Step::Two(Op2::Eq, u32::from(*w), at(*a), Slot::Number(*x))
+        }
+        Instruction::Choose(c, a, b) => Step::Choose(at(*c), at(*a), at(*b)),
+        Instruction::Concat(from, to) => Step::Concat(*from as usize, *to as usize),
+        Instruction::Pair(w, a, b) => Step::Pair(*w, at(*a), at(*b)),
+        Instruction::Slice(a, hi, lo) => Step::Slice(at(*a), *hi, *lo),
+        Instruction::Other(place) => match others.get(*place) {
+            Some(step) => *step,
+            None => Step::Copy(Slot::Number(0)),
+        },
+    }
+}
+
 // The number of the step at a place of the list.
 fn perform_other(
     values: &[u64],
@@ -134,7 +177,8 @@ fn perform_other(
 }
 
 /// The number of an instruction.
-fn perform(
+#[inline(always)]
+pub fn perform(
     values: &[u64],
     cells: &[u64],
     parts: &[Part],
@@ -191,20 +235,12 @@ fn perform(
     }
 }
 
-/// All instructions in order, each to the place after the one before.
-pub fn settle(
-    values: &mut [u64],
-    cells: &[u64],
-    parts: &[Part],
-    others: &[Step],
-    base: usize,
-    steps: &[Instruction],
-)
-    requires room { base + length steps.now ≤ length values.old }
-    requires ready { AreReady cells.now parts.now base (map (step_of_instruction others.now) steps.now) values.old }
-    ensures { values.new ≡ settled cells.now parts.now base (map (step_of_instruction others.now) steps.now) values.old }
+/// All instructions, one after another.
+pub fn settle(values: &mut [u64], cells: &[u64], parts: &[Part], others: &[Step], steps: &[Placed])
+    requires { AreReady cells.now parts.now (map (placed_step others.now) steps.now) values.old }
+    ensures { values.new ≡ settled cells.now parts.now (map (placed_step others.now) steps.now) values.old }
 {
-    for (i, step) in steps.iter().enumerate() {
-        values[base + i] = perform(values, cells, parts, others, step);
+    for step in steps {
+        values[step.target] = perform(values, cells, parts, others, &step.instruction);
     }
 }

@@ -6,6 +6,9 @@
 mod instructions;
 mod known;
 mod load;
+mod order;
 mod program;
 pub mod runner;
+mod runs;
+mod sort;
 mod steps;

@@ -12,7 +12,9 @@ ghost use Rattle.sap_cycle.specs.Running.{Shows, first_names, value_names};
 
 use crate::instructions::{Instruction, instruction_of};
 use crate::known::{Known, learn, learn_inputs, learn_registers, slot_of, step_of};
+use crate::order::in_order;
 use crate::program::Program;
+use crate::runs::run_ends;
 use crate::steps::{Part, Slot, Step, WritePort};
 use sap_net::name_map::put;
 use sap_net::netlist::Netlist;
@@ -153,18 +155,23 @@ fn make_program(known: &mut Known, alloc: Global, netlist: &Netlist) -> Result<P
     ensures knows { OnOk result (Knows (width_of netlist.now) netlist.now.memories (value_names netlist.now) known.new) }
 {
     netlist.rules();
+    let base = known.widths.len();
     let compiled = compile(known, alloc, netlist)?;
     let nexts = next_slots(known, alloc, netlist.registers())?;
     let ports = write_ports(known, alloc, netlist.memories())?;
     let Compiled {
         parts,
         others,
-        steps,
+        steps: instructions,
     } = compiled;
+    let places = known.widths.len();
+    let steps = in_order(alloc, base, places, &parts, &others, &instructions)?;
+    let ends = run_ends(alloc, &steps)?;
     Ok(Program {
         parts,
         others,
         steps,
+        ends,
         nexts,
         ports,
     })

@@ -3,16 +3,19 @@
 ghost use Rattle.std.specs.Prelude.{◌≡◌, length};
 ghost use Rattle.sap_cycle.specs.Turned.{CanTurn, values_turned, cells_turned};
 
-use crate::instructions::{Instruction, settle};
+use crate::instructions::Placed;
+use crate::runs::settle_runs;
 use crate::steps::{Part, Slot, Step, WritePort, copy_to, read_all, store_all};
 
-/// The steps of the wires in order, with the parts of longer concatenations and the steps that have no instruction of
-/// their own; what each register takes at the edge, and the write port of each memory.
+/// The steps of the wires in an order in which each finds what it reads, and where runs of one operator end in it; the
+/// parts of longer concatenations and the steps that have no instruction of their own; what each register takes at the
+/// edge, and the write port of each memory.
 #[derive(Drop)]
 pub struct Program {
     pub parts: Vec<Part>,
     pub others: Vec<Step>,
-    pub steps: Vec<Instruction>,
+    pub steps: Vec<Placed>,
+    pub ends: Vec<usize>,
     pub nexts: Vec<Slot>,
     pub ports: Vec<WritePort>,
 }
@@ -31,14 +34,13 @@ pub fn turn(
     ensures cells { cells.new ≡ cells_turned program.now inputs.now values.old cells.old }
 {
     copy_to(values, 0, inputs);
-    let first_wire = inputs.len() + edge.len();
-    settle(
+    settle_runs(
         values,
         cells,
         &program.parts,
         &program.others,
-        first_wire,
         &program.steps,
+        &program.ends,
     );
     read_all(edge, values, &program.nexts);
     store_all(cells, values, &program.ports);
