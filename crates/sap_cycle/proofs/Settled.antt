@@ -1,5 +1,5 @@
 -- Steps over places give the wires' numbers.
-use Rattle.std.proofs.Common.{◌≡◌, ℕ, zero, suc, ◌+◌, ◌*◌, ◌^◌, ◌<◌, ◌≤◌, List, [], ◌∷◌, ◌++◌, map, Some, length, take, drop, sym, ap, ◌∙◌, subst, arith, refl, length-append, append-nil, append_assoc}
+use Rattle.std.proofs.Common.{◌≡◌, ℕ, zero, suc, ◌+◌, ◌*◌, ◌^◌, ◌<◌, ◌≤◌, List, [], ◌∷◌, ◌++◌, map, Some, length, take, drop, sym, ap, ◌∙◌, subst, arith, refl, length-append, append_assoc}
 use Rattle.std.specs.Prelude.{slice_get, slice_index, slice_range, ◌-◌}
 use Rattle.std.proofs.Math.Seq.{get_or-append_seam}
 use Rattle.std.proofs.lemmas.List.{length-map, map-append, take_at, drop_at}

@@ -1,4 +1,4 @@
-use Rattle.std.proofs.Common.{◌≡◌, length, map}
+use Rattle.std.proofs.Common.{map}
 use Rattle.sap_cycle.specs.Instructions.{step_of_instruction, placed_step}
 use Rattle.sap_cycle.proofs.Arranging.{Arranging}
 use Rattle.sap_cycle.proofs.order.arrange.Given as goal
