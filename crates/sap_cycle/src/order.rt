@@ -172,7 +172,8 @@ fn arrange(
     }
 }
 
-/// The steps by how deep they stand and what they do, if each finds what it reads so, or else in the order that they have.
+/// The steps by how deep they stand and what they do, if each finds what it reads so, or else in the order that they
+/// have.
 pub fn in_order(
     alloc: Global,
     base: usize,

@@ -38,12 +38,11 @@ fn expect_number(
     ensures { result ≡ step_value values.now cells.now parts.now (step_of_instruction others.now instruction.now) }
 {
     match instruction {
-        Instruction::Number(x) => { *x }
+        Instruction::Number(x) => *x,
         _ => perform_other_kind(values, cells, parts, others, instruction),
     }
 }
 
-#[inline(never)]
 fn run_of_number(
     values: &mut [u64],
     cells: &[u64],
@@ -78,7 +77,6 @@ fn expect_add(
     }
 }
 
-#[inline(never)]
 fn run_of_add(values: &mut [u64], cells: &[u64], parts: &[Part], others: &[Step], steps: &[Placed])
     requires { AreReady cells.now parts.now (map (placed_step others.now) steps.now) values.old }
     ensures { values.new ≡ settled cells.now parts.now (map (placed_step others.now) steps.now) values.old }
@@ -107,7 +105,6 @@ fn expect_and(
     }
 }
 
-#[inline(never)]
 fn run_of_and(values: &mut [u64], cells: &[u64], parts: &[Part], others: &[Step], steps: &[Placed])
     requires { AreReady cells.now parts.now (map (placed_step others.now) steps.now) values.old }
     ensures { values.new ≡ settled cells.now parts.now (map (placed_step others.now) steps.now) values.old }
@@ -136,7 +133,6 @@ fn expect_or(
     }
 }
 
-#[inline(never)]
 fn run_of_or(values: &mut [u64], cells: &[u64], parts: &[Part], others: &[Step], steps: &[Placed])
     requires { AreReady cells.now parts.now (map (placed_step others.now) steps.now) values.old }
     ensures { values.new ≡ settled cells.now parts.now (map (placed_step others.now) steps.now) values.old }
@@ -165,7 +161,6 @@ fn expect_xor(
     }
 }
 
-#[inline(never)]
 fn run_of_xor(values: &mut [u64], cells: &[u64], parts: &[Part], others: &[Step], steps: &[Placed])
     requires { AreReady cells.now parts.now (map (placed_step others.now) steps.now) values.old }
     ensures { values.new ≡ settled cells.now parts.now (map (placed_step others.now) steps.now) values.old }
@@ -194,7 +189,6 @@ fn expect_eq_number(
     }
 }
 
-#[inline(never)]
 fn run_of_eq_number(
     values: &mut [u64],
     cells: &[u64],
@@ -235,7 +229,6 @@ fn expect_choose(
     }
 }
 
-#[inline(never)]
 fn run_of_choose(
     values: &mut [u64],
     cells: &[u64],
@@ -268,7 +261,6 @@ fn expect_pair(
     }
 }
 
-#[inline(never)]
 fn run_of_pair(values: &mut [u64], cells: &[u64], parts: &[Part], others: &[Step], steps: &[Placed])
     requires { AreReady cells.now parts.now (map (placed_step others.now) steps.now) values.old }
     ensures { values.new ≡ settled cells.now parts.now (map (placed_step others.now) steps.now) values.old }
@@ -295,7 +287,6 @@ fn expect_slice(
     }
 }
 
-#[inline(never)]
 fn run_of_slice(
     values: &mut [u64],
     cells: &[u64],
