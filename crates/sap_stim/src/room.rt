@@ -1,6 +1,6 @@
 //! How much room rows take.
 
-ghost use Rattle.std.specs.Prelude.{◌≡◌, ◌≤◌, ◌<◌, ◌^◌, ◌⊎◌, ℕ, IfNone, IfSome, length};
+ghost use Rattle.std.specs.Prelude.{◌≡◌, ◌≤◌, ◌<◌, ◌^◌, ◌⊎◌, ℕ, IfNone, IfOk, IfSome, length};
 ghost use Rattle.sap_lattice.specs.Closure.{name_at};
 ghost use Rattle.sap_stim.specs.Rows.{HoldsRows};
 
@@ -41,7 +41,9 @@ pub fn row_room(names: &[Name], lattice: &Lattice) -> Option<usize>
 }
 
 /// An array for rows that take this room, with some to spare for copies of short texts.
-pub fn row_array(alloc: Global, room: usize) -> Result<Vec<u8>, AllocError> {
+pub fn row_array(alloc: Global, room: usize) -> Result<Vec<u8>, AllocError>
+    ensures { IfOk result (λ array. room ≤ length array.items) }
+{
     let mut array = Vec::new(alloc);
     array.resize(room.saturating_add(MOST_SHORT), 0)?;
     Ok(array)
