@@ -1,8 +1,9 @@
 //! Values and levels of a field.
 
-ghost use Rattle.std.specs.Prelude.{◌≡◌, ◌≤◌, ◌^◌, nat_lt};
+ghost use Rattle.std.specs.Prelude.{◌≡◌, ◌≤◌, ◌^◌, IfSome, Ok, length, nat_lt, take, true};
 ghost use Rattle.std.specs.Char.{is_ascii_digit};
 ghost use Rattle.std.specs.List.{list_all};
+ghost use Rattle.std.specs.Str.Parse.{digits_value};
 ghost use Rattle.sap_lattice.specs.Levels.{level_named};
 ghost use Rattle.sap_stim.specs.Line.{value_of, tagged_of, plain_of, field_of, IsSized};
 
@@ -14,6 +15,9 @@ use sap_lattice::lattice::Lattice;
 use sap_lattice::level::Level;
 use sap_stream::inputs::Tagged;
 use sap_text::scan::number;
+
+/// A number below this has room for a further digit.
+const LARGE: u64 = 1_000_000_000_000_000_000;
 
 pub(crate) fn are_digits(text: &[u8]) -> bool
     ensures { result ≡ list_all is_ascii_digit text.now }
@@ -51,11 +55,46 @@ fn find_level(lattice: &Lattice, name: &[u8]) -> Option<Level>
     lattice.level_named(name)
 }
 
+/// The number that digits at the front of a text spell, and how many they are: all, where the number is small.
+fn leading_number(text: &[u8]) -> (u64, usize)
+    ensures within { result.1 ≤ length text.now }
+    ensures digits { list_all is_ascii_digit (take result.1 text.now) ≡ true }
+    ensures number { result.0 ≡ digits_value 10 (take result.1 text.now) }
+{
+    let mut number: u64 = 0;
+    let mut count = 0;
+    while count < text.len() && number < LARGE && text[count].is_ascii_digit() {
+        number = number * 10 + u64::from(text[count] - b'0');
+        count += 1;
+    }
+    (number, count)
+}
+
+/// What a field of a value and a level gives, in one look at its digits, where the value is small and nothing is wrong.
+fn read_small(text: &[u8], width: u32, lattice: &Lattice) -> Option<Tagged>
+    requires wide { 1 ≤ width }
+    requires narrow { width ≤ 64 }
+    ensures { IfSome result (λ tagged. Ok tagged ≡ tagged_of lattice.now width text.now) }
+{
+    let (number, count) = leading_number(text);
+    if count < 1 || count > MOST_DIGITS || !is_within(number, width) {
+        return None;
+    }
+    if count + 1 >= text.len() || text[count] != b'@' {
+        return None;
+    }
+    let level = find_level(lattice, &text[count + 1..])?;
+    Some(Tagged::new(number, level))
+}
+
 fn read_tagged(text: &[u8], width: u32, lattice: &Lattice) -> Result<Tagged, StimCode>
     requires wide { 1 ≤ width }
     requires narrow { width ≤ 64 }
     ensures { result ≡ tagged_of lattice.now width text.now }
 {
+    if let Some(tagged) = read_small(text, width, lattice) {
+        return Ok(tagged);
+    }
     let (digits, name) = cut(text, b'@');
     if name.is_empty() {
         return Err(StimCode::S1);
