@@ -64,7 +64,7 @@ count_more p (q ∷ ps) h = refl
 some_pieces : (ps : List (List ℕ)) (p : List ℕ) → 0 < length (ps ++ p ∷ [])
 some_pieces ps p = simp length-append (omega arith)
 
-fields_last : (others : List (List ℕ)) (piece : List ℕ) → fields_in (others ++ piece ∷ []) ≡ cond (is_starred piece) others (others ++ piece ∷ [])
+pub fields_last : (others : List (List ℕ)) (piece : List ℕ) → fields_in (others ++ piece ∷ []) ≡ cond (is_starred piece) others (others ++ piece ∷ [])
 fields_last [] piece = refl
 fields_last (p ∷ ps) piece = fields_more p (ps ++ piece ∷ []) (some_pieces ps piece) ∙ ap (λ (qs : List (List ℕ)). p ∷ qs) (fields_last ps piece) ∙ within (is_starred piece) where
   within : (b : Bool) → p ∷ cond b ps (ps ++ piece ∷ []) ≡ cond b (p ∷ ps) (p ∷ (ps ++ piece ∷ []))

@@ -2,6 +2,7 @@ pub mod Pieces
 pub mod LastPiece
 pub mod Counts
 pub mod EachField
+pub mod FromLeft
 pub mod SmallValues
 pub mod Fitting
 pub mod Lines

@@ -71,6 +71,9 @@ place_missing : (k n : ℕ) (b : Bool) → ltb k n ≡ b → None ≡ cond b (So
 place_missing k n true t e = absurd (let f : ⊥ = cc in f)
 place_missing k n false t e = grind (arith, nat_tests)
 
+pub not_found : (m : ℕ) (s : List ℕ) → None ≡ position (is_mark m) s → length s ≤ position_or_len (is_mark m) s
+not_found m s e = place_missing (position_or_len (is_mark m) s) (length s) _ refl e
+
 pub cut_before : (m : ℕ) (s : List ℕ) (i : ℕ) → Some i ≡ position (is_mark m) s → take i s ≡ before_first (is_mark m) s
 cut_before m s i e = ap (λ (k : ℕ). take k s) (place_found (position_or_len (is_mark m) s) (length s) i _ refl e).0
 

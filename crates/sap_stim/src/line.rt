@@ -6,6 +6,7 @@ ghost use Rattle.sap_stim.specs.Fits.{LineFits};
 ghost use Rattle.sap_stim.specs.Line.{IsSized, fields_of, inputs_of, line_of, with_inputs};
 
 use crate::MOST_LINE_BYTES;
+use crate::along::read_along;
 use crate::count::read_count;
 use crate::fault::StimCode;
 use crate::field::Field;
@@ -62,6 +63,9 @@ pub fn read_line_into(
     }
     if !ended {
         return Err(StimCode::S5);
+    }
+    if let Some(last) = read_along(line, fields, lattice, inputs) {
+        return read_count(last);
     }
     let piece = last_piece(line);
     if count_fields(line, piece) != fields.len() {

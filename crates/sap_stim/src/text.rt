@@ -6,7 +6,7 @@ ghost use Rattle.sap_text.specs.Lines.{split_at};
 ghost use Rattle.sap_stim.specs.Line.{fields_of, is_starred};
 ghost use Rattle.sap_stim.specs.declared.TheConstants.{MOST_LINE_BYTES};
 
-fn find(text: &[u8], mark: u8) -> Option<usize>
+pub(crate) fn find(text: &[u8], mark: u8) -> Option<usize>
     ensures { result ≡ position (λ b. b == mark) text.now }
 {
     text.iter().position(|b| *b == mark)
