@@ -16,8 +16,8 @@ use sap_lattice::level::Level;
 use sap_stream::inputs::Tagged;
 use sap_text::scan::number;
 
-/// A number below this has room for a further digit.
-const LARGE: u64 = 1_000_000_000_000_000_000;
+/// A number below this, a tenth of 2^64, has room for a further digit.
+const LARGE: u64 = 1_844_674_407_370_955_161;
 
 pub(crate) fn are_digits(text: &[u8]) -> bool
     ensures { result ≡ list_all is_ascii_digit text.now }
