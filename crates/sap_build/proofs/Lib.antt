@@ -12,3 +12,5 @@ pub mod Grown
 pub mod Inserted
 pub mod OneMore
 pub mod Written
+pub mod Edges
+pub mod Waiting

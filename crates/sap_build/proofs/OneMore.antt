@@ -80,7 +80,7 @@ ports_first_more ps p ns h =
 
 -- ---- a name is declared exactly where something has it
 
-four_parts : (x : Name) (a b c d : List Name) → is_among x (a ++ b ++ c ++ d) ≡ (((is_among x a || is_among x b) || is_among x c) || is_among x d)
+pub four_parts : (x : Name) (a b c d : List Name) → is_among x (a ++ b ++ c ++ d) ≡ (((is_among x a || is_among x b) || is_among x c) || is_among x d)
 four_parts x a b c d =
     among_append x (a ++ b ++ c) d
     ∙ ap (λ q. q || is_among x d) (among_append x (a ++ b) c ∙ ap (λ q. q || is_among x c) (among_append x a b))

@@ -4,3 +4,4 @@ pub mod Parts
 pub mod SideBySide
 pub mod Writing
 pub mod Written
+pub mod Waiting

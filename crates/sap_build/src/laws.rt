@@ -2,6 +2,7 @@
 
 ghost use Rattle.sap_build.specs.SideBySide.{SideBySide};
 ghost use Rattle.sap_build.specs.Written.{BlankIsNetlist, HelpersAreNew, InputsAreAdded, WiresAreAdded, ShownWiresAreAdded, RegistersAreAdded, ShownRegistersAreAdded, MemoriesAreAdded};
+ghost use Rattle.sap_build.specs.Waiting.{WiresWait, ShownWiresWait, WaitsEnd, EdgesAreGiven};
 ghost use Rattle.sap_build.specs.Laws.{CopiesAreNetlists, CopiesRunAlike, CopiesRunBack, CopiesShowAlike, CopiesAreParts, PartsRun, PartsRunSo, PartsShow};
 
 /// A copy whose names stay apart keeps the rules of netlists.
@@ -41,4 +42,12 @@ pub fn written_nets_are_netlists()
     ensures registers { RegistersAreAdded }
     ensures shown_registers { ShownRegistersAreAdded }
     ensures memories { MemoriesAreAdded }
+{}
+
+/// Wires can be declared before they are assigned, and what registers take and memories are written can be given at the end.
+pub fn waiting_nets_are_netlists()
+    ensures wires { WiresWait }
+    ensures shown_wires { ShownWiresWait }
+    ensures assigns { WaitsEnd }
+    ensures edges { EdgesAreGiven }
 {}
