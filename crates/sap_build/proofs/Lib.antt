@@ -14,3 +14,4 @@ pub mod OneMore
 pub mod Written
 pub mod Edges
 pub mod Waiting
+pub mod CounterWritten

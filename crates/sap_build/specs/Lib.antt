@@ -5,3 +5,4 @@ pub mod SideBySide
 pub mod Writing
 pub mod Written
 pub mod Waiting
+pub mod Counting

@@ -1,5 +1,7 @@
-//! What holds of every copy of a netlist under other names, and of netlists side by side in a larger one.
+//! What holds of every copy of a netlist under other names, of netlists side by side in a larger one, and of netlists written part
+//! by part.
 
+ghost use Rattle.sap_build.specs.Counting.{CounterIsNetlist};
 ghost use Rattle.sap_build.specs.SideBySide.{SideBySide};
 ghost use Rattle.sap_build.specs.Written.{BlankIsNetlist, HelpersAreNew, InputsAreAdded, WiresAreAdded, ShownWiresAreAdded, RegistersAreAdded, ShownRegistersAreAdded, MemoriesAreAdded};
 ghost use Rattle.sap_build.specs.Waiting.{WiresWait, ShownWiresWait, WaitsEnd, EdgesAreGiven};
@@ -50,4 +52,9 @@ pub fn waiting_nets_are_netlists()
     ensures shown_wires { ShownWiresWait }
     ensures assigns { WaitsEnd }
     ensures edges { EdgesAreGiven }
+{}
+
+/// A counter, written in the order in which a module declares it, is a netlist.
+pub fn worked_counter()
+    ensures { CounterIsNetlist }
 {}
