@@ -11,7 +11,7 @@ use Rattle.sap_lemmas.proofs.Bools.{or_false}
 use Rattle.sap_lemmas.proofs.Texts.{bytes_eq_apart_back, equal_of_bytes_eq}
 use Rattle.sap_maps.specs.Maps.{Name}
 use Rattle.sap_net.specs.Names.{is_among, AreDistinct}
-use Rattle.sap_net.specs.NameMaps.{NameMap, Indexes, at_name, place_in}
+use Rattle.sap_net.specs.NameMaps.{place_in}
 use Rattle.sap_net.specs.IsNetlist.{names_of}
 use Rattle.sap_net.specs.Net.{Net}
 use Rattle.sap_net.specs.declared.parts.Port.{Port}
@@ -37,16 +37,16 @@ or_behind true false c = refl
 or_behind false true c = refl
 or_behind false false c = refl
 
-has_append : (m : NameMap ℕ) (xs ys : List Name) (k : ℕ) → has_place m (xs ++ ys) k ≡ (has_place m xs k || has_place m ys k)
+has_append : (m : List Name) (xs ys : List Name) (k : ℕ) → has_place m (xs ++ ys) k ≡ (has_place m xs k || has_place m ys k)
 has_append m [] ys k = refl
 has_append m (x ∷ xs) ys k =
-    ap (λ (b : Bool). is_at (at_name m x) k || b) (has_append m xs ys k)
-    ∙ or_together (is_at (at_name m x) k) (has_place m xs k) (has_place m ys k)
+    ap (λ (b : Bool). is_at (place_in m x) k || b) (has_append m xs ys k)
+    ∙ or_together (is_at (place_in m x) k) (has_place m xs k) (has_place m ys k)
 
-pub marks_none : (m : NameMap ℕ) (bs : List Bool) → Marks m [] bs bs
+pub marks_none : (m : List Name) (bs : List Bool) → Marks m [] bs bs
 marks_none m bs = record { long = refl; each = λ k l. refl }
 
-pub marks_both : (m : NameMap ℕ) (xs ys : List Name) (bs cs ds : List Bool) → Marks m xs bs cs → Marks m ys cs ds → Marks m (xs ++ ys) bs ds
+pub marks_both : (m : List Name) (xs ys : List Name) (bs cs ds : List Bool) → Marks m xs bs cs → Marks m ys cs ds → Marks m (xs ++ ys) bs ds
 marks_both m xs ys bs cs ds f g =
     record {
       long = g.long ∙ f.long;
@@ -57,7 +57,7 @@ marks_both m xs ys bs cs ds f g =
           ∙ ap (λ (b : Bool). b || is_marked bs k) (sym (has_append m xs ys k));
     }
 
-pub marks_one : (m : NameMap ℕ) (x : Name) (place : ℕ) (bs : List Bool) → at_name m x ≡ Some place → Marks m (x ∷ []) bs (set bs place true)
+pub marks_one : (m : List Name) (x : Name) (place : ℕ) (bs : List Bool) → place_in m x ≡ Some place → Marks m (x ∷ []) bs (set bs place true)
 marks_one m x place bs e =
     record {
       long = length-set bs place true;
@@ -74,7 +74,7 @@ marks_one m x place bs e =
           ];
     }
 
-pub marks_absent : (m : NameMap ℕ) (x : Name) (bs : List Bool) → at_name m x ≡ None → Marks m (x ∷ []) bs bs
+pub marks_absent : (m : List Name) (x : Name) (bs : List Bool) → place_in m x ≡ None → Marks m (x ∷ []) bs bs
 marks_absent m x bs e = record { long = refl; each = λ k l. rw e refl }
 
 -- Where names have their places and no two are equal, the place of a wire has the place of a name on a list if the wire's name is on it.
@@ -139,10 +139,10 @@ place_at (n ∷ ns) d (suc k) l x =
       | inr f ↦ rw f (one_further (place_in ns x) k ∙ place_at ns d.1 k l' x)
     ]
 
-pub placed : (m : NameMap ℕ) (ns : List Name) → Indexes m ns → AreDistinct ns → (k : ℕ) → k < length ns → (xs : List Name) → has_place m xs k ≡ is_among (get_or ns k []) xs
+pub placed : (m : List Name) (ns : List Name) → m ≡ ns → AreDistinct ns → (k : ℕ) → k < length ns → (xs : List Name) → has_place m xs k ≡ is_among (get_or ns k []) xs
 placed m ns i d k l [] = refl
 placed m ns i d k l (x ∷ xs) =
-    ap₂ (λ (a b : Bool). a || b) (ap (λ (o : Option ℕ). is_at o k) (i x) ∙ place_at ns d k l x) (placed m ns i d k l xs)
+    ap₂ (λ (a b : Bool). a || b) (ap (λ (ys : List Name). is_at (place_in ys x) k) i ∙ place_at ns d k l x) (placed m ns i d k l xs)
 
 -- the name at the place of a wire
 pub named_at : (ws : List Wire) (k : ℕ) (w : Wire) → k < length ws → w ≡ get_or ws k w → get_or (names_of ws) k [] ≡ w.name
@@ -157,7 +157,7 @@ or_front true true c = refl
 or_front true false c = refl
 or_front false b c = refl
 
-pub is_needed_at : (m : NameMap ℕ) (P E : List Name) (ws ks : List Wire) (k : ℕ) (w : Wire) → Indexes m (names_of ws) → AreDistinct (names_of ws) → k < length (names_of ws) → w ≡ get_or ws k w → k < length ws → has_place m (wire_reads ks ++ (P ++ E)) k ≡ is_needed P E w ks
+pub is_needed_at : (m : List Name) (P E : List Name) (ws ks : List Wire) (k : ℕ) (w : Wire) → m ≡ names_of ws → AreDistinct (names_of ws) → k < length (names_of ws) → w ≡ get_or ws k w → k < length ws → has_place m (wire_reads ks ++ (P ++ E)) k ≡ is_needed P E w ks
 is_needed_at m P E ws ks k w i d n e l =
     let R = wire_reads ks in
     let x = w.name in
@@ -168,7 +168,7 @@ is_needed_at m P E ws ks k w i d n e l =
     ∙ or_front (is_among x R) (is_among x P) (is_among x E)
     ∙ ap (λ (b : Bool). is_among x P || b) (sym (among_append x R E))
 
-pub read_next : (m : NameMap ℕ) (P E : List Name) (w : Wire) (ks : List Wire) (bs cs : List Bool) → Marks m (if is_needed P E w ks then right_reads w.right else []) bs cs → (k : ℕ) → k < length bs → is_marked bs k ≡ has_place m (wire_reads ks ++ (P ++ E)) k
+pub read_next : (m : List Name) (P E : List Name) (w : Wire) (ks : List Wire) (bs cs : List Bool) → Marks m (if is_needed P E w ks then right_reads w.right else []) bs cs → (k : ℕ) → k < length bs → is_marked bs k ≡ has_place m (wire_reads ks ++ (P ++ E)) k
     → is_marked cs k ≡ has_place m (wire_reads (if is_needed P E w ks then w ∷ ks else ks) ++ (P ++ E)) k
 read_next m P E w ks bs cs f k l e =
     elim (cases_Bool (is_needed P E w ks)) [
@@ -202,7 +202,7 @@ wire_at (w ∷ ws) zero l = (w, refl)
 wire_at (w ∷ ws) (suc k) l = wire_at ws k (omega (arith, l))
 
 -- Behind the place r the wires that are needed are kept, and all names that these read, and those of the ends, are marked.
-pub record Keeping (m : NameMap ℕ) (P E : List Name) (ws : List Wire) (r : ℕ) (read kept : List Bool) : Type 0 where
+pub record Keeping (m : List Name) (P E : List Name) (ws : List Wire) (r : ℕ) (read kept : List Bool) : Type 0 where
   pub within : r ≤ length ws
   pub long : length read ≡ length ws
   pub kept_long : length kept ≡ length ws
@@ -214,7 +214,7 @@ unset zero k = refl
 unset (suc n) zero = refl
 unset (suc n) (suc k) = unset n k
 
-pub first_keeping : (m : NameMap ℕ) (P E : List Name) (ws : List Wire) (bs read kept : List Bool) → bs ≡ replicate (length ws) false → Marks m (P ++ E) bs read → kept ≡ replicate (length ws) false → Keeping m P E ws (length ws) read kept
+pub first_keeping : (m : List Name) (P E : List Name) (ws : List Wire) (bs read kept : List Bool) → bs ≡ replicate (length ws) false → Marks m (P ++ E) bs read → kept ≡ replicate (length ws) false → Keeping m P E ws (length ws) read kept
 first_keeping m P E ws bs read kept e f g =
     let n = length ws in
     let none : drop n ws ≡ [] = drop_all n ws (omega arith) in
@@ -231,7 +231,7 @@ first_keeping m P E ws bs read kept e f g =
       keeps = subst (λ (zs : List Wire). marked (drop n kept) zs ≡ needed P E zs) (sym none) (none_marked (drop n kept));
     }
 
-pub next_keeping : (m : NameMap ℕ) (P E : List Name) (ws : List Wire) (r : ℕ) (read kept new after : List Bool) → Indexes m (names_of ws) → AreDistinct (names_of ws) → 0 < r → Keeping m P E ws r read kept → after ≡ set kept (r - 1) (is_marked read (r - 1))
+pub next_keeping : (m : List Name) (P E : List Name) (ws : List Wire) (r : ℕ) (read kept new after : List Bool) → m ≡ names_of ws → AreDistinct (names_of ws) → 0 < r → Keeping m P E ws r read kept → after ≡ set kept (r - 1) (is_marked read (r - 1))
     → ((w : Wire) → w ≡ get_or ws (r - 1) w → Marks m (if is_marked read (r - 1) then right_reads w.right else []) read new) → Keeping m P E ws (r - 1) new after
 next_keeping m P E ws r read kept new after i d p h q g =
     let k = r - 1 in
@@ -260,7 +260,7 @@ next_keeping m P E ws r read kept new after i d p h q g =
           (subst (λ (cs : List Bool). marked (drop k cs) (w ∷ rest) ≡ needed P E (w ∷ rest)) (sym q) now);
     }
 
-pub all_kept : (m : NameMap ℕ) (n : Net) (ws : List Wire) (r : ℕ) (read kept : List Bool) → ws ≡ n.wires → r ≡ 0 → Keeping m (port_names n) (edge_reads n) ws r read kept → MarksNeeded n kept
+pub all_kept : (m : List Name) (n : Net) (ws : List Wire) (r : ℕ) (read kept : List Bool) → ws ≡ n.wires → r ≡ 0 → Keeping m (port_names n) (edge_reads n) ws r read kept → MarksNeeded n kept
 all_kept m n ws r read kept e z h =
     let P = port_names n in
     let E = edge_reads n in
@@ -296,7 +296,7 @@ marked_push bs ws k w n l e =
     subst (λ (j : ℕ). marked bs (take j ws) ≡ marked bs (take k ws) ++ marked (is_marked bs k ∷ []) (w ∷ [])) s (push_at bs ws k w n l e)
 
 -- what the ends of a netlist read
-pub ends_marked : (m : NameMap ℕ) (n : Net) (ps : List Port) (rs : List Register) (ms : List Memory) (a b c d : List Bool) → ps ≡ n.ports → rs ≡ n.registers → ms ≡ n.memories
+pub ends_marked : (m : List Name) (n : Net) (ps : List Port) (rs : List Register) (ms : List Memory) (a b c d : List Bool) → ps ≡ n.ports → rs ≡ n.registers → ms ≡ n.memories
     → Marks m (map (λ p. p.name) ps) a b → Marks m (register_reads rs) b c → Marks m (memory_reads ms) c d → Marks m (port_names n ++ edge_reads n) a d
 ends_marked m n ps rs ms a b c d p r q f g h =
     let f' = subst (λ (xs : List Port). Marks m (map (λ p. p.name) xs) a b) p f in

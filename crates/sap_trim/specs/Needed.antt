@@ -2,7 +2,7 @@
 use Rattle.std.specs.Prelude.{◌≡◌, ℕ, ◌<◌, ◌==◌, Bool, false, ◌||◌, List, [], ◌∷◌, ◌++◌, length, slice_index_or, Option, Some, None, if◌then◌else◌}
 use Rattle.sap_maps.specs.Maps.{Name}
 use Rattle.sap_net.specs.Names.{is_among}
-use Rattle.sap_net.specs.NameMaps.{NameMap, at_name}
+use Rattle.sap_net.specs.NameMaps.{place_in}
 use Rattle.sap_net.specs.Net.{Net}
 use Rattle.sap_net.specs.declared.parts.Wire.{Wire}
 use Rattle.sap_trim.specs.Names.{port_names}
@@ -29,15 +29,15 @@ abbrev pub is_at : Option ℕ → (place : ℕ) → Bool
 is_at None k = false
 is_at (Some j) k = j == k
 
--- one of the names has the place
-abbrev pub has_place : NameMap ℕ → List Name → (place : ℕ) → Bool
-has_place m [] k = false
-has_place m (x ∷ xs) k = is_at (at_name m x) k || has_place m xs k
+-- one of the names xs has the place among all names
+abbrev pub has_place : (all xs : List Name) → (place : ℕ) → Bool
+has_place all [] k = false
+has_place all (x ∷ xs) k = is_at (place_in all x) k || has_place all xs k
 
 -- the places of the names are marked too
-pub record Marks (places : NameMap ℕ) (xs : List Name) (before after : List Bool) : Type 0 where
+pub record Marks (all xs : List Name) (before after : List Bool) : Type 0 where
   pub long : length after ≡ length before
-  pub each : (k : ℕ) → k < length before → is_marked after k ≡ (has_place places xs k || is_marked before k)
+  pub each : (k : ℕ) → k < length before → is_marked after k ≡ (has_place all xs k || is_marked before k)
 
 abbrev pub marked : List Bool → List Wire → List Wire
 marked bs [] = []

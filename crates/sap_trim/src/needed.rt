@@ -1,25 +1,23 @@
 //! The wires that are needed, by a mark for each.
 
 ghost use Rattle.std.specs.Prelude.{◌≡◌, ◌<◌, ◌++◌, [], ◌∷◌, length, map, replicate, slice_index_or, slice_set, false, true, if◌then◌else◌, IfOk, OnOk};
-ghost use Rattle.sap_net.specs.NameMaps.{Indexes, at_name};
 ghost use Rattle.sap_net.specs.IsNetlist.{names_of};
 ghost use Rattle.sap_trim.specs.Names.{port_names};
 ghost use Rattle.sap_trim.specs.Needed.{Marks, MarksNeeded, is_marked};
 ghost use Rattle.sap_trim.specs.Reads.{edge_reads, memory_reads, operand_reads, operands_reads, register_reads, right_reads};
 
-use sap_net::name_map::{at_name, index};
 use sap_net::netlist::Netlist;
 use sap_net::parts::{Memory, Name, Operand, Port, Register, Right, Wire};
+use sap_share::places::Places;
 use std::alloc::{AllocError, Global};
-use std::collections::HashMap;
 
-/// The places of the wires, by their names.
-fn places_of(alloc: Global, wires: &[Wire]) -> Result<HashMap<Vec<u8>, usize>, AllocError>
-    ensures { IfOk result (λ m. Indexes m (names_of wires.now)) }
+/// The names of the wires, with their places.
+fn places_of(alloc: Global, wires: &[Wire]) -> Result<Places, AllocError>
+    ensures { IfOk result (λ m. m ≡ names_of wires.now) }
 {
-    let mut places = HashMap::new(alloc);
-    for (k, wire) in wires.iter().enumerate() {
-        index(&mut places, alloc, &wire.name, k)?;
+    let mut places = Places::new(alloc, Vec::new(alloc))?;
+    for wire in wires {
+        places.add(alloc, wire.name.copy(alloc)?)?;
     }
     Ok(places)
 }
@@ -50,16 +48,16 @@ fn set(marks: &mut [bool], place: usize, mark: bool)
     }
 }
 
-fn mark_name(marks: &mut [bool], places: &HashMap<Vec<u8>, usize>, name: &Name)
+fn mark_name(marks: &mut [bool], places: &Places, name: &Name)
     ensures { Marks places.now (name.now ∷ []) marks.old marks.new }
 {
-    match at_name(places, name.as_bytes()) {
+    match places.place(name) {
         Some(place) => set(marks, place, true),
         None => {}
     }
 }
 
-fn mark_operand(marks: &mut [bool], places: &HashMap<Vec<u8>, usize>, operand: &Operand)
+fn mark_operand(marks: &mut [bool], places: &Places, operand: &Operand)
     ensures { Marks places.now (operand_reads operand.now) marks.old marks.new }
 {
     match operand {
@@ -68,27 +66,21 @@ fn mark_operand(marks: &mut [bool], places: &HashMap<Vec<u8>, usize>, operand: &
     }
 }
 
-fn mark_pair(marks: &mut [bool], places: &HashMap<Vec<u8>, usize>, a: &Operand, b: &Operand)
+fn mark_pair(marks: &mut [bool], places: &Places, a: &Operand, b: &Operand)
     ensures { Marks places.now (operand_reads a.now ++ operand_reads b.now) marks.old marks.new }
 {
     mark_operand(marks, places, a);
     mark_operand(marks, places, b);
 }
 
-fn mark_three(
-    marks: &mut [bool],
-    places: &HashMap<Vec<u8>, usize>,
-    a: &Operand,
-    b: &Operand,
-    c: &Operand,
-)
+fn mark_three(marks: &mut [bool], places: &Places, a: &Operand, b: &Operand, c: &Operand)
     ensures { Marks places.now (operand_reads a.now ++ (operand_reads b.now ++ operand_reads c.now)) marks.old marks.new }
 {
     mark_operand(marks, places, a);
     mark_pair(marks, places, b, c);
 }
 
-fn mark_operands(marks: &mut [bool], places: &HashMap<Vec<u8>, usize>, operands: &[Operand])
+fn mark_operands(marks: &mut [bool], places: &Places, operands: &[Operand])
     ensures { Marks places.now (operands_reads operands.now) marks.old marks.new }
 {
     for operand in operands {
@@ -96,7 +88,7 @@ fn mark_operands(marks: &mut [bool], places: &HashMap<Vec<u8>, usize>, operands:
     }
 }
 
-fn mark_right(marks: &mut [bool], places: &HashMap<Vec<u8>, usize>, right: &Right)
+fn mark_right(marks: &mut [bool], places: &Places, right: &Right)
     ensures { Marks places.now (right_reads right.now) marks.old marks.new }
 {
     match right {
@@ -110,7 +102,7 @@ fn mark_right(marks: &mut [bool], places: &HashMap<Vec<u8>, usize>, right: &Righ
     }
 }
 
-fn mark_ports(marks: &mut [bool], places: &HashMap<Vec<u8>, usize>, ports: &[Port])
+fn mark_ports(marks: &mut [bool], places: &Places, ports: &[Port])
     ensures { Marks places.now (map (λ p. p.name) ports.now) marks.old marks.new }
 {
     for port in ports {
@@ -118,7 +110,7 @@ fn mark_ports(marks: &mut [bool], places: &HashMap<Vec<u8>, usize>, ports: &[Por
     }
 }
 
-fn mark_registers(marks: &mut [bool], places: &HashMap<Vec<u8>, usize>, registers: &[Register])
+fn mark_registers(marks: &mut [bool], places: &Places, registers: &[Register])
     ensures { Marks places.now (register_reads registers.now) marks.old marks.new }
 {
     for register in registers {
@@ -126,7 +118,7 @@ fn mark_registers(marks: &mut [bool], places: &HashMap<Vec<u8>, usize>, register
     }
 }
 
-fn mark_memories(marks: &mut [bool], places: &HashMap<Vec<u8>, usize>, memories: &[Memory])
+fn mark_memories(marks: &mut [bool], places: &Places, memories: &[Memory])
     ensures { Marks places.now (memory_reads memories.now) marks.old marks.new }
 {
     for memory in memories {
@@ -135,7 +127,7 @@ fn mark_memories(marks: &mut [bool], places: &HashMap<Vec<u8>, usize>, memories:
 }
 
 /// Marks the wires that are ports, and those that registers and memories take at the edge.
-fn mark_ends(marks: &mut [bool], places: &HashMap<Vec<u8>, usize>, netlist: &Netlist)
+fn mark_ends(marks: &mut [bool], places: &Places, netlist: &Netlist)
     ensures { Marks places.now (port_names netlist.now ++ edge_reads netlist.now) marks.old marks.new }
 {
     mark_ports(marks, places, netlist.ports());
@@ -144,13 +136,7 @@ fn mark_ends(marks: &mut [bool], places: &HashMap<Vec<u8>, usize>, netlist: &Net
 }
 
 /// Keeps the wire at a place if it is a port or read, and marks then what it reads.
-fn keep_wire(
-    kept: &mut [bool],
-    read: &mut [bool],
-    places: &HashMap<Vec<u8>, usize>,
-    wires: &[Wire],
-    place: usize,
-)
+fn keep_wire(kept: &mut [bool], read: &mut [bool], places: &Places, wires: &[Wire], place: usize)
     requires place { place < length wires.now }
     requires read { length read.old ≡ length wires.now }
     ensures kept { kept.new ≡ slice_set kept.old place (is_marked read.old place) }

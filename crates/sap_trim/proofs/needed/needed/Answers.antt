@@ -1,4 +1,5 @@
-use Rattle.std.proofs.Common.{◌≡◌, ◌∙◌, ◌-◌, [], List, Bool, length, set, sym, ap, subst, arith}
+use Rattle.std.proofs.Common.{◌≡◌, ◌∙◌, ◌-◌, ◌++◌, [], List, Bool, length, set, sym, ap, subst, refl, arith}
+use Rattle.sap_maps.specs.Maps.{Name}
 use Rattle.std.specs.Prelude.{if◌then◌else◌}
 use Rattle.sap_net.specs.Names.{AreDistinct}
 use Rattle.sap_net.specs.declared.parts.Wire.{Wire}
@@ -13,12 +14,13 @@ use Rattle.sap_trim.proofs.needed.needed.Goals as goal
 pub loop-rest-init : goal.loop-rest-init
 loop-rest-init c =
     let n = c.args.netlist.now in
-    let m = c.in_ok-places.places in
     let ws = c.wires-wires.result.now in
+    let m = names_of ws in
+    let same : c.in_ok-places.places ≡ m = c.in_ok-places.ensures {u = tt} in
     let read = c.in_ok-read.read in
     let new = c.mark_ends.new.marks in
     let kept = c.in_ok-kept.kept.items in
-    let first = first_keeping m (port_names n) (edge_reads n) ws c.deref_mut.result.now new kept (c.deref_mut.ensures.value ∙ c.in_ok-read.ensures {u = tt}) c.mark_ends.ensures (c.in_ok-kept.ensures {u = tt}) in
+    let first = first_keeping m (port_names n) (edge_reads n) ws c.deref_mut.result.now new kept (c.deref_mut.ensures.value ∙ c.in_ok-read.ensures {u = tt}) (subst (λ (ns : List Name). Marks ns (port_names n ++ edge_reads n) c.deref_mut.result.now new) same c.mark_ends.ensures) (c.in_ok-kept.ensures {u = tt}) in
     let whole = whole_back new read.items read.len (c.mark_ends.ensures.long ∙ ap (λ (bs : List Bool). length bs) c.deref_mut.ensures.value) read.ok.0 in
     subst (λ (bs : List Bool). Keeping m (port_names n) (edge_reads n) ws (length ws) bs kept) (sym whole) first
 
@@ -35,8 +37,9 @@ keep_wire-requires-clause-read c =
 pub loop-rest-preserved : goal.loop-rest-preserved
 loop-rest-preserved c =
     let n = c.args.netlist.now in
-    let m = c.in_ok-places.places in
     let ws = c.wires-wires.result.now in
+    let m = names_of ws in
+    let same : c.in_ok-places.places ≡ m = c.in_ok-places.ensures {u = tt} in
     let k = c.loop-rest.rest - 1 in
     let kept = c.deref_mut-in-loop-rest.ensures.value in
     let read = c.deref_mut-in-loop-rest-2.ensures.value in
@@ -47,8 +50,9 @@ loop-rest-preserved c =
     let i = c.loop-rest.invariant in
     let new = c.keep_wire.new in
     let next : Keeping m (port_names n) (edge_reads n) ws k new.read new.kept =
-    next_keeping m (port_names n) (edge_reads n) ws c.loop-rest.rest c.loop-rest.read.items c.loop-rest.kept.items new.read new.kept (c.in_ok-places.ensures {u = tt}) distinct c.loop-rest-test.true i after
-    (λ w e. subst (λ (bs : List Bool). Marks m (if is_marked bs k then right_reads w.right else []) bs new.read) read (c.keep_wire.ensures.read w e)) in
+    next_keeping m (port_names n) (edge_reads n) ws c.loop-rest.rest c.loop-rest.read.items c.loop-rest.kept.items new.read new.kept refl distinct c.loop-rest-test.true i after
+    (λ w e. subst (λ (ns : List Name). Marks ns (if is_marked c.loop-rest.read.items k then right_reads w.right else []) c.loop-rest.read.items new.read) same
+    (subst (λ (bs : List Bool). Marks c.in_ok-places.places (if is_marked bs k then right_reads w.right else []) bs new.read) read (c.keep_wire.ensures.read w e))) in
     let whole_read = whole_back new.read c.loop-rest.read.items c.loop-rest.read.len (next.long ∙ sym i.long) c.loop-rest.read.ok.0 in
     let whole_kept = whole_back new.kept c.loop-rest.kept.items c.loop-rest.kept.len (next.kept_long ∙ sym i.kept_long) c.loop-rest.kept.ok.0 in
     subst (λ (bs : List Bool). Keeping m (port_names n) (edge_reads n) ws k bs (written new.kept c.loop-rest.kept.items c.loop-rest.kept.len)) (sym whole_read)
@@ -57,4 +61,4 @@ loop-rest-preserved c =
 pub returns : goal.returns
 returns c =
     let zero = c.loop-rest-test.false in
-    all_kept c.in_ok-places.places c.args.netlist.now c.wires-wires.result.now c.loop-rest.rest c.loop-rest.read.items c.loop-rest.kept.items c.wires-wires.ensures (omega (arith, zero)) c.loop-rest.invariant
+    all_kept (names_of c.wires-wires.result.now) c.args.netlist.now c.wires-wires.result.now c.loop-rest.rest c.loop-rest.read.items c.loop-rest.kept.items c.wires-wires.ensures (omega (arith, zero)) c.loop-rest.invariant
