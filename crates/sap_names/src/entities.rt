@@ -42,7 +42,7 @@ fn numbers(alloc: Global, entities: &[Entity]) -> Result<IndexMap<Vec<u8>, usize
     for (number, entity) in entities.iter().enumerate() {
         let name = &entity.name.name;
         if !map.contains_key(name.as_bytes()) {
-            let key = name.copy(alloc)?.into_bytes();
+            let key = name.as_bytes().to_vec(alloc)?;
             map.insert(key, number)?;
         }
     }

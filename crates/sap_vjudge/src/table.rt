@@ -78,7 +78,7 @@ impl Table {
         ensures entries { OnOk result ((n : List ℕ) → entry_of self.new n ≡ (if bytes_eq name.now n then Some entry else entry_of self.old n)) }
         ensures integer { self.new.integer ≡ self.old.integer }
     {
-        let key = name.copy(alloc)?.into_bytes();
+        let key = name.as_bytes().to_vec(alloc)?;
         self.entries.insert(key, entry)?;
         Ok(())
     }

@@ -18,7 +18,7 @@ use std::alloc::{AllocError, Global};
 fn feed(alloc: Global, fed: &mut IndexSet<Vec<u8>>, to: &Name) -> Result<(), AllocError>
     ensures { OnOk result ((name : List ℕ) → is_fed fed.new.keys name ≡ (is_fed fed.old.keys name || bytes_eq to.now name)) }
 {
-    let key = to.copy(alloc)?.into_bytes();
+    let key = to.as_bytes().to_vec(alloc)?;
     fed.insert(key)?;
     Ok(())
 }

@@ -37,7 +37,7 @@ impl Firsts {
     fn put(&mut self, alloc: Global, name: &Name, number: u64) -> Result<(), AllocError>
         ensures { OnOk result ((n : List ℕ) → number_of self.new n ≡ (if bytes_eq name.now n then Some number else number_of self.old n)) }
     {
-        let key = name.copy(alloc)?.into_bytes();
+        let key = name.as_bytes().to_vec(alloc)?;
         self.entries.insert(key, number)?;
         Ok(())
     }
