@@ -3,3 +3,4 @@ pub mod BestLemmas
 pub mod Runs
 pub mod PlaceLemmas
 pub mod PairsOfDigits
+pub mod ShortTexts

@@ -1,26 +1,94 @@
 //! Names.
 
-ghost use Rattle.std.specs.Prelude.{◌≡◌, true, IfOk, string_bytes};
+ghost use Rattle.std.specs.Prelude.{◌≡◌, ◌≤◌, true, IfOk, IsUtf8, length, string_bytes};
 ghost use Rattle.std.specs.List.{list_all};
 ghost use Rattle.std.specs.Str.{bytes_eq};
 ghost use Rattle.sap_text.specs.Names.{is_inner};
 
 use std::alloc::{AllocError, Global};
-use std::fmt;
 use std::marker::Model;
+use std::{fmt, str};
 
-/// A name, seen as its bytes.
+/// The most bytes of a name that takes no memory of its own.
+const MOST_SHORT: usize = 22;
+
+// A text in the value itself.
 #[derive(Debug, Drop)]
-pub struct Name {
-    text: String,
+struct ShortText {
+    bytes: [u8; MOST_SHORT],
+    len: u8,
 }
 
-impl Model for Name {
-    ghost use Rattle.std.specs.Prelude.{ℕ, List, string_bytes};
+impl Model for ShortText {
+    ghost use Rattle.std.specs.Prelude.{◌≡◌, ◌≤◌, true, ℕ, List, length, take};
+    ghost use Rattle.std.specs.Str.{is_utf8};
 
     ghost Value = { List ℕ };
 
-    ghost view = { λ n. string_bytes n.text };
+    ghost view = { λ t. take t.len t.bytes };
+
+    ghost invariant = { λ t. (t.len ≤ length t.bytes) × (is_utf8 (take t.len t.bytes) ≡ true) };
+}
+
+impl ShortText {
+    fn new(text: &str) -> ShortText
+        requires { length text.now ≤ MOST_SHORT }
+        ensures { result ≡ text.now }
+    {
+        let len = text.len();
+        let mut bytes = [0u8; MOST_SHORT];
+        bytes[..len].copy_from_slice(text.as_bytes());
+        ShortText {
+            bytes,
+            len: len as u8,
+        }
+    }
+
+    fn as_bytes(&self) -> &[u8]
+        ensures value { result.now ≡ self.now }
+        ensures text { IsUtf8 result.now }
+    {
+        &self.bytes[..self.len as usize]
+    }
+
+    fn as_str(&self) -> &str
+        ensures { result.now ≡ self.now }
+    {
+        let Ok(text) = str::from_utf8(self.as_bytes()) else {
+            unreachable!();
+        };
+        text
+    }
+
+    fn copy(&self) -> ShortText
+        ensures { result ≡ self.now }
+    {
+        ShortText {
+            bytes: self.bytes,
+            len: self.len,
+        }
+    }
+}
+
+#[derive(Debug, Drop)]
+enum Text {
+    Short(ShortText),
+    Long(String),
+}
+
+/// A name, seen as its bytes. A short one stands in the value itself.
+#[derive(Debug, Drop)]
+pub struct Name {
+    text: Text,
+}
+
+impl Model for Name {
+    ghost use Rattle.std.specs.Prelude.{ℕ, List};
+    ghost use Rattle.sap_text.specs.NameTexts.{text_bytes};
+
+    ghost Value = { List ℕ };
+
+    ghost view = { λ n. text_bytes n.text };
 }
 
 impl Name {
@@ -28,7 +96,29 @@ impl Name {
     pub fn new(text: String) -> Name
         ensures { result ≡ string_bytes text }
     {
-        Name { text }
+        if text.len() <= MOST_SHORT {
+            return Name {
+                text: Text::Short(ShortText::new(text.as_str())),
+            };
+        }
+        Name {
+            text: Text::Long(text),
+        }
+    }
+
+    // The name of a copy of this text.
+    fn of_copy(alloc: Global, text: &str) -> Result<Name, AllocError>
+        ensures { IfOk result (λ n. n ≡ text.now) }
+    {
+        if text.len() <= MOST_SHORT {
+            return Ok(Name {
+                text: Text::Short(ShortText::new(text)),
+            });
+        }
+        let long = String::from_str(alloc, text)?;
+        Ok(Name {
+            text: Text::Long(long),
+        })
     }
 
     /// The name that these bytes spell, which are letters, digits and `_`.
@@ -36,27 +126,28 @@ impl Name {
         requires { list_all is_inner bytes.now ≡ true }
         ensures { IfOk result (λ n. n ≡ bytes.now) }
     {
-        let text = String::from_utf8_lossy(alloc, bytes)?;
-        Ok(Name { text })
-    }
-
-    /// Gives the bytes back.
-    pub fn into_bytes(self) -> Vec<u8>
-        ensures { result.items ≡ self }
-    {
-        self.text.into_bytes()
+        let Ok(text) = str::from_utf8(bytes) else {
+            unreachable!();
+        };
+        Name::of_copy(alloc, text)
     }
 
     pub fn as_str(&self) -> &str
         ensures { result.now ≡ self.now }
     {
-        self.text.as_str()
+        match &self.text {
+            Text::Short(text) => text.as_str(),
+            Text::Long(text) => text.as_str(),
+        }
     }
 
     pub fn as_bytes(&self) -> &[u8]
         ensures { result.now ≡ self.now }
     {
-        self.text.as_bytes()
+        match &self.text {
+            Text::Short(text) => text.as_bytes(),
+            Text::Long(text) => text.as_bytes(),
+        }
     }
 
     /// Whether both are the same bytes.
@@ -70,8 +161,12 @@ impl Name {
     pub fn copy(&self, alloc: Global) -> Result<Name, AllocError>
         ensures { IfOk result (λ n. n ≡ self.now) }
     {
-        let text = String::from_str(alloc, self.text.as_str())?;
-        Ok(Name { text })
+        match &self.text {
+            Text::Short(text) => Ok(Name {
+                text: Text::Short(text.copy()),
+            }),
+            Text::Long(text) => Name::of_copy(alloc, text.as_str()),
+        }
     }
 }
 
