@@ -1,12 +1,12 @@
--- The wires of a netlist: the names and right sides of helping ones, and the right sides of those that are ports.
-use Rattle.std.specs.Prelude.{◌≡◌, ℕ, true, false, length}
+-- The helping wires of a netlist: their names and right sides.
+use Rattle.std.specs.Prelude.{◌≡◌, ℕ, false, length}
 use Rattle.std.specs.List.{AllByRecursion}
 use Rattle.sap_net.specs.Net.{Net}
 use Rattle.sap_net.specs.IsNetlist.{names_of}
 use Rattle.sap_share.specs.Differing.{AllDiffer}
 use Rattle.sap_share.specs.Names.{helper}
 use Rattle.sap_fold.specs.Settled.{IsSettled, is_copy}
-use Rattle.sap_trim.specs.Names.{numbered, helping_wires, shown_wires, NoneNumbered}
+use Rattle.sap_trim.specs.Names.{numbered, helping_wires, NoneNumbered}
 
 -- No two helping wires have the same width and the same right side.
 abbrev pub SharesWires : Net → Type 0
