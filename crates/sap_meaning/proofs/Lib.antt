@@ -13,4 +13,5 @@ pub mod Sampled
 pub mod FineLemmas
 pub mod ProgramLemmas
 pub mod SitesLemmas
+pub mod WalksLemmas
 pub mod StoreLemmas

@@ -3,6 +3,7 @@ use Rattle.std.specs.Prelude.{◌≡◌, ℕ, zero, suc, ◌<◌, ◌≤◌, Boo
 use Rattle.sap_lattice.specs.Order.{Laws}
 use Rattle.sap_maps.specs.Term.{Term, constant, read, cell, one, two, choose, join, part}
 use Rattle.sap_meaning.specs.Program.{World, Program, entity, is_dynamic, is_input, is_register, is_memory, is_state, authority, children, root, place, last, below, listed, LevelTerm, fixed, of, at_place, both, Step, assign, write, retag, retag_cell, go_to, fall_to_child, Command, lone, try, if_else, try_then, case_of, Arms, last_arm, and_arm, Block, end_block, command_then, State, state_node, Group, no_node, and_node}
+use Rattle.sap_meaning.specs.Walks.{EveryLevel, Every, EveryInArms, EveryInBlock, Asks, some, some_in_arms, some_in_block, some_body, some_body_in}
 use Rattle.sap_meaning.specs.Checks.{Home}
 use Rattle.sap_meaning.specs.Touches.{among, touches, root_touches}
 
@@ -19,10 +20,7 @@ FineTerm w (part a hi lo) = FineTerm w a
 
 -- a written level is one of the lattice
 abbrev pub FineLevel : World → LevelTerm → Type 0
-FineLevel w (fixed n) = n < w.order.count
-FineLevel w (of e) = FineTerm w e
-FineLevel w (at_place e) = FineTerm w e
-FineLevel w (both a b) = FineLevel w a × FineLevel w b
+FineLevel w n = EveryLevel (λ level. level < w.order.count) (FineTerm w) n
 
 -- how many states a group has
 abbrev pub size : Group → ℕ
@@ -39,21 +37,14 @@ FineStep w q g (retag_cell site m j n) = (is_memory w m ≡ true) × (is_dynamic
 FineStep w q g (go_to site target) = among q target ≡ true
 FineStep w q g (fall_to_child site hang) = 0 < size g
 
-abbrev mutual
-  pub FineCommand : World → (siblings children : Group) → Command → Type 0
-  FineCommand w q g (lone k) = FineStep w q g k
-  FineCommand w q g (try k hang h) = FineStep w q g k × FineBlock w q g h
-  FineCommand w q g (if_else hang e a b) = FineTerm w e × FineBlock w q g a × FineBlock w q g b
-  FineCommand w q g (try_then k hang a b) = FineStep w q g k × FineBlock w q g a × FineBlock w q g b
-  FineCommand w q g (case_of hang e arms) = FineTerm w e × FineArms w q g arms
+abbrev pub FineCommand : World → (siblings children : Group) → Command → Type 0
+FineCommand w q g c = Every (Asks (FineStep w q g) (FineTerm w)) c
 
-  pub FineArms : World → (siblings children : Group) → Arms → Type 0
-  FineArms w q g (last_arm b) = FineBlock w q g b
-  FineArms w q g (and_arm constants b arms) = FineBlock w q g b × FineArms w q g arms
+abbrev pub FineArms : World → (siblings children : Group) → Arms → Type 0
+FineArms w q g arms = EveryInArms (Asks (FineStep w q g) (FineTerm w)) arms
 
-  pub FineBlock : World → (siblings children : Group) → Block → Type 0
-  FineBlock w q g end_block = Unit {0}
-  FineBlock w q g (command_then c cs) = FineCommand w q g c × FineBlock w q g cs
+abbrev pub FineBlock : World → (siblings children : Group) → Block → Type 0
+FineBlock w q g b = EveryInBlock (Asks (FineStep w q g) (FineTerm w)) b
 
 -- a goto or a fall
 abbrev pub transfers : Step → Bool
@@ -109,21 +100,14 @@ step_writes (retag_cell site n j t) m = nat_eq m n
 step_writes (go_to site target) m = false
 step_writes (fall_to_child site hang) m = false
 
-abbrev mutual
-  pub writes : Command → ℕ → Bool
-  writes (lone k) m = step_writes k m
-  writes (try k hang h) m = step_writes k m || block_writes h m
-  writes (if_else hang e a b) m = block_writes a m || block_writes b m
-  writes (try_then k hang a b) m = step_writes k m || (block_writes a m || block_writes b m)
-  writes (case_of hang e arms) m = arms_write arms m
+abbrev pub writes : Command → ℕ → Bool
+writes c m = some (λ k. step_writes k m) c
 
-  pub arms_write : Arms → ℕ → Bool
-  arms_write (last_arm b) m = block_writes b m
-  arms_write (and_arm constants b arms) m = block_writes b m || arms_write arms m
+abbrev pub arms_write : Arms → ℕ → Bool
+arms_write arms m = some_in_arms (λ k. step_writes k m) arms
 
-  pub block_writes : Block → ℕ → Bool
-  block_writes end_block m = false
-  block_writes (command_then c cs) m = writes c m || block_writes cs m
+abbrev pub block_writes : Block → ℕ → Bool
+block_writes b m = some_in_block (λ k. step_writes k m) b
 
 -- it writes m, or falls, where m is written by what a fall leads to
 abbrev pub step_reaching : (falls : ℕ → Bool) → Step → ℕ → Bool
@@ -134,21 +118,14 @@ step_reaching falls (retag_cell site n j t) m = nat_eq m n
 step_reaching falls (go_to site target) m = false
 step_reaching falls (fall_to_child site hang) m = falls m
 
-abbrev mutual
-  pub reaching : (falls : ℕ → Bool) → Command → ℕ → Bool
-  reaching falls (lone k) m = step_reaching falls k m
-  reaching falls (try k hang h) m = step_reaching falls k m || block_reaching falls h m
-  reaching falls (if_else hang e a b) m = block_reaching falls a m || block_reaching falls b m
-  reaching falls (try_then k hang a b) m = step_reaching falls k m || (block_reaching falls a m || block_reaching falls b m)
-  reaching falls (case_of hang e arms) m = arms_reaching falls arms m
+abbrev pub reaching : (falls : ℕ → Bool) → Command → ℕ → Bool
+reaching falls c m = some (λ k. step_reaching falls k m) c
 
-  pub arms_reaching : (falls : ℕ → Bool) → Arms → ℕ → Bool
-  arms_reaching falls (last_arm b) m = block_reaching falls b m
-  arms_reaching falls (and_arm constants b arms) m = block_reaching falls b m || arms_reaching falls arms m
+abbrev pub arms_reaching : (falls : ℕ → Bool) → Arms → ℕ → Bool
+arms_reaching falls arms m = some_in_arms (λ k. step_reaching falls k m) arms
 
-  pub block_reaching : (falls : ℕ → Bool) → Block → ℕ → Bool
-  block_reaching falls end_block m = false
-  block_reaching falls (command_then c cs) m = reaching falls c m || block_reaching falls cs m
+abbrev pub block_reaching : (falls : ℕ → Bool) → Block → ℕ → Bool
+block_reaching falls b m = some_in_block (λ k. step_reaching falls k m) b
 
 -- the body of a state writes m, or one that it may fall into does
 abbrev mutual
@@ -216,29 +193,20 @@ step_retags (retag_cell site m j n) x = false
 step_retags (go_to site target) x = false
 step_retags (fall_to_child site hang) x = false
 
-abbrev mutual
-  pub retags : Command → ℕ → Bool
-  retags (lone k) x = step_retags k x
-  retags (try k hang h) x = step_retags k x || block_retags h x
-  retags (if_else hang e a b) x = block_retags a x || block_retags b x
-  retags (try_then k hang a b) x = step_retags k x || (block_retags a x || block_retags b x)
-  retags (case_of hang e arms) x = arms_retag arms x
+abbrev pub retags : Command → ℕ → Bool
+retags c x = some (λ k. step_retags k x) c
 
-  pub arms_retag : Arms → ℕ → Bool
-  arms_retag (last_arm b) x = block_retags b x
-  arms_retag (and_arm constants b arms) x = block_retags b x || arms_retag arms x
+abbrev pub arms_retag : Arms → ℕ → Bool
+arms_retag arms x = some_in_arms (λ k. step_retags k x) arms
 
-  pub block_retags : Block → ℕ → Bool
-  block_retags end_block x = false
-  block_retags (command_then c cs) x = retags c x || block_retags cs x
+abbrev pub block_retags : Block → ℕ → Bool
+block_retags b x = some_in_block (λ k. step_retags k x) b
 
-abbrev mutual
-  pub state_retags : State → ℕ → Bool
-  state_retags (state_node s b g) x = block_retags b x || group_retags g x
+abbrev pub state_retags : State → ℕ → Bool
+state_retags t x = some_body (λ b. block_retags b x) t
 
-  pub group_retags : Group → ℕ → Bool
-  group_retags no_node x = false
-  group_retags (and_node t g) x = state_retags t x || group_retags g x
+abbrev pub group_retags : Group → ℕ → Bool
+group_retags g x = some_body_in (λ b. block_retags b x) g
 
 -- x is a state of the group, or below one
 abbrev pub inside : Group → ℕ → Bool
@@ -293,21 +261,22 @@ ExactStep w at (retag_cell site m j n) = Unit {0}
 ExactStep w at (go_to site target) = Unit {0}
 ExactStep w at (fall_to_child site hang) = ExactList w at hang (lone (fall_to_child site hang))
 
-abbrev mutual
-  pub Exact : World → Home → Command → Type 0
-  Exact w at (lone k) = ExactStep w at k
-  Exact w at (try k hang h) = ExactList w at hang (try k hang h) × ExactBlock w at h
-  Exact w at (if_else hang e a b) = ExactList w at hang (if_else hang e a b) × ExactBlock w at a × ExactBlock w at b
-  Exact w at (try_then k hang a b) = ExactList w at hang (try_then k hang a b) × ExactBlock w at a × ExactBlock w at b
-  Exact w at (case_of hang e arms) = ExactList w at hang (case_of hang e arms) × ExactArms w at arms
+-- what is asked of a command alone
+abbrev pub ExactCommand : World → Home → Command → Type 0
+ExactCommand w at (lone k) = ExactStep w at k
+ExactCommand w at (try k hang h) = ExactList w at hang (try k hang h)
+ExactCommand w at (if_else hang e a b) = ExactList w at hang (if_else hang e a b)
+ExactCommand w at (try_then k hang a b) = ExactList w at hang (try_then k hang a b)
+ExactCommand w at (case_of hang e arms) = ExactList w at hang (case_of hang e arms)
 
-  pub ExactArms : World → Home → Arms → Type 0
-  ExactArms w at (last_arm b) = ExactBlock w at b
-  ExactArms w at (and_arm constants b arms) = ExactBlock w at b × ExactArms w at arms
+abbrev pub Exact : World → Home → Command → Type 0
+Exact w at c = Every (ExactCommand w at) c
 
-  pub ExactBlock : World → Home → Block → Type 0
-  ExactBlock w at end_block = Unit {0}
-  ExactBlock w at (command_then c cs) = Exact w at c × ExactBlock w at cs
+abbrev pub ExactArms : World → Home → Arms → Type 0
+ExactArms w at arms = EveryInArms (ExactCommand w at) arms
+
+abbrev pub ExactBlock : World → Home → Block → Type 0
+ExactBlock w at b = EveryInBlock (ExactCommand w at) b
 
 abbrev mutual
   pub ExactState : World → (parent : ℕ) → State → Type 0

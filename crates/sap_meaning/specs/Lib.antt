@@ -1,4 +1,5 @@
 pub mod Program
+pub mod Walks
 pub mod Store
 pub mod Expressions
 pub mod Checks

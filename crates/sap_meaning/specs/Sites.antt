@@ -1,6 +1,7 @@
 -- The check sites of a program, in the order of the text. One walk finds them; their numbers, and what else is told of them, are maps of its list.
 use Rattle.std.specs.Prelude.{◌≡◌, ℕ, ◌≤◌, zero, suc, Bool, true, false, not, ◌||◌, List, [], ◌∷◌, ◌++◌, ◌⊎◌, map, if◌then◌else◌}
 use Rattle.sap_meaning.specs.Program.{World, Program, is_dynamic, Step, assign, write, retag, retag_cell, go_to, fall_to_child, Command, lone, try, if_else, try_then, case_of, Arms, last_arm, and_arm, Block, end_block, command_then, State, state_node, Group, no_node, and_node}
+use Rattle.sap_meaning.specs.Walks.{gathered, gathered_in_arms, gathered_in_block, gathered_from, gathered_from_group}
 use Rattle.sap_meaning.specs.Store.{Refusal}
 use Rattle.sap_meaning.specs.Checks.{site_of}
 
@@ -27,29 +28,24 @@ pub record PlacedStep : Type 0 where
 abbrev pub step_sites : World → (s : ℕ) → (g : Group) → Step → List PlacedStep
 step_sites w s g k = if is_site w s g k then record { state = s; step = k } ∷ [] else []
 
-abbrev mutual
-  pub command_sites : World → (s : ℕ) → (g : Group) → Command → List PlacedStep
-  command_sites w s g (lone k) = step_sites w s g k
-  command_sites w s g (try k hang h) = step_sites w s g k ++ block_sites w s g h
-  command_sites w s g (if_else hang e a b) = block_sites w s g a ++ block_sites w s g b
-  command_sites w s g (try_then k hang a b) = step_sites w s g k ++ (block_sites w s g a ++ block_sites w s g b)
-  command_sites w s g (case_of hang e arms) = arms_sites w s g arms
+abbrev pub command_sites : World → (s : ℕ) → (g : Group) → Command → List PlacedStep
+command_sites w s g c = gathered [] ◌++◌ (step_sites w s g) c
 
-  pub arms_sites : World → (s : ℕ) → (g : Group) → Arms → List PlacedStep
-  arms_sites w s g (last_arm b) = block_sites w s g b
-  arms_sites w s g (and_arm constants b arms) = block_sites w s g b ++ arms_sites w s g arms
+abbrev pub arms_sites : World → (s : ℕ) → (g : Group) → Arms → List PlacedStep
+arms_sites w s g arms = gathered_in_arms [] ◌++◌ (step_sites w s g) arms
 
-  pub block_sites : World → (s : ℕ) → (g : Group) → Block → List PlacedStep
-  block_sites w s g end_block = []
-  block_sites w s g (command_then c cs) = command_sites w s g c ++ block_sites w s g cs
+abbrev pub block_sites : World → (s : ℕ) → (g : Group) → Block → List PlacedStep
+block_sites w s g b = gathered_in_block [] ◌++◌ (step_sites w s g) b
 
-abbrev mutual
-  pub state_sites : World → State → List PlacedStep
-  state_sites w (state_node s b g) = block_sites w s g b ++ group_sites w g
+-- those in a state's body
+abbrev pub body_sites : World → State → List PlacedStep
+body_sites w (state_node s b g) = block_sites w s g b
 
-  pub group_sites : World → Group → List PlacedStep
-  group_sites w no_node = []
-  group_sites w (and_node t g) = state_sites w t ++ group_sites w g
+abbrev pub state_sites : World → State → List PlacedStep
+state_sites w t = gathered_from [] ◌++◌ (body_sites w) t
+
+abbrev pub group_sites : World → Group → List PlacedStep
+group_sites w g = gathered_from_group [] ◌++◌ (body_sites w) g
 
 abbrev pub placed_sites : Program → List PlacedStep
 placed_sites p = group_sites p.world p.states

@@ -3,6 +3,7 @@ use Rattle.std.specs.Prelude.{◌≡◌, ℕ, ◌<◌, ◌^◌, List}
 use Rattle.std.specs.List.{AllByRecursion}
 use Rattle.sap_maps.specs.Term.{Term, constant, read, cell, one, two, choose, join, part, TermFits}
 use Rattle.sap_meaning.specs.Program.{World, Program, entity, width, depth_of, LevelTerm, fixed, of, at_place, both, Step, assign, write, retag, retag_cell, go_to, fall_to_child, Command, lone, try, if_else, try_then, case_of, Arms, last_arm, and_arm, Block, end_block, command_then, State, state_node, Group, no_node, and_node}
+use Rattle.sap_meaning.specs.Walks.{EveryLevel, EveryBody, EveryBodyIn}
 use Rattle.sap_meaning.specs.Expressions.{width_of}
 
 abbrev pub depth : World → ℕ → ℕ
@@ -27,10 +28,7 @@ abbrev pub SizedTerm : World → Term ℕ → Type 0
 SizedTerm w e = TermFits (width w) e × Indexed w e
 
 abbrev pub SizedLevel : World → LevelTerm → Type 0
-SizedLevel w (fixed n) = Unit {0}
-SizedLevel w (of e) = SizedTerm w e
-SizedLevel w (at_place e) = SizedTerm w e
-SizedLevel w (both a b) = SizedLevel w a × SizedLevel w b
+SizedLevel w n = EveryLevel (λ level. Unit {0}) (SizedTerm w) n
 
 abbrev pub SizedStep : World → Step → Type 0
 SizedStep w (assign site x e) = SizedTerm w e × (width_of w e ≡ width w x)
@@ -61,13 +59,11 @@ abbrev mutual
   SizedBlock w end_block = Unit {0}
   SizedBlock w (command_then c cs) = Sized w c × SizedBlock w cs
 
-abbrev mutual
-  pub SizedState : World → State → Type 0
-  SizedState w (state_node s b g) = SizedBlock w b × SizedGroup w g
+abbrev pub SizedState : World → State → Type 0
+SizedState w t = EveryBody (SizedBlock w) t
 
-  pub SizedGroup : World → Group → Type 0
-  SizedGroup w no_node = Unit {0}
-  SizedGroup w (and_node t g) = SizedState w t × SizedGroup w g
+abbrev pub SizedGroup : World → Group → Type 0
+SizedGroup w g = EveryBodyIn (SizedBlock w) g
 
 pub record SizedProgram (p : Program) : Type 0 where
   pub states : SizedGroup p.world p.states

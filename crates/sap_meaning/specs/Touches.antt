@@ -1,6 +1,7 @@
 -- What a command touches: what hangs on it.
 use Rattle.std.specs.Prelude.{ℕ, Bool, false, ◌||◌, ◌&&◌, nat_eq}
 use Rattle.sap_meaning.specs.Program.{World, is_dynamic, Step, assign, write, retag, retag_cell, go_to, fall_to_child, Command, lone, try, if_else, try_then, case_of, Arms, last_arm, and_arm, Block, end_block, command_then, State, state_node, Group, no_node, and_node}
+use Rattle.sap_meaning.specs.Walks.{some, some_in_arms, some_in_block, some_body, some_body_in}
 use Rattle.sap_meaning.specs.Checks.{Home}
 
 -- a step assigns the register or memory x
@@ -13,30 +14,21 @@ step_assigns (go_to site target) x = false
 step_assigns (fall_to_child site hang) x = false
 
 -- a command, or one inside it, assigns x
-abbrev mutual
-  pub assigns : Command → ℕ → Bool
-  assigns (lone k) x = step_assigns k x
-  assigns (try k hang h) x = step_assigns k x || block_assigns h x
-  assigns (if_else hang e a b) x = block_assigns a x || block_assigns b x
-  assigns (try_then k hang a b) x = step_assigns k x || (block_assigns a x || block_assigns b x)
-  assigns (case_of hang e arms) x = arms_assign arms x
+abbrev pub assigns : Command → ℕ → Bool
+assigns c x = some (λ k. step_assigns k x) c
 
-  pub arms_assign : Arms → ℕ → Bool
-  arms_assign (last_arm b) x = block_assigns b x
-  arms_assign (and_arm constants b arms) x = block_assigns b x || arms_assign arms x
+abbrev pub arms_assign : Arms → ℕ → Bool
+arms_assign arms x = some_in_arms (λ k. step_assigns k x) arms
 
-  pub block_assigns : Block → ℕ → Bool
-  block_assigns end_block x = false
-  block_assigns (command_then c cs) x = assigns c x || block_assigns cs x
+abbrev pub block_assigns : Block → ℕ → Bool
+block_assigns b x = some_in_block (λ k. step_assigns k x) b
 
 -- the body of a state, or of one below it, assigns x
-abbrev mutual
-  pub state_assigns : State → ℕ → Bool
-  state_assigns (state_node s b g) x = block_assigns b x || group_assigns g x
+abbrev pub state_assigns : State → ℕ → Bool
+state_assigns t x = some_body (λ b. block_assigns b x) t
 
-  pub group_assigns : Group → ℕ → Bool
-  group_assigns no_node x = false
-  group_assigns (and_node t g) x = state_assigns t x || group_assigns g x
+abbrev pub group_assigns : Group → ℕ → Bool
+group_assigns g x = some_body_in (λ b. block_assigns b x) g
 
 -- x is one of the states of a group
 abbrev pub among : Group → ℕ → Bool
@@ -53,21 +45,14 @@ step_hangs s g (retag_cell site m j n) x = false
 step_hangs s g (go_to site target) x = nat_eq x s
 step_hangs s g (fall_to_child site hang) x = among g x || group_assigns g x
 
-abbrev mutual
-  pub hangs : ℕ → Group → Command → ℕ → Bool
-  hangs s g (lone k) x = step_hangs s g k x
-  hangs s g (try k hang h) x = step_hangs s g k x || block_hangs s g h x
-  hangs s g (if_else hang e a b) x = block_hangs s g a x || block_hangs s g b x
-  hangs s g (try_then k hang a b) x = step_hangs s g k x || (block_hangs s g a x || block_hangs s g b x)
-  hangs s g (case_of hang e arms) x = arms_hang s g arms x
+abbrev pub hangs : ℕ → Group → Command → ℕ → Bool
+hangs s g c x = some (λ k. step_hangs s g k x) c
 
-  pub arms_hang : ℕ → Group → Arms → ℕ → Bool
-  arms_hang s g (last_arm b) x = block_hangs s g b x
-  arms_hang s g (and_arm constants b arms) x = block_hangs s g b x || arms_hang s g arms x
+abbrev pub arms_hang : ℕ → Group → Arms → ℕ → Bool
+arms_hang s g arms x = some_in_arms (λ k. step_hangs s g k x) arms
 
-  pub block_hangs : ℕ → Group → Block → ℕ → Bool
-  block_hangs s g end_block x = false
-  block_hangs s g (command_then c cs) x = hangs s g c x || block_hangs s g cs x
+abbrev pub block_hangs : ℕ → Group → Block → ℕ → Bool
+block_hangs s g b x = some_in_block (λ k. step_hangs s g k x) b
 
 -- the dynamic entities among them
 abbrev pub touches : World → Home → Command → ℕ → Bool
