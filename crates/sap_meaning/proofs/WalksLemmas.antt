@@ -1,11 +1,11 @@
 -- On what stands in Walks: what several crates cite.
-use Rattle.std.proofs.Common.{◌≡◌, ℕ, Bool, true, false, ◌||◌, List, refl}
+use Rattle.std.proofs.Common.{◌≡◌, ℕ, Bool, true, false, ◌||◌, List, inl, inr, refl, sym, ap, ap₂, ◌∙◌}
 use Rattle.std.proofs.Props.{props}
-use Rattle.std.proofs.lemmas.Bool.{or_from}
-use Rattle.sap_lemmas.proofs.Bools.{either_follows, neither_left, neither_right}
+use Rattle.std.proofs.lemmas.Bool.{or_cases, or_from}
+use Rattle.sap_lemmas.proofs.Bools.{either_follows, neither_left, neither_right, true_is_not_false}
 use Rattle.sap_maps.specs.Term.{Term}
-use Rattle.sap_meaning.specs.Program.{LevelTerm, fixed, of, at_place, both, Step, Command, lone, try, if_else, try_then, case_of, Arms, last_arm, and_arm, Block, end_block, command_then, State, state_node, Group, no_node, and_node}
-use Rattle.sap_meaning.specs.Walks.{EveryLevel, Every, EveryInArms, EveryInBlock, Asks, gathered, gathered_in_arms, gathered_in_block, some, some_in_arms, some_in_block, mapped, mapped_arms, mapped_block, body_of, EveryBody, EveryBodyIn}
+use Rattle.sap_meaning.specs.Program.{LevelTerm, fixed, of, at_place, both, Step, Command, lone, try, if_else, try_then, case_of, Arms, last_arm, and_arm, Block, end_block, command_then}
+use Rattle.sap_meaning.specs.Walks.{EveryLevel, Every, EveryInArms, EveryInBlock, Asks, EveryStep, EveryStepInArms, EveryStepInBlock, gathered, gathered_in_arms, gathered_in_block, some, some_in_arms, some_in_block, mapped, mapped_arms, mapped_block}
 
 -- what is asked of every command is a proposition where it is one of each
 module _ (P : Command → Type 0) (prop : (c : Command) → IsProp (P c)) where
@@ -32,6 +32,30 @@ module _ (P : Step → Type 0) (Q : Term ℕ → Type 0) (step_prop : (k : Step)
   asks_prop (if_else hang e a b) = term_prop e
   asks_prop (try_then k hang a b) = step_prop k
   asks_prop (case_of hang e arms) = term_prop e
+
+module _ (P : Step → Type 0) (prop : (k : Step) → IsProp (P k)) where
+  mutual
+    pub every_step_prop : (c : Command) → IsProp (EveryStep P c)
+    every_step_prop (lone k) = prop k
+    every_step_prop (try k hang h) = hlevel (props, prop k, every_step_prop_in_block h)
+    every_step_prop (if_else hang e a b) = hlevel (props, every_step_prop_in_block a, every_step_prop_in_block b)
+    every_step_prop (try_then k hang a b) = hlevel (props, prop k, every_step_prop_in_block a, every_step_prop_in_block b)
+    every_step_prop (case_of hang e arms) = every_step_prop_in_arms arms
+
+    every_step_prop_in_arms : (arms : Arms) → IsProp (EveryStepInArms P arms)
+    every_step_prop_in_arms (last_arm b) = every_step_prop_in_block b
+    every_step_prop_in_arms (and_arm constants b arms) = hlevel (props, every_step_prop_in_block b, every_step_prop_in_arms arms)
+
+    every_step_prop_in_block : (b : Block) → IsProp (EveryStepInBlock P b)
+    every_step_prop_in_block end_block = hlevel props
+    every_step_prop_in_block (command_then c cs) = hlevel (props, every_step_prop c, every_step_prop_in_block cs)
+
+module _ (P : ℕ → Type 0) (Q : Term ℕ → Type 0) (number_prop : (n : ℕ) → IsProp (P n)) (term_prop : (e : Term ℕ) → IsProp (Q e)) where
+  pub every_level_prop : (n : LevelTerm) → IsProp (EveryLevel P Q n)
+  every_level_prop (fixed n) = number_prop n
+  every_level_prop (of e) = term_prop e
+  every_level_prop (at_place e) = term_prop e
+  every_level_prop (both a b) = hlevel (props, every_level_prop a, every_level_prop b)
 
 -- what is asked of each command follows from what is asked of it there
 module _ (P R : Command → Type 0) (follows : (c : Command) → P c → R c) where
@@ -100,30 +124,109 @@ module _ (P : Step → Type 0) (Q : Term ℕ → Type 0) (p q : Step → Bool) (
     some_follows_in_block (command_then c cs) h =
         either_follows (some p c) (some_in_block p cs) (some q c) (some_in_block q cs) (some_follows c h.0) (some_follows_in_block cs h.1)
 
--- Where no step passes p, p fails at every step.
-module _ (p : Step → Bool) where
-  abbrev pub Fails : Command → Type 0
-  Fails c = Asks (λ k. p k ≡ false) (λ e. Unit {0}) c
+module _ (P : Command → Type 0) (holds : (c : Command) → P c) where
+  mutual
+    pub every_holds : (c : Command) → Every P c
+    every_holds (lone k) = holds (lone k)
+    every_holds (try k hang h) = (holds (try k hang h), every_holds_in_block h)
+    every_holds (if_else hang e a b) = (holds (if_else hang e a b), every_holds_in_block a, every_holds_in_block b)
+    every_holds (try_then k hang a b) = (holds (try_then k hang a b), every_holds_in_block a, every_holds_in_block b)
+    every_holds (case_of hang e arms) = (holds (case_of hang e arms), every_holds_in_arms arms)
+
+    every_holds_in_arms : (arms : Arms) → EveryInArms P arms
+    every_holds_in_arms (last_arm b) = every_holds_in_block b
+    every_holds_in_arms (and_arm constants b arms) = (every_holds_in_block b, every_holds_in_arms arms)
+
+    pub every_holds_in_block : (b : Block) → EveryInBlock P b
+    every_holds_in_block end_block = tt
+    every_holds_in_block (command_then c cs) = (every_holds c, every_holds_in_block cs)
+
+-- what asks nothing
+asks_nothing : (c : Command) → Asks (λ k. Unit {0}) (λ e. Unit {0}) c
+asks_nothing (lone k) = tt
+asks_nothing (try k hang b) = tt
+asks_nothing (if_else hang e a b) = tt
+asks_nothing (try_then k hang a b) = tt
+asks_nothing (case_of hang e arms) = tt
+
+-- a step that passes p passes q, and so it is with commands
+pub passes_follow : (p q : Step → Bool) → ((k : Step) → p k ≡ true → q k ≡ true) → (c : Command) → some p c ≡ true → some q c ≡ true
+passes_follow p q f c h =
+    some_follows (λ k. Unit {0}) (λ e. Unit {0}) p q (λ k u. f k) c (every_holds (Asks (λ k. Unit {0}) (λ e. Unit {0})) asks_nothing c) h
+
+-- Where a step of which P holds, and which passes p, gives C, some step that passes p gives it.
+module _ (P : Step → Type 0) (Q : Term ℕ → Type 0) (p : Step → Bool) (C : Type 0) (gives : (k : Step) → P k → p k ≡ true → C) where
+  either : (a b : Bool) → (a ≡ true → C) → (b ≡ true → C) → (a || b) ≡ true → C
+  either a b f g h = elim (or_cases a b h) [ inl i ↦ f i | inr i ↦ g i ]
 
   mutual
-    pub every_fails : (c : Command) → some p c ≡ false → Every Fails c
+    pub some_gives : (c : Command) → Every (Asks P Q) c → some p c ≡ true → C
+    some_gives (lone k) h = gives k h
+    some_gives (try k hang b) h = either (p k) (some_in_block p b) (gives k h.0) (some_in_block_gives b h.1)
+    some_gives (if_else hang e a b) h = either (some_in_block p a) (some_in_block p b) (some_in_block_gives a h.1) (some_in_block_gives b h.2)
+    some_gives (try_then k hang a b) h =
+        either (p k) (some_in_block p a || some_in_block p b) (gives k h.0)
+        (either (some_in_block p a) (some_in_block p b) (some_in_block_gives a h.1) (some_in_block_gives b h.2))
+    some_gives (case_of hang e arms) h = some_in_arms_gives arms h.1
+
+    some_in_arms_gives : (arms : Arms) → EveryInArms (Asks P Q) arms → some_in_arms p arms ≡ true → C
+    some_in_arms_gives (last_arm b) h = some_in_block_gives b h
+    some_in_arms_gives (and_arm constants b arms) h = either (some_in_block p b) (some_in_arms p arms) (some_in_block_gives b h.0) (some_in_arms_gives arms h.1)
+
+    pub some_in_block_gives : (b : Block) → EveryInBlock (Asks P Q) b → some_in_block p b ≡ true → C
+    some_in_block_gives end_block h = λ e. absurd (true_is_not_false (sym e))
+    some_in_block_gives (command_then c cs) h = either (some p c) (some_in_block p cs) (some_gives c h.0) (some_in_block_gives cs h.1)
+
+-- where no step passes p, p fails at every step
+module _ (p : Step → Bool) where
+  mutual
+    pub every_fails : (c : Command) → some p c ≡ false → EveryStep (λ k. p k ≡ false) c
     every_fails (lone k) h = h
     every_fails (try k hang b) h = (neither_left _ _ h, every_fails_in_block b (neither_right (p k) _ h))
-    every_fails (if_else hang e a b) h = (tt, every_fails_in_block a (neither_left _ _ h), every_fails_in_block b (neither_right (some_in_block p a) _ h))
+    every_fails (if_else hang e a b) h = (every_fails_in_block a (neither_left _ _ h), every_fails_in_block b (neither_right (some_in_block p a) _ h))
     every_fails (try_then k hang a b) h = (
       neither_left _ _ h,
       every_fails_in_block a (neither_left _ _ (neither_right (p k) _ h)),
       every_fails_in_block b (neither_right (some_in_block p a) _ (neither_right (p k) _ h)),
     )
-    every_fails (case_of hang e arms) h = (tt, every_fails_in_arms arms h)
+    every_fails (case_of hang e arms) h = every_fails_in_arms arms h
 
-    every_fails_in_arms : (arms : Arms) → some_in_arms p arms ≡ false → EveryInArms Fails arms
+    every_fails_in_arms : (arms : Arms) → some_in_arms p arms ≡ false → EveryStepInArms (λ k. p k ≡ false) arms
     every_fails_in_arms (last_arm b) h = every_fails_in_block b h
     every_fails_in_arms (and_arm constants b arms) h = (every_fails_in_block b (neither_left _ _ h), every_fails_in_arms arms (neither_right (some_in_block p b) _ h))
 
-    pub every_fails_in_block : (b : Block) → some_in_block p b ≡ false → EveryInBlock Fails b
+    pub every_fails_in_block : (b : Block) → some_in_block p b ≡ false → EveryStepInBlock (λ k. p k ≡ false) b
     every_fails_in_block end_block h = tt
     every_fails_in_block (command_then c cs) h = (every_fails c (neither_left _ _ h), every_fails_in_block cs (neither_right (some p c) _ h))
+
+-- A map of what is gathered is gathered from the maps.
+module _ {A B : Type 0} (none : A) (join : A → A → A) (least : B) (meet : B → B → B) (through : A → B) (at_none : through none ≡ least)
+    (at_join : (a b : A) → through (join a b) ≡ meet (through a) (through b)) (f : Step → A) where
+  abbrev g : Step → B
+  g k = through (f k)
+
+  abbrev of_block : Block → A
+  of_block b = gathered_in_block none join f b
+
+  mutual
+    pub gathered_through : (c : Command) → through (gathered none join f c) ≡ gathered least meet g c
+    gathered_through (lone k) = refl
+    gathered_through (try k hang b) = at_join (f k) (of_block b) ∙ ap (meet (g k)) (gathered_in_block_through b)
+    gathered_through (if_else hang e a b) = at_join (of_block a) (of_block b) ∙ ap₂ meet (gathered_in_block_through a) (gathered_in_block_through b)
+    gathered_through (try_then k hang a b) =
+        at_join (f k) (join (of_block a) (of_block b))
+        ∙ ap (meet (g k)) (at_join (of_block a) (of_block b) ∙ ap₂ meet (gathered_in_block_through a) (gathered_in_block_through b))
+    gathered_through (case_of hang e arms) = gathered_in_arms_through arms
+
+    gathered_in_arms_through : (arms : Arms) → through (gathered_in_arms none join f arms) ≡ gathered_in_arms least meet g arms
+    gathered_in_arms_through (last_arm b) = gathered_in_block_through b
+    gathered_in_arms_through (and_arm constants b arms) =
+        at_join (of_block b) (gathered_in_arms none join f arms) ∙ ap₂ meet (gathered_in_block_through b) (gathered_in_arms_through arms)
+
+    pub gathered_in_block_through : (b : Block) → through (gathered_in_block none join f b) ≡ gathered_in_block least meet g b
+    gathered_in_block_through end_block = at_none
+    gathered_in_block_through (command_then c cs) =
+        at_join (gathered none join f c) (of_block cs) ∙ ap₂ meet (gathered_through c) (gathered_in_block_through cs)
 
 -- With other steps and other lists of what hangs: ..
 module _ (step : Step → Step) (list : Command → List Bool) where
@@ -145,7 +248,25 @@ module _ (step : Step → Step) (list : Command → List Bool) where
       gathered_mapped_block end_block = refl
       gathered_mapped_block (command_then c cs) = λ i. join (gathered_mapped c i) (gathered_mapped_block cs i)
 
-  -- .. what is asked of each command then follows from what was asked of it, ..
+  -- .. what is asked of each step follows from what was asked of it,
+  module _ (P R : Step → Type 0) (follows : (k : Step) → P k → R (step k)) where
+    mutual
+      pub every_step_mapped : (c : Command) → EveryStep P c → EveryStep R (mapped step list c)
+      every_step_mapped (lone k) h = follows k h
+      every_step_mapped (try k hang b) h = (follows k h.0, every_step_mapped_block b h.1)
+      every_step_mapped (if_else hang e a b) h = (every_step_mapped_block a h.0, every_step_mapped_block b h.1)
+      every_step_mapped (try_then k hang a b) h = (follows k h.0, every_step_mapped_block a h.1, every_step_mapped_block b h.2)
+      every_step_mapped (case_of hang e arms) h = every_step_mapped_arms arms h
+
+      every_step_mapped_arms : (arms : Arms) → EveryStepInArms P arms → EveryStepInArms R (mapped_arms step list arms)
+      every_step_mapped_arms (last_arm b) h = every_step_mapped_block b h
+      every_step_mapped_arms (and_arm constants b arms) h = (every_step_mapped_block b h.0, every_step_mapped_arms arms h.1)
+
+      every_step_mapped_block : (b : Block) → EveryStepInBlock P b → EveryStepInBlock R (mapped_block step list b)
+      every_step_mapped_block end_block h = h
+      every_step_mapped_block (command_then c cs) h = (every_step_mapped c h.0, every_step_mapped_block cs h.1)
+
+  -- .. what is asked of each command likewise, ..
   module _ (P R : Command → Type 0) (follows : (c : Command) → P c → R (mapped step list c)) where
     mutual
       pub every_mapped : (c : Command) → Every P c → Every R (mapped step list c)

@@ -2,8 +2,8 @@
 use Rattle.std.specs.Prelude.{◌≡◌, ℕ, zero, suc, ◌<◌, ◌≤◌, Bool, true, false, ◌&&◌, ◌||◌, List, nat_eq}
 use Rattle.sap_lattice.specs.Order.{Laws}
 use Rattle.sap_maps.specs.Term.{Term, constant, read, cell, one, two, choose, join, part}
-use Rattle.sap_meaning.specs.Program.{World, Program, entity, is_dynamic, is_input, is_register, is_memory, is_state, authority, children, root, place, last, below, listed, LevelTerm, fixed, of, at_place, both, Step, assign, write, retag, retag_cell, go_to, fall_to_child, Command, lone, try, if_else, try_then, case_of, Arms, last_arm, and_arm, Block, end_block, command_then, State, state_node, Group, no_node, and_node}
-use Rattle.sap_meaning.specs.Walks.{EveryLevel, Every, EveryInArms, EveryInBlock, Asks, some, some_in_arms, some_in_block, some_body, some_body_in}
+use Rattle.sap_meaning.specs.Program.{World, Program, entity, is_dynamic, is_input, is_register, is_memory, is_state, authority, children, root, place, last, below, listed, LevelTerm, Step, assign, write, retag, retag_cell, go_to, fall_to_child, Command, lone, try, if_else, try_then, case_of, Arms, last_arm, and_arm, Block, end_block, command_then, State, state_node, Group, no_node, and_node}
+use Rattle.sap_meaning.specs.Walks.{EveryLevel, Every, EveryInArms, EveryInBlock, Asks, EveryStep, EveryStepInArms, EveryStepInBlock, some, some_in_arms, some_in_block, some_body, some_body_in}
 use Rattle.sap_meaning.specs.Checks.{Home}
 use Rattle.sap_meaning.specs.Touches.{among, touches, root_touches}
 
@@ -56,21 +56,14 @@ transfers (go_to site target) = true
 transfers (fall_to_child site hang) = true
 
 -- no transfer stands in it
-abbrev mutual
-  pub Open : Command → Type 0
-  Open (lone k) = transfers k ≡ false
-  Open (try k hang h) = (transfers k ≡ false) × OpenBlock h
-  Open (if_else hang e a b) = OpenBlock a × OpenBlock b
-  Open (try_then k hang a b) = (transfers k ≡ false) × OpenBlock a × OpenBlock b
-  Open (case_of hang e arms) = OpenArms arms
+abbrev pub Open : Command → Type 0
+Open c = EveryStep (λ k. transfers k ≡ false) c
 
-  pub OpenArms : Arms → Type 0
-  OpenArms (last_arm b) = OpenBlock b
-  OpenArms (and_arm constants b arms) = OpenBlock b × OpenArms arms
+abbrev pub OpenArms : Arms → Type 0
+OpenArms arms = EveryStepInArms (λ k. transfers k ≡ false) arms
 
-  pub OpenBlock : Block → Type 0
-  OpenBlock end_block = Unit {0}
-  OpenBlock (command_then c cs) = Open c × OpenBlock cs
+abbrev pub OpenBlock : Block → Type 0
+OpenBlock b = EveryStepInBlock (λ k. transfers k ≡ false) b
 
 -- A list closes: its last command is a transfer, whose handler closes, or an `if` whose branches close, or a `then` whose
 -- command is no transfer or a `case`, whose blocks close, and all before it are open.

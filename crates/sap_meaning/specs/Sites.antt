@@ -1,6 +1,6 @@
 -- The check sites of a program, in the order of the text. One walk finds them; their numbers, and what else is told of them, are maps of its list.
 use Rattle.std.specs.Prelude.{◌≡◌, ℕ, ◌≤◌, zero, suc, Bool, true, false, not, ◌||◌, List, [], ◌∷◌, ◌++◌, ◌⊎◌, map, if◌then◌else◌}
-use Rattle.sap_meaning.specs.Program.{World, Program, is_dynamic, Step, assign, write, retag, retag_cell, go_to, fall_to_child, Command, lone, try, if_else, try_then, case_of, Arms, last_arm, and_arm, Block, end_block, command_then, State, state_node, Group, no_node, and_node}
+use Rattle.sap_meaning.specs.Program.{World, Program, is_dynamic, Step, assign, write, retag, retag_cell, go_to, fall_to_child, Command, Arms, Block, State, state_node, Group, no_node, and_node}
 use Rattle.sap_meaning.specs.Walks.{gathered, gathered_in_arms, gathered_in_block, gathered_from, gathered_from_group}
 use Rattle.sap_meaning.specs.Store.{Refusal}
 use Rattle.sap_meaning.specs.Checks.{site_of}

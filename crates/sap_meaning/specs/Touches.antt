@@ -1,6 +1,6 @@
 -- What a command touches: what hangs on it.
 use Rattle.std.specs.Prelude.{ℕ, Bool, false, ◌||◌, ◌&&◌, nat_eq}
-use Rattle.sap_meaning.specs.Program.{World, is_dynamic, Step, assign, write, retag, retag_cell, go_to, fall_to_child, Command, lone, try, if_else, try_then, case_of, Arms, last_arm, and_arm, Block, end_block, command_then, State, state_node, Group, no_node, and_node}
+use Rattle.sap_meaning.specs.Program.{World, is_dynamic, Step, assign, write, retag, retag_cell, go_to, fall_to_child, Command, lone, Arms, Block, State, state_node, Group, no_node, and_node}
 use Rattle.sap_meaning.specs.Walks.{some, some_in_arms, some_in_block, some_body, some_body_in}
 use Rattle.sap_meaning.specs.Checks.{Home}
 
