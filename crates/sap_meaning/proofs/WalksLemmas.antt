@@ -57,23 +57,33 @@ module _ (P : ℕ → Type 0) (Q : Term ℕ → Type 0) (number_prop : (n : ℕ)
   every_level_prop (at_place e) = term_prop e
   every_level_prop (both a b) = hlevel (props, every_level_prop a, every_level_prop b)
 
--- what is asked of each command follows from what is asked of it there
-module _ (P R : Command → Type 0) (follows : (c : Command) → P c → R c) where
+-- What is asked of each command follows from what is asked of it there, and of all that stands in it.
+module _ (P R S : Command → Type 0) (follows : (c : Command) → Every P c → R c → S c) where
   mutual
-    pub every_follows : (c : Command) → Every P c → Every R c
-    every_follows (lone k) h = follows (lone k) h
-    every_follows (try k hang b) h = (follows (try k hang b) h.0, every_follows_in_block b h.1)
-    every_follows (if_else hang e a b) h = (follows (if_else hang e a b) h.0, every_follows_in_block a h.1, every_follows_in_block b h.2)
-    every_follows (try_then k hang a b) h = (follows (try_then k hang a b) h.0, every_follows_in_block a h.1, every_follows_in_block b h.2)
-    every_follows (case_of hang e arms) h = (follows (case_of hang e arms) h.0, every_follows_in_arms arms h.1)
+    pub every_with : (c : Command) → Every P c → Every R c → Every S c
+    every_with (lone k) p r = follows (lone k) p r
+    every_with (try k hang b) p r = (follows (try k hang b) p r.0, every_with_in_block b p.1 r.1)
+    every_with (if_else hang e a b) p r = (follows (if_else hang e a b) p r.0, every_with_in_block a p.1 r.1, every_with_in_block b p.2 r.2)
+    every_with (try_then k hang a b) p r = (follows (try_then k hang a b) p r.0, every_with_in_block a p.1 r.1, every_with_in_block b p.2 r.2)
+    every_with (case_of hang e arms) p r = (follows (case_of hang e arms) p r.0, every_with_in_arms arms p.1 r.1)
 
-    pub every_follows_in_arms : (arms : Arms) → EveryInArms P arms → EveryInArms R arms
-    every_follows_in_arms (last_arm b) h = every_follows_in_block b h
-    every_follows_in_arms (and_arm constants b arms) h = (every_follows_in_block b h.0, every_follows_in_arms arms h.1)
+    pub every_with_in_arms : (arms : Arms) → EveryInArms P arms → EveryInArms R arms → EveryInArms S arms
+    every_with_in_arms (last_arm b) p r = every_with_in_block b p r
+    every_with_in_arms (and_arm constants b arms) p r = (every_with_in_block b p.0 r.0, every_with_in_arms arms p.1 r.1)
 
-    pub every_follows_in_block : (b : Block) → EveryInBlock P b → EveryInBlock R b
-    every_follows_in_block end_block h = h
-    every_follows_in_block (command_then c cs) h = (every_follows c h.0, every_follows_in_block cs h.1)
+    pub every_with_in_block : (b : Block) → EveryInBlock P b → EveryInBlock R b → EveryInBlock S b
+    every_with_in_block end_block p r = tt
+    every_with_in_block (command_then c cs) p r = (every_with c p.0 r.0, every_with_in_block cs p.1 r.1)
+
+module _ (P R : Command → Type 0) (follows : (c : Command) → P c → R c) where
+  pub every_follows : (c : Command) → Every P c → Every R c
+  every_follows c h = every_with P P R (λ d whole own. follows d own) c h h
+
+  pub every_follows_in_arms : (arms : Arms) → EveryInArms P arms → EveryInArms R arms
+  every_follows_in_arms arms h = every_with_in_arms P P R (λ d whole own. follows d own) arms h h
+
+  pub every_follows_in_block : (b : Block) → EveryInBlock P b → EveryInBlock R b
+  every_follows_in_block b h = every_with_in_block P P R (λ d whole own. follows d own) b h h
 
 module _ (P R : Step → Type 0) (Q S : Term ℕ → Type 0) (step_follows : (k : Step) → P k → R k) (term_follows : (e : Term ℕ) → Q e → S e) where
   pub asks_follows : (c : Command) → Asks P Q c → Asks R S c
