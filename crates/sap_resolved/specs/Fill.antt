@@ -1,7 +1,8 @@
 -- What hangs on each command that raises, as a list over the entities' numbers; and the program of a design.
 use Rattle.std.specs.Prelude.{ℕ, zero, suc, Bool, List, [], ◌∷◌, ◌++◌}
 use Rattle.sap_tree.specs.Syntax.{DesignTree}
-use Rattle.sap_meaning.specs.Program.{World, root, Step, assign, write, retag, retag_cell, go_to, fall_to_child, Command, lone, try, if_else, try_then, case_of, Arms, last_arm, and_arm, Block, end_block, command_then, State, state_node, Group, no_node, and_node, Program}
+use Rattle.sap_meaning.specs.Program.{World, root, Step, assign, write, retag, retag_cell, go_to, fall_to_child, Command, lone, Arms, Block, State, state_node, Group, no_node, and_node, Program}
+use Rattle.sap_meaning.specs.Walks.{mapped, mapped_arms, mapped_block}
 use Rattle.sap_meaning.specs.Checks.{Home}
 use Rattle.sap_meaning.specs.Touches.{touches, root_touches}
 use Rattle.sap_lattice.specs.Levels.{Levels}
@@ -21,24 +22,18 @@ filled_step w at (retag_cell site m j n) = retag_cell site m j n
 filled_step w at (go_to site target) = go_to site target
 filled_step w at (fall_to_child site hang) = fall_to_child site (table (root w) (touches w at (lone (fall_to_child site hang))))
 
-abbrev mutual
-  pub filled : World → Home → Command → Command
-  filled w at (lone k) = lone (filled_step w at k)
-  filled w at (try k hang handler) =
-      try (filled_step w at k) (table (root w) (touches w at (try k hang handler))) (filled_block w at handler)
-  filled w at (if_else hang condition a b) =
-      if_else (table (root w) (touches w at (if_else hang condition a b))) condition (filled_block w at a) (filled_block w at b)
-  filled w at (try_then k hang accepted refused) =
-      try_then (filled_step w at k) (table (root w) (touches w at (try_then k hang accepted refused))) (filled_block w at accepted) (filled_block w at refused)
-  filled w at (case_of hang e arms) = case_of (table (root w) (touches w at (case_of hang e arms))) e (filled_arms w at arms)
+-- what hangs on a command in the body of a state
+abbrev pub filled_hang : World → Home → Command → List Bool
+filled_hang w at c = table (root w) (touches w at c)
 
-  pub filled_arms : World → Home → Arms → Arms
-  filled_arms w at (last_arm b) = last_arm (filled_block w at b)
-  filled_arms w at (and_arm constants b arms) = and_arm constants (filled_block w at b) (filled_arms w at arms)
+abbrev pub filled : World → Home → Command → Command
+filled w at c = mapped (filled_step w at) (filled_hang w at) c
 
-  pub filled_block : World → Home → Block → Block
-  filled_block w at end_block = end_block
-  filled_block w at (command_then c cs) = command_then (filled w at c) (filled_block w at cs)
+abbrev pub filled_arms : World → Home → Arms → Arms
+filled_arms w at arms = mapped_arms (filled_step w at) (filled_hang w at) arms
+
+abbrev pub filled_block : World → Home → Block → Block
+filled_block w at b = mapped_block (filled_step w at) (filled_hang w at) b
 
 abbrev mutual
   pub filled_state : World → (parent : ℕ) → State → State

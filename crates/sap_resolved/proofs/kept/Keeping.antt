@@ -267,6 +267,7 @@ module _ (ls : Levels) (le : ℕ → ℕ → Bool) (es : List Entity) (w : World
         → IsState ls es w s (filled_state w p (state_of ls es n x s))
     state_kept p n m x (state_node place name kind body children) laid f =
         let h : Surroundings = record { entities = es; home = record { name = name.name; kind = kind; children = children } } in
+        let at : Home = record { state = x; parent = p; children = group_of ls es (n + length (block_sites h body)) (x + 1) children } in
         let j = none_three (kind_faults ls.names le kind) (block_faults ls.names (what_is es) body) (states_faults ls.names le (what_is es) children) f in
         let e : entity w x ≡ state_entity ls m x kind children = laid_entity ls es w m x place name kind body children laid in
         let i : IsOfKind ls kind (entity w x) = record {
@@ -277,7 +278,7 @@ module _ (ls : Levels) (le : ℕ → ℕ → Bool) (es : List Entity) (w : World
           named_at es x name.name (laid_named ls es w m x place name kind body children laid) (laid_name ls es w m x place name kind body children laid),
           ap (λ (g : program.Entity). kind_is_state g.kind) e,
           kind_kept ls le kind (entity w x) j.0 i,
-          block_kept ls h k w _ n body j.1,
+          block_kept ls h k w at n body j.1,
           group_kept x (n + length (block_sites h body)) 0 (x + 1) children (laid_below ls es w m x place name kind body children laid) j.2,
         )
 

@@ -1,12 +1,15 @@
 -- Filling in what hangs leaves all else of a program as it was.
-use Rattle.std.proofs.Common.{◌≡◌, ℕ, suc, ◌<◌, Bool, ◌||◌, refl, sym, ap, ◌∙◌, subst, nat_eq}
+use Rattle.std.proofs.Common.{◌≡◌, ℕ, suc, ◌<◌, Bool, false, ◌||◌, refl, sym, ap, ◌∙◌, subst, nat_eq}
 use Rattle.sap_lemmas.proofs.Bools.{or_equal}
 use Rattle.sap_meaning.specs.Program.{World, Step, assign, write, retag, retag_cell, go_to, fall_to_child, Command, lone, try, if_else, try_then, case_of, Arms, last_arm, and_arm, Block, end_block, command_then, State, state_node, Group, no_node, and_node}
 use Rattle.sap_meaning.specs.Checks.{Home}
-use Rattle.sap_meaning.specs.Touches.{step_assigns, assigns, arms_assign, block_assigns, state_assigns, group_assigns, among, step_hangs, hangs, arms_hang, block_hangs}
-use Rattle.sap_meaning.specs.Fine.{size, inside, transfers, Open, OpenArms, OpenBlock, Closes, Final, ClosingArms, step_writes, step_reaching, reaching, arms_reaching, block_reaching, state_reaches, group_reaches, OnceStep, Once, OnceArms, OnceBlock, OnceState, OnceGroup, step_retags, retags, arms_retag, block_retags, state_retags, group_retags, FineStep, FineCommand, FineArms, FineBlock, FineNode, FineState, FineGroup, number_of}
-use Rattle.sap_resolved.specs.Fill.{filled_step, filled, filled_arms, filled_block, filled_state, filled_group}
-use Rattle.sap_resolved.specs.WellNamed.{WellNamedStep, WellNamed, WellNamedArms, WellNamedBlock, WellNamedState, WellNamedGroup}
+use Rattle.sap_meaning.specs.Touches.{step_assigns, block_assigns, group_assigns, among, step_hangs, hangs}
+use Rattle.sap_meaning.specs.Fine.{FineTerm, size, inside, transfers, Open, Closes, Final, ClosingArms, step_writes, step_reaching, reaching, block_reaching, state_reaches, group_reaches, OnceStep, Once, OnceArms, OnceBlock, OnceState, OnceGroup, step_retags, block_retags, group_retags, FineStep, FineBlock, FineNode, FineState, FineGroup, number_of}
+use Rattle.sap_resolved.specs.Fill.{filled_step, filled_hang, filled, filled_arms, filled_block, filled_state, filled_group}
+use Rattle.sap_resolved.specs.WellNamed.{WellNamedStep, WellNamedGroup}
+use Rattle.sap_meaning.specs.Walks.{Asks, body_of}
+use Rattle.sap_meaning.proofs.WalksLemmas.{every_step_mapped, every_mapped_block, asks_mapped}
+use Rattle.sap_resolved.proofs.FillLemmas.{every_unfilled_group, gathered_filled, gathered_filled_block, gathered_filled_group}
 
 module _ (w : World) where
   -- numbers of states
@@ -36,21 +39,9 @@ module _ (w : World) where
     transfers_filled (go_to site target) = refl
     transfers_filled (fall_to_child site hang) = refl
 
-    mutual
-      open_filled : (c : Command) → Open c → Open (filled w at c)
-      open_filled (lone k) h = transfers_filled k ∙ h
-      open_filled (try k hang b) h = (transfers_filled k ∙ h.0, open_block_filled b h.1)
-      open_filled (if_else hang e a b) h = (open_block_filled a h.0, open_block_filled b h.1)
-      open_filled (try_then k hang a b) h = (transfers_filled k ∙ h.0, open_block_filled a h.1, open_block_filled b h.2)
-      open_filled (case_of hang e arms) h = open_arms_filled arms h
-
-      open_arms_filled : (arms : Arms) → OpenArms arms → OpenArms (filled_arms w at arms)
-      open_arms_filled (last_arm b) h = open_block_filled b h
-      open_arms_filled (and_arm constants b arms) h = (open_block_filled b h.0, open_arms_filled arms h.1)
-
-      open_block_filled : (b : Block) → OpenBlock b → OpenBlock (filled_block w at b)
-      open_block_filled end_block h = h
-      open_block_filled (command_then c cs) h = (open_filled c h.0, open_block_filled cs h.1)
+    open_filled : (c : Command) → Open c → Open (filled w at c)
+    open_filled c h =
+        every_step_mapped (filled_step w at) (filled_hang w at) (λ k. transfers k ≡ false) (λ k. transfers k ≡ false) (λ k f. transfers_filled k ∙ f) c h
 
     mutual
       final_filled : (c : Command) → Final c → Final (filled w at c)
@@ -77,21 +68,8 @@ module _ (w : World) where
     step_assigns_filled (go_to site target) x = refl
     step_assigns_filled (fall_to_child site hang) x = refl
 
-    mutual
-      assigns_filled : (c : Command) (x : ℕ) → assigns (filled w at c) x ≡ assigns c x
-      assigns_filled (lone k) x = step_assigns_filled k x
-      assigns_filled (try k hang b) x = or_equal _ _ _ _ (step_assigns_filled k x) (block_assigns_filled b x)
-      assigns_filled (if_else hang e a b) x = or_equal _ _ _ _ (block_assigns_filled a x) (block_assigns_filled b x)
-      assigns_filled (try_then k hang a b) x = or_equal _ _ _ _ (step_assigns_filled k x) (or_equal _ _ _ _ (block_assigns_filled a x) (block_assigns_filled b x))
-      assigns_filled (case_of hang e arms) x = arms_assign_filled arms x
-
-      arms_assign_filled : (arms : Arms) (x : ℕ) → arms_assign (filled_arms w at arms) x ≡ arms_assign arms x
-      arms_assign_filled (last_arm b) x = block_assigns_filled b x
-      arms_assign_filled (and_arm constants b arms) x = or_equal _ _ _ _ (block_assigns_filled b x) (arms_assign_filled arms x)
-
-      block_assigns_filled : (b : Block) (x : ℕ) → block_assigns (filled_block w at b) x ≡ block_assigns b x
-      block_assigns_filled end_block x = refl
-      block_assigns_filled (command_then c cs) x = or_equal _ _ _ _ (assigns_filled c x) (block_assigns_filled cs x)
+    block_assigns_filled : (b : Block) (x : ℕ) → block_assigns (filled_block w at b) x ≡ block_assigns b x
+    block_assigns_filled b x = gathered_filled_block w false ◌||◌ (λ k. step_assigns k x) (λ k. step_assigns k x) at (λ k. step_assigns_filled k x) b
 
     step_writes_filled : (k : Step) (x : ℕ) → step_writes (filled_step w at k) x ≡ step_writes k x
     step_writes_filled (assign site y e) x = refl
@@ -109,21 +87,8 @@ module _ (w : World) where
     step_retags_filled (go_to site target) x = refl
     step_retags_filled (fall_to_child site hang) x = refl
 
-    mutual
-      retags_filled : (c : Command) (x : ℕ) → retags (filled w at c) x ≡ retags c x
-      retags_filled (lone k) x = step_retags_filled k x
-      retags_filled (try k hang b) x = or_equal _ _ _ _ (step_retags_filled k x) (block_retags_filled b x)
-      retags_filled (if_else hang e a b) x = or_equal _ _ _ _ (block_retags_filled a x) (block_retags_filled b x)
-      retags_filled (try_then k hang a b) x = or_equal _ _ _ _ (step_retags_filled k x) (or_equal _ _ _ _ (block_retags_filled a x) (block_retags_filled b x))
-      retags_filled (case_of hang e arms) x = arms_retag_filled arms x
-
-      arms_retag_filled : (arms : Arms) (x : ℕ) → arms_retag (filled_arms w at arms) x ≡ arms_retag arms x
-      arms_retag_filled (last_arm b) x = block_retags_filled b x
-      arms_retag_filled (and_arm constants b arms) x = or_equal _ _ _ _ (block_retags_filled b x) (arms_retag_filled arms x)
-
-      block_retags_filled : (b : Block) (x : ℕ) → block_retags (filled_block w at b) x ≡ block_retags b x
-      block_retags_filled end_block x = refl
-      block_retags_filled (command_then c cs) x = or_equal _ _ _ _ (retags_filled c x) (block_retags_filled cs x)
+    block_retags_filled : (b : Block) (x : ℕ) → block_retags (filled_block w at b) x ≡ block_retags b x
+    block_retags_filled b x = gathered_filled_block w false ◌||◌ (λ k. step_retags k x) (λ k. step_retags k x) at (λ k. step_retags_filled k x) b
 
     -- where a fall leads to the same
     module _ (f g : ℕ → Bool) (same : (m : ℕ) → f m ≡ g m) where
@@ -135,22 +100,11 @@ module _ (w : World) where
       step_reaching_filled (go_to site target) m = refl
       step_reaching_filled (fall_to_child site hang) m = same m
 
-      mutual
-        reaching_filled : (c : Command) (m : ℕ) → reaching f (filled w at c) m ≡ reaching g c m
-        reaching_filled (lone k) m = step_reaching_filled k m
-        reaching_filled (try k hang b) m = or_equal _ _ _ _ (step_reaching_filled k m) (block_reaching_filled b m)
-        reaching_filled (if_else hang e a b) m = or_equal _ _ _ _ (block_reaching_filled a m) (block_reaching_filled b m)
-        reaching_filled (try_then k hang a b) m =
-            or_equal _ _ _ _ (step_reaching_filled k m) (or_equal _ _ _ _ (block_reaching_filled a m) (block_reaching_filled b m))
-        reaching_filled (case_of hang e arms) m = arms_reaching_filled arms m
+      reaching_filled : (c : Command) (m : ℕ) → reaching f (filled w at c) m ≡ reaching g c m
+      reaching_filled c m = gathered_filled w false ◌||◌ (λ k. step_reaching f k m) (λ k. step_reaching g k m) at (λ k. step_reaching_filled k m) c
 
-        arms_reaching_filled : (arms : Arms) (m : ℕ) → arms_reaching f (filled_arms w at arms) m ≡ arms_reaching g arms m
-        arms_reaching_filled (last_arm b) m = block_reaching_filled b m
-        arms_reaching_filled (and_arm constants b arms) m = or_equal _ _ _ _ (block_reaching_filled b m) (arms_reaching_filled arms m)
-
-        block_reaching_filled : (b : Block) (m : ℕ) → block_reaching f (filled_block w at b) m ≡ block_reaching g b m
-        block_reaching_filled end_block m = refl
-        block_reaching_filled (command_then c cs) m = or_equal _ _ _ _ (reaching_filled c m) (block_reaching_filled cs m)
+      block_reaching_filled : (b : Block) (m : ℕ) → block_reaching f (filled_block w at b) m ≡ block_reaching g b m
+      block_reaching_filled b m = gathered_filled_block w false ◌||◌ (λ k. step_reaching f k m) (λ k. step_reaching g k m) at (λ k. step_reaching_filled k m) b
 
     -- a child among the same children, siblings and all
     module _ (q j g i : Group) (siblings : (x : ℕ) → among j x ≡ among q x) (children : size i ≡ size g) where
@@ -162,21 +116,10 @@ module _ (w : World) where
       fine_step_filled (go_to site target) h = siblings target ∙ h
       fine_step_filled (fall_to_child site hang) h = subst (λ (n : ℕ). 0 < n) (sym children) h
 
-      mutual
-        fine_filled : (c : Command) → FineCommand w q g c → FineCommand w j i (filled w at c)
-        fine_filled (lone k) h = fine_step_filled k h
-        fine_filled (try k hang b) h = (fine_step_filled k h.0, fine_block_filled b h.1)
-        fine_filled (if_else hang e a b) h = (h.0, fine_block_filled a h.1, fine_block_filled b h.2)
-        fine_filled (try_then k hang a b) h = (fine_step_filled k h.0, fine_block_filled a h.1, fine_block_filled b h.2)
-        fine_filled (case_of hang e arms) h = (h.0, fine_arms_filled arms h.1)
-
-        fine_arms_filled : (arms : Arms) → FineArms w q g arms → FineArms w j i (filled_arms w at arms)
-        fine_arms_filled (last_arm b) h = fine_block_filled b h
-        fine_arms_filled (and_arm constants b arms) h = (fine_block_filled b h.0, fine_arms_filled arms h.1)
-
-        fine_block_filled : (b : Block) → FineBlock w q g b → FineBlock w j i (filled_block w at b)
-        fine_block_filled end_block h = h
-        fine_block_filled (command_then c cs) h = (fine_filled c h.0, fine_block_filled cs h.1)
+      fine_block_filled : (b : Block) → FineBlock w q g b → FineBlock w j i (filled_block w at b)
+      fine_block_filled b h =
+          every_mapped_block (filled_step w at) (filled_hang w at) (Asks (FineStep w q g) (FineTerm w)) (Asks (FineStep w j i) (FineTerm w))
+          (asks_mapped (filled_step w at) (filled_hang w at) (FineStep w q g) (FineStep w j i) (FineTerm w) (FineTerm w) fine_step_filled (λ e t. t)) b h
 
     -- what hangs, where the children are the same and assign the same
     module _ (s : ℕ) (g i : Group) (children : (x : ℕ) → among i x ≡ among g x) (assigned : (x : ℕ) → group_assigns i x ≡ group_assigns g x) where
@@ -188,76 +131,33 @@ module _ (w : World) where
       step_hangs_filled (go_to site target) x = refl
       step_hangs_filled (fall_to_child site hang) x = or_equal _ _ _ _ (children x) (assigned x)
 
-      mutual
-        pub hangs_filled : (c : Command) (x : ℕ) → hangs s i (filled w at c) x ≡ hangs s g c x
-        hangs_filled (lone k) x = step_hangs_filled k x
-        hangs_filled (try k hang b) x = or_equal _ _ _ _ (step_hangs_filled k x) (block_hangs_filled b x)
-        hangs_filled (if_else hang e a b) x = or_equal _ _ _ _ (block_hangs_filled a x) (block_hangs_filled b x)
-        hangs_filled (try_then k hang a b) x = or_equal _ _ _ _ (step_hangs_filled k x) (or_equal _ _ _ _ (block_hangs_filled a x) (block_hangs_filled b x))
-        hangs_filled (case_of hang e arms) x = arms_hang_filled arms x
+      pub hangs_filled : (c : Command) (x : ℕ) → hangs s i (filled w at c) x ≡ hangs s g c x
+      hangs_filled c x = gathered_filled w false ◌||◌ (λ k. step_hangs s i k x) (λ k. step_hangs s g k x) at (λ k. step_hangs_filled k x) c
 
-        arms_hang_filled : (arms : Arms) (x : ℕ) → arms_hang s i (filled_arms w at arms) x ≡ arms_hang s g arms x
-        arms_hang_filled (last_arm b) x = block_hangs_filled b x
-        arms_hang_filled (and_arm constants b arms) x = or_equal _ _ _ _ (block_hangs_filled b x) (arms_hang_filled arms x)
+  -- what is filled is named as before
+  named_step_unfilled : (at : Home) (k : Step) → WellNamedStep w (filled_step w at k) → WellNamedStep w k
+  named_step_unfilled at (assign site x e) h = h
+  named_step_unfilled at (write site m i e) h = h
+  named_step_unfilled at (retag site x n) h = h
+  named_step_unfilled at (retag_cell site m j n) h = h
+  named_step_unfilled at (go_to site target) h = h
+  named_step_unfilled at (fall_to_child site hang) h = h
 
-        block_hangs_filled : (b : Block) (x : ℕ) → block_hangs s i (filled_block w at b) x ≡ block_hangs s g b x
-        block_hangs_filled end_block x = refl
-        block_hangs_filled (command_then c cs) x = or_equal _ _ _ _ (hangs_filled c x) (block_hangs_filled cs x)
+  pub named_group_unfilled : (p : ℕ) (g : Group) → WellNamedGroup w (filled_group w p g) → WellNamedGroup w g
+  named_group_unfilled p g h = every_unfilled_group w (WellNamedStep w) (WellNamedStep w) (FineTerm w) named_step_unfilled p g h
 
-    -- what is filled is named as before
-    named_step_unfilled : (k : Step) → WellNamedStep w (filled_step w at k) → WellNamedStep w k
-    named_step_unfilled (assign site x e) h = h
-    named_step_unfilled (write site m i e) h = h
-    named_step_unfilled (retag site x n) h = h
-    named_step_unfilled (retag_cell site m j n) h = h
-    named_step_unfilled (go_to site target) h = h
-    named_step_unfilled (fall_to_child site hang) h = h
+  -- what the bodies of states do
+  pub group_assigns_filled : (p : ℕ) (g : Group) (x : ℕ) → group_assigns (filled_group w p g) x ≡ group_assigns g x
+  group_assigns_filled p g x = gathered_filled_group w false ◌||◌ (λ t. block_assigns (body_of t) x) (λ t. block_assigns (body_of t) x) (λ q t. body_assigns q t x) p g
+    where
+      body_assigns : (q : ℕ) (t : State) (y : ℕ) → block_assigns (body_of (filled_state w q t)) y ≡ block_assigns (body_of t) y
+      body_assigns q (state_node s b k) y = block_assigns_filled (record { state = s; parent = q; children = k }) b y
 
-    mutual
-      named_unfilled : (c : Command) → WellNamed w (filled w at c) → WellNamed w c
-      named_unfilled (lone k) h = named_step_unfilled k h
-      named_unfilled (try k hang b) h = (named_step_unfilled k h.0, named_block_unfilled b h.1)
-      named_unfilled (if_else hang e a b) h = (h.0, named_block_unfilled a h.1, named_block_unfilled b h.2)
-      named_unfilled (try_then k hang a b) h = (named_step_unfilled k h.0, named_block_unfilled a h.1, named_block_unfilled b h.2)
-      named_unfilled (case_of hang e arms) h = (h.0, named_arms_unfilled arms h.1)
-
-      named_arms_unfilled : (arms : Arms) → WellNamedArms w (filled_arms w at arms) → WellNamedArms w arms
-      named_arms_unfilled (last_arm b) h = named_block_unfilled b h
-      named_arms_unfilled (and_arm constants b arms) h = (named_block_unfilled b h.0, named_arms_unfilled arms h.1)
-
-      named_block_unfilled : (b : Block) → WellNamedBlock w (filled_block w at b) → WellNamedBlock w b
-      named_block_unfilled end_block h = h
-      named_block_unfilled (command_then c cs) h = (named_unfilled c h.0, named_block_unfilled cs h.1)
-
-  mutual
-    named_state_unfilled : (p : ℕ) (t : State) → WellNamedState w (filled_state w p t) → WellNamedState w t
-    named_state_unfilled p (state_node s b g) h = (named_block_unfilled (record { state = s; parent = p; children = g }) b h.0, named_group_unfilled s g h.1)
-
-    pub named_group_unfilled : (p : ℕ) (g : Group) → WellNamedGroup w (filled_group w p g) → WellNamedGroup w g
-    named_group_unfilled p no_node h = h
-    named_group_unfilled p (and_node t g) h = (named_state_unfilled p t h.0, named_group_unfilled p g h.1)
-
-  mutual
-    state_assigns_filled : (p : ℕ) (t : State) (x : ℕ) → state_assigns (filled_state w p t) x ≡ state_assigns t x
-    state_assigns_filled p (state_node s b g) x =
-        let at : Home = record { state = s; parent = p; children = g } in
-        or_equal (block_assigns (filled_block w at b) x) (group_assigns (filled_group w s g) x) (block_assigns b x) (group_assigns g x)
-        (block_assigns_filled at b x) (group_assigns_filled s g x)
-
-    pub group_assigns_filled : (p : ℕ) (g : Group) (x : ℕ) → group_assigns (filled_group w p g) x ≡ group_assigns g x
-    group_assigns_filled p no_node x = refl
-    group_assigns_filled p (and_node t g) x = or_equal _ _ _ _ (state_assigns_filled p t x) (group_assigns_filled p g x)
-
-  mutual
-    state_retags_filled : (p : ℕ) (t : State) (x : ℕ) → state_retags (filled_state w p t) x ≡ state_retags t x
-    state_retags_filled p (state_node s b g) x =
-        let at : Home = record { state = s; parent = p; children = g } in
-        or_equal (block_retags (filled_block w at b) x) (group_retags (filled_group w s g) x) (block_retags b x) (group_retags g x) (block_retags_filled at b x)
-        (group_retags_filled s g x)
-
-    group_retags_filled : (p : ℕ) (g : Group) (x : ℕ) → group_retags (filled_group w p g) x ≡ group_retags g x
-    group_retags_filled p no_node x = refl
-    group_retags_filled p (and_node t g) x = or_equal _ _ _ _ (state_retags_filled p t x) (group_retags_filled p g x)
+  group_retags_filled : (p : ℕ) (g : Group) (x : ℕ) → group_retags (filled_group w p g) x ≡ group_retags g x
+  group_retags_filled p g x = gathered_filled_group w false ◌||◌ (λ t. block_retags (body_of t) x) (λ t. block_retags (body_of t) x) (λ q t. body_retags q t x) p g
+    where
+      body_retags : (q : ℕ) (t : State) (y : ℕ) → block_retags (body_of (filled_state w q t)) y ≡ block_retags (body_of t) y
+      body_retags q (state_node s b k) y = block_retags_filled (record { state = s; parent = q; children = k }) b y
 
   mutual
     state_reaches_filled : (p : ℕ) (t : State) (m : ℕ) → state_reaches (filled_state w p t) m ≡ state_reaches t m

@@ -2,10 +2,13 @@
 use Rattle.std.proofs.Common.{◌≡◌, ℕ, Bool, true, false, not, ◌||◌, List, [], ◌∷◌, ◌++◌, refl, sym, ap, ◌∙◌, if◌then◌else◌}
 use Rattle.std.specs.Prelude.{map}
 use Rattle.std.proofs.lemmas.List.{map-append}
-use Rattle.sap_meaning.specs.Program.{World, is_dynamic, Step, assign, write, retag, retag_cell, go_to, fall_to_child, Command, lone, try, if_else, try_then, case_of, Arms, last_arm, and_arm, Block, end_block, command_then, State, state_node, Group, no_node, and_node}
+use Rattle.sap_meaning.specs.Program.{World, is_dynamic, Step, assign, write, retag, retag_cell, go_to, fall_to_child, Block, State, state_node, Group, no_node, and_node}
+use Rattle.sap_meaning.specs.Walks.{gathered_in_block}
+use Rattle.sap_meaning.proofs.WalksLemmas.{gathered_in_block_through}
 use Rattle.sap_meaning.specs.Checks.{Home, site_of}
-use Rattle.sap_meaning.specs.Sites.{some_enforced, is_site, PlacedStep, step_sites, command_sites, arms_sites, block_sites, state_sites, group_sites, site_numbers}
-use Rattle.sap_resolved.specs.Fill.{filled_step, filled, filled_arms, filled_block, filled_state, filled_group}
+use Rattle.sap_meaning.specs.Sites.{some_enforced, is_site, PlacedStep, step_sites, block_sites, state_sites, group_sites, site_numbers}
+use Rattle.sap_resolved.specs.Fill.{filled_step, filled_block, filled_state, filled_group}
+use Rattle.sap_resolved.proofs.FillLemmas.{gathered_filled_block}
 
 some_filled : (w : World) (p : ℕ) (g : Group) → some_enforced w (filled_group w p g) ≡ some_enforced w g
 some_filled w p no_node = refl
@@ -17,6 +20,10 @@ module _ (w : World) (A : Type 0) (tell : PlacedStep → A)
   both : (a b c d : List PlacedStep) → map tell a ≡ map tell c → map tell b ≡ map tell d → map tell (a ++ b) ≡ map tell (c ++ d)
   both a b c d e f =
       map-append tell a b ∙ ap (λ (u : List A). u ++ map tell b) e ∙ ap (λ (u : List A). map tell c ++ u) f ∙ sym (map-append tell c d)
+
+  told : (f : Step → List PlacedStep) (b : Block)
+      → map tell (gathered_in_block [] ◌++◌ f b) ≡ gathered_in_block (map tell []) ◌++◌ (λ k. map tell (f k)) b
+  told f b = gathered_in_block_through [] ◌++◌ (map tell []) ◌++◌ (map tell) refl (map-append tell) f b
 
   module _ (at : Home) (s : ℕ) (g i : Group) (same : some_enforced w i ≡ some_enforced w g) where
     site_filled : (k : Step) → is_site w s i (filled_step w at k) ≡ is_site w s g k
@@ -38,33 +45,11 @@ module _ (w : World) (A : Type 0) (tell : PlacedStep → A)
         ap (λ (b : Bool). map tell (if b then (let t : PlacedStep = record { state = s; step = filled_step w at k } in t ∷ []) else [])) (site_filled k)
         ∙ one_filled (is_site w s g k) k
 
-    mutual
-      command_sites_filled : (c : Command) → map tell (command_sites w s i (filled w at c)) ≡ map tell (command_sites w s g c)
-      command_sites_filled (lone k) = step_sites_filled k
-      command_sites_filled (try k hang b) =
-          both (step_sites w s i (filled_step w at k)) (block_sites w s i (filled_block w at b)) (step_sites w s g k) (block_sites w s g b)
-          (step_sites_filled k) (block_sites_filled b)
-      command_sites_filled (if_else hang e a b) =
-          both (block_sites w s i (filled_block w at a)) (block_sites w s i (filled_block w at b)) (block_sites w s g a) (block_sites w s g b)
-          (block_sites_filled a) (block_sites_filled b)
-      command_sites_filled (try_then k hang a b) =
-          both (step_sites w s i (filled_step w at k)) (block_sites w s i (filled_block w at a) ++ block_sites w s i (filled_block w at b)) (step_sites w s g k)
-          (block_sites w s g a ++ block_sites w s g b) (step_sites_filled k)
-          (both (block_sites w s i (filled_block w at a)) (block_sites w s i (filled_block w at b)) (block_sites w s g a) (block_sites w s g b)
-          (block_sites_filled a) (block_sites_filled b))
-      command_sites_filled (case_of hang e arms) = arms_sites_filled arms
-
-      arms_sites_filled : (arms : Arms) → map tell (arms_sites w s i (filled_arms w at arms)) ≡ map tell (arms_sites w s g arms)
-      arms_sites_filled (last_arm b) = block_sites_filled b
-      arms_sites_filled (and_arm constants b arms) =
-          both (block_sites w s i (filled_block w at b)) (arms_sites w s i (filled_arms w at arms)) (block_sites w s g b) (arms_sites w s g arms)
-          (block_sites_filled b) (arms_sites_filled arms)
-
-      block_sites_filled : (b : Block) → map tell (block_sites w s i (filled_block w at b)) ≡ map tell (block_sites w s g b)
-      block_sites_filled end_block = refl
-      block_sites_filled (command_then c cs) =
-          both (command_sites w s i (filled w at c)) (block_sites w s i (filled_block w at cs)) (command_sites w s g c) (block_sites w s g cs)
-          (command_sites_filled c) (block_sites_filled cs)
+    block_sites_filled : (b : Block) → map tell (block_sites w s i (filled_block w at b)) ≡ map tell (block_sites w s g b)
+    block_sites_filled b =
+        told (step_sites w s i) (filled_block w at b)
+        ∙ gathered_filled_block w (map tell []) ◌++◌ (λ k. map tell (step_sites w s i k)) (λ k. map tell (step_sites w s g k)) at step_sites_filled b
+        ∙ sym (told (step_sites w s g) b)
 
   mutual
     state_sites_filled : (p : ℕ) (t : State) → map tell (state_sites w (filled_state w p t)) ≡ map tell (state_sites w t)

@@ -14,7 +14,7 @@ use Rattle.sap_lattice.specs.Levels.{Levels, level_named, order_of}
 use Rattle.sap_names.specs.declared.kind.Code.TheVariants.{E9}
 use Rattle.sap_names.specs.Entities as tree
 use Rattle.sap_names.specs.Entities.{entities_of, what_is}
-use Rattle.sap_names.specs.NameFaults.{not_below, level_faults, under_faults, kind_faults, declaration_faults, declarations_faults, state_faults, states_faults}
+use Rattle.sap_names.specs.NameFaults.{not_below, under_faults, kind_faults, declaration_faults, declarations_faults, state_faults, states_faults}
 use Rattle.sap_meaning.specs.Program.{World, Entity, nothing, entity, children, root, kind_is_input}
 use Rattle.sap_resolved.specs.Worlds.{level_number, declared_level, authority_of, is_dynamic_kind, declared, all_declared, states_in, group_length, state_entities, group_entities, group_children, no_children, world_of}
 use Rattle.sap_resolved.proofs.premises.Places.{Part, part_head, group_count, group_kids, Laid}

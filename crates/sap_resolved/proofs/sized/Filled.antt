@@ -3,7 +3,9 @@ use Rattle.std.proofs.Common.{ℕ}
 use Rattle.sap_meaning.specs.Program.{World, Step, assign, write, retag, retag_cell, go_to, fall_to_child, Command, lone, try, if_else, try_then, case_of, Arms, last_arm, and_arm, Block, end_block, command_then, State, state_node, Group, no_node, and_node}
 use Rattle.sap_meaning.specs.Checks.{Home}
 use Rattle.sap_meaning.specs.Sized.{SizedStep, Sized, SizedArms, SizedBlock, SizedState, SizedGroup}
-use Rattle.sap_resolved.specs.WellNamed.{WellNamedStep, WellNamed, WellNamedArms, WellNamedBlock, WellNamedState, WellNamedGroup}
+use Rattle.sap_meaning.specs.Fine.{FineTerm}
+use Rattle.sap_resolved.specs.WellNamed.{WellNamedStep, WellNamedGroup}
+use Rattle.sap_resolved.proofs.FillLemmas.{every_filled_group}
 use Rattle.sap_resolved.specs.Fill.{filled_step, filled, filled_arms, filled_block, filled_state, filled_group}
 
 module _ (w : World) where
@@ -24,22 +26,6 @@ module _ (w : World) where
   step_sized at (fall_to_child site hang) h = h
 
   mutual
-    pub filled_named : (at : Home) (c : Command) → WellNamed w c → WellNamed w (filled w at c)
-    filled_named at (lone k) h = step_named at k h
-    filled_named at (try k hang b) h = (step_named at k h.0, block_named at b h.1)
-    filled_named at (if_else hang e a b) h = (h.0, block_named at a h.1, block_named at b h.2)
-    filled_named at (try_then k hang a b) h = (step_named at k h.0, block_named at a h.1, block_named at b h.2)
-    filled_named at (case_of hang e arms) h = (h.0, arms_named at arms h.1)
-
-    arms_named : (at : Home) (arms : Arms) → WellNamedArms w arms → WellNamedArms w (filled_arms w at arms)
-    arms_named at (last_arm b) h = block_named at b h
-    arms_named at (and_arm constants b arms) h = (block_named at b h.0, arms_named at arms h.1)
-
-    pub block_named : (at : Home) (b : Block) → WellNamedBlock w b → WellNamedBlock w (filled_block w at b)
-    block_named at end_block h = h
-    block_named at (command_then c cs) h = (filled_named at c h.0, block_named at cs h.1)
-
-  mutual
     pub filled_sized : (at : Home) (c : Command) → Sized w c → Sized w (filled w at c)
     filled_sized at (lone k) h = step_sized at k h
     filled_sized at (try k hang b) h = (step_sized at k h.0, block_sized at b h.1)
@@ -55,13 +41,8 @@ module _ (w : World) where
     block_sized at end_block h = h
     block_sized at (command_then c cs) h = (filled_sized at c h.0, block_sized at cs h.1)
 
-  mutual
-    pub state_named : (p : ℕ) (t : State) → WellNamedState w t → WellNamedState w (filled_state w p t)
-    state_named p (state_node s b g) h = (block_named (record { state = s; parent = p; children = g }) b h.0, group_named s g h.1)
-
-    pub group_named : (p : ℕ) (g : Group) → WellNamedGroup w g → WellNamedGroup w (filled_group w p g)
-    group_named p no_node h = h
-    group_named p (and_node t g) h = (state_named p t h.0, group_named p g h.1)
+  pub group_named : (p : ℕ) (g : Group) → WellNamedGroup w g → WellNamedGroup w (filled_group w p g)
+  group_named p g h = every_filled_group w (WellNamedStep w) (WellNamedStep w) (FineTerm w) step_named p g h
 
   mutual
     pub state_sized : (p : ℕ) (t : State) → SizedState w t → SizedState w (filled_state w p t)

@@ -15,9 +15,10 @@ use Rattle.sap_meaning.specs.Program as program
 use Rattle.sap_meaning.specs.Checks.{Home}
 use Rattle.sap_resolved.specs.Worlds.{world_of}
 use Rattle.sap_resolved.specs.Resolve.{states_of}
-use Rattle.sap_resolved.specs.Fill.{filled_step, filled, filled_arms, filled_block, filled_state, filled_group}
+use Rattle.sap_resolved.specs.Fill.{filled_step, filled_group}
 use Rattle.sap_resolved.proofs.Lookup.{Stands, AllMatch, entities_match}
-use Rattle.sap_resolved.specs.Sized.Ranges.{IsWidth, IsDepth, RangedStep, Ranged, RangedArms, RangedBlock, RangedState, RangedGroup}
+use Rattle.sap_resolved.specs.Sized.Ranges.{IsWidth, IsDepth, RangedTerm, RangedStep, RangedGroup}
+use Rattle.sap_resolved.proofs.FillLemmas.{every_filled_group}
 use Rattle.sap_resolved.specs.Sized.Sound.{WidthsInRange}
 use Rattle.sap_resolved.proofs.sized.Faultless.{sound_some, sound_same, sound_is, index_power}
 use Rattle.sap_resolved.proofs.sized.Declared.{Sound, AllSound, entities_sound, resolved}
@@ -33,29 +34,8 @@ module _ (w : World) where
   filled_step_ranged at (go_to site target) h = h
   filled_step_ranged at (fall_to_child site hang) h = h
 
-  mutual
-    filled_ranged : (at : Home) (c : Command) → Ranged w c → Ranged w (filled w at c)
-    filled_ranged at (lone k) h = filled_step_ranged at k h
-    filled_ranged at (try k hang b) h = (filled_step_ranged at k h.0, filled_block_ranged at b h.1)
-    filled_ranged at (if_else hang e a b) h = (h.0, filled_block_ranged at a h.1, filled_block_ranged at b h.2)
-    filled_ranged at (try_then k hang a b) h = (filled_step_ranged at k h.0, filled_block_ranged at a h.1, filled_block_ranged at b h.2)
-    filled_ranged at (case_of hang e arms) h = (h.0, filled_arms_ranged at arms h.1)
-
-    filled_arms_ranged : (at : Home) (arms : Arms) → RangedArms w arms → RangedArms w (filled_arms w at arms)
-    filled_arms_ranged at (last_arm b) h = filled_block_ranged at b h
-    filled_arms_ranged at (and_arm constants b arms) h = (filled_block_ranged at b h.0, filled_arms_ranged at arms h.1)
-
-    filled_block_ranged : (at : Home) (b : Block) → RangedBlock w b → RangedBlock w (filled_block w at b)
-    filled_block_ranged at end_block h = h
-    filled_block_ranged at (command_then c cs) h = (filled_ranged at c h.0, filled_block_ranged at cs h.1)
-
-  mutual
-    filled_state_ranged : (p : ℕ) (t : program.State) → RangedState w t → RangedState w (filled_state w p t)
-    filled_state_ranged p (state_node s b g) h = (filled_block_ranged (record { state = s; parent = p; children = g }) b h.0, filled_group_ranged s g h.1)
-
-    pub filled_group_ranged : (p : ℕ) (g : Group) → RangedGroup w g → RangedGroup w (filled_group w p g)
-    filled_group_ranged p no_node h = h
-    filled_group_ranged p (and_node t g) h = (filled_state_ranged p t h.0, filled_group_ranged p g h.1)
+  pub filled_group_ranged : (p : ℕ) (g : Group) → RangedGroup w g → RangedGroup w (filled_group w p g)
+  filled_group_ranged p g h = every_filled_group w (RangedStep w) (RangedStep w) (RangedTerm w) filled_step_ranged p g h
 
 -- the width and the depth of an entity
 record RangedEntity (g : Entity) : Type 0 where

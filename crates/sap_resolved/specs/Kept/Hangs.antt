@@ -7,7 +7,8 @@ use Rattle.sap_tree.specs.Touches as tree
 use Rattle.sap_lattice.specs.Levels.{Levels}
 use Rattle.sap_names.specs.declared.entity.Entity.{Entity}
 use Rattle.sap_names.specs.Entities.{entities_of}
-use Rattle.sap_meaning.specs.Program.{Step, assign, write, retag, retag_cell, go_to, fall_to_child, Command, lone, try, if_else, try_then, case_of, Arms, last_arm, and_arm, Block, end_block, command_then, State, state_node, Group, no_node, and_node}
+use Rattle.sap_meaning.specs.Program.{Step, assign, write, retag, retag_cell, go_to, fall_to_child, Command, lone, try, if_else, try_then, case_of, Arms, last_arm, and_arm, Block, end_block, command_then, State, Group}
+use Rattle.sap_meaning.specs.Walks.{body_of, gathered_from, gathered_from_group}
 use Rattle.sap_resolved.specs.Fill.{program_of}
 
 -- an `if`, an `otherwise`, a `fall`, a `then` or a `case`, with the names of what hangs on it
@@ -50,13 +51,11 @@ abbrev mutual
   block_points names end_block = []
   block_points names (command_then c cs) = points names c ++ block_points names cs
 
-abbrev mutual
-  pub state_points : List (List ℕ) → State → List Point
-  state_points names (state_node s b g) = block_points names b ++ group_points names g
+abbrev pub state_points : List (List ℕ) → State → List Point
+state_points names t = gathered_from [] ◌++◌ (λ s. block_points names (body_of s)) t
 
-  pub group_points : List (List ℕ) → Group → List Point
-  group_points names no_node = []
-  group_points names (and_node t g) = state_points names t ++ group_points names g
+abbrev pub group_points : List (List ℕ) → Group → List Point
+group_points names g = gathered_from_group [] ◌++◌ (λ s. block_points names (body_of s)) g
 
 abbrev pub names_of : DesignTree → List (List ℕ)
 names_of d = map (λ e. e.name.name) (entities_of d)
@@ -93,13 +92,11 @@ abbrev mutual
   block_rows end_block = []
   block_rows (command_then c cs) = rows c ++ block_rows cs
 
-abbrev mutual
-  pub state_rows : State → List (List Bool)
-  state_rows (state_node s b g) = block_rows b ++ group_rows g
+abbrev pub state_rows : State → List (List Bool)
+state_rows t = gathered_from [] ◌++◌ (λ s. block_rows (body_of s)) t
 
-  pub group_rows : Group → List (List Bool)
-  group_rows no_node = []
-  group_rows (and_node t g) = state_rows t ++ group_rows g
+abbrev pub group_rows : Group → List (List Bool)
+group_rows g = gathered_from_group [] ◌++◌ (λ s. block_rows (body_of s)) g
 
 -- the same over the tree: of each entity, in the order of declaration, whether the command at the point touches its name
 abbrev pub row_of : List Entity → (List ℕ → Bool) → List Bool

@@ -2,7 +2,8 @@
 use Rattle.std.specs.Prelude.{◌≡◌, ℕ, ◌+◌, ◌<◌, ◌≤◌, true, false}
 pub use Rattle.sap_maps.specs.Ranges.{IsDepth, IsWidth}
 use Rattle.sap_maps.specs.Term.{Term, constant, read, cell, one, two, choose, join, part}
-use Rattle.sap_meaning.specs.Program.{World, Program, width, is_memory, is_state, LevelTerm, fixed, of, at_place, both, Step, assign, write, retag, retag_cell, go_to, fall_to_child, Command, lone, try, if_else, try_then, case_of, Arms, last_arm, and_arm, Block, end_block, command_then, State, state_node, Group, no_node, and_node}
+use Rattle.sap_meaning.specs.Program.{World, Program, width, is_memory, is_state, LevelTerm, Step, assign, write, retag, retag_cell, go_to, fall_to_child, Command, Arms, Block, State, Group}
+use Rattle.sap_meaning.specs.Walks.{EveryLevel, Every, EveryInArms, EveryInBlock, Asks, EveryBody, EveryBodyIn}
 use Rattle.sap_meaning.specs.Expressions.{width_of}
 use Rattle.sap_meaning.specs.Sized.{depth}
 
@@ -18,10 +19,7 @@ RangedTerm w (join a b) = IsWidth (width_of w a + width_of w b) × RangedTerm w 
 RangedTerm w (part a hi lo) = (lo ≤ hi) × (hi < width_of w a) × RangedTerm w a
 
 abbrev pub RangedLevel : World → LevelTerm → Type 0
-RangedLevel w (fixed n) = Unit {0}
-RangedLevel w (of e) = RangedTerm w e
-RangedLevel w (at_place e) = RangedTerm w e
-RangedLevel w (both a b) = RangedLevel w a × RangedLevel w b
+RangedLevel w n = EveryLevel (λ level. Unit {0}) (RangedTerm w) n
 
 abbrev pub RangedStep : World → Step → Type 0
 RangedStep w (assign site x e) = RangedTerm w e
@@ -31,29 +29,20 @@ RangedStep w (retag_cell site m j n) = RangedTerm w j × RangedLevel w n
 RangedStep w (go_to site target) = Unit {0}
 RangedStep w (fall_to_child site hang) = Unit {0}
 
-abbrev mutual
-  pub Ranged : World → Command → Type 0
-  Ranged w (lone k) = RangedStep w k
-  Ranged w (try k hang h) = RangedStep w k × RangedBlock w h
-  Ranged w (if_else hang e a b) = RangedTerm w e × RangedBlock w a × RangedBlock w b
-  Ranged w (try_then k hang a b) = RangedStep w k × RangedBlock w a × RangedBlock w b
-  Ranged w (case_of hang e arms) = RangedTerm w e × RangedArms w arms
+abbrev pub Ranged : World → Command → Type 0
+Ranged w c = Every (Asks (RangedStep w) (RangedTerm w)) c
 
-  pub RangedArms : World → Arms → Type 0
-  RangedArms w (last_arm b) = RangedBlock w b
-  RangedArms w (and_arm constants b arms) = RangedBlock w b × RangedArms w arms
+abbrev pub RangedArms : World → Arms → Type 0
+RangedArms w arms = EveryInArms (Asks (RangedStep w) (RangedTerm w)) arms
 
-  pub RangedBlock : World → Block → Type 0
-  RangedBlock w end_block = Unit {0}
-  RangedBlock w (command_then c cs) = Ranged w c × RangedBlock w cs
+abbrev pub RangedBlock : World → Block → Type 0
+RangedBlock w b = EveryInBlock (Asks (RangedStep w) (RangedTerm w)) b
 
-abbrev mutual
-  pub RangedState : World → State → Type 0
-  RangedState w (state_node s b g) = RangedBlock w b × RangedGroup w g
+abbrev pub RangedState : World → State → Type 0
+RangedState w t = EveryBody (RangedBlock w) t
 
-  pub RangedGroup : World → Group → Type 0
-  RangedGroup w no_node = Unit {0}
-  RangedGroup w (and_node t g) = RangedState w t × RangedGroup w g
+abbrev pub RangedGroup : World → Group → Type 0
+RangedGroup w g = EveryBodyIn (RangedBlock w) g
 
 -- states have no width
 pub record RangedProgram (p : Program) : Type 0 where
