@@ -1,13 +1,14 @@
 -- What registers, memories and states have apart.
 use Rattle.std.proofs.Common.{◌≡◌, ℕ, suc, Bool, true, false, ◌||◌, refl, sym, ◌∙◌, nat_eq, inl, inr}
-use Rattle.sap_lemmas.proofs.Bools.{and_left, either_follows}
+use Rattle.sap_lemmas.proofs.Bools.{and_left}
 use Rattle.std.proofs.lemmas.Bool.{eqb-true, false_from_ne_true, ne_eqb, or_cases, or_from, or_left, or_right}
 use Rattle.sap_meaning.proofs.ProgramLemmas.{memory_no_state, register_no_memory, register_no_state}
 use Rattle.sap_meaning.proofs.FineLemmas.{inside_among}
 use Rattle.sap_meaning.specs.Program.{World, is_dynamic, entity, is_register, is_memory, is_state, Step, assign, write, retag, retag_cell, go_to, fall_to_child, Command, lone, try, if_else, try_then, case_of, Arms, last_arm, and_arm, Block, end_block, command_then, State, state_node, Group, no_node, and_node}
 use Rattle.sap_meaning.specs.Touches.{among, step_assigns, assigns, arms_assign, block_assigns, state_assigns, group_assigns, step_hangs, hangs, arms_hang, block_hangs}
-use Rattle.sap_meaning.specs.Fine.{FineStep, FineCommand, FineArms, FineBlock, FineState, FineGroup, inside, step_writes, writes, arms_write, block_writes, step_reaches, reaches, arms_reaching, block_reaches, group_reaches}
-use Rattle.sap_secure.proofs.Concerns.{parted_of, group_parted, step_concerns, concerns, arms_concern, block_concerns}
+use Rattle.sap_meaning.specs.Fine.{FineTerm, FineStep, FineCommand, FineBlock, FineState, FineGroup, inside, step_writes, writes, step_reaches, reaches, block_reaches}
+use Rattle.sap_meaning.proofs.WalksLemmas.{none_passes, none_passes_in_block, some_follows, some_follows_in_block, passes_follow}
+use Rattle.sap_secure.proofs.Concerns.{parted_of, group_parted, step_concerns, concerns, block_concerns}
 
 module _ (w : World) where
   pub register_apart : (x y : ℕ) → is_state w x ≡ true → is_register w y ≡ true → nat_eq x y ≡ false
@@ -38,21 +39,11 @@ module _ (w : World) where
     step_unassigned q j (go_to site target) fine = refl
     step_unassigned q j (fall_to_child site hang) fine = refl
 
-    mutual
-      pub unassigned : (q j : Group) (c : Command) → FineCommand w q j c → assigns c x ≡ false
-      unassigned q j (lone k) fine = step_unassigned q j k fine
-      unassigned q j (try k hang h) fine = or_from _ _ (step_unassigned q j k fine.0) (block_unassigned q j h fine.1)
-      unassigned q j (if_else hang e a b) fine = or_from _ _ (block_unassigned q j a fine.1) (block_unassigned q j b fine.2)
-      unassigned q j (try_then k hang a b) fine = or_from _ _ (step_unassigned q j k fine.0) (or_from _ _ (block_unassigned q j a fine.1) (block_unassigned q j b fine.2))
-      unassigned q j (case_of hang e arms) fine = arms_unassigned q j arms fine.1
+    pub unassigned : (q j : Group) (c : Command) → FineCommand w q j c → assigns c x ≡ false
+    unassigned q j c fine = none_passes (FineStep w q j) (FineTerm w) (λ k. step_assigns k x) (step_unassigned q j) c fine
 
-      arms_unassigned : (q j : Group) (arms : Arms) → FineArms w q j arms → arms_assign arms x ≡ false
-      arms_unassigned q j (last_arm b) fine = block_unassigned q j b fine
-      arms_unassigned q j (and_arm constants b arms) fine = or_from _ _ (block_unassigned q j b fine.0) (arms_unassigned q j arms fine.1)
-
-      pub block_unassigned : (q j : Group) (b : Block) → FineBlock w q j b → block_assigns b x ≡ false
-      block_unassigned q j end_block fine = refl
-      block_unassigned q j (command_then c cs) fine = or_from _ _ (unassigned q j c fine.0) (block_unassigned q j cs fine.1)
+    pub block_unassigned : (q j : Group) (b : Block) → FineBlock w q j b → block_assigns b x ≡ false
+    block_unassigned q j b fine = none_passes_in_block (FineStep w q j) (FineTerm w) (λ k. step_assigns k x) (step_unassigned q j) b fine
 
     mutual
       pub state_unassigned : (q : Group) (n : ℕ) (t : State) → FineState w q n t → state_assigns t x ≡ false
@@ -72,24 +63,11 @@ module _ (w : World) where
     step_hung q j (go_to site target) fine h = cc
     step_hung q j (fall_to_child site hang) fine h = sym (group_parted w m (parted_of w m mem d) g) ∙ rw kids at h
 
-    mutual
-      pub hung : (q j : Group) (c : Command) → FineCommand w q j c → concerns w e g c m ≡ true → reaches g c m ≡ true
-      hung q j (lone k) fine h = step_hung q j k fine h
-      hung q j (try k hang b) fine h = either_follows (step_concerns w e g k m) (block_concerns w e g b m) (step_reaches g k m) (block_reaches g b m) (step_hung q j k fine.0) (block_hung q j b fine.1) h
-      hung q j (if_else hang t a b) fine h = either_follows (block_concerns w e g a m) (block_concerns w e g b m) (block_reaches g a m) (block_reaches g b m) (block_hung q j a fine.1) (block_hung q j b fine.2) h
-      hung q j (try_then k hang a b) fine h =
-          either_follows (step_concerns w e g k m) (block_concerns w e g a m || block_concerns w e g b m) (step_reaches g k m) (block_reaches g a m || block_reaches g b m) (step_hung q j k fine.0)
-          (either_follows (block_concerns w e g a m) (block_concerns w e g b m) (block_reaches g a m) (block_reaches g b m) (block_hung q j a fine.1) (block_hung q j b fine.2)) h
-      hung q j (case_of hang t arms) fine h = arms_hung q j arms fine.1 h
+    pub hung : (q j : Group) (c : Command) → FineCommand w q j c → concerns w e g c m ≡ true → reaches g c m ≡ true
+    hung q j c fine h = some_follows (FineStep w q j) (FineTerm w) (λ k. step_concerns w e g k m) (λ k. step_reaches g k m) (step_hung q j) c fine h
 
-      arms_hung : (q j : Group) (arms : Arms) → FineArms w q j arms → arms_concern w e g arms m ≡ true → arms_reaching (group_reaches g) arms m ≡ true
-      arms_hung q j (last_arm b) fine h = block_hung q j b fine h
-      arms_hung q j (and_arm constants b arms) fine h =
-          either_follows (block_concerns w e g b m) (arms_concern w e g arms m) (block_reaches g b m) (arms_reaching (group_reaches g) arms m) (block_hung q j b fine.0) (arms_hung q j arms fine.1) h
-
-      pub block_hung : (q j : Group) (b : Block) → FineBlock w q j b → block_concerns w e g b m ≡ true → block_reaches g b m ≡ true
-      block_hung q j end_block fine h = h
-      block_hung q j (command_then c cs) fine h = either_follows (concerns w e g c m) (block_concerns w e g cs m) (reaches g c m) (block_reaches g cs m) (hung q j c fine.0) (block_hung q j cs fine.1) h
+    pub block_hung : (q j : Group) (b : Block) → FineBlock w q j b → block_concerns w e g b m ≡ true → block_reaches g b m ≡ true
+    block_hung q j b fine h = some_follows_in_block (FineStep w q j) (FineTerm w) (λ k. step_concerns w e g k m) (λ k. step_reaches g k m) (step_hung q j) b fine h
 
   -- a state that is neither the body's own nor a child hangs on nothing
   module _ (x : ℕ) (s : is_state w x ≡ true) (e : ℕ) (g : Group) (own : nat_eq x e ≡ false) (kids : among g x ≡ false) (free : group_assigns g x ≡ false) where
@@ -101,21 +79,11 @@ module _ (w : World) where
     step_unhung q (go_to site target) fine = own
     step_unhung q (fall_to_child site hang) fine = or_from _ _ kids free
 
-    mutual
-      pub unhung : (q : Group) (c : Command) → FineCommand w q g c → hangs e g c x ≡ false
-      unhung q (lone k) fine = step_unhung q k fine
-      unhung q (try k hang h) fine = or_from _ _ (step_unhung q k fine.0) (block_unhung q h fine.1)
-      unhung q (if_else hang t a b) fine = or_from _ _ (block_unhung q a fine.1) (block_unhung q b fine.2)
-      unhung q (try_then k hang a b) fine = or_from _ _ (step_unhung q k fine.0) (or_from _ _ (block_unhung q a fine.1) (block_unhung q b fine.2))
-      unhung q (case_of hang t arms) fine = arms_unhung q arms fine.1
+    pub unhung : (q : Group) (c : Command) → FineCommand w q g c → hangs e g c x ≡ false
+    unhung q c fine = none_passes (FineStep w q g) (FineTerm w) (λ k. step_hangs e g k x) (step_unhung q) c fine
 
-      arms_unhung : (q : Group) (arms : Arms) → FineArms w q g arms → arms_hang e g arms x ≡ false
-      arms_unhung q (last_arm b) fine = block_unhung q b fine
-      arms_unhung q (and_arm constants b arms) fine = or_from _ _ (block_unhung q b fine.0) (arms_unhung q arms fine.1)
-
-      pub block_unhung : (q : Group) (b : Block) → FineBlock w q g b → block_hangs e g b x ≡ false
-      block_unhung q end_block fine = refl
-      block_unhung q (command_then c cs) fine = or_from _ _ (unhung q c fine.0) (block_unhung q cs fine.1)
+    pub block_unhung : (q : Group) (b : Block) → FineBlock w q g b → block_hangs e g b x ≡ false
+    block_unhung q b fine = none_passes_in_block (FineStep w q g) (FineTerm w) (λ k. step_hangs e g k x) (step_unhung q) b fine
 
   -- what writes, reaches
   module _ (g : Group) (m : ℕ) where
@@ -127,24 +95,8 @@ module _ (w : World) where
     step_within (go_to site target) h = cc
     step_within (fall_to_child site hang) h = cc
 
-    mutual
-      pub writes_within : (c : Command) → writes c m ≡ true → reaches g c m ≡ true
-      writes_within (lone k) h = step_within k h
-      writes_within (try k hang b) h = either_follows (step_writes k m) (block_writes b m) (step_reaches g k m) (block_reaches g b m) (step_within k) (block_within b) h
-      writes_within (if_else hang e a b) h = either_follows (block_writes a m) (block_writes b m) (block_reaches g a m) (block_reaches g b m) (block_within a) (block_within b) h
-      writes_within (try_then k hang a b) h =
-          either_follows (step_writes k m) (block_writes a m || block_writes b m) (step_reaches g k m) (block_reaches g a m || block_reaches g b m) (step_within k)
-          (either_follows (block_writes a m) (block_writes b m) (block_reaches g a m) (block_reaches g b m) (block_within a) (block_within b)) h
-      writes_within (case_of hang e arms) h = arms_within arms h
-
-      arms_within : (arms : Arms) → arms_write arms m ≡ true → arms_reaching (group_reaches g) arms m ≡ true
-      arms_within (last_arm b) h = block_within b h
-      arms_within (and_arm constants b arms) h =
-          either_follows (block_writes b m) (arms_write arms m) (block_reaches g b m) (arms_reaching (group_reaches g) arms m) (block_within b) (arms_within arms) h
-
-      block_within : (b : Block) → block_writes b m ≡ true → block_reaches g b m ≡ true
-      block_within end_block h = h
-      block_within (command_then c cs) h = either_follows (writes c m) (block_writes cs m) (reaches g c m) (block_reaches g cs m) (writes_within c) (block_within cs) h
+    pub writes_within : (c : Command) → writes c m ≡ true → reaches g c m ≡ true
+    writes_within c h = passes_follow (λ k. step_writes k m) (λ k. step_reaches g k m) step_within c h
 
 -- a register or memory that hangs on a block is assigned in it or in a body below
 module _ (e : ℕ) (g : Group) (x : ℕ) (own : nat_eq x e ≡ false) (kids : among g x ≡ false) where

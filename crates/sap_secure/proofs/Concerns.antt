@@ -2,8 +2,9 @@
 use Rattle.std.proofs.Common.{◌≡◌, ℕ, Bool, true, false, not, ◌&&◌, ◌||◌, refl, sym, ap, ◌∙◌, nat_eq, if◌then◌else◌}
 use Rattle.sap_lemmas.proofs.Bools.{or_equal}
 use Rattle.std.proofs.lemmas.Bool.{and_from}
-use Rattle.sap_meaning.specs.Program.{World, is_dynamic, is_memory, Step, assign, write, retag, retag_cell, go_to, fall_to_child, Command, lone, try, if_else, try_then, case_of, Arms, last_arm, and_arm, Block, end_block, command_then, State, state_node, Group, no_node, and_node}
-use Rattle.sap_meaning.specs.Touches.{among, block_assigns, state_assigns, group_assigns, step_hangs, hangs, block_hangs, arms_hang}
+use Rattle.sap_meaning.specs.Program.{World, is_dynamic, is_memory, Step, assign, write, retag, retag_cell, go_to, fall_to_child, Command, Arms, Block, State, state_node, Group, no_node, and_node}
+use Rattle.sap_meaning.specs.Walks.{some, some_in_arms, some_in_block}
+use Rattle.sap_meaning.specs.Touches.{among, block_assigns, state_assigns, group_assigns, step_hangs, hangs, block_hangs}
 use Rattle.sap_meaning.specs.Fine.{block_reaches, state_reaches, group_reaches}
 
 -- an enforced memory
@@ -25,21 +26,14 @@ step_concerns w s g (retag_cell site m j n) x = false
 step_concerns w s g (go_to site target) x = nat_eq x s
 step_concerns w s g (fall_to_child site hang) x = among g x || group_concerns w g x
 
-abbrev mutual
-  pub concerns : World → ℕ → Group → Command → ℕ → Bool
-  concerns w s g (lone k) x = step_concerns w s g k x
-  concerns w s g (try k hang h) x = step_concerns w s g k x || block_concerns w s g h x
-  concerns w s g (if_else hang e a b) x = block_concerns w s g a x || block_concerns w s g b x
-  concerns w s g (try_then k hang a b) x = step_concerns w s g k x || (block_concerns w s g a x || block_concerns w s g b x)
-  concerns w s g (case_of hang e arms) x = arms_concern w s g arms x
+abbrev pub concerns : World → ℕ → Group → Command → ℕ → Bool
+concerns w s g c x = some (λ k. step_concerns w s g k x) c
 
-  pub arms_concern : World → ℕ → Group → Arms → ℕ → Bool
-  arms_concern w s g (last_arm b) x = block_concerns w s g b x
-  arms_concern w s g (and_arm constants b arms) x = block_concerns w s g b x || arms_concern w s g arms x
+abbrev pub arms_concern : World → ℕ → Group → Arms → ℕ → Bool
+arms_concern w s g arms x = some_in_arms (λ k. step_concerns w s g k x) arms
 
-  pub block_concerns : World → ℕ → Group → Block → ℕ → Bool
-  block_concerns w s g end_block x = false
-  block_concerns w s g (command_then c cs) x = concerns w s g c x || block_concerns w s g cs x
+abbrev pub block_concerns : World → ℕ → Group → Block → ℕ → Bool
+block_concerns w s g b x = some_in_block (λ k. step_concerns w s g k x) b
 
 module _ (w : World) (x : ℕ) where
   pub parted_of : is_memory w x ≡ true → is_dynamic w x ≡ false → parted w x ≡ true
@@ -73,24 +67,11 @@ module _ (w : World) (x : ℕ) where
     step_whole s g (go_to site target) = refl
     step_whole s g (fall_to_child site hang) = ap (λ (r : Bool). among g x || r) (group_whole g)
 
-    mutual
-      pub whole : (s : ℕ) (g : Group) (c : Command) → concerns w s g c x ≡ hangs s g c x
-      whole s g (lone k) = step_whole s g k
-      whole s g (try k hang h) = or_equal (step_concerns w s g k x) (block_concerns w s g h x) (step_hangs s g k x) (block_hangs s g h x) (step_whole s g k) (block_whole s g h)
-      whole s g (if_else hang e a b) = or_equal (block_concerns w s g a x) (block_concerns w s g b x) (block_hangs s g a x) (block_hangs s g b x) (block_whole s g a) (block_whole s g b)
-      whole s g (try_then k hang a b) =
-          or_equal (step_concerns w s g k x) (block_concerns w s g a x || block_concerns w s g b x) (step_hangs s g k x) (block_hangs s g a x || block_hangs s g b x) (step_whole s g k)
-          (or_equal (block_concerns w s g a x) (block_concerns w s g b x) (block_hangs s g a x) (block_hangs s g b x) (block_whole s g a) (block_whole s g b))
-      whole s g (case_of hang e arms) = arms_whole s g arms
+    pub whole : (s : ℕ) (g : Group) (c : Command) → concerns w s g c x ≡ hangs s g c x
+    whole s g c = ap (λ (p : Step → Bool). some p c) (λ i k. step_whole s g k i)
 
-      arms_whole : (s : ℕ) (g : Group) (arms : Arms) → arms_concern w s g arms x ≡ arms_hang s g arms x
-      arms_whole s g (last_arm b) = block_whole s g b
-      arms_whole s g (and_arm constants b arms) =
-          or_equal (block_concerns w s g b x) (arms_concern w s g arms x) (block_hangs s g b x) (arms_hang s g arms x) (block_whole s g b) (arms_whole s g arms)
-
-      pub block_whole : (s : ℕ) (g : Group) (b : Block) → block_concerns w s g b x ≡ block_hangs s g b x
-      block_whole s g end_block = refl
-      block_whole s g (command_then c cs) = or_equal (concerns w s g c x) (block_concerns w s g cs x) (hangs s g c x) (block_hangs s g cs x) (whole s g c) (block_whole s g cs)
+    pub block_whole : (s : ℕ) (g : Group) (b : Block) → block_concerns w s g b x ≡ block_hangs s g b x
+    block_whole s g b = ap (λ (p : Step → Bool). some_in_block p b) (λ i k. step_whole s g k i)
 
 with_both : (a b c : Bool) → (a ≡ true → b ≡ c) → (a && b) ≡ true → (a && c) ≡ true
 with_both true b c f h = sym (f refl) ∙ h

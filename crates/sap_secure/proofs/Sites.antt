@@ -4,6 +4,8 @@ use Rattle.std.proofs.lemmas.Grind.{common_steps}
 use Rattle.sap_lemmas.proofs.Bools.{and_left, and_right, neither_left, neither_right}
 use Rattle.std.proofs.lemmas.Bool.{eqb-true, false_from_ne_true, or_cases, or_from, or_right}
 use Rattle.sap_meaning.specs.Program.{World, children, is_dynamic, is_memory, is_state, last, below, root, Step, Command, lone, try, if_else, try_then, case_of, Arms, last_arm, and_arm, Block, end_block, command_then, state_node, Group, no_node, and_node}
+use Rattle.sap_meaning.specs.Walks.{Every, EveryInArms, EveryInBlock, Asks}
+use Rattle.sap_meaning.proofs.WalksLemmas.{every_follows, every_follows_in_arms, every_follows_in_block, asks_follows, none_passes, none_passes_in_block}
 use Rattle.sap_meaning.specs.Store.{Store, After}
 use Rattle.sap_meaning.specs.Checks.{Home}
 use Rattle.sap_meaning.specs.Touches.{among}
@@ -111,21 +113,14 @@ ProperStep w i k = FineStep w i.siblings i.kids k × ((x : ℕ) → mine i x ≡
 abbrev pub Disjoint : (w : World) → Site w → Command → Block → Type 0
 Disjoint w i c cs = (m : ℕ) → is_memory w m ≡ true → is_dynamic w m ≡ false → block_concerns w i.state i.kids cs m ≡ true → Open c × (writes c m ≡ false)
 
-abbrev mutual
-  pub Proper : (w : World) → Site w → Command → Type 0
-  Proper w i (lone k) = ProperStep w i k
-  Proper w i (try k hang h) = ProperStep w i k × ProperBlock w i h
-  Proper w i (if_else hang e a b) = FineTerm w e × ProperBlock w i a × ProperBlock w i b
-  Proper w i (try_then k hang a b) = ProperStep w i k × ProperBlock w i a × ProperBlock w i b
-  Proper w i (case_of hang e arms) = FineTerm w e × ProperArms w i arms
+abbrev pub Proper : (w : World) → Site w → Command → Type 0
+Proper w i c = Every (Asks (ProperStep w i) (FineTerm w)) c
 
-  pub ProperArms : (w : World) → Site w → Arms → Type 0
-  ProperArms w i (last_arm b) = ProperBlock w i b
-  ProperArms w i (and_arm constants b arms) = ProperBlock w i b × ProperArms w i arms
+abbrev pub ProperArms : (w : World) → Site w → Arms → Type 0
+ProperArms w i arms = EveryInArms (Asks (ProperStep w i) (FineTerm w)) arms
 
-  pub ProperBlock : (w : World) → Site w → Block → Type 0
-  ProperBlock w i end_block = Unit {0}
-  ProperBlock w i (command_then c cs) = Proper w i c × ProperBlock w i cs
+abbrev pub ProperBlock : (w : World) → Site w → Block → Type 0
+ProperBlock w i b = EveryInBlock (Asks (ProperStep w i) (FineTerm w)) b
 
 -- whether it closes or is open
 abbrev pub Shut : Block → Type 0
@@ -187,35 +182,22 @@ module _ (w : World) (i : Site w) where
   proper_body = proper_block i.body (node w i).steps body_unmarked
 
 -- what the keeping of states asks of it
-mutual
-  pub fine_command : (w : World) (i : Site w) (c : Command) → Proper w i c → FineCommand w i.siblings i.kids c
-  fine_command w i (lone k) p = p.0
-  fine_command w i (try k hang h) p = (p.0.0, fine_block w i h p.1)
-  fine_command w i (if_else hang e a b) p = (p.0, fine_block w i a p.1, fine_block w i b p.2)
-  fine_command w i (try_then k hang a b) p = (p.0.0, fine_block w i a p.1, fine_block w i b p.2)
-  fine_command w i (case_of hang e arms) p = (p.0, fine_arms w i arms p.1)
+module _ (w : World) (i : Site w) where
+  as_fine : (c : Command) → Asks (ProperStep w i) (FineTerm w) c → Asks (FineStep w i.siblings i.kids) (FineTerm w) c
+  as_fine c p = asks_follows (ProperStep w i) (FineStep w i.siblings i.kids) (FineTerm w) (FineTerm w) (λ k h. h.0) (λ e h. h) c p
 
-  pub fine_arms : (w : World) (i : Site w) (arms : Arms) → ProperArms w i arms → FineArms w i.siblings i.kids arms
-  fine_arms w i (last_arm b) p = fine_block w i b p
-  fine_arms w i (and_arm constants b arms) p = (fine_block w i b p.0, fine_arms w i arms p.1)
+  pub fine_command : (c : Command) → Proper w i c → FineCommand w i.siblings i.kids c
+  fine_command c p = every_follows (Asks (ProperStep w i) (FineTerm w)) (Asks (FineStep w i.siblings i.kids) (FineTerm w)) as_fine c p
 
-  pub fine_block : (w : World) (i : Site w) (b : Block) → ProperBlock w i b → FineBlock w i.siblings i.kids b
-  fine_block w i end_block p = tt
-  fine_block w i (command_then c cs) p = (fine_command w i c p.0, fine_block w i cs p.1)
+  pub fine_arms : (arms : Arms) → ProperArms w i arms → FineArms w i.siblings i.kids arms
+  fine_arms arms p = every_follows_in_arms (Asks (ProperStep w i) (FineTerm w)) (Asks (FineStep w i.siblings i.kids) (FineTerm w)) as_fine arms p
+
+  pub fine_block : (b : Block) → ProperBlock w i b → FineBlock w i.siblings i.kids b
+  fine_block b p = every_follows_in_block (Asks (ProperStep w i) (FineTerm w)) (Asks (FineStep w i.siblings i.kids) (FineTerm w)) as_fine b p
 
 -- nor does it retag the state or one below it
-mutual
-  pub unmarked : (w : World) (i : Site w) (c : Command) → Proper w i c → (x : ℕ) → mine i x ≡ true → retags c x ≡ false
-  unmarked w i (lone k) p x m = p.1 x m
-  unmarked w i (try k hang h) p x m = or_from _ _ (p.0.1 x m) (block_unmarked w i h p.1 x m)
-  unmarked w i (if_else hang e a b) p x m = or_from _ _ (block_unmarked w i a p.1 x m) (block_unmarked w i b p.2 x m)
-  unmarked w i (try_then k hang a b) p x m = or_from _ _ (p.0.1 x m) (or_from _ _ (block_unmarked w i a p.1 x m) (block_unmarked w i b p.2 x m))
-  unmarked w i (case_of hang e arms) p x m = arms_unmarked w i arms p.1 x m
+pub unmarked : (w : World) (i : Site w) (c : Command) → Proper w i c → (x : ℕ) → mine i x ≡ true → retags c x ≡ false
+unmarked w i c p x m = none_passes (ProperStep w i) (FineTerm w) (λ k. step_retags k x) (λ k h. h.1 x m) c p
 
-  arms_unmarked : (w : World) (i : Site w) (arms : Arms) → ProperArms w i arms → (x : ℕ) → mine i x ≡ true → arms_retag arms x ≡ false
-  arms_unmarked w i (last_arm b) p x m = block_unmarked w i b p x m
-  arms_unmarked w i (and_arm constants b arms) p x m = or_from _ _ (block_unmarked w i b p.0 x m) (arms_unmarked w i arms p.1 x m)
-
-  pub block_unmarked : (w : World) (i : Site w) (b : Block) → ProperBlock w i b → (x : ℕ) → mine i x ≡ true → block_retags b x ≡ false
-  block_unmarked w i end_block p x m = refl
-  block_unmarked w i (command_then c cs) p x m = or_from _ _ (unmarked w i c p.0 x m) (block_unmarked w i cs p.1 x m)
+pub block_unmarked : (w : World) (i : Site w) (b : Block) → ProperBlock w i b → (x : ℕ) → mine i x ≡ true → block_retags b x ≡ false
+block_unmarked w i b p x m = none_passes_in_block (ProperStep w i) (FineTerm w) (λ k. step_retags k x) (λ k h. h.1 x m) b p

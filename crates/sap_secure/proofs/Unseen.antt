@@ -1,19 +1,20 @@
 -- Confinement of a command on the active path.
 use Rattle.std.proofs.Common.{◌≡◌, ℕ, zero, suc, true, false, ◌||◌, List, [], ◌∷◌, refl, sym, ◌∙◌, subst, nat_eq, inl, inr, ◌⊎◌}
 use Rattle.std.proofs.lemmas.Bool.{cases_Bool, and_from, false_from_ne_true, ne_eqb, or_from, or_left, or_right}
-use Rattle.sap_lemmas.proofs.Bools.{and_left, and_right, either_follows, neither_left, neither_right}
+use Rattle.sap_lemmas.proofs.Bools.{and_left, and_right, neither_left, neither_right}
 use Rattle.sap_lemmas.proofs.Numbers.{test_of_same}
 use Rattle.sap_meaning.proofs.ProgramLemmas.{register_no_memory}
 use Rattle.sap_meaning.proofs.FineLemmas.{inside_among}
 use Rattle.sap_lattice.specs.Order.{Laws}
 use Rattle.sap_meaning.specs.Program.{World, Kind, input, register, memory, state, entity, kind_is_input, kind_is_register, kind_is_memory, is_dynamic, is_register, is_memory, is_state, root, below, Step, assign, write, retag, retag_cell, go_to, fall_to_child, Command, lone, try, if_else, try_then, case_of, Arms, last_arm, and_arm, Block, end_block, command_then, State, state_node, Group, no_node, and_node}
 use Rattle.sap_meaning.specs.Store.{own, start, next, start_whole, next_whole, Store, home, level, child}
-use Rattle.sap_meaning.specs.Touches.{among, step_hangs, hangs, block_hangs, touches, group_assigns, arms_hang}
+use Rattle.sap_meaning.specs.Touches.{among, step_hangs, hangs, touches, group_assigns}
 use Rattle.sap_meaning.specs.Does.{does, does_child}
 use Rattle.sap_meaning.specs.State.{Holds}
 use Rattle.sap_meaning.specs.Agree.{High}
-use Rattle.sap_meaning.specs.Fine.{FineStep, FineCommand, FineBlock, step_retags, retags, block_retags, state_retags, group_retags, reaches, inside, number_of, kids_of, Nth, FineArms, OpenArms, ClosingArms, arms_retag}
-use Rattle.sap_secure.specs.Confinement.{last_group, last_parent, Active, StandsIn, StandsInBlock, is_goto, is_fall, has_goto, block_has_goto, has_fall, block_has_fall, level_slot, EqualParts, SomeHigh, Guarded, Confinement, StandsInArms, arms_have_goto, arms_have_fall}
+use Rattle.sap_meaning.specs.Fine.{FineTerm, FineStep, FineCommand, step_retags, retags, block_retags, state_retags, group_retags, reaches, inside, number_of, kids_of, Nth, OpenArms, ClosingArms, arms_retag}
+use Rattle.sap_secure.specs.Confinement.{last_group, last_parent, Active, StandsIn, StandsInBlock, is_goto, is_fall, has_goto, has_fall, level_slot, EqualParts, SomeHigh, Guarded, Confinement, StandsInArms}
+use Rattle.sap_meaning.proofs.WalksLemmas.{some_follows}
 use Rattle.sap_secure.proofs.Apart.{found, hung, unassigned, group_unassigned, inside_state, state_no_register, state_no_memory, register_apart, memory_apart}
 use Rattle.sap_secure.proofs.Concerns.{concerns, hanging}
 use Rattle.sap_secure.proofs.Sites.{Around, Site, spot, Proper, ProperBlock, Ended, Shut, node, own_fine, kids_around, around_root, proper_body, fine_command, not_own, no_kid, ProperArms}
@@ -86,24 +87,9 @@ module _ (w : World) (i : Site w) where
   step_own (go_to site target) fine h = refl
   step_own (fall_to_child site hang) fine h = let no = or_from _ _ own_out (out i.state (node w i).kind) in cc
 
-  mutual
-    own_goto : (c : Command) → FineCommand w i.siblings i.kids c → hangs i.state i.kids c i.state ≡ true → has_goto c ≡ true
-    own_goto (lone k) fine h = step_own k fine h
-    own_goto (try k hang b) fine h = either_follows (step_hangs i.state i.kids k i.state) (block_hangs i.state i.kids b i.state) (is_goto k) (block_has_goto b) (step_own k fine.0) (block_own b fine.1) h
-    own_goto (if_else hang t a b) fine h = either_follows (block_hangs i.state i.kids a i.state) (block_hangs i.state i.kids b i.state) (block_has_goto a) (block_has_goto b) (block_own a fine.1) (block_own b fine.2) h
-    own_goto (try_then k hang a b) fine h =
-        either_follows (step_hangs i.state i.kids k i.state) (block_hangs i.state i.kids a i.state || block_hangs i.state i.kids b i.state) (is_goto k) (block_has_goto a || block_has_goto b) (step_own k fine.0)
-        (either_follows (block_hangs i.state i.kids a i.state) (block_hangs i.state i.kids b i.state) (block_has_goto a) (block_has_goto b) (block_own a fine.1) (block_own b fine.2)) h
-    own_goto (case_of hang t arms) fine h = arms_own arms fine.1 h
-
-    arms_own : (arms : Arms) → FineArms w i.siblings i.kids arms → arms_hang i.state i.kids arms i.state ≡ true → arms_have_goto arms ≡ true
-    arms_own (last_arm b) fine h = block_own b fine h
-    arms_own (and_arm constants b arms) fine h =
-        either_follows (block_hangs i.state i.kids b i.state) (arms_hang i.state i.kids arms i.state) (block_has_goto b) (arms_have_goto arms) (block_own b fine.0) (arms_own arms fine.1) h
-
-    block_own : (b : Block) → FineBlock w i.siblings i.kids b → block_hangs i.state i.kids b i.state ≡ true → block_has_goto b ≡ true
-    block_own end_block fine h = h
-    block_own (command_then c cs) fine h = either_follows (hangs i.state i.kids c i.state) (block_hangs i.state i.kids cs i.state) (has_goto c) (block_has_goto cs) (own_goto c fine.0) (block_own cs fine.1) h
+  own_goto : (c : Command) → FineCommand w i.siblings i.kids c → hangs i.state i.kids c i.state ≡ true → has_goto c ≡ true
+  own_goto c fine h =
+      some_follows (FineStep w i.siblings i.kids) (FineTerm w) (λ k. step_hangs i.state i.kids k i.state) (λ k. is_goto k) step_own c fine h
 
   module _ (x : ℕ) (s : is_state w x ≡ true) (other : nat_eq x i.state ≡ false) where
     step_kid : (k : Step) → FineStep w i.siblings i.kids k → step_hangs i.state i.kids k x ≡ true → is_fall k ≡ true
@@ -114,24 +100,8 @@ module _ (w : World) (i : Site w) where
     step_kid (go_to site target) fine h = cc
     step_kid (fall_to_child site hang) fine h = refl
 
-    mutual
-      kid_fall : (c : Command) → FineCommand w i.siblings i.kids c → hangs i.state i.kids c x ≡ true → has_fall c ≡ true
-      kid_fall (lone k) fine h = step_kid k fine h
-      kid_fall (try k hang b) fine h = either_follows (step_hangs i.state i.kids k x) (block_hangs i.state i.kids b x) (is_fall k) (block_has_fall b) (step_kid k fine.0) (block_kid b fine.1) h
-      kid_fall (if_else hang t a b) fine h = either_follows (block_hangs i.state i.kids a x) (block_hangs i.state i.kids b x) (block_has_fall a) (block_has_fall b) (block_kid a fine.1) (block_kid b fine.2) h
-      kid_fall (try_then k hang a b) fine h =
-          either_follows (step_hangs i.state i.kids k x) (block_hangs i.state i.kids a x || block_hangs i.state i.kids b x) (is_fall k) (block_has_fall a || block_has_fall b) (step_kid k fine.0)
-          (either_follows (block_hangs i.state i.kids a x) (block_hangs i.state i.kids b x) (block_has_fall a) (block_has_fall b) (block_kid a fine.1) (block_kid b fine.2)) h
-      kid_fall (case_of hang t arms) fine h = arms_kid arms fine.1 h
-
-      arms_kid : (arms : Arms) → FineArms w i.siblings i.kids arms → arms_hang i.state i.kids arms x ≡ true → arms_have_fall arms ≡ true
-      arms_kid (last_arm b) fine h = block_kid b fine h
-      arms_kid (and_arm constants b arms) fine h =
-          either_follows (block_hangs i.state i.kids b x) (arms_hang i.state i.kids arms x) (block_has_fall b) (arms_have_fall arms) (block_kid b fine.0) (arms_kid arms fine.1) h
-
-      block_kid : (b : Block) → FineBlock w i.siblings i.kids b → block_hangs i.state i.kids b x ≡ true → block_has_fall b ≡ true
-      block_kid end_block fine h = h
-      block_kid (command_then c cs) fine h = either_follows (hangs i.state i.kids c x) (block_hangs i.state i.kids cs x) (has_fall c) (block_has_fall cs) (kid_fall c fine.0) (block_kid cs fine.1) h
+    kid_fall : (c : Command) → FineCommand w i.siblings i.kids c → hangs i.state i.kids c x ≡ true → has_fall c ≡ true
+    kid_fall c fine h = some_follows (FineStep w i.siblings i.kids) (FineTerm w) (λ k. step_hangs i.state i.kids k x) (λ k. is_fall k) step_kid c fine h
 
 -- an input is no register and no memory
 input_alone : (k : Kind) → kind_is_register k ≡ false → (kind_is_input k || kind_is_register k) ≡ true → (kind_is_register k ≡ false) × (kind_is_memory k ≡ false)

@@ -2,6 +2,7 @@
 use Rattle.std.specs.Prelude.{◌≡◌, ℕ, Bool, true, false, ◌||◌, List, [], ◌∷◌, ◌⊎◌, if◌then◌else◌}
 use Rattle.sap_meaning.specs.Program.{World, Program, is_dynamic, is_register, is_memory, root, Step, assign, write, retag, retag_cell, go_to, fall_to_child, Command, lone, try, if_else, try_then, case_of, Arms, last_arm, and_arm, Block, end_block, command_then, State, state_node, Group}
 use Rattle.sap_meaning.specs.Store.{Store, Slot, own, start, next, next_whole, number, level, child}
+use Rattle.sap_meaning.specs.Walks.{some}
 use Rattle.sap_meaning.specs.Touches.{touches}
 use Rattle.sap_meaning.specs.Does.{does, does_child}
 use Rattle.sap_meaning.specs.State.{Holds}
@@ -56,38 +57,12 @@ is_fall (go_to site target) = false
 is_fall (fall_to_child site hang) = true
 
 -- a goto stands in it
-abbrev mutual
-  pub has_goto : Command → Bool
-  has_goto (lone k) = is_goto k
-  has_goto (try k hang h) = is_goto k || block_has_goto h
-  has_goto (if_else hang e a b) = block_has_goto a || block_has_goto b
-  has_goto (try_then k hang a b) = is_goto k || (block_has_goto a || block_has_goto b)
-  has_goto (case_of hang e arms) = arms_have_goto arms
-
-  pub arms_have_goto : Arms → Bool
-  arms_have_goto (last_arm b) = block_has_goto b
-  arms_have_goto (and_arm constants b arms) = block_has_goto b || arms_have_goto arms
-
-  pub block_has_goto : Block → Bool
-  block_has_goto end_block = false
-  block_has_goto (command_then c cs) = has_goto c || block_has_goto cs
+abbrev pub has_goto : Command → Bool
+has_goto c = some (λ k. is_goto k) c
 
 -- a fall stands in it
-abbrev mutual
-  pub has_fall : Command → Bool
-  has_fall (lone k) = is_fall k
-  has_fall (try k hang h) = is_fall k || block_has_fall h
-  has_fall (if_else hang e a b) = block_has_fall a || block_has_fall b
-  has_fall (try_then k hang a b) = is_fall k || (block_has_fall a || block_has_fall b)
-  has_fall (case_of hang e arms) = arms_have_fall arms
-
-  pub arms_have_fall : Arms → Bool
-  arms_have_fall (last_arm b) = block_has_fall b
-  arms_have_fall (and_arm constants b arms) = block_has_fall b || arms_have_fall arms
-
-  pub block_has_fall : Block → Bool
-  block_has_fall end_block = false
-  block_has_fall (command_then c cs) = has_fall c || block_has_fall cs
+abbrev pub has_fall : Command → Bool
+has_fall c = some (λ k. is_fall k) c
 
 -- the slot of an entity's level; of a memory its next part counts
 abbrev pub level_slot : World → ℕ → Slot

@@ -7,38 +7,34 @@ use Rattle.sap_lattice.specs.Levels.{Levels}
 use Rattle.sap_names.specs.declared.entity.Entity.{Entity}
 use Rattle.sap_shape.specs.Sites as shape
 use Rattle.sap_shape.specs.Sites.{Surroundings, CheckSite, simple_sites}
-use Rattle.sap_meaning.specs.Program.{World, Step, assign, write, retag, retag_cell, go_to, fall_to_child, Command, lone, try, if_else, try_then, case_of, Arms, last_arm, and_arm, Block, end_block, command_then, State, state_node, Group, no_node, and_node}
+use Rattle.sap_meaning.specs.Program.{World, Step, assign, write, retag, retag_cell, go_to, fall_to_child, Command, Arms, Block, State, state_node, Group}
+use Rattle.sap_meaning.specs.Walks.{gathered, gathered_in_arms, gathered_in_block, gathered_from, gathered_from_group, body_of}
 use Rattle.sap_meaning.specs.Checks.{Home, site_of}
 use Rattle.sap_meaning.specs.Sites.{numbers_from}
 use Rattle.sap_meaning.proofs.SitesLemmas.{numbers_join}
 use Rattle.sap_resolved.specs.Worlds.{states_in}
 use Rattle.sap_resolved.specs.Resolve.{site_number, step_of, command_of, arms_of, block_of, else_of, list_of, state_of, group_of}
-use Rattle.sap_resolved.specs.Fill.{filled_step, filled, filled_arms, filled_block, filled_state, filled_group}
+use Rattle.sap_resolved.specs.Fill.{filled_step, filled_state, filled_group}
+use Rattle.sap_resolved.proofs.FillLemmas.{gathered_filled_block, gathered_filled_group}
 use Rattle.sap_secure.specs.CheckSites.Once.{own_site}
 
-abbrev mutual
-  pub marks : Command → List ℕ
-  marks (lone k) = own_site k
-  marks (try k hang h) = own_site k ++ block_marks h
-  marks (if_else hang e a b) = block_marks a ++ block_marks b
-  marks (try_then k hang a b) = own_site k ++ (block_marks a ++ block_marks b)
-  marks (case_of hang e arms) = arms_marks arms
+abbrev pub marks : Command → List ℕ
+marks c = gathered [] ◌++◌ own_site c
 
-  pub arms_marks : Arms → List ℕ
-  arms_marks (last_arm b) = block_marks b
-  arms_marks (and_arm constants b arms) = block_marks b ++ arms_marks arms
+abbrev pub arms_marks : Arms → List ℕ
+arms_marks arms = gathered_in_arms [] ◌++◌ own_site arms
 
-  pub block_marks : Block → List ℕ
-  block_marks end_block = []
-  block_marks (command_then c cs) = marks c ++ block_marks cs
+abbrev pub block_marks : Block → List ℕ
+block_marks b = gathered_in_block [] ◌++◌ own_site b
 
-abbrev mutual
-  pub state_marks : State → List ℕ
-  state_marks (state_node s b g) = block_marks b ++ group_marks g
+abbrev pub body_marks : State → List ℕ
+body_marks t = block_marks (body_of t)
 
-  pub group_marks : Group → List ℕ
-  group_marks no_node = []
-  group_marks (and_node t g) = state_marks t ++ group_marks g
+abbrev pub state_marks : State → List ℕ
+state_marks t = gathered_from [] ◌++◌ body_marks t
+
+abbrev pub group_marks : Group → List ℕ
+group_marks g = gathered_from_group [] ◌++◌ body_marks g
 
 both : (a b c d : List ℕ) → a ≡ c → b ≡ d → a ++ b ≡ c ++ d
 both a b c d e f = ap (λ (u : List ℕ). u ++ b) e ∙ ap (λ (u : List ℕ). c ++ u) f
@@ -54,38 +50,12 @@ module _ (w : World) where
     step_filled (go_to site target) = refl
     step_filled (fall_to_child site hang) = refl
 
-    mutual
-      command_filled : (c : Command) → marks (filled w at c) ≡ marks c
-      command_filled (lone k) = step_filled k
-      command_filled (try k hang b) =
-          both (own_site (filled_step w at k)) (block_marks (filled_block w at b)) (own_site k) (block_marks b) (step_filled k) (block_filled b)
-      command_filled (if_else hang e a b) =
-          both (block_marks (filled_block w at a)) (block_marks (filled_block w at b)) (block_marks a) (block_marks b) (block_filled a) (block_filled b)
-      command_filled (try_then k hang a b) =
-          both (own_site (filled_step w at k)) (block_marks (filled_block w at a) ++ block_marks (filled_block w at b)) (own_site k) (block_marks a ++ block_marks b)
-          (step_filled k) (both (block_marks (filled_block w at a)) (block_marks (filled_block w at b)) (block_marks a) (block_marks b) (block_filled a) (block_filled b))
-      command_filled (case_of hang e arms) = arms_filled arms
+  body_filled : (p : ℕ) (t : State) → body_marks (filled_state w p t) ≡ body_marks t
+  body_filled p (state_node s b g) =
+      let at : Home = record { state = s; parent = p; children = g } in gathered_filled_block w [] ◌++◌ own_site own_site at (step_filled at) b
 
-      arms_filled : (arms : Arms) → arms_marks (filled_arms w at arms) ≡ arms_marks arms
-      arms_filled (last_arm b) = block_filled b
-      arms_filled (and_arm constants b arms) =
-          both (block_marks (filled_block w at b)) (arms_marks (filled_arms w at arms)) (block_marks b) (arms_marks arms) (block_filled b) (arms_filled arms)
-
-      block_filled : (b : Block) → block_marks (filled_block w at b) ≡ block_marks b
-      block_filled end_block = refl
-      block_filled (command_then c cs) =
-          both (marks (filled w at c)) (block_marks (filled_block w at cs)) (marks c) (block_marks cs) (command_filled c) (block_filled cs)
-
-  mutual
-    state_filled : (p : ℕ) (t : State) → state_marks (filled_state w p t) ≡ state_marks t
-    state_filled p (state_node s b g) =
-        both (block_marks (filled_block w (record { state = s; parent = p; children = g }) b)) (group_marks (filled_group w s g)) (block_marks b)
-        (group_marks g) (block_filled (record { state = s; parent = p; children = g }) b) (group_filled s g)
-
-    pub group_filled : (p : ℕ) (g : Group) → group_marks (filled_group w p g) ≡ group_marks g
-    group_filled p no_node = refl
-    group_filled p (and_node t g) =
-        both (state_marks (filled_state w p t)) (group_marks (filled_group w p g)) (state_marks t) (group_marks g) (state_filled p t) (group_filled p g)
+  pub group_filled : (p : ℕ) (g : Group) → group_marks (filled_group w p g) ≡ group_marks g
+  group_filled p g = gathered_filled_group w [] ◌++◌ body_marks body_marks body_filled p g
 
 joined : (k : ℕ) (a b : List CheckSite) (xs ys : List ℕ) → xs ≡ numbers_from k (length a) → ys ≡ numbers_from (k + length a) (length b)
     → xs ++ ys ≡ numbers_from k (length (a ++ b))
