@@ -1,5 +1,5 @@
 -- On what stands in Walks: what several crates cite.
-use Rattle.std.proofs.Common.{◌≡◌, ℕ, Bool, true, false, ◌||◌, List, inl, inr, refl, sym, ap, ap₂, ◌∙◌}
+use Rattle.std.proofs.Common.{◌≡◌, ℕ, Bool, true, false, ◌||◌, List, inl, inr, refl, sym, ap₂, ◌∙◌}
 use Rattle.std.proofs.Props.{props}
 use Rattle.std.proofs.lemmas.Bool.{or_cases, or_from}
 use Rattle.sap_lemmas.proofs.Bools.{either_follows, neither_left, neither_right, true_is_not_false}
@@ -93,47 +93,90 @@ module _ (P R : Step → Type 0) (Q S : Term ℕ → Type 0) (step_follows : (k 
   asks_follows (try_then k hang a b) h = step_follows k h
   asks_follows (case_of hang e arms) h = term_follows e h
 
--- A step of which P holds passes no test p: then no step does.
+-- two together give a third
+module _ (P R S : Step → Type 0) (Q T U : Term ℕ → Type 0) (step_gives : (k : Step) → P k → R k → S k) (term_gives : (e : Term ℕ) → Q e → T e → U e) where
+  asks_both : (c : Command) → Every (Asks P Q) c → Asks R T c → Asks S U c
+  asks_both (lone k) p r = step_gives k p r
+  asks_both (try k hang b) p r = step_gives k p.0 r
+  asks_both (if_else hang e a b) p r = term_gives e p.0 r
+  asks_both (try_then k hang a b) p r = step_gives k p.0 r
+  asks_both (case_of hang e arms) p r = term_gives e p.0 r
+
+  pub every_both_in_block : (b : Block) → EveryInBlock (Asks P Q) b → EveryInBlock (Asks R T) b → EveryInBlock (Asks S U) b
+  every_both_in_block b p r = every_with_in_block (Asks P Q) (Asks R T) (Asks S U) asks_both b p r
+
+-- Two things that are gathered are related where they are so at each step of which P holds, and joining keeps it.
+module _ {A B : Type 0} (none : A) (join : A → A → A) (least : B) (meet : B → B → B) (Rel : A → B → Type 0) (at_none : Rel none least)
+    (at_join : (a b : A) (c d : B) → Rel a c → Rel b d → Rel (join a b) (meet c d)) where
+  module _ (P : Step → Type 0) (Q : Term ℕ → Type 0) (f : Step → A) (g : Step → B) (at_step : (k : Step) → P k → Rel (f k) (g k)) where
+    abbrev of_block : Block → A
+    of_block b = gathered_in_block none join f b
+
+    abbrev to_block : Block → B
+    to_block b = gathered_in_block least meet g b
+
+    mutual
+      pub gathered_related : (c : Command) → Every (Asks P Q) c → Rel (gathered none join f c) (gathered least meet g c)
+      gathered_related (lone k) h = at_step k h
+      gathered_related (try k hang b) h = at_join (f k) (of_block b) (g k) (to_block b) (at_step k h.0) (gathered_in_block_related b h.1)
+      gathered_related (if_else hang e a b) h =
+          at_join (of_block a) (of_block b) (to_block a) (to_block b) (gathered_in_block_related a h.1) (gathered_in_block_related b h.2)
+      gathered_related (try_then k hang a b) h =
+          at_join (f k) (join (of_block a) (of_block b)) (g k) (meet (to_block a) (to_block b)) (at_step k h.0)
+          (at_join (of_block a) (of_block b) (to_block a) (to_block b) (gathered_in_block_related a h.1) (gathered_in_block_related b h.2))
+      gathered_related (case_of hang e arms) h = gathered_in_arms_related arms h.1
+
+      gathered_in_arms_related : (arms : Arms) → EveryInArms (Asks P Q) arms → Rel (gathered_in_arms none join f arms) (gathered_in_arms least meet g arms)
+      gathered_in_arms_related (last_arm b) h = gathered_in_block_related b h
+      gathered_in_arms_related (and_arm constants b arms) h =
+          at_join (of_block b) (gathered_in_arms none join f arms) (to_block b) (gathered_in_arms least meet g arms) (gathered_in_block_related b h.0)
+          (gathered_in_arms_related arms h.1)
+
+      pub gathered_in_block_related : (b : Block) → EveryInBlock (Asks P Q) b → Rel (of_block b) (to_block b)
+      gathered_in_block_related end_block h = at_none
+      gathered_in_block_related (command_then c cs) h =
+          at_join (gathered none join f c) (of_block cs) (gathered least meet g c) (to_block cs) (gathered_related c h.0) (gathered_in_block_related cs h.1)
+
+-- where no step of which P holds passes p, none does
 module _ (P : Step → Type 0) (Q : Term ℕ → Type 0) (p : Step → Bool) (fails : (k : Step) → P k → p k ≡ false) where
-  mutual
-    pub none_passes : (c : Command) → Every (Asks P Q) c → some p c ≡ false
-    none_passes (lone k) h = fails k h
-    none_passes (try k hang b) h = or_from _ _ (fails k h.0) (none_passes_in_block b h.1)
-    none_passes (if_else hang e a b) h = or_from _ _ (none_passes_in_block a h.1) (none_passes_in_block b h.2)
-    none_passes (try_then k hang a b) h = or_from _ _ (fails k h.0) (or_from _ _ (none_passes_in_block a h.1) (none_passes_in_block b h.2))
-    none_passes (case_of hang e arms) h = none_passes_in_arms arms h.1
+  pub none_passes : (c : Command) → Every (Asks P Q) c → some p c ≡ false
+  none_passes c h = gathered_related false ◌||◌ false ◌||◌ (λ a b. a ≡ false) refl (λ a b c' d i j. or_from a b i j) P Q p p fails c h
 
-    none_passes_in_arms : (arms : Arms) → EveryInArms (Asks P Q) arms → some_in_arms p arms ≡ false
-    none_passes_in_arms (last_arm b) h = none_passes_in_block b h
-    none_passes_in_arms (and_arm constants b arms) h = or_from _ _ (none_passes_in_block b h.0) (none_passes_in_arms arms h.1)
+  pub none_passes_in_block : (b : Block) → EveryInBlock (Asks P Q) b → some_in_block p b ≡ false
+  none_passes_in_block b h = gathered_in_block_related false ◌||◌ false ◌||◌ (λ a b'. a ≡ false) refl (λ a b' c d i j. or_from a b' i j) P Q p p fails b h
 
-    pub none_passes_in_block : (b : Block) → EveryInBlock (Asks P Q) b → some_in_block p b ≡ false
-    none_passes_in_block end_block h = refl
-    none_passes_in_block (command_then c cs) h = or_from _ _ (none_passes c h.0) (none_passes_in_block cs h.1)
+-- Where a step of which P holds, and which passes p, gives C, some step that passes p gives it.
+module _ (P : Step → Type 0) (Q : Term ℕ → Type 0) (p : Step → Bool) (C : Type 0) (gives : (k : Step) → P k → p k ≡ true → C) where
+  abbrev Gives : Bool → Bool → Type 0
+  Gives a b = a ≡ true → C
 
--- A step of which P holds, and which passes p, passes q: then where some step passes p, some step passes q.
+  either : (a b c d : Bool) → Gives a c → Gives b d → Gives (a || b) (c || d)
+  either a b c d f g h = elim (or_cases a b h) [ inl i ↦ f i | inr i ↦ g i ]
+
+  never : Gives false false
+  never h = absurd (true_is_not_false (sym h))
+
+  pub some_gives : (c : Command) → Every (Asks P Q) c → some p c ≡ true → C
+  some_gives c h = gathered_related false ◌||◌ false ◌||◌ Gives never either P Q p p gives c h
+
+  pub some_in_block_gives : (b : Block) → EveryInBlock (Asks P Q) b → some_in_block p b ≡ true → C
+  some_in_block_gives b h = gathered_in_block_related false ◌||◌ false ◌||◌ Gives never either P Q p p gives b h
+
+-- Where a step of which P holds, and which passes p, passes q, some step passes q where some step passes p.
 module _ (P : Step → Type 0) (Q : Term ℕ → Type 0) (p q : Step → Bool) (passes : (k : Step) → P k → p k ≡ true → q k ≡ true) where
-  mutual
-    pub some_follows : (c : Command) → Every (Asks P Q) c → some p c ≡ true → some q c ≡ true
-    some_follows (lone k) h = passes k h
-    some_follows (try k hang b) h = either_follows (p k) (some_in_block p b) (q k) (some_in_block q b) (passes k h.0) (some_follows_in_block b h.1)
-    some_follows (if_else hang e a b) h =
-        either_follows (some_in_block p a) (some_in_block p b) (some_in_block q a) (some_in_block q b) (some_follows_in_block a h.1) (some_follows_in_block b h.2)
-    some_follows (try_then k hang a b) h =
-        either_follows (p k) (some_in_block p a || some_in_block p b) (q k) (some_in_block q a || some_in_block q b) (passes k h.0)
-        (either_follows (some_in_block p a) (some_in_block p b) (some_in_block q a) (some_in_block q b) (some_follows_in_block a h.1) (some_follows_in_block b h.2))
-    some_follows (case_of hang e arms) h = some_follows_in_arms arms h.1
+  abbrev Then : Bool → Bool → Type 0
+  Then a b = a ≡ true → b ≡ true
 
-    some_follows_in_arms : (arms : Arms) → EveryInArms (Asks P Q) arms → some_in_arms p arms ≡ true → some_in_arms q arms ≡ true
-    some_follows_in_arms (last_arm b) h = some_follows_in_block b h
-    some_follows_in_arms (and_arm constants b arms) h =
-        either_follows (some_in_block p b) (some_in_arms p arms) (some_in_block q b) (some_in_arms q arms) (some_follows_in_block b h.0) (some_follows_in_arms arms h.1)
+  either_then : (a b c d : Bool) → Then a c → Then b d → Then (a || b) (c || d)
+  either_then a b c d f g h = either_follows a b c d f g h
 
-    pub some_follows_in_block : (b : Block) → EveryInBlock (Asks P Q) b → some_in_block p b ≡ true → some_in_block q b ≡ true
-    some_follows_in_block end_block h = λ e. e
-    some_follows_in_block (command_then c cs) h =
-        either_follows (some p c) (some_in_block p cs) (some q c) (some_in_block q cs) (some_follows c h.0) (some_follows_in_block cs h.1)
+  pub some_follows : (c : Command) → Every (Asks P Q) c → some p c ≡ true → some q c ≡ true
+  some_follows c h = gathered_related false ◌||◌ false ◌||◌ Then (λ e. e) either_then P Q p q passes c h
 
+  pub some_follows_in_block : (b : Block) → EveryInBlock (Asks P Q) b → some_in_block p b ≡ true → some_in_block q b ≡ true
+  some_follows_in_block b h = gathered_in_block_related false ◌||◌ false ◌||◌ Then (λ e. e) either_then P Q p q passes b h
+
+-- what holds of each command
 module _ (P : Command → Type 0) (holds : (c : Command) → P c) where
   mutual
     pub every_holds : (c : Command) → Every P c
@@ -151,41 +194,33 @@ module _ (P : Command → Type 0) (holds : (c : Command) → P c) where
     every_holds_in_block end_block = tt
     every_holds_in_block (command_then c cs) = (every_holds c, every_holds_in_block cs)
 
--- what asks nothing
-asks_nothing : (c : Command) → Asks (λ k. Unit {0}) (λ e. Unit {0}) c
+-- nothing is asked
+abbrev Nothing : Command → Type 0
+Nothing c = Asks (λ k. Unit {0}) (λ e. Unit {0}) c
+
+asks_nothing : (c : Command) → Nothing c
 asks_nothing (lone k) = tt
 asks_nothing (try k hang b) = tt
 asks_nothing (if_else hang e a b) = tt
 asks_nothing (try_then k hang a b) = tt
 asks_nothing (case_of hang e arms) = tt
 
+-- of each step alone
+module _ {A B : Type 0} (none : A) (join : A → A → A) (least : B) (meet : B → B → B) (Rel : A → B → Type 0) (at_none : Rel none least)
+    (at_join : (a b : A) (c d : B) → Rel a c → Rel b d → Rel (join a b) (meet c d)) (f : Step → A) (g : Step → B) (at_step : (k : Step) → Rel (f k) (g k)) where
+  pub gathered_alike : (c : Command) → Rel (gathered none join f c) (gathered least meet g c)
+  gathered_alike c =
+      gathered_related none join least meet Rel at_none at_join (λ k. Unit {0}) (λ e. Unit {0}) f g (λ k u. at_step k) c (every_holds Nothing asks_nothing c)
+
+  pub gathered_in_block_alike : (b : Block) → Rel (gathered_in_block none join f b) (gathered_in_block least meet g b)
+  gathered_in_block_alike b =
+      gathered_in_block_related none join least meet Rel at_none at_join (λ k. Unit {0}) (λ e. Unit {0}) f g (λ k u. at_step k) b
+      (every_holds_in_block Nothing asks_nothing b)
+
 -- a step that passes p passes q, and so it is with commands
 pub passes_follow : (p q : Step → Bool) → ((k : Step) → p k ≡ true → q k ≡ true) → (c : Command) → some p c ≡ true → some q c ≡ true
 passes_follow p q f c h =
-    some_follows (λ k. Unit {0}) (λ e. Unit {0}) p q (λ k u. f k) c (every_holds (Asks (λ k. Unit {0}) (λ e. Unit {0})) asks_nothing c) h
-
--- Where a step of which P holds, and which passes p, gives C, some step that passes p gives it.
-module _ (P : Step → Type 0) (Q : Term ℕ → Type 0) (p : Step → Bool) (C : Type 0) (gives : (k : Step) → P k → p k ≡ true → C) where
-  either : (a b : Bool) → (a ≡ true → C) → (b ≡ true → C) → (a || b) ≡ true → C
-  either a b f g h = elim (or_cases a b h) [ inl i ↦ f i | inr i ↦ g i ]
-
-  mutual
-    pub some_gives : (c : Command) → Every (Asks P Q) c → some p c ≡ true → C
-    some_gives (lone k) h = gives k h
-    some_gives (try k hang b) h = either (p k) (some_in_block p b) (gives k h.0) (some_in_block_gives b h.1)
-    some_gives (if_else hang e a b) h = either (some_in_block p a) (some_in_block p b) (some_in_block_gives a h.1) (some_in_block_gives b h.2)
-    some_gives (try_then k hang a b) h =
-        either (p k) (some_in_block p a || some_in_block p b) (gives k h.0)
-        (either (some_in_block p a) (some_in_block p b) (some_in_block_gives a h.1) (some_in_block_gives b h.2))
-    some_gives (case_of hang e arms) h = some_in_arms_gives arms h.1
-
-    some_in_arms_gives : (arms : Arms) → EveryInArms (Asks P Q) arms → some_in_arms p arms ≡ true → C
-    some_in_arms_gives (last_arm b) h = some_in_block_gives b h
-    some_in_arms_gives (and_arm constants b arms) h = either (some_in_block p b) (some_in_arms p arms) (some_in_block_gives b h.0) (some_in_arms_gives arms h.1)
-
-    pub some_in_block_gives : (b : Block) → EveryInBlock (Asks P Q) b → some_in_block p b ≡ true → C
-    some_in_block_gives end_block h = λ e. absurd (true_is_not_false (sym e))
-    some_in_block_gives (command_then c cs) h = either (some p c) (some_in_block p cs) (some_gives c h.0) (some_in_block_gives cs h.1)
+    gathered_alike false ◌||◌ false ◌||◌ (λ (a b : Bool). a ≡ true → b ≡ true) (λ e. e) (λ a b x y i j. either_follows a b x y i j) p q f c h
 
 -- where no step passes p, p fails at every step
 module _ (p : Step → Bool) where
@@ -212,31 +247,12 @@ module _ (p : Step → Bool) where
 -- A map of what is gathered is gathered from the maps.
 module _ {A B : Type 0} (none : A) (join : A → A → A) (least : B) (meet : B → B → B) (through : A → B) (at_none : through none ≡ least)
     (at_join : (a b : A) → through (join a b) ≡ meet (through a) (through b)) (f : Step → A) where
-  abbrev g : Step → B
-  g k = through (f k)
+  joins : (a b : A) (c d : B) → through a ≡ c → through b ≡ d → through (join a b) ≡ meet c d
+  joins a b c d p q = at_join a b ∙ ap₂ meet p q
 
-  abbrev of_block : Block → A
-  of_block b = gathered_in_block none join f b
-
-  mutual
-    pub gathered_through : (c : Command) → through (gathered none join f c) ≡ gathered least meet g c
-    gathered_through (lone k) = refl
-    gathered_through (try k hang b) = at_join (f k) (of_block b) ∙ ap (meet (g k)) (gathered_in_block_through b)
-    gathered_through (if_else hang e a b) = at_join (of_block a) (of_block b) ∙ ap₂ meet (gathered_in_block_through a) (gathered_in_block_through b)
-    gathered_through (try_then k hang a b) =
-        at_join (f k) (join (of_block a) (of_block b))
-        ∙ ap (meet (g k)) (at_join (of_block a) (of_block b) ∙ ap₂ meet (gathered_in_block_through a) (gathered_in_block_through b))
-    gathered_through (case_of hang e arms) = gathered_in_arms_through arms
-
-    gathered_in_arms_through : (arms : Arms) → through (gathered_in_arms none join f arms) ≡ gathered_in_arms least meet g arms
-    gathered_in_arms_through (last_arm b) = gathered_in_block_through b
-    gathered_in_arms_through (and_arm constants b arms) =
-        at_join (of_block b) (gathered_in_arms none join f arms) ∙ ap₂ meet (gathered_in_block_through b) (gathered_in_arms_through arms)
-
-    pub gathered_in_block_through : (b : Block) → through (gathered_in_block none join f b) ≡ gathered_in_block least meet g b
-    gathered_in_block_through end_block = at_none
-    gathered_in_block_through (command_then c cs) =
-        at_join (gathered none join f c) (of_block cs) ∙ ap₂ meet (gathered_through c) (gathered_in_block_through cs)
+  pub gathered_in_block_through : (b : Block) → through (gathered_in_block none join f b) ≡ gathered_in_block least meet (λ k. through (f k)) b
+  gathered_in_block_through b =
+      gathered_in_block_alike none join least meet (λ x y. through x ≡ y) at_none joins f (λ k. through (f k)) (λ k. refl) b
 
 -- With other steps and other lists of what hangs: ..
 module _ (step : Step → Step) (list : Command → List Bool) where
