@@ -1,5 +1,5 @@
 -- The groups of states of a design without faults are fine.
-use Rattle.std.proofs.Common.{◌≡◌, inr, ℕ, suc, ◌+◌, ◌<◌, Bool, true, List, [], ◌∷◌, ◌++◌, length, sym, ◌∙◌, arith, bytes_eq}
+use Rattle.std.proofs.Common.{◌≡◌, ℕ, suc, ◌+◌, ◌<◌, Bool, true, List, [], ◌∷◌, ◌++◌, length, sym, ◌∙◌, arith, bytes_eq}
 use Rattle.sap_lemmas.proofs.Texts.{bytes_eq_same}
 use Rattle.std.proofs.lemmas.Bool.{or_from, or_left, or_right}
 use Rattle.sap_names.proofs.FaultLemmas.{nil_left, nil_right}
@@ -60,7 +60,7 @@ module _ (ls : Levels) (levels : List (List ℕ)) (le : ℕ → ℕ → Bool) (e
           numbers = here_numbers ls es w n x place name kind body children laid k';
           itself = here_itself ls es w n x place name kind body children laid;
           declared = here_declared ls es w n x place name kind body children laid;
-          steps = fine_body ls levels h w match at q g targets (some_child ls es k' (x + 1) children) k body fitting shaped (inr closing) i.0;
+          steps = fine_body ls levels h w match at q g targets (some_child ls es k' (x + 1) children) k body fitting shaped i.0;
           closes = closed_body ls h k body closing;
           retags_itself = or_from _ _
               (block_unmarked ls levels h w match at x (or_left _ _ (or_left _ _ own_name)) k body fitting shaped)

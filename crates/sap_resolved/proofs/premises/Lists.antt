@@ -1,23 +1,25 @@
 -- The lists in the program of a design have exactly what hangs.
-use Rattle.std.proofs.Common.{◌≡◌, ℕ, zero, suc, ◌+◌, ◌<◌, ◌≤◌, Bool, true, false, ◌&&◌, ◌||◌, List, [], ◌∷◌, ◌++◌, length, get_or, Option, Some, None, nat_eq, nat_lt, refl, sym, ap, ◌∙◌, arith, inl, inr, bytes_eq, option_map}
+use Rattle.std.proofs.Common.{◌≡◌, ℕ, zero, suc, ◌+◌, ◌<◌, ◌≤◌, Bool, true, false, ◌&&◌, ◌||◌, List, [], ◌∷◌, length, get_or, Option, Some, None, nat_eq, nat_lt, refl, sym, ap, ◌∙◌, arith, inl, inr, bytes_eq, option_map}
 use Rattle.std.proofs.lemmas.Bool.{cases_Bool, eqb-true, false_from_ne_true, or_cases}
-use Rattle.std.proofs.lemmas.List.{get_or-append-add}
 use Rattle.sap_lemmas.proofs.Bools.{and_right, or_equal}
-use Rattle.sap_lemmas.proofs.Lists.{get_early}
-use Rattle.sap_resolved.proofs.FillLemmas.{table_length}
-use Rattle.sap_tree.specs.Syntax.{SimpleCommand, assign, write, set_tag, set_cell_tag, go_to, fall_to_child, Command, lone, try, if_else, try_then, case_of, Arms, last_arm, and_arm, CommandBlock, command_block, ElseBlock, no_else, with_else, CommandList, no_command, and_command, StateTree, state_node, StateList, no_state, and_state, DesignTree}
+use Rattle.sap_resolved.proofs.FillLemmas.{table_length, table_at}
+use Rattle.sap_resolved.proofs.TreeWalks.{steps_of_block}
+use Rattle.sap_meaning.proofs.WalksLemmas.{some_gives, some_in_block_gives, every_with_in_block, every_mapped_block}
+use Rattle.sap_meaning.specs.Walks.{Every, Asks}
+use Rattle.sap_meaning.specs.Program as program
+use Rattle.sap_tree.specs.Syntax.{SimpleCommand, assign, write, set_tag, set_cell_tag, go_to, fall_to_child, CommandBlock, StateTree, state_node, StateList, no_state, and_state, DesignTree}
 use Rattle.sap_lattice.specs.Levels.{Levels}
 use Rattle.sap_names.specs.declared.entity.Entity as declared_entity
 use Rattle.sap_names.specs.Entities.{number_of, entities_of}
-use Rattle.sap_meaning.specs.Program.{World, is_dynamic, root, listed, Group}
+use Rattle.sap_meaning.specs.Program.{World, is_dynamic, root, listed, Step, Group}
 use Rattle.sap_meaning.specs.Checks.{Home}
-use Rattle.sap_meaning.specs.Touches.{among, step_assigns, assigns, arms_assign, block_assigns, state_assigns, group_assigns, step_hangs, hangs, arms_hang, block_hangs, touches, root_touches}
-use Rattle.sap_meaning.specs.Fine.{ExactStep, Exact, ExactArms, ExactBlock, ExactState, ExactGroup, ExactProgram}
+use Rattle.sap_meaning.specs.Touches.{among, step_assigns, block_assigns, state_assigns, group_assigns, step_hangs, hangs, touches, root_touches}
+use Rattle.sap_meaning.specs.Fine.{ExactStep, ExactCommand, ExactBlock, ExactState, ExactGroup, ExactProgram}
 use Rattle.sap_resolved.specs.Worlds.{states_in, states_below, group_entities, world_of}
-use Rattle.sap_shape.specs.Sites.{Surroundings, simple_sites, block_sites, command_sites, state_sites}
-use Rattle.sap_resolved.specs.Resolve.{site_number, step_of, command_of, arms_of, block_of, else_of, list_of, state_of, group_of}
+use Rattle.sap_shape.specs.Sites.{Surroundings, block_sites, state_sites}
+use Rattle.sap_resolved.specs.Resolve.{step_of, block_of, state_of, group_of}
 use Rattle.sap_resolved.specs.Terms.{known, entity_number}
-use Rattle.sap_resolved.specs.Fill.{table, filled_step, filled, filled_arms, filled_block, filled_state, filled_group, program_of}
+use Rattle.sap_resolved.specs.Fill.{table, filled_step, filled_hang, filled, filled_block, filled_state, filled_group, program_of}
 use Rattle.sap_resolved.proofs.Lookup.{entities_length}
 use Rattle.sap_resolved.proofs.premises.Filling.{among_filled, group_assigns_filled, hangs_filled}
 use Rattle.sap_resolved.proofs.premises.Places.{part_within, group_count}
@@ -28,25 +30,9 @@ get_late [] x h = refl
 get_late (y ∷ xs) zero h = absurd (omega arith)
 get_late (y ∷ xs) (suc x) h = let k : length xs ≤ x = omega arith in get_late xs x k
 
-listed_below : (n : ℕ) (test : ℕ → Bool) (x : ℕ) → x < n → listed (table n test) x ≡ test x
-listed_below zero test x h = absurd (omega arith)
-listed_below (suc n) test x h = elim (cases_Bool (nat_lt x n)) [
-  | inl t ↦
-      let k : x < n = grind (arith) in
-      let l = table_length n test in
-      let i : x < length (table n test) = omega arith in
-      get_early (table n test) (test n ∷ []) x i ∙ listed_below n test x k
-  | inr t ↦
-      let k : x ≡ n = grind (arith) in
-      let l = table_length n test in
-      let e : x ≡ length (table n test) + 0 = omega arith in
-      let f : get_or (table n test ++ test n ∷ []) (length (table n test) + 0) false ≡ test n = get_or-append-add (table n test) (test n ∷ []) 0 false in
-      ap (λ (m : ℕ). get_or (table n test ++ test n ∷ []) m false) e ∙ f ∙ ap test (sym k)
-]
-
 listed_is : (n : ℕ) (test : ℕ → Bool) → ((x : ℕ) → test x ≡ true → x < n) → (x : ℕ) → listed (table n test) x ≡ test x
 listed_is n test below x = elim (cases_Bool (nat_lt x n)) [
-  | inl t ↦ (let k : x < n = grind (arith) in listed_below n test x k)
+  | inl t ↦ (let k : x < n = grind (arith) in table_at n test x k)
   | inr t ↦
       let k : n ≤ x = grind (arith) in
       let l = table_length n test in
@@ -96,40 +82,10 @@ module _ (r x : ℕ) where
     step_assigned n (go_to place target) = low_false
     step_assigned n (fall_to_child place) = low_false
 
-    mutual
-      command_assigned : (k : ℕ) (c : Command) → Low (assigns (command_of ls h k c) x)
-      command_assigned k (lone c) = step_assigned (site_number h k c) c
-      command_assigned k (try c place b) =
-          low_or (step_assigns (step_of ls h (site_number h k c) c) x) (block_assigns (block_of ls h (k + length (simple_sites h c)) b) x)
-          (step_assigned (site_number h k c) c) (block_assigned (k + length (simple_sites h c)) b)
-      command_assigned k (if_else place e b other) =
-          low_or (block_assigns (block_of ls h k b) x) (block_assigns (else_of ls h (k + length (block_sites h b)) other) x) (block_assigned k b)
-          (else_assigned (k + length (block_sites h b)) other)
-      command_assigned k (try_then c place a b) =
-          let i = k + length (simple_sites h c) in
-          let j = i + length (block_sites h a) in
-          low_or (step_assigns (step_of ls h (site_number h k c) c) x) (block_assigns (block_of ls h i a) x || block_assigns (block_of ls h j b) x)
-          (step_assigned (site_number h k c) c)
-          (low_or (block_assigns (block_of ls h i a) x) (block_assigns (block_of ls h j b) x) (block_assigned i a) (block_assigned j b))
-      command_assigned k (case_of place e arms) = arms_assigned k arms
-
-      arms_assigned : (k : ℕ) (arms : Arms) → Low (arms_assign (arms_of ls h k arms) x)
-      arms_assigned k (last_arm b) = block_assigned k b
-      arms_assigned k (and_arm constants b arms) =
-          low_or (block_assigns (block_of ls h k b) x) (arms_assign (arms_of ls h (k + length (block_sites h b)) arms) x) (block_assigned k b) (arms_assigned (k + length (block_sites h b)) arms)
-
-      block_assigned : (k : ℕ) (b : CommandBlock) → Low (block_assigns (block_of ls h k b) x)
-      block_assigned k (command_block cs after) = list_assigned k cs
-
-      else_assigned : (k : ℕ) (b : ElseBlock) → Low (block_assigns (else_of ls h k b) x)
-      else_assigned k no_else = low_false
-      else_assigned k (with_else b) = block_assigned k b
-
-      list_assigned : (k : ℕ) (cs : CommandList) → Low (block_assigns (list_of ls h k cs) x)
-      list_assigned k no_command = low_false
-      list_assigned k (and_command c cs) =
-          low_or (assigns (command_of ls h k c) x) (block_assigns (list_of ls h (k + length (command_sites h c)) cs) x) (command_assigned k c)
-          (list_assigned (k + length (command_sites h c)) cs)
+    block_assigned : (k : ℕ) (b : CommandBlock) → Low (block_assigns (block_of ls h k b) x)
+    block_assigned k b =
+        some_in_block_gives (λ c. Low (step_assigns c x)) (λ e. Unit {0}) (λ c. step_assigns c x) (x < r) (λ c low i. low i) (block_of ls h k b)
+        (steps_of_block ls h (λ c. Low (step_assigns c x)) step_assigned k b)
 
     module _ (s : ℕ) (own : s < r) (g : Group) (kids : Low (among g x)) (below : Low (group_assigns g x)) where
       step_hung : (n : ℕ) (c : SimpleCommand) → Low (step_hangs s g (step_of ls h n c) x)
@@ -139,41 +95,6 @@ module _ (r x : ℕ) where
       step_hung n (set_cell_tag place target index tag) = low_false
       step_hung n (go_to place target) = low_equal s own
       step_hung n (fall_to_child place) = low_or (among g x) (group_assigns g x) kids below
-
-      mutual
-        pub command_hung : (k : ℕ) (c : Command) → Low (hangs s g (command_of ls h k c) x)
-        command_hung k (lone c) = step_hung (site_number h k c) c
-        command_hung k (try c place b) =
-            low_or (step_hangs s g (step_of ls h (site_number h k c) c) x) (block_hangs s g (block_of ls h (k + length (simple_sites h c)) b) x)
-            (step_hung (site_number h k c) c) (block_hung (k + length (simple_sites h c)) b)
-        command_hung k (if_else place e b other) =
-            low_or (block_hangs s g (block_of ls h k b) x) (block_hangs s g (else_of ls h (k + length (block_sites h b)) other) x) (block_hung k b)
-            (else_hung (k + length (block_sites h b)) other)
-        command_hung k (try_then c place a b) =
-            let i = k + length (simple_sites h c) in
-            let j = i + length (block_sites h a) in
-            low_or (step_hangs s g (step_of ls h (site_number h k c) c) x) (block_hangs s g (block_of ls h i a) x || block_hangs s g (block_of ls h j b) x)
-            (step_hung (site_number h k c) c)
-            (low_or (block_hangs s g (block_of ls h i a) x) (block_hangs s g (block_of ls h j b) x) (block_hung i a) (block_hung j b))
-        command_hung k (case_of place e arms) = arms_hung k arms
-
-        arms_hung : (k : ℕ) (arms : Arms) → Low (arms_hang s g (arms_of ls h k arms) x)
-        arms_hung k (last_arm b) = block_hung k b
-        arms_hung k (and_arm constants b arms) =
-            low_or (block_hangs s g (block_of ls h k b) x) (arms_hang s g (arms_of ls h (k + length (block_sites h b)) arms) x) (block_hung k b) (arms_hung (k + length (block_sites h b)) arms)
-
-        block_hung : (k : ℕ) (b : CommandBlock) → Low (block_hangs s g (block_of ls h k b) x)
-        block_hung k (command_block cs after) = list_hung k cs
-
-        else_hung : (k : ℕ) (b : ElseBlock) → Low (block_hangs s g (else_of ls h k b) x)
-        else_hung k no_else = low_false
-        else_hung k (with_else b) = block_hung k b
-
-        list_hung : (k : ℕ) (cs : CommandList) → Low (block_hangs s g (list_of ls h k cs) x)
-        list_hung k no_command = low_false
-        list_hung k (and_command c cs) =
-            low_or (hangs s g (command_of ls h k c) x) (block_hangs s g (list_of ls h (k + length (command_sites h c)) cs) x) (command_hung k c)
-            (list_hung (k + length (command_sites h c)) cs)
 
   module _ (ls : Levels) (es : List declared_entity.Entity) where
     mutual
@@ -207,44 +128,42 @@ module _ (ls : Levels) (w : World) where
     abbrev After : Home
     After = record { state = s; parent = p; children = filled_group w s g }
 
-    exact_list : (k : ℕ) (c : Command) (x : ℕ)
-        → listed (table (root w) (touches w Before (command_of ls h k c))) x ≡ touches w After (filled w Before (command_of ls h k c)) x
-    exact_list k c x =
-        listed_is (root w) (touches w Before (command_of ls h k c))
-        (λ y j. command_hung (root w) y ls h bound s own g (kids y) (below y) k c (and_right (is_dynamic w y) (hangs s g (command_of ls h k c) y) j)) x
+    -- only entities hang on a step
+    abbrev Hung : Step → Type 0
+    Hung k = (y : ℕ) → Low (root w) y (step_hangs s g k y)
+
+    abbrev AllHung : program.Command → Type 0
+    AllHung c = Every (Asks Hung (λ e. Unit {0})) c
+
+    exact_list : (c : program.Command) → AllHung c → (x : ℕ) → listed (table (root w) (touches w Before c)) x ≡ touches w After (filled w Before c) x
+    exact_list c all x =
+        listed_is (root w) (touches w Before c)
+        (λ y j. some_gives Hung (λ e. Unit {0}) (λ k. step_hangs s g k y) (y < root w) (λ k low i. low y i) c all (and_right (is_dynamic w y) (hangs s g c y) j)) x
         ∙ ap (λ (b : Bool). is_dynamic w x && b)
-        (sym (hangs_filled w Before s g (filled_group w s g) (λ y. among_filled w s g y) (λ y. group_assigns_filled w s g y) (command_of ls h k c) x))
+        (sym (hangs_filled w Before s g (filled_group w s g) (λ y. among_filled w s g y) (λ y. group_assigns_filled w s g y) c x))
 
-    exact_step : (k : ℕ) (c : SimpleCommand) → ExactStep w After (filled_step w Before (step_of ls h (site_number h k c) c))
-    exact_step k (assign target e) = tt
-    exact_step k (write target index e) = tt
-    exact_step k (set_tag place target tag) = tt
-    exact_step k (set_cell_tag place target index tag) = tt
-    exact_step k (go_to place target) = tt
-    exact_step k (fall_to_child place) = exact_list k (lone (fall_to_child place))
+    exact_step : (k : Step) → Hung k → ExactStep w After (filled_step w Before k)
+    exact_step (program.assign site y e) all = tt
+    exact_step (program.write site m i e) all = tt
+    exact_step (program.retag site y n) all = tt
+    exact_step (program.retag_cell site m j n) all = tt
+    exact_step (program.go_to site target) all = tt
+    exact_step (program.fall_to_child site hang) all = exact_list (program.lone (program.fall_to_child site hang)) all
 
-    mutual
-      exact_command : (k : ℕ) (c : Command) → Exact w After (filled w Before (command_of ls h k c))
-      exact_command k (lone c) = exact_step k c
-      exact_command k (try c place b) = (exact_list k (try c place b), exact_block (k + length (simple_sites h c)) b)
-      exact_command k (if_else place e b other) = (exact_list k (if_else place e b other), exact_block k b, exact_else (k + length (block_sites h b)) other)
-      exact_command k (try_then c place a b) = (exact_list k (try_then c place a b), exact_block (k + length (simple_sites h c)) a, exact_block (k + length (simple_sites h c) + length (block_sites h a)) b)
-      exact_command k (case_of place e arms) = (exact_list k (case_of place e arms), exact_arms k arms)
+    exact_command : (c : program.Command) → AllHung c → ExactCommand w After (filled w Before c)
+    exact_command (program.lone k) all = exact_step k all
+    exact_command (program.try k hang b) all = exact_list (program.try k hang b) all
+    exact_command (program.if_else hang e a b) all = exact_list (program.if_else hang e a b) all
+    exact_command (program.try_then k hang a b) all = exact_list (program.try_then k hang a b) all
+    exact_command (program.case_of hang e arms) all = exact_list (program.case_of hang e arms) all
 
-      exact_arms : (k : ℕ) (arms : Arms) → ExactArms w After (filled_arms w Before (arms_of ls h k arms))
-      exact_arms k (last_arm b) = exact_block k b
-      exact_arms k (and_arm constants b arms) = (exact_block k b, exact_arms (k + length (block_sites h b)) arms)
-
-      exact_block : (k : ℕ) (b : CommandBlock) → ExactBlock w After (filled_block w Before (block_of ls h k b))
-      exact_block k (command_block cs after) = exact_commands k cs
-
-      exact_else : (k : ℕ) (b : ElseBlock) → ExactBlock w After (filled_block w Before (else_of ls h k b))
-      exact_else k no_else = tt
-      exact_else k (with_else b) = exact_block k b
-
-      exact_commands : (k : ℕ) (cs : CommandList) → ExactBlock w After (filled_block w Before (list_of ls h k cs))
-      exact_commands k no_command = tt
-      exact_commands k (and_command c cs) = (exact_command k c, exact_commands (k + length (command_sites h c)) cs)
+    exact_block : (k : ℕ) (b : CommandBlock) → ExactBlock w After (filled_block w Before (block_of ls h k b))
+    exact_block k b =
+        let all = steps_of_block ls h Hung (λ n c y. step_hung (root w) y ls h bound s own g (kids y) (below y) n c) k b in
+        every_mapped_block (filled_step w Before) (filled_hang w Before) (λ c. ExactCommand w After (filled w Before c)) (ExactCommand w After) (λ c e. e)
+        (block_of ls h k b)
+        (every_with_in_block (Asks Hung (λ e. Unit {0})) (Asks Hung (λ e. Unit {0})) (λ c. ExactCommand w After (filled w Before c)) (λ c all own. exact_command c all)
+        (block_of ls h k b) all all)
 
   module _ (es : List declared_entity.Entity) (same : root w ≡ length es) where
     bounded : 0 < root w → (name : List ℕ) → entity_number es name < root w

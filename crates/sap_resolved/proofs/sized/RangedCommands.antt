@@ -4,25 +4,25 @@ use Rattle.std.specs.Prelude.{nat_le}
 use Rattle.sap_lemmas.proofs.Bools.{three_parts}
 use Rattle.std.proofs.lemmas.Bool.{and_parts}
 use Rattle.sap_tree.specs.Extent.{fits, tag_fits}
-use Rattle.sap_tree.specs.Limits.{most_arms, most_blocks}
-use Rattle.sap_tree.specs.Syntax as tree
-use Rattle.sap_tree.specs.Syntax.{Expression, TagExpression, level_of, tag_at, level_at, join_of, TagExpressions, no_tag, and_tag, SimpleCommand, assign, write, set_tag, set_cell_tag, go_to, fall_to_child, Command, lone, try, if_else, try_then, case_of, Arms, last_arm, CommandBlock, command_block, ElseBlock, no_else, with_else, CommandList, no_command, and_command, StateTree, state_node, StateList, no_state, and_state}
-use Rattle.sap_tree.specs.Whole.{is_expression, is_tag, are_tags, has_two_tags, is_outermost, is_outermost_tag, is_simple, is_command, is_block, is_else, are_arms, are_commands, has_arm, has_constant, are_constants, arm_count, block_depth, is_kind, is_state, are_states}
+use Rattle.sap_tree.specs.Limits.{most_blocks}
+use Rattle.sap_tree.specs.Syntax.{Expression, TagExpression, level_of, tag_at, level_at, join_of, TagExpressions, no_tag, and_tag, SimpleCommand, assign, write, set_tag, set_cell_tag, go_to, fall_to_child, CommandBlock, StateTree, state_node, StateList, no_state, and_state}
+use Rattle.sap_tree.specs.Whole.{is_expression, is_tag, are_tags, has_two_tags, is_outermost, is_outermost_tag, is_simple, is_block, block_depth, is_kind, is_state, are_states}
 use Rattle.sap_tree.specs.declared.version.Version.{Version}
-use Rattle.sap_tree.specs.Words.{is_name, is_second}
+use Rattle.sap_tree.specs.Words.{is_name}
 use Rattle.sap_lattice.specs.Levels.{Levels}
 use Rattle.sap_names.specs.declared.kind.Declared.{Declared}
 use Rattle.sap_names.specs.Entities.{what_is}
 use Rattle.sap_names.specs.declared.entity.Entity.{Entity}
 use Rattle.sap_names.specs.declared.kind.Use.TheVariants.{Indexed as indexed, Assigned as assigned, Retagged as retagged}
-use Rattle.sap_names.specs.NameFaults.{name_faults, expression_faults, tag_faults, tags_faults, simple_faults, command_faults, constants_faults, arms_faults, block_faults, else_faults, commands_faults, kind_faults, state_faults, states_faults}
-use Rattle.sap_names.specs.Widths.{own, register_width, cell_width, index_width}
+use Rattle.sap_names.specs.NameFaults.{name_faults, expression_faults, tag_faults, tags_faults, simple_faults, block_faults, kind_faults, state_faults, states_faults}
+use Rattle.sap_names.specs.Widths.{register_width, cell_width, index_width}
 use Rattle.sap_meaning.specs.Program.{World}
-use Rattle.sap_shape.specs.Sites.{Surroundings, simple_sites, command_sites, block_sites, state_sites}
+use Rattle.sap_shape.specs.Sites.{Surroundings, block_sites, state_sites}
 use Rattle.sap_resolved.specs.Worlds.{states_in}
 use Rattle.sap_resolved.specs.Terms.{term_of, level_term, level_terms}
-use Rattle.sap_resolved.specs.Resolve.{site_number, step_of, command_of, arms_of, block_of, else_of, list_of, state_of, group_of}
-use Rattle.sap_resolved.specs.Sized.Ranges.{RangedTerm, RangedLevel, RangedStep, Ranged, RangedArms, RangedBlock, RangedState, RangedGroup}
+use Rattle.sap_resolved.specs.Resolve.{step_of, block_of, state_of, group_of}
+use Rattle.sap_resolved.specs.Sized.Ranges.{RangedTerm, RangedLevel, RangedStep, RangedBlock, RangedState, RangedGroup}
+use Rattle.sap_resolved.proofs.TreeWalks.{Whole, Outermost, every_whole_in_block, Named, Fitting, every_named_in_block, every_resolved_in_block}
 use Rattle.sap_resolved.proofs.sized.Faultless.{none_two, none_three}
 use Rattle.sap_resolved.proofs.sized.Declared.{Resolved}
 use Rattle.sap_resolved.proofs.sized.OwnWidths.{Ranges, range_none, range_one, cell_ranges, index_ranges, register_ranges}
@@ -86,54 +86,11 @@ module _ (version : Version) (ls : Levels) (h : Surroundings) (w : World) (r : R
   step_ranged k (go_to place target) i f = tt
   step_ranged k (fall_to_child place) i f = tt
 
-  mutual
-    unfolding is_command is_block is_else are_arms are_commands
-
-    command_ranged : (k : ℕ) (c : Command) → is_command version c ≡ true → command_faults ls.names what c ≡ [] → Ranged w (command_of ls h k c)
-    command_ranged k (lone c) i f = step_ranged (site_number h k c) c i f
-    command_ranged k (try c place handler) i f =
-        let j = and_parts (is_simple version c) (is_block version handler) i in
-        let n = none_two (simple_faults ls.names what c) (block_faults ls.names what handler) f in
-        (step_ranged (site_number h k c) c j.0 n.0, block_ranged (k + length (simple_sites h c)) handler j.1 n.1)
-    command_ranged k (if_else place condition one other) i f =
-        let j = three_parts (is_outermost version condition) (is_block version one) (is_else version other) i in
-        let n = none_three (expression_faults what condition (Some 1)) (block_faults ls.names what one) (else_faults ls.names what other) f in
-        (outer_ranged version ls es w r condition (Some 1) j.0 range_one n.0, block_ranged k one j.1 n.1, else_ranged (k + length (block_sites h one)) other j.2 n.2)
-    command_ranged k (try_then c place one other) i f =
-        let j = and_parts (is_second version && is_simple version c && is_block version one) (is_block version other) i in
-        let m = and_parts (is_second version && is_simple version c) (is_block version one) j.0 in
-        let p = and_parts (is_second version) (is_simple version c) m.0 in
-        let n = none_three (simple_faults ls.names what c) (block_faults ls.names what one) (block_faults ls.names what other) f in
-        (step_ranged (site_number h k c) c p.1 n.0, block_ranged (k + length (simple_sites h c)) one m.1 n.1, block_ranged (k + length (simple_sites h c) + length (block_sites h one)) other j.1 n.2)
-    command_ranged k (case_of place e arms) i f =
-        let j = and_parts (is_second version && is_outermost version e && has_arm arms && nat_le (arm_count arms) most_arms) (are_arms version arms) i in
-        let m = and_parts (is_second version && is_outermost version e && has_arm arms) (nat_le (arm_count arms) most_arms) j.0 in
-        let p = and_parts (is_second version && is_outermost version e) (has_arm arms) m.0 in
-        let q = and_parts (is_second version) (is_outermost version e) p.0 in
-        let n = none_two (expression_faults what e None) (arms_faults ls.names what (own what e) arms) f in
-        (outer_ranged version ls es w r e None q.1 range_none n.0, arms_ranged k (own what e) arms j.1 n.1)
-
-    arms_ranged : (k : ℕ) (asked : Option ℕ) (arms : Arms) → are_arms version arms ≡ true → arms_faults ls.names what asked arms ≡ [] → RangedArms w (arms_of ls h k arms)
-    arms_ranged k asked (last_arm b) i f = block_ranged k b i f
-    arms_ranged k asked (tree.and_arm constants b arms) i f =
-        let j = and_parts (has_constant constants && are_constants constants && is_block version b) (are_arms version arms) i in
-        let m = and_parts (has_constant constants && are_constants constants) (is_block version b) j.0 in
-        let n = none_three (constants_faults what asked constants) (block_faults ls.names what b) (arms_faults ls.names what asked arms) f in
-        (block_ranged k b m.1 n.1, arms_ranged (k + length (block_sites h b)) asked arms j.1 n.2)
-
-    pub block_ranged : (k : ℕ) (b : CommandBlock) → is_block version b ≡ true → block_faults ls.names what b ≡ [] → RangedBlock w (block_of ls h k b)
-    block_ranged k (command_block cs after) i f = list_ranged k cs i f
-
-    else_ranged : (k : ℕ) (b : ElseBlock) → is_else version b ≡ true → else_faults ls.names what b ≡ [] → RangedBlock w (else_of ls h k b)
-    else_ranged k no_else i f = tt
-    else_ranged k (with_else b) i f = block_ranged k b i f
-
-    list_ranged : (k : ℕ) (cs : CommandList) → are_commands version cs ≡ true → commands_faults ls.names what cs ≡ [] → RangedBlock w (list_of ls h k cs)
-    list_ranged k no_command i f = tt
-    list_ranged k (and_command c cs) i f =
-        let j = and_parts (is_command version c) (are_commands version cs) i in
-        let n = none_two (command_faults ls.names what c) (commands_faults ls.names what cs) f in
-        (command_ranged k c j.0 n.0, list_ranged (k + length (command_sites h c)) cs j.1 n.1)
+  pub block_ranged : (k : ℕ) (b : CommandBlock) → is_block version b ≡ true → block_faults ls.names what b ≡ [] → RangedBlock w (block_of ls h k b)
+  block_ranged k b i f =
+      every_resolved_in_block ls h (Whole version) (Named ls.names what) (Outermost version) (Fitting ls.names what) (RangedStep w) (RangedTerm w) step_ranged
+      (λ e j n. outer_ranged version ls es w r e (Some 1) j range_one n) (λ e j n. outer_ranged version ls es w r e None j range_none n) k b
+      (every_whole_in_block version b i) (every_named_in_block ls.names what b f)
 
 module _ (version : Version) (ls : Levels) (le : ℕ → ℕ → Bool) (es : List Entity) (w : World) (r : Resolved es w) where
   mutual
