@@ -2,5 +2,6 @@
 #![tactic(auto)]
 
 pub mod copies;
+pub mod counter;
 pub mod laws;
 pub mod writer;
