@@ -11,10 +11,10 @@ use Rattle.sap_net.specs.declared.parts.Memory.{Memory}
 use Rattle.sap_net.specs.Names.{is_among}
 use Rattle.sap_net.specs.Net.{Net}
 use Rattle.sap_net.specs.PortNames.{top_name}
+use Rattle.sap_share.specs.Sets.{holds}
 use Rattle.sap_build.specs.Copies.{copy_wire, copy_memory}
 use Rattle.sap_joined.specs.Joined as spec
 use Rattle.sap_joined.specs.Joined.{NamedNet, Feed}
-use Rattle.sap_joined.specs.Seen.{has}
 
 -- the names of hidden registers are the hidden ones of their names
 hidden_named : (shown : Name → Bool) (rs : List Register) → map (λ (r : Register). r.name) (filter (spec.is_hidden_register shown) rs) ≡ filter (spec.is_hidden shown) (map (λ (r : Register). r.name) rs)
@@ -64,23 +64,23 @@ module _ (tag : ℕ) (parts : List NamedNet) (feeds : List Feed) where
   is_shown x = is_among x (spec.port_names all_ports)
 
   pub whole_is : (fed shown : List Name) (x : Name) (names : List Name) (ports : List Port) (inputs : List Input) (wires : List Wire) (first last registers : List Register) (memories : List Memory)
-      → fed ≡ spec.fed_names feeds → ports ≡ spec.ports_by (has fed) (spec.part_ports parts) → inputs ≡ filter (spec.is_free_input (has fed)) (spec.part_inputs parts)
+      → fed ≡ spec.fed_names feeds → ports ≡ spec.ports_by (holds fed) (spec.part_ports parts) → inputs ≡ filter (spec.is_free_input (holds fed)) (spec.part_inputs parts)
       → shown ≡ spec.port_names ports → wires ≡ all_wires
-      → first ≡ filter (spec.is_shown_register (has shown)) all_registers → last ≡ filter (spec.is_hidden_register (has shown)) all_registers → registers ≡ first ++ last
+      → first ≡ filter (spec.is_shown_register (holds shown)) all_registers → last ≡ filter (spec.is_hidden_register (holds shown)) all_registers → registers ≡ first ++ last
       → memories ≡ all_memories
-      → names ≡ spec.port_names ports ++ ((filter (spec.is_hidden (has shown)) (map (λ (w : Wire). w.name) wires) ++ map (λ (r : Register). r.name) last) ++ filter (spec.is_hidden (has shown)) (map (λ (m : Memory). m.name) memories))
+      → names ≡ spec.port_names ports ++ ((filter (spec.is_hidden (holds shown)) (map (λ (w : Wire). w.name) wires) ++ map (λ (r : Register). r.name) last) ++ filter (spec.is_hidden (holds shown)) (map (λ (m : Memory). m.name) memories))
       → x ≡ top_name → net x names ports inputs wires registers memories ≡ spec.joined tag parts feeds
   whole_is fed shown x names ports inputs wires first last registers memories fed_is ports_are inputs_are shown_is wires_are first_is last_is registers_are memories_are names_are top =
-      let f : has fed ≡ spec.is_fed feeds = ap (λ (xs : List Name). has xs) fed_is in
+      let f : holds fed ≡ spec.is_fed feeds = ap (λ (xs : List Name). holds xs) fed_is in
       let ps : ports ≡ all_ports = ports_are ∙ ap (λ (t : Name → Bool). spec.ports_by t (spec.part_ports parts)) f in
       let is : inputs ≡ spec.free_inputs parts feeds = inputs_are ∙ ap (λ (t : Name → Bool). filter (spec.is_free_input t) (spec.part_inputs parts)) f in
-      let h : has shown ≡ is_shown = ap (λ (xs : List Name). has xs) (shown_is ∙ ap spec.port_names ps) in
+      let h : holds shown ≡ is_shown = ap (λ (xs : List Name). holds xs) (shown_is ∙ ap spec.port_names ps) in
       let first_are : first ≡ filter (spec.is_shown_register is_shown) all_registers = first_is ∙ ap (λ (t : Name → Bool). filter (spec.is_shown_register t) all_registers) h in
       let last_are : last ≡ filter (spec.is_hidden_register is_shown) all_registers = last_is ∙ ap (λ (t : Name → Bool). filter (spec.is_hidden_register t) all_registers) h in
       let rs : registers ≡ spec.shown_first is_shown all_registers = registers_are ∙ ap₂ (λ (xs ys : List Register). xs ++ ys) first_are last_are in
-      let ns_wires : filter (spec.is_hidden (has shown)) (map (λ (w : Wire). w.name) wires) ≡ filter (spec.is_hidden is_shown) (map (λ (w : Wire). w.name) all_wires) =
+      let ns_wires : filter (spec.is_hidden (holds shown)) (map (λ (w : Wire). w.name) wires) ≡ filter (spec.is_hidden is_shown) (map (λ (w : Wire). w.name) all_wires) =
       ap₂ (λ (t : Name → Bool) (ws : List Wire). filter (spec.is_hidden t) (map (λ (w : Wire). w.name) ws)) h wires_are in
-      let ns_memories : filter (spec.is_hidden (has shown)) (map (λ (m : Memory). m.name) memories) ≡ filter (spec.is_hidden is_shown) (map (λ (m : Memory). m.name) all_memories) =
+      let ns_memories : filter (spec.is_hidden (holds shown)) (map (λ (m : Memory). m.name) memories) ≡ filter (spec.is_hidden is_shown) (map (λ (m : Memory). m.name) all_memories) =
       ap₂ (λ (t : Name → Bool) (ms : List Memory). filter (spec.is_hidden t) (map (λ (m : Memory). m.name) ms)) h memories_are in
       let within =
       ap₂ (λ (xs ys : List Name). xs ++ ys) (ap₂ (λ (xs ys : List Name). xs ++ ys) ns_wires (ap (map (λ (r : Register). r.name)) last_are)) ns_memories

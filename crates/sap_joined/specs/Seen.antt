@@ -1,7 +1,4 @@
--- Parts and feeds as the code has them, and lists that stand for tests of names.
-use Rattle.std.specs.Prelude.{Bool, List}
-use Rattle.sap_maps.specs.Maps.{Name}
-use Rattle.sap_net.specs.Names.{is_among}
+-- Parts and feeds as the code has them.
 use Rattle.sap_joined.specs.Joined.{NamedNet, Feed}
 use Rattle.sap_joined.specs.declared.parts.NamedNet as code_net
 use Rattle.sap_joined.specs.declared.parts.Feed as code_feed
@@ -19,7 +16,3 @@ feed f =
       width = f.width;
       level = f.level;
     }
-
--- the name is one of these
-abbrev pub has : List Name → Name → Bool
-has xs x = is_among x xs

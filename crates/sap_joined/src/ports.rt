@@ -6,6 +6,7 @@ ghost use Rattle.sap_joined.specs.Joined as spec;
 ghost use Rattle.sap_joined.specs.Seen as seen;
 ghost use Rattle.sap_joined.specs.Spelled.{IsSpelled};
 ghost use Rattle.sap_linked.specs.Parts as parts;
+ghost use Rattle.sap_share.specs.Sets.{holds};
 
 use crate::names::in_part;
 use crate::parts::NamedNet;
@@ -23,10 +24,10 @@ struct Sorted {
 }
 
 fn add_port(sorted: &mut Sorted, fed: &Places, port: Port) -> Result<(), AllocError>
-    ensures free { OnOk result (sorted.new.free.items ≡ sorted.old.free.items ++ filter (spec.is_free_port (seen.has fed.now)) (port ∷ [])) }
+    ensures free { OnOk result (sorted.new.free.items ≡ sorted.old.free.items ++ filter (spec.is_free_port (holds fed.now)) (port ∷ [])) }
     ensures registers { OnOk result (sorted.new.registers.items ≡ sorted.old.registers.items ++ filter spec.is_register_port (port ∷ [])) }
     ensures wires { OnOk result (sorted.new.wires.items ≡ sorted.old.wires.items ++ filter spec.is_wire_port (port ∷ [])) }
-    ensures fed { OnOk result (sorted.new.fed.items ≡ sorted.old.fed.items ++ map spec.as_wire (filter (spec.is_fed_port (seen.has fed.now)) (port ∷ []))) }
+    ensures fed { OnOk result (sorted.new.fed.items ≡ sorted.old.fed.items ++ map spec.as_wire (filter (spec.is_fed_port (holds fed.now)) (port ∷ []))) }
 {
     match port.kind {
         PortKind::Input => {
@@ -53,10 +54,10 @@ fn add_ports_of(
     ports: &[Port],
 ) -> Result<(), AllocError>
     requires { All (λ p. IsSpelled p.name) ports.now }
-    ensures free { OnOk result (sorted.new.free.items ≡ sorted.old.free.items ++ filter (spec.is_free_port (seen.has fed.now)) (map (copies.copy_port (parts.in_part part.now)) ports.now)) }
+    ensures free { OnOk result (sorted.new.free.items ≡ sorted.old.free.items ++ filter (spec.is_free_port (holds fed.now)) (map (copies.copy_port (parts.in_part part.now)) ports.now)) }
     ensures registers { OnOk result (sorted.new.registers.items ≡ sorted.old.registers.items ++ filter spec.is_register_port (map (copies.copy_port (parts.in_part part.now)) ports.now)) }
     ensures wires { OnOk result (sorted.new.wires.items ≡ sorted.old.wires.items ++ filter spec.is_wire_port (map (copies.copy_port (parts.in_part part.now)) ports.now)) }
-    ensures fed { OnOk result (sorted.new.fed.items ≡ sorted.old.fed.items ++ map spec.as_wire (filter (spec.is_fed_port (seen.has fed.now)) (map (copies.copy_port (parts.in_part part.now)) ports.now))) }
+    ensures fed { OnOk result (sorted.new.fed.items ≡ sorted.old.fed.items ++ map spec.as_wire (filter (spec.is_fed_port (holds fed.now)) (map (copies.copy_port (parts.in_part part.now)) ports.now))) }
 {
     for port in ports {
         let copy = Port {
@@ -70,10 +71,10 @@ fn add_ports_of(
 
 #[tactic(auto, using(crate::proofs::Spelling::ports_spelled))]
 fn sort_ports(alloc: Global, parts: &[NamedNet<'_>], fed: &Places) -> Result<Sorted, AllocError>
-    ensures free { IfOk result (λ sorted. sorted.free.items ≡ filter (spec.is_free_port (seen.has fed.now)) (spec.part_ports (map seen.named_net parts.now))) }
+    ensures free { IfOk result (λ sorted. sorted.free.items ≡ filter (spec.is_free_port (holds fed.now)) (spec.part_ports (map seen.named_net parts.now))) }
     ensures registers { IfOk result (λ sorted. sorted.registers.items ≡ filter spec.is_register_port (spec.part_ports (map seen.named_net parts.now))) }
     ensures wires { IfOk result (λ sorted. sorted.wires.items ≡ filter spec.is_wire_port (spec.part_ports (map seen.named_net parts.now))) }
-    ensures fed { IfOk result (λ sorted. sorted.fed.items ≡ map spec.as_wire (filter (spec.is_fed_port (seen.has fed.now)) (spec.part_ports (map seen.named_net parts.now)))) }
+    ensures fed { IfOk result (λ sorted. sorted.fed.items ≡ map spec.as_wire (filter (spec.is_fed_port (holds fed.now)) (spec.part_ports (map seen.named_net parts.now)))) }
 {
     let mut sorted = Sorted {
         free: Vec::new(alloc),
@@ -94,7 +95,7 @@ pub(crate) fn joined_ports(
     parts: &[NamedNet<'_>],
     fed: &Places,
 ) -> Result<Vec<Port>, AllocError>
-    ensures { IfOk result (λ made. made.items ≡ spec.ports_by (seen.has fed.now) (spec.part_ports (map seen.named_net parts.now))) }
+    ensures { IfOk result (λ made. made.items ≡ spec.ports_by (holds fed.now) (spec.part_ports (map seen.named_net parts.now))) }
 {
     let sorted = sort_ports(alloc, parts, fed)?;
     let Sorted {
@@ -117,7 +118,7 @@ fn add_input(
     input: &Input,
 ) -> Result<(), AllocError>
     requires { IsSpelled input.now.name }
-    ensures { OnOk result (made.new.items ≡ made.old.items ++ filter (spec.is_free_input (seen.has fed.now)) (copies.copy_input (parts.in_part part.now) input.now ∷ [])) }
+    ensures { OnOk result (made.new.items ≡ made.old.items ++ filter (spec.is_free_input (holds fed.now)) (copies.copy_input (parts.in_part part.now) input.now ∷ [])) }
 {
     let name = in_part(alloc, part, &input.name)?;
     if !fed.holds(&name) {
@@ -137,7 +138,7 @@ fn add_inputs_of(
     inputs: &[Input],
 ) -> Result<(), AllocError>
     requires { All (λ i. IsSpelled i.name) inputs.now }
-    ensures { OnOk result (made.new.items ≡ made.old.items ++ filter (spec.is_free_input (seen.has fed.now)) (map (copies.copy_input (parts.in_part part.now)) inputs.now)) }
+    ensures { OnOk result (made.new.items ≡ made.old.items ++ filter (spec.is_free_input (holds fed.now)) (map (copies.copy_input (parts.in_part part.now)) inputs.now)) }
 {
     for input in inputs {
         add_input(alloc, made, fed, part, input)?;
@@ -152,7 +153,7 @@ pub(crate) fn free_inputs(
     parts: &[NamedNet<'_>],
     fed: &Places,
 ) -> Result<Vec<Input>, AllocError>
-    ensures { IfOk result (λ made. made.items ≡ filter (spec.is_free_input (seen.has fed.now)) (spec.part_inputs (map seen.named_net parts.now))) }
+    ensures { IfOk result (λ made. made.items ≡ filter (spec.is_free_input (holds fed.now)) (spec.part_inputs (map seen.named_net parts.now))) }
 {
     let mut made = Vec::new(alloc);
     for part in parts {

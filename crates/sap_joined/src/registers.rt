@@ -6,6 +6,7 @@ ghost use Rattle.sap_joined.specs.Joined as spec;
 ghost use Rattle.sap_joined.specs.Seen as seen;
 ghost use Rattle.sap_joined.specs.Spelled.{RegisterSpelled};
 ghost use Rattle.sap_linked.specs.Parts as parts;
+ghost use Rattle.sap_share.specs.Sets.{holds};
 
 use crate::copies::copy_register;
 use crate::parts::NamedNet;
@@ -25,8 +26,8 @@ fn add_register(
     shown: &Places,
     register: Register,
 ) -> Result<(), AllocError>
-    ensures shown { OnOk result (registers.new.shown.items ≡ registers.old.shown.items ++ filter (spec.is_shown_register (seen.has shown.now)) (register ∷ [])) }
-    ensures hidden { OnOk result (registers.new.hidden.items ≡ registers.old.hidden.items ++ filter (spec.is_hidden_register (seen.has shown.now)) (register ∷ [])) }
+    ensures shown { OnOk result (registers.new.shown.items ≡ registers.old.shown.items ++ filter (spec.is_shown_register (holds shown.now)) (register ∷ [])) }
+    ensures hidden { OnOk result (registers.new.hidden.items ≡ registers.old.hidden.items ++ filter (spec.is_hidden_register (holds shown.now)) (register ∷ [])) }
 {
     if shown.holds(&register.name) {
         registers.shown.push(register)?;
@@ -44,8 +45,8 @@ fn add_registers_of(
     given: &[Register],
 ) -> Result<(), AllocError>
     requires { All RegisterSpelled given.now }
-    ensures shown { OnOk result (registers.new.shown.items ≡ registers.old.shown.items ++ filter (spec.is_shown_register (seen.has shown.now)) (map (copies.copy_register (parts.in_part part.now)) given.now)) }
-    ensures hidden { OnOk result (registers.new.hidden.items ≡ registers.old.hidden.items ++ filter (spec.is_hidden_register (seen.has shown.now)) (map (copies.copy_register (parts.in_part part.now)) given.now)) }
+    ensures shown { OnOk result (registers.new.shown.items ≡ registers.old.shown.items ++ filter (spec.is_shown_register (holds shown.now)) (map (copies.copy_register (parts.in_part part.now)) given.now)) }
+    ensures hidden { OnOk result (registers.new.hidden.items ≡ registers.old.hidden.items ++ filter (spec.is_hidden_register (holds shown.now)) (map (copies.copy_register (parts.in_part part.now)) given.now)) }
 {
     for register in given {
         let copy = copy_register(alloc, part, register)?;
@@ -60,8 +61,8 @@ pub(crate) fn sort_registers(
     parts: &[NamedNet<'_>],
     shown: &Places,
 ) -> Result<Registers, AllocError>
-    ensures shown { IfOk result (λ made. made.shown.items ≡ filter (spec.is_shown_register (seen.has shown.now)) (spec.part_registers (map seen.named_net parts.now))) }
-    ensures hidden { IfOk result (λ made. made.hidden.items ≡ filter (spec.is_hidden_register (seen.has shown.now)) (spec.part_registers (map seen.named_net parts.now))) }
+    ensures shown { IfOk result (λ made. made.shown.items ≡ filter (spec.is_shown_register (holds shown.now)) (spec.part_registers (map seen.named_net parts.now))) }
+    ensures hidden { IfOk result (λ made. made.hidden.items ≡ filter (spec.is_hidden_register (holds shown.now)) (spec.part_registers (map seen.named_net parts.now))) }
 {
     let mut registers = Registers {
         shown: Vec::new(alloc),

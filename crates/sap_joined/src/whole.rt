@@ -4,6 +4,7 @@ ghost use Rattle.std.specs.Prelude.{◌≡◌, ◌++◌, [], ◌∷◌, filter, 
 ghost use Rattle.sap_net.specs.Net.{net_of};
 ghost use Rattle.sap_joined.specs.Joined as spec;
 ghost use Rattle.sap_joined.specs.Seen as seen;
+ghost use Rattle.sap_share.specs.Sets.{holds};
 
 use crate::copies::{add_wires, memories};
 use crate::feeds::{feed_wires, index_fed};
@@ -30,7 +31,7 @@ fn add_hidden(
     shown: &Places,
     name: &Name,
 ) -> Result<(), AllocError>
-    ensures { OnOk result (made.new.items ≡ made.old.items ++ filter (spec.is_hidden (seen.has shown.now)) (name.now ∷ [])) }
+    ensures { OnOk result (made.new.items ≡ made.old.items ++ filter (spec.is_hidden (holds shown.now)) (name.now ∷ [])) }
 {
     if !shown.holds(name) {
         made.push(name.copy(alloc)?)?;
@@ -44,7 +45,7 @@ fn add_wire_names(
     shown: &Places,
     wires: &[Wire],
 ) -> Result<(), AllocError>
-    ensures { OnOk result (made.new.items ≡ made.old.items ++ filter (spec.is_hidden (seen.has shown.now)) (map (λ w. w.name) wires.now)) }
+    ensures { OnOk result (made.new.items ≡ made.old.items ++ filter (spec.is_hidden (holds shown.now)) (map (λ w. w.name) wires.now)) }
 {
     for wire in wires {
         add_hidden(alloc, made, shown, &wire.name)?;
@@ -71,7 +72,7 @@ fn add_memory_names(
     shown: &Places,
     memories: &[Memory],
 ) -> Result<(), AllocError>
-    ensures { OnOk result (made.new.items ≡ made.old.items ++ filter (spec.is_hidden (seen.has shown.now)) (map (λ m. m.name) memories.now)) }
+    ensures { OnOk result (made.new.items ≡ made.old.items ++ filter (spec.is_hidden (holds shown.now)) (map (λ m. m.name) memories.now)) }
 {
     for memory in memories {
         add_hidden(alloc, made, shown, &memory.name)?;
@@ -88,7 +89,7 @@ fn all_names(
     hidden: &[Register],
     memories: &[Memory],
 ) -> Result<Vec<Name>, AllocError>
-    ensures { let is_hidden = spec.is_hidden (seen.has shown.now) in
+    ensures { let is_hidden = spec.is_hidden (holds shown.now) in
         IfOk result (λ names. names.items ≡ spec.port_names ports.now
         ++ ((filter is_hidden (map (λ w. w.name) wires.now) ++ map (λ r. r.name) hidden.now) ++ filter is_hidden (map (λ m. m.name) memories.now))) }
 {

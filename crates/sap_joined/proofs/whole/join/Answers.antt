@@ -4,6 +4,7 @@ use Rattle.sap_net.specs.declared.parts.Wire.{Wire}
 use Rattle.sap_net.specs.declared.parts.Register.{Register}
 use Rattle.sap_net.specs.declared.parts.Memory.{Memory}
 use Rattle.sap_net.specs.PortNames.{top_name}
+use Rattle.sap_share.specs.Sets.{holds}
 use Rattle.sap_build.specs.Copies.{copy_wire, copy_memory}
 use Rattle.sap_joined.specs.Joined as spec
 use Rattle.sap_joined.specs.Seen as seen
@@ -26,16 +27,16 @@ returns c =
     let names = c.in_ok-names.names.items in
     let copies = spec.copies_of (λ n. n.wires) copy_wire ps in
     let listed = λ (qs : List Port) (ws : List Wire) (rs : List Register) (ms : List Memory).
-    spec.port_names qs ++ ((filter (spec.is_hidden (seen.has shown)) (map (λ (w : Wire). w.name) ws) ++ map (λ (r : Register). r.name) rs) ++ filter (spec.is_hidden (seen.has shown)) (map (λ (m : Memory). m.name) ms)) in
+    spec.port_names qs ++ ((filter (spec.is_hidden (holds shown)) (map (λ (w : Wire). w.name) ws) ++ map (λ (r : Register). r.name) rs) ++ filter (spec.is_hidden (holds shown)) (map (λ (m : Memory). m.name) ms)) in
     let fed_is : fed ≡ spec.fed_names fs = search rules in
-    let ports_are : ports ≡ spec.ports_by (seen.has fed) (spec.part_ports ps) = search rules in
-    let inputs_are : inputs ≡ filter (spec.is_free_input (seen.has fed)) (spec.part_inputs ps) = search rules in
+    let ports_are : ports ≡ spec.ports_by (holds fed) (spec.part_ports ps) = search rules in
+    let inputs_are : inputs ≡ filter (spec.is_free_input (holds fed)) (spec.part_inputs ps) = search rules in
     let shown_by : shown ≡ spec.port_names c.as_slice.result.now = search rules in
     let shown_is : shown ≡ spec.port_names ports = shown_by ∙ ap spec.port_names c.as_slice.ensures.value in
     let fed_wires : c.in_ok-wires.wires.items ≡ spec.feed_wires c.args.tag fs = search rules in
     let all_wires : wires ≡ c.in_ok-wires.wires.items ++ copies = c.in_ok-add_wires.ensures {u = tt} in
-    let first_is : first ≡ filter (spec.is_shown_register (seen.has shown)) (spec.part_registers ps) = search rules in
-    let last_is : last ≡ filter (spec.is_hidden_register (seen.has shown)) (spec.part_registers ps) = search rules in
+    let first_is : first ≡ filter (spec.is_shown_register (holds shown)) (spec.part_registers ps) = search rules in
+    let last_is : last ≡ filter (spec.is_hidden_register (holds shown)) (spec.part_registers ps) = search rules in
     let registers_are : registers ≡ first ++ last = search rules in
     let memories_are : memories ≡ spec.copies_of (λ n. n.memories) copy_memory ps = search rules in
     let names_by : names ≡ listed c.as_slice-2.result.now c.as_slice-3.result.now c.as_slice-4.result.now c.as_slice-5.result.now = search rules in
