@@ -19,6 +19,7 @@ use Rattle.sap_net.proofs.RulesLemmas.{operand_grows, readable_kept, wires_both,
 use Rattle.sap_net.proofs.Same.{all_found}
 use Rattle.sap_build.specs.Copies.{copy_input, copy_memory, copy_net, copy_register, copy_wire}
 use Rattle.sap_build.specs.Laws.{CopiesAreNetlists}
+use Rattle.sap_build.proofs.Inserted.{GrowsIn}
 use Rattle.sap_build.proofs.Inside.{of_entries, of_readable}
 use Rattle.sap_link.specs.Systems.{WiresFit}
 use Rattle.sap_linked.specs.Parts.{NamedSystem, part_at, system_of, in_part, NamesFit}
@@ -34,7 +35,7 @@ use Rattle.sap_linked.proofs.Parted.{absent, contradicted, distinct_front, find_
 use Rattle.sap_linked.proofs.Showing.{all_inputs, all_registers, all_wires, fed_there, fed_wires, no_input, no_wire, part_wires, part_wires_are, wire_inner, wire_there, wires_distinct}
 use Rattle.sap_linked.proofs.SideBySide.{of_first, to_all}
 use Rattle.sap_linked.proofs.Values.{first_named, to_whole, whole_memories, wire_no_memory}
-use Rattle.sap_linked.proofs.Wider.{apart_front, distinct_second, fresh_after, parts_wires, GrowsIn}
+use Rattle.sap_linked.proofs.Wider.{apart_front, distinct_second, fresh_after, parts_wires}
 
 pub top_named : is_name top_name ≡ true
 unfolding is_name

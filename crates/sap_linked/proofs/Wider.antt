@@ -1,60 +1,24 @@
--- Wires behind more than they read.
-use Rattle.std.proofs.Common.{◌≡◌, ℕ, suc, ◌<◌, ◌≤◌, true, false, List, [], ◌∷◌, ◌++◌, map, length, Some, None, refl, ◌∙◌, ap, subst, inl, inr, arith}
+-- The wires of parts behind more than they read.
+use Rattle.std.proofs.Common.{◌≡◌, ℕ, suc, ◌<◌, ◌≤◌, true, false, List, [], ◌∷◌, ◌++◌, map, length, None, refl, ◌∙◌, ap, subst, inl, inr, arith}
 use Rattle.std.specs.Str.{bytes_eq}
-use Rattle.std.proofs.lemmas.Bool.{cases_Bool, or_right}
+use Rattle.std.proofs.lemmas.Bool.{cases_Bool}
 use Rattle.sap_lemmas.proofs.Bools.{neither_left, neither_right}
 use Rattle.sap_lemmas.proofs.Texts.{bytes_eq_apart_back, equal_of_bytes_eq}
 use Rattle.sap_maps.specs.Maps.{Name}
 use Rattle.sap_maps.specs.Scope.{Scope, find}
-use Rattle.sap_maps.proofs.Scopes.{not_first}
-use Rattle.sap_net.specs.declared.parts.Operand.{Operand}
-use Rattle.sap_net.specs.declared.parts.Right.{Right}
-use Rattle.sap_net.specs.declared.parts.Right.TheVariants.{Copy, One, Two, Choose, Concat, Slice, Cell}
 use Rattle.sap_net.specs.declared.parts.Wire.{Wire}
 use Rattle.sap_net.specs.Names.{AreDistinct, is_among}
 use Rattle.sap_net.specs.Net.{Net}
-use Rattle.sap_net.specs.Rules.{Shapes, AreOperands, IsRight, AreWires, readable_after}
+use Rattle.sap_net.specs.Rules.{Shapes, AreWires, readable_after}
 use Rattle.sap_net.specs.IsNetlist.{IsNetlist, first_readable, names_of, shapes}
 use Rattle.sap_net.specs.PortNames.{top_name}
-use Rattle.sap_net.proofs.NamesLemmas.{among_front, among_behind, among_here}
-use Rattle.sap_net.proofs.RulesLemmas.{Grows, operand_grows, readable_kept, wires_both, wires_new}
+use Rattle.sap_net.proofs.NamesLemmas.{among_front, among_behind}
+use Rattle.sap_net.proofs.RulesLemmas.{Grows, readable_kept, wires_both}
 use Rattle.sap_build.specs.Copies.{copy_wire, copy_net}
+use Rattle.sap_build.proofs.Inserted.{GrowsIn, wires_grow}
 use Rattle.sap_linked.specs.Parts.{Part, NamedSystem, part_at, in_part}
 use Rattle.sap_linked.specs.Netlist.{copies_of}
 use Rattle.sap_linked.proofs.Families.{Suffix, later, this, map_both}
-
-abbrev pub GrowsIn : Shapes → Shapes → Type 0
-GrowsIn ms ns = (m : Name) (t : ℕ × ℕ) → find ms m ≡ Some t → find ns m ≡ Some t
-
-operands_grow : (sc sd : Scope) → Grows sc sd → (u : ℕ) (os : List Operand) → AreOperands sc u os → AreOperands sd u os
-operands_grow sc sd g u [] h = h
-operands_grow sc sd g u (o ∷ os) h = (h.0, h.1, h.2, operand_grows sc sd g h.0 o h.3, operands_grow sc sd g h.1 os h.4, h.5)
-
-module _ (ms ns : Shapes) (more : GrowsIn ms ns) where
-  right_wider : (sc sd : Scope) → Grows sc sd → (u : ℕ) (r : Right) → IsRight ms sc u r → IsRight ns sd u r
-  right_wider sc sd g u (Copy a) h = operand_grows sc sd g u a h
-  right_wider sc sd g u (One op a) h = (h.0, h.1, operand_grows sc sd g h.0 a h.2, h.3)
-  right_wider sc sd g u (Two op a b) h = (h.0, h.1, h.2, h.3, operand_grows sc sd g h.0 a h.4, operand_grows sc sd g h.1 b h.5, h.6, h.7)
-  right_wider sc sd g u (Choose c a b) h = (operand_grows sc sd g 1 c h.0, operand_grows sc sd g u a h.1, operand_grows sc sd g u b h.2)
-  right_wider sc sd g u (Concat os) h = (h.0, operands_grow sc sd g u os h.1)
-  right_wider sc sd g u (Slice x hi lo) h = (h.0, h.1, g x h.0 h.2, h.3, h.4, h.5)
-  right_wider sc sd g u (Cell m i) h = (h.0, more m _ h.1, operand_grows sc sd g h.0 i h.2)
-
-  grows_behind : (e : Name × ℕ) (sc sd : Scope) → Grows sc sd → Grows (e ∷ sc) (e ∷ sd)
-  grows_behind e sc sd g n u h = elim (cases_Bool (bytes_eq e.0 n)) [ inl t ↦ rw t (rw t at h) | inr q ↦ rw q (g n u (rw q at h)) ]
-
-  pub wires_wider : (ws : List Wire) (sc sd : Scope) → Grows sc sd → ((x : Name) → is_among x (names_of ws) ≡ true → (find sd x ≡ None) × (find ns x ≡ None)) → AreWires ms sc ws → AreWires ns sd ws
-  wires_wider [] sc sd g fresh a = tt
-  wires_wider (w ∷ ws) sc sd g fresh a =
-      let here = fresh w.name (among_here w.name (names_of ws)) in
-      let rest : (x : Name) → is_among x (names_of ws) ≡ true → (find ((w.name, w.width) ∷ sd) x ≡ None) × (find ns x ≡ None) = λ x h. (
-      let f = fresh x (or_right (bytes_eq x w.name) (is_among x (names_of ws)) h) in
-      let other = bytes_eq_apart_back x w.name (not_first (w.name, w.width) sc x (wires_new ms ws ((w.name, w.width) ∷ sc) a.4 x h).0) in
-      (behind_other w.name w.width sd x other f.0, f.1)) in
-      (a.0, here.0, here.1, right_wider sc sd g w.width w.right a.3, wires_wider ws ((w.name, w.width) ∷ sc) ((w.name, w.width) ∷ sd) (grows_behind (w.name, w.width) sc sd g) rest a.4)
-    where
-      behind_other : (n : Name) (u : ℕ) (sd : Scope) (x : Name) → bytes_eq n x ≡ false → find sd x ≡ None → find ((n, u) ∷ sd) x ≡ None
-      behind_other n u sd x q h = rw q h
 
 pub fresh_after : (ws : List Wire) (sc : Scope) (x : Name) → find sc x ≡ None → is_among x (names_of ws) ≡ false → find (readable_after sc ws) x ≡ None
 fresh_after [] sc x h k = h
@@ -95,7 +59,7 @@ module _ (s : NamedSystem) (nets : ℕ → Net) (ns : Shapes) where
       let own : AreWires (shapes (copy_at k)) (first_readable (copy_at k)) block =
       subst (λ (q : Part). AreWires (shapes (copy_at k)) (first_readable (copy_at k)) (map (copy_wire (in_part q.name)) (nets k).wires)) (this s k p ps at) (rules k low).assigns in
       let fresh_in = λ (x : Name) (h : is_among x (names_of block ++ names_of rest) ≡ true). fresh x (ap (is_among x) names ∙ h) in
-      let first = wires_wider (shapes (copy_at k)) ns (more k low) block (first_readable (copy_at k)) sd (grows k (omega arith) low) (λ x h. fresh_in x (among_front x (names_of block) (names_of rest) h)) own in
+      let first = wires_grow (shapes (copy_at k)) ns (more k low) block (first_readable (copy_at k)) sd (grows k (omega arith) low) (λ x h. fresh_in x (among_front x (names_of block) (names_of rest) h)) own in
       wires_both ns block rest sd first
       (parts_wires rules more (suc k) ps (later s k p ps at) (readable_after sd block)
       (λ i from less n u h. readable_kept ns block sd first n u (grows i (omega (arith, from)) less n u h))
