@@ -12,18 +12,9 @@ use crate::parts::{Feed, NamedNet};
 use crate::ports::{free_inputs, joined_ports};
 use crate::registers::{Registers, sort_registers};
 use crate::sets::index_ports;
-use sap_net::parts::{Memory, Name, Parts, Port, Register, Wire};
+use sap_net::parts::{Memory, Name, Parts, Register, Wire};
 use sap_share::places::Places;
 use std::alloc::{AllocError, Global};
-
-fn add_port_names(alloc: Global, made: &mut Vec<Name>, ports: &[Port]) -> Result<(), AllocError>
-    ensures { OnOk result (made.new.items ≡ made.old.items ++ spec.port_names ports.now) }
-{
-    for port in ports {
-        made.push(port.name.copy(alloc)?)?;
-    }
-    Ok(())
-}
 
 fn add_hidden(
     alloc: Global,
@@ -80,24 +71,30 @@ fn add_memory_names(
     Ok(())
 }
 
-/// The names of ports, and then those of other wires, registers and memories.
-fn all_names(
+/// The names of wires, registers and memories that no port shows.
+fn hidden_names(
     alloc: Global,
     shown: &Places,
-    ports: &[Port],
     wires: &[Wire],
     hidden: &[Register],
     memories: &[Memory],
 ) -> Result<Vec<Name>, AllocError>
     ensures { let is_hidden = spec.is_hidden (holds shown.now) in
-        IfOk result (λ names. names.items ≡ spec.port_names ports.now
-        ++ ((filter is_hidden (map (λ w. w.name) wires.now) ++ map (λ r. r.name) hidden.now) ++ filter is_hidden (map (λ m. m.name) memories.now))) }
+        IfOk result (λ names. names.items ≡ (filter is_hidden (map (λ w. w.name) wires.now) ++ map (λ r. r.name) hidden.now) ++ filter is_hidden (map (λ m. m.name) memories.now)) }
 {
     let mut names = Vec::new(alloc);
-    add_port_names(alloc, &mut names, ports)?;
     add_wire_names(alloc, &mut names, shown, wires)?;
     add_register_names(alloc, &mut names, hidden)?;
     add_memory_names(alloc, &mut names, shown, memories)?;
+    Ok(names)
+}
+
+/// The names that ports show, and then the others.
+fn all_names(shown: Places, mut hidden: Vec<Name>) -> Result<Vec<Name>, AllocError>
+    ensures { IfOk result (λ names. names.items ≡ shown ++ hidden.items) }
+{
+    let mut names = shown.into_names();
+    names.append(&mut hidden)?;
     Ok(names)
 }
 
@@ -130,14 +127,14 @@ pub fn join(
     add_wires(alloc, &mut wires, parts)?;
     let registers = sort_registers(alloc, parts, &shown)?;
     let memories = memories(alloc, parts)?;
-    let names = all_names(
+    let hidden = hidden_names(
         alloc,
         &shown,
-        ports.as_slice(),
         wires.as_slice(),
         registers.hidden.as_slice(),
         memories.as_slice(),
     )?;
+    let names = all_names(shown, hidden)?;
     let module_name = Name::new(String::from_str(alloc, "top")?);
     let registers = in_order(registers)?;
     Ok(Parts {

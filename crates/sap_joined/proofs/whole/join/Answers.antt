@@ -1,5 +1,5 @@
 use Rattle.std.proofs.Common.{◌≡◌, ◌++◌, List, map, filter, ap, ap₂, ◌∙◌, rules}
-use Rattle.sap_net.specs.declared.parts.Port.{Port}
+use Rattle.sap_maps.specs.Maps.{Name}
 use Rattle.sap_net.specs.declared.parts.Wire.{Wire}
 use Rattle.sap_net.specs.declared.parts.Register.{Register}
 use Rattle.sap_net.specs.declared.parts.Memory.{Memory}
@@ -26,8 +26,8 @@ returns c =
     let memories = c.in_ok-memories.memories.items in
     let names = c.in_ok-names.names.items in
     let copies = spec.copies_of (λ n. n.wires) copy_wire ps in
-    let listed = λ (qs : List Port) (ws : List Wire) (rs : List Register) (ms : List Memory).
-    spec.port_names qs ++ ((filter (spec.is_hidden (holds shown)) (map (λ (w : Wire). w.name) ws) ++ map (λ (r : Register). r.name) rs) ++ filter (spec.is_hidden (holds shown)) (map (λ (m : Memory). m.name) ms)) in
+    let listed = λ (ws : List Wire) (rs : List Register) (ms : List Memory).
+    ((filter (spec.is_hidden (holds shown)) (map (λ (w : Wire). w.name) ws) ++ map (λ (r : Register). r.name) rs) ++ filter (spec.is_hidden (holds shown)) (map (λ (m : Memory). m.name) ms)) in
     let fed_is : fed ≡ spec.fed_names fs = search rules in
     let ports_are : ports ≡ spec.ports_by (holds fed) (spec.part_ports ps) = search rules in
     let inputs_are : inputs ≡ filter (spec.is_free_input (holds fed)) (spec.part_inputs ps) = search rules in
@@ -39,11 +39,13 @@ returns c =
     let last_is : last ≡ filter (spec.is_hidden_register (holds shown)) (spec.part_registers ps) = search rules in
     let registers_are : registers ≡ first ++ last = search rules in
     let memories_are : memories ≡ spec.copies_of (λ n. n.memories) copy_memory ps = search rules in
-    let names_by : names ≡ listed c.as_slice-2.result.now c.as_slice-3.result.now c.as_slice-4.result.now c.as_slice-5.result.now = search rules in
+    let names_by : names ≡ shown ++ c.in_ok-hidden.hidden.items = search rules in
+    let hidden_by : c.in_ok-hidden.hidden.items ≡ listed c.as_slice-2.result.now c.as_slice-3.result.now c.as_slice-4.result.now = search rules in
     let top : c.new-module_name.result ≡ top_name = search rules in
     whole_is c.args.tag ps fs fed shown c.new-module_name.result names ports inputs wires first last registers memories fed_is ports_are inputs_are shown_is
     (all_wires ∙ ap (λ (ws : List Wire). ws ++ copies) fed_wires) first_is last_is registers_are memories_are
     (names_by
-    ∙ ap₂ (λ (qs : List Port) (ws : List Wire). listed qs ws c.as_slice-4.result.now c.as_slice-5.result.now) c.as_slice-2.ensures.value c.as_slice-3.ensures.value
-    ∙ ap₂ (λ (rs : List Register) (ms : List Memory). listed ports wires rs ms) c.as_slice-4.ensures.value c.as_slice-5.ensures.value)
+    ∙ ap₂ (λ (xs ys : List Name). xs ++ ys) shown_is hidden_by
+    ∙ ap₂ (λ (ws : List Wire) (rs : List Register). spec.port_names ports ++ listed ws rs c.as_slice-4.result.now) c.as_slice-2.ensures.value c.as_slice-3.ensures.value
+    ∙ ap (λ (ms : List Memory). spec.port_names ports ++ listed wires last ms) c.as_slice-4.ensures.value)
     top
