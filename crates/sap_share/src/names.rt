@@ -4,6 +4,7 @@ ghost use Rattle.std.specs.Prelude.{◌≡◌, IfOk};
 ghost use Rattle.sap_share.specs.Names.{helper};
 
 use sap_net::parts::Name;
+use sap_numbered::numbered;
 use std::alloc::{AllocError, Global};
 
 /// The name of the helping wire of a number.
@@ -11,6 +12,5 @@ use std::alloc::{AllocError, Global};
 pub fn helper_name(alloc: Global, k: u64) -> Result<Name, AllocError>
     ensures { IfOk result (λ n. n ≡ helper k) }
 {
-    let text = format!(in alloc; "n{k}")?;
-    Ok(Name::new(text))
+    numbered(alloc, "n", k)
 }
