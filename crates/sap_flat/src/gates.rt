@@ -5,6 +5,7 @@ ghost use Rattle.sap_flat.specs.Gates.{gate_name, gate_wires};
 
 use sap_ir::guarded::Var;
 use sap_net::parts::Name;
+use sap_numbered::numbered;
 use std::alloc::{AllocError, Global};
 use std::marker::Model;
 
@@ -13,8 +14,7 @@ use std::marker::Model;
 pub fn name(alloc: Global, k: usize) -> Result<Name, AllocError>
     ensures { IfOk result (λ n. n ≡ gate_name k) }
 {
-    let text = format!(in alloc; "g{k}")?;
-    Ok(Name::new(text))
+    numbered(alloc, "g", k as u64)
 }
 
 /// The gates so far, numbered from 0, seen as their count.
