@@ -1,6 +1,8 @@
 //! Names of a plain program, by what they name.
 
-ghost use Rattle.std.specs.Prelude.{◌≡◌, ◌++◌, IfOk};
+ghost use Rattle.std.specs.Prelude.{◌≡◌, ◌≤◌, ◌++◌, true, IfOk, length};
+ghost use Rattle.std.specs.List.{list_all};
+ghost use Rattle.sap_text.specs.Names.{is_inner};
 ghost use Rattle.sap_tagged.specs.Keys.{value_key, tag_key, seat_key, refused_key, level_key, wire_key, first_key, inner_key, numeral, entity_word, key_name};
 ghost use Rattle.sap_tags_terms.specs.Code.{named_in};
 
@@ -11,17 +13,20 @@ use std::alloc::{AllocError, Global};
 fn prefixed(alloc: Global, front: &str, name: &str) -> Result<Name, AllocError>
     ensures { IfOk result (λ n. n ≡ front.now ++ name.now) }
 {
-    let text = format!(in alloc; "{front}{name}")?;
+    let mut text = String::with_capacity(alloc, front.len() + name.len())?;
+    text.push_str(front)?;
+    text.push_str(name)?;
     Ok(Name::new(text))
 }
 
 /// A prefix and a number.
 #[tactic(auto, using(crate::proofs::Words::words))]
 fn numbered(alloc: Global, front: &str, k: u64) -> Result<Name, AllocError>
+    requires inner { list_all is_inner front.now ≡ true }
+    requires short { length front.now ≤ 2 }
     ensures { IfOk result (λ n. n ≡ front.now ++ numeral k) }
 {
-    let text = format!(in alloc; "{front}{k}")?;
-    Ok(Name::new(text))
+    sap_numbered::numbered(alloc, front, k)
 }
 
 /// A prefix and the name of an entity, or its number past the last.
@@ -32,6 +37,8 @@ fn entity_name(
     front: &str,
     x: usize,
 ) -> Result<Name, AllocError>
+    requires inner { list_all is_inner front.now ≡ true }
+    requires short { length front.now ≤ 2 }
     ensures { IfOk result (λ n. n ≡ front.now ++ entity_word (named_in setting.now) x) }
 {
     match setting.program.entities.get(x) {
