@@ -42,7 +42,7 @@ fn index_entries<T>(
 ) -> Result<HashMap<Vec<u8>, usize>, AllocError>
     ensures { IfOk result (λ m. Indexes m (keys_of entries.now)) }
 {
-    let mut places = HashMap::new(alloc);
+    let mut places = HashMap::with_capacity(alloc, entries.len())?;
     for (k, entry) in entries.iter().enumerate() {
         index(&mut places, alloc, &entry.0, k)?;
     }
