@@ -1,14 +1,15 @@
 -- What stands at the place of a name.
-use Rattle.std.proofs.Common.{◌≡◌, ℕ, zero, suc, ◌<◌, List, [], ◌∷◌, ◌++◌, Option, Some, None, map, length, take, get_or, sym, ap, subst, refl, inl, inr, arith}
-use Rattle.std.specs.Prelude.{slice_set}
+use Rattle.std.proofs.Common.{◌≡◌, ℕ, zero, suc, ◌<◌, List, [], ◌∷◌, ◌++◌, Option, Some, None, true, false, is_some, map, length, take, get_or, sym, ap, subst, refl, inl, inr, arith}
+use Rattle.std.specs.Prelude.{slice_set, if◌then◌else◌}
 use Rattle.std.specs.Str.{bytes_eq}
 use Rattle.std.proofs.lemmas.Bool.{cases_Bool}
 use Rattle.std.specs.Map.{keys_of}
 use Rattle.std.specs.Option.{option_map}
+use Rattle.sap_lemmas.proofs.Texts.{bytes_eq_apart_back, equal_of_bytes_eq}
 use Rattle.sap_net.proofs.Places.{none_further}
 use Rattle.sap_maps.specs.Maps.{Name}
 use Rattle.sap_maps.specs.Scope.{find}
-use Rattle.sap_net.specs.NameMaps.{place_in}
+use Rattle.sap_net.specs.NameMaps.{Puts, place_in}
 use Rattle.sap_share.specs.Tables.{replaced}
 
 pub named_take : {X : Type 0} (es : List (Name × X)) (k : ℕ) → keys_of (take k es) ≡ take k (keys_of es)
@@ -100,3 +101,48 @@ missing_replaced (e ∷ es) n x h =
 pub names_long : {X : Type 0} (es : List (Name × X)) → length (keys_of es) ≡ length es
 names_long [] = refl
 names_long (e ∷ es) = ap suc (names_long es)
+
+pub not_placed : {X : Type 0} (es : List (Name × X)) (n : Name) → find es n ≡ None → place_in (keys_of es) n ≡ None
+not_placed [] n h = refl
+not_placed {X} (e ∷ es) n h =
+    elim (cases_Bool (bytes_eq e.0 n)) [
+      | inl t ↦ absurd (let g : Some e.1 ≡ None = rw t at h in cc)
+      | inr f ↦ rw f (ap (option_map suc) (not_placed es n (rw f at h)))
+    ]
+
+-- what is found, as a name has another value
+
+pub still_some : {X Y : Type 0} (f : X → Y) (o : Option X) → is_some (option_map f o) ≡ is_some o
+still_some f None = refl
+still_some f (Some x) = refl
+
+replaced_first : {X : Type 0} (e : Name × X) (es : List (Name × X)) (n m : Name) (x : X) → e.0 ≡ n → bytes_eq e.0 n ≡ true → find (replaced (e ∷ es) n x) m ≡ (if bytes_eq n m then Some x else find (e ∷ es) m)
+replaced_first {X} e es n m x q t =
+    elim (cases_Bool (bytes_eq e.0 m)) [
+      | inl s ↦ rw (t, s, subst (λ (a : Name). bytes_eq a m ≡ true) q s) refl
+      | inr f ↦ rw (t, f, subst (λ (a : Name). bytes_eq a m ≡ false) q f) refl
+    ]
+
+pub puts_replaced : {X : Type 0} (es : List (Name × X)) (n : Name) (x : X) → is_some (find es n) ≡ true → Puts (find es) n x (find (replaced es n x))
+puts_replaced [] n x h m = absurd (cc)
+puts_replaced {X} (e ∷ es) n x h m =
+    elim (cases_Bool (bytes_eq e.0 n)) [
+      | inl t ↦ replaced_first e es n m x (equal_of_bytes_eq e.0 n t) t
+      | inr f ↦
+          elim (cases_Bool (bytes_eq e.0 m)) [
+            | inl s ↦ rw (f, s, bytes_eq_apart_back m n (subst (λ (a : Name). bytes_eq a n ≡ false) (equal_of_bytes_eq e.0 m s) f)) refl
+            | inr g ↦ rw (f, g) (puts_replaced es n x (rw f at h) m)
+          ]
+    ]
+
+pub puts_behind : {X : Type 0} (es : List (Name × X)) (n : Name) (x : X) → is_some (find es n) ≡ false → Puts (find es) n x (find (es ++ (n, x) ∷ []))
+puts_behind [] n x h m = refl
+puts_behind {X} (e ∷ es) n x h m =
+    elim (cases_Bool (bytes_eq e.0 n)) [
+      | inl t ↦ absurd (let g : true ≡ false = rw t at h in cc)
+      | inr f ↦
+          elim (cases_Bool (bytes_eq e.0 m)) [
+            | inl s ↦ rw (s, bytes_eq_apart_back m n (subst (λ (a : Name). bytes_eq a n ≡ false) (equal_of_bytes_eq e.0 m s) f)) refl
+            | inr g ↦ rw g (puts_behind es n x (rw f at h) m)
+          ]
+    ]

@@ -1,10 +1,10 @@
 //! Values by name.
 
-ghost use Rattle.std.specs.Prelude.{◌≡◌, IfOk};
+ghost use Rattle.std.specs.Prelude.{◌≡◌, ◌++◌, [], ◌∷◌, None, IfOk, OnOk};
 ghost use Rattle.std.specs.Map.{keys_of};
 ghost use Rattle.std.specs.Option.{option_map};
 ghost use Rattle.sap_maps.specs.Scope.{find};
-ghost use Rattle.sap_net.specs.NameMaps.{Indexes};
+ghost use Rattle.sap_net.specs.NameMaps.{Indexes, Puts};
 ghost use Rattle.sap_share.specs.Tables.{replaced};
 
 use sap_net::name_map::{at_name, index};
@@ -75,5 +75,34 @@ impl<T: Drop> Table<T> {
             Some(k) => self.entries[k].1 = value,
             None => {}
         }
+    }
+
+    /// Gives a name this value, in place of what it had.
+    pub fn put(&mut self, alloc: Global, name: &Name, value: T) -> Result<(), AllocError>
+        ensures { OnOk result (Puts (find self.old) name.now value (find self.new)) }
+    {
+        if self.get(name).is_some() {
+            self.replace(name, value);
+            Ok(())
+        } else {
+            let key = name.as_bytes().to_vec(alloc)?;
+            let name = name.copy(alloc)?;
+            self.add(key, name, value)
+        }
+    }
+
+    /// Adds a name that has no value, with its bytes.
+    fn add(&mut self, key: Vec<u8>, name: Name, value: T) -> Result<(), AllocError>
+        requires bytes { key.items ≡ name }
+        requires other { find self.old name ≡ None }
+        ensures { OnOk result (self.new ≡ self.old ++ (name, value) ∷ []) }
+    {
+        let place = self.entries.len();
+        self.entries.push((name, value))?;
+        if self.places.insert(key, place).is_err() {
+            self.entries.pop();
+            return Err(AllocError);
+        }
+        Ok(())
     }
 }
