@@ -5,7 +5,7 @@ use Rattle.std.specs.Str.{bytes_eq}
 use Rattle.std.specs.List.{AllByRecursion}
 use Rattle.std.proofs.lemmas.Bool.{cases_Bool, or_parts}
 use Rattle.sap_lemmas.proofs.Everywhere.{all_follow, all_of_map, all_second}
-use Rattle.sap_lemmas.proofs.Texts.{equal_of_bytes_eq}
+use Rattle.sap_lemmas.proofs.Texts.{bytes_eq_apart_back, equal_of_bytes_eq}
 use Rattle.sap_net.proofs.RulesLemmas.{readable_kept, values_found, Grows, operand_grows}
 use Rattle.sap_net.proofs.NamesLemmas.{among_behind, among_front, found_among, not_found}
 use Rattle.sap_maps.proofs.ScopeLemmas.{found_second}
@@ -33,7 +33,7 @@ use Rattle.sap_fold.specs.Folding.{settled}
 use Rattle.sap_fold.specs.Gives as wires
 use Rattle.sap_fold.specs.Gives.{TakenApart, Provided}
 use Rattle.sap_trim.specs.Stays.{KeepsStart}
-use Rattle.sap_trim.specs.Walked.{State, Begins, SomeRegister, StartsAt, Settles, Folds, Walked}
+use Rattle.sap_trim.specs.Walked.{State, Begins, SomeRegister, StartsAt, Settles, Folds, Walked, itself, themselves}
 use Rattle.sap_fold.proofs.Lists.{none_among}
 use Rattle.sap_trim.proofs.Replaced.{Finds, Means, stands_for, replaced_fits, replaced_same}
 use Rattle.sap_fold.proofs.Provided.{grows_more, over_first}
@@ -172,7 +172,7 @@ taken_apart n rules taken is x h =
       not_found {X = ℕ × ℕ} (λ (m : Memory). m.name) (λ m. (m.width, m.depth)) n.memories x rest.1,
     )
 
-pub first_among : (n : Net) (x : Name) (u : ℕ) → find (first_readable n) x ≡ Some u → is_among x (input_names n ++ register_names n) ≡ true
+first_among : (n : Net) (x : Name) (u : ℕ) → find (first_readable n) x ≡ Some u → is_among x (input_names n ++ register_names n) ≡ true
 first_among n x u h =
     elim (cases_Bool (is_among x (input_names n))) [
       | inl t ↦ among_front x (input_names n) (register_names n) t
@@ -180,6 +180,18 @@ first_among n x u h =
           let g = found_second (map (λ i. (i.name, i.width)) n.inputs) (map (λ r. (r.name, r.width)) n.registers) x (not_found (λ (i : Input). i.name) (λ i. i.width) n.inputs x f) in
           among_behind x (input_names n) (register_names n) (found_among (λ (r : Register). r.name) (λ r. r.width) n.registers x u (sym g ∙ h))
     ]
+
+named : (ns : List Name) (x : Name) → is_among x ns ≡ true → find (map itself ns) x ≡ Some (Named x)
+named [] x h = absurd (cc)
+named (n ∷ ns) x h =
+    elim (cases_Bool (bytes_eq n x)) [
+      | inl t ↦ rw t (ap (λ (y : Name). Some (Named y)) (equal_of_bytes_eq n x t))
+      | inr f ↦ rw f (named ns x (rw (bytes_eq_apart_back n x f) at h))
+    ]
+
+-- at first they stand for themselves
+pub first_itself : (n : Net) (x : Name) (u : ℕ) → find (first_readable n) x ≡ Some u → find (themselves n) x ≡ Some (Named x)
+first_itself n x u h = named (input_names n ++ register_names n) x (first_among n x u h)
 
 -- registers that keep their starts have them
 abbrev pub SettledIn : List Wire → List Register → Valuation → Type 0
@@ -243,10 +255,9 @@ begun_start n x u p r h k s =
 
 begins_at : (n : Net) → IsNetlist n → (s : State) → Begins n s → (x : Name) (u : ℕ) → find (first_readable n) x ≡ Some u → (o : Operand) × (s.stands x ≡ Some o) × Begun n x u o
 begins_at n rules s b x u h =
-    let t = first_among n x u h in
     let kept = each_kept n (readable n) n.registers (registers_found n rules) rules.nexts (each_settled n.wires n.registers) in
     elim (b.stands x) [
-      | inl e ↦ let f : s.stands x ≡ Some (Named x) = e ∙ rw t refl in (Named x, f, inl refl)
+      | inl e ↦ let f : s.stands x ≡ Some (Named x) = e ∙ first_itself n x u h in (Named x, f, inl refl)
       | inr q ↦
           some_elim (StartsAt n.wires x (s.stands x)) ((o : Operand) × (s.stands x ≡ Some o) × Begun n x u o) n.registers
           (all_follow (IsKept n) (λ r. StartsAt n.wires x (s.stands x) r → (o : Operand) × (s.stands x ≡ Some o) × Begun n x u o) n.registers (λ r k. begun_start n x u (s.stands x) r h k) kept) q

@@ -1,29 +1,23 @@
 -- Steps of loops over the parts of a netlist.
-use Rattle.std.proofs.Common.{◌≡◌, ℕ, ◌-◌, ◌<◌, ◌||◌, List, [], ◌∷◌, ◌++◌, map, drop, length, Option, Some, None, Bool, true, false, sym, ap, ap₂, ◌∙◌, subst, refl, inl, inr, suc, ◌≤◌, get_or, drop-cons, arith}
-use Rattle.std.specs.Prelude.{◌⊎◌, if◌then◌else◌}
+use Rattle.std.proofs.Common.{◌≡◌, ℕ, ◌-◌, ◌<◌, ◌||◌, List, [], ◌∷◌, ◌++◌, map, drop, length, Option, Bool, false, sym, ap, ap₂, ◌∙◌, subst, refl, inl, inr, suc, ◌≤◌, get_or, drop-cons, arith}
+use Rattle.std.specs.Prelude.{◌⊎◌}
 use Rattle.std.specs.Str.{bytes_eq}
-use Rattle.std.specs.List.{list_any}
-use Rattle.std.specs.declared.vec.Vec.{Vec}
-use Rattle.std.specs.declared.alloc.Global.{Global}
 use Rattle.std.proofs.lemmas.Bool.{cases_Bool}
-use Rattle.std.specs.Map.{lookup}
 use Rattle.sap_maps.specs.Maps.{Name}
 use Rattle.sap_net.specs.Names.{is_among}
 use Rattle.sap_net.specs.Net.{Net}
-use Rattle.sap_net.specs.IsNetlist.{input_names, register_names}
 use Rattle.sap_net.specs.declared.parts.Port.{Port}
-use Rattle.sap_net.specs.declared.parts.Input.{Input}
 use Rattle.sap_net.specs.declared.parts.Register.{Register}
 use Rattle.sap_net.specs.declared.parts.Memory.{Memory}
 use Rattle.sap_net.specs.declared.parts.Operand.{Operand}
-use Rattle.sap_net.specs.declared.parts.Operand.TheVariants.{Named, Constant}
+use Rattle.sap_net.specs.declared.parts.Operand.TheVariants.{Constant}
 use Rattle.sap_net.specs.declared.parts.Wire.{Wire}
 use Rattle.sap_share.specs.Sets.{holds}
 use Rattle.sap_trim.specs.Names.{lasting_names}
-use Rattle.sap_lemmas.proofs.Bools.{or_false, or_true}
-use Rattle.sap_lemmas.proofs.Texts.{bytes_eq_apart_back, bytes_eq_same, equal_of_bytes_eq}
+use Rattle.sap_lemmas.proofs.Bools.{or_false}
+use Rattle.sap_lemmas.proofs.Texts.{equal_of_bytes_eq}
 use Rattle.sap_net.proofs.NamesLemmas.{among_append}
-use Rattle.sap_net.specs.NameMaps.{at_name, Puts, NameMap}
+use Rattle.sap_net.specs.NameMaps.{Puts}
 use Rattle.sap_trim.specs.Replaced.{Stands}
 use Rattle.sap_trim.specs.Stays.{KeepsStart}
 use Rattle.sap_trim.specs.Walked.{State, Walked, SomeRegister, StartsAt, Starts}
@@ -42,42 +36,6 @@ lasting_held n net ps rs ms s0 s1 s2 s3 e p r m a b c =
     let c' : holds s3 n ≡ (is_among n P || (is_among n R || is_among n M)) = c ∙ ap₂ (λ (xs : List Port) (y : Bool). is_among n (map (λ x. x.name) xs) || y) p b' in
     c' ∙ sym (among_append n P (R ++ M) ∙ ap (λ (y : Bool). is_among n P || y) (among_append n R M))
 
--- one more name stands for itself
-
-abbrev pub itself : List Name → Stands → Name → Option Operand
-itself ns e x = if is_among x ns then Some (Named x) else e x
-
-pub itself_more : (ns : List Name) (y : Name) (d e f : Stands) → ((x : Name) → e x ≡ itself ns d x) → Puts e y (Named y) f → (x : Name) → f x ≡ itself (ns ++ y ∷ []) d x
-itself_more ns y d e f h b x =
-    let s = among_append x ns (y ∷ []) in
-    elim (cases_Bool (bytes_eq y x)) [
-      | inl t ↦
-          let q : y ≡ x = equal_of_bytes_eq y x t in
-          let back : bytes_eq x y ≡ true = subst (λ (z : Name). bytes_eq x z ≡ true) (sym q) (bytes_eq_same x) in
-          let all : is_among x (ns ++ y ∷ []) ≡ true = s ∙ ap (λ (z : Bool). is_among x ns || (z || false)) back ∙ or_true (is_among x ns) in
-          let g : f x ≡ Some (Named y) = rw t at (b x) in
-          rw all (g ∙ ap (λ (z : Name). Some (Named z)) q)
-      | inr n ↦
-          let back = bytes_eq_apart_back y x n in
-          let all : is_among x (ns ++ y ∷ []) ≡ is_among x ns = s ∙ ap (λ (z : Bool). is_among x ns || (z || false)) back ∙ or_false (is_among x ns) in
-          let g : f x ≡ e x = rw n at (b x) in
-          g ∙ h x ∙ ap (λ (z : Bool). if z then Some (Named x) else d x) (sym all)
-    ]
-
-either : {X : Type 0} (a b : Bool) (x y : X) → (if a then x else (if b then x else y)) ≡ (if a || b then x else y)
-either true b x y = refl
-either false b x y = refl
-
-pub both_itself : (net : Net) (is : List Input) (rs : List Register) (e0 e1 e2 : Stands) → ((x : Name) → e0 x ≡ None) → is ≡ net.inputs → rs ≡ net.registers
-    → ((x : Name) → e1 x ≡ (if is_among x (map (λ r. r.name) rs) then Some (Named x) else e0 x)) → ((x : Name) → e2 x ≡ (if is_among x (map (λ i. i.name) is) then Some (Named x) else e1 x))
-    → (x : Name) → e2 x ≡ (if is_among x (input_names net ++ register_names net) then Some (Named x) else None)
-both_itself net is rs e0 e1 e2 z i r a b x =
-    let I = input_names net in
-    let R = register_names net in
-    let a' : e1 x ≡ (if is_among x R then Some (Named x) else None) = a x ∙ ap₂ (λ (xs : List Register) (o : Option Operand). if is_among x (map (λ r. r.name) xs) then Some (Named x) else o) r (z x) in
-    let b' : e2 x ≡ (if is_among x I then Some (Named x) else (if is_among x R then Some (Named x) else None)) = b x ∙ ap₂ (λ (xs : List Input) (o : Option Operand). if is_among x (map (λ r. r.name) xs) then Some (Named x) else o) i a' in
-    b' ∙ either (is_among x I) (is_among x R) (Some (Named x)) None ∙ ap (λ (t : Bool). if t then Some (Named x) else None) (sym (among_append x I R))
-
 -- one more wire walked
 
 pub walked_push : (Step : State → Wire → State → Type 0) (ws : List Wire) (s t u : State) (w : Wire) → Walked Step s ws t → Step t w u → Walked Step s (ws ++ w ∷ []) u
@@ -95,17 +53,6 @@ drop_less ws r w p h e =
     let l : k < length ws = omega arith in
     let s : suc k ≡ r = omega arith in
     drop-cons ws k w l ∙ ap₂ (λ (x : Wire) (n : ℕ). x ∷ drop n ws) (sym e) s
-
-pub inputs_push : (xs : List Input) (y : Input) → map (λ z. z.name) (xs ++ y ∷ []) ≡ map (λ z. z.name) xs ++ y.name ∷ []
-inputs_push [] y = refl
-inputs_push (x ∷ xs) y = ap (λ (ns : List Name). x.name ∷ ns) (inputs_push xs y)
-
-pub registers_push : (xs : List Register) (y : Register) → map (λ z. z.name) (xs ++ y ∷ []) ≡ map (λ z. z.name) xs ++ y.name ∷ []
-registers_push [] y = refl
-registers_push (x ∷ xs) y = ap (λ (ns : List Name). x.name ∷ ns) (registers_push xs y)
-
-pub empty_stands : (m : NameMap Operand) → m.entries ≡ [] → (x : Name) → at_name m x ≡ None
-empty_stands m e x = ap (λ (es : List (Vec ℕ Global × Operand)). lookup (λ k. bytes_eq x k.items) es) e
 
 -- starts of registers
 

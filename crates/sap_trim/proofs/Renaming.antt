@@ -37,7 +37,7 @@ use Rattle.sap_trim.specs.Needed.{is_needed, needed, needed_wires}
 use Rattle.sap_trim.specs.Reads.{edge_reads}
 use Rattle.sap_trim.specs.Replaced.{Stands, replaced}
 use Rattle.sap_trim.specs.Walked.{State, Begins, StandForThemselves, Steps, Settles, Walked}
-use Rattle.sap_trim.proofs.Follows.{Follows, begins_follow, first_among, follows_step, settles_fold, taken_apart}
+use Rattle.sap_trim.proofs.Follows.{Follows, begins_follow, first_itself, follows_step, settles_fold, taken_apart}
 use Rattle.sap_trim.proofs.Read.{Copies, bound_other}
 use Rattle.sap_trim.proofs.Renamed.{Renames, AgreeIn, calculated_renamed, folded_renamed, replaced_agrees, replaced_apart}
 
@@ -232,9 +232,7 @@ needed_all Q P E (w ∷ ws) a =
 -- the beginning
 
 themselves_named : (n : Net) (s : State) → StandForThemselves n s → (x : Name) (u : ℕ) → find (first_readable n) x ≡ Some u → s.stands x ≡ Some (Named x)
-themselves_named n s b x u h =
-    let t = first_among n x u h in
-    b x ∙ rw t refl
+themselves_named n s b x u h = b x ∙ first_itself n x u h
 
 first_named : (n : Net) (s : State) → StandForThemselves n s → (x z : Name) (u : ℕ) → find (first_readable n) x ≡ Some u → s.stands x ≡ Some (Named z) → x ≡ z
 first_named n s b x z u h i =

@@ -13,7 +13,7 @@ use Rattle.sap_net.specs.declared.parts.Right.{Right}
 use Rattle.sap_net.specs.declared.parts.Right.TheVariants.{Copy, Choose}
 use Rattle.sap_net.specs.declared.parts.Register.{Register}
 use Rattle.sap_net.specs.declared.parts.Wire.{Wire}
-use Rattle.sap_net.specs.NameMaps.{at_name, Puts, NameMap}
+use Rattle.sap_net.specs.NameMaps.{Puts}
 use Rattle.sap_fold.proofs.Provided.{holds_both}
 use Rattle.sap_trim.specs.declared.stays.Stay.{Stay}
 use Rattle.sap_trim.specs.declared.stays.Stay.TheVariants.{Always, While}
@@ -102,9 +102,6 @@ register_stays r e f y i a p x =
       | inr m ↦
           let g : f x ≡ e x = rw m at (p x) in subst (λ (o : Option Stay). IfSome o (NameStays [] x)) (sym g) (a x)
     ]
-
-pub nothing_stays : (m : NameMap Stay) → ((x : Name) → at_name m x ≡ None) → AllStay [] (at_name m)
-nothing_stays m h x = subst (λ (o : Option Stay). IfSome o (NameStays [] x)) (sym (h x)) tt
 
 -- a stay that a register's start answers
 record IsAt (s : Stay) (x : Name) (n : ℕ) : Type 0 where

@@ -1,7 +1,7 @@
 -- The wires of a netlist one after another.
-use Rattle.std.specs.Prelude.{◌≡◌, ◌⊎◌, ℕ, Bool, Option, List, [], ◌∷◌, ◌++◌, Some, None, if◌then◌else◌}
+use Rattle.std.specs.Prelude.{◌≡◌, ◌⊎◌, ℕ, Bool, Option, List, [], ◌∷◌, ◌++◌, Some, map}
 use Rattle.sap_maps.specs.Maps.{Name}
-use Rattle.sap_net.specs.Names.{is_among}
+use Rattle.sap_maps.specs.Scope.{find}
 use Rattle.sap_net.specs.Net.{Net}
 use Rattle.sap_net.specs.IsNetlist.{input_names, register_names}
 use Rattle.sap_net.specs.declared.parts.Operand.{Operand}
@@ -9,7 +9,7 @@ use Rattle.sap_net.specs.declared.parts.Operand.TheVariants.{Named, Constant}
 use Rattle.sap_net.specs.declared.parts.Right.{Right}
 use Rattle.sap_net.specs.declared.parts.Register.{Register}
 use Rattle.sap_net.specs.declared.parts.Wire.{Wire}
-use Rattle.sap_net.specs.NameMaps.{at_name, Puts}
+use Rattle.sap_net.specs.NameMaps.{Puts}
 use Rattle.sap_trim.specs.declared.walk.Walk.{Walk}
 use Rattle.sap_fold.specs.Folding.{settled}
 use Rattle.sap_fold.specs.Gives.{Gives}
@@ -24,7 +24,7 @@ pub record State : Type 0 where
   pub stands : Stands
 
 abbrev pub state_of : Walk → State
-state_of w = record { wires = w.wires.list.items; next = w.wires.next; stands = at_name w.stands }
+state_of w = record { wires = w.wires.list.items; next = w.wires.next; stands = find w.stands }
 
 abbrev pub SomeRegister : (Register → Type 0) → List Register → Type 0
 SomeRegister P [] = ⊥
@@ -38,15 +38,22 @@ StartsAt ws x o r = KeepsStart ws r × (r.name ≡ x) × (o ≡ Some (Constant r
 abbrev pub Starts : List Wire → List Register → Name → (before after : Option Operand) → Type 0
 Starts ws rs x before after = (after ≡ before) ⊎ SomeRegister (StartsAt ws x after) rs
 
+abbrev pub itself : Name → Name × Operand
+itself x = (x, Named x)
+
+-- inputs and registers, each standing for itself
+abbrev pub themselves : Net → List (Name × Operand)
+themselves n = map itself (input_names n ++ register_names n)
+
 -- inputs and registers stand for themselves, and no other name for anything
 abbrev pub StandForThemselves : Net → State → Type 0
-StandForThemselves n s = (x : Name) → s.stands x ≡ (if is_among x (input_names n ++ register_names n) then Some (Named x) else None)
+StandForThemselves n s = (x : Name) → s.stands x ≡ find (themselves n) x
 
 -- At first inputs and registers stand for themselves, or a register that keeps its start for that.
 pub record Begins (n : Net) (s : State) : Type 0 where
   pub wires : s.wires ≡ []
   pub next : s.next ≡ 0
-  pub stands : (x : Name) → Starts n.wires n.registers x (if is_among x (input_names n ++ register_names n) then Some (Named x) else None) (s.stands x)
+  pub stands : (x : Name) → Starts n.wires n.registers x (find (themselves n) x) (s.stands x)
 
 -- the name x stands for what has the value of r
 pub record Steps (taken : Name → Bool) (s : State) (x : Name) (u : ℕ) (r : Right) (t : State) : Type 0 where

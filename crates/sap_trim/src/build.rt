@@ -1,9 +1,9 @@
 //! The parts of the new netlist.
 
 ghost use Rattle.std.specs.Prelude.{◌≡◌, ◌++◌, map, filter, IfOk, OnOk};
+ghost use Rattle.sap_maps.specs.Scope.{find};
 ghost use Rattle.sap_net.specs.Net.{net_of};
 ghost use Rattle.sap_net.specs.IsNetlist.{names_of};
-ghost use Rattle.sap_net.specs.NameMaps.{at_name};
 ghost use Rattle.sap_trim.specs.Built.{built, memory_of, register_of, wire_of};
 ghost use Rattle.sap_share.specs.Sets.{AreSame, holds};
 ghost use Rattle.sap_trim.specs.Names.{lasting_names, port_names};
@@ -13,8 +13,8 @@ use sap_build::copies::{copy_inputs, copy_ports};
 use sap_net::netlist::Netlist;
 use sap_net::parts::{Memory, Name, Operand, Parts, Register, Right, Wire};
 use sap_share::name_set::NameSet;
+use sap_share::table::Table;
 use std::alloc::{AllocError, Global};
-use std::collections::HashMap;
 
 fn add_lasting(
     alloc: Global,
@@ -41,8 +41,8 @@ fn add_wires(alloc: Global, made: &mut Vec<Name>, wires: &[Wire]) -> Result<(), 
     Ok(())
 }
 
-fn wire(alloc: Global, stands: &HashMap<Vec<u8>, Operand>, shown: &Wire) -> Result<Wire, AllocError>
-    ensures { IfOk result (λ w. w ≡ wire_of (at_name stands.now) shown.now) }
+fn wire(alloc: Global, stands: &Table<Operand>, shown: &Wire) -> Result<Wire, AllocError>
+    ensures { IfOk result (λ w. w ≡ wire_of (find stands.now) shown.now) }
 {
     let name = shown.name.copy(alloc)?;
     let operand = stand_name(alloc, stands, &shown.name)?;
@@ -58,10 +58,10 @@ fn add_shown(
     alloc: Global,
     made: &mut Vec<Wire>,
     ports: &NameSet,
-    stands: &HashMap<Vec<u8>, Operand>,
+    stands: &Table<Operand>,
     wires: &[Wire],
 ) -> Result<(), AllocError>
-    ensures { OnOk result (made.new.items ≡ made.old.items ++ map (wire_of (at_name stands.now)) (filter (λ w. holds ports.now w.name) wires.now)) }
+    ensures { OnOk result (made.new.items ≡ made.old.items ++ map (wire_of (find stands.now)) (filter (λ w. holds ports.now w.name) wires.now)) }
 {
     for shown in wires {
         if ports.has(&shown.name) {
@@ -73,10 +73,10 @@ fn add_shown(
 
 fn register(
     alloc: Global,
-    stands: &HashMap<Vec<u8>, Operand>,
+    stands: &Table<Operand>,
     register: &Register,
 ) -> Result<Register, AllocError>
-    ensures { IfOk result (λ r. r ≡ register_of (at_name stands.now) register.now) }
+    ensures { IfOk result (λ r. r ≡ register_of (find stands.now) register.now) }
 {
     let name = register.name.copy(alloc)?;
     let next = stand(alloc, stands, &register.next)?;
@@ -90,10 +90,10 @@ fn register(
 
 fn registers(
     alloc: Global,
-    stands: &HashMap<Vec<u8>, Operand>,
+    stands: &Table<Operand>,
     registers: &[Register],
 ) -> Result<Vec<Register>, AllocError>
-    ensures { IfOk result (λ rs. rs.items ≡ map (register_of (at_name stands.now)) registers.now) }
+    ensures { IfOk result (λ rs. rs.items ≡ map (register_of (find stands.now)) registers.now) }
 {
     let mut made = Vec::new(alloc);
     for given in registers {
@@ -102,12 +102,8 @@ fn registers(
     Ok(made)
 }
 
-fn memory(
-    alloc: Global,
-    stands: &HashMap<Vec<u8>, Operand>,
-    memory: &Memory,
-) -> Result<Memory, AllocError>
-    ensures { IfOk result (λ m. m ≡ memory_of (at_name stands.now) memory.now) }
+fn memory(alloc: Global, stands: &Table<Operand>, memory: &Memory) -> Result<Memory, AllocError>
+    ensures { IfOk result (λ m. m ≡ memory_of (find stands.now) memory.now) }
 {
     let name = memory.name.copy(alloc)?;
     let enable = stand(alloc, stands, &memory.enable)?;
@@ -126,10 +122,10 @@ fn memory(
 
 fn memories(
     alloc: Global,
-    stands: &HashMap<Vec<u8>, Operand>,
+    stands: &Table<Operand>,
     memories: &[Memory],
 ) -> Result<Vec<Memory>, AllocError>
-    ensures { IfOk result (λ ms. ms.items ≡ map (memory_of (at_name stands.now)) memories.now) }
+    ensures { IfOk result (λ ms. ms.items ≡ map (memory_of (find stands.now)) memories.now) }
 {
     let mut made = Vec::new(alloc);
     for given in memories {
@@ -144,12 +140,12 @@ pub fn build(
     netlist: &Netlist,
     lasting: &NameSet,
     shown: &NameSet,
-    stands: &HashMap<Vec<u8>, Operand>,
+    stands: &Table<Operand>,
     mut wires: Vec<Wire>,
 ) -> Result<Parts, AllocError>
     requires lasting { AreSame lasting.now (lasting_names netlist.now) }
     requires shown { AreSame shown.now (port_names netlist.now) }
-    ensures { IfOk result (λ p. net_of p ≡ built netlist.now wires.items (at_name stands.now)) }
+    ensures { IfOk result (λ p. net_of p ≡ built netlist.now wires.items (find stands.now)) }
 {
     let module_name = netlist.module_name().copy(alloc)?;
     let mut names = Vec::new(alloc);

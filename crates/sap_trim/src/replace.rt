@@ -1,25 +1,25 @@
 //! Operands of a netlist, replaced by what stands for them.
 
 ghost use Rattle.std.specs.Prelude.{◌≡◌, map, IfOk};
-ghost use Rattle.sap_net.specs.NameMaps.{at_name};
+ghost use Rattle.sap_maps.specs.Scope.{find};
 ghost use Rattle.sap_net.specs.declared.parts.Right.TheVariants as right;
 ghost use Rattle.sap_trim.specs.Replaced.{replaced, standing, standing_operand};
 
 use sap_bits::Op2;
 use sap_fold::slices::sliced;
 use sap_net::parts::{Name, Operand, Operands, Right};
+use sap_share::table::Table;
 use std::alloc::{AllocError, Global};
-use std::collections::HashMap;
 
 /// What a name stands for.
 pub fn stand_name(
     alloc: Global,
-    stands: &HashMap<Vec<u8>, Operand>,
+    stands: &Table<Operand>,
     name: &Name,
 ) -> Result<Operand, AllocError>
-    ensures { IfOk result (λ o. o ≡ standing (at_name stands.now) name.now) }
+    ensures { IfOk result (λ o. o ≡ standing (find stands.now) name.now) }
 {
-    match stands.get(name.as_bytes()) {
+    match stands.get(name) {
         Some(operand) => operand.copy(alloc),
         None => Ok(Operand::Constant { width: 0, value: 0 }),
     }
@@ -28,10 +28,10 @@ pub fn stand_name(
 /// What an operand stands for.
 pub fn stand(
     alloc: Global,
-    stands: &HashMap<Vec<u8>, Operand>,
+    stands: &Table<Operand>,
     operand: &Operand,
 ) -> Result<Operand, AllocError>
-    ensures { IfOk result (λ o. o ≡ standing_operand (at_name stands.now) operand.now) }
+    ensures { IfOk result (λ o. o ≡ standing_operand (find stands.now) operand.now) }
 {
     match operand {
         Operand::Named(name) => stand_name(alloc, stands, name),
@@ -44,10 +44,10 @@ pub fn stand(
 
 fn stand_all(
     alloc: Global,
-    stands: &HashMap<Vec<u8>, Operand>,
+    stands: &Table<Operand>,
     operands: &[Operand],
 ) -> Result<Vec<Operand>, AllocError>
-    ensures { IfOk result (λ os. os.items ≡ map (standing_operand (at_name stands.now)) operands.now) }
+    ensures { IfOk result (λ os. os.items ≡ map (standing_operand (find stands.now)) operands.now) }
 {
     let mut made = Vec::new(alloc);
     for operand in operands {
@@ -58,12 +58,12 @@ fn stand_all(
 
 fn two(
     alloc: Global,
-    stands: &HashMap<Vec<u8>, Operand>,
+    stands: &Table<Operand>,
     op: Op2,
     a: &Operand,
     b: &Operand,
 ) -> Result<Right, AllocError>
-    ensures { IfOk result (λ r. r ≡ replaced (at_name stands.now) (right.Two op a.now b.now)) }
+    ensures { IfOk result (λ r. r ≡ replaced (find stands.now) (right.Two op a.now b.now)) }
 {
     let a = stand(alloc, stands, a)?;
     let b = stand(alloc, stands, b)?;
@@ -72,12 +72,12 @@ fn two(
 
 fn choice(
     alloc: Global,
-    stands: &HashMap<Vec<u8>, Operand>,
+    stands: &Table<Operand>,
     c: &Operand,
     a: &Operand,
     b: &Operand,
 ) -> Result<Right, AllocError>
-    ensures { IfOk result (λ r. r ≡ replaced (at_name stands.now) (right.Choose c.now a.now b.now)) }
+    ensures { IfOk result (λ r. r ≡ replaced (find stands.now) (right.Choose c.now a.now b.now)) }
 {
     let c = stand(alloc, stands, c)?;
     let a = stand(alloc, stands, a)?;
@@ -87,11 +87,11 @@ fn choice(
 
 fn cell(
     alloc: Global,
-    stands: &HashMap<Vec<u8>, Operand>,
+    stands: &Table<Operand>,
     memory: &Name,
     index: &Operand,
 ) -> Result<Right, AllocError>
-    ensures { IfOk result (λ r. r ≡ replaced (at_name stands.now) (right.Cell memory.now index.now)) }
+    ensures { IfOk result (λ r. r ≡ replaced (find stands.now) (right.Cell memory.now index.now)) }
 {
     let memory = memory.copy(alloc)?;
     let index = stand(alloc, stands, index)?;
@@ -99,12 +99,8 @@ fn cell(
 }
 
 /// A right side with what stands for its operands in their place.
-pub fn replace(
-    alloc: Global,
-    stands: &HashMap<Vec<u8>, Operand>,
-    right: &Right,
-) -> Result<Right, AllocError>
-    ensures { IfOk result (λ r. r ≡ replaced (at_name stands.now) right.now) }
+pub fn replace(alloc: Global, stands: &Table<Operand>, right: &Right) -> Result<Right, AllocError>
+    ensures { IfOk result (λ r. r ≡ replaced (find stands.now) right.now) }
 {
     match right {
         Right::Copy(a) => {

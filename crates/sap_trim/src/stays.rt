@@ -1,14 +1,13 @@
 //! Wires that have one number as long as a register has its start.
 
 ghost use Rattle.std.specs.Prelude.{◌≡◌, true, List, [], ◌∷◌, ◌++◌, IfOk, OnOk};
-ghost use Rattle.sap_net.specs.NameMaps.{at_name};
+ghost use Rattle.sap_maps.specs.Scope.{find};
 ghost use Rattle.sap_trim.specs.Stays as spec;
 
-use sap_net::name_map::put;
 use sap_net::netlist::Netlist;
 use sap_net::parts::{Name, Operand, Register, Right, Wire};
+use sap_share::table::Table;
 use std::alloc::{AllocError, Global};
-use std::collections::HashMap;
 
 /// A number that something has always, or as long as a register has it.
 #[derive(Drop)]
@@ -30,14 +29,10 @@ fn copy(alloc: Global, stay: &Stay) -> Result<Stay, AllocError>
 }
 
 /// What a name stays at.
-fn name_stay(
-    alloc: Global,
-    stays: &HashMap<Vec<u8>, Stay>,
-    name: &Name,
-) -> Result<Option<Stay>, AllocError>
-    ensures { IfOk result (λ s. s ≡ at_name stays.now name.now) }
+fn name_stay(alloc: Global, stays: &Table<Stay>, name: &Name) -> Result<Option<Stay>, AllocError>
+    ensures { IfOk result (λ s. s ≡ find stays.now name.now) }
 {
-    match stays.get(name.as_bytes()) {
+    match stays.get(name) {
         Some(stay) => {
             let stay = copy(alloc, stay)?;
             Ok(Some(stay))
@@ -49,10 +44,10 @@ fn name_stay(
 /// What an operand stays at.
 fn operand_stay(
     alloc: Global,
-    stays: &HashMap<Vec<u8>, Stay>,
+    stays: &Table<Stay>,
     operand: &Operand,
 ) -> Result<Option<Stay>, AllocError>
-    ensures { IfOk result (λ s. s ≡ spec.operand_stay (at_name stays.now) operand.now) }
+    ensures { IfOk result (λ s. s ≡ spec.operand_stay (find stays.now) operand.now) }
 {
     match operand {
         Operand::Named(name) => name_stay(alloc, stays, name),
@@ -96,12 +91,8 @@ fn either(a: Option<Stay>, b: Option<Stay>) -> Option<Stay>
 }
 
 /// What a right side stays at: a copy, or a choice between two that stay at the same.
-fn right_stay(
-    alloc: Global,
-    stays: &HashMap<Vec<u8>, Stay>,
-    right: &Right,
-) -> Result<Option<Stay>, AllocError>
-    ensures { IfOk result (λ s. s ≡ spec.right_stay (at_name stays.now) right.now) }
+fn right_stay(alloc: Global, stays: &Table<Stay>, right: &Right) -> Result<Option<Stay>, AllocError>
+    ensures { IfOk result (λ s. s ≡ spec.right_stay (find stays.now) right.now) }
 {
     match right {
         Right::Copy(a) => operand_stay(alloc, stays, a),
@@ -116,25 +107,24 @@ fn right_stay(
 
 fn put_register(
     alloc: Global,
-    stays: &mut HashMap<Vec<u8>, Stay>,
+    stays: &mut Table<Stay>,
     register: &Register,
 ) -> Result<(), AllocError>
-    requires { spec.AllStay [] (at_name stays.old) }
-    ensures { OnOk result (spec.AllStay [] (at_name stays.new)) }
+    requires { spec.AllStay [] (find stays.old) }
+    ensures { OnOk result (spec.AllStay [] (find stays.new)) }
 {
     let name = register.name.copy(alloc)?;
     let stay = Stay::While(name, register.start);
-    put(stays, alloc, &register.name, stay)?;
-    Ok(())
+    stays.put(alloc, &register.name, stay)
 }
 
 fn put_registers(
     alloc: Global,
-    stays: &mut HashMap<Vec<u8>, Stay>,
+    stays: &mut Table<Stay>,
     registers: &[Register],
 ) -> Result<(), AllocError>
-    requires { spec.AllStay [] (at_name stays.old) }
-    ensures { OnOk result (spec.AllStay [] (at_name stays.new)) }
+    requires { spec.AllStay [] (find stays.old) }
+    ensures { OnOk result (spec.AllStay [] (find stays.new)) }
 {
     for register in registers {
         put_register(alloc, stays, register)?;
@@ -142,29 +132,18 @@ fn put_registers(
     Ok(())
 }
 
-fn put_wire(
-    alloc: Global,
-    stays: &mut HashMap<Vec<u8>, Stay>,
-    wire: &Wire,
-) -> Result<(), AllocError>
-    ensures { OnOk result ((ws : List Wire) → spec.AllStay ws (at_name stays.old) → spec.AllStay (ws ++ wire.now ∷ []) (at_name stays.new)) }
+fn put_wire(alloc: Global, stays: &mut Table<Stay>, wire: &Wire) -> Result<(), AllocError>
+    ensures { OnOk result ((ws : List Wire) → spec.AllStay ws (find stays.old) → spec.AllStay (ws ++ wire.now ∷ []) (find stays.new)) }
 {
     match right_stay(alloc, stays, &wire.right)? {
-        Some(stay) => {
-            put(stays, alloc, &wire.name, stay)?;
-            Ok(())
-        }
+        Some(stay) => stays.put(alloc, &wire.name, stay),
         None => Ok(()),
     }
 }
 
-fn put_wires(
-    alloc: Global,
-    stays: &mut HashMap<Vec<u8>, Stay>,
-    wires: &[Wire],
-) -> Result<(), AllocError>
-    requires { spec.AllStay [] (at_name stays.old) }
-    ensures { OnOk result (spec.AllStay wires.now (at_name stays.new)) }
+fn put_wires(alloc: Global, stays: &mut Table<Stay>, wires: &[Wire]) -> Result<(), AllocError>
+    requires { spec.AllStay [] (find stays.old) }
+    ensures { OnOk result (spec.AllStay wires.now (find stays.new)) }
 {
     for wire in wires {
         put_wire(alloc, stays, wire)?;
@@ -173,10 +152,10 @@ fn put_wires(
 }
 
 /// What the registers and wires of a netlist stay at.
-pub fn stays(alloc: Global, netlist: &Netlist) -> Result<HashMap<Vec<u8>, Stay>, AllocError>
-    ensures { IfOk result (λ s. spec.AllStay netlist.now.wires (at_name s)) }
+pub fn stays(alloc: Global, netlist: &Netlist) -> Result<Table<Stay>, AllocError>
+    ensures { IfOk result (λ s. spec.AllStay netlist.now.wires (find s)) }
 {
-    let mut stays = HashMap::new(alloc);
+    let mut stays = Table::new(alloc, Vec::new(alloc))?;
     put_registers(alloc, &mut stays, netlist.registers())?;
     put_wires(alloc, &mut stays, netlist.wires())?;
     Ok(stays)
@@ -195,10 +174,10 @@ fn is_at(stay: &Stay, name: &Name, number: u64) -> bool
 /// Whether a register keeps its start: what it takes at the edge is that, as long as it has it.
 pub fn keeps_start(
     alloc: Global,
-    stays: &HashMap<Vec<u8>, Stay>,
+    stays: &Table<Stay>,
     register: &Register,
 ) -> Result<bool, AllocError>
-    ensures { IfOk result (λ t. (ws : List Wire) → spec.AllStay ws (at_name stays.now) → t ≡ true → spec.KeepsStart ws register.now) }
+    ensures { IfOk result (λ t. (ws : List Wire) → spec.AllStay ws (find stays.now) → t ≡ true → spec.KeepsStart ws register.now) }
 {
     match operand_stay(alloc, stays, &register.next)? {
         Some(stay) => Ok(is_at(&stay, &register.name, register.start)),

@@ -1,8 +1,8 @@
 //! Whole netlists.
 
 ghost use Rattle.std.specs.Prelude.{◌≡◌, ◌≤◌, length, IfOk};
+ghost use Rattle.sap_maps.specs.Scope.{find};
 ghost use Rattle.sap_net.specs.IsNetlist.{IsNetlist};
-ghost use Rattle.sap_net.specs.NameMaps.{at_name};
 ghost use Rattle.sap_share.specs.Sets.{AreSame};
 ghost use Rattle.sap_fold.specs.Settled.{Orderly};
 ghost use Rattle.sap_trim.specs.Alike.{DeclaresAlike, RunsAlike};
@@ -27,14 +27,14 @@ use sap_fold::wires::Wires;
 use sap_net::netlist::Netlist;
 use sap_net::parts::{Operand, Wire};
 use sap_share::name_set::NameSet;
+use sap_share::table::Table;
 use std::alloc::{AllocError, Global};
-use std::collections::HashMap;
 
 // The wires that are made of those of a netlist, and what its names stand for over them.
 #[derive(Drop)]
 struct Made {
     wires: Vec<Wire>,
-    stands: HashMap<Vec<u8>, Operand>,
+    stands: Table<Operand>,
 }
 
 // What is left of a walk at its end.
@@ -57,10 +57,10 @@ fn made_by(walk: Walk) -> Made
 // The wires with their right sides folded and shared.
 fn folded_wires(alloc: Global, netlist: &Netlist, lasting: &NameSet) -> Result<Made, AllocError>
     requires { AreSame lasting.now (lasting_names netlist.now) }
-    ensures rules { IfOk result (λ m. IsNetlist (built netlist.now m.wires.items (at_name m.stands))) }
-    ensures declares { IfOk result (λ m. DeclaresAlike netlist.now (built netlist.now m.wires.items (at_name m.stands))) }
-    ensures same { IfOk result (λ m. RunsAlike netlist.now (built netlist.now m.wires.items (at_name m.stands))) }
-    ensures folded { IfOk result (λ m. IsFolded (built netlist.now m.wires.items (at_name m.stands))) }
+    ensures rules { IfOk result (λ m. IsNetlist (built netlist.now m.wires.items (find m.stands))) }
+    ensures declares { IfOk result (λ m. DeclaresAlike netlist.now (built netlist.now m.wires.items (find m.stands))) }
+    ensures same { IfOk result (λ m. RunsAlike netlist.now (built netlist.now m.wires.items (find m.stands))) }
+    ensures folded { IfOk result (λ m. IsFolded (built netlist.now m.wires.items (find m.stands))) }
 {
     netlist.rules();
     let mut walk = Walk::with_starts(alloc, netlist)?;
@@ -143,7 +143,7 @@ fn kept_wires(
     requires kept { MarksNeeded netlist.now kept.items }
     requires begins { Begins netlist.now (state_of walk) }
     requires orderly { Orderly walk.wires.numbers walk.wires.list.items }
-    ensures { IfOk result (λ m. Tidied netlist.now (state_of walk) (built netlist.now m.wires.items (at_name m.stands))) }
+    ensures { IfOk result (λ m. Tidied netlist.now (state_of walk) (built netlist.now m.wires.items (find m.stands))) }
 {
     netlist.rules();
     walk.settle_kept(alloc, lasting, &kept, netlist.wires())?;
@@ -169,7 +169,7 @@ fn keep(alloc: Global, netlist: &Netlist, needs: Needs, walk: Walk) -> Result<Ne
 // The wires each folded by itself, with each register that keeps its start as that number.
 fn settled_wires(alloc: Global, netlist: &Netlist, lasting: &NameSet) -> Result<Made, AllocError>
     requires { AreSame lasting.now (lasting_names netlist.now) }
-    ensures { IfOk result (λ m. SettledNet netlist.now (built netlist.now m.wires.items (at_name m.stands))) }
+    ensures { IfOk result (λ m. SettledNet netlist.now (built netlist.now m.wires.items (find m.stands))) }
 {
     netlist.rules();
     let mut walk = Walk::with_starts(alloc, netlist)?;

@@ -1,92 +1,84 @@
 //! The wires of a netlist one after another, and what each of its names stands for over the new ones.
 
-ghost use Rattle.std.specs.Prelude.{◌≡◌, ◌<◌, ◌⊎◌, List, [], ◌∷◌, ◌++◌, None, Some, length, map, if◌then◌else◌, IfOk, OnOk};
+ghost use Rattle.std.specs.Prelude.{◌≡◌, ◌<◌, ◌⊎◌, List, [], ◌∷◌, ◌++◌, length, map, IfOk, OnOk};
 ghost use Rattle.sap_maps.specs.Maps as spec;
-ghost use Rattle.sap_net.specs.Names.{is_among};
-ghost use Rattle.sap_net.specs.IsNetlist.{input_names, register_names};
-ghost use Rattle.sap_net.specs.declared.parts.Operand.TheVariants as operand;
-ghost use Rattle.sap_net.specs.NameMaps.{at_name, Puts};
+ghost use Rattle.sap_maps.specs.Scope.{find};
 ghost use Rattle.sap_fold.specs.Folding.{settled};
 ghost use Rattle.sap_share.specs.Sets.{holds};
 ghost use Rattle.sap_fold.specs.Settled.{Orderly};
 ghost use Rattle.sap_trim.specs.Needed.{is_marked, marked};
 ghost use Rattle.sap_trim.specs.Stays.{AllStay};
-ghost use Rattle.sap_trim.specs.Walked.{Begins, Folds, Settles, StandForThemselves, Starts, StartsAt, Steps, Walked, state_of};
+ghost use Rattle.sap_trim.specs.Walked.{Begins, Folds, Settles, StandForThemselves, Starts, StartsAt, Steps, Walked, itself, state_of, themselves};
 
 use crate::replace::replace;
 use crate::stays::{Stay, keeps_start, stays};
 use sap_fold::folding::fold_into;
 use sap_fold::wires::Wires;
-use sap_net::name_map::put;
 use sap_net::netlist::Netlist;
 use sap_net::parts::{Input, Name, Operand, Register, Right, Wire};
 use sap_share::name_set::NameSet;
+use sap_share::table::Table;
 use std::alloc::{AllocError, Global};
-use std::collections::HashMap;
 
 /// The wires so far, and what each name of the netlist stands for over them.
 #[derive(Drop)]
 pub struct Walk {
     pub wires: Wires,
-    pub stands: HashMap<Vec<u8>, Operand>,
+    pub stands: Table<Operand>,
 }
 
-/// Lets a name stand for itself.
-fn bind_itself(
-    alloc: Global,
-    stands: &mut HashMap<Vec<u8>, Operand>,
-    name: &Name,
-) -> Result<(), AllocError>
-    ensures { OnOk result (Puts (at_name stands.old) name.now (operand.Named name.now) (at_name stands.new)) }
+fn entry(alloc: Global, name: &Name) -> Result<(Name, Operand), AllocError>
+    ensures { IfOk result (λ e. e ≡ itself name.now) }
 {
-    let itself = name.copy(alloc)?;
-    put(stands, alloc, name, Operand::Named(itself))
+    let stands = name.copy(alloc)?;
+    let name = name.copy(alloc)?;
+    Ok((name, Operand::Named(stands)))
 }
 
-fn bind_inputs(
+fn add_inputs(
     alloc: Global,
-    stands: &mut HashMap<Vec<u8>, Operand>,
+    entries: &mut Vec<(Name, Operand)>,
     inputs: &[Input],
 ) -> Result<(), AllocError>
-    ensures { OnOk result ((x : spec.Name) → at_name stands.new x ≡ (if is_among x (map (λ i. i.name) inputs.now) then Some (operand.Named x) else at_name stands.old x)) }
+    ensures { OnOk result (entries.new.items ≡ entries.old.items ++ map itself (map (λ i. i.name) inputs.now)) }
 {
     for input in inputs {
-        bind_itself(alloc, stands, &input.name)?;
+        entries.push(entry(alloc, &input.name)?)?;
     }
     Ok(())
 }
 
-fn bind_registers(
+fn add_registers(
     alloc: Global,
-    stands: &mut HashMap<Vec<u8>, Operand>,
+    entries: &mut Vec<(Name, Operand)>,
     registers: &[Register],
 ) -> Result<(), AllocError>
-    ensures { OnOk result ((x : spec.Name) → at_name stands.new x ≡ (if is_among x (map (λ r. r.name) registers.now) then Some (operand.Named x) else at_name stands.old x)) }
+    ensures { OnOk result (entries.new.items ≡ entries.old.items ++ map itself (map (λ r. r.name) registers.now)) }
 {
     for register in registers {
-        bind_itself(alloc, stands, &register.name)?;
+        entries.push(entry(alloc, &register.name)?)?;
     }
     Ok(())
 }
 
-/// Lets inputs and registers stand for themselves.
-fn themselves(alloc: Global, netlist: &Netlist) -> Result<HashMap<Vec<u8>, Operand>, AllocError>
-    ensures { IfOk result (λ m. (x : spec.Name) → at_name m x ≡ (if is_among x (input_names netlist.now ++ register_names netlist.now) then Some (operand.Named x) else None)) }
+/// Inputs and registers stand for themselves.
+fn themselves(alloc: Global, netlist: &Netlist) -> Result<Table<Operand>, AllocError>
+    ensures { IfOk result (λ t. t ≡ themselves netlist.now) }
 {
-    let mut stands = HashMap::new(alloc);
-    bind_registers(alloc, &mut stands, netlist.registers())?;
-    bind_inputs(alloc, &mut stands, netlist.inputs())?;
-    Ok(stands)
+    let mut entries = Vec::new(alloc);
+    add_inputs(alloc, &mut entries, netlist.inputs())?;
+    add_registers(alloc, &mut entries, netlist.registers())?;
+    Table::new(alloc, entries)
 }
 
 /// Lets a register that keeps its start stand for that.
 fn bind_start(
     alloc: Global,
-    stands: &mut HashMap<Vec<u8>, Operand>,
-    stays: &HashMap<Vec<u8>, Stay>,
+    stands: &mut Table<Operand>,
+    stays: &Table<Stay>,
     register: &Register,
 ) -> Result<(), AllocError>
-    ensures { OnOk result ((ws : List Wire) → AllStay ws (at_name stays.now) → (x : spec.Name) → (at_name stands.new x ≡ at_name stands.old x) ⊎ StartsAt ws x (at_name stands.new x) register.now) }
+    ensures { OnOk result ((ws : List Wire) → AllStay ws (find stays.now) → (x : spec.Name) → (find stands.new x ≡ find stands.old x) ⊎ StartsAt ws x (find stands.new x) register.now) }
 {
     if !keeps_start(alloc, stays, register)? {
         return Ok(());
@@ -95,17 +87,16 @@ fn bind_start(
         width: register.width,
         value: register.start,
     };
-    put(stands, alloc, &register.name, start)?;
-    Ok(())
+    stands.put(alloc, &register.name, start)
 }
 
 fn bind_starts(
     alloc: Global,
-    stands: &mut HashMap<Vec<u8>, Operand>,
-    stays: &HashMap<Vec<u8>, Stay>,
+    stands: &mut Table<Operand>,
+    stays: &Table<Stay>,
     registers: &[Register],
 ) -> Result<(), AllocError>
-    ensures { OnOk result ((ws : List Wire) → AllStay ws (at_name stays.now) → (x : spec.Name) → Starts ws registers.now x (at_name stands.old x) (at_name stands.new x)) }
+    ensures { OnOk result ((ws : List Wire) → AllStay ws (find stays.now) → (x : spec.Name) → Starts ws registers.now x (find stands.old x) (find stands.new x)) }
 {
     for register in registers {
         bind_start(alloc, stands, stays, register)?;
@@ -151,7 +142,7 @@ impl Walk {
         ensures steps { OnOk result (Steps (holds taken.now) (state_of self.old) name.now width (settled width right) (state_of self.new)) }
     {
         let operand = self.wires.provide(alloc, taken, width, right)?;
-        put(&mut self.stands, alloc, name, operand)
+        self.stands.put(alloc, name, operand)
     }
 
     fn fold_wire(&mut self, alloc: Global, taken: &NameSet, wire: &Wire) -> Result<(), AllocError>
@@ -161,7 +152,7 @@ impl Walk {
     {
         let replaced = replace(alloc, &self.stands, &wire.right)?;
         let operand = fold_into(alloc, &mut self.wires, taken, wire.width, replaced)?;
-        put(&mut self.stands, alloc, &wire.name, operand)
+        self.stands.put(alloc, &wire.name, operand)
     }
 
     /// A wire with its right side folded.

@@ -1,7 +1,7 @@
 use Rattle.std.proofs.Common.{◌≡◌, ◌∙◌, ◌+◌, ◌++◌, [], ◌∷◌, List, take, sym, ap, subst, arith}
 use Rattle.std.proofs.lemmas.List.{take_more}
 use Rattle.sap_net.specs.declared.parts.Wire.{Wire}
-use Rattle.sap_net.specs.NameMaps.{at_name}
+use Rattle.sap_maps.specs.Scope.{find}
 use Rattle.sap_trim.specs.Stays.{AllStay}
 use Rattle.sap_trim.proofs.stays.put_wires.Goals as goal
 
@@ -11,4 +11,4 @@ loop-wire-preserved c =
     let k = c.loop-wire.wire-index in
     let y = c.wire-item.result in
     let e : take (k + 1) xs ≡ take k xs ++ y ∷ [] = take_more xs k y (omega arith) ∙ ap (λ z. take k xs ++ z ∷ []) (sym c.wire-item.is) in
-    subst (λ (ws : List Wire). AllStay ws (at_name c.put_wire.new.stays)) (sym e) (c.in_ok-put_wire.ensures {u = tt} (take k xs) c.loop-wire.invariant)
+    subst (λ (ws : List Wire). AllStay ws (find c.put_wire.new.stays)) (sym e) (c.in_ok-put_wire.ensures {u = tt} (take k xs) c.loop-wire.invariant)

@@ -1,4 +1,5 @@
-use Rattle.std.proofs.Common.{sym, subst, inl}
+use Rattle.std.proofs.Common.{sym, ap, subst, inl}
+use Rattle.sap_maps.specs.Scope.{find}
 use Rattle.sap_fold.specs.Settled.{Orderly}
 use Rattle.sap_trim.proofs.walk.Walk.new.Goals as goal
 
@@ -7,11 +8,11 @@ returns-clause-begins c =
     record {
       wires = c.new-wires.ensures.list;
       next = c.new-wires.ensures.next;
-      stands = λ x. inl (c.in_ok-stands.ensures {u = tt} x);
+      stands = λ x. inl (ap (λ es. find es x) (c.in_ok-stands.ensures {u = tt}));
     }
 
 pub returns-clause-themselves : goal.returns-clause-themselves
-returns-clause-themselves c = c.in_ok-stands.ensures {u = tt}
+returns-clause-themselves c = λ x. ap (λ es. find es x) (c.in_ok-stands.ensures {u = tt})
 
 pub returns-clause-orderly : goal.returns-clause-orderly
 returns-clause-orderly c =

@@ -1,4 +1,5 @@
-use Rattle.std.proofs.Common.{sym, subst}
+use Rattle.std.proofs.Common.{sym, ap, subst}
+use Rattle.sap_maps.specs.Scope.{find}
 use Rattle.sap_fold.specs.Settled.{Orderly}
 use Rattle.sap_trim.proofs.Loops.{starts_over}
 use Rattle.sap_trim.proofs.walk.Walk.with_starts.Goals as goal
@@ -9,7 +10,7 @@ returns-clause-begins c =
     record {
       wires = c.new-wires.ensures.list;
       next = c.new-wires.ensures.next;
-      stands = λ x. starts_over n.wires c.registers.result.now n.registers x _ _ _ c.registers.ensures (c.in_ok-bind_starts.ensures {u = tt} n.wires (c.in_ok-stays.ensures {u = tt}) x) (c.in_ok-stands.ensures {u = tt} x);
+      stands = λ x. starts_over n.wires c.registers.result.now n.registers x _ _ _ c.registers.ensures (c.in_ok-bind_starts.ensures {u = tt} n.wires (c.in_ok-stays.ensures {u = tt}) x) (ap (λ es. find es x) (c.in_ok-stands.ensures {u = tt}));
     }
 
 pub returns-clause-orderly : goal.returns-clause-orderly
