@@ -28,7 +28,7 @@ distinct_more (y ∷ xs) x d h = (
 
 -- ---- names in order
 
-filter_same : (f g : Name → Bool) (xs : List Name) → ((y : Name) → is_among y xs ≡ true → f y ≡ g y) → filter f xs ≡ filter g xs
+pub filter_same : (f g : Name → Bool) (xs : List Name) → ((y : Name) → is_among y xs ≡ true → f y ≡ g y) → filter f xs ≡ filter g xs
 filter_same f g [] h = refl
 filter_same f g (x ∷ xs) h =
     let rest = filter_same f g xs (λ y m. h y (or_right (bytes_eq y x) (is_among y xs) m)) in

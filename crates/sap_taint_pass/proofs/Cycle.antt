@@ -29,12 +29,13 @@ use Rattle.sap_taint.specs.Runs.{TagsBegin}
 use Rattle.sap_taint.specs.Carries.{read_off}
 use Rattle.sap_taint_pass.specs.Tainted.{tags_read, tag_operand, joined, help_for, tag_wires, help_for_wires, tagged_registers, memory_tags, in_order, all_registers, tainted_by}
 use Rattle.sap_build.proofs.Found.{entries_declared, registers_among}
+use Rattle.sap_build.proofs.Inserted.{right_grows}
 use Rattle.sap_taint_pass.proofs.FirstScope as first
 use Rattle.sap_taint_pass.proofs.InOrder.{names_in, all_unordered}
 use Rattle.sap_taint_pass.proofs.JoinWires.{tags_in, joined_value, join_is_tag}
 use Rattle.sap_taint_pass.proofs.Setting.{Setting}
 use Rattle.sap_taint_pass.proofs.WriteWires.{memories_take}
-use Rattle.sap_taint_pass.proofs.Readable.{the_tag_wires, the_write_wires, stocked, memories_fit, right_grows}
+use Rattle.sap_taint_pass.proofs.Readable.{the_tag_wires, the_write_wires, stocked, memories_fit}
 use Rattle.sap_taint_pass.proofs.IsTainted.{all_registers_declared}
 
 -- all registers, in any order
@@ -149,7 +150,7 @@ data_holds : (ms : Shapes) (all : Scope) (a b : Name → ℕ) (v : Valuation) �
     → Holds a v ws → Holds b v ws
 data_holds ms all a b v h k [] sc rules g holds = tt
 data_holds ms all a b v h k (x ∷ ws) sc rules g holds = (
-  holds.0 ∙ same_right ms all a b v h k x.width x.right (right_grows ms sc all (λ y u f. g y u (readable_kept ms (x ∷ ws) sc rules y u f)) x.width x.right rules.3),
+  holds.0 ∙ same_right ms all a b v h k x.width x.right (right_grows ms ms (λ m t f. f) sc all (λ y u f. g y u (readable_kept ms (x ∷ ws) sc rules y u f)) x.width x.right rules.3),
   data_holds ms all a b v h k ws ((x.name, x.width) ∷ sc) rules.4 g holds.1,
 )
 

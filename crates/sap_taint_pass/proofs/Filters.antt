@@ -8,6 +8,7 @@ use Rattle.sap_maps.specs.Maps.{Name}
 use Rattle.sap_net.specs.Names.{is_among}
 use Rattle.sap_net.proofs.NamesLemmas.{among_here, filter_among}
 use Rattle.sap_taint.specs.TagNames.{name_of_tag, with_tags}
+use Rattle.sap_build.proofs.OneMore.{filter_same}
 
 later_among : (P : Name → Type 0) (x : Name) (xs : List Name) → ((y : Name) → is_among y (x ∷ xs) ≡ true → P y) → (y : Name) → is_among y xs ≡ true → P y
 later_among P x xs h y m = h y (or_right (bytes_eq y x) (is_among y xs) m)
@@ -15,15 +16,6 @@ later_among P x xs h y m = h y (or_right (bytes_eq y x) (is_among y xs) m)
 pub filter_none : (f : Name → Bool) (xs : List Name) → ((y : Name) → is_among y xs ≡ true → f y ≡ false) → filter f xs ≡ []
 filter_none f [] h = refl
 filter_none f (x ∷ xs) h = rw (h x (among_here x xs)) (filter_none f xs (later_among (λ y. f y ≡ false) x xs h))
-
-pub filter_same : (f g : Name → Bool) (xs : List Name) → ((y : Name) → is_among y xs ≡ true → f y ≡ g y) → filter f xs ≡ filter g xs
-filter_same f g [] h = refl
-filter_same f g (x ∷ xs) h =
-    let rest = filter_same f g xs (later_among (λ y. f y ≡ g y) x xs h) in
-    elim (cases_Bool (g x)) [
-      | inl t ↦ rw (h x (among_here x xs), t) (ap (λ ys. x ∷ ys) rest)
-      | inr q ↦ rw (h x (among_here x xs), q) rest
-    ]
 
 pub filter_names : (f : Name → Bool) (xs : List Name) → ((y : Name) → is_among y xs ≡ true → f (name_of_tag y) ≡ false) → filter f (with_tags xs) ≡ filter f xs
 filter_names f [] h = refl

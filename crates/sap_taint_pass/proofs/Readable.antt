@@ -7,15 +7,12 @@ use Rattle.std.proofs.Math.Pow.{pow_pos}
 use Rattle.sap_lemmas.proofs.Everywhere.{all_append, all_follow}
 use Rattle.sap_maps.specs.Maps.{Name}
 use Rattle.sap_maps.specs.Scope.{Scope, find}
-use Rattle.sap_net.specs.declared.parts.Operand.{Operand}
-use Rattle.sap_net.specs.declared.parts.Right.{Right}
-use Rattle.sap_net.specs.declared.parts.Right.TheVariants.{Copy, One, Two, Choose, Concat, Slice, Cell}
 use Rattle.sap_net.specs.declared.parts.Wire.{Wire}
 use Rattle.sap_net.specs.declared.parts.Register.{Register}
 use Rattle.sap_net.specs.declared.parts.Memory.{Memory}
 use Rattle.sap_net.specs.Net.{Net}
 use Rattle.sap_net.specs.Names.{is_among}
-use Rattle.sap_net.specs.Rules.{Shapes, IsWidth, AreOperands, IsRight, AreWires, AreValues, IsRegister, IsMemory, readable_after}
+use Rattle.sap_net.specs.Rules.{Shapes, IsWidth, AreWires, AreValues, IsRegister, IsMemory, readable_after}
 use Rattle.sap_net.specs.IsNetlist.{IsNetlist, first_readable, readable, shapes, names_of, wire_names}
 use Rattle.sap_net.proofs.NamesLemmas.{among_here}
 use Rattle.sap_net.proofs.RulesLemmas.{Grows, operand_grows, wires_both, readable_both, readable_kept, wires_new, wires_distinct}
@@ -24,6 +21,7 @@ use Rattle.sap_taint.specs.TagNames.{name_of_tag, with_tags}
 use Rattle.sap_taint.specs.TaggedForm.{tagged_inputs}
 use Rattle.sap_taint_pass.specs.Tainted.{in_order, tagged_registers, memory_tags, all_registers, tag_wires, write_wires, all_wires, help_for_wires, help_for_writes, tainted_by}
 use Rattle.sap_taint.proofs.Apart.{tag_among}
+use Rattle.sap_build.proofs.Inserted.{right_grows}
 use Rattle.sap_build.proofs.Found.{AreDeclared, AllAmong, found_declared, first_declared, shapes_declared, wires_among, entries_declared, registers_among}
 use Rattle.sap_taint_pass.proofs.FirstScope as first
 use Rattle.sap_taint_pass.proofs.InOrder.{all_ordered}
@@ -70,19 +68,6 @@ first_values helping w n s =
 
 -- the wires that were there
 
-operands_grow : (sn sm : Scope) → Grows sn sm → (u : ℕ) (os : List Operand) → AreOperands sn u os → AreOperands sm u os
-operands_grow sn sm g u [] h = h
-operands_grow sn sm g u (o ∷ os) h = (h.0, h.1, h.2, operand_grows sn sm g h.0 o h.3, operands_grow sn sm g h.1 os h.4, h.5)
-
-pub right_grows : (ms : Shapes) (sn sm : Scope) → Grows sn sm → (u : ℕ) (r : Right) → IsRight ms sn u r → IsRight ms sm u r
-right_grows ms sn sm g u (Copy a) h = operand_grows sn sm g u a h
-right_grows ms sn sm g u (One op a) h = (h.0, h.1, operand_grows sn sm g h.0 a h.2, h.3)
-right_grows ms sn sm g u (Two op a b) h = (h.0, h.1, h.2, h.3, operand_grows sn sm g h.0 a h.4, operand_grows sn sm g h.1 b h.5, h.6, h.7)
-right_grows ms sn sm g u (Choose c a b) h = (operand_grows sn sm g 1 c h.0, operand_grows sn sm g u a h.1, operand_grows sn sm g u b h.2)
-right_grows ms sn sm g u (Concat os) h = (h.0, operands_grow sn sm g u os h.1)
-right_grows ms sn sm g u (Slice x hi lo) h = (h.0, h.1, g x h.0 h.2, h.3, h.4, h.5)
-right_grows ms sn sm g u (Cell m i) h = (h.0, h.1, operand_grows sn sm g h.0 i h.2)
-
 -- declared names are found in both as in one
 abbrev SameDeclared : List Name → Scope → Scope → Type 0
 SameDeclared ns sn sm = (y : Name) → is_among y ns ≡ true → find sm y ≡ find sn y
@@ -104,7 +89,7 @@ data_wires_fit ns ms (x ∷ ws) sn sm d a k rules =
       rules.0,
       a x.name here ∙ rules.1,
       rules.2,
-      right_grows ms sn sm (same_grows ns sn sm d a) x.width x.right rules.3,
+      right_grows ms ms (λ m t h. h) sn sm (same_grows ns sn sm d a) x.width x.right rules.3,
       data_wires_fit ns ms ws ((x.name, x.width) ∷ sn) ((x.name, x.width) ∷ sm) (here, d) (same_more ns sn sm (x.name, x.width) a)
           (λ y m. k y (or_right (bytes_eq y x.name) (is_among y (names_of ws)) m)) rules.4,
     )

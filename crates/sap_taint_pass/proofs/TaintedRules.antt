@@ -18,6 +18,7 @@ use Rattle.sap_taint.specs.TaggedForm.{tagged_ports}
 use Rattle.sap_taint_pass.specs.Tainted.{all_registers, help_for_wires, help_for_writes, helping_names, tainted_by}
 use Rattle.sap_taint.proofs.Apart.{of_whom, tag_among}
 use Rattle.sap_build.proofs.Found.{AllAmong, memories_among}
+use Rattle.sap_build.proofs.OneMore.{four_parts}
 use Rattle.sap_taint_pass.proofs.Filters.{filter_front, filter_names, filter_again}
 use Rattle.sap_taint_pass.proofs.InOrder.{names_in, ordered_names}
 use Rattle.sap_taint_pass.proofs.Numbered.{some_names, numbers_both}
@@ -69,11 +70,6 @@ regrouped false false false false false false false true h k = simp or_true
 regrouped false false false false false false false false true k = refl
 regrouped false false false false false false false false false true = refl
 regrouped false false false false false false false false false false = refl
-
-four_parts : (x : Name) (a b c d : List Name) → is_among x (a ++ b ++ c ++ d) ≡ (((is_among x a || is_among x b) || is_among x c) || is_among x d)
-four_parts x a b c d =
-    among_append x (a ++ b ++ c) d
-    ∙ ap (λ q. q || is_among x d) (among_append x (a ++ b) c ∙ ap (λ q. q || is_among x c) (among_append x a b))
 
 tags_of_parts : (a b c d : List Name) → map name_of_tag (a ++ b ++ c ++ d) ≡ map name_of_tag a ++ map name_of_tag b ++ map name_of_tag c ++ map name_of_tag d
 tags_of_parts a b c d =
