@@ -1,5 +1,5 @@
 -- From the end of a command and its line to the answer of the call.
-use Rattle.std.proofs.Common.{◌≡◌, ◌≢◌, ℕ, List, [], ◌++◌, length, take, refl, sym, ◌∙◌, ap, subst, inl, inr, ◌⊎◌}
+use Rattle.std.proofs.Common.{◌≡◌, ◌≢◌, ℕ, List, [], ◌++◌, length, take, arith, refl, sym, ◌∙◌, ap, subst, inl, inr, ◌⊎◌}
 use Rattle.std.specs.Prelude.{Option, Some, None, IfSome, unwrap_or, Result}
 use Rattle.std.proofs.lemmas.List.{append-nil}
 use Rattle.sap_desk.specs.Desk.{Told, Use}
@@ -7,12 +7,12 @@ use Rattle.sap_desk.specs.Cause.{counted}
 use Rattle.sap_desk.specs.Whole.{Between, Gained, LostAtMostOne}
 use Rattle.sap_stim.specs.declared.fault.StimFault.{StimFault}
 use Rattle.sap_words.specs.Words.{Words, IsTwin, command_of}
-use Rattle.sap_files.specs.Ending.{Ending, Refusal, done, refused, no_memory, no_command, stimulus_refused, status_of, line_of, IsFree}
+use Rattle.sap_files.specs.Ending.{Ending, Refusal, done, refused, failed, no_memory, no_command, lattice_refused, design_refused, part_refused, system_refused, wires_refused, stimulus_refused, module_refused, taint_refused, level_refused, lengths_apart, inputs_apart, wave_refused, asm_refused, status_of, status_of_refusal, line_of, IsFree}
 use Rattle.sap_files.specs.Asks.{Asks, file, by, gives, prints, writes, stops, AreLawful, Cause, Files, Shows, end_of}
 use Rattle.sap_commands.specs.Commands.{asks, asks_for}
 use Rattle.sap_files.specs.After.{Blames, Stands}
 use Rattle.sap_files.specs.Outside.{FullFile, FullOutput, OutsideOf}
-use Rattle.sap_files.specs.Steps.{Ends, FaultRose, Left, Moment, ending, ending_of}
+use Rattle.sap_files.specs.Steps.{Counted, Ends, FaultRose, Left, Moment, ending, ending_of}
 use Rattle.sap_files.specs.declared.failure.Failure.{Failure}
 use Rattle.sap_files.specs.declared.failure.Failure.TheVariants.{Refused, Desk, PartFile, Memory}
 use Rattle.sapper.specs.Answers.{Answers, MayAnswer}
@@ -134,6 +134,36 @@ told_not_done f answer b c r zero =
       | inl same ↦ not_done f (sym is ∙ same)
       | inr starved ↦ not_done Memory (sym is ∙ starved.0)
     ]
+
+-- a failed call is counted, and nothing else is
+
+not_six : (why : Refusal) → status_of_refusal why ≡ 6 → ⊥
+not_six (design_refused fault) is = omega (arith, is)
+not_six (part_refused part fault) is = omega (arith, is)
+not_six no_command is = omega (arith, is)
+not_six (level_refused word) is = omega (arith, is)
+not_six (lattice_refused fault) is = omega (arith, is)
+not_six (stimulus_refused place fault) is = omega (arith, is)
+not_six (module_refused fault) is = omega (arith, is)
+not_six (taint_refused fault) is = omega (arith, is)
+not_six (lengths_apart one other) is = omega (arith, is)
+not_six (inputs_apart cycle name) is = omega (arith, is)
+not_six (system_refused fault) is = omega (arith, is)
+not_six (wires_refused fault) is = omega (arith, is)
+not_six (wave_refused fault) is = omega (arith, is)
+not_six (asm_refused place fault) is = omega (arith, is)
+
+pub failed_counts : (before now : ℕ) (e : Ending) → status_of e ≡ 6 → Counted before now e → now ≡ counted before
+failed_counts before now done is rose = absurd (omega (arith, is))
+failed_counts before now (refused why) is rose = absurd (not_six why is)
+failed_counts before now (failed name) is rose = rose
+failed_counts before now no_memory is rose = absurd (omega (arith, is))
+
+pub others_keep : (before now : ℕ) (e : Ending) → (status_of e ≢ 6) → Counted before now e → now ≡ before
+others_keep before now done is rose = rose
+others_keep before now (refused why) is rose = rose
+others_keep before now (failed name) is rose = absurd (is refl)
+others_keep before now no_memory is rose = rose
 
 -- which answers there may be
 

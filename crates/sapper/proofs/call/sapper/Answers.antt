@@ -1,10 +1,10 @@
-use Rattle.std.proofs.Common.{refl, subst, inl}
+use Rattle.std.proofs.Common.{refl, sym, ◌∙◌, subst, inl}
 use Rattle.std.specs.Prelude.{map, string_bytes}
 use Rattle.sap_desk.specs.Whole.{LostAtMostOne}
 use Rattle.sap_files.specs.Ending.{done, no_command, refused, line_of}
 use Rattle.sap_files.specs.Steps.{ending, seen}
 use Rattle.sapper.specs.Lines.{Tells}
-use Rattle.sapper.proofs.Calls.{answers, exact, full_lines, lost_once, may_answer, no_words, outside, same_end, silent, told_end, told_not_done, two_words}
+use Rattle.sapper.proofs.Calls.{answers, exact, failed_counts, full_lines, lost_once, may_answer, no_words, others_keep, outside, same_end, silent, told_end, told_not_done, two_words}
 use Rattle.sapper.proofs.Headline.{headline_told}
 use Rattle.sapper.proofs.Links.{links_told}
 use Rattle.sapper.proofs.Machines.{machines_told}
@@ -50,6 +50,22 @@ returns-in-Some-Err-clause-lines g c = λ changed sure.
     let ended = same_end words _ _ _ _ c.in-Some-Err.field-0-is c.in-Some-Err.ensures.asked in
     let told = c.report.ensures in
     full_lines words told.as_told _ _ _ (told_end _ (ending c.in-Some-Err.failure) c.report.result _ _ _ ended told) told.line changed sure
+
+pub returns-in-Some-Err-clause-failed : goal.returns-in-Some-Err-clause-failed
+returns-in-Some-Err-clause-failed g c = λ six.
+    let words = map string_bytes c.args.words.now in
+    let ended = same_end words _ _ _ _ c.in-Some-Err.field-0-is c.in-Some-Err.ensures.asked in
+    let told = c.report.ensures in
+    told.line.faults
+    ∙ failed_counts _ _ told.as_told (sym told.status ∙ six) (told_end _ (ending c.in-Some-Err.failure) c.report.result _ _ _ ended told).faults
+
+pub returns-in-Some-Err-clause-counted : goal.returns-in-Some-Err-clause-counted
+returns-in-Some-Err-clause-counted g c = λ other.
+    let words = map string_bytes c.args.words.now in
+    let ended = same_end words _ _ _ _ c.in-Some-Err.field-0-is c.in-Some-Err.ensures.asked in
+    let told = c.report.ensures in
+    told.line.faults
+    ∙ others_keep _ _ told.as_told (λ six. other (told.status ∙ six)) (told_end _ (ending c.in-Some-Err.failure) c.report.result _ _ _ ended told).faults
 
 pub returns-in-Some-Ok-clause-lost : goal.returns-in-Some-Ok-clause-lost
 returns-in-Some-Ok-clause-lost g c = inl (same_end (map string_bytes c.args.words.now) _ _ _ _ c.in-Some-Ok.field-0-is c.in-Some-Ok.ensures.asked).lost
