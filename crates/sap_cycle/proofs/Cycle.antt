@@ -22,7 +22,7 @@ use Rattle.sap_cycle.specs.declared.steps.Slot.{Slot}
 use Rattle.sap_cycle.specs.declared.steps.Step.{Step}
 use Rattle.sap_cycle.specs.declared.steps.Part.{Part}
 use Rattle.sap_cycle.specs.declared.program.Program.{Program}
-use Rattle.sap_cycle.specs.Instructions.{placed_step}
+use Rattle.sap_cycle.specs.Runs.{steps_of_runs}
 use Rattle.sap_cycle.specs.Steps.{slot_value, AreIn, copied, stored, ArePortsReady}
 use Rattle.sap_cycle.specs.Turned.{before_edge, values_turned, cells_turned, CanTurn}
 use Rattle.sap_cycle.specs.Means.{StepsMean, NextsMean, Matches}
@@ -148,7 +148,7 @@ turn_is n rules p program before inputs values cells v ev ec cycle =
     let lw : length wires ≡ length n.wires = length-map n.wires (λ w. w.name) in
     let ln : length p.nexts.items ≡ length n.registers = nexts_long _ p.nexts.items n.registers program.nexts in
     let ss = program.steps.0 in
-    let ps = map (placed_step p.others.items) p.steps.items in
+    let ps = steps_of_runs p.others.items p.runs.items in
     let ls : length ss ≡ length n.wires = steps_long _ _ _ _ ss n.wires program.steps.1 in
     let first : map v.value (first_names n) ≡ inputs ++ map f regs = map-append v.value ins regs ∙ ap (λ l. l ++ map v.value regs) (sym ex) ∙ ap (λ l. inputs ++ l) er in
     let lfirst : length (first_names n) ≡ length inputs + length p.nexts.items = omega (arith, lx, lr, ln, length-append ins regs) in

@@ -1,11 +1,9 @@
 -- Steps that are taken a run after another.
-use Rattle.std.proofs.Common.{◌≡◌, ℕ, ◌+◌, ◌≤◌, List, [], ◌∷◌, ◌++◌, length, map, take, drop, sym, ap, ◌∙◌, subst, refl, arith}
-use Rattle.std.specs.Prelude.{◌-◌, slice_range}
-use Rattle.std.proofs.lemmas.List.{drop-drop, map-append, take-append-drop}
-use Rattle.sap_cycle.specs.declared.instructions.Placed.{Placed}
+use Rattle.std.proofs.Common.{◌≡◌, ℕ, suc, ◌+◌, ◌<◌, List, [], ◌∷◌, ◌++◌, length, drop, get_or, sym, ap, ap₂, ◌∙◌, subst, refl, arith, drop-cons}
+use Rattle.sap_cycle.specs.declared.runs.Run.{Run}
 use Rattle.sap_cycle.specs.declared.steps.Part.{Part}
 use Rattle.sap_cycle.specs.declared.steps.Step.{Step}
-use Rattle.sap_cycle.specs.Instructions.{placed_step}
+use Rattle.sap_cycle.specs.Runs.{run_steps, steps_of_runs}
 use Rattle.sap_cycle.specs.Steps.{settled, AreReady}
 
 settled_parts : (cells : List ℕ) (parts : List Part) (ps qs : List (ℕ × Step)) (values : List ℕ) → settled cells parts (ps ++ qs) values ≡ settled cells parts qs (settled cells parts ps values)
@@ -16,39 +14,33 @@ ready_parts : (cells : List ℕ) (parts : List Part) (ps qs : List (ℕ × Step)
 ready_parts cells parts [] qs values h = (tt, h)
 ready_parts cells parts (p ∷ ps) qs values h = let go = ready_parts cells parts ps qs _ h.2 in ((h.0, h.1, go.0), go.1)
 
-split : (others : List Step) (xs : List Placed) (start stop : ℕ) → start ≤ stop
-    → map (placed_step others) (drop start xs) ≡ map (placed_step others) (slice_range xs start stop) ++ map (placed_step others) (drop stop xs)
-split others xs start stop le =
-    let k : start + (stop - start) ≡ stop = omega (arith, le) in
-    let d : drop start xs ≡ slice_range xs start stop ++ drop stop xs =
-    sym (take-append-drop (stop - start) (drop start xs))
-    ∙ ap (λ l. take (stop - start) (drop start xs) ++ l) (drop-drop (stop - start) start xs ∙ ap (λ i. drop i xs) k) in
-    ap (map (placed_step others)) d ∙ map-append (placed_step others) (slice_range xs start stop) (drop stop xs)
+-- the next of the runs that are left
+pub next_run : (runs : List Run) (k : ℕ) (run : Run) → k < length runs → run ≡ get_or runs k run → drop k runs ≡ run ∷ drop (k + 1) runs
+next_run runs k run lt is =
+    let e : suc k ≡ k + 1 = omega arith in
+    drop-cons runs k run lt ∙ ap₂ (λ (x : Run) (n : ℕ). x ∷ drop n runs) (sym is) e
 
--- the steps from a place on are left, and give what all gave
-pub record Left (cells : List ℕ) (parts : List Part) (others : List Step) (steps : List Placed) (whole : List ℕ) (start : ℕ) (values : List ℕ) : Type 0 where
-  pub within : start ≤ length steps
-  pub gives : settled cells parts (map (placed_step others) (drop start steps)) values ≡ whole
-  pub ready : AreReady cells parts (map (placed_step others) (drop start steps)) values
+-- these runs are left, and give what all gave
+pub record Left (cells : List ℕ) (parts : List Part) (others : List Step) (whole : List ℕ) (runs : List Run) (values : List ℕ) : Type 0 where
+  pub gives : settled cells parts (steps_of_runs others runs) values ≡ whole
+  pub ready : AreReady cells parts (steps_of_runs others runs) values
 
-pub run_ready : (cells : List ℕ) (parts : List Part) (others : List Step) (steps : List Placed) (whole : List ℕ) (start stop : ℕ) (values : List ℕ) → Left cells parts others steps whole start values → start ≤ stop
-    → AreReady cells parts (map (placed_step others) (slice_range steps start stop)) values
-run_ready cells parts others steps whole start stop values l le =
-    (ready_parts cells parts (map (placed_step others) (slice_range steps start stop)) (map (placed_step others) (drop stop steps)) values
-    (subst (λ (ps : List (ℕ × Step)). AreReady cells parts ps values) (split others steps start stop le) l.ready)).0
+pub run_ready : (cells : List ℕ) (parts : List Part) (others : List Step) (whole : List ℕ) (run : Run) (runs rest : List Run) (values : List ℕ) → Left cells parts others whole runs values → runs ≡ run ∷ rest
+    → AreReady cells parts (run_steps others run) values
+run_ready cells parts others whole run runs rest values l e =
+    (ready_parts cells parts (run_steps others run) (steps_of_runs others rest) values
+    (subst (λ (rs : List Run). AreReady cells parts (steps_of_runs others rs) values) e l.ready)).0
 
-pub run_more : (cells : List ℕ) (parts : List Part) (others : List Step) (steps : List Placed) (whole : List ℕ) (start stop : ℕ) (values new : List ℕ) → Left cells parts others steps whole start values → start ≤ stop → stop ≤ length steps
-    → new ≡ settled cells parts (map (placed_step others) (slice_range steps start stop)) values → Left cells parts others steps whole stop new
-run_more cells parts others steps whole start stop values new l le within e =
-    let run = map (placed_step others) (slice_range steps start stop) in
-    let rest = map (placed_step others) (drop stop steps) in
-    let s = split others steps start stop le in
+pub run_more : (cells : List ℕ) (parts : List Part) (others : List Step) (whole : List ℕ) (run : Run) (runs rest : List Run) (values new : List ℕ) → Left cells parts others whole runs values → runs ≡ run ∷ rest
+    → new ≡ settled cells parts (run_steps others run) values → Left cells parts others whole rest new
+run_more cells parts others whole run runs rest values new l e is =
+    let first = run_steps others run in
+    let behind = steps_of_runs others rest in
     record {
-      within = within;
       gives =
-          ap (settled cells parts rest) e ∙ sym (settled_parts cells parts run rest values)
-          ∙ sym (ap (λ (ps : List (ℕ × Step)). settled cells parts ps values) s) ∙ l.gives;
+          ap (settled cells parts behind) is ∙ sym (settled_parts cells parts first behind values)
+          ∙ sym (ap (λ (rs : List Run). settled cells parts (steps_of_runs others rs) values) e) ∙ l.gives;
       ready =
-          subst (AreReady cells parts rest) (sym e)
-          (ready_parts cells parts run rest values (subst (λ (ps : List (ℕ × Step)). AreReady cells parts ps values) s l.ready)).1;
+          subst (AreReady cells parts behind) (sym is)
+          (ready_parts cells parts first behind values (subst (λ (rs : List Run). AreReady cells parts (steps_of_runs others rs) values) e l.ready)).1;
     }

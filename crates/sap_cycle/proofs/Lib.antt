@@ -14,3 +14,4 @@ pub mod Ordered
 pub mod Row
 pub mod Arranging
 pub mod Ends
+pub mod Divided

@@ -7,3 +7,4 @@ pub mod Running
 pub mod Loaded
 pub mod Known
 pub mod Order
+pub mod Runs

@@ -1,13 +1,13 @@
 -- A cycle on the arrays of values and cells.
 use Rattle.std.specs.Prelude.{ℕ, ◌+◌, ◌≤◌, List, length, map}
 use Rattle.sap_cycle.specs.declared.program.Program.{Program}
-use Rattle.sap_cycle.specs.Instructions.{placed_step}
+use Rattle.sap_cycle.specs.Runs.{steps_of_runs}
 use Rattle.sap_cycle.specs.Steps.{slot_value, settled, AreReady, AreIn, copied, stored, ArePortsReady}
 
 -- the values with these inputs and the wires' numbers, and the registers as before
 abbrev pub before_edge : Program → (inputs values cells : List ℕ) → List ℕ
 before_edge p inputs values cells =
-    settled cells p.parts.items (map (placed_step p.others.items) p.steps.items) (copied 0 inputs values)
+    settled cells p.parts.items (steps_of_runs p.others.items p.runs.items) (copied 0 inputs values)
 
 abbrev pub values_turned : Program → (inputs values cells : List ℕ) → List ℕ
 values_turned p inputs values cells =
@@ -18,6 +18,6 @@ cells_turned p inputs values cells = stored (before_edge p inputs values cells) 
 
 pub record CanTurn (p : Program) (inputs values cells : List ℕ) : Type 0 where
   pub room : length inputs + length p.nexts.items ≤ length values
-  pub ready : AreReady cells p.parts.items (map (placed_step p.others.items) p.steps.items) (copied 0 inputs values)
+  pub ready : AreReady cells p.parts.items (steps_of_runs p.others.items p.runs.items) (copied 0 inputs values)
   pub nexts : AreIn (before_edge p inputs values cells) p.nexts.items
   pub ports : ArePortsReady (before_edge p inputs values cells) p.ports.items cells

@@ -10,11 +10,11 @@ ghost use Rattle.sap_cycle.specs.Means.{StepsMean};
 ghost use Rattle.sap_cycle.specs.Places.{Finds};
 ghost use Rattle.sap_cycle.specs.Running.{Shows, first_names, value_names};
 
+use crate::divide::runs_of;
 use crate::instructions::{Instruction, instruction_of};
 use crate::known::{Known, learn, learn_inputs, learn_registers, slot_of, step_of};
 use crate::order::in_order;
 use crate::program::Program;
-use crate::runs::run_ends;
 use crate::steps::{Part, Slot, Step, WritePort};
 use sap_net::name_map::put;
 use sap_net::netlist::Netlist;
@@ -166,12 +166,11 @@ fn make_program(known: &mut Known, alloc: Global, netlist: &Netlist) -> Result<P
     } = compiled;
     let places = known.widths.len();
     let steps = in_order(alloc, base, places, &parts, &others, &instructions)?;
-    let ends = run_ends(alloc, &steps)?;
+    let runs = runs_of(alloc, &steps)?;
     Ok(Program {
         parts,
         others,
-        steps,
-        ends,
+        runs,
         nexts,
         ports,
     })

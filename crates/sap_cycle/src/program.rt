@@ -3,19 +3,17 @@
 ghost use Rattle.std.specs.Prelude.{◌≡◌, length};
 ghost use Rattle.sap_cycle.specs.Turned.{CanTurn, values_turned, cells_turned};
 
-use crate::instructions::Placed;
-use crate::runs::settle_runs;
+use crate::runs::{Run, settle_runs};
 use crate::steps::{Part, Slot, Step, WritePort, copy_to, read_all, store_all};
 
-/// The steps of the wires in an order in which each finds what it reads, and where runs of one operator end in it; the
-/// parts of longer concatenations and the steps that have no instruction of their own; what each register takes at the
-/// edge, and the write port of each memory.
+/// The steps of the wires in an order in which each finds what it reads, in runs of one operator; the parts of longer
+/// concatenations and the steps that have no instruction of their own; what each register takes at the edge, and the
+/// write port of each memory.
 #[derive(Drop)]
 pub struct Program {
     pub parts: Vec<Part>,
     pub others: Vec<Step>,
-    pub steps: Vec<Placed>,
-    pub ends: Vec<usize>,
+    pub runs: Vec<Run>,
     pub nexts: Vec<Slot>,
     pub ports: Vec<WritePort>,
 }
@@ -39,8 +37,7 @@ pub fn turn(
         cells,
         &program.parts,
         &program.others,
-        &program.steps,
-        &program.ends,
+        &program.runs,
     );
     read_all(edge, values, &program.nexts);
     store_all(cells, values, &program.ports);

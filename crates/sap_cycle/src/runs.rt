@@ -1,367 +1,134 @@
-//! Runs of one operator, each in a loop that expects it.
+//! Runs of one operator, each in a loop of its own.
 
 ghost use Rattle.std.specs.Prelude.{◌≡◌, map};
-ghost use Rattle.sap_cycle.specs.Instructions.{step_of_instruction, placed_step};
-ghost use Rattle.sap_cycle.specs.Steps.{AreReady, IsReady, settled, step_value};
+ghost use Rattle.sap_cycle.specs.declared.operands.Operator.TheVariants as operator;
+ghost use Rattle.sap_cycle.specs.Runs.{operands_step, run_steps, steps_of_runs, two_step};
+ghost use Rattle.sap_cycle.specs.Steps.{AreReady, settled};
 
-use crate::instructions::{Instruction, Placed, perform, settle};
-use crate::sort::operator;
+use crate::instructions::{Placed, settle};
+use crate::operands::{Operands, Operator};
 use crate::steps::{Part, Step};
 use sap_bits::{Op2, apply2, concat, slice};
-use std::alloc::{AllocError, Global};
 
-/// The number of an instruction that a run has no loop for.
-#[cold]
-#[inline(never)]
-fn perform_other_kind(
-    values: &[u64],
-    cells: &[u64],
-    parts: &[Part],
-    others: &[Step],
-    instruction: &Instruction,
-) -> u64
-    requires { IsReady values.now cells.now parts.now (step_of_instruction others.now instruction.now) }
-    ensures { result ≡ step_value values.now cells.now parts.now (step_of_instruction others.now instruction.now) }
-{
-    perform(values, cells, parts, others, instruction)
+/// Steps of one operator, or of any.
+#[derive(Drop)]
+pub enum Run {
+    Alike(Operator, Vec<Operands>),
+    Other(Vec<Placed>),
 }
 
+/// An operator on the numbers at two places.
 #[inline(always)]
-fn expect_number(
-    values: &[u64],
-    cells: &[u64],
-    parts: &[Part],
-    others: &[Step],
-    instruction: &Instruction,
-) -> u64
-    requires { IsReady values.now cells.now parts.now (step_of_instruction others.now instruction.now) }
-    ensures { result ≡ step_value values.now cells.now parts.now (step_of_instruction others.now instruction.now) }
+fn settle_two(op: Op2, values: &mut [u64], cells: &[u64], parts: &[Part], steps: &[Operands])
+    requires { AreReady cells.now parts.now (map (two_step op) steps.now) values.old }
+    ensures { values.new ≡ settled cells.now parts.now (map (two_step op) steps.now) values.old }
 {
-    match instruction {
-        Instruction::Number(x) => *x,
-        _ => perform_other_kind(values, cells, parts, others, instruction),
+    for step in steps {
+        let (a, b) = (values[step.a as usize], values[step.b as usize]);
+        values[step.target as usize] = apply2(op, step.c, a, b);
     }
 }
 
-fn run_of_number(
+fn settle_eq_number(values: &mut [u64], cells: &[u64], parts: &[Part], steps: &[Operands])
+    requires { AreReady cells.now parts.now (map (operands_step operator.EqNumber) steps.now) values.old }
+    ensures { values.new ≡ settled cells.now parts.now (map (operands_step operator.EqNumber) steps.now) values.old }
+{
+    for step in steps {
+        values[step.target as usize] = apply2(
+            Op2::Eq,
+            step.c,
+            values[step.a as usize],
+            u64::from(step.b),
+        );
+    }
+}
+
+fn settle_numbers(values: &mut [u64], cells: &[u64], parts: &[Part], steps: &[Operands])
+    requires { AreReady cells.now parts.now (map (operands_step operator.Number) steps.now) values.old }
+    ensures { values.new ≡ settled cells.now parts.now (map (operands_step operator.Number) steps.now) values.old }
+{
+    for step in steps {
+        values[step.target as usize] = u64::from(step.a);
+    }
+}
+
+fn settle_choices(values: &mut [u64], cells: &[u64], parts: &[Part], steps: &[Operands])
+    requires { AreReady cells.now parts.now (map (operands_step operator.Choose) steps.now) values.old }
+    ensures { values.new ≡ settled cells.now parts.now (map (operands_step operator.Choose) steps.now) values.old }
+{
+    for step in steps {
+        // both are read, so that no branch depends on the number
+        let (chosen, other) = (values[step.a as usize], values[step.b as usize]);
+        values[step.target as usize] = if values[step.c as usize] == 0 {
+            other
+        } else {
+            chosen
+        };
+    }
+}
+
+fn settle_pairs(values: &mut [u64], cells: &[u64], parts: &[Part], steps: &[Operands])
+    requires { AreReady cells.now parts.now (map (operands_step operator.Pair) steps.now) values.old }
+    ensures { values.new ≡ settled cells.now parts.now (map (operands_step operator.Pair) steps.now) values.old }
+{
+    for step in steps {
+        let (a, b) = (values[step.a as usize], values[step.b as usize]);
+        values[step.target as usize] = concat(a, step.c, b);
+    }
+}
+
+fn settle_slices(values: &mut [u64], cells: &[u64], parts: &[Part], steps: &[Operands])
+    requires { AreReady cells.now parts.now (map (operands_step operator.Slice) steps.now) values.old }
+    ensures { values.new ≡ settled cells.now parts.now (map (operands_step operator.Slice) steps.now) values.old }
+{
+    for step in steps {
+        values[step.target as usize] = slice(values[step.a as usize], step.b, step.c);
+    }
+}
+
+fn settle_alike(
+    operator: Operator,
     values: &mut [u64],
     cells: &[u64],
     parts: &[Part],
-    others: &[Step],
-    steps: &[Placed],
+    steps: &[Operands],
 )
-    requires { AreReady cells.now parts.now (map (placed_step others.now) steps.now) values.old }
-    ensures { values.new ≡ settled cells.now parts.now (map (placed_step others.now) steps.now) values.old }
+    requires { AreReady cells.now parts.now (map (operands_step operator) steps.now) values.old }
+    ensures { values.new ≡ settled cells.now parts.now (map (operands_step operator) steps.now) values.old }
 {
-    for step in steps {
-        values[step.target] = expect_number(values, cells, parts, others, &step.instruction);
+    match operator {
+        Operator::Number => settle_numbers(values, cells, parts, steps),
+        Operator::Add => settle_two(Op2::Add, values, cells, parts, steps),
+        Operator::Sub => settle_two(Op2::Sub, values, cells, parts, steps),
+        Operator::And => settle_two(Op2::And, values, cells, parts, steps),
+        Operator::Or => settle_two(Op2::Or, values, cells, parts, steps),
+        Operator::Xor => settle_two(Op2::Xor, values, cells, parts, steps),
+        Operator::Eq => settle_two(Op2::Eq, values, cells, parts, steps),
+        Operator::Ne => settle_two(Op2::Ne, values, cells, parts, steps),
+        Operator::Lt => settle_two(Op2::Lt, values, cells, parts, steps),
+        Operator::EqNumber => settle_eq_number(values, cells, parts, steps),
+        Operator::Choose => settle_choices(values, cells, parts, steps),
+        Operator::Pair => settle_pairs(values, cells, parts, steps),
+        Operator::Slice => settle_slices(values, cells, parts, steps),
     }
 }
 
-#[inline(always)]
-fn expect_add(
-    values: &[u64],
-    cells: &[u64],
-    parts: &[Part],
-    others: &[Step],
-    instruction: &Instruction,
-) -> u64
-    requires { IsReady values.now cells.now parts.now (step_of_instruction others.now instruction.now) }
-    ensures { result ≡ step_value values.now cells.now parts.now (step_of_instruction others.now instruction.now) }
+fn settle_run(values: &mut [u64], cells: &[u64], parts: &[Part], others: &[Step], run: &Run)
+    requires { AreReady cells.now parts.now (run_steps others.now run.now) values.old }
+    ensures { values.new ≡ settled cells.now parts.now (run_steps others.now run.now) values.old }
 {
-    match instruction {
-        Instruction::Add(w, a, b) => {
-            apply2(Op2::Add, *w, values[*a as usize], values[*b as usize])
-        }
-        _ => perform_other_kind(values, cells, parts, others, instruction),
+    match run {
+        Run::Alike(operator, steps) => settle_alike(*operator, values, cells, parts, steps),
+        Run::Other(steps) => settle(values, cells, parts, others, steps),
     }
 }
 
-fn run_of_add(values: &mut [u64], cells: &[u64], parts: &[Part], others: &[Step], steps: &[Placed])
-    requires { AreReady cells.now parts.now (map (placed_step others.now) steps.now) values.old }
-    ensures { values.new ≡ settled cells.now parts.now (map (placed_step others.now) steps.now) values.old }
+/// The steps of all runs, one after another.
+pub fn settle_runs(values: &mut [u64], cells: &[u64], parts: &[Part], others: &[Step], runs: &[Run])
+    requires { AreReady cells.now parts.now (steps_of_runs others.now runs.now) values.old }
+    ensures { values.new ≡ settled cells.now parts.now (steps_of_runs others.now runs.now) values.old }
 {
-    for step in steps {
-        values[step.target] = expect_add(values, cells, parts, others, &step.instruction);
+    for run in runs {
+        settle_run(values, cells, parts, others, run);
     }
-}
-
-#[inline(always)]
-fn expect_and(
-    values: &[u64],
-    cells: &[u64],
-    parts: &[Part],
-    others: &[Step],
-    instruction: &Instruction,
-) -> u64
-    requires { IsReady values.now cells.now parts.now (step_of_instruction others.now instruction.now) }
-    ensures { result ≡ step_value values.now cells.now parts.now (step_of_instruction others.now instruction.now) }
-{
-    match instruction {
-        Instruction::And(w, a, b) => {
-            apply2(Op2::And, *w, values[*a as usize], values[*b as usize])
-        }
-        _ => perform_other_kind(values, cells, parts, others, instruction),
-    }
-}
-
-fn run_of_and(values: &mut [u64], cells: &[u64], parts: &[Part], others: &[Step], steps: &[Placed])
-    requires { AreReady cells.now parts.now (map (placed_step others.now) steps.now) values.old }
-    ensures { values.new ≡ settled cells.now parts.now (map (placed_step others.now) steps.now) values.old }
-{
-    for step in steps {
-        values[step.target] = expect_and(values, cells, parts, others, &step.instruction);
-    }
-}
-
-#[inline(always)]
-fn expect_or(
-    values: &[u64],
-    cells: &[u64],
-    parts: &[Part],
-    others: &[Step],
-    instruction: &Instruction,
-) -> u64
-    requires { IsReady values.now cells.now parts.now (step_of_instruction others.now instruction.now) }
-    ensures { result ≡ step_value values.now cells.now parts.now (step_of_instruction others.now instruction.now) }
-{
-    match instruction {
-        Instruction::Or(w, a, b) => {
-            apply2(Op2::Or, *w, values[*a as usize], values[*b as usize])
-        }
-        _ => perform_other_kind(values, cells, parts, others, instruction),
-    }
-}
-
-fn run_of_or(values: &mut [u64], cells: &[u64], parts: &[Part], others: &[Step], steps: &[Placed])
-    requires { AreReady cells.now parts.now (map (placed_step others.now) steps.now) values.old }
-    ensures { values.new ≡ settled cells.now parts.now (map (placed_step others.now) steps.now) values.old }
-{
-    for step in steps {
-        values[step.target] = expect_or(values, cells, parts, others, &step.instruction);
-    }
-}
-
-#[inline(always)]
-fn expect_xor(
-    values: &[u64],
-    cells: &[u64],
-    parts: &[Part],
-    others: &[Step],
-    instruction: &Instruction,
-) -> u64
-    requires { IsReady values.now cells.now parts.now (step_of_instruction others.now instruction.now) }
-    ensures { result ≡ step_value values.now cells.now parts.now (step_of_instruction others.now instruction.now) }
-{
-    match instruction {
-        Instruction::Xor(w, a, b) => {
-            apply2(Op2::Xor, *w, values[*a as usize], values[*b as usize])
-        }
-        _ => perform_other_kind(values, cells, parts, others, instruction),
-    }
-}
-
-fn run_of_xor(values: &mut [u64], cells: &[u64], parts: &[Part], others: &[Step], steps: &[Placed])
-    requires { AreReady cells.now parts.now (map (placed_step others.now) steps.now) values.old }
-    ensures { values.new ≡ settled cells.now parts.now (map (placed_step others.now) steps.now) values.old }
-{
-    for step in steps {
-        values[step.target] = expect_xor(values, cells, parts, others, &step.instruction);
-    }
-}
-
-#[inline(always)]
-fn expect_eq_number(
-    values: &[u64],
-    cells: &[u64],
-    parts: &[Part],
-    others: &[Step],
-    instruction: &Instruction,
-) -> u64
-    requires { IsReady values.now cells.now parts.now (step_of_instruction others.now instruction.now) }
-    ensures { result ≡ step_value values.now cells.now parts.now (step_of_instruction others.now instruction.now) }
-{
-    match instruction {
-        Instruction::EqNumber(w, a, x) => {
-            apply2(Op2::Eq, u32::from(*w), values[*a as usize], *x)
-        }
-        _ => perform_other_kind(values, cells, parts, others, instruction),
-    }
-}
-
-fn run_of_eq_number(
-    values: &mut [u64],
-    cells: &[u64],
-    parts: &[Part],
-    others: &[Step],
-    steps: &[Placed],
-)
-    requires { AreReady cells.now parts.now (map (placed_step others.now) steps.now) values.old }
-    ensures { values.new ≡ settled cells.now parts.now (map (placed_step others.now) steps.now) values.old }
-{
-    for step in steps {
-        values[step.target] = expect_eq_number(values, cells, parts, others, &step.instruction);
-    }
-}
-
-#[inline(always)]
-fn expect_choose(
-    values: &[u64],
-    cells: &[u64],
-    parts: &[Part],
-    others: &[Step],
-    instruction: &Instruction,
-) -> u64
-    requires { IsReady values.now cells.now parts.now (step_of_instruction others.now instruction.now) }
-    ensures { result ≡ step_value values.now cells.now parts.now (step_of_instruction others.now instruction.now) }
-{
-    match instruction {
-        Instruction::Choose(c, a, b) => {
-            // both are read, so that no branch depends on the number
-            let (chosen, other) = (values[*a as usize], values[*b as usize]);
-            if values[*c as usize] == 0 {
-                other
-            } else {
-                chosen
-            }
-        }
-        _ => perform_other_kind(values, cells, parts, others, instruction),
-    }
-}
-
-fn run_of_choose(
-    values: &mut [u64],
-    cells: &[u64],
-    parts: &[Part],
-    others: &[Step],
-    steps: &[Placed],
-)
-    requires { AreReady cells.now parts.now (map (placed_step others.now) steps.now) values.old }
-    ensures { values.new ≡ settled cells.now parts.now (map (placed_step others.now) steps.now) values.old }
-{
-    for step in steps {
-        values[step.target] = expect_choose(values, cells, parts, others, &step.instruction);
-    }
-}
-
-#[inline(always)]
-fn expect_pair(
-    values: &[u64],
-    cells: &[u64],
-    parts: &[Part],
-    others: &[Step],
-    instruction: &Instruction,
-) -> u64
-    requires { IsReady values.now cells.now parts.now (step_of_instruction others.now instruction.now) }
-    ensures { result ≡ step_value values.now cells.now parts.now (step_of_instruction others.now instruction.now) }
-{
-    match instruction {
-        Instruction::Pair(w, a, b) => { concat(values[*a as usize], *w, values[*b as usize]) }
-        _ => perform_other_kind(values, cells, parts, others, instruction),
-    }
-}
-
-fn run_of_pair(values: &mut [u64], cells: &[u64], parts: &[Part], others: &[Step], steps: &[Placed])
-    requires { AreReady cells.now parts.now (map (placed_step others.now) steps.now) values.old }
-    ensures { values.new ≡ settled cells.now parts.now (map (placed_step others.now) steps.now) values.old }
-{
-    for step in steps {
-        values[step.target] = expect_pair(values, cells, parts, others, &step.instruction);
-    }
-}
-
-#[inline(always)]
-fn expect_slice(
-    values: &[u64],
-    cells: &[u64],
-    parts: &[Part],
-    others: &[Step],
-    instruction: &Instruction,
-) -> u64
-    requires { IsReady values.now cells.now parts.now (step_of_instruction others.now instruction.now) }
-    ensures { result ≡ step_value values.now cells.now parts.now (step_of_instruction others.now instruction.now) }
-{
-    match instruction {
-        Instruction::Slice(a, hi, lo) => { slice(values[*a as usize], *hi, *lo) }
-        _ => perform_other_kind(values, cells, parts, others, instruction),
-    }
-}
-
-fn run_of_slice(
-    values: &mut [u64],
-    cells: &[u64],
-    parts: &[Part],
-    others: &[Step],
-    steps: &[Placed],
-)
-    requires { AreReady cells.now parts.now (map (placed_step others.now) steps.now) values.old }
-    ensures { values.new ≡ settled cells.now parts.now (map (placed_step others.now) steps.now) values.old }
-{
-    for step in steps {
-        values[step.target] = expect_slice(values, cells, parts, others, &step.instruction);
-    }
-}
-
-/// Instructions of which most are like the first.
-fn settle_run(values: &mut [u64], cells: &[u64], parts: &[Part], others: &[Step], steps: &[Placed])
-    requires { AreReady cells.now parts.now (map (placed_step others.now) steps.now) values.old }
-    ensures { values.new ≡ settled cells.now parts.now (map (placed_step others.now) steps.now) values.old }
-{
-    let first = match steps.get(0) {
-        Some(step) => step.instruction,
-        None => Instruction::Number(0),
-    };
-    match first {
-        Instruction::Number(_) => run_of_number(values, cells, parts, others, steps),
-        Instruction::Add(_, _, _) => run_of_add(values, cells, parts, others, steps),
-        Instruction::And(_, _, _) => run_of_and(values, cells, parts, others, steps),
-        Instruction::Or(_, _, _) => run_of_or(values, cells, parts, others, steps),
-        Instruction::Xor(_, _, _) => run_of_xor(values, cells, parts, others, steps),
-        Instruction::EqNumber(_, _, _) => run_of_eq_number(values, cells, parts, others, steps),
-        Instruction::Choose(_, _, _) => run_of_choose(values, cells, parts, others, steps),
-        Instruction::Pair(_, _, _) => run_of_pair(values, cells, parts, others, steps),
-        Instruction::Slice(_, _, _) => run_of_slice(values, cells, parts, others, steps),
-        _ => settle(values, cells, parts, others, steps),
-    }
-}
-
-/// All instructions, those up to each of the ends by the operator of their first.
-pub fn settle_runs(
-    values: &mut [u64],
-    cells: &[u64],
-    parts: &[Part],
-    others: &[Step],
-    steps: &[Placed],
-    ends: &[usize],
-)
-    requires { AreReady cells.now parts.now (map (placed_step others.now) steps.now) values.old }
-    ensures { values.new ≡ settled cells.now parts.now (map (placed_step others.now) steps.now) values.old }
-{
-    let mut start: usize = 0;
-    for end in ends {
-        let stop = *end;
-        if start <= stop && stop <= steps.len() {
-            settle_run(values, cells, parts, others, &steps[start..stop]);
-            start = stop;
-        }
-    }
-    settle(values, cells, parts, others, &steps[start..]);
-}
-
-/// Where the runs of one operator end, or nothing where they are short.
-pub fn run_ends(alloc: Global, steps: &[Placed]) -> Result<Vec<usize>, AllocError> {
-    let mut ends = Vec::new(alloc);
-    let mut last = 0;
-    for (i, step) in steps.iter().enumerate() {
-        let this = operator(&step.instruction);
-        if this != last {
-            ends.push(i)?;
-        }
-        last = this;
-    }
-    ends.push(steps.len())?;
-    if ends.len() > steps.len() / 3 {
-        ends.truncate(0);
-    }
-    Ok(ends)
 }

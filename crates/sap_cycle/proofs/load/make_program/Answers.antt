@@ -1,15 +1,17 @@
-use Rattle.std.proofs.Common.{◌≡◌, List, length, map, sym, ap, ◌∙◌, subst, arith, rules}
+use Rattle.std.proofs.Common.{◌≡◌, ℕ, List, length, map, sym, ap, ◌∙◌, subst, arith, rules}
 use Rattle.std.specs.List.{AllByRecursion}
 use Rattle.sap_net.specs.declared.parts.Register.{Register}
 use Rattle.sap_net.specs.IsNetlist.{width_of}
 use Rattle.sap_cycle.specs.declared.steps.Slot.{Slot}
+use Rattle.sap_cycle.specs.declared.steps.Step.{Step}
 use Rattle.sap_cycle.specs.declared.steps.WritePort.{WritePort}
 use Rattle.sap_cycle.specs.Instructions.{step_of_instruction, placed_step}
 use Rattle.sap_cycle.specs.Known.{Knows, IsKnownOperand, IsKnownPort, slot_found, ports_found}
 use Rattle.sap_cycle.specs.Loaded.{bases_of}
 use Rattle.sap_cycle.specs.Means.{NextsMean, PortsMean}
 use Rattle.sap_cycle.specs.Order.{IsOrder}
-use Rattle.sap_cycle.specs.Running.{value_names}
+use Rattle.sap_cycle.specs.Runs.{steps_of_runs}
+use Rattle.sap_cycle.specs.Running.{first_names, value_names}
 use Rattle.sap_cycle.proofs.Compiling.{nexts_known, ports_known, nexts_mean, ports_mean}
 use Rattle.sap_cycle.proofs.Row.{row_room, row_there, order_behind}
 use Rattle.sap_cycle.proofs.load.make_program.Goals as goal
@@ -62,8 +64,15 @@ returns-clause-program c =
     let base : c.len-base.result ≡ length c.args.known.now.widths.items = search rules in
     let made : IsOrder c.len-base.result c.deref.result.now (map (step_of_instruction c.deref-2.result.now) c.deref-3.result.now) (map (placed_step c.deref-2.result.now) steps) = c.in_ok-steps.ensures {u = tt} in
     let order : IsOrder c.len-base.result i.parts.items own (map (placed_step i.others.items) steps) = rw (c.deref.ensures.value, c.deref-2.ensures.value, c.deref-3.ensures.value) at made in
+    let runs : steps_of_runs i.others.items c.in_ok-runs.runs.items ≡ map (placed_step i.others.items) steps =
+    c.in_ok-runs.ensures {u = tt} i.others.items ∙ ap (map (placed_step i.others.items)) c.deref-4.ensures.value in
     record {
-      steps = (own, c.in_ok-compiled.ensures.mean, order_behind n i.parts.items own (map (placed_step i.others.items) steps) c.args.known.now c.len-base.result c.requires.knows base order);
+      steps = (
+        own,
+        c.in_ok-compiled.ensures.mean,
+        subst (λ (ps : List (ℕ × Step)). IsOrder (length (first_names n)) i.parts.items own ps) (sym runs)
+            (order_behind n i.parts.items own (map (placed_step i.others.items) steps) c.args.known.now c.len-base.result c.requires.knows base order),
+      );
       nexts =
           subst (λ (l : List Slot). NextsMean (value_names n) l n.registers) (sym en)
           (nexts_mean (width_of n) n.memories (value_names n) k knows n.registers (nexts_known n c.rules.ensures k knows));
