@@ -1,4 +1,5 @@
 pub mod DigitsLemmas
+pub mod EightDigits
 pub mod Forms
 pub mod Once
 pub mod Formed

@@ -6,6 +6,7 @@
 mod changes;
 mod digits;
 pub mod dumper;
+mod eights;
 pub mod fault;
 mod numbers;
 mod parts;

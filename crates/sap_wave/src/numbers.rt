@@ -6,6 +6,7 @@ ghost use Rattle.std.specs.Str.Parse.{digits_value};
 ghost use Rattle.sap_maps.specs.Ranges.{IsWidth};
 ghost use Rattle.sap_wave.specs.Digits.{are_digits, bits_number, identifier, is_digit, number_spelled};
 
+use crate::eights::eights_at;
 use crate::pieces::is_digit;
 use sap_text::scan::number;
 
@@ -25,8 +26,9 @@ pub fn bits_at(text: &[u8]) -> Front<'_>
     ensures others { is_digit 48 2 (slice_index result.behind.now 0) ≡ false }
     ensures number { length result.digits.now ≤ 64 → result.number ≡ bits_number result.digits.now }
 {
-    let mut number = 0u64;
-    let mut count = 0;
+    let front = eights_at(text);
+    let mut number = front.number;
+    let mut count = front.count;
     'digits: while count < text.len() && is_digit(text[count], b'0', 2) {
         let digit = text[count] - b'0';
         number = number.wrapping_mul(2).wrapping_add(u64::from(digit));

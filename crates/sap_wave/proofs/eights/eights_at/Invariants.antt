@@ -1,0 +1,14 @@
+use Rattle.std.proofs.Common.{◌≡◌, ◌-◌, ◌≤◌, true, length, take}
+use Rattle.std.specs.List.{list_all}
+use Rattle.sap_wave.specs.Digits.{is_digit, spelled}
+use Rattle.sap_wave.proofs.eights.eights_at.Given as goal
+
+abbrev pub invariant-eights : goal.invariant-eights
+invariant-eights l = record {
+  within : l.count ≤ length l.text;
+  digits : list_all (is_digit 48 2) (take l.count l.text) ≡ true;
+  number : l.count ≤ 64 → l.number ≡ spelled 48 2 (take l.count l.text);
+}
+
+abbrev pub decreases-eights : goal.decreases-eights
+decreases-eights l = length l.text - l.count
