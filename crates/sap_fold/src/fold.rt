@@ -68,5 +68,8 @@ pub fn fold(width: u32, right: Right) -> Right
 pub fn settle(width: u32, right: Right) -> Right
     ensures { result ≡ spec.settled width right }
 {
-    fold(width, fold(width, fold(width, right)))
+    match fold(width, right) {
+        Right::Copy(operand) => Right::Copy(operand),
+        once => fold(width, fold(width, once)),
+    }
 }
