@@ -7,7 +7,7 @@ use Rattle.sap_meaning.proofs.FineLemmas.{inside_among}
 use Rattle.sap_meaning.specs.Program.{World, is_dynamic, entity, is_register, is_memory, is_state, Step, assign, write, retag, retag_cell, go_to, fall_to_child, Command, lone, try, if_else, try_then, case_of, Arms, last_arm, and_arm, Block, end_block, command_then, State, state_node, Group, no_node, and_node}
 use Rattle.sap_meaning.specs.Touches.{among, step_assigns, assigns, arms_assign, block_assigns, state_assigns, group_assigns, step_hangs, hangs, arms_hang, block_hangs}
 use Rattle.sap_meaning.specs.Fine.{FineTerm, FineStep, FineCommand, FineBlock, FineState, FineGroup, inside, step_writes, writes, step_reaches, reaches, block_reaches}
-use Rattle.sap_meaning.proofs.WalksLemmas.{none_passes, none_passes_in_block, some_follows, some_follows_in_block, passes_follow}
+use Rattle.sap_meaning.proofs.WalksLemmas.{none_passes, none_passes_in_block, some_follows, some_follows_in_block, passes_follow, gathered_alike, gathered_in_block_alike}
 use Rattle.sap_secure.proofs.Concerns.{parted_of, group_parted, step_concerns, concerns, block_concerns}
 
 module _ (w : World) where
@@ -117,23 +117,11 @@ module _ (e : ℕ) (g : Group) (x : ℕ) (own : nat_eq x e ≡ false) (kids : am
   step_found (go_to site target) h = cc
   step_found (fall_to_child site hang) h = rw kids at h
 
-  mutual
-    pub found : (c : Command) → Found (hangs e g c x) (assigns c x)
-    found (lone k) = step_found k
-    found (try k hang h) = either_side (step_hangs e g k x) (block_hangs e g h x) (step_assigns k x) (block_assigns h x) (step_found k) (block_found h)
-    found (if_else hang t a b) = either_side (block_hangs e g a x) (block_hangs e g b x) (block_assigns a x) (block_assigns b x) (block_found a) (block_found b)
-    found (try_then k hang a b) =
-        either_side (step_hangs e g k x) (block_hangs e g a x || block_hangs e g b x) (step_assigns k x) (block_assigns a x || block_assigns b x) (step_found k)
-        (either_side (block_hangs e g a x) (block_hangs e g b x) (block_assigns a x) (block_assigns b x) (block_found a) (block_found b))
-    found (case_of hang t arms) = arms_found arms
+  pub found : (c : Command) → Found (hangs e g c x) (assigns c x)
+  found c = gathered_alike false ◌||◌ false ◌||◌ Found (λ h. cc) either_side (λ k. step_hangs e g k x) (λ k. step_assigns k x) step_found c
 
-    arms_found : (arms : Arms) → Found (arms_hang e g arms x) (arms_assign arms x)
-    arms_found (last_arm b) = block_found b
-    arms_found (and_arm constants b arms) = either_side (block_hangs e g b x) (arms_hang e g arms x) (block_assigns b x) (arms_assign arms x) (block_found b) (arms_found arms)
-
-    pub block_found : (b : Block) → Found (block_hangs e g b x) (block_assigns b x)
-    block_found end_block = λ h. cc
-    block_found (command_then c cs) = either_side (hangs e g c x) (block_hangs e g cs x) (assigns c x) (block_assigns cs x) (found c) (block_found cs)
+  pub block_found : (b : Block) → Found (block_hangs e g b x) (block_assigns b x)
+  block_found b = gathered_in_block_alike false ◌||◌ false ◌||◌ Found (λ h. cc) either_side (λ k. step_hangs e g k x) (λ k. step_assigns k x) step_found b
 
 module _ (w : World) where
   -- and are states
