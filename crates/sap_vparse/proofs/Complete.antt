@@ -89,39 +89,16 @@ behind {p} {q} (g.constant h) ne = right_constant p (ap right_head (front h)) �
 binary_head : (op : Op2) → after_head (of_sign (binary_sign op)) ≡ a.Two op
 unfolding after_head
 binary_head binary.Add = refl
-binary_head binary.Sub = refl
-binary_head binary.Mul = refl
-binary_head binary.And = refl
-binary_head binary.Or = refl
-binary_head binary.Xor = refl
-binary_head binary.Eq = refl
-binary_head binary.Ne = refl
-binary_head binary.Lt = refl
-binary_head binary.Le = refl
-binary_head binary.Shl = refl
-binary_head binary.Shr = refl
+binary_head _ = refl
 
 binary_apart : (op : Op2) → of_sign (binary_sign op) ≢ of_sign t.open_bracket
 binary_apart binary.Add e = cc
-binary_apart binary.Sub e = cc
-binary_apart binary.Mul e = cc
-binary_apart binary.And e = cc
-binary_apart binary.Or e = cc
-binary_apart binary.Xor e = cc
-binary_apart binary.Eq e = cc
-binary_apart binary.Ne e = cc
-binary_apart binary.Lt e = cc
-binary_apart binary.Le e = cc
-binary_apart binary.Shl e = cc
-binary_apart binary.Shr e = cc
+binary_apart _ e = cc
 
 unary_head : (op : Op1) → right_head (of_sign (unary_sign op)) ≡ r.One op
 unfolding right_head
 unary_head unary.Not = refl
-unary_head unary.Neg = refl
-unary_head unary.AllOnes = refl
-unary_head unary.AnyOne = refl
-unary_head unary.Odd = refl
+unary_head _ = refl
 
 not_number : {p q : List t.Token} {x : item.Operand} → IsOperand p x q → head p ≢ of_number
 not_number (g.name h) = apart (front h) (λ e. absurd (cc))

@@ -62,56 +62,30 @@ passed_is {q = q} {place} {kind} h e = record {
 -- signs and words by number
 
 pub sign_by : ℕ → t.Sign
-sign_by n = if n == 0 then t.open_paren else (if n == 1 then t.close_paren else (if n == 2 then t.open_brace else (if n == 3 then t.close_brace else (if n == 4 then t.open_bracket else (if n == 5 then t.close_bracket else (if n == 6 then t.comma else (if n == 7 then t.semicolon else (if n == 8 then t.colon else (if n == 9 then t.question else (if n == 10 then t.at else (if n == 11 then t.is else (if n == 12 then t.equal else (if n == 13 then t.not_equal else (if n == 14 then t.less else (if n == 15 then t.less_or_equal else (if n == 16 then t.shift_left else (if n == 17 then t.shift_right else (if n == 18 then t.plus else (if n == 19 then t.minus else (if n == 20 then t.star else (if n == 21 then t.ampersand else (if n == 22 then t.bar else (if n == 23 then t.caret else (t.tilde))))))))))))))))))))))))
+sign_by n =
+    if n == 0 then t.open_paren else (if n == 1 then t.close_paren else (if n == 2 then t.open_brace else (if n == 3 then t.close_brace else
+    (if n == 4 then t.open_bracket else (if n == 5 then t.close_bracket else (if n == 6 then t.comma else (if n == 7 then t.semicolon else
+    (if n == 8 then t.colon else (if n == 9 then t.question else (if n == 10 then t.at else (if n == 11 then t.is else (if n == 12 then t.equal else
+    (if n == 13 then t.not_equal else (if n == 14 then t.less else (if n == 15 then t.less_or_equal else (if n == 16 then t.shift_left else
+    (if n == 17 then t.shift_right else (if n == 18 then t.plus else (if n == 19 then t.minus else (if n == 20 then t.star else
+    (if n == 21 then t.ampersand else (if n == 22 then t.bar else (if n == 23 then t.caret else (t.tilde))))))))))))))))))))))))
 
 sign_back : (x : t.Sign) → sign_by (sign_number x) ≡ x
 unfolding sign_by
 sign_back t.open_paren = refl
-sign_back t.close_paren = refl
-sign_back t.open_brace = refl
-sign_back t.close_brace = refl
-sign_back t.open_bracket = refl
-sign_back t.close_bracket = refl
-sign_back t.comma = refl
-sign_back t.semicolon = refl
-sign_back t.colon = refl
-sign_back t.question = refl
-sign_back t.at = refl
-sign_back t.is = refl
-sign_back t.equal = refl
-sign_back t.not_equal = refl
-sign_back t.less = refl
-sign_back t.less_or_equal = refl
-sign_back t.shift_left = refl
-sign_back t.shift_right = refl
-sign_back t.plus = refl
-sign_back t.minus = refl
-sign_back t.star = refl
-sign_back t.ampersand = refl
-sign_back t.bar = refl
-sign_back t.caret = refl
-sign_back t.tilde = refl
+sign_back _ = refl
 
 pub word_by : ℕ → t.Word
-word_by n = if n == 0 then t.module_word else (if n == 1 then t.endmodule_word else (if n == 2 then t.input_word else (if n == 3 then t.output_word else (if n == 4 then t.reg_word else (if n == 5 then t.wire_word else (if n == 6 then t.assign_word else (if n == 7 then t.initial_word else (if n == 8 then t.always_word else (if n == 9 then t.posedge_word else (if n == 10 then t.if_word else (if n == 11 then t.for_word else (if n == 12 then t.integer_word else (if n == 13 then t.clk_word else (t.i_word))))))))))))))
+word_by n =
+    if n == 0 then t.module_word else (if n == 1 then t.endmodule_word else (if n == 2 then t.input_word else (if n == 3 then t.output_word else
+    (if n == 4 then t.reg_word else (if n == 5 then t.wire_word else (if n == 6 then t.assign_word else (if n == 7 then t.initial_word else
+    (if n == 8 then t.always_word else (if n == 9 then t.posedge_word else (if n == 10 then t.if_word else (if n == 11 then t.for_word else
+    (if n == 12 then t.integer_word else (if n == 13 then t.clk_word else (t.i_word))))))))))))))
 
 word_back : (x : t.Word) → word_by (word_number x) ≡ x
 unfolding word_by
 word_back t.module_word = refl
-word_back t.endmodule_word = refl
-word_back t.input_word = refl
-word_back t.output_word = refl
-word_back t.reg_word = refl
-word_back t.wire_word = refl
-word_back t.assign_word = refl
-word_back t.initial_word = refl
-word_back t.always_word = refl
-word_back t.posedge_word = refl
-word_back t.if_word = refl
-word_back t.for_word = refl
-word_back t.integer_word = refl
-word_back t.clk_word = refl
-word_back t.i_word = refl
+word_back _ = refl
 
 pub sign_same : (x y : t.Sign) → eqb (sign_number x) (sign_number y) ≡ true → x ≡ y
 sign_same x y e = sym (sign_back x) ∙ ap sign_by (eqb-true (sign_number x) (sign_number y) e) ∙ sign_back y
@@ -135,38 +109,23 @@ words_apart x y ne = by_test (eqb (word_number x) (word_number y)) refl where
 
 pub kind_of_sign : (i : t.Kind) (x : t.Sign) → head_of i ≡ of_sign x → i ≡ t.sign x
 kind_of_sign (t.sign i) x e = cc
-kind_of_sign (t.word i) x e = absurd (cc)
-kind_of_sign (t.name i) x e = absurd (cc)
-kind_of_sign (t.number i n) x e = absurd (cc)
-kind_of_sign (t.constant i n) x e = absurd (cc)
+kind_of_sign _ x e = absurd (cc)
 
 pub kind_of_word : (i : t.Kind) (x : t.Word) → head_of i ≡ of_word x → i ≡ t.word x
 kind_of_word (t.word i) x e = cc
-kind_of_word (t.sign i) x e = absurd (cc)
-kind_of_word (t.name i) x e = absurd (cc)
-kind_of_word (t.number i n) x e = absurd (cc)
-kind_of_word (t.constant i n) x e = absurd (cc)
+kind_of_word _ x e = absurd (cc)
 
 number_kind : (i : t.Kind) (v : ℕ × ℕ) → number_in i ≡ Some v → i ≡ t.number v.0 v.1
 number_kind (t.number i n) v e = (let same : (i, n) ≡ v = cc in ap (λ (x : ℕ × ℕ). t.number x.0 x.1) same)
-number_kind (t.word i) v e = absurd (cc)
-number_kind (t.sign i) v e = absurd (cc)
-number_kind (t.name i) v e = absurd (cc)
-number_kind (t.constant i n) v e = absurd (cc)
+number_kind _ v e = absurd (cc)
 
 constant_kind : (i : t.Kind) (v : ℕ × ℕ) → constant_in i ≡ Some v → i ≡ t.constant v.0 v.1
 constant_kind (t.constant i n) v e = (let same : (i, n) ≡ v = cc in ap (λ (x : ℕ × ℕ). t.constant x.0 x.1) same)
-constant_kind (t.word i) v e = absurd (cc)
-constant_kind (t.sign i) v e = absurd (cc)
-constant_kind (t.name i) v e = absurd (cc)
-constant_kind (t.number i n) v e = absurd (cc)
+constant_kind _ v e = absurd (cc)
 
 name_kind : (i : t.Kind) (n : List ℕ) → name_in i ≡ Some n → i ≡ t.name n
 name_kind (t.name i) n e = cc
-name_kind (t.word i) n e = absurd (cc)
-name_kind (t.sign i) n e = absurd (cc)
-name_kind (t.number i m) n e = absurd (cc)
-name_kind (t.constant i m) n e = absurd (cc)
+name_kind _ n e = absurd (cc)
 
 pub head_front : {left : List t.Token} {x : Head} (y : t.Token) (ts : List t.Token) → head left ≡ x → left ≡ y ∷ ts → head_of y.kind ≡ x
 unfolding head
@@ -216,10 +175,7 @@ next_sign x i e = ap (next (s.sign x)) e ∙ ap if_same (test_of_same (sign_numb
 
 pub next_not_sign : (x : t.Sign) (i : t.Kind) → head_of i ≢ of_sign x → next (s.sign x) i ≡ cannot_stand
 next_not_sign x (t.sign i) ne = ap if_same (signs_apart i x (λ e. ne (ap of_sign e)))
-next_not_sign x (t.word i) ne = refl
-next_not_sign x (t.name i) ne = refl
-next_not_sign x (t.number i n) ne = refl
-next_not_sign x (t.constant i n) ne = refl
+next_not_sign x _ ne = refl
 
 pub sign_read : (p q : List t.Token) (place : ℕ) (x : t.Sign) → head p ≡ of_sign x → Passes p place q → reads (s.sign x) p ≡ Ok q
 sign_read p q place x e h = passed (s.sign x) h (next_sign x h.token.kind (sign_kind x e h))
@@ -240,10 +196,7 @@ next_word x i e = ap (next (s.word x)) e ∙ ap if_same (test_of_same (word_numb
 
 pub next_not_word : (x : t.Word) (i : t.Kind) → head_of i ≢ of_word x → next (s.word x) i ≡ cannot_stand
 next_not_word x (t.word i) ne = ap if_same (words_apart i x (λ e. ne (ap of_word e)))
-next_not_word x (t.sign i) ne = refl
-next_not_word x (t.name i) ne = refl
-next_not_word x (t.number i n) ne = refl
-next_not_word x (t.constant i n) ne = refl
+next_not_word x _ ne = refl
 
 pub word_read : (p q : List t.Token) (place : ℕ) (x : t.Word) → head p ≡ of_word x → Passes p place q → reads (s.word x) p ≡ Ok q
 word_read p q place x e h = passed (s.word x) h (next_word x h.token.kind (word_kind x e h))
@@ -255,10 +208,7 @@ word_refused p x ne = refused (s.word x) p refl (λ y ts e. next_not_word x y.ki
 
 next_not_number : (i : t.Kind) → number_in i ≡ None → next s.number i ≡ cannot_stand
 next_not_number (t.number n digits) e = absurd (cc)
-next_not_number (t.word i) e = refl
-next_not_number (t.sign i) e = refl
-next_not_number (t.name i) e = refl
-next_not_number (t.constant i n) e = refl
+next_not_number _ e = refl
 
 pub number_is : (p q : List t.Token) (place : ℕ) (v : ℕ × ℕ) → front_number p ≡ Some v → Passes p place q → IsToken p place (t.number v.0 v.1) q
 number_is p q place v e h = passed_is h (number_kind h.token.kind v (number_front h.token q e h.parts))
@@ -271,10 +221,7 @@ number_refused p e = refused s.number p refl (λ y ts h. next_not_number y.kind 
 
 next_not_digit : (n : ℕ) (i : t.Kind) → number_in i ≡ None → next (s.digit n) i ≡ cannot_stand
 next_not_digit n (t.number i digits) e = absurd (cc)
-next_not_digit n (t.word i) e = refl
-next_not_digit n (t.sign i) e = refl
-next_not_digit n (t.name i) e = refl
-next_not_digit n (t.constant i m) e = refl
+next_not_digit n _ e = refl
 
 pub digit_read : (p q : List t.Token) (place : ℕ) (n : ℕ) → front_number p ≡ Some (n, 1) → Passes p place q → reads (s.digit n) p ≡ Ok q
 digit_read p q place n e h =
@@ -290,10 +237,7 @@ digit_other p n v e ne = refused (s.digit n) p refl (λ y ts h. ap (next (s.digi
 
 next_not_constant : (i : t.Kind) → constant_in i ≡ None → next s.constant i ≡ cannot_stand
 next_not_constant (t.constant n m) e = absurd (cc)
-next_not_constant (t.word i) e = refl
-next_not_constant (t.sign i) e = refl
-next_not_constant (t.name i) e = refl
-next_not_constant (t.number i n) e = refl
+next_not_constant _ e = refl
 
 pub constant_is : (p q : List t.Token) (place : ℕ) (v : ℕ × ℕ) → front_constant p ≡ Some v → Passes p place q → IsToken p place (t.constant v.0 v.1) q
 constant_is p q place v e h = passed_is h (constant_kind h.token.kind v (constant_front h.token q e h.parts))
@@ -308,10 +252,7 @@ constant_refused p e = refused s.constant p refl (λ y ts h. next_not_constant y
 
 next_not_name : (i : t.Kind) → name_in i ≡ None → next s.name i ≡ cannot_stand
 next_not_name (t.name n) e = absurd (cc)
-next_not_name (t.word i) e = refl
-next_not_name (t.sign i) e = refl
-next_not_name (t.number i n) e = refl
-next_not_name (t.constant i n) e = refl
+next_not_name _ e = refl
 
 pub name_is : (p q : List t.Token) (place : ℕ) (n : List ℕ) → front_name p ≡ Some n → Passes p place q → IsToken p place (t.name n) q
 name_is p q place n e h = passed_is h (name_kind h.token.kind n (name_front h.token q e h.parts))
@@ -325,56 +266,29 @@ name_refused p e = refused s.name p refl (λ y ts h. next_not_name y.kind (name_
 -- what the reader sees ahead, back from its head
 
 declared_sign : ℕ → Sign
-declared_sign n = if n == 0 then j.OpenParen else (if n == 1 then j.CloseParen else (if n == 2 then j.OpenBrace else (if n == 3 then j.CloseBrace else (if n == 4 then j.OpenBracket else (if n == 5 then j.CloseBracket else (if n == 6 then j.Comma else (if n == 7 then j.Semicolon else (if n == 8 then j.Colon else (if n == 9 then j.Question else (if n == 10 then j.At else (if n == 11 then j.Is else (if n == 12 then j.Equal else (if n == 13 then j.NotEqual else (if n == 14 then j.Less else (if n == 15 then j.LessOrEqual else (if n == 16 then j.ShiftLeft else (if n == 17 then j.ShiftRight else (if n == 18 then j.Plus else (if n == 19 then j.Minus else (if n == 20 then j.Star else (if n == 21 then j.Ampersand else (if n == 22 then j.Bar else (if n == 23 then j.Caret else (j.Tilde))))))))))))))))))))))))
+declared_sign n =
+    if n == 0 then j.OpenParen else (if n == 1 then j.CloseParen else (if n == 2 then j.OpenBrace else (if n == 3 then j.CloseBrace else
+    (if n == 4 then j.OpenBracket else (if n == 5 then j.CloseBracket else (if n == 6 then j.Comma else (if n == 7 then j.Semicolon else
+    (if n == 8 then j.Colon else (if n == 9 then j.Question else (if n == 10 then j.At else (if n == 11 then j.Is else (if n == 12 then j.Equal else
+    (if n == 13 then j.NotEqual else (if n == 14 then j.Less else (if n == 15 then j.LessOrEqual else (if n == 16 then j.ShiftLeft else
+    (if n == 17 then j.ShiftRight else (if n == 18 then j.Plus else (if n == 19 then j.Minus else (if n == 20 then j.Star else (if n == 21 then j.Ampersand else
+    (if n == 22 then j.Bar else (if n == 23 then j.Caret else (j.Tilde))))))))))))))))))))))))
 
 declared_sign_back : (x : Sign) → declared_sign (sign_number (sign_of x)) ≡ x
 unfolding declared_sign
 declared_sign_back j.OpenParen = refl
-declared_sign_back j.CloseParen = refl
-declared_sign_back j.OpenBrace = refl
-declared_sign_back j.CloseBrace = refl
-declared_sign_back j.OpenBracket = refl
-declared_sign_back j.CloseBracket = refl
-declared_sign_back j.Comma = refl
-declared_sign_back j.Semicolon = refl
-declared_sign_back j.Colon = refl
-declared_sign_back j.Question = refl
-declared_sign_back j.At = refl
-declared_sign_back j.Is = refl
-declared_sign_back j.Equal = refl
-declared_sign_back j.NotEqual = refl
-declared_sign_back j.Less = refl
-declared_sign_back j.LessOrEqual = refl
-declared_sign_back j.ShiftLeft = refl
-declared_sign_back j.ShiftRight = refl
-declared_sign_back j.Plus = refl
-declared_sign_back j.Minus = refl
-declared_sign_back j.Star = refl
-declared_sign_back j.Ampersand = refl
-declared_sign_back j.Bar = refl
-declared_sign_back j.Caret = refl
-declared_sign_back j.Tilde = refl
+declared_sign_back _ = refl
 
 declared_word : ℕ → Word
-declared_word n = if n == 0 then w.Module else (if n == 1 then w.Endmodule else (if n == 2 then w.Input else (if n == 3 then w.Output else (if n == 4 then w.Reg else (if n == 5 then w.Wire else (if n == 6 then w.Assign else (if n == 7 then w.Initial else (if n == 8 then w.Always else (if n == 9 then w.Posedge else (if n == 10 then w.If else (if n == 11 then w.For else (if n == 12 then w.Integer else (if n == 13 then w.Clk else (w.I))))))))))))))
+declared_word n =
+    if n == 0 then w.Module else (if n == 1 then w.Endmodule else (if n == 2 then w.Input else (if n == 3 then w.Output else (if n == 4 then w.Reg else
+    (if n == 5 then w.Wire else (if n == 6 then w.Assign else (if n == 7 then w.Initial else (if n == 8 then w.Always else (if n == 9 then w.Posedge else
+    (if n == 10 then w.If else (if n == 11 then w.For else (if n == 12 then w.Integer else (if n == 13 then w.Clk else (w.I))))))))))))))
 
 declared_word_back : (x : Word) → declared_word (word_number (word_of x)) ≡ x
 unfolding declared_word
 declared_word_back w.Module = refl
-declared_word_back w.Endmodule = refl
-declared_word_back w.Input = refl
-declared_word_back w.Output = refl
-declared_word_back w.Reg = refl
-declared_word_back w.Wire = refl
-declared_word_back w.Assign = refl
-declared_word_back w.Initial = refl
-declared_word_back w.Always = refl
-declared_word_back w.Posedge = refl
-declared_word_back w.If = refl
-declared_word_back w.For = refl
-declared_word_back w.Integer = refl
-declared_word_back w.Clk = refl
-declared_word_back w.I = refl
+declared_word_back _ = refl
 
 one_sign_of : (x y : Sign) → sign_of x ≡ sign_of y → x ≡ y
 one_sign_of x y e = sym (declared_sign_back x) ∙ ap (λ z. declared_sign (sign_number z)) e ∙ declared_sign_back y
@@ -390,40 +304,20 @@ head_word e = cc
 
 pub ahead_sign : (x : Ahead) (y : Sign) → ahead_of x ≡ of_sign (sign_of y) → x ≡ a.Sign y
 ahead_sign (a.Sign x) y e = ap a.Sign (one_sign_of x y (head_sign e))
-ahead_sign (a.Word x) y e = absurd (cc)
-ahead_sign a.Name y e = absurd (cc)
-ahead_sign a.Number y e = absurd (cc)
-ahead_sign a.Constant y e = absurd (cc)
-ahead_sign a.Nothing y e = absurd (cc)
+ahead_sign _ y e = absurd (cc)
 
 pub ahead_word : (x : Ahead) (y : Word) → ahead_of x ≡ of_word (word_of y) → x ≡ a.Word y
 ahead_word (a.Word x) y e = ap a.Word (one_word_of x y (head_word e))
-ahead_word (a.Sign x) y e = absurd (cc)
-ahead_word a.Name y e = absurd (cc)
-ahead_word a.Number y e = absurd (cc)
-ahead_word a.Constant y e = absurd (cc)
-ahead_word a.Nothing y e = absurd (cc)
+ahead_word _ y e = absurd (cc)
 
 pub ahead_name : (x : Ahead) → ahead_of x ≡ of_name → x ≡ a.Name
 ahead_name a.Name e = refl
-ahead_name (a.Word x) e = absurd (cc)
-ahead_name (a.Sign x) e = absurd (cc)
-ahead_name a.Number e = absurd (cc)
-ahead_name a.Constant e = absurd (cc)
-ahead_name a.Nothing e = absurd (cc)
+ahead_name _ e = absurd (cc)
 
 pub ahead_number : (x : Ahead) → ahead_of x ≡ of_number → x ≡ a.Number
 ahead_number a.Number e = refl
-ahead_number (a.Word x) e = absurd (cc)
-ahead_number (a.Sign x) e = absurd (cc)
-ahead_number a.Name e = absurd (cc)
-ahead_number a.Constant e = absurd (cc)
-ahead_number a.Nothing e = absurd (cc)
+ahead_number _ e = absurd (cc)
 
 pub ahead_nothing : (x : Ahead) → ahead_of x ≡ of_nothing → x ≡ a.Nothing
 ahead_nothing a.Nothing e = refl
-ahead_nothing (a.Word x) e = absurd (cc)
-ahead_nothing (a.Sign x) e = absurd (cc)
-ahead_nothing a.Name e = absurd (cc)
-ahead_nothing a.Number e = absurd (cc)
-ahead_nothing a.Constant e = absurd (cc)
+ahead_nothing _ e = absurd (cc)

@@ -74,6 +74,11 @@ push_gives (begins role ρ) τ P Q h g = λ ts r all. let c = split ρ τ ts r a
 push_gives empty_here τ P Q h g = tt
 push_gives cannot_stand τ P Q h g = tt
 
+gives_also : (n : Row) (P Q : List t.Token → List t.Token → Type 0) → Gives n P → ((ts r : List t.Token) → P ts r → Q ts r) → Gives n Q
+gives_also (begins role σ) P Q h g = λ ts r all. g ts r (h ts r all)
+gives_also empty_here P Q h g = tt
+gives_also cannot_stand P Q h g = tt
+
 -- single tokens
 
 one_sign : (p : ℕ) (j : t.Sign) (ts : List t.Token) → IsSign (token p (t.sign j) ∷ ts) j ts
@@ -99,31 +104,21 @@ sign_gives p j (t.sign x) = by_test (eqb (s.sign_number x) (s.sign_number j)) re
   by_test : (b : Bool) → eqb (s.sign_number x) (s.sign_number j) ≡ b → Gives (s.if_same b) (λ ts r. IsSign (token p (t.sign x) ∷ ts) j r)
   by_test true e = λ ts r h. subst (λ z. IsSign (token p (t.sign z) ∷ ts) j r) (sym (sign_same x j e)) (subst (λ z. IsSign (token p (t.sign j) ∷ ts) j z) h (one_sign p j ts))
   by_test false e = tt
-sign_gives p j (t.word x) = tt
-sign_gives p j (t.name x) = tt
-sign_gives p j (t.number x n) = tt
-sign_gives p j (t.constant x n) = tt
+sign_gives p j _ = tt
 
 word_gives : (p : ℕ) (j : t.Word) (k : t.Kind) → Gives (s.word_next j k) (λ ts r. IsToken (token p k ∷ ts) p (t.word j) r)
 word_gives p j (t.word x) = by_test (eqb (s.word_number x) (s.word_number j)) refl where
   by_test : (b : Bool) → eqb (s.word_number x) (s.word_number j) ≡ b → Gives (s.if_same b) (λ ts r. IsToken (token p (t.word x) ∷ ts) p (t.word j) r)
   by_test true e = λ ts r h. record { parts = ap (λ z. token p (t.word z) ∷ ts) (word_same x j e) ∙ ap (λ z. token p (t.word j) ∷ z) h }
   by_test false e = tt
-word_gives p j (t.sign x) = tt
-word_gives p j (t.name x) = tt
-word_gives p j (t.number x n) = tt
-word_gives p j (t.constant x n) = tt
+word_gives p j _ = tt
 
 as_word : {ts r : List t.Token} {p : ℕ} {j : t.Word} → IsToken ts p (t.word j) r → IsWord ts j r
 as_word {p = p} h = record { place = p; is = h }
 
 -- the words only
 words_give : (p : ℕ) (j : t.Word) (k : t.Kind) → Gives (s.word_next j k) (λ ts r. IsWord (token p k ∷ ts) j r)
-words_give p j k = weaker (s.word_next j k) (word_gives p j k) where
-  weaker : (n : Row) → Gives n (λ ts r. IsToken (token p k ∷ ts) p (t.word j) r) → Gives n (λ ts r. IsWord (token p k ∷ ts) j r)
-  weaker (begins role σ) h = λ ts r e. as_word (h ts r e)
-  weaker empty_here h = tt
-  weaker cannot_stand h = tt
+words_give p j k = gives_also (s.word_next j k) (λ ts r. IsToken (token p k ∷ ts) p (t.word j) r) (λ ts r. IsWord (token p k ∷ ts) j r) (word_gives p j k) (λ ts r. as_word)
 
 digit_gives : (p n : ℕ) (k : t.Kind) → Gives (s.digit_next n k) (λ ts r. IsDigit (token p k ∷ ts) n r)
 digit_gives p n (t.number x d) = by_tests (eqb x n) (eqb d 1) refl refl where
@@ -133,38 +128,24 @@ digit_gives p n (t.number x d) = by_tests (eqb x n) (eqb d 1) refl refl where
       (subst (λ z. IsDigit (token p (t.number n z) ∷ ts) n r) (sym (eqb-true d 1 f)) (subst (λ z. IsDigit (token p (t.number n 1) ∷ ts) n z) h (one_digit p n ts)))
   by_tests true false e f = tt
   by_tests false b e f = tt
-digit_gives p n (t.word x) = tt
-digit_gives p n (t.sign x) = tt
-digit_gives p n (t.name x) = tt
-digit_gives p n (t.constant x d) = tt
+digit_gives p n _ = tt
 
 name_gives : (p : ℕ) (k : t.Kind) → Gives (next s.name k) (λ ts r. L s.name (token p k ∷ ts) r)
-name_gives p (t.word x) = tt
-name_gives p (t.sign x) = tt
 name_gives p (t.name x) = λ ts r h. (record { place = p; name = x }, subst (λ z. IsName (token p (t.name x) ∷ ts) (record { place = p; name = x }) z) h (one_name p x ts))
-name_gives p (t.number x n) = tt
-name_gives p (t.constant x n) = tt
+name_gives p _ = tt
 
 number_gives : (p : ℕ) (k : t.Kind) → Gives (next s.number k) (λ ts r. L s.number (token p k ∷ ts) r)
-number_gives p (t.word x) = tt
-number_gives p (t.sign x) = tt
-number_gives p (t.name x) = tt
 number_gives p (t.number x n) = λ ts r h. (record { place = p; value = x }, subst (λ z. IsNumber (token p (t.number x n) ∷ ts) (record { place = p; value = x }) z) h (one_number p x n ts))
-number_gives p (t.constant x n) = tt
+number_gives p _ = tt
 
 constant_gives : (p : ℕ) (k : t.Kind) → Gives (next s.constant k) (λ ts r. L s.constant (token p k ∷ ts) r)
-constant_gives p (t.word x) = tt
-constant_gives p (t.sign x) = tt
-constant_gives p (t.name x) = tt
-constant_gives p (t.number x n) = tt
 constant_gives p (t.constant x n) = λ ts r h. (record { place = p; width = x; value = n }, subst (λ z. IsConstant (token p (t.constant x n) ∷ ts) (record { place = p; width = x; value = n }) z) h (one_constant p x n ts))
+constant_gives p _ = tt
 
 operand_gives : (p : ℕ) (k : t.Kind) → Gives (next s.operand k) (λ ts r. L s.operand (token p k ∷ ts) r)
-operand_gives p (t.word x) = tt
-operand_gives p (t.sign x) = tt
 operand_gives p (t.name x) = λ ts r h. (item.named (record { place = p; name = x }), g.name (subst (λ z. IsName (token p (t.name x) ∷ ts) (record { place = p; name = x }) z) h (one_name p x ts)))
-operand_gives p (t.number x n) = tt
 operand_gives p (t.constant x n) = λ ts r h. (item.constant (record { place = p; width = x; value = n }), g.constant (subst (λ z. IsConstant (token p (t.constant x n) ∷ ts) (record { place = p; width = x; value = n }) z) h (one_constant p x n ts)))
+operand_gives p _ = tt
 
 range_gives : (p : ℕ) (k : t.Kind) → Gives (next s.range k) (λ ts r. L s.range (token p k ∷ ts) r)
 range_gives p k =
@@ -174,23 +155,7 @@ range_gives p k =
 kind_gives : (p : ℕ) (k : t.Kind) → Gives (next s.output_kind k) (λ ts r. L s.output_kind (token p k ∷ ts) r)
 kind_gives p (t.word t.reg_word) = λ ts r h. inl (subst (λ z. IsWord (token p (t.word t.reg_word) ∷ ts) t.reg_word z) h (one_word p t.reg_word ts))
 kind_gives p (t.word t.wire_word) = λ ts r h. inr (subst (λ z. IsWord (token p (t.word t.wire_word) ∷ ts) t.wire_word z) h (one_word p t.wire_word ts))
-kind_gives p (t.word t.module_word) = tt
-kind_gives p (t.word t.endmodule_word) = tt
-kind_gives p (t.word t.input_word) = tt
-kind_gives p (t.word t.output_word) = tt
-kind_gives p (t.word t.assign_word) = tt
-kind_gives p (t.word t.initial_word) = tt
-kind_gives p (t.word t.always_word) = tt
-kind_gives p (t.word t.posedge_word) = tt
-kind_gives p (t.word t.if_word) = tt
-kind_gives p (t.word t.for_word) = tt
-kind_gives p (t.word t.integer_word) = tt
-kind_gives p (t.word t.clk_word) = tt
-kind_gives p (t.word t.i_word) = tt
-kind_gives p (t.sign x) = tt
-kind_gives p (t.name x) = tt
-kind_gives p (t.number x n) = tt
-kind_gives p (t.constant x n) = tt
+kind_gives p _ = tt
 
 output_port : {ts a b c r : List t.Token} {n : item.Number} {x : item.Mention} → IsWord ts t.output_word a → IsWord a t.reg_word b ⊎ IsWord a t.wire_word b → IsRange b n c → IsName c x r
     → (y : item.Port) × IsPort ts y r
@@ -200,88 +165,19 @@ output_port {n = n} {x = x} a (inr b) c d = (record { direction = item.output_wi
 port_gives : (p : ℕ) (k : t.Kind) → Gives (next s.port k) (λ ts r. L s.port (token p k ∷ ts) r)
 port_gives p (t.word t.input_word) = λ ts r h. let x = fin s.name h.0 r h.2 in (record { direction = item.input; range = h.1.0; name = x.0 }, g.input (one_word p t.input_word ts) h.1.1 x.1)
 port_gives p (t.word t.output_word) = λ ts r h. let x = fin s.name h.2.0 r h.2.2 in output_port (one_word p t.output_word ts) h.1 h.2.1.1 x.1
-port_gives p (t.word t.module_word) = tt
-port_gives p (t.word t.endmodule_word) = tt
-port_gives p (t.word t.reg_word) = tt
-port_gives p (t.word t.wire_word) = tt
-port_gives p (t.word t.assign_word) = tt
-port_gives p (t.word t.initial_word) = tt
-port_gives p (t.word t.always_word) = tt
-port_gives p (t.word t.posedge_word) = tt
-port_gives p (t.word t.if_word) = tt
-port_gives p (t.word t.for_word) = tt
-port_gives p (t.word t.integer_word) = tt
-port_gives p (t.word t.clk_word) = tt
-port_gives p (t.word t.i_word) = tt
-port_gives p (t.sign x) = tt
-port_gives p (t.name x) = tt
-port_gives p (t.number x n) = tt
-port_gives p (t.constant x n) = tt
+port_gives p _ = tt
 
 ports_gives : (p : ℕ) (k : t.Kind) → Gives (next s.ports k) (λ ts r. L s.ports (token p k ∷ ts) r)
-ports_gives p (t.word x) = tt
 ports_gives p (t.sign t.comma) = λ ts r h. let x = fin s.ports h.0 r h.2 in (h.1.0 ∷ x.0, record { last = x.1.last; ports = g.next_port (one_sign p t.comma ts) h.1.1 x.1.ports; close = x.1.close })
 ports_gives p (t.sign t.close_paren) = λ ts r h. ([], record { last = token p (t.sign t.close_paren) ∷ ts; ports = g.no_port; close = subst (λ z. IsSign (token p (t.sign t.close_paren) ∷ ts) t.close_paren z) h (one_sign p t.close_paren ts) })
-ports_gives p (t.sign t.open_paren) = tt
-ports_gives p (t.sign t.open_brace) = tt
-ports_gives p (t.sign t.close_brace) = tt
-ports_gives p (t.sign t.open_bracket) = tt
-ports_gives p (t.sign t.close_bracket) = tt
-ports_gives p (t.sign t.semicolon) = tt
-ports_gives p (t.sign t.colon) = tt
-ports_gives p (t.sign t.question) = tt
-ports_gives p (t.sign t.at) = tt
-ports_gives p (t.sign t.is) = tt
-ports_gives p (t.sign t.equal) = tt
-ports_gives p (t.sign t.not_equal) = tt
-ports_gives p (t.sign t.less) = tt
-ports_gives p (t.sign t.less_or_equal) = tt
-ports_gives p (t.sign t.shift_left) = tt
-ports_gives p (t.sign t.shift_right) = tt
-ports_gives p (t.sign t.plus) = tt
-ports_gives p (t.sign t.minus) = tt
-ports_gives p (t.sign t.star) = tt
-ports_gives p (t.sign t.ampersand) = tt
-ports_gives p (t.sign t.bar) = tt
-ports_gives p (t.sign t.caret) = tt
-ports_gives p (t.sign t.tilde) = tt
-ports_gives p (t.name x) = tt
-ports_gives p (t.number x n) = tt
-ports_gives p (t.constant x n) = tt
+ports_gives p _ = tt
 
 parts_gives : (p : ℕ) (k : t.Kind) → Gives (next s.parts k) (λ ts r. L s.parts (token p k ∷ ts) r)
-parts_gives p (t.word x) = tt
 parts_gives p (t.sign t.comma) = λ ts r h. let x = fin s.parts h.0 r h.2 in (h.1.0 ∷ x.0, x.1, g.next_part (one_sign p t.comma ts) h.1.1 x.2, x.3)
 parts_gives p (t.sign t.close_brace) = λ ts r h. ([], token p (t.sign t.close_brace) ∷ ts, g.no_part, subst (λ z. IsSign (token p (t.sign t.close_brace) ∷ ts) t.close_brace z) h (one_sign p t.close_brace ts))
-parts_gives p (t.sign t.open_paren) = tt
-parts_gives p (t.sign t.close_paren) = tt
-parts_gives p (t.sign t.open_brace) = tt
-parts_gives p (t.sign t.open_bracket) = tt
-parts_gives p (t.sign t.close_bracket) = tt
-parts_gives p (t.sign t.semicolon) = tt
-parts_gives p (t.sign t.colon) = tt
-parts_gives p (t.sign t.question) = tt
-parts_gives p (t.sign t.at) = tt
-parts_gives p (t.sign t.is) = tt
-parts_gives p (t.sign t.equal) = tt
-parts_gives p (t.sign t.not_equal) = tt
-parts_gives p (t.sign t.less) = tt
-parts_gives p (t.sign t.less_or_equal) = tt
-parts_gives p (t.sign t.shift_left) = tt
-parts_gives p (t.sign t.shift_right) = tt
-parts_gives p (t.sign t.plus) = tt
-parts_gives p (t.sign t.minus) = tt
-parts_gives p (t.sign t.star) = tt
-parts_gives p (t.sign t.ampersand) = tt
-parts_gives p (t.sign t.bar) = tt
-parts_gives p (t.sign t.caret) = tt
-parts_gives p (t.sign t.tilde) = tt
-parts_gives p (t.name x) = tt
-parts_gives p (t.number x n) = tt
-parts_gives p (t.constant x n) = tt
+parts_gives p _ = tt
 
 after_operand_gives : (p : ℕ) (k : t.Kind) → Gives (next s.after_operand k) (λ ts r. L s.after_operand (token p k ∷ ts) r)
-after_operand_gives p (t.word x) = tt
 after_operand_gives p (t.sign t.semicolon) = λ ts r h us x o. (item.copy x, record { last = _; right = g.copy o; close = subst (λ z. IsSign (token p (t.sign t.semicolon) ∷ ts) t.semicolon z) h (one_sign p t.semicolon ts) })
 after_operand_gives p (t.sign t.question) = λ ts r h us x o. (item.choose x h.1.0 h.2.2.1.0, record { last = _; right = g.choose o (one_sign p t.question ts) h.1.1 h.2.1 h.2.2.1.1; close = fin (s.sign t.semicolon) h.2.2.0 r h.2.2.2 })
 after_operand_gives p (t.sign t.plus) = λ ts r h us x o. (item.two binary.Add x h.1.0, record { last = _; right = g.two binary.Add o (one_sign p t.plus ts) h.1.1; close = fin (s.sign t.semicolon) h.0 r h.2 })
@@ -296,89 +192,29 @@ after_operand_gives p (t.sign t.less) = λ ts r h us x o. (item.two binary.Lt x 
 after_operand_gives p (t.sign t.less_or_equal) = λ ts r h us x o. (item.two binary.Le x h.1.0, record { last = _; right = g.two binary.Le o (one_sign p t.less_or_equal ts) h.1.1; close = fin (s.sign t.semicolon) h.0 r h.2 })
 after_operand_gives p (t.sign t.shift_left) = λ ts r h us x o. (item.two binary.Shl x h.1.0, record { last = _; right = g.two binary.Shl o (one_sign p t.shift_left ts) h.1.1; close = fin (s.sign t.semicolon) h.0 r h.2 })
 after_operand_gives p (t.sign t.shift_right) = λ ts r h us x o. (item.two binary.Shr x h.1.0, record { last = _; right = g.two binary.Shr o (one_sign p t.shift_right ts) h.1.1; close = fin (s.sign t.semicolon) h.0 r h.2 })
-after_operand_gives p (t.sign t.open_paren) = tt
-after_operand_gives p (t.sign t.close_paren) = tt
-after_operand_gives p (t.sign t.open_brace) = tt
-after_operand_gives p (t.sign t.close_brace) = tt
-after_operand_gives p (t.sign t.open_bracket) = tt
-after_operand_gives p (t.sign t.close_bracket) = tt
-after_operand_gives p (t.sign t.comma) = tt
-after_operand_gives p (t.sign t.colon) = tt
-after_operand_gives p (t.sign t.at) = tt
-after_operand_gives p (t.sign t.is) = tt
-after_operand_gives p (t.sign t.tilde) = tt
-after_operand_gives p (t.name x) = tt
-after_operand_gives p (t.number x n) = tt
-after_operand_gives p (t.constant x n) = tt
+after_operand_gives p _ = tt
 
 after_name_gives : (p : ℕ) (k : t.Kind) → Gives (next s.after_name k) (λ ts r. L s.after_name (token p k ∷ ts) r)
-after_name_gives p (t.word x) = tt
 after_name_gives p (t.sign t.open_bracket) = λ ts r h us x o. fin s.after_bracket ts r h us (token p (t.sign t.open_bracket) ∷ ts) x o (one_sign p t.open_bracket ts)
-after_name_gives p (t.sign t.semicolon) = λ ts r h us x o. after_operand_gives p (t.sign t.semicolon) ts r h us (item.named x) (g.name o)
-after_name_gives p (t.sign t.question) = λ ts r h us x o. after_operand_gives p (t.sign t.question) ts r h us (item.named x) (g.name o)
-after_name_gives p (t.sign t.plus) = λ ts r h us x o. after_operand_gives p (t.sign t.plus) ts r h us (item.named x) (g.name o)
-after_name_gives p (t.sign t.minus) = λ ts r h us x o. after_operand_gives p (t.sign t.minus) ts r h us (item.named x) (g.name o)
-after_name_gives p (t.sign t.star) = λ ts r h us x o. after_operand_gives p (t.sign t.star) ts r h us (item.named x) (g.name o)
-after_name_gives p (t.sign t.ampersand) = λ ts r h us x o. after_operand_gives p (t.sign t.ampersand) ts r h us (item.named x) (g.name o)
-after_name_gives p (t.sign t.bar) = λ ts r h us x o. after_operand_gives p (t.sign t.bar) ts r h us (item.named x) (g.name o)
-after_name_gives p (t.sign t.caret) = λ ts r h us x o. after_operand_gives p (t.sign t.caret) ts r h us (item.named x) (g.name o)
-after_name_gives p (t.sign t.equal) = λ ts r h us x o. after_operand_gives p (t.sign t.equal) ts r h us (item.named x) (g.name o)
-after_name_gives p (t.sign t.not_equal) = λ ts r h us x o. after_operand_gives p (t.sign t.not_equal) ts r h us (item.named x) (g.name o)
-after_name_gives p (t.sign t.less) = λ ts r h us x o. after_operand_gives p (t.sign t.less) ts r h us (item.named x) (g.name o)
-after_name_gives p (t.sign t.less_or_equal) = λ ts r h us x o. after_operand_gives p (t.sign t.less_or_equal) ts r h us (item.named x) (g.name o)
-after_name_gives p (t.sign t.shift_left) = λ ts r h us x o. after_operand_gives p (t.sign t.shift_left) ts r h us (item.named x) (g.name o)
-after_name_gives p (t.sign t.shift_right) = λ ts r h us x o. after_operand_gives p (t.sign t.shift_right) ts r h us (item.named x) (g.name o)
-after_name_gives p (t.sign t.open_paren) = tt
-after_name_gives p (t.sign t.close_paren) = tt
-after_name_gives p (t.sign t.open_brace) = tt
-after_name_gives p (t.sign t.close_brace) = tt
-after_name_gives p (t.sign t.close_bracket) = tt
-after_name_gives p (t.sign t.comma) = tt
-after_name_gives p (t.sign t.colon) = tt
-after_name_gives p (t.sign t.at) = tt
-after_name_gives p (t.sign t.is) = tt
-after_name_gives p (t.sign t.tilde) = tt
-after_name_gives p (t.name x) = tt
-after_name_gives p (t.number x n) = tt
-after_name_gives p (t.constant x n) = tt
+after_name_gives p k = gives_also (next s.after_operand k) (λ ts r. L s.after_operand (token p k ∷ ts) r) (λ ts r. L s.after_name (token p k ∷ ts) r) (after_operand_gives p k)
+    (λ ts r h us x o. h us (item.named x) (g.name o))
 
 after_bracket_gives : (p : ℕ) (k : t.Kind) → Gives (next s.after_bracket k) (λ ts r. L s.after_bracket (token p k ∷ ts) r)
-after_bracket_gives p (t.word x) = tt
-after_bracket_gives p (t.sign x) = tt
 after_bracket_gives p (t.name x) = λ ts r h us m y a b. (item.cell y (item.named (record { place = p; name = x })), record { last = _; right = g.cell a b (g.name (one_name p x ts)) h.1; close = fin (s.sign t.semicolon) h.0 r h.2 })
 after_bracket_gives p (t.number x n) = λ ts r h us m y a b. (item.slice y x h.2.1.0.value, record { last = _; right = g.slice a b (one_number p x n ts) h.1 h.2.1.1 h.2.2.1; close = fin (s.sign t.semicolon) h.2.2.0 r h.2.2.2 })
 after_bracket_gives p (t.constant x n) = λ ts r h us m y a b. (item.cell y (item.constant (record { place = p; width = x; value = n })), record { last = _; right = g.cell a b (g.constant (one_constant p x n ts)) h.1; close = fin (s.sign t.semicolon) h.0 r h.2 })
+after_bracket_gives p _ = tt
 
 right_gives : (p : ℕ) (k : t.Kind) → Gives (next s.right k) (λ ts r. L s.right (token p k ∷ ts) r)
-right_gives p (t.word x) = tt
 right_gives p (t.sign t.tilde) = λ ts r h. (item.one unary.Not h.1.0, record { last = _; right = g.one unary.Not (one_sign p t.tilde ts) h.1.1; close = fin (s.sign t.semicolon) h.0 r h.2 })
 right_gives p (t.sign t.minus) = λ ts r h. (item.one unary.Neg h.1.0, record { last = _; right = g.one unary.Neg (one_sign p t.minus ts) h.1.1; close = fin (s.sign t.semicolon) h.0 r h.2 })
 right_gives p (t.sign t.ampersand) = λ ts r h. (item.one unary.AllOnes h.1.0, record { last = _; right = g.one unary.AllOnes (one_sign p t.ampersand ts) h.1.1; close = fin (s.sign t.semicolon) h.0 r h.2 })
 right_gives p (t.sign t.bar) = λ ts r h. (item.one unary.AnyOne h.1.0, record { last = _; right = g.one unary.AnyOne (one_sign p t.bar ts) h.1.1; close = fin (s.sign t.semicolon) h.0 r h.2 })
 right_gives p (t.sign t.caret) = λ ts r h. (item.one unary.Odd h.1.0, record { last = _; right = g.one unary.Odd (one_sign p t.caret ts) h.1.1; close = fin (s.sign t.semicolon) h.0 r h.2 })
 right_gives p (t.sign t.open_brace) = λ ts r h. (item.concat (h.1.0 ∷ h.2.2.1.0 ∷ h.2.2.2.1.0), record { last = _; right = g.concat (one_sign p t.open_brace ts) h.1.1 h.2.1 h.2.2.1.1 h.2.2.2.1.2 h.2.2.2.1.3; close = fin (s.sign t.semicolon) h.2.2.2.0 r h.2.2.2.2 })
-right_gives p (t.sign t.open_paren) = tt
-right_gives p (t.sign t.close_paren) = tt
-right_gives p (t.sign t.close_brace) = tt
-right_gives p (t.sign t.open_bracket) = tt
-right_gives p (t.sign t.close_bracket) = tt
-right_gives p (t.sign t.comma) = tt
-right_gives p (t.sign t.semicolon) = tt
-right_gives p (t.sign t.colon) = tt
-right_gives p (t.sign t.question) = tt
-right_gives p (t.sign t.at) = tt
-right_gives p (t.sign t.is) = tt
-right_gives p (t.sign t.equal) = tt
-right_gives p (t.sign t.not_equal) = tt
-right_gives p (t.sign t.less) = tt
-right_gives p (t.sign t.less_or_equal) = tt
-right_gives p (t.sign t.shift_left) = tt
-right_gives p (t.sign t.shift_right) = tt
-right_gives p (t.sign t.plus) = tt
-right_gives p (t.sign t.star) = tt
 right_gives p (t.name x) = λ ts r h. fin s.after_name ts r h (token p (t.name x) ∷ ts) (record { place = p; name = x }) (one_name p x ts)
-right_gives p (t.number x n) = tt
 right_gives p (t.constant x n) = λ ts r h. fin s.after_operand ts r h (token p (t.constant x n) ∷ ts) (item.constant (record { place = p; width = x; value = n })) (g.constant (one_constant p x n ts))
+right_gives p _ = tt
 
 clocked_gives : (p : ℕ) (k : t.Kind) → Gives (next s.clocked k) (λ ts r. IsClocked (token p k ∷ ts) r)
 clocked_gives p k =
@@ -393,35 +229,9 @@ loop_gives p k =
     (i.1.place, k.1.0, g.loop a h.1 i.1.is i.2.1 i.2.2.1 j.1 j.2.1 j.2.2.1 k.1.1 k.2.1 k.2.2.1 l.1 l.2.1 n.1 n.2.1 (fin (s.sign t.close_paren) n.2.0 r n.2.2)))
 
 after_register_gives : (p : ℕ) (k : t.Kind) → Gives (next s.after_register k) (λ ts r. L s.after_register (token p k ∷ ts) r)
-after_register_gives p (t.word x) = tt
 after_register_gives p (t.sign t.semicolon) = λ ts r h us a b n x w m o. (item.register n x, g.register w m o (subst (λ z. IsSign (token p (t.sign t.semicolon) ∷ ts) t.semicolon z) h (one_sign p t.semicolon ts)))
 after_register_gives p (t.sign t.open_bracket) = λ ts r h us a b n x w m o. (item.memory n x h.2.2.1.0, g.memory w m o (one_sign p t.open_bracket ts) h.1 h.2.1 h.2.2.1.1 h.2.2.2.1 (fin (s.sign t.semicolon) h.2.2.2.0 r h.2.2.2.2))
-after_register_gives p (t.sign t.open_paren) = tt
-after_register_gives p (t.sign t.close_paren) = tt
-after_register_gives p (t.sign t.open_brace) = tt
-after_register_gives p (t.sign t.close_brace) = tt
-after_register_gives p (t.sign t.close_bracket) = tt
-after_register_gives p (t.sign t.comma) = tt
-after_register_gives p (t.sign t.colon) = tt
-after_register_gives p (t.sign t.question) = tt
-after_register_gives p (t.sign t.at) = tt
-after_register_gives p (t.sign t.is) = tt
-after_register_gives p (t.sign t.equal) = tt
-after_register_gives p (t.sign t.not_equal) = tt
-after_register_gives p (t.sign t.less) = tt
-after_register_gives p (t.sign t.less_or_equal) = tt
-after_register_gives p (t.sign t.shift_left) = tt
-after_register_gives p (t.sign t.shift_right) = tt
-after_register_gives p (t.sign t.plus) = tt
-after_register_gives p (t.sign t.minus) = tt
-after_register_gives p (t.sign t.star) = tt
-after_register_gives p (t.sign t.ampersand) = tt
-after_register_gives p (t.sign t.bar) = tt
-after_register_gives p (t.sign t.caret) = tt
-after_register_gives p (t.sign t.tilde) = tt
-after_register_gives p (t.name x) = tt
-after_register_gives p (t.number x n) = tt
-after_register_gives p (t.constant x n) = tt
+after_register_gives p _ = tt
 
 cells_gives : (p : ℕ) (k : t.Kind) → Gives (s.cells_next k) (λ ts r. L s.after_initial (token p k ∷ ts) r)
 cells_gives p k =
@@ -431,11 +241,8 @@ cells_gives p k =
     (item.initial_cells a.0 a.1 h.1.0 i.2.2.1.0, g.initial_cells w a.2 h.1.1 h.2.1 h.2.2.1 i.1 i.2.1 i.2.2.1.1 (fin (s.sign t.semicolon) i.2.2.0 r i.2.2.2)))
 
 after_initial_gives : (p : ℕ) (k : t.Kind) → Gives (next s.after_initial k) (λ ts r. L s.after_initial (token p k ∷ ts) r)
-after_initial_gives p (t.word x) = cells_gives p (t.word x)
-after_initial_gives p (t.sign x) = cells_gives p (t.sign x)
 after_initial_gives p (t.name x) = λ ts r h us w. (item.initial (record { place = p; name = x }) h.2.1.0, g.initial w (one_name p x ts) h.1 h.2.1.1 (fin (s.sign t.semicolon) h.2.0 r h.2.2))
-after_initial_gives p (t.number x n) = cells_gives p (t.number x n)
-after_initial_gives p (t.constant x n) = cells_gives p (t.constant x n)
+after_initial_gives p k = cells_gives p k
 
 write_gives : (p : ℕ) (k : t.Kind) → Gives (s.write_next k) (λ ts r. L s.after_clock (token p k ∷ ts) r)
 write_gives p k =
@@ -445,11 +252,8 @@ write_gives p k =
     (item.always_cell h.2.1.0 i.1.0 i.2.2.1.0 j.2.2.1.0, g.always_cell w a h.1 h.2.1.1 h.2.2.1 i.1.1 i.2.1 i.2.2.1.1 j.1 j.2.1 j.2.2.1.1 (fin (s.sign t.semicolon) j.2.2.0 r j.2.2.2)))
 
 after_clock_gives : (p : ℕ) (k : t.Kind) → Gives (next s.after_clock k) (λ ts r. L s.after_clock (token p k ∷ ts) r)
-after_clock_gives p (t.word x) = write_gives p (t.word x)
-after_clock_gives p (t.sign x) = write_gives p (t.sign x)
 after_clock_gives p (t.name x) = λ ts r h us w. (item.always (record { place = p; name = x }) h.2.1.0, g.always w (one_name p x ts) h.1 h.2.1.1 (fin (s.sign t.semicolon) h.2.0 r h.2.2))
-after_clock_gives p (t.number x n) = write_gives p (t.number x n)
-after_clock_gives p (t.constant x n) = write_gives p (t.constant x n)
+after_clock_gives p k = write_gives p k
 
 always_gives : (p : ℕ) (k : t.Kind) → Gives (push (s.clocked_next k) (s.after_clock ∷ [])) (λ ts r. L s.item (token p k ∷ ts) r)
 always_gives p k =
@@ -462,20 +266,7 @@ item_gives p (t.word t.reg_word) = λ ts r h. fin s.after_register h.2.0 r h.2.2
 item_gives p (t.word t.integer_word) = λ ts r h. (item.integer p, g.integer (record { parts = refl }) h.1 (fin (s.sign t.semicolon) h.0 r h.2))
 item_gives p (t.word t.assign_word) = λ ts r h. let x = fin s.right h.2.0 r h.2.2 in (item.assign h.1.0 x.0, g.assign (one_word p t.assign_word ts) h.1.1 h.2.1 x.1.right x.1.close)
 item_gives p (t.word t.initial_word) = λ ts r h. fin s.after_initial ts r h (token p (t.word t.initial_word) ∷ ts) (one_word p t.initial_word ts)
-item_gives p (t.word t.module_word) = always_gives p (t.word t.module_word)
-item_gives p (t.word t.endmodule_word) = always_gives p (t.word t.endmodule_word)
-item_gives p (t.word t.input_word) = always_gives p (t.word t.input_word)
-item_gives p (t.word t.output_word) = always_gives p (t.word t.output_word)
-item_gives p (t.word t.always_word) = always_gives p (t.word t.always_word)
-item_gives p (t.word t.posedge_word) = always_gives p (t.word t.posedge_word)
-item_gives p (t.word t.if_word) = always_gives p (t.word t.if_word)
-item_gives p (t.word t.for_word) = always_gives p (t.word t.for_word)
-item_gives p (t.word t.clk_word) = always_gives p (t.word t.clk_word)
-item_gives p (t.word t.i_word) = always_gives p (t.word t.i_word)
-item_gives p (t.sign x) = always_gives p (t.sign x)
-item_gives p (t.name x) = always_gives p (t.name x)
-item_gives p (t.number x n) = always_gives p (t.number x n)
-item_gives p (t.constant x n) = always_gives p (t.constant x n)
+item_gives p k = always_gives p k
 
 more_gives : (p : ℕ) (k : t.Kind) → Gives (push (s.item_next k) (s.items ∷ [])) (λ ts r. L s.items (token p k ∷ ts) r)
 more_gives p k =
@@ -484,24 +275,7 @@ more_gives p k =
 
 items_gives : (p : ℕ) (k : t.Kind) → Gives (next s.items k) (λ ts r. L s.items (token p k ∷ ts) r)
 items_gives p (t.word t.endmodule_word) = λ ts r h. ([], record { last = token p (t.word t.endmodule_word) ∷ ts; items = g.no_item; close = subst (λ z. IsWord (token p (t.word t.endmodule_word) ∷ ts) t.endmodule_word z) (fin s.end ts r h) (one_word p t.endmodule_word ts) })
-items_gives p (t.word t.module_word) = more_gives p (t.word t.module_word)
-items_gives p (t.word t.input_word) = more_gives p (t.word t.input_word)
-items_gives p (t.word t.output_word) = more_gives p (t.word t.output_word)
-items_gives p (t.word t.reg_word) = more_gives p (t.word t.reg_word)
-items_gives p (t.word t.wire_word) = more_gives p (t.word t.wire_word)
-items_gives p (t.word t.assign_word) = more_gives p (t.word t.assign_word)
-items_gives p (t.word t.initial_word) = more_gives p (t.word t.initial_word)
-items_gives p (t.word t.always_word) = more_gives p (t.word t.always_word)
-items_gives p (t.word t.posedge_word) = more_gives p (t.word t.posedge_word)
-items_gives p (t.word t.if_word) = more_gives p (t.word t.if_word)
-items_gives p (t.word t.for_word) = more_gives p (t.word t.for_word)
-items_gives p (t.word t.integer_word) = more_gives p (t.word t.integer_word)
-items_gives p (t.word t.clk_word) = more_gives p (t.word t.clk_word)
-items_gives p (t.word t.i_word) = more_gives p (t.word t.i_word)
-items_gives p (t.sign x) = more_gives p (t.sign x)
-items_gives p (t.name x) = more_gives p (t.name x)
-items_gives p (t.number x n) = more_gives p (t.number x n)
-items_gives p (t.constant x n) = more_gives p (t.constant x n)
+items_gives p k = more_gives p k
 
 file_gives : (p : ℕ) (k : t.Kind) → Gives (next s.file k) (λ ts r. L s.file (token p k ∷ ts) r)
 file_gives p k =
