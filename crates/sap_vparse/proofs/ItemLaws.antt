@@ -67,10 +67,10 @@ initial_start p e = name_first s.after_initial _ refl (λ n. refl) p e
 
 pub initial_cells : (p : List t.Token) → head p ≢ of_name
     → reads s.after_initial p ≡ steps (s.loop ∷ s.name ∷ s.sign t.open_bracket ∷ s.word t.i_word ∷ s.sign t.close_bracket ∷ s.sign t.is ∷ s.constant ∷ s.sign t.semicolon
-        ∷ []) p
+    ∷ []) p
 initial_cells p e = step_with s.after_initial s.loop _ (λ h. h ≢ of_name) refl refl by_kind p e where
   by_kind : (k : t.Kind) → head_of k ≢ of_name → next s.after_initial k ≡ push (next s.loop k) (s.name ∷ s.sign t.open_bracket ∷ s.word t.i_word ∷ s.sign t.close_bracket
-        ∷ s.sign t.is ∷ s.constant ∷ s.sign t.semicolon ∷ [])
+      ∷ s.sign t.is ∷ s.constant ∷ s.sign t.semicolon ∷ [])
   by_kind (t.name n) e = absurd (e refl)
   by_kind _ e = refl
 
@@ -80,10 +80,10 @@ clock_update p e = name_first s.after_clock _ refl (λ n. refl) p e
 
 pub clock_write : (p : List t.Token) → head p ≢ of_name
     → reads s.after_clock p ≡ steps (s.word t.if_word ∷ s.sign t.open_paren ∷ s.operand ∷ s.sign t.close_paren ∷ s.name ∷ s.sign t.open_bracket ∷ s.operand
-        ∷ s.sign t.close_bracket ∷ s.sign t.less_or_equal ∷ s.operand ∷ s.sign t.semicolon ∷ []) p
+    ∷ s.sign t.close_bracket ∷ s.sign t.less_or_equal ∷ s.operand ∷ s.sign t.semicolon ∷ []) p
 clock_write p e = step_with s.after_clock (s.word t.if_word) _ (λ h. h ≢ of_name) refl refl by_kind p e where
   by_kind : (k : t.Kind) → head_of k ≢ of_name → next s.after_clock k ≡ push (next (s.word t.if_word) k) (s.sign t.open_paren ∷ s.operand ∷ s.sign t.close_paren ∷ s.name
-        ∷ s.sign t.open_bracket ∷ s.operand ∷ s.sign t.close_bracket ∷ s.sign t.less_or_equal ∷ s.operand ∷ s.sign t.semicolon ∷ [])
+      ∷ s.sign t.open_bracket ∷ s.operand ∷ s.sign t.close_bracket ∷ s.sign t.less_or_equal ∷ s.operand ∷ s.sign t.semicolon ∷ [])
   by_kind (t.name n) e = absurd (e refl)
   by_kind _ e = refl
 

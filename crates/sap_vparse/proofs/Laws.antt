@@ -7,7 +7,7 @@ use Rattle.sap_vtext.specs.Tokens as t
 use Rattle.sap_vparse.specs.Choices.{after_head, right_head}
 use Rattle.sap_vparse.specs.Reading.{Head, head, head_of, of_name, of_number, of_sign, of_word, reads, steps}
 use Rattle.sap_vparse.specs.Table as s
-use Rattle.sap_vparse.specs.Table.{Symbol, Row, first, grammar, may_be_empty, next}
+use Rattle.sap_vparse.specs.Table.{Symbol, Row, first, may_be_empty, next}
 use Rattle.sap_vparse.specs.declared.choice.AfterHead.TheVariants as a
 use Rattle.sap_vparse.specs.declared.choice.AfterHead.{AfterHead}
 use Rattle.sap_vparse.specs.declared.choice.RightHead.TheVariants as r
@@ -68,15 +68,15 @@ pub range_steps : (p : List t.Token) → reads s.range p ≡ steps (s.sign t.ope
 range_steps p = step_with s.range (s.sign t.open_bracket) _ Any refl refl (λ k h. refl) p tt
 
 pub loop_steps : (p : List t.Token) → reads s.loop p ≡ steps (s.word t.for_word ∷ s.sign t.open_paren ∷ s.word t.i_word ∷ s.sign t.is ∷ s.digit 0 ∷ s.sign t.semicolon
-        ∷ s.word t.i_word ∷ s.sign t.less ∷ s.number ∷ s.sign t.semicolon ∷ s.word t.i_word ∷ s.sign t.is ∷ s.word t.i_word ∷ s.sign t.plus ∷ s.digit 1 ∷ s.sign t.close_paren ∷ []) p
+    ∷ s.word t.i_word ∷ s.sign t.less ∷ s.number ∷ s.sign t.semicolon ∷ s.word t.i_word ∷ s.sign t.is ∷ s.word t.i_word ∷ s.sign t.plus ∷ s.digit 1 ∷ s.sign t.close_paren ∷ []) p
 loop_steps p = step_with s.loop (s.word t.for_word) _ Any refl refl (λ k h. refl) p tt
 
 pub clocked_steps : (p : List t.Token) → reads s.clocked p ≡ steps (s.word t.always_word ∷ s.sign t.at ∷ s.sign t.open_paren ∷ s.word t.posedge_word ∷ s.word t.clk_word
-        ∷ s.sign t.close_paren ∷ []) p
+    ∷ s.sign t.close_paren ∷ []) p
 clocked_steps p = step_with s.clocked (s.word t.always_word) _ Any refl refl (λ k h. refl) p tt
 
 pub file_steps : (p : List t.Token) → reads s.file p ≡ steps (s.word t.module_word ∷ s.name ∷ s.sign t.open_paren ∷ s.word t.input_word ∷ s.word t.clk_word ∷ s.ports
-        ∷ s.sign t.semicolon ∷ s.items ∷ []) p
+    ∷ s.sign t.semicolon ∷ s.items ∷ []) p
 file_steps p = step_with s.file (s.word t.module_word) _ Any refl refl (λ k h. refl) p tt
 
 pub operand_name : (p : List t.Token) → head p ≡ of_name → reads s.operand p ≡ reads s.name p

@@ -3,7 +3,7 @@ use Rattle.std.proofs.Common.{◌≡◌, ℕ, List, [], ◌∷◌, ◌++◌, Opt
 use Rattle.sap_bits.specs.declared.Op1.{Op1}
 use Rattle.sap_bits.specs.declared.Op2.{Op2}
 use Rattle.sap_vtext.specs.Grammar as g
-use Rattle.sap_vtext.specs.Grammar.{AreParts, IsClocked, IsItem, IsLoop, IsName, IsOperand, IsPort, IsRange, IsSign, IsWord, binary_sign, unary_sign}
+use Rattle.sap_vtext.specs.Grammar.{IsClocked, IsItem, IsLoop, IsName, IsOperand, IsPort, IsRange, IsSign, IsWord, binary_sign, unary_sign}
 use Rattle.sap_vtext.specs.Items as item
 use Rattle.sap_vtext.specs.Tokens as t
 use Rattle.sap_vparse.specs.Parts as p

@@ -4,7 +4,7 @@ use Rattle.std.proofs.lemmas.List.{append-nil}
 use Rattle.sap_vtext.proofs.LexingLemmas.{front_at_end}
 use Rattle.sap_vtext.specs.Grammar.{IsFile}
 use Rattle.sap_vtext.specs.Items.{File}
-use Rattle.sap_vtext.specs.Lexing.{Front, Lexed, blank, front, token}
+use Rattle.sap_vtext.specs.Lexing.{Lexed, front, token}
 use Rattle.sap_vtext.specs.Lexing as x
 use Rattle.sap_vtext.specs.Tokens.{Token}
 use Rattle.sap_vtext.proofs.OneFile.{one_file}
@@ -22,7 +22,7 @@ use Rattle.sap_vparse.proofs.Complete.{file_reads}
 use Rattle.sap_vparse.proofs.Viable.{goes_on}
 use Rattle.sap_walk.specs.Prefix as p
 use Rattle.sap_walk.specs.Walk as walk
-use Rattle.sap_walk.specs.Walk.{Halt, Point, at_token, at_limit}
+use Rattle.sap_walk.specs.Walk.{Point, at_token, at_limit}
 use Rattle.sap_walk.proofs.Prefixes as prefix
 use Rattle.sap_walk.proofs.Running.{Halts, Runs, Stops, too_short, refuses, refused_there, walk_halts}
 

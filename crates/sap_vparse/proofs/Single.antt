@@ -8,7 +8,7 @@ use Rattle.sap_vtext.specs.Tokens.{IsToken}
 use Rattle.sap_vparse.specs.Reading.{Passes, Head, ahead_of, constant_in, front_constant, front_name, front_number, head, head_of, name_in, number_in, of_name, of_nothing, of_number, of_sign, of_word, plain, reads, steps}
 use Rattle.sap_vlex.specs.Spelling.{sign_of, word_of}
 use Rattle.sap_vparse.specs.Table as s
-use Rattle.sap_vparse.specs.Table.{Symbol, Row, first, grammar, if_same, may_be_empty, next, sign_number, word_number}
+use Rattle.sap_vparse.specs.Table.{Symbol, first, grammar, if_same, may_be_empty, next, sign_number, word_number}
 use Rattle.sap_vparse.specs.declared.cursor.Ahead.TheVariants as a
 use Rattle.sap_vparse.specs.declared.cursor.Ahead.{Ahead}
 use Rattle.sap_vlex.specs.declared.token.Sign.TheVariants as j
@@ -16,7 +16,7 @@ use Rattle.sap_vlex.specs.declared.token.Sign.{Sign}
 use Rattle.sap_vlex.specs.declared.token.Word.TheVariants as w
 use Rattle.sap_vlex.specs.declared.token.Word.{Word}
 use Rattle.sap_walk.specs.Walk as walk
-use Rattle.sap_walk.specs.Walk.{begins, cannot_stand, ◌>>=◌}
+use Rattle.sap_walk.specs.Walk.{cannot_stand, ◌>>=◌}
 use Rattle.sap_walk.proofs.Walking.{read_take, read_stop, read_end}
 
 -- the laws of the walk, over plain lists of tokens

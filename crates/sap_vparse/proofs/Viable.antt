@@ -5,13 +5,13 @@ use Rattle.std.proofs.lemmas.Bool.{eqb-true}
 use Rattle.sap_bits.specs.declared.Op1.TheVariants as unary
 use Rattle.sap_bits.specs.declared.Op2.TheVariants as binary
 use Rattle.sap_vtext.specs.Grammar as g
-use Rattle.sap_vtext.specs.Grammar.{AreItems, AreParts, ArePorts, IsClocked, IsConstant, IsDigit, IsFile, IsItem, IsLoop, IsName, IsNumber, IsOperand, IsPort, IsRange, IsRight, IsSign, IsWord}
+use Rattle.sap_vtext.specs.Grammar.{AreParts, IsClocked, IsConstant, IsDigit, IsFile, IsItem, IsLoop, IsName, IsNumber, IsOperand, IsPort, IsRange, IsSign, IsWord}
 use Rattle.sap_vtext.specs.Items as item
 use Rattle.sap_vtext.specs.Tokens as t
 use Rattle.sap_vtext.specs.Tokens.{IsToken}
 use Rattle.sap_vparse.specs.Parts.{ItemsEnd, PortsEnd, RightEnds}
 use Rattle.sap_vparse.specs.Table as s
-use Rattle.sap_vparse.specs.Table.{Symbol, Row, first, grammar, next}
+use Rattle.sap_vparse.specs.Table.{Symbol, Row, grammar, next}
 use Rattle.sap_walk.specs.Rows.{push}
 use Rattle.sap_walk.specs.Walk.{begins, empty_here, cannot_stand, Point}
 use Rattle.sap_walk.proofs.Running.{Runs}
