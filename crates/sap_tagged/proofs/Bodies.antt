@@ -14,6 +14,7 @@ use Rattle.sap_tree.specs.Limits.{most_arms}
 use Rattle.sap_meaning.specs.Program.{World, Kind, entity, root, is_dynamic, is_input, is_register, is_state, width, children, listed, Step, assign, write, retag, retag_cell, go_to, fall_to_child, Command, lone, try, if_else, try_then, case_of, Arms, last_arm, and_arm, Block, end_block, command_then, Group, kind_is_input, kind_is_register, kind_is_state}
 use Rattle.sap_meaning.specs.Program as program
 use Rattle.sap_meaning.specs.Expressions.{width_of}
+use Rattle.sap_meaning.specs.Walks.{Every, EveryInArms, EveryInBlock}
 use Rattle.sap_meaning.specs.Checks.{Home, site_of}
 use Rattle.sap_meaning.specs.Touches.{among}
 use Rattle.sap_meaning.specs.Runs.{listed_alone}
@@ -81,21 +82,22 @@ SiteWires d s k = (find (assignable s) (d.name (refused_key k)) ≡ Some 1) × (
 abbrev pub Hangs : World → (ℕ → Bool) → Type 0
 Hangs w h = (x : ℕ) → h x ≡ true → has_tag w x ≡ true × (is_input w x ≡ false)
 
-abbrev mutual
-  pub CommandHangs : World → Home → Command → Type 0
-  CommandHangs w sp (lone t) = Hangs w (listed_alone w sp t)
-  CommandHangs w sp (try t hang h) = Hangs w (listed hang) × BlockHangs w sp h
-  CommandHangs w sp (if_else hang e a b) = Hangs w (listed hang) × BlockHangs w sp a × BlockHangs w sp b
-  CommandHangs w sp (try_then t hang a b) = Hangs w (listed hang) × BlockHangs w sp a × BlockHangs w sp b
-  CommandHangs w sp (case_of hang e arms) = Hangs w (listed hang) × ArmsHang w sp arms
+-- of what hangs on a command alone
+abbrev pub OwnHangs : World → Home → Command → Type 0
+OwnHangs w sp (lone t) = Hangs w (listed_alone w sp t)
+OwnHangs w sp (try t hang h) = Hangs w (listed hang)
+OwnHangs w sp (if_else hang e a b) = Hangs w (listed hang)
+OwnHangs w sp (try_then t hang a b) = Hangs w (listed hang)
+OwnHangs w sp (case_of hang e arms) = Hangs w (listed hang)
 
-  pub ArmsHang : World → Home → Arms → Type 0
-  ArmsHang w sp (last_arm b) = BlockHangs w sp b
-  ArmsHang w sp (and_arm constants b arms) = BlockHangs w sp b × ArmsHang w sp arms
+abbrev pub CommandHangs : World → Home → Command → Type 0
+CommandHangs w sp c = Every (OwnHangs w sp) c
 
-  pub BlockHangs : World → Home → Block → Type 0
-  BlockHangs w sp end_block = Unit {0}
-  BlockHangs w sp (command_then c cs) = CommandHangs w sp c × BlockHangs w sp cs
+abbrev pub ArmsHang : World → Home → Arms → Type 0
+ArmsHang w sp arms = EveryInArms (OwnHangs w sp) arms
+
+abbrev pub BlockHangs : World → Home → Block → Type 0
+BlockHangs w sp b = EveryInBlock (OwnHangs w sp) b
 
 pub among_left : (xs ys : List sites.PlacedStep) (k : ℕ) → Among (sites.site_numbers xs) k → Among (sites.site_numbers (xs ++ ys)) k
 among_left [] ys k h = absurd h

@@ -11,20 +11,23 @@ use Rattle.sap_names.specs.declared.kind.Code.TheVariants.{E7}
 use Rattle.sap_names.specs.Entities.{what_is}
 use Rattle.sap_names.specs.declared.kind.Use.TheVariants.{Indexed as indexed}
 use Rattle.sap_names.specs.declared.kind.Use.TheVariants as uses
-use Rattle.sap_names.specs.NameFaults.{use_faults, name_faults, fault_if, unsettled, expression_faults, parts_faults, tag_faults, tags_faults, simple_faults, command_faults, arms_faults, constants_faults, block_faults, else_faults, commands_faults, kind_faults, state_faults, states_faults}
+use Rattle.sap_names.specs.NameFaults.{use_faults, name_faults, fault_if, unsettled, expression_faults, parts_faults, tag_faults, tags_faults, simple_faults, block_faults, kind_faults, state_faults, states_faults}
 use Rattle.sap_names.specs.Widths as widths
 use Rattle.sap_names.specs.Widths.{own, own_parts, register_width, cell_width, index_width, sliced, extended, family, asked_left, asked_right, asked_one, is_sound, all_sound}
 use Rattle.sap_maps.specs.Term.{Term, constant, read, cell, one, two, choose, join, part}
 use Rattle.sap_meaning.specs.Program as program
 use Rattle.sap_meaning.specs.Program.{World, LevelTerm, fixed, of, at_place, both, Step, assign, write, retag, retag_cell, go_to, fall_to_child, Block, end_block, command_then, State, state_node, Group, no_node, and_node}
+use Rattle.sap_meaning.specs.Walks.{EveryLevel, Every, EveryInArms, EveryInBlock, Asks, EveryBody, EveryBodyIn}
 use Rattle.sap_meaning.specs.Checks.{Home}
 use Rattle.sap_meaning.specs.Expressions as meaning
 use Rattle.sap_lattice.specs.Levels.{Levels}
 use Rattle.sap_resolved.specs.Terms.{known, term_of, parts_of, widened, level_term, level_terms}
 use Rattle.sap_resolved.specs.Worlds.{states_in}
-use Rattle.sap_shape.specs.Sites.{Surroundings, simple_sites, command_sites, block_sites, state_sites}
-use Rattle.sap_resolved.specs.Resolve.{site_number, step_of, command_of, arms_of, block_of, else_of, list_of, state_of, group_of}
-use Rattle.sap_resolved.specs.Fill.{filled_step, filled, filled_arms, filled_block, filled_state, filled_group}
+use Rattle.sap_shape.specs.Sites.{Surroundings, block_sites, state_sites}
+use Rattle.sap_resolved.specs.Resolve.{step_of, block_of, state_of, group_of}
+use Rattle.sap_resolved.specs.Fill.{filled_step, filled_group}
+use Rattle.sap_resolved.proofs.FillLemmas.{every_filled_group}
+use Rattle.sap_resolved.proofs.TreeWalks.{Named, Fitting, every_named_in_block, every_resolved_in_block}
 use Rattle.sap_resolved.proofs.sized.Faultless.{none_two, none_three, none_four}
 use Rattle.sap_resolved.proofs.sized.Declared.{Resolved}
 use Rattle.sap_resolved.proofs.sized.Operators.{asked_width}
@@ -43,10 +46,7 @@ Conditions w (join a b) = Conditions w a × Conditions w b
 Conditions w (part a hi lo) = Conditions w a
 
 abbrev pub LevelConditions : World → LevelTerm → Type 0
-LevelConditions w (fixed n) = Unit {0}
-LevelConditions w (of e) = Conditions w e
-LevelConditions w (at_place e) = Conditions w e
-LevelConditions w (both a b) = LevelConditions w a × LevelConditions w b
+LevelConditions w n = EveryLevel (λ level. Unit {0}) (Conditions w) n
 
 abbrev pub StepConditions : World → Step → Type 0
 StepConditions w (assign site x e) = Conditions w e
@@ -56,29 +56,20 @@ StepConditions w (retag_cell site m j n) = Conditions w j × LevelConditions w n
 StepConditions w (go_to site target) = Unit {0}
 StepConditions w (fall_to_child site hang) = Unit {0}
 
-abbrev mutual
-  pub CommandConditions : World → program.Command → Type 0
-  CommandConditions w (program.lone k) = StepConditions w k
-  CommandConditions w (program.try k hang h) = StepConditions w k × BlockConditions w h
-  CommandConditions w (program.if_else hang e a b) = Conditions w e × BlockConditions w a × BlockConditions w b
-  CommandConditions w (program.try_then k hang a b) = StepConditions w k × BlockConditions w a × BlockConditions w b
-  CommandConditions w (program.case_of hang e arms) = Conditions w e × ArmsConditions w arms
+abbrev pub CommandConditions : World → program.Command → Type 0
+CommandConditions w c = Every (Asks (StepConditions w) (Conditions w)) c
 
-  pub ArmsConditions : World → program.Arms → Type 0
-  ArmsConditions w (program.last_arm b) = BlockConditions w b
-  ArmsConditions w (program.and_arm constants b arms) = BlockConditions w b × ArmsConditions w arms
+abbrev pub ArmsConditions : World → program.Arms → Type 0
+ArmsConditions w arms = EveryInArms (Asks (StepConditions w) (Conditions w)) arms
 
-  pub BlockConditions : World → Block → Type 0
-  BlockConditions w end_block = Unit {0}
-  BlockConditions w (command_then c cs) = CommandConditions w c × BlockConditions w cs
+abbrev pub BlockConditions : World → Block → Type 0
+BlockConditions w b = EveryInBlock (Asks (StepConditions w) (Conditions w)) b
 
-abbrev mutual
-  pub StateConditions : World → State → Type 0
-  StateConditions w (state_node s b g) = BlockConditions w b × GroupConditions w g
+abbrev pub StateConditions : World → State → Type 0
+StateConditions w t = EveryBody (BlockConditions w) t
 
-  pub GroupConditions : World → Group → Type 0
-  GroupConditions w no_node = Unit {0}
-  GroupConditions w (and_node t g) = StateConditions w t × GroupConditions w g
+abbrev pub GroupConditions : World → Group → Type 0
+GroupConditions w g = EveryBodyIn (BlockConditions w) g
 
 widened_conditions : (w : World) (t : Term ℕ) (from u : ℕ) → Conditions w t → Conditions w (widened from u t)
 widened_conditions w t from u c = elim (cases_Bool (eqb from u)) [ inl q ↦ rw q c | inr q ↦ rw q (tt, c) ]
@@ -169,40 +160,12 @@ module _ (ls : Levels) (h : Surroundings) (w : World) (r : Resolved h.entities w
   step_conditions n (tree.go_to place target) f = tt
   step_conditions n (tree.fall_to_child place) f = tt
 
-  mutual
-    command_conditions : (k : ℕ) (c : tree.Command) → command_faults ls.names known_as c ≡ [] → CommandConditions w (command_of ls h k c)
-    command_conditions k (tree.lone c) f = step_conditions (site_number h k c) c f
-    command_conditions k (tree.try c place b) f =
-        let s = none_two (simple_faults ls.names known_as c) (block_faults ls.names known_as b) f in
-        (step_conditions (site_number h k c) c s.0, block_conditions (k + length (simple_sites h c)) b s.1)
-    command_conditions k (tree.if_else place e a b) f =
-        let s = none_three (expression_faults known_as e (Some 1)) (block_faults ls.names known_as a) (else_faults ls.names known_as b) f in
-        (conditions h.entities w r e (Some 1) s.0, block_conditions k a s.1, else_conditions (k + length (block_sites h a)) b s.2)
-    command_conditions k (tree.try_then c place a b) f =
-        let s = none_three (simple_faults ls.names known_as c) (block_faults ls.names known_as a) (block_faults ls.names known_as b) f in
-        (step_conditions (site_number h k c) c s.0, block_conditions (k + length (simple_sites h c)) a s.1, block_conditions (k + length (simple_sites h c) + length (block_sites h a)) b s.2)
-    command_conditions k (tree.case_of place e arms) f =
-        let s = none_two (expression_faults known_as e common.None) (arms_faults ls.names known_as (own known_as e) arms) f in
-        (conditions h.entities w r e common.None s.0, arms_conditions k (own known_as e) arms s.1)
-
-    arms_conditions : (k : ℕ) (asked : Option ℕ) (arms : tree.Arms) → arms_faults ls.names known_as asked arms ≡ [] → ArmsConditions w (arms_of ls h k arms)
-    arms_conditions k asked (tree.last_arm b) f = block_conditions k b f
-    arms_conditions k asked (tree.and_arm constants b arms) f =
-        let s = none_three (constants_faults known_as asked constants) (block_faults ls.names known_as b) (arms_faults ls.names known_as asked arms) f in
-        (block_conditions k b s.1, arms_conditions (k + length (block_sites h b)) asked arms s.2)
-
-    block_conditions : (k : ℕ) (b : tree.CommandBlock) → block_faults ls.names known_as b ≡ [] → BlockConditions w (block_of ls h k b)
-    block_conditions k (tree.command_block cs after) f = list_conditions k cs f
-
-    else_conditions : (k : ℕ) (b : tree.ElseBlock) → else_faults ls.names known_as b ≡ [] → BlockConditions w (else_of ls h k b)
-    else_conditions k tree.no_else f = tt
-    else_conditions k (tree.with_else b) f = block_conditions k b f
-
-    list_conditions : (k : ℕ) (cs : tree.CommandList) → commands_faults ls.names known_as cs ≡ [] → BlockConditions w (list_of ls h k cs)
-    list_conditions k tree.no_command f = tt
-    list_conditions k (tree.and_command c cs) f =
-        let s = none_two (command_faults ls.names known_as c) (commands_faults ls.names known_as cs) f in
-        (command_conditions k c s.0, list_conditions (k + length (command_sites h c)) cs s.1)
+  block_conditions : (k : ℕ) (b : tree.CommandBlock) → block_faults ls.names known_as b ≡ [] → BlockConditions w (block_of ls h k b)
+  block_conditions k b f =
+      let named = every_named_in_block ls.names known_as b f in
+      every_resolved_in_block ls h (Named ls.names known_as) (Named ls.names known_as) (Fitting ls.names known_as) (Fitting ls.names known_as)
+      (StepConditions w) (Conditions w) (λ n c p r'. step_conditions n c p) (λ e p r'. conditions h.entities w r e (Some 1) p)
+      (λ e p r'. conditions h.entities w r e common.None p) k b named named
 
 module _ (ls : Levels) (le : ℕ → ℕ → Bool) (es : List Entity) (w : World) (r : Resolved es w) where
   mutual
@@ -228,26 +191,5 @@ module _ (w : World) where
   filled_step_conditions at (go_to site target) h = h
   filled_step_conditions at (fall_to_child site hang) h = h
 
-  mutual
-    filled_conditions : (at : Home) (c : program.Command) → CommandConditions w c → CommandConditions w (filled w at c)
-    filled_conditions at (program.lone k) h = filled_step_conditions at k h
-    filled_conditions at (program.try k hang b) h = (filled_step_conditions at k h.0, filled_block_conditions at b h.1)
-    filled_conditions at (program.if_else hang e a b) h = (h.0, filled_block_conditions at a h.1, filled_block_conditions at b h.2)
-    filled_conditions at (program.try_then k hang a b) h = (filled_step_conditions at k h.0, filled_block_conditions at a h.1, filled_block_conditions at b h.2)
-    filled_conditions at (program.case_of hang e arms) h = (h.0, filled_arms_conditions at arms h.1)
-
-    filled_arms_conditions : (at : Home) (arms : program.Arms) → ArmsConditions w arms → ArmsConditions w (filled_arms w at arms)
-    filled_arms_conditions at (program.last_arm b) h = filled_block_conditions at b h
-    filled_arms_conditions at (program.and_arm constants b arms) h = (filled_block_conditions at b h.0, filled_arms_conditions at arms h.1)
-
-    filled_block_conditions : (at : Home) (b : Block) → BlockConditions w b → BlockConditions w (filled_block w at b)
-    filled_block_conditions at end_block h = h
-    filled_block_conditions at (command_then c cs) h = (filled_conditions at c h.0, filled_block_conditions at cs h.1)
-
-  mutual
-    filled_state_conditions : (p : ℕ) (t : State) → StateConditions w t → StateConditions w (filled_state w p t)
-    filled_state_conditions p (state_node s b g) h = (filled_block_conditions (record { state = s; parent = p; children = g }) b h.0, filled_group_conditions s g h.1)
-
-    pub filled_group_conditions : (p : ℕ) (g : Group) → GroupConditions w g → GroupConditions w (filled_group w p g)
-    filled_group_conditions p no_node h = h
-    filled_group_conditions p (and_node t g) h = (filled_state_conditions p t h.0, filled_group_conditions p g h.1)
+  pub filled_group_conditions : (p : ℕ) (g : Group) → GroupConditions w g → GroupConditions w (filled_group w p g)
+  filled_group_conditions p g h = every_filled_group w (StepConditions w) (StepConditions w) (Conditions w) filled_step_conditions p g h

@@ -4,14 +4,16 @@ use Rattle.std.proofs.lemmas.Bool.{cases_Bool, eqb-true, and_parts}
 use Rattle.sap_lemmas.proofs.Bools.{true_is_not_false}
 use Rattle.sap_meaning.specs.Program.{World, Kind, entity, root, is_dynamic, is_input, is_memory, is_register, listed, Step, assign, write, retag, retag_cell, go_to, fall_to_child, Command, lone, try, if_else, try_then, case_of, Arms, last_arm, and_arm, Block, end_block, command_then, state_node, Group, no_node, and_node, kind_is_input, kind_is_register, kind_is_memory, kind_is_state}
 use Rattle.sap_meaning.specs.Program as program
+use Rattle.sap_meaning.specs.Walks.{Asks}
+use Rattle.sap_meaning.proofs.WalksLemmas.{some_gives, some_in_block_gives, every_with_in_block}
 use Rattle.sap_meaning.specs.Checks.{Home}
-use Rattle.sap_meaning.specs.Touches.{step_assigns, assigns, arms_assign, block_assigns, group_assigns, among, step_hangs, hangs, arms_hang, block_hangs, touches, root_touches}
+use Rattle.sap_meaning.specs.Touches.{step_assigns, block_assigns, group_assigns, among, step_hangs, hangs, touches, root_touches}
 use Rattle.sap_meaning.specs.Runs.{listed_alone}
-use Rattle.sap_meaning.specs.Fine.{FineStep, FineCommand, FineArms, FineBlock, FineGroup, ExactStep, Exact, ExactArms, ExactBlock}
+use Rattle.sap_meaning.specs.Fine.{FineTerm, FineStep, FineCommand, FineBlock, FineGroup, ExactStep, ExactCommand, ExactBlock}
 use Rattle.sap_tagged.specs.Stands.{has_tag}
 use Rattle.sap_tagged.proofs.Bools.{register_within, memory_within, tagged, tagged_memory}
 use Rattle.sap_tagged.proofs.Groups.{IsState, group_states}
-use Rattle.sap_tagged.proofs.Bodies.{Hangs, CommandHangs, ArmsHang, BlockHangs}
+use Rattle.sap_tagged.proofs.Bodies.{Hangs, OwnHangs, BlockHangs}
 
 -- a register, a memory, or a state
 abbrev pub CanHang : World → ℕ → Type 0
@@ -61,23 +63,8 @@ module _ (w : World) (x : ℕ) where
     step_assigned (go_to site target) f h = absurd (true_is_not_false (sym h))
     step_assigned (fall_to_child site hang) f h = absurd (true_is_not_false (sym h))
 
-    mutual
-      assigned : (c : Command) → FineCommand w q g c → assigns c x ≡ true → CanHang w x
-      assigned (lone k) f h = step_assigned k f h
-      assigned (try k hang b) f h = either (step_assigns k x) (block_assigns b x) h (step_assigned k f.0) (block_assigned b f.1)
-      assigned (if_else hang e a b) f h = either (block_assigns a x) (block_assigns b x) h (block_assigned a f.1) (block_assigned b f.2)
-      assigned (try_then k hang a b) f h =
-          either (step_assigns k x) (block_assigns a x || block_assigns b x) h (step_assigned k f.0)
-          (λ i. either (block_assigns a x) (block_assigns b x) i (block_assigned a f.1) (block_assigned b f.2))
-      assigned (case_of hang e arms) f h = arms_assigned arms f.1 h
-
-      arms_assigned : (arms : Arms) → FineArms w q g arms → arms_assign arms x ≡ true → CanHang w x
-      arms_assigned (last_arm b) f h = block_assigned b f h
-      arms_assigned (and_arm constants b arms) f h = either (block_assigns b x) (arms_assign arms x) h (block_assigned b f.0) (arms_assigned arms f.1)
-
-      block_assigned : (b : Block) → FineBlock w q g b → block_assigns b x ≡ true → CanHang w x
-      block_assigned end_block f h = absurd (true_is_not_false (sym h))
-      block_assigned (command_then c cs) f h = either (assigns c x) (block_assigns cs x) h (assigned c f.0) (block_assigned cs f.1)
+    block_assigned : (b : Block) → FineBlock w q g b → block_assigns b x ≡ true → CanHang w x
+    block_assigned b f h = some_in_block_gives (FineStep w q g) (FineTerm w) (λ k. step_assigns k x) (CanHang w x) step_assigned b f h
 
   group_assigned : (q : Group) (n : ℕ) (g : Group) → FineGroup w q n g → group_assigns g x ≡ true → CanHang w x
   group_assigned q n no_node f h = absurd (true_is_not_false (sym h))
@@ -94,23 +81,8 @@ module _ (w : World) (x : ℕ) where
     step_hung (go_to site target) f h = moved w x s h (state_can w s here)
     step_hung (fall_to_child site hang) f h = either (among g x) (group_assigns g x) h (λ i. state_can w x (group_states w g 0 g kids x i)) (group_assigned g 0 g kids)
 
-    mutual
-      hung : (c : Command) → FineCommand w q g c → hangs s g c x ≡ true → CanHang w x
-      hung (lone k) f h = step_hung k f h
-      hung (try k hang b) f h = either (step_hangs s g k x) (block_hangs s g b x) h (step_hung k f.0) (block_hung b f.1)
-      hung (if_else hang e a b) f h = either (block_hangs s g a x) (block_hangs s g b x) h (block_hung a f.1) (block_hung b f.2)
-      hung (try_then k hang a b) f h =
-          either (step_hangs s g k x) (block_hangs s g a x || block_hangs s g b x) h (step_hung k f.0)
-          (λ i. either (block_hangs s g a x) (block_hangs s g b x) i (block_hung a f.1) (block_hung b f.2))
-      hung (case_of hang e arms) f h = arms_hung arms f.1 h
-
-      arms_hung : (arms : Arms) → FineArms w q g arms → arms_hang s g arms x ≡ true → CanHang w x
-      arms_hung (last_arm b) f h = block_hung b f h
-      arms_hung (and_arm constants b arms) f h = either (block_hangs s g b x) (arms_hang s g arms x) h (block_hung b f.0) (arms_hung arms f.1)
-
-      block_hung : (b : Block) → FineBlock w q g b → block_hangs s g b x ≡ true → CanHang w x
-      block_hung end_block f h = absurd (true_is_not_false (sym h))
-      block_hung (command_then c cs) f h = either (hangs s g c x) (block_hangs s g cs x) h (hung c f.0) (block_hung cs f.1)
+    hung : (c : Command) → FineCommand w q g c → hangs s g c x ≡ true → CanHang w x
+    hung c f h = some_gives (FineStep w q g) (FineTerm w) (λ k. step_hangs s g k x) (CanHang w x) step_hung c f h
 
 -- a dynamic entity that can hang has a tag
 dynamic_tag : (w : World) (x : ℕ) → is_dynamic w x ≡ true → CanHang w x → has_tag w x ≡ true × (is_input w x ≡ false)
@@ -136,21 +108,15 @@ module _ (w : World) (q : Group) (sp : Home) (here : IsState w sp.state) (kids :
   alone_hangs (go_to site target) f i x h = touched (lone (go_to site target)) f x h
   alone_hangs (fall_to_child site hang) f i x h = exact_hangs (lone (fall_to_child site hang)) hang f i x h
 
-  mutual
-    command_hangs : (c : Command) → FineCommand w q sp.children c → Exact w sp c → CommandHangs w sp c
-    command_hangs (lone k) f e = alone_hangs k f e
-    command_hangs (try k hang b) f e = (exact_hangs (try k hang b) hang f e.0, body_hangs b f.1 e.1)
-    command_hangs (if_else hang e a b) f i = (exact_hangs (if_else hang e a b) hang f i.0, body_hangs a f.1 i.1, body_hangs b f.2 i.2)
-    command_hangs (try_then k hang a b) f i = (exact_hangs (try_then k hang a b) hang f i.0, body_hangs a f.1 i.1, body_hangs b f.2 i.2)
-    command_hangs (case_of hang e arms) f i = (exact_hangs (case_of hang e arms) hang f i.0, arms_hangs arms f.1 i.1)
+  own_hangs : (c : Command) → FineCommand w q sp.children c → ExactCommand w sp c → OwnHangs w sp c
+  own_hangs (lone k) f e = alone_hangs k f e
+  own_hangs (try k hang b) f e = exact_hangs (try k hang b) hang f e
+  own_hangs (if_else hang t a b) f e = exact_hangs (if_else hang t a b) hang f e
+  own_hangs (try_then k hang a b) f e = exact_hangs (try_then k hang a b) hang f e
+  own_hangs (case_of hang t arms) f e = exact_hangs (case_of hang t arms) hang f e
 
-    arms_hangs : (arms : Arms) → FineArms w q sp.children arms → ExactArms w sp arms → ArmsHang w sp arms
-    arms_hangs (last_arm b) f e = body_hangs b f e
-    arms_hangs (and_arm constants b arms) f e = (body_hangs b f.0 e.0, arms_hangs arms f.1 e.1)
-
-    pub body_hangs : (b : Block) → FineBlock w q sp.children b → ExactBlock w sp b → BlockHangs w sp b
-    body_hangs end_block f e = tt
-    body_hangs (command_then c cs) f e = (command_hangs c f.0 e.0, body_hangs cs f.1 e.1)
+  pub body_hangs : (b : Block) → FineBlock w q sp.children b → ExactBlock w sp b → BlockHangs w sp b
+  body_hangs b f e = every_with_in_block (Asks (FineStep w q sp.children) (FineTerm w)) (ExactCommand w sp) (OwnHangs w sp) own_hangs b f e
 
 pub root_hangs : (w : World) (g : Group) (list : List Bool) → FineGroup w g 0 g → ((x : ℕ) → listed list x ≡ root_touches w g x) → Hangs w (listed list)
 root_hangs w g list f e x h =
