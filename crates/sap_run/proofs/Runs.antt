@@ -114,25 +114,25 @@ module _ (d : Environment) where
   able-do k h = rw (command_of-do (entities_in d) k) at h
 
   pub able-try : (k : Step) (hang : List ℕ) (h : Vec Command Global) → CommandAble d (shown.Try k hang h) → AbleStep (world_in d) (step_of (entities_in d) k) × BlockAble d h.items
-  unfolding CommandAble AbleCommand BlockAble
+  unfolding CommandAble AbleCommand BlockAble AbleBlock
   able-try k hang h a = rw (command_of-try (entities_in d) k hang h) at a
 
   pub able-if : (hang : List ℕ) (e : Number) (a b : Vec Command Global) → CommandAble d (shown.If hang e a b) → AbleTerm (world_in d) (term_of e) × BlockAble d a.items × BlockAble d b.items
-  unfolding CommandAble AbleCommand BlockAble
+  unfolding CommandAble AbleCommand BlockAble AbleBlock
   able-if hang e a b h = rw (command_of-if (entities_in d) hang e a b) at h
 
   pub able-then : (k : Step) (hang : List ℕ) (a b : Vec Command Global) → CommandAble d (shown.TryThen k hang a b)
       → AbleStep (world_in d) (step_of (entities_in d) k) × BlockAble d a.items × BlockAble d b.items
-  unfolding CommandAble AbleCommand BlockAble
+  unfolding CommandAble AbleCommand BlockAble AbleBlock
   able-then k hang a b h = rw (command_of-then (entities_in d) k hang a b) at h
 
   pub able-case : (hang : List ℕ) (e : Number) (arms : Vec Arm Global) (last : Vec Command Global) → CommandAble d (shown.Case hang e arms last)
       → AbleTerm (world_in d) (term_of e) × ArmsAble d arms.items last.items
-  unfolding CommandAble AbleCommand ArmsAble
+  unfolding CommandAble AbleCommand ArmsAble AbleArms
   able-case hang e arms last h = rw (command_of-case (entities_in d) hang e arms last) at h
 
   pub able-picked : (arms : List Arm) (last : List Command) (n : ℕ) → ArmsAble d arms last → BlockAble d (picked_in arms last n)
-  unfolding ArmsAble AbleArms BlockAble arms_before
+  unfolding ArmsAble AbleArms BlockAble AbleBlock arms_before
   able-picked [] last n a = a
   able-picked (arm ∷ arms) last n a = elim (cases_Bool (is_constant (constants_of arm) n)) [ inl e ↦ rw e a.0 | inr e ↦ rw e (able-picked arms last n a.1) ]
 
@@ -141,7 +141,7 @@ module _ (d : Environment) where
   able-none = tt
 
   pub able-in : (cs : List Command) (n : ℕ) (c : Command) → n < length cs → BlockAble d cs → CommandAble d (get_or cs n c)
-  unfolding BlockAble AbleBlock CommandAble block_of
+  unfolding BlockAble AbleBlock CommandAble AbleCommand block_of
   able-in [] n c h a = absurd (omega (arith, h))
   able-in (b ∷ cs) zero c h a = a.0
   able-in (b ∷ cs) (suc n) c h a = able-in cs n c (omega (arith, h)) a.1

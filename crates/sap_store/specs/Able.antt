@@ -2,6 +2,7 @@
 use Rattle.std.specs.Prelude.{◌≡◌, ℕ, ◌<◌, ◌≤◌, ◌^◌, false}
 use Rattle.sap_maps.specs.Term.{Term}
 use Rattle.sap_meaning.specs.Program.{World, root, is_dynamic, width, place, last, LevelTerm, fixed, of, at_place, both, Step, assign, write, retag, retag_cell, go_to, fall_to_child, Command, lone, try, if_else, try_then, case_of, Arms, last_arm, and_arm, Block, end_block, command_then, State, state_node, Group, no_node, and_node}
+use Rattle.sap_meaning.specs.Walks.{EveryLevel, Every, EveryInArms, EveryInBlock, Asks}
 use Rattle.sap_meaning.specs.Expressions.{width_of}
 use Rattle.sap_meaning.specs.Sized.{SizedTerm, Indexes}
 use Rattle.sap_resolved.specs.Sized.Ranges.{RangedTerm}
@@ -12,10 +13,7 @@ pub record AbleTerm (w : World) (e : Term ℕ) : Type 0 where
   pub ranged : RangedTerm w e
 
 abbrev pub AbleLevel : World → LevelTerm → Type 0
-AbleLevel w (fixed n) = Unit {0}
-AbleLevel w (of e) = AbleTerm w e
-AbleLevel w (at_place e) = AbleTerm w e
-AbleLevel w (both a b) = AbleLevel w a × AbleLevel w b
+AbleLevel w n = EveryLevel (λ level. Unit {0}) (AbleTerm w) n
 
 -- an index of a memory
 pub record AbleIndex (w : World) (m : ℕ) (i : Term ℕ) : Type 0 where
@@ -43,21 +41,14 @@ AbleStep w (retag_cell site m j n) = AbleIndex w m j × (is_dynamic w m ≡ fals
 AbleStep w (go_to site target) = AbleTarget w target
 AbleStep w (fall_to_child site hang) = Unit {0}
 
-unfoldable mutual
-  pub AbleCommand : World → Command → Type 0
-  AbleCommand w (lone k) = AbleStep w k
-  AbleCommand w (try k hang h) = AbleStep w k × AbleBlock w h
-  AbleCommand w (if_else hang e a b) = AbleTerm w e × AbleBlock w a × AbleBlock w b
-  AbleCommand w (try_then k hang a b) = AbleStep w k × AbleBlock w a × AbleBlock w b
-  AbleCommand w (case_of hang e arms) = AbleTerm w e × AbleArms w arms
+unfoldable pub AbleCommand : World → Command → Type 0
+AbleCommand w c = Every (Asks (AbleStep w) (AbleTerm w)) c
 
-  pub AbleArms : World → Arms → Type 0
-  AbleArms w (last_arm b) = AbleBlock w b
-  AbleArms w (and_arm constants b arms) = AbleBlock w b × AbleArms w arms
+unfoldable pub AbleArms : World → Arms → Type 0
+AbleArms w arms = EveryInArms (Asks (AbleStep w) (AbleTerm w)) arms
 
-  pub AbleBlock : World → Block → Type 0
-  AbleBlock w end_block = Unit {0}
-  AbleBlock w (command_then c cs) = AbleCommand w c × AbleBlock w cs
+unfoldable pub AbleBlock : World → Block → Type 0
+AbleBlock w b = EveryInBlock (Asks (AbleStep w) (AbleTerm w)) b
 
 unfoldable mutual
   pub AbleState : World → State → Type 0
