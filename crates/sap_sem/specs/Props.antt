@@ -1,17 +1,19 @@
 -- What a machine keeps of its program is a proposition.
-use Rattle.std.proofs.Common.{ℕ, suc}
+use Rattle.std.proofs.Common.{◌≡◌, ℕ, suc, ◌<◌, false}
 use Rattle.std.proofs.Props.{props}
 use Rattle.sap_bits.specs.declared.Op2.{Op2}
 use Rattle.sap_bits.specs.declared.Op2.TheVariants.{Add, Sub, Mul, And, Or, Xor, Eq, Ne, Lt, Le, Shl, Shr}
 use Rattle.sap_maps.specs.Term.{Term, constant, read, cell, one, two, choose, join, part, CountFits, TermFits}
 use Rattle.sap_meaning.specs.Program.{World, width, LevelTerm, fixed, of, at_place, both, Step, assign, write, retag, retag_cell, go_to, fall_to_child, Command, lone, try, if_else, try_then, case_of, Arms, last_arm, and_arm, Block, end_block, command_then, State, state_node, Group, no_node, and_node}
+use Rattle.sap_meaning.specs.Walks.{Asks}
+use Rattle.sap_meaning.proofs.WalksLemmas.{every_prop_in_block, asks_prop, every_step_prop, every_level_prop}
 use Rattle.sap_meaning.specs.Checks.{Home}
 use Rattle.sap_lattice.specs.Levels.{Levels}
-use Rattle.sap_meaning.specs.Fine.{FineTerm, FineLevel, FineStep, FineCommand, FineArms, FineBlock, Open, OpenArms, OpenBlock, Closes, Final, ClosingArms, OnceStep, Once, OnceArms, OnceBlock, OnceState, OnceGroup, FineState, FineGroup, ExactStep, Exact, ExactArms, ExactBlock, ExactState, ExactGroup}
+use Rattle.sap_meaning.specs.Fine.{FineTerm, FineLevel, FineStep, FineBlock, transfers, Open, Closes, Final, ClosingArms, OnceStep, Once, OnceArms, OnceBlock, OnceState, OnceGroup, FineState, FineGroup, ExactStep, ExactCommand, ExactBlock, ExactState, ExactGroup}
 use Rattle.sap_meaning.specs.Sized.{Indexed}
 use Rattle.sap_resolved.specs.Sized.Ranges.{RangedTerm}
 use Rattle.sap_program.specs.declared.program.Program as code
-use Rattle.sap_store.specs.Able.{AbleTerm, AbleLevel, AbleStep, AbleCommand, AbleArms, AbleBlock, AbleState, AbleGroup}
+use Rattle.sap_store.specs.Able.{AbleTerm, AbleLevel, AbleStep, AbleBlock, AbleState, AbleGroup}
 use Rattle.sap_sem.specs.Sound.{IsSound}
 
 count_prop : (op : Op2) (w u : ℕ) → IsProp (CountFits op w u)
@@ -38,21 +40,8 @@ fits_prop widths (choose c a b) = hlevel (props, fits_prop widths c, fits_prop w
 fits_prop widths (join a b) = hlevel (props, fits_prop widths a, fits_prop widths b)
 fits_prop widths (part a hi lo) = hlevel (props, fits_prop widths a)
 
-mutual
-  open_prop : (c : Command) → IsProp (Open c)
-  open_prop (lone k) = hlevel props
-  open_prop (try k hang h) = hlevel (props, open_block_prop h)
-  open_prop (if_else hang e a b) = hlevel (props, open_block_prop a, open_block_prop b)
-  open_prop (try_then k hang a b) = hlevel (props, open_block_prop a, open_block_prop b)
-  open_prop (case_of hang e arms) = open_arms_prop arms
-
-  open_arms_prop : (arms : Arms) → IsProp (OpenArms arms)
-  open_arms_prop (last_arm b) = open_block_prop b
-  open_arms_prop (and_arm constants b arms) = hlevel (props, open_block_prop b, open_arms_prop arms)
-
-  open_block_prop : (b : Block) → IsProp (OpenBlock b)
-  open_block_prop end_block = hlevel props
-  open_block_prop (command_then c cs) = hlevel (props, open_prop c, open_block_prop cs)
+open_prop : (c : Command) → IsProp (Open c)
+open_prop c = every_step_prop (λ k. transfers k ≡ false) (λ k. hlevel props) c
 
 mutual
   closes_prop : (b : Block) → IsProp (Closes b)
@@ -129,10 +118,7 @@ module _ (w : World) where
   term_prop e = let a = fits_prop (width w) e in let b = indexed_prop e in let c = ranged_prop e in hlevel (props, a, b, c)
 
   level_prop : (n : LevelTerm) → IsProp (AbleLevel w n)
-  level_prop (fixed n) = hlevel props
-  level_prop (of e) = term_prop e
-  level_prop (at_place e) = term_prop e
-  level_prop (both a b) = hlevel (props, level_prop a, level_prop b)
+  level_prop n = every_level_prop (λ level. Unit {0}) (AbleTerm w) (λ level. hlevel props) term_prop n
 
   step_prop : (k : Step) → IsProp (AbleStep w k)
   step_prop (assign site x e) = hlevel (props, term_prop e)
@@ -142,23 +128,9 @@ module _ (w : World) where
   step_prop (go_to site target) = hlevel props
   step_prop (fall_to_child site hang) = hlevel props
 
-  mutual
-    unfolding AbleCommand AbleArms AbleBlock
-
-    command_prop : (c : Command) → IsProp (AbleCommand w c)
-    command_prop (lone k) = step_prop k
-    command_prop (try k hang h) = hlevel (props, step_prop k, block_prop h)
-    command_prop (if_else hang e a b) = hlevel (props, term_prop e, block_prop a, block_prop b)
-    command_prop (try_then k hang a b) = hlevel (props, step_prop k, block_prop a, block_prop b)
-    command_prop (case_of hang e arms) = hlevel (props, term_prop e, arms_prop arms)
-
-    arms_prop : (arms : Arms) → IsProp (AbleArms w arms)
-    arms_prop (last_arm b) = block_prop b
-    arms_prop (and_arm constants b arms) = hlevel (props, block_prop b, arms_prop arms)
-
-    block_prop : (b : Block) → IsProp (AbleBlock w b)
-    block_prop end_block = hlevel props
-    block_prop (command_then c cs) = hlevel (props, command_prop c, block_prop cs)
+  block_prop : (b : Block) → IsProp (AbleBlock w b)
+  unfolding AbleBlock
+  block_prop b = every_prop_in_block (Asks (AbleStep w) (AbleTerm w)) (asks_prop (AbleStep w) (AbleTerm w) step_prop term_prop) b
 
   mutual
     unfolding AbleState AbleGroup
@@ -178,21 +150,15 @@ module _ (w : World) where
   exact_step_prop at (go_to site target) = hlevel props
   exact_step_prop at (fall_to_child site hang) = hlevel props
 
-  mutual
-    exact_prop : (at : Home) (c : Command) → IsProp (Exact w at c)
-    exact_prop at (lone k) = exact_step_prop at k
-    exact_prop at (try k hang h) = hlevel (props, exact_block_prop at h)
-    exact_prop at (if_else hang e a b) = hlevel (props, exact_block_prop at a, exact_block_prop at b)
-    exact_prop at (try_then k hang a b) = hlevel (props, exact_block_prop at a, exact_block_prop at b)
-    exact_prop at (case_of hang e arms) = hlevel (props, exact_arms_prop at arms)
+  exact_command_prop : (at : Home) (c : Command) → IsProp (ExactCommand w at c)
+  exact_command_prop at (lone k) = exact_step_prop at k
+  exact_command_prop at (try k hang h) = hlevel props
+  exact_command_prop at (if_else hang e a b) = hlevel props
+  exact_command_prop at (try_then k hang a b) = hlevel props
+  exact_command_prop at (case_of hang e arms) = hlevel props
 
-    exact_arms_prop : (at : Home) (arms : Arms) → IsProp (ExactArms w at arms)
-    exact_arms_prop at (last_arm b) = exact_block_prop at b
-    exact_arms_prop at (and_arm constants b arms) = hlevel (props, exact_block_prop at b, exact_arms_prop at arms)
-
-    exact_block_prop : (at : Home) (b : Block) → IsProp (ExactBlock w at b)
-    exact_block_prop at end_block = hlevel props
-    exact_block_prop at (command_then c cs) = hlevel (props, exact_prop at c, exact_block_prop at cs)
+  exact_block_prop : (at : Home) (b : Block) → IsProp (ExactBlock w at b)
+  exact_block_prop at b = every_prop_in_block (ExactCommand w at) (exact_command_prop at) b
 
   mutual
     exact_state_prop : (p : ℕ) (t : State) → IsProp (ExactState w p t)
@@ -213,10 +179,7 @@ module _ (w : World) where
   fine_term_prop (part a hi lo) = fine_term_prop a
 
   fine_level_prop : (n : LevelTerm) → IsProp (FineLevel w n)
-  fine_level_prop (fixed n) = hlevel props
-  fine_level_prop (of e) = fine_term_prop e
-  fine_level_prop (at_place e) = fine_term_prop e
-  fine_level_prop (both a b) = hlevel (props, fine_level_prop a, fine_level_prop b)
+  fine_level_prop n = every_level_prop (λ level. level < w.order.count) (FineTerm w) (λ level. hlevel props) fine_term_prop n
 
   module _ (q g : Group) where
     fine_step_prop : (k : Step) → IsProp (FineStep w q g k)
@@ -227,21 +190,8 @@ module _ (w : World) where
     fine_step_prop (go_to site target) = hlevel props
     fine_step_prop (fall_to_child site hang) = hlevel props
 
-    mutual
-      fine_command_prop : (c : Command) → IsProp (FineCommand w q g c)
-      fine_command_prop (lone k) = fine_step_prop k
-      fine_command_prop (try k hang h) = hlevel (props, fine_step_prop k, fine_block_prop h)
-      fine_command_prop (if_else hang e a b) = hlevel (props, fine_term_prop e, fine_block_prop a, fine_block_prop b)
-      fine_command_prop (try_then k hang a b) = hlevel (props, fine_step_prop k, fine_block_prop a, fine_block_prop b)
-      fine_command_prop (case_of hang e arms) = hlevel (props, fine_term_prop e, fine_arms_prop arms)
-
-      fine_arms_prop : (arms : Arms) → IsProp (FineArms w q g arms)
-      fine_arms_prop (last_arm b) = fine_block_prop b
-      fine_arms_prop (and_arm constants b arms) = hlevel (props, fine_block_prop b, fine_arms_prop arms)
-
-      fine_block_prop : (b : Block) → IsProp (FineBlock w q g b)
-      fine_block_prop end_block = hlevel props
-      fine_block_prop (command_then c cs) = hlevel (props, fine_command_prop c, fine_block_prop cs)
+    fine_block_prop : (b : Block) → IsProp (FineBlock w q g b)
+    fine_block_prop b = every_prop_in_block (Asks (FineStep w q g) (FineTerm w)) (asks_prop (FineStep w q g) (FineTerm w) fine_step_prop fine_term_prop) b
 
   mutual
     fine_state_prop : (q : Group) (n : ℕ) (t : State) → IsProp (FineState w q n t)
