@@ -147,14 +147,14 @@ impl Writer {
         name.as_bytes() == self.module_name.as_bytes() || self.names.holds(name)
     }
 
-    fn first_free(&self, alloc: Global) -> Result<u64, AllocError>
+    fn first_free(&self) -> Result<u64, AllocError>
         ensures { IfOk result (λ k. spec.IsFree (spec.taken self.now) k) }
     {
         let mut number = self.next;
-        let mut name = helper_name(alloc, number)?;
+        let mut name = helper_name(number);
         while self.is_taken(&name) {
             number = number.checked_add(1).ok_or(AllocError)?;
-            name = helper_name(alloc, number)?;
+            name = helper_name(number);
         }
         Ok(number)
     }
@@ -164,9 +164,9 @@ impl Writer {
         ensures fresh { IfOk result (λ x. spec.IsFresh (spec.taken self.old) x) }
         ensures declared { IfOk result (λ x. self.new ≡ spec.declared x self.old) }
     {
-        let number = self.first_free(alloc)?;
+        let number = self.first_free()?;
         let next = number.checked_add(1).ok_or(AllocError)?;
-        let name = helper_name(alloc, number)?;
+        let name = helper_name(number);
         self.names.add(alloc, name.copy(alloc)?)?;
         self.next = next;
         Ok(name)

@@ -26,10 +26,10 @@ fn choose(
     ensures { OnOk result (commands_of out.new.items ≡ commands_of out.old.items ++ choice_commands j (term_of test.now) first second) }
 {
     let test = test.copy(alloc)?;
-    set_gate(alloc, out, j, first, test)?;
-    let taken = is_open(alloc, first)?;
+    set_gate(out, j, first, test)?;
+    let taken = is_open(first);
     let not_taken = is_equal(alloc, taken, 1, 0)?;
-    set_gate(alloc, out, j, second, not_taken)?;
+    set_gate(out, j, second, not_taken)?;
     Ok(())
 }
 
@@ -52,12 +52,12 @@ fn command(
     match command {
         PlainCmd::Do(act) => {
             let act = copies::act(alloc, act)?;
-            add(alloc, out, j, act)?;
+            add(out, j, act)?;
             Ok(())
         }
         PlainCmd::If { test, yes, no } => {
-            let first = gates.add(alloc)?;
-            let second = gates.add(alloc)?;
+            let first = gates.add()?;
+            let second = gates.add()?;
             choose(alloc, out, j, test, first, second)?;
             commands(alloc, out, gates, seat, group, fell, yes.as_slice(), first)?;
             commands(alloc, out, gates, seat, group, fell, no.as_slice(), second)?;
@@ -69,7 +69,7 @@ fn command(
         }
         PlainCmd::Fall => {
             let one = Calc::Constant { width: 1, value: 1 };
-            set_gate(alloc, out, j, fell, one)?;
+            set_gate(out, j, fell, one)?;
             Ok(())
         }
     }

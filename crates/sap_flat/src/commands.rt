@@ -16,11 +16,10 @@ use sap_net::parts::Name;
 use std::alloc::{AllocError, Global};
 
 /// Whether a gate is 1.
-pub fn is_open(alloc: Global, j: usize) -> Result<Calc, AllocError>
-    ensures { IfOk result (λ c. term_of c ≡ read (gate_name j)) }
+pub fn is_open(j: usize) -> Calc
+    ensures { term_of result ≡ read (gate_name j) }
 {
-    let name = gates::name(alloc, j)?;
-    Ok(Calc::Read(name))
+    Calc::Read(gates::name(j))
 }
 
 /// Whether a number of a width is `n`.
@@ -31,17 +30,16 @@ pub fn is_equal(alloc: Global, a: Calc, width: u32, n: u64) -> Result<Calc, Allo
 }
 
 /// One command more, under the gate `j`.
-pub fn add(alloc: Global, out: &mut Vec<GuardedCmd>, j: usize, act: Act) -> Result<(), AllocError>
+pub fn add(out: &mut Vec<GuardedCmd>, j: usize, act: Act) -> Result<(), AllocError>
     ensures { OnOk result (commands_of out.new.items ≡ commands_of out.old.items ++ under j (action_of act) ∷ []) }
 {
-    let when = is_open(alloc, j)?;
+    let when = is_open(j);
     out.push(GuardedCmd { when, act })?;
     Ok(())
 }
 
 /// Sets the gate `k` under the gate `j`.
 pub fn set_gate(
-    alloc: Global,
     out: &mut Vec<GuardedCmd>,
     j: usize,
     k: usize,
@@ -49,14 +47,13 @@ pub fn set_gate(
 ) -> Result<(), AllocError>
     ensures { OnOk result (commands_of out.new.items ≡ commands_of out.old.items ++ under j (set (gate_name k) (term_of value)) ∷ []) }
 {
-    let name = gates::name(alloc, k)?;
-    add(alloc, out, j, Act::Set(name, value))?;
+    let name = gates::name(k);
+    add(out, j, Act::Set(name, value))?;
     Ok(())
 }
 
 /// Makes child `n` of so many the current one, under the gate `j`.
 pub fn set_seat(
-    alloc: Global,
     out: &mut Vec<GuardedCmd>,
     j: usize,
     seat: Name,
@@ -69,6 +66,6 @@ pub fn set_seat(
         width: seats::width(count),
         value: n as u64,
     };
-    add(alloc, out, j, Act::Set(seat, value))?;
+    add(out, j, Act::Set(seat, value))?;
     Ok(())
 }

@@ -35,7 +35,7 @@ fn all_commands(
 {
     let group = program.states();
     let mut out = Vec::new(alloc);
-    gates.add_all(alloc, group.len())?;
+    gates.add_all(group.len())?;
     let seat = seats::of_root(alloc)?;
     let always = Calc::Constant { width: 1, value: 1 };
     mark(alloc, &mut out, &always, &seat, group, 0)?;

@@ -5,16 +5,15 @@ ghost use Rattle.sap_flat.specs.Gates.{gate_name, gate_wires};
 
 use sap_ir::guarded::Var;
 use sap_net::parts::Name;
-use sap_numbered::numbered;
 use std::alloc::{AllocError, Global};
 use std::marker::Model;
 
 /// The name of the gate of a number.
 #[tactic(auto, using(crate::proofs::GateNames::gate_small))]
-pub fn name(alloc: Global, k: usize) -> Result<Name, AllocError>
-    ensures { IfOk result (λ n. n ≡ gate_name k) }
+pub fn name(k: usize) -> Name
+    ensures { result ≡ gate_name k }
 {
-    numbered(alloc, "g", k as u64)
+    Name::numbered("g", k as u64)
 }
 
 /// The gates so far, numbered from 0, seen as their count.
@@ -51,12 +50,12 @@ impl Gates {
 
     /// One gate more, and its number.
     #[tactic(auto, using(crate::proofs::Makes::gates_push))]
-    pub fn add(&mut self, alloc: Global) -> Result<usize, AllocError>
+    pub fn add(&mut self) -> Result<usize, AllocError>
         ensures number { IfOk result (λ k. k ≡ self.old) }
         ensures more { OnOk result (self.new ≡ self.old + 1) }
     {
         let k = self.wires.len();
-        let name = name(alloc, k)?;
+        let name = name(k);
         self.wires.push(Var {
             name,
             width: 1,
@@ -66,11 +65,11 @@ impl Gates {
     }
 
     /// So many gates more.
-    pub fn add_all(&mut self, alloc: Global, count: usize) -> Result<(), AllocError>
+    pub fn add_all(&mut self, count: usize) -> Result<(), AllocError>
         ensures { OnOk result (self.new ≡ self.old + count) }
     {
         for _ in 0..count {
-            self.add(alloc)?;
+            self.add()?;
         }
         Ok(())
     }

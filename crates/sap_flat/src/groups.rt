@@ -33,7 +33,7 @@ pub fn mark(
         let when = when.copy(alloc)?;
         let current = Calc::Read(seat.copy(alloc)?);
         let value = is_equal(alloc, current, width, i as u64)?;
-        let name = gates::name(alloc, first + i)?;
+        let name = gates::name(first + i);
         out.push(GuardedCmd {
             when,
             act: Act::Set(name, value),
@@ -58,9 +58,9 @@ fn state(
     ensures gates { OnOk result (gates.new ≡ (state_flat seat.now group.now state.now j gates.old).next) }
 {
     let children = state.children.as_slice();
-    let fell = gates.add(alloc)?;
+    let fell = gates.add()?;
     let first = gates.len();
-    gates.add_all(alloc, children.len())?;
+    gates.add_all(children.len())?;
     let _end = gates.len();
     commands(
         alloc,
@@ -72,7 +72,7 @@ fn state(
         state.cmds.as_slice(),
         j,
     )?;
-    let has_fallen = is_open(alloc, fell)?;
+    let has_fallen = is_open(fell);
     let own_seat = seats::of_state(alloc, &state.name)?;
     mark(alloc, out, &has_fallen, &own_seat, children, first)?;
     states(alloc, out, gates, &own_seat, children, first)?;

@@ -26,7 +26,7 @@ fn first_child(
         return Ok(());
     }
     let seat = seats::of_state(alloc, state)?;
-    set_seat(alloc, out, j, seat, children.len(), 0)?;
+    set_seat(out, j, seat, children.len(), 0)?;
     Ok(())
 }
 
@@ -86,7 +86,7 @@ pub fn goto(
 {
     let n = place(group, target);
     let own = seat.copy(alloc)?;
-    set_seat(alloc, out, j, own, group.len(), n)?;
+    set_seat(out, j, own, group.len(), n)?;
     match group.get(n) {
         Some(state) => {
             first_child(alloc, out, j, target, state.children.as_slice())?;

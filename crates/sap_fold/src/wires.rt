@@ -36,11 +36,11 @@ struct Free {
 }
 
 /// The first number from `from` on whose name is not taken. A netlist never has so many names that there is none.
-fn free_name(alloc: Global, taken: &NameSet, from: u64) -> Result<Free, AllocError>
+fn free_name(taken: &NameSet, from: u64) -> Result<Free, AllocError>
     ensures { IfOk result (λ f. IsFree (holds taken.now) from f.number f.name) }
 {
     for number in from..u64::MAX {
-        let name = helper_name(alloc, number)?;
+        let name = helper_name(number);
         if !taken.has(&name) {
             return Ok(Free { number, name });
         }
@@ -159,7 +159,7 @@ impl Wires {
         ensures adds { IfOk result (λ n. Adds (holds taken.now) self.old.list.items self.old.next width right n self.new.list.items self.new.next) }
     {
         let key = key(alloc, width, &right)?;
-        match known(alloc, &self.numbers, &key)? {
+        match known(&self.numbers, &key) {
             Some(name) => Ok(name),
             None => self.push(alloc, taken, key, width, right),
         }
@@ -182,7 +182,7 @@ impl Wires {
         ensures orderly { OnOk result (Orderly self.new.numbers self.new.list.items) }
         ensures adds { IfOk result (λ n. AddsNew (holds taken.now) self.old.list.items self.old.next width right n self.new.list.items self.new.next) }
     {
-        let free = free_name(alloc, taken, self.next)?;
+        let free = free_name(taken, self.next)?;
         let shown = free.name.copy(alloc)?;
         self.list.push(Wire {
             name: free.name,

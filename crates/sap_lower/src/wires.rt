@@ -63,7 +63,7 @@ impl Wires {
         ensures name { IfOk result (λ l. l.name ≡ find (rights self.now) (spec.key width right.now)) }
     {
         let key = key(alloc, width, right)?;
-        let name = known(alloc, &self.numbers, &key)?;
+        let name = known(&self.numbers, &key);
         Ok(Lookup { key, name })
     }
 
@@ -97,7 +97,7 @@ impl Wires {
         ensures part { IfOk result (λ p. p ≡ (shared None self.old width right).part) }
     {
         let number = self.list.len() as u64;
-        let name = helper_name(alloc, number)?;
+        let name = helper_name(number);
         let shown = name.copy(alloc)?;
         self.put(key, number, Wire { name, width, right })?;
         Ok(Part {

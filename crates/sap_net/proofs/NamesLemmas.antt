@@ -1,11 +1,9 @@
 -- On what stands in Names: what several crates cite.
 use Rattle.std.proofs.Common.{Bool, List, None, Some, [], ap, bytes_eq, false, filter, inl, inr, map, refl, subst, sym, true, ℕ, ◌&&◌, ◌++◌, ◌||◌, ◌∙◌, ◌∷◌, ◌≡◌}
 use Rattle.std.specs.List.{AllByRecursion, list_all}
-use Rattle.std.specs.Str.Parse.{AllDigits}
-use Rattle.std.proofs.lemmas.Bool.{and_from, cases_Bool, or_right}
+use Rattle.std.proofs.lemmas.Bool.{cases_Bool, or_right}
 use Rattle.sap_lemmas.proofs.Bools.{and_false, or_true}
-use Rattle.sap_lemmas.proofs.Texts.{bytes_eq_apart_back, bytes_eq_same, digit_of_value, equal_of_bytes_eq}
-use Rattle.sap_text.proofs.NamesLemmas.{digit_inner}
+use Rattle.sap_lemmas.proofs.Texts.{bytes_eq_apart_back, bytes_eq_same, equal_of_bytes_eq}
 use Rattle.sap_maps.specs.Maps.{Name}
 use Rattle.sap_maps.specs.Scope.{find}
 use Rattle.sap_net.specs.Names.{AreDistinct, is_among, is_inner, is_name}
@@ -106,7 +104,3 @@ found_among name of (y ∷ ys) n x h =
 pub wire_name : (ds : List ℕ) → list_all is_inner ds ≡ true → is_name (110 ∷ ds) ≡ true
 unfolding is_name
 wire_name ds h = rw h refl
-
-pub numeral_inner : (ds : List ℕ) → AllDigits 10 ds → list_all is_inner ds ≡ true
-numeral_inner [] a = refl
-numeral_inner (d ∷ ds) a = and_from (is_inner d) (list_all is_inner ds) (digit_inner d (digit_of_value d a.0)) (numeral_inner ds a.1)

@@ -5,7 +5,8 @@ use Rattle.std.specs.Str.{bytes_eq}
 use Rattle.std.proofs.lemmas.Fmt.{decimal_is_IsNumeral, decimal_injective}
 use Rattle.std.proofs.lemmas.Bool.{cases_Bool}
 use Rattle.sap_lemmas.proofs.Texts.{equal_of_bytes_eq}
-use Rattle.sap_net.proofs.NamesLemmas.{numeral_inner, wire_name}
+use Rattle.sap_text.proofs.NamesLemmas.{numeral_inner}
+use Rattle.sap_net.proofs.NamesLemmas.{wire_name}
 use Rattle.sap_net.specs.Names.{is_name}
 use Rattle.sap_share.specs.Names.{helper}
 

@@ -40,8 +40,8 @@ fn inside(alloc: Global, setting: &Setting<'_>, p: u32, own: u32) -> Result<Calc
     ensures { let d = setting_in setting.now in
         IfOk result (λ c. term_of c ≡ levels.lub (levels.var d (wire_key p)) (levels.var d (wire_key own))) }
 {
-    let context = wire_variable(alloc, setting, p)?;
-    let own = wire_variable(alloc, setting, own)?;
+    let context = wire_variable(setting, p);
+    let own = wire_variable(setting, own);
     lub(alloc, context, own)
 }
 
@@ -59,9 +59,9 @@ fn set_test(
     ensures { let d = setting_in setting.now in
         OnOk result (body_of out.new.items ≡ follow (body_of out.old.items) (spec.gives d (wire_key wire) (levels.test_of d (home_in setting.now at.now) (levels.var d (wire_key p)) (views.step_of (entities_in setting.now) step.now)) stop)) }
 {
-    let context = wire_variable(alloc, setting, p)?;
+    let context = wire_variable(setting, p);
     let test = test_of(alloc, setting, at, &context, step)?;
-    set_wire(alloc, setting, out, wire, test)
+    set_wire(setting, out, wire, test)
 }
 
 /// A wire gets the guard of a step.
@@ -78,7 +78,7 @@ fn set_guard(
         OnOk result (body_of out.new.items ≡ follow (body_of out.old.items) (spec.gives d (wire_key wire) (levels.guard_of d (home_in setting.now at.now) (views.step_of (entities_in setting.now) step.now)) stop)) }
 {
     let guard = guard_of(alloc, setting, at, step)?;
-    set_wire(alloc, setting, out, wire, guard)
+    set_wire(setting, out, wire, guard)
 }
 
 /// A wire gets the context inside another, which is in the wire `p`.
@@ -94,7 +94,7 @@ fn set_inside(
         OnOk result (body_of out.new.items ≡ follow (body_of out.old.items) (spec.gives d (wire_key wire) (levels.lub (levels.var d (wire_key p)) (levels.var d (wire_key own))) stop)) }
 {
     let inner = inside(alloc, setting, p, own)?;
-    set_wire(alloc, setting, out, wire, inner)
+    set_wire(setting, out, wire, inner)
 }
 
 /// A wire gets the level that a step writes in the context of the wire `p`.
@@ -110,9 +110,9 @@ fn set_written(
     ensures { let d = setting_in setting.now in
         OnOk result (body_of out.new.items ≡ follow (body_of out.old.items) (spec.gives d (wire_key wire) (levels.written d (levels.var d (wire_key p)) (views.step_of (entities_in setting.now) step.now)) stop)) }
 {
-    let context = wire_variable(alloc, setting, p)?;
+    let context = wire_variable(setting, p);
     let level = written(alloc, setting, &context, step)?;
-    set_wire(alloc, setting, out, wire, level)
+    set_wire(setting, out, wire, level)
 }
 
 /// A wire tells whether the number stays.
@@ -128,7 +128,7 @@ fn set_stays(
         OnOk result (body_of out.new.items ≡ follow (body_of out.old.items) (spec.gives d (wire_key wire) (levels.stays d (views.step_of (entities_in setting.now) step.now)) stop)) }
 {
     let stays = stays(alloc, setting, step)?;
-    set_wire(alloc, setting, out, wire, stays)
+    set_wire(setting, out, wire, stays)
 }
 
 /// What a step in the context of the wire `p` looks at goes into the wires from `k` on.
@@ -191,7 +191,6 @@ fn site(step: &Step) -> u32
 /// Sets what tells of a refusal.
 #[tactic(auto, using(sap_tags_effects::proofs::Pushed::behind))]
 fn refuse(
-    alloc: Global,
     setting: &Setting<'_>,
     out: &mut Vec<PlainCmd>,
     k: u32,
@@ -201,10 +200,10 @@ fn refuse(
     ensures { OnOk result (body_of out.new.items ≡ follow (body_of out.old.items) (spec.refusal (setting_in setting.now) k (views.step_of (entities_in setting.now) step.now) stop)) }
 {
     let site = site(step);
-    let refused = refused_name(alloc, setting, site)?;
+    let refused = refused_name(setting, site);
     push(out, Act::Set(refused, yes()))?;
-    let level = refused_level_name(alloc, setting, site)?;
-    let context = wire_variable(alloc, setting, k + 2)?;
+    let level = refused_level_name(setting, site);
+    let context = wire_variable(setting, k + 2);
     push(out, Act::Set(level, context))
 }
 
@@ -231,7 +230,7 @@ fn decide(
         let mut passed = Vec::new(alloc);
         effect(alloc, setting, at, &mut passed, k, step)?;
         passed.append(&mut accepted)?;
-        let test = wire_variable(alloc, setting, k)?;
+        let test = wire_variable(setting, k);
         out.push(PlainCmd::If {
             test,
             yes: passed,
@@ -261,7 +260,7 @@ fn attempt(
     look(alloc, setting, at, out, p, k, step)?;
     raise_alone(alloc, setting, at, out, k + 1, step)?;
     let mut refused = Vec::new(alloc);
-    refuse(alloc, setting, &mut refused, k, step)?;
+    refuse(setting, &mut refused, k, step)?;
     let accepted = Vec::new(alloc);
     decide(alloc, setting, at, out, k, step, accepted, refused)
 }
@@ -282,7 +281,7 @@ fn choose(
         OnOk result (body_of out.new.items ≡ follow (body_of out.old.items) (spec.gives d (wire_key k) (levels.tag_of d (views.term_of condition.now)) (spec.gives d (wire_key (k + 1)) (levels.lub (levels.var d (wire_key p)) (levels.var d (wire_key k))) stop))) }
 {
     let level = tag_of(alloc, setting, condition)?;
-    set_wire(alloc, setting, out, k, level)?;
+    set_wire(setting, out, k, level)?;
     set_inside(alloc, setting, out, p, k, k + 1)
 }
 
@@ -326,7 +325,7 @@ fn choose_arm(
 {
     choose(alloc, setting, out, p, k, number)?;
     let value = expr(alloc, setting, number)?;
-    set_wire(alloc, setting, out, k + 2, value)?;
+    set_wire(setting, out, k + 2, value)?;
     raise_all(alloc, setting, out, hang.numbers(), k)
 }
 
@@ -381,7 +380,7 @@ fn command(
             *next = k + 5;
             begin(alloc, setting, at, out, p, k, hang, step)?;
             let mut refused = Vec::new(alloc);
-            refuse(alloc, setting, &mut refused, k, step)?;
+            refuse(setting, &mut refused, k, step)?;
             let handler = handler.as_slice();
             commands(alloc, setting, at, &mut refused, k + 2, next, handler)?;
             let accepted = Vec::new(alloc);
@@ -413,7 +412,7 @@ fn command(
             let accepted = accepted.as_slice();
             commands(alloc, setting, at, &mut passed, k + 2, next, accepted)?;
             let mut failed = Vec::new(alloc);
-            refuse(alloc, setting, &mut failed, k, step)?;
+            refuse(setting, &mut failed, k, step)?;
             let refused = refused.as_slice();
             commands(alloc, setting, at, &mut failed, k + 2, next, refused)?;
             decide(alloc, setting, at, out, k, step, passed, failed)

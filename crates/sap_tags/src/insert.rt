@@ -62,7 +62,7 @@ fn add_shown(
     ensures ports { IfOk result (λ ports. ports.items ≡ variable_names registers.new.items ++ variable_names wires.new.items) }
 {
     add_shown_registers(alloc, setting, registers)?;
-    add_site_wires(alloc, setting, wires)?;
+    add_site_wires(setting, wires)?;
     let mut ports = Vec::new(alloc);
     add_names(alloc, &mut ports, registers.as_slice())?;
     add_names(alloc, &mut ports, wires.as_slice())?;
@@ -94,8 +94,8 @@ fn add_own_wires(
         let tag = tag_width setting.now in
         OnOk result (wires.new.items ≡ wires.old.items ++ (first_wires d tag ++ (inner_wires d tag ++ group_wires d tag 0 (group_of (entities_in setting.now) setting.now.program.now.states.items)))) }
 {
-    add_first_wires(alloc, setting, wires)?;
-    add_inner_wires(alloc, setting, wires)?;
+    add_first_wires(setting, wires)?;
+    add_inner_wires(setting, wires)?;
     add_state_wires(alloc, setting, wires)
 }
 

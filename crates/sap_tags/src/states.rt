@@ -48,8 +48,8 @@ fn state(
         children,
     };
     let mut cmds = Vec::new(alloc);
-    let context = inner_variable(alloc, setting, parent)?;
-    set_wire(alloc, setting, &mut cmds, own, context)?;
+    let context = inner_variable(setting, parent);
+    set_wire(setting, &mut cmds, own, context)?;
     commands(alloc, setting, &at, &mut cmds, own, next, body)?;
     let children = states(alloc, setting, state.number, next, children)?;
     let name = state_name(alloc, setting, state.number)?;
@@ -108,7 +108,7 @@ fn top_state(
     let mut cmds = Vec::new(alloc);
     save_all(alloc, setting, &mut cmds)?;
     let level = tag_variable(alloc, setting, state.number)?;
-    set_wire(alloc, setting, &mut cmds, own, level)?;
+    set_wire(setting, &mut cmds, own, level)?;
     raise_all(
         alloc,
         setting,

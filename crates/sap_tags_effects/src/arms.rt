@@ -36,15 +36,15 @@ fn pick_arm(
     ensures { OnOk result (body_of out.new.items ≡ follow (body_of out.old.items) (spec.picks_arm (setting_in setting.now) number.now.width number.now.wire pick.now.width pick.now.wire block constants.now stop)) }
 {
     for constant in constants {
-        let seen = wire_variable(alloc, setting, number.wire)?;
+        let seen = wire_variable(setting, number.wire);
         let test = is_number(alloc, &seen, number.width, *constant)?;
         let this = Calc::Constant {
             width: pick.width,
             value: block,
         };
-        let before = wire_variable(alloc, setting, pick.wire)?;
+        let before = wire_variable(setting, pick.wire);
         let value = Calc::choose(alloc, test, this, before)?;
-        set_wire(alloc, setting, out, pick.wire, value)?;
+        set_wire(setting, out, pick.wire, value)?;
     }
     Ok(())
 }
@@ -65,7 +65,7 @@ pub fn pick(
         width: pick.width,
         value: arms.len() as u64,
     };
-    set_wire(alloc, setting, out, pick.wire, last)?;
+    set_wire(setting, out, pick.wire, last)?;
     for block in (0..arms.len()).rev() {
         let constants = arms[block].constants.as_slice();
         pick_arm(alloc, setting, out, number, pick, block as u64, constants)?;
@@ -101,7 +101,7 @@ pub fn decide_block(
     decide_block(alloc, setting, &mut yes, wire, bits - 1, upper)?;
     let mut no = Vec::new(alloc);
     decide_block(alloc, setting, &mut no, wire, bits - 1, blocks)?;
-    let number = wire_variable(alloc, setting, wire)?;
+    let number = wire_variable(setting, wire);
     let test = Calc::slice(alloc, number, bits - 1, bits - 1)?;
     out.push(PlainCmd::If { test, yes, no })?;
     Ok(())

@@ -46,7 +46,7 @@ fn kept(
 ) -> Result<Calc, AllocError>
     ensures { IfOk result (λ c. term_of c ≡ term.choose (levels.var (setting_in setting.now) (wire_key wire)) (term_of now) (term.constant (program.width (world_in setting.now) x) 0)) }
 {
-    let stays = wire_variable(alloc, setting, wire)?;
+    let stays = wire_variable(setting, wire);
     Calc::choose(alloc, stays, now, zero(setting, x))
 }
 
@@ -77,7 +77,7 @@ fn follow_wire(
         OnOk result (body_of out.new.items ≡ follow (body_of out.old.items) (if program.is_dynamic d.world x then spec.gives d (tag_key x) (levels.var d (wire_key wire)) stop else stop)) }
 {
     if setting.program.is_dynamic(x) {
-        let level = wire_variable(alloc, setting, wire)?;
+        let level = wire_variable(setting, wire);
         set_tag(alloc, setting, out, x, level)
     } else {
         Ok(())
@@ -98,7 +98,7 @@ fn join_wire(
 {
     if setting.program.is_dynamic(x) {
         let own = tag_variable(alloc, setting, x)?;
-        let level = wire_variable(alloc, setting, wire)?;
+        let level = wire_variable(setting, wire);
         let joined = lub(alloc, own, level)?;
         set_tag(alloc, setting, out, x, joined)
     } else {
@@ -200,13 +200,13 @@ pub fn effect(
             join_wire(alloc, setting, out, *memory, k + 3)
         }
         Step::Retag { entity, .. } => {
-            let level = wire_variable(alloc, setting, k + 3)?;
+            let level = wire_variable(setting, k + 3);
             set_tag(alloc, setting, out, *entity, level)?;
             keep_register(alloc, setting, out, *entity, k + 4)
         }
         Step::RetagCell { memory, index, .. } => {
             let place = expr(alloc, setting, index)?;
-            let level = wire_variable(alloc, setting, k + 3)?;
+            let level = wire_variable(setting, k + 3);
             put_tag(alloc, setting, out, *memory, place, level)?;
             keep_cell(alloc, setting, out, *memory, index, k + 4)
         }
@@ -216,8 +216,8 @@ pub fn effect(
             go(alloc, setting, out, *target)
         }
         Step::Fall { .. } => {
-            let context = wire_variable(alloc, setting, k + 2)?;
-            set_inner(alloc, setting, out, at.state, context)?;
+            let context = wire_variable(setting, k + 2);
+            set_inner(setting, out, at.state, context)?;
             out.push(PlainCmd::Fall)?;
             Ok(())
         }

@@ -26,7 +26,6 @@ pub fn push(out: &mut Vec<PlainCmd>, action: Act) -> Result<(), AllocError>
 
 /// Sets a wire.
 pub fn set_wire(
-    alloc: Global,
     setting: &Setting<'_>,
     out: &mut Vec<PlainCmd>,
     wire: u32,
@@ -34,13 +33,12 @@ pub fn set_wire(
 ) -> Result<(), AllocError>
     ensures { OnOk result (body_of out.new.items ≡ follow (body_of out.old.items) (gives (setting_in setting.now) (wire_key wire) (term_of value) stop)) }
 {
-    let name = wire_name(alloc, setting, wire)?;
+    let name = wire_name(setting, wire);
     push(out, Act::Set(name, value))
 }
 
 /// Leaves a context to the children of a state.
 pub(crate) fn set_inner(
-    alloc: Global,
     setting: &Setting<'_>,
     out: &mut Vec<PlainCmd>,
     state: usize,
@@ -48,7 +46,7 @@ pub(crate) fn set_inner(
 ) -> Result<(), AllocError>
     ensures { OnOk result (body_of out.new.items ≡ follow (body_of out.old.items) (gives (setting_in setting.now) (inner_key state) (term_of context) stop)) }
 {
-    let name = inner_name(alloc, setting, state)?;
+    let name = inner_name(setting, state);
     push(out, Act::Set(name, context))
 }
 
@@ -125,21 +123,17 @@ pub(crate) fn put_tag(
 }
 
 /// The number in a wire.
-pub fn wire_variable(alloc: Global, setting: &Setting<'_>, wire: u32) -> Result<Calc, AllocError>
-    ensures { IfOk result (λ c. term_of c ≡ var (setting_in setting.now) (wire_key wire)) }
+pub fn wire_variable(setting: &Setting<'_>, wire: u32) -> Calc
+    ensures { term_of result ≡ var (setting_in setting.now) (wire_key wire) }
 {
-    Ok(Calc::Read(wire_name(alloc, setting, wire)?))
+    Calc::Read(wire_name(setting, wire))
 }
 
 /// The context of the children of a state.
-pub fn inner_variable(
-    alloc: Global,
-    setting: &Setting<'_>,
-    state: usize,
-) -> Result<Calc, AllocError>
-    ensures { IfOk result (λ c. term_of c ≡ var (setting_in setting.now) (inner_key state)) }
+pub fn inner_variable(setting: &Setting<'_>, state: usize) -> Calc
+    ensures { term_of result ≡ var (setting_in setting.now) (inner_key state) }
 {
-    Ok(Calc::Read(inner_name(alloc, setting, state)?))
+    Calc::Read(inner_name(setting, state))
 }
 
 /// The number of a register.

@@ -36,7 +36,7 @@ fn raise(
         OnOk result (body_of out.new.items ≡ follow (body_of out.old.items) (spec.gives d (tag_key x) (levels.lub (levels.var d (tag_key x)) (levels.var d (wire_key wire))) stop)) }
 {
     let own = tag_variable(alloc, setting, x)?;
-    let level = wire_variable(alloc, setting, wire)?;
+    let level = wire_variable(setting, wire);
     let joined = lub(alloc, own, level)?;
     set_tag(alloc, setting, out, x, joined)
 }
@@ -168,7 +168,7 @@ fn save(
         OnOk result (body_of out.new.items ≡ follow (body_of out.old.items) (if states.saved d.world x then spec.gives d (first_key x) (levels.var d (tag_key x)) stop else stop)) }
 {
     if is_saved(setting, x) {
-        let name = first_name(alloc, setting, x)?;
+        let name = first_name(setting, x);
         let tag = tag_variable(alloc, setting, x)?;
         push(out, Act::Set(name, tag))
     } else {

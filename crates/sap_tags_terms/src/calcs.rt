@@ -198,7 +198,7 @@ fn cell_tag(
     ensures { IfOk result (λ c. calcs.term_of c ≡ spec.cell_tag (setting_in setting.now) memory (views.term_of index.now)) }
 {
     if setting.program.is_dynamic(memory) {
-        Ok(Calc::Read(first_name(alloc, setting, memory)?))
+        Ok(Calc::Read(first_name(setting, memory)))
     } else {
         cell_variable(alloc, setting, memory, index)
     }

@@ -21,12 +21,12 @@ fn prefixed(alloc: Global, front: &str, name: &str) -> Result<Name, AllocError>
 
 /// A prefix and a number.
 #[tactic(auto, using(crate::proofs::Words::words))]
-fn numbered(alloc: Global, front: &str, k: u64) -> Result<Name, AllocError>
+fn numbered(front: &str, k: u64) -> Name
     requires inner { list_all is_inner front.now ≡ true }
     requires short { length front.now ≤ 2 }
-    ensures { IfOk result (λ n. n ≡ front.now ++ numeral k) }
+    ensures { result ≡ front.now ++ numeral k }
 {
-    sap_numbered::numbered(alloc, front, k)
+    Name::numbered(front, k)
 }
 
 /// A prefix and the name of an entity, or its number past the last.
@@ -43,7 +43,7 @@ fn entity_name(
 {
     match setting.program.entities.get(x) {
         Some(entity) => prefixed(alloc, front, entity.name.as_str()),
-        None => numbered(alloc, front, x as u64),
+        None => Ok(numbered(front, x as u64)),
     }
 }
 
@@ -81,40 +81,36 @@ pub fn seat_name(alloc: Global, setting: &Setting<'_>, x: usize) -> Result<Name,
 }
 
 /// Whether a site is refused.
-pub fn refused_name(alloc: Global, setting: &Setting<'_>, site: u32) -> Result<Name, AllocError>
-    ensures { IfOk result (λ n. n ≡ key_name (named_in setting.now) (refused_key site)) }
+pub fn refused_name(setting: &Setting<'_>, site: u32) -> Name
+    ensures { result ≡ key_name (named_in setting.now) (refused_key site) }
 {
-    numbered(alloc, "c_", u64::from(site))
+    numbered("c_", u64::from(site))
 }
 
 /// At which level a site is refused.
-pub fn refused_level_name(
-    alloc: Global,
-    setting: &Setting<'_>,
-    site: u32,
-) -> Result<Name, AllocError>
-    ensures { IfOk result (λ n. n ≡ key_name (named_in setting.now) (level_key site)) }
+pub fn refused_level_name(setting: &Setting<'_>, site: u32) -> Name
+    ensures { result ≡ key_name (named_in setting.now) (level_key site) }
 {
-    numbered(alloc, "l_", u64::from(site))
+    numbered("l_", u64::from(site))
 }
 
 /// A wire of the program's own.
-pub fn wire_name(alloc: Global, setting: &Setting<'_>, wire: u32) -> Result<Name, AllocError>
-    ensures { IfOk result (λ n. n ≡ key_name (named_in setting.now) (wire_key wire)) }
+pub fn wire_name(setting: &Setting<'_>, wire: u32) -> Name
+    ensures { result ≡ key_name (named_in setting.now) (wire_key wire) }
 {
-    numbered(alloc, "h", u64::from(wire))
+    numbered("h", u64::from(wire))
 }
 
 /// The tag of a dynamic memory as the cycle began.
-pub fn first_name(alloc: Global, setting: &Setting<'_>, x: usize) -> Result<Name, AllocError>
-    ensures { IfOk result (λ n. n ≡ key_name (named_in setting.now) (first_key x)) }
+pub fn first_name(setting: &Setting<'_>, x: usize) -> Name
+    ensures { result ≡ key_name (named_in setting.now) (first_key x) }
 {
-    numbered(alloc, "b", x as u64)
+    numbered("b", x as u64)
 }
 
 /// The context of the children of a state.
-pub fn inner_name(alloc: Global, setting: &Setting<'_>, x: usize) -> Result<Name, AllocError>
-    ensures { IfOk result (λ n. n ≡ key_name (named_in setting.now) (inner_key x)) }
+pub fn inner_name(setting: &Setting<'_>, x: usize) -> Name
+    ensures { result ≡ key_name (named_in setting.now) (inner_key x) }
 {
-    numbered(alloc, "u", x as u64)
+    numbered("u", x as u64)
 }

@@ -21,20 +21,19 @@ use std::alloc::{AllocError, Global};
 
 /// Whether a site is refused, and at which level.
 fn add_site(
-    alloc: Global,
     setting: &Setting<'_>,
     wires: &mut Vec<Var>,
     site: u32,
 ) -> Result<(), AllocError>
     ensures { OnOk result (wires.new.items ≡ wires.old.items ++ plain.site_wires (named_in setting.now) (tag_width setting.now) site 1) }
 {
-    let name = refused_name(alloc, setting, site)?;
+    let name = refused_name(setting, site);
     wires.push(Var {
         name,
         width: 1,
         start: 0,
     })?;
-    let name = refused_level_name(alloc, setting, site)?;
+    let name = refused_level_name(setting, site);
     let width = setting.lattice.width();
     wires.push(Var {
         name,
@@ -46,28 +45,26 @@ fn add_site(
 
 /// Two wires for each check site: these are ports.
 pub fn add_site_wires(
-    alloc: Global,
     setting: &Setting<'_>,
     wires: &mut Vec<Var>,
 ) -> Result<(), AllocError>
     ensures { OnOk result (wires.new.items ≡ wires.old.items ++ plain.site_wires (named_in setting.now) (tag_width setting.now) 1 setting.now.program.now.sites) }
 {
     for before in 0..setting.program.sites {
-        add_site(alloc, setting, wires, before + 1)?;
+        add_site(setting, wires, before + 1)?;
     }
     Ok(())
 }
 
 /// The tag of a memory as the cycle began.
 fn add_first(
-    alloc: Global,
     setting: &Setting<'_>,
     wires: &mut Vec<Var>,
     m: usize,
 ) -> Result<(), AllocError>
     ensures { OnOk result (wires.new.items ≡ wires.old.items ++ plain.variable (keys.key_name (named_in setting.now) (keys.first_key m)) (tag_width setting.now) 0 ∷ []) }
 {
-    let name = first_name(alloc, setting, m)?;
+    let name = first_name(setting, m);
     let width = setting.lattice.width();
     wires.push(Var {
         name,
@@ -79,7 +76,6 @@ fn add_first(
 
 /// The tags of dynamic memories as the cycle began.
 pub fn add_first_wires(
-    alloc: Global,
     setting: &Setting<'_>,
     wires: &mut Vec<Var>,
 ) -> Result<(), AllocError>
@@ -87,7 +83,7 @@ pub fn add_first_wires(
 {
     for m in 0..setting.program.entities.len() {
         if is_saved(setting, m) {
-            add_first(alloc, setting, wires, m)?;
+            add_first(setting, wires, m)?;
         }
     }
     Ok(())
@@ -95,14 +91,13 @@ pub fn add_first_wires(
 
 /// The context of the children of a state.
 fn add_inner(
-    alloc: Global,
     setting: &Setting<'_>,
     wires: &mut Vec<Var>,
     state: usize,
 ) -> Result<(), AllocError>
     ensures { OnOk result (wires.new.items ≡ wires.old.items ++ plain.variable (keys.key_name (named_in setting.now) (keys.inner_key state)) (tag_width setting.now) 0 ∷ []) }
 {
-    let name = inner_name(alloc, setting, state)?;
+    let name = inner_name(setting, state);
     let width = setting.lattice.width();
     wires.push(Var {
         name,
@@ -114,7 +109,6 @@ fn add_inner(
 
 /// The contexts of the children of all states that have children.
 pub fn add_inner_wires(
-    alloc: Global,
     setting: &Setting<'_>,
     wires: &mut Vec<Var>,
 ) -> Result<(), AllocError>
@@ -122,7 +116,7 @@ pub fn add_inner_wires(
 {
     for state in 0..setting.program.entities.len() {
         if setting.program.child_count(state) > 0 {
-            add_inner(alloc, setting, wires, state)?;
+            add_inner(setting, wires, state)?;
         }
     }
     Ok(())
@@ -130,7 +124,6 @@ pub fn add_inner_wires(
 
 /// A wire of the program's own.
 fn add_wire(
-    alloc: Global,
     setting: &Setting<'_>,
     wires: &mut Vec<Var>,
     k: u32,
@@ -138,7 +131,7 @@ fn add_wire(
 ) -> Result<(), AllocError>
     ensures { OnOk result (wires.new.items ≡ wires.old.items ++ plain.wire (named_in setting.now) k width ∷ []) }
 {
-    let name = wire_name(alloc, setting, k)?;
+    let name = wire_name(setting, k);
     wires.push(Var {
         name,
         width,
@@ -149,7 +142,6 @@ fn add_wire(
 
 /// A step's wires, from wire k on, and the number of the next wire.
 fn add_step(
-    alloc: Global,
     setting: &Setting<'_>,
     wires: &mut Vec<Var>,
     k: u32,
@@ -159,11 +151,11 @@ fn add_step(
     ensures next { IfOk result (λ next. next ≡ k + 5) }
 {
     let tag = setting.lattice.width();
-    add_wire(alloc, setting, wires, k, 1)?;
-    add_wire(alloc, setting, wires, k + 1, tag)?;
-    add_wire(alloc, setting, wires, k + 2, tag)?;
-    add_wire(alloc, setting, wires, k + 3, tag)?;
-    add_wire(alloc, setting, wires, k + 4, 1)?;
+    add_wire(setting, wires, k, 1)?;
+    add_wire(setting, wires, k + 1, tag)?;
+    add_wire(setting, wires, k + 2, tag)?;
+    add_wire(setting, wires, k + 3, tag)?;
+    add_wire(setting, wires, k + 4, 1)?;
     Ok(k + 5)
 }
 
@@ -184,15 +176,15 @@ fn add_command(
     ensures next { IfOk result (λ next. next ≡ k + commands.wires (command_of (entities_in setting.now) command.now)) }
 {
     match command {
-        Command::Do(_) => add_step(alloc, setting, wires, k),
+        Command::Do(_) => add_step(setting, wires, k),
         Command::Try { handler, .. } => {
-            let next = add_step(alloc, setting, wires, k)?;
+            let next = add_step(setting, wires, k)?;
             add_block(alloc, setting, wires, next, handler.as_slice())
         }
         Command::If { yes, no, .. } => {
             let tag = setting.lattice.width();
-            add_wire(alloc, setting, wires, k, tag)?;
-            add_wire(alloc, setting, wires, k + 1, tag)?;
+            add_wire(setting, wires, k, tag)?;
+            add_wire(setting, wires, k + 1, tag)?;
             let next = add_block(alloc, setting, wires, k + 2, yes.as_slice())?;
             add_block(alloc, setting, wires, next, no.as_slice())
         }
@@ -201,7 +193,7 @@ fn add_command(
             refused,
             ..
         } => {
-            let next = add_step(alloc, setting, wires, k)?;
+            let next = add_step(setting, wires, k)?;
             let next = add_block(alloc, setting, wires, next, accepted.as_slice())?;
             add_block(alloc, setting, wires, next, refused.as_slice())
         }
@@ -212,12 +204,12 @@ fn add_command(
             ..
         } => {
             let tag = setting.lattice.width();
-            add_wire(alloc, setting, wires, k, tag)?;
-            add_wire(alloc, setting, wires, k + 1, tag)?;
+            add_wire(setting, wires, k, tag)?;
+            add_wire(setting, wires, k + 1, tag)?;
             let width = width_of(setting, number);
-            add_wire(alloc, setting, wires, k + 2, width)?;
+            add_wire(setting, wires, k + 2, width)?;
             let width = seats::width(arms.len() + 1);
-            add_wire(alloc, setting, wires, k + 3, width)?;
+            add_wire(setting, wires, k + 3, width)?;
             let next = add_arms(alloc, setting, wires, k + 4, arms.as_slice())?;
             add_block(alloc, setting, wires, next, last.as_slice())
         }
@@ -286,7 +278,7 @@ fn add_state(
     ensures wires { OnOk result (wires.new.items ≡ wires.old.items ++ plain.state_wires (named_in setting.now) (tag_width setting.now) k (state_of (entities_in setting.now) state.now)) }
     ensures next { IfOk result (λ next. next ≡ k + states.wires_state (state_of (entities_in setting.now) state.now)) }
 {
-    add_wire(alloc, setting, wires, k, setting.lattice.width())?;
+    add_wire(setting, wires, k, setting.lattice.width())?;
     let next = add_block(alloc, setting, wires, k + 1, state.body.as_slice())?;
     add_group(alloc, setting, wires, next, state.children.as_slice())
 }

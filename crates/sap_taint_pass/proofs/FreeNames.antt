@@ -13,7 +13,8 @@ use Rattle.sap_maps.specs.Maps.{Name}
 use Rattle.sap_net.specs.Net.{Net}
 use Rattle.sap_net.specs.Names.{is_name, is_among, helper}
 use Rattle.sap_net.specs.IsNetlist.{IsNetlist}
-use Rattle.sap_net.proofs.NamesLemmas.{numeral_inner, wire_name}
+use Rattle.sap_text.proofs.NamesLemmas.{numeral_inner}
+use Rattle.sap_net.proofs.NamesLemmas.{wire_name}
 use Rattle.sap_taint_pass.specs.Helping.{taken_names, numbered, free_from, free_number, helping_name, AreHelping, IsSmall}
 
 -- one name a number

@@ -4,9 +4,11 @@ use Rattle.std.specs.Char.{is_ascii_digit}
 use Rattle.std.specs.List.{list_all}
 use Rattle.std.specs.Prelude.{◌<◌, slice_index, zero, suc}
 use Rattle.std.specs.Str.{IsUtf8}
+use Rattle.std.specs.Str.Parse.{AllDigits}
 use Rattle.std.proofs.lemmas.Str.{IsUtf8-from_ascii}
 use Rattle.std.proofs.lemmas.Bool.{and_from, and_parts}
 use Rattle.std.proofs.lemmas.Bool.Decides.{nat_tests}
+use Rattle.sap_lemmas.proofs.Texts.{digit_of_value}
 use Rattle.sap_text.specs.Names.{is_initial, is_inner, is_word}
 
 pub digit_inner : (c : ℕ) → is_ascii_digit c ≡ true → is_inner c ≡ true
@@ -20,6 +22,11 @@ digits_inner [] h = refl
 digits_inner (d ∷ ds) h =
     let p = and_parts (is_ascii_digit d) (list_all is_ascii_digit ds) h in
     and_from (is_inner d) (list_all is_inner ds) (digit_inner d p.0) (digits_inner ds p.1)
+
+-- digits, by their values
+pub numeral_inner : (ds : List ℕ) → AllDigits 10 ds → list_all is_inner ds ≡ true
+numeral_inner [] a = refl
+numeral_inner (d ∷ ds) a = and_from (is_inner d) (list_all is_inner ds) (digit_inner d (digit_of_value d a.0)) (numeral_inner ds a.1)
 
 pub word_inner : (cs : List ℕ) → is_word cs ≡ true → list_all is_inner cs ≡ true
 word_inner [] h = refl

@@ -1,10 +1,16 @@
 -- On texts that stand in a name.
-use Rattle.std.proofs.Common.{List, arith, true, ℕ, ◌≡◌, ◌++◌}
+use Rattle.std.proofs.Common.{List, [], arith, refl, true, ℕ, ◌≡◌, ◌+◌, ◌^◌, ◌<◌, ◌++◌, ◌∷◌}
+use Rattle.std.specs.Fmt.{decimal}
+use Rattle.std.specs.List.{list_all}
 use Rattle.std.specs.Prelude.{◌≤◌, length, take}
 use Rattle.std.specs.Str.{IsUtf8, is_utf8}
-use Rattle.std.proofs.lemmas.List.{length-append}
+use Rattle.std.proofs.Math.Seq.{take-append-add, take-append_seam}
+use Rattle.std.proofs.lemmas.Bool.{and_from, and_parts}
+use Rattle.std.proofs.lemmas.Fmt.{decimal_is_IsNumeral}
+use Rattle.std.proofs.lemmas.List.{length-append, length-take}
 use Rattle.std.proofs.lemmas.Str.{is_utf8-from_IsUtf8}
-use Rattle.std.proofs.Math.Seq.{take-append_seam}
+use Rattle.sap_text.specs.Names.{is_inner}
+use Rattle.sap_text.proofs.NamesLemmas.{inner_text, numeral_inner}
 
 -- a text in front of the room that is left
 pub text_in_front : (text front rest : List ℕ) → front ≡ text → IsUtf8 text
@@ -13,3 +19,23 @@ text_in_front text front rest e h = rw e (
   omega (arith, length-append text rest),
   rw (take-append_seam text rest) (is_utf8-from_IsUtf8 text h),
 )
+
+-- letters and a number, one behind the other in a row of bytes
+pub in_row : (front back digits first second room rest : List ℕ) → first ≡ front → second ≡ back → back ≡ digits
+    → take (length front + length back) (take (length front) (first ++ room) ++ (second ++ rest)) ≡ front ++ digits
+in_row front back digits first second room rest a b d =
+    rw (a, b, take-append_seam front room, take-append-add front (back ++ rest) (length back), take-append_seam back rest, d) refl
+
+-- they are letters and digits
+pub all_inner : (front : List ℕ) (k : ℕ) → k < 2 ^ 64 → list_all is_inner front ≡ true → list_all is_inner (front ++ decimal k) ≡ true
+all_inner [] k small h = numeral_inner (decimal k) (decimal_is_IsNumeral k small).0.1
+all_inner (x ∷ xs) k small h =
+    let p = and_parts (is_inner x) (list_all is_inner xs) h in
+    and_from (is_inner x) (list_all is_inner (xs ++ decimal k)) p.0 (all_inner xs k small p.1)
+
+-- a row that starts with letters, digits and `_`
+pub row_is_text : (len : ℕ) (row text : List ℕ) → take len row ≡ text → list_all is_inner text ≡ true → length text ≡ len
+    → (len ≤ length row) × (is_utf8 (take len row) ≡ true)
+row_is_text len row text e h l =
+    let whole : length (take len row) ≡ length text = rw e refl in
+    (omega (arith, whole, l, length-take len row), rw e (is_utf8-from_IsUtf8 text (inner_text text h)))

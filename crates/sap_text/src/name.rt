@@ -1,16 +1,21 @@
 //! Names.
 
-ghost use Rattle.std.specs.Prelude.{◌≡◌, ◌≤◌, true, IfOk, IsUtf8, length, string_bytes};
+ghost use Rattle.std.specs.Prelude.{◌≡◌, ◌≤◌, ◌++◌, true, IfOk, IsUtf8, length, string_bytes};
+ghost use Rattle.std.specs.Fmt.{decimal};
 ghost use Rattle.std.specs.List.{list_all};
 ghost use Rattle.std.specs.Str.{bytes_eq};
 ghost use Rattle.sap_text.specs.Names.{is_inner};
 
+use crate::digits::Digits;
 use std::alloc::{AllocError, Global};
 use std::marker::Model;
 use std::{fmt, str};
 
 /// The most bytes of a name that takes no memory of its own.
 const MOST_SHORT: usize = 22;
+
+/// The most letters in front of the number of a name.
+pub const MOST_FRONT: usize = 2;
 
 // A text in the value itself.
 #[derive(Debug, Drop)]
@@ -41,6 +46,40 @@ impl ShortText {
         ShortText {
             bytes,
             len: len as u8,
+        }
+    }
+
+    // Letters, digits and `_`.
+    fn spelled(text: &[u8]) -> ShortText
+        requires inner { list_all is_inner text.now ≡ true }
+        requires short { length text.now ≤ MOST_SHORT }
+        ensures { result ≡ text.now }
+    {
+        let len = text.len();
+        let mut bytes = [0u8; MOST_SHORT];
+        bytes[..len].copy_from_slice(text);
+        ShortText {
+            bytes,
+            len: len as u8,
+        }
+    }
+
+    // These letters and this number.
+    fn numbered(front: &str, number: u64) -> ShortText
+        requires inner { list_all is_inner front.now ≡ true }
+        requires short { length front.now ≤ MOST_FRONT }
+        ensures { result ≡ front.now ++ decimal number }
+    {
+        let digits = Digits::new(number);
+        let back = digits.as_bytes();
+        let from = front.len();
+        let end = from + back.len();
+        let mut bytes = [0u8; MOST_SHORT];
+        bytes[..from].copy_from_slice(front.as_bytes());
+        bytes[from..end].copy_from_slice(back);
+        ShortText {
+            bytes,
+            len: end as u8,
         }
     }
 
@@ -126,10 +165,26 @@ impl Name {
         requires { list_all is_inner bytes.now ≡ true }
         ensures { IfOk result (λ n. n ≡ bytes.now) }
     {
+        if bytes.len() <= MOST_SHORT {
+            return Ok(Name {
+                text: Text::Short(ShortText::spelled(bytes)),
+            });
+        }
         let Ok(text) = str::from_utf8(bytes) else {
             unreachable!();
         };
         Name::of_copy(alloc, text)
+    }
+
+    /// The name of these letters and this number. It takes no memory.
+    pub fn numbered(front: &str, number: u64) -> Name
+        requires inner { list_all is_inner front.now ≡ true }
+        requires short { length front.now ≤ MOST_FRONT }
+        ensures { result ≡ front.now ++ decimal number }
+    {
+        Name {
+            text: Text::Short(ShortText::numbered(front, number)),
+        }
     }
 
     pub fn as_str(&self) -> &str
