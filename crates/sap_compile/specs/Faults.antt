@@ -1,5 +1,5 @@
 -- Why the bytes of a lattice file and of a design give no module: the first fault, the lattice file's before the design's.
-use Rattle.std.specs.Prelude.{◌≢◌, ℕ, List}
+use Rattle.std.specs.Prelude.{ℕ, List}
 use Rattle.sap_lattice.specs.Levels.{Levels}
 use Rattle.sap_latfile.specs.LatticeFile.{IsLatticeOfFile, FirstFault}
 use Rattle.sap_check.specs.Faults.{IsCheckFault}

@@ -1,6 +1,6 @@
 -- A text in assembly stands for one list of words, or is refused for one reason.
 use Rattle.std.proofs.Common.{◌≡◌, ℕ, List, sym, ◌∙◌, ap}
-use Rattle.std.specs.Prelude.{Result, Ok, Err}
+use Rattle.std.specs.Prelude.{Ok, Err}
 use Rattle.sap_machine.specs.Assembly.{Assembled, assembled}
 use Rattle.sap_machine.specs.declared.fault.AsmFault.{AsmFault}
 use Rattle.sap_files.specs.Ending.{asm_refused}

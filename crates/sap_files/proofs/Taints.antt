@@ -1,7 +1,7 @@
 -- What comes of a module to which tags are added.
-use Rattle.std.proofs.Common.{◌≡◌, ◌⊎◌, List, ℕ, sym, ◌∙◌, subst, inl, inr, refl}
-use Rattle.std.specs.Prelude.{Option, Some, None}
-use Rattle.sap_lattice.specs.Levels.{Levels, order_of}
+use Rattle.std.proofs.Common.{◌≡◌, ◌⊎◌, List, ℕ, sym, subst, inl, inr, refl}
+use Rattle.std.specs.Prelude.{Option, Some}
+use Rattle.sap_lattice.specs.Levels.{Levels}
 use Rattle.sap_lattice.specs.Order.{Order}
 use Rattle.sap_latfile.specs.OneLattice.{AreSame}
 use Rattle.sap_net.specs.Net.{Net}

@@ -1,9 +1,9 @@
 -- Two lattices that are the same have the same systems.
-use Rattle.std.proofs.Common.{◌≡◌, ℕ, ◌+◌, ◌*◌, ◌≤◌, List, [], ◌∷◌, length, map, sum_by, take, refl, sym, ◌∙◌, ap, ap₂, subst, inl, inr}
+use Rattle.std.proofs.Common.{◌≡◌, ℕ, ◌+◌, ◌*◌, ◌≤◌, List, [], ◌∷◌, length, map, sum_by, take, refl, ap, ap₂, subst, inl, inr}
 use Rattle.std.specs.Prelude.{Option, Result, Ok, Err}
-use Rattle.std.specs.List.{AllByRecursion, AllZip}
+use Rattle.std.specs.List.{AllZip}
 use Rattle.sap_desk.specs.Desk.{Told}
-use Rattle.sap_lattice.specs.Levels.{Levels, order_of}
+use Rattle.sap_lattice.specs.Levels.{Levels}
 use Rattle.sap_lattice.specs.Order.{Order}
 use Rattle.sap_latfile.specs.OneLattice.{AreSame}
 use Rattle.sap_lemmas.proofs.Everywhere.{all_follow}
@@ -16,12 +16,11 @@ use Rattle.sap_size.specs.Trees.{design_nodes, entity_count}
 use Rattle.sap_meaning.specs.Program.{Program}
 use Rattle.sap_resolved.specs.Fill.{program_of}
 use Rattle.sap_interface.specs.StandsFor.{Named}
-use Rattle.sap_interface.specs.Designs.{named_of, site_count_of}
+use Rattle.sap_interface.specs.Designs.{site_count_of}
 use Rattle.sap_system.specs.Wires.{FirstLinkFault, KeepsWires, Surroundings}
 use Rattle.sap_system.specs.declared.file.Part.{Part}
 use Rattle.sap_system.specs.declared.file.WireText.{WireText}
-use Rattle.sap_system.specs.declared.link_fault.LinkFault.{LinkFault}
-use Rattle.sap_link.specs.Systems.{System, Wire, WiresFit}
+use Rattle.sap_link.specs.Systems.{Wire, WiresFit}
 use Rattle.sap_link.specs.Designs.{WellLinked, linked}
 use Rattle.sap_linked.specs.Designs.{NamedDesign, named_system, part_of, trees}
 use Rattle.sap_linked.specs.Parts.{NamedSystem}

@@ -7,7 +7,7 @@ use Rattle.sap_system.specs.declared.fault.SysFault.{SysFault}
 use Rattle.sap_system.specs.declared.fault.SysFault.TheVariants as system
 use Rattle.sap_system.proofs.Answered.{one_system, one_fault as one_system_fault, not_both as not_system_and_fault}
 use Rattle.sap_files.specs.Ending.{design_refused, part_refused, system_refused}
-use Rattle.sap_files.specs.Kinds.{IsLawful, design_file}
+use Rattle.sap_files.specs.Kinds.{IsLawful}
 use Rattle.sap_files.specs.Steps.{Refuses, ending}
 use Rattle.sap_files.specs.declared.failure.Failure.{Failure}
 use Rattle.sap_files.proofs.DesignFaults.{one_fault}

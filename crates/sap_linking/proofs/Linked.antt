@@ -1,6 +1,6 @@
 -- What linking parts gives, and how the command ends behind it.
-use Rattle.std.proofs.Common.{◌≡◌, ◌≢◌, ◌⊎◌, ℕ, List, [], ◌∷◌, map, refl, sym, ◌∙◌, ap, ap₂, subst, inl, inr}
-use Rattle.std.specs.Prelude.{Option, Some, None, Result, Ok, Err}
+use Rattle.std.proofs.Common.{◌≡◌, ◌≢◌, ◌⊎◌, ℕ, List, [], ◌∷◌, refl, sym, ap₂, subst, inl, inr}
+use Rattle.std.specs.Prelude.{Option, Some, None, Ok, Err}
 use Rattle.std.specs.List.{AllZip}
 use Rattle.sap_desk.specs.Desk.{Told}
 use Rattle.sap_lattice.specs.Levels.{Levels}
@@ -11,7 +11,7 @@ use Rattle.sap_system.specs.declared.file.WireText.{WireText}
 use Rattle.sap_system.specs.declared.link_fault.LinkFault.{LinkFault}
 use Rattle.sap_system.specs.declared.link_fault.LinkFault.TheVariants as link_fault
 use Rattle.sap_linked.specs.Designs.{NamedDesign}
-use Rattle.sap_linker.specs.Given.{design_names, surroundings}
+use Rattle.sap_linker.specs.Given.{design_names}
 use Rattle.sap_files.specs.Ending.{Ending, refused, no_memory, wires_refused}
 use Rattle.sap_files.specs.Asks.{writes}
 use Rattle.sap_files.specs.Steps.{Ends, Moment, ending}

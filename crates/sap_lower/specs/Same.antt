@@ -9,8 +9,6 @@ use Rattle.sap_net.specs.Runs.{IsRun, AllFit, observed}
 use Rattle.sap_net.specs.declared.parts.PortKind.TheVariants as kind
 use Rattle.sap_net.specs.declared.parts.Port.{Port}
 use Rattle.sap_net.specs.declared.parts.Input.{Input}
-use Rattle.sap_net.specs.declared.parts.Operand.{Operand}
-use Rattle.sap_net.specs.declared.parts.Right.TheVariants.{Copy}
 use Rattle.sap_net.specs.declared.parts.Wire.{Wire}
 use Rattle.sap_share.specs.Differing.{AllDiffer}
 use Rattle.sap_ir.specs.declared.guarded.Var.{Var}

@@ -11,7 +11,7 @@ use Rattle.sap_meaning.specs.Touches.{touches, hangs, raised_alone}
 use Rattle.std.specs.Prelude.{nat_lt}
 use Rattle.std.proofs.lemmas.Grind.{common_steps}
 use Rattle.sap_meaning.specs.Cycle.{Tagged, cycle}
-use Rattle.sap_machine.proofs.Literal.{machine, machine_world, block, boot_body}
+use Rattle.sap_machine.proofs.Literal.{machine, machine_world, block}
 use Rattle.sap_machine.proofs.Literal as M
 use Rattle.sap_machine.specs.declared.user.User.{User}
 use Rattle.sap_machine.specs.declared.user.User.TheVariants.{A, B}

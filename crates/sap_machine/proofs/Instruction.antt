@@ -10,7 +10,7 @@ use Rattle.sap_meaning.specs.Cycle.{Tagged, cycle}
 use Rattle.sap_meaning.proofs.Commands.{Quiet, take_else, accept}
 use Rattle.sap_machine.specs.declared.user.User.{User}
 use Rattle.sap_machine.specs.declared.user.User.TheVariants.{A, B}
-use Rattle.sap_machine.proofs.Literal.{machine, machine_world, user_body, run_body, block}
+use Rattle.sap_machine.proofs.Literal.{machine, machine_world, user_body, block}
 use Rattle.sap_machine.proofs.Literal as M
 use Rattle.sap_machine.proofs.Users.{turn_of, words_of, cells_of}
 use Rattle.sap_machine.proofs.Entities.{apart}

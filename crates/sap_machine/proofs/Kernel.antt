@@ -12,7 +12,7 @@ use Rattle.sap_meaning.proofs.Commands.{Quiet, take_then, take_else, accept}
 use Rattle.sap_machine.specs.declared.user.User.{User}
 use Rattle.sap_machine.specs.declared.user.User.TheVariants.{A, B}
 use Rattle.sap_machine.specs.Slices.{other}
-use Rattle.sap_machine.proofs.Literal.{machine, machine_world, block, kernel_body, turn_of_a, if_or, set, set_tag}
+use Rattle.sap_machine.proofs.Literal.{machine, machine_world, block, turn_of_a, if_or, set, set_tag}
 use Rattle.sap_machine.proofs.Literal as M
 use Rattle.sap_machine.proofs.Users.{level_of, turn_of, pc_of, acc_of}
 use Rattle.sap_machine.proofs.Entities.{apart}

@@ -9,7 +9,7 @@ use Rattle.sap_meaning.specs.Expressions.{value, tag}
 use Rattle.sap_meaning.specs.Does.{does_block, does_child, effect}
 use Rattle.sap_meaning.specs.Touches.{touches, hangs, raised_alone}
 use Rattle.sap_meaning.proofs.Commands.{Quiet, take_then, take_else, accept}
-use Rattle.sap_machine.proofs.Literal.{machine_world, user_body, block, on, when, if_or, set, store, is, turn_of_a}
+use Rattle.sap_machine.proofs.Literal.{machine_world, block, on, when, if_or, set, store, is, turn_of_a}
 use Rattle.sap_machine.proofs.Literal as M
 use Rattle.sap_machine.specs.declared.user.User.{User}
 use Rattle.sap_machine.specs.declared.user.User.TheVariants.{A, B}

@@ -5,7 +5,7 @@ use Rattle.sap_parse.specs.Choices.{command_head, is_constant, primary_of}
 use Rattle.sap_parse.specs.Reading.{Enter, ahead, ahead_of, read_by, steps_by}
 use Rattle.sap_parse.specs.Stages.{Stage}
 use Rattle.sap_parse.specs.Table as s
-use Rattle.sap_parse.specs.Table.{Symbol, next}
+use Rattle.sap_parse.specs.Table.{next}
 use Rattle.sap_parse.specs.declared.choice.CommandHead.TheVariants as h
 use Rattle.sap_parse.specs.declared.choice.CommandHead.{CommandHead}
 use Rattle.sap_parse.specs.declared.choice.Primary.TheVariants as v

@@ -8,7 +8,7 @@ use Rattle.sap_parse.specs.Grammar.{sign_of, unary_sign_of}
 use Rattle.sap_parse.specs.Reading.{leniently}
 use Rattle.sap_parse.specs.Stages.{Stage, IsToken, IsSign}
 use Rattle.sap_parse.specs.Table as s
-use Rattle.sap_parse.specs.Table.{Symbol, Row, next, operator_of, tails, index_symbols, expr_symbols}
+use Rattle.sap_parse.specs.Table.{Symbol, Row, next, operator_of, tails, index_symbols}
 use Rattle.sap_parse.specs.declared.role.Role.TheVariants as r
 use Rattle.sap_parse.specs.declared.role.Role.{Role}
 use Rattle.sap_lex.specs.declared.token.Kind.TheVariants as k

@@ -5,7 +5,7 @@ use Rattle.sap_parse.specs.Choices.{declaration_head}
 use Rattle.sap_parse.specs.Reading.{Enter, ahead, ahead_of, read_by, steps_by, table}
 use Rattle.sap_parse.specs.Stages.{Stage}
 use Rattle.sap_parse.specs.Table as s
-use Rattle.sap_parse.specs.Table.{Symbol, design_symbols, next}
+use Rattle.sap_parse.specs.Table.{design_symbols, next}
 use Rattle.sap_parse.specs.declared.choice.DeclarationHead.TheVariants as h
 use Rattle.sap_parse.specs.declared.choice.DeclarationHead.{DeclarationHead}
 use Rattle.sap_parse.specs.declared.cursor.Ahead.TheVariants as a

@@ -8,7 +8,7 @@ use Rattle.sap_parse.specs.Grammar.{sign_of, unary_sign_of}
 use Rattle.sap_parse.specs.Reading.{Enter, ahead, ahead_of, read_by, steps_by}
 use Rattle.sap_parse.specs.Stages.{Stage}
 use Rattle.sap_parse.specs.Table as s
-use Rattle.sap_parse.specs.Table.{Symbol, Row, after_sign, if_same, is_unary, next, operator_of, same_level, tails, tightest}
+use Rattle.sap_parse.specs.Table.{Symbol, Row, is_unary, next, operator_of, same_level, tails, tightest}
 use Rattle.sap_parse.specs.declared.choice.Primary.TheVariants as pr
 use Rattle.sap_parse.specs.declared.choice.Primary.{Primary}
 use Rattle.sap_parse.specs.declared.cursor.Ahead.TheVariants as a

@@ -7,7 +7,7 @@ use Rattle.sap_parse.specs.Limits.{Counts, tally, breach}
 use Rattle.sap_parse.specs.Reading.{leniently}
 use Rattle.sap_parse.specs.Stages.{Stage, IsToken, IsSign, IsWord, IsName, IsNumber, IsSized, spot_here, here as place_here}
 use Rattle.sap_parse.specs.Table as s
-use Rattle.sap_parse.specs.Table.{Symbol, Row, if_same, next, operator_of, is_unary, same_level, sign_number, word_number, tails, tightest, index_symbols, expr_symbols, design_symbols}
+use Rattle.sap_parse.specs.Table.{Symbol, Row, if_same, next, operator_of, same_level, sign_number, word_number, tails, tightest, index_symbols, expr_symbols}
 use Rattle.sap_lex.specs.declared.limit.Limit.{Limit}
 use Rattle.sap_parse.specs.declared.role.Role.TheVariants as r
 use Rattle.sap_parse.specs.declared.role.Role.{Role}

@@ -3,7 +3,7 @@ use Rattle.std.proofs.Common.{◌≡◌, ◌≤◌, ◌+◌, ◌-◌, ℕ, zero,
 use Rattle.sap_parse.specs.Grammar as g
 use Rattle.sap_parse.specs.Stages.{Stage, IsSign, IsWord, IsName, IsNumber, IsSized}
 use Rattle.sap_parse.specs.Table as s
-use Rattle.sap_parse.specs.Table.{Symbol, Row, grammar, if_same, next, operator_of, sign_number, word_number, tails, tightest, index_symbols}
+use Rattle.sap_parse.specs.Table.{Symbol, grammar, tails, tightest}
 use Rattle.sap_parse.specs.declared.role.Role.TheVariants as r
 use Rattle.sap_lex.specs.declared.token.Sign.TheVariants as j
 use Rattle.sap_tree.specs.Precedence.{unary_precedence}

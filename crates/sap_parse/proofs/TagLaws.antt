@@ -4,7 +4,7 @@ use Rattle.sap_parse.specs.Choices.{tag_head}
 use Rattle.sap_parse.specs.Reading.{Enter, ahead, ahead_of, read_by, steps_by}
 use Rattle.sap_parse.specs.Stages.{Stage}
 use Rattle.sap_parse.specs.Table as s
-use Rattle.sap_parse.specs.Table.{Symbol, next}
+use Rattle.sap_parse.specs.Table.{next}
 use Rattle.sap_parse.specs.declared.choice.TagHead.TheVariants as h
 use Rattle.sap_parse.specs.declared.choice.TagHead.{TagHead}
 use Rattle.sap_parse.specs.declared.cursor.Ahead.TheVariants as a

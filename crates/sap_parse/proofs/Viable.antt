@@ -6,7 +6,7 @@ use Rattle.sap_parse.specs.Limits.{Counts, tally, breach}
 use Rattle.sap_parse.specs.Reading.{leniently}
 use Rattle.sap_parse.specs.Stages.{at_start}
 use Rattle.sap_parse.specs.Table as s
-use Rattle.sap_parse.specs.Table.{Symbol, Row, grammar, is_unary, next, tails, tightest}
+use Rattle.sap_parse.specs.Table.{Symbol, Row, grammar, next, tails, tightest}
 use Rattle.sap_lex.specs.declared.limit.Limit.{Limit}
 use Rattle.sap_parse.specs.declared.role.Role.TheVariants as r
 use Rattle.sap_parse.specs.declared.role.Role.{Role}

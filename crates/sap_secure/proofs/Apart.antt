@@ -4,8 +4,8 @@ use Rattle.sap_lemmas.proofs.Bools.{and_left}
 use Rattle.std.proofs.lemmas.Bool.{eqb-true, false_from_ne_true, ne_eqb, or_cases, or_from, or_left, or_right}
 use Rattle.sap_meaning.proofs.ProgramLemmas.{memory_no_state, register_no_memory, register_no_state}
 use Rattle.sap_meaning.proofs.FineLemmas.{inside_among}
-use Rattle.sap_meaning.specs.Program.{World, is_dynamic, entity, is_register, is_memory, is_state, Step, assign, write, retag, retag_cell, go_to, fall_to_child, Command, lone, try, if_else, try_then, case_of, Arms, last_arm, and_arm, Block, end_block, command_then, State, state_node, Group, no_node, and_node}
-use Rattle.sap_meaning.specs.Touches.{among, step_assigns, assigns, arms_assign, block_assigns, state_assigns, group_assigns, step_hangs, hangs, arms_hang, block_hangs}
+use Rattle.sap_meaning.specs.Program.{World, is_dynamic, entity, is_register, is_memory, is_state, Step, assign, write, retag, retag_cell, go_to, fall_to_child, Command, Block, State, state_node, Group, no_node, and_node}
+use Rattle.sap_meaning.specs.Touches.{among, step_assigns, assigns, block_assigns, state_assigns, group_assigns, step_hangs, hangs, block_hangs}
 use Rattle.sap_meaning.specs.Fine.{FineTerm, FineStep, FineCommand, FineBlock, FineState, FineGroup, inside, step_writes, writes, step_reaches, reaches, block_reaches}
 use Rattle.sap_meaning.proofs.WalksLemmas.{none_passes, none_passes_in_block, some_follows, some_follows_in_block, passes_follow, gathered_alike, gathered_in_block_alike}
 use Rattle.sap_secure.proofs.Concerns.{parted_of, group_parted, step_concerns, concerns, block_concerns}

@@ -4,7 +4,7 @@ use Rattle.std.proofs.Props.{props}
 use Rattle.sap_bits.specs.declared.Op2.{Op2}
 use Rattle.sap_bits.specs.declared.Op2.TheVariants.{Add, Sub, Mul, And, Or, Xor, Eq, Ne, Lt, Le, Shl, Shr}
 use Rattle.sap_maps.specs.Term.{Term, constant, read, cell, one, two, choose, join, part, CountFits, TermFits}
-use Rattle.sap_meaning.specs.Program.{World, width, LevelTerm, fixed, of, at_place, both, Step, assign, write, retag, retag_cell, go_to, fall_to_child, Command, lone, try, if_else, try_then, case_of, Arms, last_arm, and_arm, Block, end_block, command_then, State, state_node, Group, no_node, and_node}
+use Rattle.sap_meaning.specs.Program.{World, width, LevelTerm, Step, assign, write, retag, retag_cell, go_to, fall_to_child, Command, lone, try, if_else, try_then, case_of, Arms, last_arm, and_arm, Block, end_block, command_then, State, state_node, Group, no_node, and_node}
 use Rattle.sap_meaning.specs.Walks.{Asks}
 use Rattle.sap_meaning.proofs.WalksLemmas.{every_prop_in_block, asks_prop, every_step_prop, every_level_prop}
 use Rattle.sap_meaning.specs.Checks.{Home}

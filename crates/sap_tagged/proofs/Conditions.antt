@@ -16,7 +16,7 @@ use Rattle.sap_names.specs.Widths as widths
 use Rattle.sap_names.specs.Widths.{own, own_parts, register_width, cell_width, index_width, sliced, extended, family, asked_left, asked_right, asked_one, is_sound, all_sound}
 use Rattle.sap_maps.specs.Term.{Term, constant, read, cell, one, two, choose, join, part}
 use Rattle.sap_meaning.specs.Program as program
-use Rattle.sap_meaning.specs.Program.{World, LevelTerm, fixed, of, at_place, both, Step, assign, write, retag, retag_cell, go_to, fall_to_child, Block, end_block, command_then, State, state_node, Group, no_node, and_node}
+use Rattle.sap_meaning.specs.Program.{World, LevelTerm, Step, assign, write, retag, retag_cell, go_to, fall_to_child, Block, State, state_node, Group}
 use Rattle.sap_meaning.specs.Walks.{EveryLevel, Every, EveryInArms, EveryInBlock, Asks, EveryBody, EveryBodyIn}
 use Rattle.sap_meaning.specs.Checks.{Home}
 use Rattle.sap_meaning.specs.Expressions as meaning

@@ -5,11 +5,11 @@ use Rattle.std.proofs.lemmas.List.{append-nil, map-append}
 use Rattle.std.specs.Prelude.{Option, Some, None, is_some, IsSome, ◌||◌, ◌&&◌, ◌==◌, not, nat_lt, nat_le, map, flat_map}
 use Rattle.std.specs.List.{list_any}
 use Rattle.std.proofs.lemmas.Bool.{and_from, lt-ltb, not_from_false, or_left, or_right}
-use Rattle.sap_vtext.specs.Items.{Mention, Number, Constant, Operand, Right, Port, Item, File}
+use Rattle.sap_vtext.specs.Items.{Mention, Number, Constant, Operand, Port, Item, File}
 use Rattle.sap_vtext.specs.Items as item
 use Rattle.sap_vtext.specs.Names.{Shape, wire, Setting, assign, initial, always, Declaration, port_declaration, item_declarations, declarations, shape_in, Above, shape_above, is_set, has_integer, IsItemOf, Target, target_of, Known, known_above}
 use Rattle.sap_vtext.specs.Widths.{shape_width, constant_fits, operand_width, parts_width, pairs}
-use Rattle.sap_vtext.specs.Faults.{V3, V4, V5, V6, V7, is_settable, needs, Manner, as_value, Use, uses, suits, ranges, constants, indexes, operand_place, HasIndex}
+use Rattle.sap_vtext.specs.Faults.{V3, V4, V5, V6, V7, is_settable, needs, Manner, as_value, Use, uses, suits, ranges, constants, indexes, operand_place}
 use Rattle.sap_vtext.specs.Faults as faults
 use Rattle.sap_text.specs.Best.{StandsIn}
 use Rattle.sap_vjudge.specs.declared.code.Code.{Code}
@@ -17,7 +17,7 @@ use Rattle.sap_vjudge.specs.declared.code.Code.TheVariants as code
 use Rattle.sap_vjudge.specs.Best.{Fault, fault_if}
 use Rattle.sap_vjudge.specs.FirstFault.{Stands}
 use Rattle.sap_vjudge.specs.Known.{nothing_known, after_ports}
-use Rattle.sap_vjudge.specs.Listed.{twice_faults, declarations_faults, target_faults, integer_faults, is_unassigned, shape_faults, use_faults, uses_faults, range_faults, ranges_faults, constant_faults, constants_faults, differ, item_too_wide, item_differs, at_target, target_width_faults, past_shape, slice_faults, widths_faults, is_depth, depth_faults, bound_faults, is_other, depth_index, index_faults, indexes_faults, declared_faults, sized_faults, memory_faults, item_faults, port_faults, ports_faults, items_faults, lacks, unset_faults, unsets_faults, ports_unset, items_unset, known_at_end, file_faults}
+use Rattle.sap_vjudge.specs.Listed.{twice_faults, declarations_faults, target_faults, integer_faults, is_unassigned, shape_faults, use_faults, uses_faults, range_faults, ranges_faults, constant_faults, constants_faults, differ, item_too_wide, item_differs, at_target, target_width_faults, past_shape, slice_faults, is_depth, depth_faults, bound_faults, is_other, depth_index, index_faults, indexes_faults, declared_faults, sized_faults, memory_faults, item_faults, port_faults, ports_faults, items_faults, lacks, unset_faults, unsets_faults, ports_unset, items_unset, known_at_end, file_faults}
 use Rattle.sap_vjudge.specs.Listed as listed
 use Rattle.sap_vjudge.proofs.Above.{under_item, ports_only, after_item_above, after_port_next, after_ports_above, nothing_is, at_end, item_declared}
 use Rattle.sap_vjudge.proofs.Powers.{is_depth-HasIndex, is_other-from}

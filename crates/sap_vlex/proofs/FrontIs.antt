@@ -14,7 +14,7 @@ use Rattle.sap_lemmas.proofs.Lists.{index_drop}
 use Rattle.sap_lemmas.proofs.Numbers.{test_symmetric}
 use Rattle.sap_net.specs.Names.{is_initial, is_inner}
 use Rattle.sap_vtext.specs.Lexing as l
-use Rattle.sap_vtext.specs.Lexing.{word_text, sign_text, words, signs, is_blank, is_in_line, sign_or_bad, sign_front, name_front, number_front, constant_front, digits_front, digits_of_front, front}
+use Rattle.sap_vtext.specs.Lexing.{word_text, sign_text, words, is_blank, is_in_line, sign_or_bad, sign_front, name_front, number_front, constant_front, digits_front, digits_of_front, front}
 use Rattle.sap_vtext.specs.Tokens as t
 use Rattle.sap_vlex.specs.Lexemes.{front_of, word_in, word_or_name, name_at, number_lexeme, constant_lexeme, is_constant, constant_at, number_at, sign_or, single_at, sign_at, pair_sign, single_sign, lexeme_of}
 use Rattle.sap_vlex.specs.Spelling.{word_of, sign_of}

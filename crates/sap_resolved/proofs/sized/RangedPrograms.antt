@@ -10,7 +10,7 @@ use Rattle.sap_names.specs.declared.kind.Declared.TheVariants.{Input, Register, 
 use Rattle.sap_names.specs.declared.entity.Entity as declared_entity
 use Rattle.sap_names.specs.Entities.{entities_of}
 use Rattle.sap_names.specs.Widths.{sound_width, index_bits, is_sound}
-use Rattle.sap_meaning.specs.Program.{World, Entity, nothing, root, kind_is_state, kind_is_memory, depth_of, Step, assign, write, retag, retag_cell, go_to, fall_to_child, Command, lone, try, if_else, try_then, case_of, Arms, last_arm, and_arm, Block, end_block, command_then, state_node, Group, no_node, and_node}
+use Rattle.sap_meaning.specs.Program.{World, Entity, nothing, root, kind_is_state, kind_is_memory, depth_of, Step, assign, write, retag, retag_cell, go_to, fall_to_child, Group}
 use Rattle.sap_meaning.specs.Program as program
 use Rattle.sap_meaning.specs.Checks.{Home}
 use Rattle.sap_resolved.specs.Worlds.{world_of}

@@ -11,7 +11,7 @@ use Rattle.sap_maps.specs.Scope.{Scope}
 use Rattle.sap_net.specs.declared.parts.Operand as net
 use Rattle.sap_net.specs.Rules.{IsOperand, IsRegister, IsMemory}
 use Rattle.sap_net.specs.IsNetlist.{readable}
-use Rattle.sap_vtext.specs.Items.{Mention, Number, Constant, Operand, Port, Item, File}
+use Rattle.sap_vtext.specs.Items.{Mention, Operand, Item, File}
 use Rattle.sap_vtext.specs.Items as item
 use Rattle.sap_text.specs.Best.{StandsIn}
 use Rattle.sap_vtext.specs.Names.{Shape, input, wire, register, memory, Declaration, declarations, shape_in, shape_above, Setting, initial, always, target_of, is_target, is_set, known_above}

@@ -10,7 +10,7 @@ use Rattle.sap_maps.specs.Scope.{Scope, find}
 use Rattle.sap_net.specs.Names.{AreDistinct}
 use Rattle.sap_net.specs.Rules.{Shapes, IsWidth, IsOperand, AreValues, AreMemories}
 use Rattle.sap_net.specs.IsNetlist.{first_readable, shapes}
-use Rattle.sap_vtext.specs.Items.{Mention, Number, Constant, Operand, Port, Item, File}
+use Rattle.sap_vtext.specs.Items.{Constant, Operand, Port, Item, File}
 use Rattle.sap_vtext.specs.Items as item
 use Rattle.sap_text.specs.Best.{StandsIn}
 use Rattle.sap_vtext.specs.Names.{Shape, input, wire, register, memory, port_shape, port_declaration, item_declarations, Declaration, declarations, shape_in, assign, is_set, known_above}

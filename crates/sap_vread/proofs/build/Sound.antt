@@ -6,12 +6,12 @@ use Rattle.std.proofs.lemmas.Bool.{cases_lt, cases_eq, true_from_ne_false, false
 use Rattle.sap_vtext.proofs.FaultsLemmas.{all_alike}
 use Rattle.sap_maps.specs.Maps.{Name}
 use Rattle.sap_net.specs.Names.{is_among, AreDistinct}
-use Rattle.sap_vtext.specs.Items.{Mention, Number, Operand, Constant, Right, Item, Port, File}
+use Rattle.sap_vtext.specs.Items.{Mention, Number, Operand, Right, Item, Port, File}
 use Rattle.sap_vtext.specs.Items as item
 use Rattle.sap_text.specs.Best.{StandsIn}
 use Rattle.sap_vtext.specs.Names.{Shape, wire, Declaration, declarations, shape_in, Above, IsItemOf, shape_above, Setting, assign, Target, target_of, is_set, known_above}
 use Rattle.sap_vtext.specs.Widths.{shape_width, constant_fits, pairs, Differ}
-use Rattle.sap_vtext.specs.Faults.{is_settable, Use, as_value, uses, suits, constants, indexes, HasIndex, needs, IsFaultless}
+use Rattle.sap_vtext.specs.Faults.{is_settable, Use, uses, suits, constants, indexes, HasIndex, needs, IsFaultless}
 use Rattle.sap_vtext.specs.Faults as fault
 use Rattle.sap_vtext.proofs.Good.{IsGoodUse, IsGoodIndex}
 use Rattle.sap_vtext.proofs.NameLists.{named_among, among_name, among_right}

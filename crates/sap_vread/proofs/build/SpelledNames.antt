@@ -13,7 +13,7 @@ use Rattle.sap_vtext.proofs.LexingLemmas.{keywords_are}
 use Rattle.sap_net.specs.Names.{is_initial, is_inner, is_word, is_keyword, is_name}
 use Rattle.sap_vtext.specs.Tokens.{Word, Sign, Kind, Token, IsToken}
 use Rattle.sap_vtext.specs.Tokens as t
-use Rattle.sap_vtext.specs.Lexing.{Front, blank, token, bad, word_text, words, word_or_name, kind_of_name, name_front, sign_or_bad, sign_front, number_front, constant_front, is_constant, digits_front, digits_of_front, is_blank, front, Lexed}
+use Rattle.sap_vtext.specs.Lexing.{Front, blank, token, bad, word_text, words, word_or_name, name_front, sign_or_bad, number_front, constant_front, is_constant, digits_front, digits_of_front, is_blank, front, Lexed}
 use Rattle.sap_vtext.specs.Lexing as l
 use Rattle.sap_vtext.specs.Items.{Mention, Number, Constant, Operand, Right, Port, Item, File}
 use Rattle.sap_vtext.specs.Items as item

@@ -18,7 +18,7 @@ use Rattle.sap_maps.specs.Term.{CountFits}
 use Rattle.sap_maps.specs.Scope.{Scope, find}
 use Rattle.sap_net.specs.Rules.{IsWidth, IsOperand, AreOperands, IsRight, AreWires, readable_after}
 use Rattle.sap_net.specs.IsNetlist.{first_readable, readable, shapes}
-use Rattle.sap_vtext.specs.Items.{Mention, Number, Constant, Operand, Right, Port, Item, File}
+use Rattle.sap_vtext.specs.Items.{Mention, Operand, Right, Item, File}
 use Rattle.sap_vtext.specs.Items as item
 use Rattle.sap_vtext.specs.Names.{Shape, input, wire, register, memory, declarations, shape_in, IsItemOf, shape_above, assign, target_of, is_target, is_set, known_above}
 use Rattle.sap_vtext.specs.Widths.{operand_width, parts_width, add_widths, slice_width, memory_width, wire_width, constant_fits, value_width, unary_pairs, unary_rule, binary_pairs, binary_rule, Differ}

@@ -1,6 +1,6 @@
 use Rattle.std.proofs.lemmas.Result.{err_from_is_err_and}
 use Rattle.std.specs.Prelude.{None}
-use Rattle.sap_files.specs.Steps.{ending, whole}
+use Rattle.sap_files.specs.Steps.{whole}
 use Rattle.sap_files.proofs.Ended.{chosen, got, past, reading_ended, wrote}
 use Rattle.sap_files.proofs.Lattices.{whole_same}
 use Rattle.sap_files.proofs.Taints.{tainted_in, untagged_ended}

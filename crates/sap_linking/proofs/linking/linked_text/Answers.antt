@@ -5,7 +5,7 @@ use Rattle.sap_linker.specs.Given.{design_names, design_with_net, designs_of, su
 use Rattle.sap_linker.specs.Linking.{IsLinked}
 use Rattle.sap_linker.specs.Sizes.{IsSmallSystem}
 use Rattle.sap_linker.specs.declared.parts.LinkedPart.{LinkedPart}
-use Rattle.sap_linking.specs.Parts.{loaded_designs, loaded_net}
+use Rattle.sap_linking.specs.Parts.{loaded_designs}
 use Rattle.sap_linking.proofs.Handed.{all_over, all_small, designs_same}
 use Rattle.sap_linking.proofs.Small.{small_system}
 use Rattle.sap_linking.proofs.Linked.{unlinked}

@@ -1,4 +1,4 @@
-use Rattle.std.proofs.Common.{rules, ◌≡◌, map, filter, Bool, ap}
+use Rattle.std.proofs.Common.{rules, ◌≡◌, filter, Bool, ap}
 use mathlib.Core.Path.{fun_ext}
 use Rattle.sap_maps.specs.Maps.{Name}
 use Rattle.sap_net.specs.Names.{is_among}

@@ -1,4 +1,4 @@
-use Rattle.std.proofs.Common.{arith, ◌∙◌, sym, ap, take, get_or, length}
+use Rattle.std.proofs.Common.{arith, ◌∙◌, sym, take}
 use Rattle.sap_wave.proofs.Fronts.{all_more, bits_spell, few_taken, number_more}
 use Rattle.sap_wave.proofs.numbers.bits_at.Goals as goal
 

@@ -1,5 +1,4 @@
-use Rattle.std.proofs.Common.{◌≡◌, ◌≢◌, ◌⊎◌, List, length, map, ap, ap₂, ◌∙◌, subst, sym, IfErr, IfOk, IsErrOf, IsOkUnless, OnOk}
-use Rattle.sap_lattice.specs.Levels.{Levels}
+use Rattle.std.proofs.Common.{◌≡◌, ◌≢◌, ◌⊎◌, length, map, ap, ap₂, ◌∙◌, subst, sym, IfErr, IfOk, IsErrOf, IsOkUnless, OnOk}
 use Rattle.sap_system.specs.Wires.{FirstLinkFault, KeepsWires}
 use Rattle.sap_system.specs.declared.link_fault.LinkFault.{LinkFault}
 use Rattle.sap_system.specs.declared.link_fault.LinkFault.TheVariants.{Memory}
@@ -7,7 +6,6 @@ use Rattle.sap_linker.specs.Adding.{Adding, under_names}
 use Rattle.sap_linker.specs.Given.{design_with_net, surroundings}
 use Rattle.sap_linker.specs.Linking.{IsLinked}
 use Rattle.sap_linker.specs.Sizes.{HasFewItems}
-use Rattle.sap_linker.specs.declared.parts.LinkedPart.{LinkedPart}
 use Rattle.sap_linker.proofs.Adding.{carried, names_same, over}
 use Rattle.sap_linker.proofs.linker.Linker.linked.Goals as goal
 

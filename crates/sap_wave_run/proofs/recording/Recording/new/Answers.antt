@@ -1,4 +1,4 @@
-use Rattle.std.proofs.Common.{◌≡◌, ℕ, List, ap, ◌∙◌, [], sym, subst, arith}
+use Rattle.std.proofs.Common.{◌≡◌, List, ap, ◌∙◌, [], sym, subst, arith}
 use Rattle.sap_desk.specs.Row.{Row}
 use Rattle.sap_net.specs.Net.{Net}
 use Rattle.sap_cycle.specs.Running.{Running}
