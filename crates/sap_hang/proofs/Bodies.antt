@@ -103,7 +103,7 @@ module _ (s : Standing) where
   -- lists
 
   pub list_start : (cs : List Cmd) (n : ℕ) (r : List Set) (a t : Set) → length cs ≤ n → Walked s (list_part s (commands_of (drop n cs))) r a t r a t
-  unfolding list_touches list_assigns
+  unfolding touches block_touches else_touches arms_touch list_touches assigns block_assigns else_assigns arms_assign list_assigns
   list_start cs n r a t l =
       subst (λ (z : List Cmd). Walked s (list_part s (commands_of z)) r a t r a t) (sym (drop_of_length-le cs l))
       (walked_none (list_part s no_command) r a t refl (λ x. refl) (λ x. refl))
@@ -111,7 +111,7 @@ module _ (s : Standing) where
   pub list_step : (cs : List Cmd) (n m : ℕ) (d : Cmd) (r0 r1 r2 : List Set) (a0 t0 a1 t1 a2 t2 : Set) → n < length cs → m ≡ n + 1 → d ≡ get_or cs n d
       → Walked s (list_part s (commands_of (drop m cs))) r0 a0 t0 r1 a1 t1 → Walked s (command_part s (command_of d)) r1 a1 t1 r2 a2 t2
       → Walked s (list_part s (commands_of (drop n cs))) r0 a0 t0 r2 a2 t2
-  unfolding list_touches list_assigns
+  unfolding touches block_touches else_touches arms_touch list_touches assigns block_assigns else_assigns arms_assign list_assigns
   list_step cs n m d r0 r1 r2 a0 t0 a1 t1 a2 t2 l next e v w =
       let rest = drop m cs in
       let parts : drop n cs ≡ d ∷ rest = drop_more cs n d l ∙ ap (λ (k : ℕ). get_or cs n d ∷ drop k cs) (sym next) ∙ ap (λ (z : Cmd). z ∷ rest) (sym e) in
@@ -127,7 +127,7 @@ module _ (s : Standing) where
 
   pub arms_start : (arms : List Arm) (last : Block) (list : List Cmd) (n : ℕ) (r r' : List Set) (a t a' t' : Set) → length arms ≤ n → list ≡ last.commands.items
       → Walked s (list_part s (commands_of list)) r a t r' a' t' → Walked s (arms_part s (arms_of (drop n arms) (block_of last))) r a t r' a' t'
-  unfolding arms_touch arms_assign block_touches block_assigns
+  unfolding touches block_touches else_touches arms_touch list_touches assigns block_assigns else_assigns arms_assign list_assigns
   arms_start arms last list n r r' a t a' t' l e w =
       subst (λ (z : List Arm). Walked s (arms_part s (arms_of z (block_of last))) r a t r' a' t') (sym (drop_of_length-le arms l))
       (walked_as (list_part s (commands_of last.commands.items)) (arms_part s (last_arm (block_of last))) r r' a t a' t' refl (λ x. refl) (λ x. refl)
@@ -136,7 +136,7 @@ module _ (s : Standing) where
   pub arms_step : (arms : List Arm) (last : Block) (n m : ℕ) (d : Arm) (list : List Cmd) (r0 r1 r2 : List Set) (a0 t0 a1 t1 a2 t2 : Set) → n < length arms → m ≡ n + 1 → d ≡ get_or arms n d
       → list ≡ d.block.commands.items → Walked s (arms_part s (arms_of (drop m arms) (block_of last))) r0 a0 t0 r1 a1 t1
       → Walked s (list_part s (commands_of list)) r1 a1 t1 r2 a2 t2 → Walked s (arms_part s (arms_of (drop n arms) (block_of last))) r0 a0 t0 r2 a2 t2
-  unfolding arms_touch arms_assign block_touches block_assigns
+  unfolding touches block_touches else_touches arms_touch list_touches assigns block_assigns else_assigns arms_assign list_assigns
   arms_step arms last n m d list r0 r1 r2 a0 t0 a1 t1 a2 t2 l next e f v w =
       let rest = drop m arms in
       let here = list_part s (commands_of d.block.commands.items) in
@@ -149,13 +149,13 @@ module _ (s : Standing) where
 
   pub else_some : (b : Block) (o : ElseBlock) (list : List Cmd) (r r' : List Set) (a t a' t' : Set) → o ≡ else_of (Some b) → list ≡ b.commands.items
       → Walked s (list_part s (commands_of list)) r a t r' a' t' → Walked s (else_part s o) r a t r' a' t'
-  unfolding else_touches else_assigns block_touches block_assigns
+  unfolding touches block_touches else_touches arms_touch list_touches assigns block_assigns else_assigns arms_assign list_assigns
   else_some b o list r r' a t a' t' eo e w =
       subst (λ (z : ElseBlock). Walked s (else_part s z) r a t r' a' t') (sym eo)
       (walked_as (list_part s (commands_of b.commands.items)) (else_part s (else_of (Some b))) r r' a t a' t' refl (λ x. refl) (λ x. refl) (of_list b list r r' a t a' t' e w))
 
   pub else_none : (o : ElseBlock) (r : List Set) (a t : Set) → o ≡ else_of None → Walked s (else_part s o) r a t r a t
-  unfolding else_touches else_assigns
+  unfolding touches block_touches else_touches arms_touch list_touches assigns block_assigns else_assigns arms_assign list_assigns
   else_none o r a t eo = subst (λ (z : ElseBlock). Walked s (else_part s z) r a t r a t) (sym eo) (walked_none (else_part s (else_of None)) r a t refl (λ x. refl) (λ x. refl))
 
   -- commands
@@ -163,7 +163,7 @@ module _ (s : Standing) where
   pub do_walked : (c : Command) (k : SimpleCommand) (r0 r1 : List Set) (a0 t0 a1 t1 : Set) → c ≡ lone k → Adds es (stored ds (λ x. simple_assigns k x)) a0 a1
       → Adds es (λ x. simple_touches ds h k x) t0 t1 → table_of es r1 ≡ touched_at es ds h (simple_points k) ++ table_of es r0
       → Walked s (command_part s c) r0 a0 t0 r1 a1 t1
-  unfolding touches assigns
+  unfolding touches block_touches else_touches arms_touch list_touches assigns block_assigns else_assigns arms_assign list_assigns
   do_walked c k r0 r1 a0 t0 a1 t1 ec a t f =
       subst (λ (z : Command). Walked s (command_part s z) r0 a0 t0 r1 a1 t1) (sym ec)
       (walked_as _ (command_part s (lone k)) r0 r1 a0 t0 a1 t1 (append-nil (simple_points k)) (λ x. refl) (λ x. refl)
@@ -174,7 +174,7 @@ module _ (s : Standing) where
       → Adds es (stored ds (λ x. simple_assigns k x)) a1 a2 → Adds es (λ x. simple_touches ds h k x) h1 h2
       → r2 ≡ r1 ++ h2 ∷ [] → ((x : ℕ) → has t1 x ≡ (has h2 x || has t0 x)) → table_of es r3 ≡ touched_at es ds h (simple_points k) ++ table_of es r2
       → Walked s (command_part s c) r0 a0 t0 r3 a2 t1
-  unfolding touches assigns block_touches block_assigns
+  unfolding touches block_touches else_touches arms_touch list_touches assigns block_assigns else_assigns arms_assign list_assigns
   try_walked c k place b list r0 r1 r2 r3 a0 a1 a2 none h1 h2 t0 t1 ec el e w a t push more f =
       let inner = list_part s (commands_of b.commands.items) in
       let whole = try k place (block_of b) in
@@ -187,7 +187,7 @@ module _ (s : Standing) where
       → c ≡ if_else place x (block_of one) other → list ≡ one.commands.items → ((x : ℕ) → has none x ≡ false) → Walked s (else_part s other) r0 a0 none r1 a1 h1
       → Walked s (list_part s (commands_of list)) r1 a1 h1 r2 a2 h2 → r3 ≡ r2 ++ h2 ∷ [] → ((x : ℕ) → has t1 x ≡ (has h2 x || has t0 x))
       → Walked s (command_part s c) r0 a0 t0 r3 a2 t1
-  unfolding touches assigns block_touches block_assigns
+  unfolding touches block_touches else_touches arms_touch list_touches assigns block_assigns else_assigns arms_assign list_assigns
   if_walked c place x one list other r0 r1 r2 r3 a0 a1 a2 none h1 h2 t0 t1 ec el e v w push more =
       let inner = list_part s (commands_of one.commands.items) in
       let whole = if_else place x (block_of one) other in
@@ -202,7 +202,7 @@ module _ (s : Standing) where
       → Adds es (stored ds (λ x. simple_assigns k x)) a2 a3 → Adds es (λ x. simple_touches ds h k x) h2 h3
       → r3 ≡ r2 ++ h3 ∷ [] → ((x : ℕ) → has t1 x ≡ (has h3 x || has t0 x)) → table_of es r4 ≡ touched_at es ds h (simple_points k) ++ table_of es r3
       → Walked s (command_part s c) r0 a0 t0 r4 a3 t1
-  unfolding touches assigns block_touches block_assigns
+  unfolding touches block_touches else_touches arms_touch list_touches assigns block_assigns else_assigns arms_assign list_assigns
   then_walked c k place one other la lb r0 r1 r2 r3 r4 a0 a1 a2 a3 none h1 h2 h3 t0 t1 ec ea eb e v w a t push more f =
       let first = list_part s (commands_of one.commands.items) in
       let second = list_part s (commands_of other.commands.items) in
@@ -217,7 +217,7 @@ module _ (s : Standing) where
       → c ≡ case_of place x (arms_of arms (block_of last)) → list ≡ arms → ((x : ℕ) → has none x ≡ false)
       → Walked s (arms_part s (arms_of list (block_of last))) r0 a0 none r1 a1 here → r2 ≡ r1 ++ here ∷ [] → ((x : ℕ) → has t1 x ≡ (has here x || has t0 x))
       → Walked s (command_part s c) r0 a0 t0 r2 a1 t1
-  unfolding touches assigns
+  unfolding touches block_touches else_touches arms_touch list_touches assigns block_assigns else_assigns arms_assign list_assigns
   case_walked c place x arms list last r0 r1 r2 a0 a1 none here t0 t1 ec el e w push more =
       let inner = arms_part s (arms_of arms (block_of last)) in
       let whole = case_of place x (arms_of arms (block_of last)) in

@@ -27,7 +27,7 @@ home_in s = record { name = (out-State s).name.name; kind = (out-State s).kind; 
 
 state_assigns-is : (s : State) (x : List ℕ)
     → state_assigns (state_of s) x ≡ (list_assigns (commands_of (out-State s).body.commands.items) x || states_assign (states_of (out-State s).children.items) x)
-unfolding state_assigns block_assigns
+unfolding state_assigns block_assigns list_assigns
 state_assigns-is s x = ap (λ (t : StateTree). state_assigns t x) (state_of-out s)
 
 module _ (es : List Entity) (ds : List Decl) where

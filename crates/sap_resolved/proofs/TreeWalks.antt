@@ -5,6 +5,7 @@ use Rattle.std.proofs.lemmas.Bool.{and_parts}
 use Rattle.sap_lemmas.proofs.Bools.{three_parts}
 use Rattle.sap_tree.specs.Limits.{most_arms}
 use Rattle.sap_tree.specs.Syntax.{Expression, SimpleCommand, Command, lone, try, if_else, try_then, case_of, Arms, last_arm, and_arm, CommandBlock, command_block, ElseBlock, no_else, with_else, CommandList, no_command, and_command}
+use Rattle.sap_tree.specs.Walks.{Every, EveryInBlock, EveryInElse, EveryInArms, EveryInList, gathered, gathered_in_block, gathered_in_else, gathered_in_arms, gathered_in_list}
 use Rattle.sap_tree.specs.Whole.{is_outermost, is_simple, is_command, is_block, is_else, are_arms, are_commands, has_arm, has_constant, are_constants, arm_count}
 use Rattle.sap_tree.specs.Words.{is_second}
 use Rattle.sap_tree.specs.declared.version.Version.{Version}
@@ -22,31 +23,6 @@ use Rattle.sap_meaning.specs.Walks as walks
 use Rattle.sap_meaning.specs.Walks.{Asks}
 use Rattle.sap_resolved.specs.Resolve.{site_number, step_of, command_of, arms_of, block_of, else_of, list_of}
 use Rattle.sap_resolved.specs.Terms.{term_of}
-
--- P holds of each simple command, and Q of each condition and number with the width that it is asked for
-module _ (P : SimpleCommand → Type 0) (Q : (asked : Option ℕ) → Expression → Type 0) where
-  abbrev mutual
-    pub Every : Command → Type 0
-    Every (lone c) = P c
-    Every (try c place handler) = P c × EveryInBlock handler
-    Every (if_else place e one other) = Q (Some 1) e × EveryInBlock one × EveryInElse other
-    Every (try_then c place one other) = P c × EveryInBlock one × EveryInBlock other
-    Every (case_of place e arms) = Q None e × EveryInArms arms
-
-    pub EveryInBlock : CommandBlock → Type 0
-    EveryInBlock (command_block list after) = EveryInList list
-
-    pub EveryInElse : ElseBlock → Type 0
-    EveryInElse no_else = Unit {0}
-    EveryInElse (with_else block) = EveryInBlock block
-
-    pub EveryInArms : Arms → Type 0
-    EveryInArms (last_arm block) = EveryInBlock block
-    EveryInArms (and_arm constants block arms) = EveryInBlock block × EveryInArms arms
-
-    pub EveryInList : CommandList → Type 0
-    EveryInList no_command = Unit {0}
-    EveryInList (and_command c list) = Every c × EveryInList list
 
 -- in a whole design each is whole
 module _ (version : Version) where
@@ -103,7 +79,7 @@ module _ (levels : List (List ℕ)) (what : Lookup) where
   Fitting asked e = expression_faults what e asked ≡ []
 
   mutual
-    every_named : (c : Command) → command_faults levels what c ≡ [] → Every Named Fitting c
+    pub every_named : (c : Command) → command_faults levels what c ≡ [] → Every Named Fitting c
     every_named (lone c) f = f
     every_named (try c place handler) f = (nil_left _ _ f, every_named_in_block handler (nil_right _ _ f))
     every_named (if_else place e one other) f =
@@ -234,3 +210,58 @@ pub steps_of_block : (ls : Levels) (h : Surroundings) (To : program.Step → Typ
 steps_of_block ls h To of_step k b =
     every_resolved_in_block ls h AnyCommand AnyCommand AnyTerm AnyTerm To (λ e. Unit {0}) (λ n c p r. of_step n c) (λ e p r. tt) (λ e p r. tt) k b
     (any_in_block b) (any_in_block b)
+
+-- What is gathered in a design and in its program is related where it is so at each simple command of which P holds, and joining keeps it.
+module _ (ls : Levels) (h : Surroundings) {A B : Type 0} (none : A) (join : A → A → A) (least : B) (meet : B → B → B) (Rel : A → B → Type 0)
+    (at_none : Rel none least) (at_join : (a b : A) (c d : B) → Rel a c → Rel b d → Rel (join a b) (meet c d)) where
+  module _ (P : SimpleCommand → Type 0) (Q : Option ℕ → Expression → Type 0) (f : SimpleCommand → A) (g : program.Step → B)
+      (at_step : (n : ℕ) (c : SimpleCommand) → P c → Rel (f c) (g (step_of ls h n c))) where
+    abbrev in_block : CommandBlock → A
+    in_block b = gathered_in_block none join f b
+
+    abbrev in_else : ElseBlock → A
+    in_else b = gathered_in_else none join f b
+
+    abbrev of_block : program.Block → B
+    of_block b = walks.gathered_in_block least meet g b
+
+    mutual
+      pub gathered_resolved : (k : ℕ) (c : Command) → Every P Q c → Rel (gathered none join f c) (walks.gathered least meet g (command_of ls h k c))
+      gathered_resolved k (lone c) p = at_step (site_number h k c) c p
+      gathered_resolved k (try c place b) p =
+          let i = k + length (simple_sites h c) in
+          at_join (f c) (in_block b) (g (step_of ls h (site_number h k c) c)) (of_block (block_of ls h i b)) (at_step (site_number h k c) c p.0) (gathered_in_block_resolved i b p.1)
+      gathered_resolved k (if_else place e b other) p =
+          let i = k + length (block_sites h b) in
+          at_join (in_block b) (in_else other) (of_block (block_of ls h k b)) (of_block (else_of ls h i other)) (gathered_in_block_resolved k b p.1)
+          (gathered_in_else_resolved i other p.2)
+      gathered_resolved k (try_then c place a b) p =
+          let i = k + length (simple_sites h c) in
+          let j = i + length (block_sites h a) in
+          at_join (f c) (join (in_block a) (in_block b)) (g (step_of ls h (site_number h k c) c)) (meet (of_block (block_of ls h i a)) (of_block (block_of ls h j b)))
+          (at_step (site_number h k c) c p.0)
+          (at_join (in_block a) (in_block b) (of_block (block_of ls h i a)) (of_block (block_of ls h j b)) (gathered_in_block_resolved i a p.1)
+          (gathered_in_block_resolved j b p.2))
+      gathered_resolved k (case_of place e arms) p = gathered_in_arms_resolved k arms p.1
+
+      pub gathered_in_block_resolved : (k : ℕ) (b : CommandBlock) → EveryInBlock P Q b → Rel (in_block b) (of_block (block_of ls h k b))
+      gathered_in_block_resolved k (command_block list after) p = gathered_in_list_resolved k list p
+
+      gathered_in_else_resolved : (k : ℕ) (b : ElseBlock) → EveryInElse P Q b → Rel (in_else b) (of_block (else_of ls h k b))
+      gathered_in_else_resolved k no_else p = at_none
+      gathered_in_else_resolved k (with_else b) p = gathered_in_block_resolved k b p
+
+      gathered_in_arms_resolved : (k : ℕ) (arms : Arms) → EveryInArms P Q arms
+          → Rel (gathered_in_arms none join f arms) (walks.gathered_in_arms least meet g (arms_of ls h k arms))
+      gathered_in_arms_resolved k (last_arm b) p = gathered_in_block_resolved k b p
+      gathered_in_arms_resolved k (and_arm constants b arms) p =
+          let i = k + length (block_sites h b) in
+          at_join (in_block b) (gathered_in_arms none join f arms) (of_block (block_of ls h k b)) (walks.gathered_in_arms least meet g (arms_of ls h i arms))
+          (gathered_in_block_resolved k b p.0) (gathered_in_arms_resolved i arms p.1)
+
+      gathered_in_list_resolved : (k : ℕ) (list : CommandList) → EveryInList P Q list → Rel (gathered_in_list none join f list) (of_block (list_of ls h k list))
+      gathered_in_list_resolved k no_command p = at_none
+      gathered_in_list_resolved k (and_command c list) p =
+          let i = k + length (command_sites h c) in
+          at_join (gathered none join f c) (gathered_in_list none join f list) (walks.gathered least meet g (command_of ls h k c)) (of_block (list_of ls h i list))
+          (gathered_resolved k c p.0) (gathered_in_list_resolved i list p.1)

@@ -3,6 +3,7 @@
 use Rattle.std.specs.Prelude.{List, [], ◌∷◌, ◌++◌, Bool, true, false, not, ◌||◌, ℕ, if◌then◌else◌}
 use Rattle.sap_tree.specs.declared.syntax.Kind.{Kind}
 use Rattle.sap_tree.specs.Syntax.{SimpleCommand, assign, write, set_tag, set_cell_tag, go_to, fall_to_child, Command, lone, try, if_else, try_then, case_of, Arms, last_arm, and_arm, CommandBlock, command_block, ElseBlock, no_else, with_else, CommandList, no_command, and_command, StateTree, state_node, StateList, no_state, and_state, DesignTree}
+use Rattle.sap_tree.specs.Walks.{gathered, gathered_in_block, gathered_in_else, gathered_in_arms, gathered_in_list, gathered_from, gathered_from_list, body_of}
 use Rattle.sap_tree.specs.Touches.{Home, home_of, is_dynamic_kind}
 use Rattle.sap_names.specs.declared.entity.Entity.{Entity}
 use Rattle.sap_names.specs.Entities.{find, enforced_of, dynamic_of, entities_of}
@@ -43,38 +44,30 @@ pub record CheckSite : Type 0 where
 abbrev pub simple_sites : Surroundings → SimpleCommand → List CheckSite
 simple_sites h k = let s : CheckSite = record { surroundings = h; command = k } in if is_site h.entities h.home.kind h.home.children k then s ∷ [] else []
 
-abbrev mutual
-  pub command_sites : Surroundings → Command → List CheckSite
-  command_sites h (lone k) = simple_sites h k
-  command_sites h (try k place handler) = simple_sites h k ++ block_sites h handler
-  command_sites h (if_else place condition then_block else_block) = block_sites h then_block ++ else_sites h else_block
-  command_sites h (try_then k place accepted refused) = simple_sites h k ++ (block_sites h accepted ++ block_sites h refused)
-  command_sites h (case_of place e arms) = arms_sites h arms
+abbrev pub command_sites : Surroundings → Command → List CheckSite
+command_sites h c = gathered [] ◌++◌ (simple_sites h) c
 
-  pub block_sites : Surroundings → CommandBlock → List CheckSite
-  block_sites h (command_block cs after) = list_sites h cs
+abbrev pub block_sites : Surroundings → CommandBlock → List CheckSite
+block_sites h block = gathered_in_block [] ◌++◌ (simple_sites h) block
 
-  pub else_sites : Surroundings → ElseBlock → List CheckSite
-  else_sites h no_else = []
-  else_sites h (with_else b) = block_sites h b
+abbrev pub else_sites : Surroundings → ElseBlock → List CheckSite
+else_sites h other = gathered_in_else [] ◌++◌ (simple_sites h) other
 
-  pub arms_sites : Surroundings → Arms → List CheckSite
-  arms_sites h (last_arm b) = block_sites h b
-  arms_sites h (and_arm constants b arms) = block_sites h b ++ arms_sites h arms
+abbrev pub arms_sites : Surroundings → Arms → List CheckSite
+arms_sites h arms = gathered_in_arms [] ◌++◌ (simple_sites h) arms
 
-  pub list_sites : Surroundings → CommandList → List CheckSite
-  list_sites h no_command = []
-  list_sites h (and_command c cs) = command_sites h c ++ list_sites h cs
+abbrev pub list_sites : Surroundings → CommandList → List CheckSite
+list_sites h list = gathered_in_list [] ◌++◌ (simple_sites h) list
 
 -- those of a body stand before those of the children
-abbrev mutual
-  pub state_sites : List Entity → StateTree → List CheckSite
-  state_sites es (state_node place name kind body children) =
-      block_sites (record { entities = es; home = home_of (state_node place name kind body children) }) body ++ states_sites es children
+abbrev pub body_sites : List Entity → StateTree → List CheckSite
+body_sites es s = block_sites (record { entities = es; home = home_of s }) (body_of s)
 
-  pub states_sites : List Entity → StateList → List CheckSite
-  states_sites es no_state = []
-  states_sites es (and_state s rest) = state_sites es s ++ states_sites es rest
+abbrev pub state_sites : List Entity → StateTree → List CheckSite
+state_sites es s = gathered_from [] ◌++◌ (body_sites es) s
+
+abbrev pub states_sites : List Entity → StateList → List CheckSite
+states_sites es states = gathered_from_list [] ◌++◌ (body_sites es) states
 
 abbrev pub check_sites : DesignTree → List CheckSite
 check_sites d = states_sites (entities_of d) d.states

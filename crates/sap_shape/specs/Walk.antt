@@ -2,6 +2,7 @@
 -- (`Paths.antt`).
 use Rattle.std.specs.Prelude.{ℕ, List, [], ◌++◌, Bool, true, false, ◌||◌, if◌then◌else◌, bytes_eq}
 use Rattle.sap_tree.specs.Syntax.{SimpleCommand, assign, write, set_tag, set_cell_tag, go_to, fall_to_child, Command, lone, try, if_else, try_then, case_of, Arms, last_arm, and_arm, CommandBlock, command_block, ElseBlock, no_else, with_else, CommandList, no_command, and_command, StateTree, state_node, StateList, no_state, and_state}
+use Rattle.sap_tree.specs.Walks.{some, some_in_block, some_in_else, some_in_arms, some_in_list}
 use Rattle.sap_names.specs.declared.fault.Fault.{Fault}
 use Rattle.sap_names.specs.declared.kind.Code.TheVariants.{E14}
 use Rattle.sap_names.specs.NameFaults.{fault_if}
@@ -60,28 +61,20 @@ is_fall (set_cell_tag place target index tag) = false
 is_fall (go_to place target) = false
 is_fall (fall_to_child place) = true
 
-abbrev mutual
-  pub falls : Command → Bool
-  falls (lone k) = is_fall k
-  falls (try k place handler) = is_fall k || falls_block handler
-  falls (if_else place condition then_block else_block) = falls_block then_block || falls_else else_block
-  falls (try_then k place accepted refused) = is_fall k || (falls_block accepted || falls_block refused)
-  falls (case_of place e arms) = falls_arms arms
+abbrev pub falls : Command → Bool
+falls c = some is_fall c
 
-  pub falls_block : CommandBlock → Bool
-  falls_block (command_block cs after) = falls_list cs
+abbrev pub falls_block : CommandBlock → Bool
+falls_block block = some_in_block is_fall block
 
-  pub falls_else : ElseBlock → Bool
-  falls_else no_else = false
-  falls_else (with_else b) = falls_block b
+abbrev pub falls_else : ElseBlock → Bool
+falls_else other = some_in_else is_fall other
 
-  pub falls_arms : Arms → Bool
-  falls_arms (last_arm b) = falls_block b
-  falls_arms (and_arm constants b arms) = falls_block b || falls_arms arms
+abbrev pub falls_arms : Arms → Bool
+falls_arms arms = some_in_arms is_fall arms
 
-  pub falls_list : CommandList → Bool
-  falls_list no_command = false
-  falls_list (and_command c cs) = falls c || falls_list cs
+abbrev pub falls_list : CommandList → Bool
+falls_list list = some_in_list is_fall list
 
 -- up to each `fall`, where a child is entered
 abbrev pub entering_simple : SimpleCommand → Written → Written

@@ -1,4 +1,5 @@
 pub mod Syntax
+pub mod Walks
 pub mod Trees
 pub mod Spots
 pub mod Limits

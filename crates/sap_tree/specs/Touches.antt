@@ -3,6 +3,7 @@ use Rattle.std.specs.Prelude.{ℕ, Bool, true, false, ◌&&◌, ◌||◌, List}
 use Rattle.std.specs.List.{list_any}
 use Rattle.std.specs.Str.{bytes_eq}
 use Rattle.sap_tree.specs.Syntax.{SimpleCommand, assign, write, set_tag, set_cell_tag, go_to, fall_to_child, Command, lone, try, if_else, try_then, case_of, Arms, last_arm, and_arm, CommandBlock, command_block, ElseBlock, no_else, with_else, CommandList, no_command, and_command, StateTree, state_node, StateList, no_state, and_state, DesignTree}
+use Rattle.sap_tree.specs.Walks.{some, some_in_block, some_in_else, some_in_arms, some_in_list}
 use Rattle.sap_tree.specs.declared.syntax.Decl.TheVariants as d
 use Rattle.sap_tree.specs.declared.syntax.Decl.{Decl}
 use Rattle.sap_tree.specs.declared.syntax.Kind.TheVariants as k
@@ -39,28 +40,20 @@ simple_assigns (set_cell_tag place memory index n) x = false
 simple_assigns (go_to place target) x = false
 simple_assigns (fall_to_child place) x = false
 
-unfoldable mutual
-  pub assigns : Command → List ℕ → Bool
-  assigns (lone c) x = simple_assigns c x
-  assigns (try c place handler) x = simple_assigns c x || block_assigns handler x
-  assigns (if_else place e one other) x = block_assigns one x || else_assigns other x
-  assigns (try_then c place one other) x = simple_assigns c x || (block_assigns one x || block_assigns other x)
-  assigns (case_of place e arms) x = arms_assign arms x
+unfoldable pub assigns : Command → List ℕ → Bool
+assigns c x = some (λ k. simple_assigns k x) c
 
-  pub block_assigns : CommandBlock → List ℕ → Bool
-  block_assigns (command_block list after) x = list_assigns list x
+unfoldable pub block_assigns : CommandBlock → List ℕ → Bool
+block_assigns block x = some_in_block (λ k. simple_assigns k x) block
 
-  pub else_assigns : ElseBlock → List ℕ → Bool
-  else_assigns no_else x = false
-  else_assigns (with_else block) x = block_assigns block x
+unfoldable pub else_assigns : ElseBlock → List ℕ → Bool
+else_assigns other x = some_in_else (λ k. simple_assigns k x) other
 
-  pub arms_assign : Arms → List ℕ → Bool
-  arms_assign (last_arm block) x = block_assigns block x
-  arms_assign (and_arm constants block arms) x = block_assigns block x || arms_assign arms x
+unfoldable pub arms_assign : Arms → List ℕ → Bool
+arms_assign arms x = some_in_arms (λ k. simple_assigns k x) arms
 
-  pub list_assigns : CommandList → List ℕ → Bool
-  list_assigns no_command x = false
-  list_assigns (and_command c list) x = assigns c x || list_assigns list x
+unfoldable pub list_assigns : CommandList → List ℕ → Bool
+list_assigns list x = some_in_list (λ k. simple_assigns k x) list
 
 -- whether the body of one of these states or of their descendants assigns x
 unfoldable mutual
@@ -92,29 +85,20 @@ simple_touches declarations home (set_cell_tag place memory index n) x = false
 simple_touches declarations home (go_to place target) x = is_dynamic_kind home.kind && bytes_eq home.name x
 simple_touches declarations home (fall_to_child place) x = fall_touches declarations home.children x
 
-unfoldable mutual
-  pub touches : List Decl → Home → Command → List ℕ → Bool
-  touches declarations home (lone c) x = simple_touches declarations home c x
-  touches declarations home (try c place handler) x = simple_touches declarations home c x || block_touches declarations home handler x
-  touches declarations home (if_else place e one other) x = block_touches declarations home one x || else_touches declarations home other x
-  touches declarations home (try_then c place one other) x =
-      simple_touches declarations home c x || (block_touches declarations home one x || block_touches declarations home other x)
-  touches declarations home (case_of place e arms) x = arms_touch declarations home arms x
+unfoldable pub touches : List Decl → Home → Command → List ℕ → Bool
+touches declarations home c x = some (λ k. simple_touches declarations home k x) c
 
-  pub block_touches : List Decl → Home → CommandBlock → List ℕ → Bool
-  block_touches declarations home (command_block list after) x = list_touches declarations home list x
+unfoldable pub block_touches : List Decl → Home → CommandBlock → List ℕ → Bool
+block_touches declarations home block x = some_in_block (λ k. simple_touches declarations home k x) block
 
-  pub else_touches : List Decl → Home → ElseBlock → List ℕ → Bool
-  else_touches declarations home no_else x = false
-  else_touches declarations home (with_else block) x = block_touches declarations home block x
+unfoldable pub else_touches : List Decl → Home → ElseBlock → List ℕ → Bool
+else_touches declarations home other x = some_in_else (λ k. simple_touches declarations home k x) other
 
-  pub arms_touch : List Decl → Home → Arms → List ℕ → Bool
-  arms_touch declarations home (last_arm block) x = block_touches declarations home block x
-  arms_touch declarations home (and_arm constants block arms) x = block_touches declarations home block x || arms_touch declarations home arms x
+unfoldable pub arms_touch : List Decl → Home → Arms → List ℕ → Bool
+arms_touch declarations home arms x = some_in_arms (λ k. simple_touches declarations home k x) arms
 
-  pub list_touches : List Decl → Home → CommandList → List ℕ → Bool
-  list_touches declarations home no_command x = false
-  list_touches declarations home (and_command c list) x = touches declarations home c x || list_touches declarations home list x
+unfoldable pub list_touches : List Decl → Home → CommandList → List ℕ → Bool
+list_touches declarations home list x = some_in_list (λ k. simple_touches declarations home k x) list
 
 -- the root's fall
 abbrev pub root_touches : DesignTree → List ℕ → Bool

@@ -38,6 +38,7 @@ use Rattle.sap_resolved.proofs.premises.Worlds.{laid}
 use Rattle.sap_resolved.specs.Kept.Hangs.{rows, arms_rows, block_rows, state_rows, group_rows, row_of, point_row}
 use Rattle.sap_resolved.specs.Kept.Kept.{IsNamed}
 use Rattle.sap_resolved.specs.Kept.Laws.{HangsAgree}
+use Rattle.sap_resolved.proofs.TreeWalks.{Named, Fitting, every_named, every_named_in_block, gathered_resolved, gathered_in_block_resolved}
 use Rattle.sap_resolved.proofs.kept.Names.{named_at, named_of}
 use Rattle.sap_resolved.proofs.kept.Keeping.{Known}
 use Rattle.sap_resolved.proofs.kept.Designs.{known_names}
@@ -108,48 +109,14 @@ module _ (ls : Levels) (le : ℕ → ℕ → Bool) (ds : List Decl) (es : List E
     simple_same m (go_to place target) f = both_none (is_dynamic_store ds n) (is_dynamic w x)
     simple_same m (fall_to_child place) f = both_none (is_dynamic_store ds n) (is_dynamic w x)
 
-    mutual
-      unfolding tree.assigns tree.block_assigns tree.else_assigns tree.arms_assign tree.list_assigns
-
-      command_same : (m : ℕ) (c : Command) → command_faults ls.names means c ≡ []
-          → (is_dynamic_store ds n && tree.assigns c n) ≡ (is_dynamic w x && assigns (command_of ls h m c) x)
-      command_same m (lone c) f = simple_same (site_number h m c) c f
-      command_same m (try c place handler) f =
-          let p = none_two (simple_faults ls.names means c) (block_faults ls.names means handler) f in
-          and_or (is_dynamic_store ds n) (is_dynamic w x) _ _ _ _ (simple_same (site_number h m c) c p.0) (block_same (m + length (simple_sites h c)) handler p.1)
-      command_same m (if_else place condition one other) f =
-          let p = none_three (expression_faults means condition (Some 1)) (block_faults ls.names means one) (else_faults ls.names means other) f in
-          and_or (is_dynamic_store ds n) (is_dynamic w x) _ _ _ _ (block_same m one p.1) (else_same (m + length (block_sites h one)) other p.2)
-      command_same m (try_then c place one other) f =
-          let p = none_three (simple_faults ls.names means c) (block_faults ls.names means one) (block_faults ls.names means other) f in
-          and_or (is_dynamic_store ds n) (is_dynamic w x) _ _ _ _ (simple_same (site_number h m c) c p.0)
-          (and_or (is_dynamic_store ds n) (is_dynamic w x) _ _ _ _ (block_same (m + length (simple_sites h c)) one p.1) (block_same (m + length (simple_sites h c) + length (block_sites h one)) other p.2))
-      command_same m (case_of place e arms) f =
-          let p = none_two (expression_faults means e None) (arms_faults ls.names means (own_of means e) arms) f in
-          arms_same m (own_of means e) arms p.1
-
-      arms_same : (m : ℕ) (asked : Option ℕ) (arms : Arms) → arms_faults ls.names means asked arms ≡ []
-          → (is_dynamic_store ds n && tree.arms_assign arms n) ≡ (is_dynamic w x && arms_assign (arms_of ls h m arms) x)
-      arms_same m asked (last_arm b) f = block_same m b f
-      arms_same m asked (and_arm constants b arms) f =
-          let p = none_three (constants_faults means asked constants) (block_faults ls.names means b) (arms_faults ls.names means asked arms) f in
-          and_or (is_dynamic_store ds n) (is_dynamic w x) _ _ _ _ (block_same m b p.1) (arms_same (m + length (block_sites h b)) asked arms p.2)
-
-      block_same : (m : ℕ) (b : CommandBlock) → block_faults ls.names means b ≡ []
-          → (is_dynamic_store ds n && tree.block_assigns b n) ≡ (is_dynamic w x && block_assigns (block_of ls h m b) x)
-      block_same m (command_block cs after) f = list_same m cs f
-
-      else_same : (m : ℕ) (b : ElseBlock) → else_faults ls.names means b ≡ []
-          → (is_dynamic_store ds n && tree.else_assigns b n) ≡ (is_dynamic w x && block_assigns (else_of ls h m b) x)
-      else_same m no_else f = both_none (is_dynamic_store ds n) (is_dynamic w x)
-      else_same m (with_else b) f = block_same m b f
-
-      list_same : (m : ℕ) (cs : CommandList) → commands_faults ls.names means cs ≡ []
-          → (is_dynamic_store ds n && tree.list_assigns cs n) ≡ (is_dynamic w x && block_assigns (list_of ls h m cs) x)
-      list_same m no_command f = both_none (is_dynamic_store ds n) (is_dynamic w x)
-      list_same m (and_command c cs) f =
-          let p = none_two (command_faults ls.names means c) (commands_faults ls.names means cs) f in
-          and_or (is_dynamic_store ds n) (is_dynamic w x) _ _ _ _ (command_same m c p.0) (list_same (m + length (command_sites h c)) cs p.1)
+    block_same : (m : ℕ) (b : CommandBlock) → block_faults ls.names means b ≡ []
+        → (is_dynamic_store ds n && tree.block_assigns b n) ≡ (is_dynamic w x && block_assigns (block_of ls h m b) x)
+    unfolding tree.block_assigns
+    block_same m b f =
+        gathered_in_block_resolved ls h false ◌||◌ false ◌||◌ (λ a c. (is_dynamic_store ds n && a) ≡ (is_dynamic w x && c))
+        (both_none (is_dynamic_store ds n) (is_dynamic w x)) (λ a c d e i j. and_or (is_dynamic_store ds n) (is_dynamic w x) a c d e i j)
+        (Named ls.names means) (Fitting ls.names means) (λ c. tree.simple_assigns c n) (λ c. step_assigns c x) simple_same m b
+        (every_named_in_block ls.names means b f)
 
     -- what is touched in the body of a state with the number s and the children g
     module _ (s : ℕ) (g : Group) (own : (tree.is_dynamic_kind home.kind && bytes_eq home.name n) ≡ (is_dynamic w x && nat_eq x s))
@@ -164,48 +131,13 @@ module _ (ls : Levels) (le : ℕ → ℕ → Bool) (ds : List Decl) (es : List E
       simple_touched m (go_to place target) f = own
       simple_touched m (fall_to_child place) f = falls
 
-      mutual
-        unfolding tree.touches tree.block_touches tree.else_touches tree.arms_touch tree.list_touches
-
-        pub command_touched : (m : ℕ) (c : Command) → command_faults ls.names means c ≡ []
-            → tree.touches ds home c n ≡ (is_dynamic w x && hangs s g (command_of ls h m c) x)
-        command_touched m (lone c) f = simple_touched (site_number h m c) c f
-        command_touched m (try c place handler) f =
-            let p = none_two (simple_faults ls.names means c) (block_faults ls.names means handler) f in
-            or_and (is_dynamic w x) _ _ _ _ (simple_touched (site_number h m c) c p.0) (block_touched (m + length (simple_sites h c)) handler p.1)
-        command_touched m (if_else place condition one other) f =
-            let p = none_three (expression_faults means condition (Some 1)) (block_faults ls.names means one) (else_faults ls.names means other) f in
-            or_and (is_dynamic w x) _ _ _ _ (block_touched m one p.1) (else_touched (m + length (block_sites h one)) other p.2)
-        command_touched m (try_then c place one other) f =
-            let p = none_three (simple_faults ls.names means c) (block_faults ls.names means one) (block_faults ls.names means other) f in
-            or_and (is_dynamic w x) _ _ _ _ (simple_touched (site_number h m c) c p.0)
-            (or_and (is_dynamic w x) _ _ _ _ (block_touched (m + length (simple_sites h c)) one p.1) (block_touched (m + length (simple_sites h c) + length (block_sites h one)) other p.2))
-        command_touched m (case_of place e arms) f =
-            let p = none_two (expression_faults means e None) (arms_faults ls.names means (own_of means e) arms) f in
-            arms_touched m (own_of means e) arms p.1
-
-        arms_touched : (m : ℕ) (asked : Option ℕ) (arms : Arms) → arms_faults ls.names means asked arms ≡ []
-            → tree.arms_touch ds home arms n ≡ (is_dynamic w x && arms_hang s g (arms_of ls h m arms) x)
-        arms_touched m asked (last_arm b) f = block_touched m b f
-        arms_touched m asked (and_arm constants b arms) f =
-            let p = none_three (constants_faults means asked constants) (block_faults ls.names means b) (arms_faults ls.names means asked arms) f in
-            or_and (is_dynamic w x) _ _ _ _ (block_touched m b p.1) (arms_touched (m + length (block_sites h b)) asked arms p.2)
-
-        block_touched : (m : ℕ) (b : CommandBlock) → block_faults ls.names means b ≡ []
-            → tree.block_touches ds home b n ≡ (is_dynamic w x && block_hangs s g (block_of ls h m b) x)
-        block_touched m (command_block cs after) f = list_touched m cs f
-
-        else_touched : (m : ℕ) (b : ElseBlock) → else_faults ls.names means b ≡ []
-            → tree.else_touches ds home b n ≡ (is_dynamic w x && block_hangs s g (else_of ls h m b) x)
-        else_touched m no_else f = never (is_dynamic w x)
-        else_touched m (with_else b) f = block_touched m b f
-
-        list_touched : (m : ℕ) (cs : CommandList) → commands_faults ls.names means cs ≡ []
-            → tree.list_touches ds home cs n ≡ (is_dynamic w x && block_hangs s g (list_of ls h m cs) x)
-        list_touched m no_command f = never (is_dynamic w x)
-        list_touched m (and_command c cs) f =
-            let p = none_two (command_faults ls.names means c) (commands_faults ls.names means cs) f in
-            or_and (is_dynamic w x) _ _ _ _ (command_touched m c p.0) (list_touched (m + length (command_sites h c)) cs p.1)
+      pub command_touched : (m : ℕ) (c : Command) → command_faults ls.names means c ≡ []
+          → tree.touches ds home c n ≡ (is_dynamic w x && hangs s g (command_of ls h m c) x)
+      unfolding tree.touches
+      command_touched m c f =
+          gathered_resolved ls h false ◌||◌ false ◌||◌ (λ a b. a ≡ (is_dynamic w x && b)) (never (is_dynamic w x))
+          (λ a b p q i j. or_and (is_dynamic w x) p q a b i j) (Named ls.names means) (Fitting ls.names means) (λ k. simple_touches ds home k n)
+          (λ k. step_hangs s g k x) simple_touched m c (every_named ls.names means c f)
 
   mutual
     unfolding tree.state_assigns tree.states_assign

@@ -1,0 +1,83 @@
+-- Walks over a design's commands. A definition that asks or gathers the same of all parts is a walk, and says what it asks or has of one.
+use Rattle.std.specs.Prelude.{ℕ, Bool, false, ◌||◌, Option, Some, None}
+use Rattle.sap_tree.specs.Syntax.{Expression, SimpleCommand, Command, lone, try, if_else, try_then, case_of, Arms, last_arm, and_arm, CommandBlock, command_block, ElseBlock, no_else, with_else, CommandList, no_command, and_command, StateTree, state_node, StateList, no_state, and_state}
+
+-- P holds of each simple command, and Q of each condition and number with the width that it is asked for
+module _ (P : SimpleCommand → Type 0) (Q : (asked : Option ℕ) → Expression → Type 0) where
+  abbrev mutual
+    pub Every : Command → Type 0
+    Every (lone c) = P c
+    Every (try c place handler) = P c × EveryInBlock handler
+    Every (if_else place e one other) = Q (Some 1) e × EveryInBlock one × EveryInElse other
+    Every (try_then c place one other) = P c × EveryInBlock one × EveryInBlock other
+    Every (case_of place e arms) = Q None e × EveryInArms arms
+
+    pub EveryInBlock : CommandBlock → Type 0
+    EveryInBlock (command_block list after) = EveryInList list
+
+    pub EveryInElse : ElseBlock → Type 0
+    EveryInElse no_else = Unit {0}
+    EveryInElse (with_else block) = EveryInBlock block
+
+    pub EveryInArms : Arms → Type 0
+    EveryInArms (last_arm block) = EveryInBlock block
+    EveryInArms (and_arm constants block arms) = EveryInBlock block × EveryInArms arms
+
+    pub EveryInList : CommandList → Type 0
+    EveryInList no_command = Unit {0}
+    EveryInList (and_command c list) = Every c × EveryInList list
+
+-- what f has of each simple command, joined in the order of the text; `none` where there is none
+module _ {A : Type 0} (none : A) (join : A → A → A) (f : SimpleCommand → A) where
+  abbrev mutual
+    pub gathered : Command → A
+    gathered (lone c) = f c
+    gathered (try c place handler) = join (f c) (gathered_in_block handler)
+    gathered (if_else place e one other) = join (gathered_in_block one) (gathered_in_else other)
+    gathered (try_then c place one other) = join (f c) (join (gathered_in_block one) (gathered_in_block other))
+    gathered (case_of place e arms) = gathered_in_arms arms
+
+    pub gathered_in_block : CommandBlock → A
+    gathered_in_block (command_block list after) = gathered_in_list list
+
+    pub gathered_in_else : ElseBlock → A
+    gathered_in_else no_else = none
+    gathered_in_else (with_else block) = gathered_in_block block
+
+    pub gathered_in_arms : Arms → A
+    gathered_in_arms (last_arm block) = gathered_in_block block
+    gathered_in_arms (and_arm constants block arms) = join (gathered_in_block block) (gathered_in_arms arms)
+
+    pub gathered_in_list : CommandList → A
+    gathered_in_list no_command = none
+    gathered_in_list (and_command c list) = join (gathered c) (gathered_in_list list)
+
+-- p holds of some simple command
+module _ (p : SimpleCommand → Bool) where
+  abbrev pub some : Command → Bool
+  some c = gathered false ◌||◌ p c
+
+  abbrev pub some_in_block : CommandBlock → Bool
+  some_in_block block = gathered_in_block false ◌||◌ p block
+
+  abbrev pub some_in_else : ElseBlock → Bool
+  some_in_else other = gathered_in_else false ◌||◌ p other
+
+  abbrev pub some_in_arms : Arms → Bool
+  some_in_arms arms = gathered_in_arms false ◌||◌ p arms
+
+  abbrev pub some_in_list : CommandList → Bool
+  some_in_list list = gathered_in_list false ◌||◌ p list
+
+abbrev pub body_of : StateTree → CommandBlock
+body_of (state_node place name kind body children) = body
+
+-- what f has of each state, joined, a state before its children
+module _ {A : Type 0} (none : A) (join : A → A → A) (f : StateTree → A) where
+  abbrev mutual
+    pub gathered_from : StateTree → A
+    gathered_from (state_node place name kind body children) = join (f (state_node place name kind body children)) (gathered_from_list children)
+
+    pub gathered_from_list : StateList → A
+    gathered_from_list no_state = none
+    gathered_from_list (and_state s states) = join (gathered_from s) (gathered_from_list states)
