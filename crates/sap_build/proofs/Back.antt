@@ -23,9 +23,12 @@ inputs_found n rules =
     all_follow (λ (i : Input). find (first_readable n) i.name ≡ Some i.width) (λ i. find (readable n) i.name ≡ Some i.width) n.inputs
     (λ i h. readable_kept (shapes n) n.wires (first_readable n) rules.assigns i.name i.width h)
     (all_of_map (λ (e : Name × ℕ). find (first_readable n) e.0 ≡ Some e.1) (λ (i : Input). (i.name, i.width)) n.inputs
-    (all_parts {X = Name × ℕ} (λ (e : Name × ℕ). find (first_readable n) e.0 ≡ Some e.1) (map {B = Name × ℕ} (λ i. (i.name, i.width)) n.inputs) (map {B = Name × ℕ} (λ r. (r.name, r.width)) n.registers) (values_found (shapes n) (first_readable n) rules.values)).0)
+    (all_parts {X = Name × ℕ} (λ (e : Name × ℕ). find (first_readable n) e.0 ≡ Some e.1)
+    (map {B = Name × ℕ} (λ i. (i.name, i.width)) n.inputs) (map {B = Name × ℕ} (λ r. (r.name, r.width)) n.registers)
+    (values_found (shapes n) (first_readable n) rules.values)).0)
 
-inputs_fit : (f : Name → Name) (n : Net) (v : Valuation) → IsWithin n v → (is : List Input) → AllByRecursion (λ i. find (readable n) i.name ≡ Some i.width) is → (xs : List ℕ) → InputsAre v is xs → InputsFit (map (copy_input f) is) xs
+inputs_fit : (f : Name → Name) (n : Net) (v : Valuation) → IsWithin n v → (is : List Input)
+    → AllByRecursion (λ i. find (readable n) i.name ≡ Some i.width) is → (xs : List ℕ) → InputsAre v is xs → InputsFit (map (copy_input f) is) xs
 inputs_fit f n v w [] a [] h = tt
 inputs_fit f n v w [] a (x ∷ xs) h = h
 inputs_fit f n v w (i ∷ is) a [] h = h
@@ -34,7 +37,8 @@ inputs_fit f n v w (i ∷ is) a (x ∷ xs) h = (
   inputs_fit f n v w is a.1 xs h.1,
 )
 
-all_fit : (f : Name → Name) (n : Net) → IsNetlist n → (xss : List (List ℕ)) (p : Option Valuation) (vs : List Valuation) → IsRunAfter n p xss vs → AllFit (map (copy_input f) n.inputs) xss
+all_fit : (f : Name → Name) (n : Net) → IsNetlist n → (xss : List (List ℕ)) (p : Option Valuation) (vs : List Valuation)
+    → IsRunAfter n p xss vs → AllFit (map (copy_input f) n.inputs) xss
 all_fit f n rules [] p vs r = tt
 all_fit f n rules (xs ∷ xss) p [] r = absurd r
 all_fit f n rules (xs ∷ xss) p (v ∷ vs) r = (
@@ -42,7 +46,8 @@ all_fit f n rules (xs ∷ xss) p (v ∷ vs) r = (
   all_fit f n rules xss (Some v) vs r.1,
 )
 
-pub run_back : (module_name : Name) (f : Name → Name) (n : Net) → is_name module_name ≡ true → IsNetlist n → KeepsApart f n → (xss : List (List ℕ)) (vs : List Valuation) → IsRun n xss vs → (us : List Valuation) × IsRun (copy_net module_name f n) xss us × AreSameRuns n vs (map (through f) us)
+pub run_back : (module_name : Name) (f : Name → Name) (n : Net) → is_name module_name ≡ true → IsNetlist n → KeepsApart f n
+    → (xss : List (List ℕ)) (vs : List Valuation) → IsRun n xss vs → (us : List Valuation) × IsRun (copy_net module_name f n) xss us × AreSameRuns n vs (map (through f) us)
 run_back module_name f n named rules k xss vs r =
     let some = run_exists (copy_net module_name f n) (copy_is_netlist module_name f n named rules k) xss None tt (all_fit f n rules xss None vs r) in (
       some.0,

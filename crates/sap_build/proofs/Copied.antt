@@ -61,7 +61,8 @@ same_among f ns ms h x =
     equal_when (is_among x (map f ns)) (is_among x (map f ms)) (among_follows f ns ms (λ y k. sym (h y) ∙ k) x) (among_follows f ms ns (λ y k. h y ∙ k) x)
 
 -- of declared names, those are among the copies of others that are among these
-pub among_apart : (f : Name → Name) (all : List Name) → IsOneToOne f all → (x : Name) → is_among x all ≡ true → (ns : List Name) → AllAmong ns all → is_among (f x) (map f ns) ≡ is_among x ns
+pub among_apart : (f : Name → Name) (all : List Name) → IsOneToOne f all → (x : Name) → is_among x all ≡ true → (ns : List Name)
+    → AllAmong ns all → is_among (f x) (map f ns) ≡ is_among x ns
 among_apart f all one x h ns k =
     equal_when (is_among (f x) (map f ns)) (is_among x ns)
     (λ t. let b = among_back f (f x) ns t in subst (λ (y : Name). is_among y ns ≡ true) (one b.0 x (k b.0 b.1) h b.2) b.1)
@@ -76,7 +77,8 @@ distinct_copied f all one (x ∷ ns) k d =
       distinct_copied f all one ns rest d.1,
     )
 
-filter_copied : (f : Name → Name) (all : List Name) → IsOneToOne f all → (rs : List Name) → AllAmong rs all → (ns : List Name) → AllAmong ns all → filter (λ x. is_among x (map f rs)) (map f ns) ≡ map f (filter (λ x. is_among x rs) ns)
+filter_copied : (f : Name → Name) (all : List Name) → IsOneToOne f all → (rs : List Name) → AllAmong rs all → (ns : List Name)
+    → AllAmong ns all → filter (λ x. is_among x (map f rs)) (map f ns) ≡ map f (filter (λ x. is_among x rs) ns)
 filter_copied f all one rs j [] k = refl
 filter_copied f all one rs j (x ∷ ns) k =
     let rest : AllAmong ns all = λ y h. k y (or_right (bytes_eq y x) (is_among y ns) h) in
@@ -87,7 +89,8 @@ filter_copied f all one rs j (x ∷ ns) k =
       | inr q ↦ rw (e, q) (filter_copied f all one rs j ns rest)
     ]
 
-pub names_copied : {Z : Type 0} (f : Name → Name) (copy : Z → Z) (name : Z → Name) → ((z : Z) → name (copy z) ≡ f (name z)) → (zs : List Z) → map name (map copy zs) ≡ map f (map name zs)
+pub names_copied : {Z : Type 0} (f : Name → Name) (copy : Z → Z) (name : Z → Name) → ((z : Z) → name (copy z) ≡ f (name z)) → (zs : List Z)
+    → map name (map copy zs) ≡ map f (map name zs)
 names_copied f copy name h [] = refl
 names_copied f copy name h (z ∷ zs) =
     let a = h z in
@@ -103,7 +106,8 @@ take_copied f [] ns = refl
 take_copied f (p ∷ ps) [] = refl
 take_copied f (p ∷ ps) (x ∷ ns) = ap (λ zs. f x ∷ zs) (take_copied f ps ns)
 
-inputs_copied : (f : Name → Name) (ps : List Port) → map (λ p. p.name) (filter (λ p. is_input p.kind) (map (copy_port f) ps)) ≡ map f (map (λ p. p.name) (filter (λ p. is_input p.kind) ps))
+inputs_copied : (f : Name → Name) (ps : List Port)
+    → map (λ p. p.name) (filter (λ p. is_input p.kind) (map (copy_port f) ps)) ≡ map f (map (λ p. p.name) (filter (λ p. is_input p.kind) ps))
 inputs_copied f [] = refl
 inputs_copied f (p ∷ ps) =
     elim (cases_Bool (is_input p.kind)) [
@@ -113,7 +117,8 @@ inputs_copied f (p ∷ ps) =
 
 -- rules of use
 
-not_found_copied : {X Y : Type 0} (f : Name → Name) (g : X → Y) (all : List Name) → IsOneToOne f all → (es : List (Name × X)) → AreDeclared all es → (x : Name) → is_among x all ≡ true → find es x ≡ None → find (copied f g es) (f x) ≡ None
+not_found_copied : {X Y : Type 0} (f : Name → Name) (g : X → Y) (all : List Name) → IsOneToOne f all → (es : List (Name × X))
+    → AreDeclared all es → (x : Name) → is_among x all ≡ true → find es x ≡ None → find (copied f g es) (f x) ≡ None
 not_found_copied f g all one es d x h k = find_copied f g all one es d x h ∙ ap (option_map g) k
 
 abbrev widths : (Name → Name) → Scope → Scope
@@ -122,7 +127,8 @@ widths f sc = copied f (λ (u : ℕ). u) sc
 abbrev sizes : (Name → Name) → Shapes → Shapes
 sizes f ms = copied f (λ (s : ℕ × ℕ). s) ms
 
-values_copied : (f : Name → Name) (all : List Name) → IsOneToOne f all → (ms : Shapes) → AreDeclared all ms → (es : Scope) → AreDeclared all es → AreValues ms es → AreValues (sizes f ms) (widths f es)
+values_copied : (f : Name → Name) (all : List Name) → IsOneToOne f all → (ms : Shapes) → AreDeclared all ms → (es : Scope)
+    → AreDeclared all es → AreValues ms es → AreValues (sizes f ms) (widths f es)
 values_copied f all one ms dm [] d a = tt
 values_copied f all one ms dm (e ∷ es) d a = (
   a.0,
@@ -139,11 +145,13 @@ memories_copied f all one (e ∷ es) d a = (
   memories_copied f all one es d.1 a.2,
 )
 
-operand_copied : (f : Name → Name) (all : List Name) → IsOneToOne f all → (sc : Scope) → AreDeclared all sc → (u : ℕ) (o : Operand) → IsOperand sc u o → IsOperand (widths f sc) u (copy_operand f o)
+operand_copied : (f : Name → Name) (all : List Name) → IsOneToOne f all → (sc : Scope) → AreDeclared all sc → (u : ℕ) (o : Operand)
+    → IsOperand sc u o → IsOperand (widths f sc) u (copy_operand f o)
 operand_copied f all one sc d u (Named x) h = found_copied f (λ (w : ℕ). w) all one sc d x u h
 operand_copied f all one sc d u (Constant k n) h = h
 
-operands_copied : (f : Name → Name) (all : List Name) → IsOneToOne f all → (sc : Scope) → AreDeclared all sc → (u : ℕ) (os : List Operand) → AreOperands sc u os → AreOperands (widths f sc) u (map (copy_operand f) os)
+operands_copied : (f : Name → Name) (all : List Name) → IsOneToOne f all → (sc : Scope) → AreDeclared all sc → (u : ℕ) (os : List Operand)
+    → AreOperands sc u os → AreOperands (widths f sc) u (map (copy_operand f) os)
 operands_copied f all one sc d u [] h = h
 operands_copied f all one sc d u (o ∷ os) h = (h.0, h.1, h.2, operand_copied f all one sc d h.0 o h.3, operands_copied f all one sc d h.1 os h.4, h.5)
 
@@ -151,7 +159,8 @@ length_copied : (f : Name → Name) (os : List Operand) → length (map (copy_op
 length_copied f [] = refl
 length_copied f (o ∷ os) = ap (λ k. suc k) (length_copied f os)
 
-right_copied : (f : Name → Name) (all : List Name) → IsOneToOne f all → (ms : Shapes) → AreDeclared all ms → (sc : Scope) → AreDeclared all sc → (u : ℕ) (r : Right) → IsRight ms sc u r → IsRight (sizes f ms) (widths f sc) u (copy_right f r)
+right_copied : (f : Name → Name) (all : List Name) → IsOneToOne f all → (ms : Shapes) → AreDeclared all ms → (sc : Scope)
+    → AreDeclared all sc → (u : ℕ) (r : Right) → IsRight ms sc u r → IsRight (sizes f ms) (widths f sc) u (copy_right f r)
 right_copied f all one ms dm sc d u (Copy a) h = operand_copied f all one sc d u a h
 right_copied f all one ms dm sc d u (One op a) h = (h.0, h.1, operand_copied f all one sc d h.0 a h.2, h.3)
 right_copied f all one ms dm sc d u (Two op a b) h = (
@@ -173,7 +182,8 @@ right_copied f all one ms dm sc d u (Concat os) h = (subst (λ (k : ℕ). 2 ≤ 
 right_copied f all one ms dm sc d u (Slice x hi lo) h = (h.0, h.1, found_copied f (λ (w : ℕ). w) all one sc d x h.0 h.2, h.3, h.4, h.5)
 right_copied f all one ms dm sc d u (Cell m i) h = (h.0, found_copied f (λ (s : ℕ × ℕ). s) all one ms dm m _ h.1, operand_copied f all one sc d h.0 i h.2)
 
-wires_copied : (f : Name → Name) (all : List Name) → IsOneToOne f all → (ms : Shapes) → AreDeclared all ms → (ws : List Wire) → AllAmong (names_of ws) all → (sc : Scope) → AreDeclared all sc → AreWires ms sc ws → AreWires (sizes f ms) (widths f sc) (map (copy_wire f) ws)
+wires_copied : (f : Name → Name) (all : List Name) → IsOneToOne f all → (ms : Shapes) → AreDeclared all ms → (ws : List Wire)
+    → AllAmong (names_of ws) all → (sc : Scope) → AreDeclared all sc → AreWires ms sc ws → AreWires (sizes f ms) (widths f sc) (map (copy_wire f) ws)
 wires_copied f all one ms dm [] k sc d a = tt
 wires_copied f all one ms dm (w ∷ ws) k sc d a =
     let rest : AllAmong (names_of ws) all = λ y h. k y (or_right (bytes_eq y w.name) (is_among y (names_of ws)) h) in
@@ -185,11 +195,13 @@ wires_copied f all one ms dm (w ∷ ws) k sc d a =
       wires_copied f all one ms dm ws rest ((w.name, w.width) ∷ sc) (here, d) a.4,
     )
 
-nexts_copied : (f : Name → Name) (all : List Name) → IsOneToOne f all → (sc : Scope) → AreDeclared all sc → (rs : List Register) → AllByRecursion (IsRegister sc) rs → AllByRecursion (IsRegister (widths f sc)) (map (copy_register f) rs)
+nexts_copied : (f : Name → Name) (all : List Name) → IsOneToOne f all → (sc : Scope) → AreDeclared all sc → (rs : List Register)
+    → AllByRecursion (IsRegister sc) rs → AllByRecursion (IsRegister (widths f sc)) (map (copy_register f) rs)
 nexts_copied f all one sc d [] a = tt
 nexts_copied f all one sc d (r ∷ rs) a = ((a.0.0, operand_copied f all one sc d r.width r.next a.0.1), nexts_copied f all one sc d rs a.1)
 
-writes_copied : (f : Name → Name) (all : List Name) → IsOneToOne f all → (sc : Scope) → AreDeclared all sc → (ms : List Memory) → AllByRecursion (IsMemory sc) ms → AllByRecursion (IsMemory (widths f sc)) (map (copy_memory f) ms)
+writes_copied : (f : Name → Name) (all : List Name) → IsOneToOne f all → (sc : Scope) → AreDeclared all sc → (ms : List Memory)
+    → AllByRecursion (IsMemory sc) ms → AllByRecursion (IsMemory (widths f sc)) (map (copy_memory f) ms)
 writes_copied f all one sc d [] a = tt
 writes_copied f all one sc d (m ∷ ms) a = (
   record {
@@ -221,7 +233,8 @@ registers_named f n x = names_copied f (copy_register f) (λ r. r.name) (λ r. r
 memories_named : (f : Name → Name) (n : Net) (x : Name) → memory_names (copy_net x f n) ≡ map f (memory_names n)
 memories_named f n x = names_copied f (copy_memory f) (λ m. m.name) (λ m. refl) n.memories
 
-all_named : (f : Name → Name) (n : Net) (x : Name) → let c = copy_net x f n in ((input_names c ++ wire_names c) ++ register_names c) ++ memory_names c ≡ map f (((input_names n ++ wire_names n) ++ register_names n) ++ memory_names n)
+all_named : (f : Name → Name) (n : Net) (x : Name) → let c = copy_net x f n in
+    ((input_names c ++ wire_names c) ++ register_names c) ++ memory_names c ≡ map f (((input_names n ++ wire_names n) ++ register_names n) ++ memory_names n)
 all_named f n x =
     let a = inputs_named f n x in
     let b = wires_named f n x in
@@ -237,7 +250,8 @@ show_copied f n x kind.Input y h = ap (is_among (f y)) (inputs_named f n x) ∙ 
 show_copied f n x kind.Register y h = ap (is_among (f y)) (registers_named f n x) ∙ among_copied f y (register_names n) h
 show_copied f n x kind.Wire y h = ap (is_among (f y)) (wires_named f n x) ∙ among_copied f y (wire_names n) h
 
-ports_copied : (f : Name → Name) (n : Net) (x : Name) (ps : List Port) → AllByRecursion (λ p. PortShows n p.kind p.name) ps → AllByRecursion (λ p. PortShows (copy_net x f n) p.kind p.name) (map (copy_port f) ps)
+ports_copied : (f : Name → Name) (n : Net) (x : Name) (ps : List Port) → AllByRecursion (λ p. PortShows n p.kind p.name) ps
+    → AllByRecursion (λ p. PortShows (copy_net x f n) p.kind p.name) (map (copy_port f) ps)
 ports_copied f n x [] a = tt
 ports_copied f n x (p ∷ ps) a = (show_copied f n x p.kind p.name a.0, ports_copied f n x ps a.1)
 

@@ -36,7 +36,8 @@ each_named {Y} name (y ∷ ys) d = (
 )
 
 -- and so does its copy among the copies
-each_copied : {Y : Type 0} (f : Name → Name) (copy : Y → Y) (name : Y → Name) → ((y : Y) → name (copy y) ≡ f (name y)) → (ns : List Name) → IsOneToOne f ns → (ys : List Y) → AllAmong (map name ys) ns → AreDistinct (map name ys)
+each_copied : {Y : Type 0} (f : Name → Name) (copy : Y → Y) (name : Y → Name) → ((y : Y) → name (copy y) ≡ f (name y)) → (ns : List Name)
+    → IsOneToOne f ns → (ys : List Y) → AllAmong (map name ys) ns → AreDistinct (map name ys)
     → AllByRecursion (λ y. find (map (λ y. (name y, y)) (map copy ys)) (f (name y)) ≡ Some (copy y)) ys
 each_copied {Y} f copy name h ns one ys among d =
     all_follow (λ (y : Y). find (map (λ y. (name y, y)) ys) (name y) ≡ Some y) (λ y. find (map (λ y. (name y, y)) (map copy ys)) (f (name y)) ≡ Some (copy y)) ys
@@ -46,11 +47,13 @@ each_copied {Y} f copy name h ns one ys among d =
     (each_named name ys d)
 
 -- an input has no register's name
-inputs_apart : (ms : Shapes) (is : List Input) (rs : List Register) → AreValues ms (map (λ i. (i.name, i.width)) is ++ map (λ r. (r.name, r.width)) rs) → AllByRecursion (λ i. is_among i.name (map (λ r. r.name) rs) ≡ false) is
+inputs_apart : (ms : Shapes) (is : List Input) (rs : List Register)
+    → AreValues ms (map (λ i. (i.name, i.width)) is ++ map (λ r. (r.name, r.width)) rs) → AllByRecursion (λ i. is_among i.name (map (λ r. r.name) rs) ≡ false) is
 inputs_apart ms [] rs rules = tt
 inputs_apart ms (i ∷ is) rs rules = (
   elim (cases_Bool (is_among i.name (map (λ r. r.name) rs))) [
-    | inl t ↦ absurd (let some = found_of (λ (r : Register). r.name) (λ r. r.width) rs i.name t in let none = past_inputs is (map (λ r. (r.name, r.width)) rs) i.name rules.1 in let e = some.1 in cc)
+    | inl t ↦ absurd (let some = found_of (λ (r : Register). r.name) (λ r. r.width) rs i.name t in
+        let none = past_inputs is (map (λ r. (r.name, r.width)) rs) i.name rules.1 in let e = some.1 in cc)
     | inr q ↦ q
   ],
   inputs_apart ms is rs rules.3,
@@ -62,7 +65,8 @@ module _ (module_name : Name) (f : Name → Name) (n : Net) (rules : IsNetlist n
       ap (λ (ns : List Name). is_among (f x) ns) (names_copied f (copy_register f) (λ r. r.name) (λ r. refl) n.registers)
       ∙ among_apart f n.names k.apart x d (register_names n) (registers_among n rules) ∙ h
 
-  fed : (is : List Input) → AllAmong (map (λ i. i.name) is) n.names → AllByRecursion (λ i. find (readable n) i.name ≡ Some i.width) is → AllByRecursion (λ i. is_among i.name (register_names n) ≡ false) is
+  fed : (is : List Input) → AllAmong (map (λ i. i.name) is) n.names → AllByRecursion (λ i. find (readable n) i.name ≡ Some i.width) is
+      → AllByRecursion (λ i. is_among i.name (register_names n) ≡ false) is
       → AllByRecursion (λ i. Feeds (copy_net module_name f n) (f i.name) i.width) is
   fed [] among a b = tt
   fed (i ∷ is) among a b = (
@@ -77,7 +81,8 @@ module _ (module_name : Name) (f : Name → Name) (n : Net) (rules : IsNetlist n
   copy_is_whole =
       record {
         fed = fed n.inputs (inputs_among n rules) (inputs_found n rules) (inputs_apart (shapes n) n.inputs n.registers rules.values);
-        wires = each_copied f (copy_wire f) (λ (w : Wire). w.name) (λ w. refl) n.names k.apart n.wires (wires_among n rules) (wires_distinct (shapes n) n.wires (first_readable n) rules.assigns);
+        wires = each_copied f (copy_wire f) (λ (w : Wire). w.name) (λ w. refl) n.names k.apart n.wires (wires_among n rules)
+            (wires_distinct (shapes n) n.wires (first_readable n) rules.assigns);
         registers = each_copied f (copy_register f) (λ (r : Register). r.name) (λ r. refl) n.names k.apart n.registers (registers_among n rules)
             (subst (λ (ns : List Name). AreDistinct ns) rules.registers_in_order (filter_distinct (λ x. is_among x (register_names n)) n.names rules.declared_once));
         memories = each_copied f (copy_memory f) (λ (m : Memory). m.name) (λ m. refl) n.names k.apart n.memories (memories_among n rules)

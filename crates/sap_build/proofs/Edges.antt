@@ -24,7 +24,8 @@ same_names : {X Y : Type 0} (name : Y → Name) (of : Y → X) (ys zs : List Y) 
 same_names {X} name of ys zs h =
     sym (names_of_entries name of ys) ∙ ap (λ (es : List (Name × X)). map (λ e. e.0) es) h ∙ names_of_entries name of zs
 
-edges_show : (n : Net) (rs : List Register) (ms : List Memory) → map (λ r. r.name) rs ≡ register_names n → (k : PortKind) (x : Name) → PortShows n k x → PortShows (at_edges rs ms n) k x
+edges_show : (n : Net) (rs : List Register) (ms : List Memory) → map (λ r. r.name) rs ≡ register_names n → (k : PortKind) (x : Name)
+    → PortShows n k x → PortShows (at_edges rs ms n) k x
 edges_show n rs ms e kind.Input x h = h
 edges_show n rs ms e kind.Register x h = ap (is_among x) e ∙ h
 edges_show n rs ms e kind.Wire x h = h

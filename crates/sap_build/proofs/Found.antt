@@ -27,7 +27,8 @@ copied f g es = map (λ e. (f e.0, g e.1)) es
 abbrev pub AreDeclared : {X : Type 0} → List Name → List (Name × X) → Type 0
 AreDeclared ns es = AllByRecursion (λ e. is_among e.0 ns ≡ true) es
 
-pub apart_copied : (f : Name → Name) (ns : List Name) → IsOneToOne f ns → (a b : Name) → is_among a ns ≡ true → is_among b ns ≡ true → bytes_eq a b ≡ false → bytes_eq (f a) (f b) ≡ false
+pub apart_copied : (f : Name → Name) (ns : List Name) → IsOneToOne f ns → (a b : Name) → is_among a ns ≡ true → is_among b ns ≡ true
+    → bytes_eq a b ≡ false → bytes_eq (f a) (f b) ≡ false
 apart_copied f ns one a b h k d =
     elim (cases_Bool (bytes_eq (f a) (f b))) [
       | inl t ↦
@@ -37,7 +38,8 @@ apart_copied f ns one a b h k d =
       | inr q ↦ q
     ]
 
-pub find_copied : {X Y : Type 0} (f : Name → Name) (g : X → Y) (ns : List Name) → IsOneToOne f ns → (es : List (Name × X)) → AreDeclared ns es → (x : Name) → is_among x ns ≡ true → find (copied f g es) (f x) ≡ option_map g (find es x)
+pub find_copied : {X Y : Type 0} (f : Name → Name) (g : X → Y) (ns : List Name) → IsOneToOne f ns → (es : List (Name × X))
+    → AreDeclared ns es → (x : Name) → is_among x ns ≡ true → find (copied f g es) (f x) ≡ option_map g (find es x)
 find_copied f g ns one [] d x h = refl
 find_copied f g ns one (e ∷ es) d x h =
     elim (cases_Bool (bytes_eq e.0 x)) [
@@ -57,7 +59,8 @@ found_declared ns (e ∷ es) d x u h =
       | inr q ↦ found_declared ns es d.1 x u (rw q at h)
     ]
 
-pub found_copied : {X Y : Type 0} (f : Name → Name) (g : X → Y) (ns : List Name) → IsOneToOne f ns → (es : List (Name × X)) → AreDeclared ns es → (x : Name) (u : X) → find es x ≡ Some u → find (copied f g es) (f x) ≡ Some (g u)
+pub found_copied : {X Y : Type 0} (f : Name → Name) (g : X → Y) (ns : List Name) → IsOneToOne f ns → (es : List (Name × X))
+    → AreDeclared ns es → (x : Name) (u : X) → find es x ≡ Some u → find (copied f g es) (f x) ≡ Some (g u)
 found_copied f g ns one es d x u h = find_copied f g ns one es d x (found_declared ns es d x u h) ∙ ap (option_map g) h
 
 -- all entries of a netlist are declared
@@ -119,7 +122,9 @@ shapes_declared n rules = entries_declared {X = ℕ × ℕ} (λ (m : Memory). m.
 
 -- what a copy declares
 
-first_copied : (f : Name → Name) (is : List Input) (rs : List Register) → map {B = Name × ℕ} (λ i. (i.name, i.width)) (map (copy_input f) is) ++ map {B = Name × ℕ} (λ r. (r.name, r.width)) (map (copy_register f) rs) ≡ copied f (λ (u : ℕ). u) (map (λ i. (i.name, i.width)) is ++ map (λ r. (r.name, r.width)) rs)
+first_copied : (f : Name → Name) (is : List Input) (rs : List Register)
+    → map {B = Name × ℕ} (λ i. (i.name, i.width)) (map (copy_input f) is) ++ map {B =
+    Name × ℕ} (λ r. (r.name, r.width)) (map (copy_register f) rs) ≡ copied f (λ (u : ℕ). u) (map (λ i. (i.name, i.width)) is ++ map (λ r. (r.name, r.width)) rs)
 first_copied f [] [] = refl
 first_copied f [] (r ∷ rs) = ap (λ es. (f r.name, r.width) ∷ es) (first_copied f [] rs)
 first_copied f (i ∷ is) rs = ap (λ es. (f i.name, i.width) ∷ es) (first_copied f is rs)
@@ -136,7 +141,9 @@ readable_copied module_name f n =
     ap (λ (sc : Scope). readable_after sc (map (copy_wire f) n.wires)) (first_copied f n.inputs n.registers) ∙ after_copied f n.wires (first_readable n)
 
 -- entries of copies are copies of entries
-pub entries_copied : {X Y Z : Type 0} (f : Name → Name) (copy : Z → Z) (name : Z → Name) (of : Z → X) (of_copy : Z → Y) (g : X → Y) (zs : List Z) → ((z : Z) → name (copy z) ≡ f (name z)) → ((z : Z) → of_copy (copy z) ≡ g (of z)) → map {B = Name × Y} (λ z. (name z, of_copy z)) (map copy zs) ≡ copied f g (map (λ z. (name z, of z)) zs)
+pub entries_copied : {X Y Z : Type 0} (f : Name → Name) (copy : Z → Z) (name : Z → Name) (of : Z → X) (of_copy : Z → Y) (g : X
+    → Y) (zs : List Z) → ((z : Z) → name (copy z) ≡ f (name z)) → ((z : Z) → of_copy (copy z) ≡ g (of z))
+    → map {B = Name × Y} (λ z. (name z, of_copy z)) (map copy zs) ≡ copied f g (map (λ z. (name z, of z)) zs)
 entries_copied f copy name of of_copy g [] h k = refl
 entries_copied f copy name of of_copy g (z ∷ zs) h k =
     let a = h z in

@@ -44,14 +44,16 @@ find_inserted (e ∷ es) fs x u h =
     ]
 
 -- what is found stays
-pub inserted_grows : {X : Type 0} (es fs : List (Name × X)) (x : Name) (u : X) → find (es ++ fs) x ≡ None → (y : Name) (v : X) → find (es ++ fs) y ≡ Some v → find (es ++ (x, u) ∷ fs) y ≡ Some v
+pub inserted_grows : {X : Type 0} (es fs : List (Name × X)) (x : Name) (u : X) → find (es ++ fs) x ≡ None → (y : Name) (v : X)
+    → find (es ++ fs) y ≡ Some v → find (es ++ (x, u) ∷ fs) y ≡ Some v
 inserted_grows {X} es fs x u h y v g =
     elim (cases_Bool (bytes_eq x y)) [
       | inl t ↦ absurd (let n : find (es ++ fs) y ≡ None = subst (λ (z : Name). find (es ++ fs) z ≡ None) (equal_of_bytes_eq x y t) h in cc)
       | inr f ↦ find_other es fs x u y f ∙ g
     ]
 
-pub values_inserted : (ms : Shapes) (es fs : Scope) (x : Name) (u : ℕ) → IsWidth u → find ms x ≡ None → find (es ++ fs) x ≡ None → AreValues ms (es ++ fs) → AreValues ms (es ++ (x, u) ∷ fs)
+pub values_inserted : (ms : Shapes) (es fs : Scope) (x : Name) (u : ℕ) → IsWidth u → find ms x ≡ None → find (es ++ fs) x ≡ None
+    → AreValues ms (es ++ fs) → AreValues ms (es ++ (x, u) ∷ fs)
 values_inserted ms [] fs x u w m h a = (w, h, m, a)
 values_inserted ms (e ∷ es) fs x u w m h a = (
   a.0,

@@ -45,7 +45,8 @@ of_entries {X} P (e ∷ es) a x u h =
       | inr q ↦ of_entries P es a.1 x u (rw q at h)
     ]
 
-pub after_each : (P : Name → ℕ → Type 0) (ws : List Wire) (sc : Scope) → AllByRecursion (λ e. P e.0 e.1) sc → AllByRecursion (λ w. P w.name w.width) ws → AllByRecursion (λ e. P e.0 e.1) (readable_after sc ws)
+pub after_each : (P : Name → ℕ → Type 0) (ws : List Wire) (sc : Scope) → AllByRecursion (λ e. P e.0 e.1) sc
+    → AllByRecursion (λ w. P w.name w.width) ws → AllByRecursion (λ e. P e.0 e.1) (readable_after sc ws)
 after_each P [] sc a b = a
 after_each P (w ∷ ws) sc a b = after_each P ws ((w.name, w.width) ∷ sc) (b.0, a) b.1
 
@@ -75,7 +76,8 @@ registers_read n rules =
     all_follow (λ (r : Register). find (first_readable n) r.name ≡ Some r.width) (λ r. find (readable n) r.name ≡ Some r.width) n.registers
     (λ r h. readable_kept (shapes n) n.wires (first_readable n) rules.assigns r.name r.width h)
     (all_of_map (λ (e : Name × ℕ). find (first_readable n) e.0 ≡ Some e.1) (λ (r : Register). (r.name, r.width)) n.registers
-    (all_second {X = Name × ℕ} (λ (e : Name × ℕ). find (first_readable n) e.0 ≡ Some e.1) (map {B = Name × ℕ} (λ i. (i.name, i.width)) n.inputs) (map {B = Name × ℕ} (λ r. (r.name, r.width)) n.registers) (values_found (shapes n) (first_readable n) rules.values)))
+    (all_second {X = Name × ℕ} (λ (e : Name × ℕ). find (first_readable n) e.0 ≡ Some e.1)
+    (map {B = Name × ℕ} (λ i. (i.name, i.width)) n.inputs) (map {B = Name × ℕ} (λ r. (r.name, r.width)) n.registers) (values_found (shapes n) (first_readable n) rules.values)))
 
 -- what is read in a part is read in the whole, under its name there
 
@@ -83,13 +85,16 @@ pub part_reads : (f : Name → Name) (p n : Net) → IsNetlist n → IsPart f p 
 part_reads f p n rules s =
     of_readable (λ x u. find (readable n) (f x) ≡ Some u) p
     (all_follow (λ (i : Input). Feeds n (f i.name) i.width) (λ i. find (readable n) (f i.name) ≡ Some i.width) p.inputs (λ i h. h.width) s.fed)
-    (each_found (λ (r : Register). r.name) (λ (r : Register). f r.name) (copy_register f) (λ r. find (readable n) r.name ≡ Some r.width) n.registers p.registers (registers_read n rules) s.registers)
-    (each_found (λ (w : Wire). w.name) (λ (w : Wire). f w.name) (copy_wire f) (λ w. find (readable n) w.name ≡ Some w.width) n.wires p.wires (wires_read (shapes n) n.wires (first_readable n) rules.assigns) s.wires)
+    (each_found (λ (r : Register). r.name) (λ (r : Register). f r.name) (copy_register f) (λ r. find (readable n) r.name ≡ Some r.width)
+    n.registers p.registers (registers_read n rules) s.registers)
+    (each_found (λ (w : Wire). w.name) (λ (w : Wire). f w.name) (copy_wire f) (λ w. find (readable n) w.name ≡ Some w.width) n.wires p.wires
+    (wires_read (shapes n) n.wires (first_readable n) rules.assigns) s.wires)
 
 pub part_shapes : (f : Name → Name) (p n : Net) → IsNetlist n → IsPart f p n → (m : Name) (t : ℕ × ℕ) → find (shapes p) m ≡ Some t → find (shapes n) (f m) ≡ Some t
 part_shapes f p n rules s =
     of_shapes (λ m t. find (shapes n) (f m) ≡ Some t) p
-    (each_found (λ (m : Memory). m.name) (λ (m : Memory). f m.name) (copy_memory f) (λ m. find (shapes n) m.name ≡ Some (m.width, m.depth)) n.memories p.memories (all_found n.memories rules.memory_shapes) s.memories)
+    (each_found (λ (m : Memory). m.name) (λ (m : Memory). f m.name) (copy_memory f) (λ m. find (shapes n) m.name ≡ Some (m.width, m.depth))
+    n.memories p.memories (all_found n.memories rules.memory_shapes) s.memories)
 
 pub part_widths : (f : Name → Name) (p n : Net) → IsNetlist n → IsPart f p n → WidthsFollow f (readable p) (width_of n) (width_of p)
 part_widths f p n rules s x u h = ap (λ o. unwrap_or o 0) (part_reads f p n rules s x u h ∙ sym h)

@@ -80,7 +80,8 @@ module _ (f : Name → Name) (p n : Net) (own : IsNetlist p) (rules : IsNetlist 
         };
       }
 
-  pub run_inside : (xss : List (List ℕ)) (q : Option Valuation) (us : List Valuation) → IsRunAfter n q xss us → IsRunAfter p (option_map (through f) q) (map (fed_numbers f p) us) (map (through f) us)
+  pub run_inside : (xss : List (List ℕ)) (q : Option Valuation) (us : List Valuation) → IsRunAfter n q xss us
+      → IsRunAfter p (option_map (through f) q) (map (fed_numbers f p) us) (map (through f) us)
   run_inside [] q [] r = tt
   run_inside [] q (u ∷ us) r = absurd r
   run_inside (xs ∷ xss) q [] r = absurd r
@@ -97,15 +98,23 @@ module _ (f : Name → Name) (p n : Net) (own : IsNetlist p) (rules : IsNetlist 
   inside_seen v =
       record {
         value = of_readable (λ x u. (observed p (through f v)).value x ≡ (observed n v).value (f x)) p
-            (all_both (λ (i : Input). (observed p (through f v)).value i.name ≡ v.value (f i.name)) (λ i. Feeds n (f i.name) i.width) (λ i. (observed p (through f v)).value i.name ≡ (observed n v).value (f i.name)) p.inputs
+            (all_both (λ (i : Input). (observed p (through f v)).value i.name ≡ v.value (f i.name)) (λ i. Feeds n (f i.name) i.width)
+            (λ i. (observed p (through f v)).value i.name ≡ (observed n v).value (f i.name)) p.inputs
             (λ i a b. a ∙ sym (unclocked_seen v (f i.name) b.unclocked)) (observed_inputs p own (through f v)) s.fed)
-            (all_both (λ (r : Register). (observed p (through f v)).value r.name ≡ operand_value (through f v) r.next) (λ r. (observed n v).value (f r.name) ≡ operand_value v (copy_register f r).next) (λ r. (observed p (through f v)).value r.name ≡ (observed n v).value (f r.name)) p.registers
-            (λ r a b. a ∙ sym (b ∙ operand_through f v r.next)) (observed_registers p own (through f v)) (of_registers (λ r. (observed n v).value r.name ≡ operand_value v r.next) (observed_registers n rules v)))
-            (all_both (λ (w : Wire). (observed p (through f v)).value w.name ≡ v.value (f w.name)) (λ w. (observed n v).value (f w.name) ≡ v.value (f w.name)) (λ w. (observed p (through f v)).value w.name ≡ (observed n v).value (f w.name)) p.wires
+            (all_both (λ (r : Register). (observed p (through f v)).value r.name ≡ operand_value (through f v) r.next)
+            (λ r. (observed n v).value (f r.name) ≡ operand_value v (copy_register f r).next)
+            (λ r. (observed p (through f v)).value r.name ≡ (observed n v).value (f r.name)) p.registers
+            (λ r a b. a ∙ sym (b ∙ operand_through f v r.next)) (observed_registers p own (through f v))
+            (of_registers (λ r. (observed n v).value r.name ≡ operand_value v r.next) (observed_registers n rules v)))
+            (all_both (λ (w : Wire). (observed p (through f v)).value w.name ≡ v.value (f w.name))
+            (λ w. (observed n v).value (f w.name) ≡ v.value (f w.name)) (λ w. (observed p (through f v)).value w.name ≡ (observed n v).value (f w.name)) p.wires
             (λ w a b. a ∙ sym b) (observed_wires p own (through f v)) (of_wires (λ w. (observed n v).value w.name ≡ v.value w.name) (observed_wires n rules v)));
         cell = of_shapes (λ m t. (i : ℕ) → (observed p (through f v)).cell m i ≡ (observed n v).cell (f m) i) p
-            (all_both (λ (m : Memory). (i : ℕ) → (observed p (through f v)).cell m.name i ≡ written (through f v) m i) (λ m. (i : ℕ) → (observed n v).cell (f m.name) i ≡ written v (copy_memory f m) i) (λ m. (i : ℕ) → (observed p (through f v)).cell m.name i ≡ (observed n v).cell (f m.name) i) p.memories
-            (λ m a b i. a i ∙ sym (b i ∙ written_through f v m i)) (observed_memories p own (through f v)) (of_memories (λ m. (i : ℕ) → (observed n v).cell m.name i ≡ written v m i) (observed_memories n rules v)));
+            (all_both (λ (m : Memory). (i : ℕ) → (observed p (through f v)).cell m.name i ≡ written (through f v) m i) (λ m. (i : ℕ)
+            → (observed n v).cell (f m.name) i ≡ written v (copy_memory f m) i) (λ m. (i : ℕ)
+            → (observed p (through f v)).cell m.name i ≡ (observed n v).cell (f m.name) i) p.memories
+            (λ m a b i. a i ∙ sym (b i ∙ written_through f v m i)) (observed_memories p own (through f v))
+            (of_memories (λ m. (i : ℕ) → (observed n v).cell m.name i ≡ written v m i) (observed_memories n rules v)));
       }
 
   pub part_shows : (v u : Valuation) → AreSame p v (through f u) → AreSame p (observed p v) (through f (observed n u))

@@ -17,7 +17,8 @@ use Rattle.sap_net.proofs.Unique.{operand_agree}
 use Rattle.sap_build.specs.Copies.{copy_net, KeepsApart, through}
 use Rattle.sap_build.proofs.Through.{observed_through}
 
-next_same : (sc : Scope) (v w : Valuation) → Agree sc v w → (rs : List Register) → AllByRecursion (IsRegister sc) rs → (x : Name) → v.value x ≡ w.value x → value_after v x (find (map (λ r. (r.name, r.next)) rs) x) ≡ value_after w x (find (map (λ r. (r.name, r.next)) rs) x)
+next_same : (sc : Scope) (v w : Valuation) → Agree sc v w → (rs : List Register) → AllByRecursion (IsRegister sc) rs → (x : Name)
+    → v.value x ≡ w.value x → value_after v x (find (map (λ r. (r.name, r.next)) rs) x) ≡ value_after w x (find (map (λ r. (r.name, r.next)) rs) x)
 next_same sc v w a [] rules x e = e
 next_same sc v w a (r ∷ rs) rules x e =
     elim (cases_Bool (bytes_eq r.name x)) [
@@ -32,7 +33,8 @@ written_same sc v w a m rules i g =
     let f = operand_agree sc v w a m.width m.value rules.value in
     cc
 
-cell_same : (sc : Scope) (v w : Valuation) → Agree sc v w → (ms : List Memory) → AllByRecursion (IsMemory sc) ms → (x : Name) (i : ℕ) → v.cell x i ≡ w.cell x i → cell_after v x i (find (map (λ m. (m.name, m)) ms) x) ≡ cell_after w x i (find (map (λ m. (m.name, m)) ms) x)
+cell_same : (sc : Scope) (v w : Valuation) → Agree sc v w → (ms : List Memory) → AllByRecursion (IsMemory sc) ms → (x : Name) (i : ℕ)
+    → v.cell x i ≡ w.cell x i → cell_after v x i (find (map (λ m. (m.name, m)) ms) x) ≡ cell_after w x i (find (map (λ m. (m.name, m)) ms) x)
 cell_same sc v w a [] rules x i e = e
 cell_same sc v w a (m ∷ ms) rules x i e =
     elim (cases_Bool (bytes_eq m.name x)) [
@@ -48,7 +50,8 @@ same_seen n rules v w s =
       cell = λ m d h i. cell_same (readable n) v w s.value n.memories rules.writes m i (s.cell m d h i);
     }
 
-pub seen_alike : (module_name : Name) (f : Name → Name) (n : Net) → IsNetlist n → KeepsApart f n → (v u : Valuation) → AreSame n v (through f u) → AreSame n (observed n v) (through f (observed (copy_net module_name f n) u))
+pub seen_alike : (module_name : Name) (f : Name → Name) (n : Net) → IsNetlist n → KeepsApart f n → (v u : Valuation)
+    → AreSame n v (through f u) → AreSame n (observed n v) (through f (observed (copy_net module_name f n) u))
 seen_alike module_name f n rules k v u s =
     let o = observed_through module_name f n rules k u in
     let e = same_seen n rules v (through f u) s in

@@ -138,7 +138,8 @@ to_front true b x c = refl
 to_front false true x c = simp or_true
 to_front false false x c = refl
 
-waits_among : (y : Name) (es fs : Scope) → is_among y (names_of (map waiting_wire (es ++ fs))) ≡ (is_among y (names_of (map waiting_wire es)) || is_among y (names_of (map waiting_wire fs)))
+waits_among : (y : Name) (es fs : Scope)
+    → is_among y (names_of (map waiting_wire (es ++ fs))) ≡ (is_among y (names_of (map waiting_wire es)) || is_among y (names_of (map waiting_wire fs)))
 waits_among y es fs =
     ap (λ (ws : List Wire). is_among y (names_of ws)) (map-append {A = Name × ℕ} waiting_wire es fs)
     ∙ ap (is_among y) (map-append (λ (w : Wire). w.name) (map waiting_wire es) (map waiting_wire fs))
@@ -158,7 +159,8 @@ names_moved y ws es fs w =
     ∙ to_front a b (bytes_eq y w.name) c
     ∙ sym (wires_among_both y (ws ++ w ∷ []) (map waiting_wire (es ++ fs)) ∙ ap₂ (λ (p q : Bool). p || q) front (waits_among y es fs))
 
-moved_shows : (n : Net) (es fs : Scope) (w : Wire) (k : PortKind) (x : Name) → PortShows (waiting (es ++ (w.name, w.width) ∷ fs) n) k x → PortShows (waiting (es ++ fs) (assigned w n)) k x
+moved_shows : (n : Net) (es fs : Scope) (w : Wire) (k : PortKind) (x : Name) → PortShows (waiting (es ++ (w.name, w.width) ∷ fs) n) k x
+    → PortShows (waiting (es ++ fs) (assigned w n)) k x
 moved_shows n es fs w kind.Input x h = h
 moved_shows n es fs w kind.Register x h = h
 moved_shows n es fs w kind.Wire x h = sym (names_moved x n.wires es fs w) ∙ h

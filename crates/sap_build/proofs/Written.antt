@@ -136,7 +136,8 @@ wire_shows n w kind.Input x h = h
 wire_shows n w kind.Register x h = h
 wire_shows n w kind.Wire x h = ap (is_among x) (map-append (λ (v : Wire). v.name) n.wires (w ∷ [])) ∙ among_front x (wire_names n) (w.name ∷ []) h
 
-pub wire_is_added : (n : Net) → IsNetlist n → (w : Wire) → IsNew n w.name → IsWidth w.width → IsRight (shapes n) (readable n) w.width w.right → IsNetlist (assigned w (declared w.name n))
+pub wire_is_added : (n : Net) → IsNetlist n → (w : Wire) → IsNew n w.name → IsWidth w.width
+    → IsRight (shapes n) (readable n) w.width w.right → IsNetlist (assigned w (declared w.name n))
 wire_is_added n rules w new wide right =
     let after : readable (assigned w (declared w.name n)) ≡ (w.name, w.width) ∷ readable n = readable_both n.wires (w ∷ []) (first_readable n) in
     let grows : Grows (readable n) (readable (assigned w (declared w.name n))) = λ y u h.
@@ -151,13 +152,16 @@ wire_is_added n rules w new wide right =
       registers_in_order = registers_kept n rules w.name new;
       memories_in_order = memories_kept n rules w.name new;
       ports_first = first_kept n.ports n.names (w.name ∷ []) rules.ports_first;
-      ports_show = all_follow (λ (p : Port). PortShows n p.kind p.name) (λ p. PortShows (assigned w (declared w.name n)) p.kind p.name) n.ports (λ p. wire_shows n w p.kind p.name) rules.ports_show;
+      ports_show = all_follow (λ (p : Port). PortShows n p.kind p.name) (λ p. PortShows (assigned w (declared w.name n)) p.kind p.name)
+          n.ports (λ p. wire_shows n w p.kind p.name) rules.ports_show;
       inputs_are_ports = rules.inputs_are_ports;
       values = rules.values;
       memory_shapes = rules.memory_shapes;
       assigns = wires_both (shapes n) n.wires (w ∷ []) (first_readable n) rules.assigns (wide, unreadable n rules w.name new, no_memory n rules w.name new, right, tt);
-      nexts = all_follow (IsRegister (readable n)) (IsRegister (readable (assigned w (declared w.name n)))) n.registers (register_grows (readable n) (readable (assigned w (declared w.name n))) grows) rules.nexts;
-      writes = all_follow (IsMemory (readable n)) (IsMemory (readable (assigned w (declared w.name n)))) n.memories (memory_grows (readable n) (readable (assigned w (declared w.name n))) grows) rules.writes;
+      nexts = all_follow (IsRegister (readable n)) (IsRegister (readable (assigned w (declared w.name n)))) n.registers
+          (register_grows (readable n) (readable (assigned w (declared w.name n))) grows) rules.nexts;
+      writes = all_follow (IsMemory (readable n)) (IsMemory (readable (assigned w (declared w.name n)))) n.memories
+          (memory_grows (readable n) (readable (assigned w (declared w.name n))) grows) rules.writes;
     }
 
 pub shown_wire_is_added : (n : Net) → IsNetlist n → ArePorts n → (w : Wire) → IsNew n w.name → IsWidth w.width → IsRight (shapes n) (readable n) w.width w.right
@@ -170,7 +174,8 @@ shown_wire_is_added n rules ports w new wide right =
 
 -- ---- inputs and registers: one more that can be read from the start
 
-module _ (n : Net) (rules : IsNetlist n) (x : Name) (new : IsNew n x) (u : ℕ) (wide : IsWidth u) (es fs sd : Scope) (front : first_readable n ≡ es ++ fs) (first : sd ≡ es ++ (x, u) ∷ fs) where
+module _ (n : Net) (rules : IsNetlist n) (x : Name) (new : IsNew n x) (u : ℕ) (wide : IsWidth u) (es fs sd : Scope)
+    (front : first_readable n ≡ es ++ fs) (first : sd ≡ es ++ (x, u) ∷ fs) where
   unread : find (es ++ fs) x ≡ None
   unread = subst (λ (sc : Scope). find sc x ≡ None) front (unreadable_first n rules x new)
 
@@ -178,7 +183,8 @@ module _ (n : Net) (rules : IsNetlist n) (x : Name) (new : IsNew n x) (u : ℕ) 
   first_grows y v h = subst (λ (sc : Scope). find sc y ≡ Some v) (sym first) (inserted_grows es fs x u unread y v (subst (λ (sc : Scope). find sc y ≡ Some v) front h))
 
   values_more : AreValues (shapes n) sd
-  values_more = subst (AreValues (shapes n)) (sym first) (values_inserted (shapes n) es fs x u wide (no_memory n rules x new) unread (subst (AreValues (shapes n)) front rules.values))
+  values_more = subst (AreValues (shapes n)) (sym first)
+      (values_inserted (shapes n) es fs x u wide (no_memory n rules x new) unread (subst (AreValues (shapes n)) front rules.values))
 
   fresh_more : AreFresh (shapes n) sd n.wires
   fresh_more y h =
@@ -256,7 +262,8 @@ register_shows n r kind.Input x h = h
 register_shows n r kind.Register x h = ap (is_among x) (map-append (λ (s : Register). s.name) n.registers (r ∷ [])) ∙ among_front x (register_names n) (r.name ∷ []) h
 register_shows n r kind.Wire x h = h
 
-pub register_is_added : (n : Net) → IsNetlist n → (r : Register) → IsNew n r.name → IsWidth r.width → IsRegister ((r.name, r.width) ∷ readable n) r → IsNetlist (registered r (declared r.name n))
+pub register_is_added : (n : Net) → IsNetlist n → (r : Register) → IsNew n r.name → IsWidth r.width
+    → IsRegister ((r.name, r.width) ∷ readable n) r → IsNetlist (registered r (declared r.name n))
 register_is_added n rules r new wide next =
     let names : register_names (registered r (declared r.name n)) ≡ register_names n ++ r.name ∷ [] = map-append (λ (s : Register). s.name) n.registers (r ∷ []) in
     let es = first_readable n in
@@ -278,7 +285,8 @@ register_is_added n rules r new wide next =
           (order_more (register_names n) n.names r.name new.undeclared rules.registers_in_order);
       memories_in_order = memories_kept n rules r.name new;
       ports_first = first_kept n.ports n.names (r.name ∷ []) rules.ports_first;
-      ports_show = all_follow (λ (p : Port). PortShows n p.kind p.name) (λ p. PortShows (registered r (declared r.name n)) p.kind p.name) n.ports (λ p. register_shows n r p.kind p.name) rules.ports_show;
+      ports_show = all_follow (λ (p : Port). PortShows n p.kind p.name) (λ p. PortShows (registered r (declared r.name n)) p.kind p.name)
+          n.ports (λ p. register_shows n r p.kind p.name) rules.ports_show;
       inputs_are_ports = rules.inputs_are_ports;
       values = values_more n rules r.name new r.width wide es [] sd front first;
       memory_shapes = rules.memory_shapes;
@@ -332,11 +340,13 @@ memory_is_added n rules m new wide fits =
           subst (λ (ns : List Name). filter (λ y. is_among y ns) (n.names ++ m.name ∷ []) ≡ ns) (sym names)
           (order_more (memory_names n) n.names m.name new.undeclared rules.memories_in_order);
       ports_first = first_kept n.ports n.names (m.name ∷ []) rules.ports_first;
-      ports_show = all_follow (λ (p : Port). PortShows n p.kind p.name) (λ p. PortShows (with_memory m n) p.kind p.name) n.ports (λ p. memory_shows n m p.kind p.name) rules.ports_show;
+      ports_show = all_follow (λ (p : Port). PortShows n p.kind p.name) (λ p. PortShows (with_memory m n) p.kind p.name) n.ports
+          (λ p. memory_shows n m p.kind p.name) rules.ports_show;
       inputs_are_ports = rules.inputs_are_ports;
       values =
           subst (λ (es : Shapes). AreValues es (first_readable n)) (sym more)
-          (values_past_memory ms [] m.name s (first_readable n) (unreadable_first n rules m.name new) (subst (λ (es : Shapes). AreValues es (first_readable n)) front rules.values));
+          (values_past_memory ms [] m.name s (first_readable n) (unreadable_first n rules m.name new)
+          (subst (λ (es : Shapes). AreValues es (first_readable n)) front rules.values));
       memory_shapes = subst AreMemories (sym more) (memories_inserted ms [] m.name s wide none (subst AreMemories front rules.memory_shapes));
       assigns = wires_grow ms ns grows n.wires (first_readable n) (first_readable n) (λ y u h. h) fresh rules.assigns;
       nexts = rules.nexts;

@@ -37,7 +37,8 @@ mutual
       let r = both_points (block_points one) (else_points other) (block_count one) (else_count other) (block_points-few one) (else_points-few other) in omega arith
   command_points-few (try_then k place accepted refused) =
       let r = simple_points-few k in
-      let b = both_points (block_points accepted) (block_points refused) (block_count accepted) (block_count refused) (block_points-few accepted) (block_points-few refused) in rw length-append (omega arith)
+      let b = both_points (block_points accepted) (block_points refused) (block_count accepted) (block_count refused)
+      (block_points-few accepted) (block_points-few refused) in rw length-append (omega arith)
   command_points-few (case_of place e arms) = let r = arms_points-few arms in omega arith
 
   arms_points-few : (arms : Arms) → length (arms_points arms) ≤ 2 * arms_count arms
@@ -62,7 +63,8 @@ mutual
   state_points-few (state_node place name kind body children) =
       let at = point (home_of (state_node place name kind body children)) in
       let b = block_points-few body in
-      both_points (map at (block_points body)) (states_points children) (block_count body) (states_commands children) (omega (arith, length-map (block_points body) at)) (states_points-few children)
+      both_points (map at (block_points body)) (states_points children) (block_count body) (states_commands children)
+      (omega (arith, length-map (block_points body) at)) (states_points-few children)
 
   states_points-few : (ss : StateList) → length (states_points ss) ≤ 2 * states_commands ss
   states_points-few no_state = omega arith
@@ -74,7 +76,8 @@ limited t i r m s d c h = grind (arith, common_steps)
 few_commands : (d : DesignTree) → IsTrue (is_whole d) → states_commands d.states ≤ 4096
 unfolding is_whole
 few_commands d h =
-    limited (is_tree d) (count_by is_input d.declarations) (count_by is_register d.declarations) (count_by is_memory d.declarations) (states_count d.states) (states_depth d.states) (states_commands d.states) h
+    limited (is_tree d) (count_by is_input d.declarations) (count_by is_register d.declarations) (count_by is_memory d.declarations)
+    (states_count d.states) (states_depth d.states) (states_commands d.states) h
 
 pub few_sites : (d : DesignTree) → IsTrue (is_whole d) → length (sites_of d) < 2 ^ 32
 few_sites d h = let r = states_few (entities_of d) d.states in let m = few_commands d h in omega (arith, length-map (check_sites d) site_of)

@@ -12,7 +12,8 @@ entity_written es n name text old new r h t e =
 
 -- there was no room for it
 pub entity_full : {E : Type 0} (es : List Entity) (n capacity size old : ℕ) (name text : List ℕ) (r : Result (Unit {0}) E)
-    → option_map (λ (e : Entity). e.name.name) (slice_get es n) ≡ Some name → text ≡ name → size ≡ old → OnErr r (capacity < size + length text) → OnErr r (capacity < old + length (entity_name es n))
+    → option_map (λ (e : Entity). e.name.name) (slice_get es n) ≡ Some name → text ≡ name → size ≡ old
+    → OnErr r (capacity < size + length text) → OnErr r (capacity < old + length (entity_name es n))
 entity_full es n capacity size old name text r h t same full =
     subst (λ (k : ℕ). OnErr r (capacity < k + length (entity_name es n))) same
     (subst (λ (x : List ℕ). OnErr r (capacity < size + length x)) (t ∙ sym (ap (λ (o : Option (List ℕ)). unwrap_or o []) h)) full)

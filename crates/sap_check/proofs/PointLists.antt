@@ -76,7 +76,8 @@ arms_points-past [] (suc n) l = refl
 arms_points-past (arm ∷ arms) zero l = absurd (omega arith)
 arms_points-past (arm ∷ arms) (suc n) l = arms_points-past arms n (omega arith)
 
-pub arms_step : (arms : List Arm) (n : ℕ) (d : Arm) (cs : List Cmd) (old new : List Point) → n < length arms → d ≡ get_or arms n d → cs ≡ d.block.commands.items → new ≡ old ++ list_points cs
+pub arms_step : (arms : List Arm) (n : ℕ) (d : Arm) (cs : List Cmd) (old new : List Point) → n < length arms → d ≡ get_or arms n d
+    → cs ≡ d.block.commands.items → new ≡ old ++ list_points cs
     → new ++ arms_points (drop (n + 1) arms) ≡ old ++ arms_points (drop n arms)
 arms_step arms n d cs old new l e f k = after_part old new _ _ _ k (arms_points-drop arms n d cs l e f)
 
@@ -148,14 +149,16 @@ if_points c x place one list other old first second new h e a b d =
     rw (d, b, a, e, all, h, if_whole x place one other) refl
 
 then_whole : (k : SimpleCommand) (place : Place) (a b : Block)
-    → words_of (command_points (try_then k place (block_of a) (block_of b))) ≡ words_of (simple_points k) ++ ((point kind.Then place ∷ []) ++ (list_points a.commands.items ++ list_points b.commands.items))
+    → words_of (command_points (try_then k place (block_of a) (block_of b))) ≡ words_of (simple_points k)
+    ++ ((point kind.Then place ∷ []) ++ (list_points a.commands.items ++ list_points b.commands.items))
 unfolding list_points
 then_whole k place a b =
     words-both (simple_points k) _
     ∙ ap (λ (l : List Point). words_of (simple_points k) ++ point kind.Then place ∷ l) (words-both (block_points (block_of a)) (block_points (block_of b)))
 
 pub then_points : (c : Command) (k : SimpleCommand) (place : Place) (a b : Block) (la lb : List Cmd) (old first second third new : List Point)
-    → c ≡ try_then k place (block_of a) (block_of b) → la ≡ a.commands.items → lb ≡ b.commands.items → first ≡ old ++ words_of (simple_points k) → second ≡ first ++ point kind.Then place ∷ []
+    → c ≡ try_then k place (block_of a) (block_of b) → la ≡ a.commands.items → lb ≡ b.commands.items
+    → first ≡ old ++ words_of (simple_points k) → second ≡ first ++ point kind.Then place ∷ []
     → third ≡ second ++ list_points la → new ≡ third ++ list_points lb → new ≡ old ++ words_of (command_points c)
 then_points c k place a b la lb old first second third new h e f i j m n =
     let s = words_of (simple_points k) in

@@ -67,7 +67,8 @@ small-parts n a b p q = subst (λ (ss : List Site). Small n ss) (sym (map-append
 
 module _ (h : Surroundings) (p : 0 < length h.entities) where
   simple-small : (k : SimpleCommand) → Small (length h.entities) (map site_of (simple_sites h k))
-  simple-small k = small-choice (length h.entities) (is_site h.entities h.home.kind h.home.children k) (record { surroundings = h; command = k }) (number-small h.entities (target_of h k) p)
+  simple-small k = small-choice (length h.entities) (is_site h.entities h.home.kind h.home.children k)
+      (record { surroundings = h; command = k }) (number-small h.entities (target_of h k) p)
 
   mutual
     unfolding Small
@@ -118,7 +119,8 @@ all-small : (d : DesignTree) (ss : StateList) → d.states ≡ ss → Small (len
 unfolding Small
 all-small d no_state e = tt
 all-small d (and_state s ss) e =
-    let some : 0 < length (entities_of d) = subst (λ (g : StateList). 0 < length (declared_in d.declarations ++ group_entities g)) (sym e) (some-entity s ss (declared_in d.declarations)) in
+    let some : 0 < length (entities_of d) = subst (λ (g : StateList). 0 < length (declared_in d.declarations ++ group_entities g)) (sym e)
+    (some-entity s ss (declared_in d.declarations)) in
     states-small (entities_of d) some (and_state s ss)
 
 pub site-within : (d : DesignTree) (k : ℕ) (s : Site) → slice_get (sites_of d) k ≡ Some s → s.entity < length (entities_of d)

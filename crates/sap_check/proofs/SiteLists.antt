@@ -64,7 +64,8 @@ module _ (h : Surroundings) where
   arms_sites-past (arm ∷ arms) zero l = absurd (omega arith)
   arms_sites-past (arm ∷ arms) (suc n) l = arms_sites-past arms n (omega arith)
 
-  pub arms_step : (arms : List Arm) (n : ℕ) (d : Arm) (cs : List Cmd) (old new : List Site) → n < length arms → d ≡ get_or arms n d → cs ≡ d.block.commands.items → new ≡ old ++ list_sites h cs
+  pub arms_step : (arms : List Arm) (n : ℕ) (d : Arm) (cs : List Cmd) (old new : List Site) → n < length arms → d ≡ get_or arms n d
+      → cs ≡ d.block.commands.items → new ≡ old ++ list_sites h cs
       → new ++ arms_sites h (drop (n + 1) arms) ≡ old ++ arms_sites h (drop n arms)
   arms_step arms n d cs old new l e f k = after_part old new _ _ _ k (arms_sites-drop arms n d cs l e f)
 

@@ -87,11 +87,13 @@ module _ (d : Named) (within : (x y : ℕ) → (bit_or (d.code x) (d.code y) == 
             (one.memory_tags m is dynamic) (other.memory_tags m is dynamic) (c.one_is_state.fits.levels (start_whole m)) (c.other_is_state.fits.levels (start_whole m))
             (c.states.dynamic_memories m is dynamic).0;
         register_tags = λ x is enforced low.
-            one.register_tags x is ∙ ap (λ (y : ℕ). d.code y) (c.states.enforced_levels (own x) (register_no_memory_test (entity w x).kind is) enforced low) ∙ sym (other.register_tags x is);
+            one.register_tags x is ∙ ap (λ (y : ℕ). d.code y)
+            (c.states.enforced_levels (own x) (register_no_memory_test (entity w x).kind is) enforced low) ∙ sym (other.register_tags x is);
         cell_tags = λ m i is enforced low below.
             one.cell_tags m i is enforced below ∙ ap (λ (y : ℕ). d.code y) (c.states.enforced_levels (start m i) is enforced low) ∙ sym (other.cell_tags m i is enforced below);
         state_tags = λ x is below enforced low.
-            one.state_tags x is below ∙ ap (λ (y : ℕ). d.code y) (c.states.enforced_levels (own x) (state_no_memory_test (entity w x).kind is) enforced low) ∙ sym (other.state_tags x is below);
+            one.state_tags x is below ∙ ap (λ (y : ℕ). d.code y)
+            (c.states.enforced_levels (own x) (state_no_memory_test (entity w x).kind is) enforced low) ∙ sym (other.state_tags x is below);
         current = (are_children d sites v s c.one.refused one c.one_is_state, are_children d sites u t c.other.refused other c.other_is_state);
         paths = paths_look_alike d l sites v u c fine;
         refusals = λ k n i j.
@@ -149,7 +151,8 @@ labelled_states ls laws keeps fit d formed stream fits =
     let f = fit ls d laws formed in
     all_states (named_of ls d) k.1 f.1 (first (program_of ls d).world) stream fits (record { rests = k.0; fits = f.0 })
 
-module _ (ls : Levels) (laws : Laws (order_of ls)) (codes : Codes (order_of ls)) (agree : RunsOfDesignsAgree) (keeps : DesignStatesRest) (fit : DesignNumbersFit) (fine : ProgramsAreFine)
+module _ (ls : Levels) (laws : Laws (order_of ls)) (codes : Codes (order_of ls)) (agree : RunsOfDesignsAgree) (keeps : DesignStatesRest)
+    (fit : DesignNumbersFit) (fine : ProgramsAreFine)
     (d : DesignTree) (n : Net) (formed : WellFormed ls d) (stands : StandsForDesign ls d n) where
   states_of : (stream : List (List Tagged)) → StreamFits (world (named_of ls d)) stream → AllStates (named_of ls d) (labelled_run (program_of ls d) stream)
   states_of = labelled_states ls laws keeps fit d formed

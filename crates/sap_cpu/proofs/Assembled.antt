@@ -52,7 +52,8 @@ line_more s h =
     elim (cases_lt (position_or_len (is_mark 10) s) (length s)) [
       | inr unmarked ↦
           let whole : before s ≡ s = before_unmarked 10 s unmarked in
-          let open_line : ltb (length (before s)) (length s) ≡ false = le-ltb (length (before s)) (length s) (let e : length (before s) ≡ length s = ap length whole in omega arith) in
+          let open_line : ltb (length (before s)) (length s) ≡ false =
+          le-ltb (length (before s)) (length s) (let e : length (before s) ≡ length s = ap length whole in omega arith) in
           ap lines_between (split_unmarked 10 s unmarked) ∙ last_piece s h
           ∙ ap₂ (λ (t : List ℕ) (b : Bool). line_with t b ∷ []) (sym whole) (sym open_line)
           ∙ ap (λ (t : List ℕ). first_line s ∷ lines_between (split_at 10 t)) (sym (after_unmarked 10 s unmarked))
@@ -83,7 +84,8 @@ late s n h is = ap (words_of n) (line_more s h) ∙ (let e : nat_lt 16 n ≡ tru
 pub open_line : (s here : List ℕ) (n : ℕ) → 0 < length s → n ≤ 16 → here ≡ before s → length here ≡ length s → words_of n (lines_of s) ≡ refused B4 n
 open_line s here n h small is all =
     ap (words_of n) (line_more s h)
-    ∙ (let e : ltb (length (before s)) (length s) ≡ false = le-ltb (length (before s)) (length s) (let f : length (before s) ≡ length s = ap length (sym is) ∙ all in omega arith) in rw (not_late n small, e) refl)
+    ∙ (let e : ltb (length (before s)) (length s) ≡ false =
+    le-ltb (length (before s)) (length s) (let f : length (before s) ≡ length s = ap length (sym is) ∙ all in omega arith) in rw (not_late n small, e) refl)
 
 -- a line that is read
 pub line_read : (s here : List ℕ) (n : ℕ) (r : Result ℕ AsmCode) → 0 < length s → n ≤ 16 → here ≡ before s → length here ≢ length s → r ≡ word_of here
@@ -110,15 +112,18 @@ pub record Assembling (text : List ℕ) (words : List ℕ) (count : ℕ) (rest :
   pub few : count ≤ 16
   pub zero : (k : ℕ) → count ≤ k → get_or words k 0 ≡ 0
 
-pub refuses : (text words rest : List ℕ) (count : ℕ) (fault : AsmFault) → Assembling text words count rest → words_of (count + 1) (lines_of rest) ≡ Err fault → Err fault ≡ assembled text
+pub refuses : (text words rest : List ℕ) (count : ℕ) (fault : AsmFault) → Assembling text words count rest
+    → words_of (count + 1) (lines_of rest) ≡ Err fault → Err fault ≡ assembled text
 unfolding assembled
 refuses text words rest count fault so_far is = ap all_filled (ap (behind (take count words)) (sym is) ∙ so_far.read)
 
-pub goes_on : (text words rest later : List ℕ) (count x : ℕ) → Assembling text words count rest → count ≢ 16 → words_of (count + 1) (lines_of rest) ≡ and_word x (words_of (count + 1 + 1) (lines_of later))
+pub goes_on : (text words rest later : List ℕ) (count x : ℕ) → Assembling text words count rest → count ≢ 16
+    → words_of (count + 1) (lines_of rest) ≡ and_word x (words_of (count + 1 + 1) (lines_of later))
     → Assembling text (slice_set words count x) (count + 1) later
 goes_on text words rest later count x so_far more is =
     let inside : count < length words = omega (arith, so_far.size, so_far.few, more) in
-    let next : take (count + 1) (slice_set words count x) ≡ take count words ++ x ∷ [] = ap (λ n. take n (slice_set words count x)) (add-one count) ∙ take-suc-set words count x inside in
+    let next : take (count + 1) (slice_set words count x) ≡ take count words ++ x ∷ [] =
+    ap (λ n. take n (slice_set words count x)) (add-one count) ∙ take-suc-set words count x inside in
     record {
       read = behind_one (take count words) (take (count + 1) (slice_set words count x)) x (words_of (count + 1 + 1) (lines_of later)) next
           ∙ ap (behind (take count words)) (sym is) ∙ so_far.read;

@@ -17,12 +17,14 @@ both_lines a b n cpu none one two is nothing first second =
     ∙ ap₂ (λ (x y : UserState). user_line (codes "a") x ++ user_line (codes "b") y) is.first is.second
 
 -- so many words of both lists, a line each
-pub one_line_more : (a b : List ℕ) (i : ℕ) → i < length a → i < length b → word_lines (take (suc i) a) (take (suc i) b) ≡ word_lines (take i a) (take i b) ++ word_line (get_or a i 0) (get_or b i 0)
+pub one_line_more : (a b : List ℕ) (i : ℕ) → i < length a → i < length b
+    → word_lines (take (suc i) a) (take (suc i) b) ≡ word_lines (take i a) (take i b) ++ word_line (get_or a i 0) (get_or b i 0)
 one_line_more [] b i ha hb = absurd (omega arith)
 one_line_more (x ∷ a) [] i ha hb = absurd (omega arith)
 one_line_more (x ∷ a) (y ∷ b) zero ha hb = append-nil (word_line x y)
 one_line_more (x ∷ a) (y ∷ b) (suc i) ha hb =
-    ap (λ (l : List ℕ). word_line x y ++ l) (one_line_more a b i (omega arith) (omega arith)) ∙ sym (append_assoc (word_line x y) (word_lines (take i a) (take i b)) (word_line (get_or a i 0) (get_or b i 0)))
+    ap (λ (l : List ℕ). word_line x y ++ l) (one_line_more a b i (omega arith) (omega arith))
+    ∙ sym (append_assoc (word_line x y) (word_lines (take i a) (take i b)) (word_line (get_or a i 0) (get_or b i 0)))
 
 -- the lines of the first i words
 pub record Written (a b : List ℕ) (i : ℕ) (out : List ℕ) : Type 0 where

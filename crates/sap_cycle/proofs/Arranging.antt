@@ -28,7 +28,8 @@ first_marked zero n k h = absurd (none_marked n k h)
 first_marked (suc base) n zero h = omega arith
 first_marked (suc base) n (suc k) h = omega (arith, first_marked base n k h)
 
-pub arranging_none : (base : ℕ) (parts : List Part) (steps : List Step) (marks : List Bool) → length marks ≡ base + length steps → (n : ℕ) → marks ≡ replicate base true ++ replicate n false → Arranging base parts steps marks []
+pub arranging_none : (base : ℕ) (parts : List Part) (steps : List Step) (marks : List Bool) → length marks ≡ base + length steps → (n : ℕ)
+    → marks ≡ replicate base true ++ replicate n false → Arranging base parts steps marks []
 arranging_none base parts steps marks l n e =
     record {
       long = l;
@@ -49,11 +50,13 @@ known_push : (known : ℕ → Type 0) (ps : List (ℕ × Step)) (p : ℕ × Step
 known_push known [] p k h = h
 known_push known (q ∷ ps) p k h = known_push (Also known q.0) ps p k h
 
-in_order_push : (parts : List Part) (known : ℕ → Type 0) (ps : List (ℕ × Step)) (p : ℕ × Step) → InOrder parts known ps → ReadsAmong (λ k. KnownAfter known ps k) parts p.1 → InOrder parts known (ps ++ p ∷ [])
+in_order_push : (parts : List Part) (known : ℕ → Type 0) (ps : List (ℕ × Step)) (p : ℕ × Step) → InOrder parts known ps
+    → ReadsAmong (λ k. KnownAfter known ps k) parts p.1 → InOrder parts known (ps ++ p ∷ [])
 in_order_push parts known [] p o r = (r, tt)
 in_order_push parts known (q ∷ ps) p o r = (o.0, in_order_push parts (Also known q.0) ps p o.1 r)
 
-arranging_push : (base : ℕ) (parts : List Part) (steps : List Step) (marks : List Bool) (ps : List (ℕ × Step)) → Arranging base parts steps marks ps → (p : ℕ × Step) → IsOwn base steps p → ReadsAmong (IsMarked marks) parts p.1
+arranging_push : (base : ℕ) (parts : List Part) (steps : List Step) (marks : List Bool) (ps : List (ℕ × Step))
+    → Arranging base parts steps marks ps → (p : ℕ × Step) → IsOwn base steps p → ReadsAmong (IsMarked marks) parts p.1
     → Arranging base parts steps (slice_set marks p.0 true) (ps ++ p ∷ [])
 arranging_push base parts steps marks ps a p own reads =
     record {
@@ -68,11 +71,13 @@ arranging_push base parts steps marks ps a p own reads =
       own = all_append (IsOwn base steps) ps (p ∷ []) a.own (own, tt);
     }
 
-pub arranging_more : (others : List Step) (base : ℕ) (parts : List Part) (steps : List Step) (marks new : List Bool) (ps qs : List Placed) → Arranging base parts steps marks (map (placed_step others) ps)
+pub arranging_more : (others : List Step) (base : ℕ) (parts : List Part) (steps : List Step) (marks new : List Bool) (ps qs : List Placed)
+    → Arranging base parts steps marks (map (placed_step others) ps)
     → (p : Placed) → IsOwn base steps (placed_step others p) → ReadsAmong (IsMarked marks) parts (placed_step others p).1 → new ≡ slice_set marks p.target true → qs ≡ ps ++ p ∷ []
     → Arranging base parts steps new (map (placed_step others) qs)
 arranging_more others base parts steps marks new ps qs a p own reads em eq =
-    let e : map (placed_step others) qs ≡ map (placed_step others) ps ++ placed_step others p ∷ [] = ap (map (placed_step others)) eq ∙ map-append (placed_step others) ps (p ∷ []) in
+    let e : map (placed_step others) qs ≡ map (placed_step others) ps ++ placed_step others p ∷ [] =
+    ap (map (placed_step others)) eq ∙ map-append (placed_step others) ps (p ∷ []) in
     subst (λ (l : List (ℕ × Step)). Arranging base parts steps new l) (sym e)
     (subst (λ (ms : List Bool). Arranging base parts steps ms (map (placed_step others) ps ++ placed_step others p ∷ [])) (sym em)
     (arranging_push base parts steps marks (map (placed_step others) ps) a (placed_step others p) own reads))
@@ -82,7 +87,8 @@ marked_at [] h k lt = absurd (omega (arith, lt))
 marked_at (m ∷ ms) h zero lt = ap Some h.0
 marked_at (m ∷ ms) h (suc k) lt = marked_at ms h.1 k (omega (arith, lt))
 
-pub arranged_all : (base : ℕ) (parts : List Part) (steps : List Step) (marks : List Bool) (ps : List (ℕ × Step)) → Arranging base parts steps marks ps → AllByRecursion (λ m. m ≡ true) marks → IsOrder base parts steps ps
+pub arranged_all : (base : ℕ) (parts : List Part) (steps : List Step) (marks : List Bool) (ps : List (ℕ × Step))
+    → Arranging base parts steps marks ps → AllByRecursion (λ m. m ≡ true) marks → IsOrder base parts steps ps
 arranged_all base parts steps marks ps a all =
     record {
       own = a.own;

@@ -98,7 +98,8 @@ set_middle true front block behind base k x e lt =
 set_middle false front block behind base k x e lt = refl
 
 -- the cells after all writes
-pub all_stored : (v : Valuation) (names : List Name) (values : List ℕ) → Matches v names values → length names ≤ length values → (ps : List WritePort) (ms : List Memory) (base : ℕ) (front : List ℕ)
+pub all_stored : (v : Valuation) (names : List Name) (values : List ℕ) → Matches v names values → length names ≤ length values
+    → (ps : List WritePort) (ms : List Memory) (base : ℕ) (front : List ℕ)
     → length front ≡ base → PortsMean names base ps ms → AllByRecursion (λ m. operand_value v m.index < m.depth) ms
     → (stored values ps (front ++ cells_of v.cell ms) ≡ front ++ cells_with (written v) ms) × ArePortsReady values ps (front ++ cells_of v.cell ms)
 all_stored v names values m le [] [] base front e mean h = (refl, tt)

@@ -42,15 +42,19 @@ compiling_none n rules k knows =
       mean = tt;
     }
 
-wires_from : (n : Net) (i : ℕ) (k : Known) (steps : List Step) (parts : List Part) (c : Compiling n i k steps parts) (w : Wire) → i < length n.wires → w ≡ get_or n.wires i w → drop i n.wires ≡ w ∷ drop (i + 1) n.wires
+wires_from : (n : Net) (i : ℕ) (k : Known) (steps : List Step) (parts : List Part) (c : Compiling n i k steps parts) (w : Wire)
+    → i < length n.wires → w ≡ get_or n.wires i w → drop i n.wires ≡ w ∷ drop (i + 1) n.wires
 wires_from n i k steps parts c w lt is = drop_more n.wires i w lt ∙ ap (λ (x : Wire). x ∷ drop (i + 1) n.wires) (sym is)
 
-pub compiling_known : (n : Net) (i : ℕ) (k : Known) (steps : List Step) (parts : List Part) (c : Compiling n i k steps parts) (w : Wire) → i < length n.wires → w ≡ get_or n.wires i w → IsKnownRight k w.right
+pub compiling_known : (n : Net) (i : ℕ) (k : Known) (steps : List Step) (parts : List Part) (c : Compiling n i k steps parts) (w : Wire)
+    → i < length n.wires → w ≡ get_or n.wires i w → IsKnownRight k w.right
 compiling_known n i k steps parts c w lt is =
     let rest : AreWires (shapes n) c.scope (w ∷ drop (i + 1) n.wires) = subst (AreWires (shapes n) c.scope) (wires_from n i k steps parts c w lt is) c.rest in
-    known_right (width_of n) n.memories _ k c.knows (shapes n) (covers_listed {X = ℕ × ℕ} (λ m. m.name) (λ m. (m.width, m.depth)) n.memories) c.scope c.covers w.width w.right rest.3
+    known_right (width_of n) n.memories _ k c.knows (shapes n)
+    (covers_listed {X = ℕ × ℕ} (λ m. m.name) (λ m. (m.width, m.depth)) n.memories) c.scope c.covers w.width w.right rest.3
 
-pub compiling_more : (n : Net) (i : ℕ) (k : Known) (steps : List Step) (parts : List Part) (c : Compiling n i k steps parts) (w : Wire) → i < length n.wires → w ≡ get_or n.wires i w → (new : Known)
+pub compiling_more : (n : Net) (i : ℕ) (k : Known) (steps : List Step) (parts : List Part) (c : Compiling n i k steps parts) (w : Wire)
+    → i < length n.wires → w ≡ get_or n.wires i w → (new : Known)
     → ((g : Name → ℕ) (ms : List Memory) (names : List Name) → Knows g ms names k → g w.name ≡ w.width → Knows g ms (names ++ w.name ∷ []) new)
     → Compiling n (i + 1) new (steps ++ step_found k (length parts) w.right ∷ []) (parts ++ parts_found k w.right)
 compiling_more n i k steps parts c w lt is new adds =
@@ -80,14 +84,17 @@ compiling_more n i k steps parts c w lt is new adds =
       mean = subst (StepsMean (width_of n) n.memories (parts ++ parts_found k w.right) (first_names n) (steps ++ step_found k (length parts) w.right ∷ [])) (sym taken) mean;
     }
 
-pub compiled_mean : (n : Net) (i : ℕ) (k : Known) (steps : List Step) (parts : List Part) (c : Compiling n i k steps parts) → length n.wires ≤ i → StepsMean (width_of n) n.memories parts (first_names n) steps n.wires
+pub compiled_mean : (n : Net) (i : ℕ) (k : Known) (steps : List Step) (parts : List Part) (c : Compiling n i k steps parts)
+    → length n.wires ≤ i → StepsMean (width_of n) n.memories parts (first_names n) steps n.wires
 compiled_mean n i k steps parts c le = subst (StepsMean (width_of n) n.memories parts (first_names n) steps) (take_all i n.wires le) c.mean
 
-pub compiled_knows : (n : Net) (i : ℕ) (k : Known) (steps : List Step) (parts : List Part) (c : Compiling n i k steps parts) → length n.wires ≤ i → Knows (width_of n) n.memories (value_names n) k
+pub compiled_knows : (n : Net) (i : ℕ) (k : Known) (steps : List Step) (parts : List Part) (c : Compiling n i k steps parts)
+    → length n.wires ≤ i → Knows (width_of n) n.memories (value_names n) k
 compiled_knows n i k steps parts c le = subst (λ l. Knows (width_of n) n.memories (first_names n ++ map (λ w. w.name) l) k) (take_all i n.wires le) c.knows
 
 -- registers and ports
-registers_known : (n : Net) (k : Known) → Knows (width_of n) n.memories (value_names n) k → (rs : List Register) → AllByRecursion (IsRegister (readable n)) rs → AllByRecursion (λ r. IsKnownOperand k r.next) rs
+registers_known : (n : Net) (k : Known) → Knows (width_of n) n.memories (value_names n) k → (rs : List Register)
+    → AllByRecursion (IsRegister (readable n)) rs → AllByRecursion (λ r. IsKnownOperand k r.next) rs
 registers_known n k knows [] h = tt
 registers_known n k knows (r ∷ rs) h =
     (known_operand (width_of n) n.memories (value_names n) k knows (readable n) (covers_readable n) r.width r.next h.0.1, registers_known n k knows rs h.1)
@@ -95,7 +102,8 @@ registers_known n k knows (r ∷ rs) h =
 pub nexts_known : (n : Net) → IsNetlist n → (k : Known) → Knows (width_of n) n.memories (value_names n) k → AllByRecursion (λ r. IsKnownOperand k r.next) n.registers
 nexts_known n rules k knows = registers_known n k knows n.registers rules.nexts
 
-memories_known : (n : Net) (k : Known) → Knows (width_of n) n.memories (value_names n) k → (ms : List Memory) → AllByRecursion (IsMemory (readable n)) ms → AllByRecursion (IsKnownPort k) ms
+memories_known : (n : Net) (k : Known) → Knows (width_of n) n.memories (value_names n) k → (ms : List Memory)
+    → AllByRecursion (IsMemory (readable n)) ms → AllByRecursion (IsKnownPort k) ms
 memories_known n k knows [] h = tt
 memories_known n k knows (m ∷ ms) h = (
   (
@@ -109,11 +117,13 @@ memories_known n k knows (m ∷ ms) h = (
 pub ports_known : (n : Net) → IsNetlist n → (k : Known) → Knows (width_of n) n.memories (value_names n) k → AllByRecursion (IsKnownPort k) n.memories
 ports_known n rules k knows = memories_known n k knows n.memories rules.writes
 
-pub nexts_mean : (f : Name → ℕ) (ms : List Memory) (names : List Name) (k : Known) → Knows f ms names k → (rs : List Register) → AllByRecursion (λ r. IsKnownOperand k r.next) rs → NextsMean names (map (λ r. slot_found k r.next) rs) rs
+pub nexts_mean : (f : Name → ℕ) (ms : List Memory) (names : List Name) (k : Known) → Knows f ms names k → (rs : List Register)
+    → AllByRecursion (λ r. IsKnownOperand k r.next) rs → NextsMean names (map (λ r. slot_found k r.next) rs) rs
 nexts_mean f ms names k knows [] h = tt
 nexts_mean f ms names k knows (r ∷ rs) h = (slot_means f ms names k knows r.next h.0, nexts_mean f ms names k knows rs h.1)
 
-pub ports_mean : (f : Name → ℕ) (ms : List Memory) (names : List Name) (k : Known) → Knows f ms names k → (ks : List Memory) (b : ℕ) → AllByRecursion (IsKnownPort k) ks → PortsMean names b (ports_found k b ks) ks
+pub ports_mean : (f : Name → ℕ) (ms : List Memory) (names : List Name) (k : Known) → Knows f ms names k → (ks : List Memory) (b : ℕ)
+    → AllByRecursion (IsKnownPort k) ks → PortsMean names b (ports_found k b ks) ks
 ports_mean f ms names k knows [] b h = tt
 ports_mean f ms names k knows (m ∷ ks) b h = (
   (

@@ -49,15 +49,18 @@ all_joined : {A : Type 0} (f g h : A → ℕ) (xs : List A) → AllByRecursion (
 all_joined {A} f g h [] a b = tt
 all_joined {A} f g h (x ∷ xs) a b = (a.0 ∙ sym b.0, all_joined f g h xs a.1 b.1)
 
-all_joined_at : {A : Type 0} (f g h : A → ℕ → ℕ) (xs : List A) → AllByRecursion (λ x. (i : ℕ) → f x i ≡ g x i) xs → AllByRecursion (λ x. (i : ℕ) → h x i ≡ g x i) xs → AllByRecursion (λ x. (i : ℕ) → h x i ≡ f x i) xs
+all_joined_at : {A : Type 0} (f g h : A → ℕ → ℕ) (xs : List A) → AllByRecursion (λ x. (i : ℕ) → f x i ≡ g x i) xs
+    → AllByRecursion (λ x. (i : ℕ) → h x i ≡ g x i) xs → AllByRecursion (λ x. (i : ℕ) → h x i ≡ f x i) xs
 all_joined_at {A} f g h [] a b = tt
 all_joined_at {A} f g h (x ∷ xs) a b = (λ i. b.0 i ∙ sym (a.0 i), all_joined_at f g h xs a.1 b.1)
 
-found_numbers : {A : Type 0} (es : List (Name × ℕ)) (key : A → Name) (f : A → ℕ) (xs : List A) → AllByRecursion (λ x. find es (key x) ≡ Some (f x)) xs → AllByRecursion (λ x. unwrap_or (find es (key x)) 0 ≡ f x) xs
+found_numbers : {A : Type 0} (es : List (Name × ℕ)) (key : A → Name) (f : A → ℕ) (xs : List A)
+    → AllByRecursion (λ x. find es (key x) ≡ Some (f x)) xs → AllByRecursion (λ x. unwrap_or (find es (key x)) 0 ≡ f x) xs
 found_numbers {A} es key f [] h = tt
 found_numbers {A} es key f (x ∷ xs) h = (rw h.0, found_numbers es key f xs h.1)
 
-found_cells : {A : Type 0} (es : List (Name × ℕ)) (key : A → Name) (f : A → ℕ) (xs : List A) → AllByRecursion (λ x. find es (key x) ≡ Some (f x)) xs → AllByRecursion (λ x. (i : ℕ) → unwrap_or (find es (key x)) 0 ≡ f x) xs
+found_cells : {A : Type 0} (es : List (Name × ℕ)) (key : A → Name) (f : A → ℕ) (xs : List A)
+    → AllByRecursion (λ x. find es (key x) ≡ Some (f x)) xs → AllByRecursion (λ x. (i : ℕ) → unwrap_or (find es (key x)) 0 ≡ f x) xs
 found_cells {A} es key f [] h = tt
 found_cells {A} es key f (x ∷ xs) h = (λ i. rw h.0, found_cells es key f xs h.1)
 
@@ -68,19 +71,22 @@ pub first_memories : (n : Net) → IsNetlist n → AllByRecursion (λ m. (i : �
 first_memories n rules = found_cells (map (λ m. (m.name, m.start)) n.memories) (λ m. m.name) (λ m. m.start) n.memories (memories_found n rules (λ m. m.start))
 
 -- a cycle begins with what was seen before it
-registers_begin : (n : Net) → IsNetlist n → (before : Option Valuation) (xs : List ℕ) (v : Valuation) → IsCycle n before xs v → AllByRecursion (λ r. v.value r.name ≡ (seen n before).value r.name) n.registers
+registers_begin : (n : Net) → IsNetlist n → (before : Option Valuation) (xs : List ℕ) (v : Valuation) → IsCycle n before xs v
+    → AllByRecursion (λ r. v.value r.name ≡ (seen n before).value r.name) n.registers
 registers_begin n rules None xs v cycle =
     all_joined (λ r. v.value r.name) (λ r. r.start) (λ r. (seen n None).value r.name) n.registers cycle.begins.0 (first_registers n rules)
 registers_begin n rules (Some p) xs v cycle =
     all_joined (λ r. v.value r.name) (λ r. operand_value p r.next) (λ r. (observed n p).value r.name) n.registers cycle.begins.0 (observed_registers n rules p)
 
-memories_begin : (n : Net) → IsNetlist n → (before : Option Valuation) (xs : List ℕ) (v : Valuation) → IsCycle n before xs v → AllByRecursion (λ m. (i : ℕ) → (seen n before).cell m.name i ≡ v.cell m.name i) n.memories
+memories_begin : (n : Net) → IsNetlist n → (before : Option Valuation) (xs : List ℕ) (v : Valuation) → IsCycle n before xs v
+    → AllByRecursion (λ m. (i : ℕ) → (seen n before).cell m.name i ≡ v.cell m.name i) n.memories
 memories_begin n rules None xs v cycle =
     all_joined_at (λ m. v.cell m.name) (λ m i. m.start) (λ m. (seen n None).cell m.name) n.memories cycle.begins.1 (first_memories n rules)
 memories_begin n rules (Some p) xs v cycle =
     all_joined_at (λ m. v.cell m.name) (written p) (λ m. (observed n p).cell m.name) n.memories cycle.begins.1 (observed_memories n rules p)
 
-pub steps_long : (widths : Name → ℕ) (ms : List Memory) (parts : List Part) (names : List Name) (ss : List Step) (ws : List Wire) → StepsMean widths ms parts names ss ws → length ss ≡ length ws
+pub steps_long : (widths : Name → ℕ) (ms : List Memory) (parts : List Part) (names : List Name) (ss : List Step) (ws : List Wire)
+    → StepsMean widths ms parts names ss ws → length ss ≡ length ws
 steps_long widths ms parts names [] [] h = refl
 steps_long widths ms parts names [] (w ∷ ws) h = absurd h
 steps_long widths ms parts names (s ∷ ss) [] h = absurd h
@@ -93,7 +99,8 @@ nexts_long names (s ∷ ss) [] h = absurd h
 nexts_long names (s ∷ ss) (r ∷ rs) h = let e = nexts_long names ss rs h.1 in cc
 
 -- what the registers take at the edge
-nexts_are : (v : Valuation) (f : Name → ℕ) (names : List Name) (values : List ℕ) → Matches v names values → (ss : List Slot) (rs : List Register) → NextsMean names ss rs → AllByRecursion (λ r. f r.name ≡ operand_value v r.next) rs
+nexts_are : (v : Valuation) (f : Name → ℕ) (names : List Name) (values : List ℕ) → Matches v names values
+    → (ss : List Slot) (rs : List Register) → NextsMean names ss rs → AllByRecursion (λ r. f r.name ≡ operand_value v r.next) rs
     → map (slot_value values) ss ≡ map f (map (λ r. r.name) rs)
 nexts_are v f names values m [] [] h a = refl
 nexts_are v f names values m [] (r ∷ rs) h a = absurd h
@@ -132,7 +139,8 @@ pub record IsTurn (n : Net) (p : Program) (inputs values cells : List ℕ) (v : 
   pub values_are : values_turned p inputs values cells ≡ map (observed n v).value (value_names n)
   pub cells_are : cells_turned p inputs values cells ≡ cells_of (observed n v).cell n.memories
 
-pub turn_is : (n : Net) → IsNetlist n → (p : Program) → IsProgram n p → (before : Option Valuation) (inputs values cells : List ℕ) (v : Valuation) → values ≡ map (seen n before).value (value_names n)
+pub turn_is : (n : Net) → IsNetlist n → (p : Program) → IsProgram n p
+    → (before : Option Valuation) (inputs values cells : List ℕ) (v : Valuation) → values ≡ map (seen n before).value (value_names n)
     → cells ≡ cells_of (seen n before).cell n.memories → IsCycle n before inputs v → IsTurn n p inputs values cells v
 turn_is n rules p program before inputs values cells v ev ec cycle =
     let f = (seen n before).value in
@@ -158,7 +166,8 @@ turn_is n rules p program before inputs values cells v ev ec cycle =
     ∙ copied_middle [] (map f ins) (map f regs ++ map f wires) inputs 0 refl (omega (arith, lx, lf))
     ∙ sym (append_assoc inputs (map f regs) (map f wires))
     ∙ ap (λ l. l ++ map f wires) (sym first) in
-    let lstart : length start ≡ length (first_names n) + length wires = ap length es ∙ omega (arith, length-append (map v.value (first_names n)) (map f wires), length-map (first_names n) v.value, length-map wires f) in
+    let lstart : length start ≡ length (first_names n) + length wires =
+    ap length es ∙ omega (arith, length-append (map v.value (first_names n)) (map f wires), length-map (first_names n) v.value, length-map wires f) in
     let lvalues : length values ≡ length (first_names n) + length wires = ap length ev ∙ omega (arith, length-map (value_names n) f, length-append (first_names n) wires) in
     let holding : Holding n.memories (shapes n) v cells = record {
       are = ec ∙ cells_equal (λ m. (seen n before).cell m.name) (λ m. v.cell m.name) n.memories (memories_begin n rules before inputs v cycle);
@@ -171,8 +180,10 @@ turn_is n rules p program before inputs values cells v ev ec cycle =
     ap (λ l. slice_index l k) es
     ∙ get_or_append_left (map v.value (first_names n)) (map f wires) 0 k known
     ∙ sym (ap (λ l. slice_index l k) (map-append v.value (first_names n) wires) ∙ get_or_append_left (map v.value (first_names n)) (map v.value wires) 0 k known) in
-    let numbers = step_numbers (width_of n) n.memories (shapes n) p.parts.items v cells holding ss n.wires (first_readable n) (first_names n) last program.steps.1 rules.assigns cycle.valuation.within.value (widths_are n) cycle.valuation.equations refl in
-    let go = order_settles cells last p.parts.items (length (first_names n)) ss ps program.steps.2 numbers start (omega (arith, lstart, llast)) (omega (arith, llast, ls, lw)) agree in
+    let numbers = step_numbers (width_of n) n.memories (shapes n) p.parts.items v cells holding ss n.wires (first_readable n)
+    (first_names n) last program.steps.1 rules.assigns cycle.valuation.within.value (widths_are n) cycle.valuation.equations refl in
+    let go = order_settles cells last p.parts.items (length (first_names n)) ss ps program.steps.2 numbers start
+    (omega (arith, lstart, llast)) (omega (arith, llast, ls, lw)) agree in
     let b = before_edge p inputs values cells in
     let lb : length b ≡ length (value_names n) = ap length go.1 ∙ length-map (value_names n) v.value in
     let mb : Matches v (value_names n) b = ap (λ k. take k b) (sym lb) ∙ take-length b ∙ go.1 in

@@ -38,7 +38,8 @@ keep_listed {A} {X} {Y} key f g a all (b ∷ list) fresh h = (
   keep_listed key f g a all list (not_behind (key b, f b) _ (key a) fresh) h.1,
 )
 
-pub found_listed : {A X Y : Type 0} (key : A → Name) (f : A → X) (g : A → Y) (list : List A) → AreFresh key f list → AllByRecursion (λ b. find (listed key g list) (key b) ≡ Some (g b)) list
+pub found_listed : {A X Y : Type 0} (key : A → Name) (f : A → X) (g : A → Y) (list : List A) → AreFresh key f list
+    → AllByRecursion (λ b. find (listed key g list) (key b) ≡ Some (g b)) list
 found_listed {A} {X} {Y} key f g [] fresh = tt
 found_listed {A} {X} {Y} key f g (a ∷ list) fresh = (
   found_here (key a) (g a) (listed key g list),
@@ -61,7 +62,8 @@ pub memories_found : {Y : Type 0} (n : Net) → IsNetlist n → (g : Memory → 
 memories_found {Y} n rules g = found_listed {X = ℕ × ℕ} (λ m. m.name) (λ m. (m.width, m.depth)) g n.memories (fresh_memories n.memories rules.memory_shapes)
 
 -- an input is no register
-inputs_apart : {Y : Type 0} (ms : Shapes) (g : Register → Y) (rs : List Register) (is : List Input) → AreValues ms (map (λ i. (i.name, i.width)) is ++ map (λ r. (r.name, r.width)) rs)
+inputs_apart : {Y : Type 0} (ms : Shapes) (g : Register → Y) (rs : List Register) (is : List Input)
+    → AreValues ms (map (λ i. (i.name, i.width)) is ++ map (λ r. (r.name, r.width)) rs)
     → AllByRecursion (λ i. find (map (λ s. (s.name, g s)) rs) i.name ≡ None) is
 inputs_apart {Y} ms g rs [] rules = tt
 inputs_apart {Y} ms g rs (i ∷ is) rules = (
@@ -94,15 +96,19 @@ keep_entries e all (d ∷ es) fresh h = (rw (not_first d es e.0 fresh) h.0, keep
 abbrev pub AreReadable : {A : Type 0} → Scope → (key : A → Name) → (width : A → ℕ) → List A → Type 0
 AreReadable sc key width list = AllByRecursion (λ a. find sc (key a) ≡ Some (width a)) list
 
-first_inputs : (sc sd : Scope) (is : List Input) → AllByRecursion {X = Name × ℕ} (λ d. find sc d.0 ≡ Some d.1) (map (λ i. (i.name, i.width)) is ++ sd) → AreReadable sc (λ i. i.name) (λ i. i.width) is × AllByRecursion (λ d. find sc d.0 ≡ Some d.1) sd
+first_inputs : (sc sd : Scope) (is : List Input)
+    → AllByRecursion {X = Name × ℕ} (λ d. find sc d.0 ≡ Some d.1) (map (λ i. (i.name, i.width)) is ++ sd)
+    → AreReadable sc (λ i. i.name) (λ i. i.width) is × AllByRecursion (λ d. find sc d.0 ≡ Some d.1) sd
 first_inputs sc sd [] h = (tt, h)
 first_inputs sc sd (i ∷ is) h = let r = first_inputs sc sd is h.1 in ((h.0, r.0), r.1)
 
-first_registers : (sc : Scope) (rs : List Register) → AllByRecursion {X = Name × ℕ} (λ d. find sc d.0 ≡ Some d.1) (map (λ r. (r.name, r.width)) rs) → AreReadable sc (λ r. r.name) (λ r. r.width) rs
+first_registers : (sc : Scope) (rs : List Register)
+    → AllByRecursion {X = Name × ℕ} (λ d. find sc d.0 ≡ Some d.1) (map (λ r. (r.name, r.width)) rs) → AreReadable sc (λ r. r.name) (λ r. r.width) rs
 first_registers sc [] h = tt
 first_registers sc (r ∷ rs) h = (h.0, first_registers sc rs h.1)
 
-all_readable_after : {A : Type 0} (ms : Shapes) (sc : Scope) (ws : List Wire) → AreWires ms sc ws → (key : A → Name) (width : A → ℕ) (list : List A) → AreReadable sc key width list → AreReadable (readable_after sc ws) key width list
+all_readable_after : {A : Type 0} (ms : Shapes) (sc : Scope) (ws : List Wire) → AreWires ms sc ws
+    → (key : A → Name) (width : A → ℕ) (list : List A) → AreReadable sc key width list → AreReadable (readable_after sc ws) key width list
 all_readable_after {A} ms sc ws rules key width [] h = tt
 all_readable_after {A} ms sc ws rules key width (a ∷ list) h =
     (readable_kept ms ws sc rules (key a) (width a) h.0, all_readable_after ms sc ws rules key width list h.1)

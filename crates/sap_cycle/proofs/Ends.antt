@@ -6,11 +6,13 @@ use Rattle.sap_cycle.specs.declared.steps.Step.{Step}
 use Rattle.sap_cycle.specs.Runs.{run_steps, steps_of_runs}
 use Rattle.sap_cycle.specs.Steps.{settled, AreReady}
 
-settled_parts : (cells : List ℕ) (parts : List Part) (ps qs : List (ℕ × Step)) (values : List ℕ) → settled cells parts (ps ++ qs) values ≡ settled cells parts qs (settled cells parts ps values)
+settled_parts : (cells : List ℕ) (parts : List Part) (ps qs : List (ℕ × Step)) (values : List ℕ)
+    → settled cells parts (ps ++ qs) values ≡ settled cells parts qs (settled cells parts ps values)
 settled_parts cells parts [] qs values = refl
 settled_parts cells parts (p ∷ ps) qs values = settled_parts cells parts ps qs _
 
-ready_parts : (cells : List ℕ) (parts : List Part) (ps qs : List (ℕ × Step)) (values : List ℕ) → AreReady cells parts (ps ++ qs) values → AreReady cells parts ps values × AreReady cells parts qs (settled cells parts ps values)
+ready_parts : (cells : List ℕ) (parts : List Part) (ps qs : List (ℕ × Step)) (values : List ℕ) → AreReady cells parts (ps ++ qs) values
+    → AreReady cells parts ps values × AreReady cells parts qs (settled cells parts ps values)
 ready_parts cells parts [] qs values h = (tt, h)
 ready_parts cells parts (p ∷ ps) qs values h = let go = ready_parts cells parts ps qs _ h.2 in ((h.0, h.1, go.0), go.1)
 
@@ -25,13 +27,15 @@ pub record Left (cells : List ℕ) (parts : List Part) (others : List Step) (who
   pub gives : settled cells parts (steps_of_runs others runs) values ≡ whole
   pub ready : AreReady cells parts (steps_of_runs others runs) values
 
-pub run_ready : (cells : List ℕ) (parts : List Part) (others : List Step) (whole : List ℕ) (run : Run) (runs rest : List Run) (values : List ℕ) → Left cells parts others whole runs values → runs ≡ run ∷ rest
+pub run_ready : (cells : List ℕ) (parts : List Part) (others : List Step) (whole : List ℕ) (run : Run) (runs rest : List Run) (values : List ℕ)
+    → Left cells parts others whole runs values → runs ≡ run ∷ rest
     → AreReady cells parts (run_steps others run) values
 run_ready cells parts others whole run runs rest values l e =
     (ready_parts cells parts (run_steps others run) (steps_of_runs others rest) values
     (subst (λ (rs : List Run). AreReady cells parts (steps_of_runs others rs) values) e l.ready)).0
 
-pub run_more : (cells : List ℕ) (parts : List Part) (others : List Step) (whole : List ℕ) (run : Run) (runs rest : List Run) (values new : List ℕ) → Left cells parts others whole runs values → runs ≡ run ∷ rest
+pub run_more : (cells : List ℕ) (parts : List Part) (others : List Step) (whole : List ℕ) (run : Run) (runs rest : List Run)
+    (values new : List ℕ) → Left cells parts others whole runs values → runs ≡ run ∷ rest
     → new ≡ settled cells parts (run_steps others run) values → Left cells parts others whole rest new
 run_more cells parts others whole run runs rest values new l e is =
     let first = run_steps others run in

@@ -25,7 +25,8 @@ use Rattle.sap_cycle.proofs.Distinct.{AreReadable, inputs_no_registers, wires_no
 use Rattle.sap_cycle.proofs.Found.{finds_none}
 use Rattle.sap_cycle.proofs.Learned.{bases_long}
 
-zeros : {A : Type 0} (es : List (Name × ℕ)) (key : A → Name) (xs : List A) → AllByRecursion (λ x. find es (key x) ≡ None) xs → map (λ y. unwrap_or (find es y) 0) (map key xs) ≡ replicate (length xs) 0
+zeros : {A : Type 0} (es : List (Name × ℕ)) (key : A → Name) (xs : List A) → AllByRecursion (λ x. find es (key x) ≡ None) xs
+    → map (λ y. unwrap_or (find es y) 0) (map key xs) ≡ replicate (length xs) 0
 zeros {A} es key [] h = refl
 zeros {A} es key (x ∷ xs) h =
     let e : unwrap_or (find es (key x)) 0 ≡ 0 = ap (λ o. unwrap_or o 0) h.0 in
@@ -91,7 +92,8 @@ pub stored_more : (ms : List Memory) (i : ℕ) (m : Memory) (old new : NameMap �
     → Finds new (map (λ k. k.name) (take i ms) ++ m.name ∷ []) → AreStored (take (i + 1) ms) new (bases ++ length cells ∷ []) (cells ++ replicate m.depth m.start)
 stored_more ms i m old new bases cells lt is s finds =
     let taken : take (i + 1) ms ≡ take i ms ++ m ∷ [] = take_more ms i m lt ∙ ap (λ (x : Memory). take i ms ++ x ∷ []) (sym is) in
-    let long : length cells ≡ 0 + cell_count (take i ms) = ap length s.cells_are ∙ filled_long (take i ms) ∙ (let e : cell_count (take i ms) ≡ 0 + cell_count (take i ms) = omega arith in e) in
+    let long : length cells ≡ 0 + cell_count (take i ms) = ap length s.cells_are ∙ filled_long (take i ms)
+    ∙ (let e : cell_count (take i ms) ≡ 0 + cell_count (take i ms) = omega arith in e) in
     subst (λ (l : List Memory). AreStored l new (bases ++ length cells ∷ []) (cells ++ replicate m.depth m.start)) (sym taken)
     (record {
       found = subst (Finds new) (sym (map-append (λ (k : Memory). k.name) (take i ms) (m ∷ []))) finds;
@@ -121,7 +123,8 @@ bases_get (m ∷ ms) zero b lt = omega arith
 bases_get (m ∷ ms) (suc i) b lt = let r = bases_get ms i (b + m.depth) (omega arith) in omega (arith, r)
 
 -- the parts of a port
-port_is : (p : WritePort) (k : Known) (b : ℕ) (m : Memory) → p.base ≡ b → p.enable ≡ slot_found k m.enable → p.index ≡ slot_found k m.index → p.value ≡ slot_found k m.value → p ≡ port_of k b m
+port_is : (p : WritePort) (k : Known) (b : ℕ) (m : Memory) → p.base ≡ b → p.enable ≡ slot_found k m.enable → p.index ≡ slot_found k m.index
+    → p.value ≡ slot_found k m.value → p ≡ port_of k b m
 port_is p k b m base enable index value =
     ap (λ (j : ℕ). port j p.enable p.index p.value) base
     ∙ ap (λ (s : Slot). port b s p.index p.value) enable
@@ -145,7 +148,8 @@ ports_more k ms i m old new p bases lt is was pushed base enable index value =
     ∙ sym (ap (ports_found k 0) taken)
 
 -- the widths of inputs and registers
-all_wide : {A : Type 0} (sc : Scope) (key : A → Name) (width : A → ℕ) (list : List A) → AreReadable sc key width list → AllByRecursion (λ a. unwrap_or (find sc (key a)) 0 ≡ width a) list
+all_wide : {A : Type 0} (sc : Scope) (key : A → Name) (width : A → ℕ) (list : List A) → AreReadable sc key width list
+    → AllByRecursion (λ a. unwrap_or (find sc (key a)) 0 ≡ width a) list
 all_wide {A} sc key width [] h = tt
 all_wide {A} sc key width (a ∷ list) h = (ap (λ (o : Option ℕ). unwrap_or o 0) h.0, all_wide sc key width list h.1)
 
@@ -160,7 +164,8 @@ pub filled_count : (new old : List ℕ) (count x : ℕ) → old ≡ [] → new �
 filled_count new old count x none filled = ap length (filled ∙ ap (λ (l : List ℕ). l ++ replicate count x) none) ∙ length-replicate count x
 
 -- what is shown before the first cycle
-pub first_shown : (n : Net) → IsNetlist n → (values cells : List ℕ) (ms : List Memory) → ms ≡ n.memories → values ≡ first_numbers n → cells ≡ flat_map (λ m. replicate m.depth m.start) ms
+pub first_shown : (n : Net) → IsNetlist n → (values cells : List ℕ) (ms : List Memory) → ms ≡ n.memories → values ≡ first_numbers n
+    → cells ≡ flat_map (λ m. replicate m.depth m.start) ms
     → Shows (record { net = n; stepped = false; values = values; cells = cells }) None
 first_shown n rules values cells ms same v c =
     record {

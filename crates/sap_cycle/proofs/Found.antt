@@ -21,7 +21,8 @@ get_end [] y = refl
 get_end (x ∷ xs) y = get_end xs y
 
 -- one more name, at the end
-pub finds_more : (m n : NameMap ℕ) (names : List Name) (y : Name) (place : ℕ) → place ≡ length names → Puts (at_name m) y place (at_name n) → Finds m names → Finds n (names ++ y ∷ [])
+pub finds_more : (m n : NameMap ℕ) (names : List Name) (y : Name) (place : ℕ) → place ≡ length names → Puts (at_name m) y place (at_name n)
+    → Finds m names → Finds n (names ++ y ∷ [])
 finds_more m n names y place at p f =
     let u = subst (λ (k : ℕ). Puts (at_name m) y k (at_name n)) at p in
     record {

@@ -53,14 +53,16 @@ ports_long names [] (m ∷ ms) base h = absurd h
 ports_long names (p ∷ ps) [] base h = absurd h
 ports_long names (p ∷ ps) (m ∷ ms) base h = let e = ports_long names ps ms (base + m.depth) h.1 in cc
 
-port_base : (names : List Name) (ps : List WritePort) (before : List Memory) (m : Memory) (behind : List Memory) (d : WritePort) (base : ℕ) → PortsMean names base ps (before ++ m ∷ behind)
+port_base : (names : List Name) (ps : List WritePort) (before : List Memory) (m : Memory) (behind : List Memory) (d : WritePort) (base : ℕ)
+    → PortsMean names base ps (before ++ m ∷ behind)
     → (get_or ps (length before) d).base ≡ base + cell_count before
 port_base names [] [] m behind d base h = absurd h
 port_base names [] (b ∷ before) m behind d base h = absurd h
 port_base names (p ∷ ps) [] m behind d base h = h.0.0 ∙ (let e : base ≡ base + 0 = omega arith in e)
 port_base names (p ∷ ps) (b ∷ before) m behind d base h = omega (arith, port_base names ps before m behind d (base + b.depth) h.1)
 
-pub base_is : (names : List Name) (ps : List WritePort) (ms : List Memory) (k : ℕ) (x : Name) (a : IsAt ms k x) (d : WritePort) → PortsMean names 0 ps ms → (get_or ps k d).base ≡ cell_count a.before
+pub base_is : (names : List Name) (ps : List WritePort) (ms : List Memory) (k : ℕ) (x : Name) (a : IsAt ms k x) (d : WritePort)
+    → PortsMean names 0 ps ms → (get_or ps k d).base ≡ cell_count a.before
 base_is names ps ms k x a d h =
     ap (λ j. (get_or ps j d).base) a.k_is
     ∙ port_base names ps a.before a.memory a.behind d 0 (subst (PortsMean names 0 ps) a.whole h)
@@ -77,7 +79,8 @@ kept_is f ms k x a i d lt =
     ∙ cell_at f a.before a.memory a.behind i lt
     ∙ ap (λ y. f y i) a.named
 
-found_in_middle : (es : List (Name × Memory)) (before : List Memory) (m : Memory) (behind : List Memory) → AllByRecursion (λ k. find es k.name ≡ Some k) (before ++ m ∷ behind) → find es m.name ≡ Some m
+found_in_middle : (es : List (Name × Memory)) (before : List Memory) (m : Memory) (behind : List Memory)
+    → AllByRecursion (λ k. find es k.name ≡ Some k) (before ++ m ∷ behind) → find es m.name ≡ Some m
 found_in_middle es [] m behind h = h.0
 found_in_middle es (b ∷ before) m behind h = found_in_middle es before m behind h.1
 
@@ -87,7 +90,8 @@ memory_found n rules k x a =
     let f = found_in_middle es a.before a.memory a.behind (subst (AllByRecursion (λ m. find es m.name ≡ Some m)) a.whole (memories_found n rules (λ m. m))) in
     subst (λ (y : Name). find es y ≡ Some a.memory) a.named f
 
-pub cell_seen_there : (n : Net) → IsNetlist n → (k : ℕ) (x : Name) (a : IsAt n.memories k x) (cycle : Option Valuation) (i : ℕ) → i < a.memory.depth → cell_seen n cycle x i ≡ Some ((seen n cycle).cell x i)
+pub cell_seen_there : (n : Net) → IsNetlist n → (k : ℕ) (x : Name) (a : IsAt n.memories k x) (cycle : Option Valuation) (i : ℕ)
+    → i < a.memory.depth → cell_seen n cycle x i ≡ Some ((seen n cycle).cell x i)
 cell_seen_there n rules k x a cycle i lt = rw (memory_found n rules k x a, lt-ltb i a.memory.depth lt) refl
 
 pub cell_not_seen : (n : Net) → IsNetlist n → (k : ℕ) (x : Name) (a : IsAt n.memories k x) (cycle : Option Valuation) (i : ℕ) → a.memory.depth ≤ i → cell_seen n cycle x i ≡ None

@@ -40,13 +40,16 @@ pushed {A} {B} f before old new xs i x y lt is so push image =
     ∙ ap (λ l. before ++ l) (sym (map_more f xs i x lt))
 
 -- one more name is known
-pub learned : {A : Type 0} (key : A → Name) (width : A → ℕ) (f : Name → ℕ) (ms : List Memory) (names : List Name) (xs : List A) (i : ℕ) (x : A) (old new : Known) → i < length xs → x ≡ get_or xs i x
+pub learned : {A : Type 0} (key : A → Name) (width : A → ℕ) (f : Name → ℕ) (ms : List Memory) (names : List Name) (xs : List A) (i : ℕ)
+    (x : A) (old new : Known) → i < length xs → x ≡ get_or xs i x
     → Knows f ms (names ++ map key (take i xs)) old → AllByRecursion (λ y. f (key y) ≡ width y) xs
-    → ((g : Name → ℕ) (ks : List Memory) (ns : List Name) → Knows g ks ns old → g (key x) ≡ width x → Knows g ks (ns ++ key x ∷ []) new) → Knows f ms (names ++ map key (take (i + 1) xs)) new
+    → ((g : Name → ℕ) (ks : List Memory) (ns : List Name) → Knows g ks ns old → g (key x) ≡ width x → Knows g ks (ns ++ key x ∷ []) new)
+    → Knows f ms (names ++ map key (take (i + 1) xs)) new
 learned {A} key width f ms names xs i x old new lt is knows all adds =
     let w : f (key x) ≡ width x = subst (λ (y : A). f (key y) ≡ width y) (sym is) (all_get_or (λ y. f (key y) ≡ width y) xs i x all lt) in
     let e : map key (take (i + 1) xs) ≡ map key (take i xs) ++ key x ∷ [] = map_more key xs i x lt ∙ ap (λ (y : A). map key (take i xs) ++ key y ∷ []) (sym is) in
-    let g : names ++ map key (take (i + 1) xs) ≡ (names ++ map key (take i xs)) ++ key x ∷ [] = ap (λ l. names ++ l) e ∙ sym (append_assoc names (map key (take i xs)) (key x ∷ [])) in
+    let g : names ++ map key (take (i + 1) xs) ≡ (names ++ map key (take i xs)) ++ key x ∷ [] =
+    ap (λ l. names ++ l) e ∙ sym (append_assoc names (map key (take i xs)) (key x ∷ [])) in
     subst (λ (l : List Name). Knows f ms l new) (sym g) (adds f ms (names ++ map key (take i xs)) knows w)
 
 pub bases_long : (b : ℕ) (ms : List Memory) → length (bases_of b ms) ≡ length ms
@@ -75,15 +78,18 @@ known_memory f ms names k knows x c =
           record { number = p.0; found = p.1; within = omega (arith, lt, ap length knows.bases, bases_long 0 ms) }
     ]
 
-pub known_operand : (f : Name → ℕ) (ms : List Memory) (names : List Name) (k : Known) → Knows f ms names k → (sc : Scope) → Covers sc names → (u : ℕ) (o : Operand) → IsOperand sc u o → IsKnownOperand k o
+pub known_operand : (f : Name → ℕ) (ms : List Memory) (names : List Name) (k : Known) → Knows f ms names k → (sc : Scope) → Covers sc names
+    → (u : ℕ) (o : Operand) → IsOperand sc u o → IsKnownOperand k o
 known_operand f ms names k knows sc cov u (Named x) h = known_name f ms names k knows x (cov x u h)
 known_operand f ms names k knows sc cov u (Constant w n) h = tt
 
-known_operands : (f : Name → ℕ) (ms : List Memory) (names : List Name) (k : Known) → Knows f ms names k → (sc : Scope) → Covers sc names → (os : List Operand) (u : ℕ) → AreOperands sc u os → AllByRecursion (IsKnownOperand k) os
+known_operands : (f : Name → ℕ) (ms : List Memory) (names : List Name) (k : Known) → Knows f ms names k → (sc : Scope) → Covers sc names
+    → (os : List Operand) (u : ℕ) → AreOperands sc u os → AllByRecursion (IsKnownOperand k) os
 known_operands f ms names k knows sc cov [] u h = tt
 known_operands f ms names k knows sc cov (o ∷ os) u h = (known_operand f ms names k knows sc cov h.0 o h.3, known_operands f ms names k knows sc cov os h.1 h.4)
 
-pub known_right : (f : Name → ℕ) (ms : List Memory) (names : List Name) (k : Known) → Knows f ms names k → (shapes : Shapes) → Covers shapes (map (λ m. m.name) ms) → (sc : Scope) → Covers sc names
+pub known_right : (f : Name → ℕ) (ms : List Memory) (names : List Name) (k : Known) → Knows f ms names k → (shapes : Shapes)
+    → Covers shapes (map (λ m. m.name) ms) → (sc : Scope) → Covers sc names
     → (u : ℕ) (r : Right) → IsRight shapes sc u r → IsKnownRight k r
 known_right f ms names k knows shapes cs sc cov u (right.Copy a) h = known_operand f ms names k knows sc cov u a h
 known_right f ms names k knows shapes cs sc cov u (right.One op a) h = known_operand f ms names k knows sc cov h.0 a h.2
@@ -106,7 +112,8 @@ width_means f ms names k knows (Named x) h =
     number_there f names k.widths.items (unwrap_or (at_name k.places x) 0) x 0 knows.widths_are (slot_means f ms names k knows (Named x) h)
 width_means f ms names k knows (Constant w n) h = refl
 
-parts_mean : (f : Name → ℕ) (ms : List Memory) (names : List Name) (k : Known) → Knows f ms names k → (os : List Operand) → AllByRecursion (IsKnownOperand k) os → PartsMean f names (map (part_found k) os) os
+parts_mean : (f : Name → ℕ) (ms : List Memory) (names : List Name) (k : Known) → Knows f ms names k → (os : List Operand)
+    → AllByRecursion (IsKnownOperand k) os → PartsMean f names (map (part_found k) os) os
 parts_mean f ms names k knows [] h = tt
 parts_mean f ms names k knows (o ∷ os) h = (slot_means f ms names k knows o h.0, width_means f ms names k knows o h.0, parts_mean f ms names k knows os h.1)
 
@@ -129,7 +136,8 @@ base_means f ms names k knows x h =
     }
 
 -- parts behind others
-range_means : (f : Name → ℕ) (ms : List Memory) (names : List Name) (k : Known) → Knows f ms names k → (parts : List Part) (os : List Operand) → AllByRecursion (IsKnownOperand k) os
+range_means : (f : Name → ℕ) (ms : List Memory) (names : List Name) (k : Known) → Knows f ms names k
+    → (parts : List Part) (os : List Operand) → AllByRecursion (IsKnownOperand k) os
     → RangeMeans f names (parts ++ map (part_found k) os) (length parts) (length parts + length os) os
 range_means f ms names k knows parts os h =
     record {
@@ -142,7 +150,8 @@ range_means f ms names k knows parts os h =
       mean = parts_mean f ms names k knows os h;
     }
 
-concat_means : (f : Name → ℕ) (ms : List Memory) (names : List Name) (k : Known) → Knows f ms names k → (parts : List Part) (os : List Operand) → AllByRecursion (IsKnownOperand k) os
+concat_means : (f : Name → ℕ) (ms : List Memory) (names : List Name) (k : Known) → Knows f ms names k
+    → (parts : List Part) (os : List Operand) → AllByRecursion (IsKnownOperand k) os
     → StepMeans f ms (parts ++ concat_parts k os) names (concat_found k (length parts) os) (right.Concat os)
 concat_means f ms names k knows parts [] h = range_means f ms names k knows parts [] h
 concat_means f ms names k knows parts (a ∷ []) h = range_means f ms names k knows parts (a ∷ []) h
@@ -163,7 +172,8 @@ step_means f ms names k knows parts (right.Slice x hi lo) h = (slot_means f ms n
 step_means f ms names k knows parts (right.Cell m i) h = (base_means f ms names k knows m h.0, slot_means f ms names k knows i h.1)
 
 -- more parts behind those that are there change no step
-step_keeps : (f : Name → ℕ) (ms : List Memory) (names : List Name) (parts more : List Part) (s : Step) (r : Right) → StepMeans f ms parts names s r → StepMeans f ms (parts ++ more) names s r
+step_keeps : (f : Name → ℕ) (ms : List Memory) (names : List Name) (parts more : List Part) (s : Step) (r : Right)
+    → StepMeans f ms parts names s r → StepMeans f ms (parts ++ more) names s r
 step_keeps f ms names parts more (Copy s) (right.Copy a) h = h
 step_keeps f ms names parts more (One op w s) (right.One o a) h = h
 step_keeps f ms names parts more (Two op w s t) (right.Two o a b) h = h
@@ -186,14 +196,16 @@ step_keeps f ms names parts more (Slice s hi lo) (right.Slice x i j) h = h
 step_keeps f ms names parts more (Cell base s) (right.Cell m i) h = h
 step_keeps f ms names parts more _ _ h = absurd h
 
-pub steps_keep : (f : Name → ℕ) (ms : List Memory) (parts more : List Part) (ss : List Step) (ws : List Wire) (names : List Name) → StepsMean f ms parts names ss ws → StepsMean f ms (parts ++ more) names ss ws
+pub steps_keep : (f : Name → ℕ) (ms : List Memory) (parts more : List Part) (ss : List Step) (ws : List Wire) (names : List Name)
+    → StepsMean f ms parts names ss ws → StepsMean f ms (parts ++ more) names ss ws
 steps_keep f ms parts more [] [] names h = tt
 steps_keep f ms parts more [] (w ∷ ws) names h = absurd h
 steps_keep f ms parts more (s ∷ ss) [] names h = absurd h
 steps_keep f ms parts more (s ∷ ss) (w ∷ ws) names h = (step_keeps f ms names parts more s w.right h.0, steps_keep f ms parts more ss ws (names ++ w.name ∷ []) h.1)
 
 -- one more step
-pub steps_push : (f : Name → ℕ) (ms : List Memory) (parts : List Part) (s : Step) (w : Wire) (ss : List Step) (ws : List Wire) (names : List Name) → StepsMean f ms parts names ss ws
+pub steps_push : (f : Name → ℕ) (ms : List Memory) (parts : List Part) (s : Step) (w : Wire) (ss : List Step) (ws : List Wire)
+    (names : List Name) → StepsMean f ms parts names ss ws
     → StepMeans f ms parts (names ++ map (λ w. w.name) ws) s w.right → StepsMean f ms parts names (ss ++ s ∷ []) (ws ++ w ∷ [])
 steps_push f ms parts s w [] [] names h m = (subst (λ (l : List Name). StepMeans f ms parts l s w.right) (append-nil names) m, tt)
 steps_push f ms parts s w [] (x ∷ ws) names h m = absurd h

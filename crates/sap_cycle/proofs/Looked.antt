@@ -93,11 +93,13 @@ behind_at : {A : Type 0} (xs ys : List A) (k : ℕ) (x : A) → length xs ≤ k 
 behind_at {A} xs ys k x le h =
     sym (back_at xs ys (k - length xs)) ∙ ap (slice_get (xs ++ ys)) (let e : length xs + (k - length xs) ≡ k = omega arith in e) ∙ h
 
-is_found : {A : Type 0} (es : Scope) (key : A → Name) (width : A → ℕ) (list : List A) → AllByRecursion (λ a. find es (key a) ≡ Some (width a)) list → AllByRecursion (λ a. is_some (find es (key a)) ≡ true) list
+is_found : {A : Type 0} (es : Scope) (key : A → Name) (width : A → ℕ) (list : List A)
+    → AllByRecursion (λ a. find es (key a) ≡ Some (width a)) list → AllByRecursion (λ a. is_some (find es (key a)) ≡ true) list
 is_found {A} es key width [] h = tt
 is_found {A} es key width (a ∷ list) h = (rw h.0 refl, is_found es key width list h.1)
 
-isnt_found : {A : Type 0} (es : Scope) (key : A → Name) (list : List A) → AllByRecursion (λ a. find es (key a) ≡ None) list → AllByRecursion (λ a. is_some (find es (key a)) ≡ false) list
+isnt_found : {A : Type 0} (es : Scope) (key : A → Name) (list : List A) → AllByRecursion (λ a. find es (key a) ≡ None) list
+    → AllByRecursion (λ a. is_some (find es (key a)) ≡ false) list
 isnt_found {A} es key [] h = tt
 isnt_found {A} es key (a ∷ list) h = (rw h.0 refl, isnt_found es key list h.1)
 
@@ -130,12 +132,15 @@ first_seen n rules x k h =
     ⊎_elim
     (λ (in_inputs : k < length (input_names n)).
     let q : is_some (find (registers_of n) x) ≡ false =
-    all_at not_seen (input_names n) k x (all_names not_seen (λ i. i.name) n.inputs (isnt_found (registers_of n) (λ i. i.name) n.inputs (inputs_no_registers n rules (λ r. r.width)))) (front_at (input_names n) (register_names n) k x in_inputs f) in
+    all_at not_seen (input_names n) k x (all_names not_seen (λ i. i.name) n.inputs
+    (isnt_found (registers_of n) (λ i. i.name) n.inputs (inputs_no_registers n rules (λ r. r.width)))) (front_at (input_names n) (register_names n) k x in_inputs f) in
     let t : nat_le (length n.inputs) k ≡ false = lt-leb (length n.inputs) k (omega arith) in
     q ∙ sym (ap (λ (b : Bool). b && nat_lt (k - length n.inputs) (length n.registers)) t))
     (λ (past : length (input_names n) ≤ k).
     let q : is_some (find (registers_of n) x) ≡ true =
-    all_at yes_seen (register_names n) (k - length (input_names n)) x (all_names yes_seen (λ r. r.name) n.registers (is_found (registers_of n) (λ r. r.name) (λ r. r.width) n.registers (registers_found n rules (λ r. r.width)))) (behind_at (input_names n) (register_names n) k x past f) in
+    all_at yes_seen (register_names n) (k - length (input_names n)) x
+    (all_names yes_seen (λ r. r.name) n.registers
+    (is_found (registers_of n) (λ r. r.name) (λ r. r.width) n.registers (registers_found n rules (λ r. r.width)))) (behind_at (input_names n) (register_names n) k x past f) in
     let t : nat_le (length n.inputs) k ≡ true = le-leb (length n.inputs) k (omega arith) in
     let u : nat_lt (k - length n.inputs) (length n.registers) ≡ true = lt-ltb (k - length n.inputs) (length n.registers) (omega arith) in
     let w : is_register n k ≡ true = rw (t, u) refl in
@@ -143,7 +148,9 @@ first_seen n rules x k h =
     (cases_lt k (length (input_names n))))
     (λ (past : length (first_names n) ≤ k).
     let q : is_some (find (registers_of n) x) ≡ false =
-    all_at not_seen (wire_names n) (k - length (first_names n)) x (all_names not_seen (λ w. w.name) n.wires (isnt_found (registers_of n) (λ w. w.name) n.wires (wires_no_registers n rules (λ r. r.width)))) (behind_at (first_names n) (wire_names n) k x past h) in
+    all_at not_seen (wire_names n) (k - length (first_names n)) x
+    (all_names not_seen (λ w. w.name) n.wires (isnt_found (registers_of n) (λ w. w.name) n.wires (wires_no_registers n rules (λ r. r.width))))
+    (behind_at (first_names n) (wire_names n) k x past h) in
     let t : nat_le (length n.inputs) k ≡ true = le-leb (length n.inputs) k (omega arith) in
     let u : nat_lt (k - length n.inputs) (length n.registers) ≡ false = le-ltb (k - length n.inputs) (length n.registers) (omega arith) in
     let w : is_register n k ≡ false = rw (t, u) refl in
@@ -151,13 +158,16 @@ first_seen n rules x k h =
     (cases_lt k (length (first_names n)))
 
 -- what can be seen is what a look-up of the place tests
-pub seen_there : (n : Net) → IsNetlist n → (x : Name) (k : ℕ) → slice_get (value_names n) k ≡ Some x → (cycle : Option Valuation) (stepped : Bool) → stepped ≡ is_some cycle → can_be_seen n cycle x ≡ (stepped || is_register n k)
+pub seen_there : (n : Net) → IsNetlist n → (x : Name) (k : ℕ) → slice_get (value_names n) k ≡ Some x
+    → (cycle : Option Valuation) (stepped : Bool) → stepped ≡ is_some cycle → can_be_seen n cycle x ≡ (stepped || is_register n k)
 seen_there n rules x k h None stepped e = rw e (first_seen n rules x k h)
 seen_there n rules x k h (Some v) stepped e = rw e (all_at (λ y. is_some (find (readable n) y) ≡ true) (value_names n) k x (all_readable n rules) h)
 
 pub seen_nowhere : (n : Net) (m : NameMap ℕ) → Finds m (value_names n) → (x : Name) → at_name m x ≡ None → (cycle : Option Valuation) → can_be_seen n cycle x ≡ false
 seen_nowhere n m finds x h None =
-    let cov : Covers (registers_of n) (value_names n) = λ y u g. Contains-append_left (first_names n) (wire_names n) y (Contains-append_right (input_names n) (register_names n) y (covers_listed (λ r. r.name) (λ r. r.width) n.registers y u g)) in
+    let cov : Covers (registers_of n) (value_names n) =
+    λ y u g. Contains-append_left (first_names n) (wire_names n) y
+    (Contains-append_right (input_names n) (register_names n) y (covers_listed (λ r. r.name) (λ r. r.width) n.registers y u g)) in
     rw (missing m (value_names n) finds (registers_of n) cov x h) refl
 seen_nowhere n m finds x h (Some v) = rw (missing m (value_names n) finds (readable n) (covers_readable n) x h) refl
 

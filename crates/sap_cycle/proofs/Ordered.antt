@@ -109,7 +109,8 @@ settled_long cells parts [] values = refl
 settled_long cells parts (p ∷ ps) values = settled_long cells parts ps _ ∙ length-set values p.0 _
 
 -- the steps over an array that agrees with the last one where their numbers are known
-agree_after : (cells last : List ℕ) (parts : List Part) (ps : List (ℕ × Step)) (known : ℕ → Type 0) (a : List ℕ) → length a ≡ length last → ((k : ℕ) → known k → Agree a last k) → InOrder parts known ps
+agree_after : (cells last : List ℕ) (parts : List Part) (ps : List (ℕ × Step)) (known : ℕ → Type 0) (a : List ℕ) → length a ≡ length last
+    → ((k : ℕ) → known k → Agree a last k) → InOrder parts known ps
     → AllByRecursion (HasNumber last cells parts) ps → AreReady cells parts ps a × ((k : ℕ) → KnownAfter known ps k → Agree (settled cells parts ps a) last k)
 agree_after cells last parts [] known a le agree o n = (tt, agree)
 agree_after cells last parts (p ∷ ps) known a le agree o n =
@@ -123,7 +124,8 @@ agree_after cells last parts (p ∷ ps) known a le agree o n =
     ((lt, same_ready a last cells le parts p.1 reads n.0.ready, go.0), go.1)
 
 -- steps that have their numbers have them in any order
-owned : (cells last : List ℕ) (parts : List Part) (base : ℕ) (steps : List Step) (ps : List (ℕ × Step)) → ((k : ℕ) (s : Step) → slice_get steps k ≡ Some s → HasNumber last cells parts (base + k, s))
+owned : (cells last : List ℕ) (parts : List Part) (base : ℕ) (steps : List Step) (ps : List (ℕ × Step))
+    → ((k : ℕ) (s : Step) → slice_get steps k ≡ Some s → HasNumber last cells parts (base + k, s))
     → AllByRecursion (IsOwn base steps) ps → AllByRecursion (HasNumber last cells parts) ps
 owned cells last parts base steps [] f h = tt
 owned cells last parts base steps (p ∷ ps) f h =
@@ -134,8 +136,10 @@ owned cells last parts base steps (p ∷ ps) f h =
     )
 
 -- an order settles an array to the last one
-pub order_settles : (cells last : List ℕ) (parts : List Part) (base : ℕ) (steps : List Step) (ps : List (ℕ × Step)) → IsOrder base parts steps ps → ((k : ℕ) (s : Step) → slice_get steps k ≡ Some s → HasNumber last cells parts (base + k, s))
-    → (a : List ℕ) → length a ≡ length last → length last ≡ base + length steps → ((k : ℕ) → k < base → Agree a last k) → AreReady cells parts ps a × (settled cells parts ps a ≡ last)
+pub order_settles : (cells last : List ℕ) (parts : List Part) (base : ℕ) (steps : List Step) (ps : List (ℕ × Step))
+    → IsOrder base parts steps ps → ((k : ℕ) (s : Step) → slice_get steps k ≡ Some s → HasNumber last cells parts (base + k, s))
+    → (a : List ℕ) → length a ≡ length last → length last ≡ base + length steps → ((k : ℕ) → k < base → Agree a last k)
+    → AreReady cells parts ps a × (settled cells parts ps a ≡ last)
 order_settles cells last parts base steps ps o f a le whole agree =
     let go = agree_after cells last parts ps (λ k. k < base) a le agree o.finds (owned cells last parts base steps ps f o.own) in
     let l : length (settled cells parts ps a) ≡ length last = settled_long cells parts ps a ∙ le in

@@ -36,11 +36,13 @@ one_more : (known : ℕ → Type 0) (base : ℕ) → ((k : ℕ) → k < base →
 one_more known base f k lt =
     ⊎_elim (λ (less : k < base). inl (f k less)) (λ (past : base ≤ k). inr (let e : k ≡ base = omega (arith, lt, past) in e)) (cases_lt k base)
 
-row_all : (others : List Step) (known : ℕ → Type 0) (base : ℕ) → ((k : ℕ) → k < base → known k) → (is : List Instruction) (k : ℕ) → k < base + length is → KnownAfter known (map (placed_step others) (in_row base is)) k
+row_all : (others : List Step) (known : ℕ → Type 0) (base : ℕ) → ((k : ℕ) → k < base → known k) → (is : List Instruction) (k : ℕ)
+    → k < base + length is → KnownAfter known (map (placed_step others) (in_row base is)) k
 row_all others known base f [] k lt = f k (omega (arith, lt))
 row_all others known base f (i ∷ is) k lt = row_all others (Also known base) (base + 1) (one_more known base f) is k (omega (arith, lt))
 
-row_finds : (widths : Name → ℕ) (ms : List Memory) (parts : List Part) (others : List Step) (known : ℕ → Type 0) (names : List Name) → ((k : ℕ) → k < length names → known k) → (is : List Instruction) (ws : List Wire)
+row_finds : (widths : Name → ℕ) (ms : List Memory) (parts : List Part) (others : List Step) (known : ℕ → Type 0) (names : List Name)
+    → ((k : ℕ) → k < length names → known k) → (is : List Instruction) (ws : List Wire)
     → StepsMean widths ms parts names (map (step_of_instruction others) is) ws → InOrder parts known (map (placed_step others) (in_row (length names) is))
 row_finds widths ms parts others known names f [] ws h = tt
 row_finds widths ms parts others known names f (i ∷ is) [] h = absurd h
@@ -69,7 +71,8 @@ row_is_order widths ms parts others names is ws h =
 widths_long : (f : Name → ℕ) (ms : List Memory) (names : List Name) (k : Known) → Knows f ms names k → length k.widths.items ≡ length names
 widths_long f ms names k knows = ap length knows.widths_are ∙ length-map names f
 
-pub row_room : (n : Net) (parts : List Part) (others : List Step) (is : List Instruction) (old new : Known) → Knows (width_of n) n.memories (first_names n) old → Knows (width_of n) n.memories (value_names n) new
+pub row_room : (n : Net) (parts : List Part) (others : List Step) (is : List Instruction) (old new : Known)
+    → Knows (width_of n) n.memories (first_names n) old → Knows (width_of n) n.memories (value_names n) new
     → StepsMean (width_of n) n.memories parts (first_names n) (map (step_of_instruction others) is) n.wires → length old.widths.items + length is ≡ length new.widths.items
 row_room n parts others is old new before after mean =
     let a = widths_long (width_of n) n.memories (first_names n) old before in
@@ -86,7 +89,8 @@ row_there n parts others is old before mean =
     (row_is_order (width_of n) n.memories parts others (first_names n) is n.wires mean)
 
 -- an order that was made where what is known ends is one behind the first names
-pub order_behind : (n : Net) (parts : List Part) (ss : List Step) (ps : List (ℕ × Step)) (old : Known) (base : ℕ) → Knows (width_of n) n.memories (first_names n) old → base ≡ length old.widths.items
+pub order_behind : (n : Net) (parts : List Part) (ss : List Step) (ps : List (ℕ × Step)) (old : Known) (base : ℕ)
+    → Knows (width_of n) n.memories (first_names n) old → base ≡ length old.widths.items
     → IsOrder base parts ss ps → IsOrder (length (first_names n)) parts ss ps
 order_behind n parts ss ps old base before is o =
     subst (λ (b : ℕ). IsOrder b parts ss ps) (is ∙ widths_long (width_of n) n.memories (first_names n) old before) o

@@ -33,7 +33,8 @@ use Rattle.sap_cycle.proofs.Cells.{cells_long, cell_at, count_more}
 use Rattle.sap_cycle.proofs.Ordered.{HasNumber}
 
 -- the parts of a concatenation are those of its range
-range_is : (widths : Name → ℕ) (names : List Name) (parts : List Part) (from to : ℕ) (os : List Operand) → (r : RangeMeans widths names parts from to os) → slice_range parts from to ≡ r.range
+range_is : (widths : Name → ℕ) (names : List Name) (parts : List Part) (from to : ℕ) (os : List Operand)
+    → (r : RangeMeans widths names parts from to os) → slice_range parts from to ≡ r.range
 range_is widths names parts from to os r =
     let d : drop from parts ≡ r.range ++ r.behind = ap (drop from) r.whole ∙ drop_at r.before (r.range ++ r.behind) from (sym r.from_is) in
     let n : length r.range ≡ to - from = omega (arith, r.to_is) in
@@ -46,22 +47,26 @@ front_zero x y = omega arith
 abbrev pair_parts : (widths : Name → ℕ) (w : ℕ) (s t : Slot) (a : Operand) → List Part
 pair_parts widths w s t a = record { slot = s; width = operand_width widths a } ∷ (record { slot = t; width = w } ∷ [])
 
-pair_mean : (widths : Name → ℕ) (names : List Name) (w : ℕ) (s t : Slot) (a b : Operand) → PairMeans widths names w s t (a ∷ (b ∷ [])) → PartsMean widths names (pair_parts widths w s t a) (a ∷ (b ∷ []))
+pair_mean : (widths : Name → ℕ) (names : List Name) (w : ℕ) (s t : Slot) (a b : Operand) → PairMeans widths names w s t (a ∷ (b ∷ []))
+    → PartsMean widths names (pair_parts widths w s t a) (a ∷ (b ∷ []))
 pair_mean widths names w s t a b h = (h.0, refl, (h.1, h.2, tt))
 
-pair_is : (widths : Name → ℕ) (v : Valuation) (names : List Name) (values : List ℕ) → Matches v names values → (w : ℕ) (s t : Slot) (a b : Operand) → PairMeans widths names w s t (a ∷ (b ∷ []))
+pair_is : (widths : Name → ℕ) (v : Valuation) (names : List Name) (values : List ℕ) → Matches v names values
+    → (w : ℕ) (s t : Slot) (a b : Operand) → PairMeans widths names w s t (a ∷ (b ∷ []))
     → joined (slot_value values s) w (slot_value values t) ≡ operands_value widths v (a ∷ (b ∷ []))
 pair_is widths v names values m w s t a b h =
     ap (λ x. joined x w (slot_value values t)) (sym (front_zero (2 ^ operand_width widths a) (slot_value values s)))
     ∙ joined_is widths v names values m (pair_parts widths w s t a) (a ∷ (b ∷ [])) (pair_mean widths names w s t a b h) 0
     ∙ front_zero (2 ^ operands_width widths (a ∷ (b ∷ []))) (operands_value widths v (a ∷ (b ∷ [])))
 
-pair_ready : (widths : Name → ℕ) (sc : Scope) (v : Valuation) (names : List Name) (values : List ℕ) → ValuesBelow sc v → WidthsAre sc widths → Matches v names values → length names ≤ length values
+pair_ready : (widths : Name → ℕ) (sc : Scope) (v : Valuation) (names : List Name) (values : List ℕ) → ValuesBelow sc v → WidthsAre sc widths
+    → Matches v names values → length names ≤ length values
     → (u : ℕ) → u ≤ 64 → (w : ℕ) (s t : Slot) (a b : Operand) → PairMeans widths names w s t (a ∷ (b ∷ [])) → AreOperands sc u (a ∷ (b ∷ []))
     → SlotIn values s × SlotIn values t × (1 ≤ w) × (w ≤ 64) × (slot_value values s < 2 ^ (64 - w)) × (slot_value values t < 2 ^ w)
 pair_ready widths sc v names values below wide m le u narrow w s t a b h rules =
     let p : ArePartsReady values 0 (pair_parts widths w s t a) =
-    parts_ready widths sc v names values below wide m le (pair_parts widths w s t a) (a ∷ (b ∷ [])) (pair_mean widths names w s t a b h) u 0 0 rules (omega arith) (omega (arith, narrow)) in
+    parts_ready widths sc v names values below wide m le (pair_parts widths w s t a) (a ∷ (b ∷ [])) (pair_mean widths names w s t a b h) u 0
+    0 rules (omega arith) (omega (arith, narrow)) in
     (p.0, p.5.0, p.5.1, p.5.2, subst (λ x. x < 2 ^ (64 - w)) (front_zero (2 ^ operand_width widths a) (slot_value values s)) p.5.3, p.5.4)
 
 -- the cells that memories have
@@ -80,7 +85,8 @@ depth_is ms shapes x base w d found at h =
     let g : find shapes x ≡ Some (at.memory.width, at.memory.depth) = subst (λ (y : Name). find shapes y ≡ Some (at.memory.width, at.memory.depth)) at.named f in
     (some_pair_parts at.memory.width w at.memory.depth d (sym g ∙ h)).1
 
-cell_is : (ms : List Memory) (shapes : Shapes) (v : Valuation) (cells : List ℕ) → Holding ms shapes v cells → (x : Name) (base w d i : ℕ) → BeginsAt ms x base → find shapes x ≡ Some (w, d) → i < d
+cell_is : (ms : List Memory) (shapes : Shapes) (v : Valuation) (cells : List ℕ) → Holding ms shapes v cells → (x : Name) (base w d i : ℕ)
+    → BeginsAt ms x base → find shapes x ≡ Some (w, d) → i < d
     → (slice_index cells (base + i) ≡ v.cell x i) × (base + i < length cells)
 cell_is ms shapes v cells holding x base w d i at h lt =
     let deep = depth_is ms shapes x base w d holding.found at h in
@@ -91,7 +97,8 @@ cell_is ms shapes v cells holding x base w d i at h lt =
       omega (arith, ap length e, cells_long v.cell (at.before ++ at.memory ∷ at.behind), count_more at.before at.memory at.behind, at.base_is),
     )
 
-step_is : (widths : Name → ℕ) (ms : List Memory) (shapes : Shapes) (sc : Scope) (parts : List Part) (v : Valuation) (names : List Name) (values cells : List ℕ) → ValuesBelow sc v → Matches v names values → Holding ms shapes v cells
+step_is : (widths : Name → ℕ) (ms : List Memory) (shapes : Shapes) (sc : Scope) (parts : List Part) (v : Valuation) (names : List Name)
+    (values cells : List ℕ) → ValuesBelow sc v → Matches v names values → Holding ms shapes v cells
     → (u : ℕ) (s : Step) (r : Right) → StepMeans widths ms parts names s r → IsRight shapes sc u r → step_value values cells parts s ≡ right_value widths v r
 step_is widths ms shapes sc parts v names values cells b m c u (Copy s) (right.Copy a) h rules = slot_is v names values m s a h
 step_is widths ms shapes sc parts v names values cells b m c u (One op w s) (right.One o a) h rules =
@@ -127,8 +134,10 @@ step_is widths ms shapes sc parts v names values cells b m c u (Cell base s) (ri
     ∙ (cell_is ms shapes v cells c x base u (2 ^ rules.0) (operand_value v i) h.0 rules.1 (operand_below sc v b rules.0 i rules.2)).0
 step_is widths ms shapes sc parts v names values cells b m c u _ _ h rules = absurd h
 
-ready : (widths : Name → ℕ) (ms : List Memory) (shapes : Shapes) (sc : Scope) (parts : List Part) (v : Valuation) (names : List Name) (values cells : List ℕ) → ValuesBelow sc v → WidthsAre sc widths → Matches v names values
-    → length names ≤ length values → Holding ms shapes v cells → (u : ℕ) → IsWidth u → (s : Step) (r : Right) → StepMeans widths ms parts names s r → IsRight shapes sc u r → IsReady values cells parts s
+ready : (widths : Name → ℕ) (ms : List Memory) (shapes : Shapes) (sc : Scope) (parts : List Part) (v : Valuation) (names : List Name)
+    (values cells : List ℕ) → ValuesBelow sc v → WidthsAre sc widths → Matches v names values
+    → length names ≤ length values → Holding ms shapes v cells → (u : ℕ) → IsWidth u → (s : Step) (r : Right)
+    → StepMeans widths ms parts names s r → IsRight shapes sc u r → IsReady values cells parts s
 ready widths ms shapes sc parts v names values cells b w m le c u wide (Copy s) (right.Copy a) h rules = slot_in names values le s a h
 ready widths ms shapes sc parts v names values cells b w m le c u wide (One op k s) (right.One o a) h rules =
     let e : k ≡ rules.0 = h.1 ∙ operand_is_wide sc widths w rules.0 a rules.2 in
@@ -148,7 +157,8 @@ ready widths ms shapes sc parts v names values cells b w m le c u wide (Two op k
 ready widths ms shapes sc parts v names values cells b w m le c u wide (Choose q s t) (right.Choose o a d) h rules =
     (slot_in names values le q o h.0, slot_in names values le s a h.1, slot_in names values le t d h.2)
 ready widths ms shapes sc parts v names values cells b w m le c u wide (Concat from to) (right.Concat os) h rules =
-    let l : length parts ≡ length h.before + (length h.range + length h.behind) = ap length h.whole ∙ omega (arith, length-append h.before (h.range ++ h.behind), length-append h.range h.behind) in (
+    let l : length parts ≡ length h.before + (length h.range + length h.behind) =
+    ap length h.whole ∙ omega (arith, length-append h.before (h.range ++ h.behind), length-append h.range h.behind) in (
       omega (arith, h.to_is),
       omega (arith, h.from_is, h.to_is, l),
       rw (range_is widths names parts from to os h) (parts_ready widths sc v names values b w m le h.range os h.mean u 0 0 rules.1 (omega arith) (omega (arith, wide.1))),
@@ -202,7 +212,8 @@ step_numbers widths ms shapes parts v cells c (t ∷ ss) (y ∷ ws) sc names val
     })
 step_numbers widths ms shapes parts v cells c (t ∷ ss) (y ∷ ws) sc names values mean rules b w holds e (suc k) s h =
     let l : length (names ++ y.name ∷ []) + k ≡ length names + suc k = omega (arith, length-append names (y.name ∷ [])) in
-    let e' : values ≡ map v.value ((names ++ y.name ∷ []) ++ map (λ (x : Wire). x.name) ws) = e ∙ ap (map v.value) (sym (append_assoc names (y.name ∷ []) (map (λ (x : Wire). x.name) ws))) in
+    let e' : values ≡ map v.value ((names ++ y.name ∷ []) ++ map (λ (x : Wire). x.name) ws) =
+    e ∙ ap (map v.value) (sym (append_assoc names (y.name ∷ []) (map (λ (x : Wire). x.name) ws))) in
     subst (λ (i : ℕ). HasNumber values cells parts (i, s)) l
     (step_numbers widths ms shapes parts v cells c ss ws ((y.name, y.width) ∷ sc) (names ++ y.name ∷ []) values mean.1 rules.4 b w holds.1 e' k s h)
 
@@ -217,7 +228,8 @@ parts_below widths names [] os h = tt
 parts_below widths names (p ∷ ps) [] h = absurd h
 parts_below widths names (p ∷ ps) (o ∷ os) h = (slot_below names p.slot o h.0, parts_below widths names ps os h.2)
 
-pub reads_below : (widths : Name → ℕ) (ms : List Memory) (parts : List Part) (names : List Name) (s : Step) (r : Right) → StepMeans widths ms parts names s r → ReadsAmong (λ k. k < length names) parts s
+pub reads_below : (widths : Name → ℕ) (ms : List Memory) (parts : List Part) (names : List Name) (s : Step) (r : Right)
+    → StepMeans widths ms parts names s r → ReadsAmong (λ k. k < length names) parts s
 reads_below widths ms parts names (Copy s) (right.Copy a) h = slot_below names s a h
 reads_below widths ms parts names (One op w s) (right.One o a) h = slot_below names s a h.2
 reads_below widths ms parts names (Two op w s t) (right.Two o a b) h = (slot_below names s a h.2, slot_below names t b h.3)

@@ -19,7 +19,8 @@ use Rattle.sap_cycle.specs.declared.steps.Part.{Part}
 use Rattle.sap_cycle.specs.Steps.{slot_value, joined_from, SlotIn, ArePartsReady}
 use Rattle.sap_cycle.specs.Means.{SlotMeans, PartsMean, Matches}
 
-pub slot_is : (v : Valuation) (names : List Name) (values : List ℕ) → Matches v names values → (s : Slot) (o : Operand) → SlotMeans names s o → slot_value values s ≡ operand_value v o
+pub slot_is : (v : Valuation) (names : List Name) (values : List ℕ) → Matches v names values → (s : Slot) (o : Operand)
+    → SlotMeans names s o → slot_value values s ≡ operand_value v o
 slot_is v names values m (At k) (Named x) h =
     let e : slice_get (map v.value names) k ≡ Some (v.value x) = slice_get-map v.value names k ∙ ap (option_map v.value) h in
     sym (get_or-take (length names) values k 0 (slice_get_within names k x h)) ∙ ap (λ l. get_or l k 0) m ∙ get_or_from_slice_get _ k _ 0 e
@@ -35,7 +36,8 @@ slot_in names values le (At k) (Constant w y) h = absurd h
 spread : (f a b x y v : ℕ) → (f * a + x) * b + v ≡ f * (a * b) + (x * b + v)
 spread f a b x y v = omega arith
 
-pub joined_is : (widths : Name → ℕ) (v : Valuation) (names : List Name) (values : List ℕ) → Matches v names values → (ps : List Part) (os : List Operand) → PartsMean widths names ps os → (front : ℕ)
+pub joined_is : (widths : Name → ℕ) (v : Valuation) (names : List Name) (values : List ℕ) → Matches v names values
+    → (ps : List Part) (os : List Operand) → PartsMean widths names ps os → (front : ℕ)
     → joined_from values front ps ≡ front * 2 ^ operands_width widths os + operands_value widths v os
 joined_is widths v names values m [] [] h front = omega arith
 joined_is widths v names values m [] (o ∷ os) h front = absurd h
@@ -52,7 +54,8 @@ joined_is widths v names values m (p ∷ ps) (o ∷ os) h front =
 below_more : (x a b : ℕ) → x < 2 ^ a → a ≤ b → x < 2 ^ b
 below_more x a b lt le = omega (arith, pow-le-pow_right {n = 2} (omega arith) {i = a} {j = b} le)
 
-pub parts_ready : (widths : Name → ℕ) (sc : Scope) (v : Valuation) (names : List Name) (values : List ℕ) → ValuesBelow sc v → WidthsAre sc widths → Matches v names values → length names ≤ length values
+pub parts_ready : (widths : Name → ℕ) (sc : Scope) (v : Valuation) (names : List Name) (values : List ℕ) → ValuesBelow sc v
+    → WidthsAre sc widths → Matches v names values → length names ≤ length values
     → (ps : List Part) (os : List Operand) → PartsMean widths names ps os → (u a front : ℕ) → AreOperands sc u os → front < 2 ^ a → a + u ≤ 64 → ArePartsReady values front ps
 parts_ready widths sc v names values b w m le [] os h u a front rules lt room = tt
 parts_ready widths sc v names values b w m le (p ∷ ps) [] h u a front rules lt room = absurd h

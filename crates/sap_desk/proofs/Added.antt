@@ -131,7 +131,9 @@ fits_file room files owner part k place channels s there is found_at short g at_
     claim_fits room files owner channels k part s there is short g is_g
 
 -- a channel and its file
-module _ (room : ℕ) (files later : List StoredFile) (owner part : List ℕ) (k place : ℕ) (old new : List Channel) (s : Stands room files old) (is : uses_of old k ≡ writes owner) (found_at : position (named owner) files ≡ Some place) (f : Changed place (LongerFile part) files later) (c : Changed k (LongerChannel part) old new) where
+module _ (room : ℕ) (files later : List StoredFile) (owner part : List ℕ) (k place : ℕ) (old new : List Channel) (s : Stands room files old)
+    (is : uses_of old k ≡ writes owner) (found_at : position (named owner) files ≡ Some place)
+    (f : Changed place (LongerFile part) files later) (c : Changed k (LongerChannel part) old new) where
   lies : Found files owner place f.before
   lies = found files owner place f.before found_at
 
@@ -158,18 +160,29 @@ module _ (room : ℕ) (files later : List StoredFile) (owner part : List ℕ) (k
   pub told_both : (blame : List ℕ) → told_of later new room blame ≡ added k part (told_of files old room blame)
   told_both blame =
       let high : ltb 2 k ≡ true = let h : 2 < k = s.above k owner is in grind (arith, nat_tests) in
-      let writing : at_name owner (Some (unwrap_or (files_of files owner) [] ++ part)) (files_of files) ≡ cond (ltb 2 k) (added_to (uses_of old k) part (files_of files)) (files_of files)
+      let writing : at_name owner (Some (unwrap_or (files_of files owner) [] ++ part)) (files_of files)
+      ≡ cond (ltb 2 k) (added_to (uses_of old k) part (files_of files)) (files_of files)
       = rw (high, is) refl in
       let all = files_are ∙ writing in
       λ i. record (told_of files old room blame) { files = all i; uses = same_uses k part old new c i; written = longer k part old new c i }
 
   pub stands_both : length (written_of old k) + length part ≤ room → Stands room later new
   stands_both short =
-      let change : (n : List ℕ) → claims room n new + claim_of room n (writes owner) (length (written_of old k)) ≡ claims room n old + claim_of room n (writes owner) (length (written_of old k) + length part)
-      = λ n. subst (λ (u : Use). claims room n new + claim_of room n u (length (written_of old k)) ≡ claims room n old + claim_of room n u (length (written_of old k) + length part)) is (claims_change k part old new c room n) in
+      let change : (n : List ℕ) → claims room n new + claim_of room n (writes owner) (length (written_of old k)) ≡ claims room n old
+      + claim_of room n (writes owner) (length (written_of old k) + length part)
+      = λ n. subst (λ (u : Use). claims room n new + claim_of room n u (length (written_of old k)) ≡ claims room n old
+      + claim_of room n u (length (written_of old k) + length part)) is (claims_change k part old new c room n) in
       let size : length f.after.bytes.items ≡ length f.before.bytes.items + length part = ap length f.by.bytes ∙ length-append f.before.bytes.items part in
       let at_owner : length f.after.bytes.items + claims room owner new ≤ vec_capacity f.after.bytes
-      = omega (arith, s.file_room owner f.before file_was, f.by.room, change owner, size, claim_at room owner (length (written_of old k)), claim_at room owner (length (written_of old k) + length part)) in
+      = omega (
+        arith,
+        s.file_room owner f.before file_was,
+        f.by.room,
+        change owner,
+        size,
+        claim_at room owner (length (written_of old k)),
+        claim_at room owner (length (written_of old k) + length part),
+      ) in
       let P : List ℕ → Type 0 = λ n. length f.after.bytes.items + claims room n new ≤ vec_capacity f.after.bytes in
       let named_as : (u : ℕ → Use) → (m : ℕ) (name : List ℕ) → uses_of new m ≡ writes name → uses_of old m ≡ writes name
       = λ u m name h. ap (λ (v : ℕ → Use). v m) (sym (same_uses k part old new c)) ∙ h in

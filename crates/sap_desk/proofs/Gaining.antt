@@ -4,7 +4,8 @@ use Rattle.std.specs.Prelude.{Option, Some, None, Result, Ok, Err, OnOk, OnErr, 
 use Rattle.sap_desk.specs.Desk.{Told, added}
 use Rattle.sap_desk.specs.Whole.{Between, CountsFailed, CutLine, Gained, LostAtMostOne}
 
-after_line : (text : List ℕ) (R : Told → Told → Type 0) (before after : Option Told) → ((t : Told) → R t (added 2 text t)) → after ≡ option_map (added 2 text) before → Between before after R
+after_line : (text : List ℕ) (R : Told → Told → Type 0) (before after : Option Told) → ((t : Told) → R t (added 2 text t))
+    → after ≡ option_map (added 2 text) before → Between before after R
 after_line text R None after is e = tt
 after_line text R (Some t) after is e = subst (λ (o : Option Told). IsSomeAnd o (λ n. R t n)) (sym e) (is t)
 

@@ -22,7 +22,8 @@ pub cut_in : (before piece after line : List ℕ) (old mid new : Option Told)
     → CutLine line old new
 cut_in before piece after line old mid new is written took = record {
   count = length before + took.count;
-  within = let _size : length line ≡ length before + (length piece + length after) = ap length is ∙ length-append before (piece ++ after) ∙ ap (λ (n : ℕ). length before + n) (length-append piece after) in
+  within = let _size : length line ≡ length before + (length piece + length after) = ap length is ∙ length-append before (piece ++ after)
+      ∙ ap (λ (n : ℕ). length before + n) (length-append piece after) in
       let _part : took.count ≤ length piece = took.within in omega arith;
   told = rw is (took.told ∙ ap (option_map (added 2 (take took.count piece))) written
       ∙ option_map-twice (added 2 (take took.count piece)) (added 2 before) old
@@ -38,7 +39,8 @@ fills_one before piece after line t new is fails writing = elim fails.why [
   | inl closed_now ↦ absurd (closed_now writing)
   | inr fills ↦ record {
     beyond =
-        let _size : length line ≡ length before + (length piece + length after) = ap length is ∙ length-append before (piece ++ after) ∙ ap (λ (n : ℕ). length before + n) (length-append piece after) in
+        let _size : length line ≡ length before + (length piece + length after) = ap length is ∙ length-append before (piece ++ after)
+        ∙ ap (λ (n : ℕ). length before + n) (length-append piece after) in
         let _held : length (t.written 2 ++ before) ≡ length (t.written 2) + length before = length-append (t.written 2) before in
         let _more : t.room < length (t.written 2 ++ before) + length piece = fills.beyond in
         omega arith;

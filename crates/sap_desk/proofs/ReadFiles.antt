@@ -70,7 +70,8 @@ pub front_opened : (channel limit : ℕ) (name bytes : List ℕ) (old mid : Opti
     → IfSome old (λ t. IsSome (t.files name)) → IfSome mid (λ t. IsFront limit (rest_of t channel) bytes) → IfSome old (IsFrontOf limit name bytes)
 front_opened channel limit name bytes None mid is there front = tt
 front_opened channel limit name bytes (Some t) mid is there front =
-    let got : IsFront limit (rest_of (opened channel name t) channel) bytes = let P : Option Told → Type 0 = λ o. IfSome o (λ t. IsFront limit (rest_of t channel) bytes) in subst P is front in
+    let got : IsFront limit (rest_of (opened channel name t) channel) bytes = let P : Option Told → Type 0 =
+    λ o. IfSome o (λ t. IsFront limit (rest_of t channel) bytes) in subst P is front in
     let whole : rest_of (opened channel name t) channel ≡ bytes_of t name = ap (rest_of_use (opened channel name t)) (at_number-same channel (reads name 0) t.uses) in
     record { whole = bytes_of t name; file = file_there (t.files name) there; front = subst (λ (w : List ℕ). IsFront limit w bytes) whole got }
 

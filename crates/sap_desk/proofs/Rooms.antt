@@ -111,7 +111,8 @@ module _ (room k : ℕ) (old new : List Channel) (before after : Channel) (was :
       elim (cases_Bool (eqb j k)) [
         | inl here ↦
             let new_is : rooms_of new j ≡ vec_capacity after.written = at_j ∙ rw here refl in
-            let old_is : rooms_of old j ≡ vec_capacity before.written = ap (rooms_of old) (eqb-true j k here) ∙ told_before k old new before after was now (λ c. vec_capacity c.written) 0 in
+            let old_is : rooms_of old j ≡ vec_capacity before.written =
+            ap (rooms_of old) (eqb-true j k here) ∙ told_before k old new before after was now (λ c. vec_capacity c.written) 0 in
             omega (arith, new_is, old_is)
         | inr other ↦ let same : rooms_of new j ≡ rooms_of old j = at_j ∙ rw other refl in omega (arith, same)
       ]

@@ -28,7 +28,8 @@ blame_field : (b : Bool) (name : List ℕ) (t : Told) → record t { blame = con
 blame_field true name t = refl
 blame_field false name t = refl
 
-named_still : (old new : List Channel) (k : ℕ) (b : Bool) → KeepsNames old new → (IsTrue b → k < length old) → (if b then names_of new k else []) ≡ (if b then names_of old k else [])
+named_still : (old new : List Channel) (k : ℕ) (b : Bool) → KeepsNames old new → (IsTrue b → k < length old)
+    → (if b then names_of new k else []) ≡ (if b then names_of old k else [])
 named_still old new k true keeps within = keeps.names k (within (search rules))
 named_still old new k false keeps within = refl
 

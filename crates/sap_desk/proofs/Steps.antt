@@ -139,7 +139,8 @@ other_number n k h = grind (arith, nat_tests)
 added_to-twice : (u : Use) (a b : List ℕ) (files : List ℕ → Option (List ℕ)) → added_to u b (added_to u a files) ≡ added_to u (a ++ b) files
 added_to-twice (reads name p) a b files = refl
 added_to-twice (writes name) a b files =
-    ap (λ (o : Option (List ℕ)). at_name name (Some (unwrap_or o [] ++ b)) (at_name name (Some (unwrap_or (files name) [] ++ a)) files)) (at_name-same name (Some (unwrap_or (files name) [] ++ a)) files)
+    ap (λ (o : Option (List ℕ)). at_name name (Some (unwrap_or o [] ++ b)) (at_name name (Some (unwrap_or (files name) [] ++ a)) files))
+    (at_name-same name (Some (unwrap_or (files name) [] ++ a)) files)
     ∙ at_name-twice name (Some (unwrap_or (files name) [] ++ a)) (Some ((unwrap_or (files name) [] ++ a) ++ b)) files
     ∙ ap (λ (l : List ℕ). at_name name (Some l) files) (append_assoc (unwrap_or (files name) []) a b)
 added_to-twice closed a b files = refl

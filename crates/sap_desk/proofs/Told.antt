@@ -151,7 +151,8 @@ module _ (old new : List Channel) (c : Channel) (now : new ≡ old ++ c ∷ []) 
     claim_more : (room : ℕ) (n : List ℕ) → claim room n c ≡ claim_of room n (writes (string_bytes f.name)) 0
     claim_more room n = ap (λ (u : Use). claim_of room n u (length c.written.items)) writing ∙ ap (λ (w : List ℕ). claim_of room n (writes (string_bytes f.name)) (length w)) empty
 
-    pub stands_created : (room : ℕ) → Stands room files old → f.bytes.items ≡ [] → claims room (string_bytes f.name) old + room ≤ vec_capacity f.bytes → room ≤ vec_capacity c.written → Stands room later new
+    pub stands_created : (room : ℕ) → Stands room files old → f.bytes.items ≡ []
+        → claims room (string_bytes f.name) old + room ≤ vec_capacity f.bytes → room ≤ vec_capacity c.written → Stands room later new
     stands_created room s no_bytes fits roomy = stands_putting room files later old new f s puts
         (omega (arith, length_added old new c now))
         (let own : claim room (string_bytes f.name) c ≡ room - 0 = claim_more room (string_bytes f.name) ∙ rw (bytes_eq_same (string_bytes f.name)) refl in

@@ -42,9 +42,11 @@ took t n channel wanted piece short is = record {
 }
 
 -- a piece that fits is taken whole
-pub fitting_all : (t : Told) (channel : ℕ) (piece : List ℕ) → IsWriting (t.uses channel) → length (t.written channel) + length piece ≤ t.room → take (fitting t channel (length piece)) piece ≡ piece
+pub fitting_all : (t : Told) (channel : ℕ) (piece : List ℕ) → IsWriting (t.uses channel)
+    → length (t.written channel) + length piece ≤ t.room → take (fitting t channel (length piece)) piece ≡ piece
 fitting_all t channel piece open_for fits =
-    let fit : fitting t channel (length piece) ≡ min (length piece) (t.room - length (t.written channel)) = fitting_whole (t.uses channel) (min (length piece) (t.room - length (t.written channel))) open_for in
+    let fit : fitting t channel (length piece) ≡ min (length piece) (t.room - length (t.written channel)) =
+    fitting_whole (t.uses channel) (min (length piece) (t.room - length (t.written channel))) open_for in
     take_all (fitting t channel (length piece)) piece (omega (arith, fit))
 
 writing_or : (u : Use) → IsWriting u ⊎ (¬ IsWriting u)
@@ -62,7 +64,8 @@ fills t n channel piece name open_for within beyond is =
     let written : n.written channel ≡ t.written channel ++ take (fitting t channel (length piece)) piece
     = ap (λ (m : Told). m.written channel) is ∙ ap (λ (w : ℕ → List ℕ). w channel) (blame_writes channel name (added channel (take (fitting t channel (length piece)) piece) t))
     ∙ at_number-same channel (t.written channel ++ take (fitting t channel (length piece)) piece) t.written in
-    let fit : fitting t channel (length piece) ≡ min (length piece) (t.room - length (t.written channel)) = fitting_whole (t.uses channel) (min (length piece) (t.room - length (t.written channel))) open_for in
+    let fit : fitting t channel (length piece) ≡ min (length piece) (t.room - length (t.written channel)) =
+    fitting_whole (t.uses channel) (min (length piece) (t.room - length (t.written channel))) open_for in
     ap length written ∙ length-append (t.written channel) (take (fitting t channel (length piece)) piece)
     ∙ omega (arith, length-take (fitting t channel (length piece)) piece, fit)
 

@@ -31,7 +31,8 @@ between_caused F P C Q (Some t) (Some n) h p c = h t n p c
 
 -- channel 2 is open as before
 
-stays_lines : (why : FailedCall) (name : List ℕ) (text : Prints) (fault : FaultOf) (t : Told) (gained : List ℕ) (before after : ℕ → Use) → StaysOpen why name text fault t gained before after
+stays_lines : (why : FailedCall) (name : List ℕ) (text : Prints) (fault : FaultOf) (t : Told) (gained : List ℕ) (before after : ℕ → Use)
+    → StaysOpen why name text fault t gained before after
     → after 2 ≡ before 2
 stays_lines why name text fault t gained before after s =
     ap (λ (u : ℕ → Use). u 2) s.uses ∙ ap (λ (b : Bool). cond b (reads name s.position) (before 2)) (other_number 2 s.channel s.above)
@@ -58,7 +59,8 @@ module _ (shows : Shows) (ls : Levels) (fs : List Field) (name : List ℕ) where
   blames_end blame None = tt
   blames_end blame (Some fault) = tt
 
-  stands_end : (t : Told) (fault : Option StimFault) (gained : List ℕ) (before after : ℕ → Use) → after ≡ before → Stands (prints name text faults_of) t (end_of fault) gained before after
+  stands_end : (t : Told) (fault : Option StimFault) (gained : List ℕ) (before after : ℕ → Use) → after ≡ before
+      → Stands (prints name text faults_of) t (end_of fault) gained before after
   stands_end t None gained before after is = is
   stands_end t (Some fault) gained before after is = is
 
@@ -83,7 +85,8 @@ module _ (shows : Shows) (ls : Levels) (fs : List Field) (name : List ℕ) where
   may_end : (fault : Option StimFault) → IsFaultOfSome ls fs fault → MayEnd (prints name text faults_of) (end_of fault)
   may_end fault (bytes, is) = (bytes, ap end_of is)
 
-  pub printed_ends : (fault : Option StimFault) (a b : Moment) → IsFaultOfSome ls fs fault → Between a.told b.told (Printed shows ls fs name fault) → b.faults ≡ a.faults → b.lost ≡ a.lost
+  pub printed_ends : (fault : Option StimFault) (a b : Moment) → IsFaultOfSome ls fs fault
+      → Between a.told b.told (Printed shows ls fs name fault) → b.faults ≡ a.faults → b.lost ≡ a.lost
       → (a.sure → b.sure) → Ends (prints name text faults_of) (end_of fault) a b
   printed_ends fault a b some told faults lost sure = record {
     told = between_map (Printed shows ls fs name fault) (Left (prints name text faults_of) (end_of fault) (FaultRose a b)) a.told b.told
@@ -96,7 +99,8 @@ module _ (shows : Shows) (ls : Levels) (fs : List Field) (name : List ℕ) where
 
   -- a call failed
 
-  cut_of : HasWhole shows ls fs → (bytes gained : List ℕ) (t : Told) → t.files name ≡ Some bytes → IsPartShown shows ls fs bytes gained → IsCut (prints name text faults_of) t gained
+  cut_of : HasWhole shows ls fs → (bytes gained : List ℕ) (t : Told) → t.files name ≡ Some bytes → IsPartShown shows ls fs bytes gained
+      → IsCut (prints name text faults_of) t gained
   cut_of whole bytes gained t file part =
       let (all, shown, prefix) = whole bytes gained part in
       inr (all, (end_of (faults_of bytes), (bytes, file, refl, shown)), prefix)
@@ -201,7 +205,8 @@ module _ (name : List ℕ) (one other : (bytes given : List ℕ) → Type 0) (fi
   written_same Input bytes count gained is = holds (take count bytes) gained is
   written_same OnOutput bytes count gained (whole, more, is, all) = (whole, more, holds (take (count - 4096) bytes) whole is, all)
 
-  stays_same : (why : FailedCall) (t : Told) (gained : List ℕ) (before after : ℕ → Use) → StaysOpen why name one first t gained before after → StaysOpen why name other later t gained before after
+  stays_same : (why : FailedCall) (t : Told) (gained : List ℕ) (before after : ℕ → Use) → StaysOpen why name one first t gained before after
+      → StaysOpen why name other later t gained before after
   stays_same why t gained before after s = record {
     channel = s.channel;
     above = s.above;

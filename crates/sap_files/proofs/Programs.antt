@@ -92,7 +92,11 @@ module _ (l m : Levels) (same : AreSame l m) where
     command_in h k (tree.if_else place condition then_block else_block) =
         rw (block_in h k then_block, else_in h (k + length (block_sites h then_block)) else_block) refl
     command_in h k (tree.try_then c then accepted refused) =
-        rw (step_in h (site_number h k c) c, block_in h (k + length (simple_sites h c)) accepted, block_in h (k + length (simple_sites h c) + length (block_sites h accepted)) refused) refl
+        rw (
+          step_in h (site_number h k c) c,
+          block_in h (k + length (simple_sites h c)) accepted,
+          block_in h (k + length (simple_sites h c) + length (block_sites h accepted)) refused,
+        ) refl
     command_in h k (tree.case_of place e arms) = rw (arms_in h k arms) refl
 
     block_in : (h : Surroundings) (k : ℕ) (b : CommandBlock) → block_of l h k b ≡ block_of m h k b

@@ -40,7 +40,8 @@ widths_same : (s : Source) (vf vp : Name → ℕ) → World s vf vp → (u : ℕ
 widths_same s vf vp w u t f =
     fine_width (shapes s) (readable s) vf w.flat u t f ∙ sym (fine_width (shapes s) (readable s) vp w.plain u t f)
 
-pub term_alike : (s : Source) (vf vp : Name → ℕ) → World s vf vp → (g h : Going) → Alike s g h → (u : ℕ) (t : Term Name) → TermFine (shapes s) (readable s) u t → value_in vf g t ≡ value_in vp h t
+pub term_alike : (s : Source) (vf vp : Name → ℕ) → World s vf vp → (g h : Going) → Alike s g h → (u : ℕ) (t : Term Name)
+    → TermFine (shapes s) (readable s) u t → value_in vf g t ≡ value_in vp h t
 term_alike s vf vp w g h a u (constant k x) f = refl
 term_alike s vf vp w g h a u (read n) f = a.value n u f
 term_alike s vf vp w g h a u (cell m i) f =
@@ -94,10 +95,12 @@ at_gate g k x = rw (bytes_eq_same (gate_name k)) refl
 pub past_gate : (g : Going) (k j x : ℕ) → (j == k) ≡ false → (put_value g (gate_name k) x).now.value (gate_name j) ≡ g.now.value (gate_name j)
 past_gate g k j x f = rw (gate_differs j k f) refl
 
-pub past_name : (s : Source) (vf vp : Name → ℕ) → World s vf vp → (g : Going) (n : Name) (u x : ℕ) → find (readable s) n ≡ Some u → (j : ℕ) → (put_value g n x).now.value (gate_name j) ≡ g.now.value (gate_name j)
+pub past_name : (s : Source) (vf vp : Name → ℕ) → World s vf vp → (g : Going) (n : Name) (u x : ℕ) → find (readable s) n ≡ Some u → (j : ℕ)
+    → (put_value g n x).now.value (gate_name j) ≡ g.now.value (gate_name j)
 past_name s vf vp w g n u x f j = rw (apart (readable s) (gate_name j) n u (w.new j) f) refl
 
-pub past_action : (s : Source) (vf vp : Name → ℕ) → World s vf vp → (g : Going) (a : Action) → ActionFine s a → (j : ℕ) → (after_action vf g a).now.value (gate_name j) ≡ g.now.value (gate_name j)
+pub past_action : (s : Source) (vf vp : Name → ℕ) → World s vf vp → (g : Going) (a : Action) → ActionFine s a → (j : ℕ)
+    → (after_action vf g a).now.value (gate_name j) ≡ g.now.value (gate_name j)
 past_action s vf vp w g (set n t) f j =
     past_name s vf vp w g n f.0 (value_in vf g t) (assignable_readable s w.distinct n f.0 f.1) j
 past_action s vf vp w g (put m i t) f j = refl
@@ -110,4 +113,5 @@ Zero k g = (j : ℕ) → k ≤ j → g.now.value (gate_name j) ≡ 0
 
 pub seat_found : (s : Source) (vf vp : Name → ℕ) → World s vf vp → (x : Name) (f : Forest) → SeatFine s x f → has_states f ≡ true → find (readable s) x ≡ Some (seat_width (size f))
 seat_found s vf vp w x f h t =
-    assignable_readable s w.distinct x (seat_width (size f)) (found_first (map (λ r. (r.name, r.width)) s.registers) (map (λ r. (r.name, r.width)) s.wires) x (seat_width (size f)) (seat_register s x f t h))
+    assignable_readable s w.distinct x (seat_width (size f))
+    (found_first (map (λ r. (r.name, r.width)) s.registers) (map (λ r. (r.name, r.width)) s.wires) x (seat_width (size f)) (seat_register s x f t h))

@@ -106,8 +106,12 @@ grown p h =
     record {
       reads = λ n u f. ap (λ (es : Scope). find es n) (flat_readable p) ∙ found_first (readable (declarations p)) gates n u f;
       sets = λ n u f. ap (λ (es : Scope). find es n) (flat_assignable p) ∙ found_first (assignable (declarations p)) gates n u f;
-      gate_read = λ k l. ap (λ (es : Scope). find es (gate_name k)) (flat_readable p) ∙ found_second (readable (declarations p)) gates (gate_name k) (not_declared (declarations p) (gate_name k) (gate_undeclared p h k)) ∙ gate_found 0 (gate_count p) k (omega arith) (omega (arith, l));
-      gate_set = λ k l. ap (λ (es : Scope). find es (gate_name k)) (flat_assignable p) ∙ found_second (assignable (declarations p)) gates (gate_name k) (not_assignable p (gate_name k) (gate_undeclared p h k)) ∙ gate_found 0 (gate_count p) k (omega arith) (omega (arith, l));
+      gate_read = λ k l. ap (λ (es : Scope). find es (gate_name k)) (flat_readable p)
+          ∙ found_second (readable (declarations p)) gates (gate_name k) (not_declared (declarations p) (gate_name k) (gate_undeclared p h k))
+          ∙ gate_found 0 (gate_count p) k (omega arith) (omega (arith, l));
+      gate_set = λ k l. ap (λ (es : Scope). find es (gate_name k)) (flat_assignable p)
+          ∙ found_second (assignable (declarations p)) gates (gate_name k) (not_assignable p (gate_name k) (gate_undeclared p h k))
+          ∙ gate_found 0 (gate_count p) k (omega arith) (omega (arith, l));
     }
 
 pub world : (p : Nested) → IsPlain p → World (declarations p) (width_of (flattened p)) (width_of (declarations p))
@@ -145,7 +149,9 @@ flat_is_guarded p h l =
       wires = all_append IsPlainVar p.wires gates d.wires (gates_plain 0 (gate_count p));
       registers = d.registers;
       memories = d.memories;
-      ports_declared = subst (λ (ns : List Name). AllByRecursion (λ x. is_among x (variable_names p.registers ++ ns) ≡ true) p.ports) (sym (variables_append p.wires gates)) (more_ports (variable_names p.registers) (variable_names p.wires) (variable_names gates) p.ports d.ports_declared);
+      ports_declared = subst (λ (ns : List Name). AllByRecursion (λ x. is_among x (variable_names p.registers ++ ns) ≡ true) p.ports)
+          (sym (variables_append p.wires gates)) (more_ports (variable_names p.registers) (variable_names p.wires) (variable_names gates) p.ports d.ports_declared);
       ports_once = d.ports_once;
-      commands = states_fit p (gate_count p) (grown p h) (seat_found (declarations p) (width_of (flattened p)) (width_of (declarations p)) w) (seats p) root_seat p.states h.root h.states_fine (omega arith);
+      commands = states_fit p (gate_count p) (grown p h)
+          (seat_found (declarations p) (width_of (flattened p)) (width_of (declarations p)) w) (seats p) root_seat p.states h.root h.states_fine (omega arith);
     }

@@ -26,7 +26,8 @@ Marked none c j g = Unit {0}
 Marked (state x b kids rest) zero j g = (g.now.value (gate_name j) ≡ 1) × AllZero rest (j + 1) g
 Marked (state x b kids rest) (suc c) j g = (g.now.value (gate_name j) ≡ 0) × Marked rest c (j + 1) g
 
-pub marked_kept : (f : Forest) (c j : ℕ) (g h : Going) → ((i : ℕ) → j ≤ i → i < j + size f → h.now.value (gate_name i) ≡ g.now.value (gate_name i)) → Marked f c j g → Marked f c j h
+pub marked_kept : (f : Forest) (c j : ℕ) (g h : Going)
+    → ((i : ℕ) → j ≤ i → i < j + size f → h.now.value (gate_name i) ≡ g.now.value (gate_name i)) → Marked f c j g → Marked f c j h
 marked_kept none c j g h k m = tt
 marked_kept (state x b kids rest) zero j g h k m =
     (k j (omega arith) (omega arith) ∙ m.0, zero_kept rest (j + 1) g h (λ i l n. k i (omega arith) (omega arith)) m.1)
@@ -47,11 +48,18 @@ abbrev pub Stays : (vf : Name → ℕ) → Term Name → (j : ℕ) → Type 0
 Stays vf c j = (g : Going) (i x : ℕ) → j ≤ i → (value_in vf g c == 0) ≡ false → (value_in vf (put_value g (gate_name i) x) c == 0) ≡ false
 
 -- one gate, before others
-next_gate : (s : Source) (vf vp : Name → ℕ) → World s vf vp → (c : Term Name) (j : ℕ) → (seat : Name) (w u : ℕ) → find (readable s) seat ≡ Some w → (rest : Forest) (i k n : ℕ) (g h : Going) → j < k → (value_in vf g c == 0) ≡ false → Zero k g → Alike s g h → (if h.now.value seat == i then 1 else 0) ≡ n → (T : Going → Type 0) → ((g1 : Going) → (value_in vf g1 c == 0) ≡ false → Zero k g1 → Alike s g1 h → g1 ≡ put_value g (gate_name j) n → Gated s vf (j + 1) k g1 (flat_gates c seat u rest (i + 1) (j + 1)) h T) → Stays vf c j → Gated s vf j k g (record { when = c; act = set (gate_name j) (is_number (read seat) u i) } ∷ flat_gates c seat u rest (i + 1) (j + 1)) h (λ e. (e.now.value (gate_name j) ≡ n) × T e)
+next_gate : (s : Source) (vf vp : Name → ℕ) → World s vf vp → (c : Term Name) (j : ℕ) → (seat : Name) (w u : ℕ)
+    → find (readable s) seat ≡ Some w → (rest : Forest) (i k n : ℕ) (g h : Going) → j < k → (value_in vf g c == 0) ≡ false → Zero k g
+    → Alike s g h → (if h.now.value seat == i then 1 else 0) ≡ n → (T : Going → Type 0)
+    → ((g1 : Going) → (value_in vf g1 c == 0) ≡ false → Zero k g1 → Alike s g1 h → g1 ≡ put_value g (gate_name j) n
+    → Gated s vf (j + 1) k g1 (flat_gates c seat u rest (i + 1) (j + 1)) h T) → Stays vf c j
+    → Gated s vf j k g (record { when = c; act = set (gate_name j) (is_number (read seat) u i) } ∷ flat_gates c seat u rest (i + 1) (j + 1))
+    h (λ e. (e.now.value (gate_name j) ≡ n) × T e)
 next_gate s vf vp w c j seat u0 u sf rest i k n g h lj q ze a v T more st =
     let it : Command = record { when = c; act = set (gate_name j) (is_number (read seat) u i) } in
     let g1 = put_value g (gate_name j) n in
-    let e : after_action vf g it.act ≡ g1 = ap (λ (x : ℕ). put_value g (gate_name j) (if x == i then 1 else 0)) (a.value seat u0 sf) ∙ ap (λ (x : ℕ). put_value g (gate_name j) x) v in
+    let e : after_action vf g it.act ≡ g1 = ap (λ (x : ℕ). put_value g (gate_name j) (if x == i then 1 else 0)) (a.value seat u0 sf)
+    ∙ ap (λ (x : ℕ). put_value g (gate_name j) x) v in
     let r = more g1 (st g j n (omega arith) q) (λ m l. past_gate g j m n (ne_eqb m j (λ x. omega (arith, x, l, lj))) ∙ ze m l) (gate_alike s vf vp w g h a j n) refl in
     let behind = subst (λ x. Runs vf x (flat_gates c seat u rest (i + 1) (j + 1)) r.end []) (sym e) r.runs in
     record {
@@ -67,21 +75,31 @@ weaker : (vf : Name → ℕ) (c : Term Name) (j : ℕ) → Stays vf c j → Stay
 weaker vf c j st g i x l q = st g i x (omega (arith, l)) q
 
 -- past the current one
-gates_past : (s : Source) (vf vp : Name → ℕ) → World s vf vp → (c : Term Name) (seat : Name) (w u : ℕ) → find (readable s) seat ≡ Some w → (f : Forest) (i j k : ℕ) → Stays vf c j → j + size f ≤ k → (g h : Going) → (value_in vf g c == 0) ≡ false → h.now.value seat < i → Zero k g → Alike s g h → Gated s vf j k g (flat_gates c seat u f i j) h (AllZero f j)
+gates_past : (s : Source) (vf vp : Name → ℕ) → World s vf vp → (c : Term Name) (seat : Name) (w u : ℕ) → find (readable s) seat ≡ Some w
+    → (f : Forest) (i j k : ℕ) → Stays vf c j → j + size f ≤ k → (g h : Going) → (value_in vf g c == 0) ≡ false → h.now.value seat < i
+    → Zero k g → Alike s g h → Gated s vf j k g (flat_gates c seat u f i j) h (AllZero f j)
 gates_past s vf vp w c seat u0 u sf none i j k st l g h q p ze a =
     record { end = g; runs = runs_none vf g; alike = a; gates = tt; kept = λ m n. refl; free = ze }
 gates_past s vf vp w c seat u0 u sf (state x b kids rest) i j k st l g h q p ze a =
-    next_gate s vf vp w c j seat u0 u sf rest i k 0 g h (omega (arith, l)) q ze a (ap (λ (t : Bool). if t then 1 else 0) (ne_eqb (h.now.value seat) i (λ e. omega (arith, e, p)))) (AllZero rest (j + 1)) (λ g1 q1 z1 a1 e. gates_past s vf vp w c seat u0 u sf rest (i + 1) (j + 1) k (weaker vf c j st) (omega (arith, l)) g1 h q1 (omega (arith, p)) z1 a1) st
+    next_gate s vf vp w c j seat u0 u sf rest i k 0 g h (omega (arith, l)) q ze a
+    (ap (λ (t : Bool). if t then 1 else 0) (ne_eqb (h.now.value seat) i (λ e. omega (arith, e, p)))) (AllZero rest (j + 1))
+    (λ g1 q1 z1 a1 e. gates_past s vf vp w c seat u0 u sf rest (i + 1) (j + 1) k (weaker vf c j st) (omega (arith, l)) g1 h q1 (omega (arith, p)) z1 a1) st
 
-pub gates_on : (s : Source) (vf vp : Name → ℕ) → World s vf vp → (c : Term Name) (seat : Name) (u : ℕ) → (f : Forest) → (has_states f ≡ true → (w : ℕ) × (find (readable s) seat ≡ Some w)) → (i m j k : ℕ) → Stays vf c j → j + size f ≤ k → (g h : Going) → (value_in vf g c == 0) ≡ false → h.now.value seat ≡ i + m → Zero k g → Alike s g h → Gated s vf j k g (flat_gates c seat u f i j) h (Marked f m j)
+pub gates_on : (s : Source) (vf vp : Name → ℕ) → World s vf vp → (c : Term Name) (seat : Name) (u : ℕ) → (f : Forest)
+    → (has_states f ≡ true → (w : ℕ) × (find (readable s) seat ≡ Some w)) → (i m j k : ℕ) → Stays vf c j → j + size f ≤ k → (g h : Going)
+    → (value_in vf g c == 0) ≡ false → h.now.value seat ≡ i + m → Zero k g → Alike s g h → Gated s vf j k g (flat_gates c seat u f i j) h (Marked f m j)
 gates_on s vf vp w c seat u none sf i m j k st l g h q p ze a =
     record { end = g; runs = runs_none vf g; alike = a; gates = tt; kept = λ m n. refl; free = ze }
 gates_on s vf vp w c seat u (state x b kids rest) sf i zero j k st l g h q p ze a =
     let fs = sf refl in
-    next_gate s vf vp w c j seat fs.0 u fs.1 rest i k 1 g h (omega (arith, l)) q ze a (ap (λ (t : Bool). if t then 1 else 0) (eq-eqb (h.now.value seat) i (omega (arith, p)))) (AllZero rest (j + 1)) (λ g1 q1 z1 a1 e. gates_past s vf vp w c seat fs.0 u fs.1 rest (i + 1) (j + 1) k (weaker vf c j st) (omega (arith, l)) g1 h q1 (omega (arith, p)) z1 a1) st
+    next_gate s vf vp w c j seat fs.0 u fs.1 rest i k 1 g h (omega (arith, l)) q ze a
+    (ap (λ (t : Bool). if t then 1 else 0) (eq-eqb (h.now.value seat) i (omega (arith, p)))) (AllZero rest (j + 1))
+    (λ g1 q1 z1 a1 e. gates_past s vf vp w c seat fs.0 u fs.1 rest (i + 1) (j + 1) k (weaker vf c j st) (omega (arith, l)) g1 h q1 (omega (arith, p)) z1 a1) st
 gates_on s vf vp w c seat u (state x b kids rest) sf i (suc m) j k st l g h q p ze a =
     let fs = sf refl in
-    next_gate s vf vp w c j seat fs.0 u fs.1 rest i k 0 g h (omega (arith, l)) q ze a (ap (λ (t : Bool). if t then 1 else 0) (ne_eqb (h.now.value seat) i (λ e. omega (arith, e, p)))) (Marked rest m (j + 1)) (λ g1 q1 z1 a1 e. gates_on s vf vp w c seat u rest (λ y. fs) (i + 1) m (j + 1) k (weaker vf c j st) (omega (arith, l)) g1 h q1 (omega (arith, p)) z1 a1) st
+    next_gate s vf vp w c j seat fs.0 u fs.1 rest i k 0 g h (omega (arith, l)) q ze a
+    (ap (λ (t : Bool). if t then 1 else 0) (ne_eqb (h.now.value seat) i (λ e. omega (arith, e, p)))) (Marked rest m (j + 1))
+    (λ g1 q1 z1 a1 e. gates_on s vf vp w c seat u rest (λ y. fs) (i + 1) m (j + 1) k (weaker vf c j st) (omega (arith, l)) g1 h q1 (omega (arith, p)) z1 a1) st
 
 -- What a group's commands lead to; gates below k are kept, and those from `next` on are 0.
 pub record Done (s : Source) (vf : Name → ℕ) (k next : ℕ) (g : Going) (cs : List Command) (h : Going) (ms : List Name) : Type 0 where
@@ -102,7 +120,13 @@ fell_stays : (vf : Name → ℕ) (k : ℕ) → Stays vf (read (gate_name k)) (k 
 fell_stays vf k g i x l q = ap (λ (n : ℕ). n == 0) (past_gate g i k x (ne_eqb k i (λ e. omega (arith, e, l)))) ∙ q
 
 -- the groups below a state, after its body
-below_state : (s : Source) (vf vp : Name → ℕ) → World s vf vp → (x : Name) (kids : Forest) → SeatFine s (seat_name x) kids → OnGroup s vf vp (seat_name x) kids kids → (k m : ℕ) (g : Going) (cs : List Command) (e : Reached) → (fb : Bool) → e.fell ≡ fb → (r : Ran s vf k (k + 1 + size kids) m g cs e) → Zero k g → let gates : List Command = flat_gates (read (gate_name k)) (seat_name x) (seat_width (size kids)) kids 0 (k + 1) in let c : Flat = flat_group (seat_name x) kids kids (k + 1) m in Done s vf k c.next g (cs ++ (gates ++ c.commands)) (finish fb (falls_of vp (seat_name x) kids) e.going) (e.written ++ finish_writes fb (λ h. child_writes vp (enter (seat_name x) kids) kids (h.now.value (seat_name x)) h) e.going)
+below_state : (s : Source) (vf vp : Name → ℕ) → World s vf vp → (x : Name) (kids : Forest) → SeatFine s (seat_name x) kids
+    → OnGroup s vf vp (seat_name x) kids kids → (k m : ℕ) (g : Going) (cs : List Command) (e : Reached) → (fb : Bool) → e.fell ≡ fb
+    → (r : Ran s vf k (k + 1 + size kids) m g cs e) → Zero k g → let gates : List Command =
+    flat_gates (read (gate_name k)) (seat_name x) (seat_width (size kids)) kids 0 (k + 1) in
+    let c : Flat = flat_group (seat_name x) kids kids (k + 1) m in
+    Done s vf k c.next g (cs ++ (gates ++ c.commands)) (finish fb (falls_of vp (seat_name x) kids) e.going)
+    (e.written ++ finish_writes fb (λ h. child_writes vp (enter (seat_name x) kids) kids (h.now.value (seat_name x)) h) e.going)
 below_state s vf vp w x kids sf onk k m g cs e true q r ze =
     let seat = seat_name x in
     let gates : List Command = flat_gates (read (gate_name k)) seat (seat_width (size kids)) kids 0 (k + 1) in
@@ -110,11 +134,13 @@ below_state s vf vp w x kids sf onk k m g cs e true q r ze =
     let h = e.going in
     let n = h.now.value seat in
     let one : (r.end.now.value (gate_name k) == 0) ≡ false = ap (λ (i : ℕ). i == 0) (r.fallen ∙ ap (λ (p : Bool). if p then 1 else 0) q) in
-    let gd = gates_on s vf vp w (read (gate_name k)) seat (seat_width (size kids)) kids (λ t. (seat_width (size kids), seat_found s vf vp w seat kids sf t)) 0 n (k + 1) m (fell_stays vf k) (omega (arith, r.grows)) r.end h one (omega arith) r.free r.alike in
+    let gd = gates_on s vf vp w (read (gate_name k)) seat (seat_width (size kids)) kids
+    (λ t. (seat_width (size kids), seat_found s vf vp w seat kids sf t)) 0 n (k + 1) m (fell_stays vf k) (omega (arith, r.grows)) r.end h one (omega arith) r.free r.alike in
     let d = onk n (k + 1) m gd.end h (omega (arith, r.grows)) gd.gates gd.free gd.alike in
     record {
       end = d.end;
-      runs = runs_append vf g r.end d.end cs (gates ++ c.commands) e.written (child_writes vp (enter seat kids) kids n h) r.runs (runs_append vf r.end gd.end d.end gates c.commands [] (child_writes vp (enter seat kids) kids n h) gd.runs d.runs);
+      runs = runs_append vf g r.end d.end cs (gates ++ c.commands) e.written (child_writes vp (enter seat kids) kids n h) r.runs
+          (runs_append vf r.end gd.end d.end gates c.commands [] (child_writes vp (enter seat kids) kids n h) gd.runs d.runs);
       alike = d.alike;
       kept = λ i l. d.kept i (omega (arith, l, r.grows)) ∙ gd.kept i (omega (arith, l)) ∙ r.kept i (omega (arith, l)) (ne_eqb i k (λ z. omega (arith, z, l)));
       free = d.free;
@@ -125,7 +151,8 @@ below_state s vf vp w x kids sf onk k m g cs e false q r ze =
     let gates : List Command = flat_gates (read (gate_name k)) seat (seat_width (size kids)) kids 0 (k + 1) in
     let c = flat_group seat kids kids (k + 1) m in
     let og = gates_off vf r.end (read (gate_name k)) (r.fallen ∙ ap (λ (p : Bool). if p then 1 else 0) q) seat (seat_width (size kids)) kids 0 (k + 1) in
-    let zk = zero_kept kids (k + 1) g r.end (λ i l n. r.kept i (omega (arith, n)) (ne_eqb i k (λ z. omega (arith, z, l)))) (all_zero kids (k + 1) g (λ i l. ze i (omega (arith, l)))) in
+    let zk = zero_kept kids (k + 1) g r.end (λ i l n. r.kept i (omega (arith, n)) (ne_eqb i k (λ z. omega (arith, z, l))))
+    (all_zero kids (k + 1) g (λ i l. ze i (omega (arith, l)))) in
     let oc = group_off vf seat kids kids (k + 1) m r.end zk r.free in
     record {
       end = r.end;
@@ -143,7 +170,8 @@ nothing_done s vf g h a k ze =
     record { end = g; runs = runs_none vf g; alike = a; kept = λ i l. refl; free = ze; grows = omega arith }
 
 -- the others do nothing
-last_done : (s : Source) (vf : Name → ℕ) (k m : ℕ) (g : Going) (cs : List Command) (h : Going) (ms : List Name) (f : Flat) → (d : Done s vf k m g cs h ms) → IsOff vf m d.end f → Done s vf k f.next g (cs ++ f.commands) h ms
+last_done : (s : Source) (vf : Name → ℕ) (k m : ℕ) (g : Going) (cs : List Command) (h : Going) (ms : List Name) (f : Flat)
+    → (d : Done s vf k m g cs h ms) → IsOff vf m d.end f → Done s vf k f.next g (cs ++ f.commands) h ms
 last_done s vf k m g cs h ms f d o =
     record {
       end = d.end;
@@ -155,7 +183,8 @@ last_done s vf k m g cs h ms f d o =
     }
 
 -- it does nothing itself
-first_done : (s : Source) (vf : Name → ℕ) (k m n : ℕ) (g : Going) (cs ds : List Command) (h : Going) (ms : List Name) → Runs vf g cs g [] → k ≤ m → Done s vf m n g ds h ms → Done s vf k n g (cs ++ ds) h ms
+first_done : (s : Source) (vf : Name → ℕ) (k m n : ℕ) (g : Going) (cs ds : List Command) (h : Going) (ms : List Name) → Runs vf g cs g []
+    → k ≤ m → Done s vf m n g ds h ms → Done s vf k n g (cs ++ ds) h ms
 first_done s vf k m n g cs ds h ms r l d =
     record {
       end = d.end;
@@ -167,7 +196,13 @@ first_done s vf k m n g cs ds h ms r l d =
     }
 
 -- a state whose gate is 1
-this_state : (s : Source) (vf vp : Name → ℕ) → World s vf vp → (seat : Name) (group : Forest) (x : Name) (b : Body) (kids : Forest) → ends_in_transfers b ≡ true → SeatFine s (seat_name x) kids → ((fell : ℕ) → On s vf vp (enter seat group) seat group fell b) → OnGroup s vf vp (seat_name x) kids kids → (rest : Forest) (j k : ℕ) (g h : Going) → j < k → g.now.value (gate_name j) ≡ 1 → Zero k g → Alike s g h → let d : Flat = flat_body seat group k b j (k + 1 + size kids) in let c : Flat = flat_group (seat_name x) kids kids (k + 1) d.next in Done s vf k c.next g (d.commands ++ (flat_gates (read (gate_name k)) (seat_name x) (seat_width (size kids)) kids 0 (k + 1) ++ c.commands)) (child_does vp (enter seat group) (state x b kids rest) zero h) (child_writes vp (enter seat group) (state x b kids rest) zero h)
+this_state : (s : Source) (vf vp : Name → ℕ) → World s vf vp → (seat : Name) (group : Forest) (x : Name) (b : Body) (kids : Forest)
+    → ends_in_transfers b ≡ true → SeatFine s (seat_name x) kids → ((fell : ℕ) → On s vf vp (enter seat group) seat group fell b)
+    → OnGroup s vf vp (seat_name x) kids kids → (rest : Forest) (j k : ℕ) (g h : Going) → j < k → g.now.value (gate_name j) ≡ 1 → Zero k g
+    → Alike s g h → let d : Flat = flat_body seat group k b j (k + 1 + size kids) in
+    let c : Flat = flat_group (seat_name x) kids kids (k + 1) d.next in
+    Done s vf k c.next g (d.commands ++ (flat_gates (read (gate_name k)) (seat_name x) (seat_width (size kids)) kids 0 (k + 1) ++ c.commands))
+    (child_does vp (enter seat group) (state x b kids rest) zero h) (child_writes vp (enter seat group) (state x b kids rest) zero h)
 this_state s vf vp w seat group x b kids en sf onb onk rest j k g h lj one ze a =
     let d = flat_body seat group k b j (k + 1 + size kids) in
     let c = flat_group (seat_name x) kids kids (k + 1) d.next in
@@ -176,7 +211,8 @@ this_state s vf vp w seat group x b kids en sf onb onk rest j k g h lj one ze a 
     let falls : Going → Going = λ y. child_does vp (enter (seat_name x) kids) kids (y.now.value (seat_name x)) y in
     let below : Going → List Name = λ y. child_writes vp (enter (seat_name x) kids) kids (y.now.value (seat_name x)) y in
     let e = reached vp goes b h in
-    let r = onb k j (k + 1 + size kids) g h (omega (arith, lj)) (ne_eqb j k (λ z. omega (arith, z, lj))) (omega arith) (ap (λ (i : ℕ). i == 0) one) (ze k (omega arith)) (λ i l. ze i (omega (arith, l))) a in
+    let r = onb k j (k + 1 + size kids) g h (omega (arith, lj)) (ne_eqb j k (λ z. omega (arith, z, lj))) (omega arith)
+    (ap (λ (i : ℕ). i == 0) one) (ze k (omega arith)) (λ i l. ze i (omega (arith, l))) a in
     let t = below_state s vf vp w x kids sf onk k d.next g d.commands e e.fell refl r ze in
     let does = reached_does vp falls goes b en h in
     let writes = reached_writes vp falls below goes b en h in
@@ -190,7 +226,10 @@ this_state s vf vp w seat group x b kids en sf onb onk rest j k g h lj one ze a 
     }
 
 -- a state whose gate is 0, with all below it
-state_off : (vf : Name → ℕ) (seat : Name) (group : Forest) (x : Name) (b : Body) (kids : Forest) (j k : ℕ) (g : Going) → g.now.value (gate_name j) ≡ 0 → Zero k g → let d : Flat = flat_body seat group k b j (k + 1 + size kids) in let c : Flat = flat_group (seat_name x) kids kids (k + 1) d.next in IsOff vf k g (record { commands = d.commands ++ (flat_gates (read (gate_name k)) (seat_name x) (seat_width (size kids)) kids 0 (k + 1) ++ c.commands); next = c.next })
+state_off : (vf : Name → ℕ) (seat : Name) (group : Forest) (x : Name) (b : Body) (kids : Forest) (j k : ℕ) (g : Going)
+    → g.now.value (gate_name j) ≡ 0 → Zero k g → let d : Flat = flat_body seat group k b j (k + 1 + size kids) in
+    let c : Flat = flat_group (seat_name x) kids kids (k + 1) d.next in
+    IsOff vf k g (record { commands = d.commands ++ (flat_gates (read (gate_name k)) (seat_name x) (seat_width (size kids)) kids 0 (k + 1) ++ c.commands); next = c.next })
 state_off vf seat group x b kids j k g z ze =
     let d = flat_body seat group k b j (k + 1 + size kids) in
     let c = flat_group (seat_name x) kids kids (k + 1) d.next in
@@ -203,7 +242,8 @@ state_off vf seat group x b kids j k g z ze =
       grows = omega (arith, od.grows, oc.grows);
     }
 
-pub on_group : (s : Source) (vf vp : Name → ℕ) → World s vf vp → (ss : List Name) (seat : Name) (group : Forest) → SeatFine s seat group → ForestFine s ss (group_names group) group → (f : Forest) → ForestFine s ss (group_names group) f → OnGroup s vf vp seat group f
+pub on_group : (s : Source) (vf vp : Name → ℕ) → World s vf vp → (ss : List Name) (seat : Name) (group : Forest) → SeatFine s seat group
+    → ForestFine s ss (group_names group) group → (f : Forest) → ForestFine s ss (group_names group) f → OnGroup s vf vp seat group f
 on_group s vf vp w ss seat group sf gf none fine c j k g h l m ze a = nothing_done s vf g h a k ze
 on_group s vf vp w ss seat group sf gf (state x b kids rest) fine zero j k g h l m ze a =
     let d = flat_body seat group k b j (k + 1 + size kids) in
@@ -214,7 +254,8 @@ on_group s vf vp w ss seat group sf gf (state x b kids rest) fine zero j k g h l
     let t = this_state s vf vp w seat group x b kids fine.1 fine.2 onb onk rest j k g h (omega (arith, l)) m.0 ze a in
     let zs = zero_kept rest (j + 1) g t.end (λ i p q. t.kept i (omega (arith, l, q))) m.1 in
     let o = group_off vf seat group rest (j + 1) c.next t.end zs t.free in
-    last_done s vf k c.next g cs (child_does vp (enter seat group) (state x b kids rest) zero h) (child_writes vp (enter seat group) (state x b kids rest) zero h) (flat_group seat group rest (j + 1) c.next) t o
+    last_done s vf k c.next g cs (child_does vp (enter seat group) (state x b kids rest) zero h)
+    (child_writes vp (enter seat group) (state x b kids rest) zero h) (flat_group seat group rest (j + 1) c.next) t o
 on_group s vf vp w ss seat group sf gf (state x b kids rest) fine (suc n) j k g h l m ze a =
     let d = flat_body seat group k b j (k + 1 + size kids) in
     let c = flat_group (seat_name x) kids kids (k + 1) d.next in

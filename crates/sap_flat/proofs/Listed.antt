@@ -24,7 +24,8 @@ pub all_with : {X : Type 0} (P : X → Type 0) (xs gs zs : List X) → AllByRecu
 all_with P [] gs zs a b = all_append P gs zs b a
 all_with P (x ∷ xs) gs zs a b = (a.0, all_with P xs gs zs a.1 b)
 
-pub distinct_with : (xs gs zs : List Name) → AreDistinct (xs ++ zs) → AreDistinct gs → ((n : Name) → is_among n gs ≡ true → is_among n (xs ++ zs) ≡ false) → AreDistinct (xs ++ (gs ++ zs))
+pub distinct_with : (xs gs zs : List Name) → AreDistinct (xs ++ zs) → AreDistinct gs
+    → ((n : Name) → is_among n gs ≡ true → is_among n (xs ++ zs) ≡ false) → AreDistinct (xs ++ (gs ++ zs))
 distinct_with [] gs zs a b k = distinct_both gs zs b a k
 distinct_with (x ∷ xs) gs zs a b k =
     let new : is_among x gs ≡ false =
@@ -50,13 +51,16 @@ pub gates_distinct : (k count : ℕ) → AreDistinct (variable_names (gate_wires
 gates_distinct k zero = tt
 gates_distinct k (suc c) = (
   elim (cases_Bool (is_among (gate_name k) (variable_names (gate_wires (k + 1) c)))) [
-    | inl t ↦ absurd (let r = gate_among (gate_name k) (k + 1) c t in let d = gate_differs k r.0 (ne_eqb k r.0 (λ e. omega (arith, e, r.1))) in let s : bytes_eq (gate_name k) (gate_name r.0) ≡ true = subst (λ (m : Name). bytes_eq (gate_name k) m ≡ true) r.2 (bytes_eq_same (gate_name k)) in cc)
+    | inl t ↦ absurd (let r = gate_among (gate_name k) (k + 1) c t in
+        let d = gate_differs k r.0 (ne_eqb k r.0 (λ e. omega (arith, e, r.1))) in let s : bytes_eq (gate_name k) (gate_name r.0) ≡ true =
+        subst (λ (m : Name). bytes_eq (gate_name k) m ≡ true) r.2 (bytes_eq_same (gate_name k)) in cc)
     | inr f ↦ f
   ],
   gates_distinct (k + 1) c,
 )
 
-pub gates_apart : (ns : List Name) → ((k : ℕ) → is_among (gate_name k) ns ≡ false) → (k count : ℕ) (n : Name) → is_among n (variable_names (gate_wires k count)) ≡ true → is_among n ns ≡ false
+pub gates_apart : (ns : List Name) → ((k : ℕ) → is_among (gate_name k) ns ≡ false) → (k count : ℕ) (n : Name)
+    → is_among n (variable_names (gate_wires k count)) ≡ true → is_among n ns ≡ false
 gates_apart ns new k count n h =
     let r = gate_among n k count h in subst (λ (m : Name). is_among m ns ≡ false) (sym r.2) (new r.0)
 
@@ -98,7 +102,8 @@ not_declared s n h =
     let c = not_front n ws ms (not_behind_list n rs (ws ++ ms) h1) in
     let inputs = map (λ x. (x.name, x.width)) s.inputs in
     let registers = map (λ x. (x.name, x.width)) s.registers in
-    found_second (inputs ++ registers) (map (λ x. (x.name, x.width)) s.wires) n (found_second inputs registers n (not_found (λ (x : Var). x.name) (λ x. x.width) s.inputs n a) ∙ not_found (λ (x : Var). x.name) (λ x. x.width) s.registers n b)
+    found_second (inputs ++ registers) (map (λ x. (x.name, x.width)) s.wires) n
+    (found_second inputs registers n (not_found (λ (x : Var). x.name) (λ x. x.width) s.inputs n a) ∙ not_found (λ (x : Var). x.name) (λ x. x.width) s.registers n b)
     ∙ not_found (λ (x : Var). x.name) (λ x. x.width) s.wires n c
 
 -- a declared one is

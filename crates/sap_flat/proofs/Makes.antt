@@ -87,7 +87,8 @@ restart_none : (j : ℕ) → restart_commands j [] ≡ []
 unfolding restart_commands
 restart_none j = ap (flat_restart j) forest_of-none
 
-pub restart-drop : (j : ℕ) (ss : List PlainState) (n : ℕ) (d : PlainState) → n < length ss → restart_commands j (drop n ss) ≡ restart_one j (get_or ss n d) ++ restart_commands j (drop (n + 1) ss)
+pub restart-drop : (j : ℕ) (ss : List PlainState) (n : ℕ) (d : PlainState) → n < length ss
+    → restart_commands j (drop n ss) ≡ restart_one j (get_or ss n d) ++ restart_commands j (drop (n + 1) ss)
 restart-drop j [] n d h = absurd (omega arith)
 restart-drop j (s ∷ ss) zero d h = restart_more j s ss
 restart-drop j (s ∷ ss) (suc n) d h = let r = restart-drop j ss n d (omega arith) in simp (add-one) (simp (add-one) at r)
@@ -102,11 +103,13 @@ restart-past j (s ∷ ss) (suc n) h = restart-past j ss n (omega arith)
 pub restart_rest : (es : List Command) (j : ℕ) (ss : List PlainState) (n : ℕ) (all : List Command) → length ss ≤ n → es ++ restart_commands j (drop n ss) ≡ all → es ≡ all
 restart_rest es j ss n all h e = sym (append-nil es) ∙ ap (λ (l : List Command). es ++ l) (sym (restart-past j ss n h)) ∙ e
 
-pub restart_one-is : (j : ℕ) (s : PlainState) → restart_one j s ≡ first_commands j (out-PlainState s).name (out-PlainState s).children.items ++ restart_commands j (out-PlainState s).children.items
+pub restart_one-is : (j : ℕ) (s : PlainState) → restart_one j s ≡ first_commands j (out-PlainState s).name (out-PlainState s).children.items
+    ++ restart_commands j (out-PlainState s).children.items
 unfolding restart_one first_commands restart_commands
 restart_one-is j s =
     ap (flat_restart j) (state_before-out s none)
-    ∙ ap (λ (cs : List Command). flat_first j (out-PlainState s).name (forest_of (out-PlainState s).children.items) ++ cs) (append-nil (flat_restart j (forest_of (out-PlainState s).children.items)))
+    ∙ ap (λ (cs : List Command). flat_first j (out-PlainState s).name (forest_of (out-PlainState s).children.items) ++ cs)
+    (append-nil (flat_restart j (forest_of (out-PlainState s).children.items)))
 
 pub ruleset restarts = (restart-drop, restart-past, restart_one-is, append_assoc)
 
@@ -126,7 +129,8 @@ place_listed x ss =
     (λ s l. let e : suc (place_in l x) ≡ 1 + place_in l x = omega arith in place_more s l x ∙ ap (λ (n : ℕ). if bytes_eq (out-PlainState s).name x then 0 else n) e) ss
 
 -- the place that passes, or the end
-pub position_or_end : {A : Type 0} (p : A → Bool) (xs : List A) (found : Option ℕ) → found ≡ cond (nat_lt (position_or_len p xs) (length xs)) (Some (position_or_len p xs)) None → unwrap_or found (length xs) ≡ position_or_len p xs
+pub position_or_end : {A : Type 0} (p : A → Bool) (xs : List A) (found : Option ℕ)
+    → found ≡ cond (nat_lt (position_or_len p xs) (length xs)) (Some (position_or_len p xs)) None → unwrap_or found (length xs) ≡ position_or_len p xs
 position_or_end p xs found e =
     let most = prefix_len-le-length (λ x. not (p x)) xs in
     ap (λ o. unwrap_or o (length xs)) e ∙ by (nat_lt (position_or_len p xs) (length xs)) (λ h. grind (arith, nat_tests)) where
@@ -136,7 +140,8 @@ position_or_end p xs found e =
 
 -- a goto
 
-pub children_found : (ss : List PlainState) (x : Name) (s : PlainState) → slice_get ss (place_in ss x) ≡ Some s → children_of (forest_of ss) x ≡ forest_of (out-PlainState s).children.items
+pub children_found : (ss : List PlainState) (x : Name) (s : PlainState) → slice_get ss (place_in ss x) ≡ Some s
+    → children_of (forest_of ss) x ≡ forest_of (out-PlainState s).children.items
 children_found [] x s h = absurd (let q : None ≡ Some s = h in cc)
 children_found (t ∷ ss) x s h =
     let e = forest_of-more t ss ∙ state_before-out t (forest_of ss) in
@@ -164,14 +169,18 @@ children_missing (t ∷ ss) x h =
           ap (λ (f : Forest). children_of f x) e ∙ rw p (children_missing ss x (sym (ap (slice_get (t ∷ ss)) z) ∙ h))
     ]
 
-pub goto_some : (seat : Name) (ss : List PlainState) (j : ℕ) (x : Name) (s : PlainState) → slice_get ss (place_in ss x) ≡ Some s → goto_commands seat ss j x ≡ under j (set seat (constant (seat_width (length ss)) (place_in ss x))) ∷ (first_commands j x (out-PlainState s).children.items ++ restart_commands j (out-PlainState s).children.items)
+pub goto_some : (seat : Name) (ss : List PlainState) (j : ℕ) (x : Name) (s : PlainState) → slice_get ss (place_in ss x) ≡ Some s
+    → goto_commands seat ss j x ≡ under j (set seat (constant (seat_width (length ss)) (place_in ss x)))
+    ∷ (first_commands j x (out-PlainState s).children.items ++ restart_commands j (out-PlainState s).children.items)
 unfolding goto_commands place_in first_commands restart_commands
 goto_some seat ss j x s h =
     let n = place (forest_of ss) x in
     ap (λ (f : Forest). under j (set seat (constant (seat_width (size (forest_of ss))) n)) ∷ (flat_first j x f ++ flat_restart j f)) (children_found ss x s h)
-    ∙ ap (λ (m : ℕ). under j (set seat (constant (seat_width m) n)) ∷ (flat_first j x (forest_of (out-PlainState s).children.items) ++ flat_restart j (forest_of (out-PlainState s).children.items))) (size_is ss)
+    ∙ ap (λ (m : ℕ). under j (set seat (constant (seat_width m) n))
+    ∷ (flat_first j x (forest_of (out-PlainState s).children.items) ++ flat_restart j (forest_of (out-PlainState s).children.items))) (size_is ss)
 
-pub goto_none : (seat : Name) (ss : List PlainState) (j : ℕ) (x : Name) → slice_get ss (place_in ss x) ≡ None → goto_commands seat ss j x ≡ under j (set seat (constant (seat_width (length ss)) (place_in ss x))) ∷ []
+pub goto_none : (seat : Name) (ss : List PlainState) (j : ℕ) (x : Name) → slice_get ss (place_in ss x) ≡ None
+    → goto_commands seat ss j x ≡ under j (set seat (constant (seat_width (length ss)) (place_in ss x))) ∷ []
 unfolding goto_commands place_in
 goto_none seat ss j x h =
     let n = place (forest_of ss) x in
@@ -195,7 +204,8 @@ made cs k = record { commands = cs; next = k }
 abbrev pub then_flat : Flat → (ℕ → Flat) → Flat
 then_flat x f = let y = f x.next in record { commands = x.commands ++ y.commands; next = y.next }
 
-body_follow : (seat : Name) (group : Forest) (fell : ℕ) (a b : Body) (j k : ℕ) → flat_body seat group fell (follow a b) j k ≡ then_flat (flat_body seat group fell a j k) (flat_body seat group fell b j)
+body_follow : (seat : Name) (group : Forest) (fell : ℕ) (a b : Body) (j k : ℕ)
+    → flat_body seat group fell (follow a b) j k ≡ then_flat (flat_body seat group fell a j k) (flat_body seat group fell b j)
 body_follow seat group fell stop b j k = refl
 body_follow seat group fell (act d rest) b j k =
     ap (λ (r : Flat). made (under j d ∷ r.commands) r.next) (body_follow seat group fell rest b j k)
@@ -216,7 +226,8 @@ body_follow seat group fell (goto x rest) b j k =
 body_follow seat group fell (fall rest) b j k =
     ap (λ (r : Flat). made (under j (set (gate_name fell) (constant 1 1)) ∷ r.commands) r.next) (body_follow seat group fell rest b j k)
 
-commands_more : (seat : Name) (ss : List PlainState) (fell : ℕ) (c : PlainCmd) (cs : List PlainCmd) (j k : ℕ) → commands_flat seat ss fell (c ∷ cs) j k ≡ then_flat (command_flat seat ss fell c j k) (commands_flat seat ss fell cs j)
+commands_more : (seat : Name) (ss : List PlainState) (fell : ℕ) (c : PlainCmd) (cs : List PlainCmd) (j k : ℕ)
+    → commands_flat seat ss fell (c ∷ cs) j k ≡ then_flat (command_flat seat ss fell c j k) (commands_flat seat ss fell cs j)
 unfolding commands_flat command_flat
 commands_more seat ss fell c cs j k =
     ap (λ (b : Body). flat_body seat (forest_of ss) fell b j k) (body_of-more c cs ∙ sym (follow-before c stop (body_of cs)))
@@ -226,7 +237,8 @@ commands_none : (seat : Name) (ss : List PlainState) (fell : ℕ) (j k : ℕ) �
 unfolding commands_flat
 commands_none seat ss fell j k = ap (λ (b : Body). flat_body seat (forest_of ss) fell b j k) body_of-none
 
-pub commands-drop : (seat : Name) (ss : List PlainState) (fell : ℕ) (cs : List PlainCmd) (n : ℕ) (d : PlainCmd) (j k : ℕ) → n < length cs → commands_flat seat ss fell (drop n cs) j k ≡ then_flat (command_flat seat ss fell (get_or cs n d) j k) (commands_flat seat ss fell (drop (n + 1) cs) j)
+pub commands-drop : (seat : Name) (ss : List PlainState) (fell : ℕ) (cs : List PlainCmd) (n : ℕ) (d : PlainCmd) (j k : ℕ) → n < length cs
+    → commands_flat seat ss fell (drop n cs) j k ≡ then_flat (command_flat seat ss fell (get_or cs n d) j k) (commands_flat seat ss fell (drop (n + 1) cs) j)
 commands-drop seat ss fell [] n d j k h = absurd (omega arith)
 commands-drop seat ss fell (c ∷ cs) zero d j k h = commands_more seat ss fell c cs j k
 commands-drop seat ss fell (c ∷ cs) (suc n) d j k h =
@@ -242,13 +254,16 @@ pub command_do : (seat : Name) (ss : List PlainState) (fell : ℕ) (a : Act) (j 
 unfolding command_flat
 command_do seat ss fell a j k = ap (λ (b : Body). flat_body seat (forest_of ss) fell b j k) (before-do a stop)
 
-pub command_if : (seat : Name) (ss : List PlainState) (fell : ℕ) (t : Calc) (ys ns : Vec PlainCmd Global) (j k : ℕ) → command_flat seat ss fell (shown.If t ys ns) j k ≡ (let y = commands_flat seat ss fell ys.items k (k + 2) in let n = commands_flat seat ss fell ns.items (k + 1) y.next in made (choice_commands j (term_of t) k (k + 1) ++ (y.commands ++ n.commands)) n.next)
+pub command_if : (seat : Name) (ss : List PlainState) (fell : ℕ) (t : Calc) (ys ns : Vec PlainCmd Global) (j k : ℕ)
+    → command_flat seat ss fell (shown.If t ys ns) j k ≡ (let y = commands_flat seat ss fell ys.items k (k + 2) in
+    let n = commands_flat seat ss fell ns.items (k + 1) y.next in made (choice_commands j (term_of t) k (k + 1) ++ (y.commands ++ n.commands)) n.next)
 unfolding command_flat commands_flat choice_commands
 command_if seat ss fell t ys ns j k =
     let y = flat_body seat (forest_of ss) fell (body_of ys.items) k (k + 2) in
     let n = flat_body seat (forest_of ss) fell (body_of ns.items) (k + 1) y.next in
     ap (λ (b : Body). flat_body seat (forest_of ss) fell b j k) (before-if t ys ns stop)
-    ∙ ap (λ (cs : List Command). made (under j (set (gate_name k) (term_of t)) ∷ under j (set (gate_name (k + 1)) (is_number (read (gate_name k)) 1 0)) ∷ cs) n.next) (append-nil (y.commands ++ n.commands))
+    ∙ ap (λ (cs : List Command). made (under j (set (gate_name k) (term_of t))
+    ∷ under j (set (gate_name (k + 1)) (is_number (read (gate_name k)) 1 0)) ∷ cs) n.next) (append-nil (y.commands ++ n.commands))
 
 pub command_goto : (seat : Name) (ss : List PlainState) (fell : ℕ) (x : Name) (j k : ℕ) → command_flat seat ss fell (cmd.Goto x) j k ≡ made (goto_commands seat ss j x) k
 unfolding command_flat goto_commands
@@ -264,7 +279,8 @@ pub ruleset bodies = (commands-drop, commands-past, command_do, command_if, comm
 
 -- gates of a group
 
-gates_next : (c : Term Name) (seat : Name) (u : ℕ) (s : PlainState) (ss : List PlainState) (i j : ℕ) → gates_commands c seat u (s ∷ ss) i j ≡ record { when = c; act = set (gate_name j) (is_number (read seat) u i) } ∷ gates_commands c seat u ss (i + 1) (j + 1)
+gates_next : (c : Term Name) (seat : Name) (u : ℕ) (s : PlainState) (ss : List PlainState) (i j : ℕ)
+    → gates_commands c seat u (s ∷ ss) i j ≡ record { when = c; act = set (gate_name j) (is_number (read seat) u i) } ∷ gates_commands c seat u ss (i + 1) (j + 1)
 unfolding gates_commands
 gates_next c seat u s ss i j = ap (λ (f : Forest). flat_gates c seat u f i j) (forest_of-more s ss ∙ state_before-out s (forest_of ss))
 
@@ -272,7 +288,8 @@ gates_none : (c : Term Name) (seat : Name) (u i j : ℕ) → gates_commands c se
 unfolding gates_commands
 gates_none c seat u i j = ap (λ (f : Forest). flat_gates c seat u f i j) forest_of-none
 
-pub gates-drop : (c : Term Name) (seat : Name) (u : ℕ) (ss : List PlainState) (n i j : ℕ) → n < length ss → gates_commands c seat u (drop n ss) i j ≡ record { when = c; act = set (gate_name j) (is_number (read seat) u i) } ∷ gates_commands c seat u (drop (n + 1) ss) (i + 1) (j + 1)
+pub gates-drop : (c : Term Name) (seat : Name) (u : ℕ) (ss : List PlainState) (n i j : ℕ) → n < length ss
+    → gates_commands c seat u (drop n ss) i j ≡ record { when = c; act = set (gate_name j) (is_number (read seat) u i) } ∷ gates_commands c seat u (drop (n + 1) ss) (i + 1) (j + 1)
 gates-drop c seat u [] n i j h = absurd (omega arith)
 gates-drop c seat u (s ∷ ss) zero i j h = gates_next c seat u s ss i j
 gates-drop c seat u (s ∷ ss) (suc n) i j h = let r = gates-drop c seat u ss n i j (omega arith) in simp (add-one) (simp (add-one) at r)
@@ -294,7 +311,11 @@ one_state seat group x b kids n j k =
     let c = flat_group (seat_name x) kids kids (k + 1) d.next in
     made ((d.commands ++ (flat_gates (read (gate_name k)) (seat_name x) (seat_width n) kids 0 (k + 1) ++ c.commands)) ++ []) c.next
 
-pub state_is : (seat : Name) (group : List PlainState) (s : PlainState) (j k : ℕ) → state_flat seat group s j k ≡ (let kids = (out-PlainState s).children.items in let own = seat_name (out-PlainState s).name in let d = commands_flat seat group k (out-PlainState s).cmds.items j (k + 1 + length kids) in let c = states_flat own kids kids (k + 1) d.next in made (d.commands ++ (gates_commands (read (gate_name k)) own (seat_width (length kids)) kids 0 (k + 1) ++ c.commands)) c.next)
+pub state_is : (seat : Name) (group : List PlainState) (s : PlainState) (j k : ℕ)
+    → state_flat seat group s j k ≡ (let kids = (out-PlainState s).children.items in let own = seat_name (out-PlainState s).name in
+    let d = commands_flat seat group k (out-PlainState s).cmds.items j (k + 1 + length kids) in
+    let c = states_flat own kids kids (k + 1) d.next in
+    made (d.commands ++ (gates_commands (read (gate_name k)) own (seat_width (length kids)) kids 0 (k + 1) ++ c.commands)) c.next)
 unfolding state_flat commands_flat states_flat gates_commands
 state_is seat group s j k =
     let x = (out-PlainState s).name in
@@ -304,7 +325,8 @@ state_is seat group s j k =
     ∙ ap (λ (n : ℕ). one_state seat (forest_of group) x b kids n j k) (size_is (out-PlainState s).children.items)
     ∙ ap (λ (cs : List Command). made cs (one_state seat (forest_of group) x b kids (length (out-PlainState s).children.items) j k).next) (append-nil _)
 
-states_more : (seat : Name) (group : List PlainState) (s : PlainState) (ss : List PlainState) (j k : ℕ) → states_flat seat group (s ∷ ss) j k ≡ then_flat (state_flat seat group s j k) (states_flat seat group ss (j + 1))
+states_more : (seat : Name) (group : List PlainState) (s : PlainState) (ss : List PlainState) (j k : ℕ)
+    → states_flat seat group (s ∷ ss) j k ≡ then_flat (state_flat seat group s j k) (states_flat seat group ss (j + 1))
 unfolding states_flat state_flat
 states_more seat group s ss j k =
     let x = (out-PlainState s).name in
@@ -322,7 +344,8 @@ states_none : (seat : Name) (group : List PlainState) (j k : ℕ) → states_fla
 unfolding states_flat
 states_none seat group j k = ap (λ (f : Forest). flat_group seat (forest_of group) f j k) forest_of-none
 
-pub states-drop : (seat : Name) (group ss : List PlainState) (n : ℕ) (e : PlainState) (j k : ℕ) → n < length ss → states_flat seat group (drop n ss) j k ≡ then_flat (state_flat seat group (get_or ss n e) j k) (states_flat seat group (drop (n + 1) ss) (j + 1))
+pub states-drop : (seat : Name) (group ss : List PlainState) (n : ℕ) (e : PlainState) (j k : ℕ) → n < length ss
+    → states_flat seat group (drop n ss) j k ≡ then_flat (state_flat seat group (get_or ss n e) j k) (states_flat seat group (drop (n + 1) ss) (j + 1))
 states-drop seat group [] n e j k h = absurd (omega arith)
 states-drop seat group (s ∷ ss) zero e j k h = states_more seat group s ss j k
 states-drop seat group (s ∷ ss) (suc n) e j k h = let r = states-drop seat group ss n e j k (omega arith) in simp (add-one) (simp (add-one) at r)
@@ -337,7 +360,9 @@ pub ruleset states = (states-drop, states-past, state_is, append_assoc, append-n
 
 -- the whole
 
-pub whole_is : (ss : List PlainState) → flat_states (forest_of ss) ≡ (let r = states_flat root_seat ss ss 0 (length ss) in made (gates_commands (constant 1 1) root_seat (seat_width (length ss)) ss 0 0 ++ r.commands) r.next)
+pub whole_is : (ss : List PlainState) → flat_states (forest_of ss) ≡ (let r = states_flat root_seat ss ss 0 (length ss) in
+    made (gates_commands (constant 1 1) root_seat (seat_width (length ss)) ss 0 0 ++ r.commands) r.next)
 unfolding states_flat gates_commands
 whole_is ss =
-    ap (λ (n : ℕ). let r = flat_group root_seat (forest_of ss) (forest_of ss) 0 n in made (flat_gates (constant 1 1) root_seat (seat_width n) (forest_of ss) 0 0 ++ r.commands) r.next) (size_is ss)
+    ap (λ (n : ℕ). let r = flat_group root_seat (forest_of ss) (forest_of ss) 0 n in
+    made (flat_gates (constant 1 1) root_seat (seat_width n) (forest_of ss) 0 0 ++ r.commands) r.next) (size_is ss)

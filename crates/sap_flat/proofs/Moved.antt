@@ -36,7 +36,8 @@ both_moved s vf g cs ds h h' m n =
     }
 
 -- a register of a current child is set
-seat_moved : (s : Source) (vf vp : Name → ℕ) → World s vf vp → (x : Name) (u : ℕ) → find (readable s) x ≡ Some u → (j : ℕ) (g h : Going) (f : Forest) (n : ℕ) → (g.now.value (gate_name j) == 0) ≡ false → Alike s g h → Moved s vf g (under j (seated x f n) ∷ []) (put_value h x n)
+seat_moved : (s : Source) (vf vp : Name → ℕ) → World s vf vp → (x : Name) (u : ℕ) → find (readable s) x ≡ Some u
+    → (j : ℕ) (g h : Going) (f : Forest) (n : ℕ) → (g.now.value (gate_name j) == 0) ≡ false → Alike s g h → Moved s vf g (under j (seated x f n) ∷ []) (put_value h x n)
 seat_moved s vf vp w x u e j g h f n q a =
     record {
       end = put_value g x n;
@@ -45,13 +46,15 @@ seat_moved s vf vp w x u e j g h f n q a =
       kept = past_name s vf vp w g x u n e;
     }
 
-first_moved : (s : Source) (vf vp : Name → ℕ) → World s vf vp → (x : Name) (kids : Forest) → SeatFine s (seat_name x) kids → (j : ℕ) (g h : Going) → (g.now.value (gate_name j) == 0) ≡ false → Alike s g h → Moved s vf g (flat_first j x kids) (first_child x kids h)
+first_moved : (s : Source) (vf vp : Name → ℕ) → World s vf vp → (x : Name) (kids : Forest) → SeatFine s (seat_name x) kids
+    → (j : ℕ) (g h : Going) → (g.now.value (gate_name j) == 0) ≡ false → Alike s g h → Moved s vf g (flat_first j x kids) (first_child x kids h)
 first_moved s vf vp w x none f j g h q a = record { end = g; runs = runs_none vf g; alike = a; kept = λ i. refl }
 first_moved s vf vp w x (state y b kids rest) f j g h q a =
     let here = state y b kids rest in
     seat_moved s vf vp w (seat_name x) (seat_width (size here)) (seat_found s vf vp w (seat_name x) here f refl) j g h here 0 q a
 
-restart_moved : (s : Source) (vf vp : Name → ℕ) → World s vf vp → (ss gs : List Name) (f : Forest) → ForestFine s ss gs f → (j : ℕ) (g h : Going) → (g.now.value (gate_name j) == 0) ≡ false → Alike s g h → Moved s vf g (flat_restart j f) (restart f h)
+restart_moved : (s : Source) (vf vp : Name → ℕ) → World s vf vp → (ss gs : List Name) (f : Forest) → ForestFine s ss gs f
+    → (j : ℕ) (g h : Going) → (g.now.value (gate_name j) == 0) ≡ false → Alike s g h → Moved s vf g (flat_restart j f) (restart f h)
 restart_moved s vf vp w ss gs none fine j g h q a = record { end = g; runs = runs_none vf g; alike = a; kept = λ i. refl }
 restart_moved s vf vp w ss gs (state x b kids rest) fine j g h q a =
     let h1 = first_child x kids h in
@@ -59,7 +62,8 @@ restart_moved s vf vp w ss gs (state x b kids rest) fine j g h q a =
     let m1 = first_moved s vf vp w x kids fine.2 j g h q a in
     let m2 = restart_moved s vf vp w ss (group_names kids) kids fine.3 j m1.end h1 (ap (λ (n : ℕ). n == 0) (m1.kept j) ∙ q) m1.alike in
     let m3 = restart_moved s vf vp w ss gs rest fine.4 j m2.end h2 (ap (λ (n : ℕ). n == 0) (m2.kept j ∙ m1.kept j) ∙ q) m2.alike in
-    both_moved s vf g (flat_first j x kids) (flat_restart j kids ++ flat_restart j rest) h1 (restart rest h2) m1 (both_moved s vf m1.end (flat_restart j kids) (flat_restart j rest) h2 (restart rest h2) m2 m3)
+    both_moved s vf g (flat_first j x kids) (flat_restart j kids ++ flat_restart j rest) h1 (restart rest h2) m1
+    (both_moved s vf m1.end (flat_restart j kids) (flat_restart j rest) h2 (restart rest h2) m2 m3)
 
 pub among_some : (x : Name) (f : Forest) → is_among x (group_names f) ≡ true → has_states f ≡ true
 among_some x none h = absurd (cc)
@@ -82,7 +86,9 @@ children_fine s ss gs (state y b kids rest) fine x =
       | inr f ↦ rw f (children_fine s ss gs rest fine.4 x)
     ]
 
-pub goto_moved : (s : Source) (vf vp : Name → ℕ) → World s vf vp → (ss gs : List Name) (seat : Name) (group : Forest) → SeatFine s seat group → ForestFine s ss gs group → (x : Name) → is_among x (group_names group) ≡ true → (j : ℕ) (g h : Going) → (g.now.value (gate_name j) == 0) ≡ false → Alike s g h → Moved s vf g (flat_goto seat group j x) (enter seat group x h)
+pub goto_moved : (s : Source) (vf vp : Name → ℕ) → World s vf vp → (ss gs : List Name) (seat : Name) (group : Forest)
+    → SeatFine s seat group → ForestFine s ss gs group → (x : Name) → is_among x (group_names group) ≡ true → (j : ℕ) (g h : Going)
+    → (g.now.value (gate_name j) == 0) ≡ false → Alike s g h → Moved s vf g (flat_goto seat group j x) (enter seat group x h)
 goto_moved s vf vp w ss gs seat group sf fine x there j g h q a =
     let kids = children_of group x in
     let h1 = put_value h seat (place group x) in
@@ -90,4 +96,5 @@ goto_moved s vf vp w ss gs seat group sf fine x there j g h q a =
     let m1 = seat_moved s vf vp w seat (seat_width (size group)) (seat_found s vf vp w seat group sf (among_some x group there)) j g h group (place group x) q a in
     let m2 = first_moved s vf vp w x kids (children_seat s ss gs group fine x) j m1.end h1 (ap (λ (n : ℕ). n == 0) (m1.kept j) ∙ q) m1.alike in
     let m3 = restart_moved s vf vp w ss (group_names kids) kids (children_fine s ss gs group fine x) j m2.end h2 (ap (λ (n : ℕ). n == 0) (m2.kept j ∙ m1.kept j) ∙ q) m2.alike in
-    both_moved s vf g (under j (seated seat group (place group x)) ∷ []) (flat_first j x kids ++ flat_restart j kids) h1 (restart kids h2) m1 (both_moved s vf m1.end (flat_first j x kids) (flat_restart j kids) h2 (restart kids h2) m2 m3)
+    both_moved s vf g (under j (seated seat group (place group x)) ∷ []) (flat_first j x kids ++ flat_restart j kids) h1 (restart kids h2)
+    m1 (both_moved s vf m1.end (flat_first j x kids) (flat_restart j kids) h2 (restart kids h2) m2 m3)

@@ -19,19 +19,22 @@ first_off vw j g z x (state y b kids rest) =
 restart_off : (vw : Name → ℕ) (j : ℕ) (g : Going) → g.now.value (gate_name j) ≡ 0 → (f : Forest) → Runs vw g (flat_restart j f) g []
 restart_off vw j g z none = runs_none vw g
 restart_off vw j g z (state x b kids rest) =
-    runs_append vw g g g (flat_first j x kids) (flat_restart j kids ++ flat_restart j rest) [] [] (first_off vw j g z x kids) (runs_append vw g g g (flat_restart j kids) (flat_restart j rest) [] [] (restart_off vw j g z kids) (restart_off vw j g z rest))
+    runs_append vw g g g (flat_first j x kids) (flat_restart j kids ++ flat_restart j rest) [] [] (first_off vw j g z x kids)
+    (runs_append vw g g g (flat_restart j kids) (flat_restart j rest) [] [] (restart_off vw j g z kids) (restart_off vw j g z rest))
 
 goto_off : (vw : Name → ℕ) (j : ℕ) (g : Going) → g.now.value (gate_name j) ≡ 0 → (seat : Name) (group : Forest) (x : Name) → Runs vw g (flat_goto seat group j x) g []
 goto_off vw j g z seat group x =
     let kids = children_of group x in
-    runs_off vw g g (under j (seated seat group (place group x))) (flat_first j x kids ++ flat_restart j kids) [] z (runs_append vw g g g (flat_first j x kids) (flat_restart j kids) [] [] (first_off vw j g z x kids) (restart_off vw j g z kids))
+    runs_off vw g g (under j (seated seat group (place group x))) (flat_first j x kids ++ flat_restart j kids) [] z
+    (runs_append vw g g g (flat_first j x kids) (flat_restart j kids) [] [] (first_off vw j g z x kids) (restart_off vw j g z kids))
 
 -- nothing is done, and numbers of gates are given out in order
 pub record IsOff (vw : Name → ℕ) (k : ℕ) (g : Going) (f : Flat) : Type 0 where
   pub runs : Runs vw g f.commands g []
   pub grows : k ≤ f.next
 
-pub body_off : (vw : Name → ℕ) (seat : Name) (group : Forest) (fell : ℕ) (b : Body) (j k : ℕ) (g : Going) → g.now.value (gate_name j) ≡ 0 → Zero k g → IsOff vw k g (flat_body seat group fell b j k)
+pub body_off : (vw : Name → ℕ) (seat : Name) (group : Forest) (fell : ℕ) (b : Body) (j k : ℕ) (g : Going) → g.now.value (gate_name j) ≡ 0
+    → Zero k g → IsOff vw k g (flat_body seat group fell b j k)
 body_off vw seat group fell stop j k g z ze = record { runs = runs_none vw g; grows = omega arith }
 body_off vw seat group fell (act a rest) j k g z ze =
     let r = body_off vw seat group fell rest j k g z ze in
@@ -46,7 +49,8 @@ body_off vw seat group fell (cases t y n rest) j k g z ze =
     let all = runs_append vw g g g (fy.commands ++ fn.commands) fr.commands [] [] (runs_append vw g g g fy.commands fn.commands [] [] oy.runs on.runs) or.runs in
     let second : Command = under j (set (gate_name (k + 1)) (is_number (read (gate_name k)) 1 0)) in
     record {
-      runs = runs_off vw g g (under j (set (gate_name k) t)) (second ∷ ((fy.commands ++ fn.commands) ++ fr.commands)) [] z (runs_off vw g g second ((fy.commands ++ fn.commands) ++ fr.commands) [] z all);
+      runs = runs_off vw g g (under j (set (gate_name k) t)) (second ∷ ((fy.commands ++ fn.commands) ++ fr.commands)) [] z
+          (runs_off vw g g second ((fy.commands ++ fn.commands) ++ fr.commands) [] z all);
       grows = omega (arith, oy.grows, on.grows, or.grows);
     }
 body_off vw seat group fell (goto x rest) j k g z ze =
@@ -65,7 +69,8 @@ body_off vw seat group fell (fall rest) j k g z ze =
 pub gates_off : (vw : Name → ℕ) (g : Going) (c : Term Name) → value_in vw g c ≡ 0 → (seat : Name) (u : ℕ) (f : Forest) (i j : ℕ) → Runs vw g (flat_gates c seat u f i j) g []
 gates_off vw g c z seat u none i j = runs_none vw g
 gates_off vw g c z seat u (state x b kids rest) i j =
-    runs_off vw g g (record { when = c; act = set (gate_name j) (is_number (read seat) u i) }) (flat_gates c seat u rest (i + 1) (j + 1)) [] z (gates_off vw g c z seat u rest (i + 1) (j + 1))
+    runs_off vw g g (record { when = c; act = set (gate_name j) (is_number (read seat) u i) }) (flat_gates c seat u rest (i + 1) (j + 1)) []
+    z (gates_off vw g c z seat u rest (i + 1) (j + 1))
 
 -- the gates of a group, from j on, are 0
 abbrev pub AllZero : Forest → (j : ℕ) → Going → Type 0

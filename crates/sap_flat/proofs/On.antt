@@ -38,7 +38,9 @@ On s vf vp goes seat group fell b =
     → Ran s vf fell k (flat_body seat group fell b j k).next g (flat_body seat group fell b j k).commands (reached vp goes b h)
 
 -- nothing stands behind a fall
-ran_stop : (s : Source) (vf : Name → ℕ) (seat : Name) (group : Forest) (fell : ℕ) (rest : Body) (j k m : ℕ) (g : Going) (cs : List Command) (e : Reached) → is_stop rest ≡ true → Ran s vf fell k m g cs e → Ran s vf fell k (flat_body seat group fell rest j m).next g (cs ++ (flat_body seat group fell rest j m).commands) e
+ran_stop : (s : Source) (vf : Name → ℕ) (seat : Name) (group : Forest) (fell : ℕ) (rest : Body) (j k m : ℕ) (g : Going) (cs : List Command)
+    (e : Reached) → is_stop rest ≡ true → Ran s vf fell k m g cs e
+    → Ran s vf fell k (flat_body seat group fell rest j m).next g (cs ++ (flat_body seat group fell rest j m).commands) e
 ran_stop s vf seat group fell stop j k m g cs e h r =
     record {
       end = r.end;
@@ -55,7 +57,11 @@ ran_stop s vf seat group fell (goto x rest) j k m g cs e h r = absurd (cc)
 ran_stop s vf seat group fell (fall rest) j k m g cs e h r = absurd (cc)
 
 -- what stands behind a choice
-ran_behind : (s : Source) (vf vp : Name → ℕ) (goes : Name → Going → Going) (seat : Name) (group : Forest) (fell : ℕ) (rest : Body) (j k m : ℕ) (g : Going) (cs : List Command) (e : Reached) (b : Bool) → e.fell ≡ b → (b ≡ true → is_stop rest ≡ true) → (r : Ran s vf fell k m g cs e) → (b ≡ false → Ran s vf fell m (flat_body seat group fell rest j m).next r.end (flat_body seat group fell rest j m).commands (reached vp goes rest e.going)) → Ran s vf fell k (flat_body seat group fell rest j m).next g (cs ++ (flat_body seat group fell rest j m).commands) (behind_if b e (reached vp goes rest))
+ran_behind : (s : Source) (vf vp : Name → ℕ) (goes : Name → Going → Going) (seat : Name) (group : Forest) (fell : ℕ) (rest : Body)
+    (j k m : ℕ) (g : Going) (cs : List Command) (e : Reached) (b : Bool) → e.fell ≡ b → (b ≡ true → is_stop rest ≡ true)
+    → (r : Ran s vf fell k m g cs e) → (b ≡ false
+    → Ran s vf fell m (flat_body seat group fell rest j m).next r.end (flat_body seat group fell rest j m).commands (reached vp goes rest e.going))
+    → Ran s vf fell k (flat_body seat group fell rest j m).next g (cs ++ (flat_body seat group fell rest j m).commands) (behind_if b e (reached vp goes rest))
 ran_behind s vf vp goes seat group fell rest j k m g cs e true q l r o = ran_stop s vf seat group fell rest j k m g cs e (l refl) r
 ran_behind s vf vp goes seat group fell rest j k m g cs e false q l r o =
     let f = flat_body seat group fell rest j m in
@@ -78,7 +84,8 @@ record Chosen (s : Source) (vf : Name → ℕ) (k v : ℕ) (g g2 h : Going) : Ty
   free : Zero (k + 2) g2
   kept : (i : ℕ) → i < k → g2.now.value (gate_name i) ≡ g.now.value (gate_name i)
 
-chosen : (s : Source) (vf vp : Name → ℕ) → World s vf vp → (k v : ℕ) (g h : Going) → Zero k g → Alike s g h → let g1 : Going = put_value g (gate_name k) v in Chosen s vf k v g (put_value g1 (gate_name (k + 1)) (if g1.now.value (gate_name k) == 0 then 1 else 0)) h
+chosen : (s : Source) (vf vp : Name → ℕ) → World s vf vp → (k v : ℕ) (g h : Going) → Zero k g → Alike s g h → let g1 : Going =
+    put_value g (gate_name k) v in Chosen s vf k v g (put_value g1 (gate_name (k + 1)) (if g1.now.value (gate_name k) == 0 then 1 else 0)) h
 chosen s vf vp w k v g h ze a =
     let g1 = put_value g (gate_name k) v in
     let v2 : ℕ = if g1.now.value (gate_name k) == 0 then 1 else 0 in
@@ -92,12 +99,17 @@ chosen s vf vp w k v g h ze a =
     }
 
 -- the branch that is taken does its part, and the other nothing
-branches : (s : Source) (vf vp : Name → ℕ) (goes : Name → Going → Going) (seat : Name) (group : Forest) (fell : ℕ) (y n : Body) → On s vf vp goes seat group fell y → On s vf vp goes seat group fell n → (k v : ℕ) (g g2 h : Going) → Chosen s vf k v g g2 h → fell < k → g.now.value (gate_name fell) ≡ 0 → (b : Bool) → (v == 0) ≡ b → let fy = flat_body seat group fell y k (k + 2) in let fn = flat_body seat group fell n (k + 1) fy.next in Ran s vf fell k fn.next g2 (fy.commands ++ fn.commands) (if b then reached vp goes n h else reached vp goes y h)
+branches : (s : Source) (vf vp : Name → ℕ) (goes : Name → Going → Going) (seat : Name) (group : Forest) (fell : ℕ) (y n : Body)
+    → On s vf vp goes seat group fell y → On s vf vp goes seat group fell n → (k v : ℕ) (g g2 h : Going) → Chosen s vf k v g g2 h → fell < k
+    → g.now.value (gate_name fell) ≡ 0 → (b : Bool) → (v == 0) ≡ b → let fy = flat_body seat group fell y k (k + 2) in
+    let fn = flat_body seat group fell n (k + 1) fy.next in Ran s vf fell k fn.next g2 (fy.commands ++ fn.commands) (if b then reached vp goes n h else reached vp goes y h)
 branches s vf vp goes seat group fell y n ony onn k v g g2 h c lf zf true q =
     let fy = flat_body seat group fell y k (k + 2) in
     let fn = flat_body seat group fell n (k + 1) fy.next in
     let oy = body_off vf seat group fell y k (k + 2) g2 (c.first ∙ zero_of_test v q) c.free in
-    let rn = onn (k + 1) fy.next g2 h (omega (arith, oy.grows)) (ne_eqb (k + 1) fell (λ e. omega (arith, e, lf))) (omega (arith, oy.grows, lf)) (ap (λ (i : ℕ). i == 0) (c.second ∙ ap (λ (p : Bool). if p then 1 else 0) q)) (c.kept fell lf ∙ zf) (λ i l. c.free i (omega (arith, oy.grows, l))) c.alike in
+    let rn = onn (k + 1) fy.next g2 h (omega (arith, oy.grows)) (ne_eqb (k + 1) fell (λ e. omega (arith, e, lf)))
+    (omega (arith, oy.grows, lf)) (ap (λ (i : ℕ). i == 0) (c.second ∙ ap (λ (p : Bool). if p then 1 else 0) q)) (c.kept fell lf
+    ∙ zf) (λ i l. c.free i (omega (arith, oy.grows, l))) c.alike in
     record {
       end = rn.end;
       runs = runs_append vf g2 g2 rn.end fy.commands fn.commands [] (reached vp goes n h).written oy.runs rn.runs;
@@ -110,11 +122,14 @@ branches s vf vp goes seat group fell y n ony onn k v g g2 h c lf zf true q =
 branches s vf vp goes seat group fell y n ony onn k v g g2 h c lf zf false q =
     let fy = flat_body seat group fell y k (k + 2) in
     let fn = flat_body seat group fell n (k + 1) fy.next in
-    let ry = ony k (k + 2) g2 h (omega arith) (ne_eqb k fell (λ e. omega (arith, e, lf))) (omega (arith, lf)) (ap (λ (i : ℕ). i == 0) c.first ∙ q) (c.kept fell lf ∙ zf) c.free c.alike in
-    let on = body_off vf seat group fell n (k + 1) fy.next ry.end (ry.kept (k + 1) (omega arith) (ne_eqb (k + 1) fell (λ e. omega (arith, e, lf))) ∙ c.second ∙ ap (λ (p : Bool). if p then 1 else 0) q) ry.free in
+    let ry = ony k (k + 2) g2 h (omega arith) (ne_eqb k fell (λ e. omega (arith, e, lf))) (omega (arith, lf))
+    (ap (λ (i : ℕ). i == 0) c.first ∙ q) (c.kept fell lf ∙ zf) c.free c.alike in
+    let on = body_off vf seat group fell n (k + 1) fy.next ry.end
+    (ry.kept (k + 1) (omega arith) (ne_eqb (k + 1) fell (λ e. omega (arith, e, lf))) ∙ c.second ∙ ap (λ (p : Bool). if p then 1 else 0) q) ry.free in
     record {
       end = ry.end;
-      runs = runs_last vf g2 ry.end (fy.commands ++ fn.commands) (reached vp goes y h).written (runs_append vf g2 ry.end ry.end fy.commands fn.commands (reached vp goes y h).written [] ry.runs on.runs);
+      runs = runs_last vf g2 ry.end (fy.commands ++ fn.commands) (reached vp goes y h).written
+          (runs_append vf g2 ry.end ry.end fy.commands fn.commands (reached vp goes y h).written [] ry.runs on.runs);
       alike = ry.alike;
       fallen = ry.fallen;
       kept = λ i l d. ry.kept i (omega (arith, l)) d;
@@ -123,7 +138,10 @@ branches s vf vp goes seat group fell y n ony onn k v g g2 h c lf zf false q =
     }
 
 -- a choice: its two gates, its branches and what stands behind
-on_cases : (s : Source) (vf vp : Name → ℕ) → World s vf vp → (goes : Name → Going → Going) (seat : Name) (group : Forest) (fell : ℕ) (t : Term Name) (y n rest : Body) → TermFine (shapes s) (readable s) 1 t → Ending y n rest → On s vf vp goes seat group fell y → On s vf vp goes seat group fell n → On s vf vp goes seat group fell rest → On s vf vp goes seat group fell (cases t y n rest)
+on_cases : (s : Source) (vf vp : Name → ℕ) → World s vf vp
+    → (goes : Name → Going → Going) (seat : Name) (group : Forest) (fell : ℕ) (t : Term Name) (y n rest : Body)
+    → TermFine (shapes s) (readable s) 1 t → Ending y n rest → On s vf vp goes seat group fell y → On s vf vp goes seat group fell n
+    → On s vf vp goes seat group fell rest → On s vf vp goes seat group fell (cases t y n rest)
 on_cases s vf vp w goes seat group fell t y n rest tf en ony onn onr j k g h lj jf lf q zf ze a =
     let v = value_in vf g t in
     let g1 = put_value g (gate_name k) v in
@@ -137,7 +155,10 @@ on_cases s vf vp w goes seat group fell t y n rest tf en ony onn onr j k g h lj 
     let fr = flat_body seat group fell rest j fn.next in
     let taken : Reached = if b then reached vp goes n h else reached vp goes y h in
     let r = branches s vf vp goes seat group fell y n ony onn k v g g2 h c lf zf b (ap (λ (i : ℕ). i == 0) e) in
-    let all = ran_behind s vf vp goes seat group fell rest j k fn.next g2 (fy.commands ++ fn.commands) taken taken.fell refl (last_of_branch vp goes y n rest h b en) r (λ nf. onr j fn.next r.end taken.going (omega (arith, r.grows, lj)) jf (omega (arith, r.grows, lf)) (ap (λ (i : ℕ). i == 0) (r.kept j lj jf ∙ c.kept j lj) ∙ q) (r.fallen ∙ ap (λ (p : Bool). if p then 1 else 0) nf) r.free r.alike) in
+    let all = ran_behind s vf vp goes seat group fell rest j k fn.next g2 (fy.commands ++ fn.commands) taken taken.fell refl
+    (last_of_branch vp goes y n rest h b en) r
+    (λ nf. onr j fn.next r.end taken.going (omega (arith, r.grows, lj)) jf (omega (arith, r.grows, lf))
+    (ap (λ (i : ℕ). i == 0) (r.kept j lj jf ∙ c.kept j lj) ∙ q) (r.fallen ∙ ap (λ (p : Bool). if p then 1 else 0) nf) r.free r.alike) in
     let cs : List Command = (fy.commands ++ fn.commands) ++ fr.commands in
     let q1 : (g1.now.value (gate_name j) == 0) ≡ false = ap (λ (i : ℕ). i == 0) (past_gate g k j v (ne_eqb j k (λ x. omega (arith, x, lj)))) ∙ q in
     record {
@@ -151,7 +172,9 @@ on_cases s vf vp w goes seat group fell t y n rest tf en ony onn onr j k g h lj 
     }
 
 -- an assignment or a write
-on_act : (s : Source) (vf vp : Name → ℕ) → World s vf vp → (goes : Name → Going → Going) (seat : Name) (group : Forest) (fell : ℕ) (d : Action) (rest : Body) → ActionFine s d → On s vf vp goes seat group fell rest → On s vf vp goes seat group fell (act d rest)
+on_act : (s : Source) (vf vp : Name → ℕ) → World s vf vp
+    → (goes : Name → Going → Going) (seat : Name) (group : Forest) (fell : ℕ) (d : Action) (rest : Body) → ActionFine s d
+    → On s vf vp goes seat group fell rest → On s vf vp goes seat group fell (act d rest)
 on_act s vf vp w goes seat group fell d rest df onr j k g h lj jf lf q zf ze a =
     let g1 = after_action vf g d in
     let h1 = after_action vp h d in
@@ -168,7 +191,8 @@ on_act s vf vp w goes seat group fell d rest df onr j k g h lj jf lf q zf ze a =
     }
 
 -- a fall sets its gate
-on_fall : (s : Source) (vf vp : Name → ℕ) → World s vf vp → (goes : Name → Going → Going) (seat : Name) (group : Forest) (fell : ℕ) (rest : Body) → is_stop rest ≡ true → On s vf vp goes seat group fell (fall rest)
+on_fall : (s : Source) (vf vp : Name → ℕ) → World s vf vp
+    → (goes : Name → Going → Going) (seat : Name) (group : Forest) (fell : ℕ) (rest : Body) → is_stop rest ≡ true → On s vf vp goes seat group fell (fall rest)
 on_fall s vf vp w goes seat group fell stop is j k g h lj jf lf q zf ze a =
     let g1 = put_value g (gate_name fell) 1 in
     let c : Command = under j (set (gate_name fell) (constant 1 1)) in
@@ -186,7 +210,9 @@ on_fall s vf vp w goes seat group fell (cases t y n rest) is j k g h lj jf lf q 
 on_fall s vf vp w goes seat group fell (goto x rest) is j k g h lj jf lf q zf ze a = absurd (cc)
 on_fall s vf vp w goes seat group fell (fall rest) is j k g h lj jf lf q zf ze a = absurd (cc)
 
-on_goto : (s : Source) (vf vp : Name → ℕ) → World s vf vp → (ss gs : List Name) (seat : Name) (group : Forest) → SeatFine s seat group → ForestFine s ss gs group → (fell : ℕ) (x : Name) (rest : Body) → is_among x (group_names group) ≡ true → On s vf vp (enter seat group) seat group fell rest → On s vf vp (enter seat group) seat group fell (goto x rest)
+on_goto : (s : Source) (vf vp : Name → ℕ) → World s vf vp → (ss gs : List Name) (seat : Name) (group : Forest) → SeatFine s seat group
+    → ForestFine s ss gs group → (fell : ℕ) (x : Name) (rest : Body) → is_among x (group_names group) ≡ true
+    → On s vf vp (enter seat group) seat group fell rest → On s vf vp (enter seat group) seat group fell (goto x rest)
 on_goto s vf vp w ss gs seat group sf fine fell x rest there onr j k g h lj jf lf q zf ze a =
     let m = goto_moved s vf vp w ss gs seat group sf fine x there j g h q a in
     let h1 = enter seat group x h in
@@ -213,13 +239,17 @@ on_stop s vf vp goes seat group fell j k g h lj jf lf q zf ze a =
       grows = omega arith;
     }
 
-pub on_body : (s : Source) (vf vp : Name → ℕ) → World s vf vp → (ss : List Name) (seat : Name) (group : Forest) → SeatFine s seat group → ForestFine s ss (group_names group) group → (fell : ℕ) (nested : Bool) (b : Body) → BodyFine s ss (group_names group) nested b → ends_in_transfers b ≡ true → On s vf vp (enter seat group) seat group fell b
+pub on_body : (s : Source) (vf vp : Name → ℕ) → World s vf vp → (ss : List Name) (seat : Name) (group : Forest) → SeatFine s seat group
+    → ForestFine s ss (group_names group) group → (fell : ℕ) (nested : Bool) (b : Body) → BodyFine s ss (group_names group) nested b
+    → ends_in_transfers b ≡ true → On s vf vp (enter seat group) seat group fell b
 on_body s vf vp w ss seat group sf fine fell nested stop bf en = on_stop s vf vp (enter seat group) seat group fell
 on_body s vf vp w ss seat group sf fine fell nested (act d rest) bf en =
     on_act s vf vp w (enter seat group) seat group fell d rest bf.0 (on_body s vf vp w ss seat group sf fine fell nested rest bf.2 en)
 on_body s vf vp w ss seat group sf fine fell nested (cases t y n rest) bf en =
     let e = ending t y n rest en in
-    on_cases s vf vp w (enter seat group) seat group fell t y n rest bf.0 e (on_body s vf vp w ss seat group sf fine fell nested y bf.1 e.yes_ends) (on_body s vf vp w ss seat group sf fine fell nested n bf.2 e.no_ends) (on_body s vf vp w ss seat group sf fine fell nested rest bf.3 e.rest_ends)
+    on_cases s vf vp w (enter seat group) seat group fell t y n rest bf.0 e
+    (on_body s vf vp w ss seat group sf fine fell nested y bf.1 e.yes_ends)
+    (on_body s vf vp w ss seat group sf fine fell nested n bf.2 e.no_ends) (on_body s vf vp w ss seat group sf fine fell nested rest bf.3 e.rest_ends)
 on_body s vf vp w ss seat group sf fine fell nested (goto x rest) bf en =
     on_goto s vf vp w ss (group_names group) seat group sf fine fell x rest bf.0 (on_body s vf vp w ss seat group sf fine fell nested rest bf.1 (ends_stop rest en))
 on_body s vf vp w ss seat group sf fine fell nested (fall rest) bf en =

@@ -92,7 +92,8 @@ target_own p (state y b kids rest) j x h =
 goto_own : (p : Nested) (seat : Name) (group : Forest) (j : ℕ) (x : Name) → is_among seat (seats p) ≡ true → AreSeats (seats p) group → own p (flat_goto seat group j x) ≡ []
 goto_own p seat group j x s h =
     let kids = children_of group x in
-    none_more p (under j (seated seat group (place group x))) (flat_first j x kids ++ flat_restart j kids) (seat_other p seat (constant (seat_width (size group)) (place group x)) s)
+    none_more p (under j (seated seat group (place group x))) (flat_first j x kids ++ flat_restart j kids)
+    (seat_other p seat (constant (seat_width (size group)) (place group x)) s)
     ∙ both_own p (flat_first j x kids) (flat_restart j kids)
     ∙ rw (target_own p group j x h) (restart_own p j kids (children_seats (seats p) group x h))
 
@@ -107,7 +108,8 @@ gates_own p g c seat u (state x b kids rest) i j =
 assigned_own : (b c : Bool) → b ≡ true → not c ≡ true → (b && not c) ≡ true
 assigned_own b c h k = rw (h, k) refl
 
-assigned_among : (p : Nested) (x : Name) (u : ℕ) → find (assignable (declarations p)) x ≡ Some u → (is_among x (variable_names p.registers) ≡ true) ⊎ (is_among x (variable_names p.wires) ≡ true)
+assigned_among : (p : Nested) (x : Name) (u : ℕ) → find (assignable (declarations p)) x ≡ Some u
+    → (is_among x (variable_names p.registers) ≡ true) ⊎ (is_among x (variable_names p.wires) ≡ true)
 assigned_among p x u h =
     let rs : Scope = map (λ r. (r.name, r.width)) p.registers in
     let ws : Scope = map (λ r. (r.name, r.width)) p.wires in
@@ -129,7 +131,9 @@ action_own : (p : Nested) (a : Action) → ActionFine (declarations p) a → kee
 action_own p (set x t) f k = assigned_own (is_among x (declared (declarations p))) (is_among x (seats p)) (assigned_declared p x f.0 f.1) k
 action_own p (put m i t) f k = refl
 
-body_own : (p : Nested) → GatesDiffer p → (seat : Name) (group : Forest) → is_among seat (seats p) ≡ true → AreSeats (seats p) group → (fell : ℕ) (gs : List Name) (nested : Bool) (b : Body) → BodyFine (declarations p) (seats p) gs nested b → (j k : ℕ) → own p (flat_body seat group fell b j k).commands ≡ body_actions b
+body_own : (p : Nested) → GatesDiffer p → (seat : Name) (group : Forest) → is_among seat (seats p) ≡ true → AreSeats (seats p) group
+    → (fell : ℕ) (gs : List Name) (nested : Bool) (b : Body) → BodyFine (declarations p) (seats p) gs nested b → (j k : ℕ)
+    → own p (flat_body seat group fell b j k).commands ≡ body_actions b
 body_own p g seat group s h fell gs nested stop f j k = refl
 body_own p g seat group s h fell gs nested (act a rest) f j k =
     one_more p (under j a) (flat_body seat group fell rest j k).commands (action_own p a f.0 f.1)
@@ -156,7 +160,9 @@ body_own p g seat group s h fell gs nested (fall rest) f j k =
     none_more p (under j (set (gate_name fell) (constant 1 1))) (flat_body seat group fell rest j k).commands (gate_other p g fell (constant 1 1))
     ∙ body_own p g seat group s h fell gs nested rest f.1 j k
 
-group_own : (p : Nested) → GatesDiffer p → (seat : Name) (group : Forest) → is_among seat (seats p) ≡ true → AreSeats (seats p) group → (gs : List Name) (f : Forest) → ForestFine (declarations p) (seats p) gs f → AreSeats (seats p) f → (j k : ℕ) → own p (flat_group seat group f j k).commands ≡ forest_actions f
+group_own : (p : Nested) → GatesDiffer p → (seat : Name) (group : Forest) → is_among seat (seats p) ≡ true → AreSeats (seats p) group
+    → (gs : List Name) (f : Forest) → ForestFine (declarations p) (seats p) gs f → AreSeats (seats p) f → (j k : ℕ)
+    → own p (flat_group seat group f j k).commands ≡ forest_actions f
 group_own p g seat group s h gs none fine fs j k = refl
 group_own p g seat group s h gs (state x b kids rest) fine fs j k =
     let d = flat_body seat group k b j (k + 1 + size kids) in
@@ -165,7 +171,8 @@ group_own p g seat group s h gs (state x b kids rest) fine fs j k =
     let gates : List Command = flat_gates (read (gate_name k)) (seat_name x) (seat_width (size kids)) kids 0 (k + 1) in
     let below : own p (gates ++ c.commands) ≡ forest_actions kids =
     both_own p gates c.commands
-    ∙ rw (gates_own p g (read (gate_name k)) (seat_name x) (seat_width (size kids)) kids 0 (k + 1)) (group_own p g (seat_name x) kids fs.0 fs.1 (group_names kids) kids fine.3 fs.1 (k + 1) d.next) in
+    ∙ rw (gates_own p g (read (gate_name k)) (seat_name x) (seat_width (size kids)) kids 0 (k + 1))
+    (group_own p g (seat_name x) kids fs.0 fs.1 (group_names kids) kids fine.3 fs.1 (k + 1) d.next) in
     both_own p (d.commands ++ (gates ++ c.commands)) r.commands
     ∙ ap₂ (λ (xs ys : List Action). xs ++ ys)
     (both_own p d.commands (gates ++ c.commands)
@@ -176,7 +183,8 @@ seat_among : (x : Name) (xs : List Name) → is_among x xs ≡ true → is_among
 seat_among x [] h = absurd (cc)
 seat_among x (y ∷ xs) h =
     elim (cases_Bool (bytes_eq x y)) [
-      | inl t ↦ among_front (seat_name x) (seat_name y ∷ []) (map seat_name xs) (rw (subst (λ (z : Name). bytes_eq (seat_name x) (seat_name z) ≡ true) (equal_of_bytes_eq x y t) (bytes_eq_same (seat_name x))) refl)
+      | inl t ↦ among_front (seat_name x) (seat_name y ∷ []) (map seat_name xs)
+          (rw (subst (λ (z : Name). bytes_eq (seat_name x) (seat_name z) ≡ true) (equal_of_bytes_eq x y t) (bytes_eq_same (seat_name x))) refl)
       | inr f ↦ among_behind (seat_name x) (seat_name y ∷ []) (map seat_name xs) (seat_among x xs (rw f at h))
     ]
 

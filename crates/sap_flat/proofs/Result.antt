@@ -24,7 +24,10 @@ abbrev from_parts : (inputs wires registers : List Var) → List MemoryVariable 
 from_parts is ws rs ms ps cs = record { inputs = is; wires = ws; registers = rs; memories = ms; ports = ps; commands = cs }
 
 -- the program of its parts
-pub source_made : (p : Nested) (inputs wires registers : List Var) (memories : List MemoryVariable) (ports : List Name) (commands : List Command) (gates : ℕ) → inputs ≡ p.inputs → wires ≡ p.wires ++ gate_wires 0 gates → registers ≡ p.registers → memories ≡ p.memories → ports ≡ p.ports → commands ≡ (flat_states p.states).commands → gates ≡ (flat_states p.states).next → ◌≡◌ {A = Source} (record { inputs = inputs; wires = wires; registers = registers; memories = memories; ports = ports; commands = commands }) (flattened p)
+pub source_made : (p : Nested) (inputs wires registers : List Var) (memories : List MemoryVariable) (ports : List Name)
+    (commands : List Command) (gates : ℕ) → inputs ≡ p.inputs → wires ≡ p.wires ++ gate_wires 0 gates → registers ≡ p.registers
+    → memories ≡ p.memories → ports ≡ p.ports → commands ≡ (flat_states p.states).commands → gates ≡ (flat_states p.states).next
+    → ◌≡◌ {A = Source} (record { inputs = inputs; wires = wires; registers = registers; memories = memories; ports = ports; commands = commands }) (flattened p)
 source_made p inputs wires registers memories ports commands gates a b c d e f g =
     let w : wires ≡ p.wires ++ gate_wires 0 (flat_states p.states).next = b ∙ ap (λ (n : ℕ). p.wires ++ gate_wires 0 n) g in
     ap (λ (x : List Var). from_parts x wires registers memories ports commands) a

@@ -24,7 +24,8 @@ runs_off vw g h c cs ms z r =
 on_command : (vw : Name → ℕ) (g : Going) (c : Command) → (value_in vw g c.when == 0) ≡ false → after_command vw g c ≡ after_action vw g c.act
 on_command vw g c q = rw q refl
 
-pub runs_on : (vw : Name → ℕ) (g h : Going) (c : Command) (cs : List Command) (ms : List Name) → (value_in vw g c.when == 0) ≡ false → Runs vw (after_action vw g c.act) cs h ms → Runs vw g (c ∷ cs) h (with_memory c.act ms)
+pub runs_on : (vw : Name → ℕ) (g h : Going) (c : Command) (cs : List Command) (ms : List Name) → (value_in vw g c.when == 0) ≡ false
+    → Runs vw (after_action vw g c.act) cs h ms → Runs vw g (c ∷ cs) h (with_memory c.act ms)
 runs_on vw g h c cs ms q r =
     record { ends = ap (λ x. after vw x cs) (on_command vw g c q) ∙ r.ends; writes = rw q (ap (with_memory c.act) r.writes) }
 

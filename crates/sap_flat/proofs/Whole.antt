@@ -60,17 +60,20 @@ cells_same p None (Some w) h = absurd h
 cells_same p (Some v) None h = absurd h
 cells_same p (Some v) (Some w) h = h.memories
 
-register_same : (b c : Option Valuation) (rs : List Var) → AllByRecursion (λ x. first_number b x ≡ first_number c x) rs → (n : Name) → register_number b rs n ≡ register_number c rs n
+register_same : (b c : Option Valuation) (rs : List Var) → AllByRecursion (λ x. first_number b x ≡ first_number c x) rs → (n : Name)
+    → register_number b rs n ≡ register_number c rs n
 register_same b c [] a n = refl
 register_same b c (x ∷ xs) a n =
     elim (cases_Bool (bytes_eq x.name n)) [ inl t ↦ rw t a.0 | inr f ↦ rw f (register_same b c xs a.1 n) ]
 
-cell_same : (b c : Option Valuation) (ms : List MemoryVariable) → AllByRecursion (λ m. (i : ℕ) → first_cell b m i ≡ first_cell c m i) ms → (n : Name) (i : ℕ) → cell_at_start b ms n i ≡ cell_at_start c ms n i
+cell_same : (b c : Option Valuation) (ms : List MemoryVariable) → AllByRecursion (λ m. (i : ℕ) → first_cell b m i ≡ first_cell c m i) ms
+    → (n : Name) (i : ℕ) → cell_at_start b ms n i ≡ cell_at_start c ms n i
 cell_same b c [] a n i = refl
 cell_same b c (m ∷ ms) a n i =
     elim (cases_Bool (bytes_eq m.name n)) [ inl t ↦ rw t (a.0 i) | inr f ↦ rw f (cell_same b c ms a.1 n i) ]
 
-number_same : (s t : Source) (b c : Option Valuation) (n : Name) → register_number b s.registers n ≡ register_number c t.registers n → (is : List Var) (xs : List ℕ) → number_at_start s b is xs n ≡ number_at_start t c is xs n
+number_same : (s t : Source) (b c : Option Valuation) (n : Name) → register_number b s.registers n ≡ register_number c t.registers n
+    → (is : List Var) (xs : List ℕ) → number_at_start s b is xs n ≡ number_at_start t c is xs n
 number_same s t b c n e [] xs = e
 number_same s t b c n e (i ∷ is) [] = e
 number_same s t b c n e (i ∷ is) (x ∷ xs) =
@@ -93,7 +96,8 @@ other_number b (x ∷ xs) n h =
       | inr f ↦ rw (bytes_eq_apart_back n x.name f) (other_number b xs n (rw f at h))
     ]
 
-other_start : (s : Source) (b : Option Valuation) (n : Name) → register_number b s.registers n ≡ 0 → (is : List Var) (xs : List ℕ) → is_among n (variable_names is) ≡ false → number_at_start s b is xs n ≡ 0
+other_start : (s : Source) (b : Option Valuation) (n : Name) → register_number b s.registers n ≡ 0 → (is : List Var) (xs : List ℕ)
+    → is_among n (variable_names is) ≡ false → number_at_start s b is xs n ≡ 0
 other_start s b n e [] xs h = e
 other_start s b n e (i ∷ is) [] h = e
 other_start s b n e (i ∷ is) (x ∷ xs) h =
@@ -132,11 +136,13 @@ cycled p h b c sb xs =
     let k = begun s c xs in
     let n = k.now.value root_seat in
     let found : has_states f ≡ true → (u : ℕ) × (find (readable s) root_seat ≡ Some u) = λ t. (seat_width (size f), seat_found s vf vp w root_seat f h.root t) in
-    let gd = gates_on s vf vp w (constant 1 1) root_seat (seat_width (size f)) f found 0 n 0 (size f) (λ x i m l q. q) (omega arith) g k refl (omega arith) (λ i l. begun_zero p h b xs i (omega arith)) (begun_alike p b c sb xs) in
+    let gd = gates_on s vf vp w (constant 1 1) root_seat (seat_width (size f)) f found 0 n 0 (size f) (λ x i m l q. q) (omega arith) g k
+    refl (omega arith) (λ i l. begun_zero p h b xs i (omega arith)) (begun_alike p b c sb xs) in
     let d = on_group s vf vp w (seats p) root_seat f h.root h.states_fine f h.states_fine n 0 (size f) gd.end k (omega arith) gd.gates gd.free gd.alike in
     record {
       end = d.end;
-      runs = runs_append vf g gd.end d.end (flat_gates (constant 1 1) root_seat (seat_width (size f)) f 0 0) (flat_group root_seat f f 0 (size f)).commands [] (child_writes vp (enter root_seat f) f n k) gd.runs d.runs;
+      runs = runs_append vf g gd.end d.end (flat_gates (constant 1 1) root_seat (seat_width (size f)) f 0 0)
+          (flat_group root_seat f f 0 (size f)).commands [] (child_writes vp (enter root_seat f) f n k) gd.runs d.runs;
       alike = d.alike;
     }
 
@@ -160,7 +166,8 @@ cycle_same p h b c sb xs =
 
 -- runs
 
-runs_same : (p : Nested) → IsPlain p → (b c : Option Valuation) → SameBefore p b c → (xss : List (List ℕ)) → AllZip (SameNumbers p) (flat.run_after (flattened p) b xss) (plain.run_after p c xss)
+runs_same : (p : Nested) → IsPlain p → (b c : Option Valuation) → SameBefore p b c → (xss : List (List ℕ))
+    → AllZip (SameNumbers p) (flat.run_after (flattened p) b xss) (plain.run_after p c xss)
 runs_same p h b c sb [] = tt
 runs_same p h b c sb (xs ∷ xss) =
     let e = cycle_same p h b c sb xs in

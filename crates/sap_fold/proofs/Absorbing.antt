@@ -48,14 +48,18 @@ or_and x y =
 
 -- an operator on operands of one width is its first or its second operand
 
-two_first : (ws : List Wire) (u : ℕ) (op : Op2) (a b : Operand) → KeepsWidth op → ((widths : Name → ℕ) (v : Valuation) → (ms : Shapes) (sc : Scope) → Over ms sc ws widths v → right_value widths v (Two op a b) ≡ operand_value v a) → Equals ws u (Two op a b) (Copy a)
+two_first : (ws : List Wire) (u : ℕ) (op : Op2) (a b : Operand) → KeepsWidth op
+    → ((widths : Name → ℕ) (v : Valuation) → (ms : Shapes) (sc : Scope) → Over ms sc ws widths v
+    → right_value widths v (Two op a b) ≡ operand_value v a) → Equals ws u (Two op a b) (Copy a)
 two_first ws u op a b keeps k =
     record {
       fits = λ ms sc f h. subst (λ (n : ℕ). IsOperand (readable_after sc ws) n a) (sym (h.7 ∙ keeps h.0)) h.4;
       same = λ ms sc widths v o h. k widths v ms sc o;
     }
 
-two_second : (ws : List Wire) (u : ℕ) (op : Op2) (a b : Operand) → KeepsWidth op → SameWidths op → ((widths : Name → ℕ) (v : Valuation) → (ms : Shapes) (sc : Scope) → Over ms sc ws widths v → right_value widths v (Two op a b) ≡ operand_value v b) → Equals ws u (Two op a b) (Copy b)
+two_second : (ws : List Wire) (u : ℕ) (op : Op2) (a b : Operand) → KeepsWidth op → SameWidths op
+    → ((widths : Name → ℕ) (v : Valuation) → (ms : Shapes) (sc : Scope) → Over ms sc ws widths v
+    → right_value widths v (Two op a b) ≡ operand_value v b) → Equals ws u (Two op a b) (Copy b)
 two_second ws u op a b keeps same k =
     record {
       fits = λ ms sc f h. subst (λ (n : ℕ). IsOperand (readable_after sc ws) n b) (same h.0 h.1 h.6 ∙ sym (h.7 ∙ keeps h.0)) h.5;
@@ -88,7 +92,8 @@ absorbs_and ws a b (Two And x y) d =
     (λ t u. two_first ws u And a b (λ n. refl)
     (λ widths v ms sc o.
     let e : operand_value v a ≡ bit_and (operand_value v x) (operand_value v y) = defined_same widths v ws a (Two And x y) o.holds d in
-    ap (λ (n : ℕ). bit_and n (operand_value v b)) e ∙ inner bit_and bit_and and_comm and_and (operand_value v x) (operand_value v y) (operand_value v b) (one_of v b x y t) ∙ sym e))
+    ap (λ (n : ℕ). bit_and n (operand_value v b)) e
+    ∙ inner bit_and bit_and and_comm and_and (operand_value v x) (operand_value v y) (operand_value v b) (one_of v b x y t) ∙ sym e))
 absorbs_and ws a b (Two Or x y) d =
     absorbs_if ws And a b (is_one_of b x y) Second
     (λ t u. two_second ws u And a b (λ n. refl) (λ n m c. c)
@@ -103,9 +108,11 @@ chosen_or_zero true o x y (inr e) = ap (λ (n : ℕ). bit_or n o) e.0 ∙ or_sel
 chosen_or_zero false o x y (inl e) = ap (λ (n : ℕ). bit_or n o) e.0 ∙ or_self o
 chosen_or_zero false o x y (inr e) = ap (λ (n : ℕ). bit_or n o) e.1 ∙ or_zero_l o
 
-or_zero_is : (v : Valuation) (o x y : Operand) → is_or_zero o x y ≡ true → ((operand_value v x ≡ operand_value v o) × (operand_value v y ≡ 0)) ⊎ ((operand_value v y ≡ operand_value v o) × (operand_value v x ≡ 0))
+or_zero_is : (v : Valuation) (o x y : Operand) → is_or_zero o x y ≡ true
+    → ((operand_value v x ≡ operand_value v o) × (operand_value v y ≡ 0)) ⊎ ((operand_value v y ≡ operand_value v o) × (operand_value v x ≡ 0))
 or_zero_is v o x y h =
-    or_elim (same_operand x o && is_number y 0) (same_operand y o && is_number x 0) (((operand_value v x ≡ operand_value v o) × (operand_value v y ≡ 0)) ⊎ ((operand_value v y ≡ operand_value v o) × (operand_value v x ≡ 0)))
+    or_elim (same_operand x o && is_number y 0) (same_operand y o && is_number x 0)
+    (((operand_value v x ≡ operand_value v o) × (operand_value v y ≡ 0)) ⊎ ((operand_value v y ≡ operand_value v o) × (operand_value v x ≡ 0)))
     (λ t. let q = and_parts (same_operand x o) (is_number y 0) t in inl (ap (operand_value v) (same_is x o q.0), number_is v y 0 q.1))
     (λ t. let q = and_parts (same_operand y o) (is_number x 0) t in inr (ap (operand_value v) (same_is y o q.0), number_is v x 0 q.1)) h
 
@@ -132,11 +139,13 @@ absorbs_or ws a b _ d = tt
 
 -- the operands exchanged
 
-turned : (ws : List Wire) (u : ℕ) (op : Op2) (f : ℕ → ℕ → ℕ) (a b : Operand) → SameWidths op → ((n m : ℕ) → n ≡ m → CountFits op n m) → ((n y z : ℕ) → value2 op n y z ≡ f y z) → ((y z : ℕ) → f y z ≡ f z y) → Equals ws u (Two op a b) (Two op b a)
+turned : (ws : List Wire) (u : ℕ) (op : Op2) (f : ℕ → ℕ → ℕ) (a b : Operand) → SameWidths op → ((n m : ℕ) → n ≡ m → CountFits op n m)
+    → ((n y z : ℕ) → value2 op n y z ≡ f y z) → ((y z : ℕ) → f y z ≡ f z y) → Equals ws u (Two op a b) (Two op b a)
 turned ws u op f a b same count is comm =
     record {
       fits = λ ms sc g h. let e = same h.0 h.1 h.6 in (h.1, h.0, h.3, h.2, h.5, h.4, count h.1 h.0 e, h.7 ∙ ap (width2 op) (sym e));
-      same = λ ms sc widths v o h. is (operand_width widths a) (operand_value v a) (operand_value v b) ∙ comm (operand_value v a) (operand_value v b) ∙ sym (is (operand_width widths b) (operand_value v b) (operand_value v a));
+      same = λ ms sc widths v o h. is (operand_width widths a) (operand_value v a) (operand_value v b)
+          ∙ comm (operand_value v a) (operand_value v b) ∙ sym (is (operand_width widths b) (operand_value v b) (operand_value v a));
     }
 
 turned_and : (ws : List Wire) (u : ℕ) (a b : Operand) → Equals ws u (Two And a b) (Two And b a)

@@ -26,11 +26,13 @@ use Rattle.sap_fold.specs.Under.{number, is_and, IsBitwise, Under}
 use Rattle.sap_fold.proofs.Provided.{provided, provided_value, grows_more, over_first}
 use Rattle.sap_fold.proofs.Folds.{KeepsWidth, SameWidths, bit_cases, one_or}
 
-behind : {taken : Name → Bool} {ms : Shapes} {sc : Scope} {ws mid : List Wire} {next nm u : ℕ} → Stand taken ms sc ws next u → Numbers taken mid nm → AreWires ms sc mid → Stand taken ms sc mid nm u
+behind : {taken : Name → Bool} {ms : Shapes} {sc : Scope} {ws mid : List Wire} {next nm u : ℕ} → Stand taken ms sc ws next u
+    → Numbers taken mid nm → AreWires ms sc mid → Stand taken ms sc mid nm u
 behind s named fits = record { apart = s.apart; named = named; fits = fits; wide = s.wide }
 
 -- a right side that is provided gives its operand
-pub gives_provided : (taken : Name → Bool) (ws : List Wire) (next u : ℕ) (r : Right) (o : Operand) (after : List Wire) (na : ℕ) → Provides taken ws next u r o after na → Gives taken ws next u r o after na
+pub gives_provided : (taken : Name → Bool) (ws : List Wire) (next u : ℕ) (r : Right) (o : Operand) (after : List Wire) (na : ℕ)
+    → Provides taken ws next u r o after na → Gives taken ws next u r o after na
 gives_provided taken ws next u r o after na a =
     record {
       fits = λ ms sc s h. provided taken ms sc ws next u r o after na s.apart s.named s.fits s.wide h a;
@@ -45,7 +47,8 @@ becomes_equal taken ws next u a b e =
       same = λ ms sc widths v s h over. e.same ms sc widths v over h;
     }
 
-pub becomes_both : (taken : Name → Bool) (ws : List Wire) (next u : ℕ) (a b c : Right) (mid : List Wire) (nm : ℕ) (after : List Wire) (na : ℕ) → Becomes taken ws next u a b mid nm → Becomes taken mid nm u b c after na → Becomes taken ws next u a c after na
+pub becomes_both : (taken : Name → Bool) (ws : List Wire) (next u : ℕ) (a b c : Right) (mid : List Wire) (nm : ℕ) (after : List Wire) (na : ℕ)
+    → Becomes taken ws next u a b mid nm → Becomes taken mid nm u b c after na → Becomes taken ws next u a c after na
 becomes_both taken ws next u a b c mid nm after na d e =
     record {
       grown = λ ms sc s h.
@@ -68,7 +71,8 @@ becomes_both taken ws next u a b c mid nm after na d e =
           ∙ e.same ms sc widths v (behind s g.named g.fits) i over;
     }
 
-pub gives_becoming : (taken : Name → Bool) (ws : List Wire) (next u : ℕ) (a b : Right) (o : Operand) (mid : List Wire) (nm : ℕ) (after : List Wire) (na : ℕ) → Becomes taken ws next u a b mid nm → Gives taken mid nm u b o after na → Gives taken ws next u a o after na
+pub gives_becoming : (taken : Name → Bool) (ws : List Wire) (next u : ℕ) (a b : Right) (o : Operand) (mid : List Wire) (nm : ℕ)
+    (after : List Wire) (na : ℕ) → Becomes taken ws next u a b mid nm → Gives taken mid nm u b o after na → Gives taken ws next u a o after na
 gives_becoming taken ws next u a b o mid nm after na d e =
     record {
       fits = λ ms sc s h.
@@ -98,7 +102,8 @@ arm_itself taken ws next u c n a =
       same = λ ms sc widths v s hc ha over i. refl;
     }
 
-pub arm_known : (taken : Name → Bool) (ws : List Wire) (next u : ℕ) (c : Operand) (n : ℕ) (a : Operand) (r q : Right) (p : Operand) (after : List Wire) (na : ℕ) → Under ws c n a r → Equals ws u r q → Provides taken ws next u q p after na → ArmGives taken ws next u c n a p after na
+pub arm_known : (taken : Name → Bool) (ws : List Wire) (next u : ℕ) (c : Operand) (n : ℕ) (a : Operand) (r q : Right) (p : Operand)
+    (after : List Wire) (na : ℕ) → Under ws c n a r → Equals ws u r q → Provides taken ws next u q p after na → ArmGives taken ws next u c n a p after na
 arm_known taken ws next u c n a r q p after na k e g =
     record {
       fits = λ ms sc s hc ha. provided taken ms sc ws next u q p after na s.apart s.named s.fits s.wide (e.fits ms sc s.fits (k.fits ms sc u s.fits hc ha)) g;
@@ -113,7 +118,8 @@ is_one : (x : ℕ) → x < 2 ^ 1 → (x == 0) ≡ false → x ≡ 1
 is_one x l h = let k = positive_of_test x h in omega (arith, k, l)
 
 -- a choice where each arm was simplified, one after the other
-pub arms_become : (taken : Name → Bool) (ws : List Wire) (next u : ℕ) (c a b p q : Operand) (mid : List Wire) (nm : ℕ) (after : List Wire) (na : ℕ) → ArmGives taken ws next u c 1 a p mid nm → ArmGives taken mid nm u c 0 b q after na → Becomes taken ws next u (Choose c a b) (Choose c p q) after na
+pub arms_become : (taken : Name → Bool) (ws : List Wire) (next u : ℕ) (c a b p q : Operand) (mid : List Wire) (nm : ℕ) (after : List Wire)
+    (na : ℕ) → ArmGives taken ws next u c 1 a p mid nm → ArmGives taken mid nm u c 0 b q after na → Becomes taken ws next u (Choose c a b) (Choose c p q) after na
 arms_become taken ws next u c a b p q mid nm after na d e =
     record {
       grown = λ ms sc s h.
@@ -168,10 +174,14 @@ or_first x y z h i j k =
 abbrev Decides : (f : ℕ → ℕ → ℕ) (n : ℕ) → Type 0
 Decides f n = (x y z : ℕ) → x < 2 ^ 1 → y < 2 ^ 1 → z < 2 ^ 1 → (x ≡ n → y ≡ z) → f x y ≡ f x z
 
-both_bits : (taken : Name → Bool) (ws : List Wire) (next : ℕ) (op : Op2) (f : ℕ → ℕ → ℕ) (n : ℕ) (a b p q : Operand) (mid : List Wire) (nm : ℕ) (after : List Wire) (na : ℕ) → KeepsWidth op → SameWidths op → ((u : ℕ) → CountFits op u u) → ((u y z : ℕ) → value2 op u y z ≡ f y z) → ((y z : ℕ) → f y z ≡ f z y) → Decides f n → ArmGives taken ws next 1 a n b q mid nm → ArmGives taken mid nm 1 q n a p after na → Becomes taken ws next 1 (Two op a b) (Two op p q) after na
+both_bits : (taken : Name → Bool) (ws : List Wire) (next : ℕ) (op : Op2) (f : ℕ → ℕ → ℕ) (n : ℕ) (a b p q : Operand) (mid : List Wire)
+    (nm : ℕ) (after : List Wire) (na : ℕ) → KeepsWidth op → SameWidths op → ((u : ℕ) → CountFits op u u)
+    → ((u y z : ℕ) → value2 op u y z ≡ f y z) → ((y z : ℕ) → f y z ≡ f z y) → Decides f n → ArmGives taken ws next 1 a n b q mid nm
+    → ArmGives taken mid nm 1 q n a p after na → Becomes taken ws next 1 (Two op a b) (Two op p q) after na
 both_bits taken ws next op f n a b p q mid nm after na keeps same count is comm decides d e =
     let ha : (ms : Shapes) (sc : Scope) → IsRight ms sc 1 (Two op a b) → IsOperand sc 1 a = λ ms sc h. subst (λ (k : ℕ). IsOperand sc k a) (sym (h.7 ∙ keeps h.0)) h.4 in
-    let hb : (ms : Shapes) (sc : Scope) → IsRight ms sc 1 (Two op a b) → IsOperand sc 1 b = λ ms sc h. subst (λ (k : ℕ). IsOperand sc k b) (same h.0 h.1 h.6 ∙ sym (h.7 ∙ keeps h.0)) h.5 in
+    let hb : (ms : Shapes) (sc : Scope) → IsRight ms sc 1 (Two op a b) → IsOperand sc 1 b =
+    λ ms sc h. subst (λ (k : ℕ). IsOperand sc k b) (same h.0 h.1 h.6 ∙ sym (h.7 ∙ keeps h.0)) h.5 in
     record {
       grown = λ ms sc s h.
           let x = d.fits ms sc s (ha ms _ h) (hb ms _ h) in
@@ -208,7 +218,9 @@ both_bits taken ws next op f n a b p q mid nm after na keeps same count is comm 
           ∙ sym (is (operand_width widths p) (operand_value v p) (operand_value v q));
     }
 
-pub bits_become : (taken : Name → Bool) (ws : List Wire) (next : ℕ) (op : Op2) (a b p q : Operand) (mid : List Wire) (nm : ℕ) (after : List Wire) (na : ℕ) → (bits : IsBitwise op) → ArmGives taken ws next 1 a (number (is_and op)) b q mid nm → ArmGives taken mid nm 1 q (number (is_and op)) a p after na → Becomes taken ws next 1 (Two op a b) (Two op p q) after na
+pub bits_become : (taken : Name → Bool) (ws : List Wire) (next : ℕ) (op : Op2) (a b p q : Operand) (mid : List Wire) (nm : ℕ)
+    (after : List Wire) (na : ℕ) → (bits : IsBitwise op) → ArmGives taken ws next 1 a (number (is_and op)) b q mid nm
+    → ArmGives taken mid nm 1 q (number (is_and op)) a p after na → Becomes taken ws next 1 (Two op a b) (Two op p q) after na
 bits_become taken ws next And a b p q mid nm after na bits d e =
     both_bits taken ws next And bit_and 1 a b p q mid nm after na (λ u. refl) (λ u y z. z) (λ u. refl) (λ u y z. refl) and_comm (λ x y z h i j k. and_first x y z h k) d e
 bits_become taken ws next Or a b p q mid nm after na bits d e =

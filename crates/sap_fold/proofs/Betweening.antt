@@ -83,7 +83,8 @@ bits_on : (t : Bool) (a b p q x y : ℕ) → a ≡ p * 2 + x → b ≡ q * 2 + y
 bits_on true a b p q x y e f = sym f
 bits_on false a b p q x y e f = sym e
 
-between_push : (c : Operand) (k w a b : ℕ) (ps : List Operand) (p : Operand) → k < w → Between c (k + 1) w a b ps → BitChosen c p (a / 2 ^ k % 2) (b / 2 ^ k % 2) → Between c k w a b (ps ++ p ∷ [])
+between_push : (c : Operand) (k w a b : ℕ) (ps : List Operand) (p : Operand) → k < w → Between c (k + 1) w a b ps
+    → BitChosen c p (a / 2 ^ k % 2) (b / 2 ^ k % 2) → Between c k w a b (ps ++ p ∷ [])
 between_push c k w a b ps p l s d =
     record {
       fits = λ sc hc.
@@ -97,7 +98,8 @@ between_push c k w a b ps p l s d =
           ∙ bits_on (operand_value v c == 0) (a / 2 ^ k) (b / 2 ^ k) (a / 2 ^ (k + 1)) (b / 2 ^ (k + 1)) (a / 2 ^ k % 2) (b / 2 ^ k % 2) (halves a k) (halves b k);
     }
 
-pub between_more : (c : Operand) (k w a b : ℕ) (ps : List Operand) (p : Operand) (qs : List Operand) → k < w → Between c (k + 1) w a b ps → between c (bit_test a k) (bit_test b k) ≡ Some p → AddsPart ps p qs → Between c k w a b qs
+pub between_more : (c : Operand) (k w a b : ℕ) (ps : List Operand) (p : Operand) (qs : List Operand) → k < w → Between c (k + 1) w a b ps
+    → between c (bit_test a k) (bit_test b k) ≡ Some p → AddsPart ps p qs → Between c k w a b qs
 between_more c k w a b ps p qs l s h g =
     let d = bit_between c p (bit_test a k) (bit_test b k) (a / 2 ^ k % 2) (b / 2 ^ k % 2) (bit_is a k (bit_test a k) refl).is (bit_is b k (bit_test b k) refl).is h in
     let m = between_push c k w a b ps p l s d in
@@ -115,7 +117,8 @@ over_one : (t : Bool) (a b : ℕ) → (if t then b / 1 else a / 1) ≡ (if t the
 over_one true a b = omega arith
 over_one false a b = omega arith
 
-pub between_all : (ws : List Wire) (w : ℕ) (c : Operand) (i j a b : ℕ) (ps : List Operand) → Between c 0 w a b ps → 2 ≤ length ps → Equals ws w (Choose c (Constant i a) (Constant j b)) (Concat ps)
+pub between_all : (ws : List Wire) (w : ℕ) (c : Operand) (i j a b : ℕ) (ps : List Operand) → Between c 0 w a b ps → 2 ≤ length ps
+    → Equals ws w (Choose c (Constant i a) (Constant j b)) (Concat ps)
 between_all ws w c i j a b ps s l =
     record {
       fits = λ ms sc f h. let e : w - 0 ≡ w = omega arith in (l, subst (λ (n : ℕ). AreOperands (readable_after sc ws) n ps) e (s.fits (readable_after sc ws) h.0));
@@ -127,7 +130,8 @@ number_is_in : (o : Operand) (n : ℕ) → number_in o ≡ Some n → (w : ℕ) 
 number_is_in (Named x) n h = absurd (cc)
 number_is_in (Constant w m) n h = let e : m ≡ n = cc in (w, ap (Constant w) e)
 
-pub between_choice : (ws : List Wire) (w : ℕ) (c a b : Operand) (m n : ℕ) (ps : List Operand) → number_in a ≡ Some m → number_in b ≡ Some n → Between c 0 w m n ps → 2 ≤ length ps → Equals ws w (Choose c a b) (Concat ps)
+pub between_choice : (ws : List Wire) (w : ℕ) (c a b : Operand) (m n : ℕ) (ps : List Operand) → number_in a ≡ Some m → number_in b ≡ Some n
+    → Between c 0 w m n ps → 2 ≤ length ps → Equals ws w (Choose c a b) (Concat ps)
 between_choice ws w c a b m n ps f g s l =
     let x = number_is_in a m f in
     let y = number_is_in b n g in

@@ -38,7 +38,8 @@ use Rattle.sap_fold.proofs.Lists.{or_elim}
 -- Over any names: where a is a right side of width u, so is b, and both have the same value.
 pub record Same (u : ℕ) (a b : Right) : Type 0 where
   pub fit : (ms : Shapes) (sc : Scope) → IsRight ms sc u a → IsRight ms sc u b
-  pub value : (ms : Shapes) (sc : Scope) (widths : Name → ℕ) (v : Valuation) → WidthsAre sc widths → ValuesBelow sc v → IsRight ms sc u a → right_value widths v a ≡ right_value widths v b
+  pub value : (ms : Shapes) (sc : Scope) (widths : Name → ℕ) (v : Valuation) → WidthsAre sc widths → ValuesBelow sc v → IsRight ms sc u a
+      → right_value widths v a ≡ right_value widths v b
 
 pub equals_from : (ws : List Wire) (u : ℕ) (a b : Right) → Same u a b → Equals ws u a b
 equals_from ws u a b s =
@@ -100,11 +101,14 @@ facts op ms sc v w a b below h =
       right_below = operand_below sc v below h.1 b h.5;
     }
 
-two_value_at : (op : Op2) (a b : Operand) (sc : Scope) (widths : Name → ℕ) (v : Valuation) (u : ℕ) → WidthsAre sc widths → IsOperand sc u a → right_value widths v (Two op a b) ≡ value2 op u (operand_value v a) (operand_value v b)
+two_value_at : (op : Op2) (a b : Operand) (sc : Scope) (widths : Name → ℕ) (v : Valuation) (u : ℕ) → WidthsAre sc widths → IsOperand sc u a
+    → right_value widths v (Two op a b) ≡ value2 op u (operand_value v a) (operand_value v b)
 two_value_at op a b sc widths v u wide h =
     ap (λ (n : ℕ). value2 op n (operand_value v a) (operand_value v b)) (operand_is_wide sc widths wide u a h)
 
-two_value : (op : Op2) (a b : Operand) (f : (v : Valuation) → ℕ) → Values op a b f → (ms : Shapes) (sc : Scope) (widths : Name → ℕ) (v : Valuation) (w : ℕ) → WidthsAre sc widths → ValuesBelow sc v → IsRight ms sc w (Two op a b) → right_value widths v (Two op a b) ≡ f v
+two_value : (op : Op2) (a b : Operand) (f : (v : Valuation) → ℕ) → Values op a b f
+    → (ms : Shapes) (sc : Scope) (widths : Name → ℕ) (v : Valuation) (w : ℕ) → WidthsAre sc widths → ValuesBelow sc v
+    → IsRight ms sc w (Two op a b) → right_value widths v (Two op a b) ≡ f v
 two_value op a b f k ms sc widths v w wide below h =
     two_value_at op a b sc widths v h.0 wide h.4 ∙ k sc v h.0 h.1 (facts op ms sc v w a b below h)
 
@@ -130,7 +134,8 @@ to_second w op a b e s k =
       value = λ ms sc widths v wide below h. two_value op a b (λ x. operand_value x b) k ms sc widths v w wide below h;
     }
 
-to_number : (w : ℕ) (op : Op2) (a b : Operand) (n : ℕ) → ((ms : Shapes) (sc : Scope) → IsRight ms sc w (Two op a b) → n < 2 ^ w) → Values op a b (λ v. n) → Same w (Two op a b) (Copy (Constant w n))
+to_number : (w : ℕ) (op : Op2) (a b : Operand) (n : ℕ) → ((ms : Shapes) (sc : Scope) → IsRight ms sc w (Two op a b) → n < 2 ^ w)
+    → Values op a b (λ v. n) → Same w (Two op a b) (Copy (Constant w n))
 to_number w op a b n l k =
     record {
       fit = λ ms sc h. (refl, l ms sc h);
@@ -174,7 +179,8 @@ good_and w a b =
     (λ t. to_second w And a b e s (λ sc v u q f.
     or_elim (is_number b 0) (is_full a) (bit_and (operand_value v a) (operand_value v b) ≡ operand_value v b)
     (λ z. let i = number_is v b 0 z in rw i (and_zero_r (operand_value v a)))
-    (λ z. let i = full_is sc v u a f.left z in let l = subst (λ (k : ℕ). operand_value v b < 2 ^ k) f.count f.right_below in rw i (and_comm (2 ^ u - 1) (operand_value v b) ∙ masked (operand_value v b) u l)) t))
+    (λ z. let i = full_is sc v u a f.left z in let l = subst (λ (k : ℕ). operand_value v b < 2 ^ k) f.count f.right_below in
+    rw i (and_comm (2 ^ u - 1) (operand_value v b) ∙ masked (operand_value v b) u l)) t))
     (good_if w And a b (is_number a 0 || is_full b || same_operand a b) First Keep
     (λ t. to_first w And a b e (λ sc v u q f.
     or_elim (is_number a 0 || is_full b) (same_operand a b) (bit_and (operand_value v a) (operand_value v b) ≡ operand_value v a)
@@ -204,7 +210,8 @@ good_or w a b =
     or_elim (is_number b 0 || is_full a) (same_operand a b) (bit_or (operand_value v a) (operand_value v b) ≡ operand_value v a)
     (λ y. or_elim (is_number b 0) (is_full a) (bit_or (operand_value v a) (operand_value v b) ≡ operand_value v a)
     (λ z. ap (bit_or (operand_value v a)) (number_is v b 0 z) ∙ or_zero_r (operand_value v a))
-    (λ z. let i = full_is sc v u a f.left z in let l = subst (λ (k : ℕ). operand_value v b < 2 ^ k) f.count f.right_below in rw i (or_comm (2 ^ u - 1) (operand_value v b) ∙ or_full (operand_value v b) u l)) y)
+    (λ z. let i = full_is sc v u a f.left z in let l = subst (λ (k : ℕ). operand_value v b < 2 ^ k) f.count f.right_below in
+    rw i (or_comm (2 ^ u - 1) (operand_value v b) ∙ or_full (operand_value v b) u l)) y)
     (λ z. ap (bit_or (operand_value v a)) (equal_values a b v z) ∙ or_self (operand_value v a)) t))
     (good_if w Or a b (is_number a 0 || is_full b) Second Keep
     (λ t. to_second w Or a b e s (λ sc v u q f.
@@ -304,24 +311,28 @@ bit_wide : (sc : Scope) (u : ℕ) (o : Operand) (n : ℕ) → IsOperand sc u o �
 bit_wide sc u (Named x) n f h = absurd (cc)
 bit_wide sc u (Constant w m) n f h = sym f.0 ∙ equal_of_test w 1 ((and_parts (w == 1) (m == n) h).0)
 
-bit_first : (w : ℕ) (op : Op2) (a b : Operand) (n : ℕ) → SameWidths op → ((u : ℕ) → width2 op u ≡ 1) → is_bit b n ≡ true → ((x u : ℕ) → x < 2 ^ 1 → value2 op u x n ≡ x) → Same w (Two op a b) (Copy a)
+bit_first : (w : ℕ) (op : Op2) (a b : Operand) (n : ℕ) → SameWidths op → ((u : ℕ) → width2 op u ≡ 1) → is_bit b n ≡ true
+    → ((x u : ℕ) → x < 2 ^ 1 → value2 op u x n ≡ x) → Same w (Two op a b) (Copy a)
 bit_first w op a b n s e t k =
     let one : (sc : Scope) (u q : ℕ) → CountFits op u q → IsOperand sc q b → u ≡ 1 = λ sc u q c h. sym (s u q c) ∙ bit_wide sc q b n h t in
     record {
       fit = λ ms sc h. subst (λ (z : ℕ). IsOperand sc z a) (one sc h.0 h.1 h.6 h.5 ∙ sym (h.7 ∙ e h.0)) h.4;
       value = λ ms sc widths v wide below h.
           two_value op a b (λ x. operand_value x a)
-          (λ sd x u q f. ap (value2 op u (operand_value x a)) (bit_is sd x q b n f.right t) ∙ k (operand_value x a) u (subst (λ (z : ℕ). operand_value x a < 2 ^ z) (one sd u q f.count f.right) f.left_below))
+          (λ sd x u q f. ap (value2 op u (operand_value x a)) (bit_is sd x q b n f.right t)
+          ∙ k (operand_value x a) u (subst (λ (z : ℕ). operand_value x a < 2 ^ z) (one sd u q f.count f.right) f.left_below))
           ms sc widths v w wide below h;
     }
 
-bit_second : (w : ℕ) (op : Op2) (a b : Operand) (n : ℕ) → SameWidths op → ((u : ℕ) → width2 op u ≡ 1) → is_bit a n ≡ true → ((x u : ℕ) → x < 2 ^ 1 → value2 op u n x ≡ x) → Same w (Two op a b) (Copy b)
+bit_second : (w : ℕ) (op : Op2) (a b : Operand) (n : ℕ) → SameWidths op → ((u : ℕ) → width2 op u ≡ 1) → is_bit a n ≡ true
+    → ((x u : ℕ) → x < 2 ^ 1 → value2 op u n x ≡ x) → Same w (Two op a b) (Copy b)
 bit_second w op a b n s e t k =
     record {
       fit = λ ms sc h. subst (λ (z : ℕ). IsOperand sc z b) (s h.0 h.1 h.6 ∙ bit_wide sc h.0 a n h.4 t ∙ sym (h.7 ∙ e h.0)) h.5;
       value = λ ms sc widths v wide below h.
           two_value op a b (λ x. operand_value x b)
-          (λ sd x u q f. ap (λ (y : ℕ). value2 op u y (operand_value x b)) (bit_is sd x u a n f.left t) ∙ k (operand_value x b) u (subst (λ (z : ℕ). operand_value x b < 2 ^ z) (s u q f.count ∙ bit_wide sd u a n f.left t) f.right_below))
+          (λ sd x u q f. ap (λ (y : ℕ). value2 op u y (operand_value x b)) (bit_is sd x u a n f.left t)
+          ∙ k (operand_value x b) u (subst (λ (z : ℕ). operand_value x b < 2 ^ z) (s u q f.count ∙ bit_wide sd u a n f.left t) f.right_below))
           ms sc widths v w wide below h;
     }
 
@@ -344,7 +355,8 @@ zero_differs x h = elim (bit_cases x h) [ inl e ↦ rw e refl | inr e ↦ rw e r
 
 -- the negation of a bit
 
-negated_first : (w : ℕ) (op : Op2) (a b : Operand) (n : ℕ) → SameWidths op → ((u : ℕ) → width2 op u ≡ 1) → is_bit b n ≡ true → ((x u : ℕ) → x < 2 ^ 1 → value2 op u x n ≡ 2 ^ 1 - 1 - x) → Same w (Two op a b) (One Not a)
+negated_first : (w : ℕ) (op : Op2) (a b : Operand) (n : ℕ) → SameWidths op → ((u : ℕ) → width2 op u ≡ 1) → is_bit b n ≡ true
+    → ((x u : ℕ) → x < 2 ^ 1 → value2 op u x n ≡ 2 ^ 1 - 1 - x) → Same w (Two op a b) (One Not a)
 negated_first w op a b n s e t k =
     let one : (sc : Scope) (u q : ℕ) → CountFits op u q → IsOperand sc q b → u ≡ 1 = λ sc u q c h. sym (s u q c) ∙ bit_wide sc q b n h t in
     let left : (ms : Shapes) (sc : Scope) → IsRight ms sc w (Two op a b) → IsOperand sc 1 a = λ ms sc h. subst (λ (z : ℕ). IsOperand sc z a) (one sc h.0 h.1 h.6 h.5) h.4 in
@@ -352,19 +364,23 @@ negated_first w op a b n s e t k =
       fit = λ ms sc h. (1, one_wide, left ms sc h, h.7 ∙ e h.0);
       value = λ ms sc widths v wide below h.
           two_value op a b (λ x. 2 ^ 1 - 1 - operand_value x a)
-          (λ sd x u q f. ap (value2 op u (operand_value x a)) (bit_is sd x q b n f.right t) ∙ k (operand_value x a) u (subst (λ (z : ℕ). operand_value x a < 2 ^ z) (one sd u q f.count f.right) f.left_below))
+          (λ sd x u q f. ap (value2 op u (operand_value x a)) (bit_is sd x q b n f.right t)
+          ∙ k (operand_value x a) u (subst (λ (z : ℕ). operand_value x a < 2 ^ z) (one sd u q f.count f.right) f.left_below))
           ms sc widths v w wide below h
           ∙ sym (ap (λ (z : ℕ). 2 ^ z - 1 - operand_value v a) (operand_is_wide sc widths wide 1 a (left ms sc h)));
     }
 
-negated_second : (w : ℕ) (op : Op2) (a b : Operand) (n : ℕ) → SameWidths op → ((u : ℕ) → width2 op u ≡ 1) → is_bit a n ≡ true → ((x u : ℕ) → x < 2 ^ 1 → value2 op u n x ≡ 2 ^ 1 - 1 - x) → Same w (Two op a b) (One Not b)
+negated_second : (w : ℕ) (op : Op2) (a b : Operand) (n : ℕ) → SameWidths op → ((u : ℕ) → width2 op u ≡ 1) → is_bit a n ≡ true
+    → ((x u : ℕ) → x < 2 ^ 1 → value2 op u n x ≡ 2 ^ 1 - 1 - x) → Same w (Two op a b) (One Not b)
 negated_second w op a b n s e t k =
-    let right : (ms : Shapes) (sc : Scope) → IsRight ms sc w (Two op a b) → IsOperand sc 1 b = λ ms sc h. subst (λ (z : ℕ). IsOperand sc z b) (s h.0 h.1 h.6 ∙ bit_wide sc h.0 a n h.4 t) h.5 in
+    let right : (ms : Shapes) (sc : Scope) → IsRight ms sc w (Two op a b) → IsOperand sc 1 b =
+    λ ms sc h. subst (λ (z : ℕ). IsOperand sc z b) (s h.0 h.1 h.6 ∙ bit_wide sc h.0 a n h.4 t) h.5 in
     record {
       fit = λ ms sc h. (1, one_wide, right ms sc h, h.7 ∙ e h.0);
       value = λ ms sc widths v wide below h.
           two_value op a b (λ x. 2 ^ 1 - 1 - operand_value x b)
-          (λ sd x u q f. ap (λ (y : ℕ). value2 op u y (operand_value x b)) (bit_is sd x u a n f.left t) ∙ k (operand_value x b) u (subst (λ (z : ℕ). operand_value x b < 2 ^ z) (s u q f.count ∙ bit_wide sd u a n f.left t) f.right_below))
+          (λ sd x u q f. ap (λ (y : ℕ). value2 op u y (operand_value x b)) (bit_is sd x u a n f.left t)
+          ∙ k (operand_value x b) u (subst (λ (z : ℕ). operand_value x b < 2 ^ z) (s u q f.count ∙ bit_wide sd u a n f.left t) f.right_below))
           ms sc widths v w wide below h
           ∙ sym (ap (λ (z : ℕ). 2 ^ z - 1 - operand_value v b) (operand_is_wide sc widths wide 1 b (right ms sc h)));
     }
@@ -456,7 +472,8 @@ over_one : (x : ℕ) → x / 1 ≡ x
 over_one x = omega arith
 
 -- a count that is the width or more
-to_past : (w : ℕ) (op : Op2) (a : Operand) (k m : ℕ) → KeepsWidth op → ((x u : ℕ) → u ≤ m → x < 2 ^ u → value2 op u x m ≡ 0) → Good w op a (Constant k m) (if nat_le w m then Number 0 else Keep)
+to_past : (w : ℕ) (op : Op2) (a : Operand) (k m : ℕ) → KeepsWidth op → ((x u : ℕ) → u ≤ m → x < 2 ^ u → value2 op u x m ≡ 0)
+    → Good w op a (Constant k m) (if nat_le w m then Number 0 else Keep)
 to_past w op a k m e h =
     good_if w op a (Constant k m) (nat_le w m) (Number 0) Keep
     (λ t. record {
@@ -589,7 +606,8 @@ bits_same w c a b one =
     let q = and_parts (is_number a 1) (is_number b 0) t in
     record {
       fit = λ ms sc h. subst (λ (k : ℕ). IsOperand sc k c) (sym one) h.0;
-      value = λ ms sc widths v wide below h. bit_itself (operand_value v c) (operand_value v a) (operand_value v b) (operand_below sc v below 1 c h.0) (number_is v a 1 q.0) (number_is v b 0 q.1);
+      value = λ ms sc widths v wide below h. bit_itself (operand_value v c) (operand_value v a) (operand_value v b)
+          (operand_below sc v below 1 c h.0) (number_is v a 1 q.0) (number_is v b 0 q.1);
     })
     (choice_if w c a b (is_number a 0 && is_number b 1) NotCondition _
     (λ t.
@@ -604,13 +622,15 @@ bits_same w c a b one =
     (λ t. record {
       fit = λ ms sc h. (1, 1, one_wide, one_wide, h.0, subst (λ (k : ℕ). IsOperand sc k a) one h.1, refl, one);
       value = λ ms sc widths v wide below h.
-          bit_with (operand_value v c) (operand_value v a) (operand_value v b) (operand_below sc v below 1 c h.0) (operand_below sc v below 1 a (subst (λ (k : ℕ). IsOperand sc k a) one h.1)) (number_is v b 0 t);
+          bit_with (operand_value v c) (operand_value v a) (operand_value v b) (operand_below sc v below 1 c h.0)
+          (operand_below sc v below 1 a (subst (λ (k : ℕ). IsOperand sc k a) one h.1)) (number_is v b 0 t);
     })
     (choice_if w c a b (is_number a 1) ConditionOrSecond Keep
     (λ t. record {
       fit = λ ms sc h. (1, 1, one_wide, one_wide, h.0, subst (λ (k : ℕ). IsOperand sc k b) one h.2, refl, one);
       value = λ ms sc widths v wide below h.
-          bit_or_other (operand_value v c) (operand_value v a) (operand_value v b) (operand_below sc v below 1 c h.0) (operand_below sc v below 1 b (subst (λ (k : ℕ). IsOperand sc k b) one h.2)) (number_is v a 1 t);
+          bit_or_other (operand_value v c) (operand_value v a) (operand_value v b) (operand_below sc v below 1 c h.0)
+          (operand_below sc v below 1 b (subst (λ (k : ℕ). IsOperand sc k b) one h.2)) (number_is v a 1 t);
     })
     (keep w (Choose c a b)))))
 

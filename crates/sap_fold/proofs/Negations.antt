@@ -36,12 +36,16 @@ and_negated c d y h k e =
 
 -- a choice by d that has the value of an operator on the negation of d and b
 abbrev IsChoice : (f : ℕ → ℕ → ℕ) (p q b : Operand) → Type 0
-IsChoice f p q b = (v : Valuation) (c d : ℕ) → d < 2 ^ 1 → operand_value v b < 2 ^ 1 → c ≡ 2 ^ 1 - 1 - d → f c (operand_value v b) ≡ (if d == 0 then operand_value v q else operand_value v p)
+IsChoice f p q b = (v : Valuation) (c d : ℕ) → d < 2 ^ 1 → operand_value v b < 2 ^ 1 → c ≡ 2 ^ 1 - 1 - d
+    → f c (operand_value v b) ≡ (if d == 0 then operand_value v q else operand_value v p)
 
-choice_equals : (ws : List Wire) (op : Op2) (f : ℕ → ℕ → ℕ) (a d b p q : Operand) → KeepsWidth op → SameWidths op → ((u y z : ℕ) → value2 op u y z ≡ f y z) → ((sc : Scope) → IsOperand sc 1 b → IsOperand sc 1 p × IsOperand sc 1 q) → IsChoice f p q b → Defines ws a (One Not d) → Equals ws 1 (Two op a b) (Choose d p q)
+choice_equals : (ws : List Wire) (op : Op2) (f : ℕ → ℕ → ℕ) (a d b p q : Operand) → KeepsWidth op → SameWidths op
+    → ((u y z : ℕ) → value2 op u y z ≡ f y z) → ((sc : Scope) → IsOperand sc 1 b → IsOperand sc 1 p × IsOperand sc 1 q) → IsChoice f p q b
+    → Defines ws a (One Not d) → Equals ws 1 (Two op a b) (Choose d p q)
 choice_equals ws op f a d b p q keeps same is arms choice k =
     let ha : (ms : Shapes) (sc : Scope) → IsRight ms sc 1 (Two op a b) → IsOperand sc 1 a = λ ms sc h. subst (λ (n : ℕ). IsOperand sc n a) (sym (h.7 ∙ keeps h.0)) h.4 in
-    let hb : (ms : Shapes) (sc : Scope) → IsRight ms sc 1 (Two op a b) → IsOperand sc 1 b = λ ms sc h. subst (λ (n : ℕ). IsOperand sc n b) (same h.0 h.1 h.6 ∙ sym (h.7 ∙ keeps h.0)) h.5 in
+    let hb : (ms : Shapes) (sc : Scope) → IsRight ms sc 1 (Two op a b) → IsOperand sc 1 b =
+    λ ms sc h. subst (λ (n : ℕ). IsOperand sc n b) (same h.0 h.1 h.6 ∙ sym (h.7 ∙ keeps h.0)) h.5 in
     record {
       fits = λ ms sc g h.
           let sd = readable_after sc ws in
@@ -62,7 +66,8 @@ choice_equals ws op f a d b p q keeps same is arms choice k =
 -- the first operand is a negation
 pub negated_first : (ws : List Wire) (op : Op2) (a d b : Operand) → IsBitwise op → Defines ws a (One Not d) → Equals ws 1 (Two op a b) (chosen_by op a d b)
 negated_first ws And a d b bits k =
-    choice_equals ws And bit_and a d b (bit false) b (λ u. refl) (λ u y z. z) (λ u y z. refl) (λ sc h. (bit_fits sc 1 false refl, h)) (λ v c x. and_negated c x (operand_value v b)) k
+    choice_equals ws And bit_and a d b (bit false) b (λ u. refl) (λ u y z. z) (λ u y z. refl) (λ sc h. (bit_fits sc 1 false refl, h))
+    (λ v c x. and_negated c x (operand_value v b)) k
 negated_first ws Or a d b bits k = equals_itself ws 1 (Two Or a b)
 negated_first ws _ a d b bits k = absurd bits
 
@@ -147,7 +152,8 @@ masked ws c x d a b true k m = masked_one ws c x d a b k m
 masked ws c x d a b false k m = masked_none ws c x d a b k m
 
 -- a choice between 0 and a bit: its condition counts only where the bit is 1
-pub condition_becomes : (taken : Name → Bool) (ws : List Wire) (next u : ℕ) (c p a b : Operand) (after : List Wire) (na : ℕ) → u ≡ 1 → is_number a 0 ≡ true → ArmGives taken ws next u b 1 c p after na → Becomes taken ws next u (Choose c a b) (Choose p a b) after na
+pub condition_becomes : (taken : Name → Bool) (ws : List Wire) (next u : ℕ) (c p a b : Operand) (after : List Wire) (na : ℕ) → u ≡ 1
+    → is_number a 0 ≡ true → ArmGives taken ws next u b 1 c p after na → Becomes taken ws next u (Choose c a b) (Choose p a b) after na
 condition_becomes taken ws next u c p a b after na wide zero d =
     let as_bit : (sc : Scope) (k : ℕ) (o : Operand) → k ≡ 1 → IsOperand sc k o → IsOperand sc 1 o = λ sc k o e h. subst (λ (j : ℕ). IsOperand sc j o) e h in
     let as_wide : (sc : Scope) (o : Operand) → IsOperand sc 1 o → IsOperand sc u o = λ sc o h. subst (λ (j : ℕ). IsOperand sc j o) (sym wide) h in

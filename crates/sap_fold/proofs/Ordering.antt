@@ -124,7 +124,8 @@ unequal_gap w n i x h l e =
 
 -- the operands of such a comparison
 
-or_value : (v : Valuation) (a p x y : Operand) → ((x ≡ a) × (p ≡ y)) ⊎ ((y ≡ a) × (p ≡ x)) → bit_or (operand_value v x) (operand_value v y) ≡ bit_or (operand_value v p) (operand_value v a)
+or_value : (v : Valuation) (a p x y : Operand) → ((x ≡ a) × (p ≡ y)) ⊎ ((y ≡ a) × (p ≡ x))
+    → bit_or (operand_value v x) (operand_value v y) ≡ bit_or (operand_value v p) (operand_value v a)
 or_value v a p x y (inl e) =
     or_comm (operand_value v x) (operand_value v y)
     ∙ ap₂ (λ (s t : Operand). bit_or (operand_value v s) (operand_value v t)) (sym e.1) e.0
@@ -136,13 +137,15 @@ rest_wide sc u t a p x y s hx hy (inl e) =
 rest_wide sc u t a p x y s hx hy (inr e) = subst (IsOperand sc u) (sym e.1) hx
 
 -- the other operand is as wide as the wire
-joined_wide : (ms : Shapes) (sc : Scope) (ws : List Wire) (a b p : Operand) (u : ℕ) → AreWires ms sc ws → JoinedWith ws a b p → IsOperand (readable_after sc ws) u b → IsOperand (readable_after sc ws) u p
+joined_wide : (ms : Shapes) (sc : Scope) (ws : List Wire) (a b p : Operand) (u : ℕ) → AreWires ms sc ws → JoinedWith ws a b p
+    → IsOperand (readable_after sc ws) u b → IsOperand (readable_after sc ws) u p
 joined_wide ms sc ws a b p u f j h =
     let sd = readable_after sc ws in
     let r = defined_right ms sc ws b (Two Or j.first j.second) u f h j.defines in
     subst (λ (k : ℕ). IsOperand sd k p) (sym r.7) (rest_wide sd r.0 r.1 a p j.first j.second r.6 r.4 r.5 j.pair)
 
-joined_value : (widths : Name → ℕ) (v : Valuation) (ms : Shapes) (sc : Scope) (ws : List Wire) (a b p : Operand) → Over ms sc ws widths v → JoinedWith ws a b p → operand_value v b ≡ bit_or (operand_value v p) (operand_value v a)
+joined_value : (widths : Name → ℕ) (v : Valuation) (ms : Shapes) (sc : Scope) (ws : List Wire) (a b p : Operand) → Over ms sc ws widths v
+    → JoinedWith ws a b p → operand_value v b ≡ bit_or (operand_value v p) (operand_value v a)
 joined_value widths v ms sc ws a b p o j =
     defined_same widths v ws b (Two Or j.first j.second) o.holds j.defines ∙ or_value v a p j.first j.second j.pair
 
@@ -155,7 +158,9 @@ record Asked (sd : Scope) (v : Valuation) (u : ℕ) (a b : Operand) (x : Name) (
   first : operand_value v a ≡ n
   second : operand_value v b ≡ bit_or (v.value x) n
 
-asked : (ms : Shapes) (sc : Scope) (ws : List Wire) (widths : Name → ℕ) (v : Valuation) (a b : Operand) (x : Name) (k u : ℕ) → Over ms sc ws widths v → (q : AsksBit ws a b x k) → IsOperand (readable_after sc ws) u a → IsOperand (readable_after sc ws) u b → Asked (readable_after sc ws) v u a b x k q.number.value
+asked : (ms : Shapes) (sc : Scope) (ws : List Wire) (widths : Name → ℕ) (v : Valuation) (a b : Operand) (x : Name) (k u : ℕ)
+    → Over ms sc ws widths v → (q : AsksBit ws a b x k) → IsOperand (readable_after sc ws) u a → IsOperand (readable_after sc ws) u b
+    → Asked (readable_after sc ws) v u a b x k q.number.value
 asked ms sc ws widths v a b x k u o q ha hb =
     let g = q.number in
     let c : IsOperand (readable_after sc ws) u (Constant g.width g.value) = subst (IsOperand (readable_after sc ws) u) g.is ha in
@@ -175,13 +180,15 @@ record AskFits (sd : Scope) (u : ℕ) (x : Name) (k : ℕ) : Type 0 where
   found : find sd x ≡ Some u
   place : k < u
 
-ask_fits : (ms : Shapes) (sc : Scope) (ws : List Wire) (a b : Operand) (x : Name) (k u : ℕ) → AreWires ms sc ws → AsksBit ws a b x k → IsOperand (readable_after sc ws) u a → IsOperand (readable_after sc ws) u b → AskFits (readable_after sc ws) u x k
+ask_fits : (ms : Shapes) (sc : Scope) (ws : List Wire) (a b : Operand) (x : Name) (k u : ℕ) → AreWires ms sc ws → AsksBit ws a b x k
+    → IsOperand (readable_after sc ws) u a → IsOperand (readable_after sc ws) u b → AskFits (readable_after sc ws) u x k
 ask_fits ms sc ws a b x k u f q ha hb =
     let g = q.number in
     let c : IsOperand (readable_after sc ws) u (Constant g.width g.value) = subst (IsOperand (readable_after sc ws) u) g.is ha in
     record { found = joined_wide ms sc ws a b (Named x) u f q.joined hb; place = omega (arith, g.place, c.0) }
 
-either_fits : (ms : Shapes) (sc : Scope) (ws : List Wire) (a b : Operand) (x : Name) (k u : ℕ) → AreWires ms sc ws → EitherAsks ws a b x k → IsOperand (readable_after sc ws) u a → IsOperand (readable_after sc ws) u b → AskFits (readable_after sc ws) u x k
+either_fits : (ms : Shapes) (sc : Scope) (ws : List Wire) (a b : Operand) (x : Name) (k u : ℕ) → AreWires ms sc ws → EitherAsks ws a b x k
+    → IsOperand (readable_after sc ws) u a → IsOperand (readable_after sc ws) u b → AskFits (readable_after sc ws) u x k
 either_fits ms sc ws a b x k u f (inl q) ha hb = ask_fits ms sc ws a b x k u f q ha hb
 either_fits ms sc ws a b x k u f (inr q) ha hb = ask_fits ms sc ws b a x k u f q hb ha
 
@@ -200,7 +207,9 @@ turned_test a b x y =
       | inr f ↦ let s = differ_test b a (λ e. not_both (a == b) (test_of_equal a b (sym e)) f) in rw (f, s) refl
     ]
 
-either_unequal : (ms : Shapes) (sc : Scope) (ws : List Wire) (widths : Name → ℕ) (v : Valuation) (a b : Operand) (x : Name) (k u : ℕ) → Over ms sc ws widths v → EitherAsks ws a b x k → IsOperand (readable_after sc ws) u a → IsOperand (readable_after sc ws) u b → (if operand_value v a == operand_value v b then 0 else 1) ≡ bit_at (v.value x) k
+either_unequal : (ms : Shapes) (sc : Scope) (ws : List Wire) (widths : Name → ℕ) (v : Valuation) (a b : Operand) (x : Name) (k u : ℕ)
+    → Over ms sc ws widths v → EitherAsks ws a b x k → IsOperand (readable_after sc ws) u a → IsOperand (readable_after sc ws) u b
+    → (if operand_value v a == operand_value v b then 0 else 1) ≡ bit_at (v.value x) k
 either_unequal ms sc ws widths v a b x k u o (inl q) ha hb =
     let s = asked ms sc ws widths v a b x k u o q ha hb in
     ap₂ (λ (m n : ℕ). if m == n then 0 else 1) s.first s.second ∙ unequal_gap u q.number.value k (v.value x) s.small s.place s.gap
@@ -209,7 +218,9 @@ either_unequal ms sc ws widths v a b x k u o (inr q) ha hb =
     turned_test (operand_value v a) (operand_value v b) 0 1
     ∙ ap₂ (λ (m n : ℕ). if m == n then 0 else 1) s.first s.second ∙ unequal_gap u q.number.value k (v.value x) s.small s.place s.gap
 
-either_equal : (ms : Shapes) (sc : Scope) (ws : List Wire) (widths : Name → ℕ) (v : Valuation) (a b : Operand) (x : Name) (k u : ℕ) → Over ms sc ws widths v → EitherAsks ws a b x k → IsOperand (readable_after sc ws) u a → IsOperand (readable_after sc ws) u b → (if operand_value v a == operand_value v b then 1 else 0) ≡ 2 ^ 1 - 1 - bit_at (v.value x) k
+either_equal : (ms : Shapes) (sc : Scope) (ws : List Wire) (widths : Name → ℕ) (v : Valuation) (a b : Operand) (x : Name) (k u : ℕ)
+    → Over ms sc ws widths v → EitherAsks ws a b x k → IsOperand (readable_after sc ws) u a → IsOperand (readable_after sc ws) u b
+    → (if operand_value v a == operand_value v b then 1 else 0) ≡ 2 ^ 1 - 1 - bit_at (v.value x) k
 either_equal ms sc ws widths v a b x k u o (inl q) ha hb =
     let s = asked ms sc ws widths v a b x k u o q ha hb in
     ap₂ (λ (m n : ℕ). if m == n then 1 else 0) s.first s.second ∙ equal_gap u q.number.value k (v.value x) s.small s.place s.gap
@@ -218,7 +229,8 @@ either_equal ms sc ws widths v a b x k u o (inr q) ha hb =
     turned_test (operand_value v a) (operand_value v b) 1 0
     ∙ ap₂ (λ (m n : ℕ). if m == n then 1 else 0) s.first s.second ∙ equal_gap u q.number.value k (v.value x) s.small s.place s.gap
 
-slice_fits : (ms : Shapes) (sc : Scope) (ws : List Wire) (a b : Operand) (x : Name) (k u t : ℕ) → AreWires ms sc ws → IsWidth u → EitherAsks ws a b x k → IsOperand (readable_after sc ws) u a → IsOperand (readable_after sc ws) u b → t ≡ 1 → IsRight ms (readable_after sc ws) t (Slice x k k)
+slice_fits : (ms : Shapes) (sc : Scope) (ws : List Wire) (a b : Operand) (x : Name) (k u t : ℕ) → AreWires ms sc ws → IsWidth u
+    → EitherAsks ws a b x k → IsOperand (readable_after sc ws) u a → IsOperand (readable_after sc ws) u b → t ≡ 1 → IsRight ms (readable_after sc ws) t (Slice x k k)
 slice_fits ms sc ws a b x k u t f w q ha hb e =
     let s = either_fits ms sc ws a b x k u f q ha hb in (u, w, s.found, omega arith, s.place, omega (arith, e))
 
@@ -230,18 +242,23 @@ unequal_bit ws u a b x k q =
           either_unequal ms sc ws widths v a b x k h.0 o q h.4 (subst (λ (n : ℕ). IsOperand (readable_after sc ws) n b) h.6 h.5) ∙ sym (one_bit (v.value x) k);
     }
 
-pub equal_bit : (taken : Name → Bool) (ws : List Wire) (next u : ℕ) (a b : Operand) (x : Name) (k : ℕ) (p : Operand) (after : List Wire) (na : ℕ) → EitherAsks ws a b x k → Provides taken ws next 1 (Slice x k k) p after na → Becomes taken ws next u (Two Eq a b) (One Not p) after na
+pub equal_bit : (taken : Name → Bool) (ws : List Wire) (next u : ℕ) (a b : Operand) (x : Name) (k : ℕ) (p : Operand) (after : List Wire)
+    (na : ℕ) → EitherAsks ws a b x k → Provides taken ws next 1 (Slice x k k) p after na → Becomes taken ws next u (Two Eq a b) (One Not p) after na
 equal_bit taken ws next u a b x k p after na q g =
-    let other : (ms : Shapes) (sc : Scope) → (h : IsRight ms (readable_after sc ws) u (Two Eq a b)) → IsOperand (readable_after sc ws) h.0 b = λ ms sc h. subst (λ (n : ℕ). IsOperand (readable_after sc ws) n b) h.6 h.5 in
+    let other : (ms : Shapes) (sc : Scope) → (h : IsRight ms (readable_after sc ws) u (Two Eq a b))
+    → IsOperand (readable_after sc ws) h.0 b = λ ms sc h. subst (λ (n : ℕ). IsOperand (readable_after sc ws) n b) h.6 h.5 in
     record {
       grown = λ ms sc s h.
-          let d = provided taken ms sc ws next 1 (Slice x k k) p after na s.apart s.named s.fits one_wide (slice_fits ms sc ws a b x k h.0 1 s.fits h.2 q h.4 (other ms sc h) refl) g in
+          let d = provided taken ms sc ws next 1 (Slice x k k) p after na s.apart s.named s.fits one_wide
+          (slice_fits ms sc ws a b x k h.0 1 s.fits h.2 q h.4 (other ms sc h) refl) g in
           record { fits = d.fits; named = d.named; more = d.more; wires = d.wires };
       fits = λ ms sc s h.
-          let d = provided taken ms sc ws next 1 (Slice x k k) p after na s.apart s.named s.fits one_wide (slice_fits ms sc ws a b x k h.0 1 s.fits h.2 q h.4 (other ms sc h) refl) g in
+          let d = provided taken ms sc ws next 1 (Slice x k k) p after na s.apart s.named s.fits one_wide
+          (slice_fits ms sc ws a b x k h.0 1 s.fits h.2 q h.4 (other ms sc h) refl) g in
           (1, one_wide, d.operand, h.7);
       same = λ ms sc widths v s h over.
-          let d = provided taken ms sc ws next 1 (Slice x k k) p after na s.apart s.named s.fits one_wide (slice_fits ms sc ws a b x k h.0 1 s.fits h.2 q h.4 (other ms sc h) refl) g in
+          let d = provided taken ms sc ws next 1 (Slice x k k) p after na s.apart s.named s.fits one_wide
+          (slice_fits ms sc ws a b x k h.0 1 s.fits h.2 q h.4 (other ms sc h) refl) g in
           let before = over_first ms sc ws after d.more widths v d.wires over in
           let e : operand_value v p ≡ bit_at (v.value x) k = provided_value taken widths v ws next 1 (Slice x k k) p after na g over.holds ∙ one_bit (v.value x) k in
           either_equal ms sc ws widths v a b x k h.0 before q h.4 (other ms sc h)
@@ -269,7 +286,8 @@ record Bits (sd : Scope) (a p : Operand) : Type 0 where
   first : IsOperand sd 1 a
   rest : IsOperand sd 1 p
 
-bits_of : (ms : Shapes) (sc : Scope) (ws : List Wire) (a b p : Operand) (u : ℕ) → AreWires ms sc ws → BitBeside ws a b p → IsOperand (readable_after sc ws) u a → IsOperand (readable_after sc ws) u b → Bits (readable_after sc ws) a p
+bits_of : (ms : Shapes) (sc : Scope) (ws : List Wire) (a b p : Operand) (u : ℕ) → AreWires ms sc ws → BitBeside ws a b p
+    → IsOperand (readable_after sc ws) u a → IsOperand (readable_after sc ws) u b → Bits (readable_after sc ws) a p
 bits_of ms sc ws a b p u f q ha hb =
     let e : u ≡ 1 = q.wide ms sc u f hb in
     record {
@@ -279,7 +297,8 @@ bits_of ms sc ws a b p u f q ha hb =
 
 pub equal_order : (ws : List Wire) (u : ℕ) (a b p : Operand) → BitBeside ws a b p → Equals ws u (Two Eq a b) (Two Le p a)
 equal_order ws u a b p q =
-    let other : (ms : Shapes) (sc : Scope) → (h : IsRight ms (readable_after sc ws) u (Two Eq a b)) → IsOperand (readable_after sc ws) h.0 b = λ ms sc h. subst (λ (n : ℕ). IsOperand (readable_after sc ws) n b) h.6 h.5 in
+    let other : (ms : Shapes) (sc : Scope) → (h : IsRight ms (readable_after sc ws) u (Two Eq a b))
+    → IsOperand (readable_after sc ws) h.0 b = λ ms sc h. subst (λ (n : ℕ). IsOperand (readable_after sc ws) n b) h.6 h.5 in
     record {
       fits = λ ms sc f h.
           let s = bits_of ms sc ws a b p h.0 f q h.4 (other ms sc h) in (1, 1, one_wide, one_wide, s.rest, s.first, refl, h.7);
@@ -292,7 +311,8 @@ equal_order ws u a b p q =
 
 pub unequal_order : (ws : List Wire) (u : ℕ) (a b p : Operand) → BitBeside ws a b p → Equals ws u (Two Ne a b) (Two Lt a p)
 unequal_order ws u a b p q =
-    let other : (ms : Shapes) (sc : Scope) → (h : IsRight ms (readable_after sc ws) u (Two Ne a b)) → IsOperand (readable_after sc ws) h.0 b = λ ms sc h. subst (λ (n : ℕ). IsOperand (readable_after sc ws) n b) h.6 h.5 in
+    let other : (ms : Shapes) (sc : Scope) → (h : IsRight ms (readable_after sc ws) u (Two Ne a b))
+    → IsOperand (readable_after sc ws) h.0 b = λ ms sc h. subst (λ (n : ℕ). IsOperand (readable_after sc ws) n b) h.6 h.5 in
     record {
       fits = λ ms sc f h.
           let s = bits_of ms sc ws a b p h.0 f q h.4 (other ms sc h) in (1, 1, one_wide, one_wide, s.first, s.rest, refl, h.7);

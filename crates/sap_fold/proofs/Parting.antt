@@ -70,11 +70,13 @@ joined_twice x v y a b c e =
     let r : (x * 2 ^ a + v) * 2 ^ b ≡ x * 2 ^ a * 2 ^ b + v * 2 ^ b = add-mul (x * 2 ^ a) v (2 ^ b) in
     omega (arith, q, r)
 
-pub values_both : (widths : Name → ℕ) (v : Valuation) (xs ys : List Operand) → operands_value widths v (xs ++ ys) ≡ operands_value widths v xs * 2 ^ operands_width widths ys + operands_value widths v ys
+pub values_both : (widths : Name → ℕ) (v : Valuation) (xs ys : List Operand)
+    → operands_value widths v (xs ++ ys) ≡ operands_value widths v xs * 2 ^ operands_width widths ys + operands_value widths v ys
 values_both widths v [] ys = omega arith
 values_both widths v (x ∷ xs) ys =
     ap (λ (n : ℕ). operand_value v x * 2 ^ operands_width widths (xs ++ ys) + n) (values_both widths v xs ys)
-    ∙ joined_twice (operand_value v x) (operands_value widths v xs) (operands_value widths v ys) (operands_width widths xs) (operands_width widths ys) (operands_width widths (xs ++ ys)) (widths_both widths xs ys)
+    ∙ joined_twice (operand_value v x) (operands_value widths v xs) (operands_value widths v ys) (operands_width widths xs)
+    (operands_width widths ys) (operands_width widths (xs ++ ys)) (widths_both widths xs ys)
 
 pub one_value : (widths : Name → ℕ) (v : Valuation) (o : Operand) → operands_value widths v (o ∷ []) ≡ operand_value v o
 one_value widths v o = omega arith
@@ -122,7 +124,8 @@ same_push c n os ps o p s k =
           let j = one_are sc b.b p i.0 (k.fits sc b.b hc i.1) in
           let x = s.same sc widths v b.a wide hc b.first e in
           let y : operands_value widths v (o ∷ []) ≡ operands_value widths v (p ∷ []) = one_value widths v o ∙ k.same sc v b.b hc i.1 e ∙ sym (one_value widths v p) in
-          let z : operands_width widths (o ∷ []) ≡ operands_width widths (p ∷ []) = parts_wide sc widths wide b.b (o ∷ []) b.second ∙ sym (parts_wide sc widths wide b.b (p ∷ []) j) in
+          let z : operands_width widths (o ∷ []) ≡ operands_width widths (p ∷ []) = parts_wide sc widths wide b.b (o ∷ []) b.second
+          ∙ sym (parts_wide sc widths wide b.b (p ∷ []) j) in
           values_both widths v os (o ∷ [])
           ∙ ap (λ (m : ℕ). m * 2 ^ operands_width widths (o ∷ []) + operands_value widths v (o ∷ [])) x
           ∙ ap₂ (λ (q m : ℕ). operands_value widths v ps * 2 ^ q + m) z y
@@ -173,13 +176,15 @@ glue_same ps p qs g =
           let x : operands_value widths v pair ≡ operands_value widths v (o ∷ []) =
           ap₂ (λ (m n : ℕ). operand_value v l * 2 ^ m + n) wp (one_value widths v p)
           ∙ ap₂ (λ (m n : ℕ). m * 2 ^ k.t + n) a d ∙ sym c ∙ sym (one_value widths v o) in
-          let z : operands_width widths pair ≡ operands_width widths (o ∷ []) = parts_wide sc widths wide b.b pair b.second ∙ sym (parts_wide sc widths wide b.b (o ∷ []) (both sc b.b b.second)) in
+          let z : operands_width widths pair ≡ operands_width widths (o ∷ []) = parts_wide sc widths wide b.b pair b.second
+          ∙ sym (parts_wide sc widths wide b.b (o ∷ []) (both sc b.b b.second)) in
           ap (operands_value widths v) shape ∙ values_both widths v is pair
           ∙ ap₂ (λ (q m : ℕ). operands_value widths v is * 2 ^ q + m) z x
           ∙ sym (values_both widths v is (o ∷ [])) ∙ ap (operands_value widths v) (sym g.after);
     }
 
-pub same_more : (c : Operand) (t : Bool) (os ps : List Operand) (o : Operand) (qs : List Operand) → SameParts c (number t) os ps → AddsPart ps (put c t o) qs → SameParts c (number t) (os ++ o ∷ []) qs
+pub same_more : (c : Operand) (t : Bool) (os ps : List Operand) (o : Operand) (qs : List Operand) → SameParts c (number t) os ps
+    → AddsPart ps (put c t o) qs → SameParts c (number t) (os ++ o ∷ []) qs
 same_more c t os ps o qs s (inl e) =
     subst (SameParts c (number t) (os ++ o ∷ [])) (sym e) (same_push c (number t) os ps o (put c t o) s (put_is c t o))
 same_more c t os ps o qs s (inr g) =
@@ -207,7 +212,8 @@ under_whole ws c x n os p k s =
           ∙ s.same (readable_after sc ws) widths v u o.wide hc d.1 e ∙ one_value widths v p;
     }
 
-pub some_whole : (ws : List Wire) (c x : Operand) (n : ℕ) (os : List Operand) (m : Option Operand) → Defines ws x (Concat os) → IfSome m (λ p. Whole c n os p) → IfSome m (λ p. Under ws c n x (Copy p))
+pub some_whole : (ws : List Wire) (c x : Operand) (n : ℕ) (os : List Operand) (m : Option Operand) → Defines ws x (Concat os)
+    → IfSome m (λ p. Whole c n os p) → IfSome m (λ p. Under ws c n x (Copy p))
 some_whole ws c x n os None k h = tt
 some_whole ws c x n os (Some p) k h = under_whole ws c x n os p k h
 

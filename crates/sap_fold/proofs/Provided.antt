@@ -39,7 +39,8 @@ pub new_behind : (ws : List Wire) (sc : Scope) (n : Name) → find sc n ≡ None
 new_behind [] sc n h a = h
 new_behind (w ∷ ws) sc n h a = let f = a.0 in new_behind ws ((w.name, w.width) ∷ sc) n (rw f h) a.1
 
-known_value : (widths : Name → ℕ) (v : Valuation) (ws : List Wire) (u : ℕ) (r : Right) (n : Name) → find (rights ws) (key u r) ≡ Some n → Holds widths v ws → v.value n ≡ right_value widths v r
+known_value : (widths : Name → ℕ) (v : Valuation) (ws : List Wire) (u : ℕ) (r : Right) (n : Name) → find (rights ws) (key u r) ≡ Some n
+    → Holds widths v ws → v.value n ≡ right_value widths v r
 known_value widths v [] u r n e h = absurd (cc)
 known_value widths v (w ∷ ws) u r n e h =
     elim (cases_Bool (bytes_eq (key w.width w.right) (key u r))) [
@@ -52,13 +53,16 @@ others_differ taken ws next k l s n =
     all_follow _ (λ w. bytes_eq w.name (helper k) ≡ false) ws
     (λ w h. subst (λ (x : Name). bytes_eq x (helper k) ≡ false) (sym h.2) (helpers_differ h.0 k (omega (arith, h.1)) s (omega (arith, h.1)))) n.each
 
-new_fits : (taken : Name → Bool) (ms : Shapes) (sc : Scope) (ws : List Wire) (next u : ℕ) (r : Right) (n : Name) (after : List Wire) (next_after : ℕ) → TakenApart taken ms sc → Numbers taken ws next → AreWires ms sc ws → IsWidth u → IsRight ms (readable_after sc ws) u r → AddsNew taken ws next u r n after next_after → Provided taken ms sc ws u (Named n) after next_after
+new_fits : (taken : Name → Bool) (ms : Shapes) (sc : Scope) (ws : List Wire) (next u : ℕ) (r : Right) (n : Name) (after : List Wire)
+    (next_after : ℕ) → TakenApart taken ms sc → Numbers taken ws next → AreWires ms sc ws → IsWidth u
+    → IsRight ms (readable_after sc ws) u r → AddsNew taken ws next u r n after next_after → Provided taken ms sc ws u (Named n) after next_after
 new_fits taken ms sc ws next u r n after next_after apart named fits w f a =
     let x : Wire = record { name = n; width = u; right = r } in
     let k = a.number in
     let free = a.free in
     let s : k < 2 ^ 64 = omega (arith, free.small) in
-    let d : AllByRecursion (λ y. bytes_eq y.name n ≡ false) ws = subst (λ (m : Name). AllByRecursion (λ y. bytes_eq y.name m ≡ false) ws) (sym free.name) (others_differ taken ws next k free.behind s named) in
+    let d : AllByRecursion (λ y. bytes_eq y.name n ≡ false) ws =
+    subst (λ (m : Name). AllByRecursion (λ y. bytes_eq y.name m ≡ false) ws) (sym free.name) (others_differ taken ws next k free.behind s named) in
     let new = apart n free.free in
     let fresh = new_behind ws sc n new.0 d in
     let all = wires_both ms ws (x ∷ []) sc fits (w, fresh, new.1, f, tt) in
@@ -73,10 +77,12 @@ new_fits taken ms sc ws next u r n after next_after apart named fits w f a =
       named = subst (λ (q : ℕ). Numbers taken after q) (sym a.next_is) (subst (λ (ys : List Wire). Numbers taken ys (k + 1)) (sym after_is) names);
       more = x ∷ [];
       wires = after_is;
-      operand = subst (λ (ys : List Wire). find (readable_after sc ys) n ≡ Some u) (sym after_is) (subst (λ (sd : Scope). find sd n ≡ Some u) (sym is) (found_here n u (readable_after sc ws)));
+      operand = subst (λ (ys : List Wire). find (readable_after sc ys) n ≡ Some u) (sym after_is)
+          (subst (λ (sd : Scope). find sd n ≡ Some u) (sym is) (found_here n u (readable_after sc ws)));
     }
 
-there_fits : (taken : Name → Bool) (ms : Shapes) (sc : Scope) (ws : List Wire) (next u : ℕ) (r : Right) (n : Name) (after : List Wire) (next_after : ℕ) → Numbers taken ws next → AreWires ms sc ws → IsThere ws next u r n after next_after → Provided taken ms sc ws u (Named n) after next_after
+there_fits : (taken : Name → Bool) (ms : Shapes) (sc : Scope) (ws : List Wire) (next u : ℕ) (r : Right) (n : Name) (after : List Wire)
+    (next_after : ℕ) → Numbers taken ws next → AreWires ms sc ws → IsThere ws next u r n after next_after → Provided taken ms sc ws u (Named n) after next_after
 there_fits taken ms sc ws next u r n after next_after named fits a =
     record {
       fits = subst (AreWires ms sc) (sym a.wires) fits;
@@ -86,7 +92,8 @@ there_fits taken ms sc ws next u r n after next_after named fits a =
       operand = subst (λ (ys : List Wire). find (readable_after sc ys) n ≡ Some u) (sym a.wires) (known_readable ms ws sc u r n a.found fits);
     }
 
-copy_fits : (taken : Name → Bool) (ms : Shapes) (sc : Scope) (ws : List Wire) (next u : ℕ) (o p : Operand) (after : List Wire) (next_after : ℕ) → Numbers taken ws next → AreWires ms sc ws → IsOperand (readable_after sc ws) u p → o ≡ p → after ≡ ws → next_after ≡ next → Provided taken ms sc ws u o after next_after
+copy_fits : (taken : Name → Bool) (ms : Shapes) (sc : Scope) (ws : List Wire) (next u : ℕ) (o p : Operand) (after : List Wire) (next_after : ℕ)
+    → Numbers taken ws next → AreWires ms sc ws → IsOperand (readable_after sc ws) u p → o ≡ p → after ≡ ws → next_after ≡ next → Provided taken ms sc ws u o after next_after
 copy_fits taken ms sc ws next u o p after next_after named fits f e a n =
     record {
       fits = subst (AreWires ms sc) (sym a) fits;
@@ -96,13 +103,17 @@ copy_fits taken ms sc ws next u o p after next_after named fits f e a n =
       operand = subst (λ (q : Operand). IsOperand (readable_after sc after) u q) (sym e) (subst (λ (ys : List Wire). IsOperand (readable_after sc ys) u p) (sym a) f);
     }
 
-adds_fits : (taken : Name → Bool) (ms : Shapes) (sc : Scope) (ws : List Wire) (next u : ℕ) (r : Right) (o : Operand) (n : Name) (after : List Wire) (next_after : ℕ) → TakenApart taken ms sc → Numbers taken ws next → AreWires ms sc ws → IsWidth u → IsRight ms (readable_after sc ws) u r → o ≡ Named n → Adds taken ws next u r n after next_after → Provided taken ms sc ws u o after next_after
+adds_fits : (taken : Name → Bool) (ms : Shapes) (sc : Scope) (ws : List Wire) (next u : ℕ) (r : Right) (o : Operand) (n : Name)
+    (after : List Wire) (next_after : ℕ) → TakenApart taken ms sc → Numbers taken ws next → AreWires ms sc ws → IsWidth u
+    → IsRight ms (readable_after sc ws) u r → o ≡ Named n → Adds taken ws next u r n after next_after → Provided taken ms sc ws u o after next_after
 adds_fits taken ms sc ws next u r o n after next_after apart named fits w f e (inl a) =
     subst (λ (q : Operand). Provided taken ms sc ws u q after next_after) (sym e) (there_fits taken ms sc ws next u r n after next_after named fits a)
 adds_fits taken ms sc ws next u r o n after next_after apart named fits w f e (inr a) =
     subst (λ (q : Operand). Provided taken ms sc ws u q after next_after) (sym e) (new_fits taken ms sc ws next u r n after next_after apart named fits w f a)
 
-pub provided : (taken : Name → Bool) (ms : Shapes) (sc : Scope) (ws : List Wire) (next u : ℕ) (r : Right) (o : Operand) (after : List Wire) (next_after : ℕ) → TakenApart taken ms sc → Numbers taken ws next → AreWires ms sc ws → IsWidth u → IsRight ms (readable_after sc ws) u r → Provides taken ws next u r o after next_after → Provided taken ms sc ws u o after next_after
+pub provided : (taken : Name → Bool) (ms : Shapes) (sc : Scope) (ws : List Wire) (next u : ℕ) (r : Right) (o : Operand) (after : List Wire)
+    (next_after : ℕ) → TakenApart taken ms sc → Numbers taken ws next → AreWires ms sc ws → IsWidth u
+    → IsRight ms (readable_after sc ws) u r → Provides taken ws next u r o after next_after → Provided taken ms sc ws u o after next_after
 provided taken ms sc ws next u (Copy p) o after na apart named fits w f a = copy_fits taken ms sc ws next u o p after na named fits f a.0 a.1 a.2
 provided taken ms sc ws next u (One op p) o after na apart named fits w f a = adds_fits taken ms sc ws next u (One op p) o a.0 after na apart named fits w f a.1 a.2
 provided taken ms sc ws next u (Two op p q) o after na apart named fits w f a = adds_fits taken ms sc ws next u (Two op p q) o a.0 after na apart named fits w f a.1 a.2
@@ -113,14 +124,16 @@ provided taken ms sc ws next u (Cell m i) o after na apart named fits w f a = ad
 
 -- values
 
-adds_value : (taken : Name → Bool) (widths : Name → ℕ) (v : Valuation) (ws : List Wire) (next u : ℕ) (r : Right) (o : Operand) (n : Name) (after : List Wire) (next_after : ℕ) → o ≡ Named n → Adds taken ws next u r n after next_after → Holds widths v after → operand_value v o ≡ right_value widths v r
+adds_value : (taken : Name → Bool) (widths : Name → ℕ) (v : Valuation) (ws : List Wire) (next u : ℕ) (r : Right) (o : Operand) (n : Name)
+    (after : List Wire) (next_after : ℕ) → o ≡ Named n → Adds taken ws next u r n after next_after → Holds widths v after → operand_value v o ≡ right_value widths v r
 adds_value taken widths v ws next u r o n after na e (inl a) h =
     ap (operand_value v) e ∙ known_value widths v ws u r n a.found (subst (Holds widths v) a.wires h)
 adds_value taken widths v ws next u r o n after na e (inr a) h =
     let x : Wire = record { name = n; width = u; right = r } in
     ap (operand_value v) e ∙ (holds_both widths v ws (x ∷ []) (subst (Holds widths v) a.wires h)).1.0
 
-pub provided_value : (taken : Name → Bool) (widths : Name → ℕ) (v : Valuation) (ws : List Wire) (next u : ℕ) (r : Right) (o : Operand) (after : List Wire) (next_after : ℕ) → Provides taken ws next u r o after next_after → Holds widths v after → operand_value v o ≡ right_value widths v r
+pub provided_value : (taken : Name → Bool) (widths : Name → ℕ) (v : Valuation) (ws : List Wire) (next u : ℕ) (r : Right) (o : Operand)
+    (after : List Wire) (next_after : ℕ) → Provides taken ws next u r o after next_after → Holds widths v after → operand_value v o ≡ right_value widths v r
 provided_value taken widths v ws next u (Copy p) o after na a h = ap (operand_value v) a.0
 provided_value taken widths v ws next u (One op p) o after na a h = adds_value taken widths v ws next u (One op p) o a.0 after na a.1 a.2 h
 provided_value taken widths v ws next u (Two op p q) o after na a h = adds_value taken widths v ws next u (Two op p q) o a.0 after na a.1 a.2 h

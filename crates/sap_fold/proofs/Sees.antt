@@ -80,7 +80,8 @@ defined_value widths v ws x w a h =
     all_at (λ y. v.value y.name ≡ right_value widths v y.right) ws h.place w (each_holds widths v ws a) h.within h.is
 
 -- an operand of width u that a wire defines has its right side of that width, and its value
-pub defined_right : (ms : Shapes) (sc : Scope) (ws : List Wire) (o : Operand) (r : Right) (u : ℕ) → AreWires ms sc ws → IsOperand (readable_after sc ws) u o → Defines ws o r → IsRight ms (readable_after sc ws) u r
+pub defined_right : (ms : Shapes) (sc : Scope) (ws : List Wire) (o : Operand) (r : Right) (u : ℕ) → AreWires ms sc ws
+    → IsOperand (readable_after sc ws) u o → Defines ws o r → IsRight ms (readable_after sc ws) u r
 defined_right ms sc ws o r u a h d =
     let sd = readable_after sc ws in
     let w = d.wire in

@@ -133,7 +133,8 @@ record PartIn (sc : Scope) (w u r : ℕ) (one : Operand) (rest : List Operand) :
   rest_are : AreOperands sc r rest
   wide : w ≡ u + r
 
-pub slice_of_parts : (ws : List Wire) (u : ℕ) (x : Name) (os : List Operand) (hi lo : ℕ) (r : Right) → Defines ws (Named x) (Concat os) → OfParts ws os hi lo r → Equals ws u (Slice x hi lo) r
+pub slice_of_parts : (ws : List Wire) (u : ℕ) (x : Name) (os : List Operand) (hi lo : ℕ) (r : Right) → Defines ws (Named x) (Concat os)
+    → OfParts ws os hi lo r → Equals ws u (Slice x hi lo) r
 slice_of_parts ws u x os hi lo r k p =
     let s = p.part_at in
     let tail = s.one ∷ s.rest in
@@ -190,7 +191,8 @@ width_more ws y rest b u h k ms sc t f a =
     let q = h ms sc a.1 f a.4 in
     omega (arith, p, q, a.5)
 
-pub part_found : (ws : List Wire) (xs : List Operand) (hi lo r behind u : ℕ) (y : Operand) → 0 < r → r ≤ length xs → y ≡ get_or xs (r - 1) y → HaveWidth ws (drop r xs) behind → HasWidth ws y u → behind ≤ lo → hi < behind + u → IsPartAt ws xs hi lo (r - 1) behind
+pub part_found : (ws : List Wire) (xs : List Operand) (hi lo r behind u : ℕ) (y : Operand) → 0 < r → r ≤ length xs → y ≡ get_or xs (r - 1) y
+    → HaveWidth ws (drop r xs) behind → HasWidth ws y u → behind ≤ lo → hi < behind + u → IsPartAt ws xs hi lo (r - 1) behind
 part_found ws xs hi lo r behind u y p l e h k low high =
     let j = r - 1 in
     record {
@@ -210,7 +212,8 @@ get_front : (front : List Operand) (x : Operand) (rest : List Operand) (d : Oper
 get_front [] x rest d = refl
 get_front (y ∷ front) x rest d = get_front front x rest d
 
-pub part_sliced : (ws : List Wire) (xs : List Operand) (hi lo part behind : ℕ) (y z : Operand) (r : Right) → (s : IsPartAt ws xs hi lo part behind) → y ≡ get_or xs part y → z ≡ y → r ≡ sliced z (hi - behind) (lo - behind) → OfParts ws xs hi lo r
+pub part_sliced : (ws : List Wire) (xs : List Operand) (hi lo part behind : ℕ) (y z : Operand) (r : Right)
+    → (s : IsPartAt ws xs hi lo part behind) → y ≡ get_or xs part y → z ≡ y → r ≡ sliced z (hi - behind) (lo - behind) → OfParts ws xs hi lo r
 part_sliced ws xs hi lo part behind y z r s e f g =
     let a : y ≡ s.one = e ∙ ap₂ (λ (os : List Operand) (n : ℕ). get_or os n y) s.parts s.place ∙ get_front s.front s.one s.rest y in
     record {
@@ -222,12 +225,14 @@ part_sliced ws xs hi lo part behind y z r s e f g =
 
 -- slices of right sides
 
-pub some_slice : (ws : List Wire) (d : Right) (y : Name) (h l hi lo : ℕ) (m : Option Right) → d ≡ Slice y h l → IfSome m (λ r. r ≡ Slice y (hi + l) (lo + l)) → IfSome m (λ r. SlicesRight ws d hi lo r)
+pub some_slice : (ws : List Wire) (d : Right) (y : Name) (h l hi lo : ℕ) (m : Option Right) → d ≡ Slice y h l
+    → IfSome m (λ r. r ≡ Slice y (hi + l) (lo + l)) → IfSome m (λ r. SlicesRight ws d hi lo r)
 some_slice ws d y h l hi lo None e f = tt
 some_slice ws d y h l hi lo (Some r) e f = λ x u k.
     subst (λ (q : Right). Equals ws u (Slice x hi lo) q) (sym f) (slice_of_slice ws u x y h l hi lo (subst (Defines ws (Named x)) e k))
 
-pub some_parts : (ws : List Wire) (d : Right) (os : List Operand) (hi lo : ℕ) (m : Option Right) → d ≡ Concat os → IfSome m (λ r. OfParts ws os hi lo r) → IfSome m (λ r. SlicesRight ws d hi lo r)
+pub some_parts : (ws : List Wire) (d : Right) (os : List Operand) (hi lo : ℕ) (m : Option Right) → d ≡ Concat os
+    → IfSome m (λ r. OfParts ws os hi lo r) → IfSome m (λ r. SlicesRight ws d hi lo r)
 some_parts ws d os hi lo None e f = tt
 some_parts ws d os hi lo (Some r) e f = λ x u k. slice_of_parts ws u x os hi lo r (subst (Defines ws (Named x)) e k) f
 

@@ -115,7 +115,8 @@ pair_wide sc u t c a b o s hc ha hb (inr e) = (
   subst (IsOperand sc u) (sym e.1) ha,
 )
 
-pair_value : (op : ℕ → ℕ → ℕ) → ((x y : ℕ) → op x y ≡ op y x) → (v : Valuation) (c a b o : Operand) → IsPair c a b o → op (operand_value v a) (operand_value v b) ≡ op (operand_value v c) (operand_value v o)
+pair_value : (op : ℕ → ℕ → ℕ) → ((x y : ℕ) → op x y ≡ op y x) → (v : Valuation) (c a b o : Operand) → IsPair c a b o
+    → op (operand_value v a) (operand_value v b) ≡ op (operand_value v c) (operand_value v o)
 pair_value op comm v c a b o (inl e) =
     ap (λ (x : Operand). op (operand_value v x) (operand_value v b)) e.0 ∙ ap (λ (x : Operand). op (operand_value v c) (operand_value v x)) (sym e.1)
 pair_value op comm v c a b o (inr e) =
@@ -130,7 +131,10 @@ or_decided : (t : Bool) (y : ℕ) → y < 2 ^ 1 → bit_or (number t) y ≡ (if 
 or_decided true y h = one_or y h
 or_decided false y h = or_zero_l y
 
-under_pair : (ws : List Wire) (c x : Operand) (t d : Bool) (op : Op2) (f : ℕ → ℕ → ℕ) (a b o p : Operand) → KeepsWidth op → SameWidths op → ((u y z : ℕ) → value2 op u y z ≡ f y z) → ((y z : ℕ) → f y z ≡ f z y) → ((y : ℕ) → y < 2 ^ 1 → f (number t) y ≡ (if d then number t else y)) → Defines ws x (Two op a b) → IsPair c a b o → p ≡ (if d then bit t else o) → Under ws c (number t) x (Copy p)
+under_pair : (ws : List Wire) (c x : Operand) (t d : Bool) (op : Op2) (f : ℕ → ℕ → ℕ) (a b o p : Operand) → KeepsWidth op → SameWidths op
+    → ((u y z : ℕ) → value2 op u y z ≡ f y z) → ((y z : ℕ) → f y z ≡ f z y)
+    → ((y : ℕ) → y < 2 ^ 1 → f (number t) y ≡ (if d then number t else y)) → Defines ws x (Two op a b) → IsPair c a b o
+    → p ≡ (if d then bit t else o) → Under ws c (number t) x (Copy p)
 under_pair ws c x t d op f a b o p keeps same is comm value k pair e =
     record {
       fits = λ ms sc u g hc hx.
@@ -159,7 +163,8 @@ under_right ws c x t (Two Or a b) p k h =
     under_pair ws c x t t Or bit_or a b r.0 p (λ u. refl) (λ u y z. z) (λ u y z. refl) or_comm (or_decided t) k (other_is c a b r.0 r.1) r.2
 under_right ws c x t _ p k h = absurd (let e : None ≡ Some p = h in cc)
 
-pub some_under : (ws : List Wire) (c x : Operand) (t : Bool) (r : Right) (m : Option Operand) → Defines ws x r → m ≡ right_under c t r → IfSome m (λ p. Under ws c (number t) x (Copy p))
+pub some_under : (ws : List Wire) (c x : Operand) (t : Bool) (r : Right) (m : Option Operand) → Defines ws x r → m ≡ right_under c t r
+    → IfSome m (λ p. Under ws c (number t) x (Copy p))
 some_under ws c x t r None k h = tt
 some_under ws c x t r (Some p) k h = under_right ws c x t r p k (sym h)
 
@@ -218,7 +223,9 @@ or_tells false x y e h k f =
       | inr i ↦ absurd (let g : 1 ≡ 0 = sym (one_or y k) ∙ (rw i at f) in omega (arith, g))
     ]
 
-caused_pair : (ws : List Wire) (c p q x : Operand) (t : Bool) (op : Op2) (f : ℕ → ℕ → ℕ) (r : Right) → KeepsWidth op → SameWidths op → ((u y z : ℕ) → value2 op u y z ≡ f y z) → ((y z : ℕ) → y < 2 ^ 1 → z < 2 ^ 1 → f y z ≡ number t → (y ≡ number t) × (z ≡ number t)) → Defines ws c (Two op p q) → Under ws p (number t) x r ⊎ Under ws q (number t) x r → Under ws c (number t) x r
+caused_pair : (ws : List Wire) (c p q x : Operand) (t : Bool) (op : Op2) (f : ℕ → ℕ → ℕ) (r : Right) → KeepsWidth op → SameWidths op
+    → ((u y z : ℕ) → value2 op u y z ≡ f y z) → ((y z : ℕ) → y < 2 ^ 1 → z < 2 ^ 1 → f y z ≡ number t → (y ≡ number t) × (z ≡ number t))
+    → Defines ws c (Two op p q) → Under ws p (number t) x r ⊎ Under ws q (number t) x r → Under ws c (number t) x r
 caused_pair ws c p q x t op f r keeps same is both k g =
     let left : (ms : Shapes) (sc : Scope) → AreWires ms sc ws → IsOperand (readable_after sc ws) 1 c → IsOperand (readable_after sc ws) 1 p × IsOperand (readable_after sc ws) 1 q =
     λ ms sc a hc.
@@ -239,22 +246,29 @@ caused_pair ws c p q x t op f r keeps same is both k g =
           elim g [ inl y ↦ y.same ms sc widths v u o h.0 hx b.0 | inr y ↦ y.same ms sc widths v u o h.1 hx b.1 ];
     }
 
-pub caused_both : (ws : List Wire) (c p q x : Operand) (t : Bool) (op : Op2) (r : Right) → tells op t ≡ true → Defines ws c (Two op p q) → Under ws p (number t) x r ⊎ Under ws q (number t) x r → Under ws c (number t) x r
+pub caused_both : (ws : List Wire) (c p q x : Operand) (t : Bool) (op : Op2) (r : Right) → tells op t ≡ true → Defines ws c (Two op p q)
+    → Under ws p (number t) x r ⊎ Under ws q (number t) x r → Under ws c (number t) x r
 caused_both ws c p q x t And r h k g = caused_pair ws c p q x t And bit_and r (λ u. refl) (λ u y z. z) (λ u y z. refl) (λ y z. and_tells t y z h) k g
 caused_both ws c p q x t Or r h k g = caused_pair ws c p q x t Or bit_or r (λ u. refl) (λ u y z. z) (λ u y z. refl) (λ y z. or_tells t y z h) k g
 caused_both ws c p q x t _ r h k g = absurd (let e : false ≡ true = h in cc)
 
-pub some_caused_negation : (ws : List Wire) (c q x : Operand) (t : Bool) (m : Option Right) → Defines ws c (One Not q) → IfSome m (λ r. Under ws q (number (not t)) x r) → IfSome m (λ r. Under ws c (number t) x r)
+pub some_caused_negation : (ws : List Wire) (c q x : Operand) (t : Bool) (m : Option Right) → Defines ws c (One Not q)
+    → IfSome m (λ r. Under ws q (number (not t)) x r) → IfSome m (λ r. Under ws c (number t) x r)
 some_caused_negation ws c q x t None k h = tt
 some_caused_negation ws c q x t (Some r) k h = caused_negation ws c q x t r k h
 
-pub some_caused_both : (ws : List Wire) (c p q x : Operand) (t : Bool) (op : Op2) (m : Option Right) → tells op t ≡ true → Defines ws c (Two op p q) → IfSome m (λ r. Under ws p (number t) x r ⊎ Under ws q (number t) x r) → IfSome m (λ r. Under ws c (number t) x r)
+pub some_caused_both : (ws : List Wire) (c p q x : Operand) (t : Bool) (op : Op2) (m : Option Right) → tells op t ≡ true
+    → Defines ws c (Two op p q) → IfSome m (λ r. Under ws p (number t) x r ⊎ Under ws q (number t) x r) → IfSome m (λ r. Under ws c (number t) x r)
 some_caused_both ws c p q x t op None h k g = tt
 some_caused_both ws c p q x t op (Some r) h k g = caused_both ws c p q x t op r h k g
 
 -- what follows from the bit's own choice
 
-caused_arm : (ws : List Wire) (c d p q e x : Operand) (s t : Bool) (r : Right) → ((sc : Scope) → IsOperand sc 1 p → IsOperand sc 1 q → IsOperand sc 1 e) → ((v : Valuation) → operand_value v d < 2 ^ 1 → (if operand_value v d == 0 then operand_value v q else operand_value v p) ≡ number t → (operand_value v d ≡ number s) × (operand_value v e ≡ number t)) → Defines ws c (Choose d p q) → Under ws d (number s) x r ⊎ Under ws e (number t) x r → Under ws c (number t) x r
+caused_arm : (ws : List Wire) (c d p q e x : Operand) (s t : Bool) (r : Right)
+    → ((sc : Scope) → IsOperand sc 1 p → IsOperand sc 1 q → IsOperand sc 1 e)
+    → ((v : Valuation) → operand_value v d < 2 ^ 1 → (if operand_value v d == 0 then operand_value v q else operand_value v p) ≡ number t
+    → (operand_value v d ≡ number s) × (operand_value v e ≡ number t)) → Defines ws c (Choose d p q) → Under ws d (number s) x r
+    ⊎ Under ws e (number t) x r → Under ws c (number t) x r
 caused_arm ws c d p q e x s t r wide both k g =
     record {
       fits = λ ms sc u a hc hx.
@@ -288,20 +302,24 @@ first_tells x y z h e f =
       | inr i ↦ (i, rw i at f)
     ]
 
-caused_second : (ws : List Wire) (c d p q x : Operand) (t : Bool) (r : Right) → only_second t p ≡ true → Defines ws c (Choose d p q) → Under ws d (number false) x r ⊎ Under ws q (number true) x r → Under ws c (number t) x r
+caused_second : (ws : List Wire) (c d p q x : Operand) (t : Bool) (r : Right) → only_second t p ≡ true → Defines ws c (Choose d p q)
+    → Under ws d (number false) x r ⊎ Under ws q (number true) x r → Under ws c (number t) x r
 caused_second ws c d p q x true r h k g =
     caused_arm ws c d p q q x false true r (λ sc a b. b) (λ v l i. second_tells (operand_value v d) (operand_value v p) (operand_value v q) l (number_is v p 0 h) i) k g
 caused_second ws c d p q x false r h k g = absurd (let e : false ≡ true = h in cc)
 
-caused_first : (ws : List Wire) (c d p q x : Operand) (t : Bool) (r : Right) → only_first t q ≡ true → Defines ws c (Choose d p q) → Under ws d (number true) x r ⊎ Under ws p (number false) x r → Under ws c (number t) x r
+caused_first : (ws : List Wire) (c d p q x : Operand) (t : Bool) (r : Right) → only_first t q ≡ true → Defines ws c (Choose d p q)
+    → Under ws d (number true) x r ⊎ Under ws p (number false) x r → Under ws c (number t) x r
 caused_first ws c d p q x false r h k g =
     caused_arm ws c d p q p x true false r (λ sc a b. a) (λ v l i. first_tells (operand_value v d) (operand_value v p) (operand_value v q) l (number_is v q 1 h) i) k g
 caused_first ws c d p q x true r h k g = absurd (let e : false ≡ true = h in cc)
 
-pub some_caused_second : (ws : List Wire) (c d p q x : Operand) (t : Bool) (m : Option Right) → only_second t p ≡ true → Defines ws c (Choose d p q) → IfSome m (λ r. Under ws d (number false) x r ⊎ Under ws q (number true) x r) → IfSome m (λ r. Under ws c (number t) x r)
+pub some_caused_second : (ws : List Wire) (c d p q x : Operand) (t : Bool) (m : Option Right) → only_second t p ≡ true
+    → Defines ws c (Choose d p q) → IfSome m (λ r. Under ws d (number false) x r ⊎ Under ws q (number true) x r) → IfSome m (λ r. Under ws c (number t) x r)
 some_caused_second ws c d p q x t None h k g = tt
 some_caused_second ws c d p q x t (Some r) h k g = caused_second ws c d p q x t r h k g
 
-pub some_caused_first : (ws : List Wire) (c d p q x : Operand) (t : Bool) (m : Option Right) → only_first t q ≡ true → Defines ws c (Choose d p q) → IfSome m (λ r. Under ws d (number true) x r ⊎ Under ws p (number false) x r) → IfSome m (λ r. Under ws c (number t) x r)
+pub some_caused_first : (ws : List Wire) (c d p q x : Operand) (t : Bool) (m : Option Right) → only_first t q ≡ true
+    → Defines ws c (Choose d p q) → IfSome m (λ r. Under ws d (number true) x r ⊎ Under ws p (number false) x r) → IfSome m (λ r. Under ws c (number t) x r)
 some_caused_first ws c d p q x t None h k g = tt
 some_caused_first ws c d p q x t (Some r) h k g = caused_first ws c d p q x t r h k g

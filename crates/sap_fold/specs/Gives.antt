@@ -41,7 +41,8 @@ pub record Provided (taken : Name → Bool) (ms : Shapes) (sc : Scope) (ws : Lis
 -- Wherever r is a right side of width u behind the wires, o is an operand behind those after, the same ones and perhaps more, and has its value.
 pub record Gives (taken : Name → Bool) (ws : List Wire) (next u : ℕ) (r : Right) (o : Operand) (after : List Wire) (next_after : ℕ) : Type 0 where
   pub fits : (memories : Shapes) (sc : Scope) → Stand taken memories sc ws next u → IsRight memories (readable_after sc ws) u r → Provided taken memories sc ws u o after next_after
-  pub same : (memories : Shapes) (sc : Scope) (widths : Name → ℕ) (v : Valuation) → Stand taken memories sc ws next u → IsRight memories (readable_after sc ws) u r → Over memories sc after widths v → right_value widths v r ≡ operand_value v o
+  pub same : (memories : Shapes) (sc : Scope) (widths : Name → ℕ) (v : Valuation) → Stand taken memories sc ws next u
+      → IsRight memories (readable_after sc ws) u r → Over memories sc after widths v → right_value widths v r ≡ operand_value v o
 
 -- The wires after are the same ones and perhaps more.
 pub record Grown (taken : Name → Bool) (ms : Shapes) (sc : Scope) (ws after : List Wire) (next_after : ℕ) : Type 0 where
@@ -54,9 +55,13 @@ pub record Grown (taken : Name → Bool) (ms : Shapes) (sc : Scope) (ws after : 
 pub record Becomes (taken : Name → Bool) (ws : List Wire) (next u : ℕ) (a b : Right) (after : List Wire) (next_after : ℕ) : Type 0 where
   pub grown : (memories : Shapes) (sc : Scope) → Stand taken memories sc ws next u → IsRight memories (readable_after sc ws) u a → Grown taken memories sc ws after next_after
   pub fits : (memories : Shapes) (sc : Scope) → Stand taken memories sc ws next u → IsRight memories (readable_after sc ws) u a → IsRight memories (readable_after sc after) u b
-  pub same : (memories : Shapes) (sc : Scope) (widths : Name → ℕ) (v : Valuation) → Stand taken memories sc ws next u → IsRight memories (readable_after sc ws) u a → Over memories sc after widths v → right_value widths v a ≡ right_value widths v b
+  pub same : (memories : Shapes) (sc : Scope) (widths : Name → ℕ) (v : Valuation) → Stand taken memories sc ws next u
+      → IsRight memories (readable_after sc ws) u a → Over memories sc after widths v → right_value widths v a ≡ right_value widths v b
 
 -- Where the bit c has the number n, the operand a of width u has the value of p behind the wires after.
 pub record ArmGives (taken : Name → Bool) (ws : List Wire) (next u : ℕ) (c : Operand) (n : ℕ) (a p : Operand) (after : List Wire) (next_after : ℕ) : Type 0 where
-  pub fits : (memories : Shapes) (sc : Scope) → Stand taken memories sc ws next u → IsOperand (readable_after sc ws) 1 c → IsOperand (readable_after sc ws) u a → Provided taken memories sc ws u p after next_after
-  pub same : (memories : Shapes) (sc : Scope) (widths : Name → ℕ) (v : Valuation) → Stand taken memories sc ws next u → IsOperand (readable_after sc ws) 1 c → IsOperand (readable_after sc ws) u a → Over memories sc after widths v → operand_value v c ≡ n → operand_value v a ≡ operand_value v p
+  pub fits : (memories : Shapes) (sc : Scope) → Stand taken memories sc ws next u → IsOperand (readable_after sc ws) 1 c
+      → IsOperand (readable_after sc ws) u a → Provided taken memories sc ws u p after next_after
+  pub same : (memories : Shapes) (sc : Scope) (widths : Name → ℕ) (v : Valuation) → Stand taken memories sc ws next u
+      → IsOperand (readable_after sc ws) 1 c → IsOperand (readable_after sc ws) u a → Over memories sc after widths v
+      → operand_value v c ≡ n → operand_value v a ≡ operand_value v p

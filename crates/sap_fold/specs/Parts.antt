@@ -41,7 +41,8 @@ put c t o = if same_operand o c then bit t else o
 -- Where the bit c has the number n, the parts ps have the value of os together.
 pub record SameParts (c : Operand) (n : ℕ) (os ps : List Operand) : Type 0 where
   pub fits : (sc : Scope) (w : ℕ) → IsOperand sc 1 c → AreOperands sc w os → AreOperands sc w ps
-  pub same : (sc : Scope) (widths : Name → ℕ) (v : Valuation) (w : ℕ) → WidthsAre sc widths → IsOperand sc 1 c → AreOperands sc w os → operand_value v c ≡ n → operands_value widths v os ≡ operands_value widths v ps
+  pub same : (sc : Scope) (widths : Name → ℕ) (v : Valuation) (w : ℕ) → WidthsAre sc widths → IsOperand sc 1 c → AreOperands sc w os
+      → operand_value v c ≡ n → operands_value widths v os ≡ operands_value widths v ps
 
 -- they are the one operand p
 abbrev pub Whole : (c : Operand) (n : ℕ) → List Operand → Operand → Type 0
@@ -64,4 +65,5 @@ bit_test n place = n / 2 ^ place % 2 == 1
 -- The parts have the bits from k up to w of a where the bit c is 1, and of b where it is 0.
 pub record Between (c : Operand) (k w a b : ℕ) (ps : List Operand) : Type 0 where
   pub fits : (sc : Scope) → IsOperand sc 1 c → AreOperands sc (w - k) ps
-  pub same : (sc : Scope) (widths : Name → ℕ) (v : Valuation) → WidthsAre sc widths → IsOperand sc 1 c → operand_value v c < 2 ^ 1 → a < 2 ^ w → b < 2 ^ w → operands_value widths v ps ≡ (if operand_value v c == 0 then b / 2 ^ k else a / 2 ^ k)
+  pub same : (sc : Scope) (widths : Name → ℕ) (v : Valuation) → WidthsAre sc widths → IsOperand sc 1 c → operand_value v c < 2 ^ 1
+      → a < 2 ^ w → b < 2 ^ w → operands_value widths v ps ≡ (if operand_value v c == 0 then b / 2 ^ k else a / 2 ^ k)

@@ -81,5 +81,7 @@ masked_right false d = Copy (bit false)
 
 -- Where the bit c has the number n, the operand a has the value of r.
 pub record Under (ws : List Wire) (c : Operand) (n : ℕ) (a : Operand) (r : Right) : Type 0 where
-  pub fits : (memories : Shapes) (sc : Scope) (u : ℕ) → AreWires memories sc ws → IsOperand (readable_after sc ws) 1 c → IsOperand (readable_after sc ws) u a → IsRight memories (readable_after sc ws) u r
-  pub same : (memories : Shapes) (sc : Scope) (widths : Name → ℕ) (v : Valuation) (u : ℕ) → Over memories sc ws widths v → IsOperand (readable_after sc ws) 1 c → IsOperand (readable_after sc ws) u a → operand_value v c ≡ n → operand_value v a ≡ right_value widths v r
+  pub fits : (memories : Shapes) (sc : Scope) (u : ℕ) → AreWires memories sc ws → IsOperand (readable_after sc ws) 1 c
+      → IsOperand (readable_after sc ws) u a → IsRight memories (readable_after sc ws) u r
+  pub same : (memories : Shapes) (sc : Scope) (widths : Name → ℕ) (v : Valuation) (u : ℕ) → Over memories sc ws widths v
+      → IsOperand (readable_after sc ws) 1 c → IsOperand (readable_after sc ws) u a → operand_value v c ≡ n → operand_value v a ≡ right_value widths v r

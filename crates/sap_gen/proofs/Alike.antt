@@ -70,7 +70,15 @@ module _ (l m : Levels) (names : l.names ≡ m.names) (order : order_of l ≡ or
     state_entities_same : (n x : ℕ) (s : StateTree) → state_entities l n x s ≡ state_entities m n x s
     state_entities_same n x (state_node place name kind body children) =
         ap₂ (λ (e : Entity) (es : List Entity). e ∷ es)
-        (ap₂ (with_levels (record { kind = program.state n (x + states_below children); width = 0; dynamic = is_dynamic_kind kind; declared = 0; authority = 0; initial = 0 })) (declared_level_same kind) (authority_same kind))
+        (ap₂ (with_levels (record {
+          kind = program.state n (x + states_below children);
+          width = 0;
+          dynamic =
+              is_dynamic_kind kind;
+          declared = 0;
+          authority = 0;
+          initial = 0;
+        })) (declared_level_same kind) (authority_same kind))
         (group_entities_same 0 (x + 1) children)
 
     group_entities_same : (n x : ℕ) (g : StateList) → group_entities l n x g ≡ group_entities m n x g
@@ -80,7 +88,8 @@ module _ (l m : Levels) (names : l.names ≡ m.names) (order : order_of l ≡ or
 
   world_same : (d : DesignTree) → world_of l d ≡ world_of m d
   world_same d =
-      ap₂ (λ (o : Order) (es : List Entity). let w : World = record { order = o; entities = es; children = no_children d.declarations ++ group_children d.states ++ group_length d.states ∷ [] } in w) order
+      ap₂ (λ (o : Order) (es : List Entity). let w : World =
+      record { order = o; entities = es; children = no_children d.declarations ++ group_children d.states ++ group_length d.states ∷ [] } in w) order
       (ap₂ (λ (es fs : List Entity). es ++ fs) (all_declared_same d.declarations) (group_entities_same 0 (length d.declarations) d.states))
 
   -- commands
@@ -114,7 +123,8 @@ module _ (l m : Levels) (names : l.names ≡ m.names) (order : order_of l ≡ or
     command_same h k (if_else place condition one other) =
         ap₂ (λ (a b : Block). program.if_else [] (term_of h.entities condition (Some 1)) a b) (block_same h k one) (else_same h (k + length (block_sites h one)) other)
     command_same h k (try_then c place accepted refused) =
-        ap (λ (s : program.Step). program.try_then s [] (resolve.block_of l h (k + length (simple_sites h c)) accepted) (resolve.block_of l h (k + length (simple_sites h c) + length (block_sites h accepted)) refused))
+        ap (λ (s : program.Step). program.try_then s [] (resolve.block_of l h (k + length (simple_sites h c)) accepted)
+        (resolve.block_of l h (k + length (simple_sites h c) + length (block_sites h accepted)) refused))
         (step_same h (resolve.site_number h k c) c)
         ∙ ap₂ (λ (a b : Block). program.try_then (resolve.step_of m h (resolve.site_number h k c) c) [] a b) (block_same h (k + length (simple_sites h c)) accepted)
         (block_same h (k + length (simple_sites h c) + length (block_sites h accepted)) refused)
@@ -142,7 +152,8 @@ module _ (l m : Levels) (names : l.names ≡ m.names) (order : order_of l ≡ or
   mutual
     state_same : (es : List tree.Entity) (k x : ℕ) (s : StateTree) → resolve.state_of l es k x s ≡ resolve.state_of m es k x s
     state_same es k x (state_node place name kind body children) =
-        ap₂ (λ (b : Block) (g : Group). program.state_node x b g) (block_same (record { entities = es; home = record { name = name.name; kind = kind; children = children } }) k body)
+        ap₂ (λ (b : Block) (g : Group). program.state_node x b g)
+        (block_same (record { entities = es; home = record { name = name.name; kind = kind; children = children } }) k body)
         (group_same es (k + length (block_sites (record { entities = es; home = record { name = name.name; kind = kind; children = children } }) body)) (x + 1) children)
 
     group_same : (es : List tree.Entity) (k x : ℕ) (g : StateList) → resolve.group_of l es k x g ≡ resolve.group_of m es k x g
@@ -163,7 +174,14 @@ module _ (l m : Levels) (names : l.names ≡ m.names) (order : order_of l ≡ or
 
   shown_same : (d : Named) (s : Store) (x : ℕ) → register_shown l d s x ≡ register_shown m d s x
   shown_same d s x =
-      ap (λ (ns : List (List ℕ)). let r : Shown = record { name = name d x; value = number (own x) s; level = Some (name_at ns (level_in (length ns) (level (world d) (own x) s))); tag = d.code (level (world d) (own x) s) } in r) names
+      ap (λ (ns : List (List ℕ)). let r : Shown =
+      record {
+        name = name d x;
+        value = number (own x) s;
+        level =
+            Some (name_at ns (level_in (length ns) (level (world d) (own x) s)));
+        tag = d.code (level (world d) (own x) s);
+      } in r) names
 
   all_shown_same : (d : Named) (s : Store) (x : ℕ) (es : List Entity) → registers_shown l d s x es ≡ registers_shown m d s x es
   all_shown_same d s x [] = refl

@@ -35,7 +35,8 @@ commands_each [] = refl
 commands_each (c ∷ cs) = ap (λ (rest : CommandList). and_command (command_of c) rest) (commands_each cs)
 
 -- a body of its assignments and its goto
-pub body_built : (r t j : ℕ) (old new : List Cmd) (x : Cmd) (place : Place) → map command_of old ≡ map (assignment r j) (range_with_len 0 r) → new ≡ old ++ x ∷ [] → command_of x ≡ transfer t j → place ≡ nowhere
+pub body_built : (r t j : ℕ) (old new : List Cmd) (x : Cmd) (place : Place) → map command_of old ≡ map (assignment r j) (range_with_len 0 r)
+    → new ≡ old ++ x ∷ [] → command_of x ≡ transfer t j → place ≡ nowhere
     → command_block (commands_of new) place ≡ body r t j
 body_built r t j old new x place before grown is here =
     ap₂ (λ (cs : CommandList) (p : Place). command_block cs p)
@@ -46,7 +47,8 @@ states_each [] = refl
 states_each (s ∷ ss) = ap (λ (rest : StateList). and_state (state_of s) rest) (states_each ss)
 
 -- the whole
-pub design_built : (r t : ℕ) (ds : List Decl) (ss : List State) → ds ≡ declared_input ∷ map declared_register (range_with_len 0 r) → map state_of ss ≡ map (state r t) (range_with_len 0 t)
+pub design_built : (r t : ℕ) (ds : List Decl) (ss : List State) → ds ≡ declared_input ∷ map declared_register (range_with_len 0 r)
+    → map state_of ss ≡ map (state r t) (range_with_len 0 t)
     → tree_of One ds ss ≡ design_of_counts r t
 design_built r t ds ss d s =
     ap₂ (λ (ds : List Decl) (list : StateList). let tree : DesignTree = record { version = One; declarations = ds; states = list } in tree) d (states_each ss ∙ ap states s)

@@ -31,7 +31,8 @@ one_site_more level_at n =
     ap (λ (k : ℕ). length (refusals_from level_at 1 k)) e ∙ site_behind level_at 1 n
     ∙ ap (λ (k : ℕ). length (refusals_from level_at 1 n) + one_if (is_some (level_at k))) f
 
-pub counted_more : (level_at : ℕ → Option ℕ) (n old new : ℕ) (o : Option ℕ) (b : Bool) → old ≡ length (refusals_from level_at 1 n) → o ≡ level_at (n + 1) → b ≡ is_some o → new ≡ old + one_if b
+pub counted_more : (level_at : ℕ → Option ℕ) (n old new : ℕ) (o : Option ℕ) (b : Bool) → old ≡ length (refusals_from level_at 1 n)
+    → o ≡ level_at (n + 1) → b ≡ is_some o → new ≡ old + one_if b
     → new ≡ length (refusals_from level_at 1 (n + 1))
 counted_more level_at n old new o b before is some grown =
     grown ∙ ap₂ (λ (k : ℕ) (c : Bool). k + one_if c) before (some ∙ ap is_some is) ∙ sym (one_site_more level_at n)

@@ -53,7 +53,8 @@ b_high : AtOrBelow level_pairs (codes "b") (codes "high")
 b_high = given (pair (codes "b") (codes "high")) (3, lit< tt, refl)
 
 -- a set of names that has the upper name of a pair where it has the lower one has all names above each that it has
-kept_up : (up : List ℕ → Bool) → ((p : Pair) → Contains level_pairs p → up p.lower ≡ true → up p.upper ≡ true) → {x y : List ℕ} → AtOrBelow level_pairs x y → up x ≡ true → up y ≡ true
+kept_up : (up : List ℕ → Bool) → ((p : Pair) → Contains level_pairs p → up p.lower ≡ true → up p.upper ≡ true) → {x y : List ℕ}
+    → AtOrBelow level_pairs x y → up x ≡ true → up y ≡ true
 kept_up up closed itself h = h
 kept_up up closed (given p c) h = closed p c h
 kept_up up closed (through a b) h = kept_up up closed b (kept_up up closed a h)
@@ -137,7 +138,8 @@ differ j k a b =
 apart : (m n : List ℕ) → bytes_eq m n ≡ false → m ≡ n → ⊥
 apart m n f e = both_ways (bytes_eq m n) f (ap (bytes_eq m) (sym e) ∙ bytes_eq_same m)
 
-sound_name : (k : ℕ) → k < 4 → is_word (name_at level_names k) ≡ true → is_among (name_at level_names k) design_keywords ≡ false → length (name_at level_names k) ≤ 40 → ¬ BadName level_names k
+sound_name : (k : ℕ) → k < 4 → is_word (name_at level_names k) ≡ true → is_among (name_at level_names k) design_keywords ≡ false
+    → length (name_at level_names k) ≤ 40 → ¬ BadName level_names k
 sound_name k l w q s (no_word e) = both_ways _ e w
 sound_name k l w q s (keyword e) = both_ways _ q e
 sound_name k l w q s (too_long e) = omega arith
@@ -177,7 +179,8 @@ keeps_pairs = record { before = keeps_names; known = known_pairs }
 not_broken : (rule : PairRule) → every 4 (λ y. every y (λ x. not (breaks 4 (order_in rows).le rule x y))) ≡ true → (x y : ℕ) → ¬ IsBroken (length rows) (order_in rows).le rule x y
 not_broken rule all x y broken =
     both_ways (breaks 4 (order_in rows).le rule x y)
-    (not-true _ (every_at (λ x. not (breaks 4 (order_in rows).le rule x y)) y (every_at (λ y. every y (λ x. not (breaks 4 (order_in rows).le rule x y))) 4 all y broken.level) x broken.apart))
+    (not-true _ (every_at (λ x. not (breaks 4 (order_in rows).le rule x y)) y
+    (every_at (λ y. every y (λ x. not (breaks 4 (order_in rows).le rule x y))) 4 all y broken.level) x broken.apart))
     broken.breaks_rule
 
 tested_apart : every 4 (λ y. every y (λ x. not (breaks 4 (order_in rows).le Apart x y))) ≡ true

@@ -45,7 +45,8 @@ found_later e es name f = rw f refl
 find_register : (a k i : ℕ) (rest : List Entity) → a ≤ i → i < a + k → a + k ≤ 64 → find (registers_from a k ++ rest) (register_name i) ≡ Some (register_entity i)
 find_register a zero i rest l h b = absurd (omega arith)
 find_register a (suc k) i rest l h b = elim (cases_eq a i) [
-  | inl e ↦ found_here (register_entity a) (registers_from (a + 1) k ++ rest) (register_name i) (ap (λ (z : ℕ). bytes_eq (register_name z) (register_name i)) e ∙ bytes_eq_same (register_name i))
+  | inl e ↦ found_here (register_entity a) (registers_from (a + 1) k ++ rest) (register_name i)
+      (ap (λ (z : ℕ). bytes_eq (register_name z) (register_name i)) e ∙ bytes_eq_same (register_name i))
       ∙ ap (λ (z : ℕ). Some (register_entity z)) e
   | inr ne ↦ found_later (register_entity a) (registers_from (a + 1) k ++ rest) (register_name i) (registers_differ a i (omega arith) (omega arith) ne)
       ∙ find_register (a + 1) k i rest (omega arith) (omega arith) (omega arith)
@@ -90,7 +91,8 @@ either_way : (x p q : Bool) → (if x then true else p) ≡ false → (p ≡ fal
 either_way true p q h f = h
 either_way false p q h f = f h
 
-declared_more : (before : List Entity) (e : Entity) (name : List ℕ) → is_declared before name ≡ false → bytes_eq e.name.name name ≡ false → is_declared (before ++ e ∷ []) name ≡ false
+declared_more : (before : List Entity) (e : Entity) (name : List ℕ) → is_declared before name ≡ false → bytes_eq e.name.name name ≡ false
+    → is_declared (before ++ e ∷ []) name ≡ false
 declared_more [] e name h f = rw f refl
 declared_more (b ∷ before) e name h f =
     either_way (bytes_eq b.name.name name) (is_declared before name) (is_declared (before ++ e ∷ []) name) h (λ g. declared_more before e name g f)

@@ -39,18 +39,21 @@ sum_faultless what target operand input a b c = rw (a, b, c) refl
 goto_faultless : (what : Lookup) (target : List ℕ) → what target ≡ Some d.State → simple_faults level_names what (go_to nowhere (named target)) ++ [] ≡ []
 goto_faultless what target a = rw a refl
 
-module _ (r t : ℕ) (some : 0 < r) (more : 0 < t) (what : Lookup) (input : what input_name ≡ Some (d.Input 8)) (registers : (i : ℕ) → i < r → what (register_name i) ≡ Some (d.Register 8)) (places : (j : ℕ) → j < t → what (state_name j) ≡ Some d.State) where
+module _ (r t : ℕ) (some : 0 < r) (more : 0 < t) (what : Lookup) (input : what input_name ≡ Some (d.Input 8)) (registers : (i : ℕ) → i < r
+    → what (register_name i) ≡ Some (d.Register 8)) (places : (j : ℕ) → j < t → what (state_name j) ≡ Some d.State) where
   body_faultless : (j a k : ℕ) → a + k ≤ r → commands_faults level_names what (commands (map (assignment r j) (range_with_len a k) ++ transfer t j ∷ [])) ≡ []
   body_faultless j a zero b = goto_faultless what (state_name ((j + 1) % t)) (places ((j + 1) % t) (omega arith))
   body_faultless j a (suc k) b =
-      none_of (command_faults level_names what (assignment r j a)) (commands_faults level_names what (commands (map (assignment r j) (range_with_len (a + 1) k) ++ transfer t j ∷ [])))
+      none_of (command_faults level_names what (assignment r j a))
+      (commands_faults level_names what (commands (map (assignment r j) (range_with_len (a + 1) k) ++ transfer t j ∷ [])))
       (sum_faultless what (register_name a) (register_name ((a + j) % r)) input_name (registers a (omega arith)) (registers ((a + j) % r) (omega arith)) input)
       (body_faultless j (a + 1) k (omega arith))
 
   pub states_faultless : (le : ℕ → ℕ → Bool) (a k : ℕ) → states_faults level_names le what (states (map (state r t) (range_with_len a k))) ≡ []
   states_faultless le a zero = refl
   states_faultless le a (suc k) =
-      none_of (commands_faults level_names what (commands (map (assignment r a) (range_with_len 0 r) ++ transfer t a ∷ [])) ++ []) (states_faults level_names le what (states (map (state r t) (range_with_len (a + 1) k))))
+      none_of (commands_faults level_names what (commands (map (assignment r a) (range_with_len 0 r) ++ transfer t a ∷ [])) ++ [])
+      (states_faults level_names le what (states (map (state r t) (range_with_len (a + 1) k))))
       (ap (λ (fs : List Fault). fs ++ []) (body_faultless a 0 r (omega arith)))
       (states_faultless le (a + 1) k)
 

@@ -53,7 +53,8 @@ module _ (ls : Levels) (t : DesignTree) (s : Store) where
     pub tags_length : length tags ≡ length names
     pub shown : shown_of ls names values tags ++ shown_from x ≡ shown_from 0
 
-  module _ (p : Program) (is : p ≡ program_of ls t) (x : ℕ) (names : List (List ℕ)) (values tags : List ℕ) (before : Collected x names values tags) (low : x < length (entities_of t)) where
+  module _ (p : Program) (is : p ≡ program_of ls t) (x : ℕ) (names : List (List ℕ)) (values tags : List ℕ)
+      (before : Collected x names values tags) (low : x < length (entities_of t)) where
     shown_here : (b : Bool) → is_register p.world x ≡ b → shown_from x ≡ shown_if b x ++ shown_from (x + 1)
     shown_here b e = shown_next x b low (ap (λ (q : Program). is_register q.world x) (sym is) ∙ e)
 
@@ -67,7 +68,8 @@ module _ (ls : Levels) (t : DesignTree) (s : Store) where
 
     -- a register
     pub collected : Codes (order_of ls) → 0 < length ls.names → is_register p.world x ≡ true → (name : List ℕ) (value at tag : ℕ)
-        → option_map (λ (e : tree.Entity). e.name.name) (slice_get (entities_of t) x) ≡ Some name → value ≡ number (own x) s → at ≡ level p.world (own x) s → tag ≡ code_of (order_of ls) at
+        → option_map (λ (e : tree.Entity). e.name.name) (slice_get (entities_of t) x) ≡ Some name → value ≡ number (own x) s
+        → at ≡ level p.world (own x) s → tag ≡ code_of (order_of ls) at
         → Collected (x + 1) (names ++ name ∷ []) (values ++ value ∷ []) (tags ++ tag ∷ [])
     collected codes some r name value at tag n v l g =
         let named = get_or_from_slice_get _ x name [] (slice_get-map (λ (e : tree.Entity). e.name.name) (entities_of t) x ∙ n) in
@@ -79,14 +81,16 @@ module _ (ls : Levels) (t : DesignTree) (s : Store) where
           values_length = omega (arith, more_values, more_names, before.values_length);
           tags_length = omega (arith, more_tags, more_names, before.tags_length);
           shown =
-              ap (λ (ss : List Shown). ss ++ shown_from (x + 1)) (shown_last ls names values tags name value tag before.values_length before.tags_length ∙ ap (λ (r : Shown). shown_of ls names values tags ++ r ∷ []) one)
+              ap (λ (ss : List Shown). ss ++ shown_from (x + 1))
+              (shown_last ls names values tags name value tag before.values_length before.tags_length ∙ ap (λ (r : Shown). shown_of ls names values tags ++ r ∷ []) one)
               ∙ append_assoc (shown_of ls names values tags) (register_shown ls (named_of ls t) s x ∷ []) (shown_from (x + 1))
               ∙ ap (λ (ss : List Shown). shown_of ls names values tags ++ ss) (sym (shown_here true r))
               ∙ before.shown;
         }
 
   -- the row of all
-  pub all_collected : {E : Type 0} (r : Result (Unit {0}) E) (x : ℕ) (names : List (List ℕ)) (values tags : List ℕ) (cycle : ℕ) (old new : List ℕ) → length (entities_of t) ≤ x → Collected x names values tags
+  pub all_collected : {E : Type 0} (r : Result (Unit {0}) E) (x : ℕ) (names : List (List ℕ)) (values tags : List ℕ) (cycle : ℕ)
+      (old new : List ℕ) → length (entities_of t) ≤ x → Collected x names values tags
       → OnOk r (new ≡ old ++ row_text cycle (shown_of ls names values tags)) → OnOk r (new ≡ old ++ labelled_row ls (named_of ls t) cycle s)
   all_collected r x names values tags cycle old new high all h =
       let n = entities_length ls t in

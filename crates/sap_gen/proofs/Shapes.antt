@@ -34,7 +34,8 @@ goes_on r t j a (suc k) = refl
 
 closes : (r t j a k : ℕ) → closing_list_faults (rest_of_body r t j a k) nowhere ≡ []
 closes r t j a zero = refl
-closes r t j a (suc k) = otherwise (is_end (rest_of_body r t j (a + 1) k)) _ (closing_list_faults (rest_of_body r t j (a + 1) k) nowhere) (goes_on r t j (a + 1) k) (closes r t j (a + 1) k)
+closes r t j a (suc k) = otherwise (is_end (rest_of_body r t j (a + 1) k)) _ (closing_list_faults (rest_of_body r t j (a + 1) k) nowhere)
+    (goes_on r t j (a + 1) k) (closes r t j (a + 1) k)
 
 shaped : (es : List Entity) (at : Body) (r t j a k : ℕ) → is_among at.group (state_name ((j + 1) % t)) ≡ true → list_shape es at (rest_of_body r t j a k) ≡ []
 shaped es at r t j a zero h = ap (λ (b : Bool). fault_if (not b) E11 nowhere ++ []) h

@@ -27,7 +27,8 @@ joined : (out a b c d e f g h i j k : List ℕ)
     → out ++ a ++ (b ++ c) ++ (d ++ e) ++ (f ++ g) ++ (h ++ i) ++ (j ++ k) ≡ out ++ (a ++ b ++ c ++ d ++ e ++ f ++ g ++ h ++ i ++ j ++ k)
 joined out a b c d e f g h i j k = simp append_assoc
 
-pub summary_written : {E : Type 0} (r : Result (Unit {0}) E) (n number registers states cycles refusals : ℕ) (out a b c d e new : List ℕ) → number ≡ n → registers ≡ register_count n → states ≡ state_count n → cycles ≡ cycle_count n
+pub summary_written : {E : Type 0} (r : Result (Unit {0}) E) (n number registers states cycles refusals : ℕ) (out a b c d e new : List ℕ)
+    → number ≡ n → registers ≡ register_count n → states ≡ state_count n → cycles ≡ cycle_count n
     → a ≡ out ++ codes "gen " → b ≡ a ++ (decimal number ++ codes ": ") → c ≡ b ++ (decimal registers ++ codes " registers, ") → d ≡ c ++ (decimal states ++ codes " states, ")
     → e ≡ d ++ (decimal cycles ++ codes " cycles, ") → OnOk r (new ≡ e ++ (decimal refusals ++ (codes " refusals" ++ 10 ∷ []))) → OnOk r (new ≡ out ++ summary n refusals)
 summary_written (Err f) n number registers states cycles refusals out a b c d e new ns rs ss cs p q s t u v = tt
@@ -62,9 +63,11 @@ text_is ls n some s end refusals count =
     (ap (λ (t : Store). labelled_row ls (named_of ls (generated_design n)) (cycle_count n) t) end
     ∙ sym (last_row ls (named_of ls (generated_design n)) (program_of ls (generated_design n)) (first (program_of ls (generated_design n)).world) n some))
 
-pub is_generated : (n r t : ℕ) → 1 ≤ n → r ≡ register_count n → t ≡ state_count n → (ls m : Levels) → IsLatticeOf level_names level_pairs ls → m ≡ ls → (d : DesignTree) → d ≡ design_of_counts r t
+pub is_generated : (n r t : ℕ) → 1 ≤ n → r ≡ register_count n → t ≡ state_count n → (ls m : Levels) → IsLatticeOf level_names level_pairs ls
+    → m ≡ ls → (d : DesignTree) → d ≡ design_of_counts r t
     → (p : Program) → p ≡ program_of m d → (from to : Store) → from ≡ first p.world → (refusals : ℕ) → refusals ≡ refusal_count (run_from p from (generated_stream n))
-    → to ≡ last_store from (run_from p from (generated_stream n)) → (text : List ℕ) → text ≡ summary n refusals ++ labelled_row m (named_of m d) (cycle_count n) to → text ≡ generated_text n
+    → to ≡ last_store from (run_from p from (generated_stream n)) → (text : List ℕ)
+    → text ≡ summary n refusals ++ labelled_row m (named_of m d) (cycle_count n) to → text ≡ generated_text n
 is_generated n r t some registers states ls m is same d tree p program from to start refusals count end text shown =
     let e : d ≡ generated_design n = tree ∙ design_by_counts r t n registers states in
     let q : p ≡ program_of ls (generated_design n) = program ∙ ap₂ program_of same e in

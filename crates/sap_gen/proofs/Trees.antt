@@ -34,19 +34,23 @@ input_is = refl
 
 registers_are : (a k : ℕ) → a + k ≤ 64 → list_all (is_declaration One) (map declared_register (range_with_len a k)) ≡ true
 registers_are a zero b = refl
-registers_are a (suc k) b = and_from (is_declaration One (declared_register a)) (list_all (is_declaration One) (map declared_register (range_with_len (a + 1) k))) (register_is a (omega arith)) (registers_are (a + 1) k (omega arith))
+registers_are a (suc k) b = and_from (is_declaration One (declared_register a))
+    (list_all (is_declaration One) (map declared_register (range_with_len (a + 1) k))) (register_is a (omega arith)) (registers_are (a + 1) k (omega arith))
 
 no_inputs : (a k : ℕ) → count_by is_input (map declared_register (range_with_len a k)) ≡ 0
 no_inputs a zero = refl
-no_inputs a (suc k) = sum_by-cons (λ (d : Decl). if is_input d then 1 else 0) (declared_register a) (map declared_register (range_with_len (a + 1) k)) ∙ ap (λ (n : ℕ). 0 + n) (no_inputs (a + 1) k)
+no_inputs a (suc k) = sum_by-cons (λ (d : Decl). if is_input d then 1 else 0) (declared_register a)
+    (map declared_register (range_with_len (a + 1) k)) ∙ ap (λ (n : ℕ). 0 + n) (no_inputs (a + 1) k)
 
 no_memories : (a k : ℕ) → count_by is_memory (map declared_register (range_with_len a k)) ≡ 0
 no_memories a zero = refl
-no_memories a (suc k) = sum_by-cons (λ (d : Decl). if is_memory d then 1 else 0) (declared_register a) (map declared_register (range_with_len (a + 1) k)) ∙ ap (λ (n : ℕ). 0 + n) (no_memories (a + 1) k)
+no_memories a (suc k) = sum_by-cons (λ (d : Decl). if is_memory d then 1 else 0) (declared_register a)
+    (map declared_register (range_with_len (a + 1) k)) ∙ ap (λ (n : ℕ). 0 + n) (no_memories (a + 1) k)
 
 so_many_registers : (a k : ℕ) → count_by is_register (map declared_register (range_with_len a k)) ≡ k
 so_many_registers a zero = refl
-so_many_registers a (suc k) = sum_by-cons (λ (d : Decl). if is_register d then 1 else 0) (declared_register a) (map declared_register (range_with_len (a + 1) k)) ∙ ap (λ (n : ℕ). 1 + n) (so_many_registers (a + 1) k) ∙ (let e : 1 + k ≡ suc k = omega arith in e)
+so_many_registers a (suc k) = sum_by-cons (λ (d : Decl). if is_register d then 1 else 0) (declared_register a)
+    (map declared_register (range_with_len (a + 1) k)) ∙ ap (λ (n : ℕ). 1 + n) (so_many_registers (a + 1) k) ∙ (let e : 1 + k ≡ suc k = omega arith in e)
 
 -- commands
 
@@ -139,7 +143,8 @@ one_input : (r : ℕ) → count_by is_input (declared_input ∷ map declared_reg
 one_input r = sum_by-cons (λ (d : Decl). if is_input d then 1 else 0) declared_input (map declared_register (range_with_len 0 r)) ∙ ap (λ (n : ℕ). 1 + n) (no_inputs 0 r)
 
 all_registers : (r : ℕ) → count_by is_register (declared_input ∷ map declared_register (range_with_len 0 r)) ≡ r
-all_registers r = sum_by-cons (λ (d : Decl). if is_register d then 1 else 0) declared_input (map declared_register (range_with_len 0 r)) ∙ ap (λ (n : ℕ). 0 + n) (so_many_registers 0 r) ∙ (let e : 0 + r ≡ r = omega arith in e)
+all_registers r = sum_by-cons (λ (d : Decl). if is_register d then 1 else 0) declared_input (map declared_register (range_with_len 0 r))
+    ∙ ap (λ (n : ℕ). 0 + n) (so_many_registers 0 r) ∙ (let e : 0 + r ≡ r = omega arith in e)
 
 not_one_memory : (r : ℕ) → count_by is_memory (declared_input ∷ map declared_register (range_with_len 0 r)) ≡ 0
 not_one_memory r = sum_by-cons (λ (d : Decl). if is_memory d then 1 else 0) declared_input (map declared_register (range_with_len 0 r)) ∙ ap (λ (n : ℕ). 0 + n) (no_memories 0 r)

@@ -18,14 +18,16 @@ large i h = omega arith
 pub registers_differ : (i j : ℕ) → i < 64 → j < 64 → i ≢ j → bytes_eq (register_name i) (register_name j) ≡ false
 registers_differ i j a b ne =
     elim (cases_Bool (bytes_eq (register_name i) (register_name j))) [
-      | inl t ↦ absurd (let e : register_name i ≡ register_name j = equal_of_bytes_eq (register_name i) (register_name j) t in let d : decimal i ≡ decimal j = cc in ne (decimal_injective i j (large i a) (large j b) d))
+      | inl t ↦ absurd (let e : register_name i ≡ register_name j = equal_of_bytes_eq (register_name i) (register_name j) t in
+          let d : decimal i ≡ decimal j = cc in ne (decimal_injective i j (large i a) (large j b) d))
       | inr f ↦ f
     ]
 
 pub states_differ : (i j : ℕ) → i < 64 → j < 64 → i ≢ j → bytes_eq (state_name i) (state_name j) ≡ false
 states_differ i j a b ne =
     elim (cases_Bool (bytes_eq (state_name i) (state_name j))) [
-      | inl t ↦ absurd (let e : state_name i ≡ state_name j = equal_of_bytes_eq (state_name i) (state_name j) t in let d : decimal i ≡ decimal j = cc in ne (decimal_injective i j (large i a) (large j b) d))
+      | inl t ↦ absurd (let e : state_name i ≡ state_name j = equal_of_bytes_eq (state_name i) (state_name j) t in
+          let d : decimal i ≡ decimal j = cc in ne (decimal_injective i j (large i a) (large j b) d))
       | inr f ↦ f
     ]
 

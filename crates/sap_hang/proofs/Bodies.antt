@@ -133,7 +133,8 @@ module _ (s : Standing) where
       (walked_as (list_part s (commands_of last.commands.items)) (arms_part s (last_arm (block_of last))) r r' a t a' t' refl (λ x. refl) (λ x. refl)
       (of_list last list r r' a t a' t' e w))
 
-  pub arms_step : (arms : List Arm) (last : Block) (n m : ℕ) (d : Arm) (list : List Cmd) (r0 r1 r2 : List Set) (a0 t0 a1 t1 a2 t2 : Set) → n < length arms → m ≡ n + 1 → d ≡ get_or arms n d
+  pub arms_step : (arms : List Arm) (last : Block) (n m : ℕ) (d : Arm) (list : List Cmd) (r0 r1 r2 : List Set) (a0 t0 a1 t1 a2 t2 : Set)
+      → n < length arms → m ≡ n + 1 → d ≡ get_or arms n d
       → list ≡ d.block.commands.items → Walked s (arms_part s (arms_of (drop m arms) (block_of last))) r0 a0 t0 r1 a1 t1
       → Walked s (list_part s (commands_of list)) r1 a1 t1 r2 a2 t2 → Walked s (arms_part s (arms_of (drop n arms) (block_of last))) r0 a0 t0 r2 a2 t2
   unfolding touches block_touches else_touches arms_touch list_touches assigns block_assigns else_assigns arms_assign list_assigns

@@ -49,7 +49,8 @@ module _ (es : List Entity) (ds : List Decl) where
       ∙ ap (λ (l : Rows). l ++ touched_on es ds below) (map-map (λ (p : Point). row p) (point h) cs)
 
   -- a state: its body in front of what lies below
-  pub state_walked : (s : State) (cs : List Cmd) (ss : List State) (h : Home) (r0 r1 r2 : List Set) → cs ≡ (out-State s).body.commands.items → ss ≡ (out-State s).children.items → h ≡ home_in s
+  pub state_walked : (s : State) (cs : List Cmd) (ss : List State) (h : Home) (r0 r1 r2 : List Set) → cs ≡ (out-State s).body.commands.items
+      → ss ≡ (out-State s).children.items → h ≡ home_in s
       → table_of es r1 ≡ touched_on es ds (states_points (states_of ss)) ++ table_of es r0
       → table_of es r2 ≡ touched_at es ds h (list_points (commands_of cs)) ++ table_of es r1
       → table_of es r2 ≡ touched_on es ds (state_points (state_of s)) ++ table_of es r0
@@ -67,7 +68,8 @@ module _ (es : List Entity) (ds : List Decl) where
       → Stands es (stored ds (λ x. states_assign (states_of ss) x)) below → ((x : ℕ) → has a1 x ≡ (has below x || has a0 x))
       → Adds es (stored ds (λ x. list_assigns (commands_of cs) x)) a1 a2 → Adds es (stored ds (λ x. state_assigns (state_of s) x)) a0 a2
   state_adds s cs ss below a0 a1 a2 ec es' h u a =
-      adds_same es (λ x. stored ds (λ y. list_assigns (commands_of cs) y) x || stored ds (λ y. states_assign (states_of ss) y) x) (stored ds (λ x. state_assigns (state_of s) x)) a0 a2
+      adds_same es (λ x. stored ds (λ y. list_assigns (commands_of cs) y) x || stored ds (λ y. states_assign (states_of ss) y) x)
+      (stored ds (λ x. state_assigns (state_of s) x)) a0 a2
       (λ x. sym (and-or_distrib_left (is_dynamic_store ds x) (list_assigns (commands_of cs) x) (states_assign (states_of ss) x))
       ∙ ap (λ (l : List Cmd). is_dynamic_store ds x && (list_assigns (commands_of l) x || states_assign (states_of ss) x)) ec
       ∙ ap (λ (l : List State). is_dynamic_store ds x && (list_assigns (commands_of (out-State s).body.commands.items) x || states_assign (states_of l) x)) es'
@@ -77,7 +79,8 @@ module _ (es : List Entity) (ds : List Decl) where
 
   -- states from a place on
 
-  pub states_start : (ss : List State) (n : ℕ) (r : List Set) (a f : Set) → length ss ≤ n → ((x : ℕ) → has a x ≡ false) → ((x : ℕ) → has f x ≡ false) → Passed es ds (drop n ss) r r a f
+  pub states_start : (ss : List State) (n : ℕ) (r : List Set) (a f : Set) → length ss ≤ n → ((x : ℕ) → has a x ≡ false)
+      → ((x : ℕ) → has f x ≡ false) → Passed es ds (drop n ss) r r a f
   unfolding states_assign is_dynamic_child
   states_start ss n r a f l ea ef =
       subst (λ (z : List State). Passed es ds z r r a f) (sym (drop_of_length-le ss l)) (record {
@@ -86,11 +89,13 @@ module _ (es : List Entity) (ds : List Decl) where
         children = starts es (λ x. is_dynamic_child no_state x) f ef (λ x. refl);
       })
 
-  child_more : (s : State) (ss : List State) (x : List ℕ) → ((bytes_eq (out-State s).name.name x && is_dynamic_kind (out-State s).kind) || is_dynamic_child (states_of ss) x) ≡ is_dynamic_child (states_of (s ∷ ss)) x
+  child_more : (s : State) (ss : List State) (x : List ℕ)
+      → ((bytes_eq (out-State s).name.name x && is_dynamic_kind (out-State s).kind) || is_dynamic_child (states_of ss) x) ≡ is_dynamic_child (states_of (s ∷ ss)) x
   unfolding is_dynamic_child
   child_more s ss x = ap (λ (t : StateTree). is_dynamic_child (and_state t (states_of ss)) x) (sym (state_of-out s))
 
-  pub states_step : (ss : List State) (n m : ℕ) (d : State) (r0 r1 r2 : List Set) (a1 f1 a2 f2 : Set) → n < length ss → m ≡ n + 1 → d ≡ get_or ss n d → Passed es ds (drop m ss) r0 r1 a1 f1
+  pub states_step : (ss : List State) (n m : ℕ) (d : State) (r0 r1 r2 : List Set) (a1 f1 a2 f2 : Set) → n < length ss → m ≡ n + 1
+      → d ≡ get_or ss n d → Passed es ds (drop m ss) r0 r1 a1 f1
       → Adds es (λ x. bytes_eq (out-State d).name.name x && is_dynamic_kind (out-State d).kind) f1 f2
       → table_of es r2 ≡ touched_on es ds (state_points (state_of d)) ++ table_of es r1 → Adds es (stored ds (λ x. state_assigns (state_of d) x)) a1 a2
       → Passed es ds (drop n ss) r0 r2 a2 f2
@@ -99,11 +104,14 @@ module _ (es : List Entity) (ds : List Decl) where
       let rest = drop m ss in
       let parts : drop n ss ≡ d ∷ rest = drop_more ss n d l ∙ ap (λ (k : ℕ). get_or ss n d ∷ drop k ss) (sym next) ∙ ap (λ (z : State). z ∷ rest) (sym e) in
       subst (λ (z : List State). Passed es ds z r0 r2 a2 f2) (sym parts) (record {
-        rows = r ∙ ap (λ (l : Rows). touched_on es ds (state_points (state_of d)) ++ l) p.rows ∙ on-both (state_points (state_of d)) (states_points (states_of rest)) (table_of es r0);
-        assigned = stands_same es (λ x. stored ds (λ y. state_assigns (state_of d) y) x || stored ds (λ y. states_assign (states_of rest) y) x) (stored ds (λ x. states_assign (states_of (d ∷ rest)) x)) a2
+        rows = r ∙ ap (λ (l : Rows). touched_on es ds (state_points (state_of d)) ++ l) p.rows
+            ∙ on-both (state_points (state_of d)) (states_points (states_of rest)) (table_of es r0);
+        assigned = stands_same es (λ x. stored ds (λ y. state_assigns (state_of d) y) x
+            || stored ds (λ y. states_assign (states_of rest) y) x) (stored ds (λ x. states_assign (states_of (d ∷ rest)) x)) a2
             (λ x. sym (and-or_distrib_left (is_dynamic_store ds x) (state_assigns (state_of d) x) (states_assign (states_of rest) x)))
             (stands_more es (stored ds (λ y. states_assign (states_of rest) y)) (stored ds (λ y. state_assigns (state_of d) y)) a1 a2 p.assigned a);
-        children = stands_same es (λ x. (bytes_eq (out-State d).name.name x && is_dynamic_kind (out-State d).kind) || is_dynamic_child (states_of rest) x) (λ x. is_dynamic_child (states_of (d ∷ rest)) x) f2
+        children = stands_same es (λ x. (bytes_eq (out-State d).name.name x && is_dynamic_kind (out-State d).kind)
+            || is_dynamic_child (states_of rest) x) (λ x. is_dynamic_child (states_of (d ∷ rest)) x) f2
             (λ x. child_more d rest x)
             (stands_more es (λ x. is_dynamic_child (states_of rest) x) (λ x. bytes_eq (out-State d).name.name x && is_dynamic_kind (out-State d).kind) f1 f2 p.children c);
       })
@@ -112,7 +120,8 @@ module _ (es : List Entity) (ds : List Decl) where
   passed_all ss n r0 r1 a f e p = subst (λ (k : ℕ). Passed es ds (drop k ss) r0 r1 a f) e p
 
   -- what a `fall` into states touches
-  pub falls_stand : (ss : List State) (r0 r1 : List Set) (a f g : Set) → Passed es ds ss r0 r1 a f → ((x : ℕ) → has g x ≡ (has a x || has f x)) → Stands es (λ x. fall_touches ds (states_of ss) x) g
+  pub falls_stand : (ss : List State) (r0 r1 : List Set) (a f g : Set) → Passed es ds ss r0 r1 a f
+      → ((x : ℕ) → has g x ≡ (has a x || has f x)) → Stands es (λ x. fall_touches ds (states_of ss) x) g
   unfolding fall_touches
   falls_stand ss r0 r1 a f g p u =
       record {

@@ -57,11 +57,13 @@ module _ (es : List Entity) (ds : List Decl) (h : Home) where
   pub goto_assigns : (k : SimpleCommand) (place : Place) (target : Mention) (a : Set) → k ≡ go_to place target → Assigns k a a
   goto_assigns k place target a is = subst (λ (z : SimpleCommand). Assigns z a a) (sym is) (no_assign (go_to place target) a (λ x. refl))
 
-  pub goto_touches : (k : SimpleCommand) (place : Place) (target : Mention) (a b : Set) → k ≡ go_to place target → Adds es (λ x. bytes_eq h.name x && is_dynamic_kind h.kind) a b → Touches k a b
+  pub goto_touches : (k : SimpleCommand) (place : Place) (target : Mention) (a b : Set) → k ≡ go_to place target
+      → Adds es (λ x. bytes_eq h.name x && is_dynamic_kind h.kind) a b → Touches k a b
   unfolding simple_touches
   goto_touches k place target a b is w =
       subst (λ (z : SimpleCommand). Touches z a b) (sym is)
-      (adds_same es (λ x. bytes_eq h.name x && is_dynamic_kind h.kind) (λ x. simple_touches ds h (go_to place target) x) a b (λ x. and_comm (bytes_eq h.name x) (is_dynamic_kind h.kind)) w)
+      (adds_same es (λ x. bytes_eq h.name x && is_dynamic_kind h.kind) (λ x. simple_touches ds h (go_to place target) x) a b
+      (λ x. and_comm (bytes_eq h.name x) (is_dynamic_kind h.kind)) w)
 
   pub fall_assigns : (k : SimpleCommand) (place : Place) (a : Set) → k ≡ fall_to_child place → Assigns k a a
   fall_assigns k place a is = subst (λ (z : SimpleCommand). Assigns z a a) (sym is) (no_assign (fall_to_child place) a (λ x. refl))

@@ -38,19 +38,23 @@ module _ (firsts : List ℕ) (rows : List Set) (table : Table) (point q x : ℕ)
 
   told_of : (row : Set) → true ≡ ltb q (length rows) → row ≡ get_or rows q row → says table point x ≡ unwrap_or (option_map (λ (y : ℕ). has row y) (slice_get firsts x)) false
   told_of row l h =
-      told ∙ ap (λ (o : Option Set). bit_of (option_map (λ (s : Set). map (λ (y : ℕ). has s y) firsts) o) x) (slice_get_read rows (length rows) q row refl (ltb-true q (length rows) (sym l)) h)
+      told ∙ ap (λ (o : Option Set). bit_of (option_map (λ (s : Set). map (λ (y : ℕ). has s y) firsts) o) x)
+      (slice_get_read rows (length rows) q row refl (ltb-true q (length rows) (sym l)) h)
       ∙ ap (λ (o : Option Bool). unwrap_or o false) (bit-at row firsts x)
 
   pub hung : (row : Set) (number : ℕ) (b : Bool) → true ≡ ltb q (length rows) → row ≡ get_or rows q row → true ≡ ltb x (length firsts) → number ≡ get_or firsts x number
       → b ≡ has row number → b ≡ says table point x
   hung row number b l h m k e =
-      e ∙ sym (told_of row l h ∙ ap (λ (o : Option ℕ). unwrap_or (option_map (λ (y : ℕ). has row y) o) false) (slice_get_read firsts (length firsts) x number refl (ltb-true x (length firsts) (sym m)) k))
+      e ∙ sym (told_of row l h ∙ ap (λ (o : Option ℕ). unwrap_or (option_map (λ (y : ℕ). has row y) o) false)
+      (slice_get_read firsts (length firsts) x number refl (ltb-true x (length firsts) (sym m)) k))
 
   pub no_entity : (row : Set) → true ≡ ltb q (length rows) → row ≡ get_or rows q row → false ≡ ltb x (length firsts) → false ≡ says table point x
-  no_entity row l h m = sym (told_of row l h ∙ ap (λ (o : Option ℕ). unwrap_or (option_map (λ (y : ℕ). has row y) o) false) (slice_get_past firsts x (ltb-false x (length firsts) (sym m))))
+  no_entity row l h m = sym (told_of row l h
+      ∙ ap (λ (o : Option ℕ). unwrap_or (option_map (λ (y : ℕ). has row y) o) false) (slice_get_past firsts x (ltb-false x (length firsts) (sym m))))
 
   pub no_point : false ≡ ltb q (length rows) → false ≡ says table point x
-  no_point l = sym (told ∙ ap (λ (o : Option Set). bit_of (option_map (λ (s : Set). map (λ (y : ℕ). has s y) firsts) o) x) (slice_get_past rows q (ltb-false q (length rows) (sym l))))
+  no_point l = sym (told ∙ ap (λ (o : Option Set). bit_of (option_map (λ (s : Set). map (λ (y : ℕ). has s y) firsts) o) x)
+      (slice_get_past rows q (ltb-false q (length rows) (sym l))))
 
 module _ (firsts : List ℕ) (root : Set) (table : Table) (x : ℕ) (is : row_of firsts root ≡ table.root) where
   told_of_root : says_of_root table x ≡ unwrap_or (option_map (λ (y : ℕ). has root y) (slice_get firsts x)) false
@@ -58,10 +62,12 @@ module _ (firsts : List ℕ) (root : Set) (table : Table) (x : ℕ) (is : row_of
 
   pub root_hung : (number : ℕ) (b : Bool) → true ≡ ltb x (length firsts) → number ≡ get_or firsts x number → b ≡ has root number → b ≡ says_of_root table x
   root_hung number b m k e =
-      e ∙ sym (told_of_root ∙ ap (λ (o : Option ℕ). unwrap_or (option_map (λ (y : ℕ). has root y) o) false) (slice_get_read firsts (length firsts) x number refl (ltb-true x (length firsts) (sym m)) k))
+      e ∙ sym (told_of_root ∙ ap (λ (o : Option ℕ). unwrap_or (option_map (λ (y : ℕ). has root y) o) false)
+      (slice_get_read firsts (length firsts) x number refl (ltb-true x (length firsts) (sym m)) k))
 
   pub root_no_entity : false ≡ ltb x (length firsts) → false ≡ says_of_root table x
-  root_no_entity m = sym (told_of_root ∙ ap (λ (o : Option ℕ). unwrap_or (option_map (λ (y : ℕ). has root y) o) false) (slice_get_past firsts x (ltb-false x (length firsts) (sym m))))
+  root_no_entity m = sym (told_of_root ∙ ap (λ (o : Option ℕ). unwrap_or (option_map (λ (y : ℕ). has root y) o) false)
+      (slice_get_past firsts x (ltb-false x (length firsts) (sym m))))
 
 -- a table
 
@@ -134,9 +140,11 @@ module _ (v : Version) (ds : List Decl) (ss : List State) (declared : List Decl)
 
 pub stores_start : (es : List Entity) (ds : List Decl) (n : ℕ) (s : Set) → length ds ≤ n → ((x : ℕ) → has s x ≡ false) → Stands es (λ x. is_dynamic_store (drop n ds) x) s
 unfolding is_dynamic_store
-stores_start es ds n s l e = subst (λ (z : List Decl). Stands es (λ x. is_dynamic_store z x) s) (sym (drop_of_length-le ds l)) (starts es (λ x. is_dynamic_store [] x) s e (λ x. refl))
+stores_start es ds n s l e = subst (λ (z : List Decl). Stands es (λ x. is_dynamic_store z x) s) (sym (drop_of_length-le ds l))
+    (starts es (λ x. is_dynamic_store [] x) s e (λ x. refl))
 
-pub stores_step : (es : List Entity) (ds : List Decl) (n m : ℕ) (d : Decl) (s t : Set) → n < length ds → m ≡ n + 1 → d ≡ get_or ds n d → Stands es (λ x. is_dynamic_store (drop m ds) x) s
+pub stores_step : (es : List Entity) (ds : List Decl) (n m : ℕ) (d : Decl) (s t : Set) → n < length ds → m ≡ n + 1 → d ≡ get_or ds n d
+    → Stands es (λ x. is_dynamic_store (drop m ds) x) s
     → Adds es (λ x. declares_dynamic x d) s t → Stands es (λ x. is_dynamic_store (drop n ds) x) t
 unfolding is_dynamic_store
 stores_step es ds n m d s t l next e h a =

@@ -11,7 +11,8 @@ quiet_added : (line : List ℕ) (before after : Option Told) → after ≡ optio
 quiet_added line None after e = tt
 quiet_added line (Some t) after e = subst (λ (o : Option Told). IsSomeAnd o (λ n. Untouched t n)) (sym e) (record { files = refl; uses = refl; blame = refl; output = refl })
 
-pub quiet_line : {E : Type 0} (r : Result (Unit {0}) E) (line : List ℕ) (before after : Option Told) → OnOk r (after ≡ option_map (added 2 line) before) → OnErr r (CutLine line before after)
+pub quiet_line : {E : Type 0} (r : Result (Unit {0}) E) (line : List ℕ) (before after : Option Told)
+    → OnOk r (after ≡ option_map (added 2 line) before) → OnErr r (CutLine line before after)
     → Between before after Untouched
 quiet_line (Ok u) line before after told cut = quiet_added line before after told
 quiet_line (Err e) line before after told cut = quiet_added (take cut.count line) before after cut.told
@@ -31,7 +32,8 @@ cut_then asked text t m (Some n) is count within e h = record {
   output = h.output ∙ ap (λ (x : Told). x.written 1) e;
 }
 
-pub cut_off : (asked : Asked) (text : List ℕ) (before middle after : Option Told) → IsAnswer asked text → CutOutput text before middle → Between middle after Untouched → Between before after (IsCutOff asked)
+pub cut_off : (asked : Asked) (text : List ℕ) (before middle after : Option Told) → IsAnswer asked text → CutOutput text before middle
+    → Between middle after Untouched → Between before after (IsCutOff asked)
 cut_off asked text None middle after is cut quiet = tt
 cut_off asked text (Some t) middle after is cut quiet =
     cut_then asked text t (blamed (codes "output") (added 1 (take cut.count text) t)) after is cut.count cut.within refl (subst (λ (o : Option Told). Between o after Untouched) cut.told quiet)
@@ -46,7 +48,8 @@ after_cut text line lost mid now t m (Some n) count is same h =
       Lines : List ℕ → Type 0
       Lines w = ((now ≡ mid) × (n.written 2 ≡ w ++ line)) ⊎ ((now ≡ counted mid) × ((k : ℕ) × (k ≤ length line) × (n.written 2 ≡ w ++ take k line)))
 
-pub gained_behind : (text line : List ℕ) (lost mid now : ℕ) (before middle after : Option Told) → CutOutput text before middle → mid ≡ lost → Between middle after (Gained line mid now)
+pub gained_behind : (text line : List ℕ) (lost mid now : ℕ) (before middle after : Option Told) → CutOutput text before middle → mid ≡ lost
+    → Between middle after (Gained line mid now)
     → Between before after (Gained line lost now)
 gained_behind text line lost mid now None middle after cut same h = tt
 gained_behind text line lost mid now (Some t) middle after cut same h =

@@ -34,7 +34,9 @@ abbrev pub assembly_codes : List (List ℕ)
 assembly_codes = codes "B1" ∷ codes "B2" ∷ codes "B3" ∷ codes "B4" ∷ []
 
 abbrev pub is_code : List ℕ → Bool
-is_code code = is_one_of design_codes code || (is_one_of lattice_codes code || (is_one_of stimulus_codes code || (is_one_of module_codes code || (is_one_of system_codes code || (is_one_of wave_codes code || is_one_of assembly_codes code)))))
+is_code code = is_one_of design_codes code
+    || (is_one_of lattice_codes code || (is_one_of stimulus_codes code
+    || (is_one_of module_codes code || (is_one_of system_codes code || (is_one_of wave_codes code || is_one_of assembly_codes code)))))
 
 -- the text of a code begins with it and a colon
 abbrev pub IsTextOf : (code text : List ℕ) → Type 0

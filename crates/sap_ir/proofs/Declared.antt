@@ -36,7 +36,8 @@ pub apart_lists : (xs ys : List Name) → AreDistinct (xs ++ ys) → (n : Name) 
 apart_lists [] ys d n h = refl
 apart_lists (x ∷ xs) ys d n h =
     elim (cases_Bool (bytes_eq n x)) [
-      | inl t ↦ absurd (let e : n ≡ x = equal_of_bytes_eq n x t in let g = among_behind n xs ys h in let k : is_among n (xs ++ ys) ≡ false = subst (λ (m : Name). is_among m (xs ++ ys) ≡ false) (sym e) d.0 in cc)
+      | inl t ↦ absurd (let e : n ≡ x = equal_of_bytes_eq n x t in let g = among_behind n xs ys h in
+          let k : is_among n (xs ++ ys) ≡ false = subst (λ (m : Name). is_among m (xs ++ ys) ≡ false) (sym e) d.0 in cc)
       | inr f ↦ rw f (apart_lists xs ys d.1 n h)
     ]
 
@@ -51,7 +52,8 @@ apart_lists_back xs ys d n h =
 scope_of : List Var → Scope
 scope_of xs = map (λ x. (x.name, x.width)) xs
 
-pub inputs_apart : (s : Source) → AreDistinct (declared s) → (n : Name) → is_among n (variable_names s.registers ++ (variable_names s.wires ++ memory_names s.memories)) ≡ true → is_among n (variable_names s.inputs) ≡ false
+pub inputs_apart : (s : Source) → AreDistinct (declared s) → (n : Name)
+    → is_among n (variable_names s.registers ++ (variable_names s.wires ++ memory_names s.memories)) ≡ true → is_among n (variable_names s.inputs) ≡ false
 inputs_apart s d n h = apart_lists (variable_names s.inputs) (variable_names s.registers ++ (variable_names s.wires ++ memory_names s.memories)) d n h
 
 pub not_readable : (s : Source) → AreDistinct (declared s) → (n : Name) → is_among n (memory_names s.memories) ≡ true → find (readable s) n ≡ None
@@ -69,13 +71,15 @@ not_readable s d n h =
     let c = apart_lists ws ms d2 n h in
     let inputs = map (λ x. (x.name, x.width)) s.inputs in
     let registers = map (λ x. (x.name, x.width)) s.registers in
-    found_second (inputs ++ registers) (map (λ x. (x.name, x.width)) s.wires) n (found_second inputs registers n (not_found (λ (x : Var). x.name) (λ x. x.width) s.inputs n a) ∙ not_found (λ (x : Var). x.name) (λ x. x.width) s.registers n b)
+    found_second (inputs ++ registers) (map (λ x. (x.name, x.width)) s.wires) n
+    (found_second inputs registers n (not_found (λ (x : Var). x.name) (λ x. x.width) s.inputs n a) ∙ not_found (λ (x : Var). x.name) (λ x. x.width) s.registers n b)
     ∙ not_found (λ (x : Var). x.name) (λ x. x.width) s.wires n c
 
 pub readable_width : (s : Source) (n : Name) (u : ℕ) → find (readable s) n ≡ Some u → width_of s n ≡ u
 readable_width s n u h = ap (λ o. unwrap_or o 0) (found_first (readable s) (map (λ m. (m.name, m.width)) s.memories) n u h)
 
-memory_width_found : (ms : List MemoryVariable) (n : Name) (e : ℕ × ℕ) → find {X = ℕ × ℕ} (map (λ m. (m.name, (m.width, m.depth))) ms) n ≡ Some e → find (map (λ m. (m.name, m.width)) ms) n ≡ Some e.0
+memory_width_found : (ms : List MemoryVariable) (n : Name) (e : ℕ × ℕ)
+    → find {X = ℕ × ℕ} (map (λ m. (m.name, (m.width, m.depth))) ms) n ≡ Some e → find (map (λ m. (m.name, m.width)) ms) n ≡ Some e.0
 memory_width_found [] n e h = absurd (cc)
 memory_width_found (m ∷ ms) n e h =
     elim (cases_Bool (bytes_eq m.name n)) [
@@ -94,7 +98,8 @@ assignable_among s n u h =
     elim (cases_Bool (is_among n (variable_names s.registers))) [
       | inl t ↦ among_front n (variable_names s.registers) (variable_names s.wires) t
       | inr f ↦
-          let g = found_second (map (λ x. (x.name, x.width)) s.registers) (map (λ x. (x.name, x.width)) s.wires) n (not_found (λ (x : Var). x.name) (λ x. x.width) s.registers n f) in
+          let g = found_second (map (λ x. (x.name, x.width)) s.registers) (map (λ x. (x.name, x.width)) s.wires) n
+          (not_found (λ (x : Var). x.name) (λ x. x.width) s.registers n f) in
           among_behind n (variable_names s.registers) (variable_names s.wires) (found_among (λ (x : Var). x.name) (λ x. x.width) s.wires n u (sym g ∙ h))
     ]
 

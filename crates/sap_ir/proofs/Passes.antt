@@ -66,14 +66,16 @@ term_to ms sc widths d u (constant w n) f = and_from (w == u) (nat_lt n (2 ^ u))
 term_to ms sc widths d u (read x) f = found_to u (find sc x) f
 term_to ms sc widths d u (cell m i) f =
     let e = fine_width ms sc widths d f.0 i f.3 in
-    rw (e, f.2) (three_from (width_to f.0 f.1) (and_from (u == u) (2 ^ f.0 == 2 ^ f.0) (test_of_equal u u refl) (test_of_equal (2 ^ f.0) (2 ^ f.0) refl)) (term_to ms sc widths d f.0 i f.3))
+    rw (e, f.2) (three_from (width_to f.0 f.1)
+    (and_from (u == u) (2 ^ f.0 == 2 ^ f.0) (test_of_equal u u refl) (test_of_equal (2 ^ f.0) (2 ^ f.0) refl)) (term_to ms sc widths d f.0 i f.3))
 term_to ms sc widths d u (one op a) f =
     let e = fine_width ms sc widths d f.0 a f.2 in
     rw e (three_from (width_to f.0 f.1) (term_to ms sc widths d f.0 a f.2) (test_of_equal u (width1 op f.0) f.3))
 term_to ms sc widths d u (two op a b) f =
     let e = fine_width ms sc widths d f.0 a f.4 in
     let g = fine_width ms sc widths d f.1 b f.5 in
-    rw (e, g) (six (width_to f.0 f.2) (width_to f.1 f.3) (term_to ms sc widths d f.0 a f.4) (term_to ms sc widths d f.1 b f.5) (count_to op f.0 f.1 f.6) (test_of_equal u (width2 op f.0) f.7))
+    rw (e, g) (six (width_to f.0 f.2) (width_to f.1 f.3) (term_to ms sc widths d f.0 a f.4) (term_to ms sc widths d f.1 b f.5)
+    (count_to op f.0 f.1 f.6) (test_of_equal u (width2 op f.0) f.7))
 term_to ms sc widths d u (choose c a b) f =
     three_from (term_to ms sc widths d 1 c f.0) (term_to ms sc widths d u a f.1) (term_to ms sc widths d u b f.2)
 term_to ms sc widths d u (join a b) f =
@@ -94,7 +96,8 @@ action_to : (s : Source) → AreDistinct (declared s) → (a : Action) → Actio
 action_to s d (set x t) f = ap (of_width (value_is_fine s t)) f.1 ∙ value_to s d f.0 t f.2
 action_to s d (put m i t) f =
     let e = fine_width (shapes s) (readable s) (width_of s) (source_widths s d) f.1 i f.4 in
-    rw (e, f.3) (three_from (width_to f.1 f.2) (value_to s d f.1 i f.4) (and_from (value_is_fine s t f.0) (2 ^ f.1 == 2 ^ f.1) (value_to s d f.0 t f.5) (test_of_equal (2 ^ f.1) (2 ^ f.1) refl)))
+    rw (e, f.3) (three_from (width_to f.1 f.2) (value_to s d f.1 i f.4)
+    (and_from (value_is_fine s t f.0) (2 ^ f.1 == 2 ^ f.1) (value_to s d f.0 t f.5) (test_of_equal (2 ^ f.1) (2 ^ f.1) refl)))
 
 command_to : (s : Source) → AreDistinct (declared s) → (c : Command) → CommandFine s c → command_is_fine s c ≡ true
 command_to s d c f = and_from (value_is_fine s c.when 1) (action_is_fine s c.act) (value_to s d 1 c.when f.0) (action_to s d c.act f.1)
@@ -110,7 +113,11 @@ power_to zero d b h k e = absurd (omega (arith, h, k))
 power_to (suc k) d b h l e =
     elim (cases_Bool (d == 2 ^ suc k)) [
       | inl t ↦ rw t refl
-      | inr f ↦ rw f (power_to k d b h (elim (cases_Bool (b == suc k)) [ inl q ↦ absurd (let r : b ≡ suc k = (Decides-eqb b (suc k)).0 q in let t = test_of_equal d (2 ^ suc k) (e ∙ ap (λ (n : ℕ). 2 ^ n) r) in cc) | inr q ↦ below_unequal b k l q ]) e)
+      | inr f ↦ rw f (power_to k d b h (elim (cases_Bool (b == suc k)) [
+        | inl q ↦
+            absurd (let r : b ≡ suc k = (Decides-eqb b (suc k)).0 q in let t = test_of_equal d (2 ^ suc k) (e ∙ ap (λ (n : ℕ). 2 ^ n) r) in cc)
+        | inr q ↦ below_unequal b k l q
+      ]) e)
     ]
 
 store_to : (m : MemoryVariable) → IsStore m → is_store m ≡ true
@@ -121,4 +128,9 @@ pub guarded_to : (s : Source) → IsGuarded s → is_guarded s ≡ true
 unfolding is_guarded
 guarded_to s g =
     let d = g.declared_once in
-    five_from (six (test_of_all is_name _ (λ x k. k) (declared s) g.named) (test_of_all (λ x. not (is_helping x)) _ (λ x k. ap not k) (declared s) g.not_helping) (distinct_to (declared s) d) (test_of_all is_plain_var _ plain_to s.inputs g.inputs) (test_of_all is_plain_var _ plain_to s.wires g.wires) (test_of_all is_register_var _ register_to s.registers g.registers)) (test_of_all is_store _ store_to s.memories g.memories) (test_of_all (λ x. is_among x (variable_names s.registers ++ variable_names s.wires)) _ (λ x k. k) s.ports g.ports_declared) (distinct_to s.ports g.ports_once) (test_of_all (command_is_fine s) _ (command_to s d) s.commands g.commands)
+    five_from (six (test_of_all is_name _ (λ x k. k) (declared s) g.named)
+    (test_of_all (λ x. not (is_helping x)) _ (λ x k. ap not k) (declared s) g.not_helping) (distinct_to (declared s) d)
+    (test_of_all is_plain_var _ plain_to s.inputs g.inputs) (test_of_all is_plain_var _ plain_to s.wires g.wires)
+    (test_of_all is_register_var _ register_to s.registers g.registers)) (test_of_all is_store _ store_to s.memories g.memories)
+    (test_of_all (λ x. is_among x (variable_names s.registers ++ variable_names s.wires)) _ (λ x k. k) s.ports g.ports_declared)
+    (distinct_to s.ports g.ports_once) (test_of_all (command_is_fine s) _ (command_to s d) s.commands g.commands)

@@ -17,7 +17,8 @@ use Rattle.sap_joined.specs.Joined as spec
 use Rattle.sap_joined.specs.Joined.{NamedNet, Feed}
 
 -- the names of hidden registers are the hidden ones of their names
-hidden_named : (shown : Name → Bool) (rs : List Register) → map (λ (r : Register). r.name) (filter (spec.is_hidden_register shown) rs) ≡ filter (spec.is_hidden shown) (map (λ (r : Register). r.name) rs)
+hidden_named : (shown : Name → Bool) (rs : List Register)
+    → map (λ (r : Register). r.name) (filter (spec.is_hidden_register shown) rs) ≡ filter (spec.is_hidden shown) (map (λ (r : Register). r.name) rs)
 hidden_named shown [] = refl
 hidden_named shown (r ∷ rs) =
     elim (cases_Bool (shown r.name)) [
@@ -63,14 +64,17 @@ module _ (tag : ℕ) (parts : List NamedNet) (feeds : List Feed) where
   abbrev is_shown : Name → Bool
   is_shown x = is_among x (spec.port_names all_ports)
 
-  pub whole_is : (fed shown : List Name) (x : Name) (names : List Name) (ports : List Port) (inputs : List Input) (wires : List Wire) (first last registers : List Register) (memories : List Memory)
+  pub whole_is : (fed shown : List Name) (x : Name) (names : List Name) (ports : List Port) (inputs : List Input) (wires : List Wire)
+      (first last registers : List Register) (memories : List Memory)
       → fed ≡ spec.fed_names feeds → ports ≡ spec.ports_by (holds fed) (spec.part_ports parts) → inputs ≡ filter (spec.is_free_input (holds fed)) (spec.part_inputs parts)
       → shown ≡ spec.port_names ports → wires ≡ all_wires
       → first ≡ filter (spec.is_shown_register (holds shown)) all_registers → last ≡ filter (spec.is_hidden_register (holds shown)) all_registers → registers ≡ first ++ last
       → memories ≡ all_memories
-      → names ≡ spec.port_names ports ++ ((filter (spec.is_hidden (holds shown)) (map (λ (w : Wire). w.name) wires) ++ map (λ (r : Register). r.name) last) ++ filter (spec.is_hidden (holds shown)) (map (λ (m : Memory). m.name) memories))
+      → names ≡ spec.port_names ports ++ ((filter (spec.is_hidden (holds shown)) (map (λ (w : Wire). w.name) wires)
+      ++ map (λ (r : Register). r.name) last) ++ filter (spec.is_hidden (holds shown)) (map (λ (m : Memory). m.name) memories))
       → x ≡ top_name → net x names ports inputs wires registers memories ≡ spec.joined tag parts feeds
-  whole_is fed shown x names ports inputs wires first last registers memories fed_is ports_are inputs_are shown_is wires_are first_is last_is registers_are memories_are names_are top =
+  whole_is fed shown x names ports inputs wires first last registers memories fed_is ports_are inputs_are shown_is wires_are first_is
+      last_is registers_are memories_are names_are top =
       let f : holds fed ≡ spec.is_fed feeds = ap (λ (xs : List Name). holds xs) fed_is in
       let ps : ports ≡ all_ports = ports_are ∙ ap (λ (t : Name → Bool). spec.ports_by t (spec.part_ports parts)) f in
       let is : inputs ≡ spec.free_inputs parts feeds = inputs_are ∙ ap (λ (t : Name → Bool). filter (spec.is_free_input t) (spec.part_inputs parts)) f in
@@ -80,7 +84,8 @@ module _ (tag : ℕ) (parts : List NamedNet) (feeds : List Feed) where
       let rs : registers ≡ spec.shown_first is_shown all_registers = registers_are ∙ ap₂ (λ (xs ys : List Register). xs ++ ys) first_are last_are in
       let ns_wires : filter (spec.is_hidden (holds shown)) (map (λ (w : Wire). w.name) wires) ≡ filter (spec.is_hidden is_shown) (map (λ (w : Wire). w.name) all_wires) =
       ap₂ (λ (t : Name → Bool) (ws : List Wire). filter (spec.is_hidden t) (map (λ (w : Wire). w.name) ws)) h wires_are in
-      let ns_memories : filter (spec.is_hidden (holds shown)) (map (λ (m : Memory). m.name) memories) ≡ filter (spec.is_hidden is_shown) (map (λ (m : Memory). m.name) all_memories) =
+      let ns_memories : filter (spec.is_hidden (holds shown)) (map (λ (m : Memory). m.name) memories)
+      ≡ filter (spec.is_hidden is_shown) (map (λ (m : Memory). m.name) all_memories) =
       ap₂ (λ (t : Name → Bool) (ms : List Memory). filter (spec.is_hidden t) (map (λ (m : Memory). m.name) ms)) h memories_are in
       let within =
       ap₂ (λ (xs ys : List Name). xs ++ ys) (ap₂ (λ (xs ys : List Name). xs ++ ys) ns_wires (ap (map (λ (r : Register). r.name)) last_are)) ns_memories
@@ -90,4 +95,5 @@ module _ (tag : ℕ) (parts : List NamedNet) (feeds : List Feed) where
       ap₂ (λ (y : Name) (zs : List Name). net y zs ports inputs wires registers memories) top ns
       ∙ ap₂ (λ (qs : List Port) (js : List Input). net top_name (spec.joined tag parts feeds).names qs js wires registers memories) ps is
       ∙ ap₂ (λ (us : List Wire) (qs : List Register). net top_name (spec.joined tag parts feeds).names all_ports (spec.free_inputs parts feeds) us qs memories) wires_are rs
-      ∙ ap (λ (ms : List Memory). net top_name (spec.joined tag parts feeds).names all_ports (spec.free_inputs parts feeds) all_wires (spec.shown_first is_shown all_registers) ms) memories_are
+      ∙ ap (λ (ms : List Memory). net top_name (spec.joined tag parts feeds).names all_ports (spec.free_inputs parts feeds) all_wires
+      (spec.shown_first is_shown all_registers) ms) memories_are

@@ -102,7 +102,8 @@ module _ (s : NamedSystem) where
       → is_among z (value_at s w.to ∷ (tag_at s w.to ∷ ns)) ≡ true → is_among z (names_of (feeds_through s w l ++ rest)) ≡ true
   one_more z w None ns rest more h = pair_first z (value_at s w.to) (tag_at s w.to) ns (names_of rest) more h
   one_more z w (Some l) ns rest more h =
-      among_behind z (joined_at s w.to ∷ below_at s w.to ∷ []) (value_at s w.to ∷ (tag_at s w.to ∷ names_of rest)) (pair_first z (value_at s w.to) (tag_at s w.to) ns (names_of rest) more h)
+      among_behind z (joined_at s w.to ∷ below_at s w.to ∷ []) (value_at s w.to ∷ (tag_at s w.to ∷ names_of rest))
+      (pair_first z (value_at s w.to) (tag_at s w.to) ns (names_of rest) more h)
 
   fed_in_wires : (ws : List SystemWire) (z : Name) → is_among z (names_to ws) ≡ true → is_among z (names_of (feeds s ws)) ≡ true
   fed_in_wires [] z h = h
@@ -183,18 +184,21 @@ module _ (s : NamedSystem) where
         let rs = map (λ (r : Register). r.name) (copies_of (λ i. (nets i).registers) copy_register 0 s.parts) in
         let ms = map (λ (m : Memory). m.name) (copies_of (λ i. (nets i).memories) copy_memory 0 s.parts) in
         let fed : is_among z ws ≡ true =
-        subst (λ (ns : List Name). is_among z ns ≡ true) (sym (map_both (λ (w : Wire). w.name) (feeds s s.wires) copies)) (among_front z (names_of (feeds s s.wires)) (names_of copies) (fed_in_wires s.wires z h)) in
+        subst (λ (ns : List Name). is_among z ns ≡ true) (sym (map_both (λ (w : Wire). w.name) (feeds s s.wires) copies))
+        (among_front z (names_of (feeds s s.wires)) (names_of copies) (fed_in_wires s.wires z h)) in
         among_front z (ws ++ rs) ms (among_front z ws rs fed)
 
     not_fed : (z : Name) → is_among z (free_names 0 s.parts) ≡ true → is_fed (feeds_of s) z ≡ false
     not_fed z h =
         elim (cases_Bool (is_fed (feeds_of s) z)) [
-          | inl t ↦ absurd (not_twice z (input_names (linked_net s nets)) (inner_names s nets) apart (subst (λ (ns : List Name). is_among z ns ≡ true) (sym (in_order s)) h) (within z t))
+          | inl t ↦ absurd (not_twice z (input_names (linked_net s nets)) (inner_names s nets) apart
+              (subst (λ (ns : List Name). is_among z ns ≡ true) (sym (in_order s)) h) (within z t))
           | inr q ↦ q
         ]
 
     pub told : (i x : ℕ) → i < length s.parts → is_input (world (part_at s i).design) x ≡ true
-        → (is_fed (feeds_of s) (value_at s (endpoint i x)) ≡ is_fed_end s.wires (endpoint i x)) × (is_fed (feeds_of s) (tag_at s (endpoint i x)) ≡ is_fed_end s.wires (endpoint i x))
+        → (is_fed (feeds_of s) (value_at s (endpoint i x)) ≡ is_fed_end s.wires (endpoint i x))
+        × (is_fed (feeds_of s) (tag_at s (endpoint i x)) ≡ is_fed_end s.wires (endpoint i x))
     told i x low is =
         elim (cases_Bool (is_fed_end s.wires (endpoint i x))) [
           | inl t ↦ let r = fed_among s.wires (endpoint i x) t in (r.0 ∙ sym t, r.1 ∙ sym t)

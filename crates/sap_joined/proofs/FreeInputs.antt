@@ -72,9 +72,14 @@ module _ (d : Named) (u : ℕ) where
   abbrev pub inputs_by : (x : ℕ) → List Entity → List Input
   inputs_by x [] = []
   inputs_by x (e ∷ es) =
-      (if is_input (world d) x then record { name = value_name (name d x); width = width (world d) x } ∷ record { name = tag_name (name d x); width = u } ∷ [] else []) ++ inputs_by (x + 1) es
+      (if is_input (world d) x then record { name = value_name (name d x); width = width (world d) x } ∷ record {
+        name =
+            tag_name (name d x);
+        width = u;
+      } ∷ [] else []) ++ inputs_by (x + 1) es
 
-  names_by : (x : ℕ) (es : List Entity) → map (λ (p : Port). p.name) (ports (λ z. z) (pairs_of (is_input (world d)) kind.Input d x es)) ≡ map (λ (i : Input). i.name) (inputs_by x es)
+  names_by : (x : ℕ) (es : List Entity) → map (λ (p : Port). p.name) (ports (λ z. z) (pairs_of (is_input (world d)) kind.Input d x es))
+      ≡ map (λ (i : Input). i.name) (inputs_by x es)
   names_by x [] = refl
   names_by x (e ∷ es) =
       elim (cases_Bool (is_input (world d) x)) [
@@ -82,7 +87,8 @@ module _ (d : Named) (u : ℕ) where
         | inr q ↦ rw q (names_by (x + 1) es)
       ]
 
-  module _ (sc : Scope) (found : (x : ℕ) → is_input (world d) x ≡ true → (find sc (value_name (name d x)) ≡ Some (width (world d) x)) × (find sc (tag_name (name d x)) ≡ Some u)) where
+  module _ (sc : Scope) (found : (x : ℕ) → is_input (world d) x ≡ true → (find sc (value_name (name d x)) ≡ Some (width (world d) x))
+      × (find sc (tag_name (name d x)) ≡ Some u)) where
     found_by : (x : ℕ) (es : List Entity) → AllByRecursion (λ j. find sc j.name ≡ Some j.width) (inputs_by x es)
     found_by x [] = tt
     found_by x (e ∷ es) =

@@ -40,7 +40,8 @@ program_is o [] (suc i) = refl
 program_is o (p ∷ ps) zero = refl
 program_is o (p ∷ ps) (suc i) = program_is o ps i
 
-same_copies : {X : Type 0} (items : Net → List X) (copy : (Name → Name) → X → X) (nets : ℕ → Net) (k : ℕ) (ps : List Part) → linked.copies_of (λ i. items (nets i)) copy k ps ≡ copies_of items copy (nets_from nets k ps)
+same_copies : {X : Type 0} (items : Net → List X) (copy : (Name → Name) → X → X) (nets : ℕ → Net) (k : ℕ) (ps : List Part)
+    → linked.copies_of (λ i. items (nets i)) copy k ps ≡ copies_of items copy (nets_from nets k ps)
 same_copies items copy nets k [] = refl
 same_copies {X} items copy nets k (p ∷ ps) = ap (λ (xs : List X). map (copy (in_part p.name)) (items (nets k)) ++ xs) (same_copies items copy nets (suc k) ps)
 
@@ -133,7 +134,8 @@ module _ (s : NamedSystem) (nets : ℕ → Net) (in_order : InputsInOrder) (apar
 
   -- what is taken of the ports of each part is taken of those of all
   module _ (of : List Port → List Port) (nothing_of : of [] ≡ []) (both : (xs ys : List Port) → of (xs ++ ys) ≡ of xs ++ of ys)
-      (per : ℕ → Part → List Shown) (sum : ℕ → List Part → List Shown) (empty : (k : ℕ) → sum k [] ≡ []) (more : (k : ℕ) (q : Part) (ps : List Part) → sum k (q ∷ ps) ≡ per k q ++ sum (suc k) ps)
+      (per : ℕ → Part → List Shown) (sum : ℕ → List Part → List Shown) (empty : (k : ℕ)
+      → sum k [] ≡ []) (more : (k : ℕ) (q : Part) (ps : List Part) → sum k (q ∷ ps) ≡ per k q ++ sum (suc k) ps)
       (one : (i : ℕ) → i < length s.parts → of (map (copy_port (in_part (part_at s i).name)) (nets i).ports) ≡ map port (per i (part_at s i))) where
     of_all : (k : ℕ) (ps : List Part) → Last k ps → map port (sum k ps) ≡ of (part_ports (nets_from nets k ps))
     of_all k [] at = ap (map port) (empty k) ∙ sym nothing_of
@@ -151,12 +153,14 @@ module _ (s : NamedSystem) (nets : ℕ → Net) (in_order : InputsInOrder) (apar
 
   free_ports : map port (input_ports s.wires 0 s.parts) ≡ filter (is_free_port fed) given
   free_ports =
-      of_all (filter (is_free_port fed)) refl (filter-append (is_free_port fed)) (λ i q. ports_in q (pairs_of (is_free s.wires q i) kind.Input q.design 0 (world q.design).entities)) (input_ports s.wires)
+      of_all (filter (is_free_port fed)) refl (filter-append (is_free_port fed))
+      (λ i q. ports_in q (pairs_of (is_free s.wires q i) kind.Input q.design 0 (world q.design).entities)) (input_ports s.wires)
       (λ k. refl) (λ k q ps. refl) free_own 0 s.parts all
 
   shown_registers : map port (register_ports s.parts) ≡ filter is_register_port given
   shown_registers =
-      of_all (filter is_register_port) refl (filter-append is_register_port) (λ i q. ports_in q (pairs_of (is_register (world q.design)) kind.Register q.design 0 (world q.design).entities)) (λ k ps. register_ports ps)
+      of_all (filter is_register_port) refl (filter-append is_register_port)
+      (λ i q. ports_in q (pairs_of (is_register (world q.design)) kind.Register q.design 0 (world q.design).entities)) (λ k ps. register_ports ps)
       (λ k. refl) (λ k q ps. refl) registers_own 0 s.parts all
 
   shown_wires : map port (refusal_ports s.parts) ≡ filter is_wire_port given
@@ -169,7 +173,8 @@ module _ (s : NamedSystem) (nets : ℕ → Net) (in_order : InputsInOrder) (apar
 
   fed_ports : map port (fed_inputs s.wires 0 s.parts) ≡ map as_wire (filter (is_fed_port fed) given)
   fed_ports =
-      of_all (λ xs. map as_wire (filter (is_fed_port fed) xs)) refl fed_both (λ i q. ports_in q (pairs_of (is_fed_input s.wires q i) kind.Wire q.design 0 (world q.design).entities)) (fed_inputs s.wires)
+      of_all (λ xs. map as_wire (filter (is_fed_port fed) xs)) refl fed_both
+      (λ i q. ports_in q (pairs_of (is_fed_input s.wires q i) kind.Wire q.design 0 (world q.design).entities)) (fed_inputs s.wires)
       (λ k. refl) (λ k q ps. refl) fed_own 0 s.parts all
 
   pub same_ports_of : map port (held_ports s) ≡ joined_ports (named_nets s nets) (feeds_of s)
@@ -226,7 +231,8 @@ module _ (s : NamedSystem) (nets : ℕ → Net) (in_order : InputsInOrder) (apar
                     let v : fed (g (value_name (name e x))) ≡ false = r.0 ∙ u in
                     let w : fed (g (tag_name (name e x))) ≡ false = r.1 ∙ u in
                     rw (t, is, u, v, w)
-                    (ap₂ (λ (n : ℕ) (is : List Input). record { name = g (value_name (name e x)); width = n } ∷ (record { name = g (tag_name (name e x)); width = width_of s.order } ∷ is)) (sym (widths x)) rest)
+                    (ap₂ (λ (n : ℕ) (is : List Input). record { name = g (value_name (name e x)); width = n }
+                    ∷ (record { name = g (tag_name (name e x)); width = width_of s.order } ∷ is)) (sym (widths x)) rest)
               ]
           | inr q ↦ let is : is_input (world e) x ≡ false = same ∙ q in rw (q, is) rest
         ]
@@ -239,12 +245,14 @@ module _ (s : NamedSystem) (nets : ℕ → Net) (in_order : InputsInOrder) (apar
       let ends = map (endpoint k) (inputs_from 0 (world q.design).entities) in
       let rest = inputs_of (suc k) (map (λ (q : Part). q.design.program) ps) in
       let zeroth = λ (j : ℕ). (let same : 0 + j ≡ j = omega arith in ap (λ (n : ℕ). get_or (world (part_at s k).design).entities n nothing) same) in
-      let there : inputs_for s (filter free (map (endpoint k) (inputs_from 0 (world (part_at s k).design).entities))) ≡ filter (is_free_input fed) (map (copy_input (in_part (part_at s k).name)) (nets k).inputs) =
+      let there : inputs_for s (filter free (map (endpoint k) (inputs_from 0 (world (part_at s k).design).entities)))
+      ≡ filter (is_free_input fed) (map (copy_input (in_part (part_at s k).name)) (nets k).inputs) =
       inputs_own k here.1 0 (world (part_at s k).design).entities zeroth
       ∙ ap (λ (is : List Input). filter (is_free_input fed) (map (copy_input (in_part (part_at s k).name)) is))
       (sym (inputs_are (part_at s k).design (width_of s.order) (part_at s k).sites (nets k) (each k here.1).netlist (each k here.1).stands.interface)) in
       let own : inputs_for s (filter free ends) ≡ filter (is_free_input fed) (map (copy_input (in_part q.name)) (nets k).inputs) =
-      subst (λ (r : Part). inputs_for s (filter free (map (endpoint k) (inputs_from 0 (world r.design).entities))) ≡ filter (is_free_input fed) (map (copy_input (in_part r.name)) (nets k).inputs)) here.0 there in
+      subst (λ (r : Part). inputs_for s (filter free (map (endpoint k) (inputs_from 0 (world r.design).entities)))
+      ≡ filter (is_free_input fed) (map (copy_input (in_part r.name)) (nets k).inputs)) here.0 there in
       ap (inputs_for s) (filter-append free ends rest)
       ∙ for_both (filter free ends) (filter free rest)
       ∙ ap₂ (λ (xs ys : List Input). xs ++ ys) own (inputs_all (suc k) ps (later k q ps at))
@@ -271,10 +279,13 @@ module _ (s : NamedSystem) (nets : ℕ → Net) (in_order : InputsInOrder) (apar
   tied =
       let ps = joined_ports (named_nets s nets) (feeds_of s) in
       let shown : shown_names s ≡ port_names ps = shown_of (held_ports s) ∙ ap port_names same_ports_of in
-      let ws : feeds s s.wires ++ linked.copies_of (λ i. (nets i).wires) copy_wire 0 s.parts ≡ feed_wires (width_of s.order) (feeds_of s) ++ copies_of (λ n. n.wires) copy_wire (named_nets s nets) =
+      let ws : feeds s s.wires ++ linked.copies_of (λ i. (nets i).wires) copy_wire 0 s.parts ≡ feed_wires (width_of s.order) (feeds_of s)
+      ++ copies_of (λ n. n.wires) copy_wire (named_nets s nets) =
       ap₂ (λ (xs ys : List Wire). xs ++ ys) (same_feeds s s.wires) (same_copies (λ n. n.wires) copy_wire nets 0 s.parts) in
-      let rs : linked.copies_of (λ i. (nets i).registers) copy_register 0 s.parts ≡ part_registers (named_nets s nets) = same_copies (λ n. n.registers) copy_register nets 0 s.parts in
-      let ms : linked.copies_of (λ i. (nets i).memories) copy_memory 0 s.parts ≡ copies_of (λ n. n.memories) copy_memory (named_nets s nets) = same_copies (λ n. n.memories) copy_memory nets 0 s.parts in
+      let rs : linked.copies_of (λ i. (nets i).registers) copy_register 0 s.parts ≡ part_registers (named_nets s nets) =
+      same_copies (λ n. n.registers) copy_register nets 0 s.parts in
+      let ms : linked.copies_of (λ i. (nets i).memories) copy_memory 0 s.parts ≡ copies_of (λ n. n.memories) copy_memory (named_nets s nets) =
+      same_copies (λ n. n.memories) copy_memory nets 0 s.parts in
       let is = same_inputs_of in
       let old_ws = feeds s s.wires ++ linked.copies_of (λ i. (nets i).wires) copy_wire 0 s.parts in
       let old_rs = linked.copies_of (λ i. (nets i).registers) copy_register 0 s.parts in
@@ -282,7 +293,8 @@ module _ (s : NamedSystem) (nets : ℕ → Net) (in_order : InputsInOrder) (apar
       let old_is = inputs_for s (free_ends (system_of s)) in
       ap₂ (λ (ns : List Name) (qs : List Port). assembled ns qs old_is old_ws old_rs old_ms) shown same_ports_of
       ∙ ap₂ (λ (is : List Input) (ws : List Wire). assembled (port_names ps) ps is ws old_rs old_ms) is ws
-      ∙ ap₂ (λ (rs : List Register) (ms : List Memory). assembled (port_names ps) ps (free_inputs (named_nets s nets) (feeds_of s)) (feed_wires (width_of s.order) (feeds_of s) ++ copies_of (λ n. n.wires) copy_wire (named_nets s nets)) rs ms) rs ms
+      ∙ ap₂ (λ (rs : List Register) (ms : List Memory). assembled (port_names ps) ps (free_inputs (named_nets s nets) (feeds_of s))
+      (feed_wires (width_of s.order) (feeds_of s) ++ copies_of (λ n. n.wires) copy_wire (named_nets s nets)) rs ms) rs ms
 
 pub joined_is_linked : InputsInOrder → AllNamesDiffer → JoinedIsLinked
 joined_is_linked in_order differ s nets fit good each = tied s nets in_order (differ s nets fit good each) each

@@ -65,10 +65,12 @@ module _ (test : Port → Bool) (f : Name → Name) where
   no_pairs k d x [] = refl
   no_pairs k d x (e ∷ es) = no_pairs k d (x + 1) es
 
-  pub pairs_all : (k : PortKind) (d : Named) (picks : ℕ → Bool) → ((z : Name) → test (port (z, k)) ≡ true) → (es : List Entity) → filter test (ports f (pairs_of picks k d 0 es)) ≡ ports f (pairs_of picks k d 0 es)
+  pub pairs_all : (k : PortKind) (d : Named) (picks : ℕ → Bool) → ((z : Name) → test (port (z, k)) ≡ true) → (es : List Entity)
+      → filter test (ports f (pairs_of picks k d 0 es)) ≡ ports f (pairs_of picks k d 0 es)
   pairs_all k d picks h es = pairs_kept k d picks picks (λ x t. (h (f (value_name (name d x))) ∙ sym t, h (f (tag_name (name d x))) ∙ sym t)) (λ x q. q) 0 es
 
-  pub pairs_none : (k : PortKind) (d : Named) (picks : ℕ → Bool) → ((z : Name) → test (port (z, k)) ≡ false) → (es : List Entity) → filter test (ports f (pairs_of picks k d 0 es)) ≡ []
+  pub pairs_none : (k : PortKind) (d : Named) (picks : ℕ → Bool) → ((z : Name) → test (port (z, k)) ≡ false) → (es : List Entity)
+      → filter test (ports f (pairs_of picks k d 0 es)) ≡ []
   pairs_none k d picks h es =
       pairs_kept k d picks (λ x. false) (λ x t. (h (f (value_name (name d x))), h (f (tag_name (name d x))))) (λ x q. refl) 0 es ∙ ap (ports f) (no_pairs k d 0 es)
 
@@ -87,7 +89,8 @@ module _ (test : Port → Bool) (f : Name → Name) where
       rw (v, w) (sites_none h (k + 1) n)
 
 -- the same pairs as ports for wires
-pub as_wires : (f : Name → Name) (d : Named) (picks : ℕ → Bool) (k : PortKind) (x : ℕ) (es : List Entity) → map as_wire (ports f (pairs_of picks k d x es)) ≡ ports f (pairs_of picks kind.Wire d x es)
+pub as_wires : (f : Name → Name) (d : Named) (picks : ℕ → Bool) (k : PortKind) (x : ℕ) (es : List Entity)
+    → map as_wire (ports f (pairs_of picks k d x es)) ≡ ports f (pairs_of picks kind.Wire d x es)
 as_wires f d picks k x [] = refl
 as_wires f d picks k x (e ∷ es) =
     elim (cases_Bool (picks x)) [

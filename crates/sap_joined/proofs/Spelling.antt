@@ -86,7 +86,8 @@ right_spelled ms sc m a u (Concat os) h = at_each OperandSpelled os (operands_sp
 right_spelled ms sc m a u (Slice x hi lo) h = found_spelled sc a x h.0 h.2
 right_spelled ms sc m a u (Cell x i) h = (found_spelled ms m x (u, 2 ^ h.0) h.1, operand_spelled sc a h.0 i h.2)
 
-wires_spelled : (ms : Shapes) → ScopeSpelled ms → (sc : List (Name × ℕ)) → ScopeSpelled sc → (ws : List Wire) → AreWires ms sc ws → AllByRecursion (λ w. IsSpelled w.name) ws → AllByRecursion WireSpelled ws
+wires_spelled : (ms : Shapes) → ScopeSpelled ms → (sc : List (Name × ℕ)) → ScopeSpelled sc → (ws : List Wire) → AreWires ms sc ws
+    → AllByRecursion (λ w. IsSpelled w.name) ws → AllByRecursion WireSpelled ws
 wires_spelled ms m sc a [] g h = tt
 wires_spelled ms m sc a (w ∷ ws) g h = ((h.0, right_spelled ms sc m a w.width w.right g.3), wires_spelled ms m ((w.name, w.width) ∷ sc) (h.0, a) ws g.4 h.1)
 
@@ -94,11 +95,13 @@ after_spelled : (ws : List Wire) (sc : List (Name × ℕ)) → AllByRecursion (�
 after_spelled [] sc h a = a
 after_spelled (w ∷ ws) sc h a = after_spelled ws ((w.name, w.width) ∷ sc) h.1 (h.0, a)
 
-registers_spelled : (sc : List (Name × ℕ)) → ScopeSpelled sc → (rs : List Register) → AllByRecursion (IsRegister sc) rs → AllByRecursion (λ r. IsSpelled r.name) rs → AllByRecursion RegisterSpelled rs
+registers_spelled : (sc : List (Name × ℕ)) → ScopeSpelled sc → (rs : List Register) → AllByRecursion (IsRegister sc) rs
+    → AllByRecursion (λ r. IsSpelled r.name) rs → AllByRecursion RegisterSpelled rs
 registers_spelled sc a [] g h = tt
 registers_spelled sc a (r ∷ rs) g h = ((h.0, operand_spelled sc a r.width r.next g.0.1), registers_spelled sc a rs g.1 h.1)
 
-memories_spelled : (sc : List (Name × ℕ)) → ScopeSpelled sc → (ms : List Memory) → AllByRecursion (IsMemory sc) ms → AllByRecursion (λ m. IsSpelled m.name) ms → AllByRecursion MemorySpelled ms
+memories_spelled : (sc : List (Name × ℕ)) → ScopeSpelled sc → (ms : List Memory) → AllByRecursion (IsMemory sc) ms
+    → AllByRecursion (λ m. IsSpelled m.name) ms → AllByRecursion MemorySpelled ms
 memories_spelled sc a [] g h = tt
 memories_spelled sc a (m ∷ ms) g h = (
   (h.0, operand_spelled sc a 1 m.enable g.0.enable, operand_spelled sc a g.0.bits m.index g.0.index, operand_spelled sc a m.width m.value g.0.value),
@@ -163,7 +166,8 @@ module _ (n : Net) (rules : IsNetlist n) where
   shown kind.Wire x h = wire_named x h
 
   pub ports_spelled : All (λ (p : Port). IsSpelled p.name) n.ports
-  ports_spelled = at_each (λ p. IsSpelled p.name) n.ports (all_follow (λ p. PortShows n p.kind p.name) (λ p. IsSpelled p.name) n.ports (λ p h. shown p.kind p.name h) rules.ports_show)
+  ports_spelled = at_each (λ p. IsSpelled p.name) n.ports
+      (all_follow (λ p. PortShows n p.kind p.name) (λ p. IsSpelled p.name) n.ports (λ p h. shown p.kind p.name h) rules.ports_show)
 
   pub inputs_spelled : All (λ (i : Input). IsSpelled i.name) n.inputs
   inputs_spelled = at_each (λ i. IsSpelled i.name) n.inputs inputs

@@ -42,7 +42,8 @@ wrapped_first bytes names pairs rule.NoLeast file broken ne = (names, pairs, fil
 
 module _ (bytes : List ℕ) where
   -- a file that lists names and pairs has no fault but theirs
-  file_fault : (f : LatFileFault) (names : List (List ℕ)) (pairs : List Pair) → IsFileOf bytes names pairs → FirstFault bytes f → (fault : LatFault) × (f ≡ Rule fault) × FirstBroken names pairs fault
+  file_fault : (f : LatFileFault) (names : List (List ℕ)) (pairs : List Pair) → IsFileOf bytes names pairs → FirstFault bytes f
+      → (fault : LatFault) × (f ≡ Rule fault) × FirstBroken names pairs fault
   file_fault NotToml names pairs file first = absurd (first file.document file.is_document)
   file_fault Shape names pairs file first =
       let same = one_document bytes file.document first.document file.is_document first.is_document in
@@ -79,7 +80,8 @@ module _ (bytes : List ℕ) where
   cases_memory (Rule fault) = inr (λ e. cc)
   cases_memory Memory = inl refl
 
-  pub valid_answer : (r : Result Levels LatFileFault) → IfErr r (λ f. f ≢ Memory → FirstFault bytes f) → (names : List (List ℕ)) (pairs : List Pair) → IsFileOf bytes names pairs → KeepsAll names pairs → IsOkUnless r Memory
+  pub valid_answer : (r : Result Levels LatFileFault) → IfErr r (λ f. f ≢ Memory → FirstFault bytes f)
+      → (names : List (List ℕ)) (pairs : List Pair) → IsFileOf bytes names pairs → KeepsAll names pairs → IsOkUnless r Memory
   valid_answer (Ok l) refused names pairs file all = tt
   valid_answer (Err f) refused names pairs file all =
       elim (cases_memory f) [
@@ -89,7 +91,8 @@ module _ (bytes : List ℕ) where
             absurd (none_broken names pairs fault all broken)
       ]
 
-  pub exact_answer : (r : Result Levels LatFileFault) → IfOk r (λ l. IsLatticeOfFile bytes l) → IfErr r (λ f. f ≢ Memory → FirstFault bytes f) → (f : LatFileFault) → FirstFault bytes f → IsErrOf r f ⊎ IsErrOf r Memory
+  pub exact_answer : (r : Result Levels LatFileFault) → IfOk r (λ l. IsLatticeOfFile bytes l)
+      → IfErr r (λ f. f ≢ Memory → FirstFault bytes f) → (f : LatFileFault) → FirstFault bytes f → IsErrOf r f ⊎ IsErrOf r Memory
   exact_answer (Ok l) accepted refused f first = absurd (no_fault l f accepted first)
   exact_answer (Err g) accepted refused f first =
       elim (cases_memory g) [

@@ -26,14 +26,16 @@ module _ {A : Type 0} (found : Data → Option A) where
       ap (each_of found) (items_view-drop values i v low)
       ∙ ap (λ (x : Value). then_cons (found (view x)) (each_of found (items_view (drop (i + 1) values)))) (sym at)
 
-  pub one_more : (values : List Value) (i : ℕ) (v : Value) (front : List A) (a : A) → i < length values → v ≡ get_or values i v → found (view v) ≡ Some a → with_front front (each_of found (items_view (drop i values))) ≡ with_front (front ++ a ∷ []) (each_of found (items_view (drop (i + 1) values)))
+  pub one_more : (values : List Value) (i : ℕ) (v : Value) (front : List A) (a : A) → i < length values → v ≡ get_or values i v
+      → found (view v) ≡ Some a → with_front front (each_of found (items_view (drop i values))) ≡ with_front (front ++ a ∷ []) (each_of found (items_view (drop (i + 1) values)))
   unfolding left
   one_more values i v front a low at is_a =
       ap (with_front front) (left_is values i v low at)
       ∙ ap (λ (o : Option A). with_front front (then_cons o (left values (i + 1)))) is_a
       ∙ with_front-cons front a (left values (i + 1))
 
-  pub no_more : (values : List Value) (i : ℕ) (v : Value) (front : List A) → i < length values → v ≡ get_or values i v → found (view v) ≡ None → with_front front (each_of found (items_view (drop i values))) ≡ None
+  pub no_more : (values : List Value) (i : ℕ) (v : Value) (front : List A) → i < length values → v ≡ get_or values i v
+      → found (view v) ≡ None → with_front front (each_of found (items_view (drop i values))) ≡ None
   unfolding left
   no_more values i v front low at none =
       ap (with_front front) (left_is values i v low at) ∙ ap (λ (o : Option A). with_front front (then_cons o (left values (i + 1)))) none
@@ -75,7 +77,9 @@ key_count-entries [] = refl
 key_count-entries (m ∷ ms) = ap suc (key_count-entries ms)
 
 -- what an array at a key lists
-pub listed : {A : Type 0} (found : Items → Option (List A)) (key : List ℕ) (document : Members) (values slice : List Value) (vec : Option (Vec A Global)) (v : Vec A Global) → Some (items_view values) ≡ array_at key document → slice ≡ values → option_map (λ w. w.items) vec ≡ found (items_view slice) → vec ≡ Some v → option_and_then found (array_at key document) ≡ Some v.items
+pub listed : {A : Type 0} (found : Items → Option (List A)) (key : List ℕ) (document : Members) (values slice : List Value)
+    (vec : Option (Vec A Global)) (v : Vec A Global) → Some (items_view values) ≡ array_at key document → slice ≡ values
+    → option_map (λ w. w.items) vec ≡ found (items_view slice) → vec ≡ Some v → option_and_then found (array_at key document) ≡ Some v.items
 listed found key document values slice vec v at same told is_v =
     ap (option_and_then found) (sym at)
     ∙ ap (λ vs. found (items_view vs)) (sym same)

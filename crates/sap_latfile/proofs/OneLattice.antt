@@ -54,7 +54,8 @@ same_le names pairs l m some p q x y =
 
 by_parts : (l m : Levels) → l.names ≡ m.names → (order_of l).le ≡ (order_of m).le → order_of l ≡ order_of m
 unfolding order_of order_by
-by_parts l m e f = ap (λ n. order_by n (λ x y. is_below l.table (level_in (length l.names) x) (level_in (length l.names) y))) (ap length e) ∙ ap (λ le. order_by (length m.names) le) f
+by_parts l m e f = ap (λ n. order_by n (λ x y. is_below l.table (level_in (length l.names) x) (level_in (length l.names) y))) (ap length e)
+    ∙ ap (λ le. order_by (length m.names) le) f
 
 at_least_one : (names : List (List ℕ)) (pairs : List Pair) → KeepsAll names pairs → 0 < length names
 at_least_one names pairs k = let two = k.before.before.before.before.before.at_least_two in omega arith

@@ -182,7 +182,8 @@ module _ (names : List (List ℕ)) (pairs : List Pair) where
         | inr ne ↦ absurd (none_broken f all (refused ne))
       ]
 
-  pub exact_answer : (r : Result Levels LatFault) → IfOk r (λ l. IsLatticeOf names pairs l) → IfErr r (λ f. f ≢ Memory → FirstBroken names pairs f) → (f : LatFault) → FirstBroken names pairs f → IsErrOf r f ⊎ IsErrOf r Memory
+  pub exact_answer : (r : Result Levels LatFault) → IfOk r (λ l. IsLatticeOf names pairs l)
+      → IfErr r (λ f. f ≢ Memory → FirstBroken names pairs f) → (f : LatFault) → FirstBroken names pairs f → IsErrOf r f ⊎ IsErrOf r Memory
   exact_answer (Ok l) accepted refused f broken = absurd (none_broken f accepted.kept broken)
   exact_answer (Err g) accepted refused f broken =
       elim (cases_memory g) [

@@ -111,7 +111,8 @@ number_of-append f [] x = omega arith
 number_of-append f (y ∷ ys) x =
     let ih = number_of-append f ys x in
     let power = pow-suc 2 (length ys) in
-    let two : digit (f x) * 2 ^ suc (length ys) ≡ 2 * (digit (f x) * 2 ^ length ys) = ap (λ p. digit (f x) * p) power ∙ sym (mul_assoc (digit (f x)) (2 ^ length ys) 2) ∙ mul_comm (digit (f x) * 2 ^ length ys) 2 in
+    let two : digit (f x) * 2 ^ suc (length ys) ≡ 2 * (digit (f x) * 2 ^ length ys) =
+    ap (λ p. digit (f x) * p) power ∙ sym (mul_assoc (digit (f x)) (2 ^ length ys) 2) ∙ mul_comm (digit (f x) * 2 ^ length ys) 2 in
     omega (arith, ih, two)
 
 or_above : (k a : ℕ) → a < 2 ^ k → bit_or a (2 ^ k) ≡ a + 2 ^ k

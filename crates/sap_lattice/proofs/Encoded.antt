@@ -137,7 +137,10 @@ module _ (rows : List ℕ) (has : HasJoins (length rows) (le_in rows)) where
     }
 
     -- the parts that the code makes
-    pub kept_by : (codes : List ℕ) (width bottom top : ℕ) → codes ≡ map (λ x. number_of (map (is_in_code (order_in rows) x) (filter (is_meet_irreducible (order_in rows)) (numbers (length rows))))) (numbers (length rows)) → width ≡ length (filter (is_meet_irreducible (order_in rows)) (numbers (length rows))) → bottom ≡ (order_in rows).bottom → top ≡ (order_in rows).top → IsKept (levels_of names codes) codes width bottom top × (order_of (levels_of names codes) ≡ order_in rows)
+    pub kept_by : (codes : List ℕ) (width bottom top : ℕ)
+        → codes ≡ map (λ x. number_of (map (is_in_code (order_in rows) x) (filter (is_meet_irreducible (order_in rows)) (numbers (length rows)))))
+        (numbers (length rows)) → width ≡ length (filter (is_meet_irreducible (order_in rows)) (numbers (length rows)))
+        → bottom ≡ (order_in rows).bottom → top ≡ (order_in rows).top → IsKept (levels_of names codes) codes width bottom top × (order_of (levels_of names codes) ≡ order_in rows)
     unfolding levels level_codes code_of meet_irreducibles order_in order_by
     kept_by codes width bottom top codes_are width_is bottom_is top_is =
         let P : List ℕ → Type 0 = λ cs. IsKept (levels_of names cs) cs width bottom top × (order_of (levels_of names cs) ≡ order_in rows) in

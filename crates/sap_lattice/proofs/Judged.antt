@@ -127,7 +127,8 @@ module _ (names : List (List ℕ)) (pairs : List Pair) (rows : List ℕ) (told :
   keeps_joins kept all_joined = record { before = kept; joined = λ x y none. all_joined x y (no_join_from x y none) }
 
   -- where the rules are kept the order has joins
-  module _ (no_cycle : (x y : ℕ) → ¬ IsBroken (length rows) (order_in rows).le Apart x y) (all_joined : (x y : ℕ) → ¬ IsBroken (length rows) (order_in rows).le Joined x y) (b : ℕ) (found : Some b ≡ find (is_least (length rows) (order_in rows).le) (numbers (length rows))) where
+  module _ (no_cycle : (x y : ℕ) → ¬ IsBroken (length rows) (order_in rows).le Apart x y) (all_joined : (x y : ℕ)
+      → ¬ IsBroken (length rows) (order_in rows).le Joined x y) (b : ℕ) (found : Some b ≡ find (is_least (length rows) (order_in rows).le) (numbers (length rows))) where
     least_found : (b < length rows) × (is_least (length rows) (order_in rows).le b ≡ true)
     least_found = find_cases (is_least (length rows) (order_in rows).le) (length rows) (Some b) found
 

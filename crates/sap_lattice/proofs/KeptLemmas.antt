@@ -49,7 +49,8 @@ module _ (l : Levels) (codes : List ℕ) (width bottom top : ℕ) (kept : IsKept
   code_of_any x = code_at (level_in (length l.names) x) (level_in_below (length l.names) x some) ∙ sym (code_clamped l some x)
 
   -- what a search for a code says
-  pub code_cases : (code : ℕ) (r : Option ℕ) → r ≡ position (λ c. c == code) codes → MatchOption r ((x : ℕ) → x < (order_of l).count → code_of (order_of l) x ≢ code) (λ x. (x < (order_of l).count) × (code_of (order_of l) x ≡ code))
+  pub code_cases : (code : ℕ) (r : Option ℕ) → r ≡ position (λ c. c == code) codes
+      → MatchOption r ((x : ℕ) → x < (order_of l).count → code_of (order_of l) x ≢ code) (λ x. (x < (order_of l).count) × (code_of (order_of l) x ≡ code))
   code_cases code (Some x) h =
       let found = position_cases (λ c. c == code) codes 0 (Some x) h in
       let count = order_of-count l in
@@ -62,7 +63,10 @@ module _ (l : Levels) (codes : List ℕ) (width bottom top : ℕ) (kept : IsKept
       (eq-eqb (get_or codes x 0) code (code_at x (omega arith) ∙ e))
 
 -- the level that has the code of a join is the join
-pub join_found : (l : Levels) → Laws (order_of l) → Codes (order_of l) → (x y code : ℕ) (r : Option ℕ) → code ≡ bit_or (code_of (order_of l) x) (code_of (order_of l) y) → MatchOption r ((z : ℕ) → z < (order_of l).count → code_of (order_of l) z ≢ code) (λ z. (z < (order_of l).count) × (code_of (order_of l) z ≡ code)) → r ≡ Some ((order_of l).join x y)
+pub join_found : (l : Levels) → Laws (order_of l) → Codes (order_of l) → (x y code : ℕ) (r : Option ℕ)
+    → code ≡ bit_or (code_of (order_of l) x) (code_of (order_of l) y)
+    → MatchOption r ((z : ℕ) → z < (order_of l).count → code_of (order_of l) z ≢ code) (λ z. (z < (order_of l).count)
+    × (code_of (order_of l) z ≡ code)) → r ≡ Some ((order_of l).join x y)
 join_found l laws codes x y code (Some z) code_is found =
     ap Some (codes.apart z ((order_of l).join x y) found.0 (laws.join_is_level x y) (found.1 ∙ code_is ∙ sym (codes.joined x y)))
 join_found l laws codes x y code None code_is none =

@@ -15,7 +15,8 @@ use Rattle.sap_text.specs.Names.{is_word, is_among, design_keywords}
 use Rattle.sap_lattice.specs.declared.TheConstants.{MOST_NAME_BYTES}
 
 -- what a search for the first that passes says
-pub position_cases : {X : Type 0} (test : X → Bool) (xs : List X) (d : X) (r : Option ℕ) → r ≡ position test xs → MatchOption r ((k : ℕ) → k < length xs → test (get_or xs k d) ≡ false) (λ k. (k < length xs) × (test (get_or xs k d) ≡ true))
+pub position_cases : {X : Type 0} (test : X → Bool) (xs : List X) (d : X) (r : Option ℕ) → r ≡ position test xs
+    → MatchOption r ((k : ℕ) → k < length xs → test (get_or xs k d) ≡ false) (λ k. (k < length xs) × (test (get_or xs k d) ≡ true))
 position_cases test xs d (Some k) h = let found = position-Some test xs k d (sym h) in (found.0, found.1)
 position_cases test xs d None h = λ k low.
     let p : ℕ = position_or_len test xs in
@@ -25,7 +26,8 @@ position_cases test xs d None h = λ k low.
     ]
 
 -- what a search for a name says
-pub place_cases : (names : List (List ℕ)) (name : List ℕ) (r : Option ℕ) → r ≡ position (λ n. bytes_eq n name) names → MatchOption r ((k : ℕ) → k < length names → name_at names k ≡ name → ⊥) (λ k. (k < length names) × (name_at names k ≡ name))
+pub place_cases : (names : List (List ℕ)) (name : List ℕ) (r : Option ℕ) → r ≡ position (λ n. bytes_eq n name) names
+    → MatchOption r ((k : ℕ) → k < length names → name_at names k ≡ name → ⊥) (λ k. (k < length names) × (name_at names k ≡ name))
 place_cases names name (Some k) h =
     let found = position_cases (λ n. bytes_eq n name) names [] (Some k) h in
     (found.0, (bytes_eq-Decides (name_at names k) name).0 found.1)
@@ -54,7 +56,9 @@ found_at names kept name x low same =
       by_search None none = absurd (none x low same)
 
 -- whether a search among the names before k finds the name at k
-pub stands_cases : (names : List (List ℕ)) (k : ℕ) (name : List ℕ) (r : Option ℕ) (found : Bool) → k < length names → name ≡ name_at names k → r ≡ position (λ n. bytes_eq n name) (take k names) → found ≡ is_some r → (IsTrue found → (j : ℕ) × (j < k) × (name_at names j ≡ name_at names k)) × ((j : ℕ) × (j < k) × (name_at names j ≡ name_at names k) → IsTrue found)
+pub stands_cases : (names : List (List ℕ)) (k : ℕ) (name : List ℕ) (r : Option ℕ) (found : Bool) → k < length names → name ≡ name_at names k
+    → r ≡ position (λ n. bytes_eq n name) (take k names) → found ≡ is_some r
+    → (IsTrue found → (j : ℕ) × (j < k) × (name_at names j ≡ name_at names k)) × ((j : ℕ) × (j < k) × (name_at names j ≡ name_at names k) → IsTrue found)
 stands_cases names k name (Some j) found low same r_is found_is =
     let at = place_cases (take k names) name (Some j) r_is in
     let front : length (take k names) ≡ k = length-take-le k names (omega arith) in
@@ -66,7 +70,8 @@ stands_cases names k name None found low same r_is found_is =
     (λ t. absurd (both_ways found found_is t), λ (j, below, e). absurd (none j (omega arith) (get_or-take k names j [] below ∙ e ∙ sym same)))
 
 -- what no level may have as its name
-pub unfit_bad : (names : List (List ℕ)) (k : ℕ) → (not (is_word (name_at names k)) || (is_among (name_at names k) design_keywords || ltb MOST_NAME_BYTES (length (name_at names k)))) ≡ true → BadName names k
+pub unfit_bad : (names : List (List ℕ)) (k : ℕ)
+    → (not (is_word (name_at names k)) || (is_among (name_at names k) design_keywords || ltb MOST_NAME_BYTES (length (name_at names k)))) ≡ true → BadName names k
 unfit_bad names k h =
     let name : List ℕ = name_at names k in
     elim (or_cases (not (is_word name)) (is_among name design_keywords || ltb MOST_NAME_BYTES (length name)) h) [
@@ -78,7 +83,9 @@ unfit_bad names k h =
           ]
     ]
 
-pub bad_cases : (names : List (List ℕ)) (k : ℕ) → BadName names k → ((not (is_word (name_at names k)) || (is_among (name_at names k) design_keywords || ltb MOST_NAME_BYTES (length (name_at names k)))) ≡ true) ⊎ ((j : ℕ) × (j < k) × (name_at names j ≡ name_at names k))
+pub bad_cases : (names : List (List ℕ)) (k : ℕ) → BadName names k
+    → ((not (is_word (name_at names k)) || (is_among (name_at names k) design_keywords || ltb MOST_NAME_BYTES (length (name_at names k)))) ≡ true)
+    ⊎ ((j : ℕ) × (j < k) × (name_at names j ≡ name_at names k))
 bad_cases names k (no_word e) = inl (or_left _ _ (not_from_false (is_word (name_at names k)) e))
 bad_cases names k (keyword e) = inl (or_right _ _ (or_left _ _ e))
 bad_cases names k (too_long h) = inl (or_right _ _ (or_right _ _ (lt-ltb MOST_NAME_BYTES (length (name_at names k)) h)))

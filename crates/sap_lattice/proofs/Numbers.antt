@@ -57,7 +57,8 @@ pub none_from : (test : ℕ → Bool) (n : ℕ) → ((k : ℕ) → k < n → tes
 none_from test n h = false_from_ne_true _ (λ e. let r = any_at test n e in h r.0 r.1 r.2)
 
 -- the first number that passes, passes
-first_at_from : (test : ℕ → Bool) (a n k : ℕ) → a ≤ k → k < a + n → test k ≡ true → (test (unwrap_or (find test (range_with_len a n)) 0) ≡ true) × (unwrap_or (find test (range_with_len a n)) 0 < a + n)
+first_at_from : (test : ℕ → Bool) (a n k : ℕ) → a ≤ k → k < a + n → test k ≡ true
+    → (test (unwrap_or (find test (range_with_len a n)) 0) ≡ true) × (unwrap_or (find test (range_with_len a n)) 0 < a + n)
 first_at_from test a zero k low high h = absurd (omega arith)
 first_at_from test a (suc n) k low high h =
     let P : Option ℕ → Type 0 = λ o. (test (unwrap_or o 0) ≡ true) × (unwrap_or o 0 < a + suc n) in
@@ -149,7 +150,8 @@ find_cases_from test a (suc n) =
     let P : Option ℕ → Type 0 = λ o. MatchOption o ((k : ℕ) → a ≤ k → k < a + suc n → test k ≡ false) (λ k. (k < a + suc n) × (test k ≡ true)) in
     cond_both (test a) (Some a) rest P (λ e. (omega arith, e)) (λ e. go e rest (find_cases_from test (a + 1) n))
   where
-    go : test a ≡ false → (o : Option ℕ) → MatchOption o ((k : ℕ) → a + 1 ≤ k → k < a + 1 + n → test k ≡ false) (λ k. (k < a + 1 + n) × (test k ≡ true)) → MatchOption o ((k : ℕ) → a ≤ k → k < a + suc n → test k ≡ false) (λ k. (k < a + suc n) × (test k ≡ true))
+    go : test a ≡ false → (o : Option ℕ) → MatchOption o ((k : ℕ) → a + 1 ≤ k → k < a + 1 + n → test k ≡ false) (λ k. (k < a + 1 + n)
+        × (test k ≡ true)) → MatchOption o ((k : ℕ) → a ≤ k → k < a + suc n → test k ≡ false) (λ k. (k < a + suc n) × (test k ≡ true))
     go e None h = λ k low high.
         elim (cases_eq a k) [
           | inl same ↦ subst (λ j. test j ≡ false) same e
@@ -158,7 +160,8 @@ find_cases_from test a (suc n) =
     go e (Some k) h = (let low = h.0 in omega arith, h.1)
 
 pub find_cases : (test : ℕ → Bool) (n : ℕ) (r : Option ℕ) → r ≡ find test (numbers n) → MatchOption r ((k : ℕ) → k < n → test k ≡ false) (λ k. (k < n) × (test k ≡ true))
-find_cases test n None e = λ k low. subst (λ o. MatchOption o ((k : ℕ) → 0 ≤ k → k < 0 + n → test k ≡ false) (λ k. (k < 0 + n) × (test k ≡ true))) (sym e) (find_cases_from test 0 n) k (omega arith) (omega arith)
+find_cases test n None e = λ k low. subst (λ o. MatchOption o ((k : ℕ) → 0 ≤ k → k < 0 + n → test k ≡ false) (λ k. (k < 0 + n)
+    × (test k ≡ true))) (sym e) (find_cases_from test 0 n) k (omega arith) (omega arith)
 find_cases test n (Some k) e =
     let found = subst (λ o. MatchOption o ((k : ℕ) → 0 ≤ k → k < 0 + n → test k ≡ false) (λ k. (k < 0 + n) × (test k ≡ true))) (sym e) (find_cases_from test 0 n) in
     (let low = found.0 in omega arith, found.1)

@@ -43,7 +43,8 @@ bad_from : (names : List (List ℕ)) (pairs : List Pair) (k : ℕ) (p : Pair) �
 bad_from names pairs k p at (inl none) = lower p at none
 bad_from names pairs k p at (inr none) = upper p at none
 
-pub first_bad_pair : (names : List (List ℕ)) (pairs : List Pair) (rows : List ℕ) (k : ℕ) (p : Pair) → TellsPairs names pairs k rows → slice_get pairs k ≡ Some p → IsUnknown names p → IsFirst (BadPair names pairs) k
+pub first_bad_pair : (names : List (List ℕ)) (pairs : List Pair) (rows : List ℕ) (k : ℕ) (p : Pair) → TellsPairs names pairs k rows
+    → slice_get pairs k ≡ Some p → IsUnknown names p → IsFirst (BadPair names pairs) k
 first_bad_pair names pairs rows k p tells_k at unknown =
     record { here = bad_from names pairs k p at unknown; none_before = λ j low. told_good names pairs rows j (tells_k.told j low) }
 
@@ -52,7 +53,8 @@ keeps_pairs names pairs rows kept tells_all =
     record { before = kept; known = λ k bad. told_good names pairs rows k (tells_all.told k (bad_within names pairs k bad)) bad }
 
 -- the rows that tell that each level is below itself
-pub tells_none : (names : List (List ℕ)) (pairs : List Pair) (rows : List ℕ) (n : ℕ) → n ≡ length names → length rows ≡ n → ((x y : ℕ) → tells rows x y ≡ (ltb x n && x == y)) → TellsPairs names pairs 0 rows
+pub tells_none : (names : List (List ℕ)) (pairs : List Pair) (rows : List ℕ) (n : ℕ) → n ≡ length names → length rows ≡ n
+    → ((x y : ℕ) → tells rows x y ≡ (ltb x n && x == y)) → TellsPairs names pairs 0 rows
 tells_none names pairs rows n n_is count equal =
     record {
       count = omega arith;
@@ -76,7 +78,9 @@ pair_below names pairs k p x y at places =
     subst P (sym places.lower_name) (subst Q (sym places.upper_name) below)
 
 -- one more pair
-pub tells_more : (names : List (List ℕ)) (pairs : List Pair) (old new : List ℕ) (k : ℕ) (p : Pair) (x y : ℕ) → TellsPairs names pairs k old → slice_get pairs k ≡ Some p → ArePlaces names p x y → length new ≡ length old → ((u v : ℕ) → tells new u v ≡ (tells old u v || (u == x && v == y))) → TellsPairs names pairs (k + 1) new
+pub tells_more : (names : List (List ℕ)) (pairs : List Pair) (old new : List ℕ) (k : ℕ) (p : Pair) (x y : ℕ) → TellsPairs names pairs k old
+    → slice_get pairs k ≡ Some p → ArePlaces names p x y → length new ≡ length old
+    → ((u v : ℕ) → tells new u v ≡ (tells old u v || (u == x && v == y))) → TellsPairs names pairs (k + 1) new
 tells_more names pairs old new k p x y before at places count both =
     let kept = λ (u v : ℕ) (h : tells old u v ≡ true). both u v ∙ or_left (tells old u v) (u == x && v == y) h in
     record {
@@ -113,7 +117,10 @@ tells_more names pairs old new k p x y before at places count both =
     }
 
 -- the rows, closed, tell the order
-module _ (names : List (List ℕ)) (pairs : List Pair) (kept : KeepsNames names) (old new : List ℕ) (all : TellsPairs names pairs (length pairs) old) (kept_told : (x y : ℕ) → tells old x y ≡ true → tells new x y ≡ true) (only_reached : (x y : ℕ) → tells new x y ≡ true → Reaches old x y) (transitive : (x y z : ℕ) → tells new x y ≡ true → tells new y z ≡ true → tells new x z ≡ true) where
+module _ (names : List (List ℕ)) (pairs : List Pair) (kept : KeepsNames names) (old new : List ℕ)
+    (all : TellsPairs names pairs (length pairs) old) (kept_told : (x y : ℕ) → tells old x y ≡ true
+    → tells new x y ≡ true) (only_reached : (x y : ℕ) → tells new x y ≡ true → Reaches old x y) (transitive : (x y z : ℕ)
+    → tells new x y ≡ true → tells new y z ≡ true → tells new x z ≡ true) where
   reached_below : (x y : ℕ) → Reaches old x y → Below names pairs x y
   reached_below x y (step h) = (all.only x y h).2
   reached_below x y (along {y = m} a b) = through (reached_below x m a) (reached_below m y b)

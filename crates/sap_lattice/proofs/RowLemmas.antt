@@ -83,11 +83,13 @@ passed_holds row next k y =
     ]
 
 -- rows that have passed through level k
-tells_passed_inside : (old new : List ℕ) (k x y : ℕ) → get_or new x 0 ≡ passed k (get_or old k 0) (get_or old x 0) → tells new x y ≡ (tells old x y || (tells old x k && tells old k y))
+tells_passed_inside : (old new : List ℕ) (k x y : ℕ) → get_or new x 0 ≡ passed k (get_or old k 0) (get_or old x 0)
+    → tells new x y ≡ (tells old x y || (tells old x k && tells old k y))
 unfolding tells
 tells_passed_inside old new k x y row = ap (λ r. holds r y) row ∙ passed_holds (get_or old x 0) (get_or old k 0) k y
 
-pub tells_passed : (old new : List ℕ) (k : ℕ) → length new ≡ length old → ((x : ℕ) → x < length old → get_or new x 0 ≡ passed k (get_or old k 0) (get_or old x 0)) → (x y : ℕ) → tells new x y ≡ (tells old x y || (tells old x k && tells old k y))
+pub tells_passed : (old new : List ℕ) (k : ℕ) → length new ≡ length old
+    → ((x : ℕ) → x < length old → get_or new x 0 ≡ passed k (get_or old k 0) (get_or old x 0)) → (x y : ℕ) → tells new x y ≡ (tells old x y || (tells old x k && tells old k y))
 tells_passed old new k same rows x y =
     elim (cases_lt x (length old)) [
       | inl h ↦ tells_passed_inside old new k x y (rows x h)
@@ -131,7 +133,8 @@ module _ (old new : List ℕ) (k : ℕ) (passed_k : (x y : ℕ) → tells new x 
   from_k : (y : ℕ) → tells new k y ≡ true → tells old k y ≡ true
   from_k y h = elim (new_cases k y h) [ inl e ↦ e | inr e ↦ e.1 ]
 
-  pub passed_through : ((m x y : ℕ) → m < k → tells old x m ≡ true → tells old m y ≡ true → tells old x y ≡ true) → (m x y : ℕ) → m < k + 1 → tells new x m ≡ true → tells new m y ≡ true → tells new x y ≡ true
+  pub passed_through : ((m x y : ℕ) → m < k → tells old x m ≡ true → tells old m y ≡ true → tells old x y ≡ true) → (m x y : ℕ) → m < k + 1
+      → tells new x m ≡ true → tells new m y ≡ true → tells new x y ≡ true
   passed_through before m x y low a b =
       elim (cases_eq m k) [
         | inl e ↦ new_through x y (to_k x (subst (λ v. tells new x v ≡ true) e a)) (from_k y (subst (λ v. tells new v y ≡ true) e b))

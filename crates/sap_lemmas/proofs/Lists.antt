@@ -33,7 +33,8 @@ length_map f (x ∷ xs) = ap suc (length_map f xs)
 pub quoted_length : (a b : List ℕ) → length a + 2 + length b ≡ length (a ++ (39 ∷ 100 ∷ b))
 quoted_length a b = simp length-append (omega arith)
 
-pub others_kept : {K X : Type 0} (eq : K → K → Bool) (test : K → Bool) (old new : List (K × X)) → KeepsOthers eq test old new → (other : K → Bool) → IsKeyTest eq other → AreApart test other → lookup other new ≡ lookup other old
+pub others_kept : {K X : Type 0} (eq : K → K → Bool) (test : K → Bool) (old new : List (K × X)) → KeepsOthers eq test old new
+    → (other : K → Bool) → IsKeyTest eq other → AreApart test other → lookup other new ≡ lookup other old
 unfolding KeepsOthers
 others_kept eq test old new h = h
 

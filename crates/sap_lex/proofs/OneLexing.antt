@@ -146,7 +146,8 @@ text_end : (text : List ℕ) → reached.IsEnd (IsBlankAt text) (StandsAt text) 
 text_end text = bad_end text (length text) (ap lexeme_of (nothing_left text) ∙ nothing_bad)
 
 pub one_list : (text : List ℕ) (ts us : List TokenOf) → AreTokens text ts → AreTokens text us → ts ≡ us
-one_list text ts us a b = a.keyed_are ∙ ap keyed (reached.one_end (IsBlankAt text) (StandsAt text) (lexer text) a.reached b.reached (text_end text) (text_end text)).1 ∙ sym b.keyed_are
+one_list text ts us a b = a.keyed_are ∙ ap keyed
+    (reached.one_end (IsBlankAt text) (StandsAt text) (lexer text) a.reached b.reached (text_end text) (text_end text)).1 ∙ sym b.keyed_are
 
 pub one_place : (text : List ℕ) (p q : _) → IsBadAt text p → IsBadAt text q → p ≡ q
 one_place text p q a b =

@@ -51,14 +51,16 @@ find_passes {X} p (y ∷ ys) {x} e =
 pub none_passes : {X : Type 0} (p : X → Bool) (xs : List X) → find p xs ≡ None → list_any p xs ≡ false
 none_passes p [] e = refl
 none_passes {X} p (y ∷ ys) e =
-    let pick : (b : Bool) → cond b (Some y) (find p ys) ≡ None → (b || list_any p ys) ≡ false = λ b. elim b as (λ b. cond b (Some y) (find p ys) ≡ None → (b || list_any p ys) ≡ false) [
+    let pick : (b : Bool) → cond b (Some y) (find p ys) ≡ None → (b || list_any p ys) ≡ false =
+    λ b. elim b as (λ b. cond b (Some y) (find p ys) ≡ None → (b || list_any p ys) ≡ false) [
       | true ↦ λ s. absurd (cc)
       | false ↦ λ s. none_passes p ys s
     ] in
     pick (p y) e
 
 -- what holds of all holds of the one that is found
-found_in : {X : Type 0} (q : X → Bool) (ys : List X) (o : Option X) (y x : X) (b a : Bool) → q y ≡ a → (a && list_all q ys) ≡ true → (list_all q ys ≡ true → o ≡ Some x → q x ≡ true)
+found_in : {X : Type 0} (q : X → Bool) (ys : List X) (o : Option X) (y x : X) (b a : Bool) → q y ≡ a → (a && list_all q ys) ≡ true
+    → (list_all q ys ≡ true → o ≡ Some x → q x ≡ true)
     → cond b (Some y) o ≡ Some x → q x ≡ true
 found_in q ys o y x true true e h rest s = (let same : y ≡ x = cc in subst (λ z. q z ≡ true) same e)
 found_in q ys o y x b false e h rest s = absurd (cc)
@@ -82,8 +84,10 @@ name_is_word (x ∷ xs) h =
     (subst (λ m. is_word (take m (x ∷ xs)) ≡ true) (one_more (prefix_len is_inner xs)) whole)
 
 name_spelled : (bytes name : List ℕ) (n : ℕ) → take n bytes ≡ name → is_word name ≡ true → (o : Option Word) → word_of name ≡ o → IsSpelled bytes (word_or_name o name n)
-name_spelled bytes name n same h (Some word) e =
-    (same ∙ equal_of_bytes_eq name (word_text word) (find_passes (λ w. bytes_eq name (word_text w)) first_words e), find_among (λ w. bytes_eq name (word_text w)) (is_of v.One) first_words word refl e)
+name_spelled bytes name n same h (Some word) e = (
+  same ∙ equal_of_bytes_eq name (word_text word) (find_passes (λ w. bytes_eq name (word_text w)) first_words e),
+  find_among (λ w. bytes_eq name (word_text w)) (is_of v.One) first_words word refl e,
+)
 name_spelled bytes name n same h None e = (same, h, none_passes (λ w. bytes_eq name (word_text w)) first_words e)
 
 -- signs
@@ -131,7 +135,8 @@ pieces bytes w m a b p q e f =
     ∙ ap (λ l. l ++ take m (drop (w + 2) bytes)) (front ∙ ap (λ l. take w bytes ++ l) middle)
     ∙ append_assoc (take w bytes) (a ∷ b ∷ []) (take m (drop (w + 2) bytes))
 
-sized_spelled : (bytes : List ℕ) (class : Class) (base len : ℕ) (front digits : List ℕ) → ((width n : ℕ) → SpellsNumber c.Decimal 10 width front → SpellsNumber class base n digits → SpellsSized width n (take len bytes))
+sized_spelled : (bytes : List ℕ) (class : Class) (base len : ℕ) (front digits : List ℕ)
+    → ((width n : ℕ) → SpellsNumber c.Decimal 10 width front → SpellsNumber class base n digits → SpellsSized width n (take len bytes))
     → 0 < length front → list_all is_ascii_digit front ≡ true → 0 < length digits → list_all (is_in class) digits ≡ true
     → (o : Option ℕ) → number_of 10 front ≡ o → (q : Option ℕ) → number_of base digits ≡ q → (clinging : Bool) → IsSpelled bytes (sized_lexeme o q clinging len)
 sized_spelled bytes class base len front digits make some all some' all' (Some width) e (Some n) f false =
@@ -151,7 +156,8 @@ sized_in_spelled : (class : Class) (base width : ℕ) (bytes : List ℕ)
 unfolding sized_in
 sized_in_spelled class base width bytes make some all =
     by_test (IsSpelled bytes) (run class (drop (width + 2) bytes) == 0) (λ _. tt)
-    (λ h. sized_spelled bytes class base (width + 2 + run class (drop (width + 2) bytes)) (take width bytes) (take (run class (drop (width + 2) bytes)) (drop (width + 2) bytes)) make some all
+    (λ h. sized_spelled bytes class base (width + 2 + run class (drop (width + 2) bytes)) (take width bytes)
+    (take (run class (drop (width + 2) bytes)) (drop (width + 2) bytes)) make some all
     (some_in_run class (drop (width + 2) bytes) h) (run_passes (is_in class) (drop (width + 2) bytes)) _ refl _ refl _)
 
 sized_at_spelled : (width : ℕ) (bytes : List ℕ) → slice_index bytes width ≡ byte "'" → 0 < length (take width bytes) → list_all is_ascii_digit (take width bytes) ≡ true

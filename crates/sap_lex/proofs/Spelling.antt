@@ -39,7 +39,8 @@ not_this text sign o false r e h rest = ap (λ b. cond b (Some sign) o) (apart t
 other_length : (text : List ℕ) (list : List Sign) → list_all (λ sign. not (eqb (length (sign_text sign)) (length text))) list ≡ true → sign_among list text ≡ None
 other_length text [] h = refl
 other_length text (sign ∷ list) h =
-    not_this text sign (sign_among list text) (eqb (length (sign_text sign)) (length text)) (list_all (λ sign. not (eqb (length (sign_text sign)) (length text))) list) refl h (other_length text list)
+    not_this text sign (sign_among list text) (eqb (length (sign_text sign)) (length text))
+    (list_all (λ sign. not (eqb (length (sign_text sign)) (length text))) list) refl h (other_length text list)
 
 pub sign_of_one : (text : List ℕ) → length text ≡ 1 → sign_of text ≡ single_sign (slice_index text 0)
 unfolding single_sign

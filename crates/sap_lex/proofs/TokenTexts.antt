@@ -98,7 +98,8 @@ later_spelled (k.Sized width n) text e = e
 
 digit_two : (n : ℕ) (text : List ℕ) → SpellsNumber c.Decimal 10 n text → (n == 2) ≡ true → length text ≤ 1 → text ≡ word_text w.Two
 digit_two n [] e h l = (let some = e.some in absurd (omega (arith, some)))
-digit_two n (d ∷ []) e h l = (let value = e.value in let digits = e.digits in let two : n ≡ 2 = grind (arith, nat_tests) in let digit : d ≡ 50 = grind (arith, nat_tests) in ap (λ (b : ℕ). b ∷ []) digit)
+digit_two n (d ∷ []) e h l = (let value = e.value in let digits = e.digits in let two : n ≡ 2 = grind (arith, nat_tests) in
+    let digit : d ≡ 50 = grind (arith, nat_tests) in ap (λ (b : ℕ). b ∷ []) digit)
 digit_two n (d ∷ e' ∷ text) e h l = absurd (omega (arith, l))
 
 two_spelled : (kind : Kind) (text : List ℕ) → Spells v.One kind text → is_number_two kind ≡ true → length text ≤ 1 → Spells v.Two (k.Word w.Two) text

@@ -45,7 +45,8 @@ unfoldable pub sized_in : Class → (base : ℕ) → (width : ℕ) → List ℕ 
 sized_in class base width bytes =
     let digits = run class (drop (width + 2) bytes) in
     if digits == 0 then Bad
-    else sized_lexeme (number_of 10 (take width bytes)) (number_of base (take digits (drop (width + 2) bytes))) (clings (slice_index bytes (width + 2 + digits))) (width + 2 + digits)
+    else sized_lexeme (number_of 10 (take width bytes)) (number_of base (take digits (drop (width + 2) bytes)))
+    (clings (slice_index bytes (width + 2 + digits))) (width + 2 + digits)
 
 unfoldable pub sized_at : (width : ℕ) → List ℕ → Lexeme
 sized_at width bytes =

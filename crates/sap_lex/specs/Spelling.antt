@@ -41,7 +41,8 @@ abbrev pub pair_signs : List Sign
 pair_signs = s.Becomes ∷ s.Equal ∷ s.NotEqual ∷ s.LessOrEqual ∷ s.ShiftLeft ∷ s.ShiftRight ∷ []
 
 abbrev pub single_signs : List Sign
-single_signs = s.OpenParen ∷ s.CloseParen ∷ s.OpenBrace ∷ s.CloseBrace ∷ s.OpenBracket ∷ s.CloseBracket ∷ s.Colon ∷ s.Semicolon ∷ s.Comma ∷ s.Question ∷ s.Is ∷ s.Less ∷ s.Plus ∷ s.Minus ∷ s.Star ∷ s.Ampersand ∷ s.Bar ∷ s.Caret ∷ s.Tilde ∷ []
+single_signs = s.OpenParen ∷ s.CloseParen ∷ s.OpenBrace ∷ s.CloseBrace ∷ s.OpenBracket ∷ s.CloseBracket ∷ s.Colon ∷ s.Semicolon ∷ s.Comma
+    ∷ s.Question ∷ s.Is ∷ s.Less ∷ s.Plus ∷ s.Minus ∷ s.Star ∷ s.Ampersand ∷ s.Bar ∷ s.Caret ∷ s.Tilde ∷ []
 
 abbrev pub signs : List Sign
 signs = pair_signs ++ single_signs

@@ -18,7 +18,8 @@ use Rattle.sap_lines.specs.Reader.{Reader, to_come}
 use Rattle.sap_lines.specs.Fetched.{IsDecided, EndsOrDecided, More, MoreAndFailed}
 
 -- the count of lines is that of the next
-tells_after : (next : Next) (count : ℕ) (p q : Parsed) (of : ℕ → Parsed) (line : Span) → count < 2 ^ 32 → Tells next p line (of (count + 2)) → Tells next p line (of (count_after next count + 1))
+tells_after : (next : Next) (count : ℕ) (p q : Parsed) (of : ℕ → Parsed) (line : Span) → count < 2 ^ 32 → Tells next p line (of (count + 2))
+    → Tells next p line (of (count_after next count + 1))
 tells_after Line count p q of line small h = let e : count + 2 ≡ counted count + 1 = omega arith in subst (λ (n : ℕ). Tells Line p line (of n)) e h
 tells_after End count p q of line small h = h
 tells_after (Fault fault) count p q of line small h = h
@@ -28,43 +29,55 @@ pub told_lines : (ls : Levels) (fs : List Field) (channel count : ℕ) (held now
     → More channel held now told told_now g h → IfSome told_now (EndsOrDecided channel now)
     → ((rest : List ℕ) → IsDecided now ⊎ (rest ≡ []) → count < 2 ^ 32 → Tells next (read_from ls fs (count + 1) (now ++ rest)) line (read_from ls fs (count + 2) (later ++ rest)))
     → count < 2 ^ 32
-    → Between told told_now (λ t n. Tells next (read_from ls fs (count + 1) (held ++ rest_of t channel)) line (read_from ls fs (count_after next count + 1) (later ++ rest_of n channel)))
+    → Between told told_now (λ t n. Tells next (read_from ls fs (count + 1) (held ++ rest_of t channel)) line
+    (read_from ls fs (count_after next count + 1) (later ++ rest_of n channel)))
 told_lines ls fs channel count held now later line next None told_now g h m decided tells small = tt
-told_lines ls fs channel count held now later line next (Some t) None g h m decided tells small = absurd (let e : None ≡ Some (moved channel m.count t) = m.told in let f : ⊥ = cc in f)
+told_lines ls fs channel count held now later line next (Some t) None g h m decided tells small =
+    absurd (let e : None ≡ Some (moved channel m.count t) = m.told in let f : ⊥ = cc in f)
 told_lines ls fs channel count held now later line next (Some t) (Some n) g h m decided tells small =
     let moved_on : n ≡ moved channel m.count t = (let e : Some n ≡ Some (moved channel m.count t) = m.told in cc) in
     let left : rest_of n channel ≡ drop m.count (rest_of t channel) = ap (λ (x : Told). rest_of x channel) moved_on ∙ rest-moved channel m.count t in
     let same : now ++ rest_of n channel ≡ held ++ rest_of t channel = ap (λ (r : List ℕ). now ++ r) left ∙ m.bytes in
-    let here : Tells next (read_from ls fs (count + 1) (now ++ rest_of n channel)) line (read_from ls fs (count + 2) (later ++ rest_of n channel)) = tells (rest_of n channel) decided small in
+    let here : Tells next (read_from ls fs (count + 1) (now ++ rest_of n channel)) line (read_from ls fs (count + 2) (later ++ rest_of n channel)) =
+    tells (rest_of n channel) decided small in
     let moved_here : Tells next (read_from ls fs (count + 1) (held ++ rest_of t channel)) line (read_from ls fs (count + 2) (later ++ rest_of n channel))
     = subst (λ (s : List ℕ). Tells next (read_from ls fs (count + 1) s) line (read_from ls fs (count + 2) (later ++ rest_of n channel))) same here in
-    tells_after next count (read_from ls fs (count + 1) (held ++ rest_of t channel)) (read_from ls fs (count + 1) (held ++ rest_of t channel)) (λ k. read_from ls fs k (later ++ rest_of n channel)) line small moved_here
+    tells_after next count (read_from ls fs (count + 1) (held ++ rest_of t channel))
+    (read_from ls fs (count + 1) (held ++ rest_of t channel)) (λ k. read_from ls fs k (later ++ rest_of n channel)) line small moved_here
 
 -- an answer over a told desk, as the reader is seen
-pub next_told : (ls : Levels) (fs fields : List Field) (channel count count_now : ℕ) (held now later : List ℕ) (line line_now : Span) (live live_now : Bool) (next : Next) (told told_now : Option Told)
+pub next_told : (ls : Levels) (fs fields : List Field) (channel count count_now : ℕ) (held now later : List ℕ) (line line_now : Span)
+    (live live_now : Bool) (next : Next) (told told_now : Option Told)
     (g h : ℕ → ℕ) (r : Reader) → record { fields = fields; live = live; line = line; count = count; pending = held } ≡ r → fs ≡ fields → count_now ≡ count_after next count
     → More channel held now told told_now g h → IfSome told_now (EndsOrDecided channel now)
-    → ((rest : List ℕ) → IsDecided now ⊎ (rest ≡ []) → count < 2 ^ 32 → Tells next (read_from ls fs (count + 1) (now ++ rest)) line_now (read_from ls fs (count + 2) (later ++ rest)))
+    → ((rest : List ℕ) → IsDecided now ⊎ (rest ≡ []) → count < 2 ^ 32
+    → Tells next (read_from ls fs (count + 1) (now ++ rest)) line_now (read_from ls fs (count + 2) (later ++ rest)))
     → r.count < 2 ^ 32
     → Between told told_now (λ t n. Tells next (to_come ls r (rest_of t channel)) line_now
     (to_come ls (record { fields = fields; live = live_now; line = line_now; count = count_now; pending = later }) (rest_of n channel)))
 next_told ls fs fields channel count count_now held now later line line_now live live_now next told told_now g h r seen same counts m decided tells =
-    subst (λ (q : Reader). q.count < 2 ^ 32 → Between told told_now (λ t n. Tells next (to_come ls q (rest_of t channel)) line_now (read_from ls fields (count_now + 1) (later ++ rest_of n channel)))) seen
+    subst (λ (q : Reader). q.count < 2 ^ 32 → Between told told_now
+    (λ t n. Tells next (to_come ls q (rest_of t channel)) line_now (read_from ls fields (count_now + 1) (later ++ rest_of n channel)))) seen
     (λ small.
-    subst (λ (k : ℕ). Between told told_now (λ t n. Tells next (read_from ls fields (count + 1) (held ++ rest_of t channel)) line_now (read_from ls fields (k + 1) (later ++ rest_of n channel)))) (sym counts)
-    (subst (λ (list : List Field). Between told told_now (λ t n. Tells next (read_from ls list (count + 1) (held ++ rest_of t channel)) line_now (read_from ls list (count_after next count + 1) (later ++ rest_of n channel)))) same
+    subst (λ (k : ℕ). Between told told_now (λ t n. Tells next (read_from ls fields (count + 1) (held ++ rest_of t channel)) line_now
+    (read_from ls fields (k + 1) (later ++ rest_of n channel)))) (sym counts)
+    (subst (λ (list : List Field). Between told told_now
+    (λ t n. Tells next (read_from ls list (count + 1) (held ++ rest_of t channel)) line_now (read_from ls list (count_after next count + 1) (later ++ rest_of n channel)))) same
     (told_lines ls fs channel count held now later line_now next told told_now g h m decided tells small)))
 
 -- on every desk
 
-module _ (ls : Levels) (fs : List Field) (count : ℕ) (held piece now later : List ℕ) (line : Span) (next : Next) (is : now ≡ held ++ piece) (decided : IsTrue (is_line next) → IsDecided now)
-    (tells : (rest : List ℕ) → IsDecided now ⊎ (rest ≡ []) → count < 2 ^ 32 → Tells next (read_from ls fs (count + 1) (now ++ rest)) line (read_from ls fs (count + 2) (later ++ rest)))
+module _ (ls : Levels) (fs : List Field) (count : ℕ) (held piece now later : List ℕ) (line : Span) (next : Next) (is : now ≡ held ++ piece)
+    (decided : IsTrue (is_line next) → IsDecided now)
+    (tells : (rest : List ℕ) → IsDecided now ⊎ (rest ≡ []) → count < 2 ^ 32
+    → Tells next (read_from ls fs (count + 1) (now ++ rest)) line (read_from ls fs (count + 2) (later ++ rest)))
     (small : count < 2 ^ 32) where
   told_by : (rest : List ℕ) → IsTrue (is_line next) ⊎ (rest ≡ []) → IsDecided now ⊎ (rest ≡ [])
   told_by rest (inl given) = inl (decided given)
   told_by rest (inr none) = inr none
 
-  lines_by : (rest : List ℕ) → IsTrue (is_line next) ⊎ (rest ≡ []) → Tells next (read_from ls fs (count + 1) (held ++ (piece ++ rest))) line (read_from ls fs (count_after next count + 1) (later ++ rest))
+  lines_by : (rest : List ℕ) → IsTrue (is_line next) ⊎ (rest ≡ [])
+      → Tells next (read_from ls fs (count + 1) (held ++ (piece ++ rest))) line (read_from ls fs (count_after next count + 1) (later ++ rest))
   lines_by rest h =
       let all : now ++ rest ≡ held ++ (piece ++ rest) = ap (λ (xs : List ℕ). xs ++ rest) is ∙ append_assoc held piece rest in
       let p : Parsed = read_from ls fs (count + 1) (held ++ (piece ++ rest)) in
@@ -74,21 +87,26 @@ module _ (ls : Levels) (fs : List Field) (count : ℕ) (held piece now later : L
 pub next_by : (ls : Levels) (fs fields : List Field) (count count_now : ℕ) (held piece now later : List ℕ) (line line_now : Span) (live live_now : Bool) (next : Next) (r : Reader)
     → record { fields = fields; live = live; line = line; count = count; pending = held } ≡ r → fs ≡ fields → count_now ≡ count_after next count
     → now ≡ held ++ piece → (IsTrue (is_line next) → IsDecided now)
-    → ((rest : List ℕ) → IsDecided now ⊎ (rest ≡ []) → count < 2 ^ 32 → Tells next (read_from ls fs (count + 1) (now ++ rest)) line_now (read_from ls fs (count + 2) (later ++ rest)))
+    → ((rest : List ℕ) → IsDecided now ⊎ (rest ≡ []) → count < 2 ^ 32
+    → Tells next (read_from ls fs (count + 1) (now ++ rest)) line_now (read_from ls fs (count + 2) (later ++ rest)))
     → r.count < 2 ^ 32
     → TellsBy ls next r (record { fields = fields; live = live_now; line = line_now; count = count_now; pending = later }) piece
 next_by ls fs fields count count_now held piece now later line line_now live live_now next r seen same counts is decided tells =
     subst (λ (q : Reader). q.count < 2 ^ 32 → TellsBy ls next q (record { fields = fields; live = live_now; line = line_now; count = count_now; pending = later }) piece) seen
     (λ small.
-    subst (λ (k : ℕ). TellsBy ls next (record { fields = fields; live = live; line = line; count = count; pending = held }) (record { fields = fields; live = live_now; line = line_now; count = k; pending = later }) piece) (sym counts)
-    (subst (λ (list : List Field). TellsBy ls next (record { fields = list; live = live; line = line; count = count; pending = held }) (record { fields = list; live = live_now; line = line_now; count = count_after next count; pending = later }) piece) same
+    subst (λ (k : ℕ). TellsBy ls next (record { fields = fields; live = live; line = line; count = count; pending = held })
+    (record { fields = fields; live = live_now; line = line_now; count = k; pending = later }) piece) (sym counts)
+    (subst (λ (list : List Field). TellsBy ls next (record { fields = list; live = live; line = line; count = count; pending = held })
+    (record { fields = list; live = live_now; line = line_now; count = count_after next count; pending = later }) piece) same
     (lines_by ls fs count held piece now later line_now next is decided tells small)))
 
 -- by what was read, where the desk tells it
-pub next_read : (ls : Levels) (fs fields : List Field) (channel read count count_now : ℕ) (held now later : List ℕ) (line line_now : Span) (live live_now : Bool) (next : Next) (r : Reader) (told : Option Told)
+pub next_read : (ls : Levels) (fs fields : List Field) (channel read count count_now : ℕ) (held now later : List ℕ) (line line_now : Span)
+    (live live_now : Bool) (next : Next) (r : Reader) (told : Option Told)
     → record { fields = fields; live = live; line = line; count = count; pending = held } ≡ r → fs ≡ fields → count_now ≡ count_after next count
     → IfSome told (λ t. now ≡ held ++ take read (rest_of t channel)) → (IsTrue (is_line next) → IsDecided now)
-    → ((rest : List ℕ) → IsDecided now ⊎ (rest ≡ []) → count < 2 ^ 32 → Tells next (read_from ls fs (count + 1) (now ++ rest)) line_now (read_from ls fs (count + 2) (later ++ rest)))
+    → ((rest : List ℕ) → IsDecided now ⊎ (rest ≡ []) → count < 2 ^ 32
+    → Tells next (read_from ls fs (count + 1) (now ++ rest)) line_now (read_from ls fs (count + 2) (later ++ rest)))
     → r.count < 2 ^ 32
     → IfSome told (λ t. TellsBy ls next r (record { fields = fields; live = live_now; line = line_now; count = count_now; pending = later }) (take read (rest_of t channel)))
 next_read ls fs fields channel read count count_now held now later line line_now live live_now next r None seen same counts is decided tells small = tt
@@ -112,19 +130,22 @@ blames_none End channel name t fine = refl
 blames_none (Fault fault) channel name t fine = refl
 blames_none Failed channel name t fine = absurd (let f : ⊥ = cc in f)
 
-pub read_on : (next : Next) (channel : ℕ) (held now : List ℕ) (told told_now : Option Told) (g h : ℕ → ℕ) → is_failed next ≡ false → More channel held now told told_now g h → ReadOn next channel told told_now g h
+pub read_on : (next : Next) (channel : ℕ) (held now : List ℕ) (told told_now : Option Told) (g h : ℕ → ℕ) → is_failed next ≡ false
+    → More channel held now told told_now g h → ReadOn next channel told told_now g h
 read_on next channel held now told told_now g h fine m = record {
   count = m.count;
   told = m.told ∙ option_map-same _ _ told (λ t. blames_none next channel (name_if_reading (t.uses channel)) (moved channel m.count t) fine);
   given = m.given;
 }
 
-pub read_on_failed : (channel : ℕ) (held now : List ℕ) (told told_now : Option Told) (g h : ℕ → ℕ) → MoreAndFailed channel held now told told_now g h → ReadOn Failed channel told told_now g h
+pub read_on_failed : (channel : ℕ) (held now : List ℕ) (told told_now : Option Told) (g h : ℕ → ℕ)
+    → MoreAndFailed channel held now told told_now g h → ReadOn Failed channel told told_now g h
 read_on_failed channel held now told told_now g h m = record {
   count = m.count;
   told =
       m.told
-      ∙ option_map-same _ _ told (λ t. ap (λ (name : List ℕ). blame_at channel name (moved channel m.count t)) (ap name_if_reading (at_number-same channel (moved_use m.count (t.uses channel)) t.uses) ∙ name_moved m.count (t.uses channel)));
+      ∙ option_map-same _ _ told (λ t. ap (λ (name : List ℕ). blame_at channel name (moved channel m.count t))
+      (ap name_if_reading (at_number-same channel (moved_use m.count (t.uses channel)) t.uses) ∙ name_moved m.count (t.uses channel)));
   given = m.given;
 }
 
@@ -134,7 +155,8 @@ few_lines End count = omega arith
 few_lines (Fault fault) count = omega arith
 few_lines Failed count = omega arith
 
-pub still_backed : (next : Next) (channel count : ℕ) (held now later : List ℕ) (told told_now : Option Told) (g h : ℕ → ℕ) → More channel held now told told_now g h → length later + lines_in next ≤ length now
+pub still_backed : (next : Next) (channel count : ℕ) (held now later : List ℕ) (told told_now : Option Told) (g h : ℕ → ℕ)
+    → More channel held now told told_now g h → length later + lines_in next ≤ length now
     → count + length held ≤ g channel → count_after next count + length later ≤ h channel
 still_backed next channel count held now later told told_now g h m shorter before =
     let here : h channel ≡ g channel + m.count = number-at channel (g channel + m.count) g h m.given in
@@ -142,7 +164,8 @@ still_backed next channel count held now later told told_now g h m shorter befor
     let size = m.size in
     omega arith
 
-pub backed_failed : (channel count : ℕ) (held now : List ℕ) (told told_now : Option Told) (g h : ℕ → ℕ) → MoreAndFailed channel held now told told_now g h → count + length held ≤ g channel → count + length now ≤ h channel
+pub backed_failed : (channel count : ℕ) (held now : List ℕ) (told told_now : Option Told) (g h : ℕ → ℕ)
+    → MoreAndFailed channel held now told told_now g h → count + length held ≤ g channel → count + length now ≤ h channel
 backed_failed channel count held now told told_now g h m before =
     let here : h channel ≡ g channel + m.count = number-at channel (g channel + m.count) g h m.given in
     let size = m.size in

@@ -133,7 +133,8 @@ pub line_taken : (ls : Levels) (fs : List Field) (n m : ℕ) (s rest text now : 
     → text ≡ before s → ended ≡ ltb (length text) (length s) → Ok line ≡ line_of ls fs ended text → now ≡ drop (length text + 1) s → m ≡ n + 1
     → read_from ls fs n (s ++ rest) ≡ ahead line (read_from ls fs m (now ++ rest))
 line_taken ls fs n m s rest text now ended line some decided is_line test given left next =
-    let same : line_of ls fs ended text ≡ first_of ls fs s = ap (λ (b : Bool). line_of ls fs b text) test ∙ ap (λ (t : List ℕ). line_of ls fs (ltb (length t) (length s)) t) is_line in
+    let same : line_of ls fs ended text ≡ first_of ls fs s = ap (λ (b : Bool). line_of ls fs b text) test
+    ∙ ap (λ (t : List ℕ). line_of ls fs (ltb (length t) (length s)) t) is_line in
     let is : Ok line ≡ first_of ls fs s = given ∙ same in
     let marked : place s < length s = ok_marked s (ok_ended ls fs (ltb (length (before s)) (length s)) (before s) line is) in
     let size : length text ≡ place s = ap length is_line ∙ length_before 10 s marked in
@@ -147,7 +148,8 @@ pub line_refused : (ls : Levels) (fs : List Field) (n line : ℕ) (s rest text :
     → text ≡ before s → ended ≡ ltb (length text) (length s) → Err code ≡ line_of ls fs ended text → line ≡ n
     → read_from ls fs n (s ++ rest) ≡ stopped line code
 line_refused ls fs n line s rest text ended code some decided is_line test given number =
-    let same : line_of ls fs ended text ≡ first_of ls fs s = ap (λ (b : Bool). line_of ls fs b text) test ∙ ap (λ (t : List ℕ). line_of ls fs (ltb (length t) (length s)) t) is_line in
+    let same : line_of ls fs ended text ≡ first_of ls fs s = ap (λ (b : Bool). line_of ls fs b text) test
+    ∙ ap (λ (t : List ℕ). line_of ls fs (ltb (length t) (length s)) t) is_line in
     line_read ls fs n s rest some decided
     ∙ ap (λ (r : Result Span StimCode). going_on n r (read_from ls fs (n + 1) (after (s ++ rest)))) (sym (given ∙ same))
     ∙ ap (λ (k : ℕ). stopped k code) (sym number)
@@ -183,13 +185,15 @@ refused_of ls fs count line s bytes rest text code same some decided is_line giv
     (given ∙ ap (λ (x : List ℕ). line_of ls fs (ltb (length text) (length x)) text) same) number
 
 -- a line that isn't refused has its end among the bytes
-pub end_there : (ls : Levels) (fs : List Field) (s bytes text : List ℕ) (line : Span) → bytes ≡ s → Ok line ≡ line_of ls fs (ltb (length text) (length bytes)) text → length text + 1 ≤ length s
+pub end_there : (ls : Levels) (fs : List Field) (s bytes text : List ℕ) (line : Span) → bytes ≡ s
+    → Ok line ≡ line_of ls fs (ltb (length text) (length bytes)) text → length text + 1 ≤ length s
 end_there ls fs s bytes text line same given =
     let b = is_below (length text) (length bytes) (ok_ended ls fs (ltb (length text) (length bytes)) text line given) in
     let l : length bytes ≡ length s = ap length same in
     omega arith
 
-pub decided_by : (ls : Levels) (fs : List Field) (s bytes text : List ℕ) (line : Span) → bytes ≡ s → text ≡ before bytes → Ok line ≡ line_of ls fs (ltb (length text) (length bytes)) text → IsDecided s
+pub decided_by : (ls : Levels) (fs : List Field) (s bytes text : List ℕ) (line : Span) → bytes ≡ s → text ≡ before bytes
+    → Ok line ≡ line_of ls fs (ltb (length text) (length bytes)) text → IsDecided s
 decided_by ls fs s bytes text line same is_line given =
     let test : ltb (length (before s)) (length s) ≡ ltb (length text) (length bytes) = sym (ap₂ (λ (x y : List ℕ). ltb (length x) (length y)) (is_line ∙ ap before same) same) in
     inr (marked_any s (ok_marked s (test ∙ ok_ended ls fs (ltb (length text) (length bytes)) text line given)))

@@ -35,7 +35,8 @@ module _ (ls : Levels) (fs : List Field) where
             let all : read_from ls fs n (s ++ rest) ≡ going_on n (first_of ls fs s) (read_from ls fs (n + 1) (after s ++ rest))
             = line_read ls fs n s rest (omega arith) (inl (inr (marked_any s marked)))
             ∙ ap (λ (l : List ℕ). going_on n (first_of ls fs s) (read_from ls fs (n + 1) l)) (after_more s rest marked) in
-            let (more, is) = line_before n (first_of ls fs s) (read_from ls fs (n + 1) (after s)) (read_from ls fs (n + 1) (after s ++ rest)) (front_by fuel (n + 1) (after s) rest shorter) in
+            let (more, is) = line_before n (first_of ls fs s) (read_from ls fs (n + 1) (after s))
+            (read_from ls fs (n + 1) (after s ++ rest)) (front_by fuel (n + 1) (after s) rest shorter) in
             (more, ap (λ (p : Parsed). p.stream) all ∙ is ∙ ap (λ (p : Parsed). p.stream ++ more) (sym one))
         | inr unmarked ↦
             let none : (read_from ls fs n s).stream ≡ [] = none_unmarked ls fs n s (omega arith) (omega (arith, unmarked)) in

@@ -35,7 +35,8 @@ bytes_more channel len count held now before after (Some t) mid is so_far gave =
     let piece : take count after ≡ take count (drop len (rest_of t channel)) = g.piece ∙ ap (take count) (rest-moved channel len t) in
     rw (piece, ← drop-drop count len (rest_of t channel), append_assoc now _ _, take-append-drop count (drop len (rest_of t channel))) so_far
 
-given_more : (channel len count : ℕ) (g h k : ℕ → ℕ) → h ≡ at_number channel (g channel + len) g → k ≡ at_number channel (h channel + count) h → k ≡ at_number channel (g channel + (len + count)) g
+given_more : (channel len count : ℕ) (g h k : ℕ → ℕ) → h ≡ at_number channel (g channel + len) g
+    → k ≡ at_number channel (h channel + count) h → k ≡ at_number channel (g channel + (len + count)) g
 given_more channel len count g h k first then =
     let here : h channel ≡ g channel + len = number-at channel (g channel + len) g h first in
     let sum : h channel + count ≡ g channel + (len + count) = omega (arith, here) in
@@ -118,7 +119,8 @@ fails_now channel size piece (Some t) new g h same is stands fails =
 -- what is read at least
 
 -- a piece was read behind bytes that don't tell the line
-pub least_more : (before held now piece : List ℕ) → (IsDecided held → ⊥) → length before ≤ length held → 0 < length piece → length piece ≤ 4096 → now ≡ held ++ piece → HoldsLeast before now
+pub least_more : (before held now piece : List ℕ) → (IsDecided held → ⊥) → length before ≤ length held → 0 < length piece
+    → length piece ≤ 4096 → now ≡ held ++ piece → HoldsLeast before now
 least_more before held now piece undecided grown some most is =
     let size : length now ≡ length held + length piece = ap length is ∙ length-append held piece in
     let front : take (length held) now ≡ held = ap (take (length held)) is ∙ take_front held piece in

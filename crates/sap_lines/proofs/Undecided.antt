@@ -34,7 +34,8 @@ short s wants = elim (cases_lt 65536 (length s)) [
 ]
 
 -- an unmarked line is refused: for its length, or for its missing end
-unended : (ls : Levels) (fs : List Field) (n : ℕ) (s : List ℕ) (code : StimCode) → 0 < length s → length s ≤ place s → line_of ls fs false s ≡ Err code → read_from ls fs n s ≡ stopped n code
+unended : (ls : Levels) (fs : List Field) (n : ℕ) (s : List ℕ) (code : StimCode) → 0 < length s → length s ≤ place s
+    → line_of ls fs false s ≡ Err code → read_from ls fs n s ≡ stopped n code
 unended ls fs n s code some none refused =
     let whole : before s ≡ s = before_unmarked 10 s none in
     let size : length (before s) ≡ length s = ap length whole in
@@ -95,7 +96,8 @@ still_longer ls fs n more s none far =
     let sizes : length zeros ≡ more = length-replicate more 0 in
     let behind : place (s ++ zeros) ≡ length s + place zeros = place_both s zeros none in
     let none_more : place zeros ≡ more = no_marks more in
-    unended ls fs n (s ++ zeros) S1 (omega (arith, size, sizes, far)) (omega (arith, size, sizes, behind, none_more)) (too_long ls fs (s ++ zeros) (omega (arith, size, sizes, far)))
+    unended ls fs n (s ++ zeros) S1 (omega (arith, size, sizes, far)) (omega (arith, size, sizes, behind, none_more))
+    (too_long ls fs (s ++ zeros) (omega (arith, size, sizes, far)))
 
 -- and no fault that stands whatever comes behind them
 pub no_fault : (ls : Levels) (fs : List Field) (n : ℕ) (s : List ℕ) (why : StimFault) → (IsDecided s → ⊥) → ((rest : List ℕ) → (read_from ls fs n (s ++ rest)).fault ≡ Some why) → ⊥

@@ -43,10 +43,12 @@ through_alike o laws l (Some t) a b same =
           ]
     ]
 
-module _ (y : System) (fine : FineSystem y) (laws : Laws y.order) (l : ℕ) (s t : CompositeState) (same : PartsAgree y l s t) (a b : List Tagged) (inputs : InputsAgree y.order l a b) where
+module _ (y : System) (fine : FineSystem y) (laws : Laws y.order) (l : ℕ) (s t : CompositeState) (same : PartsAgree y l s t)
+    (a b : List Tagged) (inputs : InputsAgree y.order l a b) where
   content_alike : (w : Wire) → Connects y w → AreAlike y.order l (content_at y s w.from) (content_at y t w.from)
   content_alike w good =
-      subst (λ (o : Order). AreAlike o l (content_at y s w.from) (content_at y t w.from)) (fine.order w.from.part good.from_part) ((same w.from.part good.from_part).registers w.from.entity good.register)
+      subst (λ (o : Order). AreAlike o l (content_at y s w.from) (content_at y t w.from)) (fine.order w.from.part good.from_part)
+      ((same w.from.part good.from_part).registers w.from.entity good.register)
 
   by_alike : (e : Endpoint) (feeds : Option Wire) → feeding y.wires e ≡ feeds → AreAlike y.order l (received_by y s a e feeds) (received_by y t b e feeds)
   by_alike e None is = at_place_alike y.order l a b (record { number = 0; level = y.order.bottom }) inputs _

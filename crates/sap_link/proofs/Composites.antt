@@ -23,7 +23,8 @@ cycle_law one y fine l s t rs rt same a b inputs = record {
   refusals = λ i is. subst (λ (o : Order). RefusalsAgree o l (composite_cycle y a s i).refused (composite_cycle y b t i).refused) (fine.order i is) (both i is).1;
 }
   where
-    both : (i : ℕ) → IsPart y i → StatesAgree (part y i) l (composite_cycle y a s i).store (composite_cycle y b t i).store × RefusalsAgree (world y i).order l (composite_cycle y a s i).refused (composite_cycle y b t i).refused
+    both : (i : ℕ) → IsPart y i → StatesAgree (part y i) l (composite_cycle y a s i).store (composite_cycle y b t i).store
+        × RefusalsAgree (world y i).order l (composite_cycle y a s i).refused (composite_cycle y b t i).refused
     both i is =
         one (part y i) (fine.parts i is) l (s i) (t i) (rs i is) (rt i is) (same i is) (part_inputs y s a i) (part_inputs y t b i)
         (subst (λ (o : Order). InputsAgree o l (part_inputs y s a i) (part_inputs y t b i)) (sym (fine.order i is)) (inputs_law y fine l s t same a b inputs i is))

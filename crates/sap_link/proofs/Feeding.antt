@@ -41,7 +41,8 @@ still_feeds v w wires free feeds =
       | inr other ↦ rw other feeds
     ]
 
-all_feed : (v : Wire) (wires some : List Wire) → feeding wires v.to ≡ None → AllByRecursion (λ w. feeding wires w.to ≡ Some w) some → AllByRecursion (λ w. feeding (v ∷ wires) w.to ≡ Some w) some
+all_feed : (v : Wire) (wires some : List Wire) → feeding wires v.to ≡ None → AllByRecursion (λ w. feeding wires w.to ≡ Some w) some
+    → AllByRecursion (λ w. feeding (v ∷ wires) w.to ≡ Some w) some
 all_feed v wires [] free all = tt
 all_feed v wires (w ∷ some) free all = (still_feeds v w wires free all.0, all_feed v wires some free all.1)
 

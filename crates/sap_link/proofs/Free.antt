@@ -60,16 +60,19 @@ other_part_differs i x j (z ∷ zs) less = (earlier_part i x j z less, other_par
 later_parts_differ : (i x j : ℕ) (ps : List Program) → i < j → AllDiffer (endpoint i x) (inputs_of j ps)
 later_parts_differ i x j [] less = tt
 later_parts_differ i x j (p ∷ ps) less =
-    all_append (endpoint i x) (map (endpoint j) (inputs_from 0 p.world.entities)) (inputs_of (suc j) ps) (other_part_differs i x j _ less) (later_parts_differ i x (suc j) ps (omega arith))
+    all_append (endpoint i x) (map (endpoint j) (inputs_from 0 p.world.entities)) (inputs_of (suc j) ps) (other_part_differs i x j _ less)
+    (later_parts_differ i x (suc j) ps (omega arith))
 
-distinct_append : (i : ℕ) (xs : List ℕ) (es : List Endpoint) → ((x : ℕ) → AllDiffer (endpoint i x) es) → Distinct (map (endpoint i) xs) → Distinct es → Distinct (map (endpoint i) xs ++ es)
+distinct_append : (i : ℕ) (xs : List ℕ) (es : List Endpoint) → ((x : ℕ) → AllDiffer (endpoint i x) es) → Distinct (map (endpoint i) xs)
+    → Distinct es → Distinct (map (endpoint i) xs ++ es)
 distinct_append i [] es apart a b = b
 distinct_append i (x ∷ xs) es apart a b = (all_append (endpoint i x) (map (endpoint i) xs) es a.0 (apart x), distinct_append i xs es apart a.1 b)
 
 parts_distinct : (i : ℕ) (ps : List Program) → Distinct (inputs_of i ps)
 parts_distinct i [] = tt
 parts_distinct i (p ∷ ps) =
-    distinct_append i (inputs_from 0 p.world.entities) (inputs_of (suc i) ps) (λ x. later_parts_differ i x (suc i) ps (omega arith)) (inputs_distinct i 0 p.world.entities) (parts_distinct (suc i) ps)
+    distinct_append i (inputs_from 0 p.world.entities) (inputs_of (suc i) ps) (λ x. later_parts_differ i x (suc i) ps (omega arith))
+    (inputs_distinct i 0 p.world.entities) (parts_distinct (suc i) ps)
 
 module _ (test : Endpoint → Bool) where
   filter_differ : (d : Endpoint) (es : List Endpoint) → AllDiffer d es → AllDiffer d (filter test es)
@@ -84,7 +87,8 @@ abbrev at_place_of : (bottom : Tagged) → List Endpoint → List Tagged → End
 at_place_of bottom ds inputs e = get_or inputs (position_or_len (λ d. same_endpoint d e) ds) bottom
 
 -- behind an endpoint that differs from all of them, what stands at their places is what stood there without it
-behind : (bottom : Tagged) (d : Endpoint) (ds : List Endpoint) (t : Tagged) (ts : List Tagged) (es : List Endpoint) → AllDiffer d es → map (at_place_of bottom (d ∷ ds) (t ∷ ts)) es ≡ map (at_place_of bottom ds ts) es
+behind : (bottom : Tagged) (d : Endpoint) (ds : List Endpoint) (t : Tagged) (ts : List Tagged) (es : List Endpoint) → AllDiffer d es
+    → map (at_place_of bottom (d ∷ ds) (t ∷ ts)) es ≡ map (at_place_of bottom ds ts) es
 behind bottom d ds t ts [] all = refl
 behind bottom d ds t ts (e ∷ es) all = ap₂ (λ (u : Tagged) us. u ∷ us) here (behind bottom d ds t ts es all.1)
   where
@@ -119,4 +123,5 @@ module _ (y : System) (states : CompositeState) (inputs : List Tagged) where
 pub free_receive : FreeInputsReceive
 free_receive y states inputs same =
     free_given y states inputs (inputs_of 0 y.parts)
-    ∙ in_order (record { number = 0; level = y.order.bottom }) (free_inputs y) inputs (filter_distinct (λ e. not (is_fed y.wires e)) (inputs_of 0 y.parts) (parts_distinct 0 y.parts)) same
+    ∙ in_order (record { number = 0; level = y.order.bottom }) (free_inputs y) inputs
+    (filter_distinct (λ e. not (is_fed y.wires e)) (inputs_of 0 y.parts) (parts_distinct 0 y.parts)) same

@@ -17,7 +17,10 @@ pub agrees_itself : (p : Program) (l : ℕ) (s : Store) → StatesAgree p l s s
 agrees_itself p l s = record {
   registers = λ x is. same_alike p.world.order l _ refl (level p.world (own x) s);
   enforced_memories = λ m i is e. (same_alike p.world.order l _ refl (level p.world (start m i) s), same_alike p.world.order l _ refl (level p.world (next m i) s));
-  dynamic_memories = λ m is d. (same_alike p.world.order l _ (λ i. refl) (level p.world (start_whole m) s), same_alike p.world.order l _ (λ i. refl) (level p.world (next_whole m) s));
+  dynamic_memories = λ m is d. (
+    same_alike p.world.order l _ (λ i. refl) (level p.world (start_whole m) s),
+    same_alike p.world.order l _ (λ i. refl) (level p.world (next_whole m) s),
+  );
   enforced_levels = λ z h e low. refl;
   paths = path_alike p.world.order l (active_path p s);
 }

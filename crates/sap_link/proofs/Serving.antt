@@ -20,12 +20,14 @@ use Rattle.sap_link.specs.Laws.{CompositesFit, PartsRunAlone, StreamsOfPartsFit,
 use Rattle.sap_link.specs.Designs.{linked, LinkedDesignsServe, LaterLinkedRunsAgree, LinkedRunsAgree, PartsOfLinkedRun}
 
 module _ (fine : ProgramsAreFine) (sizes : SizesFit) (ls : Levels) (laws : Laws (order_of ls)) where
-  fine_part : (ds : List DesignTree) → AllByRecursion (WellFormed ls) ds → (i : ℕ) → i < length (map (program_of ls) ds) → FineProgram (get_or (map (program_of ls) ds) i (no_part (order_of ls)))
+  fine_part : (ds : List DesignTree) → AllByRecursion (WellFormed ls) ds → (i : ℕ) → i < length (map (program_of ls) ds)
+      → FineProgram (get_or (map (program_of ls) ds) i (no_part (order_of ls)))
   fine_part [] formed i low = absurd (omega arith)
   fine_part (d ∷ ds) formed zero low = fine ls d laws formed.0
   fine_part (d ∷ ds) formed (suc i) low = fine_part ds formed.1 i (omega arith)
 
-  sized_part : (ds : List DesignTree) → AllByRecursion (WellFormed ls) ds → (i : ℕ) → i < length (map (program_of ls) ds) → SizedProgram (get_or (map (program_of ls) ds) i (no_part (order_of ls)))
+  sized_part : (ds : List DesignTree) → AllByRecursion (WellFormed ls) ds → (i : ℕ) → i < length (map (program_of ls) ds)
+      → SizedProgram (get_or (map (program_of ls) ds) i (no_part (order_of ls)))
   sized_part [] formed i low = absurd (omega arith)
   sized_part (d ∷ ds) formed zero low = sizes ls d laws formed.0.names
   sized_part (d ∷ ds) formed (suc i) low = sized_part ds formed.1 i (omega arith)
@@ -53,7 +55,8 @@ pub linked_runs_agree : LinkedDesignsServe → CompositesOfStreamsAgree → Link
 linked_runs_agree serve law ls ds wires laws well l a b streams = law (linked ls ds wires) (serve ls ds wires laws well).0 l a b streams
 
 -- the program of the design that is part i
-part_is : (ls : Levels) (ds : List DesignTree) (i : ℕ) (d : DesignTree) → slice_get ds i ≡ Some d → (i < length (map (program_of ls) ds)) × (get_or (map (program_of ls) ds) i (no_part (order_of ls)) ≡ program_of ls d)
+part_is : (ls : Levels) (ds : List DesignTree) (i : ℕ) (d : DesignTree) → slice_get ds i ≡ Some d → (i < length (map (program_of ls) ds))
+    × (get_or (map (program_of ls) ds) i (no_part (order_of ls)) ≡ program_of ls d)
 part_is ls [] zero d is = cc
 part_is ls [] (suc i) d is = cc
 part_is ls (e ∷ ds) zero d is = let same : e ≡ d = cc in (omega arith, ap (program_of ls) same)

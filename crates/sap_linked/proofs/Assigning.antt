@@ -79,7 +79,8 @@ module _ (copies_keep : CopiesAreNetlists) (s : NamedSystem) (nets : ℕ → Net
   both_distinct = wires_distinct s nets fit good each
 
   fed_rules : AreWires cells first fed
-  fed_rules = all_feeds s nets fit good each codes (λ x h. new x (fed_there s nets fit good each x h)) (distinct_front (fed_wires s nets fit good each) (part_wires s nets fit good each) both_distinct)
+  fed_rules = all_feeds s nets fit good each codes (λ x h. new x (fed_there s nets fit good each x h))
+      (distinct_front (fed_wires s nets fit good each) (part_wires s nets fit good each) both_distinct)
 
   -- ---- wires of parts
 
@@ -93,22 +94,27 @@ module _ (copies_keep : CopiesAreNetlists) (s : NamedSystem) (nets : ℕ → Net
     first_grows : Grows (first_readable (copy i)) behind
     first_grows =
         of_entries (λ x u. find behind x ≡ Some u) (first_readable (copy i))
-        (all_append {A = Name × ℕ} (λ e. find behind e.0 ≡ Some e.1) (map {B = Name × ℕ} (λ (x : Input). (x.name, x.width)) (map (copy_input f) (nets i).inputs)) (map {B = Name × ℕ} (λ (r : Register). (r.name, r.width)) (map (copy_register f) (nets i).registers))
+        (all_append {A = Name × ℕ} (λ e. find behind e.0 ≡ Some e.1)
+        (map {B = Name × ℕ} (λ (x : Input). (x.name, x.width)) (map (copy_input f) (nets i).inputs))
+        (map {B = Name × ℕ} (λ (r : Register). (r.name, r.width)) (map (copy_register f) (nets i).registers))
         (map_of_all {X = Input} {Y = Name × ℕ} (λ e. find behind e.0 ≡ Some e.1) (λ x. (x.name, x.width)) (map (copy_input f) (nets i).inputs)
         (map_of_all (λ (x : Input). find behind x.name ≡ Some x.width) (copy_input f) (nets i).inputs
         (at_inputs s (λ x u. find behind x ≡ Some u)
-        (all_follow (λ (x : Input). find first x.name ≡ Some x.width) (λ x. find behind x.name ≡ Some x.width) whole.inputs (λ x h. readable_kept cells fed first fed_rules x.name x.width h) (inputs_there s nets fit good each))
+        (all_follow (λ (x : Input). find first x.name ≡ Some x.width) (λ x. find behind x.name ≡ Some x.width) whole.inputs
+        (λ x h. readable_kept cells fed first fed_rules x.name x.width h) (inputs_there s nets fit good each))
         (wires_read cells fed first fed_rules) i (nets i) (each i low))))
         (map_of_all {X = Register} {Y = Name × ℕ} (λ e. find behind e.0 ≡ Some e.1) (λ r. (r.name, r.width)) (map (copy_register f) (nets i).registers)
         (map_of_all (λ (r : Register). find behind r.name ≡ Some r.width) (copy_register f) (nets i).registers
-        (all_follow (λ (r : Register). find first (f r.name) ≡ Some r.width) (λ r. find behind (f r.name) ≡ Some r.width) (nets i).registers (λ r h. readable_kept cells fed first fed_rules (f r.name) r.width h) (part_registers s nets fit good each i low)))))
+        (all_follow (λ (r : Register). find first (f r.name) ≡ Some r.width) (λ r. find behind (f r.name) ≡ Some r.width) (nets i).registers
+        (λ r h. readable_kept cells fed first fed_rules (f r.name) r.width h) (part_registers s nets fit good each i low)))))
 
     shapes_grow : GrowsIn (shapes (copy i)) cells
     shapes_grow =
         of_entries (λ x t. find cells x ≡ Some t) (shapes (copy i))
         (map_of_all {X = Memory} {Y = Name × (ℕ × ℕ)} (λ e. find cells e.0 ≡ Some e.1) (λ m. (m.name, (m.width, m.depth))) (map (copy_memory f) (nets i).memories)
         (map_of_all (λ (m : Memory). find cells m.name ≡ Some (m.width, m.depth)) (copy_memory f) (nets i).memories
-        (of_first (λ i. (nets i).memories) copy_memory (λ (m : Memory). find cells m.name ≡ Some (m.width, m.depth)) s i (all_found whole.memories (whole_memories s nets fit good each)) low)))
+        (of_first (λ i. (nets i).memories) copy_memory (λ (m : Memory). find cells m.name ≡ Some (m.width, m.depth)) s i
+        (all_found whole.memories (whole_memories s nets fit good each)) low)))
 
   parts_rules : AreWires cells behind copies
   parts_rules =
@@ -117,7 +123,8 @@ module _ (copies_keep : CopiesAreNetlists) (s : NamedSystem) (nets : ℕ → Net
       let there : is_among x (part_wires s nets fit good each) ≡ true = sym (ap (is_among x) (part_wires_are s nets fit good each)) ∙ h in
       let n = new x (wire_there s nets fit good each x there) in
       (fresh_after fed first x n.0 (apart_front (fed_wires s nets fit good each) (part_wires s nets fit good each) both_distinct x there), n.1)))
-      (subst (λ (ns : List Name). AreDistinct ns) (sym (part_wires_are s nets fit good each)) (distinct_second (fed_wires s nets fit good each) (part_wires s nets fit good each) both_distinct))
+      (subst (λ (ns : List Name). AreDistinct ns) (sym (part_wires_are s nets fit good each))
+      (distinct_second (fed_wires s nets fit good each) (part_wires s nets fit good each) both_distinct))
 
   pub assigns : AreWires cells first whole.wires
   assigns = wires_both cells fed copies first fed_rules parts_rules
@@ -139,10 +146,12 @@ module _ (copies_keep : CopiesAreNetlists) (s : NamedSystem) (nets : ℕ → Net
         of_readable (λ x u. find (readable whole) x ≡ Some u) (copy i)
         (map_of_all (λ (x : Input). find (readable whole) x.name ≡ Some x.width) (copy_input g) (nets i).inputs
         (at_inputs s (λ x u. find (readable whole) x ≡ Some u)
-        (all_follow (λ (x : Input). find first x.name ≡ Some x.width) (λ x. find (readable whole) x.name ≡ Some x.width) whole.inputs (λ x h. kept x.name x.width h) (inputs_there s nets fit good each))
+        (all_follow (λ (x : Input). find first x.name ≡ Some x.width) (λ x. find (readable whole) x.name ≡ Some x.width) whole.inputs
+        (λ x h. kept x.name x.width h) (inputs_there s nets fit good each))
         all_read.0 i (nets i) (each i low)))
         (map_of_all (λ (r : Register). find (readable whole) r.name ≡ Some r.width) (copy_register g) (nets i).registers
-        (all_follow (λ (r : Register). find first (g r.name) ≡ Some r.width) (λ r. find (readable whole) (g r.name) ≡ Some r.width) (nets i).registers (λ r h. kept (g r.name) r.width h) (part_registers s nets fit good each i low)))
+        (all_follow (λ (r : Register). find first (g r.name) ≡ Some r.width) (λ r. find (readable whole) (g r.name) ≡ Some r.width)
+        (nets i).registers (λ r h. kept (g r.name) r.width h) (part_registers s nets fit good each i low)))
         (map_of_all (λ (w : Wire). find (readable whole) w.name ≡ Some w.width) (copy_wire g) (nets i).wires
         (of_first (λ i. (nets i).wires) copy_wire (λ (w : Wire). find (readable whole) w.name ≡ Some w.width) s i all_read.1 low))
 

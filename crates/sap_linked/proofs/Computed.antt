@@ -43,9 +43,71 @@ linked_is_netlist =
       ports_first = refl;
       ports_show = (refl, (refl, (refl, (refl, (refl, (refl, (refl, (refl, (refl, (refl, (refl, (refl, tt))))))))))));
       inputs_are_ports = refl;
-      values = (byte_wide, refl, refl, (bit_wide, refl, refl, (byte_wide, refl, refl, (bit_wide, refl, refl, (byte_wide, refl, refl, (bit_wide, refl, refl, (bit_wide, refl, refl, (bit_wide, refl, refl, (bit_wide, refl, refl, (bit_wide, refl, refl, tt))))))))));
+      values = (
+        byte_wide,
+        refl,
+        refl,
+        (
+          bit_wide,
+          refl,
+          refl,
+          (
+            byte_wide,
+            refl,
+            refl,
+            (
+              bit_wide,
+              refl,
+              refl,
+              (byte_wide, refl, refl, (bit_wide, refl, refl, (bit_wide, refl, refl, (bit_wide, refl, refl, (bit_wide, refl, refl, (bit_wide, refl, refl, tt)))))),
+            ),
+          ),
+        ),
+      );
       memory_shapes = tt;
-      assigns = (bit_wide, refl, refl, (1, 1, bit_wide, bit_wide, refl, (refl, lit< tt), refl, refl), (bit_wide, refl, refl, (1, 1, bit_wide, bit_wide, refl, (refl, lit< tt), refl, refl), (byte_wide, refl, refl, (refl, refl, (refl, lit< tt)), (bit_wide, refl, refl, (refl, lit< tt), (byte_wide, refl, refl, (8, 8, byte_wide, byte_wide, refl, (refl, lit< tt), refl, refl), (bit_wide, refl, refl, (refl, lit< tt), (bit_wide, refl, refl, (refl, lit< tt), (bit_wide, refl, refl, (refl, lit< tt), (bit_wide, refl, refl, (refl, lit< tt), tt)))))))));
+      assigns = (
+        bit_wide,
+        refl,
+        refl,
+        (1, 1, bit_wide, bit_wide, refl, (refl, lit< tt), refl, refl),
+        (
+          bit_wide,
+          refl,
+          refl,
+          (1, 1, bit_wide, bit_wide, refl, (refl, lit< tt), refl, refl),
+          (
+            byte_wide,
+            refl,
+            refl,
+            (refl, refl, (refl, lit< tt)),
+            (
+              bit_wide,
+              refl,
+              refl,
+              (refl, lit< tt),
+              (
+                byte_wide,
+                refl,
+                refl,
+                (8, 8, byte_wide, byte_wide, refl, (refl, lit< tt), refl, refl),
+                (
+                  bit_wide,
+                  refl,
+                  refl,
+                  (refl, lit< tt),
+                  (
+                    bit_wide,
+                    refl,
+                    refl,
+                    (refl, lit< tt),
+                    (bit_wide, refl, refl, (refl, lit< tt), (bit_wide, refl, refl, (refl, lit< tt), tt)),
+                  ),
+                ),
+              ),
+            ),
+          ),
+        ),
+      );
       nexts = ((lit< tt, refl), ((lit< tt, refl), ((lit< tt, refl), ((lit< tt, refl), ((lit< tt, refl), ((lit< tt, refl), ((lit< tt, refl), ((lit< tt, refl), tt))))))));
       writes = tt;
     }

@@ -45,7 +45,8 @@ pub record RegistersStand (d : Named) (v : Valuation) (s : Store) : Type 0 where
 abbrev pub BeginsAs : Named → Net → Option Valuation → Store → Type 0
 BeginsAs d n before s = (v : Valuation) → Begins n before v → RegistersStand d v s
 
-first_at : (v : Valuation) (rs : List Register) → AllByRecursion (λ r. v.value r.name ≡ r.start) rs → (x : Name) (u : ℕ) → find (map (λ (r : Register). (r.name, r.width)) rs) x ≡ Some u
+first_at : (v : Valuation) (rs : List Register) → AllByRecursion (λ r. v.value r.name ≡ r.start) rs → (x : Name) (u : ℕ)
+    → find (map (λ (r : Register). (r.name, r.width)) rs) x ≡ Some u
     → v.value x ≡ unwrap_or (find (map (λ (r : Register). (r.name, r.start)) rs) x) 0
 first_at v [] a x u h = absurd (cc)
 first_at v (r ∷ rs) a x u h =

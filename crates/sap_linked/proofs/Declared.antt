@@ -23,7 +23,8 @@ some_same : {Y : Type 0} {a b : Y} → Some a ≡ Some b → a ≡ b
 some_same e = cc
 
 -- what is found of an entry
-pub found_of : {X Y : Type 0} (name : Y → Name) (of : Y → X) (ys : List Y) (x : Name) (y : Y) → find (map (λ y. (name y, y)) ys) x ≡ Some y → find (map (λ y. (name y, of y)) ys) x ≡ Some (of y)
+pub found_of : {X Y : Type 0} (name : Y → Name) (of : Y → X) (ys : List Y) (x : Name) (y : Y) → find (map (λ y. (name y, y)) ys) x ≡ Some y
+    → find (map (λ y. (name y, of y)) ys) x ≡ Some (of y)
 found_of name of [] x y h = absurd (cc)
 found_of {X} {Y} name of (z ∷ ys) x y h =
     elim (cases_Bool (bytes_eq (name z) x)) [
@@ -37,21 +38,24 @@ module _ (f behind : Name → Name) (d : Named) (tag sites : ℕ) (part whole : 
   wire_there =
       of_entries (λ x u. find (declared_by whole).wires (f x) ≡ Some u) (declared_by part).wires
       (map_of_all {X = Wire} {Y = Name × ℕ} (λ e. find (declared_by whole).wires (f e.0) ≡ Some e.1) (λ w. (w.name, w.width)) part.wires
-      (all_follow (λ (w : Wire). find (map (λ (v : Wire). (v.name, v)) whole.wires) (f w.name) ≡ Some (copy_wire f w)) (λ w. find (declared_by whole).wires (f w.name) ≡ Some w.width) part.wires
+      (all_follow (λ (w : Wire). find (map (λ (v : Wire). (v.name, v)) whole.wires) (f w.name) ≡ Some (copy_wire f w))
+      (λ w. find (declared_by whole).wires (f w.name) ≡ Some w.width) part.wires
       (λ w h. found_of (λ (v : Wire). v.name) (λ v. v.width) whole.wires (f w.name) (copy_wire f w) h) s.wires))
 
   register_there : (x : Name) (u : ℕ) → find (declared_by part).registers x ≡ Some u → find (declared_by whole).registers (f x) ≡ Some u
   register_there =
       of_entries (λ x u. find (declared_by whole).registers (f x) ≡ Some u) (declared_by part).registers
       (map_of_all {X = Register} {Y = Name × ℕ} (λ e. find (declared_by whole).registers (f e.0) ≡ Some e.1) (λ r. (r.name, r.width)) part.registers
-      (all_follow (λ (r : Register). find (map (λ (v : Register). (v.name, v)) whole.registers) (f r.name) ≡ Some (copy_register f r)) (λ r. find (declared_by whole).registers (f r.name) ≡ Some r.width) part.registers
+      (all_follow (λ (r : Register). find (map (λ (v : Register). (v.name, v)) whole.registers) (f r.name) ≡ Some (copy_register f r))
+      (λ r. find (declared_by whole).registers (f r.name) ≡ Some r.width) part.registers
       (λ r h. found_of (λ (v : Register). v.name) (λ v. v.width) whole.registers (f r.name) (copy_register f r) h) s.registers))
 
   memory_there : (x : Name) (u : ℕ × ℕ) → find (declared_by part).memories x ≡ Some u → find (declared_by whole).memories (f x) ≡ Some u
   memory_there =
       of_entries (λ x u. find (declared_by whole).memories (f x) ≡ Some u) (declared_by part).memories
       (map_of_all {X = Memory} {Y = Name × (ℕ × ℕ)} (λ e. find (declared_by whole).memories (f e.0) ≡ Some e.1) (λ m. (m.name, (m.width, m.depth))) part.memories
-      (all_follow (λ (m : Memory). find (map (λ (v : Memory). (v.name, v)) whole.memories) (f m.name) ≡ Some (copy_memory f m)) (λ m. find (declared_by whole).memories (f m.name) ≡ Some (m.width, m.depth)) part.memories
+      (all_follow (λ (m : Memory). find (map (λ (v : Memory). (v.name, v)) whole.memories) (f m.name) ≡ Some (copy_memory f m))
+      (λ m. find (declared_by whole).memories (f m.name) ≡ Some (m.width, m.depth)) part.memories
       (λ m h. found_of (λ (v : Memory). v.name) (λ v. (v.width, v.depth)) whole.memories (f m.name) (copy_memory f m) h) s.memories))
 
   wire_is : (x : Name) (u : ℕ) → IsInterfaceName d sites x → find (declared_by part).wires x ≡ Some u → find (declared_by whole).wires (behind x) ≡ Some u

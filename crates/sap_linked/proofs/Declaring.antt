@@ -32,7 +32,8 @@ use Rattle.sap_linked.proofs.SideBySide.{to_all, linked_net_links}
 use Rattle.sap_linked.proofs.Declared.{found_of, parts_declare}
 
 -- of the ports in front
-ports_are : (shown more : List Shown) → map (λ (p : Port). (p.name, p.kind)) (take (length shown) (map (λ (port : Shown). record { name = port.0; kind = port.1 }) (shown ++ more))) ≡ shown
+ports_are : (shown more : List Shown) → map (λ (p : Port). (p.name, p.kind))
+    (take (length shown) (map (λ (port : Shown). record { name = port.0; kind = port.1 }) (shown ++ more))) ≡ shown
 ports_are [] more = refl
 ports_are (p ∷ ps) more = ap (λ (rest : List Shown). p ∷ rest) (ports_are ps more)
 
@@ -106,13 +107,17 @@ module _ (s : NamedSystem) (nets : ℕ → Net) (each : (i : ℕ) → i < length
 
     registers_named : AllByRecursion (λ (r : Register). IsPartName s (in_part (part_at s i).name r.name)) (nets i).registers
     registers_named =
-        all_follow (λ (r : Register). IsInterfaceName (part_at s i).design (part_at s i).sites r.name) (λ r. IsPartName s (in_part (part_at s i).name r.name)) (nets i).registers (λ r is. part_name r.name is)
-        (all_of_map {X = Register} {Y = Name × ℕ} (λ e. IsInterfaceName (part_at s i).design (part_at s i).sites e.0) (λ r. (r.name, r.width)) (nets i).registers interface.declares.register_names)
+        all_follow (λ (r : Register). IsInterfaceName (part_at s i).design (part_at s i).sites r.name)
+        (λ r. IsPartName s (in_part (part_at s i).name r.name)) (nets i).registers (λ r is. part_name r.name is)
+        (all_of_map {X = Register} {Y = Name × ℕ} (λ e. IsInterfaceName (part_at s i).design (part_at s i).sites e.0)
+        (λ r. (r.name, r.width)) (nets i).registers interface.declares.register_names)
 
     memories_named : AllByRecursion (λ (m : Memory). IsPartName s (in_part (part_at s i).name m.name)) (nets i).memories
     memories_named =
-        all_follow (λ (m : Memory). IsInterfaceName (part_at s i).design (part_at s i).sites m.name) (λ m. IsPartName s (in_part (part_at s i).name m.name)) (nets i).memories (λ m is. part_name m.name is)
-        (all_of_map {X = Memory} {Y = Name × (ℕ × ℕ)} (λ e. IsInterfaceName (part_at s i).design (part_at s i).sites e.0) (λ m. (m.name, (m.width, m.depth))) (nets i).memories interface.declares.memory_names)
+        all_follow (λ (m : Memory). IsInterfaceName (part_at s i).design (part_at s i).sites m.name)
+        (λ m. IsPartName s (in_part (part_at s i).name m.name)) (nets i).memories (λ m is. part_name m.name is)
+        (all_of_map {X = Memory} {Y = Name × (ℕ × ℕ)} (λ e. IsInterfaceName (part_at s i).design (part_at s i).sites e.0)
+        (λ m. (m.name, (m.width, m.depth))) (nets i).memories interface.declares.memory_names)
 
   all_registers : AllByRecursion (λ (r : Register). IsPartName s r.name) (copies_of (λ i. (nets i).registers) copy_register 0 s.parts)
   all_registers = to_all (λ i. (nets i).registers) copy_register (λ (r : Register). IsPartName s r.name) s (λ i low. registers_named i low)
@@ -129,7 +134,8 @@ module _ (s : NamedSystem) (nets : ℕ → Net) (each : (i : ℕ) → i < length
         ports = ports_are (linked_ports s) (fed_inputs s.wires 0 s.parts);
         parts = λ i low. declares_part i low;
         register_names = all_append (λ (r : Register). IsPartName s r.name) (filter shown all) (filter (λ r. not (shown r)) all)
-            (all_filter (λ (r : Register). IsPartName s r.name) shown all all_registers) (all_filter (λ (r : Register). IsPartName s r.name) (λ r. not (shown r)) all all_registers);
+            (all_filter (λ (r : Register). IsPartName s r.name) shown all all_registers)
+            (all_filter (λ (r : Register). IsPartName s r.name) (λ r. not (shown r)) all all_registers);
         memory_names = all_memories;
       }
 

@@ -20,7 +20,8 @@ same_programs ls (d ∷ ds) = ap (λ (ps : List Program). program_of ls d.design
 pub same_system : (ls : Levels) (ds : List NamedDesign) (wires : List Wire) → linked ls (trees ds) wires ≡ system_of (named_system ls ds wires)
 same_system ls ds wires = ap (λ (ps : List Program). record { order = order_of ls; parts = ps; wires = wires }) (same_programs ls ds)
 
-pub each_net : (ls : Levels) (ds : List NamedDesign) (i : ℕ) (n : Net) → i < length (map (part_of ls) ds) → ((d : NamedDesign) → slice_get ds i ≡ Some d → IsNetOfDesign ls d.design n)
+pub each_net : (ls : Levels) (ds : List NamedDesign) (i : ℕ) (n : Net) → i < length (map (part_of ls) ds)
+    → ((d : NamedDesign) → slice_get ds i ≡ Some d → IsNetOfDesign ls d.design n)
     → IsNetOf (order_of ls) (get_or (map (part_of ls) ds) i (no_part (order_of ls))) n
 each_net ls [] i n low is = absurd (omega arith)
 each_net ls (d ∷ ds) zero n low is = let net = is d refl in record { codes = refl; netlist = net.netlist; stands = net.stands; starts = net.starts }
@@ -35,4 +36,5 @@ linked_designs_stand serve stand ls ds wires laws codes well nets named whole ea
 
 pub linked_designs_are_netlists : LinkedNetIsNetlist → LinkedDesignsAreNetlists
 linked_designs_are_netlists is ls ds wires codes well fit nets each =
-    is (named_system ls ds wires) nets codes fit (subst (λ (y : System). WiresFit y) (same_system ls ds wires) well.wires_fit) (λ i low. each_net ls ds i (nets i) low (λ d is. each i d is))
+    is (named_system ls ds wires) nets codes fit (subst (λ (y : System). WiresFit y) (same_system ls ds wires) well.wires_fit)
+    (λ i low. each_net ls ds i (nets i) low (λ d is. each i d is))

@@ -109,29 +109,35 @@ module _ (s : NamedSystem) (nets : ℕ → Net) (fit : NamesFit s) (good : Wires
 
   wires_registers : (z : Name) → is_among z wires_there ≡ true → is_among z registers_there ≡ true → ⊥
   wires_registers z h k =
-      let m = meets s fit wires_in registers_in wires_long registers_long 0 0 z (of_among s wires_in 0 s.parts (whole_list s) z h) (of_among s registers_in 0 s.parts (whole_list s) z k) in
+      let m = meets s fit wires_in registers_in wires_long registers_long 0 0 z (of_among s wires_in 0 s.parts (whole_list s) z h)
+      (of_among s registers_in 0 s.parts (whole_list s) z k) in
       wire_no_register (nets m.0) (each m.0 m.2).netlist m.1 m.3 m.4
 
   wires_memories : (z : Name) → is_among z wires_there ≡ true → is_among z memories_there ≡ true → ⊥
   wires_memories z h k =
-      let m = meets s fit wires_in memories_in wires_long memories_long 0 0 z (of_among s wires_in 0 s.parts (whole_list s) z h) (of_among s memories_in 0 s.parts (whole_list s) z k) in
+      let m = meets s fit wires_in memories_in wires_long memories_long 0 0 z (of_among s wires_in 0 s.parts (whole_list s) z h)
+      (of_among s memories_in 0 s.parts (whole_list s) z k) in
       wire_no_memory (nets m.0) (each m.0 m.2).netlist m.1 m.3 m.4
 
   registers_memories : (z : Name) → is_among z registers_there ≡ true → is_among z memories_there ≡ true → ⊥
   registers_memories z h k =
-      let m = meets s fit registers_in memories_in registers_long memories_long 0 0 z (of_among s registers_in 0 s.parts (whole_list s) z h) (of_among s memories_in 0 s.parts (whole_list s) z k) in
+      let m = meets s fit registers_in memories_in registers_long memories_long 0 0 z (of_among s registers_in 0 s.parts (whole_list s) z h)
+      (of_among s memories_in 0 s.parts (whole_list s) z k) in
       register_no_memory (nets m.0) (each m.0 m.2).netlist m.1 m.3 m.4
 
   all_wires_distinct : AreDistinct (fed ++ wires_there)
   all_wires_distinct =
       distinct_both fed wires_there (feeds_distinct s nets fit each s.wires good.once (all_inputs s.wires good.each))
-      (copies_distinct s fit wires_in wires_long (λ i low. wires_distinct (shapes (nets i)) (nets i).wires (first_readable (nets i)) (each i low).netlist.assigns) 0 s.parts (whole_list s))
+      (copies_distinct s fit wires_in wires_long
+      (λ i low. wires_distinct (shapes (nets i)) (nets i).wires (first_readable (nets i)) (each i low).netlist.assigns) 0 s.parts (whole_list s))
       (λ z h. absent z wires_there (fed_apart wires_in wires_declared no_inputs_wires z h))
 
   with_registers : AreDistinct (fed ++ wires_there ++ registers_there)
   with_registers =
       distinct_both (fed ++ wires_there) registers_there all_wires_distinct
-      (copies_distinct s fit registers_in registers_long (λ i low. subst (λ (ns : List Name). AreDistinct ns) (each i low).netlist.registers_in_order (filter_distinct (λ x. is_among x (registers_in i)) (nets i).names (each i low).netlist.declared_once)) 0 s.parts (whole_list s))
+      (copies_distinct s fit registers_in registers_long
+      (λ i low. subst (λ (ns : List Name). AreDistinct ns) (each i low).netlist.registers_in_order
+      (filter_distinct (λ x. is_among x (registers_in i)) (nets i).names (each i low).netlist.declared_once)) 0 s.parts (whole_list s))
       (λ z h. absent z registers_there (λ k. elim (either fed wires_there z h) [
         | inl f ↦ fed_apart registers_in registers_declared no_inputs_registers z f k
         | inr w ↦ wires_registers z w k
@@ -140,7 +146,9 @@ module _ (s : NamedSystem) (nets : ℕ → Net) (fit : NamesFit s) (good : Wires
   with_memories : AreDistinct (fed ++ wires_there ++ registers_there ++ memories_there)
   with_memories =
       distinct_both (fed ++ wires_there ++ registers_there) memories_there with_registers
-      (copies_distinct s fit memories_in memories_long (λ i low. subst (λ (ns : List Name). AreDistinct ns) (each i low).netlist.memories_in_order (filter_distinct (λ x. is_among x (memories_in i)) (nets i).names (each i low).netlist.declared_once)) 0 s.parts (whole_list s))
+      (copies_distinct s fit memories_in memories_long
+      (λ i low. subst (λ (ns : List Name). AreDistinct ns) (each i low).netlist.memories_in_order
+      (filter_distinct (λ x. is_among x (memories_in i)) (nets i).names (each i low).netlist.declared_once)) 0 s.parts (whole_list s))
       (λ z h. absent z memories_there (λ k. elim (either (fed ++ wires_there) registers_there z h) [
         | inl f ↦ elim (either fed wires_there z f) [
           | inl g ↦ fed_apart memories_in memories_declared no_inputs_memories z g k
@@ -169,7 +177,8 @@ module _ (s : NamedSystem) (nets : ℕ → Net) (fit : NamesFit s) (good : Wires
   pub free_distinct : (i : ℕ) → i < length s.parts → AreDistinct (free_in i)
   free_distinct i low =
       let d = (part_at s i).design in
-      still_distinct d kind.Input (is_input (world d)) (is_free s.wires (part_at s i) i) (λ x is. (and_parts (is_input (world d) x) (not (is_fed s.wires (endpoint i x))) is).0) 0 (world d).entities (own_pairs i low)
+      still_distinct d kind.Input (is_input (world d)) (is_free s.wires (part_at s i) i)
+      (λ x is. (and_parts (is_input (world d) x) (not (is_fed s.wires (endpoint i x))) is).0) 0 (world d).entities (own_pairs i low)
 
   pub pair_long : (i : ℕ) (z : Name) (x : ℕ) → (z ≡ value_name (name (part_at s i).design x)) ⊎ (z ≡ tag_name (name (part_at s i).design x)) → 2 ≤ length z
   pair_long i z x (inl e) = let l : 2 ≤ length (value_name (name (part_at s i).design x)) = omega arith in subst (λ (n : Name). 2 ≤ length n) (sym e) l
@@ -204,7 +213,8 @@ module _ (s : NamedSystem) (nets : ℕ → Net) (fit : NamesFit s) (good : Wires
   each_fed [] = tt
   each_fed (w ∷ ws) = (rw (same_self w.to) refl, fed_more w ws ws (each_fed ws))
 
-  pub to_fed : (ws : List SystemWire) → AllByRecursion (λ w. IsInput s nets fit each w.to) ws → AllByRecursion (λ w. is_fed s.wires w.to ≡ true) ws → AllTo s nets fit each (λ e. is_fed s.wires e ≡ true) ws
+  pub to_fed : (ws : List SystemWire) → AllByRecursion (λ w. IsInput s nets fit each w.to) ws
+      → AllByRecursion (λ w. is_fed s.wires w.to ≡ true) ws → AllTo s nets fit each (λ e. is_fed s.wires e ≡ true) ws
   to_fed [] a b = tt
   to_fed (w ∷ ws) a b = ((a.0, b.0), to_fed ws a.1 b.1)
 
@@ -226,7 +236,8 @@ module _ (s : NamedSystem) (nets : ℕ → Net) (fit : NamesFit s) (good : Wires
 
   with_inputs : AreDistinct (free_there ++ (fed ++ wires_there ++ registers_there ++ memories_there))
   with_inputs =
-      distinct_both free_there (fed ++ wires_there ++ registers_there ++ memories_there) (copies_distinct s fit free_in free_long free_distinct 0 s.parts (whole_list s)) with_memories
+      distinct_both free_there (fed ++ wires_there ++ registers_there ++ memories_there)
+      (copies_distinct s fit free_in free_long free_distinct 0 s.parts (whole_list s)) with_memories
       (λ z h. absent z (fed ++ wires_there ++ registers_there ++ memories_there) (λ k. elim (either (fed ++ wires_there ++ registers_there) memories_there z k) [
         | inl a ↦ elim (either (fed ++ wires_there) registers_there z a) [
           | inl b ↦ elim (either fed wires_there z b) [

@@ -46,7 +46,8 @@ module _ (s : NamedSystem) (Q : Name → ℕ → Type 0) where
       let b = all_parts (λ (x : Wire). Q x.name x.width) (feeds_through s w w.level) (feeds s ws) a in
       (fed_end w w.level b.0, fed_ends ws b.1)
 
-  module _ (free : AllByRecursion (λ (i : Input). Q i.name i.width) (inputs_for s (free_inputs (system_of s)))) (feeding : AllByRecursion (λ (w : Wire). Q w.name w.width) (feeds s s.wires)) where
+  module _ (free : AllByRecursion (λ (i : Input). Q i.name i.width) (inputs_for s (free_inputs (system_of s))))
+      (feeding : AllByRecursion (λ (w : Wire). Q w.name w.width) (feeds s s.wires)) where
     at_input : (i x : ℕ) → is_input (world_at y i) x ≡ true → AtEnd (endpoint i x)
     at_input = each_input y AtEnd (free_ends (free_inputs y) free) (fed_ends s.wires feeding)
 

@@ -70,7 +70,8 @@ module _ (s : NamedSystem) (nets : ℕ → Net) (fit : NamesFit s) (each : (i : 
     inputs_distinct =
         subst (λ (ns : List Name). AreDistinct ns) (names_twice (nets i).inputs)
         (values_distinct (shapes (nets i)) (map (λ (i : Input). (i.name, i.width)) (nets i).inputs)
-        (values_front (shapes (nets i)) (map (λ (i : Input). (i.name, i.width)) (nets i).inputs) (map (λ (r : Register). (r.name, r.width)) (nets i).registers) (each i low).netlist.values))
+        (values_front (shapes (nets i)) (map (λ (i : Input). (i.name, i.width)) (nets i).inputs)
+        (map (λ (r : Register). (r.name, r.width)) (nets i).registers) (each i low).netlist.values))
 
     pub pairs_distinct : AreDistinct (names_of_inputs d)
     pairs_distinct = subst (λ (ns : List Name). AreDistinct ns) (input_names_are d (part_at s i).sites (nets i) (each i low).netlist interface_at.declares.ports) inputs_distinct
@@ -118,21 +119,25 @@ module _ (s : NamedSystem) (nets : ℕ → Net) (fit : NamesFit s) (each : (i : 
 
   -- it is none of those names of parts that are no inputs
   pub end_apart : (Q : Endpoint → Type 0) (ns : ℕ → List Name) → ((i : ℕ) → i < length s.parts → (x : Name) → is_among x (ns i) ≡ true → is_among x (nets i).names ≡ true)
-      → ((i : ℕ) → i < length s.parts → (x : Name) → is_among x (ns i) ≡ true → is_among x (input_names (nets i)) ≡ true → ⊥) → ((i : ℕ) → i < length s.parts → (x : Name) → is_among x (ns i) ≡ true → 2 ≤ length x)
+      → ((i : ℕ) → i < length s.parts → (x : Name) → is_among x (ns i) ≡ true → is_among x (input_names (nets i)) ≡ true → ⊥)
+      → ((i : ℕ) → i < length s.parts → (x : Name) → is_among x (ns i) ≡ true → 2 ≤ length x)
       → (k : ℕ) (z : Name) → IsEnd Q z → Behind s ns k z → ⊥
   end_apart Q ns within others far k z a b =
       let x = a.letter ∷ (byte "_" ∷ name (part_at s a.end.part).design a.end.entity) in
       let r = one_part s fit a.end.part b.part x b.name a.is.low b.low (long a.letter a.end) (far b.part b.low b.name b.is) (sym a.named ∙ b.behind) in
-      let there : is_among x (ns a.end.part) ≡ true = subst (λ (n : Name). is_among n (ns a.end.part) ≡ true) (sym r.1) (subst (λ (i : ℕ). is_among b.name (ns i) ≡ true) (sym r.0) b.is) in
+      let there : is_among x (ns a.end.part) ≡ true =
+      subst (λ (n : Name). is_among n (ns a.end.part) ≡ true) (sym r.1) (subst (λ (i : ℕ). is_among b.name (ns i) ≡ true) (sym r.0) b.is) in
       by_letter a.letter a.end a.is a.known there
     where
       by_letter : (c : ℕ) (e : Endpoint) → IsInput e → IsLetter c → is_among (c ∷ (byte "_" ∷ name (part_at s e.part).design e.entity)) (ns e.part) ≡ true → ⊥
       by_letter c e is (inl (inl v)) h =
           others e.part is.low (value_name (name (design_at s e.part) e.entity)) (subst (λ (b : ℕ). is_among (b ∷ (byte "_" ∷ name (part_at s e.part).design e.entity)) (ns e.part) ≡ true) v h)
-          (found_among (λ (i : Input). i.name) (λ i. i.width) (nets e.part).inputs (value_name (name (design_at s e.part) e.entity)) _ ((interface_at e.part is.low).declares.inputs e.entity is.input).0)
+          (found_among (λ (i : Input). i.name) (λ i. i.width) (nets e.part).inputs (value_name (name (design_at s e.part) e.entity))
+          _ ((interface_at e.part is.low).declares.inputs e.entity is.input).0)
       by_letter c e is (inl (inr t)) h =
           others e.part is.low (tag_name (name (design_at s e.part) e.entity)) (subst (λ (b : ℕ). is_among (b ∷ (byte "_" ∷ name (part_at s e.part).design e.entity)) (ns e.part) ≡ true) t h)
-          (found_among (λ (i : Input). i.name) (λ i. i.width) (nets e.part).inputs (tag_name (name (design_at s e.part) e.entity)) _ ((interface_at e.part is.low).declares.inputs e.entity is.input).1)
+          (found_among (λ (i : Input). i.name) (λ i. i.width) (nets e.part).inputs (tag_name (name (design_at s e.part) e.entity))
+          _ ((interface_at e.part is.low).declares.inputs e.entity is.input).1)
       by_letter c e is (inr f) h =
           no_feed (design_at s e.part) (width_of s.order) (part_at s e.part).sites (nets e.part) (interface_at e.part is.low) c (c ∷ (byte "_" ∷ name (part_at s e.part).design e.entity))
           (within e.part is.low (c ∷ (byte "_" ∷ name (part_at s e.part).design e.entity)) h) f (byte "_" ∷ name (part_at s e.part).design e.entity, refl)

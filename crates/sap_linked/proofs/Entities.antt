@@ -40,17 +40,20 @@ module _ (d : Named) (k : PortKind) where
   placed picks n zero (e ∷ es) low is =
       let same : n ≡ n + 0 = omega arith in
       let here : picks n ≡ true = ap picks same ∙ is in
-      subst (λ (m : ℕ). is_among (value_name (name d m)) (names_of_pairs picks n (e ∷ es)) ≡ true) same (rw here (among_here (value_name (name d n)) (tag_name (name d n) ∷ names_of_pairs picks (n + 1) es)))
+      subst (λ (m : ℕ). is_among (value_name (name d m)) (names_of_pairs picks n (e ∷ es)) ≡ true) same
+      (rw here (among_here (value_name (name d n)) (tag_name (name d n) ∷ names_of_pairs picks (n + 1) es)))
   placed picks n (suc j) (e ∷ es) low is =
       let same : n + 1 + j ≡ n + suc j = omega arith in
-      let rest = subst (λ (m : ℕ). is_among (value_name (name d m)) (names_of_pairs picks (n + 1) es) ≡ true) same (placed picks (n + 1) j es (omega (arith, low)) (ap picks same ∙ is)) in
+      let rest = subst (λ (m : ℕ). is_among (value_name (name d m)) (names_of_pairs picks (n + 1) es) ≡ true) same
+      (placed picks (n + 1) j es (omega (arith, low)) (ap picks same ∙ is)) in
       elim (cases_Bool (picks n)) [
         | inl t ↦ rw t (among_behind (value_name (name d (n + suc j))) (value_name (name d n) ∷ tag_name (name d n) ∷ []) (names_of_pairs picks (n + 1) es) rest)
         | inr q ↦ rw q rest
       ]
 
   -- so no two picked entities have one name
-  pub differ : (picks : ℕ → Bool) (n j l : ℕ) (es : List Entity) → AreDistinct (names_of_pairs picks n es) → j < l → l < length es → picks (n + j) ≡ true → picks (n + l) ≡ true → name d (n + j) ≡ name d (n + l) → ⊥
+  pub differ : (picks : ℕ → Bool) (n j l : ℕ) (es : List Entity) → AreDistinct (names_of_pairs picks n es) → j < l → l < length es
+      → picks (n + j) ≡ true → picks (n + l) ≡ true → name d (n + j) ≡ name d (n + l) → ⊥
   differ picks n j l [] a less low is other e = omega (arith, low)
   differ picks n j zero (x ∷ es) a less low is other e = omega (arith, less)
   differ picks n zero (suc l) (x ∷ es) a less low is other e =
@@ -60,13 +63,19 @@ module _ (d : Named) (k : PortKind) where
       let b : AreDistinct (value_name (name d n) ∷ (tag_name (name d n) ∷ names_of_pairs picks (n + 1) es)) = rw here at a in
       let there = placed picks (n + 1) l es (omega (arith, low)) (ap picks same ∙ other) in
       let one : name d (n + 1 + l) ≡ name d n = ap (name d) same ∙ sym e ∙ ap (name d) (sym from) in
-      let there_too : is_among (value_name (name d n)) (names_of_pairs picks (n + 1) es) ≡ true = subst (λ (y : Name). is_among (value_name y) (names_of_pairs picks (n + 1) es) ≡ true) one there in
-      contradicted (is_among (value_name (name d n)) (names_of_pairs picks (n + 1) es)) (neither_right (bytes_eq (value_name (name d n)) (tag_name (name d n))) (is_among (value_name (name d n)) (names_of_pairs picks (n + 1) es)) b.0) there_too
+      let there_too : is_among (value_name (name d n)) (names_of_pairs picks (n + 1) es) ≡ true =
+      subst (λ (y : Name). is_among (value_name y) (names_of_pairs picks (n + 1) es) ≡ true) one there in
+      contradicted (is_among (value_name (name d n)) (names_of_pairs picks (n + 1) es))
+      (neither_right (bytes_eq (value_name (name d n)) (tag_name (name d n))) (is_among (value_name (name d n)) (names_of_pairs picks (n + 1) es)) b.0) there_too
   differ picks n (suc j) (suc l) (x ∷ es) a less low is other e =
       let first : n + 1 + j ≡ n + suc j = omega arith in
       let second : n + 1 + l ≡ n + suc l = omega arith in
       let rest : AreDistinct (names_of_pairs picks (n + 1) es) =
-      elim (cases_Bool (picks n)) [ inl t ↦ (let b : AreDistinct (value_name (name d n) ∷ (tag_name (name d n) ∷ names_of_pairs picks (n + 1) es)) = rw t at a in b.1.1) | inr q ↦ rw q at a ] in
+      elim (cases_Bool (picks n)) [
+        | inl t ↦ (let b : AreDistinct (value_name (name d n) ∷ (tag_name (name d n) ∷ names_of_pairs picks (n + 1) es)) =
+            rw t at a in b.1.1)
+        | inr q ↦ rw q at a
+      ] in
       differ picks (n + 1) j l es rest (omega (arith, less)) (omega (arith, low)) (ap picks first ∙ is) (ap picks second ∙ other) (ap (name d) first ∙ e ∙ ap (name d) (sym second))
 
   -- ---- entities of which fewer are picked
@@ -105,15 +114,23 @@ module _ (d : Named) (k : PortKind) where
         elim (cases_Bool (fewer n)) [
           | inl t ↦
               let b : AreDistinct (value_name (name d n) ∷ (tag_name (name d n) ∷ names_of_pairs picks (n + 1) es)) = rw (follows n t) at a in
-              rw t (rw (absent (value_name (name d n)) (n + 1) es (neither_right (bytes_eq (value_name (name d n)) (tag_name (name d n))) _ b.0)) refl, (absent (tag_name (name d n)) (n + 1) es b.1.0, still_distinct (n + 1) es b.1.1))
+              rw t (
+                rw (absent (value_name (name d n)) (n + 1) es (neither_right (bytes_eq (value_name (name d n)) (tag_name (name d n))) _ b.0)) refl,
+                (absent (tag_name (name d n)) (n + 1) es b.1.0, still_distinct (n + 1) es b.1.1),
+              )
           | inr q ↦
               let rest : AreDistinct (names_of_pairs picks (n + 1) es) =
-              elim (cases_Bool (picks n)) [ inl t ↦ (let b : AreDistinct (value_name (name d n) ∷ (tag_name (name d n) ∷ names_of_pairs picks (n + 1) es)) = rw t at a in b.1.1) | inr p ↦ rw p at a ] in
+              elim (cases_Bool (picks n)) [
+                | inl t ↦ (let b : AreDistinct
+                    (value_name (name d n) ∷ (tag_name (name d n) ∷ names_of_pairs picks (n + 1) es)) = rw t at a in b.1.1)
+                | inr p ↦ rw p at a
+              ] in
               rw q (still_distinct (n + 1) es rest)
         ]
 
   -- what stands there is a name of a picked entity
-  pub of_pair : (picks : ℕ → Bool) (z : Name) (n : ℕ) (es : List Entity) → is_among z (names_of_pairs picks n es) ≡ true → (x : ℕ) × (picks x ≡ true) × ((z ≡ value_name (name d x)) ⊎ (z ≡ tag_name (name d x)))
+  pub of_pair : (picks : ℕ → Bool) (z : Name) (n : ℕ) (es : List Entity) → is_among z (names_of_pairs picks n es) ≡ true → (x : ℕ)
+      × (picks x ≡ true) × ((z ≡ value_name (name d x)) ⊎ (z ≡ tag_name (name d x)))
   of_pair picks z n [] h = absurd (cc)
   of_pair picks z n (e ∷ es) h =
       elim (cases_Bool (picks n)) [
@@ -130,7 +147,8 @@ module _ (d : Named) (k : PortKind) where
       ]
 
 -- what holds of the names of each input of a design holds of all
-pub of_pairs : (Q : Name → Type 0) (picks : ℕ → Bool) (k : PortKind) (d : Named) → ((x : ℕ) → picks x ≡ true → Q (value_name (name d x)) × Q (tag_name (name d x))) → (n : ℕ) (es : List Entity)
+pub of_pairs : (Q : Name → Type 0) (picks : ℕ → Bool) (k : PortKind) (d : Named)
+    → ((x : ℕ) → picks x ≡ true → Q (value_name (name d x)) × Q (tag_name (name d x))) → (n : ℕ) (es : List Entity)
     → AllByRecursion Q (map (λ (p : Shown). p.0) (pairs_of picks k d n es))
 of_pairs Q picks k d h n [] = tt
 of_pairs Q picks k d h n (e ∷ es) =

@@ -24,7 +24,8 @@ map_copies : {X : Type 0} (copy : X → X) (name : X → Name) (f : Name → Nam
 map_copies copy name f h [] = refl
 map_copies copy name f h (x ∷ xs) = ap (λ (z : Name). z ∷ map name (map copy xs)) (h x) ∙ ap (λ (zs : List Name). f (name x) ∷ zs) (map_copies copy name f h xs)
 
-pub copies_named : {X : Type 0} (items : ℕ → List X) (copy : (Name → Name) → X → X) (name : X → Name) → ((f : Name → Name) (x : X) → name (copy f x) ≡ f (name x)) → (k : ℕ) (ps : List Part)
+pub copies_named : {X : Type 0} (items : ℕ → List X) (copy : (Name → Name) → X → X) (name : X → Name)
+    → ((f : Name → Name) (x : X) → name (copy f x) ≡ f (name x)) → (k : ℕ) (ps : List Part)
     → map name (copies_of items copy k ps) ≡ named_copies (λ i. map name (items i)) k ps
 copies_named items copy name h k [] = refl
 copies_named items copy name h k (p ∷ ps) =
@@ -71,7 +72,8 @@ module _ (s : NamedSystem) where
   pub of_among : (ns : ℕ → List Name) (k : ℕ) (ps : List Part) → Suffix s k ps → (z : Name) → is_among z (named_copies ns k ps) ≡ true → Behind s ns k z
   of_among ns k [] at z h = absurd (cc)
   of_among ns k (p ∷ ps) at z h =
-      elim (or_cases (is_among z (map (in_part p.name) (ns k))) (is_among z (named_copies ns (suc k) ps)) (sym (among_append z (map (in_part p.name) (ns k)) (named_copies ns (suc k) ps)) ∙ h)) [
+      elim (or_cases (is_among z (map (in_part p.name) (ns k))) (is_among z (named_copies ns (suc k) ps))
+      (sym (among_append z (map (in_part p.name) (ns k)) (named_copies ns (suc k) ps)) ∙ h)) [
         | inl t ↦
             let m = of_map (in_part p.name) (ns k) z t in
             record {
@@ -93,7 +95,8 @@ module _ (s : NamedSystem) where
   among_copies ns k [] at i from low x h = absurd (let e = at.1 in omega (arith, e, from, low))
   among_copies ns k (p ∷ ps) at i from low x h = elim (compared k i) [
     | inl e ↦
-        let here : is_among (in_part p.name x) (map (in_part p.name) (ns k)) ≡ true = among_copied (in_part p.name) x (ns k) (subst (λ (j : ℕ). is_among x (ns j) ≡ true) (sym e) h) in
+        let here : is_among (in_part p.name x) (map (in_part p.name) (ns k)) ≡ true =
+        among_copied (in_part p.name) x (ns k) (subst (λ (j : ℕ). is_among x (ns j) ≡ true) (sym e) h) in
         subst (λ (j : ℕ). is_among (in_part (part_at s j).name x) (named_copies ns k (p ∷ ps)) ≡ true) e
         (subst (λ (q : Part). is_among (in_part q.name x) (named_copies ns k (p ∷ ps)) ≡ true) (sym (this k p ps at))
         (among_front (in_part p.name x) (map (in_part p.name) (ns k)) (named_copies ns (suc k) ps) here))
@@ -112,7 +115,8 @@ module _ (s : NamedSystem) where
     abbrev Meet : (ns ms : ℕ → List Name) → Type 0
     Meet ns ms = (i : ℕ) × (x : Name) × (i < length s.parts) × (is_among x (ns i) ≡ true) × (is_among x (ms i) ≡ true)
 
-    pub one_part : (i j : ℕ) (x y : Name) → i < length s.parts → j < length s.parts → 2 ≤ length x → 2 ≤ length y → in_part (part_at s i).name x ≡ in_part (part_at s j).name y → (i ≡ j) × (x ≡ y)
+    pub one_part : (i j : ℕ) (x y : Name) → i < length s.parts → j < length s.parts → 2 ≤ length x → 2 ≤ length y
+        → in_part (part_at s i).name x ≡ in_part (part_at s j).name y → (i ≡ j) × (x ≡ y)
     one_part i j x y low less long far e =
         let r = stay_apart (part_at s i).name (part_at s j).name x y (fit.whole i low) (fit.whole j less) long far e in
         (fit.distinct i j low less r.0, r.1)
@@ -126,13 +130,16 @@ module _ (s : NamedSystem) where
     map_distinct f [] one d = tt
     map_distinct f (x ∷ xs) one d = (
       elim (cases_Bool (is_among (f x) (map f xs))) [
-        | inl t ↦ absurd (let m = of_map f xs (f x) t in let e : x ≡ m.0 = one x m.0 (among_here x xs) (among_behind m.0 (x ∷ []) xs m.1) m.2 in let no : is_among m.0 xs ≡ false = subst (λ (y : Name). is_among y xs ≡ false) e d.0 in let yes = m.1 in cc)
+        | inl t ↦ absurd (let m = of_map f xs (f x) t in
+            let e : x ≡ m.0 = one x m.0 (among_here x xs) (among_behind m.0 (x ∷ []) xs m.1) m.2 in
+            let no : is_among m.0 xs ≡ false = subst (λ (y : Name). is_among y xs ≡ false) e d.0 in let yes = m.1 in cc)
         | inr q ↦ q
       ],
       map_distinct f xs (λ y z hy hz e. one y z (among_behind y (x ∷ []) xs hy) (among_behind z (x ∷ []) xs hz) e) d.1,
     )
 
-    pub copies_distinct : (ns : ℕ → List Name) → Long ns → ((i : ℕ) → i < length s.parts → AreDistinct (ns i)) → (k : ℕ) (ps : List Part) → Suffix s k ps → AreDistinct (named_copies ns k ps)
+    pub copies_distinct : (ns : ℕ → List Name) → Long ns → ((i : ℕ) → i < length s.parts → AreDistinct (ns i)) → (k : ℕ) (ps : List Part)
+        → Suffix s k ps → AreDistinct (named_copies ns k ps)
     copies_distinct ns long own k [] at = tt
     copies_distinct ns long own k (p ∷ ps) at =
         let low : k < length s.parts = (let e = at.1 in omega (arith, e)) in

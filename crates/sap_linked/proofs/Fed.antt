@@ -22,7 +22,8 @@ Has s v e t = (v.value (value_at s e) ≡ t.number) × (v.value (tag_at s e) ≡
 
 -- ---- free inputs
 
-pub free_have : (s : NamedSystem) (v : Valuation) (r : Endpoint → Tagged) (es : List Endpoint) → InputsAre v (inputs_for s es) (coded (code_of s.order) (map r es)) → AllByRecursion (λ e. Has s v e (r e)) es
+pub free_have : (s : NamedSystem) (v : Valuation) (r : Endpoint → Tagged) (es : List Endpoint)
+    → InputsAre v (inputs_for s es) (coded (code_of s.order) (map r es)) → AllByRecursion (λ e. Has s v e (r e)) es
 free_have s v r [] h = tt
 free_have s v r (e ∷ es) h = ((h.0, h.1.0), free_have s v r es h.1.1)
 
@@ -41,7 +42,8 @@ if_passes test P (e ∷ es) a =
       | inr q ↦ ((λ passed. absurd (cc)), if_passes test P es (rw q at a))
     ]
 
-at_input : (P : Endpoint → Type 0) (i k x : ℕ) (es : List Entity) → AllByRecursion P (map (endpoint i) (inputs_from k es)) → kind_is_input (get_or es x nothing).kind ≡ true → P (endpoint i (k + x))
+at_input : (P : Endpoint → Type 0) (i k x : ℕ) (es : List Entity) → AllByRecursion P (map (endpoint i) (inputs_from k es))
+    → kind_is_input (get_or es x nothing).kind ≡ true → P (endpoint i (k + x))
 at_input P i k zero [] a is = absurd (cc)
 at_input P i k (suc x) [] a is = absurd (cc)
 at_input P i k zero (e ∷ es) a is =
@@ -62,12 +64,14 @@ no_input o zero (suc x) is = cc
 no_input o (suc i) zero is = cc
 no_input o (suc i) (suc x) is = cc
 
-at_part : (o : Order) (P : Endpoint → Type 0) (k i : ℕ) (ps : List Program) → AllByRecursion P (inputs_of k ps) → (x : ℕ) → is_input (get_or ps i (no_part o)).world x ≡ true → P (endpoint (k + i) x)
+at_part : (o : Order) (P : Endpoint → Type 0) (k i : ℕ) (ps : List Program) → AllByRecursion P (inputs_of k ps) → (x : ℕ)
+    → is_input (get_or ps i (no_part o)).world x ≡ true → P (endpoint (k + i) x)
 at_part o P k i [] a x is = absurd (no_input o i x is)
 at_part o P k zero (p ∷ ps) a x is =
     let same : k ≡ k + 0 = omega arith in
     let from_zero : 0 + x ≡ x = omega arith in
-    subst (λ n. P (endpoint n x)) same (subst (λ n. P (endpoint k n)) from_zero (at_input P k 0 x p.world.entities (all_parts P (map (endpoint k) (inputs_from 0 p.world.entities)) (inputs_of (suc k) ps) a).0 is))
+    subst (λ n. P (endpoint n x)) same (subst (λ n. P (endpoint k n)) from_zero
+    (at_input P k 0 x p.world.entities (all_parts P (map (endpoint k) (inputs_from 0 p.world.entities)) (inputs_of (suc k) ps) a).0 is))
 at_part o P k (suc i) (p ∷ ps) a x is =
     let same : suc k + i ≡ k + suc i = omega arith in
     subst (λ n. P (endpoint n x)) same (at_part o P (suc k) i ps (all_parts P (map (endpoint k) (inputs_from 0 p.world.entities)) (inputs_of (suc k) ps) a).1 x is)
@@ -98,14 +102,16 @@ found_leads (u ∷ wires) e w is =
     ]
 
 -- what holds of all free inputs holds of each input that no wire feeds, ..
-pub of_free : (y : System) (P : Endpoint → Type 0) → AllByRecursion P (free_inputs y) → (i x : ℕ) → is_input (world y i) x ≡ true → not (is_fed y.wires (endpoint i x)) ≡ true → P (endpoint i x)
+pub of_free : (y : System) (P : Endpoint → Type 0) → AllByRecursion P (free_inputs y) → (i x : ℕ) → is_input (world y i) x ≡ true
+    → not (is_fed y.wires (endpoint i x)) ≡ true → P (endpoint i x)
 of_free y P free i x is none =
     let all = if_passes (λ e. not (is_fed y.wires e)) P (inputs_of 0 y.parts) free in
     let from_zero : 0 + i ≡ i = omega arith in
     subst (λ n. not (is_fed y.wires (endpoint n x)) ≡ true → P (endpoint n x)) from_zero (at_part y.order (λ e. not (is_fed y.wires e) ≡ true → P e) 0 i y.parts all x is) none
 
 -- .. what holds of all to which wires lead holds of each that is fed, ..
-by_found : (wires : List Wire) (P : Endpoint → Type 0) → AllByRecursion (λ w. P w.to) wires → (e : Endpoint) (feeds : Option Wire) → feeding wires e ≡ feeds → is_some feeds ≡ true → P e
+by_found : (wires : List Wire) (P : Endpoint → Type 0) → AllByRecursion (λ w. P w.to) wires → (e : Endpoint) (feeds : Option Wire)
+    → feeding wires e ≡ feeds → is_some feeds ≡ true → P e
 by_found wires P fed e None h is = absurd (cc)
 by_found wires P fed e (Some w) h is = subst P (found_leads wires e w h) (found_wire (λ w. P w.to) wires e fed w h)
 
@@ -113,14 +119,16 @@ pub of_fed : (wires : List Wire) (P : Endpoint → Type 0) → AllByRecursion (�
 of_fed wires P fed e is = by_found wires P fed e (feeding wires e) refl is
 
 -- .. and what holds of both holds of each input of a part
-pub each_input : (y : System) (P : Endpoint → Type 0) → AllByRecursion P (free_inputs y) → AllByRecursion (λ w. P w.to) y.wires → (i x : ℕ) → is_input (world y i) x ≡ true → P (endpoint i x)
+pub each_input : (y : System) (P : Endpoint → Type 0) → AllByRecursion P (free_inputs y) → AllByRecursion (λ w. P w.to) y.wires → (i x : ℕ)
+    → is_input (world y i) x ≡ true → P (endpoint i x)
 each_input y P free fed i x is =
     elim (cases_Bool (is_fed y.wires (endpoint i x))) [
       | inl t ↦ of_fed y.wires P fed (endpoint i x) t
       | inr q ↦ of_free y P free i x is (rw q refl)
     ]
 
-through_coded : (o : Order) → Codes o → (l : Option ℕ) (t : Tagged) → through_level o l t.number (code_of o t.level) ≡ ((let_through o l t).number, code_of o (let_through o l t).level)
+through_coded : (o : Order) → Codes o → (l : Option ℕ) (t : Tagged)
+    → through_level o l t.number (code_of o t.level) ≡ ((let_through o l t).number, code_of o (let_through o l t).level)
 through_coded o codes None t = refl
 through_coded o codes (Some l) t = ap (λ (below : Bool). ((if below then t.number else 0), code_of o l)) (codes.within t.level l)
 
@@ -133,7 +141,8 @@ module _ (s : NamedSystem) (codes : Codes s.order) (v : Valuation) (states : Com
 
   -- so to the input comes what it receives
   pub wires_have : (inputs : List Tagged) (ws : List Wire) → AllByRecursion (λ w. received (system_of s) states inputs w.to ≡ carried (system_of s) states w) ws
-      → AllByRecursion (Carries s v) ws → AllByRecursion (λ w. Has s v w.from (content_at (system_of s) states w.from)) ws → AllByRecursion (λ w. Has s v w.to (received (system_of s) states inputs w.to)) ws
+      → AllByRecursion (Carries s v) ws → AllByRecursion (λ w. Has s v w.from (content_at (system_of s) states w.from)) ws
+      → AllByRecursion (λ w. Has s v w.to (received (system_of s) states inputs w.to)) ws
   wires_have inputs [] same carry from = tt
   wires_have inputs (w ∷ ws) same carry from = (
     subst (λ t. Has s v w.to t) (sym same.0) (wire_has w carry.0 from.0),

@@ -52,7 +52,8 @@ module _ (s : NamedSystem) (nets : ℕ → Net) (fit : NamesFit s) (good : Wires
   found : AllByRecursion (λ (i : Input). find first i.name ≡ Some i.width) whole.inputs × AllByRecursion (λ (r : Register). find first r.name ≡ Some r.width) whole.registers
   found =
       let two =
-      all_parts {X = Name × ℕ} (λ e. find first e.0 ≡ Some e.1) (map {B = Name × ℕ} (λ (i : Input). (i.name, i.width)) whole.inputs) (map {B = Name × ℕ} (λ (r : Register). (r.name, r.width)) whole.registers)
+      all_parts {X = Name × ℕ} (λ e. find first e.0 ≡ Some e.1) (map {B = Name × ℕ} (λ (i : Input). (i.name, i.width)) whole.inputs)
+      (map {B = Name × ℕ} (λ (r : Register). (r.name, r.width)) whole.registers)
       (values_found cells first (whole_values s nets fit good each)) in (
         all_of_map {X = Input} {Y = Name × ℕ} (λ e. find first e.0 ≡ Some e.1) (λ i. (i.name, i.width)) whole.inputs two.0,
         all_of_map {X = Register} {Y = Name × ℕ} (λ e. find first e.0 ≡ Some e.1) (λ r. (r.name, r.width)) whole.registers two.1,
@@ -71,7 +72,8 @@ module _ (s : NamedSystem) (nets : ℕ → Net) (fit : NamesFit s) (good : Wires
   pub part_registers : (i : ℕ) → i < length s.parts → AllByRecursion (λ (r : Register). find first (in_part (part_at s i).name r.name) ≡ Some r.width) (nets i).registers
   part_registers i low = of_first (λ i. (nets i).registers) copy_register (λ (r : Register). find first r.name ≡ Some r.width) s i registers_there low
 
-  register_read : (i : ℕ) → i < length s.parts → (x : Name) (u : ℕ) → find (map (λ (r : Register). (r.name, r.width)) (nets i).registers) x ≡ Some u → find first (in_part (part_at s i).name x) ≡ Some u
+  register_read : (i : ℕ) → i < length s.parts → (x : Name) (u : ℕ)
+      → find (map (λ (r : Register). (r.name, r.width)) (nets i).registers) x ≡ Some u → find first (in_part (part_at s i).name x) ≡ Some u
   register_read i low =
       of_entries (λ x u. find first (in_part (part_at s i).name x) ≡ Some u) (map (λ (r : Register). (r.name, r.width)) (nets i).registers)
       (map_of_all {X = Register} {Y = Name × ℕ} (λ e. find first (in_part (part_at s i).name e.0) ≡ Some e.1) (λ r. (r.name, r.width)) (nets i).registers (part_registers i low))
@@ -135,7 +137,8 @@ module _ (s : NamedSystem) (nets : ℕ → Net) (fit : NamesFit s) (good : Wires
           ),
         )
 
-    feed_wires : (ws : List SystemWire) → AllByRecursion FeedFits ws → (sc : Scope) → Grows first sc → Fresh sc (feeds s ws) → AreDistinct (names_of (feeds s ws)) → AreWires cells sc (feeds s ws)
+    feed_wires : (ws : List SystemWire) → AllByRecursion FeedFits ws → (sc : Scope) → Grows first sc → Fresh sc (feeds s ws)
+        → AreDistinct (names_of (feeds s ws)) → AreWires cells sc (feeds s ws)
     feed_wires [] fits sc grows fresh d = tt
     feed_wires (w ∷ ws) fits sc grows fresh d =
         let here = feeds_through s w w.level in

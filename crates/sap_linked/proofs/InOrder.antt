@@ -56,8 +56,10 @@ module _ (s : NamedSystem) (nets : ℕ → Net) (fit : NamesFit s) (good : Wires
 
   pub whole_registers_are : whole_registers ≡ filter is_shown registers ++ filter is_hidden registers
   whole_registers_are =
-      map_both (λ (r : Register). r.name) (filter (λ (r : Register). is_among r.name (shown_names s)) (own_registers s nets fit good each)) (filter (λ (r : Register). not (is_among r.name (shown_names s))) (own_registers s nets fit good each))
-      ∙ ap₂ both (filter_named (λ (r : Register). r.name) is_shown (own_registers s nets fit good each)) (filter_named (λ (r : Register). r.name) is_hidden (own_registers s nets fit good each))
+      map_both (λ (r : Register). r.name) (filter (λ (r : Register). is_among r.name (shown_names s)) (own_registers s nets fit good each))
+      (filter (λ (r : Register). not (is_among r.name (shown_names s))) (own_registers s nets fit good each))
+      ∙ ap₂ both (filter_named (λ (r : Register). r.name) is_shown (own_registers s nets fit good each))
+      (filter_named (λ (r : Register). r.name) is_hidden (own_registers s nets fit good each))
 
   pub same_registers : (x : Name) → is_among x whole_registers ≡ is_among x registers
   same_registers x = ap (is_among x) whole_registers_are ∙ both_among is_shown registers x
@@ -76,7 +78,8 @@ module _ (s : NamedSystem) (nets : ℕ → Net) (fit : NamesFit s) (good : Wires
   whole_registers_distinct =
       let own = distinct_second wires registers (distinct_front (wires ++ registers) memories (inner_distinct s nets fit good each)) in
       subst (λ (ns : List Name). AreDistinct ns) (sym whole_registers_are)
-      (distinct_both (filter is_shown registers) (filter is_hidden registers) (filter_distinct is_shown registers own) (filter_distinct is_hidden registers own) (λ x h. absent x (filter is_hidden registers) (parted x h)))
+      (distinct_both (filter is_shown registers) (filter is_hidden registers) (filter_distinct is_shown registers own)
+      (filter_distinct is_hidden registers own) (λ x h. absent x (filter is_hidden registers) (parted x h)))
 
   -- ---- among the names that are shown
 
@@ -99,7 +102,8 @@ module _ (s : NamedSystem) (nets : ℕ → Net) (fit : NamesFit s) (good : Wires
       ∙ filter-append in_all (i ++ r ++ t) f
       ∙ ap₂ both
       (filter-append in_all (i ++ r) t
-      ∙ ap₂ both (filter-append in_all i r ∙ ap₂ both (none_pass in_all i input_hidden) (all_pass in_all r (register_shown_there s nets fit good each))) (none_pass in_all t site_hidden))
+      ∙ ap₂ both (filter-append in_all i r ∙ ap₂ both (none_pass in_all i input_hidden)
+      (all_pass in_all r (register_shown_there s nets fit good each))) (none_pass in_all t site_hidden))
       (none_pass in_all f feed_hidden)
       ∙ append-nil (r ++ [])
       ∙ append-nil r
@@ -177,7 +181,8 @@ module _ (s : NamedSystem) (nets : ℕ → Net) (fit : NamesFit s) (good : Wires
         let b = of_among s (block_in s registers_of) 0 s.parts (whole_list s) (f x) (sym (ap (is_among (f x)) (registers_shown_are s nets fit good each)) ∙ k) in
         let far = registers_long s nets fit good each b.part b.low b.name (registers_shown_in s nets fit good each b.part b.low b.name b.is) in
         let r = one_part s fit i b.part x b.name low b.low (registers_long s nets fit good each i low x two.1) far b.behind in
-        let back : is_among x here ≡ true = subst (λ (n : Name). is_among n here ≡ true) (sym r.1) (subst (λ (j : ℕ). is_among b.name (block_in s registers_of j) ≡ true) (sym r.0) b.is) in
+        let back : is_among x here ≡ true = subst (λ (n : Name). is_among n here ≡ true) (sym r.1)
+        (subst (λ (j : ℕ). is_among b.name (block_in s registers_of j) ≡ true) (sym r.0) b.is) in
         let yes : is_among x taken ≡ true = ap (is_among x) taken_are ∙ among_front x (in_front ++ here) at_sites (among_behind x in_front here back) in
         contradicted (is_among x taken) (apart_front taken left (own_split s nets fit good each i low) x two.0) yes
 
@@ -207,7 +212,8 @@ module _ (s : NamedSystem) (nets : ℕ → Net) (fit : NamesFit s) (good : Wires
         ∙ filter-append is_shown (map f here) (map f (filter is_own left))
         ∙ ap₂ both
         (all_pass is_shown (map f here) (λ z h. let m = of_map f here z h in subst (λ (y : Name). is_shown y ≡ true) (sym m.2) (here_shown m.0 m.1)))
-        (none_pass is_shown (map f (filter is_own left)) (λ z h. let m = of_map f (filter is_own left) z h in subst (λ (y : Name). is_shown y ≡ false) (sym m.2) (rest_hidden m.0 m.1)))
+        (none_pass is_shown (map f (filter is_own left)) (λ z h. let m = of_map f (filter is_own left) z h in
+        subst (λ (y : Name). is_shown y ≡ false) (sym m.2) (rest_hidden m.0 m.1)))
         ∙ append-nil (map f here)
 
   filtered : (k : ℕ) (ps : List Part) → Suffix s k ps → filter is_shown (named_copies (registers_in s nets fit good each) k ps) ≡ named_copies (block_in s registers_of) k ps
@@ -216,7 +222,8 @@ module _ (s : NamedSystem) (nets : ℕ → Net) (fit : NamesFit s) (good : Wires
       let low : k < length s.parts = (let e = at.1 in omega (arith, e)) in
       filter-append is_shown (map (in_part p.name) (registers_in s nets fit good each k)) (named_copies (registers_in s nets fit good each) (suc k) ps)
       ∙ ap₂ both
-      (subst (λ (q : Part). filter is_shown (map (in_part q.name) (registers_in s nets fit good each k)) ≡ map (in_part q.name) (block_in s registers_of k)) (this s k p ps at) (own_filtered k low))
+      (subst (λ (q : Part). filter is_shown (map (in_part q.name) (registers_in s nets fit good each k))
+      ≡ map (in_part q.name) (block_in s registers_of k)) (this s k p ps at) (own_filtered k low))
       (filtered (suc k) ps (later s k p ps at))
 
   registers_in_front : filter is_shown registers ≡ shown_registers s nets fit good each
@@ -229,8 +236,10 @@ module _ (s : NamedSystem) (nets : ℕ → Net) (fit : NamesFit s) (good : Wires
   of_inner =
       filter-append in_all (wires ++ registers) memories
       ∙ ap₂ both
-      (filter-append in_all wires registers ∙ ap₂ both (none_pass in_all wires (λ x h. absent x registers (λ k. register_no_wire s nets fit good each x k h))) (all_pass in_all registers (λ x h. h)))
-      (none_pass in_all memories (λ x h. absent x registers (λ k. contradicted (is_among x (wires ++ registers)) (no_wire_or_register s nets fit good each x h) (among_behind x wires registers k))))
+      (filter-append in_all wires registers ∙ ap₂ both
+      (none_pass in_all wires (λ x h. absent x registers (λ k. register_no_wire s nets fit good each x k h))) (all_pass in_all registers (λ x h. h)))
+      (none_pass in_all memories (λ x h. absent x registers
+      (λ k. contradicted (is_among x (wires ++ registers)) (no_wire_or_register s nets fit good each x h) (among_behind x wires registers k))))
       ∙ append-nil registers
 
   pub registers_in_order : filter (λ x. is_among x whole_registers) (linked_net s nets).names ≡ whole_registers
@@ -248,7 +257,9 @@ module _ (s : NamedSystem) (nets : ℕ → Net) (fit : NamesFit s) (good : Wires
   of_inner_memories : filter is_memory all ≡ memories
   of_inner_memories =
       filter-append is_memory (wires ++ registers) memories
-      ∙ ap₂ both (none_pass is_memory (wires ++ registers) (λ x h. absent x memories (λ k. contradicted (is_among x (wires ++ registers)) (no_wire_or_register s nets fit good each x k) h))) (all_pass is_memory memories (λ x h. h))
+      ∙ ap₂ both (none_pass is_memory (wires ++ registers)
+      (λ x h. absent x memories (λ k. contradicted (is_among x (wires ++ registers)) (no_wire_or_register s nets fit good each x k) h)))
+      (all_pass is_memory memories (λ x h. h))
 
   -- what is shown is an input, a wire or a register
   pub shown_is : (x : Name) → is_shown x ≡ true → is_among x (inputs ++ (wires ++ registers)) ≡ true

@@ -35,7 +35,8 @@ of_both [] ys = refl
 of_both (x ∷ xs) ys =
     elim (cases_Bool (is_input_port x.1)) [ inl t ↦ rw t (ap (λ (zs : List Name). x.0 ∷ zs) (of_both xs ys)) | inr q ↦ rw q (of_both xs ys) ]
 
-of_inputs : (picks : ℕ → Bool) (d : Named) (x : ℕ) (es : List Entity) → inputs_among (pairs_of picks kind.Input d x es) ≡ map (λ (p : Shown). p.0) (pairs_of picks kind.Input d x es)
+of_inputs : (picks : ℕ → Bool) (d : Named) (x : ℕ) (es : List Entity)
+    → inputs_among (pairs_of picks kind.Input d x es) ≡ map (λ (p : Shown). p.0) (pairs_of picks kind.Input d x es)
 of_inputs picks d x [] = refl
 of_inputs picks d x (e ∷ es) =
     elim (cases_Bool (picks x)) [
@@ -82,15 +83,18 @@ module _ (d : Named) (g : Name → ℕ) (r : ℕ → Tagged) (given : (x : ℕ) 
   abbrev names_from : (k : ℕ) → List Entity → List Name
   names_from k es = map (λ (p : Shown). p.0) (pairs_of (is_input (world d)) kind.Input d k es)
 
-  this_entity : (k : ℕ) (e : Entity) (es : List Entity) → ((j : ℕ) → get_or (world d).entities (k + j) nothing ≡ get_or (e ∷ es) j nothing) → is_input (world d) k ≡ kind_is_input e.kind
+  this_entity : (k : ℕ) (e : Entity) (es : List Entity) → ((j : ℕ) → get_or (world d).entities (k + j) nothing ≡ get_or (e ∷ es) j nothing)
+      → is_input (world d) k ≡ kind_is_input e.kind
   this_entity k e es at =
       let same : k ≡ k + 0 = omega arith in
       ap (λ (n : ℕ). kind_is_input (get_or (world d).entities n nothing).kind) same ∙ ap (λ (x : Entity). kind_is_input x.kind) (at 0)
 
-  later_entities : (k : ℕ) (e : Entity) (es : List Entity) → ((j : ℕ) → get_or (world d).entities (k + j) nothing ≡ get_or (e ∷ es) j nothing) → (j : ℕ) → get_or (world d).entities (suc k + j) nothing ≡ get_or es j nothing
+  later_entities : (k : ℕ) (e : Entity) (es : List Entity)
+      → ((j : ℕ) → get_or (world d).entities (k + j) nothing ≡ get_or (e ∷ es) j nothing) → (j : ℕ) → get_or (world d).entities (suc k + j) nothing ≡ get_or es j nothing
   later_entities k e es at j = let same : suc k + j ≡ k + suc j = omega arith in ap (λ (n : ℕ). get_or (world d).entities n nothing) same ∙ at (suc j)
 
-  names_coded : (k : ℕ) (es : List Entity) → ((j : ℕ) → get_or (world d).entities (k + j) nothing ≡ get_or es j nothing) → map g (names_from k es) ≡ coded d.code (map r (inputs_from k es))
+  names_coded : (k : ℕ) (es : List Entity) → ((j : ℕ) → get_or (world d).entities (k + j) nothing ≡ get_or es j nothing)
+      → map g (names_from k es) ≡ coded d.code (map r (inputs_from k es))
   names_coded k [] at = refl
   names_coded k (e ∷ es) at =
       let later = ap (λ (n : ℕ). map g (names_from n es)) (sym (one_more k)) ∙ names_coded (suc k) es (later_entities k e es at) in

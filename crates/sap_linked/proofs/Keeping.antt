@@ -66,7 +66,8 @@ no_keyword : (z : Name) (ks : List Name) → AllByRecursion (λ k. has_no_unders
 no_keyword z [] a h = refl
 no_keyword z (k ∷ ks) a h =
     elim (cases_Bool (bytes_eq z k)) [
-      | inl t ↦ absurd (let same = equal_of_bytes_eq z k t in let no : has_no_underscore k ≡ false = subst (λ (y : Name). has_no_underscore y ≡ false) same h in let yes = a.0 in cc)
+      | inl t ↦ absurd (let same = equal_of_bytes_eq z k t in
+          let no : has_no_underscore k ≡ false = subst (λ (y : Name). has_no_underscore y ≡ false) same h in let yes = a.0 in cc)
       | inr q ↦ rw q (no_keyword z ks a.1 h)
     ]
 

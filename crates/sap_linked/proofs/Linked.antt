@@ -58,13 +58,15 @@ design_is s i same =
 
 -- ---- the streams that it takes
 
-inputs_take : (s : NamedSystem) → Codes s.order → (es : List Endpoint) (inputs : List Tagged) → AllFitWidths s.order.count (map (width_at (system_of s)) es) inputs → InputsFit (inputs_for s es) (coded (code_of s.order) inputs)
+inputs_take : (s : NamedSystem) → Codes s.order → (es : List Endpoint) (inputs : List Tagged)
+    → AllFitWidths s.order.count (map (width_at (system_of s)) es) inputs → InputsFit (inputs_for s es) (coded (code_of s.order) inputs)
 inputs_take s codes [] [] fit = tt
 inputs_take s codes [] (t ∷ ts) fit = absurd fit
 inputs_take s codes (e ∷ es) [] fit = absurd fit
 inputs_take s codes (e ∷ es) (t ∷ ts) fit = (fit.0, (codes.small t.level, inputs_take s codes es ts fit.2))
 
-stream_taken : (s : NamedSystem) → Codes s.order → (stream : List (List Tagged)) → StreamFitsSystem (system_of s) stream → AllFit (inputs_for s (free_inputs (system_of s))) (coded_stream (code_of s.order) stream)
+stream_taken : (s : NamedSystem) → Codes s.order → (stream : List (List Tagged)) → StreamFitsSystem (system_of s) stream
+    → AllFit (inputs_for s (free_inputs (system_of s))) (coded_stream (code_of s.order) stream)
 stream_taken s codes [] fit = tt
 stream_taken s codes (inputs ∷ rest) fit = (inputs_take s codes (free_inputs (system_of s)) inputs fit.0, stream_taken s codes rest fit.1)
 
@@ -102,7 +104,8 @@ module _ (runs : PartsRun) (shows : PartsShow) (fits : CompositesFit) (streams :
   abbrev Stand : CompositeState → List (List Tagged) → List Valuation → ℕ → Named → Type 0
   Stand states stream us i d =
       CyclesStand d (part_at s i).sites (map (through (in_part (part_at s i).name)) (map (observed whole) us)) (run_of_part i (composite_run_from y states stream))
-      × (map (λ (v : Valuation). map (λ x. v.value (in_part (part_at s i).name x)) (names_of_inputs d)) (map (observed whole) us) ≡ coded_stream (code_of s.order) (stream_of_part y states stream i))
+      × (map (λ (v : Valuation). map (λ x. v.value (in_part (part_at s i).name x)) (names_of_inputs d)) (map (observed whole) us)
+      ≡ coded_stream (code_of s.order) (stream_of_part y states stream i))
 
   -- ---- one cycle
 
@@ -155,7 +158,8 @@ module _ (runs : PartsRun) (shows : PartsShow) (fits : CompositesFit) (streams :
       part_fits : InputsFitPart (world_at y i) (part_inputs y states inputs i)
       part_fits = (streams y fine sized states rests (inputs ∷ []) (fit, tt) i (is_number i low)).0
 
-      stands : StandsFor (design_at s i) (part_at s i).sites (observed (nets i) (through (named i) u)) (composite_cycle y inputs states i).store (composite_cycle y inputs states i).refused
+      stands : StandsFor (design_at s i) (part_at s i).sites (observed (nets i) (through (named i) u))
+          (composite_cycle y inputs states i).store (composite_cycle y inputs states i).refused
       stands =
           this_cycle (design_at s i) (part_at s i).sites (nets i) (option_map (through (named i)) before) (states i) (ready i low).0
           (part_inputs y states inputs i) part_fits (through (named i) u) own_cycle
@@ -168,7 +172,8 @@ module _ (runs : PartsRun) (shows : PartsShow) (fits : CompositesFit) (streams :
             (composite_cycle y inputs states i).store (composite_cycle y inputs states i).refused stands,
       )
 
-      seen_stands : StandsFor (design_at s i) (part_at s i).sites (through (in_part (part_at s i).name) (observed whole u)) (composite_cycle y inputs states i).store (composite_cycle y inputs states i).refused
+      seen_stands : StandsFor (design_at s i) (part_at s i).sites (through (in_part (part_at s i).name) (observed whole u))
+          (composite_cycle y inputs states i).store (composite_cycle y inputs states i).refused
       seen_stands =
           stands_behind (design_at s i) (width_of s.order) (part_at s i).sites (nets i) (each i low).netlist interface.declares.part
           (named i) (in_part (part_at s i).name) (behind_part i low) (observed (nets i) (through (named i) u)) (observed whole u)
@@ -178,7 +183,8 @@ module _ (runs : PartsRun) (shows : PartsShow) (fits : CompositesFit) (streams :
       unclocked : (x : Name) (w : ℕ) → find (map (λ (input : Input). (input.name, input.width)) (nets i).inputs) x ≡ Some w → is_among (named i x) (register_names whole) ≡ false
       unclocked =
           at_name (λ (input : Input). input.name) (λ input. input.width) (λ x. is_among (named i x) (register_names whole) ≡ false) (nets i).inputs
-          (all_follow (λ (input : Input). Feeds whole (named i input.name) input.width) (λ input. is_among (named i input.name) (register_names whole) ≡ false) (nets i).inputs (λ input h. h.unclocked) (links.parts i low).fed)
+          (all_follow (λ (input : Input). Feeds whole (named i input.name) input.width)
+          (λ input. is_among (named i input.name) (register_names whole) ≡ false) (nets i).inputs (λ input h. h.unclocked) (links.parts i low).fed)
 
       seen_input : (x : Name) (w : ℕ) → IsInterfaceName (design_at s i) (part_at s i).sites x → find (map (λ (input : Input). (input.name, input.width)) (nets i).inputs) x ≡ Some w
           → (observed whole u).value (in_part (part_at s i).name x) ≡ u.value (in_part (part_at s i).name x)
@@ -190,7 +196,8 @@ module _ (runs : PartsRun) (shows : PartsShow) (fits : CompositesFit) (streams :
       seen_received : map (λ x. (observed whole u).value (in_part (part_at s i).name x)) (names_of_inputs (design_at s i)) ≡ coded (code_of s.order) (part_inputs y states inputs i)
       seen_received = inputs_coded (design_at s i) (λ x. (observed whole u).value (in_part (part_at s i).name x)) (λ x. received y states inputs (endpoint i x)) given
         where
-          given : (x : ℕ) → is_input (world_at y i) x ≡ true → IsGiven (design_at s i) (λ x. (observed whole u).value (in_part (part_at s i).name x)) x (received y states inputs (endpoint i x))
+          given : (x : ℕ) → is_input (world_at y i) x ≡ true
+              → IsGiven (design_at s i) (λ x. (observed whole u).value (in_part (part_at s i).name x)) x (received y states inputs (endpoint i x))
           given x is = (
             seen_input (value_name (name (design_at s i) x)) _ (value_of x (input_holds (design_at s i) x is)) (interface.declares.inputs x is).0 ∙ (all_has i x is).0,
             seen_input (tag_name (name (design_at s i) x)) _ (tag_of x (input_holds (design_at s i) x is)) (interface.declares.inputs x is).1 ∙ (all_has i x is).1,
@@ -235,4 +242,5 @@ module _ (runs : PartsRun) (shows : PartsShow) (fits : CompositesFit) (streams :
       }
 
 pub linked_nets_stand : PartsRun → PartsShow → CompositesFit → StreamsOfPartsFit → FedInputsReceive → FreeInputsReceive → LinkedNetsStand
-linked_nets_stand runs shows fits streams fed free s nets named whole codes fine sized each links = runs_stand runs shows fits streams fed free s nets named whole codes fine sized each links
+linked_nets_stand runs shows fits streams fed free s nets named whole codes fine sized each links =
+    runs_stand runs shows fits streams fed free s nets named whole codes fine sized each links

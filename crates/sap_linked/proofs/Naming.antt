@@ -41,7 +41,8 @@ behind_letter n h =
 module _ (s : NamedSystem) (nets : ℕ → Net) (fit : NamesFit s) (good : WiresFit (system_of s)) (each : (i : ℕ) → i < length s.parts → IsNetOf s.order (part_at s i) (nets i)) where
   pub keeps : (i : ℕ) → i < length s.parts → KeepsApart (in_part (part_at s i).name) (nets i)
   keeps i low =
-      parts_keep_apart (part_at s i).name (part_at s i).design (width_of s.order) (part_at s i).sites (nets i) (fit.whole i low) (fit.inner i low) (each i low).netlist (each i low).stands.interface
+      parts_keep_apart (part_at s i).name (part_at s i).design (width_of s.order) (part_at s i).sites (nets i) (fit.whole i low)
+      (fit.inner i low) (each i low).netlist (each i low).stands.interface
 
   end_named : (Q : Endpoint → Type 0) (z : Name) → IsEnd s nets fit each Q z → is_name z ≡ true
   end_named Q z e =
@@ -67,7 +68,8 @@ module _ (s : NamedSystem) (nets : ℕ → Net) (fit : NamesFit s) (good : Wires
 
   wire_named : (z : Name) → is_among z (all_wires s nets fit good each) ≡ true → is_name z ≡ true
   wire_named z h = elim (either (fed_wires s nets fit good each) (part_wires s nets fit good each) z (sym (ap (is_among z) (wires_are s nets fit good each)) ∙ h)) [
-    | inl f ↦ end_named (λ e. Unit {0}) z (of_feeds s nets fit each (λ e. Unit {0}) s.wires (all_to s nets fit good each s.wires (all_lead_to_inputs s nets fit good each s.wires good.each)) z f)
+    | inl f ↦ end_named (λ e. Unit {0}) z (of_feeds s nets fit each (λ e. Unit {0}) s.wires
+        (all_to s nets fit good each s.wires (all_lead_to_inputs s nets fit good each s.wires good.each)) z f)
     | inr w ↦ behind_named (wires_in s nets fit good each) (wires_declared s nets fit good each) z (of_among s (wires_in s nets fit good each) 0 s.parts (whole_list s) z w)
   ]
 

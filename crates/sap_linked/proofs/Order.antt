@@ -73,7 +73,8 @@ module _ (s : NamedSystem) where
       ap names_for (filter_both free here rest)
       ∙ names_both (filter free here) (filter free rest)
       ∙ ap₂ (λ (xs ys : List Name). xs ++ ys)
-      (of_part p k (ap (part_at s) from ∙ at 0) 0 (world p.design).entities (λ j. let same : 0 + j ≡ j = omega arith in ap (λ (n : ℕ). get_or (world p.design).entities n nothing) same))
+      (of_part p k (ap (part_at s) from ∙ at 0) 0 (world p.design).entities (λ j. let same : 0 + j ≡ j = omega arith in
+      ap (λ (n : ℕ). get_or (world p.design).entities n nothing) same))
       (all_parts (suc k) ps behind)
       ∙ sym (shown_both own (input_ports s.wires (suc k) ps))
 

@@ -36,7 +36,8 @@ no_register rs x none =
       | inr q ↦ q
     ]
 
-pub inputs_apart : (ms : Shapes) (is : List Input) (rs : List Register) → AreValues ms (map (λ i. (i.name, i.width)) is ++ map (λ r. (r.name, r.width)) rs) → AllByRecursion (λ i. is_among i.name (map (λ (r : Register). r.name) rs) ≡ false) is
+pub inputs_apart : (ms : Shapes) (is : List Input) (rs : List Register)
+    → AreValues ms (map (λ i. (i.name, i.width)) is ++ map (λ r. (r.name, r.width)) rs) → AllByRecursion (λ i. is_among i.name (map (λ (r : Register). r.name) rs) ≡ false) is
 inputs_apart ms [] rs rules = tt
 inputs_apart ms (i ∷ is) rs rules = (no_register rs i.name (past_inputs is (map (λ r. (r.name, r.width)) rs) i.name rules.1), inputs_apart ms is rs rules.3)
 
@@ -44,7 +45,8 @@ pub both : {X : Type 0} (P Q R : X → Type 0) (xs : List X) → ((x : X) → P 
 both P Q R [] h a b = tt
 both P Q R (x ∷ xs) h a b = (h x a.0 b.0, both P Q R xs h a.1 b.1)
 
-unclocked_wires : (n : Net) (ws : List Wire) (sc : Scope) → AreWires (shapes n) sc ws → ((x : Name) → find sc x ≡ None → is_among x (register_names n) ≡ false) → AllByRecursion (λ w. is_among w.name (register_names n) ≡ false) ws
+unclocked_wires : (n : Net) (ws : List Wire) (sc : Scope) → AreWires (shapes n) sc ws
+    → ((x : Name) → find sc x ≡ None → is_among x (register_names n) ≡ false) → AllByRecursion (λ w. is_among w.name (register_names n) ≡ false) ws
 unclocked_wires n [] sc a h = tt
 unclocked_wires n (w ∷ ws) sc a h = (h w.name a.1, unclocked_wires n ws ((w.name, w.width) ∷ sc) a.4 (λ x none. h x (not_behind (w.name, w.width) sc x none)))
 
@@ -74,14 +76,17 @@ module _ (n : Net) (rules : IsNetlist n) where
   pub inputs_found : AllByRecursion (λ i. find (map (λ (i : Input). (i.name, i.width)) n.inputs) i.name ≡ Some i.width) n.inputs
   inputs_found =
       all_of_map (λ (e : Name × ℕ). find (map (λ (i : Input). (i.name, i.width)) n.inputs) e.0 ≡ Some e.1) (λ (i : Input). (i.name, i.width)) n.inputs
-      (values_found (shapes n) (map (λ (i : Input). (i.name, i.width)) n.inputs) (values_front (shapes n) (map (λ (i : Input). (i.name, i.width)) n.inputs) (map (λ (r : Register). (r.name, r.width)) n.registers) rules.values))
+      (values_found (shapes n) (map (λ (i : Input). (i.name, i.width)) n.inputs)
+      (values_front (shapes n) (map (λ (i : Input). (i.name, i.width)) n.inputs) (map (λ (r : Register). (r.name, r.width)) n.registers) rules.values))
 
   pub inputs_feed : AllByRecursion (λ i. Feeds n i.name i.width) n.inputs
   inputs_feed =
       both (λ (i : Input). find (first_readable n) i.name ≡ Some i.width) (λ i. is_among i.name (register_names n) ≡ false) (λ i. Feeds n i.name i.width) n.inputs
       (λ i h u. record { width = readable_kept (shapes n) n.wires (first_readable n) rules.assigns i.name i.width h; unclocked = u })
       (all_of_map (λ (e : Name × ℕ). find (first_readable n) e.0 ≡ Some e.1) (λ (i : Input). (i.name, i.width)) n.inputs
-      (all_parts {X = Name × ℕ} (λ (e : Name × ℕ). find (first_readable n) e.0 ≡ Some e.1) (map {B = Name × ℕ} (λ (i : Input). (i.name, i.width)) n.inputs) (map {B = Name × ℕ} (λ (r : Register). (r.name, r.width)) n.registers) (values_found (shapes n) (first_readable n) rules.values)).0)
+      (all_parts {X = Name × ℕ} (λ (e : Name × ℕ). find (first_readable n) e.0 ≡ Some e.1)
+      (map {B = Name × ℕ} (λ (i : Input). (i.name, i.width)) n.inputs)
+      (map {B = Name × ℕ} (λ (r : Register). (r.name, r.width)) n.registers) (values_found (shapes n) (first_readable n) rules.values)).0)
       (inputs_apart (shapes n) n.inputs n.registers rules.values)
 
   pub wires_feed : AllByRecursion (λ w. Feeds n w.name w.width) n.wires

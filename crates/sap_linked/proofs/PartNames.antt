@@ -94,18 +94,22 @@ module _ (n : Net) (rules : IsNetlist n) where
   pub wire_no_memory : (x : Name) → is_among x (wire_names n) ≡ true → is_among x (memory_names n) ≡ true → ⊥
   wire_no_memory x w = no_memory x (wires_new (shapes n) n.wires (first_readable n) rules.assigns x w).1
 
-  new_values : AllByRecursion (λ e. find (shapes n) e.0 ≡ None) (map {B = Name × ℕ} (λ (i : Input). (i.name, i.width)) n.inputs) × AllByRecursion (λ e. find (shapes n) e.0 ≡ None) (map {B = Name × ℕ} (λ (r : Register). (r.name, r.width)) n.registers)
+  new_values : AllByRecursion (λ e. find (shapes n) e.0 ≡ None) (map {B = Name × ℕ} (λ (i : Input). (i.name, i.width)) n.inputs)
+      × AllByRecursion (λ e. find (shapes n) e.0 ≡ None) (map {B = Name × ℕ} (λ (r : Register). (r.name, r.width)) n.registers)
   new_values =
-      all_parts {X = Name × ℕ} (λ e. find (shapes n) e.0 ≡ None) (map {B = Name × ℕ} (λ (i : Input). (i.name, i.width)) n.inputs) (map {B = Name × ℕ} (λ (r : Register). (r.name, r.width)) n.registers)
+      all_parts {X = Name × ℕ} (λ e. find (shapes n) e.0 ≡ None) (map {B = Name × ℕ} (λ (i : Input). (i.name, i.width)) n.inputs)
+      (map {B = Name × ℕ} (λ (r : Register). (r.name, r.width)) n.registers)
       (values_new (shapes n) (first_readable n) rules.values)
 
   pub input_no_memory : (x : Name) → is_among x (input_names n) ≡ true → is_among x (memory_names n) ≡ true → ⊥
   input_no_memory x i = no_memory x (among_each (λ x. find (shapes n) x ≡ None) (input_names n)
-      (map_of_all (λ x. find (shapes n) x ≡ None) (λ (i : Input). i.name) n.inputs (all_of_map (λ (e : Name × ℕ). find (shapes n) e.0 ≡ None) (λ (i : Input). (i.name, i.width)) n.inputs new_values.0)) x i)
+      (map_of_all (λ x. find (shapes n) x ≡ None) (λ (i : Input). i.name) n.inputs
+      (all_of_map (λ (e : Name × ℕ). find (shapes n) e.0 ≡ None) (λ (i : Input). (i.name, i.width)) n.inputs new_values.0)) x i)
 
   pub register_no_memory : (x : Name) → is_among x (register_names n) ≡ true → is_among x (memory_names n) ≡ true → ⊥
   register_no_memory x r = no_memory x (among_each (λ x. find (shapes n) x ≡ None) (register_names n)
-      (map_of_all (λ x. find (shapes n) x ≡ None) (λ (r : Register). r.name) n.registers (all_of_map (λ (e : Name × ℕ). find (shapes n) e.0 ≡ None) (λ (r : Register). (r.name, r.width)) n.registers new_values.1)) x r)
+      (map_of_all (λ x. find (shapes n) x ≡ None) (λ (r : Register). r.name) n.registers
+      (all_of_map (λ (e : Name × ℕ). find (shapes n) e.0 ≡ None) (λ (r : Register). (r.name, r.width)) n.registers new_values.1)) x r)
 
   pub input_no_register : (x : Name) → is_among x (input_names n) ≡ true → is_among x (register_names n) ≡ true → ⊥
   input_no_register x i r =

@@ -55,7 +55,8 @@ fed_are wires k (p ∷ ps) = ap (λ (xs : List Shown). ports_in p (fed_of wires 
 
 -- ---- what holds of each
 
-pub pairs_each : (P : Shown → Type 0) (picks : ℕ → Bool) (k : PortKind) (d : Named) → ((x : ℕ) → picks x ≡ true → P (value_name (name d x), k) × P (tag_name (name d x), k)) → (n : ℕ) (es : List Entity)
+pub pairs_each : (P : Shown → Type 0) (picks : ℕ → Bool) (k : PortKind) (d : Named)
+    → ((x : ℕ) → picks x ≡ true → P (value_name (name d x), k) × P (tag_name (name d x), k)) → (n : ℕ) (es : List Entity)
     → AllByRecursion P (pairs_of picks k d n es)
 pairs_each P picks k d h n [] = tt
 pairs_each P picks k d h n (e ∷ es) =
@@ -64,7 +65,8 @@ pairs_each P picks k d h n (e ∷ es) =
       | inr q ↦ rw q (pairs_each P picks k d h (n + 1) es)
     ]
 
-pub sites_each : (P : Shown → Type 0) (sites : ℕ) → ((j : ℕ) → 1 ≤ j → j ≤ sites → P (refused_name j, kind.Wire) × P (refused_level_name j, kind.Wire)) → (k n : ℕ) → 1 ≤ k → k + n ≤ sites + 1
+pub sites_each : (P : Shown → Type 0) (sites : ℕ)
+    → ((j : ℕ) → 1 ≤ j → j ≤ sites → P (refused_name j, kind.Wire) × P (refused_level_name j, kind.Wire)) → (k n : ℕ) → 1 ≤ k → k + n ≤ sites + 1
     → AllByRecursion P (site_ports k n)
 sites_each P sites h k zero from to = tt
 sites_each P sites h k (suc n) from to =

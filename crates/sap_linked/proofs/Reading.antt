@@ -25,9 +25,12 @@ register_read n rules =
     of_entries (λ x u. find (readable n) x ≡ Some u) (map (λ (r : Register). (r.name, r.width)) n.registers)
     (all_follow (λ (e : Name × ℕ). find (first_readable n) e.0 ≡ Some e.1) (λ e. find (readable n) e.0 ≡ Some e.1) (map (λ (r : Register). (r.name, r.width)) n.registers)
     (λ e h. readable_kept (shapes n) n.wires (first_readable n) rules.assigns e.0 e.1 h)
-    (all_second {X = Name × ℕ} (λ (e : Name × ℕ). find (first_readable n) e.0 ≡ Some e.1) (map {B = Name × ℕ} (λ (i : Input). (i.name, i.width)) n.inputs) (map {B = Name × ℕ} (λ (r : Register). (r.name, r.width)) n.registers) (values_found (shapes n) (first_readable n) rules.values)))
+    (all_second {X = Name × ℕ} (λ (e : Name × ℕ). find (first_readable n) e.0 ≡ Some e.1)
+    (map {B = Name × ℕ} (λ (i : Input). (i.name, i.width)) n.inputs)
+    (map {B = Name × ℕ} (λ (r : Register). (r.name, r.width)) n.registers) (values_found (shapes n) (first_readable n) rules.values)))
 
-wires_read : (ms : Shapes) (ws : List Wire) (sc : Scope) → AreWires ms sc ws → AllByRecursion (λ e. find (readable_after sc ws) e.0 ≡ Some e.1) (map {B = Name × ℕ} (λ (w : Wire). (w.name, w.width)) ws)
+wires_read : (ms : Shapes) (ws : List Wire) (sc : Scope) → AreWires ms sc ws
+    → AllByRecursion (λ e. find (readable_after sc ws) e.0 ≡ Some e.1) (map {B = Name × ℕ} (λ (w : Wire). (w.name, w.width)) ws)
 wires_read ms [] sc a = tt
 wires_read ms (w ∷ ws) sc a = (
   readable_kept ms ws ((w.name, w.width) ∷ sc) a.4 w.name w.width (found_here w.name w.width sc),
@@ -35,4 +38,5 @@ wires_read ms (w ∷ ws) sc a = (
 )
 
 pub wire_read : (n : Net) → IsNetlist n → (x : Name) (u : ℕ) → find (map (λ (w : Wire). (w.name, w.width)) n.wires) x ≡ Some u → find (readable n) x ≡ Some u
-wire_read n rules = of_entries (λ x u. find (readable n) x ≡ Some u) (map (λ (w : Wire). (w.name, w.width)) n.wires) (wires_read (shapes n) n.wires (first_readable n) rules.assigns)
+wire_read n rules = of_entries (λ x u. find (readable n) x ≡ Some u) (map (λ (w : Wire). (w.name, w.width)) n.wires)
+    (wires_read (shapes n) n.wires (first_readable n) rules.assigns)

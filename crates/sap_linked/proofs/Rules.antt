@@ -143,7 +143,8 @@ module _ (copies_keep : CopiesAreNetlists) (s : NamedSystem) (nets : ℕ → Net
   once : AreDistinct whole.names
   once =
       distinct_both (shown_names s) (filter is_hidden all) (shown_distinct s nets fit good each) (filter_distinct is_hidden all (inner_distinct s nets fit good each))
-      (λ x h. absent x (filter is_hidden all) (λ k. hidden_shown (is_among x (shown_names s)) (and_parts (is_among x all) (is_hidden x) (sym (filter_among is_hidden all x) ∙ k)).1 h))
+      (λ x h. absent x (filter is_hidden all) (λ k. hidden_shown (is_among x (shown_names s))
+      (and_parts (is_among x all) (is_hidden x) (sym (filter_among is_hidden all x) ∙ k)).1 h))
 
   -- ---- what ports show
 

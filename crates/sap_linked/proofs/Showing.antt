@@ -115,7 +115,8 @@ module _ (s : NamedSystem) (nets : ℕ → Net) (fit : NamesFit s) (good : Wires
   pub wire_there : (x : Name) → is_among x part_wires ≡ true → is_among x all_wires ≡ true
   wire_there x h = ap (is_among x) wires_are ∙ among_behind x fed_wires part_wires h
 
-  pub part_register : (i : ℕ) → i < length s.parts → (x : Name) → is_among x (registers_in s nets fit good each i) ≡ true → is_among (in_part (part_at s i).name x) all_registers ≡ true
+  pub part_register : (i : ℕ) → i < length s.parts → (x : Name) → is_among x (registers_in s nets fit good each i) ≡ true
+      → is_among (in_part (part_at s i).name x) all_registers ≡ true
   part_register i low x h =
       ap (is_among (in_part (part_at s i).name x)) registers_copied ∙ among_copies s (registers_in s nets fit good each) 0 s.parts (whole_list s) i (omega arith) low x h
 
@@ -128,7 +129,8 @@ module _ (s : NamedSystem) (nets : ℕ → Net) (fit : NamesFit s) (good : Wires
     interface : HasInterface d (width_of s.order) (part_at s i).sites (nets i)
     interface = (each i low).stands.interface
 
-    pub registers_hold_in : (P : Shown → Type 0) → ((x : Name) → is_among x (registers_in s nets fit good each i) ≡ true → P (x, kind.Register)) → AllByRecursion P (registers_of (part_at s i) i)
+    pub registers_hold_in : (P : Shown → Type 0)
+        → ((x : Name) → is_among x (registers_in s nets fit good each i) ≡ true → P (x, kind.Register)) → AllByRecursion P (registers_of (part_at s i) i)
     registers_hold_in P h =
         pairs_each P (is_register (world d)) kind.Register d (λ x is. (
           h (value_name (name d x)) (found_among (λ (r : Register). r.name) (λ r. r.width) (nets i).registers (value_name (name d x)) _ (interface.declares.part.registers x is).0),
@@ -178,13 +180,15 @@ module _ (s : NamedSystem) (nets : ℕ → Net) (fit : NamesFit s) (good : Wires
 
     own_fed_distinct : AreDistinct (block_in s (fed_of s.wires) i)
     own_fed_distinct =
-        still_distinct d kind.Wire (is_input (world d)) (is_fed_input s.wires (part_at s i) i) (λ x is. (and_parts (is_input (world d) x) (is_fed s.wires (endpoint i x)) is).0) 0 (world d).entities
+        still_distinct d kind.Wire (is_input (world d)) (is_fed_input s.wires (part_at s i) i)
+        (λ x is. (and_parts (is_input (world d) x) (is_fed s.wires (endpoint i x)) is).0) 0 (world d).entities
         (subst (λ (ns : List Name). AreDistinct ns) (other_kind d kind.Input kind.Wire (is_input (world d)) 0 (world d).entities) (own_pairs s nets fit good each i low))
 
   pub registers_hold : (P : Shown → Type 0) → ((x : Name) → is_among x all_registers ≡ true → P (x, kind.Register)) → AllByRecursion P (register_ports s.parts)
   registers_hold P h =
       subst (λ (xs : List Shown). AllByRecursion P xs) (sym (registers_are 0 s.parts))
-      (block_each s registers_of P (λ i low. registers_hold_in i low (λ (port : Shown). P (in_part (part_at s i).name port.0, port.1)) (λ x k. h (in_part (part_at s i).name x) (part_register i low x k))) 0 s.parts (whole_list s))
+      (block_each s registers_of P (λ i low. registers_hold_in i low (λ (port : Shown). P (in_part (part_at s i).name port.0, port.1))
+      (λ x k. h (in_part (part_at s i).name x) (part_register i low x k))) 0 s.parts (whole_list s))
 
   pub sites_hold : (P : Shown → Type 0) → ((x : Name) → is_among x part_wires ≡ true → P (x, kind.Wire)) → AllByRecursion P (refusal_ports s.parts)
   sites_hold P h =
@@ -196,7 +200,8 @@ module _ (s : NamedSystem) (nets : ℕ → Net) (fit : NamesFit s) (good : Wires
   IsFeed x u = is_among x fed_wires ≡ true
 
   ends_fed : AllByRecursion (λ w. AtEnd s IsFeed w.to) s.wires
-  ends_fed = fed_ends s IsFeed s.wires (all_of_map (λ x. is_among x fed_wires ≡ true) (λ (w : Wire). w.name) (feeds s s.wires) (each_among (λ x. is_among x fed_wires ≡ true) fed_wires (λ x h. h)))
+  ends_fed = fed_ends s IsFeed s.wires (all_of_map (λ x. is_among x fed_wires ≡ true) (λ (w : Wire). w.name) (feeds s s.wires)
+      (each_among (λ x. is_among x fed_wires ≡ true) fed_wires (λ x h. h)))
 
   pub fed_hold : (P : Shown → Type 0) → ((x : Name) → is_among x fed_wires ≡ true → P (x, kind.Wire)) → AllByRecursion P (fed_inputs s.wires 0 s.parts)
   fed_hold P h =
@@ -213,14 +218,16 @@ module _ (s : NamedSystem) (nets : ℕ → Net) (fit : NamesFit s) (good : Wires
   input_kinds =
       subst (λ (xs : List Shown). AllByRecursion (λ (port : Shown). port.1 ≡ kind.Input) xs) (sym (inputs_are s.wires 0 s.parts))
       (block_each s (free_of s.wires) (λ (port : Shown). port.1 ≡ kind.Input) (λ i low.
-      pairs_each (λ (port : Shown). port.1 ≡ kind.Input) (is_free s.wires (part_at s i) i) kind.Input (part_at s i).design (λ x is. (refl, refl)) 0 (world (part_at s i).design).entities) 0 s.parts (whole_list s))
+      pairs_each (λ (port : Shown). port.1 ≡ kind.Input) (is_free s.wires (part_at s i) i) kind.Input (part_at s i).design
+      (λ x is. (refl, refl)) 0 (world (part_at s i).design).entities) 0 s.parts (whole_list s))
 
   pub inputs_hold : (P : Shown → Type 0) → ((x : Name) → is_among x all_inputs ≡ true → P (x, kind.Input)) → AllByRecursion P (input_ports s.wires 0 s.parts)
   inputs_hold P h =
       both (λ (port : Shown). port.1 ≡ kind.Input) (λ port. is_among port.0 all_inputs ≡ true) P (input_ports s.wires 0 s.parts)
       (λ port k there. subst (λ (l : PortKind). P (port.0, l)) (sym k) (h port.0 there)) input_kinds
       (all_of_map (λ x. is_among x all_inputs ≡ true) (λ (port : Shown). port.0) (input_ports s.wires 0 s.parts)
-      (subst (λ (ns : List Name). AllByRecursion (λ x. is_among x all_inputs ≡ true) ns) (inputs_in_order s) (each_among (λ x. is_among x all_inputs ≡ true) all_inputs (λ x k. k))))
+      (subst (λ (ns : List Name). AllByRecursion (λ x. is_among x all_inputs ≡ true) ns) (inputs_in_order s)
+      (each_among (λ x. is_among x all_inputs ≡ true) all_inputs (λ x k. k))))
 
   pub held_hold : (P : Shown → Type 0) → ((x : Name) → is_among x all_inputs ≡ true → P (x, kind.Input)) → ((x : Name) → is_among x all_registers ≡ true → P (x, kind.Register))
       → ((x : Name) → is_among x all_wires ≡ true → P (x, kind.Wire)) → AllByRecursion P (held_ports s)
@@ -258,7 +265,8 @@ module _ (s : NamedSystem) (nets : ℕ → Net) (fit : NamesFit s) (good : Wires
   pub register_shown_there : (x : Name) → is_among x shown_registers ≡ true → is_among x all_registers ≡ true
   register_shown_there =
       among_each (λ x. is_among x all_registers ≡ true) shown_registers
-      (map_of_all (λ x. is_among x all_registers ≡ true) (λ (p : Shown). p.0) (register_ports s.parts) (registers_hold (λ (p : Shown). is_among p.0 all_registers ≡ true) (λ x h. h)))
+      (map_of_all (λ x. is_among x all_registers ≡ true) (λ (p : Shown). p.0) (register_ports s.parts)
+      (registers_hold (λ (p : Shown). is_among p.0 all_registers ≡ true) (λ x h. h)))
 
   pub site_shown_there : (x : Name) → is_among x shown_sites ≡ true → is_among x part_wires ≡ true
   site_shown_there =
@@ -290,12 +298,14 @@ module _ (s : NamedSystem) (nets : ℕ → Net) (fit : NamesFit s) (good : Wires
   registers_shown_distinct : AreDistinct shown_registers
   registers_shown_distinct =
       subst (λ (ns : List Name). AreDistinct ns) (sym registers_shown_are)
-      (copies_distinct s fit (block_in s registers_of) (λ i low x h. registers_long s nets fit good each i low x (registers_shown_in i low x h)) (λ i low. own_registers_distinct i low) 0 s.parts (whole_list s))
+      (copies_distinct s fit (block_in s registers_of)
+      (λ i low x h. registers_long s nets fit good each i low x (registers_shown_in i low x h)) (λ i low. own_registers_distinct i low) 0 s.parts (whole_list s))
 
   sites_shown_distinct : AreDistinct shown_sites
   sites_shown_distinct =
       subst (λ (ns : List Name). AreDistinct ns) (sym (ap names_in (refusals_are 0 s.parts) ∙ block_names s sites_of 0 s.parts (whole_list s)))
-      (copies_distinct s fit (block_in s sites_of) (λ i low x h. wires_long s nets fit good each i low x (sites_shown_in i low x h)) (λ i low. own_sites_distinct i low) 0 s.parts (whole_list s))
+      (copies_distinct s fit (block_in s sites_of) (λ i low x h. wires_long s nets fit good each i low x (sites_shown_in i low x h))
+      (λ i low. own_sites_distinct i low) 0 s.parts (whole_list s))
 
   fed_long : (i : ℕ) → i < length s.parts → (x : Name) → is_among x (block_in s (fed_of s.wires) i) ≡ true → 2 ≤ length x
   fed_long i low z h =
@@ -311,7 +321,8 @@ module _ (s : NamedSystem) (nets : ℕ → Net) (fit : NamesFit s) (good : Wires
   inputs_shown_distinct = subst (λ (ns : List Name). AreDistinct ns) (inputs_in_order s) (distinct_front all_inputs all_inner all_differ)
 
   pub wires_distinct : AreDistinct (fed_wires ++ part_wires)
-  wires_distinct = subst (λ (ns : List Name). AreDistinct ns) wires_are (distinct_front all_wires all_registers (distinct_front (all_wires ++ all_registers) all_memories inner_distinct))
+  wires_distinct = subst (λ (ns : List Name). AreDistinct ns) wires_are
+      (distinct_front all_wires all_registers (distinct_front (all_wires ++ all_registers) all_memories inner_distinct))
 
   pub input_no_inner : (x : Name) → is_among x all_inputs ≡ true → is_among x all_inner ≡ true → ⊥
   input_no_inner x h k = contradicted (is_among x all_inputs) (no_input x k) h

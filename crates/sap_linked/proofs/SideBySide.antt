@@ -28,12 +28,14 @@ use Rattle.sap_linked.proofs.Own.{inputs_feed, wires_feed, wires_own, registers_
 use Rattle.sap_linked.proofs.EachInput.{at_inputs}
 
 -- what holds of all copies holds of those of part i
-at_copies : {X : Type 0} (items : ℕ → List X) (copy : (Name → Name) → X → X) (P : X → Type 0) (o : Order) (k i : ℕ) (ps : List Part) → AllByRecursion P (copies_of items copy k ps) → i < length ps
+at_copies : {X : Type 0} (items : ℕ → List X) (copy : (Name → Name) → X → X) (P : X → Type 0) (o : Order) (k i : ℕ) (ps : List Part)
+    → AllByRecursion P (copies_of items copy k ps) → i < length ps
     → AllByRecursion (λ x. P (copy (in_part (get_or ps i (no_part o)).name) x)) (items (k + i))
 at_copies items copy P o k i [] a low = absurd (omega (arith, low))
 at_copies {X} items copy P o k zero (p ∷ ps) a low =
     let same : k ≡ k + 0 = omega arith in
-    subst (λ (n : ℕ). AllByRecursion (λ x. P (copy (in_part p.name) x)) (items n)) same (all_of_map P (copy (in_part p.name)) (items k) (all_parts P (map (copy (in_part p.name)) (items k)) (copies_of items copy (suc k) ps) a).0)
+    subst (λ (n : ℕ). AllByRecursion (λ x. P (copy (in_part p.name) x)) (items n)) same
+    (all_of_map P (copy (in_part p.name)) (items k) (all_parts P (map (copy (in_part p.name)) (items k)) (copies_of items copy (suc k) ps) a).0)
 at_copies {X} items copy P o k (suc i) (p ∷ ps) a low =
     let same : suc k + i ≡ k + suc i = omega arith in
     subst (λ (n : ℕ). AllByRecursion (λ x. P (copy (in_part (get_or ps i (no_part o)).name) x)) (items n)) same
@@ -42,9 +44,11 @@ at_copies {X} items copy P o k (suc i) (p ∷ ps) a low =
 from_zero : (n : ℕ) → 0 + n ≡ n
 from_zero n = omega arith
 
-pub of_first : {X : Type 0} (items : ℕ → List X) (copy : (Name → Name) → X → X) (P : X → Type 0) (s : NamedSystem) (i : ℕ) → AllByRecursion P (copies_of items copy 0 s.parts) → i < length s.parts
+pub of_first : {X : Type 0} (items : ℕ → List X) (copy : (Name → Name) → X → X) (P : X → Type 0) (s : NamedSystem) (i : ℕ)
+    → AllByRecursion P (copies_of items copy 0 s.parts) → i < length s.parts
     → AllByRecursion (λ x. P (copy (in_part (part_at s i).name) x)) (items i)
-of_first items copy P s i a low = subst (λ (n : ℕ). AllByRecursion (λ x. P (copy (in_part (part_at s i).name) x)) (items n)) (from_zero i) (at_copies items copy P s.order 0 i s.parts a low)
+of_first items copy P s i a low = subst (λ (n : ℕ). AllByRecursion (λ x. P (copy (in_part (part_at s i).name) x)) (items n)) (from_zero i)
+    (at_copies items copy P s.order 0 i s.parts a low)
 
 -- and what holds of the copies of each part holds of all
 to_copies : {X : Type 0} (items : ℕ → List X) (copy : (Name → Name) → X → X) (P : X → Type 0) (o : Order) (k : ℕ) (ps : List Part)
@@ -65,7 +69,8 @@ to_all items copy P s h =
     (λ i low. subst (λ (n : ℕ). AllByRecursion (λ x. P (copy (in_part (part_at s i).name) x)) (items n)) (sym (from_zero i)) (h i low))
 
 -- what holds of those that pass a test and of the others holds of all
-pub of_two : {X : Type 0} (test : X → Bool) (P : X → Type 0) (xs : List X) → AllByRecursion P (filter test xs) → AllByRecursion P (filter (λ x. not (test x)) xs) → AllByRecursion P xs
+pub of_two : {X : Type 0} (test : X → Bool) (P : X → Type 0) (xs : List X) → AllByRecursion P (filter test xs)
+    → AllByRecursion P (filter (λ x. not (test x)) xs) → AllByRecursion P xs
 of_two test P [] a b = tt
 of_two test P (x ∷ xs) a b =
     elim (cases_Bool (test x)) [
@@ -123,13 +128,16 @@ module _ (s : NamedSystem) (nets : ℕ → Net) (each : (i : ℕ) → i < length
         record {
           fed = inputs_fed;
           wires = of_first (λ i. (nets i).wires) copy_wire (λ (w : Wire). find (map (λ (w : Wire). (w.name, w)) whole.wires) w.name ≡ Some w) s i
-              (all_second (λ (w : Wire). find (map (λ (w : Wire). (w.name, w)) whole.wires) w.name ≡ Some w) (feeds s s.wires) (copies_of (λ i. (nets i).wires) copy_wire 0 s.parts) (wires_own whole rules)) low;
+              (all_second (λ (w : Wire). find (map (λ (w : Wire). (w.name, w)) whole.wires) w.name ≡ Some w) (feeds s s.wires)
+              (copies_of (λ i. (nets i).wires) copy_wire 0 s.parts) (wires_own whole rules)) low;
           registers = of_first (λ i. (nets i).registers) copy_register (λ (r : Register). find (map (λ (r : Register). (r.name, r)) whole.registers) r.name ≡ Some r) s i
               (let all = copies_of (λ i. (nets i).registers) copy_register 0 s.parts in
               let shown = λ (r : Register). is_among r.name (shown_names s) in
-              let two = all_parts (λ (r : Register). find (map (λ (r : Register). (r.name, r)) whole.registers) r.name ≡ Some r) (filter shown all) (filter (λ r. not (shown r)) all) (registers_own whole rules) in
+              let two = all_parts (λ (r : Register). find (map (λ (r : Register). (r.name, r)) whole.registers) r.name ≡ Some r)
+              (filter shown all) (filter (λ r. not (shown r)) all) (registers_own whole rules) in
               of_two shown (λ (r : Register). find (map (λ (r : Register). (r.name, r)) whole.registers) r.name ≡ Some r) all two.0 two.1) low;
-          memories = of_first (λ i. (nets i).memories) copy_memory (λ (m : Memory). find (map (λ (m : Memory). (m.name, m)) whole.memories) m.name ≡ Some m) s i (memories_own whole rules) low;
+          memories = of_first (λ i. (nets i).memories) copy_memory
+              (λ (m : Memory). find (map (λ (m : Memory). (m.name, m)) whole.memories) m.name ≡ Some m) s i (memories_own whole rules) low;
         }
 
 pub linked_net_links : LinkedNetLinks

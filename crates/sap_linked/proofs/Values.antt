@@ -36,7 +36,8 @@ use Rattle.sap_linked.proofs.Wider.{distinct_second}
 
 -- ---- of lists with names that differ
 
-values_of : (ms : Shapes) (es : Scope) → AreDistinct (map (λ (e : Name × ℕ). e.0) es) → AllByRecursion (λ e. IsWidth e.1) es → AllByRecursion (λ e. find ms e.0 ≡ None) es → AreValues ms es
+values_of : (ms : Shapes) (es : Scope) → AreDistinct (map (λ (e : Name × ℕ). e.0) es) → AllByRecursion (λ e. IsWidth e.1) es
+    → AllByRecursion (λ e. find ms e.0 ≡ None) es → AreValues ms es
 values_of ms [] d w f = tt
 values_of ms (e ∷ es) d w f = (w.0, find_absent es e.0 d.0, f.0, values_of ms es d.1 w.1 f.1)
 
@@ -55,7 +56,8 @@ memories_wide (e ∷ es) a = (a.0, memories_wide es a.2)
 -- ---- what holds of each input of each part holds of all inputs
 
 module _ (y : System) (P : Endpoint → Type 0) (h : (i x : ℕ) → IsPart y i → is_input (world_at y i) x ≡ true → P (endpoint i x)) where
-  of_entities : (i : ℕ) → IsPart y i → (x : ℕ) (es : List Entity) → ((j : ℕ) → get_or (world_at y i).entities (x + j) nothing ≡ get_or es j nothing) → AllByRecursion P (map (endpoint i) (inputs_from x es))
+  of_entities : (i : ℕ) → IsPart y i → (x : ℕ) (es : List Entity)
+      → ((j : ℕ) → get_or (world_at y i).entities (x + j) nothing ≡ get_or es j nothing) → AllByRecursion P (map (endpoint i) (inputs_from x es))
   of_entities i low x [] at = tt
   of_entities i low x (e ∷ es) at =
       let from : x ≡ x + 0 = omega arith in
@@ -92,9 +94,11 @@ module _ (s : NamedSystem) (nets : ℕ → Net) (fit : NamesFit s) (good : Wires
   -- ---- widths
 
   module _ (i : ℕ) (low : i < length s.parts) where
-    own_wide : AllByRecursion (λ (e : Name × ℕ). IsWidth e.1) (map {B = Name × ℕ} (λ (x : Input). (x.name, x.width)) (nets i).inputs) × AllByRecursion (λ (e : Name × ℕ). IsWidth e.1) (map {B = Name × ℕ} (λ (r : Register). (r.name, r.width)) (nets i).registers)
+    own_wide : AllByRecursion (λ (e : Name × ℕ). IsWidth e.1) (map {B = Name × ℕ} (λ (x : Input). (x.name, x.width)) (nets i).inputs)
+        × AllByRecursion (λ (e : Name × ℕ). IsWidth e.1) (map {B = Name × ℕ} (λ (r : Register). (r.name, r.width)) (nets i).registers)
     own_wide =
-        all_parts {X = Name × ℕ} (λ e. IsWidth e.1) (map {B = Name × ℕ} (λ (x : Input). (x.name, x.width)) (nets i).inputs) (map {B = Name × ℕ} (λ (r : Register). (r.name, r.width)) (nets i).registers)
+        all_parts {X = Name × ℕ} (λ e. IsWidth e.1) (map {B = Name × ℕ} (λ (x : Input). (x.name, x.width)) (nets i).inputs)
+        (map {B = Name × ℕ} (λ (r : Register). (r.name, r.width)) (nets i).registers)
         (values_wide (shapes (nets i)) (first_readable (nets i)) (each i low).netlist.values)
 
     pub input_wide : (x : ℕ) → is_input (world_at y i) x ≡ true → IsWidth (width_at y (endpoint i x)) × IsWidth (width_of s.order)
@@ -109,7 +113,8 @@ module _ (s : NamedSystem) (nets : ℕ → Net) (fit : NamesFit s) (good : Wires
 
     own_memories_wide : AllByRecursion (λ (m : Memory). IsWidth m.width) (nets i).memories
     own_memories_wide =
-        all_of_map {X = Memory} {Y = Name × (ℕ × ℕ)} (λ e. IsWidth e.1.0) (λ m. (m.name, (m.width, m.depth))) (nets i).memories (memories_wide (shapes (nets i)) (each i low).netlist.memory_shapes)
+        all_of_map {X = Memory} {Y = Name × (ℕ × ℕ)} (λ e. IsWidth e.1.0) (λ m. (m.name, (m.width, m.depth))) (nets i).memories
+        (memories_wide (shapes (nets i)) (each i low).netlist.memory_shapes)
 
   -- what holds of all registers holds of them in the netlist's order
   pub to_whole : (P : Register → Type 0) → AllByRecursion P (own_registers s nets fit good each) → AllByRecursion P whole.registers
@@ -118,13 +123,15 @@ module _ (s : NamedSystem) (nets : ℕ → Net) (fit : NamesFit s) (good : Wires
       let shown = λ (r : Register). is_among r.name (shown_names s) in
       all_append P (filter shown rs) (filter (λ r. not (shown r)) rs) (all_filter P shown rs a) (all_filter P (λ r. not (shown r)) rs a)
 
-  inputs_wide : (es : List Endpoint) → AllByRecursion (λ e. IsWidth (width_at y e) × IsWidth (width_of s.order)) es → AllByRecursion (λ (x : Input). IsWidth x.width) (inputs_for s es)
+  inputs_wide : (es : List Endpoint) → AllByRecursion (λ e. IsWidth (width_at y e) × IsWidth (width_of s.order)) es
+      → AllByRecursion (λ (x : Input). IsWidth x.width) (inputs_for s es)
   inputs_wide [] a = tt
   inputs_wide (e ∷ es) a = (a.0.0, (a.0.1, inputs_wide es a.1))
 
   all_wide : AllByRecursion (λ (e : Name × ℕ). IsWidth e.1) (first_readable whole)
   all_wide =
-      all_append {A = Name × ℕ} (λ e. IsWidth e.1) (map {B = Name × ℕ} (λ (x : Input). (x.name, x.width)) whole.inputs) (map {B = Name × ℕ} (λ (r : Register). (r.name, r.width)) whole.registers)
+      all_append {A = Name × ℕ} (λ e. IsWidth e.1) (map {B = Name × ℕ} (λ (x : Input). (x.name, x.width)) whole.inputs)
+      (map {B = Name × ℕ} (λ (r : Register). (r.name, r.width)) whole.registers)
       (map_of_all {X = Input} {Y = Name × ℕ} (λ e. IsWidth e.1) (λ x. (x.name, x.width)) whole.inputs
       (inputs_wide (free_inputs y) (each_free y (λ e. IsWidth (width_at y e) × IsWidth (width_of s.order)) (λ i x low is. input_wide i (is_low s nets fit good each i low) x is))))
       (map_of_all {X = Register} {Y = Name × ℕ} (λ e. IsWidth e.1) (λ r. (r.name, r.width)) whole.registers
@@ -137,15 +144,18 @@ module _ (s : NamedSystem) (nets : ℕ → Net) (fit : NamesFit s) (good : Wires
 
   pub first_named : map (λ (e : Name × ℕ). e.0) (first_readable whole) ≡ first_names
   first_named =
-      map_both {X = Name × ℕ} {Y = Name} (λ e. e.0) (map {B = Name × ℕ} (λ (x : Input). (x.name, x.width)) whole.inputs) (map {B = Name × ℕ} (λ (r : Register). (r.name, r.width)) whole.registers)
-      ∙ ap₂ (λ (xs ys : List Name). xs ++ ys) (entry_names (λ (x : Input). x.name) (λ x. x.width) whole.inputs) (entry_names (λ (r : Register). r.name) (λ r. r.width) whole.registers)
+      map_both {X = Name × ℕ} {Y = Name} (λ e. e.0) (map {B = Name × ℕ} (λ (x : Input). (x.name, x.width)) whole.inputs)
+      (map {B = Name × ℕ} (λ (r : Register). (r.name, r.width)) whole.registers)
+      ∙ ap₂ (λ (xs ys : List Name). xs ++ ys) (entry_names (λ (x : Input). x.name) (λ x. x.width) whole.inputs)
+      (entry_names (λ (r : Register). r.name) (λ r. r.width) whole.registers)
 
   first_distinct : AreDistinct first_names
   first_distinct =
       distinct_both (all_inputs s nets fit good each) (whole_registers s nets fit good each)
       (distinct_front (all_inputs s nets fit good each) (all_inner s nets fit good each) (all_differ s nets fit good each))
       (whole_registers_distinct s nets fit good each)
-      (λ x h. absent x (whole_registers s nets fit good each) (λ k. input_no_inner s nets fit good each x h (register_inner s nets fit good each x (sym (same_registers s nets fit good each x) ∙ k))))
+      (λ x h. absent x (whole_registers s nets fit good each)
+      (λ k. input_no_inner s nets fit good each x h (register_inner s nets fit good each x (sym (same_registers s nets fit good each x) ∙ k))))
 
   no_memory : (x : Name) → (is_among x (all_memories s nets fit good each) ≡ true → ⊥) → find (shapes whole) x ≡ None
   no_memory x h = not_found (λ (m : Memory). m.name) (λ m. (m.width, m.depth)) whole.memories x (absent x (all_memories s nets fit good each) h)
@@ -156,12 +166,14 @@ module _ (s : NamedSystem) (nets : ℕ → Net) (fit : NamesFit s) (good : Wires
 
   first_no_memory : AllByRecursion (λ (e : Name × ℕ). find (shapes whole) e.0 ≡ None) (first_readable whole)
   first_no_memory =
-      all_append {A = Name × ℕ} (λ e. find (shapes whole) e.0 ≡ None) (map {B = Name × ℕ} (λ (x : Input). (x.name, x.width)) whole.inputs) (map {B = Name × ℕ} (λ (r : Register). (r.name, r.width)) whole.registers)
+      all_append {A = Name × ℕ} (λ e. find (shapes whole) e.0 ≡ None) (map {B = Name × ℕ} (λ (x : Input). (x.name, x.width)) whole.inputs)
+      (map {B = Name × ℕ} (λ (r : Register). (r.name, r.width)) whole.registers)
       (map_of_all {X = Input} {Y = Name × ℕ} (λ e. find (shapes whole) e.0 ≡ None) (λ x. (x.name, x.width)) whole.inputs
       (all_of_map (λ x. find (shapes whole) x ≡ None) (λ (x : Input). x.name) whole.inputs (each_among (λ x. find (shapes whole) x ≡ None) (all_inputs s nets fit good each)
       (λ x h. no_memory x (λ k. input_no_inner s nets fit good each x h (memory_inner s nets fit good each x k))))))
       (map_of_all {X = Register} {Y = Name × ℕ} (λ e. find (shapes whole) e.0 ≡ None) (λ r. (r.name, r.width)) whole.registers
-      (all_of_map (λ x. find (shapes whole) x ≡ None) (λ (r : Register). r.name) whole.registers (each_among (λ x. find (shapes whole) x ≡ None) (whole_registers s nets fit good each)
+      (all_of_map (λ x. find (shapes whole) x ≡ None) (λ (r : Register). r.name) whole.registers
+      (each_among (λ x. find (shapes whole) x ≡ None) (whole_registers s nets fit good each)
       (λ x h. wire_no_memory x (among_behind x (all_wires s nets fit good each) (all_registers s nets fit good each) (sym (same_registers s nets fit good each x) ∙ h))))))
 
   pub whole_values : AreValues (shapes whole) (first_readable whole)

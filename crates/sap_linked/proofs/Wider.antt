@@ -30,7 +30,8 @@ pub apart_front : (xs ys : List Name) → AreDistinct (xs ++ ys) → (n : Name) 
 apart_front [] ys d n h = refl
 apart_front (x ∷ xs) ys d n h =
     elim (cases_Bool (bytes_eq n x)) [
-      | inl t ↦ absurd (let same = equal_of_bytes_eq n x t in let there : is_among x (xs ++ ys) ≡ true = subst (λ (m : Name). is_among m (xs ++ ys) ≡ true) same (among_behind n xs ys h) in let no = d.0 in cc)
+      | inl t ↦ absurd (let same = equal_of_bytes_eq n x t in let there : is_among x (xs ++ ys) ≡ true =
+          subst (λ (m : Name). is_among m (xs ++ ys) ≡ true) same (among_behind n xs ys h) in let no = d.0 in cc)
       | inr q ↦ rw q (apart_front xs ys d.1 n h)
     ]
 
@@ -48,7 +49,8 @@ module _ (s : NamedSystem) (nets : ℕ → Net) (ns : Shapes) where
 
   pub parts_wires : (rules : (i : ℕ) → i < length s.parts → IsNetlist (copy_at i)) → ((i : ℕ) → i < length s.parts → GrowsIn (shapes (copy_at i)) ns)
       → (k : ℕ) (ps : List Part) → Suffix s k ps → (sd : Scope) → ((i : ℕ) → k ≤ i → i < length s.parts → Grows (first_readable (copy_at i)) sd)
-      → ((x : Name) → is_among x (names_of (wires_from k ps)) ≡ true → (find sd x ≡ None) × (find ns x ≡ None)) → AreDistinct (names_of (wires_from k ps)) → AreWires ns sd (wires_from k ps)
+      → ((x : Name) → is_among x (names_of (wires_from k ps)) ≡ true → (find sd x ≡ None) × (find ns x ≡ None))
+      → AreDistinct (names_of (wires_from k ps)) → AreWires ns sd (wires_from k ps)
   parts_wires rules more k [] at sd grows fresh d = tt
   parts_wires rules more k (p ∷ ps) at sd grows fresh d =
       let low : k < length s.parts = (let e = at.1 in omega (arith, e)) in
@@ -59,7 +61,8 @@ module _ (s : NamedSystem) (nets : ℕ → Net) (ns : Shapes) where
       let own : AreWires (shapes (copy_at k)) (first_readable (copy_at k)) block =
       subst (λ (q : Part). AreWires (shapes (copy_at k)) (first_readable (copy_at k)) (map (copy_wire (in_part q.name)) (nets k).wires)) (this s k p ps at) (rules k low).assigns in
       let fresh_in = λ (x : Name) (h : is_among x (names_of block ++ names_of rest) ≡ true). fresh x (ap (is_among x) names ∙ h) in
-      let first = wires_grow (shapes (copy_at k)) ns (more k low) block (first_readable (copy_at k)) sd (grows k (omega arith) low) (λ x h. fresh_in x (among_front x (names_of block) (names_of rest) h)) own in
+      let first = wires_grow (shapes (copy_at k)) ns (more k low) block (first_readable (copy_at k)) sd (grows k (omega arith) low)
+      (λ x h. fresh_in x (among_front x (names_of block) (names_of rest) h)) own in
       wires_both ns block rest sd first
       (parts_wires rules more (suc k) ps (later s k p ps at) (readable_after sd block)
       (λ i from less n u h. readable_kept ns block sd first n u (grows i (omega (arith, from)) less n u h))

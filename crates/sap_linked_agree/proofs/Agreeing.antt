@@ -71,7 +71,8 @@ part_agrees y l i p same order is (a ∷ as') (b ∷ bs) h = (
   part_agrees y l i p same order is as' bs h.1,
 )
 
-part_is : (ls : Levels) (ds : List NamedDesign) (wires : List Wire) (i : ℕ) (d : DesignTree) → slice_get (trees ds) i ≡ Some d → part (linked ls (trees ds) wires) i ≡ program_of ls d
+part_is : (ls : Levels) (ds : List NamedDesign) (wires : List Wire) (i : ℕ) (d : DesignTree) → slice_get (trees ds) i ≡ Some d
+    → part (linked ls (trees ds) wires) i ≡ program_of ls d
 part_is ls ds wires i d at = found (trees ds) i at
   where
     found : (ts : List DesignTree) (i : ℕ) → slice_get ts i ≡ Some d → get_or (map (program_of ls) ts) i (Rattle.sap_link.specs.Systems.no_part (order_of ls)) ≡ program_of ls d
@@ -114,13 +115,15 @@ module _ (agree : LinkedRunsAgree) (parts : PartsOfLinkedRun) (keeps : DesignSta
           → CyclesStand named sites (seen_of (part_of ls d.design) n ws) (run_at i stream)
       stands_at stream f ws run =
           subst (λ (z : System). CyclesStand named sites (seen_of (part_of ls d.design) n ws) (run_of_part i (composite_run z stream))) (sym (same_system ls ds wires))
-          (subst (λ (p : Part). CyclesStand p.design p.sites (seen_of p n ws) (run_of_part i (composite_run (system_of s) stream))) d.part (stands.stands stream f ws run i low).cycles)
+          (subst (λ (p : Part). CyclesStand p.design p.sites (seen_of p n ws) (run_of_part i (composite_run (system_of s) stream))) d.part
+          (stands.stands stream f ws run i low).cycles)
 
       pub agrees : AllZip (CyclesAgree named sites l) (seen_of (part_of ls d.design) n vs) (seen_of (part_of ls d.design) n us)
       agrees =
           each_agrees named sites l (seen_of (part_of ls d.design) n vs) (seen_of (part_of ls d.design) n us) (run_at i a) (run_at i b)
           (stands_at a fa vs rv) (stands_at b fb us ru) (states a (fits a fa)) (states b (fits b fb))
-          (part_agrees y l i named.program (part_is ls ds wires i d.design.design d.tree) refl d.low (composite_run y a) (composite_run y b) (agree ls (trees ds) wires laws well l a b same))
+          (part_agrees y l i named.program (part_is ls ds wires i d.design.design d.tree) refl d.low (composite_run y a) (composite_run y b)
+          (agree ls (trees ds) wires laws well l a b same))
 
       pub looks_alike : AllZip (CyclesLookAlike named sites l) (seen_of (part_of ls d.design) n vs) (seen_of (part_of ls d.design) n us)
       looks_alike =

@@ -73,7 +73,8 @@ module _ (s : NamedSystem) where
       subst (λ (xs : List Shown). AllByRecursion HasName xs) (sym (refusals_are 0 s.parts))
       (block_each s sites_of HasName (λ i low.
       sites_each (λ (p : Shown). HasName (in_part (part_at s i).name p.0, p.1)) (part_at s i).sites (λ j from to.
-      (named_in i low (refused_name j) (refusal_of j from to), named_in i low (refused_level_name j) (level_of j from to))) 1 (part_at s i).sites (omega arith) (omega arith)) 0 s.parts (whole_list s))
+      (named_in i low (refused_name j) (refusal_of j from to), named_in i low (refused_level_name j) (level_of j from to))) 1
+      (part_at s i).sites (omega arith) (omega arith)) 0 s.parts (whole_list s))
 
   fed_named : AllByRecursion HasName (fed_inputs s.wires 0 s.parts)
   fed_named =
@@ -103,7 +104,8 @@ module _ (s : NamedSystem) (nets : ℕ → Net) (small : Net) (before : IsNetlis
   shows : AllByRecursion Shows (held_ports s)
   shows =
       both (λ (p : Shown). PortShows small p.1 p.0) (λ p. width_in small p.0 ≡ width_in given p.0) Shows (held_ports s) (λ p a b. (a, b))
-      (all_of_map (λ (p : Port). PortShows small p.kind p.name) port_of (held_ports s) (subst (λ (ps : List Port). AllByRecursion (λ (p : Port). PortShows small p.kind p.name) ps) alike.ports after.ports_show))
+      (all_of_map (λ (p : Port). PortShows small p.kind p.name) port_of (held_ports s)
+      (subst (λ (ps : List Port). AllByRecursion (λ (p : Port). PortShows small p.kind p.name) ps) alike.ports after.ports_show))
       (all_of_map (λ (p : Port). width_in small p.name ≡ width_in given p.name) port_of (held_ports s) alike.widths)
 
   wire_width : (n : Net) → IsNetlist n → (x : Name) (u : ℕ) → find (declared_by n).wires x ≡ Some u → width_in n x ≡ u
@@ -173,14 +175,16 @@ module _ (s : NamedSystem) (nets : ℕ → Net) (small : Net) (before : IsNetlis
 
   input_named : (x : Name) → is_among x (input_names small) ≡ true → IsPartName s x
   input_named x h =
-      among_each (λ x. IsPartName s x) (names_in (input_ports s.wires 0 s.parts)) (map_of_all (λ x. IsPartName s x) (λ (p : Shown). p.0) (input_ports s.wires 0 s.parts) (free_named s)) x
+      among_each (λ x. IsPartName s x) (names_in (input_ports s.wires 0 s.parts))
+      (map_of_all (λ x. IsPartName s x) (λ (p : Shown). p.0) (input_ports s.wires 0 s.parts) (free_named s)) x
       (sym (ap (is_among x) (ap (λ (is : List Input). map (λ (i : Input). i.name) is) alike.inputs ∙ inputs_in_order s)) ∙ h)
 
   port_named : (x : Name) → is_among x (port_names small) ≡ true → IsPartName s x
   port_named =
       among_each (λ x. IsPartName s x) (port_names small)
       (map_of_all (λ x. IsPartName s x) (λ (p : Port). p.name) small.ports
-      (subst (λ (ps : List Port). AllByRecursion (λ (p : Port). IsPartName s p.name) ps) (sym alike.ports) (map_of_all (λ (p : Port). IsPartName s p.name) port_of (held_ports s) (held_named s))))
+      (subst (λ (ps : List Port). AllByRecursion (λ (p : Port). IsPartName s p.name) ps) (sym alike.ports)
+      (map_of_all (λ (p : Port). IsPartName s p.name) port_of (held_ports s) (held_named s))))
 
   module _ (helping : NamesWires small) where
     abbrev IsKnown : Name → Type 0

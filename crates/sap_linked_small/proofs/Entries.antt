@@ -18,19 +18,24 @@ Kept = Name × (ℕ × ℕ)
 abbrev Stored : Type 0
 Stored = Name × (ℕ × (ℕ × ℕ))
 
-register_widths : (rs : List Register) → map {B = Name × ℕ} (λ (e : Kept). (e.0, e.1.0)) (map {B = Kept} (λ r. (r.name, (r.width, r.start))) rs) ≡ map {B = Name × ℕ} (λ r. (r.name, r.width)) rs
+register_widths : (rs : List Register) → map {B =
+    Name × ℕ} (λ (e : Kept). (e.0, e.1.0)) (map {B = Kept} (λ r. (r.name, (r.width, r.start))) rs) ≡ map {B = Name × ℕ} (λ r. (r.name, r.width)) rs
 register_widths [] = refl
 register_widths (r ∷ rs) = ap (λ (es : Scope). (r.name, r.width) ∷ es) (register_widths rs)
 
-memory_shapes : (ms : List Memory) → map {B = Name × (ℕ × ℕ)} (λ (e : Stored). (e.0, (e.1.0, e.1.1.0))) (map {B = Stored} (λ m. (m.name, (m.width, (m.depth, m.start)))) ms) ≡ map {B = Name × (ℕ × ℕ)} (λ m. (m.name, (m.width, m.depth))) ms
+memory_shapes : (ms : List Memory) → map {B =
+    Name × (ℕ × ℕ)} (λ (e : Stored). (e.0, (e.1.0, e.1.1.0))) (map {B = Stored} (λ m. (m.name, (m.width, (m.depth, m.start)))) ms)
+    ≡ map {B = Name × (ℕ × ℕ)} (λ m. (m.name, (m.width, m.depth))) ms
 memory_shapes [] = refl
 memory_shapes (m ∷ ms) = ap (λ (es : Shapes). (m.name, (m.width, m.depth)) ∷ es) (memory_shapes ms)
 
-register_starts : (rs : List Register) → map {B = Name × ℕ} (λ (e : Kept). (e.0, e.1.1)) (map {B = Kept} (λ r. (r.name, (r.width, r.start))) rs) ≡ map {B = Name × ℕ} (λ r. (r.name, r.start)) rs
+register_starts : (rs : List Register) → map {B =
+    Name × ℕ} (λ (e : Kept). (e.0, e.1.1)) (map {B = Kept} (λ r. (r.name, (r.width, r.start))) rs) ≡ map {B = Name × ℕ} (λ r. (r.name, r.start)) rs
 register_starts [] = refl
 register_starts (r ∷ rs) = ap (λ (es : Scope). (r.name, r.start) ∷ es) (register_starts rs)
 
-memory_starts : (ms : List Memory) → map {B = Name × ℕ} (λ (e : Stored). (e.0, e.1.1.1)) (map {B = Stored} (λ m. (m.name, (m.width, (m.depth, m.start)))) ms) ≡ map {B = Name × ℕ} (λ m. (m.name, m.start)) ms
+memory_starts : (ms : List Memory) → map {B =
+    Name × ℕ} (λ (e : Stored). (e.0, e.1.1.1)) (map {B = Stored} (λ m. (m.name, (m.width, (m.depth, m.start)))) ms) ≡ map {B = Name × ℕ} (λ m. (m.name, m.start)) ms
 memory_starts [] = refl
 memory_starts (m ∷ ms) = ap (λ (es : Scope). (m.name, m.start) ∷ es) (memory_starts ms)
 
@@ -41,7 +46,8 @@ module _ (given small : Net) (declares : DeclaresAlike given small) where
 
   pub same_memories : shapes small ≡ shapes given
   same_memories =
-      sym (memory_shapes small.memories) ∙ ap (λ (es : List Stored). map {B = Name × (ℕ × ℕ)} (λ (e : Stored). (e.0, (e.1.0, e.1.1.0))) es) declares.memories ∙ memory_shapes given.memories
+      sym (memory_shapes small.memories) ∙ ap (λ (es : List Stored). map {B = Name × (ℕ × ℕ)} (λ (e : Stored). (e.0, (e.1.0, e.1.1.0))) es)
+      declares.memories ∙ memory_shapes given.memories
 
   pub same_register_names : register_names small ≡ register_names given
   same_register_names =

@@ -28,7 +28,8 @@ rest_same e = cc
 none_left : {x : Name} {xs : List Name} → x ∷ xs ≡ [] → ⊥
 none_left e = cc
 
-first_ports : (k : ℕ) (ps : List Port) (names : List Name) → map (λ (p : Port). p.name) ps ≡ take (length ps) names → map (λ (p : Port). p.name) (take k ps) ≡ take (length (take k ps)) names
+first_ports : (k : ℕ) (ps : List Port) (names : List Name) → map (λ (p : Port). p.name) ps ≡ take (length ps) names
+    → map (λ (p : Port). p.name) (take k ps) ≡ take (length (take k ps)) names
 first_ports zero [] names h = refl
 first_ports zero (p ∷ ps) names h = refl
 first_ports (suc k) [] names h = refl
@@ -62,10 +63,12 @@ module _ (s : NamedSystem) where
   fed_no_inputs =
       subst (λ (xs : List Shown). AllByRecursion (λ (p : Shown). is_input p.1 ≡ false) xs) (sym (fed_are s.wires 0 s.parts))
       (block_each s (fed_of s.wires) (λ (p : Shown). is_input p.1 ≡ false) (λ i low.
-      pairs_each (λ (p : Shown). is_input p.1 ≡ false) (is_fed_input s.wires (part_at s i) i) kind.Wire (part_at s i).design (λ x is. (refl, refl)) 0 (world (part_at s i).design).entities) 0 s.parts (whole_list s))
+      pairs_each (λ (p : Shown). is_input p.1 ≡ false) (is_fed_input s.wires (part_at s i) i) kind.Wire (part_at s i).design
+      (λ x is. (refl, refl)) 0 (world (part_at s i).design).entities) 0 s.parts (whole_list s))
 
   module _ (n : Net) (held : n.ports ≡ map port_of (held_ports s)) where
-    inputs_are : map (λ (p : Port). p.name) (filter (λ (p : Port). is_input p.kind) (without_fed s n).ports) ≡ map (λ (p : Port). p.name) (filter (λ (p : Port). is_input p.kind) n.ports)
+    inputs_are : map (λ (p : Port). p.name) (filter (λ (p : Port). is_input p.kind) (without_fed s n).ports)
+        ≡ map (λ (p : Port). p.name) (filter (λ (p : Port). is_input p.kind) n.ports)
     inputs_are =
         ap (λ (ps : List Port). map (λ (p : Port). p.name) (filter (λ (p : Port). is_input p.kind) (take (length (linked_ports s)) ps))) held
         ∙ ap (λ (ps : List Port). map (λ (p : Port). p.name) (filter (λ (p : Port). is_input p.kind) ps)) (front (linked_ports s) (fed_inputs s.wires 0 s.parts))
@@ -91,16 +94,27 @@ module _ (s : NamedSystem) where
           writes = rules.writes;
         }
       where
-        shows : AllByRecursion (λ (p : Port). PortShows n p.kind p.name) (without_fed s n).ports → AllByRecursion (λ (p : Port). PortShows (without_fed s n) p.kind p.name) (without_fed s n).ports
+        shows : AllByRecursion (λ (p : Port). PortShows n p.kind p.name) (without_fed s n).ports
+            → AllByRecursion (λ (p : Port). PortShows (without_fed s n) p.kind p.name) (without_fed s n).ports
         shows a = a
 
   -- ---- its runs are those of the netlist with them
 
   cycle_back : (n : Net) (before : Option Valuation) (xs : List ℕ) (v : Valuation) → IsCycle (without_fed s n) before xs v → IsCycle n before xs v
   cycle_back n None xs v c =
-      record { begins = c.begins; given = c.given; valuation = record { within = record { value = c.valuation.within.value; cell = c.valuation.within.cell }; equations = c.valuation.equations } }
+      record {
+        begins = c.begins;
+        given = c.given;
+        valuation =
+            record { within = record { value = c.valuation.within.value; cell = c.valuation.within.cell }; equations = c.valuation.equations };
+      }
   cycle_back n (Some p) xs v c =
-      record { begins = c.begins; given = c.given; valuation = record { within = record { value = c.valuation.within.value; cell = c.valuation.within.cell }; equations = c.valuation.equations } }
+      record {
+        begins = c.begins;
+        given = c.given;
+        valuation =
+            record { within = record { value = c.valuation.within.value; cell = c.valuation.within.cell }; equations = c.valuation.equations };
+      }
 
   pub run_back : (n : Net) (before : Option Valuation) (xss : List (List ℕ)) (vs : List Valuation) → IsRunAfter (without_fed s n) before xss vs → IsRunAfter n before xss vs
   run_back n before [] [] r = tt

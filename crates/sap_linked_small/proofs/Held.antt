@@ -20,7 +20,8 @@ use Rattle.sap_linked.proofs.Ports.{blocks, fed_are, fed_of, free_of, inputs_are
 
 -- ---- of one part
 
-pairs_at : (P : Shown → Type 0) (picks : ℕ → Bool) (k : PortKind) (d : Named) (n : ℕ) (es : List Entity) → AllByRecursion P (pairs_of picks k d n es) → (j : ℕ) → j < length es → picks (n + j) ≡ true
+pairs_at : (P : Shown → Type 0) (picks : ℕ → Bool) (k : PortKind) (d : Named) (n : ℕ) (es : List Entity)
+    → AllByRecursion P (pairs_of picks k d n es) → (j : ℕ) → j < length es → picks (n + j) ≡ true
     → P (value_name (name d (n + j)), k) × P (tag_name (name d (n + j)), k)
 pairs_at P picks k d n [] a j low is = absurd (omega (arith, low))
 pairs_at P picks k d n (e ∷ es) a zero low is =
@@ -93,7 +94,8 @@ module _ (s : NamedSystem) (P : Shown → Type 0) (all : AllByRecursion P (held_
         subst (λ (m : ℕ). P (f (value_name (name d m)), k) × P (f (tag_name (name d m)), k)) same
         (pairs_at Behind picks k d 0 (world d).entities a x (input_low (world d).entities x is) (ap picks same ∙ picked))
 
-    pub at_free : (x : ℕ) → is_input (world d) x ≡ true → not (is_fed s.wires (endpoint i x)) ≡ true → P (f (value_name (name d x)), kind.Input) × P (f (tag_name (name d x)), kind.Input)
+    pub at_free : (x : ℕ) → is_input (world d) x ≡ true → not (is_fed s.wires (endpoint i x)) ≡ true
+        → P (f (value_name (name d x)), kind.Input) × P (f (tag_name (name d x)), kind.Input)
     at_free x is none =
         at_pair kind.Input (is_free s.wires (part_at s i) i)
         (block_at s (free_of s.wires) P 0 s.parts (whole_list s) (subst (λ (xs : List Shown). AllByRecursion P xs) (inputs_are s.wires 0 s.parts) free) i (omega arith) low)

@@ -51,12 +51,14 @@ module _ (s : NamedSystem) (nets : ℕ → Net) (small : Net) (declares : Declar
     at_register : (x : Name) (u : ℕ) → find (declared_by given).registers x ≡ Some u → (observed small w).value x ≡ (observed given v).value x
     at_register =
         at_name (λ (r : Register). r.name) (λ r. r.width) (λ x. (observed small w).value x ≡ (observed given v).value x) given.registers
-        (all_follow (λ (r : Register). (observed given v).value r.name ≡ (observed small w).value r.name) (λ r. (observed small w).value r.name ≡ (observed given v).value r.name) given.registers (λ r h. sym h) same.registers)
+        (all_follow (λ (r : Register). (observed given v).value r.name ≡ (observed small w).value r.name)
+        (λ r. (observed small w).value r.name ≡ (observed given v).value r.name) given.registers (λ r h. sym h) same.registers)
 
     at_cell : (x : Name) (t : ℕ × ℕ) → find (declared_by given).memories x ≡ Some t → (i : ℕ) → (observed small w).cell x i ≡ (observed given v).cell x i
     at_cell =
         at_name (λ (m : Memory). m.name) (λ m. (m.width, m.depth)) (λ x. (i : ℕ) → (observed small w).cell x i ≡ (observed given v).cell x i) given.memories
-        (all_follow (λ (m : Memory). (i : ℕ) → (observed given v).cell m.name i ≡ (observed small w).cell m.name i) (λ m. (i : ℕ) → (observed small w).cell m.name i ≡ (observed given v).cell m.name i) given.memories
+        (all_follow (λ (m : Memory). (i : ℕ) → (observed given v).cell m.name i ≡ (observed small w).cell m.name i) (λ m. (i : ℕ)
+        → (observed small w).cell m.name i ≡ (observed given v).cell m.name i) given.memories
         (λ m h i. sym (h i)) same.memories)
 
     abbrev Seen : Name → Type 0
@@ -77,7 +79,8 @@ module _ (s : NamedSystem) (nets : ℕ → Net) (small : Net) (declares : Declar
       rest : DeclaresPart f d (width_of s.order) (part_at s i).sites (declared_by (without_fed s given))
       rest = (declares.parts i low).rest
 
-      cycle_stands : (t : Store) (rs : List Refusal) → StandsFor d (part_at s i).sites (through f (observed given v)) t rs → StandsFor d (part_at s i).sites (through f (observed small w)) t rs
+      cycle_stands : (t : Store) (rs : List Refusal) → StandsFor d (part_at s i).sites (through f (observed given v)) t rs
+          → StandsFor d (part_at s i).sites (through f (observed small w)) t rs
       cycle_stands t rs h =
           record {
             register_values = λ x is. at_register _ _ (rest.registers x is).0 ∙ h.register_values x is;
@@ -107,7 +110,8 @@ module _ (s : NamedSystem) (nets : ℕ → Net) (small : Net) (declares : Declar
     abbrev g : Name → Name
     g = in_part (part_at s i).name
 
-    cycles_stand : (vs ws : List Valuation) (run : List After) → AllZip (ShowsAlike given small) vs ws → CyclesStand e (part_at s i).sites (map (through g) (map (observed given) vs)) run
+    cycles_stand : (vs ws : List Valuation) (run : List After) → AllZip (ShowsAlike given small) vs ws
+        → CyclesStand e (part_at s i).sites (map (through g) (map (observed given) vs)) run
         → CyclesStand e (part_at s i).sites (map (through g) (map (observed small) ws)) run
     cycles_stand [] [] run a c = c
     cycles_stand [] (w ∷ ws) run a c = absurd a

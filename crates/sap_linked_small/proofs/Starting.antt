@@ -67,17 +67,20 @@ module _ (s : NamedSystem) (nets : ℕ → Net) (small : Net) (before : IsNetlis
       both (λ (w : Wire). Feeds n w.name w.width) (λ w. is_among (f w.name) (register_names given) ≡ false) (λ w. StartsAlike w.name) n.wires
       (λ w own there. neither w.name own.unclocked there) (wires_feed n net.netlist)
       (each_found (λ (w : Wire). w.name) (λ (w : Wire). f w.name) (copy_wire f) (λ w. is_among w.name (register_names given) ≡ false) given.wires n.wires
-      (all_follow (λ (w : Wire). Feeds given w.name w.width) (λ w. is_among w.name (register_names given) ≡ false) given.wires (λ w h. h.unclocked) (wires_feed given before)) part.wires)
+      (all_follow (λ (w : Wire). Feeds given w.name w.width) (λ w. is_among w.name (register_names given) ≡ false) given.wires
+      (λ w h. h.unclocked) (wires_feed given before)) part.wires)
 
   registers_start : AllByRecursion (λ (r : Register). StartsAlike r.name) n.registers
   registers_start =
-      both (λ (r : Register). find (map (λ (r : Register). (r.name, r)) n.registers) r.name ≡ Some r) (λ r. find (map (λ (r : Register). (r.name, r)) given.registers) (f r.name) ≡ Some (copy_register f r)) (λ r. StartsAlike r.name) n.registers
+      both (λ (r : Register). find (map (λ (r : Register). (r.name, r)) n.registers) r.name ≡ Some r)
+      (λ r. find (map (λ (r : Register). (r.name, r)) given.registers) (f r.name) ≡ Some (copy_register f r)) (λ r. StartsAlike r.name) n.registers
       (λ r own there. register_start n r.name r own ∙ sym (same_number given small alike (f r.name) ∙ register_start given (f r.name) (copy_register f r) there))
       (registers_own n net.netlist) part.registers
 
   memories_start : AllByRecursion (λ (m : Memory). initial_cell n m.name ≡ initial_cell small (f m.name)) n.memories
   memories_start =
-      both (λ (m : Memory). find (map (λ (m : Memory). (m.name, m)) n.memories) m.name ≡ Some m) (λ m. find (map (λ (m : Memory). (m.name, m)) given.memories) (f m.name) ≡ Some (copy_memory f m)) (λ m. initial_cell n m.name ≡ initial_cell small (f m.name)) n.memories
+      both (λ (m : Memory). find (map (λ (m : Memory). (m.name, m)) n.memories) m.name ≡ Some m)
+      (λ m. find (map (λ (m : Memory). (m.name, m)) given.memories) (f m.name) ≡ Some (copy_memory f m)) (λ m. initial_cell n m.name ≡ initial_cell small (f m.name)) n.memories
       (λ m own there. memory_start n m.name m own ∙ sym (same_cell given small alike (f m.name) ∙ memory_start given (f m.name) (copy_memory f m) there))
       (memories_own n net.netlist) part.memories
 

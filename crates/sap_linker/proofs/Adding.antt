@@ -79,7 +79,8 @@ module _ (made : List LinkedPart) (listed : List Part) (added : List AddedPart) 
     over all = all_over made (subst (λ (ps : List Pair). AllByRecursion Stands ps) (sym same) (stand listed added all))
 
 -- what holds of parts as they are handed on, said of what was added
-pub carried : (P : Levels → List NamedDesign → List Net → Listing → Type 0) (made : List LinkedPart) (a b : Adding) → map design_with_net made ≡ under_names a.system.parts a.parts → a ≡ b
+pub carried : (P : Levels → List NamedDesign → List Net → Listing → Type 0) (made : List LinkedPart) (a b : Adding)
+    → map design_with_net made ≡ under_names a.system.parts a.parts → a ≡ b
     → P a.levels (designs_of made) (nets_of made) a.system → P b.levels (added_designs b) (added_nets b) b.system
 carried P made a b same is holds =
     subst (λ (x : Adding). P x.levels (added_designs x) (added_nets x) x.system) is

@@ -55,9 +55,11 @@ counted ls wires (p ∷ parts) a k =
     split_pairs wires q k tag 0 (world q.design).entities
     ∙ ap (λ (is : List Input). length is) (sym (inputs_are q.design tag q.sites p.netlist.now a.0.net.netlist a.0.net.stands.interface)) in
     let one : length (ports_in q fed ++ fed_inputs wires (suc k) rest) ≡ length fed + length (fed_inputs wires (suc k) rest) =
-    both_lengths (ports_in q fed) (fed_inputs wires (suc k) rest) ∙ ap (λ n. n + length (fed_inputs wires (suc k) rest)) (length_map (λ (port : Shown). (in_part q.name port.0, port.1)) fed) in
+    both_lengths (ports_in q fed) (fed_inputs wires (suc k) rest)
+    ∙ ap (λ n. n + length (fed_inputs wires (suc k) rest)) (length_map (λ (port : Shown). (in_part q.name port.0, port.1)) fed) in
     let other : length (ports_in q free ++ input_ports wires (suc k) rest) ≡ length free + length (input_ports wires (suc k) rest) =
-    both_lengths (ports_in q free) (input_ports wires (suc k) rest) ∙ ap (λ n. n + length (input_ports wires (suc k) rest)) (length_map (λ (port : Shown). (in_part q.name port.0, port.1)) free) in
+    both_lengths (ports_in q free) (input_ports wires (suc k) rest)
+    ∙ ap (λ n. n + length (input_ports wires (suc k) rest)) (length_map (λ (port : Shown). (in_part q.name port.0, port.1)) free) in
     let later = counted ls wires parts a.1 (suc k) in
     omega (arith, own, one, other, later)
 

@@ -16,12 +16,14 @@ use Rattle.sap_joined.specs.Systems.{feed_of, nets_from, JoinedIsLinked}
 use Rattle.sap_linker.specs.declared.parts.LinkedPart.{LinkedPart}
 use Rattle.sap_linker.specs.Given.{named_net, designs_of, net_at, AreOver}
 
-pub each_stands : (ls : Levels) (parts : List LinkedPart) → AreOver ls parts → (i : ℕ) (d : NamedDesign) → slice_get (designs_of parts) i ≡ Some d → IsNetOfDesign ls d.design (net_at parts i)
+pub each_stands : (ls : Levels) (parts : List LinkedPart) → AreOver ls parts → (i : ℕ) (d : NamedDesign)
+    → slice_get (designs_of parts) i ≡ Some d → IsNetOfDesign ls d.design (net_at parts i)
 each_stands ls [] a i d h = absurd (none-some d h)
 each_stands ls (p ∷ parts) a zero d h = subst (λ (e : NamedDesign). IsNetOfDesign ls e.design p.netlist.now) (same_Some _ d h) a.0.net
 each_stands ls (p ∷ parts) a (suc i) d h = each_stands ls parts a.1 i d h
 
-same_nets : (ls : Levels) (nets : ℕ → Net) (k : ℕ) (parts : List LinkedPart) → ((j : ℕ) → nets (k + j) ≡ net_at parts j) → map named_net parts ≡ nets_from nets k (map (part_of ls) (designs_of parts))
+same_nets : (ls : Levels) (nets : ℕ → Net) (k : ℕ) (parts : List LinkedPart) → ((j : ℕ) → nets (k + j) ≡ net_at parts j)
+    → map named_net parts ≡ nets_from nets k (map (part_of ls) (designs_of parts))
 same_nets ls nets k [] at = refl
 same_nets ls nets k (p ∷ parts) at =
     let here : p.netlist.now ≡ nets k = sym (at 0) ∙ ap nets (omega arith) in
@@ -35,7 +37,8 @@ module _ (ls : Levels) (parts : List LinkedPart) (wires : List Wire) (over : Are
   pub joined_nets : NamesFit s → JoinedIsLinked
       → joined (width_of (order_of ls)) (map named_net parts) (map (feed_of (named_system ls (designs_of parts) [])) wires) ≡ linked_net s (net_at parts)
   joined_nets fit tie =
-      ap (λ (ps : List NamedNet). joined (width_of (order_of ls)) ps (map (feed_of s) wires)) (same_nets ls (net_at parts) 0 parts (λ j. let same : 0 + j ≡ j = omega arith in ap (net_at parts) same))
+      ap (λ (ps : List NamedNet). joined (width_of (order_of ls)) ps (map (feed_of s) wires))
+      (same_nets ls (net_at parts) 0 parts (λ j. let same : 0 + j ≡ j = omega arith in ap (net_at parts) same))
       ∙ sym (tie s (net_at parts) fit (subst (λ (y : System). WiresFit y) (same_system ls (designs_of parts) wires) well.wires_fit)
       (λ i low. each_net ls (designs_of parts) i (net_at parts i) low (λ d h. each_stands ls parts over i d h)))
 

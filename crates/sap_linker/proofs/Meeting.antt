@@ -42,13 +42,15 @@ width_of_match (what.Register u) g s = s.1
 width_of_match (what.Memory u depth) g s = s.1
 width_of_match what.State g s = s.1
 
-width_matched : (es : List Entity) (gs : List ProgramEntity) → AllMatch es gs → (x u : ℕ) → option_map (λ (e : Entity). declared_width e.what) (slice_get es x) ≡ Some u → (get_or gs x nothing).width ≡ u
+width_matched : (es : List Entity) (gs : List ProgramEntity) → AllMatch es gs → (x u : ℕ)
+    → option_map (λ (e : Entity). declared_width e.what) (slice_get es x) ≡ Some u → (get_or gs x nothing).width ≡ u
 width_matched [] gs a x u h = absurd (none-some u h)
 width_matched (e ∷ es) [] a x u h = absurd a
 width_matched (e ∷ es) (g ∷ gs) a zero u h = width_of_match e.what g a.0.what ∙ same_Some (declared_width e.what) u h
 width_matched (e ∷ es) (g ∷ gs) a (suc x) u h = width_matched es gs a.1 x u h
 
-name_here : (ls : Levels) (d : DesignTree) (x : ℕ) (called : Name) → option_map (λ (e : Entity). e.name.name) (slice_get (entities_of d) x) ≡ Some called → name (named_of ls d) x ≡ called
+name_here : (ls : Levels) (d : DesignTree) (x : ℕ) (called : Name)
+    → option_map (λ (e : Entity). e.name.name) (slice_get (entities_of d) x) ≡ Some called → name (named_of ls d) x ≡ called
 name_here ls d x called h =
     get_or_from_slice_get (map (λ (e : Entity). e.name.name) (entities_of d)) x called [] (slice_get-map (λ (e : Entity). e.name.name) (entities_of d) x ∙ h)
 
@@ -76,9 +78,11 @@ feed_is ls ds w f from to from_at to_at a b c d e g =
     let source = part_here ls ds [] w.from.part from from_at in
     let target = part_here ls ds [] w.to.part to to_at in
     let from_part : f.from_part ≡ (part_at s w.from.part).name = a ∙ ap (λ (p : Part). p.name) (sym source) in
-    let from_name : f.from ≡ name (part_at s w.from.part).design w.from.entity = sym (name_here ls from.design w.from.entity f.from b) ∙ ap (λ (p : Part). name p.design w.from.entity) (sym source) in
+    let from_name : f.from ≡ name (part_at s w.from.part).design w.from.entity = sym (name_here ls from.design w.from.entity f.from b)
+    ∙ ap (λ (p : Part). name p.design w.from.entity) (sym source) in
     let to_part : f.to_part ≡ (part_at s w.to.part).name = c ∙ ap (λ (p : Part). p.name) (sym target) in
-    let to_name : f.to ≡ name (part_at s w.to.part).design w.to.entity = sym (name_here ls to.design w.to.entity f.to d) ∙ ap (λ (p : Part). name p.design w.to.entity) (sym target) in
+    let to_name : f.to ≡ name (part_at s w.to.part).design w.to.entity = sym (name_here ls to.design w.to.entity f.to d)
+    ∙ ap (λ (p : Part). name p.design w.to.entity) (sym target) in
     let wide : f.width ≡ width_at (system_of s) w.to =
     sym (width_matched (entities_of to.design) (world_of ls to.design).entities (entities_match ls to.design) w.to.entity f.width e) ∙ sym (width_here ls ds [] w.to to to_at) in
     λ i. record { from_part = from_part i; from = from_name i; to_part = to_part i; to = to_name i; width = wide i; level = g i }
@@ -125,7 +129,8 @@ designs_formed ls (p ∷ parts) a = (a.0.formed, designs_formed ls parts a.1)
 pub are_of_designs : (ls : Levels) (ds : List NamedDesign) → AreOfDesigns ls (trees ds) (surroundings ls ds)
 are_of_designs ls ds = record { parts = each ds; levels = refl }
   where
-    each : (ds : List NamedDesign) → AllZip (λ (p : NamedPart) (d : DesignTree). p.entities ≡ entities_of d) (map (λ (d : NamedDesign). record { name = d.name; entities = entities_of d.design }) ds) (trees ds)
+    each : (ds : List NamedDesign) → AllZip (λ (p : NamedPart) (d : DesignTree). p.entities ≡ entities_of d)
+        (map (λ (d : NamedDesign). record { name = d.name; entities = entities_of d.design }) ds) (trees ds)
     each [] = tt
     each (d ∷ ds) = (refl, each ds)
 
@@ -153,4 +158,11 @@ module _ (ls : Levels) (ds : List NamedDesign) where
   wires_meet [] [] a = tt
   wires_meet [] (w ∷ ws) a = absurd a
   wires_meet (t ∷ ts) [] a = absurd a
-  wires_meet (t ∷ ts) (w ∷ ws) a = (record { from = there t.from (what.Register a.0.width) w.from a.0.from; to = there t.to (what.Input a.0.width) w.to a.0.to }, wires_meet ts ws a.1)
+  wires_meet (t ∷ ts) (w ∷ ws) a = (
+    record {
+      from = there t.from (what.Register a.0.width) w.from a.0.from;
+      to =
+          there t.to (what.Input a.0.width) w.to a.0.to;
+    },
+    wires_meet ts ws a.1,
+  )

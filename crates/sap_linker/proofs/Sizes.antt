@@ -277,7 +277,8 @@ module _ (ls : Levels) (wires : List SystemWire) (parts : List LinkedPart) (over
       let b = wires_calculated in
       let c = wires_shown (subst (λ n. IsNetlist n) same rules) in
       let d : length small.registers ≡ length whole.registers =
-      sym (length_map {B = Name × (ℕ × ℕ)} (λ (r : Register). (r.name, (r.width, r.start))) small.registers) ∙ ap length declares.registers ∙ length_map (λ (r : Register). (r.name, (r.width, r.start))) whole.registers in
+      sym (length_map {B = Name × (ℕ × ℕ)} (λ (r : Register). (r.name, (r.width, r.start))) small.registers) ∙ ap length declares.registers
+      ∙ length_map (λ (r : Register). (r.name, (r.width, r.start))) whole.registers in
       let e : length small.memories ≡ length whole.memories =
       sym (length_map {B = Name × (ℕ × (ℕ × ℕ))} (λ (m : Memory). (m.name, (m.width, (m.depth, m.start)))) small.memories) ∙ ap length declares.memories
       ∙ length_map (λ (m : Memory). (m.name, (m.width, (m.depth, m.start)))) whole.memories in

@@ -75,7 +75,11 @@ module _ (l m : Levels) (same : AreSame l m) where
   -- systems
 
   surroundings_in : (ds : List NamedDesign) → surroundings l ds ≡ surroundings m ds
-  surroundings_in ds = ap (λ (names : List (List ℕ)). record { parts = map (λ (d : NamedDesign). record { name = d.name; entities = entities_of d.design }) ds; levels = names }) same.names
+  surroundings_in ds = ap (λ (names : List (List ℕ)). record {
+    parts =
+        map (λ (d : NamedDesign). record { name = d.name; entities = entities_of d.design }) ds;
+    levels = names;
+  }) same.names
 
   part_same : (d : NamedDesign) → part_of l d ≡ part_of m d
   part_same d = ap (λ (n : Named). record { name = d.name; design = n; sites = site_count_of d.design }) (named_in l m same d.design)

@@ -54,7 +54,8 @@ module _ {A B : Type 0} (R : A → B → Type 0) where
   zip_more (z ∷ zs) (suc k) x [] y at all is = absurd all
   zip_more (z ∷ zs) (suc k) x (v ∷ vs) y at all is = (all.0, zip_more zs k x vs y at all.1 is)
 
-module _ {ls : Levels} {parts : List Part} {k : ℕ} {loaded : List LoadedPart} {a b c : Moment} (so_far : HaveLoaded ls parts k loaded a b) (p : Part) (at : slice_get parts k ≡ Some p) where
+module _ {ls : Levels} {parts : List Part} {k : ℕ} {loaded : List LoadedPart} {a b c : Moment} (so_far : HaveLoaded ls parts k loaded a b)
+    (p : Part) (at : slice_get parts k ≡ Some p) where
   has : (d : NamedDesign) → ReadsPart ls p d b c → HasPart ls a.told p d
   has d r = record {
     name = r.name;
@@ -94,7 +95,8 @@ all_loaded {ls = ls} {loaded = loaded} {a = a} so_far all =
     record { quiet = so_far.quiet; have = subst (λ (ps : List Part). AllZip (HasPart ls a.told) ps (loaded_designs loaded)) all so_far.have }
 
 -- the count as a loop has it, and the parts as they stand behind a push
-pub next : {ls : Levels} {parts : List Part} {k : ℕ} {loaded made : List LoadedPart} {a b : Moment} → HaveLoaded ls parts (suc k) loaded a b → made ≡ loaded → HaveLoaded ls parts (k + 1) made a b
+pub next : {ls : Levels} {parts : List Part} {k : ℕ} {loaded made : List LoadedPart} {a b : Moment} → HaveLoaded ls parts (suc k) loaded a b
+    → made ≡ loaded → HaveLoaded ls parts (k + 1) made a b
 next {ls = ls} {parts = parts} {k = k} {loaded = loaded} {made = made} {a = a} {b = b} so_far is =
     subst (λ (n : ℕ). HaveLoaded ls parts n made a b) (omega arith) (subst (λ (l : List LoadedPart). HaveLoaded ls parts (suc k) l a b) (sym is) so_far)
 

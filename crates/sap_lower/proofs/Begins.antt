@@ -39,18 +39,26 @@ env_zero widths v (x ∷ xs) n u f =
       | inr d ↦ rw d (env_zero widths v xs n u (rw d at f))
     ]
 
-env_registers : (widths : Name → ℕ) (v : Valuation) (before : Option Valuation) (rs : List Var) (sc : Scope) (es : List (Name × Part)) → AllByRecursion (λ x. v.value x.name ≡ first_number before x) rs → AllByRecursion (IsKnown widths v) rs → Env widths v sc es (λ n. 0) → Env widths v (scope_of rs ++ sc) (map named_entry rs ++ es) (register_number before rs)
+env_registers : (widths : Name → ℕ) (v : Valuation) (before : Option Valuation) (rs : List Var) (sc : Scope) (es : List (Name × Part))
+    → AllByRecursion (λ x. v.value x.name ≡ first_number before x) rs → AllByRecursion (IsKnown widths v) rs → Env widths v sc es (λ n. 0)
+    → Env widths v (scope_of rs ++ sc) (map named_entry rs ++ es) (register_number before rs)
 env_registers widths v before [] sc es a b env n u f = env n u f
 env_registers widths v before (x ∷ rs) sc es a b env n u f =
     elim (cases_Bool (bytes_eq x.name n)) [
       | inl t ↦
           let q : Some x.width ≡ Some u = rw t at f in
           let k : x.width ≡ u = cc in
-          rw t (record { shows = record { value = a.0; wide = b.0.0 ∙ k; width = k }; below = subst (λ (w : ℕ). first_number before x < 2 ^ w) k (subst (λ (y : ℕ). y < 2 ^ x.width) a.0 b.0.1) })
+          rw t (record {
+            shows = record { value = a.0; wide = b.0.0 ∙ k; width = k };
+            below =
+                subst (λ (w : ℕ). first_number before x < 2 ^ w) k (subst (λ (y : ℕ). y < 2 ^ x.width) a.0 b.0.1);
+          })
       | inr d ↦ rw d (env_registers widths v before rs sc es a.1 b.1 env n u (rw d at f))
     ]
 
-env_inputs : (s : Source) (widths : Name → ℕ) (v : Valuation) (before : Option Valuation) (is : List Var) (xs : List ℕ) (sc : Scope) (es : List (Name × Part)) → InputsAre v (map input_of is) xs → AllByRecursion (IsKnown widths v) is → Env widths v sc es (register_number before s.registers) → Env widths v (scope_of is ++ sc) (map named_entry is ++ es) (number_at_start s before is xs)
+env_inputs : (s : Source) (widths : Name → ℕ) (v : Valuation) (before : Option Valuation) (is : List Var) (xs : List ℕ) (sc : Scope)
+    (es : List (Name × Part)) → InputsAre v (map input_of is) xs → AllByRecursion (IsKnown widths v) is
+    → Env widths v sc es (register_number before s.registers) → Env widths v (scope_of is ++ sc) (map named_entry is ++ es) (number_at_start s before is xs)
 env_inputs s widths v before [] xs sc es a b env n u f = env n u f
 env_inputs s widths v before (i ∷ is) [] sc es a b env n u f = absurd a
 env_inputs s widths v before (i ∷ is) (x ∷ xs) sc es a b env n u f =
@@ -62,7 +70,9 @@ env_inputs s widths v before (i ∷ is) (x ∷ xs) sc es a b env n u f =
       | inr d ↦ rw d (env_inputs s widths v before is xs sc es a.1 b.1 env n u (rw d at f))
     ]
 
-pub env_first : (s : Source) (widths : Name → ℕ) (v : Valuation) (before : Option Valuation) (xs : List ℕ) → InputsAre v (map input_of s.inputs) xs → AllByRecursion (IsKnown widths v) s.inputs → AllByRecursion (λ x. v.value x.name ≡ first_number before x) s.registers → AllByRecursion (IsKnown widths v) s.registers
+pub env_first : (s : Source) (widths : Name → ℕ) (v : Valuation) (before : Option Valuation) (xs : List ℕ)
+    → InputsAre v (map input_of s.inputs) xs → AllByRecursion (IsKnown widths v) s.inputs
+    → AllByRecursion (λ x. v.value x.name ≡ first_number before x) s.registers → AllByRecursion (IsKnown widths v) s.registers
     → Env widths v (scope_of s.inputs ++ scope_of s.registers ++ scope_of s.wires) (first_entries s) (number_at_start s before s.inputs xs)
 env_first s widths v before xs given inputs starts registers =
     let zeros = env_zero widths v s.wires in
@@ -78,7 +88,9 @@ env_first s widths v before xs given inputs starts registers =
 abbrev pub shapes_list : List MemoryVariable → Shapes
 shapes_list ms = map (λ m. (m.name, (m.width, m.depth))) ms
 
-pub cells_first : (v : Valuation) (before : Option Valuation) (ms : List MemoryVariable) → AllByRecursion (λ m. (i : ℕ) → v.cell m.name i ≡ first_cell before m i) ms → (n : Name) (e : ℕ × ℕ) → find (shapes_list ms) n ≡ Some e → (i : ℕ) → v.cell n i ≡ cell_at_start before ms n i
+pub cells_first : (v : Valuation) (before : Option Valuation) (ms : List MemoryVariable)
+    → AllByRecursion (λ m. (i : ℕ) → v.cell m.name i ≡ first_cell before m i) ms → (n : Name) (e : ℕ × ℕ) → find (shapes_list ms) n ≡ Some e
+    → (i : ℕ) → v.cell n i ≡ cell_at_start before ms n i
 cells_first v before [] a n e f i = absurd (cc)
 cells_first v before (m ∷ ms) a n e f i =
     elim (cases_Bool (bytes_eq m.name n)) [
@@ -107,5 +119,10 @@ bits_of_depth (suc k) d b l p e =
     elim (cases_Bool (d == 2 ^ suc k)) [
       | inl t ↦ rw t (same_power (suc k) b (sym ((Decides-eqb d (2 ^ suc k)).0 t) ∙ e))
       | inr f ↦
-          rw f (bits_of_depth k d b (elim (cases_Bool (b == suc k)) [ inl q ↦ absurd (let r : b ≡ suc k = (Decides-eqb b (suc k)).0 q in let g : (d == 2 ^ suc k) ≡ true = (Decides-eqb d (2 ^ suc k)).1 (e ∙ ap (λ (n : ℕ). 2 ^ n) r) in cc) | inr q ↦ below_unequal b k l q ]) p e)
+          rw f (bits_of_depth k d b (elim (cases_Bool (b == suc k)) [
+            | inl q ↦
+                absurd (let r : b ≡ suc k = (Decides-eqb b (suc k)).0 q in
+                let g : (d == 2 ^ suc k) ≡ true = (Decides-eqb d (2 ^ suc k)).1 (e ∙ ap (λ (n : ℕ). 2 ^ n) r) in cc)
+            | inr q ↦ below_unequal b k l q
+          ]) p e)
     ]

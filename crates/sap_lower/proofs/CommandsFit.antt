@@ -95,7 +95,8 @@ commands_long ms (c ∷ cs) s = omega (arith, action_long ms s c.when c.act, com
 ports_grow : (ms : Shapes) (sc sd : Scope) (ps : List (Name × WritePort)) → Grows sc sd → PortsFit ms sc ps → PortsFit ms sd ps
 ports_grow ms sc sd ps g f m e h = port_grows sc sd g (port_of ps m) e.0 e.1 (f m e h)
 
-set_fits : (ms : Shapes) (sc vars : Scope) → NoHelpers ms → AllWide vars → (s : Lowering) (c : Term Name) (n : Name) (t : Term Name) (u : ℕ) → find vars n ≡ Some u → TermFine ms vars 1 c → TermFine ms vars u t → StateFits ms sc vars s → length (low_set ms s c n t).wires < 2 ^ 64
+set_fits : (ms : Shapes) (sc vars : Scope) → NoHelpers ms → AllWide vars → (s : Lowering) (c : Term Name) (n : Name) (t : Term Name) (u : ℕ)
+    → find vars n ≡ Some u → TermFine ms vars 1 c → TermFine ms vars u t → StateFits ms sc vars s → length (low_set ms s c n t).wires < 2 ^ 64
     → Lowered ms sc s.wires (low_set ms s c n t).wires (low_set ms s c n t).part u
 set_fits ms sc vars apart wide s c n t u found fc ft k l =
     let es = s.entries in
@@ -120,7 +121,9 @@ set_fits ms sc vars apart wide s c n t u found fc ft k l =
       width = p.width;
     }
 
-set_state_fits : (ms : Shapes) (sc vars : Scope) → NoHelpers ms → AllWide vars → (s : Lowering) (c : Term Name) (n : Name) (t : Term Name) (u : ℕ) → find vars n ≡ Some u → TermFine ms vars 1 c → TermFine ms vars u t → StateFits ms sc vars s → length (low_set ms s c n t).wires < 2 ^ 64
+set_state_fits : (ms : Shapes) (sc vars : Scope) → NoHelpers ms → AllWide vars
+    → (s : Lowering) (c : Term Name) (n : Name) (t : Term Name) (u : ℕ) → find vars n ≡ Some u → TermFine ms vars 1 c → TermFine ms vars u t
+    → StateFits ms sc vars s → length (low_set ms s c n t).wires < 2 ^ 64
     → StateFits ms sc vars (low_action ms s c (set n t))
 set_state_fits ms sc vars apart wide s c n t u found fc ft k l =
     let p = set_fits ms sc vars apart wide s c n t u found fc ft k l in
@@ -140,15 +143,21 @@ set_state_fits ms sc vars apart wide s c n t u found fc ft k l =
                 let uw : u ≡ w = cc in
                 let old = k.has n u found in
                 let z : present (replaced s.entries n y) n ≡ y = ap (λ o. unwrap_or o nothing) (replaced_same s.entries n y old.0 old.1) in
-                let there : IsOperand (readable_after sc m.wires) u (present (replaced s.entries n y) n).operand × ((present (replaced s.entries n y) n).width ≡ u) = rw z (p.operand, p.width) in
-                subst (λ (a : Name). IsOperand (readable_after sc m.wires) w (present (replaced s.entries n y) a).operand × ((present (replaced s.entries n y) a).width ≡ w)) nq (subst (λ (b : ℕ). IsOperand (readable_after sc m.wires) b (present (replaced s.entries n y) n).operand × ((present (replaced s.entries n y) n).width ≡ b)) uw there)
+                let there : IsOperand (readable_after sc m.wires) u (present (replaced s.entries n y) n).operand
+                × ((present (replaced s.entries n y) n).width ≡ u) = rw z (p.operand, p.width) in
+                subst (λ (a : Name). IsOperand (readable_after sc m.wires) w (present (replaced s.entries n y) a).operand
+                × ((present (replaced s.entries n y) a).width ≡ w)) nq
+                (subst (λ (b : ℕ). IsOperand (readable_after sc m.wires) b (present (replaced s.entries n y) n).operand
+                × ((present (replaced s.entries n y) n).width ≡ b)) uw there)
             | inr d ↦
                 let z : present (replaced s.entries n y) q ≡ present s.entries q = ap (λ o. unwrap_or o nothing) (replaced_other s.entries n q y d) in
                 rw z (em q w h)
           ];
     }
 
-put_state_fits : (ms : Shapes) (sc vars : Scope) → NoHelpers ms → AllCellsWide ms → (s : Lowering) (c : Term Name) (m : Name) (i t : Term Name) (w b : ℕ) → IsWidth b → find ms m ≡ Some (w, 2 ^ b) → TermFine ms vars 1 c → TermFine ms vars b i → TermFine ms vars w t → StateFits ms sc vars s → length (low_action ms s c (put m i t)).wires < 2 ^ 64
+put_state_fits : (ms : Shapes) (sc vars : Scope) → NoHelpers ms → AllCellsWide ms
+    → (s : Lowering) (c : Term Name) (m : Name) (i t : Term Name) (w b : ℕ) → IsWidth b → find ms m ≡ Some (w, 2 ^ b) → TermFine ms vars 1 c
+    → TermFine ms vars b i → TermFine ms vars w t → StateFits ms sc vars s → length (low_action ms s c (put m i t)).wires < 2 ^ 64
     → StateFits ms sc vars (low_action ms s c (put m i t))
 put_state_fits ms sc vars apart wide s c m i t w b ib found fc fi ft k len =
     let es = s.entries in
@@ -189,7 +198,8 @@ put_state_fits ms sc vars apart wide s c m i t w b ib found fc fi ft k len =
     let e' = plus_at ms sc x.wires 1 1 re refl apart t'.fits one_wide (oc, (refl, omega arith), px.enable) (omega (arith, ll, lj)) in
     let pe = port_grows sx se e'.grows p w (2 ^ b) px in
     let oi' = subst (λ (q : ℕ). IsOperand se q y.part.operand) bits (operand_grows sx se e'.grows b y.part.operand oi) in
-    let j' = plus_at ms sc e.wires p.bits p.bits rj refl apart e'.fits (subst (λ (q : ℕ). IsWidth q) bits ib) (operand_grows sx se e'.grows 1 z.part.operand oc, oi', pe.index) (omega (arith, ll)) in
+    let j' = plus_at ms sc e.wires p.bits p.bits rj refl apart e'.fits (subst (λ (q : ℕ). IsWidth q) bits ib)
+    (operand_grows sx se e'.grows 1 z.part.operand oc, oi', pe.index) (omega (arith, ll)) in
     let pj = port_grows se sj j'.grows p w (2 ^ b) pe in
     let ot = operand_grows se sj j'.grows w x.part.operand (operand_grows sx se e'.grows w x.part.operand t'.operand) in
     let ocj = operand_grows se sj j'.grows 1 z.part.operand (operand_grows sx se e'.grows 1 z.part.operand oc) in
@@ -217,18 +227,21 @@ put_state_fits ms sc vars apart wide s c m i t w b ib found fc fi ft k len =
                 let old = k.has_ports m (w, 2 ^ b) found in
                 let r : port_of (replaced s.ports m port) m ≡ port = ap (λ o. unwrap_or o no_port) (replaced_same s.ports m port old.0 old.1) in
                 let there : PortFits sl (port_of (replaced s.ports m port) m) w (2 ^ b) = rw r here in
-                subst (λ (a : Name). PortFits sl (port_of (replaced s.ports m port) a) q.0 q.1) mn (subst (λ (d : ℕ × ℕ). PortFits sl (port_of (replaced s.ports m port) m) d.0 d.1) eq there)
+                subst (λ (a : Name). PortFits sl (port_of (replaced s.ports m port) a) q.0 q.1) mn
+                (subst (λ (d : ℕ × ℕ). PortFits sl (port_of (replaced s.ports m port) m) d.0 d.1) eq there)
             | inr d ↦
                 let r : port_of (replaced s.ports m port) n ≡ port_of s.ports n = ap (λ o. unwrap_or o no_port) (replaced_other s.ports m n port d) in
                 rw r (port_grows s0 sl g0l (port_of s.ports n) q.0 q.1 (k.ports n q h))
           ];
     }
 
-action_fits : (ms : Shapes) (sc vars : Scope) → NoHelpers ms → AllWide vars → AllCellsWide ms → (s : Lowering) (c : Term Name) (a : Action) → TermFine ms vars 1 c → ActionOk ms vars a → StateFits ms sc vars s → length (low_action ms s c a).wires < 2 ^ 64 → StateFits ms sc vars (low_action ms s c a)
+action_fits : (ms : Shapes) (sc vars : Scope) → NoHelpers ms → AllWide vars → AllCellsWide ms → (s : Lowering) (c : Term Name) (a : Action)
+    → TermFine ms vars 1 c → ActionOk ms vars a → StateFits ms sc vars s → length (low_action ms s c a).wires < 2 ^ 64 → StateFits ms sc vars (low_action ms s c a)
 action_fits ms sc vars apart wide cells s c (set x t) fc f k l = set_state_fits ms sc vars apart wide s c x t f.0 f.1 fc f.2 k l
 action_fits ms sc vars apart wide cells s c (put m i t) fc f k l = put_state_fits ms sc vars apart cells s c m i t f.0 f.1 f.2 f.3 fc f.4 f.5 k l
 
-pub commands_fit : (ms : Shapes) (sc vars : Scope) → NoHelpers ms → AllWide vars → AllCellsWide ms → (cs : List Command) (s : Lowering) → AllByRecursion (CommandOk ms vars) cs → StateFits ms sc vars s → length (low_commands ms s cs).wires < 2 ^ 64 → StateFits ms sc vars (low_commands ms s cs)
+pub commands_fit : (ms : Shapes) (sc vars : Scope) → NoHelpers ms → AllWide vars → AllCellsWide ms → (cs : List Command) (s : Lowering)
+    → AllByRecursion (CommandOk ms vars) cs → StateFits ms sc vars s → length (low_commands ms s cs).wires < 2 ^ 64 → StateFits ms sc vars (low_commands ms s cs)
 commands_fit ms sc vars apart wide cells [] s f k l = k
 commands_fit ms sc vars apart wide cells (c ∷ cs) s f k l =
     let one = action_fits ms sc vars apart wide cells s c.when c.act f.0.0 f.0.1 k (omega (arith, commands_long ms cs (low_command ms s c))) in

@@ -42,7 +42,8 @@ no_ports s g [] a = tt
 no_ports s g (w ∷ ws) a =
     (subst (λ (n : Name). is_among n (variable_names s.inputs ++ s.ports) ≡ false) (sym a.0.2) (no_port s g a.0.0 a.0.1), no_ports s g ws a.1)
 
-each_copied : (ps : List Name) (es : List (Name × Part)) (ws : List Wire) (xs : List Var) → AllByRecursion (λ w. is_among w.name ps ≡ false) ws → AllByRecursion (λ w. is_among w.name ps ≡ true → (a : Operand) × (w.right ≡ Copy a)) (ws ++ map (out_wire es) xs)
+each_copied : (ps : List Name) (es : List (Name × Part)) (ws : List Wire) (xs : List Var)
+    → AllByRecursion (λ w. is_among w.name ps ≡ false) ws → AllByRecursion (λ w. is_among w.name ps ≡ true → (a : Operand) × (w.right ≡ Copy a)) (ws ++ map (out_wire es) xs)
 each_copied ps es [] [] d = tt
 each_copied ps es [] (x ∷ xs) d = (λ h. (_, refl), each_copied ps es [] xs tt)
 each_copied ps es (w ∷ ws) xs d = (λ h. absurd (let f = d.0 in cc), each_copied ps es ws xs d.1)

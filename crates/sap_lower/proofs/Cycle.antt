@@ -54,12 +54,14 @@ pub record Known (s : Source) : Type 0 where
   pub registers_differ : AreDistinct (variable_names s.registers)
 
 -- each wire is found at the end with its width
-gives_from : (widths : Name → ℕ) (v : Valuation) (ms : Shapes) (ws : List Wire) (sc : Scope) → AreWires ms sc ws → WidthsAre (readable_after sc ws) widths → Holds widths v ws → Gives widths v ws
+gives_from : (widths : Name → ℕ) (v : Valuation) (ms : Shapes) (ws : List Wire) (sc : Scope) → AreWires ms sc ws
+    → WidthsAre (readable_after sc ws) widths → Holds widths v ws → Gives widths v ws
 gives_from widths v ms [] sc f w h = tt
 gives_from widths v ms (x ∷ ws) sc f w h =
     (h.0, w x.name x.width (readable_kept ms ws _ f.4 x.name x.width (found_here x.name x.width sc)), gives_from widths v ms ws _ f.4 w h.1)
 
-known_from : (n : Net) (v : Valuation) → IsWithin n v → (xs : List Var) → AllByRecursion (λ x. find (readable n) x.name ≡ Some x.width) xs → AllByRecursion (IsKnown (width_of n) v) xs
+known_from : (n : Net) (v : Valuation) → IsWithin n v → (xs : List Var) → AllByRecursion (λ x. find (readable n) x.name ≡ Some x.width) xs
+    → AllByRecursion (IsKnown (width_of n) v) xs
 known_from n v w [] a = tt
 known_from n v w (x ∷ xs) a =
     ((widths_are n x.name x.width a.0, w.value x.name x.width a.0), known_from n v w xs a.1)
@@ -79,22 +81,27 @@ joined_all : {X : Type 0} (f g h : X → ℕ) (xs : List X) → AllByRecursion (
 joined_all f g h [] a b = tt
 joined_all f g h (x ∷ xs) a b = (a.0 ∙ b.0, joined_all f g h xs a.1 b.1)
 
-joined_all_at : {X : Type 0} (f g h : X → ℕ → ℕ) (xs : List X) → AllByRecursion (λ x. (i : ℕ) → f x i ≡ g x i) xs → AllByRecursion (λ x. (i : ℕ) → g x i ≡ h x i) xs → AllByRecursion (λ x. (i : ℕ) → f x i ≡ h x i) xs
+joined_all_at : {X : Type 0} (f g h : X → ℕ → ℕ) (xs : List X) → AllByRecursion (λ x. (i : ℕ) → f x i ≡ g x i) xs
+    → AllByRecursion (λ x. (i : ℕ) → g x i ≡ h x i) xs → AllByRecursion (λ x. (i : ℕ) → f x i ≡ h x i) xs
 joined_all_at f g h [] a b = tt
 joined_all_at f g h (x ∷ xs) a b = (λ i. a.0 i ∙ b.0 i, joined_all_at f g h xs a.1 b.1)
 
-registers_begin : (s : Source) → Known s → (p e : Option Valuation) (xs : List ℕ) (v : Valuation) → SameBefore s p e → IsCycle (lowered s) p xs v → AllByRecursion (λ x. v.value x.name ≡ first_number e x) s.registers
+registers_begin : (s : Source) → Known s → (p e : Option Valuation) (xs : List ℕ) (v : Valuation) → SameBefore s p e
+    → IsCycle (lowered s) p xs v → AllByRecursion (λ x. v.value x.name ≡ first_number e x) s.registers
 registers_begin s k None None xs v b c =
     let es = (last_lowering s).entries in
-    from_declared (λ x. v.value x.name ≡ x.start) s.registers s.ports k.registers_differ (all_of_map (λ r. v.value r.name ≡ r.start) (register_of es) (registers_declared s) c.begins.0)
+    from_declared (λ x. v.value x.name ≡ x.start) s.registers s.ports k.registers_differ
+    (all_of_map (λ r. v.value r.name ≡ r.start) (register_of es) (registers_declared s) c.begins.0)
 registers_begin s k None (Some e) xs v b c = absurd b
 registers_begin s k (Some p) None xs v b c = absurd b
 registers_begin s k (Some p) (Some e) xs v b c =
     let es = (last_lowering s).entries in
-    let a = from_declared (λ x. v.value x.name ≡ operand_value p (present es x.name).operand) s.registers s.ports k.registers_differ (all_of_map (λ r. v.value r.name ≡ operand_value p r.next) (register_of es) (registers_declared s) c.begins.0) in
+    let a = from_declared (λ x. v.value x.name ≡ operand_value p (present es x.name).operand) s.registers s.ports k.registers_differ
+    (all_of_map (λ r. v.value r.name ≡ operand_value p r.next) (register_of es) (registers_declared s) c.begins.0) in
     joined_all (λ (x : Var). v.value x.name) (λ x. operand_value p (present es x.name).operand) (λ x. e.value x.name) s.registers a b.registers
 
-cells_begin : (s : Source) (p e : Option Valuation) (xs : List ℕ) (v : Valuation) → SameBefore s p e → IsCycle (lowered s) p xs v → AllByRecursion (λ m. (i : ℕ) → v.cell m.name i ≡ first_cell e m i) s.memories
+cells_begin : (s : Source) (p e : Option Valuation) (xs : List ℕ) (v : Valuation) → SameBefore s p e → IsCycle (lowered s) p xs v
+    → AllByRecursion (λ m. (i : ℕ) → v.cell m.name i ≡ first_cell e m i) s.memories
 cells_begin s None None xs v b c = all_of_map (λ m. (i : ℕ) → v.cell m.name i ≡ m.start) (memory_of (last_lowering s).ports) s.memories c.begins.1
 cells_begin s None (Some e) xs v b c = absurd b
 cells_begin s (Some p) None xs v b c = absurd b
@@ -115,36 +122,49 @@ all_below : (widths : Name → ℕ) (v : Valuation) (xs : List Var) → AllByRec
 all_below widths v [] a = tt
 all_below widths v (x ∷ xs) a = (a.0.1, all_below widths v xs a.1)
 
-registers_within : (v e : Valuation) (rs : List Var) → AllByRecursion (λ x. v.value x.name ≡ e.value x.name) rs → AllByRecursion (λ x. v.value x.name < 2 ^ x.width) rs → AllByRecursion (λ x. e.value x.name < 2 ^ x.width) rs
+registers_within : (v e : Valuation) (rs : List Var) → AllByRecursion (λ x. v.value x.name ≡ e.value x.name) rs
+    → AllByRecursion (λ x. v.value x.name < 2 ^ x.width) rs → AllByRecursion (λ x. e.value x.name < 2 ^ x.width) rs
 registers_within v e [] a b = tt
 registers_within v e (r ∷ rs) a b = (subst (λ (y : ℕ). y < 2 ^ r.width) a.0 b.0, registers_within v e rs a.1 b.1)
 
-cells_within : (ms : Shapes) (v e : Valuation) → ((m : Name) (d : ℕ × ℕ) → find ms m ≡ Some d → (i : ℕ) → v.cell m i < 2 ^ d.0) → (xs : List MemoryVariable) → AllByRecursion (λ m. find ms m.name ≡ Some (m.width, m.depth)) xs → AllByRecursion (λ m. (i : ℕ) → v.cell m.name i ≡ e.cell m.name i) xs → AllByRecursion (λ m. (i : ℕ) → e.cell m.name i < 2 ^ m.width) xs
+cells_within : (ms : Shapes) (v e : Valuation) → ((m : Name) (d : ℕ × ℕ) → find ms m ≡ Some d → (i : ℕ) → v.cell m i < 2 ^ d.0)
+    → (xs : List MemoryVariable) → AllByRecursion (λ m. find ms m.name ≡ Some (m.width, m.depth)) xs
+    → AllByRecursion (λ m. (i : ℕ) → v.cell m.name i ≡ e.cell m.name i) xs → AllByRecursion (λ m. (i : ℕ) → e.cell m.name i < 2 ^ m.width) xs
 cells_within ms v e b [] f a = tt
 cells_within ms v e b (m ∷ xs) f a =
     (λ i. subst (λ (y : ℕ). y < 2 ^ m.width) (a.0 i) (b m.name (m.width, m.depth) f.0 i), cells_within ms v e b xs f.1 a.1)
 
-within_before : (s : Source) → Known s → (e : Option Valuation) (v : Valuation) → ((m : Name) (d : ℕ × ℕ) → find (source.shapes s) m ≡ Some d → (i : ℕ) → v.cell m i < 2 ^ d.0) → AllByRecursion (λ x. v.value x.name < 2 ^ x.width) s.registers → AllByRecursion (λ x. v.value x.name ≡ first_number e x) s.registers → AllByRecursion (λ m. (i : ℕ) → v.cell m.name i ≡ first_cell e m i) s.memories → WithinBefore s e
+within_before : (s : Source) → Known s → (e : Option Valuation) (v : Valuation)
+    → ((m : Name) (d : ℕ × ℕ) → find (source.shapes s) m ≡ Some d → (i : ℕ) → v.cell m i < 2 ^ d.0)
+    → AllByRecursion (λ x. v.value x.name < 2 ^ x.width) s.registers → AllByRecursion (λ x. v.value x.name ≡ first_number e x) s.registers
+    → AllByRecursion (λ m. (i : ℕ) → v.cell m.name i ≡ first_cell e m i) s.memories → WithinBefore s e
 within_before s k None v b r a c = tt
 within_before s k (Some e) v b r a c =
     record { registers = registers_within v e s.registers a r; memories = cells_within (source.shapes s) v e b s.memories k.memories_found c }
 
 -- what stands at the end
 
-ends_same : (widths : Name → ℕ) (v : Valuation) (sc : Scope) (es : List (Name × Part)) (g : Name → ℕ) → Env widths v sc es g → (rs : List Var) → AllByRecursion (λ x. find sc x.name ≡ Some x.width) rs → AllByRecursion (λ x. operand_value v (present es x.name).operand ≡ g x.name) rs
+ends_same : (widths : Name → ℕ) (v : Valuation) (sc : Scope) (es : List (Name × Part)) (g : Name → ℕ) → Env widths v sc es g
+    → (rs : List Var) → AllByRecursion (λ x. find sc x.name ≡ Some x.width) rs → AllByRecursion (λ x. operand_value v (present es x.name).operand ≡ g x.name) rs
 ends_same widths v sc es g env [] f = tt
 ends_same widths v sc es g env (r ∷ rs) f = ((env r.name r.width f.0).shows.value, ends_same widths v sc es g env rs f.1)
 
-outs_same : (widths : Name → ℕ) (v : Valuation) (es : List (Name × Part)) (g : Name → ℕ) (rs : List Var) → Gives widths v (map (out_wire es) rs) → AllByRecursion (λ x. operand_value v (present es x.name).operand ≡ g x.name) rs → AllByRecursion (λ x. v.value x.name ≡ g x.name) rs
+outs_same : (widths : Name → ℕ) (v : Valuation) (es : List (Name × Part)) (g : Name → ℕ) (rs : List Var)
+    → Gives widths v (map (out_wire es) rs) → AllByRecursion (λ x. operand_value v (present es x.name).operand ≡ g x.name) rs → AllByRecursion (λ x. v.value x.name ≡ g x.name) rs
 outs_same widths v es g [] h a = tt
 outs_same widths v es g (r ∷ rs) h a = (h.0 ∙ a.0, outs_same widths v es g rs h.2 a.1)
 
-memories_same : (ms : Shapes) (v : Valuation) (ps : List (Name × WritePort)) (g : Going) (done : Name → Bool) → PortsAre ms v ps g done → SameCells ms v g.now.cell → (xs : List MemoryVariable) → AllByRecursion (λ m. find ms m.name ≡ Some (m.width, m.depth)) xs → AllByRecursion (λ m. (i : ℕ) → written v (memory_of ps m) i ≡ g.next m.name i) xs
+memories_same : (ms : Shapes) (v : Valuation) (ps : List (Name × WritePort)) (g : Going) (done : Name → Bool) → PortsAre ms v ps g done
+    → SameCells ms v g.now.cell → (xs : List MemoryVariable) → AllByRecursion (λ m. find ms m.name ≡ Some (m.width, m.depth)) xs
+    → AllByRecursion (λ m. (i : ℕ) → written v (memory_of ps m) i ≡ g.next m.name i) xs
 memories_same ms v ps g done k c [] f = tt
 memories_same ms v ps g done k c (m ∷ xs) f =
     let p = port_of ps m.name in
-    let is = k m.name (m.width, m.depth) f.0 in
-    (λ i. ap (λ (y : ℕ). if operand_value v p.enable == 1 && operand_value v p.index == i then operand_value v p.value else y) (c.same m.name (m.width, m.depth) f.0 i) ∙ sym (is.next i), memories_same ms v ps g done k c xs f.1)
+    let is = k m.name (m.width, m.depth) f.0 in (
+      λ i. ap (λ (y : ℕ). if operand_value v p.enable == 1 && operand_value v p.index == i then operand_value v p.value else y)
+          (c.same m.name (m.width, m.depth) f.0 i) ∙ sym (is.next i),
+      memories_same ms v ps g done k c xs f.1,
+    )
 
 -- equal numbers of one cycle, as the edge leaves them and as they are seen
 pub record CycleSame (s : Source) (v e : Valuation) : Type 0 where
@@ -152,7 +172,8 @@ pub record CycleSame (s : Source) (v e : Valuation) : Type 0 where
   pub inputs : AllByRecursion (λ x. v.value x.name ≡ e.value x.name) s.inputs
   pub wires : AllByRecursion (λ x. v.value x.name ≡ e.value x.name) (listed s.ports s.wires)
 
-pub cycle_same : (s : Source) → Known s → WritesOnce s → (p e : Option Valuation) (xs : List ℕ) (v : Valuation) → SameBefore s p e → IsCycle (lowered s) p xs v → CycleSame s v (cycle s e xs)
+pub cycle_same : (s : Source) → Known s → WritesOnce s → (p e : Option Valuation) (xs : List ℕ) (v : Valuation) → SameBefore s p e
+    → IsCycle (lowered s) p xs v → CycleSame s v (cycle s e xs)
 cycle_same s k once p e xs v b c =
     let n = lowered s in
     let widths = width_of n in
@@ -180,7 +201,8 @@ cycle_same s k once p e xs v b c =
     let fits = within_before s k e v below (all_below widths v s.registers known.1) starts cells in
     let given = numbers_fit s.inputs xs v c.given (all_below widths v s.inputs known.0) in
     let later : Later (λ m. false) (memories_written vw g s.commands) = record { distinct = once e xs fits given; apart = λ m h. refl } in
-    let last = commands_stand ms vars vw widths v s.commands (first_lowering s) g (λ m. false) first k.commands later (gives_front widths v t.wires (map (out_wire t.entries) shown) gives) in
+    let last = commands_stand ms vars vw widths v s.commands (first_lowering s) g (λ m. false) first k.commands later
+    (gives_front widths v t.wires (map (out_wire t.entries) shown) gives) in
     let end = after vw g s.commands in
     let l = last.1 in
     let ends = ends_same widths v vars t.entries end.now.value l.around.env in
@@ -208,12 +230,15 @@ cycle_seen s k v e same =
     let ms = all_of_map (λ m. (i : ℕ) → (observed n v).cell m.name i ≡ written v m i) (memory_of t.ports) s.memories (observed_memories n k.netlist v) in
     record {
       inputs = joined_all (λ (x : Var). (observed n v).value x.name) (λ x. v.value x.name) (λ x. e.value x.name) s.inputs is same.inputs;
-      registers = joined_all (λ (x : Var). (observed n v).value x.name) (λ x. operand_value v (present t.entries x.name).operand) (λ x. e.value x.name) s.registers rs same.after.registers;
+      registers = joined_all (λ (x : Var). (observed n v).value x.name) (λ x. operand_value v (present t.entries x.name).operand)
+          (λ x. e.value x.name) s.registers rs same.after.registers;
       wires = joined_all (λ (x : Var). (observed n v).value x.name) (λ x. v.value x.name) (λ x. e.value x.name) shown ws same.wires;
-      memories = joined_all_at (λ (m : MemoryVariable) i. (observed n v).cell m.name i) (λ m i. written v (memory_of t.ports m) i) (λ m i. e.cell m.name i) s.memories ms same.after.memories;
+      memories = joined_all_at (λ (m : MemoryVariable) i. (observed n v).cell m.name i) (λ m i. written v (memory_of t.ports m) i)
+          (λ m i. e.cell m.name i) s.memories ms same.after.memories;
     }
 
-run_same : (s : Source) → Known s → WritesOnce s → (xss : List (List ℕ)) (p e : Option Valuation) (vs : List Valuation) → SameBefore s p e → IsRunAfter (lowered s) p xss vs → AllZip (SameNumbers s (lowered s)) vs (run_after s e xss)
+run_same : (s : Source) → Known s → WritesOnce s → (xss : List (List ℕ)) (p e : Option Valuation) (vs : List Valuation) → SameBefore s p e
+    → IsRunAfter (lowered s) p xss vs → AllZip (SameNumbers s (lowered s)) vs (run_after s e xss)
 run_same s k once [] p e [] b r = tt
 run_same s k once [] p e (v ∷ vs) b r = absurd r
 run_same s k once (xs ∷ xss) p e [] b r = absurd r

@@ -18,7 +18,8 @@ abbrev OptionNames : Option Var → Name → Bool → Type 0
 OptionNames None p b = b ≡ false
 OptionNames (Some r) p b = (r.name ≡ p) × (b ≡ true)
 
-front_names : (o : Option Var) (p : Name) (b : Bool) → OptionNames o p b → (rest : List Var) (ns : List Name) → ns ≡ variable_names rest → (if b then p ∷ ns else ns) ≡ variable_names (in_front o rest)
+front_names : (o : Option Var) (p : Name) (b : Bool) → OptionNames o p b → (rest : List Var) (ns : List Name) → ns ≡ variable_names rest
+    → (if b then p ∷ ns else ns) ≡ variable_names (in_front o rest)
 front_names None p b h rest ns e = rw h e
 front_names (Some r) p b h rest ns e = rw h.1 (ap₂ (λ (x : Name) (xs : List Name). x ∷ xs) (sym h.0) e)
 

@@ -60,11 +60,13 @@ pub scopes_append : (xs ys : List Var) → scope_of (xs ++ ys) ≡ scope_of xs +
 scopes_append [] ys = refl
 scopes_append (x ∷ xs) ys = ap (λ (es : Scope). (x.name, x.width) ∷ es) (scopes_append xs ys)
 
-pub distinct_values : (xs ys : List Var) → AreDistinct (variable_names xs) → AreDistinct (variable_names ys) → ((n : Name) → is_among n (variable_names xs) ≡ true → is_among n (variable_names ys) ≡ false) → AreDistinct (variable_names (xs ++ ys))
+pub distinct_values : (xs ys : List Var) → AreDistinct (variable_names xs) → AreDistinct (variable_names ys)
+    → ((n : Name) → is_among n (variable_names xs) ≡ true → is_among n (variable_names ys) ≡ false) → AreDistinct (variable_names (xs ++ ys))
 distinct_values xs ys d e h = subst AreDistinct (sym (variables_append xs ys)) (distinct_both (variable_names xs) (variable_names ys) d e h)
 
 -- the kinds of names
-kinds_of : (s : Source) → IsGuarded s → AreWires (source.shapes s) (first_scope s) (all_wires s) → Kinds (variable_names s.inputs) (variable_names s.registers) (variable_names s.wires) (ir.memory_names s.memories) s.ports (names_of (all_wires s))
+kinds_of : (s : Source) → IsGuarded s → AreWires (source.shapes s) (first_scope s) (all_wires s)
+    → Kinds (variable_names s.inputs) (variable_names s.registers) (variable_names s.wires) (ir.memory_names s.memories) s.ports (names_of (all_wires s))
 kinds_of s g w =
     let I = variable_names s.inputs in
     let R = variable_names s.registers in
@@ -84,7 +86,9 @@ kinds_of s g w =
       wires = wires_distinct (source.shapes s) (all_wires s) (first_scope s) w;
       port_is = λ n h.
           let e : (is_among n R || is_among n W) ≡ true = sym (among_append n R W) ∙ port n h in
-          or_follows (is_among n R) (is_among n W) (is_among n (names_of (all_wires s))) (λ t. rw (outs_named (last_lowering s).entries (last_lowering s).wires (listed s.ports s.wires)) (among_behind n (names_of (last_lowering s).wires) (variable_names (listed s.ports s.wires)) (into_listed s.ports s.wires n t h))) e;
+          or_follows (is_among n R) (is_among n W) (is_among n (names_of (all_wires s)))
+          (λ t. rw (outs_named (last_lowering s).entries (last_lowering s).wires (listed s.ports s.wires))
+          (among_behind n (names_of (last_lowering s).wires) (variable_names (listed s.ports s.wires)) (into_listed s.ports s.wires n t h))) e;
       port_no_input = λ n h. apart_lists I (R ++ (W ++ M)) d n (subst (λ (l : List Name). is_among n l ≡ true) (append_assoc R W M) (among_front n (R ++ W) M (port n h)));
       port_no_memory = λ n h. apart_lists_back (R ++ W) M (subst AreDistinct (sym (append_assoc R W M)) d1) n (port n h);
       register_no_input = λ n h. apart_lists I (R ++ (W ++ M)) d n (among_front n R (W ++ M) h);
@@ -99,7 +103,10 @@ named_wires : (ws : List Wire) → AllByRecursion (λ w. is_name w.name ≡ true
 named_wires [] a = tt
 named_wires (w ∷ ws) a = (a.0, named_wires ws a.1)
 
-shows_ports : (s : Source) → Kinds (variable_names s.inputs) (variable_names s.registers) (variable_names s.wires) (ir.memory_names s.memories) s.ports (names_of (all_wires s)) → (ps : List Name) → AllByRecursion (λ x. (is_among x (variable_names s.registers) || is_among x (names_of (all_wires s))) ≡ true) ps → AllByRecursion (λ p. PortShows (lowered s) p.kind p.name) (map (port_shown s.registers) ps)
+shows_ports : (s : Source) → Kinds (variable_names s.inputs) (variable_names s.registers) (variable_names s.wires)
+    (ir.memory_names s.memories) s.ports (names_of (all_wires s)) → (ps : List Name)
+    → AllByRecursion (λ x. (is_among x (variable_names s.registers) || is_among x (names_of (all_wires s))) ≡ true) ps
+    → AllByRecursion (λ p. PortShows (lowered s) p.kind p.name) (map (port_shown s.registers) ps)
 shows_ports s k [] a = tt
 shows_ports s k (p ∷ ps) a = (
   elim (cases_Bool (is_among p (variable_names s.registers))) [
@@ -109,7 +116,8 @@ shows_ports s k (p ∷ ps) a = (
   shows_ports s k ps a.1,
 )
 
-shows_inputs : (s : Source) (xs : List Var) → AllByRecursion (λ x. is_among x.name (variable_names s.inputs) ≡ true) xs → AllByRecursion (λ p. PortShows (lowered s) p.kind p.name) (map input_port xs)
+shows_inputs : (s : Source) (xs : List Var) → AllByRecursion (λ x. is_among x.name (variable_names s.inputs) ≡ true) xs
+    → AllByRecursion (λ p. PortShows (lowered s) p.kind p.name) (map input_port xs)
 shows_inputs s [] a = tt
 shows_inputs s (x ∷ xs) a = (ap (λ (ns : List Name). is_among x.name ns) (inputs_named s.inputs) ∙ a.0, shows_inputs s xs a.1)
 
@@ -138,7 +146,8 @@ lowered_rules s g l =
     let rw' : (x : Name) → is_among x W ≡ true → is_name x ≡ true = λ x h. among_all x (among_behind x I (R ++ (W ++ M)) (among_behind x R (W ++ M) (among_front x W M h))) in
     let names_a : AllByRecursion (λ x. is_name x ≡ true) A =
     rw (outs_named t.entries t.wires shown)
-    (all_append (λ x. is_name x ≡ true) (names_of t.wires) (variable_names shown) (named_wires t.wires fits.fits.named) (each_among (λ x. is_name x ≡ true) (variable_names shown) (λ x h. rw' x (of_listed s.ports s.wires x h)))) in
+    (all_append (λ x. is_name x ≡ true) (names_of t.wires) (variable_names shown) (named_wires t.wires fits.fits.named)
+    (each_among (λ x. is_name x ≡ true) (variable_names shown) (λ x h. rw' x (of_listed s.ports s.wires x h)))) in
     let ra : (x : Name) → is_among x A ≡ true → is_name x ≡ true = λ x h. among_each (λ y. is_name y ≡ true) A names_a x h in
     let rp : (x : Name) → is_among x P ≡ true → is_name x ≡ true = λ x h. ⊎_elim (rr x) (ra x) (or_cases (is_among x R) (is_among x A) (k.port_is x h)) in
     let N = λ (x : Name). is_name x ≡ true in
@@ -148,24 +157,38 @@ lowered_rules s g l =
     all_append (λ x. IsWidth x.width) s.inputs D (plain_wide s.inputs g.inputs) (to_declared (λ x. IsWidth x.width) s.registers P (register_wide s.registers g.registers)) in
     let new : AllByRecursion (λ x. find (source.shapes s) x.name ≡ None) (s.inputs ++ D) =
     all_append (λ x. find (source.shapes s) x.name ≡ None) s.inputs D
-    (each_variable (λ x. find (source.shapes s) x.name ≡ None) s.inputs (λ x a. not_found {X = ℕ × ℕ} (λ (m : MemoryVariable). m.name) (λ m. (m.width, m.depth)) s.memories x.name (input_no_memory (is_among x.name I) (is_among x.name M) (k.memory_no_input x.name) a)))
-    (to_declared (λ x. find (source.shapes s) x.name ≡ None) s.registers P (each_variable (λ x. find (source.shapes s) x.name ≡ None) s.registers (λ x a. not_found {X = ℕ × ℕ} (λ (m : MemoryVariable). m.name) (λ m. (m.width, m.depth)) s.memories x.name (k.register_no_memory x.name a)))) in
-    let apart : AreDistinct (variable_names (s.inputs ++ D)) = distinct_values s.inputs D k.inputs (declared_distinct s.registers P k.registers k.ports) (λ x h. input_no_memory (is_among x I) (is_among x (variable_names D)) (λ e. k.register_no_input x (sym (declared_among s.registers P x) ∙ e)) h) in
-    let values : AreValues (source.shapes s) (first_scope s) = subst (λ (e : Scope). AreValues (source.shapes s) e) (scopes_append s.inputs D) (values_are (source.shapes s) (s.inputs ++ D) apart widths new) in
+    (each_variable (λ x. find (source.shapes s) x.name ≡ None) s.inputs
+    (λ x a. not_found {X = ℕ × ℕ} (λ (m : MemoryVariable). m.name) (λ m. (m.width, m.depth)) s.memories x.name
+    (input_no_memory (is_among x.name I) (is_among x.name M) (k.memory_no_input x.name) a)))
+    (to_declared (λ x. find (source.shapes s) x.name ≡ None) s.registers P
+    (each_variable (λ x. find (source.shapes s) x.name ≡ None) s.registers
+    (λ x a. not_found {X = ℕ × ℕ} (λ (m : MemoryVariable). m.name) (λ m. (m.width, m.depth)) s.memories x.name (k.register_no_memory x.name a)))) in
+    let apart : AreDistinct (variable_names (s.inputs ++ D)) =
+    distinct_values s.inputs D k.inputs (declared_distinct s.registers P k.registers k.ports)
+    (λ x h. input_no_memory (is_among x I) (is_among x (variable_names D)) (λ e. k.register_no_input x (sym (declared_among s.registers P x) ∙ e)) h) in
+    let values : AreValues (source.shapes s) (first_scope s) =
+    subst (λ (e : Scope). AreValues (source.shapes s) e) (scopes_append s.inputs D) (values_are (source.shapes s) (s.inputs ++ D) apart widths new) in
     let readable_is : readable n ≡ readable_after (first_scope s) (all_wires s) = ap (λ (e : Scope). readable_after e (all_wires s)) sc in
     let grows = grows_to_all s g fits in
     let behind = readable_after (first_scope s) t.wires in
     let all = readable_after (first_scope s) (all_wires s) in
     let nexts : AllByRecursion (λ x. IsRegister all (register_of t.entries x)) D =
-    to_declared (λ x. IsRegister all (register_of t.entries x)) s.registers P (nexts_are behind all (source.readable s) t.entries grows fits.env s.registers (registers_found s g) g.registers) in
-    let writes : AllByRecursion (λ m. IsMemory all (memory_of t.ports m)) s.memories = writes_are (source.shapes s) behind all t.ports grows fits.ports s.memories (stores_found s.memories k.memories) g.memories in
+    to_declared (λ x. IsRegister all (register_of t.entries x)) s.registers P
+    (nexts_are behind all (source.readable s) t.entries grows fits.env s.registers (registers_found s g) g.registers) in
+    let writes : AllByRecursion (λ m. IsMemory all (memory_of t.ports m)) s.memories =
+    writes_are (source.shapes s) behind all t.ports grows fits.ports s.memories (stores_found s.memories k.memories) g.memories in
     record {
       module_named = top_named;
-      named = all_append N I _ (each_among N I ri) (all_append N P _ (each_among N P rp) (all_append N _ _ (each_among N _ (λ x h. ra x (of_unported P A x h))) (all_append N _ M (each_among N _ (λ x h. rr x (of_unported P R x h))) (each_among N M rm))));
+      named = all_append N I _ (each_among N I ri)
+          (all_append N P _ (each_among N P rp) (all_append N _ _ (each_among N _ (λ x h. ra x (of_unported P A x h)))
+          (all_append N _ M (each_among N _ (λ x h. rr x (of_unported P R x h))) (each_among N M rm))));
       declared_once = names_distinct I R W M P A k;
-      declared = λ x. names_among I R W M P A k x ∙ sym (among_four x (input_names n) A (register_names n) (memory_names n) ∙ rw (ei, er, em) (ap (λ (b : Bool). ((is_among x I || is_among x A) || b) || is_among x M) (declared_among s.registers P x)));
+      declared = λ x. names_among I R W M P A k x
+          ∙ sym (among_four x (input_names n) A (register_names n) (memory_names n)
+          ∙ rw (ei, er, em) (ap (λ (b : Bool). ((is_among x I || is_among x A) || b) || is_among x M) (declared_among s.registers P x)));
       registers_in_order =
-          filter_same (λ x. is_among x (register_names n)) (λ x. is_among x R) (names_declared s (all_wires s)) (λ x. ap (λ (ns : List Name). is_among x ns) er ∙ declared_among s.registers P x)
+          filter_same (λ x. is_among x (register_names n)) (λ x. is_among x R) (names_declared s (all_wires s))
+          (λ x. ap (λ (ns : List Name). is_among x ns) er ∙ declared_among s.registers P x)
           ∙ registers_ordered I R W M P A k ∙ sym (declared_named s.registers P) ∙ sym er;
       memories_in_order =
           filter_same (λ x. is_among x (memory_names n)) (λ x. is_among x M) (names_declared s (all_wires s)) (λ x. ap (λ (ns : List Name). is_among x ns) em)

@@ -58,7 +58,8 @@ pub readable_push : (ws : List Wire) (sc : Scope) (w : Wire) → readable_after 
 readable_push [] sc w = refl
 readable_push (x ∷ ws) sc w = readable_push ws ((x.name, x.width) ∷ sc) w
 
-pub wires_push : (ms : Shapes) (ws : List Wire) (sc : Scope) (w : Wire) → AreWires ms sc ws → IsWidth w.width → find (readable_after sc ws) w.name ≡ None → find ms w.name ≡ None → IsRight ms (readable_after sc ws) w.width w.right → AreWires ms sc (ws ++ w ∷ [])
+pub wires_push : (ms : Shapes) (ws : List Wire) (sc : Scope) (w : Wire) → AreWires ms sc ws → IsWidth w.width
+    → find (readable_after sc ws) w.name ≡ None → find ms w.name ≡ None → IsRight ms (readable_after sc ws) w.width w.right → AreWires ms sc (ws ++ w ∷ [])
 wires_push ms [] sc w f i n k r = (i, n, k, r, tt)
 wires_push ms (x ∷ ws) sc w f i n k r = (f.0, f.1, f.2, f.3, wires_push ms ws _ w f.4 i n k r)
 
@@ -75,7 +76,9 @@ shared_long ws u r None = omega (arith, length-append ws (record { name = helper
 pub plus_long : (ws : List Wire) (u : ℕ) (r : Right) → length ws ≤ length (plus ws u r).wires
 plus_long ws u r = shared_long ws u r (find (rights ws) (key u r))
 
-shared_fits : (ms : Shapes) (sc : Scope) (ws : List Wire) (u : ℕ) (r : Right) → NoHelpers ms → Fits ms sc ws → IsWidth u → IsRight ms (readable_after sc ws) u r → (o : Option Name) → find (rights ws) (key u r) ≡ o → length (shared o ws u r).wires < 2 ^ 64 → Lowered ms sc ws (shared o ws u r).wires (shared o ws u r).part u
+shared_fits : (ms : Shapes) (sc : Scope) (ws : List Wire) (u : ℕ) (r : Right) → NoHelpers ms → Fits ms sc ws → IsWidth u
+    → IsRight ms (readable_after sc ws) u r → (o : Option Name) → find (rights ws) (key u r) ≡ o → length (shared o ws u r).wires < 2 ^ 64
+    → Lowered ms sc ws (shared o ws u r).wires (shared o ws u r).part u
 shared_fits ms sc ws u r apart fits i f (Some n) e l =
     record { fits = fits; grows = λ m k h. h; operand = known_readable ms ws sc u r n e fits.wires; width = refl }
 shared_fits ms sc ws u r apart fits i f None e l =
@@ -101,7 +104,8 @@ shared_fits ms sc ws u r apart fits i f None e l =
     }
 
 -- at a width that is equal to the one that is written
-pub plus_at : (ms : Shapes) (sc : Scope) (ws : List Wire) (w u : ℕ) (r : Right) → w ≡ u → NoHelpers ms → Fits ms sc ws → IsWidth u → IsRight ms (readable_after sc ws) u r → length (plus ws w r).wires < 2 ^ 64 → Lowered ms sc ws (plus ws w r).wires (plus ws w r).part u
+pub plus_at : (ms : Shapes) (sc : Scope) (ws : List Wire) (w u : ℕ) (r : Right) → w ≡ u → NoHelpers ms → Fits ms sc ws → IsWidth u
+    → IsRight ms (readable_after sc ws) u r → length (plus ws w r).wires < 2 ^ 64 → Lowered ms sc ws (plus ws w r).wires (plus ws w r).part u
 plus_at ms sc ws w u r e apart fits i f l =
     let k : length (plus ws u r).wires < 2 ^ 64 = subst (λ (k : ℕ). length (plus ws k r).wires < 2 ^ 64) e l in
     subst (λ (k : ℕ). Lowered ms sc ws (plus ws k r).wires (plus ws k r).part u) (sym e) (shared_fits ms sc ws u r apart fits i f (find (rights ws) (key u r)) refl k)
@@ -169,7 +173,9 @@ shift_width Ne w o h = absurd (cc)
 shift_width Lt w o h = absurd (cc)
 shift_width Le w o h = absurd (cc)
 
-two_fits : (ms : Shapes) (sc : Scope) (op : Op2) (x y : Part) (ws : List Wire) (w t u : ℕ) → NoHelpers ms → Fits ms sc ws → IsWidth w → IsWidth t → IsWidth u → IsOperand (readable_after sc ws) w x.operand → x.width ≡ w → IsOperand (readable_after sc ws) t y.operand → CountFits op w t → u ≡ width2 op w → length (low_two op x y ws).wires < 2 ^ 64 → Lowered ms sc ws (low_two op x y ws).wires (low_two op x y ws).part u
+two_fits : (ms : Shapes) (sc : Scope) (op : Op2) (x y : Part) (ws : List Wire) (w t u : ℕ) → NoHelpers ms → Fits ms sc ws → IsWidth w
+    → IsWidth t → IsWidth u → IsOperand (readable_after sc ws) w x.operand → x.width ≡ w → IsOperand (readable_after sc ws) t y.operand
+    → CountFits op w t → u ≡ width2 op w → length (low_two op x y ws).wires < 2 ^ 64 → Lowered ms sc ws (low_two op x y ws).wires (low_two op x y ws).part u
 two_fits ms sc op x y ws w t u apart fits iw it iu ox xw oy cf e l =
     elim (cases_Bool (leaves_nothing op x.width y.operand)) [
       | inl b ↦
@@ -182,7 +188,9 @@ two_fits ms sc op x y ws w t u apart fits iw it iu ox xw oy cf e l =
           rw b p
     ]
 
-slice_fits : (ms : Shapes) (sc : Scope) (o : Operand) (hi lo : ℕ) (ws : List Wire) (w u : ℕ) → NoHelpers ms → Fits ms sc ws → IsWidth w → IsWidth u → IsOperand (readable_after sc ws) w o → lo ≤ hi → hi < w → u ≡ hi + 1 - lo → length (sliced o hi lo ws).wires < 2 ^ 64 → Lowered ms sc ws (sliced o hi lo ws).wires (sliced o hi lo ws).part u
+slice_fits : (ms : Shapes) (sc : Scope) (o : Operand) (hi lo : ℕ) (ws : List Wire) (w u : ℕ) → NoHelpers ms → Fits ms sc ws → IsWidth w
+    → IsWidth u → IsOperand (readable_after sc ws) w o → lo ≤ hi → hi < w → u ≡ hi + 1 - lo → length (sliced o hi lo ws).wires < 2 ^ 64
+    → Lowered ms sc ws (sliced o hi lo ws).wires (sliced o hi lo ws).part u
 slice_fits ms sc (Named x) hi lo ws w u apart fits iw iu o a b e l =
     plus_at ms sc ws (hi + 1 - lo) u (Slice x hi lo) (sym e) apart fits iu (w, iw, o, a, b, e) l
 slice_fits ms sc (Constant k n) hi lo ws w u apart fits iw iu o a b e l =
@@ -193,7 +201,9 @@ slice_fits ms sc (Constant k n) hi lo ws w u apart fits iw iu o a b e l =
       width = sym e;
     }
 
-pub low_fits : (ms : Shapes) (sc vars : Scope) (es : List (Name × Part)) → NoHelpers ms → (u : ℕ) (t : Term Name) → IsWidth u → TermFine ms vars u t → (ws : List Wire) → EnvFits (readable_after sc ws) vars es → Fits ms sc ws → length (low ms es t ws).wires < 2 ^ 64 → Lowered ms sc ws (low ms es t ws).wires (low ms es t ws).part u
+pub low_fits : (ms : Shapes) (sc vars : Scope) (es : List (Name × Part)) → NoHelpers ms → (u : ℕ) (t : Term Name) → IsWidth u
+    → TermFine ms vars u t → (ws : List Wire) → EnvFits (readable_after sc ws) vars es → Fits ms sc ws
+    → length (low ms es t ws).wires < 2 ^ 64 → Lowered ms sc ws (low ms es t ws).wires (low ms es t ws).part u
 low_fits ms sc vars es apart u (constant w x) iu f ws env fits l =
     record { fits = fits; grows = λ n k h. h; operand = (f.0, f.1); width = f.0 }
 low_fits ms sc vars es apart u (read n) iu f ws env fits l =
@@ -234,7 +244,8 @@ low_fits ms sc vars es apart u (choose c a b) iu f ws env fits l =
     let a' = low_fits ms sc vars es apart u a iu f.1 z.wires ea c'.fits (omega (arith, e, lb)) in
     let eb = env_grows _ _ vars es a'.grows ea in
     let b' = low_fits ms sc vars es apart u b iu f.2 x.wires eb a'.fits (omega (arith, e)) in
-    let oc = operand_grows (readable_after sc x.wires) (readable_after sc y.wires) b'.grows 1 z.part.operand (operand_grows (readable_after sc z.wires) (readable_after sc x.wires) a'.grows 1 z.part.operand c'.operand) in
+    let oc = operand_grows (readable_after sc x.wires) (readable_after sc y.wires) b'.grows 1 z.part.operand
+    (operand_grows (readable_after sc z.wires) (readable_after sc x.wires) a'.grows 1 z.part.operand c'.operand) in
     let oa = operand_grows (readable_after sc x.wires) (readable_after sc y.wires) b'.grows u x.part.operand a'.operand in
     let p = plus_at ms sc y.wires x.part.width u (Choose z.part.operand x.part.operand y.part.operand) a'.width apart b'.fits iu (oc, oa, b'.operand) l in
     followed ms sc ws y.wires _ y.part _ u u (followed ms sc ws x.wires y.wires x.part y.part u u (followed ms sc ws z.wires x.wires z.part x.part 1 u c' a') b') p

@@ -22,7 +22,8 @@ use Rattle.sap_lower.proofs.Whole.{both_hold}
 
 -- what isn't assigned keeps its number
 
-chosen_kept : (off : Bool) (g : Going) (x n : Name) (a : ℕ) → bytes_eq n x ≡ false → (if off then g else record { now = set_value g.now x a; next = g.next }).now.value n ≡ g.now.value n
+chosen_kept : (off : Bool) (g : Going) (x n : Name) (a : ℕ) → bytes_eq n x ≡ false
+    → (if off then g else record { now = set_value g.now x a; next = g.next }).now.value n ≡ g.now.value n
 chosen_kept true g x n a d = refl
 chosen_kept false g x n a d = rw d refl
 

@@ -49,7 +49,8 @@ known_of s g l =
     let dr = distinct_front R (W ++ M) d1 in
     let fits = last_fits s g (last_short s l) in
     let wires = wires_are s g fits in
-    let each = kind_found (s.inputs ++ s.registers) (distinct_values s.inputs s.registers (distinct_front I (R ++ (W ++ M)) g.declared_once) dr (λ n h. not_both_lists I R (W ++ M) g.declared_once n h)) in
+    let each = kind_found (s.inputs ++ s.registers)
+    (distinct_values s.inputs s.registers (distinct_front I (R ++ (W ++ M)) g.declared_once) dr (λ n h. not_both_lists I R (W ++ M) g.declared_once n h)) in
     record {
       rules = g;
       netlist = lowered_rules s g l;
@@ -58,7 +59,8 @@ known_of s g l =
       ports = ports_have s;
       found = found_mapped (λ x. find (scope_of (s.inputs ++ s.registers)) x.name ≡ Some x.width) (λ x. find (readable (lowered s)) x.name ≡ Some x.width) (s.inputs ++ s.registers)
           (λ x h.
-          let e : find (first_scope s) x.name ≡ Some x.width = first_found s x.name ∙ subst (λ (sc : Scope). find sc x.name ≡ Some x.width) (scopes_append s.inputs s.registers) h in
+          let e : find (first_scope s) x.name ≡ Some x.width =
+          first_found s x.name ∙ subst (λ (sc : Scope). find sc x.name ≡ Some x.width) (scopes_append s.inputs s.registers) h in
           let r = readable_kept (source.shapes s) (all_wires s) (first_scope s) wires x.name x.width e in
           subst (λ (sc : Scope). find (readable_after sc (all_wires s)) x.name ≡ Some x.width) (sym (first_readable_is s)) r)
           each;
@@ -71,15 +73,19 @@ known_of s g l =
 
 -- what is declared
 
-register_pairs : (es : List (Name × Part)) (xs : List Var) → ◌≡◌ {A = List (Name × (ℕ × ℕ))} (map (λ (r : Register). (r.name, (r.width, r.start))) (map (register_of es) xs)) (map (λ x. (x.name, (x.width, x.start))) xs)
+register_pairs : (es : List (Name × Part)) (xs : List Var)
+    → ◌≡◌ {A = List (Name × (ℕ × ℕ))} (map (λ (r : Register). (r.name, (r.width, r.start))) (map (register_of es) xs)) (map (λ x. (x.name, (x.width, x.start))) xs)
 register_pairs es [] = refl
 register_pairs es (x ∷ xs) = ap (λ (l : List (Name × (ℕ × ℕ))). (x.name, (x.width, x.start)) ∷ l) (register_pairs es xs)
 
-memory_parts : (ps : List (Name × WritePort)) (ms : List MemoryVariable) → ◌≡◌ {A = List (Name × (ℕ × (ℕ × ℕ)))} (map (λ (m : Memory). (m.name, (m.width, (m.depth, m.start)))) (map (memory_of ps) ms)) (map (λ m. (m.name, (m.width, (m.depth, m.start)))) ms)
+memory_parts : (ps : List (Name × WritePort)) (ms : List MemoryVariable)
+    → ◌≡◌ {A = List (Name × (ℕ × (ℕ × ℕ)))} (map (λ (m : Memory). (m.name, (m.width, (m.depth, m.start)))) (map (memory_of ps) ms))
+    (map (λ m. (m.name, (m.width, (m.depth, m.start)))) ms)
 memory_parts ps [] = refl
 memory_parts ps (m ∷ ms) = ap (λ (l : List (Name × (ℕ × (ℕ × ℕ)))). (m.name, (m.width, (m.depth, m.start))) ∷ l) (memory_parts ps ms)
 
-outs_scope : (es : List (Name × Part)) (ws : List Wire) (xs : List Var) → ◌≡◌ {A = Scope} (map (λ (w : Wire). (w.name, w.width)) (ws ++ map (out_wire es) xs)) (map (λ w. (w.name, w.width)) ws ++ scope_of xs)
+outs_scope : (es : List (Name × Part)) (ws : List Wire) (xs : List Var)
+    → ◌≡◌ {A = Scope} (map (λ (w : Wire). (w.name, w.width)) (ws ++ map (out_wire es) xs)) (map (λ w. (w.name, w.width)) ws ++ scope_of xs)
 outs_scope es (w ∷ ws) xs = ap (λ (l : Scope). (w.name, w.width) ∷ l) (outs_scope es ws xs)
 outs_scope es [] [] = refl
 outs_scope es [] (x ∷ xs) = ap (λ (l : Scope). (x.name, x.width) ∷ l) (outs_scope es [] xs)
@@ -94,15 +100,20 @@ declares_all s g l =
     let wires = wires_are s g fits in
     let all = variable_names s.wires in
     let d2 = distinct_behind (variable_names s.registers) (all ++ M) (distinct_behind (variable_names s.inputs) (variable_names s.registers ++ (all ++ M)) g.declared_once) in
-    let apart : AreDistinct (names_of t.wires ++ W) = subst AreDistinct (outs_named t.entries t.wires shown) (wires_distinct (source.shapes s) (all_wires s) (first_scope s) wires) in
+    let apart : AreDistinct (names_of t.wires ++ W) =
+    subst AreDistinct (outs_named t.entries t.wires shown) (wires_distinct (source.shapes s) (all_wires s) (first_scope s) wires) in
     record {
       module_name = refl;
       ports = refl;
       inputs = refl;
-      registers = λ x. ap (λ (es : List (Name × (ℕ × ℕ))). find es x) (register_pairs t.entries (registers_declared s)) ∙ found_of (λ (y : Var). (y.width, y.start)) (registers_declared s) s.registers x (same_found s.registers s.ports x);
+      registers = λ x. ap (λ (es : List (Name × (ℕ × ℕ))). find es x) (register_pairs t.entries (registers_declared s))
+          ∙ found_of (λ (y : Var). (y.width, y.start)) (registers_declared s) s.registers x (same_found s.registers s.ports x);
       memories = memory_parts t.ports s.memories;
-      wires = both_hold (λ x. find (scope_of shown) x.name ≡ Some x.width) (λ x. is_among x.name W ≡ true) (λ x. find (map (λ w. (w.name, w.width)) (all_wires s)) x.name ≡ Some x.width) shown
-          (λ x f a. ap (λ (es : Scope). find es x.name) (outs_scope t.entries t.wires shown) ∙ found_second (map (λ w. (w.name, w.width)) t.wires) (scope_of shown) x.name (not_found {X = ℕ} (λ (w : Wire). w.name) (λ w. w.width) t.wires x.name (apart_lists (names_of t.wires) W apart x.name a)) ∙ f)
+      wires = both_hold (λ x. find (scope_of shown) x.name ≡ Some x.width) (λ x. is_among x.name W ≡ true)
+          (λ x. find (map (λ w. (w.name, w.width)) (all_wires s)) x.name ≡ Some x.width) shown
+          (λ x f a. ap (λ (es : Scope). find es x.name) (outs_scope t.entries t.wires shown)
+          ∙ found_second (map (λ w. (w.name, w.width)) t.wires) (scope_of shown) x.name
+          (not_found {X = ℕ} (λ (w : Wire). w.name) (λ w. w.width) t.wires x.name (apart_lists (names_of t.wires) W apart x.name a)) ∙ f)
           (kind_found shown (listed_distinct s.ports s.wires (distinct_front all M d2))) (each_variable (λ x. is_among x.name W ≡ true) shown (λ x a. a));
       names = names_kept s g fits.fits.helping;
     }

@@ -58,19 +58,22 @@ pub gives_behind : (widths : Name → ℕ) (v : Valuation) (ws more : List Wire)
 gives_behind widths v [] more h = h
 gives_behind widths v (w ∷ ws) more h = gives_behind widths v ws more h.2
 
-gives_last : (widths : Name → ℕ) (v : Valuation) (ws : List Wire) (w : Wire) → Gives widths v (ws ++ w ∷ []) → (v.value w.name ≡ right_value widths v w.right) × (widths w.name ≡ w.width)
+gives_last : (widths : Name → ℕ) (v : Valuation) (ws : List Wire) (w : Wire) → Gives widths v (ws ++ w ∷ [])
+    → (v.value w.name ≡ right_value widths v w.right) × (widths w.name ≡ w.width)
 gives_last widths v [] w h = (h.0, h.1)
 gives_last widths v (x ∷ ws) w h = gives_last widths v ws w h.2
 
 -- a wire stands for its right side, whether it was there or is added
 
-shared_shows : (widths : Name → ℕ) (v : Valuation) (ws : List Wire) (u : ℕ) (r : Right) (o : Option Name) → find (rights ws) (key u r) ≡ o → Gives widths v (shared o ws u r).wires → Shows widths v (shared o ws u r).part u (right_value widths v r)
+shared_shows : (widths : Name → ℕ) (v : Valuation) (ws : List Wire) (u : ℕ) (r : Right) (o : Option Name) → find (rights ws) (key u r) ≡ o
+    → Gives widths v (shared o ws u r).wires → Shows widths v (shared o ws u r).part u (right_value widths v r)
 shared_shows widths v ws u r (Some n) e h =
     let g = known_gives widths v ws u r n e h in record { value = g.0; wide = g.1; width = refl }
 shared_shows widths v ws u r None e h =
     let g = gives_last widths v ws (record { name = helper (length ws); width = u; right = r }) h in record { value = g.0; wide = g.1; width = refl }
 
-pub plus_shows : (widths : Name → ℕ) (v : Valuation) (ws : List Wire) (u : ℕ) (r : Right) → Gives widths v (plus ws u r).wires → Shows widths v (plus ws u r).part u (right_value widths v r)
+pub plus_shows : (widths : Name → ℕ) (v : Valuation) (ws : List Wire) (u : ℕ) (r : Right) → Gives widths v (plus ws u r).wires
+    → Shows widths v (plus ws u r).part u (right_value widths v r)
 plus_shows widths v ws u r h = shared_shows widths v ws u r (find (rights ws) (key u r)) refl h
 
 -- the wires before are kept
@@ -82,14 +85,16 @@ shared_front widths v ws u r None h = gives_front widths v ws _ h
 pub plus_front : (widths : Name → ℕ) (v : Valuation) (ws : List Wire) (u : ℕ) (r : Right) → Gives widths v (plus ws u r).wires → Gives widths v ws
 plus_front widths v ws u r h = shared_front widths v ws u r (find (rights ws) (key u r)) h
 
-two_front_at : (b : Bool) (widths : Name → ℕ) (v : Valuation) (ws : List Wire) (p : Part) (u : ℕ) (r : Right) → Gives widths v (if b then record { wires = ws; part = p } else plus ws u r).wires → Gives widths v ws
+two_front_at : (b : Bool) (widths : Name → ℕ) (v : Valuation) (ws : List Wire) (p : Part) (u : ℕ) (r : Right)
+    → Gives widths v (if b then record { wires = ws; part = p } else plus ws u r).wires → Gives widths v ws
 two_front_at true widths v ws p u r h = h
 two_front_at false widths v ws p u r h = plus_front widths v ws u r h
 
 two_front : (widths : Name → ℕ) (v : Valuation) (op : Op2) (x y : Part) (ws : List Wire) → Gives widths v (low_two op x y ws).wires → Gives widths v ws
 two_front widths v op x y ws h = two_front_at (leaves_nothing op x.width y.operand) widths v ws _ _ _ h
 
-sliced_front : (b : Bool) (widths : Name → ℕ) (v : Valuation) (o : Operand) (hi lo : ℕ) (ws : List Wire) (p : Part) → Gives widths v (if b then record { wires = ws; part = p } else sliced o hi lo ws).wires → Gives widths v ws
+sliced_front : (b : Bool) (widths : Name → ℕ) (v : Valuation) (o : Operand) (hi lo : ℕ) (ws : List Wire) (p : Part)
+    → Gives widths v (if b then record { wires = ws; part = p } else sliced o hi lo ws).wires → Gives widths v ws
 sliced_front true widths v o hi lo ws p h = h
 sliced_front false widths v (Named x) hi lo ws p h = plus_front widths v ws (hi + 1 - lo) (Slice x hi lo) h
 sliced_front false widths v (Constant w n) hi lo ws p h = h
@@ -106,7 +111,8 @@ slice_inside w hi lo a b c =
 join_front : (widths : Name → ℕ) (v : Valuation) (x y : Part) (ws : List Wire) → Gives widths v (low_join x y ws).wires → Gives widths v ws
 join_front widths v x y ws h = plus_front widths v ws ((x.width + y.width) % 4294967296) (Concat (x.operand ∷ y.operand ∷ [])) h
 
-pub low_front : (widths : Name → ℕ) (v : Valuation) (ms : Shapes) (es : List (Name × Part)) (t : Term Name) (ws : List Wire) → Gives widths v (low ms es t ws).wires → Gives widths v ws
+pub low_front : (widths : Name → ℕ) (v : Valuation) (ms : Shapes) (es : List (Name × Part)) (t : Term Name) (ws : List Wire)
+    → Gives widths v (low ms es t ws).wires → Gives widths v ws
 low_front widths v ms es (constant w x) ws h = h
 low_front widths v ms es (read n) ws h = h
 low_front widths v ms es (cell m i) ws h =
@@ -150,7 +156,8 @@ nothing_left v Ne w a o h l = absurd (cc)
 nothing_left v Lt w a o h l = absurd (cc)
 nothing_left v Le w a o h l = absurd (cc)
 
-two_shows : (widths : Name → ℕ) (v : Valuation) (op : Op2) (x y : Part) (ws : List Wire) (w t a b : ℕ) → Stands widths v x w a → Stands widths v y t b → Gives widths v (low_two op x y ws).wires → Shows widths v (low_two op x y ws).part (width2 op w) (value2 op w a b)
+two_shows : (widths : Name → ℕ) (v : Valuation) (op : Op2) (x y : Part) (ws : List Wire) (w t a b : ℕ) → Stands widths v x w a
+    → Stands widths v y t b → Gives widths v (low_two op x y ws).wires → Shows widths v (low_two op x y ws).part (width2 op w) (value2 op w a b)
 two_shows widths v op x y ws w t a b sx sy h =
     elim (cases_Bool (leaves_nothing op x.width y.operand)) [
       | inl e ↦
@@ -166,7 +173,8 @@ two_shows widths v op x y ws w t a b sx sy h =
           rw e (record { value = pv ∙ rw (wx, vx, vy) refl; wide = pw ∙ ap (λ (k : ℕ). width2 op k) ux; width = p.width ∙ ap (λ (k : ℕ). width2 op k) ux })
     ]
 
-slice_shows : (widths : Name → ℕ) (v : Valuation) (o : Operand) (hi lo : ℕ) (ws : List Wire) (x : ℕ) → operand_value v o ≡ x → Gives widths v (sliced o hi lo ws).wires → Shows widths v (sliced o hi lo ws).part (hi + 1 - lo) (slice_of x hi lo)
+slice_shows : (widths : Name → ℕ) (v : Valuation) (o : Operand) (hi lo : ℕ) (ws : List Wire) (x : ℕ) → operand_value v o ≡ x
+    → Gives widths v (sliced o hi lo ws).wires → Shows widths v (sliced o hi lo ws).part (hi + 1 - lo) (slice_of x hi lo)
 slice_shows widths v (Named n) hi lo ws x e h =
     let p = plus_shows widths v ws (hi + 1 - lo) (Slice n hi lo) h in
     record { value = p.value ∙ ap (λ (k : ℕ). slice_of k hi lo) e; wide = p.wide; width = p.width }
@@ -186,7 +194,8 @@ value_last x b e = omega arith
 same_join : (x a u t y b : ℕ) → x ≡ a → u ≡ t → y ≡ b → joined x u y ≡ joined a t b
 same_join x a u t y b e f g = cc
 
-join_shows : (widths : Name → ℕ) (v : Valuation) (x y : Part) (ws : List Wire) (w t a b : ℕ) → w ≤ 64 → t ≤ 64 → Stands widths v x w a → Stands widths v y t b → Gives widths v (low_join x y ws).wires → Shows widths v (low_join x y ws).part (w + t) (joined a t b)
+join_shows : (widths : Name → ℕ) (v : Valuation) (x y : Part) (ws : List Wire) (w t a b : ℕ) → w ≤ 64 → t ≤ 64 → Stands widths v x w a
+    → Stands widths v y t b → Gives widths v (low_join x y ws).wires → Shows widths v (low_join x y ws).part (w + t) (joined a t b)
 join_shows widths v x y ws w t a b hw ht sx sy h =
     let u = (x.width + y.width) % 4294967296 in
     let p = plus_shows widths v ws u (Concat (x.operand ∷ y.operand ∷ [])) h in
@@ -194,7 +203,12 @@ join_shows widths v x y ws w t a b hw ht sx sy h =
     let vx = sx.shows.value in let vy = sy.shows.value in let wy = sy.shows.wide in
     let z : operand_width widths y.operand + 0 ≡ t = wide_last (operand_width widths y.operand) t wy in
     let l : joined (operand_value v y.operand) 0 0 ≡ b = value_last (operand_value v y.operand) b vy in
-    record { value = p.value ∙ same_join (operand_value v x.operand) a (operand_width widths y.operand + 0) t (joined (operand_value v y.operand) 0 0) b vx z l; wide = p.wide ∙ e; width = p.width ∙ e }
+    record {
+      value = p.value ∙ same_join (operand_value v x.operand) a (operand_width widths y.operand + 0) t
+          (joined (operand_value v y.operand) 0 0) b vx z l;
+      wide = p.wide ∙ e;
+      width = p.width ∙ e;
+    }
 
 -- what surrounds an expression
 pub record Around (ms : Shapes) (vars : Scope) (vw widths : Name → ℕ) (v : Valuation) (es : List (Name × Part)) (value : Name → ℕ) (cells : Name → ℕ → ℕ) : Type 0 where
@@ -202,7 +216,9 @@ pub record Around (ms : Shapes) (vars : Scope) (vw widths : Name → ℕ) (v : V
   pub env : Env widths v vars es value
   pub memories : SameCells ms v cells
 
-pub low_stands : (ms : Shapes) (vars : Scope) (vw widths : Name → ℕ) (v : Valuation) (es : List (Name × Part)) (value : Name → ℕ) (cells : Name → ℕ → ℕ) → Around ms vars vw widths v es value cells → (u : ℕ) (t : Term Name) → TermFine ms vars u t → (ws : List Wire) → Gives widths v (low ms es t ws).wires → Stands widths v (low ms es t ws).part u (term_value vw value cells t)
+pub low_stands : (ms : Shapes) (vars : Scope) (vw widths : Name → ℕ) (v : Valuation) (es : List (Name × Part)) (value : Name
+    → ℕ) (cells : Name → ℕ → ℕ) → Around ms vars vw widths v es value cells → (u : ℕ) (t : Term Name) → TermFine ms vars u t
+    → (ws : List Wire) → Gives widths v (low ms es t ws).wires → Stands widths v (low ms es t ws).part u (term_value vw value cells t)
 low_stands ms vars vw widths v es value cells k u (constant w x) f ws h =
     record { shows = record { value = refl; wide = f.0; width = f.0 }; below = f.1 }
 low_stands ms vars vw widths v es value cells k u (read n) f ws h = k.env n u f
@@ -226,7 +242,8 @@ low_stands ms vars vw widths v es value cells k u (one op a) f ws h =
     let d = fine_width ms vars vw k.declared f.0 a f.2 in
     let tv = term_value vw value cells a in
     let e : width1 op x.part.width ≡ u = ap (λ (n : ℕ). width1 op n) sx.shows.width ∙ sym f.3 in
-    let q : value1 op (operand_width widths x.part.operand) (operand_value v x.part.operand) ≡ value1 op (term_width vw a) tv = ap₂ (λ (n o : ℕ). value1 op n o) (sx.shows.wide ∙ sym d) sx.shows.value in
+    let q : value1 op (operand_width widths x.part.operand) (operand_value v x.part.operand) ≡ value1 op (term_width vw a) tv =
+    ap₂ (λ (n o : ℕ). value1 op n o) (sx.shows.wide ∙ sym d) sx.shows.value in
     record {
       shows = record { value = p.value ∙ q; wide = p.wide ∙ e; width = p.width ∙ e };
       below = subst (λ (n : ℕ). value1 op (term_width vw a) tv < 2 ^ n) (sym f.3) (subst (λ (n : ℕ). value1 op n tv < 2 ^ width1 op f.0) (sym d) (value1_below op f.0 tv sx.below));
@@ -244,7 +261,8 @@ low_stands ms vars vw widths v es value cells k u (two op a b) f ws h =
     let q : value2 op f.0 ta tb ≡ value2 op (term_width vw a) ta tb = ap (λ (n : ℕ). value2 op n ta tb) (sym d) in
     record {
       shows = record { value = p.value ∙ q; wide = p.wide ∙ sym f.7; width = p.width ∙ sym f.7 };
-      below = subst (λ (n : ℕ). n < 2 ^ u) q (subst (λ (n : ℕ). value2 op f.0 ta tb < 2 ^ n) (sym f.7) (value2_below op f.0 ta tb sx.below (right_fits op f.0 f.1 tb f.6 sy.below)));
+      below = subst (λ (n : ℕ). n < 2 ^ u) q (subst (λ (n : ℕ). value2 op f.0 ta tb < 2 ^ n) (sym f.7)
+          (value2_below op f.0 ta tb sx.below (right_fits op f.0 f.1 tb f.6 sy.below)));
     }
 low_stands ms vars vw widths v es value cells k u (choose c a b) f ws h =
     let z = low ms es c ws in

@@ -35,7 +35,8 @@ use Rattle.sap_lower.proofs.Helping.{helper_is_helping}
 
 -- what each name is at first
 
-has_named : (f : Var → Part) (n : Name) (u : ℕ) (xs : List Var) (sc : Scope) (es : List (Name × Part)) → (find sc n ≡ Some u → (x : Part) × (find es n ≡ Some x)) → find (scope_of xs ++ sc) n ≡ Some u → (x : Part) × (find (map (λ x. (x.name, f x)) xs ++ es) n ≡ Some x)
+has_named : (f : Var → Part) (n : Name) (u : ℕ) (xs : List Var) (sc : Scope) (es : List (Name × Part))
+    → (find sc n ≡ Some u → (x : Part) × (find es n ≡ Some x)) → find (scope_of xs ++ sc) n ≡ Some u → (x : Part) × (find (map (λ x. (x.name, f x)) xs ++ es) n ≡ Some x)
 has_named f n u [] sc es k h = k h
 has_named f n u (x ∷ xs) sc es k h =
     elim (cases_Bool (bytes_eq x.name n)) [
@@ -71,7 +72,9 @@ ports_have s n e h = (port_at_first e, first_port_found s.memories n e h)
 abbrev PartFits : Scope → (u : ℕ) → Part → Type 0
 PartFits sc u p = IsOperand sc u p.operand × (p.width ≡ u)
 
-named_fits : (n : Name) (u : ℕ) (sc : Scope) (xs : List Var) (sd : Scope) (es : List (Name × Part)) → (find (scope_of xs) n ≡ Some u → find sc n ≡ Some u) → (find (scope_of xs) n ≡ None → find sd n ≡ Some u → PartFits sc u (present es n)) → find (scope_of xs ++ sd) n ≡ Some u → PartFits sc u (present (map named_entry xs ++ es) n)
+named_fits : (n : Name) (u : ℕ) (sc : Scope) (xs : List Var) (sd : Scope) (es : List (Name × Part))
+    → (find (scope_of xs) n ≡ Some u → find sc n ≡ Some u)
+    → (find (scope_of xs) n ≡ None → find sd n ≡ Some u → PartFits sc u (present es n)) → find (scope_of xs ++ sd) n ≡ Some u → PartFits sc u (present (map named_entry xs ++ es) n)
 named_fits n u sc [] sd es k j h = j refl h
 named_fits n u sc (x ∷ xs) sd es k j h =
     elim (cases_Bool (bytes_eq x.name n)) [
@@ -117,7 +120,8 @@ first_env s n u h =
     let g : find (is ++ (rs ++ ws)) n ≡ Some u = subst (λ (sd : Scope). find sd n ≡ Some u) (append_assoc is rs ws) h in
     let r = named_fits n u sc s.inputs (rs ++ ws) (map named_entry s.registers ++ map zero_entry s.wires)
     (λ k. found_first is (scope_of (registers_declared s)) n u k)
-    (λ z k. named_fits n u sc s.registers ws (map zero_entry s.wires) (λ j. found_second is (scope_of (registers_declared s)) n z ∙ registers_scope s n ∙ j) (λ y j. zero_fits n u sc s.wires j) k) g in
+    (λ z k. named_fits n u sc s.registers ws (map zero_entry s.wires) (λ j. found_second is (scope_of (registers_declared s)) n z
+    ∙ registers_scope s n ∙ j) (λ y j. zero_fits n u sc s.wires j) k) g in
     subst (λ (es : List (Name × Part)). PartFits sc u (present es n)) (sym (append_assoc (map named_entry s.inputs) (map named_entry s.registers) (map zero_entry s.wires))) r
 
 -- widths
@@ -140,14 +144,17 @@ nothing_behind (e ∷ sc) = ap (λ sd. e ∷ sd) (nothing_behind sc)
 readable_wide : (s : Source) → IsGuarded s → AllWide (source.readable s)
 readable_wide s g n u h =
     let k : find (scope_of s.inputs ++ (scope_of s.registers ++ (scope_of s.wires ++ []))) n ≡ Some u =
-    subst (λ (sc : Scope). find sc n ≡ Some u) (append_assoc (scope_of s.inputs) (scope_of s.registers) (scope_of s.wires) ∙ ap (λ (sc : Scope). scope_of s.inputs ++ (scope_of s.registers ++ sc)) (sym (nothing_behind (scope_of s.wires)))) h in
-    wide_found s.inputs _ (plain_wide s.inputs g.inputs) (wide_found s.registers _ (register_wide s.registers g.registers) (wide_found s.wires [] (plain_wide s.wires g.wires) none_wide)) n u k
+    subst (λ (sc : Scope). find sc n ≡ Some u) (append_assoc (scope_of s.inputs) (scope_of s.registers) (scope_of s.wires)
+    ∙ ap (λ (sc : Scope). scope_of s.inputs ++ (scope_of s.registers ++ sc)) (sym (nothing_behind (scope_of s.wires)))) h in
+    wide_found s.inputs _ (plain_wide s.inputs g.inputs)
+    (wide_found s.registers _ (register_wide s.registers g.registers) (wide_found s.wires [] (plain_wide s.wires g.wires) none_wide)) n u k
 
 store_found : (ms : List MemoryVariable) → AllByRecursion IsStore ms → (n : Name) (e : ℕ × ℕ) → find (shapes_list ms) n ≡ Some e → IsWidth e.0 × ((b : ℕ) × IsDepth e.1 b)
 store_found [] a n e h = absurd (cc)
 store_found (m ∷ ms) a n e h =
     elim (cases_Bool (bytes_eq m.name n)) [
-      | inl t ↦ let q : Some (m.width, m.depth) ≡ Some e = rw t at h in let w : (m.width, m.depth) ≡ e = cc in subst (λ (d : ℕ × ℕ). IsWidth d.0 × ((b : ℕ) × IsDepth d.1 b)) w (a.0.0, a.0.1)
+      | inl t ↦ let q : Some (m.width, m.depth) ≡ Some e = rw t at h in let w : (m.width, m.depth) ≡ e = cc in
+          subst (λ (d : ℕ × ℕ). IsWidth d.0 × ((b : ℕ) × IsDepth d.1 b)) w (a.0.0, a.0.1)
       | inr f ↦ store_found ms a.1 n e (rw f at h)
     ]
 
@@ -171,7 +178,8 @@ first_ports_fit s g sc m e h =
 pub helpers_apart : (s : Source) → IsGuarded s → (k : ℕ) → k < 2 ^ 64 → is_among (helper k) (declared s) ≡ false
 helpers_apart s g k l =
     elim (cases_Bool (is_among (helper k) (declared s))) [
-      | inl t ↦ absurd (let f : is_helping (helper k) ≡ false = among_each (λ x. is_helping x ≡ false) (declared s) g.not_helping (helper k) t in let h = helper_is_helping k l in cc)
+      | inl t ↦ absurd (let f : is_helping (helper k) ≡ false =
+          among_each (λ x. is_helping x ≡ false) (declared s) g.not_helping (helper k) t in let h = helper_is_helping k l in cc)
       | inr f ↦ f
     ]
 
@@ -181,7 +189,8 @@ action_ok : (s : Source) → AreDistinct (declared s) → (a : Action) → Actio
 action_ok s d (set x t) f = (f.0, assignable_readable s d x f.0 f.1, f.2)
 action_ok s d (put m i t) f = f
 
-commands_ok : (s : Source) → AreDistinct (declared s) → (cs : List Command) → AllByRecursion (CommandFine s) cs → AllByRecursion (CommandOk (source.shapes s) (source.readable s)) cs
+commands_ok : (s : Source) → AreDistinct (declared s) → (cs : List Command) → AllByRecursion (CommandFine s) cs
+    → AllByRecursion (CommandOk (source.shapes s) (source.readable s)) cs
 commands_ok s d [] f = tt
 commands_ok s d (c ∷ cs) f = ((f.0.0, action_ok s d c.act f.0.1), commands_ok s d cs f.1)
 
@@ -222,4 +231,5 @@ last_fits s g l =
       has_ports = ports_have s;
       ports = first_ports_fit s g (first_scope s);
     } in
-    commands_fit (source.shapes s) (first_scope s) (source.readable s) (no_helping_memory s g) (readable_wide s g) (λ m e h. (store_found s.memories g.memories m e h).0) s.commands (first_lowering s) (source_commands s g) first l
+    commands_fit (source.shapes s) (first_scope s) (source.readable s) (no_helping_memory s g) (readable_wide s g)
+    (λ m e h. (store_found s.memories g.memories m e h).0) s.commands (first_lowering s) (source_commands s g) first l

@@ -25,12 +25,14 @@ named_found (x ∷ rs) n r h =
       | inr f ↦ named_found rs n r (rw f at h)
     ]
 
-front_found : (o : Option Var) (rest : List Var) (p n : Name) → ((r : Var) → o ≡ Some r → r.name ≡ p) → bytes_eq n p ≡ false → find (under_names (in_front o rest)) n ≡ find (under_names rest) n
+front_found : (o : Option Var) (rest : List Var) (p n : Name) → ((r : Var) → o ≡ Some r → r.name ≡ p) → bytes_eq n p ≡ false
+    → find (under_names (in_front o rest)) n ≡ find (under_names rest) n
 front_found None rest p n h d = refl
 front_found (Some r) rest p n h d =
     let e : bytes_eq r.name n ≡ false = subst (λ (y : Name). bytes_eq y n ≡ false) (sym (h r refl)) (bytes_eq_apart_back n p d) in rw e refl
 
-front_is : (o : Option Var) (rest : List Var) (p : Name) → ((r : Var) → o ≡ Some r → r.name ≡ p) → (o ≡ None → find (under_names rest) p ≡ None) → find (under_names (in_front o rest)) p ≡ o
+front_is : (o : Option Var) (rest : List Var) (p : Name) → ((r : Var) → o ≡ Some r → r.name ≡ p)
+    → (o ≡ None → find (under_names rest) p ≡ None) → find (under_names (in_front o rest)) p ≡ o
 front_is None rest p h k = k refl
 front_is (Some r) rest p h k =
     let e : bytes_eq r.name p ≡ true = subst (λ (y : Name). bytes_eq r.name y ≡ true) (h r refl) (bytes_eq_same r.name) in rw e refl
@@ -89,7 +91,8 @@ both false o es fs n h k = found_second es fs n h ∙ k
 pub same_found : (rs : List Var) (ps : List Name) (n : Name) → find (under_names (picked rs ps ++ unlisted ps rs)) n ≡ find (under_names rs) n
 same_found rs ps n =
     let e = split_names (picked rs ps) (unlisted ps rs) in
-    ap (λ (es : List (Name × Var)). find es n) e ∙ both (is_among n ps) (find (under_names rs) n) (under_names (picked rs ps)) (under_names (unlisted ps rs)) n (picked_found rs ps n) (unlisted_found ps rs n)
+    ap (λ (es : List (Name × Var)). find es n) e
+    ∙ both (is_among n ps) (find (under_names rs) n) (under_names (picked rs ps)) (under_names (unlisted ps rs)) n (picked_found rs ps n) (unlisted_found ps rs n)
 
 abbrev of_option : {X : Type 0} → (Var → X) → Option Var → Option X
 of_option f None = None
@@ -101,7 +104,8 @@ find_under f (x ∷ xs) n =
     elim (cases_Bool (bytes_eq x.name n)) [ inl t ↦ rw t refl | inr e ↦ rw e (find_under f xs n) ]
 
 -- what is kept of each register is found alike
-pub found_of : {X : Type 0} (f : Var → X) (xs ys : List Var) (n : Name) → find (under_names xs) n ≡ find (under_names ys) n → find (map (λ x. (x.name, f x)) xs) n ≡ find (map (λ x. (x.name, f x)) ys) n
+pub found_of : {X : Type 0} (f : Var → X) (xs ys : List Var) (n : Name) → find (under_names xs) n ≡ find (under_names ys) n
+    → find (map (λ x. (x.name, f x)) xs) n ≡ find (map (λ x. (x.name, f x)) ys) n
 found_of f xs ys n h = find_under f xs n ∙ ap (λ o. of_option f o) h ∙ sym (find_under f ys n)
 
 -- what holds of the one list holds of the other
@@ -114,7 +118,8 @@ found_holds P (y ∷ xs) n x a h =
       | inr f ↦ found_holds P xs n x a.1 (rw f at h)
     ]
 
-found_more : (y : Var) (all xs : List Var) → is_among y.name (variable_names xs) ≡ false → AllByRecursion (λ x. find (under_names all) x.name ≡ Some x) xs → AllByRecursion (λ x. find (under_names (y ∷ all)) x.name ≡ Some x) xs
+found_more : (y : Var) (all xs : List Var) → is_among y.name (variable_names xs) ≡ false
+    → AllByRecursion (λ x. find (under_names all) x.name ≡ Some x) xs → AllByRecursion (λ x. find (under_names (y ∷ all)) x.name ≡ Some x) xs
 found_more y all [] d a = tt
 found_more y all (x ∷ xs) d a =
     elim (cases_Bool (bytes_eq y.name x.name)) [
@@ -126,7 +131,8 @@ pub each_found : (xs : List Var) → AreDistinct (variable_names xs) → AllByRe
 each_found [] d = tt
 each_found (x ∷ xs) d = (rw (bytes_eq_same x.name) refl, found_more x xs xs d.0 (each_found xs d.1))
 
-holds_of : (P : Var → Type 0) (all xs ys : List Var) → AllByRecursion P ys → ((n : Name) → find (under_names ys) n ≡ find (under_names all) n) → AllByRecursion (λ x. find (under_names all) x.name ≡ Some x) xs → AllByRecursion P xs
+holds_of : (P : Var → Type 0) (all xs ys : List Var) → AllByRecursion P ys
+    → ((n : Name) → find (under_names ys) n ≡ find (under_names all) n) → AllByRecursion (λ x. find (under_names all) x.name ≡ Some x) xs → AllByRecursion P xs
 holds_of P all [] ys a e f = tt
 holds_of P all (x ∷ xs) ys a e f = (found_holds P ys x.name x a (e x.name ∙ f.0), holds_of P all xs ys a e f.1)
 
@@ -157,6 +163,7 @@ front_split f None rest = refl
 front_split f (Some r) rest = refl
 
 -- one port more
-pub picked_step : {X : Type 0} (f : Var → X) (rs : List Var) (p : Name) (ps : List Name) (xs : List X) → (xs ++ map f (picked rs (p ∷ []))) ++ map f (picked rs ps) ≡ xs ++ map f (picked rs (p ∷ ps))
+pub picked_step : {X : Type 0} (f : Var → X) (rs : List Var) (p : Name) (ps : List Name) (xs : List X)
+    → (xs ++ map f (picked rs (p ∷ []))) ++ map f (picked rs ps) ≡ xs ++ map f (picked rs (p ∷ ps))
 picked_step f rs p ps xs =
     append_assoc xs (map f (picked rs (p ∷ []))) (map f (picked rs ps)) ∙ ap (λ ys. xs ++ ys) (front_split f (find (under_names rs) p) (picked rs ps))

@@ -35,7 +35,9 @@ same_test a b =
     ]
 
 -- on numbers: where the condition holds nothing was written before
-write_is : (off : Bool) (e i x y t : ℕ) (cells nexts : Name → ℕ → ℕ) (m : Name) (done : Bool) → (off ≡ false → done ≡ false) → (e == 1) ≡ done → ((j : ℕ) → nexts m j ≡ (if e == 1 && i == j then x else cells m j)) → (j : ℕ) → (if off then nexts else set_cell nexts m y t) m j ≡ (if (if off then e else 1) == 1 && (if off then i else y) == j then (if off then x else t) else cells m j)
+write_is : (off : Bool) (e i x y t : ℕ) (cells nexts : Name → ℕ → ℕ) (m : Name) (done : Bool) → (off ≡ false → done ≡ false)
+    → (e == 1) ≡ done → ((j : ℕ) → nexts m j ≡ (if e == 1 && i == j then x else cells m j)) → (j : ℕ)
+    → (if off then nexts else set_cell nexts m y t) m j ≡ (if (if off then e else 1) == 1 && (if off then i else y) == j then (if off then x else t) else cells m j)
 write_is true e i x y t cells nexts m done once w n j = n j
 write_is false e i x y t cells nexts m done once w n j =
     let q : (e == 1) ≡ false = w ∙ once refl in
@@ -46,7 +48,8 @@ bit_is : (off : Bool) (e : ℕ) (done : Bool) → (e == 1) ≡ done → ((if off
 bit_is true e done w = w
 bit_is false e done w = refl
 
-next_of : (off : Bool) (g : Going) (m : Name) (i t : ℕ) (n : Name) (j : ℕ) → (if off then g else record { now = g.now; next = set_cell g.next m i t }).next n j ≡ (if off then g.next else set_cell g.next m i t) n j
+next_of : (off : Bool) (g : Going) (m : Name) (i t : ℕ) (n : Name) (j : ℕ)
+    → (if off then g else record { now = g.now; next = set_cell g.next m i t }).next n j ≡ (if off then g.next else set_cell g.next m i t) n j
 next_of true g m i t n j = refl
 next_of false g m i t n j = refl
 
@@ -57,7 +60,8 @@ now_of false g m i t = refl
 merged : (c d old new x : ℕ) → c ≡ d → new ≡ x → (if c == 0 then old else new) ≡ (if d == 0 then old else x)
 merged c d old new x e f = cc
 
-pub put_front : (widths : Name → ℕ) (v : Valuation) (ms : Shapes) (es : List (Name × Part)) (p : WritePort) (c i t : Term Name) (ws : List Wire) → Gives widths v (low_put ms es p c i t ws).wires → Gives widths v ws
+pub put_front : (widths : Name → ℕ) (v : Valuation) (ms : Shapes) (es : List (Name × Part)) (p : WritePort) (c i t : Term Name) (ws : List Wire)
+    → Gives widths v (low_put ms es p c i t ws).wires → Gives widths v ws
 put_front widths v ms es p c i t ws h =
     let z = low ms es c ws in
     let y = low ms es i z.wires in
@@ -69,8 +73,15 @@ put_front widths v ms es p c i t ws h =
     let he = plus_front widths v e.wires p.bits rj (plus_front widths v j.wires p.width (Choose z.part.operand x.part.operand p.value) h) in
     low_front widths v ms es c ws (low_front widths v ms es i z.wires (low_front widths v ms es t y.wires (plus_front widths v x.wires 1 re he)))
 
-pub put_is : (ms : Shapes) (vars : Scope) (vw widths : Name → ℕ) (v : Valuation) (es : List (Name × Part)) (g : Going) → Around ms vars vw widths v es g.now.value g.now.cell → (p : WritePort) (m : Name) (done : Bool) → PortIs v p m g done → (c i t : Term Name) (b w : ℕ) → TermFine ms vars 1 c → TermFine ms vars b i → TermFine ms vars w t → ((value_in vw g c == 0) ≡ false → done ≡ false) → (ws : List Wire) → Gives widths v (low_put ms es p c i t ws).wires
-    → PortIs v (low_put ms es p c i t ws).port m (if value_in vw g c == 0 then g else record { now = g.now; next = set_cell g.next m (value_in vw g i) (value_in vw g t) }) (if value_in vw g c == 0 then done else true)
+pub put_is : (ms : Shapes) (vars : Scope) (vw widths : Name → ℕ) (v : Valuation) (es : List (Name × Part)) (g : Going)
+    → Around ms vars vw widths v es g.now.value g.now.cell → (p : WritePort) (m : Name) (done : Bool) → PortIs v p m g done
+    → (c i t : Term Name) (b w : ℕ) → TermFine ms vars 1 c → TermFine ms vars b i → TermFine ms vars w t
+    → ((value_in vw g c == 0) ≡ false → done ≡ false) → (ws : List Wire) → Gives widths v (low_put ms es p c i t ws).wires
+    → PortIs v (low_put ms es p c i t ws).port m (if value_in vw g c == 0 then g else record {
+      now = g.now;
+      next =
+          set_cell g.next m (value_in vw g i) (value_in vw g t);
+    }) (if value_in vw g c == 0 then done else true)
 put_is ms vars vw widths v es g k p m done is c i t b w fc fi ft once ws h =
     let z = low ms es c ws in
     let y = low ms es i z.wires in
@@ -90,23 +101,27 @@ put_is ms vars vw widths v es g k p m done is c i t b w fc fi ft once ws h =
     let pj = plus_shows widths v e.wires p.bits (Choose z.part.operand y.part.operand p.index) hj in
     let pe = plus_shows widths v x.wires 1 (Choose z.part.operand (Constant 1 1) p.enable) he in
     let off = value_in vw g c == 0 in
-    let ve : operand_value v e.part.operand ≡ (if off then operand_value v p.enable else 1) = pe.value ∙ ap (λ (q : ℕ). if q == 0 then operand_value v p.enable else 1) sz.shows.value in
+    let ve : operand_value v e.part.operand ≡ (if off then operand_value v p.enable else 1) =
+    pe.value ∙ ap (λ (q : ℕ). if q == 0 then operand_value v p.enable else 1) sz.shows.value in
     let vj : operand_value v j.part.operand ≡ (if off then operand_value v p.index else value_in vw g i) = pj.value ∙ merged _ _ _ _ _ sz.shows.value sy.shows.value in
     let vl : operand_value v l.part.operand ≡ (if off then operand_value v p.value else value_in vw g t) = pl.value ∙ merged _ _ _ _ _ sz.shows.value sx.shows.value in
     record {
       written = ap (λ (q : ℕ). q == 1) ve ∙ bit_is off (operand_value v p.enable) done is.written;
       next = λ n.
           next_of off g m (value_in vw g i) (value_in vw g t) m n
-          ∙ write_is off (operand_value v p.enable) (operand_value v p.index) (operand_value v p.value) (value_in vw g i) (value_in vw g t) g.now.cell g.next m done once is.written is.next n
+          ∙ write_is off (operand_value v p.enable) (operand_value v p.index) (operand_value v p.value) (value_in vw g i) (value_in vw g t)
+          g.now.cell g.next m done once is.written is.next n
           ∙ rw (ve, vj, vl, now_of off g m (value_in vw g i) (value_in vw g t)) refl;
     }
 
 -- another memory is left alone
-pub other_is : (v : Valuation) (p : WritePort) (n : Name) (g : Going) (done : Bool) → PortIs v p n g done → (off : Bool) (m : Name) (i t : ℕ) → bytes_eq m n ≡ false → PortIs v p n (if off then g else record { now = g.now; next = set_cell g.next m i t }) done
+pub other_is : (v : Valuation) (p : WritePort) (n : Name) (g : Going) (done : Bool) → PortIs v p n g done
+    → (off : Bool) (m : Name) (i t : ℕ) → bytes_eq m n ≡ false → PortIs v p n (if off then g else record { now = g.now; next = set_cell g.next m i t }) done
 other_is v p n g done is true m i t d = record { written = is.written; next = is.next }
 other_is v p n g done is false m i t d = record { written = is.written; next = λ j. rw (bytes_eq_apart_back m n d) (is.next j) }
 
 -- an assignment changes no memory
-pub set_is : (v : Valuation) (p : WritePort) (n : Name) (g : Going) (done : Bool) → PortIs v p n g done → (off : Bool) (x : Name) (a : ℕ) → PortIs v p n (if off then g else record { now = set_value g.now x a; next = g.next }) done
+pub set_is : (v : Valuation) (p : WritePort) (n : Name) (g : Going) (done : Bool) → PortIs v p n g done → (off : Bool) (x : Name) (a : ℕ)
+    → PortIs v p n (if off then g else record { now = set_value g.now x a; next = g.next }) done
 set_is v p n g done is true x a = record { written = is.written; next = is.next }
 set_is v p n g done is false x a = record { written = is.written; next = is.next }

@@ -76,7 +76,9 @@ names_among I R W M P A k n =
     let FA = unported P A in
     let FR = unported P R in
     among_append n I (P ++ (FA ++ (FR ++ M)))
-    ∙ ap (λ (b : Bool). is_among n I || b) (among_append n P (FA ++ (FR ++ M)) ∙ ap (λ (b : Bool). is_among n P || b) (among_append n FA (FR ++ M) ∙ ap₂ (λ (x y : Bool). x || y) (unported_among P A n) (among_append n FR M ∙ ap (λ (b : Bool). b || is_among n M) (unported_among P R n))))
+    ∙ ap (λ (b : Bool). is_among n I || b) (among_append n P (FA ++ (FR ++ M))
+    ∙ ap (λ (b : Bool). is_among n P || b) (among_append n FA (FR ++ M)
+    ∙ ap₂ (λ (x y : Bool). x || y) (unported_among P A n) (among_append n FR M ∙ ap (λ (b : Bool). b || is_among n M) (unported_among P R n))))
     ∙ same_either (is_among n I) (is_among n P) (is_among n A) (is_among n R) (is_among n M) (k.port_is n)
 
 pub registers_ordered : (I R W M P A : List Name) → Kinds I R W M P A → filter (λ x. is_among x R) (all_names I R M P A) ≡ filter (λ x. is_among x R) P ++ unported P R
@@ -89,7 +91,9 @@ registers_ordered I R W M P A k =
     let r = filter_all f FR (each_among (λ x. f x ≡ true) FR (λ n h. of_unported P R n h)) in
     let m = filter_none f M (each_among (λ x. f x ≡ false) M (λ n h. turned (is_among n R) (is_among n M) (k.register_no_memory n) h)) in
     filter_append f I (P ++ (FA ++ (FR ++ M)))
-    ∙ ap₂ (λ (x y : List Name). x ++ y) i (filter_append f P (FA ++ (FR ++ M)) ∙ ap (λ (y : List Name). filter f P ++ y) (filter_append f FA (FR ++ M) ∙ ap₂ (λ (x y : List Name). x ++ y) a (filter_append f FR M ∙ ap₂ (λ (x y : List Name). x ++ y) r m ∙ append-nil FR)))
+    ∙ ap₂ (λ (x y : List Name). x ++ y) i (filter_append f P (FA ++ (FR ++ M))
+    ∙ ap (λ (y : List Name). filter f P ++ y) (filter_append f FA (FR ++ M)
+    ∙ ap₂ (λ (x y : List Name). x ++ y) a (filter_append f FR M ∙ ap₂ (λ (x y : List Name). x ++ y) r m ∙ append-nil FR)))
 
 pub memories_ordered : (I R W M P A : List Name) → Kinds I R W M P A → filter (λ x. is_among x M) (all_names I R M P A) ≡ M
 memories_ordered I R W M P A k =
@@ -102,7 +106,8 @@ memories_ordered I R W M P A k =
     let r = filter_none f FR (each_among (λ x. f x ≡ false) FR (λ n h. k.register_no_memory n (of_unported P R n h))) in
     let m = filter_all f M (each_among (λ x. f x ≡ true) M (λ n h. h)) in
     filter_append f I (P ++ (FA ++ (FR ++ M)))
-    ∙ ap₂ (λ (x y : List Name). x ++ y) i (filter_append f P (FA ++ (FR ++ M)) ∙ ap₂ (λ (x y : List Name). x ++ y) p (filter_append f FA (FR ++ M) ∙ ap₂ (λ (x y : List Name). x ++ y) a (filter_append f FR M ∙ ap₂ (λ (x y : List Name). x ++ y) r m)))
+    ∙ ap₂ (λ (x y : List Name). x ++ y) i (filter_append f P (FA ++ (FR ++ M))
+    ∙ ap₂ (λ (x y : List Name). x ++ y) p (filter_append f FA (FR ++ M) ∙ ap₂ (λ (x y : List Name). x ++ y) a (filter_append f FR M ∙ ap₂ (λ (x y : List Name). x ++ y) r m)))
 
 -- ports
 
@@ -117,6 +122,7 @@ no_inputs rs [] = refl
 no_inputs rs (p ∷ ps) =
     elim (cases_Bool (is_among p (variable_names rs))) [ inl t ↦ rw t (no_inputs rs ps) | inr f ↦ rw f (no_inputs rs ps) ]
 
-pub inputs_shown : (rs : List Var) (xs : List Var) (ps : List Name) → map (λ (p : Port). p.name) (filter (λ (p : Port). is_input p.kind) (map input_port xs ++ map (port_shown rs) ps)) ≡ variable_names xs
+pub inputs_shown : (rs : List Var) (xs : List Var) (ps : List Name)
+    → map (λ (p : Port). p.name) (filter (λ (p : Port). is_input p.kind) (map input_port xs ++ map (port_shown rs) ps)) ≡ variable_names xs
 inputs_shown rs [] ps = no_inputs rs ps
 inputs_shown rs (x ∷ xs) ps = ap (λ (ns : List Name). x.name ∷ ns) (inputs_shown rs xs ps)

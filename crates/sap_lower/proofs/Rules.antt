@@ -63,19 +63,23 @@ new_behind sc n u (x ∷ xs) d a =
       | inr f ↦ (rw f a.0, new_behind sc n u xs (rw f at d) a.1)
     ]
 
-operands_kept : (sc : Scope) (n : Name) (u : ℕ) → find sc n ≡ None → (es : List (Name × Part)) (xs : List Var) → AllByRecursion (λ x. IsOperand sc x.width (present es x.name).operand) xs → AllByRecursion (λ x. IsOperand ((n, u) ∷ sc) x.width (present es x.name).operand) xs
+operands_kept : (sc : Scope) (n : Name) (u : ℕ) → find sc n ≡ None → (es : List (Name × Part)) (xs : List Var)
+    → AllByRecursion (λ x. IsOperand sc x.width (present es x.name).operand) xs → AllByRecursion (λ x. IsOperand ((n, u) ∷ sc) x.width (present es x.name).operand) xs
 operands_kept sc n u new es [] o = tt
 operands_kept sc n u new es (x ∷ xs) o =
     (operand_grows sc ((n, u) ∷ sc) (λ m w h. found_behind sc n u new m w h) x.width (present es x.name).operand o.0, operands_kept sc n u new es xs o.1)
 
-pub outs_fit : (ms : Shapes) (es : List (Name × Part)) (xs : List Var) (sc : Scope) → AreDistinct (variable_names xs) → AllByRecursion (λ x. IsWidth x.width) xs → AllNew sc xs → AllNew ms xs → AllByRecursion (λ x. IsOperand sc x.width (present es x.name).operand) xs → AreWires ms sc (map (out_wire es) xs)
+pub outs_fit : (ms : Shapes) (es : List (Name × Part)) (xs : List Var) (sc : Scope) → AreDistinct (variable_names xs)
+    → AllByRecursion (λ x. IsWidth x.width) xs → AllNew sc xs → AllNew ms xs
+    → AllByRecursion (λ x. IsOperand sc x.width (present es x.name).operand) xs → AreWires ms sc (map (out_wire es) xs)
 outs_fit ms es [] sc d w a b o = tt
 outs_fit ms es (x ∷ xs) sc d w a b o =
     (w.0, a.0, b.0, o.0, outs_fit ms es xs ((x.name, x.width) ∷ sc) d.1 w.1 (new_behind sc x.name x.width xs d.0 a.1) b.1 (operands_kept sc x.name x.width a.0 es xs o.1))
 
 -- names of a kind, found and new
 
-pub wire_among : (s : Source) → AreDistinct (declared s) → (n : Name) → is_among n (variable_names s.wires) ≡ true → (is_among n (variable_names s.inputs) ≡ false) × (is_among n (variable_names s.registers) ≡ false) × (is_among n (ir.memory_names s.memories) ≡ false)
+pub wire_among : (s : Source) → AreDistinct (declared s) → (n : Name) → is_among n (variable_names s.wires) ≡ true
+    → (is_among n (variable_names s.inputs) ≡ false) × (is_among n (variable_names s.registers) ≡ false) × (is_among n (ir.memory_names s.memories) ≡ false)
 wire_among s d n h =
     let is = variable_names s.inputs in
     let rs = variable_names s.registers in
@@ -86,14 +90,16 @@ wire_among s d n h =
     let f = among_front n ws ms h in
     (apart_lists is (rs ++ (ws ++ ms)) d n (among_behind n rs (ws ++ ms) f), apart_lists rs (ws ++ ms) d1 n f, apart_lists_back ws ms d2 n h)
 
-each_var : (P : Var → Type 0) (all xs : List Var) → ((x : Var) → is_among x.name (variable_names all) ≡ true → P x) → ((n : Name) → is_among n (variable_names xs) ≡ true → is_among n (variable_names all) ≡ true) → AllByRecursion P xs
+each_var : (P : Var → Type 0) (all xs : List Var) → ((x : Var) → is_among x.name (variable_names all) ≡ true → P x)
+    → ((n : Name) → is_among n (variable_names xs) ≡ true → is_among n (variable_names all) ≡ true) → AllByRecursion P xs
 each_var P all [] h k = tt
 each_var P all (x ∷ xs) h k = (h x (k x.name (rw (bytes_eq_same x.name) refl)), each_var P all xs h (λ n a. k n (or_right (bytes_eq n x.name) (is_among n (variable_names xs)) a)))
 
 pub each_variable : (P : Var → Type 0) (xs : List Var) → ((x : Var) → is_among x.name (variable_names xs) ≡ true → P x) → AllByRecursion P xs
 each_variable P xs h = each_var P xs xs h (λ n a. a)
 
-kept_found : (n : Name) (u : ℕ) (sc : Scope) (xs : List Var) → is_among n (variable_names xs) ≡ false → AllByRecursion (λ x. find sc x.name ≡ Some x.width) xs → AllByRecursion (λ x. find ((n, u) ∷ sc) x.name ≡ Some x.width) xs
+kept_found : (n : Name) (u : ℕ) (sc : Scope) (xs : List Var) → is_among n (variable_names xs) ≡ false
+    → AllByRecursion (λ x. find sc x.name ≡ Some x.width) xs → AllByRecursion (λ x. find ((n, u) ∷ sc) x.name ≡ Some x.width) xs
 kept_found n u sc [] d a = tt
 kept_found n u sc (x ∷ xs) d a =
     elim (cases_Bool (bytes_eq n x.name)) [

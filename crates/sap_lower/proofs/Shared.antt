@@ -15,7 +15,8 @@ abbrev pub Gives : (Name → ℕ) → Valuation → List Wire → Type 0
 Gives widths v [] = Unit {0}
 Gives widths v (w ∷ ws) = (v.value w.name ≡ right_value widths v w.right) × (widths w.name ≡ w.width) × Gives widths v ws
 
-pub known_gives : (widths : Name → ℕ) (v : Valuation) (ws : List Wire) (u : ℕ) (r : Right) (n : Name) → find (rights ws) (key u r) ≡ Some n → Gives widths v ws → (v.value n ≡ right_value widths v r) × (widths n ≡ u)
+pub known_gives : (widths : Name → ℕ) (v : Valuation) (ws : List Wire) (u : ℕ) (r : Right) (n : Name) → find (rights ws) (key u r) ≡ Some n
+    → Gives widths v ws → (v.value n ≡ right_value widths v r) × (widths n ≡ u)
 known_gives widths v [] u r n e g = absurd (cc)
 known_gives widths v (w ∷ ws) u r n e g =
     elim (cases_Bool (bytes_eq (key w.width w.right) (key u r))) [

@@ -65,7 +65,8 @@ low_differ ms es (one op b) ws a =
 low_differ ms es (two op b c) ws a =
     let x = low ms es b ws in
     let y = low ms es c x.wires in
-    two_at (leaves_nothing op x.part.width y.part.operand) y.wires _ (width2 op x.part.width) (Two op x.part.operand y.part.operand) (low_differ ms es c x.wires (low_differ ms es b ws a))
+    two_at (leaves_nothing op x.part.width y.part.operand) y.wires _ (width2 op x.part.width) (Two op x.part.operand y.part.operand)
+    (low_differ ms es c x.wires (low_differ ms es b ws a))
 low_differ ms es (choose c b d) ws a =
     let z = low ms es c ws in
     let x = low ms es b z.wires in
@@ -110,7 +111,8 @@ commands_differ ms (c ∷ cs) s a = commands_differ ms cs (low_command ms s c) (
 
 -- the helping wires are those of the commands
 
-helping_is : (names : List Name) (es : List (Name × Part)) (ws : List Wire) (xs : List Var) → AllByRecursion (λ w. is_among w.name names ≡ false) ws → AllByRecursion (λ x. is_among x.name names ≡ true) xs
+helping_is : (names : List Name) (es : List (Name × Part)) (ws : List Wire) (xs : List Var)
+    → AllByRecursion (λ w. is_among w.name names ≡ false) ws → AllByRecursion (λ x. is_among x.name names ≡ true) xs
     → filter (λ w. not (is_among w.name names)) (ws ++ map (out_wire es) xs) ≡ ws
 helping_is names es (w ∷ ws) xs d a = let f = d.0 in rw f (ap (λ (r : List Wire). w ∷ r) (helping_is names es ws xs d.1 a))
 helping_is names es [] [] d a = refl
@@ -134,5 +136,6 @@ shares_wires s g l =
     let names = variable_names s.wires in
     let fits = last_fits s g (last_short s l) in
     let there = each_variable (λ x. is_among x.name names ≡ true) s.wires (λ x a. a) in
-    let e = helping_is names t.entries t.wires (listed s.ports s.wires) (no_wires s g t.wires fits.fits.helping) (listed_holds (λ x. is_among x.name names ≡ true) s.ports s.wires there) in
+    let e = helping_is names t.entries t.wires (listed s.ports s.wires) (no_wires s g t.wires fits.fits.helping)
+    (listed_holds (λ x. is_among x.name names ≡ true) s.ports s.wires there) in
     subst AllDiffer (sym e) (commands_differ (shapes s) s.commands (first_lowering s) tt)

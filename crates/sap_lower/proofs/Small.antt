@@ -363,7 +363,8 @@ low_adds ms es t ws =
 
 -- assignments and writes
 
-chosen_adds : (ms : Shapes) (es : List (Name × Part)) (ws : List Wire) (c : Term Name) (x : Name) (a : Term Name) → length (low_chosen ms es ws c x a).wires ≤ length ws + (1 + operations c + operations a)
+chosen_adds : (ms : Shapes) (es : List (Name × Part)) (ws : List Wire) (c : Term Name) (x : Name) (a : Term Name)
+    → length (low_chosen ms es ws c x a).wires ≤ length ws + (1 + operations c + operations a)
 chosen_adds ms es ws c x a =
     let z = low ms es c ws in
     let y = low ms es a z.wires in
@@ -382,7 +383,8 @@ port_adds p c i a ws =
     let s = plus_adds j.wires p.width (Choose c a p.value) in
     omega (arith, q, r, s)
 
-put_adds : (ms : Shapes) (es : List (Name × Part)) (p : WritePort) (c i a : Term Name) (ws : List Wire) → length (low_put ms es p c i a ws).wires ≤ length ws + (3 + operations c + operations i + operations a)
+put_adds : (ms : Shapes) (es : List (Name × Part)) (p : WritePort) (c i a : Term Name) (ws : List Wire)
+    → length (low_put ms es p c i a ws).wires ≤ length ws + (3 + operations c + operations i + operations a)
 put_adds ms es p c i a ws =
     let z = low ms es c ws in
     let y = low ms es i z.wires in

@@ -66,7 +66,9 @@ same_else : (off d b : Bool) → b ≡ false → (if off then d else (if b then 
 same_else true d b f = refl
 same_else false d b f = rw f refl
 
-action_stands : (ms : Shapes) (vars : Scope) (vw widths : Name → ℕ) (v : Valuation) (s : Lowering) (g : Going) (done : Name → Bool) → Standing ms vars vw widths v s g done → (c : Term Name) (a : Action) → TermFine ms vars 1 c → ActionOk ms vars a → ((m : Name) → (value_in vw g c == 0) ≡ false → is_among m (with_memory a []) ≡ true → done m ≡ false) → Gives widths v (low_action ms s c a).wires
+action_stands : (ms : Shapes) (vars : Scope) (vw widths : Name → ℕ) (v : Valuation) (s : Lowering) (g : Going) (done : Name → Bool)
+    → Standing ms vars vw widths v s g done → (c : Term Name) (a : Action) → TermFine ms vars 1 c → ActionOk ms vars a
+    → ((m : Name) → (value_in vw g c == 0) ≡ false → is_among m (with_memory a []) ≡ true → done m ≡ false) → Gives widths v (low_action ms s c a).wires
     → Standing ms vars vw widths v (low_action ms s c a) (if value_in vw g c == 0 then g else after_action vw g a) (done_after (value_in vw g c == 0) a done)
 action_stands ms vars vw widths v s g done k c (set x t) fc f once h =
     let off = value_in vw g c == 0 in
@@ -103,7 +105,8 @@ action_stands ms vars vw widths v s g done k c (put m i t) fc f once h =
                 let old = k.has_ports m (f.0, 2 ^ f.1) f.3 in
                 let z : port_of (replaced s.ports m q.port) m ≡ q.port = ap (λ o. unwrap_or o no_port) (replaced_same s.ports m q.port old.0 old.1) in
                 let d : (if off then done m else true) ≡ done_after off (put m i t) done m = rw (bytes_eq_same m) refl in
-                let there : PortIs v (port_of (replaced s.ports m q.port) m) m after (done_after off (put m i t) done m) = rw z (subst (λ (b : Bool). PortIs v q.port m after b) d is) in
+                let there : PortIs v (port_of (replaced s.ports m q.port) m) m after (done_after off (put m i t) done m) =
+                rw z (subst (λ (b : Bool). PortIs v q.port m after b) d is) in
                 subst (λ (y : Name). PortIs v (port_of (replaced s.ports m q.port) y) y after (done_after off (put m i t) done y)) mn there
             | inr other ↦
                 let z : port_of (replaced s.ports m q.port) n ≡ port_of s.ports n = ap (λ o. unwrap_or o no_port) (replaced_other s.ports m n q.port other) in
@@ -128,14 +131,17 @@ later_set false (put m i a) done others l =
           ];
     }
 
-once_now : (off : Bool) (a : Action) (done : Name → Bool) (others : List Name) → Later done (if off then others else with_memory a others) → (m : Name) → off ≡ false → is_among m (with_memory a []) ≡ true → done m ≡ false
+once_now : (off : Bool) (a : Action) (done : Name → Bool) (others : List Name) → Later done (if off then others else with_memory a others)
+    → (m : Name) → off ≡ false → is_among m (with_memory a []) ≡ true → done m ≡ false
 once_now true a done others l m o h = absurd (cc)
 once_now false (set x a) done others l m o h = absurd (cc)
 once_now false (put n i a) done others l m o h =
     elim (cases_Bool (bytes_eq m n)) [ inl t ↦ l.apart m (rw t refl) | inr f ↦ absurd (let e : (false || false) ≡ true = rw f at h in cc) ]
 
 -- all commands
-pub commands_stand : (ms : Shapes) (vars : Scope) (vw widths : Name → ℕ) (v : Valuation) (cs : List Command) (s : Lowering) (g : Going) (done : Name → Bool) → Standing ms vars vw widths v s g done → AllByRecursion (CommandOk ms vars) cs → Later done (memories_written vw g cs) → Gives widths v (low_commands ms s cs).wires
+pub commands_stand : (ms : Shapes) (vars : Scope) (vw widths : Name → ℕ) (v : Valuation) (cs : List Command) (s : Lowering) (g : Going)
+    (done : Name → Bool) → Standing ms vars vw widths v s g done → AllByRecursion (CommandOk ms vars) cs
+    → Later done (memories_written vw g cs) → Gives widths v (low_commands ms s cs).wires
     → (last : Name → Bool) × Standing ms vars vw widths v (low_commands ms s cs) (after vw g cs) last
 commands_stand ms vars vw widths v [] s g done k f l h = (done, k)
 commands_stand ms vars vw widths v (c ∷ cs) s g done k f l h =

@@ -51,7 +51,8 @@ replaced_has vars es n x h m u f =
 
 -- the number of a name after one assignment under a condition
 
-set_at_other : (b : Bool) (g : Going) (n m : Name) (a : ℕ) → bytes_eq m n ≡ false → (if b then g else record { now = set_value g.now n a; next = g.next }).now.value m ≡ g.now.value m
+set_at_other : (b : Bool) (g : Going) (n m : Name) (a : ℕ) → bytes_eq m n ≡ false
+    → (if b then g else record { now = set_value g.now n a; next = g.next }).now.value m ≡ g.now.value m
 set_at_other true g n m a d = refl
 set_at_other false g n m a d = rw d
 
@@ -59,7 +60,8 @@ set_at_same : (b : Bool) (g : Going) (n : Name) (a : ℕ) → (if b then g else 
 set_at_same true g n a = refl
 set_at_same false g n a = rw (bytes_eq_same n) refl
 
-pub set_front : (widths : Name → ℕ) (v : Valuation) (ms : Shapes) (s : Lowering) (c : Term Name) (n : Name) (t : Term Name) → Gives widths v (low_set ms s c n t).wires → Gives widths v s.wires
+pub set_front : (widths : Name → ℕ) (v : Valuation) (ms : Shapes) (s : Lowering) (c : Term Name) (n : Name) (t : Term Name)
+    → Gives widths v (low_set ms s c n t).wires → Gives widths v s.wires
 set_front widths v ms s c n t h =
     let es = s.entries in
     let z = low ms es c s.wires in
@@ -69,7 +71,10 @@ set_front widths v ms s c n t h =
     low_front widths v ms es c s.wires (low_front widths v ms es t z.wires hx)
 
 -- one assignment: what the name stands for, and the others as before
-set_here : (ms : Shapes) (vars : Scope) (vw widths : Name → ℕ) (v : Valuation) (s : Lowering) (g : Going) → Around ms vars vw widths v s.entries g.now.value g.now.cell → (c : Term Name) (n : Name) (t : Term Name) (u : ℕ) → find vars n ≡ Some u → TermFine ms vars 1 c → TermFine ms vars u t → Gives widths v (low_set ms s c n t).wires → Stands widths v (low_set ms s c n t).part u (if value_in vw g c == 0 then g.now.value n else value_in vw g t)
+set_here : (ms : Shapes) (vars : Scope) (vw widths : Name → ℕ) (v : Valuation) (s : Lowering) (g : Going)
+    → Around ms vars vw widths v s.entries g.now.value g.now.cell → (c : Term Name) (n : Name) (t : Term Name) (u : ℕ)
+    → find vars n ≡ Some u → TermFine ms vars 1 c → TermFine ms vars u t → Gives widths v (low_set ms s c n t).wires
+    → Stands widths v (low_set ms s c n t).part u (if value_in vw g c == 0 then g.now.value n else value_in vw g t)
 set_here ms vars vw widths v s g k c n t u found fc ft h =
     let es = s.entries in
     let z = low ms es c s.wires in
@@ -86,8 +91,14 @@ set_here ms vars vw widths v s g k c n t u found fc ft h =
       below = below_both (value_in vw g c == 0) (g.now.value n) (value_in vw g t) (2 ^ u) so.below sx.below;
     }
 
-pub set_stands : (ms : Shapes) (vars : Scope) (vw widths : Name → ℕ) (v : Valuation) (s : Lowering) (g : Going) → Around ms vars vw widths v s.entries g.now.value g.now.cell → HasEntries vars s.entries → (c : Term Name) (n : Name) (t : Term Name) (u : ℕ) → find vars n ≡ Some u → TermFine ms vars 1 c → TermFine ms vars u t → Gives widths v (low_set ms s c n t).wires
-    → Env widths v vars (replaced s.entries n (low_set ms s c n t).part) (if value_in vw g c == 0 then g else record { now = set_value g.now n (value_in vw g t); next = g.next }).now.value
+pub set_stands : (ms : Shapes) (vars : Scope) (vw widths : Name → ℕ) (v : Valuation) (s : Lowering) (g : Going)
+    → Around ms vars vw widths v s.entries g.now.value g.now.cell → HasEntries vars s.entries
+    → (c : Term Name) (n : Name) (t : Term Name) (u : ℕ) → find vars n ≡ Some u → TermFine ms vars 1 c → TermFine ms vars u t → Gives widths v (low_set ms s c n t).wires
+    → Env widths v vars (replaced s.entries n (low_set ms s c n t).part) (if value_in vw g c == 0 then g else record {
+      now =
+          set_value g.now n (value_in vw g t);
+      next = g.next;
+    }).now.value
 set_stands ms vars vw widths v s g k has c n t u found fc ft h m w f =
     let b = value_in vw g c == 0 in
     let a = value_in vw g t in
@@ -102,7 +113,8 @@ set_stands ms vars vw widths v s g k has c n t u found fc ft h m w f =
           let here = set_here ms vars vw widths v s g k c n t u found fc ft h in
           let r : present (replaced s.entries n y) n ≡ y = ap (λ o. unwrap_or o nothing) (replaced_same s.entries n y old.0 old.1) in
           let there : Stands widths v (present (replaced s.entries n y) n) u (after.now.value n) = rw (r, set_at_same b g n a) here in
-          subst (λ (q : Name). Stands widths v (present (replaced s.entries n y) q) w (after.now.value q)) e (subst (λ (q : ℕ). Stands widths v (present (replaced s.entries n y) n) q (after.now.value n)) uw there)
+          subst (λ (q : Name). Stands widths v (present (replaced s.entries n y) q) w (after.now.value q)) e
+          (subst (λ (q : ℕ). Stands widths v (present (replaced s.entries n y) n) q (after.now.value n)) uw there)
       | inr d ↦
           let o = k.env m w f in
           let r : present (replaced s.entries n y) m ≡ present s.entries m = ap (λ o. unwrap_or o nothing) (replaced_other s.entries n m y d) in

@@ -60,7 +60,9 @@ registers_found s g =
     let k = kind_found s.registers (distinct_front rs (ws ++ ms) d1) in
     both_hold (λ x. find (scope_of s.registers) x.name ≡ Some x.width) (λ x. is_among x.name rs ≡ true) (λ x. find (source.readable s) x.name ≡ Some x.width) s.registers
     (λ x f a. found_first (scope_of s.inputs ++ scope_of s.registers) (scope_of s.wires) x.name x.width
-    (found_second (scope_of s.inputs) (scope_of s.registers) x.name (not_found {X = ℕ} (λ (y : Var). y.name) (λ y. y.width) s.inputs x.name (apart_lists is (rs ++ (ws ++ ms)) g.declared_once x.name (among_front x.name rs (ws ++ ms) a))) ∙ f))
+    (found_second (scope_of s.inputs) (scope_of s.registers) x.name
+    (not_found {X = ℕ} (λ (y : Var). y.name) (λ y. y.width) s.inputs x.name
+    (apart_lists is (rs ++ (ws ++ ms)) g.declared_once x.name (among_front x.name rs (ws ++ ms) a))) ∙ f))
     k (each_variable (λ x. is_among x.name rs ≡ true) s.registers (λ x a. a))
 
 pub wires_found : (s : Source) → IsGuarded s → AllByRecursion (λ x. find (source.readable s) x.name ≡ Some x.width) s.wires
@@ -74,48 +76,61 @@ wires_found s g =
     both_hold (λ x. find (scope_of s.wires) x.name ≡ Some x.width) (λ x. is_among x.name ws ≡ true) (λ x. find (source.readable s) x.name ≡ Some x.width) s.wires
     (λ x f a. let o = wire_among s g.declared_once x.name a in
     found_second (scope_of s.inputs ++ scope_of s.registers) (scope_of s.wires) x.name
-    (found_second (scope_of s.inputs) (scope_of s.registers) x.name (not_found {X = ℕ} (λ (y : Var). y.name) (λ y. y.width) s.inputs x.name o.0) ∙ not_found {X = ℕ} (λ (y : Var). y.name) (λ y. y.width) s.registers x.name o.1) ∙ f)
+    (found_second (scope_of s.inputs) (scope_of s.registers) x.name (not_found {X = ℕ} (λ (y : Var). y.name) (λ y. y.width) s.inputs x.name o.0)
+    ∙ not_found {X = ℕ} (λ (y : Var). y.name) (λ y. y.width) s.registers x.name o.1) ∙ f)
     k (each_variable (λ x. is_among x.name ws ≡ true) s.wires (λ x a. a))
 
 -- the operands of entries fit behind all wires
-env_operands : (sc vars : Scope) (es : List (Name × Part)) → EnvFits sc vars es → (xs : List Var) → AllByRecursion (λ x. find vars x.name ≡ Some x.width) xs → AllByRecursion (λ x. IsOperand sc x.width (present es x.name).operand) xs
+env_operands : (sc vars : Scope) (es : List (Name × Part)) → EnvFits sc vars es → (xs : List Var)
+    → AllByRecursion (λ x. find vars x.name ≡ Some x.width) xs → AllByRecursion (λ x. IsOperand sc x.width (present es x.name).operand) xs
 env_operands sc vars es e [] f = tt
 env_operands sc vars es e (x ∷ xs) f = ((e x.name x.width f.0).0, env_operands sc vars es e xs f.1)
 
 abbrev outs : Source → List Wire
 outs s = map (out_wire (last_lowering s).entries) (listed s.ports s.wires)
 
-outs_are : (s : Source) → IsGuarded s → StateFits (source.shapes s) (first_scope s) (source.readable s) (last_lowering s) → AreWires (source.shapes s) (readable_after (first_scope s) (last_lowering s).wires) (outs s)
+outs_are : (s : Source) → IsGuarded s → StateFits (source.shapes s) (first_scope s) (source.readable s) (last_lowering s)
+    → AreWires (source.shapes s) (readable_after (first_scope s) (last_lowering s).wires) (outs s)
 outs_are s g k =
     let t = last_lowering s in
     let sc = readable_after (first_scope s) t.wires in
-    let d2 = distinct_behind (variable_names s.registers) (variable_names s.wires ++ memory_names s.memories) (distinct_behind (variable_names s.inputs) (variable_names s.registers ++ (variable_names s.wires ++ memory_names s.memories)) g.declared_once) in
+    let d2 = distinct_behind (variable_names s.registers) (variable_names s.wires ++ memory_names s.memories)
+    (distinct_behind (variable_names s.inputs) (variable_names s.registers ++ (variable_names s.wires ++ memory_names s.memories)) g.declared_once) in
     let P = s.ports in
     let W = s.wires in
-    outs_fit (source.shapes s) t.entries (listed P W) sc (listed_distinct P W (distinct_front (variable_names W) (memory_names s.memories) d2)) (listed_holds (λ x. IsWidth x.width) P W (plain_wide W g.wires))
+    outs_fit (source.shapes s) t.entries (listed P W) sc
+    (listed_distinct P W (distinct_front (variable_names W) (memory_names s.memories) d2)) (listed_holds (λ x. IsWidth x.width) P W (plain_wide W g.wires))
     (listed_holds (λ x. find sc x.name ≡ None) P W (each_variable (λ x. find sc x.name ≡ None) W (λ x a.
     let o = wire_among s g.declared_once x.name a in
     let h : is_helping x.name ≡ false = wire_plain s g x.name a in
     k.fits.others x.name h ∙ first_found s x.name
-    ∙ found_second (scope_of s.inputs) (scope_of s.registers) x.name (not_found {X = ℕ} (λ (y : Var). y.name) (λ y. y.width) s.inputs x.name o.0) ∙ not_found {X = ℕ} (λ (y : Var). y.name) (λ y. y.width) s.registers x.name o.1)))
-    (listed_holds (λ x. find (source.shapes s) x.name ≡ None) P W (each_variable (λ x. find (source.shapes s) x.name ≡ None) W (λ x a. not_found {X = ℕ × ℕ} (λ (m : MemoryVariable). m.name) (λ m. (m.width, m.depth)) s.memories x.name (wire_among s g.declared_once x.name a).2)))
+    ∙ found_second (scope_of s.inputs) (scope_of s.registers) x.name (not_found {X = ℕ} (λ (y : Var). y.name) (λ y. y.width) s.inputs x.name o.0)
+    ∙ not_found {X = ℕ} (λ (y : Var). y.name) (λ y. y.width) s.registers x.name o.1)))
+    (listed_holds (λ x. find (source.shapes s) x.name ≡ None) P W
+    (each_variable (λ x. find (source.shapes s) x.name ≡ None) W
+    (λ x a. not_found {X = ℕ × ℕ} (λ (m : MemoryVariable). m.name) (λ m. (m.width, m.depth)) s.memories x.name (wire_among s g.declared_once x.name a).2)))
     (env_operands sc (source.readable s) t.entries k.env (listed P W) (listed_holds (λ x. find (source.readable s) x.name ≡ Some x.width) P W (wires_found s g)))
 
-pub wires_are : (s : Source) → IsGuarded s → StateFits (source.shapes s) (first_scope s) (source.readable s) (last_lowering s) → AreWires (source.shapes s) (first_scope s) (all_wires s)
+pub wires_are : (s : Source) → IsGuarded s → StateFits (source.shapes s) (first_scope s) (source.readable s) (last_lowering s)
+    → AreWires (source.shapes s) (first_scope s) (all_wires s)
 wires_are s g k = wires_both (source.shapes s) (last_lowering s).wires (outs s) (first_scope s) k.fits.wires (outs_are s g k)
 
 -- what can be read behind the helping wires can be read behind all
-pub grows_to_all : (s : Source) → IsGuarded s → (k : StateFits (source.shapes s) (first_scope s) (source.readable s) (last_lowering s)) → Grows (readable_after (first_scope s) (last_lowering s).wires) (readable_after (first_scope s) (all_wires s))
+pub grows_to_all : (s : Source) → IsGuarded s → (k : StateFits (source.shapes s) (first_scope s) (source.readable s) (last_lowering s))
+    → Grows (readable_after (first_scope s) (last_lowering s).wires) (readable_after (first_scope s) (all_wires s))
 grows_to_all s g k n u h =
     let sc = readable_after (first_scope s) (last_lowering s).wires in
-    subst (λ (sd : Scope). find sd n ≡ Some u) (sym (readable_both (last_lowering s).wires (outs s) (first_scope s))) (readable_kept (source.shapes s) (outs s) sc (outs_are s g k) n u h)
+    subst (λ (sd : Scope). find sd n ≡ Some u) (sym (readable_both (last_lowering s).wires (outs s) (first_scope s)))
+    (readable_kept (source.shapes s) (outs s) sc (outs_are s g k) n u h)
 
-pub nexts_are : (sc sd vars : Scope) (es : List (Name × Part)) → Grows sc sd → EnvFits sc vars es → (xs : List Var) → AllByRecursion (λ x. find vars x.name ≡ Some x.width) xs → AllByRecursion IsRegisterVar xs → AllByRecursion (λ x. IsRegister sd (register_of es x)) xs
+pub nexts_are : (sc sd vars : Scope) (es : List (Name × Part)) → Grows sc sd → EnvFits sc vars es → (xs : List Var)
+    → AllByRecursion (λ x. find vars x.name ≡ Some x.width) xs → AllByRecursion IsRegisterVar xs → AllByRecursion (λ x. IsRegister sd (register_of es x)) xs
 nexts_are sc sd vars es g e [] f a = tt
 nexts_are sc sd vars es g e (x ∷ xs) f a =
     ((a.0.1, operand_grows sc sd g x.width (present es x.name).operand (e x.name x.width f.0).0), nexts_are sc sd vars es g e xs f.1 a.1)
 
-pub writes_are : (ms : Shapes) (sc sd : Scope) (ps : List (Name × WritePort)) → Grows sc sd → PortsFit ms sc ps → (xs : List MemoryVariable) → AllByRecursion (λ m. find ms m.name ≡ Some (m.width, m.depth)) xs → AllByRecursion IsStore xs → AllByRecursion (λ m. IsMemory sd (memory_of ps m)) xs
+pub writes_are : (ms : Shapes) (sc sd : Scope) (ps : List (Name × WritePort)) → Grows sc sd → PortsFit ms sc ps → (xs : List MemoryVariable)
+    → AllByRecursion (λ m. find ms m.name ≡ Some (m.width, m.depth)) xs → AllByRecursion IsStore xs → AllByRecursion (λ m. IsMemory sd (memory_of ps m)) xs
 writes_are ms sc sd ps g k [] f a = tt
 writes_are ms sc sd ps g k (m ∷ xs) f a =
     let p = port_of ps m.name in
@@ -131,7 +146,8 @@ writes_are ms sc sd ps g k (m ∷ xs) f a =
       writes_are ms sc sd ps g k xs f.1 a.1,
     )
 
-stores_kept : (n : Name) (e : ℕ × ℕ) (sh : Shapes) (ms : List MemoryVariable) → is_among n (memory_names ms) ≡ false → AllByRecursion (λ m. find sh m.name ≡ Some (m.width, m.depth)) ms → AllByRecursion (λ m. find ((n, e) ∷ sh) m.name ≡ Some (m.width, m.depth)) ms
+stores_kept : (n : Name) (e : ℕ × ℕ) (sh : Shapes) (ms : List MemoryVariable) → is_among n (memory_names ms) ≡ false
+    → AllByRecursion (λ m. find sh m.name ≡ Some (m.width, m.depth)) ms → AllByRecursion (λ m. find ((n, e) ∷ sh) m.name ≡ Some (m.width, m.depth)) ms
 stores_kept n e sh [] d a = tt
 stores_kept n e sh (m ∷ ms) d a =
     elim (cases_Bool (bytes_eq n m.name)) [
@@ -143,7 +159,8 @@ pub stores_found : (ms : List MemoryVariable) → AreDistinct (memory_names ms) 
 stores_found [] d = tt
 stores_found (m ∷ ms) d = (found_here m.name (m.width, m.depth) (shapes_list ms), stores_kept m.name (m.width, m.depth) (shapes_list ms) ms d.0 (stores_found ms d.1))
 
-pub values_are : (ms : Shapes) (xs : List Var) → AreDistinct (variable_names xs) → AllByRecursion (λ x. IsWidth x.width) xs → AllByRecursion (λ x. find ms x.name ≡ None) xs → AreValues ms (scope_of xs)
+pub values_are : (ms : Shapes) (xs : List Var) → AreDistinct (variable_names xs) → AllByRecursion (λ x. IsWidth x.width) xs
+    → AllByRecursion (λ x. find ms x.name ≡ None) xs → AreValues ms (scope_of xs)
 values_are ms [] d w n = tt
 values_are ms (x ∷ xs) d w n = (w.0, not_found {X = ℕ} (λ (y : Var). y.name) (λ y. y.width) xs x.name d.0, n.0, values_are ms xs d.1 w.1 n.1)
 

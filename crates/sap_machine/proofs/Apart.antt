@@ -30,5 +30,6 @@ alike u x y s t same k h = record {
 
 pub words_decide : WordsDecide machine
 words_decide s t fit_s fit_t u same n long_s long_t =
-    alike u (after_slices u (word machine_world.order u s) n) (after_slices u (word machine_world.order u t) n) (after_cycles machine (17 + 6 * n) s).store (after_cycles machine (17 + 6 * n) t).store
+    alike u (after_slices u (word machine_world.order u s) n) (after_slices u (word machine_world.order u t) n)
+    (after_cycles machine (17 + 6 * n) s).store (after_cycles machine (17 + 6 * n) t).store
     (ap (λ word. after_slices u word n) (same_words u s t same)) (runs_the_table s fit_s n long_s u) (runs_the_table t fit_t n long_t u)

@@ -32,7 +32,8 @@ refusal k l = record { site = k; level = l }
 
 refuse : (at : Home) (enter : ℕ → ℕ → Store → After) (k : Step) (cs : Block) (pc : ℕ) (s : Store)
     → Quiet (raised_alone machine_world at k) → test machine_world at k pc s ≡ false
-    → does_block machine_world at enter (command_then (lone k) cs) pc s ≡ behind (refusal (site_of k) (machine_world.order.join pc (guard machine_world at k s)) ∷ []) (does_block machine_world at enter cs pc s)
+    → does_block machine_world at enter (command_then (lone k) cs) pc s
+    ≡ behind (refusal (site_of k) (machine_world.order.join pc (guard machine_world at k s)) ∷ []) (does_block machine_world at enter cs pc s)
 unfolding does_block does attempt
 refuse at enter k cs pc s quiet fails = rw (raise_quiet machine_world.order (raised_alone machine_world at k) (guard machine_world at k s) s quiet, fails) refl
 
@@ -79,17 +80,22 @@ boot_quiet = enforced (hangs 16 no_node (M.goto 5 M.boot)) refl refl (λ x. simp
 abbrev fork : Block
 fork = block (M.if_or (M.is 4 (read M.n) 0) (M.goto 4 M.kernel ∷ []) (M.goto 5 M.boot ∷ []) ∷ [])
 
-forks : (last : Bool) (x y : ℕ) (v : Numbers) → eqb (v (own 7)) 0 ≡ last → does_block machine_world at_boot enter fork 0 (store_of (boot_frame 0 x y) v) ≡ stay (store_of (boot_frame (if last then 1 else 0) x y) v)
+forks : (last : Bool) (x y : ℕ) (v : Numbers) → eqb (v (own 7)) 0 ≡ last
+    → does_block machine_world at_boot enter fork 0 (store_of (boot_frame 0 x y) v) ≡ stay (store_of (boot_frame (if last then 1 else 0) x y) v)
 unfolding effect
 forks true x y v is =
-    take_then machine_world at_boot enter end_block 0 (store_of (boot_frame 0 x y) v) (M.is 4 (read M.n) 0) M.none (block (M.goto 4 M.kernel ∷ [])) (block (M.goto 5 M.boot ∷ [])) fork_quiet refl (store_of (boot_frame 1 x y) v)
+    take_then machine_world at_boot enter end_block 0 (store_of (boot_frame 0 x y) v) (M.is 4 (read M.n) 0) M.none
+    (block (M.goto 4 M.kernel ∷ [])) (block (M.goto 5 M.boot ∷ [])) fork_quiet refl (store_of (boot_frame 1 x y) v)
     (ap (λ b. let m : ℕ = if b then 1 else 0 in m) is)
-    (accept machine_world at_boot enter end_block 0 (store_of (boot_frame 0 x y) v) (go_to 4 17) (store_of (boot_frame 1 x y) v) kernel_quiet refl (ap stay (to_kernel (boot_frame 0 x y) v)) ∙ finished at_boot enter 0 (store_of (boot_frame 1 x y) v))
+    (accept machine_world at_boot enter end_block 0 (store_of (boot_frame 0 x y) v) (go_to 4 17) (store_of (boot_frame 1 x y) v)
+    kernel_quiet refl (ap stay (to_kernel (boot_frame 0 x y) v)) ∙ finished at_boot enter 0 (store_of (boot_frame 1 x y) v))
     ∙ finished at_boot enter 0 (store_of (boot_frame 1 x y) v)
 forks false x y v is =
-    take_else machine_world at_boot enter end_block 0 (store_of (boot_frame 0 x y) v) (M.is 4 (read M.n) 0) M.none (block (M.goto 4 M.kernel ∷ [])) (block (M.goto 5 M.boot ∷ [])) fork_quiet refl (store_of (boot_frame 0 x y) v)
+    take_else machine_world at_boot enter end_block 0 (store_of (boot_frame 0 x y) v) (M.is 4 (read M.n) 0) M.none
+    (block (M.goto 4 M.kernel ∷ [])) (block (M.goto 5 M.boot ∷ [])) fork_quiet refl (store_of (boot_frame 0 x y) v)
     (ap (λ b. let m : ℕ = if b then 1 else 0 in m) is)
-    (accept machine_world at_boot enter end_block 0 (store_of (boot_frame 0 x y) v) (go_to 5 16) (store_of (boot_frame 0 x y) v) boot_quiet refl (ap stay (to_boot (boot_frame 0 x y) v)) ∙ finished at_boot enter 0 (store_of (boot_frame 0 x y) v))
+    (accept machine_world at_boot enter end_block 0 (store_of (boot_frame 0 x y) v) (go_to 5 16) (store_of (boot_frame 0 x y) v) boot_quiet
+    refl (ap stay (to_boot (boot_frame 0 x y) v)) ∙ finished at_boot enter 0 (store_of (boot_frame 0 x y) v))
     ∙ finished at_boot enter 0 (store_of (boot_frame 0 x y) v)
 
 abbrev pub refused_at : (site level tag : ℕ) → List Refusal
@@ -118,15 +124,21 @@ boots : (last : Bool) (x y : ℕ) (v : Numbers) → eqb (booted x y v (own 7)) 0
 boots last x y v is =
     let v1 : Numbers = word_put (takes A x) A v in
     let v2 : Numbers = both_put x y v in
-    stored_or_not (machine_world.order.le x 1) at_boot enter 1 M.pa (read M.n) (read M.wa) (block (M.store 2 M.pb (read M.n) (read M.wb) ∷ M.set 3 M.n (two Add (read M.n) (constant 4 1)) ∷ M.if_or (M.is 4 (read M.n) 0) (M.goto 4 M.kernel ∷ []) (M.goto 5 M.boot ∷ []) ∷ [])) 0 (boot_frame 0 x y) v refl (tested_a x y v)
+    stored_or_not (machine_world.order.le x 1) at_boot enter 1 M.pa (read M.n) (read M.wa)
+    (block (M.store 2 M.pb (read M.n) (read M.wb) ∷ M.set 3 M.n (two Add (read M.n) (constant 4 1))
+    ∷ M.if_or (M.is 4 (read M.n) 0) (M.goto 4 M.kernel ∷ []) (M.goto 5 M.boot ∷ []) ∷ [])) 0 (boot_frame 0 x y) v refl (tested_a x y v)
     ∙ ap (behind (refused_at 1 1 x)) (
-    stored_or_not (machine_world.order.le y 2) at_boot enter 2 M.pb (read M.n) (read M.wb) (block (M.set 3 M.n (two Add (read M.n) (constant 4 1)) ∷ M.if_or (M.is 4 (read M.n) 0) (M.goto 4 M.kernel ∷ []) (M.goto 5 M.boot ∷ []) ∷ [])) 0 (boot_frame 0 x y) v1 refl (tested_b x y v1)
+    stored_or_not (machine_world.order.le y 2) at_boot enter 2 M.pb (read M.n) (read M.wb)
+    (block (M.set 3 M.n (two Add (read M.n) (constant 4 1)) ∷ M.if_or (M.is 4 (read M.n) 0) (M.goto 4 M.kernel ∷ []) (M.goto 5 M.boot ∷ []) ∷ []))
+    0 (boot_frame 0 x y) v1 refl (tested_b x y v1)
     ∙ ap (behind (refused_at 2 2 y)) (assigned at_boot enter 3 M.n (two Add (read M.n) (constant 4 1)) fork 0 (boot_frame 0 x y) v2 refl refl ∙ forks last x y (booted x y v) is))
 
 -- a whole cycle of the boot
 pub boot_cycle : (last : Bool) (x y : ℕ) (t u : Tagged) (v : Numbers) → eqb (booted t.level u.level (fed t u v) (own 7)) 0 ≡ last
     → cycle machine (t ∷ u ∷ []) (store_of (boot_frame 0 x y) v)
-    ≡ behind (refused_at 1 1 t.level) (behind (refused_at 2 2 u.level) (stay (store_of (boot_frame (if last then 1 else 0) t.level u.level) (settled (booted t.level u.level (fed t u v))))))
+    ≡ behind (refused_at 1 1 t.level) (behind (refused_at 2 2 u.level)
+    (stay (store_of (boot_frame (if last then 1 else 0) t.level u.level) (settled (booted t.level u.level (fed t u v))))))
 boot_cycle last x y t u v is =
     cycle_in_boot (boot_frame 0 x y) v t u ∙ ap ended (boots last t.level u.level (fed t u v) is)
-    ∙ ap (λ (s : Store). behind (refused_at 1 1 t.level) (behind (refused_at 2 2 u.level) (stay s))) (settles (boot_frame (if last then 1 else 0) t.level u.level) (booted t.level u.level (fed t u v)))
+    ∙ ap (λ (s : Store). behind (refused_at 1 1 t.level) (behind (refused_at 2 2 u.level) (stay s)))
+    (settles (boot_frame (if last then 1 else 0) t.level u.level) (booted t.level u.level (fed t u v)))

@@ -66,12 +66,14 @@ put_at : (u : User) (v : Numbers) (i n k : ℕ) → put (next (words_of u) i) n 
 put_at u v i n k = of_user (λ u. put (next (words_of u) i) n v (next (words_of u) k) ≡ (if nat_eq k i then n else v (next (words_of u) k))) refl refl u
 
 -- one more word, taken or not
-one_more : (holds : Bool) (u : User) (word : ℕ → ℕ) (v : Numbers) (i n k : ℕ) → v (own 7) ≡ i → v (own (input_of u)) ≡ n → v (next (words_of u) k) ≡ so_far word i k → word i ≡ (if holds then n else 0)
+one_more : (holds : Bool) (u : User) (word : ℕ → ℕ) (v : Numbers) (i n k : ℕ) → v (own 7) ≡ i → v (own (input_of u)) ≡ n
+    → v (next (words_of u) k) ≡ so_far word i k → word i ≡ (if holds then n else 0)
     → word_put holds u v (next (words_of u) k) ≡ so_far word (suc i) k
 one_more true u word v i n k at is before new = put_at u v (v (own 7)) (v (own (input_of u))) k ∙ rw (at, is, before) (more word k i n new)
 one_more false u word v i n k at is before new = before ∙ same word k i new
 
-both_keep : (t t' : Tagged) (v : Numbers) (z : Slot) → ((w : Numbers) → put (next 12 (w (own 7))) (w (own 0)) w z ≡ w z) → ((w : Numbers) → put (next 13 (w (own 7))) (w (own 1)) w z ≡ w z)
+both_keep : (t t' : Tagged) (v : Numbers) (z : Slot) → ((w : Numbers) → put (next 12 (w (own 7))) (w (own 0)) w z ≡ w z)
+    → ((w : Numbers) → put (next 13 (w (own 7))) (w (own 1)) w z ≡ w z)
     → both_put t.level t'.level (fed t t' v) z ≡ fed t t' v z
 both_keep t t' v z ka kb =
     let w = fed t t' v in let w1 = word_put (takes A t.level) A w in
@@ -84,7 +86,8 @@ booted_n words t t' i v now = ap (λ n. (n + 1) % 16) (both_keep t t' v (own 7) 
 abbrev pub Comes : (words : User → ℕ → ℕ) → User → (i : ℕ) → Tagged → Type 0
 Comes words u i t = words u i ≡ (if takes u t.level then t.number else 0)
 
-pub boots_more : (words : User → ℕ → ℕ) (t t' : Tagged) (i : ℕ) (v : Numbers) → i < 16 → Comes words A i t → Comes words B i t' → Booting words i v → Booting words (suc i) (settled (booted t.level t'.level (fed t t' v)))
+pub boots_more : (words : User → ℕ → ℕ) (t t' : Tagged) (i : ℕ) (v : Numbers) → i < 16 → Comes words A i t → Comes words B i t'
+    → Booting words i v → Booting words (suc i) (settled (booted t.level t'.level (fed t t' v)))
 boots_more words t t' i v below new_a new_b now =
     let w = fed t t' v in let w1 = word_put (takes A t.level) A w in
     let here : i % 16 ≡ i = omega arith in
@@ -117,6 +120,16 @@ first_turn words t t' v now =
       pc = now.apc;
       acc = now.aacc;
       ir = now.ir;
-      mine = record { pc = now.apc; acc = now.aacc; memories = record { cell = λ k below. now.cell A k; next_cell = λ k below. now.cell A k; word = word_of A; next_word = word_of A } };
-      others = record { pc = ap (λ p. (16 + p - 1) % 16) now.pc; acc = now.acc; memories = record { cell = λ k below. now.cell B k; next_cell = λ k below. now.cell B k; word = word_of B; next_word = word_of B } };
+      mine = record {
+        pc = now.apc;
+        acc = now.aacc;
+        memories =
+            record { cell = λ k below. now.cell A k; next_cell = λ k below. now.cell A k; word = word_of A; next_word = word_of A };
+      };
+      others = record {
+        pc = ap (λ p. (16 + p - 1) % 16) now.pc;
+        acc = now.acc;
+        memories =
+            record { cell = λ k below. now.cell B k; next_cell = λ k below. now.cell B k; word = word_of B; next_word = word_of B };
+      };
     }

@@ -10,7 +10,8 @@ use Rattle.sap_machine.proofs.Entities.{entities, past}
 
 -- of the entities only the inputs, and what stands past the last, are dynamic
 pub enforced : (h : ℕ → Bool) → h 0 ≡ false → h 1 ≡ false → ((x : ℕ) → h (past x) ≡ false) → Quiet (λ x. is_dynamic machine_world x && h x)
-enforced h h0 h1 last = entities (λ x. is_dynamic machine_world x && h x ≡ false) h0 h1 refl refl refl refl refl refl refl refl refl refl refl refl refl refl refl refl refl refl last
+enforced h h0 h1 last = entities (λ x. is_dynamic machine_world x && h x ≡ false) h0 h1 refl refl refl refl refl refl refl refl refl refl
+    refl refl refl refl refl refl refl refl last
 
 pub nothing_raised : Quiet (λ x. false)
 nothing_raised x = refl

@@ -81,14 +81,26 @@ in_kernel f v = does_block machine_world at_kernel (does_child machine_world no_
 abbrev pub in_run : Frame → Numbers → After
 in_run f v = does_block machine_world at_run (does_child machine_world users 18) (block run_body) 0 (store_of f v)
 
-pub cycle_in_boot : (f : Frame) (v : Numbers) (t u : Tagged) → cycle machine (t ∷ u ∷ []) (store_of (record f { current = 0 }) v) ≡ ended (in_boot (tagged t u (record f { current = 0 })) (fed t u v))
+pub cycle_in_boot : (f : Frame) (v : Numbers) (t u : Tagged)
+    → cycle machine (t ∷ u ∷ []) (store_of (record f { current = 0 }) v) ≡ ended (in_boot (tagged t u (record f { current = 0 })) (fed t u v))
 unfolding cycle root_fall does_state
-cycle_in_boot f v t u = rw (inputs_set (record f { current = 0 }) v t u, raise_quiet machine_world.order (root_touches machine_world states) 0 (store_of (tagged t u (record f { current = 0 })) (fed t u v)) nothing_touched) refl
+cycle_in_boot f v t u = rw (
+  inputs_set (record f { current = 0 }) v t u,
+  raise_quiet machine_world.order (root_touches machine_world states) 0 (store_of (tagged t u (record f { current = 0 })) (fed t u v)) nothing_touched,
+) refl
 
-pub cycle_in_kernel : (f : Frame) (v : Numbers) (t u : Tagged) → cycle machine (t ∷ u ∷ []) (store_of (record f { current = 1 }) v) ≡ ended (in_kernel (tagged t u (record f { current = 1 })) (fed t u v))
+pub cycle_in_kernel : (f : Frame) (v : Numbers) (t u : Tagged)
+    → cycle machine (t ∷ u ∷ []) (store_of (record f { current = 1 }) v) ≡ ended (in_kernel (tagged t u (record f { current = 1 })) (fed t u v))
 unfolding cycle root_fall does_state
-cycle_in_kernel f v t u = rw (inputs_set (record f { current = 1 }) v t u, raise_quiet machine_world.order (root_touches machine_world states) 0 (store_of (tagged t u (record f { current = 1 })) (fed t u v)) nothing_touched) refl
+cycle_in_kernel f v t u = rw (
+  inputs_set (record f { current = 1 }) v t u,
+  raise_quiet machine_world.order (root_touches machine_world states) 0 (store_of (tagged t u (record f { current = 1 })) (fed t u v)) nothing_touched,
+) refl
 
-pub cycle_in_run : (f : Frame) (v : Numbers) (t u : Tagged) → cycle machine (t ∷ u ∷ []) (store_of (record f { current = 2 }) v) ≡ ended (in_run (tagged t u (record f { current = 2 })) (fed t u v))
+pub cycle_in_run : (f : Frame) (v : Numbers) (t u : Tagged)
+    → cycle machine (t ∷ u ∷ []) (store_of (record f { current = 2 }) v) ≡ ended (in_run (tagged t u (record f { current = 2 })) (fed t u v))
 unfolding cycle root_fall does_state
-cycle_in_run f v t u = rw (inputs_set (record f { current = 2 }) v t u, raise_quiet machine_world.order (root_touches machine_world states) 0 (store_of (tagged t u (record f { current = 2 })) (fed t u v)) nothing_touched) refl
+cycle_in_run f v t u = rw (
+  inputs_set (record f { current = 2 }) v t u,
+  raise_quiet machine_world.order (root_touches machine_world states) 0 (store_of (tagged t u (record f { current = 2 })) (fed t u v)) nothing_touched,
+) refl

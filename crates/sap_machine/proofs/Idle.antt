@@ -25,10 +25,13 @@ go_quiet = enforced (hangs 18 users (M.goto 28 M.kernel)) refl refl (λ x. simp 
 idles : (f : Frame) (v : Numbers) → eqb (v (own 5)) 0 ≡ true → in_run f v ≡ stay (store_of (record f { current = 1 }) v)
 unfolding effect
 idles f v count =
-    take_then machine_world at_run run_enter end_block 0 (store_of f v) (M.is 3 (read M.cnt) 0) M.none (block (M.goto 28 M.kernel ∷ [])) (block (M.set 29 M.cnt (two Sub (read M.cnt) (constant 3 1)) ∷ M.fall 30 ∷ []))
-    (enforced (hangs 18 users (M.if_or (M.is 3 (read M.cnt) 0) (M.goto 28 M.kernel ∷ []) (M.set 29 M.cnt (two Sub (read M.cnt) (constant 3 1)) ∷ M.fall 30 ∷ []))) refl refl (λ x. simp apart refl))
+    take_then machine_world at_run run_enter end_block 0 (store_of f v) (M.is 3 (read M.cnt) 0) M.none (block (M.goto 28 M.kernel ∷ []))
+    (block (M.set 29 M.cnt (two Sub (read M.cnt) (constant 3 1)) ∷ M.fall 30 ∷ []))
+    (enforced (hangs 18 users (M.if_or (M.is 3 (read M.cnt) 0) (M.goto 28 M.kernel ∷ [])
+    (M.set 29 M.cnt (two Sub (read M.cnt) (constant 3 1)) ∷ M.fall 30 ∷ []))) refl refl (λ x. simp apart refl))
     refl (store_of (record f { current = 1 }) v) (ap (λ b. let m : ℕ = if b then 1 else 0 in m) count)
-    (accept machine_world at_run run_enter end_block 0 (store_of f v) (go_to 28 17) (store_of (record f { current = 1 }) v) go_quiet refl (ap stay (to_kernel f v)) ∙ finished at_run run_enter 0 (store_of (record f { current = 1 }) v))
+    (accept machine_world at_run run_enter end_block 0 (store_of f v) (go_to 28 17) (store_of (record f { current = 1 }) v) go_quiet refl
+    (ap stay (to_kernel f v)) ∙ finished at_run run_enter 0 (store_of (record f { current = 1 }) v))
     ∙ finished at_run run_enter 0 (store_of (record f { current = 1 }) v)
 
 pub idle_cycle : (f : Frame) (s t : Tagged) (v : Numbers) → eqb (v (own 5)) 0 ≡ true

@@ -26,14 +26,18 @@ by_parity (suc n) = elim (by_parity n) [
 
 mine_more : (n : ℕ) → instructions (holder n) (suc n) ≡ 3 + instructions (holder n) n
 mine_more n = elim (by_parity n) [
-  | inl e ↦ subst (λ u. instructions u (suc n) ≡ 3 + instructions u n) (sym e.0) (let r : n % 2 ≡ 0 = e.1 in let q : instructions A (suc n) ≡ 3 + instructions A n = omega arith in q)
-  | inr e ↦ subst (λ u. instructions u (suc n) ≡ 3 + instructions u n) (sym e.0) (let r : n % 2 ≡ 1 = e.1 in let q : instructions B (suc n) ≡ 3 + instructions B n = omega arith in q)
+  | inl e ↦ subst (λ u. instructions u (suc n) ≡ 3 + instructions u n) (sym e.0) (let r : n % 2 ≡ 0 = e.1 in
+      let q : instructions A (suc n) ≡ 3 + instructions A n = omega arith in q)
+  | inr e ↦ subst (λ u. instructions u (suc n) ≡ 3 + instructions u n) (sym e.0) (let r : n % 2 ≡ 1 = e.1 in
+      let q : instructions B (suc n) ≡ 3 + instructions B n = omega arith in q)
 ]
 
 others_same : (n : ℕ) → instructions (other (holder n)) (suc n) ≡ instructions (other (holder n)) n
 others_same n = elim (by_parity n) [
-  | inl e ↦ subst (λ u. instructions (other u) (suc n) ≡ instructions (other u) n) (sym e.0) (let r : n % 2 ≡ 0 = e.1 in let q : instructions B (suc n) ≡ instructions B n = omega arith in q)
-  | inr e ↦ subst (λ u. instructions (other u) (suc n) ≡ instructions (other u) n) (sym e.0) (let r : n % 2 ≡ 1 = e.1 in let q : instructions A (suc n) ≡ instructions A n = omega arith in q)
+  | inl e ↦ subst (λ u. instructions (other u) (suc n) ≡ instructions (other u) n) (sym e.0) (let r : n % 2 ≡ 0 = e.1 in
+      let q : instructions B (suc n) ≡ instructions B n = omega arith in q)
+  | inr e ↦ subst (λ u. instructions (other u) (suc n) ≡ instructions (other u) n) (sym e.0) (let r : n % 2 ≡ 1 = e.1 in
+      let q : instructions A (suc n) ≡ instructions A n = omega arith in q)
 ]
 
 pub slice_mine : (n : ℕ) (word : ℕ → ℕ) → after_slices (holder n) word (suc n) ≡ steps 3 (after_slices (holder n) word n)

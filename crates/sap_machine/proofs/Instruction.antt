@@ -44,7 +44,8 @@ run_enter = does_child machine_world users 18
 fall_quiet : Quiet (raised_alone machine_world at_run (fall_to_child 30 M.none))
 fall_quiet = enforced (hangs 18 users (M.fall 30)) refl refl (λ x. simp apart refl)
 
-falls : (u : User) (x y : ℕ) (v : Numbers) → v (own 6) ≡ turn_of u → does_block machine_world at_run run_enter (block (M.fall 30 ∷ [])) 0 (store_of (turn u x y) v) ≡ stay (store_of (turn u x y) (worked u v))
+falls : (u : User) (x y : ℕ) (v : Numbers) → v (own 6) ≡ turn_of u
+    → does_block machine_world at_run run_enter (block (M.fall 30 ∷ [])) 0 (store_of (turn u x y) v) ≡ stay (store_of (turn u x y) (worked u v))
 unfolding effect does_child does_state
 falls A x y v who =
     accept machine_world at_run run_enter end_block 0 (store_of (turn A x y) v) (fall_to_child 30 M.none) (store_of (turn A x y) (worked A v)) fall_quiet refl (body A x y v who)
@@ -56,8 +57,10 @@ falls B x y v who =
 -- one instruction, where the count is not 0
 pub runs : (u : User) (x y : ℕ) (v : Numbers) → v (own 6) ≡ turn_of u → eqb (v (own 5)) 0 ≡ false → in_run (turn u x y) v ≡ stay (store_of (turn u x y) (worked u (counted v)))
 runs u x y v who count =
-    take_else machine_world at_run run_enter end_block 0 (store_of (turn u x y) v) (M.is 3 (read M.cnt) 0) M.none (block (M.goto 28 M.kernel ∷ [])) (block (M.set 29 M.cnt (two Sub (read M.cnt) (constant 3 1)) ∷ M.fall 30 ∷ []))
-    (enforced (hangs 18 users (M.if_or (M.is 3 (read M.cnt) 0) (M.goto 28 M.kernel ∷ []) (M.set 29 M.cnt (two Sub (read M.cnt) (constant 3 1)) ∷ M.fall 30 ∷ []))) refl refl (λ x. simp apart refl))
+    take_else machine_world at_run run_enter end_block 0 (store_of (turn u x y) v) (M.is 3 (read M.cnt) 0) M.none
+    (block (M.goto 28 M.kernel ∷ [])) (block (M.set 29 M.cnt (two Sub (read M.cnt) (constant 3 1)) ∷ M.fall 30 ∷ []))
+    (enforced (hangs 18 users (M.if_or (M.is 3 (read M.cnt) 0) (M.goto 28 M.kernel ∷ [])
+    (M.set 29 M.cnt (two Sub (read M.cnt) (constant 3 1)) ∷ M.fall 30 ∷ []))) refl refl (λ x. simp apart refl))
     refl (store_of (turn u x y) (worked u (counted v))) (ap (λ b. let m : ℕ = if b then 1 else 0 in m) count)
     (assigned at_run run_enter 29 M.cnt (two Sub (read M.cnt) (constant 3 1)) (block (M.fall 30 ∷ [])) 0 (turn u x y) v refl refl ∙ falls u x y (counted v) who)
     ∙ finished at_run run_enter 0 (store_of (turn u x y) (worked u (counted v)))

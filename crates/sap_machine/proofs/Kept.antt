@@ -34,7 +34,8 @@ jz_keep v z kept = by (eqb (v (own 3)) 0)
 pub rows_keep : (m : ℕ) (z : Slot) → ((v : Numbers) → ldi v z ≡ v z) → ((v : Numbers) → ld m v z ≡ v z) → ((v : Numbers) → st m v z ≡ v z) → ((v : Numbers) → add m v z ≡ v z)
     → ((v : Numbers) → sub m v z ≡ v z) → ((v : Numbers) → jmp v z ≡ v z) → ((v : Numbers) → halt v z ≡ v z) → (v : Numbers) → rows m v z ≡ v z
 rows_keep m z k1 k2 k3 k4 k5 k6 k8 v =
-    let v1 = row 1 ldi v in let v2 = row 2 (ld m) v1 in let v3 = row 3 (st m) v2 in let v4 = row 4 (add m) v3 in let v5 = row 5 (sub m) v4 in let v6 = row 6 jmp v5 in let v7 = row 7 jz v6 in
+    let v1 = row 1 ldi v in let v2 = row 2 (ld m) v1 in let v3 = row 3 (st m) v2 in let v4 = row 4 (add m) v3 in
+    let v5 = row 5 (sub m) v4 in let v6 = row 6 jmp v5 in let v7 = row 7 jz v6 in
     row_keeps 8 halt v7 z (k8 v7) ∙ row_keeps 7 jz v6 z (jz_keep v6 z (k6 v6)) ∙ row_keeps 6 jmp v5 z (k6 v5) ∙ row_keeps 5 (sub m) v4 z (k5 v4)
     ∙ row_keeps 4 (add m) v3 z (k4 v3) ∙ row_keeps 3 (st m) v2 z (k3 v2) ∙ row_keeps 2 (ld m) v1 z (k2 v1) ∙ row_keeps 1 ldi v z (k1 v)
 
@@ -74,7 +75,8 @@ kept_other u t t' s v k =
     }
 
 -- the memories behind a cycle that writes to neither
-pub memories_settled : (u : User) (s : UserState) (v w : Numbers) → ((i : ℕ) → w (next (cells_of u) i) ≡ v (next (cells_of u) i)) → ((i : ℕ) → w (next (words_of u) i) ≡ v (next (words_of u) i))
+pub memories_settled : (u : User) (s : UserState) (v w : Numbers) → ((i : ℕ) → w (next (cells_of u) i) ≡ v (next (cells_of u) i))
+    → ((i : ℕ) → w (next (words_of u) i) ≡ v (next (words_of u) i))
     → Memories u s v → Memories u s (settled w)
 memories_settled u s v w cells words k = record {
   cell = λ i below. cells i ∙ k.next_cell i below;

@@ -87,16 +87,21 @@ keeps_a : (l x y : ℕ) (v : Numbers) → Found A l → v (own 6) ≡ 0 → Lead
 keeps_a l x y v of_a who cs =
     let f : Frame = kernel_frame 1 x y in
     let w : Numbers = put (own 8) ((16 + v (own 2) - 1) % 16) v in
-    take_then machine_world at_kernel enter cs 0 (store_of f v) turn_of_a M.none (block (keep A)) (block (keep B)) keep_quiet refl (store_of f (kept A v)) (ap (λ n. let m : ℕ = if eqb n 0 then 1 else 0 in m) who)
-    (assigned at_kernel enter 6 M.apc (two Sub (read M.pc) (constant 4 1)) _ 0 f v refl refl ∙ assigned at_kernel enter 7 M.aacc (read M.acc) _ 0 f w refl refl ∙ finished at_kernel enter 0 (store_of f (kept A v)))
+    take_then machine_world at_kernel enter cs 0 (store_of f v) turn_of_a M.none (block (keep A)) (block (keep B)) keep_quiet refl
+    (store_of f (kept A v)) (ap (λ n. let m : ℕ = if eqb n 0 then 1 else 0 in m) who)
+    (assigned at_kernel enter 6 M.apc (two Sub (read M.pc) (constant 4 1)) _ 0 f v refl refl
+    ∙ assigned at_kernel enter 7 M.aacc (read M.acc) _ 0 f w refl refl ∙ finished at_kernel enter 0 (store_of f (kept A v)))
 
-keeps_b_at : (l x y : ℕ) (v : Numbers) → machine_world.order.le (machine_world.order.join 0 (machine_world.order.join l 0)) 2 ≡ true → machine_world.order.le (machine_world.order.join 0 l) 2 ≡ true
+keeps_b_at : (l x y : ℕ) (v : Numbers) → machine_world.order.le (machine_world.order.join 0 (machine_world.order.join l 0)) 2 ≡ true
+    → machine_world.order.le (machine_world.order.join 0 l) 2 ≡ true
     → v (own 6) ≡ 1 → Leads (if_or turn_of_a (keep A) (keep B)) (kernel_frame l x y) v (kernel_frame l x y) (kept B v)
 keeps_b_at l x y v pc_passes acc_passes who cs =
     let f : Frame = kernel_frame l x y in
     let w : Numbers = put (own 10) ((16 + v (own 2) - 1) % 16) v in
-    take_else machine_world at_kernel enter cs 0 (store_of f v) turn_of_a M.none (block (keep A)) (block (keep B)) keep_quiet refl (store_of f (kept B v)) (ap (λ n. let m : ℕ = if eqb n 0 then 1 else 0 in m) who)
-    (assigned at_kernel enter 8 M.bpc (two Sub (read M.pc) (constant 4 1)) _ 0 f v refl pc_passes ∙ assigned at_kernel enter 9 M.bacc (read M.acc) _ 0 f w refl acc_passes ∙ finished at_kernel enter 0 (store_of f (kept B v)))
+    take_else machine_world at_kernel enter cs 0 (store_of f v) turn_of_a M.none (block (keep A)) (block (keep B)) keep_quiet refl
+    (store_of f (kept B v)) (ap (λ n. let m : ℕ = if eqb n 0 then 1 else 0 in m) who)
+    (assigned at_kernel enter 8 M.bpc (two Sub (read M.pc) (constant 4 1)) _ 0 f v refl pc_passes
+    ∙ assigned at_kernel enter 9 M.bacc (read M.acc) _ 0 f w refl acc_passes ∙ finished at_kernel enter 0 (store_of f (kept B v)))
 
 keeps : (u : User) (l x y : ℕ) (v : Numbers) → Found u l → v (own 6) ≡ turn_of u → Leads (if_or turn_of_a (keep A) (keep B)) (kernel_frame l x y) v (kernel_frame l x y) (kept u v)
 keeps u l x y v at_first who = keeps_b_at 0 x y v refl refl who
@@ -104,7 +109,8 @@ keeps u l x y v of_a who = keeps_a 1 x y v of_a who
 keeps u l x y v of_b who = keeps_b_at 2 x y v refl refl who
 
 zeroes : (l x y : ℕ) (v : Numbers) (cs : Block)
-    → does_block machine_world at_kernel enter (command_then (set_tag 10 M.pc 0) (command_then (set_tag 11 M.acc 0) (command_then (set_tag 12 M.ir 0) cs))) 0 (store_of (kernel_frame l x y) v)
+    → does_block machine_world at_kernel enter
+    (command_then (set_tag 10 M.pc 0) (command_then (set_tag 11 M.acc 0) (command_then (set_tag 12 M.ir 0) cs))) 0 (store_of (kernel_frame l x y) v)
     ≡ does_block machine_world at_kernel enter cs 0 (store_of (zeroed_frame l x y) (zeroed l v))
 zeroes l x y v cs =
     let f : Frame = kernel_frame l x y in
@@ -116,7 +122,8 @@ zeroes l x y v cs =
     ∙ retagged at_kernel enter 12 4 0 cs 0 f2 (zeroed_frame l x y) v2 (level_of_ir f2 0) refl
 
 -- the turn's user takes the pipeline, which was at level l
-takes : (u : User) (l x y : ℕ) (v : Numbers) → v (own 6) ≡ turn_of u → Leads (if_or turn_of_a (take A) (take B)) (zeroed_frame l x y) v (kernel_frame (level_of u) x y) (taken u l v)
+takes : (u : User) (l x y : ℕ) (v : Numbers) → v (own 6) ≡ turn_of u
+    → Leads (if_or turn_of_a (take A) (take B)) (zeroed_frame l x y) v (kernel_frame (level_of u) x y) (taken u l v)
 takes A l x y v who cs =
     let f : Frame = zeroed_frame l x y in
     let f1 : Frame = record f { pc = 1 } in
@@ -128,10 +135,12 @@ takes A l x y v who cs =
     let v3 : Numbers = tagged_number 0 1 4 v2 in
     let v4 : Numbers = tagged_number l 1 19 v3 in
     let v5 : Numbers = put (own 2) (v4 (own 8)) v4 in
-    take_then machine_world at_kernel enter cs 0 (store_of f v) turn_of_a M.none (block (take A)) (block (take B)) take_quiet refl (store_of g (taken A l v)) (ap (λ n. let m : ℕ = if eqb n 0 then 1 else 0 in m) who)
+    take_then machine_world at_kernel enter cs 0 (store_of f v) turn_of_a M.none (block (take A)) (block (take B)) take_quiet refl
+    (store_of g (taken A l v)) (ap (λ n. let m : ℕ = if eqb n 0 then 1 else 0 in m) who)
     (retagged at_kernel enter 14 2 1 _ 0 f f1 v (level_of_pc f 1) refl ∙ retagged at_kernel enter 15 3 1 _ 0 f1 f2 v1 (level_of_acc f1 1) refl
     ∙ retagged at_kernel enter 16 4 1 _ 0 f2 f3 v2 (level_of_ir f2 1) refl ∙ retagged at_kernel enter 17 19 1 _ 0 f3 g v3 (level_of_user f3 1) refl
-    ∙ assigned at_kernel enter 18 M.pc (read M.apc) _ 0 g v4 refl refl ∙ assigned at_kernel enter 19 M.acc (read M.aacc) _ 0 g v5 refl refl ∙ finished at_kernel enter 0 (store_of g (taken A l v)))
+    ∙ assigned at_kernel enter 18 M.pc (read M.apc) _ 0 g v4 refl refl ∙ assigned at_kernel enter 19 M.acc (read M.aacc) _ 0 g v5 refl refl
+    ∙ finished at_kernel enter 0 (store_of g (taken A l v)))
 takes B l x y v who cs =
     let f : Frame = zeroed_frame l x y in
     let f1 : Frame = record f { pc = 2 } in
@@ -143,18 +152,22 @@ takes B l x y v who cs =
     let v3 : Numbers = tagged_number 0 2 4 v2 in
     let v4 : Numbers = tagged_number l 2 19 v3 in
     let v5 : Numbers = put (own 2) (v4 (own 10)) v4 in
-    take_else machine_world at_kernel enter cs 0 (store_of f v) turn_of_a M.none (block (take A)) (block (take B)) take_quiet refl (store_of g (taken B l v)) (ap (λ n. let m : ℕ = if eqb n 0 then 1 else 0 in m) who)
+    take_else machine_world at_kernel enter cs 0 (store_of f v) turn_of_a M.none (block (take A)) (block (take B)) take_quiet refl
+    (store_of g (taken B l v)) (ap (λ n. let m : ℕ = if eqb n 0 then 1 else 0 in m) who)
     (retagged at_kernel enter 20 2 2 _ 0 f f1 v (level_of_pc f 2) refl ∙ retagged at_kernel enter 21 3 2 _ 0 f1 f2 v1 (level_of_acc f1 2) refl
     ∙ retagged at_kernel enter 22 4 2 _ 0 f2 f3 v2 (level_of_ir f2 2) refl ∙ retagged at_kernel enter 23 19 2 _ 0 f3 g v3 (level_of_user f3 2) refl
-    ∙ assigned at_kernel enter 24 M.pc (read M.bpc) _ 0 g v4 refl refl ∙ assigned at_kernel enter 25 M.acc (read M.bacc) _ 0 g v5 refl refl ∙ finished at_kernel enter 0 (store_of g (taken B l v)))
+    ∙ assigned at_kernel enter 24 M.pc (read M.bpc) _ 0 g v4 refl refl ∙ assigned at_kernel enter 25 M.acc (read M.bacc) _ 0 g v5 refl refl
+    ∙ finished at_kernel enter 0 (store_of g (taken B l v)))
 
 -- cnt := 4; goto Run
-leaves : (t x y : ℕ) (v : Numbers) → does_block machine_world at_kernel enter (block (set 26 M.cnt (constant 3 4) ∷ M.goto 27 M.run ∷ [])) 0 (store_of (kernel_frame t x y) v) ≡ stay (store_of (held_by t x y) (put (own 5) 4 v))
+leaves : (t x y : ℕ) (v : Numbers) → does_block machine_world at_kernel enter (block (set 26 M.cnt (constant 3 4) ∷ M.goto 27 M.run ∷ [])) 0
+    (store_of (kernel_frame t x y) v) ≡ stay (store_of (held_by t x y) (put (own 5) 4 v))
 unfolding effect
 leaves t x y v =
     let f : Frame = kernel_frame t x y in
     assigned at_kernel enter 26 M.cnt (constant 3 4) _ 0 f v refl refl
-    ∙ accept machine_world at_kernel enter end_block 0 (store_of f (put (own 5) 4 v)) (go_to 27 18) (store_of (held_by t x y) (put (own 5) 4 v)) go_quiet refl (ap stay (to_run f (put (own 5) 4 v)))
+    ∙ accept machine_world at_kernel enter end_block 0 (store_of f (put (own 5) 4 v)) (go_to 27 18)
+    (store_of (held_by t x y) (put (own 5) 4 v)) go_quiet refl (ap stay (to_run f (put (own 5) 4 v)))
     ∙ finished at_kernel enter 0 (store_of (held_by t x y) (put (own 5) 4 v))
 
 -- ~who is the turn of the other
@@ -162,7 +175,8 @@ other_turn : (u : User) (l : ℕ) (v : Numbers) → v (own 6) ≡ turn_of u → 
 other_turn A l v is = ap (λ n. 1 - n) is
 other_turn B l v is = ap (λ n. 1 - n) is
 
-switches : (u : User) (l x y : ℕ) (v : Numbers) → Found u l → v (own 6) ≡ turn_of u → in_kernel (kernel_frame l x y) v ≡ stay (store_of (held_by (level_of (other u)) x y) (switched u l v))
+switches : (u : User) (l x y : ℕ) (v : Numbers) → Found u l → v (own 6) ≡ turn_of u
+    → in_kernel (kernel_frame l x y) v ≡ stay (store_of (held_by (level_of (other u)) x y) (switched u l v))
 switches u l x y v found who =
     let t : ℕ = level_of (other u) in
     let v1 : Numbers = zeroed l (kept u v) in

@@ -29,9 +29,12 @@ unfolding put_child reset
 leveled group place target f v (own y) = entities (λ y. (if lowered machine_world target (own y) then 0 else levels f (own y)) ≡ levels f (own y))
     refl refl (not_dynamic (below machine_world target 2) f.pc) (not_dynamic (below machine_world target 3) f.acc) (not_dynamic (below machine_world target 4) f.ir)
     (not_dynamic (below machine_world target 5) 0) (not_dynamic (below machine_world target 6) 0) (not_dynamic (below machine_world target 7) 0)
-    (not_dynamic (below machine_world target 8) 1) (not_dynamic (below machine_world target 9) 1) (not_dynamic (below machine_world target 10) 2) (not_dynamic (below machine_world target 11) 2)
-    (not_dynamic (below machine_world target 12) 1) (not_dynamic (below machine_world target 13) 2) (not_dynamic (below machine_world target 14) 1) (not_dynamic (below machine_world target 15) 2)
-    (not_dynamic (below machine_world target 16) 0) (not_dynamic (below machine_world target 17) 0) (not_dynamic (below machine_world target 18) 0) (not_dynamic (below machine_world target 19) f.user)
+    (not_dynamic (below machine_world target 8) 1) (not_dynamic (below machine_world target 9) 1)
+    (not_dynamic (below machine_world target 10) 2) (not_dynamic (below machine_world target 11) 2)
+    (not_dynamic (below machine_world target 12) 1) (not_dynamic (below machine_world target 13) 2)
+    (not_dynamic (below machine_world target 14) 1) (not_dynamic (below machine_world target 15) 2)
+    (not_dynamic (below machine_world target 16) 0) (not_dynamic (below machine_world target 17) 0)
+    (not_dynamic (below machine_world target 18) 0) (not_dynamic (below machine_world target 19) f.user)
     (λ x. either (lowered machine_world target (own (past x))) 0) y
 leveled group place target f v (start m i) = refl
 leveled group place target f v (next m i) = refl

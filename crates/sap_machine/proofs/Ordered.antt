@@ -68,7 +68,8 @@ lawful = record {
   left = λ x y. at_two (λ a b. is_below table a (level_in 4 (listed_join a b))) refl x y;
   right = λ x y. at_two (λ a b. is_below table b (level_in 4 (listed_join a b))) refl x y;
   least = λ x y z.
-      follows (is_below table (level_in 4 x) (level_in 4 z)) (is_below table (level_in 4 y) (level_in 4 z)) (is_below table (level_in 4 (listed_join (level_in 4 x) (level_in 4 y))) (level_in 4 z))
+      follows (is_below table (level_in 4 x) (level_in 4 z)) (is_below table (level_in 4 y) (level_in 4 z))
+      (is_below table (level_in 4 (listed_join (level_in 4 x) (level_in 4 y))) (level_in 4 z))
       (at_three (λ a b c. not (is_below table a c && is_below table b c) || is_below table (level_in 4 (listed_join a b)) c) refl x y z);
   greatest_of_all = λ x. every_at (λ a. is_below table a 3) 4 refl (level_in 4 x) (level_below x);
   bottom_is_level = lit< tt;

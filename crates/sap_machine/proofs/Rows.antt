@@ -36,7 +36,8 @@ Does u x y v b w = does_block machine_world at_user enter b (level_of u) (store_
 
 abbrev pub Leads : User → (x y : ℕ) → Numbers → Command → Numbers → Type 0
 Leads u x y v c w = (cs : Block)
-    → does_block machine_world at_user enter (command_then c cs) (level_of u) (store_of (turn u x y) v) ≡ does_block machine_world at_user enter cs (level_of u) (store_of (turn u x y) w)
+    → does_block machine_world at_user enter (command_then c cs) (level_of u) (store_of (turn u x y) v)
+    ≡ does_block machine_world at_user enter cs (level_of u) (store_of (turn u x y) w)
 
 pub at_end : (u : User) (x y : ℕ) (v : Numbers) → Does u x y v end_block v
 unfolding does_block
@@ -88,7 +89,8 @@ loaded B = set 33 M.acc (cell M.db M.place)
 
 pub row_ld : (u : User) (x y : ℕ) (v : Numbers) → v (own 6) ≡ turn_of u → Leads u x y v (on 2 (if_or turn_of_a (loaded A ∷ []) (loaded B ∷ []) ∷ [])) (row 2 (ld (cells_of u)) v)
 row_ld u x y v who =
-    on_row u 2 (if_or turn_of_a (loaded A ∷ []) (loaded B ∷ [])) (ld (cells_of u)) x y v (enforced (hangs 19 no_node (on 2 (if_or turn_of_a (loaded A ∷ []) (loaded B ∷ []) ∷ []))) refl refl (λ x. simp apart refl))
+    on_row u 2 (if_or turn_of_a (loaded A ∷ []) (loaded B ∷ [])) (ld (cells_of u)) x y v
+    (enforced (hangs 19 no_node (on 2 (if_or turn_of_a (loaded A ∷ []) (loaded B ∷ []) ∷ []))) refl refl (λ x. simp apart refl))
     (turned u (loaded A) (loaded B) (ld (cells_of u) v) x y v who (enforced (hangs 19 no_node (if_or turn_of_a (loaded A ∷ []) (loaded B ∷ []))) refl refl (λ x. simp apart refl))
     (of_user (λ u. Leads u x y v (mine u (loaded A) (loaded B)) (ld (cells_of u) v))
     (sets A 32 M.acc (cell M.da M.place) x y v refl (λ x y v. refl)) (sets B 33 M.acc (cell M.db M.place) x y v refl (λ x y v. refl)) u))
@@ -100,10 +102,12 @@ stores B = store 35 M.db M.place (read M.acc)
 
 pub row_st : (u : User) (x y : ℕ) (v : Numbers) → v (own 6) ≡ turn_of u → Leads u x y v (on 3 (if_or turn_of_a (stores A ∷ []) (stores B ∷ []) ∷ [])) (row 3 (st (cells_of u)) v)
 row_st u x y v who =
-    on_row u 3 (if_or turn_of_a (stores A ∷ []) (stores B ∷ [])) (st (cells_of u)) x y v (enforced (hangs 19 no_node (on 3 (if_or turn_of_a (stores A ∷ []) (stores B ∷ []) ∷ []))) refl refl (λ x. simp apart refl))
+    on_row u 3 (if_or turn_of_a (stores A ∷ []) (stores B ∷ [])) (st (cells_of u)) x y v
+    (enforced (hangs 19 no_node (on 3 (if_or turn_of_a (stores A ∷ []) (stores B ∷ []) ∷ []))) refl refl (λ x. simp apart refl))
     (turned u (stores A) (stores B) (st (cells_of u) v) x y v who (enforced (hangs 19 no_node (if_or turn_of_a (stores A ∷ []) (stores B ∷ []))) refl refl (λ x. simp apart refl))
     (of_user (λ u. Leads u x y v (mine u (stores A) (stores B)) (st (cells_of u) v))
-    (λ cs. stored at_user enter 34 M.da M.place (read M.acc) cs 1 (turn A x y) v refl refl) (λ cs. stored at_user enter 35 M.db M.place (read M.acc) cs 2 (turn B x y) v refl refl) u))
+    (λ cs. stored at_user enter 34 M.da M.place (read M.acc) cs 1 (turn A x y) v refl refl)
+    (λ cs. stored at_user enter 35 M.db M.place (read M.acc) cs 2 (turn B x y) v refl refl) u))
 
 -- acc := acc + da[ir[3:0]], and the same of db
 abbrev added : User → Command
@@ -112,23 +116,28 @@ added B = set 37 M.acc (two Add (read M.acc) (cell M.db M.place))
 
 pub row_add : (u : User) (x y : ℕ) (v : Numbers) → v (own 6) ≡ turn_of u → Leads u x y v (on 4 (if_or turn_of_a (added A ∷ []) (added B ∷ []) ∷ [])) (row 4 (add (cells_of u)) v)
 row_add u x y v who =
-    on_row u 4 (if_or turn_of_a (added A ∷ []) (added B ∷ [])) (add (cells_of u)) x y v (enforced (hangs 19 no_node (on 4 (if_or turn_of_a (added A ∷ []) (added B ∷ []) ∷ []))) refl refl (λ x. simp apart refl))
+    on_row u 4 (if_or turn_of_a (added A ∷ []) (added B ∷ [])) (add (cells_of u)) x y v
+    (enforced (hangs 19 no_node (on 4 (if_or turn_of_a (added A ∷ []) (added B ∷ []) ∷ []))) refl refl (λ x. simp apart refl))
     (turned u (added A) (added B) (add (cells_of u) v) x y v who (enforced (hangs 19 no_node (if_or turn_of_a (added A ∷ []) (added B ∷ []))) refl refl (λ x. simp apart refl))
     (of_user (λ u. Leads u x y v (mine u (added A) (added B)) (add (cells_of u) v))
-    (sets A 36 M.acc (two Add (read M.acc) (cell M.da M.place)) x y v refl (λ x y v. refl)) (sets B 37 M.acc (two Add (read M.acc) (cell M.db M.place)) x y v refl (λ x y v. refl)) u))
+    (sets A 36 M.acc (two Add (read M.acc) (cell M.da M.place)) x y v refl (λ x y v. refl))
+    (sets B 37 M.acc (two Add (read M.acc) (cell M.db M.place)) x y v refl (λ x y v. refl)) u))
 
 -- acc := acc - da[ir[3:0]], and the same of db
 abbrev subtracted : User → Command
 subtracted A = set 38 M.acc (two Sub (read M.acc) (cell M.da M.place))
 subtracted B = set 39 M.acc (two Sub (read M.acc) (cell M.db M.place))
 
-pub row_sub : (u : User) (x y : ℕ) (v : Numbers) → v (own 6) ≡ turn_of u → Leads u x y v (on 5 (if_or turn_of_a (subtracted A ∷ []) (subtracted B ∷ []) ∷ [])) (row 5 (sub (cells_of u)) v)
+pub row_sub : (u : User) (x y : ℕ) (v : Numbers) → v (own 6) ≡ turn_of u
+    → Leads u x y v (on 5 (if_or turn_of_a (subtracted A ∷ []) (subtracted B ∷ []) ∷ [])) (row 5 (sub (cells_of u)) v)
 row_sub u x y v who =
     on_row u 5 (if_or turn_of_a (subtracted A ∷ []) (subtracted B ∷ [])) (sub (cells_of u)) x y v
     (enforced (hangs 19 no_node (on 5 (if_or turn_of_a (subtracted A ∷ []) (subtracted B ∷ []) ∷ []))) refl refl (λ x. simp apart refl))
-    (turned u (subtracted A) (subtracted B) (sub (cells_of u) v) x y v who (enforced (hangs 19 no_node (if_or turn_of_a (subtracted A ∷ []) (subtracted B ∷ []))) refl refl (λ x. simp apart refl))
+    (turned u (subtracted A) (subtracted B) (sub (cells_of u) v) x y v who
+    (enforced (hangs 19 no_node (if_or turn_of_a (subtracted A ∷ []) (subtracted B ∷ []))) refl refl (λ x. simp apart refl))
     (of_user (λ u. Leads u x y v (mine u (subtracted A) (subtracted B)) (sub (cells_of u) v))
-    (sets A 38 M.acc (two Sub (read M.acc) (cell M.da M.place)) x y v refl (λ x y v. refl)) (sets B 39 M.acc (two Sub (read M.acc) (cell M.db M.place)) x y v refl (λ x y v. refl)) u))
+    (sets A 38 M.acc (two Sub (read M.acc) (cell M.da M.place)) x y v refl (λ x y v. refl))
+    (sets B 39 M.acc (two Sub (read M.acc) (cell M.db M.place)) x y v refl (λ x y v. refl)) u))
 
 pub row_jmp : (u : User) (x y : ℕ) (v : Numbers) → Leads u x y v (on 6 (set 40 M.pc M.place ∷ [])) (row 6 jmp v)
 row_jmp u x y v =
@@ -137,14 +146,17 @@ row_jmp u x y v =
 
 pub row_jz : (u : User) (x y : ℕ) (v : Numbers) → Leads u x y v (on 7 (when (is 8 (read M.acc) 0) (set 41 M.pc M.place ∷ []) ∷ [])) (row 7 jz v)
 row_jz u x y v =
-    on_row u 7 (when (is 8 (read M.acc) 0) (set 41 M.pc M.place ∷ [])) jz x y v (enforced (hangs 19 no_node (on 7 (when (is 8 (read M.acc) 0) (set 41 M.pc M.place ∷ []) ∷ []))) refl refl (λ x. simp apart refl))
+    on_row u 7 (when (is 8 (read M.acc) 0) (set 41 M.pc M.place ∷ [])) jz x y v
+    (enforced (hangs 19 no_node (on 7 (when (is 8 (read M.acc) 0) (set 41 M.pc M.place ∷ []) ∷ []))) refl refl (λ x. simp apart refl))
     (λ cs. chosen at_user enter (is 8 (read M.acc) 0) (block (set 41 M.pc M.place ∷ [])) end_block cs M.none (level_of u) (turn u x y) v (jmp v) v (eqb (v (own 3)) 0)
-    (enforced (hangs 19 no_node (when (is 8 (read M.acc) 0) (set 41 M.pc M.place ∷ []))) refl refl (λ x. simp apart refl)) (of_user (Allows (is 8 (read M.acc) 0)) (λ x y v. refl) (λ x y v. refl) u x y v) refl
+    (enforced (hangs 19 no_node (when (is 8 (read M.acc) 0) (set 41 M.pc M.place ∷ []))) refl refl (λ x. simp apart refl))
+    (of_user (Allows (is 8 (read M.acc) 0)) (λ x y v. refl) (λ x y v. refl) u x y v) refl
     (sets u 41 M.pc M.place x y v refl (of_user (Passes 41 M.pc M.place) (λ x y v. refl) (λ x y v. refl) u) end_block ∙ at_end u x y (jmp v)) (at_end u x y v))
 
 pub row_halt : (u : User) (x y : ℕ) (v : Numbers) → Leads u x y v (on 8 (set 42 M.pc (two Sub (read M.pc) (constant 4 1)) ∷ [])) (row 8 halt v)
 row_halt u x y v =
-    on_row u 8 (set 42 M.pc (two Sub (read M.pc) (constant 4 1))) halt x y v (enforced (hangs 19 no_node (on 8 (set 42 M.pc (two Sub (read M.pc) (constant 4 1)) ∷ []))) refl refl (λ x. simp apart refl))
+    on_row u 8 (set 42 M.pc (two Sub (read M.pc) (constant 4 1))) halt x y v
+    (enforced (hangs 19 no_node (on 8 (set 42 M.pc (two Sub (read M.pc) (constant 4 1)) ∷ []))) refl refl (λ x. simp apart refl))
     (sets u 42 M.pc (two Sub (read M.pc) (constant 4 1)) x y v refl (of_user (Passes 42 M.pc (two Sub (read M.pc) (constant 4 1))) (λ x y v. refl) (λ x y v. refl) u))
 
 -- ir := pa[pc], and the same of pb
@@ -154,7 +166,8 @@ fetched B = set 44 M.ir (cell M.pb (read M.pc))
 
 pub fetches : (u : User) (x y : ℕ) (v : Numbers) → v (own 6) ≡ turn_of u → Leads u x y v (if_or turn_of_a (fetched A ∷ []) (fetched B ∷ [])) (fetch (words_of u) v)
 fetches u x y v who =
-    turned u (fetched A) (fetched B) (fetch (words_of u) v) x y v who (enforced (hangs 19 no_node (if_or turn_of_a (fetched A ∷ []) (fetched B ∷ []))) refl refl (λ x. simp apart refl))
+    turned u (fetched A) (fetched B) (fetch (words_of u) v) x y v who
+    (enforced (hangs 19 no_node (if_or turn_of_a (fetched A ∷ []) (fetched B ∷ []))) refl refl (λ x. simp apart refl))
     (of_user (λ u. Leads u x y v (mine u (fetched A) (fetched B)) (fetch (words_of u) v))
     (sets A 43 M.ir (cell M.pa (read M.pc)) x y v refl (λ x y v. refl)) (sets B 44 M.ir (cell M.pb (read M.pc)) x y v refl (λ x y v. refl)) u)
 

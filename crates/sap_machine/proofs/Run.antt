@@ -71,7 +71,8 @@ one stream inputs c s small fit here at =
     let p = pair_of inputs fit in
     let a_is : given stream 0 c ≡ p.a = ap (λ (xs : List Tagged). input_in xs 0) (here ∙ p.are) in
     let b_is : given stream 1 c ≡ p.b = ap (λ (xs : List Tagged). input_in xs 1) (here ∙ p.are) in
-    let told : refused_of c p.a p.b ≡ refused_words machine_world.order stream c = ap (λ t. refused_of c t p.b) (sym a_is) ∙ ap (λ u. refused_of c (given stream 0 c) u) (sym b_is) in
+    let told : refused_of c p.a p.b ≡ refused_words machine_world.order stream c =
+    ap (λ t. refused_of c t p.b) (sym a_is) ∙ ap (λ u. refused_of c (given stream 0 c) u) (sym b_is) in
     let now = one_cycle (words_in stream) c p.a p.b s small (early_word A stream c p.a a_is) (early_word B stream c p.b b_is) at in
     subst (λ (xs : List Tagged). Next (words_in stream) c (refused_words machine_world.order stream c) (cycle machine xs s)) (sym p.are) (now.0 ∙ told, now.1)
 
@@ -95,7 +96,8 @@ walk stream (inputs ∷ rest) c s small fit link at zero below =
 walk stream (inputs ∷ rest) c s small fit link at (suc d) below =
     let now = one stream inputs c s small fit.0 (ap (λ i. get_or stream i []) (let e : c ≡ c + 0 = omega arith in e) ∙ sym (link 0)) at in
     let s' : Store = (cycle machine inputs s).store in
-    let later = walk stream rest (suc c) s' small fit.1 (λ i. link (suc i) ∙ ap (λ i. get_or stream i []) (let e : c + suc i ≡ suc c + i = omega arith in e)) now.1 d (omega arith) in
+    let later = walk stream rest (suc c) s' small fit.1 (λ i. link (suc i)
+    ∙ ap (λ i. get_or stream i []) (let e : c + suc i ≡ suc c + i = omega arith in e)) now.1 d (omega arith) in
     let e : suc c + d ≡ c + suc d = omega arith in
     let e' : suc c + suc d ≡ c + suc (suc d) = omega arith in
     (later.0 ∙ ap (λ c. refused_words machine_world.order stream c) e, subst (λ n. At (words_in stream) n (nth_from s' rest d).store) e' later.1)
@@ -107,7 +109,8 @@ begins_at stream = boots 0 0 _ (omega arith) first_store (begins (words_in strea
 pub reached : (stream : List (List Tagged)) → StreamFits machine_world stream → (c : ℕ) → c < length stream
     → ((after_cycles machine (suc c) stream).refused ≡ refused_words machine_world.order stream c) × At (words_in stream) (suc c) (after_cycles machine (suc c) stream).store
 reached stream fit c below =
-    let r = walk stream stream 0 (first machine_world) (small_words stream fit) fit (λ i. ap (λ i. get_or stream i []) (let e : i ≡ 0 + i = omega arith in e)) (begins_at stream) c below in
+    let r = walk stream stream 0 (first machine_world) (small_words stream fit) fit (λ i. ap (λ i. get_or stream i []) (let e : i ≡ 0 + i =
+    omega arith in e)) (begins_at stream) c below in
     let e : 0 + c ≡ c = omega arith in
     let e' : 0 + suc c ≡ suc c = omega arith in
     (r.0 ∙ ap (λ c. refused_words machine_world.order stream c) e, subst (λ n. At (words_in stream) n (after_cycles machine (suc c) stream).store) e' r.1)
@@ -127,7 +130,8 @@ at_slice words n c s e (starts m x y v ec is now) u =
     let here : m ≡ n = omega arith in
     let numbers = λ (z : Slot). ap (λ s. s.number z) is in
     subst (λ n. Keeps u (after words u n) s) here
-    (of_both (λ u. Keeps u (after words u m) s) (holder m) (keeps_of (holder m) (after words (holder m) m) v s numbers now.mine) (keeps_of (other (holder m)) (after words (other (holder m)) m) v s numbers now.others) u)
+    (of_both (λ u. Keeps u (after words u m) s) (holder m) (keeps_of (holder m) (after words (holder m) m) v s numbers now.mine)
+    (keeps_of (other (holder m)) (after words (other (holder m)) m) v s numbers now.others) u)
 at_slice words n c s e (runs m r d x y v full ec is now) u = let no : ⊥ = omega arith in elim no [ ]
 at_slice words n c s e (leaves m x y v ec is now) u = let no : ⊥ = omega arith in elim no [ ]
 
@@ -135,4 +139,5 @@ pub runs_the_table : RunsTheTable machine
 runs_the_table stream fit n long u =
     let r = reached stream fit (16 + 6 * n) (omega arith) in
     let e : suc (16 + 6 * n) ≡ 17 + 6 * n = omega arith in
-    subst (λ (c : ℕ). Keeps u (after_slices u (word machine_world.order u stream) n) (after_cycles machine c stream).store) e (at_slice (words_in stream) n (suc (16 + 6 * n)) _ e r.1 u)
+    subst (λ (c : ℕ). Keeps u (after_slices u (word machine_world.order u stream) n) (after_cycles machine c stream).store) e
+    (at_slice (words_in stream) n (suc (16 + 6 * n)) _ e r.1 u)

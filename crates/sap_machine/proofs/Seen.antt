@@ -93,8 +93,22 @@ length_run s (inputs ∷ rest) = ap suc (length_run (cycle machine inputs s).sto
 -- before the first cycle
 at_first : (u : User) → SamePart machine_world u (first machine_world) (first machine_world)
 unfolding first
-at_first A = record { kept = record { pc = refl; acc = refl; cell = λ k below. refl }; word = λ k below. refl; pc = inl (refl, refl, refl); acc = inl (refl, refl, refl); ir = inl (refl, refl, refl) }
-at_first B = record { kept = record { pc = refl; acc = refl; cell = λ k below. refl }; word = λ k below. refl; pc = inl (refl, refl, refl); acc = inl (refl, refl, refl); ir = inl (refl, refl, refl) }
+at_first A = record {
+  kept = record { pc = refl; acc = refl; cell = λ k below. refl };
+  word = λ k below. refl;
+  pc =
+      inl (refl, refl, refl);
+  acc = inl (refl, refl, refl);
+  ir = inl (refl, refl, refl);
+}
+at_first B = record {
+  kept = record { pc = refl; acc = refl; cell = λ k below. refl };
+  word = λ k below. refl;
+  pc =
+      inl (refl, refl, refl);
+  acc = inl (refl, refl, refl);
+  ir = inl (refl, refl, refl);
+}
 
 -- so it is for each user, where the runs agree at its level
 behind : (s t : List (List Tagged)) → StreamFits machine_world s → (u : User) → RunsAgree machine (level_of u) (labelled_run machine s) (labelled_run machine t)
@@ -102,8 +116,10 @@ behind : (s t : List (List Tagged)) → StreamFits machine_world s → (u : User
 behind s t fit u agree zero short = at_first u
 behind s t fit u agree (suc c) short =
     let inside : c < length (labelled_run machine s) = omega (arith, length_run (first machine_world) s) in
-    let now = at_place (λ a b. StatesAgree machine (level_of u) a.store b.store × RefusalsAgree machine_world.order (level_of u) a.refused b.refused) (stay (first machine_world)) (labelled_run machine s) (labelled_run machine t) agree c inside in
-    of_states u (after_cycles machine (suc c) s).store (after_cycles machine (suc c) t).store (levels_at (words_in s) (suc c) (after_cycles machine (suc c) s).store (reached s fit c (omega arith)).1 u) now.0
+    let now = at_place (λ a b. StatesAgree machine (level_of u) a.store b.store
+    × RefusalsAgree machine_world.order (level_of u) a.refused b.refused) (stay (first machine_world)) (labelled_run machine s) (labelled_run machine t) agree c inside in
+    of_states u (after_cycles machine (suc c) s).store (after_cycles machine (suc c) t).store
+    (levels_at (words_in s) (suc c) (after_cycles machine (suc c) s).store (reached s fit c (omega arith)).1 u) now.0
 
 pub others_dont_count : LabelledAgree machine → OthersDontCount machine
 others_dont_count agree s t fit_s fit_t A same c short = behind s t fit_s A (agree 1 s t same) c short
@@ -128,7 +144,8 @@ hidden_alike : (l : ℕ) (x y : Tagged) → (x ≡ y) ⊎ (High machine_world.or
 hidden_alike l x y (inl e) = same_alike l x y e
 hidden_alike l x y (inr h) = inr h
 
-inputs_agree : (u : User) (i j : List Tagged) → InputsFit machine_world i → InputsFit machine_world j → OthersWordDiffers machine_world.order u i j → InputsAgree machine_world.order (level_of u) i j
+inputs_agree : (u : User) (i j : List Tagged) → InputsFit machine_world i → InputsFit machine_world j
+    → OthersWordDiffers machine_world.order u i j → InputsAgree machine_world.order (level_of u) i j
 inputs_agree u [] j fi fj d = elim fi [ ]
 inputs_agree u (a ∷ []) j fi fj d = elim fi.2 [ ]
 inputs_agree u (a ∷ (b ∷ (x ∷ xs))) j fi fj d = elim fi.2.2 [ ]

@@ -17,7 +17,10 @@ use Rattle.sap_machine.specs.Design.{machine_design}
 use Rattle.sap_machine.specs.DesignText.{IsTextOf, machine_text}
 
 pub whole : is_whole machine_design ≡ true
-unfolding is_simple is_whole is_expression are_expressions is_tag are_tags is_command is_block is_else are_arms are_commands command_count block_count else_count arms_count list_count command_depth block_depth else_depth arms_depth list_depth is_state are_states state_count states_count state_depth states_depth state_commands states_commands tokens part_tokens brackets part_brackets tag_tokens tag_part_tokens tag_brackets tag_part_brackets precedence_of is_name
+unfolding is_simple is_whole is_expression are_expressions is_tag are_tags is_command is_block is_else are_arms are_commands command_count
+    block_count else_count arms_count list_count command_depth block_depth else_depth arms_depth list_depth is_state are_states state_count
+    states_count state_depth states_depth state_commands states_commands tokens part_tokens brackets part_brackets tag_tokens
+    tag_part_tokens tag_brackets tag_part_brackets precedence_of is_name
 whole = refl
 
 named : design_name_faults diamond.names (order_of diamond).le machine_design ≡ []

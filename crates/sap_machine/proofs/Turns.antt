@@ -41,7 +41,8 @@ counts u t t' v = rows_keep (cells_of u) (own 5) (λ v. refl) (λ v. refl) (λ v
 -- where ir is 0, no row does anything
 no_row : (m : ℕ) (w : Numbers) → op w ≡ 0 → rows m w ≡ w
 no_row m w is =
-    rows_chain m w w w w w w w w w (skip_row 1 ldi w (ap (λ n. eqb n 1) is)) (skip_row 2 (ld m) w (ap (λ n. eqb n 2) is)) (skip_row 3 (st m) w (ap (λ n. eqb n 3) is)) (skip_row 4 (add m) w (ap (λ n. eqb n 4) is))
+    rows_chain m w w w w w w w w w (skip_row 1 ldi w (ap (λ n. eqb n 1) is)) (skip_row 2 (ld m) w (ap (λ n. eqb n 2) is))
+    (skip_row 3 (st m) w (ap (λ n. eqb n 3) is)) (skip_row 4 (add m) w (ap (λ n. eqb n 4) is))
     (skip_row 5 (sub m) w (ap (λ n. eqb n 5) is)) (skip_row 6 jmp w (ap (λ n. eqb n 6) is)) (skip_row 7 jz w (ap (λ n. eqb n 7) is)) (skip_row 8 halt w (ap (λ n. eqb n 8) is))
 
 -- the first cycle does nothing but fetch
@@ -49,7 +50,14 @@ pub starts : (u : User) (t t' : Tagged) (s o : UserState) (v : Numbers) → s.pc
 starts u t t' s o v below now =
     let w = counted (fed t t' v) in
     let is : op w ≡ 0 = ap (λ i. i / 256 % 16) now.ir in
-    let before : Done u s w = record { pc = now.pc; acc = now.acc; next_cell = now.mine.memories.next_cell; word = now.mine.memories.word; next_word = now.mine.memories.next_word } in
+    let before : Done u s w = record {
+      pc = now.pc;
+      acc = now.acc;
+      next_cell = now.mine.memories.next_cell;
+      word =
+          now.mine.memories.word;
+      next_word = now.mine.memories.next_word;
+    } in
     record {
       who = who_stays u t t' v ∙ now.who;
       cnt = counts u t t' v ∙ ap (λ c. (8 + c - 1) % 8) now.cnt;
@@ -70,7 +78,16 @@ pub waits : (u : User) (t t' : Tagged) (s o : UserState) (v : Numbers) → Runni
 waits u t t' s o v now = record {
   who = now.who;
   cnt = now.cnt;
-  mine = record { pc = now.mine.pc; ir = now.mine.ir; acc = now.mine.acc; cell = now.mine.next_cell; next_cell = now.mine.next_cell; word = now.mine.next_word; next_word = now.mine.next_word };
+  mine = record {
+    pc = now.mine.pc;
+    ir = now.mine.ir;
+    acc = now.mine.acc;
+    cell = now.mine.next_cell;
+    next_cell = now.mine.next_cell;
+    word =
+        now.mine.next_word;
+    next_word = now.mine.next_word;
+  };
   others = kept_fed (other u) t t' o v now.others;
 }
 

@@ -83,7 +83,8 @@ pub stored : (at : Home) (enter : ℕ → ℕ → Store → After) (site m : ℕ
     ≡ does_block machine_world at enter cs pc (store_of f (put (next m (value machine_world i (store_of f v))) (value machine_world e (store_of f v)) v))
 unfolding effect put_number
 stored at enter site m i e cs pc f v enforced holds =
-    accept machine_world at enter cs pc (store_of f v) (write site m i e) (store_of f (put (next m (value machine_world i (store_of f v))) (value machine_world e (store_of f v)) v)) nothing_raised holds
+    accept machine_world at enter cs pc (store_of f v) (write site m i e)
+    (store_of f (put (next m (value machine_world i (store_of f v))) (value machine_world e (store_of f v)) v)) nothing_raised holds
     (rw enforced refl)
 
 -- if (e) { a } else { b }
@@ -92,6 +93,9 @@ pub chosen : (at : Home) (enter : ℕ → ℕ → Store → After) (e : Term ℕ
     → value machine_world e (store_of f v) ≡ (let n : ℕ = if holds then 1 else 0 in n)
     → does_block machine_world at enter a pc (store_of f v) ≡ stay (store_of f yes_v)
     → does_block machine_world at enter b pc (store_of f v) ≡ stay (store_of f no_v)
-    → does_block machine_world at enter (command_then (if_else hang e a b) cs) pc (store_of f v) ≡ does_block machine_world at enter cs pc (store_of f (if holds then yes_v else no_v))
-chosen at enter e a b cs hang pc f v yes_v no_v true quiet context is then_is else_is = take_then machine_world at enter cs pc (store_of f v) e hang a b quiet context (store_of f yes_v) is then_is
-chosen at enter e a b cs hang pc f v yes_v no_v false quiet context is then_is else_is = take_else machine_world at enter cs pc (store_of f v) e hang a b quiet context (store_of f no_v) is else_is
+    → does_block machine_world at enter (command_then (if_else hang e a b) cs) pc (store_of f v)
+    ≡ does_block machine_world at enter cs pc (store_of f (if holds then yes_v else no_v))
+chosen at enter e a b cs hang pc f v yes_v no_v true quiet context is then_is else_is =
+    take_then machine_world at enter cs pc (store_of f v) e hang a b quiet context (store_of f yes_v) is then_is
+chosen at enter e a b cs hang pc f v yes_v no_v false quiet context is then_is else_is =
+    take_else machine_world at enter cs pc (store_of f v) e hang a b quiet context (store_of f no_v) is else_is

@@ -48,7 +48,8 @@ unfolding first
 first_store = same_store (first machine_world) (store_of (boot_frame 0 0 0) (first_number machine_world)) (λ z. refl) leveled seated
   where
     leveled : (z : Slot) → first_level machine_world z ≡ levels (boot_frame 0 0 0) z
-    leveled (own y) = entities (λ y. first_level machine_world (own y) ≡ levels (boot_frame 0 0 0) (own y)) refl refl refl refl refl refl refl refl refl refl refl refl refl refl refl refl refl refl refl refl (λ x. refl) y
+    leveled (own y) = entities (λ y. first_level machine_world (own y) ≡ levels (boot_frame 0 0 0) (own y)) refl refl refl refl refl refl
+        refl refl refl refl refl refl refl refl refl refl refl refl refl refl (λ x. refl) y
     leveled (start m i) = refl
     leveled (next m i) = refl
     leveled (start_whole m) = refl
@@ -117,19 +118,25 @@ one_cycle words c t t' s small new_a new_b (boots x y v early is now) = by (nat_
         subst (λ s. Next words c (refused_of c t t') (cycle machine (t ∷ t' ∷ []) s)) (sym is)
         (subst (λ r. Next words c (refused_of c t t') r) (sym (boot_cycle true x y t t' v n)) (
           ends (refused_word machine_world.order A t) (refused_word machine_world.order B t') ∙ sym told,
-          first_kernel t.level t'.level (settled (booted t.level t'.level (fed t t' v))) (ap suc here) refl (subst (λ i. Booting words i (settled (booted t.level t'.level (fed t t' v)))) (ap suc here) later),
+          first_kernel t.level t'.level (settled (booted t.level t'.level (fed t t' v))) (ap suc here) refl
+              (subst (λ i. Booting words i (settled (booted t.level t'.level (fed t t' v)))) (ap suc here) later),
         ))
     by false before =
         let early_yet : suc c < 16 = grind (arith, common_steps) in
-        let n : eqb (booted t.level t'.level (fed t t' v) (own 7)) 0 ≡ false = ap (λ n. eqb n 0) (booted_n words t t' c v now) ∙ (let e : eqb ((c % 16 + 1) % 16) 0 ≡ false = grind (arith, common_steps) in e) in
+        let n : eqb (booted t.level t'.level (fed t t' v) (own 7)) 0 ≡ false = ap (λ n. eqb n 0) (booted_n words t t' c v now)
+        ∙ (let e : eqb ((c % 16 + 1) % 16) 0 ≡ false = grind (arith, common_steps) in e) in
         subst (λ s. Next words c (refused_of c t t') (cycle machine (t ∷ t' ∷ []) s)) (sym is)
-        (subst (λ r. Next words c (refused_of c t t') r) (sym (boot_cycle false x y t t' v n))
-        (ends (refused_word machine_world.order A t) (refused_word machine_world.order B t') ∙ sym told, boots t.level t'.level (settled (booted t.level t'.level (fed t t' v))) early_yet refl later))
+        (subst (λ r. Next words c (refused_of c t t') r) (sym (boot_cycle false x y t t' v n)) (
+          ends (refused_word machine_world.order A t) (refused_word machine_world.order B t')
+              ∙ sym told,
+          boots t.level t'.level (settled (booted t.level t'.level (fed t t' v))) early_yet refl later,
+        ))
 one_cycle words c t t' s small new_a new_b (first_kernel x y v is_c is now) =
     let begun_turn : Started A (after words A 0) (after words B 0) (settled (switched B 0 (fed t t' v))) =
     subst (λ z. Started A z (after words B 0) (settled (switched B 0 (fed t t' v)))) (sym (no_slice A (words A)))
     (subst (λ z. Started A (begun (words A)) z (settled (switched B 0 (fed t t' v)))) (sym (no_slice B (words B))) (first_turn words t t' v now)) in
-    from words c t t' s (store_of (kernel_frame 0 x y) v) _ (omega arith) is (switch_cycle B 0 x y t t' v at_first now.who) (starts 0 t.level t'.level _ (omega arith) refl begun_turn)
+    from words c t t' s (store_of (kernel_frame 0 x y) v) _ (omega arith) is (switch_cycle B 0 x y t t' v at_first now.who)
+    (starts 0 t.level t'.level _ (omega arith) refl begun_turn)
 one_cycle words c t t' s small new_a new_b (starts n x y v ec is now) =
     let h = holder n in
     from words c t t' s (store_of (turn h x y) v) _ (omega arith) is (cycle_of h x y t t' v now.who (ap (λ n. eqb n 0) now.cnt))
@@ -145,7 +152,8 @@ one_cycle words c t t' s small new_a new_b (runs n r zero x y v full ec is now) 
     (turns.waits h t t' (steps r (after words h n)) (after words (other h) n) v now))))
 one_cycle words c t t' s small new_a new_b (runs n r (suc d) x y v full ec is now) =
     let h = holder n in
-    from words c t t' s (store_of (turn h x y) v) _ (omega arith) is (cycle_of h x y t t' v now.who (ap (λ n. eqb n 0) now.cnt ∙ (let e : eqb (suc d) 0 ≡ false = grind (arith, common_steps) in e)))
+    from words c t t' s (store_of (turn h x y) v) _ (omega arith) is
+    (cycle_of h x y t t' v now.who (ap (λ n. eqb n 0) now.cnt ∙ (let e : eqb (suc d) 0 ≡ false = grind (arith, common_steps) in e)))
     (runs n (suc r) d t.level t'.level _ (omega arith) (omega arith) refl
     (subst (λ z. Running h d z (after words (other h) n) (instruction h t t' v)) (step_behind r (after words h n))
     (turns.goes_on h t t' d (steps r (after words h n)) (after words (other h) n) v (omega arith) (steps_fit r (after words h n) (after_fits words h n small)) now)))

@@ -109,27 +109,33 @@ module _ (w : World) (laws : Laws w.order) where
     effect_fits : (k : Step) → FineStep w q at.children k → SizedStep w k → (pc : ℕ) (b s : Store) → Level pc → Fits w b → Fits w s → Fits w (effect w at enter k pc b s).store
     unfolding effect
     effect_fits (assign site x e) fine sized pc b s lp fb f =
-        fits_level _ (own x) _ (picked (is_dynamic w x) _ _ _ (laws.join_is_level _ _) (f.levels _)) (fits_number s (own x) _ (subst (λ (u : ℕ). value w e b < 2 ^ u) sized.1 (value_fits e sized.0 b fb)) f)
+        fits_level _ (own x) _ (picked (is_dynamic w x) _ _ _ (laws.join_is_level _ _) (f.levels _))
+        (fits_number s (own x) _ (subst (λ (u : ℕ). value w e b < 2 ^ u) sized.1 (value_fits e sized.0 b fb)) f)
     effect_fits (write site m i e) fine sized pc b s lp fb f = elim (cases_Bool (is_dynamic w m)) [
       | inl d ↦ rw d (fits_number _ (next m (value w i b)) _ (subst (λ (u : ℕ). value w e b < 2 ^ u) sized.3 (value_fits e sized.2 b fb)) (fits_raise s _ _ f))
       | inr d ↦ rw d (fits_number s (next m (value w i b)) _ (subst (λ (u : ℕ). value w e b < 2 ^ u) sized.3 (value_fits e sized.2 b fb)) f)
     ]
     effect_fits (retag site x n) fine sized pc b s lp fb f =
-        fits_level _ (own x) _ (level_fits n fine.2 b fb) (fits_number s (own x) _ (picked (w.order.le (level w (own x) b) (new_level w n b)) _ _ _ (fb.numbers (own x)) (zero_fits (width w x))) f)
+        fits_level _ (own x) _ (level_fits n fine.2 b fb)
+        (fits_number s (own x) _ (picked (w.order.le (level w (own x) b) (new_level w n b)) _ _ _ (fb.numbers (own x)) (zero_fits (width w x))) f)
     effect_fits (retag_cell site m j n) fine sized pc b s lp fb f =
-        fits_level _ (next m (value w j b)) _ (level_fits n fine.3 b fb) (fits_number s (next m (value w j b)) _ (picked (w.order.le (level w (start m (value w j b)) b) (new_level w n b)) _ _ _ (fb.numbers (start m (value w j b))) (zero_fits (width w m))) f)
+        fits_level _ (next m (value w j b)) _ (level_fits n fine.3 b fb)
+        (fits_number s (next m (value w j b)) _ (picked (w.order.le (level w (start m (value w j b)) b) (new_level w n b))
+        _ _ _ (fb.numbers (start m (value w j b))) (zero_fits (width w m))) f)
     effect_fits (go_to site target) fine sized pc b s lp fb f =
         let moved = fits_reset _ target (fits_child s at.parent _ f) in
         elim (cases_Bool (is_dynamic w target)) [ inl d ↦ rw d (fits_level _ (own target) pc lp moved) | inr d ↦ rw d moved ]
     effect_fits (fall_to_child site hang) fine sized pc b s lp fb f = entering _ _ (laws.join_is_level _ _) s f
 
-    attempt_fits : (k : Step) → FineStep w q at.children k → SizedStep w k → (hang : ℕ → Bool) (h : ℕ → Store → After) → ((p : ℕ) → Level p → Fitting (h p)) → (pc : ℕ) → Level pc → Fitting (attempt w at enter k hang h pc)
+    attempt_fits : (k : Step) → FineStep w q at.children k → SizedStep w k → (hang : ℕ → Bool) (h : ℕ → Store → After)
+        → ((p : ℕ) → Level p → Fitting (h p)) → (pc : ℕ) → Level pc → Fitting (attempt w at enter k hang h pc)
     unfolding attempt
     attempt_fits k fine sized hang h g pc lp s f =
         let up = fits_raise s hang (guard w at k s) f in
         elim (cases_Bool (test w at k pc s)) [ inl t ↦ rw t (effect_fits k fine sized pc s _ lp f up) | inr t ↦ rw t (g _ (laws.join_is_level _ _) _ up) ]
 
-    attempt_then_fits : (k : Step) → FineStep w q at.children k → SizedStep w k → (hang : ℕ → Bool) (a b : ℕ → Store → After) → ((p : ℕ) → Level p → Fitting (a p)) → ((p : ℕ) → Level p → Fitting (b p))
+    attempt_then_fits : (k : Step) → FineStep w q at.children k → SizedStep w k → (hang : ℕ → Bool) (a b : ℕ → Store → After)
+        → ((p : ℕ) → Level p → Fitting (a p)) → ((p : ℕ) → Level p → Fitting (b p))
         → (pc : ℕ) → Level pc → Fitting (attempt_then w at enter k hang a b pc)
     unfolding attempt_then
     attempt_then_fits k fine sized hang a b fa fb pc lp s f =
@@ -148,10 +154,12 @@ module _ (w : World) (laws : Laws w.order) where
 
       does_fits : (c : Command) → FineCommand w q at.children c → Sized w c → (pc : ℕ) → Level pc → Fitting (does w at enter c pc)
       does_fits (lone k) fine sized pc lp s f = attempt_fits k fine sized (raised_alone w at k) (λ p t. stay t) (λ p lq t h. h) pc lp s f
-      does_fits (try k hang h) fine sized pc lp s f = attempt_fits k fine.0 sized.0 (touches w at (try k hang h)) (does_block w at enter h) (λ p lq t i. block_fits h fine.1 sized.1 p lq t i) pc lp s f
+      does_fits (try k hang h) fine sized pc lp s f =
+          attempt_fits k fine.0 sized.0 (touches w at (try k hang h)) (does_block w at enter h) (λ p lq t i. block_fits h fine.1 sized.1 p lq t i) pc lp s f
       does_fits (if_else hang e a b) fine sized pc lp s f =
           select_fits e (touches w at (if_else hang e a b)) (branch (does_block w at enter a) (does_block w at enter b))
-          (λ v p lq t i. branch_all (λ z. Fits w z.store) (does_block w at enter a) (does_block w at enter b) v p t (block_fits a fine.1 sized.2 p lq t i) (block_fits b fine.2 sized.3 p lq t i)) pc s f
+          (λ v p lq t i. branch_all (λ z. Fits w z.store) (does_block w at enter a) (does_block w at enter b) v p t
+          (block_fits a fine.1 sized.2 p lq t i) (block_fits b fine.2 sized.3 p lq t i)) pc s f
       does_fits (try_then k hang a b) fine sized pc lp s f =
           attempt_then_fits k fine.0 sized.0 (touches w at (try_then k hang a b)) (does_block w at enter a) (does_block w at enter b)
           (λ p lq t i. block_fits a fine.1 sized.1 p lq t i) (λ p lq t i. block_fits b fine.2 sized.2 p lq t i) pc lp s f
@@ -173,7 +181,8 @@ module _ (w : World) (laws : Laws w.order) where
 
     state_fits : (t : State) (p : ℕ) (q : Group) (n : ℕ) → FineState w q n t → SizedState w t → (pc : ℕ) → Level pc → Fitting (does_state w t p pc)
     state_fits (state_node e b g) p q n fine sized pc lp s f =
-        block_fits (record { state = e; parent = p; children = g }) q (does_child w g e) (λ m z lz s f. child_fits g e g 0 fine.1 sized.1 m z lz s f) b fine.0.steps sized.0 pc lp s f
+        block_fits (record { state = e; parent = p; children = g }) q (does_child w g e)
+        (λ m z lz s f. child_fits g e g 0 fine.1 sized.1 m z lz s f) b fine.0.steps sized.0 pc lp s f
 
     child_fits : (g : Group) (p : ℕ) (q : Group) (n : ℕ) → FineGroup w q n g → SizedGroup w g → (m pc : ℕ) → Level pc → Fitting (does_child w g p m pc)
     child_fits no_node p q n fine sized m pc lp s f = f
@@ -193,12 +202,14 @@ head_fits : (count u : ℕ) (us : List ℕ) (ts : List Tagged) (d : Tagged) → 
 head_fits count u us [] d h = absurd h
 head_fits count u us (t ∷ ts) d h = (h.0, h.1)
 
-tail_fits : (count u : ℕ) (us : List ℕ) (ts : List Tagged) (d : Tagged) (n v : ℕ) → ((rest : List Tagged) → AllFit count us rest → Fit count v (get_or rest n d)) → AllFit count (u ∷ us) ts → Fit count v (get_or ts (suc n) d)
+tail_fits : (count u : ℕ) (us : List ℕ) (ts : List Tagged) (d : Tagged) (n v : ℕ)
+    → ((rest : List Tagged) → AllFit count us rest → Fit count v (get_or rest n d)) → AllFit count (u ∷ us) ts → Fit count v (get_or ts (suc n) d)
 tail_fits count u us [] d n v f h = absurd h
 tail_fits count u us (t ∷ ts) d n v f h = f ts h.2
 
 -- an input gets a number within its width, and a level
-given_fits : (count : ℕ) (d : Tagged) (es : List Entity) (ts : List Tagged) → AllFit count (input_widths es) ts → (x : ℕ) → kind_is_input (get_or es x nothing).kind ≡ true → Fit count (get_or es x nothing).width (get_or ts (inputs_before es x) d)
+given_fits : (count : ℕ) (d : Tagged) (es : List Entity) (ts : List Tagged) → AllFit count (input_widths es) ts → (x : ℕ)
+    → kind_is_input (get_or es x nothing).kind ≡ true → Fit count (get_or es x nothing).width (get_or ts (inputs_before es x) d)
 given_fits count d [] ts fit zero i = cc
 given_fits count d [] ts fit (suc x) i = cc
 given_fits count d (e ∷ es) ts fit zero i = head_fits count e.width (input_widths es) ts d (rw i at fit)
@@ -242,7 +253,8 @@ first_fits p laws sized = record { numbers = numbers; levels = λ z. picked p.wo
 cycle_fits : (p : Program) → FineProgram p → SizedProgram p → (inputs : List Tagged) (s : Store) → InputsFit p.world inputs → Fits p.world s → Fits p.world (cycle p inputs s).store
 unfolding cycle
 cycle_fits p fine sized inputs s fit f =
-    fits_settle p.world fine.order _ (root_fits p.world fine.order (root_touches p.world p.states) (root p.world) p.states p.states 0 fine.states sized.states (child (root p.world) (set_inputs p.world inputs s)) (set_inputs p.world inputs s) (fits_inputs p.world inputs s fit f))
+    fits_settle p.world fine.order _ (root_fits p.world fine.order (root_touches p.world p.states) (root p.world) p.states p.states 0
+    fine.states sized.states (child (root p.world) (set_inputs p.world inputs s)) (set_inputs p.world inputs s) (fits_inputs p.world inputs s fit f))
 
 pub numbers_law : NumbersFit
 numbers_law p fine sized = (first_fits p fine.order sized, λ inputs s fit f. cycle_fits p fine sized inputs s fit f)

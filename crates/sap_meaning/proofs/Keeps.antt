@@ -47,7 +47,8 @@ module _ (w : World) where
   unfolding put_level
   holds_level s z t r f = record { above = λ y g d. both y g d (same_slot (home w y) (home w z)) (λ h. slot_same _ _ h); seated = r.seated }
     where
-      both : (y : Slot) → held w y ≡ true → is_dynamic w (owner y) ≡ false → (b : Bool) → (b ≡ true → home w y ≡ home w z) → w.order.le (authority w (owner y)) (if b then t else level w y s) ≡ true
+      both : (y : Slot) → held w y ≡ true → is_dynamic w (owner y) ≡ false → (b : Bool) → (b ≡ true → home w y ≡ home w z)
+          → w.order.le (authority w (owner y)) (if b then t else level w y s) ≡ true
       both y g d true at =
           let e : owner y ≡ owner z = sym (owner_home w y) ∙ ap owner (at refl) ∙ owner_home w z in
           subst (λ x. w.order.le (authority w x) t ≡ true) (sym e) (f (subst (λ x. is_dynamic w x ≡ false) e d))
@@ -67,7 +68,8 @@ module _ (w : World) where
 
   -- what a reset leaves alone
   pub reset_keeps : (s : Store) (target : ℕ) (y : Slot) → is_dynamic w (owner y) ≡ false → level w y (reset w target s) ≡ level w y s
-  reset_keeps s target y d = level_reset w y target s ∙ both (lowered w target (home w y)) (λ e. subst (λ x. is_dynamic w x ≡ true) (owner_home w y) (lowered_dynamic w target (home w y) e))
+  reset_keeps s target y d = level_reset w y target s
+      ∙ both (lowered w target (home w y)) (λ e. subst (λ x. is_dynamic w x ≡ true) (owner_home w y) (lowered_dynamic w target (home w y) e))
     where
       both : (b : Bool) → (b ≡ true → is_dynamic w (owner y) ≡ true) → (if b then w.order.bottom else level w y s) ≡ level w y s
       both true at = let no = at refl in cc
@@ -97,7 +99,8 @@ module _ (w : World) where
       both : (y : Slot) → held w y ≡ true → is_dynamic w (owner y) ≡ false → w.order.le (authority w (owner y)) (level w (source y) s) ≡ true
       both y g d = rw (← owner_source y) (r.above (source y) (held_source w y g) (rw (owner_source y) d))
 
-  pub inputs_keep : (s : Store) (inputs : List Tagged) → ((x : ℕ) → is_input w x ≡ true → is_dynamic w x ≡ true) → (y : Slot) → is_dynamic w (owner y) ≡ false → level w y (set_inputs w inputs s) ≡ level w y s
+  pub inputs_keep : (s : Store) (inputs : List Tagged) → ((x : ℕ) → is_input w x ≡ true → is_dynamic w x ≡ true) → (y : Slot)
+      → is_dynamic w (owner y) ≡ false → level w y (set_inputs w inputs s) ≡ level w y s
   unfolding set_inputs
   inputs_keep s inputs f (own x) d = elim (cases_Bool (is_input w x)) [ inl i ↦ (let no = f x i in cc) | inr i ↦ rw i refl ]
   inputs_keep s inputs f (start m i) d = subst (λ z. at_inputs w (λ x. (given w inputs x).level) s.level z ≡ s.level z) (sym (home_start w m i d)) refl
@@ -117,7 +120,8 @@ module _ (w : World) where
   unfolding settle
   settle_rests s = record { numbers = λ m i. refl; levels = λ m i. level_settle w (start m i) s ∙ sym (level_settle w (next m i) s) }
 
-module _ (w : World) (at : Home) (q : Group) (landing : (target : ℕ) → among q target ≡ true → place w target < children w at.parent) (enter : ℕ → ℕ → Store → After) (entering : (n pc : ℕ) → Keeps w (enter n pc)) where
+module _ (w : World) (at : Home) (q : Group) (landing : (target : ℕ) → among q target ≡ true → place w target < children w at.parent)
+    (enter : ℕ → ℕ → Store → After) (entering : (n pc : ℕ) → Keeps w (enter n pc)) where
   pub effect_holds : (k : Step) → FineStep w q at.children k → (pc : ℕ) (b s : Store) → test w at k pc b ≡ true → Holds w s → Holds w (effect w at enter k pc b s).store
   unfolding effect
   effect_holds (assign site x e) fine pc b s t r = holds_level w _ (own x) _ (holds_number w s (own x) _ r) (λ d. rw d (r.above (own x) (held_register w x fine.0) d))
@@ -126,13 +130,15 @@ module _ (w : World) (at : Home) (q : Group) (landing : (target : ℕ) → among
     | inr d ↦ rw d (holds_number w s _ _ r)
   ]
   effect_holds (retag site x n) fine pc b s t r = holds_level w _ (own x) _ (holds_number w s (own x) _ r) (λ d. and_right _ _ t)
-  effect_holds (retag_cell site m j n) fine pc b s t r = holds_level w _ (next m _) _ (holds_number w s (next m _) _ r) (λ d. and_right (w.order.le (w.order.join pc (w.order.join (told w n b) (tag w j b))) (authority w m)) _ t)
+  effect_holds (retag_cell site m j n) fine pc b s t r =
+      holds_level w _ (next m _) _ (holds_number w s (next m _) _ r) (λ d. and_right (w.order.le (w.order.join pc (w.order.join (told w n b) (tag w j b))) (authority w m)) _ t)
   effect_holds (go_to site target) fine pc b s t r =
       let moved = holds_reset w _ target (holds_child w s at.parent (place w target) (landing target fine) r) in
       elim (cases_Bool (is_dynamic w target)) [ inl d ↦ rw d (holds_level w _ (own target) pc moved (λ no. cc)) | inr d ↦ rw d moved ]
   effect_holds (fall_to_child site hang) fine pc b s t r = entering _ _ s r
 
-  pub attempt_holds : (k : Step) → FineStep w q at.children k → (hang : ℕ → Bool) (h : ℕ → Store → After) → OfDynamic w hang → ((p : ℕ) → Keeps w (h p)) → (pc : ℕ) → Keeps w (attempt w at enter k hang h pc)
+  pub attempt_holds : (k : Step) → FineStep w q at.children k → (hang : ℕ → Bool) (h : ℕ → Store → After) → OfDynamic w hang
+      → ((p : ℕ) → Keeps w (h p)) → (pc : ℕ) → Keeps w (attempt w at enter k hang h pc)
   unfolding attempt
   attempt_holds k fine hang h dyn f pc s r =
       let up = holds_raise w s hang (guard w at k s) dyn r in
@@ -145,7 +151,8 @@ module _ (w : World) (at : Home) (q : Group) (landing : (target : ℕ) → among
       let up = holds_raise w s hang (guard w at k s) dyn r in
       elim (cases_Bool (test w at k pc s)) [ inl t ↦ rw t (kf _ _ (effect_holds k fine pc s _ t up)) | inr t ↦ rw t (kg _ _ up) ]
 
-  pub select_holds : (e : Term ℕ) (hang : ℕ → Bool) (pick : ℕ → ℕ → Store → After) → OfDynamic w hang → ((v p : ℕ) → Keeps w (pick v p)) → (pc : ℕ) → Keeps w (select w e hang pick pc)
+  pub select_holds : (e : Term ℕ) (hang : ℕ → Bool) (pick : ℕ → ℕ → Store → After) → OfDynamic w hang → ((v p : ℕ) → Keeps w (pick v p))
+      → (pc : ℕ) → Keeps w (select w e hang pick pc)
   unfolding select
   select_holds e hang pick dyn f pc s r = f _ _ _ (holds_raise w s hang (tag w e s) dyn r)
 
@@ -162,7 +169,8 @@ module _ (w : World) (at : Home) (q : Group) (landing : (target : ℕ) → among
 
     pub does_holds : (c : Command) → FineCommand w q at.children c → (pc : ℕ) → Keeps w (does w at enter c pc)
     does_holds (lone k) fine pc s r = attempt_holds k fine (raised_alone w at k) (λ p t. stay t) (alone_dynamic k) (λ p t h. h) pc s r
-    does_holds (try k hang h) fine pc s r = attempt_holds k fine.0 (touches w at (try k hang h)) (does_block w at enter h) (λ x i. and_left (is_dynamic w x) _ i) (λ p t i. block_holds h fine.1 p t i) pc s r
+    does_holds (try k hang h) fine pc s r = attempt_holds k fine.0 (touches w at (try k hang h)) (does_block w at enter h)
+        (λ x i. and_left (is_dynamic w x) _ i) (λ p t i. block_holds h fine.1 p t i) pc s r
     does_holds (if_else hang e a b) fine pc s r =
         select_holds e (touches w at (if_else hang e a b)) (branch (does_block w at enter a) (does_block w at enter b)) (λ x i. and_left (is_dynamic w x) _ i)
         (λ v p t i. branch_all (λ z. Holds w z.store) (does_block w at enter a) (does_block w at enter b) v p t (block_holds a fine.1 p t i) (block_holds b fine.2 p t i)) pc s r

@@ -36,7 +36,8 @@ module _ (w : World) (at : Home) (enter enter' : ℕ → ℕ → Store → After
   unfolding attempt
   attempt_same k h i f g e a pc s = rw (same_test h i e) (elim (cases_Bool (test w at k pc s)) [
     | inl t ↦ rw t (effect_same k pc s _)
-    | inr t ↦ rw t (ap (λ (r : After). let z : After = record { store = r.store; refused = record { site = site_of k; level = w.order.join pc (guard w at k s) } ∷ r.refused } in z) (a _ _))
+    | inr t ↦ rw t (ap (λ (r : After). let z : After =
+        record { store = r.store; refused = record { site = site_of k; level = w.order.join pc (guard w at k s) } ∷ r.refused } in z) (a _ _))
   ])
 
   attempt_then_same : (k : Step) (h i : ℕ → Bool) (f f' g g' : ℕ → Store → After) → ((x : ℕ) → h x ≡ i x) → Alike f f' → Alike g g'
@@ -44,7 +45,8 @@ module _ (w : World) (at : Home) (enter enter' : ℕ → ℕ → Store → After
   unfolding attempt_then
   attempt_then_same k h i f f' g g' e a b pc s = rw (same_test h i e) (elim (cases_Bool (test w at k pc s)) [
     | inl t ↦ rw t (then_same _ _ _ _ (effect_same k pc s _) (λ r. a (w.order.join pc (guard w at k s)) r))
-    | inr t ↦ rw t (ap (λ (r : After). let z : After = record { store = r.store; refused = record { site = site_of k; level = w.order.join pc (guard w at k s) } ∷ r.refused } in z) (b _ _))
+    | inr t ↦ rw t (ap (λ (r : After). let z : After =
+        record { store = r.store; refused = record { site = site_of k; level = w.order.join pc (guard w at k s) } ∷ r.refused } in z) (b _ _))
   ])
 
   pick_same : (e : Term ℕ) (h i : ℕ → Bool) (f g : ℕ → ℕ → Store → After) → ((x : ℕ) → h x ≡ i x) → ((v : ℕ) → Alike (f v) (g v)) → Alike (select w e h f) (select w e i g)
@@ -54,7 +56,8 @@ module _ (w : World) (at : Home) (enter enter' : ℕ → ℕ → Store → After
   choose_same : (cs : List ℕ) (f g : ℕ → Store → After) (j k : ℕ → ℕ → Store → After) (v : ℕ) → Alike f g → Alike (j v) (k v) → Alike (choose_arm cs f j v) (choose_arm cs g k v)
   choose_same cs f g j k v a b pc s = elim (cases_Bool (is_constant cs v)) [ inl t ↦ rw t (a _ _) | inr t ↦ rw t (b _ _) ]
 
-  select_same : (e : Term ℕ) (h i : ℕ → Bool) (f g j k : ℕ → Store → After) → ((x : ℕ) → h x ≡ i x) → Alike f j → Alike g k → Alike (select w e h (branch f g)) (select w e i (branch j k))
+  select_same : (e : Term ℕ) (h i : ℕ → Bool) (f g j k : ℕ → Store → After) → ((x : ℕ) → h x ≡ i x) → Alike f j → Alike g k
+      → Alike (select w e h (branch f g)) (select w e i (branch j k))
   unfolding select
   select_same e h i f g j k c a b pc s = rw (same_test h i c) (elim (cases_Bool (nat_eq (value w e s) 0)) [ inl t ↦ rw t (b _ _) | inr t ↦ rw t (a _ _) ])
 
@@ -90,14 +93,16 @@ module _ (w : World) where
     unfolding run_state run_child does_state does_child
 
     pub state_same : (t : State) (p : ℕ) → ExactState w p t → Alike (run_state w t p) (does_state w t p)
-    state_same (state_node e b g) p fine pc s = block_same w (record { state = e; parent = p; children = g }) (run_child w g e) (does_child w g e) (λ n. child_same g e fine.1 n) b fine.0 pc s
+    state_same (state_node e b g) p fine pc s =
+        block_same w (record { state = e; parent = p; children = g }) (run_child w g e) (does_child w g e) (λ n. child_same g e fine.1 n) b fine.0 pc s
 
     pub child_same : (g : Group) (p : ℕ) → ExactGroup w p g → (n : ℕ) → Alike (run_child w g p n) (does_child w g p n)
     child_same no_node p fine n pc s = refl
     child_same (and_node t g) p fine zero pc s = state_same t p fine.0 pc s
     child_same (and_node t g) p fine (suc n) pc s = child_same g p fine.1 n pc s
 
-root_same : (w : World) (h i : ℕ → Bool) (p : ℕ) → ((x : ℕ) → h x ≡ i x) → (g : Group) → ExactGroup w p g → (n : ℕ) (s : Store) → root_fall w h (λ t. run_state w t p) g n s ≡ root_fall w i (λ t. does_state w t p) g n s
+root_same : (w : World) (h i : ℕ → Bool) (p : ℕ) → ((x : ℕ) → h x ≡ i x) → (g : Group) → ExactGroup w p g → (n : ℕ) (s : Store)
+    → root_fall w h (λ t. run_state w t p) g n s ≡ root_fall w i (λ t. does_state w t p) g n s
 unfolding root_fall
 root_same w h i p e no_node fine n s = refl
 root_same w h i p e (and_node (state_node c b k) g) fine zero s = rw (same_test h i e) (state_same w (state_node c b k) p fine.0 _ _)

@@ -4,7 +4,8 @@ use Rattle.sap_lemmas.proofs.Bools.{true_is_not_false}
 use Rattle.sap_meaning.specs.Program.{Kind, input, kind_is_input, kind_is_memory, kind_is_register, kind_is_state, memory, register, state}
 use Rattle.sap_meaning.specs.Program as program
 
-pub own_kind : (k : Kind) (b : Bool) → (not (kind_is_memory k) || b) ≡ true → kind_is_input k ≡ false → kind_is_register k ≡ false → (if kind_is_memory k then b else kind_is_state k) ≡ true
+pub own_kind : (k : Kind) (b : Bool) → (not (kind_is_memory k) || b) ≡ true → kind_is_input k ≡ false → kind_is_register k ≡ false
+    → (if kind_is_memory k then b else kind_is_state k) ≡ true
 own_kind program.input b h i r = absurd (true_is_not_false i)
 own_kind program.register b h i r = absurd (true_is_not_false r)
 own_kind (program.memory depth) b h i r = h

@@ -45,7 +45,8 @@ module _ (w : World) where
   serves at (retag site x n) h pc s = cc
   serves at (retag_cell site m j n) h pc s = cc
   serves at (go_to site target) h pc s =
-      and_from _ _ (or_left _ _ (not-false (is_dynamic w target) (neither_right (not (is_dynamic w at.state)) _ h))) (or_left _ _ (not-false (is_dynamic w at.state) (neither_left _ _ h)))
+      and_from _ _ (or_left _ _ (not-false (is_dynamic w target) (neither_right (not (is_dynamic w at.state)) _ h)))
+      (or_left _ _ (not-false (is_dynamic w at.state) (neither_left _ _ h)))
   serves at (fall_to_child site hang) h pc s = opens_all at.children h (child at.state s) pc s
 
   -- what is refused
@@ -81,7 +82,9 @@ module _ (w : World) where
     effect_none (fall_to_child site hang) plain pc b s = cc
 
     -- a step whose effect refuses some of ys, and whose handler some of zs
-    attempt_from : (k : Step) (hang : ℕ → Bool) (h : ℕ → Store → After) (ys zs : List PlacedStep) → ((pc : ℕ) (b s : Store) → From (effect w at enter k pc b s) ys) → ((xs : List ℕ) → AreAmong xs ys → AreAmong xs zs) → ((p : ℕ) (t : Store) → From (h p t) zs) → (pc : ℕ) (s : Store) → From (attempt w at enter k hang h pc s) (Own k ++ zs)
+    attempt_from : (k : Step) (hang : ℕ → Bool) (h : ℕ → Store → After) (ys zs : List PlacedStep)
+        → ((pc : ℕ) (b s : Store) → From (effect w at enter k pc b s) ys) → ((xs : List ℕ) → AreAmong xs ys → AreAmong xs zs)
+        → ((p : ℕ) (t : Store) → From (h p t) zs) → (pc : ℕ) (s : Store) → From (attempt w at enter k hang h pc s) (Own k ++ zs)
     unfolding attempt
     attempt_from k hang h ys zs f into g pc s = elim (cases_Bool (test w at k pc s)) [
       | inl t ↦ rw t (sites_behind _ (Own k) zs (into _ (f pc s _)))
@@ -91,12 +94,14 @@ module _ (w : World) where
       ])
     ]
 
-    select_from : (e : Term ℕ) (hang : ℕ → Bool) (a b : ℕ → Store → After) (ys : List PlacedStep) → ((p : ℕ) (t : Store) → From (a p t) ys) → ((p : ℕ) (t : Store) → From (b p t) ys) → (pc : ℕ) (s : Store) → From (select w e hang (branch a b) pc s) ys
+    select_from : (e : Term ℕ) (hang : ℕ → Bool) (a b : ℕ → Store → After) (ys : List PlacedStep) → ((p : ℕ) (t : Store) → From (a p t) ys)
+        → ((p : ℕ) (t : Store) → From (b p t) ys) → (pc : ℕ) (s : Store) → From (select w e hang (branch a b) pc s) ys
     unfolding select
     select_from e hang a b ys f g pc s = branch_all (λ z. From z ys) a b _ _ _ (f _ _) (g _ _)
 
     -- a step that is no transfer, and whose parts refuse some of ys
-    attempt_then_from : (k : Step) → transfers k ≡ false → (hang : ℕ → Bool) (f g : ℕ → Store → After) (ys : List PlacedStep) → ((p : ℕ) (t : Store) → From (f p t) ys) → ((p : ℕ) (t : Store) → From (g p t) ys)
+    attempt_then_from : (k : Step) → transfers k ≡ false → (hang : ℕ → Bool) (f g : ℕ → Store → After) (ys : List PlacedStep)
+        → ((p : ℕ) (t : Store) → From (f p t) ys) → ((p : ℕ) (t : Store) → From (g p t) ys)
         → (pc : ℕ) (s : Store) → From (attempt_then w at enter k hang f g pc s) (Own k ++ ys)
     unfolding attempt_then
     attempt_then_from k plain hang f g ys a b pc s = elim (cases_Bool (test w at k pc s)) [
@@ -108,7 +113,8 @@ module _ (w : World) where
       ])
     ]
 
-    pick_from : (e : Term ℕ) (hang : ℕ → Bool) (pick : ℕ → ℕ → Store → After) (ys : List PlacedStep) → ((v p : ℕ) (t : Store) → From (pick v p t) ys) → (pc : ℕ) (s : Store) → From (select w e hang pick pc s) ys
+    pick_from : (e : Term ℕ) (hang : ℕ → Bool) (pick : ℕ → ℕ → Store → After) (ys : List PlacedStep)
+        → ((v p : ℕ) (t : Store) → From (pick v p t) ys) → (pc : ℕ) (s : Store) → From (select w e hang pick pc s) ys
     unfolding select
     pick_from e hang pick ys f pc s = f _ _ _
 
@@ -120,13 +126,18 @@ module _ (w : World) where
       unfolding does does_arms does_block
 
       open_from : (c : Command) → Open c → (pc : ℕ) (s : Store) → From (does w at enter c pc s) (command_sites w at.state at.children c)
-      open_from (lone k) plain pc s = subst (λ ys. From (attempt w at enter k (raised_alone w at k) (λ p t. stay t) pc s) ys) (append-nil (Own k)) (attempt_from k (raised_alone w at k) (λ p t. stay t) [] [] (effect_none k plain) (λ xs h. h) (λ p t. tt) pc s)
-      open_from (try k hang h) plain pc s = attempt_from k (touches w at (try k hang h)) (does_block w at enter h) [] (OwnBlock h) (effect_none k plain.0) (λ xs i. none xs (OwnBlock h) i) (λ p t. open_list h plain.1 p t) pc s
-      open_from (if_else hang e a b) plain pc s = select_from e (touches w at (if_else hang e a b)) (does_block w at enter a) (does_block w at enter b) (OwnBlock a ++ OwnBlock b) (λ p t. sites_front _ (OwnBlock a) (OwnBlock b) (open_list a plain.0 p t)) (λ p t. sites_behind _ (OwnBlock a) (OwnBlock b) (open_list b plain.1 p t)) pc s
+      open_from (lone k) plain pc s = subst (λ ys. From (attempt w at enter k (raised_alone w at k) (λ p t. stay t) pc s) ys)
+          (append-nil (Own k)) (attempt_from k (raised_alone w at k) (λ p t. stay t) [] [] (effect_none k plain) (λ xs h. h) (λ p t. tt) pc s)
+      open_from (try k hang h) plain pc s = attempt_from k (touches w at (try k hang h)) (does_block w at enter h) [] (OwnBlock h)
+          (effect_none k plain.0) (λ xs i. none xs (OwnBlock h) i) (λ p t. open_list h plain.1 p t) pc s
+      open_from (if_else hang e a b) plain pc s =
+          select_from e (touches w at (if_else hang e a b)) (does_block w at enter a) (does_block w at enter b) (OwnBlock a ++ OwnBlock b)
+          (λ p t. sites_front _ (OwnBlock a) (OwnBlock b) (open_list a plain.0 p t)) (λ p t. sites_behind _ (OwnBlock a) (OwnBlock b) (open_list b plain.1 p t)) pc s
       open_from (try_then k hang a b) plain pc s =
           attempt_then_from k plain.0 (touches w at (try_then k hang a b)) (does_block w at enter a) (does_block w at enter b) (OwnBlock a ++ OwnBlock b)
           (λ p t. sites_front _ (OwnBlock a) (OwnBlock b) (open_list a plain.1 p t)) (λ p t. sites_behind _ (OwnBlock a) (OwnBlock b) (open_list b plain.2 p t)) pc s
-      open_from (case_of hang e arms) plain pc s = pick_from e (touches w at (case_of hang e arms)) (does_arms w at enter arms) (OwnArms arms) (λ v p t. open_arms arms plain v p t) pc s
+      open_from (case_of hang e arms) plain pc s =
+          pick_from e (touches w at (case_of hang e arms)) (does_arms w at enter arms) (OwnArms arms) (λ v p t. open_arms arms plain v p t) pc s
 
       open_arms : (arms : Arms) → OpenArms arms → (v pc : ℕ) (s : Store) → From (does_arms w at enter arms v pc s) (OwnArms arms)
       open_arms (last_arm b) plain v pc s = open_list b plain pc s
@@ -136,7 +147,9 @@ module _ (w : World) where
 
       open_list : (b : Block) → OpenBlock b → (pc : ℕ) (s : Store) → From (does_block w at enter b pc s) (OwnBlock b)
       open_list end_block plain pc s = tt
-      open_list (command_then c cs) plain pc s = rw (refused-append (does w at enter c pc s).refused) (sites_append _ (command_sites w at.state at.children c) _ (OwnBlock cs) (open_from c plain.0 pc s) (open_list cs plain.1 pc _))
+      open_list (command_then c cs) plain pc s =
+          rw (refused-append (does w at enter c pc s).refused)
+          (sites_append _ (command_sites w at.state at.children c) _ (OwnBlock cs) (open_from c plain.0 pc s) (open_list cs plain.1 pc _))
 
     mutual
       unfolding does does_arms does_block
@@ -145,17 +158,20 @@ module _ (w : World) where
       final_from (lone k) final pc s = attempt_from k (raised_alone w at k) (λ p t. stay t) below below (effect_from k) (λ xs h. h) (λ p t. tt) pc s
       final_from (try k hang h) final pc s =
           subst (λ ys. From (attempt w at enter k (touches w at (try k hang h)) (does_block w at enter h) pc s) ys) (sym (append_assoc (Own k) (OwnBlock h) below))
-          (attempt_from k (touches w at (try k hang h)) (does_block w at enter h) below (OwnBlock h ++ below) (effect_from k) (λ xs i. sites_behind xs (OwnBlock h) below i) (λ p t. closing_from h final.1 p t) pc s)
+          (attempt_from k (touches w at (try k hang h)) (does_block w at enter h) below (OwnBlock h ++ below) (effect_from k)
+          (λ xs i. sites_behind xs (OwnBlock h) below i) (λ p t. closing_from h final.1 p t) pc s)
       final_from (if_else hang e a b) final pc s =
           select_from e (touches w at (if_else hang e a b)) (does_block w at enter a) (does_block w at enter b) ((OwnBlock a ++ OwnBlock b) ++ below)
           (λ p t. sites_between _ (OwnBlock a) (OwnBlock b) below (closing_from a final.0 p t))
-          (λ p t. subst (λ ys. From (does_block w at enter b p t) ys) (sym (append_assoc (OwnBlock a) (OwnBlock b) below)) (sites_behind _ (OwnBlock a) (OwnBlock b ++ below) (closing_from b final.1 p t))) pc s
+          (λ p t. subst (λ ys. From (does_block w at enter b p t) ys) (sym (append_assoc (OwnBlock a) (OwnBlock b) below))
+          (sites_behind _ (OwnBlock a) (OwnBlock b ++ below) (closing_from b final.1 p t))) pc s
       final_from (try_then k hang a b) final pc s =
           subst (λ ys. From (attempt_then w at enter k (touches w at (try_then k hang a b)) (does_block w at enter a) (does_block w at enter b) pc s) ys)
           (sym (append_assoc (Own k) (OwnBlock a ++ OwnBlock b) below))
           (attempt_then_from k final.0 (touches w at (try_then k hang a b)) (does_block w at enter a) (does_block w at enter b) ((OwnBlock a ++ OwnBlock b) ++ below)
           (λ p t. sites_between _ (OwnBlock a) (OwnBlock b) below (closing_from a final.1 p t))
-          (λ p t. subst (λ ys. From (does_block w at enter b p t) ys) (sym (append_assoc (OwnBlock a) (OwnBlock b) below)) (sites_behind _ (OwnBlock a) (OwnBlock b ++ below) (closing_from b final.2 p t))) pc s)
+          (λ p t. subst (λ ys. From (does_block w at enter b p t) ys) (sym (append_assoc (OwnBlock a) (OwnBlock b) below))
+          (sites_behind _ (OwnBlock a) (OwnBlock b ++ below) (closing_from b final.2 p t))) pc s)
       final_from (case_of hang e arms) final pc s =
           pick_from e (touches w at (case_of hang e arms)) (does_arms w at enter arms) (OwnArms arms ++ below) (λ v p t. closing_arms arms final v p t) pc s
 
@@ -170,28 +186,39 @@ module _ (w : World) where
       pub closing_from : (b : Block) → Closes b → (pc : ℕ) (s : Store) → From (does_block w at enter b pc s) (OwnBlock b ++ below)
       closing_from end_block closes pc s = absurd closes
       closing_from (command_then c end_block) closes pc s =
-          rw (refused-append (does w at enter c pc s).refused, append-nil (refused_sites (does w at enter c pc s).refused), append-nil (command_sites w at.state at.children c)) (final_from c closes pc s)
+          rw (
+            refused-append (does w at enter c pc s).refused,
+            append-nil (refused_sites (does w at enter c pc s).refused),
+            append-nil (command_sites w at.state at.children c),
+          ) (final_from c closes pc s)
       closing_from (command_then c (command_then d ds)) closes pc s =
           rw (refused-append (does w at enter c pc s).refused)
-          (subst (λ ys. AreAmong (refused_sites (does w at enter c pc s).refused ++ refused_sites (does_block w at enter (command_then d ds) pc (does w at enter c pc s).store).refused) ys) (sym (append_assoc (command_sites w at.state at.children c) (OwnBlock (command_then d ds)) below))
-          (sites_append _ (command_sites w at.state at.children c) _ (OwnBlock (command_then d ds) ++ below) (open_from c closes.0 pc s) (closing_from (command_then d ds) closes.1 pc _)))
+          (subst (λ ys. AreAmong (refused_sites (does w at enter c pc s).refused
+          ++ refused_sites (does_block w at enter (command_then d ds) pc (does w at enter c pc s).store).refused) ys)
+          (sym (append_assoc (command_sites w at.state at.children c) (OwnBlock (command_then d ds)) below))
+          (sites_append _ (command_sites w at.state at.children c) _ (OwnBlock (command_then d ds) ++ below) (open_from c closes.0 pc s)
+          (closing_from (command_then d ds) closes.1 pc _)))
 
   mutual
     unfolding does_state does_child
 
     state_from : (t : State) (p : ℕ) (q : Group) (n : ℕ) → FineState w q n t → (pc : ℕ) (s : Store) → From (does_state w t p pc s) (state_sites w t)
-    state_from (state_node e b g) p q n fine pc s = closing_from (record { state = e; parent = p; children = g }) (does_child w g e) (group_sites w g) (λ m z u. child_from g e g 0 fine.1 m z u) b fine.0.closes pc s
+    state_from (state_node e b g) p q n fine pc s =
+        closing_from (record { state = e; parent = p; children = g }) (does_child w g e) (group_sites w g) (λ m z u. child_from g e g 0 fine.1 m z u) b fine.0.closes pc s
 
     child_from : (g : Group) (p : ℕ) (q : Group) (n : ℕ) → FineGroup w q n g → (m pc : ℕ) (s : Store) → From (does_child w g p m pc s) (group_sites w g)
     child_from no_node p q n fine m pc s = tt
     child_from (and_node t g) p q n fine zero pc s = sites_front _ (state_sites w t) (group_sites w g) (state_from t p q n fine.0 pc s)
     child_from (and_node t g) p q n fine (suc m) pc s = sites_behind _ (state_sites w t) (group_sites w g) (child_from g p q (suc n) fine.1 m pc s)
 
-  root_from : (hang : ℕ → Bool) (p : ℕ) (g : Group) (q : Group) (n : ℕ) → FineGroup w q n g → (m : ℕ) (s : Store) → From (root_fall w hang (λ t. does_state w t p) g m s) (group_sites w g)
+  root_from : (hang : ℕ → Bool) (p : ℕ) (g : Group) (q : Group) (n : ℕ) → FineGroup w q n g → (m : ℕ) (s : Store)
+      → From (root_fall w hang (λ t. does_state w t p) g m s) (group_sites w g)
   unfolding root_fall
   root_from hang p no_node q n fine m s = tt
-  root_from hang p (and_node (state_node c b k) g) q n fine zero s = sites_front _ (state_sites w (state_node c b k)) (group_sites w g) (state_from (state_node c b k) p q n fine.0 _ _)
-  root_from hang p (and_node (state_node c b k) g) q n fine (suc m) s = sites_behind _ (state_sites w (state_node c b k)) (group_sites w g) (root_from hang p g q (suc n) fine.1 m s)
+  root_from hang p (and_node (state_node c b k) g) q n fine zero s =
+      sites_front _ (state_sites w (state_node c b k)) (group_sites w g) (state_from (state_node c b k) p q n fine.0 _ _)
+  root_from hang p (and_node (state_node c b k) g) q n fine (suc m) s =
+      sites_behind _ (state_sites w (state_node c b k)) (group_sites w g) (root_from hang p g q (suc n) fine.1 m s)
 
 pub sites_law : SitesInOrder
 unfolding cycle

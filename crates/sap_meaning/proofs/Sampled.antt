@@ -68,7 +68,8 @@ far : (x k : ℕ) → k < 9 → nat_eq (suc (suc (suc (suc (suc (suc (suc (suc (
 far x k h = grind (arith, common_steps)
 
 -- what holds at each entity, and past the last
-each : (f g : ℕ → Bool) → f 0 ≡ g 0 → f 1 ≡ g 1 → f 2 ≡ g 2 → f 3 ≡ g 3 → f 4 ≡ g 4 → f 5 ≡ g 5 → f 6 ≡ g 6 → f 7 ≡ g 7 → f 8 ≡ g 8 → ((x : ℕ) → f (suc (suc (suc (suc (suc (suc (suc (suc (suc x))))))))) ≡ g (suc (suc (suc (suc (suc (suc (suc (suc (suc x)))))))))) → (x : ℕ) → f x ≡ g x
+each : (f g : ℕ → Bool) → f 0 ≡ g 0 → f 1 ≡ g 1 → f 2 ≡ g 2 → f 3 ≡ g 3 → f 4 ≡ g 4 → f 5 ≡ g 5 → f 6 ≡ g 6 → f 7 ≡ g 7 → f 8 ≡ g 8
+    → ((x : ℕ) → f (suc (suc (suc (suc (suc (suc (suc (suc (suc x))))))))) ≡ g (suc (suc (suc (suc (suc (suc (suc (suc (suc x)))))))))) → (x : ℕ) → f x ≡ g x
 each f g h0 h1 h2 h3 h4 h5 h6 h7 h8 h9 zero = h0
 each f g h0 h1 h2 h3 h4 h5 h6 h7 h8 h9 (suc zero) = h1
 each f g h0 h1 h2 h3 h4 h5 h6 h7 h8 h9 (suc (suc zero)) = h2
@@ -290,5 +291,14 @@ meets = record {
   fine = fine;
   exact = exact;
   sized = sized;
-  sites = (omega arith, (omega arith, (omega arith, (omega arith, (omega arith, (omega arith, (omega arith, (omega arith, (omega arith, (omega arith, (omega arith, (omega arith, tt))))))))))));
+  sites = (
+    omega arith,
+    (
+      omega arith,
+      (
+        omega arith,
+        (omega arith, (omega arith, (omega arith, (omega arith, (omega arith, (omega arith, (omega arith, (omega arith, (omega arith, tt))))))))),
+      ),
+    ),
+  );
 }

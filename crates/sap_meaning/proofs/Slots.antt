@@ -110,7 +110,8 @@ pub child_put : (q p n : ℕ) (s : Store) → child q (put_child p n s) ≡ (if 
 unfolding put_child
 child_put q p n s = refl
 
-pub level_raise : (w : World) (y : Slot) (h : ℕ → Bool) (t : ℕ) (s : Store) → level w y (raise w.order h t s) ≡ (if raised h (home w y) then w.order.join (level w y s) t else level w y s)
+pub level_raise : (w : World) (y : Slot) (h : ℕ → Bool) (t : ℕ) (s : Store)
+    → level w y (raise w.order h t s) ≡ (if raised h (home w y) then w.order.join (level w y s) t else level w y s)
 unfolding raise
 level_raise w y h t s = refl
 

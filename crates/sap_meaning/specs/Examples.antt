@@ -154,7 +154,8 @@ put_x n = lone (assign 0 1 (constant 8 n))
 -- state S enforced low { x := 1; if (a == 1) { goto T; } else { goto S; } } state T enforced high { x := 2; goto T; }
 abbrev pub enforced_states : Program
 enforced_states = program_of two_levels (an_input 8 ∷ a_register 8 ∷ held_state 0 2 0 ∷ held_state 1 3 1 ∷ []) (0 ∷ 0 ∷ 0 ∷ 0 ∷ 2 ∷ [])
-    (and_node (state_node 2 (command_then (put_x 1) (fork 3 1 2 2)) no_node) (and_node (state_node 3 (command_then (put_x 2) (command_then (lone (go_to 3 3)) end_block)) no_node) no_node))
+    (and_node (state_node 2 (command_then (put_x 1) (fork 3 1 2 2)) no_node)
+    (and_node (state_node 3 (command_then (put_x 2) (command_then (lone (go_to 3 3)) end_block)) no_node) no_node))
 
 -- a goto under a condition from above leaves an enforced state where it is
 abbrev pub EnforcedStates : Type 0
@@ -163,7 +164,8 @@ EnforcedStates = shows enforced_states 1 ((high 1 ∷ []) ∷ (low 0 ∷ []) ∷
 -- state S dynamic { x := 0; if (a == 1) { goto T; } else { goto S; } } state T dynamic { x := 1; goto T; }
 abbrev pub dynamic_states : Program
 dynamic_states = program_of two_levels (an_input 8 ∷ a_register 8 ∷ a_state 0 2 ∷ a_state 1 3 ∷ []) (0 ∷ 0 ∷ 0 ∷ 0 ∷ 2 ∷ [])
-    (and_node (state_node 2 (command_then (put_x 0) (fork 3 0 2 0)) no_node) (and_node (state_node 3 (command_then (put_x 1) (command_then (lone (go_to 0 3)) end_block)) no_node) no_node))
+    (and_node (state_node 2 (command_then (put_x 0) (fork 3 0 2 0)) no_node)
+    (and_node (state_node 3 (command_then (put_x 1) (command_then (lone (go_to 0 3)) end_block)) no_node) no_node))
 
 -- a dynamic state takes the level of what led to it, whichever it was
 abbrev pub DynamicStates : Type 0
@@ -173,7 +175,8 @@ DynamicStates = (shows dynamic_states 1 ((high 1 ∷ []) ∷ (low 0 ∷ []) ∷ 
 -- state P enforced low { if (a == 1) { fall; } else { fall; } state C enforced low { x := 1; goto C; } }
 abbrev pub falls_twice : Program
 falls_twice = program_of two_levels (an_input 8 ∷ a_register 8 ∷ held_state 0 3 0 ∷ held_state 0 3 0 ∷ []) (0 ∷ 0 ∷ 1 ∷ 0 ∷ 1 ∷ [])
-    (and_node (state_node 2 (command_then (if_else [] (two Eq (read 0) (constant 8 1)) (command_then (lone (fall_to_child 1 [])) end_block) (command_then (lone (fall_to_child 2 [])) end_block)) end_block)
+    (and_node (state_node 2 (command_then (if_else [] (two Eq (read 0) (constant 8 1)) (command_then (lone (fall_to_child 1 [])) end_block)
+    (command_then (lone (fall_to_child 2 [])) end_block)) end_block)
     (and_node (state_node 3 (command_then (put_x 1) (command_then (lone (go_to 3 3)) end_block)) no_node) no_node)) no_node)
 
 -- what is assigned below a fall hangs on the condition, and a fall from above into an enforced state is refused
@@ -184,7 +187,8 @@ FallsTwice = shows falls_twice 1 ((high 1 ∷ []) ∷ (low 1 ∷ []) ∷ []) ≡
 abbrev pub falls_into : Program
 falls_into = program_of two_levels (an_input 8 ∷ a_register 8 ∷ held_state 0 4 0 ∷ a_state 0 3 ∷ a_state 1 4 ∷ []) (0 ∷ 0 ∷ 2 ∷ 0 ∷ 0 ∷ 1 ∷ [])
     (and_node (state_node 2 (command_then (lone (fall_to_child 0 [])) end_block)
-    (and_node (state_node 3 (command_then (put_x 0) (fork 4 0 3 0)) no_node) (and_node (state_node 4 (command_then (put_x 1) (command_then (lone (go_to 0 4)) end_block)) no_node) no_node))) no_node)
+    (and_node (state_node 3 (command_then (put_x 0) (fork 4 0 3 0)) no_node)
+    (and_node (state_node 4 (command_then (put_x 1) (command_then (lone (go_to 0 4)) end_block)) no_node) no_node))) no_node)
 
 -- the body that a fall enters runs in the context joined with its state's level
 abbrev pub FallsInto : Type 0
@@ -194,7 +198,8 @@ FallsInto = shows falls_into 1 ((high 1 ∷ []) ∷ (low 0 ∷ []) ∷ []) ≡ (
 -- state Q enforced low { x := 9; goto P; }
 abbrev pub resets : Program
 resets = program_of two_levels (an_input 8 ∷ a_register 8 ∷ held_state 0 4 0 ∷ held_state 0 3 0 ∷ held_state 1 4 0 ∷ held_state 1 5 0 ∷ []) (0 ∷ 0 ∷ 2 ∷ 0 ∷ 0 ∷ 0 ∷ 2 ∷ [])
-    (and_node (state_node 2 (command_then (if_else [] (two Eq (read 0) (constant 8 1)) (command_then (lone (go_to 1 5)) end_block) (command_then (lone (fall_to_child 2 [])) end_block)) end_block)
+    (and_node (state_node 2 (command_then (if_else [] (two Eq (read 0) (constant 8 1)) (command_then (lone (go_to 1 5)) end_block)
+    (command_then (lone (fall_to_child 2 [])) end_block)) end_block)
     (and_node (state_node 3 (command_then (put_x 1) (command_then (lone (go_to 3 4)) end_block)) no_node)
     (and_node (state_node 4 (command_then (put_x 2) (command_then (lone (go_to 4 4)) end_block)) no_node) no_node)))
     (and_node (state_node 5 (command_then (put_x 9) (command_then (lone (go_to 5 2)) end_block)) no_node) no_node))

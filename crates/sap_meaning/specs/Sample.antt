@@ -40,7 +40,8 @@ body_q = command_then (lone (retag_cell 10 4 (read 0) (at_place (read 0)))) (com
 abbrev pub body_p : Block
 body_p = command_then (try (assign 1 2 (cell 3 (read 0))) [] (command_then (lone (assign 2 2 (constant 8 9))) end_block))
     (command_then (lone (write 3 4 (read 0) (read 1)))
-    (command_then (if_else on_fall (two Eq (read 0) (constant 2 1)) (command_then (lone (go_to 4 8)) end_block) (command_then (try (fall_to_child 5 on_fall) on_fall (command_then (lone (go_to 6 5)) end_block)) end_block)) end_block))
+    (command_then (if_else on_fall (two Eq (read 0) (constant 2 1)) (command_then (lone (go_to 4 8)) end_block)
+    (command_then (try (fall_to_child 5 on_fall) on_fall (command_then (lone (go_to 6 5)) end_block)) end_block)) end_block))
 
 abbrev pub sample_kids : Group
 sample_kids = and_node (state_node 6 body_c no_node) (and_node (state_node 7 body_d no_node) no_node)

@@ -67,11 +67,29 @@ width-fits (x ∷ es) (suc n) e h k = width-fits es n e h.1 k
 length-declared : (xs : List Decl) → length (declared_in xs) ≡ count_by is_input xs + count_by is_register xs + count_by is_memory xs
 length-declared [] = refl
 length-declared (Input place name width ∷ xs) =
-    omega (arith, length-declared xs, count_more is_input (Input place name width) xs 1 refl, count_more is_register (Input place name width) xs 0 refl, count_more is_memory (Input place name width) xs 0 refl)
+    omega (
+      arith,
+      length-declared xs,
+      count_more is_input (Input place name width) xs 1 refl,
+      count_more is_register (Input place name width) xs 0 refl,
+      count_more is_memory (Input place name width) xs 0 refl,
+    )
 length-declared (Register place name width kind start ∷ xs) =
-    omega (arith, length-declared xs, count_more is_input (Register place name width kind start) xs 0 refl, count_more is_register (Register place name width kind start) xs 1 refl, count_more is_memory (Register place name width kind start) xs 0 refl)
+    omega (
+      arith,
+      length-declared xs,
+      count_more is_input (Register place name width kind start) xs 0 refl,
+      count_more is_register (Register place name width kind start) xs 1 refl,
+      count_more is_memory (Register place name width kind start) xs 0 refl,
+    )
 length-declared (Memory place name width depth kind ∷ xs) =
-    omega (arith, length-declared xs, count_more is_input (Memory place name width depth kind) xs 0 refl, count_more is_register (Memory place name width depth kind) xs 0 refl, count_more is_memory (Memory place name width depth kind) xs 1 refl)
+    omega (
+      arith,
+      length-declared xs,
+      count_more is_input (Memory place name width depth kind) xs 0 refl,
+      count_more is_register (Memory place name width depth kind) xs 0 refl,
+      count_more is_memory (Memory place name width depth kind) xs 1 refl,
+    )
 
 mutual
   unfolding state_count states_count
@@ -90,5 +108,6 @@ limited t i r m s d c h = grind (arith, common_steps)
 pub few_entities : (x : DesignTree) → IsTrue (is_whole x) → length (entities_of x) < 2 ^ 32
 unfolding is_whole
 few_entities x h =
-    let few = limited (is_tree x) (count_by is_input x.declarations) (count_by is_register x.declarations) (count_by is_memory x.declarations) (states_count x.states) (states_depth x.states) (states_commands x.states) h in
+    let few = limited (is_tree x) (count_by is_input x.declarations) (count_by is_register x.declarations)
+    (count_by is_memory x.declarations) (states_count x.states) (states_depth x.states) (states_commands x.states) h in
     omega (arith, few, length-append (declared_in x.declarations) (group_entities x.states), length-declared x.declarations, length-group x.states)

@@ -61,7 +61,8 @@ constants_faults-past what asked (e ∷ es) zero h = absurd (omega arith)
 constants_faults-past what asked (e ∷ es) (suc n) h = constants_faults-past what asked es n (omega arith)
 
 pub constants_step : (what : Lookup) (asked : Option ℕ) (es : List Expr) (n : ℕ) (d : Expr) (o m : Option Fault) → n < length es → d ≡ get_or es n d
-    → m ≡ best_of o (expression_faults what (expression_of d) asked) → best_of m (constants_faults what asked (drop (n + 1) es)) ≡ best_of o (constants_faults what asked (drop n es))
+    → m ≡ best_of o (expression_faults what (expression_of d) asked)
+    → best_of m (constants_faults what asked (drop (n + 1) es)) ≡ best_of o (constants_faults what asked (drop n es))
 constants_step what asked es n d o m h e k =
     both o m _ (expression_faults what (expression_of d) asked) (constants_faults what asked (drop (n + 1) es)) _ k refl
     (constants_faults-drop what asked es n d h ∙ ap (λ (x : Expr). expression_faults what (expression_of x) asked ++ constants_faults what asked (drop (n + 1) es)) (sym e))
@@ -76,7 +77,8 @@ arm_faults-is levels what arm = refl
 
 pub arms_faults-drop : (levels : List (List ℕ)) (what : Lookup) (asked : Option ℕ) (arms : List Arm) (n : ℕ) (d : Arm) → n < length arms
     → arms_faults levels what asked (drop n arms)
-    ≡ faults.constants_faults what asked (constants_of (get_or arms n d)) ++ block_faults levels what (arm_block_of (get_or arms n d)) ++ arms_faults levels what asked (drop (n + 1) arms)
+    ≡ faults.constants_faults what asked (constants_of (get_or arms n d)) ++ block_faults levels what (arm_block_of (get_or arms n d))
+    ++ arms_faults levels what asked (drop (n + 1) arms)
 unfolding arms_faults
 arms_faults-drop levels what asked [] n d h = absurd (omega arith)
 arms_faults-drop levels what asked (arm ∷ arms) zero d h = refl
@@ -89,15 +91,18 @@ arms_faults-past levels what asked [] (suc n) h = refl
 arms_faults-past levels what asked (arm ∷ arms) zero h = absurd (omega arith)
 arms_faults-past levels what asked (arm ∷ arms) (suc n) h = arms_faults-past levels what asked arms n (omega arith)
 
-pub arms_step : (levels : List (List ℕ)) (what : Lookup) (asked : Option ℕ) (arms : List Arm) (n : ℕ) (d : Arm) (es : List Expr) (cs : List Cmd) (o m k : Option Fault) → n < length arms
+pub arms_step : (levels : List (List ℕ)) (what : Lookup) (asked : Option ℕ) (arms : List Arm) (n : ℕ) (d : Arm) (es : List Expr)
+    (cs : List Cmd) (o m k : Option Fault) → n < length arms
     → d ≡ get_or arms n d → es ≡ d.constants.items → cs ≡ d.block.commands.items → m ≡ best_of o (constants_faults what asked es) → k ≡ best_of m (commands_faults levels what cs)
     → best_of k (arms_faults levels what asked (drop (n + 1) arms)) ≡ best_of o (arms_faults levels what asked (drop n arms))
 arms_step levels what asked arms n d es cs o m k h e f g p q =
     three o m k _ (constants_faults what asked es) (commands_faults levels what cs) (arms_faults levels what asked (drop (n + 1) arms)) _ p q refl
     (arms_faults-drop levels what asked arms n d h
-    ∙ ap (λ (arm : Arm). faults.constants_faults what asked (constants_of arm) ++ block_faults levels what (arm_block_of arm) ++ arms_faults levels what asked (drop (n + 1) arms)) (sym e)
+    ∙ ap (λ (arm : Arm). faults.constants_faults what asked (constants_of arm) ++ block_faults levels what (arm_block_of arm)
+    ++ arms_faults levels what asked (drop (n + 1) arms)) (sym e)
     ∙ ap₂ (λ (a b : List Fault). a ++ b ++ arms_faults levels what asked (drop (n + 1) arms))
-    (constants_faults-is what asked d ∙ ap (λ (l : List Expr). constants_faults what asked l) (sym f)) (arm_faults-is levels what d ∙ ap (λ (l : List Cmd). commands_faults levels what l) (sym g)))
+    (constants_faults-is what asked d ∙ ap (λ (l : List Expr). constants_faults what asked l) (sym f)) (arm_faults-is levels what d
+    ∙ ap (λ (l : List Cmd). commands_faults levels what l) (sym g)))
 
 pub arms_faults-of : (levels : List (List ℕ)) (what : Lookup) (asked : Option ℕ) (arms : List Arm) (last : CommandBlock)
     → faults.arms_faults levels what asked (arms_of arms last) ≡ arms_faults levels what asked arms ++ block_faults levels what last
@@ -165,7 +170,8 @@ states_faults-past levels le what [] (suc n) h = refl
 states_faults-past levels le what (s ∷ ss) zero h = absurd (omega arith)
 states_faults-past levels le what (s ∷ ss) (suc n) h = states_faults-past levels le what ss n (omega arith)
 
-pub states_faults-all : (levels : List (List ℕ)) (le : ℕ → ℕ → Bool) (what : Lookup) (ss : List State) → states_faults levels le what ss ≡ faults.states_faults levels le what (states_of ss)
+pub states_faults-all : (levels : List (List ℕ)) (le : ℕ → ℕ → Bool) (what : Lookup) (ss : List State)
+    → states_faults levels le what ss ≡ faults.states_faults levels le what (states_of ss)
 unfolding states_faults
 states_faults-all levels le what ss = refl
 

@@ -17,7 +17,8 @@ same_bytes x y = bytes_eq x.items y.items
 pub at_other : {X : Type 0} (m n : NameMap X) (bs : Name) (w : Option X) → hash.UpdatesBy same_bytes (λ k. bytes_eq bs k.items) m n w → (cs : Name) → bytes_eq bs cs ≡ false
     → at_name n cs ≡ at_name m cs
 at_other m n bs w h cs e =
-    others_kept same_bytes (λ k. bytes_eq bs k.items) m.entries n.entries h.3 (λ k. bytes_eq cs k.items) (λ x y. bytes_eq_alike cs x.items y.items) (λ k. bytes_eq_apart bs cs k.items e)
+    others_kept same_bytes (λ k. bytes_eq bs k.items) m.entries n.entries h.3 (λ k. bytes_eq cs k.items)
+    (λ x y. bytes_eq_alike cs x.items y.items) (λ k. bytes_eq_apart bs cs k.items e)
 
 -- what the insertion of a name leaves at all names
 pub puts : {X : Type 0} (m n : NameMap X) (key : Vec ℕ Global) (x : Name) (o : X) → key.items ≡ x → hash.UpdatesBy same_bytes (same_bytes key) m n (Some o)

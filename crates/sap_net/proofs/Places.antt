@@ -37,7 +37,8 @@ place_push_other : (xs : List Name) (y n : Name) → bytes_eq y n ≡ false → 
 place_push_other [] y n f = rw f refl
 place_push_other (x ∷ xs) y n f = ap (λ o. if bytes_eq x n then Some zero else option_map suc o) (place_push_other xs y n f)
 
-pub added_new : (m m' : NameMap ℕ) (names : List Name) (y : Name) (k : ℕ) → at_name m y ≡ None → Puts (at_name m) y k (at_name m') → length names ≡ k → Indexes m names → Indexes m' (names ++ y ∷ [])
+pub added_new : (m m' : NameMap ℕ) (names : List Name) (y : Name) (k : ℕ) → at_name m y ≡ None → Puts (at_name m) y k (at_name m')
+    → length names ≡ k → Indexes m names → Indexes m' (names ++ y ∷ [])
 added_new m m' names y k new p l is n =
     elim (cases_Bool (bytes_eq y n)) [
       | inl t ↦ p n ∙ rw t (subst (λ (x : Name). Some k ≡ place_in (names ++ y ∷ []) x) (equal_of_bytes_eq y n t) (sym (place_push_here names y (sym (is y) ∙ new) ∙ ap Some l)))

@@ -68,7 +68,8 @@ pub wires_distinct : (ms : Shapes) (ws : List Wire) (sc : Scope) → AreWires ms
 wires_distinct ms [] sc a = tt
 wires_distinct ms (w ∷ ws) sc a = (
   elim (cases_Bool (is_among w.name (names_of ws))) [
-    | inl t ↦ absurd (let e = wires_new ms ws ((w.name, w.width) ∷ sc) a.4 w.name t in let g : find ((w.name, w.width) ∷ sc) w.name ≡ Some w.width = found_here w.name w.width sc in let q = e.0 in cc)
+    | inl t ↦ absurd (let e = wires_new ms ws ((w.name, w.width) ∷ sc) a.4 w.name t in
+        let g : find ((w.name, w.width) ∷ sc) w.name ≡ Some w.width = found_here w.name w.width sc in let q = e.0 in cc)
     | inr f ↦ f
   ],
   wires_distinct ms ws ((w.name, w.width) ∷ sc) a.4,

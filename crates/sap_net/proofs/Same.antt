@@ -26,12 +26,14 @@ inputs_agree (i ∷ is) [] v w a b n u h = absurd a
 inputs_agree (i ∷ is) (x ∷ xs) v w a b n u h =
     agree_more _ v w i.name i.width (inputs_agree is xs v w a.1 b.1) (a.0 ∙ sym b.0) n u h
 
-pub registers_agree : (f g : Register → ℕ) (rs : List Register) (v w : Valuation) → AllByRecursion (λ r. v.value r.name ≡ f r) rs → AllByRecursion (λ r. w.value r.name ≡ g r) rs → AllByRecursion (λ r. f r ≡ g r) rs → Agree (map (λ r. (r.name, r.width)) rs) v w
+pub registers_agree : (f g : Register → ℕ) (rs : List Register) (v w : Valuation) → AllByRecursion (λ r. v.value r.name ≡ f r) rs
+    → AllByRecursion (λ r. w.value r.name ≡ g r) rs → AllByRecursion (λ r. f r ≡ g r) rs → Agree (map (λ r. (r.name, r.width)) rs) v w
 registers_agree f g [] v w a b e n u h = absurd (cc)
 registers_agree f g (r ∷ rs) v w a b e n u h =
     agree_more _ v w r.name r.width (registers_agree f g rs v w a.1 b.1 e.1) (a.0 ∙ e.0 ∙ sym b.0) n u h
 
-pub cells_agree : (f g : Memory → ℕ → ℕ) (ms : List Memory) (v w : Valuation) → AllByRecursion (λ m. (i : ℕ) → v.cell m.name i ≡ f m i) ms → AllByRecursion (λ m. (i : ℕ) → w.cell m.name i ≡ g m i) ms → AllByRecursion (λ m. (i : ℕ) → f m i ≡ g m i) ms → CellsAgree (map (λ m. (m.name, (m.width, m.depth))) ms) v w
+pub cells_agree : (f g : Memory → ℕ → ℕ) (ms : List Memory) (v w : Valuation) → AllByRecursion (λ m. (i : ℕ) → v.cell m.name i ≡ f m i) ms
+    → AllByRecursion (λ m. (i : ℕ) → w.cell m.name i ≡ g m i) ms → AllByRecursion (λ m. (i : ℕ) → f m i ≡ g m i) ms → CellsAgree (map (λ m. (m.name, (m.width, m.depth))) ms) v w
 cells_agree f g [] v w a b e n u h i = absurd (cc)
 cells_agree f g (m ∷ ms) v w a b e n u h i =
     ⊎_elim
@@ -40,11 +42,13 @@ cells_agree f g (m ∷ ms) v w a b e n u h i =
     (cases_Bool (bytes_eq m.name n))
 
 -- what is read at the edge is the same in valuations that agree
-nexts_agree : (sc : Scope) (p q : Valuation) → Agree sc p q → (rs : List Register) → AllByRecursion (IsRegister sc) rs → AllByRecursion (λ r. operand_value p r.next ≡ operand_value q r.next) rs
+nexts_agree : (sc : Scope) (p q : Valuation) → Agree sc p q → (rs : List Register) → AllByRecursion (IsRegister sc) rs
+    → AllByRecursion (λ r. operand_value p r.next ≡ operand_value q r.next) rs
 nexts_agree sc p q a [] rules = tt
 nexts_agree sc p q a (r ∷ rs) rules = (operand_agree sc p q a r.width r.next rules.0.1, nexts_agree sc p q a rs rules.1)
 
-written_agree : (sc : Scope) (ms : Shapes) (p q : Valuation) → Agree sc p q → CellsAgree ms p q → (m : Memory) → IsMemory sc m → find ms m.name ≡ Some (m.width, m.depth) → (i : ℕ) → written p m i ≡ written q m i
+written_agree : (sc : Scope) (ms : Shapes) (p q : Valuation) → Agree sc p q → CellsAgree ms p q → (m : Memory) → IsMemory sc m
+    → find ms m.name ≡ Some (m.width, m.depth) → (i : ℕ) → written p m i ≡ written q m i
 written_agree sc ms p q a c m rules has i =
     let d = operand_agree sc p q a 1 m.enable rules.enable in
     let e = operand_agree sc p q a rules.bits m.index rules.index in
@@ -64,14 +68,16 @@ pub all_found : (ms : List Memory) → AreMemories (map (λ m. (m.name, (m.width
 all_found [] rules = tt
 all_found (m ∷ ms) rules = (found_here m.name _ _, found_more _ _ ms rules.1 (all_found ms rules.2))
 
-all_written_agree : (sc : Scope) (shapes : Shapes) (p q : Valuation) → Agree sc p q → CellsAgree shapes p q → (ms : List Memory) → AllByRecursion (IsMemory sc) ms → AreFound shapes ms → AllByRecursion (λ m. (i : ℕ) → written p m i ≡ written q m i) ms
+all_written_agree : (sc : Scope) (shapes : Shapes) (p q : Valuation) → Agree sc p q → CellsAgree shapes p q → (ms : List Memory)
+    → AllByRecursion (IsMemory sc) ms → AreFound shapes ms → AllByRecursion (λ m. (i : ℕ) → written p m i ≡ written q m i) ms
 all_written_agree sc shapes p q a c [] rules has = tt
 all_written_agree sc shapes p q a c (m ∷ ms) rules has =
     (written_agree sc shapes p q a c m rules.0 has.0, all_written_agree sc shapes p q a c ms rules.1 has.1)
 
 same_from : (n : Net) → IsNetlist n → (f g : Register → ℕ) (c d : Memory → ℕ → ℕ) (p q : Option Valuation) (xs : List ℕ) (v w : Valuation) → IsCycle n p xs v → IsCycle n q xs w
     → AllByRecursion (λ r. v.value r.name ≡ f r) n.registers → AllByRecursion (λ r. w.value r.name ≡ g r) n.registers → AllByRecursion (λ r. f r ≡ g r) n.registers
-    → AllByRecursion (λ m. (i : ℕ) → v.cell m.name i ≡ c m i) n.memories → AllByRecursion (λ m. (i : ℕ) → w.cell m.name i ≡ d m i) n.memories → AllByRecursion (λ m. (i : ℕ) → c m i ≡ d m i) n.memories
+    → AllByRecursion (λ m. (i : ℕ) → v.cell m.name i ≡ c m i) n.memories
+    → AllByRecursion (λ m. (i : ℕ) → w.cell m.name i ≡ d m i) n.memories → AllByRecursion (λ m. (i : ℕ) → c m i ≡ d m i) n.memories
     → AreSame n v w
 same_from n rules f g c d p q xs v w a b rv rw' re cv cw ce =
     let cells : CellsAgree (shapes n) v w = cells_agree c d n.memories v w cv cw ce in
@@ -92,7 +98,8 @@ cycle_same n rules (Some p) (Some q) xs v w s a b =
     a.begins.0 b.begins.0 (nexts_agree (readable n) p q s.value n.registers rules.nexts)
     a.begins.1 b.begins.1 (all_written_agree (readable n) (shapes n) p q s.value s.cell n.memories rules.writes (all_found n.memories rules.memory_shapes))
 
-pub run_same : (n : Net) → IsNetlist n → (xss : List (List ℕ)) (p q : Option Valuation) (vs ws : List Valuation) → SameBefore n p q → IsRunAfter n p xss vs → IsRunAfter n q xss ws → AreSameRuns n vs ws
+pub run_same : (n : Net) → IsNetlist n → (xss : List (List ℕ)) (p q : Option Valuation) (vs ws : List Valuation) → SameBefore n p q
+    → IsRunAfter n p xss vs → IsRunAfter n q xss ws → AreSameRuns n vs ws
 run_same n rules [] p q [] [] s a b = tt
 run_same n rules [] p q [] (w ∷ ws) s a b = absurd b
 run_same n rules [] p q (v ∷ vs) ws s a b = absurd a

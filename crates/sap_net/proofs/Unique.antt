@@ -17,14 +17,16 @@ pub operand_agree : (sc : Scope) (v w : Valuation) → Agree sc v w → (u : ℕ
 operand_agree sc v w a u (Named n) h = a n u h
 operand_agree sc v w a u (Constant k x) h = refl
 
-operands_agree : (widths : Name → ℕ) (sc : Scope) (v w : Valuation) → Agree sc v w → (u : ℕ) (os : List Operand) → AreOperands sc u os → operands_value widths v os ≡ operands_value widths w os
+operands_agree : (widths : Name → ℕ) (sc : Scope) (v w : Valuation) → Agree sc v w → (u : ℕ) (os : List Operand) → AreOperands sc u os
+    → operands_value widths v os ≡ operands_value widths w os
 operands_agree widths sc v w a u [] h = refl
 operands_agree widths sc v w a u (o ∷ os) h =
     let e = operand_agree sc v w a h.0 o h.3 in
     let f = operands_agree widths sc v w a h.1 os h.4 in
     cc
 
-pub right_agree : (widths : Name → ℕ) (ms : Shapes) (sc : Scope) (v w : Valuation) → Agree sc v w → CellsAgree ms v w → (u : ℕ) (r : Right) → IsRight ms sc u r → right_value widths v r ≡ right_value widths w r
+pub right_agree : (widths : Name → ℕ) (ms : Shapes) (sc : Scope) (v w : Valuation) → Agree sc v w → CellsAgree ms v w → (u : ℕ) (r : Right)
+    → IsRight ms sc u r → right_value widths v r ≡ right_value widths w r
 right_agree widths ms sc v w a c u (Copy o) h = operand_agree sc v w a u o h
 right_agree widths ms sc v w a c u (One op o) h = ap (λ x. value1 op (operand_width widths o) x) (operand_agree sc v w a h.0 o h.2)
 right_agree widths ms sc v w a c u (Two op o p) h =
@@ -42,7 +44,8 @@ right_agree widths ms sc v w a c u (Cell m i) h =
     c m _ h.1 (operand_value v i) ∙ ap (w.cell m) (operand_agree sc v w a h.0 i h.2)
 
 -- two solutions that begin alike are alike
-pub wires_agree : (widths : Name → ℕ) (ms : Shapes) (ws : List Wire) (sc : Scope) (v w : Valuation) → AreWires ms sc ws → CellsAgree ms v w → Agree sc v w → Holds widths v ws → Holds widths w ws → Agree (readable_after sc ws) v w
+pub wires_agree : (widths : Name → ℕ) (ms : Shapes) (ws : List Wire) (sc : Scope) (v w : Valuation) → AreWires ms sc ws → CellsAgree ms v w
+    → Agree sc v w → Holds widths v ws → Holds widths w ws → Agree (readable_after sc ws) v w
 wires_agree widths ms [] sc v w rules c a hv hw = a
 wires_agree widths ms (x ∷ ws) sc v w rules c a hv hw =
     let e : v.value x.name ≡ w.value x.name = hv.0 ∙ right_agree widths ms sc v w a c x.width x.right rules.3 ∙ sym hw.0 in
@@ -57,6 +60,7 @@ settle_holds widths ms (x ∷ ws) sc v rules =
     let end = settle widths v' ws in
     let all : Agree ((x.name, x.width) ∷ sc) v' end = settle_agrees widths ms ws ((x.name, x.width) ∷ sc) v' rules.4 in
     let back : Agree sc v end = settle_agrees widths ms (x ∷ ws) sc v rules in (
-      sym (all x.name x.width (found_here x.name x.width sc)) ∙ set_value_here v x.name r ∙ right_agree widths ms sc v end back (λ m s h i. ap (λ f. f m i) (settle_cell widths (x ∷ ws) v)) x.width x.right rules.3,
+      sym (all x.name x.width (found_here x.name x.width sc)) ∙ set_value_here v x.name r
+          ∙ right_agree widths ms sc v end back (λ m s h i. ap (λ f. f m i) (settle_cell widths (x ∷ ws) v)) x.width x.right rules.3,
       settle_holds widths ms ws ((x.name, x.width) ∷ sc) v' rules.4,
     )

@@ -135,13 +135,55 @@ first_none None n (Some limit) e = absurd (cc)
 first_none (Some x) n b e = absurd (cc)
 
 role_fact : (c : Counts) (role : Role) (t : Token) → breach_of_role c role ≡ None → RoleFact role c (tally c role t)
-role_fact c r.Plain t e = record { inputs = omega arith; registers = omega arith; memories = omega arith; states = omega arith; commands = omega arith; tokens = refl; brackets = refl }
-role_fact c r.Input t e =
-    (record { inputs = refl; registers = omega arith; memories = omega arith; states = omega arith; commands = omega arith; tokens = refl; brackets = refl }, above_none 64 (c.inputs + 1) l.Inputs e)
-role_fact c r.Register t e =
-    (record { inputs = omega arith; registers = refl; memories = omega arith; states = omega arith; commands = omega arith; tokens = refl; brackets = refl }, above_none 256 (c.registers + 1) l.Registers e)
-role_fact c r.Memory t e =
-    (record { inputs = omega arith; registers = omega arith; memories = refl; states = omega arith; commands = omega arith; tokens = refl; brackets = refl }, above_none 16 (c.memories + 1) l.Memories e)
+role_fact c r.Plain t e = record {
+  inputs = omega arith;
+  registers = omega arith;
+  memories = omega arith;
+  states = omega arith;
+  commands =
+      omega arith;
+  tokens = refl;
+  brackets = refl;
+}
+role_fact c r.Input t e = (
+  record {
+    inputs = refl;
+    registers = omega arith;
+    memories = omega arith;
+    states = omega arith;
+    commands = omega arith;
+    tokens =
+        refl;
+    brackets = refl;
+  },
+  above_none 64 (c.inputs + 1) l.Inputs e,
+)
+role_fact c r.Register t e = (
+  record {
+    inputs = omega arith;
+    registers = refl;
+    memories = omega arith;
+    states = omega arith;
+    commands = omega arith;
+    tokens =
+        refl;
+    brackets = refl;
+  },
+  above_none 256 (c.registers + 1) l.Registers e,
+)
+role_fact c r.Memory t e = (
+  record {
+    inputs = omega arith;
+    registers = omega arith;
+    memories = refl;
+    states = omega arith;
+    commands = omega arith;
+    tokens =
+        refl;
+    brackets = refl;
+  },
+  above_none 16 (c.memories + 1) l.Memories e,
+)
 role_fact c (r.State depth) t e =
     let b = both_none (above 256 (c.states + 1) l.States) (above 16 depth l.Nesting) e in (
       record { inputs = omega arith; registers = omega arith; memories = omega arith; states = refl; commands = omega arith; tokens = refl; brackets = refl },

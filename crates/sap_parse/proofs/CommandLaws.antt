@@ -28,19 +28,22 @@ module _ (enter : Enter) where
   -- straight productions
 
   pub set_tag_steps : (depth : ℕ) (p : Stage)
-      → read_by enter (s.set_tag depth) p ≡ steps_by enter (s.word (r.Command depth) w.SetTag ∷ s.sign r.Plain j.OpenParen ∷ s.any_name r.Plain ∷ s.cell_part ∷ s.sign r.Plain j.Comma ∷ s.texpr ∷ s.sign r.Plain j.CloseParen ∷ []) p
+      → read_by enter (s.set_tag depth) p ≡ steps_by enter (s.word (r.Command depth) w.SetTag ∷ s.sign r.Plain j.OpenParen
+      ∷ s.any_name r.Plain ∷ s.cell_part ∷ s.sign r.Plain j.Comma ∷ s.texpr ∷ s.sign r.Plain j.CloseParen ∷ []) p
   set_tag_steps depth = word_then enter (s.set_tag depth) (r.Command depth) w.SetTag _ (λ i. refl) refl
 
   pub goto_steps : (depth : ℕ) (p : Stage) → read_by enter (s.goto depth) p ≡ steps_by enter (s.word (r.Command depth) w.Goto ∷ s.any_name r.Plain ∷ []) p
   goto_steps depth = word_then enter (s.goto depth) (r.Command depth) w.Goto _ (λ i. refl) refl
 
   pub if_steps : (depth : ℕ) (p : Stage)
-      → read_by enter (s.if_command depth) p ≡ steps_by enter (s.word (r.Command depth) w.If ∷ s.sign r.Plain j.OpenParen ∷ s.expr ∷ s.sign r.Plain j.CloseParen ∷ s.block (depth + 1) ∷ s.else_part (depth + 1) ∷ []) p
+      → read_by enter (s.if_command depth) p ≡ steps_by enter (s.word (r.Command depth) w.If ∷ s.sign r.Plain j.OpenParen ∷ s.expr
+      ∷ s.sign r.Plain j.CloseParen ∷ s.block (depth + 1) ∷ s.else_part (depth + 1) ∷ []) p
   if_steps depth = word_then enter (s.if_command depth) (r.Command depth) w.If _ (λ i. refl) refl
 
   pub case_steps : (depth : ℕ) (p : Stage)
       → read_by enter (s.case_command depth) p
-      ≡ steps_by enter (s.word (r.Command depth) w.Case ∷ s.sign r.Plain j.OpenParen ∷ s.expr ∷ s.sign r.Plain j.CloseParen ∷ s.sign r.Plain j.OpenBrace ∷ s.arm (depth + 1) ∷ s.arms (depth + 1) ∷ s.sign r.Plain j.CloseBrace ∷ []) p
+      ≡ steps_by enter (s.word (r.Command depth) w.Case ∷ s.sign r.Plain j.OpenParen ∷ s.expr ∷ s.sign r.Plain j.CloseParen
+      ∷ s.sign r.Plain j.OpenBrace ∷ s.arm (depth + 1) ∷ s.arms (depth + 1) ∷ s.sign r.Plain j.CloseBrace ∷ []) p
   case_steps depth = word_then enter (s.case_command depth) (r.Command depth) w.Case _ (λ i. refl) refl
 
   pub block_steps : (depth : ℕ) (p : Stage) → read_by enter (s.block depth) p ≡ steps_by enter (s.sign r.Plain j.OpenBrace ∷ s.cmds depth ∷ s.sign r.Plain j.CloseBrace ∷ []) p
@@ -48,7 +51,8 @@ module _ (enter : Enter) where
 
   -- what may be left out
 
-  pub cell_part_there : (p : Stage) → ahead p.left ≡ a.Sign j.OpenBracket → read_by enter s.cell_part p ≡ steps_by enter (s.sign r.Plain j.OpenBracket ∷ s.expr ∷ s.sign r.Plain j.CloseBracket ∷ []) p
+  pub cell_part_there : (p : Stage) → ahead p.left ≡ a.Sign j.OpenBracket
+      → read_by enter s.cell_part p ≡ steps_by enter (s.sign r.Plain j.OpenBracket ∷ s.expr ∷ s.sign r.Plain j.CloseBracket ∷ []) p
   cell_part_there = sign_there enter s.cell_part r.Plain j.OpenBracket _ (λ i. refl)
 
   pub cell_part_missing : (p : Stage) → ahead p.left ≢ a.Sign j.OpenBracket → read_by enter s.cell_part p ≡ Ok p
@@ -64,13 +68,15 @@ module _ (enter : Enter) where
 
   write_row : (i : Kind) → i ≡ k.Sign j.OpenBracket
       → s.target_next i ≡ push (next (s.sign r.Plain j.OpenBracket) i) (s.expr ∷ s.sign r.Plain j.CloseBracket ∷ s.sign r.Plain j.Becomes ∷ s.expr ∷ [])
-  write_row i e = ap s.target_next e ∙ sym (ap (λ i. push (next (s.sign r.Plain j.OpenBracket) i) (s.expr ∷ s.sign r.Plain j.CloseBracket ∷ s.sign r.Plain j.Becomes ∷ s.expr ∷ [])) e)
+  write_row i e = ap s.target_next e ∙ sym
+      (ap (λ i. push (next (s.sign r.Plain j.OpenBracket) i) (s.expr ∷ s.sign r.Plain j.CloseBracket ∷ s.sign r.Plain j.Becomes ∷ s.expr ∷ [])) e)
 
   pub target_write : (p : Stage) → ahead p.left ≡ a.Sign j.OpenBracket
       → read_by enter s.target p ≡ steps_by enter (s.sign r.Plain j.OpenBracket ∷ s.expr ∷ s.sign r.Plain j.CloseBracket ∷ s.sign r.Plain j.Becomes ∷ s.expr ∷ []) p
   target_write p e =
       let t = stands enter p e (λ h. absurd (cc)) in
-      step_at enter s.target (s.sign r.Plain j.OpenBracket) (s.expr ∷ s.sign r.Plain j.CloseBracket ∷ s.sign r.Plain j.Becomes ∷ s.expr ∷ []) p t.0 t.1 t.2 (write_row t.0.kind (kind_ahead t.0.kind j.OpenBracket t.3)) (sign_full enter r.Plain j.OpenBracket t.0.kind)
+      step_at enter s.target (s.sign r.Plain j.OpenBracket) (s.expr ∷ s.sign r.Plain j.CloseBracket ∷ s.sign r.Plain j.Becomes ∷ s.expr
+      ∷ []) p t.0 t.1 t.2 (write_row t.0.kind (kind_ahead t.0.kind j.OpenBracket t.3)) (sign_full enter r.Plain j.OpenBracket t.0.kind)
 
   or_stop : (n : s.Row) → (n or cannot_stand) ≡ n
   or_stop (begins role σ) = refl
@@ -79,24 +85,29 @@ module _ (enter : Enter) where
 
   assign_row : (i : Kind) → ahead_of i ≢ a.Sign j.OpenBracket → s.target_next i ≡ push (next (s.sign r.Plain j.Becomes) i) (s.expr ∷ [])
   assign_row i ne =
-      ap (λ n. push (next (s.sign r.Plain j.Becomes) i) (s.expr ∷ []) or push n (s.expr ∷ s.sign r.Plain j.CloseBracket ∷ s.sign r.Plain j.Becomes ∷ s.expr ∷ [])) (next_not_sign r.Plain j.OpenBracket i ne)
+      ap (λ n. push (next (s.sign r.Plain j.Becomes) i) (s.expr ∷ []) or push n
+      (s.expr ∷ s.sign r.Plain j.CloseBracket ∷ s.sign r.Plain j.Becomes ∷ s.expr ∷ [])) (next_not_sign r.Plain j.OpenBracket i ne)
       ∙ or_stop (push (next (s.sign r.Plain j.Becomes) i) (s.expr ∷ []))
 
   pub target_assign : (p : Stage) → ahead p.left ≢ a.Sign j.OpenBracket → read_by enter s.target p ≡ steps_by enter (s.sign r.Plain j.Becomes ∷ s.expr ∷ []) p
   target_assign p ne = by_tokens p.left refl where
     by_tokens : (left : List Token) → p.left ≡ left → read_by enter s.target p ≡ steps_by enter (s.sign r.Plain j.Becomes ∷ s.expr ∷ []) p
-    by_tokens [] none = stops enter s.target refl p (λ t ts left. absurd (cc)) ∙ ap (λ o. o >>= steps_by enter (s.expr ∷ [])) (sym (stops enter (s.sign r.Plain j.Becomes) refl p (λ t ts left. absurd (cc))))
-    by_tokens (t ∷ ts) left = step_at enter s.target (s.sign r.Plain j.Becomes) (s.expr ∷ []) p t ts left (assign_row t.kind (λ h. ne (ahead_back t ts h left))) (sign_full enter r.Plain j.Becomes t.kind)
+    by_tokens [] none = stops enter s.target refl p (λ t ts left. absurd (cc))
+        ∙ ap (λ o. o >>= steps_by enter (s.expr ∷ [])) (sym (stops enter (s.sign r.Plain j.Becomes) refl p (λ t ts left. absurd (cc))))
+    by_tokens (t ∷ ts) left = step_at enter s.target (s.sign r.Plain j.Becomes) (s.expr ∷ []) p t ts left
+        (assign_row t.kind (λ h. ne (ahead_back t ts h left))) (sign_full enter r.Plain j.Becomes t.kind)
 
   -- behind a command that can have a handler
 
   handled_row : (depth : ℕ) (i : Kind) → i ≡ k.Word w.Otherwise → s.ending_next depth i ≡ push (next (s.word r.Plain w.Otherwise) i) (s.block (depth + 1) ∷ [])
   handled_row depth i e = ap (s.ending_next depth) e ∙ sym (ap (λ i. push (next (s.word r.Plain w.Otherwise) i) (s.block (depth + 1) ∷ [])) e)
 
-  pub ending_handled : (depth : ℕ) (p : Stage) → ahead p.left ≡ a.Word w.Otherwise → read_by enter (s.ending depth) p ≡ steps_by enter (s.word r.Plain w.Otherwise ∷ s.block (depth + 1) ∷ []) p
+  pub ending_handled : (depth : ℕ) (p : Stage) → ahead p.left ≡ a.Word w.Otherwise
+      → read_by enter (s.ending depth) p ≡ steps_by enter (s.word r.Plain w.Otherwise ∷ s.block (depth + 1) ∷ []) p
   ending_handled depth p e =
       let t = stands enter p e (λ h. absurd (cc)) in
-      step_at enter (s.ending depth) (s.word r.Plain w.Otherwise) (s.block (depth + 1) ∷ []) p t.0 t.1 t.2 (handled_row depth t.0.kind (word_kind_ahead t.0.kind w.Otherwise t.3)) (word_full enter r.Plain w.Otherwise t.0.kind)
+      step_at enter (s.ending depth) (s.word r.Plain w.Otherwise) (s.block (depth + 1) ∷ []) p t.0 t.1 t.2
+      (handled_row depth t.0.kind (word_kind_ahead t.0.kind w.Otherwise t.3)) (word_full enter r.Plain w.Otherwise t.0.kind)
 
   decided_row : (depth : ℕ) (i : Kind) → i ≡ k.Word w.Then
       → s.ending_next depth i ≡ push (next (s.word r.Plain w.Then) i) (s.block (depth + 1) ∷ s.word r.Plain w.Otherwise ∷ s.block (depth + 1) ∷ [])
@@ -117,12 +128,14 @@ module _ (enter : Enter) where
       ∙ ap (λ n. next (s.sign r.Plain j.Semicolon) i or push n (s.block (depth + 1) ∷ s.word r.Plain w.Otherwise ∷ s.block (depth + 1) ∷ [])) (next_not_word r.Plain w.Then i nt)
       ∙ or_stop (next (s.sign r.Plain j.Semicolon) i) ∙ sym (push_none (next (s.sign r.Plain j.Semicolon) i))
 
-  pub ending_unhandled : (depth : ℕ) (p : Stage) → ahead p.left ≢ a.Word w.Then → ahead p.left ≢ a.Word w.Otherwise → read_by enter (s.ending depth) p ≡ read_by enter (s.sign r.Plain j.Semicolon) p
+  pub ending_unhandled : (depth : ℕ) (p : Stage) → ahead p.left ≢ a.Word w.Then → ahead p.left ≢ a.Word w.Otherwise
+      → read_by enter (s.ending depth) p ≡ read_by enter (s.sign r.Plain j.Semicolon) p
   ending_unhandled depth p nt ne = by_tokens p.left refl where
     by_tokens : (left : List Token) → p.left ≡ left → read_by enter (s.ending depth) p ≡ read_by enter (s.sign r.Plain j.Semicolon) p
     by_tokens [] none = stops enter (s.ending depth) refl p (λ t ts left. absurd (cc)) ∙ sym (stops enter (s.sign r.Plain j.Semicolon) refl p (λ t ts left. absurd (cc)))
     by_tokens (t ∷ ts) left =
-        step_at enter (s.ending depth) (s.sign r.Plain j.Semicolon) [] p t ts left (unhandled_row depth t.kind (λ h. ne (ahead_back t ts h left)) (λ h. nt (ahead_back t ts h left))) (sign_full enter r.Plain j.Semicolon t.kind)
+        step_at enter (s.ending depth) (s.sign r.Plain j.Semicolon) [] p t ts left
+        (unhandled_row depth t.kind (λ h. ne (ahead_back t ts h left)) (λ h. nt (ahead_back t ts h left))) (sign_full enter r.Plain j.Semicolon t.kind)
         ∙ bind_pure (read_by enter (s.sign r.Plain j.Semicolon) p)
 
   -- choices by the first token
@@ -143,7 +156,8 @@ module _ (enter : Enter) where
   case_full depth i = push_full (next (s.word (r.Command depth) w.Case) i) _ (word_full enter (r.Command depth) w.Case i)
 
   simple_full : (depth : ℕ) (i : Kind) → IsFull (s.simple_next depth i)
-  simple_full depth i = or_full _ _ (push_full (next (s.any_name (r.Command depth)) i) _ (name_full enter (r.Command depth) i)) (or_full _ _ (set_tag_full depth i) (or_full _ _ (goto_full depth i) (fall_full depth i)))
+  simple_full depth i = or_full _ _ (push_full (next (s.any_name (r.Command depth)) i) _ (name_full enter (r.Command depth) i))
+      (or_full _ _ (set_tag_full depth i) (or_full _ _ (goto_full depth i) (fall_full depth i)))
 
   some_head : (p : Stage) (x : CommandHead) → command_head (ahead p.left) ≡ x → x ≢ h.Neither → p.left ≢ []
   unfolding command_head
@@ -235,21 +249,26 @@ module _ (enter : Enter) where
   row_neither depth (k.Word w.Case) e = absurd (cc)
   row_neither depth (k.Word _) e = (refl, refl)
 
-  pub simple_name : (depth : ℕ) (p : Stage) → command_head (ahead p.left) ≡ h.Name → read_by enter (s.simple depth) p ≡ steps_by enter (s.any_name (r.Command depth) ∷ s.target ∷ []) p
+  pub simple_name : (depth : ℕ) (p : Stage) → command_head (ahead p.left) ≡ h.Name
+      → read_by enter (s.simple depth) p ≡ steps_by enter (s.any_name (r.Command depth) ∷ s.target ∷ []) p
   simple_name depth p e = by_tokens p.left refl where
     by_tokens : (left : List Token) → p.left ≡ left → read_by enter (s.simple depth) p ≡ steps_by enter (s.any_name (r.Command depth) ∷ s.target ∷ []) p
     by_tokens [] none = absurd (some_head p h.Name e (λ g. absurd (cc)) none)
     by_tokens (t ∷ ts) left =
-        step_at enter (s.simple depth) (s.any_name (r.Command depth)) (s.target ∷ []) p t ts left (row_name depth t.kind (front_by enter command_head p t ts h.Name e left)) (name_full enter (r.Command depth) t.kind)
+        step_at enter (s.simple depth) (s.any_name (r.Command depth)) (s.target ∷ []) p t ts left
+        (row_name depth t.kind (front_by enter command_head p t ts h.Name e left)) (name_full enter (r.Command depth) t.kind)
 
   pub simple_set_tag : (depth : ℕ) (p : Stage) → command_head (ahead p.left) ≡ h.SetTag → read_by enter (s.simple depth) p ≡ read_by enter (s.set_tag depth) p
-  simple_set_tag depth p e = same_row enter (s.simple depth) (s.set_tag depth) p (set_tag_full depth) refl refl (λ t ts left. row_set_tag depth t.kind (front_by enter command_head p t ts h.SetTag e left)) (some_head p h.SetTag e (λ g. absurd (cc)))
+  simple_set_tag depth p e = same_row enter (s.simple depth) (s.set_tag depth) p (set_tag_full depth) refl refl
+      (λ t ts left. row_set_tag depth t.kind (front_by enter command_head p t ts h.SetTag e left)) (some_head p h.SetTag e (λ g. absurd (cc)))
 
   pub simple_goto : (depth : ℕ) (p : Stage) → command_head (ahead p.left) ≡ h.Goto → read_by enter (s.simple depth) p ≡ read_by enter (s.goto depth) p
-  simple_goto depth p e = same_row enter (s.simple depth) (s.goto depth) p (goto_full depth) refl refl (λ t ts left. row_goto depth t.kind (front_by enter command_head p t ts h.Goto e left)) (some_head p h.Goto e (λ g. absurd (cc)))
+  simple_goto depth p e = same_row enter (s.simple depth) (s.goto depth) p (goto_full depth) refl refl
+      (λ t ts left. row_goto depth t.kind (front_by enter command_head p t ts h.Goto e left)) (some_head p h.Goto e (λ g. absurd (cc)))
 
   pub simple_fall : (depth : ℕ) (p : Stage) → command_head (ahead p.left) ≡ h.Fall → read_by enter (s.simple depth) p ≡ read_by enter (s.word (r.Command depth) w.Fall) p
-  simple_fall depth p e = same_row enter (s.simple depth) (s.word (r.Command depth) w.Fall) p (fall_full depth) refl refl (λ t ts left. row_fall depth t.kind (front_by enter command_head p t ts h.Fall e left)) (some_head p h.Fall e (λ g. absurd (cc)))
+  simple_fall depth p e = same_row enter (s.simple depth) (s.word (r.Command depth) w.Fall) p (fall_full depth) refl refl
+      (λ t ts left. row_fall depth t.kind (front_by enter command_head p t ts h.Fall e left)) (some_head p h.Fall e (λ g. absurd (cc)))
 
   pub simple_if : (depth : ℕ) (p : Stage) → command_head (ahead p.left) ≡ h.If → read_by enter (s.simple depth) p ≡ Err (at_token p)
   simple_if depth p e = stops enter (s.simple depth) refl p (λ t ts left. (row_if depth t.kind (front_by enter command_head p t ts h.If e left)).0)
@@ -272,7 +291,8 @@ module _ (enter : Enter) where
   pub cmd_if : (depth : ℕ) (p : Stage) → ahead p.left ≡ a.Word w.If → read_by enter (s.cmd depth) p ≡ read_by enter (s.if_command depth) p
   cmd_if depth p e =
       let t = stands enter p e (λ h. absurd (cc)) in
-      step_at enter (s.cmd depth) (s.if_command depth) [] p t.0 t.1 t.2 ((row_if depth t.0.kind (head_of_if t.0.kind t.3)).1 ∙ sym (push_none (s.if_next depth t.0.kind))) (if_full depth t.0.kind)
+      step_at enter (s.cmd depth) (s.if_command depth) [] p t.0 t.1 t.2 ((row_if depth t.0.kind (head_of_if t.0.kind t.3)).1
+      ∙ sym (push_none (s.if_next depth t.0.kind))) (if_full depth t.0.kind)
       ∙ bind_pure (read_by enter (s.if_command depth) p)
 
   head_of_case : (i : Kind) → ahead_of i ≡ a.Word w.Case → command_head (ahead_of i) ≡ h.Case
@@ -282,23 +302,29 @@ module _ (enter : Enter) where
   pub cmd_case : (depth : ℕ) (p : Stage) → ahead p.left ≡ a.Word w.Case → read_by enter (s.cmd depth) p ≡ read_by enter (s.case_command depth) p
   cmd_case depth p e =
       let t = stands enter p e (λ h. absurd (cc)) in
-      step_at enter (s.cmd depth) (s.case_command depth) [] p t.0 t.1 t.2 ((row_case depth t.0.kind (head_of_case t.0.kind t.3)).1 ∙ sym (push_none (s.case_next depth t.0.kind))) (case_full depth t.0.kind)
+      step_at enter (s.cmd depth) (s.case_command depth) [] p t.0 t.1 t.2 ((row_case depth t.0.kind (head_of_case t.0.kind t.3)).1
+      ∙ sym (push_none (s.case_next depth t.0.kind))) (case_full depth t.0.kind)
       ∙ bind_pure (read_by enter (s.case_command depth) p)
 
   no_choice_row : (depth : ℕ) (i : Kind) → ahead_of i ≢ a.Word w.If → ahead_of i ≢ a.Word w.Case → s.cmd_next depth i ≡ push (s.simple_next depth i) (s.ending depth ∷ [])
   no_choice_row depth i ne nc =
       ap (λ n. push (s.simple_next depth i) (s.ending depth ∷ [])
-      or (push n (s.sign r.Plain j.OpenParen ∷ s.expr ∷ s.sign r.Plain j.CloseParen ∷ s.block (depth + 1) ∷ s.else_part (depth + 1) ∷ []) or s.case_next depth i)) (next_not_word (r.Command depth) w.If i ne)
+      or (push n (s.sign r.Plain j.OpenParen ∷ s.expr ∷ s.sign r.Plain j.CloseParen ∷ s.block (depth + 1) ∷ s.else_part (depth + 1) ∷ []) or
+      s.case_next depth i)) (next_not_word (r.Command depth) w.If i ne)
       ∙ ap (λ n. push (s.simple_next depth i) (s.ending depth ∷ [])
-      or push n (s.sign r.Plain j.OpenParen ∷ s.expr ∷ s.sign r.Plain j.CloseParen ∷ s.sign r.Plain j.OpenBrace ∷ s.arm (depth + 1) ∷ s.arms (depth + 1) ∷ s.sign r.Plain j.CloseBrace ∷ []))
+      or push n (s.sign r.Plain j.OpenParen ∷ s.expr ∷ s.sign r.Plain j.CloseParen ∷ s.sign r.Plain j.OpenBrace ∷ s.arm (depth + 1)
+      ∷ s.arms (depth + 1) ∷ s.sign r.Plain j.CloseBrace ∷ []))
       (next_not_word (r.Command depth) w.Case i nc)
       ∙ or_stop (push (s.simple_next depth i) (s.ending depth ∷ []))
 
-  pub cmd_simple : (depth : ℕ) (p : Stage) → ahead p.left ≢ a.Word w.If → ahead p.left ≢ a.Word w.Case → read_by enter (s.cmd depth) p ≡ steps_by enter (s.simple depth ∷ s.ending depth ∷ []) p
+  pub cmd_simple : (depth : ℕ) (p : Stage) → ahead p.left ≢ a.Word w.If → ahead p.left ≢ a.Word w.Case
+      → read_by enter (s.cmd depth) p ≡ steps_by enter (s.simple depth ∷ s.ending depth ∷ []) p
   cmd_simple depth p ne nc = by_tokens p.left refl where
     by_tokens : (left : List Token) → p.left ≡ left → read_by enter (s.cmd depth) p ≡ steps_by enter (s.simple depth ∷ s.ending depth ∷ []) p
-    by_tokens [] none = stops enter (s.cmd depth) refl p (λ t ts left. absurd (cc)) ∙ ap (λ o. o >>= steps_by enter (s.ending depth ∷ [])) (sym (stops enter (s.simple depth) refl p (λ t ts left. absurd (cc))))
-    by_tokens (t ∷ ts) left = step_at enter (s.cmd depth) (s.simple depth) (s.ending depth ∷ []) p t ts left (no_choice_row depth t.kind (λ h. ne (ahead_back t ts h left)) (λ h. nc (ahead_back t ts h left))) (simple_full depth t.kind)
+    by_tokens [] none = stops enter (s.cmd depth) refl p (λ t ts left. absurd (cc))
+        ∙ ap (λ o. o >>= steps_by enter (s.ending depth ∷ [])) (sym (stops enter (s.simple depth) refl p (λ t ts left. absurd (cc))))
+    by_tokens (t ∷ ts) left = step_at enter (s.cmd depth) (s.simple depth) (s.ending depth ∷ []) p t ts left
+        (no_choice_row depth t.kind (λ h. ne (ahead_back t ts h left)) (λ h. nc (ahead_back t ts h left))) (simple_full depth t.kind)
 
   cmds_row : (depth : ℕ) (i : Kind) → command_head (ahead_of i) ≢ h.Neither → s.cmds_next depth i ≡ push (s.cmd_next depth i) (s.cmds depth ∷ [])
   unfolding command_head
@@ -319,10 +345,12 @@ module _ (enter : Enter) where
     by_tokens : (left : List Token) → p.left ≡ left → read_by enter (s.cmds depth) p ≡ steps_by enter (s.cmd depth ∷ s.cmds depth ∷ []) p
     by_tokens [] none = absurd (ne (ap command_head (nothing_ahead enter p none)))
     by_tokens (t ∷ ts) left =
-        step_at enter (s.cmds depth) (s.cmd depth) (s.cmds depth ∷ []) p t ts left (cmds_row depth t.kind (λ h. ne (ap command_head (sym (front_by enter (λ x. x) p t ts (ahead p.left) refl left)) ∙ h))) (cmd_full depth t.kind)
+        step_at enter (s.cmds depth) (s.cmd depth) (s.cmds depth ∷ []) p t ts left
+        (cmds_row depth t.kind (λ h. ne (ap command_head (sym (front_by enter (λ x. x) p t ts (ahead p.left) refl left)) ∙ h))) (cmd_full depth t.kind)
 
   pub cmds_missing : (depth : ℕ) (p : Stage) → command_head (ahead p.left) ≡ h.Neither → read_by enter (s.cmds depth) p ≡ Ok p
-  cmds_missing depth p e = skips enter (s.cmds depth) refl p (λ t ts left. ap (λ n. optional (push n (s.cmds depth ∷ []))) (row_neither depth t.kind (front_by enter command_head p t ts h.Neither e left)).1)
+  cmds_missing depth p e = skips enter (s.cmds depth) refl p
+      (λ t ts left. ap (λ n. optional (push n (s.cmds depth ∷ []))) (row_neither depth t.kind (front_by enter command_head p t ts h.Neither e left)).1)
 
   -- constants and arms
 
@@ -373,7 +401,8 @@ module _ (enter : Enter) where
   row_constant depth (k.Word w.Zext) e = absurd (cc)
   row_constant depth (k.Word _) e = absurd (cc)
 
-  row_other : (depth : ℕ) (i : Kind) → is_constant (primary_of (ahead_of i)) ≡ false → (s.constant_next i ≡ cannot_stand) × (s.arms_next depth i ≡ push (next (s.word r.Plain w.Else) i) (s.block depth ∷ []))
+  row_other : (depth : ℕ) (i : Kind) → is_constant (primary_of (ahead_of i)) ≡ false → (s.constant_next i ≡ cannot_stand)
+      × (s.arms_next depth i ≡ push (next (s.word r.Plain w.Else) i) (s.block depth ∷ []))
   unfolding primary_of
   row_other depth (k.Name n) e = (refl, refl)
   row_other depth (k.Number n) e = absurd (cc)
@@ -385,10 +414,12 @@ module _ (enter : Enter) where
   row_other depth (k.Word _) e = (refl, refl)
 
   pub constant_number : (p : Stage) → primary_of (ahead p.left) ≡ v.Number → read_by enter s.constant p ≡ read_by enter (s.number r.Plain) p
-  constant_number p e = same_row enter s.constant (s.number r.Plain) p (number_full enter r.Plain) refl refl (λ t ts left. row_number t.kind (front_by enter primary_of p t ts v.Number e left)) (some_primary p v.Number e (λ g. absurd (cc)))
+  constant_number p e = same_row enter s.constant (s.number r.Plain) p (number_full enter r.Plain) refl refl
+      (λ t ts left. row_number t.kind (front_by enter primary_of p t ts v.Number e left)) (some_primary p v.Number e (λ g. absurd (cc)))
 
   pub constant_sized : (p : Stage) → primary_of (ahead p.left) ≡ v.Sized → read_by enter s.constant p ≡ read_by enter (s.sized r.Plain) p
-  constant_sized p e = same_row enter s.constant (s.sized r.Plain) p sized_full refl refl (λ t ts left. row_sized t.kind (front_by enter primary_of p t ts v.Sized e left)) (some_primary p v.Sized e (λ g. absurd (cc)))
+  constant_sized p e = same_row enter s.constant (s.sized r.Plain) p sized_full refl refl
+      (λ t ts left. row_sized t.kind (front_by enter primary_of p t ts v.Sized e left)) (some_primary p v.Sized e (λ g. absurd (cc)))
 
   constant_stop : (p : Stage) → is_constant (primary_of (ahead p.left)) ≡ false → read_by enter s.constant p ≡ Err (at_token p)
   constant_stop p e = stops enter s.constant refl p (λ t ts left. (row_other 0 t.kind (front_by enter (λ x. is_constant (primary_of x)) p t ts false e left)).0)
@@ -426,13 +457,17 @@ module _ (enter : Enter) where
     by_tokens : (left : List Token) → p.left ≡ left → read_by enter (s.arms depth) p ≡ steps_by enter (s.arm depth ∷ s.arms depth ∷ []) p
     by_tokens [] none = absurd (no_constant p none e)
     by_tokens (t ∷ ts) left =
-        step_at enter (s.arms depth) (s.arm depth) (s.arms depth ∷ []) p t ts left (row_constant depth t.kind (front_by enter (λ x. is_constant (primary_of x)) p t ts true e left)) (arm_full depth t.kind)
+        step_at enter (s.arms depth) (s.arm depth) (s.arms depth ∷ []) p t ts left
+        (row_constant depth t.kind (front_by enter (λ x. is_constant (primary_of x)) p t ts true e left)) (arm_full depth t.kind)
 
-  pub arms_last : (depth : ℕ) (p : Stage) → is_constant (primary_of (ahead p.left)) ≡ false → read_by enter (s.arms depth) p ≡ steps_by enter (s.word r.Plain w.Else ∷ s.block depth ∷ []) p
+  pub arms_last : (depth : ℕ) (p : Stage) → is_constant (primary_of (ahead p.left)) ≡ false
+      → read_by enter (s.arms depth) p ≡ steps_by enter (s.word r.Plain w.Else ∷ s.block depth ∷ []) p
   arms_last depth p e = by_tokens p.left refl where
     by_tokens : (left : List Token) → p.left ≡ left → read_by enter (s.arms depth) p ≡ steps_by enter (s.word r.Plain w.Else ∷ s.block depth ∷ []) p
     by_tokens [] none =
-        stops enter (s.arms depth) refl p (λ t ts left. absurd (cc)) ∙ ap (λ o. o >>= steps_by enter (s.block depth ∷ [])) (sym (stops enter (s.word r.Plain w.Else) refl p (λ t ts left. absurd (cc))))
+        stops enter (s.arms depth) refl p (λ t ts left. absurd (cc))
+        ∙ ap (λ o. o >>= steps_by enter (s.block depth ∷ [])) (sym (stops enter (s.word r.Plain w.Else) refl p (λ t ts left. absurd (cc))))
     by_tokens (t ∷ ts) left =
-        step_at enter (s.arms depth) (s.word r.Plain w.Else) (s.block depth ∷ []) p t ts left (row_other depth t.kind (front_by enter (λ x. is_constant (primary_of x)) p t ts false e left)).1
+        step_at enter (s.arms depth) (s.word r.Plain w.Else) (s.block depth ∷ []) p t ts left
+        (row_other depth t.kind (front_by enter (λ x. is_constant (primary_of x)) p t ts false e left)).1
         (word_full enter r.Plain w.Else t.kind)

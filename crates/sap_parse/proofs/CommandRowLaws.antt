@@ -43,7 +43,8 @@ pub assign_rows : (depth : ℕ) (p : Stage) → command_head (ahead p.left) ≡ 
     → reads (s.simple depth) p ≡ (reads (s.any_name (r.Command depth)) p >>= λ q. (reads s.cell_part q >>= reads_row new_value_row))
 assign_rows depth p e =
     simple_name strictly depth p e
-    ∙ bind_same (reads (s.any_name (r.Command depth)) p) (steps_by strictly (s.target ∷ [])) (λ q. (reads s.cell_part q >>= reads_row new_value_row)) (λ q. bind_pure (reads s.target q) ∙ target_parts q)
+    ∙ bind_same (reads (s.any_name (r.Command depth)) p) (steps_by strictly (s.target ∷ []))
+    (λ q. (reads s.cell_part q >>= reads_row new_value_row)) (λ q. bind_pure (reads s.target q) ∙ target_parts q)
 
 pub set_tag_rows : (depth : ℕ) (p : Stage) → reads (s.set_tag depth) p ≡ (reads_row (tag_place_row depth) p >>= λ q. (reads s.cell_part q >>= reads_row new_tag_row))
 unfolding reads_row
@@ -65,5 +66,6 @@ else_row depth p e = else_there strictly (depth + 1) p e ∙ sym (row_steps _ p)
 pub handled_row : (depth : ℕ) (p : Stage) → ahead p.left ≡ a.Word w.Otherwise → reads (s.ending depth) p ≡ reads_row (behind_row w.Otherwise depth) p
 handled_row depth p e = ending_handled strictly depth p e ∙ sym (row_steps _ p)
 
-pub decided_rows : (depth : ℕ) (p : Stage) → ahead p.left ≡ a.Word w.Then → reads (s.ending depth) p ≡ (reads_row (behind_row w.Then depth) p >>= reads_row (behind_row w.Otherwise depth))
+pub decided_rows : (depth : ℕ) (p : Stage) → ahead p.left ≡ a.Word w.Then
+    → reads (s.ending depth) p ≡ (reads_row (behind_row w.Then depth) p >>= reads_row (behind_row w.Otherwise depth))
 decided_rows depth p e = ending_decided strictly depth p e ∙ row_row (behind_row w.Then depth) (behind_row w.Otherwise depth) p

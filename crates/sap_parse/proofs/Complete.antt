@@ -159,7 +159,8 @@ operator_row b.Mul = refl
 
 operator_row_at : (o : BinaryOperator) (l : ℕ) → precedence o ≡ l
     → next (s.tail l) (k.Sign (sign_of o)) ≡ firsts (λ y. next y (k.Sign (sign_of o))) (s.sign r.Inner (sign_of o) ∷ s.bin (l + 1) ∷ s.tail l ∷ [])
-operator_row_at o l e = subst (λ n. next (s.tail n) (k.Sign (sign_of o)) ≡ firsts (λ y. next y (k.Sign (sign_of o))) (s.sign r.Inner (sign_of o) ∷ s.bin (n + 1) ∷ s.tail n ∷ [])) e (operator_row o)
+operator_row_at o l e = subst (λ n. next (s.tail n) (k.Sign (sign_of o))
+    ≡ firsts (λ y. next y (k.Sign (sign_of o))) (s.sign r.Inner (sign_of o) ∷ s.bin (n + 1) ∷ s.tail n ∷ [])) e (operator_row o)
 
 unary_row : (o : UnaryOperator) → next s.unary (k.Sign (unary_sign_of o)) ≡ firsts (λ y. next y (k.Sign (unary_sign_of o))) (s.sign r.Inner (unary_sign_of o) ∷ s.unary ∷ [])
 unary_row u.Not = refl
@@ -184,7 +185,8 @@ row_push n m σ e = ap (λ x. push x σ) e ∙ sym (ap (λ x. first_then x σ m)
 close : List Symbol
 close = s.sign r.Closing j.CloseBracket ∷ s.slices ∷ []
 
-row_after_bracket : (i : Kind) {role : Role} {ρ : List Symbol} → ((n : ℕ) → i ≢ k.Number n) → next s.expr i ≡ begins role ρ → next s.behind_bracket i ≡ firsts (λ y. next y i) (s.expr ∷ close)
+row_after_bracket : (i : Kind) {role : Role} {ρ : List Symbol} → ((n : ℕ) → i ≢ k.Number n) → next s.expr i ≡ begins role ρ
+    → next s.behind_bracket i ≡ firsts (λ y. next y i) (s.expr ∷ close)
 unfolding close
 row_after_bracket (k.Number x) ne e = absurd (ne x refl)
 row_after_bracket (k.Sign x) ne e = row_push (next s.expr (k.Sign x)) (firsts (λ y. next y (k.Sign x)) close) close e
@@ -262,7 +264,8 @@ bounds_first (g.bounds o high c low z) = first_is o
 
 pub cuts_read : {p q : Stage} {x y : t.Expression} → g.Cuts x p y q → first_kind q ≢ Some (k.Sign j.OpenBracket) → R s.slices p ≡ Ok q
 cuts_read {p} g.no_cut ne = skipped s.slices p refl (λ i e. skip_slices i (not_kind (k.Sign j.OpenBracket) p ne e))
-cuts_read {p} (g.cut b c) ne = at_kind s.slices (s.slice ∷ s.slices ∷ []) (k.Sign j.OpenBracket) p (bounds_first b) refl ∙ bind_ok _ _ _ (bounds_read b) ∙ bind_ok _ _ _ (cuts_read c ne)
+cuts_read {p} (g.cut b c) ne = at_kind s.slices (s.slice ∷ s.slices ∷ []) (k.Sign j.OpenBracket) p (bounds_first b) refl
+    ∙ bind_ok _ _ _ (bounds_read b) ∙ bind_ok _ _ _ (cuts_read c ne)
 
 after_name_reads : {p q : Stage} {x y : t.Expression} → g.Cuts x p y q → first_kind q ≢ Some (k.Sign j.OpenBracket) → R s.behind_name p ≡ Ok q
 after_name_reads {p} g.no_cut ne = skipped s.behind_name p refl (λ i e. skip_after_name i (not_kind (k.Sign j.OpenBracket) p ne e))
@@ -320,8 +323,10 @@ mutual
   unary_reads (g.unsigned (g.post x c)) ne = unary_post x ∙ bind_ok _ _ _ (post_reads x c ne)
 
   pub post_reads : {p m q : Stage} {x y : t.Expression} → g.Prim p x m → g.Cuts x m y q → first_kind q ≢ Some (k.Sign j.OpenBracket) → R s.post p ≡ Ok q
-  post_reads (g.number n) c ne = at_token_of s.post (s.prim ∷ s.slices ∷ []) n refl ∙ bind_ok _ _ _ (at_token_of s.prim (s.number r.Inner ∷ []) n refl ∙ bind_ok _ _ _ (number_reads n)) ∙ bind_ok _ _ _ (cuts_read c ne)
-  post_reads (g.sized n) c ne = at_token_of s.post (s.prim ∷ s.slices ∷ []) n refl ∙ bind_ok _ _ _ (at_token_of s.prim (s.sized r.Inner ∷ []) n refl ∙ bind_ok _ _ _ (sized_reads n)) ∙ bind_ok _ _ _ (cuts_read c ne)
+  post_reads (g.number n) c ne = at_token_of s.post (s.prim ∷ s.slices ∷ []) n refl
+      ∙ bind_ok _ _ _ (at_token_of s.prim (s.number r.Inner ∷ []) n refl ∙ bind_ok _ _ _ (number_reads n)) ∙ bind_ok _ _ _ (cuts_read c ne)
+  post_reads (g.sized n) c ne = at_token_of s.post (s.prim ∷ s.slices ∷ []) n refl
+      ∙ bind_ok _ _ _ (at_token_of s.prim (s.sized r.Inner ∷ []) n refl ∙ bind_ok _ _ _ (sized_reads n)) ∙ bind_ok _ _ _ (cuts_read c ne)
   post_reads (g.read n) c ne = at_token_of s.post (s.any_name r.Inner ∷ s.behind_name ∷ []) n refl ∙ bind_ok _ _ _ (name_reads n) ∙ bind_ok _ _ _ (after_name_reads c ne)
   post_reads (g.cell n o x z) c ne =
       at_token_of s.post (s.any_name r.Inner ∷ s.behind_name ∷ []) n refl ∙ bind_ok _ _ _ (name_reads n)
@@ -341,7 +346,8 @@ mutual
       ∙ bind_ok _ _ _ (cuts_read c ne)
   post_reads (g.zext word o x comma n z) c ne =
       at_token_of s.post (s.prim ∷ s.slices ∷ []) word refl
-      ∙ bind_ok _ _ _ (at_token_of s.prim (s.word r.Inner w.Zext ∷ s.sign r.Opening j.OpenParen ∷ s.expr ∷ s.sign r.Inner j.Comma ∷ s.number r.Inner ∷ s.sign r.Closing j.CloseParen ∷ []) word refl
+      ∙ bind_ok _ _ _ (at_token_of s.prim (s.word r.Inner w.Zext ∷ s.sign r.Opening j.OpenParen ∷ s.expr ∷ s.sign r.Inner j.Comma
+      ∷ s.number r.Inner ∷ s.sign r.Closing j.CloseParen ∷ []) word refl
       ∙ bind_ok _ _ _ (word_reads word) ∙ bind_ok _ _ _ (sign_reads o) ∙ bind_ok _ _ _ (expr_reads x (ap ends_expr (first_is comma))) ∙ bind_ok _ _ _ (sign_reads comma)
       ∙ bind_ok _ _ _ (number_reads n) ∙ bind_ok _ _ _ (sign_reads z))
       ∙ bind_ok _ _ _ (cuts_read c ne)

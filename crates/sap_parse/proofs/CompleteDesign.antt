@@ -40,14 +40,16 @@ mutual
       at_token_of s.texpr (s.word r.Inner w.Level ∷ s.sign r.Opening j.OpenParen ∷ s.expr ∷ s.sign r.Closing j.CloseParen ∷ []) word refl
       ∙ bind_ok _ _ _ (word_reads word) ∙ bind_ok _ _ _ (sign_reads o) ∙ bind_ok _ _ _ (expr_reads x (ap ends_expr (first_is z))) ∙ bind_ok _ _ _ (sign_reads z)
   texpr_reads (g.join word o x comma y more z) =
-      at_token_of s.texpr (s.word r.Inner w.Join ∷ s.sign r.Opening j.OpenParen ∷ s.texpr ∷ s.sign r.Inner j.Comma ∷ s.texpr ∷ s.texprs ∷ s.sign r.Closing j.CloseParen ∷ []) word refl
+      at_token_of s.texpr (s.word r.Inner w.Join ∷ s.sign r.Opening j.OpenParen ∷ s.texpr ∷ s.sign r.Inner j.Comma ∷ s.texpr ∷ s.texprs
+      ∷ s.sign r.Closing j.CloseParen ∷ []) word refl
       ∙ bind_ok _ _ _ (word_reads word) ∙ bind_ok _ _ _ (sign_reads o) ∙ bind_ok _ _ _ (texpr_reads x) ∙ bind_ok _ _ _ (sign_reads comma) ∙ bind_ok _ _ _ (texpr_reads y)
       ∙ bind_ok _ _ _ (texprs_read more (λ e. let f = first_is z in absurd (cc))) ∙ bind_ok _ _ _ (sign_reads z)
 
   pub texprs_read : {p q : Stage} {xs : t.TagExpressions} → g.Texprs p xs q → first_kind q ≢ Some (k.Sign j.Comma) → R s.texprs p ≡ Ok q
   texprs_read {p} g.no_tag ne = skipped s.texprs p refl (λ i e. skip_texprs i (not_kind (k.Sign j.Comma) p ne e))
   texprs_read (g.tag comma x more) ne =
-      at_token_of s.texprs (s.sign r.Inner j.Comma ∷ s.texpr ∷ s.texprs ∷ []) comma refl ∙ bind_ok _ _ _ (sign_reads comma) ∙ bind_ok _ _ _ (texpr_reads x) ∙ bind_ok _ _ _ (texprs_read more ne)
+      at_token_of s.texprs (s.sign r.Inner j.Comma ∷ s.texpr ∷ s.texprs ∷ []) comma refl ∙ bind_ok _ _ _ (sign_reads comma)
+      ∙ bind_ok _ _ _ (texpr_reads x) ∙ bind_ok _ _ _ (texprs_read more ne)
 
 -- commands
 
@@ -63,18 +65,22 @@ simple_reads {d} (g.assign n b x) h =
 simple_reads {d} (g.write n o i z b x) h =
     at_token_of (s.simple d) (s.any_name (r.Command d) ∷ s.target ∷ []) n refl ∙ bind_ok _ _ _ (name_reads n)
     ∙ bind_ok _ _ _ (at_token_of s.target (s.sign r.Plain j.OpenBracket ∷ s.expr ∷ s.sign r.Plain j.CloseBracket ∷ s.sign r.Plain j.Becomes ∷ s.expr ∷ []) o refl
-    ∙ bind_ok _ _ _ (sign_reads o) ∙ bind_ok _ _ _ (expr_reads i (ap ends_expr (first_is z))) ∙ bind_ok _ _ _ (sign_reads z) ∙ bind_ok _ _ _ (sign_reads b) ∙ bind_ok _ _ _ (expr_reads x h))
+    ∙ bind_ok _ _ _ (sign_reads o) ∙ bind_ok _ _ _ (expr_reads i (ap ends_expr (first_is z))) ∙ bind_ok _ _ _ (sign_reads z)
+    ∙ bind_ok _ _ _ (sign_reads b) ∙ bind_ok _ _ _ (expr_reads x h))
 simple_reads {d} (g.set_tag word o n comma x z) h =
-    at_token_of (s.simple d) (s.word (r.Command d) w.SetTag ∷ s.sign r.Plain j.OpenParen ∷ s.any_name r.Plain ∷ s.cell_part ∷ s.sign r.Plain j.Comma ∷ s.texpr ∷ s.sign r.Plain j.CloseParen ∷ []) word refl
+    at_token_of (s.simple d) (s.word (r.Command d) w.SetTag ∷ s.sign r.Plain j.OpenParen ∷ s.any_name r.Plain ∷ s.cell_part
+    ∷ s.sign r.Plain j.Comma ∷ s.texpr ∷ s.sign r.Plain j.CloseParen ∷ []) word refl
     ∙ bind_ok _ _ _ (word_reads word) ∙ bind_ok _ _ _ (sign_reads o) ∙ bind_ok _ _ _ (name_reads n) ∙ bind_ok _ _ _ (comma_skips comma) ∙ bind_ok _ _ _ (sign_reads comma)
     ∙ bind_ok _ _ _ (texpr_reads x) ∙ bind_ok _ _ _ (sign_reads z)
 simple_reads {d} (g.set_cell_tag word o n b i e comma x z) h =
-    at_token_of (s.simple d) (s.word (r.Command d) w.SetTag ∷ s.sign r.Plain j.OpenParen ∷ s.any_name r.Plain ∷ s.cell_part ∷ s.sign r.Plain j.Comma ∷ s.texpr ∷ s.sign r.Plain j.CloseParen ∷ []) word refl
+    at_token_of (s.simple d) (s.word (r.Command d) w.SetTag ∷ s.sign r.Plain j.OpenParen ∷ s.any_name r.Plain ∷ s.cell_part
+    ∷ s.sign r.Plain j.Comma ∷ s.texpr ∷ s.sign r.Plain j.CloseParen ∷ []) word refl
     ∙ bind_ok _ _ _ (word_reads word) ∙ bind_ok _ _ _ (sign_reads o) ∙ bind_ok _ _ _ (name_reads n)
     ∙ bind_ok _ _ _ (at_token_of s.cell_part (s.sign r.Plain j.OpenBracket ∷ s.expr ∷ s.sign r.Plain j.CloseBracket ∷ []) b refl
     ∙ bind_ok _ _ _ (sign_reads b) ∙ bind_ok _ _ _ (expr_reads i (ap ends_expr (first_is e))) ∙ bind_ok _ _ _ (sign_reads e))
     ∙ bind_ok _ _ _ (sign_reads comma) ∙ bind_ok _ _ _ (texpr_reads x) ∙ bind_ok _ _ _ (sign_reads z)
-simple_reads {d} (g.goto word n) h = at_token_of (s.simple d) (s.word (r.Command d) w.Goto ∷ s.any_name r.Plain ∷ []) word refl ∙ bind_ok _ _ _ (word_reads word) ∙ bind_ok _ _ _ (name_reads n)
+simple_reads {d} (g.goto word n) h = at_token_of (s.simple d) (s.word (r.Command d) w.Goto ∷ s.any_name r.Plain ∷ []) word refl
+    ∙ bind_ok _ _ _ (word_reads word) ∙ bind_ok _ _ _ (name_reads n)
 simple_reads {d} (g.fall word) h = at_token_of (s.simple d) (s.word (r.Command d) w.Fall ∷ []) word refl ∙ bind_ok _ _ _ (word_reads word)
 
 -- where a list of commands may end
@@ -162,7 +168,8 @@ skip_constants (k.Sized x n) ne = refl
 pub constants_read : {p q : Stage} {xs : t.Expressions} → g.Constants p xs q → first_kind q ≢ Some (k.Sign j.Comma) → R s.constants p ≡ Ok q
 constants_read {p} g.no_constant ne = skipped s.constants p refl (λ i e. skip_constants i (not_kind (k.Sign j.Comma) p ne e))
 constants_read (g.constant comma x more) ne =
-    at_token_of s.constants (s.sign r.Plain j.Comma ∷ s.constant ∷ s.constants ∷ []) comma refl ∙ bind_ok _ _ _ (sign_reads comma) ∙ bind_ok _ _ _ (constant_reads x) ∙ bind_ok _ _ _ (constants_read more ne)
+    at_token_of s.constants (s.sign r.Plain j.Comma ∷ s.constant ∷ s.constants ∷ []) comma refl ∙ bind_ok _ _ _ (sign_reads comma)
+    ∙ bind_ok _ _ _ (constant_reads x) ∙ bind_ok _ _ _ (constants_read more ne)
 
 arm_constant : (d : ℕ) {p q : Stage} {x : t.Expression} → g.Constant p x q → R (s.arm d) p ≡ Rs (s.constant ∷ s.constants ∷ s.sign r.Plain j.Colon ∷ s.block d ∷ []) p
 arm_constant d (g.plain n) = at_token_of (s.arm d) (s.constant ∷ s.constants ∷ s.sign r.Plain j.Colon ∷ s.block d ∷ []) n refl
@@ -190,13 +197,15 @@ mutual
       ∙ bind_ok _ _ _ (word_reads word) ∙ bind_ok _ _ _ (block_reads one) ∙ bind_ok _ _ _ (word_reads other) ∙ bind_ok _ _ _ (block_reads two))
   cmd_reads {d} (g.case word o x z b first arms end) ne =
       at_token_of (s.cmd d)
-      (s.word (r.Command d) w.Case ∷ s.sign r.Plain j.OpenParen ∷ s.expr ∷ s.sign r.Plain j.CloseParen ∷ s.sign r.Plain j.OpenBrace ∷ s.arm (d + 1) ∷ s.arms (d + 1) ∷ s.sign r.Plain j.CloseBrace ∷ []) word refl
+      (s.word (r.Command d) w.Case ∷ s.sign r.Plain j.OpenParen ∷ s.expr ∷ s.sign r.Plain j.CloseParen ∷ s.sign r.Plain j.OpenBrace
+      ∷ s.arm (d + 1) ∷ s.arms (d + 1) ∷ s.sign r.Plain j.CloseBrace ∷ []) word refl
       ∙ bind_ok _ _ _ (word_reads word) ∙ bind_ok _ _ _ (sign_reads o) ∙ bind_ok _ _ _ (expr_reads x (ap ends_expr (first_is z))) ∙ bind_ok _ _ _ (sign_reads z)
       ∙ bind_ok _ _ _ (sign_reads b) ∙ bind_ok _ _ _ (arm_reads first) ∙ bind_ok _ _ _ (arms_read arms) ∙ bind_ok _ _ _ (sign_reads end)
 
   pub arm_reads : {d : ℕ} {p q : Stage} {cs : t.Expressions} {h : t.CommandBlock} → g.Arm d p cs h q → R (s.arm d) p ≡ Ok q
   arm_reads {d} (g.arm x xs z h) =
-      arm_constant d x ∙ bind_ok _ _ _ (constant_reads x) ∙ bind_ok _ _ _ (constants_read xs (λ e. let f = first_is z in absurd (cc))) ∙ bind_ok _ _ _ (sign_reads z) ∙ bind_ok _ _ _ (block_reads h)
+      arm_constant d x ∙ bind_ok _ _ _ (constant_reads x) ∙ bind_ok _ _ _ (constants_read xs (λ e. let f = first_is z in absurd (cc)))
+      ∙ bind_ok _ _ _ (sign_reads z) ∙ bind_ok _ _ _ (block_reads h)
 
   pub arms_read : {d : ℕ} {p q : Stage} {x : t.Arms} → g.Arms d p x q → R (s.arms d) p ≡ Ok q
   arms_read {d} (g.last word h) = at_token_of (s.arms d) (s.word r.Plain w.Else ∷ s.block d ∷ []) word refl ∙ bind_ok _ _ _ (word_reads word) ∙ bind_ok _ _ _ (block_reads h)
@@ -204,7 +213,8 @@ mutual
 
   pub else_reads : {d : ℕ} {p q : Stage} {x : t.ElseBlock} → g.Else d p x q → first_kind q ≢ Some (k.Word w.Else) → R (s.else_part d) p ≡ Ok q
   else_reads {d} {p} g.no_else ne = skipped (s.else_part d) p refl (λ i e. skip_else d i (not_kind (k.Word w.Else) p ne e))
-  else_reads {d} (g.else word x) ne = at_token_of (s.else_part d) (s.word r.Plain w.Else ∷ s.block d ∷ []) word refl ∙ bind_ok _ _ _ (word_reads word) ∙ bind_ok _ _ _ (block_reads x)
+  else_reads {d} (g.else word x) ne = at_token_of (s.else_part d) (s.word r.Plain w.Else ∷ s.block d ∷ []) word refl
+      ∙ bind_ok _ _ _ (word_reads word) ∙ bind_ok _ _ _ (block_reads x)
 
   pub block_reads : {d : ℕ} {p q : Stage} {x : t.CommandBlock} → g.Block d p x q → R (s.block d) p ≡ Ok q
   block_reads {d} (g.block o cs z) =
@@ -235,7 +245,8 @@ skip_initial (k.Sized x n) ne = refl
 
 pub authority_reads : {p q : Stage} {x : Option Under} → g.Authority p x q → first_kind q ≢ Some (k.Word w.Under) → R s.authority p ≡ Ok q
 authority_reads {p} g.no_authority ne = skipped s.authority p refl (λ i e. skip_authority i (not_kind (k.Word w.Under) p ne e))
-authority_reads (g.authority word n) ne = at_token_of s.authority (s.word r.Plain w.Under ∷ s.any_name r.Plain ∷ []) word refl ∙ bind_ok _ _ _ (word_reads word) ∙ bind_ok _ _ _ (name_reads n)
+authority_reads (g.authority word n) ne = at_token_of s.authority (s.word r.Plain w.Under ∷ s.any_name r.Plain ∷ []) word refl
+    ∙ bind_ok _ _ _ (word_reads word) ∙ bind_ok _ _ _ (name_reads n)
 
 pub kind_reads : {p q : Stage} {x : KindTree} → g.KindOf p x q → first_kind q ≢ Some (k.Word w.Under) → R s.kind_of p ≡ Ok q
 kind_reads (g.dynamic word) ne = at_token_of s.kind_of (s.word r.Plain w.Dynamic ∷ []) word refl ∙ bind_ok _ _ _ (word_reads word)
@@ -245,7 +256,8 @@ kind_reads (g.enforced word n under) ne =
 
 pub initial_reads : {p q : Stage} {x : Option Numeral} → g.Initial p x q → first_kind q ≢ Some (k.Sign j.Is) → R s.initial p ≡ Ok q
 initial_reads {p} g.no_initial ne = skipped s.initial p refl (λ i e. skip_initial i (not_kind (k.Sign j.Is) p ne e))
-initial_reads (g.initial sign n) ne = at_token_of s.initial (s.sign r.Plain j.Is ∷ s.number r.Plain ∷ []) sign refl ∙ bind_ok _ _ _ (sign_reads sign) ∙ bind_ok _ _ _ (number_reads n)
+initial_reads (g.initial sign n) ne = at_token_of s.initial (s.sign r.Plain j.Is ∷ s.number r.Plain ∷ []) sign refl
+    ∙ bind_ok _ _ _ (sign_reads sign) ∙ bind_ok _ _ _ (number_reads n)
 
 pub initial_not_under : {p q : Stage} {x : Option Numeral} → g.Initial p x q → first_kind q ≢ Some (k.Word w.Under) → first_kind p ≢ Some (k.Word w.Under)
 initial_not_under g.no_initial ne e = ne e
@@ -256,12 +268,14 @@ declaration_reads (g.input word n colon width z) =
     at_token_of s.declaration (s.word r.Input w.Input ∷ s.any_name r.Plain ∷ s.sign r.Plain j.Colon ∷ s.number r.Plain ∷ s.sign r.Plain j.Semicolon ∷ []) word refl
     ∙ bind_ok _ _ _ (word_reads word) ∙ bind_ok _ _ _ (name_reads n) ∙ bind_ok _ _ _ (sign_reads colon) ∙ bind_ok _ _ _ (number_reads width) ∙ bind_ok _ _ _ (sign_reads z)
 declaration_reads (g.register word n colon width kind start z) =
-    at_token_of s.declaration (s.word r.Register w.Reg ∷ s.any_name r.Plain ∷ s.sign r.Plain j.Colon ∷ s.number r.Plain ∷ s.kind_of ∷ s.initial ∷ s.sign r.Plain j.Semicolon ∷ []) word refl
+    at_token_of s.declaration (s.word r.Register w.Reg ∷ s.any_name r.Plain ∷ s.sign r.Plain j.Colon ∷ s.number r.Plain ∷ s.kind_of
+    ∷ s.initial ∷ s.sign r.Plain j.Semicolon ∷ []) word refl
     ∙ bind_ok _ _ _ (word_reads word) ∙ bind_ok _ _ _ (name_reads n) ∙ bind_ok _ _ _ (sign_reads colon) ∙ bind_ok _ _ _ (number_reads width)
     ∙ bind_ok _ _ _ (kind_reads kind (initial_not_under start (λ e. let f = first_is z in absurd (cc))))
     ∙ bind_ok _ _ _ (initial_reads start (λ e. let f = first_is z in absurd (cc))) ∙ bind_ok _ _ _ (sign_reads z)
 declaration_reads (g.memory word n colon width o depth c kind z) =
-    at_token_of s.declaration (s.word r.Memory w.Mem ∷ s.any_name r.Plain ∷ s.sign r.Plain j.Colon ∷ s.number r.Plain ∷ s.sign r.Plain j.OpenBracket ∷ s.number r.Plain ∷ s.sign r.Plain j.CloseBracket ∷ s.kind_of ∷ s.sign r.Plain j.Semicolon ∷ []) word refl
+    at_token_of s.declaration (s.word r.Memory w.Mem ∷ s.any_name r.Plain ∷ s.sign r.Plain j.Colon ∷ s.number r.Plain
+    ∷ s.sign r.Plain j.OpenBracket ∷ s.number r.Plain ∷ s.sign r.Plain j.CloseBracket ∷ s.kind_of ∷ s.sign r.Plain j.Semicolon ∷ []) word refl
     ∙ bind_ok _ _ _ (word_reads word) ∙ bind_ok _ _ _ (name_reads n) ∙ bind_ok _ _ _ (sign_reads colon) ∙ bind_ok _ _ _ (number_reads width)
     ∙ bind_ok _ _ _ (sign_reads o) ∙ bind_ok _ _ _ (number_reads depth) ∙ bind_ok _ _ _ (sign_reads c)
     ∙ bind_ok _ _ _ (kind_reads kind (λ e. let f = first_is z in absurd (cc))) ∙ bind_ok _ _ _ (sign_reads z)
@@ -300,7 +314,8 @@ skip_states d (k.Sized x n) ne = refl
 mutual
   pub state_reads : {d : ℕ} {p q : Stage} {x : t.StateTree} → g.State d p x q → R (s.state d) p ≡ Ok q
   state_reads {d} (g.state word n kind o cs children z) =
-      at_token_of (s.state d) (s.word (r.State d) w.State ∷ s.any_name r.Plain ∷ s.kind_of ∷ s.sign r.Plain j.OpenBrace ∷ s.cmds 1 ∷ s.states (d + 1) ∷ s.sign r.Plain j.CloseBrace ∷ []) word refl
+      at_token_of (s.state d) (s.word (r.State d) w.State ∷ s.any_name r.Plain ∷ s.kind_of ∷ s.sign r.Plain j.OpenBrace ∷ s.cmds 1
+      ∷ s.states (d + 1) ∷ s.sign r.Plain j.CloseBrace ∷ []) word refl
       ∙ bind_ok _ _ _ (word_reads word) ∙ bind_ok _ _ _ (name_reads n) ∙ bind_ok _ _ _ (kind_reads kind (λ e. let f = first_is o in absurd (cc))) ∙ bind_ok _ _ _ (sign_reads o)
       ∙ bind_ok _ _ _ (cmds_read cs (states_end_cmds children (ap ends_cmds (first_is z))))
       ∙ bind_ok _ _ _ (states_read children (λ e. let f = first_is z in absurd (cc))) ∙ bind_ok _ _ _ (sign_reads z)
@@ -328,7 +343,8 @@ skip_header (k.Sized x n) ne = refl
 pub header_reads : {p q : Stage} {v : Version} → g.Header p v q → first_kind q ≢ Some (k.Word w.Sapper) → R s.header p ≡ Ok q
 header_reads {p} g.no_header ne = skipped s.header p refl (λ i e. skip_header i (not_kind (k.Word w.Sapper) p ne e))
 header_reads (g.header word two z) ne =
-    at_token_of s.header (s.word r.Plain w.Sapper ∷ s.word r.Plain w.Two ∷ s.sign r.Plain j.Semicolon ∷ []) word refl ∙ bind_ok _ _ _ (word_reads word) ∙ bind_ok _ _ _ (word_reads two) ∙ bind_ok _ _ _ (sign_reads z)
+    at_token_of s.header (s.word r.Plain w.Sapper ∷ s.word r.Plain w.Two ∷ s.sign r.Plain j.Semicolon ∷ []) word refl
+    ∙ bind_ok _ _ _ (word_reads word) ∙ bind_ok _ _ _ (word_reads two) ∙ bind_ok _ _ _ (sign_reads z)
 
 pub declarations_not_sapper : {p q : Stage} {xs : List Decl} → g.Declarations p xs q → first_kind q ≡ Some (k.Word w.State) → first_kind p ≢ Some (k.Word w.Sapper)
 declarations_not_sapper g.no_declaration e f = absurd (cc)
@@ -339,4 +355,5 @@ declarations_not_sapper (g.declaration (g.memory word n colon width o depth c ki
 -- a whole design
 pub design_reads : {p q : Stage} {x : t.DesignTree} → g.Design p x q → q.left ≡ [] → R s.design p ≡ Ok q
 design_reads {p} (g.design h ds x more) e =
-    stands_for s.design design_symbols (λ i. refl) refl p ∙ bind_ok _ _ _ (header_reads h (declarations_not_sapper ds (state_first x))) ∙ bind_ok _ _ _ (declarations_read ds (state_first x)) ∙ bind_ok _ _ _ (state_reads x) ∙ bind_ok _ _ _ (last_states_read more e)
+    stands_for s.design design_symbols (λ i. refl) refl p ∙ bind_ok _ _ _ (header_reads h (declarations_not_sapper ds (state_first x)))
+    ∙ bind_ok _ _ _ (declarations_read ds (state_first x)) ∙ bind_ok _ _ _ (state_reads x) ∙ bind_ok _ _ _ (last_states_read more e)

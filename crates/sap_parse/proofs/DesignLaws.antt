@@ -29,21 +29,25 @@ module _ (enter : Enter) where
   pub enforced_steps : (p : Stage) → read_by enter s.enforced p ≡ steps_by enter (s.word r.Plain w.Enforced ∷ s.any_name r.Plain ∷ s.authority ∷ []) p
   enforced_steps = word_then enter s.enforced r.Plain w.Enforced _ (λ i. refl) refl
 
-  pub input_steps : (p : Stage) → read_by enter s.input p ≡ steps_by enter (s.word r.Input w.Input ∷ s.any_name r.Plain ∷ s.sign r.Plain j.Colon ∷ s.number r.Plain ∷ s.sign r.Plain j.Semicolon ∷ []) p
+  pub input_steps : (p : Stage) → read_by enter s.input p
+      ≡ steps_by enter (s.word r.Input w.Input ∷ s.any_name r.Plain ∷ s.sign r.Plain j.Colon ∷ s.number r.Plain ∷ s.sign r.Plain j.Semicolon ∷ []) p
   input_steps = word_then enter s.input r.Input w.Input _ (λ i. refl) refl
 
   pub register_steps : (p : Stage)
-      → read_by enter s.register p ≡ steps_by enter (s.word r.Register w.Reg ∷ s.any_name r.Plain ∷ s.sign r.Plain j.Colon ∷ s.number r.Plain ∷ s.kind_of ∷ s.initial ∷ s.sign r.Plain j.Semicolon ∷ []) p
+      → read_by enter s.register p ≡ steps_by enter (s.word r.Register w.Reg ∷ s.any_name r.Plain ∷ s.sign r.Plain j.Colon
+      ∷ s.number r.Plain ∷ s.kind_of ∷ s.initial ∷ s.sign r.Plain j.Semicolon ∷ []) p
   register_steps = word_then enter s.register r.Register w.Reg _ (λ i. refl) refl
 
   pub memory_steps : (p : Stage)
       → read_by enter s.memory p
-      ≡ steps_by enter (s.word r.Memory w.Mem ∷ s.any_name r.Plain ∷ s.sign r.Plain j.Colon ∷ s.number r.Plain ∷ s.sign r.Plain j.OpenBracket ∷ s.number r.Plain ∷ s.sign r.Plain j.CloseBracket ∷ s.kind_of ∷ s.sign r.Plain j.Semicolon ∷ []) p
+      ≡ steps_by enter (s.word r.Memory w.Mem ∷ s.any_name r.Plain ∷ s.sign r.Plain j.Colon ∷ s.number r.Plain
+      ∷ s.sign r.Plain j.OpenBracket ∷ s.number r.Plain ∷ s.sign r.Plain j.CloseBracket ∷ s.kind_of ∷ s.sign r.Plain j.Semicolon ∷ []) p
   memory_steps = word_then enter s.memory r.Memory w.Mem _ (λ i. refl) refl
 
   pub state_steps : (depth : ℕ) (p : Stage)
       → read_by enter (s.state depth) p
-      ≡ steps_by enter (s.word (r.State depth) w.State ∷ s.any_name r.Plain ∷ s.kind_of ∷ s.sign r.Plain j.OpenBrace ∷ s.cmds 1 ∷ s.states (depth + 1) ∷ s.sign r.Plain j.CloseBrace ∷ []) p
+      ≡ steps_by enter (s.word (r.State depth) w.State ∷ s.any_name r.Plain ∷ s.kind_of ∷ s.sign r.Plain j.OpenBrace ∷ s.cmds 1
+      ∷ s.states (depth + 1) ∷ s.sign r.Plain j.CloseBrace ∷ []) p
   state_steps depth = word_then enter (s.state depth) (r.State depth) w.State _ (λ i. refl) refl
 
   -- what may be left out
@@ -71,7 +75,8 @@ module _ (enter : Enter) where
   pub kind_dynamic : (p : Stage) → ahead p.left ≡ a.Word w.Dynamic → read_by enter s.kind_of p ≡ read_by enter (s.word r.Plain w.Dynamic) p
   kind_dynamic p e =
       let t = stands enter p e (λ h. absurd (cc)) in
-      step_at enter s.kind_of (s.word r.Plain w.Dynamic) [] p t.0 t.1 t.2 (dynamic_row t.0.kind (word_kind_ahead t.0.kind w.Dynamic t.3) ∙ sym (push_none (next (s.word r.Plain w.Dynamic) t.0.kind))) (word_full enter r.Plain w.Dynamic t.0.kind)
+      step_at enter s.kind_of (s.word r.Plain w.Dynamic) [] p t.0 t.1 t.2 (dynamic_row t.0.kind (word_kind_ahead t.0.kind w.Dynamic t.3)
+      ∙ sym (push_none (next (s.word r.Plain w.Dynamic) t.0.kind))) (word_full enter r.Plain w.Dynamic t.0.kind)
       ∙ bind_pure (read_by enter (s.word r.Plain w.Dynamic) p)
 
   enforced_row : (i : Kind) → ahead_of i ≢ a.Word w.Dynamic → s.kind_next i ≡ s.enforced_next i
@@ -148,13 +153,16 @@ module _ (enter : Enter) where
   row_neither (k.Word _) e = refl
 
   pub declaration_input : (p : Stage) → declaration_head (ahead p.left) ≡ h.Input → read_by enter s.declaration p ≡ read_by enter s.input p
-  declaration_input p e = same_row enter s.declaration s.input p input_full refl refl (λ t ts left. row_input t.kind (front_by enter declaration_head p t ts h.Input e left)) (some_head p h.Input e (λ g. absurd (cc)))
+  declaration_input p e = same_row enter s.declaration s.input p input_full refl refl
+      (λ t ts left. row_input t.kind (front_by enter declaration_head p t ts h.Input e left)) (some_head p h.Input e (λ g. absurd (cc)))
 
   pub declaration_register : (p : Stage) → declaration_head (ahead p.left) ≡ h.Register → read_by enter s.declaration p ≡ read_by enter s.register p
-  declaration_register p e = same_row enter s.declaration s.register p register_full refl refl (λ t ts left. row_register t.kind (front_by enter declaration_head p t ts h.Register e left)) (some_head p h.Register e (λ g. absurd (cc)))
+  declaration_register p e = same_row enter s.declaration s.register p register_full refl refl
+      (λ t ts left. row_register t.kind (front_by enter declaration_head p t ts h.Register e left)) (some_head p h.Register e (λ g. absurd (cc)))
 
   pub declaration_memory : (p : Stage) → declaration_head (ahead p.left) ≡ h.Memory → read_by enter s.declaration p ≡ read_by enter s.memory p
-  declaration_memory p e = same_row enter s.declaration s.memory p memory_full refl refl (λ t ts left. row_memory t.kind (front_by enter declaration_head p t ts h.Memory e left)) (some_head p h.Memory e (λ g. absurd (cc)))
+  declaration_memory p e = same_row enter s.declaration s.memory p memory_full refl refl
+      (λ t ts left. row_memory t.kind (front_by enter declaration_head p t ts h.Memory e left)) (some_head p h.Memory e (λ g. absurd (cc)))
 
   pub declaration_neither : (p : Stage) → declaration_head (ahead p.left) ≡ h.Neither → read_by enter s.declaration p ≡ Err (at_token p)
   declaration_neither p e = stops enter s.declaration refl p (λ t ts left. row_neither t.kind (front_by enter declaration_head p t ts h.Neither e left))
@@ -176,10 +184,12 @@ module _ (enter : Enter) where
     by_tokens : (left : List Token) → p.left ≡ left → read_by enter s.declarations p ≡ steps_by enter (s.declaration ∷ s.declarations ∷ []) p
     by_tokens [] none = absurd (ne (ap declaration_head (nothing_ahead enter p none)))
     by_tokens (t ∷ ts) left =
-        step_at enter s.declarations s.declaration (s.declarations ∷ []) p t ts left (declarations_row t.kind (λ h. ne (ap declaration_head (sym (front_by enter (λ x. x) p t ts (ahead p.left) refl left)) ∙ h))) (declaration_full t.kind)
+        step_at enter s.declarations s.declaration (s.declarations ∷ []) p t ts left
+        (declarations_row t.kind (λ h. ne (ap declaration_head (sym (front_by enter (λ x. x) p t ts (ahead p.left) refl left)) ∙ h))) (declaration_full t.kind)
 
   pub declarations_missing : (p : Stage) → declaration_head (ahead p.left) ≡ h.Neither → read_by enter s.declarations p ≡ Ok p
-  declarations_missing p e = skips enter s.declarations refl p (λ t ts left. ap (λ n. optional (push n (s.declarations ∷ []))) (row_neither t.kind (front_by enter declaration_head p t ts h.Neither e left)))
+  declarations_missing p e = skips enter s.declarations refl p
+      (λ t ts left. ap (λ n. optional (push n (s.declarations ∷ []))) (row_neither t.kind (front_by enter declaration_head p t ts h.Neither e left)))
 
   -- states
 
@@ -192,12 +202,14 @@ module _ (enter : Enter) where
   pub states_there : (depth : ℕ) (p : Stage) → ahead p.left ≡ a.Word w.State → read_by enter (s.states depth) p ≡ steps_by enter (s.state depth ∷ s.states depth ∷ []) p
   states_there depth p e =
       let t = stands enter p e (λ h. absurd (cc)) in
-      step_at enter (s.states depth) (s.state depth) (s.states depth ∷ []) p t.0 t.1 t.2 (states_row depth t.0.kind (word_kind_ahead t.0.kind w.State t.3)) (state_full depth t.0.kind)
+      step_at enter (s.states depth) (s.state depth) (s.states depth ∷ []) p t.0 t.1 t.2
+      (states_row depth t.0.kind (word_kind_ahead t.0.kind w.State t.3)) (state_full depth t.0.kind)
 
   pub states_missing : (depth : ℕ) (p : Stage) → ahead p.left ≢ a.Word w.State → read_by enter (s.states depth) p ≡ Ok p
   states_missing depth p ne =
       skips enter (s.states depth) refl p
-      (λ t ts left. ap (λ n. optional (push (push n (s.any_name r.Plain ∷ s.kind_of ∷ s.sign r.Plain j.OpenBrace ∷ s.cmds 1 ∷ s.states (depth + 1) ∷ s.sign r.Plain j.CloseBrace ∷ [])) (s.states depth ∷ []))) (next_not_word (r.State depth) w.State t.kind (λ h. ne (ahead_back t ts h left))))
+      (λ t ts left. ap (λ n. optional (push (push n (s.any_name r.Plain ∷ s.kind_of ∷ s.sign r.Plain j.OpenBrace ∷ s.cmds 1
+      ∷ s.states (depth + 1) ∷ s.sign r.Plain j.CloseBrace ∷ [])) (s.states depth ∷ []))) (next_not_word (r.State depth) w.State t.kind (λ h. ne (ahead_back t ts h left))))
 
   pub last_states_there : (p : Stage) → ahead p.left ≡ a.Word w.State → read_by enter s.last_states p ≡ steps_by enter (s.state 1 ∷ s.last_states ∷ []) p
   last_states_there p e =
@@ -220,9 +232,11 @@ module _ (enter : Enter) where
     by_tokens [] none = absurd (some (nothing_ahead enter p none))
     by_tokens (t ∷ ts) left =
         stops_at enter s.last_states p t ts left
-        (ap (λ n. push (push n (s.any_name r.Plain ∷ s.kind_of ∷ s.sign r.Plain j.OpenBrace ∷ s.cmds 1 ∷ s.states 2 ∷ s.sign r.Plain j.CloseBrace ∷ [])) (s.last_states ∷ [])) (next_not_word (r.State 1) w.State t.kind (λ h. ne (ahead_back t ts h left))))
+        (ap (λ n. push (push n (s.any_name r.Plain ∷ s.kind_of ∷ s.sign r.Plain j.OpenBrace ∷ s.cmds 1 ∷ s.states 2
+        ∷ s.sign r.Plain j.CloseBrace ∷ [])) (s.last_states ∷ [])) (next_not_word (r.State 1) w.State t.kind (λ h. ne (ahead_back t ts h left))))
 
-  pub header_there : (p : Stage) → ahead p.left ≡ a.Word w.Sapper → read_by enter s.header p ≡ steps_by enter (s.word r.Plain w.Sapper ∷ s.word r.Plain w.Two ∷ s.sign r.Plain j.Semicolon ∷ []) p
+  pub header_there : (p : Stage) → ahead p.left ≡ a.Word w.Sapper
+      → read_by enter s.header p ≡ steps_by enter (s.word r.Plain w.Sapper ∷ s.word r.Plain w.Two ∷ s.sign r.Plain j.Semicolon ∷ []) p
   header_there = word_there enter s.header r.Plain w.Sapper _ (λ i. refl)
 
   pub header_missing : (p : Stage) → ahead p.left ≢ a.Word w.Sapper → read_by enter s.header p ≡ Ok p

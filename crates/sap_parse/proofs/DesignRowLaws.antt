@@ -22,10 +22,12 @@ register_rows p = register_steps strictly p ∙ row_then (declared_row r.Registe
 pub memory_rows : (p : Stage)
     → reads s.memory p ≡ (reads_row (declared_row r.Memory w.Mem) p >>= λ q. (reads_row cells_row q >>= steps_by strictly (s.kind_of ∷ s.sign r.Plain j.Semicolon ∷ [])))
 memory_rows p =
-    memory_steps strictly p ∙ row_then (declared_row r.Memory w.Mem) (s.sign r.Plain j.OpenBracket ∷ s.number r.Plain ∷ s.sign r.Plain j.CloseBracket ∷ s.kind_of ∷ s.sign r.Plain j.Semicolon ∷ []) p
+    memory_steps strictly p ∙ row_then (declared_row r.Memory w.Mem) (s.sign r.Plain j.OpenBracket ∷ s.number r.Plain
+    ∷ s.sign r.Plain j.CloseBracket ∷ s.kind_of ∷ s.sign r.Plain j.Semicolon ∷ []) p
     ∙ bind_same (reads_row (declared_row r.Memory w.Mem) p) _ _ (row_then cells_row (s.kind_of ∷ s.sign r.Plain j.Semicolon ∷ []))
 
-pub state_rows : (depth : ℕ) (p : Stage) → reads (s.state depth) p ≡ (reads_row (head_row depth) p >>= steps_by strictly (s.cmds 1 ∷ s.states (depth + 1) ∷ s.sign r.Plain j.CloseBrace ∷ []))
+pub state_rows : (depth : ℕ) (p : Stage)
+    → reads (s.state depth) p ≡ (reads_row (head_row depth) p >>= steps_by strictly (s.cmds 1 ∷ s.states (depth + 1) ∷ s.sign r.Plain j.CloseBrace ∷ []))
 state_rows depth p = state_steps strictly depth p ∙ row_then (head_row depth) (s.cmds 1 ∷ s.states (depth + 1) ∷ s.sign r.Plain j.CloseBrace ∷ []) p
 
 pub design_rows : (p : Stage) → reads s.design p ≡ (reads s.header p >>= λ q. (reads s.declarations q >>= reads_row all_states_row))

@@ -81,11 +81,13 @@ module _ (enter : Enter) where
   braces_steps = sign_then enter s.braces r.Opening j.OpenBrace _ (λ i. refl) refl
 
   pub zext_steps : (p : Stage)
-      → read_by enter s.zext p ≡ steps_by enter (s.word r.Inner w.Zext ∷ s.sign r.Opening j.OpenParen ∷ s.expr ∷ s.sign r.Inner j.Comma ∷ s.number r.Inner ∷ s.sign r.Closing j.CloseParen ∷ []) p
+      → read_by enter s.zext p ≡ steps_by enter (s.word r.Inner w.Zext ∷ s.sign r.Opening j.OpenParen ∷ s.expr ∷ s.sign r.Inner j.Comma
+      ∷ s.number r.Inner ∷ s.sign r.Closing j.CloseParen ∷ []) p
   zext_steps = word_then enter s.zext r.Inner w.Zext _ (λ i. refl) refl
 
   pub slice_steps : (p : Stage)
-      → read_by enter s.slice p ≡ steps_by enter (s.sign r.Opening j.OpenBracket ∷ s.number r.Inner ∷ s.sign r.Inner j.Colon ∷ s.number r.Inner ∷ s.sign r.Closing j.CloseBracket ∷ []) p
+      → read_by enter s.slice p ≡ steps_by enter (s.sign r.Opening j.OpenBracket ∷ s.number r.Inner ∷ s.sign r.Inner j.Colon
+      ∷ s.number r.Inner ∷ s.sign r.Closing j.CloseBracket ∷ []) p
   slice_steps = sign_then enter s.slice r.Opening j.OpenBracket _ (λ i. refl) refl
 
   -- what may be left out
@@ -103,7 +105,8 @@ module _ (enter : Enter) where
   pub parts_missing : (p : Stage) → ahead p.left ≢ a.Sign j.Comma → read_by enter s.parts p ≡ Ok p
   parts_missing = sign_missing enter s.parts r.Inner j.Comma _ (λ i. refl) refl
 
-  pub after_name_there : (p : Stage) → ahead p.left ≡ a.Sign j.OpenBracket → read_by enter s.behind_name p ≡ steps_by enter (s.sign r.Opening j.OpenBracket ∷ s.behind_bracket ∷ []) p
+  pub after_name_there : (p : Stage) → ahead p.left ≡ a.Sign j.OpenBracket
+      → read_by enter s.behind_name p ≡ steps_by enter (s.sign r.Opening j.OpenBracket ∷ s.behind_bracket ∷ []) p
   after_name_there = sign_there enter s.behind_name r.Opening j.OpenBracket _ (λ i. refl)
 
   pub after_name_missing : (p : Stage) → ahead p.left ≢ a.Sign j.OpenBracket → read_by enter s.behind_name p ≡ Ok p
@@ -121,7 +124,8 @@ module _ (enter : Enter) where
   pub slices_missing : (p : Stage) → ahead p.left ≢ a.Sign j.OpenBracket → read_by enter s.slices p ≡ Ok p
   slices_missing p ne = skips enter s.slices refl p (λ t ts left. no_slice t.kind (λ h. ne (ahead_back t ts h left))) where
     no_slice : (i : Kind) → ahead_of i ≢ a.Sign j.OpenBracket → s.slices_next i ≡ empty_here
-    no_slice i h = ap (λ n. optional (push (push n (s.number r.Inner ∷ s.sign r.Inner j.Colon ∷ s.number r.Inner ∷ s.sign r.Closing j.CloseBracket ∷ [])) (s.slices ∷ []))) (next_not_sign r.Opening j.OpenBracket i h)
+    no_slice i h = ap (λ n. optional (push (push n (s.number r.Inner ∷ s.sign r.Inner j.Colon ∷ s.number r.Inner
+        ∷ s.sign r.Closing j.CloseBracket ∷ [])) (s.slices ∷ []))) (next_not_sign r.Opening j.OpenBracket i h)
 
   -- choices by the first token
 
@@ -221,16 +225,20 @@ module _ (enter : Enter) where
   front_primary p t ts x e left = sym (ap (λ l. primary_of (ahead l)) left) ∙ e
 
   pub prim_number : (p : Stage) → primary_of (ahead p.left) ≡ pr.Number → read_by enter s.prim p ≡ read_by enter (s.number r.Inner) p
-  prim_number p e = same_row s.prim (s.number r.Inner) p (number_full enter r.Inner) refl refl (λ t ts left. row_number t.kind (front_primary p t ts pr.Number e left)) (primary_some p pr.Number e (λ h. absurd (cc)))
+  prim_number p e = same_row s.prim (s.number r.Inner) p (number_full enter r.Inner) refl refl
+      (λ t ts left. row_number t.kind (front_primary p t ts pr.Number e left)) (primary_some p pr.Number e (λ h. absurd (cc)))
 
   pub prim_sized : (p : Stage) → primary_of (ahead p.left) ≡ pr.Sized → read_by enter s.prim p ≡ read_by enter (s.sized r.Inner) p
-  prim_sized p e = same_row s.prim (s.sized r.Inner) p sized_full refl refl (λ t ts left. row_sized t.kind (front_primary p t ts pr.Sized e left)) (primary_some p pr.Sized e (λ h. absurd (cc)))
+  prim_sized p e = same_row s.prim (s.sized r.Inner) p sized_full refl refl
+      (λ t ts left. row_sized t.kind (front_primary p t ts pr.Sized e left)) (primary_some p pr.Sized e (λ h. absurd (cc)))
 
   pub prim_paren : (p : Stage) → primary_of (ahead p.left) ≡ pr.Paren → read_by enter s.prim p ≡ read_by enter s.paren p
-  prim_paren p e = same_row s.prim s.paren p paren_full refl refl (λ t ts left. row_paren t.kind (front_primary p t ts pr.Paren e left)) (primary_some p pr.Paren e (λ h. absurd (cc)))
+  prim_paren p e = same_row s.prim s.paren p paren_full refl refl (λ t ts left. row_paren t.kind (front_primary p t ts pr.Paren e left))
+      (primary_some p pr.Paren e (λ h. absurd (cc)))
 
   pub prim_braces : (p : Stage) → primary_of (ahead p.left) ≡ pr.Braces → read_by enter s.prim p ≡ read_by enter s.braces p
-  prim_braces p e = same_row s.prim s.braces p braces_full refl refl (λ t ts left. row_braces t.kind (front_primary p t ts pr.Braces e left)) (primary_some p pr.Braces e (λ h. absurd (cc)))
+  prim_braces p e = same_row s.prim s.braces p braces_full refl refl
+      (λ t ts left. row_braces t.kind (front_primary p t ts pr.Braces e left)) (primary_some p pr.Braces e (λ h. absurd (cc)))
 
   pub prim_zext : (p : Stage) → primary_of (ahead p.left) ≡ pr.Zext → read_by enter s.prim p ≡ read_by enter s.zext p
   prim_zext p e = same_row s.prim s.zext p zext_full refl refl (λ t ts left. row_zext t.kind (front_primary p t ts pr.Zext e left)) (primary_some p pr.Zext e (λ h. absurd (cc)))
@@ -254,7 +262,8 @@ module _ (enter : Enter) where
   unfolding primary_of ahead
   post_prim p ne = by_tokens p.left refl where
     by_tokens : (left : List Token) → p.left ≡ left → read_by enter s.post p ≡ steps_by enter (s.prim ∷ s.slices ∷ []) p
-    by_tokens [] none = stops enter s.post refl p (λ t ts left. absurd (cc)) ∙ ap (λ o. o >>= steps_by enter (s.slices ∷ [])) (sym (prim_neither p (ap (λ l. primary_of (ahead l)) none)))
+    by_tokens [] none = stops enter s.post refl p (λ t ts left. absurd (cc))
+        ∙ ap (λ o. o >>= steps_by enter (s.slices ∷ [])) (sym (prim_neither p (ap (λ l. primary_of (ahead l)) none)))
     by_tokens (t ∷ ts) left = step_at enter s.post s.prim (s.slices ∷ []) p t ts left (row_post t.kind (ahead_name p ne t ts left)) (prim_full t.kind)
 
   row_name : (i : Kind) → ahead_of i ≡ a.Name → s.post_next i ≡ push (s.name_next r.Inner i) (s.behind_name ∷ [])
@@ -265,7 +274,8 @@ module _ (enter : Enter) where
   row_name (k.Sign x) e = absurd (cc)
 
   pub post_name : (p : Stage) → ahead p.left ≡ a.Name → read_by enter s.post p ≡ steps_by enter (s.any_name r.Inner ∷ s.behind_name ∷ []) p
-  post_name p e = let t = stands enter p e (λ h. absurd (cc)) in step_at enter s.post (s.any_name r.Inner) (s.behind_name ∷ []) p t.0 t.1 t.2 (row_name t.0.kind t.3) (name_full enter r.Inner t.0.kind)
+  post_name p e = let t = stands enter p e (λ h. absurd (cc)) in
+      step_at enter s.post (s.any_name r.Inner) (s.behind_name ∷ []) p t.0 t.1 t.2 (row_name t.0.kind t.3) (name_full enter r.Inner t.0.kind)
 
   -- unary operators
 
@@ -285,7 +295,8 @@ module _ (enter : Enter) where
   no_unary_sign j.Caret e = absurd (cc)
   no_unary_sign _ e = refl
 
-  unary_kind : (i : Kind) (o : UnaryOperator) → unary_at (ahead_of i) ≡ Some o → (i ≡ k.Sign (unary_sign_of o)) × (s.unary_next i ≡ push (next (s.sign r.Inner (unary_sign_of o)) i) (s.unary ∷ []))
+  unary_kind : (i : Kind) (o : UnaryOperator) → unary_at (ahead_of i) ≡ Some o → (i ≡ k.Sign (unary_sign_of o))
+      × (s.unary_next i ≡ push (next (s.sign r.Inner (unary_sign_of o)) i) (s.unary ∷ []))
   unfolding unary_at
   unary_kind (k.Sign x) o e =
       let h = unary_sign x o e in (
@@ -314,20 +325,23 @@ module _ (enter : Enter) where
   unfolding ahead
   nothing_ahead p none = ap ahead none
 
-  pub unary_there : (p : Stage) (o : UnaryOperator) → unary_at (ahead p.left) ≡ Some o → read_by enter s.unary p ≡ steps_by enter (s.sign r.Inner (unary_sign_of o) ∷ s.unary ∷ []) p
+  pub unary_there : (p : Stage) (o : UnaryOperator) → unary_at (ahead p.left) ≡ Some o
+      → read_by enter s.unary p ≡ steps_by enter (s.sign r.Inner (unary_sign_of o) ∷ s.unary ∷ []) p
   unfolding unary_at
   unary_there p o e = by_tokens p.left refl where
     by_tokens : (left : List Token) → p.left ≡ left → read_by enter s.unary p ≡ steps_by enter (s.sign r.Inner (unary_sign_of o) ∷ s.unary ∷ []) p
     by_tokens [] none = (let h : None ≡ Some o = sym (ap unary_at (nothing_ahead p none)) ∙ e in absurd (cc))
     by_tokens (t ∷ ts) left =
-        step_at enter s.unary (s.sign r.Inner (unary_sign_of o)) (s.unary ∷ []) p t ts left (unary_kind t.kind o (front_by unary_at p t ts (Some o) e left)).1 (sign_full enter r.Inner (unary_sign_of o) t.kind)
+        step_at enter s.unary (s.sign r.Inner (unary_sign_of o)) (s.unary ∷ []) p t ts left
+        (unary_kind t.kind o (front_by unary_at p t ts (Some o) e left)).1 (sign_full enter r.Inner (unary_sign_of o) t.kind)
 
   pub unary_missing : (p : Stage) → unary_at (ahead p.left) ≡ None → read_by enter s.unary p ≡ read_by enter s.post p
   unary_missing p e = by_tokens p.left refl where
     by_tokens : (left : List Token) → p.left ≡ left → read_by enter s.unary p ≡ read_by enter s.post p
     by_tokens [] none = stops enter s.unary refl p (λ t ts left. absurd (cc)) ∙ sym (stops enter s.post refl p (λ t ts left. absurd (cc)))
     by_tokens (t ∷ ts) left =
-        step_at enter s.unary s.post [] p t ts left (unary_not t.kind (front_by unary_at p t ts None e left) ∙ sym (push_none (s.post_next t.kind))) (post_full t.kind) ∙ bind_pure (read_by enter s.post p)
+        step_at enter s.unary s.post [] p t ts left (unary_not t.kind (front_by unary_at p t ts None e left)
+        ∙ sym (push_none (s.post_next t.kind))) (post_full t.kind) ∙ bind_pure (read_by enter s.post p)
 
   -- operators by precedence
 
@@ -347,7 +361,8 @@ module _ (enter : Enter) where
   pub bin_tail : (p : Stage) (l : ℕ) → l < unary_precedence → read_by enter (s.bin l) p ≡ steps_by enter (s.bin (l + 1) ∷ s.tail l ∷ []) p
   bin_tail p l h =
       step enter (s.bin l) (s.bin (l + 1)) (s.tail l ∷ [])
-      (λ i. bin_row l i ∙ ap (push (s.unary_next i)) (tails_more l h) ∙ sym (push_push (s.unary_next i) (tails (l + 1)) (s.tail l ∷ [])) ∙ ap (λ n. push n (s.tail l ∷ [])) (sym (bin_row (l + 1) i)))
+      (λ i. bin_row l i ∙ ap (push (s.unary_next i)) (tails_more l h) ∙ sym (push_push (s.unary_next i) (tails (l + 1)) (s.tail l ∷ []))
+      ∙ ap (λ n. push n (s.tail l ∷ [])) (sym (bin_row (l + 1) i)))
       (λ i e. push_full (s.unary_next i) (tails (l + 1)) (unary_full i) (sym (bin_row (l + 1) i) ∙ e))
       refl refl p
 
@@ -394,7 +409,8 @@ module _ (enter : Enter) where
     by_test true h g = absurd (cc)
     by_test false h g = ap (λ b. cond b (begins r.Inner (s.bin (l + 1) ∷ s.tail l ∷ [])) empty_here) h
 
-  tail_kind : (l : ℕ) (i : Kind) (o : BinaryOperator) → operator_at l (ahead_of i) ≡ Some o → s.tail_next l i ≡ push (next (s.sign r.Inner (sign_of o)) i) (s.bin (l + 1) ∷ s.tail l ∷ [])
+  tail_kind : (l : ℕ) (i : Kind) (o : BinaryOperator) → operator_at l (ahead_of i) ≡ Some o
+      → s.tail_next l i ≡ push (next (s.sign r.Inner (sign_of o)) i) (s.bin (l + 1) ∷ s.tail l ∷ [])
   unfolding operator_at
   tail_kind l (k.Sign x) o e =
       let h = level_some l (operator_of x) o e in
@@ -419,7 +435,8 @@ module _ (enter : Enter) where
     by_tokens : (left : List Token) → p.left ≡ left → read_by enter (s.tail l) p ≡ steps_by enter (s.sign r.Inner (sign_of o) ∷ s.bin (l + 1) ∷ s.tail l ∷ []) p
     by_tokens [] none = (let h : None ≡ Some o = sym (ap (operator_at l) (nothing_ahead p none)) ∙ e in absurd (cc))
     by_tokens (t ∷ ts) left =
-        step_at enter (s.tail l) (s.sign r.Inner (sign_of o)) (s.bin (l + 1) ∷ s.tail l ∷ []) p t ts left (tail_kind l t.kind o (front_by (operator_at l) p t ts (Some o) e left)) (sign_full enter r.Inner (sign_of o) t.kind)
+        step_at enter (s.tail l) (s.sign r.Inner (sign_of o)) (s.bin (l + 1) ∷ s.tail l ∷ []) p t ts left
+        (tail_kind l t.kind o (front_by (operator_at l) p t ts (Some o) e left)) (sign_full enter r.Inner (sign_of o) t.kind)
 
   pub tail_missing : (p : Stage) (l : ℕ) → operator_at l (ahead p.left) ≡ None → read_by enter (s.tail l) p ≡ Ok p
   tail_missing p l e = skips enter (s.tail l) refl p (λ t ts left. tail_not l t.kind (front_by (operator_at l) p t ts None e left))

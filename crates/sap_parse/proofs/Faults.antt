@@ -20,7 +20,8 @@ fault_goes whole one old mid new rest e r is same stops = subst (λ r. Goes whol
 
 -- the same where the whole, or the part, is a row of symbols
 
-row_faulted : (row : List Symbol) (one : Symbol) (old mid new : Stage) (rest : Stage → Outcome) (e : Fault) → reads_row row old ≡ (reads one mid >>= rest) → Stops one mid e new → RowStops row old e new
+row_faulted : (row : List Symbol) (one : Symbol) (old mid new : Stage) (rest : Stage → Outcome) (e : Fault)
+    → reads_row row old ≡ (reads one mid >>= rest) → Stops one mid e new → RowStops row old e new
 row_faulted row one old mid new rest f.Token same stops = same ∙ bind_err _ _ _ stops
 row_faulted row one old mid new rest (f.Limit limit) same stops = same ∙ bind_err _ _ _ stops
 row_faulted row one old mid new rest f.Memory same stops = tt
@@ -29,7 +30,8 @@ pub fault_goes_on : {A : Type 0} (row : List Symbol) (one : Symbol) (old mid new
     → reads_row row old ≡ (reads one mid >>= rest) → Stops one mid e new → RowGoes row old r new
 fault_goes_on row one old mid new rest e r is same stops = subst (λ r. RowGoes row old r new) (sym is) (row_faulted row one old mid new rest e same stops)
 
-in_row_faulted : (whole : Symbol) (row : List Symbol) (old mid new : Stage) (rest : Stage → Outcome) (e : Fault) → reads whole old ≡ (reads_row row mid >>= rest) → RowStops row mid e new → Stops whole old e new
+in_row_faulted : (whole : Symbol) (row : List Symbol) (old mid new : Stage) (rest : Stage → Outcome) (e : Fault)
+    → reads whole old ≡ (reads_row row mid >>= rest) → RowStops row mid e new → Stops whole old e new
 in_row_faulted whole row old mid new rest f.Token same stops = same ∙ bind_err _ _ _ stops
 in_row_faulted whole row old mid new rest (f.Limit limit) same stops = same ∙ bind_err _ _ _ stops
 in_row_faulted whole row old mid new rest f.Memory same stops = tt
@@ -38,7 +40,8 @@ pub fault_goes_in_row : {A : Type 0} (whole : Symbol) (row : List Symbol) (old m
     → reads whole old ≡ (reads_row row mid >>= rest) → RowStops row mid e new → Goes whole old r new
 fault_goes_in_row whole row old mid new rest e r is same stops = subst (λ r. Goes whole old r new) (sym is) (in_row_faulted whole row old mid new rest e same stops)
 
-row_faulted_in_row : (whole row : List Symbol) (old mid new : Stage) (rest : Stage → Outcome) (e : Fault) → reads_row whole old ≡ (reads_row row mid >>= rest) → RowStops row mid e new → RowStops whole old e new
+row_faulted_in_row : (whole row : List Symbol) (old mid new : Stage) (rest : Stage → Outcome) (e : Fault)
+    → reads_row whole old ≡ (reads_row row mid >>= rest) → RowStops row mid e new → RowStops whole old e new
 row_faulted_in_row whole row old mid new rest f.Token same stops = same ∙ bind_err _ _ _ stops
 row_faulted_in_row whole row old mid new rest (f.Limit limit) same stops = same ∙ bind_err _ _ _ stops
 row_faulted_in_row whole row old mid new rest f.Memory same stops = tt

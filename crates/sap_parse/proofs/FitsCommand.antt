@@ -43,7 +43,8 @@ level_fits is a = let a0 = a.0 in let a1 = a.1 in
     record { is = is; size = omega arith; room = a0.room; even = a1; depth = λ h. omega arith; states = a0.states; commands = a0.commands }
 
 -- `tag` or `level`
-word_fits : {version : Version} (x : t.Expression) (w : t.TagExpression) {c1 c2 c3 c4 c5 : Counts} → is_tag version w ≡ is_expression version x → tag_tokens w ≡ tokens x + 3 → tag_brackets w ≡ 1 + brackets x
+word_fits : {version : Version} (x : t.Expression) (w : t.TagExpression) {c1 c2 c3 c4 c5 : Counts}
+    → is_tag version w ≡ is_expression version x → tag_tokens w ≡ tokens x + 3 → tag_brackets w ≡ 1 + brackets x
     → RoleFact r.Inner c1 c2 → RoleFact r.Opening c2 c3 → Fits version 0 x c3 c4 → RoleFact r.Closing c4 c5 → FitsTag version w c1 c5
 word_fits x w same size nest a b c d =
     let a0 = a.0 in let a1 = a.1 in let b0 = b.0 in let b1 = b.1 in let b2 = b.2 in let d0 = d.0 in let d1 = d.1 in let e1 = c.even in let s1 = c.size in
@@ -57,15 +58,18 @@ word_fits x w same size nest a b c d =
       commands = omega (arith, c.commands);
     }
 
-tag_of_fits : {version : Version} {x : t.Expression} {p : Place} {c1 c2 c3 c4 c5 : Counts} → RoleFact r.Inner c1 c2 → RoleFact r.Opening c2 c3 → Fits version 0 x c3 c4 → RoleFact r.Closing c4 c5 → FitsTag version (t.tag_at p x) c1 c5
+tag_of_fits : {version : Version} {x : t.Expression} {p : Place} {c1 c2 c3 c4 c5 : Counts} → RoleFact r.Inner c1 c2
+    → RoleFact r.Opening c2 c3 → Fits version 0 x c3 c4 → RoleFact r.Closing c4 c5 → FitsTag version (t.tag_at p x) c1 c5
 unfolding is_tag tag_tokens tag_brackets
 tag_of_fits {x} {p} a b c d = word_fits x (t.tag_at p x) refl refl refl a b c d
 
-level_at_fits : {version : Version} {x : t.Expression} {p : Place} {c1 c2 c3 c4 c5 : Counts} → RoleFact r.Inner c1 c2 → RoleFact r.Opening c2 c3 → Fits version 0 x c3 c4 → RoleFact r.Closing c4 c5 → FitsTag version (t.level_at p x) c1 c5
+level_at_fits : {version : Version} {x : t.Expression} {p : Place} {c1 c2 c3 c4 c5 : Counts} → RoleFact r.Inner c1 c2
+    → RoleFact r.Opening c2 c3 → Fits version 0 x c3 c4 → RoleFact r.Closing c4 c5 → FitsTag version (t.level_at p x) c1 c5
 unfolding is_tag tag_tokens tag_brackets
 level_at_fits {x} {p} a b c d = word_fits x (t.level_at p x) refl refl refl a b c d
 
-join_tokens : (p : Place) (x y : t.TagExpression) (xs : t.TagExpressions) → tag_tokens (t.join_of p (t.and_tag x (t.and_tag y xs))) ≡ 2 + (tag_tokens x + 1 + (tag_tokens y + 1 + tag_part_tokens xs))
+join_tokens : (p : Place) (x y : t.TagExpression) (xs : t.TagExpressions)
+    → tag_tokens (t.join_of p (t.and_tag x (t.and_tag y xs))) ≡ 2 + (tag_tokens x + 1 + (tag_tokens y + 1 + tag_part_tokens xs))
 unfolding tag_tokens
 join_tokens p x y xs = refl
 
@@ -74,7 +78,8 @@ join_brackets : (p : Place) (x y : t.TagExpression) (xs : t.TagExpressions)
 unfolding tag_brackets
 join_brackets p x y xs = refl
 
-join_fits : {version : Version} {x y : t.TagExpression} {xs : t.TagExpressions} {p : Place} {c1 c2 c3 c4 c5 c6 c7 c8 : Counts} → RoleFact r.Inner c1 c2 → RoleFact r.Opening c2 c3 → FitsTag version x c3 c4 → RoleFact r.Inner c4 c5
+join_fits : {version : Version} {x y : t.TagExpression} {xs : t.TagExpressions} {p : Place} {c1 c2 c3 c4 c5 c6 c7 c8 : Counts}
+    → RoleFact r.Inner c1 c2 → RoleFact r.Opening c2 c3 → FitsTag version x c3 c4 → RoleFact r.Inner c4 c5
     → FitsTag version y c5 c6 → FitsTags version xs c6 c7 → RoleFact r.Closing c7 c8 → FitsTag version (t.join_of p (t.and_tag x (t.and_tag y xs))) c1 c8
 unfolding is_tag
 join_fits {x} {y} {xs} {p} o a b c d e f =
@@ -105,7 +110,8 @@ tag_part_brackets_are : (x : t.TagExpression) (xs : t.TagExpressions) → tag_pa
 unfolding tag_brackets
 tag_part_brackets_are x xs = refl
 
-tag_fits : {version : Version} {x : t.TagExpression} {xs : t.TagExpressions} {c1 c2 c3 c4 : Counts} → RoleFact r.Inner c1 c2 → FitsTag version x c2 c3 → FitsTags version xs c3 c4 → FitsTags version (t.and_tag x xs) c1 c4
+tag_fits : {version : Version} {x : t.TagExpression} {xs : t.TagExpressions} {c1 c2 c3 c4 : Counts} → RoleFact r.Inner c1 c2
+    → FitsTag version x c2 c3 → FitsTags version xs c3 c4 → FitsTags version (t.and_tag x xs) c1 c4
 unfolding is_tag
 tag_fits {x} {xs} a b c =
     let size = tag_part_tokens_are x xs in
@@ -164,36 +170,56 @@ pub record FitsCommands (depth : ℕ) (is : Bool) (number deepest : ℕ) (c d : 
   pub level : depth ≤ 65 → depth + deepest ≤ 65
   pub states : d.states ≡ c.states
 
-assign_fits : {version : Version} {n : ℕ} {m : Mention} {x : t.Expression} {c1 c2 c3 c4 : Counts} → is_name version m.name ≡ true → RoleFact (r.Command n) c1 c2 → RoleFact r.Plain c2 c3 → Fits version 0 x c3 c4
+assign_fits : {version : Version} {n : ℕ} {m : Mention} {x : t.Expression} {c1 c2 c3 c4 : Counts} → is_name version m.name ≡ true
+    → RoleFact (r.Command n) c1 c2 → RoleFact r.Plain c2 c3 → Fits version 0 x c3 c4
     → FitsSimple version n (t.assign m x) c1 c4
 unfolding is_simple
 assign_fits is a b x =
     let a0 = a.0 in let a1 = a.1 in let a2 = a.2 in let s = x.states in let n = x.commands in
     record { is = all_true is (outermost b.tokens b.brackets x); count = omega arith; room = omega arith; level = a2; states = omega arith }
 
-write_fits : {version : Version} {n : ℕ} {m : Mention} {i x : t.Expression} {c1 c2 c3 c4 c5 c6 c7 : Counts} → is_name version m.name ≡ true → RoleFact (r.Command n) c1 c2 → RoleFact r.Plain c2 c3 → Fits version 0 i c3 c4
+write_fits : {version : Version} {n : ℕ} {m : Mention} {i x : t.Expression} {c1 c2 c3 c4 c5 c6 c7 : Counts} → is_name version m.name ≡ true
+    → RoleFact (r.Command n) c1 c2 → RoleFact r.Plain c2 c3 → Fits version 0 i c3 c4
     → RoleFact r.Plain c4 c5 → RoleFact r.Plain c5 c6 → Fits version 0 x c6 c7 → FitsSimple version n (t.write m i x) c1 c7
 unfolding is_simple
 write_fits is a b i c d x =
     let a0 = a.0 in let a1 = a.1 in let a2 = a.2 in let s = x.states in let n = x.commands in let s' = i.states in let n' = i.commands in
-    record { is = all_true (all_true is (outermost b.tokens b.brackets i)) (outermost d.tokens d.brackets x); count = omega arith; room = omega arith; level = a2; states = omega arith }
+    record {
+      is = all_true (all_true is (outermost b.tokens b.brackets i)) (outermost d.tokens d.brackets x);
+      count = omega arith;
+      room =
+          omega arith;
+      level = a2;
+      states = omega arith;
+    }
 
-set_tag_fits : {version : Version} {n : ℕ} {p : Place} {m : Mention} {x : t.TagExpression} {c1 c2 c3 c4 c5 c6 c7 : Counts} → RoleFact (r.Command n) c1 c2 → RoleFact r.Plain c2 c3 → is_name version m.name ≡ true → RoleFact r.Plain c3 c4
+set_tag_fits : {version : Version} {n : ℕ} {p : Place} {m : Mention} {x : t.TagExpression} {c1 c2 c3 c4 c5 c6 c7 : Counts}
+    → RoleFact (r.Command n) c1 c2 → RoleFact r.Plain c2 c3 → is_name version m.name ≡ true → RoleFact r.Plain c3 c4
     → RoleFact r.Plain c4 c5 → FitsTag version x c5 c6 → RoleFact r.Plain c6 c7 → FitsSimple version n (t.set_tag p m x) c1 c7
 unfolding is_simple
 set_tag_fits a b is c d x e =
     let a0 = a.0 in let a1 = a.1 in let a2 = a.2 in let s = x.states in let n = x.commands in
     record { is = all_true is (outermost_tag d.tokens d.brackets x); count = omega arith; room = omega arith; level = a2; states = omega arith }
 
-set_cell_tag_fits : {version : Version} {n : ℕ} {p : Place} {m : Mention} {i : t.Expression} {x : t.TagExpression} {c1 c2 c3 c4 c5 c6 c7 c8 c9 c10 : Counts} → RoleFact (r.Command n) c1 c2 → RoleFact r.Plain c2 c3
-    → is_name version m.name ≡ true → RoleFact r.Plain c3 c4 → RoleFact r.Plain c4 c5 → Fits version 0 i c5 c6 → RoleFact r.Plain c6 c7 → RoleFact r.Plain c7 c8 → FitsTag version x c8 c9 → RoleFact r.Plain c9 c10
+set_cell_tag_fits : {version : Version} {n : ℕ} {p : Place} {m : Mention} {i : t.Expression} {x : t.TagExpression}
+    {c1 c2 c3 c4 c5 c6 c7 c8 c9 c10 : Counts} → RoleFact (r.Command n) c1 c2 → RoleFact r.Plain c2 c3
+    → is_name version m.name ≡ true → RoleFact r.Plain c3 c4 → RoleFact r.Plain c4 c5 → Fits version 0 i c5 c6 → RoleFact r.Plain c6 c7
+    → RoleFact r.Plain c7 c8 → FitsTag version x c8 c9 → RoleFact r.Plain c9 c10
     → FitsSimple version n (t.set_cell_tag p m i x) c1 c10
 unfolding is_simple
 set_cell_tag_fits a b is c d i e f x o =
     let a0 = a.0 in let a1 = a.1 in let a2 = a.2 in let s = x.states in let n = x.commands in let s' = i.states in let n' = i.commands in
-    record { is = all_true (all_true is (outermost d.tokens d.brackets i)) (outermost_tag f.tokens f.brackets x); count = omega arith; room = omega arith; level = a2; states = omega arith }
+    record {
+      is = all_true (all_true is (outermost d.tokens d.brackets i)) (outermost_tag f.tokens f.brackets x);
+      count =
+          omega arith;
+      room = omega arith;
+      level = a2;
+      states = omega arith;
+    }
 
-goto_fits : {version : Version} {n : ℕ} {p : Place} {m : Mention} {c1 c2 c3 : Counts} → RoleFact (r.Command n) c1 c2 → is_name version m.name ≡ true → RoleFact r.Plain c2 c3 → FitsSimple version n (t.go_to p m) c1 c3
+goto_fits : {version : Version} {n : ℕ} {p : Place} {m : Mention} {c1 c2 c3 : Counts} → RoleFact (r.Command n) c1 c2
+    → is_name version m.name ≡ true → RoleFact r.Plain c2 c3 → FitsSimple version n (t.go_to p m) c1 c3
 unfolding is_simple
 goto_fits a is b = let a0 = a.0 in let a1 = a.1 in let a2 = a.2 in record { is = is; count = omega arith; room = omega arith; level = a2; states = omega arith }
 
@@ -225,11 +251,14 @@ try_fits : {version : Version} {n : ℕ} {p : Place} {x : t.SimpleCommand} {h : 
     → FitsCommands (n + 1) (is_block version h) (block_count h) (block_depth h) c3 c4 → FitsCommand version n (t.try x p h) c1 c4
 unfolding is_command command_count command_depth
 try_fits a b c =
-    let n = a.count in let m = a.room in let l = a.level in let s = a.states in let n' = c.count in let m' = c.room (omega arith) in let l' = c.level (omega arith) in let s' = c.states in
+    let n = a.count in let m = a.room in let l = a.level in let s = a.states in let n' = c.count in let m' = c.room (omega arith) in
+    let l' = c.level (omega arith) in let s' = c.states in
     record { is = all_true a.is c.are; count = omega arith; room = omega arith; level = omega arith; states = omega arith }
 
-if_fits : {version : Version} {n : ℕ} {p : Place} {x : t.Expression} {h : t.CommandBlock} {o : t.ElseBlock} {c1 c2 c3 c4 c5 c6 c7 : Counts} → RoleFact (r.Command n) c1 c2 → RoleFact r.Plain c2 c3 → Fits version 0 x c3 c4
-    → RoleFact r.Plain c4 c5 → FitsCommands (n + 1) (is_block version h) (block_count h) (block_depth h) c5 c6 → FitsCommands (n + 1) (is_else version o) (else_count o) (else_depth o) c6 c7
+if_fits : {version : Version} {n : ℕ} {p : Place} {x : t.Expression} {h : t.CommandBlock} {o : t.ElseBlock} {c1 c2 c3 c4 c5 c6 c7 : Counts}
+    → RoleFact (r.Command n) c1 c2 → RoleFact r.Plain c2 c3 → Fits version 0 x c3 c4
+    → RoleFact r.Plain c4 c5 → FitsCommands (n + 1) (is_block version h) (block_count h) (block_depth h) c5 c6
+    → FitsCommands (n + 1) (is_else version o) (else_count o) (else_depth o) c6 c7
     → FitsCommand version n (t.if_else p x h o) c1 c7
 unfolding is_command command_count command_depth
 if_fits a b x d h o =
@@ -242,8 +271,10 @@ second_of : (version : Version) → (is_second version || false) ≡ true → is
 second_of v.One h = h
 second_of v.Two h = refl
 
-try_then_fits : {version : Version} {n : ℕ} {p : Place} {x : t.SimpleCommand} {a b : t.CommandBlock} {c1 c2 c3 c4 c5 c6 : Counts} → is_second version ≡ true → FitsSimple version n x c1 c2 → RoleFact r.Plain c2 c3
-    → FitsCommands (n + 1) (is_block version a) (block_count a) (block_depth a) c3 c4 → RoleFact r.Plain c4 c5 → FitsCommands (n + 1) (is_block version b) (block_count b) (block_depth b) c5 c6
+try_then_fits : {version : Version} {n : ℕ} {p : Place} {x : t.SimpleCommand} {a b : t.CommandBlock} {c1 c2 c3 c4 c5 c6 : Counts}
+    → is_second version ≡ true → FitsSimple version n x c1 c2 → RoleFact r.Plain c2 c3
+    → FitsCommands (n + 1) (is_block version a) (block_count a) (block_depth a) c3 c4 → RoleFact r.Plain c4 c5
+    → FitsCommands (n + 1) (is_block version b) (block_count b) (block_depth b) c5 c6
     → FitsCommand version n (t.try_then x p a b) c1 c6
 unfolding is_command command_count command_depth
 try_then_fits second x d a e b =
@@ -259,7 +290,8 @@ plain_fits h a = record { are = h; count = omega arith; room = λ m. omega arith
 no_constants_fit : (n : ℕ) (c : Counts) → FitsCommands n (are_constants t.no_part) 0 0 c c
 no_constants_fit n c = record { are = refl; count = omega arith; room = λ m. m; level = λ l. omega arith; states = refl }
 
-constants_fit : {n : ℕ} (x : t.Expression) (xs : t.Expressions) {c1 c2 c3 c4 : Counts} → RoleFact r.Plain c1 c2 → FitsCommands n (is_constant x) 0 0 c2 c3 → FitsCommands n (are_constants xs) 0 0 c3 c4
+constants_fit : {n : ℕ} (x : t.Expression) (xs : t.Expressions) {c1 c2 c3 c4 : Counts} → RoleFact r.Plain c1 c2
+    → FitsCommands n (is_constant x) 0 0 c2 c3 → FitsCommands n (are_constants xs) 0 0 c3 c4
     → FitsCommands n (are_constants (t.and_part x xs)) 0 0 c1 c4
 constants_fit x xs a b d =
     let nb = b.count in let sb = b.states in let nd = d.count in let sd = d.states in
@@ -278,7 +310,8 @@ arm_fits version x xs k a b d h =
       states = omega arith;
     }
 
-last_fits : (version : Version) {n : ℕ} (h : t.CommandBlock) {c1 c2 c3 : Counts} → RoleFact r.Plain c1 c2 → FitsCommands n (is_block version h) (block_count h) (block_depth h) c2 c3
+last_fits : (version : Version) {n : ℕ} (h : t.CommandBlock) {c1 c2 c3 : Counts} → RoleFact r.Plain c1 c2
+    → FitsCommands n (is_block version h) (block_count h) (block_depth h) c2 c3
     → FitsCommands n (are_arms version (t.last_arm h)) (arms_count (t.last_arm h)) (arms_depth (t.last_arm h)) c1 c3
 unfolding is_command command_count command_depth
 last_fits version h a b =
@@ -286,7 +319,8 @@ last_fits version h a b =
     record { are = b.are; count = omega arith; room = λ m. b.room (omega arith); level = b.level; states = omega arith }
 
 arms_fit : (version : Version) {n : ℕ} (cs : t.Expressions) (h : t.CommandBlock) (arms : t.Arms) {c1 c2 c3 : Counts} → has_constant cs ≡ true
-    → FitsCommands n (are_constants cs && is_block version h) (block_count h) (block_depth h) c1 c2 → FitsCommands n (are_arms version arms) (arms_count arms) (arms_depth arms) c2 c3
+    → FitsCommands n (are_constants cs && is_block version h) (block_count h) (block_depth h) c1 c2
+    → FitsCommands n (are_arms version arms) (arms_count arms) (arms_depth arms) c2 c3
     → FitsCommands n (are_arms version (t.and_arm cs h arms)) (arms_count (t.and_arm cs h arms)) (arms_depth (t.and_arm cs h arms)) c1 c3
 unfolding is_command command_count command_depth
 arms_fit version cs h arms some a b =
@@ -306,7 +340,8 @@ arms_fit version cs h arms some a b =
     parts true false c d e f g = cc
     parts false b c d e f g = cc
 
-case_fits : {version : Version} {n : ℕ} {p : Place} {x : t.Expression} (arms : t.Arms) {c1 c2 c3 c4 c5 c6 c7 c8 : Counts} → is_second version ≡ true → RoleFact (r.Command n) c1 c2 → RoleFact r.Plain c2 c3
+case_fits : {version : Version} {n : ℕ} {p : Place} {x : t.Expression} (arms : t.Arms) {c1 c2 c3 c4 c5 c6 c7 c8 : Counts}
+    → is_second version ≡ true → RoleFact (r.Command n) c1 c2 → RoleFact r.Plain c2 c3
     → Fits version 0 x c3 c4 → RoleFact r.Plain c4 c5 → RoleFact r.Plain c5 c6 → has_arm arms ≡ true → arm_count arms ≤ most_arms
     → FitsCommands (n + 1) (are_arms version arms) (arms_count arms) (arms_depth arms) c6 c7 → RoleFact r.Plain c7 c8 → FitsCommand version n (t.case_of p x arms) c1 c8
 unfolding is_command command_count command_depth
@@ -325,14 +360,16 @@ no_else_fits : (version : Version) (n : ℕ) (c : Counts) → FitsCommands n (is
 unfolding is_command command_count command_depth
 no_else_fits version n c = record { are = refl; count = omega arith; room = λ h. h; level = λ h. omega arith; states = refl }
 
-else_fits : (version : Version) {n : ℕ} (h : t.CommandBlock) {c1 c2 c3 : Counts} → RoleFact r.Plain c1 c2 → FitsCommands n (is_block version h) (block_count h) (block_depth h) c2 c3
+else_fits : (version : Version) {n : ℕ} (h : t.CommandBlock) {c1 c2 c3 : Counts} → RoleFact r.Plain c1 c2
+    → FitsCommands n (is_block version h) (block_count h) (block_depth h) c2 c3
     → FitsCommands n (is_else version (t.with_else h)) (else_count (t.with_else h)) (else_depth (t.with_else h)) c1 c3
 unfolding is_command command_count command_depth
 else_fits version h a b =
     let n = b.count in let s = b.states in
     record { are = b.are; count = omega arith; room = λ m. b.room (omega arith); level = b.level; states = omega arith }
 
-block_fits : (version : Version) {n : ℕ} (cs : t.CommandList) (p : Place) {c1 c2 c3 c4 : Counts} → RoleFact r.Plain c1 c2 → FitsCommands n (are_commands version cs) (list_count cs) (list_depth cs) c2 c3 → RoleFact r.Plain c3 c4
+block_fits : (version : Version) {n : ℕ} (cs : t.CommandList) (p : Place) {c1 c2 c3 c4 : Counts} → RoleFact r.Plain c1 c2
+    → FitsCommands n (are_commands version cs) (list_count cs) (list_depth cs) c2 c3 → RoleFact r.Plain c3 c4
     → FitsCommands n (is_block version (t.command_block cs p)) (block_count (t.command_block cs p)) (block_depth (t.command_block cs p)) c1 c4
 unfolding is_command command_count command_depth
 block_fits version cs p a b d =
@@ -343,18 +380,21 @@ no_commands_fit : (version : Version) (n : ℕ) (c : Counts) → FitsCommands n 
 unfolding is_command command_count command_depth
 no_commands_fit version n c = record { are = refl; count = omega arith; room = λ h. h; level = λ h. omega arith; states = refl }
 
-commands_fit : {version : Version} {n : ℕ} {x : t.Command} (cs : t.CommandList) {c1 c2 c3 : Counts} → FitsCommand version n x c1 c2 → FitsCommands n (are_commands version cs) (list_count cs) (list_depth cs) c2 c3
+commands_fit : {version : Version} {n : ℕ} {x : t.Command} (cs : t.CommandList) {c1 c2 c3 : Counts} → FitsCommand version n x c1 c2
+    → FitsCommands n (are_commands version cs) (list_count cs) (list_depth cs) c2 c3
     → FitsCommands n (are_commands version (t.and_command x cs)) (list_count (t.and_command x cs)) (list_depth (t.and_command x cs)) c1 c3
 unfolding is_command command_count command_depth
 commands_fit cs a b =
     let n = a.count in let s = a.states in let l = a.level in let n' = b.count in let s' = b.states in
     record { are = all_true a.is b.are; count = omega arith; room = λ h. b.room a.room; level = λ h. let l' = b.level h in omega arith; states = omega arith }
 
-constant_between : {version : Version} {n : ℕ} {p q : Stage} {x : t.Expression} → g.Constant p x q → Between version p q (FitsCommands n (is_constant x) 0 0 p.past.counts q.past.counts)
+constant_between : {version : Version} {n : ℕ} {p q : Stage} {x : t.Expression} → g.Constant p x q
+    → Between version p q (FitsCommands n (is_constant x) 0 0 p.past.counts q.past.counts)
 constant_between (g.plain a) = gives (stands a) (λ f. plain_fits f.0 f.1)
 constant_between (g.wide a) = gives (stands a) (λ f. plain_fits (all_true f.0.0 f.0.1) f.1)
 
-constants_between : {version : Version} {n : ℕ} {p q : Stage} {xs : t.Expressions} → g.Constants p xs q → Between version p q (FitsCommands n (are_constants xs) 0 0 p.past.counts q.past.counts)
+constants_between : {version : Version} {n : ℕ} {p q : Stage} {xs : t.Expressions} → g.Constants p xs q
+    → Between version p q (FitsCommands n (are_constants xs) 0 0 p.past.counts q.past.counts)
 constants_between {n = n} {p = p} g.no_constant = still (no_constants_fit n p.past.counts)
 constants_between (g.constant {x = y} {xs = ys} a x xs) = gives (stands a then (constant_between x then constants_between xs)) (λ f. constants_fit y ys f.0.1 f.1.0 f.1.1)
 
@@ -380,7 +420,8 @@ mutual
 
   arm_less : (version : Version) {n : ℕ} {p q : Stage} {cs : t.Expressions} {h : t.CommandBlock} → g.Arm n p cs h q → length q.left + 1 ≤ length p.left
   arm_less version {n} (g.arm x xs a h) =
-      let l1 = (constant_between {version = version} {n = n} x).less in let l2 = (constants_between {version = version} {n = n} xs).less in let l3 = one_less a in let l4 = (block_between {version = version} h).less in
+      let l1 = (constant_between {version = version} {n = n} x).less in let l2 = (constants_between {version = version} {n = n} xs).less in
+      let l3 = one_less a in let l4 = (block_between {version = version} h).less in
       omega arith
 
   arms_less : (version : Version) {n : ℕ} {p q : Stage} {x : t.Arms} → g.Arms n p x q → arm_count x + length q.left ≤ length p.left
@@ -397,13 +438,16 @@ mutual
   arms_between {version} (g.last a b) = gives (stands a then block_between b) (λ f. last_fits version _ f.0.1 f.1)
   arms_between {version} (g.and_arm a b) = gives (arm_between a then arms_between b) (λ f. arms_fit version _ _ _ f.0.0 f.0.1 f.1)
 
-  else_between : {version : Version} {n : ℕ} {p q : Stage} {x : t.ElseBlock} → g.Else n p x q → Between version p q (FitsCommands n (is_else version x) (else_count x) (else_depth x) p.past.counts q.past.counts)
+  else_between : {version : Version} {n : ℕ} {p q : Stage} {x : t.ElseBlock} → g.Else n p x q
+      → Between version p q (FitsCommands n (is_else version x) (else_count x) (else_depth x) p.past.counts q.past.counts)
   else_between {version} {n} {p} g.no_else = still (no_else_fits version n p.past.counts)
   else_between {version} (g.else a b) = gives (stands a then block_between b) (λ f. else_fits version _ f.0.1 f.1)
 
-  block_between : {version : Version} {n : ℕ} {p q : Stage} {x : t.CommandBlock} → g.Block n p x q → Between version p q (FitsCommands n (is_block version x) (block_count x) (block_depth x) p.past.counts q.past.counts)
+  block_between : {version : Version} {n : ℕ} {p q : Stage} {x : t.CommandBlock} → g.Block n p x q
+      → Between version p q (FitsCommands n (is_block version x) (block_count x) (block_depth x) p.past.counts q.past.counts)
   block_between {version} (g.block a cs b) = gives (stands a then (cmds_between cs then stands b)) (λ f. block_fits version _ _ f.0.1 f.1.0 f.1.1.1)
 
-  pub cmds_between : {version : Version} {n : ℕ} {p q : Stage} {x : t.CommandList} → g.Cmds n p x q → Between version p q (FitsCommands n (are_commands version x) (list_count x) (list_depth x) p.past.counts q.past.counts)
+  pub cmds_between : {version : Version} {n : ℕ} {p q : Stage} {x : t.CommandList} → g.Cmds n p x q
+      → Between version p q (FitsCommands n (are_commands version x) (list_count x) (list_depth x) p.past.counts q.past.counts)
   cmds_between {version} {n} {p} g.no_cmd = still (no_commands_fit version n p.past.counts)
   cmds_between (g.cmd c cs) = gives (cmd_between c then cmds_between cs) (λ f. commands_fit _ f.0 f.1)

@@ -151,9 +151,11 @@ declaration_between (g.register a b c e k s f) =
 declaration_between (g.memory a b c e f h i k o) =
     gives (stands a then (stands b then (stands c then (stands e then (stands f then (stands h then (stands i then (kind_between k then stands o))))))))
     (λ f. memory_fits (all_true (all_true (all_true f.1.0.0 f.1.1.1.0.0) f.1.1.1.1.1.0.0) f.1.1.1.1.1.1.1.0.test) f.0.1
-    (keep f.1.0.1 and keep f.1.1.0.1 and keep f.1.1.1.0.1 and keep f.1.1.1.1.0.1 and keep f.1.1.1.1.1.0.1 and keep f.1.1.1.1.1.1.0.1 and keeps f.1.1.1.1.1.1.1.0 and keep f.1.1.1.1.1.1.1.1.1))
+    (keep f.1.0.1 and keep f.1.1.0.1 and keep f.1.1.1.0.1 and keep f.1.1.1.1.0.1 and keep f.1.1.1.1.1.0.1 and keep f.1.1.1.1.1.1.0.1 and
+    keeps f.1.1.1.1.1.1.1.0 and keep f.1.1.1.1.1.1.1.1.1))
 
-declares_more : (version : Version) (x : Decl) (xs : List Decl) {c1 c2 c3 : Counts} → Declares (is_declaration version x) (one_if (is_input x)) (one_if (is_register x)) (one_if (is_memory x)) c1 c2
+declares_more : (version : Version) (x : Decl) (xs : List Decl) {c1 c2 c3 : Counts}
+    → Declares (is_declaration version x) (one_if (is_input x)) (one_if (is_register x)) (one_if (is_memory x)) c1 c2
     → Declares (list_all (is_declaration version) xs) (count_by is_input xs) (count_by is_register xs) (count_by is_memory xs) c2 c3
     → Declares (list_all (is_declaration version) (x ∷ xs)) (count_by is_input (x ∷ xs)) (count_by is_register (x ∷ xs)) (count_by is_memory (x ∷ xs)) c1 c3
 declares_more version x xs a b =
@@ -204,10 +206,12 @@ pub record FitsStates (depth : ℕ) (is : Bool) (number within deepest : ℕ) (c
   pub command_room : c.commands ≤ 4096 → d.commands ≤ 4096
   pub level : depth ≤ 17 → depth + deepest ≤ 17
 
-state_fits : (version : Version) {n : ℕ} (p : Place) (m : Mention) (k : Kind) (cs : t.CommandList) (after : Place) (xs : t.StateList) {c1 c2 c3 c4 c5 c6 c7 c8 : Counts} → RoleFact (r.State n) c1 c2 → is_name version m.name ≡ true
+state_fits : (version : Version) {n : ℕ} (p : Place) (m : Mention) (k : Kind) (cs : t.CommandList) (after : Place) (xs : t.StateList)
+    {c1 c2 c3 c4 c5 c6 c7 c8 : Counts} → RoleFact (r.State n) c1 c2 → is_name version m.name ≡ true
     → RoleFact r.Plain c2 c3 → Rests (is_kind version k) c3 c4 → RoleFact r.Plain c4 c5 → FitsCommands 1 (are_commands version cs) (list_count cs) (list_depth cs) c5 c6
     → FitsStates (n + 1) (are_states version xs) (states_count xs) (states_commands xs) (states_depth xs) c6 c7 → RoleFact r.Plain c7 c8
-    → FitsStates n (is_state version (t.state_node p m k (t.command_block cs after) xs)) (state_count (t.state_node p m k (t.command_block cs after) xs)) (state_commands (t.state_node p m k (t.command_block cs after) xs))
+    → FitsStates n (is_state version (t.state_node p m k (t.command_block cs after) xs))
+    (state_count (t.state_node p m k (t.command_block cs after) xs)) (state_commands (t.state_node p m k (t.command_block cs after) xs))
     (state_depth (t.state_node p m k (t.command_block cs after) xs)) c1 c8
 unfolding is_state is_block block_count block_depth state_count state_commands state_depth
 state_fits version p m k cs after xs a is b kind e body children f =
@@ -226,11 +230,13 @@ state_fits version p m k cs after xs a is b kind e body children f =
       level = λ h. omega arith;
     }
 
-no_states_fit : (version : Version) (n : ℕ) (c : Counts) → FitsStates n (are_states version t.no_state) (states_count t.no_state) (states_commands t.no_state) (states_depth t.no_state) c c
+no_states_fit : (version : Version) (n : ℕ) (c : Counts)
+    → FitsStates n (are_states version t.no_state) (states_count t.no_state) (states_commands t.no_state) (states_depth t.no_state) c c
 unfolding is_state state_count state_commands state_depth
 no_states_fit version n c = record { test = refl; states = omega arith; commands = omega arith; state_room = λ h. h; command_room = λ h. h; level = λ h. omega arith }
 
-states_fit : (version : Version) {n : ℕ} (x : t.StateTree) (xs : t.StateList) {c1 c2 c3 : Counts} → FitsStates n (is_state version x) (state_count x) (state_commands x) (state_depth x) c1 c2
+states_fit : (version : Version) {n : ℕ} (x : t.StateTree) (xs : t.StateList) {c1 c2 c3 : Counts}
+    → FitsStates n (is_state version x) (state_count x) (state_commands x) (state_depth x) c1 c2
     → FitsStates n (are_states version xs) (states_count xs) (states_commands xs) (states_depth xs) c2 c3
     → FitsStates n (are_states version (t.and_state x xs)) (states_count (t.and_state x xs)) (states_commands (t.and_state x xs)) (states_depth (t.and_state x xs)) c1 c3
 unfolding is_state state_count state_commands state_depth
@@ -246,7 +252,8 @@ states_fit version x xs a b =
     }
 
 mutual
-  state_between : {version : Version} {n : ℕ} {p q : Stage} {x : t.StateTree} → g.State n p x q → Between version p q (FitsStates n (is_state version x) (state_count x) (state_commands x) (state_depth x) p.past.counts q.past.counts)
+  state_between : {version : Version} {n : ℕ} {p q : Stage} {x : t.StateTree} → g.State n p x q
+      → Between version p q (FitsStates n (is_state version x) (state_count x) (state_commands x) (state_depth x) p.past.counts q.past.counts)
   state_between {version} (g.state a b k c cs xs e) =
       gives (stands a then (stands b then (kind_between k then (stands c then (cmds_between cs then (states_between xs then stands e))))))
       (λ f. state_fits version _ _ _ _ _ _ f.0.1 f.1.0.0 f.1.0.1 f.1.1.0 f.1.1.1.0.1 f.1.1.1.1.0 f.1.1.1.1.1.0 f.1.1.1.1.1.1.1)
@@ -258,7 +265,8 @@ mutual
 
 -- a design
 
-whole_fits : (version : Version) (ds : List Decl) (x : t.StateTree) (xs : t.StateList) (c1 : Counts) {c2 c4 : Counts} → c1.inputs ≡ 0 → c1.registers ≡ 0 → c1.memories ≡ 0 → c1.states ≡ 0 → c1.commands ≡ 0
+whole_fits : (version : Version) (ds : List Decl) (x : t.StateTree) (xs : t.StateList) (c1 : Counts) {c2 c4 : Counts} → c1.inputs ≡ 0
+    → c1.registers ≡ 0 → c1.memories ≡ 0 → c1.states ≡ 0 → c1.commands ≡ 0
     → Declares (list_all (is_declaration version) ds) (count_by is_input ds) (count_by is_register ds) (count_by is_memory ds) c1 c2
     → FitsStates 1 (are_states version (t.and_state x xs)) (states_count (t.and_state x xs)) (states_commands (t.and_state x xs)) (states_depth (t.and_state x xs)) c2 c4
     → is_whole (record { version = version; declarations = ds; states = t.and_state x xs }) ≡ true
@@ -289,7 +297,8 @@ design_between : {p q : Stage} {x : t.DesignTree} → g.Design p x q → p.past.
     → p.past.counts.commands ≡ 0 → Between x.version p q (is_whole x ≡ true)
 design_between {p} (g.design {p2 = p2} {version = version} {x = x} {xs = xs} h ds one more) i r m s n =
     gives (header_between h then (declarations_between ds then (state_between one then states_between more)))
-    (λ f. whole_fits version _ x xs p2.past.counts (f.0.inputs ∙ i) (f.0.registers ∙ r) (f.0.memories ∙ m) (f.0.states ∙ s) (f.0.commands ∙ n) f.1.0 (states_fit version x xs f.1.1.0 f.1.1.1))
+    (λ f. whole_fits version _ x xs p2.past.counts (f.0.inputs ∙ i) (f.0.registers ∙ r) (f.0.memories ∙ m) (f.0.states ∙ s) (f.0.commands
+    ∙ n) f.1.0 (states_fit version x xs f.1.1.0 f.1.1.1))
 
 -- the version of a design is that of its tokens
 

@@ -236,7 +236,8 @@ bounds_between : {version : Version} {p q : Stage} {high low : ℕ} → g.Bounds
 bounds_between (g.bounds a b c d e) =
     gives (stands a then (stands b then (stands c then (stands d then stands e)))) (λ f. bounds_fit f.0.1 f.1.0.0 f.1.0.1 f.1.1.0.1 f.1.1.1.0.0 f.1.1.1.0.1 f.1.1.1.1.1)
 
-cut_grows : {version : Version} {x y : t.Expression} {s : Spot} {high low : ℕ} {c d e : Counts} → FitsBounds high low c d → Grows version slice_precedence (t.slice s x high low) y d e → Grows version slice_precedence x y c e
+cut_grows : {version : Version} {x y : t.Expression} {s : Spot} {high low : ℕ} {c d e : Counts} → FitsBounds high low c d
+    → Grows version slice_precedence (t.slice s x high low) y d e → Grows version slice_precedence x y c e
 unfolding is_expression precedence_of
 cut_grows {x} {y} {s} {high} {low} b m =
     let size = slice_tokens s x high low in
@@ -254,7 +255,8 @@ cut_grows {x} {y} {s} {high} {low} b m =
       commands = m.commands ∙ b.commands;
     }
 
-other_grows : {version : Version} {l : ℕ} {x y z : t.Expression} {s : Spot} (o : BinaryOperator) {c1 c2 c3 c4 : Counts} → precedence o ≡ l → RoleFact r.Inner c1 c2 → Fits version (l + 1) y c2 c3
+other_grows : {version : Version} {l : ℕ} {x y z : t.Expression} {s : Spot} (o : BinaryOperator) {c1 c2 c3 c4 : Counts} → precedence o ≡ l
+    → RoleFact r.Inner c1 c2 → Fits version (l + 1) y c2 c3
     → Grows version l (t.binary_of s o x y) z c3 c4 → Grows version l x z c1 c4
 unfolding is_expression precedence_of
 other_grows {l} {x} {y} {z} {s} o level a b m =
@@ -275,7 +277,8 @@ other_grows {l} {x} {y} {z} {s} o level a b m =
       commands = omega (arith, m.commands, b.commands);
     }
 
-choose_fits : {version : Version} {x y z : t.Expression} {s : Spot} {c1 c2 c3 c4 c5 c6 : Counts} → Fits version 1 x c1 c2 → RoleFact r.Inner c2 c3 → Fits version 0 y c3 c4 → RoleFact r.Inner c4 c5 → Fits version 0 z c5 c6
+choose_fits : {version : Version} {x y z : t.Expression} {s : Spot} {c1 c2 c3 c4 c5 c6 : Counts} → Fits version 1 x c1 c2
+    → RoleFact r.Inner c2 c3 → Fits version 0 y c3 c4 → RoleFact r.Inner c4 c5 → Fits version 0 z c5 c6
     → Fits version 0 (t.choice s x y z) c1 c6
 unfolding is_expression precedence_of
 choose_fits {x} {y} {z} {s} a b c d e =
@@ -296,7 +299,8 @@ choose_fits {x} {y} {z} {s} a b c d e =
       commands = omega (arith, a.commands, c.commands, e.commands);
     }
 
-unary_fits : {version : Version} {x : t.Expression} {s : Spot} {o : UnaryOperator} {c1 c2 c3 : Counts} → RoleFact r.Inner c1 c2 → Fits version unary_precedence x c2 c3 → Fits version unary_precedence (t.unary_of s o x) c1 c3
+unary_fits : {version : Version} {x : t.Expression} {s : Spot} {o : UnaryOperator} {c1 c2 c3 : Counts} → RoleFact r.Inner c1 c2
+    → Fits version unary_precedence x c2 c3 → Fits version unary_precedence (t.unary_of s o x) c1 c3
 unfolding is_expression precedence_of
 unary_fits {x} {s} {o} a b =
     let size = unary_tokens s o x in
@@ -315,7 +319,8 @@ unary_fits {x} {s} {o} a b =
     }
 
 -- one token
-one_fits : {version : Version} (x : t.Expression) {c d : Counts} → is_expression version x ≡ true → tokens x ≡ 1 → brackets x ≡ 0 → precedence_of x ≡ primary_precedence → RoleFact r.Inner c d → Fits version primary_precedence x c d
+one_fits : {version : Version} (x : t.Expression) {c d : Counts} → is_expression version x ≡ true → tokens x ≡ 1 → brackets x ≡ 0
+    → precedence_of x ≡ primary_precedence → RoleFact r.Inner c d → Fits version primary_precedence x c d
 one_fits x is size nest level a =
     let bare = no_pars primary_precedence x (omega arith) in
     let shut = no_opens primary_precedence x (omega arith) in
@@ -330,7 +335,8 @@ one_fits x is size nest level a =
       commands = a0.commands;
     }
 
-cell_fits : {version : Version} {n : List ℕ} {i : t.Expression} {s : Spot} {c1 c2 c3 c4 c5 : Counts} → is_name version n ≡ true → RoleFact r.Inner c1 c2 → RoleFact r.Opening c2 c3 → Fits version 0 i c3 c4 → RoleFact r.Closing c4 c5
+cell_fits : {version : Version} {n : List ℕ} {i : t.Expression} {s : Spot} {c1 c2 c3 c4 c5 : Counts} → is_name version n ≡ true
+    → RoleFact r.Inner c1 c2 → RoleFact r.Opening c2 c3 → Fits version 0 i c3 c4 → RoleFact r.Closing c4 c5
     → Fits version primary_precedence (t.cell_at s n i) c1 c5
 unfolding is_expression precedence_of
 cell_fits {n} {i} {s} is a b c d =
@@ -349,7 +355,8 @@ cell_fits {n} {i} {s} is a b c d =
       commands = omega (arith, c.commands);
     }
 
-enclosed_fits : {version : Version} (x : t.Expression) (p : Place) {c1 c2 c3 c4 : Counts} → RoleFact r.Opening c1 c2 → Fits version 0 x c2 c3 → RoleFact r.Closing c3 c4 → Fits version primary_precedence (enclosed p x) c1 c4
+enclosed_fits : {version : Version} (x : t.Expression) (p : Place) {c1 c2 c3 c4 : Counts} → RoleFact r.Opening c1 c2
+    → Fits version 0 x c2 c3 → RoleFact r.Closing c3 c4 → Fits version primary_precedence (enclosed p x) c1 c4
 enclosed_fits x p a b c =
     let size = enclosed_tokens p x in
     let nest = enclosed_brackets p x in
@@ -366,7 +373,8 @@ enclosed_fits x p a b c =
       commands = omega (arith, b.commands);
     }
 
-concat_fits : {version : Version} {x y : t.Expression} {xs : t.Expressions} {s : Spot} {c1 c2 c3 c4 c5 c6 c7 : Counts} → RoleFact r.Opening c1 c2 → Fits version 0 x c2 c3 → RoleFact r.Inner c3 c4 → Fits version 0 y c4 c5
+concat_fits : {version : Version} {x y : t.Expression} {xs : t.Expressions} {s : Spot} {c1 c2 c3 c4 c5 c6 c7 : Counts}
+    → RoleFact r.Opening c1 c2 → Fits version 0 x c2 c3 → RoleFact r.Inner c3 c4 → Fits version 0 y c4 c5
     → FitsParts version xs c5 c6 → RoleFact r.Closing c6 c7 → Fits version primary_precedence (t.concat s (t.and_part x (t.and_part y xs))) c1 c7
 unfolding is_expression precedence_of
 concat_fits {x} {y} {xs} {s} a b c d e f =
@@ -386,7 +394,8 @@ concat_fits {x} {y} {xs} {s} a b c d e f =
       commands = omega (arith, b.commands, d.commands, e.commands);
     }
 
-zext_fits : {version : Version} {x : t.Expression} {w : ℕ} {s : Spot} {c1 c2 c3 c4 c5 c6 c7 : Counts} → RoleFact r.Inner c1 c2 → RoleFact r.Opening c2 c3 → Fits version 0 x c3 c4 → RoleFact r.Inner c4 c5 → is_number w ≡ true
+zext_fits : {version : Version} {x : t.Expression} {w : ℕ} {s : Spot} {c1 c2 c3 c4 c5 c6 c7 : Counts} → RoleFact r.Inner c1 c2
+    → RoleFact r.Opening c2 c3 → Fits version 0 x c3 c4 → RoleFact r.Inner c4 c5 → is_number w ≡ true
     → RoleFact r.Inner c5 c6 → RoleFact r.Closing c6 c7 → Fits version primary_precedence (t.zero_extend s x w) c1 c7
 unfolding is_expression precedence_of
 zext_fits {x} {w} {s} a b c d is e f =
@@ -418,7 +427,8 @@ part_brackets_are : (x : t.Expression) (xs : t.Expressions) → part_brackets (t
 unfolding brackets
 part_brackets_are x xs = refl
 
-part_fits : {version : Version} {x : t.Expression} {xs : t.Expressions} {c1 c2 c3 c4 : Counts} → RoleFact r.Inner c1 c2 → Fits version 0 x c2 c3 → FitsParts version xs c3 c4 → FitsParts version (t.and_part x xs) c1 c4
+part_fits : {version : Version} {x : t.Expression} {xs : t.Expressions} {c1 c2 c3 c4 : Counts} → RoleFact r.Inner c1 c2
+    → Fits version 0 x c2 c3 → FitsParts version xs c3 c4 → FitsParts version (t.and_part x xs) c1 c4
 unfolding is_expression
 part_fits {x} {xs} a b c =
     let size = part_tokens_are x xs in
@@ -438,7 +448,8 @@ number_fits : {version : Version} {n : ℕ} {s : Spot} {c d : Counts} → is_num
 unfolding is_expression tokens brackets precedence_of
 number_fits {n} {s} is a = one_fits (t.literal s n) is refl refl refl a
 
-sized_fits : {version : Version} {w n : ℕ} {s : Spot} {c d : Counts} → is_number w ≡ true → is_number n ≡ true → RoleFact r.Inner c d → Fits version primary_precedence (t.sized_literal s w n) c d
+sized_fits : {version : Version} {w n : ℕ} {s : Spot} {c d : Counts} → is_number w ≡ true → is_number n ≡ true → RoleFact r.Inner c d
+    → Fits version primary_precedence (t.sized_literal s w n) c d
 unfolding is_expression tokens brackets precedence_of
 sized_fits {w} {n} {s} is other a = one_fits (t.sized_literal s w n) (all_true is other) refl refl refl a
 

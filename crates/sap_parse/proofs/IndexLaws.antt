@@ -29,7 +29,8 @@ module _ (enter : Enter) where
 
   steps_more : (σ τ : List Symbol) (p : Stage) → (steps_by enter σ p >>= steps_by enter τ) ≡ steps_by enter (σ ++ τ) p
   steps_more [] τ p = refl
-  steps_more (x ∷ σ) τ p = bind_bind (read_by enter x p) (steps_by enter σ) (steps_by enter τ) ∙ bind_same (read_by enter x p) (λ q. steps_by enter σ q >>= steps_by enter τ) (steps_by enter (σ ++ τ)) (steps_more σ τ)
+  steps_more (x ∷ σ) τ p = bind_bind (read_by enter x p) (steps_by enter σ) (steps_by enter τ)
+      ∙ bind_same (read_by enter x p) (λ q. steps_by enter σ q >>= steps_by enter τ) (steps_by enter (σ ++ τ)) (steps_more σ τ)
 
   -- what comes behind a number is read alike
   after_number : (p : Stage) (n : ℕ) (t : Token) (ts : List Token) → p.left ≡ t ∷ ts → t.kind ≡ k.Number n → (f g : Stage → Outcome)
@@ -62,11 +63,13 @@ module _ (enter : Enter) where
     by_row cannot_stand e = refl
 
   -- what a table says of several symbols, at a token
-  pub firsts_read : (x : Symbol) (σ : List Symbol) (p : Stage) (t : Token) (ts : List Token) → p.left ≡ t ∷ ts → next x t.kind ≡ firsts (λ y. next y t.kind) σ → read_by enter x p ≡ steps_by enter σ p
+  pub firsts_read : (x : Symbol) (σ : List Symbol) (p : Stage) (t : Token) (ts : List Token) → p.left ≡ t ∷ ts
+      → next x t.kind ≡ firsts (λ y. next y t.kind) σ → read_by enter x p ≡ steps_by enter σ p
   unfolding read_by read walk settle
   firsts_read x σ p t ts left e =
       by_left p x t ts left
-      ∙ ap (λ m. moved m (λ q τ. walk (table enter) ts q τ) (Ok (record { past = p.past; left = t ∷ ts })) (Err (at_token (record { past = p.past; left = t ∷ ts }))) (λ limit. Err (at_limit limit (record { past = p.past; left = t ∷ ts }))))
+      ∙ ap (λ m. moved m (λ q τ. walk (table enter) ts q τ) (Ok (record { past = p.past; left = t ∷ ts }))
+      (Err (at_token (record { past = p.past; left = t ∷ ts }))) (λ limit. Err (at_limit limit (record { past = p.past; left = t ∷ ts }))))
       (ap (λ n. chosen n (λ role τ. entered (enter role t p.past) (τ ++ [])) not_needed rejected) e ∙ settle_firsts t p.past σ)
       ∙ walk_steps (table enter) σ (record { past = p.past; left = t ∷ ts })
       ∙ steps_are enter σ (record { past = p.past; left = t ∷ ts })
@@ -82,10 +85,12 @@ module _ (enter : Enter) where
       → read_by enter s.behind_number p ≡ steps_by enter (s.sign r.Inner j.Colon ∷ s.number r.Inner ∷ s.sign r.Closing j.CloseBracket ∷ s.slices ∷ []) p
   after_colon p e =
       let t = stands enter p e (λ h. absurd (cc)) in
-      step_at enter s.behind_number (s.sign r.Inner j.Colon) (s.number r.Inner ∷ s.sign r.Closing j.CloseBracket ∷ s.slices ∷ []) p t.0 t.1 t.2 (colon_row t.0.kind (kind_ahead t.0.kind j.Colon t.3)) (sign_full enter r.Inner j.Colon t.0.kind)
+      step_at enter s.behind_number (s.sign r.Inner j.Colon) (s.number r.Inner ∷ s.sign r.Closing j.CloseBracket ∷ s.slices ∷ []) p t.0 t.1
+      t.2 (colon_row t.0.kind (kind_ahead t.0.kind j.Colon t.3)) (sign_full enter r.Inner j.Colon t.0.kind)
 
   index_row : (i : Kind) → ahead_of i ≢ a.Sign j.Colon → s.after_number_next i ≡ firsts (λ x. next x i) index_symbols
-  index_row i ne = ap (λ n. (push n (s.number r.Inner ∷ s.sign r.Closing j.CloseBracket ∷ s.slices ∷ [])) or firsts (s.operand_next i) index_symbols) (next_not_sign r.Inner j.Colon i ne)
+  index_row i ne = ap (λ n. (push n (s.number r.Inner ∷ s.sign r.Closing j.CloseBracket ∷ s.slices ∷ [])) or firsts (s.operand_next i)
+      index_symbols) (next_not_sign r.Inner j.Colon i ne)
 
   no_colon : (p : Stage) → ahead p.left ≢ a.Sign j.Colon → read_by enter s.behind_number p ≡ steps_by enter index_symbols p
   unfolding read_by at_end walk
@@ -121,14 +126,16 @@ module _ (enter : Enter) where
       let t = stands enter p e (λ h. absurd (cc)) in
       let n = number_of_ahead t.0.kind t.3 in
       step_at enter s.behind_bracket (s.number r.Inner) (s.behind_number ∷ []) p t.0 t.1 t.2 (number_row t.0.kind n.0 n.1) (number_full enter r.Inner t.0.kind)
-      ∙ after_number p n.0 t.0 t.1 t.2 n.1 (steps_by enter (s.behind_number ∷ [])) (steps_by enter (s.sign r.Inner j.Colon ∷ s.number r.Inner ∷ s.sign r.Closing j.CloseBracket ∷ s.slices ∷ []))
+      ∙ after_number p n.0 t.0 t.1 t.2 n.1 (steps_by enter (s.behind_number ∷ []))
+      (steps_by enter (s.sign r.Inner j.Colon ∷ s.number r.Inner ∷ s.sign r.Closing j.CloseBracket ∷ s.slices ∷ []))
       (λ q. bind_pure (read_by enter s.behind_number (record { past = q; left = t.1 })) ∙ after_colon (record { past = q; left = t.1 }) (sym (second_ahead p t.0 t.1 t.2) ∙ f))
 
   expr_number : (i : Kind) (n : ℕ) → i ≡ k.Number n → next s.expr i ≡ push (next (s.number r.Inner) i) (s.slices ∷ (tails 1 ++ s.choice ∷ []))
   expr_number i n e = ap (λ i. next s.expr i) e ∙ sym (ap (λ i. push (next (s.number r.Inner) i) (s.slices ∷ (tails 1 ++ s.choice ∷ []))) e)
 
   expr_full : (i : Kind) → IsFull (next s.expr i)
-  expr_full i e = push_full (s.unary_next i) (tails 1 ++ s.choice ∷ []) (unary_full enter i) (sym (first_then_full (s.unary_next i) (firsts (s.operand_next i) (tails 1 ++ s.choice ∷ [])) (tails 1 ++ s.choice ∷ []) (unary_full enter i)) ∙ e)
+  expr_full i e = push_full (s.unary_next i) (tails 1 ++ s.choice ∷ []) (unary_full enter i)
+      (sym (first_then_full (s.unary_next i) (firsts (s.operand_next i) (tails 1 ++ s.choice ∷ [])) (tails 1 ++ s.choice ∷ []) (unary_full enter i)) ∙ e)
 
   other_row : (i : Kind) → ahead_of i ≢ a.Number → s.after_bracket_next i ≡ push (next s.expr i) (s.sign r.Closing j.CloseBracket ∷ s.slices ∷ [])
   other_row (k.Number n) ne = absurd (ne refl)
@@ -145,9 +152,11 @@ module _ (enter : Enter) where
       step_at enter s.behind_bracket (s.number r.Inner) (s.behind_number ∷ []) p t.0 t.1 t.2 (number_row t.0.kind n.0 n.1) (number_full enter r.Inner t.0.kind)
       ∙ after_number p n.0 t.0 t.1 t.2 n.1 (steps_by enter (s.behind_number ∷ [])) (steps_by enter index_symbols)
       (λ q. bind_pure (read_by enter s.behind_number (record { past = q; left = t.1 })) ∙ no_colon (record { past = q; left = t.1 }) (λ h. ne (second_ahead p t.0 t.1 t.2 ∙ h)))
-      ∙ bind_same (read_by enter (s.number r.Inner) p) (steps_by enter index_symbols) (λ q. steps_by enter (s.slices ∷ (tails 1 ++ s.choice ∷ [])) q >>= steps_by enter (s.sign r.Closing j.CloseBracket ∷ s.slices ∷ []))
+      ∙ bind_same (read_by enter (s.number r.Inner) p) (steps_by enter index_symbols)
+      (λ q. steps_by enter (s.slices ∷ (tails 1 ++ s.choice ∷ [])) q >>= steps_by enter (s.sign r.Closing j.CloseBracket ∷ s.slices ∷ []))
       (λ q. sym (steps_more (s.slices ∷ (tails 1 ++ s.choice ∷ [])) (s.sign r.Closing j.CloseBracket ∷ s.slices ∷ []) q))
-      ∙ sym (bind_bind (read_by enter (s.number r.Inner) p) (steps_by enter (s.slices ∷ (tails 1 ++ s.choice ∷ []))) (steps_by enter (s.sign r.Closing j.CloseBracket ∷ s.slices ∷ [])))
+      ∙ sym (bind_bind (read_by enter (s.number r.Inner) p) (steps_by enter (s.slices ∷ (tails 1 ++ s.choice ∷ [])))
+      (steps_by enter (s.sign r.Closing j.CloseBracket ∷ s.slices ∷ [])))
       ∙ ap (λ o. o >>= steps_by enter (s.sign r.Closing j.CloseBracket ∷ s.slices ∷ []))
       (sym (step_at enter s.expr (s.number r.Inner) (s.slices ∷ (tails 1 ++ s.choice ∷ [])) p t.0 t.1 t.2 (expr_number t.0.kind n.0 n.1) (number_full enter r.Inner t.0.kind)))
 
@@ -157,7 +166,8 @@ module _ (enter : Enter) where
     by_tokens [] none =
         stops enter s.behind_bracket refl p (λ t ts left. absurd (cc))
         ∙ ap (λ o. o >>= steps_by enter (s.sign r.Closing j.CloseBracket ∷ s.slices ∷ [])) (sym (stops enter s.expr refl p (λ t ts left. absurd (cc))))
-    by_tokens (t ∷ ts) left = step_at enter s.behind_bracket s.expr (s.sign r.Closing j.CloseBracket ∷ s.slices ∷ []) p t ts left (other_row t.kind (λ h. ne (ahead_back t ts h left))) (expr_full t.kind)
+    by_tokens (t ∷ ts) left = step_at enter s.behind_bracket s.expr (s.sign r.Closing j.CloseBracket ∷ s.slices ∷ []) p t ts left
+        (other_row t.kind (λ h. ne (ahead_back t ts h left))) (expr_full t.kind)
 
   pub bracket_index : (p : Stage) → (ahead p.left ≡ a.Number → second p.left ≢ a.Sign j.Colon)
       → read_by enter s.behind_bracket p ≡ steps_by enter (s.expr ∷ s.sign r.Closing j.CloseBracket ∷ s.slices ∷ []) p

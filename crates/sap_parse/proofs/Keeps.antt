@@ -193,13 +193,16 @@ module _ (token : Token) (ts : List Token) (past : Past Counts Limit) where
     by_kind (k.Name i) e = λ role' σ e. absurd (cc)
     by_kind (k.Number i) e = λ role' σ e. absurd (cc)
 
-  pub after_sign : (role : Role) (x : SignOf) (τ : List Symbol) (Q : Stage → Type 0) → ((m q : Stage) → IsSign here role x m → Langs τ m q → Q q) → Keeps (s.after_sign role x τ token.kind) Q
+  pub after_sign : (role : Role) (x : SignOf) (τ : List Symbol) (Q : Stage → Type 0)
+      → ((m q : Stage) → IsSign here role x m → Langs τ m q → Q q) → Keeps (s.after_sign role x τ token.kind) Q
   after_sign role x τ Q h = keeps_push (s.sign_next role x token.kind) τ (λ q. IsSign here role x q) Q (keeps_sign role x) h
 
-  pub after_word : (role : Role) (x : WordOf) (τ : List Symbol) (Q : Stage → Type 0) → ((m q : Stage) → IsWord here role x m → Langs τ m q → Q q) → Keeps (s.after_word role x τ token.kind) Q
+  pub after_word : (role : Role) (x : WordOf) (τ : List Symbol) (Q : Stage → Type 0)
+      → ((m q : Stage) → IsWord here role x m → Langs τ m q → Q q) → Keeps (s.after_word role x τ token.kind) Q
   after_word role x τ Q h = keeps_push (s.word_next role x token.kind) τ (λ q. IsWord here role x q) Q (keeps_word role x) h
 
-  pub after_name : (role : Role) (τ : List Symbol) (Q : Stage → Type 0) → ((m q : Stage) (n : List ℕ) → IsName here role n m → Langs τ m q → Q q) → Keeps (s.after_name role τ token.kind) Q
+  pub after_name : (role : Role) (τ : List Symbol) (Q : Stage → Type 0)
+      → ((m q : Stage) (n : List ℕ) → IsName here role n m → Langs τ m q → Q q) → Keeps (s.after_name role τ token.kind) Q
   after_name role τ Q h = keeps_push (s.name_next role token.kind) τ (λ q. (n : List ℕ) × IsName here role n q) Q (keeps_name role) (λ m q x more. h m q x.0 x.1 more)
 
   -- several symbols, one after another
@@ -221,7 +224,8 @@ module _ (token : Token) (ts : List Token) (past : Past Counts Limit) where
   keeps_firsts row (x ∷ σ) h = by_row (row x) refl h.0 (keeps_firsts row σ h.1) where
     by_row : (n : Row) → row x ≡ n → Keeps (row x) (λ q. Lang x here q) × (row x ≡ empty_here → Lang x here here) → Keeps (firsts row σ) (λ q. Langs σ here q)
         → Keeps (first_then n σ (firsts row σ)) (λ q. Langs (x ∷ σ) here q)
-    by_row (begins role ρ) e h g = keeps_push (begins role ρ) σ (λ q. Lang x here q) (λ q. Langs (x ∷ σ) here q) (subst (λ n. Keeps n (λ q. Lang x here q)) e h.0) (λ m q a more. (m, a, more))
+    by_row (begins role ρ) e h g = keeps_push (begins role ρ) σ (λ q. Lang x here q) (λ q. Langs (x ∷ σ) here q)
+        (subst (λ n. Keeps n (λ q. Lang x here q)) e h.0) (λ m q a more. (m, a, more))
     by_row empty_here e h g = λ role τ f q more. (here, h.1 e, g role τ f q more)
     by_row cannot_stand e h g = λ role τ f. absurd (cc)
 
@@ -305,7 +309,8 @@ module _ (token : Token) (ts : List Token) (past : Past Counts Limit) where
         let c = last (s.tail l) more.0 q more.2 (t.binary_of (record { first = first_of x; at = token.place }) o x y.0) in
         (c.0, g.other o at (stands r.Inner (k.Sign (sign_of o)) e) (y.1 le) c.1))
 
-    by_test : (o : BinaryOperator) → token.kind ≡ k.Sign (sign_of o) → (b : Bool) → eqb (precedence o) l ≡ b → Keeps (cond b (begins r.Inner (s.bin (l + 1) ∷ s.tail l ∷ [])) empty_here) (λ q. Lang (s.tail l) here q)
+    by_test : (o : BinaryOperator) → token.kind ≡ k.Sign (sign_of o) → (b : Bool) → eqb (precedence o) l ≡ b
+        → Keeps (cond b (begins r.Inner (s.bin (l + 1) ∷ s.tail l ∷ [])) empty_here) (λ q. Lang (s.tail l) here q)
     by_test o e true f = by_level o e (eqb-true (precedence o) l f)
     by_test o e false f = λ role σ g. absurd (cc)
 
@@ -359,7 +364,8 @@ module _ (token : Token) (ts : List Token) (past : Past Counts Limit) where
       (a.0, λ le. let level : unary_precedence - (unary_precedence - l) ≡ l = omega arith in subst (λ n. g.Bin n here a.0 q) level a.1)
 
   pub keeps_after_name : Keeps (s.after_name_next token.kind) (λ q. Lang s.behind_name here q)
-  keeps_after_name = keeps_optional _ _ (after_sign r.Opening j.OpenBracket (s.behind_bracket ∷ []) (λ q. Lang s.behind_name here q) (λ m q o more p1 n name. last s.behind_bracket m q more p1 here n name o))
+  keeps_after_name = keeps_optional _ _ (after_sign r.Opening j.OpenBracket (s.behind_bracket ∷ []) (λ q. Lang s.behind_name here q)
+      (λ m q o more p1 n name. last s.behind_bracket m q more p1 here n name o))
 
   pub keeps_after_bracket : Keeps (s.after_bracket_next token.kind) (λ q. Lang s.behind_bracket here q)
   keeps_after_bracket =
@@ -379,10 +385,14 @@ module _ (token : Token) (ts : List Token) (past : Past Counts Limit) where
       (after_sign r.Inner j.Colon _ (λ q. Lang s.behind_number here q) (λ m q colon more p1 p2 p3 n high name o number. slice p1 p2 p3 m q n high name o number colon more))
       (λ role σ e q more p1 p2 p3 n m name o number.
       index p1 p2 p3 q n m name o number
-      (keeps_firsts operands index_symbols
-      (slices_element, elements_append operands (tails 1) (s.choice ∷ s.sign r.Closing j.CloseBracket ∷ s.slices ∷ []) (tail_elements 8) (choice_element, (close_element, (slices_element, tt))))
+      (keeps_firsts operands index_symbols (
+        slices_element,
+        elements_append operands (tails 1) (s.choice ∷ s.sign r.Closing j.CloseBracket ∷ s.slices ∷ []) (tail_elements 8)
+            (choice_element, (close_element, (slices_element, tt))),
+      )
       role σ e q more)) where
-        slice : (p1 p2 p3 m q : Stage) (n : List ℕ) (high : ℕ) → IsName p1 r.Inner n p2 → IsSign p2 r.Opening j.OpenBracket p3 → IsNumber p3 r.Inner high here → IsSign here r.Inner j.Colon m
+        slice : (p1 p2 p3 m q : Stage) (n : List ℕ) (high : ℕ) → IsName p1 r.Inner n p2 → IsSign p2 r.Opening j.OpenBracket p3
+            → IsNumber p3 r.Inner high here → IsSign here r.Inner j.Colon m
             → Langs (s.number r.Inner ∷ s.sign r.Closing j.CloseBracket ∷ s.slices ∷ []) m q → (y : t.Expression) × g.Post p1 y q
         slice p1 p2 p3 m q n high name o number colon more =
             let a = more.2 in

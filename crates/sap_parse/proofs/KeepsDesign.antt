@@ -35,7 +35,8 @@ module _ (token : Token) (ts : List Token) (past : Past Counts Limit) where
   maybe = keeps_optional token ts past
 
   keeps_parts : Kept (next s.parts token.kind) (λ q. Lang s.parts At q)
-  keeps_parts = maybe _ _ (after_sign token ts past r.Inner j.Comma _ (λ q. Lang s.parts At q) (λ m q comma more. let xs = last s.parts more.0 q more.2 in (_, g.part comma more.1.1 xs.1)))
+  keeps_parts = maybe _ _ (after_sign token ts past r.Inner j.Comma _ (λ q. Lang s.parts At q) (λ m q comma more. let xs =
+      last s.parts more.0 q more.2 in (_, g.part comma more.1.1 xs.1)))
 
   -- tag expressions
 
@@ -43,7 +44,8 @@ module _ (token : Token) (ts : List Token) (past : Past Counts Limit) where
   keeps_tag_of = after_word token ts past r.Inner w.Tag _ _ (λ m q word more. let a = more.2 in (_, g.tag_of word more.1 a.1.1 (last (s.sign r.Closing j.CloseParen) a.0 q a.2)))
 
   keeps_level_at : Kept (s.level_at_next token.kind) (λ q. Lang s.level_at At q)
-  keeps_level_at = after_word token ts past r.Inner w.Level _ _ (λ m q word more. let a = more.2 in (_, g.level_at word more.1 a.1.1 (last (s.sign r.Closing j.CloseParen) a.0 q a.2)))
+  keeps_level_at = after_word token ts past r.Inner w.Level _ _ (λ m q word more. let a = more.2 in
+      (_, g.level_at word more.1 a.1.1 (last (s.sign r.Closing j.CloseParen) a.0 q a.2)))
 
   keeps_join : Kept (s.join_next token.kind) (λ q. Lang s.join At q)
   keeps_join = after_word token ts past r.Inner w.Join _ _ (λ m q word more.
@@ -56,7 +58,8 @@ module _ (token : Token) (ts : List Token) (past : Past Counts Limit) where
       (either (s.tag_of_next token.kind) _ _ keeps_tag_of (either (s.level_at_next token.kind) _ _ keeps_level_at keeps_join))
 
   keeps_texprs : Kept (next s.texprs token.kind) (λ q. Lang s.texprs At q)
-  keeps_texprs = maybe _ _ (after_sign token ts past r.Inner j.Comma _ (λ q. Lang s.texprs At q) (λ m q comma more. let xs = last s.texprs more.0 q more.2 in (_, g.tag comma more.1.1 xs.1)))
+  keeps_texprs = maybe _ _ (after_sign token ts past r.Inner j.Comma _ (λ q. Lang s.texprs At q) (λ m q comma more. let xs =
+      last s.texprs more.0 q more.2 in (_, g.tag comma more.1.1 xs.1)))
 
   -- commands
 
@@ -64,7 +67,8 @@ module _ (token : Token) (ts : List Token) (past : Past Counts Limit) where
   keeps_set_tag depth = after_word token ts past (r.Command depth) w.SetTag _ _ (λ m q word more.
       let a = more.2 in let b = a.2 in let c = b.2 in let d = c.2 in
       by_cell m more.0 a.0 b.0 c.0 d.0 q a.1.0 d.1.0 word more.1 a.1.1 b.1 c.1 d.1.1 (last (s.sign r.Plain j.CloseParen) d.0 q d.2)) where
-        by_cell : (p2 p3 p4 p5 p6 p7 q : Stage) (n : List ℕ) (x : t.TagExpression) → IsWord At (r.Command depth) w.SetTag p2 → IsSign p2 r.Plain j.OpenParen p3 → IsName p3 r.Plain n p4
+        by_cell : (p2 p3 p4 p5 p6 p7 q : Stage) (n : List ℕ) (x : t.TagExpression) → IsWord At (r.Command depth) w.SetTag p2
+            → IsSign p2 r.Plain j.OpenParen p3 → IsName p3 r.Plain n p4
             → Cell p4 p5 → IsSign p5 r.Plain j.Comma p6 → g.Texpr p6 x p7 → IsSign p7 r.Plain j.CloseParen q → (c : t.SimpleCommand) × g.Simple depth At c q
         by_cell p2 p3 p4 p5 p6 p7 q n x word o name no_cell comma h z = (_, g.set_tag word o name comma h z)
         by_cell p2 p3 p4 p5 p6 p7 q n x word o name (cell b i e) comma h z = (_, g.set_cell_tag word o name b i e comma h z)
@@ -77,7 +81,8 @@ module _ (token : Token) (ts : List Token) (past : Past Counts Limit) where
 
   keeps_simple : (depth : ℕ) → Kept (s.simple_next depth token.kind) (λ q. Lang (s.simple depth) At q)
   keeps_simple depth =
-      either (s.after_name (r.Command depth) (s.target ∷ []) token.kind) _ _ (after_name token ts past (r.Command depth) _ _ (λ m q n name more. last s.target m q more depth At n name))
+      either (s.after_name (r.Command depth) (s.target ∷ []) token.kind)
+      _ _ (after_name token ts past (r.Command depth) _ _ (λ m q n name more. last s.target m q more depth At n name))
       (either (s.set_tag_next depth token.kind) _ _ (keeps_set_tag depth) (either (s.goto_next depth token.kind) _ _ (keeps_goto depth) (keeps_fall depth)))
 
   keeps_target : Kept (s.target_next token.kind) (λ q. Lang s.target At q)
@@ -88,7 +93,8 @@ module _ (token : Token) (ts : List Token) (past : Past Counts Limit) where
       let a = more.2 in let b = a.2 in (_, g.write name o more.1.1 a.1 b.1 (last s.expr b.0 q b.2).1)))
 
   keeps_cell_part : Kept (s.cell_part_next token.kind) (λ q. Lang s.cell_part At q)
-  keeps_cell_part = maybe _ _ (after_sign token ts past r.Plain j.OpenBracket _ (λ q. Lang s.cell_part At q) (λ m q o more. cell o more.1.1 (last (s.sign r.Plain j.CloseBracket) more.0 q more.2)))
+  keeps_cell_part = maybe _ _ (after_sign token ts past r.Plain j.OpenBracket _ (λ q. Lang s.cell_part At q)
+      (λ m q o more. cell o more.1.1 (last (s.sign r.Plain j.CloseBracket) more.0 q more.2)))
 
   keeps_if : (depth : ℕ) → Kept (s.if_next depth token.kind) (λ q. Lang (s.if_command depth) At q)
   keeps_if depth = after_word token ts past (r.Command depth) w.If _ _ (λ m q word more.
@@ -103,7 +109,8 @@ module _ (token : Token) (ts : List Token) (past : Past Counts Limit) where
 
   keeps_constants : Kept (s.constants_next token.kind) (λ q. Lang s.constants At q)
   keeps_constants =
-      maybe _ _ (after_sign token ts past r.Plain j.Comma _ (λ q. Lang s.constants At q) (λ m q comma more. let xs = last s.constants more.0 q more.2 in (_, g.constant comma more.1.1 xs.1)))
+      maybe _ _ (after_sign token ts past r.Plain j.Comma _ (λ q. Lang s.constants At q) (λ m q comma more. let xs =
+      last s.constants more.0 q more.2 in (_, g.constant comma more.1.1 xs.1)))
 
   keeps_arm : (depth : ℕ) → Kept (s.arm_next depth token.kind) (λ q. Lang (s.arm depth) At q)
   keeps_arm depth = more_of (s.constant_next token.kind) (s.constants ∷ s.sign r.Plain j.Colon ∷ s.block depth ∷ []) _ (λ q. Lang (s.arm depth) At q) keeps_constant
@@ -112,7 +119,8 @@ module _ (token : Token) (ts : List Token) (past : Past Counts Limit) where
   keeps_arms : (depth : ℕ) → Kept (s.arms_next depth token.kind) (λ q. Lang (s.arms depth) At q)
   keeps_arms depth =
       either (push (s.arm_next depth token.kind) (s.arms depth ∷ [])) _ _
-      (more_of (s.arm_next depth token.kind) (s.arms depth ∷ []) _ (λ q. Lang (s.arms depth) At q) (keeps_arm depth) (λ m q a more. let rest = last (s.arms depth) m q more in (_, g.and_arm a.2 rest.1)))
+      (more_of (s.arm_next depth token.kind) (s.arms depth ∷ []) _ (λ q. Lang (s.arms depth) At q) (keeps_arm depth)
+      (λ m q a more. let rest = last (s.arms depth) m q more in (_, g.and_arm a.2 rest.1)))
       (after_word token ts past r.Plain w.Else _ (λ q. Lang (s.arms depth) At q) (λ m q word more. (_, g.last word (last (s.block depth) m q more).1)))
 
   keeps_case : (depth : ℕ) → Kept (s.case_next depth token.kind) (λ q. Lang (s.case_command depth) At q)
@@ -123,7 +131,8 @@ module _ (token : Token) (ts : List Token) (past : Past Counts Limit) where
   keeps_cmd : (depth : ℕ) → Kept (s.cmd_next depth token.kind) (λ q. Lang (s.cmd depth) At q)
   keeps_cmd depth =
       either (push (s.simple_next depth token.kind) (s.ending depth ∷ [])) _ _
-      (more_of (s.simple_next depth token.kind) (s.ending depth ∷ []) _ (λ q. Lang (s.cmd depth) At q) (keeps_simple depth) (λ m q c more. last (s.ending depth) m q more At c.0 c.1))
+      (more_of (s.simple_next depth token.kind) (s.ending depth ∷ []) _ (λ q. Lang (s.cmd depth) At q) (keeps_simple depth)
+      (λ m q c more. last (s.ending depth) m q more At c.0 c.1))
       (either (s.if_next depth token.kind) _ _ (keeps_if depth) (keeps_case depth))
 
   keeps_ending : (depth : ℕ) → Kept (s.ending_next depth token.kind) (λ q. Lang (s.ending depth) At q)
@@ -135,7 +144,8 @@ module _ (token : Token) (ts : List Token) (past : Past Counts Limit) where
       let a = more.2 in (_, g.decided h word more.1.1 a.1 (last (s.block (depth + 1)) a.0 q a.2).1))))
 
   keeps_else : (depth : ℕ) → Kept (s.else_next depth token.kind) (λ q. Lang (s.else_part depth) At q)
-  keeps_else depth = maybe _ _ (after_word token ts past r.Plain w.Else _ (λ q. Lang (s.else_part depth) At q) (λ m q word more. (_, g.else word (last (s.block depth) m q more).1)))
+  keeps_else depth = maybe _ _ (after_word token ts past r.Plain w.Else _ (λ q. Lang (s.else_part depth) At q)
+      (λ m q word more. (_, g.else word (last (s.block depth) m q more).1)))
 
   keeps_block : (depth : ℕ) → Kept (s.block_next depth token.kind) (λ q. Lang (s.block depth) At q)
   keeps_block depth = after_sign token ts past r.Plain j.OpenBrace _ _ (λ m q o more. (_, g.block o more.1.1 (last (s.sign r.Plain j.CloseBrace) more.0 q more.2)))
@@ -147,7 +157,8 @@ module _ (token : Token) (ts : List Token) (past : Past Counts Limit) where
   -- kinds and declarations
 
   keeps_authority : Kept (s.authority_next token.kind) (λ q. Lang s.authority At q)
-  keeps_authority = maybe _ _ (after_word token ts past r.Plain w.Under _ (λ q. Lang s.authority At q) (λ m q word more. (_, g.authority word (last (s.any_name r.Plain) m q more).1)))
+  keeps_authority = maybe _ _ (after_word token ts past r.Plain w.Under _ (λ q. Lang s.authority At q)
+      (λ m q word more. (_, g.authority word (last (s.any_name r.Plain) m q more).1)))
 
   keeps_enforced : Kept (s.enforced_next token.kind) (λ q. Lang s.enforced At q)
   keeps_enforced = after_word token ts past r.Plain w.Enforced _ _ (λ m q word more. (_, g.enforced word more.1.1 (last s.authority more.0 q more.2).1))
@@ -195,7 +206,8 @@ module _ (token : Token) (ts : List Token) (past : Past Counts Limit) where
       (λ m q x more. let xs = last s.last_states m q more in (_, g.and_state x.1 xs.1))
 
   keeps_header : Kept (s.header_next token.kind) (λ q. Lang s.header At q)
-  keeps_header = maybe _ _ (after_word token ts past r.Plain w.Sapper _ (λ q. Lang s.header At q) (λ m q word more. (_, g.header word more.1 (last (s.sign r.Plain j.Semicolon) more.0 q more.2))))
+  keeps_header = maybe _ _ (after_word token ts past r.Plain w.Sapper _ (λ q. Lang s.header At q)
+      (λ m q word more. (_, g.header word more.1 (last (s.sign r.Plain j.Semicolon) more.0 q more.2))))
 
   keeps_design : Kept (next s.design token.kind) (λ q. Lang s.design At q)
   keeps_design role σ e q more =
@@ -204,7 +216,8 @@ module _ (token : Token) (ts : List Token) (past : Past Counts Limit) where
         (
           element token ts past (s.part_next token.kind) s.declarations keeps_declarations (λ e. nothing s.declarations refl At),
           (
-            element token ts past (s.part_next token.kind) (s.state 1) (keeps_state 1) (λ e. absurd (push_full (next (s.word (r.State 1) w.State) token.kind) _ (word_full leniently (r.State 1) w.State token.kind) e)),
+            element token ts past (s.part_next token.kind) (s.state 1) (keeps_state 1)
+                (λ e. absurd (push_full (next (s.word (r.State 1) w.State) token.kind) _ (word_full leniently (r.State 1) w.State token.kind) e)),
             (element token ts past (s.part_next token.kind) s.last_states keeps_last_states (λ e. nothing s.last_states refl At), tt),
           ),
         ),

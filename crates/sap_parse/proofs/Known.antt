@@ -34,8 +34,16 @@ pub stands_here : (p : Stage) (role : Role) (kind : Kind) → first_kind p ≡ S
 stands_here p role kind e = by_left p.left refl where
   by_left : (left : List Token) → p.left ≡ left → (q : Stage) × IsToken p role kind q
   by_left [] none = absurd (let z : None ≡ Some kind = sym (ap kind_in none) ∙ e in cc)
-  by_left (t ∷ ts) some =
-      (record { past = passed tally breach role t p.past; left = ts }, record { token = t; left = some; past = refl; is = let z : Some t.kind ≡ Some kind = sym (ap kind_in some) ∙ e in cc })
+  by_left (t ∷ ts) some = (
+    record { past = passed tally breach role t p.past; left = ts },
+    record {
+      token = t;
+      left = some;
+      past = refl;
+      is =
+          let z : Some t.kind ≡ Some kind = sym (ap kind_in some) ∙ e in cc;
+    },
+  )
 
 -- the walk that goes past each limit
 abbrev pub R : Symbol → Stage → Outcome
@@ -118,7 +126,8 @@ skipped x p e row = by_left p.left refl where
   by_left : (left : List Token) → p.left ≡ left → R x p ≡ Ok p
   by_left [] none = ap (λ l. R x (record { past = p.past; left = l })) none ∙ read_empty (table leniently) x p.past e ∙ ap (λ l. Ok (record { past = p.past; left = l })) (sym none)
   by_left (t ∷ ts) some =
-      ap (λ l. R x (record { past = p.past; left = l })) some ∙ read_skip (table leniently) x t ts p.past (row t.kind (ap kind_in some)) ∙ ap (λ l. Ok (record { past = p.past; left = l })) (sym some)
+      ap (λ l. R x (record { past = p.past; left = l })) some ∙ read_skip (table leniently) x t ts p.past (row t.kind (ap kind_in some))
+      ∙ ap (λ l. Ok (record { past = p.past; left = l })) (sym some)
 
 -- what is read, and may not be empty, takes the first token
 

@@ -109,11 +109,13 @@ module _ (enter : Enter) where
     by_tokens (t ∷ ts) some = by_left p s t ts some ∙ read_skip W s t ts p.past (h t ts some) ∙ ap (λ l. Ok (record { past = p.past; left = l })) (sym some)
 
   -- where it can't begin s
-  pub stops : (s : Symbol) → may_be_empty s ≡ false → (p : Stage) → ((t : Token) (ts : List Token) → p.left ≡ t ∷ ts → next s t.kind ≡ cannot_stand) → read_by enter s p ≡ Err (at_token p)
+  pub stops : (s : Symbol) → may_be_empty s ≡ false → (p : Stage)
+      → ((t : Token) (ts : List Token) → p.left ≡ t ∷ ts → next s t.kind ≡ cannot_stand) → read_by enter s p ≡ Err (at_token p)
   unfolding read_by
   stops s e p h = by_tokens p.left refl where
     by_tokens : (left : List Token) → p.left ≡ left → read_by enter s p ≡ Err (at_token p)
-    by_tokens [] none = ap (λ l. read_by enter s (record { past = p.past; left = l })) none ∙ read_end W s p.past e ∙ ap (λ l. Err (at_token (record { past = p.past; left = l }))) (sym none)
+    by_tokens [] none = ap (λ l. read_by enter s (record { past = p.past; left = l })) none ∙ read_end W s p.past e
+        ∙ ap (λ l. Err (at_token (record { past = p.past; left = l }))) (sym none)
     by_tokens (t ∷ ts) some = by_left p s t ts some ∙ read_stop W s t ts p.past (h t ts some) ∙ ap (λ l. Err (at_token (record { past = p.past; left = l }))) (sym some)
 
   pub stops_at : (s : Symbol) (p : Stage) (t : Token) (ts : List Token) → p.left ≡ t ∷ ts → next s t.kind ≡ cannot_stand → read_by enter s p ≡ Err (at_token p)
@@ -173,18 +175,24 @@ module _ (enter : Enter) where
       → (p : Stage) → ahead p.left ≡ a.Sign x → read_by enter whole p ≡ steps_by enter (s.sign role x ∷ σ) p
   sign_there whole role x σ h p e =
       let t = stands p e (λ h. absurd (cc)) in
-      step_at whole (s.sign role x) σ p t.0 t.1 t.2 (h t.0.kind ∙ optional_take (next (s.sign role x) t.0.kind) role σ (next_sign role x t.0.kind (kind_ahead t.0.kind x t.3))) (sign_full role x t.0.kind)
+      step_at whole (s.sign role x) σ p t.0 t.1 t.2 (h t.0.kind
+      ∙ optional_take (next (s.sign role x) t.0.kind) role σ (next_sign role x t.0.kind (kind_ahead t.0.kind x t.3))) (sign_full role x t.0.kind)
 
-  pub sign_missing : (whole : Symbol) (role : Role) (x : SignOf) (σ : List Symbol) → ((i : Kind) → next whole i ≡ optional (push (next (s.sign role x) i) σ)) → may_be_empty whole ≡ true
+  pub sign_missing : (whole : Symbol) (role : Role) (x : SignOf) (σ : List Symbol)
+      → ((i : Kind) → next whole i ≡ optional (push (next (s.sign role x) i) σ)) → may_be_empty whole ≡ true
       → (p : Stage) → ahead p.left ≢ a.Sign x → read_by enter whole p ≡ Ok p
-  sign_missing whole role x σ h e p ne = skips whole e p (λ t ts left. h t.kind ∙ optional_stop (next (s.sign role x) t.kind) σ (next_not_sign role x t.kind (λ same. ne (ahead_back t ts same left))))
+  sign_missing whole role x σ h e p ne = skips whole e p (λ t ts left. h t.kind
+      ∙ optional_stop (next (s.sign role x) t.kind) σ (next_not_sign role x t.kind (λ same. ne (ahead_back t ts same left))))
 
   pub word_there : (whole : Symbol) (role : Role) (x : WordOf) (σ : List Symbol) → ((i : Kind) → next whole i ≡ optional (push (next (s.word role x) i) σ))
       → (p : Stage) → ahead p.left ≡ a.Word x → read_by enter whole p ≡ steps_by enter (s.word role x ∷ σ) p
   word_there whole role x σ h p e =
       let t = stands p e (λ h. absurd (cc)) in
-      step_at whole (s.word role x) σ p t.0 t.1 t.2 (h t.0.kind ∙ optional_take (next (s.word role x) t.0.kind) role σ (next_word role x t.0.kind (word_kind_ahead t.0.kind x t.3))) (word_full role x t.0.kind)
+      step_at whole (s.word role x) σ p t.0 t.1 t.2 (h t.0.kind
+      ∙ optional_take (next (s.word role x) t.0.kind) role σ (next_word role x t.0.kind (word_kind_ahead t.0.kind x t.3))) (word_full role x t.0.kind)
 
-  pub word_missing : (whole : Symbol) (role : Role) (x : WordOf) (σ : List Symbol) → ((i : Kind) → next whole i ≡ optional (push (next (s.word role x) i) σ)) → may_be_empty whole ≡ true
+  pub word_missing : (whole : Symbol) (role : Role) (x : WordOf) (σ : List Symbol)
+      → ((i : Kind) → next whole i ≡ optional (push (next (s.word role x) i) σ)) → may_be_empty whole ≡ true
       → (p : Stage) → ahead p.left ≢ a.Word x → read_by enter whole p ≡ Ok p
-  word_missing whole role x σ h e p ne = skips whole e p (λ t ts left. h t.kind ∙ optional_stop (next (s.word role x) t.kind) σ (next_not_word role x t.kind (λ same. ne (ahead_back t ts same left))))
+  word_missing whole role x σ h e p ne = skips whole e p (λ t ts left. h t.kind
+      ∙ optional_stop (next (s.word role x) t.kind) σ (next_not_word role x t.kind (λ same. ne (ahead_back t ts same left))))

@@ -69,7 +69,8 @@ pub fault_unexpected : (text : List ℕ) (ts : List Token) (p : Stage) → lengt
     → IsReadFault text (f.E2 (fault_place text p.left))
 fault_unexpected text ts p fits lexed e = unexpected fits lexed (unexpected_there ts p e) (λ rest limit o. token_or_limit e (stops_over ts rest limit o).1)
 
-pub fault_over : (text : List ℕ) (ts : List Token) (p : Stage) (limit : Limit) → length text ≤ most_bytes → AreTokens text ts → reads s.design (at_start ts) ≡ Err (at_limit limit p)
+pub fault_over : (text : List ℕ) (ts : List Token) (p : Stage) (limit : Limit) → length text ≤ most_bytes → AreTokens text ts
+    → reads s.design (at_start ts) ≡ Err (at_limit limit p)
     → IsReadFault text (f.E18 (fault_place text p.left) limit)
 fault_over text ts p limit fits lexed e = over fits lexed (over_there ts p limit e)
 
@@ -99,13 +100,15 @@ text_whole text x t =
     let fits = t.fits in
     design_is_whole text t.tokens x (omega (arith, few, fits)) (texts_are text t.tokens t.lexed) t.whole
 
-pub fault_at_token : {A : Type 0} (text : List ℕ) (ts : List Token) (p q : Stage) (place : Place) (r : Result A Fault) → length text ≤ most_bytes → AreTokens text ts → p ≡ at_start ts
+pub fault_at_token : {A : Type 0} (text : List ℕ) (ts : List Token) (p q : Stage) (place : Place) (r : Result A Fault)
+    → length text ≤ most_bytes → AreTokens text ts → p ≡ at_start ts
     → Goes s.design p r q → r ≡ Err h.Token → place ≡ fault_place text q.left → IsReadFault text (f.E2 place)
 fault_at_token text ts p q place r fits lexed start goes is there =
     let stops : reads s.design p ≡ Err (at_token q) = subst (λ r. Goes s.design p r q) is goes in
     subst (λ l. IsReadFault text (f.E2 l)) (sym there) (fault_unexpected text ts q fits lexed (ap (reads s.design) (sym start) ∙ stops))
 
-pub fault_at_limit : {A : Type 0} (text : List ℕ) (ts : List Token) (p q : Stage) (place : Place) (limit : Limit) (r : Result A Fault) → length text ≤ most_bytes → AreTokens text ts
+pub fault_at_limit : {A : Type 0} (text : List ℕ) (ts : List Token) (p q : Stage) (place : Place) (limit : Limit) (r : Result A Fault)
+    → length text ≤ most_bytes → AreTokens text ts
     → p ≡ at_start ts → Goes s.design p r q → r ≡ Err (h.Limit limit) → place ≡ fault_place text q.left → IsReadFault text (f.E18 place limit)
 fault_at_limit text ts p q place limit r fits lexed start goes is there =
     let stops : reads s.design p ≡ Err (at_limit limit q) = subst (λ r. Goes s.design p r q) is goes in

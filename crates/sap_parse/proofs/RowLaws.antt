@@ -28,7 +28,8 @@ pub row_then : (σ τ : List Symbol) (p : Stage) → steps_by strictly (σ ++ τ
 unfolding reads_row
 row_then [] τ p = refl
 row_then (x ∷ σ) τ p =
-    bind_same (reads x p) (steps_by strictly (σ ++ τ)) (λ q. steps_by strictly σ q >>= steps_by strictly τ) (row_then σ τ) ∙ sym (bind_bind (reads x p) (steps_by strictly σ) (steps_by strictly τ))
+    bind_same (reads x p) (steps_by strictly (σ ++ τ)) (λ q. steps_by strictly σ q >>= steps_by strictly τ) (row_then σ τ)
+    ∙ sym (bind_bind (reads x p) (steps_by strictly σ) (steps_by strictly τ))
 
 -- two rows, one behind the other
 pub row_row : (σ τ : List Symbol) (p : Stage) → steps_by strictly (σ ++ τ) p ≡ (reads_row σ p >>= reads_row τ)
@@ -42,7 +43,8 @@ first_row_row x σ τ p = bind_same (reads x p) (steps_by strictly (σ ++ τ)) (
 pub paren_row : (p : Stage) → reads s.paren p ≡ reads_row (between_row r.Opening j.OpenParen r.Closing j.CloseParen) p
 paren_row p = paren_steps strictly p ∙ sym (row_steps _ p)
 
-pub choice_row : (p : Stage) → ahead p.left ≡ a.Sign j.Question → reads s.choice p ≡ (reads_row (between_row r.Inner j.Question r.Inner j.Colon) p >>= steps_by strictly (s.expr ∷ []))
+pub choice_row : (p : Stage) → ahead p.left ≡ a.Sign j.Question
+    → reads s.choice p ≡ (reads_row (between_row r.Inner j.Question r.Inner j.Colon) p >>= steps_by strictly (s.expr ∷ []))
 choice_row p e = choice_there strictly p e ∙ row_then (between_row r.Inner j.Question r.Inner j.Colon) (s.expr ∷ []) p
 
 pub zext_row : (p : Stage)

@@ -42,15 +42,27 @@ refused : (s : Symbol) (p : Stage) → may_be_empty s ≡ false → ((t : Token)
 unfolding read_by strictly
 refused s p full h = by_left p.left refl where
   by_left : (left : List Token) → p.left ≡ left → reads s p ≡ Err (at_token p)
-  by_left [] e = ap (λ l. reads s (record { past = p.past; left = l })) e ∙ read_end (table strictly) s p.past full ∙ ap (λ l. Err (at_token (record { past = p.past; left = l }))) (sym e)
+  by_left [] e = ap (λ l. reads s (record { past = p.past; left = l })) e ∙ read_end (table strictly) s p.past full
+      ∙ ap (λ l. Err (at_token (record { past = p.past; left = l }))) (sym e)
   by_left (t ∷ ts) e =
-      ap (λ l. reads s (record { past = p.past; left = l })) e ∙ read_stop (table strictly) s t ts p.past (h t ts e) ∙ ap (λ l. Err (at_token (record { past = p.past; left = l }))) (sym e)
+      ap (λ l. reads s (record { past = p.past; left = l })) e ∙ read_stop (table strictly) s t ts p.past (h t ts e)
+      ∙ ap (λ l. Err (at_token (record { past = p.past; left = l }))) (sym e)
 
 pub same_number : (n : ℕ) → (n == n) ≡ true
 same_number n = grind (arith, nat_tests)
 
 pub sign_by : ℕ → SignOf
-sign_by n = if n == 0 then s.Becomes else (if n == 1 then s.Equal else (if n == 2 then s.NotEqual else (if n == 3 then s.LessOrEqual else (if n == 4 then s.ShiftLeft else (if n == 5 then s.ShiftRight else (if n == 6 then s.OpenParen else (if n == 7 then s.CloseParen else (if n == 8 then s.OpenBrace else (if n == 9 then s.CloseBrace else (if n == 10 then s.OpenBracket else (if n == 11 then s.CloseBracket else (if n == 12 then s.Colon else (if n == 13 then s.Semicolon else (if n == 14 then s.Comma else (if n == 15 then s.Question else (if n == 16 then s.Is else (if n == 17 then s.Less else (if n == 18 then s.Plus else (if n == 19 then s.Minus else (if n == 20 then s.Star else (if n == 21 then s.Ampersand else (if n == 22 then s.Bar else (if n == 23 then s.Caret else (s.Tilde))))))))))))))))))))))))
+sign_by n = if n == 0 then s.Becomes else (if n ==
+    1 then s.Equal else (if n == 2 then s.NotEqual else (if n ==
+    3 then s.LessOrEqual else (if n == 4 then s.ShiftLeft else (if n ==
+    5 then s.ShiftRight else (if n == 6 then s.OpenParen else (if n ==
+    7 then s.CloseParen else (if n == 8 then s.OpenBrace else (if n ==
+    9 then s.CloseBrace else (if n == 10 then s.OpenBracket else (if n ==
+    11 then s.CloseBracket else (if n == 12 then s.Colon else (if n ==
+    13 then s.Semicolon else (if n == 14 then s.Comma else (if n ==
+    15 then s.Question else (if n == 16 then s.Is else (if n ==
+    17 then s.Less else (if n == 18 then s.Plus else (if n ==
+    19 then s.Minus else (if n == 20 then s.Star else (if n == 21 then s.Ampersand else (if n == 22 then s.Bar else (if n == 23 then s.Caret else (s.Tilde))))))))))))))))))))))))
 
 pub sign_back : (x : SignOf) → sign_by (sign_number x) ≡ x
 unfolding sign_by
@@ -87,7 +99,15 @@ signs_apart x y ne = by_test (sign_number x == sign_number y) refl where
   by_test false e = refl
 
 word_by : ℕ → WordOf
-word_by n = if n == 0 then w.Input else (if n == 1 then w.Reg else (if n == 2 then w.Mem else (if n == 3 then w.State else (if n == 4 then w.Dynamic else (if n == 5 then w.Enforced else (if n == 6 then w.Under else (if n == 7 then w.If else (if n == 8 then w.Else else (if n == 9 then w.Goto else (if n == 10 then w.Fall else (if n == 11 then w.SetTag else (if n == 12 then w.Otherwise else (if n == 13 then w.Tag else (if n == 14 then w.Level else (if n == 15 then w.Join else (if n == 16 then w.Zext else (if n == 17 then w.Then else (if n == 18 then w.Case else (if n == 19 then w.Sapper else (w.Two))))))))))))))))))))
+word_by n = if n == 0 then w.Input else (if n ==
+    1 then w.Reg else (if n == 2 then w.Mem else (if n ==
+    3 then w.State else (if n == 4 then w.Dynamic else (if n ==
+    5 then w.Enforced else (if n == 6 then w.Under else (if n ==
+    7 then w.If else (if n == 8 then w.Else else (if n ==
+    9 then w.Goto else (if n == 10 then w.Fall else (if n ==
+    11 then w.SetTag else (if n == 12 then w.Otherwise else (if n ==
+    13 then w.Tag else (if n == 14 then w.Level else (if n ==
+    15 then w.Join else (if n == 16 then w.Zext else (if n == 17 then w.Then else (if n == 18 then w.Case else (if n == 19 then w.Sapper else (w.Two))))))))))))))))))))
 
 word_back : (x : WordOf) → word_by (word_number x) ≡ x
 unfolding word_by

@@ -155,7 +155,8 @@ nothing (s.state depth) e p = absurd (cc)
 nothing s.design e p = absurd (cc)
 
 -- the operators behind an operand
-pub operators : (n : ℕ) (p m q : Stage) (x : t.Expression) → n ≤ unary_precedence → g.Bin unary_precedence p x m → Langs (tightest n) m q → (y : t.Expression) × g.Bin (unary_precedence - n) p y q
+pub operators : (n : ℕ) (p m q : Stage) (x : t.Expression) → n ≤ unary_precedence → g.Bin unary_precedence p x m → Langs (tightest n) m q
+    → (y : t.Expression) × g.Bin (unary_precedence - n) p y q
 operators zero p m q x le h more = (x, subst (λ r. g.Bin unary_precedence p x r) more h)
 operators (suc n) p m q x le h more =
     let c = split W Lang (tightest n) (s.tail (unary_precedence - suc n) ∷ []) m q more in

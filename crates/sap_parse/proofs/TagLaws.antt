@@ -21,11 +21,13 @@ module _ (enter : Enter) where
   pub tag_of_steps : (p : Stage) → read_by enter s.tag_of p ≡ steps_by enter (s.word r.Inner w.Tag ∷ s.sign r.Opening j.OpenParen ∷ s.expr ∷ s.sign r.Closing j.CloseParen ∷ []) p
   tag_of_steps = word_then enter s.tag_of r.Inner w.Tag _ (λ i. refl) refl
 
-  pub level_at_steps : (p : Stage) → read_by enter s.level_at p ≡ steps_by enter (s.word r.Inner w.Level ∷ s.sign r.Opening j.OpenParen ∷ s.expr ∷ s.sign r.Closing j.CloseParen ∷ []) p
+  pub level_at_steps : (p : Stage) → read_by enter s.level_at p
+      ≡ steps_by enter (s.word r.Inner w.Level ∷ s.sign r.Opening j.OpenParen ∷ s.expr ∷ s.sign r.Closing j.CloseParen ∷ []) p
   level_at_steps = word_then enter s.level_at r.Inner w.Level _ (λ i. refl) refl
 
   pub join_steps : (p : Stage)
-      → read_by enter s.join p ≡ steps_by enter (s.word r.Inner w.Join ∷ s.sign r.Opening j.OpenParen ∷ s.texpr ∷ s.sign r.Inner j.Comma ∷ s.texpr ∷ s.texprs ∷ s.sign r.Closing j.CloseParen ∷ []) p
+      → read_by enter s.join p ≡ steps_by enter (s.word r.Inner w.Join ∷ s.sign r.Opening j.OpenParen ∷ s.texpr ∷ s.sign r.Inner j.Comma
+      ∷ s.texpr ∷ s.texprs ∷ s.sign r.Closing j.CloseParen ∷ []) p
   join_steps = word_then enter s.join r.Inner w.Join _ (λ i. refl) refl
 
   pub texprs_there : (p : Stage) → ahead p.left ≡ a.Sign j.Comma → read_by enter s.texprs p ≡ steps_by enter (s.sign r.Inner j.Comma ∷ s.texpr ∷ s.texprs ∷ []) p
@@ -103,16 +105,20 @@ module _ (enter : Enter) where
   row_neither (k.Word _) e = refl
 
   pub texpr_name : (p : Stage) → tag_head (ahead p.left) ≡ h.Name → read_by enter s.texpr p ≡ read_by enter (s.any_name r.Inner) p
-  texpr_name p e = same_row enter s.texpr (s.any_name r.Inner) p (name_full enter r.Inner) refl refl (λ t ts left. row_name t.kind (front_by enter tag_head p t ts h.Name e left)) (some_head p h.Name e (λ g. absurd (cc)))
+  texpr_name p e = same_row enter s.texpr (s.any_name r.Inner) p (name_full enter r.Inner) refl refl
+      (λ t ts left. row_name t.kind (front_by enter tag_head p t ts h.Name e left)) (some_head p h.Name e (λ g. absurd (cc)))
 
   pub texpr_tag : (p : Stage) → tag_head (ahead p.left) ≡ h.Tag → read_by enter s.texpr p ≡ read_by enter s.tag_of p
-  texpr_tag p e = same_row enter s.texpr s.tag_of p tag_of_full refl refl (λ t ts left. row_tag t.kind (front_by enter tag_head p t ts h.Tag e left)) (some_head p h.Tag e (λ g. absurd (cc)))
+  texpr_tag p e = same_row enter s.texpr s.tag_of p tag_of_full refl refl
+      (λ t ts left. row_tag t.kind (front_by enter tag_head p t ts h.Tag e left)) (some_head p h.Tag e (λ g. absurd (cc)))
 
   pub texpr_level : (p : Stage) → tag_head (ahead p.left) ≡ h.Level → read_by enter s.texpr p ≡ read_by enter s.level_at p
-  texpr_level p e = same_row enter s.texpr s.level_at p level_at_full refl refl (λ t ts left. row_level t.kind (front_by enter tag_head p t ts h.Level e left)) (some_head p h.Level e (λ g. absurd (cc)))
+  texpr_level p e = same_row enter s.texpr s.level_at p level_at_full refl refl
+      (λ t ts left. row_level t.kind (front_by enter tag_head p t ts h.Level e left)) (some_head p h.Level e (λ g. absurd (cc)))
 
   pub texpr_join : (p : Stage) → tag_head (ahead p.left) ≡ h.Join → read_by enter s.texpr p ≡ read_by enter s.join p
-  texpr_join p e = same_row enter s.texpr s.join p join_full refl refl (λ t ts left. row_join t.kind (front_by enter tag_head p t ts h.Join e left)) (some_head p h.Join e (λ g. absurd (cc)))
+  texpr_join p e = same_row enter s.texpr s.join p join_full refl refl
+      (λ t ts left. row_join t.kind (front_by enter tag_head p t ts h.Join e left)) (some_head p h.Join e (λ g. absurd (cc)))
 
   pub texpr_neither : (p : Stage) → tag_head (ahead p.left) ≡ h.Neither → read_by enter s.texpr p ≡ Err (at_token p)
   texpr_neither p e = stops enter s.texpr refl p (λ t ts left. row_neither t.kind (front_by enter tag_head p t ts h.Neither e left))

@@ -16,16 +16,20 @@ use Rattle.sap_tree.specs.declared.syntax.TagExpr.{TagExpr}
 pub level_tree : {p q : Stage} {n : Mention} {x : t.TagExpression} → IsName p r.Inner n.name q → n ≡ mention p n.name → x ≡ t.level_of n → g.Texpr p x q
 level_tree {p = p} {q = q} a at made = subst (λ x. g.Texpr p x q) (sym (made ∙ ap (λ n. t.level_of n) at)) (g.level a)
 
-pub tag_tree : {p q : Stage} {e : t.Expression} {x : t.TagExpression} {place : Place} → Asked r.Inner w.Tag r.Opening r.Closing p e q → place ≡ here p → x ≡ t.tag_at place e → g.Texpr p x q
+pub tag_tree : {p q : Stage} {e : t.Expression} {x : t.TagExpression} {place : Place} → Asked r.Inner w.Tag r.Opening r.Closing p e q
+    → place ≡ here p → x ≡ t.tag_at place e → g.Texpr p x q
 tag_tree {p = p} {q = q} {e = e} (asked a (between b c d)) at made = subst (λ x. g.Texpr p x q) (sym (made ∙ ap (λ place. t.tag_at place e) at)) (g.tag_of a b c d)
 
-pub level_at_tree : {p q : Stage} {e : t.Expression} {x : t.TagExpression} {place : Place} → Asked r.Inner w.Level r.Opening r.Closing p e q → place ≡ here p → x ≡ t.level_at place e → g.Texpr p x q
+pub level_at_tree : {p q : Stage} {e : t.Expression} {x : t.TagExpression} {place : Place} → Asked r.Inner w.Level r.Opening r.Closing p e q
+    → place ≡ here p → x ≡ t.level_at place e → g.Texpr p x q
 level_at_tree {p = p} {q = q} {e = e} (asked a (between b c d)) at made = subst (λ x. g.Texpr p x q) (sym (made ∙ ap (λ place. t.level_at place e) at)) (g.level_at a b c d)
 
 pub join_tree : {p1 p2 p3 p4 p5 p6 p7 q : Stage} {x y z : t.TagExpression} {xs all : t.TagExpressions} {place : Place}
-    → IsWord p1 r.Inner w.Join p2 → IsSign p2 r.Opening s.OpenParen p3 → g.Texpr p3 x p4 → IsSign p4 r.Inner s.Comma p5 → g.Texpr p5 y p6 → g.Texprs p6 xs p7 → IsSign p7 r.Closing s.CloseParen q
+    → IsWord p1 r.Inner w.Join p2 → IsSign p2 r.Opening s.OpenParen p3 → g.Texpr p3 x p4 → IsSign p4 r.Inner s.Comma p5 → g.Texpr p5 y p6
+    → g.Texprs p6 xs p7 → IsSign p7 r.Closing s.CloseParen q
     → place ≡ here p1 → all ≡ t.and_tag x (t.and_tag y xs) → z ≡ t.join_of place all → g.Texpr p1 z q
-join_tree {p1 = p1} {q = q} {all = all} a b c d e f h at items made = subst (λ z. g.Texpr p1 z q) (sym (made ∙ ap (λ place. t.join_of place all) at ∙ ap (λ xs. t.join_of (here p1) xs) items)) (g.join a b c d e f h)
+join_tree {p1 = p1} {q = q} {all = all} a b c d e f h at items made =
+    subst (λ z. g.Texpr p1 z q) (sym (made ∙ ap (λ place. t.join_of place all) at ∙ ap (λ xs. t.join_of (here p1) xs) items)) (g.join a b c d e f h)
 
 pub join_tags_push : (xs : List TagExpr) (x : TagExpr) (ys : t.TagExpressions) → join_tags (tags_of (xs ++ x ∷ [])) ys ≡ join_tags (tags_of xs) (t.and_tag (tag_of x) ys)
 join_tags_push [] x ys = refl

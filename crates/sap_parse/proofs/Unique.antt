@@ -270,7 +270,8 @@ bounds_one e (g.bounds o n c m z) (g.bounds o' n' c' m' z') =
     let e4 = same_behind e3 c c' in
     (number_same (same_token e2 n n'), number_same (same_token e4 m m'))
 
-cuts_one : {p p' q q' : Stage} {x x' y y' : t.Expression} → p ≡ p' → x ≡ x' → g.Cuts x p y q → g.Cuts x' p' y' q' → first_kind q ≢ Some (k.Sign j.OpenBracket) → first_kind q' ≢ Some (k.Sign j.OpenBracket) → y ≡ y'
+cuts_one : {p p' q q' : Stage} {x x' y y' : t.Expression} → p ≡ p' → x ≡ x' → g.Cuts x p y q → g.Cuts x' p' y' q'
+    → first_kind q ≢ Some (k.Sign j.OpenBracket) → first_kind q' ≢ Some (k.Sign j.OpenBracket) → y ≡ y'
 cuts_one e f g.no_cut g.no_cut h h' = f
 cuts_one e f g.no_cut (g.cut b c) h h' = absurd (h (ap first_kind e ∙ bounds_first b))
 cuts_one e f (g.cut b c) g.no_cut h h' = absurd (h' (sym (ap first_kind e) ∙ bounds_first b))
@@ -305,17 +306,21 @@ mutual
       let m = same_rest (s.bin (l + 1)) e (bin_reads x (others_end more h)) (bin_reads x' (others_end more' h')) in
       others_one m (bin_one e x x' (others_end more h) (others_end more' h')) more more' h h'
 
-  others_one : {l : ℕ} {p p' q q' : Stage} {x x' y y' : t.Expression} → p ≡ p' → x ≡ x' → g.Others l x p y q → g.Others l x' p' y' q' → ends l (first_kind q) ≡ true → ends l (first_kind q') ≡ true → y ≡ y'
+  others_one : {l : ℕ} {p p' q q' : Stage} {x x' y y' : t.Expression} → p ≡ p' → x ≡ x' → g.Others l x p y q → g.Others l x' p' y' q'
+      → ends l (first_kind q) ≡ true → ends l (first_kind q') ≡ true → y ≡ y'
   others_one e f g.no_other g.no_other h h' = f
   others_one e f g.no_other (g.other o at sign y more) h h' = absurd (not_end e o at sign h)
   others_one e f (g.other o at sign y more) g.no_other h h' = absurd (not_end (sym e) o at sign h')
   others_one {l} e f (g.other o at sign y more) (g.other o' at' sign' y' more') h h' =
       let m = same_behind e sign sign' in
       let n = same_rest (s.bin (l + 1)) m (bin_reads y (others_end more h)) (bin_reads y' (others_end more' h')) in
-      others_one n (binary_same (joined_spot e f) (operator_same o o' (sign_same (same_token e sign sign'))) f (bin_one m y y' (others_end more h) (others_end more' h'))) more more' h h'
+      others_one n (binary_same (joined_spot e f) (operator_same o o' (sign_same (same_token e sign sign'))) f
+      (bin_one m y y' (others_end more h) (others_end more' h'))) more more' h h'
 
-  unary_one : {p p' q q' : Stage} {x y : t.Expression} → p ≡ p' → g.Unary p x q → g.Unary p' y q' → first_kind q ≢ Some (k.Sign j.OpenBracket) → first_kind q' ≢ Some (k.Sign j.OpenBracket) → x ≡ y
-  unary_one e (g.signed o sign x) (g.signed o' sign' x') h h' = unary_tree (spot_here_same e) (unary_same o o' (sign_same (same_token e sign sign'))) (unary_one (same_behind e sign sign') x x' h h')
+  unary_one : {p p' q q' : Stage} {x y : t.Expression} → p ≡ p' → g.Unary p x q → g.Unary p' y q'
+      → first_kind q ≢ Some (k.Sign j.OpenBracket) → first_kind q' ≢ Some (k.Sign j.OpenBracket) → x ≡ y
+  unary_one e (g.signed o sign x) (g.signed o' sign' x') h h' =
+      unary_tree (spot_here_same e) (unary_same o o' (sign_same (same_token e sign sign'))) (unary_one (same_behind e sign sign') x x' h h')
   unary_one e (g.signed o sign x) (g.unsigned (g.post x' c')) h h' = absurd (not_signed e o sign x')
   unary_one e (g.unsigned (g.post x c)) (g.signed o' sign' x') h h' = absurd (not_signed (sym e) o' sign' x)
   unary_one e (g.unsigned (g.post x c)) (g.unsigned (g.post x' c')) h h' = post_one e x c x' c' h h'

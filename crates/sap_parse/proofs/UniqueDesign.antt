@@ -80,7 +80,8 @@ mutual
       (texprs_one m6 more more' (λ e. let f = first_is z in absurd (cc)) (λ e. let f = first_is z' in absurd (cc)))
   texpr_one e a b = let t = same_first e a b in absurd (cc)
 
-  pub texprs_one : {p p' q q' : Stage} {xs ys : t.TagExpressions} → p ≡ p' → g.Texprs p xs q → g.Texprs p' ys q' → first_kind q ≢ Some (k.Sign j.Comma) → first_kind q' ≢ Some (k.Sign j.Comma) → xs ≡ ys
+  pub texprs_one : {p p' q q' : Stage} {xs ys : t.TagExpressions} → p ≡ p' → g.Texprs p xs q → g.Texprs p' ys q'
+      → first_kind q ≢ Some (k.Sign j.Comma) → first_kind q' ≢ Some (k.Sign j.Comma) → xs ≡ ys
   texprs_one e g.no_tag g.no_tag n n' = refl
   texprs_one e g.no_tag (g.tag c x more) n n' = absurd (n (ap first_kind e ∙ first_is c))
   texprs_one e (g.tag c x more) g.no_tag n n' = absurd (n' (sym (ap first_kind e) ∙ first_is c))
@@ -118,13 +119,15 @@ write_tree e f h = cc
 set_tag_tree : {p p' : Place} {m m' : Mention} {x x' : t.TagExpression} → p ≡ p' → m ≡ m' → x ≡ x' → t.set_tag p m x ≡ t.set_tag p' m' x'
 set_tag_tree e f h = cc
 
-set_cell_tag_tree : {p p' : Place} {m m' : Mention} {i i' : t.Expression} {x x' : t.TagExpression} → p ≡ p' → m ≡ m' → i ≡ i' → x ≡ x' → t.set_cell_tag p m i x ≡ t.set_cell_tag p' m' i' x'
+set_cell_tag_tree : {p p' : Place} {m m' : Mention} {i i' : t.Expression} {x x' : t.TagExpression} → p ≡ p' → m ≡ m' → i ≡ i' → x ≡ x'
+    → t.set_cell_tag p m i x ≡ t.set_cell_tag p' m' i' x'
 set_cell_tag_tree e f h i = cc
 
 goto_tree : {p p' : Place} {m m' : Mention} → p ≡ p' → m ≡ m' → t.go_to p m ≡ t.go_to p' m'
 goto_tree e f = cc
 
-pub simple_one : {depth : ℕ} {p p' q q' : Stage} {c c' : t.SimpleCommand} → p ≡ p' → g.Simple depth p c q → g.Simple depth p' c' q' → ends_expr (first_kind q) ≡ true → ends_expr (first_kind q') ≡ true → c ≡ c'
+pub simple_one : {depth : ℕ} {p p' q q' : Stage} {c c' : t.SimpleCommand} → p ≡ p' → g.Simple depth p c q → g.Simple depth p' c' q'
+    → ends_expr (first_kind q) ≡ true → ends_expr (first_kind q') ≡ true → c ≡ c'
 simple_one e (g.assign n b x) (g.assign n' b' x') h h' =
     assign_tree (mention_same e (name_same (same_token e n n'))) (expr_one (same_behind (same_behind e n n') b b') x x' h h')
 simple_one e (g.assign n b x) (g.write n' o' i' z' b' x') h h' = let t = same_token (same_behind e n n') b o' in absurd (cc)
@@ -189,7 +192,8 @@ constant_one e (g.plain n) (g.wide n') = let t = same_token e n n' in absurd (cc
 constant_one e (g.wide n) (g.plain n') = let t = same_token e n n' in absurd (cc)
 constant_one e (g.wide n) (g.wide n') = sized_tree e (same_token e n n')
 
-constants_one : {p p' q q' : Stage} {xs ys : t.Expressions} → p ≡ p' → g.Constants p xs q → g.Constants p' ys q' → first_kind q ≢ Some (k.Sign j.Comma) → first_kind q' ≢ Some (k.Sign j.Comma) → xs ≡ ys
+constants_one : {p p' q q' : Stage} {xs ys : t.Expressions} → p ≡ p' → g.Constants p xs q → g.Constants p' ys q'
+    → first_kind q ≢ Some (k.Sign j.Comma) → first_kind q' ≢ Some (k.Sign j.Comma) → xs ≡ ys
 constants_one e g.no_constant g.no_constant n n' = refl
 constants_one e g.no_constant (g.constant c x more) n n' = absurd (n (ap first_kind e ∙ first_is c))
 constants_one e (g.constant c x more) g.no_constant n n' = absurd (n' (sym (ap first_kind e) ∙ first_is c))
@@ -237,7 +241,8 @@ and_command : {c c' : t.Command} {cs cs' : t.CommandList} → c ≡ c' → cs �
 and_command e f = cc
 
 mutual
-  pub cmd_one : {depth : ℕ} {p p' q q' : Stage} {c c' : t.Command} → p ≡ p' → g.Cmd depth p c q → g.Cmd depth p' c' q' → first_kind q ≢ Some (k.Word w.Else) → first_kind q' ≢ Some (k.Word w.Else) → c ≡ c'
+  pub cmd_one : {depth : ℕ} {p p' q q' : Stage} {c c' : t.Command} → p ≡ p' → g.Cmd depth p c q → g.Cmd depth p' c' q'
+      → first_kind q ≢ Some (k.Word w.Else) → first_kind q' ≢ Some (k.Word w.Else) → c ≡ c'
   cmd_one e (g.unhandled c z) (g.unhandled c' z') n n' = ap t.lone (simple_one e c c' (ap ends_expr (first_is z)) (ap ends_expr (first_is z')))
   cmd_one {depth} e (g.unhandled c z) (g.handled c' word' h') n n' =
       let m = same_rest (s.simple depth) e (simple_reads c (ap ends_expr (first_is z))) (simple_reads c' (ap ends_expr (first_is word'))) in
@@ -313,7 +318,8 @@ mutual
       let one = arm_one e a a' in
       arm_tree one.0 one.1 (arms_one m2 more more')
 
-  pub else_one : {depth : ℕ} {p p' q q' : Stage} {x x' : t.ElseBlock} → p ≡ p' → g.Else depth p x q → g.Else depth p' x' q' → first_kind q ≢ Some (k.Word w.Else) → first_kind q' ≢ Some (k.Word w.Else) → x ≡ x'
+  pub else_one : {depth : ℕ} {p p' q q' : Stage} {x x' : t.ElseBlock} → p ≡ p' → g.Else depth p x q → g.Else depth p' x' q'
+      → first_kind q ≢ Some (k.Word w.Else) → first_kind q' ≢ Some (k.Word w.Else) → x ≡ x'
   else_one e g.no_else g.no_else n n' = refl
   else_one e g.no_else (g.else word b) n n' = absurd (n (ap first_kind e ∙ first_is word))
   else_one e (g.else word b) g.no_else n n' = absurd (n' (sym (ap first_kind e) ∙ first_is word))
@@ -325,7 +331,8 @@ mutual
       let ez = ap ends_cmds (first_is z) in let ez' = ap ends_cmds (first_is z') in
       commands_tree (cmds_one m2 cs cs' ez ez') (here_same (same_rest (s.cmds depth) m2 (cmds_read cs ez) (cmds_read cs' ez')))
 
-  pub cmds_one : {depth : ℕ} {p p' q q' : Stage} {cs cs' : t.CommandList} → p ≡ p' → g.Cmds depth p cs q → g.Cmds depth p' cs' q' → ends_cmds (first_kind q) ≡ true → ends_cmds (first_kind q') ≡ true → cs ≡ cs'
+  pub cmds_one : {depth : ℕ} {p p' q q' : Stage} {cs cs' : t.CommandList} → p ≡ p' → g.Cmds depth p cs q → g.Cmds depth p' cs' q'
+      → ends_cmds (first_kind q) ≡ true → ends_cmds (first_kind q') ≡ true → cs ≡ cs'
   cmds_one e g.no_cmd g.no_cmd h h' = refl
   cmds_one e g.no_cmd (g.cmd c more) h h' = absurd (no_begin e h c)
   cmds_one e (g.cmd c more) g.no_cmd h h' = absurd (no_begin (sym e) h' c)
@@ -339,7 +346,8 @@ under_same : {a b a' b' : Stage} {n n' : List ℕ} → a ≡ a' → b ≡ b' →
     → ◌≡◌ {A = Option Under} (Some (record { place = here a; level = mention b n })) (Some (record { place = here a'; level = mention b' n' }))
 under_same e f h = let p = here_same e in let m = mention_same f h in cc
 
-authority_one : {p p' q q' : Stage} {x x' : Option Under} → p ≡ p' → g.Authority p x q → g.Authority p' x' q' → first_kind q ≢ Some (k.Word w.Under) → first_kind q' ≢ Some (k.Word w.Under) → x ≡ x'
+authority_one : {p p' q q' : Stage} {x x' : Option Under} → p ≡ p' → g.Authority p x q → g.Authority p' x' q'
+    → first_kind q ≢ Some (k.Word w.Under) → first_kind q' ≢ Some (k.Word w.Under) → x ≡ x'
 authority_one e g.no_authority g.no_authority n n' = refl
 authority_one e g.no_authority (g.authority word m) n n' = absurd (n (ap first_kind e ∙ first_is word))
 authority_one e (g.authority word m) g.no_authority n n' = absurd (n' (sym (ap first_kind e) ∙ first_is word))
@@ -348,7 +356,8 @@ authority_one e (g.authority word m) (g.authority word' m') n n' = let b = same_
 enforced_tree : {m m' : Mention} {u u' : Option Under} → m ≡ m' → u ≡ u' → kd.Enforced m u ≡ kd.Enforced m' u'
 enforced_tree e f = cc
 
-pub kind_one : {p p' q q' : Stage} {x x' : KindTree} → p ≡ p' → g.KindOf p x q → g.KindOf p' x' q' → first_kind q ≢ Some (k.Word w.Under) → first_kind q' ≢ Some (k.Word w.Under) → x ≡ x'
+pub kind_one : {p p' q q' : Stage} {x x' : KindTree} → p ≡ p' → g.KindOf p x q → g.KindOf p' x' q' → first_kind q ≢ Some (k.Word w.Under)
+    → first_kind q' ≢ Some (k.Word w.Under) → x ≡ x'
 kind_one e (g.dynamic word) (g.dynamic word') n n' = ap kd.Dynamic (here_same e)
 kind_one e (g.dynamic word) (g.enforced word' m' u') n n' = let t = same_token e word word' in absurd (cc)
 kind_one e (g.enforced word m u) (g.dynamic word') n n' = let t = same_token e word word' in absurd (cc)
@@ -356,7 +365,8 @@ kind_one e (g.enforced word m u) (g.enforced word' m' u') n n' =
     let b = same_behind e word word' in
     enforced_tree (mention_same b (name_same (same_token b m m'))) (authority_one (same_behind b m m') u u' n n')
 
-initial_one : {p p' q q' : Stage} {x x' : Option Numeral} → p ≡ p' → g.Initial p x q → g.Initial p' x' q' → first_kind q ≢ Some (k.Sign j.Is) → first_kind q' ≢ Some (k.Sign j.Is) → x ≡ x'
+initial_one : {p p' q q' : Stage} {x x' : Option Numeral} → p ≡ p' → g.Initial p x q → g.Initial p' x' q'
+    → first_kind q ≢ Some (k.Sign j.Is) → first_kind q' ≢ Some (k.Sign j.Is) → x ≡ x'
 initial_one e g.no_initial g.no_initial n n' = refl
 initial_one e g.no_initial (g.initial sign m) n n' = absurd (n (ap first_kind e ∙ first_is sign))
 initial_one e (g.initial sign m) g.no_initial n n' = absurd (n' (sym (ap first_kind e) ∙ first_is sign))
@@ -365,7 +375,8 @@ initial_one e (g.initial sign m) (g.initial sign' m') n n' = let b = same_behind
 input_tree : {p p' : Place} {m m' : Mention} {v v' : Numeral} → p ≡ p' → m ≡ m' → v ≡ v' → d.Input p m v ≡ d.Input p' m' v'
 input_tree e f h = cc
 
-register_tree : {p p' : Place} {m m' : Mention} {v v' : Numeral} {x x' : KindTree} {y y' : Option Numeral} → p ≡ p' → m ≡ m' → v ≡ v' → x ≡ x' → y ≡ y' → d.Register p m v x y ≡ d.Register p' m' v' x' y'
+register_tree : {p p' : Place} {m m' : Mention} {v v' : Numeral} {x x' : KindTree} {y y' : Option Numeral} → p ≡ p' → m ≡ m' → v ≡ v'
+    → x ≡ x' → y ≡ y' → d.Register p m v x y ≡ d.Register p' m' v' x' y'
 register_tree e f h i l = cc
 
 memory_tree : {p p' : Place} {m m' : Mention} {v v' u u' : Numeral} {x x' : KindTree} → p ≡ p' → m ≡ m' → v ≡ v' → u ≡ u' → x ≡ x' → d.Memory p m v u x ≡ d.Memory p' m' v' u' x'
@@ -390,7 +401,8 @@ declaration_one e (g.memory word n c v o depth b kind z) (g.memory word' n' c' v
     let m4 = same_behind (same_behind m2 n n') c c' in
     let m6 = same_behind (same_behind m4 v v') o o' in
     let m8 = same_behind (same_behind m6 depth depth') b b' in
-    memory_tree (here_same e) (mention_same m2 (name_same (same_token m2 n n'))) (numeral_same m4 (number_same (same_token m4 v v'))) (numeral_same m6 (number_same (same_token m6 depth depth')))
+    memory_tree (here_same e) (mention_same m2 (name_same (same_token m2 n n'))) (numeral_same m4 (number_same (same_token m4 v v')))
+    (numeral_same m6 (number_same (same_token m6 depth depth')))
     (kind_one m8 kind kind' (λ e. let f = first_is z in absurd (cc)) (λ e. let f = first_is z' in absurd (cc)))
 declaration_one e (g.input word n c v z) (g.register word' n' c' v' kind' start' z') = let t = same_token e word word' in absurd (cc)
 declaration_one e (g.input word n c v z) (g.memory word' n' c' v' o' depth' b' kind' z') = let t = same_token e word word' in absurd (cc)
@@ -407,7 +419,8 @@ declaration_not_state (g.memory word n c v o depth b kind z) e = let f = first_i
 and_declaration : {x x' : Decl} {xs xs' : List Decl} → x ≡ x' → xs ≡ xs' → x ∷ xs ≡ x' ∷ xs'
 and_declaration e f = cc
 
-pub declarations_one : {p p' q q' : Stage} {xs ys : List Decl} → p ≡ p' → g.Declarations p xs q → g.Declarations p' ys q' → first_kind q ≡ Some (k.Word w.State) → first_kind q' ≡ Some (k.Word w.State) → xs ≡ ys
+pub declarations_one : {p p' q q' : Stage} {xs ys : List Decl} → p ≡ p' → g.Declarations p xs q → g.Declarations p' ys q'
+    → first_kind q ≡ Some (k.Word w.State) → first_kind q' ≡ Some (k.Word w.State) → xs ≡ ys
 declarations_one e g.no_declaration g.no_declaration h h' = refl
 declarations_one e g.no_declaration (g.declaration x more) h h' = absurd (declaration_not_state x (sym (ap first_kind e) ∙ h))
 declarations_one e (g.declaration x more) g.no_declaration h h' = absurd (declaration_not_state x (ap first_kind e ∙ h'))
@@ -416,7 +429,8 @@ declarations_one e (g.declaration x more) (g.declaration x' more') h h' =
 
 -- states
 
-state_tree : {p p' : Place} {m m' : Mention} {x x' : KindTree} {b b' : t.CommandBlock} {c c' : t.StateList} → p ≡ p' → m ≡ m' → x ≡ x' → b ≡ b' → c ≡ c' → t.state_node p m x b c ≡ t.state_node p' m' x' b' c'
+state_tree : {p p' : Place} {m m' : Mention} {x x' : KindTree} {b b' : t.CommandBlock} {c c' : t.StateList} → p ≡ p' → m ≡ m' → x ≡ x'
+    → b ≡ b' → c ≡ c' → t.state_node p m x b c ≡ t.state_node p' m' x' b' c'
 state_tree e f h i l = cc
 
 and_state : {x x' : t.StateTree} {xs xs' : t.StateList} → x ≡ x' → xs ≡ xs' → t.and_state x xs ≡ t.and_state x' xs'
@@ -431,11 +445,13 @@ mutual
       let h = states_end_cmds children (ap ends_cmds (first_is z)) in
       let h' = states_end_cmds children' (ap ends_cmds (first_is z')) in
       let m6 = same_rest (s.cmds 1) m5 (cmds_read cs h) (cmds_read cs' h') in
-      state_tree (here_same e) (mention_same m2 (name_same (same_token m2 n n'))) (kind_one m3 kind kind' (λ e. let f = first_is o in absurd (cc)) (λ e. let f = first_is o' in absurd (cc)))
+      state_tree (here_same e) (mention_same m2 (name_same (same_token m2 n n'))) (kind_one m3 kind kind' (λ e. let f = first_is o in
+      absurd (cc)) (λ e. let f = first_is o' in absurd (cc)))
       (commands_tree (cmds_one m5 cs cs' h h') (here_same m6))
       (states_one m6 children children' (λ e. let f = first_is z in absurd (cc)) (λ e. let f = first_is z' in absurd (cc)))
 
-  pub states_one : {depth : ℕ} {p p' q q' : Stage} {xs ys : t.StateList} → p ≡ p' → g.States depth p xs q → g.States depth p' ys q' → first_kind q ≢ Some (k.Word w.State) → first_kind q' ≢ Some (k.Word w.State) → xs ≡ ys
+  pub states_one : {depth : ℕ} {p p' q q' : Stage} {xs ys : t.StateList} → p ≡ p' → g.States depth p xs q → g.States depth p' ys q'
+      → first_kind q ≢ Some (k.Word w.State) → first_kind q' ≢ Some (k.Word w.State) → xs ≡ ys
   states_one e g.no_state g.no_state n n' = refl
   states_one e g.no_state (g.and_state x more) n n' = absurd (n (ap first_kind e ∙ state_first x))
   states_one e (g.and_state x more) g.no_state n n' = absurd (n' (sym (ap first_kind e) ∙ state_first x))
@@ -446,7 +462,8 @@ design_tree : {v v' : Version} {xs xs' : List Decl} {y y' : t.StateTree} {ys ys'
     → ◌≡◌ {A = t.DesignTree} (record { version = v; declarations = xs; states = t.and_state y ys }) (record { version = v'; declarations = xs'; states = t.and_state y' ys' })
 design_tree d e f h = cc
 
-header_one : {p p' q q' : Stage} {v v' : Version} → p ≡ p' → g.Header p v q → g.Header p' v' q' → first_kind q ≢ Some (k.Word w.Sapper) → first_kind q' ≢ Some (k.Word w.Sapper) → v ≡ v'
+header_one : {p p' q q' : Stage} {v v' : Version} → p ≡ p' → g.Header p v q → g.Header p' v' q' → first_kind q ≢ Some (k.Word w.Sapper)
+    → first_kind q' ≢ Some (k.Word w.Sapper) → v ≡ v'
 header_one e g.no_header g.no_header n n' = refl
 header_one e g.no_header (g.header word two z) n n' = absurd (n (ap first_kind e ∙ first_is word))
 header_one e (g.header word two z) g.no_header n n' = absurd (n' (sym (ap first_kind e) ∙ first_is word))
@@ -459,4 +476,5 @@ design_one e (g.design v ds x more) (g.design v' ds' x' more') h h' =
     let m2 = same_rest s.declarations m1 (declarations_read ds (state_first x)) (declarations_read ds' (state_first x')) in
     let m3 = same_rest (s.state 1) m2 (state_reads x) (state_reads x') in
     design_tree (header_one e v v' n n') (declarations_one m1 ds ds' (state_first x) (state_first x')) (state_one m2 x x')
-    (states_one m3 more more' (λ e. let f : None ≡ Some (k.Word w.State) = sym (ap kind_in h) ∙ e in absurd (cc)) (λ e. let f : None ≡ Some (k.Word w.State) = sym (ap kind_in h') ∙ e in absurd (cc)))
+    (states_one m3 more more' (λ e. let f : None ≡ Some (k.Word w.State) = sym (ap kind_in h) ∙ e in
+    absurd (cc)) (λ e. let f : None ≡ Some (k.Word w.State) = sym (ap kind_in h') ∙ e in absurd (cc)))

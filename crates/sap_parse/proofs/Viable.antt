@@ -47,7 +47,9 @@ sized_full role (k.Number x) = λ e. absurd (cc)
 sized_full role (k.Sized x n) = λ e. absurd (cc)
 
 prim_full : (i : Kind) → IsFull (s.prim_next i)
-prim_full i = or_full _ _ (number_full leniently r.Inner i) (or_full _ _ (sized_full r.Inner i) (or_full _ _ (after_sign_full r.Opening j.OpenParen _ i) (or_full _ _ (after_sign_full r.Opening j.OpenBrace _ i) (after_word_full r.Inner w.Zext _ i))))
+prim_full i = or_full _ _ (number_full leniently r.Inner i)
+    (or_full _ _ (sized_full r.Inner i) (or_full _ _ (after_sign_full r.Opening j.OpenParen _ i)
+    (or_full _ _ (after_sign_full r.Opening j.OpenBrace _ i) (after_word_full r.Inner w.Zext _ i))))
 
 post_full : (i : Kind) → IsFull (s.post_next i)
 post_full i = or_full _ _ (after_name_full r.Inner _ i) (push_full (s.prim_next i) _ (prim_full i))
@@ -61,10 +63,12 @@ expr_full : (i : Kind) → IsFull (s.expr_next i)
 expr_full i = first_full (s.unary_next i) _ _ (unary_full leniently i)
 
 simple_full : (depth : ℕ) (i : Kind) → IsFull (s.simple_next depth i)
-simple_full depth i = or_full _ _ (after_name_full (r.Command depth) _ i) (or_full _ _ (after_word_full (r.Command depth) w.SetTag _ i) (or_full _ _ (after_word_full (r.Command depth) w.Goto _ i) (word_full leniently (r.Command depth) w.Fall i)))
+simple_full depth i = or_full _ _ (after_name_full (r.Command depth) _ i)
+    (or_full _ _ (after_word_full (r.Command depth) w.SetTag _ i) (or_full _ _ (after_word_full (r.Command depth) w.Goto _ i) (word_full leniently (r.Command depth) w.Fall i)))
 
 texpr_full : (i : Kind) → IsFull (s.texpr_next i)
-texpr_full i = or_full _ _ (name_full leniently r.Inner i) (or_full _ _ (after_word_full r.Inner w.Tag _ i) (or_full _ _ (after_word_full r.Inner w.Level _ i) (after_word_full r.Inner w.Join _ i)))
+texpr_full i = or_full _ _ (name_full leniently r.Inner i)
+    (or_full _ _ (after_word_full r.Inner w.Tag _ i) (or_full _ _ (after_word_full r.Inner w.Level _ i) (after_word_full r.Inner w.Join _ i)))
 
 declaration_full : (i : Kind) → IsFull (s.declaration_next i)
 declaration_full i = or_full _ _ (after_word_full r.Input w.Input _ i) (or_full _ _ (after_word_full r.Register w.Reg _ i) (after_word_full r.Memory w.Mem _ i))
@@ -136,7 +140,8 @@ skip_empty (s.set_tag depth) i e = absurd (after_word_full (r.Command depth) w.S
 skip_empty (s.goto depth) i e = absurd (after_word_full (r.Command depth) w.Goto _ i e)
 skip_empty (s.fall depth) i e = absurd (word_full leniently (r.Command depth) w.Fall i e)
 skip_empty s.target i e = absurd (or_full _ _ (after_sign_full r.Plain j.Becomes _ i) (after_sign_full r.Plain j.OpenBracket _ i) e)
-skip_empty (s.cmd depth) i e = absurd (or_full _ _ (push_full (s.simple_next depth i) _ (simple_full depth i)) (or_full _ _ (after_word_full (r.Command depth) w.If _ i) (after_word_full (r.Command depth) w.Case _ i)) e)
+skip_empty (s.cmd depth) i e = absurd (or_full _ _ (push_full (s.simple_next depth i) _ (simple_full depth i))
+    (or_full _ _ (after_word_full (r.Command depth) w.If _ i) (after_word_full (r.Command depth) w.Case _ i)) e)
 skip_empty (s.if_command depth) i e = absurd (after_word_full (r.Command depth) w.If _ i e)
 skip_empty (s.case_command depth) i e = absurd (after_word_full (r.Command depth) w.Case _ i e)
 skip_empty (s.arm depth) i e = absurd (arm_full depth i e)
@@ -233,7 +238,10 @@ short_tails zero = tt
 short_tails (suc n) = each_append (tightest n) (s.tail (unary_precedence - suc n) ∷ []) (short_tails n) (empty (s.tail (unary_precedence - suc n)) refl, tt)
 
 short_expr : Shortest s.expr
-short_expr = by_token s.expr (k.Number 0) r.Inner (s.slices ∷ (tails 1 ++ s.choice ∷ [])) refl (empty s.slices refl, each_append (tails 1) (s.choice ∷ []) (short_tails 8) (empty s.choice refl, tt))
+short_expr = by_token s.expr (k.Number 0) r.Inner (s.slices ∷ (tails 1 ++ s.choice ∷ [])) refl (
+  empty s.slices refl,
+  each_append (tails 1) (s.choice ∷ []) (short_tails 8) (empty s.choice refl, tt),
+)
 
 short_after_number : Shortest s.behind_number
 short_after_number = by_token s.behind_number (k.Sign j.CloseBracket) r.Closing (s.slices ∷ []) refl short_slices
@@ -245,14 +253,18 @@ short_ending : (depth : ℕ) → Shortest (s.ending depth)
 short_ending depth = by_token (s.ending depth) (k.Sign j.Semicolon) r.Plain [] refl tt
 
 short_block : (depth : ℕ) → Shortest (s.block depth)
-short_block depth = by_token (s.block depth) (k.Sign j.OpenBrace) r.Plain (s.cmds depth ∷ s.sign r.Plain j.CloseBrace ∷ []) refl (empty (s.cmds depth) refl, (short_sign r.Plain j.CloseBrace, tt))
+short_block depth = by_token (s.block depth) (k.Sign j.OpenBrace) r.Plain (s.cmds depth ∷ s.sign r.Plain j.CloseBrace ∷ []) refl
+    (empty (s.cmds depth) refl, (short_sign r.Plain j.CloseBrace, tt))
 
 short_constant : Shortest s.constant
 short_constant = by_token s.constant (k.Number 0) r.Plain [] refl tt
 
 short_arm : (depth : ℕ) → Shortest (s.arm depth)
 short_arm depth =
-    by_token (s.arm depth) (k.Number 0) r.Plain (s.constants ∷ s.sign r.Plain j.Colon ∷ s.block depth ∷ []) refl (empty s.constants refl, (short_sign r.Plain j.Colon, (short_block depth, tt)))
+    by_token (s.arm depth) (k.Number 0) r.Plain (s.constants ∷ s.sign r.Plain j.Colon ∷ s.block depth ∷ []) refl (
+      empty s.constants refl,
+      (short_sign r.Plain j.Colon, (short_block depth, tt)),
+    )
 
 short_arms : (depth : ℕ) → Shortest (s.arms depth)
 short_arms depth = by_token (s.arms depth) (k.Word w.Else) r.Plain (s.block depth ∷ []) refl (short_block depth, tt)
@@ -264,7 +276,13 @@ input_each : Each (s.any_name r.Plain ∷ s.sign r.Plain j.Colon ∷ s.number r.
 input_each = (short_name r.Plain, (short_sign r.Plain j.Colon, (short_number r.Plain, (short_sign r.Plain j.Semicolon, tt))))
 
 state_each : (depth : ℕ) → Each (s.any_name r.Plain ∷ s.kind_of ∷ s.sign r.Plain j.OpenBrace ∷ s.cmds 1 ∷ s.states (depth + 1) ∷ s.sign r.Plain j.CloseBrace ∷ [])
-state_each depth = (short_name r.Plain, (short_kind, (short_sign r.Plain j.OpenBrace, (empty (s.cmds 1) refl, (empty (s.states (depth + 1)) refl, (short_sign r.Plain j.CloseBrace, tt))))))
+state_each depth = (
+  short_name r.Plain,
+  (
+    short_kind,
+    (short_sign r.Plain j.OpenBrace, (empty (s.cmds 1) refl, (empty (s.states (depth + 1)) refl, (short_sign r.Plain j.CloseBrace, tt)))),
+  ),
+)
 
 tag_each : Each (s.sign r.Opening j.OpenParen ∷ s.expr ∷ s.sign r.Closing j.CloseParen ∷ [])
 tag_each = (short_sign r.Opening j.OpenParen, (short_expr, (short_sign r.Closing j.CloseParen, tt)))
@@ -306,7 +324,8 @@ shortest s.join =
 shortest s.texprs = empty s.texprs refl
 shortest (s.simple depth) = by_token (s.simple depth) (k.Word w.Fall) (r.Command depth) [] refl tt
 shortest (s.set_tag depth) =
-    by_token (s.set_tag depth) (k.Word w.SetTag) (r.Command depth) (s.sign r.Plain j.OpenParen ∷ s.any_name r.Plain ∷ s.cell_part ∷ s.sign r.Plain j.Comma ∷ s.texpr ∷ s.sign r.Plain j.CloseParen ∷ []) refl
+    by_token (s.set_tag depth) (k.Word w.SetTag) (r.Command depth) (s.sign r.Plain j.OpenParen ∷ s.any_name r.Plain ∷ s.cell_part
+    ∷ s.sign r.Plain j.Comma ∷ s.texpr ∷ s.sign r.Plain j.CloseParen ∷ []) refl
     (short_sign r.Plain j.OpenParen, (short_name r.Plain, (empty s.cell_part refl, (short_sign r.Plain j.Comma, (short_texpr, (short_sign r.Plain j.CloseParen, tt))))))
 shortest (s.goto depth) = by_token (s.goto depth) (k.Word w.Goto) (r.Command depth) (s.any_name r.Plain ∷ []) refl (short_name r.Plain, tt)
 shortest (s.fall depth) = by_token (s.fall depth) (k.Word w.Fall) (r.Command depth) [] refl tt
@@ -314,12 +333,19 @@ shortest s.target = by_token s.target (k.Sign j.Becomes) r.Plain (s.expr ∷ [])
 shortest s.cell_part = empty s.cell_part refl
 shortest (s.cmd depth) = by_token (s.cmd depth) (k.Word w.Fall) (r.Command depth) (s.ending depth ∷ []) refl (short_ending depth, tt)
 shortest (s.if_command depth) =
-    by_token (s.if_command depth) (k.Word w.If) (r.Command depth) (s.sign r.Plain j.OpenParen ∷ s.expr ∷ s.sign r.Plain j.CloseParen ∷ s.block (depth + 1) ∷ s.else_part (depth + 1) ∷ []) refl
+    by_token (s.if_command depth) (k.Word w.If) (r.Command depth) (s.sign r.Plain j.OpenParen ∷ s.expr ∷ s.sign r.Plain j.CloseParen
+    ∷ s.block (depth + 1) ∷ s.else_part (depth + 1) ∷ []) refl
     (short_sign r.Plain j.OpenParen, (short_expr, (short_sign r.Plain j.CloseParen, (short_block (depth + 1), (empty (s.else_part (depth + 1)) refl, tt)))))
 shortest (s.case_command depth) =
     by_token (s.case_command depth) (k.Word w.Case) (r.Command depth)
-    (s.sign r.Plain j.OpenParen ∷ s.expr ∷ s.sign r.Plain j.CloseParen ∷ s.sign r.Plain j.OpenBrace ∷ s.arm (depth + 1) ∷ s.arms (depth + 1) ∷ s.sign r.Plain j.CloseBrace ∷ []) refl
-    (short_sign r.Plain j.OpenParen, (short_expr, (short_sign r.Plain j.CloseParen, (short_sign r.Plain j.OpenBrace, (short_arm (depth + 1), (short_arms (depth + 1), (short_sign r.Plain j.CloseBrace, tt)))))))
+    (s.sign r.Plain j.OpenParen ∷ s.expr ∷ s.sign r.Plain j.CloseParen ∷ s.sign r.Plain j.OpenBrace ∷ s.arm (depth + 1) ∷ s.arms (depth + 1)
+    ∷ s.sign r.Plain j.CloseBrace ∷ []) refl (
+      short_sign r.Plain j.OpenParen,
+      (
+        short_expr,
+        (short_sign r.Plain j.CloseParen, (short_sign r.Plain j.OpenBrace, (short_arm (depth + 1), (short_arms (depth + 1), (short_sign r.Plain j.CloseBrace, tt))))),
+      ),
+    )
 shortest (s.arm depth) = short_arm depth
 shortest (s.arms depth) = short_arms depth
 shortest s.constant = short_constant
@@ -333,24 +359,39 @@ shortest s.authority = empty s.authority refl
 shortest s.kind_of = short_kind
 shortest s.enforced = by_token s.enforced (k.Word w.Enforced) r.Plain (s.any_name r.Plain ∷ s.authority ∷ []) refl (short_name r.Plain, (empty s.authority refl, tt))
 shortest s.initial = empty s.initial refl
-shortest s.declaration = by_token s.declaration (k.Word w.Input) r.Input (s.any_name r.Plain ∷ s.sign r.Plain j.Colon ∷ s.number r.Plain ∷ s.sign r.Plain j.Semicolon ∷ []) refl input_each
+shortest s.declaration = by_token s.declaration (k.Word w.Input) r.Input (s.any_name r.Plain ∷ s.sign r.Plain j.Colon ∷ s.number r.Plain
+    ∷ s.sign r.Plain j.Semicolon ∷ []) refl input_each
 shortest s.input = by_token s.input (k.Word w.Input) r.Input (s.any_name r.Plain ∷ s.sign r.Plain j.Colon ∷ s.number r.Plain ∷ s.sign r.Plain j.Semicolon ∷ []) refl input_each
 shortest s.register =
     by_token s.register (k.Word w.Reg) r.Register (s.any_name r.Plain ∷ s.sign r.Plain j.Colon ∷ s.number r.Plain ∷ s.kind_of ∷ s.initial ∷ s.sign r.Plain j.Semicolon ∷ []) refl
     (short_name r.Plain, (short_sign r.Plain j.Colon, (short_number r.Plain, (short_kind, (empty s.initial refl, (short_sign r.Plain j.Semicolon, tt))))))
 shortest s.memory =
     by_token s.memory (k.Word w.Mem) r.Memory
-    (s.any_name r.Plain ∷ s.sign r.Plain j.Colon ∷ s.number r.Plain ∷ s.sign r.Plain j.OpenBracket ∷ s.number r.Plain ∷ s.sign r.Plain j.CloseBracket ∷ s.kind_of ∷ s.sign r.Plain j.Semicolon ∷ []) refl
-    (short_name r.Plain, (short_sign r.Plain j.Colon, (short_number r.Plain, (short_sign r.Plain j.OpenBracket, (short_number r.Plain, (short_sign r.Plain j.CloseBracket, (short_kind, (short_sign r.Plain j.Semicolon, tt))))))))
+    (s.any_name r.Plain ∷ s.sign r.Plain j.Colon ∷ s.number r.Plain ∷ s.sign r.Plain j.OpenBracket ∷ s.number r.Plain
+    ∷ s.sign r.Plain j.CloseBracket ∷ s.kind_of ∷ s.sign r.Plain j.Semicolon ∷ []) refl (
+      short_name r.Plain,
+      (
+        short_sign r.Plain j.Colon,
+        (
+          short_number r.Plain,
+          (
+            short_sign r.Plain j.OpenBracket,
+            (short_number r.Plain, (short_sign r.Plain j.CloseBracket, (short_kind, (short_sign r.Plain j.Semicolon, tt)))),
+          ),
+        ),
+      ),
+    )
 shortest s.declarations = empty s.declarations refl
 shortest (s.state depth) =
-    by_token (s.state depth) (k.Word w.State) (r.State depth) (s.any_name r.Plain ∷ s.kind_of ∷ s.sign r.Plain j.OpenBrace ∷ s.cmds 1 ∷ s.states (depth + 1) ∷ s.sign r.Plain j.CloseBrace ∷ []) refl (state_each depth)
+    by_token (s.state depth) (k.Word w.State) (r.State depth) (s.any_name r.Plain ∷ s.kind_of ∷ s.sign r.Plain j.OpenBrace ∷ s.cmds 1
+    ∷ s.states (depth + 1) ∷ s.sign r.Plain j.CloseBrace ∷ []) refl (state_each depth)
 shortest (s.states depth) = empty (s.states depth) refl
 shortest s.last_states = empty s.last_states refl
 shortest s.design =
     by_token s.design (k.Word w.State) (r.State 1)
     ((s.any_name r.Plain ∷ s.kind_of ∷ s.sign r.Plain j.OpenBrace ∷ s.cmds 1 ∷ s.states 2 ∷ s.sign r.Plain j.CloseBrace ∷ []) ++ s.last_states ∷ []) refl
-    (each_append (s.any_name r.Plain ∷ s.kind_of ∷ s.sign r.Plain j.OpenBrace ∷ s.cmds 1 ∷ s.states 2 ∷ s.sign r.Plain j.CloseBrace ∷ []) (s.last_states ∷ []) (state_each 1) (empty s.last_states refl, tt))
+    (each_append (s.any_name r.Plain ∷ s.kind_of ∷ s.sign r.Plain j.OpenBrace ∷ s.cmds 1 ∷ s.states 2 ∷ s.sign r.Plain j.CloseBrace ∷ [])
+    (s.last_states ∷ []) (state_each 1) (empty s.last_states refl, tt))
 
 spells : spelling.Spells W Lang
 unfolding Shortest

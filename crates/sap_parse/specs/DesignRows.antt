@@ -38,7 +38,8 @@ abbrev pub head_row : ℕ → List Symbol
 head_row depth = u.word (r.State depth) w.State ∷ u.any_name r.Plain ∷ u.kind_of ∷ u.sign r.Plain s.OpenBrace ∷ []
 
 pub data Head (depth : ℕ) : Stage → Place → Mention → Kind → Stage → Type 0 where
-  head : {p1 p2 p3 p4 q : Stage} {name : List ℕ} {kind : Kind} → IsWord p1 (r.State depth) w.State p2 → IsName p2 r.Plain name p3 → g.KindOf p3 kind p4 → IsSign p4 r.Plain s.OpenBrace q
+  head : {p1 p2 p3 p4 q : Stage} {name : List ℕ} {kind : Kind} → IsWord p1 (r.State depth) w.State p2 → IsName p2 r.Plain name p3
+      → g.KindOf p3 kind p4 → IsSign p4 r.Plain s.OpenBrace q
       → Head depth p1 (here p1) (mention p2 name) kind q
 
 -- the top-level states

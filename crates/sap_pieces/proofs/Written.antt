@@ -67,7 +67,11 @@ module _ (channel : ℕ) where
       | inr fills ↦
           let held : length ((added channel p t).written channel) ≡ length (t.written channel) + length p
           = ap length (at_number-same channel (t.written channel ++ p) t.written) ∙ length-append (t.written channel) p in
-          inr (record { beyond = let b : t.room < length ((added channel p t).written channel) + length q = fills.beyond in omega (arith, b, held, length-append p q); full = fills.full })
+          inr (record {
+            beyond = let b : t.room < length ((added channel p t).written channel) + length q = fills.beyond in
+                omega (arith, b, held, length-append p q);
+            full = fills.full;
+          })
     ];
   }
 
@@ -80,7 +84,8 @@ module _ (channel : ℕ) where
     ];
   }
 
-  pub some_longer : (a rest : List ℕ) (before after : Option Told) → IfSome before (λ t. FailsToWrite channel a t after) → IfSome before (λ t. FailsToWrite channel (a ++ rest) t after)
+  pub some_longer : (a rest : List ℕ) (before after : Option Told) → IfSome before (λ t. FailsToWrite channel a t after)
+      → IfSome before (λ t. FailsToWrite channel (a ++ rest) t after)
   some_longer a rest None after fails = tt
   some_longer a rest (Some t) after fails = fails_longer a rest t after fails
 

@@ -68,14 +68,16 @@ module _ (n : ℕ) where
   command_of-case hang e arms cs =
       ap (λ u. program.case_of (flags n hang) (term_of e) (row_arms n (hidden-the_row-Arm-1 arms) (last_arm u))) (row_block-vec cs)
       ∙ ap (λ u. program.case_of (flags n hang) (term_of e) u)
-      (row_arms-items (hidden-the_row-Arm-1 arms) (last_arm (block_of n cs.items)) ∙ ap (λ (l : List Arm). arms_before n l (last_arm (block_of n cs.items))) (items_hidden-the_row-Arm-1 arms))
+      (row_arms-items (hidden-the_row-Arm-1 arms) (last_arm (block_of n cs.items))
+      ∙ ap (λ (l : List Arm). arms_before n l (last_arm (block_of n cs.items))) (items_hidden-the_row-Arm-1 arms))
 
   pub arms_before-none : (others : Arms) → arms_before n [] others ≡ others
   unfolding arms_before
   arms_before-none others = refl
 
   -- a pushed arm stands in front of what follows
-  pub before-push : (arms : List Arm) (arm : Arm) (others : Arms) → arms_before n (arms ++ arm ∷ []) others ≡ arms_before n arms (program.and_arm (constants_of arm) (arm_block n arm) others)
+  pub before-push : (arms : List Arm) (arm : Arm) (others : Arms)
+      → arms_before n (arms ++ arm ∷ []) others ≡ arms_before n arms (program.and_arm (constants_of arm) (arm_block n arm) others)
   unfolding arms_before
   before-push [] arm others = refl
   before-push (first ∷ arms) arm others = ap (program.and_arm (constants_of first) (arm_block n first)) (before-push arms arm others)

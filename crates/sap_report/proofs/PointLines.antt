@@ -77,18 +77,21 @@ module _ (d : DesignTree) (p : ℕ) where
   later-step x h =
       let s = drop-some all x h in
       ap (λ (l : List Entity). hanging d p x l) (drop-at all x s.0 s.1)
-      ∙ ap (λ (n : List ℕ). if hangs d p x then n ∷ later (x + 1) else later (x + 1)) (sym (ap (λ (o : Option Entity). unwrap_or (option_map (λ (e : Entity). e.name.name) o) []) s.1))
+      ∙ ap (λ (n : List ℕ). if hangs d p x then n ∷ later (x + 1) else later (x + 1))
+      (sym (ap (λ (o : Option Entity). unwrap_or (option_map (λ (e : Entity). e.name.name) o) []) s.1))
 
   -- whether there is none so far, and the names so far
   abbrev pub Far : (x : ℕ) → Bool → List ℕ → List ℕ → Type 0
   Far x none out old = ((none && (length (hanging d p x (drop x (entities_of d))) == 0)) ≡ (length (hanging d p 0 (entities_of d)) == 0))
       × (out ++ each_name (hanging d p x (drop x (entities_of d))) ≡ old ++ each_name (hanging d p 0 (entities_of d)))
 
-  pub far_step : (x : ℕ) (none hung : Bool) (out old new : List ℕ) → x < length (entities_of d) → hung ≡ hangs d p x → new ≡ out ++ each_name (where_hung d p x) → Far x none out old
+  pub far_step : (x : ℕ) (none hung : Bool) (out old new : List ℕ) → x < length (entities_of d) → hung ≡ hangs d p x
+      → new ≡ out ++ each_name (where_hung d p x) → Far x none out old
       → Far (x + 1) (none && not hung) new old
   far_step x none hung out old new h e k i =
       let n = entity_name all x in (
-        ap (λ (b : Bool). (none && not b) && (length (later (x + 1)) == 0)) e ∙ none_step (hangs d p x) none n (later (x + 1)) ∙ ap (λ (l : List (List ℕ)). none && (length l == 0)) (sym (later-step x h)) ∙ i.0,
+        ap (λ (b : Bool). (none && not b) && (length (later (x + 1)) == 0)) e ∙ none_step (hangs d p x) none n (later (x + 1))
+            ∙ ap (λ (l : List (List ℕ)). none && (length l == 0)) (sym (later-step x h)) ∙ i.0,
         ap (λ (l : List ℕ). l ++ each_name (later (x + 1))) k ∙ append_assoc out (each_name (where_hung d p x)) (each_name (later (x + 1)))
             ∙ ap (λ (l : List ℕ). out ++ l) (each_step (hangs d p x) n (later (x + 1))) ∙ ap (λ (l : List (List ℕ)). out ++ each_name l) (sym (later-step x h)) ∙ i.1,
       )

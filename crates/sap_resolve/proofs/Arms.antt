@@ -35,7 +35,8 @@ unfolding numbers_of
 numbers_of-none = refl
 
 -- one constant more is told
-pub numbers_step : (es : List Expr) (n : ℕ) (d : Expr) (old new : List ℕ) (x : ℕ) → n < length es → d ≡ get_or es n d → new ≡ old ++ x ∷ [] → x ≡ resolve.number_of (trees.expression_of d)
+pub numbers_step : (es : List Expr) (n : ℕ) (d : Expr) (old new : List ℕ) (x : ℕ) → n < length es → d ≡ get_or es n d → new ≡ old ++ x ∷ []
+    → x ≡ resolve.number_of (trees.expression_of d)
     → new ++ numbers_of (drop (n + 1) es) ≡ old ++ numbers_of (drop n es)
 numbers_step es n d old new x l e g v =
     let rest = numbers_of (drop (n + 1) es) in
@@ -49,7 +50,8 @@ numbers_end es n made all l e =
 module _ (ls : Levels) (h : Surroundings) where
   arms_from-more : (k : ℕ) (d : ArmTree) (rest : List ArmTree) (last : program.Block)
       → arms_from ls h k (d ∷ rest) last
-      ≡ program.and_arm (resolve.numbers_of (trees.constants_of d)) (resolve.block_of ls h k (trees.arm_block_of d)) (arms_from ls h (k + length (sites.block_sites h (trees.arm_block_of d))) rest last)
+      ≡ program.and_arm (resolve.numbers_of (trees.constants_of d)) (resolve.block_of ls h k (trees.arm_block_of d))
+      (arms_from ls h (k + length (sites.block_sites h (trees.arm_block_of d))) rest last)
   unfolding arms_from
   arms_from-more k d rest last = refl
 
@@ -140,7 +142,8 @@ module _ (ls : Levels) (h : Surroundings) where
 
   -- the arms of a tree: those of the list, and the block after `else`
 
-  pub arms_site_count-of : (arms : List ArmTree) (last : Block) → length (sites.arms_sites h (trees.arms_of arms (trees.block_of last))) ≡ arms_site_count h arms + list_site_count h last.commands.items
+  pub arms_site_count-of : (arms : List ArmTree) (last : Block)
+      → length (sites.arms_sites h (trees.arms_of arms (trees.block_of last))) ≡ arms_site_count h arms + list_site_count h last.commands.items
   unfolding arms_site_count list_site_count shape_lists.arms_sites
   arms_site_count-of [] last = omega arith
   arms_site_count-of (arm ∷ arms) last =
@@ -160,7 +163,8 @@ module _ (ls : Levels) (h : Surroundings) where
       ap (λ (a : Arms). program.and_arm (resolve.numbers_of (trees.constants_of arm)) (resolve.block_of ls h k (trees.arm_block_of arm)) a)
       (arms_from-of j arms last ∙ ap (λ (n : ℕ). arms_from ls h j arms (resolve.list_of ls h n (trees.commands_of last.commands.items))) to)
 
-  pub arms_points-from : (k : ℕ) (arms : List ArmTree) (last : program.Block) → arms_points (arms_from ls h k arms last) ≡ arms_points (arms_from ls h k arms end_block) + block_points last
+  pub arms_points-from : (k : ℕ) (arms : List ArmTree) (last : program.Block)
+      → arms_points (arms_from ls h k arms last) ≡ arms_points (arms_from ls h k arms end_block) + block_points last
   unfolding arms_from
   arms_points-from k [] last = omega arith
   arms_points-from k (arm ∷ arms) last = (let r = arms_points-from (k + length (sites.block_sites h (trees.arm_block_of arm))) arms last in omega (arith, r))

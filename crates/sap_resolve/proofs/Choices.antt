@@ -45,7 +45,8 @@ module _ (ls : Levels) (h : Surroundings) (k p limit : ℕ) (t : tree.Command) (
     pub try_sites : (seen : List Cmd) (j : ℕ) → seen ≡ b.commands.items → j ≡ k + length (sites.simple_sites h s) → j + list_site_count h seen < limit
     unfolding list_site_count
     try_sites seen j same g =
-        (let e = ap (λ (c : tree.Command). k + length (sites.command_sites h c)) is in let f = ap (λ (l : List Cmd). list_site_count h l) same in omega (arith, e, f, g, try_count h s place b, few_sites))
+        (let e = ap (λ (c : tree.Command). k + length (sites.command_sites h c)) is in
+        let f = ap (λ (l : List Cmd). list_site_count h l) same in omega (arith, e, f, g, try_count h s place b, few_sites))
 
     pub try_points : (seen : List Cmd) (j q w site : ℕ) → seen ≡ b.commands.items → j ≡ k + length (sites.simple_sites h s) → site ≡ resolve.site_number h k s
         → q ≡ p + step_points (resolve.step_of ls h site s) → w ≡ q + 1 → w + block_points (list_from ls h j seen) < limit
@@ -61,7 +62,8 @@ module _ (ls : Levels) (h : Surroundings) (k p limit : ℕ) (t : tree.Command) (
     pub if_sites : (seen : List Cmd) → seen ≡ one.commands.items → k + list_site_count h seen < limit
     unfolding list_site_count
     if_sites seen same =
-        (let e = ap (λ (c : tree.Command). k + length (sites.command_sites h c)) is in let f = ap (λ (l : List Cmd). list_site_count h l) same in omega (arith, e, f, if_count h place x one other, few_sites))
+        (let e = ap (λ (c : tree.Command). k + length (sites.command_sites h c)) is in
+        let f = ap (λ (l : List Cmd). list_site_count h l) same in omega (arith, e, f, if_count h place x one other, few_sites))
 
     pub if_points : (seen : List Cmd) (q : ℕ) → seen ≡ one.commands.items → q ≡ p + 1 → q + block_points (list_from ls h k seen) < limit
     unfolding list_from
@@ -72,7 +74,8 @@ module _ (ls : Levels) (h : Surroundings) (k p limit : ℕ) (t : tree.Command) (
     pub else_sites : (seen : List Cmd) (j : ℕ) → seen ≡ one.commands.items → j ≡ k + list_site_count h seen → j + length (sites.else_sites h other) < limit
     unfolding list_site_count
     else_sites seen j same g =
-        (let e = ap (λ (c : tree.Command). k + length (sites.command_sites h c)) is in let f = ap (λ (l : List Cmd). list_site_count h l) same in omega (arith, e, f, g, if_count h place x one other, few_sites))
+        (let e = ap (λ (c : tree.Command). k + length (sites.command_sites h c)) is in
+        let f = ap (λ (l : List Cmd). list_site_count h l) same in omega (arith, e, f, g, if_count h place x one other, few_sites))
 
     pub else_points : (seen : List Cmd) (j q w : ℕ) → seen ≡ one.commands.items → j ≡ k + list_site_count h seen → q ≡ p + 1 → w ≡ q + block_points (list_from ls h k seen)
         → w + block_points (resolve.else_of ls h j other) < limit
@@ -88,7 +91,8 @@ module _ (ls : Levels) (h : Surroundings) (k p limit : ℕ) (t : tree.Command) (
     pub accepted_sites : (seen : List Cmd) (j : ℕ) → seen ≡ a.commands.items → j ≡ k + length (sites.simple_sites h s) → j + list_site_count h seen < limit
     unfolding list_site_count
     accepted_sites seen j same g =
-        (let e = ap (λ (c : tree.Command). k + length (sites.command_sites h c)) is in let f = ap (λ (l : List Cmd). list_site_count h l) same in omega (arith, e, f, g, then_count h s place a b, few_sites))
+        (let e = ap (λ (c : tree.Command). k + length (sites.command_sites h c)) is in
+        let f = ap (λ (l : List Cmd). list_site_count h l) same in omega (arith, e, f, g, then_count h s place a b, few_sites))
 
     pub accepted_points : (seen : List Cmd) (j q w site : ℕ) → seen ≡ a.commands.items → j ≡ k + length (sites.simple_sites h s) → site ≡ resolve.site_number h k s
         → q ≡ p + step_points (resolve.step_of ls h site s) → w ≡ q + 1 → w + block_points (list_from ls h j seen) < limit
@@ -99,7 +103,8 @@ module _ (ls : Levels) (h : Surroundings) (k p limit : ℕ) (t : tree.Command) (
         let f = ap (λ (l : List Cmd). block_points (list_from ls h j l)) same ∙ ap (λ (n : ℕ). block_points (list_from ls h n a.commands.items)) g in
         omega (arith, e, d, f, u, v, few_points))
 
-    pub refused_sites : (seen after : List Cmd) (j i : ℕ) → seen ≡ a.commands.items → after ≡ b.commands.items → j ≡ k + length (sites.simple_sites h s) → i ≡ j + list_site_count h seen
+    pub refused_sites : (seen after : List Cmd) (j i : ℕ) → seen ≡ a.commands.items → after ≡ b.commands.items
+        → j ≡ k + length (sites.simple_sites h s) → i ≡ j + list_site_count h seen
         → i + list_site_count h after < limit
     unfolding list_site_count
     refused_sites seen after j i same last g f =
@@ -107,7 +112,8 @@ module _ (ls : Levels) (h : Surroundings) (k p limit : ℕ) (t : tree.Command) (
         let u = ap (λ (l : List Cmd). list_site_count h l) same in
         let v = ap (λ (l : List Cmd). list_site_count h l) last in omega (arith, e, f, g, u, v, then_count h s place a b, few_sites))
 
-    pub refused_points : (seen after : List Cmd) (j i q w u site : ℕ) → seen ≡ a.commands.items → after ≡ b.commands.items → j ≡ k + length (sites.simple_sites h s) → i ≡ j + list_site_count h seen
+    pub refused_points : (seen after : List Cmd) (j i q w u site : ℕ) → seen ≡ a.commands.items → after ≡ b.commands.items
+        → j ≡ k + length (sites.simple_sites h s) → i ≡ j + list_site_count h seen
         → site ≡ resolve.site_number h k s → q ≡ p + step_points (resolve.step_of ls h site s) → w ≡ q + 1 → u ≡ w + block_points (list_from ls h j seen)
         → u + block_points (list_from ls h i after) < limit
     unfolding list_from list_site_count
@@ -116,7 +122,8 @@ module _ (ls : Levels) (h : Surroundings) (k p limit : ℕ) (t : tree.Command) (
         let d = ap (λ (n : ℕ). p + step_points (resolve.step_of ls h n s)) x in
         let m = ap (λ (l : List Cmd). block_points (list_from ls h j l)) same ∙ ap (λ (n : ℕ). block_points (list_from ls h n a.commands.items)) g in
         let o = ap (λ (l : List Cmd). block_points (list_from ls h i l)) last
-        ∙ ap (λ (n : ℕ). block_points (list_from ls h n b.commands.items)) (f ∙ ap (λ (n : ℕ). n + list_site_count h seen) g ∙ ap (λ (l : List Cmd). k + length (sites.simple_sites h s) + list_site_count h l) same) in
+        ∙ ap (λ (n : ℕ). block_points (list_from ls h n b.commands.items)) (f ∙ ap (λ (n : ℕ). n + list_site_count h seen) g
+        ∙ ap (λ (l : List Cmd). k + length (sites.simple_sites h s) + list_site_count h l) same) in
         omega (arith, e, d, m, o, y, z, v, few_points))
 
   -- a `case` with its arms and its last block
@@ -219,7 +226,8 @@ then_made ls h k p r t s place a b is seen after j i q w u site same last g f x 
     ∙ ap (λ (l : tree.Command). command_with r p (resolve.command_of ls h k l)) (sym is)
 
 -- how many sites and points there are with `then`
-pub then_all_sites : (h : Surroundings) (k : ℕ) (t : tree.Command) (s : tree.SimpleCommand) (place : Place) (a b : Block) → t ≡ tree.try_then s place (trees.block_of a) (trees.block_of b)
+pub then_all_sites : (h : Surroundings) (k : ℕ) (t : tree.Command) (s : tree.SimpleCommand) (place : Place) (a b : Block)
+    → t ≡ tree.try_then s place (trees.block_of a) (trees.block_of b)
     → (seen after : List Cmd) (j i n : ℕ) → seen ≡ a.commands.items → after ≡ b.commands.items → j ≡ k + length (sites.simple_sites h s) → i ≡ j + list_site_count h seen
     → n ≡ i + list_site_count h after → n ≡ k + length (sites.command_sites h t)
 unfolding list_site_count
@@ -238,7 +246,8 @@ then_all_points ls h k p t s place a b is seen after j i q w u n site same last 
     let d = ap (λ (n : ℕ). p + step_points (resolve.step_of ls h n s)) x in
     let m = ap (λ (l : List Cmd). block_points (list_from ls h j l)) same ∙ ap (λ (n : ℕ). block_points (list_from ls h n a.commands.items)) g in
     let o = ap (λ (l : List Cmd). block_points (list_from ls h i l)) last
-    ∙ ap (λ (n : ℕ). block_points (list_from ls h n b.commands.items)) (f ∙ ap (λ (n : ℕ). n + list_site_count h seen) g ∙ ap (λ (l : List Cmd). k + length (sites.simple_sites h s) + list_site_count h l) same) in
+    ∙ ap (λ (n : ℕ). block_points (list_from ls h n b.commands.items)) (f ∙ ap (λ (n : ℕ). n + list_site_count h seen) g
+    ∙ ap (λ (l : List Cmd). k + length (sites.simple_sites h s) + list_site_count h l) same) in
     omega (arith, e, d, m, o, y, z, v, r))
 
 -- an `if` as it is made
@@ -255,17 +264,21 @@ unfolding list_from list_site_count
 if_made ls h k p r t place x one other is seen j q w same g u v hang e m n a b c d =
     let first = list_from ls h k one.commands.items in
     let behind : j ≡ k + list_site_count h one.commands.items = g ∙ ap (λ (l : List Cmd). k + list_site_count h l) same in
-    let end : w ≡ p + 1 + block_points first = v ∙ ap (λ (n : ℕ). n + block_points (list_from ls h k seen)) u ∙ ap (λ (l : List Cmd). p + 1 + block_points (list_from ls h k l)) same in
+    let end : w ≡ p + 1 + block_points first = v ∙ ap (λ (n : ℕ). n + block_points (list_from ls h k seen)) u
+    ∙ ap (λ (l : List Cmd). p + 1 + block_points (list_from ls h k l)) same in
     if_same _ _ _ _ _ _ _ _ a b (c ∙ ap (λ (n : ℕ). block_with r n (list_from ls h k seen)) u ∙ ap (λ (l : List Cmd). block_with r (p + 1) (list_from ls h k l)) same)
     (d ∙ ap (λ (n : ℕ). block_with r n (resolve.else_of ls h j other)) end ∙ ap (λ (n : ℕ). block_with r (p + 1 + block_points first) (resolve.else_of ls h n other)) behind)
     ∙ ap (λ (l : tree.Command). command_with r p (resolve.command_of ls h k l)) (sym is)
 
 -- how many sites and points it has in all
-pub all_sites : (h : Surroundings) (k : ℕ) (t : tree.Command) (place : Place) (x : tree.Expression) (one : Block) (other : tree.ElseBlock) → t ≡ tree.if_else place x (trees.block_of one) other
-    → (seen : List Cmd) (j i : ℕ) → seen ≡ one.commands.items → j ≡ k + list_site_count h seen → i ≡ j + length (sites.else_sites h other) → i ≡ k + length (sites.command_sites h t)
+pub all_sites : (h : Surroundings) (k : ℕ) (t : tree.Command) (place : Place) (x : tree.Expression) (one : Block) (other : tree.ElseBlock)
+    → t ≡ tree.if_else place x (trees.block_of one) other
+    → (seen : List Cmd) (j i : ℕ) → seen ≡ one.commands.items → j ≡ k + list_site_count h seen → i ≡ j + length (sites.else_sites h other)
+    → i ≡ k + length (sites.command_sites h t)
 unfolding list_site_count
 all_sites h k t place x one other is seen j i same g f =
-    (let e = ap (λ (c : tree.Command). k + length (sites.command_sites h c)) is in let u = ap (λ (l : List Cmd). list_site_count h l) same in omega (arith, e, f, g, u, if_count h place x one other))
+    (let e = ap (λ (c : tree.Command). k + length (sites.command_sites h c)) is in
+    let u = ap (λ (l : List Cmd). list_site_count h l) same in omega (arith, e, f, g, u, if_count h place x one other))
 
 pub all_points : (ls : Levels) (h : Surroundings) (k p : ℕ) (t : tree.Command) (place : Place) (x : tree.Expression) (one : Block) (other : tree.ElseBlock)
     → t ≡ tree.if_else place x (trees.block_of one) other → (seen : List Cmd) (j q w u : ℕ) → seen ≡ one.commands.items → j ≡ k + list_site_count h seen → q ≡ p + 1

@@ -33,7 +33,8 @@ surroundings es s = record { entities = es; home = record { name = (out-State s)
 module _ (ls : Levels) (es : List Entity) where
   group_from-more : (k x : ℕ) (d : State) (rest : List State)
       → group_from ls es k x (d ∷ rest)
-      ≡ and_node (resolve.state_of ls es k x (trees.state_of d)) (group_from ls es (k + length (sites.state_sites es (trees.state_of d))) (x + worlds.states_in (trees.state_of d)) rest)
+      ≡ and_node (resolve.state_of ls es k x (trees.state_of d))
+      (group_from ls es (k + length (sites.state_sites es (trees.state_of d))) (x + worlds.states_in (trees.state_of d)) rest)
   unfolding group_from
   group_from-more k x d rest = refl
 
@@ -81,18 +82,21 @@ module _ (ls : Levels) (es : List Entity) where
 
   pub group_points_end : (ss : List State) (n k x p all : ℕ) → length ss ≤ n → p + group_points (group_from ls es k x (drop n ss)) ≡ all → p ≡ all
   group_points_end ss n k x p all l e =
-      (let z : group_points (group_from ls es k x (drop n ss)) ≡ 0 = ap (λ (b : Group). group_points b) (ap (group_from ls es k x) (drop_past ss n l) ∙ group_from-none k x) in omega (arith, z, e))
+      (let z : group_points (group_from ls es k x (drop n ss)) ≡ 0 =
+      ap (λ (b : Group). group_points b) (ap (group_from ls es k x) (drop_past ss n l) ∙ group_from-none k x) in omega (arith, z, e))
 
   -- the points of one state are among those that are left
   pub group_points_within : (ss : List State) (n : ℕ) (d : State) (k x p all limit : ℕ) → n < length ss → d ≡ get_or ss n d
       → p + group_points (group_from ls es k x (drop n ss)) ≡ all → all < limit → p + state_points (resolve.state_of ls es k x (trees.state_of d)) < limit
   group_points_within ss n d k x p all limit l e i f =
-      let g = ap (λ (b : Group). p + group_points b) (group_drop ss n d k (k + length (sites.state_sites es (trees.state_of d))) x (x + worlds.states_in (trees.state_of d)) l e refl refl) in
+      let g = ap (λ (b : Group). p + group_points b)
+      (group_drop ss n d k (k + length (sites.state_sites es (trees.state_of d))) x (x + worlds.states_in (trees.state_of d)) l e refl refl) in
       omega (arith, g, i, f)
 
   pub state_from : (k x : ℕ) (s : State)
       → resolve.state_of ls es k x (trees.state_of s)
-      ≡ state_node x (list_from ls (surroundings es s) k (out-State s).body.commands.items) (group_from ls es (k + list_site_count (surroundings es s) (out-State s).body.commands.items) (x + 1) (out-State s).children.items)
+      ≡ state_node x (list_from ls (surroundings es s) k (out-State s).body.commands.items)
+      (group_from ls es (k + list_site_count (surroundings es s) (out-State s).body.commands.items) (x + 1) (out-State s).children.items)
   unfolding list_from list_site_count group_from
   state_from k x s = ap (λ (t : StateTree). resolve.state_of ls es k x t) (state_of-out s)
 
@@ -159,7 +163,8 @@ below_inside s rest r = states_in-is s ∙ ap (λ (g : List State). 1 + states_b
 
 -- what is left of a state behind its body, where its parts are as the code sees them
 
-module _ (es : List Entity) (s : State) (first : List State) (first_is : first ≡ (out-State s).children.items) (body : List Cmd) (body_is : body ≡ (out-State s).body.commands.items)
+module _ (es : List Entity) (s : State) (first : List State) (first_is : first ≡ (out-State s).children.items) (body : List Cmd)
+    (body_is : body ≡ (out-State s).body.commands.items)
     (rest : List State) (rest_is : rest ≡ (out-State s).children.items) (limit : ℕ) where
   abbrev here : Surroundings
   here = record { entities = es; home = record { name = (out-State s).name.name; kind = (out-State s).kind; children = states_of first } }
@@ -182,12 +187,14 @@ module _ (es : List Entity) (s : State) (first : List State) (first_is : first �
       let d = ap₂ (λ (i : ℕ) (r : List State). group_points (group_from ls es i (x + 1) r)) (e ∙ ap (λ (n : ℕ). k + n) body_sites) rest_is in
       omega (arith, a, b, d, w, l))
 
-pub rest_states : (s : State) (rest : List State) → rest ≡ (out-State s).children.items → (limit x : ℕ) → x + worlds.states_in (trees.state_of s) < limit → x + 1 + states_below rest < limit
+pub rest_states : (s : State) (rest : List State) → rest ≡ (out-State s).children.items → (limit x : ℕ)
+    → x + worlds.states_in (trees.state_of s) < limit → x + 1 + states_below rest < limit
 rest_states s rest r limit x l = (let a = states_in-is s in let d = ap (λ (g : List State). states_below g) r in omega (arith, a, d, l))
 
 -- a whole design's states and sites, as the code sees them
 
-pub whole_states : (v : Version) (ls : Levels) (ds : List Decl) (ss : List State) (es : List Entity) (seen : List State) (x : ℕ) (rows : Rows) (made : Group) → es ≡ entities_of (tree_of v ds ss) → seen ≡ ss
+pub whole_states : (v : Version) (ls : Levels) (ds : List Decl) (ss : List State) (es : List Entity) (seen : List State) (x : ℕ)
+    (rows : Rows) (made : Group) → es ≡ entities_of (tree_of v ds ss) → seen ≡ ss
     → x ≡ length ds → made ≡ group_with rows 1 (group_from ls es 1 x seen) → made ≡ group_with rows 1 (resolve.states_of ls (tree_of v ds ss))
 unfolding group_from
 whole_states v ls ds ss es seen x rows made a b d h = h ∙ rw (a, b, d) refl

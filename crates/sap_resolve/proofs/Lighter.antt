@@ -16,20 +16,24 @@ pub try_lighter : (t : tree.Command) (s : tree.SimpleCommand) (place : Place) (b
 try_lighter t s place b seen is same =
     (let e = ap (λ (c : tree.Command). command_weight c) is in let f = ap (λ (l : List Cmd). commands_weight (commands_of l)) same in omega (arith, e, f))
 
-pub if_lighter : (t : tree.Command) (place : Place) (x : tree.Expression) (one : Block) (other : tree.ElseBlock) (seen : List Cmd) → t ≡ tree.if_else place x (block_of one) other → seen ≡ one.commands.items
+pub if_lighter : (t : tree.Command) (place : Place) (x : tree.Expression) (one : Block) (other : tree.ElseBlock) (seen : List Cmd)
+    → t ≡ tree.if_else place x (block_of one) other → seen ≡ one.commands.items
     → commands_weight (commands_of seen) < command_weight t
 if_lighter t place x one other seen is same =
     (let e = ap (λ (c : tree.Command). command_weight c) is in let f = ap (λ (l : List Cmd). commands_weight (commands_of l)) same in omega (arith, e, f))
 
-pub else_lighter : (t : tree.Command) (place : Place) (x : tree.Expression) (one : Block) (other : tree.ElseBlock) → t ≡ tree.if_else place x (block_of one) other → else_weight other + 1 < command_weight t
+pub else_lighter : (t : tree.Command) (place : Place) (x : tree.Expression) (one : Block) (other : tree.ElseBlock)
+    → t ≡ tree.if_else place x (block_of one) other → else_weight other + 1 < command_weight t
 else_lighter t place x one other is = (let e = ap (λ (c : tree.Command). command_weight c) is in omega (arith, e))
 
-pub accepted_lighter : (t : tree.Command) (s : tree.SimpleCommand) (place : Place) (a b : Block) (seen : List Cmd) → t ≡ tree.try_then s place (block_of a) (block_of b) → seen ≡ a.commands.items
+pub accepted_lighter : (t : tree.Command) (s : tree.SimpleCommand) (place : Place) (a b : Block) (seen : List Cmd)
+    → t ≡ tree.try_then s place (block_of a) (block_of b) → seen ≡ a.commands.items
     → commands_weight (commands_of seen) < command_weight t
 accepted_lighter t s place a b seen is same =
     (let e = ap (λ (c : tree.Command). command_weight c) is in let f = ap (λ (l : List Cmd). commands_weight (commands_of l)) same in omega (arith, e, f))
 
-pub refused_lighter : (t : tree.Command) (s : tree.SimpleCommand) (place : Place) (a b : Block) (seen : List Cmd) → t ≡ tree.try_then s place (block_of a) (block_of b) → seen ≡ b.commands.items
+pub refused_lighter : (t : tree.Command) (s : tree.SimpleCommand) (place : Place) (a b : Block) (seen : List Cmd)
+    → t ≡ tree.try_then s place (block_of a) (block_of b) → seen ≡ b.commands.items
     → commands_weight (commands_of seen) < command_weight t
 refused_lighter t s place a b seen is same =
     (let e = ap (λ (c : tree.Command). command_weight c) is in let f = ap (λ (l : List Cmd). commands_weight (commands_of l)) same in omega (arith, e, f))
@@ -51,7 +55,8 @@ arm_lighter arms n d seen l e same =
     let g = arms_weight-in arms n d l in
     let i = ap (λ (l : List Cmd). commands_weight (commands_of l)) same in omega (arith, f, g, i))
 
-pub some_lighter : (other : Option Block) (b : Block) (seen : List Cmd) → other ≡ Some b → seen ≡ b.commands.items → commands_weight (commands_of seen) < else_weight (else_of other) + 1
+pub some_lighter : (other : Option Block) (b : Block) (seen : List Cmd) → other ≡ Some b → seen ≡ b.commands.items
+    → commands_weight (commands_of seen) < else_weight (else_of other) + 1
 some_lighter other b seen is same =
     (let e = ap (λ (o : Option Block). else_weight (else_of o)) is in let f = ap (λ (l : List Cmd). commands_weight (commands_of l)) same in omega (arith, e, f))
 

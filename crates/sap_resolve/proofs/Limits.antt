@@ -102,10 +102,12 @@ limited : (t : Bool) (i r m s d c : ℕ) → IsTrue (t && (nat_le i 64 && nat_le
 limited t i r m s d c h = (grind (arith, common_steps), (grind (arith, common_steps), grind (arith, common_steps)))
 
 module _ (t : DesignTree) (whole : IsTrue (is_whole t)) where
-  limits : (count_by is_input t.declarations + count_by is_register t.declarations + count_by is_memory t.declarations ≤ 336) × ((states_count t.states ≤ 256) × (states_commands t.states ≤ 4096))
+  limits : (count_by is_input t.declarations + count_by is_register t.declarations + count_by is_memory t.declarations ≤ 336)
+      × ((states_count t.states ≤ 256) × (states_commands t.states ≤ 4096))
   unfolding is_whole
   limits =
-      limited (is_tree t) (count_by is_input t.declarations) (count_by is_register t.declarations) (count_by is_memory t.declarations) (states_count t.states) (states_depth t.states) (states_commands t.states) whole
+      limited (is_tree t) (count_by is_input t.declarations) (count_by is_register t.declarations) (count_by is_memory t.declarations)
+      (states_count t.states) (states_depth t.states) (states_commands t.states) whole
 
   pub few_sites : (ls : Levels) (es : List Entity) → 1 + length (sites.states_sites es t.states) < 2 ^ 32
   few_sites ls es = let a = states_few es t.states in let b = limits in omega arith
@@ -118,7 +120,8 @@ module _ (t : DesignTree) (whole : IsTrue (is_whole t)) where
 
 -- as the code sees them
 
-pub sites_fit : (v : Version) (ls : Levels) (ds : List Decl) (ss : List State) (es : List Entity) (seen : List State) → IsTrue (is_whole (tree_of v ds ss)) → seen ≡ ss → 1 + lists.group_site_count es seen < 2 ^ 32
+pub sites_fit : (v : Version) (ls : Levels) (ds : List Decl) (ss : List State) (es : List Entity) (seen : List State)
+    → IsTrue (is_whole (tree_of v ds ss)) → seen ≡ ss → 1 + lists.group_site_count es seen < 2 ^ 32
 unfolding lists.group_site_count
 sites_fit v ls ds ss es seen whole b = (let a = few_sites (tree_of v ds ss) whole ls es in let e = ap (λ (l : List State). lists.group_site_count es l) b in omega (arith, a, e))
 
@@ -128,6 +131,7 @@ unfolding lists.group_from
 points_fit v ls ds ss es k x seen whole b =
     (let a = few_points (tree_of v ds ss) whole ls es k x in let e = ap (λ (l : List State). group_points (lists.group_from ls es k x l)) b in omega (arith, a, e))
 
-pub states_fit : (v : Version) (ds : List Decl) (ss : List State) (x : ℕ) (seen : List State) → IsTrue (is_whole (tree_of v ds ss)) → seen ≡ ss → x ≡ length ds → x + lists.states_below seen < 2 ^ 32
+pub states_fit : (v : Version) (ds : List Decl) (ss : List State) (x : ℕ) (seen : List State) → IsTrue (is_whole (tree_of v ds ss))
+    → seen ≡ ss → x ≡ length ds → x + lists.states_below seen < 2 ^ 32
 unfolding lists.states_below
 states_fit v ds ss x seen whole b d = (let a = few_entities (tree_of v ds ss) whole in let e = ap (λ (l : List State). lists.states_below l) b in omega (arith, a, e, d))

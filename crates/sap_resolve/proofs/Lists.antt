@@ -43,7 +43,8 @@ module _ (ls : Levels) (h : Surroundings) where
   pub commands_step : (m : ℕ) (r : Rows) (cs : List Cmd) (n : ℕ) (d : Cmd) (k j p u : ℕ) (old new : List Command) (c : Command) → n < length cs → d ≡ get_or cs n d
       → new ≡ old ++ c ∷ [] → views.command_of m c ≡ command_with r p (resolve.command_of ls h k (trees.command_of d)) → j ≡ k + length (sites.command_sites h (trees.command_of d))
       → u ≡ p + command_points (resolve.command_of ls h k (trees.command_of d))
-      → views.followed (views.block_of m new) (block_with r u (list_from ls h j (drop (n + 1) cs))) ≡ views.followed (views.block_of m old) (block_with r p (list_from ls h k (drop n cs)))
+      → views.followed (views.block_of m new) (block_with r u (list_from ls h j (drop (n + 1) cs)))
+      ≡ views.followed (views.block_of m old) (block_with r p (list_from ls h k (drop n cs)))
   commands_step m r cs n d k j p u old new c l e g v q w =
       let rest = list_from ls h j (drop (n + 1) cs) in
       let it = resolve.command_of ls h k (trees.command_of d) in
@@ -70,7 +71,8 @@ module _ (ls : Levels) (h : Surroundings) where
 
   pub points_end : (cs : List Cmd) (n k p all : ℕ) → length cs ≤ n → p + block_points (list_from ls h k (drop n cs)) ≡ all → p ≡ all
   points_end cs n k p all l e =
-      (let z : block_points (list_from ls h k (drop n cs)) ≡ 0 = ap (λ (b : program.Block). block_points b) (ap (list_from ls h k) (drop_past cs n l) ∙ list_from-none k) in omega (arith, z, e))
+      (let z : block_points (list_from ls h k (drop n cs)) ≡ 0 =
+      ap (λ (b : program.Block). block_points b) (ap (list_from ls h k) (drop_past cs n l) ∙ list_from-none k) in omega (arith, z, e))
 
   -- the points of one command are among those that are left
   pub points_within : (cs : List Cmd) (n : ℕ) (d : Cmd) (k p all limit : ℕ) → n < length cs → d ≡ get_or cs n d

@@ -60,8 +60,10 @@ module _ (r : Rows) where
           let row = table (root w) (touches w at (try k hang handler)) in
           let s = step_placed at k p (row ∷ (block_rows (filled_block w at handler) ++ more))
           (joined_rows p (step_rows (filled_step w at k)) (row ∷ block_rows (filled_block w at handler)) more h) in
-          let b = block_placed at handler (p + step_points k + 1) more s.1.1 in
-          (try_same _ _ _ _ _ _ s.0 (sym s.1.0) b.0, at_point (p + step_points k + 1 + block_points handler) (p + (step_points k + 1 + block_points handler)) more (omega arith) b.1)
+          let b = block_placed at handler (p + step_points k + 1) more s.1.1 in (
+            try_same _ _ _ _ _ _ s.0 (sym s.1.0) b.0,
+            at_point (p + step_points k + 1 + block_points handler) (p + (step_points k + 1 + block_points handler)) more (omega arith) b.1,
+          )
       command_placed at (if_else hang condition a b) p more h =
           let x = block_placed at a (p + 1) (block_rows (filled_block w at b) ++ more)
           (joined_rows (p + 1) (block_rows (filled_block w at a)) (block_rows (filled_block w at b)) more h.1) in
@@ -102,7 +104,8 @@ module _ (r : Rows) where
           → (state_with r p s ≡ filled_state w parent s) × Follow r (p + state_points s) more
       state_placed parent (state_node s body children) p more h =
           let at : Home = record { state = s; parent = parent; children = children } in
-          let x = block_placed at body p (group_rows (filled_group w s children) ++ more) (joined_rows p (block_rows (filled_block w at body)) (group_rows (filled_group w s children)) more h) in
+          let x = block_placed at body p (group_rows (filled_group w s children) ++ more)
+          (joined_rows p (block_rows (filled_block w at body)) (group_rows (filled_group w s children)) more h) in
           let y = group_placed s children (p + block_points body) more x.1 in
           (ap₂ (state_node s) x.0 y.0, at_point (p + block_points body + group_points children) (p + (block_points body + group_points children)) more (omega arith) y.1)
 
@@ -110,7 +113,8 @@ module _ (r : Rows) where
           → (group_with r p g ≡ filled_group w parent g) × Follow r (p + group_points g) more
       group_placed parent NoState p more h = (refl, at_point p (p + 0) more (omega arith) h)
       group_placed parent (and_node s rest) p more h =
-          let x = state_placed parent s p (group_rows (filled_group w parent rest) ++ more) (joined_rows p (state_rows (filled_state w parent s)) (group_rows (filled_group w parent rest)) more h) in
+          let x = state_placed parent s p (group_rows (filled_group w parent rest) ++ more)
+          (joined_rows p (state_rows (filled_state w parent s)) (group_rows (filled_group w parent rest)) more h) in
           let y = group_placed parent rest (p + state_points s) more x.1 in
           (ap₂ and_node x.0 y.0, at_point (p + state_points s + group_points rest) (p + (state_points s + group_points rest)) more (omega arith) y.1)
 

@@ -42,7 +42,8 @@ behind old mid new rest y h k = k ∙ ap (λ l. l ++ rest) h ∙ append_assoc ol
 
 -- declarations
 
-pub declared_step : (ls : Levels) (ds : List Decl) (n : ℕ) (d : Decl) (old new : List Entity) (e : Entity) → n < length ds → d ≡ get_or ds n d → new ≡ old ++ e ∷ [] → entity_of e ≡ worlds.declared ls d
+pub declared_step : (ls : Levels) (ds : List Decl) (n : ℕ) (d : Decl) (old new : List Entity) (e : Entity) → n < length ds
+    → d ≡ get_or ds n d → new ≡ old ++ e ∷ [] → entity_of e ≡ worlds.declared ls d
     → map entity_of new ++ worlds.all_declared ls (drop (n + 1) ds) ≡ map entity_of old ++ worlds.all_declared ls (drop n ds)
 declared_step ls ds n d old new e l i p h =
     parts_step (λ (x : Decl). worlds.declared ls x ∷ []) (worlds.all_declared ls) refl (λ x xs. refl) ds n d (map entity_of old) (map entity_of new) l i
@@ -51,7 +52,8 @@ declared_step ls ds n d old new e l i p h =
 pub declared_end : (ls : Levels) (ds : List Decl) (n : ℕ) (new whole : List program.Entity) → length ds ≤ n → new ++ worlds.all_declared ls (drop n ds) ≡ whole → new ≡ whole
 declared_end ls ds n new whole l e = parts_end (λ (x : Decl). worlds.declared ls x ∷ []) (worlds.all_declared ls) refl (λ x xs. refl) ds n new whole l e
 
-pub names_step : (ds : List Decl) (n : ℕ) (d : Decl) (old new : List Entity) (e : Entity) → n < length ds → d ≡ get_or ds n d → new ≡ old ++ e ∷ [] → e.name ≡ (names.entity_of d).name.name
+pub names_step : (ds : List Decl) (n : ℕ) (d : Decl) (old new : List Entity) (e : Entity) → n < length ds → d ≡ get_or ds n d
+    → new ≡ old ++ e ∷ [] → e.name ≡ (names.entity_of d).name.name
     → own_names new ++ names_of (names.declared_in (drop (n + 1) ds)) ≡ own_names old ++ names_of (names.declared_in (drop n ds))
 names_step ds n d old new e l i p h =
     parts_step (λ (x : Decl). (names.entity_of x).name.name ∷ []) (λ (x : List Decl). names_of (names.declared_in x)) refl (λ x xs. refl) ds n d (own_names old) (own_names new) l i
@@ -125,11 +127,13 @@ module _ (ls : Levels) where
       let made : program.Entity = record { kind = program.state n last; width = 0; dynamic = dynamic; declared = level; authority = authority; initial = 0 } in
       behind (map entity_of old) (map entity_of mid) (map entity_of new) (group_entities ls 0 (x + 1) kids) made (pushed entity_of old mid e made j i) k
       ∙ ap (λ (l : List program.Entity). map entity_of old ++ l)
-      (ap₂ (λ (y : program.Entity) (l : List State). y ∷ group_entities ls 0 (x + 1) l) (state_same n last (x + states_below (out-State s).children.items) dynamic (worlds.is_dynamic_kind (out-State s).kind)
+      (ap₂ (λ (y : program.Entity) (l : List State). y ∷ group_entities ls 0 (x + 1) l)
+      (state_same n last (x + states_below (out-State s).children.items) dynamic (worlds.is_dynamic_kind (out-State s).kind)
       level (worlds.declared_level ls (out-State s).kind) authority (worlds.authority_of ls (out-State s).kind) (a ∙ ap (λ (l : List State). x + states_below l) b) f g h) c
       ∙ state_laid s n x)
 
-pub group_names_step : (ss : List State) (n : ℕ) (d : State) (old new : List (List ℕ)) → n < length ss → d ≡ get_or ss n d → new ≡ old ++ names_of (names.state_entities (trees.state_of d))
+pub group_names_step : (ss : List State) (n : ℕ) (d : State) (old new : List (List ℕ)) → n < length ss → d ≡ get_or ss n d
+    → new ≡ old ++ names_of (names.state_entities (trees.state_of d))
     → new ++ group_names (drop (n + 1) ss) ≡ old ++ group_names (drop n ss)
 unfolding group_names
 group_names_step ss n d old new l e k =
@@ -142,7 +146,8 @@ group_names_end ss n new whole l e =
     parts_end (λ (s : State). names_of (names.state_entities (trees.state_of s))) group_names refl
     (λ s rest. map-append (λ e. e.name.name) (names.state_entities (trees.state_of s)) (names.group_entities (states_of rest))) ss n new whole l e
 
-pub state_named : (s : State) (kids : List State) (old mid new : List Entity) (e : Entity) → kids ≡ (out-State s).children.items → e.name ≡ (out-State s).name.name → mid ≡ old ++ e ∷ []
+pub state_named : (s : State) (kids : List State) (old mid new : List Entity) (e : Entity) → kids ≡ (out-State s).children.items
+    → e.name ≡ (out-State s).name.name → mid ≡ old ++ e ∷ []
     → own_names new ≡ own_names mid ++ group_names kids → own_names new ≡ own_names old ++ names_of (names.state_entities (trees.state_of s))
 unfolding group_names
 state_named s kids old mid new e c h j k =
@@ -163,31 +168,37 @@ pub group_size : (ss : List State) → worlds.group_length (states_of ss) ≡ le
 group_size [] = refl
 group_size (s ∷ ss) = (let r = group_size ss in omega (arith, r))
 
-pub state_counted : (s : State) (size : ℕ) (kids : List State) (old mid new : List ℕ) → size ≡ length (out-State s).children.items → kids ≡ (out-State s).children.items → mid ≡ old ++ size ∷ []
+pub state_counted : (s : State) (size : ℕ) (kids : List State) (old mid new : List ℕ) → size ≡ length (out-State s).children.items
+    → kids ≡ (out-State s).children.items → mid ≡ old ++ size ∷ []
     → new ≡ mid ++ group_children kids → new ≡ old ++ worlds.state_children (trees.state_of s)
 unfolding group_children
 state_counted s size kids old mid new c b j k =
     behind old mid new (group_children kids) size j k
     ∙ ap (λ (l : List ℕ). old ++ l)
-    (ap₂ (λ (n : ℕ) (l : List State). n ∷ group_children l) (c ∙ sym (group_size (out-State s).children.items)) b ∙ sym (ap (λ (t : StateTree). worlds.state_children t) (state_of-out s)))
+    (ap₂ (λ (n : ℕ) (l : List State). n ∷ group_children l) (c ∙ sym (group_size (out-State s).children.items)) b
+    ∙ sym (ap (λ (t : StateTree). worlds.state_children t) (state_of-out s)))
 
 -- a whole design's
 
-pub all_children : (v : Version) (ls : Levels) (ds : List Decl) (ss seen : List State) (size : ℕ) (made more most whole : List ℕ) → made ≡ [] → more ≡ made ++ worlds.no_children ds → seen ≡ ss
+pub all_children : (v : Version) (ls : Levels) (ds : List Decl) (ss seen : List State) (size : ℕ) (made more most whole : List ℕ)
+    → made ≡ [] → more ≡ made ++ worlds.no_children ds → seen ≡ ss
     → most ≡ more ++ group_children seen → size ≡ length ss → whole ≡ most ++ size ∷ [] → whole ≡ (worlds.world_of ls (tree_of v ds ss)).children
 unfolding group_children
 all_children v ls ds ss seen size made more most whole a b e c d f =
     f
-    ∙ ap₂ (λ (l : List ℕ) (n : ℕ). l ++ n ∷ []) (c ∙ ap₂ (λ (l : List ℕ) (s : List State). l ++ group_children s) (b ∙ ap (λ (l : List ℕ). l ++ worlds.no_children ds) a) e) (d ∙ sym (group_size ss))
+    ∙ ap₂ (λ (l : List ℕ) (n : ℕ). l ++ n ∷ []) (c
+    ∙ ap₂ (λ (l : List ℕ) (s : List State). l ++ group_children s) (b ∙ ap (λ (l : List ℕ). l ++ worlds.no_children ds) a) e) (d ∙ sym (group_size ss))
 
-pub all_entities : (v : Version) (ls : Levels) (ds : List Decl) (ss seen : List State) (size : ℕ) (made more most : List Entity) → made ≡ [] → map entity_of more ≡ map entity_of made ++ worlds.all_declared ls ds
+pub all_entities : (v : Version) (ls : Levels) (ds : List Decl) (ss seen : List State) (size : ℕ) (made more most : List Entity) → made ≡ []
+    → map entity_of more ≡ map entity_of made ++ worlds.all_declared ls ds
     → seen ≡ ss → size ≡ length ds → map entity_of most ≡ map entity_of more ++ group_entities ls 0 size seen → map entity_of most ≡ (worlds.world_of ls (tree_of v ds ss)).entities
 unfolding group_entities
 all_entities v ls ds ss seen size made more most a b e d c =
     c ∙ ap₂ (λ (l : List program.Entity) (s : List State). l ++ group_entities ls 0 size s) (b ∙ ap (λ (l : List Entity). map entity_of l ++ worlds.all_declared ls ds) a) e
     ∙ ap (λ (n : ℕ). worlds.all_declared ls ds ++ group_entities ls 0 n ss) d
 
-pub all_names : (v : Version) (ds : List Decl) (ss seen : List State) (made more most : List Entity) → made ≡ [] → own_names more ≡ own_names made ++ names_of (names.declared_in ds)
+pub all_names : (v : Version) (ds : List Decl) (ss seen : List State) (made more most : List Entity) → made ≡ []
+    → own_names more ≡ own_names made ++ names_of (names.declared_in ds)
     → seen ≡ ss → own_names most ≡ own_names more ++ group_names seen → own_names most ≡ names_of (names.entities_of (tree_of v ds ss))
 unfolding group_names
 all_names v ds ss seen made more most a b e c =

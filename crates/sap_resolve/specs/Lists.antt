@@ -29,7 +29,8 @@ list_site_count h cs = length (shape_lists.list_sites h cs)
 unfoldable pub arms_from : Levels → Surroundings → (k : ℕ) → List Arm → Block → Arms
 arms_from ls h k [] last = last_arm last
 arms_from ls h k (arm ∷ arms) last =
-    program.and_arm (resolve.numbers_of (constants_of arm)) (resolve.block_of ls h k (arm_block_of arm)) (arms_from ls h (k + length (sites.block_sites h (arm_block_of arm))) arms last)
+    program.and_arm (resolve.numbers_of (constants_of arm)) (resolve.block_of ls h k (arm_block_of arm))
+    (arms_from ls h (k + length (sites.block_sites h (arm_block_of arm))) arms last)
 
 unfoldable pub arms_site_count : Surroundings → List Arm → ℕ
 arms_site_count h arms = length (shape_lists.arms_sites h arms)

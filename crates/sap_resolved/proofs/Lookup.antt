@@ -141,7 +141,8 @@ pub entity_dynamic : (ls : Levels) (d : DesignTree) (name : List ℕ) (e : decla
 entity_dynamic ls d name e f = (entity_matches ls d name e f).dynamic
 
 -- what is declared of a name, and its entity
-pub what_found : (o : Option declared_entity.Entity) (x : Declared) → option_map (λ (e : declared_entity.Entity). e.what) o ≡ Some x → (e : declared_entity.Entity) × (o ≡ Some e) × (e.what ≡ x)
+pub what_found : (o : Option declared_entity.Entity) (x : Declared) → option_map (λ (e : declared_entity.Entity). e.what) o ≡ Some x
+    → (e : declared_entity.Entity) × (o ≡ Some e) × (e.what ≡ x)
 what_found None x h = cc
 what_found (Some e) x h = (e, refl, cc)
 

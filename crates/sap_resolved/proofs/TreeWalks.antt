@@ -230,7 +230,8 @@ module _ (ls : Levels) (h : Surroundings) {A B : Type 0} (none : A) (join : A â†
       gathered_resolved k (lone c) p = at_step (site_number h k c) c p
       gathered_resolved k (try c place b) p =
           let i = k + length (simple_sites h c) in
-          at_join (f c) (in_block b) (g (step_of ls h (site_number h k c) c)) (of_block (block_of ls h i b)) (at_step (site_number h k c) c p.0) (gathered_in_block_resolved i b p.1)
+          at_join (f c) (in_block b) (g (step_of ls h (site_number h k c) c)) (of_block (block_of ls h i b))
+          (at_step (site_number h k c) c p.0) (gathered_in_block_resolved i b p.1)
       gathered_resolved k (if_else place e b other) p =
           let i = k + length (block_sites h b) in
           at_join (in_block b) (in_else other) (of_block (block_of ls h k b)) (of_block (else_of ls h i other)) (gathered_in_block_resolved k b p.1)

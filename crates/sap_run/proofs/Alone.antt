@@ -18,13 +18,16 @@ none_hangs : (n x : ℕ) → listed (flags n []) x ≡ false
 none_hangs n x = flagged n [] x
 
 module _ (d : Environment) (at : Home) (k : Step) where
-  pub quiet_alone : ((x : ℕ) → listed_alone (world_in d) (home_in d at) (step_of (entities_in d) k) x ≡ false) → (x : ℕ) → listed (flags (entities_in d) []) x ≡ listed_alone (world_in d) (home_in d at) (step_of (entities_in d) k) x
+  pub quiet_alone : ((x : ℕ) → listed_alone (world_in d) (home_in d at) (step_of (entities_in d) k) x ≡ false) → (x : ℕ)
+      → listed (flags (entities_in d) []) x ≡ listed_alone (world_in d) (home_in d at) (step_of (entities_in d) k) x
   quiet_alone e x = none_hangs (entities_in d) x ∙ sym (e x)
 
-  goto_alone : (site target : ℕ) → k ≡ step.Goto site target → (x : ℕ) → listed_alone (world_in d) (home_in d at) (step_of (entities_in d) k) x ≡ (is_dynamic (world_in d) x && nat_eq x at.state)
+  goto_alone : (site target : ℕ) → k ≡ step.Goto site target → (x : ℕ)
+      → listed_alone (world_in d) (home_in d at) (step_of (entities_in d) k) x ≡ (is_dynamic (world_in d) x && nat_eq x at.state)
   goto_alone site target e x = ap (λ (j : Step). listed_alone (world_in d) (home_in d at) (step_of (entities_in d) j) x) e
 
-  pub dynamic_alone : (site target : ℕ) → k ≡ step.Goto site target → is_dynamic (world_in d) at.state ≡ true → at.state < root (world_in d) → (hang : List ℕ) → hang ≡ at.state ∷ []
+  pub dynamic_alone : (site target : ℕ) → k ≡ step.Goto site target → is_dynamic (world_in d) at.state ≡ true → at.state < root (world_in d)
+      → (hang : List ℕ) → hang ≡ at.state ∷ []
       → (x : ℕ) → listed (flags (entities_in d) hang) x ≡ listed_alone (world_in d) (home_in d at) (step_of (entities_in d) k) x
   dynamic_alone site target e f l hang i x =
       ap (λ (h : List ℕ). listed (flags (entities_in d) h) x) i ∙ flagged (entities_in d) (at.state ∷ []) x ∙ by (nat_eq at.state x) refl ∙ sym (goto_alone site target e x)
@@ -40,7 +43,8 @@ module _ (d : Environment) (at : Home) (k : Step) where
           off true = refl
           off false = refl
 
-  pub enforced_alone : (site target : ℕ) → k ≡ step.Goto site target → is_dynamic (world_in d) at.state ≡ false → (x : ℕ) → listed (flags (entities_in d) []) x ≡ listed_alone (world_in d) (home_in d at) (step_of (entities_in d) k) x
+  pub enforced_alone : (site target : ℕ) → k ≡ step.Goto site target → is_dynamic (world_in d) at.state ≡ false → (x : ℕ)
+      → listed (flags (entities_in d) []) x ≡ listed_alone (world_in d) (home_in d at) (step_of (entities_in d) k) x
   enforced_alone site target e f x = none_hangs (entities_in d) x ∙ sym (goto_alone site target e x ∙ by (nat_eq x at.state) refl)
     where
       by : (q : Bool) → nat_eq x at.state ≡ q → (is_dynamic (world_in d) x && q) ≡ false

@@ -75,7 +75,8 @@ module _ (d : Environment) (at : Home) (pc : ℕ) (s : Store) where
   unfolding run_block block_run block_of
   run-none = refl
 
-  pub run-drop : (cs : List Command) (n : ℕ) (c : Command) → n < length cs → block_run d at (drop n cs) pc s ≡ and_then (command_run d at (get_or cs n c) pc s) (block_run d at (drop (n + 1) cs) pc)
+  pub run-drop : (cs : List Command) (n : ℕ) (c : Command) → n < length cs
+      → block_run d at (drop n cs) pc s ≡ and_then (command_run d at (get_or cs n c) pc s) (block_run d at (drop (n + 1) cs) pc)
   unfolding run_block block_run command_run block_of
   run-drop [] n c h = absurd (omega (arith, h))
   run-drop (b ∷ cs) zero c h = refl
@@ -117,7 +118,8 @@ module _ (d : Environment) where
   unfolding CommandAble AbleCommand BlockAble AbleBlock
   able-try k hang h a = rw (command_of-try (entities_in d) k hang h) at a
 
-  pub able-if : (hang : List ℕ) (e : Number) (a b : Vec Command Global) → CommandAble d (shown.If hang e a b) → AbleTerm (world_in d) (term_of e) × BlockAble d a.items × BlockAble d b.items
+  pub able-if : (hang : List ℕ) (e : Number) (a b : Vec Command Global) → CommandAble d (shown.If hang e a b)
+      → AbleTerm (world_in d) (term_of e) × BlockAble d a.items × BlockAble d b.items
   unfolding CommandAble AbleCommand BlockAble AbleBlock
   able-if hang e a b h = rw (command_of-if (entities_in d) hang e a b) at h
 

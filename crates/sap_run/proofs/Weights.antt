@@ -72,7 +72,8 @@ pub command_weight-if : (hang : List ℕ) (e : Number) (a b : Vec CommandCode Gl
 unfolding command_weight commands_weight of_command
 command_weight-if hang e a b = rw (command_of-if 0 hang e a b) refl
 
-pub command_weight-then : (k : Step) (hang : List ℕ) (a b : Vec CommandCode Global) → command_weight (shown.TryThen k hang a b) ≡ commands_weight a.items + commands_weight b.items + 3
+pub command_weight-then : (k : Step) (hang : List ℕ) (a b : Vec CommandCode Global)
+    → command_weight (shown.TryThen k hang a b) ≡ commands_weight a.items + commands_weight b.items + 3
 unfolding command_weight commands_weight of_command
 command_weight-then k hang a b = rw (command_of-then 0 k hang a b) refl
 
@@ -106,4 +107,14 @@ pub state_weight-out : (k : StateCode) → state_weight k ≡ commands_weight (o
 unfolding state_weight of_state commands_weight states_weight
 state_weight-out k = rw (state_of-out 0 k) refl
 
-pub ruleset weights = (commands_weight-none, command_weight-do, command_weight-try, command_weight-if, command_weight-then, command_weight-case, command_weight-in, state_weight-in, state_weight-out)
+pub ruleset weights = (
+  commands_weight-none,
+  command_weight-do,
+  command_weight-try,
+  command_weight-if,
+  command_weight-then,
+  command_weight-case,
+  command_weight-in,
+  state_weight-in,
+  state_weight-out,
+)

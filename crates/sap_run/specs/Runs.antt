@@ -62,7 +62,8 @@ taken d here k s =
 -- a step, and what follows it where it is accepted and where it is refused
 unfoldable pub attempt_run : Environment → Home → (hang : List ℕ) → Step → (accepted refused : List Command) → ℕ → Store → After
 attempt_run d at hang k accepted refused =
-    attempt_then (world_in d) (home_in d at) (entered d at.state at.children.now) (step_of (entities_in d) k) (listed (flags (entities_in d) hang)) (block_run d at accepted) (block_run d at refused)
+    attempt_then (world_in d) (home_in d at) (entered d at.state at.children.now) (step_of (entities_in d) k)
+    (listed (flags (entities_in d) hang)) (block_run d at accepted) (block_run d at refused)
 
 unfoldable pub select_run : Environment → Home → (hang : List ℕ) → Number → (then_part else_part : List Command) → ℕ → Store → After
 select_run d at hang e a b =

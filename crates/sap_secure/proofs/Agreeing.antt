@@ -52,13 +52,15 @@ module _ (w : World) (laws : Laws w.order) (l : ℕ) where
   }
 
   -- writes of numbers that are equal where the level is low
-  pub agree_number : (s t : Store) (z : Slot) (n m : ℕ) → Agree w l s t → (compared w z ≡ true → Low w.order l (level w z s) → n ≡ m) → Agree w l (put_number z n s) (put_number z m t)
+  pub agree_number : (s t : Store) (z : Slot) (n m : ℕ) → Agree w l s t → (compared w z ≡ true → Low w.order l (level w z s) → n ≡ m)
+      → Agree w l (put_number z n s) (put_number z m t)
   agree_number s t z n m r f = record {
     cells = λ y g. rw (number_put y z n s, number_put y z m t, level_number w y z n s, level_number w y z m t) (both y g (same_slot y z) (λ h. slot_same y z h));
     tags = λ y g d a. level_number w y z n s ∙ r.tags y g d a ∙ sym (level_number w y z m t);
   }
     where
-      both : (y : Slot) → compared w y ≡ true → (b : Bool) → (b ≡ true → y ≡ z) → Same w.order l (if b then n else number y s) (level w y s) (if b then m else number y t) (level w y t)
+      both : (y : Slot) → compared w y ≡ true → (b : Bool) → (b ≡ true → y ≡ z)
+          → Same w.order l (if b then n else number y s) (level w y s) (if b then m else number y t) (level w y t)
       both y g true at =
           let e : y ≡ z = at refl in
           let q = r.cells y g in
@@ -66,35 +68,41 @@ module _ (w : World) (laws : Laws w.order) (l : ℕ) where
       both y g false at = r.cells y g
 
   -- both
-  pub agree_write : (s t : Store) (z : Slot) (n a m b : ℕ) → Sole w z → Agree w l s t → (compared w z ≡ true → Same w.order l n a m b) → (is_dynamic w (owner z) ≡ false → Low w.order l (authority w (owner z)) → a ≡ b) → Agree w l (put_level w z a (put_number z n s)) (put_level w z b (put_number z m t))
+  pub agree_write : (s t : Store) (z : Slot) (n a m b : ℕ) → Sole w z → Agree w l s t → (compared w z ≡ true → Same w.order l n a m b)
+      → (is_dynamic w (owner z) ≡ false → Low w.order l (authority w (owner z)) → a ≡ b) → Agree w l (put_level w z a (put_number z n s)) (put_level w z b (put_number z m t))
   unfolding put_level put_number
   agree_write s t z n a m b sole r f e = record {
     cells = λ y g. rw (sole_test w z sole y) (both y g (same_slot y z) (slot_same y z));
     tags = λ y g d low. rw (sole_test w z sole y) (tagged y g d low (same_slot y z) (slot_same y z));
   }
     where
-      both : (y : Slot) → compared w y ≡ true → (i : Bool) → (i ≡ true → y ≡ z) → Same w.order l (if i then n else number y s) (if i then a else level w y s) (if i then m else number y t) (if i then b else level w y t)
+      both : (y : Slot) → compared w y ≡ true → (i : Bool) → (i ≡ true → y ≡ z)
+          → Same w.order l (if i then n else number y s) (if i then a else level w y s) (if i then m else number y t) (if i then b else level w y t)
       both y g true at = f (subst (λ x. compared w x ≡ true) (at refl) g)
       both y g false at = r.cells y g
 
-      tagged : (y : Slot) → held w y ≡ true → is_dynamic w (owner y) ≡ false → Low w.order l (authority w (owner y)) → (i : Bool) → (i ≡ true → y ≡ z) → (if i then a else level w y s) ≡ (if i then b else level w y t)
+      tagged : (y : Slot) → held w y ≡ true → is_dynamic w (owner y) ≡ false → Low w.order l (authority w (owner y)) → (i : Bool)
+          → (i ≡ true → y ≡ z) → (if i then a else level w y s) ≡ (if i then b else level w y t)
       tagged y g d low true at = e (subst (λ x. is_dynamic w (owner x) ≡ false) (at refl) d) (subst (λ x. Low w.order l (authority w (owner x))) (at refl) low)
       tagged y g d low false at = r.tags y g d low
 
   -- a write that looks the same
-  pub agree_over : (s : Store) (z : Slot) (n a : ℕ) → Sole w z → (compared w z ≡ true → Same w.order l (number z s) (level w z s) n a) → (is_dynamic w (owner z) ≡ false → Low w.order l (authority w (owner z)) → level w z s ≡ a) → Agree w l s (put_level w z a (put_number z n s))
+  pub agree_over : (s : Store) (z : Slot) (n a : ℕ) → Sole w z → (compared w z ≡ true → Same w.order l (number z s) (level w z s) n a)
+      → (is_dynamic w (owner z) ≡ false → Low w.order l (authority w (owner z)) → level w z s ≡ a) → Agree w l s (put_level w z a (put_number z n s))
   unfolding put_level put_number
   agree_over s z n a sole f e = record {
     cells = λ y g. rw (sole_test w z sole y) (both y g (same_slot y z) (slot_same y z));
     tags = λ y g d low. rw (sole_test w z sole y) (tagged y d low (same_slot y z) (slot_same y z));
   }
     where
-      both : (y : Slot) → compared w y ≡ true → (i : Bool) → (i ≡ true → y ≡ z) → Same w.order l (number y s) (level w y s) (if i then n else number y s) (if i then a else level w y s)
+      both : (y : Slot) → compared w y ≡ true → (i : Bool) → (i ≡ true → y ≡ z)
+          → Same w.order l (number y s) (level w y s) (if i then n else number y s) (if i then a else level w y s)
       both y g true at = subst (λ x. Same w.order l (number x s) (level w x s) n a) (sym (at refl)) (f (subst (λ x. compared w x ≡ true) (at refl) g))
       both y g false at = same_self w.order laws l _ _
 
       tagged : (y : Slot) → is_dynamic w (owner y) ≡ false → Low w.order l (authority w (owner y)) → (i : Bool) → (i ≡ true → y ≡ z) → level w y s ≡ (if i then a else level w y s)
-      tagged y d low true at = subst (λ x. level w x s ≡ a) (sym (at refl)) (e (subst (λ x. is_dynamic w (owner x) ≡ false) (at refl) d) (subst (λ x. Low w.order l (authority w (owner x))) (at refl) low))
+      tagged y d low true at = subst (λ x. level w x s ≡ a) (sym (at refl))
+          (e (subst (λ x. is_dynamic w (owner x) ≡ false) (at refl) d) (subst (λ x. Low w.order l (authority w (owner x))) (at refl) low))
       tagged y d low false at = refl
 
   -- a write of a number where the level is high
@@ -116,19 +124,22 @@ module _ (w : World) (laws : Laws w.order) (l : ℕ) where
     tags = λ y g d low. raise_keeps w s h a dyn y d ∙ r.tags y g d low ∙ sym (raise_keeps w t h b dyn y d);
   }
     where
-      both : (y : Slot) → compared w y ≡ true → (i : Bool) → Same w.order l (number y s) (if i then w.order.join (level w y s) a else level w y s) (number y t) (if i then w.order.join (level w y t) b else level w y t)
+      both : (y : Slot) → compared w y ≡ true → (i : Bool)
+          → Same w.order l (number y s) (if i then w.order.join (level w y s) a else level w y s) (number y t) (if i then w.order.join (level w y t) b else level w y t)
       both y g true = same_raised w.order laws l _ _ _ _ a b (r.cells y g) f
       both y g false = r.cells y g
 
   -- a raise of what is high
-  pub agree_raise : (s : Store) (h : ℕ → Bool) (a : ℕ) → OfDynamic w h → ((y : Slot) → compared w y ≡ true → raised h (home w y) ≡ true → High w.order l (level w y s)) → Agree w l s (raise w.order h a s)
+  pub agree_raise : (s : Store) (h : ℕ → Bool) (a : ℕ) → OfDynamic w h
+      → ((y : Slot) → compared w y ≡ true → raised h (home w y) ≡ true → High w.order l (level w y s)) → Agree w l s (raise w.order h a s)
   unfolding raise
   agree_raise s h a dyn high = record {
     cells = λ y g. both y (raised h (home w y)) (high y g);
     tags = λ y g d low. sym (raise_keeps w s h a dyn y d);
   }
     where
-      both : (y : Slot) (i : Bool) → (i ≡ true → High w.order l (level w y s)) → Same w.order l (number y s) (level w y s) (number y s) (if i then w.order.join (level w y s) a else level w y s)
+      both : (y : Slot) (i : Bool) → (i ≡ true → High w.order l (level w y s))
+          → Same w.order l (number y s) (level w y s) (number y s) (if i then w.order.join (level w y s) a else level w y s)
       both y true at = same_high w.order laws l _ _ _ _ (at refl) (high_left w.order laws l (level w y s) a (at refl))
       both y false at = same_self w.order laws l _ _
 

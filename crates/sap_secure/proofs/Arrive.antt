@@ -29,12 +29,14 @@ module _ (w : World) (laws : Laws w.order) (l : ℕ) (c : Scene w l) (site targe
   agree_moved : (s t : Store) → Agree w l s t → Agree w l (moved s) (moved t)
   unfolding moved
   agree_moved s t r =
-      let f = λ (u : Store). agree_next w laws l _ _ _ (agree_child w laws l u c.site.parent (place w target)) (agree_reset w laws l (put_child c.site.parent (place w target) u) target) in
+      let f = λ (u : Store). agree_next w laws l _ _ _ (agree_child w laws l u c.site.parent (place w target))
+      (agree_reset w laws l (put_child c.site.parent (place w target) u) target) in
       agree_next w laws l _ _ _ (agree_flip w laws l _ _ (f s)) (agree_next w laws l _ _ _ r (f t))
 
   holds_moved : (s : Store) → Holds w s → Holds w (moved s)
   unfolding moved
-  holds_moved s h = holds_reset w _ target (holds_child w s c.site.parent (place w target) (lands w c.site.parent c.site.siblings c.site.around.fine c.site.around.count target fine.0) h)
+  holds_moved s h = holds_reset w _ target
+      (holds_child w s c.site.parent (place w target) (lands w c.site.parent c.site.siblings c.site.around.fine c.site.around.count target fine.0) h)
 
   -- a child at or below the target is the first
   child_moved : (x : ℕ) (s : Store) → (nat_eq x target || below w target x) ≡ true → child x (moved s) ≡ 0
@@ -58,7 +60,8 @@ module _ (w : World) (laws : Laws w.order) (l : ℕ) (c : Scene w l) (site targe
   target_state = inside_state w c.site.siblings 0 c.site.siblings c.site.around.fine target (inside_among c.site.siblings target fine.0)
 
   -- x is the target or below it
-  spanned : (a : State) → Nth c.site.siblings (place w target) a → number_of a ≡ target → (x : ℕ) → inside (and_node a no_node) x ≡ true → (nat_eq x target || below w target x) ≡ true
+  spanned : (a : State) → Nth c.site.siblings (place w target) a → number_of a ≡ target → (x : ℕ) → inside (and_node a no_node) x ≡ true
+      → (nat_eq x target || below w target x) ≡ true
   spanned (state_node e b k) nth name x h =
       let f = nth_fine w c.site.siblings 0 c.site.siblings (place w target) (state_node e b k) nth c.site.around.fine in
       elim (or_cases (nat_eq x e) _ h) [
@@ -74,9 +77,15 @@ module _ (w : World) (laws : Laws w.order) (l : ℕ) (c : Scene w l) (site targe
         | inr i ↦ inside_state w k 0 k f.1 x (elim (or_cases (inside k x) false i) [ inl j ↦ j | inr j ↦ cc ])
       ]
 
-  same_path : (a : State) → Nth c.site.siblings (place w target) a → (s t : Store) → Agree w l s t → Holds w s → Holds w t → child c.site.parent s ≡ place w target → child c.site.parent t ≡ place w target → ((x : ℕ) → inside (and_node a no_node) x ≡ true → child x s ≡ child x t) → ((x : ℕ) → inside (and_node a no_node) x ≡ true → is_dynamic w x ≡ true → level w (own x) s ≡ level w (own x) t) → path w l c.site.parent c.site.siblings s ≡ path w l c.site.parent c.site.siblings t
+  same_path : (a : State) → Nth c.site.siblings (place w target) a → (s t : Store) → Agree w l s t → Holds w s → Holds w t
+      → child c.site.parent s ≡ place w target → child c.site.parent t ≡ place w target
+      → ((x : ℕ) → inside (and_node a no_node) x ≡ true → child x s ≡ child x t)
+      → ((x : ℕ) → inside (and_node a no_node) x ≡ true → is_dynamic w x ≡ true → level w (own x) s ≡ level w (own x) t)
+      → path w l c.site.parent c.site.siblings s ≡ path w l c.site.parent c.site.siblings t
   same_path a nth s t like hs ht here there f d =
-      rw (here, there) (from_nth w l c.site.siblings (place w target) (place w target) a s nth ∙ from_settled w laws l (and_node a no_node) 0 (place w target) s t like hs ht (λ x i. held_state w x (spanned_state a nth x i)) f d ∙ sym (from_nth w l c.site.siblings (place w target) (place w target) a t nth))
+      rw (here, there) (from_nth w l c.site.siblings (place w target) (place w target) a s nth
+      ∙ from_settled w laws l (and_node a no_node) 0 (place w target) s t like hs ht (λ x i. held_state w x (spanned_state a nth x i)) f d
+      ∙ sym (from_nth w l c.site.siblings (place w target) (place w target) a t nth))
 
   seat : (u : Store) → child c.site.parent (moved u) ≡ place w target
   unfolding moved
@@ -94,7 +103,8 @@ module _ (w : World) (laws : Laws w.order) (l : ℕ) (c : Scene w l) (site targe
           same = one;
           path = same_path a.0 a.1 (put_level w (own target) pc (moved s)) (put_level w (own target) pc (moved t)) one two three
               (child_level_put w c.site.parent (own target) pc (moved s) ∙ seat s) (child_level_put w c.site.parent (own target) pc (moved t) ∙ seat t)
-              (λ x i. child_level_put w x (own target) pc (moved s) ∙ child_moved x s (spanned a.0 a.1 a.2 x i) ∙ sym (child_level_put w x (own target) pc (moved t) ∙ child_moved x t (spanned a.0 a.1 a.2 x i)))
+              (λ x i. child_level_put w x (own target) pc (moved s) ∙ child_moved x s (spanned a.0 a.1 a.2 x i)
+              ∙ sym (child_level_put w x (own target) pc (moved t) ∙ child_moved x t (spanned a.0 a.1 a.2 x i)))
               (λ x i y. wrote x y (or_cases _ _ (spanned a.0 a.1 a.2 x i)));
         })
     | inr d ↦ rw d (record {
@@ -114,18 +124,21 @@ module _ (w : World) (laws : Laws w.order) (l : ℕ) (c : Scene w l) (site targe
       off_target : (x : ℕ) (u : Store) → nat_eq x target ≡ false → level w (own x) (put_level w (own target) pc (moved u)) ≡ level w (own x) (moved u)
       off_target x u e = level_put w (own x) (own target) pc (moved u) ∙ rw e refl
 
-      wrote : (x : ℕ) → is_dynamic w x ≡ true → ((nat_eq x target ≡ true) ⊎ (below w target x ≡ true)) → level w (own x) (put_level w (own target) pc (moved s)) ≡ level w (own x) (put_level w (own target) pc (moved t))
+      wrote : (x : ℕ) → is_dynamic w x ≡ true → ((nat_eq x target ≡ true) ⊎ (below w target x ≡ true))
+          → level w (own x) (put_level w (own target) pc (moved s)) ≡ level w (own x) (put_level w (own target) pc (moved t))
       wrote x y (inl e) = at_target x s e ∙ sym (at_target x t e)
       wrote x y (inr e) = elim (cases_Bool (nat_eq x target)) [
         | inl f ↦ at_target x s f ∙ sym (at_target x t f)
         | inr f ↦ off_target x s f ∙ (level_moved x s e y ∙ sym (level_moved x t e y)) ∙ sym (off_target x t f)
       ]
 
-      still : (x : ℕ) → is_dynamic w target ≡ false → is_dynamic w x ≡ true → ((nat_eq x target ≡ true) ⊎ (below w target x ≡ true)) → level w (own x) (moved s) ≡ level w (own x) (moved t)
+      still : (x : ℕ) → is_dynamic w target ≡ false → is_dynamic w x ≡ true → ((nat_eq x target ≡ true) ⊎ (below w target x ≡ true))
+          → level w (own x) (moved s) ≡ level w (own x) (moved t)
       still x d y (inl e) = let y' = rw (eqb-true x target e) at y in cc
       still x d y (inr e) = level_moved x s e y ∙ sym (level_moved x t e y)
 
   -- a goto that succeeds in both runs
-  pub goto_pair : (pc : ℕ) (enter : ℕ → ℕ → Store → After) (b d s t : Store) → Holds w s → Holds w t → Agree w l s t → Arrived w l c.site.parent c.site.siblings (effect w (spot c.site) enter (go_to site target) pc b s).store (effect w (spot c.site) enter (go_to site target) pc d t).store
+  pub goto_pair : (pc : ℕ) (enter : ℕ → ℕ → Store → After) (b d s t : Store) → Holds w s → Holds w t → Agree w l s t
+      → Arrived w l c.site.parent c.site.siblings (effect w (spot c.site) enter (go_to site target) pc b s).store (effect w (spot c.site) enter (go_to site target) pc d t).store
   unfolding effect arrived moved
   goto_pair pc enter b d s t hs ht like = arrive pc s t hs ht like

@@ -105,14 +105,16 @@ module _ (w : World) (laws : Laws w.order) (l : ℕ) where
   even_raise h hang s a dyn e z g d i = raise_keeps w s hang a dyn (begun z) (rw (owner_begun z) d) ∙ e z g d i ∙ sym (raise_keeps w s hang a dyn z d)
 
   -- what is raised of what is quiet is high
-  pub hushed : (h hang : ℕ → Bool) (s : Store) → ((x : ℕ) → hang x ≡ true → (is_dynamic w x && h x) ≡ true) → Quiet w l h s → (y : Slot) → compared w y ≡ true → raised hang (home w y) ≡ true → High w.order l (level w y s)
+  pub hushed : (h hang : ℕ → Bool) (s : Store) → ((x : ℕ) → hang x ≡ true → (is_dynamic w x && h x) ≡ true) → Quiet w l h s → (y : Slot)
+      → compared w y ≡ true → raised hang (home w y) ≡ true → High w.order l (level w y s)
   hushed h hang s f quiet y g i =
       let k : hang (owner y) ≡ true = rw (owner_home w y) at (raised_hangs hang (home w y) i) in
       let j = f (owner y) k in
       (quiet y (raised_changing w hang y g i) (and_right (is_dynamic w (owner y)) _ j)).0 (and_left _ _ j)
 
   -- what is raised to a high level is quiet
-  pub quiet_raise : (h hang : ℕ → Bool) (a : ℕ) (s : Store) → ((x : ℕ) → (is_dynamic w x && h x) ≡ true → hang x ≡ true) → OfDynamic w hang → High w.order l a → Even w h s → Quiet w l h (raise w.order hang a s)
+  pub quiet_raise : (h hang : ℕ → Bool) (a : ℕ) (s : Store) → ((x : ℕ) → (is_dynamic w x && h x) ≡ true → hang x ≡ true) → OfDynamic w hang
+      → High w.order l a → Even w h s → Quiet w l h (raise w.order hang a s)
   quiet_raise h hang a s inn dyn far e z g i =
       (λ d. raise_to w laws l s hang a z (raises_home w hang z g d (inn (owner z) (and_from _ _ d i))) far, λ d. inl (even_raise h hang s a dyn e z g d i))
 
@@ -152,10 +154,12 @@ module _ (w : World) (laws : Laws w.order) (l : ℕ) where
     keeps_block b fine pc = block_holds w At i.siblings landing i.enter holding b (fine_block w i b fine) pc
 
     -- commands before those that touch the cells of a memory leave both parts as they were
-    pub even_next : (c : Command) (cs : Block) → Disjoint w i c cs → (pc : ℕ) (s : Store) → Even w (block_concerns w i.state i.kids cs) s → Even w (block_concerns w i.state i.kids cs) (does w At i.enter c pc s).store
+    pub even_next : (c : Command) (cs : Block) → Disjoint w i c cs → (pc : ℕ) (s : Store) → Even w (block_concerns w i.state i.kids cs) s
+        → Even w (block_concerns w i.state i.kids cs) (does w At i.enter c pc s).store
     even_next c cs apart pc s e z g d h = part z g h d (e z g d h)
       where
-        part : (z : Slot) → changing w z ≡ true → block_concerns w i.state i.kids cs (owner z) ≡ true → is_dynamic w (owner z) ≡ false → level w (begun z) s ≡ level w z s → level w (begun z) (does w (spot i) i.enter c pc s).store ≡ level w z (does w (spot i) i.enter c pc s).store
+        part : (z : Slot) → changing w z ≡ true → block_concerns w i.state i.kids cs (owner z) ≡ true → is_dynamic w (owner z) ≡ false
+            → level w (begun z) s ≡ level w z s → level w (begun z) (does w (spot i) i.enter c pc s).store ≡ level w z (does w (spot i) i.enter c pc s).store
         part (own x) g h d e = refl
         part (start m j) g h d e = refl
         part (next m j) g h d e = let a = apart m g d h in (start_kept w i 0 m g d c a.0 a.1 pc s j).level ∙ e ∙ sym (next_kept w i 0 m g d c a.0 a.1 pc s j).level
@@ -170,11 +174,13 @@ module _ (w : World) (laws : Laws w.order) (l : ℕ) where
     up_join pc k b (inl h) = high_left w.order laws l pc _ h
     up_join pc k b (inr h) = high_right w.order laws l pc _ h
 
-    pub set_high : (site x : ℕ) (e : Term ℕ) (pc : ℕ) (b : Store) → is_dynamic w x ≡ false → test w At (assign site x e) pc b ≡ true → Up pc (assign site x e) b → High w.order l (level w (own x) b)
+    pub set_high : (site x : ℕ) (e : Term ℕ) (pc : ℕ) (b : Store) → is_dynamic w x ≡ false → test w At (assign site x e) pc b ≡ true
+        → Up pc (assign site x e) b → High w.order l (level w (own x) b)
     set_high site x e pc b d t (inl h) = let t' = rw d at t in high_above w.order laws l pc _ (laws.trans _ _ _ (laws.left pc (tag w e b)) t') h
     set_high site x e pc b d t (inr h) = let h' = rw d at h in h'
 
-    write_high : (site m : ℕ) (j e : Term ℕ) (pc : ℕ) (b : Store) → is_dynamic w m ≡ false → test w At (write site m j e) pc b ≡ true → Up pc (write site m j e) b → High w.order l (level w (start m (value w j b)) b)
+    write_high : (site m : ℕ) (j e : Term ℕ) (pc : ℕ) (b : Store) → is_dynamic w m ≡ false → test w At (write site m j e) pc b ≡ true
+        → Up pc (write site m j e) b → High w.order l (level w (start m (value w j b)) b)
     write_high site m j e pc b d t (inl h) =
         let t' = rw d at t in
         high_above w.order laws l pc _ (laws.trans _ _ _ (laws.left pc (w.order.join (tag w j b) (tag w e b))) t') h
@@ -192,7 +198,8 @@ module _ (w : World) (laws : Laws w.order) (l : ℕ) where
     retag_high site x n pc b t (inl h) = high_above w.order laws l pc _ (laws.trans _ _ _ (laws.left pc (told w n b)) (and_left _ _ t)) h
     retag_high site x n pc b t (inr h) = h
 
-    cell_high : (site m : ℕ) (j : Term ℕ) (n : LevelTerm) (pc : ℕ) (b : Store) → test w At (retag_cell site m j n) pc b ≡ true → Up pc (retag_cell site m j n) b → High w.order l (authority w m)
+    cell_high : (site m : ℕ) (j : Term ℕ) (n : LevelTerm) (pc : ℕ) (b : Store) → test w At (retag_cell site m j n) pc b ≡ true
+        → Up pc (retag_cell site m j n) b → High w.order l (authority w m)
     cell_high site m j n pc b t (inl h) = high_above w.order laws l pc _ (laws.trans _ _ _ (laws.left pc (w.order.join (told w n b) (tag w j b))) (and_left _ _ t)) h
     cell_high site m j n pc b t (inr h) = h
 
@@ -200,7 +207,9 @@ module _ (w : World) (laws : Laws w.order) (l : ℕ) where
     held_target x h = elim (or_cases _ _ h) [ inl r ↦ held_register w x r | inr s ↦ held_state w x s ]
 
     -- the effect of a step, from the raised store r
-    pub step_confined : (k : Step) → ProperStep w i k → (pc : ℕ) (b r : Store) → ((z : Slot) → is_dynamic w (owner z) ≡ false → level w z r ≡ level w z b) → Holds w r → Quiet w l (step_concerns w i.state i.kids k) r → test w At k pc b ≡ true → Up pc k b → Confined w l r (effect w At i.enter k pc b r)
+    pub step_confined : (k : Step) → ProperStep w i k → (pc : ℕ) (b r : Store)
+        → ((z : Slot) → is_dynamic w (owner z) ≡ false → level w z r ≡ level w z b) → Holds w r
+        → Quiet w l (step_concerns w i.state i.kids k) r → test w At k pc b ≡ true → Up pc k b → Confined w l r (effect w At i.enter k pc b r)
     unfolding effect
     step_confined (assign site x e) fine pc b r kept holds quiet t up =
         let over = agree_over w laws l r (own x) (value w e b) in
@@ -241,25 +250,39 @@ module _ (w : World) (laws : Laws w.order) (l : ℕ) where
         cell_was d (inr h) = high_above w.order laws l _ _ (holds.above (next m (value w j b)) fine.0.0 d) h
     step_confined (retag site x n) fine pc b r kept holds quiet t up =
         let a = retag_high site x n pc b t up in
-        let high : High w.order l (new_level w n b) = high_above w.order laws l (authority w x) (new_level w n b) (and_right (w.order.le (w.order.join pc (told w n b)) (authority w x)) _ t) a in
+        let high : High w.order l (new_level w n b) =
+        high_above w.order laws l (authority w x) (new_level w n b) (and_right (w.order.le (w.order.join pc (told w n b)) (authority w x)) _ t) a in
         let was = high_above w.order laws l _ _ (holds.above (own x) (held_target x fine.0.0) fine.0.1) a in
         record { same = agree_over w laws l r (own x) _ (new_level w n b) (sole_own w x) (λ _. same_high w.order laws l _ _ _ _ was high) (λ _ low. cc); quiet = refl }
     step_confined (retag_cell site m j n) fine pc b r kept holds quiet t up =
         let a = cell_high site m j n pc b t up in
-        let high : High w.order l (new_level w n b) = high_above w.order laws l _ _ (and_right (w.order.le (w.order.join pc (w.order.join (told w n b) (tag w j b))) (authority w m)) _ t) a in
+        let high : High w.order l (new_level w n b) =
+        high_above w.order laws l _ _ (and_right (w.order.le (w.order.join pc (w.order.join (told w n b) (tag w j b))) (authority w m)) _ t) a in
         let was = high_above w.order laws l _ _ (holds.above (next m (value w j b)) fine.0.0 fine.0.1) a in
-        record { same = agree_over w laws l r (next m (value w j b)) _ (new_level w n b) (sole_cell w m _ fine.0.1) (λ _. same_high w.order laws l _ _ _ _ was high) (λ _ low. cc); quiet = refl }
+        record {
+          same = agree_over w laws l r (next m (value w j b)) _ (new_level w n b) (sole_cell w m _ fine.0.1)
+              (λ _. same_high w.order laws l _ _ _ _ was high) (λ _ low. cc);
+          quiet = refl;
+        }
     step_confined (go_to site target) fine pc b r kept holds quiet t up =
         let two = agree_next w laws l _ _ _ (agree_child w laws l r i.parent (place w target)) (agree_reset w laws l (put_child i.parent (place w target) r) target) in
         elim (cases_Bool (is_dynamic w target)) [
-          | inl d ↦ rw d (record { same = agree_next w laws l _ _ _ two (agree_state w laws l (reset w target (put_child i.parent (place w target) r)) target pc (inside_state w i.siblings 0 i.siblings i.around.fine target (inside_among i.siblings target fine.0)) d); quiet = refl })
+          | inl d ↦ rw d (record {
+            same = agree_next w laws l _ _ _ two
+                (agree_state w laws l (reset w target (put_child i.parent (place w target) r)) target pc
+                (inside_state w i.siblings 0 i.siblings i.around.fine target (inside_among i.siblings target fine.0)) d);
+            quiet = refl;
+          })
           | inr d ↦ rw d (record { same = two; quiet = refl })
         ]
     step_confined (fall_to_child site hang) fine pc b r kept holds quiet t up =
         entering (child i.state b) _ r holds (up_join pc (fall_to_child site hang) b up) (λ z g h. quiet z g (or_right (among i.kids (owner z)) _ h))
 
     -- from the raised store on, with the handler h
-    pub attempt_confined : (k : Step) → ProperStep w i k → (hang : ℕ → Bool) (h : ℕ → Store → After) (pc : ℕ) (s : Store) → OfDynamic w hang → Holds w s → Quiet w l (step_concerns w i.state i.kids k) (raise w.order hang (guard w At k s) s) → Up pc k s → ((q : ℕ) → High w.order l q → Confined w l (raise w.order hang (guard w At k s) s) (h q (raise w.order hang (guard w At k s) s))) → Confined w l (raise w.order hang (guard w At k s) s) (attempt w At i.enter k hang h pc s)
+    pub attempt_confined : (k : Step) → ProperStep w i k → (hang : ℕ → Bool) (h : ℕ → Store → After) (pc : ℕ) (s : Store) → OfDynamic w hang
+        → Holds w s → Quiet w l (step_concerns w i.state i.kids k) (raise w.order hang (guard w At k s) s) → Up pc k s
+        → ((q : ℕ) → High w.order l q → Confined w l (raise w.order hang (guard w At k s) s) (h q (raise w.order hang (guard w At k s) s)))
+        → Confined w l (raise w.order hang (guard w At k s) s) (attempt w At i.enter k hang h pc s)
     unfolding attempt
     attempt_confined k fine hang h pc s dyn holds quiet up handler = elim (cases_Bool (test w At k pc s)) [
       | inl t ↦ rw t (step_confined k fine pc s _ (raise_keeps w s hang _ dyn) (holds_raise w s hang _ dyn holds) quiet t up)
@@ -282,7 +305,8 @@ module _ (w : World) (laws : Laws w.order) (l : ℕ) where
           let raised_holds = holds_raise w s hang (guard w At k s) dyn holds in
           let one = step_confined k fine pc s r (raise_keeps w s hang _ dyn) raised_holds quiet t up in
           let u = (effect w At i.enter k pc s r).store in
-          let two = accepted (w.order.join pc (guard w At k s)) u (up_join pc k s up) (effect_holds w At i.siblings landing i.enter holding k fine.0 pc s r t raised_holds) one.same in
+          let two = accepted (w.order.join pc (guard w At k s)) u (up_join pc k s up)
+          (effect_holds w At i.siblings landing i.enter holding k fine.0 pc s r t raised_holds) one.same in
           record { same = agree_next w laws l _ _ _ one.same two.same; quiet = seen_nothing w.order laws l _ _ one.quiet two.quiet })
       | inr t ↦ rw t (
           let high : High w.order l (w.order.join pc (guard w At k s)) = up_join pc k s up in
@@ -290,7 +314,10 @@ module _ (w : World) (laws : Laws w.order) (l : ℕ) where
           record { same = c.same; quiet = rw high c.quiet })
     ]
 
-    pub select_confined : (e : Term ℕ) (hang : ℕ → Bool) (pick : ℕ → ℕ → Store → After) (pc : ℕ) (s : Store) → High w.order l (w.order.join pc (tag w e s)) → ((v q : ℕ) → High w.order l q → Confined w l (raise w.order hang (tag w e s) s) (pick v q (raise w.order hang (tag w e s) s))) → Confined w l (raise w.order hang (tag w e s) s) (select w e hang pick pc s)
+    pub select_confined : (e : Term ℕ) (hang : ℕ → Bool) (pick : ℕ → ℕ → Store → After) (pc : ℕ) (s : Store)
+        → High w.order l (w.order.join pc (tag w e s))
+        → ((v q : ℕ) → High w.order l q → Confined w l (raise w.order hang (tag w e s) s) (pick v q (raise w.order hang (tag w e s) s)))
+        → Confined w l (raise w.order hang (tag w e s) s) (select w e hang pick pc s)
     unfolding select
     select_confined e hang pick pc s up f = f _ _ up
 
@@ -317,47 +344,56 @@ module _ (w : World) (laws : Laws w.order) (l : ℕ) where
     mutual
       unfolding does does_arms does_block
 
-      pub does_confined : (c : Command) → Proper w i c → (pc : ℕ) (s : Store) → Holds w s → High w.order l pc → Quiet w l (concerns w i.state i.kids c) s → Confined w l s (does w At i.enter c pc s)
+      pub does_confined : (c : Command) → Proper w i c → (pc : ℕ) (s : Store) → Holds w s → High w.order l pc
+          → Quiet w l (concerns w i.state i.kids c) s → Confined w l s (does w At i.enter c pc s)
       does_confined (lone k) fine pc s holds high quiet =
           let hang = raised_alone w At k in
           let dyn : OfDynamic w hang = alone_dynamic w At i.siblings landing i.enter holding k in
-          let e = agree_raise w laws l s hang (guard w At k s) dyn (hushed (step_concerns w i.state i.kids k) hang s (λ x j. concerned w i.state i.kids (lone k) x (alone_within k x j)) quiet) in
-          confined_from s _ _ e (attempt_confined k fine hang (λ q s. stay s) pc s dyn holds (quiet_kept (step_concerns w i.state i.kids k) hang (guard w At k s) s dyn quiet) (inl high) (λ q up. confined_self _))
+          let e = agree_raise w laws l s hang (guard w At k s) dyn
+          (hushed (step_concerns w i.state i.kids k) hang s (λ x j. concerned w i.state i.kids (lone k) x (alone_within k x j)) quiet) in
+          confined_from s _ _ e (attempt_confined k fine hang (λ q s. stay s) pc s dyn holds
+          (quiet_kept (step_concerns w i.state i.kids k) hang (guard w At k s) s dyn quiet) (inl high) (λ q up. confined_self _))
       does_confined (try k hang h) fine pc s holds high quiet =
           let hung = touches w At (try k hang h) in
           let dyn : OfDynamic w hung = touches_dynamic (try k hang h) in
           let e = agree_raise w laws l s hung (guard w At k s) dyn (hushed (concerns w i.state i.kids (try k hang h)) hung s (concerned w i.state i.kids (try k hang h)) quiet) in
           let r' = raise w.order hung (guard w At k s) s in
           let q = quiet_kept (concerns w i.state i.kids (try k hang h)) hung (guard w At k s) s dyn quiet in
-          confined_from s _ _ e (attempt_confined k fine.0 hung (does_block w At i.enter h) pc s dyn holds (quiet_left (step_concerns w i.state i.kids k) (block_concerns w i.state i.kids h) r' q) (inl high)
+          confined_from s _ _ e (attempt_confined k fine.0 hung (does_block w At i.enter h) pc s dyn holds
+          (quiet_left (step_concerns w i.state i.kids k) (block_concerns w i.state i.kids h) r' q) (inl high)
           (λ r up. block_confined h fine.1 r _ (holds_raise w s hung _ dyn holds) up (quiet_right (step_concerns w i.state i.kids k) (block_concerns w i.state i.kids h) r' q)))
       does_confined (if_else hang e a b) fine pc s holds high quiet =
           let hung = touches w At (if_else hang e a b) in
           let dyn : OfDynamic w hung = touches_dynamic (if_else hang e a b) in
-          let same = agree_raise w laws l s hung (tag w e s) dyn (hushed (concerns w i.state i.kids (if_else hang e a b)) hung s (concerned w i.state i.kids (if_else hang e a b)) quiet) in
+          let same = agree_raise w laws l s hung (tag w e s) dyn
+          (hushed (concerns w i.state i.kids (if_else hang e a b)) hung s (concerned w i.state i.kids (if_else hang e a b)) quiet) in
           let r' = raise w.order hung (tag w e s) s in
           let q = quiet_kept (concerns w i.state i.kids (if_else hang e a b)) hung (tag w e s) s dyn quiet in
           confined_from s _ _ same (select_confined e hung (branch (does_block w At i.enter a) (does_block w At i.enter b)) pc s (high_left w.order laws l pc _ high)
-          (λ v r up. branch_all (λ z. Confined w l (raise w.order hung (tag w e s) s) z) (does_block w At i.enter a) (does_block w At i.enter b) v r (raise w.order hung (tag w e s) s)
+          (λ v r up. branch_all (λ z. Confined w l (raise w.order hung (tag w e s) s) z) (does_block w At i.enter a)
+          (does_block w At i.enter b) v r (raise w.order hung (tag w e s) s)
           (block_confined a fine.1 r _ (holds_raise w s hung _ dyn holds) up (quiet_left (block_concerns w i.state i.kids a) (block_concerns w i.state i.kids b) r' q))
           (block_confined b fine.2 r _ (holds_raise w s hung _ dyn holds) up (quiet_right (block_concerns w i.state i.kids a) (block_concerns w i.state i.kids b) r' q))))
       does_confined (try_then k hang a b) fine pc s holds high quiet =
           let hung = touches w At (try_then k hang a b) in
           let dyn : OfDynamic w hung = touches_dynamic (try_then k hang a b) in
-          let e = agree_raise w laws l s hung (guard w At k s) dyn (hushed (concerns w i.state i.kids (try_then k hang a b)) hung s (concerned w i.state i.kids (try_then k hang a b)) quiet) in
+          let e = agree_raise w laws l s hung (guard w At k s) dyn
+          (hushed (concerns w i.state i.kids (try_then k hang a b)) hung s (concerned w i.state i.kids (try_then k hang a b)) quiet) in
           let r' = raise w.order hung (guard w At k s) s in
           let q = quiet_kept (concerns w i.state i.kids (try_then k hang a b)) hung (guard w At k s) s dyn quiet in
           let own = step_concerns w i.state i.kids k in
           let one = block_concerns w i.state i.kids a in
           let other = block_concerns w i.state i.kids b in
           let behind = quiet_right own (λ x. one x || other x) r' q in
-          confined_from s _ _ e (attempt_then_confined k fine.0 hung (does_block w At i.enter a) (does_block w At i.enter b) pc s dyn holds (quiet_left own (λ x. one x || other x) r' q) (inl high)
+          confined_from s _ _ e (attempt_then_confined k fine.0 hung (does_block w At i.enter a) (does_block w At i.enter b) pc s dyn holds
+          (quiet_left own (λ x. one x || other x) r' q) (inl high)
           (λ r u up hold same. block_confined a fine.1 r u hold up (λ z g h. hush_next r' u same z g (quiet_left one other r' behind z g h)))
           (λ r up. block_confined b fine.2 r _ (holds_raise w s hung _ dyn holds) up (quiet_right one other r' behind)))
       does_confined (case_of hang e arms) fine pc s holds high quiet =
           let hung = touches w At (case_of hang e arms) in
           let dyn : OfDynamic w hung = touches_dynamic (case_of hang e arms) in
-          let same = agree_raise w laws l s hung (tag w e s) dyn (hushed (concerns w i.state i.kids (case_of hang e arms)) hung s (concerned w i.state i.kids (case_of hang e arms)) quiet) in
+          let same = agree_raise w laws l s hung (tag w e s) dyn
+          (hushed (concerns w i.state i.kids (case_of hang e arms)) hung s (concerned w i.state i.kids (case_of hang e arms)) quiet) in
           let q = quiet_kept (concerns w i.state i.kids (case_of hang e arms)) hung (tag w e s) s dyn quiet in
           confined_from s _ _ same (select_confined e hung (does_arms w At i.enter arms) pc s (high_left w.order laws l pc _ high)
           (λ v r up. arms_confined arms fine.1 v r _ (holds_raise w s hung _ dyn holds) up q))
@@ -370,12 +406,14 @@ module _ (w : World) (laws : Laws w.order) (l : ℕ) where
           (block_confined b fine.0 pc s holds high (quiet_left (block_concerns w i.state i.kids b) (arms_concern w i.state i.kids arms) s quiet))
           (arms_confined arms fine.1 v pc s holds high (quiet_right (block_concerns w i.state i.kids b) (arms_concern w i.state i.kids arms) s quiet))
 
-      pub block_confined : (b : Block) → ProperBlock w i b → (pc : ℕ) (s : Store) → Holds w s → High w.order l pc → Quiet w l (block_concerns w i.state i.kids b) s → Confined w l s (does_block w At i.enter b pc s)
+      pub block_confined : (b : Block) → ProperBlock w i b → (pc : ℕ) (s : Store) → Holds w s → High w.order l pc
+          → Quiet w l (block_concerns w i.state i.kids b) s → Confined w l s (does_block w At i.enter b pc s)
       block_confined end_block fine pc s holds high quiet = confined_self s
       block_confined (command_then c cs) fine pc s holds high quiet =
           let f = does_confined c fine.0 pc s holds high (quiet_left (concerns w i.state i.kids c) (block_concerns w i.state i.kids cs) s quiet) in
           let s' = (does w At i.enter c pc s).store in
-          let g = block_confined cs fine.1 pc s' (keeps c fine.0 pc s holds) high (λ z g h. hush_next s s' f.same z g (quiet z g (or_right (concerns w i.state i.kids c (owner z)) _ h))) in
+          let g = block_confined cs fine.1 pc s' (keeps c fine.0 pc s holds) high
+          (λ z g h. hush_next s s' f.same z g (quiet z g (or_right (concerns w i.state i.kids c (owner z)) _ h))) in
           record { same = agree_next w laws l _ _ _ f.same g.same; quiet = seen_nothing w.order laws l _ _ f.quiet g.quiet }
 
 -- a slot that changes belongs to no state
@@ -390,7 +428,8 @@ module _ (w : World) (laws : Laws w.order) (l : ℕ) where
   -- what concerns a state's body, concerns the state
   body_concerned : (i : Site w) (x : ℕ) → is_state w x ≡ false → block_concerns w i.state i.kids i.body x ≡ true → state_concerns w (state_node i.state i.body i.kids) x ≡ true
   body_concerned i x st h = elim (cases_Bool (parted w x)) [
-    | inl p ↦ rw p (block_hung w x (and_left (is_memory w x) _ p) (false_from_ne_true (is_dynamic w x) (λ d. let no = dynamic_whole w x d in cc)) i.state i.kids (not_own w i x st) (no_kid w i x st) i.siblings i.kids i.body (node w i).steps h)
+    | inl p ↦ rw p (block_hung w x (and_left (is_memory w x) _ p) (false_from_ne_true (is_dynamic w x) (λ d. let no = dynamic_whole w x d in
+        cc)) i.state i.kids (not_own w i x st) (no_kid w i x st) i.siblings i.kids i.body (node w i).steps h)
     | inr p ↦ rw p (block_found i.state i.kids x (not_own w i x st) (no_kid w i x st) i.body (sym (block_whole w x p i.state i.kids i.body) ∙ h))
   ]
 
@@ -411,18 +450,23 @@ module _ (w : World) (laws : Laws w.order) (l : ℕ) where
   mutual
     unfolding does_state does_child
 
-    state_confined : (t : State) (p n : ℕ) (q : Group) → Around w p q → Nth q n t → (pc : ℕ) (s : Store) → Holds w s → High w.order l pc → Quiet w l (state_concerns w t) s → Confined w l s (does_state w t p pc s)
+    state_confined : (t : State) (p n : ℕ) (q : Group) → Around w p q → Nth q n t → (pc : ℕ) (s : Store) → Holds w s → High w.order l pc
+        → Quiet w l (state_concerns w t) s → Confined w l s (does_state w t p pc s)
     state_confined (state_node e b g) p n q around self pc s holds high quiet =
         let i = site_at w p n e b g q around self in
         let kids = kids_around w i in
-        block_confined w laws l i (λ m r t. from_confined g e g 0 kids (λ m a h. let e : 0 + m ≡ m = omega arith in rw e h) m r t) (kids_hold e g kids) b (proper_body w i) pc s holds high (body_quiet w laws l i s quiet)
+        block_confined w laws l i (λ m r t. from_confined g e g 0 kids (λ m a h. let e : 0 + m ≡ m = omega arith in rw e h) m r t)
+        (kids_hold e g kids) b (proper_body w i) pc s holds high (body_quiet w laws l i s quiet)
 
     -- the states of the parent's group q from the k-th on
-    from_confined : (g : Group) (p : ℕ) (q : Group) (k : ℕ) → Around w p q → ((m : ℕ) (a : State) → Nth g m a → Nth q (k + m) a) → (m pc : ℕ) (s : Store) → Holds w s → High w.order l pc → Quiet w l (group_concerns w g) s → Confined w l s (does_child w g p m pc s)
+    from_confined : (g : Group) (p : ℕ) (q : Group) (k : ℕ) → Around w p q → ((m : ℕ) (a : State) → Nth g m a → Nth q (k + m) a)
+        → (m pc : ℕ) (s : Store) → Holds w s → High w.order l pc → Quiet w l (group_concerns w g) s → Confined w l s (does_child w g p m pc s)
     from_confined no_node p q k around place m pc s holds high quiet = confined_self w laws l s
-    from_confined (and_node t g) p q k around place zero pc s holds high quiet = state_confined t p (k + 0) q around (place zero t refl) pc s holds high (λ z j h. quiet z j (or_left _ _ h))
+    from_confined (and_node t g) p q k around place zero pc s holds high quiet =
+        state_confined t p (k + 0) q around (place zero t refl) pc s holds high (λ z j h. quiet z j (or_left _ _ h))
     from_confined (and_node t g) p q k around place (suc m) pc s holds high quiet =
-        from_confined g p q (suc k) around (λ m a h. let e : suc k + m ≡ k + suc m = omega arith in rw e (place (suc m) a h)) m pc s holds high (λ z j h. quiet z j (or_right (state_concerns w t (owner z)) _ h))
+        from_confined g p q (suc k) around (λ m a h. let e : suc k + m ≡ k + suc m = omega arith in
+        rw e (place (suc m) a h)) m pc s holds high (λ z j h. quiet z j (or_right (state_concerns w t (owner z)) _ h))
 
   pub child_confined : (p : ℕ) (q : Group) → Around w p q → Entering w l q (does_child w q p)
   child_confined p q around m pc s = from_confined q p q 0 around (λ m a h. let e : 0 + m ≡ m = omega arith in rw e h) m pc s

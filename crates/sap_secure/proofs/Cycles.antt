@@ -31,12 +31,15 @@ nth_once (and_node t g) (suc m) a h once = nth_once g m a h once.1
 module _ (w : World) (laws : Laws w.order) (l : ℕ) where
   -- two runs of a state that is current and low
   abbrev Law : State → Type 0
-  Law t = OnceState t → (p n : ℕ) (q : Group) → Around w p q → Nth q n t → (pc : ℕ) (s u : Store) → Holds w s → Holds w u → Low w.order l pc → Agree w l s u → Even w (state_concerns w t) s → Even w (state_concerns w t) u → path w l p q s ≡ path w l p q u → child p s ≡ n → child p u ≡ n → Low w.order l (level w (own (number_of t)) s) → Pair w l p q (does_state w t p pc s) (does_state w t p pc u)
+  Law t = OnceState t → (p n : ℕ) (q : Group) → Around w p q → Nth q n t → (pc : ℕ) (s u : Store) → Holds w s → Holds w u → Low w.order l pc
+      → Agree w l s u → Even w (state_concerns w t) s → Even w (state_concerns w t) u → path w l p q s ≡ path w l p q u → child p s ≡ n
+      → child p u ≡ n → Low w.order l (level w (own (number_of t)) s) → Pair w l p q (does_state w t p pc s) (does_state w t p pc u)
 
   lift : (g : Group) (e : ℕ) → Around w e g → ((m : ℕ) (a : State) → Nth g m a → Law a) → OnceGroup g → Paired w l e g (does_child w g e)
   lift g e around laws' once m r s u a nth hs hu low like es eu p here there down =
       rw (nth_does w g e m a nth r s, nth_does w g e m a nth r u)
-      (laws' m a nth (nth_once g m a nth once) e m g around nth r s u hs hu low like (λ z j d h. es z j d (nth_concerns w g m a nth (owner z) h)) (λ z j d h. eu z j d (nth_concerns w g m a nth (owner z) h)) p here there down)
+      (laws' m a nth (nth_once g m a nth once) e m g around nth r s u hs hu low like
+      (λ z j d h. es z j d (nth_concerns w g m a nth (owner z) h)) (λ z j d h. eu z j d (nth_concerns w g m a nth (owner z) h)) p here there down)
 
   mutual
     unfolding does_state scene_at
@@ -44,7 +47,8 @@ module _ (w : World) (laws : Laws w.order) (l : ℕ) where
     state_pair : (t : State) → Law t
     state_pair (state_node e b g) once p n q around self pc s u hs hu low like es eu path here there down =
         let i = site_at w p n e b g q around self in
-        block_pair w laws l (scene_at w laws l p n e b g q around self) (OnceGroup g) (lift g e (kids_around w i) (λ m a h. group_pair g m a h)) b (proper_body w i) once (node w i).closes pc s u low
+        block_pair w laws l (scene_at w laws l p n e b g q around self) (OnceGroup g)
+        (lift g e (kids_around w i) (λ m a h. group_pair g m a h)) b (proper_body w i) once (node w i).closes pc s u low
         (record { first = hs; second = hu; like = like; path = path; here = here; there = there; low = down; even = body_even w laws l i s es; even2 = body_even w laws l i u eu })
 
     group_pair : (g : Group) (m : ℕ) (a : State) → Nth g m a → Law a
@@ -56,10 +60,12 @@ module _ (w : World) (laws : Laws w.order) (l : ℕ) where
   paired_by g e around = lift g e around (λ m a h. group_pair g m a h)
 
 -- the root's fall is the body of the current top-level state, after the raises
-pub root_nth : (w : World) (hang : ℕ → Bool) (p : ℕ) (g : Group) (n : ℕ) (a : State) (s : Store) → Nth g n a → root_fall w hang (λ t. does_state w t p) g n s ≡ does_child w g p n (level w (own (number_of a)) s) (raise w.order hang (level w (own (number_of a)) s) s)
+pub root_nth : (w : World) (hang : ℕ → Bool) (p : ℕ) (g : Group) (n : ℕ) (a : State) (s : Store) → Nth g n a
+    → root_fall w hang (λ t. does_state w t p) g n s ≡ does_child w g p n (level w (own (number_of a)) s) (raise w.order hang (level w (own (number_of a)) s) s)
 unfolding root_fall does_child
 root_nth w hang p no_node n a s h = absurd h
-root_nth w hang p (and_node (state_node c b k) g) zero a s h = ap (λ x. does_state w (state_node c b k) p (level w (own (number_of x)) s) (raise w.order hang (level w (own (number_of x)) s) s)) h
+root_nth w hang p (and_node (state_node c b k) g) zero a s h =
+    ap (λ x. does_state w (state_node c b k) p (level w (own (number_of x)) s) (raise w.order hang (level w (own (number_of x)) s) s)) h
 root_nth w hang p (and_node t g) (suc n) a s h = root_nth w hang p g n a s h
 
 module _ (w : World) (laws : Laws w.order) (l : ℕ) (p : ℕ) (g : Group) (around : Around w p g) (once : OnceGroup g) where
@@ -73,16 +79,25 @@ module _ (w : World) (laws : Laws w.order) (l : ℕ) (p : ℕ) (g : Group) (arou
   Fall s = root_fall w (root_touches w g) (λ t. does_state w t p) g (child p s) s
 
   -- a cycle whose first state is high
-  side : (m t : ℕ) (a : State) (s : Store) → Nth g m a → child p s ≡ m → Holds w s → High w.order l t → High w.order l (level w (own (number_of a)) s) → Even w (group_concerns w g) s → Confined w l (raise w.order (root_touches w g) t s) (does_child w g p m t (raise w.order (root_touches w g) t s)) × (path w l p g (does_child w g p m t (raise w.order (root_touches w g) t s)).store ≡ [])
+  side : (m t : ℕ) (a : State) (s : Store) → Nth g m a → child p s ≡ m → Holds w s → High w.order l t
+      → High w.order l (level w (own (number_of a)) s) → Even w (group_concerns w g) s
+      → Confined w l (raise w.order (root_touches w g) t s) (does_child w g p m t (raise w.order (root_touches w g) t s))
+      × (path w l p g (does_child w g p m t (raise w.order (root_touches w g) t s)).store ≡ [])
   side m t a s nth here hs high up ev =
       let r = raise w.order (root_touches w g) t s in
       let hr = holds_raise w s (root_touches w g) t dyn hs in
-      let quiet : Quiet w l (group_concerns w g) r = quiet_raise w laws l (group_concerns w g) (root_touches w g) t s (λ x i. and_from _ _ (and_left (is_dynamic w x) _ i) (or_right (among g x) _ (and_right (is_dynamic w x) _ (group_hanging w p g x i)))) dyn high ev in (
+      let quiet : Quiet w l (group_concerns w g) r =
+      quiet_raise w laws l (group_concerns w g) (root_touches w g) t s
+      (λ x i. and_from _ _ (and_left (is_dynamic w x) _ i) (or_right (among g x) _ (and_right (is_dynamic w x) _ (group_hanging w p g x i)))) dyn high ev in (
         child_confined w laws l p g around m t r hr high quiet,
-        covered_by w laws l g p around m t r a nth hr high quiet (child_raise w.order p (root_touches w g) t s ∙ here) (raise_high w laws l s (root_touches w g) t (own (number_of a)) up),
+        covered_by w laws l g p around m t r a nth hr high quiet (child_raise w.order p (root_touches w g) t s
+            ∙ here) (raise_high w laws l s (root_touches w g) t (own (number_of a)) up),
       )
 
-  lower : (m k : ℕ) (a : State) (s u : Store) → Nth g m a → (c d : ℕ) → child p s ≡ m → child p u ≡ k → level w (own (number_of a)) s ≡ c → m ≡ k → c ≡ d → Low w.order l c → Holds w s → Holds w u → Agree w l s u → Even w (group_concerns w g) s → Even w (group_concerns w g) u → path w l p g s ≡ path w l p g u → Pair w l p g (does_child w g p m c (raise w.order (root_touches w g) c s)) (does_child w g p k d (raise w.order (root_touches w g) d u))
+  lower : (m k : ℕ) (a : State) (s u : Store) → Nth g m a → (c d : ℕ) → child p s ≡ m → child p u ≡ k → level w (own (number_of a)) s ≡ c
+      → m ≡ k → c ≡ d → Low w.order l c → Holds w s → Holds w u → Agree w l s u → Even w (group_concerns w g) s
+      → Even w (group_concerns w g) u → path w l p g s ≡ path w l p g u
+      → Pair w l p g (does_child w g p m c (raise w.order (root_touches w g) c s)) (does_child w g p k d (raise w.order (root_touches w g) d u))
   lower m k a s u nth c d here there mine mk cd low hs hu like es eu e =
       let r = raise w.order (root_touches w g) c s in
       let v = raise w.order (root_touches w g) c u in
@@ -97,12 +112,14 @@ module _ (w : World) (laws : Laws w.order) (l : ℕ) (p : ℕ) (g : Group) (arou
       (subst (λ n. Pair w l p g (does_child w g p m c r) (does_child w g p m n (raise w.order (root_touches w g) n u))) cd res)
 
   -- with a current child in both
-  fall_with : (s u : Store) (a b : State) → Nth g (child p s) a → Nth g (child p u) b → Holds w s → Holds w u → Agree w l s u → Even w (group_concerns w g) s → Even w (group_concerns w g) u → path w l p g s ≡ path w l p g u → Pair w l p g (Fall s) (Fall u)
+  fall_with : (s u : Store) (a b : State) → Nth g (child p s) a → Nth g (child p u) b → Holds w s → Holds w u → Agree w l s u
+      → Even w (group_concerns w g) s → Even w (group_concerns w g) u → path w l p g s ≡ path w l p g u → Pair w l p g (Fall s) (Fall u)
   fall_with s u a b na nb hs hu like es eu e =
       let both = falls w laws l p (child p s) (child p u) g s u a b refl refl na nb e in
       rw (root_nth w (root_touches w g) p g (child p s) a s na, root_nth w (root_touches w g) p g (child p u) b u nb) (
       elim (cases_Bool (w.order.le (level w (own (number_of a)) s) l)) [
-        | inl low ↦ lower (child p s) (child p u) a s u na (level w (own (number_of a)) s) (level w (own (number_of b)) u) refl refl refl (both.1 low) (both.0.1 low) low hs hu like es eu e
+        | inl low ↦ lower (child p s) (child p u) a s u na (level w (own (number_of a)) s) (level w (own (number_of b)) u) refl refl refl
+            (both.1 low) (both.0.1 low) low hs hu like es eu e
         | inr high ↦ (
             let high' : High w.order l (level w (own (number_of b)) u) = sym both.0.0 ∙ high in
             let x = side (child p s) (level w (own (number_of a)) s) a s na refl hs high high es in
@@ -114,7 +131,9 @@ module _ (w : World) (laws : Laws w.order) (l : ℕ) (p : ℕ) (g : Group) (arou
       ])
 
 module _ (w : World) (laws : Laws w.order) (l : ℕ) where
-  pub fall_pair : (p : ℕ) (g : Group) (around : Around w p g) (once : OnceGroup g) (s u : Store) → Holds w s → Holds w u → Agree w l s u → Even w (group_concerns w g) s → Even w (group_concerns w g) u → path w l p g s ≡ path w l p g u → Pair w l p g (root_fall w (root_touches w g) (λ t. does_state w t p) g (child p s) s) (root_fall w (root_touches w g) (λ t. does_state w t p) g (child p u) u)
+  pub fall_pair : (p : ℕ) (g : Group) (around : Around w p g) (once : OnceGroup g) (s u : Store) → Holds w s → Holds w u → Agree w l s u
+      → Even w (group_concerns w g) s → Even w (group_concerns w g) u → path w l p g s ≡ path w l p g u
+      → Pair w l p g (root_fall w (root_touches w g) (λ t. does_state w t p) g (child p s) s) (root_fall w (root_touches w g) (λ t. does_state w t p) g (child p u) u)
   unfolding root_fall
   fall_pair p no_node around once s u hs hu like es eu e = record { twin = record { same = like; refused = refl }; path = e }
   fall_pair p (and_node t g) around once s u hs hu like es eu e =

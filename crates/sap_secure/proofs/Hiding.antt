@@ -58,7 +58,8 @@ spot = record { state = 6; parent = 4; children = no_node }
 touched : (x : ℕ) → (is_register hiding.world x || is_memory hiding.world x) ≡ true → touches hiding.world spot decided x ≡ true
     → High two_levels 0 (before.level (level_slot hiding.world x))
 unfolding first put_level put_child
-touched = each (λ x. (is_register hiding.world x || is_memory hiding.world x) ≡ true → touches hiding.world spot decided x ≡ true → High two_levels 0 (before.level (level_slot hiding.world x)))
+touched = each (λ x. (is_register hiding.world x || is_memory hiding.world x) ≡ true → touches hiding.world spot decided x ≡ true
+    → High two_levels 0 (before.level (level_slot hiding.world x)))
     (λ r h. cc) (λ r h. refl) (λ r h. cc) (λ r h. refl) (λ r h. cc) (λ r h. cc) (λ r h. cc) (λ x r h. cc)
 
 premise : Hidden hiding 0 before (state_p ∷ []) 6 body_d no_node decided 1

@@ -40,7 +40,8 @@ nth_concerns w (and_node c g) zero a h x i = or_left _ _ (subst (λ t. state_con
 nth_concerns w (and_node c g) (suc m) a h x i = or_right (state_concerns w c x) _ (nth_concerns w g m a h x i)
 
 -- the children of a state leave its level and its group's current child alone
-pub kids_kept : (w : World) (p n e : ℕ) (b : Block) (g q : Group) (around : Around w p q) (self : Nth q n (state_node e b g)) → (m r : ℕ) (s : Store) → Kept w (own e) p s (does_child w g e m r s).store
+pub kids_kept : (w : World) (p n e : ℕ) (b : Block) (g q : Group) (around : Around w p q) (self : Nth q n (state_node e b g))
+    → (m r : ℕ) (s : Store) → Kept w (own e) p s (does_child w g e m r s).store
 kids_kept w p n e b g q around self m r s =
     let i = site_at w p n e b g q around self in
     let here = around.apart e (nth_inside q n e b g self) in
@@ -51,7 +52,8 @@ kids_kept w p n e b g q around self m r s =
 module _ (w : World) (laws : Laws w.order) (l : ℕ) where
   -- in a high context, a state whose level is high, and current
   abbrev Law : State → Type 0
-  Law t = (p n : ℕ) (q : Group) → Around w p q → Nth q n t → (pc : ℕ) (s : Store) → Holds w s → High w.order l pc → Quiet w l (state_concerns w t) s → child p s ≡ n → High w.order l (level w (own (number_of t)) s) → path w l p q (does_state w t p pc s).store ≡ []
+  Law t = (p n : ℕ) (q : Group) → Around w p q → Nth q n t → (pc : ℕ) (s : Store) → Holds w s → High w.order l pc
+      → Quiet w l (state_concerns w t) s → child p s ≡ n → High w.order l (level w (own (number_of t)) s) → path w l p q (does_state w t p pc s).store ≡ []
 
   lift : (g : Group) (e : ℕ) → Around w e g → ((m : ℕ) (a : State) → Nth g m a → Law a) → Covered w l e g (does_child w g e)
   lift g e around laws' m r s a nth holds high quiet here up =
@@ -73,7 +75,8 @@ module _ (w : World) (laws : Laws w.order) (l : ℕ) where
     state_over (state_node e b g) p n q around self pc s holds high quiet here up =
         let i = site_at w p n e b g q around self in
         let c = scene_with p n e b g q around self (lift g e (kids_around w i) (λ m a h. group_over g m a h)) in
-        block_still w laws l c b (proper_body w i) (node w i).closes pc s holds high (body_quiet w laws l i s quiet) here (record { own_high = λ h. up; kid_high = λ a k low h. cc })
+        block_still w laws l c b (proper_body w i) (node w i).closes pc s holds high (body_quiet w laws l i s quiet) here
+        (record { own_high = λ h. up; kid_high = λ a k low h. cc })
         ∙ path_high w laws l p n q (state_node e b g) s self here up
 
     group_over : (g : Group) (m : ℕ) (a : State) → Nth g m a → Law a

@@ -120,14 +120,16 @@ module _ (w : World) (laws : Laws w.order) (l : ℕ) where
   path_itself (x ∷ xs) = elim (cases_Bool (w.order.le x.tag l)) [ inl low ↦ inl ((refl, path_itself xs), refl, low) | inr high ↦ inr (high, high) ]
 
   -- a cell of a part of a dynamic memory
-  cell_alike : (cell : ℕ → Slot) (whole : Slot) (s t : Store) → ((i : ℕ) → home w (cell i) ≡ home w whole) → PartsAlike w l cell whole s t → (i : ℕ) → Same w.order l (number (cell i) s) (level w (cell i) s) (number (cell i) t) (level w (cell i) t)
+  cell_alike : (cell : ℕ → Slot) (whole : Slot) (s t : Store) → ((i : ℕ) → home w (cell i) ≡ home w whole) → PartsAlike w l cell whole s t
+      → (i : ℕ) → Same w.order l (number (cell i) s) (level w (cell i) s) (number (cell i) t) (level w (cell i) t)
   cell_alike cell whole s t at a i = subst (λ z. Same w.order l (number (cell i) s) (s.level z) (number (cell i) t) (t.level z)) (sym (at i)) (go a)
     where
       go : PartsAlike w l cell whole s t → Same w.order l (number (cell i) s) (level w whole s) (number (cell i) t) (level w whole t)
       go (inl x) = record { low = ap (λ v. w.order.le v l) x.1; number = λ h. x.0 i; level = λ h. x.1 }
       go (inr x) = same_high w.order laws l _ _ _ _ x.0 x.1
 
-  part_alike : (cell : ℕ → Slot) (whole : Slot) (s t : Store) → ((i : ℕ) → home w (cell i) ≡ home w whole) → ((i : ℕ) → Same w.order l (number (cell i) s) (level w (cell i) s) (number (cell i) t) (level w (cell i) t)) → PartsAlike w l cell whole s t
+  part_alike : (cell : ℕ → Slot) (whole : Slot) (s t : Store) → ((i : ℕ) → home w (cell i) ≡ home w whole)
+      → ((i : ℕ) → Same w.order l (number (cell i) s) (level w (cell i) s) (number (cell i) t) (level w (cell i) t)) → PartsAlike w l cell whole s t
   part_alike cell whole s t at f = elim (cases_Bool (w.order.le (level w whole s) l)) [
     | inl h ↦ inl (λ i. (g i).number h, (g 0).level h, h)
     | inr h ↦ inr (h, sym (g 0).low ∙ h)
@@ -147,7 +149,8 @@ module _ (p : Program) (laws : Laws p.world.order) (l : ℕ) where
   home_nexts m d i = rw d refl
 
   -- what the words of the law say of a slot that is no input
-  pub slots_same : (s t : Store) → StatesAgree p l s t → (z : Slot) → compared W z ≡ true → is_input W (owner z) ≡ false → Same W.order l (number z s) (level W z s) (number z t) (level W z t)
+  pub slots_same : (s t : Store) → StatesAgree p l s t → (z : Slot) → compared W z ≡ true → is_input W (owner z) ≡ false
+      → Same W.order l (number z s) (level W z s) (number z t) (level W z t)
   slots_same s t r (own x) g n = same_of W.order l _ _ _ _ (r.registers x (rw n at g))
   slots_same s t r (start m i) g n = elim (cases_Bool (is_dynamic W m)) [
     | inl d ↦ cell_alike W laws l (start m) (start_whole m) s t (home_starts m d) (r.dynamic_memories m g d).0 i
@@ -164,7 +167,10 @@ module _ (p : Program) (laws : Laws p.world.order) (l : ℕ) where
   states_agree s t r e = record {
     registers = λ x g. alike_of W.order l _ _ _ _ (r.cells (own x) (or_right (is_input W x) _ g));
     enforced_memories = λ m i g d. (alike_of W.order l _ _ _ _ (r.cells (start m i) g), alike_of W.order l _ _ _ _ (r.cells (next m i) g));
-    dynamic_memories = λ m g d. (part_alike W laws l (start m) (start_whole m) s t (home_starts m d) (λ i. r.cells (start m i) g), part_alike W laws l (next m) (next_whole m) s t (home_nexts m d) (λ i. r.cells (next m i) g));
+    dynamic_memories = λ m g d. (
+      part_alike W laws l (start m) (start_whole m) s t (home_starts m d) (λ i. r.cells (start m i) g),
+      part_alike W laws l (next m) (next_whole m) s t (home_nexts m d) (λ i. r.cells (next m i) g),
+    );
     enforced_levels = r.tags;
     paths = e;
   }

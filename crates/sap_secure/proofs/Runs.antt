@@ -23,7 +23,8 @@ use Rattle.sap_secure.proofs.Walks.{path, from_same}
 use Rattle.sap_secure.proofs.Cycles.{fall_pair}
 use Rattle.sap_secure.proofs.Relations.{same_of, slots_same, states_agree, same_path, paths_alike, path_itself}
 
-input_same : (o : Order) (laws : Laws o) (l : ℕ) (a b : List Tagged) (d : Tagged) → InputsAgree o l a b → (n : ℕ) → Same o l (get_or a n d).number (get_or a n d).level (get_or b n d).number (get_or b n d).level
+input_same : (o : Order) (laws : Laws o) (l : ℕ) (a b : List Tagged) (d : Tagged) → InputsAgree o l a b → (n : ℕ)
+    → Same o l (get_or a n d).number (get_or a n d).level (get_or b n d).number (get_or b n d).level
 input_same o laws l [] [] d same zero = same_self o laws l _ _
 input_same o laws l [] [] d same (suc n) = same_self o laws l _ _
 input_same o laws l [] (b ∷ bs) d same n = absurd same
@@ -36,11 +37,19 @@ module _ (w : World) where
   pub inputs_level : (inputs : List Tagged) (s : Store) (z : Slot) → is_input w (owner z) ≡ false → level w z (set_inputs w inputs s) ≡ level w z s
   unfolding set_inputs
   inputs_level inputs s (own x) n = rw n refl
-  inputs_level inputs s (start m i) n = elim (cases_Bool (is_dynamic w m)) [ inl d ↦ whole (home w (start m i)) (start_whole m) (rw d refl) refl | inr d ↦ whole (home w (start m i)) (start m i) (rw d refl) refl ]
+  inputs_level inputs s (start m i) n = elim (cases_Bool (is_dynamic w m)) [
+    | inl d ↦
+        whole (home w (start m i)) (start_whole m) (rw d refl) refl
+    | inr d ↦ whole (home w (start m i)) (start m i) (rw d refl) refl
+  ]
     where
       whole : (y z : Slot) → y ≡ z → at_inputs w (λ x. (given w inputs x).level) s.level z ≡ s.level z → at_inputs w (λ x. (given w inputs x).level) s.level y ≡ s.level y
       whole y z e f = subst (λ v. at_inputs w (λ x. (given w inputs x).level) s.level v ≡ s.level v) (sym e) f
-  inputs_level inputs s (next m i) n = elim (cases_Bool (is_dynamic w m)) [ inl d ↦ whole (home w (next m i)) (next_whole m) (rw d refl) refl | inr d ↦ whole (home w (next m i)) (next m i) (rw d refl) refl ]
+  inputs_level inputs s (next m i) n = elim (cases_Bool (is_dynamic w m)) [
+    | inl d ↦
+        whole (home w (next m i)) (next_whole m) (rw d refl) refl
+    | inr d ↦ whole (home w (next m i)) (next m i) (rw d refl) refl
+  ]
     where
       whole : (y z : Slot) → y ≡ z → at_inputs w (λ x. (given w inputs x).level) s.level z ≡ s.level z → at_inputs w (λ x. (given w inputs x).level) s.level y ≡ s.level y
       whole y z e f = subst (λ v. at_inputs w (λ x. (given w inputs x).level) s.level v ≡ s.level v) (sym e) f
@@ -81,14 +90,25 @@ module _ (p : Program) (fine : FineProgram p) (l : ℕ) where
     tags = λ z g d low. inputs_keep p.world s a fine.inputs z d ∙ r.enforced_levels z g d low ∙ sym (inputs_keep p.world t b fine.inputs z d);
   }
     where
-      given_same : (x : ℕ) → is_input p.world x ≡ true → Same p.world.order l (number (own x) (set_inputs p.world a s)) (level p.world (own x) (set_inputs p.world a s)) (number (own x) (set_inputs p.world b t)) (level p.world (own x) (set_inputs p.world b t))
+      given_same : (x : ℕ) → is_input p.world x ≡ true
+          → Same p.world.order l (number (own x) (set_inputs p.world a s)) (level p.world (own x) (set_inputs p.world a s))
+          (number (own x) (set_inputs p.world b t)) (level p.world (own x) (set_inputs p.world b t))
       given_same x i = rw (given_number p.world a s x i, given_level p.world a s x i, given_number p.world b t x i, given_level p.world b t x i)
           (input_same p.world.order fine.order l a b (record { number = 0; level = p.world.order.bottom }) same (inputs_before p.world.entities x))
 
-      other : (z : Slot) → compared p.world z ≡ true → is_input p.world (owner z) ≡ false → Same p.world.order l (number z (set_inputs p.world a s)) (level p.world z (set_inputs p.world a s)) (number z (set_inputs p.world b t)) (level p.world z (set_inputs p.world b t))
-      other z g n = rw (inputs_number p.world a s z n, inputs_level p.world a s z n, inputs_number p.world b t z n, inputs_level p.world b t z n) (slots_same p fine.order l s t r z g n)
+      other : (z : Slot) → compared p.world z ≡ true → is_input p.world (owner z) ≡ false
+          → Same p.world.order l (number z (set_inputs p.world a s)) (level p.world z (set_inputs p.world a s))
+          (number z (set_inputs p.world b t)) (level p.world z (set_inputs p.world b t))
+      other z g n = rw (
+        inputs_number p.world a s z n,
+        inputs_level p.world a s z n,
+        inputs_number p.world b t z n,
+        inputs_level p.world b t z n,
+      ) (slots_same p fine.order l s t r z g n)
 
-      part : (z : Slot) → compared p.world z ≡ true → ((is_input p.world (owner z) ≡ true) ⊎ (is_input p.world (owner z) ≡ false)) → Same p.world.order l (number z (set_inputs p.world a s)) (level p.world z (set_inputs p.world a s)) (number z (set_inputs p.world b t)) (level p.world z (set_inputs p.world b t))
+      part : (z : Slot) → compared p.world z ≡ true → ((is_input p.world (owner z) ≡ true) ⊎ (is_input p.world (owner z) ≡ false))
+          → Same p.world.order l (number z (set_inputs p.world a s)) (level p.world z (set_inputs p.world a s))
+          (number z (set_inputs p.world b t)) (level p.world z (set_inputs p.world b t))
       part z g (inr n) = other z g n
       part (own x) g (inl i) = given_same x i
       part (start m j) g (inl i) = let no = memory_no_input (entity p.world m).kind g in cc
@@ -122,16 +142,19 @@ module _ (p : Program) (fine : FineProgram p) (l : ℕ) where
   }
 
   path_settle : (s : Store) → path p.world l (root p.world) p.states (settle s) ≡ path p.world l (root p.world) p.states s
-  path_settle s = rw (child_settle (root p.world) s) (from_same p.world l p.states (child (root p.world) s) (child (root p.world) s) (settle s) s (λ x h. (level_settle p.world (own x) s, child_settle x s)))
+  path_settle s = rw (child_settle (root p.world) s)
+      (from_same p.world l p.states (child (root p.world) s) (child (root p.world) s) (settle s) s (λ x h. (level_settle p.world (own x) s, child_settle x s)))
 
-  pub cycle_pair : (s t : Store) → Resting p.world s → Resting p.world t → StatesAgree p l s t → (a b : List Tagged) → InputsAgree p.world.order l a b → StatesAgree p l (cycle p a s).store (cycle p b t).store × RefusalsAgree p.world.order l (cycle p a s).refused (cycle p b t).refused
+  pub cycle_pair : (s t : Store) → Resting p.world s → Resting p.world t → StatesAgree p l s t → (a b : List Tagged)
+      → InputsAgree p.world.order l a b → StatesAgree p l (cycle p a s).store (cycle p b t).store × RefusalsAgree p.world.order l (cycle p a s).refused (cycle p b t).refused
   unfolding cycle
   cycle_pair s t rs rt r a b same =
       let s' = set_inputs p.world a s in
       let t' = set_inputs p.world b t in
       let like = agree_inputs s t a b r same in
       let e = path_inputs s a ∙ same_path p.world fine.order l (root p.world) p.states around.fine s t r.paths ∙ sym (path_inputs t b) in
-      let f = fall_pair p.world fine.order l (root p.world) p.states around fine.once s' t' (holds_inputs p.world s a fine.inputs rs.holds) (holds_inputs p.world t b fine.inputs rt.holds) like (even_inputs s a rs.rests) (even_inputs t b rt.rests) e in
+      let f = fall_pair p.world fine.order l (root p.world) p.states around fine.once s' t' (holds_inputs p.world s a fine.inputs rs.holds)
+      (holds_inputs p.world t b fine.inputs rt.holds) like (even_inputs s a rs.rests) (even_inputs t b rt.rests) e in
       let alike = paths_alike p.world fine.order l (cycle p a s).store (cycle p b t).store (cycle_rests p fine a s rs).holds (cycle_rests p fine b t rt).holds
       (root p.world) p.states fine.states fine.count (path_settle _ ∙ f.path ∙ sym (path_settle _)) in
       (states_agree p fine.order l _ _ (agree_settle _ _ f.twin.same) alike, f.twin.refused)

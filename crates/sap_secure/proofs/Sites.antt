@@ -87,7 +87,12 @@ module _ (w : World) where
 
   -- the top-level states with the root
   pub around_root : (g : Group) → FineGroup w g 0 g → children w (root w) ≡ size g → Around w (root w) g
-  around_root g fine count = record { fine = fine; count = count; apart = λ x h. let k = inside_root g 0 g fine x h in root_out (root w) x (last w x) (is_state w (root w)) k.0 k.1 }
+  around_root g fine count = record {
+    fine = fine;
+    count = count;
+    apart = λ x h. let k = inside_root g 0 g fine x h in
+        root_out (root w) x (last w x) (is_state w (root w)) k.0 k.1;
+  }
 
   -- the states at a place
   pub mine_state : (i : Site w) (x : ℕ) → mine i x ≡ true → is_state w x ≡ true
@@ -136,7 +141,8 @@ module _ (w : World) (i : Site w) where
   abbrev UnmarkedBlock : Block → Type 0
   UnmarkedBlock b = (x : ℕ) → mine i x ≡ true → block_retags b x ≡ false
 
-  pub apart_from : (c : Command) (cs : Block) → FineBlock w i.siblings i.kids cs → Open c → ((m : ℕ) → (reaches i.kids c m && block_reaches i.kids cs m) ≡ false) → Disjoint w i c cs
+  pub apart_from : (c : Command) (cs : Block) → FineBlock w i.siblings i.kids cs → Open c
+      → ((m : ℕ) → (reaches i.kids c m && block_reaches i.kids cs m) ≡ false) → Disjoint w i c cs
   apart_from c cs fine open_ once m mem d h =
       let s : is_state w m ≡ false = no_state w m (or_right _ _ mem) in
       let r : block_reaches i.kids cs m ≡ true = block_hung w m mem d i.state i.kids (not_own w i m s) (no_kid w i m s) i.siblings i.kids cs fine h in

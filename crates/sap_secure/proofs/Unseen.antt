@@ -77,7 +77,8 @@ module _ (w : World) (i : Site w) where
   out x s = group_unassigned w x (state_no_register w x s) (state_no_memory w x s) i.kids 0 i.kids (own_fine w i).1
 
   own_out : among i.kids i.state ≡ false
-  own_out = false_from_ne_true _ (λ h. let f = neither_left (nat_eq i.state i.state) _ ((kids_around w i).apart i.state (inside_among i.kids i.state h)) in let k = test_of_same i.state in cc)
+  own_out = false_from_ne_true _ (λ h. let f =
+      neither_left (nat_eq i.state i.state) _ ((kids_around w i).apart i.state (inside_among i.kids i.state h)) in let k = test_of_same i.state in cc)
 
   step_own : (k : Step) → FineStep w i.siblings i.kids k → step_hangs i.state i.kids k i.state ≡ true → is_goto k ≡ true
   step_own (assign site y t) fine h = let no = register_apart w i.state y (node w i).kind fine.0 in cc
@@ -187,7 +188,8 @@ module _ (w : World) (laws : Laws w.order) (l : ℕ) where
   Kepts s u p (t ∷ way) = Kept w (own (number_of t)) p s u × Kepts s u (number_of t) way
 
   -- the path stays, if it ends on the way or stays below it
-  way_path : (p : ℕ) (g : Group) (s u : Store) (way : List State) (t : State) → Active p g s way t → Kepts s u p way → SomeHigh w l s way ⊎ (path w l (last_parent p way) (last_group g way) u ≡ path w l (last_parent p way) (last_group g way) s) → path w l p g u ≡ path w l p g s
+  way_path : (p : ℕ) (g : Group) (s u : Store) (way : List State) (t : State) → Active p g s way t → Kepts s u p way → SomeHigh w l s way
+      ⊎ (path w l (last_parent p way) (last_group g way) u ≡ path w l (last_parent p way) (last_group g way) s) → path w l p g u ≡ path w l p g s
   way_path p g s u [] t a k e = elim e [ inl h ↦ absurd h | inr q ↦ q ]
   way_path p g s u (state_node c b j ∷ way) t a k e = elim (cases_Bool (w.order.le (level w (own c) s) l)) [
     | inl low ↦ (
@@ -200,10 +202,13 @@ module _ (w : World) (laws : Laws w.order) (l : ℕ) where
 
   module _ (s : Store) (e : ℕ) (b : Block) (g : Group) (d : Command) (inn : StandsInBlock d b) (pc : ℕ) where
     -- a command in the body of the last state leaves a state above it as it was
-    above_kept : (p : ℕ) (q : Group) (around : Around w p q) (c : ℕ) (b' : Block) (k : Group) → Nth q (child p s) (state_node c b' k) → (way : List State) → (act : Active c k s way (state_node e b g)) → (u : Store) → Kept w (own c) p u (does w (record { state = e; parent = last_parent c way; children = g }) (does_child w g e) d pc u).store
+    above_kept : (p : ℕ) (q : Group) (around : Around w p q) (c : ℕ) (b' : Block) (k : Group) → Nth q (child p s) (state_node c b' k)
+        → (way : List State) → (act : Active c k s way (state_node e b g)) → (u : Store)
+        → Kept w (own c) p u (does w (record { state = e; parent = last_parent c way; children = g }) (does_child w g e) d pc u).store
     above_kept p q around c b' k nth way act u =
         under_kept w c p (node w i).kind e (last_parent c way) g (last_group k way) (does_child w g e) out own_out kids_out free away
-        (λ m z v. child_under w c p (node w i).kind g e g 0 (own_fine w j).1 (λ x h. out x (nth_below (last_group k way) (child (last_parent c way) s) e b g self x h)) (λ x h. h) kid_away (neither_right (block_retags b c) _ untagged) m z v)
+        (λ m z v. child_under w c p (node w i).kind g e g 0 (own_fine w j).1
+        (λ x h. out x (nth_below (last_group k way) (child (last_parent c way) s) e b g self x h)) (λ x h. h) kid_away (neither_right (block_retags b c) _ untagged) m z v)
         d (fine_command w j d (proper_in_block w j d b inn (proper_body w j) (inl (node w j).closes)).0) (retags_in_block d b inn c (neither_left _ _ untagged)) pc u
       where
         i : Site w
@@ -221,7 +226,8 @@ module _ (w : World) (laws : Laws w.order) (l : ℕ) where
         away : nat_eq p (last_parent c way) ≡ false
         away = elim (last_within c k s way (state_node e b g) act) [
           | inl z ↦ subst (λ x. nat_eq p x ≡ false) (sym z) (neither_left (nat_eq p c) (below w c p) (around.apart c (nth_inside q (child p s) c b' k nth)))
-          | inr z ↦ neither_left (nat_eq p (last_parent c way)) (below w (last_parent c way) p) (around.apart (last_parent c way) (nth_below q (child p s) c b' k nth (last_parent c way) z))
+          | inr z ↦ neither_left (nat_eq p (last_parent c way)) (below w (last_parent c way) p)
+              (around.apart (last_parent c way) (nth_below q (child p s) c b' k nth (last_parent c way) z))
         ]
 
         out : (x : ℕ) → inside (last_group k way) x ≡ true → ((nat_eq c x || below w x c) ≡ false) × ((nat_eq p x || below w x p) ≡ false)
@@ -249,14 +255,16 @@ module _ (w : World) (laws : Laws w.order) (l : ℕ) where
         untagged : (block_retags b c || group_retags g c) ≡ false
         untagged = last_retags c k s way (state_node e b g) act c (neither_right (block_retags b' c) _ (node w i).retags_itself)
 
-    all_kept : (p : ℕ) (q : Group) (around : Around w p q) (way : List State) → (act : Active p q s way (state_node e b g)) → Kepts s (does w (record { state = e; parent = last_parent p way; children = g }) (does_child w g e) d pc s).store p way
+    all_kept : (p : ℕ) (q : Group) (around : Around w p q) (way : List State) → (act : Active p q s way (state_node e b g))
+        → Kepts s (does w (record { state = e; parent = last_parent p way; children = g }) (does_child w g e) d pc s).store p way
     all_kept p q around [] act = tt
     all_kept p q around (state_node c b' k ∷ way) act =
         (above_kept p q around c b' k act.0 way act.1 s, all_kept c k (kids_around w (site_at w p (child p s) c b' k q around act.0)) way act.1)
 
 module _ (w : World) (laws : Laws w.order) (l : ℕ) (i : Site w) (c : Command) (fine : Proper w i c) (s : Store) where
   -- what the conditions say of the slots that it touches
-  quiet_of : ((x : ℕ) → (is_register w x || is_memory w x) ≡ true → touches w (spot i) c x ≡ true → High w.order l (s.level (level_slot w x))) → ((m : ℕ) → is_memory w m ≡ true → is_dynamic w m ≡ false → reaches i.kids c m ≡ true → EqualParts w m s) → Quiet w l (concerns w i.state i.kids c) s
+  quiet_of : ((x : ℕ) → (is_register w x || is_memory w x) ≡ true → touches w (spot i) c x ≡ true → High w.order l (s.level (level_slot w x)))
+      → ((m : ℕ) → is_memory w m ≡ true → is_dynamic w m ≡ false → reaches i.kids c m ≡ true → EqualParts w m s) → Quiet w l (concerns w i.state i.kids c) s
   quiet_of f g (own x) k h = (λ d. dynamic d (cases_Bool (is_register w x)), λ d. inl refl)
     where
       dynamic : is_dynamic w x ≡ true → ((is_register w x ≡ true) ⊎ (is_register w x ≡ false)) → High w.order l (s.level (own x))
@@ -272,7 +280,8 @@ module _ (w : World) (laws : Laws w.order) (l : ℕ) (i : Site w) (c : Command) 
           cc
   quiet_of f g (start m j) k h = cc
   quiet_of f g (next m j) k h = (
-    λ d. (let high = f m (or_right _ _ k) (hanging w i.state i.kids c m (and_from _ _ d h)) in let high' = rw k at high in subst (λ z. High w.order l (s.level z)) (sym (whole m j d)) high'),
+    λ d. (let high = f m (or_right _ _ k) (hanging w i.state i.kids c m (and_from _ _ d h)) in let high' = rw k at high in
+        subst (λ z. High w.order l (s.level z)) (sym (whole m j d)) high'),
     λ d. (let st = changing_no_state w (next m j) k in
         let r = hung w m k d i.state i.kids (not_own w i m st) (no_kid w i m st) i.siblings i.kids c (fine_command w i c fine) h in
         inl (g m k d r j).1),
@@ -290,11 +299,13 @@ module _ (w : World) (laws : Laws w.order) (l : ℕ) (i : Site w) (c : Command) 
     own_high = λ h. (let d = and_left (is_dynamic w i.state) _ h in let no = f.0 (own_goto w i c (fine_command w i c fine) (and_right (is_dynamic w i.state) _ h)) in cc);
     kid_high = λ a n low h.
         let m = inside_among i.kids (number_of a) (nth_among i.kids (child i.state s) a n) in
-        f.1 (kid_fall w i (number_of a) (inside_state w i.kids 0 i.kids (own_fine w i).1 (number_of a) m) (other (number_of a) m) c (fine_command w i c fine) (and_right (is_dynamic w (number_of a)) _ h)) a n (and_left _ _ h);
+        f.1 (kid_fall w i (number_of a) (inside_state w i.kids 0 i.kids (own_fine w i).1 (number_of a) m) (other (number_of a) m) c
+        (fine_command w i c fine) (and_right (is_dynamic w (number_of a)) _ h)) a n (and_left _ _ h);
   }
     where
       other : (x : ℕ) → inside i.kids x ≡ true → nat_eq x i.state ≡ false
-      other x m = ne_eqb x i.state (λ z. let f = neither_left (nat_eq i.state x) (below w x i.state) ((kids_around w i).apart x m) in let y = subst (λ v. nat_eq i.state v ≡ true) (sym z) (test_of_same i.state) in cc)
+      other x m = ne_eqb x i.state (λ z. let f = neither_left (nat_eq i.state x) (below w x i.state) ((kids_around w i).apart x m) in
+          let y = subst (λ v. nat_eq i.state v ≡ true) (sym z) (test_of_same i.state) in cc)
 
 pub confinement_law : Confinement
 unfolding scene_at
@@ -331,13 +342,16 @@ confinement_law p fine l s way e b g c pc h =
     conf : Confined p.world l s (does p.world (spot i) (does_child p.world g e) c pc s)
     conf = does_confined p.world fine.order l i sc.entering sc.holding c proper.0 pc s h.holds h.context quiet
 
-    at_group : High p.world.order l (level p.world (own e) s) ⊎ Guarded p.world l e g c s → path p.world l (last_parent (root p.world) way) (last_group p.states way) (does p.world (spot i) (does_child p.world g e) c pc s).store ≡ path p.world l (last_parent (root p.world) way) (last_group p.states way) s
+    at_group : High p.world.order l (level p.world (own e) s) ⊎ Guarded p.world l e g c s
+        → path p.world l (last_parent (root p.world) way) (last_group p.states way)
+        (does p.world (spot i) (does_child p.world g e) c pc s).store ≡ path p.world l (last_parent (root p.world) way) (last_group p.states way) s
     at_group q = elim proper.1 [
       | inl final ↦ does_still p.world fine.order l sc c proper.0 final pc s h.holds h.context quiet refl (cover_of p.world fine.order l i c proper.0 s q)
       | inr plain ↦ clear_path p.world fine.order l sc c proper.0 plain pc s refl
     ]
 
-    below' : SomeHigh p.world l s way ⊎ (path p.world l (last_parent (root p.world) way) (last_group p.states way) (does p.world (spot i) (does_child p.world g e) c pc s).store ≡ path p.world l (last_parent (root p.world) way) (last_group p.states way) s)
+    below' : SomeHigh p.world l s way ⊎ (path p.world l (last_parent (root p.world) way) (last_group p.states way)
+        (does p.world (spot i) (does_child p.world g e) c pc s).store ≡ path p.world l (last_parent (root p.world) way) (last_group p.states way) s)
     below' = elim h.above [
       | inl y ↦ elim y [ inl z ↦ inr (at_group (inl z)) | inr z ↦ inl z ]
       | inr y ↦ inr (at_group (inr y))

@@ -40,7 +40,8 @@ deeper no_node x = false
 deeper (and_node (state_node c b k) g) x = inside k x || deeper g x
 
 -- the same path where levels and children inside are the same
-pub from_same : (w : World) (l : ℕ) (g : Group) (n i : ℕ) (s t : Store) → ((x : ℕ) → inside g x ≡ true → (level w (own x) s ≡ level w (own x) t) × (child x s ≡ child x t)) → from w l g n i s ≡ from w l g n i t
+pub from_same : (w : World) (l : ℕ) (g : Group) (n i : ℕ) (s t : Store)
+    → ((x : ℕ) → inside g x ≡ true → (level w (own x) s ≡ level w (own x) t) × (child x s ≡ child x t)) → from w l g n i s ≡ from w l g n i t
 from_same w l no_node n i s t f = refl
 from_same w l (and_node (state_node c b k) g) zero i s t f =
     let e = f c (or_left (nat_eq c c) _ (test_of_same c)) in
@@ -103,7 +104,10 @@ module _ (w : World) (laws : Laws w.order) (l : ℕ) where
   from_ended (and_node (state_node c b k) g) (suc n) i s h a p = from_ended g n i s h a p
 
   -- one level of the next lemma
-  path_step : (k : Group) (c : ℕ) (s t r u : Store) → ((n i : ℕ) → from w l k n i s ≡ from w l k n i t → from w l k n i r ≡ from w l k n i u) → ((n i : ℕ) → from w l k n i s ≡ [] → from w l k n i r ≡ []) → ((n i : ℕ) → from w l k n i t ≡ [] → from w l k n i u ≡ []) → child c r ≡ child c s → child c u ≡ child c t → path w l c k s ≡ path w l c k t → path w l c k r ≡ path w l c k u
+  path_step : (k : Group) (c : ℕ) (s t r u : Store)
+      → ((n i : ℕ) → from w l k n i s ≡ from w l k n i t → from w l k n i r ≡ from w l k n i u)
+      → ((n i : ℕ) → from w l k n i s ≡ [] → from w l k n i r ≡ []) → ((n i : ℕ) → from w l k n i t ≡ [] → from w l k n i u ≡ [])
+      → child c r ≡ child c s → child c u ≡ child c t → path w l c k s ≡ path w l c k t → path w l c k r ≡ path w l c k u
   path_step k c s t r u f g h x y p = rw (x, y) (elim (path_cases k c c s t p) [
     | inl e ↦ rw (← e) (f (child c s) (child c s) (rw (← e) at p))
     | inr e ↦ g _ _ e.0 ∙ sym (h _ _ e.1)
@@ -115,7 +119,8 @@ module _ (w : World) (laws : Laws w.order) (l : ℕ) where
     | inr h ↦ rw (h, sym f.0 ∙ h) refl
   ]
 
-  pub like_raised : (s t : Store) (h : ℕ → Bool) (a b : ℕ) (z : Slot) → Like w.order l a b → Like w.order l (level w z s) (level w z t) → Like w.order l (level w z (raise w.order h a s)) (level w z (raise w.order h b t))
+  pub like_raised : (s t : Store) (h : ℕ → Bool) (a b : ℕ) (z : Slot) → Like w.order l a b → Like w.order l (level w z s) (level w z t)
+      → Like w.order l (level w z (raise w.order h a s)) (level w z (raise w.order h b t))
   like_raised s t h a b z f e = rw (level_raise w z h a s, level_raise w z h b t) (both (raised h (home w z)))
     where
       joined : Like w.order l (w.order.join (level w z s) a) (w.order.join (level w z t) b)
@@ -132,11 +137,14 @@ module _ (w : World) (laws : Laws w.order) (l : ℕ) where
       both false = e
 
   -- the same path from what is settled: the same children, and the same levels of dynamic states
-  pub from_settled : (g : Group) (n i : ℕ) (s t : Store) → Agree w l s t → Holds w s → Holds w t → ((x : ℕ) → inside g x ≡ true → held w (own x) ≡ true) → ((x : ℕ) → inside g x ≡ true → child x s ≡ child x t) → ((x : ℕ) → inside g x ≡ true → is_dynamic w x ≡ true → level w (own x) s ≡ level w (own x) t) → from w l g n i s ≡ from w l g n i t
+  pub from_settled : (g : Group) (n i : ℕ) (s t : Store) → Agree w l s t → Holds w s → Holds w t
+      → ((x : ℕ) → inside g x ≡ true → held w (own x) ≡ true) → ((x : ℕ) → inside g x ≡ true → child x s ≡ child x t)
+      → ((x : ℕ) → inside g x ≡ true → is_dynamic w x ≡ true → level w (own x) s ≡ level w (own x) t) → from w l g n i s ≡ from w l g n i t
   from_settled no_node n i s t like hs ht held' f d = refl
   from_settled (and_node (state_node c b k) g) zero i s t like hs ht held' f d =
       same_from (level w (own c) s) (level w (own c) t) i (alike (cases_Bool (is_dynamic w c))) _ _
-      (rw (f c here) (from_settled k (child c t) (child c t) s t like hs ht (λ x h. held' x (or_right (nat_eq x c) _ (or_left _ _ h))) (λ x h. f x (or_right (nat_eq x c) _ (or_left _ _ h))) (λ x h. d x (or_right (nat_eq x c) _ (or_left _ _ h)))))
+      (rw (f c here) (from_settled k (child c t) (child c t) s t like hs ht (λ x h. held' x (or_right (nat_eq x c) _ (or_left _ _ h)))
+      (λ x h. f x (or_right (nat_eq x c) _ (or_left _ _ h))) (λ x h. d x (or_right (nat_eq x c) _ (or_left _ _ h)))))
     where
       here : inside (and_node (state_node c b k) g) c ≡ true
       here = or_left (nat_eq c c) _ (test_of_same c)
@@ -145,13 +153,17 @@ module _ (w : World) (laws : Laws w.order) (l : ℕ) where
       alike (inl y) = let e = d c here y in (ap (λ v. w.order.le v l) e, λ _. e)
       alike (inr y) = elim (cases_Bool (w.order.le (authority w c) l)) [
         | inl a ↦ (let e = like.tags (own c) (held' c here) y a in (ap (λ v. w.order.le v l) e, λ _. e))
-        | inr a ↦ (let u = high_above w.order laws l _ _ (hs.above (own c) (held' c here) y) a in let v = high_above w.order laws l _ _ (ht.above (own c) (held' c here) y) a in (u ∙ sym v, λ z. cc))
+        | inr a ↦ (let u = high_above w.order laws l _ _ (hs.above (own c) (held' c here) y) a in
+            let v = high_above w.order laws l _ _ (ht.above (own c) (held' c here) y) a in (u ∙ sym v, λ z. cc))
       ]
   from_settled (and_node (state_node c b k) g) (suc n) i s t like hs ht held' f d =
-      from_settled g n i s t like hs ht (λ x h. held' x (or_right (nat_eq x c) _ (or_right (inside k x) _ h))) (λ x h. f x (or_right (nat_eq x c) _ (or_right (inside k x) _ h))) (λ x h. d x (or_right (nat_eq x c) _ (or_right (inside k x) _ h)))
+      from_settled g n i s t like hs ht (λ x h. held' x (or_right (nat_eq x c) _ (or_right (inside k x) _ h)))
+      (λ x h. f x (or_right (nat_eq x c) _ (or_right (inside k x) _ h))) (λ x h. d x (or_right (nat_eq x c) _ (or_right (inside k x) _ h)))
 
   -- the same path where only states that are not deeper, and the current one only if it is high, change
-  pub from_quiet : (g : Group) (n i : ℕ) (s t : Store) → ((x : ℕ) → child x s ≡ child x t) → ((a : State) → Nth g n a → Like w.order l (level w (own (number_of a)) s) (level w (own (number_of a)) t)) → ((x : ℕ) → deeper g x ≡ true → level w (own x) s ≡ level w (own x) t) → from w l g n i s ≡ from w l g n i t
+  pub from_quiet : (g : Group) (n i : ℕ) (s t : Store) → ((x : ℕ) → child x s ≡ child x t)
+      → ((a : State) → Nth g n a → Like w.order l (level w (own (number_of a)) s) (level w (own (number_of a)) t))
+      → ((x : ℕ) → deeper g x ≡ true → level w (own x) s ≡ level w (own x) t) → from w l g n i s ≡ from w l g n i t
   from_quiet no_node n i s t f e d = refl
   from_quiet (and_node (state_node c b k) g) zero i s t f e d =
       same_from (level w (own c) s) (level w (own c) t) i (e (state_node c b k) refl) _ _
@@ -159,7 +171,8 @@ module _ (w : World) (laws : Laws w.order) (l : ℕ) where
   from_quiet (and_node (state_node c b k) g) (suc n) i s t f e d = from_quiet g n i s t f e (λ x h. d x (or_right (inside k x) _ h))
 
   -- two paths that are the same and begin
-  pub heads : (n m e c : ℕ) (g k : Group) (s t : Store) → one w l n e g s ≡ one w l m c k t → Low w.order l (level w (own e) s) → (n ≡ m) × (level w (own e) s ≡ level w (own c) t) × (path w l e g s ≡ path w l c k t)
+  pub heads : (n m e c : ℕ) (g k : Group) (s t : Store) → one w l n e g s ≡ one w l m c k t → Low w.order l (level w (own e) s) → (n ≡ m)
+      × (level w (own e) s ≡ level w (own c) t) × (path w l e g s ≡ path w l c k t)
   heads n m e c g k s t p h = elim (cases_Bool (w.order.le (level w (own c) t) l)) [
     | inl y ↦ (let p' = rw (h, y) at p in let z = head_of _ _ _ _ p' in (ap (λ (x : Stop). x.index) z, ap (λ (x : Stop). x.level) z, tail_of _ _ _ _ p'))
     | inr y ↦ (let p' = rw (h, y) at p in cc)
@@ -175,7 +188,8 @@ module _ (w : World) (laws : Laws w.order) (l : ℕ) where
   ]
 
   -- paths stay equal under raises by levels that are equal or both high
-  pub from_raised : (g : Group) (n i : ℕ) (s t : Store) (h : ℕ → Bool) (a b : ℕ) → Like w.order l a b → from w l g n i s ≡ from w l g n i t → from w l g n i (raise w.order h a s) ≡ from w l g n i (raise w.order h b t)
+  pub from_raised : (g : Group) (n i : ℕ) (s t : Store) (h : ℕ → Bool) (a b : ℕ) → Like w.order l a b → from w l g n i s ≡ from w l g n i t
+      → from w l g n i (raise w.order h a s) ≡ from w l g n i (raise w.order h b t)
   from_raised no_node n i s t h a b f p = refl
   from_raised (and_node (state_node c q k) g) zero i s t h a b f p = elim (cases_Bool (w.order.le (level w (own c) s) l)) [
     | inl x ↦ elim (cases_Bool (w.order.le (level w (own c) t) l)) [
@@ -183,7 +197,8 @@ module _ (w : World) (laws : Laws w.order) (l : ℕ) where
           let p' = rw (x, y) at p in
           let lev = ap (λ (z : Stop). z.level) (head_of _ _ _ _ p') in
           let up = like_raised s t h a b (own c) f (x ∙ sym y, λ _. lev) in
-          let rest = path_step k c s t (raise w.order h a s) (raise w.order h b t) (λ n i. from_raised k n i s t h a b f) (λ n i. from_ended k n i s h a) (λ n i. from_ended k n i t h b) (child_raise w.order c h a s) (child_raise w.order c h b t) (tail_of _ _ _ _ p') in
+          let rest = path_step k c s t (raise w.order h a s) (raise w.order h b t) (λ n i. from_raised k n i s t h a b f)
+          (λ n i. from_ended k n i s h a) (λ n i. from_ended k n i t h b) (child_raise w.order c h a s) (child_raise w.order c h b t) (tail_of _ _ _ _ p') in
           same_from (level w (own c) (raise w.order h a s)) (level w (own c) (raise w.order h b t)) i up _ _ rest)
       | inr y ↦ (let p' = rw (x, y) at p in cc)
     ]
@@ -198,7 +213,8 @@ module _ (w : World) (laws : Laws w.order) (l : ℕ) where
 module _ (w : World) where
   pub deeper_inside : (g : Group) (x : ℕ) → deeper g x ≡ true → inside g x ≡ true
   deeper_inside no_node x h = h
-  deeper_inside (and_node (state_node c b k) g) x h = or_right (nat_eq x c) _ (elim (or_cases (inside k x) _ h) [ inl i ↦ or_left _ _ i | inr i ↦ or_right (inside k x) _ (deeper_inside g x i) ])
+  deeper_inside (and_node (state_node c b k) g) x h =
+      or_right (nat_eq x c) _ (elim (or_cases (inside k x) _ h) [ inl i ↦ or_left _ _ i | inr i ↦ or_right (inside k x) _ (deeper_inside g x i) ])
 
   pub deeper_not_among : (q : Group) (n : ℕ) (g : Group) → FineGroup w q n g → (x : ℕ) → deeper g x ≡ true → among g x ≡ false
   deeper_not_among q n no_node fine x h = refl

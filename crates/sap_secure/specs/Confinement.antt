@@ -91,7 +91,8 @@ pub record Hidden (p : Program) (l : ℕ) (s : Store) (way : List State) (e : �
   pub command : StandsInBlock c b
   pub context : High p.world.order l pc
   -- .. and each dynamic register or memory that c touches, is not at or below l;
-  pub touched : (x : ℕ) → (is_register p.world x || is_memory p.world x) ≡ true → touches p.world (record { state = e; parent = last_parent (root p.world) way; children = g }) c x ≡ true
+  pub touched : (x : ℕ) → (is_register p.world x || is_memory p.world x) ≡ true
+      → touches p.world (record { state = e; parent = last_parent (root p.world) way; children = g }) c x ≡ true
       → High p.world.order l (s.level (level_slot p.world x))
   -- each enforced memory that c writes, or a body that it may fall into, has equal parts;
   pub parts : (m : ℕ) → is_memory p.world m ≡ true → is_dynamic p.world m ≡ false → reaches g c m ≡ true → EqualParts p.world m s

@@ -17,7 +17,9 @@ use Rattle.sap_program.proofs.Shown.{state_of-out}
 
 module _ (w : World) (n : ℕ) (h : ℕ → Bool) (p : ℕ) where
   fall_at : (kids : List State) (k : ℕ) (s : Store) (c : State) → k < length kids
-      → root_fall w h (λ t. run_state w t p) (group_of n kids) k s ≡ run_state w (state_of n (get_or kids k c)) p (level w (own (out-State (get_or kids k c)).number) s) (raise w.order h (level w (own (out-State (get_or kids k c)).number) s) s)
+      → root_fall w h (λ t. run_state w t p) (group_of n kids) k s
+      ≡ run_state w (state_of n (get_or kids k c)) p (level w (own (out-State (get_or kids k c)).number) s)
+      (raise w.order h (level w (own (out-State (get_or kids k c)).number) s) s)
   unfolding root_fall group_of
   fall_at [] k s c l = absurd (omega (arith, l))
   fall_at (j ∷ kids) zero s c l = rw (state_of-out n j) refl
@@ -31,7 +33,8 @@ module _ (w : World) (n : ℕ) (h : ℕ → Bool) (p : ℕ) where
 
 pub fallen-at : (d : Environment) (s : Store) (k x : ℕ) (c : State) → k ≡ child (entities_in d) s → k < length d.program.now.states.items
     → x ≡ (out-State (get_or d.program.now.states.items k c)).number
-    → fallen d s ≡ state_run d (entities_in d) (get_or d.program.now.states.items k c) (level (world_in d) (own x) s) (raise (world_in d).order (listed (flags (entities_in d) d.program.now.hang)) (level (world_in d) (own x) s) s)
+    → fallen d s ≡ state_run d (entities_in d) (get_or d.program.now.states.items k c) (level (world_in d) (own x) s)
+    (raise (world_in d).order (listed (flags (entities_in d) d.program.now.hang)) (level (world_in d) (own x) s) s)
 unfolding fallen state_run
 fallen-at d s k x c e l i =
     let r : root (world_in d) ≡ entities_in d = root_is (order_of d.lattice.now) d.program.now in

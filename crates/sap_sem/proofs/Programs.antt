@@ -63,7 +63,8 @@ module _ (w : World) where
     able_target q no_node n x fine least h = cc
     able_target q (and_node (state_node s b k) g) n x fine least h = elim (cases_Bool (nat_eq x s)) [
       | inl e ↦ subst (AbleTarget w) (sym (eqb-true x s e)) (itself q n s b k fine.0.0 (least s (rw (test_of_same s) refl)))
-      | inr e ↦ able_target q g (suc n) x fine.1 (λ y i. later q n s b k fine.0.0 (least s (rw (test_of_same s) refl)) y (fine.2 y (inside_among g y i))) (or_other (nat_eq x s) (among g x) h e)
+      | inr e ↦ able_target q g (suc n) x fine.1
+          (λ y i. later q n s b k fine.0.0 (least s (rw (test_of_same s) refl)) y (fine.2 y (inside_among g y i))) (or_other (nat_eq x s) (among g x) h e)
     ]
 
     able_step : (q g : Group) → FineGroup w q 0 q → (k : Step) → FineStep w q g k → SizedStep w k → RangedStep w k → AbleStep w k

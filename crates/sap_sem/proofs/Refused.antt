@@ -88,7 +88,8 @@ last_is (r ∷ rs) j (suc n) k h = elim h [
     by false e f t = otherwise_none (last_refusal rs k) ∙ e
 
 -- the first of some refusals, behind which the rest is told
-first_told : (r : Refusal) (rs : List Refusal) (j n : ℕ) (at : ℕ → Option ℕ) → r.site ≡ j → at j ≡ refusal_of (r ∷ rs) j → refusals_from at (suc j) n ≡ rs → refusals_from at j (suc n) ≡ r ∷ rs
+first_told : (r : Refusal) (rs : List Refusal) (j n : ℕ) (at : ℕ → Option ℕ) → r.site ≡ j → at j ≡ refusal_of (r ∷ rs) j
+    → refusals_from at (suc j) n ≡ rs → refusals_from at j (suc n) ≡ r ∷ rs
 first_told r rs j n at e i rest =
     ap (λ (o : Option ℕ). refusal_before j o (refusals_from at (suc j) n)) (i ∙ ap (λ (q : Bool). if q then Some r.level else refusal_of rs j) (eq-eqb j r.site (sym e)))
     ∙ ap (λ (k : ℕ). let a : Refusal = record { site = k; level = r.level } in a ∷ refusals_from at (suc j) n) (sym e)
@@ -106,14 +107,16 @@ listed_again [] j (suc n) at h f =
     ∙ listed_again [] (suc j) n at tt (λ k l u. f k (omega (arith, l)) (omega (arith, u)))
 listed_again (r ∷ rs) j zero at h f = absurd h
 listed_again (r ∷ rs) j (suc n) at h f = elim h [
-  | inl g ↦ first_told r rs j n at g.0 (f j (omega arith) (omega arith)) (listed_again rs (suc j) n at g.1 (λ k l u. beyond_first r rs j k (at k) g.0 l (f k (omega (arith, l)) (omega (arith, u)))))
+  | inl g ↦ first_told r rs j n at g.0 (f j (omega arith) (omega arith))
+      (listed_again rs (suc j) n at g.1 (λ k l u. beyond_first r rs j k (at k) g.0 l (f k (omega (arith, l)) (omega (arith, u)))))
   | inr g ↦
       ap (λ (o : Option ℕ). refusal_before j o (refusals_from at (suc j) n)) (f j (omega arith) (omega arith) ∙ absent (r ∷ rs) (suc j) n j g (omega arith))
       ∙ listed_again (r ∷ rs) (suc j) n at g (λ k l u. f k (omega (arith, l)) (omega (arith, u)))
 ]
 
 -- what marks say that were kept in a cycle
-pub told : (rs qs : List Refusal) (ms : List (Option ℕ)) (n sites k : ℕ) → ms ≡ marked rs (replicate n unmarked) → rs ≡ qs → Sublist (refused_sites qs) (numbers_from 1 sites) → n ≡ sites + 1 → k ≤ sites
+pub told : (rs qs : List Refusal) (ms : List (Option ℕ)) (n sites k : ℕ) → ms ≡ marked rs (replicate n unmarked) → rs ≡ qs
+    → Sublist (refused_sites qs) (numbers_from 1 sites) → n ≡ sites + 1 → k ≤ sites
     → get_or ms k None ≡ refusal_of qs k
 told rs qs ms n sites k e f rises g h =
     ap (λ (l : List (Option ℕ)). get_or l k None) e
@@ -121,6 +124,7 @@ told rs qs ms n sites k e f rises g h =
     ∙ ap (λ (l : List Refusal). last_refusal l k) f
     ∙ last_is qs 1 sites k rises
 
-pub told_again : (rs qs : List Refusal) (ms : List (Option ℕ)) (n sites : ℕ) → ms ≡ marked rs (replicate n unmarked) → rs ≡ qs → Sublist (refused_sites qs) (numbers_from 1 sites) → n ≡ sites + 1
+pub told_again : (rs qs : List Refusal) (ms : List (Option ℕ)) (n sites : ℕ) → ms ≡ marked rs (replicate n unmarked) → rs ≡ qs
+    → Sublist (refused_sites qs) (numbers_from 1 sites) → n ≡ sites + 1
     → refusals_from (λ k. get_or ms k None) 1 sites ≡ qs
 told_again rs qs ms n sites e f rises g = listed_again qs 1 sites (λ k. get_or ms k None) rises (λ k l u. told rs qs ms n sites k e f rises g (omega (arith, u)))

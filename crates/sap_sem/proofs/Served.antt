@@ -23,7 +23,8 @@ use Rattle.sap_store.specs.Able.{AbleGroup}
 use Rattle.sap_sem.specs.Sound.{IsSound, meant}
 use Rattle.sap_sem.proofs.Programs.{able_program}
 
-pub serves : (ls : Levels) (d : DesignTree) → ProgramsAreFine → SizesFit → WidthsInRange → Laws (order_of ls) → WellFormed ls d → IsTrue (is_whole d) → length (entities_of d) < 2 ^ 32
+pub serves : (ls : Levels) (d : DesignTree) → ProgramsAreFine → SizesFit → WidthsInRange → Laws (order_of ls) → WellFormed ls d
+    → IsTrue (is_whole d) → length (entities_of d) < 2 ^ 32
     → AbleGroup (program_of ls d).world (program_of ls d).states
 serves ls d fine sized ranged laws formed whole few =
     able_program (program_of ls d) (fine ls d laws formed) (sized ls d laws formed.names) (ranged ls d (tree_of_whole d whole) formed.names)

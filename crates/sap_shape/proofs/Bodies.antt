@@ -58,11 +58,13 @@ arms_shape-past es at [] (suc n) h = refl
 arms_shape-past es at (arm ∷ arms) zero h = absurd (omega arith)
 arms_shape-past es at (arm ∷ arms) (suc n) h = arms_shape-past es at arms n (omega arith)
 
-pub arms_step : (es : List Entity) (at : Body) (arms : List Arm) (n : ℕ) (d : Arm) (cs : List Cmd) (o m : Option Fault) → n < length arms → d ≡ get_or arms n d → cs ≡ d.block.commands.items
+pub arms_step : (es : List Entity) (at : Body) (arms : List Arm) (n : ℕ) (d : Arm) (cs : List Cmd) (o m : Option Fault) → n < length arms
+    → d ≡ get_or arms n d → cs ≡ d.block.commands.items
     → m ≡ best_of o (list_shape es at cs) → best_of m (arms_shape es at (drop (n + 1) arms)) ≡ best_of o (arms_shape es at (drop n arms))
 arms_step es at arms n d cs o m h e f k = both o m _ (list_shape es at cs) (arms_shape es at (drop (n + 1) arms)) _ k refl (arms_shape-drop es at arms n d cs h e f)
 
-pub arms_shape-of : (es : List Entity) (at : Body) (arms : List Arm) (last : Block) → shape.arms_shape es at (arms_of arms (block_of last)) ≡ arms_shape es at arms ++ list_shape es at last.commands.items
+pub arms_shape-of : (es : List Entity) (at : Body) (arms : List Arm) (last : Block)
+    → shape.arms_shape es at (arms_of arms (block_of last)) ≡ arms_shape es at arms ++ list_shape es at last.commands.items
 unfolding arms_shape list_shape
 arms_shape-of es at [] last = refl
 arms_shape-of es at (arm ∷ arms) last =

@@ -34,14 +34,24 @@ module _ (es : List Entity) (group : List State) (above : List (List ℕ)) where
   group_shape-past (s ∷ ss) (suc n) h = group_shape-past ss n (omega arith)
 
   pub shape_step : (ss : List State) (n : ℕ) (d : State) (o m : Option Fault) → n < length ss → d ≡ get_or ss n d
-      → m ≡ best_of o (state_shape es (states_of group) above (state_of d)) → best_of m (group_shape es group above (drop (n + 1) ss)) ≡ best_of o (group_shape es group above (drop n ss))
+      → m ≡ best_of o (state_shape es (states_of group) above (state_of d))
+      → best_of m (group_shape es group above (drop (n + 1) ss)) ≡ best_of o (group_shape es group above (drop n ss))
   shape_step ss n d o m h e k =
       both o m _ (state_shape es (states_of group) above (state_of d)) (group_shape es group above (drop (n + 1) ss)) _ k refl
       (group_shape-drop ss n d h ∙ ap (λ (s : State). state_shape es (states_of group) above (state_of s) ++ group_shape es group above (drop (n + 1) ss)) (sym e))
 
   pub state_shape-is : (s : State) → state_shape es (states_of group) above (state_of s)
       ≡ closing_list (out-State s).body.commands.items (out-State s).body.after
-      ++ list_shape es (record { home = record { name = (out-State s).name.name; kind = (out-State s).kind; children = states_of (out-State s).children.items }; group = states_of group; above = above })
+      ++ list_shape es (record {
+        home = record {
+          name = (out-State s).name.name;
+          kind = (out-State s).kind;
+          children =
+              states_of (out-State s).children.items;
+        };
+        group = states_of group;
+        above = above;
+      })
       (out-State s).body.commands.items
       ++ group_shape es (out-State s).children.items ((out-State s).name.name ∷ above) (out-State s).children.items
   unfolding closing_list list_shape group_shape

@@ -9,7 +9,8 @@ use Rattle.sap_tree.proofs.Views.{state_of-out}
 use Rattle.sap_shape.specs.Sites.{any_enforced, kind_of_state}
 use Rattle.sap_shape.specs.ShapeFaults.{is_among, name_of, is_in_group, is_within, is_leaf}
 
-module _ (test : StateTree → Bool) (any : StateList → Bool) (none : any no_state ≡ false) (more : (s : StateTree) (rest : StateList) → any (and_state s rest) ≡ (test s || any rest)) where
+module _ (test : StateTree → Bool) (any : StateList → Bool) (none : any no_state ≡ false) (more : (s : StateTree) (rest : StateList)
+    → any (and_state s rest) ≡ (test s || any rest)) where
   any_drop : (ss : List State) (n : ℕ) (d : State) → n < length ss → any (states_of (drop n ss)) ≡ (test (state_of (get_or ss n d)) || any (states_of (drop (n + 1) ss)))
   any_drop [] n d h = absurd (omega arith)
   any_drop (s ∷ ss) zero d h = more (state_of s) (states_of ss)

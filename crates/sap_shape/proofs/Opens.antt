@@ -105,7 +105,8 @@ pub open_arms-of : (arms : List Arm) (last : Block) → closing.open_arms_faults
 unfolding open_arms open_list
 open_arms-of [] last = refl
 open_arms-of (arm ∷ arms) last =
-    ap (λ (l : List Fault). open_block_faults (arm_block_of arm) ++ l) (open_arms-of arms last) ∙ sym (append_assoc (open_block_faults (arm_block_of arm)) (open_arms arms) (open_list last.commands.items))
+    ap (λ (l : List Fault). open_block_faults (arm_block_of arm) ++ l) (open_arms-of arms last)
+    ∙ sym (append_assoc (open_block_faults (arm_block_of arm)) (open_arms arms) (open_list last.commands.items))
 
 closing_arms-drop : (arms : List Arm) (n : ℕ) (d : Arm) (cs : List Cmd) → n < length arms → d ≡ get_or arms n d → cs ≡ d.block.commands.items
     → closing_arms (drop n arms) ≡ closing_list cs d.block.after ++ closing_arms (drop (n + 1) arms)
@@ -126,11 +127,13 @@ pub closing_arms_step : (arms : List Arm) (n : ℕ) (d : Arm) (cs : List Cmd) (o
     → m ≡ best_of o (closing_list cs d.block.after) → best_of m (closing_arms (drop (n + 1) arms)) ≡ best_of o (closing_arms (drop n arms))
 closing_arms_step arms n d cs o m h e f k = both o m _ (closing_list cs d.block.after) (closing_arms (drop (n + 1) arms)) _ k refl (closing_arms-drop arms n d cs h e f)
 
-pub closing_arms-of : (arms : List Arm) (last : Block) → closing.closing_arms_faults (arms_of arms (block_of last)) ≡ closing_arms arms ++ closing_list last.commands.items last.after
+pub closing_arms-of : (arms : List Arm) (last : Block) → closing.closing_arms_faults (arms_of arms (block_of last)) ≡ closing_arms arms
+    ++ closing_list last.commands.items last.after
 unfolding closing_arms closing_list
 closing_arms-of [] last = refl
 closing_arms-of (arm ∷ arms) last =
-    ap (λ (l : List Fault). closing_faults (arm_block_of arm) ++ l) (closing_arms-of arms last) ∙ sym (append_assoc (closing_faults (arm_block_of arm)) (closing_arms arms) (closing_list last.commands.items last.after))
+    ap (λ (l : List Fault). closing_faults (arm_block_of arm) ++ l) (closing_arms-of arms last)
+    ∙ sym (append_assoc (closing_faults (arm_block_of arm)) (closing_arms arms) (closing_list last.commands.items last.after))
 
 pub ruleset opens = (open_list-drop, open_list-past, open_arms-past, closing_arms-past, closing_none)
 

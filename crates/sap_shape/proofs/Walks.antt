@@ -174,9 +174,11 @@ pub past_arms-of : (arms : List Arm) (last : Block) (p : Written) → walk.past_
 unfolding past_arms
 past_arms-of [] last p = refl
 past_arms-of (arm ∷ arms) last p =
-    ap (λ (x : Written). either (past_block (arm_block_of arm) p) x) (past_arms-of arms last p) ∙ sym (either_assoc (past_block (arm_block_of arm) p) (past_arms arms p) (past_block (block_of last) p))
+    ap (λ (x : Written). either (past_block (arm_block_of arm) p) x) (past_arms-of arms last p)
+    ∙ sym (either_assoc (past_block (arm_block_of arm) p) (past_arms arms p) (past_block (block_of last) p))
 
-pub entering_arms-of : (arms : List Arm) (last : Block) (p : Written) → walk.entering_arms (arms_of arms (block_of last)) p ≡ either (entering_arms arms p) (entering_block (block_of last) p)
+pub entering_arms-of : (arms : List Arm) (last : Block) (p : Written)
+    → walk.entering_arms (arms_of arms (block_of last)) p ≡ either (entering_arms arms p) (entering_block (block_of last) p)
 unfolding entering_arms
 entering_arms-of [] last p = refl
 entering_arms-of (arm ∷ arms) last p =
@@ -187,7 +189,8 @@ pub second_arms-of : (arms : List Arm) (last : Block) (p : Written) → walk.sec
 unfolding second_arms
 second_arms-of [] last p = refl
 second_arms-of (arm ∷ arms) last p =
-    ap (λ (l : List Fault). second_block (arm_block_of arm) p ++ l) (second_arms-of arms last p) ∙ sym (append_assoc (second_block (arm_block_of arm) p) (second_arms arms p) (second_block (block_of last) p))
+    ap (λ (l : List Fault). second_block (arm_block_of arm) p ++ l) (second_arms-of arms last p)
+    ∙ sym (append_assoc (second_block (arm_block_of arm) p) (second_arms arms p) (second_block (block_of last) p))
 
 -- a `case`, whose blocks all begin at p
 
@@ -196,7 +199,8 @@ module _ (c : Command) (place : Place) (e : Expression) (arms xs : List Arm) (la
   pub case_past : (none past_all taken new : Written) → none ≡ fresh → past_all ≡ either none (past_arms xs p) → taken ≡ past_all
       → new ≡ either taken (past_block (block_of last) start) → new ≡ past c p
   case_past none past_all taken new n a t j =
-      j ∙ ap₂ (λ (x y : Written). either x (past_block (block_of last) y)) (t ∙ a ∙ ap (λ (x : Written). either x (past_arms xs p)) n ∙ ap (λ (l : List Arm). past_arms l p) same) from
+      j ∙ ap₂ (λ (x y : Written). either x (past_block (block_of last) y)) (t ∙ a ∙ ap (λ (x : Written). either x (past_arms xs p)) n
+      ∙ ap (λ (l : List Arm). past_arms l p) same) from
       ∙ sym (past_arms-of arms last p) ∙ ap (λ (x : Command). past x p) (sym is)
 
   pub case_entering : (old mid new : Written) → mid ≡ either old (entering_arms xs p) → new ≡ either mid (entering_block (block_of last) start) → new ≡ either old (entering c p)

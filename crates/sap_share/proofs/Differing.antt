@@ -15,7 +15,8 @@ differ_more : (w x : Wire) (ws : List Wire) → bytes_eq (key w.width w.right) (
 differ_more w x [] f d = (
   λ e r.
       let s : key w.width w.right ≡ key x.width x.right = ap₂ (λ (n : ℕ) (k : Right). key n k) (sym e) (sym r) in
-      let t : bytes_eq (key w.width w.right) (key x.width x.right) ≡ true = subst (λ (k : List ℕ). bytes_eq (key w.width w.right) k ≡ true) s (bytes_eq_same (key w.width w.right)) in
+      let t : bytes_eq (key w.width w.right) (key x.width x.right) ≡ true =
+      subst (λ (k : List ℕ). bytes_eq (key w.width w.right) k ≡ true) s (bytes_eq_same (key w.width w.right)) in
       absurd (cc),
   tt,
 )

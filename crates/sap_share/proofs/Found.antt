@@ -23,7 +23,8 @@ known Known u r w n t e h =
     subst (λ (x : Name). Known u r x) m (subst (λ (x : Right). Known u x w.name) k.1 (subst (λ (x : ℕ). Known x w.right w.name) k.0 h))
 
 -- in wires that fit, it has the width that it is looked up with
-pub known_readable : (ms : Shapes) (ws : List Wire) (sc : Scope) (u : ℕ) (r : Right) (n : Name) → find (rights ws) (key u r) ≡ Some n → AreWires ms sc ws → find (readable_after sc ws) n ≡ Some u
+pub known_readable : (ms : Shapes) (ws : List Wire) (sc : Scope) (u : ℕ) (r : Right) (n : Name) → find (rights ws) (key u r) ≡ Some n
+    → AreWires ms sc ws → find (readable_after sc ws) n ≡ Some u
 known_readable ms [] sc u r n e a = absurd (cc)
 known_readable ms (w ∷ ws) sc u r n e a =
     let after = readable_after ((w.name, w.width) ∷ sc) ws in

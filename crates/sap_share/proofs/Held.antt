@@ -20,12 +20,14 @@ pub held : (ks : List (Vec ℕ Global)) (n : Name) → list_any (λ k. bytes_eq 
 held [] n = refl
 held (k ∷ ks) n = ap (λ (b : Bool). bytes_eq n k.items || b) (held ks n)
 
-keys_kept : {K : Type 0} (eq : K → K → Bool) (test : K → Bool) (old new : List K) → set.KeepsOthers eq test old new → (other : K → Bool) → IsKeyTest eq other → AreApart test other → list_any other new ≡ list_any other old
+keys_kept : {K : Type 0} (eq : K → K → Bool) (test : K → Bool) (old new : List K) → set.KeepsOthers eq test old new → (other : K → Bool)
+    → IsKeyTest eq other → AreApart test other → list_any other new ≡ list_any other old
 unfolding set.KeepsOthers
 keys_kept eq test old new h = h
 
 -- one more key
-pub one_more : (x : Name) (old new : List (Vec ℕ Global)) → list_any (λ k. bytes_eq x k.items) new ≡ true → set.KeepsOthers same_bytes (λ k. bytes_eq x k.items) old new → AreSame (names_in new) (x ∷ names_in old)
+pub one_more : (x : Name) (old new : List (Vec ℕ Global)) → list_any (λ k. bytes_eq x k.items) new ≡ true
+    → set.KeepsOthers same_bytes (λ k. bytes_eq x k.items) old new → AreSame (names_in new) (x ∷ names_in old)
 one_more x old new t h n =
     elim (cases_Bool (bytes_eq x n)) [
       | inl e ↦
@@ -34,5 +36,6 @@ one_more x old new t h n =
           rw back (sym (held new n) ∙ subst (λ (y : Name). list_any (λ v. bytes_eq y v.items) new ≡ true) k t)
       | inr f ↦
           rw (bytes_eq_apart_back x n f)
-          (sym (held new n) ∙ keys_kept same_bytes (λ k. bytes_eq x k.items) old new h (λ k. bytes_eq n k.items) (λ y z. bytes_eq_alike n y.items z.items) (λ k. bytes_eq_apart x n k.items f) ∙ held old n)
+          (sym (held new n) ∙ keys_kept same_bytes (λ k. bytes_eq x k.items) old new h (λ k. bytes_eq n k.items)
+          (λ y z. bytes_eq_alike n y.items z.items) (λ k. bytes_eq_apart x n k.items f) ∙ held old n)
     ]

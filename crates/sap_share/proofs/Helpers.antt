@@ -18,6 +18,7 @@ pub helpers_differ : (j k : ℕ) → j < 2 ^ 64 → k < 2 ^ 64 → j < k → byt
 unfolding helper
 helpers_differ j k a b l =
     elim (cases_Bool (bytes_eq (helper j) (helper k))) [
-      | inl t ↦ absurd (let e : helper j ≡ helper k = equal_of_bytes_eq (helper j) (helper k) t in let d : decimal j ≡ decimal k = cc in let s : j ≡ k = decimal_injective j k a b d in omega arith)
+      | inl t ↦ absurd (let e : helper j ≡ helper k = equal_of_bytes_eq (helper j) (helper k) t in let d : decimal j ≡ decimal k = cc in
+          let s : j ≡ k = decimal_injective j k a b d in omega arith)
       | inr f ↦ f
     ]

@@ -26,7 +26,8 @@ before : (o : Option ℕ) (k : ℕ) → option_map suc o ≡ Some k → (j : ℕ
 before None k h = absurd (cc)
 before (Some j) k h = let e : suc j ≡ k = cc in (j, refl, sym e)
 
-pub entry_found : {X : Type 0} (es : List (Name × X)) (n : Name) (k : ℕ) → place_in (keys_of es) n ≡ Some k → (k < length es) × ((d : Name × X) → find es n ≡ Some (get_or es k d).1)
+pub entry_found : {X : Type 0} (es : List (Name × X)) (n : Name) (k : ℕ) → place_in (keys_of es) n ≡ Some k → (k < length es)
+    × ((d : Name × X) → find es n ≡ Some (get_or es k d).1)
 entry_found [] n k h = absurd (cc)
 entry_found (e ∷ es) n k h =
     elim (cases_Bool (bytes_eq e.0 n)) [
@@ -48,7 +49,8 @@ entry_missing (e ∷ es) n h =
       | inr f ↦ rw f (entry_missing es n (none_further (place_in (keys_of es) n) (rw f at h)))
     ]
 
-pub item_found : {X Y : Type 0} (name : Y → Name) (of : Y → X) (ys : List Y) (n : Name) (k : ℕ) → place_in (map name ys) n ≡ Some k → (k < length ys) × ((d : Y) → find (map (λ y. (name y, of y)) ys) n ≡ Some (of (get_or ys k d)))
+pub item_found : {X Y : Type 0} (name : Y → Name) (of : Y → X) (ys : List Y) (n : Name) (k : ℕ) → place_in (map name ys) n ≡ Some k
+    → (k < length ys) × ((d : Y) → find (map (λ y. (name y, of y)) ys) n ≡ Some (of (get_or ys k d)))
 item_found name of [] n k h = absurd (cc)
 item_found {X} {Y} name of (y ∷ ys) n k h =
     elim (cases_Bool (bytes_eq (name y) n)) [
@@ -77,7 +79,8 @@ names_replaced [] n x = refl
 names_replaced (e ∷ es) n x =
     elim (cases_Bool (bytes_eq e.0 n)) [ inl t ↦ rw t refl | inr f ↦ rw f (ap (λ ns. e.0 ∷ ns) (names_replaced es n x)) ]
 
-pub set_replaced : {X : Type 0} (es : List (Name × X)) (n : Name) (k : ℕ) (x : X) (d : Name × X) → place_in (keys_of es) n ≡ Some k → slice_set es k ((get_or es k d).0, x) ≡ replaced es n x
+pub set_replaced : {X : Type 0} (es : List (Name × X)) (n : Name) (k : ℕ) (x : X) (d : Name × X) → place_in (keys_of es) n ≡ Some k
+    → slice_set es k ((get_or es k d).0, x) ≡ replaced es n x
 set_replaced [] n k x d h = absurd (cc)
 set_replaced {X} (e ∷ es) n k x d h =
     elim (cases_Bool (bytes_eq e.0 n)) [
@@ -116,7 +119,8 @@ pub still_some : {X Y : Type 0} (f : X → Y) (o : Option X) → is_some (option
 still_some f None = refl
 still_some f (Some x) = refl
 
-replaced_first : {X : Type 0} (e : Name × X) (es : List (Name × X)) (n m : Name) (x : X) → e.0 ≡ n → bytes_eq e.0 n ≡ true → find (replaced (e ∷ es) n x) m ≡ (if bytes_eq n m then Some x else find (e ∷ es) m)
+replaced_first : {X : Type 0} (e : Name × X) (es : List (Name × X)) (n m : Name) (x : X) → e.0 ≡ n → bytes_eq e.0 n ≡ true
+    → find (replaced (e ∷ es) n x) m ≡ (if bytes_eq n m then Some x else find (e ∷ es) m)
 replaced_first {X} e es n m x q t =
     elim (cases_Bool (bytes_eq e.0 m)) [
       | inl s ↦ rw (t, s, subst (λ (a : Name). bytes_eq a m ≡ true) q s) refl

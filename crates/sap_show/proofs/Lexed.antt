@@ -110,7 +110,8 @@ no_later_word n h = none_found (λ word. bytes_eq n (word_text word)) later_word
 pub name_keyword : (version : Version) (n : List ℕ) → is_name version n ≡ true → is_keyword version n ≡ false
 unfolding is_name
 name_keyword version n h =
-    not-true (is_keyword version n) (and_parts (is_word n) (not (is_keyword version n)) (and_parts (is_word n && not (is_keyword version n)) (nat_le (length n) most_name_bytes) h).0).1
+    not-true (is_keyword version n) (and_parts (is_word n) (not (is_keyword version n))
+    (and_parts (is_word n && not (is_keyword version n)) (nat_le (length n) most_name_bytes) h).0).1
 
 pub name_no_later : (n : List ℕ) → is_name v.Two n ≡ true → later_word_of n ≡ None
 name_no_later n h = no_later_word n (name_keyword v.Two n h)
@@ -223,7 +224,8 @@ word_lexed w.Then rest stop = later_at w.Then rest refl refl refl stop
 word_lexed w.Case rest stop = later_at w.Case rest refl refl refl stop
 word_lexed w.Sapper rest stop = later_at w.Sapper rest refl refl refl stop
 word_lexed w.Two rest stop =
-    ap (λ (ds : List ℕ). lexeme_of (ds ++ rest)) (sym (decimal_digit 2 (omega arith))) ∙ number_lexed 2 rest refl stop ∙ ap (λ (ds : List ℕ). l.Token (k.Number 2) (length ds)) (decimal_digit 2 (omega arith))
+    ap (λ (ds : List ℕ). lexeme_of (ds ++ rest)) (sym (decimal_digit 2 (omega arith))) ∙ number_lexed 2 rest refl stop
+    ∙ ap (λ (ds : List ℕ). l.Token (k.Number 2) (length ds)) (decimal_digit 2 (omega arith))
 
 -- numbers with a width
 
@@ -324,7 +326,8 @@ behind_run (token role (k.Name n) ∷ ps) h = absurd (cc)
 behind_run (token role (k.Number n) ∷ ps) h = absurd (cc)
 behind_run (token role (k.Sized width n) ∷ ps) h = absurd (cc)
 
-behind_sign : (version : Version) (ps : List Piece) → ends_sign ps ≡ true → apart version ps ≡ true → (slice_index (bytes_of ps) 0 == 61 || slice_index (bytes_of ps) 0 == 60) ≡ false
+behind_sign : (version : Version) (ps : List Piece) → ends_sign ps ≡ true → apart version ps ≡ true
+    → (slice_index (bytes_of ps) 0 == 61 || slice_index (bytes_of ps) 0 == 60) ≡ false
 behind_sign version [] h a = refl
 behind_sign version (space ∷ ps) h a = refl
 behind_sign version (line ∷ ps) h a = refl

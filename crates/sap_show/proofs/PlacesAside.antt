@@ -42,7 +42,8 @@ mutual
   expression_same (cell_at spot n i) = ap (λ t. n ++ (codes "[" ++ (t ++ codes "]"))) (expression_same i)
   expression_same (unary_of spot o x) = ap (λ t. unary_text o ++ t) (operand_same unary_precedence x (expression_same x))
   expression_same (binary_of spot o x y) =
-      ap (λ t. t ++ (binary_text o ++ operand_text (precedence o + 1) (bare_expression y) (expression_text (bare_expression y)))) (operand_same (precedence o) x (expression_same x))
+      ap (λ t. t ++ (binary_text o ++ operand_text (precedence o + 1) (bare_expression y) (expression_text (bare_expression y))))
+      (operand_same (precedence o) x (expression_same x))
       ∙ ap (λ t. operand_text (precedence o) x (expression_text x) ++ (binary_text o ++ t)) (operand_same (precedence o + 1) y (expression_same y))
   expression_same (choice spot x y z) =
       ap (λ t. t ++ (codes " ? " ++ (expression_text (bare_expression y) ++ (codes " : " ++ expression_text (bare_expression z))))) (operand_same 1 x (expression_same x))

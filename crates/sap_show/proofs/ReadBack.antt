@@ -174,13 +174,41 @@ pub record ReadsTwo (xs : Expressions) (rest : List Piece) (p q : Stage) : Type 
 mutual
   unfolding bare_expression is_expression precedence_of
 
-  pub expression_reads : (version : Version) (x : Expression) → is_expression version x ≡ true → (rest : List Piece) (p q : Stage) → Stand (expression x rest) p q → Reads x (precedence_of x) rest p q
+  pub expression_reads : (version : Version) (x : Expression) → is_expression version x ≡ true → (rest : List Piece) (p q : Stage)
+      → Stand (expression x rest) p q → Reads x (precedence_of x) rest p q
   expression_reads version (literal spot n) d rest p q h =
-      record { tree = literal (spot_here p) n; same = refl; level = primary_precedence; tightly = omega arith; end = h.0; read = tight (g.post (g.number h.1) g.no_cut); follow = h.2 }
+      record {
+        tree = literal (spot_here p) n;
+        same = refl;
+        level = primary_precedence;
+        tightly = omega arith;
+        end = h.0;
+        read =
+            tight (g.post (g.number h.1) g.no_cut);
+        follow = h.2;
+      }
   expression_reads version (sized_literal spot width n) d rest p q h =
-      record { tree = sized_literal (spot_here p) width n; same = refl; level = primary_precedence; tightly = omega arith; end = h.0; read = tight (g.post (g.sized h.1) g.no_cut); follow = h.2 }
+      record {
+        tree = sized_literal (spot_here p) width n;
+        same = refl;
+        level = primary_precedence;
+        tightly = omega arith;
+        end = h.0;
+        read =
+            tight (g.post (g.sized h.1) g.no_cut);
+        follow = h.2;
+      }
   expression_reads version (variable spot n) d rest p q h =
-      record { tree = variable (spot_here p) n; same = refl; level = primary_precedence; tightly = omega arith; end = h.0; read = tight (g.post (g.read h.1) g.no_cut); follow = h.2 }
+      record {
+        tree = variable (spot_here p) n;
+        same = refl;
+        level = primary_precedence;
+        tightly = omega arith;
+        end = h.0;
+        read =
+            tight (g.post (g.read h.1) g.no_cut);
+        follow = h.2;
+      }
   expression_reads version (cell_at spot n i) d rest p q h =
       let c = h.2 in
       let a = expression_reads version i (and_parts (is_name version n) (is_expression version i) d).1 (sign r.Closing s.CloseBracket ∷ rest) c.0 q c.2 in
@@ -239,7 +267,9 @@ mutual
         follow = t.follow;
       }
   expression_reads version (slice spot x high low) d rest p q h =
-      let a = in_place slice_precedence x (λ ps. expression x ps) (λ ps p q k. expression_reads version x (and_parts (is_expression version x) (is_number high) (and_parts (is_expression version x && is_number high) (is_number low) d).0).0 ps p q k) (omega arith) (bounds high low rest) p q h in
+      let a = in_place slice_precedence x (λ ps. expression x ps)
+      (λ ps p q k. expression_reads version x (and_parts (is_expression version x) (is_number high)
+      (and_parts (is_expression version x && is_number high) (is_number low) d).0).0 ps p q k) (omega arith) (bounds high low rest) p q h in
       let i = a.follow in let j = i.2 in let k = j.2 in let l = k.2 in let m = l.2 in
       record {
         tree = slice (record { first = first_of a.tree; at = here a.end }) a.tree high low;
@@ -276,7 +306,8 @@ mutual
         follow = k.2;
       }
 
-  two_read : (version : Version) (xs : Expressions) → has_two_parts xs ≡ true → are_expressions version xs ≡ true → (rest : List Piece) (p q : Stage) → Stand (parts xs rest) p q → ReadsTwo xs rest p q
+  two_read : (version : Version) (xs : Expressions) → has_two_parts xs ≡ true → are_expressions version xs ≡ true
+      → (rest : List Piece) (p q : Stage) → Stand (parts xs rest) p q → ReadsTwo xs rest p q
   two_read version no_part t d rest p q h = absurd (cc)
   two_read version (and_part x no_part) t d rest p q h = absurd (cc)
   two_read version (and_part x (and_part y xs)) t d rest p q h =
@@ -303,7 +334,8 @@ mutual
         follow = t.follow;
       }
 
-  parts_read : (version : Version) (xs : Expressions) → are_expressions version xs ≡ true → (rest : List Piece) (p q : Stage) → Stand (more_parts xs rest) p q → ReadsParts xs rest p q
+  parts_read : (version : Version) (xs : Expressions) → are_expressions version xs ≡ true → (rest : List Piece) (p q : Stage)
+      → Stand (more_parts xs rest) p q → ReadsParts xs rest p q
   parts_read version no_part d rest p q h = record { tree = no_part; same = refl; end = p; read = g.no_part; follow = h }
   parts_read version (and_part x xs) d rest p q h =
       let e = and_parts (is_expression version x) (are_expressions version xs) d in

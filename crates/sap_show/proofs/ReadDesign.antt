@@ -94,7 +94,8 @@ mutual
         follow = a.follow.2;
       }
 
-  two_read : (version : Version) (xs : TagExpressions) → has_two_tags xs ≡ true → are_tags version xs ≡ true → (rest : List Piece) (p q : Stage) → Stand (tags xs rest) p q → ReadsTwoTags xs rest p q
+  two_read : (version : Version) (xs : TagExpressions) → has_two_tags xs ≡ true → are_tags version xs ≡ true
+      → (rest : List Piece) (p q : Stage) → Stand (tags xs rest) p q → ReadsTwoTags xs rest p q
   two_read version no_tag t h rest p q o = absurd (cc)
   two_read version (and_tag x no_tag) t h rest p q o = absurd (cc)
   two_read version (and_tag x (and_tag y xs)) t h rest p q o =
@@ -144,7 +145,8 @@ pub record ReadsSimple (depth : ℕ) (c : SimpleCommand) (rest : List Piece) (p 
   pub read : g.Simple depth p tree end
   pub follow : Stand rest end q
 
-simple_reads : (version : Version) (depth : ℕ) (c : SimpleCommand) → is_simple version c ≡ true → (rest : List Piece) (p q : Stage) → Stand (simple depth c rest) p q → ReadsSimple depth c rest p q
+simple_reads : (version : Version) (depth : ℕ) (c : SimpleCommand) → is_simple version c ≡ true → (rest : List Piece) (p q : Stage)
+    → Stand (simple depth c rest) p q → ReadsSimple depth c rest p q
 unfolding bare_simple is_simple
 simple_reads version depth (assign n x) h rest p q o =
     let i = o.2 in
@@ -160,7 +162,8 @@ simple_reads version depth (write n y x) h rest p q o =
     let e = and_parts (is_name version n.name && is_outermost version y) (is_outermost version x) h in
     let f = and_parts (is_name version n.name) (is_outermost version y) e.0 in
     let i = o.2 in
-    let a = expression_reads version y (expression_of_outermost version y f.1) (sign r.Plain s.CloseBracket ∷ space ∷ sign r.Plain s.Becomes ∷ space ∷ expression x rest) i.0 q i.2 in
+    let a = expression_reads version y (expression_of_outermost version y f.1) (sign r.Plain s.CloseBracket ∷ space ∷ sign r.Plain s.Becomes
+    ∷ space ∷ expression x rest) i.0 q i.2 in
     let j = a.follow in
     let l = j.2 in
     let v = expression_reads version x (expression_of_outermost version x e.1) rest l.0 q l.2 in
@@ -185,7 +188,8 @@ simple_reads version depth (set_cell_tag place n y x) h rest p q o =
     let e = and_parts (is_name version n.name && is_outermost version y) (is_outermost_tag version x) h in
     let f = and_parts (is_name version n.name) (is_outermost version y) e.0 in
     let i = o.2 in let j = i.2 in let l = j.2 in
-    let a = expression_reads version y (expression_of_outermost version y f.1) (sign r.Plain s.CloseBracket ∷ sign r.Plain s.Comma ∷ space ∷ tag x (sign r.Plain s.CloseParen ∷ rest)) l.0 q l.2 in
+    let a = expression_reads version y (expression_of_outermost version y f.1) (sign r.Plain s.CloseBracket ∷ sign r.Plain s.Comma ∷ space
+    ∷ tag x (sign r.Plain s.CloseParen ∷ rest)) l.0 q l.2 in
     let m = a.follow in let u = m.2 in
     let v = tag_reads version x (tag_of_outermost version x e.1) (sign r.Plain s.CloseParen ∷ rest) u.0 q u.2 in
     record {
@@ -314,7 +318,8 @@ values_read (and_part x xs) h rest p q o =
 mutual
   unfolding bare_command is_command bare_expression
 
-  command_reads : (version : Version) (c : Command) (level depth : ℕ) → is_command version c ≡ true → (rest : List Piece) (p q : Stage) → Stand (command c level depth rest) p q → ReadsCommand depth c rest p q
+  command_reads : (version : Version) (c : Command) (level depth : ℕ) → is_command version c ≡ true → (rest : List Piece) (p q : Stage)
+      → Stand (command c level depth rest) p q → ReadsCommand depth c rest p q
   command_reads version (lone c) level depth h rest p q o =
       let a = simple_reads version depth c h (sign r.Plain s.Semicolon ∷ line ∷ rest) p q (behind_margin level _ p q o) in
       record { tree = lone a.tree; same = ap (λ z. lone z) a.same; end = a.follow.0; read = g.unhandled a.read a.follow.1; follow = a.follow.2 }
@@ -336,7 +341,8 @@ mutual
       let i = behind_margin level (word (r.Command depth) w.If ∷ space ∷ sign r.Plain s.OpenParen
       ∷ expression x (sign r.Plain s.CloseParen ∷ block one level depth (else_part other level depth (line ∷ rest)))) p q o in
       let j = i.2 in
-      let a = expression_reads version x (expression_of_outermost version x f.0) (sign r.Plain s.CloseParen ∷ block one level depth (else_part other level depth (line ∷ rest))) j.0 q j.2 in
+      let a = expression_reads version x (expression_of_outermost version x f.0)
+      (sign r.Plain s.CloseParen ∷ block one level depth (else_part other level depth (line ∷ rest))) j.0 q j.2 in
       let l = a.follow in
       let v = block_reads version one level depth f.1 (else_part other level depth (line ∷ rest)) l.0 q l.2 in
       let u = else_reads version other level depth e.1 (line ∷ rest) v.end q v.follow in
@@ -401,7 +407,8 @@ mutual
         follow = end.2;
       }
 
-  arms_read : (version : Version) (list : Arms) (level depth : ℕ) → are_arms version list ≡ true → (rest : List Piece) (p q : Stage) → Stand (arms list level depth rest) p q → ReadsArms (depth + 1) list rest p q
+  arms_read : (version : Version) (list : Arms) (level depth : ℕ) → are_arms version list ≡ true → (rest : List Piece) (p q : Stage)
+      → Stand (arms list level depth rest) p q → ReadsArms (depth + 1) list rest p q
   arms_read version (last_arm b) level depth h rest p q o =
       let i = behind_margin level (word r.Plain w.Else ∷ block b level depth (line ∷ rest)) p q o in
       let a = block_reads version b level depth h (line ∷ rest) i.0 q i.2 in
@@ -422,19 +429,22 @@ mutual
         follow = v.follow;
       }
 
-  block_reads : (version : Version) (x : CommandBlock) (level depth : ℕ) → is_block version x ≡ true → (rest : List Piece) (p q : Stage) → Stand (block x level depth rest) p q → ReadsBlock (depth + 1) x rest p q
+  block_reads : (version : Version) (x : CommandBlock) (level depth : ℕ) → is_block version x ≡ true → (rest : List Piece) (p q : Stage)
+      → Stand (block x level depth rest) p q → ReadsBlock (depth + 1) x rest p q
   block_reads version (command_block cs after) level depth h rest p q o =
       let a = commands_read version cs (suc level) (depth + 1) h (margin level (sign r.Plain s.CloseBrace ∷ rest)) o.0 q o.2 in
       let i = behind_margin level (sign r.Plain s.CloseBrace ∷ rest) a.end q a.follow in
       record { tree = command_block a.tree (here a.end); same = ap (λ z. command_block z nowhere) a.same; end = i.0; read = g.block o.1 a.read i.1; follow = i.2 }
 
-  else_reads : (version : Version) (x : ElseBlock) (level depth : ℕ) → is_else version x ≡ true → (rest : List Piece) (p q : Stage) → Stand (else_part x level depth rest) p q → ReadsElse (depth + 1) x rest p q
+  else_reads : (version : Version) (x : ElseBlock) (level depth : ℕ) → is_else version x ≡ true → (rest : List Piece) (p q : Stage)
+      → Stand (else_part x level depth rest) p q → ReadsElse (depth + 1) x rest p q
   else_reads version no_else level depth h rest p q o = record { tree = no_else; same = refl; end = p; read = g.no_else; follow = o }
   else_reads version (with_else x) level depth h rest p q o =
       let a = block_reads version x level depth h rest o.0 q o.2 in
       record { tree = with_else a.tree; same = ap (λ z. with_else z) a.same; end = a.end; read = g.else o.1 a.read; follow = a.follow }
 
-  commands_read : (version : Version) (cs : CommandList) (level depth : ℕ) → are_commands version cs ≡ true → (rest : List Piece) (p q : Stage) → Stand (commands cs level depth rest) p q → ReadsCommands depth cs rest p q
+  commands_read : (version : Version) (cs : CommandList) (level depth : ℕ) → are_commands version cs ≡ true
+      → (rest : List Piece) (p q : Stage) → Stand (commands cs level depth rest) p q → ReadsCommands depth cs rest p q
   commands_read version no_command level depth h rest p q o = record { tree = no_command; same = refl; end = p; read = g.no_cmd; follow = o }
   commands_read version (and_command c cs) level depth h rest p q o =
       let e = and_parts (is_command version c) (are_commands version cs) h in
@@ -581,7 +591,8 @@ pub record ReadsStates (depth : ℕ) (xs : StateList) (rest : List Piece) (p q :
 mutual
   unfolding bare_state is_state is_command bare_command
 
-  state_reads : (version : Version) (x : StateTree) (level depth : ℕ) → is_state version x ≡ true → (rest : List Piece) (p q : Stage) → Stand (state x level depth rest) p q → ReadsState depth x rest p q
+  state_reads : (version : Version) (x : StateTree) (level depth : ℕ) → is_state version x ≡ true → (rest : List Piece) (p q : Stage)
+      → Stand (state x level depth rest) p q → ReadsState depth x rest p q
   state_reads version (state_node place n x (command_block cs after) children) level depth h rest p q o =
       let b = command_block cs after in
       let e = and_parts (is_name version n.name && is_kind version x && is_block version b && nat_le (block_depth b) most_blocks) (are_states version children) h in
@@ -607,7 +618,8 @@ mutual
         follow = m.2;
       }
 
-  states_read : (version : Version) (xs : StateList) (level depth : ℕ) → are_states version xs ≡ true → (rest : List Piece) (p q : Stage) → Stand (states xs level depth rest) p q → ReadsStates depth xs rest p q
+  states_read : (version : Version) (xs : StateList) (level depth : ℕ) → are_states version xs ≡ true → (rest : List Piece) (p q : Stage)
+      → Stand (states xs level depth rest) p q → ReadsStates depth xs rest p q
   states_read version no_state level depth h rest p q o = record { tree = no_state; same = refl; end = p; read = g.no_state; follow = o }
   states_read version (and_state x xs) level depth h rest p q o =
       let e = and_parts (is_state version x) (are_states version xs) h in

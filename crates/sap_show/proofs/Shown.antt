@@ -101,7 +101,8 @@ reached version text (token role kind ∷ ps) n ts r e a =
     let g = and_parts (follows kind ps) (apart version ps) f.1 in
     let t = raw_at text n kind in
     let len = length (kind_bytes kind) in
-    let ih = reached version text ps (n + len) (ts ++ t ∷ []) (taken text n ts kind ps r e (piece_lexed version kind ps f.0 g.0 g.1)) (further n text (kind_bytes kind) (bytes_of ps) e) g.1 in
+    let ih = reached version text ps (n + len) (ts ++ t ∷ []) (taken text n ts kind ps r e (piece_lexed version kind ps f.0 g.0 g.1))
+    (further n text (kind_bytes kind) (bytes_of ps) e) g.1 in
     let same : (n + len) + length (bytes_of ps) ≡ n + length (kind_bytes kind ++ bytes_of ps) = simp length-append (omega arith) in
     subst (λ m. Reached text m (ts ++ (t ∷ raw_tokens_at text (n + len) ps))) same
     (subst (λ us. Reached text ((n + len) + length (bytes_of ps)) us) (append_assoc ts (t ∷ []) (raw_tokens_at text (n + len) ps)) ih)
@@ -157,7 +158,8 @@ same_tokens text n (token role kind ∷ ps) a =
     ∙ ap (λ (ts : List Token). token_at text n kind ∷ ts) (same_tokens text (n + len) ps g.1)
 
 -- a design of the first version doesn't begin with the name `sapper`
-first_kept : (text : List ℕ) (xs : List Decl) (ss : StateList) → keyed (raw_tokens_at text 0 (declarations xs (states ss 0 1 []))) ≡ raw_tokens_at text 0 (declarations xs (states ss 0 1 []))
+first_kept : (text : List ℕ) (xs : List Decl) (ss : StateList)
+    → keyed (raw_tokens_at text 0 (declarations xs (states ss 0 1 []))) ≡ raw_tokens_at text 0 (declarations xs (states ss 0 1 []))
 unfolding keyed
 first_kept text [] no_state = refl
 first_kept text [] (and_state (state_node place n x inner children) ss) = refl
@@ -170,7 +172,8 @@ keyed_is : (version : Version) (text : List ℕ) (xs : List Decl) (ss : StateLis
 unfolding keyed
 keyed_is version_is.One text xs ss a = sym (same_tokens text 0 (declarations xs (states ss 0 1 [])) a) ∙ sym (first_kept text xs ss)
 keyed_is version_is.Two text xs ss a =
-    ap (λ (ts : List Token). token_at text 0 (k.Word w.Sapper) ∷ token_at text 7 (k.Word w.Two) ∷ token_at text 8 (k.Sign Semicolon) ∷ ts) (sym (later_tokens text 10 (declarations xs (states ss 0 1 [])) a))
+    ap (λ (ts : List Token). token_at text 0 (k.Word w.Sapper) ∷ token_at text 7 (k.Word w.Two) ∷ token_at text 8 (k.Sign Semicolon) ∷ ts)
+    (sym (later_tokens text 10 (declarations xs (states ss 0 1 [])) a))
 
 pub record Standing (ps : List Piece) (p : Stage) : Type 0 where
   pub end : Stage

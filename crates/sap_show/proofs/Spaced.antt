@@ -89,7 +89,8 @@ a_number : (version : Version) (role : Role) (n : ℕ) → is_number n ≡ true 
 a_number version role n h rest e a = three (is_number n) (ends_run rest) (apart version rest) h e a
 
 -- `:` and a number
-behind_colon : (version : Version) (role : Role) (n : ℕ) (rest : List Piece) → apart version (number role n ∷ rest) ≡ true → apart version (sign role s.Colon ∷ number role n ∷ rest) ≡ true
+behind_colon : (version : Version) (role : Role) (n : ℕ) (rest : List Piece) → apart version (number role n ∷ rest) ≡ true
+    → apart version (sign role s.Colon ∷ number role n ∷ rest) ≡ true
 behind_colon version role n rest h = h
 
 unary_apart : (version : Version) (o : UnaryOperator) (rest : List Piece) → apart version rest ≡ true → apart version (sign r.Inner (unary_sign_of o) ∷ rest) ≡ true
@@ -211,11 +212,13 @@ simple_apart : (version : Version) (depth : ℕ) (c : SimpleCommand) → is_simp
 unfolding is_simple
 simple_apart version depth (assign n x) h rest e a =
     let f = and_parts (is_name version n.name) (is_outermost version x) h in
-    a_name version (r.Command depth) n.name f.0 (space ∷ sign r.Plain s.Becomes ∷ space ∷ expression x rest) refl (expression_apart version x (expression_of_outermost version x f.1) rest e a)
+    a_name version (r.Command depth) n.name f.0 (space ∷ sign r.Plain s.Becomes ∷ space ∷ expression x rest) refl
+    (expression_apart version x (expression_of_outermost version x f.1) rest e a)
 simple_apart version depth (write n i x) h rest e a =
     let f = and_parts (is_name version n.name && is_outermost version i) (is_outermost version x) h in
     let g = and_parts (is_name version n.name) (is_outermost version i) f.0 in
-    cell_apart version (r.Command depth) n.name i g.0 g.1 (space ∷ sign r.Plain s.Becomes ∷ space ∷ expression x rest) refl (expression_apart version x (expression_of_outermost version x f.1) rest e a)
+    cell_apart version (r.Command depth) n.name i g.0 g.1 (space ∷ sign r.Plain s.Becomes ∷ space ∷ expression x rest) refl
+    (expression_apart version x (expression_of_outermost version x f.1) rest e a)
 simple_apart version depth (set_tag place n x) h rest e a =
     let f = and_parts (is_name version n.name) (is_outermost_tag version x) h in
     a_name version r.Plain n.name f.0 (sign r.Plain s.Comma ∷ space ∷ tag x (sign r.Plain s.CloseParen ∷ rest)) refl
@@ -269,7 +272,8 @@ else_ends (with_else x) level depth rest e = refl
 mutual
   unfolding is_command
 
-  command_apart : (version : Version) (c : Command) (level depth : ℕ) → is_command version c ≡ true → (rest : List Piece) → apart version rest ≡ true → apart version (command c level depth rest) ≡ true
+  command_apart : (version : Version) (c : Command) (level depth : ℕ) → is_command version c ≡ true → (rest : List Piece)
+      → apart version rest ≡ true → apart version (command c level depth rest) ≡ true
   command_apart version (lone c) level depth h rest a =
       margin_apart version level _ (simple_apart version depth c h (sign r.Plain s.Semicolon ∷ line ∷ rest) refl a)
   command_apart version (try c place handler) level depth h rest a =
@@ -301,10 +305,12 @@ mutual
       let foot = margin level (sign r.Plain s.CloseBrace ∷ line ∷ rest) in
       margin_apart version level _
       (three (is_second version) true _ j.0 refl
-      (expression_apart version x (expression_of_outermost version x j.1) (sign r.Plain s.CloseParen ∷ space ∷ sign r.Plain s.OpenBrace ∷ line ∷ arms list (suc level) depth foot) refl
+      (expression_apart version x (expression_of_outermost version x j.1) (sign r.Plain s.CloseParen ∷ space ∷ sign r.Plain s.OpenBrace
+      ∷ line ∷ arms list (suc level) depth foot) refl
       (arms_apart version list (suc level) depth f.1 foot (margin_apart version level _ a))))
 
-  arms_apart : (version : Version) (list : Arms) (level depth : ℕ) → are_arms version list ≡ true → (rest : List Piece) → apart version rest ≡ true → apart version (arms list level depth rest) ≡ true
+  arms_apart : (version : Version) (list : Arms) (level depth : ℕ) → are_arms version list ≡ true → (rest : List Piece)
+      → apart version rest ≡ true → apart version (arms list level depth rest) ≡ true
   arms_apart version (last_arm b) level depth h rest a =
       margin_apart version level _ (three true _ _ refl (block_ends b level depth (line ∷ rest)) (block_apart version b level depth h (line ∷ rest) a))
   arms_apart version (and_arm xs b list) level depth h rest a =
@@ -322,15 +328,18 @@ mutual
   block_ends : (x : CommandBlock) (level depth : ℕ) (rest : List Piece) → ends_run (block x level depth rest) ≡ true
   block_ends (command_block cs after) level depth rest = refl
 
-  block_apart : (version : Version) (x : CommandBlock) (level depth : ℕ) → is_block version x ≡ true → (rest : List Piece) → apart version rest ≡ true → apart version (block x level depth rest) ≡ true
+  block_apart : (version : Version) (x : CommandBlock) (level depth : ℕ) → is_block version x ≡ true → (rest : List Piece)
+      → apart version rest ≡ true → apart version (block x level depth rest) ≡ true
   block_apart version (command_block cs after) level depth h rest a =
       commands_apart version cs (suc level) (depth + 1) h (margin level (sign r.Plain s.CloseBrace ∷ rest)) (margin_apart version level _ a)
 
-  else_apart : (version : Version) (x : ElseBlock) (level depth : ℕ) → is_else version x ≡ true → (rest : List Piece) → apart version rest ≡ true → apart version (else_part x level depth rest) ≡ true
+  else_apart : (version : Version) (x : ElseBlock) (level depth : ℕ) → is_else version x ≡ true → (rest : List Piece)
+      → apart version rest ≡ true → apart version (else_part x level depth rest) ≡ true
   else_apart version no_else level depth h rest a = a
   else_apart version (with_else x) level depth h rest a = three true _ _ refl (block_ends x level depth rest) (block_apart version x level depth h rest a)
 
-  commands_apart : (version : Version) (cs : CommandList) (level depth : ℕ) → are_commands version cs ≡ true → (rest : List Piece) → apart version rest ≡ true → apart version (commands cs level depth rest) ≡ true
+  commands_apart : (version : Version) (cs : CommandList) (level depth : ℕ) → are_commands version cs ≡ true → (rest : List Piece)
+      → apart version rest ≡ true → apart version (commands cs level depth rest) ≡ true
   commands_apart version no_command level depth h rest a = a
   commands_apart version (and_command c cs) level depth h rest a =
       let f = and_parts (is_command version c) (are_commands version cs) h in
@@ -384,7 +393,8 @@ declaration_apart version (d.Memory place n width depth x) h rest a =
     (sign r.Plain s.OpenBracket ∷ number r.Plain depth.value ∷ sign r.Plain s.CloseBracket ∷ space ∷ kind x last) refl
     (a_number version r.Plain depth.value g.1 (sign r.Plain s.CloseBracket ∷ space ∷ kind x last) refl (kind_apart version x f.1 last refl a))
 
-declarations_apart : (version : Version) (xs : List Decl) → list_all (is_declaration version) xs ≡ true → (rest : List Piece) → apart version rest ≡ true → apart version (declarations xs rest) ≡ true
+declarations_apart : (version : Version) (xs : List Decl) → list_all (is_declaration version) xs ≡ true → (rest : List Piece)
+    → apart version rest ≡ true → apart version (declarations xs rest) ≡ true
 declarations_apart version [] h rest a = a
 declarations_apart version (x ∷ xs) h rest a =
     let f = and_parts (is_declaration version x) (list_all (is_declaration version) xs) h in
@@ -393,7 +403,8 @@ declarations_apart version (x ∷ xs) h rest a =
 mutual
   unfolding is_state is_command
 
-  state_apart : (version : Version) (x : StateTree) (level depth : ℕ) → is_state version x ≡ true → (rest : List Piece) → apart version rest ≡ true → apart version (state x level depth rest) ≡ true
+  state_apart : (version : Version) (x : StateTree) (level depth : ℕ) → is_state version x ≡ true → (rest : List Piece)
+      → apart version rest ≡ true → apart version (state x level depth rest) ≡ true
   state_apart version (state_node place n x (command_block cs after) children) level depth h rest a =
       let inside = command_block cs after in
       let f = and_parts (is_name version n.name && is_kind version x && is_block version inside && nat_le (block_depth inside) most_blocks) (are_states version children) h in
@@ -407,7 +418,8 @@ mutual
       (kind_apart version x j.1 (space ∷ sign r.Plain s.OpenBrace ∷ line ∷ commands cs (suc level) 1 below) refl
       (commands_apart version cs (suc level) 1 i.1 below (states_apart version children (suc level) (depth + 1) f.1 last (margin_apart version level _ a)))))
 
-  states_apart : (version : Version) (xs : StateList) (level depth : ℕ) → are_states version xs ≡ true → (rest : List Piece) → apart version rest ≡ true → apart version (states xs level depth rest) ≡ true
+  states_apart : (version : Version) (xs : StateList) (level depth : ℕ) → are_states version xs ≡ true → (rest : List Piece)
+      → apart version rest ≡ true → apart version (states xs level depth rest) ≡ true
   states_apart version no_state level depth h rest a = a
   states_apart version (and_state x xs) level depth h rest a =
       let f = and_parts (is_state version x) (are_states version xs) h in

@@ -263,7 +263,8 @@ unfolding command_text
 text_last margin b = refl
 
 -- the arms, and the block after `else`
-arms_are : (margin : List ℕ) (arms : List Arm) (last : Syntax.CommandBlock) → arms_text margin (arms_of arms last) ≡ list_arms_text margin arms ++ arms_text margin (Syntax.last_arm last)
+arms_are : (margin : List ℕ) (arms : List Arm) (last : Syntax.CommandBlock)
+    → arms_text margin (arms_of arms last) ≡ list_arms_text margin arms ++ arms_text margin (Syntax.last_arm last)
 unfolding command_text list_arms_text
 arms_are margin [] last = refl
 arms_are margin (arm ∷ arms) last =
@@ -348,7 +349,8 @@ list_arms_text-past margin [] (suc n) l = refl
 list_arms_text-past margin (a ∷ arms) zero l = absurd (omega arith)
 list_arms_text-past margin (a ∷ arms) (suc n) l = list_arms_text-past margin arms n (omega arith)
 
-pub arms_step : (margin : List ℕ) (arms : List Arm) (n : ℕ) (d : Arm) (constants : List Expr) (old a b c e new : List ℕ) → n < length arms → d ≡ get_or arms n d → constants ≡ d.constants.items
+pub arms_step : (margin : List ℕ) (arms : List Arm) (n : ℕ) (d : Arm) (constants : List Expr) (old a b c e new : List ℕ) → n < length arms
+    → d ≡ get_or arms n d → constants ≡ d.constants.items
     → a ≡ old ++ margin → b ≡ a ++ parts_text (expressions_of constants) → c ≡ b ++ codes ":" → e ≡ c ++ block_text margin (arm_block_of d) → new ≡ e ++ codes "\n"
     → new ++ list_arms_text margin (drop (n + 1) arms) ≡ old ++ list_arms_text margin (drop n arms)
 arms_step margin arms n d constants old a b c e new l is own h i j k m =
@@ -394,7 +396,8 @@ pub text_state : (margin : List ℕ) (s : State)
 unfolding list_text group_text state_text
 text_state margin s = ap (λ (t : StateTree). state_text margin t) (state_of-out s)
 
-pub whole_text : (version : Version) (ds listed : List Decl) (ss : List State) (seen : List State) (old v a b result margin : List ℕ) → old ≡ [] → listed ≡ ds → seen ≡ ss → margin ≡ []
+pub whole_text : (version : Version) (ds listed : List Decl) (ss : List State) (seen : List State) (old v a b result margin : List ℕ)
+    → old ≡ [] → listed ≡ ds → seen ≡ ss → margin ≡ []
     → v ≡ old ++ version_text version → a ≡ v ++ flat_map declaration_text listed → b ≡ a ++ group_text margin seen → result ≡ b → result ≡ canonical_text (tree_of version ds ss)
 unfolding canonical_text group_text
 whole_text version ds listed ss seen old v a b result margin e i j m n f g h =

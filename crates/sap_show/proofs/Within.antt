@@ -63,9 +63,10 @@ not_above most n limit h = let e : nat_lt most n ≡ false = grind (arith, nat_t
 
 pub short_name : (version : Version) (n : List ℕ) → is_name version n ≡ true → breach_of_name (k.Name n) ≡ None
 unfolding is_name
-short_name version n h = not_above most_name_bytes (length n) l.Name (bytes (length n) (and_parts (is_word n && not (is_keyword version n)) (nat_le (length n) most_name_bytes) h).1) where
-  bytes : (m : ℕ) → nat_le m most_name_bytes ≡ true → m ≤ most_name_bytes
-  bytes m h = grind (arith, nat_tests)
+short_name version n h = not_above most_name_bytes (length n) l.Name
+    (bytes (length n) (and_parts (is_word n && not (is_keyword version n)) (nat_le (length n) most_name_bytes) h).1) where
+      bytes : (m : ℕ) → nat_le m most_name_bytes ≡ true → m ≤ most_name_bytes
+      bytes m h = grind (arith, nat_tests)
 
 -- sums
 
@@ -104,14 +105,17 @@ inner_free t kind free h = ap (λ o. o or_else above most_tokens (t + 1) l.Expre
 
 pub opening_free : (t b : ℕ) → t + 1 ≤ most_tokens → b + 1 ≤ most_brackets
     → (above most_brackets (b + 1) l.Brackets or_else above most_tokens (t + 1) l.Expression) ≡ None
-opening_free t b h room = ap (λ o. o or_else above most_tokens (t + 1) l.Expression) (not_above most_brackets (b + 1) l.Brackets room) ∙ not_above most_tokens (t + 1) l.Expression h
+opening_free t b h room = ap (λ o. o or_else above most_tokens (t + 1) l.Expression) (not_above most_brackets (b + 1) l.Brackets room)
+    ∙ not_above most_tokens (t + 1) l.Expression h
 
 module _ (c : Counts) where
-  pub inner_step : (t u b : ℕ) (kind : Kind) (ps : List Piece) → breach_of_name kind ≡ None → u ≡ t + 1 → u ≤ most_tokens → Within (at c u b) ps → Within (at c t b) (token r.Inner kind ∷ ps)
+  pub inner_step : (t u b : ℕ) (kind : Kind) (ps : List Piece) → breach_of_name kind ≡ None → u ≡ t + 1 → u ≤ most_tokens
+      → Within (at c u b) ps → Within (at c t b) (token r.Inner kind ∷ ps)
   inner_step t u b kind ps free e top h =
       (ap (λ o. o or_else above most_tokens (t + 1) l.Expression) free ∙ not_above most_tokens (t + 1) l.Expression (omega arith), subst (λ n. Within (at c n b) ps) e h)
 
-  pub opening_step : (t u b : ℕ) (x : Sign) (ps : List Piece) → u ≡ t + 1 → u ≤ most_tokens → b + 1 ≤ most_brackets → Within (at c u (b + 1)) ps → Within (at c t b) (sign r.Opening x ∷ ps)
+  pub opening_step : (t u b : ℕ) (x : Sign) (ps : List Piece) → u ≡ t + 1 → u ≤ most_tokens → b + 1 ≤ most_brackets
+      → Within (at c u (b + 1)) ps → Within (at c t b) (sign r.Opening x ∷ ps)
   opening_step t u b x ps e top room h = (
     ap (λ o. o or_else above most_tokens (t + 1) l.Expression) (not_above most_brackets (b + 1) l.Brackets room) ∙ not_above most_tokens (t + 1) l.Expression (omega arith),
     subst (λ n. Within (at c n (b + 1)) ps) e h,
@@ -137,8 +141,16 @@ module _ (c : Counts) where
     by_test false t u b rest e top room h = own t u b rest (omega arith) top (omega arith) h
 
   bounds_counted : (high low : ℕ) → Counted 5 1 (bounds high low)
-  bounds_counted high low t u b rest e top room h =
-      (opening_free t b (omega arith) room, (inner_free (t + 1) (k.Number high) refl (omega arith), (inner_free (t + 1 + 1) (k.Sign s.Colon) refl (omega arith), (inner_free (t + 1 + 1 + 1) (k.Number low) refl (omega arith), (closing_step (t + 1 + 1 + 1 + 1) u b s.CloseBracket rest (omega arith) top h)))))
+  bounds_counted high low t u b rest e top room h = (
+    opening_free t b (omega arith) room,
+    (
+      inner_free (t + 1) (k.Number high) refl (omega arith),
+      (
+        inner_free (t + 1 + 1) (k.Sign s.Colon) refl (omega arith),
+        (inner_free (t + 1 + 1 + 1) (k.Number low) refl (omega arith), (closing_step (t + 1 + 1 + 1 + 1) u b s.CloseBracket rest (omega arith) top h)),
+      ),
+    ),
+  )
 
   mutual
     unfolding is_expression tokens brackets
@@ -160,8 +172,10 @@ module _ (c : Counts) where
         )
     expression_counted version (unary_of spot o x) d t u b rest e top room h =
         let same : u ≡ t + (1 + (parentheses unary_precedence x + tokens x)) = e in
-        let fits : b + (opened unary_precedence x + brackets x) ≤ most_brackets = room in
-        (inner_free t (k.Sign (unary_sign_of o)) refl (omega arith), (wrapped_counted unary_precedence x (λ ps. expression x ps) (expression_counted version x d) (t + 1) u b rest (omega arith) top fits h))
+        let fits : b + (opened unary_precedence x + brackets x) ≤ most_brackets = room in (
+          inner_free t (k.Sign (unary_sign_of o)) refl (omega arith),
+          (wrapped_counted unary_precedence x (λ ps. expression x ps) (expression_counted version x d) (t + 1) u b rest (omega arith) top fits h),
+        )
     expression_counted version (binary_of spot o x y) d t u b rest e top room h =
         let f = and_parts (is_expression version x) (is_expression version y) d in
         let n = parentheses (precedence o) x + tokens x in
@@ -170,8 +184,11 @@ module _ (c : Counts) where
         let fits : b + max (opened (precedence o) x + brackets x) (opened (precedence o + 1) y + brackets y) ≤ most_brackets = room in
         wrapped_counted (precedence o) x (λ ps. expression x ps) (expression_counted version x f.0) t (t + n) b
         (space ∷ sign r.Inner (sign_of o) ∷ space ∷ wrapped (nat_lt (precedence_of y) (precedence o + 1)) (λ ps. expression y ps) rest) refl
-        (first_le t n m u same top) (left_fits b _ _ fits)
-        (inner_free (t + n) (k.Sign (sign_of o)) refl (both_le t n m u same top), (wrapped_counted (precedence o + 1) y (λ ps. expression y ps) (expression_counted version y f.1) (t + n + 1) u b rest (rest_is t n m u same) top (right_fits b _ _ fits) h))
+        (first_le t n m u same top) (left_fits b _ _ fits) (
+          inner_free (t + n) (k.Sign (sign_of o)) refl (both_le t n m u same top),
+          (wrapped_counted (precedence o + 1) y (λ ps. expression y ps) (expression_counted version y f.1) (t + n + 1) u b rest
+              (rest_is t n m u same) top (right_fits b _ _ fits) h),
+        )
     expression_counted version (choice spot x y z) d t u b rest e top room h =
         let f = and_parts (is_expression version x && is_expression version y) (is_expression version z) d in
         let g = and_parts (is_expression version x) (is_expression version y) f.0 in
@@ -192,7 +209,8 @@ module _ (c : Counts) where
         let n = parentheses slice_precedence x + tokens x in
         let same : u ≡ t + (n + 5) = e in
         let fits : b + max (opened slice_precedence x + brackets x) 1 ≤ most_brackets = room in
-        wrapped_counted slice_precedence x (λ ps. expression x ps) (expression_counted version x f.0) t (t + n) b (bounds high low rest) refl (first_of t n 5 u same top) (left_fits b _ _ fits)
+        wrapped_counted slice_precedence x (λ ps. expression x ps) (expression_counted version x f.0) t (t + n) b (bounds high low rest)
+        refl (first_of t n 5 u same top) (left_fits b _ _ fits)
         (bounds_counted high low (t + n) u b rest (sum_is t n 5 u same) top (right_fits b _ _ fits) h)
     expression_counted version (concat spot xs) d t u b rest e top room h =
         let f = and_parts (has_two_parts xs) (are_expressions version xs) d in
@@ -206,13 +224,19 @@ module _ (c : Counts) where
           inner_free t (k.Word w.Zext) refl (omega arith),
           (
             opening_free (t + 1) b (omega arith) (omega arith),
-            (expression_counted version x f.0 (t + 1 + 1) (t + 1 + 1 + tokens x) (b + 1) _ refl (omega arith) (omega arith)
-                (inner_free (t + 1 + 1 + tokens x) (k.Sign s.Comma) refl (omega arith), (inner_free (t + 1 + 1 + tokens x + 1) (k.Number width) refl (omega arith), (closing_step (t + 1 + 1 + tokens x + 1 + 1) u b s.CloseParen rest (omega arith) top h)))),
+            (expression_counted version x f.0 (t + 1 + 1) (t + 1 + 1 + tokens x) (b + 1) _ refl (omega arith) (omega arith) (
+              inner_free (t + 1 + 1 + tokens x) (k.Sign s.Comma) refl (omega arith),
+              (
+                inner_free (t + 1 + 1 + tokens x + 1) (k.Number width) refl (omega arith),
+                (closing_step (t + 1 + 1 + tokens x + 1 + 1) u b s.CloseParen rest (omega arith) top h),
+              ),
+            )),
           ),
         )
 
     -- parts, and the `}` behind them
-    parts_counted : (version : Version) (xs : Expressions) → has_two_parts xs ≡ true → are_expressions version xs ≡ true → (t u b : ℕ) (rest : List Piece) → u ≡ t + part_tokens xs → u ≤ most_tokens
+    parts_counted : (version : Version) (xs : Expressions) → has_two_parts xs ≡ true → are_expressions version xs ≡ true
+        → (t u b : ℕ) (rest : List Piece) → u ≡ t + part_tokens xs → u ≤ most_tokens
         → b + (1 + part_brackets xs) ≤ most_brackets → Within (at c u b) rest → Within (at c t (b + 1)) (parts xs (sign r.Closing s.CloseBrace ∷ rest))
     parts_counted version no_part two d t u b rest e top room h = absurd (cc)
     parts_counted version (and_part x xs) two d t u b rest e top room h =
@@ -222,7 +246,8 @@ module _ (c : Counts) where
         expression_counted version x f.0 t (t + tokens x) (b + 1) (more_parts xs (sign r.Closing s.CloseBrace ∷ rest)) refl (omega arith) (omega arith)
         (more_parts_counted version xs f.1 (t + tokens x) u b rest (omega arith) top (omega arith) h)
 
-    more_parts_counted : (version : Version) (xs : Expressions) → are_expressions version xs ≡ true → (t u b : ℕ) (rest : List Piece) → u ≡ t + (1 + part_tokens xs) → u ≤ most_tokens
+    more_parts_counted : (version : Version) (xs : Expressions) → are_expressions version xs ≡ true → (t u b : ℕ) (rest : List Piece)
+        → u ≡ t + (1 + part_tokens xs) → u ≤ most_tokens
         → b + (1 + part_brackets xs) ≤ most_brackets → Within (at c u b) rest → Within (at c t (b + 1)) (more_parts xs (sign r.Closing s.CloseBrace ∷ rest))
     more_parts_counted version no_part d t u b rest e top room h = closing_step t u b s.CloseBrace rest e top h
     more_parts_counted version (and_part x xs) d t u b rest e top room h =

@@ -57,10 +57,13 @@ module _ (c : Counts) where
     tag_counted version (join_of place xs) h t u b rest e top room a =
         let f = and_parts (has_two_tags xs) (are_tags version xs) h in
         let same : u ≡ t + (2 + tag_part_tokens xs) = e in
-        let fits : b + (1 + tag_part_brackets xs) ≤ most_brackets = room in
-        (inner_free t (k.Word w.Join) refl (omega arith), (opening_free (t + 1) b (omega arith) (omega arith), (tags_counted version xs f.0 f.1 (t + 1 + 1) u b rest (omega arith) top fits a)))
+        let fits : b + (1 + tag_part_brackets xs) ≤ most_brackets = room in (
+          inner_free t (k.Word w.Join) refl (omega arith),
+          (opening_free (t + 1) b (omega arith) (omega arith), (tags_counted version xs f.0 f.1 (t + 1 + 1) u b rest (omega arith) top fits a)),
+        )
 
-    tags_counted : (version : Version) (xs : TagExpressions) → has_two_tags xs ≡ true → are_tags version xs ≡ true → (t u b : ℕ) (rest : List Piece) → u ≡ t + tag_part_tokens xs → u ≤ most_tokens
+    tags_counted : (version : Version) (xs : TagExpressions) → has_two_tags xs ≡ true → are_tags version xs ≡ true
+        → (t u b : ℕ) (rest : List Piece) → u ≡ t + tag_part_tokens xs → u ≤ most_tokens
         → b + (1 + tag_part_brackets xs) ≤ most_brackets → Within (at c u b) rest → Within (at c t (b + 1)) (tags xs (sign r.Closing s.CloseParen ∷ rest))
     tags_counted version no_tag two h t u b rest e top room a = absurd (cc)
     tags_counted version (and_tag x xs) two h t u b rest e top room a =
@@ -70,7 +73,8 @@ module _ (c : Counts) where
         tag_counted version x f.0 t (t + tag_tokens x) (b + 1) (more_tags xs (sign r.Closing s.CloseParen ∷ rest)) refl (omega arith) (omega arith)
         (more_tags_counted version xs f.1 (t + tag_tokens x) u b rest (omega arith) top (omega arith) a)
 
-    more_tags_counted : (version : Version) (xs : TagExpressions) → are_tags version xs ≡ true → (t u b : ℕ) (rest : List Piece) → u ≡ t + (1 + tag_part_tokens xs) → u ≤ most_tokens
+    more_tags_counted : (version : Version) (xs : TagExpressions) → are_tags version xs ≡ true → (t u b : ℕ) (rest : List Piece)
+        → u ≡ t + (1 + tag_part_tokens xs) → u ≤ most_tokens
         → b + (1 + tag_part_brackets xs) ≤ most_brackets → Within (at c u b) rest → Within (at c t (b + 1)) (more_tags xs (sign r.Closing s.CloseParen ∷ rest))
     more_tags_counted version no_tag h t u b rest e top room a = closing_step c t u b s.CloseParen rest e top a
     more_tags_counted version (and_tag x xs) h t u b rest e top room a =
@@ -97,7 +101,8 @@ outermost : (version : Version) (c : Counts) (x : Expression) (rest : List Piece
 outermost version c x rest h a =
     let f = and_parts (is_expression version x) (fits x) h in
     let g = and_parts (nat_le (tokens x) most_tokens) (nat_le (brackets x) most_brackets) f.1 in
-    expression_counted c version x f.0 0 (tokens x) 0 rest (zero_more (tokens x)) (leb-true (tokens x) most_tokens g.0) (none_open (brackets x) (leb-true (brackets x) most_brackets g.1)) (a (tokens x) 0)
+    expression_counted c version x f.0 0 (tokens x) 0 rest (zero_more (tokens x)) (leb-true (tokens x) most_tokens g.0)
+    (none_open (brackets x) (leb-true (brackets x) most_brackets g.1)) (a (tokens x) 0)
   where
     zero_more : (n : ℕ) → n ≡ 0 + n
     zero_more n = omega arith
@@ -109,7 +114,8 @@ outermost_tag : (version : Version) (c : Counts) (x : TagExpression) (rest : Lis
 outermost_tag version c x rest h a =
     let f = and_parts (is_tag version x) (tag_fits x) h in
     let g = and_parts (nat_le (tag_tokens x) most_tokens) (nat_le (tag_brackets x) most_brackets) f.1 in
-    tag_counted c version x f.0 0 (tag_tokens x) 0 rest (zero_more (tag_tokens x)) (leb-true (tag_tokens x) most_tokens g.0) (none_open (tag_brackets x) (leb-true (tag_brackets x) most_brackets g.1)) (a (tag_tokens x) 0)
+    tag_counted c version x f.0 0 (tag_tokens x) 0 rest (zero_more (tag_tokens x)) (leb-true (tag_tokens x) most_tokens g.0)
+    (none_open (tag_brackets x) (leb-true (tag_brackets x) most_brackets g.1)) (a (tag_tokens x) 0)
   where
     zero_more : (n : ℕ) → n ≡ 0 + n
     zero_more n = omega arith
@@ -136,7 +142,8 @@ begins_command c depth kind ps free n m h t b = (
   h,
 )
 
-simple_within : (version : Version) (depth : ℕ) (x : SimpleCommand) → is_simple version x ≡ true → (c : Counts) (rest : List Piece) → c.commands + 1 ≤ most_commands → depth ≤ most_blocks
+simple_within : (version : Version) (depth : ℕ) (x : SimpleCommand) → is_simple version x ≡ true → (c : Counts) (rest : List Piece)
+    → c.commands + 1 ≤ most_commands → depth ≤ most_blocks
     → Always (with_commands c (c.commands + 1)) rest → Always c (simple depth x rest)
 unfolding is_simple
 simple_within version depth (assign n x) h c rest m p a =
@@ -159,7 +166,16 @@ simple_within version depth (write n i x) h c rest m p a =
 simple_within version depth (set_tag place n x) h c rest m p a =
     let f = and_parts (is_name version n.name) (is_outermost_tag version x) h in
     let c' : Counts = with_commands c (c.commands + 1) in
-    (λ t b. (begins_free c depth (k.Word w.SetTag) refl m p, (plain_free (k.Sign s.OpenParen) refl, (plain_free (k.Name n.name) (short_name version n.name f.0), (plain_free (k.Sign s.Comma) refl, (outermost_tag version c' x (sign r.Plain s.CloseParen ∷ rest) f.1 (plain c' (k.Sign s.CloseParen) rest refl (a 0 0))))))))
+    (λ t b. (
+      begins_free c depth (k.Word w.SetTag) refl m p,
+      (
+        plain_free (k.Sign s.OpenParen) refl,
+        (
+          plain_free (k.Name n.name) (short_name version n.name f.0),
+          (plain_free (k.Sign s.Comma) refl, (outermost_tag version c' x (sign r.Plain s.CloseParen ∷ rest) f.1 (plain c' (k.Sign s.CloseParen) rest refl (a 0 0)))),
+        ),
+      ),
+    ))
 simple_within version depth (set_cell_tag place n i x) h c rest m p a =
     let f = and_parts (is_name version n.name && is_outermost version i) (is_outermost_tag version x) h in
     let g = and_parts (is_name version n.name) (is_outermost version i) f.0 in
@@ -219,7 +235,8 @@ margin_within (suc level) c rest h = margin_within level c rest h
 mutual
   unfolding is_command command_count command_depth
 
-  command_within : (version : Version) (x : Command) (level depth : ℕ) → is_command version x ≡ true → (c : Counts) (n m : ℕ) (rest : List Piece) → m ≡ n + command_count x → m ≤ most_commands
+  command_within : (version : Version) (x : Command) (level depth : ℕ) → is_command version x ≡ true
+      → (c : Counts) (n m : ℕ) (rest : List Piece) → m ≡ n + command_count x → m ≤ most_commands
       → depth + command_depth x ≤ most_blocks + 1 → Always (with_commands c m) rest → Always (with_commands c n) (command x level depth rest)
   command_within version (lone x) level depth h c n m rest e top deep a t b =
       margin_within level _ _
@@ -286,7 +303,8 @@ mutual
         ),
       )
 
-  arms_within : (version : Version) (list : Arms) (level depth : ℕ) → are_arms version list ≡ true → (c : Counts) (n m : ℕ) (rest : List Piece) → m ≡ n + arms_count list → m ≤ most_commands
+  arms_within : (version : Version) (list : Arms) (level depth : ℕ) → are_arms version list ≡ true
+      → (c : Counts) (n m : ℕ) (rest : List Piece) → m ≡ n + arms_count list → m ≤ most_commands
       → depth + 1 + arms_depth list ≤ most_blocks + 1 → Always (with_commands c m) rest → Always (with_commands c n) (arms list level depth rest)
   arms_within version (last_arm b) level depth h c n m rest e top deep a t u =
       margin_within level _ _
@@ -304,7 +322,8 @@ mutual
       (block_within version b level depth g.1 c n (n + block_count b) behind refl (omega arith) (omega arith)
       (arms_within version list level depth f.1 c (n + block_count b) m rest (omega arith) top (omega arith) a) 0 0) 0 0) t u)
 
-  block_within : (version : Version) (x : CommandBlock) (level depth : ℕ) → is_block version x ≡ true → (c : Counts) (n m : ℕ) (rest : List Piece) → m ≡ n + block_count x → m ≤ most_commands
+  block_within : (version : Version) (x : CommandBlock) (level depth : ℕ) → is_block version x ≡ true
+      → (c : Counts) (n m : ℕ) (rest : List Piece) → m ≡ n + block_count x → m ≤ most_commands
       → depth + 1 + block_depth x ≤ most_blocks + 1 → Always (with_commands c m) rest → Always (with_commands c n) (block x level depth rest)
   block_within version (command_block cs behind) level depth h c n m rest e top deep a =
       (λ t b. (
@@ -313,14 +332,16 @@ mutual
             (λ t b. margin_within level _ _ (plain (with_commands c m) (k.Sign s.CloseBrace) rest refl (a 0 0) t b)) 0 0),
       ))
 
-  else_within : (version : Version) (x : ElseBlock) (level depth : ℕ) → is_else version x ≡ true → (c : Counts) (n m : ℕ) (rest : List Piece) → m ≡ n + else_count x → m ≤ most_commands
+  else_within : (version : Version) (x : ElseBlock) (level depth : ℕ) → is_else version x ≡ true
+      → (c : Counts) (n m : ℕ) (rest : List Piece) → m ≡ n + else_count x → m ≤ most_commands
       → depth + 1 + else_depth x ≤ most_blocks + 1 → Always (with_commands c m) rest → Always (with_commands c n) (else_part x level depth rest)
   else_within version no_else level depth h c n m rest e top deep a =
       let same : m ≡ n = omega arith in subst (λ i. Always (with_commands c i) rest) same a
   else_within version (with_else x) level depth h c n m rest e top deep a =
       (λ t b. (plain_free (k.Word w.Else) refl, (block_within version x level depth h c n m rest e top deep a 0 0)))
 
-  commands_within : (version : Version) (cs : CommandList) (level depth : ℕ) → are_commands version cs ≡ true → (c : Counts) (n m : ℕ) (rest : List Piece) → m ≡ n + list_count cs → m ≤ most_commands
+  commands_within : (version : Version) (cs : CommandList) (level depth : ℕ) → are_commands version cs ≡ true
+      → (c : Counts) (n m : ℕ) (rest : List Piece) → m ≡ n + list_count cs → m ≤ most_commands
       → depth + list_depth cs ≤ most_blocks + 1 → Always (with_commands c m) rest → Always (with_commands c n) (commands cs level depth rest)
   commands_within version no_command level depth h c n m rest e top deep a =
       let same : m ≡ n = omega arith in subst (λ i. Always (with_commands c i) rest) same a
@@ -333,7 +354,8 @@ mutual
 
 -- kinds and declarations
 
-authority_within : (version : Version) (x : Option Under) → is_authority version x ≡ true → (c : Counts) (rest : List Piece) → Within (at c 0 0) rest → Within (at c 0 0) (authority x rest)
+authority_within : (version : Version) (x : Option Under) → is_authority version x ≡ true → (c : Counts) (rest : List Piece)
+    → Within (at c 0 0) rest → Within (at c 0 0) (authority x rest)
 authority_within version None h c rest a = a
 authority_within version (Some under) h c rest a = (plain_free (k.Word w.Under) refl, (plain c (k.Name under.level.name) rest (short_name version under.level.name h) a 0 0))
 
@@ -389,7 +411,8 @@ declarations_within version (d.Input place x width ∷ xs) h c rest i n m e f g 
     )
 declarations_within version (d.Register place x width y initial ∷ xs) h c rest i n m e f g p q o a =
     let u = and_parts (is_name version x.name && is_number width.value && is_kind version y && is_start initial) (list_all (is_declaration version) xs) h in
-    let v = and_parts (is_name version x.name && is_number width.value) (is_kind version y) (and_parts (is_name version x.name && is_number width.value && is_kind version y) (is_start initial) u.0).0 in
+    let v = and_parts (is_name version x.name && is_number width.value) (is_kind version y)
+    (and_parts (is_name version x.name && is_number width.value && is_kind version y) (is_start initial) u.0).0 in
     let z = and_parts (is_name version x.name) (is_number width.value) v.0 in
     let c' : Counts = with_declared c c.inputs (c.registers + 1) c.memories in
     let all_inputs : i ≡ c.inputs + (0 + count_by is_input xs) = one_counted is_input (d.Register place x width y initial) xs c.inputs i 0 refl e in
@@ -401,7 +424,11 @@ declarations_within version (d.Register place x width y initial ∷ xs) h c rest
     let last = sign r.Plain s.Semicolon ∷ line ∷ declarations xs rest in (
       not_above most_registers (c.registers + 1) l.Registers (omega arith),
       declared_within version x.name width.value z.0 c' (space ∷ kind y (start initial last))
-          (kind_within version y v.1 c' (start initial last) (start_within initial c' last (plain_free (k.Sign s.Semicolon) refl, (declarations_within version xs u.1 c' rest i n m inputs_left registers_left memories_left p q o a)))),
+          (kind_within version y v.1 c' (start initial last)
+          (start_within initial c' last (
+            plain_free (k.Sign s.Semicolon) refl,
+            (declarations_within version xs u.1 c' rest i n m inputs_left registers_left memories_left p q o a),
+          ))),
     )
 declarations_within version (d.Memory place x width depth y ∷ xs) h c rest i n m e f g p q o a =
     let u = and_parts (is_name version x.name && is_number width.value && is_number depth.value && is_kind version y) (list_all (is_declaration version) xs) h in
@@ -416,8 +443,19 @@ declarations_within version (d.Memory place x width depth y ∷ xs) h c rest i n
     let memories_left : m ≡ c.memories + 1 + count_by is_memory xs = omega arith in
     let last = sign r.Plain s.Semicolon ∷ line ∷ declarations xs rest in (
       not_above most_memories (c.memories + 1) l.Memories (omega arith),
-      declared_within version x.name width.value z.0 c' (sign r.Plain s.OpenBracket ∷ number r.Plain depth.value ∷ sign r.Plain s.CloseBracket ∷ space ∷ kind y last)
-          (plain_free (k.Sign s.OpenBracket) refl, (plain_free (k.Number depth.value) refl, (plain_free (k.Sign s.CloseBracket) refl, (kind_within version y v.1 c' last (plain_free (k.Sign s.Semicolon) refl, (declarations_within version xs u.1 c' rest i n m inputs_left registers_left memories_left p q o a)))))),
+      declared_within version x.name width.value z.0 c' (sign r.Plain s.OpenBracket ∷ number r.Plain depth.value ∷ sign r.Plain s.CloseBracket ∷ space ∷ kind y last) (
+        plain_free (k.Sign s.OpenBracket) refl,
+        (
+          plain_free (k.Number depth.value) refl,
+          (
+            plain_free (k.Sign s.CloseBracket) refl,
+            (kind_within version y v.1 c' last (
+              plain_free (k.Sign s.Semicolon) refl,
+              (declarations_within version xs u.1 c' rest i n m inputs_left registers_left memories_left p q o a),
+            )),
+          ),
+        ),
+      ),
     )
 
 -- states
@@ -432,7 +470,8 @@ begins_state n depth h m = ap (λ o. o or_else above most_nesting depth l.Nestin
 mutual
   unfolding is_state is_command state_count state_commands state_depth command_count command_depth
 
-  state_within : (version : Version) (x : StateTree) (level depth : ℕ) → is_state version x ≡ true → (c : Counts) (i j n m : ℕ) (rest : List Piece) → j ≡ i + state_count x → j ≤ most_states
+  state_within : (version : Version) (x : StateTree) (level depth : ℕ) → is_state version x ≡ true
+      → (c : Counts) (i j n m : ℕ) (rest : List Piece) → j ≡ i + state_count x → j ≤ most_states
       → m ≡ n + state_commands x → m ≤ most_commands → depth + state_depth x ≤ most_nesting + 1
       → Always (with_states c j m) rest → Always (with_states c i n) (state x level depth rest)
   state_within version (state_node place name x (command_block cs behind) children) level depth h c i j n m rest e top f much deep a t b =
@@ -461,7 +500,8 @@ mutual
         ),
       )
 
-  states_within : (version : Version) (xs : StateList) (level depth : ℕ) → are_states version xs ≡ true → (c : Counts) (i j n m : ℕ) (rest : List Piece) → j ≡ i + states_count xs → j ≤ most_states
+  states_within : (version : Version) (xs : StateList) (level depth : ℕ) → are_states version xs ≡ true
+      → (c : Counts) (i j n m : ℕ) (rest : List Piece) → j ≡ i + states_count xs → j ≤ most_states
       → m ≡ n + states_commands xs → m ≤ most_commands → depth + states_depth xs ≤ most_nesting + 1
       → Always (with_states c j m) rest → Always (with_states c i n) (states xs level depth rest)
   states_within version no_state level depth h c i j n m rest e top f much deep a =

@@ -57,10 +57,12 @@ all_sized tag is (i ∷ list) h = (rw field_width_is h.0, all_sized tag is list 
 
 pub fields_sized : (tag : ℕ) (n : Net) → IsNetlist n → All IsSized (map (field_of tag n.inputs) (with_field tag n.inputs))
 fields_sized tag n net =
-    each IsSized _ (all_sized tag n.inputs (with_field tag n.inputs) (all_filter (λ (i : Input). IsWidth i.width) (λ i. not (is_tag tag n.inputs i)) n.inputs (input_sizes (shapes n) n.inputs _ net.values)))
+    each IsSized _ (all_sized tag n.inputs (with_field tag n.inputs)
+    (all_filter (λ (i : Input). IsWidth i.width) (λ i. not (is_tag tag n.inputs i)) n.inputs (input_sizes (shapes n) n.inputs _ net.values)))
 
 -- the value in the field of a name fits the width found by the name
-own_fits : (ls : Levels) (tag : ℕ) (is : List Input) (sc : Scope) (fs : List Input) → AllByRecursion (λ j. find sc j.name ≡ Some j.width) fs → (xs : List Given) → LineFits ls (map (field_of tag is) fs) xs
+own_fits : (ls : Levels) (tag : ℕ) (is : List Input) (sc : Scope) (fs : List Input) → AllByRecursion (λ j. find sc j.name ≡ Some j.width) fs
+    → (xs : List Given) → LineFits ls (map (field_of tag is) fs) xs
     → (x : Name) (w : ℕ) → is_among x (names_of fs) ≡ true → find sc x ≡ Some w → (get_or xs (place (names_of fs) x) nothing).number < 2 ^ w
 own_fits ls tag is sc [] all xs fits x w h e = absurd (false≢true h)
 own_fits ls tag is sc (m ∷ fs) all [] fits x w h e = absurd fits
@@ -96,7 +98,8 @@ number_fits ls codes is all xs fits i e own =
     ]
 
 numbers_fit : (ls : Levels) → Codes (order_of ls) → (is : List Input) → AllByRecursion (λ j. find (input_widths is) j.name ≡ Some j.width) is → (xs : List Given)
-    → LineFits ls (map (field_of (tag_width ls) is) (with_field (tag_width ls) is)) xs → (list : List Input) → AllByRecursion (λ j. find (input_widths is) j.name ≡ Some j.width) list
+    → LineFits ls (map (field_of (tag_width ls) is) (with_field (tag_width ls) is)) xs → (list : List Input)
+    → AllByRecursion (λ j. find (input_widths is) j.name ≡ Some j.width) list
     → AllByRecursion (λ j. not (is_tag (tag_width ls) is j) ≡ true → is_among j.name (field_names (tag_width ls) is) ≡ true) list → InputsFit list (map (number_for ls is xs) list)
 numbers_fit ls codes is all xs fits [] h k = tt
 numbers_fit ls codes is all xs fits (i ∷ list) h k = (number_fits ls codes is all xs fits i h.0 k.0, numbers_fit ls codes is all xs fits list h.1 k.1)
@@ -105,7 +108,8 @@ pub line_fits : (ls : Levels) → Codes (order_of ls) → (n : Net) → IsNetlis
 line_fits ls codes n net xs fits =
     numbers_fit ls codes n.inputs (inputs_found n net) xs fits n.inputs (inputs_found n net) (among_filter (λ j. not (is_tag (tag_width ls) n.inputs j)) n.inputs)
 
-pub stream_fits : (ls : Levels) → Codes (order_of ls) → (n : Net) → IsNetlist n → (stream : List (List Given)) → StreamFits ls (fields_of ls n) stream → AllFit n.inputs (map (numbers_of ls n) stream)
+pub stream_fits : (ls : Levels) → Codes (order_of ls) → (n : Net) → IsNetlist n → (stream : List (List Given))
+    → StreamFits ls (fields_of ls n) stream → AllFit n.inputs (map (numbers_of ls n) stream)
 stream_fits ls codes n net [] fits = tt
 stream_fits ls codes n net (xs ∷ stream) fits = (line_fits ls codes n net xs fits.0, stream_fits ls codes n net stream fits.1)
 

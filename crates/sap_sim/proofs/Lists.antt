@@ -20,7 +20,8 @@ dropped {X} p x h = rw h refl
 pub filtered_more : {X Y : Type 0} (p : X → Bool) (f : X → Y) (xs : List X) (k : ℕ) (x : X) → k < length xs → x ≡ get_or xs k x → p x ≡ true
     → map f (filter p (take (k + 1) xs)) ≡ map f (filter p (take k xs)) ++ f x ∷ []
 filtered_more {X} {Y} p f xs k x h e t =
-    ap (λ (ys : List X). map f (filter p ys)) (taken xs k x h e) ∙ ap (map f) (filter-append p (take k xs) (x ∷ []) ∙ ap (λ (ys : List X). filter p (take k xs) ++ ys) (passed p x t))
+    ap (λ (ys : List X). map f (filter p ys)) (taken xs k x h e)
+    ∙ ap (map f) (filter-append p (take k xs) (x ∷ []) ∙ ap (λ (ys : List X). filter p (take k xs) ++ ys) (passed p x t))
     ∙ map-append f (filter p (take k xs)) (x ∷ [])
 
 pub filtered_same : {X Y : Type 0} (p : X → Bool) (f : X → Y) (xs : List X) (k : ℕ) (x : X) → k < length xs → x ≡ get_or xs k x → p x ≡ false
@@ -30,7 +31,8 @@ filtered_same {X} {Y} p f xs k x h e t =
     ∙ ap (map f) (filter-append p (take k xs) (x ∷ []) ∙ ap (λ (ys : List X). filter p (take k xs) ++ ys) (dropped p x t) ∙ append-nil (filter p (take k xs)))
 
 -- one element more is written over a list
-pub written_more : {X Y : Type 0} (f : X → Y) (xs : List X) (ys : List Y) (k : ℕ) (d : X) (y : Y) → k < length xs → k < length ys → y ≡ f (get_or xs k d) → take k ys ≡ map f (take k xs)
+pub written_more : {X Y : Type 0} (f : X → Y) (xs : List X) (ys : List Y) (k : ℕ) (d : X) (y : Y) → k < length xs → k < length ys
+    → y ≡ f (get_or xs k d) → take k ys ≡ map f (take k xs)
     → take (k + 1) (set ys k y) ≡ map f (take (k + 1) xs)
 written_more {X} {Y} f xs ys k d y h i e before =
     take_more_set ys k y i ∙ ap₂ (λ (zs : List Y) (z : Y). zs ++ z ∷ []) before e ∙ sym (map-append f (take k xs) (get_or xs k d ∷ [])) ∙ ap (map f) (sym (take_more xs k d h))

@@ -49,7 +49,8 @@ among_filter p [] = tt
 among_filter p (i ∷ is) = ((λ t. rw (t, bytes_eq_same i.name) refl), among_filter_rest p i is is (among_filter p is))
 
 -- a name whose inputs all pass is among those that do
-pub among_passing : (p : Input → Bool) (is : List Input) (x : Name) → ((j : Input) → j.name ≡ x → p j ≡ true) → is_some (find (input_widths is) x) ≡ true → is_among x (names_of (filter p is)) ≡ true
+pub among_passing : (p : Input → Bool) (is : List Input) (x : Name) → ((j : Input) → j.name ≡ x → p j ≡ true)
+    → is_some (find (input_widths is) x) ≡ true → is_among x (names_of (filter p is)) ≡ true
 among_passing p [] x f h = absurd (false≢true h)
 among_passing p (i ∷ is) x f h =
     elim (cases_Bool (bytes_eq i.name x)) [
@@ -93,14 +94,16 @@ pub sources_within : (tag : ℕ) (is : List Input) (count : ℕ) → length (wit
     → All (λ s. source_place s < count) sources
 sources_within tag is count e sources h =
     let l : length (field_names tag is) ≡ count = length-map (with_field tag is) (λ i. i.name) ∙ e in
-    rw (h, ← l) (each (λ (s : Source). source_place s < length (field_names tag is)) (map (source_of tag is) is) (sources_in tag is is (among_filter (λ j. not (is_tag tag is j)) is)))
+    rw (h, ← l) (each (λ (s : Source). source_place s < length (field_names tag is)) (map (source_of tag is) is)
+    (sources_in tag is is (among_filter (λ j. not (is_tag tag is j)) is)))
 
 -- the number from an input's source is that for the input
 pub number_is : (ls : Levels) (is : List Input) (xs : List Given) (i : Input) → number_from ls xs (source_of (tag_width ls) is i) ≡ number_for ls is xs i
 number_is ls is xs i =
     elim (cases_Bool (is_tag (tag_width ls) is i)) as (λ v. number_from ls xs (source_of (tag_width ls) is i) ≡ number_for ls is xs i) [ inl t ↦ rw t refl | inr f ↦ rw f refl ]
 
-pub numbers_are : (ls : Levels) (is : List Input) (xs : List Given) (list : List Input) → map (number_from ls xs) (map (source_of (tag_width ls) is) list) ≡ map (number_for ls is xs) list
+pub numbers_are : (ls : Levels) (is : List Input) (xs : List Given) (list : List Input)
+    → map (number_from ls xs) (map (source_of (tag_width ls) is) list) ≡ map (number_for ls is xs) list
 numbers_are ls is xs [] = refl
 numbers_are ls is xs (i ∷ list) =
     ap (λ (y : ℕ). y ∷ map (number_from ls xs) (map (source_of (tag_width ls) is) list)) (number_is ls is xs i)

@@ -56,7 +56,8 @@ pub register_found : (n : Net) → IsNetlist n → (x : Name) → is_among x (re
 register_found n net x h none =
     among_all (λ (y : Name). find (readable n) y ≡ None → ⊥) (register_names n) x
     (all_names (λ (r : Register). r.name) (λ (y : Name). find (readable n) y ≡ None → ⊥) n.registers
-    (weaker (λ (r : Register). find (readable n) r.name ≡ Some r.width) (λ (r : Register). find (readable n) r.name ≡ None → ⊥) (λ r e. not_none (readable n) r.name r.width e) n.registers
+    (weaker (λ (r : Register). find (readable n) r.name ≡ Some r.width) (λ (r : Register). find (readable n) r.name ≡ None
+    → ⊥) (λ r e. not_none (readable n) r.name r.width e) n.registers
     (registers_readable n net)))
     h none
 
@@ -82,8 +83,11 @@ all_take P (suc n) (x ∷ xs) a = (a.0, all_take P n xs a.1)
 pub ports_named : (n : Net) → IsNetlist n → All (λ (x : Name). is_name x ≡ true) (register_ports n.ports)
 ports_named n net =
     let P : Name → Type 0 = λ x. is_name x ≡ true in
-    let ports : AllByRecursion P (map (λ (p : Port). p.name) n.ports) = subst (λ (xs : List Name). AllByRecursion P xs) (sym net.ports_first) (all_take P (length n.ports) n.names net.named) in
-    λ k d h. all_get_or P (register_ports n.ports) k d (map_of_all P (λ (p : Port). p.name) _ (all_filter (λ (p : Port). P p.name) (λ (p : Port). is_register p.kind) n.ports (all_of_map P (λ (p : Port). p.name) n.ports ports))) h
+    let ports : AllByRecursion P (map (λ (p : Port). p.name) n.ports) =
+    subst (λ (xs : List Name). AllByRecursion P xs) (sym net.ports_first) (all_take P (length n.ports) n.names net.named) in
+    λ k d h. all_get_or P (register_ports n.ports) k d
+    (map_of_all P (λ (p : Port). p.name) _ (all_filter (λ (p : Port). P p.name) (λ (p : Port). is_register p.kind) n.ports
+    (all_of_map P (λ (p : Port). p.name) n.ports ports))) h
 
 pub behind_inner : (letter : ℕ) (n x : Name) → behind letter n ≡ Some x → is_name n ≡ true → list_all is_inner x ≡ true
 unfolding is_name
@@ -114,13 +118,15 @@ pub shown_more : (tag : ℕ) (widths : Scope) (ps : List Name) (k : ℕ) (p : Na
     → shown_among tag widths (take (k + 1) ps) ≡ shown_among tag widths (take k ps) ++ shown_by tag widths (value_of p)
 shown_more tag widths ps k p h e = ap (shown_among tag widths) (taken ps k p h e) ∙ shown_push tag widths (take k ps) p
 
-of_kind : (n : Net) (p : Port) (ps : List Port) → AllByRecursion (λ (x : Name). is_among x (register_names n) ≡ true) (register_ports ps) → (k : PortKind) → p.kind ≡ k → PortShows n p.kind p.name
+of_kind : (n : Net) (p : Port) (ps : List Port) → AllByRecursion (λ (x : Name). is_among x (register_names n) ≡ true) (register_ports ps)
+    → (k : PortKind) → p.kind ≡ k → PortShows n p.kind p.name
     → AllByRecursion (λ (x : Name). is_among x (register_names n) ≡ true) (register_ports (p ∷ ps))
 of_kind n p ps rest kind.Input e h = rw e rest
 of_kind n p ps rest kind.Register e h = rw e (rw e at h, rest)
 of_kind n p ps rest kind.Wire e h = rw e rest
 
-port_is_register : (n : Net) (ps : List Port) → AllByRecursion (λ p. PortShows n p.kind p.name) ps → AllByRecursion (λ (x : Name). is_among x (register_names n) ≡ true) (register_ports ps)
+port_is_register : (n : Net) (ps : List Port) → AllByRecursion (λ p. PortShows n p.kind p.name) ps
+    → AllByRecursion (λ (x : Name). is_among x (register_names n) ≡ true) (register_ports ps)
 port_is_register n [] h = tt
 port_is_register n (p ∷ ps) h = of_kind n p ps (port_is_register n ps h.1) p.kind refl h.0
 
@@ -140,7 +146,8 @@ find_port f (p ∷ ps) x = elim (cases_Bool (bytes_eq x p)) [
 abbrev IsWide : Net → Name → Type 0
 IsWide n x = (u : ℕ) × (find (register_widths n.registers) x ≡ Some u) × (find (readable n) x ≡ Some u)
 
-all_wide : (n : Net) (rs : List Register) → AllByRecursion (λ r. find (register_widths n.registers) r.name ≡ Some r.width) rs → AllByRecursion (λ r. find (readable n) r.name ≡ Some r.width) rs
+all_wide : (n : Net) (rs : List Register) → AllByRecursion (λ r. find (register_widths n.registers) r.name ≡ Some r.width) rs
+    → AllByRecursion (λ r. find (readable n) r.name ≡ Some r.width) rs
     → AllByRecursion (λ r. IsWide n r.name) rs
 all_wide n [] h k = tt
 all_wide n (r ∷ rs) h k = ((r.width, h.0, k.0), all_wide n rs h.1 k.1)
@@ -155,7 +162,8 @@ pub port_wide : (tag : ℕ) (n : Net) → IsNetlist n → (x : Name)
     → is_number tag (find (port_widths n) x) ≡ (is_among x (register_ports n.ports) && is_number tag (find (register_widths n.registers) x))
 port_wide tag n net x = ap (is_number tag) (find_port (width_of n) (register_ports n.ports) x) ∙ by_port (is_among x (register_ports n.ports)) refl
   where
-    by_port : (b : Bool) → is_among x (register_ports n.ports) ≡ b → is_number tag (if b then Some (width_of n x) else None) ≡ (b && is_number tag (find (register_widths n.registers) x))
+    by_port : (b : Bool) → is_among x (register_ports n.ports) ≡ b
+        → is_number tag (if b then Some (width_of n x) else None) ≡ (b && is_number tag (find (register_widths n.registers) x))
     by_port false e = refl
     by_port true e =
         let w = register_wide n net x (register_port_is n net x e) in
@@ -195,7 +203,8 @@ all_join P (x ∷ xs) ys h k = (h.0, all_join P xs ys h.1 k)
 among_rest : (x p : Name) (ps : List Name) → is_among x ps ≡ true → is_among x (p ∷ ps) ≡ true
 among_rest x p ps h = elim (cases_Bool (bytes_eq x p)) [ inl t ↦ rw t refl | inr f ↦ rw f h ]
 
-shown_here : (tag : ℕ) (n : Net) (p : Name) (ps : List Name) (o : Option Name) → value_of p ≡ o → AllByRecursion (IsShown (p ∷ ps) (register_ports n.ports)) (shown_by tag (port_widths n) o)
+shown_here : (tag : ℕ) (n : Net) (p : Name) (ps : List Name) (o : Option Name) → value_of p ≡ o
+    → AllByRecursion (IsShown (p ∷ ps) (register_ports n.ports)) (shown_by tag (port_widths n) o)
 shown_here tag n p ps None e = tt
 shown_here tag n p ps (Some x) e =
     elim (cases_Bool (has_tag tag (port_widths n) x)) as (λ v. AllByRecursion (IsShown (p ∷ ps) (register_ports n.ports)) (shown_by tag (port_widths n) (Some x))) [
@@ -212,7 +221,8 @@ all_shown tag n [] = tt
 all_shown tag n (p ∷ ps) =
     all_join (IsShown (p ∷ ps) (register_ports n.ports)) (shown_by tag (port_widths n) (value_of p)) (shown_among tag (port_widths n) ps)
     (shown_here tag n p ps (value_of p) refl)
-    (weaker (IsShown ps (register_ports n.ports)) (IsShown (p ∷ ps) (register_ports n.ports)) (λ x h. (among_rest (value_name x) p ps h.0, h.1)) (shown_among tag (port_widths n) ps) (all_shown tag n ps))
+    (weaker (IsShown ps (register_ports n.ports)) (IsShown (p ∷ ps) (register_ports n.ports))
+    (λ x h. (among_rest (value_name x) p ps h.0, h.1)) (shown_among tag (port_widths n) ps) (all_shown tag n ps))
 
 -- the facts of a list by places
 pub each : {A : Type 0} (P : A → Type 0) (list : List A) → AllByRecursion P list → (k : ℕ) (d : A) → k < length list → P (get_or list k d)
@@ -225,7 +235,8 @@ pub values_are : (tag : ℕ) (n : Net) → IsNetlist n → (xs : List Name) → 
 values_are tag n net xs e k d l =
     each (λ (x : Name). is_among (118 ∷ (95 ∷ x)) (register_names n) ≡ true) xs
     (subst (λ (ys : List Name). AllByRecursion (λ (x : Name). is_among (118 ∷ (95 ∷ x)) (register_names n) ≡ true) ys) (sym e)
-    (weaker (IsShown (register_ports n.ports) (register_ports n.ports)) (λ (x : Name). is_among (118 ∷ (95 ∷ x)) (register_names n) ≡ true) (λ x h. register_port_is n net (value_name x) h.0) _
+    (weaker (IsShown (register_ports n.ports) (register_ports n.ports)) (λ (x : Name). is_among (118 ∷ (95 ∷ x)) (register_names n) ≡ true)
+    (λ x h. register_port_is n net (value_name x) h.0) _
     (all_shown tag n (register_ports n.ports))))
     k d l
 
@@ -234,6 +245,7 @@ pub tags_are : (tag : ℕ) (n : Net) → IsNetlist n → (xs : List Name) → xs
 tags_are tag n net xs e k d l =
     each (λ (x : Name). is_among (116 ∷ (95 ∷ x)) (register_names n) ≡ true) xs
     (subst (λ (ys : List Name). AllByRecursion (λ (x : Name). is_among (116 ∷ (95 ∷ x)) (register_names n) ≡ true) ys) (sym e)
-    (weaker (IsShown (register_ports n.ports) (register_ports n.ports)) (λ (x : Name). is_among (116 ∷ (95 ∷ x)) (register_names n) ≡ true) (λ x h. register_port_is n net (tag_name x) h.1) _
+    (weaker (IsShown (register_ports n.ports) (register_ports n.ports)) (λ (x : Name). is_among (116 ∷ (95 ∷ x)) (register_names n) ≡ true)
+    (λ x h. register_port_is n net (tag_name x) h.1) _
     (all_shown tag n (register_ports n.ports))))
     k d l

@@ -48,6 +48,7 @@ seen_values n m v f names xs ks js e d g h =
     ap (λ (q : Net). seen_at q (observed q v) js) e ∙ ap (seen_at n (observed n v)) d ∙ seen_names n (observed n v) (map f names) ks h ∙ map_twice (observed n v).value f names
     ∙ ap (map (λ (x : Name). (observed n v).value (f x))) g
 
-pub row_is : (ls : Levels) (cycle : ℕ) (v : Valuation) (xs names : List Name) (values tags : List ℕ) → names ≡ xs → values ≡ map (λ x. v.value (value_name x)) xs → tags ≡ map (λ x. v.value (tag_name x)) xs
+pub row_is : (ls : Levels) (cycle : ℕ) (v : Valuation) (xs names : List Name) (values tags : List ℕ) → names ≡ xs
+    → values ≡ map (λ x. v.value (value_name x)) xs → tags ≡ map (λ x. v.value (tag_name x)) xs
     → row_text cycle (shown_of ls names values tags) ≡ row_of ls xs cycle v
 row_is ls cycle v xs names values tags e f g = rw (e, f, g) refl

@@ -23,7 +23,8 @@ module _ (n : Net) (numbers : List Given → List ℕ) where
   line_split lines line run v h =
       run_split n None (map numbers lines) (numbers line) run v (subst (λ (xss : List (List ℕ)). IsRun n xss (run ++ v ∷ [])) (numbers_more lines line) h)
 
-  pub line_ends : (lines : List (List Given)) (line : List Given) (vs : List Valuation) → IsRunOn n numbers (lines ++ line ∷ []) vs → EndsIn n None (map numbers lines) (numbers line) vs
+  pub line_ends : (lines : List (List Given)) (line : List Given) (vs : List Valuation) → IsRunOn n numbers (lines ++ line ∷ []) vs
+      → EndsIn n None (map numbers lines) (numbers line) vs
   line_ends lines line vs h =
       run_ends n None (map numbers lines) (numbers line) vs (subst (λ (xss : List (List ℕ)). IsRun n xss vs) (numbers_more lines line) h)
 
@@ -59,7 +60,8 @@ pub unstepped_shows : (n : Net) (numbers : List Given → List ℕ) (r : Running
 unstepped_shows n numbers r shows run h = subst (λ (vs : List Valuation). Shows r (last_or None vs)) (sym (no_run n None run h)) shows
 
 -- a step on a line more, where the numbers of its inputs are by the netlist
-module _ (numbers : Net → List Given → List ℕ) {Plan : Type 0} (IsPlanned : Stepped Plan → Type 0) (n : Net) (s : Stepped Plan) (lines : List (List Given)) (line : List Given) (r : Running)
+module _ (numbers : Net → List Given → List ℕ) {Plan : Type 0} (IsPlanned : Stepped Plan
+    → Type 0) (n : Net) (s : Stepped Plan) (lines : List (List Given)) (line : List Given) (r : Running)
     (at : IsAfter IsPlanned n (numbers n) lines s) (same : r.net ≡ s.runner.net) (next : ShowsNext s.runner (numbers s.runner.net line) r) where
   pub cycle_shown : (run : List Valuation) (v : Valuation) → IsRunOn n (numbers n) lines run → IsCycle n (last_or None run) (numbers n line) v → Shows r (Some v)
   cycle_shown run v before cycle =

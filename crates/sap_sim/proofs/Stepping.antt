@@ -34,10 +34,12 @@ module _ (ls : Levels) (n : Net) where
   abbrev row : ℕ → Valuation → List ℕ
   row = row_of ls (shown_registers ls n)
 
-  rows_part : (bytes text : List ℕ) (lines more : List (List Given)) (rows : Rows) → (read_for ls n bytes).stream ≡ lines ++ more → AreRows ls n lines text → IsSimulated ls n bytes rows
+  rows_part : (bytes text : List ℕ) (lines more : List (List Given)) (rows : Rows) → (read_for ls n bytes).stream ≡ lines ++ more
+      → AreRows ls n lines text → IsSimulated ls n bytes rows
       → (rest : List ℕ) × (rows.text ≡ text ++ rest)
   rows_part bytes text lines more rows is begun sim =
-      let p = told_part n (numbers_of ls n) row lines more text sim.run (subst (λ (stream : List (List Given)). IsRun n (map (numbers_of ls n) stream) sim.run) is sim.is_run) begun in
+      let p = told_part n (numbers_of ls n) row lines more text sim.run
+      (subst (λ (stream : List (List Given)). IsRun n (map (numbers_of ls n) stream) sim.run) is sim.is_run) begun in
       (p.0, sim.text ∙ p.1)
 
   pub rows_whole : IsNetlist n → Codes (order_of ls) → Laws (order_of ls) → StimulusFits → SomeRun n → (bytes text : List ℕ) → AreRows ls n (read_for ls n bytes).stream text
@@ -65,12 +67,14 @@ module _ (ls : Levels) (s : Stepped Plan) (line : List Given) (planned : IsPlann
   sources_there =
       let tag = tag_width ls in
       let is = s.runner.net.inputs in
-      sources_within tag is (length line) (sym (length-map (with_field tag is) (field_of tag is)) ∙ sym (line_count ls (fields_of ls s.runner.net) line fits_net)) s.plan.sources.items planned.plan.sources
+      sources_within tag is (length line) (sym (length-map (with_field tag is) (field_of tag is))
+      ∙ sym (line_count ls (fields_of ls s.runner.net) line fits_net)) s.plan.sources.items planned.plan.sources
 
   pub numbers_right : map (number_from ls line) s.plan.sources.items ≡ numbers_of ls s.runner.net line
   numbers_right = ap (map (number_from ls line)) planned.plan.sources ∙ numbers_are ls s.runner.net.inputs line s.runner.net.inputs
 
-  pub inputs_right : (numbers : List ℕ) → Codes (order_of ls) → IsNetlist s.runner.net → numbers ≡ map (number_from ls line) s.plan.sources.items → InputsFit s.runner.net.inputs numbers
+  pub inputs_right : (numbers : List ℕ) → Codes (order_of ls) → IsNetlist s.runner.net
+      → numbers ≡ map (number_from ls line) s.plan.sources.items → InputsFit s.runner.net.inputs numbers
   inputs_right numbers codes net is = subst (InputsFit s.runner.net.inputs) (sym (is ∙ numbers_right)) (line_fits ls codes s.runner.net net line fits_net)
 
 -- as many numbers as names
@@ -108,6 +112,7 @@ module _ (ls : Levels) (n : Net) (s : Stepped Plan) (lines : List (List Given)) 
       let net : r.net ≡ n = same ∙ at.net in
       let xs = shown_registers ls n in
       let plan : IsPlan ls n s.plan = subst (λ (q : Net). IsPlan ls q s.plan) at.net at.planned.plan in
-      let v_right = vs (Some v) after ∙ seen_values n r.net v value_name s.plan.shown.names.items xs s.plan.shown.values.items s.plan.shown.values.items net refl plan.names plan.values in
+      let v_right = vs (Some v) after ∙ seen_values n r.net v value_name s.plan.shown.names.items xs s.plan.shown.values.items
+      s.plan.shown.values.items net refl plan.names plan.values in
       let t_right = ts (Some v) after ∙ seen_values n r.net v tag_name s.plan.shown.names.items xs s.plan.shown.tags.items s.plan.shown.tags.items net refl plan.names plan.tags in
       is ∙ ap (λ (text : List ℕ). old ++ text) (row_is ls cycle (observed n v) xs s.plan.shown.names.items values tags plan.names v_right t_right)

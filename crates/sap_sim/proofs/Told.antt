@@ -14,7 +14,8 @@ module _ {X : Type 0} (tell : ℕ → X → List ℕ) where
       ∙ ap (λ (k : ℕ). (tell c x ++ told_from tell (c + 1) xs) ++ told_from tell k ys) e
 
   -- of the cycles of two lists
-  pub mapped_split : {V : Type 0} (f : V → X) (c : ℕ) (vs ws : List V) → told_from tell c (map f (vs ++ ws)) ≡ told_from tell c (map f vs) ++ told_from tell (c + length vs) (map f ws)
+  pub mapped_split : {V : Type 0} (f : V → X) (c : ℕ) (vs ws : List V)
+      → told_from tell c (map f (vs ++ ws)) ≡ told_from tell c (map f vs) ++ told_from tell (c + length vs) (map f ws)
   mapped_split f c vs ws =
       ap (told_from tell c) (map-append f vs ws)
       ∙ told_split c (map f vs) (map f ws)

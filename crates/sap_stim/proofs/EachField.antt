@@ -70,7 +70,8 @@ onto_more inputs x (Err code) = refl
 
 -- the reading of one field, and then the others
 read_one : (ls : Levels) (fs : List Field) (i : ℕ) (d : Field) (inputs : List Given) (rest : List ℕ) → i < length fs → EnoughLeft fs i rest
-    → read_on ls fs i inputs rest ≡ onto inputs (and_then (field_of ls (get_or fs i d) (before rest)) (λ x. and_then (inputs_of ls (drop (i + 1) fs) (left_of (after rest) (length fs - (i + 1)))) (λ xs. Ok (x ∷ xs))))
+    → read_on ls fs i inputs rest ≡ onto inputs
+    (and_then (field_of ls (get_or fs i d) (before rest)) (λ x. and_then (inputs_of ls (drop (i + 1) fs) (left_of (after rest) (length fs - (i + 1)))) (λ xs. Ok (x ∷ xs))))
 read_one ls fs i d inputs rest h enough =
     let k : ℕ = length fs - (i + 1) in
     let s : suc i ≡ i + 1 = omega arith in
@@ -109,7 +110,8 @@ onto_nothing (Ok xs) = refl
 onto_nothing (Err code) = refl
 
 -- before the first field
-pub read_begins : (ls : Levels) (fs : List Field) (line : List ℕ) → length (fields_of line) ≡ length fs → (read_on ls fs 0 [] line ≡ inputs_of ls fs (fields_of line)) × EnoughLeft fs 0 line
+pub read_begins : (ls : Levels) (fs : List Field) (line : List ℕ) → length (fields_of line) ≡ length fs
+    → (read_on ls fs 0 [] line ≡ inputs_of ls fs (fields_of line)) × EnoughLeft fs 0 line
 read_begins ls fs line h =
     let n : length fs - 0 ≡ length fs = omega arith in
     let first = fields_front line (length fs) h in (
@@ -118,7 +120,8 @@ read_begins ls fs line h =
       λ some. let enough = first.1 in omega arith,
     )
 
-pub nothing_read : (ls : Levels) (fs : List Field) (inputs : List Given) (line : List ℕ) → inputs ≡ [] → length (fields_of line) ≡ length fs → read_on ls fs 0 inputs line ≡ inputs_of ls fs (fields_of line)
+pub nothing_read : (ls : Levels) (fs : List Field) (inputs : List Given) (line : List ℕ) → inputs ≡ [] → length (fields_of line) ≡ length fs
+    → read_on ls fs 0 inputs line ≡ inputs_of ls fs (fields_of line)
 nothing_read ls fs inputs line e h = ap (λ (xs : List Given). read_on ls fs 0 xs line) e ∙ (read_begins ls fs line h).0
 
 -- after the last

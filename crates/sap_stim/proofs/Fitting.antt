@@ -51,17 +51,20 @@ unfolding order_of order_by
 named_count ls = refl
 
 -- what a line gives has a property, where its inputs and its count have properties
-line_has : (ls : Levels) (fs : List Field) (ended : Bool) (text : List ℕ) (P : List Given → Type 0) (Q : ℕ → Type 0) (R : Span → Type 0) → IfOk (inputs_of ls fs (fields_of text)) P → IfOk (count_of (count_in (pieces_of text))) Q
+line_has : (ls : Levels) (fs : List Field) (ended : Bool) (text : List ℕ) (P : List Given → Type 0) (Q : ℕ → Type 0) (R : Span → Type 0)
+    → IfOk (inputs_of ls fs (fields_of text)) P → IfOk (count_of (count_in (pieces_of text))) Q
     → ((inputs : List Given) (count : ℕ) → P inputs → Q count → R (record { inputs = inputs; count = count })) → IfOk (line_of ls fs ended text) R
 line_has ls fs ended text P Q R in_inputs in_count both =
-    let counted : List Given → Result Span StimCode = λ inputs. and_then (count_of (count_in (pieces_of text))) (λ count. let span : Span = record { inputs = inputs; count = count } in Ok span) in
+    let counted : List Given → Result Span StimCode =
+    λ inputs. and_then (count_of (count_in (pieces_of text))) (λ count. let span : Span = record { inputs = inputs; count = count } in Ok span) in
     let read : Result Span StimCode = and_then (inputs_of ls fs (fields_of text)) counted in
     let whole : Result Span StimCode = if not (eqb (length (fields_of text)) (length fs)) then Err S4 else read in
     unless R (nat_lt 65536 (length text)) S1 (if not ended then Err S5 else whole)
     (unless R (not ended) S5 whole
     (unless R (not (eqb (length (fields_of text)) (length fs))) S4 read
     (then_ok P R (inputs_of ls fs (fields_of text)) counted in_inputs
-    (λ inputs p. then_ok Q R (count_of (count_in (pieces_of text))) (λ count. let span : Span = record { inputs = inputs; count = count } in Ok span) in_count (λ count q. both inputs count p q)))))
+    (λ inputs p. then_ok Q R (count_of (count_in (pieces_of text))) (λ count. let span : Span = record { inputs = inputs; count = count } in
+    Ok span) in_count (λ count q. both inputs count p q)))))
 
 abbrev IsAny : {A : Type 0} → A → Type 0
 IsAny x = Unit {0}
@@ -80,7 +83,8 @@ count_fits (Some piece) = count_within (drop 1 piece) (is_count (drop 1 piece)) 
 
 -- for how many cycles a line stands
 pub line_counts : (ls : Levels) (fs : List Field) (ended : Bool) (text : List ℕ) → IfOk (line_of ls fs ended text) (λ span. IsCount span.count)
-line_counts ls fs ended text = line_has ls fs ended text IsAny IsCount (λ span. IsCount span.count) (any (inputs_of ls fs (fields_of text))) (count_fits (count_in (pieces_of text))) (λ inputs count p q. q)
+line_counts ls fs ended text = line_has ls fs ended text IsAny IsCount (λ span. IsCount span.count) (any (inputs_of ls fs (fields_of text)))
+    (count_fits (count_in (pieces_of text))) (λ inputs count p q. q)
 
 module _ (ls : Levels) (bottom : (order_of ls).bottom < (order_of ls).count) where
   level_fits : (width value : ℕ) (level : Option ℕ) → value < 2 ^ width → IfSome level (λ i. i < length ls.names) → IfOk (with_level value level) (InputFits ls (Tagged width))
@@ -99,7 +103,8 @@ module _ (ls : Levels) (bottom : (order_of ls).bottom < (order_of ls).count) whe
 
   plain_fits : (width : ℕ) (text : List ℕ) → IfOk (plain_of ls width text) (InputFits ls (Plain width))
   plain_fits width text =
-      then_ok (λ (v : ℕ). v < 2 ^ width) (InputFits ls (Plain width)) (value_of width text) (λ value. Ok (record { number = value; level = (order_of ls).bottom })) (value_within width text)
+      then_ok (λ (v : ℕ). v < 2 ^ width) (InputFits ls (Plain width)) (value_of width text)
+      (λ value. Ok (record { number = value; level = (order_of ls).bottom })) (value_within width text)
       (λ v h. record { value = h; level = bottom; bottom = λ e. refl })
 
   field_fits : (f : Field) (text : List ℕ) → IfOk (field_of ls f text) (InputFits ls f)
@@ -116,13 +121,16 @@ module _ (ls : Levels) (bottom : (order_of ls).bottom < (order_of ls).count) whe
 
   line_fits : (fs : List Field) (ended : Bool) (text : List ℕ) → IfOk (line_of ls fs ended text) (λ span. LineFits ls fs span.inputs)
   line_fits fs ended text =
-      line_has ls fs ended text (LineFits ls fs) IsAny (λ span. LineFits ls fs span.inputs) (inputs_fit fs (fields_of text)) (any (count_of (count_in (pieces_of text)))) (λ inputs count h any. h)
+      line_has ls fs ended text (LineFits ls fs) IsAny (λ span. LineFits ls fs span.inputs) (inputs_fit fs (fields_of text))
+      (any (count_of (count_in (pieces_of text)))) (λ inputs count h any. h)
 
-  cycles_fit : (fs : List Field) (n : ℕ) (inputs : List Given) (rest : List (List Given)) → LineFits ls fs inputs → StreamFits ls fs rest → StreamFits ls fs (replicate n inputs ++ rest)
+  cycles_fit : (fs : List Field) (n : ℕ) (inputs : List Given) (rest : List (List Given)) → LineFits ls fs inputs → StreamFits ls fs rest
+      → StreamFits ls fs (replicate n inputs ++ rest)
   cycles_fit fs zero inputs rest h others = others
   cycles_fit fs (suc n) inputs rest h others = (h, cycles_fit fs n inputs rest h others)
 
-  going_fits : (fs : List Field) (n : ℕ) (r : Result Span StimCode) (p : Parsed) → IfOk r (λ span. LineFits ls fs span.inputs) → StreamFits ls fs p.stream → StreamFits ls fs (going_on n r p).stream
+  going_fits : (fs : List Field) (n : ℕ) (r : Result Span StimCode) (p : Parsed) → IfOk r (λ span. LineFits ls fs span.inputs)
+      → StreamFits ls fs p.stream → StreamFits ls fs (going_on n r p).stream
   going_fits fs n (Ok span) p h rest = cycles_fit fs span.count span.inputs p.stream h rest
   going_fits fs n (Err code) p h rest = tt
 
@@ -140,7 +148,8 @@ pub fits : StimulusFits
 fits ls fs bytes bottom = pieces_fit ls bottom fs 1 (split_at 10 bytes)
 
 -- the inputs that are read of the fields of a line fit, whatever its count
-pub given_fits : (ls : Levels) → (order_of ls).bottom < (order_of ls).count → (fs : List Field) (texts : List (List ℕ)) (inputs : List Given) → Ok inputs ≡ inputs_of ls fs texts → (count : Result ℕ StimCode) → OnOk count (LineFits ls fs inputs)
+pub given_fits : (ls : Levels) → (order_of ls).bottom < (order_of ls).count
+    → (fs : List Field) (texts : List (List ℕ)) (inputs : List Given) → Ok inputs ≡ inputs_of ls fs texts → (count : Result ℕ StimCode) → OnOk count (LineFits ls fs inputs)
 given_fits ls bottom fs texts inputs given (Ok count) =
     let P : Result (List Given) StimCode → Type 0 = λ x. IfOk x (LineFits ls fs) in
     subst P (sym given) (inputs_fit ls bottom fs texts)

@@ -27,7 +27,8 @@ pub none_left : (line : List ℕ) → IsLeft line 0 line
 none_left line = ([], refl, refl)
 
 -- a piece with a space behind it
-pub left_behind : (line : List ℕ) (k : ℕ) (rest text later : List ℕ) → IsLeft line k rest → text ≡ before_first (is_mark 32) rest → later ≡ after_first (is_mark 32) rest → length text < length rest → IsLeft line (k + 1) later
+pub left_behind : (line : List ℕ) (k : ℕ) (rest text later : List ℕ) → IsLeft line k rest → text ≡ before_first (is_mark 32) rest
+    → later ≡ after_first (is_mark 32) rest → length text < length rest → IsLeft line (k + 1) later
 left_behind line k rest text later left t l h =
     elim (cases_lt (position_or_len (is_mark 32) rest) (length rest)) [
       | inr unmarked ↦ absurd (let whole : length text ≡ length rest = ap length (t ∙ before_unmarked 32 rest unmarked) in omega (arith, whole))
@@ -35,7 +36,8 @@ left_behind line k rest text later left t l h =
           let first = before_first (is_mark 32) rest in (
             left.0 ++ first ∷ [],
             simp length-append (let n = left.1 in omega arith),
-            left.2 ∙ ap (λ (ps : List (List ℕ)). left.0 ++ ps) (split_marked 32 rest marked ∙ ap (λ (s : List ℕ). first ∷ split_at 32 s) (sym l)) ∙ sym (append_assoc left.0 (first ∷ []) (split_at 32 later)),
+            left.2 ∙ ap (λ (ps : List (List ℕ)). left.0 ++ ps) (split_marked 32 rest marked
+                ∙ ap (λ (s : List ℕ). first ∷ split_at 32 s) (sym l)) ∙ sym (append_assoc left.0 (first ∷ []) (split_at 32 later)),
           )
     ]
 

@@ -87,7 +87,8 @@ count_found s piece ends = count_pieces s ∙ ap count_in ends.1 ∙ count_last 
 none_marked : (m : ℕ) (s : List ℕ) → IsUnmarked m s → count_by (is_mark m) s ≡ 0
 none_marked m s u = let one : length (split_at m s) ≡ 1 = ap length (split_unmarked m s u) in omega (arith, one, split_count m s)
 
-pub marks_before : (m n : ℕ) (s piece : List ℕ) → n ≤ length s → IsUnmarked m (drop n s) → piece ≡ drop n s → count_by (is_mark m) (take (length s - length piece) s) ≡ count_by (is_mark m) s
+pub marks_before : (m n : ℕ) (s piece : List ℕ) → n ≤ length s → IsUnmarked m (drop n s) → piece ≡ drop n s
+    → count_by (is_mark m) (take (length s - length piece) s) ≡ count_by (is_mark m) s
 marks_before m n s piece h u p =
     let size : length piece ≡ length s - n = ap length p ∙ length-drop n s in
     let front : length s - length piece ≡ n = omega (arith, size) in
@@ -96,18 +97,21 @@ marks_before m n s piece h u p =
     ap (λ (k : ℕ). count_by (is_mark m) (take k s)) front ∙ (let none = none_marked m (drop n s) u in omega (arith, parts, whole, none))
 
 -- the number of a line's fields by its last piece and its spaces
-fields_found : (s piece : List ℕ) (n : ℕ) → 0 < length s → EndsWith 32 s piece → n ≡ count_by (is_mark 32) s → (others : List (List ℕ)) × (length others ≡ n) × (fields_of s ≡ cond (is_starred piece) others (others ++ piece ∷ []))
+fields_found : (s piece : List ℕ) (n : ℕ) → 0 < length s → EndsWith 32 s piece → n ≡ count_by (is_mark 32) s → (others : List (List ℕ))
+    × (length others ≡ n) × (fields_of s ≡ cond (is_starred piece) others (others ++ piece ∷ []))
 fields_found [] piece n h ends e = absurd (omega arith)
 fields_found (b ∷ bs) piece n h ends e =
     let pieces : length (ends.0 ++ piece ∷ []) ≡ n + 1 = sym (ap length ends.1) ∙ split_count 32 (b ∷ bs) ∙ ap (λ (k : ℕ). k + 1) (sym e) in
     (ends.0, let l = length-append ends.0 (piece ∷ []) in omega arith, ap fields_in ends.1 ∙ fields_last ends.0 piece)
 
-pub fields_beside : (s piece : List ℕ) (n : ℕ) (b : Bool) → 0 < length s → EndsWith 32 s piece → n ≡ count_by (is_mark 32) s → b ≡ is_starred piece → b ≡ true → n ≡ length (fields_of s)
+pub fields_beside : (s piece : List ℕ) (n : ℕ) (b : Bool) → 0 < length s → EndsWith 32 s piece → n ≡ count_by (is_mark 32) s
+    → b ≡ is_starred piece → b ≡ true → n ≡ length (fields_of s)
 fields_beside s piece n b h ends e t is =
     let found = fields_found s piece n h ends e in
     sym found.1 ∙ ap length (sym (found.2 ∙ ap (λ (x : Bool). cond x found.0 (found.0 ++ piece ∷ [])) (sym t ∙ is)))
 
-pub fields_whole : (s piece : List ℕ) (n : ℕ) (b : Bool) → 0 < length s → EndsWith 32 s piece → n ≡ count_by (is_mark 32) s → b ≡ is_starred piece → b ≡ false → n + 1 ≡ length (fields_of s)
+pub fields_whole : (s piece : List ℕ) (n : ℕ) (b : Bool) → 0 < length s → EndsWith 32 s piece → n ≡ count_by (is_mark 32) s
+    → b ≡ is_starred piece → b ≡ false → n + 1 ≡ length (fields_of s)
 fields_whole s piece n b h ends e t is =
     let found = fields_found s piece n h ends e in
     let all : length (fields_of s) ≡ length (found.0 ++ piece ∷ []) = ap length (found.2 ∙ ap (λ (x : Bool). cond x found.0 (found.0 ++ piece ∷ [])) (sym t ∙ is)) in

@@ -19,7 +19,8 @@ pub split_marked : (m : ℕ) (s : List ℕ) → position_or_len (is_mark m) s < 
 split_marked m [] h = absurd (omega arith)
 split_marked m (b ∷ bs) h =
     let n : ℕ = position_or_len (is_mark m) bs in
-    elim (eqb b m) as (λ t. cond (not t) (1 + n) 0 < suc (length bs) → cond t ([] ∷ split_at m bs) (onto_first b (split_at m bs)) ≡ take (cond (not t) (1 + n) 0) (b ∷ bs) ∷ split_at m (drop (cond (not t) (1 + n) 0 + 1) (b ∷ bs))) [
+    elim (eqb b m) as (λ t. cond (not t) (1 + n) 0 < suc (length bs)
+    → cond t ([] ∷ split_at m bs) (onto_first b (split_at m bs)) ≡ take (cond (not t) (1 + n) 0) (b ∷ bs) ∷ split_at m (drop (cond (not t) (1 + n) 0 + 1) (b ∷ bs))) [
       | true ↦ λ _. refl
       | false ↦ λ small. ap (onto_first b) (split_marked m bs (omega arith)) ∙ ap₂ (λ (x y : List ℕ). x ∷ split_at m y) (sym (take_more n b bs)) (sym (drop_more n b bs))
     ] h

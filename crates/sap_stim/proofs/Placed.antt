@@ -7,7 +7,8 @@ use Rattle.std.proofs.lemmas.Fmt.{decimal_digit, decimal_step}
 use Rattle.std.proofs.lemmas.List.{length-take-le, take-append-le}
 
 -- a text behind another
-pub then_text : (o : Option ℕ) (old mid new : List ℕ) (at end : ℕ) (a b whole : List ℕ) → take end mid ≡ take at old ++ a → IfSome o (λ e. take e new ≡ take end mid ++ b) → a ++ b ≡ whole
+pub then_text : (o : Option ℕ) (old mid new : List ℕ) (at end : ℕ) (a b whole : List ℕ) → take end mid ≡ take at old ++ a
+    → IfSome o (λ e. take e new ≡ take end mid ++ b) → a ++ b ≡ whole
     → IfSome o (λ e. take e new ≡ take at old ++ whole)
 then_text None old mid new at end a b whole p q w = tt
 then_text (Some e) old mid new at end a b whole p q w = q ∙ ap (λ l. l ++ b) p ∙ append_assoc (take at old) a b ∙ ap (λ l. take at old ++ l) w
@@ -33,6 +34,7 @@ written at len old bytes rest within short =
     ∙ ap (λ l. take at old ++ l) (take-append-le len bytes rest short)
 
 -- the one digit of a number
-pub one_digit : (o : Option ℕ) (old new : List ℕ) (at n : ℕ) → n < 10 → IfSome o (λ e. take e new ≡ take at old ++ (48 + n) ∷ []) → IfSome o (λ e. take e new ≡ take at old ++ decimal n)
+pub one_digit : (o : Option ℕ) (old new : List ℕ) (at n : ℕ) → n < 10 → IfSome o (λ e. take e new ≡ take at old ++ (48 + n) ∷ [])
+    → IfSome o (λ e. take e new ≡ take at old ++ decimal n)
 one_digit None old new at n small p = tt
 one_digit (Some e) old new at n small p = p ∙ ap (λ l. take at old ++ l) (sym (decimal_digit n small))

@@ -26,7 +26,8 @@ larger a b m is = elim (cases_lt a b) [
 ]
 
 -- one name more
-pub reached_more : (names : List (List ℕ)) (bound more place level size top : ℕ) (text : List ℕ) → Reached names bound place → place < length names → level ≡ (if nat_lt place (length names) then place else top)
+pub reached_more : (names : List (List ℕ)) (bound more place level size top : ℕ) (text : List ℕ) → Reached names bound place
+    → place < length names → level ≡ (if nat_lt place (length names) then place else top)
     → text ≡ get_or names (level_in (length names) level) [] → size ≡ length text → more ≡ max size bound → Reached names more (place + 1)
 reached_more names bound more place level size top text before small l t s is = elim (larger size bound more is) [
   | inl same ↦ elim before [
@@ -35,7 +36,8 @@ reached_more names bound more place level size top text before small l t s is = 
   ]
   | inr grown ↦
       let here : level ≡ place = grind (arith, nat_tests) in
-      let own : text ≡ name_at names place = t ∙ ap (λ (j : ℕ). get_or names (level_in (length names) j) []) here ∙ ap (λ (j : ℕ). get_or names j []) (level_in_same (length names) place small) in
+      let own : text ≡ name_at names place = t ∙ ap (λ (j : ℕ). get_or names (level_in (length names) j) []) here
+      ∙ ap (λ (j : ℕ). get_or names j []) (level_in_same (length names) place small) in
       inr (place, omega arith, sym (grown ∙ s ∙ ap length own))
 ]
 
@@ -94,13 +96,15 @@ shown_size : (ls : Levels) (size value tag : ℕ) (name : List ℕ) → length (
     → length (shown_text (shown ls name value tag)) ≡ length name + size + 23
 shown_size ls size value tag name d l = simp length-append (omega (arith, d, l))
 
-all_size : (ls : Levels) (size value tag : ℕ) (names : List (List ℕ)) → length (decimal value) ≡ 20 → length (level_text (option_map (name_at ls.names) (level_coded ls tag)) tag) ≡ size
+all_size : (ls : Levels) (size value tag : ℕ) (names : List (List ℕ)) → length (decimal value) ≡ 20
+    → length (level_text (option_map (name_at ls.names) (level_coded ls tag)) tag) ≡ size
     → length (all_shown (shown_of ls names (for_each value names) (for_each tag names))) ≡ taken size names + 1
 all_size ls size value tag [] d l = refl
 all_size ls size value tag (name ∷ names) d l =
     let here = shown_size ls size value tag name d l in
     let rest = all_size ls size value tag names d l in
-    let whole : length (shown_text (shown ls name value tag) ++ all_shown (shown_of ls names (for_each value names) (for_each tag names))) ≡ length (shown_text (shown ls name value tag)) + length (all_shown (shown_of ls names (for_each value names) (for_each tag names)))
+    let whole : length (shown_text (shown ls name value tag) ++ all_shown (shown_of ls names (for_each value names) (for_each tag names)))
+    ≡ length (shown_text (shown ls name value tag)) + length (all_shown (shown_of ls names (for_each value names) (for_each tag names)))
     = length-append (shown_text (shown ls name value tag)) (all_shown (shown_of ls names (for_each value names) (for_each tag names))) in
     omega arith
 

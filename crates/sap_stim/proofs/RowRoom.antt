@@ -28,14 +28,16 @@ each_name names bound h k = elim (cases_lt k (length names)) [
 ]
 
 -- one name more
-pub name_within : (names : List (List ℕ)) (bound more place level size top : ℕ) (text : List ℕ) → Within names bound place → place < length names → level ≡ (if nat_lt place (length names) then place else top)
+pub name_within : (names : List (List ℕ)) (bound more place level size top : ℕ) (text : List ℕ) → Within names bound place
+    → place < length names → level ≡ (if nat_lt place (length names) then place else top)
     → text ≡ get_or names (level_in (length names) level) [] → size ≡ length text → bound ≤ more → size ≤ more → Within names more (place + 1)
 name_within names bound more place level size top text before small l t s grown fits k h =
     elim (cases_lt k place) [
       | inl less ↦ let b = before k less in omega arith
       | inr not_less ↦
           let same : level ≡ place = grind (arith, nat_tests) in
-          let here : text ≡ get_or names k [] = t ∙ ap (λ (j : ℕ). get_or names (level_in (length names) j) []) same ∙ ap (λ (j : ℕ). get_or names j []) (level_in_same (length names) place small ∙ omega arith) in
+          let here : text ≡ get_or names k [] = t ∙ ap (λ (j : ℕ). get_or names (level_in (length names) j) []) same
+          ∙ ap (λ (j : ℕ). get_or names j []) (level_in_same (length names) place small ∙ omega arith) in
           let e : length text ≡ length (name_at names k) = ap length here in
           omega arith
     ]
@@ -43,7 +45,8 @@ name_within names bound more place level size top text before small l t s grown 
 digits_within : (n : ℕ) → n < 2 ^ 64 → length (decimal n) ≤ 20
 digits_within n small = length-decimal-le 20 n (omega arith) (omega arith) small
 
-pub text_within : (names : List (List ℕ)) (bound tag : ℕ) (o : Option ℕ) → 21 ≤ bound → ((k : ℕ) → length (name_at names k) ≤ bound) → tag < 2 ^ 64 → length (level_text (option_map (name_at names) o) tag) ≤ bound
+pub text_within : (names : List (List ℕ)) (bound tag : ℕ) (o : Option ℕ) → 21 ≤ bound → ((k : ℕ) → length (name_at names k) ≤ bound)
+    → tag < 2 ^ 64 → length (level_text (option_map (name_at names) o) tag) ≤ bound
 text_within names bound tag None number each small =
     let d = digits_within tag small in
     let e : length (35 ∷ decimal tag) ≡ 1 + length (decimal tag) = omega arith in
@@ -62,7 +65,8 @@ shown_within ls bound value tag name number each v t =
     let l = text_within ls.names bound tag (level_coded ls tag) number each t in
     simp length-append (omega (arith, d, l))
 
-all_within : (ls : Levels) (bound : ℕ) (names : List (List ℕ)) (values tags : List ℕ) → 21 ≤ bound → ((k : ℕ) → length (name_at ls.names k) ≤ bound) → All (λ n. n < 2 ^ 64) values → All (λ n. n < 2 ^ 64) tags
+all_within : (ls : Levels) (bound : ℕ) (names : List (List ℕ)) (values tags : List ℕ) → 21 ≤ bound
+    → ((k : ℕ) → length (name_at ls.names k) ≤ bound) → All (λ n. n < 2 ^ 64) values → All (λ n. n < 2 ^ 64) tags
     → length (all_shown (shown_of ls names values tags)) ≤ taken bound names + 1
 all_within ls bound [] values tags number each vs ts = omega arith
 all_within ls bound (name ∷ names) [] tags number each vs ts = omega arith
@@ -70,21 +74,25 @@ all_within ls bound (name ∷ names) (value ∷ values) [] number each vs ts = o
 all_within ls bound (name ∷ names) (value ∷ values) (tag ∷ tags) number each vs ts =
     let here = shown_within ls bound value tag name number each (All-head (λ n. n < 2 ^ 64) value values vs) (All-head (λ n. n < 2 ^ 64) tag tags ts) in
     let rest = all_within ls bound names values tags number each (All-tail (λ n. n < 2 ^ 64) value values vs) (All-tail (λ n. n < 2 ^ 64) tag tags ts) in
-    let whole : length (shown_text (shown ls name value tag) ++ all_shown (shown_of ls names values tags)) ≡ length (shown_text (shown ls name value tag)) + length (all_shown (shown_of ls names values tags))
+    let whole : length (shown_text (shown ls name value tag) ++ all_shown (shown_of ls names values tags))
+    ≡ length (shown_text (shown ls name value tag)) + length (all_shown (shown_of ls names values tags))
     = length-append (shown_text (shown ls name value tag)) (all_shown (shown_of ls names values tags)) in
     omega arith
 
-pub holds_rows : (ls : Levels) (bound : ℕ) (names : List (List ℕ)) (room : ℕ) → 21 ≤ bound → Within ls.names bound (length ls.names) → room ≡ 28 + taken bound names → HoldsRows ls names room
+pub holds_rows : (ls : Levels) (bound : ℕ) (names : List (List ℕ)) (room : ℕ) → 21 ≤ bound → Within ls.names bound (length ls.names)
+    → room ≡ 28 + taken bound names → HoldsRows ls names room
 holds_rows ls bound names room number within is = λ values tags vs ts.
     let rows = all_within ls bound names values tags number (each_name ls.names bound within) vs ts in
     omega arith
 
 -- one register more
-pub taken_more : (bound : ℕ) (names : List (List ℕ)) (i room next all : ℕ) (name : List ℕ) → i < length names → name ≡ get_or names i name → room + taken bound (drop i names) ≡ all → next ≡ room + (length name + bound + 23)
+pub taken_more : (bound : ℕ) (names : List (List ℕ)) (i room next all : ℕ) (name : List ℕ) → i < length names → name ≡ get_or names i name
+    → room + taken bound (drop i names) ≡ all → next ≡ room + (length name + bound + 23)
     → next + taken bound (drop (i + 1) names) ≡ all
 taken_more bound names i room next all name h here before grown =
     let s : suc i ≡ i + 1 = omega arith in
-    let first : drop i names ≡ name ∷ drop (i + 1) names = drop-cons names i name h ∙ ap (λ (x : List ℕ). x ∷ drop (suc i) names) (sym here) ∙ ap (λ (k : ℕ). name ∷ drop k names) s in
+    let first : drop i names ≡ name ∷ drop (i + 1) names = drop-cons names i name h ∙ ap (λ (x : List ℕ). x ∷ drop (suc i) names) (sym here)
+    ∙ ap (λ (k : ℕ). name ∷ drop k names) s in
     let e : taken bound (drop i names) ≡ length name + bound + 23 + taken bound (drop (i + 1) names) = ap (taken bound) first in
     omega arith
 

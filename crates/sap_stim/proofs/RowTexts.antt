@@ -13,7 +13,8 @@ use Rattle.sap_stim.specs.Rows.{Shown, shown, shown_of, shown_text, all_shown, r
 abbrev pub shown_from : Levels → List (List ℕ) → List ℕ → List ℕ → ℕ → List ℕ
 shown_from ls names values tags i = all_shown (shown_of ls (drop i names) (drop i values) (drop i tags))
 
-pub shown_more : (ls : Levels) (names : List (List ℕ)) (values tags : List ℕ) (i : ℕ) (name : List ℕ) → i < length names → length values ≡ length names → length tags ≡ length names → name ≡ get_or names i name
+pub shown_more : (ls : Levels) (names : List (List ℕ)) (values tags : List ℕ) (i : ℕ) (name : List ℕ) → i < length names
+    → length values ≡ length names → length tags ≡ length names → name ≡ get_or names i name
     → shown_from ls names values tags i ≡ shown_text (shown ls name (get_or values i 0) (get_or tags i 0)) ++ shown_from ls names values tags (i + 1)
 shown_more ls names values tags i name h v t e =
     let s : suc i ≡ i + 1 = omega arith in
@@ -33,18 +34,22 @@ shown_past ls names values tags i h = ap (λ (x : List (List ℕ)). all_shown (s
   past (x ∷ xs) (suc k) h = past xs k (omega arith)
 
 -- one register more is written
-pub row_grows : (ls : Levels) (names : List (List ℕ)) (values tags : List ℕ) (i : ℕ) (name out old next : List ℕ) → i < length names → length values ≡ length names → length tags ≡ length names → name ≡ get_or names i name
-    → out ++ shown_from ls names values tags i ≡ old → next ≡ out ++ shown_text (shown ls name (get_or values i 0) (get_or tags i 0)) → next ++ shown_from ls names values tags (i + 1) ≡ old
+pub row_grows : (ls : Levels) (names : List (List ℕ)) (values tags : List ℕ) (i : ℕ) (name out old next : List ℕ) → i < length names
+    → length values ≡ length names → length tags ≡ length names → name ≡ get_or names i name
+    → out ++ shown_from ls names values tags i ≡ old → next ≡ out ++ shown_text (shown ls name (get_or values i 0) (get_or tags i 0))
+    → next ++ shown_from ls names values tags (i + 1) ≡ old
 row_grows ls names values tags i name out old next h v t e before grown =
     ap (λ (x : List ℕ). x ++ shown_from ls names values tags (i + 1)) grown
     ∙ append_assoc out (shown_text (shown ls name (get_or values i 0) (get_or tags i 0))) (shown_from ls names values tags (i + 1))
     ∙ ap (λ (x : List ℕ). out ++ x) (sym (shown_more ls names values tags i name h v t e))
     ∙ before
 
-pub row_ends : (ls : Levels) (names : List (List ℕ)) (values tags : List ℕ) (i : ℕ) (out old next : List ℕ) → length names ≤ i → out ++ shown_from ls names values tags i ≡ old → next ≡ out ++ 10 ∷ [] → next ≡ old
+pub row_ends : (ls : Levels) (names : List (List ℕ)) (values tags : List ℕ) (i : ℕ) (out old next : List ℕ) → length names ≤ i
+    → out ++ shown_from ls names values tags i ≡ old → next ≡ out ++ 10 ∷ [] → next ≡ old
 row_ends ls names values tags i out old next h before grown = grown ∙ ap (λ (x : List ℕ). out ++ x) (sym (shown_past ls names values tags i h)) ∙ before
 
-pub level_written : {E : Type 0} (ls : Levels) (tag level : ℕ) (text old new : List ℕ) (r : Result (Unit {0}) E) → Some level ≡ level_coded ls tag → level < length ls.names → text ≡ get_or ls.names (level_in (length ls.names) level) []
+pub level_written : {E : Type 0} (ls : Levels) (tag level : ℕ) (text old new : List ℕ) (r : Result (Unit {0}) E)
+    → Some level ≡ level_coded ls tag → level < length ls.names → text ≡ get_or ls.names (level_in (length ls.names) level) []
     → new ≡ (if is_ok r then old ++ text else old) → OnOk r (new ≡ old ++ level_text (option_map (name_at ls.names) (level_coded ls tag)) tag)
 level_written ls tag level text old new r coded small t e =
     joined_part_on_last r new old text (level_text (option_map (name_at ls.names) (level_coded ls tag)) tag) e
@@ -71,7 +76,8 @@ ok_with_room (Ok v) capacity wanted full room = search rules
 ok_with_room (Err e) capacity wanted full room = absurd (omega arith)
 
 -- what fails where a register is to be written fails for want of room for the rest
-pub row_full : (ls : Levels) (names : List (List ℕ)) (values tags : List ℕ) (i : ℕ) (name out old : List ℕ) (capacity : ℕ) → i < length names → length values ≡ length names → length tags ≡ length names → name ≡ get_or names i name
+pub row_full : (ls : Levels) (names : List (List ℕ)) (values tags : List ℕ) (i : ℕ) (name out old : List ℕ) (capacity : ℕ)
+    → i < length names → length values ≡ length names → length tags ≡ length names → name ≡ get_or names i name
     → out ++ shown_from ls names values tags i ≡ old → capacity < length out + length (shown_text (shown ls name (get_or values i 0) (get_or tags i 0))) → capacity < length old
 row_full ls names values tags i name out old capacity h v t e before full =
     let here = shown_text (shown ls name (get_or values i 0) (get_or tags i 0)) in

@@ -25,12 +25,14 @@ digit_is : (b : ℕ) → 48 ≤ b → b ≤ 57 → digit_value b ≡ b - 48
 digit_is b low high = grind (arith, nat_tests)
 
 -- a further digit
-pub digit_more : (s : List ℕ) (k number : ℕ) → k < length s → is_ascii_digit (get_or s k 0) ≡ true → number ≡ digits_value 10 (take k s) → number * 10 + (get_or s k 0 - 48) ≡ digits_value 10 (take (k + 1) s)
+pub digit_more : (s : List ℕ) (k number : ℕ) → k < length s → is_ascii_digit (get_or s k 0) ≡ true → number ≡ digits_value 10 (take k s)
+    → number * 10 + (get_or s k 0 - 48) ≡ digits_value 10 (take (k + 1) s)
 digit_more s k number h is e =
     let bounds = digit_bounds (get_or s k 0) is in
     omega (arith, e, digit_is (get_or s k 0) bounds.0 bounds.1, digits_value_more 10 s k h)
 
-pub digits_more : (s : List ℕ) (k : ℕ) → k < length s → is_ascii_digit (get_or s k 0) ≡ true → list_all is_ascii_digit (take k s) ≡ true → list_all is_ascii_digit (take (k + 1) s) ≡ true
+pub digits_more : (s : List ℕ) (k : ℕ) → k < length s → is_ascii_digit (get_or s k 0) ≡ true → list_all is_ascii_digit (take k s) ≡ true
+    → list_all is_ascii_digit (take (k + 1) s) ≡ true
 digits_more s k h is all = list_all_more is_ascii_digit s k 0 h ∙ and_from _ _ all is
 
 -- the first mark stands behind digits

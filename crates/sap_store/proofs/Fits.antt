@@ -36,11 +36,13 @@ head_fits : (count u : ℕ) (us : List ℕ) (ts : List Tagged) (d : Tagged) → 
 head_fits count u us [] d h = absurd h
 head_fits count u us (t ∷ ts) d h = (h.0, h.1)
 
-tail_fits : (count u : ℕ) (us : List ℕ) (ts : List Tagged) (d : Tagged) (n v : ℕ) → ((rest : List Tagged) → AllFit count us rest → Fit count v (get_or rest n d)) → AllFit count (u ∷ us) ts → Fit count v (get_or ts (suc n) d)
+tail_fits : (count u : ℕ) (us : List ℕ) (ts : List Tagged) (d : Tagged) (n v : ℕ)
+    → ((rest : List Tagged) → AllFit count us rest → Fit count v (get_or rest n d)) → AllFit count (u ∷ us) ts → Fit count v (get_or ts (suc n) d)
 tail_fits count u us [] d n v f h = absurd h
 tail_fits count u us (t ∷ ts) d n v f h = f ts h.2
 
-given_fits : (count : ℕ) (d : Tagged) (es : List Entity) (ts : List Tagged) → AllFit count (input_widths es) ts → (x : ℕ) → kind_is_input (get_or es x nothing).kind ≡ true → Fit count (get_or es x nothing).width (get_or ts (inputs_before es x) d)
+given_fits : (count : ℕ) (d : Tagged) (es : List Entity) (ts : List Tagged) → AllFit count (input_widths es) ts → (x : ℕ)
+    → kind_is_input (get_or es x nothing).kind ≡ true → Fit count (get_or es x nothing).width (get_or ts (inputs_before es x) d)
 given_fits count d [] ts fit zero i = cc
 given_fits count d [] ts fit (suc x) i = cc
 given_fits count d (e ∷ es) ts fit zero i = head_fits count e.width (input_widths es) ts d (rw i at fit)

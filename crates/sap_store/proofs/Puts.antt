@@ -69,17 +69,22 @@ module _ (w : World) (s : code.Store) (x : ℕ) (r : Entry) (l : x < root w) (is
   deep i h = let e = ready.shaped.nexts x in omega (arith, e, h)
 
   same_depth : (h : Cells) → length h.cells ≡ length r.next.cells → Shaped w (after (nexted h))
-  same_depth h e = shaped w s (after (nexted h)) x (nexted h) (written (nexted h)) (ap (λ (b : Entry). length b.start.cells) found) (e ∙ ap (λ (b : Entry). length b.next.cells) found) ready.shaped
+  same_depth h e = shaped w s (after (nexted h)) x (nexted h) (written (nexted h)) (ap (λ (b : Entry). length b.start.cells) found) (e
+      ∙ ap (λ (b : Entry). length b.next.cells) found) ready.shaped
 
   pub cell_number_store : (i n : ℕ) (h : Cells) → h ≡ with_number i n r.next → i < depth w x → store_of w (after (nexted h)) ≡ put_number (next x i) n (store_of w s)
-  cell_number_store i n h e k = cell_number_put w s (after (nexted h)) x (nexted h) (written (nexted h)) i n own_start (e ∙ ap (λ (b : Entry). with_number i n b.next) found) (deep i k)
+  cell_number_store i n h e k = cell_number_put w s (after (nexted h)) x (nexted h) (written (nexted h)) i n own_start (e
+      ∙ ap (λ (b : Entry). with_number i n b.next) found) (deep i k)
 
   pub cell_number_ready : (i n : ℕ) (h : Cells) → h ≡ with_number i n r.next → i < depth w x → n < 2 ^ width w x → Ready w (after (nexted h))
   cell_number_ready i n h e k f =
-      ready_as w (after (nexted h)) _ (same_depth h (ap (λ (c : Cells). length c.cells) e ∙ length-set r.next.cells i _)) (cell_number_store i n h e k) (numbers_put w (store_of w s) (next x i) n f ready.numbers)
+      ready_as w (after (nexted h)) _ (same_depth h (ap (λ (c : Cells). length c.cells) e ∙ length-set r.next.cells i _))
+      (cell_number_store i n h e k) (numbers_put w (store_of w s) (next x i) n f ready.numbers)
 
-  pub cell_level_store : (i t : ℕ) (h : Cells) → is_dynamic w x ≡ false → h ≡ with_level i t r.next → i < depth w x → store_of w (after (nexted h)) ≡ put_level w (next x i) t (store_of w s)
-  cell_level_store i t h d e k = cell_level_put w s (after (nexted h)) x (nexted h) (written (nexted h)) i t d own_start (e ∙ ap (λ (b : Entry). with_level i t b.next) found) (deep i k)
+  pub cell_level_store : (i t : ℕ) (h : Cells) → is_dynamic w x ≡ false → h ≡ with_level i t r.next → i < depth w x
+      → store_of w (after (nexted h)) ≡ put_level w (next x i) t (store_of w s)
+  cell_level_store i t h d e k = cell_level_put w s (after (nexted h)) x (nexted h) (written (nexted h)) i t d own_start (e
+      ∙ ap (λ (b : Entry). with_level i t b.next) found) (deep i k)
 
   level_numbers : (z : Slot) (t : ℕ) (a : Store) → Numbers w a → Numbers w (put_level w z t a)
   unfolding put_level
@@ -87,12 +92,14 @@ module _ (w : World) (s : code.Store) (x : ℕ) (r : Entry) (l : x < root w) (is
 
   pub cell_level_ready : (i t : ℕ) (h : Cells) → is_dynamic w x ≡ false → h ≡ with_level i t r.next → i < depth w x → Ready w (after (nexted h))
   cell_level_ready i t h d e k =
-      ready_as w (after (nexted h)) _ (same_depth h (ap (λ (c : Cells). length c.cells) e ∙ length-set r.next.cells i _)) (cell_level_store i t h d e k) (level_numbers (next x i) t (store_of w s) ready.numbers)
+      ready_as w (after (nexted h)) _ (same_depth h (ap (λ (c : Cells). length c.cells) e ∙ length-set r.next.cells i _))
+      (cell_level_store i t h d e k) (level_numbers (next x i) t (store_of w s) ready.numbers)
 
   abbrev raised_entry : ℕ → Cells → Entry
   raised_entry t h = record { own = record { number = r.own.number; level = t }; start = r.start; next = h }
 
-  pub raise_store : (u t : ℕ) (h : Cells) → t ≡ w.order.join r.own.level u → h.cells ≡ r.next.cells → h.whole ≡ w.order.join r.next.whole u → store_of w (after (raised_entry t h)) ≡ raised_one w x u (store_of w s)
+  pub raise_store : (u t : ℕ) (h : Cells) → t ≡ w.order.join r.own.level u → h.cells ≡ r.next.cells → h.whole ≡ w.order.join r.next.whole u
+      → store_of w (after (raised_entry t h)) ≡ raised_one w x u (store_of w s)
   raise_store u t h a b c =
       raise_put w s (after (raised_entry t h)) x (raised_entry t h) (written (raised_entry t h)) u l (ap (λ (e : Entry). e.own.number) found)
       (a ∙ ap (λ (e : Entry). w.order.join e.own.level u) found) (ap (λ (e : Entry). e.start) found)
@@ -105,7 +112,8 @@ module _ (w : World) (s : code.Store) (x : ℕ) (r : Entry) (l : x < root w) (is
   pub raise_ready : (u t : ℕ) (h : Cells) → t ≡ w.order.join r.own.level u → h.cells ≡ r.next.cells → h.whole ≡ w.order.join r.next.whole u → Ready w (after (raised_entry t h))
   raise_ready u t h a b c =
       ready_as w (after (raised_entry t h)) _
-      (shaped w s (after (raised_entry t h)) x (raised_entry t h) (written (raised_entry t h)) (ap (λ (e : Entry). length e.start.cells) found) (ap (λ (cs : List Cell). length cs) b ∙ ap (λ (e : Entry). length e.next.cells) found) ready.shaped)
+      (shaped w s (after (raised_entry t h)) x (raised_entry t h) (written (raised_entry t h))
+      (ap (λ (e : Entry). length e.start.cells) found) (ap (λ (cs : List Cell). length cs) b ∙ ap (λ (e : Entry). length e.next.cells) found) ready.shaped)
       (raise_store u t h a b c) (raised_numbers u (store_of w s) ready.numbers)
 
   abbrev settled_entry : Cells → Entry
@@ -113,7 +121,8 @@ module _ (w : World) (s : code.Store) (x : ℕ) (r : Entry) (l : x < root w) (is
 
   pub settle_store : (h : Cells) → h ≡ r.next → store_of w (after (settled_entry h)) ≡ settled_one x (store_of w s)
   settle_store h e =
-      settle_put w s (after (settled_entry h)) x (settled_entry h) (written (settled_entry h)) (ap (λ (b : Entry). b.own) found) (e ∙ ap (λ (b : Entry). b.next) found) (ap (λ (b : Entry). b.next) found)
+      settle_put w s (after (settled_entry h)) x (settled_entry h) (written (settled_entry h)) (ap (λ (b : Entry). b.own) found) (e
+      ∙ ap (λ (b : Entry). b.next) found) (ap (λ (b : Entry). b.next) found)
 
   settled_numbers : (a : Store) → Numbers w a → Numbers w (settled_one x a)
   unfolding settled_one
@@ -127,7 +136,8 @@ module _ (w : World) (s : code.Store) (x : ℕ) (r : Entry) (l : x < root w) (is
   settle_ready h e =
       ready_as w (after (settled_entry h)) _
       (shaped w s (after (settled_entry h)) x (settled_entry h) (written (settled_entry h))
-      (ap (λ (c : Cells). length c.cells) (e ∙ ap (λ (b : Entry). b.next) found) ∙ ready.shaped.nexts x ∙ sym (ready.shaped.starts x)) (ap (λ (b : Entry). length b.next.cells) found) ready.shaped)
+      (ap (λ (c : Cells). length c.cells) (e ∙ ap (λ (b : Entry). b.next) found) ∙ ready.shaped.nexts x
+      ∙ sym (ready.shaped.starts x)) (ap (λ (b : Entry). length b.next.cells) found) ready.shaped)
       (settle_store h e) (settled_numbers (store_of w s) ready.numbers)
 
   pub depths_same : length r.start.cells ≡ length r.next.cells

@@ -44,9 +44,11 @@ module _ (o : Order) (t : ℕ) where
   -- what hangs apart is raised together
   twice : (h k : ℕ → Bool) → ((x : ℕ) → (h x && k x) ≡ false) → (s : Store) → raise o k t (raise o h t s) ≡ raise o (λ x. h x || k x) t s
   unfolding raise
-  twice h k apart s = store_same _ _ (λ z. refl) (λ z. by (raised h z) (raised k z) (raised (λ x. h x || k x) z) (s.level z) (raised_apart h k apart z) (raised_either h k z)) (λ p. refl)
+  twice h k apart s = store_same _ _ (λ z. refl)
+      (λ z. by (raised h z) (raised k z) (raised (λ x. h x || k x) z) (s.level z) (raised_apart h k apart z) (raised_either h k z)) (λ p. refl)
     where
-      by : (a b c : Bool) (l : ℕ) → (a && b) ≡ false → c ≡ (a || b) → (if b then o.join (if a then o.join l t else l) t else (if a then o.join l t else l)) ≡ (if c then o.join l t else l)
+      by : (a b c : Bool) (l : ℕ) → (a && b) ≡ false → c ≡ (a || b)
+          → (if b then o.join (if a then o.join l t else l) t else (if a then o.join l t else l)) ≡ (if c then o.join l t else l)
       by true true c l f e = cc
       by true false c l f e = rw e refl
       by false true c l f e = rw e refl
@@ -103,7 +105,8 @@ module _ (w : World) (t : ℕ) where
   each-all (x ∷ xs) s h =
       each-all xs (raised_one w x t s) (rises_after x xs h)
       ∙ twice w.order t (only w x) (λ y. hangs xs y && nat_lt y (root w)) apart s
-      ∙ alike w.order t (λ y. only w x y || (hangs xs y && nat_lt y (root w))) (λ y. (nat_eq x y || hangs xs y) && nat_lt y (root w)) (λ y. by (nat_eq x y) (hangs xs y) (nat_lt y (root w))) s
+      ∙ alike w.order t (λ y. only w x y || (hangs xs y && nat_lt y (root w))) (λ y. (nat_eq x y || hangs xs y) && nat_lt y (root w))
+      (λ y. by (nat_eq x y) (hangs xs y) (nat_lt y (root w))) s
     where
       apart : (y : ℕ) → (only w x y && (hangs xs y && nat_lt y (root w))) ≡ false
       apart y = at (nat_eq x y) (nat_lt y (root w)) (hangs xs y) (λ e. unhung y x xs (let i = eqb-true x y e in omega (arith, i)) h)

@@ -58,7 +58,8 @@ module _ (w : World) (target : ℕ) where
       (λ p. ap (λ (n : ℕ). if nat_eq p target then 0 else n) (sym (unless _ _ _ (late p (target + 1) (omega arith)))))
 
   early : (p : ℕ) → (below w target p && nat_lt p (last w target + 1)) ≡ below w target p
-  early p = by (is_state w p) (nat_lt target p) (nat_le p (last w target)) (nat_lt p (last w target + 1)) (λ h. let l = leb-true p (last w target) h in lt-ltb p (last w target + 1) (omega (arith, l)))
+  early p = by (is_state w p) (nat_lt target p) (nat_le p (last w target)) (nat_lt p (last w target + 1)) (λ h. let l =
+      leb-true p (last w target) h in lt-ltb p (last w target + 1) (omega (arith, l)))
     where
       by : (a b c e : Bool) → (c ≡ true → e ≡ true) → ((a && (b && c)) && e) ≡ (a && (b && c))
       by true true true e h = h refl
@@ -89,10 +90,16 @@ module _ (w : World) (target : ℕ) where
   more : (p k : ℕ) → target < k → k ≤ last w target → (below w target p && nat_lt p (k + 1)) ≡ ((nat_eq p k && is_state w p) || (below w target p && nat_lt p k))
   more p k l h =
       by (is_state w p) (nat_lt target p) (nat_le p (last w target)) (nat_lt p (k + 1)) (nat_eq p k) (nat_lt p k)
-      (λ t. let e = eqb-true p k t in (lt-ltb target p (omega (arith, e, l)), le-leb p (last w target) (omega (arith, e, h)), lt-ltb p (k + 1) (omega (arith, e)), le-ltb p k (omega (arith, e))))
+      (λ t. let e = eqb-true p k t in (
+        lt-ltb target p (omega (arith, e, l)),
+        le-leb p (last w target) (omega (arith, e, h)),
+        lt-ltb p (k + 1) (omega (arith, e)),
+        le-ltb p k (omega (arith, e)),
+      ))
       (λ t. grind (arith, common_steps))
     where
-      by : (a b c d e f : Bool) → (e ≡ true → (b ≡ true) × (c ≡ true) × (d ≡ true) × (f ≡ false)) → (e ≡ false → d ≡ f) → ((a && (b && c)) && d) ≡ ((e && a) || ((a && (b && c)) && f))
+      by : (a b c d e f : Bool) → (e ≡ true → (b ≡ true) × (c ≡ true) × (d ≡ true) × (f ≡ false)) → (e ≡ false → d ≡ f)
+          → ((a && (b && c)) && d) ≡ ((e && a) || ((a && (b && c)) && f))
       by true b c d true f g h = let r = g refl in rw (r.0, r.1, r.2) refl
       by false b c d true f g h = refl
       by a b c d false f g h = rw (h refl) refl
@@ -112,7 +119,8 @@ module _ (w : World) (target : ℕ) where
       by true b c d f false r = rw (r.0, r.1) refl
       by false b c d f p r = refl
 
-      at_true : x ≡ k → nat_eq x k ≡ true → ((below w target x && is_dynamic w x) && nat_lt x (k + 1)) ≡ ((nat_eq x k && (is_state w k && is_dynamic w k)) || ((below w target x && is_dynamic w x) && nat_lt x k))
+      at_true : x ≡ k → nat_eq x k ≡ true → ((below w target x && is_dynamic w x) && nat_lt x (k + 1))
+          ≡ ((nat_eq x k && (is_state w k && is_dynamic w k)) || ((below w target x && is_dynamic w x) && nat_lt x k))
       at_true e t =
           by (is_state w x) (nat_lt target x) (nat_le x (last w target)) (nat_lt x (k + 1)) (nat_lt x k) (is_dynamic w x)
           (lt-ltb target x (omega (arith, e, l)), le-leb x (last w target) (omega (arith, e, h)), lt-ltb x (k + 1) (omega (arith, e)), le-ltb x k (omega (arith, e)))
@@ -141,7 +149,8 @@ module _ (w : World) (target : ℕ) where
       ]
 
       by : (p : ℕ) (a : Bool) → nat_eq p target ≡ a → (q : Bool) → (nat_eq p k && is_state w p) ≡ q
-          → (if q then 0 else if a then 0 else if below w target p && nat_lt p k then 0 else s.child p) ≡ (if a then 0 else if below w target p && nat_lt p (k + 1) then 0 else s.child p)
+          → (if q then 0 else if a then 0 else if below w target p && nat_lt p k then 0 else s.child p)
+          ≡ (if a then 0 else if below w target p && nat_lt p (k + 1) then 0 else s.child p)
       by p true e true f = refl
       by p true e false f = refl
       by p false e q f = either _ q _ 0 (s.child p) (more p k l h ∙ ap (λ (b : Bool). b || (below w target p && nat_lt p k)) f)
@@ -160,14 +169,16 @@ module _ (w : World) (x : ℕ) (s : Store) where
   unfolding reset_one put_child put_level
   reset_dynamic e f =
       store_same _ _ (λ z. refl)
-      (λ z. ap (λ (q : Bool). if q then w.order.bottom else s.level z) (sym (ap (λ (b : Bool). same_slot z (own x) && (b && is_dynamic w x)) e ∙ ap (λ (b : Bool). same_slot z (own x) && b) f ∙ and_true (same_slot z (own x)))))
+      (λ z. ap (λ (q : Bool). if q then w.order.bottom else s.level z)
+      (sym (ap (λ (b : Bool). same_slot z (own x) && (b && is_dynamic w x)) e ∙ ap (λ (b : Bool). same_slot z (own x) && b) f ∙ and_true (same_slot z (own x)))))
       (λ p. ap (λ (q : Bool). if q then 0 else s.child p) (sym (ap (λ (b : Bool). nat_eq p x && b) e ∙ and_true (nat_eq p x))))
 
   pub reset_enforced : is_state w x ≡ true → is_dynamic w x ≡ false → put_child x 0 s ≡ reset_one w x s
   unfolding reset_one put_child
   reset_enforced e f =
       store_same _ _ (λ z. refl)
-      (λ z. ap (λ (q : Bool). if q then w.order.bottom else s.level z) (sym (ap (λ (b : Bool). same_slot z (own x) && (b && is_dynamic w x)) e ∙ ap (λ (b : Bool). same_slot z (own x) && b) f ∙ and_false (same_slot z (own x)))))
+      (λ z. ap (λ (q : Bool). if q then w.order.bottom else s.level z)
+      (sym (ap (λ (b : Bool). same_slot z (own x) && (b && is_dynamic w x)) e ∙ ap (λ (b : Bool). same_slot z (own x) && b) f ∙ and_false (same_slot z (own x)))))
       (λ p. ap (λ (q : Bool). if q then 0 else s.child p) (sym (ap (λ (b : Bool). nat_eq p x && b) e ∙ and_true (nat_eq p x))))
 
 -- inputs
@@ -245,14 +256,16 @@ module _ (w : World) (inputs : List Tagged) where
       at new old (start_whole m) = refl
       at new old (next_whole m) = refl
 
-  pub set_next : (s : Store) (k : ℕ) → is_input w k ≡ true → put_level w (own k) (given w inputs k).level (put_number (own k) (given w inputs k).number (set_to k s)) ≡ set_to (k + 1) s
+  pub set_next : (s : Store) (k : ℕ) → is_input w k ≡ true
+      → put_level w (own k) (given w inputs k).level (put_number (own k) (given w inputs k).number (set_to k s)) ≡ set_to (k + 1) s
   unfolding set_to put_level put_number
   set_next s k h = store_same _ _ (λ z. at (λ x. (given w inputs x).number) s.number z) (λ z. at (λ x. (given w inputs x).level) s.level z) (λ p. refl)
     where
       at : (new : ℕ → ℕ) (old : Slot → ℕ) (z : Slot) → (if same_slot z (own k) then new k else at_first k new old z) ≡ at_first (k + 1) new old z
       at new old (own x) = by (nat_eq x k) refl
         where
-          by : (q : Bool) → nat_eq x k ≡ q → (if q then new k else if is_input w x && nat_lt x k then new x else old (own x)) ≡ (if is_input w x && nat_lt x (k + 1) then new x else old (own x))
+          by : (q : Bool) → nat_eq x k ≡ q → (if q then new k else if is_input w x && nat_lt x k then new x else old (own x))
+              ≡ (if is_input w x && nat_lt x (k + 1) then new x else old (own x))
           by true e = let i = eqb-true x k e in rw (ap (is_input w) i ∙ h, lt-ltb x (k + 1) (omega (arith, i))) (ap new (sym i))
           by false e = ap (λ (q : Bool). if is_input w x && q then new x else old (own x)) (grind (arith, common_steps))
       at new old (start m i) = refl
@@ -264,11 +277,13 @@ module _ (w : World) (inputs : List Tagged) where
   unfolding given_one
   given_step s k = by (is_input w k) refl
     where
-      by : (q : Bool) → is_input w k ≡ q → (if q then put_level w (own k) (given w inputs k).level (put_number (own k) (given w inputs k).number (set_to k s)) else set_to k s) ≡ set_to (k + 1) s
+      by : (q : Bool) → is_input w k ≡ q → (if q then put_level w (own k) (given w inputs k).level
+          (put_number (own k) (given w inputs k).number (set_to k s)) else set_to k s) ≡ set_to (k + 1) s
       by true e = set_next s k e
       by false e = sym (set_skip s k e)
 
-  pub given_input : (s : Store) (k : ℕ) → is_input w k ≡ true → put_level w (own k) (given w inputs k).level (put_number (own k) (given w inputs k).number s) ≡ given_one w inputs k s
+  pub given_input : (s : Store) (k : ℕ) → is_input w k ≡ true
+      → put_level w (own k) (given w inputs k).level (put_number (own k) (given w inputs k).number s) ≡ given_one w inputs k s
   unfolding given_one
   given_input s k e = rw e refl
 
@@ -281,7 +296,8 @@ module _ (w : World) (inputs : List Tagged) where
   none (e ∷ es) = refl
 
   -- how many inputs stand before
-  pub before_next : (es : List Entity) (k : ℕ) → k < length es → inputs_before es (suc k) ≡ (if kind_is_input (get_or es k nothing).kind then suc (inputs_before es k) else inputs_before es k)
+  pub before_next : (es : List Entity) (k : ℕ) → k < length es
+      → inputs_before es (suc k) ≡ (if kind_is_input (get_or es k nothing).kind then suc (inputs_before es k) else inputs_before es k)
   before_next [] k h = absurd (omega (arith, h))
   before_next (e ∷ es) zero h = by (kind_is_input e.kind)
     where
@@ -291,7 +307,8 @@ module _ (w : World) (inputs : List Tagged) where
   before_next (e ∷ es) (suc k) h = by (kind_is_input e.kind) (kind_is_input (get_or es k nothing).kind) (before_next es k (omega (arith, h)))
     where
       by : (p q : Bool) → inputs_before es (suc k) ≡ (if q then suc (inputs_before es k) else inputs_before es k)
-          → (if p then suc (inputs_before es (suc k)) else inputs_before es (suc k)) ≡ (if q then suc (if p then suc (inputs_before es k) else inputs_before es k) else (if p then suc (inputs_before es k) else inputs_before es k))
+          → (if p then suc (inputs_before es (suc k)) else inputs_before es (suc k))
+          ≡ (if q then suc (if p then suc (inputs_before es k) else inputs_before es k) else (if p then suc (inputs_before es k) else inputs_before es k))
       by true true r = ap (λ (n : ℕ). suc n) r
       by true false r = ap (λ (n : ℕ). suc n) r
       by false true r = r

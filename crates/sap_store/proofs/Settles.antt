@@ -35,15 +35,20 @@ pub settled_next : (s : Store) (k : ℕ) → settled_one k (settled_to k s) ≡ 
 unfolding settled_to settled_one
 settled_next s k = store_same _ _ (at s.number) (at s.level) (λ p. refl)
   where
-    by : (f : Slot → ℕ) (z y : Slot) (x : ℕ) (a : Bool) → nat_eq x k ≡ a → (if a then (if nat_lt x k then f (source y) else f y) else (if nat_lt x k then f y else f z)) ≡ (if nat_lt x (k + 1) then f y else f z)
+    by : (f : Slot → ℕ) (z y : Slot) (x : ℕ) (a : Bool) → nat_eq x k ≡ a
+        → (if a then (if nat_lt x k then f (source y) else f y) else (if nat_lt x k then f y else f z)) ≡ (if nat_lt x (k + 1) then f y else f z)
     by f z y x true e = let i = eqb-true x k e in rw (le-ltb x k (omega (arith, i)), lt-ltb x (k + 1) (omega (arith, i))) refl
     by f z y x false e = ap (λ (q : Bool). if q then f y else f z) (sym (same x e))
       where
         same : (x : ℕ) → nat_eq x k ≡ false → nat_lt x (k + 1) ≡ nat_lt x k
         same x e = grind (arith, common_steps)
 
-    at : (f : Slot → ℕ) (z : Slot) → (if nat_eq (owner z) k then (if nat_lt (owner (source z)) k then f (source (source z)) else f (source z)) else (if nat_lt (owner z) k then f (source z) else f z)) ≡ (if nat_lt (owner z) (k + 1) then f (source z) else f z)
-    at f z = ap (λ (x : ℕ). if nat_eq (owner z) k then (if nat_lt x k then f (source (source z)) else f (source z)) else (if nat_lt (owner z) k then f (source z) else f z)) (owner_source z) ∙ by f z (source z) (owner z) (nat_eq (owner z) k) refl
+    at : (f : Slot → ℕ) (z : Slot) → (if nat_eq (owner z)
+        k then (if nat_lt (owner (source z)) k then f (source (source z)) else f (source z)) else (if nat_lt (owner z) k then f (source z) else f z))
+        ≡ (if nat_lt (owner z) (k + 1) then f (source z) else f z)
+    at f z = ap (λ (x : ℕ). if nat_eq (owner z)
+        k then (if nat_lt x k then f (source (source z)) else f (source z)) else (if nat_lt (owner z) k then f (source z) else f z))
+        (owner_source z) ∙ by f z (source z) (owner z) (nat_eq (owner z) k) refl
 
 module _ (w : World) (s : code.Store) (shaped : Shaped w s) where
   -- what belongs to no entity has settled
@@ -67,10 +72,12 @@ module _ (w : World) (s : code.Store) (shaped : Shaped w s) where
   above : (x : ℕ) → nat_lt x (root w) ≡ false → root w ≤ x
   above x e = grind (arith, common_steps)
 
-  settles : (f : Slot → ℕ) → ((z : Slot) → root w ≤ owner z → f (source z) ≡ f z) → (z : Slot) (a : Bool) → nat_lt (owner z) (root w) ≡ a → (if a then f (source z) else f z) ≡ f (source z)
+  settles : (f : Slot → ℕ) → ((z : Slot) → root w ≤ owner z → f (source z) ≡ f z) → (z : Slot) (a : Bool) → nat_lt (owner z) (root w) ≡ a
+      → (if a then f (source z) else f z) ≡ f (source z)
   settles f g z true e = refl
   settles f g z false e = sym (g z (above (owner z) e))
 
   pub settled_all : settled_to (root w) (store_of w s) ≡ settle (store_of w s)
   unfolding settled_to settle store_of
-  settled_all = store_same _ _ (λ z. settles (number_in w s.entries.items) number_rests z (nat_lt (owner z) (root w)) refl) (λ z. settles (level_in w s.entries.items) level_rests z (nat_lt (owner z) (root w)) refl) (λ p. refl)
+  settled_all = store_same _ _ (λ z. settles (number_in w s.entries.items) number_rests z (nat_lt (owner z) (root w)) refl)
+      (λ z. settles (level_in w s.entries.items) level_rests z (nat_lt (owner z) (root w)) refl) (λ p. refl)

@@ -92,7 +92,26 @@ module _ (w : World) where
   pub part_within : (e : Term ℕ) (hi lo : ℕ) → AbleTerm w (part e hi lo) → hi < 64
   part_within e hi lo a = let h : hi < width_of w e = a.ranged.1 in let k = width_most w e (able_part e hi lo a) in omega (arith, h, k)
 
-pub ruleset terms = (width_least, width_most, value_within, able_cell, able_one, able_left, able_right, able_condition, able_first, able_second, able_front, able_back, able_part, right_within, front_within, both_within, part_order, part_within)
+pub ruleset terms = (
+  width_least,
+  width_most,
+  value_within,
+  able_cell,
+  able_one,
+  able_left,
+  able_right,
+  able_condition,
+  able_first,
+  able_second,
+  able_front,
+  able_back,
+  able_part,
+  right_within,
+  front_within,
+  both_within,
+  part_order,
+  part_within,
+)
 
 -- what is written fits, and what is indexed is there
 

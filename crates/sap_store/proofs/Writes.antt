@@ -161,11 +161,13 @@ module _ (w : World) (s t : code.Store) (x : ℕ) (e : Entry) (written : Written
       → (m k : ℕ) → f (cell_at (past w m) (after m).next k) ≡ (if nat_eq m x && nat_eq k i then v else f (cell_at (past w m) (before m).next k))
   next_field f i v g m k = ap (λ (h : Cells). f (cell_at (past w m) h k)) (next_at m) ∙ by (nat_eq m x) (eqb-true m x)
     where
-      by : (q : Bool) → (q ≡ true → m ≡ x) → f (cell_at (past w m) (if q then e.next else (before m).next) k) ≡ (if q && nat_eq k i then v else f (cell_at (past w m) (before m).next k))
+      by : (q : Bool) → (q ≡ true → m ≡ x) → f (cell_at (past w m) (if q then e.next else (before m).next) k)
+          ≡ (if q && nat_eq k i then v else f (cell_at (past w m) (before m).next k))
       by true h = g k (past w m) ∙ ap (λ (y : ℕ). if nat_eq k i then v else f (cell_at (past w m) (before y).next k)) (sym (h refl))
       by false h = refl
 
-  next_kept : (f : Cell → ℕ) → ((k u : ℕ) → f (cell_at u e.next k) ≡ f (cell_at u (before x).next k)) → (m k : ℕ) → f (cell_at (past w m) (after m).next k) ≡ f (cell_at (past w m) (before m).next k)
+  next_kept : (f : Cell → ℕ) → ((k u : ℕ) → f (cell_at u e.next k) ≡ f (cell_at u (before x).next k)) → (m k : ℕ)
+      → f (cell_at (past w m) (after m).next k) ≡ f (cell_at (past w m) (before m).next k)
   next_kept f g m k = ap (λ (h : Cells). f (cell_at (past w m) h k)) (next_at m) ∙ by (nat_eq m x) (eqb-true m x)
     where
       by : (q : Bool) → (q ≡ true → m ≡ x) → f (cell_at (past w m) (if q then e.next else (before m).next) k) ≡ f (cell_at (past w m) (before m).next k)
@@ -190,7 +192,8 @@ module _ (w : World) (s t : code.Store) (x : ℕ) (e : Entry) (written : Written
       levels (start_whole m) = ap (λ (q : Cells). q.whole) (same (λ (b : Entry). b.start) r.1 m)
       levels (next_whole m) = same (λ (b : Entry). b.next.whole) (ap (λ (q : Cells). q.whole) h) m
 
-  pub cell_level_put : (i v : ℕ) → is_dynamic w x ≡ false → Same → e.next ≡ with_level i v (before x).next → i < length (before x).next.cells → store_of w t ≡ put_level w (next x i) v (store_of w s)
+  pub cell_level_put : (i v : ℕ) → is_dynamic w x ≡ false → Same → e.next ≡ with_level i v (before x).next
+      → i < length (before x).next.cells → store_of w t ≡ put_level w (next x i) v (store_of w s)
   unfolding store_of put_level
   cell_level_put i v enforced r h l = rw enforced (store_same _ _ numbers levels seats_same)
     where
@@ -209,7 +212,8 @@ module _ (w : World) (s t : code.Store) (x : ℕ) (e : Entry) (written : Written
       levels (next_whole m) = same (λ (b : Entry). b.next.whole) (ap (λ (q : Cells). q.whole) h) m
 
   -- what is raised
-  pub raise_put : (u : ℕ) → x < root w → e.own.number ≡ (before x).own.number → e.own.level ≡ w.order.join (before x).own.level u → e.start ≡ (before x).start → e.next.cells ≡ (before x).next.cells → e.next.whole ≡ w.order.join (before x).next.whole u
+  pub raise_put : (u : ℕ) → x < root w → e.own.number ≡ (before x).own.number → e.own.level ≡ w.order.join (before x).own.level u
+      → e.start ≡ (before x).start → e.next.cells ≡ (before x).next.cells → e.next.whole ≡ w.order.join (before x).next.whole u
       → store_of w t ≡ raised_one w x u (store_of w s)
   unfolding store_of raise
   raise_put u l n o a b c = store_same _ _ numbers levels seats_same
@@ -239,7 +243,8 @@ module _ (w : World) (s t : code.Store) (x : ℕ) (e : Entry) (written : Written
       levels (next_whole m) = up (λ (d : Entry). d.next.whole) c m
 
 -- a current child is written
-module _ (w : World) (s t : code.Store) (p n : ℕ) (within : p < length s.current.items) (current : t.current.items ≡ set s.current.items p n) (entries : t.entries.items ≡ s.entries.items) where
+module _ (w : World) (s t : code.Store) (p n : ℕ) (within : p < length s.current.items)
+    (current : t.current.items ≡ set s.current.items p n) (entries : t.entries.items ≡ s.entries.items) where
   pub child_put : store_of w t ≡ put_child p n (store_of w s)
   unfolding store_of put_child
   child_put =
@@ -263,14 +268,19 @@ module _ (w : World) (s t : code.Store) (p n : ℕ) (within : p < length s.curre
 
 -- the next part of a memory becomes its start part
 module _ (w : World) (s t : code.Store) (x : ℕ) (e : Entry) (written : Written w s t x e) where
-  pub settle_put : e.own ≡ (entry_at w s.entries.items x).own → e.start ≡ (entry_at w s.entries.items x).next → e.next ≡ (entry_at w s.entries.items x).next → store_of w t ≡ settled_one x (store_of w s)
+  pub settle_put : e.own ≡ (entry_at w s.entries.items x).own → e.start ≡ (entry_at w s.entries.items x).next
+      → e.next ≡ (entry_at w s.entries.items x).next → store_of w t ≡ settled_one x (store_of w s)
   unfolding store_of settled_one
   settle_put i j k = store_same _ _ numbers levels (seats_same w s t x e written)
     where
-      start_new : (f : Cell → ℕ) (m n : ℕ) → f (cell_at (past w m) (entry_at w t.entries.items m).start n) ≡ (if nat_eq m x then f (cell_at (past w m) (entry_at w s.entries.items m).next n) else f (cell_at (past w m) (entry_at w s.entries.items m).start n))
-      start_new f m n = ap (λ (h : Cells). f (cell_at (past w m) h n)) (new w s t x e written (λ (b : Entry). b.start) (entry_at w s.entries.items x).next j m) ∙ by (nat_eq m x) (eqb-true m x)
+      start_new : (f : Cell → ℕ) (m n : ℕ) → f (cell_at (past w m) (entry_at w t.entries.items m).start n)
+          ≡ (if nat_eq m x then f (cell_at (past w m) (entry_at w s.entries.items m).next n) else f (cell_at (past w m) (entry_at w s.entries.items m).start n))
+      start_new f m n = ap (λ (h : Cells). f (cell_at (past w m) h n))
+          (new w s t x e written (λ (b : Entry). b.start) (entry_at w s.entries.items x).next j m) ∙ by (nat_eq m x) (eqb-true m x)
         where
-          by : (q : Bool) → (q ≡ true → m ≡ x) → f (cell_at (past w m) (if q then (entry_at w s.entries.items x).next else (entry_at w s.entries.items m).start) n) ≡ (if q then f (cell_at (past w m) (entry_at w s.entries.items m).next n) else f (cell_at (past w m) (entry_at w s.entries.items m).start n))
+          by : (q : Bool) → (q ≡ true → m ≡ x) → f
+              (cell_at (past w m) (if q then (entry_at w s.entries.items x).next else (entry_at w s.entries.items m).start) n)
+              ≡ (if q then f (cell_at (past w m) (entry_at w s.entries.items m).next n) else f (cell_at (past w m) (entry_at w s.entries.items m).start n))
           by true g = ap (λ (y : ℕ). f (cell_at (past w m) (entry_at w s.entries.items y).next n)) (sym (g refl))
           by false g = refl
 
@@ -285,7 +295,9 @@ module _ (w : World) (s t : code.Store) (x : ℕ) (e : Entry) (written : Written
       numbers (start_whole m) = both (nat_eq m x) 0
       numbers (next_whole m) = both (nat_eq m x) 0
 
-      whole_new : (m : ℕ) (q : Bool) → nat_eq m x ≡ q → (if q then (entry_at w s.entries.items x).next.whole else (entry_at w s.entries.items m).start.whole) ≡ (if q then (entry_at w s.entries.items m).next.whole else (entry_at w s.entries.items m).start.whole)
+      whole_new : (m : ℕ) (q : Bool) → nat_eq m x ≡ q
+          → (if q then (entry_at w s.entries.items x).next.whole else (entry_at w s.entries.items m).start.whole)
+          ≡ (if q then (entry_at w s.entries.items m).next.whole else (entry_at w s.entries.items m).start.whole)
       whole_new m true g = ap (λ (y : ℕ). (entry_at w s.entries.items y).next.whole) (sym (eqb-true m x g))
       whole_new m false g = refl
 
@@ -293,5 +305,6 @@ module _ (w : World) (s t : code.Store) (x : ℕ) (e : Entry) (written : Written
       levels (own y) = same w s t x e written (λ (b : Entry). b.own.level) (ap (λ (c : Cell). c.level) i) y ∙ both _ _
       levels (start m n) = start_new (λ (c : Cell). c.level) m n
       levels (next m n) = ap (λ (c : Cell). c.level) (next_cell w s t x e written m n k) ∙ both _ _
-      levels (start_whole m) = new w s t x e written (λ (b : Entry). b.start.whole) (entry_at w s.entries.items x).next.whole (ap (λ (h : Cells). h.whole) j) m ∙ whole_new m (nat_eq m x) refl
+      levels (start_whole m) = new w s t x e written (λ (b : Entry). b.start.whole) (entry_at w s.entries.items x).next.whole
+          (ap (λ (h : Cells). h.whole) j) m ∙ whole_new m (nat_eq m x) refl
       levels (next_whole m) = same w s t x e written (λ (b : Entry). b.next.whole) (ap (λ (h : Cells). h.whole) k) m ∙ both _ _

@@ -8,7 +8,8 @@ use Rattle.sap_stream.specs.Spans.{Span, cycles_in, cycles_of}
 pub length_from : (ss : List Span) (i : ℕ) (s : Span) → i < length ss → s ≡ get_or ss i s
     → length (cycles_of (drop i ss)) ≡ s.count + length (cycles_of (drop (i + 1) ss))
 length_from ss i s below e =
-    ap length (at_drop_more cycles_of ss i s below) ∙ ap (λ (t : Span). length (cycles_in t ++ cycles_of (drop (i + 1) ss))) (sym e) ∙ length-append (cycles_in s) (cycles_of (drop (i + 1) ss))
+    ap length (at_drop_more cycles_of ss i s below) ∙ ap (λ (t : Span). length (cycles_in t ++ cycles_of (drop (i + 1) ss))) (sym e)
+    ∙ length-append (cycles_in s) (cycles_of (drop (i + 1) ss))
     ∙ ap (λ (n : ℕ). n + length (cycles_of (drop (i + 1) ss))) (length-replicate s.count s.inputs)
 
 -- what is left of as many cycles with the inputs x, n of them being past, and of those behind

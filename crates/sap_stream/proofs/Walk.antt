@@ -45,7 +45,8 @@ pub as_many : (xs ys : List (List Tagged)) (cycle : ℕ) (a b : Ahead) → AreOf
     → length a.inputs.now ≡ length b.inputs.now
 as_many xs ys cycle a b h n below at_a at_b =
     let HasAll : List Tagged → Type 0 = λ inputs. length inputs ≡ h.0 in
-    ap length (sym (at_once xs cycle a at_a)) ∙ All-get_or HasAll xs cycle [] below h.1 ∙ sym (All-get_or HasAll ys cycle [] (omega arith) h.2) ∙ ap length (at_once ys cycle b at_b)
+    ap length (sym (at_once xs cycle a at_a)) ∙ All-get_or HasAll xs cycle [] below h.1
+    ∙ sym (All-get_or HasAll ys cycle [] (omega arith) h.2) ∙ ap length (at_once ys cycle b at_b)
 
 module _ (o : Order) (l : ℕ) where
   pub apart_next : (xs ys : List (List Tagged)) (cycle input : ℕ) (a b : Ahead) → length xs ≡ length ys → cycle < length xs

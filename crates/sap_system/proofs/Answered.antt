@@ -119,7 +119,8 @@ module _ (bytes : List ℕ) where
   valid_answer (Ok t) refused s is = tt
   valid_answer (Err f) refused s is = elim (cases_memory f) [ inl e ↦ e | inr ne ↦ absurd (no_fault s f is (refused ne)) ]
 
-  pub exact_answer : (r : Result Listing SysFault) → IfOk r (λ s. IsSystemOfFile bytes s) → IfErr r (λ f. f ≢ Memory → FirstFault bytes f) → (f : SysFault) → FirstFault bytes f → IsErrOf r f ⊎ IsErrOf r Memory
+  pub exact_answer : (r : Result Listing SysFault) → IfOk r (λ s. IsSystemOfFile bytes s) → IfErr r (λ f. f ≢ Memory → FirstFault bytes f)
+      → (f : SysFault) → FirstFault bytes f → IsErrOf r f ⊎ IsErrOf r Memory
   exact_answer (Ok s) accepted refused f first = absurd (no_fault s f accepted first)
   exact_answer (Err g) accepted refused f first =
       elim (cases_memory g) [

@@ -20,7 +20,8 @@ unfit name = not (is_word name) || (is_among name design_keywords || ltb MOST_NA
 
 unfit_bad_part : (names : List (List ℕ)) (k : ℕ) → unfit (name_at names k) ≡ true → BadPartName names k
 unfit_bad_part names k h =
-    elim (or_cases (not (is_word (name_at names k)) || (is_among (name_at names k) design_keywords || ltb MOST_NAME_BYTES (length (name_at names k)))) (has_underscore (name_at names k)) h) [
+    elim (or_cases (not (is_word (name_at names k))
+    || (is_among (name_at names k) design_keywords || ltb MOST_NAME_BYTES (length (name_at names k)))) (has_underscore (name_at names k)) h) [
       | inl e ↦ bad (unfit_bad names k e)
       | inr e ↦ underscore e
     ]
@@ -40,7 +41,8 @@ named_before (p ∷ ps) (suc k) name h =
       | inr e ↦ let (j, low, same) = named_before ps k name e in (suc j, omega (arith, low), same)
     ]
 
-before_named : (parts : List Part) (k : ℕ) (name : List ℕ) (j : ℕ) → j < k → j < length parts → name_at (part_names parts) j ≡ name → list_any (λ p. bytes_eq p.name name) (take k parts) ≡ true
+before_named : (parts : List Part) (k : ℕ) (name : List ℕ) (j : ℕ) → j < k → j < length parts → name_at (part_names parts) j ≡ name
+    → list_any (λ p. bytes_eq p.name name) (take k parts) ≡ true
 before_named [] k name j low there same = absurd (omega arith)
 before_named (p ∷ ps) zero name j low there same = absurd (omega arith)
 before_named (p ∷ ps) (suc k) name zero low there same = or_left _ _ ((bytes_eq-Decides p.name name).1 same)

@@ -147,7 +147,8 @@ module _ (d : Setting) (s : Source) (h : Declares d s) (fixed group : List Name)
   abbrev pub Good : Body → Type 0
   Good b = BodyFine s fixed group nested b
 
-  pub gives_fine : (a : Key) (t : Term Name) (rest : Body) (u : ℕ) → find (assignable s) (d.name a) ≡ Some u → Fine d s h u t → (sort a ≡ 2 → ⊥) → Good rest → Good (gives d a t rest)
+  pub gives_fine : (a : Key) (t : Term Name) (rest : Body) (u : ℕ) → find (assignable s) (d.name a) ≡ Some u → Fine d s h u t
+      → (sort a ≡ 2 → ⊥) → Good rest → Good (gives d a t rest)
   gives_fine a t rest u e f n r = ((u, e, f), ap not (w.free a n), r)
 
   no_seat : (k : ℕ) → (k ≡ 2 → ⊥) → k ≡ 2 → ⊥
@@ -159,17 +160,20 @@ module _ (d : Setting) (s : Source) (h : Declares d s) (fixed group : List Name)
   pub wire_gives : (k u : ℕ) (t : Term Name) (rest : Body) → IsWire d s k u → Fine d s h u t → Good rest → Good (gives d (wire_key k) t rest)
   wire_gives k u t rest q f r = gives_fine (wire_key k) t rest u q.1 f (λ e. omega arith) r
 
-  stores_fine : (a : Key) (i t : Term Name) (rest : Body) (u b n : ℕ) → IsWidth b → find (shapes s) (d.name a) ≡ Some (u, n) → 2 ^ b ≡ n → Fine d s h b i → Fine d s h u t → Good rest → Good (stores d a i t rest)
+  stores_fine : (a : Key) (i t : Term Name) (rest : Body) (u b n : ℕ) → IsWidth b → find (shapes s) (d.name a) ≡ Some (u, n) → 2 ^ b ≡ n
+      → Fine d s h b i → Fine d s h u t → Good rest → Good (stores d a i t rest)
   stores_fine a i t rest u b n v e p f g r = ((u, b, v, e ∙ ap (λ (z : ℕ). Some (u, z)) (sym p), f, g), refl, r)
 
   pub sweep_fine : (v : ℕ → Key) (picks : ℕ → Bool) (t : ℕ → Term Name) (x m : ℕ) (rest : Body)
-      → ((y : ℕ) → x ≤ y → y < x + m → picks y ≡ true → (u : ℕ) × (find (assignable s) (d.name (v y)) ≡ Some u) × Fine d s h u (t y)) → ((y : ℕ) → sort (v y) ≡ 2 → ⊥) → Good rest → Good (sweep d v picks t x m rest)
+      → ((y : ℕ) → x ≤ y → y < x + m → picks y ≡ true → (u : ℕ) × (find (assignable s) (d.name (v y)) ≡ Some u) × Fine d s h u (t y))
+      → ((y : ℕ) → sort (v y) ≡ 2 → ⊥) → Good rest → Good (sweep d v picks t x m rest)
   sweep_fine v picks t x zero rest f n r = r
   sweep_fine v picks t x (suc m) rest f n r = elim (cases_Bool (picks x)) [
     | inl e ↦
         rw e
         (let q = f x (omega arith) (omega arith) e in
-        gives_fine (v x) (t x) (sweep d v picks t (x + 1) m rest) q.0 q.1 q.2 (n x) (sweep_fine v picks t (x + 1) m rest (λ y l k i. f y (omega (arith, l)) (omega (arith, k)) i) n r))
+        gives_fine (v x) (t x) (sweep d v picks t (x + 1) m rest) q.0 q.1 q.2 (n x)
+        (sweep_fine v picks t (x + 1) m rest (λ y l k i. f y (omega (arith, l)) (omega (arith, k)) i) n r))
     | inr e ↦ rw e (sweep_fine v picks t (x + 1) m rest (λ y l k i. f y (omega (arith, l)) (omega (arith, k)) i) n r)
   ]
 
@@ -187,7 +191,8 @@ module _ (d : Setting) (s : Source) (h : Declares d s) (fixed group : List Name)
 
   module _ (q : Group) (sp : Home) (placed : Placed d.world q sp) (named : (t : ℕ) → among q t ≡ true → is_among (d.state_name t) group ≡ true)
       (kids : 0 < size sp.children → nested ≡ true) where
-    looks_fine : (p k : ℕ) (t : Step) (rest : Body) → IsWire d s p d.tag → StepWires d s k → FineStep d.world q sp.children t → SizedStep d.world t → RangedStep d.world t → StepConditions d.world t
+    looks_fine : (p k : ℕ) (t : Step) (rest : Body) → IsWire d s p d.tag → StepWires d s k → FineStep d.world q sp.children t
+        → SizedStep d.world t → RangedStep d.world t → StepConditions d.world t
         → Good rest → Good (looks d sp p k t rest)
     looks_fine p k t rest pc ws f z r c g =
         let P = var d (wire_key p) in
@@ -204,18 +209,22 @@ module _ (d : Setting) (s : Source) (h : Declares d s) (fixed group : List Name)
     zero_fine : (u : ℕ) → Fine d s h u (constant u 0)
     zero_fine u = (refl, pow_pos u)
 
-    effect_fine : (k : ℕ) (t : Step) → StepWires d s k → FineStep d.world q sp.children t → SizedStep d.world t → RangedStep d.world t → StepConditions d.world t → Good (effect_of d sp k t)
+    effect_fine : (k : ℕ) (t : Step) → StepWires d s k → FineStep d.world q sp.children t → SizedStep d.world t → RangedStep d.world t
+        → StepConditions d.world t → Good (effect_of d sp k t)
     effect_fine k (assign site x e) ws f z r c =
         let number : Fine d s h (width d.world x) (expr d e) = subst (λ (u : ℕ). Fine d s h u (expr d e)) z.1 (number_fine d s h e f.1 z.0 r c) in
         let last : Good (gives d (value_key x) (expr d e) stop) = gives_fine (value_key x) (expr d e) stop (width d.world x) (w.values x f.0) number (λ e. omega arith) tt in
         let m = value_no_memory d.world x (or_right _ (is_register d.world x) f.0) in
         elim (cases_Bool (is_dynamic d.world x)) [
-          | inl i ↦ rw i (tag_gives x (var d (wire_key (k + 3))) (gives d (value_key x) (expr d e) stop) (tagged d.world x (register_within d.world x f.0) m) (register_no_input (entity d.world x).kind f.0) ws.3.0 last)
+          | inl i ↦ rw i (tag_gives x (var d (wire_key (k + 3))) (gives d (value_key x) (expr d e) stop)
+              (tagged d.world x (register_within d.world x f.0) m) (register_no_input (entity d.world x).kind f.0) ws.3.0 last)
           | inr i ↦ rw i last
         ]
     effect_fine k (write site m i e) ws f z r c =
         let number : Fine d s h (width d.world m) (expr d e) = subst (λ (u : ℕ). Fine d s h u (expr d e)) z.3 (number_fine d s h e f.2 z.2 r.1 c.1) in
-        stores_fine (value_key m) (expr d i) (expr d e) (if is_dynamic d.world m then gives d (tag_key m) (lub (var d (tag_key m)) (var d (wire_key (k + 3)))) stop else stop) (width d.world m) (width_of d.world i) (depth d.world m) (ranged_width d.world i r.0) (h.stores m f.0) z.1
+        stores_fine (value_key m) (expr d i) (expr d e)
+        (if is_dynamic d.world m then gives d (tag_key m) (lub (var d (tag_key m)) (var d (wire_key (k + 3)))) stop else stop)
+        (width d.world m) (width_of d.world i) (depth d.world m) (ranged_width d.world i r.0) (h.stores m f.0) z.1
         (number_fine d s h i f.1 z.0 r.0 c.0) number
         (elim (cases_Bool (is_dynamic d.world m)) [
           | inl j ↦
@@ -228,7 +237,8 @@ module _ (d : Setting) (s : Source) (h : Declares d s) (fixed group : List Name)
         let m = kept_no_memory d.world x f.0 in
         let t = tagged d.world x (enforced_within d.world x f.1) m in
         tag_gives x (var d (wire_key (k + 3)))
-        (if is_register d.world x then gives d (value_key x) (choose (var d (wire_key (k + 4))) (var d (value_key x)) (constant (width d.world x) 0)) stop else stop) t (kept_kind (entity d.world x).kind f.0) ws.3.0
+        (if is_register d.world x then gives d (value_key x)
+        (choose (var d (wire_key (k + 4))) (var d (value_key x)) (constant (width d.world x) 0)) stop else stop) t (kept_kind (entity d.world x).kind f.0) ws.3.0
         (elim (cases_Bool (is_register d.world x)) [
           | inl i ↦
               rw i
@@ -240,8 +250,10 @@ module _ (d : Setting) (s : Source) (h : Declares d s) (fixed group : List Name)
         let index = number_fine d s h j f.2 z.0 r.0 c.0 in
         let wide = ranged_width d.world j r.0 in
         stores_fine (tag_key m) (expr d j) (var d (wire_key (k + 3)))
-        (stores d (value_key m) (expr d j) (choose (var d (wire_key (k + 4))) (cell (d.name (value_key m)) (expr d j)) (constant (width d.world m) 0)) stop) d.tag (width_of d.world j) (depth d.world m) wide (h.marks m f.0 f.1) z.1 index ws.3.0
-        (stores_fine (value_key m) (expr d j) (choose (var d (wire_key (k + 4))) (cell (d.name (value_key m)) (expr d j)) (constant (width d.world m) 0)) stop (width d.world m) (width_of d.world j)
+        (stores d (value_key m) (expr d j) (choose (var d (wire_key (k + 4))) (cell (d.name (value_key m)) (expr d j))
+        (constant (width d.world m) 0)) stop) d.tag (width_of d.world j) (depth d.world m) wide (h.marks m f.0 f.1) z.1 index ws.3.0
+        (stores_fine (value_key m) (expr d j) (choose (var d (wire_key (k + 4))) (cell (d.name (value_key m)) (expr d j))
+        (constant (width d.world m) 0)) stop (width d.world m) (width_of d.world j)
         (depth d.world m) wide (h.stores m f.0) z.1 index
         (ws.4.0, (width_of d.world j, wide, h.stores m f.0 ∙ ap (λ (y : ℕ). Some (width d.world m, y)) (sym z.1), index), zero_fine (width d.world m)) tt)
     effect_fine k (go_to site target) ws f z r c =
@@ -278,7 +290,8 @@ module _ (d : Setting) (s : Source) (h : Declares d s) (fixed group : List Name)
         gives_fine (refused_key (site_of t)) yes (gives d (level_key (site_of t)) (var d (wire_key (k + 2))) handler) 1 site.0 (yes_fine d s h) (λ e. omega arith)
         (gives_fine (level_key (site_of t)) (var d (wire_key (k + 2))) handler d.tag site.1 ws.2.0 (λ e. omega arith) g)
 
-    attempt_fine : (p k : ℕ) (t : Step) (hangs : ℕ → Bool) (handler : Body) → IsWire d s p d.tag → StepWires d s k → Hangs d.world hangs → AllSites (sites.step_sites d.world sp.state sp.children t)
+    attempt_fine : (p k : ℕ) (t : Step) (hangs : ℕ → Bool) (handler : Body) → IsWire d s p d.tag → StepWires d s k → Hangs d.world hangs
+        → AllSites (sites.step_sites d.world sp.state sp.children t)
         → FineStep d.world q sp.children t → SizedStep d.world t → RangedStep d.world t → StepConditions d.world t → Good handler → Good (attempt_of d sp p k t hangs handler)
     unfolding attempt_of
     attempt_fine p k t hangs handler pc ws hs site f z r c g =
@@ -291,7 +304,8 @@ module _ (d : Setting) (s : Source) (h : Declares d s) (fixed group : List Name)
         ]))
 
     -- behind an accepted step's effect the accepted part
-    attempt_then_fine : (p k : ℕ) (t : Step) (hangs : ℕ → Bool) (x y : Body) → IsWire d s p d.tag → StepWires d s k → Hangs d.world hangs → AllSites (sites.step_sites d.world sp.state sp.children t)
+    attempt_then_fine : (p k : ℕ) (t : Step) (hangs : ℕ → Bool) (x y : Body) → IsWire d s p d.tag → StepWires d s k → Hangs d.world hangs
+        → AllSites (sites.step_sites d.world sp.state sp.children t)
         → FineStep d.world q sp.children t → SizedStep d.world t → RangedStep d.world t → StepConditions d.world t → Good x → Good y → Good (attempt_then_of d sp p k t hangs x y)
     unfolding attempt_then_of
     attempt_then_fine p k t hangs x y pc ws hs site f z r c gx gy =
@@ -303,17 +317,20 @@ module _ (d : Setting) (s : Source) (h : Declares d s) (fixed group : List Name)
           | inr i ↦ rw i (ws.0.0, e, refusal_fine k t y ws (site (site_of t) (site_listed d.world sp t i)) gy, tt)
         ]))
 
-    select_fine : (p k : ℕ) (e : Term ℕ) (hangs : ℕ → Bool) (x y : Body) → IsWire d s p d.tag → IsWire d s k d.tag → IsWire d s (k + 1) d.tag → Hangs d.world hangs → Fine d s h d.tag (tag_of d e)
+    select_fine : (p k : ℕ) (e : Term ℕ) (hangs : ℕ → Bool) (x y : Body) → IsWire d s p d.tag → IsWire d s k d.tag
+        → IsWire d s (k + 1) d.tag → Hangs d.world hangs → Fine d s h d.tag (tag_of d e)
         → Fine d s h 1 (expr d e) → Good x → Good y → Good (select_of d p k e hangs x y)
     unfolding select_of
     select_fine p k e hangs x y pc a b hs level number f g =
         wire_gives k d.tag (tag_of d e) (gives d (wire_key (k + 1)) (lub (var d (wire_key p)) (var d (wire_key k))) (raises d hangs k (cases (expr d e) x y stop))) a level
-        (wire_gives (k + 1) d.tag (lub (var d (wire_key p)) (var d (wire_key k))) (raises d hangs k (cases (expr d e) x y stop)) b (lub_fine d s h (var d (wire_key p)) (var d (wire_key k)) pc.0 a.0)
+        (wire_gives (k + 1) d.tag (lub (var d (wire_key p)) (var d (wire_key k))) (raises d hangs k (cases (expr d e) x y stop)) b
+        (lub_fine d s h (var d (wire_key p)) (var d (wire_key k)) pc.0 a.0)
         (raises_fine hangs k (cases (expr d e) x y stop) hs a (number, f, g, tt)))
 
     -- the number of a block
 
-    picks_arm_fine : (u n w j i : ℕ) (cs : List ℕ) (rest : Body) → IsWidth u → IsWire d s n u → IsWire d s j w → i < 2 ^ w → AreWithin u cs → Good rest → Good (picks_arm d u n w j i cs rest)
+    picks_arm_fine : (u n w j i : ℕ) (cs : List ℕ) (rest : Body) → IsWidth u → IsWire d s n u → IsWire d s j w → i < 2 ^ w → AreWithin u cs
+        → Good rest → Good (picks_arm d u n w j i cs rest)
     picks_arm_fine u n w j i [] rest wide wn wj small within g = g
     picks_arm_fine u n w j i (c ∷ cs) rest wide wn wj small within g =
         wire_gives j w (choose (two Eq (var d (wire_key n)) (constant u c)) (constant w i) (var d (wire_key j))) (picks_arm d u n w j i cs rest) wj
@@ -357,7 +374,8 @@ module _ (d : Setting) (s : Source) (h : Declares d s) (fixed group : List Name)
     ]
 
     pick_fine : (p k : ℕ) (e : Term ℕ) (hangs : ℕ → Bool) (arms : Arms) (blocks : List Body) → IsWire d s p d.tag → IsWire d s k d.tag → IsWire d s (k + 1) d.tag
-        → IsWire d s (k + 2) (width_of d.world e) → IsWire d s (k + 3) (pick_width arms) → Hangs d.world hangs → Fine d s h d.tag (tag_of d e) → Fine d s h (width_of d.world e) (expr d e)
+        → IsWire d s (k + 2) (width_of d.world e) → IsWire d s (k + 3) (pick_width arms) → Hangs d.world hangs
+        → Fine d s h d.tag (tag_of d e) → Fine d s h (width_of d.world e) (expr d e)
         → IsWidth (width_of d.world e) → arm_count arms ≤ most_arms → SizedArms d.world (width_of d.world e) arms → AllGood blocks → Good (pick_of d p k e hangs arms blocks)
     unfolding pick_of
     pick_fine p k e hangs arms blocks pc a b n j hs level number wide few z g =
@@ -384,11 +402,13 @@ module _ (d : Setting) (s : Source) (h : Declares d s) (fixed group : List Name)
       command_fine p k (try t hang b) pc ws hs site f z r c few =
           attempt_fine p k t (listed hang) (block_plain d sp (k + 2) (k + 5) b) pc ws.0 hs.0
           (λ n i. site n (among_left (sites.step_sites d.world sp.state sp.children t) (sites.block_sites d.world sp.state sp.children b) n i)) f.0 z.0 r.0 c.0
-          (block_fine (k + 2) (k + 5) b ws.0.2 ws.1 hs.1 (λ n i. site n (among_right (sites.step_sites d.world sp.state sp.children t) (sites.block_sites d.world sp.state sp.children b) n i)) f.1 z.1 r.1 c.1 few)
+          (block_fine (k + 2) (k + 5) b ws.0.2 ws.1 hs.1
+          (λ n i. site n (among_right (sites.step_sites d.world sp.state sp.children t) (sites.block_sites d.world sp.state sp.children b) n i)) f.1 z.1 r.1 c.1 few)
       command_fine p k (if_else hang e a b) pc ws hs site f z r c few =
           select_fine p k e (listed hang) (block_plain d sp (k + 1) (k + 2) a) (block_plain d sp (k + 1) (k + 2 + wires_block a) b) pc ws.0 ws.1 hs.0
           (level_fine d s h e f.0 z.0 r.0 c.0) (subst (λ (u : ℕ). Fine d s h u (expr d e)) z.1 (number_fine d s h e f.0 z.0 r.0 c.0))
-          (block_fine (k + 1) (k + 2) a ws.1 ws.2 hs.1 (λ n i. site n (among_left (sites.block_sites d.world sp.state sp.children a) (sites.block_sites d.world sp.state sp.children b) n i)) f.1 z.2 r.1 c.1 few.0)
+          (block_fine (k + 1) (k + 2) a ws.1 ws.2 hs.1
+          (λ n i. site n (among_left (sites.block_sites d.world sp.state sp.children a) (sites.block_sites d.world sp.state sp.children b) n i)) f.1 z.2 r.1 c.1 few.0)
           (block_fine (k + 1) (k + 2 + wires_block a) b ws.1 ws.3 hs.2
           (λ n i. site n (among_right (sites.block_sites d.world sp.state sp.children a) (sites.block_sites d.world sp.state sp.children b) n i)) f.2 z.3 r.2 c.2 few.1)
       command_fine p k (try_then t hang a b) pc ws hs site f z r c few =
@@ -405,7 +425,8 @@ module _ (d : Setting) (s : Source) (h : Declares d s) (fixed group : List Name)
           (arms_fine (width_of d.world e) (k + 1) (k + 4) arms ws.1 ws.4 hs.1 site f.1 z.1 r.1 c.1 few.1)
 
       arms_fine : (u p k : ℕ) (arms : Arms) → IsWire d s p d.tag → ArmsWires d s k arms → ArmsHang d.world sp arms → AllSites (sites.arms_sites d.world sp.state sp.children arms)
-          → FineArms d.world q sp.children arms → SizedArms d.world u arms → RangedArms d.world arms → ArmsConditions d.world arms → FewArms arms → AllGood (arms_plain d sp p k arms)
+          → FineArms d.world q sp.children arms → SizedArms d.world u arms → RangedArms d.world arms → ArmsConditions d.world arms
+          → FewArms arms → AllGood (arms_plain d sp p k arms)
       arms_fine u p k (last_arm b) pc ws hs site f z r c few = (block_fine p k b pc ws hs site f z r c few, tt)
       arms_fine u p k (and_arm constants b arms) pc ws hs site f z r c few =
           let first = sites.block_sites d.world sp.state sp.children b in
@@ -419,5 +440,7 @@ module _ (d : Setting) (s : Source) (h : Declares d s) (fixed group : List Name)
       block_fine p k end_block pc ws hs site f z r c few = tt
       block_fine p k (command_then a b) pc ws hs site f z r c few =
           follow_fine (command_plain d sp p k a) (block_plain d sp p (k + wires a) b)
-          (command_fine p k a pc ws.0 hs.0 (λ n i. site n (among_left (sites.command_sites d.world sp.state sp.children a) (sites.block_sites d.world sp.state sp.children b) n i)) f.0 z.0 r.0 c.0 few.0)
-          (block_fine p (k + wires a) b pc ws.1 hs.1 (λ n i. site n (among_right (sites.command_sites d.world sp.state sp.children a) (sites.block_sites d.world sp.state sp.children b) n i)) f.1 z.1 r.1 c.1 few.1)
+          (command_fine p k a pc ws.0 hs.0 (λ n i. site n
+          (among_left (sites.command_sites d.world sp.state sp.children a) (sites.block_sites d.world sp.state sp.children b) n i)) f.0 z.0 r.0 c.0 few.0)
+          (block_fine p (k + wires a) b pc ws.1 hs.1
+          (λ n i. site n (among_right (sites.command_sites d.world sp.state sp.children a) (sites.block_sites d.world sp.state sp.children b) n i)) f.1 z.1 r.1 c.1 few.1)

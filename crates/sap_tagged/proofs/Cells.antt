@@ -100,15 +100,18 @@ module _ (d : Setting) (widths : Name → ℕ) (laws : Lawful d widths) where
       (λ k j. at_next g (tag_key m) (value_key k) i x j)
       (λ k j. at_next g (tag_key m) (tag_key k) i x j ∙ ap₂ (λ (p q : ℕ). if cell_is k m j p then q else g.next (d.name (tag_key k)) j) ei ex)
 
-  raised_first : (m n v t : ℕ) (s : Store) → raise d.world.order (λ x. nat_eq x m) t (put_number (next m n) v s) ≡ put_number (next m n) v (raise d.world.order (λ x. nat_eq x m) t s)
+  raised_first : (m n v t : ℕ) (s : Store)
+      → raise d.world.order (λ x. nat_eq x m) t (put_number (next m n) v s) ≡ put_number (next m n) v (raise d.world.order (λ x. nat_eq x m) t s)
   unfolding raise put_number
   raised_first m n v t s = refl
 
-  swapped : (m n v t : ℕ) (s : Store) → is_dynamic d.world m ≡ false → put_number (next m n) v (put_level d.world (next m n) t s) ≡ put_level d.world (next m n) t (put_number (next m n) v s)
+  swapped : (m n v t : ℕ) (s : Store) → is_dynamic d.world m ≡ false
+      → put_number (next m n) v (put_level d.world (next m n) t s) ≡ put_level d.world (next m n) t (put_number (next m n) v s)
   unfolding put_level put_number
   swapped m n v t s f = refl
 
-  pub write_effect : (f : Going → Going) (go : Name → Going → Going) (enter : ℕ → ℕ → Store → After) (q : Group) (k free : ℕ) (sp : Home) (site m : ℕ) (i e : Term ℕ) (l : ℕ) (b r : Store) (g : Going)
+  pub write_effect : (f : Going → Going) (go : Name → Going → Going) (enter : ℕ → ℕ → Store → After) (q : Group) (k free : ℕ) (sp : Home)
+      (site m : ℕ) (i e : Term ℕ) (l : ℕ) (b r : Store) (g : Going)
       → FineStep d.world q sp.children (write site m i e) → Begins d k sp (write site m i e) l b r g
       → Turns d free g (body_does widths f go (effect_of d sp k (write site m i e)) g) (effect d.world sp enter (write site m i e) l b r)
   unfolding effect put_to put_number
@@ -117,7 +120,8 @@ module _ (d : Setting) (widths : Name → ℕ) (laws : Lawful d widths) where
       let v = value d.world e b in
       let g1 = put_next d g (value_key m) (value_in widths g (expr d i)) (value_in widths g (expr d e)) in
       let s1 = put_number (next m n) v r in
-      let st1 : Stands d g1 s1 = number_next g r m n _ _ v h.stands (expr_value d widths laws g b h.reads h.starts i fine.1) (expr_value d widths laws g b h.reads h.starts e fine.2) in
+      let st1 : Stands d g1 s1 = number_next g r m n _ _ v h.stands (expr_value d widths laws g b h.reads h.starts i fine.1)
+      (expr_value d widths laws g b h.reads h.starts e fine.2) in
       elim (cases_Bool (is_dynamic d.world m)) [
         | inl t ↦
             rw t
@@ -130,7 +134,8 @@ module _ (d : Setting) (widths : Name → ℕ) (laws : Lawful d widths) where
             let quiet = quiet_tag d widths laws free m g1 z in
             turns_stay d free g g2 _ (record { kept = quiet.kept; refused = quiet.refused; levels = quiet.levels })
             (subst (λ (s : Store). Stands d g2 s) (raised_first m n v c r)
-            (stands_raise d g1 g2 s1 (λ x. nat_eq x m) c st1 (λ y. at_put d widths laws g1 (tag_key m) (value_key y) z) (λ y w. at_put d widths laws g1 (tag_key m) (tag_key y) z ∙ level_at y (nat_eq y m) refl z ez)
+            (stands_raise d g1 g2 s1 (λ x. nat_eq x m) c st1 (λ y. at_put d widths laws g1 (tag_key m) (value_key y) z)
+            (λ y w. at_put d widths laws g1 (tag_key m) (tag_key y) z ∙ level_at y (nat_eq y m) refl z ez)
             (λ y. at_put d widths laws g1 (tag_key m) (seat_key y) z) (kept_put d widths laws g1 (tag_key m) z (λ y. refl)))))
         | inr t ↦ rw t (turns_stay d free g g1 s1 (record { kept = λ j i. refl; refused = λ n. refl; levels = λ n. refl }) st1)
       ]
@@ -138,13 +143,16 @@ module _ (d : Setting) (widths : Name → ℕ) (laws : Lawful d widths) where
       level_at : (y : ℕ) (c : Bool) → nat_eq y m ≡ c → (z : ℕ)
           → z ≡ d.code (d.world.order.join (r.level (tag_slot d.world m)) (d.world.order.join l (d.world.order.join (tag d.world i b) (tag d.world e b))))
           → (if c then z else at d g (tag_key y))
-          ≡ (if c then d.code (d.world.order.join (r.level (tag_slot d.world y)) (d.world.order.join l (d.world.order.join (tag d.world i b) (tag d.world e b)))) else at d g (tag_key y))
+          ≡ (if c then d.code (d.world.order.join (r.level (tag_slot d.world y))
+          (d.world.order.join l (d.world.order.join (tag d.world i b) (tag d.world e b)))) else at d g (tag_key y))
       level_at y true p z ez =
           ez
-          ∙ ap (λ (x : ℕ). d.code (d.world.order.join (r.level (tag_slot d.world x)) (d.world.order.join l (d.world.order.join (tag d.world i b) (tag d.world e b))))) (sym (eqb-true y m p))
+          ∙ ap (λ (x : ℕ). d.code (d.world.order.join (r.level (tag_slot d.world x))
+          (d.world.order.join l (d.world.order.join (tag d.world i b) (tag d.world e b))))) (sym (eqb-true y m p))
       level_at y false p z ez = refl
 
-  pub retag_cell_effect : (f : Going → Going) (go : Name → Going → Going) (enter : ℕ → ℕ → Store → After) (q : Group) (k free : ℕ) (sp : Home) (site m : ℕ) (j : Term ℕ) (n : LevelTerm) (l : ℕ) (b r : Store) (g : Going)
+  pub retag_cell_effect : (f : Going → Going) (go : Name → Going → Going) (enter : ℕ → ℕ → Store
+      → After) (q : Group) (k free : ℕ) (sp : Home) (site m : ℕ) (j : Term ℕ) (n : LevelTerm) (l : ℕ) (b r : Store) (g : Going)
       → FineStep d.world q sp.children (retag_cell site m j n) → Begins d k sp (retag_cell site m j n) l b r g
       → Turns d free g (body_does widths f go (effect_of d sp k (retag_cell site m j n)) g) (effect d.world sp enter (retag_cell site m j n) l b r)
   unfolding effect

@@ -105,7 +105,8 @@ module _ (d : Setting) where
 
     select_ends : (p k : ℕ) (e : Term ℕ) (hangs : ℕ → Bool) (x y : Body) → Ends x → Ends y → Ends (select_of d p k e hangs x y)
     unfolding select_of
-    select_ends p k e hangs x y f g = sweep_ends d tag_key hangs (λ x. lub (var d (tag_key x)) (var d (wire_key k))) 0 (root d.world) (cases (expr d e) x y stop) (choice_ends (expr d e) x y f g)
+    select_ends p k e hangs x y f g = sweep_ends d tag_key hangs (λ x. lub (var d (tag_key x)) (var d (wire_key k))) 0 (root d.world)
+        (cases (expr d e) x y stop) (choice_ends (expr d e) x y f g)
 
     select_goes : (p k : ℕ) (e : Term ℕ) (hangs : ℕ → Bool) (x y : Body) → transfers x ≡ false → transfers y ≡ false → transfers (select_of d p k e hangs x y) ≡ false
     unfolding select_of
@@ -184,21 +185,27 @@ module _ (d : Setting) where
       | inl t ↦ rw t (decides_goes j m bs h)
       | inr t ↦
           rw t
-          (rw (decides_goes j m (drop (2 ^ m) bs) (drop_each (λ b. transfers b ≡ false) (2 ^ m) bs h), decides_goes j m (take (2 ^ m) bs) (take_each (λ b. transfers b ≡ false) (2 ^ m) bs h)) refl)
+          (rw (
+            decides_goes j m (drop (2 ^ m) bs) (drop_each (λ b. transfers b ≡ false) (2 ^ m) bs h),
+            decides_goes j m (take (2 ^ m) bs) (take_each (λ b. transfers b ≡ false) (2 ^ m) bs h),
+          ) refl)
     ]
 
     pick_ends : (p k : ℕ) (e : Term ℕ) (hangs : ℕ → Bool) (arms : Arms) (blocks : List Body) → Each Ends blocks → Ends (pick_of d p k e hangs arms blocks)
     unfolding pick_of
     pick_ends p k e hangs arms blocks h =
         let choice = decides d (k + 3) (pick_width arms) blocks in
-        sweep_ends d tag_key hangs (λ x. lub (var d (tag_key x)) (var d (wire_key k))) 0 (root d.world) (picks d (width_of d.world e) (k + 2) (pick_width arms) (k + 3) 0 arms choice)
+        sweep_ends d tag_key hangs (λ x. lub (var d (tag_key x)) (var d (wire_key k))) 0 (root d.world)
+        (picks d (width_of d.world e) (k + 2) (pick_width arms) (k + 3) 0 arms choice)
         (picks_ends (width_of d.world e) (k + 2) (pick_width arms) (k + 3) 0 arms choice (decides_ends (k + 3) (pick_width arms) blocks h))
 
-    pick_goes : (p k : ℕ) (e : Term ℕ) (hangs : ℕ → Bool) (arms : Arms) (blocks : List Body) → Each (λ b. transfers b ≡ false) blocks → transfers (pick_of d p k e hangs arms blocks) ≡ false
+    pick_goes : (p k : ℕ) (e : Term ℕ) (hangs : ℕ → Bool) (arms : Arms) (blocks : List Body) → Each (λ b. transfers b ≡ false) blocks
+        → transfers (pick_of d p k e hangs arms blocks) ≡ false
     unfolding pick_of
     pick_goes p k e hangs arms blocks h =
         let choice = decides d (k + 3) (pick_width arms) blocks in
-        sweep_goes d tag_key hangs (λ x. lub (var d (tag_key x)) (var d (wire_key k))) 0 (root d.world) (picks d (width_of d.world e) (k + 2) (pick_width arms) (k + 3) 0 arms choice)
+        sweep_goes d tag_key hangs (λ x. lub (var d (tag_key x)) (var d (wire_key k))) 0 (root d.world)
+        (picks d (width_of d.world e) (k + 2) (pick_width arms) (k + 3) 0 arms choice)
         (picks_goes (width_of d.world e) (k + 2) (pick_width arms) (k + 3) 0 arms choice (decides_goes (k + 3) (pick_width arms) blocks h))
 
     all_end : (bs : List Body) → Each Stays bs → Each Ends bs

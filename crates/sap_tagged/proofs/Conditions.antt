@@ -147,7 +147,8 @@ module _ (ls : Levels) (h : Surroundings) (w : World) (r : Resolved h.entities w
 
   step_conditions : (n : ℕ) (c : tree.SimpleCommand) → simple_faults ls.names known_as c ≡ [] → StepConditions w (step_of ls h n c)
   step_conditions n (tree.assign target e) f =
-      conditions h.entities w r e (register_width (known_as target.name)) (none_two (name_faults uses.Assigned known_as target) (expression_faults known_as e (register_width (known_as target.name))) f).1
+      conditions h.entities w r e (register_width (known_as target.name))
+      (none_two (name_faults uses.Assigned known_as target) (expression_faults known_as e (register_width (known_as target.name))) f).1
   step_conditions n (tree.write target i e) f =
       let s = none_three (name_faults uses.Indexed known_as target) (expression_faults known_as i (index_width (known_as target.name)))
       (expression_faults known_as e (cell_width (known_as target.name))) f in

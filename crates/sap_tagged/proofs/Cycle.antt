@@ -119,10 +119,12 @@ module _ (d : Named) (tag sites : ℕ) (design : Design d tag sites) where
   in_all picks of v x l h i = let m : x < n = ltb-true x n l in in_entities picks of v x h i 0 w.entities (omega arith) (omega (arith, m))
 
   pub in_value : (x : ℕ) → is_register w x ≡ true → In src.registers (value_register x)
-  in_value x r = in_front (shown_registers d tag) (tag_registers d tag ++ seat_registers d) (value_register x) (in_all (is_register w) _ (value_register x) x (register_within w x r) r (inl refl))
+  in_value x r = in_front (shown_registers d tag) (tag_registers d tag ++ seat_registers d) (value_register x)
+      (in_all (is_register w) _ (value_register x) x (register_within w x r) r (inl refl))
 
   pub in_tag : (x : ℕ) → is_register w x ≡ true → In src.registers (tag_register x)
-  in_tag x r = in_front (shown_registers d tag) (tag_registers d tag ++ seat_registers d) (tag_register x) (in_all (is_register w) _ (tag_register x) x (register_within w x r) r (inr (inl refl)))
+  in_tag x r = in_front (shown_registers d tag) (tag_registers d tag ++ seat_registers d) (tag_register x)
+      (in_all (is_register w) _ (tag_register x) x (register_within w x r) r (inr (inl refl)))
 
   pub in_own_tag : (x : ℕ) → nat_lt x n ≡ true → has_own_tag d x ≡ true → In src.registers (tag_register x)
   in_own_tag x l h =
@@ -139,7 +141,8 @@ module _ (d : Named) (tag sites : ℕ) (design : Design d tag sites) where
             (inl (ap (seat_var d) (sym (eqb-true q n e))))
         | inr e ↦
             in_front (all_entities d (λ p. nat_lt 0 (children w p)) (λ p. seat_var d p ∷ [])) (seat_var d n ∷ []) (seat_var d q)
-            (in_all (λ p. nat_lt 0 (children w p)) (λ p. seat_var d p ∷ []) (seat_var d q) q (less_of_tests q n (design.parents q h) e) (less_test_of_positive (children w q) h) (inl refl))
+            (in_all (λ p. nat_lt 0 (children w p)) (λ p. seat_var d p ∷ []) (seat_var d q) q (less_of_tests q n (design.parents q h) e)
+            (less_test_of_positive (children w q) h) (inl refl))
       ]))
 
   pub in_memory : (m : ℕ) → is_memory w m ≡ true → In src.memories (memory_of d m)
@@ -438,7 +441,8 @@ module _ (d : Named) (tag sites : ℕ) (design : Design d tag sites) where
   some_number : (t : Store) → 0 < children w n → t.child n ≡ t.child n
   some_number t h = refl
 
-  stands_for : (before : Option Valuation) (inputs : List Tagged) (t : Store) (a : After) → Cycles set (going before inputs) (final before inputs) a → RisesFrom 1 (refused_sites a.refused)
+  stands_for : (before : Option Valuation) (inputs : List Tagged) (t : Store) (a : After)
+      → Cycles set (going before inputs) (final before inputs) a → RisesFrom 1 (refused_sites a.refused)
       → 0 < children w n → StandsFor d sites (shown before inputs) (settle a.store) a.refused
   stands_for before inputs t a c rises some =
       let g = final before inputs in
@@ -467,12 +471,14 @@ module _ (d : Named) (tag sites : ℕ) (design : Design d tag sites) where
         refusals = λ k l m.
             refusals_told k a.refused (g.now.value (ports.refused_name k))
             (ap g.now.value (sym (refused_known d k (site_bound k m))) ∙ c.refused k
-            ∙ ap (refused_after k a.refused) (wire_starts before inputs (variable (key_name d (refused_key k)) 1 0) (in_front (site_wires d tag 1 sites) _ _ (refused_in d tag k 1 sites l (omega (arith, m))))));
+            ∙ ap (refused_after k a.refused) (wire_starts before inputs (variable (key_name d (refused_key k)) 1 0)
+            (in_front (site_wires d tag 1 sites) _ _ (refused_in d tag k 1 sites l (omega (arith, m))))));
         refusal_levels = λ k u l m h.
             ap g.now.value (sym (level_known d k (site_bound k m))) ∙ c.levels k ∙ levels_told d.code k u 1 a.refused _ rises h;
       }
 
-  rests_next : (before : Option Valuation) (inputs : List Tagged) (a : After) → Cycles set (going before inputs) (final before inputs) a → Rests (Some (shown before inputs)) (settle a.store)
+  rests_next : (before : Option Valuation) (inputs : List Tagged) (a : After) → Cycles set (going before inputs) (final before inputs) a
+      → Rests (Some (shown before inputs)) (settle a.store)
   rests_next before inputs a c =
       let s = a.store in
       let e = settled_slots s in
@@ -490,7 +496,8 @@ module _ (d : Named) (tag sites : ℕ) (design : Design d tag sites) where
       }
 
   module _ (serve : ListsServe) (ordered : SitesInOrder) (some : 0 < children (world d) (root (world d))) where
-    cycle_is : (inputs : List Tagged) (t : Store) → cycle d.program inputs t ≡ (let a : After = record { store = settle (body_after inputs t).store; refused = (body_after inputs t).refused } in a)
+    cycle_is : (inputs : List Tagged) (t : Store)
+        → cycle d.program inputs t ≡ (let a : After = record { store = settle (body_after inputs t).store; refused = (body_after inputs t).refused } in a)
     unfolding cycle_listed
     cycle_is inputs t = sym (serve d.program design.exact inputs t)
 

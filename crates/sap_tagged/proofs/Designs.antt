@@ -240,7 +240,8 @@ module _ (ls : Levels) (D : DesignTree) (sg : IsSound ls D) where
 
   few_sites : 1 + site_count_of D ≤ 2 ^ 64
   few_sites =
-      site_limit (site_count_of D) (within (site_count_of D) (states_commands D.states) (states_few es D.states) (leb-true (states_commands D.states) most_commands (and_right _ (nat_le (states_commands D.states) most_commands) split.1)))
+      site_limit (site_count_of D) (within (site_count_of D) (states_commands D.states) (states_few es D.states)
+      (leb-true (states_commands D.states) most_commands (and_right _ (nat_le (states_commands D.states) most_commands) split.1)))
     where
       within : (m n : ℕ) → m ≤ n → n ≤ 4096 → m ≤ 4096
       within m n h k = omega (arith, h, k)

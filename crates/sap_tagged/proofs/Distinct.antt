@@ -92,7 +92,8 @@ entities_from picks of f x (e ∷ es) =
     less : (n : ℕ) → x + 1 ≤ n → x ≤ n
     less n l = omega (arith, l)
 
-pub entities_once : (picks : ℕ → Bool) (of : ℕ → List Key) → ((x : ℕ) → Every (IndexIs x) (of x)) → ((x : ℕ) → OnceEach (of x)) → (x : ℕ) (es : List Entity) → OnceEach (for_entities picks of x es)
+pub entities_once : (picks : ℕ → Bool) (of : ℕ → List Key) → ((x : ℕ) → Every (IndexIs x) (of x)) → ((x : ℕ) → OnceEach (of x))
+    → (x : ℕ) (es : List Entity) → OnceEach (for_entities picks of x es)
 entities_once picks of f o x [] = tt
 entities_once picks of f o x (e ∷ es) =
     once_join (if picks x then of x else []) (for_entities picks of (x + 1) es) (if_once (picks x) (of x) (o x)) (entities_once picks of f o (x + 1) es)
@@ -102,7 +103,8 @@ entities_once picks of f o x (e ∷ es) =
     later : (n : ℕ) → x + 1 ≤ n → suc x ≤ n
     later n l = omega (arith, l)
 
-pub entities_all : {A : Type 0} (P : A → Type 0) (picks : ℕ → Bool) (of : ℕ → List A) → ((x : ℕ) → picks x ≡ true → Every P (of x)) → (x : ℕ) (es : List Entity) → Every P (for_entities picks of x es)
+pub entities_all : {A : Type 0} (P : A → Type 0) (picks : ℕ → Bool) (of : ℕ → List A) → ((x : ℕ) → picks x ≡ true → Every P (of x))
+    → (x : ℕ) (es : List Entity) → Every P (for_entities picks of x es)
 entities_all P picks of f x [] = tt
 entities_all P picks of f x (e ∷ es) =
     every_join P (if picks x then of x else []) (for_entities picks of (x + 1) es) (by (picks x) (f x)) (entities_all P picks of f (x + 1) es)
@@ -111,7 +113,8 @@ entities_all P picks of f x (e ∷ es) =
     by true g = g refl
     by false g = tt
 
-pub entities_named : {A : Type 0} (f : A → Name) (d : Named) (picks : ℕ → Bool) (of : ℕ → List A) (keys : ℕ → List Key) → ((x : ℕ) → map f (of x) ≡ map (key_name d) (keys x)) → (x : ℕ) (es : List Entity)
+pub entities_named : {A : Type 0} (f : A → Name) (d : Named) (picks : ℕ → Bool) (of : ℕ → List A) (keys : ℕ → List Key)
+    → ((x : ℕ) → map f (of x) ≡ map (key_name d) (keys x)) → (x : ℕ) (es : List Entity)
     → map f (for_entities picks of x es) ≡ map (key_name d) (for_entities picks keys x es)
 entities_named f d picks of keys e x [] = refl
 entities_named f d picks of keys e x (u ∷ es) =
@@ -188,9 +191,11 @@ module _ (d : Named) (tag : ℕ) where
   sites_named k zero = refl
   sites_named k (suc n) = ap (λ (ns : List Name). key_name d (refused_key k) ∷ key_name d (level_key k) ∷ ns) (sites_named (k + 1) n)
 
-  two_lists : (xs ys : List Var) (k m n : ℕ) → variable_names xs ≡ keyed (wire_keys k m) → variable_names ys ≡ keyed (wire_keys (k + m) n) → variable_names (xs ++ ys) ≡ keyed (wire_keys k (m + n))
+  two_lists : (xs ys : List Var) (k m n : ℕ) → variable_names xs ≡ keyed (wire_keys k m) → variable_names ys ≡ keyed (wire_keys (k + m) n)
+      → variable_names (xs ++ ys) ≡ keyed (wire_keys k (m + n))
   two_lists xs ys k m n e f =
-      map-append (λ (x : Var). x.name) xs ys ∙ ap₂ (λ (a b : List Name). a ++ b) e f ∙ sym (map-append (key_name d) (wire_keys k m) (wire_keys (k + m) n)) ∙ ap keyed (wires_join k m n)
+      map-append (λ (x : Var). x.name) xs ys ∙ ap₂ (λ (a b : List Name). a ++ b) e f
+      ∙ sym (map-append (key_name d) (wire_keys k m) (wire_keys (k + m) n)) ∙ ap keyed (wires_join k m n)
 
   one_more : (xs : List Var) (k n u : ℕ) → variable_names xs ≡ keyed (wire_keys (k + 1) n) → key_name d (wire_key k) ∷ variable_names xs ≡ keyed (wire_keys k (1 + n))
   one_more xs k n u e = ap (λ (ns : List Name). key_name d (wire_key k) ∷ ns) e ∙ ap (λ (i : ℕ). keyed (wire_keys k i)) (more n)
@@ -234,9 +239,11 @@ module _ (d : Named) (tag : ℕ) where
         let two : k + 2 ≡ k + 1 + 1 = omega arith in
         let three : k + 3 ≡ k + 1 + 1 + 1 = omega arith in
         let four : k + 4 ≡ k + 1 + 1 + 1 + 1 = omega arith in
-        ap (λ (ns : List Name). key_name d (wire_key k) ∷ key_name d (wire_key (k + 1)) ∷ key_name d (wire_key (k + 2)) ∷ key_name d (wire_key (k + 3)) ∷ ns) (arms_named (k + 4) arms)
+        ap (λ (ns : List Name). key_name d (wire_key k) ∷ key_name d (wire_key (k + 1)) ∷ key_name d (wire_key (k + 2))
+        ∷ key_name d (wire_key (k + 3)) ∷ ns) (arms_named (k + 4) arms)
         ∙ ap₂ (λ (i j : ℕ). key_name d (wire_key k) ∷ key_name d (wire_key (k + 1)) ∷ key_name d (wire_key i) ∷ key_name d (wire_key j) ∷ keyed (wire_keys (k + 4) n)) two three
-        ∙ ap (λ (i : ℕ). key_name d (wire_key k) ∷ key_name d (wire_key (k + 1)) ∷ key_name d (wire_key (k + 1 + 1)) ∷ key_name d (wire_key (k + 1 + 1 + 1)) ∷ keyed (wire_keys i n)) four
+        ∙ ap (λ (i : ℕ). key_name d (wire_key k) ∷ key_name d (wire_key (k + 1)) ∷ key_name d (wire_key (k + 1 + 1))
+        ∷ key_name d (wire_key (k + 1 + 1 + 1)) ∷ keyed (wire_keys i n)) four
         ∙ ap (λ (i : ℕ). keyed (wire_keys k i)) (count n)
       where
         count : (n : ℕ) → suc (suc (suc (suc n))) ≡ 4 + n
@@ -345,8 +352,10 @@ module _ (d : Named) (tag sites : ℕ) (names : NamesApart d) where
   abbrev pub all_keys : List Key
   all_keys =
       of_entities (is_input (world d)) two_keys
-      ++ ((of_entities (is_register (world d)) two_keys ++ (of_entities (has_own_tag d) tag_keys ++ (of_entities (λ p. nat_lt 0 (children (world d) p)) seat_keys ++ seat_key (root (world d)) ∷ [])))
-      ++ ((site_keys 1 sites ++ (of_entities (saved (world d)) first_keys ++ (of_entities (λ p. nat_lt 0 (children (world d) p)) inner_keys ++ wire_keys 0 (wires_group d.program.states))))
+      ++ ((of_entities (is_register (world d)) two_keys
+      ++ (of_entities (has_own_tag d) tag_keys ++ (of_entities (λ p. nat_lt 0 (children (world d) p)) seat_keys ++ seat_key (root (world d)) ∷ [])))
+      ++ ((site_keys 1 sites ++ (of_entities (saved (world d)) first_keys
+      ++ (of_entities (λ p. nat_lt 0 (children (world d) p)) inner_keys ++ wire_keys 0 (wires_group d.program.states))))
       ++ of_entities (is_memory (world d)) store_keys))
 
   -- keys of one list before those of later ones
@@ -392,7 +401,8 @@ module _ (d : Named) (tag sites : ℕ) (names : NamesApart d) where
       let r = memory_lists (entity (world d) m).kind (is_dynamic (world d) m) h in
       (r.0, if_other (is_dynamic (world d) m) r.1 refl)
     where
-      if_other : (b : Bool) → (is_dynamic (world d) m ≡ false → tag_list (entity (world d) m).kind (is_dynamic (world d) m) ≡ 9) → is_dynamic (world d) m ≡ b → Every (λ a. list_of a ≡ 9) (if b then [] else tag_key m ∷ [])
+      if_other : (b : Bool) → (is_dynamic (world d) m ≡ false → tag_list (entity (world d) m).kind (is_dynamic (world d) m) ≡ 9)
+          → is_dynamic (world d) m ≡ b → Every (λ a. list_of a ≡ 9) (if b then [] else tag_key m ∷ [])
       if_other true f e = tt
       if_other false f e = (f e, tt)
 
@@ -416,7 +426,8 @@ module _ (d : Named) (tag sites : ℕ) (names : NamesApart d) where
       let stores : Ordered 9 (of_entities (is_memory (world d)) store_keys) =
       record {
         once = entities_once (is_memory (world d)) store_keys (λ m. store_index m (is_dynamic (world d) m)) (λ m. store_once m (is_dynamic (world d) m)) 0 entities;
-        from = every_map (λ a. list_of a ≡ 9) (λ a. 9 ≤ list_of a) _ (λ a e. nine (list_of a) e) (entities_all (λ a. list_of a ≡ 9) (is_memory (world d)) store_keys store_list 0 entities);
+        from = every_map (λ a. list_of a ≡ 9) (λ a. 9 ≤ list_of a) _ (λ a e. nine (list_of a) e)
+            (entities_all (λ a. list_of a ≡ 9) (is_memory (world d)) store_keys store_list 0 entities);
       } in
       let ws : Ordered 8 (wire_keys 0 (wires_group d.program.states) ++ of_entities (is_memory (world d)) store_keys) =
       ordered_join 8 (wire_keys 0 (wires_group d.program.states)) _ (wires_once 0 (wires_group d.program.states)) (of_wires 0 (wires_group d.program.states)) stores in
@@ -433,10 +444,12 @@ module _ (d : Named) (tag sites : ℕ) (names : NamesApart d) where
       (entities_all (λ a. list_of a ≡ 2) (has_own_tag d) tag_keys (λ x h. (own_lists (entity (world d) x).kind (is_dynamic (world d) x) h, tt)) 0 entities) seats in
       let regs = ordered_join 1 (of_entities (is_register (world d)) two_keys) _
       (entities_once (is_register (world d)) two_keys (λ m. (refl, (refl, tt))) (λ m. ((refl, tt), (tt, tt))) 0 entities)
-      (entities_all (λ a. list_of a ≡ 1) (is_register (world d)) two_keys (λ x h. let r = register_lists (entity (world d) x).kind (is_dynamic (world d) x) h in (r.0, (r.1, tt))) 0 entities) ts in
+      (entities_all (λ a. list_of a ≡ 1) (is_register (world d)) two_keys (λ x h. let r =
+      register_lists (entity (world d) x).kind (is_dynamic (world d) x) h in (r.0, (r.1, tt))) 0 entities) ts in
       let ins = ordered_join 0 (of_entities (is_input (world d)) two_keys) _
       (entities_once (is_input (world d)) two_keys (λ m. (refl, (refl, tt))) (λ m. ((refl, tt), (tt, tt))) 0 entities)
-      (entities_all (λ a. list_of a ≡ 0) (is_input (world d)) two_keys (λ x h. let r = input_lists (entity (world d) x).kind (is_dynamic (world d) x) h in (r.0, (r.1, tt))) 0 entities) regs in
+      (entities_all (λ a. list_of a ≡ 0) (is_input (world d)) two_keys (λ x h. let r =
+      input_lists (entity (world d) x).kind (is_dynamic (world d) x) h in (r.0, (r.1, tt))) 0 entities) regs in
       subst OnceEach
       (regroup (of_entities (is_input (world d)) two_keys) (of_entities (is_register (world d)) two_keys) (of_entities (has_own_tag d) tag_keys)
       (of_entities (λ p. nat_lt 0 (children (world d) p)) seat_keys) (seat_key (root (world d)) ∷ []) (site_keys 1 sites) (of_entities (saved (world d)) first_keys)
@@ -452,7 +465,8 @@ module _ (d : Named) (tag sites : ℕ) (names : NamesApart d) where
           (sym (append_assoc b (c ++ (e ++ f)) ((g ++ (h ++ (i ++ j))) ++ k)
           ∙ ap (λ (z : List Key). b ++ z) (append_assoc c (e ++ f) ((g ++ (h ++ (i ++ j))) ++ k)
           ∙ ap (λ (z : List Key). c ++ z) (append_assoc e f ((g ++ (h ++ (i ++ j))) ++ k)
-          ∙ ap (λ (z : List Key). e ++ (f ++ z)) (append_assoc g (h ++ (i ++ j)) k ∙ ap (λ (z : List Key). g ++ z) (append_assoc h (i ++ j) k ∙ ap (λ (z : List Key). h ++ z) (append_assoc i j k)))))))
+          ∙ ap (λ (z : List Key). e ++ (f ++ z)) (append_assoc g (h ++ (i ++ j)) k
+          ∙ ap (λ (z : List Key). g ++ z) (append_assoc h (i ++ j) k ∙ ap (λ (z : List Key). h ++ z) (append_assoc i j k)))))))
 
   store_named : (m : ℕ) → map (λ (s : MemoryVariable). s.name) (memory_of d m ∷ tags_of d tag m) ≡ map (key_name d) (store_keys m)
   store_named m = ap (λ (ns : List Name). key_name d (value_key m) ∷ ns) (by (is_dynamic (world d) m))
@@ -480,15 +494,18 @@ module _ (d : Named) (tag sites : ℕ) (names : NamesApart d) where
       ap₂ (λ (a b : List Name). a ++ b) ins
       (ap₂ (λ (a b : List Name). a ++ b)
       (joined_names var_name (shown_registers d tag) (tag_registers d tag ++ seat_registers d) _ _ regs
-      (joined_names var_name (tag_registers d tag) (seat_registers d) _ _ ts (joined_names var_name _ (seat_var d (root (world d)) ∷ []) _ (seat_key (root (world d)) ∷ []) seats refl)))
+      (joined_names var_name (tag_registers d tag) (seat_registers d) _ _ ts
+      (joined_names var_name _ (seat_var d (root (world d)) ∷ []) _ (seat_key (root (world d)) ∷ []) seats refl)))
       (ap₂ (λ (a b : List Name). a ++ b)
       (joined_names var_name (site_wires d tag 1 sites) (first_wires d tag ++ (inner_wires d tag ++ group_wires d tag 0 d.program.states)) _ _ (sites_named d tag 1 sites)
       (joined_names var_name (first_wires d tag) (inner_wires d tag ++ group_wires d tag 0 d.program.states) _ _ fs
       (joined_names var_name (inner_wires d tag) (group_wires d tag 0 d.program.states) _ _ inners (group_named d tag 0 d.program.states))))
       ms))
       ∙ sym (map_four (of_entities (is_input (world d)) two_keys)
-      (of_entities (is_register (world d)) two_keys ++ (of_entities (has_own_tag d) tag_keys ++ (of_entities (λ p. nat_lt 0 (children (world d) p)) seat_keys ++ seat_key (root (world d)) ∷ [])))
-      (site_keys 1 sites ++ (of_entities (saved (world d)) first_keys ++ (of_entities (λ p. nat_lt 0 (children (world d) p)) inner_keys ++ wire_keys 0 (wires_group d.program.states))))
+      (of_entities (is_register (world d)) two_keys
+      ++ (of_entities (has_own_tag d) tag_keys ++ (of_entities (λ p. nat_lt 0 (children (world d) p)) seat_keys ++ seat_key (root (world d)) ∷ [])))
+      (site_keys 1 sites ++ (of_entities (saved (world d)) first_keys
+      ++ (of_entities (λ p. nat_lt 0 (children (world d) p)) inner_keys ++ wire_keys 0 (wires_group d.program.states))))
       (of_entities (is_memory (world d)) store_keys))
     where
       joined_names : {A : Type 0} (f : A → Name) (xs ys : List A) (ks ls : List Key) → map f xs ≡ nk ks → map f ys ≡ nk ls → map f (xs ++ ys) ≡ nk (ks ++ ls)

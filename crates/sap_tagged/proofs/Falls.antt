@@ -128,16 +128,19 @@ module _ (d : Setting) (widths : Name → ℕ) (laws : Lawful d widths) (names :
       let v = value_in widths g (var d (inner_key parent)) in
       let g1 = put_to d g (wire_key k) v in
       let r0 = wired d widths laws s k g v (d.code l) st pc in
-      let r = block_runs d widths laws f go q sp (placed_in d.world q n0 x parent b kids whole i node fine.0.1) goes base (run_child d.world kids x) falls b node.steps few.0.0 k (k + 1)
+      let r = block_runs d widths laws f go q sp (placed_in d.world q n0 x parent b kids whole i node fine.0.1) goes base
+      (run_child d.world kids x) falls b node.steps few.0.0 k (k + 1)
       (omega arith) (omega arith) g1 s l r0.stands r0.here in
-      rw (does_gives d widths f go g (wire_key k) (var d (inner_key parent)) (block_plain d sp k (k + 1) b)) (turns_after d k (k + 1) g g1 _ _ (omega arith) (r0.quiet k (omega arith)) r)
+      rw (does_gives d widths f go g (wire_key k) (var d (inner_key parent)) (block_plain d sp k (k + 1) b))
+      (turns_after d k (k + 1) g g1 _ _ (omega arith) (r0.quiet k (omega arith)) r)
   group_runs (and_node (state_node x b kids) rest) q n0 parent k go whole fine few part goes (suc n) g s l st pc =
       let j = k + (1 + wires_block b + wires_group kids) in
       turns_less d k j g _ _ (omega arith)
       (group_runs rest q (suc n0) parent j go whole fine.1 few.1 (λ t h. part t (or_right (nat_eq t x) (among rest t) h)) goes n g s l st pc)
 
   -- the tags that are kept
-  save : (f : Going → Going) (go : Name → Going → Going) (k : ℕ) (g : Going) (s : Store) (rest : Body) → Loose d g s → ((m : ℕ) → saved d.world m ≡ true → s.level (start_whole m) ≡ s.level (next_whole m))
+  save : (f : Going → Going) (go : Name → Going → Going) (k : ℕ) (g : Going) (s : Store) (rest : Body) → Loose d g s
+      → ((m : ℕ) → saved d.world m ≡ true → s.level (start_whole m) ≡ s.level (next_whole m))
       → (g' : Going) × (body_does widths f go (saves d rest) g ≡ body_does widths f go rest g') × Stands d g' s × Quiet d k g g'
   save f go k g s rest r begins =
       let n = root d.world in
@@ -158,7 +161,8 @@ module _ (d : Setting) (widths : Name → ℕ) (laws : Lawful d widths) (names :
           start_tags = λ m i h q. ap (λ (c : Name → ℕ → ℕ). c (d.name (tag_key m)) i) a.memory.0 ∙ r.start_tags m i h q;
           start_tag = λ m h.
               a.here m
-              ∙ ap (λ (b : Bool). if b then d.code (s.level (tag_slot d.world m)) else at d g (first_key m)) (and_from (saved d.world m) (between 0 n m) h (within_all m n (memory_within d.world m (is_kept m h).0)))
+              ∙ ap (λ (b : Bool). if b then d.code (s.level (tag_slot d.world m)) else at d g (first_key m))
+              (and_from (saved d.world m) (between 0 n m) h (within_all m n (memory_within d.world m (is_kept m h).0)))
               ∙ ap (λ (b : Bool). d.code (s.level (if b then next_whole m else own m))) (is_kept m h).0 ∙ ap d.code (sym (begins m h));
           nexts = λ m i h. ap (λ (c : Name → ℕ → ℕ). c (d.name (value_key m)) i) a.memory.1 ∙ r.nexts m i h;
           next_tags = λ m i h q. ap (λ (c : Name → ℕ → ℕ). c (d.name (tag_key m)) i) a.memory.1 ∙ r.next_tags m i h q;
@@ -203,10 +207,12 @@ module _ (d : Setting) (widths : Name → ℕ) (laws : Lawful d widths) (names :
       let r0 = wired d widths laws s k g0 v (d.code l) kept.2 (own_tag d widths laws g0 s kept.2 x (tagged d.world x me.declared m) m) in
       let up = raises_turn d widths laws f go hangs k l s g1 body r0.stands r0.here in
       let g2 = up.0 in
-      let r = block_runs d widths laws f go q sp (placed_in d.world q n0 x (root d.world) b kids whole i node fine.0.1) goes base (run_child d.world kids x) falls b node.steps few.0.0 k (k + 1)
+      let r = block_runs d widths laws f go q sp (placed_in d.world q n0 x (root d.world) b kids whole i node fine.0.1) goes base
+      (run_child d.world kids x) falls b node.steps few.0.0 k (k + 1)
       (omega arith) (omega arith) g2 _ l up.2 (up.3.wire k ∙ r0.here) in
       rw (kept.1, does_gives d widths f go g0 (wire_key k) (var d (tag_key x)) (raises d hangs k body), up.1)
       (cycles d k g g0 _ _ kept.3
       (turns_after d k (k + 1) g0 g2 _ _ (omega arith) (quiet_next d k g0 g1 g2 (r0.quiet k (omega arith)) (raised_quiet d widths laws k g1 g2 up.3)) r))
   top_runs hangs (and_node (state_node x b kids) rest) q n0 k go whole fine few part goes (suc n) g s st begins =
-      top_runs hangs rest q (suc n0) (k + (1 + wires_block b + wires_group kids)) go whole fine.1 few.1 (λ t h. part t (or_right (nat_eq t x) (among rest t) h)) goes n g s st begins
+      top_runs hangs rest q (suc n0) (k + (1 + wires_block b + wires_group kids)) go whole fine.1 few.1
+      (λ t h. part t (or_right (nat_eq t x) (among rest t) h)) goes n g s st begins

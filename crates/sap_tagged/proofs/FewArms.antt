@@ -40,8 +40,10 @@ module _ (version : Version) (ls : Levels) (h : Surroundings) where
         let j = and_parts (is_outermost version x && is_block version a) (is_else version b) i in
         (block_few k a (and_right (is_outermost version x) (is_block version a) j.0), else_few (k + length (block_sites h a)) b j.1)
     command_few k (tree.try_then c place a b) i =
-        let j = and_parts (is_second version && is_simple version c && is_block version a) (is_block version b) i in
-        (block_few (k + length (simple_sites h c)) a (and_right (is_second version && is_simple version c) (is_block version a) j.0), block_few (k + length (simple_sites h c) + length (block_sites h a)) b j.1)
+        let j = and_parts (is_second version && is_simple version c && is_block version a) (is_block version b) i in (
+          block_few (k + length (simple_sites h c)) a (and_right (is_second version && is_simple version c) (is_block version a) j.0),
+          block_few (k + length (simple_sites h c) + length (block_sites h a)) b j.1,
+        )
     command_few k (tree.case_of place x arms) i =
         let j = and_parts (is_second version && is_outermost version x && has_arm arms && nat_le (whole.arm_count arms) most_arms) (are_arms version arms) i in
         let l = leb-true (whole.arm_count arms) most_arms (and_right (is_second version && is_outermost version x && has_arm arms) (nat_le (whole.arm_count arms) most_arms) j.0) in
@@ -74,8 +76,10 @@ module _ (version : Version) (ls : Levels) (es : List Entity) where
     state_few k x (tree.state_node place name kind body children) i =
         let h : Surroundings = record { entities = es; home = record { name = name.name; kind = kind; children = children } } in
         let j = and_parts (is_name version name.name && is_kind version kind && is_block version body && nat_le (block_depth body) most_blocks) (are_states version children) i in
-        let m = and_left (is_name version name.name && is_kind version kind && is_block version body) (nat_le (block_depth body) most_blocks) j.0 in
-        (block_few version ls h k body (and_right (is_name version name.name && is_kind version kind) (is_block version body) m), group_few (k + length (block_sites h body)) (x + 1) children j.1)
+        let m = and_left (is_name version name.name && is_kind version kind && is_block version body) (nat_le (block_depth body) most_blocks) j.0 in (
+          block_few version ls h k body (and_right (is_name version name.name && is_kind version kind) (is_block version body) m),
+          group_few (k + length (block_sites h body)) (x + 1) children j.1,
+        )
 
     pub group_few : (k x : ℕ) (g : tree.StateList) → are_states version g ≡ true → FewGroup (group_of ls es k x g)
     group_few k x tree.no_state i = tt

@@ -125,7 +125,8 @@ module _ (d : Setting) (s : Source) (h : Declares d s) where
   pub yes_fine : Fine 1 yes
   yes_fine = (refl, omega arith)
 
-  mark_fine : (m : ℕ) (i : Term ℕ) → is_memory d.world m ≡ true → is_dynamic d.world m ≡ false → Fit d.world i → Indexes d.world m i → Fine d.tag (cell (d.name (tag_key m)) (expr d i))
+  mark_fine : (m : ℕ) (i : Term ℕ) → is_memory d.world m ≡ true → is_dynamic d.world m ≡ false → Fit d.world i → Indexes d.world m i
+      → Fine d.tag (cell (d.name (tag_key m)) (expr d i))
   mark_fine m i e t f x = (width_of d.world i, ranged_width d.world i f.ranged, h.marks m e t ∙ ap (λ (n : ℕ). Some (d.tag, n)) (sym x), expr_fine i f)
 
   cell_tag_fine : (m : ℕ) (i : Term ℕ) → is_memory d.world m ≡ true → Fit d.world i → Indexes d.world m i → Fine d.tag (cell_tag d m i)

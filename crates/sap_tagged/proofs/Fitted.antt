@@ -109,7 +109,8 @@ limited t i r m s d c h = (grind (arith, common_steps), grind (arith, common_ste
 pub limits : (d : DesignTree) → IsTrue (is_whole d) → (states_count d.states ≤ 256) × (states_commands d.states ≤ 4096)
 unfolding is_whole
 limits d h =
-    limited (is_tree d) (count_by is_input d.declarations) (count_by is_register d.declarations) (count_by is_memory d.declarations) (states_count d.states) (states_depth d.states) (states_commands d.states) h
+    limited (is_tree d) (count_by is_input d.declarations) (count_by is_register d.declarations) (count_by is_memory d.declarations)
+    (states_count d.states) (states_depth d.states) (states_commands d.states) h
 
 module _ (ls : Levels) (D : DesignTree) (sg : IsSound ls D) where
   levels_few : (order_of ls).count ≤ 64

@@ -67,8 +67,10 @@ module _ (nd : Named) (tag : ℕ) (s : Source) where
   mutual
     command_found : (k : ℕ) (c : Command) → AllFound s (command_wires nd tag k c) → CommandWires (setting_of nd tag) s k c
     command_found k (lone t) f = step_found k f
-    command_found k (try t hang h) f =
-        (step_found k (front_found s (step_wires nd tag k) (block_wires nd tag (k + 5) h) f), block_found (k + 5) h (behind_found s (step_wires nd tag k) (block_wires nd tag (k + 5) h) f))
+    command_found k (try t hang h) f = (
+      step_found k (front_found s (step_wires nd tag k) (block_wires nd tag (k + 5) h) f),
+      block_found (k + 5) h (behind_found s (step_wires nd tag k) (block_wires nd tag (k + 5) h) f),
+    )
     command_found k (if_else hang e a b) f = (
       f (wire nd k tag) (inl refl),
       f (wire nd (k + 1) tag) (inr (inl refl)),
@@ -113,7 +115,8 @@ group_has d no_node (state x b kids rest) h t i = absurd h
 group_has d (and_node u g) none h t i = absurd h
 group_has d (and_node (state_node s c k) g) (state x b kids rest) h t i = elim (cases_Bool (nat_eq t s)) [
   | inl e ↦
-      (let n : bytes_eq (d.state_name t) x ≡ true = ap (λ (a : ℕ). bytes_eq (d.state_name a) x) (eqb-true t s e) ∙ ap (bytes_eq (d.state_name s)) h.0 ∙ bytes_eq_same (d.state_name s) in
+      (let n : bytes_eq (d.state_name t) x ≡ true = ap (λ (a : ℕ). bytes_eq (d.state_name a) x) (eqb-true t s e)
+      ∙ ap (bytes_eq (d.state_name s)) h.0 ∙ bytes_eq_same (d.state_name s) in
       rw n refl)
   | inr e ↦ or_right (bytes_eq (d.state_name t) x) _ (group_has d g rest h.2 t (or_other (nat_eq t s) (among g t) i e))
 ]
@@ -136,7 +139,8 @@ SeatRegisters d s =
     (p : ℕ) → 0 < children d.world p
     → find {X = ℕ × ℕ} (map (λ (r : Var). (r.name, (r.width, r.start))) s.registers) (d.name (seat_key p)) ≡ Some (seat_width (children d.world p), 0)
 
-pub seat_is_fine : (d : Setting) (s : Source) → SeatRegisters d s → ((p : ℕ) → children d.world p ≤ 2 ^ seat_width (children d.world p)) → (p : ℕ) (x : Name) (g : Group) (f : Forest)
+pub seat_is_fine : (d : Setting) (s : Source) → SeatRegisters d s → ((p : ℕ) → children d.world p ≤ 2 ^ seat_width (children d.world p))
+    → (p : ℕ) (x : Name) (g : Group) (f : Forest)
     → x ≡ d.name (seat_key p) → children d.world p ≡ size g → Shaped d g f → SeatFine s x f
 seat_is_fine d s regs few p x no_node none e c h = tt
 seat_is_fine d s regs few p x no_node (state y b kids rest) e c h = absurd h
@@ -148,7 +152,8 @@ seat_is_fine d s regs few p x (and_node u g) (state y b kids rest) e c h =
     some : (m n : ℕ) → m ≡ suc n → 0 < m
     some m n e = omega (arith, e)
 
-module _ (nd : Named) (tag : ℕ) (s : Source) (fixed : List Name) (decl : Declares (setting_of nd tag) s) (assigns : Assigns (setting_of nd tag) s fixed) (states : LawfulStates (setting_of nd tag)) (regs : SeatRegisters (setting_of nd tag) s) where
+module _ (nd : Named) (tag : ℕ) (s : Source) (fixed : List Name) (decl : Declares (setting_of nd tag) s)
+    (assigns : Assigns (setting_of nd tag) s fixed) (states : LawfulStates (setting_of nd tag)) (regs : SeatRegisters (setting_of nd tag) s) where
   abbrev d : Setting
   d = setting_of nd tag
 
@@ -168,7 +173,8 @@ module _ (nd : Named) (tag : ℕ) (s : Source) (fixed : List Name) (decl : Decla
   some_among (and_node t g) x h = omega arith
 
   group_fine : (grp q : Group) (n0 parent k : ℕ) (group : List Name) → FineGroup w q 0 q → FineGroup w q n0 grp → ((t : ℕ) → among grp t ≡ true → among q t ≡ true)
-      → ((t : ℕ) → among q t ≡ true → is_among (d.state_name t) group ≡ true) → IsParent q parent → AllFound s (group_wires nd tag k grp) → ExactGroup w parent grp → SitesOf (sites.group_sites w grp)
+      → ((t : ℕ) → among q t ≡ true → is_among (d.state_name t) group ≡ true) → IsParent q parent → AllFound s (group_wires nd tag k grp)
+      → ExactGroup w parent grp → SitesOf (sites.group_sites w grp)
       → SizedGroup w grp → RangedGroup w grp → GroupConditions w grp → FewGroup grp → ForestFine s fixed group (group_plain d parent k grp)
   unfolding group_plain
   group_fine no_node q n0 parent k group whole fine part named above ws exact site z r c few = tt
@@ -190,15 +196,18 @@ module _ (nd : Named) (tag : ℕ) (s : Source) (fixed : List Name) (decl : Decla
             (block_fine d s decl fixed group assigns (has_states below) q sp placed named (λ l. some_states d kids below shape l) k (k + 1) b pc
             (block_found nd tag s (k + 1) b (λ v a. mine v (inr (in_front (block_wires nd tag (k + 1) b) (group_wires nd tag base kids) v a))))
             (body_hangs w q sp me fine.0.1 b node.steps exact.0.0)
-            (λ n a. site n (among_left (sites.block_sites w x kids b ++ sites.group_sites w kids) (sites.group_sites w rest) n (among_left (sites.block_sites w x kids b) (sites.group_sites w kids) n a)))
+            (λ n a. site n (among_left (sites.block_sites w x kids b ++ sites.group_sites w kids) (sites.group_sites w rest) n
+            (among_left (sites.block_sites w x kids b) (sites.group_sites w kids) n a)))
             node.steps z.0.0 r.0.0 c.0.0 few.0.0),
         block_ends d sp k (k + 1) b node.closes,
         seat_is_fine d s regs decl.few_children x (seat_name (d.state_name x)) kids below (states.seats x me.declared) node.count shape,
         group_fine kids kids 0 x base (group_names below) fine.0.1 fine.0.1 (λ t h. h) (group_has d kids below shape) (record { declared = me.declared; count = node.count })
             (λ v a. mine v (inr (in_behind (block_wires nd tag (k + 1) b) (group_wires nd tag base kids) v a))) exact.0.1
-            (λ n a. site n (among_left (sites.block_sites w x kids b ++ sites.group_sites w kids) (sites.group_sites w rest) n (among_right (sites.block_sites w x kids b) (sites.group_sites w kids) n a)))
+            (λ n a. site n (among_left (sites.block_sites w x kids b ++ sites.group_sites w kids) (sites.group_sites w rest) n
+            (among_right (sites.block_sites w x kids b) (sites.group_sites w kids) n a)))
             z.0.1 r.0.1 c.0.1 few.0.1,
-        group_fine rest q (suc n0) parent (k + (1 + wires_block b + wires_group kids)) group whole fine.1 (λ t h. part t (or_right (nat_eq t x) (among rest t) h)) named above (behind_found s own later ws)
+        group_fine rest q (suc n0) parent (k + (1 + wires_block b + wires_group kids)) group whole fine.1
+            (λ t h. part t (or_right (nat_eq t x) (among rest t) h)) named above (behind_found s own later ws)
             exact.1 (λ n a. site n (among_right (sites.block_sites w x kids b ++ sites.group_sites w kids) (sites.group_sites w rest) n a)) z.1 r.1 c.1 few.1,
       )
 
@@ -209,7 +218,8 @@ module _ (nd : Named) (tag : ℕ) (s : Source) (fixed : List Name) (decl : Decla
       (λ y l k e. let b = and_parts (is_memory w y) (is_dynamic w y) e in (tag, assigns.firsts y e, decl.tags y (tagged_memory w y b.0 b.1))) (λ y e. omega arith) g
 
   pub top_fine : (grp q : Group) (n0 k : ℕ) (hangs : ℕ → Bool) (group : List Name) → FineGroup w q 0 q → FineGroup w q n0 grp → ((t : ℕ) → among grp t ≡ true → among q t ≡ true)
-      → ((t : ℕ) → among q t ≡ true → is_among (d.state_name t) group ≡ true) → Hangs w hangs → AllFound s (group_wires nd tag k grp) → ExactGroup w (root w) grp → SitesOf (sites.group_sites w grp)
+      → ((t : ℕ) → among q t ≡ true → is_among (d.state_name t) group ≡ true) → Hangs w hangs → AllFound s (group_wires nd tag k grp)
+      → ExactGroup w (root w) grp → SitesOf (sites.group_sites w grp)
       → SizedGroup w grp → RangedGroup w grp → GroupConditions w grp → FewGroup grp → ForestFine s fixed group (top_plain d hangs k grp)
   unfolding top_plain
   top_fine no_node q n0 k hangs group whole fine part named hs ws exact site z r c few = tt
@@ -230,7 +240,8 @@ module _ (nd : Named) (tag : ℕ) (s : Source) (fixed : List Name) (decl : Decla
       let good = block_fine d s decl fixed group assigns (has_states below) q sp placed named (λ l. some_states d kids below shape l) k (k + 1) b pc
       (block_found nd tag s (k + 1) b (λ v a. mine v (inr (in_front (block_wires nd tag (k + 1) b) (group_wires nd tag base kids) v a))))
       (body_hangs w q sp me fine.0.1 b node.steps exact.0.0)
-      (λ n a. site n (among_left (sites.block_sites w x kids b ++ sites.group_sites w kids) (sites.group_sites w rest) n (among_left (sites.block_sites w x kids b) (sites.group_sites w kids) n a)))
+      (λ n a. site n (among_left (sites.block_sites w x kids b ++ sites.group_sites w kids) (sites.group_sites w rest) n
+      (among_left (sites.block_sites w x kids b) (sites.group_sites w kids) n a)))
       node.steps z.0.0 r.0.0 c.0.0 few.0.0 in (
         saves_fine group (has_states below) (gives d (wire_key k) (var d (tag_key x)) (raises d hangs k body))
             (wire_gives d s decl fixed group assigns (has_states below) k tag (var d (tag_key x)) (raises d hangs k body) pc (decl.tags x (placed.siblings x i).0)
@@ -240,8 +251,10 @@ module _ (nd : Named) (tag : ℕ) (s : Source) (fixed : List Name) (decl : Decla
         seat_is_fine d s regs decl.few_children x (seat_name (d.state_name x)) kids below (states.seats x me.declared) node.count shape,
         group_fine kids kids 0 x base (group_names below) fine.0.1 fine.0.1 (λ t h. h) (group_has d kids below shape) (record { declared = me.declared; count = node.count })
             (λ v a. mine v (inr (in_behind (block_wires nd tag (k + 1) b) (group_wires nd tag base kids) v a))) exact.0.1
-            (λ n a. site n (among_left (sites.block_sites w x kids b ++ sites.group_sites w kids) (sites.group_sites w rest) n (among_right (sites.block_sites w x kids b) (sites.group_sites w kids) n a)))
+            (λ n a. site n (among_left (sites.block_sites w x kids b ++ sites.group_sites w kids) (sites.group_sites w rest) n
+            (among_right (sites.block_sites w x kids b) (sites.group_sites w kids) n a)))
             z.0.1 r.0.1 c.0.1 few.0.1,
-        top_fine rest q (suc n0) (k + (1 + wires_block b + wires_group kids)) hangs group whole fine.1 (λ t h. part t (or_right (nat_eq t x) (among rest t) h)) named hs (behind_found s own later ws)
+        top_fine rest q (suc n0) (k + (1 + wires_block b + wires_group kids)) hangs group whole fine.1
+            (λ t h. part t (or_right (nat_eq t x) (among rest t) h)) named hs (behind_found s own later ws)
             exact.1 (λ n a. site n (among_right (sites.block_sites w x kids b ++ sites.group_sites w kids) (sites.group_sites w rest) n a)) z.1 r.1 c.1 few.1,
       )

@@ -54,7 +54,8 @@ module _ (d : Setting) (widths : Name → ℕ) (laws : Lawful d widths) where
   unfolding put_level put_number
   state_put g s x l z st m v e =
       let r = tag_put d widths laws g s x (s.number (own x)) l z st m v e in
-      stands_changed d (put_to d g (tag_key x) z) (put_to d g (tag_key x) z) (put_level d.world (own x) l (put_number (own x) (s.number (own x)) s)) (put_level d.world (own x) l s) r
+      stands_changed d (put_to d g (tag_key x) z) (put_to d g (tag_key x) z)
+      (put_level d.world (own x) l (put_number (own x) (s.number (own x)) s)) (put_level d.world (own x) l s) r
       (record { cell = refl; next = refl; first = λ i. refl })
       (record { starts = λ m i. refl; start_tags = λ m i. refl; start_tag = λ m. refl; nexts = λ m i. refl; next_tags = λ m i. refl })
       (λ k h. r.value k h ∙ same k (nat_eq k x) refl) (λ k h. r.tag k h) (λ p h. r.seat p h) r.seated
@@ -96,7 +97,8 @@ module _ (d : Setting) (widths : Name → ℕ) (laws : Lawful d widths) where
         )
       where
         new : (k : ℕ) → has_tag d.world k ≡ true → (b : Bool)
-            → (if b && between 0 (root d.world) k then d.code d.world.order.bottom else at d g (tag_key k)) ≡ d.code (if b then d.world.order.bottom else s.level (tag_slot d.world k))
+            → (if b && between 0 (root d.world) k then d.code d.world.order.bottom else at d g (tag_key k))
+            ≡ d.code (if b then d.world.order.bottom else s.level (tag_slot d.world k))
         new k q true = ap (λ (b : Bool). if b then d.code d.world.order.bottom else at d g (tag_key k)) (within_all k (root d.world) (tagged_within d.world k q))
         new k q false = st.tag k q
 
@@ -106,7 +108,8 @@ module _ (d : Setting) (widths : Name → ℕ) (laws : Lawful d widths) where
         → ((n : ℕ) → Quiet d n g g1) → at d g (wire_key (k + 3)) ≡ d.code l → (b : Bool)
         → Turns d free g
         (body_does widths f go (if b then gives d (tag_key target) (var d (wire_key (k + 3))) (goto (d.state_name target) stop) else goto (d.state_name target) stop) g1)
-        (stay (if b then put_level d.world (own target) l (reset d.world target (put_child parent (place d.world target) s)) else reset d.world target (put_child parent (place d.world target) s)))
+        (stay (if b then put_level d.world (own target) l (reset d.world target (put_child parent (place d.world target) s)) else reset
+        d.world target (put_child parent (place d.world target) s)))
     arrives q parent k free target l g g1 s goes i m v st quiet new true =
         let z = at d g1 (wire_key (k + 3)) in
         let g2 = put_to d g1 (tag_key target) z in

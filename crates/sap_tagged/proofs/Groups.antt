@@ -75,7 +75,8 @@ restarted_none d g picks f = record {
   next = refl;
 }
 
-restarted_next : (d : Setting) (p1 p2 picks : ℕ → Bool) (g g1 g2 : Going) → ((p : ℕ) → picks p ≡ (p1 p || p2 p)) → Restarted d p1 g g1 → Restarted d p2 g1 g2 → Restarted d picks g g2
+restarted_next : (d : Setting) (p1 p2 picks : ℕ → Bool) (g g1 g2 : Going) → ((p : ℕ) → picks p ≡ (p1 p || p2 p)) → Restarted d p1 g g1
+    → Restarted d p2 g1 g2 → Restarted d picks g g2
 restarted_next d p1 p2 picks g g1 g2 e a b = record {
   seats = λ p h.
       b.seats p h ∙ ap (λ (v : ℕ). if p2 p then 0 else v) (a.seats p h) ∙ merged (p1 p) (p2 p) (at d g (seat_key p))
@@ -126,7 +127,8 @@ module _ (d : Setting) (widths : Name → ℕ) (laws : Lawful d widths) (names :
       let a = first_child_is s y k kids g i.declared h.0 f.0.0.count h.1 in
       let b = restart_is k 0 k kids f.0.1 h.1 g1 in
       let c = restart_is q (suc n) r rest f.1 h.2 g2 in
-      restarted_next d (λ p. nat_eq p s || inside k p) (inside r) (λ p. nat_eq p s || (inside k p || inside r p)) g g2 (restart rest g2) (λ p. regrouped (nat_eq p s) (inside k p) (inside r p))
+      restarted_next d (λ p. nat_eq p s || inside k p) (inside r) (λ p. nat_eq p s || (inside k p || inside r p)) g g2 (restart rest g2)
+      (λ p. regrouped (nat_eq p s) (inside k p) (inside r p))
       (restarted_next d (λ p. nat_eq p s) (inside k) (λ p. nat_eq p s || inside k p) g g1 g2 (λ p. refl) a b) c
     where
       regrouped : (a b c : Bool) → (a || (b || c)) ≡ ((a || b) || c)
@@ -202,7 +204,8 @@ module _ (d : Setting) (widths : Name → ℕ) (laws : Lawful d widths) (names :
       let e1 : g1 ≡ put_to d g (seat_key parent) n = put_is g seat (seat_key parent) n e in
       let a = first_child_is target x r.kids kids g1 it.declared refl r.count r.shaped in
       let b = restart_is r.kids 0 r.kids kids r.fine r.shaped g2 in
-      let first : (k : Key) → at d g1 k ≡ (if same k (seat_key parent) then n else at d g k) = λ k. ap (λ (z : Going). at d z k) e1 ∙ at_put d widths laws g (seat_key parent) k n in
+      let first : (k : Key) → at d g1 k ≡ (if same k (seat_key parent) then n else at d g k) =
+      λ k. ap (λ (z : Going). at d z k) e1 ∙ at_put d widths laws g (seat_key parent) k n in
       let there : (k : Key) → ((p : ℕ) → same k (seat_key p) ≡ false) → at d g3 k ≡ at d g k =
       λ k no. b.there k no ∙ a.there k no ∙ first k ∙ ap (λ (c : Bool). if c then n else at d g k) (no parent) in (
         stands_changed d g g3 s (moved d.world parent target s) st

@@ -30,7 +30,8 @@ pub from_here : (d : Named) (x : ℕ) (e : Entity) (es : List Entity) → From d
 from_here d x e es f = let i : x + 0 ≡ x = omega arith in f 0 ∙ ap (λ (y : ℕ). entity (world d) y) i
 
 pub record GivenAt (d : Named) (u : ℕ) (s : Source) (before : Option Valuation) (x : ℕ) (es : List Entity) (ts : List Tagged) (k : ℕ) (default : Tagged) : Type 0 where
-  pub number : number_at_start s before (for_entities (is_input (world d)) (input_of d u) x es) (coded d.code ts) (key_name d (value_key (x + k))) ≡ (get_or ts (inputs_before es k) default).number
+  pub number : number_at_start s before (for_entities (is_input (world d)) (input_of d u) x es) (coded d.code ts)
+      (key_name d (value_key (x + k))) ≡ (get_or ts (inputs_before es k) default).number
   pub level : number_at_start s before (for_entities (is_input (world d)) (input_of d u) x es) (coded d.code ts) (key_name d (tag_key (x + k)))
       ≡ d.code (get_or ts (inputs_before es k) default).level
 
@@ -50,11 +51,13 @@ module _ (d : Named) (u : ℕ) (s : Source) (before : Option Valuation) (names :
   before_if q es k = if q then suc (inputs_before es k) else inputs_before es k
 
   -- past an input
-  past_value : (x y : ℕ) (es : List Entity) (t : Tagged) (ts : List Tagged) → x < n → y < n → (x ≡ y → ⊥) → starts_if true x es (t ∷ ts) (value_key y) ≡ starts (x + 1) es ts (value_key y)
+  past_value : (x y : ℕ) (es : List Entity) (t : Tagged) (ts : List Tagged) → x < n → y < n → (x ≡ y → ⊥)
+      → starts_if true x es (t ∷ ts) (value_key y) ≡ starts (x + 1) es ts (value_key y)
   past_value x y es t ts l m f =
       rw (names_apart d names (value_key x) (value_key y) ∙ ne_eqb x y f, names_apart d names (tag_key x) (value_key y)) refl
 
-  past_tag : (x y : ℕ) (es : List Entity) (t : Tagged) (ts : List Tagged) → x < n → y < n → (x ≡ y → ⊥) → starts_if true x es (t ∷ ts) (tag_key y) ≡ starts (x + 1) es ts (tag_key y)
+  past_tag : (x y : ℕ) (es : List Entity) (t : Tagged) (ts : List Tagged) → x < n → y < n → (x ≡ y → ⊥)
+      → starts_if true x es (t ∷ ts) (tag_key y) ≡ starts (x + 1) es ts (tag_key y)
   past_tag x y es t ts l m f =
       rw (names_apart d names (tag_key x) (tag_key y) ∙ ne_eqb x y f) refl
 
@@ -75,7 +78,8 @@ module _ (d : Named) (u : ℕ) (s : Source) (before : Option Valuation) (names :
       (ts : List Tagged) (k : ℕ) → From d (x + 1) es → AllFit levels (input_widths es) ts → x + 1 + length es ≤ n → k < length es
       → is_input (world d) (x + 1 + k) ≡ true → GivenAt d u s before (x + 1) es ts k default
 
-  given_if : (levels : ℕ) (x : ℕ) (e : Entity) (es : List Entity) → Later levels x es → (ts : List Tagged) (k : ℕ) (q : Bool) → kind_is_input e.kind ≡ q → is_input (world d) x ≡ kind_is_input e.kind
+  given_if : (levels : ℕ) (x : ℕ) (e : Entity) (es : List Entity) → Later levels x es → (ts : List Tagged) (k : ℕ) (q : Bool)
+      → kind_is_input e.kind ≡ q → is_input (world d) x ≡ kind_is_input e.kind
       → From d x (e ∷ es) → AllFit levels (input_widths (e ∷ es)) ts → x + length (e ∷ es) ≤ n → k < length (e ∷ es) → is_input (world d) (x + k) ≡ true
       → GivenAt d u s before x (e ∷ es) ts k default
   given_if levels x e es rest ts zero false h h' from fit l m i =

@@ -53,10 +53,12 @@ module _ (d : Named) (names : NamesApart d) where
   entities_apart x y = elim (cases_Bool (nat_lt x n)) [
     | inl i ↦ elim (cases_Bool (nat_lt y n)) [
       | inl j ↦ rw (i, j) (names.apart x y i j)
-      | inr j ↦ rw (i, j) (false_from_ne_true (bytes_eq (name d x) (numeral y)) (λ e. word_no_numeral x y i (equal_of_bytes_eq (name d x) (numeral y) e)) ∙ sym (in_and_out x y n i j))
+      | inr j ↦ rw (i, j) (false_from_ne_true (bytes_eq (name d x) (numeral y))
+          (λ e. word_no_numeral x y i (equal_of_bytes_eq (name d x) (numeral y) e)) ∙ sym (in_and_out x y n i j))
     ]
     | inr i ↦ elim (cases_Bool (nat_lt y n)) [
-      | inl j ↦ rw (i, j) (false_from_ne_true (bytes_eq (numeral x) (name d y)) (λ e. word_no_numeral y x j (sym (equal_of_bytes_eq (numeral x) (name d y) e))) ∙ sym (test_symmetric x y ∙ in_and_out y x n j i))
+      | inl j ↦ rw (i, j) (false_from_ne_true (bytes_eq (numeral x) (name d y))
+          (λ e. word_no_numeral y x j (sym (equal_of_bytes_eq (numeral x) (name d y) e))) ∙ sym (test_symmetric x y ∙ in_and_out y x n j i))
       | inr j ↦ rw (i, j) (numerals_apart x y)
     ]
   ]
@@ -83,7 +85,8 @@ module _ (d : Named) (names : NamesApart d) where
     | inr i ↦ elim (cases_Bool (nat_eq q n)) [
       | inl j ↦
           rw (i, j)
-          (false_from_ne_true (bytes_eq (entity_word d p) (48 ∷ [])) (λ e. root_word p i (sym (equal_of_bytes_eq (entity_word d p) (48 ∷ []) e))) ∙ sym (ap (nat_eq p) (eqb-true q n j) ∙ i))
+          (false_from_ne_true (bytes_eq (entity_word d p) (48 ∷ [])) (λ e. root_word p i (sym (equal_of_bytes_eq (entity_word d p) (48 ∷ []) e)))
+          ∙ sym (ap (nat_eq p) (eqb-true q n j) ∙ i))
       | inr j ↦ rw (i, j) (entities_apart p q)
     ]
   ]

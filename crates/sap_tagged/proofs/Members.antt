@@ -93,7 +93,8 @@ among_store [] m h = absurd h
 among_store (y ∷ ys) m (inl e) = subst (λ (z : MemoryVariable). is_among m.name (z.name ∷ memory_names ys) ≡ true) (sym e) (rw (bytes_eq_same m.name) refl)
 among_store (y ∷ ys) m (inr h) = elim (cases_Bool (bytes_eq m.name y.name)) [ inl t ↦ rw t refl | inr t ↦ rw t (among_store ys m h) ]
 
-pub cell_in : (before : Option Valuation) (ms : List MemoryVariable) (m : MemoryVariable) (i : ℕ) → AreDistinct (memory_names ms) → In ms m → cell_at_start before ms m.name i ≡ first_cell before m i
+pub cell_in : (before : Option Valuation) (ms : List MemoryVariable) (m : MemoryVariable) (i : ℕ) → AreDistinct (memory_names ms) → In ms m
+    → cell_at_start before ms m.name i ≡ first_cell before m i
 cell_in before [] m i d h = absurd h
 cell_in before (y ∷ ys) m i d (inl e) =
     subst (λ (z : MemoryVariable). cell_at_start before (z ∷ ys) m.name i ≡ first_cell before m i) (sym e) (rw (bytes_eq_same m.name) refl)

@@ -81,7 +81,8 @@ module _ (d : Named) (tag sites : ℕ) (design : Design d tag sites) where
   seats_named : AllByRecursion IsNamedVariable (seat_registers d)
   seats_named =
       all_append IsNamedVariable _ (seat_var d (root w) ∷ [])
-      (entities_all IsNamedVariable (λ p. nat_lt 0 (children w p)) (λ p. seat_var d p ∷ []) (root w) (λ p l h. (child_named p l (above_zero (children w p) h), tt)) 0 w.entities (omega arith))
+      (entities_all IsNamedVariable (λ p. nat_lt 0 (children w p)) (λ p. seat_var d p ∷ []) (root w)
+      (λ p l h. (child_named p l (above_zero (children w p) h), tt)) 0 w.entities (omega arith))
       (root_named, tt)
 
   pub registers_named : AllByRecursion (λ x. IsInterfaceName d sites x.name) (registers_of d tag)
@@ -97,4 +98,5 @@ module _ (d : Named) (tag sites : ℕ) (design : Design d tag sites) where
 
   pub memories_named : AllByRecursion (λ m. IsInterfaceName d sites m.name) (memories_of d tag)
   memories_named =
-      entities_all IsNamedStore (is_memory w) (λ m. memory_of d m ∷ tags_of d tag m) (root w) (λ m l h. (value_named m l (memory_holds m h), cell_tags_named m l h)) 0 w.entities (omega arith)
+      entities_all IsNamedStore (is_memory w) (λ m. memory_of d m ∷ tags_of d tag m) (root w)
+      (λ m l h. (value_named m l (memory_holds m h), cell_tags_named m l h)) 0 w.entities (omega arith)

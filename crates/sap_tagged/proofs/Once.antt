@@ -59,7 +59,8 @@ module _ (d : Setting) (apart : (a b : Key) → bytes_eq (d.name a) (d.name b) �
   of_join P (x ∷ xs) ys h k = (h.0, of_join P xs ys h.1 k)
 
   -- names of different memories
-  memory_of : (a b : ℕ) (x y : Name) → ((x ≡ d.name (value_key a)) ⊎ (x ≡ d.name (tag_key a))) → ((y ≡ d.name (value_key b)) ⊎ (y ≡ d.name (tag_key b))) → bytes_eq x y ≡ true → nat_eq a b ≡ true
+  memory_of : (a b : ℕ) (x y : Name) → ((x ≡ d.name (value_key a)) ⊎ (x ≡ d.name (tag_key a)))
+      → ((y ≡ d.name (value_key b)) ⊎ (y ≡ d.name (tag_key b))) → bytes_eq x y ≡ true → nat_eq a b ≡ true
   memory_of a b x y (inl e) (inl f) h = sym (ap₂ (λ (p q : Name). bytes_eq p q) e f ∙ apart (value_key a) (value_key b)) ∙ h
   memory_of a b x y (inl e) (inr f) h = absurd (true_is_not_false (sym (sym (ap₂ (λ (p q : Name). bytes_eq p q) e f ∙ apart (value_key a) (tag_key b)) ∙ h)))
   memory_of a b x y (inr e) (inl f) h = absurd (true_is_not_false (sym (sym (ap₂ (λ (p q : Name). bytes_eq p q) e f ∙ apart (tag_key a) (value_key b)) ∙ h)))
@@ -88,7 +89,8 @@ module _ (d : Setting) (apart : (a b : Key) → bytes_eq (d.name a) (d.name b) �
         | inr e ↦ rw e (outside x zs (rw e at a) b)
       ]
 
-  written_join : (P Q R : ℕ → Bool) → ((m : ℕ) → (P m && Q m) ≡ false) → ((m : ℕ) → P m ≡ true → R m ≡ true) → ((m : ℕ) → Q m ≡ true → R m ≡ true) → (xs ys : List Name) → Written d P xs → Written d Q ys
+  written_join : (P Q R : ℕ → Bool) → ((m : ℕ) → (P m && Q m) ≡ false) → ((m : ℕ) → P m ≡ true → R m ≡ true)
+      → ((m : ℕ) → Q m ≡ true → R m ≡ true) → (xs ys : List Name) → Written d P xs → Written d Q ys
       → Written d R (xs ++ ys)
   written_join P Q R f p q xs ys h k = record {
     once = distinct_join P Q f xs ys h.once h.all k.once k.all;
@@ -114,7 +116,8 @@ module _ (d : Setting) (apart : (a b : Key) → bytes_eq (d.name a) (d.name b) �
       | inr e ↦ rw e (sweep_writes P v h t (x + 1) m rest r g)
     ]
 
-    follow_writes : (a b : Body) (g : Going) → body_writes widths f below go (follow a b) g ≡ body_writes widths f below go a g ++ body_writes widths f below go b (body_does widths f go a g)
+    follow_writes : (a b : Body) (g : Going) → body_writes widths f below go (follow a b) g ≡ body_writes widths f below go a g
+        ++ body_writes widths f below go b (body_does widths f go a g)
     follow_writes stop b g = refl
     follow_writes (act (set x t) rest) b g = follow_writes rest b _
     follow_writes (act (put m i t) rest) b g = ap (λ (ns : List Name). m ∷ ns) (follow_writes rest b _)
@@ -167,7 +170,8 @@ module _ (d : Setting) (apart : (a b : Key) → bytes_eq (d.name a) (d.name b) �
           subst (λ (ns : List Name). Written d (step_reaching reach (fall_to_child site hang)) ns) (sym (append_none (below g1))) (falls o g1)
 
       module _ (sp : Home) where
-        attempt_writes : (p k : ℕ) (t : Step) (o : OnceStep beyond t) (hangs : ℕ → Bool) (h : Body) (P : ℕ → Bool) → ((m : ℕ) → step_reaching reach t m ≡ true → P m ≡ true) → Writes P h
+        attempt_writes : (p k : ℕ) (t : Step) (o : OnceStep beyond t) (hangs : ℕ → Bool) (h : Body) (P : ℕ → Bool)
+            → ((m : ℕ) → step_reaching reach t m ≡ true → P m ≡ true) → Writes P h
             → Writes P (attempt_of d sp p k t hangs h)
         unfolding attempt_of
         attempt_writes p k t o hangs h P more w g0 =
@@ -186,7 +190,8 @@ module _ (d : Setting) (apart : (a b : Key) → bytes_eq (d.name a) (d.name b) �
 
         -- what comes behind an accepted step's effect, which writes other memories
         attempt_then_writes : (p k : ℕ) (t : Step) (o : OnceStep beyond t) (hangs : ℕ → Bool) (x y : Body) (P Q : ℕ → Bool) → ((m : ℕ) → (step_reaching reach t m && Q m) ≡ false)
-            → ((m : ℕ) → step_reaching reach t m ≡ true → P m ≡ true) → ((m : ℕ) → Q m ≡ true → P m ≡ true) → Writes Q x → Writes P y → Writes P (attempt_then_of d sp p k t hangs x y)
+            → ((m : ℕ) → step_reaching reach t m ≡ true → P m ≡ true) → ((m : ℕ) → Q m ≡ true → P m ≡ true) → Writes Q x → Writes P y
+            → Writes P (attempt_then_of d sp p k t hangs x y)
         unfolding attempt_then_of
         attempt_then_writes p k t o hangs x y P Q apart_writes more most wx wy g0 =
             let e : Writes P (follow (effect_of d sp k t) x) =
@@ -250,8 +255,10 @@ module _ (d : Setting) (apart : (a b : Key) → bytes_eq (d.name a) (d.name b) �
         mutual
           unfolding command_plain arms_plain block_plain
 
-          command_writes : (grp : Group) (same_reach : (m : ℕ) → reach m ≡ group_reaches grp m) (p k : ℕ) (c : Command) → Once grp beyond c → Writes (reaching reach c) (command_plain d sp p k c)
-          command_writes grp e p k (lone t) o = attempt_writes p k t o (listed_alone d.world sp t) stop (reaching reach (lone t)) (λ m h. h) (λ g. written_none (reaching reach (lone t)))
+          command_writes : (grp : Group) (same_reach : (m : ℕ) → reach m ≡ group_reaches grp m) (p k : ℕ) (c : Command) → Once grp beyond c
+              → Writes (reaching reach c) (command_plain d sp p k c)
+          command_writes grp e p k (lone t) o = attempt_writes p k t o (listed_alone d.world sp t) stop (reaching reach (lone t)) (λ m h. h)
+              (λ g. written_none (reaching reach (lone t)))
           command_writes grp e p k (try t hang b) o =
               attempt_writes p k t o.0 (listed hang) (block_plain d sp (k + 2) (k + 5) b) (reaching reach (try t hang b))
               (λ m h. or_left (step_reaching reach t m) (block_reaching reach b m) h)
@@ -266,7 +273,8 @@ module _ (d : Setting) (apart : (a b : Key) → bytes_eq (d.name a) (d.name b) �
           command_writes grp e p k (try_then t hang a b) o =
               let same : reach ≡ group_reaches grp = λ i m. e m i in
               let both : ℕ → Bool = λ m. block_reaching reach a m || block_reaching reach b m in
-              attempt_then_writes p k t o.0 (listed hang) (block_plain d sp (k + 2) (k + 5) a) (block_plain d sp (k + 2) (k + 5 + wires_block a) b) (reaching reach (try_then t hang a b))
+              attempt_then_writes p k t o.0 (listed hang) (block_plain d sp (k + 2) (k + 5) a)
+              (block_plain d sp (k + 2) (k + 5 + wires_block a) b) (reaching reach (try_then t hang a b))
               (block_reaching reach a) (λ m. ap (λ (r : ℕ → Bool). step_reaching r t m && block_reaching r a m) same ∙ o.3 m)
               (λ m h. or_left (step_reaching reach t m) (both m) h)
               (λ m h. or_right (step_reaching reach t m) (both m) (or_left (block_reaching reach a m) (block_reaching reach b m) h))
@@ -287,7 +295,8 @@ module _ (d : Setting) (apart : (a b : Key) → bytes_eq (d.name a) (d.name b) �
                 (arms_plain d sp p (k + wires_block b) arms) (arms_write_once grp e p (k + wires_block b) arms o.1),
           )
 
-          block_writes_once : (grp : Group) (same_reach : (m : ℕ) → reach m ≡ group_reaches grp m) (p k : ℕ) (b : Block) → OnceBlock grp beyond b → Writes (block_reaching reach b) (block_plain d sp p k b)
+          block_writes_once : (grp : Group) (same_reach : (m : ℕ) → reach m ≡ group_reaches grp m) (p k : ℕ) (b : Block)
+              → OnceBlock grp beyond b → Writes (block_reaching reach b) (block_plain d sp p k b)
           block_writes_once grp e p k end_block o g = written_none (block_reaching reach end_block)
           block_writes_once grp e p k (command_then c cs) o g =
               let a = command_plain d sp p k c in
@@ -309,9 +318,15 @@ module _ (d : Setting) (apart : (a b : Key) → bytes_eq (d.name a) (d.name b) �
       let forest = group_plain d x base kids in
       let seat = seat_name (d.state_name x) in
       let below : Going → List Name = λ h. child_writes widths (enter seat forest) forest (h.now.value seat) h in
-      written_more (block_reaching (group_reaches kids) b) (group_reaches (and_node (state_node x b kids) rest)) (λ m h. or_left (block_reaching (group_reaches kids) b m) (group_reaches rest m) h) _
+      written_more (block_reaching (group_reaches kids) b) (group_reaches (and_node (state_node x b kids) rest))
+      (λ m h. or_left (block_reaching (group_reaches kids) b m) (group_reaches rest m) h) _
       (block_writes_once widths (falls_of widths seat forest) below go (group_reaches kids) (OnceGroup kids)
-      (λ o h. group_writes widths kids x base (enter seat forest) o (h.now.value seat) h) (record { state = x; parent = parent; children = kids }) kids (λ m. refl) k (k + 1) b once.0 _)
+      (λ o h. group_writes widths kids x base (enter seat forest) o (h.now.value seat) h) (record {
+        state = x;
+        parent = parent;
+        children =
+            kids;
+      }) kids (λ m. refl) k (k + 1) b once.0 _)
   group_writes widths (and_node (state_node x b kids) rest) parent k go once (suc n) g =
       written_more (group_reaches rest) (group_reaches (and_node (state_node x b kids) rest)) (λ m h. or_right (block_reaching (group_reaches kids) b m) (group_reaches rest m) h) _
       (group_writes widths rest parent (k + (1 + wires_block b + wires_group kids)) go once.1 n g)
@@ -334,7 +349,8 @@ module _ (d : Setting) (apart : (a b : Key) → bytes_eq (d.name a) (d.name b) �
       let raised : (g : Going) → Written d P (body_writes widths f below go (raises d hangs k body) g) =
       sweep_writes widths f below go P tag_key hangs (λ x. lub (var d (tag_key x)) (var d (wire_key k))) 0 (root d.world) body own in
       written_more P (group_reaches (and_node (state_node x b kids) rest)) (λ m h. or_left (P m) (group_reaches rest m) h) _
-      (sweep_writes widths f below go P first_key (saved d.world) (λ m. var d (tag_key m)) 0 (root d.world) (gives d (wire_key k) (var d (tag_key x)) (raises d hangs k body)) (λ g. raised _) g)
+      (sweep_writes widths f below go P first_key (saved d.world) (λ m. var d (tag_key m)) 0 (root d.world)
+      (gives d (wire_key k) (var d (tag_key x)) (raises d hangs k body)) (λ g. raised _) g)
   top_writes widths hangs (and_node (state_node x b kids) rest) k go once (suc n) g =
       written_more (group_reaches rest) (group_reaches (and_node (state_node x b kids) rest)) (λ m h. or_right (block_reaching (group_reaches kids) b m) (group_reaches rest m) h) _
       (top_writes widths hangs rest (k + (1 + wires_block b + wires_group kids)) go once.1 n g)

@@ -145,7 +145,8 @@ module _ (d : Named) (tag sites : ℕ) (design : Design d tag sites) (fit : Fitt
   in_tag_register x h i = elim (cases_Bool (is_register w x)) [
     | inl e ↦ in_tag d tag sites design x e
     | inr e ↦
-        in_own_tag d tag sites design x (tagged_within w x h) (own_kind (entity w x).kind (is_dynamic w x) (and_parts (nat_lt x (root w)) (not (is_memory w x) || is_dynamic w x) h).1 i e)
+        in_own_tag d tag sites design x (tagged_within w x h)
+        (own_kind (entity w x).kind (is_dynamic w x) (and_parts (nat_lt x (root w)) (not (is_memory w x) || is_dynamic w x) h).1 i e)
   ]
 
   abbrev first_wire : ℕ → Var
@@ -221,7 +222,8 @@ module _ (d : Named) (tag sites : ℕ) (design : Design d tag sites) (fit : Fitt
 
   no_seat : (a : Key) (q : ℕ) (n : Name) → (sort a ≡ 2 → ⊥) → n ≡ key_name d (seat_key q) → bytes_eq (key_name d a) n ≡ false
   no_seat a q n f e =
-      ap (bytes_eq (key_name d a)) e ∙ names_apart d design.names a (seat_key q) ∙ false_from_ne_true (same a (seat_key q)) (λ s. f (eqb-true (sort a) 2 (and_parts (nat_eq (sort a) 2) (nat_eq (index a) q) s).0))
+      ap (bytes_eq (key_name d a)) e ∙ names_apart d design.names a (seat_key q)
+      ∙ false_from_ne_true (same a (seat_key q)) (λ s. f (eqb-true (sort a) 2 (and_parts (nat_eq (sort a) 2) (nat_eq (index a) q) s).0))
 
   none_of : (n : Name) (xs : List Name) → AllByRecursion (λ (x : Name). bytes_eq n (seat_name x) ≡ false) xs → is_among n (map seat_name xs) ≡ false
   none_of n [] h = refl
@@ -254,10 +256,12 @@ module _ (d : Named) (tag sites : ℕ) (design : Design d tag sites) (fit : Fitt
         declares = guarded d tag sites design fit;
         not_gates = all_names d tag sites design fit (λ (x : Name). is_gate x ≡ false) (key_no_gate d design.names);
         some_state = some_states set g forest shape l;
-        states_named = all_states set (λ (x : Name). is_name One x ≡ true) g forest shape (λ t i. let l = (inside_state w g 0 g f.states t i).declared in ap (is_name One) (ap (λ (b : Bool). if b then name d t else numeral t) l) ∙ design.names.named t l);
+        states_named = all_states set (λ (x : Name). is_name One x ≡ true) g forest shape (λ t i. let l =
+            (inside_state w g 0 g f.states t i).declared in ap (is_name One) (ap (λ (b : Bool). if b then name d t else numeral t) l) ∙ design.names.named t l);
         states_differ = states_once set states g 0 g forest f.states shape;
         root = seat_is_fine set src seat_registers declares.few_children (root w) ports.root_seat g forest states.root_seat f.count shape;
         states_fine =
-            top_fine d tag src (seats p) declares assigns states seat_registers g g 0 0 (listed d.program.hang) (group_names forest) f.states f.states (λ t h. h) (group_has set g forest shape)
+            top_fine d tag src (seats p) declares assigns states seat_registers g g 0 0 (listed d.program.hang) (group_names forest)
+            f.states f.states (λ t h. h) (group_has set g forest shape)
             (root_hangs w g d.program.hang f.states design.exact.hang) own_found design.exact.lists site_found fit.sized.states fit.ranged.states fit.conditions design.few_arms;
       }

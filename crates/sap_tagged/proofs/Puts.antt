@@ -52,7 +52,8 @@ module _ (d : Setting) (widths : Name → ℕ) (f : Going → Going) (go : Name 
   abbrev pub does : Body → Going → Going
   does b g = body_does widths f go b g
 
-  pub does_gives : (g : Going) (a : Key) (t : Term Name) (rest : Body) → body_does widths f go (gives d a t rest) g ≡ body_does widths f go rest (put_to d g a (value_in widths g t))
+  pub does_gives : (g : Going) (a : Key) (t : Term Name) (rest : Body)
+      → body_does widths f go (gives d a t rest) g ≡ body_does widths f go rest (put_to d g a (value_in widths g t))
   unfolding put_to
   does_gives g a t rest = refl
 
@@ -69,7 +70,8 @@ abbrev pub swept : Setting → (widths : Name → ℕ) → (key : ℕ → Key) �
 swept d widths v h t x zero g = g
 swept d widths v h t x (suc m) g = swept d widths v h t (x + 1) m (if h x then put_to d g (v x) (value_in widths g (t x)) else g)
 
-pub does_sweep : (d : Setting) (widths : Name → ℕ) (f : Going → Going) (go : Name → Going → Going) (v : ℕ → Key) (h : ℕ → Bool) (t : ℕ → Term Name) (x m : ℕ) (rest : Body) (g : Going)
+pub does_sweep : (d : Setting) (widths : Name → ℕ) (f : Going → Going) (go : Name → Going → Going) (v : ℕ → Key) (h : ℕ → Bool) (t : ℕ
+    → Term Name) (x m : ℕ) (rest : Body) (g : Going)
     → body_does widths f go (sweep d v h t x m rest) g ≡ body_does widths f go rest (swept d widths v h t x m g)
 does_sweep d widths f go v h t x zero rest g = refl
 does_sweep d widths f go v h t x (suc m) rest g = elim (cases_Bool (h x)) [
@@ -101,7 +103,8 @@ outside_all x y = grind (arith, common_steps)
 pub within_all : (y n : ℕ) → nat_lt y n ≡ true → between 0 n y ≡ true
 within_all y n h = grind (arith, common_steps)
 
-module _ (d : Setting) (widths : Name → ℕ) (laws : Lawful d widths) (v : ℕ → Key) (one : (y x : ℕ) → same (v y) (v x) ≡ nat_eq y x) (h : ℕ → Bool) (t : ℕ → Term Name) (F : ℕ → ℕ → ℕ)
+module _ (d : Setting) (widths : Name → ℕ) (laws : Lawful d widths) (v : ℕ → Key) (one : (y x : ℕ) → same (v y) (v x) ≡ nat_eq y x) (h : ℕ
+    → Bool) (t : ℕ → Term Name) (F : ℕ → ℕ → ℕ)
     (Keeps : Going → Type 0) (keep : (y z : ℕ) (g : Going) → Keeps g → Keeps (put_to d g (v y) z))
     (gives_it : (y : ℕ) (g : Going) → Keeps g → h y ≡ true → value_in widths g (t y) ≡ F y (at d g (v y))) where
   swept_step : (x m : ℕ) (g g1 g' : Going) (b : Bool) → h x ≡ b → g1 ≡ (if b then put_to d g (v x) (value_in widths g (t x)) else g)

@@ -135,13 +135,27 @@ module _ (d : Named) (tag sites : ℕ) (design : Design d tag sites) (fit : Fitt
     command_vars : (k : ℕ) (c : Command) → Ranged w c → Every IsPlainVar (command_wires d tag k c)
     command_vars k (lone t) r = step_vars k
     command_vars k (try t hang h) r = every_join IsPlainVar (step_wires d tag k) (block_wires d tag (k + 5) h) (step_vars k) (block_vars (k + 5) h r.1)
-    command_vars k (if_else hang e a b) r =
-        (tag_wire k, (tag_wire (k + 1), every_join IsPlainVar (block_wires d tag (k + 2) a) (block_wires d tag (k + 2 + wires_block a) b) (block_vars (k + 2) a r.1) (block_vars (k + 2 + wires_block a) b r.2)))
+    command_vars k (if_else hang e a b) r = (
+      tag_wire k,
+      (
+        tag_wire (k + 1),
+        every_join IsPlainVar (block_wires d tag (k + 2) a) (block_wires d tag (k + 2 + wires_block a) b)
+            (block_vars (k + 2) a r.1) (block_vars (k + 2 + wires_block a) b r.2),
+      ),
+    )
     command_vars k (try_then t hang a b) r =
         every_join IsPlainVar (step_wires d tag k) (block_wires d tag (k + 5) a ++ block_wires d tag (k + 5 + wires_block a) b) (step_vars k)
         (every_join IsPlainVar (block_wires d tag (k + 5) a) (block_wires d tag (k + 5 + wires_block a) b) (block_vars (k + 5) a r.1) (block_vars (k + 5 + wires_block a) b r.2))
-    command_vars k (case_of hang e arms) r =
-        (tag_wire k, (tag_wire (k + 1), ((ranged_width w e r.0, refl), (((seat_positive (suc (arm_count arms)), seat_within (suc (arm_count arms))), refl), arms_vars (k + 4) arms r.1))))
+    command_vars k (case_of hang e arms) r = (
+      tag_wire k,
+      (
+        tag_wire (k + 1),
+        (
+          (ranged_width w e r.0, refl),
+          (((seat_positive (suc (arm_count arms)), seat_within (suc (arm_count arms))), refl), arms_vars (k + 4) arms r.1),
+        ),
+      ),
+    )
 
     arms_vars : (k : ℕ) (arms : Arms) → RangedArms w arms → Every IsPlainVar (arms_wires d tag k arms)
     arms_vars k (last_arm b) r = block_vars k b r
@@ -150,12 +164,16 @@ module _ (d : Named) (tag sites : ℕ) (design : Design d tag sites) (fit : Fitt
 
     block_vars : (k : ℕ) (b : Block) → RangedBlock w b → Every IsPlainVar (block_wires d tag k b)
     block_vars k end_block r = tt
-    block_vars k (command_then c cs) r = every_join IsPlainVar (command_wires d tag k c) (block_wires d tag (k + wires c) cs) (command_vars k c r.0) (block_vars (k + wires c) cs r.1)
+    block_vars k (command_then c cs) r = every_join IsPlainVar (command_wires d tag k c) (block_wires d tag (k + wires c) cs)
+        (command_vars k c r.0) (block_vars (k + wires c) cs r.1)
 
   mutual
     state_vars : (k : ℕ) (t : State) → RangedState w t → Every IsPlainVar (state_wires d tag k t)
-    state_vars k (state_node s b g) r =
-        (tag_wire k, every_join IsPlainVar (block_wires d tag (k + 1) b) (group_wires d tag (k + 1 + wires_block b) g) (block_vars (k + 1) b r.0) (group_vars (k + 1 + wires_block b) g r.1))
+    state_vars k (state_node s b g) r = (
+      tag_wire k,
+      every_join IsPlainVar (block_wires d tag (k + 1) b) (group_wires d tag (k + 1 + wires_block b) g)
+          (block_vars (k + 1) b r.0) (group_vars (k + 1 + wires_block b) g r.1),
+    )
 
     group_vars : (k : ℕ) (g : Group) → RangedGroup w g → Every IsPlainVar (group_wires d tag k g)
     group_vars k program.no_node r = tt
@@ -174,7 +192,8 @@ module _ (d : Named) (tag sites : ℕ) (design : Design d tag sites) (fit : Fitt
       (every_join IsPlainVar (first_wires d tag) (inner_wires d tag ++ group_wires d tag 0 d.program.states)
       (each IsPlainVar (saved w) (λ m. variable (key_name d (first_key m)) tag 0 ∷ []) (λ x h. ((fit.wide, refl), tt)))
       (every_join IsPlainVar (inner_wires d tag) (group_wires d tag 0 d.program.states)
-      (each IsPlainVar (λ q. nat_lt 0 (children w q)) (λ q. variable (key_name d (inner_key q)) tag 0 ∷ []) (λ x h. ((fit.wide, refl), tt))) (group_vars 0 d.program.states fit.ranged.states))))
+      (each IsPlainVar (λ q. nat_lt 0 (children w q)) (λ q. variable (key_name d (inner_key q)) tag 0 ∷ []) (λ x h. ((fit.wide, refl), tt)))
+      (group_vars 0 d.program.states fit.ranged.states))))
 
   memories_fine : AllByRecursion IsStore src.memories
   memories_fine =
@@ -185,7 +204,8 @@ module _ (d : Named) (tag sites : ℕ) (design : Design d tag sites) (fit : Fitt
         by m h (is_dynamic w m),
       )))
     where
-      by : (m : ℕ) → is_memory w m ≡ true → (b : Bool) → Every IsStore (if b then [] else record { name = key_name d (tag_key m); width = tag; depth = depth d m; start = level_at_start d m } ∷ [])
+      by : (m : ℕ) → is_memory w m ≡ true → (b : Bool)
+          → Every IsStore (if b then [] else record { name = key_name d (tag_key m); width = tag; depth = depth d m; start = level_at_start d m } ∷ [])
       by m h true = tt
       by m h false = ((fit.wide, fit.ranged.depths m h, design.small _), tt)
 
@@ -200,7 +220,8 @@ module _ (d : Named) (tag sites : ℕ) (design : Design d tag sites) (fit : Fitt
       let all = variable_names src.registers ++ variable_names src.wires in
       all_append (λ (x : Name). is_among x all ≡ true) (variable_names (shown_registers d tag)) (variable_names (site_wires d tag 1 sites))
       (among_each all (shown_registers d tag)
-      (λ v i. among_front v.name (variable_names src.registers) (variable_names src.wires) (among_in src.registers v (in_front (shown_registers d tag) (tag_registers d tag ++ seat_registers d) v i))))
+      (λ v i. among_front v.name (variable_names src.registers) (variable_names src.wires)
+      (among_in src.registers v (in_front (shown_registers d tag) (tag_registers d tag ++ seat_registers d) v i))))
       (among_each all (site_wires d tag 1 sites)
       (λ v i.
       among_behind v.name (variable_names src.registers) (variable_names src.wires)
@@ -218,7 +239,9 @@ module _ (d : Named) (tag sites : ℕ) (design : Design d tag sites) (fit : Fitt
 
   ports_keys : src.ports ≡ map (key_name d) port_keys
   ports_keys =
-      ap₂ (λ (a b : List Name). a ++ b) (entities_named {A = Var} (λ x. x.name) d (is_register w) (λ x. value_var d x (entity w x).initial ∷ tag_var d tag x (level_at_start d x) ∷ []) (λ x. value_key x ∷ tag_key x ∷ []) (λ x. refl) 0 w.entities) (sites_named d tag 1 sites)
+      ap₂ (λ (a b : List Name). a ++ b) (entities_named {A =
+      Var} (λ x. x.name) d (is_register w) (λ x. value_var d x (entity w x).initial ∷ tag_var d tag x (level_at_start d x) ∷ [])
+      (λ x. value_key x ∷ tag_key x ∷ []) (λ x. refl) 0 w.entities) (sites_named d tag 1 sites)
       ∙ sym (map-append (key_name d) (of_all (is_register w) (λ x. value_key x ∷ tag_key x ∷ [])) (site_keys 1 sites))
 
   ports_once : AreDistinct src.ports

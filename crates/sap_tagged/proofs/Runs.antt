@@ -62,7 +62,8 @@ module _ (d : Setting) (widths : Name → ℕ) (laws : Lawful d widths) (f : Goi
         seat = λ y. at_put d widths laws g1 (level_key n) (seat_key y) x ∙ at_put d widths laws g (refused_key n) (seat_key y) 1;
         memory = kept_next d g g1 g2 (kept_put d widths laws g (refused_key n) 1 (λ m. refl)) (kept_put d widths laws g1 (level_key n) x (λ m. refl));
       } in
-      let wire : (j : ℕ) → at d g2 (wire_key j) ≡ at d g (wire_key j) = λ j. at_put d widths laws g1 (level_key n) (wire_key j) x ∙ at_put d widths laws g (refused_key n) (wire_key j) 1 in
+      let wire : (j : ℕ) → at d g2 (wire_key j) ≡ at d g (wire_key j) = λ j. at_put d widths laws g1 (level_key n) (wire_key j) x
+      ∙ at_put d widths laws g (refused_key n) (wire_key j) 1 in
       let q = runs g2 r l (stands_aside d g g2 r st aside) (wire (k + 2) ∙ e) in
       record {
         stands = q.stands;
@@ -70,7 +71,8 @@ module _ (d : Setting) (widths : Name → ℕ) (laws : Lawful d widths) (f : Goi
         refused = λ j.
             q.refused j
             ∙ ap (refused_after j (m l r).refused)
-            (at_put d widths laws g1 (level_key n) (refused_key j) x ∙ at_put d widths laws g (refused_key n) (refused_key j) 1 ∙ ap (λ (b : Bool). if b then 1 else at d g (refused_key j)) (test_symmetric j n));
+            (at_put d widths laws g1 (level_key n) (refused_key j) x ∙ at_put d widths laws g (refused_key n) (refused_key j) 1
+            ∙ ap (λ (b : Bool). if b then 1 else at d g (refused_key j)) (test_symmetric j n));
         levels = λ j.
             q.levels j
             ∙ ap (level_after d.code j (m l r).refused)
@@ -79,7 +81,8 @@ module _ (d : Setting) (widths : Name → ℕ) (laws : Lawful d widths) (f : Goi
             ∙ ap (λ (b : Bool). if b then d.code l else at d g (level_key j)) (test_symmetric j n));
       }
 
-  module _ (q : Group) (sp : Home) (placed : Placed d.world q sp) (goes : GoesRun d go sp.parent q) (base : ℕ) (enter : ℕ → ℕ → Store → After) (falls : FallsRun d f base sp.state enter) where
+  module _ (q : Group) (sp : Home) (placed : Placed d.world q sp) (goes : GoesRun d go sp.parent q) (base : ℕ) (enter : ℕ → ℕ → Store
+      → After) (falls : FallsRun d f base sp.state enter) where
     effect_turns : (k free : ℕ) (t : Step) (l : ℕ) (b r : Store) (g : Going) → free ≤ base → FineStep d.world q sp.children t → Begins d k sp t l b r g
         → Turns d free g (body_does widths f go (effect_of d sp k t) g) (effect d.world sp enter t l b r)
     effect_turns k free (assign site x e) l b r g fb fine h = set_effect d widths laws f go enter q k free sp site x e l b r g fine h

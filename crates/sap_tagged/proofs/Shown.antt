@@ -46,7 +46,8 @@ module _ (d : Named) (tag sites : ℕ) (design : Design d tag sites) where
   pair_at k x = (value_name (name d x), k) ∷ (tag_name (name d x), k) ∷ []
 
   -- two variables of each entity as ports of a kind
-  pairs_shown : (k : PortKind) (picks : ℕ → Bool) (of : ℕ → List Var) → ((x : ℕ) → picks x ≡ true → map {B = Shown} (λ (v : Var). (v.name, k)) (of x) ≡ pair_at k x) → (x : ℕ) (es : List Entity)
+  pairs_shown : (k : PortKind) (picks : ℕ → Bool) (of : ℕ → List Var)
+      → ((x : ℕ) → picks x ≡ true → map {B = Shown} (λ (v : Var). (v.name, k)) (of x) ≡ pair_at k x) → (x : ℕ) (es : List Entity)
       → map {B = Shown} (λ (v : Var). (v.name, k)) (for_entities picks of x es) ≡ pairs_of picks k d x es
   pairs_shown k picks of f x [] = refl
   pairs_shown k picks of f x (e ∷ es) =
@@ -74,7 +75,8 @@ module _ (d : Named) (tag sites : ℕ) (design : Design d tag sites) where
   sites_shown k zero l = refl
   sites_shown k (suc m) l =
       let b = site_bound d tag sites design k (few_more k m l) in
-      ap₂ (λ (x y : Name). let r : List Shown = (x, kind.Wire) ∷ (y, kind.Wire) ∷ map {B = Shown} (λ (v : Var). (v.name, kind.Wire)) (site_wires d tag (k + 1) m) in r) (refused_known d k b) (level_known d k b)
+      ap₂ (λ (x y : Name). let r : List Shown =
+      (x, kind.Wire) ∷ (y, kind.Wire) ∷ map {B = Shown} (λ (v : Var). (v.name, kind.Wire)) (site_wires d tag (k + 1) m) in r) (refused_known d k b) (level_known d k b)
       ∙ ap (λ (zs : List Shown). let r : List Shown = (refused_name k, kind.Wire) ∷ (refused_level_name k, kind.Wire) ∷ zs in r) (sites_shown (k + 1) m (omega (arith, l)))
 
   -- the kind that each of some ports shows
@@ -95,7 +97,8 @@ module _ (d : Named) (tag sites : ℕ) (design : Design d tag sites) where
       among_in p.wires v (in_front (site_wires d tag 1 sites) (first_wires d tag ++ (inner_wires d tag ++ group_wires d tag 0 d.program.states)) v i) in
       let stores = map (λ (s : MemoryVariable). s.name) p.memories in
       let f : is_among v.name (variable_names p.registers) ≡ false =
-      apart_lists (variable_names p.registers) (variable_names p.wires ++ stores) (behind_inputs d tag sites design) v.name (among_front v.name (variable_names p.wires) stores m) in
+      apart_lists (variable_names p.registers) (variable_names p.wires ++ stores) (behind_inputs d tag sites design) v.name
+      (among_front v.name (variable_names p.wires) stores m) in
       rw f refl
 
   ports_shown : shown p ≡ ports_of d sites
@@ -104,11 +107,13 @@ module _ (d : Named) (tag sites : ℕ) (design : Design d tag sites) where
       let register_ports = pairs_of (is_register w) kind.Register d 0 w.entities in
       let registers = shown_registers d tag in
       let wires = site_wires d tag 1 sites in
-      ap₂ (λ (a b : List Shown). a ++ b) (pairs_shown kind.Input (is_input w) (λ x. value_var d x 0 ∷ tag_var d tag x 0 ∷ []) (λ x h. pair_named kind.Input x (input_within x h)) 0 w.entities)
+      ap₂ (λ (a b : List Shown). a ++ b) (pairs_shown kind.Input (is_input w) (λ x. value_var d x 0 ∷ tag_var d tag x 0 ∷ [])
+      (λ x h. pair_named kind.Input x (input_within x h)) 0 w.entities)
       (map-append (λ (x : Name). (x, shows p x)) (variable_names registers) (variable_names wires)
       ∙ ap₂ (λ (a b : List Shown). a ++ b)
       (shows_each kind.Register registers shows_register
-      ∙ pairs_shown kind.Register (is_register w) (λ x. value_var d x (entity w x).initial ∷ tag_var d tag x (level_at_start d x) ∷ []) (λ x h. pair_named kind.Register x (register_within w x h)) 0 w.entities)
+      ∙ pairs_shown kind.Register (is_register w) (λ x. value_var d x (entity w x).initial ∷ tag_var d tag x (level_at_start d x) ∷ [])
+      (λ x h. pair_named kind.Register x (register_within w x h)) 0 w.entities)
       (shows_each kind.Wire wires shows_wire ∙ sites_shown 1 sites (omega arith)))
       ∙ sym (shown_associates input_ports register_ports (site_ports 1 sites))
 

@@ -59,7 +59,8 @@ module _ (d : Setting) (widths : Name → ℕ) (laws : Lawful d widths) (g : Goi
   has_child : (q : Group) (sp : Home) → Placed d.world q sp → 0 < children d.world sp.state → child sp.state s < size sp.children
   has_child q sp placed some = subst (λ (k : ℕ). child sp.state s < k) placed.seated (stands.seated sp.state some)
 
-  pub guard_value : (q : Group) (sp : Home) (k : Step) → Placed d.world q sp → FineStep d.world q sp.children k → value_in widths g (guard_of d sp k) ≡ d.code (guard d.world sp k s)
+  pub guard_value : (q : Group) (sp : Home) (k : Step) → Placed d.world q sp → FineStep d.world q sp.children k
+      → value_in widths g (guard_of d sp k) ≡ d.code (guard d.world sp k s)
   guard_value q sp (assign site x e) placed f = elim (cases_Bool (is_dynamic d.world x)) [
     | inl t ↦ rw t refl
     | inr t ↦ rw t (register_tag x f.0)

@@ -43,7 +43,8 @@ module _ (d : Setting) (widths : Name → ℕ) (laws : Lawful d widths) where
   expr_width (join a b) f = ap₂ (λ (m n : ℕ). m + n) (expr_width a f.0) (expr_width b f.1)
   expr_width (part a hi lo) f = refl
 
-  module _ (g : Going) (s : Store) (reads : (x : ℕ) → is_value d.world x ≡ true → at d g (value_key x) ≡ number (own x) s) (starts : (m i : ℕ) → is_memory d.world m ≡ true → g.now.cell (d.name (value_key m)) i ≡ number (start m i) s) where
+  module _ (g : Going) (s : Store) (reads : (x : ℕ) → is_value d.world x ≡ true → at d g (value_key x) ≡ number (own x) s)
+      (starts : (m i : ℕ) → is_memory d.world m ≡ true → g.now.cell (d.name (value_key m)) i ≡ number (start m i) s) where
     -- an expression's number depends on no tag
     pub expr_value : (e : Term ℕ) → FineTerm d.world e → value_in widths g (expr d e) ≡ value d.world e s
     expr_value (constant u n) f = refl
@@ -65,7 +66,8 @@ module _ (d : Setting) (widths : Name → ℕ) (laws : Lawful d widths) where
     pub lub_value : (a b : Term Name) (x y : ℕ) → value_in widths g a ≡ d.code x → value_in widths g b ≡ d.code y → value_in widths g (lub a b) ≡ d.code (d.world.order.join x y)
     lub_value a b x y i j = ap₂ (λ (m n : ℕ). bit_or m n) i j ∙ sym (laws.joined x y)
 
-    pub below_value : (a b : Term Name) (x y : ℕ) → value_in widths g a ≡ d.code x → value_in widths g b ≡ d.code y → value_in widths g (below_or_at a b) ≡ bit (d.world.order.le x y)
+    pub below_value : (a b : Term Name) (x y : ℕ) → value_in widths g a ≡ d.code x → value_in widths g b ≡ d.code y
+        → value_in widths g (below_or_at a b) ≡ bit (d.world.order.le x y)
     below_value a b x y i j = ap₂ (λ (m n : ℕ). bit (bit_or m n == n)) i j ∙ ap bit (laws.order x y)
 
   module _ (g : Going) (s : Store) (stands : Stands d g s) where
@@ -82,7 +84,8 @@ module _ (d : Setting) (widths : Name → ℕ) (laws : Lawful d widths) where
         ap (g.now.cell (d.name (tag_key m))) (number_of i f) ∙ stands.start_tags m (value d.world i s) e t
         ∙ ap (λ (q : Bool). d.code (s.level (if q then start_whole m else start m (value d.world i s)))) (sym t)
 
-    cell_tag_value : (m : ℕ) (i : Term ℕ) → is_memory d.world m ≡ true → FineTerm d.world i → value_in widths g (cell_tag d m i) ≡ d.code (level d.world (start m (value d.world i s)) s)
+    cell_tag_value : (m : ℕ) (i : Term ℕ) → is_memory d.world m ≡ true → FineTerm d.world i
+        → value_in widths g (cell_tag d m i) ≡ d.code (level d.world (start m (value d.world i s)) s)
     cell_tag_value m i e f = elim (cases_Bool (is_dynamic d.world m)) [
       | inl t ↦ rw t (stands.start_tag m (rw (e, t) refl) ∙ ap (λ (q : Bool). d.code (s.level (if q then start_whole m else start m (value d.world i s)))) (sym t))
       | inr t ↦ ap (λ (q : Bool). value_in widths g (if q then var d (first_key m) else cell (d.name (tag_key m)) (expr d i))) t ∙ mark m i e f t
@@ -112,7 +115,8 @@ module _ (d : Setting) (widths : Name → ℕ) (laws : Lawful d widths) where
         by true = omega arith
         by false = refl
 
-    placed_value : (u : ℕ) (e : Term Name) (v i m : ℕ) → value_in widths g e ≡ v → i ≤ v → value_in widths g (placed d u e i m) ≡ d.code (if nat_lt v (i + m) then v else d.world.order.top)
+    placed_value : (u : ℕ) (e : Term Name) (v i m : ℕ) → value_in widths g e ≡ v → i ≤ v
+        → value_in widths g (placed d u e i m) ≡ d.code (if nat_lt v (i + m) then v else d.world.order.top)
     placed_value u e v i zero h l =
         let f : nat_lt v (i + zero) ≡ false = grind (arith, common_steps) in rw f refl
     placed_value u e v i (suc m) h l = elim (cases_Bool (v == i)) [
@@ -142,7 +146,8 @@ module _ (d : Setting) (widths : Name → ℕ) (laws : Lawful d widths) where
     told_value (at_place e) f = tag_value e f
     told_value (both a b) f = lub_value g (told_tag d a) (told_tag d b) _ _ (told_value a f.0) (told_value b f.1)
 
-    pub enters_value : (pc : Term Name) (l c : ℕ) → value_in widths g pc ≡ d.code l → has_tag d.world c ≡ true → is_memory d.world c ≡ false → value_in widths g (enters d pc c) ≡ bit (opens d.world c l s)
+    pub enters_value : (pc : Term Name) (l c : ℕ) → value_in widths g pc ≡ d.code l → has_tag d.world c ≡ true → is_memory d.world c ≡ false
+        → value_in widths g (enters d pc c) ≡ bit (opens d.world c l s)
     enters_value pc l c h t m = elim (cases_Bool (is_dynamic d.world c)) [
       | inl q ↦ rw q refl
       | inr q ↦ rw q (below_value g pc (var d (tag_key c)) l (s.level (own c)) h (own_tag c t m))
@@ -166,7 +171,8 @@ module _ (d : Setting) (widths : Name → ℕ) (laws : Lawful d widths) where
         let r = child_tag_value u seat (and_node t k') n (i + 1) (omega (arith, l)) (h ∙ omega arith) (rest_tagged c b k (and_node t k') f) in
         rw (h, ne_eqb (i + suc n) i (λ e. omega arith)) r
 
-    pub child_enters_value : (pc : Term Name) (u : ℕ) (seat : Term Name) (l : ℕ) (k : Group) (n i : ℕ) → n < size k → value_in widths g pc ≡ d.code l → value_in widths g seat ≡ i + n
+    pub child_enters_value : (pc : Term Name) (u : ℕ) (seat : Term Name) (l : ℕ) (k : Group) (n i : ℕ) → n < size k
+        → value_in widths g pc ≡ d.code l → value_in widths g seat ≡ i + n
         → AllTagged d.world k → value_in widths g (child_enters d pc u seat k i) ≡ bit (child_opens d.world k n l s)
     child_enters_value pc u seat l no_node n i b p h f = refl
     child_enters_value pc u seat l (and_node (state_node c b k) no_node) zero i m p h f = let q = first_tagged c b k no_node f in enters_value pc l c p q.0 q.1

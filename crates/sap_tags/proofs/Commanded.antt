@@ -34,10 +34,12 @@ use Rattle.sap_tags_effects.proofs.Raised.{raises_follow}
 use Rattle.sap_tags_terms.proofs.Alone.{alone}
 
 -- behind no blocks
-pub fresh_blocks : (old new : List (Vec PlainCmd Global)) (x : List Body) → old ≡ [] → map (λ b. body_of b.items) new ≡ map (λ b. body_of b.items) old ++ x → map (λ b. body_of b.items) new ≡ x
+pub fresh_blocks : (old new : List (Vec PlainCmd Global)) (x : List Body) → old ≡ []
+    → map (λ b. body_of b.items) new ≡ map (λ b. body_of b.items) old ++ x → map (λ b. body_of b.items) new ≡ x
 fresh_blocks old new x e h = h ∙ ap (λ (l : List (Vec PlainCmd Global)). map (λ b. body_of b.items) l ++ x) e
 
-map_push : (made : List (Vec PlainCmd Global)) (block : Vec PlainCmd Global) → map (λ b. body_of b.items) (made ++ block ∷ []) ≡ map (λ b. body_of b.items) made ++ body_of block.items ∷ []
+map_push : (made : List (Vec PlainCmd Global)) (block : Vec PlainCmd Global)
+    → map (λ b. body_of b.items) (made ++ block ∷ []) ≡ map (λ b. body_of b.items) made ++ body_of block.items ∷ []
 map_push [] block = refl
 map_push (b ∷ made) block = ap (λ (l : List Body). body_of b.items ∷ l) (map_push made block)
 
@@ -48,7 +50,8 @@ unfolding arms_before
 counts_same n [] b = refl
 counts_same n (a ∷ arms) b = ap (λ (m : ℕ). suc m) (counts_same n arms b)
 
-picks_same : (d : pass.Setting) (u j w k i n : ℕ) (arms : List Arm) (b : program.Block) (rest : Body) → picks d u j w k i (arms_before n arms (last_arm end_block)) rest ≡ picks d u j w k i (arms_before n arms (last_arm b)) rest
+picks_same : (d : pass.Setting) (u j w k i n : ℕ) (arms : List Arm) (b : program.Block) (rest : Body)
+    → picks d u j w k i (arms_before n arms (last_arm end_block)) rest ≡ picks d u j w k i (arms_before n arms (last_arm b)) rest
 unfolding arms_before
 picks_same d u j w k i n [] b rest = refl
 picks_same d u j w k i n (a ∷ arms) b rest = picks_same d u j w k (suc i) n arms b (picks_arm d u j w k i (constants_of a) rest)
@@ -57,7 +60,8 @@ module _ (s : Setting) where
   -- arms, and the block behind them
 
   arms_are : (at : Home) (p k : ℕ) (arms : List Arm) (b : program.Block)
-      → arms_plain (setting_in s) (home_in s at) p k (arms_before (entities_in s) arms (last_arm b)) ≡ arm_bodies s at p k arms ++ block_plain (setting_in s) (home_in s at) p (k + arm_wires arms) b ∷ []
+      → arms_plain (setting_in s) (home_in s at) p k (arms_before (entities_in s) arms (last_arm b)) ≡ arm_bodies s at p k arms
+      ++ block_plain (setting_in s) (home_in s at) p (k + arm_wires arms) b ∷ []
   unfolding arm_bodies arms_plain arms_before arm_wires
   arms_are at p k [] b = let z : k ≡ k + 0 = omega arith in ap (λ (w : ℕ). block_plain (setting_in s) (home_in s at) p w b ∷ []) z
   arms_are at p k (a ∷ arms) b =
@@ -85,7 +89,8 @@ module _ (s : Setting) where
         ap (λ (x : Body). if always d.world (home_in s at) j then x else cases (var d (wire_key k)) x r stop) (follow_stop (effect_of d (home_in s at) k j))
 
     -- what is looked at, the raises, and what is behind them
-    step_made : (k : ℕ) (j : program.Step) (hangs : ℕ → Bool) (b0 b1 end : Body) → b1 ≡ follow b0 (looks (setting_in s) (home_in s at) p k j (raises (setting_in s) hangs (k + 1) stop))
+    step_made : (k : ℕ) (j : program.Step) (hangs : ℕ → Bool) (b0 b1 end : Body)
+        → b1 ≡ follow b0 (looks (setting_in s) (home_in s at) p k j (raises (setting_in s) hangs (k + 1) stop))
         → follow b1 end ≡ follow b0 (looks (setting_in s) (home_in s at) p k j (raises (setting_in s) hangs (k + 1) end))
     step_made k j hangs b0 b1 end e =
         let d = setting_in s in
@@ -118,12 +123,14 @@ module _ (s : Setting) where
         ∙ ap (λ (q : Body). follow b0 (looks d here p k j (raises d hangs (k + 1) q))) (decided_alone k j (refusal d k j stop))
 
     pub do_made : (k : ℕ) (c : Command) (st : Step) (b0 : Body) → c ≡ command.Do st
-        → follow b0 (attempt_of (setting_in s) (home_in s at) p k (step_of (entities_in s) st) (listed_alone (world_in s) (home_in s at) (step_of (entities_in s) st)) stop) ≡ follow b0 (command_body s at p k c)
+        → follow b0 (attempt_of (setting_in s) (home_in s at) p k (step_of (entities_in s) st)
+        (listed_alone (world_in s) (home_in s at) (step_of (entities_in s) st)) stop) ≡ follow b0 (command_body s at p k c)
     unfolding command_body command_plain
     do_made k c st b0 i =
         ap (λ (y : program.Command). follow b0 (command_plain (setting_in s) (home_in s at) p k y)) (sym (ap (command_of (entities_in s)) i ∙ command_of-do (entities_in s) st))
 
-    pub try_made : (k : ℕ) (c : Command) (st : Step) (hang : List ℕ) (hs : Vec Command Global) (handler : List Command) (b0 b1 x r1 r2 : Body) → c ≡ shown.Try st hang hs → handler ≡ hs.items
+    pub try_made : (k : ℕ) (c : Command) (st : Step) (hang : List ℕ) (hs : Vec Command Global) (handler : List Command) (b0 b1 x r1 r2 : Body)
+        → c ≡ shown.Try st hang hs → handler ≡ hs.items
         → x ≡ stop → r1 ≡ refusal (setting_in s) k (step_of (entities_in s) st) stop
         → r2 ≡ follow r1 (commands_body s at (k + 2) (k + 5) handler)
         → b1 ≡ follow b0 (looks (setting_in s) (home_in s at) p k (step_of (entities_in s) st) (raises (setting_in s) (listed (flags (entities_in s) hang)) (k + 1) stop))
@@ -142,7 +149,8 @@ module _ (s : Setting) where
         ∙ ap (λ (q : Body). follow b0 (looks d here p k j (raises d (listed (flags n hang)) (k + 1) q))) (decided_alone k j (refusal d k j inner))
         ∙ ap (λ (y : program.Command). follow b0 (command_plain d here p k y)) (sym (ap (command_of n) i ∙ command_of-try n st hang hs))
 
-    pub then_made : (k : ℕ) (c : Command) (st : Step) (hang : List ℕ) (ys ns : Vec Command Global) (yl nl : List Command) (b0 b1 x r1 r2 : Body) (m : ℕ) → c ≡ shown.TryThen st hang ys ns
+    pub then_made : (k : ℕ) (c : Command) (st : Step) (hang : List ℕ) (ys ns : Vec Command Global) (yl nl : List Command)
+        (b0 b1 x r1 r2 : Body) (m : ℕ) → c ≡ shown.TryThen st hang ys ns
         → yl ≡ ys.items → nl ≡ ns.items → x ≡ commands_body s at (k + 2) (k + 5) yl → m ≡ k + 5 + commands_wires yl
         → r1 ≡ refusal (setting_in s) k (step_of (entities_in s) st) stop → r2 ≡ follow r1 (commands_body s at (k + 2) m nl)
         → b1 ≡ follow b0 (looks (setting_in s) (home_in s at) p k (step_of (entities_in s) st) (raises (setting_in s) (listed (flags (entities_in s) hang)) (k + 1) stop))
@@ -156,15 +164,19 @@ module _ (s : Setting) where
         let first : Body = block_plain d here (k + 2) (k + 5) (block_of n ys.items) in
         let second : Body = block_plain d here (k + 2) (k + 5 + wires_block (block_of n ys.items)) (block_of n ns.items) in
         let ex : x ≡ first = xe ∙ ap (λ (l : List Command). block_plain d here (k + 2) (k + 5) (block_of n l)) ye in
-        let em : m ≡ k + 5 + wires_block (block_of n ys.items) = me ∙ ap (λ (l : List Command). k + 5 + commands_wires l) ye ∙ ap (λ (w : ℕ). k + 5 + w) (sym (wires_block_are n ys.items)) in
+        let em : m ≡ k + 5 + wires_block (block_of n ys.items) = me ∙ ap (λ (l : List Command). k + 5 + commands_wires l) ye
+        ∙ ap (λ (w : ℕ). k + 5 + w) (sym (wires_block_are n ys.items)) in
         let er : r2 ≡ refusal d k j second =
-        re2 ∙ ap (λ (q : Body). follow q (commands_body s at (k + 2) m nl)) re1 ∙ ap₂ (λ (w : ℕ) (l : List Command). refusal d k j (block_plain d here (k + 2) w (block_of n l))) em ne in
+        re2 ∙ ap (λ (q : Body). follow q (commands_body s at (k + 2) m nl)) re1
+        ∙ ap₂ (λ (w : ℕ) (l : List Command). refusal d k j (block_plain d here (k + 2) w (block_of n l))) em ne in
         step_made k j (listed (flags n hang)) b0 b1 (decided d here k j x r2) e
         ∙ ap₂ (λ (a q : Body). follow b0 (looks d here p k j (raises d (listed (flags n hang)) (k + 1) (decided d here k j a q)))) ex er
         ∙ ap (λ (y : program.Command). follow b0 (command_plain d here p k y)) (sym (ap (command_of n) i ∙ command_of-then n st hang ys ns))
 
-    pub if_made : (k : ℕ) (c : Command) (hang : List ℕ) (t : Number) (ys ns : Vec Command Global) (yl nl : List Command) (b0 b1 y1 n1 : Body) (m : ℕ) → c ≡ shown.If hang t ys ns → yl ≡ ys.items → nl ≡ ns.items
-        → b1 ≡ follow b0 (gives (setting_in s) (wire_key k) (tag_of (setting_in s) (term_of t)) (gives (setting_in s) (wire_key (k + 1)) (lub (var (setting_in s) (wire_key p)) (var (setting_in s) (wire_key k)))
+    pub if_made : (k : ℕ) (c : Command) (hang : List ℕ) (t : Number) (ys ns : Vec Command Global) (yl nl : List Command)
+        (b0 b1 y1 n1 : Body) (m : ℕ) → c ≡ shown.If hang t ys ns → yl ≡ ys.items → nl ≡ ns.items
+        → b1 ≡ follow b0 (gives (setting_in s) (wire_key k) (tag_of (setting_in s) (term_of t))
+        (gives (setting_in s) (wire_key (k + 1)) (lub (var (setting_in s) (wire_key p)) (var (setting_in s) (wire_key k)))
         (raises (setting_in s) (listed (flags (entities_in s) hang)) k stop)))
         → y1 ≡ commands_body s at (k + 1) (k + 2) yl → m ≡ k + 2 + commands_wires yl → n1 ≡ commands_body s at (k + 1) m nl
         → follow b1 (cases (expr (setting_in s) (term_of t)) y1 n1 stop) ≡ follow b0 (command_body s at p k c)
@@ -179,7 +191,8 @@ module _ (s : Setting) where
         let first : Body = block_plain d here (k + 1) (k + 2) (block_of n ys.items) in
         let second : Body = block_plain d here (k + 1) (k + 2 + wires_block (block_of n ys.items)) (block_of n ns.items) in
         let ey : y1 ≡ first = yb ∙ ap (λ (l : List Command). block_plain d here (k + 1) (k + 2) (block_of n l)) ye in
-        let em : m ≡ k + 2 + wires_block (block_of n ys.items) = me ∙ ap (λ (l : List Command). k + 2 + commands_wires l) ye ∙ ap (λ (w : ℕ). k + 2 + w) (sym (wires_block_are n ys.items)) in
+        let em : m ≡ k + 2 + wires_block (block_of n ys.items) = me ∙ ap (λ (l : List Command). k + 2 + commands_wires l) ye
+        ∙ ap (λ (w : ℕ). k + 2 + w) (sym (wires_block_are n ys.items)) in
         let en : n1 ≡ second = nb ∙ ap₂ (λ (w : ℕ) (l : List Command). block_plain d here (k + 1) w (block_of n l)) em ne in
         ap (λ (b : Body). follow b end) e
         ∙ follow-more b0 (front raise) end
@@ -189,8 +202,10 @@ module _ (s : Setting) where
 
     pub case_made : (k : ℕ) (c : Command) (hang : List ℕ) (t : Number) (arms : Vec Arm Global) (cs : Vec Command Global) (al : List Arm) (cl : List Command) (b0 b1 : Body) (m : ℕ)
         (made blocks : List (Vec PlainCmd Global)) (block : Vec PlainCmd Global) → c ≡ shown.Case hang t arms cs → al ≡ arms.items → cl ≡ cs.items
-        → map (λ b. body_of b.items) made ≡ arm_bodies s at (k + 1) (k + 4) al → m ≡ k + 4 + arm_wires al → body_of block.items ≡ commands_body s at (k + 1) m cl → blocks ≡ made ++ block ∷ []
-        → b1 ≡ follow b0 (gives (setting_in s) (wire_key k) (tag_of (setting_in s) (term_of t)) (gives (setting_in s) (wire_key (k + 1)) (lub (var (setting_in s) (wire_key p)) (var (setting_in s) (wire_key k)))
+        → map (λ b. body_of b.items) made ≡ arm_bodies s at (k + 1) (k + 4) al → m ≡ k + 4 + arm_wires al
+        → body_of block.items ≡ commands_body s at (k + 1) m cl → blocks ≡ made ++ block ∷ []
+        → b1 ≡ follow b0 (gives (setting_in s) (wire_key k) (tag_of (setting_in s) (term_of t))
+        (gives (setting_in s) (wire_key (k + 1)) (lub (var (setting_in s) (wire_key p)) (var (setting_in s) (wire_key k)))
         (gives (setting_in s) (wire_key (k + 2)) (expr (setting_in s) (term_of t)) (raises (setting_in s) (listed (flags (entities_in s) hang)) k stop))))
         → (let d = setting_in s in
         let all = alone (entities_in s) al in
@@ -242,7 +257,8 @@ module _ (s : Setting) where
         ap (block_plain d (home_in s at) p k) (block_of-more n c cs)
         ∙ ap (λ (w : ℕ). follow (command_plain d (home_in s at) p k (command_of n c)) (block_plain d (home_in s at) p (k + w) (block_of n cs))) (wires_are n c)
 
-    body_drop : (k : ℕ) (cs : List Command) (i : ℕ) (e : Command) → i < length cs → commands_body s at p k (drop i cs) ≡ follow (command_body s at p k (get_or cs i e)) (commands_body s at p (k + command_wires (get_or cs i e)) (drop (i + 1) cs))
+    body_drop : (k : ℕ) (cs : List Command) (i : ℕ) (e : Command) → i < length cs
+        → commands_body s at p k (drop i cs) ≡ follow (command_body s at p k (get_or cs i e)) (commands_body s at p (k + command_wires (get_or cs i e)) (drop (i + 1) cs))
     body_drop k [] i e l = absurd (omega arith)
     body_drop k (c ∷ cs) zero e l = body_more k c cs
     body_drop k (c ∷ cs) (suc i) e l = let r = body_drop k cs i e (omega arith) in simp (add-one) (simp (add-one) at r)
@@ -253,7 +269,8 @@ module _ (s : Setting) where
     body_past k (c ∷ cs) zero l = absurd (omega arith)
     body_past k (c ∷ cs) (suc i) l = body_past k cs i (omega arith)
 
-    pub commands_step : (cs : List Command) (i : ℕ) (c : Command) (k m : ℕ) (now new all : Body) → i < length cs → c ≡ get_or cs i c → new ≡ follow now (command_body s at p k c) → m ≡ k + command_wires c
+    pub commands_step : (cs : List Command) (i : ℕ) (c : Command) (k m : ℕ) (now new all : Body) → i < length cs → c ≡ get_or cs i c
+        → new ≡ follow now (command_body s at p k c) → m ≡ k + command_wires c
         → follow now (commands_body s at p k (drop i cs)) ≡ all → follow new (commands_body s at p m (drop (i + 1) cs)) ≡ all
     commands_step cs i c k m now new all l e f w h =
         ap₂ (λ (b : Body) (j : ℕ). follow b (commands_body s at p j (drop (i + 1) cs))) f w
@@ -264,7 +281,8 @@ module _ (s : Setting) where
     pub commands_rest : (cs : List Command) (i k : ℕ) (now all : Body) → length cs ≤ i → follow now (commands_body s at p k (drop i cs)) ≡ all → now ≡ all
     commands_rest cs i k now all l h = sym (follow_stop now) ∙ ap (follow now) (sym (body_past k cs i l)) ∙ h
 
-pub wires_step : (cs : List Command) (i : ℕ) (c : Command) (k m all : ℕ) → i < length cs → c ≡ get_or cs i c → m ≡ k + command_wires c → k + commands_wires (drop i cs) ≡ all → m + commands_wires (drop (i + 1) cs) ≡ all
+pub wires_step : (cs : List Command) (i : ℕ) (c : Command) (k m all : ℕ) → i < length cs → c ≡ get_or cs i c → m ≡ k + command_wires c
+    → k + commands_wires (drop i cs) ≡ all → m + commands_wires (drop (i + 1) cs) ≡ all
 wires_step cs i c k m all l e f h =
     let q = wires_drop cs i c l ∙ ap (λ (y : Command). command_wires y + commands_wires (drop (i + 1) cs)) (sym e) in
     omega (arith, q, f, h)
@@ -286,7 +304,8 @@ module _ (s : Setting) (at : Home) (p : ℕ) where
   arms_none k (a ∷ arms) zero l = absurd (omega arith)
   arms_none k (a ∷ arms) (suc i) l = arms_none k arms i (omega arith)
 
-  pub arms_step : (arms : List Arm) (i : ℕ) (a : Arm) (cl : List Command) (k m : ℕ) (old new : List (Vec PlainCmd Global)) (block : Vec PlainCmd Global) (all : List Body) → i < length arms → a ≡ get_or arms i a
+  pub arms_step : (arms : List Arm) (i : ℕ) (a : Arm) (cl : List Command) (k m : ℕ) (old new : List (Vec PlainCmd Global))
+      (block : Vec PlainCmd Global) (all : List Body) → i < length arms → a ≡ get_or arms i a
       → cl ≡ commands_in a → new ≡ old ++ block ∷ [] → body_of block.items ≡ commands_body s at p k cl → m ≡ k + commands_wires cl
       → map (λ b. body_of b.items) old ++ arm_bodies s at p k (drop i arms) ≡ all → map (λ b. body_of b.items) new ++ arm_bodies s at p m (drop (i + 1) arms) ≡ all
   arms_step arms i a cl k m old new block all l e c f b w h =

@@ -84,7 +84,8 @@ module _ (d : Setting) where
         let same : v ≡ i = e ∙ sym f in
         h ∙ ap (λ (x : ℕ). follow now (gives d (wire_key j) (constant w x) stop)) same ∙ ap (λ (x : Arms). follow now (picks d u n w j i x stop)) (sym none)
 
-    pub arms_end : (arms : List Arm) (now new : Body) (i : ℕ) → i ≡ 0 → new ≡ follow now (picks d u n w j i (alone m (drop i arms)) stop) → new ≡ follow now (picks d u n w j 0 (alone m arms) stop)
+    pub arms_end : (arms : List Arm) (now new : Body) (i : ℕ) → i ≡ 0 → new ≡ follow now (picks d u n w j i (alone m (drop i arms)) stop)
+        → new ≡ follow now (picks d u n w j 0 (alone m arms) stop)
     arms_end arms now new i e h = h ∙ ap (λ (x : ℕ). follow now (picks d u n w j x (alone m (drop x arms)) stop)) e
 
     -- the arm i, where the later ones from k on are told
@@ -133,7 +134,8 @@ module _ (d : Setting) where
   code_none j bits [] now e f = sym (ap (λ (x : ℕ). follow now (decides d j x [])) e ∙ follow_stop now)
   code_none j bits (b ∷ bs) now e f = absurd (omega (arith, f))
 
-  pub code_first : (j bits : ℕ) (bs rest : List (Vec PlainCmd Global)) (b : Vec PlainCmd Global) (now new : Body) → bits ≡ 0 → bs ≡ b ∷ rest → new ≡ follow now (body_of b.items) → new ≡ follow now (decides d j bits (bodies_of bs))
+  pub code_first : (j bits : ℕ) (bs rest : List (Vec PlainCmd Global)) (b : Vec PlainCmd Global) (now new : Body) → bits ≡ 0 → bs ≡ b ∷ rest
+      → new ≡ follow now (body_of b.items) → new ≡ follow now (decides d j bits (bodies_of bs))
   code_first j bits bs rest b now new e f h = h ∙ sym (ap₂ (λ (x : ℕ) (l : List (Vec PlainCmd Global)). follow now (decides d j x (bodies_of l))) e f)
 
   pub code_few : (j bits m : ℕ) (bs : List (Vec PlainCmd Global)) → bits ≡ suc m → length bs ≤ 2 ^ m → decides d j m (bodies_of bs) ≡ decides d j bits (bodies_of bs)
@@ -145,12 +147,15 @@ module _ (d : Setting) where
       let n = length-map bs (λ (b : Vec PlainCmd Global). body_of b.items) in
       let test : Term Name = part (var d (wire_key j)) m m in
       ap₂ (λ (x y : List Body). cases test (decides d j m x) (decides d j m y) stop)
-      (ap bodies_of g ∙ sym (drop-map (λ (b : Vec PlainCmd Global). body_of b.items) (2 ^ m) bs)) (ap bodies_of f ∙ sym (take-map (λ (b : Vec PlainCmd Global). body_of b.items) (2 ^ m) bs))
+      (ap bodies_of g ∙ sym (drop-map (λ (b : Vec PlainCmd Global). body_of b.items) (2 ^ m) bs)) (ap bodies_of f
+      ∙ sym (take-map (λ (b : Vec PlainCmd Global). body_of b.items) (2 ^ m) bs))
       ∙ sym (decides_many j bits m (bodies_of bs) e (omega (arith, l, n)))
 
   -- the choice by a bit, in front of which stand others
-  pub code_choice : (j m : ℕ) (bs low high : List (Vec PlainCmd Global)) (t number : Calc) (ys ns : Vec PlainCmd Global) (now new : List PlainCmd) → new ≡ now ++ shown.If t ys ns ∷ []
-      → term_of number ≡ var d (wire_key j) → term_of t ≡ part (term_of number) m m → body_of ys.items ≡ decides d j m (bodies_of high) → body_of ns.items ≡ decides d j m (bodies_of low)
+  pub code_choice : (j m : ℕ) (bs low high : List (Vec PlainCmd Global)) (t number : Calc) (ys ns : Vec PlainCmd Global)
+      (now new : List PlainCmd) → new ≡ now ++ shown.If t ys ns ∷ []
+      → term_of number ≡ var d (wire_key j) → term_of t ≡ part (term_of number) m m → body_of ys.items ≡ decides d j m (bodies_of high)
+      → body_of ns.items ≡ decides d j m (bodies_of low)
       → body_of new ≡ follow (body_of now) (cases (part (var d (wire_key j)) m m) (decides d j m (bodies_of high)) (decides d j m (bodies_of low)) stop)
   code_choice j m bs low high t number ys ns now new f e q y n =
       ap body_of f ∙ body_of-push now (shown.If t ys ns) ∙ ap (follow (body_of now)) (before-if t ys ns stop)

@@ -73,7 +73,8 @@ module _ (d : Setting) (key : ℕ → Key) (term : ℕ → Term Name) where
           let k = leb-true n y c.0 in
           rw (le-leb n z (omega arith), b.1) refl
 
-  swept : (picks : ℕ → Bool) (m x n : ℕ) (xs : List ℕ) → n ≡ x + m → from x xs ≡ true → ((y : ℕ) → x ≤ y → y < n → picks y ≡ hangs xs y) → sweep d key picks term x m stop ≡ walk n xs
+  swept : (picks : ℕ → Bool) (m x n : ℕ) (xs : List ℕ) → n ≡ x + m → from x xs ≡ true → ((y : ℕ) → x ≤ y → y < n → picks y ≡ hangs xs y)
+      → sweep d key picks term x m stop ≡ walk n xs
   swept picks zero x n xs e f h = sym (walk_past n xs (let i : x ≡ n = omega arith in rw (← i) f))
   swept picks (suc m) x n [] e f h =
       rw (h x (omega arith) (omega arith)) (swept picks m (x + 1) n [] (omega arith) refl (λ y l k. h y (omega arith) k))
@@ -100,12 +101,14 @@ module _ (d : Setting) (key : ℕ → Key) (term : ℕ → Term Name) where
 
   -- one number more
 
-  pub walk_next : (n : ℕ) (xs : List ℕ) (i e : ℕ) → i < length xs → walk n (drop i xs) ≡ follow (if nat_lt (get_or xs i e) n then gives d (key (get_or xs i e)) (term (get_or xs i e)) stop else stop) (walk n (drop (i + 1) xs))
+  pub walk_next : (n : ℕ) (xs : List ℕ) (i e : ℕ) → i < length xs
+      → walk n (drop i xs) ≡ follow (if nat_lt (get_or xs i e) n then gives d (key (get_or xs i e)) (term (get_or xs i e)) stop else stop) (walk n (drop (i + 1) xs))
   walk_next n [] i e l = absurd (omega arith)
   walk_next n (x ∷ xs) zero e l = elim (cases_Bool (nat_lt x n)) [ inl t ↦ rw t refl | inr t ↦ rw t refl ]
   walk_next n (x ∷ xs) (suc i) e l = let r = walk_next n xs i e (omega arith) in simp (add-one) (simp (add-one) at r)
 
-  pub walk_step : (n : ℕ) (xs : List ℕ) (i e : ℕ) (now new all : Body) → i < length xs → new ≡ follow now (if nat_lt (get_or xs i e) n then gives d (key (get_or xs i e)) (term (get_or xs i e)) stop else stop)
+  pub walk_step : (n : ℕ) (xs : List ℕ) (i e : ℕ) (now new all : Body) → i < length xs
+      → new ≡ follow now (if nat_lt (get_or xs i e) n then gives d (key (get_or xs i e)) (term (get_or xs i e)) stop else stop)
       → follow now (walk n (drop i xs)) ≡ all → follow new (walk n (drop (i + 1) xs)) ≡ all
   walk_step n xs i e now new all l h k =
       ap (λ (b : Body). follow b (walk n (drop (i + 1) xs))) h
@@ -120,10 +123,12 @@ module _ (d : Setting) (key : ℕ → Key) (term : ℕ → Term Name) where
 
   -- one entity more
 
-  sweep_more : (picks : ℕ → Bool) (x m k : ℕ) → m ≡ suc k → sweep d key picks term x m stop ≡ follow (if picks x then gives d (key x) (term x) stop else stop) (sweep d key picks term (x + 1) k stop)
+  sweep_more : (picks : ℕ → Bool) (x m k : ℕ) → m ≡ suc k
+      → sweep d key picks term x m stop ≡ follow (if picks x then gives d (key x) (term x) stop else stop) (sweep d key picks term (x + 1) k stop)
   sweep_more picks x m k e = rw e (elim (cases_Bool (picks x)) [ inl t ↦ rw t refl | inr t ↦ rw t refl ])
 
-  pub sweep_next : (picks : ℕ → Bool) (x n : ℕ) → x < n → sweep d key picks term x (n - x) stop ≡ follow (if picks x then gives d (key x) (term x) stop else stop) (sweep d key picks term (x + 1) (n - (x + 1)) stop)
+  pub sweep_next : (picks : ℕ → Bool) (x n : ℕ) → x < n
+      → sweep d key picks term x (n - x) stop ≡ follow (if picks x then gives d (key x) (term x) stop else stop) (sweep d key picks term (x + 1) (n - (x + 1)) stop)
   sweep_next picks x n l = sweep_more picks x (n - x) (n - (x + 1)) (omega arith)
 
   sweep_none : (picks : ℕ → Bool) (x m : ℕ) → m ≡ 0 → sweep d key picks term x m stop ≡ stop

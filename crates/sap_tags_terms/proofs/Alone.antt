@@ -9,7 +9,8 @@ use Rattle.sap_tagged.specs.Commands.{arm_count}
 abbrev pub alone : (m : ℕ) → List Arm → Arms
 alone m arms = arms_before m arms (last_arm end_block)
 
-pub alone_next : (m : ℕ) (arms : List Arm) (i : ℕ) (a : Arm) → i < length arms → a ≡ get_or arms i a → alone m (drop i arms) ≡ program.and_arm (constants_of a) (arm_block m a) (alone m (drop (i + 1) arms))
+pub alone_next : (m : ℕ) (arms : List Arm) (i : ℕ) (a : Arm) → i < length arms → a ≡ get_or arms i a
+    → alone m (drop i arms) ≡ program.and_arm (constants_of a) (arm_block m a) (alone m (drop (i + 1) arms))
 unfolding arms_before
 alone_next m [] i a l e = absurd (omega arith)
 alone_next m (x ∷ arms) zero a l e = ap (λ (y : Arm). program.and_arm (constants_of y) (arm_block m y) (alone m arms)) (sym e)

@@ -23,7 +23,8 @@ pub few_handler : (c : Command) (st : Step) (hang : List ℕ) (hs : Vec Command 
 unfolding CommandFew CommandsFew
 few_handler c st hang hs l i f r = subst (λ (l : List Command). FewBlock (block_of 0 l)) (sym f) (subst Few (ap (command_of 0) i ∙ command_of-try 0 st hang hs) r)
 
-few_if : (c : Command) (hang : List ℕ) (e : Number) (ys ns : Vec Command Global) → c ≡ shown.If hang e ys ns → CommandFew c → FewBlock (block_of 0 ys.items) × FewBlock (block_of 0 ns.items)
+few_if : (c : Command) (hang : List ℕ) (e : Number) (ys ns : Vec Command Global) → c ≡ shown.If hang e ys ns → CommandFew c
+    → FewBlock (block_of 0 ys.items) × FewBlock (block_of 0 ns.items)
 unfolding CommandFew
 few_if c hang e ys ns i r = subst Few (ap (command_of 0) i ∙ command_of-if 0 hang e ys ns) r
 
@@ -35,15 +36,18 @@ pub few_no : (c : Command) (hang : List ℕ) (e : Number) (ys ns : Vec Command G
 unfolding CommandsFew
 few_no c hang e ys ns l i f r = subst (λ (l : List Command). FewBlock (block_of 0 l)) (sym f) (few_if c hang e ys ns i r).1
 
-few_then : (c : Command) (st : Step) (hang : List ℕ) (ys ns : Vec Command Global) → c ≡ shown.TryThen st hang ys ns → CommandFew c → FewBlock (block_of 0 ys.items) × FewBlock (block_of 0 ns.items)
+few_then : (c : Command) (st : Step) (hang : List ℕ) (ys ns : Vec Command Global) → c ≡ shown.TryThen st hang ys ns → CommandFew c
+    → FewBlock (block_of 0 ys.items) × FewBlock (block_of 0 ns.items)
 unfolding CommandFew
 few_then c st hang ys ns i r = subst Few (ap (command_of 0) i ∙ command_of-then 0 st hang ys ns) r
 
-pub few_accepted : (c : Command) (st : Step) (hang : List ℕ) (ys ns : Vec Command Global) (l : List Command) → c ≡ shown.TryThen st hang ys ns → l ≡ ys.items → CommandFew c → CommandsFew l
+pub few_accepted : (c : Command) (st : Step) (hang : List ℕ) (ys ns : Vec Command Global) (l : List Command)
+    → c ≡ shown.TryThen st hang ys ns → l ≡ ys.items → CommandFew c → CommandsFew l
 unfolding CommandsFew
 few_accepted c st hang ys ns l i f r = subst (λ (l : List Command). FewBlock (block_of 0 l)) (sym f) (few_then c st hang ys ns i r).0
 
-pub few_refused : (c : Command) (st : Step) (hang : List ℕ) (ys ns : Vec Command Global) (l : List Command) → c ≡ shown.TryThen st hang ys ns → l ≡ ns.items → CommandFew c → CommandsFew l
+pub few_refused : (c : Command) (st : Step) (hang : List ℕ) (ys ns : Vec Command Global) (l : List Command)
+    → c ≡ shown.TryThen st hang ys ns → l ≡ ns.items → CommandFew c → CommandsFew l
 unfolding CommandsFew
 few_refused c st hang ys ns l i f r = subst (λ (l : List Command). FewBlock (block_of 0 l)) (sym f) (few_then c st hang ys ns i r).1
 
@@ -57,16 +61,19 @@ few_case : (c : Command) (hang : List ℕ) (e : Number) (arms : Vec Arm Global) 
 unfolding CommandFew
 few_case c hang e arms cs i r = subst Few (ap (command_of 0) i ∙ command_of-case 0 hang e arms cs) r
 
-pub few_arms : (c : Command) (hang : List ℕ) (e : Number) (arms : Vec Arm Global) (cs : Vec Command Global) (l : List Arm) → c ≡ shown.Case hang e arms cs → l ≡ arms.items → CommandFew c → ArmsFew l
+pub few_arms : (c : Command) (hang : List ℕ) (e : Number) (arms : Vec Arm Global) (cs : Vec Command Global) (l : List Arm)
+    → c ≡ shown.Case hang e arms cs → l ≡ arms.items → CommandFew c → ArmsFew l
 unfolding ArmsFew
 few_arms c hang e arms cs l i f r =
     subst (λ (l : List Arm). FewArms (arms_before 0 l (last_arm end_block))) (sym f) (few_before 0 arms.items (last_arm (block_of 0 cs.items)) (few_case c hang e arms cs i r).1).0
 
-pub few_count : (c : Command) (hang : List ℕ) (e : Number) (arms : Vec Arm Global) (cs : Vec Command Global) (l : List Arm) → c ≡ shown.Case hang e arms cs → l ≡ arms.items → CommandFew c → length l ≤ most_arms
+pub few_count : (c : Command) (hang : List ℕ) (e : Number) (arms : Vec Arm Global) (cs : Vec Command Global) (l : List Arm)
+    → c ≡ shown.Case hang e arms cs → l ≡ arms.items → CommandFew c → length l ≤ most_arms
 few_count c hang e arms cs l i f r =
     subst (λ (l : List Arm). length l ≤ most_arms) (sym f) (subst (λ (m : ℕ). m ≤ most_arms) (counted 0 arms.items (block_of 0 cs.items)) (few_case c hang e arms cs i r).0)
 
-pub few_last : (c : Command) (hang : List ℕ) (e : Number) (arms : Vec Arm Global) (cs : Vec Command Global) (l : List Command) → c ≡ shown.Case hang e arms cs → l ≡ cs.items → CommandFew c → CommandsFew l
+pub few_last : (c : Command) (hang : List ℕ) (e : Number) (arms : Vec Arm Global) (cs : Vec Command Global) (l : List Command)
+    → c ≡ shown.Case hang e arms cs → l ≡ cs.items → CommandFew c → CommandsFew l
 unfolding CommandsFew
 few_last c hang e arms cs l i f r =
     subst (λ (l : List Command). FewBlock (block_of 0 l)) (sym f) (few_before 0 arms.items (last_arm (block_of 0 cs.items)) (few_case c hang e arms cs i r).1).1

@@ -108,7 +108,8 @@ pub wires_then : (s : Step) (hang : List ℕ) (ys ns : Vec Command Global) → c
 unfolding command_wires commands_wires
 wires_then s hang ys ns = ap wires (command_of-then 0 s hang ys ns)
 
-pub wires_case : (hang : List ℕ) (e : Number) (arms : Vec Arm Global) (cs : Vec Command Global) → command_wires (shown.Case hang e arms cs) ≡ 4 + arm_wires arms.items + commands_wires cs.items
+pub wires_case : (hang : List ℕ) (e : Number) (arms : Vec Arm Global) (cs : Vec Command Global)
+    → command_wires (shown.Case hang e arms cs) ≡ 4 + arm_wires arms.items + commands_wires cs.items
 unfolding command_wires commands_wires arm_wires
 wires_case hang e arms cs =
     let a = ap wires (command_of-case 0 hang e arms cs) in

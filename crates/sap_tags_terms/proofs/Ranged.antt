@@ -29,10 +29,12 @@ module _ (s : Setting) where
   unfolding CommandRanged
   ranged_try c st hang hs e r = subst (Ranged (world_in s)) (ap (command_of (entities_in s)) e ∙ command_of-try (entities_in s) st hang hs) r
 
-  pub ranged_try_step : (c : Command) (st : Step) (hang : List ℕ) (hs : Vec Command Global) → c ≡ shown.Try st hang hs → CommandRanged s c → RangedStep (world_in s) (step_of (entities_in s) st)
+  pub ranged_try_step : (c : Command) (st : Step) (hang : List ℕ) (hs : Vec Command Global) → c ≡ shown.Try st hang hs → CommandRanged s c
+      → RangedStep (world_in s) (step_of (entities_in s) st)
   ranged_try_step c st hang hs e r = (ranged_try c st hang hs e r).0
 
-  pub ranged_handler : (c : Command) (st : Step) (hang : List ℕ) (hs : Vec Command Global) (hl : List Command) → c ≡ shown.Try st hang hs → hl ≡ hs.items → CommandRanged s c → CommandsRanged s hl
+  pub ranged_handler : (c : Command) (st : Step) (hang : List ℕ) (hs : Vec Command Global) (hl : List Command) → c ≡ shown.Try st hang hs
+      → hl ≡ hs.items → CommandRanged s c → CommandsRanged s hl
   unfolding CommandsRanged
   ranged_handler c st hang hs hl e f r = subst (λ (l : List Command). RangedBlock (world_in s) (block_of (entities_in s) l)) (sym f) (ranged_try c st hang hs e r).1
 
@@ -41,30 +43,37 @@ module _ (s : Setting) where
   unfolding CommandRanged
   ranged_if c hang e ys ns i r = subst (Ranged (world_in s)) (ap (command_of (entities_in s)) i ∙ command_of-if (entities_in s) hang e ys ns) r
 
-  pub ranged_condition : (c : Command) (hang : List ℕ) (e : Number) (ys ns : Vec Command Global) → c ≡ shown.If hang e ys ns → CommandRanged s c → RangedTerm (world_in s) (term_of e)
+  pub ranged_condition : (c : Command) (hang : List ℕ) (e : Number) (ys ns : Vec Command Global) → c ≡ shown.If hang e ys ns
+      → CommandRanged s c → RangedTerm (world_in s) (term_of e)
   ranged_condition c hang e ys ns i r = (ranged_if c hang e ys ns i r).0
 
-  pub ranged_yes : (c : Command) (hang : List ℕ) (e : Number) (ys ns : Vec Command Global) (l : List Command) → c ≡ shown.If hang e ys ns → l ≡ ys.items → CommandRanged s c → CommandsRanged s l
+  pub ranged_yes : (c : Command) (hang : List ℕ) (e : Number) (ys ns : Vec Command Global) (l : List Command) → c ≡ shown.If hang e ys ns
+      → l ≡ ys.items → CommandRanged s c → CommandsRanged s l
   unfolding CommandsRanged
   ranged_yes c hang e ys ns l i f r = subst (λ (l : List Command). RangedBlock (world_in s) (block_of (entities_in s) l)) (sym f) (ranged_if c hang e ys ns i r).1
 
-  pub ranged_no : (c : Command) (hang : List ℕ) (e : Number) (ys ns : Vec Command Global) (l : List Command) → c ≡ shown.If hang e ys ns → l ≡ ns.items → CommandRanged s c → CommandsRanged s l
+  pub ranged_no : (c : Command) (hang : List ℕ) (e : Number) (ys ns : Vec Command Global) (l : List Command) → c ≡ shown.If hang e ys ns
+      → l ≡ ns.items → CommandRanged s c → CommandsRanged s l
   unfolding CommandsRanged
   ranged_no c hang e ys ns l i f r = subst (λ (l : List Command). RangedBlock (world_in s) (block_of (entities_in s) l)) (sym f) (ranged_if c hang e ys ns i r).2
 
   ranged_then : (c : Command) (st : Step) (hang : List ℕ) (ys ns : Vec Command Global) → c ≡ shown.TryThen st hang ys ns → CommandRanged s c
-      → RangedStep (world_in s) (step_of (entities_in s) st) × RangedBlock (world_in s) (block_of (entities_in s) ys.items) × RangedBlock (world_in s) (block_of (entities_in s) ns.items)
+      → RangedStep (world_in s) (step_of (entities_in s) st) × RangedBlock (world_in s) (block_of (entities_in s) ys.items)
+      × RangedBlock (world_in s) (block_of (entities_in s) ns.items)
   unfolding CommandRanged
   ranged_then c st hang ys ns i r = subst (Ranged (world_in s)) (ap (command_of (entities_in s)) i ∙ command_of-then (entities_in s) st hang ys ns) r
 
-  pub ranged_then_step : (c : Command) (st : Step) (hang : List ℕ) (ys ns : Vec Command Global) → c ≡ shown.TryThen st hang ys ns → CommandRanged s c → RangedStep (world_in s) (step_of (entities_in s) st)
+  pub ranged_then_step : (c : Command) (st : Step) (hang : List ℕ) (ys ns : Vec Command Global) → c ≡ shown.TryThen st hang ys ns
+      → CommandRanged s c → RangedStep (world_in s) (step_of (entities_in s) st)
   ranged_then_step c st hang ys ns i r = (ranged_then c st hang ys ns i r).0
 
-  pub ranged_accepted : (c : Command) (st : Step) (hang : List ℕ) (ys ns : Vec Command Global) (l : List Command) → c ≡ shown.TryThen st hang ys ns → l ≡ ys.items → CommandRanged s c → CommandsRanged s l
+  pub ranged_accepted : (c : Command) (st : Step) (hang : List ℕ) (ys ns : Vec Command Global) (l : List Command)
+      → c ≡ shown.TryThen st hang ys ns → l ≡ ys.items → CommandRanged s c → CommandsRanged s l
   unfolding CommandsRanged
   ranged_accepted c st hang ys ns l i f r = subst (λ (l : List Command). RangedBlock (world_in s) (block_of (entities_in s) l)) (sym f) (ranged_then c st hang ys ns i r).1
 
-  pub ranged_refused : (c : Command) (st : Step) (hang : List ℕ) (ys ns : Vec Command Global) (l : List Command) → c ≡ shown.TryThen st hang ys ns → l ≡ ns.items → CommandRanged s c → CommandsRanged s l
+  pub ranged_refused : (c : Command) (st : Step) (hang : List ℕ) (ys ns : Vec Command Global) (l : List Command)
+      → c ≡ shown.TryThen st hang ys ns → l ≡ ns.items → CommandRanged s c → CommandsRanged s l
   unfolding CommandsRanged
   ranged_refused c st hang ys ns l i f r = subst (λ (l : List Command). RangedBlock (world_in s) (block_of (entities_in s) l)) (sym f) (ranged_then c st hang ys ns i r).2
 
@@ -79,18 +88,23 @@ module _ (s : Setting) where
   unfolding CommandRanged
   ranged_case c hang e arms cs i r = subst (Ranged (world_in s)) (ap (command_of (entities_in s)) i ∙ command_of-case (entities_in s) hang e arms cs) r
 
-  pub ranged_number : (c : Command) (hang : List ℕ) (e : Number) (arms : Vec Arm Global) (cs : Vec Command Global) → c ≡ shown.Case hang e arms cs → CommandRanged s c → RangedTerm (world_in s) (term_of e)
+  pub ranged_number : (c : Command) (hang : List ℕ) (e : Number) (arms : Vec Arm Global) (cs : Vec Command Global)
+      → c ≡ shown.Case hang e arms cs → CommandRanged s c → RangedTerm (world_in s) (term_of e)
   ranged_number c hang e arms cs i r = (ranged_case c hang e arms cs i r).0
 
-  pub ranged_arms : (c : Command) (hang : List ℕ) (e : Number) (arms : Vec Arm Global) (cs : Vec Command Global) (l : List Arm) → c ≡ shown.Case hang e arms cs → l ≡ arms.items → CommandRanged s c → ArmsRanged s l
+  pub ranged_arms : (c : Command) (hang : List ℕ) (e : Number) (arms : Vec Arm Global) (cs : Vec Command Global) (l : List Arm)
+      → c ≡ shown.Case hang e arms cs → l ≡ arms.items → CommandRanged s c → ArmsRanged s l
   unfolding ArmsRanged
   ranged_arms c hang e arms cs l i f r =
-      subst (λ (l : List Arm). RangedArms (world_in s) (arms_before (entities_in s) l (last_arm end_block))) (sym f) (ranged_before arms.items (last_arm (block_of (entities_in s) cs.items)) (ranged_case c hang e arms cs i r).1).0
+      subst (λ (l : List Arm). RangedArms (world_in s) (arms_before (entities_in s) l (last_arm end_block))) (sym f)
+      (ranged_before arms.items (last_arm (block_of (entities_in s) cs.items)) (ranged_case c hang e arms cs i r).1).0
 
-  pub ranged_last : (c : Command) (hang : List ℕ) (e : Number) (arms : Vec Arm Global) (cs : Vec Command Global) (l : List Command) → c ≡ shown.Case hang e arms cs → l ≡ cs.items → CommandRanged s c → CommandsRanged s l
+  pub ranged_last : (c : Command) (hang : List ℕ) (e : Number) (arms : Vec Arm Global) (cs : Vec Command Global) (l : List Command)
+      → c ≡ shown.Case hang e arms cs → l ≡ cs.items → CommandRanged s c → CommandsRanged s l
   unfolding CommandsRanged
   ranged_last c hang e arms cs l i f r =
-      subst (λ (l : List Command). RangedBlock (world_in s) (block_of (entities_in s) l)) (sym f) (ranged_before arms.items (last_arm (block_of (entities_in s) cs.items)) (ranged_case c hang e arms cs i r).1).1
+      subst (λ (l : List Command). RangedBlock (world_in s) (block_of (entities_in s) l)) (sym f)
+      (ranged_before arms.items (last_arm (block_of (entities_in s) cs.items)) (ranged_case c hang e arms cs i r).1).1
 
   pub ranged_arm : (arms : List Arm) (i : ℕ) (e : Arm) → i < length arms → ArmsRanged s arms → CommandsRanged s (commands_in (get_or arms i e))
   unfolding ArmsRanged CommandsRanged arms_before
@@ -106,7 +120,8 @@ module _ (s : Setting) where
 
   -- states
 
-  ranged_state : (t : StateCode) → StateRanged s t → RangedBlock (world_in s) (block_of (entities_in s) (out-State t).body.items) × RangedGroup (world_in s) (group_of (entities_in s) (out-State t).children.items)
+  ranged_state : (t : StateCode) → StateRanged s t → RangedBlock (world_in s) (block_of (entities_in s) (out-State t).body.items)
+      × RangedGroup (world_in s) (group_of (entities_in s) (out-State t).children.items)
   unfolding StateRanged
   ranged_state t r = subst (RangedState (world_in s)) (state_of-out (entities_in s) t) r
 

@@ -121,7 +121,8 @@ after_part old new part rest all h e = ap (λ (l : List Var). l ++ rest) h ∙ a
 
 module _ (d : Named) (tag n : ℕ) where
   -- the wires of arms, and of the block behind them
-  pub arms_before-wires : (k : ℕ) (arms : List Arm) (b : Block) → arms_wires d tag k (arms_before n arms (last_arm b)) ≡ arms_wires d tag k (alone n arms) ++ block_wires d tag (k + arm_wires arms) b
+  pub arms_before-wires : (k : ℕ) (arms : List Arm) (b : Block)
+      → arms_wires d tag k (arms_before n arms (last_arm b)) ≡ arms_wires d tag k (alone n arms) ++ block_wires d tag (k + arm_wires arms) b
   unfolding arms_before arm_wires
   arms_before-wires k [] b = let z : k ≡ k + 0 = omega arith in ap (λ (w : ℕ). block_wires d tag w b) z
   arms_before-wires k (a ∷ arms) b =
@@ -133,7 +134,8 @@ module _ (d : Named) (tag n : ℕ) where
       ∙ sym (append_assoc first (arms_wires d tag (k + wires_block (arm_block n a)) (alone n arms)) (block_wires d tag (k + arm_wires (a ∷ arms)) b))
 
   -- all of a `case`
-  pub case_wired : (k : ℕ) (c : Command) (hang : List ℕ) (e : Number) (arms : Vec Arm Global) (cs : Vec Command Global) (al : List Arm) (cl : List Command) (w0 w1 w2 w3 w4 w5 : List Var) (next v u w : ℕ)
+  pub case_wired : (k : ℕ) (c : Command) (hang : List ℕ) (e : Number) (arms : Vec Arm Global) (cs : Vec Command Global) (al : List Arm)
+      (cl : List Command) (w0 w1 w2 w3 w4 w5 : List Var) (next v u w : ℕ)
       → c ≡ shown.Case hang e arms cs → al ≡ arms.items → cl ≡ cs.items → v ≡ tag
       → w1 ≡ w0 ++ wire d k v ∷ [] → w2 ≡ w1 ++ wire d (k + 1) v ∷ [] → w3 ≡ w2 ++ wire d (k + 2) u ∷ [] → u ≡ width_of (world d) (term_of e) → w4 ≡ w3 ++ wire d (k + 3) w ∷ []
       → w ≡ seat_width (length al + 1) → w5 ≡ w4 ++ arms_wires d tag (k + 4) (alone n al) → next ≡ k + 4 + arm_wires al
@@ -153,7 +155,8 @@ module _ (d : Named) (tag n : ℕ) where
       ∙ ap (λ (l : List Arm). arms_wires d tag (k + 4) (alone n l) ++ block_wires d tag (k + 4 + arm_wires l) last) ae
       ∙ sym (arms_before-wires (k + 4) arms.items last) in
       let width : w ≡ pick_width all =
-      we ∙ ap (λ (l : List Arm). seat_width (length l + 1)) ae ∙ ap seat_width (add-one (length arms.items)) ∙ ap (λ (m : ℕ). seat_width (suc m)) (sym (counted n arms.items last)) in
+      we ∙ ap (λ (l : List Arm). seat_width (length l + 1)) ae ∙ ap seat_width (add-one (length arms.items))
+      ∙ ap (λ (m : ℕ). seat_width (suc m)) (sym (counted n arms.items last)) in
       ap (λ (l : List Var). l ++ block_wires d tag next (block_of n cl)) (e5 ∙ ap (λ (l : List Var). l ++ arms_wires d tag (k + 4) (alone n al)) four)
       ∙ append_assoc (w0 ++ front []) (arms_wires d tag (k + 4) (alone n al)) (block_wires d tag next (block_of n cl))
       ∙ append_assoc w0 (front []) rest

@@ -20,11 +20,7 @@ use sap_tags_terms::setting::Setting;
 use std::alloc::{AllocError, Global};
 
 /// Whether a site is refused, and at which level.
-fn add_site(
-    setting: &Setting<'_>,
-    wires: &mut Vec<Var>,
-    site: u32,
-) -> Result<(), AllocError>
+fn add_site(setting: &Setting<'_>, wires: &mut Vec<Var>, site: u32) -> Result<(), AllocError>
     ensures { OnOk result (wires.new.items ≡ wires.old.items ++ plain.site_wires (named_in setting.now) (tag_width setting.now) site 1) }
 {
     let name = refused_name(setting, site);
@@ -44,10 +40,7 @@ fn add_site(
 }
 
 /// Two wires for each check site: these are ports.
-pub fn add_site_wires(
-    setting: &Setting<'_>,
-    wires: &mut Vec<Var>,
-) -> Result<(), AllocError>
+pub fn add_site_wires(setting: &Setting<'_>, wires: &mut Vec<Var>) -> Result<(), AllocError>
     ensures { OnOk result (wires.new.items ≡ wires.old.items ++ plain.site_wires (named_in setting.now) (tag_width setting.now) 1 setting.now.program.now.sites) }
 {
     for before in 0..setting.program.sites {
@@ -57,11 +50,7 @@ pub fn add_site_wires(
 }
 
 /// The tag of a memory as the cycle began.
-fn add_first(
-    setting: &Setting<'_>,
-    wires: &mut Vec<Var>,
-    m: usize,
-) -> Result<(), AllocError>
+fn add_first(setting: &Setting<'_>, wires: &mut Vec<Var>, m: usize) -> Result<(), AllocError>
     ensures { OnOk result (wires.new.items ≡ wires.old.items ++ plain.variable (keys.key_name (named_in setting.now) (keys.first_key m)) (tag_width setting.now) 0 ∷ []) }
 {
     let name = first_name(setting, m);
@@ -75,10 +64,7 @@ fn add_first(
 }
 
 /// The tags of dynamic memories as the cycle began.
-pub fn add_first_wires(
-    setting: &Setting<'_>,
-    wires: &mut Vec<Var>,
-) -> Result<(), AllocError>
+pub fn add_first_wires(setting: &Setting<'_>, wires: &mut Vec<Var>) -> Result<(), AllocError>
     ensures { OnOk result (wires.new.items ≡ wires.old.items ++ plain.first_wires (named_in setting.now) (tag_width setting.now)) }
 {
     for m in 0..setting.program.entities.len() {
@@ -90,11 +76,7 @@ pub fn add_first_wires(
 }
 
 /// The context of the children of a state.
-fn add_inner(
-    setting: &Setting<'_>,
-    wires: &mut Vec<Var>,
-    state: usize,
-) -> Result<(), AllocError>
+fn add_inner(setting: &Setting<'_>, wires: &mut Vec<Var>, state: usize) -> Result<(), AllocError>
     ensures { OnOk result (wires.new.items ≡ wires.old.items ++ plain.variable (keys.key_name (named_in setting.now) (keys.inner_key state)) (tag_width setting.now) 0 ∷ []) }
 {
     let name = inner_name(setting, state);
@@ -108,10 +90,7 @@ fn add_inner(
 }
 
 /// The contexts of the children of all states that have children.
-pub fn add_inner_wires(
-    setting: &Setting<'_>,
-    wires: &mut Vec<Var>,
-) -> Result<(), AllocError>
+pub fn add_inner_wires(setting: &Setting<'_>, wires: &mut Vec<Var>) -> Result<(), AllocError>
     ensures { OnOk result (wires.new.items ≡ wires.old.items ++ plain.inner_wires (named_in setting.now) (tag_width setting.now)) }
 {
     for state in 0..setting.program.entities.len() {
@@ -141,11 +120,7 @@ fn add_wire(
 }
 
 /// A step's wires, from wire k on, and the number of the next wire.
-fn add_step(
-    setting: &Setting<'_>,
-    wires: &mut Vec<Var>,
-    k: u32,
-) -> Result<u32, AllocError>
+fn add_step(setting: &Setting<'_>, wires: &mut Vec<Var>, k: u32) -> Result<u32, AllocError>
     requires { k + 5 < 2 ^ 32 }
     ensures wires { OnOk result (wires.new.items ≡ wires.old.items ++ plain.step_wires (named_in setting.now) (tag_width setting.now) k) }
     ensures next { IfOk result (λ next. next ≡ k + 5) }

@@ -136,7 +136,8 @@ no_tag n free x y a b e =
     cc
 
 -- of registers and memories
-either_declared : (n : Net) → IsNetlist n → (y : Name) → is_among y (register_names n ++ memory_names n) ≡ true → (is_among y (register_names n) ≡ true) ⊎ (is_among y (memory_names n) ≡ true)
+either_declared : (n : Net) → IsNetlist n → (y : Name) → is_among y (register_names n ++ memory_names n) ≡ true
+    → (is_among y (register_names n) ≡ true) ⊎ (is_among y (memory_names n) ≡ true)
 either_declared n rules y h = or_cases (is_among y (register_names n)) (is_among y (memory_names n)) (sym (among_append y (register_names n) (memory_names n)) ∙ h)
 
 declared_of : (n : Net) → IsNetlist n → (y : Name) → is_among y (register_names n ++ memory_names n) ≡ true → is_among y n.names ≡ true
@@ -159,7 +160,8 @@ whose : (w : ℕ) (n m : Net) → HasTaggedForm w n m → (y : Name) (o : Operan
     → (is_among y (register_names n) ≡ true) ⊎ (is_among y (map name_of_tag (register_names n ++ memory_names n)) ≡ true)
 whose w n m form y o h =
     or_cases (is_among y (register_names n)) (is_among y (map name_of_tag (register_names n ++ memory_names n)))
-    (sym (among_append y (register_names n) (map name_of_tag (register_names n ++ memory_names n))) ∙ sym (form.registers y) ∙ found_among (λ r. r.name) (λ r. r.next) m.registers y o h)
+    (sym (among_append y (register_names n) (map name_of_tag (register_names n ++ memory_names n))) ∙ sym (form.registers y)
+    ∙ found_among (λ r. r.name) (λ r. r.next) m.registers y o h)
 
 none_unless : {A : Type 0} (o : Option A) → ((a : A) → o ≡ Some a → ⊥) → o ≡ None
 none_unless None f = refl

@@ -49,7 +49,8 @@ pub takes_tags : (w : ℕ) (n m : Net) → HasTaggedForm w n m → TakesTags w n
 takes_tags w n m form [] a = tt
 takes_tags w n m form (xs ∷ xss) a = (rw form.inputs (inputs_fit w n.inputs xs a.0), takes_tags w n m form xss a.1)
 
-inputs_read : (w : ℕ) (is : List Input) (xs : List TaggedNumber) (u : Valuation) → InputsAre u (tagged_inputs w is) (woven xs) → InputsAre u is (numbers_of xs) × TagsGiven (tags_in u) is xs
+inputs_read : (w : ℕ) (is : List Input) (xs : List TaggedNumber) (u : Valuation) → InputsAre u (tagged_inputs w is) (woven xs)
+    → InputsAre u is (numbers_of xs) × TagsGiven (tags_in u) is xs
 inputs_read w [] [] u a = (tt, tt)
 inputs_read w [] (x ∷ xs) u a = absurd a
 inputs_read w (i ∷ is) [] u a = absurd a
@@ -63,7 +64,8 @@ within_read w n m form u a =
 valuation_read : (w : ℕ) (n m : Net) → CarriesCycle w n m → (u : Valuation) → IsValuation m u → IsValuation n u
 valuation_read w n m c u a = record { within = within_read w n m c.form u a.within; equations = (c.wires u a).0 }
 
-given_read : (w : ℕ) (n m : Net) → HasTaggedForm w n m → (xs : List TaggedNumber) (u : Valuation) → InputsAre u m.inputs (woven xs) → InputsAre u n.inputs (numbers_of xs) × TagsGiven (tags_in u) n.inputs xs
+given_read : (w : ℕ) (n m : Net) → HasTaggedForm w n m → (xs : List TaggedNumber) (u : Valuation) → InputsAre u m.inputs (woven xs)
+    → InputsAre u n.inputs (numbers_of xs) × TagsGiven (tags_in u) n.inputs xs
 given_read w n m form xs u a =
     inputs_read w n.inputs xs u (subst (λ (is : List Input). InputsAre u is (woven xs)) form.inputs a)
 
@@ -114,7 +116,8 @@ memory_seen n m p x k e b = (
   at_named (λ y k. (tags_in (observed m p)).memory y ≡ written_tag p (tags_in p) k) (λ m. m.name) (λ m. m) n.memories b.1.1 x k e,
 )
 
-seen_one : (w : ℕ) (n m : Net) → CarriesCycle w n m → IsNetlist n → HasRoomForTags n → IsNetlist m → (p : Valuation) → IsValuation m p → AreRelated Equal n (read_off (observed m p)) (observed_with_tags n (read_off p))
+seen_one : (w : ℕ) (n m : Net) → CarriesCycle w n m → IsNetlist n → HasRoomForTags n → IsNetlist m → (p : Valuation) → IsValuation m p
+    → AreRelated Equal n (read_off (observed m p)) (observed_with_tags n (read_off p))
 seen_one w n m c old free rules p a =
     let b = c.later p (observed m p) a (observed_registers m rules p, observed_memories m rules p) in
     record {

@@ -121,7 +121,8 @@ Kept sc t s = (n : Name) (u : ℕ) → find sc n ≡ Some u → t.value n ≡ s.
 kept_less : (e : Name × ℕ) (sc : Scope) (t s : Tags) → find sc e.0 ≡ None → Kept (e ∷ sc) t s → Kept sc t s
 kept_less e sc t s fresh a n u h = a n u (found_behind sc e.0 e.1 fresh n u h)
 
-inputs_along : (ms : Shapes) (is : List Input) (xs : List TaggedNumber) (sd : Scope) (t s : Tags) → AreValues ms (map (λ i. (i.name, i.width)) is ++ sd) → Kept (map (λ i. (i.name, i.width)) is ++ sd) t s
+inputs_along : (ms : Shapes) (is : List Input) (xs : List TaggedNumber) (sd : Scope) (t s : Tags)
+    → AreValues ms (map (λ i. (i.name, i.width)) is ++ sd) → Kept (map (λ i. (i.name, i.width)) is ++ sd) t s
     → TagsGiven t is xs → TagsGiven s is xs
 inputs_along ms [] [] sd t s rules a h = tt
 inputs_along ms [] (x ∷ xs) sd t s rules a h = h
@@ -144,7 +145,8 @@ registers_along ms f (r ∷ rs) t s rules a h = (
   registers_along ms f rs t s rules.3 (kept_less (r.name, r.width) _ t s rules.1 a) h.1,
 )
 
-memories_along : (f : Memory → ℕ) (ms : List Memory) (t s : Tags) → t.memory ≡ s.memory → AllByRecursion (λ m. t.memory m.name ≡ f m) ms → AllByRecursion (λ m. s.memory m.name ≡ f m) ms
+memories_along : (f : Memory → ℕ) (ms : List Memory) (t s : Tags) → t.memory ≡ s.memory → AllByRecursion (λ m. t.memory m.name ≡ f m) ms
+    → AllByRecursion (λ m. s.memory m.name ≡ f m) ms
 memories_along f [] t s e h = tt
 memories_along f (m ∷ ms) t s e h = (sym (ap (λ g. g m.name) e) ∙ h.0, memories_along f ms t s e h.1)
 
@@ -182,7 +184,8 @@ cycle_tainted n rules p xs v a =
       },
     )
 
-run_tainted : (n : Net) → IsNetlist n → (xss : List (List TaggedNumber)) (p : Option TaggedValuation) (vs : List Valuation) → IsRunAfter n (option_map (λ c. c.numbers) p) (map numbers_of xss) vs
+run_tainted : (n : Net) → IsNetlist n → (xss : List (List TaggedNumber)) (p : Option TaggedValuation) (vs : List Valuation)
+    → IsRunAfter n (option_map (λ c. c.numbers) p) (map numbers_of xss) vs
     → (cs : List TaggedValuation) × IsTaintedRunAfter n p xss cs × (map (λ c. c.numbers) cs ≡ vs)
 run_tainted n rules [] p [] a = ([], tt, refl)
 run_tainted n rules [] p (v ∷ vs) a = absurd a

@@ -80,7 +80,8 @@ inputs_look o codes l (x ∷ xs) (y ∷ ys) e = (
   inputs_look o codes l xs ys e.1,
 )
 
-streams_look : (o : Order) → Codes o → (l : ℕ) (a b : List (List Tagged)) → StreamsAgree o l a b → StreamsRelated (AlikeWithin (code_of o l)) (stream_with_codes o a) (stream_with_codes o b)
+streams_look : (o : Order) → Codes o → (l : ℕ) (a b : List (List Tagged)) → StreamsAgree o l a b
+    → StreamsRelated (AlikeWithin (code_of o l)) (stream_with_codes o a) (stream_with_codes o b)
 streams_look o codes l [] [] e = tt
 streams_look o codes l [] (y ∷ ys) e = absurd e
 streams_look o codes l (x ∷ xs) [] e = absurd e

@@ -28,7 +28,8 @@ memory_seen : (R : Relation) (c d : TaggedValuation) (x : Name) (o : Option Memo
 memory_seen R c d x None a f = a
 memory_seen R c d x (Some m) a f = f m refl
 
-pub seen_related : (R : Relation) → Keeps R → (n : Net) → IsNetlist n → (c d : TaggedValuation) → AreRelated R n c d → AreRelated R n (observed_with_tags n c) (observed_with_tags n d)
+pub seen_related : (R : Relation) → Keeps R → (n : Net) → IsNetlist n → (c d : TaggedValuation) → AreRelated R n c d
+    → AreRelated R n (observed_with_tags n c) (observed_with_tags n d)
 seen_related R k n rules c d a =
     record {
       value = λ x w h. value_seen R c d x (find (map (λ r. (r.name, r.next)) n.registers) x) (a.value x w h)
@@ -38,7 +39,8 @@ seen_related R k n rules c d a =
           (all_written_related R k (readable n) (shapes n) c d a.value a.memory n.memories rules.writes (all_found n.memories rules.memory_shapes)) x);
     }
 
-pub all_seen_related : (R : Relation) → Keeps R → (n : Net) → IsNetlist n → (cs ds : List TaggedValuation) → RunsRelated R n cs ds → RunsRelated R n (map (observed_with_tags n) cs) (map (observed_with_tags n) ds)
+pub all_seen_related : (R : Relation) → Keeps R → (n : Net) → IsNetlist n → (cs ds : List TaggedValuation) → RunsRelated R n cs ds
+    → RunsRelated R n (map (observed_with_tags n) cs) (map (observed_with_tags n) ds)
 all_seen_related R k n rules [] [] a = tt
 all_seen_related R k n rules [] (d ∷ ds) a = absurd a
 all_seen_related R k n rules (c ∷ cs) [] a = absurd a

@@ -117,7 +117,8 @@ written_related R k sc ms c d a b m rules has =
       | inl t ↦ (let e = (g.1 t).0 in let f = (g.1 t).1 in cc)
       | inr f ↦ rw (same, f) kept
     ])
-    (k.joined _ ((operand_value d.numbers m.enable == 1) ≡ true → (operand_value c.numbers m.index ≡ operand_value d.numbers m.index) × (operand_value c.numbers m.value ≡ operand_value d.numbers m.value)) _ _ _ _
+    (k.joined _ ((operand_value d.numbers m.enable == 1) ≡ true → (operand_value c.numbers m.index ≡ operand_value d.numbers m.index)
+    × (operand_value c.numbers m.value ≡ operand_value d.numbers m.value)) _ _ _ _
     (k.joined _ _ _ _ _ _ (b m.name _ has) (λ _. enable))
     (λ g. elim (cases_Bool (operand_value d.numbers m.enable == 1)) [
       | inl t ↦ rw (g.1, t) (k.follow _ _ _ _ (λ p _. p) (k.joined _ _ _ _ _ _ index (λ _. value)))

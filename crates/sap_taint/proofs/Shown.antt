@@ -21,7 +21,8 @@ abbrev Follows : Relation → Type 1
 Follows R = (P Q : Type 0) (t u : ℕ) → (P → Q) → R P t u → R Q t u
 
 -- equal contents are related as these are
-between_equals : (R : Relation) → Follows R → (n : Net) (c c' d d' : TaggedValuation) → AreRelated Equal n c c' → AreRelated Equal n d d' → AreRelated R n c' d' → AreRelated R n c d
+between_equals : (R : Relation) → Follows R → (n : Net) (c c' d d' : TaggedValuation) → AreRelated Equal n c c' → AreRelated Equal n d d'
+    → AreRelated R n c' d' → AreRelated R n c d
 between_equals R follow n c c' d d' e f r =
     record {
       value = λ x w h. let p = e.value x w h in let q = f.value x w h in

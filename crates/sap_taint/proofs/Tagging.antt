@@ -58,7 +58,8 @@ given_rules =
     }
 
 -- what is found on a list is one of its entries
-pub one_of : (P : Name → ℕ → Type 0) (e : Name × ℕ) (es : Scope) → P e.0 e.1 → ((x : Name) (k : ℕ) → find es x ≡ Some k → P x k) → (x : Name) (k : ℕ) → find (e ∷ es) x ≡ Some k → P x k
+pub one_of : (P : Name → ℕ → Type 0) (e : Name × ℕ) (es : Scope) → P e.0 e.1 → ((x : Name) (k : ℕ) → find es x ≡ Some k → P x k)
+    → (x : Name) (k : ℕ) → find (e ∷ es) x ≡ Some k → P x k
 one_of P e es here rest x k h =
     elim (cases_Bool (bytes_eq e.0 x)) [
       | inl t ↦ (

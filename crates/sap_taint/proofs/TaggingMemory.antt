@@ -103,8 +103,17 @@ tagged_rules =
       ports_first = refl;
       ports_show = (refl, (refl, (refl, (refl, (refl, (refl, tt))))));
       inputs_are_ports = refl;
-      values =
-          (bit_wide, refl, refl, (two_wide, refl, refl, (byte_wide, refl, refl, (two_wide, refl, refl, (byte_wide, refl, refl, (two_wide, refl, refl, (two_wide, refl, refl, tt)))))));
+      values = (
+        bit_wide,
+        refl,
+        refl,
+        (
+          two_wide,
+          refl,
+          refl,
+          (byte_wide, refl, refl, (two_wide, refl, refl, (byte_wide, refl, refl, (two_wide, refl, refl, (two_wide, refl, refl, tt))))),
+        ),
+      );
       memory_shapes = (byte_wide, refl, tt);
       assigns = (
         byte_wide,

@@ -46,7 +46,11 @@ none_there false h = refl
 
 values_distinct : (ms : Shapes) (rs : List Register) → AreValues ms (first.register_entries rs) → AreDistinct (names_in rs)
 values_distinct ms [] a = tt
-values_distinct ms (r ∷ rs) a = (none_there (is_among r.name (names_in rs)) (λ t. let g = found_of (λ r. r.name) (λ r. r.width) rs r.name t in let e = g.1 in let f = a.1 in cc), values_distinct ms rs a.3)
+values_distinct ms (r ∷ rs) a = (
+  none_there (is_among r.name (names_in rs)) (λ t. let g =
+      found_of (λ r. r.name) (λ r. r.width) rs r.name t in let e = g.1 in let f = a.1 in cc),
+  values_distinct ms rs a.3,
+)
 
 entries_past : (ms : Shapes) (es bs : Scope) → AreValues ms (es ++ bs) → AreValues ms bs
 entries_past ms [] bs a = a
@@ -80,7 +84,8 @@ memories_start : (helping : ℕ → Name) (w k : ℕ) (u : Valuation) (ms : List
 memories_start helping w k u [] a = tt
 memories_start helping w k u (m ∷ ms) a = (a.0, memories_start helping w (k + 4) u ms a.1)
 
-pub first_begins : (helping : ℕ → Name) (w : ℕ) (n : Net) → Setting helping w n → (u : Valuation) → Begins (tainted_by helping w n) None u → Begins n None u × TagsBegin n None (tags_in u)
+pub first_begins : (helping : ℕ → Name) (w : ℕ) (n : Net) → Setting helping w n → (u : Valuation) → Begins (tainted_by helping w n) None u
+    → Begins n None u × TagsBegin n None (tags_in u)
 first_begins helping w n s u a =
     let each = of_each helping w n s (λ r. u.value r.name ≡ r.start) a.0 in
     let b = registers_start w u n.registers each.0 in
@@ -107,7 +112,8 @@ conditions_below : (sm : Scope) (p : Valuation) → ((x : Name) (u : ℕ) → fi
 conditions_below sm p below ms a =
     all_follow (IsMemory sm) (λ m. operand_value p m.enable < 2) ms (λ m h. operand_below sm p below 1 m.enable h.enable) a
 
-pub later_begins : (helping : ℕ → Name) (w : ℕ) (n : Net) → Setting helping w n → (p u : Valuation) → IsValuation (tainted_by helping w n) p → Begins (tainted_by helping w n) (Some p) u
+pub later_begins : (helping : ℕ → Name) (w : ℕ) (n : Net) → Setting helping w n → (p u : Valuation) → IsValuation (tainted_by helping w n) p
+    → Begins (tainted_by helping w n) (Some p) u
     → Begins n (Some p) u × TagsBegin n (Some (read_off p)) (tags_in u)
 later_begins helping w n s p u v a =
     let m = tainted_by helping w n in
@@ -132,12 +138,14 @@ same_widths : (sc : Scope) (a b : Name → ℕ) → WidthsAre sc a → WidthsAre
 same_widths sc a b h k u [] i = refl
 same_widths sc a b h k u (o ∷ os) i = ap₂ (λ x y. x + y) (same_width sc a b h k i.0 o i.3) (same_widths sc a b h k i.1 os i.4)
 
-same_operands : (sc : Scope) (a b : Name → ℕ) (v : Valuation) → WidthsAre sc a → WidthsAre sc b → (u : ℕ) (os : List Operand) → AreOperands sc u os → operands_value a v os ≡ operands_value b v os
+same_operands : (sc : Scope) (a b : Name → ℕ) (v : Valuation) → WidthsAre sc a → WidthsAre sc b → (u : ℕ) (os : List Operand)
+    → AreOperands sc u os → operands_value a v os ≡ operands_value b v os
 same_operands sc a b v h k u [] i = refl
 same_operands sc a b v h k u (o ∷ os) i =
     ap₂ (λ x y. concat.joined (operand_value v o) x y) (same_widths sc a b h k i.1 os i.4) (same_operands sc a b v h k i.1 os i.4)
 
-same_right : (ms : Shapes) (sc : Scope) (a b : Name → ℕ) (v : Valuation) → WidthsAre sc a → WidthsAre sc b → (u : ℕ) (r : Right) → IsRight ms sc u r → right_value a v r ≡ right_value b v r
+same_right : (ms : Shapes) (sc : Scope) (a b : Name → ℕ) (v : Valuation) → WidthsAre sc a → WidthsAre sc b → (u : ℕ) (r : Right)
+    → IsRight ms sc u r → right_value a v r ≡ right_value b v r
 same_right ms sc a b v h k u (Copy o) i = refl
 same_right ms sc a b v h k u (One op o) i = ap (λ x. value1 op x (operand_value v o)) (same_width sc a b h k i.0 o i.2)
 same_right ms sc a b v h k u (Two op o q) i = ap (λ x. value2 op x (operand_value v o) (operand_value v q)) (same_width sc a b h k i.0 o i.4)
@@ -146,7 +154,8 @@ same_right ms sc a b v h k u (Concat os) i = same_operands sc a b v h k u os i.1
 same_right ms sc a b v h k u (Slice x hi lo) i = refl
 same_right ms sc a b v h k u (Cell m o) i = refl
 
-data_holds : (ms : Shapes) (all : Scope) (a b : Name → ℕ) (v : Valuation) → WidthsAre all a → WidthsAre all b → (ws : List Wire) (sc : Scope) → AreWires ms sc ws → Grows (readable_after sc ws) all
+data_holds : (ms : Shapes) (all : Scope) (a b : Name → ℕ) (v : Valuation) → WidthsAre all a → WidthsAre all b
+    → (ws : List Wire) (sc : Scope) → AreWires ms sc ws → Grows (readable_after sc ws) all
     → Holds a v ws → Holds b v ws
 data_holds ms all a b v h k [] sc rules g holds = tt
 data_holds ms all a b v h k (x ∷ ws) sc rules g holds = (
@@ -161,7 +170,8 @@ tags_hold helping w widths v k (x ∷ ws) h =
     let parts = holds_parts widths v (joined helping w k (name_of_tag x.name) (tags_read x)) (tag_wires helping w (k + c) ws) h in
     (joined_value helping w widths v k (name_of_tag x.name) (tags_read x) parts.0 ∙ join_is_tag v x.right, tags_hold helping w widths v (k + c) ws parts.1)
 
-pub wires_hold : (helping : ℕ → Name) (w : ℕ) (n : Net) → Setting helping w n → (u : Valuation) → IsValuation (tainted_by helping w n) u → Holds (width_of n) u n.wires × TagsHold (tags_in u) n.wires
+pub wires_hold : (helping : ℕ → Name) (w : ℕ) (n : Net) → Setting helping w n → (u : Valuation) → IsValuation (tainted_by helping w n) u
+    → Holds (width_of n) u n.wires × TagsHold (tags_in u) n.wires
 wires_hold helping w n s u a =
     let m = tainted_by helping w n in
     let whole = holds_parts (width_of m) u n.wires (the_tag_wires helping w n ++ the_write_wires helping w n) a.equations in

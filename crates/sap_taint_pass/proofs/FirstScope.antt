@@ -59,7 +59,8 @@ gathered helping w k (i ∷ is) rs ms = ap (λ es. (i.name, i.width) ∷ (name_o
 
 -- names are found as they were
 
-no_tag_entry : (helping : ℕ → Name) (w : ℕ) (n : Net) → Setting helping w n → (ms : List Memory) → AreDeclared n.names (memory_entries ms) → (y : Name) → IsDeclared n y → find (tag_entries w ms) y ≡ None
+no_tag_entry : (helping : ℕ → Name) (w : ℕ) (n : Net) → Setting helping w n → (ms : List Memory) → AreDeclared n.names (memory_entries ms)
+    → (y : Name) → IsDeclared n y → find (tag_entries w ms) y ≡ None
 no_tag_entry helping w n s [] d y a = refl
 no_tag_entry helping w n s (m ∷ ms) d y a = rw (tag_apart helping w n s m.name y d.0 a) (no_tag_entry helping w n s ms d.1 y a)
 
@@ -74,7 +75,8 @@ name_entry helping w n s (e ∷ es) d y a =
 
 -- tags are found with theirs
 
-pub memory_tag_entry : (helping : ℕ → Name) (w : ℕ) (n : Net) → Setting helping w n → (ms : List Memory) → AreDeclared n.names (memory_entries ms) → (y : Name) → IsDeclared n y → (q : ℕ × ℕ)
+pub memory_tag_entry : (helping : ℕ → Name) (w : ℕ) (n : Net) → Setting helping w n → (ms : List Memory)
+    → AreDeclared n.names (memory_entries ms) → (y : Name) → IsDeclared n y → (q : ℕ × ℕ)
     → find (memory_entries ms) y ≡ Some q → find (tag_entries w ms) (name_of_tag y) ≡ Some w
 memory_tag_entry helping w n s [] d y a q h = absurd (cc)
 memory_tag_entry helping w n s (m ∷ ms) d y a q h =
@@ -114,7 +116,8 @@ tag_found helping w n s (e ∷ es) d y a u h =
 
 -- and nothing else is
 
-pub entries_declared : (w : ℕ) (ns : List Name) (es : Scope) (bs : Scope) → AreDeclared ns es → AreDeclared (with_tags ns) bs → AreDeclared (with_tags ns) (tagged_entries w es ++ bs)
+pub entries_declared : (w : ℕ) (ns : List Name) (es : Scope) (bs : Scope) → AreDeclared ns es → AreDeclared (with_tags ns) bs
+    → AreDeclared (with_tags ns) (tagged_entries w es ++ bs)
 entries_declared w ns [] bs d b = b
 entries_declared w ns (e ∷ es) bs d b =
     (name_with_tags e.0 ns d.0, (tag_with_tags (name_of_tag e.0) ns (tag_among e.0 ns d.0), entries_declared w ns es bs d.1 b))
@@ -124,11 +127,13 @@ tags_declared w ns [] d = tt
 tags_declared w ns (m ∷ ms) d = (tag_with_tags (name_of_tag m.name) ns (tag_among m.name ns d.0), tags_declared w ns ms d.1)
 
 pub all_declared : (helping : ℕ → Name) (w : ℕ) (n : Net) → Setting helping w n → AreDeclared (with_tags n.names) (all_entries w n)
-all_declared helping w n s = entries_declared w n.names (first_readable n) (tag_entries w n.memories) (first_declared n s.rules) (tags_declared w n.names n.memories (shapes_declared n s.rules))
+all_declared helping w n s = entries_declared w n.names (first_readable n) (tag_entries w n.memories) (first_declared n s.rules)
+    (tags_declared w n.names n.memories (shapes_declared n s.rules))
 
 -- they are values
 
-tags_are_values : (helping : ℕ → Name) (w : ℕ) (n : Net) → Setting helping w n → (ms : List Memory) → AreDeclared n.names (memory_entries ms) → AreMemories (memory_entries ms) → AreValues (shapes n) (tag_entries w ms)
+tags_are_values : (helping : ℕ → Name) (w : ℕ) (n : Net) → Setting helping w n → (ms : List Memory)
+    → AreDeclared n.names (memory_entries ms) → AreMemories (memory_entries ms) → AreValues (shapes n) (tag_entries w ms)
 tags_are_values helping w n s [] d rules = tt
 tags_are_values helping w n s (m ∷ ms) d rules = (
   s.wide,
@@ -162,7 +167,8 @@ find_behind (e ∷ es) bs cs y h =
       | inr f ↦ rw f (find_behind es bs cs y h)
     ]
 
-pub any_found : (xs : List Name) (rs : List Register) → AreDeclared xs (register_entries rs) → (y : Name) → find (register_entries (in_order xs rs)) y ≡ find (register_entries rs) y
+pub any_found : (xs : List Name) (rs : List Register) → AreDeclared xs (register_entries rs) → (y : Name)
+    → find (register_entries (in_order xs rs)) y ≡ find (register_entries rs) y
 any_found xs rs d y =
     elim (cases_Bool (is_among y xs)) [
       | inl t ↦ still_found (λ r. r.width) xs rs y t
@@ -173,7 +179,8 @@ pub each_value : (ms : Shapes) (rs : List Register) → AreValues ms (register_e
 each_value ms [] a = tt
 each_value ms (r ∷ rs) a = ((a.0, a.2), each_value ms rs a.3)
 
-pub ordered_values : (ms : Shapes) (xs : List Name) (rs : List Register) → AreDistinct xs → AllByRecursion (λ r. IsWidth r.width × (find ms r.name ≡ None)) (in_order xs rs) → AreValues ms (register_entries (in_order xs rs))
+pub ordered_values : (ms : Shapes) (xs : List Name) (rs : List Register) → AreDistinct xs
+    → AllByRecursion (λ r. IsWidth r.width × (find ms r.name ≡ None)) (in_order xs rs) → AreValues ms (register_entries (in_order xs rs))
 ordered_values ms [] rs d a = tt
 ordered_values ms (x ∷ xs) rs d a =
     elim (cases_found (find (by_name rs) x)) [
@@ -189,7 +196,8 @@ ordered_values ms (x ∷ xs) rs d a =
           rw r.1 (b.0.0, new, b.0.1, ordered_values ms xs rs d.1 b.1))
     ]
 
-pub values_behind : (ms : Shapes) (is : List Input) (bs cs : Scope) → ((y : Name) → find cs y ≡ find bs y) → (AreValues ms bs → AreValues ms cs) → AreValues ms (input_entries is ++ bs) → AreValues ms (input_entries is ++ cs)
+pub values_behind : (ms : Shapes) (is : List Input) (bs cs : Scope) → ((y : Name) → find cs y ≡ find bs y)
+    → (AreValues ms bs → AreValues ms cs) → AreValues ms (input_entries is ++ bs) → AreValues ms (input_entries is ++ cs)
 values_behind ms [] bs cs same f a = f a
 values_behind ms (i ∷ is) bs cs same f a =
     (a.0, find_behind (input_entries is) cs bs i.name (same i.name) ∙ a.1, a.2, values_behind ms is bs cs same f a.3)

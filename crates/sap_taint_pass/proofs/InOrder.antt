@@ -154,7 +154,8 @@ all_ordered P (x ∷ xs) rs a =
       | inr r ↦ rw r.1 (of_found P rs x r.0 r.1 a, all_ordered P xs rs a)
     ]
 
-at_ordered : (P : Register → Type 0) (xs : List Name) (rs : List Register) → AllByRecursion P (in_order xs rs) → (x : Name) (r : Register) → is_among x xs ≡ true → find (by_name rs) x ≡ Some r → P r
+at_ordered : (P : Register → Type 0) (xs : List Name) (rs : List Register) → AllByRecursion P (in_order xs rs) → (x : Name) (r : Register)
+    → is_among x xs ≡ true → find (by_name rs) x ≡ Some r → P r
 at_ordered P [] rs a x r m h = absurd (cc)
 at_ordered P (y ∷ xs) rs a x r m h =
     elim (cases_Bool (bytes_eq x y)) [

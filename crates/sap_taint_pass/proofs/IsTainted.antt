@@ -63,7 +63,8 @@ helpers_named helping w n s =
     (λ x m. let r = numbered helping 0 (help_count n) x m in subst (λ (y : Name). is_name y ≡ true) (sym r.3) (s.names.named r.0 (omega (arith, r.2))))
 
 -- a helping name is no other
-pub helper_is_free : (helping : ℕ → Name) (w : ℕ) (n : Net) → Setting helping w n → (x : Name) → is_among x (helping_names helping n) ≡ true → is_among x (with_tags n.names) ≡ false
+pub helper_is_free : (helping : ℕ → Name) (w : ℕ) (n : Net) → Setting helping w n → (x : Name) → is_among x (helping_names helping n) ≡ true
+    → is_among x (with_tags n.names) ≡ false
 helper_is_free helping w n s x m =
     let r = numbered helping 0 (help_count n) x m in
     subst (λ (y : Name). is_among y (with_tags n.names) ≡ false) (sym r.3) (help_free helping w n s r.0)
@@ -108,7 +109,8 @@ follows false false h = refl
 pub all_registers_declared : (helping : ℕ → Name) (w : ℕ) (n : Net) → Setting helping w n → AllAmong (names_in (all_registers helping w n)) (with_tags n.names)
 all_registers_declared helping w n s x m =
     let h : is_among x (with_tags (register_names n) ++ map name_of_tag (memory_names n)) ≡ true = sym (ap (is_among x) (unordered_names helping w n)) ∙ m in
-    elim (or_cases (is_among x (with_tags (register_names n))) (is_among x (map name_of_tag (memory_names n))) (sym (among_append x (with_tags (register_names n)) (map name_of_tag (memory_names n))) ∙ h)) [
+    elim (or_cases (is_among x (with_tags (register_names n))) (is_among x (map name_of_tag (memory_names n)))
+    (sym (among_append x (with_tags (register_names n)) (map name_of_tag (memory_names n))) ∙ h)) [
       | inl a ↦ elim (or_cases (is_among x (register_names n)) (is_among x (map name_of_tag (register_names n))) (sym (among_with_tags x (register_names n)) ∙ a)) [
         | inl b ↦ name_with_tags x n.names (registers_among n s.rules x b)
         | inr b ↦ tag_of_declared n (register_names n) (registers_among n s.rules) x b
@@ -117,7 +119,8 @@ all_registers_declared helping w n s x m =
     ]
 
 pub ordered_registers : (helping : ℕ → Name) (w : ℕ) (n : Net) → Setting helping w n → (x : Name)
-    → is_among x (register_names (tainted_by helping w n)) ≡ ((is_among x (register_names n) || is_among x (map name_of_tag (register_names n))) || is_among x (map name_of_tag (memory_names n)))
+    → is_among x (register_names (tainted_by helping w n))
+    ≡ ((is_among x (register_names n) || is_among x (map name_of_tag (register_names n))) || is_among x (map name_of_tag (memory_names n)))
 ordered_registers helping w n s x =
     let rs = all_registers helping w n in
     let f = λ (y : Name). is_among y (names_in rs) in

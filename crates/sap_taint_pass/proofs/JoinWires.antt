@@ -100,7 +100,8 @@ joins_value helping w widths v k x t (a ∷ (b ∷ ts)) h =
     ∙ ap (λ n. bit_or n (join_of v (b ∷ ts))) h.0
     ∙ or_assoc (v.value t) (v.value a) (join_of v (b ∷ ts))
 
-pub joined_value : (helping : ℕ → Name) (w : ℕ) (widths : Name → ℕ) (v : Valuation) (k : ℕ) (x : Name) (ts : List Name) → Holds widths v (joined helping w k x ts) → v.value x ≡ join_of v ts
+pub joined_value : (helping : ℕ → Name) (w : ℕ) (widths : Name → ℕ) (v : Valuation) (k : ℕ) (x : Name) (ts : List Name)
+    → Holds widths v (joined helping w k x ts) → v.value x ≡ join_of v ts
 joined_value helping w widths v k x [] h = h.0
 joined_value helping w widths v k x (t ∷ ts) h = joins_value helping w widths v k x t ts h
 

@@ -48,6 +48,7 @@ numbers_count k (suc count) = ap suc (numbers_count (k + 1) count)
 pub is_small : (w : ℕ) (n : Net) (names : List Name) → length names < 2 ^ 63 → names ≡ (tainted w n).names → IsSmall n
 is_small w n names few same =
     let count : length (helping_names (helping_name n) n) ≡ help_count n = length-map (numbers_from 0 (help_count n)) (helping_name n) ∙ numbers_count 0 (help_count n) in
-    let both : length (tainted w n).names ≡ length (with_tags n.names) + length (helping_names (helping_name n) n) = length-append (with_tags n.names) (helping_names (helping_name n) n) in
+    let both : length (tainted w n).names ≡ length (with_tags n.names) + length (helping_names (helping_name n) n) =
+    length-append (with_tags n.names) (helping_names (helping_name n) n) in
     let all : length names ≡ length (tainted w n).names = ap length same in
     omega (arith, few, count, both, all)

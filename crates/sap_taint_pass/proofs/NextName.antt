@@ -70,7 +70,8 @@ all_taken n (suc k) j a b =
                 let here : is_among (helping_name n k) (help_from n 0 (suc k)) ≡ true = one_of_some (helping_name n) 0 (suc k) k (omega arith) (omega arith) in
                 among_behind (numbered j) (taken_names n) (help_from n 0 (suc k)) (subst (λ (i : ℕ). is_among (numbered i) (help_from n 0 (suc k)) ≡ true) (sym e) here)
             | inr g ↦
-                among_front (numbered j) (taken_names n) (help_from n 0 (suc k)) (passed_by (taken_names n) (length (taken_names n)) (free_number (taken_names n) k + 1) j (omega arith) b)
+                among_front (numbered j) (taken_names n) (help_from n 0 (suc k))
+                (passed_by (taken_names n) (length (taken_names n)) (free_number (taken_names n) k + 1) j (omega arith) b)
           ]
     ]
 

@@ -37,7 +37,8 @@ pub one_of_some : (helping : ℕ → Name) (k count i : ℕ) → k ≤ i → i <
 one_of_some helping k zero i a b = absurd (omega arith)
 one_of_some helping k (suc count) i a b =
     elim (cases_Bool (k == i)) [
-      | inl t ↦ (let e : k ≡ i = equal_of_test k i t in subst (λ j. is_among (helping j) (helping k ∷ some_names helping (k + 1) count) ≡ true) e (among_here (helping k) (some_names helping (k + 1) count)))
+      | inl t ↦ (let e : k ≡ i = equal_of_test k i t in
+          subst (λ j. is_among (helping j) (helping k ∷ some_names helping (k + 1) count) ≡ true) e (among_here (helping k) (some_names helping (k + 1) count)))
       | inr f ↦ or_right (bytes_eq (helping i) (helping k)) _ (one_of_some helping (k + 1) count i (above_unequal k i a f) (omega arith))
     ]
 

@@ -82,7 +82,8 @@ same_more ns sn sm e a y d =
 same_grows : (ns : List Name) (sn sm : Scope) → AreDeclared ns sn → SameDeclared ns sn sm → Grows sn sm
 same_grows ns sn sm d a y u h = a y (found_declared ns sn d y u h) ∙ h
 
-data_wires_fit : (ns : List Name) (ms : Shapes) (ws : List Wire) (sn sm : Scope) → AreDeclared ns sn → SameDeclared ns sn sm → AllAmong (names_of ws) ns → AreWires ms sn ws → AreWires ms sm ws
+data_wires_fit : (ns : List Name) (ms : Shapes) (ws : List Wire) (sn sm : Scope) → AreDeclared ns sn → SameDeclared ns sn sm
+    → AllAmong (names_of ws) ns → AreWires ms sn ws → AreWires ms sm ws
 data_wires_fit ns ms [] sn sm d a k rules = tt
 data_wires_fit ns ms (x ∷ ws) sn sm d a k rules =
     let here = k x.name (among_here x.name (names_of ws)) in (
@@ -106,7 +107,8 @@ after_data helping w n = readable_after (first_readable (tainted_by helping w n)
 
 pub data_fits : (helping : ℕ → Name) (w : ℕ) (n : Net) → Setting helping w n → AreWires (shapes n) (first_readable (tainted_by helping w n)) n.wires
 data_fits helping w n s =
-    data_wires_fit n.names (shapes n) n.wires (first_readable n) (first_readable (tainted_by helping w n)) (first_declared n s.rules) (first_same helping w n s) (wires_among n s.rules) s.rules.assigns
+    data_wires_fit n.names (shapes n) n.wires (first_readable n) (first_readable (tainted_by helping w n)) (first_declared n s.rules)
+    (first_same helping w n s) (wires_among n s.rules) s.rules.assigns
 
 not_wire : (n : Net) → IsNetlist n → (y : Name) → is_among y n.names ≡ false → is_among y (wire_names n) ≡ false
 not_wire n rules y h =
@@ -116,7 +118,8 @@ not_wire n rules y h =
     ]
 
 -- a tag, and a helping name, are found there as they are from the start
-tag_there : (helping : ℕ → Name) (w : ℕ) (n : Net) → Setting helping w n → (y : Name) → IsDeclared n y → find (after_data helping w n) (name_of_tag y) ≡ find (first.all_entries w n) (name_of_tag y)
+tag_there : (helping : ℕ → Name) (w : ℕ) (n : Net) → Setting helping w n → (y : Name) → IsDeclared n y
+    → find (after_data helping w n) (name_of_tag y) ≡ find (first.all_entries w n) (name_of_tag y)
 tag_there helping w n s y d =
     readable_other n.wires (first_readable (tainted_by helping w n)) (name_of_tag y) (not_wire n s.rules (name_of_tag y) (tag_undeclared helping w n s y d))
     ∙ first_found helping w n s (name_of_tag y)
@@ -217,7 +220,8 @@ tags_help : (helping : ℕ → Name) (w : ℕ) (n : Net) → Setting helping w n
 tags_help helping w n s i h =
     readable_other (the_tag_wires helping w n) (after_data helping w n) (helping i)
     (tag_wires_names helping w 0 n.wires (helping i)
-    ∙ ap₂ (λ p q. p || q) (other_number helping s.names.apart 0 (help_for_wires n.wires) i (inr (omega arith))) (no_wire_tag helping w n s i (wire_names n) (wires_among n s.rules)))
+    ∙ ap₂ (λ p q. p || q) (other_number helping s.names.apart 0 (help_for_wires n.wires) i (inr (omega arith)))
+    (no_wire_tag helping w n s i (wire_names n) (wires_among n s.rules)))
     ∙ help_there helping w n s i
 
 -- the wires of writes
@@ -266,14 +270,16 @@ write_help helping w n s i a b =
     rw (readable_whole helping w n)
     (readable_new (shapes n) w (the_write_wires helping w n) (after_tags helping w n) (writes_fit helping w n s) (write_wires_wide helping w k n.memories) (helping i) m)
 
-tagged_registers_fit : (w : ℕ) (ms : Shapes) (sn sm : Scope) → Stocked w ms sn sm → (rs : List Register) → AllByRecursion (IsRegister sn) rs → AllByRecursion (IsRegister sm) (tagged_registers w rs)
+tagged_registers_fit : (w : ℕ) (ms : Shapes) (sn sm : Scope) → Stocked w ms sn sm → (rs : List Register) → AllByRecursion (IsRegister sn) rs
+    → AllByRecursion (IsRegister sm) (tagged_registers w rs)
 tagged_registers_fit w ms sn sm a [] rules = tt
 tagged_registers_fit w ms sn sm a (r ∷ rs) rules = (
   (rules.0.0, operand_grows sn sm a.numbers r.width r.next rules.0.1),
   ((pow_pos w, tag_fits w sm r.next (operand_tagged w ms sn sm a.tags r.width r.next rules.0.1)), tagged_registers_fit w ms sn sm a rs rules.1),
 )
 
-memory_tags_fit : (helping : ℕ → Name) (w : ℕ) (sm : Scope) (ms : List Memory) (k : ℕ) → ((i : ℕ) → k ≤ i → i < k + help_for_writes ms → find sm (helping i) ≡ Some w) → AllByRecursion (IsRegister sm) (memory_tags helping w k ms)
+memory_tags_fit : (helping : ℕ → Name) (w : ℕ) (sm : Scope) (ms : List Memory) (k : ℕ)
+    → ((i : ℕ) → k ≤ i → i < k + help_for_writes ms → find sm (helping i) ≡ Some w) → AllByRecursion (IsRegister sm) (memory_tags helping w k ms)
 memory_tags_fit helping w sm [] k h = tt
 memory_tags_fit helping w sm (m ∷ ms) k h =
     ((pow_pos w, h (k + 3) (omega arith) (omega arith)), memory_tags_fit helping w sm ms (k + 4) (λ i a b. h i (omega arith) (omega arith)))

@@ -56,7 +56,8 @@ pub name_apart : (helping : ℕ → Name) (w : ℕ) (n : Net) → Setting helpin
 name_apart helping w n s x y a b = bytes_eq_apart_back (name_of_tag y) x (tag_apart helping w n s y x b a)
 
 -- different names have different tags
-pub tags_apart : (helping : ℕ → Name) (w : ℕ) (n : Net) → Setting helping w n → (x y : Name) → IsDeclared n x → IsDeclared n y → bytes_eq x y ≡ false → bytes_eq (name_of_tag x) (name_of_tag y) ≡ false
+pub tags_apart : (helping : ℕ → Name) (w : ℕ) (n : Net) → Setting helping w n → (x y : Name) → IsDeclared n x → IsDeclared n y
+    → bytes_eq x y ≡ false → bytes_eq (name_of_tag x) (name_of_tag y) ≡ false
 tags_apart helping w n s x y a b d =
     elim (cases_Bool (bytes_eq (name_of_tag x) (name_of_tag y))) [
       | inl t ↦ absurd (

@@ -86,7 +86,8 @@ tag_wires_names helping w k (x ∷ ws) y =
     ap (is_among y) (names_both here rest)
     ∙ among_append y (names_of here) (names_of rest)
     ∙ ap₂ (λ p q. p || q)
-    (ap (is_among y) (joined_names helping w k t (tags_read x)) ∙ among_append y (some_names helping k c) (t ∷ []) ∙ ap (λ q. is_among y (some_names helping k c) || q) (or_false (bytes_eq y t)))
+    (ap (is_among y) (joined_names helping w k t (tags_read x)) ∙ among_append y (some_names helping k c) (t ∷ [])
+    ∙ ap (λ q. is_among y (some_names helping k c) || q) (or_false (bytes_eq y t)))
     (tag_wires_names helping w (k + c) ws y)
     ∙ turned (is_among y (some_names helping k c)) (bytes_eq y t) (is_among y (some_names helping (k + c) (help_for_wires ws))) (is_among y (map name_of_tag (names_of ws)))
     ∙ ap (λ p. p || (bytes_eq y t || is_among y (map name_of_tag (names_of ws))))
@@ -108,7 +109,8 @@ pub record Tagged (w : ℕ) (ms : Shapes) (sn sm : Scope) : Type 0 where
   pub value : (y : Name) (u : ℕ) → find sn y ≡ Some u → find sm (name_of_tag y) ≡ Some w
   pub memory : (y : Name) (s : ℕ × ℕ) → find ms y ≡ Some s → find sm (name_of_tag y) ≡ Some w
 
-operand_tags : (w : ℕ) (ms : Shapes) (sn sm : Scope) → Tagged w ms sn sm → (u : ℕ) (o : Operand) (os : List Operand) → IsOperand sn u o → AreTags sm w (tags_of os) → AreTags sm w (tags_of (o ∷ os))
+operand_tags : (w : ℕ) (ms : Shapes) (sn sm : Scope) → Tagged w ms sn sm → (u : ℕ) (o : Operand) (os : List Operand) → IsOperand sn u o
+    → AreTags sm w (tags_of os) → AreTags sm w (tags_of (o ∷ os))
 operand_tags w ms sn sm a u (Named x) os h rest = (a.value x u h, rest)
 operand_tags w ms sn sm a u (Constant v n) os h rest = rest
 
@@ -134,7 +136,8 @@ pub record Stands (helping : ℕ → Name) (w : ℕ) (n : Net) (sn sm : Scope) (
   pub declared : (x : Name) → is_among x (names_of ws) ≡ true → IsDeclared n x
   pub distinct : AreDistinct (names_of ws)
 
-here_fits : (helping : ℕ → Name) (w : ℕ) (n : Net) → Setting helping w n → (sn sm : Scope) (k : ℕ) (x : Wire) (ws : List Wire) → Stands helping w n sn sm k (x ∷ ws) → IsRight (shapes n) sn x.width x.right
+here_fits : (helping : ℕ → Name) (w : ℕ) (n : Net) → Setting helping w n → (sn sm : Scope) (k : ℕ) (x : Wire) (ws : List Wire)
+    → Stands helping w n sn sm k (x ∷ ws) → IsRight (shapes n) sn x.width x.right
     → AreWires (shapes n) sm (joined helping w k (name_of_tag x.name) (tags_read x))
 here_fits helping w n s sn sm k x ws a right =
     let declared = a.declared x.name (among_here x.name (names_of ws)) in
@@ -176,7 +179,8 @@ one_on helping w n s sn sm k x ws a fits =
       distinct = a.distinct.1;
     }
 
-pub tag_wires_fit : (helping : ℕ → Name) (w : ℕ) (n : Net) → Setting helping w n → (ws : List Wire) (sn sm : Scope) (k : ℕ) → Stands helping w n sn sm k ws → AreWires (shapes n) sn ws
+pub tag_wires_fit : (helping : ℕ → Name) (w : ℕ) (n : Net) → Setting helping w n → (ws : List Wire) (sn sm : Scope) (k : ℕ)
+    → Stands helping w n sn sm k ws → AreWires (shapes n) sn ws
     → AreWires (shapes n) sm (tag_wires helping w k ws)
 tag_wires_fit helping w n s [] sn sm k a rules = tt
 tag_wires_fit helping w n s (x ∷ ws) sn sm k a rules =

@@ -140,7 +140,8 @@ no_memory_among n rules y h =
       | inr f ↦ f
     ]
 
-memories_ordered : (helping : ℕ → Name) (w : ℕ) (n : Net) → Setting helping w n → filter (λ x. is_among x (memory_names n)) (with_tags n.names ++ helping_names helping n) ≡ memory_names n
+memories_ordered : (helping : ℕ → Name) (w : ℕ) (n : Net) → Setting helping w n
+    → filter (λ x. is_among x (memory_names n)) (with_tags n.names ++ helping_names helping n) ≡ memory_names n
 memories_ordered helping w n s =
     let f = λ (x : Name). is_among x (memory_names n) in
     filter_front f (with_tags n.names) (helping_names helping n) (λ y m. no_memory_among n s.rules y (not_with_tags n.names y (helper_is_free helping w n s y m)))
@@ -149,7 +150,8 @@ memories_ordered helping w n s =
 
 -- ports
 
-ports_in_front : (ps : List Port) (ns rest : List Name) → map (λ p. p.name) ps ≡ take (length ps) ns → map (λ p. p.name) (tagged_ports ps) ≡ take (length (tagged_ports ps)) (with_tags ns ++ rest)
+ports_in_front : (ps : List Port) (ns rest : List Name) → map (λ p. p.name) ps ≡ take (length ps) ns
+    → map (λ p. p.name) (tagged_ports ps) ≡ take (length (tagged_ports ps)) (with_tags ns ++ rest)
 ports_in_front [] ns rest h = refl
 ports_in_front (p ∷ ps) [] rest h = absurd (cc)
 ports_in_front (p ∷ ps) (x ∷ ns) rest h =

@@ -61,7 +61,8 @@ joint_value w widths v (Named x) (Constant u n) = sym (or_zero_r (v.value (name_
 joint_value w widths v (Constant u n) (Named y) = sym (or_zero_l (v.value (name_of_tag y)))
 joint_value w widths v (Constant u n) (Constant k m) = sym (or_zero_l 0)
 
-pub write_wires_fit : (helping : ℕ → Name) → AreApart helping → (w : ℕ) → IsWidth w → (ms : Shapes) → NoMemory helping ms → (sn sm : Scope) (k : ℕ) → Stocked w ms sn sm → HelpingNew helping sm k
+pub write_wires_fit : (helping : ℕ → Name) → AreApart helping → (w : ℕ) → IsWidth w → (ms : Shapes) → NoMemory helping ms
+    → (sn sm : Scope) (k : ℕ) → Stocked w ms sn sm → HelpingNew helping sm k
     → (mems : List Memory) → AllByRecursion (IsMemory sn) mems → AreFound ms mems → AreWires ms sm (write_wires helping w k mems)
 write_wires_fit helping one w wide ms none sn sm k a new [] rules found = tt
 write_wires_fit helping one w wide ms none sn sm k a new (m ∷ mems) rules found =

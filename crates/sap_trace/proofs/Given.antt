@@ -28,13 +28,16 @@ same_item (x ∷ xs) zero d e l = refl
 same_item (x ∷ xs) (suc k) d e l = same_item xs k d e (omega arith)
 
 -- one field more is written over the numbers
-pub given_written : (ls : Levels) (xs : List Tagged) (k : ℕ) (d : Tagged) (ns : List ℕ) (number code : ℕ) → k < length xs → length ns ≡ 2 * length xs → number ≡ (get_or xs k d).number
-    → code ≡ code_of (order_of ls) (get_or xs k d).level → take (2 * k) ns ≡ given ls (take k xs) → take (2 * (k + 1)) (set (set ns (2 * k) number) (2 * k + 1) code) ≡ given ls (take (k + 1) xs)
+pub given_written : (ls : Levels) (xs : List Tagged) (k : ℕ) (d : Tagged) (ns : List ℕ) (number code : ℕ) → k < length xs
+    → length ns ≡ 2 * length xs → number ≡ (get_or xs k d).number
+    → code ≡ code_of (order_of ls) (get_or xs k d).level → take (2 * k) ns ≡ given ls (take k xs)
+    → take (2 * (k + 1)) (set (set ns (2 * k) number) (2 * k + 1) code) ≡ given ls (take (k + 1) xs)
 given_written ls xs k d ns number code l size n c before =
     let mid = set ns (2 * k) number in
     let two : 2 * (k + 1) ≡ 2 * k + 1 + 1 = omega arith in
     let size_mid : length (set ns (2 * k) number) ≡ length ns = length-set ns (2 * k) number in
     ap (λ (m : ℕ). take m (set mid (2 * k + 1) code)) two
-    ∙ given_more ls xs k (get_or xs k d) code (take (2 * k) ns) (take (2 * k + 1) mid) (take (2 * k + 1 + 1) (set mid (2 * k + 1) code)) l (same_item xs k d (get_or xs k d) l) c before
+    ∙ given_more ls xs k (get_or xs k d) code (take (2 * k) ns) (take (2 * k + 1) mid) (take (2 * k + 1 + 1) (set mid (2 * k + 1) code)) l
+    (same_item xs k d (get_or xs k d) l) c before
     (take_more_set ns (2 * k) number (omega (arith, size, l)) ∙ ap (λ (m : ℕ). take (2 * k) ns ++ m ∷ []) n)
     (take_more_set mid (2 * k + 1) code (omega (arith, size, size_mid, l)))

@@ -32,7 +32,8 @@ pub beside_level : (d : DesignTree) (k size : ℕ) (s : Site) (name : List ℕ) 
     → size ≡ length name + length (site_word s.kind) + length (decimal k) + 40 → size ≡ site_room d k []
 unfolding site_target
 beside_level d k size s name at named is =
-    let target : length (target_text (entities_of d) (site_at d k)) ≡ length (target_text (entities_of d) (Some s)) = ap (λ (o : Option Site). length (target_text (entities_of d) o)) at in
+    let target : length (target_text (entities_of d) (site_at d k)) ≡ length (target_text (entities_of d) (Some s)) =
+    ap (λ (o : Option Site). length (target_text (entities_of d) o)) at in
     let own : length (entity_name (entities_of d) s.entity) ≡ length name = ap (λ (o : Option (List ℕ)). length (unwrap_or o [])) named in
     let parts : length (target_text (entities_of d) (Some s)) ≡ length (site_word s.kind) + 1 + length (entity_name (entities_of d) s.entity) = simp length-append (omega arith) in
     omega (arith, target, own, parts, is)
@@ -55,14 +56,16 @@ most_more d count most size more before is grown k from to = elim (cases_lt k (c
       omega (arith, e, is, grown)
 ]
 
-pub least_more : (d : DesignTree) (count most size more : ℕ) → IsLeast d most → count < length (sites_of d) → size ≡ site_room d (count + 1) [] → more ≡ max size most → IsLeast d more
+pub least_more : (d : DesignTree) (count most size more : ℕ) → IsLeast d most → count < length (sites_of d)
+    → size ≡ site_room d (count + 1) [] → more ≡ max size most → IsLeast d more
 least_more d count most size more before small is grown other holds =
     let b = before other holds in
     let here = holds (count + 1) (omega arith) (omega arith) in
     omega (arith, b, here, is, grown)
 
 -- the longest level behind the longest part before it
-pub holds_line : (ls : Levels) (d : DesignTree) (most level room : ℕ) → 21 ≤ level → Within ls.names level (length ls.names) → IsMost d (length (sites_of d)) most → room ≡ most + level → HoldsLine ls d room
+pub holds_line : (ls : Levels) (d : DesignTree) (most level room : ℕ) → 21 ≤ level → Within ls.names level (length ls.names)
+    → IsMost d (length (sites_of d)) most → room ≡ most + level → HoldsLine ls d room
 holds_line ls d most level room number within beside is = record {
   level = λ k l from to.
       let b = beside k from to in
@@ -94,7 +97,8 @@ holds_cycle ls d line count room holds all is = record {
   all = let e : line * count ≡ length (sites_of d) * line = ap (λ (k : ℕ). line * k) all ∙ mul_comm line (length (sites_of d)) in omega (arith, e, is);
 }
 
-pub cycle_no_less : (ls : Levels) (d : DesignTree) (line count other : ℕ) → ((o : ℕ) → HoldsLine ls d o → line ≤ o) → count ≡ length (sites_of d) → HoldsCycle ls d other → line * count ≤ other
+pub cycle_no_less : (ls : Levels) (d : DesignTree) (line count other : ℕ) → ((o : ℕ) → HoldsLine ls d o → line ≤ o)
+    → count ≡ length (sites_of d) → HoldsCycle ls d other → line * count ≤ other
 cycle_no_less ls d line count other least all holds =
     let fewest : line * count ≤ holds.line * count = mul-le-mul_right count (least holds.line holds.holds) in
     let e : holds.line * count ≡ length (sites_of d) * holds.line = ap (λ (k : ℕ). holds.line * k) all ∙ mul_comm holds.line (length (sites_of d)) in

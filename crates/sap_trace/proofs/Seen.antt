@@ -44,7 +44,8 @@ seen_step ls d c n v first old new h e =
     ∙ ap (λ (xs : List ℕ). first ++ xs) (sym (seen_last ls d c 1 n v) ∙ ap (λ (k : ℕ). seen_lines ls d c 1 k v) j)
 
 -- the line of a site, by the number of its wire
-pub line_shown : (ls : Levels) (d : DesignTree) (c k : ℕ) (v : Valuation) (flag tag : ℕ) (old new : List ℕ) → flag ≡ v.value (refused_name k) → tag ≡ v.value (ports.refused_level_name k) → flag ≡ 1
+pub line_shown : (ls : Levels) (d : DesignTree) (c k : ℕ) (v : Valuation) (flag tag : ℕ) (old new : List ℕ)
+    → flag ≡ v.value (refused_name k) → tag ≡ v.value (ports.refused_level_name k) → flag ≡ 1
     → new ≡ old ++ site_line d c k (coded_name ls tag) → new ≡ old ++ seen_line ls d c k v
 line_shown ls d c k v flag tag old new f t one e =
     let yes : (v.value (refused_name k) == 1) ≡ true = (Decides-eqb (v.value (refused_name k)) 1).1 (sym f ∙ one) in

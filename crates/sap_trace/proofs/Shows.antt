@@ -46,7 +46,8 @@ fit_more w [] line fit fits = (fits, tt)
 fit_more w (xs ∷ lines) line fit fits = (fit.0, fit_more w lines line fit.1 fits)
 
 -- stepped on a line more
-stepped_on : (ls : Levels) (d : DesignTree) (n : Net) (lines : List (List Tagged)) (line : List Tagged) (old new : Running) → IsSteppedOn ls d n lines old → InputsFit (world_of ls d) line
+stepped_on : (ls : Levels) (d : DesignTree) (n : Net) (lines : List (List Tagged)) (line : List Tagged) (old new : Running)
+    → IsSteppedOn ls d n lines old → InputsFit (world_of ls d) line
     → new.net ≡ old.net → ShowsNext old (given ls line) new → IsSteppedOn ls d n (lines ++ line ∷ []) new
 stepped_on ls d n lines line old new at fits same next =
     let before : stepped.IsAfter IsAny n (given ls) lines (alone old) = record { net = at.net; planned = tt; shows = at.shows } in

@@ -16,7 +16,8 @@ use Rattle.sap_cycle.proofs.Distinct.{wires_readable}
 use Rattle.sap_net.specs.PortNames.{refused_name, refused_level_name}
 use Rattle.sap_trace.specs.Seen.{HasSiteWires, AreReadable, ArePlaced}
 
-wire_has : (sc : Scope) (list : List Wire) → AllByRecursion (λ w. find sc w.name ≡ Some w.width) list → (x : Name) (u : ℕ) → find {X = ℕ} (map (λ w. (w.name, w.width)) list) x ≡ Some u
+wire_has : (sc : Scope) (list : List Wire) → AllByRecursion (λ w. find sc w.name ≡ Some w.width) list → (x : Name) (u : ℕ)
+    → find {X = ℕ} (map (λ w. (w.name, w.width)) list) x ≡ Some u
     → find sc x ≡ Some u
 wire_has sc [] all x u h = absurd (cc)
 wire_has sc (w ∷ list) all x u h = elim (cases_Bool (bytes_eq w.name x)) [

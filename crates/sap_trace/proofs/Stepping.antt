@@ -34,7 +34,8 @@ use Rattle.sap_trace.proofs.Designs.{inputs_fit, trace_is}
 
 module _ (ls : Levels) (d : DesignTree) (n : Net) where
   module _ (stands : StandsForDesign ls d n) (laws : Laws (order_of ls)) (fit : StimulusFits) (codes : Codes (order_of ls)) (some : 0 < length ls.names) (one : OneNumbering ls d)
-      (in_order : (inputs : List Tagged) (s : Store) → Sublist (refused_sites (cycle (program_of ls d) inputs s).refused) (program_sites (program_of ls d))) (runs : SomeRun n) where
+      (in_order : (inputs : List Tagged) (s : Store)
+      → Sublist (refused_sites (cycle (program_of ls d) inputs s).refused) (program_sites (program_of ls d))) (runs : SomeRun n) where
     whole_run : (bytes : List ℕ) → (vs : List Valuation) × IsRun n (map (given ls) (read_for ls d bytes).stream) vs
     whole_run bytes = runs (map (given ls) (read_for ls d bytes).stream) (inputs_fit ls d n stands laws fit bytes)
 
@@ -47,7 +48,8 @@ module _ (ls : Levels) (d : DesignTree) (n : Net) where
         let w = whole_run bytes in
         record { fault = refl; text = are w.0 w.1 ∙ whole_lines bytes w.0 w.1 }
 
-    lines_part : (bytes text : List ℕ) (lines more : List (List Tagged)) (trace : Trace) → (read_for ls d bytes).stream ≡ lines ++ more → AreLines ls d n lines text → IsTraceOf ls d bytes trace
+    lines_part : (bytes text : List ℕ) (lines more : List (List Tagged)) (trace : Trace) → (read_for ls d bytes).stream ≡ lines ++ more
+        → AreLines ls d n lines text → IsTraceOf ls d bytes trace
         → (rest : List ℕ) × (trace.text ≡ text ++ rest)
     lines_part bytes text lines more trace is begun of =
         let w = whole_run bytes in
@@ -64,7 +66,8 @@ module _ (ls : Levels) (d : DesignTree) (n : Net) where
     }
 
 -- a step on a line more
-module _ (ls : Levels) (d : DesignTree) (n : Net) (s : Stepped Wires) (lines : List (List Tagged)) (line : List Tagged) (r : Running) (at : IsAfter ls d n lines s) (same : r.net ≡ s.runner.net)
+module _ (ls : Levels) (d : DesignTree) (n : Net) (s : Stepped Wires) (lines : List (List Tagged)) (line : List Tagged) (r : Running)
+    (at : IsAfter ls d n lines s) (same : r.net ≡ s.runner.net)
     (next : ShowsNext s.runner (given ls line) r) where
   planned_still : IsPlanned ls d (record { runner = r; plan = s.plan; fields = s.fields; room = s.room })
   planned_still = record {
@@ -78,7 +81,8 @@ module _ (ls : Levels) (d : DesignTree) (n : Net) (s : Stepped Wires) (lines : L
   pub after_more : IsAfter ls d n (lines ++ line ∷ []) (record { runner = r; plan = s.plan; fields = s.fields; room = s.room })
   after_more = after_line (λ q. given ls) (IsPlanned ls d) n s lines line r at same next planned_still
 
-  pub lines_more : (cycle : ℕ) (old now : List ℕ) → ((c : Option Valuation) → Shows r c → now ≡ old ++ cycle_lines ls d cycle (seen r.net c)) → HasLinesMore ls d n (lines ++ line ∷ []) cycle old now
+  pub lines_more : (cycle : ℕ) (old now : List ℕ)
+      → ((c : Option Valuation) → Shows r c → now ≡ old ++ cycle_lines ls d cycle (seen r.net c)) → HasLinesMore ls d n (lines ++ line ∷ []) cycle old now
   lines_more cycle old now is run v h =
       let p = line_split n (given ls) lines line run v h in
       is (Some v) (cycle_shown (λ q. given ls) (IsPlanned ls d) n s lines line r at same next run v p.0 p.1)

@@ -51,7 +51,8 @@ unfolding arm_row_of
 arm_row_of-items end_of-Arm last = refl
 arm_row_of-items (more_of-Arm constants shape row after rest) last =
     ap (λ xs. Syntax.and_arm (expressions_of constants.items) (Syntax.command_block xs after) (arm_row_of rest last)) (command_row_of-shown shape row)
-    ∙ ap (λ arms. Syntax.and_arm (expressions_of constants.items) (Syntax.command_block (commands_of (shown-the_row-Cmd-0 shape row).items) after) arms) (arm_row_of-items rest last)
+    ∙ ap (λ arms. Syntax.and_arm (expressions_of constants.items)
+    (Syntax.command_block (commands_of (shown-the_row-Cmd-0 shape row).items) after) arms) (arm_row_of-items rest last)
 
 state_row_of-items : {n : _} (row : Row_of-State n) → state_row_of row ≡ states_of (items-the_row-State n row)
 unfolding state_row_of
@@ -148,7 +149,8 @@ pub command_of-try_then : (k : Simple) (place : Place) (a b : Block)
     → command_of (c.TryThen k place a b) ≡ Syntax.try_then (simple_of k) place (block_of a) (block_of b)
 unfolding command_of
 command_of-try_then k place a b =
-    ap (λ xs. Syntax.try_then (simple_of k) place (Syntax.command_block xs a.after) (Syntax.command_block (command_row_of (hidden-the_row-Cmd-0 b.commands)) b.after)) (command_row_of-vec a.commands)
+    ap (λ xs. Syntax.try_then (simple_of k) place (Syntax.command_block xs a.after)
+    (Syntax.command_block (command_row_of (hidden-the_row-Cmd-0 b.commands)) b.after)) (command_row_of-vec a.commands)
     ∙ ap (λ xs. Syntax.try_then (simple_of k) place (block_of a) (Syntax.command_block xs b.after)) (command_row_of-vec b.commands)
 
 pub command_of-case : (place : Place) (x : Expr) (arms : Vec Arm Global) (last : Block)
@@ -173,4 +175,26 @@ state_of-roll x =
     state_of-out (roll-State x)
     ∙ ap (λ (y : State-F State). Syntax.state_node y.place y.name y.kind (block_of y.body) (states_of y.children.items)) (out-roll-State x)
 
-pub ruleset views = (expression_of-number, expression_of-sized, expression_of-read, expression_of-cell, expression_of-unary, expression_of-binary, expression_of-choose, expression_of-slice, expression_of-concat, expression_of-zext, tag_of-level, tag_of-tag, tag_of-level_at, tag_of-join, command_of-do, command_of-try, command_of-if, command_of-try_then, command_of-case, state_of-out, state_of-roll)
+pub ruleset views = (
+  expression_of-number,
+  expression_of-sized,
+  expression_of-read,
+  expression_of-cell,
+  expression_of-unary,
+  expression_of-binary,
+  expression_of-choose,
+  expression_of-slice,
+  expression_of-concat,
+  expression_of-zext,
+  tag_of-level,
+  tag_of-tag,
+  tag_of-level_at,
+  tag_of-join,
+  command_of-do,
+  command_of-try,
+  command_of-if,
+  command_of-try_then,
+  command_of-case,
+  state_of-out,
+  state_of-roll,
+)

@@ -119,12 +119,14 @@ pub refused_lighter : (x : Cmd) (k : Simple) (place : Place) (a b : Block) → x
 refused_lighter x k place a b is =
     subst (λ (y : Command). block_weight (block_of b) < command_weight y) (sym (ap command_of is ∙ command_of-try_then k place a b)) (omega arith)
 
-pub arms_lighter : (x : Cmd) (place : Place) (e : Expr) (arms : Vec Arm Global) (last : Block) → x ≡ c.Case place e arms last → arm_list_weight arms.items < command_weight (command_of x)
+pub arms_lighter : (x : Cmd) (place : Place) (e : Expr) (arms : Vec Arm Global) (last : Block) → x ≡ c.Case place e arms last
+    → arm_list_weight arms.items < command_weight (command_of x)
 arms_lighter x place e arms last is =
     let w = arms_weight-of arms.items (last_arm (block_of last)) in
     subst (λ (y : Command). arm_list_weight arms.items < command_weight y) (sym (ap command_of is ∙ command_of-case place e arms last)) (omega (arith, w))
 
-pub last_lighter : (x : Cmd) (place : Place) (e : Expr) (arms : Vec Arm Global) (last : Block) → x ≡ c.Case place e arms last → block_weight (block_of last) < command_weight (command_of x)
+pub last_lighter : (x : Cmd) (place : Place) (e : Expr) (arms : Vec Arm Global) (last : Block) → x ≡ c.Case place e arms last
+    → block_weight (block_of last) < command_weight (command_of x)
 last_lighter x place e arms last is =
     let w = arms_weight-of arms.items (last_arm (block_of last)) in
     subst (λ (y : Command). block_weight (block_of last) < command_weight y) (sym (ap command_of is ∙ command_of-case place e arms last)) (omega (arith, w))

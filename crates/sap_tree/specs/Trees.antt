@@ -75,7 +75,8 @@ unfoldable mutual
   -- arms with the block after `else`
   pub arm_row_of : {n : _} → Row_of-Arm n → Syntax.CommandBlock → Syntax.Arms
   arm_row_of end_of-Arm last = Syntax.last_arm last
-  arm_row_of (more_of-Arm constants shape row after rest) last = Syntax.and_arm (expressions_of constants.items) (Syntax.command_block (command_row_of row) after) (arm_row_of rest last)
+  arm_row_of (more_of-Arm constants shape row after rest) last =
+      Syntax.and_arm (expressions_of constants.items) (Syntax.command_block (command_row_of row) after) (arm_row_of rest last)
 
   pub command_row_of : {n : _} → Row_of-Cmd n → Syntax.CommandList
   command_row_of end_of-Cmd = Syntax.no_command

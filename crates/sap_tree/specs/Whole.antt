@@ -204,7 +204,8 @@ is_memory declaration = false
 
 unfoldable mutual
   pub is_state : Version → StateTree → Bool
-  is_state version (state_node place name kind body children) = is_name version name.name && is_kind version kind && is_block version body && nat_le (block_depth body) most_blocks && are_states version children
+  is_state version (state_node place name kind body children) =
+      is_name version name.name && is_kind version kind && is_block version body && nat_le (block_depth body) most_blocks && are_states version children
 
   pub are_states : Version → StateList → Bool
   are_states version no_state = true

@@ -34,7 +34,8 @@ word_text w.Two = codes "2"
 
 -- the words that are keywords in every version, and those that are from the second on
 abbrev pub first_words : List Word
-first_words = w.Input ∷ w.Reg ∷ w.Mem ∷ w.State ∷ w.Dynamic ∷ w.Enforced ∷ w.Under ∷ w.If ∷ w.Else ∷ w.Goto ∷ w.Fall ∷ w.SetTag ∷ w.Otherwise ∷ w.Tag ∷ w.Level ∷ w.Join ∷ w.Zext ∷ []
+first_words = w.Input ∷ w.Reg ∷ w.Mem ∷ w.State ∷ w.Dynamic ∷ w.Enforced ∷ w.Under ∷ w.If ∷ w.Else ∷ w.Goto ∷ w.Fall ∷ w.SetTag
+    ∷ w.Otherwise ∷ w.Tag ∷ w.Level ∷ w.Join ∷ w.Zext ∷ []
 
 abbrev pub later_words : List Word
 later_words = w.Then ∷ w.Case ∷ []

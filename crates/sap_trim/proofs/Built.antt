@@ -77,14 +77,16 @@ built_shapes n ws e = memories_wide e n.memories
 name_apart : (n m : Name) → is_among n (m ∷ []) ≡ false → bytes_eq n m ≡ false
 name_apart n m h = (or_parts (bytes_eq n m) false h).0
 
-shown_new : (ms : Shapes) (w : Wire) (sd : Scope) (xs : List Wire) → is_among w.name (names_of xs) ≡ false → AllByRecursion (IsNewWire ms sd) xs → AllByRecursion (IsNewWire ms ((w.name, w.width) ∷ sd)) xs
+shown_new : (ms : Shapes) (w : Wire) (sd : Scope) (xs : List Wire) → is_among w.name (names_of xs) ≡ false
+    → AllByRecursion (IsNewWire ms sd) xs → AllByRecursion (IsNewWire ms ((w.name, w.width) ∷ sd)) xs
 shown_new ms w sd [] d a = tt
 shown_new ms w sd (x ∷ xs) d a =
     let r = or_parts (bytes_eq w.name x.name) (is_among w.name (names_of xs)) d in
     let f = r.0 in
     ((a.0.0, rw f a.0.1, a.0.2), shown_new ms w sd xs r.1 a.1)
 
-shown_fit : (ms : Shapes) (e : Stands) (so sc : Scope) → Finds so sc e → (xs : List Wire) (sd : Scope) → Grows sc sd → AllByRecursion (IsNewWire ms sd) xs → AllByRecursion (λ w. find so w.name ≡ Some w.width) xs → AreDistinct (names_of xs) → AreWires ms sd (map (wire_of e) xs)
+shown_fit : (ms : Shapes) (e : Stands) (so sc : Scope) → Finds so sc e → (xs : List Wire) (sd : Scope) → Grows sc sd
+    → AllByRecursion (IsNewWire ms sd) xs → AllByRecursion (λ w. find so w.name ≡ Some w.width) xs → AreDistinct (names_of xs) → AreWires ms sd (map (wire_of e) xs)
 shown_fit ms e so sc f [] sd g a b d = tt
 shown_fit ms e so sc f (w ∷ xs) sd g a b d =
     let behind : AllByRecursion (IsNewWire ms ((w.name, w.width) ∷ sd)) xs = shown_new ms w sd xs d.0 a.1 in (
@@ -123,14 +125,18 @@ not_among x ns kept f h =
     elim (cases_Bool (is_among x ns)) [ inl t ↦ absurd (let e = h t in cc) | inr g ↦ g ]
 
 -- port wires are new behind helping wires
-still_new : (ms : Shapes) (sc : Scope) (hs : List Wire) (taken : Name → Bool) (xs : List Wire) → AllByRecursion (λ x. taken x ≡ false) (names_of hs) → AllByRecursion (λ w. taken w.name ≡ true) xs → AllByRecursion (IsNewWire ms sc) xs → AllByRecursion (IsNewWire ms (readable_after sc hs)) xs
+still_new : (ms : Shapes) (sc : Scope) (hs : List Wire) (taken : Name → Bool) (xs : List Wire)
+    → AllByRecursion (λ x. taken x ≡ false) (names_of hs) → AllByRecursion (λ w. taken w.name ≡ true) xs
+    → AllByRecursion (IsNewWire ms sc) xs → AllByRecursion (IsNewWire ms (readable_after sc hs)) xs
 still_new ms sc hs taken [] f a b = tt
 still_new ms sc hs taken (x ∷ xs) f a b =
     ((b.0.0, new_behind hs sc x.name b.0.1 (names_apart hs x.name (apart_names taken (names_of hs) f x.name a.0)), b.0.2), still_new ms sc hs taken xs f a.1 b.1)
 
-port_taken : (n : Net) (taken : Name → Bool) → ((x : Name) → taken x ≡ is_among x (lasting_names n)) → (xs : List Wire) → AllByRecursion (λ w. is_among w.name (port_names n) ≡ true) xs → AllByRecursion (λ w. taken w.name ≡ true) xs
+port_taken : (n : Net) (taken : Name → Bool) → ((x : Name) → taken x ≡ is_among x (lasting_names n)) → (xs : List Wire)
+    → AllByRecursion (λ w. is_among w.name (port_names n) ≡ true) xs → AllByRecursion (λ w. taken w.name ≡ true) xs
 port_taken n taken is xs a =
-    all_follow (λ w. is_among w.name (port_names n) ≡ true) (λ w. taken w.name ≡ true) xs (λ w h. is w.name ∙ among_front w.name (port_names n) (register_names n ++ memory_names n) h) a
+    all_follow (λ w. is_among w.name (port_names n) ≡ true) (λ w. taken w.name ≡ true) xs (λ w h. is w.name
+    ∙ among_front w.name (port_names n) (register_names n ++ memory_names n) h) a
 
 among_some : (f : Port → Bool) (ps : List Port) (x : Name) → is_among x (map (λ p. p.name) (filter f ps)) ≡ true → is_among x (map (λ p. p.name) ps) ≡ true
 among_some f [] x h = h
@@ -151,21 +157,26 @@ kinds_shown n ws e kind.Register x p h = subst (λ (ns : List Name). is_among x 
 kinds_shown n ws e kind.Wire x p h =
     let shown : is_among x (names_of (shown_wires n)) ≡ true =
     ap (is_among x) (names_filter (λ y. is_among y (port_names n)) n.wires) ∙ filter_among (λ y. is_among y (port_names n)) (names_of n.wires) x ∙ rw (h, p) refl in
-    subst (λ (ns : List Name). is_among x ns ≡ true) (sym (names_append ws (map (wire_of e) (shown_wires n)) ∙ ap (λ (ns : List Name). names_of ws ++ ns) (shown_named e (shown_wires n))))
+    subst (λ (ns : List Name). is_among x ns ≡ true)
+    (sym (names_append ws (map (wire_of e) (shown_wires n)) ∙ ap (λ (ns : List Name). names_of ws ++ ns) (shown_named e (shown_wires n))))
     (among_behind x (names_of ws) (names_of (shown_wires n)) shown)
 
-ports_shown : (n : Net) (ws : List Wire) (e : Stands) (ps : List Port) → AllByRecursion (λ x. is_among x (port_names n) ≡ true) (map (λ p. p.name) ps) → AllByRecursion (λ p. PortShows n p.kind p.name) ps → AllByRecursion (λ p. PortShows (built n ws e) p.kind p.name) ps
+ports_shown : (n : Net) (ws : List Wire) (e : Stands) (ps : List Port)
+    → AllByRecursion (λ x. is_among x (port_names n) ≡ true) (map (λ p. p.name) ps) → AllByRecursion (λ p. PortShows n p.kind p.name) ps
+    → AllByRecursion (λ p. PortShows (built n ws e) p.kind p.name) ps
 ports_shown n ws e [] a b = tt
 ports_shown n ws e (p ∷ ps) a b = (kinds_shown n ws e p.kind p.name a.0 b.0, ports_shown n ws e ps a.1 b.1)
 
 -- registers and memories
 
-nexts_fit : (e : Stands) (so sc sd : Scope) → Finds so sc e → Grows sc sd → (rs : List Register) → AllByRecursion (IsRegister so) rs → AllByRecursion (IsRegister sd) (map (register_of e) rs)
+nexts_fit : (e : Stands) (so sc sd : Scope) → Finds so sc e → Grows sc sd → (rs : List Register) → AllByRecursion (IsRegister so) rs
+    → AllByRecursion (IsRegister sd) (map (register_of e) rs)
 nexts_fit e so sc sd f g [] a = tt
 nexts_fit e so sc sd f g (r ∷ rs) a =
     ((a.0.0, operand_grows sc sd g r.width (standing_operand e r.next) (operand_fits so sc e f r.width r.next a.0.1)), nexts_fit e so sc sd f g rs a.1)
 
-writes_fit : (e : Stands) (so sc sd : Scope) → Finds so sc e → Grows sc sd → (ms : List Memory) → AllByRecursion (IsMemory so) ms → AllByRecursion (IsMemory sd) (map (memory_of e) ms)
+writes_fit : (e : Stands) (so sc sd : Scope) → Finds so sc e → Grows sc sd → (ms : List Memory) → AllByRecursion (IsMemory so) ms
+    → AllByRecursion (IsMemory sd) (map (memory_of e) ms)
 writes_fit e so sc sd f g [] a = tt
 writes_fit e so sc sd f g (m ∷ ms) a =
     let put = λ (u : ℕ) (o : Operand) (h : IsOperand so u o). operand_grows sc sd g u (standing_operand e o) (operand_fits so sc e f u o h) in (
@@ -196,20 +207,26 @@ pub record Walks (n : Net) (taken : Name → Bool) (so : Scope) (s : State) : Ty
   pub covers : Covers n so
 
 -- the wires of the new netlist, over the first names
-pub built_wires : (n : Net) (taken : Name → Bool) (so : Scope) (s : State) → Walks n taken so s → AreWires (shapes n) (first_readable n) (s.wires ++ map (wire_of s.stands) (shown_wires n))
+pub built_wires : (n : Net) (taken : Name → Bool) (so : Scope) (s : State) → Walks n taken so s
+    → AreWires (shapes n) (first_readable n) (s.wires ++ map (wire_of s.stands) (shown_wires n))
 built_wires n taken so s k =
     let sc = first_readable n in
     let f = k.follows in
     let P = port_names n in
     let shown = shown_wires n in
     let ports : AllByRecursion (λ w. is_among w.name P ≡ true) shown = filter_holds (λ w. is_among w.name P) n.wires in
-    let first : AllByRecursion (IsNewWire (shapes n) sc) shown = all_filter (IsNewWire (shapes n) sc) (λ w. is_among w.name P) n.wires (each_new (shapes n) n.wires sc k.rules.assigns) in
-    let new : AllByRecursion (IsNewWire (shapes n) (readable_after sc s.wires)) shown = still_new (shapes n) sc s.wires taken shown (untaken taken s.wires s.next f.named) (port_taken n taken k.taken_is shown ports) first in
-    let distinct : AreDistinct (names_of shown) = subst AreDistinct (sym (names_filter (λ y. is_among y P) n.wires)) (filter_distinct (λ y. is_among y P) (names_of n.wires) (wires_distinct (shapes n) n.wires sc k.rules.assigns)) in
+    let first : AllByRecursion (IsNewWire (shapes n) sc) shown =
+    all_filter (IsNewWire (shapes n) sc) (λ w. is_among w.name P) n.wires (each_new (shapes n) n.wires sc k.rules.assigns) in
+    let new : AllByRecursion (IsNewWire (shapes n) (readable_after sc s.wires)) shown =
+    still_new (shapes n) sc s.wires taken shown (untaken taken s.wires s.next f.named) (port_taken n taken k.taken_is shown ports) first in
+    let distinct : AreDistinct (names_of shown) =
+    subst AreDistinct (sym (names_filter (λ y. is_among y P) n.wires))
+    (filter_distinct (λ y. is_among y P) (names_of n.wires) (wires_distinct (shapes n) n.wires sc k.rules.assigns)) in
     wires_both (shapes n) s.wires (map (wire_of s.stands) shown) sc f.fits
     (shown_fit (shapes n) s.stands so (readable_after sc s.wires) f.finds shown (readable_after sc s.wires) (λ x u h. h) new k.covers.shown distinct)
 
-pub built_grows : (n : Net) (taken : Name → Bool) (so : Scope) (s : State) → Walks n taken so s → Grows (readable_after (first_readable n) s.wires) (readable_after (first_readable n) (s.wires ++ map (wire_of s.stands) (shown_wires n)))
+pub built_grows : (n : Net) (taken : Name → Bool) (so : Scope) (s : State) → Walks n taken so s
+    → Grows (readable_after (first_readable n) s.wires) (readable_after (first_readable n) (s.wires ++ map (wire_of s.stands) (shown_wires n)))
 built_grows n taken so s k =
     let sc = first_readable n in
     let outs = map (wire_of s.stands) (shown_wires n) in
@@ -236,12 +253,15 @@ built_rules n taken so s k =
     let free = untaken taken s.wires s.next f.named in
     let apart : (x : Name) → kept x ≡ true → is_among x H ≡ false = λ x h. apart_names taken H free x (k.taken_is x ∙ h) in
     let none_of : (ns : List Name) → ((x : Name) → is_among x ns ≡ true → kept x ≡ true) → filter (λ x. is_among x ns) H ≡ [] =
-    λ ns h. filter_none (λ x. is_among x ns) H (all_follow (λ x. taken x ≡ false) (λ x. is_among x ns ≡ false) H (λ x t. not_among x ns (kept x) (sym (k.taken_is x) ∙ t) (h x)) free) in
+    λ ns h. filter_none (λ x. is_among x ns) H
+    (all_follow (λ x. taken x ≡ false) (λ x. is_among x ns ≡ false) H (λ x t. not_among x ns (kept x) (sym (k.taken_is x) ∙ t) (h x)) free) in
     let in_r : (x : Name) → is_among x R ≡ true → kept x ≡ true = λ x h. among_behind x P (R ++ M) (among_front x R M h) in
     let in_m : (x : Name) → is_among x M ≡ true → kept x ≡ true = λ x h. among_behind x P (R ++ M) (among_behind x R M h) in
     let in_p : (x : Name) → is_among x P ≡ true → kept x ≡ true = λ x h. among_front x P (R ++ M) h in
-    let ordered : (ns : List Name) → ((x : Name) → is_among x ns ≡ true → kept x ≡ true) → filter (λ x. is_among x ns) (filter kept n.names ++ H) ≡ filter (λ x. is_among x ns) n.names =
-    λ ns h. filter_append (λ x. is_among x ns) (filter kept n.names) H ∙ ap₂ (λ (a b : List Name). a ++ b) (filter_within kept (λ x. is_among x ns) n.names h) (none_of ns h) ∙ append_nothing _ in
+    let ordered : (ns : List Name) → ((x : Name) → is_among x ns ≡ true → kept x ≡ true)
+    → filter (λ x. is_among x ns) (filter kept n.names ++ H) ≡ filter (λ x. is_among x ns) n.names =
+    λ ns h. filter_append (λ x. is_among x ns) (filter kept n.names) H
+    ∙ ap₂ (λ (a b : List Name). a ++ b) (filter_within kept (λ x. is_among x ns) n.names h) (none_of ns h) ∙ append_nothing _ in
     let grows = built_grows n taken so s k in
     let sd = readable_after sc (s.wires ++ outs) in
     let first = built_first n s.wires s.stands in
@@ -254,8 +274,10 @@ built_rules n taken so s k =
           (λ x h. apart x ((and_parts (is_among x n.names) (kept x) (sym (filter_among kept n.names x) ∙ h)).1));
       declared = λ x.
           declared_names (input_names n) (wire_names n) R M P n.names H (names_of shown) rules.declared (inputs_are_ports n rules) (shown_among n) x
-          ∙ sym (ap₂ (λ (a b : List Name). is_among x (input_names n ++ a ++ b ++ memory_names B)) ew er ∙ ap (λ (c : List Name). is_among x (input_names n ++ (H ++ names_of shown) ++ R ++ c)) em);
-      registers_in_order = filter_same (λ x. is_among x (register_names B)) (λ x. is_among x R) B.names (λ x. ap (is_among x) er) ∙ ordered R in_r ∙ rules.registers_in_order ∙ sym er;
+          ∙ sym (ap₂ (λ (a b : List Name). is_among x (input_names n ++ a ++ b ++ memory_names B)) ew er
+          ∙ ap (λ (c : List Name). is_among x (input_names n ++ (H ++ names_of shown) ++ R ++ c)) em);
+      registers_in_order = filter_same (λ x. is_among x (register_names B)) (λ x. is_among x R) B.names (λ x. ap (is_among x) er)
+          ∙ ordered R in_r ∙ rules.registers_in_order ∙ sym er;
       memories_in_order = filter_same (λ x. is_among x (memory_names B)) (λ x. is_among x M) B.names (λ x. ap (is_among x) em) ∙ ordered M in_m ∙ rules.memories_in_order ∙ sym em;
       ports_first = ports_in_front n.ports n.names H kept rules.ports_first (each_among (λ x. kept x ≡ true) P in_p);
       ports_show = ports_shown n s.wires s.stands n.ports (each_among (λ x. is_among x P ≡ true) P (λ x h. h)) rules.ports_show;

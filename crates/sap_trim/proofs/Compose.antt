@@ -17,7 +17,8 @@ joined : {X : Type 0} (f g h : Name → X) (xs : List Name) → AllByRecursion (
 joined f g h [] a b = tt
 joined f g h (x ∷ xs) a b = (a.0 ∙ b.0, joined f g h xs a.1 b.1)
 
-joined_at : (f g h : Name → ℕ → ℕ) (xs : List Name) → AllByRecursion (λ x. (i : ℕ) → f x i ≡ g x i) xs → AllByRecursion (λ x. (i : ℕ) → g x i ≡ h x i) xs → AllByRecursion (λ x. (i : ℕ) → f x i ≡ h x i) xs
+joined_at : (f g h : Name → ℕ → ℕ) (xs : List Name) → AllByRecursion (λ x. (i : ℕ) → f x i ≡ g x i) xs
+    → AllByRecursion (λ x. (i : ℕ) → g x i ≡ h x i) xs → AllByRecursion (λ x. (i : ℕ) → f x i ≡ h x i) xs
 joined_at f g h [] a b = tt
 joined_at f g h (x ∷ xs) a b = (λ i. a.0 i ∙ b.0 i, joined_at f g h xs a.1 b.1)
 
@@ -47,7 +48,8 @@ memories_same a b d =
 
 pub declares_both : (a b c : Net) → DeclaresAlike a b → DeclaresAlike b c → DeclaresAlike a c
 declares_both a b c d e =
-    let back : AllByRecursion (λ p. width_of c p.name ≡ width_of b p.name) a.ports = subst (λ (ps : List Port). AllByRecursion (λ p. width_of c p.name ≡ width_of b p.name) ps) d.ports e.widths in
+    let back : AllByRecursion (λ p. width_of c p.name ≡ width_of b p.name) a.ports =
+    subst (λ (ps : List Port). AllByRecursion (λ p. width_of c p.name ≡ width_of b p.name) ps) d.ports e.widths in
     record {
       module_name = e.module_name ∙ d.module_name;
       ports = e.ports ∙ d.ports;
@@ -55,7 +57,8 @@ declares_both a b c d e =
       registers = e.registers ∙ d.registers;
       memories = e.memories ∙ d.memories;
       widths = of_ports (λ x. width_of c x ≡ width_of a x) a.ports
-          (joined (width_of c) (width_of b) (width_of a) (map (λ p. p.name) a.ports) (by_ports (λ x. width_of c x ≡ width_of b x) a.ports back) (by_ports (λ x. width_of b x ≡ width_of a x) a.ports d.widths));
+          (joined (width_of c) (width_of b) (width_of a) (map (λ p. p.name) a.ports)
+          (by_ports (λ x. width_of c x ≡ width_of b x) a.ports back) (by_ports (λ x. width_of b x ≡ width_of a x) a.ports d.widths));
     }
 
 shows_both : (a b c : Net) → DeclaresAlike a b → (u v w : Valuation) → ShowsAlike a b u v → ShowsAlike b c v w → ShowsAlike a c u w
@@ -64,15 +67,20 @@ shows_both a b c d u v w s t =
     let g = (observed b v).value in
     let h = (observed c w).value in
     let p : AllByRecursion (λ p. g p.name ≡ h p.name) a.ports = subst (λ (ps : List Port). AllByRecursion (λ p. g p.name ≡ h p.name) ps) d.ports t.ports in
-    let r : AllByRecursion (λ x. g x ≡ h x) (map (λ r. r.name) a.registers) = subst (AllByRecursion (λ x. g x ≡ h x)) (registers_same a b d) (map_of_all (λ x. g x ≡ h x) (λ (r : Register). r.name) b.registers t.registers) in
+    let r : AllByRecursion (λ x. g x ≡ h x) (map (λ r. r.name) a.registers) =
+    subst (AllByRecursion (λ x. g x ≡ h x)) (registers_same a b d) (map_of_all (λ x. g x ≡ h x) (λ (r : Register). r.name) b.registers t.registers) in
     let fc = (observed a u).cell in
     let gc = (observed b v).cell in
     let hc = (observed c w).cell in
-    let m : AllByRecursion (λ x. (i : ℕ) → gc x i ≡ hc x i) (map (λ m. m.name) a.memories) = subst (AllByRecursion (λ x. (i : ℕ) → gc x i ≡ hc x i)) (memories_same a b d) (map_of_all (λ x. (i : ℕ) → gc x i ≡ hc x i) (λ (m : Memory). m.name) b.memories t.memories) in
+    let m : AllByRecursion (λ x. (i : ℕ) → gc x i ≡ hc x i) (map (λ m. m.name) a.memories) =
+    subst (AllByRecursion (λ x. (i : ℕ) → gc x i ≡ hc x i)) (memories_same a b d)
+    (map_of_all (λ x. (i : ℕ) → gc x i ≡ hc x i) (λ (m : Memory). m.name) b.memories t.memories) in
     record {
       ports = of_ports (λ x. f x ≡ h x) a.ports (joined f g h (map (λ p. p.name) a.ports) (by_ports (λ x. f x ≡ g x) a.ports s.ports) (by_ports (λ x. g x ≡ h x) a.ports p));
-      registers = all_of_map (λ x. f x ≡ h x) (λ (r : Register). r.name) a.registers (joined f g h (map (λ r. r.name) a.registers) (map_of_all (λ x. f x ≡ g x) (λ (r : Register). r.name) a.registers s.registers) r);
-      memories = all_of_map (λ x. (i : ℕ) → fc x i ≡ hc x i) (λ (m : Memory). m.name) a.memories (joined_at fc gc hc (map (λ m. m.name) a.memories) (map_of_all (λ x. (i : ℕ) → fc x i ≡ gc x i) (λ (m : Memory). m.name) a.memories s.memories) m);
+      registers = all_of_map (λ x. f x ≡ h x) (λ (r : Register). r.name) a.registers
+          (joined f g h (map (λ r. r.name) a.registers) (map_of_all (λ x. f x ≡ g x) (λ (r : Register). r.name) a.registers s.registers) r);
+      memories = all_of_map (λ x. (i : ℕ) → fc x i ≡ hc x i) (λ (m : Memory). m.name) a.memories
+          (joined_at fc gc hc (map (λ m. m.name) a.memories) (map_of_all (λ x. (i : ℕ) → fc x i ≡ gc x i) (λ (m : Memory). m.name) a.memories s.memories) m);
     }
 
 all_both : (a b c : Net) → DeclaresAlike a b → (us vs ws : List Valuation) → AllZip (ShowsAlike a b) us vs → AllZip (ShowsAlike b c) vs ws → AllZip (ShowsAlike a c) us ws

@@ -56,7 +56,8 @@ tests false false false true p h k = simp (or_true, or_false)
 tests false false false false p h k = simp (or_true, or_false)
 
 -- inputs I, wires W, registers R, memories M and ports P of a netlist, all its names N; helping wires H, wires that are ports S
-pub declared_names : (I W R M P N H S : List Name) → ((x : Name) → is_among x N ≡ is_among x (I ++ W ++ R ++ M)) → ((x : Name) → is_among x I ≡ true → is_among x P ≡ true) → ((x : Name) → is_among x S ≡ (is_among x W && is_among x P))
+pub declared_names : (I W R M P N H S : List Name) → ((x : Name) → is_among x N ≡ is_among x (I ++ W ++ R ++ M))
+    → ((x : Name) → is_among x I ≡ true → is_among x P ≡ true) → ((x : Name) → is_among x S ≡ (is_among x W && is_among x P))
     → (x : Name) → is_among x (filter (λ y. is_among y (P ++ (R ++ M))) N ++ H) ≡ is_among x (I ++ (H ++ S) ++ R ++ M)
 declared_names I W R M P N H S d i s x =
     let a = among_append x (filter (λ y. is_among y (P ++ (R ++ M))) N) H in
@@ -79,7 +80,8 @@ port_count : (ps : List Port) → length (map (λ p. p.name) ps) ≡ length ps
 port_count [] = refl
 port_count (p ∷ ps) = let h = port_count ps in omega arith
 
-pub ports_in_front : (ps : List Port) (N H : List Name) (kept : Name → Bool) → map (λ p. p.name) ps ≡ take (length ps) N → AllByRecursion (λ x. kept x ≡ true) (map (λ p. p.name) ps) → map (λ p. p.name) ps ≡ take (length ps) (filter kept N ++ H)
+pub ports_in_front : (ps : List Port) (N H : List Name) (kept : Name → Bool) → map (λ p. p.name) ps ≡ take (length ps) N
+    → AllByRecursion (λ x. kept x ≡ true) (map (λ p. p.name) ps) → map (λ p. p.name) ps ≡ take (length ps) (filter kept N ++ H)
 ports_in_front ps N H kept e a =
     let P : List Name = map (λ p. p.name) ps in
     let k = length ps in

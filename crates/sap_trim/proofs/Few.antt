@@ -77,14 +77,16 @@ cost_settled w (Concat os) = omega arith
 cost_settled w (Slice x hi lo) = omega arith
 cost_settled w (Cell m i) = omega arith
 
-adds_one : (taken : Name → Bool) (ws : List Wire) (next u : ℕ) (r : Right) (n : Name) (after : List Wire) (next_after : ℕ) → Adds taken ws next u r n after next_after → length after ≤ length ws + 1
+adds_one : (taken : Name → Bool) (ws : List Wire) (next u : ℕ) (r : Right) (n : Name) (after : List Wire) (next_after : ℕ)
+    → Adds taken ws next u r n after next_after → length after ≤ length ws + 1
 adds_one taken ws next u r n after next_after (inl t) = let e = ap length t.wires in omega (arith, e)
 adds_one taken ws next u r n after next_after (inr a) =
     let e = ap length a.wires in
     let l = length-append ws (record { name = n; width = u; right = r } ∷ []) in
     omega (arith, e, l)
 
-provides_few : (taken : Name → Bool) (ws : List Wire) (next u : ℕ) (r : Right) (o : Operand) (after : List Wire) (next_after : ℕ) → Provides taken ws next u r o after next_after → length after ≤ length ws + cost r
+provides_few : (taken : Name → Bool) (ws : List Wire) (next u : ℕ) (r : Right) (o : Operand) (after : List Wire) (next_after : ℕ)
+    → Provides taken ws next u r o after next_after → length after ≤ length ws + cost r
 provides_few taken ws next u (Copy a) o after k p = let e = ap length p.1 in omega (arith, e)
 provides_few taken ws next u (One op a) o after k p = adds_one taken ws next u (One op a) p.0 after k p.2
 provides_few taken ws next u (Two op a b) o after k p = adds_one taken ws next u (Two op a b) p.0 after k p.2
@@ -153,7 +155,8 @@ costs_most : (ws : List Wire) → costs ws ≤ length ws
 costs_most [] = omega arith
 costs_most (w ∷ ws) = let c = cost_most w.right in let r = costs_most ws in omega (arith, c, r)
 
-pub built_few : (n : Net) (taken : Name → Bool) (s t : State) → Begins n s → Walked (Settles taken) s n.wires t → AllByRecursion (λ w. is_among w.name (port_names n) ≡ false) t.wires → NeedsNoMore n (built n t.wires t.stands)
+pub built_few : (n : Net) (taken : Name → Bool) (s t : State) → Begins n s → Walked (Settles taken) s n.wires t
+    → AllByRecursion (λ w. is_among w.name (port_names n) ≡ false) t.wires → NeedsNoMore n (built n t.wires t.stands)
 built_few n taken s t b k a =
     let outs = map (wire_of t.stands) (shown_wires n) in
     let few = settles_few taken n.wires s t k in

@@ -61,7 +61,8 @@ finds_more so sc sd e f x u o g h i b y t k =
           (r.0, p ∙ r.1, operand_grows sc sd g t r.0 r.2)
     ]
 
-means_more : (so : Scope) (e f : Stands) (x : Name) (u : ℕ) (o : Operand) (v w : Valuation) → Means so e v w → v.value x ≡ operand_value w o → Puts e x o f → Means ((x, u) ∷ so) f v w
+means_more : (so : Scope) (e f : Stands) (x : Name) (u : ℕ) (o : Operand) (v w : Valuation) → Means so e v w → v.value x ≡ operand_value w o
+    → Puts e x o f → Means ((x, u) ∷ so) f v w
 means_more so e f x u o v w h i b y t k =
     elim (cases_Bool (bytes_eq x y)) [
       | inl q ↦
@@ -74,20 +75,26 @@ means_more so e f x u o v w h i b y t k =
 
 -- a step
 
-step_provided : (taken : Name → Bool) (ms : Shapes) (so sc : Scope) (s t : State) (w : Wire) → TakenApart taken ms sc → Follows taken ms so sc s → IsWidth w.width → IsRight ms so w.width w.right → (f : Folds taken s w t) → Provided taken ms sc s.wires w.width f.operand t.wires t.next
+step_provided : (taken : Name → Bool) (ms : Shapes) (so sc : Scope) (s t : State) (w : Wire) → TakenApart taken ms sc
+    → Follows taken ms so sc s → IsWidth w.width → IsRight ms so w.width w.right → (f : Folds taken s w t) → Provided taken ms sc s.wires w.width f.operand t.wires t.next
 step_provided taken ms so sc s t w apart h i r f =
     f.gives.fits ms sc (record { apart = apart; named = h.named; fits = h.fits; wide = i }) (replaced_fits ms so (readable_after sc s.wires) s.stands h.finds w.width w.right r)
 
-pub follows_step : (taken : Name → Bool) (ms : Shapes) (so sc : Scope) (s t : State) (w : Wire) → TakenApart taken ms sc → Follows taken ms so sc s → IsWidth w.width → IsRight ms so w.width w.right → Folds taken s w t → Follows taken ms ((w.name, w.width) ∷ so) sc t
+pub follows_step : (taken : Name → Bool) (ms : Shapes) (so sc : Scope) (s t : State) (w : Wire) → TakenApart taken ms sc
+    → Follows taken ms so sc s → IsWidth w.width → IsRight ms so w.width w.right → Folds taken s w t → Follows taken ms ((w.name, w.width) ∷ so) sc t
 follows_step taken ms so sc s t w apart h i r f =
     let p = step_provided taken ms so sc s t w apart h i r f in
     record {
       fits = p.fits;
       named = p.named;
-      finds = finds_more so (readable_after sc s.wires) (readable_after sc t.wires) s.stands t.stands w.name w.width f.operand (grows_more ms sc s.wires t.wires p.more p.wires p.fits) h.finds p.operand f.binds;
+      finds = finds_more so (readable_after sc s.wires) (readable_after sc t.wires) s.stands t.stands w.name w.width f.operand
+          (grows_more ms sc s.wires t.wires p.more p.wires p.fits) h.finds p.operand f.binds;
     }
 
-means_step : (taken : Name → Bool) (ms : Shapes) (so sc : Scope) (s t : State) (x : Wire) (wv ww : Name → ℕ) (v w : Valuation) → TakenApart taken ms sc → Follows taken ms so sc s → IsWidth x.width → IsRight ms so x.width x.right → Folds taken s x t → Means so s.stands v w → WidthsAre so wv → CellsAgree ms v w → Over ms sc t.wires ww w → v.value x.name ≡ right_value wv v x.right → Means ((x.name, x.width) ∷ so) t.stands v w
+means_step : (taken : Name → Bool) (ms : Shapes) (so sc : Scope) (s t : State) (x : Wire) (wv ww : Name → ℕ) (v w : Valuation)
+    → TakenApart taken ms sc → Follows taken ms so sc s → IsWidth x.width → IsRight ms so x.width x.right → Folds taken s x t
+    → Means so s.stands v w → WidthsAre so wv → CellsAgree ms v w → Over ms sc t.wires ww w → v.value x.name ≡ right_value wv v x.right
+    → Means ((x.name, x.width) ∷ so) t.stands v w
 means_step taken ms so sc s t x wv ww v w apart h i r f m a c o e =
     let p = step_provided taken ms so sc s t x apart h i r f in
     let before = over_first ms sc s.wires t.wires p.more ww w p.wires o in
@@ -105,7 +112,8 @@ pub record Followed (taken : Name → Bool) (ms : Shapes) (so sc : Scope) (s t :
   pub more : List Wire
   pub wires : t.wires ≡ s.wires ++ more
 
-pub follows_walk : (taken : Name → Bool) (ms : Shapes) (sc : Scope) (ws : List Wire) (so : Scope) (s t : State) → TakenApart taken ms sc → Follows taken ms so sc s → AreWires ms so ws → Walked (Folds taken) s ws t → Followed taken ms (readable_after so ws) sc s t
+pub follows_walk : (taken : Name → Bool) (ms : Shapes) (sc : Scope) (ws : List Wire) (so : Scope) (s t : State) → TakenApart taken ms sc
+    → Follows taken ms so sc s → AreWires ms so ws → Walked (Folds taken) s ws t → Followed taken ms (readable_after so ws) sc s t
 follows_walk taken ms sc [] so s t apart h a e =
     record {
       follows = subst (λ (z : State). Follows taken ms so sc z) e h;
@@ -122,7 +130,9 @@ follows_walk taken ms sc (w ∷ ws) so s t apart h a k =
       wires = r.wires ∙ ap (λ (ys : List Wire). ys ++ r.more) p.wires ∙ append_assoc s.wires p.more r.more;
     }
 
-pub means_walk : (taken : Name → Bool) (ms : Shapes) (sc : Scope) (wv ww : Name → ℕ) (v w : Valuation) (ws : List Wire) (so : Scope) (s t : State) → TakenApart taken ms sc → Follows taken ms so sc s → Means so s.stands v w → AreWires ms so ws → WidthsAre (readable_after so ws) wv → CellsAgree ms v w → Over ms sc t.wires ww w → Holds wv v ws → Walked (Folds taken) s ws t → Means (readable_after so ws) t.stands v w
+pub means_walk : (taken : Name → Bool) (ms : Shapes) (sc : Scope) (wv ww : Name → ℕ) (v w : Valuation) (ws : List Wire) (so : Scope)
+    (s t : State) → TakenApart taken ms sc → Follows taken ms so sc s → Means so s.stands v w → AreWires ms so ws
+    → WidthsAre (readable_after so ws) wv → CellsAgree ms v w → Over ms sc t.wires ww w → Holds wv v ws → Walked (Folds taken) s ws t → Means (readable_after so ws) t.stands v w
 means_walk taken ms sc wv ww v w [] so s t apart h m a b c o e k = subst (λ (z : State). Means so z.stands v w) k m
 means_walk taken ms sc wv ww v w (x ∷ ws) so s t apart h m a b c o e k =
     let n = follows_step taken ms so sc s k.0 x apart h a.0 a.3 k.1 in
@@ -167,8 +177,10 @@ pub taken_apart : (n : Net) → IsNetlist n → (taken : Name → Bool) → ((x 
 taken_apart n rules taken is x h =
     let all = none_among x (port_names n) (register_names n ++ memory_names n) (sym (is x) ∙ h) in
     let rest = none_among x (register_names n) (memory_names n) all.1 in
-    let inputs : is_among x (input_names n) ≡ false = subst (λ (ns : List Name). is_among x ns ≡ false) rules.inputs_are_ports (among_kept (λ p. is_input p.kind) n.ports x all.0) in (
-      found_second (map (λ i. (i.name, i.width)) n.inputs) (map (λ r. (r.name, r.width)) n.registers) x (not_found (λ (i : Input). i.name) (λ i. i.width) n.inputs x inputs) ∙ not_found (λ (r : Register). r.name) (λ r. r.width) n.registers x rest.0,
+    let inputs : is_among x (input_names n) ≡ false =
+    subst (λ (ns : List Name). is_among x ns ≡ false) rules.inputs_are_ports (among_kept (λ p. is_input p.kind) n.ports x all.0) in (
+      found_second (map (λ i. (i.name, i.width)) n.inputs) (map (λ r. (r.name, r.width)) n.registers) x
+          (not_found (λ (i : Input). i.name) (λ i. i.width) n.inputs x inputs) ∙ not_found (λ (r : Register). r.name) (λ r. r.width) n.registers x rest.0,
       not_found {X = ℕ × ℕ} (λ (m : Memory). m.name) (λ m. (m.width, m.depth)) n.memories x rest.1,
     )
 
@@ -177,7 +189,8 @@ first_among n x u h =
     elim (cases_Bool (is_among x (input_names n))) [
       | inl t ↦ among_front x (input_names n) (register_names n) t
       | inr f ↦
-          let g = found_second (map (λ i. (i.name, i.width)) n.inputs) (map (λ r. (r.name, r.width)) n.registers) x (not_found (λ (i : Input). i.name) (λ i. i.width) n.inputs x f) in
+          let g = found_second (map (λ i. (i.name, i.width)) n.inputs) (map (λ r. (r.name, r.width)) n.registers) x
+          (not_found (λ (i : Input). i.name) (λ i. i.width) n.inputs x f) in
           among_behind x (input_names n) (register_names n) (found_among (λ (r : Register). r.name) (λ r. r.width) n.registers x u (sym g ∙ h))
     ]
 
@@ -215,7 +228,8 @@ some_elim P G (r ∷ rs) a (inr h) = some_elim P G rs a.1 h
 registers_found : (n : Net) → IsNetlist n → AllByRecursion (λ r. find (first_readable n) r.name ≡ Some r.width) n.registers
 registers_found n rules =
     all_of_map (λ (e : Name × ℕ). find (first_readable n) e.0 ≡ Some e.1) (λ (r : Register). (r.name, r.width)) n.registers
-    (all_second {X = Name × ℕ} (λ (e : Name × ℕ). find (first_readable n) e.0 ≡ Some e.1) (map {B = Name × ℕ} (λ i. (i.name, i.width)) n.inputs) (map {B = Name × ℕ} (λ r. (r.name, r.width)) n.registers) (values_found (shapes n) (first_readable n) rules.values))
+    (all_second {X = Name × ℕ} (λ (e : Name × ℕ). find (first_readable n) e.0 ≡ Some e.1)
+    (map {B = Name × ℕ} (λ i. (i.name, i.width)) n.inputs) (map {B = Name × ℕ} (λ r. (r.name, r.width)) n.registers) (values_found (shapes n) (first_readable n) rules.values))
 
 -- What a name stands for at first: itself, or a number that it always has.
 record IsStart (n : Net) (x : Name) (u : ℕ) (o : Operand) : Type 0 where
@@ -232,11 +246,13 @@ record IsKept (n : Net) (r : Register) : Type 0 where
   below : r.start < 2 ^ r.width
   kept : HasStart n.wires n.registers r
 
-each_kept : (n : Net) (so : Scope) (rs : List Register) → AllByRecursion (λ r. find (first_readable n) r.name ≡ Some r.width) rs → AllByRecursion (IsRegister so) rs → AllByRecursion (HasStart n.wires n.registers) rs → AllByRecursion (IsKept n) rs
+each_kept : (n : Net) (so : Scope) (rs : List Register) → AllByRecursion (λ r. find (first_readable n) r.name ≡ Some r.width) rs
+    → AllByRecursion (IsRegister so) rs → AllByRecursion (HasStart n.wires n.registers) rs → AllByRecursion (IsKept n) rs
 each_kept n so [] a b c = tt
 each_kept n so (r ∷ rs) a b c = (record { found = a.0; below = b.0.0; kept = c.0 }, each_kept n so rs a.1 b.1 c.1)
 
-begun_start : (n : Net) (x : Name) (u : ℕ) (p : Option Operand) (r : Register) → find (first_readable n) x ≡ Some u → IsKept n r → StartsAt n.wires x p r → (o : Operand) × (p ≡ Some o) × Begun n x u o
+begun_start : (n : Net) (x : Name) (u : ℕ) (p : Option Operand) (r : Register) → find (first_readable n) x ≡ Some u → IsKept n r
+    → StartsAt n.wires x p r → (o : Operand) × (p ≡ Some o) × Begun n x u o
 begun_start n x u p r h k s =
     let f : find (first_readable n) x ≡ Some r.width = subst (λ (y : Name). find (first_readable n) y ≡ Some r.width) s.1 k.found in
     let g : Some r.width ≡ Some u = sym f ∙ h in
@@ -260,7 +276,8 @@ begins_at n rules s b x u h =
       | inl e ↦ let f : s.stands x ≡ Some (Named x) = e ∙ first_itself n x u h in (Named x, f, inl refl)
       | inr q ↦
           some_elim (StartsAt n.wires x (s.stands x)) ((o : Operand) × (s.stands x ≡ Some o) × Begun n x u o) n.registers
-          (all_follow (IsKept n) (λ r. StartsAt n.wires x (s.stands x) r → (o : Operand) × (s.stands x ≡ Some o) × Begun n x u o) n.registers (λ r k. begun_start n x u (s.stands x) r h k) kept) q
+          (all_follow (IsKept n) (λ r. StartsAt n.wires x (s.stands x) r → (o : Operand) × (s.stands x ≡ Some o)
+          × Begun n x u o) n.registers (λ r k. begun_start n x u (s.stands x) r h k) kept) q
     ]
 
 begun_fits : (n : Net) (sc : Scope) (x : Name) (u : ℕ) (o : Operand) → find sc x ≡ Some u → Begun n x u o → IsOperand sc u o
@@ -285,7 +302,8 @@ begins_follow taken n rules s b =
           (a.0, a.1, begun_fits n (readable_after (first_readable n) s.wires) x u a.0 found a.2);
     }
 
-pub begins_mean : (n : Net) → IsNetlist n → (s : State) (v w : Valuation) → Begins n s → Agree (first_readable n) v w → SettledIn n.wires n.registers v → Means (first_readable n) s.stands v w
+pub begins_mean : (n : Net) → IsNetlist n → (s : State) (v w : Valuation) → Begins n s → Agree (first_readable n) v w
+    → SettledIn n.wires n.registers v → Means (first_readable n) s.stands v w
 begins_mean n rules s v w b a t x u h =
     let k = begins_at n rules s b x u h in
     begun_same n v w x u k.0 (a x u h) t k.2 ∙ sym (ap (operand_value w) (stands_for s.stands x k.0 k.1))
@@ -295,6 +313,7 @@ begins_mean n rules s v w b a t x u h =
 pub settled_first : (ws : List Wire) (v : Valuation) (rs : List Register) → AllByRecursion (λ r. v.value r.name ≡ r.start) rs → SettledIn ws rs v
 settled_first ws v rs a = all_follow (λ r. v.value r.name ≡ r.start) (λ r. KeepsStart ws r → v.value r.name ≡ r.start) rs (λ r h t. h) a
 
-pub settled_next : (ws : List Wire) (widths : Name → ℕ) (p v : Valuation) (rs : List Register) → Holds widths p ws → SettledIn ws rs p → AllByRecursion (λ r. v.value r.name ≡ operand_value p r.next) rs → SettledIn ws rs v
+pub settled_next : (ws : List Wire) (widths : Name → ℕ) (p v : Valuation) (rs : List Register) → Holds widths p ws → SettledIn ws rs p
+    → AllByRecursion (λ r. v.value r.name ≡ operand_value p r.next) rs → SettledIn ws rs v
 settled_next ws widths p v [] h s a = tt
 settled_next ws widths p v (r ∷ rs) h s a = (λ t. a.0 ∙ t widths p h (s.0 t), settled_next ws widths p v rs h s.1 a.1)

@@ -38,14 +38,28 @@ operand_kept so sk u (Constant w n) a h = h
 
 operands_kept : (so sk : Scope) (u : ℕ) (os : List Operand) → AgreeOn (operands_reads os) so sk → AreOperands so u os → AreOperands sk u os
 operands_kept so sk u [] a h = h
-operands_kept so sk u (o ∷ os) a h =
-    (h.0, h.1, h.2, operand_kept so sk h.0 o (on_front (operand_reads o) (operands_reads os) so sk a) h.3, operands_kept so sk h.1 os (on_behind (operand_reads o) (operands_reads os) so sk a) h.4, h.5)
+operands_kept so sk u (o ∷ os) a h = (
+  h.0,
+  h.1,
+  h.2,
+  operand_kept so sk h.0 o (on_front (operand_reads o) (operands_reads os) so sk a) h.3,
+  operands_kept so sk h.1 os (on_behind (operand_reads o) (operands_reads os) so sk a) h.4,
+  h.5,
+)
 
 right_kept : (ms : Shapes) (so sk : Scope) (u : ℕ) (r : Right) → AgreeOn (right_reads r) so sk → IsRight ms so u r → IsRight ms sk u r
 right_kept ms so sk u (Copy o) a h = operand_kept so sk u o a h
 right_kept ms so sk u (One op o) a h = (h.0, h.1, operand_kept so sk h.0 o a h.2, h.3)
-right_kept ms so sk u (Two op o p) a h =
-    (h.0, h.1, h.2, h.3, operand_kept so sk h.0 o (on_front (operand_reads o) (operand_reads p) so sk a) h.4, operand_kept so sk h.1 p (on_behind (operand_reads o) (operand_reads p) so sk a) h.5, h.6, h.7)
+right_kept ms so sk u (Two op o p) a h = (
+  h.0,
+  h.1,
+  h.2,
+  h.3,
+  operand_kept so sk h.0 o (on_front (operand_reads o) (operand_reads p) so sk a) h.4,
+  operand_kept so sk h.1 p (on_behind (operand_reads o) (operand_reads p) so sk a) h.5,
+  h.6,
+  h.7,
+)
 right_kept ms so sk u (Choose c o p) a h =
     let b = on_behind (operand_reads c) (operand_reads o ++ operand_reads p) so sk a in (
       operand_kept so sk 1 c (on_front (operand_reads c) (operand_reads o ++ operand_reads p) so sk a) h.0,
@@ -89,25 +103,35 @@ grows_both so sk y u g x t h =
 unread : (P E : List Name) (w : Wire) (ks : List Wire) → is_needed P E w ks ≡ false → is_among w.name (wire_reads ks ++ E) ≡ false
 unread P E w ks f = (or_parts (is_among w.name P) (is_among w.name (wire_reads ks ++ E)) f).1
 
-reads_of : (w : Wire) (ks : List Wire) (E : List Name) (so sk : Scope) → AgreeOn (wire_reads (w ∷ ks) ++ E) so sk → AgreeOn (right_reads w.right) so sk × AgreeOn (wire_reads ks ++ E) so sk
+reads_of : (w : Wire) (ks : List Wire) (E : List Name) (so sk : Scope) → AgreeOn (wire_reads (w ∷ ks) ++ E) so sk
+    → AgreeOn (right_reads w.right) so sk × AgreeOn (wire_reads ks ++ E) so sk
 reads_of w ks E so sk a =
     let b : AgreeOn (right_reads w.right ++ (wire_reads ks ++ E)) so sk = subst (λ (xs : List Name). AgreeOn xs so sk) (append_assoc (right_reads w.right) (wire_reads ks) E) a in
     (on_front (right_reads w.right) (wire_reads ks ++ E) so sk b, on_behind (right_reads w.right) (wire_reads ks ++ E) so sk b)
 
-pub needed_fits : (ms : Shapes) (P E : List Name) (ws : List Wire) (so sk : Scope) → AreWires ms so ws → AgreeOn (wire_reads (needed P E ws) ++ E) so sk → Smaller so sk → AreWires ms sk (needed P E ws)
+pub needed_fits : (ms : Shapes) (P E : List Name) (ws : List Wire) (so sk : Scope) → AreWires ms so ws
+    → AgreeOn (wire_reads (needed P E ws) ++ E) so sk → Smaller so sk → AreWires ms sk (needed P E ws)
 needed_fits ms P E [] so sk f a s = tt
 needed_fits ms P E (w ∷ ws) so sk f a s =
     let ks = needed P E ws in
     elim (cases_Bool (is_needed P E w ks)) [
       | inl t ↦
           let r = reads_of w ks E so sk (rw t at a) in
-          rw t (f.0, s w.name f.1, f.2, right_kept ms so sk w.width w.right r.0 f.3, needed_fits ms P E ws ((w.name, w.width) ∷ so) ((w.name, w.width) ∷ sk) f.4 (agree_both_more _ so sk w.name w.width r.1) (smaller_both_more so sk w.name w.width s))
+          rw t (
+            f.0,
+            s w.name f.1,
+            f.2,
+            right_kept ms so sk w.width w.right r.0 f.3,
+            needed_fits ms P E ws ((w.name, w.width) ∷ so) ((w.name, w.width) ∷ sk) f.4 (agree_both_more _ so sk w.name w.width r.1) (smaller_both_more so sk w.name w.width s),
+          )
       | inr e ↦
-          rw e (needed_fits ms P E ws ((w.name, w.width) ∷ so) sk f.4 (agree_one_more _ so sk w.name w.width (unread P E w ks e) (rw e at a)) (smaller_one_more so sk w.name w.width s))
+          rw e (needed_fits ms P E ws ((w.name, w.width) ∷ so) sk f.4
+          (agree_one_more _ so sk w.name w.width (unread P E w ks e) (rw e at a)) (smaller_one_more so sk w.name w.width s))
     ]
 
 -- what is read at the edge is found as before
-pub needed_agree : (P E : List Name) (ws : List Wire) (so sk : Scope) → AgreeOn (wire_reads (needed P E ws) ++ E) so sk → AgreeOn E (readable_after so ws) (readable_after sk (needed P E ws))
+pub needed_agree : (P E : List Name) (ws : List Wire) (so sk : Scope) → AgreeOn (wire_reads (needed P E ws) ++ E) so sk
+    → AgreeOn E (readable_after so ws) (readable_after sk (needed P E ws))
 needed_agree P E [] so sk a = a
 needed_agree P E (w ∷ ws) so sk a =
     let ks = needed P E ws in
@@ -119,7 +143,8 @@ needed_agree P E (w ∷ ws) so sk a =
           rw e (needed_agree P E ws ((w.name, w.width) ∷ so) sk (agree_one_more _ so sk w.name w.width (unread P E w ks e) (rw e at a)))
     ]
 
-pub needed_within : (ms : Shapes) (P E : List Name) (ws : List Wire) (so sk : Scope) → AreWires ms so ws → Grows sk so → Grows (readable_after sk (needed P E ws)) (readable_after so ws)
+pub needed_within : (ms : Shapes) (P E : List Name) (ws : List Wire) (so sk : Scope) → AreWires ms so ws → Grows sk so
+    → Grows (readable_after sk (needed P E ws)) (readable_after so ws)
 needed_within ms P E [] so sk f g = g
 needed_within ms P E (w ∷ ws) so sk f g =
     let ks = needed P E ws in
@@ -158,8 +183,10 @@ shown_needed Q P E (w ∷ ws) a =
 
 nexts_kept : (so sk : Scope) (rs : List Register) → AgreeOn (register_reads rs) so sk → AllByRecursion (IsRegister so) rs → AllByRecursion (IsRegister sk) rs
 nexts_kept so sk [] a h = tt
-nexts_kept so sk (r ∷ rs) a h =
-    ((h.0.0, operand_kept so sk r.width r.next (on_front (operand_reads r.next) (register_reads rs) so sk a) h.0.1), nexts_kept so sk rs (on_behind (operand_reads r.next) (register_reads rs) so sk a) h.1)
+nexts_kept so sk (r ∷ rs) a h = (
+  (h.0.0, operand_kept so sk r.width r.next (on_front (operand_reads r.next) (register_reads rs) so sk a) h.0.1),
+  nexts_kept so sk rs (on_behind (operand_reads r.next) (register_reads rs) so sk a) h.1,
+)
 
 writes_kept : (so sk : Scope) (ms : List Memory) → AgreeOn (memory_reads ms) so sk → AllByRecursion (IsMemory so) ms → AllByRecursion (IsMemory sk) ms
 writes_kept so sk [] a h = tt
@@ -180,6 +207,7 @@ writes_kept so sk (m ∷ ms) a h =
       writes_kept so sk ms (on_behind v (memory_reads ms) so sk c) h.1,
     )
 
-pub edge_kept : (so sk : Scope) (rs : List Register) (ms : List Memory) → AgreeOn (register_reads rs ++ memory_reads ms) so sk → AllByRecursion (IsRegister so) rs → AllByRecursion (IsMemory so) ms → AllByRecursion (IsRegister sk) rs × AllByRecursion (IsMemory sk) ms
+pub edge_kept : (so sk : Scope) (rs : List Register) (ms : List Memory) → AgreeOn (register_reads rs ++ memory_reads ms) so sk
+    → AllByRecursion (IsRegister so) rs → AllByRecursion (IsMemory so) ms → AllByRecursion (IsRegister sk) rs × AllByRecursion (IsMemory sk) ms
 edge_kept so sk rs ms a h k =
     (nexts_kept so sk rs (on_front (register_reads rs) (memory_reads ms) so sk a) h, writes_kept so sk ms (on_behind (register_reads rs) (memory_reads ms) so sk a) k)

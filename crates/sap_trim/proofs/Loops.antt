@@ -25,8 +25,10 @@ use Rattle.sap_trim.specs.Walked.{State, Walked, SomeRegister, StartsAt, Starts}
 empty_holds : (s : List Name) (n : Name) → s ≡ [] → holds s n ≡ false
 empty_holds s n e = ap (λ (ns : List Name). holds ns n) e
 
-pub lasting_held : (n : Name) (net : Net) (ps : List Port) (rs : List Register) (ms : List Memory) (s0 s1 s2 s3 : List Name) → s0 ≡ [] → ps ≡ net.ports → rs ≡ net.registers → ms ≡ net.memories
-    → holds s1 n ≡ (is_among n (map (λ m. m.name) ms) || holds s0 n) → holds s2 n ≡ (is_among n (map (λ r. r.name) rs) || holds s1 n) → holds s3 n ≡ (is_among n (map (λ p. p.name) ps) || holds s2 n) → holds s3 n ≡ is_among n (lasting_names net)
+pub lasting_held : (n : Name) (net : Net) (ps : List Port) (rs : List Register) (ms : List Memory) (s0 s1 s2 s3 : List Name) → s0 ≡ []
+    → ps ≡ net.ports → rs ≡ net.registers → ms ≡ net.memories
+    → holds s1 n ≡ (is_among n (map (λ m. m.name) ms) || holds s0 n) → holds s2 n ≡ (is_among n (map (λ r. r.name) rs) || holds s1 n)
+    → holds s3 n ≡ (is_among n (map (λ p. p.name) ps) || holds s2 n) → holds s3 n ≡ is_among n (lasting_names net)
 lasting_held n net ps rs ms s0 s1 s2 s3 e p r m a b c =
     let P = map (λ x. x.name) net.ports in
     let R = map (λ x. x.name) net.registers in
@@ -65,7 +67,8 @@ some_last : (P : Register → Type 0) (rs : List Register) (r : Register) → P 
 some_last P [] r h = inl h
 some_last P (x ∷ rs) r h = inr (some_last P rs r h)
 
-pub starts_push : (ws : List Wire) (rs : List Register) (x : Name) (a b c : Option Operand) (r : Register) → Starts ws rs x a b → (c ≡ b) ⊎ StartsAt ws x c r → Starts ws (rs ++ r ∷ []) x a c
+pub starts_push : (ws : List Wire) (rs : List Register) (x : Name) (a b c : Option Operand) (r : Register) → Starts ws rs x a b → (c ≡ b)
+    ⊎ StartsAt ws x c r → Starts ws (rs ++ r ∷ []) x a c
 starts_push ws rs x a b c r (inl e) (inl f) = inl (f ∙ e)
 starts_push ws rs x a b c r (inr h) (inl f) =
     inr (some_front (StartsAt ws x c) rs r (subst (λ (o : Option Operand). SomeRegister (StartsAt ws x o) rs) (sym f) h))

@@ -157,7 +157,8 @@ or_front true true c = refl
 or_front true false c = refl
 or_front false b c = refl
 
-pub is_needed_at : (m : List Name) (P E : List Name) (ws ks : List Wire) (k : ℕ) (w : Wire) → m ≡ names_of ws → AreDistinct (names_of ws) → k < length (names_of ws) → w ≡ get_or ws k w → k < length ws → has_place m (wire_reads ks ++ (P ++ E)) k ≡ is_needed P E w ks
+pub is_needed_at : (m : List Name) (P E : List Name) (ws ks : List Wire) (k : ℕ) (w : Wire) → m ≡ names_of ws → AreDistinct (names_of ws)
+    → k < length (names_of ws) → w ≡ get_or ws k w → k < length ws → has_place m (wire_reads ks ++ (P ++ E)) k ≡ is_needed P E w ks
 is_needed_at m P E ws ks k w i d n e l =
     let R = wire_reads ks in
     let x = w.name in
@@ -168,14 +169,16 @@ is_needed_at m P E ws ks k w i d n e l =
     ∙ or_front (is_among x R) (is_among x P) (is_among x E)
     ∙ ap (λ (b : Bool). is_among x P || b) (sym (among_append x R E))
 
-pub read_next : (m : List Name) (P E : List Name) (w : Wire) (ks : List Wire) (bs cs : List Bool) → Marks m (if is_needed P E w ks then right_reads w.right else []) bs cs → (k : ℕ) → k < length bs → is_marked bs k ≡ has_place m (wire_reads ks ++ (P ++ E)) k
+pub read_next : (m : List Name) (P E : List Name) (w : Wire) (ks : List Wire) (bs cs : List Bool)
+    → Marks m (if is_needed P E w ks then right_reads w.right else []) bs cs → (k : ℕ) → k < length bs → is_marked bs k ≡ has_place m (wire_reads ks ++ (P ++ E)) k
     → is_marked cs k ≡ has_place m (wire_reads (if is_needed P E w ks then w ∷ ks else ks) ++ (P ++ E)) k
 read_next m P E w ks bs cs f k l e =
     elim (cases_Bool (is_needed P E w ks)) [
       | inl t ↦
           let R = right_reads w.right in
           let g : Marks m R bs cs = rw t at f in
-          rw t (g.each k l ∙ ap (λ (b : Bool). has_place m R k || b) e ∙ sym (ap (λ (xs : List Name). has_place m xs k) (append_assoc R (wire_reads ks) (P ++ E)) ∙ has_append m R (wire_reads ks ++ (P ++ E)) k))
+          rw t (g.each k l ∙ ap (λ (b : Bool). has_place m R k || b) e
+          ∙ sym (ap (λ (xs : List Name). has_place m xs k) (append_assoc R (wire_reads ks) (P ++ E)) ∙ has_append m R (wire_reads ks ++ (P ++ E)) k))
       | inr n ↦
           let g : Marks m [] bs cs = rw n at f in
           rw n (g.each k l ∙ e)
@@ -186,7 +189,8 @@ set_at [] k x l = absurd (omega (arith, l))
 set_at (y ∷ xs) zero x l = refl
 set_at (y ∷ xs) (suc k) x l = set_at xs k x (omega (arith, l))
 
-pub kept_next : (P E : List Name) (bs : List Bool) (k : ℕ) (w : Wire) (ws : List Wire) (b : Bool) → k < length bs → b ≡ is_needed P E w (needed P E ws) → marked (drop (suc k) bs) ws ≡ needed P E ws → marked (drop k (set bs k b)) (w ∷ ws) ≡ needed P E (w ∷ ws)
+pub kept_next : (P E : List Name) (bs : List Bool) (k : ℕ) (w : Wire) (ws : List Wire) (b : Bool) → k < length bs
+    → b ≡ is_needed P E w (needed P E ws) → marked (drop (suc k) bs) ws ≡ needed P E ws → marked (drop k (set bs k b)) (w ∷ ws) ≡ needed P E (w ∷ ws)
 kept_next P E bs k w ws b l e f =
     ap (λ (cs : List Bool). marked cs (w ∷ ws)) (set_at bs k b l)
     ∙ ap₂ (λ (c : Bool) (xs : List Wire). if c then w ∷ xs else xs) e f
@@ -214,7 +218,8 @@ unset zero k = refl
 unset (suc n) zero = refl
 unset (suc n) (suc k) = unset n k
 
-pub first_keeping : (m : List Name) (P E : List Name) (ws : List Wire) (bs read kept : List Bool) → bs ≡ replicate (length ws) false → Marks m (P ++ E) bs read → kept ≡ replicate (length ws) false → Keeping m P E ws (length ws) read kept
+pub first_keeping : (m : List Name) (P E : List Name) (ws : List Wire) (bs read kept : List Bool) → bs ≡ replicate (length ws) false
+    → Marks m (P ++ E) bs read → kept ≡ replicate (length ws) false → Keeping m P E ws (length ws) read kept
 first_keeping m P E ws bs read kept e f g =
     let n = length ws in
     let none : drop n ws ≡ [] = drop_all n ws (omega arith) in
@@ -231,7 +236,8 @@ first_keeping m P E ws bs read kept e f g =
       keeps = subst (λ (zs : List Wire). marked (drop n kept) zs ≡ needed P E zs) (sym none) (none_marked (drop n kept));
     }
 
-pub next_keeping : (m : List Name) (P E : List Name) (ws : List Wire) (r : ℕ) (read kept new after : List Bool) → m ≡ names_of ws → AreDistinct (names_of ws) → 0 < r → Keeping m P E ws r read kept → after ≡ set kept (r - 1) (is_marked read (r - 1))
+pub next_keeping : (m : List Name) (P E : List Name) (ws : List Wire) (r : ℕ) (read kept new after : List Bool) → m ≡ names_of ws
+    → AreDistinct (names_of ws) → 0 < r → Keeping m P E ws r read kept → after ≡ set kept (r - 1) (is_marked read (r - 1))
     → ((w : Wire) → w ≡ get_or ws (r - 1) w → Marks m (if is_marked read (r - 1) then right_reads w.right else []) read new) → Keeping m P E ws (r - 1) new after
 next_keeping m P E ws r read kept new after i d p h q g =
     let k = r - 1 in
@@ -260,7 +266,8 @@ next_keeping m P E ws r read kept new after i d p h q g =
           (subst (λ (cs : List Bool). marked (drop k cs) (w ∷ rest) ≡ needed P E (w ∷ rest)) (sym q) now);
     }
 
-pub all_kept : (m : List Name) (n : Net) (ws : List Wire) (r : ℕ) (read kept : List Bool) → ws ≡ n.wires → r ≡ 0 → Keeping m (port_names n) (edge_reads n) ws r read kept → MarksNeeded n kept
+pub all_kept : (m : List Name) (n : Net) (ws : List Wire) (r : ℕ) (read kept : List Bool) → ws ≡ n.wires → r ≡ 0
+    → Keeping m (port_names n) (edge_reads n) ws r read kept → MarksNeeded n kept
 all_kept m n ws r read kept e z h =
     let P = port_names n in
     let E = edge_reads n in
@@ -281,7 +288,8 @@ whole_back new old count e l =
 
 -- one more wire, kept or not
 
-push_at : (bs : List Bool) (ws : List Wire) (k : ℕ) (w : Wire) → length bs ≡ length ws → k < length ws → w ≡ get_or ws k w → marked bs (take (suc k) ws) ≡ marked bs (take k ws) ++ marked (is_marked bs k ∷ []) (w ∷ [])
+push_at : (bs : List Bool) (ws : List Wire) (k : ℕ) (w : Wire) → length bs ≡ length ws → k < length ws → w ≡ get_or ws k w
+    → marked bs (take (suc k) ws) ≡ marked bs (take k ws) ++ marked (is_marked bs k ∷ []) (w ∷ [])
 push_at bs [] k w n l e = absurd (omega (arith, l))
 push_at [] (v ∷ ws) k w n l e = absurd (omega (arith, n))
 push_at (c ∷ bs) (v ∷ ws) zero w n l e =
@@ -290,7 +298,8 @@ push_at (c ∷ bs) (v ∷ ws) (suc k) w n l e =
     let r = push_at bs ws k w (omega (arith, n)) (omega (arith, l)) e in
     elim (cases_Bool c) [ inl t ↦ rw t (ap (λ (xs : List Wire). v ∷ xs) r) | inr u ↦ rw u r ]
 
-pub marked_push : (bs : List Bool) (ws : List Wire) (k : ℕ) (w : Wire) → length bs ≡ length ws → k < length ws → w ≡ get_or ws k w → marked bs (take (k + 1) ws) ≡ marked bs (take k ws) ++ marked (is_marked bs k ∷ []) (w ∷ [])
+pub marked_push : (bs : List Bool) (ws : List Wire) (k : ℕ) (w : Wire) → length bs ≡ length ws → k < length ws → w ≡ get_or ws k w
+    → marked bs (take (k + 1) ws) ≡ marked bs (take k ws) ++ marked (is_marked bs k ∷ []) (w ∷ [])
 marked_push bs ws k w n l e =
     let s : suc k ≡ k + 1 = omega arith in
     subst (λ (j : ℕ). marked bs (take j ws) ≡ marked bs (take k ws) ++ marked (is_marked bs k ∷ []) (w ∷ [])) s (push_at bs ws k w n l e)

@@ -26,7 +26,8 @@ pub record Tidy (taken : Name → Bool) (ws : List Wire) (next : ℕ) : Type 0 w
   pub long : ((k : ℕ) → taken (helper k) ≡ false) → length ws ≡ next
   pub named : ((k : ℕ) → taken (helper k) ≡ false) → names_of ws ≡ numbered next
 
-new_tidy : (taken : Name → Bool) (ws : List Wire) (next u : ℕ) (r : Right) (n : Name) (after : List Wire) (na : ℕ) → AddsNew taken ws next u r n after na → Tidy taken ws next → Tidy taken after na
+new_tidy : (taken : Name → Bool) (ws : List Wire) (next u : ℕ) (r : Right) (n : Name) (after : List Wire) (na : ℕ)
+    → AddsNew taken ws next u r n after na → Tidy taken ws next → Tidy taken after na
 new_tidy taken ws next u r n after na a t =
     let x : Wire = record { name = n; width = u; right = r } in
     let tidy : Tidy taken (ws ++ x ∷ []) (a.number + 1) = record {
@@ -44,11 +45,13 @@ same_tidy : (taken : Name → Bool) (ws after : List Wire) (next na : ℕ) → a
 same_tidy taken ws after next na e f t =
     subst (λ (k : ℕ). Tidy taken after k) (sym f) (subst (λ (ys : List Wire). Tidy taken ys next) (sym e) t)
 
-adds_tidy : (taken : Name → Bool) (ws : List Wire) (next u : ℕ) (r : Right) (n : Name) (after : List Wire) (na : ℕ) → Adds taken ws next u r n after na → Tidy taken ws next → Tidy taken after na
+adds_tidy : (taken : Name → Bool) (ws : List Wire) (next u : ℕ) (r : Right) (n : Name) (after : List Wire) (na : ℕ)
+    → Adds taken ws next u r n after na → Tidy taken ws next → Tidy taken after na
 adds_tidy taken ws next u r n after na (inl a) t = same_tidy taken ws after next na a.wires a.next_is t
 adds_tidy taken ws next u r n after na (inr a) t = new_tidy taken ws next u r n after na a t
 
-provides_tidy : (taken : Name → Bool) (ws : List Wire) (next u : ℕ) (r : Right) (o : Operand) (after : List Wire) (na : ℕ) → Provides taken ws next u r o after na → Tidy taken ws next → Tidy taken after na
+provides_tidy : (taken : Name → Bool) (ws : List Wire) (next u : ℕ) (r : Right) (o : Operand) (after : List Wire) (na : ℕ)
+    → Provides taken ws next u r o after na → Tidy taken ws next → Tidy taken after na
 provides_tidy taken ws next u (Copy p) o after na a t = same_tidy taken ws after next na a.1 a.2 t
 provides_tidy taken ws next u (One op p) o after na a t = adds_tidy taken ws next u (One op p) a.0 after na a.2 t
 provides_tidy taken ws next u (Two op p q) o after na a t = adds_tidy taken ws next u (Two op p q) a.0 after na a.2 t
@@ -68,7 +71,8 @@ begins_tidy taken n s b =
     same_tidy taken [] s.wires 0 s.next b.wires b.next (record { long = λ free. refl; named = λ free. refl })
 
 -- the helping wires of the new netlist
-shown_ports : (e : Stands) (P : List Name) (xs : List Wire) → AllByRecursion (λ w. is_among w.name P ≡ true) xs → AllByRecursion (λ w. not (is_among w.name P) ≡ false) (map (wire_of e) xs)
+shown_ports : (e : Stands) (P : List Name) (xs : List Wire) → AllByRecursion (λ w. is_among w.name P ≡ true) xs
+    → AllByRecursion (λ w. not (is_among w.name P) ≡ false) (map (wire_of e) xs)
 shown_ports e P [] a = tt
 shown_ports e P (x ∷ xs) a = (ap not a.0, shown_ports e P xs a.1)
 
@@ -77,11 +81,14 @@ helping_are n ws e a =
     let P = port_names n in
     let f = λ (w : Wire). not (is_among w.name P) in
     filter_append f ws (map (wire_of e) (shown_wires n))
-    ∙ ap₂ (λ (xs ys : List Wire). xs ++ ys) (filter_all f ws (all_follow (λ w. is_among w.name P ≡ false) (λ w. f w ≡ true) ws (λ w h. ap not h) a)) (filter_none f (map (wire_of e) (shown_wires n)) (shown_ports e P (shown_wires n) (filter_holds (λ w. is_among w.name P) n.wires)))
+    ∙ ap₂ (λ (xs ys : List Wire). xs ++ ys) (filter_all f ws
+    (all_follow (λ w. is_among w.name P ≡ false) (λ w. f w ≡ true) ws (λ w h. ap not h) a))
+    (filter_none f (map (wire_of e) (shown_wires n)) (shown_ports e P (shown_wires n) (filter_holds (λ w. is_among w.name P) n.wires)))
     ∙ append-nil ws
 
 -- its port wires are as many as those of the given one
-pub shown_are : (n : Net) (ws : List Wire) (e : Stands) → AllByRecursion (λ w. is_among w.name (port_names n) ≡ false) ws → shown_wires (built n ws e) ≡ map (wire_of e) (shown_wires n)
+pub shown_are : (n : Net) (ws : List Wire) (e : Stands) → AllByRecursion (λ w. is_among w.name (port_names n) ≡ false) ws
+    → shown_wires (built n ws e) ≡ map (wire_of e) (shown_wires n)
 shown_are n ws e a =
     let f = λ (w : Wire). is_among w.name (port_names n) in
     let outs = map (wire_of e) (shown_wires n) in

@@ -38,7 +38,8 @@ use Rattle.sap_trim.proofs.Read.{walk_reads, all_read}
 use Rattle.sap_trim.proofs.Few.{built_few, built_left}
 use Rattle.sap_trim.proofs.Renaming.{settles_copy}
 
-pub done_fold : (n : Net) (taken : Name → Bool) (s t : State) (ws : List Wire) → IsNetlist n → ((x : Name) → taken x ≡ is_among x (lasting_names n)) → Begins n s → ws ≡ n.wires → Walked (Folds taken) s ws t → Done n taken n.wires s t
+pub done_fold : (n : Net) (taken : Name → Bool) (s t : State) (ws : List Wire) → IsNetlist n
+    → ((x : Name) → taken x ≡ is_among x (lasting_names n)) → Begins n s → ws ≡ n.wires → Walked (Folds taken) s ws t → Done n taken n.wires s t
 done_fold n taken s t ws rules is b e k =
     let walked = subst (λ (xs : List Wire). Walked (Folds taken) s xs t) e k in
     let sc = first_readable n in
@@ -64,7 +65,8 @@ done_fold n taken s t ws rules is b e k =
 pub kept_wires : (n : Net) (kept : List Bool) (ws : List Wire) → ws ≡ n.wires → MarksNeeded n kept → marked kept ws ≡ needed_wires n
 kept_wires n kept ws e h = ap (λ (xs : List Wire). marked kept xs) e ∙ h.needed
 
-pub needed_done : (n : Net) (taken : Name → Bool) (s t : State) → IsNetlist n → ((x : Name) → taken x ≡ is_among x (lasting_names n)) → Begins n s → Walked (Settles taken) s (needed_wires n) t → Done n taken (needed_wires n) s t
+pub needed_done : (n : Net) (taken : Name → Bool) (s t : State) → IsNetlist n → ((x : Name) → taken x ≡ is_among x (lasting_names n))
+    → Begins n s → Walked (Settles taken) s (needed_wires n) t → Done n taken (needed_wires n) s t
 needed_done n taken s t rules is b k =
     let sc = first_readable n in
     let P = port_names n in
@@ -99,7 +101,8 @@ pub record Dropped (n : Net) (taken : Name → Bool) (s t : State) : Type 0 wher
   pub done : Done n taken (needed_wires n) s t
   pub settled : Walked (Settles taken) s (needed_wires n) t
 
-pub done_settle : (n : Net) (taken : Name → Bool) (kept : List Bool) (s t : State) (ws : List Wire) → IsNetlist n → ((x : Name) → taken x ≡ is_among x (lasting_names n)) → MarksNeeded n kept → Begins n s → ws ≡ n.wires → Walked (Settles taken) s (marked kept ws) t → Dropped n taken s t
+pub done_settle : (n : Net) (taken : Name → Bool) (kept : List Bool) (s t : State) (ws : List Wire) → IsNetlist n
+    → ((x : Name) → taken x ≡ is_among x (lasting_names n)) → MarksNeeded n kept → Begins n s → ws ≡ n.wires → Walked (Settles taken) s (marked kept ws) t → Dropped n taken s t
 done_settle n taken kept s t ws rules is needs b e k =
     let kept = subst (λ (xs : List Wire). Walked (Settles taken) s xs t) (kept_wires n kept ws e needs) k in
     record { done = needed_done n taken s t rules is b kept; settled = kept }
@@ -131,7 +134,8 @@ dropped_folds n taken s t numbers d o =
 pub dropped_numbers : (n : Net) (taken : Name → Bool) (s t : State) → Dropped n taken s t → NumbersWires (built n t.wires t.stands)
 dropped_numbers n taken s t d = λ none.
     let B = built n t.wires t.stands in
-    let names : lasting_names B ≡ lasting_names n = ap₂ (λ (a b : List Name). port_names n ++ (a ++ b)) (registers_named t.stands n.registers) (memories_named t.stands n.memories) in
+    let names : lasting_names B ≡ lasting_names n =
+    ap₂ (λ (a b : List Name). port_names n ++ (a ++ b)) (registers_named t.stands n.registers) (memories_named t.stands n.memories) in
     let free : (k : ℕ) → taken (helper k) ≡ false = λ k. d.done.walks.taken_is (helper k) ∙ sym (ap (is_among (helper k)) names) ∙ none k in
     let y = tidy n taken s t d in
     subst (λ (xs : List Wire). names_of xs ≡ numbered (length xs)) (sym (helpers_are n taken s t d)) (y.named free ∙ ap numbered (sym (y.long free)))
@@ -180,7 +184,8 @@ dropped_copies : (n : Net) (taken : Name → Bool) (s t : State) → Dropped n t
 dropped_copies n taken s t d =
     let small = built n t.wires t.stands in
     each_copied (port_names small) small.wires
-    (subst (AllByRecursion (λ w. is_copy w.right ≡ true)) (sym (shown_are n t.wires t.stands (no_ports n taken (readable_after (first_readable n) (needed_wires n)) t d.done.walks)))
+    (subst (AllByRecursion (λ w. is_copy w.right ≡ true))
+    (sym (shown_are n t.wires t.stands (no_ports n taken (readable_after (first_readable n) (needed_wires n)) t d.done.walks)))
     (copies_are t.stands (shown_wires n)))
 
 built_folded : (n : Net) (numbers : RightMap) (t : State) → Orderly numbers t.wires → IsFolded (built n t.wires t.stands)
@@ -202,7 +207,9 @@ pub record Folded (n r : Net) : Type 0 where
   pub same : RunsAlike n r
   pub folded : IsFolded r
 
-pub folded_all : (n : Net) (taken : Name → Bool) (s t : State) (ws : List Wire) (r : Net) → IsNetlist n → ((x : Name) → taken x ≡ is_among x (lasting_names n)) → Begins n s → ws ≡ n.wires → Walked (Folds taken) s ws t → (numbers : RightMap) → Orderly numbers t.wires → r ≡ built n t.wires t.stands → Folded n r
+pub folded_all : (n : Net) (taken : Name → Bool) (s t : State) (ws : List Wire) (r : Net) → IsNetlist n
+    → ((x : Name) → taken x ≡ is_among x (lasting_names n)) → Begins n s → ws ≡ n.wires → Walked (Folds taken) s ws t → (numbers : RightMap)
+    → Orderly numbers t.wires → r ≡ built n t.wires t.stands → Folded n r
 folded_all n taken s t ws r rules is b e k numbers o p =
     let d = done_fold n taken s t ws rules is b e k in
     subst (Folded n) (sym p) (
@@ -214,7 +221,9 @@ folded_all n taken s t ws r rules is b e k numbers o p =
     }
     )
 
-pub tidied_all : (n : Net) (taken : Name → Bool) (kept : List Bool) (s t : State) (ws : List Wire) (r : Net) → IsNetlist n → ((x : Name) → taken x ≡ is_among x (lasting_names n)) → MarksNeeded n kept → Begins n s → ws ≡ n.wires → Walked (Settles taken) s (marked kept ws) t → (numbers : RightMap) → Orderly numbers t.wires → r ≡ built n t.wires t.stands → Tidied n s r
+pub tidied_all : (n : Net) (taken : Name → Bool) (kept : List Bool) (s t : State) (ws : List Wire) (r : Net) → IsNetlist n
+    → ((x : Name) → taken x ≡ is_among x (lasting_names n)) → MarksNeeded n kept → Begins n s → ws ≡ n.wires
+    → Walked (Settles taken) s (marked kept ws) t → (numbers : RightMap) → Orderly numbers t.wires → r ≡ built n t.wires t.stands → Tidied n s r
 tidied_all n taken kept s t ws r rules is needs b e k numbers o p =
     let d = done_settle n taken kept s t ws rules is needs b e k in
     subst (Tidied n s) (sym p) (
@@ -232,7 +241,9 @@ tidied_all n taken kept s t ws r rules is needs b e k numbers o p =
     }
     )
 
-pub settled_all : (n : Net) (taken : Name → Bool) (s t : State) (ws : List Wire) (r : Net) → IsNetlist n → ((x : Name) → taken x ≡ is_among x (lasting_names n)) → Begins n s → ws ≡ n.wires → Walked (Settles taken) s ws t → (numbers : RightMap) → Orderly numbers t.wires → r ≡ built n t.wires t.stands → SettledNet n r
+pub settled_all : (n : Net) (taken : Name → Bool) (s t : State) (ws : List Wire) (r : Net) → IsNetlist n
+    → ((x : Name) → taken x ≡ is_among x (lasting_names n)) → Begins n s → ws ≡ n.wires → Walked (Settles taken) s ws t
+    → (numbers : RightMap) → Orderly numbers t.wires → r ≡ built n t.wires t.stands → SettledNet n r
 settled_all n taken s t ws r rules is b e k numbers o p =
     let d = done_fold n taken s t ws rules is b e (settles_walk taken ws s t k) in
     let all = subst (λ (xs : List Wire). Walked (Settles taken) s xs t) e k in

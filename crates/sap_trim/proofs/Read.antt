@@ -57,7 +57,8 @@ operand_read e x y s (Named z) h =
     subst (λ (o : Operand). is_among y (operand_reads o) ≡ true) (sym t) (among_here y [])
 operand_read e x y s (Constant w n) h = absurd (cc)
 
-operands_read : (e : Stands) (x y : Name) → StandsFor e x y → (os : List Operand) → is_among x (operands_reads os) ≡ true → is_among y (operands_reads (map (standing_operand e) os)) ≡ true
+operands_read : (e : Stands) (x y : Name) → StandsFor e x y → (os : List Operand) → is_among x (operands_reads os) ≡ true
+    → is_among y (operands_reads (map (standing_operand e) os)) ≡ true
 operands_read e x y s [] h = absurd (cc)
 operands_read e x y s (o ∷ os) h =
     let rest = operands_reads (map (standing_operand e) os) in
@@ -65,7 +66,8 @@ operands_read e x y s (o ∷ os) h =
     (λ t. among_front y (operand_reads (standing_operand e o)) rest (operand_read e x y s o t))
     (λ t. among_behind y (operand_reads (standing_operand e o)) rest (operands_read e x y s os t)) h
 
-two_read : (e : Stands) (x y : Name) → StandsFor e x y → (o p : Operand) → is_among x (operand_reads o ++ operand_reads p) ≡ true → is_among y (operand_reads (standing_operand e o) ++ operand_reads (standing_operand e p)) ≡ true
+two_read : (e : Stands) (x y : Name) → StandsFor e x y → (o p : Operand) → is_among x (operand_reads o ++ operand_reads p) ≡ true
+    → is_among y (operand_reads (standing_operand e o) ++ operand_reads (standing_operand e p)) ≡ true
 two_read e x y s o p h =
     let a = operand_reads (standing_operand e o) in
     let b = operand_reads (standing_operand e p) in
@@ -110,7 +112,8 @@ reads_front ws xs y h = subst (λ (ns : List Name). is_among y ns ≡ true) (sym
 pub reads_behind : (ws xs : List Wire) (y : Name) → is_among y (wire_reads xs) ≡ true → is_among y (wire_reads (ws ++ xs)) ≡ true
 reads_behind ws xs y h = subst (λ (ns : List Name). is_among y ns ≡ true) (sym (reads_both ws xs)) (among_behind y (wire_reads ws) (wire_reads xs) h)
 
-adds_reads : (taken : Name → Bool) (ws : List Wire) (next u : ℕ) (r : Right) (n y : Name) (after : List Wire) (na : ℕ) → Adds taken ws next u r n after na → is_among y (right_reads r) ≡ true → is_among y (wire_reads after) ≡ true
+adds_reads : (taken : Name → Bool) (ws : List Wire) (next u : ℕ) (r : Right) (n y : Name) (after : List Wire) (na : ℕ)
+    → Adds taken ws next u r n after na → is_among y (right_reads r) ≡ true → is_among y (wire_reads after) ≡ true
 adds_reads taken ws next u r n y after na (inl a) h =
     subst (λ (xs : List Wire). is_among y (wire_reads xs) ≡ true) (sym a.wires) (found_reads ws u r n y a.found h)
 adds_reads taken ws next u r n y after na (inr a) h =
@@ -118,7 +121,8 @@ adds_reads taken ws next u r n y after na (inr a) h =
     subst (λ (xs : List Wire). is_among y (wire_reads xs) ≡ true) (sym a.wires) (reads_behind ws (x ∷ []) y (among_front y (right_reads r) [] h))
 
 -- what a right side reads its operand is, or a wire reads it
-provides_reads : (taken : Name → Bool) (ws : List Wire) (next u : ℕ) (r : Right) (o : Operand) (after : List Wire) (na : ℕ) (y : Name) → Provides taken ws next u r o after na → is_among y (right_reads r) ≡ true → (o ≡ Named y) ⊎ (is_among y (wire_reads after) ≡ true)
+provides_reads : (taken : Name → Bool) (ws : List Wire) (next u : ℕ) (r : Right) (o : Operand) (after : List Wire) (na : ℕ) (y : Name)
+    → Provides taken ws next u r o after na → is_among y (right_reads r) ≡ true → (o ≡ Named y) ⊎ (is_among y (wire_reads after) ≡ true)
 provides_reads taken ws next u (Copy (Named z)) o after na y a h = inl (a.0 ∙ ap Named (sym (single y z h)))
 provides_reads taken ws next u (Copy (Constant w k)) o after na y a h = absurd (cc)
 provides_reads taken ws next u (One op p) o after na y a h = inr (adds_reads taken ws next u (One op p) a.0 y after na a.2 h)
@@ -132,11 +136,13 @@ provides_reads taken ws next u (Cell m i) o after na y a h = inr (adds_reads tak
 abbrev Added : List Wire → Operand → List Wire → Type 0
 Added ws o after = (more : List Wire) × (after ≡ ws ++ more) × AllByRecursion (λ w. o ≡ Named w.name) more
 
-adds_added : (taken : Name → Bool) (ws : List Wire) (next u : ℕ) (r : Right) (o : Operand) (n : Name) (after : List Wire) (na : ℕ) → o ≡ Named n → Adds taken ws next u r n after na → Added ws o after
+adds_added : (taken : Name → Bool) (ws : List Wire) (next u : ℕ) (r : Right) (o : Operand) (n : Name) (after : List Wire) (na : ℕ)
+    → o ≡ Named n → Adds taken ws next u r n after na → Added ws o after
 adds_added taken ws next u r o n after na e (inl a) = ([], a.wires ∙ sym (append-nil ws), tt)
 adds_added taken ws next u r o n after na e (inr a) = (record { name = n; width = u; right = r } ∷ [], a.wires, (e, tt))
 
-provides_added : (taken : Name → Bool) (ws : List Wire) (next u : ℕ) (r : Right) (o : Operand) (after : List Wire) (na : ℕ) → Provides taken ws next u r o after na → Added ws o after
+provides_added : (taken : Name → Bool) (ws : List Wire) (next u : ℕ) (r : Right) (o : Operand) (after : List Wire) (na : ℕ)
+    → Provides taken ws next u r o after na → Added ws o after
 provides_added taken ws next u (Copy p) o after na a = ([], a.1 ∙ sym (append-nil ws), tt)
 provides_added taken ws next u (One op p) o after na a = adds_added taken ws next u (One op p) o a.0 after na a.1 a.2
 provides_added taken ws next u (Two op p q) o after na a = adds_added taken ws next u (Two op p q) o a.0 after na a.1 a.2
@@ -222,13 +228,16 @@ walk_reads taken ms (w ∷ ws) so s t f k =
       more = a.0 ++ r.more;
       wires = r.wires ∙ ap (λ (ys : List Wire). ys ++ r.more) a.1 ∙ append_assoc s.wires a.0 r.more;
       images = all_append (λ h. (n : Name) × (is_among n (names_of (w ∷ ws)) ≡ true) × StandsFor t.stands n h.name) a.0 r.more
-          (all_follow (λ h. c.operand ≡ Named h.name) (λ h. (n : Name) × (is_among n (names_of (w ∷ ws)) ≡ true) × StandsFor t.stands n h.name) a.0 (λ h e. (w.name, among_here w.name (names_of ws), here ∙ ap Some e)) a.2)
-          (all_follow (λ h. (n : Name) × (is_among n (names_of ws) ≡ true) × StandsFor t.stands n h.name) (λ h. (n : Name) × (is_among n (names_of (w ∷ ws)) ≡ true) × StandsFor t.stands n h.name) r.more (λ h e. (e.0, among_behind e.0 (w.name ∷ []) (names_of ws) e.1, e.2)) r.images);
+          (all_follow (λ h. c.operand ≡ Named h.name) (λ h. (n : Name) × (is_among n (names_of (w ∷ ws)) ≡ true)
+          × StandsFor t.stands n h.name) a.0 (λ h e. (w.name, among_here w.name (names_of ws), here ∙ ap Some e)) a.2)
+          (all_follow (λ h. (n : Name) × (is_among n (names_of ws) ≡ true) × StandsFor t.stands n h.name) (λ h. (n : Name)
+          × (is_among n (names_of (w ∷ ws)) ≡ true) × StandsFor t.stands n h.name) r.more (λ h e. (e.0, among_behind e.0 (w.name ∷ []) (names_of ws) e.1, e.2)) r.images);
     }
 
 -- what registers and memories read
 
-registers_read : (e : Stands) (x y : Name) → StandsFor e x y → (rs : List Register) → is_among x (register_reads rs) ≡ true → is_among y (register_reads (map (register_of e) rs)) ≡ true
+registers_read : (e : Stands) (x y : Name) → StandsFor e x y → (rs : List Register) → is_among x (register_reads rs) ≡ true
+    → is_among y (register_reads (map (register_of e) rs)) ≡ true
 registers_read e x y s [] h = absurd (cc)
 registers_read e x y s (r ∷ rs) h =
     let a = operand_reads (standing_operand e r.next) in
@@ -265,7 +274,8 @@ PortsRead e P ws outs = AllByRecursion (λ w. is_among w.name P ≡ true → (y 
 
 ports_more : (e : Stands) (P : List Name) (ws : List Wire) (a b : List Name) → PortsRead e P ws b → PortsRead e P ws (a ++ b)
 ports_more e P ws a b h =
-    all_follow (λ w. is_among w.name P ≡ true → (y : Name) → StandsFor e w.name y → is_among y b ≡ true) (λ w. is_among w.name P ≡ true → (y : Name) → StandsFor e w.name y → is_among y (a ++ b) ≡ true) ws
+    all_follow (λ w. is_among w.name P ≡ true → (y : Name) → StandsFor e w.name y → is_among y b ≡ true) (λ w. is_among w.name P ≡ true
+    → (y : Name) → StandsFor e w.name y → is_among y (a ++ b) ≡ true) ws
     (λ w k p y s. among_behind y a b (k p y s)) h
 
 ports_read : (e : Stands) (P : List Name) (ws : List Wire) → PortsRead e P ws (wire_reads (map (wire_of e) (filter (λ w. is_among w.name P) ws)))
@@ -277,7 +287,8 @@ ports_read e P (w ∷ ws) =
       | inl t ↦
           let is : filter (λ x. is_among x.name P) (w ∷ ws) ≡ w ∷ shown = rw t refl in
           subst (λ (zs : List Wire). PortsRead e P (w ∷ ws) (wire_reads (map (wire_of e) zs))) (sym is) (
-            λ p y s. among_front y (operand_reads (standing e w.name)) rest (subst (λ (o : Operand). is_among y (operand_reads o) ≡ true) (sym (stands_for e w.name (Named y) s)) (among_here y [])),
+            λ p y s. among_front y (operand_reads (standing e w.name)) rest
+                (subst (λ (o : Operand). is_among y (operand_reads o) ≡ true) (sym (stands_for e w.name (Named y) s)) (among_here y [])),
             ports_more e P ws (operand_reads (standing e w.name)) rest (ports_read e P ws),
           )
       | inr f ↦
@@ -292,14 +303,19 @@ ports_read e P (w ∷ ws) =
 abbrev OperandsRead : Stands → List Name → List Wire → Type 0
 OperandsRead e all ks = AllByRecursion (λ w. (y : Name) → StandsFor e w.name y → is_among y all ≡ true) ks
 
-by_reader : (e : Stands) (hs : List Wire) (all : List Name) (x y : Name) → StandsFor e x y → ((z : Name) → is_among z (wire_reads hs) ≡ true → is_among z all ≡ true) → (ks : List Wire) → AllByRecursion (Passes e hs) ks → OperandsRead e all ks → is_among x (wire_reads ks) ≡ true → is_among y all ≡ true
+by_reader : (e : Stands) (hs : List Wire) (all : List Name) (x y : Name) → StandsFor e x y
+    → ((z : Name) → is_among z (wire_reads hs) ≡ true → is_among z all ≡ true) → (ks : List Wire) → AllByRecursion (Passes e hs) ks
+    → OperandsRead e all ks → is_among x (wire_reads ks) ≡ true → is_among y all ≡ true
 by_reader e hs all x y s k [] p r h = absurd (cc)
 by_reader e hs all x y s k (w ∷ ks) p r h =
     among_split x (right_reads w.right) (wire_reads ks) (is_among y all ≡ true)
     (λ t. elim (p.0 x y t s) [ inl q ↦ r.0 y q | inr q ↦ k y q ])
     (λ t. by_reader e hs all x y s k ks p.1 r.1 t) h
 
-needed_read : (e : Stands) (hs : List Wire) (all P E : List Name) → ((z : Name) → is_among z (wire_reads hs) ≡ true → is_among z all ≡ true) → ((x y : Name) → StandsFor e x y → is_among x E ≡ true → is_among y all ≡ true) → (ws : List Wire) → AllByRecursion (λ w. is_among w.name P ≡ true → (y : Name) → StandsFor e w.name y → is_among y all ≡ true) ws → AllByRecursion (Passes e hs) (needed P E ws) → OperandsRead e all (needed P E ws)
+needed_read : (e : Stands) (hs : List Wire) (all P E : List Name) → ((z : Name) → is_among z (wire_reads hs) ≡ true → is_among z all ≡ true)
+    → ((x y : Name) → StandsFor e x y → is_among x E ≡ true → is_among y all ≡ true) → (ws : List Wire)
+    → AllByRecursion (λ w. is_among w.name P ≡ true → (y : Name) → StandsFor e w.name y → is_among y all ≡ true) ws
+    → AllByRecursion (Passes e hs) (needed P E ws) → OperandsRead e all (needed P E ws)
 needed_read e hs all P E k edge [] ports p = tt
 needed_read e hs all P E k edge (w ∷ ws) ports p =
     let ks = needed P E ws in
@@ -327,12 +343,16 @@ all_read n so s t none r =
     let outs = map (wire_of e) (shown_wires n) in
     let B = built n hs e in
     let all = wire_reads B.wires ++ edge_reads B in
-    let from_helpers : (z : Name) → is_among z (wire_reads hs) ≡ true → is_among z all ≡ true = λ z h. among_front z (wire_reads B.wires) (edge_reads B) (reads_front hs outs z h) in
-    let from_edge : (x y : Name) → StandsFor e x y → is_among x E ≡ true → is_among y all ≡ true = λ x y q h. among_behind y (wire_reads B.wires) (edge_reads B) (edge_read n hs e x y q h) in
-    let ports = all_follow (λ w. is_among w.name P ≡ true → (y : Name) → StandsFor e w.name y → is_among y (wire_reads outs) ≡ true) (λ w. is_among w.name P ≡ true → (y : Name) → StandsFor e w.name y → is_among y all ≡ true) n.wires
+    let from_helpers : (z : Name) → is_among z (wire_reads hs) ≡ true → is_among z all ≡ true =
+    λ z h. among_front z (wire_reads B.wires) (edge_reads B) (reads_front hs outs z h) in
+    let from_edge : (x y : Name) → StandsFor e x y → is_among x E ≡ true → is_among y all ≡ true =
+    λ x y q h. among_behind y (wire_reads B.wires) (edge_reads B) (edge_read n hs e x y q h) in
+    let ports = all_follow (λ w. is_among w.name P ≡ true → (y : Name) → StandsFor e w.name y
+    → is_among y (wire_reads outs) ≡ true) (λ w. is_among w.name P ≡ true → (y : Name) → StandsFor e w.name y → is_among y all ≡ true) n.wires
     (λ w k p y q. among_front y (wire_reads B.wires) (edge_reads B) (reads_behind hs outs y (k p y q))) (ports_read e P n.wires) in
     let operands = needed_read e hs all P E from_helpers from_edge n.wires ports r.passes in
-    let named : AllByRecursion (λ x. (y : Name) → StandsFor e x y → is_among y all ≡ true) (names_of (needed_wires n)) = map_of_all (λ x. (y : Name) → StandsFor e x y → is_among y all ≡ true) (λ (w : Wire). w.name) (needed_wires n) operands in
+    let named : AllByRecursion (λ x. (y : Name) → StandsFor e x y → is_among y all ≡ true) (names_of (needed_wires n)) =
+    map_of_all (λ x. (y : Name) → StandsFor e x y → is_among y all ≡ true) (λ (w : Wire). w.name) (needed_wires n) operands in
     let images = all_follow (λ h. (m : Name) × (is_among m (names_of (needed_wires n)) ≡ true) × StandsFor e m h.name) (λ h. is_among h.name all ≡ true) r.more
     (λ h k. among_each (λ x. (y : Name) → StandsFor e x y → is_among y all ≡ true) (names_of (needed_wires n)) named k.0 k.1 h.name k.2) r.images in
     let is : hs ≡ r.more = r.wires ∙ ap (λ (xs : List Wire). xs ++ r.more) none in

@@ -34,7 +34,8 @@ name_of : (so : Scope) (e : Stands) → Renames so e → (x : Name) (u : ℕ) �
 name_of so e r x u h = let y = r.named x u h in (y.0, stands_for e x (Named y.0) y.1)
 
 -- what is the same of all names
-test_kept : {X : Type 0} (f : Operand → X) → ((x y : Name) → f (Named x) ≡ f (Named y)) → (so : Scope) (e : Stands) → Renames so e → (u : ℕ) (o : Operand) → IsOperand so u o → f (standing_operand e o) ≡ f o
+test_kept : {X : Type 0} (f : Operand → X) → ((x y : Name) → f (Named x) ≡ f (Named y)) → (so : Scope) (e : Stands) → Renames so e
+    → (u : ℕ) (o : Operand) → IsOperand so u o → f (standing_operand e o) ≡ f o
 test_kept f same so e r u (Named x) h = let y = name_of so e r x u h in ap f y.1 ∙ same y.0 x
 test_kept f same so e r u (Constant w n) h = refl
 
@@ -47,7 +48,8 @@ bit_kept so e r u o h k = test_kept (λ p. is_bit p k) (λ x y. refl) so e r u o
 full_kept : (so : Scope) (e : Stands) → Renames so e → (u : ℕ) (o : Operand) → IsOperand so u o → is_full (standing_operand e o) ≡ is_full o
 full_kept so e r u o h = test_kept is_full (λ x y. refl) so e r u o h
 
-names_kept : (so : Scope) (e : Stands) → Renames so e → (x z : Name) (u t : ℕ) → find so x ≡ Some u → find so z ≡ Some t → (p q : Name) → e x ≡ Some (Named p) → e z ≡ Some (Named q) → bytes_eq p q ≡ bytes_eq x z
+names_kept : (so : Scope) (e : Stands) → Renames so e → (x z : Name) (u t : ℕ) → find so x ≡ Some u → find so z ≡ Some t → (p q : Name)
+    → e x ≡ Some (Named p) → e z ≡ Some (Named q) → bytes_eq p q ≡ bytes_eq x z
 names_kept so e r x z u t h g p q i j =
     elim (cases_Bool (bytes_eq x z)) [
       | inl s ↦
@@ -66,7 +68,8 @@ names_kept so e r x z u t h g p q i j =
           ]
     ]
 
-same_kept : (so : Scope) (e : Stands) → Renames so e → (u t : ℕ) (o p : Operand) → IsOperand so u o → IsOperand so t p → same_operand (standing_operand e o) (standing_operand e p) ≡ same_operand o p
+same_kept : (so : Scope) (e : Stands) → Renames so e → (u t : ℕ) (o p : Operand) → IsOperand so u o → IsOperand so t p
+    → same_operand (standing_operand e o) (standing_operand e p) ≡ same_operand o p
 same_kept so e r u t (Named x) (Named z) h g =
     let a = r.named x u h in
     let b = r.named z t g in
@@ -77,19 +80,22 @@ same_kept so e r u t (Constant k n) (Constant j m) h g = refl
 
 -- what the table says of an operator
 
-constants_kept : (so : Scope) (e : Stands) → Renames so e → (op : Op2) (u t : ℕ) (a b : Operand) → IsOperand so u a → IsOperand so t b → fold_constants op (standing_operand e a) (standing_operand e b) ≡ fold_constants op a b
+constants_kept : (so : Scope) (e : Stands) → Renames so e → (op : Op2) (u t : ℕ) (a b : Operand) → IsOperand so u a → IsOperand so t b
+    → fold_constants op (standing_operand e a) (standing_operand e b) ≡ fold_constants op a b
 constants_kept so e r op u t (Named x) b h g = ap (λ (q : Operand). fold_constants op q (standing_operand e b)) (name_of so e r x u h).1
 constants_kept so e r op u t (Constant k n) (Named x) h g = ap (λ (q : Operand). fold_constants op (Constant k n) q) (name_of so e r x t g).1
 constants_kept so e r op u t (Constant k n) (Constant j m) h g = refl
 
-shift_kept : (so : Scope) (e : Stands) → Renames so e → (w u t : ℕ) (a b : Operand) → IsOperand so u a → IsOperand so t b → fold_shift w (standing_operand e a) (standing_operand e b) ≡ fold_shift w a b
+shift_kept : (so : Scope) (e : Stands) → Renames so e → (w u t : ℕ) (a b : Operand) → IsOperand so u a → IsOperand so t b
+    → fold_shift w (standing_operand e a) (standing_operand e b) ≡ fold_shift w a b
 shift_kept so e r w u t a (Named x) h g =
     ap (λ (q : Operand). fold_shift w (standing_operand e a) q) (name_of so e r x t g).1
     ∙ ap (λ (z : Bool). if z then First else Keep) (number_kept so e r u a h 0)
 shift_kept so e r w u t a (Constant k m) h g =
     ap (λ (z : Bool). if m == 0 || z then First else if nat_le w m then Number 0 else Keep) (number_kept so e r u a h 0)
 
-operator_kept : (so : Scope) (e : Stands) → Renames so e → (w : ℕ) (op : Op2) (u t : ℕ) (a b : Operand) → IsOperand so u a → IsOperand so t b → fold_operator w op (standing_operand e a) (standing_operand e b) ≡ fold_operator w op a b
+operator_kept : (so : Scope) (e : Stands) → Renames so e → (w : ℕ) (op : Op2) (u t : ℕ) (a b : Operand) → IsOperand so u a
+    → IsOperand so t b → fold_operator w op (standing_operand e a) (standing_operand e b) ≡ fold_operator w op a b
 operator_kept so e r w Add u t a b h g =
     rw (number_kept so e r u a h 0, number_kept so e r t b g 0) refl
 operator_kept so e r w Sub u t a b h g =
@@ -113,12 +119,22 @@ operator_kept so e r w Le u t a b h g =
 operator_kept so e r w Shl u t a b h g = shift_kept so e r w u t a b h g
 operator_kept so e r w Shr u t a b h g = shift_kept so e r w u t a b h g
 
-two_kept : (so : Scope) (e : Stands) → Renames so e → (w : ℕ) (op : Op2) (u t : ℕ) (a b : Operand) → IsOperand so u a → IsOperand so t b → fold_two w op (standing_operand e a) (standing_operand e b) ≡ fold_two w op a b
+two_kept : (so : Scope) (e : Stands) → Renames so e → (w : ℕ) (op : Op2) (u t : ℕ) (a b : Operand) → IsOperand so u a → IsOperand so t b
+    → fold_two w op (standing_operand e a) (standing_operand e b) ≡ fold_two w op a b
 two_kept so e r w op u t a b h g = ap₂ or_else (constants_kept so e r op u t a b h g) (operator_kept so e r w op u t a b h g)
 
-choose_kept : (so : Scope) (e : Stands) → Renames so e → (w u t i : ℕ) (c a b : Operand) → IsOperand so i c → IsOperand so u a → IsOperand so t b → fold_choose w (standing_operand e c) (standing_operand e a) (standing_operand e b) ≡ fold_choose w c a b
+choose_kept : (so : Scope) (e : Stands) → Renames so e → (w u t i : ℕ) (c a b : Operand) → IsOperand so i c → IsOperand so u a
+    → IsOperand so t b → fold_choose w (standing_operand e c) (standing_operand e a) (standing_operand e b) ≡ fold_choose w c a b
 choose_kept so e r w u t i c a b j h g =
-    rw (number_kept so e r i c j 0, number_kept so e r i c j 1, number_kept so e r u a h 0, number_kept so e r t b g 0, number_kept so e r u a h 1, number_kept so e r t b g 1, same_kept so e r u t a b h g) refl
+    rw (
+      number_kept so e r i c j 0,
+      number_kept so e r i c j 1,
+      number_kept so e r u a h 0,
+      number_kept so e r t b g 0,
+      number_kept so e r u a h 1,
+      number_kept so e r t b g 1,
+      same_kept so e r u t a b h g,
+    ) refl
 
 -- an outcome that leaves a right side as it is leaves others with its operator
 
@@ -248,7 +264,8 @@ shape_renamed so e n ms u (Concat os) i = refl
 shape_renamed so e n ms u (Slice x hi lo) i = ap (λ (p : Operand). shape (sliced p hi lo)) (name_of so e n x i.0 i.2).1
 shape_renamed so e n ms u (Cell m a) i = refl
 
-operands_renamed : (so : Scope) (e : Stands) → Renames so e → (ms : Shapes) (u : ℕ) (r : Right) → IsRight ms so u r → operands (replaced e r) ≡ map (standing_operand e) (operands r)
+operands_renamed : (so : Scope) (e : Stands) → Renames so e → (ms : Shapes) (u : ℕ) (r : Right) → IsRight ms so u r
+    → operands (replaced e r) ≡ map (standing_operand e) (operands r)
 operands_renamed so e n ms u (Copy a) i = refl
 operands_renamed so e n ms u (One op a) i = refl
 operands_renamed so e n ms u (Two op a b) i = refl
@@ -282,7 +299,8 @@ operand_apart : (so : Scope) (e : Stands) → Renames so e → (o p : Operand) �
 operand_apart so e n o p h g i =
     same_is o p (sym (same_kept so e n h.0 g.0 o p h.1 g.1) ∙ ap (λ (q : Operand). same_operand (standing_operand e o) q) (sym i) ∙ same_itself (standing_operand e o))
 
-operands_apart : (so : Scope) (e : Stands) → Renames so e → (os ps : List Operand) → AllByRecursion (IsFound so) os → AllByRecursion (IsFound so) ps → map (standing_operand e) os ≡ map (standing_operand e) ps → os ≡ ps
+operands_apart : (so : Scope) (e : Stands) → Renames so e → (os ps : List Operand) → AllByRecursion (IsFound so) os
+    → AllByRecursion (IsFound so) ps → map (standing_operand e) os ≡ map (standing_operand e) ps → os ≡ ps
 operands_apart so e n [] [] h g i = refl
 operands_apart so e n [] (p ∷ ps) h g i = absurd (cc)
 operands_apart so e n (o ∷ os) [] h g i = absurd (cc)

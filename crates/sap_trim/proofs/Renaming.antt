@@ -55,7 +55,8 @@ record Renaming (taken : Name → Bool) (ms : Shapes) (so sc : Scope) (ahead : L
   renames : Renames so s.stands
   origins : AllByRecursion (Origin ms so s.stands ahead) s.wires
 
-provides_adds : (taken : Name → Bool) (ws : List Wire) (next u : ℕ) (r : Right) (o : Operand) (after : List Wire) (na : ℕ) → is_copy r ≡ false → Provides taken ws next u r o after na → (x : Name) × (o ≡ Named x) × Adds taken ws next u r x after na
+provides_adds : (taken : Name → Bool) (ws : List Wire) (next u : ℕ) (r : Right) (o : Operand) (after : List Wire) (na : ℕ)
+    → is_copy r ≡ false → Provides taken ws next u r o after na → (x : Name) × (o ≡ Named x) × Adds taken ws next u r x after na
 provides_adds taken ws next u (Copy p) o after na h a = absurd (cc)
 provides_adds taken ws next u (One op p) o after na h a = a
 provides_adds taken ws next u (Two op p q) o after na h a = a
@@ -65,7 +66,8 @@ provides_adds taken ws next u (Slice x hi lo) o after na h a = a
 provides_adds taken ws next u (Cell m i) o after na h a = a
 
 -- no new wire has the right side that comes next
-none_there : (ms : Shapes) (so : Scope) (e : Stands) (w : Wire) (ahead ws : List Wire) (n : Name) → Renames so e → IsRight ms so w.width w.right → AllByRecursion (Origin ms so e (w ∷ ahead)) ws → find (rights ws) (key w.width (replaced e w.right)) ≡ Some n → ⊥
+none_there : (ms : Shapes) (so : Scope) (e : Stands) (w : Wire) (ahead ws : List Wire) (n : Name) → Renames so e
+    → IsRight ms so w.width w.right → AllByRecursion (Origin ms so e (w ∷ ahead)) ws → find (rights ws) (key w.width (replaced e w.right)) ≡ Some n → ⊥
 none_there ms so e w ahead [] n r i a h = absurd (cc)
 none_there ms so e w ahead (x ∷ ws) n r i a h =
     elim (cases_Bool (bytes_eq (key x.width x.right) (key w.width (replaced e w.right)))) [
@@ -82,12 +84,14 @@ record Stepped (taken : Name → Bool) (ms : Shapes) (so sc : Scope) (w : Wire) 
   copies : Copies taken s w t
   renaming : Renaming taken ms ((w.name, w.width) ∷ so) sc ahead t
 
-new_name : (taken : Name → Bool) (ms : Shapes) (sc : Scope) (ws : List Wire) (next u : ℕ) (r : Right) (n : Name) (after : List Wire) (na : ℕ) → AddsNew taken ws next u r n after na → AreWires ms sc after → find (readable_after sc ws) n ≡ None
+new_name : (taken : Name → Bool) (ms : Shapes) (sc : Scope) (ws : List Wire) (next u : ℕ) (r : Right) (n : Name) (after : List Wire) (na : ℕ)
+    → AddsNew taken ws next u r n after na → AreWires ms sc after → find (readable_after sc ws) n ≡ None
 new_name taken ms sc ws next u r n after na a f =
     (wires_first ms ws (record { name = n; width = u; right = r } ∷ []) sc (subst (AreWires ms sc) a.wires f)).1.1
 
 -- one more name that stands for a new one
-renames_more : (so sn : Scope) (e f : Stands) (x n : Name) (u : ℕ) → Renames so e → ((y : Name) (t : ℕ) → find so y ≡ Some t → (o : Operand) × (e y ≡ Some o) × IsOperand sn t o) → find sn n ≡ None → Puts e x (Named n) f → Renames ((x, u) ∷ so) f
+renames_more : (so sn : Scope) (e f : Stands) (x n : Name) (u : ℕ) → Renames so e
+    → ((y : Name) (t : ℕ) → find so y ≡ Some t → (o : Operand) × (e y ≡ Some o) × IsOperand sn t o) → find sn n ≡ None → Puts e x (Named n) f → Renames ((x, u) ∷ so) f
 renames_more so sn e f x n u r finds new b =
     let here : (y : Name) → bytes_eq x y ≡ true → f y ≡ Some (Named n) = λ y t. b y ∙ rw t refl in
     let before : (y : Name) → bytes_eq x y ≡ false → f y ≡ e y = λ y t. b y ∙ rw t refl in
@@ -121,7 +125,8 @@ renames_more so sn e f x n u r finds new b =
           ];
     }
 
-origin_more : (ms : Shapes) (so sd : Scope) (e f : Stands) (w : Wire) (ahead : List Wire) → Grows so sd → AgreeIn so e f → (h : Wire) → Origin ms so e (w ∷ ahead) h → Origin ms sd f ahead h
+origin_more : (ms : Shapes) (so sd : Scope) (e f : Stands) (w : Wire) (ahead : List Wire) → Grows so sd → AgreeIn so e f → (h : Wire)
+    → Origin ms so e (w ∷ ahead) h → Origin ms sd f ahead h
 origin_more ms so sd e f w ahead g a h o =
     record {
       old = o.old;
@@ -131,7 +136,9 @@ origin_more ms so sd e f w ahead g a h o =
       differs = o.differs.1;
     }
 
-step_renames : (taken : Name → Bool) (ms : Shapes) (so sc : Scope) (w : Wire) (ahead : List Wire) (s t : State) → TakenApart taken ms sc → Renaming taken ms so sc (w ∷ ahead) s → AreWires ms so (w ∷ ahead) → IsSettled w → is_copy w.right ≡ false → DiffersFrom w ahead → Settles taken s w t → Stepped taken ms so sc w ahead s t
+step_renames : (taken : Name → Bool) (ms : Shapes) (so sc : Scope) (w : Wire) (ahead : List Wire) (s t : State) → TakenApart taken ms sc
+    → Renaming taken ms so sc (w ∷ ahead) s → AreWires ms so (w ∷ ahead) → IsSettled w → is_copy w.right ≡ false → DiffersFrom w ahead
+    → Settles taken s w t → Stepped taken ms so sc w ahead s t
 step_renames taken ms so sc w ahead s t free k a z calculated differs step =
     let e = s.stands in
     let rr = replaced e w.right in
@@ -163,7 +170,8 @@ step_renames taken ms so sc w ahead s t free k a z calculated differs step =
         follows = follows;
         renames = renames_more so (readable_after sc s.wires) e t.stands w.name n w.width k.renames k.follows.finds fresh binds;
         origins = subst (AllByRecursion (Origin ms sd t.stands ahead)) (sym new.wires)
-            (all_append (Origin ms sd t.stands ahead) s.wires (x ∷ []) (all_follow (Origin ms so e (w ∷ ahead)) (Origin ms sd t.stands ahead) s.wires (origin_more ms so sd e t.stands w ahead grows agree) k.origins) (last, tt));
+            (all_append (Origin ms sd t.stands ahead) s.wires (x ∷ [])
+            (all_follow (Origin ms so e (w ∷ ahead)) (Origin ms sd t.stands ahead) s.wires (origin_more ms so sd e t.stands w ahead grows agree) k.origins) (last, tt));
       };
     }
 
@@ -183,7 +191,10 @@ copies_copy taken [] s t a k = k
 copies_copy taken (w ∷ ws) s t a k =
     (k.0, subst (λ (r : Right). Steps taken s w.name w.width r k.0) (copy_settled s.stands w.width w.right a.0) k.1, copies_copy taken ws k.0 t a.1 k.2)
 
-walk_copies : (taken : Name → Bool) (ms : Shapes) (sc : Scope) (ws cs : List Wire) (so : Scope) (s t : State) → TakenApart taken ms sc → Renaming taken ms so sc ws s → AreWires ms so (ws ++ cs) → AllByRecursion IsSettled ws → AllByRecursion (λ w. is_copy w.right ≡ false) ws → AllDiffer ws → AllByRecursion (λ w. is_copy w.right ≡ true) cs → Walked (Settles taken) s (ws ++ cs) t → Walked (Copies taken) s (ws ++ cs) t
+walk_copies : (taken : Name → Bool) (ms : Shapes) (sc : Scope) (ws cs : List Wire) (so : Scope) (s t : State) → TakenApart taken ms sc
+    → Renaming taken ms so sc ws s → AreWires ms so (ws ++ cs) → AllByRecursion IsSettled ws
+    → AllByRecursion (λ w. is_copy w.right ≡ false) ws → AllDiffer ws → AllByRecursion (λ w. is_copy w.right ≡ true) cs
+    → Walked (Settles taken) s (ws ++ cs) t → Walked (Copies taken) s (ws ++ cs) t
 walk_copies taken ms sc [] cs so s t free r a z c d b k = copies_copy taken cs s t b k
 walk_copies taken ms sc (w ∷ ws) cs so s t free r a z c d b k =
     let first : AreWires ms so (w ∷ ws) = (wires_first ms (w ∷ ws) cs so a).0 in
@@ -239,7 +250,8 @@ first_named n s b x z u h i =
     let e : Some (Named x) ≡ Some (Named z) = sym (themselves_named n s b x u h) ∙ i in
     cc
 
-begins_renaming : (taken : Name → Bool) (n : Net) (ahead : List Wire) (s : State) → IsNetlist n → Begins n s → StandForThemselves n s → Renaming taken (shapes n) (first_readable n) (first_readable n) ahead s
+begins_renaming : (taken : Name → Bool) (n : Net) (ahead : List Wire) (s : State) → IsNetlist n → Begins n s → StandForThemselves n s
+    → Renaming taken (shapes n) (first_readable n) (first_readable n) ahead s
 begins_renaming taken n ahead s rules b i =
     let sc = first_readable n in
     record {
@@ -251,7 +263,9 @@ begins_renaming taken n ahead s rules b i =
       origins = subst (AllByRecursion (Origin (shapes n) sc s.stands ahead)) (sym b.wires) tt;
     }
 
-pub settles_copy : (n : Net) (taken : Name → Bool) (s t : State) → IsNetlist n → ((x : Name) → taken x ≡ is_among x (lasting_names n)) → Begins n s → StandForThemselves n s → IsFolded n → AreWires (shapes n) (first_readable n) (needed_wires n) → Walked (Settles taken) s (needed_wires n) t → Walked (Copies taken) s (needed_wires n) t
+pub settles_copy : (n : Net) (taken : Name → Bool) (s t : State) → IsNetlist n → ((x : Name) → taken x ≡ is_among x (lasting_names n))
+    → Begins n s → StandForThemselves n s → IsFolded n → AreWires (shapes n) (first_readable n) (needed_wires n)
+    → Walked (Settles taken) s (needed_wires n) t → Walked (Copies taken) s (needed_wires n) t
 settles_copy n taken s t rules is b i f fits k =
     let ms = shapes n in
     let sc = first_readable n in
@@ -262,5 +276,6 @@ settles_copy n taken s t rules is b i f fits k =
     let parts : needed_wires n ≡ ws ++ cs = ap (needed P E) f.wires ∙ needed_parts P E f.helping f.copies in
     subst (λ (xs : List Wire). Walked (Copies taken) s xs t) (sym parts)
     (walk_copies taken ms sc ws cs sc s t (taken_apart n rules taken is) (begins_renaming taken n ws s rules b i) (subst (AreWires ms sc) parts fits)
-    (first_all IsSettled P E f.helping f.copies f.settled) (first_all (λ w. is_copy w.right ≡ false) P E f.helping f.copies f.calculated) (first_differ P E f.helping f.copies f.differ)
+    (first_all IsSettled P E f.helping f.copies f.settled) (first_all (λ w. is_copy w.right ≡ false) P E f.helping f.copies f.calculated)
+    (first_differ P E f.helping f.copies f.differ)
     (needed_all (λ w. is_copy w.right ≡ true) P E f.copies f.copied) (subst (λ (xs : List Wire). Walked (Settles taken) s xs t) parts k))

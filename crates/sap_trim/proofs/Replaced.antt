@@ -55,22 +55,26 @@ replaced_fits ms so sn e f u (Slice x hi lo) h =
     sliced_fits ms sn h.0 u hi lo (standing e x) h.1 (name_fits so sn e f x h.0 h.2) h.3 h.4 h.5
 replaced_fits ms so sn e f u (Cell m i) h = (h.0, h.1, operand_fits so sn e f h.0 i h.2)
 
-pub operand_same : (so : Scope) (e : Stands) (v w : Valuation) → Means so e v w → (u : ℕ) (o : Operand) → IsOperand so u o → operand_value v o ≡ operand_value w (standing_operand e o)
+pub operand_same : (so : Scope) (e : Stands) (v w : Valuation) → Means so e v w → (u : ℕ) (o : Operand) → IsOperand so u o
+    → operand_value v o ≡ operand_value w (standing_operand e o)
 operand_same so e v w m u (Named x) h = m x u h
 operand_same so e v w m u (Constant k n) h = refl
 
-width_same : (so sn : Scope) (e : Stands) (wv ww : Name → ℕ) → Finds so sn e → WidthsAre so wv → WidthsAre sn ww → (u : ℕ) (o : Operand) → IsOperand so u o → operand_width wv o ≡ operand_width ww (standing_operand e o)
+width_same : (so sn : Scope) (e : Stands) (wv ww : Name → ℕ) → Finds so sn e → WidthsAre so wv → WidthsAre sn ww → (u : ℕ) (o : Operand)
+    → IsOperand so u o → operand_width wv o ≡ operand_width ww (standing_operand e o)
 width_same so sn e wv ww f a b u o h =
     operand_is_wide so wv a u o h ∙ sym (operand_is_wide sn ww b u (standing_operand e o) (operand_fits so sn e f u o h))
 
-operands_wide : (so sn : Scope) (e : Stands) (wv ww : Name → ℕ) → Finds so sn e → WidthsAre so wv → WidthsAre sn ww → (u : ℕ) (os : List Operand) → AreOperands so u os → operands_width wv os ≡ operands_width ww (map (standing_operand e) os)
+operands_wide : (so sn : Scope) (e : Stands) (wv ww : Name → ℕ) → Finds so sn e → WidthsAre so wv → WidthsAre sn ww
+    → (u : ℕ) (os : List Operand) → AreOperands so u os → operands_width wv os ≡ operands_width ww (map (standing_operand e) os)
 operands_wide so sn e wv ww f a b u [] h = refl
 operands_wide so sn e wv ww f a b u (o ∷ os) h =
     let p = width_same so sn e wv ww f a b h.0 o h.3 in
     let q = operands_wide so sn e wv ww f a b h.1 os h.4 in
     cc
 
-operands_same : (so sn : Scope) (e : Stands) (wv ww : Name → ℕ) (v w : Valuation) → Finds so sn e → Means so e v w → WidthsAre so wv → WidthsAre sn ww → (u : ℕ) (os : List Operand) → AreOperands so u os → operands_value wv v os ≡ operands_value ww w (map (standing_operand e) os)
+operands_same : (so sn : Scope) (e : Stands) (wv ww : Name → ℕ) (v w : Valuation) → Finds so sn e → Means so e v w → WidthsAre so wv
+    → WidthsAre sn ww → (u : ℕ) (os : List Operand) → AreOperands so u os → operands_value wv v os ≡ operands_value ww w (map (standing_operand e) os)
 operands_same so sn e wv ww v w f m a b u [] h = refl
 operands_same so sn e wv ww v w f m a b u (o ∷ os) h =
     let p = operand_same so e v w m h.0 o h.3 in
@@ -78,7 +82,8 @@ operands_same so sn e wv ww v w f m a b u (o ∷ os) h =
     let r = operands_same so sn e wv ww v w f m a b h.1 os h.4 in
     cc
 
-pub replaced_same : (ms : Shapes) (so sn : Scope) (e : Stands) (wv ww : Name → ℕ) (v w : Valuation) → Finds so sn e → Means so e v w → WidthsAre so wv → WidthsAre sn ww → CellsAgree ms v w → (u : ℕ) (r : Right) → IsRight ms so u r → right_value wv v r ≡ right_value ww w (replaced e r)
+pub replaced_same : (ms : Shapes) (so sn : Scope) (e : Stands) (wv ww : Name → ℕ) (v w : Valuation) → Finds so sn e → Means so e v w
+    → WidthsAre so wv → WidthsAre sn ww → CellsAgree ms v w → (u : ℕ) (r : Right) → IsRight ms so u r → right_value wv v r ≡ right_value ww w (replaced e r)
 replaced_same ms so sn e wv ww v w f m a b c u (Copy o) h = operand_same so e v w m u o h
 replaced_same ms so sn e wv ww v w f m a b c u (One op o) h =
     let p = operand_same so e v w m h.0 o h.2 in

@@ -57,14 +57,18 @@ chosen_stays : (t : Bool) (x y n : ℕ) → x ≡ n → y ≡ n → (if t then y
 chosen_stays true x y n e f = f
 chosen_stays false x y n e f = e
 
-choice_stays : (ws : List Wire) (c a b : Operand) (p q : Option Stay) (s : Stay) → ((r : Stay) → p ≡ Some r → OperandStays ws a r) → ((r : Stay) → q ≡ Some r → OperandStays ws b r) → either p q ≡ Some s → (widths : Name → ℕ) (v : Valuation) → Holds widths v ws → Stays v s → right_value widths v (Choose c a b) ≡ number_of s
+choice_stays : (ws : List Wire) (c a b : Operand) (p q : Option Stay) (s : Stay) → ((r : Stay) → p ≡ Some r → OperandStays ws a r)
+    → ((r : Stay) → q ≡ Some r → OperandStays ws b r) → either p q ≡ Some s → (widths : Name → ℕ) (v : Valuation) → Holds widths v ws
+    → Stays v s → right_value widths v (Choose c a b) ≡ number_of s
 choice_stays ws c a b None q s f g h widths v k i = absurd (let e : None ≡ Some s = h in cc)
 choice_stays ws c a b (Some x) None s f g h widths v k i = absurd (let e : None ≡ Some s = h in cc)
 choice_stays ws c a b (Some x) (Some y) s f g h widths v k i =
     let d = both_are x y s h in
-    chosen_stays (operand_value v c == 0) (operand_value v a) (operand_value v b) (number_of s) (f x refl widths v k (d.one v i) ∙ sym d.first) (g y refl widths v k (d.other v i) ∙ sym d.second)
+    chosen_stays (operand_value v c == 0) (operand_value v a) (operand_value v b) (number_of s) (f x refl widths v k (d.one v i)
+    ∙ sym d.first) (g y refl widths v k (d.other v i) ∙ sym d.second)
 
-right_stays : (ws : List Wire) (e : Name → Option Stay) (r : Right) (s : Stay) → AllStay ws e → right_stay e r ≡ Some s → (widths : Name → ℕ) (v : Valuation) → Holds widths v ws → Stays v s → right_value widths v r ≡ number_of s
+right_stays : (ws : List Wire) (e : Name → Option Stay) (r : Right) (s : Stay) → AllStay ws e → right_stay e r ≡ Some s
+    → (widths : Name → ℕ) (v : Valuation) → Holds widths v ws → Stays v s → right_value widths v r ≡ number_of s
 right_stays ws e (Copy a) s h k = operand_stays ws e a s h k
 right_stays ws e (Choose c a b) s h k =
     choice_stays ws c a b (operand_stay e a) (operand_stay e b) s (λ r g. operand_stays ws e a r h g) (λ r g. operand_stays ws e b r h g) k

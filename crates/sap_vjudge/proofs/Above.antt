@@ -73,7 +73,8 @@ declaring a x k shapes sets integers target integer =
     (integers ∙ sym (ap (λ (b : Bool). has_integer a.items || b) integer ∙ or_false _))
 
 setting : (a : Above) (x : Item) (k : Known) → ((n : List ℕ) → k.shape n ≡ shape_above a n)
-    → ((s : Setting) (n : List ℕ) → k.set s n ≡ (is_set s n a.items || is_target s n (target_of x))) → k.integer ≡ has_integer a.items → item_declarations x ≡ [] → is_integer x ≡ false
+    → ((s : Setting) (n : List ℕ) → k.set s n ≡ (is_set s n a.items || is_target s n (target_of x))) → k.integer ≡ has_integer a.items
+    → item_declarations x ≡ [] → is_integer x ≡ false
     → k ≡ known_above (under_item a x)
 setting a x k shapes sets integers declared integer =
     item_known a x k

@@ -164,12 +164,14 @@ module _ (f : File) where
   in_ports_unset : (a : Fault) → StandsIn a (ports_unset (known_at_end f) f.ports) → StandsIn a (file_faults f)
   unfolding file_faults
   in_ports_unset a h =
-      among_right a (ports_faults nothing_known f.ports) _ (among_right a (items_faults (after_ports nothing_known f.ports) f.items) _ (among_left a (ports_unset (known_at_end f) f.ports) _ h))
+      among_right a (ports_faults nothing_known f.ports)
+      _ (among_right a (items_faults (after_ports nothing_known f.ports) f.items) _ (among_left a (ports_unset (known_at_end f) f.ports) _ h))
 
   in_items_unset : (a : Fault) → StandsIn a (items_unset (known_at_end f) f.items) → StandsIn a (file_faults f)
   unfolding file_faults
   in_items_unset a h =
-      among_right a (ports_faults nothing_known f.ports) _ (among_right a (items_faults (after_ports nothing_known f.ports) f.items) _ (among_right a (ports_unset (known_at_end f) f.ports) _ h))
+      among_right a (ports_faults nothing_known f.ports)
+      _ (among_right a (items_faults (after_ports nothing_known f.ports) f.items) _ (among_right a (ports_unset (known_at_end f) f.ports) _ h))
 
   in_file_items : (a : Fault) → StandsIn a (items_faults (known_above (ports_only f.ports)) f.items) → StandsIn a (file_faults f)
   in_file_items a h = in_items_part a (subst (λ (k : Known). StandsIn a (items_faults k f.items)) (sym (after_ports_above f.ports)) h)
@@ -216,9 +218,11 @@ module _ (f : File) where
   again_rest start x xs rest before after d e some =
       among_right (declared_again d) (item_faults (known_above start) x) _
       (subst (λ (k : Known). StandsIn (declared_again d) (items_faults k xs)) (sym (after_item_above start x))
-      (rest before after d e (subst (λ ds. IsSome (shape_in ds d.name.name)) (sym (ap (λ ds. ds ++ before) (item_declared start x) ∙ append_assoc (declarations start.ports start.items) (item_declarations x) before)) some)))
+      (rest before after d e (subst (λ ds. IsSome (shape_in ds d.name.name))
+      (sym (ap (λ ds. ds ++ before) (item_declared start x) ∙ append_assoc (declarations start.ports start.items) (item_declarations x) before)) some)))
 
-  again_here : (start : Above) (x : Item) (xs : List Item) (d : Declaration) → StandsIn d (item_declarations x) → IsSome (shape_in (declarations start.ports start.items ++ []) d.name.name)
+  again_here : (start : Above) (x : Item) (xs : List Item) (d : Declaration) → StandsIn d (item_declarations x)
+      → IsSome (shape_in (declarations start.ports start.items ++ []) d.name.name)
       → StandsIn (declared_again d) (items_faults (known_above start) (x ∷ xs))
   unfolding items_faults
   again_here start x xs d among some =
@@ -233,12 +237,14 @@ module _ (f : File) where
 
   again_one : (start : Above) (x : Item) (xs : List Item) (y : Declaration) → item_declarations x ≡ y ∷ [] → Again (under_item start x) xs → Again start (x ∷ xs)
   again_one start x xs y one rest [] after d e some =
-      again_here start x xs d (subst (λ ds. StandsIn d ds) (sym one) (inl (sym (head_is y d (flat_map item_declarations xs) after (ap (λ ds. ds ++ flat_map item_declarations xs) (sym one) ∙ e))))) some
+      again_here start x xs d (subst (λ ds. StandsIn d ds) (sym one)
+      (inl (sym (head_is y d (flat_map item_declarations xs) after (ap (λ ds. ds ++ flat_map item_declarations xs) (sym one) ∙ e))))) some
   again_one start x xs y one rest (b ∷ before) after d e some =
       let joined = ap (λ ds. ds ++ flat_map item_declarations xs) (sym one) ∙ e in
       again_rest start x xs rest before after d (tail_is y b (flat_map item_declarations xs) (before ++ d ∷ after) joined)
       (subst (λ ds. IsSome (shape_in (declarations start.ports start.items ++ (ds ++ before)) d.name.name)) (sym one)
-      (subst (λ z. IsSome (shape_in (declarations start.ports start.items ++ z ∷ before) d.name.name)) (sym (head_is y b (flat_map item_declarations xs) (before ++ d ∷ after) joined)) some))
+      (subst (λ z. IsSome (shape_in (declarations start.ports start.items ++ z ∷ before) d.name.name))
+      (sym (head_is y b (flat_map item_declarations xs) (before ++ d ∷ after) joined)) some))
 
   again : (start : Above) (xs : List Item) → Again start xs
   again start [] = λ before after d e some. absurd (no_middle before after d e)
@@ -248,7 +254,8 @@ module _ (f : File) where
   ]
 
   -- a fault of a port
-  of_port : (a : Fault) (above below : List Port) (p : Port) → f.ports ≡ above ++ p ∷ below → StandsIn a (port_faults (known_above (ports_only above)) p) → StandsIn a (file_faults f)
+  of_port : (a : Fault) (above below : List Port) (p : Port) → f.ports ≡ above ++ p ∷ below
+      → StandsIn a (port_faults (known_above (ports_only above)) p) → StandsIn a (file_faults f)
   of_port a above below p e h =
       in_ports_part a (subst (λ (k : Known). StandsIn a (ports_faults k f.ports)) (sym nothing_is) (in_ports a [] above f.ports above below p refl e h))
 
@@ -267,7 +274,8 @@ module _ (f : File) where
       again_items before after d e (subst (λ (qs : List Port). IsSome (shape_in (map port_declaration qs ++ before) d.name.name)) (sym (h ∙ append-nil seen)) some)
   again_ports seen (p ∷ ps) h [] after d e some =
       let same : port_declaration p ≡ d = head_is (port_declaration p) d (map port_declaration ps ++ flat_map item_declarations f.items) after e in
-      subst Twice same (of_port (declared_again (port_declaration p)) seen ps p h (in_port_twice seen p (subst (λ (x : Declaration). IsSome (shape_in (map port_declaration seen ++ []) x.name.name)) (sym same) some)))
+      subst Twice same (of_port (declared_again (port_declaration p)) seen ps p h
+      (in_port_twice seen p (subst (λ (x : Declaration). IsSome (shape_in (map port_declaration seen ++ []) x.name.name)) (sym same) some)))
   again_ports seen (p ∷ ps) h (b ∷ before) after d e some =
       let same : port_declaration p ≡ b = head_is (port_declaration p) b (map port_declaration ps ++ flat_map item_declarations f.items) (before ++ d ∷ after) e in
       again_ports (seen ++ p ∷ []) ps (h ∙ sym (append_assoc seen (p ∷ []) ps)) before after d
@@ -317,7 +325,8 @@ module _ (f : File) where
   v5_listed _ (faults.wide_range {above} {x} n at among h) =
       of_item (at_place code.V5 n.place) at (in_ranges (at_place code.V5 n.place) (known_above above) x n among (noted (nat_lt 63 n.value) code.V5 n.place (lt-ltb _ _ h)))
   v5_listed _ (faults.unfit {above} {x} c at among h) =
-      of_item (at_place code.V5 c.place) at (in_constants (at_place code.V5 c.place) (known_above above) x c among (noted (not (constant_fits c)) code.V5 c.place (not_from_false _ h)))
+      of_item (at_place code.V5 c.place) at (in_constants (at_place code.V5 c.place) (known_above above) x c among
+      (noted (not (constant_fits c)) code.V5 c.place (not_from_false _ h)))
   v5_listed _ (faults.widths_differ {above} {x} t p at e among h) =
       of_item (at_place code.V5 t.name.place) at (in_target_widths (known_above above) x t e
       (or_left _ (item_too_wide (known_above above) x) (some-differs (pairs (known_above above) x) p among h)))
@@ -342,7 +351,8 @@ module _ (f : File) where
   unset_listed : (d : Declaration) (s : Setting) → needs d.shape s ≡ true → is_set s d.name.name f.items ≡ false
       → StandsIn (at_place code.V6 d.name.place) (unset_faults last d)
   unset_listed d s need unset =
-      noted (lacks last d assign || (lacks last d initial || lacks last d always)) code.V6 d.name.place (lacks_some d s (and_from (needs d.shape s) _ need (not_from_false _ unset)))
+      noted (lacks last d assign || (lacks last d initial || lacks last d always)) code.V6 d.name.place
+      (lacks_some d s (and_from (needs d.shape s) _ need (not_from_false _ unset)))
 
   in_port_unset : (a : Fault) (d : Declaration) → StandsIn d (map port_declaration f.ports) → StandsIn a (unset_faults last d) → StandsIn a (file_faults f)
   unfolding ports_unset unsets_faults
@@ -352,7 +362,8 @@ module _ (f : File) where
   in_item_unset : (a : Fault) (d : Declaration) → StandsIn d (flat_map item_declarations f.items) → StandsIn a (unset_faults last d) → StandsIn a (file_faults f)
   unfolding items_unset unsets_faults
   in_item_unset a d among h =
-      in_items_unset a (subst (λ (k : Known). StandsIn a (items_unset k f.items)) (sym (at_end f)) (in_flat_map a (unset_faults last) d (flat_map item_declarations f.items) among h))
+      in_items_unset a (subst (λ (k : Known). StandsIn a (items_unset k f.items)) (sym (at_end f))
+      (in_flat_map a (unset_faults last) d (flat_map item_declarations f.items) among h))
 
   v6_listed : (place : ℕ) → V6 f place → StandsIn (at_place code.V6 place) (file_faults f)
   v6_listed _ (faults.unset d s among need unset) =
@@ -375,7 +386,8 @@ module _ (f : File) where
       (noted (not (bound.value == depth)) code.V7 bound.place (apart bound.value depth h))))
   v7_listed _ (faults.other_index {above} {x} m index {width} {b} {u} at among e given h) =
       of_item (at_place code.V7 (operand_place index)) at (in_indexes (at_place code.V7 (operand_place index)) (known_above above) x (m, index) among
-      (subst (λ (o : Option Shape). StandsIn (at_place code.V7 (operand_place index)) (listed.other_index o (operand_width (known_above above) index) (operand_place index))) (sym e)
+      (subst (λ (o : Option Shape). StandsIn (at_place code.V7 (operand_place index))
+      (listed.other_index o (operand_width (known_above above) index) (operand_place index))) (sym e)
       (subst (λ (w : Option ℕ). StandsIn (at_place code.V7 (operand_place index)) (depth_index (2 ^ b) w (operand_place index))) (sym given)
       (noted (is_other (2 ^ b) u) code.V7 (operand_place index) (is_other-from b u h)))))
   v7_listed _ (faults.other_kind {above} {x} u {shape} at among e h) =

@@ -128,7 +128,8 @@ module _ (f : File) (above : Above) where
       → Each (Stood f) (shape_faults u.manner o (is_set assign u.name.name above.items) u.name.place)
   use_stands x at u among None e = noted f true code.V4 u.name.place (λ h. faults.undeclared u at among e)
   use_stands x at u among (Some s) e =
-      each-append (Stood f) (fault_if (is_unassigned u.manner s (is_set assign u.name.name above.items)) code.V4 u.name.place) (fault_if (not (suits u.manner s)) code.V7 u.name.place)
+      each-append (Stood f) (fault_if (is_unassigned u.manner s (is_set assign u.name.name above.items)) code.V4 u.name.place)
+      (fault_if (not (suits u.manner s)) code.V7 u.name.place)
       (noted f (is_unassigned u.manner s (is_set assign u.name.name above.items)) code.V4 u.name.place (λ h.
       let r = unassigned_parts u.manner s (is_set assign u.name.name above.items) h in
       faults.unassigned u at among r.1 (e ∙ ap (λ (t : Shape). Some t) r.2) r.3))

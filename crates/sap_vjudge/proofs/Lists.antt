@@ -87,5 +87,6 @@ pub operands_constant-none : constants_faults (flat_map operand_constants (opera
 operands_constant-none = constants_faults-none
 
 pub operands_constant-cons : (x : Operand) (xs : List Operand)
-    → constants_faults (flat_map operand_constants (operands_of (x ∷ xs))) ≡ constants_faults (operand_constants (operand_of x)) ++ constants_faults (flat_map operand_constants (operands_of xs))
+    → constants_faults (flat_map operand_constants (operands_of (x ∷ xs))) ≡ constants_faults (operand_constants (operand_of x))
+    ++ constants_faults (flat_map operand_constants (operands_of xs))
 operands_constant-cons x xs = constants_faults-append (operand_constants (operand_of x)) (flat_map operand_constants (operands_of xs))

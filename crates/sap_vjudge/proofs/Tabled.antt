@@ -57,11 +57,13 @@ pub option_or-none : (o : Option Shape) → option_or o None ≡ o
 option_or-none None = refl
 option_or-none (Some s) = refl
 
-module _ (old new : Table) (x : List ℕ) (e : Entry) (entries : (n : List ℕ) → entry_of new n ≡ (if bytes_eq x n then Some e else entry_of old n)) (integer : new.integer ≡ old.integer) where
+module _ (old new : Table) (x : List ℕ) (e : Entry) (entries : (n : List ℕ)
+    → entry_of new n ≡ (if bytes_eq x n then Some e else entry_of old n)) (integer : new.integer ≡ old.integer) where
   pub known_declared : (s : Shape) → entry_shape (Some e) ≡ option_or (entry_shape (entry_of old x)) (Some s)
       → ((t : Setting) → entry_set (Some e) t ≡ entry_set (entry_of old x) t) → known_of new ≡ with_shape (known_of old) x s
   unfolding known_of
-  known_declared s shape set = alike (known_of new) (with_shape (known_of old) x s) (λ n. ap entry_shape (entries n) ∙ shapes n (bytes_eq x n) refl) (λ t n. ap (λ o. entry_set o t) (entries n) ∙ sets t n (bytes_eq x n) refl) integer
+  known_declared s shape set = alike (known_of new) (with_shape (known_of old) x s) (λ n. ap entry_shape (entries n)
+      ∙ shapes n (bytes_eq x n) refl) (λ t n. ap (λ o. entry_set o t) (entries n) ∙ sets t n (bytes_eq x n) refl) integer
     where
       shapes : (n : List ℕ) (b : Bool) → bytes_eq x n ≡ b
           → entry_shape (if b then Some e else entry_of old n) ≡ option_or (entry_shape (entry_of old n)) (if b then Some s else None)
@@ -75,7 +77,8 @@ module _ (old new : Table) (x : List ℕ) (e : Entry) (entries : (n : List ℕ) 
   pub known_set : (s : Setting) → entry_shape (Some e) ≡ entry_shape (entry_of old x)
       → ((t : Setting) → entry_set (Some e) t ≡ (entry_set (entry_of old x) t || same_setting t s)) → known_of new ≡ with_setting (known_of old) s x
   unfolding known_of
-  known_set s shape set = alike (known_of new) (with_setting (known_of old) s x) (λ n. ap entry_shape (entries n) ∙ shapes n (bytes_eq x n) refl) (λ t n. ap (λ o. entry_set o t) (entries n) ∙ sets t n (bytes_eq x n) refl) integer
+  known_set s shape set = alike (known_of new) (with_setting (known_of old) s x) (λ n. ap entry_shape (entries n)
+      ∙ shapes n (bytes_eq x n) refl) (λ t n. ap (λ o. entry_set o t) (entries n) ∙ sets t n (bytes_eq x n) refl) integer
     where
       shapes : (n : List ℕ) (b : Bool) → bytes_eq x n ≡ b → entry_shape (if b then Some e else entry_of old n) ≡ entry_shape (entry_of old n)
       shapes n true h = shape ∙ ap (λ (l : List ℕ). entry_shape (entry_of old l)) ((bytes_eq-Decides x n).0 h)
@@ -113,7 +116,8 @@ module _ {X : Type 0} (eq : Vec ℕ Global → Vec ℕ Global → Bool) (same : 
       by_test true h r =
           let here : x ≡ f.0.items = sym is ∙ (bytes_eq-Decides key.items f.0.items).0 (sym (same key f.0) ∙ h) in
           let test : bytes_eq n f.0.items ≡ bytes_eq x n = ap (λ (l : List ℕ). bytes_eq n l) (sym here) ∙ nat_list_eq_equiv.symm n x in
-          ap (λ (b : Bool). cond b (Some e) (under es)) test ∙ over (bytes_eq x n) e f.1 (under es) ∙ ap (λ (b : Bool). if bytes_eq x n then Some e else cond b (Some f.1) (under es)) (sym test)
+          ap (λ (b : Bool). cond b (Some e) (under es)) test ∙ over (bytes_eq x n) e f.1 (under es)
+          ∙ ap (λ (b : Bool). if bytes_eq x n then Some e else cond b (Some f.1) (under es)) (sym test)
       by_test false h r =
           ap (λ (o : Option X). cond (bytes_eq n f.0.items) (Some f.1) o) r
           ∙ beside (bytes_eq x n) (bytes_eq n f.0.items) e f.1 (under es) (λ p q. true≢false (sym (

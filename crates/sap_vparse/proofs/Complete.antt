@@ -66,9 +66,11 @@ range {p} (g.range a b c d e) = range_steps p ∙ bind_ok _ _ _ (sign a) ∙ bin
 port : {p q : List t.Token} {x : item.Port} → IsPort p x q → reads s.port p ≡ Ok q
 port {p} (g.input a b c) = port_input p (front a.is) ∙ bind_ok _ _ _ (word a) ∙ bind_ok _ _ _ (range b) ∙ bind_ok _ _ _ (name c)
 port {p} (g.output_reg {a = m} a b c d) =
-    port_output p (apart (front a.is) (λ e. absurd (cc))) ∙ bind_ok _ _ _ (word a) ∙ bind_ok _ _ _ (kind_reg m (front b.is) ∙ word b) ∙ bind_ok _ _ _ (range c) ∙ bind_ok _ _ _ (name d)
+    port_output p (apart (front a.is) (λ e. absurd (cc))) ∙ bind_ok _ _ _ (word a) ∙ bind_ok _ _ _ (kind_reg m (front b.is) ∙ word b)
+    ∙ bind_ok _ _ _ (range c) ∙ bind_ok _ _ _ (name d)
 port {p} (g.output_wire {a = m} a b c d) =
-    port_output p (apart (front a.is) (λ e. absurd (cc))) ∙ bind_ok _ _ _ (word a) ∙ bind_ok _ _ _ (kind_wire m (apart (front b.is) (λ e. absurd (cc))) ∙ word b) ∙ bind_ok _ _ _ (range c) ∙ bind_ok _ _ _ (name d)
+    port_output p (apart (front a.is) (λ e. absurd (cc))) ∙ bind_ok _ _ _ (word a)
+    ∙ bind_ok _ _ _ (kind_wire m (apart (front b.is) (λ e. absurd (cc))) ∙ word b) ∙ bind_ok _ _ _ (range c) ∙ bind_ok _ _ _ (name d)
 
 ports : {p q z : List t.Token} {xs : List item.Port} → ArePorts p xs q → IsSign q t.close_paren z → reads s.ports p ≡ Ok z
 ports {p} g.no_port close = ports_end p (apart (front close.is) (λ e. absurd (cc))) ∙ sign close
@@ -108,32 +110,40 @@ right : {p q z : List t.Token} {x : item.Right} → IsRight p x q → IsSign q t
 unfolding right_head after_head
 right {p} {q} (g.copy h) close = behind h (apart (front close.is) (λ e. absurd (cc))) ∙ after_end q (ap after_head (front close.is)) ∙ sign close
 right {p} (g.two {m = m} op x o y) close =
-    behind x (apart (front o.is) (binary_apart op)) ∙ after_two m op (ap after_head (front o.is) ∙ binary_head op) ∙ bind_ok _ _ _ (sign o) ∙ bind_ok _ _ _ (operand y) ∙ bind_ok _ _ _ (sign close)
+    behind x (apart (front o.is) (binary_apart op)) ∙ after_two m op (ap after_head (front o.is) ∙ binary_head op) ∙ bind_ok _ _ _ (sign o)
+    ∙ bind_ok _ _ _ (operand y) ∙ bind_ok _ _ _ (sign close)
 right {p} (g.one op o x) close = right_one p op (ap right_head (front o.is) ∙ unary_head op) ∙ bind_ok _ _ _ (sign o) ∙ bind_ok _ _ _ (operand x) ∙ bind_ok _ _ _ (sign close)
 right {p} (g.choose {a = m} x b y d z) close =
-    behind x (apart (front b.is) (λ e. absurd (cc))) ∙ after_choose m (ap after_head (front b.is)) ∙ bind_ok _ _ _ (sign b) ∙ bind_ok _ _ _ (operand y) ∙ bind_ok _ _ _ (sign d) ∙ bind_ok _ _ _ (operand z) ∙ bind_ok _ _ _ (sign close)
+    behind x (apart (front b.is) (λ e. absurd (cc))) ∙ after_choose m (ap after_head (front b.is)) ∙ bind_ok _ _ _ (sign b)
+    ∙ bind_ok _ _ _ (operand y) ∙ bind_ok _ _ _ (sign d) ∙ bind_ok _ _ _ (operand z) ∙ bind_ok _ _ _ (sign close)
 right {p} (g.concat a x c y zs e) close =
-    right_concat p (ap right_head (front a.is)) ∙ bind_ok _ _ _ (sign a) ∙ bind_ok _ _ _ (operand x) ∙ bind_ok _ _ _ (sign c) ∙ bind_ok _ _ _ (operand y) ∙ bind_ok _ _ _ (parts zs e) ∙ bind_ok _ _ _ (sign close)
+    right_concat p (ap right_head (front a.is)) ∙ bind_ok _ _ _ (sign a) ∙ bind_ok _ _ _ (operand x) ∙ bind_ok _ _ _ (sign c)
+    ∙ bind_ok _ _ _ (operand y) ∙ bind_ok _ _ _ (parts zs e) ∙ bind_ok _ _ _ (sign close)
 right {p} (g.slice {a = m} {b = n} x b high d low f) close =
     right_name p (ap right_head (front x)) ∙ bind_ok _ _ _ (name x)
     ∙ bind_ok _ _ _ (name_bracket m (front b.is) ∙ bind_ok _ _ _ (sign b)
-    ∙ bind_ok _ _ _ (bracket_slice n (front high.is) ∙ bind_ok _ _ _ (number high) ∙ bind_ok _ _ _ (sign d) ∙ bind_ok _ _ _ (number low) ∙ bind_ok _ _ _ (sign f) ∙ bind_ok _ _ _ (sign close)))
+    ∙ bind_ok _ _ _ (bracket_slice n (front high.is) ∙ bind_ok _ _ _ (number high) ∙ bind_ok _ _ _ (sign d) ∙ bind_ok _ _ _ (number low)
+    ∙ bind_ok _ _ _ (sign f) ∙ bind_ok _ _ _ (sign close)))
 right {p} (g.cell {a = m} {b = n} x b y f) close =
     right_name p (ap right_head (front x)) ∙ bind_ok _ _ _ (name x)
-    ∙ bind_ok _ _ _ (name_bracket m (front b.is) ∙ bind_ok _ _ _ (sign b) ∙ bind_ok _ _ _ (bracket_cell n (not_number y) ∙ bind_ok _ _ _ (operand y) ∙ bind_ok _ _ _ (sign f) ∙ bind_ok _ _ _ (sign close)))
+    ∙ bind_ok _ _ _ (name_bracket m (front b.is) ∙ bind_ok _ _ _ (sign b)
+    ∙ bind_ok _ _ _ (bracket_cell n (not_number y) ∙ bind_ok _ _ _ (operand y) ∙ bind_ok _ _ _ (sign f) ∙ bind_ok _ _ _ (sign close)))
 
 -- items
 
 clocked : {p q : List t.Token} → IsClocked p q → reads s.clocked p ≡ Ok q
-clocked {p} (g.clocked a b c d e f) = clocked_steps p ∙ bind_ok _ _ _ (word a) ∙ bind_ok _ _ _ (sign b) ∙ bind_ok _ _ _ (sign c) ∙ bind_ok _ _ _ (word d) ∙ bind_ok _ _ _ (word e) ∙ bind_ok _ _ _ (sign f)
+clocked {p} (g.clocked a b c d e f) = clocked_steps p ∙ bind_ok _ _ _ (word a) ∙ bind_ok _ _ _ (sign b) ∙ bind_ok _ _ _ (sign c)
+    ∙ bind_ok _ _ _ (word d) ∙ bind_ok _ _ _ (word e) ∙ bind_ok _ _ _ (sign f)
 
 clocked_head : {p q : List t.Token} → IsClocked p q → head p ≡ of_word t.always_word
 clocked_head (g.clocked a b c d e f) = front a.is
 
 loop : {p q : List t.Token} {place : ℕ} {n : item.Number} → IsLoop p place n q → reads s.loop p ≡ Ok q
 loop {p} (g.loop a b c d e f h i j k l m n o u v) =
-    loop_steps p ∙ bind_ok _ _ _ (word a) ∙ bind_ok _ _ _ (sign b) ∙ bind_ok _ _ _ (word (record { place = _; is = c })) ∙ bind_ok _ _ _ (sign d) ∙ bind_ok _ _ _ (digit e) ∙ bind_ok _ _ _ (sign f)
-    ∙ bind_ok _ _ _ (word h) ∙ bind_ok _ _ _ (sign i) ∙ bind_ok _ _ _ (number j) ∙ bind_ok _ _ _ (sign k) ∙ bind_ok _ _ _ (word l) ∙ bind_ok _ _ _ (sign m) ∙ bind_ok _ _ _ (word n) ∙ bind_ok _ _ _ (sign o) ∙ bind_ok _ _ _ (digit u) ∙ bind_ok _ _ _ (sign v)
+    loop_steps p ∙ bind_ok _ _ _ (word a) ∙ bind_ok _ _ _ (sign b) ∙ bind_ok _ _ _ (word (record { place = _; is = c }))
+    ∙ bind_ok _ _ _ (sign d) ∙ bind_ok _ _ _ (digit e) ∙ bind_ok _ _ _ (sign f)
+    ∙ bind_ok _ _ _ (word h) ∙ bind_ok _ _ _ (sign i) ∙ bind_ok _ _ _ (number j) ∙ bind_ok _ _ _ (sign k) ∙ bind_ok _ _ _ (word l)
+    ∙ bind_ok _ _ _ (sign m) ∙ bind_ok _ _ _ (word n) ∙ bind_ok _ _ _ (sign o) ∙ bind_ok _ _ _ (digit u) ∙ bind_ok _ _ _ (sign v)
 
 loop_head : {p q : List t.Token} {place : ℕ} {n : item.Number} → IsLoop p place n q → head p ≡ of_word t.for_word
 loop_head (g.loop a b c d e f h i j k l m n o u v) = front a.is
@@ -142,22 +152,29 @@ item_reads : {p q : List t.Token} {x : item.Item} → IsItem p x q → reads s.i
 unfolding item_head
 item_reads {p} (g.wire a b c d) = item_wire p (ap item_head (front a.is)) ∙ bind_ok _ _ _ (word a) ∙ bind_ok _ _ _ (range b) ∙ bind_ok _ _ _ (name c) ∙ bind_ok _ _ _ (sign d)
 item_reads {p} (g.register {c = m} a b c d) =
-    item_register p (ap item_head (front a.is)) ∙ bind_ok _ _ _ (word a) ∙ bind_ok _ _ _ (range b) ∙ bind_ok _ _ _ (name c) ∙ bind_ok _ _ _ (register_end m (apart (front d.is) (λ e. absurd (cc))) ∙ sign d)
+    item_register p (ap item_head (front a.is)) ∙ bind_ok _ _ _ (word a) ∙ bind_ok _ _ _ (range b) ∙ bind_ok _ _ _ (name c)
+    ∙ bind_ok _ _ _ (register_end m (apart (front d.is) (λ e. absurd (cc))) ∙ sign d)
 item_reads {p} (g.memory {c = m} a b c d e f h i j) =
     item_register p (ap item_head (front a.is)) ∙ bind_ok _ _ _ (word a) ∙ bind_ok _ _ _ (range b) ∙ bind_ok _ _ _ (name c)
-    ∙ bind_ok _ _ _ (register_memory m (front d.is) ∙ bind_ok _ _ _ (sign d) ∙ bind_ok _ _ _ (digit e) ∙ bind_ok _ _ _ (sign f) ∙ bind_ok _ _ _ (number h) ∙ bind_ok _ _ _ (sign i) ∙ bind_ok _ _ _ (sign j))
+    ∙ bind_ok _ _ _ (register_memory m (front d.is) ∙ bind_ok _ _ _ (sign d) ∙ bind_ok _ _ _ (digit e) ∙ bind_ok _ _ _ (sign f)
+    ∙ bind_ok _ _ _ (number h) ∙ bind_ok _ _ _ (sign i) ∙ bind_ok _ _ _ (sign j))
 item_reads {p} (g.integer a b c) = item_integer p (ap item_head (front a)) ∙ bind_ok _ _ _ (word (record { place = _; is = a })) ∙ bind_ok _ _ _ (word b) ∙ bind_ok _ _ _ (sign c)
-item_reads {p} (g.assign a b c d e) = item_assign p (ap item_head (front a.is)) ∙ bind_ok _ _ _ (word a) ∙ bind_ok _ _ _ (name b) ∙ bind_ok _ _ _ (sign c) ∙ bind_ok _ _ _ (right d e)
+item_reads {p} (g.assign a b c d e) = item_assign p (ap item_head (front a.is)) ∙ bind_ok _ _ _ (word a) ∙ bind_ok _ _ _ (name b)
+    ∙ bind_ok _ _ _ (sign c) ∙ bind_ok _ _ _ (right d e)
 item_reads {p} (g.initial {a = m} a b c d e) =
-    item_initial p (ap item_head (front a.is)) ∙ bind_ok _ _ _ (word a) ∙ bind_ok _ _ _ (initial_start m (front b) ∙ bind_ok _ _ _ (name b) ∙ bind_ok _ _ _ (sign c) ∙ bind_ok _ _ _ (constant d) ∙ bind_ok _ _ _ (sign e))
+    item_initial p (ap item_head (front a.is)) ∙ bind_ok _ _ _ (word a)
+    ∙ bind_ok _ _ _ (initial_start m (front b) ∙ bind_ok _ _ _ (name b) ∙ bind_ok _ _ _ (sign c) ∙ bind_ok _ _ _ (constant d) ∙ bind_ok _ _ _ (sign e))
 item_reads {p} (g.initial_cells {a = m} a b c d e f h i j) =
     item_initial p (ap item_head (front a.is)) ∙ bind_ok _ _ _ (word a)
-    ∙ bind_ok _ _ _ (initial_cells m (apart (loop_head b) (λ e. absurd (cc))) ∙ bind_ok _ _ _ (loop b) ∙ bind_ok _ _ _ (name c) ∙ bind_ok _ _ _ (sign d) ∙ bind_ok _ _ _ (word e) ∙ bind_ok _ _ _ (sign f) ∙ bind_ok _ _ _ (sign h) ∙ bind_ok _ _ _ (constant i) ∙ bind_ok _ _ _ (sign j))
+    ∙ bind_ok _ _ _ (initial_cells m (apart (loop_head b) (λ e. absurd (cc))) ∙ bind_ok _ _ _ (loop b) ∙ bind_ok _ _ _ (name c)
+    ∙ bind_ok _ _ _ (sign d) ∙ bind_ok _ _ _ (word e) ∙ bind_ok _ _ _ (sign f) ∙ bind_ok _ _ _ (sign h) ∙ bind_ok _ _ _ (constant i) ∙ bind_ok _ _ _ (sign j))
 item_reads {p} (g.always {a = m} a b c d e) =
-    item_always p (ap item_head (clocked_head a)) ∙ bind_ok _ _ _ (clocked a) ∙ bind_ok _ _ _ (clock_update m (front b) ∙ bind_ok _ _ _ (name b) ∙ bind_ok _ _ _ (sign c) ∙ bind_ok _ _ _ (operand d) ∙ bind_ok _ _ _ (sign e))
+    item_always p (ap item_head (clocked_head a)) ∙ bind_ok _ _ _ (clocked a)
+    ∙ bind_ok _ _ _ (clock_update m (front b) ∙ bind_ok _ _ _ (name b) ∙ bind_ok _ _ _ (sign c) ∙ bind_ok _ _ _ (operand d) ∙ bind_ok _ _ _ (sign e))
 item_reads {p} (g.always_cell {a = m} a b c d e f h i j k l n) =
     item_always p (ap item_head (clocked_head a)) ∙ bind_ok _ _ _ (clocked a)
-    ∙ bind_ok _ _ _ (clock_write m (apart (front b.is) (λ e. absurd (cc))) ∙ bind_ok _ _ _ (word b) ∙ bind_ok _ _ _ (sign c) ∙ bind_ok _ _ _ (operand d) ∙ bind_ok _ _ _ (sign e) ∙ bind_ok _ _ _ (name f) ∙ bind_ok _ _ _ (sign h)
+    ∙ bind_ok _ _ _ (clock_write m (apart (front b.is) (λ e. absurd (cc))) ∙ bind_ok _ _ _ (word b) ∙ bind_ok _ _ _ (sign c)
+    ∙ bind_ok _ _ _ (operand d) ∙ bind_ok _ _ _ (sign e) ∙ bind_ok _ _ _ (name f) ∙ bind_ok _ _ _ (sign h)
     ∙ bind_ok _ _ _ (operand i) ∙ bind_ok _ _ _ (sign j) ∙ bind_ok _ _ _ (sign k) ∙ bind_ok _ _ _ (operand l) ∙ bind_ok _ _ _ (sign n))
 
 no_end : {p q : List t.Token} {x : item.Item} → IsItem p x q → head p ≢ of_word t.endmodule_word
@@ -177,4 +194,5 @@ items {p} (g.next_item a b) close e = items_more p (no_end a) ∙ bind_ok _ _ _ 
 
 pub file_reads : {p q : List t.Token} {x : item.File} → IsFile p x q → q ≡ [] → reads s.file p ≡ Ok q
 file_reads {p} (g.file a b c d e f h i j k) whole =
-    file_steps p ∙ bind_ok _ _ _ (word a) ∙ bind_ok _ _ _ (name b) ∙ bind_ok _ _ _ (sign c) ∙ bind_ok _ _ _ (word d) ∙ bind_ok _ _ _ (word e) ∙ bind_ok _ _ _ (ports f h) ∙ bind_ok _ _ _ (sign i) ∙ bind_ok _ _ _ (items j k whole)
+    file_steps p ∙ bind_ok _ _ _ (word a) ∙ bind_ok _ _ _ (name b) ∙ bind_ok _ _ _ (sign c) ∙ bind_ok _ _ _ (word d)
+    ∙ bind_ok _ _ _ (word e) ∙ bind_ok _ _ _ (ports f h) ∙ bind_ok _ _ _ (sign i) ∙ bind_ok _ _ _ (items j k whole)

@@ -92,7 +92,11 @@ start_tree w (_, x, is then done) (_, value, close then done) = g.initial w x is
 
 pub loop_tree : {ts k m r : List t.Token} {place : ℕ} {bound : item.Number} → AreFixed ts LOOP k → AreFixed k START m → place ≡ here k → NumberThen m bound STEP r
     → IsLoop ts place bound r
-loop_tree (w then o then done) (i then is then zero then semicolon then j then less then done) there (_, bound, again then l then becomes then m then plus then one then close then done) =
+loop_tree (w then o then done) (i then is then zero then semicolon then j then less then done) there (
+  _,
+  bound,
+  again then l then becomes then m then plus then one then close then done,
+) =
     g.loop w o (word_here i there) is zero semicolon j less bound again l becomes m plus one close
 
 pub cells_tree : {ts k l m r : List t.Token} {place : ℕ} {bound : item.Number} {x : item.Mention} {value : item.Constant} → IsWord ts t.initial_word k → IsLoop k place bound l
@@ -107,10 +111,15 @@ pub update_tree : {ts k m r : List t.Token} {x : item.Mention} {y z : Operand} �
 update_tree {ts} {r = r} {x} c (_, n, le then done) (_, y, close then done) same =
     subst (λ (z : Operand). IsItem ts (item.always x (operand_of z)) r) (sym same) (g.always c n le y close)
 
-pub write_tree : {ts a1 a2 a3 a4 a5 r : List t.Token} {x : item.Mention} {u v w u' v' w' : Operand} → IsClocked ts a1 → AreFixed a1 CONDITION a2 → OperandThen a2 (operand_of u) CLOSE_PAREN a3
+pub write_tree : {ts a1 a2 a3 a4 a5 r : List t.Token} {x : item.Mention} {u v w u' v' w' : Operand} → IsClocked ts a1
+    → AreFixed a1 CONDITION a2 → OperandThen a2 (operand_of u) CLOSE_PAREN a3
     → NameThen a3 x OPEN_BRACKET a4 → OperandThen a4 (operand_of v) CELL_BECOMES a5 → OperandThen a5 (operand_of w) SEMICOLON r → u' ≡ u → v' ≡ v → w' ≡ w
     → IsItem ts (item.always_cell (operand_of u') x (operand_of v') (operand_of w')) r
-write_tree {ts} {r = r} {x} {u} {v} {w} {u'} {v'} {w'} c (i then o then done) (_, cond, cl then done) (_, n, ob then done) (_, ix, cb then le then done) (_, val, close then done) e f h =
+write_tree {ts} {r = r} {x} {u} {v} {w} {u'} {v'} {w'} c (i then o then done) (_, cond, cl then done) (_, n, ob then done) (
+  _,
+  ix,
+  cb then le then done,
+) (_, val, close then done) e f h =
     subst (λ (z : Operand). IsItem ts (item.always_cell (operand_of z) x (operand_of v') (operand_of w')) r) (sym e)
     (subst (λ (z : Operand). IsItem ts (item.always_cell (operand_of u) x (operand_of z) (operand_of w')) r) (sym f)
     (subst (λ (z : Operand). IsItem ts (item.always_cell (operand_of u) x (operand_of v) (operand_of z)) r) (sym h)

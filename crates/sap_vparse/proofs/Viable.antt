@@ -135,16 +135,28 @@ name_gives p (t.name x) = λ ts r h. (record { place = p; name = x }, subst (λ 
 name_gives p _ = tt
 
 number_gives : (p : ℕ) (k : t.Kind) → Gives (next s.number k) (λ ts r. L s.number (token p k ∷ ts) r)
-number_gives p (t.number x n) = λ ts r h. (record { place = p; value = x }, subst (λ z. IsNumber (token p (t.number x n) ∷ ts) (record { place = p; value = x }) z) h (one_number p x n ts))
+number_gives p (t.number x n) = λ ts r h. (
+  record { place = p; value = x },
+  subst (λ z. IsNumber (token p (t.number x n) ∷ ts) (record { place = p; value = x }) z) h (one_number p x n ts),
+)
 number_gives p _ = tt
 
 constant_gives : (p : ℕ) (k : t.Kind) → Gives (next s.constant k) (λ ts r. L s.constant (token p k ∷ ts) r)
-constant_gives p (t.constant x n) = λ ts r h. (record { place = p; width = x; value = n }, subst (λ z. IsConstant (token p (t.constant x n) ∷ ts) (record { place = p; width = x; value = n }) z) h (one_constant p x n ts))
+constant_gives p (t.constant x n) = λ ts r h. (
+  record { place = p; width = x; value = n },
+  subst (λ z. IsConstant (token p (t.constant x n) ∷ ts) (record { place = p; width = x; value = n }) z) h (one_constant p x n ts),
+)
 constant_gives p _ = tt
 
 operand_gives : (p : ℕ) (k : t.Kind) → Gives (next s.operand k) (λ ts r. L s.operand (token p k ∷ ts) r)
-operand_gives p (t.name x) = λ ts r h. (item.named (record { place = p; name = x }), g.name (subst (λ z. IsName (token p (t.name x) ∷ ts) (record { place = p; name = x }) z) h (one_name p x ts)))
-operand_gives p (t.constant x n) = λ ts r h. (item.constant (record { place = p; width = x; value = n }), g.constant (subst (λ z. IsConstant (token p (t.constant x n) ∷ ts) (record { place = p; width = x; value = n }) z) h (one_constant p x n ts)))
+operand_gives p (t.name x) = λ ts r h. (
+  item.named (record { place = p; name = x }),
+  g.name (subst (λ z. IsName (token p (t.name x) ∷ ts) (record { place = p; name = x }) z) h (one_name p x ts)),
+)
+operand_gives p (t.constant x n) = λ ts r h. (
+  item.constant (record { place = p; width = x; value = n }),
+  g.constant (subst (λ z. IsConstant (token p (t.constant x n) ∷ ts) (record { place = p; width = x; value = n }) z) h (one_constant p x n ts)),
+)
 operand_gives p _ = tt
 
 range_gives : (p : ℕ) (k : t.Kind) → Gives (next s.range k) (λ ts r. L s.range (token p k ∷ ts) r)
@@ -157,41 +169,90 @@ kind_gives p (t.word t.reg_word) = λ ts r h. inl (subst (λ z. IsWord (token p 
 kind_gives p (t.word t.wire_word) = λ ts r h. inr (subst (λ z. IsWord (token p (t.word t.wire_word) ∷ ts) t.wire_word z) h (one_word p t.wire_word ts))
 kind_gives p _ = tt
 
-output_port : {ts a b c r : List t.Token} {n : item.Number} {x : item.Mention} → IsWord ts t.output_word a → IsWord a t.reg_word b ⊎ IsWord a t.wire_word b → IsRange b n c → IsName c x r
+output_port : {ts a b c r : List t.Token} {n : item.Number} {x : item.Mention} → IsWord ts t.output_word a → IsWord a t.reg_word b
+    ⊎ IsWord a t.wire_word b → IsRange b n c → IsName c x r
     → (y : item.Port) × IsPort ts y r
 output_port {n = n} {x = x} a (inl b) c d = (record { direction = item.output_register; range = n; name = x }, g.output_reg a b c d)
 output_port {n = n} {x = x} a (inr b) c d = (record { direction = item.output_wire; range = n; name = x }, g.output_wire a b c d)
 
 port_gives : (p : ℕ) (k : t.Kind) → Gives (next s.port k) (λ ts r. L s.port (token p k ∷ ts) r)
-port_gives p (t.word t.input_word) = λ ts r h. let x = fin s.name h.0 r h.2 in (record { direction = item.input; range = h.1.0; name = x.0 }, g.input (one_word p t.input_word ts) h.1.1 x.1)
+port_gives p (t.word t.input_word) = λ ts r h. let x = fin s.name h.0 r h.2 in
+    (record { direction = item.input; range = h.1.0; name = x.0 }, g.input (one_word p t.input_word ts) h.1.1 x.1)
 port_gives p (t.word t.output_word) = λ ts r h. let x = fin s.name h.2.0 r h.2.2 in output_port (one_word p t.output_word ts) h.1 h.2.1.1 x.1
 port_gives p _ = tt
 
 ports_gives : (p : ℕ) (k : t.Kind) → Gives (next s.ports k) (λ ts r. L s.ports (token p k ∷ ts) r)
-ports_gives p (t.sign t.comma) = λ ts r h. let x = fin s.ports h.0 r h.2 in (h.1.0 ∷ x.0, record { last = x.1.last; ports = g.next_port (one_sign p t.comma ts) h.1.1 x.1.ports; close = x.1.close })
-ports_gives p (t.sign t.close_paren) = λ ts r h. ([], record { last = token p (t.sign t.close_paren) ∷ ts; ports = g.no_port; close = subst (λ z. IsSign (token p (t.sign t.close_paren) ∷ ts) t.close_paren z) h (one_sign p t.close_paren ts) })
+ports_gives p (t.sign t.comma) = λ ts r h. let x = fin s.ports h.0 r h.2 in
+    (h.1.0 ∷ x.0, record { last = x.1.last; ports = g.next_port (one_sign p t.comma ts) h.1.1 x.1.ports; close = x.1.close })
+ports_gives p (t.sign t.close_paren) = λ ts r h. (
+  [],
+  record {
+    last = token p (t.sign t.close_paren) ∷ ts;
+    ports = g.no_port;
+    close =
+        subst (λ z. IsSign (token p (t.sign t.close_paren) ∷ ts) t.close_paren z) h (one_sign p t.close_paren ts);
+  },
+)
 ports_gives p _ = tt
 
 parts_gives : (p : ℕ) (k : t.Kind) → Gives (next s.parts k) (λ ts r. L s.parts (token p k ∷ ts) r)
 parts_gives p (t.sign t.comma) = λ ts r h. let x = fin s.parts h.0 r h.2 in (h.1.0 ∷ x.0, x.1, g.next_part (one_sign p t.comma ts) h.1.1 x.2, x.3)
-parts_gives p (t.sign t.close_brace) = λ ts r h. ([], token p (t.sign t.close_brace) ∷ ts, g.no_part, subst (λ z. IsSign (token p (t.sign t.close_brace) ∷ ts) t.close_brace z) h (one_sign p t.close_brace ts))
+parts_gives p (t.sign t.close_brace) = λ ts r h. (
+  [],
+  token p (t.sign t.close_brace) ∷ ts,
+  g.no_part,
+  subst (λ z. IsSign (token p (t.sign t.close_brace) ∷ ts) t.close_brace z) h (one_sign p t.close_brace ts),
+)
 parts_gives p _ = tt
 
 after_operand_gives : (p : ℕ) (k : t.Kind) → Gives (next s.after_operand k) (λ ts r. L s.after_operand (token p k ∷ ts) r)
-after_operand_gives p (t.sign t.semicolon) = λ ts r h us x o. (item.copy x, record { last = _; right = g.copy o; close = subst (λ z. IsSign (token p (t.sign t.semicolon) ∷ ts) t.semicolon z) h (one_sign p t.semicolon ts) })
-after_operand_gives p (t.sign t.question) = λ ts r h us x o. (item.choose x h.1.0 h.2.2.1.0, record { last = _; right = g.choose o (one_sign p t.question ts) h.1.1 h.2.1 h.2.2.1.1; close = fin (s.sign t.semicolon) h.2.2.0 r h.2.2.2 })
-after_operand_gives p (t.sign t.plus) = λ ts r h us x o. (item.two binary.Add x h.1.0, record { last = _; right = g.two binary.Add o (one_sign p t.plus ts) h.1.1; close = fin (s.sign t.semicolon) h.0 r h.2 })
-after_operand_gives p (t.sign t.minus) = λ ts r h us x o. (item.two binary.Sub x h.1.0, record { last = _; right = g.two binary.Sub o (one_sign p t.minus ts) h.1.1; close = fin (s.sign t.semicolon) h.0 r h.2 })
-after_operand_gives p (t.sign t.star) = λ ts r h us x o. (item.two binary.Mul x h.1.0, record { last = _; right = g.two binary.Mul o (one_sign p t.star ts) h.1.1; close = fin (s.sign t.semicolon) h.0 r h.2 })
-after_operand_gives p (t.sign t.ampersand) = λ ts r h us x o. (item.two binary.And x h.1.0, record { last = _; right = g.two binary.And o (one_sign p t.ampersand ts) h.1.1; close = fin (s.sign t.semicolon) h.0 r h.2 })
-after_operand_gives p (t.sign t.bar) = λ ts r h us x o. (item.two binary.Or x h.1.0, record { last = _; right = g.two binary.Or o (one_sign p t.bar ts) h.1.1; close = fin (s.sign t.semicolon) h.0 r h.2 })
-after_operand_gives p (t.sign t.caret) = λ ts r h us x o. (item.two binary.Xor x h.1.0, record { last = _; right = g.two binary.Xor o (one_sign p t.caret ts) h.1.1; close = fin (s.sign t.semicolon) h.0 r h.2 })
-after_operand_gives p (t.sign t.equal) = λ ts r h us x o. (item.two binary.Eq x h.1.0, record { last = _; right = g.two binary.Eq o (one_sign p t.equal ts) h.1.1; close = fin (s.sign t.semicolon) h.0 r h.2 })
-after_operand_gives p (t.sign t.not_equal) = λ ts r h us x o. (item.two binary.Ne x h.1.0, record { last = _; right = g.two binary.Ne o (one_sign p t.not_equal ts) h.1.1; close = fin (s.sign t.semicolon) h.0 r h.2 })
-after_operand_gives p (t.sign t.less) = λ ts r h us x o. (item.two binary.Lt x h.1.0, record { last = _; right = g.two binary.Lt o (one_sign p t.less ts) h.1.1; close = fin (s.sign t.semicolon) h.0 r h.2 })
-after_operand_gives p (t.sign t.less_or_equal) = λ ts r h us x o. (item.two binary.Le x h.1.0, record { last = _; right = g.two binary.Le o (one_sign p t.less_or_equal ts) h.1.1; close = fin (s.sign t.semicolon) h.0 r h.2 })
-after_operand_gives p (t.sign t.shift_left) = λ ts r h us x o. (item.two binary.Shl x h.1.0, record { last = _; right = g.two binary.Shl o (one_sign p t.shift_left ts) h.1.1; close = fin (s.sign t.semicolon) h.0 r h.2 })
-after_operand_gives p (t.sign t.shift_right) = λ ts r h us x o. (item.two binary.Shr x h.1.0, record { last = _; right = g.two binary.Shr o (one_sign p t.shift_right ts) h.1.1; close = fin (s.sign t.semicolon) h.0 r h.2 })
+after_operand_gives p (t.sign t.semicolon) =
+    λ ts r h us x o. (
+      item.copy x,
+      record {
+        last = _;
+        right = g.copy o;
+        close =
+            subst (λ z. IsSign (token p (t.sign t.semicolon) ∷ ts) t.semicolon z) h (one_sign p t.semicolon ts);
+      },
+    )
+after_operand_gives p (t.sign t.question) =
+    λ ts r h us x o. (
+      item.choose x h.1.0 h.2.2.1.0,
+      record { last = _; right = g.choose o (one_sign p t.question ts) h.1.1 h.2.1 h.2.2.1.1; close = fin (s.sign t.semicolon) h.2.2.0 r h.2.2.2 },
+    )
+after_operand_gives p (t.sign t.plus) = λ ts r h us x o. (
+  item.two binary.Add x h.1.0,
+  record { last = _; right = g.two binary.Add o (one_sign p t.plus ts) h.1.1; close = fin (s.sign t.semicolon) h.0 r h.2 },
+)
+after_operand_gives p (t.sign t.minus) =
+    λ ts r h us x o. (item.two binary.Sub x h.1.0, record { last = _; right = g.two binary.Sub o (one_sign p t.minus ts) h.1.1; close = fin (s.sign t.semicolon) h.0 r h.2 })
+after_operand_gives p (t.sign t.star) = λ ts r h us x o. (
+  item.two binary.Mul x h.1.0,
+  record { last = _; right = g.two binary.Mul o (one_sign p t.star ts) h.1.1; close = fin (s.sign t.semicolon) h.0 r h.2 },
+)
+after_operand_gives p (t.sign t.ampersand) =
+    λ ts r h us x o. (item.two binary.And x h.1.0, record { last = _; right = g.two binary.And o (one_sign p t.ampersand ts) h.1.1; close = fin (s.sign t.semicolon) h.0 r h.2 })
+after_operand_gives p (t.sign t.bar) = λ ts r h us x o. (
+  item.two binary.Or x h.1.0,
+  record { last = _; right = g.two binary.Or o (one_sign p t.bar ts) h.1.1; close = fin (s.sign t.semicolon) h.0 r h.2 },
+)
+after_operand_gives p (t.sign t.caret) =
+    λ ts r h us x o. (item.two binary.Xor x h.1.0, record { last = _; right = g.two binary.Xor o (one_sign p t.caret ts) h.1.1; close = fin (s.sign t.semicolon) h.0 r h.2 })
+after_operand_gives p (t.sign t.equal) =
+    λ ts r h us x o. (item.two binary.Eq x h.1.0, record { last = _; right = g.two binary.Eq o (one_sign p t.equal ts) h.1.1; close = fin (s.sign t.semicolon) h.0 r h.2 })
+after_operand_gives p (t.sign t.not_equal) =
+    λ ts r h us x o. (item.two binary.Ne x h.1.0, record { last = _; right = g.two binary.Ne o (one_sign p t.not_equal ts) h.1.1; close = fin (s.sign t.semicolon) h.0 r h.2 })
+after_operand_gives p (t.sign t.less) = λ ts r h us x o. (
+  item.two binary.Lt x h.1.0,
+  record { last = _; right = g.two binary.Lt o (one_sign p t.less ts) h.1.1; close = fin (s.sign t.semicolon) h.0 r h.2 },
+)
+after_operand_gives p (t.sign t.less_or_equal) =
+    λ ts r h us x o. (item.two binary.Le x h.1.0, record { last = _; right = g.two binary.Le o (one_sign p t.less_or_equal ts) h.1.1; close = fin (s.sign t.semicolon) h.0 r h.2 })
+after_operand_gives p (t.sign t.shift_left) =
+    λ ts r h us x o. (item.two binary.Shl x h.1.0, record { last = _; right = g.two binary.Shl o (one_sign p t.shift_left ts) h.1.1; close = fin (s.sign t.semicolon) h.0 r h.2 })
+after_operand_gives p (t.sign t.shift_right) =
+    λ ts r h us x o. (item.two binary.Shr x h.1.0, record { last = _; right = g.two binary.Shr o (one_sign p t.shift_right ts) h.1.1; close = fin (s.sign t.semicolon) h.0 r h.2 })
 after_operand_gives p _ = tt
 
 after_name_gives : (p : ℕ) (k : t.Kind) → Gives (next s.after_name k) (λ ts r. L s.after_name (token p k ∷ ts) r)
@@ -200,20 +261,49 @@ after_name_gives p k = gives_also (next s.after_operand k) (λ ts r. L s.after_o
     (λ ts r h us x o. h us (item.named x) (g.name o))
 
 after_bracket_gives : (p : ℕ) (k : t.Kind) → Gives (next s.after_bracket k) (λ ts r. L s.after_bracket (token p k ∷ ts) r)
-after_bracket_gives p (t.name x) = λ ts r h us m y a b. (item.cell y (item.named (record { place = p; name = x })), record { last = _; right = g.cell a b (g.name (one_name p x ts)) h.1; close = fin (s.sign t.semicolon) h.0 r h.2 })
-after_bracket_gives p (t.number x n) = λ ts r h us m y a b. (item.slice y x h.2.1.0.value, record { last = _; right = g.slice a b (one_number p x n ts) h.1 h.2.1.1 h.2.2.1; close = fin (s.sign t.semicolon) h.2.2.0 r h.2.2.2 })
-after_bracket_gives p (t.constant x n) = λ ts r h us m y a b. (item.cell y (item.constant (record { place = p; width = x; value = n })), record { last = _; right = g.cell a b (g.constant (one_constant p x n ts)) h.1; close = fin (s.sign t.semicolon) h.0 r h.2 })
+after_bracket_gives p (t.name x) = λ ts r h us m y a b. (
+  item.cell y (item.named (record { place = p; name = x })),
+  record { last = _; right = g.cell a b (g.name (one_name p x ts)) h.1; close = fin (s.sign t.semicolon) h.0 r h.2 },
+)
+after_bracket_gives p (t.number x n) = λ ts r h us m y a b. (
+  item.slice y x h.2.1.0.value,
+  record { last = _; right = g.slice a b (one_number p x n ts) h.1 h.2.1.1 h.2.2.1; close = fin (s.sign t.semicolon) h.2.2.0 r h.2.2.2 },
+)
+after_bracket_gives p (t.constant x n) =
+    λ ts r h us m y a b. (
+      item.cell y (item.constant (record { place = p; width = x; value = n })),
+      record { last = _; right = g.cell a b (g.constant (one_constant p x n ts)) h.1; close = fin (s.sign t.semicolon) h.0 r h.2 },
+    )
 after_bracket_gives p _ = tt
 
 right_gives : (p : ℕ) (k : t.Kind) → Gives (next s.right k) (λ ts r. L s.right (token p k ∷ ts) r)
-right_gives p (t.sign t.tilde) = λ ts r h. (item.one unary.Not h.1.0, record { last = _; right = g.one unary.Not (one_sign p t.tilde ts) h.1.1; close = fin (s.sign t.semicolon) h.0 r h.2 })
-right_gives p (t.sign t.minus) = λ ts r h. (item.one unary.Neg h.1.0, record { last = _; right = g.one unary.Neg (one_sign p t.minus ts) h.1.1; close = fin (s.sign t.semicolon) h.0 r h.2 })
-right_gives p (t.sign t.ampersand) = λ ts r h. (item.one unary.AllOnes h.1.0, record { last = _; right = g.one unary.AllOnes (one_sign p t.ampersand ts) h.1.1; close = fin (s.sign t.semicolon) h.0 r h.2 })
-right_gives p (t.sign t.bar) = λ ts r h. (item.one unary.AnyOne h.1.0, record { last = _; right = g.one unary.AnyOne (one_sign p t.bar ts) h.1.1; close = fin (s.sign t.semicolon) h.0 r h.2 })
-right_gives p (t.sign t.caret) = λ ts r h. (item.one unary.Odd h.1.0, record { last = _; right = g.one unary.Odd (one_sign p t.caret ts) h.1.1; close = fin (s.sign t.semicolon) h.0 r h.2 })
-right_gives p (t.sign t.open_brace) = λ ts r h. (item.concat (h.1.0 ∷ h.2.2.1.0 ∷ h.2.2.2.1.0), record { last = _; right = g.concat (one_sign p t.open_brace ts) h.1.1 h.2.1 h.2.2.1.1 h.2.2.2.1.2 h.2.2.2.1.3; close = fin (s.sign t.semicolon) h.2.2.2.0 r h.2.2.2.2 })
+right_gives p (t.sign t.tilde) = λ ts r h. (
+  item.one unary.Not h.1.0,
+  record { last = _; right = g.one unary.Not (one_sign p t.tilde ts) h.1.1; close = fin (s.sign t.semicolon) h.0 r h.2 },
+)
+right_gives p (t.sign t.minus) = λ ts r h. (
+  item.one unary.Neg h.1.0,
+  record { last = _; right = g.one unary.Neg (one_sign p t.minus ts) h.1.1; close = fin (s.sign t.semicolon) h.0 r h.2 },
+)
+right_gives p (t.sign t.ampersand) = λ ts r h. (
+  item.one unary.AllOnes h.1.0,
+  record { last = _; right = g.one unary.AllOnes (one_sign p t.ampersand ts) h.1.1; close = fin (s.sign t.semicolon) h.0 r h.2 },
+)
+right_gives p (t.sign t.bar) = λ ts r h. (
+  item.one unary.AnyOne h.1.0,
+  record { last = _; right = g.one unary.AnyOne (one_sign p t.bar ts) h.1.1; close = fin (s.sign t.semicolon) h.0 r h.2 },
+)
+right_gives p (t.sign t.caret) = λ ts r h. (
+  item.one unary.Odd h.1.0,
+  record { last = _; right = g.one unary.Odd (one_sign p t.caret ts) h.1.1; close = fin (s.sign t.semicolon) h.0 r h.2 },
+)
+right_gives p (t.sign t.open_brace) = λ ts r h. (
+  item.concat (h.1.0 ∷ h.2.2.1.0 ∷ h.2.2.2.1.0),
+  record { last = _; right = g.concat (one_sign p t.open_brace ts) h.1.1 h.2.1 h.2.2.1.1 h.2.2.2.1.2 h.2.2.2.1.3; close = fin (s.sign t.semicolon) h.2.2.2.0 r h.2.2.2.2 },
+)
 right_gives p (t.name x) = λ ts r h. fin s.after_name ts r h (token p (t.name x) ∷ ts) (record { place = p; name = x }) (one_name p x ts)
-right_gives p (t.constant x n) = λ ts r h. fin s.after_operand ts r h (token p (t.constant x n) ∷ ts) (item.constant (record { place = p; width = x; value = n })) (g.constant (one_constant p x n ts))
+right_gives p (t.constant x n) = λ ts r h. fin s.after_operand ts r h (token p (t.constant x n) ∷ ts)
+    (item.constant (record { place = p; width = x; value = n })) (g.constant (one_constant p x n ts))
 right_gives p _ = tt
 
 clocked_gives : (p : ℕ) (k : t.Kind) → Gives (next s.clocked k) (λ ts r. IsClocked (token p k ∷ ts) r)
@@ -229,8 +319,13 @@ loop_gives p k =
     (i.1.place, k.1.0, g.loop a h.1 i.1.is i.2.1 i.2.2.1 j.1 j.2.1 j.2.2.1 k.1.1 k.2.1 k.2.2.1 l.1 l.2.1 n.1 n.2.1 (fin (s.sign t.close_paren) n.2.0 r n.2.2)))
 
 after_register_gives : (p : ℕ) (k : t.Kind) → Gives (next s.after_register k) (λ ts r. L s.after_register (token p k ∷ ts) r)
-after_register_gives p (t.sign t.semicolon) = λ ts r h us a b n x w m o. (item.register n x, g.register w m o (subst (λ z. IsSign (token p (t.sign t.semicolon) ∷ ts) t.semicolon z) h (one_sign p t.semicolon ts)))
-after_register_gives p (t.sign t.open_bracket) = λ ts r h us a b n x w m o. (item.memory n x h.2.2.1.0, g.memory w m o (one_sign p t.open_bracket ts) h.1 h.2.1 h.2.2.1.1 h.2.2.2.1 (fin (s.sign t.semicolon) h.2.2.2.0 r h.2.2.2.2))
+after_register_gives p (t.sign t.semicolon) =
+    λ ts r h us a b n x w m o. (item.register n x, g.register w m o (subst (λ z. IsSign (token p (t.sign t.semicolon) ∷ ts) t.semicolon z) h (one_sign p t.semicolon ts)))
+after_register_gives p (t.sign t.open_bracket) =
+    λ ts r h us a b n x w m o. (
+      item.memory n x h.2.2.1.0,
+      g.memory w m o (one_sign p t.open_bracket ts) h.1 h.2.1 h.2.2.1.1 h.2.2.2.1 (fin (s.sign t.semicolon) h.2.2.2.0 r h.2.2.2.2),
+    )
 after_register_gives p _ = tt
 
 cells_gives : (p : ℕ) (k : t.Kind) → Gives (s.cells_next k) (λ ts r. L s.after_initial (token p k ∷ ts) r)
@@ -241,18 +336,26 @@ cells_gives p k =
     (item.initial_cells a.0 a.1 h.1.0 i.2.2.1.0, g.initial_cells w a.2 h.1.1 h.2.1 h.2.2.1 i.1 i.2.1 i.2.2.1.1 (fin (s.sign t.semicolon) i.2.2.0 r i.2.2.2)))
 
 after_initial_gives : (p : ℕ) (k : t.Kind) → Gives (next s.after_initial k) (λ ts r. L s.after_initial (token p k ∷ ts) r)
-after_initial_gives p (t.name x) = λ ts r h us w. (item.initial (record { place = p; name = x }) h.2.1.0, g.initial w (one_name p x ts) h.1 h.2.1.1 (fin (s.sign t.semicolon) h.2.0 r h.2.2))
+after_initial_gives p (t.name x) = λ ts r h us w. (
+  item.initial (record { place = p; name = x }) h.2.1.0,
+  g.initial w (one_name p x ts) h.1 h.2.1.1 (fin (s.sign t.semicolon) h.2.0 r h.2.2),
+)
 after_initial_gives p k = cells_gives p k
 
 write_gives : (p : ℕ) (k : t.Kind) → Gives (s.write_next k) (λ ts r. L s.after_clock (token p k ∷ ts) r)
 write_gives p k =
     push_gives (s.word_next t.if_word k) _ (λ ts r. IsWord (token p k ∷ ts) t.if_word r) (λ ts r. L s.after_clock (token p k ∷ ts) r) (words_give p t.if_word k)
     (λ ts r m a h us w.
-    let i = h.2.2.2 in let j = i.2.2.2 in
-    (item.always_cell h.2.1.0 i.1.0 i.2.2.1.0 j.2.2.1.0, g.always_cell w a h.1 h.2.1.1 h.2.2.1 i.1.1 i.2.1 i.2.2.1.1 j.1 j.2.1 j.2.2.1.1 (fin (s.sign t.semicolon) j.2.2.0 r j.2.2.2)))
+    let i = h.2.2.2 in let j = i.2.2.2 in (
+      item.always_cell h.2.1.0 i.1.0 i.2.2.1.0 j.2.2.1.0,
+      g.always_cell w a h.1 h.2.1.1 h.2.2.1 i.1.1 i.2.1 i.2.2.1.1 j.1 j.2.1 j.2.2.1.1 (fin (s.sign t.semicolon) j.2.2.0 r j.2.2.2),
+    ))
 
 after_clock_gives : (p : ℕ) (k : t.Kind) → Gives (next s.after_clock k) (λ ts r. L s.after_clock (token p k ∷ ts) r)
-after_clock_gives p (t.name x) = λ ts r h us w. (item.always (record { place = p; name = x }) h.2.1.0, g.always w (one_name p x ts) h.1 h.2.1.1 (fin (s.sign t.semicolon) h.2.0 r h.2.2))
+after_clock_gives p (t.name x) = λ ts r h us w. (
+  item.always (record { place = p; name = x }) h.2.1.0,
+  g.always w (one_name p x ts) h.1 h.2.1.1 (fin (s.sign t.semicolon) h.2.0 r h.2.2),
+)
 after_clock_gives p k = write_gives p k
 
 always_gives : (p : ℕ) (k : t.Kind) → Gives (push (s.clocked_next k) (s.after_clock ∷ [])) (λ ts r. L s.item (token p k ∷ ts) r)
@@ -274,7 +377,16 @@ more_gives p k =
     (λ ts r m a h. let x = fin s.items m r h in (a.0 ∷ x.0, record { last = x.1.last; items = g.next_item a.1 x.1.items; close = x.1.close }))
 
 items_gives : (p : ℕ) (k : t.Kind) → Gives (next s.items k) (λ ts r. L s.items (token p k ∷ ts) r)
-items_gives p (t.word t.endmodule_word) = λ ts r h. ([], record { last = token p (t.word t.endmodule_word) ∷ ts; items = g.no_item; close = subst (λ z. IsWord (token p (t.word t.endmodule_word) ∷ ts) t.endmodule_word z) (fin s.end ts r h) (one_word p t.endmodule_word ts) })
+items_gives p (t.word t.endmodule_word) =
+    λ ts r h. (
+      [],
+      record {
+        last = token p (t.word t.endmodule_word) ∷ ts;
+        items = g.no_item;
+        close =
+            subst (λ z. IsWord (token p (t.word t.endmodule_word) ∷ ts) t.endmodule_word z) (fin s.end ts r h) (one_word p t.endmodule_word ts);
+      },
+    )
 items_gives p k = more_gives p k
 
 file_gives : (p : ℕ) (k : t.Kind) → Gives (next s.file k) (λ ts r. L s.file (token p k ∷ ts) r)
@@ -391,7 +503,8 @@ least s.loop = (
     0,
     some_number,
     g.loop (a_word t.for_word _) (a_sign t.open_paren _) (record { parts = refl }) (a_sign t.is _) (a_digit 0 _) (a_sign t.semicolon _)
-        (a_word t.i_word _) (a_sign t.less _) (a_number _) (a_sign t.semicolon _) (a_word t.i_word _) (a_sign t.is _) (a_word t.i_word _) (a_sign t.plus _) (a_digit 1 _) (a_sign t.close_paren rest),
+        (a_word t.i_word _) (a_sign t.less _) (a_number _) (a_sign t.semicolon _) (a_word t.i_word _) (a_sign t.is _) (a_word t.i_word _)
+        (a_sign t.plus _) (a_digit 1 _) (a_sign t.close_paren rest),
   ),
 )
 least s.clocked = (
@@ -415,7 +528,8 @@ least s.file = (
   wd t.module_word ∷ nm ∷ sg t.open_paren ∷ wd t.input_word ∷ wd t.clk_word ∷ sg t.close_paren ∷ sg t.semicolon ∷ wd t.endmodule_word ∷ [],
   λ rest. (
     record { module_name = []; ports = []; items = [] },
-    g.file (a_word t.module_word _) (a_name _) (a_sign t.open_paren _) (a_word t.input_word _) (a_word t.clk_word _) g.no_port (a_sign t.close_paren _) (a_sign t.semicolon _) g.no_item (a_word t.endmodule_word rest),
+    g.file (a_word t.module_word _) (a_name _) (a_sign t.open_paren _) (a_word t.input_word _) (a_word t.clk_word _) g.no_port
+        (a_sign t.close_paren _) (a_sign t.semicolon _) g.no_item (a_word t.endmodule_word rest),
   ),
 )
 
@@ -433,12 +547,14 @@ given n P role σ h e = subst (λ n. Gives n P) e h
 
 spells : spelling.Spells grammar Lang
 spells = record {
-  keeps = λ x y ts past q r role σ e f h. given (next x y.kind) (λ ts r. L x (token y.place y.kind ∷ ts) r) role σ (gives x y.place y.kind) e ts r.left (plainly σ (record { past = q; left = ts }) r h);
+  keeps = λ x y ts past q r role σ e f h. given (next x y.kind) (λ ts r. L x (token y.place y.kind ∷ ts) r) role σ (gives x y.place y.kind)
+      e ts r.left (plainly σ (record { past = q; left = ts }) r h);
   empties = λ x y p e. absurd (never_skips x y.kind e);
   least = λ x past. ((least x).0, past, (least x).1);
 }
 
-pub goes_on : {front : List t.Token} {q : Unit {0}} {σ : List Symbol} → Runs grammar front tt (s.file ∷ []) q σ → (more : List t.Token) × (f : item.File) × IsFile (front ++ more) f []
+pub goes_on : {front : List t.Token} {q : Unit {0}} {σ : List Symbol} → Runs grammar front tt (s.file ∷ []) q σ → (more : List t.Token)
+    × (f : item.File) × IsFile (front ++ more) f []
 goes_on {front} h =
     let a = spelling.goes_on grammar Lang spells h in
     let f = fin s.file (front ++ a.0) [] (plainly (s.file ∷ []) (record { past = tt; left = front ++ a.0 }) (record { past = a.1; left = [] }) a.2) in

@@ -42,7 +42,8 @@ record Entry {A : Type 0} (name : A → Name) (f : A → Shape) (xs : List A) (x
   among : is_among x (map name xs) ≡ true
   shape : s ≡ f of
 
-entry_of : {A : Type 0} (name : A → Name) (f : A → Shape) (xs : List A) (x : Name) (s : Shape) → StandsIn {A = Name × Shape} (x, s) (map (λ y. (name y, f y)) xs) → Entry name f xs x s
+entry_of : {A : Type 0} (name : A → Name) (f : A → Shape) (xs : List A) (x : Name) (s : Shape)
+    → StandsIn {A = Name × Shape} (x, s) (map (λ y. (name y, f y)) xs) → Entry name f xs x s
 entry_of name f [] x s m = absurd m
 entry_of name f (y ∷ ys) x s (inl e) =
     let p : x ≡ name y = ap (λ (z : Name × Shape). z.0) e in
@@ -91,9 +92,12 @@ module _ (n : Net) (h : IsNetlist n) where
 
   -- what a port shows
   pub port_found : (k : PortKind) (x : Name) → PortShows n k x → (w : ℕ) × (find (entities n) x ≡ Some (port_shape (direction_of k) w))
-  port_found kind.Input x m = let r = named_among (λ (y : Input). y.name) n.inputs x m in (r.0.width, subst (λ z. find (entities n) z ≡ Some (input r.0.width)) r.2 (input_found r.0 r.1))
-  port_found kind.Register x m = let r = named_among (λ (y : Register). y.name) n.registers x m in (r.0.width, subst (λ z. find (entities n) z ≡ Some (register r.0.width)) r.2 (register_found r.0 r.1))
-  port_found kind.Wire x m = let r = named_among (λ (y : Wire). y.name) n.wires x m in (r.0.width, subst (λ z. find (entities n) z ≡ Some (wire r.0.width)) r.2 (wire_found r.0 r.1))
+  port_found kind.Input x m = let r = named_among (λ (y : Input). y.name) n.inputs x m in
+      (r.0.width, subst (λ z. find (entities n) z ≡ Some (input r.0.width)) r.2 (input_found r.0 r.1))
+  port_found kind.Register x m = let r = named_among (λ (y : Register). y.name) n.registers x m in
+      (r.0.width, subst (λ z. find (entities n) z ≡ Some (register r.0.width)) r.2 (register_found r.0 r.1))
+  port_found kind.Wire x m = let r = named_among (λ (y : Wire). y.name) n.wires x m in
+      (r.0.width, subst (λ z. find (entities n) z ≡ Some (wire r.0.width)) r.2 (wire_found r.0 r.1))
 
   -- behind the ports
 
@@ -107,7 +111,8 @@ module _ (n : Net) (h : IsNetlist n) where
   width_of_port kind.Register w = refl
   width_of_port kind.Wire w = refl
 
-  declaration_same : (x : Name) {s t : Shape} → s ≡ t → (let d : Declaration = record { name = mention x; shape = s } in d) ≡ (let d : Declaration = record { name = mention x; shape = t } in d)
+  declaration_same : (x : Name) {s t : Shape} → s ≡ t → (let d : Declaration = record { name = mention x; shape = s } in
+      d) ≡ (let d : Declaration = record { name = mention x; shape = t } in d)
   declaration_same x e = ap (λ z. let d : Declaration = record { name = mention x; shape = z } in d) e
 
   port_declared : (p : Port) → PortShows n p.kind p.name → port_declaration (printed_port n p) ≡ declare n p.name
@@ -277,7 +282,8 @@ module _ (n : Net) (h : IsNetlist n) where
   shape_of_list [] x = refl
   shape_of_list (y ∷ xs) x =
       ⊎_elim
-      (λ t. let e = equal_of_bytes_eq y x t in rw t (subst (λ z. Some (or_input (find (entities n) z)) ≡ cond (is_among x (y ∷ xs)) (Some (or_input (find (entities n) x))) None) (sym e)
+      (λ t. let e = equal_of_bytes_eq y x t in
+      rw t (subst (λ z. Some (or_input (find (entities n) z)) ≡ cond (is_among x (y ∷ xs)) (Some (or_input (find (entities n) x))) None) (sym e)
       (ap (λ b. cond (b || is_among x xs) (Some (or_input (find (entities n) x))) None) (sym (subst (λ z. bytes_eq x z ≡ true) (sym e) (bytes_eq_same x))))))
       (λ f. rw f (shape_of_list xs x ∙ ap (λ b. cond (b || is_among x xs) (Some (or_input (find (entities n) x))) None) (sym (bytes_eq_apart_back y x f))))
       (cases_Bool (bytes_eq y x))

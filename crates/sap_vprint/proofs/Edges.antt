@@ -71,7 +71,8 @@ module _ (n : Net) (h : IsNetlist n) where
   register_quiet : (r : Register) → IsQuiet (initial_of r)
   register_quiet r = record { declares = refl; assigns = λ x. refl }
 
-  pub initials_good : (rs : List Register) (before : List item.Item) → Stage before → AreFresh (λ r. r.name) initial rs before → AreDistinct (map (λ r. r.name) rs) → AreRegisters rs
+  pub initials_good : (rs : List Register) (before : List item.Item) → Stage before → AreFresh (λ r. r.name) initial rs before
+      → AreDistinct (map (λ r. r.name) rs) → AreRegisters rs
       → AreGood (ports n h) before (map initial_of rs)
   initials_good [] before g f d m = tt
   initials_good (r ∷ rs) before g f d m =
@@ -94,7 +95,8 @@ module _ (n : Net) (h : IsNetlist n) where
   same_depth : {x y z w : ℕ} → Some (memory x y) ≡ Some (memory z w) → y ≡ w
   same_depth k = cc
 
-  pub initial_cells_good : (ms done : List Memory) (before : List item.Item) → n.memories ≡ done ++ ms → Stage before → AreFresh (λ m. m.name) initial ms before → AreDistinct (map (λ m. m.name) ms) → AreStores ms
+  pub initial_cells_good : (ms done : List Memory) (before : List item.Item) → n.memories ≡ done ++ ms → Stage before
+      → AreFresh (λ m. m.name) initial ms before → AreDistinct (map (λ m. m.name) ms) → AreStores ms
       → AreGood (ports n h) before (map initial_cells_of ms)
   initial_cells_good [] done before e g f d m = tt
   initial_cells_good (x ∷ xs) done before e g f d m =
@@ -126,7 +128,10 @@ module _ (n : Net) (h : IsNetlist n) where
       let declared = g.sees.found r.name ∙ m.0.0 in (
         record {
           fresh = λ t e. fresh_target t (record { setting = always; name = mention r.name }) before e f.0;
-          uses = (record { shape = register r.width; declared = declared; suits = refl; assigned = λ u e q. absurd (cc) }, operand_good n a (readable n) g.sees r.next r.width m.0.2.1);
+          uses = (
+            record { shape = register r.width; declared = declared; suits = refl; assigned = λ u e q. absurd (cc) },
+            operand_good n a (readable n) g.sees r.next r.width m.0.2.1,
+          );
           ranges = tt;
           constants = operand_fits n a (readable n) g.sees r.next r.width m.0.1 m.0.2.1;
           pairs = (no_differ (register_width (shape_above a r.name)) _ r.width (ap register_width declared) (operand_is n a (readable n) g.sees r.next r.width m.0.1 m.0.2.1), tt);
@@ -155,10 +160,12 @@ module _ (n : Net) (h : IsNetlist n) where
           fresh = λ t e. fresh_target t (record { setting = always; name = mention x.name }) before e f.0;
           uses = all_append (IsGoodUse a) (operand_uses enable) (target ∷ (operand_uses index ++ operand_uses value)) (operand_good n a (readable n) g.sees x.enable 1 s.enable) (
             record { shape = memory x.width x.depth; declared = declared; suits = refl; assigned = λ u e q. absurd (cc) },
-            all_append (IsGoodUse a) (operand_uses index) (operand_uses value) (operand_good n a (readable n) g.sees x.index s.bits s.index) (operand_good n a (readable n) g.sees x.value x.width s.value),
+            all_append (IsGoodUse a) (operand_uses index) (operand_uses value) (operand_good n a (readable n) g.sees x.index s.bits s.index)
+                (operand_good n a (readable n) g.sees x.value x.width s.value),
           );
           ranges = tt;
-          constants = all_append (λ c. constant_fits c ≡ true) (operand_constants enable) (operand_constants index ++ operand_constants value) (operand_fits n a (readable n) g.sees x.enable 1 one s.enable)
+          constants = all_append (λ c. constant_fits c ≡ true) (operand_constants enable)
+              (operand_constants index ++ operand_constants value) (operand_fits n a (readable n) g.sees x.enable 1 one s.enable)
               (all_append (λ c. constant_fits c ≡ true) (operand_constants index) (operand_constants value) (operand_fits n a (readable n) g.sees x.index s.bits deep s.index)
               (operand_fits n a (readable n) g.sees x.value x.width m.0.1 s.value));
           pairs = (

@@ -156,4 +156,5 @@ memory_widths readable (m ∷ ms) h g = ((h.0, (g.0.bits, g.0.depth)), memory_wi
 pub entities_fit : (n : Net) → IsNetlist n → AllByRecursion (λ e. IsShape e.1) (entities n)
 entities_fit n h =
     let v = value_widths (shapes n) n.inputs n.registers h.values in
-    shapes_append _ _ v.0 (shapes_append _ _ v.1 (shapes_append _ _ (wire_widths (shapes n) (first_readable n) n.wires h.assigns) (memory_widths (readable n) n.memories h.memory_shapes h.writes)))
+    shapes_append _ _ v.0 (shapes_append _ _ v.1
+    (shapes_append _ _ (wire_widths (shapes n) (first_readable n) n.wires h.assigns) (memory_widths (readable n) n.memories h.memory_shapes h.writes)))

@@ -36,7 +36,8 @@ listed (x ∷ xs) zero d h = inl refl
 listed (x ∷ xs) (suc i) d h = inr (listed xs i d (omega arith))
 
 -- the same of a list that is equal to another
-pub not_listed_in : {A : Type 0} (name : A → Name) (xs ys : List A) (x : Name) → xs ≡ ys → ((k : ℕ) (y : A) → k < length xs → name (get_or xs k y) ≡ x → ⊥) → is_among x (map name ys) ≡ false
+pub not_listed_in : {A : Type 0} (name : A → Name) (xs ys : List A) (x : Name) → xs ≡ ys
+    → ((k : ℕ) (y : A) → k < length xs → name (get_or xs k y) ≡ x → ⊥) → is_among x (map name ys) ≡ false
 not_listed_in name xs ys x e f = subst (λ zs. is_among x (map name zs) ≡ false) e (not_listed name xs x f)
 
 pub if_none : {A : Type 0} (o : Option A) (P : Type 0) → P → IfNone o P
@@ -44,7 +45,8 @@ if_none None P p = p
 if_none (Some x) P p = tt
 
 module _ (n : Net) (h : IsNetlist n) where
-  pub input_at : (xs : List Input) (i : ℕ) (d : Input) (x : Name) → xs ≡ n.inputs → i < length xs → (get_or xs i d).name ≡ x → find (entities n) x ≡ Some (input (get_or xs i d).width)
+  pub input_at : (xs : List Input) (i : ℕ) (d : Input) (x : Name) → xs ≡ n.inputs → i < length xs → (get_or xs i d).name ≡ x
+      → find (entities n) x ≡ Some (input (get_or xs i d).width)
   input_at xs i d x q lt e =
       subst (λ z. find (entities n) z ≡ Some (input (get_or xs i d).width)) e (input_found n h (get_or xs i d) (subst (λ zs. StandsIn (get_or xs i d) zs) q (listed xs i d lt)))
 
@@ -52,16 +54,21 @@ module _ (n : Net) (h : IsNetlist n) where
   wire_at xs i d x q lt e =
       subst (λ z. find (entities n) z ≡ Some (wire (get_or xs i d).width)) e (wire_found n h (get_or xs i d) (subst (λ zs. StandsIn (get_or xs i d) zs) q (listed xs i d lt)))
 
-  pub register_at : (xs : List Register) (i : ℕ) (d : Register) (x : Name) → xs ≡ n.registers → i < length xs → (get_or xs i d).name ≡ x → find (entities n) x ≡ Some (register (get_or xs i d).width)
+  pub register_at : (xs : List Register) (i : ℕ) (d : Register) (x : Name) → xs ≡ n.registers → i < length xs → (get_or xs i d).name ≡ x
+      → find (entities n) x ≡ Some (register (get_or xs i d).width)
   register_at xs i d x q lt e =
-      subst (λ z. find (entities n) z ≡ Some (register (get_or xs i d).width)) e (register_found n h (get_or xs i d) (subst (λ zs. StandsIn (get_or xs i d) zs) q (listed xs i d lt)))
+      subst (λ z. find (entities n) z ≡ Some (register (get_or xs i d).width)) e
+      (register_found n h (get_or xs i d) (subst (λ zs. StandsIn (get_or xs i d) zs) q (listed xs i d lt)))
 
-  pub memory_at : (xs : List Memory) (i : ℕ) (d : Memory) (x : Name) → xs ≡ n.memories → i < length xs → (get_or xs i d).name ≡ x → find (entities n) x ≡ Some (memory (get_or xs i d).width (get_or xs i d).depth)
+  pub memory_at : (xs : List Memory) (i : ℕ) (d : Memory) (x : Name) → xs ≡ n.memories → i < length xs → (get_or xs i d).name ≡ x
+      → find (entities n) x ≡ Some (memory (get_or xs i d).width (get_or xs i d).depth)
   memory_at xs i d x q lt e =
-      subst (λ z. find (entities n) z ≡ Some (memory (get_or xs i d).width (get_or xs i d).depth)) e (memory_found n h (get_or xs i d) (subst (λ zs. StandsIn (get_or xs i d) zs) q (listed xs i d lt)))
+      subst (λ z. find (entities n) z ≡ Some (memory (get_or xs i d).width (get_or xs i d).depth)) e
+      (memory_found n h (get_or xs i d) (subst (λ zs. StandsIn (get_or xs i d) zs) q (listed xs i d lt)))
 
 -- what stands on no list isn't there
-pub nothing_else : (n : Net) (x : Name) → is_among x (wire_names n) ≡ false → is_among x (register_names n) ≡ false → is_among x (input_names n) ≡ false → is_among x (memory_names n) ≡ false
+pub nothing_else : (n : Net) (x : Name) → is_among x (wire_names n) ≡ false → is_among x (register_names n) ≡ false
+    → is_among x (input_names n) ≡ false → is_among x (memory_names n) ≡ false
     → find (entities n) x ≡ None
 nothing_else n x w r i m = by_case (find (entities n) x) (found_key (entities n) x ∙ ap (is_among x) (entity_keys n) ∙ all_false) where
   by_case : (o : Option Shape) → is_some o ≡ false → o ≡ None

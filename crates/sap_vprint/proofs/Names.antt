@@ -91,7 +91,8 @@ module _ (n : Net) (h : IsNetlist n) where
       (λ e. names x u (rw e at f))
       (cases_Bool (bytes_eq w.name x))
 
-  names_after : (ws : List Wire) (readable : Scope) → AllByRecursion (λ w. find (entities n) w.name ≡ Some (wire w.width)) ws → AreNames readable → AreNames (readable_after readable ws)
+  names_after : (ws : List Wire) (readable : Scope) → AllByRecursion (λ w. find (entities n) w.name ≡ Some (wire w.width)) ws
+      → AreNames readable → AreNames (readable_after readable ws)
   names_after [] readable found names = names
   names_after (w ∷ ws) readable found names = names_after ws ((w.name, w.width) ∷ readable) found.1 (names_more w readable found.0 names)
 
@@ -121,7 +122,8 @@ module _ (n : Net) (h : IsNetlist n) where
   right_written readable names w (right.Slice x hi lo) g f = let top = f.1.1 in let low = f.3 in let high = f.4 in (names x f.0 f.2, omega arith, omega arith)
   right_written readable names w (right.Cell m i) g f = (cell_name m w (2 ^ f.0) f.1, operand_written readable names i f.0 (cells_deep n h m w f.0 f.1) f.2)
 
-  assigns_written : (ws : List Wire) (readable : Scope) → AreNames readable → AllByRecursion (λ w. find (entities n) w.name ≡ Some (wire w.width)) ws → AreWires (shapes n) readable ws
+  assigns_written : (ws : List Wire) (readable : Scope) → AreNames readable
+      → AllByRecursion (λ w. find (entities n) w.name ≡ Some (wire w.width)) ws → AreWires (shapes n) readable ws
       → AllByRecursion IsItemWritten (map assign_of ws)
   assigns_written [] readable names found f = tt
   assigns_written (w ∷ ws) readable names found f = (
@@ -207,5 +209,6 @@ module _ (n : Net) (h : IsNetlist n) where
         (all_append IsItemWritten (map assign_of n.wires) _ (assigns_written n.wires (first_readable n) first_names (wires_found n h) h.assigns)
         (all_append IsItemWritten (map initial_of n.registers) _ (initials_written n.registers (registers_are n h))
         (all_append IsItemWritten (map initial_cells_of n.memories) _ (cells_written n.memories (stores_are n h))
-        (all_append IsItemWritten (map always_of n.registers) (map always_cell_of n.memories) (always_written n.registers (registers_are n h)) (writes_written n.memories (stores_are n h)))))));
+        (all_append IsItemWritten (map always_of n.registers) (map always_cell_of n.memories)
+        (always_written n.registers (registers_are n h)) (writes_written n.memories (stores_are n h)))))));
   }

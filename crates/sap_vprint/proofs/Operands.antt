@@ -101,7 +101,8 @@ module _ (n : Net) (a : Above) (readable : Scope) (sees : Sees n a readable) whe
   parts_are : (os : List Operand) (w : ℕ) → AreOperands readable w os → parts_width (known_above a) (map operand_of os) ≡ Some w
   parts_are [] w h = ap (λ z. Some z) (sym h)
   parts_are (o ∷ os) w h =
-      ap (λ z. add_widths z (parts_width (known_above a) (map operand_of os))) (operand_is o h.0 h.2 h.3) ∙ ap (add_widths (Some h.0)) (parts_are os h.1 h.4) ∙ ap (λ z. Some z) (sym h.5)
+      ap (λ z. add_widths z (parts_width (known_above a) (map operand_of os))) (operand_is o h.0 h.2 h.3)
+      ∙ ap (add_widths (Some h.0)) (parts_are os h.1 h.4) ∙ ap (λ z. Some z) (sym h.5)
 
   pub right_good : (w : ℕ) (r : Right) → IsRight (shapes n) readable w r → AllByRecursion (IsGoodUse a) (right_uses (right_of r))
   right_good w (right.Copy x) h = operand_good x w h
@@ -168,11 +169,13 @@ module _ (n : Net) (a : Above) (readable : Scope) (sees : Sees n a readable) whe
     in_range : (b c : Bool) → b ≡ true → c ≡ true → cond (b && c) (Some (hi + 1 - lo)) None ≡ Some (hi + 1 - lo)
     in_range b c p q = cc
 
-  pub right_equal : (w : ℕ) (r : Right) (t : Option ℕ) → IsWidth w → t ≡ Some w → IsRight (shapes n) readable w r → AllByRecursion NoPair (right_pairs (known_above a) t (right_of r))
+  pub right_equal : (w : ℕ) (r : Right) (t : Option ℕ) → IsWidth w → t ≡ Some w → IsRight (shapes n) readable w r
+      → AllByRecursion NoPair (right_pairs (known_above a) t (right_of r))
   right_equal w (right.Copy x) t g p h = (no_differ t _ w p (operand_is x w g h), tt)
   right_equal w (right.One op x) t g p h = unary_equal op w h.0 t (operand_width (known_above a) (operand_of x)) h.3 p (operand_is x h.0 h.1 h.2)
   right_equal w (right.Two op x y) t g p h =
-      binary_equal op w h.0 h.1 t (operand_width (known_above a) (operand_of x)) (operand_width (known_above a) (operand_of y)) h.7 h.6 p (operand_is x h.0 h.2 h.4) (operand_is y h.1 h.3 h.5)
+      binary_equal op w h.0 h.1 t (operand_width (known_above a) (operand_of x)) (operand_width (known_above a) (operand_of y)) h.7 h.6 p
+      (operand_is x h.0 h.2 h.4) (operand_is y h.1 h.3 h.5)
   right_equal w (right.Choose c x y) t g p h =
       let one : IsWidth 1 = (omega arith, omega arith) in (
         no_differ _ (Some 1) 1 (operand_is c 1 one h.0) refl,

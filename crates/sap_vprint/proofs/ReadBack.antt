@@ -99,7 +99,8 @@ concat_same p q x y found zs e = ap item.concat (cons_same (bare_operand_at p x)
 
 -- behind the first two parts
 concat_read : (from : ℕ) (x y : Operand) (zs : List Operand) (qs : List Piece)
-    → ReadRight (tokens_at from (sign t.open_brace ∷ operand x ∷ sign t.comma ∷ space ∷ operand y ∷ (flat_map part_pieces zs ++ (sign t.close_brace ∷ qs)))) (item.concat (x ∷ y ∷ zs)) qs
+    → ReadRight (tokens_at from (sign t.open_brace ∷ operand x ∷ sign t.comma ∷ space ∷ operand y
+    ∷ (flat_map part_pieces zs ++ (sign t.close_brace ∷ qs)))) (item.concat (x ∷ y ∷ zs)) qs
 concat_read from x y zs qs =
     let p = from + 1 in
     let q = ((p + length (operand_text x)) + 1) + 1 in
@@ -121,7 +122,13 @@ right_read : (from : ℕ) (right : Right) (qs : List Piece) → HasParts right �
 right_read from (item.copy x) qs h = record { at = _; found = item.copy (operand_at from x); is = g.copy (operand_here from x refl); same = ap item.copy (bare_operand_at from x) }
 right_read from (item.one op x) qs h = record { at = _; found = item.one op (operand_at _ x); is = g.one op (sign_here refl) (operand_here _ x refl); same = one_same op _ x }
 right_read from (item.two op x y) qs h =
-    record { at = _; found = item.two op (operand_at _ x) (operand_at _ y); is = g.two op (operand_here _ x refl) (sign_here refl) (operand_here _ y refl); same = two_same op _ _ x y }
+    record {
+      at = _;
+      found = item.two op (operand_at _ x) (operand_at _ y);
+      is =
+          g.two op (operand_here _ x refl) (sign_here refl) (operand_here _ y refl);
+      same = two_same op _ _ x y;
+    }
 right_read from (item.choose c x y) qs h =
     record {
       at = _;
@@ -133,7 +140,8 @@ right_read from (item.concat []) qs h = absurd h
 right_read from (item.concat (x ∷ [])) qs h = absurd h
 right_read from (item.concat (x ∷ y ∷ zs)) qs h =
     let e = append_assoc (flat_map part_pieces zs) (sign t.close_brace ∷ []) qs in
-    subst (λ rest. ReadRight (tokens_at from (sign t.open_brace ∷ operand x ∷ sign t.comma ∷ space ∷ operand y ∷ rest)) (item.concat (x ∷ y ∷ zs)) qs) (sym e) (concat_read from x y zs qs)
+    subst (λ rest. ReadRight (tokens_at from (sign t.open_brace ∷ operand x ∷ sign t.comma ∷ space ∷ operand y ∷ rest))
+    (item.concat (x ∷ y ∷ zs)) qs) (sym e) (concat_read from x y zs qs)
 right_read from (item.slice x high low) qs h =
     record {
       at = _;
@@ -161,7 +169,8 @@ IsWhole (item.assign x right) = HasParts right
 IsWhole _ = Unit {0}
 
 assign_read : (from : ℕ) (x : Mention) (right : Right) (qs : List Piece) → HasParts right
-    → ReadItem (tokens_at from (word t.assign_word ∷ space ∷ name x.name ∷ space ∷ sign t.is ∷ space ∷ (right_pieces right ++ (sign t.semicolon ∷ line ∷ qs)))) (item.assign x right) qs
+    → ReadItem (tokens_at from (word t.assign_word ∷ space ∷ name x.name ∷ space ∷ sign t.is ∷ space
+    ∷ (right_pieces right ++ (sign t.semicolon ∷ line ∷ qs)))) (item.assign x right) qs
 assign_read from x right qs h =
     let p = (from + 6) + 1 in
     let read = right_read ((((p + length x.name) + 1) + 1) + 1) right (sign t.semicolon ∷ line ∷ qs) h in
@@ -203,7 +212,8 @@ item_read from (item.memory n x last) qs h = record {
 item_read from (item.integer place) qs h = record { at = _; found = item.integer _; is = g.integer (word_at refl) (word_here refl) (sign_here refl); same = refl }
 item_read from (item.assign x right) qs h =
     let e = append_assoc (right_pieces right) (sign t.semicolon ∷ line ∷ []) qs in
-    subst (λ rest. ReadItem (tokens_at from (word t.assign_word ∷ space ∷ name x.name ∷ space ∷ sign t.is ∷ space ∷ rest)) (item.assign x right) qs) (sym e) (assign_read from x right qs h)
+    subst (λ rest. ReadItem (tokens_at from (word t.assign_word ∷ space ∷ name x.name ∷ space ∷ sign t.is ∷ space ∷ rest))
+    (item.assign x right) qs) (sym e) (assign_read from x right qs h)
 item_read from (item.initial x value) qs h = record {
   at = _;
   found = item.initial (name_at _ x.name) (constant_at _ value);
@@ -230,7 +240,8 @@ item_read from (item.always_cell condition x index value) qs h = record {
   at = _;
   found = item.always_cell (operand_at _ condition) (name_at _ x.name) (operand_at _ index) (operand_at _ value);
   is = g.always_cell (g.clocked (word_here refl) (sign_here refl) (sign_here refl) (word_here refl) (word_here refl) (sign_here refl)) (word_here refl) (sign_here refl)
-      (operand_here _ condition refl) (sign_here refl) (name_here refl) (sign_here refl) (operand_here _ index refl) (sign_here refl) (sign_here refl) (operand_here _ value refl) (sign_here refl);
+      (operand_here _ condition refl) (sign_here refl) (name_here refl) (sign_here refl) (operand_here _ index refl) (sign_here refl)
+      (sign_here refl) (operand_here _ value refl) (sign_here refl);
   same = always_cell_same _ _ _ x condition index value;
 }
 
@@ -320,6 +331,7 @@ file_read f h =
     let items = items_read (((ports.at + 1) + 1) + 1 + 1) f.items end_of_file h in
     record {
       found = record { module_name = f.module_name; ports = ports.found; items = items.found };
-      is = g.file {x = name_at p f.module_name} (word_here refl) (name_here refl) (sign_here refl) (word_here refl) (word_here refl) ports.is (sign_here refl) (sign_here refl) items.is (word_here refl);
+      is = g.file {x = name_at p f.module_name} (word_here refl) (name_here refl) (sign_here refl) (word_here refl) (word_here refl)
+          ports.is (sign_here refl) (sign_here refl) items.is (word_here refl);
       same = file_same f.module_name ports.same items.same;
     }

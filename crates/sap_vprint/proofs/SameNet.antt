@@ -105,7 +105,8 @@ module _ {B : Type 0} (give : item.Item → Option B) where
   given_front : (xs ys : List item.Item) (v : B) → first_given give xs ≡ Some v → first_given give (xs ++ ys) ≡ Some v
   given_front [] ys v e = absurd (cc)
   given_front (x ∷ xs) ys v e = by_first (give x) (given_front xs ys v) e where
-    by_first : (o : Option B) → (first_given give xs ≡ Some v → first_given give (xs ++ ys) ≡ Some v) → first_of o (first_given give xs) ≡ Some v → first_of o (first_given give (xs ++ ys)) ≡ Some v
+    by_first : (o : Option B) → (first_given give xs ≡ Some v → first_given give (xs ++ ys) ≡ Some v)
+        → first_of o (first_given give xs) ≡ Some v → first_of o (first_given give (xs ++ ys)) ≡ Some v
     by_first None f q = f q
     by_first (Some u) f q = q
 
@@ -219,7 +220,8 @@ module _ (n : Net) (h : IsNetlist n) where
   memory_back : (m : Memory) → StandsIn m n.memories → memory_at m.name ≡ m
   memory_back m a =
       ap (λ o. net_memory m.name (width_or_0 o) (depth_or_0 o) (items_of n)) (memory_found n h m a)
-      ∙ ap (λ o. written_memory m.name m.width m.depth (unwrap_or o 0) (unwrap_or (first_given (cell_write m.name) (items_of n)) (record { enable = nothing; index = nothing; value = nothing }))) (filled_of m a)
+      ∙ ap (λ o. written_memory m.name m.width m.depth (unwrap_or o 0)
+      (unwrap_or (first_given (cell_write m.name) (items_of n)) (record { enable = nothing; index = nothing; value = nothing }))) (filled_of m a)
       ∙ ap (λ o. written_memory m.name m.width m.depth m.start (unwrap_or o (record { enable = nothing; index = nothing; value = nothing }))) (written_of m a)
       ∙ memory_same m
 
@@ -276,7 +278,8 @@ module _ (n : Net) (h : IsNetlist n) where
   registers_back =
       ap (flat_map (λ d. shape_registers d.name.name d.shape (items_of n))) (whole_declared n h)
       ∙ over_declared (λ x s. shape_registers x s (items_of n)) n.names
-      ∙ kept (λ x. is_among x (register_names n)) register_at (λ x. shape_registers x (or_input (find (entities n) x)) (items_of n)) (λ x. one_register x (find (entities n) x) refl) n.names
+      ∙ kept (λ x. is_among x (register_names n)) register_at (λ x. shape_registers x (or_input (find (entities n) x)) (items_of n))
+      (λ x. one_register x (find (entities n) x) refl) n.names
       ∙ ap (map register_at) h.registers_in_order
       ∙ backs (λ r. r.name) register_at n.registers register_back
 
@@ -284,7 +287,8 @@ module _ (n : Net) (h : IsNetlist n) where
   memories_back =
       ap (flat_map (λ d. shape_memories d.name.name d.shape (items_of n))) (whole_declared n h)
       ∙ over_declared (λ x s. shape_memories x s (items_of n)) n.names
-      ∙ kept (λ x. is_among x (memory_names n)) memory_at (λ x. shape_memories x (or_input (find (entities n) x)) (items_of n)) (λ x. one_memory x (find (entities n) x) refl) n.names
+      ∙ kept (λ x. is_among x (memory_names n)) memory_at (λ x. shape_memories x (or_input (find (entities n) x)) (items_of n))
+      (λ x. one_memory x (find (entities n) x) refl) n.names
       ∙ ap (map memory_at) h.memories_in_order
       ∙ backs (λ m. m.name) memory_at n.memories memory_back
 
@@ -381,4 +385,5 @@ module _ (n : Net) (h : IsNetlist n) where
       ∙ assigns_back n.wires wire_back
 
   pub netlist_back : netlist_of (file_of n) ≡ n
-  netlist_back = net_same n.module_name (ap (map (λ d. d.name.name)) (whole_declared n h) ∙ names_back n.names) (port_back n n.ports) inputs_back wires_back registers_back memories_back
+  netlist_back = net_same n.module_name (ap (map (λ d. d.name.name)) (whole_declared n h) ∙ names_back n.names) (port_back n n.ports)
+      inputs_back wires_back registers_back memories_back

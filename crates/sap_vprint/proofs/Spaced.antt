@@ -155,24 +155,30 @@ pieces_lexed (one ∷ ps) from h sp =
 pieces_lexed (word w ∷ ps) from h sp =
     let v = and_parts (follows (word w) ps) (is_spaced ps) sp in
     let p = word w in
-    token_first (t.word w) (length (piece_text p)) (piece_spelled p (text_of ps) tt (behind p ps v.0)) (lexed_behind p ps from _ (pieces_lexed ps (from + length (piece_text p)) h v.1))
+    token_first (t.word w) (length (piece_text p)) (piece_spelled p (text_of ps) tt (behind p ps v.0))
+    (lexed_behind p ps from _ (pieces_lexed ps (from + length (piece_text p)) h v.1))
 pieces_lexed (sign s ∷ ps) from h sp =
     let v = and_parts (follows (sign s) ps) (is_spaced ps) sp in
     let p = sign s in
-    token_first (t.sign s) (length (piece_text p)) (piece_spelled p (text_of ps) tt (behind p ps v.0)) (lexed_behind p ps from _ (pieces_lexed ps (from + length (piece_text p)) h v.1))
+    token_first (t.sign s) (length (piece_text p)) (piece_spelled p (text_of ps) tt (behind p ps v.0))
+    (lexed_behind p ps from _ (pieces_lexed ps (from + length (piece_text p)) h v.1))
 pieces_lexed (name n ∷ ps) from h sp =
     let v = and_parts (follows (name n) ps) (is_spaced ps) sp in
     let p = name n in
-    token_first (t.name n) (length (piece_text p)) (piece_spelled p (text_of ps) h.0 (behind p ps v.0)) (lexed_behind p ps from _ (pieces_lexed ps (from + length (piece_text p)) h.1 v.1))
+    token_first (t.name n) (length (piece_text p)) (piece_spelled p (text_of ps) h.0 (behind p ps v.0))
+    (lexed_behind p ps from _ (pieces_lexed ps (from + length (piece_text p)) h.1 v.1))
 pieces_lexed (number n ∷ ps) from h sp =
     let v = and_parts (follows (number n) ps) (is_spaced ps) sp in
     let p = number n in
-    token_first (t.number n (length (decimal n))) (length (piece_text p)) (piece_spelled p (text_of ps) h.0 (behind p ps v.0)) (lexed_behind p ps from _ (pieces_lexed ps (from + length (piece_text p)) h.1 v.1))
+    token_first (t.number n (length (decimal n))) (length (piece_text p)) (piece_spelled p (text_of ps) h.0 (behind p ps v.0))
+    (lexed_behind p ps from _ (pieces_lexed ps (from + length (piece_text p)) h.1 v.1))
 pieces_lexed (operand (item.named x) ∷ ps) from h sp =
     let p = operand (item.named x) in
     let v = and_parts (follows p ps) (is_spaced ps) sp in
-    token_first (t.name x.name) (length (piece_text p)) (piece_spelled p (text_of ps) h.0 (behind p ps v.0)) (lexed_behind p ps from _ (pieces_lexed ps (from + length (piece_text p)) h.1 v.1))
+    token_first (t.name x.name) (length (piece_text p)) (piece_spelled p (text_of ps) h.0 (behind p ps v.0))
+    (lexed_behind p ps from _ (pieces_lexed ps (from + length (piece_text p)) h.1 v.1))
 pieces_lexed (operand (item.constant c) ∷ ps) from h sp =
     let p = operand (item.constant c) in
     let v = and_parts (follows p ps) (is_spaced ps) sp in
-    token_first (t.constant c.width c.value) (length (piece_text p)) (piece_spelled p (text_of ps) h.0 (behind p ps v.0)) (lexed_behind p ps from _ (pieces_lexed ps (from + length (piece_text p)) h.1 v.1))
+    token_first (t.constant c.width c.value) (length (piece_text p)) (piece_spelled p (text_of ps) h.0 (behind p ps v.0))
+    (lexed_behind p ps from _ (pieces_lexed ps (from + length (piece_text p)) h.1 v.1))

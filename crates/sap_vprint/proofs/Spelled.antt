@@ -211,9 +211,11 @@ constant_spelled c rest h stop =
     let fits : (is_below_2_64 c.width && is_below_2_64 c.value) ≡ true = and_from (is_below_2_64 c.width) (is_below_2_64 c.value) (small c.width h.width) (small c.value h.value) in
     ap front (append_assoc ds (39 ∷ 100 ∷ vs) rest)
     ∙ digits_taken ds after (decimal_digits c.width h.width) refl
-    ∙ ap (λ b. cond b (constant_front ds (digits_of_front (vs ++ rest))) (number_front ds)) (constant_test ds (vs ++ rest) (first_decimal c.width h.positive h.width) (first_digit vs rest other))
+    ∙ ap (λ b. cond b (constant_front ds (digits_of_front (vs ++ rest))) (number_front ds))
+    (constant_test ds (vs ++ rest) (first_decimal c.width h.positive h.width) (first_digit vs rest other))
     ∙ ap (constant_front ds) run
-    ∙ ap (λ v. cond (is_below_2_64 v && is_below_2_64 (digits_value 10 vs)) (token (t.constant v (digits_value 10 vs)) (length ds + 2 + length vs)) bad) (digits_value-decimal digits_model c.width h.width)
+    ∙ ap (λ v. cond (is_below_2_64 v && is_below_2_64 (digits_value 10 vs))
+    (token (t.constant v (digits_value 10 vs)) (length ds + 2 + length vs)) bad) (digits_value-decimal digits_model c.width h.width)
     ∙ ap (λ v. cond (is_below_2_64 c.width && is_below_2_64 v) (token (t.constant c.width v) (length ds + 2 + length vs)) bad) (digits_value-decimal digits_model c.value h.value)
     ∙ ap (λ b. cond b (token (t.constant c.width c.value) (length ds + 2 + length vs)) bad) fits
     ∙ ap (token (t.constant c.width c.value)) (quoted_length ds vs)

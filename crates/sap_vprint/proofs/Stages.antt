@@ -36,9 +36,11 @@ integer_append [] ys = refl
 integer_append (y ∷ xs) ys = ap (λ b. is_integer y || b) (integer_append xs ys) ∙ or_assoc (is_integer y) (has_integer xs) (has_integer ys)
 
 -- an item that declares nothing leaves the declarations
-pub declares_nothing : (ps : List item.Port) (before : List item.Item) (xs : List item.Item) → flat_map item_declarations xs ≡ [] → declarations ps (before ++ xs) ≡ declarations ps before
+pub declares_nothing : (ps : List item.Port) (before : List item.Item) (xs : List item.Item) → flat_map item_declarations xs ≡ []
+    → declarations ps (before ++ xs) ≡ declarations ps before
 declares_nothing ps before xs e =
-    ap (λ z. map port_declaration ps ++ z) (flat_map-append item_declarations before xs ∙ ap (λ z. flat_map item_declarations before ++ z) e ∙ append-nil (flat_map item_declarations before))
+    ap (λ z. map port_declaration ps ++ z) (flat_map-append item_declarations before xs ∙ ap (λ z. flat_map item_declarations before ++ z) e
+    ∙ append-nil (flat_map item_declarations before))
 
 -- a target that nothing set before
 pub fresh_target : (t u : Target) (before : List item.Item) → Some u ≡ Some t → is_set u.setting u.name.name before ≡ false → is_set t.setting t.name.name before ≡ false
@@ -60,8 +62,19 @@ module _ (n : Net) (h : IsNetlist n) where
   declared_good x (memory w d) before g other =
       let top = g.0.1 in
       let low : 0 < d = subst (λ z. 0 < z) (sym g.1.1.2) (pow_pos g.1.0) in
-      let back : d - 1 + 1 ≡ d = omega arith in
-      (record { fresh = λ t e. absurd (cc); uses = tt; ranges = (omega arith, tt); constants = tt; pairs = tt; indexes = tt; fit = (g.1.0, (g.1.1.0, g.1.1.1, back ∙ g.1.1.2)) }, tt)
+      let back : d - 1 + 1 ≡ d = omega arith in (
+        record {
+          fresh = λ t e. absurd (cc);
+          uses = tt;
+          ranges = (omega arith, tt);
+          constants = tt;
+          pairs = tt;
+          indexes = tt;
+          fit =
+              (g.1.0, (g.1.1.0, g.1.1.1, back ∙ g.1.1.2));
+        },
+        tt,
+      )
 
   pub declarations_good : (xs : List Name) (before : List item.Item) → AllByRecursion (IsInner n h) xs → AreGood ports before (declarations_of n xs)
   declarations_good [] before m = tt
@@ -108,7 +121,10 @@ module _ (n : Net) (h : IsNetlist n) where
       let target : wire_width (shape_above a w.name) ≡ Some w.width = ap wire_width (sees.found w.name ∙ found) in
       record {
         fresh = λ t e. fresh_target t (record { setting = assign; name = mention w.name }) before e (only w.name new);
-        uses = (record { shape = wire w.width; declared = sees.found w.name ∙ found; suits = refl; assigned = λ u e f. absurd (cc) }, right_good n a readable sees w.width w.right r);
+        uses = (
+          record { shape = wire w.width; declared = sees.found w.name ∙ found; suits = refl; assigned = λ u e f. absurd (cc) },
+          right_good n a readable sees w.width w.right r,
+        );
         ranges = tt;
         constants = right_fits n a readable sees w.width w.right wide r;
         pairs = right_equal n a readable sees w.width w.right (wire_width (shape_above a w.name)) wide target r;
@@ -137,18 +153,21 @@ module _ (n : Net) (h : IsNetlist n) where
     by_name x u (inl t) f =
         let e = equal_of_bytes_eq w.name x t in
         let width : Some w.width ≡ Some u = rw t at f in
-        let set : is_set assign x (before ++ (assign_of w ∷ [])) ≡ true = set_more assign x before (assign_of w) ∙ ap (λ b. is_set assign x before || b) t ∙ or_true (is_set assign x before) in
+        let set : is_set assign x (before ++ (assign_of w ∷ [])) ≡ true =
+        set_more assign x before (assign_of w) ∙ ap (λ b. is_set assign x before || b) t ∙ or_true (is_set assign x before) in
         ap (λ b. value_width (find (entities n) x) b) set
         ∙ ap (λ o. value_width o true) (subst (λ z. find (entities n) z ≡ Some (wire w.width)) e found) ∙ width
     by_name x u (inr t) f =
-        let set : is_set assign x (before ++ (assign_of w ∷ [])) ≡ is_set assign x before = set_more assign x before (assign_of w) ∙ ap (λ b. is_set assign x before || b) t ∙ or_false (is_set assign x before) in
+        let set : is_set assign x (before ++ (assign_of w ∷ [])) ≡ is_set assign x before =
+        set_more assign x before (assign_of w) ∙ ap (λ b. is_set assign x before || b) t ∙ or_false (is_set assign x before) in
         ap (λ b. value_width (find (entities n) x) b) set ∙ sees.values x u (rw t at f)
 
   only_more : (w : Wire) (readable : Scope) (before : List item.Item) → OnlyRead readable before → OnlyRead ((w.name, w.width) ∷ readable) (before ++ (assign_of w ∷ []))
   only_more w readable before only x none =
       let apart = first_apart (cases_Bool (bytes_eq w.name x)) none in
       set_more assign x before (assign_of w) ∙ ap (λ b. is_set assign x before || b) apart.0 ∙ or_false (is_set assign x before) ∙ only x apart.1 where
-        first_apart : (bytes_eq w.name x ≡ true) ⊎ (bytes_eq w.name x ≡ false) → find ((w.name, w.width) ∷ readable) x ≡ None → (bytes_eq w.name x ≡ false) × (find readable x ≡ None)
+        first_apart : (bytes_eq w.name x ≡ true) ⊎ (bytes_eq w.name x ≡ false) → find ((w.name, w.width) ∷ readable) x ≡ None
+            → (bytes_eq w.name x ≡ false) × (find readable x ≡ None)
         first_apart (inl t) f = absurd (let g : Some w.width ≡ None = rw t at f in cc)
         first_apart (inr t) f = (t, rw t at f)
 

@@ -77,7 +77,8 @@ module _ (n : Net) (h : IsNetlist n) where
   first_items = declared ++ integer_of n.memories
 
   -- inputs and registers are found as such
-  inputs_first : (is : List Input) (rs : List Register) (es : List (Name × Shape)) (x : Name) (w : ℕ) → find (map (λ i. (i.name, i.width)) is ++ map (λ r. (r.name, r.width)) rs) x ≡ Some w
+  inputs_first : (is : List Input) (rs : List Register) (es : List (Name × Shape)) (x : Name) (w : ℕ)
+      → find (map (λ i. (i.name, i.width)) is ++ map (λ r. (r.name, r.width)) rs) x ≡ Some w
       → (find (map (λ i. (i.name, input i.width)) is ++ (map (λ r. (r.name, register r.width)) rs ++ es)) x ≡ Some (input w))
       ⊎ (find (map (λ i. (i.name, input i.width)) is ++ (map (λ r. (r.name, register r.width)) rs ++ es)) x ≡ Some (register w))
   inputs_first [] [] es x w f = absurd (cc)
@@ -109,7 +110,8 @@ module _ (n : Net) (h : IsNetlist n) where
   cell_found [] x w d f = absurd (cc)
   cell_found (m ∷ ms) x w d f =
       ⊎_elim
-      (λ t. let g : ◌≡◌ {A = Option (ℕ × ℕ)} (Some (m.width, m.depth)) (Some (w, d)) = rw t at f in (m, inl refl, equal_of_bytes_eq m.name x t, (some_pair m.width m.depth w d g).0, (some_pair m.width m.depth w d g).1))
+      (λ t. let g : ◌≡◌ {A = Option (ℕ × ℕ)} (Some (m.width, m.depth)) (Some (w, d)) = rw t at f in
+      (m, inl refl, equal_of_bytes_eq m.name x t, (some_pair m.width m.depth w d g).0, (some_pair m.width m.depth w d g).1))
       (λ t. let r = cell_found ms x w d (rw t at f) in (r.0, inr r.1, r.2, r.3, r.4))
       (cases_Bool (bytes_eq m.name x)) where
         first_or : Option (ℕ × ℕ) → ℕ
@@ -143,7 +145,8 @@ module _ (n : Net) (h : IsNetlist n) where
 
   -- what each list sets
   declared_sets : (s : Setting) (x : Name) → is_set s x first_items ≡ false
-  declared_sets s x = set_append s x declared (integer_of n.memories) ∙ ap (λ b. b || is_set s x (integer_of n.memories)) (declarations_set n h s x inner) ∙ integer_set s x n.memories
+  declared_sets s x = set_append s x declared (integer_of n.memories)
+      ∙ ap (λ b. b || is_set s x (integer_of n.memories)) (declarations_set n h s x inner) ∙ integer_set s x n.memories
 
   first_seen : Sees n (above_of (ports n h) first_items) (first_readable n)
   first_seen = record {
@@ -192,7 +195,8 @@ module _ (n : Net) (h : IsNetlist n) where
 
   -- what is set at each stage
   assigned_initial : (x : Name) → is_set initial x assigned_items ≡ false
-  assigned_initial x = set_append initial x first_items (map assign_of n.wires) ∙ ap (λ b. b || is_set initial x (map assign_of n.wires)) (declared_sets initial x) ∙ sets_none initial x assign_of (λ y. refl) n.wires
+  assigned_initial x = set_append initial x first_items (map assign_of n.wires)
+      ∙ ap (λ b. b || is_set initial x (map assign_of n.wires)) (declared_sets initial x) ∙ sets_none initial x assign_of (λ y. refl) n.wires
 
   started_initial : (x : Name) → is_set initial x started_items ≡ is_among x (register_names n)
   started_initial x =
@@ -205,7 +209,8 @@ module _ (n : Net) (h : IsNetlist n) where
       ∙ ap (λ b. b || is_set always x (map initial_cells_of n.memories))
       (set_append always x assigned_items (map initial_of n.registers)
       ∙ ap (λ b. b || is_set always x (map initial_of n.registers))
-      (set_append always x first_items (map assign_of n.wires) ∙ ap (λ b. b || is_set always x (map assign_of n.wires)) (declared_sets always x) ∙ sets_none always x assign_of (λ y. refl) n.wires)
+      (set_append always x first_items (map assign_of n.wires)
+      ∙ ap (λ b. b || is_set always x (map assign_of n.wires)) (declared_sets always x) ∙ sets_none always x assign_of (λ y. refl) n.wires)
       ∙ sets_none always x initial_of (λ y. refl) n.registers)
       ∙ sets_none always x initial_cells_of (λ y. refl) n.memories
 
@@ -215,7 +220,8 @@ module _ (n : Net) (h : IsNetlist n) where
       ∙ sets_named always x always_of (λ r. r.name) (λ y. refl) n.registers
 
   pub no_register : (m : Memory) → StandsIn m n.memories → is_among m.name (register_names n) ≡ false
-  no_register m a = not_both (register_names n) m.name (λ t. not_among (register_names n) (memory_names n) m.name (names_apart n h).registers_memories (among_name (λ (z : Memory). z.name) m n.memories a) t)
+  no_register m a = not_both (register_names n) m.name
+      (λ t. not_among (register_names n) (memory_names n) m.name (names_apart n h).registers_memories (among_name (λ (z : Memory). z.name) m n.memories a) t)
 
   pub registers_are : AreRegisters n h n.registers
   registers_are =
@@ -239,14 +245,17 @@ module _ (n : Net) (h : IsNetlist n) where
       let apart = names_apart n h in
       good_append (ports n h) [] declared _ (declarations_good n h inner [] inner_all)
       (good_append (ports n h) declared (integer_of n.memories) _ (integer_good n h n.memories declared (declarations_integer n h inner))
-      (good_append (ports n h) first_items (map assign_of n.wires) _ (assigns_good n h n.wires (first_readable n) first_items first_seen (λ x f. declared_sets assign x) h.assigns wires_found)
+      (good_append (ports n h) first_items (map assign_of n.wires)
+      _ (assigns_good n h n.wires (first_readable n) first_items first_seen (λ x f. declared_sets assign x) h.assigns wires_found)
       (good_append (ports n h) assigned_items (map initial_of n.registers) _
-      (initials_good n h n.registers assigned_items assigned_stage (all_alike (λ r. is_set initial r.name assigned_items ≡ false) n.registers (λ r m. assigned_initial r.name)) apart.registers registers_are)
+      (initials_good n h n.registers assigned_items assigned_stage
+      (all_alike (λ r. is_set initial r.name assigned_items ≡ false) n.registers (λ r m. assigned_initial r.name)) apart.registers registers_are)
       (good_append (ports n h) started_items (map initial_cells_of n.memories) _
       (initial_cells_good n h n.memories [] started_items refl started_stage
       (all_alike (λ m. is_set initial m.name started_items ≡ false) n.memories (λ m a. started_initial m.name ∙ no_register m a)) apart.memories stores_are)
       (good_append (ports n h) filled_items (map always_of n.registers) _
-      (always_good n h n.registers filled_items filled_stage (all_alike (λ r. is_set always r.name filled_items ≡ false) n.registers (λ r m. filled_always r.name)) apart.registers registers_are)
+      (always_good n h n.registers filled_items filled_stage
+      (all_alike (λ r. is_set always r.name filled_items ≡ false) n.registers (λ r m. filled_always r.name)) apart.registers registers_are)
       (always_cells_good n h n.memories stepped_items stepped_stage
       (all_alike (λ m. is_set always m.name stepped_items ≡ false) n.memories (λ m a. stepped_always m.name ∙ no_register m a)) apart.memories stores_are))))))
 
@@ -256,8 +265,10 @@ module _ (n : Net) (h : IsNetlist n) where
       || (is_set s x (map initial_cells_of n.memories) || (is_set s x (map always_of n.registers) || is_set s x (map always_cell_of n.memories)))))))
   whole_set s x =
       set_append s x declared _ ∙ ap (λ b. is_set s x declared || b) (set_append s x (integer_of n.memories) _ ∙ ap (λ b. is_set s x (integer_of n.memories) || b)
-      (set_append s x (map assign_of n.wires) _ ∙ ap (λ b. is_set s x (map assign_of n.wires) || b) (set_append s x (map initial_of n.registers) _ ∙ ap (λ b. is_set s x (map initial_of n.registers) || b)
-      (set_append s x (map initial_cells_of n.memories) _ ∙ ap (λ b. is_set s x (map initial_cells_of n.memories) || b) (set_append s x (map always_of n.registers) (map always_cell_of n.memories))))))
+      (set_append s x (map assign_of n.wires) _
+      ∙ ap (λ b. is_set s x (map assign_of n.wires) || b) (set_append s x (map initial_of n.registers) _ ∙ ap (λ b. is_set s x (map initial_of n.registers) || b)
+      (set_append s x (map initial_cells_of n.memories) _
+      ∙ ap (λ b. is_set s x (map initial_cells_of n.memories) || b) (set_append s x (map always_of n.registers) (map always_cell_of n.memories))))))
 
   -- the later of two tests
   later : (a b : Bool) → b ≡ true → (a || b) ≡ true
@@ -276,7 +287,8 @@ module _ (n : Net) (h : IsNetlist n) where
   memory_started : (x : Name) → is_among x (memory_names n) ≡ true → is_set initial x (items_of n) ≡ true
   memory_started x m =
       whole_set initial x ∙ later (is_set initial x declared) _ (later (is_set initial x (integer_of n.memories)) _ (later (is_set initial x (map assign_of n.wires)) _
-      (later (is_set initial x (map initial_of n.registers)) _ (or_left (is_set initial x (map initial_cells_of n.memories)) _ (sets_named initial x initial_cells_of (λ r. r.name) (λ y. refl) n.memories ∙ m)))))
+      (later (is_set initial x (map initial_of n.registers))
+      _ (or_left (is_set initial x (map initial_cells_of n.memories)) _ (sets_named initial x initial_cells_of (λ r. r.name) (λ y. refl) n.memories ∙ m)))))
 
   register_stepped : (x : Name) → is_among x (register_names n) ≡ true → is_set always x (items_of n) ≡ true
   register_stepped x m =
@@ -308,13 +320,15 @@ module _ (n : Net) (h : IsNetlist n) where
   names_set (x ∷ xs) = (λ s e. shape_set x (find (entities n) x) refl s e, names_set xs)
 
   others_declare : flat_map item_declarations
-      (integer_of n.memories ++ (map assign_of n.wires ++ (map initial_of n.registers ++ (map initial_cells_of n.memories ++ (map always_of n.registers ++ map always_cell_of n.memories))))) ≡ []
+      (integer_of n.memories ++ (map assign_of n.wires
+      ++ (map initial_of n.registers ++ (map initial_cells_of n.memories ++ (map always_of n.registers ++ map always_cell_of n.memories))))) ≡ []
   others_declare =
       none_both (integer_of n.memories) _ (integer_declares n.memories)
       (none_both (map assign_of n.wires) _ (declares_none assign_of (λ y. refl) n.wires)
       (none_both (map initial_of n.registers) _ (declares_none initial_of (λ y. refl) n.registers)
       (none_both (map initial_cells_of n.memories) _ (declares_none initial_cells_of (λ y. refl) n.memories)
-      (none_both (map always_of n.registers) (map always_cell_of n.memories) (declares_none always_of (λ y. refl) n.registers) (declares_none always_cell_of (λ y. refl) n.memories)))))
+      (none_both (map always_of n.registers) (map always_cell_of n.memories) (declares_none always_of (λ y. refl) n.registers)
+      (declares_none always_cell_of (λ y. refl) n.memories)))))
 
   pub whole_declared : declarations (ports n h) (items_of n) ≡ map (declare n) n.names
   whole_declared = declared_all _ others_declare

@@ -35,7 +35,8 @@ parts_spaced x [] qs h = h
 parts_spaced x (z ∷ zs) qs h = parts_spaced z zs qs h
 
 -- before a right side stands a space, and behind it `;`
-right_spaced : (right : Right) (qs : List Piece) → HasParts right → is_spaced (sign t.semicolon ∷ qs) ≡ true → is_spaced (space ∷ (right_pieces right ++ (sign t.semicolon ∷ qs))) ≡ true
+right_spaced : (right : Right) (qs : List Piece) → HasParts right → is_spaced (sign t.semicolon ∷ qs) ≡ true
+    → is_spaced (space ∷ (right_pieces right ++ (sign t.semicolon ∷ qs))) ≡ true
 right_spaced (item.copy x) qs w h = h
 right_spaced (item.one op x) qs w h = and_from (may_follow (sign (unary_sign op)) (operand x)) _ (unary_follows op x) h
 right_spaced (item.two op x y) qs w h = and_from (may_follow (sign (binary_sign op)) space) _ (binary_follows op) h
@@ -84,7 +85,8 @@ ports_spaced p follow (x ∷ xs) qs h =
     subst (λ ps. is_spaced (p ∷ ps) ≡ true) (sym e) (and_from (may_follow p (sign t.comma)) _ (follow (sign t.comma) refl) first)
 
 file_spaced : (f : File) → AllByRecursion IsWhole f.items → is_spaced (file_pieces f) ≡ true
-file_spaced f w = ports_spaced (word t.clk_word) (λ q h. h) f.ports (sign t.close_paren ∷ sign t.semicolon ∷ line ∷ (flat_map item_pieces f.items ++ end_of_file)) (behind_line (flat_map item_pieces f.items ++ end_of_file) (items_spaced f.items end_of_file w refl))
+file_spaced f w = ports_spaced (word t.clk_word) (λ q h. h) f.ports (sign t.close_paren ∷ sign t.semicolon ∷ line
+    ∷ (flat_map item_pieces f.items ++ end_of_file)) (behind_line (flat_map item_pieces f.items ++ end_of_file) (items_spaced f.items end_of_file w refl))
 
 spelled_append : (ps qs : List Piece) → AreSpelled ps → AreSpelled qs → AreSpelled (ps ++ qs)
 spelled_append [] qs h g = g
@@ -191,7 +193,8 @@ items_spelled : (xs : List Item) → AllByRecursion IsItemWritten xs → AreSpel
 items_spelled [] h = tt
 items_spelled (x ∷ xs) h = spelled_append (item_pieces x) (flat_map item_pieces xs) (item_spelled x h.0) (items_spelled xs h.1)
 
-port_spelled : (d : Direction) (n : Number) (x : Mention) → IsNumberWritten n.value → IsName x.name → AreSpelled (direction_pieces d ++ (range_pieces n.value ++ (name x.name ∷ [])))
+port_spelled : (d : Direction) (n : Number) (x : Mention) → IsNumberWritten n.value → IsName x.name
+    → AreSpelled (direction_pieces d ++ (range_pieces n.value ++ (name x.name ∷ [])))
 port_spelled item.input n x h g = (h, (g, tt))
 port_spelled item.output_register n x h g = (h, (g, tt))
 port_spelled item.output_wire n x h g = (h, (g, tt))

@@ -192,9 +192,11 @@ bare_width a (item.constant c) = refl
 bare_parts_width : (a : Above) (xs : List Operand) → parts_width (known_above (bare_above a)) (map bare_operand xs) ≡ parts_width (known_above a) xs
 bare_parts_width a [] = refl
 bare_parts_width a (x ∷ xs) =
-    ap (λ w. add_widths w (parts_width (known_above (bare_above a)) (map bare_operand xs))) (bare_width a x) ∙ ap (add_widths (operand_width (known_above a) x)) (bare_parts_width a xs)
+    ap (λ w. add_widths w (parts_width (known_above (bare_above a)) (map bare_operand xs))) (bare_width a x)
+    ∙ ap (add_widths (operand_width (known_above a) x)) (bare_parts_width a xs)
 
-bare_right_pairs : (a : Above) (target target' : Option ℕ) (right : Right) → target' ≡ target → right_pairs (known_above (bare_above a)) target' (bare_right right) ≡ right_pairs (known_above a) target right
+bare_right_pairs : (a : Above) (target target' : Option ℕ) (right : Right) → target' ≡ target
+    → right_pairs (known_above (bare_above a)) target' (bare_right right) ≡ right_pairs (known_above a) target right
 bare_right_pairs a target target' (item.copy x) e = let w = bare_width a x in cc
 bare_right_pairs a target target' (item.one op x) e =
     ap (λ w. unary_pairs (unary_rule op) target' w) (bare_width a x) ∙ ap (λ t. unary_pairs (unary_rule op) t (operand_width (known_above a) x)) e

@@ -124,6 +124,8 @@ bare_netlist f =
     (flat_map_bare bare_port port_input port_input (λ p. refl) f.ports)
     (ap (λ z. flat_map (net_wires z) xs) e ∙ flat_map_bare bare_item (net_wires (map bare_declaration ds)) (net_wires ds) (wires_net ds) f.items)
     (ap (flat_map (λ d. shape_registers d.name.name d.shape xs)) e
-    ∙ flat_map_bare bare_declaration (λ d. shape_registers d.name.name d.shape xs) (λ d. shape_registers d.name.name d.shape f.items) (λ d. registers_net d.name.name d.shape f.items) ds)
+    ∙ flat_map_bare bare_declaration (λ d. shape_registers d.name.name d.shape xs) (λ d. shape_registers d.name.name d.shape f.items)
+    (λ d. registers_net d.name.name d.shape f.items) ds)
     (ap (flat_map (λ d. shape_memories d.name.name d.shape xs)) e
-    ∙ flat_map_bare bare_declaration (λ d. shape_memories d.name.name d.shape xs) (λ d. shape_memories d.name.name d.shape f.items) (λ d. memories_net d.name.name d.shape f.items) ds)
+    ∙ flat_map_bare bare_declaration (λ d. shape_memories d.name.name d.shape xs) (λ d. shape_memories d.name.name d.shape f.items)
+    (λ d. memories_net d.name.name d.shape f.items) ds)

@@ -51,7 +51,8 @@ named_among name (y ∷ ys) x m =
     (λ f. let r = named_among name ys x (ap (λ b. b || is_among x (map name ys)) (sym f) ∙ m) in (r.0, inr r.1, r.2))
     (cases_Bool (bytes_eq x (name y)))
 
-pub all_from : (P : Name → Type 0) (xs zs : List Name) → ((x : Name) → is_among x zs ≡ true → P x) → ((x : Name) → is_among x xs ≡ true → is_among x zs ≡ true) → AllByRecursion P xs
+pub all_from : (P : Name → Type 0) (xs zs : List Name) → ((x : Name) → is_among x zs ≡ true → P x)
+    → ((x : Name) → is_among x xs ≡ true → is_among x zs ≡ true) → AllByRecursion P xs
 all_from P [] zs f g = tt
 all_from P (x ∷ xs) zs f g =
     (f x (g x (ap (λ b. b || is_among x xs) (bytes_eq_same x))), all_from P xs zs f (λ y m. g y (or_here (bytes_eq y x) (is_among y xs) m)))

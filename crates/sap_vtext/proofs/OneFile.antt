@@ -312,7 +312,8 @@ loop_first : {ts r : List Token} {p : ℕ} {n : Number} → IsLoop ts p n r → 
 loop_first (g.loop a b c d f h i j k l m n o p q u) = kind_first a.is
 
 -- two items that begin alike are told apart further on
-not_initial : {ts us a b c d : List Token} {p : ℕ} {n : Number} {x : Mention} → ts ≡ us → IsWord ts t.initial_word a → IsName a x b → IsWord us t.initial_word c → IsLoop c p n d → ⊥
+not_initial : {ts us a b c d : List Token} {p : ℕ} {n : Number} {x : Mention} → ts ≡ us → IsWord ts t.initial_word a → IsName a x b
+    → IsWord us t.initial_word c → IsLoop c p n d → ⊥
 not_initial e a b c d = let q = ap first_kind (after_word e a c) in let k = kind_first b in let l = loop_first d in absurd (cc)
 
 not_register : {ts us a b c d a' b' c' d' : List Token} {n n' : Number} {x x' : Mention} → ts ≡ us → IsWord ts t.reg_word a → IsRange a n b → IsName b x c → IsSign c t.semicolon d
@@ -393,7 +394,8 @@ no_end e (g.initial_cells a b c d f h i j k) z = let l = (same_token e a.is z.is
 no_end e (g.always a b c d f) z = let k = clocked_first a in let l = kind_first z.is in let u = ap first_kind e in absurd (cc)
 no_end e (g.always_cell a b c d f h i j k l m n) z = let o = clocked_first a in let p = kind_first z.is in let u = ap first_kind e in absurd (cc)
 
-items_one : {ts us r s m n : List Token} {xs ys : List Item} → ts ≡ us → AreItems ts xs r → IsWord r t.endmodule_word m → AreItems us ys s → IsWord s t.endmodule_word n → Same xs ys r s
+items_one : {ts us r s m n : List Token} {xs ys : List Item} → ts ≡ us → AreItems ts xs r → IsWord r t.endmodule_word m → AreItems us ys s
+    → IsWord s t.endmodule_word n → Same xs ys r s
 items_one e g.no_item z g.no_item z' = record { is = refl; others = e }
 items_one e g.no_item z (g.next_item a b) z' = absurd (no_end (sym e) a z)
 items_one e (g.next_item a b) z g.no_item z' = absurd (no_end e a z')

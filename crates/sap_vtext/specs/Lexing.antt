@@ -26,7 +26,8 @@ word_text clk_word = codes "clk"
 word_text i_word = codes "i"
 
 abbrev pub words : List Word
-words = module_word ∷ endmodule_word ∷ input_word ∷ output_word ∷ reg_word ∷ wire_word ∷ assign_word ∷ initial_word ∷ always_word ∷ posedge_word ∷ if_word ∷ for_word ∷ integer_word ∷ clk_word ∷ i_word ∷ []
+words = module_word ∷ endmodule_word ∷ input_word ∷ output_word ∷ reg_word ∷ wire_word ∷ assign_word ∷ initial_word ∷ always_word
+    ∷ posedge_word ∷ if_word ∷ for_word ∷ integer_word ∷ clk_word ∷ i_word ∷ []
 
 abbrev pub sign_text : Sign → List ℕ
 sign_text open_paren = codes "("

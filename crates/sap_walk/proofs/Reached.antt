@@ -63,7 +63,8 @@ module _ {Token : Type 0} (Blank : ℕ → ℕ → Type 0) (Stands : ℕ → Tok
     unfolding Along
     blank_along {n} {m} {ts} {us} len b h = by_order (after_blank len b h) where
       by_order : (n ≡ m) ⊎ Follows (n + len) ts m us → Follows (n + len) ts m us ⊎ Follows m us (n + len) ts
-      by_order (inl e) = inr (over_blank len (subst (λ k. Blank k len) e b) (subst (λ k. Follows (k + len) us (n + len) ts) e (subst (λ l. Follows (n + len) l (n + len) ts) (same_place h e) here)))
+      by_order (inl e) = inr (over_blank len (subst (λ k. Blank k len) e b)
+          (subst (λ k. Follows (k + len) us (n + len) ts) e (subst (λ l. Follows (n + len) l (n + len) ts) (same_place h e) here)))
       by_order (inr g) = inl g
 
     token_along : {n m : ℕ} {ts us : List Token} (t : Token) (len : ℕ) → Stands n t len → Follows n ts m us → Along (n + len) (ts ++ t ∷ []) m us

@@ -78,7 +78,8 @@ module _ (W : Table) where
   unfolding walk
   refused_there {q = q} {t = t} h e ts = runs_walk h (t ∷ ts) ∙ ap (after W t ts q) e
 
-  pub broken_there : {front : List W.Token} {past q : W.Past} {γ σ : List W.Symbol} {t : W.Token} {limit : W.Limit} → Runs front past γ q σ → settle W t q σ ≡ breaks_limit limit → (ts : List W.Token)
+  pub broken_there : {front : List W.Token} {past q : W.Past} {γ σ : List W.Symbol} {t : W.Token} {limit : W.Limit} → Runs front past γ q σ
+      → settle W t q σ ≡ breaks_limit limit → (ts : List W.Token)
       → walk W (front ++ t ∷ ts) past γ ≡ Err (at_limit limit (record { past = q; left = t ∷ ts }))
   unfolding walk
   broken_there {q = q} {t = t} h e ts = runs_walk h (t ∷ ts) ∙ ap (after W t ts q) e

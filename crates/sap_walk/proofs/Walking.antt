@@ -87,7 +87,8 @@ module _ (W : Table) where
 
   pub steps_append : (α γ : List W.Symbol) (p : Point W) → steps W (α ++ γ) p ≡ (steps W α p >>= steps W γ)
   steps_append α γ p =
-      sym (walk_steps (α ++ γ) p) ∙ walk_append p.left p.past α γ ∙ ap (λ o. o >>= λ q. walk W q.left q.past γ) (walk_steps α p) ∙ bind_same (steps W α p) _ (steps W γ) (walk_steps γ)
+      sym (walk_steps (α ++ γ) p) ∙ walk_append p.left p.past α γ ∙ ap (λ o. o >>= λ q. walk W q.left q.past γ) (walk_steps α p)
+      ∙ bind_same (steps W α p) _ (steps W γ) (walk_steps γ)
 
   -- what one symbol reads at a token
   module _ (s : W.Symbol) (t : W.Token) (ts : List W.Token) (past : W.Past) where

@@ -14,6 +14,17 @@ InTurn Symbol Role Token Kept Limit =
 abbrev pub ReadsWithin : (Symbol Role Token Counts Limit : Type 0) → Type 0
 ReadsWithin Symbol Role Token Counts Limit =
     (next : Symbol → Token → Next Symbol Role) (may_be_empty : Symbol → Bool) (tally : Counts → Role → Token → Counts) (breach : Counts → Role → Token → Option Limit)
-    → let G : Limited = record { Symbol = Symbol; Role = Role; Token = Token; Counts = Counts; Limit = Limit; next = next; may_be_empty = may_be_empty; tally = tally; breach = breach } in
+    → let G : Limited = record {
+      Symbol = Symbol;
+      Role = Role;
+      Token = Token;
+      Counts = Counts;
+      Limit = Limit;
+      next = next;
+      may_be_empty =
+          may_be_empty;
+      tally = tally;
+      breach = breach;
+    } in
     (tokens : List Token) (past : Past Counts Limit) (symbols : List Symbol) (p : Point (lenient G)) → past.first ≡ None → p.past.first ≡ None
     → walk (lenient G) tokens past symbols ≡ Ok p → walk (strict G) tokens past symbols ≡ Ok p

@@ -16,7 +16,8 @@ change_line : (rest d i : List ℕ) (number : ℕ) (behind : List ℕ) → IsCha
 change_line rest d i number behind c = record { ended = refl; text = refl; formed = c.formed }
 
 pub change_goes : (bytes rest : List ℕ) (n : ℕ) (xs : List Variable) (o p : OpenBlock) (d i : List ℕ) (number : ℕ) (behind : List ℕ) → IsChangeAt rest d i number behind
-    → Takes (in_block xs o) (change d i) → in_block xs p ≡ after (in_block xs o) (change d i) → ReadUpTo bytes rest n (in_block xs o) → ReadUpTo bytes behind (n + 1) (in_block xs p)
+    → Takes (in_block xs o) (change d i) → in_block xs p ≡ after (in_block xs o) (change d i) → ReadUpTo bytes rest n (in_block xs o)
+    → ReadUpTo bytes behind (n + 1) (in_block xs p)
 change_goes bytes rest n xs o p d i number behind c t e a =
     goes_on bytes rest (form_text (change d i)) behind n (in_block xs o) (in_block xs p) a c.line
     (record { form = change d i; is_line = change_line rest d i number behind c; takes = t; reached = e })
@@ -25,7 +26,8 @@ pub change_sound : (rest : List ℕ) (xs : List Variable) (o p : OpenBlock) (d i
     → Takes (in_block xs o) (change d i) → in_block xs p ≡ after (in_block xs o) (change d i) → IsSound (in_block xs o) → IsSound (in_block xs p)
 change_sound rest xs o p d i number behind c t e s = subst IsSound (sym e) (sound_after (in_block xs o) (change d i) c.formed s t)
 
-pub change_stops : (bytes rest : List ℕ) (n : ℕ) (xs : List Variable) (o : OpenBlock) (d i : List ℕ) (number : ℕ) (behind : List ℕ) (code : WaveCode) → IsChangeAt rest d i number behind
+pub change_stops : (bytes rest : List ℕ) (n : ℕ) (xs : List Variable) (o : OpenBlock) (d i : List ℕ) (number : ℕ) (behind : List ℕ)
+    (code : WaveCode) → IsChangeAt rest d i number behind
     → IsLeast (IsWrong (in_block xs o) (change d i)) code → ReadUpTo bytes rest n (in_block xs o) → IsFault bytes n code
 change_stops bytes rest n xs o d i number behind code c h a =
     stops_here bytes rest (form_text (change d i)) behind n (in_block xs o) code a c.line

@@ -92,7 +92,8 @@ all_set_goes all done (x ∷ xs) pre (n ∷ ns) k next e l p m f w =
     all_set_goes all (done ++ (x ∷ [])) xs (pre ++ (Some n ∷ [])) ns (k + 1) (k + 1) (e ∙ one_further done x xs) (further done x k l) (further pre (Some n) k p)
     (omega arith) f.1 w.1 in
     one_more_change all done x xs [] pre None (map (λ v. None) xs) k n next (all_set (k + 1) xs ns) (pre ++ (Some n ∷ map Some ns)) e l p m w.0 f.0 (λ later. absurd (cc))
-    (subst (λ (z : List (Option ℕ)). Ended all (in_block all (open_at [] ((pre ++ (Some n ∷ [])) ++ map (λ v. None) xs) (k + 1))) (all_set (k + 1) xs ns) [] z) (sym (one_further pre (Some n) (map Some ns))) i)
+    (subst (λ (z : List (Option ℕ)). Ended all (in_block all (open_at [] ((pre ++ (Some n ∷ [])) ++ map (λ v. None) xs) (k + 1)))
+    (all_set (k + 1) xs ns) [] z) (sym (one_further pre (Some n) (map Some ns))) i)
 
 pub changes_go : (all done xs : List Variable) (before : List (List ℕ)) (pre : List (Option ℕ)) (ms ns : List ℕ) (k next : ℕ) → all ≡ done ++ xs → k ≡ length done
     → k ≡ length pre → next ≤ k → NumbersFit xs ms → NumbersFit xs ns → AllByRecursion (λ x. IsWidth x.width) xs
@@ -122,6 +123,7 @@ changes_go all done (x ∷ xs) before pre (o ∷ ms) (n ∷ ns) k next e l p m g
           rw d (
           one_more_change all done x xs before pre (Some o) (map Some ms) k n next (changes (k + 1) xs ms ns) (pre ++ (Some n ∷ map Some ns)) e l p m w.0 f.0
           (λ later same. let q = some_same o n same in grind (arith, nat_tests))
-          (subst (λ (z : List (Option ℕ)). Ended all (in_block all (open_at before ((pre ++ (Some n ∷ [])) ++ map Some ms) (k + 1))) (changes (k + 1) xs ms ns) before z) (sym (one_further pre (Some n) (map Some ns))) j)
+          (subst (λ (z : List (Option ℕ)). Ended all (in_block all (open_at before ((pre ++ (Some n ∷ [])) ++ map Some ms) (k + 1)))
+          (changes (k + 1) xs ms ns) before z) (sym (one_further pre (Some n) (map Some ns))) j)
           )
     ]

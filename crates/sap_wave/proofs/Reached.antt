@@ -80,7 +80,8 @@ nones (x ∷ xs) = ap (λ (z : List (Option ℕ)). None ∷ z) (nones xs)
 abbrev item_lists : List (Vec ℕ Global) → List (List ℕ)
 item_lists vs = map (λ v. v.items) vs
 
-pub first_so : (xs : List Variable) (b : Block) → b.before.items ≡ [] → b.numbers.items ≡ replicate (length xs) None → b.next ≡ 0 → in_block xs (open_of b) ≡ in_block xs (first_block xs)
+pub first_so : (xs : List Variable) (b : Block) → b.before.items ≡ [] → b.numbers.items ≡ replicate (length xs) None → b.next ≡ 0
+    → in_block xs (open_of b) ≡ in_block xs (first_block xs)
 first_so xs b before now next =
     ap (in_block xs) (same_block (item_lists b.before.items) [] b.numbers.items (map (λ x. None) xs) b.next 0 (ap item_lists before) (now ∙ nones xs) next)
 

@@ -87,7 +87,8 @@ stopped bytes rest before behind n s (Rule code line) a c h other = subst (λ (k
 stopped bytes rest before behind n s Memory a c h other = absurd (other refl)
 
 -- and at the end
-pub ended_so : (bytes rest : List ℕ) (n : ℕ) (s : State) (r : Result Wave WaveFault) → ReadUpTo bytes rest n s → length rest ≡ 0 → IfOk r (Ends s) → IfErr r (IsFaultAt (StandsAtEnd s) n)
+pub ended_so : (bytes rest : List ℕ) (n : ℕ) (s : State) (r : Result Wave WaveFault) → ReadUpTo bytes rest n s → length rest ≡ 0
+    → IfOk r (Ends s) → IfErr r (IsFaultAt (StandsAtEnd s) n)
     → IfOk r (ReadsSo bytes) × IfErr r (λ fault. fault ≢ Memory → IsWaveFault bytes fault)
 ended_so bytes rest n s (Ok w) a e h against = (ends bytes rest n s w a e h, tt)
 ended_so bytes rest n s (Err (Rule code line)) a e h against = (tt, λ other. stops_at_end bytes rest n s line code a e against.0 against.1)

@@ -102,7 +102,8 @@ after_fit n rules v within =
     all_names (λ x. (observed n v).value x < 2 ^ width_of n x)
     (λ r. (width_of n r.name ≡ r.width) × (((observed n v).value r.name ≡ operand_value v r.next) × (operand_value v r.next < 2 ^ r.width))) n.registers
     (λ r h. below_width ((observed n v).value r.name) (operand_value v r.next) (width_of n r.name) r.width h.1.0 h.0 h.1.1)
-    (all_and (λ r. width_of n r.name ≡ r.width) (λ r. ((observed n v).value r.name ≡ operand_value v r.next) × (operand_value v r.next < 2 ^ r.width)) n.registers (widths_found n rules)
+    (all_and (λ r. width_of n r.name ≡ r.width) (λ r. ((observed n v).value r.name ≡ operand_value v r.next)
+    × (operand_value v r.next < 2 ^ r.width)) n.registers (widths_found n rules)
     (all_and (λ r. (observed n v).value r.name ≡ operand_value v r.next) (λ r. operand_value v r.next < 2 ^ r.width) n.registers (observed_registers n rules v)
     (nexts_below (readable n) v within.value n.registers rules.nexts)))
 

@@ -36,7 +36,8 @@ variable_is_register n rules xs k d e l =
     l
 
 -- one element more is written over a list
-pub written_more : {X Y : Type 0} (f : X → Y) (xs : List X) (ys : List Y) (k : ℕ) (d : X) (y : Y) → k < length xs → k < length ys → y ≡ f (get_or xs k d) → take k ys ≡ map f (take k xs)
+pub written_more : {X Y : Type 0} (f : X → Y) (xs : List X) (ys : List Y) (k : ℕ) (d : X) (y : Y) → k < length xs → k < length ys
+    → y ≡ f (get_or xs k d) → take k ys ≡ map f (take k xs)
     → take (k + 1) (set ys k y) ≡ map f (take (k + 1) xs)
 written_more {X} {Y} f xs ys k d y h i e before =
     take_more_set ys k y i ∙ ap₂ (λ (zs : List Y) (z : Y). zs ++ z ∷ []) before e ∙ sym (map-append f (take k xs) (get_or xs k d ∷ [])) ∙ ap (map f) (sym (take_more xs k d h))

@@ -82,7 +82,8 @@ one_more_name xs y d new =
     distinct_both xs (y ∷ []) d (refl, tt)
     (λ n there. let apart : bytes_eq n y ≡ false = bytes_eq_symmetric n y ∙ apart_by_membership y n xs new there in rw apart refl)
 
-one_more_variable : (xs : List Variable) (x : Variable) → AreVariables xs → is_name x.name ≡ true → IsWidth x.width → is_among x.name (names_of xs) ≡ false → AreVariables (xs ++ (x ∷ []))
+one_more_variable : (xs : List Variable) (x : Variable) → AreVariables xs → is_name x.name ≡ true → IsWidth x.width
+    → is_among x.name (names_of xs) ≡ false → AreVariables (xs ++ (x ∷ []))
 one_more_variable xs x h named sized new =
     record {
       named = all_append (λ v. is_name v.name ≡ true) xs (x ∷ []) h.named (named, tt);
@@ -129,7 +130,8 @@ head_parts xs first =
     ap (λ (z : List Form). timescale ∷ (scope ∷ z)) (append_assoc (declarations 0 xs) (upscope ∷ (end_definitions ∷ [])) (block (numeral 0) ∷ all_set 0 xs first))
 
 -- the lines of an open block that lacks no number are those of one that is over
-first_is_over : (xs : List Variable) (before : List (List ℕ)) (ns : List ℕ) (olds now : List (Option ℕ)) (earlier done : List Form) → before ≡ [] → olds ≡ nones xs → earlier ≡ opened xs
+first_is_over : (xs : List Variable) (before : List (List ℕ)) (ns : List ℕ) (olds now : List (Option ℕ)) (earlier done : List Form)
+    → before ≡ [] → olds ≡ nones xs → earlier ≡ opened xs
     → now ≡ map Some ns → NumbersFit xs ns → done ≡ earlier ++ (block (numeral (length before)) ∷ moves 0 xs olds now) → Whole xs (before ++ (ns ∷ [])) ns done
 first_is_over xs before ns olds now earlier done b o e full fit forms =
     let one : before ++ (ns ∷ []) ≡ ns ∷ [] = ap (λ (z : List (List ℕ)). z ++ (ns ∷ [])) b in
@@ -178,7 +180,8 @@ pub is_over : (xs : List Variable) (o : OpenBlock) (done : List Form) → InBloc
 is_over xs o done h full = by h.begun where
   by : Begun xs o.before h.olds h.earlier → Whole xs (blocks_of o) (numbers_in o.now) done
   by (begins b e f) =
-      first_is_over xs o.before (numbers_in o.now) h.olds o.now h.earlier done b e f (none_lacks o.now full) (fits_all xs (numbers_in o.now) (subst (AllZip Fits xs) (none_lacks o.now full) h.fits))
+      first_is_over xs o.before (numbers_in o.now) h.olds o.now h.earlier done b e f (none_lacks o.now full)
+      (fits_all xs (numbers_in o.now) (subst (AllZip Fits xs) (none_lacks o.now full) h.fits))
       h.forms
   by (goes_on last e w) =
       later_is_over xs o.before last (numbers_in o.now) h.olds o.now h.earlier done e w (none_lacks o.now full)

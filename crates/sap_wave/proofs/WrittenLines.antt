@@ -116,7 +116,8 @@ pub changes_more : (xs : List Variable) (ms ns : List ℕ) (i : ℕ) (x : Variab
     → (get_or ms i 0 == get_or ns i 0) ≡ false → changes_from xs ms ns i ≡ line (form_text (set_to i x (get_or ns i 0))) ++ changes_from xs ms ns (i + 1)
 changes_more xs ms ns i x h l m e other =
     changes_at xs ms ns i x h l m e
-    ∙ ap (λ (b : Bool). text_of (if b then changes (i + 1) (drop (i + 1) xs) (drop (i + 1) ms) (drop (i + 1) ns) else set_to i x (get_or ns i 0) ∷ changes (i + 1) (drop (i + 1) xs) (drop (i + 1) ms) (drop (i + 1) ns)))
+    ∙ ap (λ (b : Bool). text_of (if b then changes (i + 1) (drop (i + 1) xs) (drop (i + 1) ms) (drop (i + 1) ns) else set_to i x
+    (get_or ns i 0) ∷ changes (i + 1) (drop (i + 1) xs) (drop (i + 1) ms) (drop (i + 1) ns)))
     other
 
 pub no_change : (xs : List Variable) (ms ns : List ℕ) (i : ℕ) → i < length xs → length ms ≡ length xs → length ns ≡ length xs
@@ -124,7 +125,8 @@ pub no_change : (xs : List Variable) (ms ns : List ℕ) (i : ℕ) → i < length
 no_change xs ms ns i h l m same =
     let there = at_place xs i h in
     changes_at xs ms ns i there.0 h l m there.1
-    ∙ ap (λ (b : Bool). text_of (if b then changes (i + 1) (drop (i + 1) xs) (drop (i + 1) ms) (drop (i + 1) ns) else set_to i there.0 (get_or ns i 0) ∷ changes (i + 1) (drop (i + 1) xs) (drop (i + 1) ms) (drop (i + 1) ns)))
+    ∙ ap (λ (b : Bool). text_of (if b then changes (i + 1) (drop (i + 1) xs) (drop (i + 1) ms) (drop (i + 1) ns) else set_to i there.0
+    (get_or ns i 0) ∷ changes (i + 1) (drop (i + 1) xs) (drop (i + 1) ms) (drop (i + 1) ns)))
     same
   where
     at_place : (ys : List Variable) (k : ℕ) → k < length ys → (y : Variable) × (y ≡ get_or ys k y)

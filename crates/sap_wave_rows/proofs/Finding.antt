@@ -61,7 +61,8 @@ width_at (x ∷ xs) y =
       | inr f ↦ rw f (width_at xs y) ∙ ap (λ (k : ℕ). option_map (λ (v : Variable). v.width) (slice_get (x ∷ xs) k)) (sym (place_behind x.name (names_of xs) y f))
     ]
 
-pub wide_there : (tag : ℕ) (xs : List Variable) (y : Name) (k : ℕ) (x : Variable) → k ≡ place (names_of xs) y → slice_get xs k ≡ Some x → (x.width == tag) ≡ is_number tag (find (widths_of xs) y)
+pub wide_there : (tag : ℕ) (xs : List Variable) (y : Name) (k : ℕ) (x : Variable) → k ≡ place (names_of xs) y → slice_get xs k ≡ Some x
+    → (x.width == tag) ≡ is_number tag (find (widths_of xs) y)
 wide_there tag xs y k x e h = sym (ap (is_number tag) (width_at xs y) ∙ ap (is_wide tag) (ap (slice_get xs) (sym e) ∙ h))
 
 pub wide_nowhere : (tag : ℕ) (xs : List Variable) (y : Name) (k : ℕ) → k ≡ place (names_of xs) y → slice_get xs k ≡ None → false ≡ is_number tag (find (widths_of xs) y)

@@ -41,7 +41,8 @@ behind_count {X} (c ∷ bs) (suc k) l h = let same : length (take k bs) ≡ k = 
   taken_count (d ∷ cs) (suc j) g = ap suc (taken_count cs j (omega arith))
 
 -- and their rows
-pub rows_more : (ls : Levels) (vs : List Variable) (xs : List Name) (blocks : List (List ℕ)) (k : ℕ) (numbers : List ℕ) → 1 ≤ k → k < length blocks → numbers ≡ get_or blocks k numbers
+pub rows_more : (ls : Levels) (vs : List Variable) (xs : List Name) (blocks : List (List ℕ)) (k : ℕ) (numbers : List ℕ) → 1 ≤ k
+    → k < length blocks → numbers ≡ get_or blocks k numbers
     → rows_from ls xs 1 (map (by_name vs) (drop 1 (take (k + 1) blocks))) ≡ rows_from ls xs 1 (map (by_name vs) (drop 1 (take k blocks))) ++ row_of ls xs k (by_name vs numbers)
 rows_more ls vs xs blocks k numbers l h e =
     ap (λ (bs : List (List ℕ)). rows_from ls xs 1 (map (by_name vs) bs)) (behind_more blocks k numbers l h e)

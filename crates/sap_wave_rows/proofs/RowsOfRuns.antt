@@ -27,7 +27,8 @@ module _ (ls : Levels) (n : Net) where
   shown = shown_registers ls n
 
   -- what agrees at the ports has the same row
-  pub row_agrees : (cycle : ℕ) (v w : Valuation) → ((y : Name) → is_among y (register_ports n.ports) ≡ true → v.value y ≡ w.value y) → row_of ls shown cycle v ≡ row_of ls shown cycle w
+  pub row_agrees : (cycle : ℕ) (v w : Valuation) → ((y : Name) → is_among y (register_ports n.ports) ≡ true → v.value y ≡ w.value y)
+      → row_of ls shown cycle v ≡ row_of ls shown cycle w
   row_agrees cycle v w agree =
       let ports = register_ports n.ports in
       let all = all_shown (tag_width ls) n ports in
@@ -35,9 +36,11 @@ module _ (ls : Levels) (n : Net) where
       (all_same (IsShown ports ports) (λ x. v.value (value_name x)) (λ x. w.value (value_name x)) shown (λ x h. agree (value_name x) h.0) all)
       (all_same (IsShown ports ports) (λ x. v.value (tag_name x)) (λ x. w.value (tag_name x)) shown (λ x h. agree (tag_name x) h.1) all)
 
-  same_rows : (cycle : ℕ) (vs : List Valuation) → rows_from ls shown cycle (map (by_name (variables_of n)) (map (numbers_after n) vs)) ≡ rows_from ls shown cycle (map (observed n) vs)
+  same_rows : (cycle : ℕ) (vs : List Valuation) → rows_from ls shown cycle (map (by_name (variables_of n)) (map (numbers_after n) vs))
+      ≡ rows_from ls shown cycle (map (observed n) vs)
   same_rows cycle [] = refl
-  same_rows cycle (v ∷ vs) = ap₂ (λ (row rows : List ℕ). row ++ rows) (row_agrees cycle (by_name (variables_of n) (numbers_after n v)) (observed n v) (number_seen n v)) (same_rows (cycle + 1) vs)
+  same_rows cycle (v ∷ vs) = ap₂ (λ (row rows : List ℕ). row ++ rows)
+      (row_agrees cycle (by_name (variables_of n) (numbers_after n v)) (observed n v) (number_seen n v)) (same_rows (cycle + 1) vs)
 
 pub rows_of_runs : RowsOfRuns
 rows_of_runs ls n vs =

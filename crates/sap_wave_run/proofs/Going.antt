@@ -65,12 +65,14 @@ module _ (ls : Levels) (s new : Stepped Plan) (d after : Dumping) (places : List
           },
         )
 
-  pub block_more : (ahead : List (List Given)) (text : List ℕ) → IsToCome ls s d places (line ∷ ahead) text → (rest : List ℕ) × (text ≡ after.block ++ rest) × IsToCome ls new after places ahead rest
+  pub block_more : (ahead : List (List Given)) (text : List ℕ) → IsToCome ls s d places (line ∷ ahead) text → (rest : List ℕ)
+      × (text ≡ after.block ++ rest) × IsToCome ls new after places ahead rest
   block_more ahead text is = from ahead text is.can is.goes_on.before is.goes_on.shows is.run is.goes_on.is_run is.is_text
 
 -- no line has no block
 pub none_more : (ls : Levels) (s : Stepped Plan) (d : Dumping) (places : List ℕ) (text : List ℕ) → IsToCome ls s d places [] text → text ≡ []
 none_more ls s d places text is = from is.run is.goes_on.is_run is.is_text where
-  from : (run : List Valuation) → IsRunAfter s.runner.net is.goes_on.before [] run → text ≡ text_of (blocks_from (d.count + 1) d.variables d.last (map (numbers_after s.runner.net) run)) → text ≡ []
+  from : (run : List Valuation) → IsRunAfter s.runner.net is.goes_on.before [] run
+      → text ≡ text_of (blocks_from (d.count + 1) d.variables d.last (map (numbers_after s.runner.net) run)) → text ≡ []
   from [] run e = e
   from (v ∷ vs) run e = absurd run

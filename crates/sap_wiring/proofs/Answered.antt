@@ -54,7 +54,8 @@ or_false : (b : Bool) → (b || false) ≡ (false || b)
 or_false true = refl
 or_false false = refl
 
-feeds_next : (texts : List WireText) (k : ℕ) (t : WireText) (name : List ℕ) → slice_get texts k ≡ Some t → feeds (take (suc k) texts) name ≡ (feeds (take k texts) name || bytes_eq t.to name)
+feeds_next : (texts : List WireText) (k : ℕ) (t : WireText) (name : List ℕ) → slice_get texts k ≡ Some t
+    → feeds (take (suc k) texts) name ≡ (feeds (take k texts) name || bytes_eq t.to name)
 feeds_next [] k t name at = absurd (none-some t at)
 feeds_next (s ∷ ts) zero t name at = or_false (bytes_eq s.to name) ∙ ap (λ (x : WireText). bytes_eq x.to name) (same_Some s t at)
 feeds_next (s ∷ ts) (suc k) t name at = or_same (bytes_eq s.to name) _ _ _ (feeds_next ts k t name at)
@@ -88,7 +89,8 @@ taken [] (suc k) high = refl
 taken (x ∷ xs) zero high = absurd (omega (arith, high))
 taken (x ∷ xs) (suc k) high = ap (λ l. x ∷ l) (taken xs k (omega (arith, high)))
 
-pub all_wired : (u : Surroundings) (texts : List WireText) (k : ℕ) (ws : List Wire) (fed : List (Vec ℕ Global)) → length texts ≤ k → Tested u texts k ws fed → AllZip (IsWireOf u) texts ws
+pub all_wired : (u : Surroundings) (texts : List WireText) (k : ℕ) (ws : List Wire) (fed : List (Vec ℕ Global)) → length texts ≤ k
+    → Tested u texts k ws fed → AllZip (IsWireOf u) texts ws
 all_wired u texts k ws fed high h = subst (λ (ts : List WireText). AllZip (IsWireOf u) ts ws) (taken texts k high) h.wires
 
 cases_memory : (f : LinkFault) → (f ≡ Memory) ⊎ (f ≢ Memory)

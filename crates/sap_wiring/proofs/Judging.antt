@@ -140,14 +140,16 @@ module _ (u : Surroundings) (texts : List WireText) (k : ℕ) (t : WireText) (g 
   below_k8 a b c K8 low = absurd (omega (arith, low))
   below_k8 a b c K9 low = absurd (omega (arith, low))
 
-  pub below_k9 : ¬ Stands u texts K5 k → ¬ Stands u texts K6 k → ¬ Stands u texts K7 k → ¬ Stands u texts K8 k → (other : LinkCode) → number_of_code other < 9 → ¬ Stands u texts other k
+  pub below_k9 : ¬ Stands u texts K5 k → ¬ Stands u texts K6 k → ¬ Stands u texts K7 k → ¬ Stands u texts K8 k → (other : LinkCode)
+      → number_of_code other < 9 → ¬ Stands u texts other k
   below_k9 a b c d K5 low = a
   below_k9 a b c d K6 low = b
   below_k9 a b c d K7 low = c
   below_k9 a b c d K8 low = d
   below_k9 a b c d K9 low = absurd (omega (arith, low))
 
-  pub none_stands : ¬ Stands u texts K5 k → ¬ Stands u texts K6 k → ¬ Stands u texts K7 k → ¬ Stands u texts K8 k → ¬ Stands u texts K9 k → (code : LinkCode) → ¬ Stands u texts code k
+  pub none_stands : ¬ Stands u texts K5 k → ¬ Stands u texts K6 k → ¬ Stands u texts K7 k → ¬ Stands u texts K8 k → ¬ Stands u texts K9 k
+      → (code : LinkCode) → ¬ Stands u texts code k
   none_stands a b c d e K5 = a
   none_stands a b c d e K6 = b
   none_stands a b c d e K7 = c

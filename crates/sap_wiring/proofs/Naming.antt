@@ -33,7 +33,8 @@ same_none u l m same none i e d n = none i e d (subst (λ t. Names u t i e d) (s
 module _ (u : Surroundings) (named : PartsNamed u) where
   pub names_same : (text : List ℕ) (i j : ℕ) (e f : List ℕ) (d c : Declared) (a : Names u text i e d) (b : Names u text j f c) → SameNames u i j e f d c a.part b.part
   names_same text i j e f d c a b =
-      let cut = cut_same a.part.name b.part.name e f (lacks_dot u named i a.part a.is_part) (lacks_dot u named j b.part b.is_part) (sym (dotted a.part.name e) ∙ sym a.spelled ∙ b.spelled ∙ dotted b.part.name f) in
+      let cut = cut_same a.part.name b.part.name e f (lacks_dot u named i a.part a.is_part) (lacks_dot u named j b.part b.is_part)
+      (sym (dotted a.part.name e) ∙ sym a.spelled ∙ b.spelled ∙ dotted b.part.name f) in
       let place : i ≡ j = parts_apart u named i j a.part b.part a.is_part b.is_part cut.0 in
       let part : a.part ≡ b.part = same_Some a.part b.part (sym a.is_part ∙ ap (λ k. slice_get u.parts k) place ∙ b.is_part) in
       record {
@@ -57,14 +58,18 @@ module _ (u : Surroundings) (named : PartsNamed u) where
 
   -- a text without a dot names nothing
   pub uncut : (text : List ℕ) → IsSplitOnceResult 46 text None → (i : ℕ) (e : List ℕ) (d : Declared) → ¬ Names u text i e d
-  uncut text none i e d n = split_after 46 text n.part.name e None none (omega arith) (n.spelled ∙ dotted n.part.name e) (λ k low. lacks_at n.part.name (lacks_dot u named i n.part n.is_part) k low)
+  uncut text none i e d n = split_after 46 text n.part.name e None none (omega arith) (n.spelled
+      ∙ dotted n.part.name e) (λ k low. lacks_at n.part.name (lacks_dot u named i n.part n.is_part) k low)
 
   -- what stands before its first dot is the part's name, and what stands behind it the entity's
-  pub cut : (text : List ℕ) (x : Bor (List ℕ) × Bor (List ℕ)) → IsSplitOnceResult 46 text (Some x) → (i : ℕ) (e : List ℕ) (d : Declared) (n : Names u text i e d) → (x.0.now ≡ n.part.name) × (x.1.now ≡ e)
-  cut text x some i e d n = split_after 46 text n.part.name e (Some x) some (omega arith) (n.spelled ∙ dotted n.part.name e) (λ k low. lacks_at n.part.name (lacks_dot u named i n.part n.is_part) k low)
+  pub cut : (text : List ℕ) (x : Bor (List ℕ) × Bor (List ℕ)) → IsSplitOnceResult 46 text (Some x)
+      → (i : ℕ) (e : List ℕ) (d : Declared) (n : Names u text i e d) → (x.0.now ≡ n.part.name) × (x.1.now ≡ e)
+  cut text x some i e d n = split_after 46 text n.part.name e (Some x) some (omega arith) (n.spelled
+      ∙ dotted n.part.name e) (λ k low. lacks_at n.part.name (lacks_dot u named i n.part n.is_part) k low)
 
   -- what is no entity of the part of this name is named by no text
-  pub unnumbered : (text : List ℕ) (x : Bor (List ℕ) × Bor (List ℕ)) → IsSplitOnceResult 46 text (Some x) → (k : ℕ) (q : NamedPart) → slice_get u.parts k ≡ Some q → q.name ≡ x.0.now
+  pub unnumbered : (text : List ℕ) (x : Bor (List ℕ) × Bor (List ℕ)) → IsSplitOnceResult 46 text (Some x) → (k : ℕ) (q : NamedPart)
+      → slice_get u.parts k ≡ Some q → q.name ≡ x.0.now
       → None ≡ number_of q.entities x.1.now → (i : ℕ) (e : List ℕ) (d : Declared) → ¬ Names u text i e d
   unnumbered text x some k q at called none i e d n =
       let parts = cut text x some i e d n in
@@ -75,8 +80,10 @@ module _ (u : Surroundings) (named : PartsNamed u) where
       none-some d (lost ∙ n.stands_for)
 
 -- the entity of a number that was found
-pub numbered : (u : Surroundings) (text : List ℕ) (x : Bor (List ℕ) × Bor (List ℕ)) → IsSplitOnceResult 46 text (Some x) → (k : ℕ) (q : NamedPart) → slice_get u.parts k ≡ Some q → q.name ≡ x.0.now
-    → (n : ℕ) → Some n ≡ number_of q.entities x.1.now → (found : Entity) → slice_get q.entities n ≡ Some found → (e : Endpoint) → e.part ≡ k → e.entity ≡ n → IsEndpoint u text found.what e
+pub numbered : (u : Surroundings) (text : List ℕ) (x : Bor (List ℕ) × Bor (List ℕ)) → IsSplitOnceResult 46 text (Some x)
+    → (k : ℕ) (q : NamedPart) → slice_get u.parts k ≡ Some q → q.name ≡ x.0.now
+    → (n : ℕ) → Some n ≡ number_of q.entities x.1.now → (found : Entity) → slice_get q.entities n ≡ Some found → (e : Endpoint) → e.part ≡ k
+    → e.entity ≡ n → IsEndpoint u text found.what e
 numbered u text x some k q at called n is found here e e_part e_entity = record {
   entity = x.1.now;
   names = record {

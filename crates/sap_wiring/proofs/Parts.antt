@@ -90,7 +90,8 @@ is_called name p = bytes_eq p.name.now name
 
 -- what a search for a part by its name says
 pub part_cases : (parts : List PartNames) (name : List ℕ) (r : Option ℕ) → r ≡ position (λ p. bytes_eq p.name.now name) parts
-    → MatchOption r ((i : ℕ) (p : NamedPart) → slice_get (map named_part parts) i ≡ Some p → p.name ≡ name → ⊥) (λ i. (q : PartNames) × (slice_get parts i ≡ Some q) × (q.name.now ≡ name))
+    → MatchOption r ((i : ℕ) (p : NamedPart) → slice_get (map named_part parts) i ≡ Some p → p.name ≡ name → ⊥) (λ i. (q : PartNames)
+    × (slice_get parts i ≡ Some q) × (q.name.now ≡ name))
 part_cases parts name None h = λ i p is same.
     let (q, at, it) = part_at parts i p is in
     let low = slice_get_within parts i q at in
@@ -107,8 +108,10 @@ pub part_found : (parts : List PartNames) (name : List ℕ) (k : ℕ) (d : PartN
     → (slice_get (map named_part parts) k ≡ Some (named_part (get_or parts k d))) × ((get_or parts k d).name.now ≡ name)
 part_found parts name k d h =
     let (q, at, called) = part_cases parts name (Some k) h in
-    let same : get_or parts k d ≡ q = get_or_from_slice_get parts k q d at in
-    (slice_get-map named_part parts k ∙ ap (λ o. option_map named_part o) at ∙ ap (λ (x : PartNames). Some (named_part x)) (sym same), ap (λ (x : PartNames). x.name.now) same ∙ called)
+    let same : get_or parts k d ≡ q = get_or_from_slice_get parts k q d at in (
+      slice_get-map named_part parts k ∙ ap (λ o. option_map named_part o) at ∙ ap (λ (x : PartNames). Some (named_part x)) (sym same),
+      ap (λ (x : PartNames). x.name.now) same ∙ called,
+    )
 
 pub file_names_serve : FileNamesServe
 file_names_serve parts u keeps same k low broken = keeps.named k (

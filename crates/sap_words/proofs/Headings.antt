@@ -38,7 +38,8 @@ by_number : (operands : List Text) (words : List Text) (m : ℕ → Maker operan
 by_number operands words m None rest = refl
 by_number operands words m (Some n) rest = rest n
 
-by_kind : (operands : List Text) (word : Text) (words : List Text) (b : Bool) (m : Value b → Maker operands) → ((v : Value b) → fit operands words ≡ is_some (made operands (m v) words))
+by_kind : (operands : List Text) (word : Text) (words : List Text) (b : Bool) (m : Value b → Maker operands)
+    → ((v : Value b) → fit operands words ≡ is_some (made operands (m v) words))
     → ((not b || is_some (number_of word)) && fit operands words) ≡ is_some (option_and_then (λ v. made operands (m v) words) (value_of b word))
 by_kind operands word words false m rest = rest word
 by_kind operands word words true m rest = by_number operands words m (number_of word) rest
@@ -56,11 +57,13 @@ as_command name words b h =
       | inr f ↦ rw f refl
     ]
 
-fit_by : (name : Text) (operands : List Text) (words : List Text) (o : Option Row) → row_named name ≡ o → Some operands ≡ option_map (λ (r : Row). r.operands) o → fit operands words ≡ is_some (made_by name words)
+fit_by : (name : Text) (operands : List Text) (words : List Text) (o : Option Row) → row_named name ≡ o
+    → Some operands ≡ option_map (λ (r : Row). r.operands) o → fit operands words ≡ is_some (made_by name words)
 fit_by name operands words None e h = absurd (cc)
 fit_by name operands words (Some r) e h =
     let same : operands ≡ r.operands = cc in
-    ap (λ (os : List Text). fit os words) same ∙ made_when r.operands r.make words ∙ sym (ap (λ (p : Option Row). is_some (option_and_then (λ (q : Row). made q.operands q.make words) p)) e)
+    ap (λ (os : List Text). fit os words) same ∙ made_when r.operands r.make words
+    ∙ sym (ap (λ (p : Option Row). is_some (option_and_then (λ (q : Row). made q.operands q.make words) p)) e)
 
 none_by : (name : Text) (words : List Text) (o : Option Row) → row_named name ≡ o → None ≡ option_map (λ (r : Row). r.operands) o → false ≡ is_some (made_by name words)
 none_by name words None e h = sym (ap (λ (p : Option Row). is_some (option_and_then (λ (q : Row). made q.operands q.make words) p)) e)
@@ -78,7 +81,8 @@ unnamed name words h = sym (and_false (list_all is_operand words)) ∙ as_comman
 -- ---- what was found
 
 found_by : (name : Text) (value : Text → Option Text) (os : List Text) (a b c d e : Text) (o : Option Row) → row_named name ≡ o → Some os ≡ option_map (λ (r : Row). r.operands) o
-    → a ≡ value_at value os 0 → b ≡ value_at value os 1 → c ≡ value_at value os 2 → d ≡ value_at value os 3 → e ≡ value_at value os 4 → made_of_five name a b c d e ≡ found name value
+    → a ≡ value_at value os 0 → b ≡ value_at value os 1 → c ≡ value_at value os 2 → d ≡ value_at value os 3 → e ≡ value_at value os 4
+    → made_of_five name a b c d e ≡ found name value
 found_by name value os a b c d e None is h ea eb ec ed ee = absurd (cc)
 found_by name value os a b c d e (Some r) is h ea eb ec ed ee =
     let same : os ≡ r.operands = cc in

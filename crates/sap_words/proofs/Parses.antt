@@ -53,10 +53,12 @@ unfolding walked
 enters names name label met =
     ap
     (λ (o : Option (Text × List Text)).
-    after_step [] name (at nothing_held 1) (subcommand_or_other [] (option_map (λ (s : Text × List Text). s.0) o) idle 1 name nothing_held).0 (subcommand_or_other [] (option_map (λ (s : Text × List Text). s.0) o) idle 1 name nothing_held).1)
+    after_step [] name (at nothing_held 1) (subcommand_or_other [] (option_map (λ (s : Text × List Text). s.0) o) idle 1 name
+    nothing_held).0 (subcommand_or_other [] (option_map (λ (s : Text × List Text). s.0) o) idle 1 name nothing_held).1)
     met
 
-stops : (names : Names) (name : Text) (label : Text × List Text) (words : List Text) → find (answers_to name) names ≡ Some label → walk [] names nothing_held (name ∷ words) ≡ behind label.0 words
+stops : (names : Names) (name : Text) (label : Text × List Text) (words : List Text) → find (answers_to name) names ≡ Some label
+    → walk [] names nothing_held (name ∷ words) ≡ behind label.0 words
 stops names name label words met =
     ap (λ (w : Walk). fold (walked [] names) w words) (enters names name label met) ∙ sym (walk_stopped [] names (at nothing_held 1) label.0 [] words)
 
@@ -69,16 +71,19 @@ name_passes : (names : Names) (name : Text) (label : Text × List Text) → find
 name_passes names name label met =
     ap
     (λ (o : Option (Text × List Text)). other_passes top (option_map (λ (s : Text × List Text). s.0) o) name nothing_held
-    && step_passes top 1 (subcommand_or_other [] (option_map (λ (s : Text × List Text). s.0) o) idle 1 name nothing_held).0 (subcommand_or_other [] (option_map (λ (s : Text × List Text). s.0) o) idle 1 name nothing_held).1)
+    && step_passes top 1 (subcommand_or_other [] (option_map (λ (s : Text × List Text). s.0) o) idle 1 name nothing_held).0
+    (subcommand_or_other [] (option_map (λ (s : Text × List Text). s.0) o) idle 1 name nothing_held).1)
     met
     ∙ ap (λ (b : Bool). b && true) (or_true (not (bytes_eq label.0 (codes "help"))))
 
-top_passes : (names : Names) (name : Text) (label : Text × List Text) (words : List Text) → find (answers_to name) names ≡ Some label → walk_passes top names (at nothing_held 1) (name ∷ words) ≡ true
+top_passes : (names : Names) (name : Text) (label : Text × List Text) (words : List Text) → find (answers_to name) names ≡ Some label
+    → walk_passes top names (at nothing_held 1) (name ∷ words) ≡ true
 unfolding walk_passes
 top_passes names name label words met =
     ap₂ (λ (p : Bool) (w : Walk). p && walk_passes top names w words) (name_passes names name label met) (enters names name label met) ∙ behind_passes names label.0 [] words
 
-line_takes : (subs : List Shape) (s : Shape) (words : List Text) → find (λ (x : Shape). answers_to s.name (label_of x)) subs ≡ Some s → level_passes s [] nothing_held words false ≡ true
+line_takes : (subs : List Shape) (s : Shape) (words : List Text) → find (λ (x : Shape). answers_to s.name (label_of x)) subs ≡ Some s
+    → level_passes s [] nothing_held words false ≡ true
     → built_takes (line subs) nothing_held (s.name ∷ words) ≡ true
 line_takes subs s words met passes =
     let names = names_of (line subs) in
@@ -112,7 +117,8 @@ leaf_met r has =
 pub row_taken : (r : Row) (words : List Text) → Contains commands r → AsMany r.operands words → AreOperands words → takes parser (r.name ∷ words) ≡ true
 row_taken r words has many fit =
     ap₂ ◌&&◌ simple
-    (ap (λ (a : App). built_takes a nothing_held (r.name ∷ words)) built_is ∙ line_takes (map leaf_of commands) (leaf_of r) words (leaf_met r has) (row_level r words has many fit).passes)
+    (ap (λ (a : App). built_takes a nothing_held (r.name ∷ words)) built_is
+    ∙ line_takes (map leaf_of commands) (leaf_of r) words (leaf_met r has) (row_level r words has many fit).passes)
 
 pub row_enters : (r : Row) (words : List Text) → Contains commands r → AsMany r.operands words → AreOperands words
     → subcommand_of parser (r.name ∷ words) ≡ Some (r.name, givens r.operands words)

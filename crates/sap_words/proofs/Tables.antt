@@ -19,7 +19,15 @@ number_gives word n h =
             | inl fits ↦
                 let g : Some (digits_value 10 word) ≡ Some n = rw fits at h1 in
                 let e : digits_value 10 word ≡ n = cc in
-                subst (IsRunNumber word) e (record { digits = grind (arith, few); at_least_one = grind (arith, few); at_most_four = grind (arith, few); value = refl; some = grind (arith, fits); within = grind (arith, fits) })
+                subst (IsRunNumber word) e (record {
+                  digits = grind (arith, few);
+                  at_least_one = grind (arith, few);
+                  at_most_four =
+                      grind (arith, few);
+                  value = refl;
+                  some = grind (arith, fits);
+                  within = grind (arith, fits);
+                })
             | inr not ↦ let g : None ≡ Some n = rw not at h1 in absurd (cc)
           ]
       | inr not ↦ let g : None ≡ Some n = rw not at h in absurd (cc)
@@ -74,7 +82,8 @@ read name operands c h =
       | inr not ↦ let g : None ≡ Some c = rw not at h in absurd (cc)
     ]
   where
-    go : (o : Option Row) → row_named name ≡ o → list_all is_operand operands ≡ true → option_and_then (λ (r : Row). made r.operands r.make operands) o ≡ Some c → IsCommand (name ∷ operands) c
+    go : (o : Option Row) → row_named name ≡ o → list_all is_operand operands ≡ true
+        → option_and_then (λ (r : Row). made r.operands r.make operands) o ≡ Some c → IsCommand (name ∷ operands) c
     go None e fit g = absurd (cc)
     go (Some r) e fit g =
         let f = row_found name r e in
@@ -83,7 +92,8 @@ read name operands c h =
 asked : (words : List (List ℕ)) (c : Words) → IsCommand words c → command_of words ≡ Some c
 asked words c k =
     let whole : command_of (k.row.name ∷ k.operands) ≡ made_by k.row.name k.operands = rw k.fit refl in
-    ap command_of k.are ∙ whole ∙ ap (option_and_then (λ (r : Row). made r.operands r.make k.operands)) (named k.row k.is_row) ∙ is_made k.row.operands k.row.make k.operands c k.makes
+    ap command_of k.are ∙ whole ∙ ap (option_and_then (λ (r : Row). made r.operands r.make k.operands)) (named k.row k.is_row)
+    ∙ is_made k.row.operands k.row.make k.operands c k.makes
 
 pub tabled : (words : List (List ℕ)) → ReadsTable words
 tabled [] c = ((λ h. absurd (cc)), asked [] c)

@@ -51,7 +51,14 @@ rule k id = with_index k (filled (operand id))
 
 -- the command of this name, as it is built
 abbrev pub leaf : Text → List Text → Shape
-leaf name ids = record (new_shape name) { rules = filled_from 1 (map operand ids); no_binary_name = true; disable_help_flag = true; disable_help_subcommand = true; is_built = true }
+leaf name ids = record (new_shape name) {
+  rules = filled_from 1 (map operand ids);
+  no_binary_name = true;
+  disable_help_flag =
+      true;
+  disable_help_subcommand = true;
+  is_built = true;
+}
 
 abbrev pub given : Text → Text → Row
 given id v = record { id = id; values = v ∷ []; count = None; source = Some CommandLine; reading = reading_of vp.String }
@@ -75,7 +82,8 @@ AsMany (id ∷ ids) (word ∷ words) = AsMany ids words
 record Whole (s : Shape) (all : List Text) (rows : List Row) : Type 0 where
   pub defaults : fold with_default rows s.rules ≡ rows
   pub valid : (list_all default_passes s.rules && is_valid s rows false) ≡ true
-  pub reads : take (length all) (value_at (λ id. first_of id rows) all 0 ∷ value_at (λ id. first_of id rows) all 1 ∷ value_at (λ id. first_of id rows) all 2 ∷ value_at (λ id. first_of id rows) all 3 ∷ value_at (λ id. first_of id rows) all 4 ∷ [])
+  pub reads : take (length all) (value_at (λ id. first_of id rows) all 0 ∷ value_at (λ id. first_of id rows) all 1
+      ∷ value_at (λ id. first_of id rows) all 2 ∷ value_at (λ id. first_of id rows) all 3 ∷ value_at (λ id. first_of id rows) all 4 ∷ [])
       ≡ map word_of rows
 
 -- from these rows and this place on the command has these operands
@@ -106,17 +114,20 @@ used_is k id v rows fresh =
     ap (with_values id (reading_of vp.String) CommandLine (v ∷ [])) (at_absent id (λ _. []) [] rows fresh ∙ append-nil rows)
     ∙ at_absent id (more_values CommandLine (v ∷ [])) (given id v ∷ []) rows fresh
 
-settles : (c : List Rule) (again : Bool) (rows : List Row) (k : ℕ) (id v : Text) → arg_by_id c id ≡ Some (rule k id) → has_row id rows ≡ false → settle_passes c again (held rows id v) ≡ true
+settles : (c : List Rule) (again : Bool) (rows : List Row) (k : ℕ) (id v : Text) → arg_by_id c id ≡ Some (rule k id)
+    → has_row id rows ≡ false → settle_passes c again (held rows id v) ≡ true
 settles c again rows k id v known fresh =
     ap (λ (o : Option Rule). option_map_or (λ a. use_passes again a (v ∷ []) rows) o true) known
     ∙ ap (λ (b : Bool). (not b || again) && values_pass (rule k id) (v ∷ [])) fresh
 
-settled_is : (c : List Rule) (rows : List Row) (k : ℕ) (id v : Text) → arg_by_id c id ≡ Some (rule k id) → has_row id rows ≡ false → (settled c (held rows id v)).rows ≡ rows ++ given id v ∷ []
+settled_is : (c : List Rule) (rows : List Row) (k : ℕ) (id v : Text) → arg_by_id c id ≡ Some (rule k id) → has_row id rows ≡ false
+    → (settled c (held rows id v)).rows ≡ rows ++ given id v ∷ []
 settled_is c rows k id v known fresh = ap (λ (o : Option Rule). used_by_id o (v ∷ []) rows) known ∙ used_is k id v rows fresh
 
 -- ---- one step
 
-first_moves : (c : List Rule) (id word : Text) → arg_by_index c 1 ≡ Some (rule 1 id) → to_positional c (arg_by_index c 1) word (at nothing_held 1) nothing_held ≡ at (held [] id word) 2
+first_moves : (c : List Rule) (id word : Text) → arg_by_index c 1 ≡ Some (rule 1 id)
+    → to_positional c (arg_by_index c 1) word (at nothing_held 1) nothing_held ≡ at (held [] id word) 2
 first_moves c id word here = ap (λ (o : Option Rule). to_positional c o word (at nothing_held 1) nothing_held) here
 
 moves : (c : List Rule) (rows : List Row) (j k : ℕ) (id v next word : Text) → arg_by_id c id ≡ Some (rule j id) → has_row id rows ≡ false
@@ -147,7 +158,8 @@ record Walks (s : Shape) (all : List Text) (from : Walk) (words : List Text) (ro
   pub whole : Whole s all rows
 
 one_more : (s : Shape) (all : List Text) (h : Held) (k : ℕ) (next : Walk) (word : Text) (words : List Text) (rows : List Row) → is_operand word ≡ true
-    → step_passes s k h value ≡ true → to_positional s.rules (arg_by_index s.rules k) word (at h k) h ≡ next → Walks s all next words rows → Walks s all (at h k) (word ∷ words) rows
+    → step_passes s k h value ≡ true → to_positional s.rules (arg_by_index s.rules k) word (at h k) h ≡ next → Walks s all next words rows
+    → Walks s all (at h k) (word ∷ words) rows
 one_more s all h k next word words rows t passes moved rest =
     let goes : walked s.rules [] (at h k) word ≡ next = step s.rules h k word t ∙ moved in
     record {
@@ -178,10 +190,12 @@ rest_walks s all rows j k id v [] [] known fresh goes many fit = record {
 rest_walks s all rows j k id v [] (word ∷ words) known fresh goes many fit = absurd many
 rest_walks s all rows j k id v (next ∷ ids) [] known fresh goes many fit = absurd many
 rest_walks s all rows j k id v (next ∷ ids) (word ∷ words) known fresh goes many fit =
-    one_more s all (held rows id v) k (at (held (rows ++ given id v ∷ []) next word) (k + 1)) word words (rows ++ given id v ∷ givens (next ∷ ids) (word ∷ words)) (fits_first word words fit)
+    one_more s all (held rows id v) k (at (held (rows ++ given id v ∷ []) next word) (k + 1)) word words
+    (rows ++ given id v ∷ givens (next ∷ ids) (word ∷ words)) (fits_first word words fit)
     (steps s rows j k id v next known fresh goes.0)
     (moves s.rules rows j k id v next word known fresh goes.0 goes.2)
-    (same_rows s all (at (held (rows ++ given id v ∷ []) next word) (k + 1)) words ((rows ++ given id v ∷ []) ++ givens (next ∷ ids) (word ∷ words)) (rows ++ given id v ∷ givens (next ∷ ids) (word ∷ words))
+    (same_rows s all (at (held (rows ++ given id v ∷ []) next word) (k + 1)) words
+    ((rows ++ given id v ∷ []) ++ givens (next ∷ ids) (word ∷ words)) (rows ++ given id v ∷ givens (next ∷ ids) (word ∷ words))
     (append_assoc rows (given id v ∷ []) (givens (next ∷ ids) (word ∷ words)))
     (rest_walks s all (rows ++ given id v ∷ []) k (k + 1) next word ids words goes.1 goes.3 (goes.4 word) many (fits_rest word words fit)))
 
@@ -191,7 +205,8 @@ walks s all [] [] goes many fit = record { passes = refl; settles = refl; rows_a
 walks s all [] (word ∷ words) goes many fit = absurd many
 walks s all (id ∷ ids) [] goes many fit = absurd many
 walks s all (id ∷ ids) (word ∷ words) goes many fit =
-    one_more s all nothing_held 1 (at (held [] id word) 2) word words (givens (id ∷ ids) (word ∷ words)) (fits_first word words fit) (first_steps s id goes.0) (first_moves s.rules id word goes.0)
+    one_more s all nothing_held 1 (at (held [] id word) 2) word words (givens (id ∷ ids) (word ∷ words)) (fits_first word words fit)
+    (first_steps s id goes.0) (first_moves s.rules id word goes.0)
     (rest_walks s all [] 1 2 id word ids words goes.1 goes.3 (goes.4 word) many (fits_rest word words fit))
 
 -- ---- a level of a parse
@@ -206,7 +221,9 @@ words_back (id ∷ ids) (word ∷ words) many = ap (λ (ws : List Text). word �
 pub record Level (s : Shape) (ids words : List Text) : Type 0 where
   pub passes : level_passes s [] nothing_held words false ≡ true
   pub rows : rows_after s.rules [] words ≡ givens ids words
-  pub reads : take (length ids) (value_at (λ id. first_of id (givens ids words)) ids 0 ∷ value_at (λ id. first_of id (givens ids words)) ids 1 ∷ value_at (λ id. first_of id (givens ids words)) ids 2 ∷ value_at (λ id. first_of id (givens ids words)) ids 3 ∷ value_at (λ id. first_of id (givens ids words)) ids 4 ∷ [])
+  pub reads : take (length ids) (value_at (λ id. first_of id (givens ids words)) ids 0
+      ∷ value_at (λ id. first_of id (givens ids words)) ids 1 ∷ value_at (λ id. first_of id (givens ids words)) ids 2
+      ∷ value_at (λ id. first_of id (givens ids words)) ids 3 ∷ value_at (λ id. first_of id (givens ids words)) ids 4 ∷ [])
       ≡ words
 
 level : (s : Shape) (ids words : List Text) → Goes s ids [] 1 ids → AsMany ids words → AreOperands words → Level s ids words

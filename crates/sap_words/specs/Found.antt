@@ -14,7 +14,8 @@ made_of_five name first second third fourth fifth =
 -- the command that the values of its operands make by a row
 abbrev pub made_from : (value : List ℕ → Option (List ℕ)) → Row → Option Words
 made_from value r =
-    made r.operands r.make (take (length r.operands) (value_at value r.operands 0 ∷ value_at value r.operands 1 ∷ value_at value r.operands 2 ∷ value_at value r.operands 3 ∷ value_at value r.operands 4 ∷ []))
+    made r.operands r.make (take (length r.operands) (value_at value r.operands 0 ∷ value_at value r.operands 1
+    ∷ value_at value r.operands 2 ∷ value_at value r.operands 3 ∷ value_at value r.operands 4 ∷ []))
 
 -- the command that the values of its operands make by the row of this name
 abbrev pub found : (name : List ℕ) → (value : List ℕ → Option (List ℕ)) → Option Words

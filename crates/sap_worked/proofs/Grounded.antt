@@ -10,7 +10,8 @@ use Rattle.sap_worked.specs.Ground.{register_x, register_y, register_z, memory_m
 use Rattle.sap_worked.proofs.Tested.{look_alike, paths_alike}
 
 -- what holds of each entity, and past the last
-pub entities : (f : ℕ → Type 0) → f 0 → f 1 → f 2 → f 3 → f 4 → f 5 → f 6 → f 7 → f 8 → f 9 → f 10 → f 11 → f 12 → f 13 → f 14 → f 15 → ((x : ℕ) → f (suc (suc (suc (suc (suc (suc (suc (suc (suc (suc (suc (suc (suc (suc (suc (suc x))))))))))))))))) → (x : ℕ) → f x
+pub entities : (f : ℕ → Type 0) → f 0 → f 1 → f 2 → f 3 → f 4 → f 5 → f 6 → f 7 → f 8 → f 9 → f 10 → f 11 → f 12 → f 13 → f 14 → f 15
+    → ((x : ℕ) → f (suc (suc (suc (suc (suc (suc (suc (suc (suc (suc (suc (suc (suc (suc (suc (suc x))))))))))))))))) → (x : ℕ) → f x
 entities f h0 h1 h2 h3 h4 h5 h6 h7 h8 h9 h10 h11 h12 h13 h14 h15 past zero = h0
 entities f h0 h1 h2 h3 h4 h5 h6 h7 h8 h9 h10 h11 h12 h13 h14 h15 past (suc zero) = h1
 entities f h0 h1 h2 h3 h4 h5 h6 h7 h8 h9 h10 h11 h12 h13 h14 h15 past (suc (suc zero)) = h2
@@ -59,20 +60,32 @@ LevelKept l s t a = held ground_world a ≡ true → is_dynamic ground_world (ow
     → level ground_world a s ≡ level ground_world a t
 
 levels : (l : ℕ) (s t : Store) → Facts l s t → (a : Slot) → LevelKept l s t a
-levels l s t facts (own x) = entities (λ x. LevelKept l s t (own x)) (λ e d u. cc) (λ e d u. cc) (λ e d u. facts.level_y) (λ e d u. let above = facts.right_above in cc) (λ e d u. cc) (λ e d u. cc) (λ e d u. cc) (λ e d u. facts.level_p) (λ e d u. cc) (λ e d u. cc) (λ e d u. cc) (λ e d u. facts.level_d) (λ e d u. facts.level_e) (λ e d u. facts.level_q) (λ e d u. cc) (λ e d u. let above = facts.right_above in cc) (λ x e d u. cc) x
-levels l s t facts (start m i) = entities (λ m. LevelKept l s t (start m i)) (λ e d u. cc) (λ e d u. cc) (λ e d u. cc) (λ e d u. cc) (λ e d u. cc) (λ e d u. facts.level_k i) (λ e d u. let above = facts.right_above in cc) (λ e d u. cc) (λ e d u. cc) (λ e d u. cc) (λ e d u. cc) (λ e d u. cc) (λ e d u. cc) (λ e d u. cc) (λ e d u. cc) (λ e d u. cc) (λ x e d u. cc) m
-levels l s t facts (next m i) = entities (λ m. LevelKept l s t (next m i)) (λ e d u. cc) (λ e d u. cc) (λ e d u. cc) (λ e d u. cc) (λ e d u. cc) (λ e d u. facts.next_level_k i) (λ e d u. let above = facts.right_above in cc) (λ e d u. cc) (λ e d u. cc) (λ e d u. cc) (λ e d u. cc) (λ e d u. cc) (λ e d u. cc) (λ e d u. cc) (λ e d u. cc) (λ e d u. cc) (λ x e d u. cc) m
+levels l s t facts (own x) = entities (λ x. LevelKept l s t (own x)) (λ e d u. cc) (λ e d u. cc) (λ e d u. facts.level_y)
+    (λ e d u. let above = facts.right_above in
+    cc) (λ e d u. cc) (λ e d u. cc) (λ e d u. cc) (λ e d u. facts.level_p) (λ e d u. cc) (λ e d u. cc) (λ e d u. cc)
+    (λ e d u. facts.level_d) (λ e d u. facts.level_e) (λ e d u. facts.level_q) (λ e d u. cc) (λ e d u. let above = facts.right_above in cc) (λ x e d u. cc) x
+levels l s t facts (start m i) = entities (λ m. LevelKept l s t (start m i)) (λ e d u. cc) (λ e d u. cc) (λ e d u. cc) (λ e d u. cc)
+    (λ e d u. cc) (λ e d u. facts.level_k i) (λ e d u. let above = facts.right_above in
+    cc) (λ e d u. cc) (λ e d u. cc) (λ e d u. cc) (λ e d u. cc) (λ e d u. cc) (λ e d u. cc) (λ e d u. cc) (λ e d u. cc) (λ e d u. cc) (λ x e d u. cc) m
+levels l s t facts (next m i) = entities (λ m. LevelKept l s t (next m i)) (λ e d u. cc) (λ e d u. cc) (λ e d u. cc) (λ e d u. cc)
+    (λ e d u. cc) (λ e d u. facts.next_level_k i) (λ e d u. let above = facts.right_above in
+    cc) (λ e d u. cc) (λ e d u. cc) (λ e d u. cc) (λ e d u. cc) (λ e d u. cc) (λ e d u. cc) (λ e d u. cc) (λ e d u. cc) (λ e d u. cc) (λ x e d u. cc) m
 levels l s t facts (start_whole m) = λ e d u. cc
 levels l s t facts (next_whole m) = λ e d u. cc
 
 pub agreed : (l : ℕ) (s t : Store) → Facts l s t → StatesAgree ground l s t
 agreed l s t facts = record {
   registers = entities (λ x. is_register ground_world x ≡ true → SlotsAlike ground_world l (own x) s t)
-      (λ e. cc) (λ e. facts.x) (λ e. facts.y) (λ e. facts.z) (λ e. cc) (λ e. cc) (λ e. cc) (λ e. cc) (λ e. cc) (λ e. cc) (λ e. cc) (λ e. cc) (λ e. cc) (λ e. cc) (λ e. cc) (λ e. cc) (λ x e. cc);
-  enforced_memories = λ m i. entities (λ m. is_memory ground_world m ≡ true → is_dynamic ground_world m ≡ false → SlotsAlike ground_world l (start m i) s t × SlotsAlike ground_world l (next m i) s t)
-      (λ e d. cc) (λ e d. cc) (λ e d. cc) (λ e d. cc) (λ e d. cc) (λ e d. facts.k i) (λ e d. facts.h i) (λ e d. cc) (λ e d. cc) (λ e d. cc) (λ e d. cc) (λ e d. cc) (λ e d. cc) (λ e d. cc) (λ e d. cc) (λ e d. cc) (λ x e d. cc) m;
-  dynamic_memories = entities (λ m. is_memory ground_world m ≡ true → is_dynamic ground_world m ≡ true → PartsAlike ground_world l (start m) (start_whole m) s t × PartsAlike ground_world l (next m) (next_whole m) s t)
-      (λ e d. cc) (λ e d. cc) (λ e d. cc) (λ e d. cc) (λ e d. facts.m) (λ e d. cc) (λ e d. cc) (λ e d. cc) (λ e d. cc) (λ e d. cc) (λ e d. cc) (λ e d. cc) (λ e d. cc) (λ e d. cc) (λ e d. cc) (λ e d. cc) (λ x e d. cc);
+      (λ e. cc) (λ e. facts.x) (λ e. facts.y) (λ e. facts.z) (λ e. cc) (λ e. cc) (λ e. cc) (λ e. cc) (λ e. cc) (λ e. cc) (λ e. cc) (λ e. cc)
+      (λ e. cc) (λ e. cc) (λ e. cc) (λ e. cc) (λ x e. cc);
+  enforced_memories = λ m i. entities (λ m. is_memory ground_world m ≡ true → is_dynamic ground_world m ≡ false
+      → SlotsAlike ground_world l (start m i) s t × SlotsAlike ground_world l (next m i) s t)
+      (λ e d. cc) (λ e d. cc) (λ e d. cc) (λ e d. cc) (λ e d. cc) (λ e d. facts.k i) (λ e d. facts.h i) (λ e d. cc) (λ e d. cc) (λ e d. cc)
+      (λ e d. cc) (λ e d. cc) (λ e d. cc) (λ e d. cc) (λ e d. cc) (λ e d. cc) (λ x e d. cc) m;
+  dynamic_memories = entities (λ m. is_memory ground_world m ≡ true → is_dynamic ground_world m ≡ true
+      → PartsAlike ground_world l (start m) (start_whole m) s t × PartsAlike ground_world l (next m) (next_whole m) s t)
+      (λ e d. cc) (λ e d. cc) (λ e d. cc) (λ e d. cc) (λ e d. facts.m) (λ e d. cc) (λ e d. cc) (λ e d. cc) (λ e d. cc) (λ e d. cc)
+      (λ e d. cc) (λ e d. cc) (λ e d. cc) (λ e d. cc) (λ e d. cc) (λ e d. cc) (λ x e d. cc);
   enforced_levels = levels l s t facts;
   paths = paths_alike ground_world l _ _ facts.paths;
 }

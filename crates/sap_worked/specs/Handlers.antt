@@ -13,7 +13,8 @@ use Rattle.sap_worked.specs.Rows.{low, left, right, high, state_under, put, goes
 -- }
 abbrev pub fall_handled : Program
 fall_handled = program_of four_levels (an_input 1 ∷ a_register 8 ∷ held_register 8 left 0 ∷ held_state 0 4 low ∷ held_state 0 4 right ∷ []) (0 ∷ 0 ∷ 0 ∷ 1 ∷ 0 ∷ 1 ∷ [])
-    (and_node (state_node 3 (command_then (if_else [] (read 0) (command_then (try (fall_to_child 1 []) [] (command_then (put 0 1 5) (command_then (put 2 2 6) (goes 3 3)))) end_block) (goes 4 3)) end_block)
+    (and_node (state_node 3 (command_then (if_else [] (read 0)
+    (command_then (try (fall_to_child 1 []) [] (command_then (put 0 1 5) (command_then (put 2 2 6) (goes 3 3)))) end_block) (goes 4 3)) end_block)
     (and_node (state_node 4 (goes 5 4) no_node) no_node)) no_node)
 
 abbrev pub at_x_and_y : Look
@@ -35,13 +36,15 @@ HandlerRaises = rows fall_handled at_x_and_y ((at_level low 1 ∷ []) ∷ [])
 -- state T enforced left under left { goto T; }
 abbrev pub from_dynamic : Program
 from_dynamic = program_of four_levels (an_input 1 ∷ a_register 8 ∷ held_register 8 right 0 ∷ a_state 0 3 ∷ state_under 1 4 left left ∷ []) (0 ∷ 0 ∷ 0 ∷ 0 ∷ 0 ∷ 2 ∷ [])
-    (and_node (state_node 3 (command_then (if_else [] (read 0) (command_then (try (go_to 1 4) [] (command_then (put 0 1 5) (command_then (put 2 2 6) (goes 0 3)))) end_block) (goes 0 3)) end_block) no_node)
+    (and_node (state_node 3 (command_then (if_else [] (read 0)
+    (command_then (try (go_to 1 4) [] (command_then (put 0 1 5) (command_then (put 2 2 6) (goes 0 3)))) end_block) (goes 0 3)) end_block) no_node)
     (and_node (state_node 4 (goes 3 4) no_node) no_node))
 
 -- state P enforced low { .. }, so that each goto in it is a check site
 abbrev pub from_enforced : Program
 from_enforced = program_of four_levels (an_input 1 ∷ a_register 8 ∷ held_register 8 right 0 ∷ held_state 0 3 low ∷ state_under 1 4 left left ∷ []) (0 ∷ 0 ∷ 0 ∷ 0 ∷ 0 ∷ 2 ∷ [])
-    (and_node (state_node 3 (command_then (if_else [] (read 0) (command_then (try (go_to 1 4) [] (command_then (put 0 1 5) (command_then (put 2 2 6) (goes 3 3)))) end_block) (goes 4 3)) end_block) no_node)
+    (and_node (state_node 3 (command_then (if_else [] (read 0)
+    (command_then (try (go_to 1 4) [] (command_then (put 0 1 5) (command_then (put 2 2 6) (goes 3 3)))) end_block) (goes 4 3)) end_block) no_node)
     (and_node (state_node 4 (goes 5 4) no_node) no_node))
 
 -- x and y, the levels of P and T, and which is current
@@ -71,7 +74,8 @@ abbrev pub chained : Program
 chained = program_of four_levels
     (an_input 8 ∷ held_register 8 left 1 ∷ held_register 8 right 2 ∷ held_register 8 high 3 ∷ held_register 8 low 4 ∷ held_state 0 5 low ∷ [])
     (0 ∷ 0 ∷ 0 ∷ 0 ∷ 0 ∷ 0 ∷ 1 ∷ [])
-    (loop 5 5 (λ b. command_then (try (assign 1 1 (read 0)) [] (command_then (try (assign 2 2 (constant 8 8)) [] (command_then (put 3 3 9) end_block)) end_block)) (command_then (lone (assign 4 4 (read 0))) b)))
+    (loop 5 5 (λ b. command_then (try (assign 1 1 (read 0)) []
+    (command_then (try (assign 2 2 (constant 8 8)) [] (command_then (put 3 3 9) end_block)) end_block)) (command_then (lone (assign 4 4 (read 0))) b)))
 
 abbrev pub four_registers : Look
 four_registers = record { values = own 1 ∷ own 2 ∷ own 3 ∷ own 4 ∷ []; states = []; parents = [] }

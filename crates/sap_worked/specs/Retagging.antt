@@ -11,7 +11,8 @@ use Rattle.sap_worked.specs.Rows.{low, left, right, high, memory_under, state_un
 -- state S enforced low { if (c) { k[j] := 7; } else { setTag(k[j], level(n)); } goto S; }
 abbrev pub retagged_cells : (level authority : ℕ) → Program
 retagged_cells t u = program_of four_levels (an_input 1 ∷ an_input 1 ∷ an_input 2 ∷ memory_under 8 2 t u ∷ held_state 0 4 low ∷ []) (0 ∷ 0 ∷ 0 ∷ 0 ∷ 0 ∷ 1 ∷ [])
-    (loop 4 3 (λ b. command_then (if_else [] (read 0) (command_then (lone (write 1 3 (read 1) (constant 8 7))) end_block) (command_then (lone (retag_cell 2 3 (read 1) (at_place (read 2)))) end_block)) b))
+    (loop 4 3 (λ b. command_then (if_else [] (read 0) (command_then (lone (write 1 3 (read 1) (constant 8 7))) end_block)
+    (command_then (lone (retag_cell 2 3 (read 1) (at_place (read 2)))) end_block)) b))
 
 -- the two cells of k
 abbrev pub both_cells : Look
@@ -124,7 +125,8 @@ StateRefused = rows (retagged_state left) into_q
 -- state Q enforced low { setTag(C, left); goto P; }
 abbrev pub retagged_child : Program
 retagged_child = program_of four_levels (an_input 1 ∷ a_register 8 ∷ held_state 0 3 low ∷ held_state 0 3 low ∷ held_state 1 4 low ∷ []) (0 ∷ 0 ∷ 1 ∷ 0 ∷ 0 ∷ 2 ∷ [])
-    (and_node (state_node 2 (command_then (if_else [] (read 0) (command_then (lone (fall_to_child 1 [])) end_block) (goes 2 4)) end_block) (and_node (state_node 3 (command_then (put 0 1 1) (goes 3 3)) no_node) no_node))
+    (and_node (state_node 2 (command_then (if_else [] (read 0) (command_then (lone (fall_to_child 1 [])) end_block) (goes 2 4)) end_block)
+    (and_node (state_node 3 (command_then (put 0 1 1) (goes 3 3)) no_node) no_node))
     (and_node (state_node 4 (command_then (lone (retag 4 3 (fixed left))) (goes 5 2)) no_node) no_node))
 
 -- x, the level of C, and which of P and Q is current

@@ -49,7 +49,8 @@ RefusedByValue = rows written_enforced cells_of_k (writes (at_level low 1) (at_l
 
 -- The one level of all cells becomes its join with those of context, index and value: left join right, and never falls.
 abbrev pub DynamicWrite : Type 0
-DynamicWrite = rows written_dynamic cells_of_k (writes (at_level left 1) (at_level low 5) ∷ writes (at_level low 1) (at_level right 6) ∷ writes (at_level low 0) (at_level low 9) ∷ [])
+DynamicWrite = rows written_dynamic cells_of_k (writes (at_level left 1) (at_level low 5) ∷ writes (at_level low 1) (at_level right 6)
+    ∷ writes (at_level low 0) (at_level low 9) ∷ [])
     ≡ row (at_level left 0 ∷ at_level left 5 ∷ []) [] [] []
     ∷ row (at_level high 0 ∷ at_level high 6 ∷ []) [] [] []
     ∷ row (at_level high 9 ∷ at_level high 6 ∷ []) [] [] []

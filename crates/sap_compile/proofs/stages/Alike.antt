@@ -185,11 +185,13 @@ module _ (given result : Net) (before : IsNetlist given) (after : IsNetlist resu
     module _ (v w : Valuation) (same : ShowsAlike given result v w) where
       at_register : (x : Name) (u : ℕ) → find (declared_by given).registers x ≡ Some u → (observed result w).value x ≡ (observed given v).value x
       at_register x u h =
-          sym (at_found (λ (y : Name) (k : ℕ). (observed given v).value y ≡ (observed result w).value y) (λ (r : Register). r.name) (λ (r : Register). r.width) given.registers same.registers x u h)
+          sym (at_found (λ (y : Name) (k : ℕ). (observed given v).value y ≡ (observed result w).value y) (λ (r : Register). r.name)
+          (λ (r : Register). r.width) given.registers same.registers x u h)
 
       at_cell : (x : Name) (q : ℕ × ℕ) → find (declared_by given).memories x ≡ Some q → (i : ℕ) → (observed result w).cell x i ≡ (observed given v).cell x i
       at_cell x q h i =
-          sym (at_found (λ (y : Name) (k : ℕ × ℕ). (j : ℕ) → (observed given v).cell y j ≡ (observed result w).cell y j) (λ (m : Memory). m.name) (λ (m : Memory). (m.width, m.depth)) given.memories same.memories x q h i)
+          sym (at_found (λ (y : Name) (k : ℕ × ℕ). (j : ℕ) → (observed given v).cell y j ≡ (observed result w).cell y j)
+          (λ (m : Memory). m.name) (λ (m : Memory). (m.width, m.depth)) given.memories same.memories x q h i)
 
       at_port : (x : Name) (u : ℕ) → In (shown_ports given) (x, kind.Wire) → find (declared_by given).wires x ≡ Some u → (observed result w).value x ≡ (observed given v).value x
       at_port x u h f =

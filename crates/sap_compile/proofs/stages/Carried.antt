@@ -60,7 +60,8 @@ module _ (d : Named) (tag sites : ℕ) (a : Declared) (h : DeclaresInterface d t
       root_seat = seat _ _ h.part.root_seat;
     }
 
-    pub interface_carried : AllByRecursion (λ (r : Name × ℕ). IsInterfaceName d sites r.0) b.registers → AllByRecursion (λ (m : Name × (ℕ × ℕ)). IsInterfaceName d sites m.0) b.memories
+    pub interface_carried : AllByRecursion (λ (r : Name × ℕ). IsInterfaceName d sites r.0) b.registers
+        → AllByRecursion (λ (m : Name × (ℕ × ℕ)). IsInterfaceName d sites m.0) b.memories
         → DeclaresInterface d tag sites b
     interface_carried registers memories = record {
       ports = c.ports ∙ h.ports;

@@ -61,7 +61,8 @@ same_memories ms ks e = sym (memories_named ks) ∙ ap (λ (qs : List Stored). m
 
 -- wires
 
-pub wire_read : (shapes : Shapes) (ws : List Wire) (sc : Scope) → AreWires shapes sc ws → (n : Name) (u : ℕ) → find (wire_widths ws) n ≡ Some u → find (readable_after sc ws) n ≡ Some u
+pub wire_read : (shapes : Shapes) (ws : List Wire) (sc : Scope) → AreWires shapes sc ws → (n : Name) (u : ℕ)
+    → find (wire_widths ws) n ≡ Some u → find (readable_after sc ws) n ≡ Some u
 wire_read shapes [] sc a n u h = absurd (cc)
 wire_read shapes (w ∷ ws) sc a n u h = elim (cases_Bool (bytes_eq w.name n)) [
   | inl t ↦ (

@@ -82,7 +82,8 @@ names_shown : (rs : List Var) (ns : List Name) → map shown_of (map (name_port 
 names_shown rs [] = refl
 names_shown rs (x ∷ ns) = ap (λ (zs : List Shown). name_shown rs x ∷ zs) (names_shown rs ns)
 
-module _ (d : Named) (tag sites : ℕ) (p : Nested) (s : Source) (n : Net) (from : PlainStandsFor d tag sites p) (rules : IsPlain p) (flattens : flat.Declares p s) (lowers : low.Declares s n) where
+module _ (d : Named) (tag sites : ℕ) (p : Nested) (s : Source) (n : Net) (from : PlainStandsFor d tag sites p) (rules : IsPlain p)
+    (flattens : flat.Declares p s) (lowers : low.Declares s n) where
   -- what is declared
 
   -- the numbers' widths
@@ -154,10 +155,12 @@ module _ (d : Named) (tag sites : ℕ) (p : Nested) (s : Source) (n : Net) (from
   kept_named : (x : Name) → low.IsKept s x → IsNamed x
   kept_named x (inl h) = variable_among IsNamed p.inputs inputs_named x (subst (λ (is : List Var). is_among x (variable_names is) ≡ true) flattens.inputs h)
   kept_named x (inr (inl h)) =
-      variable_among IsNamed p.registers (all_of_map (λ (q : Name × ℕ). IsNamed q.0) (λ (v : Var). (v.name, v.width)) p.registers from.interface.register_names) x (subst (λ (rs : List Var). is_among x (variable_names rs) ≡ true) flattens.registers h)
+      variable_among IsNamed p.registers (all_of_map (λ (q : Name × ℕ). IsNamed q.0) (λ (v : Var). (v.name, v.width)) p.registers
+      from.interface.register_names) x (subst (λ (rs : List Var). is_among x (variable_names rs) ≡ true) flattens.registers h)
   kept_named x (inr (inr (inl h))) =
       store_among IsNamed p.memories
-      (all_of_map (λ (q : Name × (ℕ × ℕ)). IsNamed q.0) (λ (m : ir.MemoryVariable). (m.name, (m.width, m.depth))) p.memories from.interface.memory_names) x (subst (λ (ms : List ir.MemoryVariable). is_among x (memory_names ms) ≡ true) flattens.memories h)
+      (all_of_map (λ (q : Name × (ℕ × ℕ)). IsNamed q.0) (λ (m : ir.MemoryVariable). (m.name, (m.width, m.depth))) p.memories
+      from.interface.memory_names) x (subst (λ (ms : List ir.MemoryVariable). is_among x (memory_names ms) ≡ true) flattens.memories h)
   kept_named x (inr (inr (inr h))) =
       among_each IsNamed p.ports outputs_named x (subst (λ (ns : List Name). is_among x ns ≡ true) flattens.ports (listed_port s.ports s.wires x h))
 
@@ -230,9 +233,11 @@ module _ (d : Named) (tag sites : ℕ) (p : Nested) (s : Source) (n : Net) (from
 
     of_cell : (x : Name) (q : ℕ × ℕ) → find (declared_in p).memories x ≡ Some q → (i : ℕ) → (observed n v).cell x i ≡ f.cell x i
     of_cell x q h i =
-        at_found (λ (m : Name) (k : ℕ × ℕ). (j : ℕ) → (observed n v).cell m j ≡ e.cell m j) (λ (m : ir.MemoryVariable). m.name) (λ (m : ir.MemoryVariable). (m.width, m.depth)) s.memories lowered.memories x q
+        at_found (λ (m : Name) (k : ℕ × ℕ). (j : ℕ) → (observed n v).cell m j ≡ e.cell m j) (λ (m : ir.MemoryVariable). m.name)
+        (λ (m : ir.MemoryVariable). (m.width, m.depth)) s.memories lowered.memories x q
         (subst (λ (ms : List ir.MemoryVariable). find {X = ℕ × ℕ} (map (λ m. (m.name, (m.width, m.depth))) ms) x ≡ Some q) (sym flattens.memories) h) i
-        ∙ at_found (λ (m : Name) (k : ℕ × ℕ). (j : ℕ) → e.cell m j ≡ f.cell m j) (λ (m : ir.MemoryVariable). m.name) (λ (m : ir.MemoryVariable). (m.width, m.depth)) p.memories flattened.memories x q h i
+        ∙ at_found (λ (m : Name) (k : ℕ × ℕ). (j : ℕ) → e.cell m j ≡ f.cell m j) (λ (m : ir.MemoryVariable). m.name)
+        (λ (m : ir.MemoryVariable). (m.width, m.depth)) p.memories flattened.memories x q h i
 
     pub cycle_stands : (t : Store) (rs : List Refusal) → StandsFor d sites f t rs → StandsFor d sites (observed n v) t rs
     cycle_stands t rs h =
@@ -258,7 +263,8 @@ module _ (d : Named) (tag sites : ℕ) (p : Nested) (s : Source) (n : Net) (from
         (from.run.stands stream fit));
   }
 
-pub stands_for_the_same : (p : Nested) (s : Source) (n m : Net) → IsPlain p → flat.Declares p s → flat.RunsAlike p s → low.Declares s n → low.RunsAlike s n → IsNetlist n → SomeRun n
+pub stands_for_the_same : (p : Nested) (s : Source) (n m : Net) → IsPlain p → flat.Declares p s → flat.RunsAlike p s → low.Declares s n
+    → low.RunsAlike s n → IsNetlist n → SomeRun n
     → IsNetlist m → DeclaresAlike n m → RunsAlike n m → NumbersWires m → StandsForTheSame p m
 stands_for_the_same p s n m rules flattens same lowers alike before some after declares shows numbers ls d from =
     stands_alike n m before after declares _ _ _ (net_stands _ _ _ p s n from rules flattens lowers same alike)

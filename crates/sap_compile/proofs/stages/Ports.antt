@@ -100,7 +100,8 @@ module _ (d : Named) (sites : ℕ) where
       let inputs = pairs_of (is_input (world d)) kind.Input d 0 (world d).entities in
       let registers = pairs_of (is_register (world d)) kind.Register d 0 (world d).entities in
       all_append IsNamed (inputs ++ registers) (site_ports 1 sites)
-      (all_append IsNamed inputs registers (pairs_named (is_input (world d)) kind.Input input_holds 0 (world d).entities) (pairs_named (is_register (world d)) kind.Register register_holds 0 (world d).entities))
+      (all_append IsNamed inputs registers (pairs_named (is_input (world d)) kind.Input input_holds 0 (world d).entities)
+      (pairs_named (is_register (world d)) kind.Register register_holds 0 (world d).entities))
       (sites_named 1 sites (omega arith) (omega arith))
 
 -- a port that shows a wire is none of the inputs
@@ -108,7 +109,8 @@ module _ (d : Named) (sites : ℕ) where
 no_input : kind.Input ≡ kind.Wire → ⊥
 no_input e = cc
 
-pub wire_among : (is : List Var) (shows : Name → PortKind) (ns : List Name) (n : Name) → In (map {B = Shown} (λ x. (x.name, kind.Input)) is ++ map (λ x. (x, shows x)) ns) (n, kind.Wire)
+pub wire_among : (is : List Var) (shows : Name → PortKind) (ns : List Name) (n : Name)
+    → In (map {B = Shown} (λ x. (x.name, kind.Input)) is ++ map (λ x. (x, shows x)) ns) (n, kind.Wire)
     → is_among n ns ≡ true
 wire_among (i ∷ is) shows ns n (inl e) = absurd (no_input (ap (λ (q : Shown). q.1) e))
 wire_among (i ∷ is) shows ns n (inr h) = wire_among is shows ns n h

@@ -19,7 +19,8 @@ use Rattle.sap_trim.specs.Names.{port_names}
 use Rattle.sap_compile.proofs.stages.Declared.{same_registers, same_memories}
 
 -- Where ports are copies, no wire is both a port and no copy.
-apart : (ps : List Name) (ws : List Wire) → AllByRecursion (λ w. is_among w.name ps ≡ true → (a : Operand) × (w.right ≡ Copy a)) ws → length (calculated ws) + length (filter (λ w. is_among w.name ps) ws) ≤ length ws
+apart : (ps : List Name) (ws : List Wire) → AllByRecursion (λ w. is_among w.name ps ≡ true → (a : Operand) × (w.right ≡ Copy a)) ws
+    → length (calculated ws) + length (filter (λ w. is_among w.name ps) ws) ≤ length ws
 apart ps [] c = omega arith
 apart ps (w ∷ ws) c =
     let r = apart ps ws c.1 in

@@ -46,7 +46,8 @@ width_least (suc k) u count v l h =
       | inl t ↦ rw t l
       | inr f ↦
           rw f (width_least k (u + 1) count v (elim (cases_Bool (u == v)) [
-            | inl q ↦ absurd (let e : u ≡ v = (Decides-eqb u v).0 q in let a = leb-false count (2 ^ u) f in let b : 2 ^ u ≡ 2 ^ v = ap (λ (n : ℕ). 2 ^ n) e in omega (arith, a, b, h))
+            | inl q ↦ absurd (let e : u ≡ v = (Decides-eqb u v).0 q in let a = leb-false count (2 ^ u) f in
+                let b : 2 ^ u ≡ 2 ^ v = ap (λ (n : ℕ). 2 ^ n) e in omega (arith, a, b, h))
             | inr q ↦ above_unequal u v l q
           ]) h)
     ]
@@ -69,7 +70,8 @@ unfolding seat_width
 seat_least count v l h = width_least 63 1 count v l h
 
 -- a register that is found with its start is found with its width
-pub found_width : (rs : List Var) (n : Name) (e : ℕ × ℕ) → find {X = ℕ × ℕ} (map (λ r. (r.name, (r.width, r.start))) rs) n ≡ Some e → find (map (λ r. (r.name, r.width)) rs) n ≡ Some e.0
+pub found_width : (rs : List Var) (n : Name) (e : ℕ × ℕ) → find {X = ℕ × ℕ} (map (λ r. (r.name, (r.width, r.start))) rs) n ≡ Some e
+    → find (map (λ r. (r.name, r.width)) rs) n ≡ Some e.0
 found_width [] n e h = absurd (cc)
 found_width (r ∷ rs) n e h =
     elim (cases_Bool (bytes_eq r.name n)) [

@@ -31,7 +31,8 @@ seven a b c d e f g h =
     (r.0, r.1, r.2, r.3, r.4, q.1, p.1)
 
 -- a is some action that is fine
-body_from : (s : Source) (a : Action) → is_guarded s ≡ true → action_is_fine s a ≡ true → (ss gs : List Name) (nested : Bool) (b : Body) → body_is_fine s ss gs nested b ≡ true → BodyFine s ss gs nested b
+body_from : (s : Source) (a : Action) → is_guarded s ≡ true → action_is_fine s a ≡ true → (ss gs : List Name) (nested : Bool) (b : Body)
+    → body_is_fine s ss gs nested b ≡ true → BodyFine s ss gs nested b
 body_from s a g k ss gs nested stop h = tt
 body_from s a g k ss gs nested (act d rest) h =
     let p = three_parts (action_is_fine s d) (keeps_seats ss d) (body_is_fine s ss gs nested rest) h in
@@ -56,17 +57,20 @@ pair_from u (Some e) h =
 
 seat_is : (s : Source) (x : Name) (count : ℕ) → is_seat s x count ≡ true → IsSeat s x count
 seat_is s x count h =
-    let p = and_parts (of_shape (λ u. u == seat_width count) (λ n. n == 0) (find (map (λ r. (r.name, (r.width, r.start))) s.registers) x)) (nat_le count (2 ^ seat_width count)) h in
+    let p = and_parts (of_shape (λ u. u == seat_width count) (λ n. n == 0) (find (map (λ r. (r.name, (r.width, r.start))) s.registers) x))
+    (nat_le count (2 ^ seat_width count)) h in
     (pair_from (seat_width count) _ p.0, leb-true count (2 ^ seat_width count) p.1)
 
 seat_from : (s : Source) (x : Name) (f : Forest) → seat_is_fine s x f ≡ true → SeatFine s x f
 seat_from s x none h = tt
 seat_from s x (state y b kids rest) h = seat_is s x (size (state y b kids rest)) h
 
-forest_from : (s : Source) (a : Action) → is_guarded s ≡ true → action_is_fine s a ≡ true → (ss gs : List Name) (f : Forest) → forest_is_fine s ss gs f ≡ true → ForestFine s ss gs f
+forest_from : (s : Source) (a : Action) → is_guarded s ≡ true → action_is_fine s a ≡ true → (ss gs : List Name) (f : Forest)
+    → forest_is_fine s ss gs f ≡ true → ForestFine s ss gs f
 forest_from s a g k ss gs none h = tt
 forest_from s a g k ss gs (state x b kids rest) h =
-    let p = five_parts (body_is_fine s ss gs (has_states kids) b) (ends_in_transfers b) (seat_is_fine s (seat_name x) kids) (forest_is_fine s ss (group_names kids) kids) (forest_is_fine s ss gs rest) h in (
+    let p = five_parts (body_is_fine s ss gs (has_states kids) b) (ends_in_transfers b) (seat_is_fine s (seat_name x) kids)
+    (forest_is_fine s ss (group_names kids) kids) (forest_is_fine s ss gs rest) h in (
       body_from s a g k ss gs (has_states kids) b p.0,
       p.1,
       seat_from s (seat_name x) kids p.2,

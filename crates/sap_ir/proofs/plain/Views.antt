@@ -80,7 +80,8 @@ row_forest-items end_of-PlainState = refl
 row_forest-items (more_of-PlainState s rest) = ap (state_before s) (row_forest-items rest)
 
 -- a state as code takes it
-pub state_before-out : (s : PlainState) (f : Forest) → state_before s f ≡ state (out-PlainState s).name (body_of (out-PlainState s).cmds.items) (forest_of (out-PlainState s).children.items) f
+pub state_before-out : (s : PlainState) (f : Forest)
+    → state_before s f ≡ state (out-PlainState s).name (body_of (out-PlainState s).cmds.items) (forest_of (out-PlainState s).children.items) f
 unfolding state_before out-PlainState shown-the_row-PlainState-0 out
 state_before-out (PlainState' x cs shape row) f =
     ap (λ (kids : Forest). state x (body_of cs.items) kids f) (row_forest-items row ∙ ap forest_of (sym (items_shown-the_row-PlainState-0 shape row)))

@@ -37,7 +37,8 @@ pub record SoFar (base shows : Shows) (ls : Levels) (fs : List Field) (channel c
   pub written : IsWritten Output (printed_text base ls fs) (rest_of t channel) count gained
 
 -- on the way: the steps stand behind the cycles of some lines
-pub record Along (base shows : Shows) (ls : Levels) (fs : List Field) (channel : ℕ) (stands : List (List Given) → Type 0) (r : Reader) (cycle given : ℕ) (waiting : List ℕ) (before after : Option Told) : Type 0 where
+pub record Along (base shows : Shows) (ls : Levels) (fs : List Field) (channel : ℕ) (stands : List (List Given)
+    → Type 0) (r : Reader) (cycle given : ℕ) (waiting : List ℕ) (before after : Option Told) : Type 0 where
   pub lines : List Span
   pub behind : stands (cycles_of lines)
   pub cycle_is : cycle ≡ length (cycles_of lines)
@@ -98,7 +99,8 @@ read_known ls other channel next r s k n (Some m) same is least by = record {
 }
 
 module _ (base shows : Shows) (back : (lines : List (List Given)) (text : List ℕ) → shows lines text → base lines text) (ls : Levels) (fs : List Field) (channel count k : ℕ)
-    (lines : List Span) (r s : Reader) (waiting : List ℕ) (quiet : IsDecided r.pending ⊎ (waiting ≡ [])) (t m : Told) (so : SoFar base shows ls fs channel count lines r waiting t m) where
+    (lines : List Span) (r s : Reader) (waiting : List ℕ) (quiet : IsDecided r.pending
+    ⊎ (waiting ≡ [])) (t m : Told) (so : SoFar base shows ls fs channel count lines r waiting t m) where
   abbrev whole : List ℕ
   whole = rest_of t channel
 
@@ -123,22 +125,26 @@ module _ (base shows : Shows) (back : (lines : List (List Given)) (text : List �
 
   pub written_on : ReadsLeast channel r.pending k m → IsWritten Output (printed_text base ls fs) whole (count + k) so.gained
   written_on least =
-      written_read base ls fs whole count lines r so.gained waiting so.follows (back (cycles_of lines) (so.gained ++ waiting) so.shown) quiet k (wanted_first least) so.shown_along so.written
+      written_read base ls fs whole count lines r so.gained waiting so.follows (back (cycles_of lines) (so.gained ++ waiting) so.shown)
+      quiet k (wanted_first least) so.shown_along so.written
 
 -- a line more
 
 module _ (ls : Levels) (fs : List Field) (channel count k : ℕ) (lines : List Span) (r s : Reader)
     (law : GoesOn) (few : r.count < 2 ^ 32) (fields : s.fields ≡ r.fields) (counts : s.count ≡ count_after Line r.count) where
-  module _ (base shows : Shows) (back : (lines : List (List Given)) (text : List ℕ) → shows lines text → base lines text) (waiting : List ℕ) (quiet : IsDecided r.pending ⊎ (waiting ≡ []))
+  module _ (base shows : Shows) (back : (lines : List (List Given)) (text : List ℕ) → shows lines text
+      → base lines text) (waiting : List ℕ) (quiet : IsDecided r.pending ⊎ (waiting ≡ []))
       (t m : Told) (so : SoFar base shows ls fs channel count lines r waiting t m) (read : ReadFor ls channel Line r s k m) where
     pub line_follows : (rest : List ℕ) → Follows ls fs (take (count + k) (rest_of t channel) ++ rest) (lines ++ s.line ∷ []) s rest
     line_follows rest =
         subst (λ (bytes : List ℕ). Follows ls fs bytes (lines ++ s.line ∷ []) s rest) (front_is base shows back ls fs channel count k lines r s waiting quiet t m so rest)
-        (law ls fs (take count (rest_of t channel) ++ (take k (rest_of m channel) ++ rest)) lines r s (take k (rest_of m channel) ++ rest) rest (so.follows (take k (rest_of m channel) ++ rest)) few fields counts
+        (law ls fs (take count (rest_of t channel) ++ (take k (rest_of m channel) ++ rest)) lines r s (take k (rest_of m channel) ++ rest)
+        rest (so.follows (take k (rest_of m channel) ++ rest)) few fields counts
         (read.by rest (inl (search rules))))
 
     -- the first of all cycles, those of the line behind the others
-    along_on : (text : List ℕ) → ((first : ℕ) → (part more : List ℕ) × ((shown : List ℕ) → shows (cycles_of lines) shown → shows (cycles_of lines ++ take first (cycles_in s.line)) (shown ++ part)) × (text ≡ part ++ more))
+    along_on : (text : List ℕ) → ((first : ℕ) → (part more : List ℕ)
+        × ((shown : List ℕ) → shows (cycles_of lines) shown → shows (cycles_of lines ++ take first (cycles_in s.line)) (shown ++ part)) × (text ≡ part ++ more))
         → ShowsAlong base (cycles_of lines ++ cycles_in s.line) ((so.gained ++ waiting) ++ text)
     along_on text add first = elim (cases_lt (length (cycles_of lines)) first) [
       | inl behind ↦
@@ -162,7 +168,8 @@ module _ (ls : Levels) (fs : List Field) (channel count k : ℕ) (lines : List S
     ]
 
     pub line_so_far : (later : Shows) (text : List ℕ) → ((shown : List ℕ) → shows (cycles_of lines) shown → later (cycles_of lines ++ cycles_in s.line) (shown ++ text))
-        → ((first : ℕ) → (part rest : List ℕ) × ((shown : List ℕ) → shows (cycles_of lines) shown → shows (cycles_of lines ++ take first (cycles_in s.line)) (shown ++ part)) × (text ≡ part ++ rest))
+        → ((first : ℕ) → (part rest : List ℕ) × ((shown : List ℕ) → shows (cycles_of lines) shown
+        → shows (cycles_of lines ++ take first (cycles_in s.line)) (shown ++ part)) × (text ≡ part ++ rest))
         → (piece left : List ℕ) → piece ++ left ≡ waiting ++ text → SoFar base later ls fs channel (count + k) (lines ++ s.line ∷ []) s left t (added 1 piece (moved channel k m))
     line_so_far later text more along piece left whole = record {
       gained = so.gained ++ piece;
@@ -183,10 +190,12 @@ pub along_more : (base shows later : Shows) (back : (lines : List (List Given)) 
     (stands then : List (List Given) → Type 0) (r s : Reader) (cycle cycle_now given given_now k : ℕ)
     (waiting left : List ℕ) (before mid one two : Option Told) → GoesOn → r.count < 2 ^ 32 → s.fields ≡ r.fields → s.count ≡ count_after Line r.count
     → cycle_now ≡ cycle + s.line.count → cycle_now ≤ cycle + 65535 → ((cycles : List (List Given)) → stands cycles → then (cycles ++ cycles_in s.line))
-    → CyclesShown stands shows later cycle (cycles_in s.line) waiting left one two → IsDecided s.pending ⊎ (left ≡ []) → given_now ≡ given + k → one ≡ option_map (moved channel k) mid
+    → CyclesShown stands shows later cycle (cycles_in s.line) waiting left one two → IsDecided s.pending ⊎ (left ≡ [])
+    → given_now ≡ given + k → one ≡ option_map (moved channel k) mid
     → IfSome mid (ReadFor ls channel Line r s k)
     → Along base shows ls fs channel stands r cycle given waiting before mid → Along base later ls fs channel then s cycle_now given_now left before two
-along_more base shows later back ls fs channel stands then r s cycle cycle_now given given_now k waiting left before mid one two law few fields counts steps most goes so quiet gave moved_on read a =
+along_more base shows later back ls fs channel stands then r s cycle cycle_now given given_now k waiting left before mid one two law few
+    fields counts steps most goes so quiet gave moved_on read a =
     let cycles : cycles_of (a.lines ++ s.line ∷ []) ≡ cycles_of a.lines ++ cycles_in s.line = cycles_more a.lines s.line in
     let size : length (cycles_of a.lines ++ cycles_in s.line) ≡ length (cycles_of a.lines) + length (cycles_in s.line) = length-append (cycles_of a.lines) (cycles_in s.line) in
     let sizes : length (cycles_of (a.lines ++ s.line ∷ [])) ≡ length (cycles_of a.lines ++ cycles_in s.line) = ap length cycles in

@@ -68,7 +68,8 @@ module _ (base shows : Shows) (back : (lines : List (List Given)) (text : List �
   -- all lines were given, and what the steps in their cycles show is written, but what waits
   module _ (s : Reader) (next : Next) (lines : List Span) (fault : Option StimFault) (quiet : IsDecided r.pending ⊎ (waiting ≡ [])) (t m : Told)
       (so : SoFar base shows ls fs channel given lines r waiting t m) (read : ReadFor ls channel next r s k m) where
-    closed_told : stimulus_of ls fs (rest_of t channel) ≡ parsed_as (cycles_of lines) fault → stimulus_of ls fs (take (given + k) (rest_of t channel)) ≡ parsed_as (cycles_of lines) fault
+    closed_told : stimulus_of ls fs (rest_of t channel) ≡ parsed_as (cycles_of lines) fault
+        → stimulus_of ls fs (take (given + k) (rest_of t channel)) ≡ parsed_as (cycles_of lines) fault
         → Followed base ls fs channel fault waiting t (moved channel k m)
     closed_told is enough = record {
       count = given + k;
@@ -82,7 +83,8 @@ module _ (base shows : Shows) (back : (lines : List (List Given)) (text : List �
     }
 
     -- what all bytes give, and what those give that were read
-    all_give : (law : (bytes rest : List ℕ) → Follows ls fs bytes lines r rest → Tells next (to_come ls r rest) s.line (to_come ls s []) → stimulus_of ls fs bytes ≡ parsed_as (cycles_of lines) fault)
+    all_give : (law : (bytes rest : List ℕ) → Follows ls fs bytes lines r rest → Tells next (to_come ls r rest) s.line (to_come ls s [])
+        → stimulus_of ls fs bytes ≡ parsed_as (cycles_of lines) fault)
         → stimulus_of ls fs (take (given + k) (rest_of t channel)) ≡ parsed_as (cycles_of lines) fault
     all_give law =
         let piece : List ℕ = take k (rest_of m channel) in
@@ -116,7 +118,8 @@ module _ (base shows : Shows) (back : (lines : List (List Given)) (text : List �
       (λ t n. Tells (Fault fault) (to_come ls r (rest_of t channel)) s.line (to_come ls s (rest_of n channel))) (ReadFor ls channel (Fault fault) r s k) before mid one moved_on
       (λ t m so told known. closed_told s (Fault fault) a.lines (Some fault) a.quiet t m so known
       (law ls fs (rest_of t channel) a.lines r (rest_of m channel) s.line (to_come ls s (rest_of (moved channel k m) channel)) fault (follows_all a.lines t m so) told)
-      (all_give s (Fault fault) a.lines (Some fault) a.quiet t m so known (λ bytes rest follows is. law ls fs bytes a.lines r rest s.line (to_come ls s []) fault follows is))) a.told tells read
+      (all_give s (Fault fault) a.lines (Some fault) a.quiet t m so known
+      (λ bytes rest follows is. law ls fs bytes a.lines r rest s.line (to_come ls s []) fault follows is))) a.told tells read
 
   -- a read failed: the lines before it are shown
 
@@ -134,18 +137,21 @@ module _ (base shows : Shows) (back : (lines : List (List Given)) (text : List �
   abbrev WantsMore : Told → Type 0
   WantsMore m = IsDecided (r.pending ++ take k (rest_of m channel)) → ⊥
 
-  wants_of : (lines : List Span) (t m : Told) (so : SoFar base shows ls fs channel given lines r waiting t m) → WantsMore m → IsDecided (r.pending ++ take k (drop given (rest_of t channel))) → ⊥
+  wants_of : (lines : List Span) (t m : Told) (so : SoFar base shows ls fs channel given lines r waiting t m) → WantsMore m
+      → IsDecided (r.pending ++ take k (drop given (rest_of t channel))) → ⊥
   wants_of lines t m so wants = subst (λ (l : List ℕ). IsDecided (r.pending ++ take k l) → ⊥) (left_is channel given so.gained t m so.going) wants
 
   written_now : (lines : List Span) → IsDecided r.pending ⊎ (waiting ≡ []) → (t m : Told) (so : SoFar base shows ls fs channel given lines r waiting t m) → WantsMore m
       → IsWritten Input (printed_text base ls fs) (rest_of t channel) (given + k) so.gained
   written_now lines quiet t m so wants =
-      all_written base ls fs (rest_of t channel) given lines r so.gained waiting so.follows (back (cycles_of lines) (so.gained ++ waiting) so.shown) quiet k (wants_of lines t m so wants)
+      all_written base ls fs (rest_of t channel) given lines r so.gained waiting so.follows
+      (back (cycles_of lines) (so.gained ++ waiting) so.shown) quiet k (wants_of lines t m so wants)
 
   needed_now : (lines : List Span) → IsDecided r.pending ⊎ (waiting ≡ []) → (t m : Told) (so : SoFar base shows ls fs channel given lines r waiting t m) → WantsMore m
       → (count : ℕ) → count ≤ given + k + 4096 → IsNeeded (printed_fault ls fs) (rest_of t channel) count
   needed_now lines quiet t m so wants count far =
-      not_told base ls fs (rest_of t channel) given lines r so.gained waiting so.follows (back (cycles_of lines) (so.gained ++ waiting) so.shown) quiet k (count - 4096) (wants_of lines t m so wants)
+      not_told base ls fs (rest_of t channel) given lines r so.gained waiting so.follows
+      (back (cycles_of lines) (so.gained ++ waiting) so.shown) quiet k (count - 4096) (wants_of lines t m so wants)
       (omega (arith, far))
 
   broken_told : 2 < channel → (lines : List Span) → IsDecided r.pending ⊎ (waiting ≡ []) → (t m : Told) → SoFar base shows ls fs channel given lines r waiting t m → WantsMore m
@@ -153,7 +159,8 @@ module _ (base shows : Shows) (back : (lines : List (List Given)) (text : List �
   broken_told above lines quiet t m so wants =
       let name : name_if_reading (m.uses channel) ≡ name_if_reading (t.uses channel)
       = ap name_if_reading (use_now channel given so.gained t m so.going) ∙ name_moved given (t.uses channel) in
-      subst (λ (n : Told). Broken base ls fs channel Input t n) (sym (blame_is channel (name_if_reading (m.uses channel)) m above (name_if_reading (m.uses channel)) (moved channel k m)))
+      subst (λ (n : Told). Broken base ls fs channel Input t n)
+      (sym (blame_is channel (name_if_reading (m.uses channel)) m above (name_if_reading (m.uses channel)) (moved channel k m)))
       (record {
         count = given + k;
         gained = so.gained;
@@ -167,7 +174,8 @@ module _ (base shows : Shows) (back : (lines : List (List Given)) (text : List �
   pub broken : 2 < channel → (before mid one : Option Told) → one ≡ option_map (λ t. blame_at channel (name_if_reading (t.uses channel)) (moved channel k t)) mid
       → IfSome mid WantsMore → Along base shows ls fs channel stands r cycle given waiting before mid → Between before one (Broken base ls fs channel Input)
   broken above before mid one read wants a =
-      knowing (SoFar base shows ls fs channel given a.lines r waiting) (Broken base ls fs channel Input) (λ t. blame_at channel (name_if_reading (t.uses channel)) (moved channel k t)) WantsMore
+      knowing (SoFar base shows ls fs channel given a.lines r waiting) (Broken base ls fs channel Input)
+      (λ t. blame_at channel (name_if_reading (t.uses channel)) (moved channel k t)) WantsMore
       before mid one read (λ t m so known. broken_told above a.lines a.quiet t m so known) a.told wants
 
   -- why: what is read brings what was given to its bound, and none of it tells a refused line
@@ -197,15 +205,18 @@ module _ (base shows : Shows) (back : (lines : List (List Given)) (text : List �
   failed_for now (Some m) wants fails = record { wants = wants; fails = fails }
 
   pub broken_cause : (now : ℕ) (before mid one : Option Told) → given < 2 ^ 32 → now ≡ given + k → now < 2 ^ 32 → one ≡ option_map failed_read mid → IfSome mid WantsMore
-      → IfSome one (FailsToRead channel now 4096) → Along base shows ls fs channel stands r cycle given waiting before mid → Between before one (FailsFor (GoesTooFar (printed_fault ls fs) channel) Input)
+      → IfSome one (FailsToRead channel now 4096) → Along base shows ls fs channel stands r cycle given waiting before mid
+      → Between before one (FailsFor (GoesTooFar (printed_fault ls fs) channel) Input)
   broken_cause now before mid one few gave bound is wants why a =
       knowing (SoFar base shows ls fs channel given a.lines r waiting) (FailsFor (GoesTooFar (printed_fault ls fs) channel) Input) failed_read (FailedFor now)
-      before mid one is (λ t m so known. reaches t m a.lines a.quiet so few known.wants (fails_before channel k given now (name_if_reading (m.uses channel)) m gave bound known.fails)) a.told
+      before mid one is (λ t m so known. reaches t m a.lines a.quiet so few known.wants
+      (fails_before channel k given now (name_if_reading (m.uses channel)) m gave bound known.fails)) a.told
       (failed_for now mid wants (known_before failed_read (FailsToRead channel now 4096) mid one is why))
 
 -- a write failed: what waits and the texts of the last line are cut
 
-module _ (base shows later : Shows) (was : (lines : List (List Given)) (text : List ℕ) → shows lines text → base lines text) (back : (lines : List (List Given)) (text : List ℕ) → later lines text → base lines text)
+module _ (base shows later : Shows) (was : (lines : List (List Given)) (text : List ℕ) → shows lines text
+    → base lines text) (back : (lines : List (List Given)) (text : List ℕ) → later lines text → base lines text)
     (ls : Levels) (fs : List Field) (channel : ℕ) (stands : List (List Given) → Type 0) (r s : Reader) (cycle given k : ℕ) (waiting : List ℕ)
     (law : GoesOn) (few : r.count < 2 ^ 32) (fields : s.fields ≡ r.fields) (counts : s.count ≡ count_after Line r.count) where
   module _ (first : ℕ) (within : first ≤ s.line.count) (text : List ℕ) (adds : Adds stands shows later cycle (replicate first s.line.inputs) text) (part : ℕ) where
@@ -260,7 +271,8 @@ pub cut_cause : (base shows : Shows) (ls : Levels) (fs : List Field) (channel : 
     → Between one two (λ n p. IsWriting (n.uses 1) → length (p.written 1) ≡ p.room) → Along base shows ls fs channel stands r cycle given waiting before mid
     → Between before two (FailsFor (GoesTooFar (printed_fault ls fs) channel) Output)
 cut_cause base shows ls fs channel stands r cycle given k waiting text above before mid one two read failed full a =
-    known_two (SoFar base shows ls fs channel given a.lines r waiting) (FailsFor (GoesTooFar (printed_fault ls fs) channel) Output) (λ n o. IsSomeAnd o (λ p. IsWriting (n.uses 1) → length (p.written 1) ≡ p.room)) (moved channel k)
+    known_two (SoFar base shows ls fs channel given a.lines r waiting) (FailsFor (GoesTooFar (printed_fault ls fs) channel) Output)
+    (λ n o. IsSomeAnd o (λ p. IsWriting (n.uses 1) → length (p.written 1) ≡ p.room)) (moved channel k)
     (λ t. blamed (codes "output") (added 1 (take failed.count text) t)) before mid one two read failed.told
     (λ t m so because. λ writing. because (subst IsWriting (one_use m) (subst IsWriting (sym (output_use channel given so.gained t m so.going above)) writing))) a.told full where
       one_use : (m : Told) → m.uses 1 ≡ (moved channel k m).uses 1

@@ -62,7 +62,8 @@ knowing_two S R K f h (Some t) (Some m) one two is also step s known =
     subst (λ (o : Option Told). Between (Some t) o R) (sym (also ∙ ap (option_map h) is)) (step t m s known)
 
 -- with what is known between two calls
-pub known_two : (S R : Told → Told → Type 0) (K : Told → Option Told → Type 0) (f h : Told → Told) (before mid one two : Option Told) → one ≡ option_map f mid → two ≡ option_map h one
+pub known_two : (S R : Told → Told → Type 0) (K : Told → Option Told → Type 0) (f h : Told → Told) (before mid one two : Option Told)
+    → one ≡ option_map f mid → two ≡ option_map h one
     → ((t m : Told) → S t m → K (f m) (Some (h (f m))) → R t (h (f m))) → Between before mid S → IfSome one (λ n. K n two) → Between before two R
 known_two S R K f h None mid one two is also step s known = tt
 known_two S R K f h (Some t) None one two is also step s known = absurd s

@@ -60,12 +60,14 @@ all_shown behind shows later count n line waited waits before after is so =
 cycle_more : (cycles : List (List Given)) (x : List Given) (i : ℕ) → (cycles ++ replicate i x) ++ x ∷ [] ≡ cycles ++ replicate (i + 1) x
 cycle_more cycles x i = append_assoc cycles (replicate i x) (x ∷ []) ∙ ap (λ (xs : List (List Given)). cycles ++ xs) (replicate_more i x)
 
-pub behind_more : (behind now after : List (List Given) → Type 0) (x line : List Given) (i : ℕ) → line ≡ x → ((cycles : List (List Given)) → behind cycles → now (cycles ++ replicate i x))
+pub behind_more : (behind now after : List (List Given) → Type 0) (x line : List Given) (i : ℕ) → line ≡ x
+    → ((cycles : List (List Given)) → behind cycles → now (cycles ++ replicate i x))
     → ((cycles : List (List Given)) → now cycles → after (cycles ++ line ∷ [])) → (cycles : List (List Given)) → behind cycles → after (cycles ++ replicate (i + 1) x)
 behind_more behind now after x line i same so step cycles h =
     subst after (cycle_more cycles x i) (subst (λ (l : List Given). after ((cycles ++ replicate i x) ++ l ∷ [])) same (step (cycles ++ replicate i x) (so cycles h)))
 
-module _ (behind now : List (List Given) → Type 0) (shows later last : Shows) (count cycle i : ℕ) (x line : List Given) (waited waits text bytes : List ℕ) (before mid after : Option Told)
+module _ (behind now : List (List Given) → Type 0) (shows later last : Shows) (count cycle i : ℕ) (x line : List Given)
+    (waited waits text bytes : List ℕ) (before mid after : Option Told)
     (same : line ≡ x) (bytes_are : bytes ≡ text) (stands : (cycles : List (List Given)) → behind cycles → now (cycles ++ replicate i x)) (is : cycle ≡ count + i)
     (step : (cycles : List (List Given)) (shown : List ℕ) → now cycles → cycle + 1 ≡ length cycles + 1 → later cycles shown → last (cycles ++ line ∷ []) (shown ++ text))
     (so : CyclesShown behind shows later count (replicate i x) waited waits before mid) where
@@ -90,7 +92,8 @@ module _ (behind now : List (List Given) → Type 0) (shows later last : Shows) 
     | inl all ↦ (
       so.text ++ text,
       [],
-      subst (λ (cycles : List (List Given)). Adds behind shows shows count cycles (so.text ++ text)) (sym (take_all first (replicate (i + 1) x) (omega (arith, all, length-replicate (i + 1) x))))
+      subst (λ (cycles : List (List Given)). Adds behind shows shows count cycles (so.text ++ text))
+          (sym (take_all first (replicate (i + 1) x) (omega (arith, all, length-replicate (i + 1) x))))
           (λ cycles shown h many is_shown. back (cycles ++ replicate (i + 1) x) (shown ++ (so.text ++ text)) (adds_more cycles shown h many is_shown)),
       sym (append-nil (so.text ++ text)),
     )

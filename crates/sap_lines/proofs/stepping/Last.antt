@@ -77,5 +77,6 @@ module _ (shows : Shows) (ls : Levels) (fs : List Field) (channel : ℕ) (fault 
       → IfSome mid (λ m. IsWriting (m.uses 1) → FillsRoom 1 waiting m one) → Between before mid (Followed shows ls fs channel fault waiting)
       → Between before one (FailsFor (GoesTooFar (printed_fault ls fs) channel) Output)
   whole_cause above before mid one failed full f =
-      known_after (Followed shows ls fs channel fault waiting) (FailsFor (GoesTooFar (printed_fault ls fs) channel) Output) (cut_at failed.count) (λ m o. IsWriting (m.uses 1) → FillsRoom 1 waiting m o)
+      known_after (Followed shows ls fs channel fault waiting) (FailsFor (GoesTooFar (printed_fault ls fs) channel) Output)
+      (cut_at failed.count) (λ m o. IsWriting (m.uses 1) → FillsRoom 1 waiting m o)
       before mid one failed.told (last_cause above failed.count) f full

@@ -41,7 +41,8 @@ module _ (channel : ℕ) (name : List ℕ) (R Q : Told → Told → Type 0) wher
         onto None r = r
         onto (Some n) r = h t n can r
 
-  pub from_open_then : (f : Told → Told) (old one two three : Option Told) → one ≡ option_map (opened channel name) old → three ≡ option_map f two → IfSome old (CanOpen channel name)
+  pub from_open_then : (f : Told → Told) (old one two three : Option Told) → one ≡ option_map (opened channel name) old
+      → three ≡ option_map f two → IfSome old (CanOpen channel name)
       → ((t n : Told) → CanOpen channel name t → R (opened channel name t) n → Q t (f n)) → Between one two R → Between old three Q
   from_open_then f None one two three is also can h b = tt
   from_open_then f (Some t) one two three is also can h b =
@@ -92,7 +93,8 @@ module _ (channel : ℕ) (name : List ℕ) (above : 2 < channel) (t n : Told) (c
     grew = record { files = going.files; output = going.output; lines = going.lines; room = going.room }
 
   module _ (shows : Shows) (ls : Levels) (fs : List Field) where
-    all_shown : (fault : Option StimFault) (f : Followed shows ls fs channel fault [] (opened channel name t) n) → shows (stimulus_of ls fs (rest_of (opened channel name t) channel)).stream f.gained
+    all_shown : (fault : Option StimFault) (f : Followed shows ls fs channel fault [] (opened channel name t) n)
+        → shows (stimulus_of ls fs (rest_of (opened channel name t) channel)).stream f.gained
     all_shown fault f = subst (shows (stimulus_of ls fs (rest_of (opened channel name t) channel)).stream) (append-nil f.gained) f.shown
 
     pub printed : (fault : Option StimFault) → Followed shows ls fs channel fault [] (opened channel name t) n → Printed shows ls fs name fault t (finished channel n)

@@ -62,7 +62,8 @@ front_lines : (ls : Levels) (fs : List Field) (bytes : List ℕ) (few many : ℕ
 front_lines ls fs bytes few many cycles less are =
     let first : List (List Given) = (stimulus_of ls fs (take few bytes)).stream in
     let more : List ℕ = take (many - few) (drop few bytes) in
-    let both : take many bytes ≡ take few bytes ++ more = (let sum : many ≡ few + (many - few) = omega (arith, less) in ap (λ (n : ℕ). take n bytes) sum ∙ front_more few (many - few) bytes) in
+    let both : take many bytes ≡ take few bytes ++ more =
+    (let sum : many ≡ few + (many - few) = omega (arith, less) in ap (λ (n : ℕ). take n bytes) sum ∙ front_more few (many - few) bytes) in
     let (rest, is) = begins_so ls fs 1 (take few bytes) more in
     sym (take-append-le (length first) first rest (omega arith) ∙ take_all (length first) first (omega arith))
     ∙ ap (take (length first)) (sym is ∙ ap (λ (l : List ℕ). (stimulus_of ls fs l).stream) (sym both) ∙ are)

@@ -17,7 +17,8 @@ abbrev pub AddsAlong : (behind : List (List Given) → Type 0) → (shows : Show
 AddsAlong behind shows count cycles text = (first : ℕ) → (part more : List ℕ) × Adds behind shows shows count (take first cycles) part × (text ≡ part ++ more)
 
 -- what these cycles show was written behind what waited, but what waits now
-pub record CyclesShown (behind : List (List Given) → Type 0) (shows later : Shows) (count : ℕ) (cycles : List (List Given)) (waited waits : List ℕ) (before after : Option Told) : Type 0 where
+pub record CyclesShown (behind : List (List Given) → Type 0) (shows later : Shows) (count : ℕ) (cycles : List (List Given))
+    (waited waits : List ℕ) (before after : Option Told) : Type 0 where
   pub text : List ℕ
   pub adds : Adds behind shows later count cycles text
   pub along : AddsAlong behind shows count cycles text

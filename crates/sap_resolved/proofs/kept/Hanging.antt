@@ -102,7 +102,8 @@ module _ (ls : Levels) (le : ℕ → ℕ → Bool) (ds : List Decl) (es : List E
         let p = none_two (name_faults assigning means target) (expression_faults means e (register_width (means target.name))) f in
         stored (entity_number es target.name) target.name (k.named assigning target.name target.place p.0) (or_left _ _ (kinds.register target.name target.place p.0))
     simple_same m (write target index e) f =
-        let p = none_three (name_faults indexed means target) (expression_faults means index (index_width (means target.name))) (expression_faults means e (cell_width (means target.name))) f in
+        let p = none_three (name_faults indexed means target) (expression_faults means index (index_width (means target.name)))
+        (expression_faults means e (cell_width (means target.name))) f in
         stored (entity_number es target.name) target.name (k.named indexed target.name target.place p.0) (or_right _ _ (kinds.memory target.name target.place p.0))
     simple_same m (set_tag place target tag) f = both_none (is_dynamic_store ds n) (is_dynamic w x)
     simple_same m (set_cell_tag place target index tag) f = both_none (is_dynamic_store ds n) (is_dynamic w x)
@@ -156,10 +157,12 @@ module _ (ls : Levels) (le : ℕ → ℕ → Bool) (ds : List Decl) (es : List E
         let p = none_two (state_faults ls.names le means s) (states_faults ls.names le means rest) f in
         and_or (is_dynamic_store ds n) (is_dynamic w x) _ _ _ _ (state_same m y s p.0) (states_same (m + length (state_sites es s)) (y + states_in s) rest p.1)
 
-  own_same : (a y : ℕ) (place : Place) (name : Mention) (kind : Kind) (body : CommandBlock) (children : StateList) → LaidState ls es w a y (state_node place name kind body children)
+  own_same : (a y : ℕ) (place : Place) (name : Mention) (kind : Kind) (body : CommandBlock) (children : StateList)
+      → LaidState ls es w a y (state_node place name kind body children)
       → (tree.is_dynamic_kind kind && bytes_eq name.name n) ≡ (is_dynamic w x && nat_eq x y)
   own_same a y place name kind body children l =
-      of_state y name.name (tree.is_dynamic_kind kind) (named_at es y name.name (laid_named ls es w a y place name kind body children l) (laid_name ls es w a y place name kind body children l))
+      of_state y name.name (tree.is_dynamic_kind kind)
+      (named_at es y name.name (laid_named ls es w a y place name kind body children l) (laid_name ls es w a y place name kind body children l))
       (sym (here_dynamic ls es w a y place name kind body children l))
 
   child_same : (m a y : ℕ) (g : StateList) → Laid ls es w a y g → is_dynamic_child g n ≡ (is_dynamic w x && among (group_of ls es m y g) x)
@@ -246,7 +249,8 @@ module _ (ls : Levels) (le : ℕ → ℕ → Bool) (ds : List Decl) (es : List E
       command_rows m (if_else place condition one other) f =
           let p = none_three (expression_faults what condition (Some 1)) (block_faults ls.names what one) (else_faults ls.names what other) f in
           let c = if_else place condition one other in
-          ap (λ (l : List Bool). l ∷ (block_rows (filled_block w at (block_of ls here m one)) ++ block_rows (filled_block w at (else_of ls here (m + length (block_sites here one)) other)))) (command_row m c f)
+          ap (λ (l : List Bool). l ∷ (block_rows (filled_block w at (block_of ls here m one))
+          ++ block_rows (filled_block w at (else_of ls here (m + length (block_sites here one)) other)))) (command_row m c f)
           ∙ ap (λ (l : List (List Bool)). row_of es (tree.touches ds home c) ∷ l)
           (parts command_at (points.block_points one) (points.else_points other) _ _ (body_rows m one p.1) (else_rows (m + length (block_sites here one)) other p.2))
       command_rows m (try_then c place one other) f =

@@ -215,8 +215,11 @@ module _ (ls : Levels) (h : Surroundings) (k : Known h.entities) (w : World) (at
         let p = none_three (expression_faults means condition (Some 1)) (block_faults ls.names means then_block) (else_faults ls.names means else_block) f in
         (term_kept names k condition (Some 1) p.0, block_kept n then_block p.1, else_kept (n + length (block_sites h then_block)) else_block p.2)
     command_kept n (try_then c place accepted refused) f =
-        let p = none_three (simple_faults ls.names means c) (block_faults ls.names means accepted) (block_faults ls.names means refused) f in
-        (step_kept (site_number h n c) c p.0, block_kept (n + length (simple_sites h c)) accepted p.1, block_kept (n + length (simple_sites h c) + length (block_sites h accepted)) refused p.2)
+        let p = none_three (simple_faults ls.names means c) (block_faults ls.names means accepted) (block_faults ls.names means refused) f in (
+          step_kept (site_number h n c) c p.0,
+          block_kept (n + length (simple_sites h c)) accepted p.1,
+          block_kept (n + length (simple_sites h c) + length (block_sites h accepted)) refused p.2,
+        )
     command_kept n (case_of place e arms) f =
         let p = none_two (expression_faults means e None) (arms_faults ls.names means (own means e) arms) f in
         (term_kept names k e None p.0, arms_kept n (own means e) arms p.1)

@@ -99,7 +99,8 @@ present ls (d ∷ ds) fs gs zero plain u s =
 present ls (d ∷ ds) fs gs (suc x) plain u s =
     let n = name_at (declared_in ds ++ fs) x in
     let head : declares_dynamic n d ≡ false =
-    declares_other d n (false_from_ne_true (bytes_eq (entity_of d).name.name n) (λ t. let z : 0 ≡ suc x = u 0 (omega arith) (equal_of_bytes_eq (entity_of d).name.name n t) in absurd (omega arith))) in
+    declares_other d n (false_from_ne_true (bytes_eq (entity_of d).name.name n) (λ t. let z : 0 ≡ suc x =
+    u 0 (omega arith) (equal_of_bytes_eq (entity_of d).name.name n t) in absurd (omega arith))) in
     ap (λ (b : Bool). b || list_any (declares_dynamic n) ds) head
     ∙ present ls ds fs gs x plain (λ y l e. let z : suc y ≡ suc x = u (suc y) (omega arith) e in omega arith) s
 

@@ -71,7 +71,8 @@ module _ (ls : Levels) (es : List declared_entity.Entity) (w : World) where
             })
         | inr e ↦ elim (or_cases (inside here y) (inside later y) e) [
           | inl i ↦
-              let r : Inside (x + 1) children y = inside_of (k + length (block_sites surroundings body)) 0 (x + 1) children (laid_below ls es w n x p name kind body children mine) y i in
+              let r : Inside (x + 1) children y = inside_of (k + length (block_sites surroundings body)) 0 (x + 1) children
+              (laid_below ls es w n x p name kind body children mine) y i in
               let f = r.from in
               let t = r.to in
               record {

@@ -119,7 +119,8 @@ module _ (ls : Levels) (levels : List (List ℕ)) (h : Surroundings) (w : World)
           let x = k + length (simple_sites h c) in
           let y = x + length (block_sites h a) in
           let opened = then_parts c place (open_block_faults a ++ open_block_faults b) o in
-          elim (or_cases (step_reaching falls (step_of ls h (site_number h k c) c) m) (block_reaching falls (block_of ls h x a) m || block_reaching falls (block_of ls h y b) m) i) [
+          elim (or_cases (step_reaching falls (step_of ls h (site_number h k c) c) m) (block_reaching falls (block_of ls h x a) m
+          || block_reaching falls (block_of ls h y b) m) i) [
             | inl j ↦ or_left _ _ (past_body (name_at h.entities m) a q (open_written (site_number h k c) c (nil_left _ _ (nil_left _ _ f)) opened.0 m p j))
             | inr j ↦ elim (or_cases (block_reaching falls (block_of ls h x a) m) (block_reaching falls (block_of ls h y b) m) j) [
               | inl t ↦ or_left _ _ (block_written x a (nil_right _ _ (nil_left _ _ f)) (nil_left _ _ opened.1) m q t)
@@ -384,7 +385,8 @@ nil_below : (test : Bool) (fs : List Fault) → (if test then fs else []) ≡ []
 nil_below true fs h e = h
 nil_below false fs h e = cc
 
-module _ (body : CommandBlock) (children : StateList) (p : Written) (once : second_block body p ++ (if falls_block body then second_states children (entering_block body p) else []) ≡ []) where
+module _ (body : CommandBlock) (children : StateList) (p : Written)
+    (once : second_block body p ++ (if falls_block body then second_states children (entering_block body p) else []) ≡ []) where
   once_within : second_block body p ≡ []
   once_within = nil_left _ _ once
 

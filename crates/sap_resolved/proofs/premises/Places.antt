@@ -161,7 +161,8 @@ module _ (ls : Levels) (es : List declared_entity.Entity) (w : World) where
     pub laid_within : x + states_below children < root w
     laid_within =
         let a = part_within w.entities x (world.state_entities ls n x (state_node place name kind body children)) h.entities in
-        let b : length (world.state_entities ls n x (state_node place name kind body children)) ≡ 1 + states_below children = state_count ls n x (state_node place name kind body children) in
+        let b : length (world.state_entities ls n x (state_node place name kind body children)) ≡ 1 + states_below children =
+        state_count ls n x (state_node place name kind body children) in
         omega arith
 
     pub laid_named : x < length es

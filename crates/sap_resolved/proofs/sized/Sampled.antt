@@ -15,7 +15,8 @@ pub no_fault : NoFault
 no_fault = refl
 
 pub whole : Whole
-unfolding is_name precedence_of tokens part_tokens brackets part_brackets tag_tokens tag_part_tokens tag_brackets tag_part_brackets is_expression are_expressions is_tag are_tags is_simple is_command is_block is_else are_commands command_depth block_depth else_depth list_depth is_state are_states
+unfolding is_name precedence_of tokens part_tokens brackets part_brackets tag_tokens tag_part_tokens tag_brackets tag_part_brackets
+    is_expression are_expressions is_tag are_tags is_simple is_command is_block is_else are_commands command_depth block_depth else_depth list_depth is_state are_states
 whole = refl
 
 two_levels : (x : ℕ) → x < 2 → (x ≡ 0) ⊎ (x ≡ 1)

@@ -85,7 +85,8 @@ module _ (ls : Levels) where
 
     simple_marked : (k : ℕ) → 1 ≤ k → (c : SimpleCommand) → own_site (step_of ls h (site_number h k c) c) ≡ numbers_from k (length (simple_sites h c))
     simple_marked k p c =
-        one_mark k (site_of (step_of ls h (site_number h k c) c)) (shape.is_site h.entities h.home.kind h.home.children c) (record { surroundings = h; command = c }) p (number_is (site_number h k c) c)
+        one_mark k (site_of (step_of ls h (site_number h k c) c)) (shape.is_site h.entities h.home.kind h.home.children c)
+        (record { surroundings = h; command = c }) p (number_is (site_number h k c) c)
 
     mutual
       command_marked : (k : ℕ) → 1 ≤ k → (c : tree.Command) → marks (command_of ls h k c) ≡ numbers_from k (length (shape.command_sites h c))

@@ -35,7 +35,8 @@ both a b ks js h i =
 
 -- a step whose test held or not, and what comes after it
 either : (k : Step) (i : Bool) (l : ℕ) (ks js : List Step) (p q : After) → Among p ks → Among q js
-    → Among (if i then p else (let refusal : Refusal = record { site = site_of k; level = l } in record { store = q.store; refused = refusal ∷ q.refused })) (k ∷ (if i then ks else js))
+    → Among (if i then p else (let refusal : Refusal = record { site = site_of k; level = l } in
+    record { store = q.store; refused = refusal ∷ q.refused })) (k ∷ (if i then ks else js))
 either k true l ks js p q h g = sublist_behind (refused_sites p.refused) (site_of k ∷ []) (numbers ks) h
 either k false l ks js p q h g = inl (refl, g)
 

@@ -8,17 +8,21 @@ use Rattle.sap_secure.specs.Once.Steps.{tried, chosen, steps, block_steps, state
 use Rattle.sap_secure.specs.Once.Examples.{OneBranch, WrittenTwice, AfterRefusal, AfterFall}
 
 pub one_branch : OneBranch
-unfolding cycle_steps root_steps state_steps child_steps steps block_steps tried chosen set_inputs first put_number put_level put_child raise reset effect attempt select does does_block does_state does_child
+unfolding cycle_steps root_steps state_steps child_steps steps block_steps tried chosen set_inputs first put_number put_level put_child
+    raise reset effect attempt select does does_block does_state does_child
 one_branch = (refl, refl)
 
 pub written_twice : WrittenTwice
-unfolding cycle_steps root_steps state_steps child_steps steps block_steps tried chosen set_inputs first put_number put_level put_child raise reset effect attempt select does does_block does_state does_child
+unfolding cycle_steps root_steps state_steps child_steps steps block_steps tried chosen set_inputs first put_number put_level put_child
+    raise reset effect attempt select does does_block does_state does_child
 written_twice = refl
 
 pub after_refusal : AfterRefusal
-unfolding cycle_steps root_steps state_steps child_steps steps block_steps tried chosen set_inputs first put_number put_level put_child raise reset effect attempt select does does_block does_state does_child
+unfolding cycle_steps root_steps state_steps child_steps steps block_steps tried chosen set_inputs first put_number put_level put_child
+    raise reset effect attempt select does does_block does_state does_child
 after_refusal = (refl, refl)
 
 pub after_fall : AfterFall
-unfolding cycle_steps root_steps state_steps child_steps steps block_steps tried chosen set_inputs first put_number put_level put_child raise reset effect attempt select does does_block does_state does_child
+unfolding cycle_steps root_steps state_steps child_steps steps block_steps tried chosen set_inputs first put_number put_level put_child
+    raise reset effect attempt select does does_block does_state does_child
 after_fall = (refl, refl)

@@ -125,7 +125,8 @@ module _ (w : World) (m : ℕ) (at : Home) (entered : ℕ → ℕ → Store → 
 
   -- a step with an accepted part behind it
   then_counted : (k : Step) → OnceStep beyond k → (a b : Bool) → (step_reaching (group_reaches at.children) k m && a) ≡ false → (step_writes k m && b) ≡ false → (hangs : ℕ → Bool)
-      → (f g : ℕ → Store → List Step) → AllCounted m a f → AllCounted m b g → AllCounted m (step_reaching (group_reaches at.children) k m || (a || b)) (tried_then w at entered k hangs f g)
+      → (f g : ℕ → Store → List Step) → AllCounted m a f → AllCounted m b g
+      → AllCounted m (step_reaching (group_reaches at.children) k m || (a || b)) (tried_then w at entered k hangs f g)
   unfolding tried_then
   then_counted k once a b apart other hangs f g c d pc s =
       let r = raise w.order hangs (guard w at k s) s in
@@ -139,14 +140,16 @@ module _ (w : World) (m : ℕ) (at : Home) (entered : ℕ → ℕ → Store → 
       one_of : (i : Bool) (xs ys zs : List Step) → Counted m mine xs → (step_writes k m ≡ true → writes_to m xs ≡ 0) → Counted m a ys → Counted m b zs
           → Counted m (mine || (a || b)) (k ∷ (if i then xs ++ ys else zs))
       one_of true xs ys zs cx none cy cz =
-          let first : Counted m mine (k ∷ xs) = counted_weaker m (mine || false) mine (k ∷ xs) (or_nothing mine) (behind k once false (alone k) true xs [] cx none (counted_nothing m)) in
+          let first : Counted m mine (k ∷ xs) = counted_weaker m (mine || false) mine (k ∷ xs) (or_nothing mine)
+          (behind k once false (alone k) true xs [] cx none (counted_nothing m)) in
           counted_weaker m (mine || a) (mine || (a || b)) (k ∷ (xs ++ ys)) (λ h. or_from mine a (neither_left mine (a || b) h) (neither_left a b (neither_right mine (a || b) h)))
           (counted_both m mine a (k ∷ xs) ys first cy apart)
       one_of false xs ys zs cx none cy cz =
           counted_weaker m (mine || b) (mine || (a || b)) (k ∷ zs) (λ h. or_from mine b (neither_left mine (a || b) h) (neither_right a b (neither_right mine (a || b) h)))
           (behind k once b other false xs zs cx none cz)
 
-  picked_counted : (e : Term ℕ) (hangs : ℕ → Bool) (may : Bool) (pick : ℕ → ℕ → Store → List Step) → ((v : ℕ) → AllCounted m may (pick v)) → AllCounted m may (picked w e hangs pick)
+  picked_counted : (e : Term ℕ) (hangs : ℕ → Bool) (may : Bool) (pick : ℕ → ℕ → Store → List Step) → ((v : ℕ) → AllCounted m may (pick v))
+      → AllCounted m may (picked w e hangs pick)
   unfolding picked
   picked_counted e hangs may pick c pc s = c (value w e s) (w.order.join pc (tag w e s)) (raise w.order hangs (tag w e s) s)
 
@@ -169,7 +172,8 @@ module _ (w : World) (m : ℕ) (at : Home) (entered : ℕ → ℕ → Store → 
         chosen_counted e (touches w at (if_else hang e a b)) (block_reaching (group_reaches at.children) a m) (block_reaching (group_reaches at.children) b m)
         (block_steps w at entered a) (block_steps w at entered b) (block_counted a once.0) (block_counted b once.1) pc s
     steps_counted (try_then k hang a b) once pc s =
-        then_counted k once.0 (block_reaching (group_reaches at.children) a m) (block_reaching (group_reaches at.children) b m) (once.3 m) (once.4 m) (touches w at (try_then k hang a b))
+        then_counted k once.0 (block_reaching (group_reaches at.children) a m) (block_reaching (group_reaches at.children) b m) (once.3 m)
+        (once.4 m) (touches w at (try_then k hang a b))
         (block_steps w at entered a) (block_steps w at entered b) (block_counted a once.1) (block_counted b once.2) pc s
     steps_counted (case_of hang e arms) once pc s =
         picked_counted e (touches w at (case_of hang e arms)) (arms_reaching (group_reaches at.children) arms m) (arms_steps w at entered arms) (arms_counted arms once) pc s

@@ -47,7 +47,8 @@ AfterRefusal = (first_steps handled (high 5 ∷ []) ≡ assign 1 2 (read 0) ∷ 
 -- input a : 1; mem m : 8[4] dynamic; state P enforced low { if (a) { fall; } else { m[1] := 2; goto P; } state C enforced low { m[0] := 1; goto C; } }
 abbrev pub below : Program
 below = program_of two_levels (an_input 1 ∷ a_memory 8 4 ∷ held_state 0 3 0 ∷ held_state 0 3 0 ∷ []) (0 ∷ 0 ∷ 1 ∷ 0 ∷ 1 ∷ [])
-    (and_node (state_node 2 (command_then (if_else [] (read 0) (command_then (lone (fall_to_child 1 [])) end_block) (command_then (lone (put 1 2)) (command_then (lone (go_to 2 2)) end_block))) end_block)
+    (and_node (state_node 2 (command_then (if_else [] (read 0) (command_then (lone (fall_to_child 1 [])) end_block)
+    (command_then (lone (put 1 2)) (command_then (lone (go_to 2 2)) end_block))) end_block)
     (and_node (state_node 3 (command_then (lone (put 0 1)) (command_then (lone (go_to 3 3)) end_block)) no_node) no_node)) no_node)
 
 -- those of a child's body come after the fall into it

@@ -8,7 +8,8 @@ use Rattle.sap_meaning.specs.State.{Resting}
 use Rattle.sap_meaning.specs.Store.{Store, Refusal}
 use Rattle.sap_secure.specs.Laws.{OneCycle}
 
-module _ (law : OneCycle) (p q : Program) (fine : FineProgram p) (same : p ≡ q) (s t : Store) (first : Resting p.world s) (second : Resting q.world t) (l : ℕ) (agree : StatesAgree p l s t) (a b : List Tagged) (inputs : InputsAgree p.world.order l a b) where
+module _ (law : OneCycle) (p q : Program) (fine : FineProgram p) (same : p ≡ q) (s t : Store) (first : Resting p.world s)
+    (second : Resting q.world t) (l : ℕ) (agree : StatesAgree p l s t) (a b : List Tagged) (inputs : InputsAgree p.world.order l a b) where
   both : StatesAgree p l (cycle p a s).store (cycle p b t).store × RefusalsAgree p.world.order l (cycle p a s).refused (cycle p b t).refused
   both = law p fine l s t first (subst (λ (r : Program). Resting r.world t) (sym same) second) agree a b inputs
 

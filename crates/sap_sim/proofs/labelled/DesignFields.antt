@@ -65,7 +65,8 @@ pub all_sized : (es : List Entity) → HaveWidths es → All IsSized (fields_amo
 all_sized es h = each IsSized (fields_among es) (sized_fields es h)
 
 -- one entity more
-pub fields_more : (es : List Entity) (k : ℕ) (o : Option Field) (fs : List Field) → k < length es → option_map (λ (e : Entity). field_of e.what) (slice_get es k) ≡ Some o → fs ≡ fields_among (take k es)
+pub fields_more : (es : List Entity) (k : ℕ) (o : Option Field) (fs : List Field) → k < length es
+    → option_map (λ (e : Entity). field_of e.what) (slice_get es k) ≡ Some o → fs ≡ fields_among (take k es)
     → fs ++ cons_option o [] ≡ fields_among (take (k + 1) es)
 fields_more es k o fs h is so_far = ap (λ (gs : List Field). gs ++ cons_option o []) so_far ∙ by_entity (slice_get es k) refl is where
   by_entity : (x : Option Entity) → slice_get es k ≡ x → option_map (λ (e : Entity). field_of e.what) x ≡ Some o

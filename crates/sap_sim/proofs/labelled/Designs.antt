@@ -146,7 +146,8 @@ module _ (ls : Levels) (t : DesignTree) (n : Net) (whole : is_whole t ≡ true) 
       let z : 0 + x ≡ x = omega arith in
       let a : is_among (tag_name (name (named_of ls t) x)) (register_ports n.ports) ≡ true =
       ap (is_among (tag_name (name d x))) (register_ports_are d (site_count_of t) n stands.interface.declares.ports)
-      ∙ subst (λ (y : ℕ). is_among (tag_name (name (named_of ls t) y)) (pair_names (is_register (world (named_of ls t))) (named_of ls t) 0 (world (named_of ls t)).entities) ≡ true) z
+      ∙ subst (λ (y : ℕ). is_among (tag_name (name (named_of ls t) y))
+      (pair_names (is_register (world (named_of ls t))) (named_of ls t) 0 (world (named_of ls t)).entities) ≡ true) z
       (tag_among d 0 es x l (ap (is_register (world d)) z ∙ h)) in
       let f : find (register_widths n.registers) (tag_name (name (named_of ls t) x)) ≡ Some (tag_width ls) =
       (stands.interface.declares.part.registers x h).1 in
@@ -161,7 +162,8 @@ module _ (ls : Levels) (t : DesignTree) (n : Net) (whole : is_whole t ≡ true) 
       ap (shown_among (tag_width ls) (port_widths n)) (register_ports_are d (site_count_of t) n stands.interface.declares.ports)
       ∙ shown_are d (tag_width ls) (port_widths n) (length es) seen 0 es (omega arith)
 
-  pub is_run_of : Codes (order_of ls) → Laws (order_of ls) → 0 < length ls.names → StimulusFits → (bytes : List ℕ) (rows : Rows) → IsSimulated ls n bytes rows → IsRunOf ls t bytes rows
+  pub is_run_of : Codes (order_of ls) → Laws (order_of ls) → 0 < length ls.names → StimulusFits → (bytes : List ℕ) (rows : Rows)
+      → IsSimulated ls n bytes rows → IsRunOf ls t bytes rows
   is_run_of codes laws some fit bytes rows sim =
       let p : stimulus_of ls (fields_of ls n) bytes ≡ stimulus_of ls (design_fields t) bytes = ap (λ (fs : List Field). stimulus_of ls fs bytes) same_fields in
       let read = stimulus_of ls (fields_of ls n) bytes in

@@ -156,7 +156,8 @@ module _ (ls : Levels) (d : Named) (is : List Input) (known : (x : ℕ) → is_i
   numbers_are xs x (e ∷ es) =
       elim (cases_Bool (is_input (world d) x)) [
         | inl t ↦ rw (t, value_plain x t, tag_tag x t)
-            (ap (λ (zs : List ℕ). (given (tag_width ls) is xs (value_name (name d x))).number ∷ (code_of (order_of ls) (given (tag_width ls) is xs (value_name (name d x))).level ∷ zs)) (numbers_are xs (x + 1) es))
+            (ap (λ (zs : List ℕ). (given (tag_width ls) is xs (value_name (name d x))).number
+            ∷ (code_of (order_of ls) (given (tag_width ls) is xs (value_name (name d x))).level ∷ zs)) (numbers_are xs (x + 1) es))
         | inr f ↦ rw f (numbers_are xs (x + 1) es)
       ]
 

@@ -39,7 +39,8 @@ not_here test a k l f t =
     elim (cases_lt a k) [ inl h ↦ h | inr g ↦ (let e : a ≡ k = omega arith in let c : false ≡ true = sym f ∙ ap test e ∙ t in absurd (false≢true c)) ]
 
 -- the name of the level whose code this level has is its name
-pub name_coded : (ls : Levels) → Codes (order_of ls) → 0 < length ls.names → (t : ℕ) → option_map (name_at ls.names) (level_coded ls (code_of (order_of ls) t)) ≡ Some (level_name ls t)
+pub name_coded : (ls : Levels) → Codes (order_of ls) → 0 < length ls.names → (t : ℕ)
+    → option_map (name_at ls.names) (level_coded ls (code_of (order_of ls) t)) ≡ Some (level_name ls t)
 name_coded ls codes h t =
     let k = level_in (length ls.names) t in
     let small : level_in (length ls.names) t < length ls.names = bottom_level ls h t in

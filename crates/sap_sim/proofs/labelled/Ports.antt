@@ -37,7 +37,8 @@ pair_names picks d x [] = []
 pair_names picks d x (e ∷ es) =
     (if picks x then value_name (name d x) ∷ tag_name (name d x) ∷ [] else []) ++ pair_names picks d (x + 1) es
 
-kept : (test : PortKind → Bool) (k : PortKind) → test k ≡ true → (picks : ℕ → Bool) (d : Named) (x : ℕ) (es : List Entity) → passing test (pairs_of picks k d x es) ≡ pair_names picks d x es
+kept : (test : PortKind → Bool) (k : PortKind) → test k ≡ true → (picks : ℕ → Bool) (d : Named) (x : ℕ) (es : List Entity)
+    → passing test (pairs_of picks k d x es) ≡ pair_names picks d x es
 kept test k h picks d x [] = refl
 kept test k h picks d x (e ∷ es) =
     elim (cases_Bool (picks x)) [
@@ -88,5 +89,6 @@ module _ (d : Named) (sites : ℕ) where
   input_names_are n net e =
       sym net.inputs_are_ports ∙ passing_ports netlist.is_input n.ports ∙ ap (passing netlist.is_input) e ∙ passing_inputs
 
-  pub register_ports_are : (n : Net) → map (λ p. (p.name, p.kind)) n.ports ≡ ports_of d sites → rows.register_ports n.ports ≡ pair_names (is_register (world d)) d 0 (world d).entities
+  pub register_ports_are : (n : Net) → map (λ p. (p.name, p.kind)) n.ports ≡ ports_of d sites
+      → rows.register_ports n.ports ≡ pair_names (is_register (world d)) d 0 (world d).entities
   register_ports_are n e = passing_ports rows.is_register n.ports ∙ ap (passing rows.is_register) e ∙ passing_registers

@@ -30,7 +30,8 @@ pub record Seen (d : Named) (tag : ℕ) (widths : Scope) (x : ℕ) : Type 0 wher
   pub no_value : value_of (tag_name (name d x)) ≡ None
   pub has : has_tag tag widths (name d x) ≡ true
 
-pub shown_are : (d : Named) (tag : ℕ) (widths : Scope) (last : ℕ) → ((x : ℕ) → x < last → is_register (world d) x ≡ true → Seen d tag widths x) → (x : ℕ) (es : List Entity) → x + length es ≤ last
+pub shown_are : (d : Named) (tag : ℕ) (widths : Scope) (last : ℕ)
+    → ((x : ℕ) → x < last → is_register (world d) x ≡ true → Seen d tag widths x) → (x : ℕ) (es : List Entity) → x + length es ≤ last
     → shown_among tag widths (pair_names (is_register (world d)) d x es) ≡ register_names d x es
 shown_are d tag widths last seen x [] l = refl
 shown_are d tag widths last seen x (e ∷ es) l =
@@ -50,7 +51,8 @@ third false true c h = refl
 third false false c h = h
 
 -- a register's tag is among the names of the pairs
-pub tag_among : (d : Named) (x : ℕ) (es : List Entity) (k : ℕ) → k < length es → is_register (world d) (x + k) ≡ true → is_among (tag_name (name d (x + k))) (pair_names (is_register (world d)) d x es) ≡ true
+pub tag_among : (d : Named) (x : ℕ) (es : List Entity) (k : ℕ) → k < length es → is_register (world d) (x + k) ≡ true
+    → is_among (tag_name (name d (x + k))) (pair_names (is_register (world d)) d x es) ≡ true
 tag_among d x [] k l t = absurd (omega arith)
 tag_among d x (e ∷ es) zero l t =
     let z : x + 0 ≡ x = omega arith in
@@ -70,7 +72,8 @@ pub shown_row : (ls : Levels) (d : Named) (v : Valuation) (s : Store) → Codes 
     → ((x : ℕ) → is_register (world d) x ≡ true → v.value (value_name (name d x)) ≡ number (own x) s)
     → ((x : ℕ) → is_register (world d) x ≡ true → v.value (tag_name (name d x)) ≡ d.code (level (world d) (own x) s))
     → (x : ℕ) (es : List Entity) → From d x es
-    → shown_of ls (register_names d x es) (map (λ n. v.value (value_name n)) (register_names d x es)) (map (λ n. v.value (tag_name n)) (register_names d x es)) ≡ registers_shown ls d s x es
+    → shown_of ls (register_names d x es) (map (λ n. v.value (value_name n)) (register_names d x es))
+    (map (λ n. v.value (tag_name n)) (register_names d x es)) ≡ registers_shown ls d s x es
 shown_row ls d v s codes some code values tags x [] from = refl
 shown_row ls d v s codes some code values tags x (e ∷ es) from =
     let h : is_register (world d) x ≡ kind_is_register e.kind = ap (λ (f : Entity). kind_is_register f.kind) (sym (from_here d x e es from)) in

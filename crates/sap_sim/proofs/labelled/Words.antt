@@ -56,7 +56,8 @@ declaration_some version (decl.Input place name width) h = name_some version nam
 declaration_some version (decl.Register place name width kind start) h = name_some version name.name (and_left _ _ (and_left _ _ (and_left _ _ h)))
 declaration_some version (decl.Memory place name width depth kind) h = name_some version name.name (and_left _ _ (and_left _ _ (and_left _ _ h)))
 
-named_some : (version : Version) (ls : Levels) (ds : List Decl) (es : List Entity) (fs : List Declared) → NonePlain es → list_all (is_declaration version) ds ≡ true → (k : ℕ) → is_plain (get_or (all_declared ls ds ++ es) k nothing) ≡ true
+named_some : (version : Version) (ls : Levels) (ds : List Decl) (es : List Entity) (fs : List Declared) → NonePlain es
+    → list_all (is_declaration version) ds ≡ true → (k : ℕ) → is_plain (get_or (all_declared ls ds ++ es) k nothing) ≡ true
     → IsSome (get_or (map (λ e. e.name.name) (declared_in ds ++ fs)) k [])
 named_some version ls [] es fs none h k p = absurd (false≢true (sym (plain_none es none k) ∙ p))
 named_some version ls (d ∷ ds) es fs none h zero p = declaration_some version d (and_left (is_declaration version d) (list_all (is_declaration version) ds) h)
@@ -68,11 +69,13 @@ whole_declarations t h = and_left _ _ (and_left _ _ (and_left _ _ h))
 
 pub input_some : (ls : Levels) (t : DesignTree) → is_whole t ≡ true → (x : ℕ) → is_input (world (named_of ls t)) x ≡ true → IsSome (name (named_of ls t) x)
 input_some ls t w x h =
-    named_some t.version ls t.declarations _ (named_group t.states) (group_plain ls 0 (length t.declarations) t.states) (whole_declarations t w) x (or_left (is_input (world (named_of ls t)) x) (is_register (world (named_of ls t)) x) h)
+    named_some t.version ls t.declarations _ (named_group t.states) (group_plain ls 0 (length t.declarations) t.states)
+    (whole_declarations t w) x (or_left (is_input (world (named_of ls t)) x) (is_register (world (named_of ls t)) x) h)
 
 pub register_some : (ls : Levels) (t : DesignTree) → is_whole t ≡ true → (x : ℕ) → is_register (world (named_of ls t)) x ≡ true → IsSome (name (named_of ls t) x)
 register_some ls t w x h =
-    named_some t.version ls t.declarations _ (named_group t.states) (group_plain ls 0 (length t.declarations) t.states) (whole_declarations t w) x (or_right (is_input (world (named_of ls t)) x) (is_register (world (named_of ls t)) x) h)
+    named_some t.version ls t.declarations _ (named_group t.states) (group_plain ls 0 (length t.declarations) t.states)
+    (whole_declarations t w) x (or_right (is_input (world (named_of ls t)) x) (is_register (world (named_of ls t)) x) h)
 
 pub value_back : (n : Name) → IsSome n → value_of (value_name n) ≡ Some n
 value_back [] h = absurd (h refl)

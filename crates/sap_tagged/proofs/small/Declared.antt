@@ -17,7 +17,8 @@ use Rattle.sap_tagged.proofs.small.States.{program_weighs}
 use Rattle.sap_ir.specs.IsGuarded.{variable_names}
 
 -- what is declared for entities that are picked, at most so many for each
-for_each_short : {A : Type 0} (picks : ℕ → Bool) (f : ℕ → List A) (most : ℕ) → ((x : ℕ) → length (f x) ≤ most) → (x : ℕ) (es : List Entity) → length (for_entities picks f x es) ≤ length es * most
+for_each_short : {A : Type 0} (picks : ℕ → Bool) (f : ℕ → List A) (most : ℕ) → ((x : ℕ) → length (f x) ≤ most) → (x : ℕ) (es : List Entity)
+    → length (for_entities picks f x es) ≤ length es * most
 for_each_short picks f most h x [] = omega arith
 for_each_short picks f most h x (e ∷ es) =
     let r = for_each_short picks f most h (x + 1) es in
@@ -28,7 +29,8 @@ for_each_short picks f most h x (e ∷ es) =
 module _ (d : Named) (tag sites : ℕ) where
   shown_short : length (shown_registers d tag) ≤ root (world d) * 2
   shown_short =
-      for_each_short (is_register (world d)) (λ x. value_var d x (program.entity (world d) x).initial ∷ tag_var d tag x (level_at_start d x) ∷ []) 2 (λ x. omega arith) 0 (world d).entities
+      for_each_short (is_register (world d)) (λ x. value_var d x (program.entity (world d) x).initial ∷ tag_var d tag x (level_at_start d x)
+      ∷ []) 2 (λ x. omega arith) 0 (world d).entities
 
   tags_short : length (tag_registers d tag) ≤ root (world d) * 1
   tags_short = for_each_short (has_own_tag d) (λ x. tag_var d tag x (level_at_start d x) ∷ []) 1 (λ x. omega arith) 0 (world d).entities

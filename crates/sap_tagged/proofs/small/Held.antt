@@ -85,7 +85,9 @@ two_weighs o a b =
     let us = all_operations a in
     let vs = all_operations b in
     let xs = t ∷ (us ++ vs) in
-    let l = operations_within t xs (held_more xs t (operations_in a ++ operations_in b) (here t (us ++ vs)) (held_both xs (operations_in a) (operations_in b) (within_behind (t ∷ []) (us ++ vs) a (within_front us vs a (covered a))) (within_behind (t ∷ []) (us ++ vs) b (within_behind us vs b (covered b))))) in
+    let l = operations_within t xs (held_more xs t (operations_in a ++ operations_in b) (here t (us ++ vs))
+    (held_both xs (operations_in a) (operations_in b) (within_behind (t ∷ []) (us ++ vs) a (within_front us vs a (covered a)))
+    (within_behind (t ∷ []) (us ++ vs) b (within_behind us vs b (covered b))))) in
     let n = length-append us vs in
     omega (arith, l, n)
 
@@ -95,7 +97,9 @@ join_weighs a b =
     let us = all_operations a in
     let vs = all_operations b in
     let xs = t ∷ (us ++ vs) in
-    let l = operations_within t xs (held_more xs t (operations_in a ++ operations_in b) (here t (us ++ vs)) (held_both xs (operations_in a) (operations_in b) (within_behind (t ∷ []) (us ++ vs) a (within_front us vs a (covered a))) (within_behind (t ∷ []) (us ++ vs) b (within_behind us vs b (covered b))))) in
+    let l = operations_within t xs (held_more xs t (operations_in a ++ operations_in b) (here t (us ++ vs))
+    (held_both xs (operations_in a) (operations_in b) (within_behind (t ∷ []) (us ++ vs) a (within_front us vs a (covered a)))
+    (within_behind (t ∷ []) (us ++ vs) b (within_behind us vs b (covered b))))) in
     let n = length-append us vs in
     omega (arith, l, n)
 
@@ -106,7 +110,12 @@ choose_weighs c a b =
     let us = all_operations a in
     let vs = all_operations b in
     let xs = t ∷ (cs ++ (us ++ vs)) in
-    let l = operations_within t xs (held_more xs t (operations_in c ++ (operations_in a ++ operations_in b)) (here t (cs ++ (us ++ vs))) (held_both xs (operations_in c) (operations_in a ++ operations_in b) (within_behind (t ∷ []) (cs ++ (us ++ vs)) c (within_front cs (us ++ vs) c (covered c))) (held_both xs (operations_in a) (operations_in b) (within_behind (t ∷ []) (cs ++ (us ++ vs)) a (within_behind cs (us ++ vs) a (within_front us vs a (covered a)))) (within_behind (t ∷ []) (cs ++ (us ++ vs)) b (within_behind cs (us ++ vs) b (within_behind us vs b (covered b))))))) in
+    let l = operations_within t xs (held_more xs t (operations_in c ++ (operations_in a ++ operations_in b)) (here t (cs ++ (us ++ vs)))
+    (held_both xs (operations_in c) (operations_in a ++ operations_in b)
+    (within_behind (t ∷ []) (cs ++ (us ++ vs)) c (within_front cs (us ++ vs) c (covered c)))
+    (held_both xs (operations_in a) (operations_in b)
+    (within_behind (t ∷ []) (cs ++ (us ++ vs)) a (within_behind cs (us ++ vs) a (within_front us vs a (covered a))))
+    (within_behind (t ∷ []) (cs ++ (us ++ vs)) b (within_behind cs (us ++ vs) b (within_behind us vs b (covered b))))))) in
     let m = length-append cs (us ++ vs) in
     let n = length-append us vs in
     omega (arith, l, m, n)
@@ -125,7 +134,8 @@ below_weighs a b =
     let xs = t ∷ (u ∷ ys) in
     let ca : Covers xs a = within_behind (t ∷ (u ∷ [])) ys a (within_front us vs a (covered a)) in
     let cb : Covers xs b = within_behind (t ∷ (u ∷ [])) ys b (within_behind us vs b (covered b)) in
-    let cu : Covers xs u = held_more xs u (operations_in a ++ operations_in b) (has_behind (t ∷ []) (u ∷ ys) u (here u ys)) (held_both xs (operations_in a) (operations_in b) ca cb) in
+    let cu : Covers xs u = held_more xs u (operations_in a ++ operations_in b) (has_behind (t ∷ []) (u ∷ ys) u (here u ys))
+    (held_both xs (operations_in a) (operations_in b) ca cb) in
     let l = operations_within t xs (held_more xs t (operations_in u ++ operations_in b) (here t (u ∷ ys)) (held_both xs (operations_in u) (operations_in b) cu cb)) in
     let n = length-append us vs in
     omega (arith, l, n)

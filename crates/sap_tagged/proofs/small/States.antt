@@ -45,7 +45,8 @@ total_split group (suc n) (b ∷ bs) = let r = total_split group n bs in omega (
 
 module _ (d : Setting) (room : ℕ) (r : Roomy d room) where
   module _ (at : Home) (few : states_below at.children ≤ root d.world) (group : Forest) (small : states_in group ≤ root d.world) where
-    select_weighs : (p k : ℕ) (e : Term ℕ) (hangs : ℕ → Bool) (a b : Body) → body_weight group (select_of d p k e hangs a b) ≤ room * (1 + term_size e) + body_weight group a + body_weight group b
+    select_weighs : (p k : ℕ) (e : Term ℕ) (hangs : ℕ → Bool) (a b : Body)
+        → body_weight group (select_of d p k e hangs a b) ≤ room * (1 + term_size e) + body_weight group a + body_weight group b
     unfolding select_of
     select_weighs p k e hangs a b =
         let w = r.wide in
@@ -170,7 +171,8 @@ module _ (d : Setting) (room : ℕ) (r : Roomy d room) where
       let n = length-append (state_names kids) (state_names others) in
       omega (arith, x, y, n)
 
-  group_weighs : (group : Forest) → states_in group ≤ root d.world → (parent k : ℕ) (g : Group) → states_below g ≤ root d.world → FewGroup g → forest_weight group (group_plain d parent k g) ≤ room * group_size g
+  group_weighs : (group : Forest) → states_in group ≤ root d.world → (parent k : ℕ) (g : Group) → states_below g ≤ root d.world → FewGroup g
+      → forest_weight group (group_plain d parent k g) ≤ room * group_size g
   unfolding group_plain
   group_weighs group small parent k no_node few arms = omega arith
   group_weighs group small parent k (and_node (state_node s b g) rest) few arms =
@@ -195,7 +197,8 @@ module _ (d : Setting) (room : ℕ) (r : Roomy d room) where
       let n = length-append (state_names kids) (state_names others) in
       omega (arith, x, y, n)
 
-  tops_weigh : (group : Forest) → states_in group ≤ root d.world → (hangs : ℕ → Bool) (k : ℕ) (g : Group) → states_below g ≤ root d.world → FewGroup g → forest_weight group (top_plain d hangs k g) ≤ room * group_size g
+  tops_weigh : (group : Forest) → states_in group ≤ root d.world → (hangs : ℕ → Bool) (k : ℕ) (g : Group) → states_below g ≤ root d.world
+      → FewGroup g → forest_weight group (top_plain d hangs k g) ≤ room * group_size g
   unfolding top_plain
   tops_weigh group small hangs k no_node few arms = omega arith
   tops_weigh group small hangs k (and_node (state_node s b g) rest) few arms =

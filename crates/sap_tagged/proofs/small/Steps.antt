@@ -40,7 +40,8 @@ sweep_weighs group d key picks term w h x (suc m) rest =
 
 pub raises_weigh : (group : Forest) (d : Setting) (hangs : ℕ → Bool) (j : ℕ) (rest : Body) → body_weight group (raises d hangs j rest) ≤ 2 * root d.world + body_weight group rest
 raises_weigh group d hangs j rest =
-    let s = sweep_weighs group d tag_key hangs (λ x. lub (var d (tag_key x)) (var d (wire_key j))) 2 (λ x. let l = lub_weighs (var d (tag_key x)) (var d (wire_key j)) in omega (arith, l)) 0 (root d.world) rest in
+    let s = sweep_weighs group d tag_key hangs (λ x. lub (var d (tag_key x)) (var d (wire_key j))) 2 (λ x. let l =
+    lub_weighs (var d (tag_key x)) (var d (wire_key j)) in omega (arith, l)) 0 (root d.world) rest in
     omega (arith, s)
 
 either_body : (group : Forest) (c : Bool) (a b : Body) (n : ℕ) → body_weight group a ≤ n → body_weight group b ≤ n → body_weight group (if c then a else b) ≤ n
@@ -58,7 +59,8 @@ follow_weighs group (fall rest) b = let r = follow_weighs group rest b in omega 
 looked : Setting → Home → (p : ℕ) → Step → ℕ
 looked d at p s = operations (test_of d at (var d (wire_key p)) s) + operations (guard_of d at s) + operations (written d (var d (wire_key p)) s) + operations (stays d s)
 
-module _ (d : Setting) (room : ℕ) (r : Roomy d room) (at : Home) (few : states_below at.children ≤ root d.world) (group : Forest) (small : states_in group ≤ root d.world) (p k : ℕ) where
+module _ (d : Setting) (room : ℕ) (r : Roomy d room) (at : Home) (few : states_below at.children ≤ root d.world) (group : Forest)
+    (small : states_in group ≤ root d.world) (p k : ℕ) where
   abbrev pc : Term Name
   pc = var d (wire_key p)
 
@@ -75,9 +77,12 @@ module _ (d : Setting) (room : ℕ) (r : Roomy d room) (at : Home) (few : states
       let o = expr_weighs d e in
       let l = lub_weighs pc (tag_of d e) in
       let b = below_weighs (lub pc (tag_of d e)) (var d (tag_key x)) in
-      let test = either_weighs (is_dynamic d.world x) yes (below_or_at (lub pc (tag_of d e)) (var d (tag_key x))) (3 + operations (tag_of d e)) (omega arith) (omega (arith, l, b)) in
+      let test = either_weighs (is_dynamic d.world x) yes (below_or_at (lub pc (tag_of d e)) (var d (tag_key x)))
+      (3 + operations (tag_of d e)) (omega arith) (omega (arith, l, b)) in
       let guard = either_weighs (is_dynamic d.world x) (bits d d.world.order.bottom) (var d (tag_key x)) 0 (omega arith) (omega arith) in
-      let effect = either_body group (is_dynamic d.world x) (gives d (tag_key x) (var d (wire_key (k + 3))) (gives d (value_key x) (expr d e) stop)) (gives d (value_key x) (expr d e) stop) (2 + operations (expr d e)) (omega arith) (omega arith) in
+      let effect = either_body group (is_dynamic d.world x)
+      (gives d (tag_key x) (var d (wire_key (k + 3))) (gives d (value_key x) (expr d e) stop)) (gives d (value_key x) (expr d e) stop)
+      (2 + operations (expr d e)) (omega arith) (omega arith) in
       let m : term_size e * 22 ≤ term_size e * room = mul-le-mul_left (term_size e) (omega (arith, w, v)) in
       omega (arith, w, v, t, o, l, test, guard, effect, m)
 
@@ -96,9 +101,13 @@ module _ (d : Setting) (room : ℕ) (r : Roomy d room) (at : Home) (few : states
       let b = below_weighs (lub pc (lub (tag_of d i) (tag_of d e))) (cell (d.name (tag_key m)) (expr d i)) in
       let g = lub_weighs (tag_of d i) (cell (d.name (tag_key m)) (expr d i)) in
       let u = lub_weighs (var d (tag_key m)) (var d (wire_key (k + 3))) in
-      let test = either_weighs (is_dynamic d.world m) yes (below_or_at (lub pc (lub (tag_of d i) (tag_of d e))) (cell (d.name (tag_key m)) (expr d i))) (5 + operations (tag_of d i) + operations (tag_of d e) + operations (expr d i)) (omega arith) (omega (arith, c, j, l, b)) in
-      let guard = either_weighs (is_dynamic d.world m) (bits d d.world.order.bottom) (lub (tag_of d i) (cell (d.name (tag_key m)) (expr d i))) (2 + operations (tag_of d i) + operations (expr d i)) (omega arith) (omega (arith, c, g)) in
-      let tagged = either_body group (is_dynamic d.world m) (gives d (tag_key m) (lub (var d (tag_key m)) (var d (wire_key (k + 3)))) stop) stop 2 (omega (arith, u)) (omega arith) in
+      let test = either_weighs (is_dynamic d.world m) yes
+      (below_or_at (lub pc (lub (tag_of d i) (tag_of d e))) (cell (d.name (tag_key m)) (expr d i)))
+      (5 + operations (tag_of d i) + operations (tag_of d e) + operations (expr d i)) (omega arith) (omega (arith, c, j, l, b)) in
+      let guard = either_weighs (is_dynamic d.world m) (bits d d.world.order.bottom)
+      (lub (tag_of d i) (cell (d.name (tag_key m)) (expr d i))) (2 + operations (tag_of d i) + operations (expr d i)) (omega arith) (omega (arith, c, g)) in
+      let tagged = either_body group (is_dynamic d.world m) (gives d (tag_key m) (lub (var d (tag_key m)) (var d (wire_key (k + 3)))) stop)
+      stop 2 (omega (arith, u)) (omega arith) in
       let mi : term_size i * 22 ≤ term_size i * room = mul-le-mul_left (term_size i) (omega (arith, w, v)) in
       let me : term_size e * 22 ≤ term_size e * room = mul-le-mul_left (term_size e) (omega (arith, w, v)) in
       omega (arith, w, v, ti, te, oi, oe, j, l, test, guard, tagged, mi, me)
@@ -116,7 +125,8 @@ module _ (d : Setting) (room : ℕ) (r : Roomy d room) (at : Home) (few : states
       let test = two_weighs And (below_or_at (lub pc (told_tag d n)) auth) (below_or_at auth (new_tag d n)) in
       let s = below_weighs (var d (tag_key x)) (new_tag d n) in
       let c = choose_weighs (var d (wire_key (k + 4))) (var d (value_key x)) (constant (width d.world x) 0) in
-      let kept = either_body group (is_register d.world x) (gives d (value_key x) (choose (var d (wire_key (k + 4))) (var d (value_key x)) (constant (width d.world x) 0)) stop) stop 2 (omega (arith, c)) (omega arith) in
+      let kept = either_body group (is_register d.world x)
+      (gives d (value_key x) (choose (var d (wire_key (k + 4))) (var d (value_key x)) (constant (width d.world x) 0)) stop) stop 2 (omega (arith, c)) (omega arith) in
       omega (arith, w, v, t, l, a, b, test, s, kept)
 
   cell_fits : (site m : ℕ) (j : Term ℕ) (n : _) → Fits (retag_cell site m j n)
@@ -156,8 +166,10 @@ module _ (d : Setting) (room : ℕ) (r : Roomy d room) (at : Home) (few : states
       let test = two_weighs And (enters d pc target) (if is_dynamic d.world at.state then yes else below_or_at (lub pc from) (var d (tag_key at.state))) in
       let there : Body = goto (d.state_name target) stop in
       let c = children_within group (d.state_name target) in
-      let last = either_body group (is_dynamic d.world target) (gives d (tag_key target) (var d (wire_key (k + 3))) there) there (2 + root d.world) (omega (arith, c, small)) (omega (arith, c, small)) in
-      let rest = sweep_weighs group d tag_key (resets d.world target) (λ x. bits d d.world.order.bottom) 1 (λ x. omega arith) 0 (root d.world) (if is_dynamic d.world target then gives d (tag_key target) (var d (wire_key (k + 3))) there else there) in
+      let last = either_body group (is_dynamic d.world target) (gives d (tag_key target) (var d (wire_key (k + 3))) there) there
+      (2 + root d.world) (omega (arith, c, small)) (omega (arith, c, small)) in
+      let rest = sweep_weighs group d tag_key (resets d.world target) (λ x. bits d d.world.order.bottom) 1 (λ x. omega arith) 0
+      (root d.world) (if is_dynamic d.world target then gives d (tag_key target) (var d (wire_key (k + 3))) there else there) in
       omega (arith, w, v, e, stay, test, last, rest)
 
   fall_fits : (site : ℕ) (hang : _) → Fits (fall_to_child site hang)
@@ -178,14 +190,16 @@ module _ (d : Setting) (room : ℕ) (r : Roomy d room) (at : Home) (few : states
   step_fits (fall_to_child site hang) = fall_fits site hang
 
   -- a step with what is looked at, with what it raises and with its handler
-  pub attempt_weighs : (s : Step) (hangs : ℕ → Bool) (handler : Body) → body_weight group (attempt_of d at p k s hangs handler) ≤ room * (1 + step_size s) + body_weight group handler
+  pub attempt_weighs : (s : Step) (hangs : ℕ → Bool) (handler : Body)
+      → body_weight group (attempt_of d at p k s hangs handler) ≤ room * (1 + step_size s) + body_weight group handler
   unfolding attempt_of looked
   attempt_weighs s hangs handler =
       let f = step_fits s in
       let l = lub_weighs pc (var d (wire_key (k + 1))) in
       let rest = raises_weigh group d hangs (k + 1) (outcome d at k s handler) in
       let choice : Body = cases (var d (wire_key k)) (effect_of d at k s) (refusal d k s handler) stop in
-      let o = either_body group (always d.world at s) (effect_of d at k s) choice (5 + body_weight group (effect_of d at k s) + body_weight group handler) (omega arith) (omega arith) in
+      let o = either_body group (always d.world at s) (effect_of d at k s) choice (5 + body_weight group (effect_of d at k s)
+      + body_weight group handler) (omega arith) (omega arith) in
       omega (arith, f, l, rest, o)
 
   -- a step with what comes behind its effect too

@@ -112,7 +112,8 @@ module _ (d : Setting) where
       let ki = held_rest xs (expr d (cell m i)) (operations_in (expr d i)) k in
       let hc = held_rest xs t (c ∷ tag_list i) h in
       held_more xs t (operations_in (tag_of d i) ++ operations_in c) (held_first xs t (c ∷ tag_list i) h)
-      (held_both xs (operations_in (tag_of d i)) (operations_in c) (tag_covered xs i (held_rest xs c (tag_list i) hc) ki) (cell_covered xs m i (held_first xs c (tag_list i) hc) ki))
+      (held_both xs (operations_in (tag_of d i)) (operations_in c) (tag_covered xs i (held_rest xs c (tag_list i) hc) ki)
+      (cell_covered xs m i (held_first xs c (tag_list i) hc) ki))
   tag_covered xs (one o a) h k = tag_covered xs a h (held_rest xs (expr d (one o a)) (operations_in (expr d a)) k)
   tag_covered xs (two o a b) h k =
       let t = tag_of d (two o a b) in
@@ -134,7 +135,8 @@ module _ (d : Setting) where
       let mab = held_behind xs (operations_in (expr d c)) es m in
       let ca = tag_covered xs a (held_front xs (tag_list a) (tag_list b) lab) (held_front xs (operations_in (expr d a)) (operations_in (expr d b)) mab) in
       let cb = tag_covered xs b (held_behind xs (tag_list a) (tag_list b) lab) (held_behind xs (operations_in (expr d a)) (operations_in (expr d b)) mab) in
-      let cu = held_more xs u (operations_in (tag_of d a) ++ operations_in (tag_of d b)) (held_first xs u ts hu) (held_both xs (operations_in (tag_of d a)) (operations_in (tag_of d b)) ca cb) in
+      let cu = held_more xs u (operations_in (tag_of d a) ++ operations_in (tag_of d b)) (held_first xs u ts hu)
+      (held_both xs (operations_in (tag_of d a)) (operations_in (tag_of d b)) ca cb) in
       let ch = tag_covered xs c (held_front xs (tag_list c) (tag_list a ++ tag_list b) l) (held_front xs (operations_in (expr d c)) es m) in
       held_more xs t (operations_in (tag_of d c) ++ operations_in u) (held_first xs t (u ∷ ts) h) (held_both xs (operations_in (tag_of d c)) (operations_in u) ch cu)
   tag_covered xs (join a b) h k =

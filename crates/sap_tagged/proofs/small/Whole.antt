@@ -20,7 +20,8 @@ use Rattle.sap_tagged.proofs.Designs.{design}
 use Rattle.sap_tagged.proofs.small.Declared.{plain_weighs}
 use Rattle.sap_tagged.proofs.small.Sizes.{group_within, group_counted, group_entered, states_same, group_sited, group_filled, group_kept}
 
-summed : (n entities levels size sites nodes : ℕ) → size ≤ nodes → sites ≤ nodes → n ≤ (8 * (entities + levels) + 6) * size + (8 * entities + 1 + 2 * sites) → n ≤ 8 * (1 + nodes) * (1 + entities + levels)
+summed : (n entities levels size sites nodes : ℕ) → size ≤ nodes → sites ≤ nodes
+    → n ≤ (8 * (entities + levels) + 6) * size + (8 * entities + 1 + 2 * sites) → n ≤ 8 * (1 + nodes) * (1 + entities + levels)
 summed n entities levels size sites nodes h k l =
     let room = 8 * (entities + levels) + 6 in
     let m : room * size ≤ room * nodes = mul-le-mul_left room h in
@@ -41,9 +42,11 @@ plain_small ls d sound =
     let levels = order_of-count ls in
     let some = sound.lattice.narrow.some in
     let fewer = sound.lattice.narrow.few in
-    let p = plain_weighs (named_of ls d) (width_of (order_of ls)) (site_count_of d) (omega (arith, some, fewer)) (omega (arith, kept, states, entered, both)) (design ls d sound).few_arms in
+    let p = plain_weighs (named_of ls d) (width_of (order_of ls)) (site_count_of d) (omega (arith, some, fewer))
+    (omega (arith, kept, states, entered, both)) (design ls d sound).few_arms in
     let size : group_size (named_of ls d).program.states ≤ design_nodes d =
     let f = group_filled w (root w) g in let r = group_within ls es 1 (length d.declarations) d.states in omega (arith, f, r) in
-    let bound = summed (nested_weight (plain_for ls d)) (root w) (order_of ls).count (group_size (named_of ls d).program.states) (site_count_of d) (design_nodes d) size (group_sited es d.states) p in
+    let bound = summed (nested_weight (plain_for ls d)) (root w) (order_of ls).count (group_size (named_of ls d).program.states)
+    (site_count_of d) (design_nodes d) size (group_sited es d.states) p in
     subst (λ (v : ℕ). nested_weight (plain_for ls d) ≤ 8 * (1 + design_nodes d) * (1 + entity_count d + v)) levels
     (subst (λ (k : ℕ). nested_weight (plain_for ls d) ≤ 8 * (1 + design_nodes d) * (1 + k + (order_of ls).count)) entities bound)

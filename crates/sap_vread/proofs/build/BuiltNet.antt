@@ -68,7 +68,8 @@ item_names (item.initial_cells place bound x value) = refl
 item_names (item.always x next) = refl
 item_names (item.always_cell condition x index value) = refl
 
-all_item_names : (xs : List Item) → flat_map (λ x. map (λ (d : Declaration). d.name.name) (item_declarations (item_of x))) xs ≡ declared_names (flat_map item_declarations (narrow_items xs))
+all_item_names : (xs : List Item) → flat_map (λ x. map (λ (d : Declaration). d.name.name) (item_declarations (item_of x))) xs
+    ≡ declared_names (flat_map item_declarations (narrow_items xs))
 all_item_names [] = refl
 all_item_names (x ∷ xs) =
     ap (λ z. z ++ flat_map (λ y. map (λ (d : Declaration). d.name.name) (item_declarations (item_of y))) xs) (sym (item_names (item_of x)))
@@ -274,7 +275,8 @@ write_says n (item.initial x value) place = inl (refl, refl)
 write_says n (item.initial_cells p bound x value) place = inl (refl, refl)
 
 module _ (f : File) (t : Tables) (h : AreNoted t (file_of f)) where
-  register_built : (n : Name) (range : ℕ) → b.built_register (number_of t.starts) (number_of t.nexts) f.items.items n range ≡ net_register n (narrow range + 1) (narrow_items f.items.items)
+  register_built : (n : Name) (range : ℕ) → b.built_register (number_of t.starts) (number_of t.nexts) f.items.items n range
+      ≡ net_register n (narrow range + 1) (narrow_items f.items.items)
   register_built n range =
       let xs = f.items.items in
       let start : unwrap_or (number_of t.starts n) 0 ≡ unwrap_or (first_given (initial_number n) (narrow_items xs)) 0 =
@@ -301,7 +303,8 @@ module _ (f : File) (t : Tables) (h : AreNoted t (file_of f)) where
   port_register item.output_wire n range = refl
   port_register item.output_register n range = ap (λ r. r ∷ []) (register_built n range)
 
-  port_registers_built : (ps : List Port) → flat_map (λ p. b.port_registers (number_of t.starts) (number_of t.nexts) f.items.items (direction_of p.direction) p.name.name p.range.value) ps
+  port_registers_built : (ps : List Port) → flat_map
+      (λ p. b.port_registers (number_of t.starts) (number_of t.nexts) f.items.items (direction_of p.direction) p.name.name p.range.value) ps
       ≡ flat_map (λ d. shape_registers d.name.name d.shape (narrow_items f.items.items)) (map port_declaration (narrow_ports ps))
   port_registers_built [] = refl
   port_registers_built (p ∷ ps) =
@@ -339,14 +342,16 @@ module _ (f : File) (t : Tables) (h : AreNoted t (file_of f)) where
       let g = λ (d : Declaration). shape_registers d.name.name d.shape (narrow_items f.items.items) in
       ap (λ z. z ++ flat_map (λ x. b.item_registers (number_of t.starts) (number_of t.nexts) f.items.items (item_of x)) xs) (port_registers_built ps)
       ∙ ap (λ z. flat_map (λ d. shape_registers d.name.name d.shape (narrow_items f.items.items)) (map port_declaration (narrow_ports ps)) ++ z) (item_registers_built xs)
-      ∙ sym (flat_map-append (λ (d : Declaration). shape_registers d.name.name d.shape (narrow_items f.items.items)) (map port_declaration (narrow_ports ps)) (flat_map item_declarations (narrow_items xs)))
+      ∙ sym (flat_map-append (λ (d : Declaration). shape_registers d.name.name d.shape (narrow_items f.items.items))
+      (map port_declaration (narrow_ports ps)) (flat_map item_declarations (narrow_items xs)))
 
   no_memory : (d : item.Direction) (n : Name) (w : ℕ) (items : List item.Item) (ms : List Memory) → shape_memories n (port_shape d w) items ++ ms ≡ ms
   no_memory item.input n w items ms = refl
   no_memory item.output_register n w items ms = refl
   no_memory item.output_wire n w items ms = refl
 
-  no_memories : (ps : List Port) (ms : List Memory) → flat_map (λ d. shape_memories d.name.name d.shape (narrow_items f.items.items)) (map port_declaration (narrow_ports ps)) ++ ms ≡ ms
+  no_memories : (ps : List Port) (ms : List Memory)
+      → flat_map (λ d. shape_memories d.name.name d.shape (narrow_items f.items.items)) (map port_declaration (narrow_ports ps)) ++ ms ≡ ms
   no_memories [] ms = refl
   no_memories (p ∷ ps) ms =
       ap (λ z. z ++ ms) (no_memory (direction_of p.direction) p.name.name (narrow p.range.value + 1) (narrow_items f.items.items)
@@ -356,7 +361,8 @@ module _ (f : File) (t : Tables) (h : AreNoted t (file_of f)) where
       → b.item_memories (number_of t.starts) (number_of t.writes) f.items.items x ++ ms
       ≡ flat_map (λ d. shape_memories d.name.name d.shape (narrow_items f.items.items)) (item_declarations (narrow_item x) ++ ds)
   item_memory (item.memory range x last) ds ms e =
-      ap (λ r. r ∷ ms) (memory_built x.name range.value last.value) ∙ ap (λ z. net_memory x.name (narrow range.value + 1) (narrow last.value + 1) (narrow_items f.items.items) ∷ z) e
+      ap (λ r. r ∷ ms) (memory_built x.name range.value last.value)
+      ∙ ap (λ z. net_memory x.name (narrow range.value + 1) (narrow last.value + 1) (narrow_items f.items.items) ∷ z) e
   item_memory (item.register range x) ds ms e = e
   item_memory (item.wire range x) ds ms e = e
   item_memory (item.integer place) ds ms e = e
@@ -373,11 +379,13 @@ module _ (f : File) (t : Tables) (h : AreNoted t (file_of f)) where
       item_memory (item_of x) (flat_map item_declarations (narrow_items xs))
       (flat_map (λ y. b.item_memories (number_of t.starts) (number_of t.writes) f.items.items (item_of y)) xs) (item_memories_built xs)
 
-  pub memories_built : flat_map (λ x. b.item_memories (number_of t.starts) (number_of t.writes) f.items.items (item_of x)) f.items.items ≡ (netlist_of (narrow_file (file_of f))).memories
+  pub memories_built : flat_map (λ x. b.item_memories (number_of t.starts) (number_of t.writes) f.items.items (item_of x)) f.items.items
+      ≡ (netlist_of (narrow_file (file_of f))).memories
   memories_built =
       item_memories_built f.items.items
       ∙ sym (no_memories f.ports.items (flat_map (λ d. shape_memories d.name.name d.shape (narrow_items f.items.items)) (flat_map item_declarations (narrow_items f.items.items))))
-      ∙ sym (flat_map-append (λ (d : Declaration). shape_memories d.name.name d.shape (narrow_items f.items.items)) (map port_declaration (narrow_ports f.ports.items)) (flat_map item_declarations (narrow_items f.items.items)))
+      ∙ sym (flat_map-append (λ (d : Declaration). shape_memories d.name.name d.shape (narrow_items f.items.items))
+      (map port_declaration (narrow_ports f.ports.items)) (flat_map item_declarations (narrow_items f.items.items)))
 
   pub net_wires_built : flat_map (λ x. b.built_wires (number_of t.ranges) (item_of x)) f.items.items ≡ (netlist_of (narrow_file (file_of f))).wires
   net_wires_built = wires_built (number_of t.ranges) (all_ds f) (width_built f t h) f.items.items
@@ -403,7 +411,8 @@ names_whole f ps xs old first last p q e a c =
     ∙ ap (λ z. map (λ r. r.name.name) f.ports.items ++ flat_map (λ x. map (λ (d : Declaration). d.name.name) (item_declarations (item_of x))) z) q
     ∙ names_built f
 
-pub registers_whole : (f : File) (t : Tables) → AreNoted t (file_of f) → (ps : List Port) (xs : List Item) (old first last : List Register) → ps ≡ f.ports.items → xs ≡ f.items.items
+pub registers_whole : (f : File) (t : Tables) → AreNoted t (file_of f) → (ps : List Port) (xs : List Item) (old first last : List Register)
+    → ps ≡ f.ports.items → xs ≡ f.items.items
     → old ≡ []
     → first ≡ old ++ flat_map (λ p. b.port_registers (number_of t.starts) (number_of t.nexts) xs (direction_of p.direction) p.name.name p.range.value) ps
     → last ≡ first ++ flat_map (λ x. b.item_registers (number_of t.starts) (number_of t.nexts) xs (item_of x)) xs

@@ -268,10 +268,12 @@ module _ (f : File) (h : IsFaultless f) where
       let u : Use = record { manner = as_memory; name = x } in
       let written : Write = record { enable = net_operand condition; index = net_operand index; value = net_operand value } in
       let g = when_given x.name n written v e in
-      let r = as_declared_memory (item.always_cell condition x index value) p x (among_right u (operand_uses condition) (u ∷ (operand_uses index ++ operand_uses value)) (inl refl)) in
+      let r = as_declared_memory (item.always_cell condition x index value) p x
+      (among_right u (operand_uses condition) (u ∷ (operand_uses index ++ operand_uses value)) (inl refl)) in
       let us = all_parts (IsGoodUse a) (operand_uses condition) (u ∷ (operand_uses index ++ operand_uses value)) (good_uses f h a (item.always_cell condition x index value) i) in
       let vs = all_parts (IsGoodUse a) (operand_uses index) (operand_uses value) us.1.1 in
-      let cs = all_parts (λ c. constant_fits c ≡ true) (operand_constants condition) (operand_constants index ++ operand_constants value) (good_constants f h a (item.always_cell condition x index value) i) in
+      let cs = all_parts (λ c. constant_fits c ≡ true) (operand_constants condition) (operand_constants index ++ operand_constants value)
+      (good_constants f h a (item.always_cell condition x index value) i) in
       let ds = all_parts (λ c. constant_fits c ≡ true) (operand_constants index) (operand_constants value) cs.1 in
       let ps = good_pairs f h a (item.always_cell condition x index value) (record { setting = always; name = x }) i refl in
       let c = operand_wide f h p.before (item.always_cell condition x index value ∷ p.after) p.is condition us.0 cs.0 in

@@ -42,7 +42,8 @@ operands_same (o ∷ os) h =
     cc
 
 module _ (f : File) (h : IsFaultless f) where
-  right_same : (x : Mention) (right : Right) → Part (item.assign x right) f.items → AllByRecursion (λ c. constant_fits c ≡ true) (right_constants right) → narrow_right right ≡ right
+  right_same : (x : Mention) (right : Right) → Part (item.assign x right) f.items
+      → AllByRecursion (λ c. constant_fits c ≡ true) (right_constants right) → narrow_right right ≡ right
   right_same x (item.copy o) p c = ap item.copy (operand_same o c)
   right_same x (item.one op o) p c = ap (item.one op) (operand_same o c)
   right_same x (item.two op o q) p c =

@@ -180,8 +180,11 @@ module _ (f : File) (h : IsFaultless f) where
   assigned_wire n (item.assign x right) p t =
       let u : Use = record { manner = as_wire; name = x } in
       let g = good_use f h (above_of f.ports p.before) (item.assign x right) (item_in f (item.assign x right) p) u (inl refl) in
-      let r = of_shape g.shape g.suits in
-      (r.0, shape_below f p.before (item.assign x right ∷ p.after) n (wire r.0) p.is (subst (λ z. shape_in (declarations f.ports p.before) z ≡ Some (wire r.0)) (equal_of_bytes_eq x.name n t) (g.declared ∙ ap (λ z. Some z) r.1))) where
+      let r = of_shape g.shape g.suits in (
+        r.0,
+        shape_below f p.before (item.assign x right ∷ p.after) n (wire r.0) p.is
+            (subst (λ z. shape_in (declarations f.ports p.before) z ≡ Some (wire r.0)) (equal_of_bytes_eq x.name n t) (g.declared ∙ ap (λ z. Some z) r.1)),
+      ) where
         of_shape : (s : Shape) → suits as_wire s ≡ true → (width : ℕ) × (s ≡ wire width)
         of_shape (input w) e = absurd (cc)
         of_shape (wire w) e = (w, refl)
@@ -281,7 +284,8 @@ module _ (f : File) (h : IsFaultless f) where
       (own_shape (all_declared f) (names_distinct f h) (port_declaration p)
       (among_left (port_declaration p) (map port_declaration f.ports) (flat_map item_declarations f.items) (among_mapped port_declaration p f.ports m))))
 
-pub ports_are_first : (ps : List Port) (ds : List Declaration) → map (λ p. p.name) (map net_port ps) ≡ take (length (map net_port ps)) (declared_names (map port_declaration ps ++ ds))
+pub ports_are_first : (ps : List Port) (ds : List Declaration)
+    → map (λ p. p.name) (map net_port ps) ≡ take (length (map net_port ps)) (declared_names (map port_declaration ps ++ ds))
 ports_are_first [] ds = refl
 ports_are_first (p ∷ ps) ds = ap (λ z. p.name.name ∷ z) (ports_are_first ps ds)
 

@@ -109,10 +109,12 @@ module _ (f : File) (h : IsFaultless f) where
 
   fine_item : (x : Item) → Part x f.items → (d : Declaration) → StandsIn d (item_declarations x) → IsFine d.shape
   fine_item (item.wire range x) p d (inl e) =
-      subst (λ z. IsFine z.shape) (sym e) (width_of_range range.value (small_range f h (above_of f.ports p.before) (item.wire range x) (item_in f (item.wire range x) p) range (inl refl)))
+      subst (λ z. IsFine z.shape) (sym e) (width_of_range range.value
+      (small_range f h (above_of f.ports p.before) (item.wire range x) (item_in f (item.wire range x) p) range (inl refl)))
   fine_item (item.wire range x) p d (inr m) = absurd m
   fine_item (item.register range x) p d (inl e) =
-      subst (λ z. IsFine z.shape) (sym e) (width_of_range range.value (small_range f h (above_of f.ports p.before) (item.register range x) (item_in f (item.register range x) p) range (inl refl)))
+      subst (λ z. IsFine z.shape) (sym e) (width_of_range range.value
+      (small_range f h (above_of f.ports p.before) (item.register range x) (item_in f (item.register range x) p) range (inl refl)))
   fine_item (item.register range x) p d (inr m) = absurd m
   fine_item (item.memory range x last) p d (inl e) =
       let a = above_of f.ports p.before in
@@ -253,8 +255,18 @@ module _ (f : File) (h : IsFaultless f) where
   operand_wide before after e (item.named x) us cs = by_shape us.0.shape us.0.declared us.0.suits us.0.assigned where
     by_shape : (s : Shape) → shape_in (declarations f.ports before) x.name ≡ Some s → suits as_value s ≡ true
         → ((width : ℕ) → as_value ≡ as_value → s ≡ wire width → is_set assign x.name before ≡ true) → IsWide before (item.named x)
-    by_shape (input w) d s g = record { width = w; is = ap (λ o. value_width o (is_set assign x.name before)) d; fits = fine_shape x.name (input w) (shape_below f before after x.name (input w) e d) }
-    by_shape (register w) d s g = record { width = w; is = ap (λ o. value_width o (is_set assign x.name before)) d; fits = fine_shape x.name (register w) (shape_below f before after x.name (register w) e d) }
+    by_shape (input w) d s g = record {
+      width = w;
+      is = ap (λ o. value_width o (is_set assign x.name before)) d;
+      fits =
+          fine_shape x.name (input w) (shape_below f before after x.name (input w) e d);
+    }
+    by_shape (register w) d s g = record {
+      width = w;
+      is = ap (λ o. value_width o (is_set assign x.name before)) d;
+      fits =
+          fine_shape x.name (register w) (shape_below f before after x.name (register w) e d);
+    }
     by_shape (wire w) d s g = record {
       width = w;
       is = ap (λ o. value_width o (is_set assign x.name before)) d ∙ ap (value_width (Some (wire w))) (g w refl refl);

@@ -182,7 +182,8 @@ past_item (g.initial_cells a b c d e f h i j) n =
 past_item (g.always a b c d e) n = ((tt, tt), past_sign e (past_operand d (past_sign c (past_name b (past_clocked a n)).1)))
 past_item (g.always_cell a b c d e f h i j k l m) n = (
   (tt, tt),
-  past_sign m (past_operand l (past_sign k (past_sign j (past_operand i (past_sign h (past_name f (past_sign e (past_operand d (past_sign c (past_word b (past_clocked a n)))))).1))))),
+  past_sign m (past_operand l (past_sign k
+      (past_sign j (past_operand i (past_sign h (past_name f (past_sign e (past_operand d (past_sign c (past_word b (past_clocked a n)))))).1))))),
 )
 
 joined : (ms ns : List (List ℕ)) → AreNames ms → AreNames ns → AreNames (ms ++ ns)

@@ -139,7 +139,8 @@ module _ (f : File) (h : IsFaultless f) where
       let cs = good_constants f h a (item.assign x (item.copy o)) i in
       let ps = good_pairs f h a (item.assign x (item.copy o)) (record { setting = assign; name = x }) i refl in
       let y = reads_at before (item.assign x (item.copy o) ∷ after) sc e r o us.1 cs in
-      subst (λ z. IsOperand sc z (net_operand o)) (sym (equal (wire_width (shape_above a x.name)) (operand_width (known_above a) o) w y.width (ap wire_width s) y.is ps.0)) y.operand
+      subst (λ z. IsOperand sc z (net_operand o))
+      (sym (equal (wire_width (shape_above a x.name)) (operand_width (known_above a) o) w y.width (ap wire_width s) y.is ps.0)) y.operand
   right_is before after sc x (item.one op o) w e two r s =
       let p : Part (item.assign x (item.one op o)) f.items = record { before = before; after = after; is = e } in
       let a = above_of f.ports before in
@@ -158,7 +159,8 @@ module _ (f : File) (h : IsFaultless f) where
       let ps = good_pairs f h a (item.assign x (item.two op o q)) (record { setting = assign; name = x }) i refl in
       let y = reads_at before (item.assign x (item.two op o q) ∷ after) sc e r o us.0 cs.0 in
       let z = reads_at before (item.assign x (item.two op o q) ∷ after) sc e r q us.1 cs.1 in
-      let t = two_fits op w y.width z.width (wire_width (shape_above a x.name)) (operand_width (known_above a) o) (operand_width (known_above a) q) (ap wire_width s) y.is z.is ps in
+      let t = two_fits op w y.width z.width (wire_width (shape_above a x.name)) (operand_width (known_above a) o)
+      (operand_width (known_above a) q) (ap wire_width s) y.is z.is ps in
       (y.width, z.width, y.fits, z.fits, y.operand, z.operand, t.0, t.1)
   right_is before after sc x (item.choose c o q) w e two r s =
       let right = item.choose c o q in
@@ -167,7 +169,8 @@ module _ (f : File) (h : IsFaultless f) where
       let i = item_in f (item.assign x (item.choose c o q)) p in
       let us = all_parts (IsGoodUse a) (operand_uses c) (operand_uses o ++ operand_uses q) (good_uses f h a (item.assign x (item.choose c o q)) i).1 in
       let vs = all_parts (IsGoodUse a) (operand_uses o) (operand_uses q) us.1 in
-      let cs = all_parts (λ k. constant_fits k ≡ true) (operand_constants c) (operand_constants o ++ operand_constants q) (good_constants f h a (item.assign x (item.choose c o q)) i) in
+      let cs = all_parts (λ k. constant_fits k ≡ true) (operand_constants c) (operand_constants o ++ operand_constants q)
+      (good_constants f h a (item.assign x (item.choose c o q)) i) in
       let ds = all_parts (λ k. constant_fits k ≡ true) (operand_constants o) (operand_constants q) cs.1 in
       let ps = good_pairs f h a (item.assign x (item.choose c o q)) (record { setting = assign; name = x }) i refl in
       let below = item.assign x (item.choose c o q) ∷ after in
@@ -202,8 +205,15 @@ module _ (f : File) (h : IsFaultless f) where
       let v = value_of (shape_above a y.name) (is_set assign y.name before) z.width z.is in
       let q = slice_fits f h a x y high low v.shape i v.is in
       let below : high < z.width = subst (λ n. high < n) v.width q.1 in
-      let width : slice_width (operand_width (known_above a) (item.named y)) high low ≡ Some (high + 1 - low) = ap (λ o. slice_width o high low) z.is ∙ slice_is z.width high low q.0 below in
-      (z.width, z.fits, z.operand, q.0, below, equal (wire_width (shape_above a x.name)) (slice_width (operand_width (known_above a) (item.named y)) high low) w (high + 1 - low) (ap wire_width s) width ps.0)
+      let width : slice_width (operand_width (known_above a) (item.named y)) high low ≡ Some (high + 1 - low) =
+      ap (λ o. slice_width o high low) z.is ∙ slice_is z.width high low q.0 below in (
+        z.width,
+        z.fits,
+        z.operand,
+        q.0,
+        below,
+        equal (wire_width (shape_above a x.name)) (slice_width (operand_width (known_above a) (item.named y)) high low) w (high + 1 - low) (ap wire_width s) width ps.0,
+      )
   right_is before after sc x (item.cell m index) w e two r s = by_shape us.1.0.shape us.1.0.declared us.1.0.suits where
     i : IsItemOf f (above_of f.ports before) (item.assign x (item.cell m index))
     i = item_in f (item.assign x (item.cell m index)) (record { before = before; after = after; is = e })
@@ -227,7 +237,8 @@ module _ (f : File) (h : IsFaultless f) where
         let deep : shape_above a m.name ≡ Some (memory u (2 ^ b)) = d ∙ ap (λ n. Some (memory u n)) fine.1.1.2 in
         let wide : z.width ≡ b = good_index f h a (item.assign x (item.cell m index)) i m index (inl refl) u b z.width deep z.is in (
           b,
-          memory_found f h m.name ∙ ap (picked memory_shape) below ∙ ap (λ n. let q : ℕ × ℕ = (n, depth) in Some q) (sym same) ∙ ap (λ n. let q : ℕ × ℕ = (w, n) in Some q) fine.1.1.2,
+          memory_found f h m.name ∙ ap (picked memory_shape) below ∙ ap (λ n. let q : ℕ × ℕ = (n, depth) in Some q) (sym same)
+              ∙ ap (λ n. let q : ℕ × ℕ = (w, n) in Some q) fine.1.1.2,
           subst (λ n. IsOperand sc n (net_operand index)) wide z.operand,
         )
 
@@ -300,7 +311,8 @@ module _ (f : File) (h : IsFaultless f) where
       step before (item.wire range x) rest sc (wires_from (before ++ item.wire range x ∷ []) rest sc (e ∙ sym (append_assoc before (item.wire range x ∷ []) rest)) two.1 g)
   wires_from before (item.register range x ∷ rest) sc e two r =
       let g = kept_reads sc before (item.register range x) (λ n. refl) r in
-      step before (item.register range x) rest sc (wires_from (before ++ item.register range x ∷ []) rest sc (e ∙ sym (append_assoc before (item.register range x ∷ []) rest)) two.1 g)
+      step before (item.register range x) rest sc
+      (wires_from (before ++ item.register range x ∷ []) rest sc (e ∙ sym (append_assoc before (item.register range x ∷ []) rest)) two.1 g)
   wires_from before (item.memory range x last ∷ rest) sc e two r =
       let g = kept_reads sc before (item.memory range x last) (λ n. refl) r in
       step before (item.memory range x last) rest sc

@@ -17,7 +17,8 @@ both c s t =
     lines_fit (world c) c.spans-lines.result.now c.index-lines-0.result c.index-lines-1.result s t c.if-lines-ne2.false
     (ap (λ (x : Span). x.count) (sym c.index-lines-0.is) ∙ sym c.count.ensures.number ∙ c.if-count-ne1.false)
     (ap (λ (x : Span). x.count) (sym c.index-lines-1.is) ∙ sym c.count-else-count-ne1.ensures.number ∙ c.if-count-ne1-2.false)
-    (read_fits (levels_in c.args.checked.now) (tree_in c.args.checked.now) c.args.netlist c.args.stimulus.now c.in_ok-parsed.parsed c.spans-lines.result.now c.steps_show_refused.ensures c.in_ok-parsed.ensures c.spans-lines.ensures)
+    (read_fits (levels_in c.args.checked.now) (tree_in c.args.checked.now) c.args.netlist c.args.stimulus.now c.in_ok-parsed.parsed
+    c.spans-lines.result.now c.steps_show_refused.ensures c.in_ok-parsed.ensures c.spans-lines.ensures)
 
 pub refuses-requires-clause-fits : goal.refuses-requires-clause-fits
 refuses-requires-clause-fits c =

@@ -20,12 +20,14 @@ add_command-returns-in_ok-add_else-in-If t c =
 
 pub add_command-returns-in_ok-add_list-in-TryThen-2 : goal.add_command-returns-in_ok-add_list-in-TryThen-2
 add_command-returns-in_ok-add_list-in-TryThen-2 t c =
-    then_points _ _ _ c.in-TryThen.accepted c.in-TryThen.refused _ _ _ _ _ _ _ (ap command_of c.in-TryThen.is ∙ command_of-try_then _ _ _ _) c.as_slice-in-TryThen.ensures.value c.as_slice-in-TryThen-2.ensures.value
+    then_points _ _ _ c.in-TryThen.accepted c.in-TryThen.refused _ _ _ _ _ _ _ (ap command_of c.in-TryThen.is
+    ∙ command_of-try_then _ _ _ _) c.as_slice-in-TryThen.ensures.value c.as_slice-in-TryThen-2.ensures.value
     c.in_ok-add_simple-in-TryThen.ensures c.in_ok-add_point-in-TryThen.ensures c.in_ok-add_list-in-TryThen.ensures c.in_ok-add_list-in-TryThen-2.ensures
 
 pub add_command-returns-in_ok-add_list-in-Case : goal.add_command-returns-in_ok-add_list-in-Case
 add_command-returns-in_ok-add_list-in-Case t c =
-    case_points _ _ _ c.in-Case.arms.items c.in-Case.last _ _ _ _ _ _ (ap command_of c.in-Case.is ∙ command_of-case _ _ _ _) c.as_slice-in-Case.ensures.value c.as_slice-in-Case-2.ensures.value
+    case_points _ _ _ c.in-Case.arms.items c.in-Case.last _ _ _ _ _ _ (ap command_of c.in-Case.is
+    ∙ command_of-case _ _ _ _) c.as_slice-in-Case.ensures.value c.as_slice-in-Case-2.ensures.value
     c.in_ok-add_point-in-Case.ensures c.in_ok-add_arms-in-Case.ensures c.in_ok-add_list-in-Case.ensures
 
 pub add_arms-loop-arm-preserved : goal.add_arms-loop-arm-preserved

@@ -15,7 +15,8 @@ add_list-returns t c =
 
 pub add_arms-loop-arm-preserved : goal.add_arms-loop-arm-preserved
 add_arms-loop-arm-preserved t c =
-    arms_step (surroundings_of c.args.names.now c.args.body.now) c.args.arms.now c.loop-arm.arm-index c.arm-item.result _ _ _ (omega arith) c.arm-item.is c.as_slice.ensures.value c.in_ok-add_list.ensures
+    arms_step (surroundings_of c.args.names.now c.args.body.now) c.args.arms.now c.loop-arm.arm-index c.arm-item.result _ _ _ (omega arith)
+    c.arm-item.is c.as_slice.ensures.value c.in_ok-add_list.ensures
     ∙ c.loop-arm.invariant
 
 pub add_arms-returns : goal.add_arms-returns

@@ -7,17 +7,20 @@ use Rattle.sap_commands.proofs.comparing.compare.Goals as goal
 pub returns-in_err-one : goal.returns-in_err-one
 returns-in_err-one g c = λ lattice ls net written of_file is some.
     let p = err_from_is_err_and c.from_residual.result c.from_residual.ensures.1 in
-    rw (p.1, p.2) (no_first lattice ls (levels_in c.args.checked.now) (tree_in c.args.checked.now) of_file is c.args.first.now c.args.second.now c.args.word.now c.args.level _ _ _ c.in_err-one.ensures)
+    rw (p.1, p.2) (no_first lattice ls (levels_in c.args.checked.now) (tree_in c.args.checked.now) of_file is c.args.first.now
+    c.args.second.now c.args.word.now c.args.level _ _ _ c.in_err-one.ensures)
 
 pub returns-in_err-other : goal.returns-in_err-other
 returns-in_err-other g c = λ lattice ls net written of_file is some.
     let p = err_from_is_err_and c.from_residual-in_err-other.result c.from_residual-in_err-other.ensures.1 in
-    rw (p.1, p.2) (no_second lattice ls (levels_in c.args.checked.now) (tree_in c.args.checked.now) of_file is c.args.first.now c.args.second.now c.args.word.now c.args.level _ c.in_ok-one.one _ c.in_ok-one.ensures _ _ c.in_err-other.ensures)
+    rw (p.1, p.2) (no_second lattice ls (levels_in c.args.checked.now) (tree_in c.args.checked.now) of_file is c.args.first.now
+    c.args.second.now c.args.word.now c.args.level _ c.in_ok-one.one _ c.in_ok-one.ensures _ _ c.in_err-other.ensures)
 
 pub returns-in_err-text : goal.returns-in_err-text
 returns-in_err-text g c = λ lattice ls net written of_file is some.
     let p = err_from_is_err_and c.from_residual-in_err-text.result c.from_residual-in_err-text.ensures.1 in
-    rw (p.1, p.2) (no_verdict lattice ls (levels_in c.args.checked.now) (tree_in c.args.checked.now) of_file is c.args.first.now c.args.second.now c.args.word.now c.args.level _ c.in_ok-one.one _ c.in_ok-one.ensures c.in_ok-other.other _ c.in_ok-other.ensures _ c.in_err-text.ensures)
+    rw (p.1, p.2) (no_verdict lattice ls (levels_in c.args.checked.now) (tree_in c.args.checked.now) of_file is c.args.first.now
+    c.args.second.now c.args.word.now c.args.level _ c.in_ok-one.one _ c.in_ok-one.ensures c.in_ok-other.other _ c.in_ok-other.ensures _ c.in_err-text.ensures)
 
 pub verdict-requires : goal.verdict-requires
 verdict-requires g c =
@@ -27,4 +30,6 @@ verdict-requires g c =
 
 pub returns : goal.returns
 returns g c = λ lattice ls net written of_file is some.
-    told lattice ls (levels_in c.args.checked.now) (tree_in c.args.checked.now) of_file is c.args.first.now c.args.second.now c.args.word.now c.args.level _ c.in_ok-one.one _ c.in_ok-one.ensures c.in_ok-other.other _ c.in_ok-other.ensures net written c.in_ok-text.text _ _ some c.in_ok-text.ensures c.put.ensures
+    told lattice ls (levels_in c.args.checked.now) (tree_in c.args.checked.now) of_file is c.args.first.now c.args.second.now
+    c.args.word.now c.args.level _ c.in_ok-one.one _ c.in_ok-one.ensures c.in_ok-other.other _ c.in_ok-other.ensures net written
+    c.in_ok-text.text _ _ some c.in_ok-text.ensures c.put.ensures

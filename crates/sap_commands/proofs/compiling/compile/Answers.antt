@@ -14,7 +14,8 @@ returns-in_err-file g c =
 pub returns-in_err-compiled : goal.returns-in_err-compiled
 returns-in_err-compiled g c =
     let p = err_from_is_err_and c.from_residual-in_err-compiled.result c.from_residual-in_err-compiled.ensures.1 in
-    rw (p.1, p.2) (past (whole c.in_ok-file.file.lattice) c.in_ok-file.ensures.0 c.in_ok-file.ensures.1 (reading_ended (c.in_err-compiled.ensures (whole c.in_ok-file.file.lattice) c.in_ok-file.ensures.1)))
+    rw (p.1, p.2) (past (whole c.in_ok-file.file.lattice) c.in_ok-file.ensures.0 c.in_ok-file.ensures.1
+    (reading_ended (c.in_err-compiled.ensures (whole c.in_ok-file.file.lattice) c.in_ok-file.ensures.1)))
 
 pub returns : goal.returns
 returns g c =

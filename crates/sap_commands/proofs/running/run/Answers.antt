@@ -30,7 +30,8 @@ returns-in_err-file g c =
 pub returns-in_err-compiled : goal.returns-in_err-compiled
 returns-in_err-compiled g c =
     let p = err_from_is_err_and c.from_residual-in_err-compiled.result c.from_residual-in_err-compiled.ensures.1 in
-    rw (p.1, p.2) (past (whole c.in_ok-file.file.lattice) c.in_ok-file.ensures.0 c.in_ok-file.ensures.1 (reading_ended (c.in_err-compiled.ensures (whole c.in_ok-file.file.lattice) c.in_ok-file.ensures.1)))
+    rw (p.1, p.2) (past (whole c.in_ok-file.file.lattice) c.in_ok-file.ensures.0 c.in_ok-file.ensures.1
+    (reading_ended (c.in_err-compiled.ensures (whole c.in_ok-file.file.lattice) c.in_ok-file.ensures.1)))
 
 pub rows_of_run-requires : goal.rows_of_run-requires
 rows_of_run-requires g c =
@@ -54,8 +55,14 @@ returns g c =
     let ls = whole c.in_ok-file.file.lattice in
     let (source, reads, compiled) = c.in_ok-compiled.ensures in
     let same = compiled_same c.in_ok-file.file.bytes source m ls compiled c.in_ok-file.ensures.1 in
-    let runs : GivesRuns k d n = rw (c.lattice.ensures, c.design.ensures, c.into_parts-checked.ensures.checked, c.into_parts-checked.ensures.netlist) at c.rows_of_run.ensures.runs in
-    let fields : fields_of k n ≡ design_fields d = rw (c.lattice.ensures, c.design.ensures, c.into_parts-checked.ensures.checked, c.into_parts-checked.ensures.netlist) at c.rows_of_run.ensures.fields in
+    let runs : GivesRuns k d n = rw (
+      c.lattice.ensures,
+      c.design.ensures,
+      c.into_parts-checked.ensures.checked,
+      c.into_parts-checked.ensures.netlist,
+    ) at c.rows_of_run.ensures.runs in
+    let fields : fields_of k n ≡ design_fields d =
+    rw (c.lattice.ensures, c.design.ensures, c.into_parts-checked.ensures.checked, c.into_parts-checked.ensures.netlist) at c.rows_of_run.ensures.fields in
     let printed = rw (c.lattice-2.ensures, c.into_parts-checked.ensures.checked, c.into_parts-checked.ensures.netlist) at c.print_rows.ensures in
     past ls c.in_ok-file.ensures.0 c.in_ok-file.ensures.1
     (compiled_past c.in_ok-file.ensures.1 c.in_ok-compiled.ensures

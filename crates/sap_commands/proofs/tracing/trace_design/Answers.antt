@@ -20,7 +20,8 @@ returns-in_err-file g c =
 pub returns-in_err-compiled : goal.returns-in_err-compiled
 returns-in_err-compiled g c =
     let p = err_from_is_err_and c.from_residual-in_err-compiled.result c.from_residual-in_err-compiled.ensures.1 in
-    rw (p.1, p.2) (past (whole c.in_ok-file.file.lattice) c.in_ok-file.ensures.0 c.in_ok-file.ensures.1 (reading_ended (c.in_err-compiled.ensures (whole c.in_ok-file.file.lattice) c.in_ok-file.ensures.1)))
+    rw (p.1, p.2) (past (whole c.in_ok-file.file.lattice) c.in_ok-file.ensures.0 c.in_ok-file.ensures.1
+    (reading_ended (c.in_err-compiled.ensures (whole c.in_ok-file.file.lattice) c.in_ok-file.ensures.1)))
 
 pub print_trace-requires : goal.print_trace-requires
 print_trace-requires g c = rw (c.into_parts-checked.ensures.checked, c.into_parts-checked.ensures.netlist) c.in_ok-compiled.ensures.2.is_module.stands

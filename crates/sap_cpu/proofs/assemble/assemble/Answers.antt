@@ -18,7 +18,8 @@ pub returns-then-here-rest : goal.returns-then-here-rest
 returns-then-here-rest c =
     let small : c.loop-rest.count + 1 ≤ 16 = let few = c.loop-rest.invariant.few in let more = c.if-count-eq16.false in omega arith in
     refuses c.args.text.now c.loop-rest.words c.loop-rest.rest.now c.loop-rest.count _ c.loop-rest.invariant
-    (open_line c.loop-rest.rest.now c.cut.result.0.now (c.loop-rest.count + 1) (non_empty c.loop-rest.rest.now c.loop-rest-test.ensures) small c.cut.ensures.before c.if-here-rest.true)
+    (open_line c.loop-rest.rest.now c.cut.result.0.now (c.loop-rest.count + 1) (non_empty c.loop-rest.rest.now c.loop-rest-test.ensures)
+    small c.cut.ensures.before c.if-here-rest.true)
 
 pub bounds-words-count : goal.bounds-words-count
 bounds-words-count c = let few = c.loop-rest.invariant.few in let more = c.if-count-eq16.false in omega arith
@@ -27,7 +28,8 @@ pub returns-in-Err : goal.returns-in-Err
 returns-in-Err c =
     let small : c.loop-rest.count + 1 ≤ 16 = let few = c.loop-rest.invariant.few in let more = c.if-count-eq16.false in omega arith in
     refuses c.args.text.now c.loop-rest.words c.loop-rest.rest.now c.loop-rest.count _ c.loop-rest.invariant
-    (line_read c.loop-rest.rest.now c.cut.result.0.now (c.loop-rest.count + 1) (Err c.in-Err.code) (non_empty c.loop-rest.rest.now c.loop-rest-test.ensures) small c.cut.ensures.before c.if-here-rest.false (sym c.in-Err.is ∙ c.read_word.ensures))
+    (line_read c.loop-rest.rest.now c.cut.result.0.now (c.loop-rest.count + 1) (Err c.in-Err.code)
+    (non_empty c.loop-rest.rest.now c.loop-rest-test.ensures) small c.cut.ensures.before c.if-here-rest.false (sym c.in-Err.is ∙ c.read_word.ensures))
 
 pub loop-rest-smaller : goal.loop-rest-smaller
 loop-rest-smaller c =
@@ -39,8 +41,10 @@ pub loop-rest-preserved : goal.loop-rest-preserved
 loop-rest-preserved c =
     let small : c.loop-rest.count + 1 ≤ 16 = let few = c.loop-rest.invariant.few in let more = c.if-count-eq16.false in omega arith in
     goes_on c.args.text.now c.loop-rest.words c.loop-rest.rest.now c.cut.result.1.now c.loop-rest.count c.in-Ok.word c.loop-rest.invariant c.if-count-eq16.false
-    (line_read c.loop-rest.rest.now c.cut.result.0.now (c.loop-rest.count + 1) (Ok c.in-Ok.word) (non_empty c.loop-rest.rest.now c.loop-rest-test.ensures) small c.cut.ensures.before c.if-here-rest.false (sym c.in-Ok.is ∙ c.read_word.ensures)
+    (line_read c.loop-rest.rest.now c.cut.result.0.now (c.loop-rest.count + 1) (Ok c.in-Ok.word)
+    (non_empty c.loop-rest.rest.now c.loop-rest-test.ensures) small c.cut.ensures.before c.if-here-rest.false (sym c.in-Ok.is ∙ c.read_word.ensures)
     ∙ ap (λ (later : List ℕ). and_word c.in-Ok.word (words_of (c.loop-rest.count + 1 + 1) (lines_of later))) (sym c.cut.ensures.behind))
 
 pub returns : goal.returns
-returns c = ap Ok c.new.ensures ∙ finishes c.args.text.now c.loop-rest.words c.loop-rest.rest.now c.loop-rest.count c.loop-rest.invariant (empty c.loop-rest.rest.now c.loop-rest-test.ensures)
+returns c = ap Ok c.new.ensures ∙ finishes c.args.text.now c.loop-rest.words c.loop-rest.rest.now c.loop-rest.count c.loop-rest.invariant
+    (empty c.loop-rest.rest.now c.loop-rest-test.ensures)

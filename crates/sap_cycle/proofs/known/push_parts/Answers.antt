@@ -10,13 +10,15 @@ pub slot_of-slot-requires : goal.slot_of-slot-requires
 slot_of-slot-requires c =
     let known = c.args.known.now in
     let item = c.operand-item.result in
-    subst (IsKnownOperand known) (sym c.operand-item.is) (all_get_or (IsKnownOperand known) c.args.operands.now c.loop-operand.operand-index item c.requires c.loop-operand-test.true)
+    subst (IsKnownOperand known) (sym c.operand-item.is)
+    (all_get_or (IsKnownOperand known) c.args.operands.now c.loop-operand.operand-index item c.requires c.loop-operand-test.true)
 
 pub operand_width-width-requires : goal.operand_width-width-requires
 operand_width-width-requires c =
     let known = c.args.known.now in
     let item = c.operand-item.result in
-    subst (IsKnownOperand known) (sym c.operand-item.is) (all_get_or (IsKnownOperand known) c.args.operands.now c.loop-operand.operand-index item c.requires c.loop-operand-test.true)
+    subst (IsKnownOperand known) (sym c.operand-item.is)
+    (all_get_or (IsKnownOperand known) c.args.operands.now c.loop-operand.operand-index item c.requires c.loop-operand-test.true)
 
 pub loop-operand-preserved : goal.loop-operand-preserved
 loop-operand-preserved c =

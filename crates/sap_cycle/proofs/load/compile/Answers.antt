@@ -36,7 +36,8 @@ loop-wire-preserved c =
     let more = c.in_ok-instruction.ensures.more in
     let es : map (step_of_instruction c.instruction_of.new.others.items) c.push.new.self.items ≡ ss ++ step_found k (length ps) w.right ∷ [] =
     ap (map (step_of_instruction c.instruction_of.new.others.items)) c.in_ok-push.ensures.items
-    ∙ steps_more c.loop-wire.others.items c.instruction_of.new.others.items more.0 c.loop-wire.steps.items c.in_ok-instruction.instruction (step_found k (length ps) w.right) more.1 c.loop-wire.invariant.1
+    ∙ steps_more c.loop-wire.others.items c.instruction_of.new.others.items more.0 c.loop-wire.steps.items c.in_ok-instruction.instruction
+    (step_found k (length ps) w.right) more.1 c.loop-wire.invariant.1
     (c.in_ok-instruction.ensures.step ∙ c.in_ok-step.ensures.step) in
     let ep : c.step_of.new.parts.items ≡ ps ++ parts_found k w.right = c.in_ok-step.ensures.parts in
     let whole : Compiling n (i + 1) c.learn.new.known (map (step_of_instruction c.instruction_of.new.others.items) c.push.new.self.items) c.step_of.new.parts.items =
@@ -44,17 +45,20 @@ loop-wire-preserved c =
     (subst (λ (l : List Part). Compiling n (i + 1) c.learn.new.known (ss ++ step_found k (length ps) w.right ∷ []) l) (sym ep)
     (compiling_more n i k ss ps c.loop-wire.invariant.0 w lt is c.learn.new.known c.in_ok-learn.ensures)) in
     let within =
-    within_pushed c.loop-wire.others.items c.instruction_of.new.others.items more.0 c.loop-wire.steps.items c.in_ok-instruction.instruction more.1 c.loop-wire.invariant.1 c.in_ok-instruction.ensures.within in
+    within_pushed c.loop-wire.others.items c.instruction_of.new.others.items more.0 c.loop-wire.steps.items c.in_ok-instruction.instruction
+    more.1 c.loop-wire.invariant.1 c.in_ok-instruction.ensures.within in
     (whole, subst (AllByRecursion (IsWithin (length c.instruction_of.new.others.items))) (sym c.in_ok-push.ensures.items) within)
 
 pub returns-clause-mean : goal.returns-clause-mean
 returns-clause-mean c =
     let n = c.args.netlist.now in
     let le : length n.wires ≤ c.loop-wire.wire-index = subst (λ (l : List Wire). length l ≤ c.loop-wire.wire-index) c.wires-wires.ensures c.loop-wire-test.false in
-    compiled_mean n c.loop-wire.wire-index c.loop-wire.known (map (step_of_instruction c.loop-wire.others.items) c.loop-wire.steps.items) c.loop-wire.parts.items c.loop-wire.invariant.0 le
+    compiled_mean n c.loop-wire.wire-index c.loop-wire.known (map (step_of_instruction c.loop-wire.others.items) c.loop-wire.steps.items)
+    c.loop-wire.parts.items c.loop-wire.invariant.0 le
 
 pub returns-clause-knows : goal.returns-clause-knows
 returns-clause-knows c =
     let n = c.args.netlist.now in
     let le : length n.wires ≤ c.loop-wire.wire-index = subst (λ (l : List Wire). length l ≤ c.loop-wire.wire-index) c.wires-wires.ensures c.loop-wire-test.false in
-    compiled_knows n c.loop-wire.wire-index c.loop-wire.known (map (step_of_instruction c.loop-wire.others.items) c.loop-wire.steps.items) c.loop-wire.parts.items c.loop-wire.invariant.0 le
+    compiled_knows n c.loop-wire.wire-index c.loop-wire.known (map (step_of_instruction c.loop-wire.others.items) c.loop-wire.steps.items)
+    c.loop-wire.parts.items c.loop-wire.invariant.0 le

@@ -16,8 +16,10 @@ returns c =
     let f = width_of n in
     let is = c.inputs.result.now in
     let rs = c.registers.result.now in
-    let wide_inputs : AllByRecursion (λ (i : Input). f i.name ≡ i.width) is = subst (AllByRecursion (λ (i : Input). f i.name ≡ i.width)) (sym c.inputs.ensures) (inputs_wide n c.rules.ensures) in
-    let wide_registers : AllByRecursion (λ (r : Register). f r.name ≡ r.width) rs = subst (AllByRecursion (λ (r : Register). f r.name ≡ r.width)) (sym c.registers.ensures) (registers_wide n c.rules.ensures) in
+    let wide_inputs : AllByRecursion (λ (i : Input). f i.name ≡ i.width) is =
+    subst (AllByRecursion (λ (i : Input). f i.name ≡ i.width)) (sym c.inputs.ensures) (inputs_wide n c.rules.ensures) in
+    let wide_registers : AllByRecursion (λ (r : Register). f r.name ≡ r.width) rs =
+    subst (AllByRecursion (λ (r : Register). f r.name ≡ r.width)) (sym c.registers.ensures) (registers_wide n c.rules.ensures) in
     let inputs_known : Knows f n.memories (map (λ (i : Input). i.name) is) c.learn_inputs.new.known =
     c.in_ok-learn_inputs.ensures {u = tt} f n.memories []
     (record {

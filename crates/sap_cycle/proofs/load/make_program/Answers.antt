@@ -40,7 +40,8 @@ in_order-requires-clause-room c =
     let i = c.in_ok-compiled.compiled in
     let base : c.len-base.result ≡ length c.args.known.now.widths.items = search rules in
     let places : c.len-places.result ≡ length c.compile.new.known.widths.items = search rules in
-    let room = row_room n i.parts.items i.others.items i.steps.items c.args.known.now c.compile.new.known c.requires.knows c.in_ok-compiled.ensures.knows c.in_ok-compiled.ensures.mean in
+    let room = row_room n i.parts.items i.others.items i.steps.items c.args.known.now c.compile.new.known c.requires.knows
+    c.in_ok-compiled.ensures.knows c.in_ok-compiled.ensures.mean in
     omega (arith, base, places, room, ap length c.deref-3.ensures.value)
 
 pub in_order-requires-clause-own : goal.in_order-requires-clause-own
@@ -62,8 +63,10 @@ returns-clause-program c =
     let own = map (step_of_instruction i.others.items) i.steps.items in
     let steps = c.in_ok-steps.steps.items in
     let base : c.len-base.result ≡ length c.args.known.now.widths.items = search rules in
-    let made : IsOrder c.len-base.result c.deref.result.now (map (step_of_instruction c.deref-2.result.now) c.deref-3.result.now) (map (placed_step c.deref-2.result.now) steps) = c.in_ok-steps.ensures {u = tt} in
-    let order : IsOrder c.len-base.result i.parts.items own (map (placed_step i.others.items) steps) = rw (c.deref.ensures.value, c.deref-2.ensures.value, c.deref-3.ensures.value) at made in
+    let made : IsOrder c.len-base.result c.deref.result.now (map (step_of_instruction c.deref-2.result.now) c.deref-3.result.now)
+    (map (placed_step c.deref-2.result.now) steps) = c.in_ok-steps.ensures {u = tt} in
+    let order : IsOrder c.len-base.result i.parts.items own (map (placed_step i.others.items) steps) =
+    rw (c.deref.ensures.value, c.deref-2.ensures.value, c.deref-3.ensures.value) at made in
     let runs : steps_of_runs i.others.items c.in_ok-runs.runs.items ≡ map (placed_step i.others.items) steps =
     c.in_ok-runs.ensures {u = tt} i.others.items ∙ ap (map (placed_step i.others.items)) c.deref-4.ensures.value in
     record {

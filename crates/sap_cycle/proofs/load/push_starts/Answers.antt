@@ -12,4 +12,5 @@ loop-register-preserved c =
 pub returns : goal.returns
 returns c =
     c.loop-register.invariant
-    ∙ ap (λ registers. c.args.numbers.now.items ++ map (λ (r : Register). r.start) registers) (take_all c.loop-register.register-index c.args.registers.now c.loop-register-test.false)
+    ∙ ap (λ registers. c.args.numbers.now.items ++ map (λ (r : Register). r.start) registers)
+    (take_all c.loop-register.register-index c.args.registers.now c.loop-register-test.false)

@@ -18,7 +18,8 @@ loop-i-preserved c =
     let m = c.index-memories-i.result in
     let names = map (λ (k : Memory). k.name) (take i ms) in
     let long : i ≡ length names = omega (arith, length-map (take i ms) (λ (k : Memory). k.name), length-take-le i ms (omega arith)) in
-    let finds : Finds c.put.new.map (names ++ m.name ∷ []) = finds_more c.loop-i.numbers c.put.new.map names m.name i long (c.in_ok-put.ensures {u = tt}) c.loop-i.invariant.found in
+    let finds : Finds c.put.new.map (names ++ m.name ∷ []) =
+    finds_more c.loop-i.numbers c.put.new.map names m.name i long (c.in_ok-put.ensures {u = tt}) c.loop-i.invariant.found in
     let base : c.len.result ≡ length c.loop-i.cells.items = c.len.ensures ∙ c.loop-i.cells.ok.0 in
     let eb : c.push.new.self.items ≡ c.loop-i.bases.items ++ length c.loop-i.cells.items ∷ [] =
     c.in_ok-push.ensures.items ∙ ap (λ (j : ℕ). c.loop-i.bases.items ++ j ∷ []) base in

@@ -13,17 +13,20 @@ index-base-requires c =
 pub slot_of-enable-requires : goal.slot_of-enable-requires
 slot_of-enable-requires c =
     let m = c.index-memories-i.result in
-    (subst (IsKnownPort c.args.known.now) (sym c.index-memories-i.is) (all_get_or (IsKnownPort c.args.known.now) c.args.memories.now c.loop-i.i m c.requires.operands (omega arith))).0
+    (subst (IsKnownPort c.args.known.now) (sym c.index-memories-i.is)
+    (all_get_or (IsKnownPort c.args.known.now) c.args.memories.now c.loop-i.i m c.requires.operands (omega arith))).0
 
 pub slot_of-index-requires : goal.slot_of-index-requires
 slot_of-index-requires c =
     let m = c.index-memories-i.result in
-    (subst (IsKnownPort c.args.known.now) (sym c.index-memories-i.is) (all_get_or (IsKnownPort c.args.known.now) c.args.memories.now c.loop-i.i m c.requires.operands (omega arith))).1
+    (subst (IsKnownPort c.args.known.now) (sym c.index-memories-i.is)
+    (all_get_or (IsKnownPort c.args.known.now) c.args.memories.now c.loop-i.i m c.requires.operands (omega arith))).1
 
 pub slot_of-value-requires : goal.slot_of-value-requires
 slot_of-value-requires c =
     let m = c.index-memories-i.result in
-    (subst (IsKnownPort c.args.known.now) (sym c.index-memories-i.is) (all_get_or (IsKnownPort c.args.known.now) c.args.memories.now c.loop-i.i m c.requires.operands (omega arith))).2
+    (subst (IsKnownPort c.args.known.now) (sym c.index-memories-i.is)
+    (all_get_or (IsKnownPort c.args.known.now) c.args.memories.now c.loop-i.i m c.requires.operands (omega arith))).2
 
 pub loop-i-preserved : goal.loop-i-preserved
 loop-i-preserved c =

@@ -6,5 +6,6 @@ use Rattle.sap_cycle.proofs.runs.settle_eq_number.Given as goal
 
 abbrev pub invariant-loop-step : goal.invariant-loop-step
 invariant-loop-step l =
-    (settled l.cells l.parts (map (operands_step operator.EqNumber) (drop l.step-index l.steps)) l.values ≡ settled l.cells l.parts (map (operands_step operator.EqNumber) l.steps) l.fn.values)
+    (settled l.cells l.parts (map (operands_step operator.EqNumber) (drop l.step-index l.steps)) l.values
+    ≡ settled l.cells l.parts (map (operands_step operator.EqNumber) l.steps) l.fn.values)
     × AreReady l.cells l.parts (map (operands_step operator.EqNumber) (drop l.step-index l.steps)) l.values

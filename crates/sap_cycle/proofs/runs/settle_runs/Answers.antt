@@ -18,4 +18,5 @@ loop-run-preserved c =
     let l = c.loop-run in
     let whole = settled a.cells.now a.parts.now (steps_of_runs a.others.now a.runs.now) a.values.now in
     let next = next_run a.runs.now l.run-index c.run-item.result c.loop-run-test.true c.run-item.is in
-    run_more a.cells.now a.parts.now a.others.now whole c.run-item.result (drop l.run-index a.runs.now) (drop (l.run-index + 1) a.runs.now) l.values c.settle_run.new.values l.invariant next c.settle_run.ensures
+    run_more a.cells.now a.parts.now a.others.now whole c.run-item.result (drop l.run-index a.runs.now) (drop (l.run-index + 1) a.runs.now)
+    l.values c.settle_run.new.values l.invariant next c.settle_run.ensures

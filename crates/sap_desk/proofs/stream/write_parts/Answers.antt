@@ -12,4 +12,5 @@ returns-in_err-write-clause-failed g c =
 pub returns-in_err-write-clause-cause : goal.returns-in_err-write-clause-cause
 returns-in_err-write-clause-cause g c =
     let more = take_more c.args.parts.now c.loop-part.part-index (record { ref_ptr = (0, 0); now = [] }) c.loop-part-test.true in
-    on_err c.from_residual.result (λ sure. fills_in _ _ _ _ _ _ _ (joined_at c.args.parts.now c.loop-part.part-index _ more) c.loop-part.invariant.told (c.in_err-write.ensures.cause (c.loop-part.invariant.sure sure)))
+    on_err c.from_residual.result (λ sure. fills_in _ _ _ _ _ _ _ (joined_at c.args.parts.now c.loop-part.part-index _ more)
+    c.loop-part.invariant.told (c.in_err-write.ensures.cause (c.loop-part.invariant.sure sure)))

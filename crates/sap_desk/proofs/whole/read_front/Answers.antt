@@ -4,7 +4,9 @@ use Rattle.sap_desk.proofs.ReadFiles.{front_opened, not_finished, not_read, open
 use Rattle.sap_desk.proofs.whole.read_front.Goals as goal
 
 pub returns-in_err-finish-in-Ok-clause-failed : goal.returns-in_err-finish-in-Ok-clause-failed
-returns-in_err-finish-in-Ok-clause-failed g c = λ _. not_finished _ _ _ c.in_ok-channel.ensures.number _ _ _ _ c.in_ok-channel.ensures.fresh c.in_ok-channel.ensures.told c.in-Ok.ensures.told c.in_err-finish-in-Ok.ensures.failed
+returns-in_err-finish-in-Ok-clause-failed g c =
+    λ _. not_finished _ _ _ c.in_ok-channel.ensures.number _ _ _ _ c.in_ok-channel.ensures.fresh c.in_ok-channel.ensures.told
+    c.in-Ok.ensures.told c.in_err-finish-in-Ok.ensures.failed
 
 pub returns-in_err-finish-in-Err-Memory-clause-failed :
     goal.returns-in_err-finish-in-Err-Memory-clause-failed
@@ -22,7 +24,8 @@ returns-in-Err-Failed-clause-failed g c = λ _.
 
 pub returns-in_err-finish-in-Ok-clause-open : goal.returns-in_err-finish-in-Ok-clause-open
 returns-in_err-finish-in-Ok-clause-open g c = λ _ _.
-    open_unfinished _ _ _ c.in_ok-channel.ensures.number _ _ _ _ c.in_ok-channel.ensures.fresh c.in_ok-channel.ensures.told c.in-Ok.ensures.told c.in_err-finish-in-Ok.ensures.failed
+    open_unfinished _ _ _ c.in_ok-channel.ensures.number _ _ _ _ c.in_ok-channel.ensures.fresh c.in_ok-channel.ensures.told
+    c.in-Ok.ensures.told c.in_err-finish-in-Ok.ensures.failed
 
 pub returns-in_err-finish-in-Err-Memory-clause-open : goal.returns-in_err-finish-in-Err-Memory-clause-open
 returns-in_err-finish-in-Err-Memory-clause-open g c = λ _ _.

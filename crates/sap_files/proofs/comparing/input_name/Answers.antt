@@ -12,7 +12,8 @@ returns-then-left-eq0 c =
     IfOk-weaker c.copy.result (λ name. name ≡ c.entity-entity.result.now.name.name) (λ name. name ≡ input_name (tree_in c.args.checked.now) c.args.place)
     (λ name is.
     is
-    ∙ sym (input_here c.names-names.result.now c.loop-number.number c.entity-entity.result.now c.entity-entity.ensures c.loop-number.left (sym c.if-is_input.ensures) c.if-left-eq0.true)
+    ∙ sym (input_here c.names-names.result.now c.loop-number.number c.entity-entity.result.now c.entity-entity.ensures c.loop-number.left
+    (sym c.if-is_input.ensures) c.if-left-eq0.true)
     ∙ c.loop-number.invariant
     ∙ ap (λ (es : List Entity). get_or (input_names es) c.args.place []) c.names-names.ensures)
     c.copy.ensures
@@ -21,7 +22,8 @@ pub loop-number-preserved : goal.loop-number-preserved
 loop-number-preserved c = elim c.if-is_input.branch [
   | then-is_input+else-left-eq0 w ↦
       rw w.left-is
-      (sym (input_later c.names-names.result.now c.loop-number.number c.entity-entity.result.now c.entity-entity.ensures c.loop-number.left (sym w.if-is_input.ensures) w.if-left-eq0.false)
+      (sym (input_later c.names-names.result.now c.loop-number.number c.entity-entity.result.now c.entity-entity.ensures c.loop-number.left
+      (sym w.if-is_input.ensures) w.if-left-eq0.false)
       ∙ c.loop-number.invariant)
   | else-is_input w ↦
       rw w.left-is

@@ -9,7 +9,8 @@ returns-in-Ok g c =
 pub returns-in-Err-Call : goal.returns-in-Err-Call
 returns-in-Err-Call g c =
     let is = c.in-Err-Call.field-0-is in
-    rw c.blamed.ensures (failed_ends (g.S.Steps.shows c.args.steps.now) (g.S.Steps.levels c.args.steps.now) (g.S.Steps.fields c.args.steps.now) c.args.stimulus.now c.requires.whole c.in-Err-Call.why _ _
+    rw c.blamed.ensures (failed_ends (g.S.Steps.shows c.args.steps.now) (g.S.Steps.levels c.args.steps.now)
+    (g.S.Steps.fields c.args.steps.now) c.args.stimulus.now c.requires.whole c.in-Err-Call.why _ _
     (rw is at c.in-Err-Call.ensures.stopped) (rw is at c.in-Err-Call.ensures.cause) (rw is at c.in-Err-Call.ensures.faults) c.in-Err-Call.ensures.lost c.in-Err-Call.ensures.sure)
 
 pub returns-in-Err-Memory : goal.returns-in-Err-Memory

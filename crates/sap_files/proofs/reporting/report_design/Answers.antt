@@ -40,4 +40,5 @@ returns g c =
     let same = whole_same c.in_ok-file.file.bytes l c.in_ok-file.ensures.1 in
     past (whole l) c.in_ok-file.ensures.0 c.in_ok-file.ensures.1
     (past d reads (text_in l (whole l) bytes d same formed)
-    (gave c.in_ok-text.text (IfOk-at_ok (λ text. text ≡ report_text (levels_in c.in_ok-checked.checked) d) c.in_ok-text.was c.report_text-made.ensures ∙ ap (λ (ls : Levels). report_text ls d) levels ∙ reports_same l (whole l) same d) c.put.ensures))
+    (gave c.in_ok-text.text (IfOk-at_ok (λ text. text ≡ report_text (levels_in c.in_ok-checked.checked) d) c.in_ok-text.was
+    c.report_text-made.ensures ∙ ap (λ (ls : Levels). report_text ls d) levels ∙ reports_same l (whole l) same d) c.put.ensures))

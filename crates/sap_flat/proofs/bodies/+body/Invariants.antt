@@ -13,4 +13,5 @@ decreases-commands l = 2 * commands_weight l.commands.now + 1
 
 abbrev pub invariant-commands-loop-cmd : goal.invariant-commands-loop-cmd
 invariant-commands-loop-cmd l =
-    Behind (commands_of l.out.items) (commands_of l.initial.out.items) (commands_flat l.seat l.group l.fell (drop l.cmd-index l.commands) l.j l.gates) (commands_flat l.seat l.group l.fell l.commands l.j l.initial.gates)
+    Behind (commands_of l.out.items) (commands_of l.initial.out.items)
+    (commands_flat l.seat l.group l.fell (drop l.cmd-index l.commands) l.j l.gates) (commands_flat l.seat l.group l.fell l.commands l.j l.initial.gates)

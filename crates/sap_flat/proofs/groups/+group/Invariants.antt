@@ -13,4 +13,5 @@ decreases-states l = 2 * states_weight l.group.now + 1
 
 abbrev pub invariant-states-loop-i : goal.invariant-states-loop-i
 invariant-states-loop-i l =
-    Behind (commands_of l.out.items) (commands_of l.initial.out.items) (states_flat l.seat l.group (drop l.i l.group) (l.first + l.i) l.gates) (states_flat l.seat l.group l.group l.first l.initial.gates)
+    Behind (commands_of l.out.items) (commands_of l.initial.out.items)
+    (states_flat l.seat l.group (drop l.i l.group) (l.first + l.i) l.gates) (states_flat l.seat l.group l.group l.first l.initial.gates)

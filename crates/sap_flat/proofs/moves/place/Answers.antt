@@ -10,5 +10,6 @@ pub returns : goal.returns
 returns c =
     c.unwrap_or.ensures
     ∙ position_or_end (λ (s : PlainState). bytes_eq (out-PlainState s).name c.args.target.now) c.args.states.now c.position.result
-    (position_from_yields_List (λ (s : PlainState). bytes_eq (out-PlainState s).name c.args.target.now) _ _ _ c.position.ensures.ran (YieldsList-from_slice c.args.states.now cc) (λ x b q k. search (rules, tests)))
+    (position_from_yields_List (λ (s : PlainState). bytes_eq (out-PlainState s).name c.args.target.now) _ _ _ c.position.ensures.ran
+    (YieldsList-from_slice c.args.states.now cc) (λ x b q k. search (rules, tests)))
     ∙ sym (place_listed c.args.target.now c.args.states.now)

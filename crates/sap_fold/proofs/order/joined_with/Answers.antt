@@ -10,4 +10,5 @@ returns-in_ok-rest-in-Some-Two-Or-default-default c =
     let ws = c.args.wires.now.list.items in
     let s = c.in-Some-Two-Or-default-default in
     let e : s.field-0.now ≡ Two Or s.a s.b = search rules in
-    some_joined ws c.args.one.now c.args.wire.now s.a s.b c.in_ok-rest-in-Some-Two-Or-default-default.rest (subst (Defines ws c.args.wire.now) e s.ensures) (c.in_ok-rest-in-Some-Two-Or-default-default.ensures {u = tt})
+    some_joined ws c.args.one.now c.args.wire.now s.a s.b c.in_ok-rest-in-Some-Two-Or-default-default.rest
+    (subst (Defines ws c.args.wire.now) e s.ensures) (c.in_ok-rest-in-Some-Two-Or-default-default.ensures {u = tt})

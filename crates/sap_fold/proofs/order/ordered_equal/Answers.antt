@@ -11,7 +11,8 @@ use Rattle.sap_fold.proofs.order.ordered_equal.Goals as goal
 pub returns-in-Some : goal.returns-in-Some
 returns-in-Some c = λ u.
     let ws = c.args.wires.now.list.items in
-    equal_order ws u c.args.a c.args.b c.in-Some.rest (subst (λ (o : Option Operand). IfSome o (λ p. BitBeside ws c.args.a c.args.b p)) c.in-Some.is (c.in_ok-rest.ensures {u = tt}))
+    equal_order ws u c.args.a c.args.b c.in-Some.rest
+    (subst (λ (o : Option Operand). IfSome o (λ p. BitBeside ws c.args.a c.args.b p)) c.in-Some.is (c.in_ok-rest.ensures {u = tt}))
 
 pub returns-in-Some-2 : goal.returns-in-Some-2
 returns-in-Some-2 c = λ u.

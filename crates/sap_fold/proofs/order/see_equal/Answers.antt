@@ -15,9 +15,11 @@ returns-in_ok-operand-in-Some-clause-becomes c =
     let t = c.provide.new.self in
     let ws = s.list.items in
     let k = subst (λ (o : Option Bit). IfSome o (λ x. EitherAsks ws c.args.a c.args.b x.name x.place)) c.in-Some.is (c.in_ok-bit.ensures {u = tt}) in
-    equal_bit (holds c.args.taken.now) ws s.next c.args.width c.args.a c.args.b c.in-Some.bit.name c.in-Some.bit.place c.in_ok-operand-in-Some.operand t.list.items t.next k c.in_ok-operand-in-Some.ensures.provides
+    equal_bit (holds c.args.taken.now) ws s.next c.args.width c.args.a c.args.b c.in-Some.bit.name c.in-Some.bit.place
+    c.in_ok-operand-in-Some.operand t.list.items t.next k c.in_ok-operand-in-Some.ensures.provides
 
 pub returns-in_ok-seen-in-None-clause-becomes : goal.returns-in_ok-seen-in-None-clause-becomes
 returns-in_ok-seen-in-None-clause-becomes c =
     let s = c.args.wires.now in
-    becomes_equal (holds c.args.taken.now) s.list.items s.next c.args.width (Two Eq c.args.a c.args.b) c.in_ok-seen-in-None.seen (c.in_ok-seen-in-None.ensures {u = tt} c.args.width)
+    becomes_equal (holds c.args.taken.now) s.list.items s.next c.args.width (Two Eq c.args.a c.args.b) c.in_ok-seen-in-None.seen
+    (c.in_ok-seen-in-None.ensures {u = tt} c.args.width)

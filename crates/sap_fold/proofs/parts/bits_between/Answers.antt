@@ -8,7 +8,8 @@ pub loop-place-init : goal.loop-place-init
 loop-place-init c =
     record {
       within = omega arith;
-      between = subst (λ (ps : List Operand). Between c.args.condition.now c.args.width c.args.width c.args.a c.args.b ps) (sym c.new-parts.ensures.items) (between_none c.args.condition.now c.args.width c.args.a c.args.b);
+      between = subst (λ (ps : List Operand). Between c.args.condition.now c.args.width c.args.width c.args.a c.args.b ps)
+          (sym c.new-parts.ensures.items) (between_none c.args.condition.now c.args.width c.args.a c.args.b);
     }
 
 pub loop-place-preserved : goal.loop-place-preserved

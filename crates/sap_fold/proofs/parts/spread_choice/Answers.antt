@@ -19,4 +19,5 @@ returns c = λ ws.
     let g = subst (λ (o : Option (Vec Operand Global)). IfSome o (λ qs. Between x 0 w m n qs.items)) c.in-Some.is (c.in_ok-bits.ensures {u = tt}) in
     let fits = ps.ok in
     subst (λ (os : List Operand). Equals ws w (Choose x c.args.a c.args.b) (Concat os)) (sym c.new.ensures)
-    (between_choice ws w x c.args.a c.args.b m n ps.items (sym c.number_in.ensures ∙ c.in-Some-Some.is-0) (sym c.number_in-2.ensures ∙ c.in-Some-Some.is-1) g (omega (arith, fits, c.len.ensures, c.if-len-lt2.false)))
+    (between_choice ws w x c.args.a c.args.b m n ps.items (sym c.number_in.ensures ∙ c.in-Some-Some.is-0) (sym c.number_in-2.ensures
+    ∙ c.in-Some-Some.is-1) g (omega (arith, fits, c.len.ensures, c.if-len-lt2.false)))

@@ -16,8 +16,10 @@ returns-in_ok-provided-in-Some-clause-arm c =
     let n = number c.args.value in
     let k = subst (λ (o : Option Right). IfSome o (λ r. Under s.list.items c.args.bit.now n c.args.operand r)) c.in-Some.is (c.in_ok-known.ensures {u = tt}) in
     let simple = c.in_ok-simple-in-Some.simple in
-    arm_known (holds c.args.taken.now) s.list.items s.next c.args.width c.args.bit.now n c.args.operand c.in-Some.known (settled c.args.width simple) c.in_ok-provided-in-Some.provided t.list.items t.next
-    k (equals_both s.list.items c.args.width c.in-Some.known simple (settled c.args.width simple) (c.in_ok-simple-in-Some.ensures {u = tt}) (settled_equals s.list.items c.args.width simple)) c.in_ok-provided-in-Some.ensures.provides
+    arm_known (holds c.args.taken.now) s.list.items s.next c.args.width c.args.bit.now n c.args.operand c.in-Some.known
+    (settled c.args.width simple) c.in_ok-provided-in-Some.provided t.list.items t.next
+    k (equals_both s.list.items c.args.width c.in-Some.known simple (settled c.args.width simple) (c.in_ok-simple-in-Some.ensures {u = tt})
+    (settled_equals s.list.items c.args.width simple)) c.in_ok-provided-in-Some.ensures.provides
 
 pub returns-in-None-clause-arm : goal.returns-in-None-clause-arm
 returns-in-None-clause-arm c =

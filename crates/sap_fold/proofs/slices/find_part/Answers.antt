@@ -6,7 +6,8 @@ use Rattle.sap_fold.proofs.slices.find_part.Goals as goal
 
 pub returns-then-hi-behind : goal.returns-then-hi-behind
 returns-then-hi-behind c =
-    part_found c.args.wires.now.list.items c.args.operands.now c.args.hi c.args.lo c.loop-part.part c.loop-part.behind c.in-Some.width c.index-operands-part.result c.loop-part-test.true c.loop-part.invariant.within c.index-operands-part.is
+    part_found c.args.wires.now.list.items c.args.operands.now c.args.hi c.args.lo c.loop-part.part c.loop-part.behind c.in-Some.width
+    c.index-operands-part.result c.loop-part-test.true c.loop-part.invariant.within c.index-operands-part.is
     c.loop-part.invariant.behind c.in-Some.ensures (omega (arith, c.if-behind-lo.false)) (omega (arith, c.if-hi-behind.true))
 
 pub loop-part-preserved : goal.loop-part-preserved
@@ -19,5 +20,6 @@ loop-part-preserved c =
     record {
       within = omega (arith, c.loop-part.invariant.within);
       small = omega (arith, c.requires, c.if-hi-behind.false);
-      behind = subst (λ (os : List Operand). HaveWidth ws os (c.loop-part.behind + c.in-Some.width)) (sym e) (width_more ws y (drop c.loop-part.part xs) c.loop-part.behind c.in-Some.width c.loop-part.invariant.behind c.in-Some.ensures);
+      behind = subst (λ (os : List Operand). HaveWidth ws os (c.loop-part.behind + c.in-Some.width)) (sym e)
+          (width_more ws y (drop c.loop-part.part xs) c.loop-part.behind c.in-Some.width c.loop-part.invariant.behind c.in-Some.ensures);
     }

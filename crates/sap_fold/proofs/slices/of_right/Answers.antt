@@ -7,7 +7,8 @@ use Rattle.sap_fold.proofs.slices.of_right.Goals as goal
 
 pub returns-in_ok-told-in-Slice : goal.returns-in_ok-told-in-Slice
 returns-in_ok-told-in-Slice c =
-    some_slice c.args.wires.now.list.items c.args.right.now c.in-Slice.name c.in-Slice.hi c.in-Slice.behind c.args.hi c.args.lo c.in_ok-told-in-Slice.told c.in-Slice.is (c.in_ok-told-in-Slice.ensures {u = tt})
+    some_slice c.args.wires.now.list.items c.args.right.now c.in-Slice.name c.in-Slice.hi c.in-Slice.behind c.args.hi c.args.lo
+    c.in_ok-told-in-Slice.told c.in-Slice.is (c.in_ok-told-in-Slice.ensures {u = tt})
 
 pub returns-in_ok-told-in-Concat : goal.returns-in_ok-told-in-Concat
 returns-in_ok-told-in-Concat c =

@@ -10,4 +10,5 @@ returns-then-wire-hi c = λ u.
     let ws = c.args.wires.now.list.items in
     let x = c.args.name in
     let e : c.args.lo ≡ 0 = omega (arith, c.if-lo-eq0.true) in
-    subst (λ (n : ℕ). Equals ws u (Slice x c.args.hi n) (Copy (Named x))) (sym e) (slice_whole ws u x c.in-Some.wire.now c.args.hi c.in-Some.ensures (omega (arith, c.if-wire-hi.true)))
+    subst (λ (n : ℕ). Equals ws u (Slice x c.args.hi n) (Copy (Named x))) (sym e)
+    (slice_whole ws u x c.in-Some.wire.now c.args.hi c.in-Some.ensures (omega (arith, c.if-wire-hi.true)))

@@ -12,11 +12,13 @@ use Rattle.sap_gen.specs.Text.{generated_text}
 use Rattle.sap_gen.proofs.examples.worked_runs.Goals as goal
 
 pub returns-clause-of_one : goal.returns-clause-of_one
-unfolding generated_text generated_design diamond digits order_of order_by code_of meet_irreducibles cycle set_inputs root_fall first put_number put_level put_child raise reset settle effect attempt select does does_block does_state does_child
+unfolding generated_text generated_design diamond digits order_of order_by code_of meet_irreducibles cycle set_inputs root_fall first
+    put_number put_level put_child raise reset settle effect attempt select does does_block does_state does_child
 returns-clause-of_one c = refl
 
 pub returns-clause-of_two : goal.returns-clause-of_two
-unfolding generated_text generated_design diamond digits order_of order_by code_of meet_irreducibles cycle set_inputs root_fall first put_number put_level put_child raise reset settle effect attempt select does does_block does_state does_child
+unfolding generated_text generated_design diamond digits order_of order_by code_of meet_irreducibles cycle set_inputs root_fall first
+    put_number put_level put_child raise reset settle effect attempt select does does_block does_state does_child
 returns-clause-of_two c = refl
 
 pub returns-clause-largest_size : goal.returns-clause-largest_size

@@ -21,13 +21,16 @@ loop-entity-preserved c =
           rw (w.names-is, w.values-is, w.tags-is, w.in_ok-push.ensures.items, w.in_ok-push-2.ensures.items, w.in_ok-push-3.ensures.items, w.in_ok-copy.ensures)
           (collected ls t s (program_of c.args.machine.now) c.requires.program c.loop-entity.entity _ _ _ c.loop-entity.invariant low
           codes (omega arith) (sym c.is_register.ensures ∙ w.if-is_register.true) _ _ _ _
-          w.entity.ensures w.value-value.ensures.number w.value-value.ensures.level (w.code.ensures ∙ ap (λ (m : Levels). code_of (order_of m) w.value-value.result.1) c.lattice-lattice.ensures))
+          w.entity.ensures w.value-value.ensures.number w.value-value.ensures.level (w.code.ensures
+          ∙ ap (λ (m : Levels). code_of (order_of m) w.value-value.result.1) c.lattice-lattice.ensures))
       | else-is_register w ↦
-          rw (w.names-is, w.values-is, w.tags-is) (passed ls t s (program_of c.args.machine.now) c.requires.program c.loop-entity.entity _ _ _ c.loop-entity.invariant low (sym c.is_register.ensures ∙ w.if-is_register.false))
+          rw (w.names-is, w.values-is, w.tags-is) (passed ls t s (program_of c.args.machine.now) c.requires.program c.loop-entity.entity
+          _ _ _ c.loop-entity.invariant low (sym c.is_register.ensures ∙ w.if-is_register.false))
     ]
 
 pub returns : goal.returns
 returns c =
     let high : length (entities_of (tree_in c.args.checked.now)) ≤ c.loop-entity.entity = omega (arith, c.entity_count-entity-end.ensures) in
     let shown = rw (c.lattice-lattice.ensures, c.from.ensures, c.deref.ensures.value, c.deref-2.ensures.value, c.deref-3.ensures.value) at c.push_row.ensures.text in
-    all_collected (levels_in c.args.checked.now) (tree_in c.args.checked.now) (state_of c.args.machine.now) c.push_row.result c.loop-entity.entity _ _ _ c.args.cycle c.args.out.now.items c.push_row.new.out.items high c.loop-entity.invariant shown
+    all_collected (levels_in c.args.checked.now) (tree_in c.args.checked.now) (state_of c.args.machine.now) c.push_row.result
+    c.loop-entity.entity _ _ _ c.args.cycle c.args.out.now.items c.push_row.new.out.items high c.loop-entity.invariant shown

@@ -22,9 +22,11 @@ loop-cycle-preserved c =
       sites = c.step.ensures.sites ∙ c.loop-cycle.invariant.sites;
       few = omega arith;
       refusals =
-          count_step (program_of c.args.machine.now) n k (cycle_count n) c.loop-cycle.refusals c.refused_count-refusals.result _ (state_of c.loop-cycle.machine) (state_of c.step.new.self) below
+          count_step (program_of c.args.machine.now) n k (cycle_count n) c.loop-cycle.refusals c.refused_count-refusals.result
+          _ (state_of c.loop-cycle.machine) (state_of c.step.new.self) below
           c.loop-cycle.invariant.refusals
-          (count_here (program_of c.args.machine.now) (program_of c.loop-cycle.machine) (given n (k + 1) ∷ []) _ (state_of c.loop-cycle.machine) (refusals_of c.step.new.self) c.refused_count-refusals.result
+          (count_here (program_of c.args.machine.now) (program_of c.loop-cycle.machine) (given n (k + 1) ∷ [])
+          _ (state_of c.loop-cycle.machine) (refusals_of c.step.new.self) c.refused_count-refusals.result
           c.loop-cycle.invariant.program c.in_ok-inputs.ensures c.refused_count-refusals.ensures.count c.step.ensures.refusals)
           (store_here (program_of c.args.machine.now) (program_of c.loop-cycle.machine) (given n (k + 1) ∷ []) _ (state_of c.loop-cycle.machine) (state_of c.step.new.self)
           c.loop-cycle.invariant.program c.in_ok-inputs.ensures c.step.ensures.state);

@@ -7,4 +7,5 @@ loop-at-init c = stores_start c.args.names.now c.args.declarations.now _ _ (omeg
 
 pub loop-at-preserved : goal.loop-at-preserved
 loop-at-preserved c =
-    stores_step c.args.names.now c.args.declarations.now _ c.loop-at.at c.index-declarations-at.result _ _ (omega arith) (omega arith) c.index-declarations-at.is c.loop-at.invariant c.in_ok-add_declared.ensures
+    stores_step c.args.names.now c.args.declarations.now _ c.loop-at.at c.index-declarations-at.result _ _ (omega arith) (omega arith)
+    c.index-declarations-at.is c.loop-at.invariant c.in_ok-add_declared.ensures

@@ -11,14 +11,20 @@ add_state-returns-clause-rows t c =
     on_ok_weaker c.add_list.result
     (λ w. state_walked c.args.walk.now.names.now c.args.walk.now.declarations.now c.args.state.now c.as_slice-3.result.now c.as_slice.result.now _
     c.args.rows.now.items c.add_states.new.rows.items c.add_list.new.rows.items c.as_slice-3.ensures.value c.as_slice.ensures.value
-    (ap (λ (l : List State). let h : Home = record { name = (out-State c.args.state.now).name.name; kind = (out-State c.args.state.now).kind; children = states_of l } in h) c.as_slice-2.ensures.value)
+    (ap (λ (l : List State). let h : Home = record {
+      name = (out-State c.args.state.now).name.name;
+      kind =
+          (out-State c.args.state.now).kind;
+      children = states_of l;
+    } in h) c.as_slice-2.ensures.value)
     c.in_ok-below.ensures.rows w.rows)
     c.add_list.ensures
 
 pub add_state-returns-clause-assigned : goal.add_state-returns-clause-assigned
 add_state-returns-clause-assigned t c =
     on_ok_weaker c.add_list.result
-    (λ w. state_adds c.args.walk.now.names.now c.args.walk.now.declarations.now c.args.state.now c.as_slice-3.result.now c.as_slice.result.now c.in_ok-below.below.assigned c.args.assigned.now c.union.new.self c.add_list.new.assigned
+    (λ w. state_adds c.args.walk.now.names.now c.args.walk.now.declarations.now c.args.state.now c.as_slice-3.result.now
+    c.as_slice.result.now c.in_ok-below.below.assigned c.args.assigned.now c.union.new.self c.add_list.new.assigned
     c.as_slice-3.ensures.value c.as_slice.ensures.value c.in_ok-below.ensures.assigned c.in_ok-union.ensures w.assigned)
     c.add_list.ensures
 

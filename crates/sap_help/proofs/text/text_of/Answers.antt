@@ -8,4 +8,7 @@ pub returns-then-eq-clause-begins : goal.returns-then-eq-clause-begins
 returns-then-eq-clause-begins c =
     let fault = slice_index_or c.args.faults.now c.loop-known.known-index (record { ref_ptr = (0, 0); now = [] }, record { ref_ptr = (0, 0); now = [] }) in
     subst (λ (code : List ℕ). IsTextOf code fault.1.now) (sym ((bytes_eq-Decides c.args.code.now fault.0.now).0 (sym c.eq.ensures ∙ c.if-eq.true)))
-    (at_place (λ f. IsTextOf f.0.now f.1.now) c.args.faults.now c.loop-known.known-index (record { ref_ptr = (0, 0); now = [] }, record { ref_ptr = (0, 0); now = [] }) c.requires.texts c.loop-known-test.true)
+    (at_place (λ f. IsTextOf f.0.now f.1.now) c.args.faults.now c.loop-known.known-index (
+      record { ref_ptr = (0, 0); now = [] },
+      record { ref_ptr = (0, 0); now = [] },
+    ) c.requires.texts c.loop-known-test.true)

@@ -5,4 +5,5 @@ use Rattle.sap_joined.specs.Seen as seen
 use Rattle.sap_joined.proofs.copies.memories.Given as goal
 
 abbrev pub invariant-loop-part : goal.invariant-loop-part
-invariant-loop-part l = l.made.items ++ spec.copies_of (λ n. n.memories) copies.copy_memory (map seen.named_net (drop l.part-index l.parts)) ≡ spec.copies_of (λ n. n.memories) copies.copy_memory (map seen.named_net l.parts)
+invariant-loop-part l = l.made.items ++ spec.copies_of (λ n. n.memories) copies.copy_memory (map seen.named_net (drop l.part-index l.parts))
+    ≡ spec.copies_of (λ n. n.memories) copies.copy_memory (map seen.named_net l.parts)

@@ -27,7 +27,8 @@ returns c =
     let names = c.in_ok-names.names.items in
     let copies = spec.copies_of (λ n. n.wires) copy_wire ps in
     let listed = λ (ws : List Wire) (rs : List Register) (ms : List Memory).
-    ((filter (spec.is_hidden (holds shown)) (map (λ (w : Wire). w.name) ws) ++ map (λ (r : Register). r.name) rs) ++ filter (spec.is_hidden (holds shown)) (map (λ (m : Memory). m.name) ms)) in
+    ((filter (spec.is_hidden (holds shown)) (map (λ (w : Wire). w.name) ws) ++ map (λ (r : Register). r.name) rs)
+    ++ filter (spec.is_hidden (holds shown)) (map (λ (m : Memory). m.name) ms)) in
     let fed_is : fed ≡ spec.fed_names fs = search rules in
     let ports_are : ports ≡ spec.ports_by (holds fed) (spec.part_ports ps) = search rules in
     let inputs_are : inputs ≡ filter (spec.is_free_input (holds fed)) (spec.part_inputs ps) = search rules in

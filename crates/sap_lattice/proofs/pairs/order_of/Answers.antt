@@ -12,4 +12,5 @@ returns-clause-known c = keeps_pairs c.args.names.now c.args.pairs.now c.relate_
 pub returns-clause-order : goal.returns-clause-order
 returns-clause-order c =
     let closed = c.close.ensures in
-    tells_order c.args.names.now c.args.pairs.now c.requires c.relate_pairs.new.order c.close.new.self c.in_ok-relate_pairs.ensures.all closed.kept closed.only closed.transitive closed.count
+    tells_order c.args.names.now c.args.pairs.now c.requires c.relate_pairs.new.order c.close.new.self c.in_ok-relate_pairs.ensures.all
+    closed.kept closed.only closed.transitive closed.count

@@ -10,7 +10,9 @@ use Rattle.sap_lattice.proofs.rules.is_bad.Goals as goal
 use Rattle.sap_lattice.proofs.rules.is_bad.Goals.{After-is_unfit}
 
 -- what the test on the name says, of the name at the place
-unfit_is : (c : After-is_unfit) → c.is_unfit.result ≡ (not (is_word (name_at c.args.names.now c.args.k)) || (is_among (name_at c.args.names.now c.args.k) design_keywords || ltb MOST_NAME_BYTES (length (name_at c.args.names.now c.args.k))))
+unfit_is : (c : After-is_unfit) → c.is_unfit.result
+    ≡ (not (is_word (name_at c.args.names.now c.args.k))
+    || (is_among (name_at c.args.names.now c.args.k) design_keywords || ltb MOST_NAME_BYTES (length (name_at c.args.names.now c.args.k))))
 unfit_is c =
     let names : List (List ℕ) = c.args.names.now in
     let same = c.as_bytes.ensures ∙ get_or_read names c.args.k c.index-names-k.result c.requires c.index-names-k.is [] in

@@ -56,7 +56,12 @@ key-requires c =
 pub returns-clause-ok : goal.returns-clause-ok
 returns-clause-ok c =
     let whole : c.lexemes.n ≡ length c.args.text.now = (let within = c.lexemes.invariant.within in omega (arith, within)) in
-    record { found = c.lexemes.tokens.items; reached = subst (λ n. Reached c.args.text.now n c.lexemes.tokens.items) whole c.lexemes.invariant.reached; keyed_are = c.new.ensures ∙ c.key.ensures }
+    record {
+      found = c.lexemes.tokens.items;
+      reached =
+          subst (λ n. Reached c.args.text.now n c.lexemes.tokens.items) whole c.lexemes.invariant.reached;
+      keyed_are = c.new.ensures ∙ c.key.ensures;
+    }
 
 pub returns-clause-texts : goal.returns-clause-texts
 returns-clause-texts c = texts_are c.args.text.now _ (returns-clause-ok c)

@@ -26,7 +26,8 @@ loop-piece-preserved g c =
     let some : 0 < length (take c.in_ok-count.count c.read.new.buf) = omega (arith, length-take c.in_ok-count.count c.read.new.buf) in
     let most : length (take c.in_ok-count.count c.read.new.buf) ≤ 4096 = omega (arith, length-take c.in_ok-count.count c.read.new.buf) in
     record {
-      more = piece_more c.args.channel c.in_ok-count.count _ _ _ _ _ _ _ _ _ _ _ c.loop-piece.invariant.more within c.in_ok-count.ensures.told c.in_ok-count.ensures.gave c.in_ok-count.ensures.given items;
+      more = piece_more c.args.channel c.in_ok-count.count _ _ _ _ _ _ _ _ _ _ _ c.loop-piece.invariant.more within
+          c.in_ok-count.ensures.told c.in_ok-count.ensures.gave c.in_ok-count.ensures.given items;
       behind = behind_more c.args.held.now c.loop-piece.held c.add.new.self (take c.in_ok-count.count c.read.new.buf) c.loop-piece.invariant.behind items;
       least = least_more c.args.held.now c.loop-piece.held c.add.new.self (take c.in_ok-count.count c.read.new.buf) undecided grown some most items;
       bounded = λ small. c.in_ok-count.ensures.bounded;
@@ -36,11 +37,13 @@ loop-piece-preserved g c =
     }
 
 pub returns-in_err-count-clause-failed : goal.returns-in_err-count-clause-failed
-returns-in_err-count-clause-failed g c = on_err c.from_residual.result (failed_more _ _ _ _ _ _ _ _ _ c.loop-piece.invariant.more c.in_err-count.ensures.failed c.in_err-count.ensures.given_stands)
+returns-in_err-count-clause-failed g c =
+    on_err c.from_residual.result (failed_more _ _ _ _ _ _ _ _ _ c.loop-piece.invariant.more c.in_err-count.ensures.failed c.in_err-count.ensures.given_stands)
 
 pub returns-in_err-count-clause-cause : goal.returns-in_err-count-clause-cause
 returns-in_err-count-clause-cause g c =
-    on_err c.from_residual.result (λ sure. fails_now _ _ _ _ _ _ _ (omega arith) c.in_err-count.ensures.failed c.in_err-count.ensures.given_stands (c.in_err-count.ensures.cause (c.loop-piece.invariant.sure sure)))
+    on_err c.from_residual.result (λ sure. fails_now _ _ _ _ _ _ _ (omega arith) c.in_err-count.ensures.failed
+    c.in_err-count.ensures.given_stands (c.in_err-count.ensures.cause (c.loop-piece.invariant.sure sure)))
 
 pub returns-then-count-eq0-clause-more : goal.returns-then-count-eq0-clause-more
 returns-then-count-eq0-clause-more g c = same_more _ _ _ _ _ _ _ _ _ _ c.loop-piece.invariant.more c.if-count-eq0.true c.in_ok-count.ensures.told c.in_ok-count.ensures.given

@@ -7,4 +7,5 @@ use Rattle.sap_linker.proofs.given.feeds.Given as goal
 
 abbrev pub invariant-loop-wire : goal.invariant-loop-wire
 invariant-loop-wire l =
-    map seen.feed l.made.items ++ map (feed_of (named_system l.lattice (designs_of l.parts) [])) (drop l.wire-index l.wires) ≡ map (feed_of (named_system l.lattice (designs_of l.parts) [])) l.wires
+    map seen.feed l.made.items ++ map (feed_of (named_system l.lattice (designs_of l.parts) [])) (drop l.wire-index l.wires)
+    ≡ map (feed_of (named_system l.lattice (designs_of l.parts) [])) l.wires

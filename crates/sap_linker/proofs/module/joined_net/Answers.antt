@@ -13,7 +13,8 @@ new-requires c =
     let made = joined_as_given ls parts wires c.requires.parts c.requires.linked c.requires.names c.joined_is_linked.ensures c.width.result
     (map seen.named_net c.as_slice.result.now) (map seen.feed c.as_slice-2.result.now) (net_of c.in_ok-whole.whole) c.in_ok-whole.ensures c.width.ensures
     (ap (map seen.named_net) c.as_slice.ensures.value ∙ c.in_ok-nets.ensures) (ap (map seen.feed) c.as_slice-2.ensures.value ∙ c.in_ok-feeds.ensures) in
-    subst (λ (n : Net). IsNetlist n) (sym made) (is_netlist ls parts wires c.requires.parts c.requires.linked c.lawful.ensures.codes c.requires.names c.linked_net_is_netlist.ensures.designs)
+    subst (λ (n : Net). IsNetlist n) (sym made)
+    (is_netlist ls parts wires c.requires.parts c.requires.linked c.lawful.ensures.codes c.requires.names c.linked_net_is_netlist.ensures.designs)
 
 pub returns : goal.returns
 returns c =

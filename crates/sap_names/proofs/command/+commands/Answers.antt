@@ -19,24 +19,29 @@ command_faults-else_faults-requires t c =
 
 pub command_faults-returns-in-Try : goal.command_faults-returns-in-Try
 command_faults-returns-in-Try t c =
-    try_noted c.args.lattice.now.names (what_is c.args.names.now) _ c.in-Try.simple c.in-Try.field-1 c.in-Try.handler c.as_slice.result.now _ _ _ c.in-Try.is c.as_slice.ensures.value
+    try_noted c.args.lattice.now.names (what_is c.args.names.now) _ c.in-Try.simple c.in-Try.field-1 c.in-Try.handler c.as_slice.result.now
+    _ _ _ c.in-Try.is c.as_slice.ensures.value
     c.simple_faults-in-Try.ensures c.commands_faults.ensures
 
 pub command_faults-returns-in-If : goal.command_faults-returns-in-If
 command_faults-returns-in-If t c =
-    if_noted c.args.lattice.now.names (what_is c.args.names.now) _ c.in-If.field-0 c.in-If.condition c.in-If.one c.in-If.other c.as_slice-in-If.result.now _ _ _ _ c.in-If.is c.as_slice-in-If.ensures.value
+    if_noted c.args.lattice.now.names (what_is c.args.names.now) _ c.in-If.field-0 c.in-If.condition c.in-If.one c.in-If.other
+    c.as_slice-in-If.result.now _ _ _ _ c.in-If.is c.as_slice-in-If.ensures.value
     c.expression_faults.ensures c.commands_faults-in-If.ensures c.else_faults.ensures
 
 pub command_faults-returns-in-TryThen : goal.command_faults-returns-in-TryThen
 command_faults-returns-in-TryThen t c =
-    then_noted c.args.lattice.now.names (what_is c.args.names.now) _ c.in-TryThen.simple c.in-TryThen.field-1 c.in-TryThen.accepted c.in-TryThen.refused c.as_slice-in-TryThen.result.now
+    then_noted c.args.lattice.now.names (what_is c.args.names.now) _ c.in-TryThen.simple c.in-TryThen.field-1 c.in-TryThen.accepted
+    c.in-TryThen.refused c.as_slice-in-TryThen.result.now
     c.as_slice-in-TryThen-2.result.now _ _ _ _ c.in-TryThen.is c.as_slice-in-TryThen.ensures.value c.as_slice-in-TryThen-2.ensures.value c.simple_faults-in-TryThen.ensures
     c.commands_faults-in-TryThen.ensures c.commands_faults-in-TryThen-2.ensures
 
 pub command_faults-returns-in-Case : goal.command_faults-returns-in-Case
 command_faults-returns-in-Case t c =
-    case_noted c.args.lattice.now.names (what_is c.args.names.now) _ c.in-Case.field-0 c.in-Case.number c.in-Case.arms c.in-Case.last c.own.result c.as_slice-in-Case.result.now c.as_slice-in-Case-2.result.now _ _ _ _
-    c.in-Case.is c.own.ensures c.as_slice-in-Case.ensures.value c.as_slice-in-Case-2.ensures.value c.expression_faults-in-Case.ensures c.arms_faults.ensures c.commands_faults-in-Case.ensures
+    case_noted c.args.lattice.now.names (what_is c.args.names.now) _ c.in-Case.field-0 c.in-Case.number c.in-Case.arms c.in-Case.last
+    c.own.result c.as_slice-in-Case.result.now c.as_slice-in-Case-2.result.now _ _ _ _
+    c.in-Case.is c.own.ensures c.as_slice-in-Case.ensures.value c.as_slice-in-Case-2.ensures.value c.expression_faults-in-Case.ensures
+    c.arms_faults.ensures c.commands_faults-in-Case.ensures
 
 pub command_faults-arms_faults-requires : goal.command_faults-arms_faults-requires
 command_faults-arms_faults-requires t c =
@@ -52,6 +57,7 @@ command_faults-commands_faults-requires-in-Case t c =
 
 pub arms_faults-loop-arm-preserved : goal.arms_faults-loop-arm-preserved
 arms_faults-loop-arm-preserved t c =
-    arms_step c.args.lattice.now.names (what_is c.args.names.now) c.args.asked c.args.arms.now c.loop-arm.arm-index c.arm-item.result c.as_slice.result.now c.as_slice-in-loop-arm.result.now _ _ _ (omega arith)
+    arms_step c.args.lattice.now.names (what_is c.args.names.now) c.args.asked c.args.arms.now c.loop-arm.arm-index c.arm-item.result
+    c.as_slice.result.now c.as_slice-in-loop-arm.result.now _ _ _ (omega arith)
     c.arm-item.is c.as_slice.ensures.value c.as_slice-in-loop-arm.ensures.value c.constants_faults.ensures c.commands_faults.ensures
     ∙ c.loop-arm.invariant

@@ -20,9 +20,11 @@ decreases-arms_faults l = arm_list_weight l.arms.now
 
 abbrev pub invariant-arms_faults-loop-arm : goal.invariant-arms_faults-loop-arm
 invariant-arms_faults-loop-arm l =
-    best_of l.best (arms_faults l.lattice.names (what_is l.names) l.asked (drop l.arm-index l.arms)) ≡ best_of l.initial.best (arms_faults l.lattice.names (what_is l.names) l.asked l.arms)
+    best_of l.best (arms_faults l.lattice.names (what_is l.names) l.asked (drop l.arm-index l.arms))
+    ≡ best_of l.initial.best (arms_faults l.lattice.names (what_is l.names) l.asked l.arms)
 
 -- what is left gives the first of all
 abbrev pub invariant-commands_faults-loop-command : goal.invariant-commands_faults-loop-command
 invariant-commands_faults-loop-command l =
-    best_of l.best (commands_faults l.lattice.names (what_is l.names) (drop l.command-index l.commands)) ≡ best_of l.initial.best (commands_faults l.lattice.names (what_is l.names) l.commands)
+    best_of l.best (commands_faults l.lattice.names (what_is l.names) (drop l.command-index l.commands))
+    ≡ best_of l.initial.best (commands_faults l.lattice.names (what_is l.names) l.commands)

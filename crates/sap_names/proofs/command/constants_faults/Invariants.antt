@@ -7,4 +7,5 @@ use Rattle.sap_names.proofs.command.constants_faults.Given as goal
 -- what is left gives the first of all
 abbrev pub invariant-loop-constant : goal.invariant-loop-constant
 invariant-loop-constant l =
-    best_of l.best (constants_faults (what_is l.names) l.asked (drop l.constant-index l.constants)) ≡ best_of l.initial.best (constants_faults (what_is l.names) l.asked l.constants)
+    best_of l.best (constants_faults (what_is l.names) l.asked (drop l.constant-index l.constants))
+    ≡ best_of l.initial.best (constants_faults (what_is l.names) l.asked l.constants)

@@ -7,7 +7,8 @@ use Rattle.sap_names.proofs.design.twice_faults.Goals as goal
 
 pub loop-number-preserved : goal.loop-number-preserved
 loop-number-preserved c =
-    twice_step c.args.names.now c.as_slice-entity-items.result.now c.loop-number.number c.entity-item.result c.as_bytes.result.now c.is_later.result _ _ c.as_slice-entity-items.ensures
+    twice_step c.args.names.now c.as_slice-entity-items.result.now c.loop-number.number c.entity-item.result c.as_bytes.result.now
+    c.is_later.result _ _ c.as_slice-entity-items.ensures
     (omega arith) c.entity-item.is c.as_bytes.ensures c.is_later.ensures c.note.ensures
     ∙ c.loop-number.invariant
 

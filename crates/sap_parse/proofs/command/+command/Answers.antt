@@ -24,7 +24,8 @@ use Rattle.sap_parse.proofs.command.+command.Goals as goal
 
 pub commands-returns-in_err-next-clause-goes : goal.commands-returns-in_err-next-clause-goes
 commands-returns-in_err-next-clause-goes m c =
-    fault_goes (s.cmds c.args.depth) (s.cmd c.args.depth) c.args.tokens.now c.commands.tokens c.command.new.tokens (steps_by strictly (s.cmds c.args.depth ∷ [])) c.in_err-next.field-0.0 c.from_residual.result (search rules)
+    fault_goes (s.cmds c.args.depth) (s.cmd c.args.depth) c.args.tokens.now c.commands.tokens c.command.new.tokens
+    (steps_by strictly (s.cmds c.args.depth ∷ [])) c.in_err-next.field-0.0 c.from_residual.result (search rules)
     (c.commands.invariant.goes ∙ cmds_there strictly c.args.depth c.commands.tokens (c.commands-test.ensures.yes refl)) c.in_err-next.ensures.goes
 
 pub commands-commands-preserved : goal.commands-commands-preserved
@@ -42,7 +43,8 @@ commands-returns-clause-tree m c =
 
 pub command-returns-clause-tree : goal.command-returns-clause-tree
 command-returns-clause-tree m c =
-    subst (λ x. g.Cmd c.args.depth c.args.tokens.now x c.ending.new.tokens) (sym (c.applied_to.ensures ∙ ap (λ (x : Simple). ended (simple_of x) c.in_ok-ending.ending) c.into_inner.ensures))
+    subst (λ x. g.Cmd c.args.depth c.args.tokens.now x c.ending.new.tokens)
+    (sym (c.applied_to.ensures ∙ ap (λ (x : Simple). ended (simple_of x) c.in_ok-ending.ending) c.into_inner.ensures))
     (ended_tree c.in_ok-first.ensures.tree c.in_ok-ending.ensures.tree)
 
 pub ending-returns-then-at_word-clause-tree : goal.ending-returns-then-at_word-clause-tree
@@ -59,7 +61,8 @@ behind-returns-clause-tree m c = behind c.in_ok-place.ensures.tree c.in_ok-block
 
 pub branch-returns-clause-tree : goal.branch-returns-clause-tree
 branch-returns-clause-tree m c =
-    branch_tree c.in_ok-place.ensures.tree c.in_ok-one.ensures.tree c.in_ok-other.ensures.tree c.in_ok-place.ensures.place (ap (λ (x : Expr). expression_of x) c.into_inner.ensures) c.branch-place-2.ensures
+    branch_tree c.in_ok-place.ensures.tree c.in_ok-one.ensures.tree c.in_ok-other.ensures.tree c.in_ok-place.ensures.place
+    (ap (λ (x : Expr). expression_of x) c.into_inner.ensures) c.branch-place-2.ensures
 
 pub otherwise-returns-then-not-at_word-clause-tree : goal.otherwise-returns-then-not-at_word-clause-tree
 otherwise-returns-then-not-at_word-clause-tree m c = g.no_else
@@ -76,7 +79,8 @@ case-returns-clause-tree m c =
 
 pub arms-returns-clause-tree : goal.arms-returns-clause-tree
 arms-returns-clause-tree m c =
-    arms_tree _ _ c.in_ok-sign.ensures.tree c.in_ok-first.ensures.tree (c.in_ok-push.ensures.items ∙ ap (λ (v : List Arm). v ++ c.in_ok-first.first ∷ []) c.new-arms.ensures.items) c.in_ok-last.ensures.tree c.in_ok-sign-2.ensures.tree
+    arms_tree _ _ c.in_ok-sign.ensures.tree c.in_ok-first.ensures.tree (c.in_ok-push.ensures.items
+    ∙ ap (λ (v : List Arm). v ++ c.in_ok-first.first ∷ []) c.new-arms.ensures.items) c.in_ok-last.ensures.tree c.in_ok-sign-2.ensures.tree
 
 pub arm-returns-clause-tree : goal.arm-returns-clause-tree
 arm-returns-clause-tree m c = arm_tree c.in_ok-constants.ensures.tree c.in_ok-block.ensures.tree
@@ -101,21 +105,26 @@ command-returns-in_err-first-clause-goes m c =
 
 pub command-returns-in_err-ending-clause-goes : goal.command-returns-in_err-ending-clause-goes
 command-returns-in_err-ending-clause-goes m c =
-    fault_goes (s.cmd c.args.depth) (s.ending c.args.depth) c.args.tokens.now c.boxed.new.tokens c.ending.new.tokens _ c.in_err-ending.field-0.0 c.from_residual-in_err-ending.result (search rules)
-    (cmd_simple strictly c.args.depth c.args.tokens.now (c.if-at_word.ensures.no refl) (c.if-at_word-2.ensures.no refl) ∙ bind_ok _ _ _ c.in_ok-first.ensures.goes) c.in_err-ending.ensures.goes
+    fault_goes (s.cmd c.args.depth) (s.ending c.args.depth) c.args.tokens.now c.boxed.new.tokens c.ending.new.tokens
+    _ c.in_err-ending.field-0.0 c.from_residual-in_err-ending.result (search rules)
+    (cmd_simple strictly c.args.depth c.args.tokens.now (c.if-at_word.ensures.no refl) (c.if-at_word-2.ensures.no refl)
+    ∙ bind_ok _ _ _ c.in_ok-first.ensures.goes) c.in_err-ending.ensures.goes
 
 pub command-returns-clause-goes : goal.command-returns-clause-goes
 command-returns-clause-goes m c =
-    cmd_simple strictly c.args.depth c.args.tokens.now (c.if-at_word.ensures.no refl) (c.if-at_word-2.ensures.no refl) ∙ bind_ok _ _ _ c.in_ok-first.ensures.goes ∙ bind_pure _ ∙ c.in_ok-ending.ensures.goes
+    cmd_simple strictly c.args.depth c.args.tokens.now (c.if-at_word.ensures.no refl) (c.if-at_word-2.ensures.no refl)
+    ∙ bind_ok _ _ _ c.in_ok-first.ensures.goes ∙ bind_pure _ ∙ c.in_ok-ending.ensures.goes
 
 pub behind-returns-in_err-place-clause-goes : goal.behind-returns-in_err-place-clause-goes
 behind-returns-in_err-place-clause-goes m c =
-    fault_goes_on (behind_row c.args.word c.args.depth) (s.word r.Plain c.args.word) c.args.tokens.now c.args.tokens.now c.word.new.self _ c.in_err-place.field-0.0 c.from_residual.result (search rules)
+    fault_goes_on (behind_row c.args.word c.args.depth) (s.word r.Plain c.args.word) c.args.tokens.now c.args.tokens.now c.word.new.self
+    _ c.in_err-place.field-0.0 c.from_residual.result (search rules)
     (row_steps _ _) c.in_err-place.ensures.goes
 
 pub behind-returns-in_err-block-clause-goes : goal.behind-returns-in_err-block-clause-goes
 behind-returns-in_err-block-clause-goes m c =
-    fault_goes_on (behind_row c.args.word c.args.depth) (s.block (c.args.depth + 1)) c.args.tokens.now c.word.new.self c.block.new.tokens _ c.in_err-block.field-0.0 c.from_residual-in_err-block.result (search rules)
+    fault_goes_on (behind_row c.args.word c.args.depth) (s.block (c.args.depth + 1)) c.args.tokens.now c.word.new.self c.block.new.tokens
+    _ c.in_err-block.field-0.0 c.from_residual-in_err-block.result (search rules)
     (row_steps _ _ ∙ bind_ok _ _ _ c.in_ok-place.ensures.goes) c.in_err-block.ensures.goes
 
 pub behind-returns-clause-goes : goal.behind-returns-clause-goes
@@ -124,17 +133,20 @@ behind-returns-clause-goes m c =
 
 pub branch-returns-in_err-place-clause-goes : goal.branch-returns-in_err-place-clause-goes
 branch-returns-in_err-place-clause-goes m c =
-    fault_goes_in_row (s.if_command c.args.depth) (asked_row (r.Command c.args.depth) w.If r.Plain r.Plain) c.args.tokens.now c.args.tokens.now c.asked.new.tokens _ c.in_err-place.field-0.0 c.from_residual.result (search rules)
+    fault_goes_in_row (s.if_command c.args.depth) (asked_row (r.Command c.args.depth) w.If r.Plain r.Plain) c.args.tokens.now
+    c.args.tokens.now c.asked.new.tokens _ c.in_err-place.field-0.0 c.from_residual.result (search rules)
     (if_rows c.args.depth c.args.tokens.now) c.in_err-place.ensures.goes
 
 pub branch-returns-in_err-one-clause-goes : goal.branch-returns-in_err-one-clause-goes
 branch-returns-in_err-one-clause-goes m c =
-    fault_goes (s.if_command c.args.depth) (s.block (c.args.depth + 1)) c.args.tokens.now c.asked.new.tokens c.block.new.tokens _ c.in_err-one.field-0.0 c.from_residual-in_err-one.result (search rules)
+    fault_goes (s.if_command c.args.depth) (s.block (c.args.depth + 1)) c.args.tokens.now c.asked.new.tokens c.block.new.tokens
+    _ c.in_err-one.field-0.0 c.from_residual-in_err-one.result (search rules)
     (if_rows c.args.depth c.args.tokens.now ∙ bind_ok _ _ _ c.in_ok-place.ensures.goes) c.in_err-one.ensures.goes
 
 pub branch-returns-in_err-other-clause-goes : goal.branch-returns-in_err-other-clause-goes
 branch-returns-in_err-other-clause-goes m c =
-    fault_goes (s.if_command c.args.depth) (s.else_part (c.args.depth + 1)) c.args.tokens.now c.block.new.tokens c.otherwise.new.tokens _ c.in_err-other.field-0.0 c.from_residual-in_err-other.result (search rules)
+    fault_goes (s.if_command c.args.depth) (s.else_part (c.args.depth + 1)) c.args.tokens.now c.block.new.tokens c.otherwise.new.tokens
+    _ c.in_err-other.field-0.0 c.from_residual-in_err-other.result (search rules)
     (if_rows c.args.depth c.args.tokens.now ∙ bind_ok _ _ _ c.in_ok-place.ensures.goes ∙ bind_ok _ _ _ c.in_ok-one.ensures.goes) c.in_err-other.ensures.goes
 
 pub branch-returns-clause-goes : goal.branch-returns-clause-goes
@@ -143,12 +155,14 @@ branch-returns-clause-goes m c =
 
 pub case-returns-in_err-place-clause-goes : goal.case-returns-in_err-place-clause-goes
 case-returns-in_err-place-clause-goes m c =
-    fault_goes_in_row (s.case_command c.args.depth) (asked_row (r.Command c.args.depth) w.Case r.Plain r.Plain) c.args.tokens.now c.args.tokens.now c.asked.new.tokens _ c.in_err-place.field-0.0 c.from_residual.result (search rules)
+    fault_goes_in_row (s.case_command c.args.depth) (asked_row (r.Command c.args.depth) w.Case r.Plain r.Plain) c.args.tokens.now
+    c.args.tokens.now c.asked.new.tokens _ c.in_err-place.field-0.0 c.from_residual.result (search rules)
     (case_rows c.args.depth c.args.tokens.now) c.in_err-place.ensures.goes
 
 pub case-returns-in_err-arms-clause-goes : goal.case-returns-in_err-arms-clause-goes
 case-returns-in_err-arms-clause-goes m c =
-    fault_goes_in_row (s.case_command c.args.depth) (arms_row (c.args.depth + 1)) c.args.tokens.now c.asked.new.tokens c.arms.new.tokens _ c.in_err-arms.field-0.0 c.from_residual-in_err-arms.result (search rules)
+    fault_goes_in_row (s.case_command c.args.depth) (arms_row (c.args.depth + 1)) c.args.tokens.now c.asked.new.tokens c.arms.new.tokens
+    _ c.in_err-arms.field-0.0 c.from_residual-in_err-arms.result (search rules)
     (case_rows c.args.depth c.args.tokens.now ∙ bind_ok _ _ _ c.in_ok-place.ensures.goes ∙ sym (bind_pure _)) c.in_err-arms.ensures.goes
 
 pub case-returns-clause-goes : goal.case-returns-clause-goes
@@ -157,27 +171,32 @@ case-returns-clause-goes m c =
 
 pub arms-returns-in_err-sign-clause-goes : goal.arms-returns-in_err-sign-clause-goes
 arms-returns-in_err-sign-clause-goes m c =
-    fault_goes_on (arms_row c.args.depth) (s.sign r.Plain j.OpenBrace) c.args.tokens.now c.args.tokens.now c.sign.new.self _ c.in_err-sign.field-0.0 c.from_residual.result (search rules)
+    fault_goes_on (arms_row c.args.depth) (s.sign r.Plain j.OpenBrace) c.args.tokens.now c.args.tokens.now c.sign.new.self
+    _ c.in_err-sign.field-0.0 c.from_residual.result (search rules)
     (row_steps _ _) c.in_err-sign.ensures.goes
 
 pub arms-returns-in_err-first-clause-goes : goal.arms-returns-in_err-first-clause-goes
 arms-returns-in_err-first-clause-goes m c =
-    fault_goes_on (arms_row c.args.depth) (s.arm c.args.depth) c.args.tokens.now c.sign.new.self c.arm.new.tokens _ c.in_err-first.field-0.0 c.from_residual-in_err-first.result (search rules)
+    fault_goes_on (arms_row c.args.depth) (s.arm c.args.depth) c.args.tokens.now c.sign.new.self c.arm.new.tokens _ c.in_err-first.field-0.0
+    c.from_residual-in_err-first.result (search rules)
     (row_steps _ _ ∙ bind_ok _ _ _ c.in_ok-sign.ensures.goes) c.in_err-first.ensures.goes
 
 pub arms-returns-in_err-last-clause-goes : goal.arms-returns-in_err-last-clause-goes
 arms-returns-in_err-last-clause-goes m c =
-    fault_goes_on (arms_row c.args.depth) (s.arms c.args.depth) c.args.tokens.now c.arm.new.tokens c.more_arms.new.tokens _ c.in_err-last.field-0.0 c.from_residual-in_err-last.result (search rules)
+    fault_goes_on (arms_row c.args.depth) (s.arms c.args.depth) c.args.tokens.now c.arm.new.tokens c.more_arms.new.tokens
+    _ c.in_err-last.field-0.0 c.from_residual-in_err-last.result (search rules)
     (row_steps _ _ ∙ bind_ok _ _ _ c.in_ok-sign.ensures.goes ∙ bind_ok _ _ _ c.in_ok-first.ensures.goes) c.in_err-last.ensures.goes
 
 pub arms-returns-in_err-sign-2-clause-goes : goal.arms-returns-in_err-sign-2-clause-goes
 arms-returns-in_err-sign-2-clause-goes m c =
-    fault_goes_on (arms_row c.args.depth) (s.sign r.Plain j.CloseBrace) c.args.tokens.now c.more_arms.new.tokens c.sign-2.new.self _ c.in_err-sign-2.field-0.0 c.from_residual-in_err-sign-2.result (search rules)
+    fault_goes_on (arms_row c.args.depth) (s.sign r.Plain j.CloseBrace) c.args.tokens.now c.more_arms.new.tokens c.sign-2.new.self
+    _ c.in_err-sign-2.field-0.0 c.from_residual-in_err-sign-2.result (search rules)
     (row_steps _ _ ∙ bind_ok _ _ _ c.in_ok-sign.ensures.goes ∙ bind_ok _ _ _ c.in_ok-first.ensures.goes ∙ bind_ok _ _ _ c.in_ok-last.ensures.goes) c.in_err-sign-2.ensures.goes
 
 pub arms-returns-clause-goes : goal.arms-returns-clause-goes
 arms-returns-clause-goes m c =
-    row_steps _ _ ∙ bind_ok _ _ _ c.in_ok-sign.ensures.goes ∙ bind_ok _ _ _ c.in_ok-first.ensures.goes ∙ bind_ok _ _ _ c.in_ok-last.ensures.goes ∙ bind_pure _ ∙ c.in_ok-sign-2.ensures.goes
+    row_steps _ _ ∙ bind_ok _ _ _ c.in_ok-sign.ensures.goes ∙ bind_ok _ _ _ c.in_ok-first.ensures.goes
+    ∙ bind_ok _ _ _ c.in_ok-last.ensures.goes ∙ bind_pure _ ∙ c.in_ok-sign-2.ensures.goes
 
 pub more_arms-returns-in_err-next-clause-goes : goal.more_arms-returns-in_err-next-clause-goes
 more_arms-returns-in_err-next-clause-goes m c =
@@ -186,17 +205,20 @@ more_arms-returns-in_err-next-clause-goes m c =
 
 pub more_arms-returns-in_err-word-clause-goes : goal.more_arms-returns-in_err-word-clause-goes
 more_arms-returns-in_err-word-clause-goes m c =
-    fault_goes (s.arms c.args.depth) (s.word r.Plain w.Else) c.args.tokens.now c.arms.tokens c.word.new.self _ c.in_err-word.field-0.0 c.from_residual-in_err-word.result (search rules)
+    fault_goes (s.arms c.args.depth) (s.word r.Plain w.Else) c.args.tokens.now c.arms.tokens c.word.new.self _ c.in_err-word.field-0.0
+    c.from_residual-in_err-word.result (search rules)
     (c.arms.invariant.goes ∙ arms_last strictly c.args.depth c.arms.tokens (sym c.arms-test.ensures)) c.in_err-word.ensures.goes
 
 pub arm-returns-in_err-constants-clause-goes : goal.arm-returns-in_err-constants-clause-goes
 arm-returns-in_err-constants-clause-goes m c =
-    fault_goes_in_row (s.arm c.args.depth) constants_row c.args.tokens.now c.args.tokens.now c.constants.new.tokens _ c.in_err-constants.field-0.0 c.from_residual.result (search rules)
+    fault_goes_in_row (s.arm c.args.depth) constants_row c.args.tokens.now c.args.tokens.now c.constants.new.tokens
+    _ c.in_err-constants.field-0.0 c.from_residual.result (search rules)
     (arm_rows c.args.depth c.args.tokens.now) c.in_err-constants.ensures.goes
 
 pub arm-returns-in_err-block-clause-goes : goal.arm-returns-in_err-block-clause-goes
 arm-returns-in_err-block-clause-goes m c =
-    fault_goes (s.arm c.args.depth) (s.block c.args.depth) c.args.tokens.now c.constants.new.tokens c.block.new.tokens _ c.in_err-block.field-0.0 c.from_residual-in_err-block.result (search rules)
+    fault_goes (s.arm c.args.depth) (s.block c.args.depth) c.args.tokens.now c.constants.new.tokens c.block.new.tokens
+    _ c.in_err-block.field-0.0 c.from_residual-in_err-block.result (search rules)
     (arm_rows c.args.depth c.args.tokens.now ∙ bind_ok _ _ _ c.in_ok-constants.ensures.goes) c.in_err-block.ensures.goes
 
 pub arm-returns-clause-goes : goal.arm-returns-clause-goes
@@ -205,7 +227,8 @@ arm-returns-clause-goes m c =
 
 pub otherwise-returns-in_err-other-clause-goes : goal.otherwise-returns-in_err-other-clause-goes
 otherwise-returns-in_err-other-clause-goes m c =
-    fault_goes_in_row (s.else_part (c.args.depth + 1)) (behind_row w.Else c.args.depth) c.args.tokens.now c.args.tokens.now c.behind.new.tokens _ c.in_err-other.field-0.0 c.from_residual.result (search rules)
+    fault_goes_in_row (s.else_part (c.args.depth + 1)) (behind_row w.Else c.args.depth) c.args.tokens.now c.args.tokens.now
+    c.behind.new.tokens _ c.in_err-other.field-0.0 c.from_residual.result (search rules)
     (else_row c.args.depth c.args.tokens.now (c.if-not-at_word.ensures.yes refl) ∙ sym (bind_pure _)) c.in_err-other.ensures.goes
 
 pub otherwise-returns-clause-goes : goal.otherwise-returns-clause-goes
@@ -214,19 +237,23 @@ otherwise-returns-clause-goes m c =
 
 pub block-returns-in_err-sign-clause-goes : goal.block-returns-in_err-sign-clause-goes
 block-returns-in_err-sign-clause-goes m c =
-    fault_goes (s.block c.args.depth) (s.sign r.Plain j.OpenBrace) c.args.tokens.now c.args.tokens.now c.sign.new.self _ c.in_err-sign.field-0.0 c.from_residual.result (search rules)
+    fault_goes (s.block c.args.depth) (s.sign r.Plain j.OpenBrace) c.args.tokens.now c.args.tokens.now c.sign.new.self
+    _ c.in_err-sign.field-0.0 c.from_residual.result (search rules)
     (block_steps strictly c.args.depth c.args.tokens.now) c.in_err-sign.ensures.goes
 
 pub block-returns-in_err-commands-clause-goes : goal.block-returns-in_err-commands-clause-goes
 block-returns-in_err-commands-clause-goes m c =
-    fault_goes (s.block c.args.depth) (s.cmds c.args.depth) c.args.tokens.now c.sign.new.self c.commands.new.tokens _ c.in_err-commands.field-0.0 c.from_residual-in_err-commands.result (search rules)
+    fault_goes (s.block c.args.depth) (s.cmds c.args.depth) c.args.tokens.now c.sign.new.self c.commands.new.tokens
+    _ c.in_err-commands.field-0.0 c.from_residual-in_err-commands.result (search rules)
     (block_steps strictly c.args.depth c.args.tokens.now ∙ bind_ok _ _ _ c.in_ok-sign.ensures.goes) c.in_err-commands.ensures.goes
 
 pub block-returns-in_err-after-clause-goes : goal.block-returns-in_err-after-clause-goes
 block-returns-in_err-after-clause-goes m c =
-    fault_goes (s.block c.args.depth) (s.sign r.Plain j.CloseBrace) c.args.tokens.now c.commands.new.tokens c.sign-2.new.self _ c.in_err-after.field-0.0 c.from_residual-in_err-after.result (search rules)
+    fault_goes (s.block c.args.depth) (s.sign r.Plain j.CloseBrace) c.args.tokens.now c.commands.new.tokens c.sign-2.new.self
+    _ c.in_err-after.field-0.0 c.from_residual-in_err-after.result (search rules)
     (block_steps strictly c.args.depth c.args.tokens.now ∙ bind_ok _ _ _ c.in_ok-sign.ensures.goes ∙ bind_ok _ _ _ c.in_ok-commands.ensures.goes) c.in_err-after.ensures.goes
 
 pub block-returns-clause-goes : goal.block-returns-clause-goes
 block-returns-clause-goes m c =
-    block_steps strictly c.args.depth c.args.tokens.now ∙ bind_ok _ _ _ c.in_ok-sign.ensures.goes ∙ bind_ok _ _ _ c.in_ok-commands.ensures.goes ∙ bind_pure _ ∙ c.in_ok-after.ensures.goes
+    block_steps strictly c.args.depth c.args.tokens.now ∙ bind_ok _ _ _ c.in_ok-sign.ensures.goes
+    ∙ bind_ok _ _ _ c.in_ok-commands.ensures.goes ∙ bind_pure _ ∙ c.in_ok-after.ensures.goes

@@ -12,4 +12,5 @@ returns-then-not-at_sign-clause-tree c = no_cell
 
 pub returns-clause-tree : goal.returns-clause-tree
 returns-clause-tree c =
-    cell (subst (λ (x : Expr). Between r.Plain s.OpenBracket r.Plain s.CloseBracket c.args.tokens.now (expression_of x) c.between.new.tokens) (sym c.into_inner.ensures) c.in_ok-index.ensures.tree)
+    cell (subst (λ (x : Expr). Between r.Plain s.OpenBracket r.Plain s.CloseBracket c.args.tokens.now (expression_of x)
+    c.between.new.tokens) (sym c.into_inner.ensures) c.in_ok-index.ensures.tree)

@@ -14,12 +14,14 @@ returns-clause-tree c = goto_tree c.in_ok-place.ensures.tree c.in_ok-target.ensu
 
 pub returns-in_err-place-clause-goes : goal.returns-in_err-place-clause-goes
 returns-in_err-place-clause-goes c =
-    fault_goes (s.goto c.args.depth) (s.word (r.Command c.args.depth) w.Goto) c.args.tokens.now c.args.tokens.now c.word.new.self _ c.in_err-place.field-0.0 c.from_residual.result (search rules)
+    fault_goes (s.goto c.args.depth) (s.word (r.Command c.args.depth) w.Goto) c.args.tokens.now c.args.tokens.now c.word.new.self
+    _ c.in_err-place.field-0.0 c.from_residual.result (search rules)
     (goto_steps strictly c.args.depth c.args.tokens.now) c.in_err-place.ensures.goes
 
 pub returns-in_err-target-clause-goes : goal.returns-in_err-target-clause-goes
 returns-in_err-target-clause-goes c =
-    fault_goes (s.goto c.args.depth) (s.any_name r.Plain) c.args.tokens.now c.word.new.self c.name.new.self _ c.in_err-target.field-0.0 c.from_residual-in_err-target.result (search rules)
+    fault_goes (s.goto c.args.depth) (s.any_name r.Plain) c.args.tokens.now c.word.new.self c.name.new.self _ c.in_err-target.field-0.0
+    c.from_residual-in_err-target.result (search rules)
     (goto_steps strictly c.args.depth c.args.tokens.now ∙ bind_ok _ _ _ c.in_ok-place.ensures.goes) c.in_err-target.ensures.goes
 
 pub returns-clause-goes : goal.returns-clause-goes

@@ -15,7 +15,8 @@ use Rattle.sap_parse.proofs.command.more_constants.Goals as goal
 
 pub constants-preserved : goal.constants-preserved
 constants-preserved c = record {
-  goes = c.constants.invariant.goes ∙ constants_there strictly c.constants.tokens (c.constants-test.ensures.yes refl) ∙ bind_ok _ _ _ c.in_ok-sign.ensures.goes ∙ bind_ok _ _ _ c.in_ok-next.ensures.goes ∙ bind_pure _;
+  goes = c.constants.invariant.goes ∙ constants_there strictly c.constants.tokens (c.constants-test.ensures.yes refl)
+      ∙ bind_ok _ _ _ c.in_ok-sign.ensures.goes ∙ bind_ok _ _ _ c.in_ok-next.ensures.goes ∙ bind_pure _;
   tree = λ ys q rest.
       let h = c.constants.invariant.tree (t.and_part (expression_of c.in_ok-next.next) ys) q (g.constant c.in_ok-sign.ensures.tree c.in_ok-next.ensures.tree rest) in
       (h.0, ap (λ items. join (expressions_of items) ys) c.in_ok-push.ensures.items ∙ join_push _ _ ys ∙ h.1, h.2);
@@ -38,4 +39,5 @@ returns-in_err-sign-clause-goes c =
 pub returns-in_err-next-clause-goes : goal.returns-in_err-next-clause-goes
 returns-in_err-next-clause-goes c =
     fault_goes s.constants s.constant c.args.tokens.now c.sign.new.self c.constant.new.tokens _ c.in_err-next.field-0.0 c.from_residual-in_err-next.result (search rules)
-    (c.constants.invariant.goes ∙ constants_there strictly c.constants.tokens (c.constants-test.ensures.yes refl) ∙ bind_ok _ _ _ c.in_ok-sign.ensures.goes) c.in_err-next.ensures.goes
+    (c.constants.invariant.goes ∙ constants_there strictly c.constants.tokens (c.constants-test.ensures.yes refl)
+    ∙ bind_ok _ _ _ c.in_ok-sign.ensures.goes) c.in_err-next.ensures.goes

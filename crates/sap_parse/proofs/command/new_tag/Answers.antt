@@ -27,7 +27,8 @@ returns-in_err-read-clause-goes c =
 
 pub returns-in_err-sign-2-clause-goes : goal.returns-in_err-sign-2-clause-goes
 returns-in_err-sign-2-clause-goes c =
-    fault_goes_on new_tag_row (s.sign r.Plain j.CloseParen) c.args.tokens.now c.tag_expr.new.tokens c.sign-2.new.self _ c.in_err-sign-2.field-0.0 c.from_residual-in_err-sign-2.result (search rules)
+    fault_goes_on new_tag_row (s.sign r.Plain j.CloseParen) c.args.tokens.now c.tag_expr.new.tokens c.sign-2.new.self
+    _ c.in_err-sign-2.field-0.0 c.from_residual-in_err-sign-2.result (search rules)
     (row_steps _ _ ∙ bind_ok _ _ _ c.in_ok-sign.ensures.goes ∙ bind_ok _ _ _ c.in_ok-read.ensures.goes) c.in_err-sign-2.ensures.goes
 
 pub returns-clause-goes : goal.returns-clause-goes

@@ -15,17 +15,20 @@ returns-clause-tree c = tag_place_tree c.in_ok-place.ensures.tree c.in_ok-sign.e
 
 pub returns-in_err-place-clause-goes : goal.returns-in_err-place-clause-goes
 returns-in_err-place-clause-goes c =
-    fault_goes_on (tag_place_row c.args.depth) (s.word (r.Command c.args.depth) w.SetTag) c.args.tokens.now c.args.tokens.now c.word.new.self _ c.in_err-place.field-0.0 c.from_residual.result (search rules)
+    fault_goes_on (tag_place_row c.args.depth) (s.word (r.Command c.args.depth) w.SetTag) c.args.tokens.now c.args.tokens.now
+    c.word.new.self _ c.in_err-place.field-0.0 c.from_residual.result (search rules)
     (row_steps _ _) c.in_err-place.ensures.goes
 
 pub returns-in_err-sign-clause-goes : goal.returns-in_err-sign-clause-goes
 returns-in_err-sign-clause-goes c =
-    fault_goes_on (tag_place_row c.args.depth) (s.sign r.Plain j.OpenParen) c.args.tokens.now c.word.new.self c.sign.new.self _ c.in_err-sign.field-0.0 c.from_residual-in_err-sign.result (search rules)
+    fault_goes_on (tag_place_row c.args.depth) (s.sign r.Plain j.OpenParen) c.args.tokens.now c.word.new.self c.sign.new.self
+    _ c.in_err-sign.field-0.0 c.from_residual-in_err-sign.result (search rules)
     (row_steps _ _ ∙ bind_ok _ _ _ c.in_ok-place.ensures.goes) c.in_err-sign.ensures.goes
 
 pub returns-in_err-name-clause-goes : goal.returns-in_err-name-clause-goes
 returns-in_err-name-clause-goes c =
-    fault_goes_on (tag_place_row c.args.depth) (s.any_name r.Plain) c.args.tokens.now c.sign.new.self c.name.new.self _ c.in_err-name.field-0.0 c.from_residual-in_err-name.result (search rules)
+    fault_goes_on (tag_place_row c.args.depth) (s.any_name r.Plain) c.args.tokens.now c.sign.new.self c.name.new.self
+    _ c.in_err-name.field-0.0 c.from_residual-in_err-name.result (search rules)
     (row_steps _ _ ∙ bind_ok _ _ _ c.in_ok-place.ensures.goes ∙ bind_ok _ _ _ c.in_ok-sign.ensures.goes) c.in_err-name.ensures.goes
 
 pub returns-clause-goes : goal.returns-clause-goes

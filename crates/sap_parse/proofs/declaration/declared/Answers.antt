@@ -22,16 +22,20 @@ returns-in_err-name-clause-goes c =
 pub returns-in_err-sign-clause-goes : goal.returns-in_err-sign-clause-goes
 returns-in_err-sign-clause-goes c =
     fault_goes_on (declared_row c.args.role c.args.word) (s.sign r.Plain j.Colon) c.args.tokens.now c.name.new.self c.sign.new.self _ c.in_err-sign.field-0.0
-    c.from_residual-in_err-sign.result (search rules) (row_steps _ _ ∙ bind_ok _ _ _ c.in_ok-place.ensures.goes ∙ bind_ok _ _ _ c.in_ok-name.ensures.goes) c.in_err-sign.ensures.goes
+    c.from_residual-in_err-sign.result (search rules) (row_steps _ _ ∙ bind_ok _ _ _ c.in_ok-place.ensures.goes
+    ∙ bind_ok _ _ _ c.in_ok-name.ensures.goes) c.in_err-sign.ensures.goes
 
 pub returns-in_err-width-clause-goes : goal.returns-in_err-width-clause-goes
 returns-in_err-width-clause-goes c =
     fault_goes_on (declared_row c.args.role c.args.word) (s.number r.Plain) c.args.tokens.now c.sign.new.self c.number.new.self _ c.in_err-width.field-0.0
-    c.from_residual-in_err-width.result (search rules) (row_steps _ _ ∙ bind_ok _ _ _ c.in_ok-place.ensures.goes ∙ bind_ok _ _ _ c.in_ok-name.ensures.goes ∙ bind_ok _ _ _ c.in_ok-sign.ensures.goes) c.in_err-width.ensures.goes
+    c.from_residual-in_err-width.result (search rules) (row_steps _ _ ∙ bind_ok _ _ _ c.in_ok-place.ensures.goes
+    ∙ bind_ok _ _ _ c.in_ok-name.ensures.goes ∙ bind_ok _ _ _ c.in_ok-sign.ensures.goes) c.in_err-width.ensures.goes
 
 pub returns-clause-goes : goal.returns-clause-goes
 returns-clause-goes c =
-    row_steps _ _ ∙ bind_ok _ _ _ c.in_ok-place.ensures.goes ∙ bind_ok _ _ _ c.in_ok-name.ensures.goes ∙ bind_ok _ _ _ c.in_ok-sign.ensures.goes ∙ bind_pure _ ∙ c.in_ok-width.ensures.goes
+    row_steps _ _ ∙ bind_ok _ _ _ c.in_ok-place.ensures.goes ∙ bind_ok _ _ _ c.in_ok-name.ensures.goes
+    ∙ bind_ok _ _ _ c.in_ok-sign.ensures.goes ∙ bind_pure _ ∙ c.in_ok-width.ensures.goes
 
 pub returns-clause-tree : goal.returns-clause-tree
-returns-clause-tree c = declared_tree c.in_ok-place.ensures.tree c.in_ok-name.ensures.tree c.in_ok-sign.ensures.tree c.in_ok-width.ensures.tree c.in_ok-place.ensures.place c.in_ok-name.ensures.place c.in_ok-width.ensures.place
+returns-clause-tree c = declared_tree c.in_ok-place.ensures.tree c.in_ok-name.ensures.tree c.in_ok-sign.ensures.tree
+    c.in_ok-width.ensures.tree c.in_ok-place.ensures.place c.in_ok-name.ensures.place c.in_ok-width.ensures.place

@@ -15,7 +15,8 @@ returns-clause-tree c = memory_tree c.in_ok-place.ensures.tree c.in_ok-depth.ens
 
 pub returns-in_err-place-clause-goes : goal.returns-in_err-place-clause-goes
 returns-in_err-place-clause-goes c =
-    fault_goes_in_row s.memory (declared_row r.Memory w.Mem) c.args.tokens.now c.args.tokens.now c.declared.new.tokens _ c.in_err-place.field-0.0 c.from_residual.result (search rules)
+    fault_goes_in_row s.memory (declared_row r.Memory w.Mem) c.args.tokens.now c.args.tokens.now c.declared.new.tokens
+    _ c.in_err-place.field-0.0 c.from_residual.result (search rules)
     (memory_rows c.args.tokens.now) c.in_err-place.ensures.goes
 
 pub returns-in_err-depth-clause-goes : goal.returns-in_err-depth-clause-goes
@@ -31,8 +32,10 @@ returns-in_err-kind-clause-goes c =
 pub returns-in_err-sign-clause-goes : goal.returns-in_err-sign-clause-goes
 returns-in_err-sign-clause-goes c =
     fault_goes s.memory (s.sign r.Plain j.Semicolon) c.args.tokens.now c.kind.new.tokens c.sign.new.self _ c.in_err-sign.field-0.0 c.from_residual-in_err-sign.result (search rules)
-    (memory_rows c.args.tokens.now ∙ bind_ok _ _ _ c.in_ok-place.ensures.goes ∙ bind_ok _ _ _ c.in_ok-depth.ensures.goes ∙ bind_ok _ _ _ c.in_ok-kind.ensures.goes) c.in_err-sign.ensures.goes
+    (memory_rows c.args.tokens.now ∙ bind_ok _ _ _ c.in_ok-place.ensures.goes ∙ bind_ok _ _ _ c.in_ok-depth.ensures.goes
+    ∙ bind_ok _ _ _ c.in_ok-kind.ensures.goes) c.in_err-sign.ensures.goes
 
 pub returns-clause-goes : goal.returns-clause-goes
 returns-clause-goes c =
-    memory_rows c.args.tokens.now ∙ bind_ok _ _ _ c.in_ok-place.ensures.goes ∙ bind_ok _ _ _ c.in_ok-depth.ensures.goes ∙ bind_ok _ _ _ c.in_ok-kind.ensures.goes ∙ bind_pure _ ∙ c.in_ok-sign.ensures.goes
+    memory_rows c.args.tokens.now ∙ bind_ok _ _ _ c.in_ok-place.ensures.goes ∙ bind_ok _ _ _ c.in_ok-depth.ensures.goes
+    ∙ bind_ok _ _ _ c.in_ok-kind.ensures.goes ∙ bind_pure _ ∙ c.in_ok-sign.ensures.goes

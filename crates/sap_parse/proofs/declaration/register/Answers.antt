@@ -15,7 +15,8 @@ returns-clause-tree c = register_tree c.in_ok-place.ensures.tree c.in_ok-kind.en
 
 pub returns-in_err-place-clause-goes : goal.returns-in_err-place-clause-goes
 returns-in_err-place-clause-goes c =
-    fault_goes_in_row s.register (declared_row r.Register w.Reg) c.args.tokens.now c.args.tokens.now c.declared.new.tokens _ c.in_err-place.field-0.0 c.from_residual.result (search rules)
+    fault_goes_in_row s.register (declared_row r.Register w.Reg) c.args.tokens.now c.args.tokens.now c.declared.new.tokens
+    _ c.in_err-place.field-0.0 c.from_residual.result (search rules)
     (register_rows c.args.tokens.now) c.in_err-place.ensures.goes
 
 pub returns-in_err-kind-clause-goes : goal.returns-in_err-kind-clause-goes
@@ -30,9 +31,12 @@ returns-in_err-start-clause-goes c =
 
 pub returns-in_err-sign-clause-goes : goal.returns-in_err-sign-clause-goes
 returns-in_err-sign-clause-goes c =
-    fault_goes s.register (s.sign r.Plain j.Semicolon) c.args.tokens.now c.initial.new.tokens c.sign.new.self _ c.in_err-sign.field-0.0 c.from_residual-in_err-sign.result (search rules)
-    (register_rows c.args.tokens.now ∙ bind_ok _ _ _ c.in_ok-place.ensures.goes ∙ bind_ok _ _ _ c.in_ok-kind.ensures.goes ∙ bind_ok _ _ _ c.in_ok-start.ensures.goes) c.in_err-sign.ensures.goes
+    fault_goes s.register (s.sign r.Plain j.Semicolon) c.args.tokens.now c.initial.new.tokens c.sign.new.self _ c.in_err-sign.field-0.0
+    c.from_residual-in_err-sign.result (search rules)
+    (register_rows c.args.tokens.now ∙ bind_ok _ _ _ c.in_ok-place.ensures.goes ∙ bind_ok _ _ _ c.in_ok-kind.ensures.goes
+    ∙ bind_ok _ _ _ c.in_ok-start.ensures.goes) c.in_err-sign.ensures.goes
 
 pub returns-clause-goes : goal.returns-clause-goes
 returns-clause-goes c =
-    register_rows c.args.tokens.now ∙ bind_ok _ _ _ c.in_ok-place.ensures.goes ∙ bind_ok _ _ _ c.in_ok-kind.ensures.goes ∙ bind_ok _ _ _ c.in_ok-start.ensures.goes ∙ bind_pure _ ∙ c.in_ok-sign.ensures.goes
+    register_rows c.args.tokens.now ∙ bind_ok _ _ _ c.in_ok-place.ensures.goes ∙ bind_ok _ _ _ c.in_ok-kind.ensures.goes
+    ∙ bind_ok _ _ _ c.in_ok-start.ensures.goes ∙ bind_pure _ ∙ c.in_ok-sign.ensures.goes

@@ -31,14 +31,16 @@ pub bin-operators-init : goal.bin-operators-init
 bin-operators-init m c = record {
   below = omega arith;
   goes = bin_tail strictly c.args.tokens.now c.args.level (omega arith) ∙ bind_ok _ _ _ c.in_ok-first.ensures.goes ∙ bind_pure _;
-  tree = λ y q rest. g.chain (omega arith) c.in_ok-first.ensures.tree (subst (λ (x : Expr). g.Others c.args.level (expression_of x) c.bin.new.tokens y q) c.in_ok-left.ensures.ok rest);
+  tree = λ y q rest. g.chain (omega arith) c.in_ok-first.ensures.tree
+      (subst (λ (x : Expr). g.Others c.args.level (expression_of x) c.bin.new.tokens y q) c.in_ok-left.ensures.ok rest);
   shorter = c.in_ok-first.ensures.shorter;
 }
 
 pub bin-returns-in_err-place-clause-goes : goal.bin-returns-in_err-place-clause-goes
 bin-returns-in_err-place-clause-goes m c =
     let there : operator_at c.args.level (ahead c.operators.tokens.left) ≡ Some c.in-Some.operator = ap (operator_at c.args.level) (sym c.peek.ensures) ∙ sym c.in-Some.ensures in
-    fault_goes (s.bin c.args.level) (s.sign r.Inner c.sign_of.result) c.args.tokens.now c.operators.tokens c.sign.new.self (steps_by strictly (s.bin (c.args.level + 1) ∷ s.tail c.args.level ∷ [])) c.in_err-place.field-0.0 c.from_residual-in_err-place.result (search rules)
+    fault_goes (s.bin c.args.level) (s.sign r.Inner c.sign_of.result) c.args.tokens.now c.operators.tokens c.sign.new.self
+    (steps_by strictly (s.bin (c.args.level + 1) ∷ s.tail c.args.level ∷ [])) c.in_err-place.field-0.0 c.from_residual-in_err-place.result (search rules)
     (c.operators.invariant.goes ∙ tail_there strictly c.operators.tokens c.args.level c.in-Some.operator there
     ∙ ap (λ x. steps_by strictly (s.sign r.Inner x ∷ s.bin (c.args.level + 1) ∷ s.tail c.args.level ∷ []) c.operators.tokens) (sym c.sign_of.ensures))
     c.in_err-place.ensures.goes
@@ -46,7 +48,8 @@ bin-returns-in_err-place-clause-goes m c =
 pub bin-returns-in_err-right-clause-goes : goal.bin-returns-in_err-right-clause-goes
 bin-returns-in_err-right-clause-goes m c =
     let there : operator_at c.args.level (ahead c.operators.tokens.left) ≡ Some c.in-Some.operator = ap (operator_at c.args.level) (sym c.peek.ensures) ∙ sym c.in-Some.ensures in
-    fault_goes (s.bin c.args.level) (s.bin (c.args.level + 1)) c.args.tokens.now c.sign.new.self c.bin-in-Some.new.tokens (steps_by strictly (s.tail c.args.level ∷ [])) c.in_err-right.field-0.0 c.from_residual-in_err-right.result (search rules)
+    fault_goes (s.bin c.args.level) (s.bin (c.args.level + 1)) c.args.tokens.now c.sign.new.self c.bin-in-Some.new.tokens
+    (steps_by strictly (s.tail c.args.level ∷ [])) c.in_err-right.field-0.0 c.from_residual-in_err-right.result (search rules)
     (c.operators.invariant.goes ∙ tail_there strictly c.operators.tokens c.args.level c.in-Some.operator there
     ∙ ap (λ x. steps_by strictly (s.sign r.Inner x ∷ s.bin (c.args.level + 1) ∷ s.tail c.args.level ∷ []) c.operators.tokens) (sym c.sign_of.ensures)
     ∙ bind_ok _ _ _ c.in_ok-place.ensures.goes)
@@ -77,7 +80,8 @@ bin-returns-clause-tree m c =
 
 pub more_parts-others-preserved : goal.more_parts-others-preserved
 more_parts-others-preserved m c = record {
-  goes = c.others.invariant.goes ∙ parts_there strictly c.others.tokens (c.others-test.ensures.yes refl) ∙ bind_ok _ _ _ c.in_ok-sign.ensures.goes ∙ bind_ok _ _ _ c.in_ok-part.ensures.goes ∙ bind_pure _;
+  goes = c.others.invariant.goes ∙ parts_there strictly c.others.tokens (c.others-test.ensures.yes refl)
+      ∙ bind_ok _ _ _ c.in_ok-sign.ensures.goes ∙ bind_ok _ _ _ c.in_ok-part.ensures.goes ∙ bind_pure _;
   tree = λ ys q rest.
       let h = c.others.invariant.tree (t.and_part (expression_of c.in_ok-part.part) ys) q (g.part c.in_ok-sign.ensures.tree c.in_ok-part.ensures.tree rest) in
       (h.0, ap (λ items. join (expressions_of items) ys) c.in_ok-push.ensures.items ∙ join_push _ _ ys ∙ h.1, h.2);
@@ -95,7 +99,8 @@ more_parts-returns-clause-tree m c =
 pub braces-returns-clause-tree : goal.braces-returns-clause-tree
 braces-returns-clause-tree m c =
     let others = c.in_ok-more_parts.ensures.tree in
-    let items = c.in_ok-push-2.ensures.items ∙ ap (λ (v : List Expr). v ++ c.in_ok-second.second ∷ []) (c.in_ok-push.ensures.items ∙ ap (λ (v : List Expr). v ++ c.into_inner.result ∷ []) c.new-parts.ensures.items) in
+    let items = c.in_ok-push-2.ensures.items
+    ∙ ap (λ (v : List Expr). v ++ c.in_ok-second.second ∷ []) (c.in_ok-push.ensures.items ∙ ap (λ (v : List Expr). v ++ c.into_inner.result ∷ []) c.new-parts.ensures.items) in
     concat_tree c.in_ok-place.ensures.tree c.in_ok-second.ensures.tree others.2 c.in_ok-sign.ensures.tree c.in_ok-place.ensures.place
     (ap (λ (x : Expr). expression_of x) c.into_inner.ensures) c.spot.ensures (others.1 ∙ ap (λ (v : List Expr). join (expressions_of v) others.0) items) c.concat.ensures
 
@@ -104,7 +109,8 @@ braces-returns-clause-tree m c =
 pub cell-returns-clause-tree : goal.cell-returns-clause-tree
 cell-returns-clause-tree m c =
     indexes_tree c.slices.result c.slices.new.tokens (both c.args.name.place) c.args.name.name c.in_ok-index.ensures.tree c.in_ok-sign.ensures.tree
-    (c.cell.ensures ∙ ap (λ spot. t.cell_at spot c.args.name.name (expression_of c.in_ok-index-2.index.value)) c.spot.ensures ∙ ap (λ (x : Expr). t.cell_at (both c.args.name.place) c.args.name.name (expression_of x)) c.in_ok-index-2.ensures.ok)
+    (c.cell.ensures ∙ ap (λ spot. t.cell_at spot c.args.name.name (expression_of c.in_ok-index-2.index.value)) c.spot.ensures
+    ∙ ap (λ (x : Expr). t.cell_at (both c.args.name.place) c.args.name.name (expression_of x)) c.in_ok-index-2.ensures.ok)
     c.slices.ensures.tree
 
 pub named-returns-then-not-at_sign-clause-tree : goal.named-returns-then-not-at_sign-clause-tree
@@ -113,7 +119,8 @@ named-returns-then-not-at_sign-clause-tree m c =
 
 pub named-returns-then-at_slice-clause-tree : goal.named-returns-then-at_slice-clause-tree
 named-returns-then-at_slice-clause-tree m c =
-    sliced_post c.slice.result c.slice.new.tokens c.in_ok-name.ensures.tree (ap (λ (n : Mention). n.place) c.in_ok-name.ensures.place) c.in_ok-place.ensures.tree c.in_ok-place.ensures.place c.slice.ensures.tree
+    sliced_post c.slice.result c.slice.new.tokens c.in_ok-name.ensures.tree (ap (λ (n : Mention). n.place) c.in_ok-name.ensures.place)
+    c.in_ok-place.ensures.tree c.in_ok-place.ensures.place c.slice.ensures.tree
 
 pub named-returns-else-at_slice-clause-tree : goal.named-returns-else-at_slice-clause-tree
 named-returns-else-at_slice-clause-tree m c =
@@ -130,13 +137,15 @@ expr-returns-then-not-at_sign-clause-goes m c =
 
 pub expr-returns-then-not-at_sign-clause-tree : goal.expr-returns-then-not-at_sign-clause-tree
 expr-returns-then-not-at_sign-clause-tree m c =
-    subst (λ (x : Expr). g.Expr c.args.tokens.now (expression_of x) c.bin.new.tokens) (sym (c.into_inner.ensures ∙ c.in_ok-condition.ensures.ok)) (g.only c.in_ok-first.ensures.tree)
+    subst (λ (x : Expr). g.Expr c.args.tokens.now (expression_of x) c.bin.new.tokens)
+    (sym (c.into_inner.ensures ∙ c.in_ok-condition.ensures.ok)) (g.only c.in_ok-first.ensures.tree)
 
 pub expr-returns-clause-tree : goal.expr-returns-clause-tree
 expr-returns-clause-tree m c =
     choice_tree c.in_ok-first.ensures.tree c.in_ok-place.ensures.tree c.in_ok-other.ensures.tree c.in_ok-place.ensures.place
     (c.first.ensures ∙ ap (λ (x : Expr). first_of (expression_of x)) (search rules))
-    (c.in_ok-choose.ensures ∙ ap (λ (x : Expr). t.choice (from_to c.first.result c.in_ok-place.place) (expression_of x) (expression_of c.in_ok-place.one.value) (expression_of c.in_ok-other.other)) c.in_ok-condition.ensures.ok)
+    (c.in_ok-choose.ensures ∙ ap (λ (x : Expr). t.choice (from_to c.first.result c.in_ok-place.place) (expression_of x)
+    (expression_of c.in_ok-place.one.value) (expression_of c.in_ok-other.other)) c.in_ok-condition.ensures.ok)
 
 pub paren-returns-clause-tree : goal.paren-returns-clause-tree
 paren-returns-clause-tree m c =
@@ -150,14 +159,17 @@ between-returns-clause-tree m c =
 pub unary-returns-in_err-place-in-Some-clause-goes : goal.unary-returns-in_err-place-in-Some-clause-goes
 unary-returns-in_err-place-in-Some-clause-goes m c =
     let there : unary_at (ahead c.args.tokens.now.left) ≡ Some c.in-Some.operator = ap unary_at (sym c.peek.ensures) ∙ sym c.in-Some.ensures in
-    fault_goes s.unary (s.sign r.Inner c.unary_sign_of.result) c.args.tokens.now c.args.tokens.now c.sign.new.self (steps_by strictly (s.unary ∷ [])) c.in_err-place-in-Some.field-0.0 c.from_residual.result (search rules)
-    (unary_there strictly c.args.tokens.now c.in-Some.operator there ∙ ap (λ x. steps_by strictly (s.sign r.Inner x ∷ s.unary ∷ []) c.args.tokens.now) (sym c.unary_sign_of.ensures))
+    fault_goes s.unary (s.sign r.Inner c.unary_sign_of.result) c.args.tokens.now c.args.tokens.now c.sign.new.self
+    (steps_by strictly (s.unary ∷ [])) c.in_err-place-in-Some.field-0.0 c.from_residual.result (search rules)
+    (unary_there strictly c.args.tokens.now c.in-Some.operator there
+    ∙ ap (λ x. steps_by strictly (s.sign r.Inner x ∷ s.unary ∷ []) c.args.tokens.now) (sym c.unary_sign_of.ensures))
     c.in_err-place-in-Some.ensures.goes
 
 pub unary-returns-in_err-operand-in-Some-clause-goes : goal.unary-returns-in_err-operand-in-Some-clause-goes
 unary-returns-in_err-operand-in-Some-clause-goes m c =
     let there : unary_at (ahead c.args.tokens.now.left) ≡ Some c.in-Some.operator = ap unary_at (sym c.peek.ensures) ∙ sym c.in-Some.ensures in
-    fault_goes s.unary s.unary c.args.tokens.now c.sign.new.self c.unary.new.tokens (steps_by strictly []) c.in_err-operand-in-Some.field-0.0 c.from_residual-in_err-operand-in-Some.result (search rules)
+    fault_goes s.unary s.unary c.args.tokens.now c.sign.new.self c.unary.new.tokens (steps_by strictly [])
+    c.in_err-operand-in-Some.field-0.0 c.from_residual-in_err-operand-in-Some.result (search rules)
     (unary_there strictly c.args.tokens.now c.in-Some.operator there ∙ ap (λ x. steps_by strictly (s.sign r.Inner x ∷ s.unary ∷ []) c.args.tokens.now) (sym c.unary_sign_of.ensures)
     ∙ bind_ok _ _ _ c.in_ok-place-in-Some.ensures.goes)
     c.in_err-operand-in-Some.ensures.goes
@@ -170,7 +182,8 @@ unary-returns-in_ok-unary-in-Some-clause-goes m c =
 
 pub unary-returns-in_ok-unary-in-Some-clause-tree : goal.unary-returns-in_ok-unary-in-Some-clause-tree
 unary-returns-in_ok-unary-in-Some-clause-tree m c =
-    unary_tree c.in-Some.operator (subst (λ x. IsSign c.args.tokens.now r.Inner x c.sign.new.self) c.unary_sign_of.ensures c.in_ok-place-in-Some.ensures.tree) c.in_ok-operand-in-Some.ensures.tree
+    unary_tree c.in-Some.operator (subst (λ x. IsSign c.args.tokens.now r.Inner x c.sign.new.self) c.unary_sign_of.ensures
+    c.in_ok-place-in-Some.ensures.tree) c.in_ok-operand-in-Some.ensures.tree
     c.in_ok-place-in-Some.ensures.place c.spot.ensures c.in_ok-unary-in-Some.ensures
 
 pub unary-returns-in-None-clause-tree : goal.unary-returns-in-None-clause-tree
@@ -189,17 +202,21 @@ expr-returns-in_err-first-clause-goes m c =
 
 pub expr-returns-in_err-place-clause-goes : goal.expr-returns-in_err-place-clause-goes
 expr-returns-in_err-place-clause-goes m c =
-    fault_goes_in_row s.expr (between_row r.Inner j.Question r.Inner j.Colon) c.args.tokens.now c.bin.new.tokens c.between.new.tokens _ c.in_err-place.field-0.0 c.from_residual-in_err-place.result (search rules)
-    (expr_bin strictly c.args.tokens.now ∙ bind_ok _ _ _ c.in_ok-first.ensures.goes ∙ bind_pure _ ∙ choice_row c.bin.new.tokens (c.if-not-at_sign.ensures.yes refl)) c.in_err-place.ensures.goes
+    fault_goes_in_row s.expr (between_row r.Inner j.Question r.Inner j.Colon) c.args.tokens.now c.bin.new.tokens c.between.new.tokens
+    _ c.in_err-place.field-0.0 c.from_residual-in_err-place.result (search rules)
+    (expr_bin strictly c.args.tokens.now ∙ bind_ok _ _ _ c.in_ok-first.ensures.goes ∙ bind_pure _
+    ∙ choice_row c.bin.new.tokens (c.if-not-at_sign.ensures.yes refl)) c.in_err-place.ensures.goes
 
 pub expr-returns-in_err-other-clause-goes : goal.expr-returns-in_err-other-clause-goes
 expr-returns-in_err-other-clause-goes m c =
     fault_goes s.expr s.expr c.args.tokens.now c.between.new.tokens c.expr.new.tokens _ c.in_err-other.field-0.0 c.from_residual-in_err-other.result (search rules)
-    (expr_bin strictly c.args.tokens.now ∙ bind_ok _ _ _ c.in_ok-first.ensures.goes ∙ bind_pure _ ∙ choice_row c.bin.new.tokens (c.if-not-at_sign.ensures.yes refl) ∙ bind_ok _ _ _ c.in_ok-place.ensures.goes) c.in_err-other.ensures.goes
+    (expr_bin strictly c.args.tokens.now ∙ bind_ok _ _ _ c.in_ok-first.ensures.goes ∙ bind_pure _
+    ∙ choice_row c.bin.new.tokens (c.if-not-at_sign.ensures.yes refl) ∙ bind_ok _ _ _ c.in_ok-place.ensures.goes) c.in_err-other.ensures.goes
 
 pub expr-returns-clause-goes : goal.expr-returns-clause-goes
 expr-returns-clause-goes m c =
-    expr_bin strictly c.args.tokens.now ∙ bind_ok _ _ _ c.in_ok-first.ensures.goes ∙ bind_pure _ ∙ choice_row c.bin.new.tokens (c.if-not-at_sign.ensures.yes refl) ∙ bind_ok _ _ _ c.in_ok-place.ensures.goes ∙ bind_pure _ ∙ c.in_ok-other.ensures.goes
+    expr_bin strictly c.args.tokens.now ∙ bind_ok _ _ _ c.in_ok-first.ensures.goes ∙ bind_pure _
+    ∙ choice_row c.bin.new.tokens (c.if-not-at_sign.ensures.yes refl) ∙ bind_ok _ _ _ c.in_ok-place.ensures.goes ∙ bind_pure _ ∙ c.in_ok-other.ensures.goes
 
 pub cell-returns-in_err-index-clause-goes : goal.cell-returns-in_err-index-clause-goes
 cell-returns-in_err-index-clause-goes m c =
@@ -208,7 +225,8 @@ cell-returns-in_err-index-clause-goes m c =
 
 pub cell-returns-in_err-sign-clause-goes : goal.cell-returns-in_err-sign-clause-goes
 cell-returns-in_err-sign-clause-goes m c =
-    fault_goes s.behind_bracket (s.sign r.Closing j.CloseBracket) c.args.tokens.now c.expr.new.tokens c.sign.new.self _ c.in_err-sign.field-0.0 c.from_residual-in_err-sign.result (search rules)
+    fault_goes s.behind_bracket (s.sign r.Closing j.CloseBracket) c.args.tokens.now c.expr.new.tokens c.sign.new.self
+    _ c.in_err-sign.field-0.0 c.from_residual-in_err-sign.result (search rules)
     (bracket_index strictly c.args.tokens.now c.requires ∙ bind_ok _ _ _ c.in_ok-index.ensures.goes) c.in_err-sign.ensures.goes
 
 pub named-returns-in_err-name-clause-goes : goal.named-returns-in_err-name-clause-goes
@@ -218,22 +236,27 @@ named-returns-in_err-name-clause-goes m c =
 
 pub named-returns-in_err-place-clause-goes : goal.named-returns-in_err-place-clause-goes
 named-returns-in_err-place-clause-goes m c =
-    fault_goes s.post (s.sign r.Opening j.OpenBracket) c.args.tokens.now c.name.new.self c.sign.new.self _ c.in_err-place.field-0.0 c.from_residual-in_err-place.result (search rules)
-    (post_name strictly c.args.tokens.now c.requires ∙ bind_ok _ _ _ c.in_ok-name.ensures.goes ∙ bind_pure _ ∙ after_name_there strictly c.name.new.self (c.if-not-at_sign.ensures.yes refl)) c.in_err-place.ensures.goes
+    fault_goes s.post (s.sign r.Opening j.OpenBracket) c.args.tokens.now c.name.new.self c.sign.new.self _ c.in_err-place.field-0.0
+    c.from_residual-in_err-place.result (search rules)
+    (post_name strictly c.args.tokens.now c.requires ∙ bind_ok _ _ _ c.in_ok-name.ensures.goes ∙ bind_pure _
+    ∙ after_name_there strictly c.name.new.self (c.if-not-at_sign.ensures.yes refl)) c.in_err-place.ensures.goes
 
 pub between-returns-in_err-place-clause-goes : goal.between-returns-in_err-place-clause-goes
 between-returns-in_err-place-clause-goes m c =
-    fault_goes_on (between_row c.args.opening c.args.left c.args.closing c.args.right) (s.sign c.args.opening c.args.left) c.args.tokens.now c.args.tokens.now c.sign.new.self _ c.in_err-place.field-0.0 c.from_residual.result (search rules)
+    fault_goes_on (between_row c.args.opening c.args.left c.args.closing c.args.right) (s.sign c.args.opening c.args.left) c.args.tokens.now
+    c.args.tokens.now c.sign.new.self _ c.in_err-place.field-0.0 c.from_residual.result (search rules)
     (row_steps _ _) c.in_err-place.ensures.goes
 
 pub between-returns-in_err-inner-clause-goes : goal.between-returns-in_err-inner-clause-goes
 between-returns-in_err-inner-clause-goes m c =
-    fault_goes_on (between_row c.args.opening c.args.left c.args.closing c.args.right) s.expr c.args.tokens.now c.sign.new.self c.expr.new.tokens _ c.in_err-inner.field-0.0 c.from_residual-in_err-inner.result (search rules)
+    fault_goes_on (between_row c.args.opening c.args.left c.args.closing c.args.right) s.expr c.args.tokens.now c.sign.new.self
+    c.expr.new.tokens _ c.in_err-inner.field-0.0 c.from_residual-in_err-inner.result (search rules)
     (row_steps _ _ ∙ bind_ok _ _ _ c.in_ok-place.ensures.goes) c.in_err-inner.ensures.goes
 
 pub between-returns-in_err-sign-clause-goes : goal.between-returns-in_err-sign-clause-goes
 between-returns-in_err-sign-clause-goes m c =
-    fault_goes_on (between_row c.args.opening c.args.left c.args.closing c.args.right) (s.sign c.args.closing c.args.right) c.args.tokens.now c.expr.new.tokens c.sign-2.new.self _ c.in_err-sign.field-0.0 c.from_residual-in_err-sign.result (search rules)
+    fault_goes_on (between_row c.args.opening c.args.left c.args.closing c.args.right) (s.sign c.args.closing c.args.right)
+    c.args.tokens.now c.expr.new.tokens c.sign-2.new.self _ c.in_err-sign.field-0.0 c.from_residual-in_err-sign.result (search rules)
     (row_steps _ _ ∙ bind_ok _ _ _ c.in_ok-place.ensures.goes ∙ bind_ok _ _ _ c.in_ok-inner.ensures.goes) c.in_err-sign.ensures.goes
 
 pub between-returns-clause-goes : goal.between-returns-clause-goes
@@ -242,7 +265,8 @@ between-returns-clause-goes m c =
 
 pub braces-returns-in_err-place-clause-goes : goal.braces-returns-in_err-place-clause-goes
 braces-returns-in_err-place-clause-goes m c =
-    fault_goes_in_row s.braces (between_row r.Opening j.OpenBrace r.Inner j.Comma) c.args.tokens.now c.args.tokens.now c.between.new.tokens _ c.in_err-place.field-0.0 c.from_residual.result (search rules)
+    fault_goes_in_row s.braces (between_row r.Opening j.OpenBrace r.Inner j.Comma) c.args.tokens.now c.args.tokens.now c.between.new.tokens
+    _ c.in_err-place.field-0.0 c.from_residual.result (search rules)
     (braces_row c.args.tokens.now) c.in_err-place.ensures.goes
 
 pub braces-returns-in_err-second-clause-goes : goal.braces-returns-in_err-second-clause-goes
@@ -257,12 +281,15 @@ braces-returns-in_err-more_parts-clause-goes m c =
 
 pub braces-returns-in_err-sign-clause-goes : goal.braces-returns-in_err-sign-clause-goes
 braces-returns-in_err-sign-clause-goes m c =
-    fault_goes s.braces (s.sign r.Closing j.CloseBrace) c.args.tokens.now c.more_parts.new.tokens c.sign.new.self _ c.in_err-sign.field-0.0 c.from_residual-in_err-sign.result (search rules)
-    (braces_row c.args.tokens.now ∙ bind_ok _ _ _ c.in_ok-place.ensures.goes ∙ bind_ok _ _ _ c.in_ok-second.ensures.goes ∙ bind_ok _ _ _ c.in_ok-more_parts.ensures.goes) c.in_err-sign.ensures.goes
+    fault_goes s.braces (s.sign r.Closing j.CloseBrace) c.args.tokens.now c.more_parts.new.tokens c.sign.new.self _ c.in_err-sign.field-0.0
+    c.from_residual-in_err-sign.result (search rules)
+    (braces_row c.args.tokens.now ∙ bind_ok _ _ _ c.in_ok-place.ensures.goes ∙ bind_ok _ _ _ c.in_ok-second.ensures.goes
+    ∙ bind_ok _ _ _ c.in_ok-more_parts.ensures.goes) c.in_err-sign.ensures.goes
 
 pub braces-returns-clause-goes : goal.braces-returns-clause-goes
 braces-returns-clause-goes m c =
-    braces_row c.args.tokens.now ∙ bind_ok _ _ _ c.in_ok-place.ensures.goes ∙ bind_ok _ _ _ c.in_ok-second.ensures.goes ∙ bind_ok _ _ _ c.in_ok-more_parts.ensures.goes ∙ bind_pure _ ∙ c.in_ok-sign.ensures.goes
+    braces_row c.args.tokens.now ∙ bind_ok _ _ _ c.in_ok-place.ensures.goes ∙ bind_ok _ _ _ c.in_ok-second.ensures.goes
+    ∙ bind_ok _ _ _ c.in_ok-more_parts.ensures.goes ∙ bind_pure _ ∙ c.in_ok-sign.ensures.goes
 
 pub more_parts-returns-in_err-sign-clause-goes : goal.more_parts-returns-in_err-sign-clause-goes
 more_parts-returns-in_err-sign-clause-goes m c =
@@ -281,12 +308,14 @@ zext-returns-in_err-place-clause-goes m c =
 
 pub zext-returns-in_err-operand-clause-goes : goal.zext-returns-in_err-operand-clause-goes
 zext-returns-in_err-operand-clause-goes m c =
-    fault_goes_in_row s.zext (between_row r.Opening j.OpenParen r.Inner j.Comma) c.args.tokens.now c.word.new.self c.between.new.tokens _ c.in_err-operand.field-0.0 c.from_residual-in_err-operand.result (search rules)
+    fault_goes_in_row s.zext (between_row r.Opening j.OpenParen r.Inner j.Comma) c.args.tokens.now c.word.new.self c.between.new.tokens
+    _ c.in_err-operand.field-0.0 c.from_residual-in_err-operand.result (search rules)
     (zext_row c.args.tokens.now ∙ bind_ok _ _ _ c.in_ok-place.ensures.goes) c.in_err-operand.ensures.goes
 
 pub zext-returns-in_err-width-clause-goes : goal.zext-returns-in_err-width-clause-goes
 zext-returns-in_err-width-clause-goes m c =
-    fault_goes_in_row s.zext (last_number_row j.CloseParen) c.args.tokens.now c.between.new.tokens c.last_number.new.tokens _ c.in_err-width.field-0.0 c.from_residual-in_err-width.result (search rules)
+    fault_goes_in_row s.zext (last_number_row j.CloseParen) c.args.tokens.now c.between.new.tokens c.last_number.new.tokens
+    _ c.in_err-width.field-0.0 c.from_residual-in_err-width.result (search rules)
     (zext_row c.args.tokens.now ∙ bind_ok _ _ _ c.in_ok-place.ensures.goes ∙ bind_ok _ _ _ c.in_ok-operand.ensures.goes ∙ sym (bind_pure _)) c.in_err-width.ensures.goes
 
 pub zext-returns-clause-goes : goal.zext-returns-clause-goes
@@ -295,7 +324,8 @@ zext-returns-clause-goes m c =
 
 pub paren-returns-in_err-place-clause-goes : goal.paren-returns-in_err-place-clause-goes
 paren-returns-in_err-place-clause-goes m c =
-    fault_goes_in_row s.paren (between_row r.Opening j.OpenParen r.Closing j.CloseParen) c.args.tokens.now c.args.tokens.now c.between.new.tokens _ c.in_err-place.field-0.0 c.from_residual.result (search rules)
+    fault_goes_in_row s.paren (between_row r.Opening j.OpenParen r.Closing j.CloseParen) c.args.tokens.now c.args.tokens.now
+    c.between.new.tokens _ c.in_err-place.field-0.0 c.from_residual.result (search rules)
     (paren_row c.args.tokens.now ∙ sym (bind_pure _)) c.in_err-place.ensures.goes
 
 pub paren-returns-clause-goes : goal.paren-returns-clause-goes

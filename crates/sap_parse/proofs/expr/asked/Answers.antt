@@ -12,12 +12,15 @@ returns-clause-tree c = asked c.in_ok-place.ensures.tree c.in_ok-inner.ensures.t
 
 pub returns-in_err-place-clause-goes : goal.returns-in_err-place-clause-goes
 returns-in_err-place-clause-goes c =
-    fault_goes_on (asked_row c.args.role c.args.word c.args.opening c.args.closing) (s.word c.args.role c.args.word) c.args.tokens.now c.args.tokens.now c.word.new.self _ c.in_err-place.field-0.0 c.from_residual.result (search rules)
+    fault_goes_on (asked_row c.args.role c.args.word c.args.opening c.args.closing) (s.word c.args.role c.args.word) c.args.tokens.now
+    c.args.tokens.now c.word.new.self _ c.in_err-place.field-0.0 c.from_residual.result (search rules)
     (row_more _ _ c.args.tokens.now) c.in_err-place.ensures.goes
 
 pub returns-in_err-inner-clause-goes : goal.returns-in_err-inner-clause-goes
 returns-in_err-inner-clause-goes c =
-    fault_goes_on_in_row (asked_row c.args.role c.args.word c.args.opening c.args.closing) (between_row c.args.opening j.OpenParen c.args.closing j.CloseParen) c.args.tokens.now c.word.new.self c.between.new.tokens _ c.in_err-inner.field-0.0 c.from_residual-in_err-inner.result (search rules)
+    fault_goes_on_in_row (asked_row c.args.role c.args.word c.args.opening c.args.closing)
+    (between_row c.args.opening j.OpenParen c.args.closing j.CloseParen) c.args.tokens.now c.word.new.self c.between.new.tokens
+    _ c.in_err-inner.field-0.0 c.from_residual-in_err-inner.result (search rules)
     (row_more _ _ c.args.tokens.now ∙ bind_ok _ _ _ c.in_ok-place.ensures.goes ∙ sym (bind_pure _)) c.in_err-inner.ensures.goes
 
 pub returns-clause-goes : goal.returns-clause-goes

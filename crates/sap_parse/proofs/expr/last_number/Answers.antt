@@ -12,12 +12,14 @@ returns-clause-tree c = last_number c.in_ok-n.ensures.tree c.in_ok-sign.ensures.
 
 pub returns-in_err-n-clause-goes : goal.returns-in_err-n-clause-goes
 returns-in_err-n-clause-goes c =
-    fault_goes_on (last_number_row c.args.right) (s.number r.Inner) c.args.tokens.now c.args.tokens.now c.number.new.self _ c.in_err-n.field-0.0 c.from_residual.result (search rules)
+    fault_goes_on (last_number_row c.args.right) (s.number r.Inner) c.args.tokens.now c.args.tokens.now c.number.new.self
+    _ c.in_err-n.field-0.0 c.from_residual.result (search rules)
     (row_steps _ _) c.in_err-n.ensures.goes
 
 pub returns-in_err-sign-clause-goes : goal.returns-in_err-sign-clause-goes
 returns-in_err-sign-clause-goes c =
-    fault_goes_on (last_number_row c.args.right) (s.sign r.Closing c.args.right) c.args.tokens.now c.number.new.self c.sign.new.self _ c.in_err-sign.field-0.0 c.from_residual-in_err-sign.result (search rules)
+    fault_goes_on (last_number_row c.args.right) (s.sign r.Closing c.args.right) c.args.tokens.now c.number.new.self c.sign.new.self
+    _ c.in_err-sign.field-0.0 c.from_residual-in_err-sign.result (search rules)
     (row_steps _ _ ∙ bind_ok _ _ _ c.in_ok-n.ensures.goes) c.in_err-sign.ensures.goes
 
 pub returns-clause-goes : goal.returns-clause-goes

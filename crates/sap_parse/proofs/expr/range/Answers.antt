@@ -23,7 +23,8 @@ returns-in_err-sign-clause-goes c =
 
 pub returns-in_err-low-clause-goes : goal.returns-in_err-low-clause-goes
 returns-in_err-low-clause-goes c =
-    fault_goes_on_in_row range_row (last_number_row j.CloseBracket) c.args.tokens.now c.sign.new.self c.last_number.new.tokens _ c.in_err-low.field-0.0 c.from_residual-in_err-low.result (search rules)
+    fault_goes_on_in_row range_row (last_number_row j.CloseBracket) c.args.tokens.now c.sign.new.self c.last_number.new.tokens
+    _ c.in_err-low.field-0.0 c.from_residual-in_err-low.result (search rules)
     (range_steps c.args.tokens.now ∙ bind_ok _ _ _ c.in_ok-high.ensures.goes ∙ bind_ok _ _ _ c.in_ok-sign.ensures.goes ∙ sym (bind_pure _)) c.in_err-low.ensures.goes
 
 pub returns-clause-goes : goal.returns-clause-goes

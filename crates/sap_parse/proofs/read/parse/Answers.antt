@@ -31,13 +31,15 @@ design-requires c =
 pub new-requires : goal.new-requires
 new-requires c =
     text_whole c.args.source.now _
-    (text_is c.args.source.now c.in_ok-list.list c.new-tokens.result c.design.new.tokens _ (omega arith) c.in_ok-list.ensures.ok (c.new-tokens.ensures ∙ ap at_start c.as_slice.ensures)
+    (text_is c.args.source.now c.in_ok-list.list c.new-tokens.result c.design.new.tokens _ (omega arith) c.in_ok-list.ensures.ok
+    (c.new-tokens.ensures ∙ ap at_start c.as_slice.ensures)
     c.in-Ok.ensures.tree c.in-Ok.ensures.end c.breaks_nothing.ensures)
 
 pub returns-in-Ok-clause-design : goal.returns-in-Ok-clause-design
 returns-in-Ok-clause-design c =
     subst (IsText c.args.source.now) (sym c.new.ensures)
-    (text_is c.args.source.now c.in_ok-list.list c.new-tokens.result c.design.new.tokens _ (omega arith) c.in_ok-list.ensures.ok (c.new-tokens.ensures ∙ ap at_start c.as_slice.ensures)
+    (text_is c.args.source.now c.in_ok-list.list c.new-tokens.result c.design.new.tokens _ (omega arith) c.in_ok-list.ensures.ok
+    (c.new-tokens.ensures ∙ ap at_start c.as_slice.ensures)
     c.in-Ok.ensures.tree c.in-Ok.ensures.end c.breaks_nothing.ensures)
 
 pub returns-in-Err-Token-clause-fault : goal.returns-in-Err-Token-clause-fault

@@ -30,11 +30,13 @@ states-returns-clause-tree m c =
 
 pub state-returns-clause-tree : goal.state-returns-clause-tree
 state-returns-clause-tree m c =
-    state_tree c.in_ok-place.ensures.tree c.in_ok-body.ensures.tree c.in_ok-children.ensures.tree c.in_ok-sign.ensures.tree c.into_inner.ensures c.in_ok-body.ensures.after c.new.ensures
+    state_tree c.in_ok-place.ensures.tree c.in_ok-body.ensures.tree c.in_ok-children.ensures.tree c.in_ok-sign.ensures.tree
+    c.into_inner.ensures c.in_ok-body.ensures.after c.new.ensures
 
 pub state-returns-in_err-place-clause-goes : goal.state-returns-in_err-place-clause-goes
 state-returns-in_err-place-clause-goes m c =
-    fault_goes_in_row (s.state c.args.depth) (head_row c.args.depth) c.args.tokens.now c.args.tokens.now c.head.new.tokens _ c.in_err-place.field-0.0 c.from_residual.result (search rules)
+    fault_goes_in_row (s.state c.args.depth) (head_row c.args.depth) c.args.tokens.now c.args.tokens.now c.head.new.tokens
+    _ c.in_err-place.field-0.0 c.from_residual.result (search rules)
     (state_rows c.args.depth c.args.tokens.now) c.in_err-place.ensures.goes
 
 pub state-returns-in_err-body-clause-goes : goal.state-returns-in_err-body-clause-goes
@@ -44,17 +46,21 @@ state-returns-in_err-body-clause-goes m c =
 
 pub state-returns-in_err-children-clause-goes : goal.state-returns-in_err-children-clause-goes
 state-returns-in_err-children-clause-goes m c =
-    fault_goes (s.state c.args.depth) (s.states (c.args.depth + 1)) c.args.tokens.now c.body.new.tokens c.states.new.tokens _ c.in_err-children.field-0.0 c.from_residual-in_err-children.result (search rules)
+    fault_goes (s.state c.args.depth) (s.states (c.args.depth + 1)) c.args.tokens.now c.body.new.tokens c.states.new.tokens
+    _ c.in_err-children.field-0.0 c.from_residual-in_err-children.result (search rules)
     (state_rows c.args.depth c.args.tokens.now ∙ bind_ok _ _ _ c.in_ok-place.ensures.goes ∙ bind_ok _ _ _ c.in_ok-body.ensures.goes) c.in_err-children.ensures.goes
 
 pub state-returns-in_err-sign-clause-goes : goal.state-returns-in_err-sign-clause-goes
 state-returns-in_err-sign-clause-goes m c =
-    fault_goes (s.state c.args.depth) (s.sign r.Plain j.CloseBrace) c.args.tokens.now c.states.new.tokens c.sign.new.self _ c.in_err-sign.field-0.0 c.from_residual-in_err-sign.result (search rules)
-    (state_rows c.args.depth c.args.tokens.now ∙ bind_ok _ _ _ c.in_ok-place.ensures.goes ∙ bind_ok _ _ _ c.in_ok-body.ensures.goes ∙ bind_ok _ _ _ c.in_ok-children.ensures.goes) c.in_err-sign.ensures.goes
+    fault_goes (s.state c.args.depth) (s.sign r.Plain j.CloseBrace) c.args.tokens.now c.states.new.tokens c.sign.new.self
+    _ c.in_err-sign.field-0.0 c.from_residual-in_err-sign.result (search rules)
+    (state_rows c.args.depth c.args.tokens.now ∙ bind_ok _ _ _ c.in_ok-place.ensures.goes ∙ bind_ok _ _ _ c.in_ok-body.ensures.goes
+    ∙ bind_ok _ _ _ c.in_ok-children.ensures.goes) c.in_err-sign.ensures.goes
 
 pub state-returns-clause-goes : goal.state-returns-clause-goes
 state-returns-clause-goes m c =
-    state_rows c.args.depth c.args.tokens.now ∙ bind_ok _ _ _ c.in_ok-place.ensures.goes ∙ bind_ok _ _ _ c.in_ok-body.ensures.goes ∙ bind_ok _ _ _ c.in_ok-children.ensures.goes ∙ bind_pure _ ∙ c.in_ok-sign.ensures.goes
+    state_rows c.args.depth c.args.tokens.now ∙ bind_ok _ _ _ c.in_ok-place.ensures.goes ∙ bind_ok _ _ _ c.in_ok-body.ensures.goes
+    ∙ bind_ok _ _ _ c.in_ok-children.ensures.goes ∙ bind_pure _ ∙ c.in_ok-sign.ensures.goes
 
 pub states-returns-in_err-next-clause-goes : goal.states-returns-in_err-next-clause-goes
 states-returns-in_err-next-clause-goes m c =

@@ -14,7 +14,8 @@ pub returns-clause-tree : goal.returns-clause-tree
 returns-clause-tree c =
     let rest = c.in_ok-last_states.ensures.tree in
     all_states_tree c.in_ok-first.ensures.tree rest.2
-    (rest.1 ∙ ap (λ (v : List State). join_states (states_of v) rest.0) (c.in_ok-push.ensures.items ∙ ap (λ (v : List State). v ++ c.in_ok-first.first ∷ []) c.new-list.ensures.items))
+    (rest.1 ∙ ap (λ (v : List State). join_states (states_of v) rest.0) (c.in_ok-push.ensures.items
+    ∙ ap (λ (v : List State). v ++ c.in_ok-first.first ∷ []) c.new-list.ensures.items))
 
 pub returns-in_err-first-clause-goes : goal.returns-in_err-first-clause-goes
 returns-in_err-first-clause-goes c =
@@ -23,7 +24,8 @@ returns-in_err-first-clause-goes c =
 
 pub returns-in_err-last_states-clause-goes : goal.returns-in_err-last_states-clause-goes
 returns-in_err-last_states-clause-goes c =
-    fault_goes_on all_states_row s.last_states c.args.tokens.now c.state.new.tokens c.last_states.new.tokens _ c.in_err-last_states.field-0.0 c.from_residual-in_err-last_states.result (search rules)
+    fault_goes_on all_states_row s.last_states c.args.tokens.now c.state.new.tokens c.last_states.new.tokens
+    _ c.in_err-last_states.field-0.0 c.from_residual-in_err-last_states.result (search rules)
     (row_steps _ _ ∙ bind_ok _ _ _ c.in_ok-first.ensures.goes) c.in_err-last_states.ensures.goes
 
 pub returns-clause-goes : goal.returns-clause-goes

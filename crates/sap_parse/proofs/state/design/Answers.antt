@@ -17,12 +17,14 @@ returns-in_err-version-clause-goes c =
 
 pub returns-in_err-declarations-clause-goes : goal.returns-in_err-declarations-clause-goes
 returns-in_err-declarations-clause-goes c =
-    fault_goes s.design s.declarations c.args.tokens.now c.header.new.tokens c.declarations.new.tokens _ c.in_err-declarations.field-0.0 c.from_residual-in_err-declarations.result (search rules)
+    fault_goes s.design s.declarations c.args.tokens.now c.header.new.tokens c.declarations.new.tokens _ c.in_err-declarations.field-0.0
+    c.from_residual-in_err-declarations.result (search rules)
     (design_rows c.args.tokens.now ∙ bind_ok _ _ _ c.in_ok-version.ensures.goes) c.in_err-declarations.ensures.goes
 
 pub returns-in_err-states-clause-goes : goal.returns-in_err-states-clause-goes
 returns-in_err-states-clause-goes c =
-    fault_goes_in_row s.design all_states_row c.args.tokens.now c.declarations.new.tokens c.all_states.new.tokens _ c.in_err-states.field-0.0 c.from_residual-in_err-states.result (search rules)
+    fault_goes_in_row s.design all_states_row c.args.tokens.now c.declarations.new.tokens c.all_states.new.tokens
+    _ c.in_err-states.field-0.0 c.from_residual-in_err-states.result (search rules)
     (design_rows c.args.tokens.now ∙ bind_ok _ _ _ c.in_ok-version.ensures.goes ∙ bind_ok _ _ _ c.in_ok-declarations.ensures.goes ∙ sym (bind_pure _)) c.in_err-states.ensures.goes
 
 pub returns-clause-goes : goal.returns-clause-goes

@@ -29,8 +29,10 @@ returns-in_err-word-2-clause-goes c =
 pub returns-in_err-sign-clause-goes : goal.returns-in_err-sign-clause-goes
 returns-in_err-sign-clause-goes c =
     fault_goes s.header (s.sign r.Plain j.Semicolon) c.args.tokens.now c.word-2.new.self c.sign.new.self _ c.in_err-sign.field-0.0 c.from_residual-in_err-sign.result (search rules)
-    (header_there strictly c.args.tokens.now (c.if-not-at_word.ensures.yes refl) ∙ bind_ok _ _ _ c.in_ok-word.ensures.goes ∙ bind_ok _ _ _ c.in_ok-word-2.ensures.goes) c.in_err-sign.ensures.goes
+    (header_there strictly c.args.tokens.now (c.if-not-at_word.ensures.yes refl) ∙ bind_ok _ _ _ c.in_ok-word.ensures.goes
+    ∙ bind_ok _ _ _ c.in_ok-word-2.ensures.goes) c.in_err-sign.ensures.goes
 
 pub returns-clause-goes : goal.returns-clause-goes
 returns-clause-goes c =
-    header_there strictly c.args.tokens.now (c.if-not-at_word.ensures.yes refl) ∙ bind_ok _ _ _ c.in_ok-word.ensures.goes ∙ bind_ok _ _ _ c.in_ok-word-2.ensures.goes ∙ bind_pure _ ∙ c.in_ok-sign.ensures.goes
+    header_there strictly c.args.tokens.now (c.if-not-at_word.ensures.yes refl) ∙ bind_ok _ _ _ c.in_ok-word.ensures.goes
+    ∙ bind_ok _ _ _ c.in_ok-word-2.ensures.goes ∙ bind_pure _ ∙ c.in_ok-sign.ensures.goes

@@ -17,7 +17,8 @@ use Rattle.sap_parse.proofs.tag.+tag.Goals as goal
 
 pub more_tags-others-preserved : goal.more_tags-others-preserved
 more_tags-others-preserved m c = record {
-  goes = c.others.invariant.goes ∙ texprs_there strictly c.others.tokens (c.others-test.ensures.yes refl) ∙ bind_ok _ _ _ c.in_ok-sign.ensures.goes ∙ bind_ok _ _ _ c.in_ok-part.ensures.goes ∙ bind_pure _;
+  goes = c.others.invariant.goes ∙ texprs_there strictly c.others.tokens (c.others-test.ensures.yes refl)
+      ∙ bind_ok _ _ _ c.in_ok-sign.ensures.goes ∙ bind_ok _ _ _ c.in_ok-part.ensures.goes ∙ bind_pure _;
   tree = λ ys q rest.
       let h = c.others.invariant.tree (t.and_tag (tag_of c.in_ok-part.part) ys) q (g.tag c.in_ok-sign.ensures.tree c.in_ok-part.ensures.tree rest) in
       (h.0, ap (λ items. join_tags (tags_of items) ys) c.in_ok-push.ensures.items ∙ join_tags_push _ _ ys ∙ h.1, h.2);
@@ -35,8 +36,11 @@ more_tags-returns-clause-tree m c =
 pub join-returns-clause-tree : goal.join-returns-clause-tree
 join-returns-clause-tree m c =
     let others = c.in_ok-more_tags.ensures.tree in
-    let items = c.in_ok-push-2.ensures.items ∙ ap (λ (v : List TagExpr). v ++ c.in_ok-second.second ∷ []) (c.in_ok-push.ensures.items ∙ ap (λ (v : List TagExpr). v ++ c.in_ok-first.first ∷ []) c.new-parts.ensures.items) in
-    join_tree c.in_ok-place.ensures.tree c.in_ok-sign.ensures.tree c.in_ok-first.ensures.tree c.in_ok-sign-2.ensures.tree c.in_ok-second.ensures.tree others.2 c.in_ok-sign-3.ensures.tree
+    let items = c.in_ok-push-2.ensures.items
+    ∙ ap (λ (v : List TagExpr). v ++ c.in_ok-second.second ∷ []) (c.in_ok-push.ensures.items
+    ∙ ap (λ (v : List TagExpr). v ++ c.in_ok-first.first ∷ []) c.new-parts.ensures.items) in
+    join_tree c.in_ok-place.ensures.tree c.in_ok-sign.ensures.tree c.in_ok-first.ensures.tree c.in_ok-sign-2.ensures.tree
+    c.in_ok-second.ensures.tree others.2 c.in_ok-sign-3.ensures.tree
     c.in_ok-place.ensures.place (others.1 ∙ ap (λ (v : List TagExpr). join_tags (tags_of v) others.0) items) c.join.ensures
 
 pub join-returns-in_err-place-clause-goes : goal.join-returns-in_err-place-clause-goes
@@ -56,27 +60,37 @@ join-returns-in_err-first-clause-goes m c =
 
 pub join-returns-in_err-sign-2-clause-goes : goal.join-returns-in_err-sign-2-clause-goes
 join-returns-in_err-sign-2-clause-goes m c =
-    fault_goes s.join (s.sign r.Inner j.Comma) c.args.tokens.now c.tag_expr.new.tokens c.sign-2.new.self _ c.in_err-sign-2.field-0.0 c.from_residual-in_err-sign-2.result (search rules)
-    (join_steps strictly c.args.tokens.now ∙ bind_ok _ _ _ c.in_ok-place.ensures.goes ∙ bind_ok _ _ _ c.in_ok-sign.ensures.goes ∙ bind_ok _ _ _ c.in_ok-first.ensures.goes) c.in_err-sign-2.ensures.goes
+    fault_goes s.join (s.sign r.Inner j.Comma) c.args.tokens.now c.tag_expr.new.tokens c.sign-2.new.self _ c.in_err-sign-2.field-0.0
+    c.from_residual-in_err-sign-2.result (search rules)
+    (join_steps strictly c.args.tokens.now ∙ bind_ok _ _ _ c.in_ok-place.ensures.goes ∙ bind_ok _ _ _ c.in_ok-sign.ensures.goes
+    ∙ bind_ok _ _ _ c.in_ok-first.ensures.goes) c.in_err-sign-2.ensures.goes
 
 pub join-returns-in_err-second-clause-goes : goal.join-returns-in_err-second-clause-goes
 join-returns-in_err-second-clause-goes m c =
     fault_goes s.join s.texpr c.args.tokens.now c.sign-2.new.self c.tag_expr-2.new.tokens _ c.in_err-second.field-0.0 c.from_residual-in_err-second.result (search rules)
-    (join_steps strictly c.args.tokens.now ∙ bind_ok _ _ _ c.in_ok-place.ensures.goes ∙ bind_ok _ _ _ c.in_ok-sign.ensures.goes ∙ bind_ok _ _ _ c.in_ok-first.ensures.goes ∙ bind_ok _ _ _ c.in_ok-sign-2.ensures.goes) c.in_err-second.ensures.goes
+    (join_steps strictly c.args.tokens.now ∙ bind_ok _ _ _ c.in_ok-place.ensures.goes ∙ bind_ok _ _ _ c.in_ok-sign.ensures.goes
+    ∙ bind_ok _ _ _ c.in_ok-first.ensures.goes ∙ bind_ok _ _ _ c.in_ok-sign-2.ensures.goes) c.in_err-second.ensures.goes
 
 pub join-returns-in_err-more_tags-clause-goes : goal.join-returns-in_err-more_tags-clause-goes
 join-returns-in_err-more_tags-clause-goes m c =
-    fault_goes s.join s.texprs c.args.tokens.now c.tag_expr-2.new.tokens c.more_tags.new.tokens _ c.in_err-more_tags.field-0.0 c.from_residual-in_err-more_tags.result (search rules)
-    (join_steps strictly c.args.tokens.now ∙ bind_ok _ _ _ c.in_ok-place.ensures.goes ∙ bind_ok _ _ _ c.in_ok-sign.ensures.goes ∙ bind_ok _ _ _ c.in_ok-first.ensures.goes ∙ bind_ok _ _ _ c.in_ok-sign-2.ensures.goes ∙ bind_ok _ _ _ c.in_ok-second.ensures.goes) c.in_err-more_tags.ensures.goes
+    fault_goes s.join s.texprs c.args.tokens.now c.tag_expr-2.new.tokens c.more_tags.new.tokens _ c.in_err-more_tags.field-0.0
+    c.from_residual-in_err-more_tags.result (search rules)
+    (join_steps strictly c.args.tokens.now ∙ bind_ok _ _ _ c.in_ok-place.ensures.goes ∙ bind_ok _ _ _ c.in_ok-sign.ensures.goes
+    ∙ bind_ok _ _ _ c.in_ok-first.ensures.goes ∙ bind_ok _ _ _ c.in_ok-sign-2.ensures.goes ∙ bind_ok _ _ _ c.in_ok-second.ensures.goes) c.in_err-more_tags.ensures.goes
 
 pub join-returns-in_err-sign-3-clause-goes : goal.join-returns-in_err-sign-3-clause-goes
 join-returns-in_err-sign-3-clause-goes m c =
-    fault_goes s.join (s.sign r.Closing j.CloseParen) c.args.tokens.now c.more_tags.new.tokens c.sign-3.new.self _ c.in_err-sign-3.field-0.0 c.from_residual-in_err-sign-3.result (search rules)
-    (join_steps strictly c.args.tokens.now ∙ bind_ok _ _ _ c.in_ok-place.ensures.goes ∙ bind_ok _ _ _ c.in_ok-sign.ensures.goes ∙ bind_ok _ _ _ c.in_ok-first.ensures.goes ∙ bind_ok _ _ _ c.in_ok-sign-2.ensures.goes ∙ bind_ok _ _ _ c.in_ok-second.ensures.goes ∙ bind_ok _ _ _ c.in_ok-more_tags.ensures.goes) c.in_err-sign-3.ensures.goes
+    fault_goes s.join (s.sign r.Closing j.CloseParen) c.args.tokens.now c.more_tags.new.tokens c.sign-3.new.self _ c.in_err-sign-3.field-0.0
+    c.from_residual-in_err-sign-3.result (search rules)
+    (join_steps strictly c.args.tokens.now ∙ bind_ok _ _ _ c.in_ok-place.ensures.goes ∙ bind_ok _ _ _ c.in_ok-sign.ensures.goes
+    ∙ bind_ok _ _ _ c.in_ok-first.ensures.goes ∙ bind_ok _ _ _ c.in_ok-sign-2.ensures.goes ∙ bind_ok _ _ _ c.in_ok-second.ensures.goes
+    ∙ bind_ok _ _ _ c.in_ok-more_tags.ensures.goes) c.in_err-sign-3.ensures.goes
 
 pub join-returns-clause-goes : goal.join-returns-clause-goes
 join-returns-clause-goes m c =
-    join_steps strictly c.args.tokens.now ∙ bind_ok _ _ _ c.in_ok-place.ensures.goes ∙ bind_ok _ _ _ c.in_ok-sign.ensures.goes ∙ bind_ok _ _ _ c.in_ok-first.ensures.goes ∙ bind_ok _ _ _ c.in_ok-sign-2.ensures.goes ∙ bind_ok _ _ _ c.in_ok-second.ensures.goes ∙ bind_ok _ _ _ c.in_ok-more_tags.ensures.goes ∙ bind_pure _ ∙ c.in_ok-sign-3.ensures.goes
+    join_steps strictly c.args.tokens.now ∙ bind_ok _ _ _ c.in_ok-place.ensures.goes ∙ bind_ok _ _ _ c.in_ok-sign.ensures.goes
+    ∙ bind_ok _ _ _ c.in_ok-first.ensures.goes ∙ bind_ok _ _ _ c.in_ok-sign-2.ensures.goes ∙ bind_ok _ _ _ c.in_ok-second.ensures.goes
+    ∙ bind_ok _ _ _ c.in_ok-more_tags.ensures.goes ∙ bind_pure _ ∙ c.in_ok-sign-3.ensures.goes
 
 pub more_tags-returns-in_err-sign-clause-goes : goal.more_tags-returns-in_err-sign-clause-goes
 more_tags-returns-in_err-sign-clause-goes m c =

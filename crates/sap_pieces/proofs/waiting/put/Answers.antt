@@ -9,7 +9,8 @@ returns-then-text-gt-LARGE_BYTES-clause-written g c =
     let b : List ℕ = c.make_room.new.waiting.bytes in
     let none : b ≡ [] = c.in_ok-make_room.ensures.none c.if-text-gt-LARGE_BYTES.true in
     on_ok_weaker c.write_text.result
-    (λ told. written_then c.args.channel (a ++ c.args.text.now) (b ++ c.args.text.now) _ _ (written_behind c.args.channel a b c.args.text.now _ _ c.in_ok-make_room.ensures.written) b _
+    (λ told. written_then c.args.channel (a ++ c.args.text.now) (b ++ c.args.text.now)
+    _ _ (written_behind c.args.channel a b c.args.text.now _ _ c.in_ok-make_room.ensures.written) b _
     (written_behind_none c.args.channel b c.args.text.now none _ _ told))
     c.write_text.ensures.told
 

@@ -29,7 +29,8 @@ returns-in_err-finish-clause-failed g c = λ _ text comes.
 pub returns-in_err-finish-clause-cause : goal.returns-in_err-finish-clause-cause
 returns-in_err-finish-clause-cause g c = λ _ sure text comes.
     let made = c.in_ok-channel.ensures in
-    never_unfinished _ c.args.name.now made.number (FillsFile c.args.name.now (c.args.beginning.now ++ text)) (c.args.beginning.now ++ text) _ _ _ _ made.told (c.in_ok-write_behind.ensures.told text comes)
+    never_unfinished _ c.args.name.now made.number (FillsFile c.args.name.now (c.args.beginning.now ++ text)) (c.args.beginning.now ++ text)
+    _ _ _ _ made.told (c.in_ok-write_behind.ensures.told text comes)
     (c.in_err-finish.ensures.cause (c.in_ok-write_behind.ensures.sure (made.sure sure)))
 
 pub returns-in_err-finish-clause-open : goal.returns-in_err-finish-clause-open

@@ -10,4 +10,5 @@ push_site-requires c = site-within (tree_in c.args.checked.now) _ _ c.site.ensur
 
 pub loop-place-preserved : goal.loop-place-preserved
 loop-place-preserved c =
-    sites_step (entities_of (tree_in c.args.checked.now)) (sites_of (tree_in c.args.checked.now)) c.loop-place.place c.site.result.now _ _ _ c.site.ensures c.in_ok-push_site.ensures c.loop-place.invariant
+    sites_step (entities_of (tree_in c.args.checked.now)) (sites_of (tree_in c.args.checked.now)) c.loop-place.place c.site.result.now
+    _ _ _ c.site.ensures c.in_ok-push_site.ensures c.loop-place.invariant

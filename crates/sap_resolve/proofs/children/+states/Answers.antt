@@ -13,6 +13,7 @@ add_states-returns t c = children_end c.args.group.now c.loop-s.s-index _ _ (ome
 pub add_state-returns : goal.add_state-returns
 add_state-returns t c =
     on_ok c.add_states.result _ _
-    (λ h. state_counted c.args.s.now c.len.result c.as_slice.result.now c.args.made.now.items c.push.new.self.items c.add_states.new.made.items (omega (arith, c.len.ensures, (out-State c.args.s.now).children.ok.0))
+    (λ h. state_counted c.args.s.now c.len.result c.as_slice.result.now c.args.made.now.items c.push.new.self.items
+    c.add_states.new.made.items (omega (arith, c.len.ensures, (out-State c.args.s.now).children.ok.0))
     c.as_slice.ensures.value c.in_ok-push.ensures.items h)
     c.add_states.ensures

@@ -11,7 +11,8 @@ use Rattle.sap_resolve.proofs.commands.+body.Given as goal
 -- with those of what is left
 abbrev pub invariant-commands-loop-c : goal.invariant-commands-loop-c
 invariant-commands-loop-c l =
-    (followed (block_of (length l.standing.names.now) l.made.items) (block_with (rows_of l.standing) l.point (list_from l.standing.lattice.now (surroundings_of l.standing) l.next (drop l.c-index l.list)))
+    (followed (block_of (length l.standing.names.now) l.made.items)
+    (block_with (rows_of l.standing) l.point (list_from l.standing.lattice.now (surroundings_of l.standing) l.next (drop l.c-index l.list)))
     ≡ block_with (rows_of l.standing) l.initial.point (list_from l.standing.lattice.now (surroundings_of l.standing) l.initial.next l.list))
     × (l.next + list_site_count (surroundings_of l.standing) (drop l.c-index l.list) ≡ l.initial.next + list_site_count (surroundings_of l.standing) l.list)
     × (l.point + block_points (list_from l.standing.lattice.now (surroundings_of l.standing) l.next (drop l.c-index l.list))
@@ -19,7 +20,8 @@ invariant-commands-loop-c l =
 
 abbrev pub invariant-arms-loop-arm : goal.invariant-arms-loop-arm
 invariant-arms-loop-arm l =
-    ((last : Block) → arms_before (length l.standing.names.now) l.made.items (arms_with (rows_of l.standing) l.point (arms_from l.standing.lattice.now (surroundings_of l.standing) l.next (drop l.arm-index l.list) last))
+    ((last : Block) → arms_before (length l.standing.names.now) l.made.items
+    (arms_with (rows_of l.standing) l.point (arms_from l.standing.lattice.now (surroundings_of l.standing) l.next (drop l.arm-index l.list) last))
     ≡ arms_with (rows_of l.standing) l.initial.point (arms_from l.standing.lattice.now (surroundings_of l.standing) l.initial.next l.list last))
     × (l.next + arms_site_count (surroundings_of l.standing) (drop l.arm-index l.list) ≡ l.initial.next + arms_site_count (surroundings_of l.standing) l.list)
     × (l.point + arms_points (arms_from l.standing.lattice.now (surroundings_of l.standing) l.next (drop l.arm-index l.list) end_block)

@@ -8,7 +8,8 @@ use Rattle.sap_resolve.proofs.entities.+states.Given as goal
 -- with those of what is left
 abbrev pub invariant-add_states-loop-place : goal.invariant-add_states-loop-place
 invariant-add_states-loop-place l =
-    (map entity_of l.made.items ++ group_entities l.lattice l.place l.number (drop l.place l.group) ≡ map entity_of l.initial.made.items ++ group_entities l.lattice 0 l.initial.number l.group)
+    (map entity_of l.made.items ++ group_entities l.lattice l.place l.number (drop l.place l.group) ≡ map entity_of l.initial.made.items
+    ++ group_entities l.lattice 0 l.initial.number l.group)
     × (own_names l.made.items ++ group_names (drop l.place l.group) ≡ own_names l.initial.made.items ++ group_names l.group)
     × (l.number + states_below (drop l.place l.group) ≡ l.initial.number + states_below l.group)
 

@@ -4,10 +4,12 @@ use Rattle.sap_resolve.proofs.entities.add_declared.Goals as goal
 
 pub loop-declaration-preserved : goal.loop-declaration-preserved
 loop-declaration-preserved c = (
-  declared_step c.args.lattice.now c.args.declarations.now c.loop-declaration.declaration-index c.declaration-item.result c.loop-declaration.made.items _ _ (omega arith) c.declaration-item.is
+  declared_step c.args.lattice.now c.args.declarations.now c.loop-declaration.declaration-index c.declaration-item.result
+      c.loop-declaration.made.items _ _ (omega arith) c.declaration-item.is
       c.in_ok-push.ensures.items c.in_ok-declared.ensures.entity
       ∙ c.loop-declaration.invariant.0,
-  names_step c.args.declarations.now c.loop-declaration.declaration-index c.declaration-item.result c.loop-declaration.made.items _ _ (omega arith) c.declaration-item.is c.in_ok-push.ensures.items
+  names_step c.args.declarations.now c.loop-declaration.declaration-index c.declaration-item.result c.loop-declaration.made.items
+      _ _ (omega arith) c.declaration-item.is c.in_ok-push.ensures.items
       c.in_ok-declared.ensures.name
       ∙ c.loop-declaration.invariant.1,
 )

@@ -14,6 +14,8 @@ pub returns : goal.returns
 returns c =
     let ls = levels_in c.args.checked.now in
     let d = tree_in c.args.checked.now in
-    program_made ls c.lattice.result.now d (design_of c.design-design.result.now) c.names.result.now c.args.table.now _ c.lattice.ensures (ap design_of c.design-design.ensures) c.names.ensures c.requires
-    (c.hangs_agree.ensures ls d c.lawful.ensures.names) c.in_ok-entities.ensures.entities c.in_ok-entities.ensures.names (c.in_ok-children.ensures ls) c.in_ok-states.ensures.states c.in_ok-states.ensures.sites
+    program_made ls c.lattice.result.now d (design_of c.design-design.result.now) c.names.result.now c.args.table.now _ c.lattice.ensures
+    (ap design_of c.design-design.ensures) c.names.ensures c.requires
+    (c.hangs_agree.ensures ls d c.lawful.ensures.names) c.in_ok-entities.ensures.entities c.in_ok-entities.ensures.names
+    (c.in_ok-children.ensures ls) c.in_ok-states.ensures.states c.in_ok-states.ensures.sites
     (subst (λ (n : ℕ). flags n c.in_ok-hang.hang ≡ root_row_in n c.args.table.now) c.count.ensures c.in_ok-hang.ensures)

@@ -15,14 +15,18 @@ states-requires c =
     record {
       sites = sites_fit v ls ds ss es c.as_slice.result.now c.design_is_whole.ensures c.as_slice.ensures.value;
       points = points_fit v ls ds ss es 1 c.len-number.result c.as_slice.result.now c.design_is_whole.ensures c.as_slice.ensures.value;
-      states = states_fit v ds ss c.len-number.result c.as_slice.result.now c.design_is_whole.ensures c.as_slice.ensures.value (omega (arith, c.len-number.ensures, c.args.design.now.declarations.ok.0));
+      states = states_fit v ds ss c.len-number.result c.as_slice.result.now c.design_is_whole.ensures c.as_slice.ensures.value
+          (omega (arith, c.len-number.ensures, c.args.design.now.declarations.ok.0));
     }
 
 pub returns-clause-states : goal.returns-clause-states
 returns-clause-states c =
-    whole_states c.args.design.now.version c.args.known.now.lattice.now c.args.design.now.declarations.items c.args.design.now.states.items c.args.known.now.names.now c.as_slice.result.now c.len-number.result (known_rows c.args.known.now)
-    (group_of (length c.args.known.now.names.now) c.in_ok-states.states.items) c.requires c.as_slice.ensures.value (omega (arith, c.len-number.ensures, c.args.design.now.declarations.ok.0)) c.in_ok-states.ensures.states
+    whole_states c.args.design.now.version c.args.known.now.lattice.now c.args.design.now.declarations.items c.args.design.now.states.items
+    c.args.known.now.names.now c.as_slice.result.now c.len-number.result (known_rows c.args.known.now)
+    (group_of (length c.args.known.now.names.now) c.in_ok-states.states.items) c.requires c.as_slice.ensures.value
+    (omega (arith, c.len-number.ensures, c.args.design.now.declarations.ok.0)) c.in_ok-states.ensures.states
 
 pub returns-clause-sites : goal.returns-clause-sites
 returns-clause-sites c =
-    whole_sites c.args.design.now.version c.args.design.now.declarations.items c.args.design.now.states.items c.args.known.now.names.now c.as_slice.result.now c.states.new.next _ c.requires c.as_slice.ensures.value c.in_ok-states.ensures.next (omega (arith, c.in_ok-states.ensures.next))
+    whole_sites c.args.design.now.version c.args.design.now.declarations.items c.args.design.now.states.items c.args.known.now.names.now
+    c.as_slice.result.now c.states.new.next _ c.requires c.as_slice.ensures.value c.in_ok-states.ensures.next (omega (arith, c.in_ok-states.ensures.next))

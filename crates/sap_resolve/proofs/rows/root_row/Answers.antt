@@ -7,10 +7,12 @@ use Rattle.sap_resolve.proofs.rows.root_row.Goals.{then-touched_by_root+in_ok-pu
 pub loop-entity-preserved : goal.loop-entity-preserved
 loop-entity-preserved c = elim c.if-touched_by_root.branch [
   | then-touched_by_root+in_ok-push w ↦
-      taken (says_of_root c.args.table.now) c.loop-entity.entity c.loop-entity.entity c.touched_by_root.result c.loop-entity.numbers.items c.if-touched_by_root.numbers.items w.if-touched_by_root.true c.touched_by_root.ensures refl c.loop-entity.invariant
+      taken (says_of_root c.args.table.now) c.loop-entity.entity c.loop-entity.entity c.touched_by_root.result c.loop-entity.numbers.items
+      c.if-touched_by_root.numbers.items w.if-touched_by_root.true c.touched_by_root.ensures refl c.loop-entity.invariant
       (ap (λ v. v.items) w.numbers-is ∙ w.in_ok-push.ensures.items)
   | else-touched_by_root w ↦
-      passed (says_of_root c.args.table.now) c.loop-entity.entity c.touched_by_root.result c.loop-entity.numbers.items c.if-touched_by_root.numbers.items w.if-touched_by_root.false c.touched_by_root.ensures c.loop-entity.invariant
+      passed (says_of_root c.args.table.now) c.loop-entity.entity c.touched_by_root.result c.loop-entity.numbers.items
+      c.if-touched_by_root.numbers.items w.if-touched_by_root.false c.touched_by_root.ensures c.loop-entity.invariant
       (ap (λ v. v.items) w.numbers-is)
 ]
 

@@ -10,7 +10,8 @@ use Rattle.sap_resolve.proofs.states.+states.Given as goal
 -- with those of what is left
 abbrev pub invariant-states-loop-s : goal.invariant-states-loop-s
 invariant-states-loop-s l =
-    (joined (group_of (length l.known.names.now) l.made.items) (group_with (known_rows l.known) l.point (group_from l.known.lattice.now l.known.names.now l.next l.number (drop l.s-index l.group)))
+    (joined (group_of (length l.known.names.now) l.made.items)
+    (group_with (known_rows l.known) l.point (group_from l.known.lattice.now l.known.names.now l.next l.number (drop l.s-index l.group)))
     ≡ group_with (known_rows l.known) l.initial.point (group_from l.known.lattice.now l.known.names.now l.initial.next l.initial.number l.group))
     × (l.next + group_site_count l.known.names.now (drop l.s-index l.group) ≡ l.initial.next + group_site_count l.known.names.now l.group)
     × (l.number + states_below (drop l.s-index l.group) ≡ l.initial.number + states_below l.group)

@@ -7,4 +7,5 @@ use Rattle.sap_run.proofs.checks.child_opens.Goals as goal
 pub returns-else-n-children : goal.returns-else-n-children
 returns-else-n-children c =
     let d = c.args.environment.now in
-    c.opens.ensures ∙ sym (child_opens-some (world_in d) (store_in d c.args.store.now) (entities_in d) c.args.children.now c.args.n c.args.context c.index-children-n.result c.if-n-children.false)
+    c.opens.ensures ∙ sym (child_opens-some (world_in d) (store_in d c.args.store.now) (entities_in d) c.args.children.now c.args.n
+    c.args.context c.index-children-n.result c.if-n-children.false)

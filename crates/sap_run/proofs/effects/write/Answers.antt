@@ -4,7 +4,11 @@ use Rattle.sap_store.proofs.Widths.{value_fits, index_within}
 use Rattle.sap_run.proofs.effects.write.Goals as goal
 
 pub put_cell_number-requires-clause-below : goal.put_cell_number-requires-clause-below
-put_cell_number-requires-clause-below c = index_within (world_in c.args.environment.now) c.args.memory (term_of c.args.index.now) c.args.store.now c.see-index.result.number c.requires.index c.requires.ready c.see-index.ensures.number
+put_cell_number-requires-clause-below c =
+    index_within (world_in c.args.environment.now) c.args.memory (term_of c.args.index.now) c.args.store.now c.see-index.result.number
+    c.requires.index c.requires.ready c.see-index.ensures.number
 
 pub put_cell_number-requires-clause-fits : goal.put_cell_number-requires-clause-fits
-put_cell_number-requires-clause-fits c = value_fits (world_in c.args.environment.now) c.args.memory (term_of c.args.value.now) c.args.store.now c.see-value.result.number c.requires.value c.requires.ready c.see-value.ensures.number
+put_cell_number-requires-clause-fits c =
+    value_fits (world_in c.args.environment.now) c.args.memory (term_of c.args.value.now) c.args.store.now c.see-value.result.number
+    c.requires.value c.requires.ready c.see-value.ensures.number

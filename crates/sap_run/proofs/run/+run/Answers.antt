@@ -36,16 +36,40 @@ commands-command-requires t c =
 pub command-attempt-requires : goal.command-attempt-requires
 command-attempt-requires t c =
     let d = c.args.environment.now in
-    let w : command_weight c.args.one.now ≡ 3 = ap command_weight c.in-Do.is ∙ command_weight-do c.in-Do.step in
-    (omega (arith, w, commands_weight-none), (c.requires.ready, (c.requires.home, (c.raised_alone-hang.ensures.rising, (able-do d c.in-Do.step (subst (CommandAble d) c.in-Do.is c.requires.able), (able-none d, able-none d))))))
+    let w : command_weight c.args.one.now ≡ 3 = ap command_weight c.in-Do.is ∙ command_weight-do c.in-Do.step in (
+      omega (arith, w, commands_weight-none),
+      (
+        c.requires.ready,
+        (
+          c.requires.home,
+          (
+            c.raised_alone-hang.ensures.rising,
+            (able-do d c.in-Do.step (subst (CommandAble d) c.in-Do.is c.requires.able), (able-none d, able-none d)),
+          ),
+        ),
+      ),
+    )
 
 pub command-attempt-requires-in-Try : goal.command-attempt-requires-in-Try
 command-attempt-requires-in-Try t c =
     let d = c.args.environment.now in
     let w : command_weight c.args.one.now ≡ commands_weight c.as_slice-handler.result.now + 3 =
-    ap command_weight c.in-Try.is ∙ command_weight-try c.in-Try.step c.in-Try.hang c.in-Try.handler ∙ ap (λ (l : List Command). commands_weight l + 3) (sym c.as_slice-handler.ensures.value) in
-    let a = able-try d c.in-Try.step c.in-Try.hang c.in-Try.handler (subst (CommandAble d) c.in-Try.is c.requires.able) in
-    (omega (arith, w, commands_weight-none), (c.requires.ready, (c.requires.home, (subst (λ (h : List ℕ). IsTrue (rises h)) (sym c.numbers.ensures.same) c.numbers.ensures.rising, (a.0, (able-none d, subst (BlockAble d) (sym c.as_slice-handler.ensures.value) a.1))))))
+    ap command_weight c.in-Try.is ∙ command_weight-try c.in-Try.step c.in-Try.hang c.in-Try.handler
+    ∙ ap (λ (l : List Command). commands_weight l + 3) (sym c.as_slice-handler.ensures.value) in
+    let a = able-try d c.in-Try.step c.in-Try.hang c.in-Try.handler (subst (CommandAble d) c.in-Try.is c.requires.able) in (
+      omega (arith, w, commands_weight-none),
+      (
+        c.requires.ready,
+        (
+          c.requires.home,
+          (
+            subst (λ (h : List ℕ). IsTrue (rises h)) (sym c.numbers.ensures.same)
+                c.numbers.ensures.rising,
+            (a.0, (able-none d, subst (BlockAble d) (sym c.as_slice-handler.ensures.value) a.1)),
+          ),
+        ),
+      ),
+    )
 
 pub command-select-requires : goal.command-select-requires
 command-select-requires t c =
@@ -54,8 +78,19 @@ command-select-requires t c =
     ap command_weight c.in-If.is ∙ command_weight-if c.in-If.hang c.in-If.condition c.in-If.yes c.in-If.no
     ∙ ap (λ (l : List Command). commands_weight l + commands_weight c.in-If.no.items + 3) (sym c.as_slice-yes.ensures.value)
     ∙ ap (λ (l : List Command). commands_weight c.as_slice-yes.result.now + commands_weight l + 3) (sym c.as_slice-no.ensures.value) in
-    let a = able-if d c.in-If.hang c.in-If.condition c.in-If.yes c.in-If.no (subst (CommandAble d) c.in-If.is c.requires.able) in
-    (omega (arith, w), (c.requires.ready, (c.requires.home, (subst (λ (h : List ℕ). IsTrue (rises h)) (sym c.numbers-numbers.ensures.same) c.numbers-numbers.ensures.rising, (a.0, (subst (BlockAble d) (sym c.as_slice-yes.ensures.value) a.1, subst (BlockAble d) (sym c.as_slice-no.ensures.value) a.2))))))
+    let a = able-if d c.in-If.hang c.in-If.condition c.in-If.yes c.in-If.no (subst (CommandAble d) c.in-If.is c.requires.able) in (
+      omega (arith, w),
+      (
+        c.requires.ready,
+        (
+          c.requires.home,
+          (
+            subst (λ (h : List ℕ). IsTrue (rises h)) (sym c.numbers-numbers.ensures.same) c.numbers-numbers.ensures.rising,
+            (a.0, (subst (BlockAble d) (sym c.as_slice-yes.ensures.value) a.1, subst (BlockAble d) (sym c.as_slice-no.ensures.value) a.2)),
+          ),
+        ),
+      ),
+    )
 
 pub command-attempt-requires-in-TryThen : goal.command-attempt-requires-in-TryThen
 command-attempt-requires-in-TryThen t c =
@@ -64,8 +99,19 @@ command-attempt-requires-in-TryThen t c =
     ap command_weight c.in-TryThen.is ∙ command_weight-then c.in-TryThen.step c.in-TryThen.hang c.in-TryThen.accepted c.in-TryThen.refused
     ∙ ap (λ (l : List Command). commands_weight l + commands_weight c.in-TryThen.refused.items + 3) (sym c.as_slice-accepted.ensures.value)
     ∙ ap (λ (l : List Command). commands_weight c.as_slice-accepted.result.now + commands_weight l + 3) (sym c.as_slice-refused.ensures.value) in
-    let a = able-then d c.in-TryThen.step c.in-TryThen.hang c.in-TryThen.accepted c.in-TryThen.refused (subst (CommandAble d) c.in-TryThen.is c.requires.able) in
-    (omega (arith, w), (c.requires.ready, (c.requires.home, (subst (λ (h : List ℕ). IsTrue (rises h)) (sym c.numbers-numbers-in-TryThen.ensures.same) c.numbers-numbers-in-TryThen.ensures.rising, (a.0, (subst (BlockAble d) (sym c.as_slice-accepted.ensures.value) a.1, subst (BlockAble d) (sym c.as_slice-refused.ensures.value) a.2))))))
+    let a = able-then d c.in-TryThen.step c.in-TryThen.hang c.in-TryThen.accepted c.in-TryThen.refused (subst (CommandAble d) c.in-TryThen.is c.requires.able) in (
+      omega (arith, w),
+      (
+        c.requires.ready,
+        (
+          c.requires.home,
+          (
+            subst (λ (h : List ℕ). IsTrue (rises h)) (sym c.numbers-numbers-in-TryThen.ensures.same) c.numbers-numbers-in-TryThen.ensures.rising,
+            (a.0, (subst (BlockAble d) (sym c.as_slice-accepted.ensures.value) a.1, subst (BlockAble d) (sym c.as_slice-refused.ensures.value) a.2)),
+          ),
+        ),
+      ),
+    )
 
 pub command-choose-requires : goal.command-choose-requires
 command-choose-requires t c =
@@ -75,15 +121,31 @@ command-choose-requires t c =
     ∙ ap (λ (l : List Arm). arms_weight l c.in-Case.last.items + 3) (sym c.as_slice-arms.ensures.value)
     ∙ ap (λ (l : List Command). arms_weight c.as_slice-arms.result.now l + 3) (sym c.as_slice-last.ensures.value) in
     let a = able-case d c.in-Case.hang c.in-Case.number c.in-Case.arms c.in-Case.last (subst (CommandAble d) c.in-Case.is c.requires.able) in
-    let arms = subst (λ (l : List Arm). ArmsAble d l c.in-Case.last.items) (sym c.as_slice-arms.ensures.value) a.1 in
-    (omega (arith, w), (c.requires.ready, (c.requires.home, (subst (λ (h : List ℕ). IsTrue (rises h)) (sym c.numbers-numbers-in-Case.ensures.same) c.numbers-numbers-in-Case.ensures.rising, (a.0, subst (λ (l : List Command). ArmsAble d c.as_slice-arms.result.now l) (sym c.as_slice-last.ensures.value) arms)))))
+    let arms = subst (λ (l : List Arm). ArmsAble d l c.in-Case.last.items) (sym c.as_slice-arms.ensures.value) a.1 in (
+      omega (arith, w),
+      (
+        c.requires.ready,
+        (
+          c.requires.home,
+          (
+            subst (λ (h : List ℕ). IsTrue (rises h)) (sym c.numbers-numbers-in-Case.ensures.same) c.numbers-numbers-in-Case.ensures.rising,
+            (a.0, subst (λ (l : List Command). ArmsAble d c.as_slice-arms.result.now l) (sym c.as_slice-last.ensures.value) arms),
+          ),
+        ),
+      ),
+    )
 
 pub choose-commands-requires : goal.choose-commands-requires
 choose-commands-requires t c =
     let d = c.args.environment.now in
     let w = picked_weight c.args.arms.now c.args.last.now c.see-chosen.result.number in
-    let e = ap commands_weight c.picked-list.ensures in
-    (omega (arith, w, e), (c.raise.ensures.ready, (c.requires.home, subst (BlockAble d) (sym c.picked-list.ensures) (able-picked d c.args.arms.now c.args.last.now c.see-chosen.result.number c.requires.arms))))
+    let e = ap commands_weight c.picked-list.ensures in (
+      omega (arith, w, e),
+      (
+        c.raise.ensures.ready,
+        (c.requires.home, subst (BlockAble d) (sym c.picked-list.ensures) (able-picked d c.args.arms.now c.args.last.now c.see-chosen.result.number c.requires.arms)),
+      ),
+    )
 
 pub enter-body-requires : goal.enter-body-requires
 enter-body-requires t c =
@@ -102,5 +164,13 @@ body-commands-requires t c =
     let w = state_weight-out k in
     let b = ap commands_weight c.as_slice-list.ensures.value in
     let g = ap states_weight c.as_slice-children.ensures.value in
-    let a = able-state d k c.requires.able in
-    (omega (arith, w, b, g), (c.requires.ready, (record { state = a.0; parent = c.requires.parent; children = subst (GroupAble d) (sym c.as_slice-children.ensures.value) a.2 }, subst (BlockAble d) (sym c.as_slice-list.ensures.value) a.1)))
+    let a = able-state d k c.requires.able in (
+      omega (arith, w, b, g),
+      (
+        c.requires.ready,
+        (
+          record { state = a.0; parent = c.requires.parent; children = subst (GroupAble d) (sym c.as_slice-children.ensures.value) a.2 },
+          subst (BlockAble d) (sym c.as_slice-list.ensures.value) a.1,
+        ),
+      ),
+    )

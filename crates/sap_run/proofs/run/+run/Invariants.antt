@@ -7,8 +7,10 @@ use Rattle.sap_run.proofs.run.+run.Given as goal
 
 abbrev pub invariant-commands-loop-one : goal.invariant-commands-loop-one
 invariant-commands-loop-one l = record {
-  store : (block_run l.environment l.at (drop l.one-index l.list) l.context (store_in l.environment l.store)).store ≡ (block_run l.environment l.at l.list l.context (store_in l.environment l.initial.store)).store;
-  marks : marked (block_run l.environment l.at (drop l.one-index l.list) l.context (store_in l.environment l.store)).refused l.marks ≡ marked (block_run l.environment l.at l.list l.context (store_in l.environment l.initial.store)).refused l.initial.marks;
+  store : (block_run l.environment l.at (drop l.one-index l.list) l.context (store_in l.environment l.store)).store
+      ≡ (block_run l.environment l.at l.list l.context (store_in l.environment l.initial.store)).store;
+  marks : marked (block_run l.environment l.at (drop l.one-index l.list) l.context (store_in l.environment l.store)).refused l.marks
+      ≡ marked (block_run l.environment l.at l.list l.context (store_in l.environment l.initial.store)).refused l.initial.marks;
   ready : Ready (world_in l.environment) l.store;
 }
 

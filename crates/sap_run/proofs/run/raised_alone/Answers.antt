@@ -4,7 +4,8 @@ use Rattle.sap_run.proofs.run.raised_alone.Goals as goal
 
 pub returns-then-is_dynamic-clause-hang : goal.returns-then-is_dynamic-clause-hang
 returns-then-is_dynamic-clause-hang c =
-    dynamic_alone c.args.environment.now c.args.at.now c.args.step.now c.in-Goto.site c.in-Goto.target c.in-Goto.is (sym c.is_dynamic.ensures ∙ c.if-is_dynamic.true) c.requires.home.state c.args.itself.now c.requires.itself
+    dynamic_alone c.args.environment.now c.args.at.now c.args.step.now c.in-Goto.site c.in-Goto.target c.in-Goto.is
+    (sym c.is_dynamic.ensures ∙ c.if-is_dynamic.true) c.requires.home.state c.args.itself.now c.requires.itself
 
 pub returns-else-is_dynamic-clause-hang : goal.returns-else-is_dynamic-clause-hang
 returns-else-is_dynamic-clause-hang c =

@@ -26,12 +26,14 @@ pub returns-clause-states : goal.returns-clause-states
 returns-clause-states c = λ l agree inputs.
     let m = c.args.first.now in
     let n = c.args.second.now in
-    states c.one_cycle.ensures (program_of m) (program_of n) c.lawful.ensures.fine c.requires.same (state_of m) (state_of n) c.lawful.ensures.rests c.lawful-2.ensures.rests l agree c.args.one.now c.args.other.now inputs
+    states c.one_cycle.ensures (program_of m) (program_of n) c.lawful.ensures.fine c.requires.same (state_of m) (state_of n)
+    c.lawful.ensures.rests c.lawful-2.ensures.rests l agree c.args.one.now c.args.other.now inputs
     (program_of c.step.new.self) (state_of c.step.new.self) (state_of c.step-2.new.self) c.step.ensures.program c.step.ensures.state c.step-2.ensures.state
 
 pub returns-clause-refusals : goal.returns-clause-refusals
 returns-clause-refusals c = λ l agree inputs.
     let m = c.args.first.now in
     let n = c.args.second.now in
-    refusals c.one_cycle.ensures (program_of m) (program_of n) c.lawful.ensures.fine c.requires.same (state_of m) (state_of n) c.lawful.ensures.rests c.lawful-2.ensures.rests l agree c.args.one.now c.args.other.now inputs
+    refusals c.one_cycle.ensures (program_of m) (program_of n) c.lawful.ensures.fine c.requires.same (state_of m) (state_of n)
+    c.lawful.ensures.rests c.lawful-2.ensures.rests l agree c.args.one.now c.args.other.now inputs
     (refusals_of c.step.new.self) (refusals_of c.step-2.new.self) c.step.ensures.refusals c.step-2.ensures.refusals

@@ -11,5 +11,6 @@ list_shape-loop-command-preserved t c =
 
 pub arms_shape-loop-arm-preserved : goal.arms_shape-loop-arm-preserved
 arms_shape-loop-arm-preserved t c =
-    arms_step c.args.names.now (body_of c.args.position.now) c.args.arms.now c.loop-arm.arm-index c.arm-item.result _ _ _ (omega arith) c.arm-item.is c.as_slice.ensures.value c.list_shape.ensures
+    arms_step c.args.names.now (body_of c.args.position.now) c.args.arms.now c.loop-arm.arm-index c.arm-item.result _ _ _ (omega arith)
+    c.arm-item.is c.as_slice.ensures.value c.list_shape.ensures
     ∙ c.loop-arm.invariant

@@ -4,12 +4,14 @@ use Rattle.sap_shape.proofs.falls.+falls.Goals as goal
 
 pub has_fall-loop-command-preserved : goal.has_fall-loop-command-preserved
 has_fall-loop-command-preserved t c =
-    sym (falls_here c.args.commands.now c.loop-command.command-index c.command-item.result _ (omega arith) c.command-item.is (sym c.if-command_falls.false ∙ c.command_falls.ensures))
+    sym (falls_here c.args.commands.now c.loop-command.command-index c.command-item.result _ (omega arith) c.command-item.is
+    (sym c.if-command_falls.false ∙ c.command_falls.ensures))
     ∙ c.loop-command.invariant
 
 pub has_fall-returns-then-command_falls : goal.has_fall-returns-then-command_falls
 has_fall-returns-then-command_falls t c =
-    sym (falls_here c.args.commands.now c.loop-command.command-index c.command-item.result _ (omega arith) c.command-item.is (sym c.if-command_falls.true ∙ c.command_falls.ensures))
+    sym (falls_here c.args.commands.now c.loop-command.command-index c.command-item.result _ (omega arith) c.command-item.is
+    (sym c.if-command_falls.true ∙ c.command_falls.ensures))
     ∙ c.loop-command.invariant
 
 pub arms_fall-loop-arm-preserved : goal.arms_fall-loop-arm-preserved

@@ -34,7 +34,8 @@ arms_paths-loop-arm-preserved t c = record {
       (c.in_ok-beside_paths.ensures.past ∙ ap (λ (p : Written). either (written_in c.loop-arm.past) (past_block (arm_block_of c.arm-item.result) p)) c.in_ok-here.ensures)
       ∙ c.loop-arm.invariant.past;
   entering = entering_arms_step (written_in c.args.start.now) c.args.arms.now c.loop-arm.arm-index c.arm-item.result _ _ (omega arith) c.arm-item.is
-      (c.in_ok-beside_paths.ensures.entering ∙ ap (λ (p : Written). either (written_in c.loop-arm.entered) (entering_block (arm_block_of c.arm-item.result) p)) c.in_ok-here.ensures)
+      (c.in_ok-beside_paths.ensures.entering ∙ ap
+      (λ (p : Written). either (written_in c.loop-arm.entered) (entering_block (arm_block_of c.arm-item.result) p)) c.in_ok-here.ensures)
       ∙ c.loop-arm.invariant.entering;
   second = second_arms_step (written_in c.args.start.now) c.args.arms.now c.loop-arm.arm-index c.arm-item.result _ _ (omega arith) c.arm-item.is
       (c.in_ok-beside_paths.ensures.second ∙ ap (λ (p : Written). best_of c.loop-arm.best (second_block (arm_block_of c.arm-item.result) p)) c.in_ok-here.ensures)
@@ -50,11 +51,15 @@ arms_paths-returns-clause-entering t c = entering_arms_end (written_in c.args.st
 pub command_paths-returns-in_ok-arms_paths-in-Case-clause-past : goal.command_paths-returns-in_ok-arms_paths-in-Case-clause-past
 command_paths-returns-in_ok-arms_paths-in-Case-clause-past t c =
     on_ok_weaker c.beside_paths-in-Case.result (λ after.
-    case_past (command_of c.args.command.now) c.in-Case.field-0 (expression_of c.in-Case.field-1) c.in-Case.arms.items c.as_slice-in-Case.result.now c.in-Case.last (written_in c.args.here.now) (written_in c.replace-start.result) (ap command_of c.in-Case.is ∙ command_of-case _ _ _ _) c.as_slice-in-Case.ensures.value (ap written_in c.replace-start.ensures.value)
+    case_past (command_of c.args.command.now) c.in-Case.field-0 (expression_of c.in-Case.field-1) c.in-Case.arms.items
+    c.as_slice-in-Case.result.now c.in-Case.last (written_in c.args.here.now) (written_in c.replace-start.result)
+    (ap command_of c.in-Case.is ∙ command_of-case _ _ _ _) c.as_slice-in-Case.ensures.value (ap written_in c.replace-start.ensures.value)
     _ _ _ _ c.new-past.ensures c.in_ok-arms_paths-in-Case.ensures.past (ap written_in c.replace-start.ensures.after) after) c.beside_paths-in-Case.ensures.past
 
 pub command_paths-returns-in_ok-arms_paths-in-Case-clause-entering : goal.command_paths-returns-in_ok-arms_paths-in-Case-clause-entering
 command_paths-returns-in_ok-arms_paths-in-Case-clause-entering t c =
     on_ok_weaker c.beside_paths-in-Case.result (λ after.
-    case_entering (command_of c.args.command.now) c.in-Case.field-0 (expression_of c.in-Case.field-1) c.in-Case.arms.items c.as_slice-in-Case.result.now c.in-Case.last (written_in c.args.here.now) (written_in c.replace-start.result) (ap command_of c.in-Case.is ∙ command_of-case _ _ _ _) c.as_slice-in-Case.ensures.value (ap written_in c.replace-start.ensures.value)
+    case_entering (command_of c.args.command.now) c.in-Case.field-0 (expression_of c.in-Case.field-1) c.in-Case.arms.items
+    c.as_slice-in-Case.result.now c.in-Case.last (written_in c.args.here.now) (written_in c.replace-start.result)
+    (ap command_of c.in-Case.is ∙ command_of-case _ _ _ _) c.as_slice-in-Case.ensures.value (ap written_in c.replace-start.ensures.value)
     _ _ _ c.in_ok-arms_paths-in-Case.ensures.entering after) c.beside_paths-in-Case.ensures.entering

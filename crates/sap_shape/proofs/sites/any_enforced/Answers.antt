@@ -8,5 +8,6 @@ use Rattle.sap_shape.proofs.sites.any_enforced.Goals as goal
 
 pub returns : goal.returns
 returns c =
-    any_from_yields_List (λ (s : State). not (is_dynamic_kind (out-State s).kind)) _ _ _ c.any.ensures.ran (YieldsList-from_slice c.args.states.now cc) (λ x b q k. search (rules, tests))
+    any_from_yields_List (λ (s : State). not (is_dynamic_kind (out-State s).kind)) _ _ _ c.any.ensures.ran
+    (YieldsList-from_slice c.args.states.now cc) (λ x b q k. search (rules, tests))
     ∙ sym (enforced_listed c.args.states.now)

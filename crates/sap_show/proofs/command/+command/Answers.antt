@@ -27,7 +27,8 @@ command-returns-in_ok-else_block-in-If t c =
 
 pub arms-loop-arm-preserved : goal.arms-loop-arm-preserved
 arms-loop-arm-preserved t c =
-    arms_step c.args.margin.now c.args.list.now c.loop-arm.arm-index c.arm-item.result _ _ _ _ _ _ _ (omega arith) c.arm-item.is c.as_slice.ensures.value c.in_ok-extend_from_slice.ensures.items
+    arms_step c.args.margin.now c.args.list.now c.loop-arm.arm-index c.arm-item.result _ _ _ _ _ _ _ (omega arith) c.arm-item.is
+    c.as_slice.ensures.value c.in_ok-extend_from_slice.ensures.items
     c.in_ok-parts.ensures c.in_ok-extend_from_slice-2.ensures.items c.in_ok-block.ensures c.in_ok-extend_from_slice-3.ensures.items
     ∙ c.loop-arm.invariant
 
@@ -46,6 +47,7 @@ pub command-returns-in_ok-extend_from_slice-in-Case : goal.command-returns-in_ok
 command-returns-in_ok-extend_from_slice-in-Case t c =
     joined_on_last c.extend_from_slice-in-Case-2.result _ c.extend_from_slice-in-Case.new.self.items (codes "}\n") (c.args.out.now.items ++ command_text c.args.margin.now (command_of c.args.command.now))
     c.extend_from_slice-in-Case-2.ensures.items
-    (case_grows c.args.margin.now _ _ _ _ _ _ _ _ c.args.out.now.items _ _ _ _ _ (ap command_of c.in-Case.is ∙ command_of-case _ _ _ _) (c.as_slice.ensures.value ∙ c.in_ok-inner-in-Case.ensures)
+    (case_grows c.args.margin.now _ _ _ _ _ _ _ _ c.args.out.now.items _ _ _ _ _ (ap command_of c.in-Case.is
+    ∙ command_of-case _ _ _ _) (c.as_slice.ensures.value ∙ c.in_ok-inner-in-Case.ensures)
     (c.as_slice-in-Case-2.ensures.value ∙ c.in_ok-inner-in-Case.ensures) c.as_slice-in-Case.ensures.value c.in_ok-extend_from_slice.ensures.items
     c.in_ok-between-in-Case.ensures c.in_ok-arms-in-Case.ensures c.in_ok-last_block-in-Case.ensures c.in_ok-extend_from_slice-in-Case.ensures.items)

@@ -14,7 +14,8 @@ tags-returns-in_ok-tag-in-len1-up t c =
 pub more_tags-returns-in_ok-tag-in-len1-up : goal.more_tags-returns-in_ok-tag-in-len1-up
 more_tags-returns-in_ok-tag-in-len1-up t c =
     on_ok c.more_tags.result _ (c.more_tags.new.out.items ≡ c.args.out.now.items ++ more_tags_text (tags_of c.args.list.now))
-    (λ h. grow_three c.args.out.now.items _ _ _ _ _ _ _ c.in_ok-extend_from_slice-in-len1-up.ensures.items c.in_ok-tag-in-len1-up.ensures h (more_tags_first c.args.list.now c.first-item.result c.in-len1-up.len_at_least c.first-item.is))
+    (λ h. grow_three c.args.out.now.items _ _ _ _ _ _ _ c.in_ok-extend_from_slice-in-len1-up.ensures.items c.in_ok-tag-in-len1-up.ensures h
+    (more_tags_first c.args.list.now c.first-item.result c.in-len1-up.len_at_least c.first-item.is))
     c.more_tags.ensures
 
 pub tags-returns-in-empty : goal.tags-returns-in-empty

@@ -6,7 +6,8 @@ use Rattle.sap_sim.proofs.steps.take_numbers.Goals as goal
 
 pub loop-k-preserved : goal.loop-k-preserved
 loop-k-preserved c =
-    written_more (number_from c.args.lattice.now c.args.line.now) c.args.sources.now c.loop-k.numbers c.loop-k.k _ c.number.result c.loop-k-test.true (omega (arith, c.loop-k.auto.numbers, c.requires.count, c.loop-k-test.true)) c.number.ensures c.loop-k.invariant
+    written_more (number_from c.args.lattice.now c.args.line.now) c.args.sources.now c.loop-k.numbers c.loop-k.k _ c.number.result
+    c.loop-k-test.true (omega (arith, c.loop-k.auto.numbers, c.requires.count, c.loop-k-test.true)) c.number.ensures c.loop-k.invariant
 
 pub returns : goal.returns
 returns c =

@@ -16,10 +16,12 @@ loop-k-init c = record {
 
 pub loop-k-preserved : goal.loop-k-preserved
 loop-k-preserved c = record {
-  left = left_behind c.args.line.now c.loop-k.k c.loop-k.rest.now c.cut.result.0.now c.cut.result.1.now c.loop-k.invariant.left c.cut.ensures.before c.cut.ensures.behind c.if-rest-text.false;
+  left = left_behind c.args.line.now c.loop-k.k c.loop-k.rest.now c.cut.result.0.now c.cut.result.1.now c.loop-k.invariant.left
+      c.cut.ensures.before c.cut.ensures.behind c.if-rest-text.false;
   read = λ e.
       let so_far = c.loop-k.invariant.read e in (
-        read_more c.args.lattice.now c.args.fields.now c.loop-k.k _ _ _ c.loop-k.rest.now c.cut.result.0.now c.cut.result.1.now c.in-Ok.input c.loop-k-test.true so_far.1 c.in-Ok.ensures c.cut.ensures.before c.cut.ensures.behind
+        read_more c.args.lattice.now c.args.fields.now c.loop-k.k _ _ _ c.loop-k.rest.now c.cut.result.0.now c.cut.result.1.now
+            c.in-Ok.input c.loop-k-test.true so_far.1 c.in-Ok.ensures c.cut.ensures.before c.cut.ensures.behind
             (take_more_set c.loop-k.inputs c.loop-k.k c.in-Ok.input (omega (arith, c.loop-k.auto.inputs, c.requires.places, c.loop-k-test.true)))
             ∙ so_far.0,
         enough_more c.args.fields.now c.loop-k.k c.loop-k.rest.now c.cut.result.1.now c.loop-k-test.true so_far.1 c.cut.ensures.behind,
@@ -50,7 +52,8 @@ returns-then-rest-text-clause-given c =
     let so_far = c.loop-k.invariant.read (whole_count c) in
     ap Ok (sym (take_all (k + 1) new (omega (arith, length-set c.loop-k.inputs k c.in-Ok.input, c.loop-k.auto.inputs, c.requires.places, c.if-k-fields.false))))
     ∙ sym (read_ends ls fs (k + 1) (take (k + 1) new) c.cut.result.1.now c.if-k-fields.false)
-    ∙ read_more ls fs k _ (take k c.loop-k.inputs) (take (k + 1) new) c.loop-k.rest.now c.cut.result.0.now c.cut.result.1.now c.in-Ok.input c.loop-k-test.true so_far.1 c.in-Ok.ensures c.cut.ensures.before c.cut.ensures.behind
+    ∙ read_more ls fs k _ (take k c.loop-k.inputs) (take (k + 1) new) c.loop-k.rest.now c.cut.result.0.now c.cut.result.1.now c.in-Ok.input
+    c.loop-k-test.true so_far.1 c.in-Ok.ensures c.cut.ensures.before c.cut.ensures.behind
     (take_more_set c.loop-k.inputs k c.in-Ok.input (omega (arith, c.loop-k.auto.inputs, c.requires.places, c.loop-k-test.true)))
     ∙ so_far.0
 
@@ -60,7 +63,8 @@ count_last c = left_whole c.args.line.now c.loop-k.k c.loop-k.rest.now c.loop-k.
 
 count_count : (c : In-None) → length (fields_of c.args.line.now) ≡ length c.args.fields.now
 count_count c =
-    fields_before c.args.line.now c.loop-k.k c.loop-k.rest.now (non_empty c.args.line.now c.if-is_empty.ensures) (count_last c) (sym c.is_starred-2.ensures ∙ c.if-not-is_starred.false)
+    fields_before c.args.line.now c.loop-k.k c.loop-k.rest.now (non_empty c.args.line.now c.if-is_empty.ensures) (count_last c)
+    (sym c.is_starred-2.ensures ∙ c.if-not-is_starred.false)
     ∙ omega (arith, c.loop-k-test.false, c.loop-k.auto.k-end)
 
 pub returns-in-None-clause-last : goal.returns-in-None-clause-last

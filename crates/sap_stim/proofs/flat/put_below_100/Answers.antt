@@ -6,4 +6,5 @@ returns-then-number-lt10 c = one_digit c.put_digit.result c.args.bytes.now c.put
 
 pub returns : goal.returns
 returns c =
-    then_second c.put_digit-3.result c.args.bytes.now c.put_digit-2.new.bytes c.put_digit-3.new.bytes c.args.at c.in_ok-end.end c.args.number c.if-number-lt10.false c.requires c.in_ok-end.ensures c.put_digit-3.ensures
+    then_second c.put_digit-3.result c.args.bytes.now c.put_digit-2.new.bytes c.put_digit-3.new.bytes c.args.at c.in_ok-end.end
+    c.args.number c.if-number-lt10.false c.requires c.in_ok-end.ensures c.put_digit-3.ensures

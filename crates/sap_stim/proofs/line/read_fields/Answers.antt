@@ -5,13 +5,15 @@ use Rattle.sap_stim.proofs.line.read_fields.Goals as goal
 
 pub returns-in-Err : goal.returns-in-Err
 returns-in-Err c =
-    read_stops c.args.lattice.now c.args.fields.now c.loop-k.k _ _ c.loop-k.rest.now c.cut.result.0.now c.in-Err.code c.loop-k-test.true c.loop-k.invariant.enough c.in-Err.ensures c.cut.ensures.before
+    read_stops c.args.lattice.now c.args.fields.now c.loop-k.k _ _ c.loop-k.rest.now c.cut.result.0.now c.in-Err.code c.loop-k-test.true
+    c.loop-k.invariant.enough c.in-Err.ensures c.cut.ensures.before
     ∙ c.loop-k.invariant.read
 
 pub loop-k-preserved : goal.loop-k-preserved
 loop-k-preserved c = record {
   read =
-      read_more c.args.lattice.now c.args.fields.now c.loop-k.k _ _ _ c.loop-k.rest.now c.cut.result.0.now c.cut.result.1.now c.in-Ok.input c.loop-k-test.true c.loop-k.invariant.enough c.in-Ok.ensures c.cut.ensures.before c.cut.ensures.behind
+      read_more c.args.lattice.now c.args.fields.now c.loop-k.k _ _ _ c.loop-k.rest.now c.cut.result.0.now c.cut.result.1.now c.in-Ok.input
+      c.loop-k-test.true c.loop-k.invariant.enough c.in-Ok.ensures c.cut.ensures.before c.cut.ensures.behind
       (take_more_set c.loop-k.inputs c.loop-k.k c.in-Ok.input (omega (arith, c.loop-k.auto.inputs, c.requires.places, c.loop-k-test.true)))
       ∙ c.loop-k.invariant.read;
   enough = enough_more c.args.fields.now c.loop-k.k c.loop-k.rest.now c.cut.result.1.now c.loop-k-test.true c.loop-k.invariant.enough c.cut.ensures.behind;

@@ -6,7 +6,8 @@ use Rattle.sap_stim.proofs.rows.level_of_tag.Goals as goal
 
 pub returns-clause-coded : goal.returns-clause-coded
 unfolding order_of order_by
-returns-clause-coded c = level_found (code_of (order_of c.args.lattice.now)) (length c.args.lattice.now.names) c.args.tag c.level_of_code.result c.lawful.ensures.codes.apart c.level_of_code.ensures
+returns-clause-coded c = level_found (code_of (order_of c.args.lattice.now)) (length c.args.lattice.now.names) c.args.tag
+    c.level_of_code.result c.lawful.ensures.codes.apart c.level_of_code.ensures
 
 pub returns-clause-level : goal.returns-clause-level
 unfolding order_of order_by

@@ -12,7 +12,8 @@ returns-in_err-push_labelled-clause-full c =
     let values = c.args.values.now in
     let tags = c.args.tags.now in
     let full : vec_capacity c.loop-i.out < length (c.args.out.now.items ++ shown_from c.args.lattice.now c.args.labels.now c.args.values.now c.args.tags.now 0) =
-    row_full ls names values tags c.loop-i.i _ c.loop-i.out.items _ (vec_capacity c.loop-i.out) c.loop-i-test.true c.requires.values c.requires.tags c.index-labels-i.is c.loop-i.invariant.text c.in_err-push_labelled.ensures.full in
+    row_full ls names values tags c.loop-i.i _ c.loop-i.out.items _ (vec_capacity c.loop-i.out) c.loop-i-test.true c.requires.values
+    c.requires.tags c.index-labels-i.is c.loop-i.invariant.text c.in_err-push_labelled.ensures.full in
     let size = length-append c.args.out.now.items (shown_from ls names values tags 0) in
     let p : vec_capacity c.args.out.now < length c.args.out.now.items + length (all_shown (shown_of c.args.lattice.now c.args.labels.now c.args.values.now c.args.tags.now)) =
     omega (arith, full, size, c.loop-i.invariant.room) in

@@ -10,7 +10,8 @@ returns-clause-last c =
     let n = c.loop-start.start in
     let piece : take (length line - n) (drop n line) ≡ drop n line = take_all (length line - n) (drop n line) (let l = length-drop n line in omega arith) in
     elim c.loop-start-test.branch [
-      | then-loop-start-test+else-line-start-ne32 w ↦ ends_behind 32 n line _ w.loop-start-test.true c.loop-start.invariant.within w.if-line-start-ne32.false c.loop-start.invariant.unmarked piece
+      | then-loop-start-test+else-line-start-ne32 w ↦
+          ends_behind 32 n line _ w.loop-start-test.true c.loop-start.invariant.within w.if-line-start-ne32.false c.loop-start.invariant.unmarked piece
       | else-loop-start-test w ↦ ends_whole 32 n line _ (omega (arith, w.loop-start-test.false)) c.loop-start.invariant.unmarked piece
     ]
 

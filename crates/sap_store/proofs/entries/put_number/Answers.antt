@@ -3,7 +3,9 @@ use Rattle.sap_store.proofs.Puts.{number_store, number_stays_ready}
 use Rattle.sap_store.proofs.entries.put_number.Goals as goal
 
 pub returns-clause-store : goal.returns-clause-store
-returns-clause-store c = number_store (world_in c.args.environment.now) c.args.store.now c.args.x c.index_mut-entry.result.now c.requires.within c.index_mut-entry.ensures.value c.requires.ready c.args.number
+returns-clause-store c = number_store (world_in c.args.environment.now) c.args.store.now c.args.x c.index_mut-entry.result.now
+    c.requires.within c.index_mut-entry.ensures.value c.requires.ready c.args.number
 
 pub returns-clause-ready : goal.returns-clause-ready
-returns-clause-ready c = number_stays_ready (world_in c.args.environment.now) c.args.store.now c.args.x c.index_mut-entry.result.now c.requires.within c.index_mut-entry.ensures.value c.requires.ready c.args.number c.requires.fits
+returns-clause-ready c = number_stays_ready (world_in c.args.environment.now) c.args.store.now c.args.x c.index_mut-entry.result.now
+    c.requires.within c.index_mut-entry.ensures.value c.requires.ready c.args.number c.requires.fits

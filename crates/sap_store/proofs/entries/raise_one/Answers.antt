@@ -8,14 +8,16 @@ pub returns-then-x-len-clause-store : goal.returns-then-x-len-clause-store
 returns-then-x-len-clause-store c =
     let w = world_in c.args.environment.now in
     let l : c.args.x < root w = (let e = c.requires.shaped.entries in omega (arith, e)) in
-    raise_store w c.args.store.now c.args.x c.index_mut-entry.result.now l c.index_mut-entry.ensures.value c.requires c.args.level c.join-entry.result c.set_whole.new.self c.join-entry.ensures c.set_whole.ensures.cells
+    raise_store w c.args.store.now c.args.x c.index_mut-entry.result.now l c.index_mut-entry.ensures.value c.requires c.args.level
+    c.join-entry.result c.set_whole.new.self c.join-entry.ensures c.set_whole.ensures.cells
     (c.set_whole.ensures.whole ∙ c.join-whole.ensures ∙ ap (λ t. w.order.join t c.args.level) c.whole.ensures)
 
 pub returns-then-x-len-clause-ready : goal.returns-then-x-len-clause-ready
 returns-then-x-len-clause-ready c =
     let w = world_in c.args.environment.now in
     let l : c.args.x < root w = (let e = c.requires.shaped.entries in omega (arith, e)) in
-    raise_ready w c.args.store.now c.args.x c.index_mut-entry.result.now l c.index_mut-entry.ensures.value c.requires c.args.level c.join-entry.result c.set_whole.new.self c.join-entry.ensures c.set_whole.ensures.cells
+    raise_ready w c.args.store.now c.args.x c.index_mut-entry.result.now l c.index_mut-entry.ensures.value c.requires c.args.level
+    c.join-entry.result c.set_whole.new.self c.join-entry.ensures c.set_whole.ensures.cells
     (c.set_whole.ensures.whole ∙ c.join-whole.ensures ∙ ap (λ t. w.order.join t c.args.level) c.whole.ensures)
 
 pub returns-else-x-len-clause-store : goal.returns-else-x-len-clause-store

@@ -25,4 +25,5 @@ returns-after-is_dynamic-clause-store c =
     ]
 
 pub returns-else-is_state-clause-store : goal.returns-else-is_state-clause-store
-returns-else-is_state-clause-store c = sym (reset_other (world_in c.args.environment.now) c.args.x (store_in c.args.environment.now c.args.store.now) (sym c.is_state.ensures ∙ c.if-is_state.false))
+returns-else-is_state-clause-store c = sym
+    (reset_other (world_in c.args.environment.now) c.args.x (store_in c.args.environment.now c.args.store.now) (sym c.is_state.ensures ∙ c.if-is_state.false))

@@ -34,7 +34,8 @@ returns-then-is_input-clause-before c =
     omega (arith, e, f)
 
 pub returns-else-is_input-clause-store : goal.returns-else-is_input-clause-store
-returns-else-is_input-clause-store c = sym (given_none (world_in c.args.environment.now) c.args.inputs.now (store_in c.args.environment.now c.args.store.now) c.args.x (sym c.is_input.ensures ∙ c.if-is_input.false))
+returns-else-is_input-clause-store c = sym
+    (given_none (world_in c.args.environment.now) c.args.inputs.now (store_in c.args.environment.now c.args.store.now) c.args.x (sym c.is_input.ensures ∙ c.if-is_input.false))
 
 pub returns-else-is_input-clause-before : goal.returns-else-is_input-clause-before
 returns-else-is_input-clause-before c =

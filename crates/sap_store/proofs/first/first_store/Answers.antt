@@ -12,4 +12,5 @@ returns-clause-store c =
 pub returns-clause-ready : goal.returns-clause-ready
 returns-clause-ready c =
     let s : code.Store = record { entries = c.in_ok-entries.entries; current = c.in_ok-current.current } in
-    first_ready (order_of c.args.environment.now.lattice.now) c.args.environment.now.program.now s _ c.in_ok-entries.ensures c.in_ok-current.ensures (let e = c.len.ensures in omega (arith, e)) c.requires
+    first_ready (order_of c.args.environment.now.lattice.now) c.args.environment.now.program.now s _ c.in_ok-entries.ensures
+    c.in_ok-current.ensures (let e = c.len.ensures in omega (arith, e)) c.requires

@@ -22,7 +22,8 @@ returns-in-Some c =
     let at_other =
     reached ys c.loop-cycle.cycle c.loop-cycle.other c.take_up-in-loop-cycle.new.self (omega arith) c.loop-cycle.invariant.second_ahead c.take_up-in-loop-cycle.ensures.same
     c.take_up-in-loop-cycle.ensures.some in
-    apart_next (order_of c.args.lattice.now) c.args.level xs ys c.loop-cycle.cycle c.in-Some.input c.take_up.new.self c.take_up-in-loop-cycle.new.self c.requires.cycles (omega arith)
+    apart_next (order_of c.args.lattice.now) c.args.level xs ys c.loop-cycle.cycle c.in-Some.input c.take_up.new.self
+    c.take_up-in-loop-cycle.new.self c.requires.cycles (omega arith)
     c.loop-cycle.invariant.before at_one at_other c.in-Some.ensures
 
 pub loop-cycle-preserved : goal.loop-cycle-preserved
@@ -39,7 +40,8 @@ loop-cycle-preserved c =
       within = omega (arith, within xs c.loop-cycle.cycle n c.take_up.new.self at_one (omega arith) (omega arith));
       first_ahead = passed xs c.loop-cycle.cycle n c.take_up.new.self c.skip.new.self at_one c.skip.ensures;
       second_ahead = passed ys c.loop-cycle.cycle n c.take_up-in-loop-cycle.new.self c.skip-in-loop-cycle.new.self at_other c.skip-in-loop-cycle.ensures;
-      before = agree_next (order_of c.args.lattice.now) c.args.level xs ys c.loop-cycle.cycle n c.take_up.new.self c.take_up-in-loop-cycle.new.self c.loop-cycle.invariant.before at_one
+      before = agree_next (order_of c.args.lattice.now) c.args.level xs ys c.loop-cycle.cycle n c.take_up.new.self
+          c.take_up-in-loop-cycle.new.self c.loop-cycle.invariant.before at_one
           at_other (omega arith) (omega arith) c.in_default.ensures;
     })
 

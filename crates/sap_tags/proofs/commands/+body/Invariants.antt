@@ -15,12 +15,14 @@ decreases-add_arms l = 2 * arm_wires l.arms.now + 2
 
 abbrev pub invariant-add_arms-loop-arm : goal.invariant-add_arms-loop-arm
 invariant-add_arms-loop-arm l = record {
-  blocks : map (λ b. body_of b.items) l.blocks.items ++ arm_bodies l.setting l.at l.p l.next (drop l.arm-index l.arms) ≡ map (λ b. body_of b.items) l.initial.blocks.items ++ arm_bodies l.setting l.at l.p l.initial.next l.arms;
+  blocks : map (λ b. body_of b.items) l.blocks.items ++ arm_bodies l.setting l.at l.p l.next (drop l.arm-index l.arms)
+      ≡ map (λ b. body_of b.items) l.initial.blocks.items ++ arm_bodies l.setting l.at l.p l.initial.next l.arms;
   wires : l.next + arm_wires (drop l.arm-index l.arms) ≡ l.initial.next + arm_wires l.arms;
 }
 
 abbrev pub invariant-commands-loop-one : goal.invariant-commands-loop-one
 invariant-commands-loop-one l = record {
-  body : follow (body_of l.out.items) (commands_body l.setting l.at l.p l.next (drop l.one-index l.commands)) ≡ follow (body_of l.initial.out.items) (commands_body l.setting l.at l.p l.initial.next l.commands);
+  body : follow (body_of l.out.items) (commands_body l.setting l.at l.p l.next (drop l.one-index l.commands))
+      ≡ follow (body_of l.initial.out.items) (commands_body l.setting l.at l.p l.initial.next l.commands);
   wires : l.next + commands_wires (drop l.one-index l.commands) ≡ l.initial.next + commands_wires l.commands;
 }

@@ -15,6 +15,7 @@ pub returns : goal.returns
 returns c =
     let s = c.args.setting.now in
     subst (λ (b : Body). OnOk c.decide_block.result (body_of c.decide_block.new.out.items ≡ b))
-    (block_picked (setting_in s) _ _ c.width.result (entities_in s) c.args.k c.args.arms.now (map (λ b. body_of b.items) c.args.blocks.items) (body_of c.args.out.now.items) (body_of c.pick.new.out.items)
+    (block_picked (setting_in s) _ _ c.width.result (entities_in s) c.args.k c.args.arms.now
+    (map (λ b. body_of b.items) c.args.blocks.items) (body_of c.args.out.now.items) (body_of c.pick.new.out.items)
     c.width_of.ensures c.width.ensures c.in_ok-pick.ensures)
     c.decide_block.ensures

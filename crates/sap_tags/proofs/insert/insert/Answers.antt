@@ -17,7 +17,8 @@ invariant_of-setting c = record {
 
 pub parts-requires-clause-ranged : goal.parts-requires-clause-ranged
 parts-requires-clause-ranged c =
-    ranged_found c.lattice.result.now (levels_in c.args.checked.now) (tree_in c.args.checked.now) c.args.program.now c.lattice.ensures c.requires c.widths_in_range.ensures c.is_sound.ensures
+    ranged_found c.lattice.result.now (levels_in c.args.checked.now) (tree_in c.args.checked.now) c.args.program.now c.lattice.ensures
+    c.requires c.widths_in_range.ensures c.is_sound.ensures
 
 pub parts-requires-clause-few : goal.parts-requires-clause-few
 parts-requires-clause-few c =

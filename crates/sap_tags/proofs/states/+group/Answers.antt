@@ -84,13 +84,17 @@ states-state-requires t c =
 
 pub states-loop-one-preserved : goal.states-loop-one-preserved
 states-loop-one-preserved t c = record {
-  states = states_step c.args.setting.now c.args.parent c.args.states.now c.loop-one.one-index c.one-item.result c.loop-one.next c.state.new.next c.loop-one.made.items c.push.new.self.items c.in_ok-built.built _ (omega arith) c.one-item.is c.in_ok-push.ensures.items c.in_ok-built.ensures.state c.in_ok-built.ensures.wires c.loop-one.invariant.states;
-  wires = states_wires_step c.args.states.now c.loop-one.one-index c.one-item.result c.loop-one.next c.state.new.next _ (omega arith) c.one-item.is c.in_ok-built.ensures.wires c.loop-one.invariant.wires;
+  states = states_step c.args.setting.now c.args.parent c.args.states.now c.loop-one.one-index c.one-item.result c.loop-one.next
+      c.state.new.next c.loop-one.made.items c.push.new.self.items c.in_ok-built.built _ (omega arith) c.one-item.is
+      c.in_ok-push.ensures.items c.in_ok-built.ensures.state c.in_ok-built.ensures.wires c.loop-one.invariant.states;
+  wires = states_wires_step c.args.states.now c.loop-one.one-index c.one-item.result c.loop-one.next c.state.new.next _ (omega arith)
+      c.one-item.is c.in_ok-built.ensures.wires c.loop-one.invariant.wires;
 }
 
 pub states-returns-clause-states : goal.states-returns-clause-states
 states-returns-clause-states t c =
-    states_rest c.args.setting.now c.args.parent c.args.states.now c.loop-one.one-index c.loop-one.next (forest_of c.loop-one.made.items) _ (omega arith) c.loop-one.invariant.states
+    states_rest c.args.setting.now c.args.parent c.args.states.now c.loop-one.one-index c.loop-one.next (forest_of c.loop-one.made.items)
+    _ (omega arith) c.loop-one.invariant.states
 
 pub states-returns-clause-wires : goal.states-returns-clause-wires
 states-returns-clause-wires t c =

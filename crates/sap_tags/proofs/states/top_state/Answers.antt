@@ -48,7 +48,8 @@ returns-clause-state c =
     c.numbers.result.now c.as_slice-body.result.now c.as_slice-children.result.now
     (record { name = c.in_ok-name.name; cmds = c.commands.new.out; children = c.in_ok-children.children })
     b1 (body_of c.set_wire.new.out.items) (body_of c.raise_all.new.out.items)
-    refl (omega (arith, c.len.ensures, s.program.now.entities.ok.0)) refl c.numbers.ensures.same c.as_slice-body.ensures.value c.as_slice-children.ensures.value c.in_ok-commands.ensures.wires
+    refl (omega (arith, c.len.ensures, s.program.now.entities.ok.0)) refl c.numbers.ensures.same c.as_slice-body.ensures.value
+    c.as_slice-children.ensures.value c.in_ok-commands.ensures.wires
     c.in_ok-name.ensures
     (fresh c.new-cmds.result.items _ _ c.new-cmds.ensures.items c.in_ok-save_all.ensures)
     (c.in_ok-set_wire.ensures ∙ ap (λ v. follow b1 (gives (setting_in s) (wire_key k) v stop)) c.in_ok-level.ensures)

@@ -42,8 +42,11 @@ top_state-requires-clause-arms c =
 pub loop-one-preserved : goal.loop-one-preserved
 loop-one-preserved c =
     let ts = c.as_slice-states.result.now in record {
-      states = tops_step c.args.setting.now ts c.loop-one.one-index c.one-item.result c.loop-one.next c.top_state.new.next c.loop-one.made.items c.push.new.self.items c.in_ok-built.built _ (omega arith) c.one-item.is c.in_ok-push.ensures.items c.in_ok-built.ensures.state c.in_ok-built.ensures.wires c.loop-one.invariant.states;
-      wires = states_wires_step ts c.loop-one.one-index c.one-item.result c.loop-one.next c.top_state.new.next _ (omega arith) c.one-item.is c.in_ok-built.ensures.wires c.loop-one.invariant.wires;
+      states = tops_step c.args.setting.now ts c.loop-one.one-index c.one-item.result c.loop-one.next c.top_state.new.next
+          c.loop-one.made.items c.push.new.self.items c.in_ok-built.built _ (omega arith) c.one-item.is c.in_ok-push.ensures.items
+          c.in_ok-built.ensures.state c.in_ok-built.ensures.wires c.loop-one.invariant.states;
+      wires = states_wires_step ts c.loop-one.one-index c.one-item.result c.loop-one.next c.top_state.new.next _ (omega arith) c.one-item.is
+          c.in_ok-built.ensures.wires c.loop-one.invariant.wires;
     }
 
 pub returns : goal.returns

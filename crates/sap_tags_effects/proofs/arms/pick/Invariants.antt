@@ -10,4 +10,5 @@ use Rattle.sap_tags_effects.proofs.arms.pick.Given as goal
 abbrev pub invariant-loop-block : goal.invariant-loop-block
 invariant-loop-block l =
     body_of l.out.items
-    ≡ follow (body_of l.fn.out.items) (picks (setting_in l.setting) l.number.width l.number.wire l.pick.width l.pick.wire l.block (alone (entities_in l.setting) (drop l.block l.arms)) stop)
+    ≡ follow (body_of l.fn.out.items) (picks (setting_in l.setting) l.number.width l.number.wire l.pick.width l.pick.wire l.block
+    (alone (entities_in l.setting) (drop l.block l.arms)) stop)

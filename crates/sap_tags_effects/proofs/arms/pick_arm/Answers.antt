@@ -11,11 +11,15 @@ pub loop-constant-preserved : goal.loop-constant-preserved
 loop-constant-preserved c =
     let n = c.args.number.now in
     let p = c.args.pick.now in
-    let t = c.in_ok-value.ensures ∙ ap₂ (λ (a b : Term Name). choose a (constant p.width c.args.block) b) (c.in_ok-test.ensures ∙ ap (λ (a : Term Name). two Eq a (constant n.width (get_or c.args.constants.now c.loop-constant.constant-index 0))) c.in_ok-seen.ensures) c.in_ok-before.ensures in
-    constants_step (setting_in c.args.setting.now) n.width n.wire p.width p.wire c.args.block c.args.constants.now c.loop-constant.constant-index 0 (body_of c.loop-constant.out.items) (body_of c.set_wire.new.out.items) _ _ (omega arith) c.in_ok-set_wire.ensures t c.loop-constant.invariant
+    let t = c.in_ok-value.ensures ∙ ap₂ (λ (a b : Term Name). choose a (constant p.width c.args.block) b) (c.in_ok-test.ensures
+    ∙ ap (λ (a : Term Name). two Eq a (constant n.width (get_or c.args.constants.now c.loop-constant.constant-index 0))) c.in_ok-seen.ensures) c.in_ok-before.ensures in
+    constants_step (setting_in c.args.setting.now) n.width n.wire p.width p.wire c.args.block c.args.constants.now
+    c.loop-constant.constant-index 0 (body_of c.loop-constant.out.items) (body_of c.set_wire.new.out.items) _ _ (omega arith)
+    c.in_ok-set_wire.ensures t c.loop-constant.invariant
 
 pub returns : goal.returns
 returns c =
     let n = c.args.number.now in
     let p = c.args.pick.now in
-    constants_rest (setting_in c.args.setting.now) n.width n.wire p.width p.wire c.args.block c.args.constants.now c.loop-constant.constant-index (body_of c.loop-constant.out.items) _ (omega arith) c.loop-constant.invariant
+    constants_rest (setting_in c.args.setting.now) n.width n.wire p.width p.wire c.args.block c.args.constants.now
+    c.loop-constant.constant-index (body_of c.loop-constant.out.items) _ (omega arith) c.loop-constant.invariant

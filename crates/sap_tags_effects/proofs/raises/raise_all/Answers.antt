@@ -10,7 +10,8 @@ pub loop-x-preserved : goal.loop-x-preserved
 loop-x-preserved c =
     let h = c.in_ok-raise_entity.ensures in
     let d = setting_in c.args.setting.now in
-    walk_step d tag_key (raised d c.args.wire) (entities_in c.args.setting.now) c.args.hang.now c.loop-x.x-index 0 (body_of c.loop-x.out.items) (body_of c.raise_entity.new.out.items) _ (omega arith) c.in_ok-raise_entity.ensures c.loop-x.invariant
+    walk_step d tag_key (raised d c.args.wire) (entities_in c.args.setting.now) c.args.hang.now c.loop-x.x-index 0
+    (body_of c.loop-x.out.items) (body_of c.raise_entity.new.out.items) _ (omega arith) c.in_ok-raise_entity.ensures c.loop-x.invariant
 
 pub returns : goal.returns
 returns c =

@@ -9,13 +9,15 @@ pub returns-then-is_dynamic : goal.returns-then-is_dynamic
 returns-then-is_dynamic c =
     let s = c.args.setting.now in
     subst (λ (b : Body). OnOk c.raise_entity.result (body_of c.raise_entity.new.out.items ≡ follow (body_of c.args.out.now.items) b))
-    (goto_dynamic (setting_in s) (home_in s c.args.at.now) c.args.wire (entities_in s) c.args.step.now c.in-Goto.site c.in-Goto.target c.in-Goto.is (entities_count s.program.now.entities.items) (sym c.is_dynamic.ensures ∙ c.if-is_dynamic.true))
+    (goto_dynamic (setting_in s) (home_in s c.args.at.now) c.args.wire (entities_in s) c.args.step.now c.in-Goto.site c.in-Goto.target
+    c.in-Goto.is (entities_count s.program.now.entities.items) (sym c.is_dynamic.ensures ∙ c.if-is_dynamic.true))
     c.raise_entity.ensures
 
 pub returns-else-is_dynamic : goal.returns-else-is_dynamic
 returns-else-is_dynamic c =
     let s = c.args.setting.now in
-    goto_enforced (setting_in s) (home_in s c.args.at.now) c.args.wire (entities_in s) c.args.step.now c.in-Goto.site c.in-Goto.target (body_of c.args.out.now.items) c.in-Goto.is (sym c.is_dynamic.ensures ∙ c.if-is_dynamic.false)
+    goto_enforced (setting_in s) (home_in s c.args.at.now) c.args.wire (entities_in s) c.args.step.now c.in-Goto.site c.in-Goto.target
+    (body_of c.args.out.now.items) c.in-Goto.is (sym c.is_dynamic.ensures ∙ c.if-is_dynamic.false)
 
 pub returns-in-Set : goal.returns-in-Set
 returns-in-Set c =

@@ -13,9 +13,19 @@ returns-in-empty t c =
 pub returns-in-len1 : goal.returns-in-len1
 returns-in-len1 t c =
     let s = c.args.setting.now in
-    grind (arith, common_steps, child_tag-one (entities_in s) (setting_in s) c.args.width (term_of c.args.seat.now) c.args.children.now c.only-item.result c.args.i c.in-len1.len_below c.in-len1.len_at_least c.only-item.is)
+    grind (
+      arith,
+      common_steps,
+      child_tag-one (entities_in s) (setting_in s) c.args.width (term_of c.args.seat.now) c.args.children.now
+          c.only-item.result c.args.i c.in-len1.len_below c.in-len1.len_at_least c.only-item.is,
+    )
 
 pub returns-in_ok-others-in-len1-up : goal.returns-in_ok-others-in-len1-up
 returns-in_ok-others-in-len1-up t c =
     let s = c.args.setting.now in
-    grind (arith, common_steps, child_tag-more (entities_in s) (setting_in s) c.args.width (term_of c.args.seat.now) c.args.children.now c.first-item.result c.args.i (omega arith) c.first-item.is)
+    grind (
+      arith,
+      common_steps,
+      child_tag-more (entities_in s) (setting_in s) c.args.width (term_of c.args.seat.now) c.args.children.now
+          c.first-item.result c.args.i (omega arith) c.first-item.is,
+    )

@@ -11,8 +11,10 @@ loop-m-preserved c =
     elim c.if-is_memory.branch [
       | then-is_memory+in_ok-add_memory w ↦
           ap (λ v. v.items) w.memories-is
-          ∙ picked s (program.is_memory (world_in s)) (of_memory s) c.loop-m.m c.args.memories.now.items c.loop-m.memories.items _ (omega arith) (sym w.if-is_memory.ensures) c.loop-m.invariant (w.in_ok-add_memory.ensures)
+          ∙ picked s (program.is_memory (world_in s)) (of_memory s) c.loop-m.m c.args.memories.now.items c.loop-m.memories.items
+          _ (omega arith) (sym w.if-is_memory.ensures) c.loop-m.invariant (w.in_ok-add_memory.ensures)
       | else-is_memory w ↦
           ap (λ v. v.items) w.memories-is
-          ∙ passed s (program.is_memory (world_in s)) (of_memory s) c.loop-m.m c.args.memories.now.items c.loop-m.memories.items (omega arith) (sym w.if-is_memory.ensures) c.loop-m.invariant
+          ∙ passed s (program.is_memory (world_in s)) (of_memory s) c.loop-m.m c.args.memories.now.items c.loop-m.memories.items
+          (omega arith) (sym w.if-is_memory.ensures) c.loop-m.invariant
     ]

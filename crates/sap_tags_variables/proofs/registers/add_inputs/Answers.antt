@@ -11,8 +11,10 @@ loop-x-preserved c =
     elim c.if-is_input.branch [
       | then-is_input+in_ok-add_value+in_ok-add_tag w ↦
           ap (λ v. v.items) w.inputs-is
-          ∙ picked s (program.is_input (world_in s)) (of_input s) c.loop-x.x c.args.inputs.now.items c.loop-x.inputs.items _ (omega arith) (sym w.if-is_input.ensures) c.loop-x.invariant (two_more _ _ _ _ _ w.in_ok-add_value.ensures w.in_ok-add_tag.ensures)
+          ∙ picked s (program.is_input (world_in s)) (of_input s) c.loop-x.x c.args.inputs.now.items c.loop-x.inputs.items _ (omega arith)
+          (sym w.if-is_input.ensures) c.loop-x.invariant (two_more _ _ _ _ _ w.in_ok-add_value.ensures w.in_ok-add_tag.ensures)
       | else-is_input w ↦
           ap (λ v. v.items) w.inputs-is
-          ∙ passed s (program.is_input (world_in s)) (of_input s) c.loop-x.x c.args.inputs.now.items c.loop-x.inputs.items (omega arith) (sym w.if-is_input.ensures) c.loop-x.invariant
+          ∙ passed s (program.is_input (world_in s)) (of_input s) c.loop-x.x c.args.inputs.now.items c.loop-x.inputs.items (omega arith)
+          (sym w.if-is_input.ensures) c.loop-x.invariant
     ]

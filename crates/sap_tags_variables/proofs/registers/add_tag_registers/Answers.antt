@@ -11,8 +11,11 @@ loop-x-preserved c =
     elim c.if-has_tag.branch [
       | then-has_tag+in_ok-add_tag w ↦
           ap (λ v. v.items) w.registers-is
-          ∙ picked s (has_own_tag (named_in s)) (of_tagged s) c.loop-x.x c.args.registers.now.items c.loop-x.registers.items _ (omega arith) (sym w.if-has_tag.ensures) c.loop-x.invariant (w.in_ok-add_tag.ensures ∙ ap (λ n. c.loop-x.registers.items ++ tag_var (named_in s) (tag_width s) c.loop-x.x n ∷ []) w.first_code.ensures)
+          ∙ picked s (has_own_tag (named_in s)) (of_tagged s) c.loop-x.x c.args.registers.now.items c.loop-x.registers.items _ (omega arith)
+          (sym w.if-has_tag.ensures) c.loop-x.invariant (w.in_ok-add_tag.ensures
+          ∙ ap (λ n. c.loop-x.registers.items ++ tag_var (named_in s) (tag_width s) c.loop-x.x n ∷ []) w.first_code.ensures)
       | else-has_tag w ↦
           ap (λ v. v.items) w.registers-is
-          ∙ passed s (has_own_tag (named_in s)) (of_tagged s) c.loop-x.x c.args.registers.now.items c.loop-x.registers.items (omega arith) (sym w.if-has_tag.ensures) c.loop-x.invariant
+          ∙ passed s (has_own_tag (named_in s)) (of_tagged s) c.loop-x.x c.args.registers.now.items c.loop-x.registers.items (omega arith)
+          (sym w.if-has_tag.ensures) c.loop-x.invariant
     ]

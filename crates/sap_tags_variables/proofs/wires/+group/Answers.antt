@@ -15,7 +15,8 @@ add_group-add_state-requires t c =
     let i = group_in (entities_in s) c.args.group.now c.loop-state.state-index c.state-item.result (omega arith) c.state-item.is in (
       omega (arith, i),
       (
-        group_room (named_in s) (tag_width s) (entities_in s) c.args.group.now c.loop-state.state-index c.state-item.result c.loop-state.next 0 _ (omega arith) c.state-item.is c.loop-state.invariant.count c.requires.few,
+        group_room (named_in s) (tag_width s) (entities_in s) c.args.group.now c.loop-state.state-index c.state-item.result
+            c.loop-state.next 0 _ (omega arith) c.state-item.is c.loop-state.invariant.count c.requires.few,
         (
           subst (StateRanged s) (sym c.state-item.is) (ranged_one s c.args.group.now c.loop-state.state-index c.state-item.result (omega arith) c.requires.ranged),
           subst StateFew (sym c.state-item.is) (few_one c.args.group.now c.loop-state.state-index c.state-item.result (omega arith) c.requires.arms),
@@ -28,15 +29,19 @@ add_group-loop-state-preserved t c =
     let s = c.args.setting.now in
     record {
       wires =
-          group_step (named_in s) (tag_width s) (entities_in s) c.args.group.now c.loop-state.state-index c.state-item.result c.loop-state.next c.in_ok-next.next 0 (omega arith) c.state-item.is c.loop-state.wires.items c.add_state.new.wires.items _ c.in_ok-next.ensures.wires c.in_ok-next.ensures.next c.loop-state.invariant.wires;
+          group_step (named_in s) (tag_width s) (entities_in s) c.args.group.now c.loop-state.state-index c.state-item.result
+          c.loop-state.next c.in_ok-next.next 0 (omega arith) c.state-item.is c.loop-state.wires.items c.add_state.new.wires.items
+          _ c.in_ok-next.ensures.wires c.in_ok-next.ensures.next c.loop-state.invariant.wires;
       count =
-          group_next (named_in s) (tag_width s) (entities_in s) c.args.group.now c.loop-state.state-index c.state-item.result c.loop-state.next c.in_ok-next.next _ (omega arith) c.state-item.is c.in_ok-next.ensures.next c.loop-state.invariant.count;
+          group_next (named_in s) (tag_width s) (entities_in s) c.args.group.now c.loop-state.state-index c.state-item.result
+          c.loop-state.next c.in_ok-next.next _ (omega arith) c.state-item.is c.in_ok-next.ensures.next c.loop-state.invariant.count;
     }
 
 pub add_group-returns-clause-wires : goal.add_group-returns-clause-wires
 add_group-returns-clause-wires t c =
     let s = c.args.setting.now in
-    group_end (named_in s) (tag_width s) (entities_in s) c.args.group.now c.loop-state.state-index c.loop-state.next c.loop-state.wires.items _ (omega arith) c.loop-state.invariant.wires
+    group_end (named_in s) (tag_width s) (entities_in s) c.args.group.now c.loop-state.state-index c.loop-state.next
+    c.loop-state.wires.items _ (omega arith) c.loop-state.invariant.wires
 
 pub add_group-returns-clause-next : goal.add_group-returns-clause-next
 add_group-returns-clause-next t c =

@@ -11,7 +11,8 @@ loop-m-preserved c =
     elim c.if-is_saved.branch [
       | then-is_saved+in_ok-add_first w ↦
           ap (λ v. v.items) w.wires-is
-          ∙ picked s (saved (world_in s)) (of_saved s) c.loop-m.m c.args.wires.now.items c.loop-m.wires.items _ (omega arith) (sym w.if-is_saved.ensures) c.loop-m.invariant (w.in_ok-add_first.ensures)
+          ∙ picked s (saved (world_in s)) (of_saved s) c.loop-m.m c.args.wires.now.items c.loop-m.wires.items _ (omega arith)
+          (sym w.if-is_saved.ensures) c.loop-m.invariant (w.in_ok-add_first.ensures)
       | else-is_saved w ↦
           ap (λ v. v.items) w.wires-is
           ∙ passed s (saved (world_in s)) (of_saved s) c.loop-m.m c.args.wires.now.items c.loop-m.wires.items (omega arith) (sym w.if-is_saved.ensures) c.loop-m.invariant

@@ -10,8 +10,10 @@ loop-state-preserved c =
     elim c.if-child_count-gt0.branch [
       | then-child_count-gt0+in_ok-add_inner w ↦
           ap (λ v. v.items) w.wires-is
-          ∙ picked s (has_children s) (of_inner s) c.loop-state.state c.args.wires.now.items c.loop-state.wires.items _ (omega arith) (less_test_of_positive _ (omega (arith, c.child_count.ensures))) c.loop-state.invariant (w.in_ok-add_inner.ensures)
+          ∙ picked s (has_children s) (of_inner s) c.loop-state.state c.args.wires.now.items c.loop-state.wires.items _ (omega arith)
+          (less_test_of_positive _ (omega (arith, c.child_count.ensures))) c.loop-state.invariant (w.in_ok-add_inner.ensures)
       | else-child_count-gt0 w ↦
           ap (λ v. v.items) w.wires-is
-          ∙ passed s (has_children s) (of_inner s) c.loop-state.state c.args.wires.now.items c.loop-state.wires.items (omega arith) (none _ (omega (arith, c.child_count.ensures))) c.loop-state.invariant
+          ∙ passed s (has_children s) (of_inner s) c.loop-state.state c.args.wires.now.items c.loop-state.wires.items (omega arith)
+          (none _ (omega (arith, c.child_count.ensures))) c.loop-state.invariant
     ]

@@ -13,7 +13,8 @@ returns-in_default c = λ n k h.
     let w = c.args.width in
     let x = c.args.name in
     let none : c.args.tags.items ≡ [] = search rules in
-    joined_alone n k w c.args.writer.now c.assign.new.self x c.args.tags.items (tag_wire w x (Copy (Constant w 0))) (ap help_for none) (ap (joined (helping_name n) w k x) none) (c.in_ok-assign.ensures {u = tt})
+    joined_alone n k w c.args.writer.now c.assign.new.self x c.args.tags.items (tag_wire w x (Copy (Constant w 0))) (ap help_for none)
+    (ap (joined (helping_name n) w k x) none) (c.in_ok-assign.ensures {u = tt})
 
 pub returns-in_default-split_first : goal.returns-in_default-split_first
 returns-in_default-split_first c = λ n k h.
@@ -21,7 +22,8 @@ returns-in_default-split_first c = λ n k h.
     let x = c.args.name in
     let last = c.in-Some.last in
     let one : c.args.tags.items ≡ last ∷ [] = search rules in
-    joined_alone n k w c.args.writer.now _ x c.args.tags.items (tag_wire w x (Copy (Named last))) (ap help_for one) (ap (joined (helping_name n) w k x) one) (c.in_ok-assign-2.ensures {u = tt})
+    joined_alone n k w c.args.writer.now _ x c.args.tags.items (tag_wire w x (Copy (Named last))) (ap help_for one)
+    (ap (joined (helping_name n) w k x) one) (c.in_ok-assign-2.ensures {u = tt})
 
 pub returns : goal.returns
 returns c = λ n k h.

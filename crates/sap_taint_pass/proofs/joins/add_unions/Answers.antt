@@ -14,7 +14,8 @@ loop-tag-init c = λ n k h.
     let same : c.in_ok-so_far.so_far ≡ c.args.first.now = search rules in (
       k,
       h,
-      λ x last. ap (λ (t : Name). grown (help_from n k (length c.args.others.now)) (joins (helping_name n) c.args.width k x t (c.args.others.now ++ last ∷ [])) [] c.args.writer.now) same,
+      λ x last. ap (λ (t : Name). grown (help_from n k (length c.args.others.now))
+          (joins (helping_name n) c.args.width k x t (c.args.others.now ++ last ∷ [])) [] c.args.writer.now) same,
     )
 
 pub loop-tag-preserved : goal.loop-tag-preserved
@@ -32,7 +33,8 @@ loop-tag-preserved c = λ n k h.
     let wire : c.union.result ≡ union c.args.width c.in_ok-next.next c.loop-tag.so_far tag =
     made ∙ ap (union c.args.width c.in_ok-next.next c.loop-tag.so_far) other in
     let step =
-    union_more n i.0 c.args.width m c.helper.new.self c.assign.new.self c.in_ok-next.next c.loop-tag.so_far tag c.union.result i.1 e.fresh e.declared wire (c.in_ok-assign.ensures {u = tt}) in (
+    union_more n i.0 c.args.width m c.helper.new.self c.assign.new.self c.in_ok-next.next c.loop-tag.so_far tag c.union.result i.1 e.fresh
+    e.declared wire (c.in_ok-assign.ensures {u = tt}) in (
       i.0 + 1,
       helped_union n i.0 m c.assign.new.self (union c.args.width (helping_name n i.0) c.loop-tag.so_far tag) i.1 step,
       λ x last.

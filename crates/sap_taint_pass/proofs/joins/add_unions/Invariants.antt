@@ -11,5 +11,6 @@ abbrev pub invariant-loop-tag : goal.invariant-loop-tag
 invariant-loop-tag l =
     (n : Net) (k : ℕ) → Helped n k l.fn.writer
     → (j : ℕ) × Helped n j l.writer
-    × ((x last : Name) → grown (help_from n j (length (drop l.tag-index l.others))) (joins (helping_name n) l.width j x l.so_far (drop l.tag-index l.others ++ last ∷ [])) [] l.writer
+    × ((x last : Name) → grown (help_from n j (length (drop l.tag-index l.others)))
+    (joins (helping_name n) l.width j x l.so_far (drop l.tag-index l.others ++ last ∷ [])) [] l.writer
     ≡ grown (help_from n k (length l.others)) (joins (helping_name n) l.width k x l.first (l.others ++ last ∷ [])) [] l.fn.writer)

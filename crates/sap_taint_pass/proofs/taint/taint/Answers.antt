@@ -29,7 +29,8 @@ carried-requires c =
     let small = p.names.small in
     let few : length p.names.items < 2 ^ 63 = omega (arith, held, small) in
     let same : net_of p ≡ tainted (width_of (order_of l)) n = c.in_ok-parts.ensures {u = tt} ∙ ap (λ w. tainted w n) c.width.ensures in
-    subst (CarriesTaint (width_of (order_of l)) n) (sym c.new-made.ensures) (kept l n (net_of p) p.names.items c.lawful.ensures.names c.lawful.ensures.narrow c.rules.ensures c.in_ok-index_tags.ensures.room few refl same).1
+    subst (CarriesTaint (width_of (order_of l)) n) (sym c.new-made.ensures)
+    (kept l n (net_of p) p.names.items c.lawful.ensures.names c.lawful.ensures.narrow c.rules.ensures c.in_ok-index_tags.ensures.room few refl same).1
 
 pub returns-clause-form : goal.returns-clause-form
 returns-clause-form c =
@@ -40,7 +41,8 @@ returns-clause-form c =
     let small = p.names.small in
     let few : length p.names.items < 2 ^ 63 = omega (arith, held, small) in
     let same : net_of p ≡ tainted (width_of (order_of l)) n = c.in_ok-parts.ensures {u = tt} ∙ ap (λ w. tainted w n) c.width.ensures in
-    (subst (CarriesTaint (width_of (order_of l)) n) (sym c.new-made.ensures) (kept l n (net_of p) p.names.items c.lawful.ensures.names c.lawful.ensures.narrow c.rules.ensures c.in_ok-index_tags.ensures.room few refl same).1).form
+    (subst (CarriesTaint (width_of (order_of l)) n) (sym c.new-made.ensures)
+    (kept l n (net_of p) p.names.items c.lawful.ensures.names c.lawful.ensures.narrow c.rules.ensures c.in_ok-index_tags.ensures.room few refl same).1).form
 
 pub returns-clause-carries : goal.returns-clause-carries
 returns-clause-carries c =
@@ -51,7 +53,8 @@ returns-clause-carries c =
     let small = p.names.small in
     let few : length p.names.items < 2 ^ 63 = omega (arith, held, small) in
     let same : net_of p ≡ tainted (width_of (order_of l)) n = c.in_ok-parts.ensures {u = tt} ∙ ap (λ w. tainted w n) c.width.ensures in
-    subst (CarriesTaint (width_of (order_of l)) n) (sym c.new-made.ensures) (kept l n (net_of p) p.names.items c.lawful.ensures.names c.lawful.ensures.narrow c.rules.ensures c.in_ok-index_tags.ensures.room few refl same).1
+    subst (CarriesTaint (width_of (order_of l)) n) (sym c.new-made.ensures)
+    (kept l n (net_of p) p.names.items c.lawful.ensures.names c.lawful.ensures.narrow c.rules.ensures c.in_ok-index_tags.ensures.room few refl same).1
 
 pub returns-clause-small : goal.returns-clause-small
 returns-clause-small c =

@@ -27,7 +27,8 @@ loop-memory-preserved c = λ n k h.
     let adds = c.in_ok-add_memory.ensures {u = tt} n j i.1 in (
       j + 4,
       helped_more n j 4 (write_at helping w j x) (memory_tag w x (helping (j + 3)) ∷ []) m m' i.1 adds,
-      adds_more n j 4 (help_for_writes rest) (write_at helping w j x) (write_wires helping w (j + 4) rest) (memory_tag w x (helping (j + 3)) ∷ []) (memory_tags helping w (j + 4) rest) m m' adds
+      adds_more n j 4 (help_for_writes rest) (write_at helping w j x) (write_wires helping w (j + 4) rest)
+          (memory_tag w x (helping (j + 3)) ∷ []) (memory_tags helping w (j + 4) rest) m m' adds
           ∙ ap (λ (xs : List Memory). grown (help_from n j (help_for_writes xs)) (write_wires helping w j xs) (memory_tags helping w j xs) m) (sym parts)
           ∙ i.2,
     )
@@ -38,6 +39,7 @@ returns c = λ n k h.
     let memories = c.args.memories.now in
     let none : drop c.loop-memory.memory-index memories ≡ [] = nothing_left memories c.loop-memory.memory-index (omega arith) in
     sym (grown_none c.loop-memory.writer)
-    ∙ ap (λ (xs : List Memory). grown (help_from n i.0 (help_for_writes xs)) (write_wires (helping_name n) c.args.width i.0 xs) (memory_tags (helping_name n) c.args.width i.0 xs) c.loop-memory.writer)
+    ∙ ap (λ (xs : List Memory). grown (help_from n i.0 (help_for_writes xs)) (write_wires (helping_name n) c.args.width i.0 xs)
+    (memory_tags (helping_name n) c.args.width i.0 xs) c.loop-memory.writer)
     (sym none)
     ∙ i.2

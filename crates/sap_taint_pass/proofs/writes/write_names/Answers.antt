@@ -7,7 +7,8 @@ returns-clause-names c = λ n k h.
     let b = c.in_ok-new.ensures {u = tt} in
     let d = c.in_ok-chosen.ensures {u = tt} in
     let e = c.in_ok-all.ensures {u = tt} in
-    four_names n k c.args.writer.now c.helper.new.self c.helper-2.new.self c.helper-3.new.self c.helper-4.new.self c.in_ok-kept.kept c.in_ok-new.new c.in_ok-chosen.chosen c.in_ok-all.all h
+    four_names n k c.args.writer.now c.helper.new.self c.helper-2.new.self c.helper-3.new.self c.helper-4.new.self c.in_ok-kept.kept
+    c.in_ok-new.new c.in_ok-chosen.chosen c.in_ok-all.all h
     a.fresh a.declared b.fresh b.declared d.fresh d.declared e.fresh e.declared
 
 pub returns-clause-declared : goal.returns-clause-declared
@@ -16,5 +17,6 @@ returns-clause-declared c = λ n k h.
     let b = c.in_ok-new.ensures {u = tt} in
     let d = c.in_ok-chosen.ensures {u = tt} in
     let e = c.in_ok-all.ensures {u = tt} in
-    four_declared n k c.args.writer.now c.helper.new.self c.helper-2.new.self c.helper-3.new.self c.helper-4.new.self c.in_ok-kept.kept c.in_ok-new.new c.in_ok-chosen.chosen c.in_ok-all.all h
+    four_declared n k c.args.writer.now c.helper.new.self c.helper-2.new.self c.helper-3.new.self c.helper-4.new.self c.in_ok-kept.kept
+    c.in_ok-new.new c.in_ok-chosen.chosen c.in_ok-all.all h
     a.fresh a.declared b.fresh b.declared d.fresh d.declared e.fresh e.declared

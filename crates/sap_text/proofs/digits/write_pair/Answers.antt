@@ -9,4 +9,11 @@ returns c =
     let at = c.args.start in
     let bytes = c.args.bytes.now in
     let e : at + 1 + 1 ≡ at + 2 = omega arith in
-    rw (p.0, p.1, set_comm bytes at (at + 1) _ _ (λ x. omega arith), drop-set (set bytes (at + 1) (48 + c.args.pair % 10)) at _ (omega (arith, length-set bytes (at + 1) (48 + c.args.pair % 10))), drop-set bytes (at + 1) _ (omega arith), e)
+    rw (
+      p.0,
+      p.1,
+      set_comm bytes at (at + 1) _ _ (λ x. omega arith),
+      drop-set (set bytes (at + 1) (48 + c.args.pair % 10)) at _ (omega (arith, length-set bytes (at + 1) (48 + c.args.pair % 10))),
+      drop-set bytes (at + 1) _ (omega arith),
+      e,
+    )

@@ -10,13 +10,16 @@ use Rattle.sap_trace.specs.Lines.{line_head}
 use Rattle.sap_trace.proofs.examples.worked_traces.Goals as goal
 
 pub returns-clause-in_handler : goal.returns-clause-in_handler
-unfolding digits order_of order_by cycle set_inputs root_fall first put_number put_level put_child raise reset settle effect attempt select does does_block does_state does_child site_target line_head
+unfolding digits order_of order_by cycle set_inputs root_fall first put_number put_level put_child raise reset settle effect attempt select
+    does does_block does_state does_child site_target line_head
 returns-clause-in_handler c = refl
 
 pub returns-clause-by_target : goal.returns-clause-by_target
-unfolding digits order_of order_by cycle set_inputs root_fall first put_number put_level put_child raise reset settle effect attempt select does does_block does_state does_child site_target line_head
+unfolding digits order_of order_by cycle set_inputs root_fall first put_number put_level put_child raise reset settle effect attempt select
+    does does_block does_state does_child site_target line_head
 returns-clause-by_target c = refl
 
 pub returns-clause-by_own_state : goal.returns-clause-by_own_state
-unfolding digits order_of order_by cycle set_inputs root_fall first put_number put_level put_child raise reset settle effect attempt select does does_block does_state does_child site_target line_head
+unfolding digits order_of order_by cycle set_inputs root_fall first put_number put_level put_child raise reset settle effect attempt select
+    does does_block does_state does_child site_target line_head
 returns-clause-by_own_state c = refl

@@ -13,5 +13,6 @@ unwrap-requires c =
     let wanted : ℕ → ℕ = λ line. length c.take-bytes.result.items + length (sites_of (tree_in c.args.checked.now)) * line in
     let size : length c.take-bytes.result.items ≡ length c.args.out.now.bytes = ap length c.take-bytes.ensures.bytes in
     ok_with_room c.push_refused.result (vec_capacity c.take-bytes.result) (wanted holds.line)
-    (err_at (HoldsLine (levels_in c.args.checked.now) (tree_in c.args.checked.now)) (λ line. vec_capacity c.take-bytes.result < wanted line) c.push_refused.result holds.line holds.holds c.push_refused.ensures.full)
+    (err_at (HoldsLine (levels_in c.args.checked.now) (tree_in c.args.checked.now)) (λ line. vec_capacity c.take-bytes.result < wanted line)
+    c.push_refused.result holds.line holds.holds c.push_refused.ensures.full)
     (omega (arith, size, holds.all, c.requires.fits.2, c.take-bytes.ensures.room))

@@ -13,5 +13,6 @@ unwrap-requires c =
     let name = level_name (levels_in c.args.checked.now) c.args.at in
     let fits = line_fits d c.args.cycle c.args.site name c.ranges.cycle.fits in
     let size : length c.take-bytes.result.items ≡ length c.args.out.now.bytes = ap length c.take-bytes.ensures.bytes in
-    ok_with_room c.push_refusal.result (vec_capacity c.take-bytes.result) (length c.take-bytes.result.items + length (site_line d c.args.cycle c.args.site name)) c.push_refusal.ensures.full
+    ok_with_room c.push_refusal.result (vec_capacity c.take-bytes.result)
+    (length c.take-bytes.result.items + length (site_line d c.args.cycle c.args.site name)) c.push_refusal.ensures.full
     (omega (arith, fits, size, c.requires.fits, c.take-bytes.ensures.room))

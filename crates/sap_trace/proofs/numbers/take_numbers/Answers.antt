@@ -15,7 +15,8 @@ loop-k-preserved c =
     let e = c.index-line-k-in-loop-k.result in
     given_written c.args.lattice.now xs k d c.loop-k.numbers c.number.result c.code.result c.loop-k-test.true
     (omega (arith, c.loop-k.auto.numbers, c.requires)) (c.number.ensures ∙ ap (λ (x : Tagged). x.number) c.index-line-k.is)
-    (c.code.ensures ∙ ap (code_of (order_of c.args.lattice.now)) (c.level.ensures ∙ ap (λ (x : Tagged). x.level) (c.index-line-k-in-loop-k.is ∙ same_item xs k e d c.loop-k-test.true))) c.loop-k.invariant
+    (c.code.ensures ∙ ap (code_of (order_of c.args.lattice.now)) (c.level.ensures
+    ∙ ap (λ (x : Tagged). x.level) (c.index-line-k-in-loop-k.is ∙ same_item xs k e d c.loop-k-test.true))) c.loop-k.invariant
 
 pub returns : goal.returns
 returns c =

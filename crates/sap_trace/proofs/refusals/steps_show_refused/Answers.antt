@@ -4,5 +4,6 @@ use Rattle.sap_trace.proofs.refusals.steps_show_refused.Goals as goal
 
 pub returns : goal.returns
 returns c =
-    steps_show (levels_in c.args.checked.now) (tree_in c.args.checked.now) c.args.netlist.now c.known.ensures.in_order c.requires c.known.ensures.order c.known.ensures.numbering c.stimulus_fits.ensures
+    steps_show (levels_in c.args.checked.now) (tree_in c.args.checked.now) c.args.netlist.now c.known.ensures.in_order c.requires
+    c.known.ensures.order c.known.ensures.numbering c.stimulus_fits.ensures
     c.one_run.ensures.some

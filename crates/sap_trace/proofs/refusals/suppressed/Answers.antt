@@ -25,5 +25,6 @@ returns c = record {
       let d = tree_in c.args.checked.now in
       c.new.ensures ∙ c.in_ok-push_refused.ensures.text (Some shown.cycle) shown.shows
       ∙ ap (λ (xs : List ℕ). xs ++ seen_lines ls d c.args.cycle 1 (length (sites_of d)) (observed c.args.runner.now.net shown.cycle)) c.new-out.ensures.items
-      ∙ sym (lines_told ls d c.known.ensures.codes c.known.ensures.some c.args.cycle (observed c.args.runner.now.net shown.cycle) c.known.ensures.numbering shown.state rs shown.stands shown.in_order);
+      ∙ sym (lines_told ls d c.known.ensures.codes c.known.ensures.some c.args.cycle (observed c.args.runner.now.net shown.cycle)
+      c.known.ensures.numbering shown.state rs shown.stands shown.in_order);
 }

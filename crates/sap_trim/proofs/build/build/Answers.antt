@@ -10,7 +10,8 @@ use Rattle.sap_trim.proofs.build.build.Goals as goal
 pub returns : goal.returns
 returns c =
     let n = c.args.netlist.now in
-    let names : filter (holds c.args.lasting.now) n.names ≡ filter (λ x. is_among x (lasting_names n)) n.names = ap (λ (f : Name → Bool). filter f n.names) (fun_ext c.requires.lasting) in
+    let names : filter (holds c.args.lasting.now) n.names ≡ filter (λ x. is_among x (lasting_names n)) n.names =
+    ap (λ (f : Name → Bool). filter f n.names) (fun_ext c.requires.lasting) in
     let ports : filter (λ (w : Wire). holds c.args.shown.now w.name) n.wires ≡ shown_wires n =
     ap (λ (f : Name → Bool). filter (λ (w : Wire). f w.name) n.wires) (fun_ext c.requires.shown) in
     search (rules, names, ports)

@@ -20,7 +20,9 @@ loop-rest-init c =
     let read = c.in_ok-read.read in
     let new = c.mark_ends.new.marks in
     let kept = c.in_ok-kept.kept.items in
-    let first = first_keeping m (port_names n) (edge_reads n) ws c.deref_mut.result.now new kept (c.deref_mut.ensures.value ∙ c.in_ok-read.ensures {u = tt}) (subst (λ (ns : List Name). Marks ns (port_names n ++ edge_reads n) c.deref_mut.result.now new) same c.mark_ends.ensures) (c.in_ok-kept.ensures {u = tt}) in
+    let first = first_keeping m (port_names n) (edge_reads n) ws c.deref_mut.result.now new kept (c.deref_mut.ensures.value
+    ∙ c.in_ok-read.ensures {u = tt}) (subst (λ (ns : List Name). Marks ns (port_names n ++ edge_reads n) c.deref_mut.result.now new)
+    same c.mark_ends.ensures) (c.in_ok-kept.ensures {u = tt}) in
     let whole = whole_back new read.items read.len (c.mark_ends.ensures.long ∙ ap (λ (bs : List Bool). length bs) c.deref_mut.ensures.value) read.ok.0 in
     subst (λ (bs : List Bool). Keeping m (port_names n) (edge_reads n) ws (length ws) bs kept) (sym whole) first
 
@@ -43,7 +45,8 @@ loop-rest-preserved c =
     let k = c.loop-rest.rest - 1 in
     let kept = c.deref_mut-in-loop-rest.ensures.value in
     let read = c.deref_mut-in-loop-rest-2.ensures.value in
-    let distinct : AreDistinct (names_of ws) = subst (λ (xs : List Wire). AreDistinct (names_of xs)) (sym c.wires-wires.ensures) (wires_distinct (shapes n) n.wires (first_readable n) c.rules.ensures.assigns) in
+    let distinct : AreDistinct (names_of ws) =
+    subst (λ (xs : List Wire). AreDistinct (names_of xs)) (sym c.wires-wires.ensures) (wires_distinct (shapes n) n.wires (first_readable n) c.rules.ensures.assigns) in
     let after : c.keep_wire.new.kept ≡ set c.loop-rest.kept.items k (is_marked c.loop-rest.read.items k) =
     c.keep_wire.ensures.kept ∙ ap (λ (bs : List Bool). set bs k (is_marked c.deref_mut-in-loop-rest-2.result.now k)) kept
     ∙ ap (λ (bs : List Bool). set c.loop-rest.kept.items k (is_marked bs k)) read in
@@ -61,4 +64,5 @@ loop-rest-preserved c =
 pub returns : goal.returns
 returns c =
     let zero = c.loop-rest-test.false in
-    all_kept (names_of c.wires-wires.result.now) c.args.netlist.now c.wires-wires.result.now c.loop-rest.rest c.loop-rest.read.items c.loop-rest.kept.items c.wires-wires.ensures (omega (arith, zero)) c.loop-rest.invariant
+    all_kept (names_of c.wires-wires.result.now) c.args.netlist.now c.wires-wires.result.now c.loop-rest.rest c.loop-rest.read.items
+    c.loop-rest.kept.items c.wires-wires.ensures (omega (arith, zero)) c.loop-rest.invariant

@@ -14,6 +14,8 @@ settle_kept-requires-clause-long c =
 
 pub returns : goal.returns
 returns c =
-    tidied_all c.args.netlist.now (holds c.args.lasting.now) c.deref.result.now (state_of c.args.walk) (state_of c.settle_kept.new.self) c.wires.result.now (built c.args.netlist.now c.made_by.result.wires.items (find c.made_by.result.stands)) c.rules.ensures c.requires.lasting (subst (MarksNeeded c.args.netlist.now) (sym c.deref.ensures.value) c.requires.kept) c.requires.begins c.wires.ensures c.in_ok-settle_kept.ensures.walked
+    tidied_all c.args.netlist.now (holds c.args.lasting.now) c.deref.result.now (state_of c.args.walk) (state_of c.settle_kept.new.self)
+    c.wires.result.now (built c.args.netlist.now c.made_by.result.wires.items (find c.made_by.result.stands)) c.rules.ensures
+    c.requires.lasting (subst (MarksNeeded c.args.netlist.now) (sym c.deref.ensures.value) c.requires.kept) c.requires.begins c.wires.ensures c.in_ok-settle_kept.ensures.walked
     c.settle_kept.new.self.wires.numbers c.in_ok-settle_kept.ensures.orderly
     (ap₂ (λ (ws : List Wire) e. built c.args.netlist.now ws (find e)) c.made_by.ensures.wires c.made_by.ensures.stands)

@@ -9,6 +9,8 @@ use Rattle.sap_trim.proofs.trim.settled_wires.Goals as goal
 
 pub returns : goal.returns
 returns c =
-    settled_all c.args.netlist.now (holds c.args.lasting.now) (state_of c.in_ok-walk.walk) (state_of c.settle_all.new.self) c.wires.result.now (built c.args.netlist.now c.made_by.result.wires.items (find c.made_by.result.stands)) c.rules.ensures c.requires c.in_ok-walk.ensures.begins c.wires.ensures c.in_ok-settle_all.ensures.walked
+    settled_all c.args.netlist.now (holds c.args.lasting.now) (state_of c.in_ok-walk.walk) (state_of c.settle_all.new.self)
+    c.wires.result.now (built c.args.netlist.now c.made_by.result.wires.items (find c.made_by.result.stands)) c.rules.ensures c.requires
+    c.in_ok-walk.ensures.begins c.wires.ensures c.in_ok-settle_all.ensures.walked
     c.settle_all.new.self.wires.numbers c.in_ok-settle_all.ensures.orderly
     (ap₂ (λ (ws : List Wire) e. built c.args.netlist.now ws (find e)) c.made_by.ensures.wires c.made_by.ensures.stands)

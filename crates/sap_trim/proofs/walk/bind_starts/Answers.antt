@@ -19,7 +19,8 @@ loop-register-preserved c =
     let a = find c.args.stands.now x in
     let b = find c.loop-register.stands x in
     let d = find c.bind_start.new.stands x in
-    subst (λ (rs : List Register). Starts ws rs x a d) (sym e) (starts_push ws (take k xs) x a b d y (c.loop-register.invariant ws h x) (c.in_ok-bind_start.ensures {u = tt} ws h x))
+    subst (λ (rs : List Register). Starts ws rs x a d) (sym e)
+    (starts_push ws (take k xs) x a b d y (c.loop-register.invariant ws h x) (c.in_ok-bind_start.ensures {u = tt} ws h x))
 
 pub returns : goal.returns
 returns c = λ ws h x.

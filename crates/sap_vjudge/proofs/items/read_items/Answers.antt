@@ -11,7 +11,8 @@ use Rattle.sap_vjudge.proofs.items.read_items.Goals as goal
 pub loop-item-preserved : goal.loop-item-preserved
 loop-item-preserved c = (
   loop_step (λ (k : Known) (xs : List Item). items_faults k (items_of xs)) (λ k x. item_faults k (item_of x)) (λ k x. after_item k (item_of x)) (λ k. items_faults-none k)
-      (λ k x xs. items_faults-cons k (item_of x) (items_of xs)) c.args.items.now c.loop-item.item-index _ _ _ _ _ (omega arith) c.item-item.is c.note_item.ensures c.in_ok-add_item.ensures
+      (λ k x xs. items_faults-cons k (item_of x) (items_of xs)) c.args.items.now c.loop-item.item-index _ _ _ _ _ (omega arith)
+      c.item-item.is c.note_item.ensures c.in_ok-add_item.ensures
       ∙ c.loop-item.invariant.0,
   after_step (λ (k : Known) (xs : List Item). after_items k (items_of xs)) (λ k x. after_item k (item_of x)) (λ k. after_items-none k)
       (λ k x xs. after_items-cons k (item_of x) (items_of xs)) c.args.items.now c.loop-item.item-index _ _ _ (omega arith) c.item-item.is c.in_ok-add_item.ensures

@@ -11,7 +11,8 @@ use Rattle.sap_vjudge.proofs.items.read_ports.Goals as goal
 pub loop-port-preserved : goal.loop-port-preserved
 loop-port-preserved c = (
   loop_step (λ (k : Known) (xs : List Port). ports_faults k (ports_of xs)) (λ k x. port_faults k (port_of x)) (λ k x. after_port k (port_of x)) (λ k. ports_faults-none k)
-      (λ k x xs. ports_faults-cons k (port_of x) (ports_of xs)) c.args.ports.now c.loop-port.port-index _ _ _ _ _ (omega arith) c.port-item.is c.note_port.ensures c.in_ok-add_port.ensures
+      (λ k x xs. ports_faults-cons k (port_of x) (ports_of xs)) c.args.ports.now c.loop-port.port-index _ _ _ _ _ (omega arith)
+      c.port-item.is c.note_port.ensures c.in_ok-add_port.ensures
       ∙ c.loop-port.invariant.0,
   after_step (λ (k : Known) (xs : List Port). after_ports k (ports_of xs)) (λ k x. after_port k (port_of x)) (λ k. after_ports-none k)
       (λ k x xs. after_ports-cons k (port_of x) (ports_of xs)) c.args.ports.now c.loop-port.port-index _ _ _ (omega arith) c.port-item.is c.in_ok-add_port.ensures

@@ -11,7 +11,8 @@ use Rattle.sap_vjudge.proofs.unset.note_unset_items.Goals as goal
 pub loop-item-preserved : goal.loop-item-preserved
 loop-item-preserved c =
     loop_step (λ (k : Known) (xs : List Item). items_unset k (items_of xs)) (λ k x. unsets_faults k (item_declarations (item_of x))) (λ k x. k) (λ k. items_unset-none k)
-    (λ k x xs. items_unset-cons k (item_of x) (items_of xs)) c.args.items.now c.loop-item.item-index _ (known_of c.args.table.now) (known_of c.args.table.now) _ _ (omega arith) c.item-item.is c.note_unset_item.ensures refl
+    (λ k x xs. items_unset-cons k (item_of x) (items_of xs)) c.args.items.now c.loop-item.item-index _ (known_of c.args.table.now)
+    (known_of c.args.table.now) _ _ (omega arith) c.item-item.is c.note_unset_item.ensures refl
     ∙ c.loop-item.invariant
 
 pub returns : goal.returns

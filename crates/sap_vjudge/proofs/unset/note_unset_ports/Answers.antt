@@ -11,7 +11,8 @@ use Rattle.sap_vjudge.proofs.unset.note_unset_ports.Goals as goal
 pub loop-port-preserved : goal.loop-port-preserved
 loop-port-preserved c =
     loop_step (λ (k : Known) (xs : List Port). ports_unset k (ports_of xs)) (λ k x. unset_faults k (port_declaration (port_of x))) (λ k x. k) (λ k. ports_unset-none k)
-    (λ k x xs. ports_unset-cons k (port_of x) (ports_of xs)) c.args.ports.now c.loop-port.port-index _ (known_of c.args.table.now) (known_of c.args.table.now) _ _ (omega arith) c.port-item.is c.note_unset_port.ensures refl
+    (λ k x xs. ports_unset-cons k (port_of x) (ports_of xs)) c.args.ports.now c.loop-port.port-index _ (known_of c.args.table.now)
+    (known_of c.args.table.now) _ _ (omega arith) c.port-item.is c.note_unset_port.ensures refl
     ∙ c.loop-port.invariant
 
 pub returns : goal.returns

@@ -12,7 +12,8 @@ use Rattle.sap_vjudge.proofs.usage.note_operands.Goals as goal
 pub loop-operand-preserved : goal.loop-operand-preserved
 loop-operand-preserved c =
     loop_step (λ (k : Known) (xs : List Operand). uses_faults k (flat_map operand_uses (operands_of xs))) (λ k x. uses_faults k (operand_uses (operand_of x))) (λ k x. k)
-    operands_used-none operands_used-cons c.args.operands.now c.loop-operand.operand-index _ (known_of c.args.table.now) (known_of c.args.table.now) _ _ (omega arith) c.operand-item.is c.note_operand.ensures refl
+    operands_used-none operands_used-cons c.args.operands.now c.loop-operand.operand-index _ (known_of c.args.table.now)
+    (known_of c.args.table.now) _ _ (omega arith) c.operand-item.is c.note_operand.ensures refl
     ∙ c.loop-operand.invariant
 
 pub returns : goal.returns

@@ -10,7 +10,8 @@ returns-in-None c =
 
 pub loop-part-preserved : goal.loop-part-preserved
 loop-part-preserved c = (
-  part_some (known_of c.args.table.now) c.args.parts.now c.loop-part.part-index c.loop-part.sum _ c.loop-part.invariant.0 c.part-item.result c.in-Some.width (omega arith) c.part-item.is
+  part_some (known_of c.args.table.now) c.args.parts.now c.loop-part.part-index c.loop-part.sum _ c.loop-part.invariant.0 c.part-item.result
+      c.in-Some.width (omega arith) c.part-item.is
       (sym c.in-Some.is ∙ c.operand_width.ensures.width),
   (let bound = c.in-Some.ensures.bounded in let sum = c.loop-part.invariant.1 in omega arith),
 )

@@ -32,8 +32,10 @@ lexemes-preserved-in-Blank c =
     let stands : front (drop n text) ≡ l.blank c.in-Blank.len = is_front text n c.in_ok-len.field-0 (c.lexemes-test.true) c.in_ok-len.ensures.value ∙ ap front_of c.in-Blank.is in
     record {
       within = omega (arith, fits.1, ap length same, length-drop n text);
-      so_far = λ more h. c.lexemes.invariant.so_far more (blank_first c.in-Blank.len stands (subst (λ bs. Lexed (n + c.in-Blank.len) bs more) (sym (drop-drop c.in-Blank.len n text)) h));
-      first = λ place h. c.lexemes.invariant.first place (x.blank_first c.in-Blank.len stands (subst (λ bs. IsBadAt (n + c.in-Blank.len) bs place) (sym (drop-drop c.in-Blank.len n text)) h));
+      so_far = λ more h. c.lexemes.invariant.so_far more
+          (blank_first c.in-Blank.len stands (subst (λ bs. Lexed (n + c.in-Blank.len) bs more) (sym (drop-drop c.in-Blank.len n text)) h));
+      first = λ place h. c.lexemes.invariant.first place
+          (x.blank_first c.in-Blank.len stands (subst (λ bs. IsBadAt (n + c.in-Blank.len) bs place) (sym (drop-drop c.in-Blank.len n text)) h));
     }
 
 pub lexemes-preserved : goal.lexemes-preserved
@@ -42,14 +44,16 @@ lexemes-preserved c =
     let n = c.lexemes.n in
     let same = take_rest text n in
     let fits = subst (IsWithin (take (length text - n) (drop n text))) c.in-Token.is c.in_ok-len.ensures.within in
-    let stands : front (drop n text) ≡ l.token (kind_of_token c.in-Token.kind) c.in-Token.len = is_front text n c.in_ok-len.field-0 (c.lexemes-test.true) c.in_ok-len.ensures.value ∙ ap front_of c.in-Token.is in
+    let stands : front (drop n text) ≡ l.token (kind_of_token c.in-Token.kind) c.in-Token.len =
+    is_front text n c.in_ok-len.field-0 (c.lexemes-test.true) c.in_ok-len.ensures.value ∙ ap front_of c.in-Token.is in
     record {
       within = omega (arith, fits.1, ap length same, length-drop n text);
       so_far = λ more h.
           subst (Lexed 0 text) (pushed [] more (record { place = n; kind = c.in-Token.kind }) c.push.new.self.items c.lexemes.tokens.items c.in_ok-push-in-Token.ensures.items)
           (c.lexemes.invariant.so_far (token_of (record { place = n; kind = c.in-Token.kind }) ∷ more)
           (token_first (kind_of_token c.in-Token.kind) c.in-Token.len stands (subst (λ bs. Lexed (n + c.in-Token.len) bs more) (sym (drop-drop c.in-Token.len n text)) h)));
-      first = λ place h. c.lexemes.invariant.first place (x.token_first (kind_of_token c.in-Token.kind) c.in-Token.len stands (subst (λ bs. IsBadAt (n + c.in-Token.len) bs place) (sym (drop-drop c.in-Token.len n text)) h));
+      first = λ place h. c.lexemes.invariant.first place
+          (x.token_first (kind_of_token c.in-Token.kind) c.in-Token.len stands (subst (λ bs. IsBadAt (n + c.in-Token.len) bs place) (sym (drop-drop c.in-Token.len n text)) h));
     }
 
 pub returns-in-Bad-clause-fault : goal.returns-in-Bad-clause-fault

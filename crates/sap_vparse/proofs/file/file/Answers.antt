@@ -17,7 +17,8 @@ returns-in_err-word-clause-goes c =
 
 pub returns-in_err-name-clause-goes : goal.returns-in_err-name-clause-goes
 returns-in_err-name-clause-goes c =
-    fault_goes_in_row s.file (s.name ∷ s.sign t.open_paren ∷ s.word t.input_word ∷ s.word t.clk_word ∷ []) c.args.tokens.now c.word.new.self c.name_then.new.tokens _ c.in_err-name.field-0.0 c.from_residual-in_err-name.result (search rules)
+    fault_goes_in_row s.file (s.name ∷ s.sign t.open_paren ∷ s.word t.input_word ∷ s.word t.clk_word ∷ []) c.args.tokens.now c.word.new.self
+    c.name_then.new.tokens _ c.in_err-name.field-0.0 c.from_residual-in_err-name.result (search rules)
     (file_turns c.args.tokens.now ∙ bind_ok _ _ _ c.in_ok-word.ensures.goes) c.in_err-name.ensures.goes
 
 pub returns-in_err-ports-clause-goes : goal.returns-in_err-ports-clause-goes
@@ -28,12 +29,15 @@ returns-in_err-ports-clause-goes c =
 pub returns-in_err-sign-clause-goes : goal.returns-in_err-sign-clause-goes
 returns-in_err-sign-clause-goes c =
     fault_goes s.file (s.sign t.semicolon) c.args.tokens.now c.ports.new.tokens c.sign.new.self _ c.in_err-sign.field-0.0 c.from_residual-in_err-sign.result (search rules)
-    (file_turns c.args.tokens.now ∙ bind_ok _ _ _ c.in_ok-word.ensures.goes ∙ bind_ok _ _ _ c.in_ok-name.ensures.goes ∙ bind_ok _ _ _ c.in_ok-ports.ensures.goes) c.in_err-sign.ensures.goes
+    (file_turns c.args.tokens.now ∙ bind_ok _ _ _ c.in_ok-word.ensures.goes ∙ bind_ok _ _ _ c.in_ok-name.ensures.goes
+    ∙ bind_ok _ _ _ c.in_ok-ports.ensures.goes) c.in_err-sign.ensures.goes
 
 pub returns-in_err-items-clause-goes : goal.returns-in_err-items-clause-goes
 returns-in_err-items-clause-goes c =
     fault_goes s.file s.items c.args.tokens.now c.sign.new.self c.items.new.tokens _ c.in_err-items.field-0.0 c.from_residual-in_err-items.result (search rules)
-    (file_turns c.args.tokens.now ∙ bind_ok _ _ _ c.in_ok-word.ensures.goes ∙ bind_ok _ _ _ c.in_ok-name.ensures.goes ∙ bind_ok _ _ _ c.in_ok-ports.ensures.goes ∙ bind_ok _ _ _ c.in_ok-sign.ensures.goes) c.in_err-items.ensures.goes
+    (file_turns c.args.tokens.now ∙ bind_ok _ _ _ c.in_ok-word.ensures.goes ∙ bind_ok _ _ _ c.in_ok-name.ensures.goes
+    ∙ bind_ok _ _ _ c.in_ok-ports.ensures.goes ∙ bind_ok _ _ _ c.in_ok-sign.ensures.goes) c.in_err-items.ensures.goes
 
 pub returns-clause-goes : goal.returns-clause-goes
-returns-clause-goes c = file_turns c.args.tokens.now ∙ bind_ok _ _ _ c.in_ok-word.ensures.goes ∙ bind_ok _ _ _ c.in_ok-name.ensures.goes ∙ bind_ok _ _ _ c.in_ok-ports.ensures.goes ∙ bind_ok _ _ _ c.in_ok-sign.ensures.goes ∙ bind_ok _ _ _ c.in_ok-items.ensures.goes
+returns-clause-goes c = file_turns c.args.tokens.now ∙ bind_ok _ _ _ c.in_ok-word.ensures.goes ∙ bind_ok _ _ _ c.in_ok-name.ensures.goes
+    ∙ bind_ok _ _ _ c.in_ok-ports.ensures.goes ∙ bind_ok _ _ _ c.in_ok-sign.ensures.goes ∙ bind_ok _ _ _ c.in_ok-items.ensures.goes

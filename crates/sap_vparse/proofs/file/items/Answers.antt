@@ -23,7 +23,8 @@ items-preserved c = record {
 pub returns-clause-tree : goal.returns-clause-tree
 returns-clause-tree c = record {
   last = c.items.tokens;
-  items = subst (λ (xs : List item.Item). AreItems c.args.tokens.now xs c.items.tokens) (append-nil (items_of c.items.list.items)) (c.items.invariant.tree [] c.items.tokens g.no_item);
+  items = subst (λ (xs : List item.Item). AreItems c.args.tokens.now xs c.items.tokens) (append-nil (items_of c.items.list.items))
+      (c.items.invariant.tree [] c.items.tokens g.no_item);
   close = subst (λ (q : List _). g.IsWord c.items.tokens _ q) (sym c.end.ensures.stays) c.in_ok-word.ensures.tree;
 }
 

@@ -17,7 +17,8 @@ returns-in_err-word-clause-goes c =
 
 pub returns-in_err-name-clause-goes : goal.returns-in_err-name-clause-goes
 returns-in_err-name-clause-goes c =
-    fault_goes_in_row s.item (s.name ∷ s.sign t.is ∷ []) c.args.tokens.now c.word.new.self c.name_then.new.tokens _ c.in_err-name.field-0.0 c.from_residual-in_err-name.result (search rules)
+    fault_goes_in_row s.item (s.name ∷ s.sign t.is ∷ []) c.args.tokens.now c.word.new.self c.name_then.new.tokens _ c.in_err-name.field-0.0
+    c.from_residual-in_err-name.result (search rules)
     (assign_turns c.args.tokens.now c.requires ∙ bind_ok _ _ _ c.in_ok-word.ensures.goes) c.in_err-name.ensures.goes
 
 pub returns-in_err-right-clause-goes : goal.returns-in_err-right-clause-goes
@@ -26,4 +27,5 @@ returns-in_err-right-clause-goes c =
     (assign_turns c.args.tokens.now c.requires ∙ bind_ok _ _ _ c.in_ok-word.ensures.goes ∙ bind_ok _ _ _ c.in_ok-name.ensures.goes) c.in_err-right.ensures.goes
 
 pub returns-clause-goes : goal.returns-clause-goes
-returns-clause-goes c = assign_turns c.args.tokens.now c.requires ∙ bind_ok _ _ _ c.in_ok-word.ensures.goes ∙ bind_ok _ _ _ c.in_ok-name.ensures.goes ∙ bind_ok _ _ _ c.in_ok-right.ensures.goes
+returns-clause-goes c = assign_turns c.args.tokens.now c.requires ∙ bind_ok _ _ _ c.in_ok-word.ensures.goes
+    ∙ bind_ok _ _ _ c.in_ok-name.ensures.goes ∙ bind_ok _ _ _ c.in_ok-right.ensures.goes

@@ -31,7 +31,9 @@ returns-in_err-name-clause-goes c =
 pub returns-in_err-last-clause-goes : goal.returns-in_err-last-clause-goes
 returns-in_err-last-clause-goes c =
     fault_goes s.item s.after_register c.args.tokens.now c.name.new.self c.last_cell.new.tokens _ c.in_err-last.field-0.0 c.from_residual-in_err-last.result (search rules)
-    (item_register c.args.tokens.now c.requires ∙ bind_ok _ _ _ c.in_ok-word.ensures.goes ∙ bind_ok _ _ _ c.in_ok-range.ensures.goes ∙ bind_ok _ _ _ c.in_ok-name.ensures.goes) c.in_err-last.ensures.goes
+    (item_register c.args.tokens.now c.requires ∙ bind_ok _ _ _ c.in_ok-word.ensures.goes ∙ bind_ok _ _ _ c.in_ok-range.ensures.goes
+    ∙ bind_ok _ _ _ c.in_ok-name.ensures.goes) c.in_err-last.ensures.goes
 
 pub returns-clause-goes : goal.returns-clause-goes
-returns-clause-goes c = item_register c.args.tokens.now c.requires ∙ bind_ok _ _ _ c.in_ok-word.ensures.goes ∙ bind_ok _ _ _ c.in_ok-range.ensures.goes ∙ bind_ok _ _ _ c.in_ok-name.ensures.goes ∙ bind_ok _ _ _ c.in_ok-last.ensures.goes
+returns-clause-goes c = item_register c.args.tokens.now c.requires ∙ bind_ok _ _ _ c.in_ok-word.ensures.goes
+    ∙ bind_ok _ _ _ c.in_ok-range.ensures.goes ∙ bind_ok _ _ _ c.in_ok-name.ensures.goes ∙ bind_ok _ _ _ c.in_ok-last.ensures.goes

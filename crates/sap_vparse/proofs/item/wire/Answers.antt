@@ -22,8 +22,10 @@ returns-in_err-range-clause-goes c =
 
 pub returns-in_err-name-clause-goes : goal.returns-in_err-name-clause-goes
 returns-in_err-name-clause-goes c =
-    fault_goes_in_row s.item (s.name ∷ s.sign t.semicolon ∷ []) c.args.tokens.now c.range.new.tokens c.name_then.new.tokens _ c.in_err-name.field-0.0 c.from_residual-in_err-name.result (search rules)
+    fault_goes_in_row s.item (s.name ∷ s.sign t.semicolon ∷ []) c.args.tokens.now c.range.new.tokens c.name_then.new.tokens
+    _ c.in_err-name.field-0.0 c.from_residual-in_err-name.result (search rules)
     (wire_turns c.args.tokens.now c.requires ∙ bind_ok _ _ _ c.in_ok-word.ensures.goes ∙ bind_ok _ _ _ c.in_ok-range.ensures.goes) c.in_err-name.ensures.goes
 
 pub returns-clause-goes : goal.returns-clause-goes
-returns-clause-goes c = wire_turns c.args.tokens.now c.requires ∙ bind_ok _ _ _ c.in_ok-word.ensures.goes ∙ bind_ok _ _ _ c.in_ok-range.ensures.goes ∙ bind_ok _ _ _ c.in_ok-name.ensures.goes
+returns-clause-goes c = wire_turns c.args.tokens.now c.requires ∙ bind_ok _ _ _ c.in_ok-word.ensures.goes
+    ∙ bind_ok _ _ _ c.in_ok-range.ensures.goes ∙ bind_ok _ _ _ c.in_ok-name.ensures.goes

@@ -26,4 +26,5 @@ returns-in_err-name-clause-goes c =
     (port_input c.args.tokens.now c.requires ∙ bind_ok _ _ _ c.in_ok-word.ensures.goes ∙ bind_ok _ _ _ c.in_ok-range.ensures.goes) c.in_err-name.ensures.goes
 
 pub returns-clause-goes : goal.returns-clause-goes
-returns-clause-goes c = port_input c.args.tokens.now c.requires ∙ bind_ok _ _ _ c.in_ok-word.ensures.goes ∙ bind_ok _ _ _ c.in_ok-range.ensures.goes ∙ bind_ok _ _ _ c.in_ok-name.ensures.goes
+returns-clause-goes c = port_input c.args.tokens.now c.requires ∙ bind_ok _ _ _ c.in_ok-word.ensures.goes
+    ∙ bind_ok _ _ _ c.in_ok-range.ensures.goes ∙ bind_ok _ _ _ c.in_ok-name.ensures.goes

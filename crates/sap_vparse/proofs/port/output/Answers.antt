@@ -28,7 +28,9 @@ returns-in_err-range-clause-goes c =
 pub returns-in_err-name-clause-goes : goal.returns-in_err-name-clause-goes
 returns-in_err-name-clause-goes c =
     fault_goes s.port s.name c.args.tokens.now c.range.new.tokens c.name.new.self _ c.in_err-name.field-0.0 c.from_residual-in_err-name.result (search rules)
-    (port_output c.args.tokens.now c.requires ∙ bind_ok _ _ _ c.in_ok-word.ensures.goes ∙ bind_ok _ _ _ c.in_ok-direction.ensures.goes ∙ bind_ok _ _ _ c.in_ok-range.ensures.goes) c.in_err-name.ensures.goes
+    (port_output c.args.tokens.now c.requires ∙ bind_ok _ _ _ c.in_ok-word.ensures.goes ∙ bind_ok _ _ _ c.in_ok-direction.ensures.goes
+    ∙ bind_ok _ _ _ c.in_ok-range.ensures.goes) c.in_err-name.ensures.goes
 
 pub returns-clause-goes : goal.returns-clause-goes
-returns-clause-goes c = port_output c.args.tokens.now c.requires ∙ bind_ok _ _ _ c.in_ok-word.ensures.goes ∙ bind_ok _ _ _ c.in_ok-direction.ensures.goes ∙ bind_ok _ _ _ c.in_ok-range.ensures.goes ∙ bind_ok _ _ _ c.in_ok-name.ensures.goes
+returns-clause-goes c = port_output c.args.tokens.now c.requires ∙ bind_ok _ _ _ c.in_ok-word.ensures.goes
+    ∙ bind_ok _ _ _ c.in_ok-direction.ensures.goes ∙ bind_ok _ _ _ c.in_ok-range.ensures.goes ∙ bind_ok _ _ _ c.in_ok-name.ensures.goes

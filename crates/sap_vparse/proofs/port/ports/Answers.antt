@@ -14,7 +14,8 @@ use Rattle.sap_vparse.proofs.port.ports.Goals as goal
 
 pub ports-preserved : goal.ports-preserved
 ports-preserved c = record {
-  goes = c.ports.invariant.goes ∙ ports_more c.ports.tokens (c.ports-test.ensures.yes refl) ∙ bind_ok _ _ _ c.in_ok-sign.ensures.goes ∙ bind_ok _ _ _ c.in_ok-next.ensures.goes ∙ bind_pure _;
+  goes = c.ports.invariant.goes ∙ ports_more c.ports.tokens (c.ports-test.ensures.yes refl) ∙ bind_ok _ _ _ c.in_ok-sign.ensures.goes
+      ∙ bind_ok _ _ _ c.in_ok-next.ensures.goes ∙ bind_pure _;
   tree = λ ps m rest.
       subst (λ (xs : List item.Port). ArePorts c.args.tokens.now xs m) (pushed port_of c.ports.list.items c.in_ok-next.next c.push.new.self.items ps c.in_ok-push.ensures.items)
       (c.ports.invariant.tree (port_of c.in_ok-next.next ∷ ps) m (g.next_port c.in_ok-sign.ensures.tree c.in_ok-next.ensures.tree rest));
@@ -24,7 +25,8 @@ ports-preserved c = record {
 pub returns-clause-tree : goal.returns-clause-tree
 returns-clause-tree c = record {
   last = c.ports.tokens;
-  ports = subst (λ (xs : List item.Port). ArePorts c.args.tokens.now xs c.ports.tokens) (append-nil (ports_of c.ports.list.items)) (c.ports.invariant.tree [] c.ports.tokens g.no_port);
+  ports = subst (λ (xs : List item.Port). ArePorts c.args.tokens.now xs c.ports.tokens) (append-nil (ports_of c.ports.list.items))
+      (c.ports.invariant.tree [] c.ports.tokens g.no_port);
   close = c.in_ok-sign-2.ensures.tree;
 }
 

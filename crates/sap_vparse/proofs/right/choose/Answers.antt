@@ -17,13 +17,16 @@ returns-in_err-sign-clause-goes c =
 
 pub returns-in_err-yes-clause-goes : goal.returns-in_err-yes-clause-goes
 returns-in_err-yes-clause-goes c =
-    fault_goes_in_row s.after_operand (s.operand ∷ s.sign t.colon ∷ []) c.args.tokens.now c.sign.new.self c.operand_then.new.tokens _ c.in_err-yes.field-0.0 c.from_residual-in_err-yes.result (search rules)
+    fault_goes_in_row s.after_operand (s.operand ∷ s.sign t.colon ∷ []) c.args.tokens.now c.sign.new.self c.operand_then.new.tokens
+    _ c.in_err-yes.field-0.0 c.from_residual-in_err-yes.result (search rules)
     (choose_turns c.args.tokens.now c.requires ∙ bind_ok _ _ _ c.in_ok-sign.ensures.goes) c.in_err-yes.ensures.goes
 
 pub returns-in_err-no-clause-goes : goal.returns-in_err-no-clause-goes
 returns-in_err-no-clause-goes c =
-    fault_goes_in_row s.after_operand (s.operand ∷ s.sign t.semicolon ∷ []) c.args.tokens.now c.operand_then.new.tokens c.operand_then-2.new.tokens _ c.in_err-no.field-0.0 c.from_residual-in_err-no.result (search rules)
+    fault_goes_in_row s.after_operand (s.operand ∷ s.sign t.semicolon ∷ []) c.args.tokens.now c.operand_then.new.tokens
+    c.operand_then-2.new.tokens _ c.in_err-no.field-0.0 c.from_residual-in_err-no.result (search rules)
     (choose_turns c.args.tokens.now c.requires ∙ bind_ok _ _ _ c.in_ok-sign.ensures.goes ∙ bind_ok _ _ _ c.in_ok-yes.ensures.goes) c.in_err-no.ensures.goes
 
 pub returns-clause-goes : goal.returns-clause-goes
-returns-clause-goes c = choose_turns c.args.tokens.now c.requires ∙ bind_ok _ _ _ c.in_ok-sign.ensures.goes ∙ bind_ok _ _ _ c.in_ok-yes.ensures.goes ∙ bind_ok _ _ _ c.in_ok-no.ensures.goes
+returns-clause-goes c = choose_turns c.args.tokens.now c.requires ∙ bind_ok _ _ _ c.in_ok-sign.ensures.goes
+    ∙ bind_ok _ _ _ c.in_ok-yes.ensures.goes ∙ bind_ok _ _ _ c.in_ok-no.ensures.goes

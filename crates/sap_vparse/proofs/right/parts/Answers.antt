@@ -13,7 +13,8 @@ use Rattle.sap_vparse.proofs.right.parts.Goals as goal
 
 pub parts-preserved : goal.parts-preserved
 parts-preserved c = record {
-  goes = c.parts.invariant.goes ∙ parts_more c.parts.tokens (c.parts-test.ensures.yes refl) ∙ bind_ok _ _ _ c.in_ok-sign.ensures.goes ∙ bind_ok _ _ _ c.in_ok-next.ensures.goes ∙ bind_pure _;
+  goes = c.parts.invariant.goes ∙ parts_more c.parts.tokens (c.parts-test.ensures.yes refl) ∙ bind_ok _ _ _ c.in_ok-sign.ensures.goes
+      ∙ bind_ok _ _ _ c.in_ok-next.ensures.goes ∙ bind_pure _;
   tree = λ xs m rest.
       let h = c.parts.invariant.tree (operand_of c.in_ok-next.next.value ∷ xs) m (g.next_part c.in_ok-sign.ensures.tree c.in_ok-next.ensures.tree rest) in (
         h.0,
@@ -26,12 +27,20 @@ parts-preserved c = record {
 
 pub returns-clause-goes : goal.returns-clause-goes
 returns-clause-goes c =
-    ends_with s.parts (s.sign t.close_brace) c.args.tokens.now c.parts.tokens c.sign-2.new.self c.sign-2.result (c.parts.invariant.goes ∙ parts_end c.parts.tokens (c.parts-test.ensures.no refl)) c.sign-2.ensures.goes
+    ends_with s.parts (s.sign t.close_brace) c.args.tokens.now c.parts.tokens c.sign-2.new.self c.sign-2.result (c.parts.invariant.goes
+    ∙ parts_end c.parts.tokens (c.parts-test.ensures.no refl)) c.sign-2.ensures.goes
 
 pub returns-clause-tree : goal.returns-clause-tree
 returns-clause-tree c =
     let h = c.parts.invariant.tree [] c.parts.tokens g.no_part in
-    if_ok c.sign-2.result (λ _ close. record { last = c.parts.tokens; added = h.0; all = sym (append-nil (operands_of c.parts.list.items)) ∙ h.1; parts = h.2; close = close }) c.sign-2.ensures.tree
+    if_ok c.sign-2.result (λ _ close. record {
+      last = c.parts.tokens;
+      added = h.0;
+      all = sym (append-nil (operands_of c.parts.list.items))
+          ∙ h.1;
+      parts = h.2;
+      close = close;
+    }) c.sign-2.ensures.tree
 
 pub returns-in_err-sign-clause-goes : goal.returns-in_err-sign-clause-goes
 returns-in_err-sign-clause-goes c =

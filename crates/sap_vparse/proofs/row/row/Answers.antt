@@ -7,7 +7,8 @@ use Rattle.sap_vparse.proofs.row.row.Goals as goal
 
 pub returns-in_err-take-clause-goes : goal.returns-in_err-take-clause-goes
 returns-in_err-take-clause-goes c =
-    fault_goes_on (symbols_of c.args.row.now) _ c.args.tokens.now c.row.tokens c.take.new.tokens (reads_row (symbols_of (drop (c.row.token-index + 1) c.args.row.now))) c.in_err-take.field-0.0 c.from_residual.result
+    fault_goes_on (symbols_of c.args.row.now) _ c.args.tokens.now c.row.tokens c.take.new.tokens
+    (reads_row (symbols_of (drop (c.row.token-index + 1) c.args.row.now))) c.in_err-take.field-0.0 c.from_residual.result
     (search rules) (c.row.invariant.goes ∙ row_at c.args.row.now c.row.token-index _ c.row.tokens c.row-test.true) c.in_err-take.ensures.goes
 
 pub row-preserved : goal.row-preserved

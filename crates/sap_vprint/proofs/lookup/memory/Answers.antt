@@ -13,6 +13,7 @@ returns-in_err-i-clause-absent c =
 
 pub returns-clause-found : goal.returns-clause-found
 returns-clause-found c =
-    memory_at c.args.netlist.now c.rules.ensures c.memories-memories.result.now c.in_ok-i.i c.index-memories-i.result c.args.name.now c.memories-memories.ensures c.in_ok-i.ensures.found.0
+    memory_at c.args.netlist.now c.rules.ensures c.memories-memories.result.now c.in_ok-i.i c.index-memories-i.result c.args.name.now
+    c.memories-memories.ensures c.in_ok-i.ensures.found.0
     (c.in_ok-i.ensures.found.1 c.index-memories-i.result)
     ∙ ap (λ (m : Memory). Some (memory m.width m.depth)) (sym c.index-memories-i.is)

@@ -12,5 +12,6 @@ returns-in_err-i-clause-absent c =
 
 pub returns-clause-found : goal.returns-clause-found
 returns-clause-found c =
-    register_at c.args.netlist.now c.rules.ensures c.registers-registers.result.now c.in_ok-i.i c.index-registers-i.result c.args.name.now c.registers-registers.ensures c.in_ok-i.ensures.found.0
+    register_at c.args.netlist.now c.rules.ensures c.registers-registers.result.now c.in_ok-i.i c.index-registers-i.result c.args.name.now
+    c.registers-registers.ensures c.in_ok-i.ensures.found.0
     (c.in_ok-i.ensures.found.1 c.index-registers-i.result)

@@ -9,4 +9,5 @@ returns-then-n-text c = c.after.ensures.value ∙ ap (λ p. place_after p (take 
 
 pub returns-else-n-text : goal.returns-else-n-text
 unfolding place_at
-returns-else-n-text c = c.after-else-n-text.ensures.value ∙ ap (λ p. place_after p c.args.text.now) c.first-else-n-text.ensures ∙ ap (place_after first_place) (sym (take_all c.args.n c.args.text.now (c.if-n-text.false)))
+returns-else-n-text c = c.after-else-n-text.ensures.value ∙ ap (λ p. place_after p c.args.text.now) c.first-else-n-text.ensures
+    ∙ ap (place_after first_place) (sym (take_all c.args.n c.args.text.now (c.if-n-text.false)))

@@ -16,7 +16,8 @@ returns-in_err-place-clause-none c =
 pub returns-then-place-reached-clause-none : goal.returns-then-place-reached-clause-none
 returns-then-place-reached-clause-none c =
     let p = c.args.parts.now in
-    too_early c.args.variables.now (open_of c.args.reached.now) p.digits.now p.id.now c.in_ok-place.place c.in_ok-place.ensures.within c.in_ok-place.ensures.is c.if-place-reached.true
+    too_early c.args.variables.now (open_of c.args.reached.now) p.digits.now p.id.now c.in_ok-place.place c.in_ok-place.ensures.within
+    c.in_ok-place.ensures.is c.if-place-reached.true
 
 pub returns-then-parts-variables-clause-none : goal.returns-then-parts-variables-clause-none
 returns-then-parts-variables-clause-none c =

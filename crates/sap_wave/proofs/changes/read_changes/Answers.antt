@@ -23,7 +23,8 @@ changes-preserved c =
     record {
       read =
           λ bytes a.
-          change_goes bytes l.rest.now l.next xs (open_of l.reached) (open_of c.changed.new.reached) p.digits.now p.id.now p.number p.behind.now there done.right done.after (l.invariant.read bytes a);
+          change_goes bytes l.rest.now l.next xs (open_of l.reached) (open_of c.changed.new.reached) p.digits.now p.id.now p.number
+          p.behind.now there done.right done.after (l.invariant.read bytes a);
       sound =
           change_sound l.rest.now xs (open_of l.reached) (open_of c.changed.new.reached) p.digits.now p.id.now p.number p.behind.now there done.right done.after l.invariant.sound;
       shorter = omega (arith, less, l.invariant.shorter);

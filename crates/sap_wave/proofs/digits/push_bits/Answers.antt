@@ -9,7 +9,8 @@ use Rattle.sap_wave.proofs.digits.push_bits.Goals as goal
 pub returns-in_err-push-clause-full : goal.returns-in_err-push-clause-full
 returns-in_err-push-clause-full c =
     let size = bits_read_back.width c.args.width c.args.number in
-    let p : vec_capacity c.args.out.now < length c.args.out.now.items + length (bits c.args.width c.args.number) = omega (arith, size, c.if-width-eq1.true, c.in_err-push.ensures.full) in
+    let p : vec_capacity c.args.out.now < length c.args.out.now.items + length (bits c.args.width c.args.number) =
+    omega (arith, size, c.if-width-eq1.true, c.in_err-push.ensures.full) in
     on_err c.from_residual.result p
 
 pub returns-then-width-eq1-clause-text : goal.returns-then-width-eq1-clause-text

@@ -17,7 +17,8 @@ pub loop-start-preserved : goal.loop-start-preserved
 loop-start-preserved c =
     let l = c.loop-start in
     record {
-      text = four_more (digits_of 48 2 64 c.args.number) l.bytes c.write_four.new.bytes l.start l.left (omega (arith, c.loop-start-test.true, l.invariant.four)) l.invariant.text c.write_four.ensures;
+      text = four_more (digits_of 48 2 64 c.args.number) l.bytes c.write_four.new.bytes l.start l.left
+          (omega (arith, c.loop-start-test.true, l.invariant.four)) l.invariant.text c.write_four.ensures;
       within = omega (arith, l.invariant.within);
       four = omega (arith, l.invariant.four);
     }

@@ -13,7 +13,8 @@ returns-in_err-rest-in-InBlock-clause-fault c =
     let fault = c.in_err-rest-in-InBlock.field-0.0 in
     let here : state_of c.args.state ≡ in_block c.deref.result.now (open_of b) =
     ap state_of c.in-InBlock.is ∙ ap (λ (xs : List Variable). in_block xs (open_of b)) (sym c.deref.ensures.value) in
-    err_so (λ (f : WaveFault). (bytes : List ℕ) → ReadUpTo bytes c.args.text.now c.args.line (state_of c.args.state) → IsWaveFault bytes f) c.from_residual.result fault (search rules)
+    err_so (λ (f : WaveFault). (bytes : List ℕ) → ReadUpTo bytes c.args.text.now c.args.line (state_of c.args.state)
+    → IsWaveFault bytes f) c.from_residual.result fault (search rules)
     (λ bytes a. c.in_err-rest-in-InBlock.ensures.fault bytes (subst (ReadUpTo bytes c.args.text.now c.args.line) here a))
 
 pub returns-in_ok-rest-in-InBlock-clause-read : goal.returns-in_ok-rest-in-InBlock-clause-read

@@ -33,10 +33,12 @@ pub returns-in_default-clause-reading : goal.returns-in_default-clause-reading
 returns-in_default-clause-reading c =
     let r = c.in_ok-reached.reached in
     let read = c.in_ok-reached.ensures.read c.args.bytes.now c.lines.invariant.read in
-    (read_end_so c.args.bytes.now r.rest.text.now r.rest.line (state_of r.state) c.read_end.result read c.in_default.ensures.none c.read_end.ensures.cut_off c.read_end.ensures.reading c.read_end.ensures.fault).0
+    (read_end_so c.args.bytes.now r.rest.text.now r.rest.line (state_of r.state) c.read_end.result read c.in_default.ensures.none
+    c.read_end.ensures.cut_off c.read_end.ensures.reading c.read_end.ensures.fault).0
 
 pub returns-in_default-clause-fault : goal.returns-in_default-clause-fault
 returns-in_default-clause-fault c =
     let r = c.in_ok-reached.reached in
     let read = c.in_ok-reached.ensures.read c.args.bytes.now c.lines.invariant.read in
-    (read_end_so c.args.bytes.now r.rest.text.now r.rest.line (state_of r.state) c.read_end.result read c.in_default.ensures.none c.read_end.ensures.cut_off c.read_end.ensures.reading c.read_end.ensures.fault).1
+    (read_end_so c.args.bytes.now r.rest.text.now r.rest.line (state_of r.state) c.read_end.result read c.in_default.ensures.none
+    c.read_end.ensures.cut_off c.read_end.ensures.reading c.read_end.ensures.fault).1

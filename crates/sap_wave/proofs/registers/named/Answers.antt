@@ -4,7 +4,8 @@ use Rattle.sap_wave.proofs.registers.named.Goals as goal
 
 pub offset_bounds-registers-k : goal.offset_bounds-registers-k
 offset_bounds-registers-k c =
-    let l : c.in-Some.k < length c.args.registers.now = (is_at c.args.registers.now c.args.name.now c.in-Some.k (sym (c.requires.indexed c.args.name.now) ∙ sym c.at_name.ensures ∙ c.in-Some.is)).within in
+    let l : c.in-Some.k < length c.args.registers.now =
+    (is_at c.args.registers.now c.args.name.now c.in-Some.k (sym (c.requires.indexed c.args.name.now) ∙ sym c.at_name.ensures ∙ c.in-Some.is)).within in
     omega arith
 
 pub bounds-registers-k : goal.bounds-registers-k
@@ -15,7 +16,8 @@ unreachable-requires c = not_absent c.args.places.now c.args.registers.now c.arg
 
 pub returns-clause-named : goal.returns-clause-named
 returns-clause-named c =
-    (is_at c.args.registers.now c.args.name.now c.in-Some.k (sym (c.requires.indexed c.args.name.now) ∙ sym c.at_name.ensures ∙ c.in-Some.is)).named c.index-registers-k.result c.index-registers-k.is
+    (is_at c.args.registers.now c.args.name.now c.in-Some.k (sym (c.requires.indexed c.args.name.now) ∙ sym c.at_name.ensures
+    ∙ c.in-Some.is)).named c.index-registers-k.result c.index-registers-k.is
 
 pub returns-clause-there : goal.returns-clause-there
 returns-clause-there c = (

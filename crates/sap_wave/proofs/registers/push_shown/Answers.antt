@@ -11,7 +11,9 @@ returns-in_ok-push-in-Register-2-clause-variables c =
     let r = c.named-register.result.now in
     let there : StandsIn n.registers r = subst (λ (rs : List Register). StandsIn rs r) c.registers.ensures c.named-register.ensures.there in
     let named = c.named-register.ensures.named ∙ c.as_bytes.ensures in
-    variable_added n c.rules.ensures r there c.args.port.now c.in-Register.is named c.args.shown.now.variables.items c.push.new.self.items (c.in_ok-push-in-Register.ensures.items ∙ ap (λ (x : List ℕ). let v : Variable = record { name = x; width = r.width } in c.args.shown.now.variables.items ++ (v ∷ [])) c.in_ok-name-in-Register.ensures)
+    variable_added n c.rules.ensures r there c.args.port.now c.in-Register.is named c.args.shown.now.variables.items c.push.new.self.items
+    (c.in_ok-push-in-Register.ensures.items ∙ ap (λ (x : List ℕ). let v : Variable = record { name = x; width = r.width } in
+    c.args.shown.now.variables.items ++ (v ∷ [])) c.in_ok-name-in-Register.ensures)
 
 pub returns-in_ok-push-in-Register-2-clause-first : goal.returns-in_ok-push-in-Register-2-clause-first
 returns-in_ok-push-in-Register-2-clause-first c =
@@ -19,4 +21,5 @@ returns-in_ok-push-in-Register-2-clause-first c =
     let r = c.named-register.result.now in
     let there : StandsIn n.registers r = subst (λ (rs : List Register). StandsIn rs r) c.registers.ensures c.named-register.ensures.there in
     let named = c.named-register.ensures.named ∙ c.as_bytes.ensures in
-    first_added n c.rules.ensures r there c.args.port.now c.in-Register.is named c.args.shown.now.first.items c.push-in-Register.new.self.items c.in_ok-push-in-Register-2.ensures.items
+    first_added n c.rules.ensures r there c.args.port.now c.in-Register.is named c.args.shown.now.first.items
+    c.push-in-Register.new.self.items c.in_ok-push-in-Register-2.ensures.items

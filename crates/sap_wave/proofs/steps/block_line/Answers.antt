@@ -7,7 +7,8 @@ use Rattle.sap_wave.proofs.steps.block_line.Goals as goal
 
 pub returns-in-Some : goal.returns-in-Some
 returns-in-Some c =
-    form_read (in_block c.args.variables.items (open_of c.args.reached)) (block c.in-Some.digits.now) c.args.text.now c.next_block.result c.in-Some.ensures.some refl c.next_block.ensures
+    form_read (in_block c.args.variables.items (open_of c.args.reached)) (block c.in-Some.digits.now) c.args.text.now c.next_block.result
+    c.in-Some.ensures.some refl c.next_block.ensures
 
 pub returns-in-None : goal.returns-in-None
 returns-in-None c =

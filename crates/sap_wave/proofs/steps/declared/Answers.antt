@@ -31,6 +31,7 @@ pub returns : goal.returns
 returns c =
     let d = c.args.declaration.now in (
       subst (λ (xs : List Variable). IsVariable xs d.width.now d.id.now d.name.now) c.deref.ensures.value c.in-Some.ensures.variable,
-      declared_so c.args.variables.items c.push_variable.new.variables.items d.width.now d.id.now d.name.now c.in-Some.width c.in-Some.ensures.some c.in_ok-push_variable.ensures.variables,
+      declared_so c.args.variables.items c.push_variable.new.variables.items d.width.now d.id.now d.name.now c.in-Some.width
+          c.in-Some.ensures.some c.in_ok-push_variable.ensures.variables,
       c.in_ok-push_variable.ensures.indexed,
     )

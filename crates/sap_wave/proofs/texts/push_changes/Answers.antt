@@ -18,7 +18,9 @@ returns-in_err-push_set-clause-full c =
     let other : (get_or ms k 0 == get_or ns k 0) ≡ false = grind (arith, nat_tests) in
     let more = changes_more xs ms ns k c.index-variables-k.result c.loop-k-test.true c.requires.before c.requires.after c.index-variables-k.is other in
     let full : vec_capacity c.loop-k.out < length (c.args.out.now.items ++ changes_from xs ms ns 0) =
-    full_more c.loop-k.out.items (c.args.out.now.items ++ changes_from xs ms ns 0) (line (form_text (set_to k c.index-variables-k.result (get_or ns k 0)))) (changes_from xs ms ns (k + 1)) (changes_from xs ms ns k) (vec_capacity c.loop-k.out) c.loop-k.invariant.text more c.in_err-push_set.ensures.full in
+    full_more c.loop-k.out.items (c.args.out.now.items ++ changes_from xs ms ns 0)
+    (line (form_text (set_to k c.index-variables-k.result (get_or ns k 0)))) (changes_from xs ms ns (k + 1)) (changes_from xs ms ns k)
+    (vec_capacity c.loop-k.out) c.loop-k.invariant.text more c.in_err-push_set.ensures.full in
     let size = length-append c.args.out.now.items (changes_from xs ms ns 0) in
     let p : vec_capacity c.args.out.now < length c.args.out.now.items + length (text_of (changes 0 c.args.variables.now c.args.before.now c.args.after.now)) =
     omega (arith, full, size, c.loop-k.invariant.room) in
@@ -37,7 +39,9 @@ loop-k-preserved c =
           record {
             text =
                 ap (λ v. v.items ++ changes_from c.args.variables.now c.args.before.now c.args.after.now (c.loop-k.k + 1)) w.out-is
-                ∙ grows c.loop-k.out.items (c.args.out.now.items ++ changes_from xs ms ns 0) w.push_set.new.out.items (line (form_text (set_to k w.index-variables-k.result (get_or ns k 0)))) (changes_from xs ms ns (k + 1)) (changes_from xs ms ns k) c.loop-k.invariant.text more w.in_ok-push_set.ensures.text;
+                ∙ grows c.loop-k.out.items (c.args.out.now.items ++ changes_from xs ms ns 0) w.push_set.new.out.items
+                (line (form_text (set_to k w.index-variables-k.result (get_or ns k 0)))) (changes_from xs ms ns (k + 1))
+                (changes_from xs ms ns k) c.loop-k.invariant.text more w.in_ok-push_set.ensures.text;
             room =
                 let e : vec_capacity c.if-before-k.out ≡ vec_capacity w.push_set.new.out = ap (λ v. vec_capacity v) w.out-is in
                 omega (arith, e, c.loop-k.invariant.room, w.in_ok-push_set.ensures.room);

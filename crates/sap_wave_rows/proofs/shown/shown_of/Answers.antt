@@ -24,7 +24,8 @@ loop-variable-preserved c =
       names =
           c.in_ok-push_shown.ensures.names
           ∙ ap (λ (xs : List Name). xs ++ more) c.loop-variable.invariant.names
-          ∙ sym (ap (shown_among c.args.tag ws) (mapped_more (λ (x : Variable). x.name) vs k v c.loop-variable-test.true c.variable-item.is) ∙ shown_push c.args.tag ws (names_of (take k vs)) v.name);
+          ∙ sym (ap (shown_among c.args.tag ws) (mapped_more (λ (x : Variable). x.name) vs k v c.loop-variable-test.true c.variable-item.is)
+          ∙ shown_push c.args.tag ws (names_of (take k vs)) v.name);
       values =
           c.in_ok-push_shown.ensures.values
           ∙ ap (λ (ks : List ℕ). ks ++ value_places vs more) c.loop-variable.invariant.values

@@ -28,5 +28,6 @@ returns c =
     let new = c.step.new.self in
     let adds : AddsBlock new.runner c.args.dumper.now c.write_block_at.new.self
     = subst (λ (r : Running). AddsBlock r c.args.dumper.now c.write_block_at.new.self) c.runner.ensures c.write_block_at.ensures.block in
-    block_more c.args.lattice.now c.args.simulation.now new c.args.dumper.now c.write_block_at.new.self c.args.places.now c.args.line.now c.step.ensures.next c.step.ensures.netlist c.step.ensures.planned
+    block_more c.args.lattice.now c.args.simulation.now new c.args.dumper.now c.write_block_at.new.self c.args.places.now c.args.line.now
+    c.step.ensures.next c.step.ensures.netlist c.step.ensures.planned
     c.step.ensures.fields adds c.write_block_at.ensures.variables c.write_block_at.ensures.count

@@ -15,19 +15,22 @@ use Rattle.sap_wave_run.proofs.writing.write_run.Given.{Over}
 use Rattle.sap_wave_run.proofs.writing.write_run.Goals.{After-new-cycles}
 
 -- the netlist's run on the stream
-the_run : (g : Over) (c : After-new-cycles g) → (run : List Valuation) × IsRunOn c.args.recording.simulation.runner.net (numbers_of c.args.lattice.now c.args.recording.simulation.runner.net) c.args.stream.now run
+the_run : (g : Over) (c : After-new-cycles g) → (run : List Valuation)
+    × IsRunOn c.args.recording.simulation.runner.net (numbers_of c.args.lattice.now c.args.recording.simulation.runner.net) c.args.stream.now run
 the_run g c =
     let n = c.args.recording.simulation.runner.net in
     some_run c.args.lattice.now c.args.recording c.args.stream.now c.requires.ready c.requires.fits c.lawful.ensures.codes
     (subst IsNetlist c.netlist-2.ensures c.rules.ensures) (subst SomeRun c.netlist.ensures c.one_run.ensures.some)
 
 -- the blocks of its cycles are to come
-to_come : (g : Over) (c : After-new-cycles g) → IsToCome c.args.lattice.now c.args.recording.simulation c.args.recording.dumper c.args.recording.places.items (cycles_ahead c.new-cycles.result)
+to_come : (g : Over) (c : After-new-cycles g)
+    → IsToCome c.args.lattice.now c.args.recording.simulation c.args.recording.dumper c.args.recording.places.items (cycles_ahead c.new-cycles.result)
     (blocks_text c.args.recording.simulation.runner.net (the_run g c).0)
 to_come g c =
     let few : length c.args.stream.now ≤ 2 ^ 48 = omega (arith, c.cycles.ensures.few) in
     let ahead : c.args.stream.now ≡ cycles_ahead c.new-cycles.result = sym (c.new-cycles.ensures ∙ c.spans.ensures) in
-    subst (λ (lines : List (List Given)). IsToCome c.args.lattice.now c.args.recording.simulation c.args.recording.dumper c.args.recording.places.items lines (blocks_text c.args.recording.simulation.runner.net (the_run g c).0)) ahead
+    subst (λ (lines : List (List Given)). IsToCome c.args.lattice.now c.args.recording.simulation c.args.recording.dumper
+    c.args.recording.places.items lines (blocks_text c.args.recording.simulation.runner.net (the_run g c).0)) ahead
     (comes c.args.lattice.now c.args.recording c.args.stream.now c.requires.ready c.requires.fits (the_run g c).0 (the_run g c).1 few)
 
 pub write_pieces-requires-clause-stands : goal.write_pieces-requires-clause-stands

@@ -23,11 +23,13 @@ returns-in_err-entity c =
 
 pub entity-requires : goal.entity-requires
 entity-requires c =
-    number_of-within (get_or c.args.around.now.parts.now c.in_ok-part.part c.index-around-part.result).names.now c.in_ok-part_name.entity_name.now c.in_ok-entity.entity c.in_ok-entity.ensures
+    number_of-within (get_or c.args.around.now.parts.now c.in_ok-part.part c.index-around-part.result).names.now
+    c.in_ok-part_name.entity_name.now c.in_ok-entity.entity c.in_ok-entity.ensures
 
 pub returns : goal.returns
 returns c =
     let found = part_found c.args.around.now.parts.now c.as_bytes.result.now c.in_ok-part.part c.index-around-part.result c.in_ok-part.ensures in
     numbered (seen c.args.around.now) c.args.text.now (c.in_ok-part_name.part_name, c.in_ok-part_name.entity_name) c.in_ok-part_name.ensures.cases c.in_ok-part.part
-    (named_part (get_or c.args.around.now.parts.now c.in_ok-part.part c.index-around-part.result)) found.0 (found.1 ∙ c.as_bytes.ensures.value) c.in_ok-entity.entity c.in_ok-entity.ensures
+    (named_part (get_or c.args.around.now.parts.now c.in_ok-part.part c.index-around-part.result)) found.0 (found.1
+    ∙ c.as_bytes.ensures.value) c.in_ok-entity.entity c.in_ok-entity.ensures
     c.entity.result.now c.entity.ensures c.new.result c.new.ensures.part c.new.ensures.entity

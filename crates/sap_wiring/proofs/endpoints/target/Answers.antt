@@ -9,5 +9,6 @@ returns-in_err-endpoint c = none_is _ _ _ c.from_residual.ensures (λ i e n.
 
 pub returns-in_default : goal.returns-in_default
 returns-in_default c = λ i e n.
-    other_kind (seen c.args.around.now) c.requires c.as_str.result.now c.args.text.now.to c.as_str.ensures c.in_ok-endpoint.declared c.in_ok-endpoint.endpoint c.in_ok-endpoint.ensures i e (Input n)
+    other_kind (seen c.args.around.now) c.requires c.as_str.result.now c.args.text.now.to c.as_str.ensures c.in_ok-endpoint.declared
+    c.in_ok-endpoint.endpoint c.in_ok-endpoint.ensures i e (Input n)
     (c.in_default.not-Input n)

@@ -39,7 +39,8 @@ returns-then-register-input-clause-broken c =
     let k = c.args.k in
     let t = c.index-texts-k.result in
     let g : rules.Given u texts k t = record { named = c.requires.named; here = slice_get_read texts (length texts) k t refl c.requires.within c.index-texts-k.is } in
-    rules.is_k8 u texts k t g c.in-Some.register.endpoint c.in-Some-target.input.endpoint c.in-Some.register.width c.in-Some-target.input.width c.in-Some.ensures c.in-Some-target.ensures c.if-register-input.true
+    rules.is_k8 u texts k t g c.in-Some.register.endpoint c.in-Some-target.input.endpoint c.in-Some.register.width
+    c.in-Some-target.input.width c.in-Some.ensures c.in-Some-target.ensures c.if-register-input.true
 
 pub returns-then-register-input-clause-first : goal.returns-then-register-input-clause-first
 returns-then-register-input-clause-first c =
@@ -71,7 +72,8 @@ returns-in_default-level_of-clause-first c =
     rules.below_k9 u texts k t g (rules.no_k5 u texts k t g c.in-Some.register.endpoint c.in-Some.register.width c.in-Some.ensures)
     (rules.no_k6 u texts k t g c.in-Some-target.input.endpoint c.in-Some-target.input.width c.in-Some-target.ensures)
     (rules.no_k7 u texts k t g (sym (c.requires.fed t g.here) ∙ c.if-is_fed.false))
-    (rules.no_k8 u texts k t g c.in-Some.register.endpoint c.in-Some-target.input.endpoint c.in-Some.register.width c.in-Some-target.input.width c.in-Some.ensures c.in-Some-target.ensures c.if-register-input.false)
+    (rules.no_k8 u texts k t g c.in-Some.register.endpoint c.in-Some-target.input.endpoint c.in-Some.register.width
+    c.in-Some-target.input.width c.in-Some.ensures c.in-Some-target.ensures c.if-register-input.false)
 
 pub returns-clause-wire : goal.returns-clause-wire
 returns-clause-wire c =
@@ -80,7 +82,8 @@ returns-clause-wire c =
     let k = c.args.k in
     let t = c.index-texts-k.result in
     let g : rules.Given u texts k t = record { named = c.requires.named; here = slice_get_read texts (length texts) k t refl c.requires.within c.index-texts-k.is } in
-    rules.wire_is u texts k t g c.new.result c.in-Some.register.endpoint c.in-Some-target.input.endpoint c.in-Some-level_of.level c.in-Some.register.width c.in-Some-target.input.width c.in-Some.ensures c.in-Some-target.ensures c.if-register-input.false
+    rules.wire_is u texts k t g c.new.result c.in-Some.register.endpoint c.in-Some-target.input.endpoint c.in-Some-level_of.level
+    c.in-Some.register.width c.in-Some-target.input.width c.in-Some.ensures c.in-Some-target.ensures c.if-register-input.false
     c.in-Some-level_of.ensures c.new.ensures.from c.new.ensures.to c.new.ensures.level
 
 pub returns-clause-kept : goal.returns-clause-kept
@@ -93,5 +96,6 @@ returns-clause-kept c =
     rules.none_stands u texts k t g (rules.no_k5 u texts k t g c.in-Some.register.endpoint c.in-Some.register.width c.in-Some.ensures)
     (rules.no_k6 u texts k t g c.in-Some-target.input.endpoint c.in-Some-target.input.width c.in-Some-target.ensures)
     (rules.no_k7 u texts k t g (sym (c.requires.fed t g.here) ∙ c.if-is_fed.false))
-    (rules.no_k8 u texts k t g c.in-Some.register.endpoint c.in-Some-target.input.endpoint c.in-Some.register.width c.in-Some-target.input.width c.in-Some.ensures c.in-Some-target.ensures c.if-register-input.false)
+    (rules.no_k8 u texts k t g c.in-Some.register.endpoint c.in-Some-target.input.endpoint c.in-Some.register.width
+    c.in-Some-target.input.width c.in-Some.ensures c.in-Some-target.ensures c.if-register-input.false)
     (rules.no_k9 u texts k t g c.in-Some-level_of.level c.in-Some-level_of.ensures)

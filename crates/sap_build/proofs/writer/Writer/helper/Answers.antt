@@ -16,8 +16,11 @@ invariant_of-self-2 c =
     let copied : c.in_ok-copy.field-0 ≡ helper k = search rules in
     let names : c.add.new.self ≡ m.names ++ c.in_ok-copy.field-0 ∷ [] = search rules in
     let all : AreTaken (m.module_name ∷ (m.names ++ helper k ∷ [])) (k + 1) = next_taken (m.module_name ∷ m.names) k below in
-    let same : c.add.new.self ≡ m.names ++ helper k ∷ [] = names ∙ ap (λ (x : Name). m.names ++ x ∷ []) copied in
-    (omega (arith, next.0), subst (λ (xs : List Name). AreTaken (m.module_name ∷ xs) c.in_ok-next.next) (sym same) (subst (AreTaken (m.module_name ∷ (m.names ++ helper k ∷ []))) (sym next.0) all))
+    let same : c.add.new.self ≡ m.names ++ helper k ∷ [] = names ∙ ap (λ (x : Name). m.names ++ x ∷ []) copied in (
+      omega (arith, next.0),
+      subst (λ (xs : List Name). AreTaken (m.module_name ∷ xs) c.in_ok-next.next) (sym same)
+          (subst (AreTaken (m.module_name ∷ (m.names ++ helper k ∷ []))) (sym next.0) all),
+    )
 
 pub returns-clause-fresh : goal.returns-clause-fresh
 returns-clause-fresh c =

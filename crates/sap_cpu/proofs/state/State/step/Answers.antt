@@ -52,7 +52,8 @@ pub returns-in_default : goal.returns-in_default
 returns-in_default c =
     let o : ℕ = c.word-word.result / 256 in
     let known : get_or operations o nop ≡ nop =
-    no_row o (λ e. absurd (omega arith)) (λ e. absurd (omega arith)) (λ e. absurd (omega arith)) (λ e. absurd (omega arith)) (λ e. absurd (omega arith)) (λ e. absurd (omega arith)) (λ e. absurd (omega arith)) (λ e. absurd (omega arith)) in
+    no_row o (λ e. absurd (omega arith)) (λ e. absurd (omega arith)) (λ e. absurd (omega arith)) (λ e. absurd (omega arith))
+    (λ e. absurd (omega arith)) (λ e. absurd (omega arith)) (λ e. absurd (omega arith)) (λ e. absurd (omega arith)) in
     c.go_on-in_default.ensures
     ∙ sym (stepped (user_state c.args.self.now) c.word-word.result o c.word-word.ensures refl
     ∙ ap (λ r. does_row r (c.word-word.result % 256) (c.word-word.result % 256 % 16) (user_state c.args.self.now)) known)

@@ -19,7 +19,8 @@ turn-requires-clause-can c =
     let inputs = c.args.inputs.now in
     let fit : InputsFit n.inputs inputs = subst (λ (r : Running). InputsFit r.net.inputs inputs) (sym c.self.view_is) c.requires in
     let cycle = c.one_cycle.ensures.some i.shown.0 inputs i.shown.1 fit in
-    let t = turn_is n i.rules c.self.inside.program i.program i.shown.0 inputs c.self.inside.values.items c.self.inside.cells.items cycle.0 i.shown.2.values i.shown.2.cells cycle.1 in
+    let t = turn_is n i.rules c.self.inside.program i.program i.shown.0 inputs c.self.inside.values.items c.self.inside.cells.items cycle.0
+    i.shown.2.values i.shown.2.cells cycle.1 in
     rw (c.deref_mut.ensures.value, c.deref_mut-2.ensures.value) t.can
 
 pub invariant_of-self : goal.invariant_of-self
@@ -32,7 +33,8 @@ invariant_of-self c =
     let fit : InputsFit n.inputs inputs = subst (λ (r : Running). InputsFit r.net.inputs inputs) (sym c.self.view_is) c.requires in
     let cycle = c.one_cycle.ensures.some i.shown.0 inputs i.shown.1 fit in
     let t = turn_is n i.rules c.self.inside.program i.program i.shown.0 inputs values cells cycle.0 i.shown.2.values i.shown.2.cells cycle.1 in
-    let ev : c.turn.new.values ≡ values_turned c.self.inside.program inputs values cells = c.turn.ensures.values ∙ rw (c.deref_mut.ensures.value, c.deref_mut-2.ensures.value) refl in
+    let ev : c.turn.new.values ≡ values_turned c.self.inside.program inputs values cells =
+    c.turn.ensures.values ∙ rw (c.deref_mut.ensures.value, c.deref_mut-2.ensures.value) refl in
     let ec : c.turn.new.cells ≡ cells_turned c.self.inside.program inputs values cells = c.turn.ensures.cells ∙ rw (c.deref_mut.ensures.value, c.deref_mut-2.ensures.value) refl in
     let bv : take c.self.inside.values.len (c.turn.new.values ++ drop (length c.turn.new.values) values) ≡ c.turn.new.values = whole_back _ _ _ (search rules) (search rules) in
     let bc : take c.self.inside.cells.len (c.turn.new.cells ++ drop (length c.turn.new.cells) cells) ≡ c.turn.new.cells = whole_back _ _ _ (search rules) (search rules) in
@@ -62,7 +64,8 @@ returns-clause-next c = λ before v shows cycle.
     let shows' : Shows here before = subst (λ (r : Running). Shows r before) (sym c.self.view_is) shows in
     let cycle' : IsCycle n before inputs v = subst (λ (r : Running). IsCycle r.net before inputs v) (sym c.self.view_is) cycle in
     let t = turn_is n i.rules c.self.inside.program i.program before inputs values cells v shows'.values shows'.cells cycle' in
-    let ev : c.turn.new.values ≡ values_turned c.self.inside.program inputs values cells = c.turn.ensures.values ∙ rw (c.deref_mut.ensures.value, c.deref_mut-2.ensures.value) refl in
+    let ev : c.turn.new.values ≡ values_turned c.self.inside.program inputs values cells =
+    c.turn.ensures.values ∙ rw (c.deref_mut.ensures.value, c.deref_mut-2.ensures.value) refl in
     let ec : c.turn.new.cells ≡ cells_turned c.self.inside.program inputs values cells = c.turn.ensures.cells ∙ rw (c.deref_mut.ensures.value, c.deref_mut-2.ensures.value) refl in
     let bv : take c.self.inside.values.len (c.turn.new.values ++ drop (length c.turn.new.values) values) ≡ c.turn.new.values = whole_back _ _ _ (search rules) (search rules) in
     let bc : take c.self.inside.cells.len (c.turn.new.cells ++ drop (length c.turn.new.cells) cells) ≡ c.turn.new.cells = whole_back _ _ _ (search rules) (search rules) in

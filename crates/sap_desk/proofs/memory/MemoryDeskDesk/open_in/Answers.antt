@@ -9,10 +9,12 @@ invariant_of-self-then-due c = record { blame_stands = c.fail_file.ensures.stand
 
 pub returns-in_err-open_reader-clause-memory : goal.returns-in_err-open_reader-clause-memory
 returns-in_err-open_reader-clause-memory c = λ _.
-    stepped c.args.self.now.store c.open_reader.new.self c.args.self.now.failures.blame (λ t. t) c.args.self.now.blame_stands c.open_reader.ensures.names c.in_err-open_reader.ensures.err.told
+    stepped c.args.self.now.store c.open_reader.new.self c.args.self.now.failures.blame (λ t. t) c.args.self.now.blame_stands
+    c.open_reader.ensures.names c.in_err-open_reader.ensures.err.told
 
 pub returns-clause-told : goal.returns-clause-told
 returns-clause-told c =
     let name : string_bytes c.in_ok-copy.copy ≡ c.args.name.now = search rules in
-    let told = stepped c.args.self.now.store c.open_reader.new.self c.args.self.now.failures.blame (opened c.in_ok-open_reader.field-0 (string_bytes c.in_ok-copy.copy)) c.args.self.now.blame_stands c.open_reader.ensures.names c.in_ok-open_reader.ensures.told in
+    let told = stepped c.args.self.now.store c.open_reader.new.self c.args.self.now.failures.blame
+    (opened c.in_ok-open_reader.field-0 (string_bytes c.in_ok-copy.copy)) c.args.self.now.blame_stands c.open_reader.ensures.names c.in_ok-open_reader.ensures.told in
     rw name at told

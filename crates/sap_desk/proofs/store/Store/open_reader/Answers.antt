@@ -6,7 +6,8 @@ use Rattle.sap_desk.proofs.store.Store.open_reader.Goals as goal
 pub invariant_of-self : goal.invariant_of-self
 invariant_of-self c =
     record {
-      stands = stands_reader c.args.self.now.room c.args.self.now.files.items c.args.self.now.channels.items c.push.new.self.items c.in_ok-channel.channel (string_bytes c.args.name)
+      stands = stands_reader c.args.self.now.room c.args.self.now.files.items c.args.self.now.channels.items c.push.new.self.items
+          c.in_ok-channel.channel (string_bytes c.args.name)
           (is_ok c.push.result) c.push.ensures.items c.in_ok-channel.ensures.written c.in_ok-channel.ensures.given c.in_ok-channel.ensures.use_at c.args.self.now.stands;
     }
 
@@ -26,7 +27,8 @@ pub returns-clause-given : goal.returns-clause-given
 returns-clause-given c =
     let number : c.len-k.result ≡ length c.args.self.now.channels.items = search rules in
     let items : c.push.new.self.items ≡ c.args.self.now.channels.items ++ c.in_ok-channel.channel ∷ [] = search rules in
-    given_more c.args.self.now.channels.items c.push.new.self.items c.in_ok-channel.channel items c.in_ok-channel.ensures.written c.in_ok-channel.ensures.given c.len-k.result number
+    given_more c.args.self.now.channels.items c.push.new.self.items c.in_ok-channel.channel items c.in_ok-channel.ensures.written
+    c.in_ok-channel.ensures.given c.len-k.result number
 
 pub returns-clause-names : goal.returns-clause-names
 returns-clause-names c =

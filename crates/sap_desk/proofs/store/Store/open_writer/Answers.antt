@@ -9,7 +9,8 @@ pub invariant_of-self-2 : goal.invariant_of-self-2
 invariant_of-self-2 c =
     let items : c.push.new.self.items ≡ c.args.self.now.channels.items ++ c.in_ok-channel.channel ∷ [] = search rules in
     let bears : string_bytes c.in_ok-empty.empty.name ≡ string_bytes c.args.name = search rules in
-    let fits : claims c.args.self.now.room (string_bytes c.args.name) c.args.self.now.channels.items + c.args.self.now.room ≤ vec_capacity c.in_ok-empty.empty.bytes = search rules in
+    let fits : claims c.args.self.now.room (string_bytes c.args.name) c.args.self.now.channels.items + c.args.self.now.room
+    ≤ vec_capacity c.in_ok-empty.empty.bytes = search rules in
     let P : List ℕ → Type 0 = λ n. claims c.args.self.now.room n c.args.self.now.channels.items + c.args.self.now.room ≤ vec_capacity c.in_ok-empty.empty.bytes in
     record {
       stands = stands_created c.args.self.now.channels.items c.push.new.self.items c.in_ok-channel.channel items c.in_ok-channel.ensures.written c.in_ok-channel.ensures.given
@@ -35,7 +36,8 @@ pub returns-clause-given : goal.returns-clause-given
 returns-clause-given c =
     let number : c.len-k.result ≡ length c.args.self.now.channels.items = search rules in
     let items : c.push.new.self.items ≡ c.args.self.now.channels.items ++ c.in_ok-channel.channel ∷ [] = search rules in
-    given_still c.args.self.now.channels.items c.push.new.self.items c.in_ok-channel.channel items c.in_ok-channel.ensures.written c.in_ok-channel.ensures.given c.len-k.result number
+    given_still c.args.self.now.channels.items c.push.new.self.items c.in_ok-channel.channel items c.in_ok-channel.ensures.written
+    c.in_ok-channel.ensures.given c.len-k.result number
 
 pub returns-clause-names : goal.returns-clause-names
 returns-clause-names c =

@@ -5,13 +5,17 @@ use Rattle.sap_desk.proofs.Told.{told_moved, given_moved, names_moved, stands_mo
 use Rattle.sap_desk.proofs.store.Store.read.Goals as goal
 
 pub invariant_of-self-2 : goal.invariant_of-self-2
-invariant_of-self-2 c = record { stands = stands_moved c.args.k c.in_ok-position.position c.in_ok-position.count _ _ c.advance.ensures c.args.self.now.room c.args.self.now.files.items c.args.self.now.stands }
+invariant_of-self-2 c = record {
+  stands =
+      stands_moved c.args.k c.in_ok-position.position c.in_ok-position.count _ _ c.advance.ensures c.args.self.now.room c.args.self.now.files.items c.args.self.now.stands;
+}
 
 pub returns-clause-within : goal.returns-clause-within
 returns-clause-within c = omega (arith, c.in_ok-position.ensures.most 0 [])
 
 pub returns-clause-told : goal.returns-clause-told
-returns-clause-told c = λ blame. told_moved c.args.k c.in_ok-position.position c.in_ok-position.count _ _ c.advance.ensures c.args.self.now.files.items c.args.self.now.room blame _ refl c.in_ok-position.ensures.reads
+returns-clause-told c = λ blame. told_moved c.args.k c.in_ok-position.position c.in_ok-position.count _ _ c.advance.ensures
+    c.args.self.now.files.items c.args.self.now.room blame _ refl c.in_ok-position.ensures.reads
 
 pub returns-clause-given : goal.returns-clause-given
 returns-clause-given c = given_moved c.args.k c.in_ok-position.position c.in_ok-position.count _ _ c.advance.ensures

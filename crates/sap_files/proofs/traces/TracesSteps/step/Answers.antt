@@ -24,13 +24,15 @@ returns-clause-shows c = λ lines text h is shown.
     let same = (c.lines_into.ensures.after _ c.requires.stands.0 c.requires.stands.1).net in
     let row : HasLinesMore ls d n (lines ++ c.args.line.now ∷ []) (length lines + 1) [] c.lines_into.new.out.bytes
     = subst (λ (k : ℕ). HasLinesMore ls d n (lines ++ c.args.line.now ∷ []) k [] c.lines_into.new.out.bytes) is
-    (subst (λ (old : List ℕ). HasLinesMore ls d n (lines ++ c.args.line.now ∷ []) c.args.cycle old c.lines_into.new.out.bytes) c.requires.empty (c.lines_into.ensures.lines n lines h)) in
+    (subst (λ (old : List ℕ). HasLinesMore ls d n (lines ++ c.args.line.now ∷ []) c.args.cycle old c.lines_into.new.out.bytes)
+    c.requires.empty (c.lines_into.ensures.lines n lines h)) in
     subst (λ (m : Net). AreLines ls d m (lines ++ c.args.line.now ∷ []) (text ++ c.lines_into.new.out.bytes)) (sym same)
     (c.lines_add_up.ensures.goes_on lines c.args.line.now text c.lines_into.new.out.bytes shown row)
 
 pub returns-clause-same_shows : goal.returns-clause-same_shows
 returns-clause-same_shows c = λ lines text h.
-    subst (λ (m : Net). AreLines (levels_in c.args.self.now.checked.now) (tree_in c.args.self.now.checked.now) m lines text) (c.lines_into.ensures.after _ c.requires.stands.0 c.requires.stands.1).net h
+    subst (λ (m : Net). AreLines (levels_in c.args.self.now.checked.now) (tree_in c.args.self.now.checked.now) m lines text)
+    (c.lines_into.ensures.after _ c.requires.stands.0 c.requires.stands.1).net h
 
 pub lines_add_up-requires : goal.lines_add_up-requires
 lines_add_up-requires c = c.requires.stands.1.planned

@@ -10,7 +10,8 @@ returns-in-Some-get c =
     let at : c.args.point ≡ suc (c.args.point - 1) = omega arith in
     hung c.deref-in-Some.result.now c.deref.result.now c.args.self.now c.args.point (c.args.point - 1) c.args.entity
     (ap₂ (λ (f : List ℕ) (r : List Set). rows_of f r) c.deref-in-Some.ensures.value c.deref.ensures.value ∙ ap (λ (t : Table). t.points) c.self.view_is) at
-    c.in-Some.row.now c.in-Some-get.number.now c.has.result c.in-Some.ensures.lookup.0 c.in-Some.ensures.lookup.1 c.in-Some-get.ensures.lookup.0 c.in-Some-get.ensures.lookup.1 c.has.ensures
+    c.in-Some.row.now c.in-Some-get.number.now c.has.result c.in-Some.ensures.lookup.0 c.in-Some.ensures.lookup.1
+    c.in-Some-get.ensures.lookup.0 c.in-Some-get.ensures.lookup.1 c.has.ensures
 
 pub returns-in-None-get : goal.returns-in-None-get
 returns-in-None-get c =

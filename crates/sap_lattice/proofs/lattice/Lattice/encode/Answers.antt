@@ -63,7 +63,9 @@ overflow_cast-top c =
     omega arith
 
 -- the parts are those of a lattice, and its order is the one that was passed
-kept : (c : After-new-2) → c.len.result ≡ length c.as_slice.result.now → c.unwrap_or-top.result ≡ (order_in c.args.order.now).top → IsKept (levels_of c.in_ok-names.names.items c.in_ok-codes.codes.items) c.in_ok-codes.codes.items c.len.result c.new.result c.new-2.result × (order_of (levels_of c.in_ok-names.names.items c.in_ok-codes.codes.items) ≡ order_in c.args.order.now)
+kept : (c : After-new-2) → c.len.result ≡ length c.as_slice.result.now → c.unwrap_or-top.result ≡ (order_in c.args.order.now).top
+    → IsKept (levels_of c.in_ok-names.names.items c.in_ok-codes.codes.items) c.in_ok-codes.codes.items c.len.result c.new.result c.new-2.result
+    × (order_of (levels_of c.in_ok-names.names.items c.in_ok-codes.codes.items) ≡ order_in c.args.order.now)
 kept c width top =
     let o : Order = order_in c.args.order.now in
     let n : ℕ = length c.args.order.now in

@@ -9,16 +9,20 @@ use Rattle.sap_lines.proofs.lines.Lines.next.Goals as goal
 
 pub returns-in-Ok-clause-lines : goal.returns-in-Ok-clause-lines
 returns-in-Ok-clause-lines g c =
-    next_told c.args.lattice.now c.as_slice.result.now c.self.inside.fields.items c.args.channel c.self.inside.count c.keep.new.count c.self.inside.held c.fetch.new.held c.take_line-next.new.held
-    c.self.inside.line c.take_line-next.new.line c.self.inside.live c.keep.new.live c.take_line-next.result _ _ _ _ c.args.self.now c.self.view_is c.as_slice.ensures.value c.keep.ensures.count
+    next_told c.args.lattice.now c.as_slice.result.now c.self.inside.fields.items c.args.channel c.self.inside.count c.keep.new.count
+    c.self.inside.held c.fetch.new.held c.take_line-next.new.held
+    c.self.inside.line c.take_line-next.new.line c.self.inside.live c.keep.new.live c.take_line-next.result _ _ _ _ c.args.self.now
+    c.self.view_is c.as_slice.ensures.value c.keep.ensures.count
     c.in-Ok.ensures.more c.in-Ok.ensures.decided c.take_line-next.ensures.tells
 
 pub returns-in-Ok-clause-some : goal.returns-in-Ok-clause-some
 returns-in-Ok-clause-some g c = λ small.
     let behind = c.fetch.ensures.behind in (
       behind.0,
-      next_by c.args.lattice.now c.as_slice.result.now c.self.inside.fields.items c.self.inside.count c.keep.new.count c.self.inside.held behind.0 c.fetch.new.held c.take_line-next.new.held
-          c.self.inside.line c.take_line-next.new.line c.self.inside.live c.keep.new.live c.take_line-next.result c.args.self.now c.self.view_is c.as_slice.ensures.value c.keep.ensures.count
+      next_by c.args.lattice.now c.as_slice.result.now c.self.inside.fields.items c.self.inside.count c.keep.new.count c.self.inside.held
+          behind.0 c.fetch.new.held c.take_line-next.new.held
+          c.self.inside.line c.take_line-next.new.line c.self.inside.live c.keep.new.live c.take_line-next.result c.args.self.now
+          c.self.view_is c.as_slice.ensures.value c.keep.ensures.count
           behind.1 c.take_line-next.ensures.decided c.take_line-next.ensures.tells small,
     )
 
@@ -31,8 +35,10 @@ returns-in-Ok-clause-by g c = λ small.
     = subst (λ (n : ℕ). IfSome told (λ t. c.fetch.new.held ≡ c.self.inside.held ++ take n (rest_of t c.args.channel)))
     (sym (read_count c.args.channel more.count (g.D.Desk.given c.args.desk.now) (g.D.Desk.given c.fetch.new.desk) more.given))
     (held_so c.args.channel more.count c.self.inside.held c.fetch.new.held told more.size more.bytes) in
-    next_read c.args.lattice.now c.as_slice.result.now c.self.inside.fields.items c.args.channel read c.self.inside.count c.keep.new.count c.self.inside.held c.fetch.new.held c.take_line-next.new.held
-    c.self.inside.line c.take_line-next.new.line c.self.inside.live c.keep.new.live c.take_line-next.result c.args.self.now told c.self.view_is c.as_slice.ensures.value c.keep.ensures.count
+    next_read c.args.lattice.now c.as_slice.result.now c.self.inside.fields.items c.args.channel read c.self.inside.count c.keep.new.count
+    c.self.inside.held c.fetch.new.held c.take_line-next.new.held
+    c.self.inside.line c.take_line-next.new.line c.self.inside.live c.keep.new.live c.take_line-next.result c.args.self.now told
+    c.self.view_is c.as_slice.ensures.value c.keep.ensures.count
     is c.take_line-next.ensures.decided c.take_line-next.ensures.tells small
 
 pub returns-in-Err-clause-by : goal.returns-in-Err-clause-by
@@ -45,13 +51,16 @@ pub returns-in-Ok-clause-least : goal.returns-in-Ok-clause-least
 returns-in-Ok-clause-least g c =
     let count = g.D.Desk.given c.fetch.new.desk c.args.channel - g.D.Desk.given c.args.desk.now c.args.channel in
     subst (λ (r : Reader). IfSome (g.D.Desk.told c.args.desk.now) (ReadsLeast c.args.channel r.pending count)) c.self.view_is
-    (reads_least c.args.channel c.in-Ok.ensures.more.count c.self.inside.held c.fetch.new.held (g.D.Desk.told c.args.desk.now) (g.D.Desk.given c.args.desk.now) (g.D.Desk.given c.fetch.new.desk) c.in-Ok.ensures.more.size c.in-Ok.ensures.more.bytes c.in-Ok.ensures.more.given c.in-Ok.ensures.least)
+    (reads_least c.args.channel c.in-Ok.ensures.more.count c.self.inside.held c.fetch.new.held (g.D.Desk.told c.args.desk.now)
+    (g.D.Desk.given c.args.desk.now) (g.D.Desk.given c.fetch.new.desk) c.in-Ok.ensures.more.size c.in-Ok.ensures.more.bytes c.in-Ok.ensures.more.given c.in-Ok.ensures.least)
 
 pub returns-in-Err-clause-least : goal.returns-in-Err-clause-least
 returns-in-Err-clause-least g c =
     let count = g.D.Desk.given c.fetch.new.desk c.args.channel - g.D.Desk.given c.args.desk.now c.args.channel in
     subst (λ (r : Reader). IfSome (g.D.Desk.told c.args.desk.now) (ReadsLeast c.args.channel r.pending count)) c.self.view_is
-    (reads_least c.args.channel c.in-Err.ensures.failed.count c.self.inside.held c.fetch.new.held (g.D.Desk.told c.args.desk.now) (g.D.Desk.given c.args.desk.now) (g.D.Desk.given c.fetch.new.desk) c.in-Err.ensures.failed.size c.in-Err.ensures.failed.bytes c.in-Err.ensures.failed.given c.in-Err.ensures.least)
+    (reads_least c.args.channel c.in-Err.ensures.failed.count c.self.inside.held c.fetch.new.held (g.D.Desk.told c.args.desk.now)
+    (g.D.Desk.given c.args.desk.now) (g.D.Desk.given c.fetch.new.desk) c.in-Err.ensures.failed.size c.in-Err.ensures.failed.bytes
+    c.in-Err.ensures.failed.given c.in-Err.ensures.least)
 
 pub returns-in-Err-clause-wanted : goal.returns-in-Err-clause-wanted
 returns-in-Err-clause-wanted g c = λ _.

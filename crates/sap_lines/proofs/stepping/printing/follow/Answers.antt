@@ -14,6 +14,8 @@ returns-in-Err-write_text-clause-broken g c =
 
 pub returns-in-Ok-write_text-clause-done : goal.returns-in-Ok-write_text-clause-done
 returns-in-Ok-write_text-clause-done g c =
-    whole_written (g.S.Steps.shows c.args.steps.now) (g.S.Steps.levels c.args.steps.now) (g.S.Steps.fields c.args.steps.now) c.args.channel c.in-Ok.fault c.step_on.new.waiting.bytes
+    whole_written (g.S.Steps.shows c.args.steps.now) (g.S.Steps.levels c.args.steps.now) (g.S.Steps.fields c.args.steps.now) c.args.channel
+    c.in-Ok.fault c.step_on.new.waiting.bytes
     (g.D.Desk.told c.args.desk.now) (g.D.Desk.told c.step_on.new.desk) (g.D.Desk.told c.write_text.new.desk)
-    (subst (λ (b : List ℕ). g.D.Desk.told c.write_text.new.desk ≡ option_map (added 1 b) (g.D.Desk.told c.step_on.new.desk)) c.bytes.ensures c.in-Ok-write_text.ensures.told) c.in-Ok.ensures.done
+    (subst (λ (b : List ℕ). g.D.Desk.told c.write_text.new.desk ≡ option_map (added 1 b) (g.D.Desk.told c.step_on.new.desk)) c.bytes.ensures
+    c.in-Ok-write_text.ensures.told) c.in-Ok.ensures.done

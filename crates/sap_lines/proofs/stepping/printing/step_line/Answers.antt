@@ -10,7 +10,8 @@ pub loop-init : goal.loop-init
 loop-init g c = record {
   cycle = omega arith;
   behind = λ cycles h. subst (g.S.Steps.behind c.args.steps.now) (sym (append-nil cycles)) h;
-  shown = none_shown (g.S.Steps.behind c.args.steps.now) (g.S.Steps.shows c.args.steps.now) c.args.cycle.now c.args.lines.now.line.inputs c.args.waiting.now.bytes (g.D.Desk.told c.args.desk.now);
+  shown = none_shown (g.S.Steps.behind c.args.steps.now) (g.S.Steps.shows c.args.steps.now) c.args.cycle.now c.args.lines.now.line.inputs
+      c.args.waiting.now.bytes (g.D.Desk.told c.args.desk.now);
   same_levels = refl;
   same_fields = refl;
   same_room = refl;
@@ -30,10 +31,13 @@ loop-preserved g c =
     let x = c.args.lines.now.line.inputs in
     record {
       cycle = omega arith;
-      behind = behind_more (g.S.Steps.behind c.args.steps.now) (g.S.Steps.behind c.loop.steps) (g.S.Steps.behind c.step.new.self) x c.inputs.result.now c.loop.counter c.inputs.ensures inv.behind c.step.ensures.behind;
-      shown = shown_more (g.S.Steps.behind c.args.steps.now) (g.S.Steps.behind c.loop.steps) (g.S.Steps.shows c.args.steps.now) (g.S.Steps.shows c.loop.steps) (g.S.Steps.shows c.step.new.self)
+      behind = behind_more (g.S.Steps.behind c.args.steps.now) (g.S.Steps.behind c.loop.steps) (g.S.Steps.behind c.step.new.self) x
+          c.inputs.result.now c.loop.counter c.inputs.ensures inv.behind c.step.ensures.behind;
+      shown = shown_more (g.S.Steps.behind c.args.steps.now) (g.S.Steps.behind c.loop.steps) (g.S.Steps.shows c.args.steps.now)
+          (g.S.Steps.shows c.loop.steps) (g.S.Steps.shows c.step.new.self)
           c.args.cycle.now c.loop.cycle c.loop.counter x c.inputs.result.now c.args.waiting.now.bytes c.loop.waiting.bytes c.step.new.out.bytes c.bytes.result.now
-          (g.D.Desk.told c.args.desk.now) (g.D.Desk.told c.loop.desk) (g.D.Desk.told c.show.new.desk) c.inputs.ensures c.bytes.ensures inv.behind inv.cycle c.step.ensures.shows inv.shown
+          (g.D.Desk.told c.args.desk.now) (g.D.Desk.told c.loop.desk) (g.D.Desk.told c.show.new.desk) c.inputs.ensures c.bytes.ensures
+          inv.behind inv.cycle c.step.ensures.shows inv.shown
           (λ cycles text h. inv.same_shows cycles text (c.step.ensures.same_shows cycles text h)) c.show.new.waiting.bytes c.in_ok-show.ensures.written;
       same_levels = c.step.ensures.same_levels ∙ inv.same_levels;
       same_fields = c.step.ensures.same_fields ∙ inv.same_fields;
@@ -54,7 +58,8 @@ returns-in_err-show-clause-cut g c =
     let line = c.args.lines.now.line in
     let below : c.loop.counter < line.count = omega (arith, c.count-end.ensures.number, c.loop-test.true) in
     on_err c.from_residual.result
-    (cut_more (g.S.Steps.behind c.args.steps.now) (g.S.Steps.behind c.loop.steps) (g.S.Steps.shows c.args.steps.now) (g.S.Steps.shows c.loop.steps) (g.S.Steps.shows c.step.new.self)
+    (cut_more (g.S.Steps.behind c.args.steps.now) (g.S.Steps.behind c.loop.steps) (g.S.Steps.shows c.args.steps.now)
+    (g.S.Steps.shows c.loop.steps) (g.S.Steps.shows c.step.new.self)
     c.args.cycle.now c.loop.cycle c.loop.counter line.inputs c.inputs.result.now c.args.waiting.now.bytes c.loop.waiting.bytes c.step.new.out.bytes c.bytes.result.now
     (g.D.Desk.told c.args.desk.now) (g.D.Desk.told c.loop.desk) (g.D.Desk.told c.show.new.desk) c.inputs.ensures c.bytes.ensures inv.behind inv.cycle c.step.ensures.shows inv.shown
     line.count below c.in_err-show.ensures.failed)

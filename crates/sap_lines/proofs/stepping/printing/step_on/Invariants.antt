@@ -9,7 +9,8 @@ use Rattle.sap_lines.proofs.stepping.printing.step_on.Given as goal
 
 abbrev pub invariant-loop-desk : goal.invariant-loop-desk
 invariant-loop-desk g l = record {
-  along : Along (g.S.Steps.shows l.fn.steps) (g.S.Steps.shows l.steps) (g.S.Steps.levels l.fn.steps) (g.S.Steps.fields l.fn.steps) l.channel (g.S.Steps.behind l.steps) l.lines l.cycle
+  along : Along (g.S.Steps.shows l.fn.steps) (g.S.Steps.shows l.steps) (g.S.Steps.levels l.fn.steps) (g.S.Steps.fields l.fn.steps) l.channel
+      (g.S.Steps.behind l.steps) l.lines l.cycle
       (g.D.Desk.given l.desk l.channel) l.waiting.bytes (g.D.Desk.told l.fn.desk) (g.D.Desk.told l.desk);
   gave : Gave (g.S.Steps.levels l.fn.steps) (g.S.Steps.fields l.fn.steps) l.lines;
   back : (lines : List (List Given)) (text : List ℕ) → g.S.Steps.shows l.steps lines text → g.S.Steps.shows l.fn.steps lines text;

@@ -35,5 +35,6 @@ returns c =
       kept = carried (λ ls ds ns s. OnOk r (KeepsWires (surroundings ls ds) s.wires)) made a b same c.self.view_is c.link.ensures.kept;
       refused = carried (λ ls ds ns s. IfErr r (λ fault. fault ≢ Memory → FirstLinkFault (surroundings ls ds) s.wires fault)) made a b same c.self.view_is c.link.ensures.refused;
       valid = carried (λ ls ds ns s. KeepsWires (surroundings ls ds) s.wires → IsOkUnless r Memory) made a b same c.self.view_is c.link.ensures.valid;
-      exact = carried (λ ls ds ns s. (fault : LinkFault) → FirstLinkFault (surroundings ls ds) s.wires fault → IsErrOf r fault ⊎ IsErrOf r Memory) made a b same c.self.view_is c.link.ensures.exact;
+      exact = carried (λ ls ds ns s. (fault : LinkFault) → FirstLinkFault (surroundings ls ds) s.wires fault → IsErrOf r fault
+          ⊎ IsErrOf r Memory) made a b same c.self.view_is c.link.ensures.exact;
     }

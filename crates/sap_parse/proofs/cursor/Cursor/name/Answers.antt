@@ -9,7 +9,8 @@ returns-in_err-place-in-Some-clause-goes c =
     let front : front_name c.args.self.now.left ≡ Some c.in-Some.name = sym c.in_ok-name.ensures ∙ c.in-Some.is in
     let goes = name_goes c.pass.result c.args.self.now c.pass.new.self c.args.role c.in-Some.name front c.pass.ensures.passes c.pass.ensures.breaks in
     let same : c.from_residual-in_err-place-in-Some.result ≡ Err c.in_err-place-in-Some.field-0.0 = search rules in
-    subst (λ r. Goes (s.any_name c.args.role) c.args.self.now r c.pass.new.self) (sym same) (subst (λ r. Goes (s.any_name c.args.role) c.args.self.now r c.pass.new.self) c.in_err-place-in-Some.was goes)
+    subst (λ r. Goes (s.any_name c.args.role) c.args.self.now r c.pass.new.self) (sym same)
+    (subst (λ r. Goes (s.any_name c.args.role) c.args.self.now r c.pass.new.self) c.in_err-place-in-Some.was goes)
 
 pub returns-in_ok-place-in-Some-clause-goes : goal.returns-in_ok-place-in-Some-clause-goes
 returns-in_ok-place-in-Some-clause-goes c =

@@ -8,7 +8,8 @@ pub returns-in_err-pass-in-Some-clause-goes : goal.returns-in_err-pass-in-Some-c
 returns-in_err-pass-in-Some-clause-goes c =
     let goes = sized_goes c.pass.result c.args.self.now c.pass.new.self c.args.role c.in-Some.sized (sym c.in-Some.ensures) c.pass.ensures.passes c.pass.ensures.breaks in
     let same : c.from_residual.result ≡ Err c.in_err-pass-in-Some.field-0.0 = search rules in
-    subst (λ r. Goes (s.sized c.args.role) c.args.self.now r c.pass.new.self) (sym same) (subst (λ r. Goes (s.sized c.args.role) c.args.self.now r c.pass.new.self) c.in_err-pass-in-Some.was goes)
+    subst (λ r. Goes (s.sized c.args.role) c.args.self.now r c.pass.new.self) (sym same)
+    (subst (λ r. Goes (s.sized c.args.role) c.args.self.now r c.pass.new.self) c.in_err-pass-in-Some.was goes)
 
 pub returns-in_ok-pass-in-Some-clause-goes : goal.returns-in_ok-pass-in-Some-clause-goes
 returns-in_ok-pass-in-Some-clause-goes c =

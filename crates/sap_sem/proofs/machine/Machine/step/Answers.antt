@@ -20,7 +20,8 @@ returns-clause-refusals c =
     let i = c.args.inputs.now in
     let s = state_of m in
     let same : cycle_listed p i s ≡ cycle p i s = c.lists_serve.ensures p m.sound.exact i s in
-    let rises : Sublist (refused_sites (cycle p i s).refused) (numbers_from 1 (site_count_of m)) = subst (λ (ns : List ℕ). Sublist (refused_sites (cycle p i s).refused) ns) m.sound.sites (c.refusals_in_order.ensures p m.sound.fine i s).0 in
+    let rises : Sublist (refused_sites (cycle p i s).refused) (numbers_from 1 (site_count_of m)) =
+    subst (λ (ns : List ℕ). Sublist (refused_sites (cycle p i s).refused) ns) m.sound.sites (c.refusals_in_order.ensures p m.sound.fine i s).0 in
     ap (λ (l : List (Option ℕ)). refusals_from (λ k. get_or l k None) 1 (site_count_of m)) (with_items_is m.refusals c.turn.new.marks (search (rules, places)))
     ∙ told_again _ _ c.turn.new.marks (length c.deref_mut.result.now) (site_count_of m) c.turn.ensures.marks (ap (λ (a : After). a.refused) same) rises
     (ap (λ (l : List (Option ℕ)). length l) c.deref_mut.ensures.value ∙ m.marks)
@@ -32,7 +33,8 @@ returns-clause-refused c = λ k h.
     let i = c.args.inputs.now in
     let s = state_of m in
     let same : cycle_listed p i s ≡ cycle p i s = c.lists_serve.ensures p m.sound.exact i s in
-    let rises : Sublist (refused_sites (cycle p i s).refused) (numbers_from 1 (site_count_of m)) = subst (λ (ns : List ℕ). Sublist (refused_sites (cycle p i s).refused) ns) m.sound.sites (c.refusals_in_order.ensures p m.sound.fine i s).0 in
+    let rises : Sublist (refused_sites (cycle p i s).refused) (numbers_from 1 (site_count_of m)) =
+    subst (λ (ns : List ℕ). Sublist (refused_sites (cycle p i s).refused) ns) m.sound.sites (c.refusals_in_order.ensures p m.sound.fine i s).0 in
     ap (λ (l : List (Option ℕ)). get_or l k None) (with_items_is m.refusals c.turn.new.marks (search (rules, places)))
     ∙ told _ _ c.turn.new.marks (length c.deref_mut.result.now) (site_count_of m) k c.turn.ensures.marks (ap (λ (a : After). a.refused) same) rises
     (ap (λ (l : List (Option ℕ)). length l) c.deref_mut.ensures.value ∙ m.marks) h.1
@@ -46,7 +48,8 @@ invariant_of-self-clause-ready c =
     let same : cycle_listed p i s ≡ cycle p i s = c.lists_serve.ensures p m.sound.exact i s in
     record {
       kept = c.turn.ensures.ready;
-      rests = subst (λ (t : Store). Resting p.world t) (sym (c.turn.ensures.store ∙ ap (λ (a : After). a.store) same)) ((c.states_keep.ensures.cycles p m.sound.fine).1 i s m.ready.rests);
+      rests = subst (λ (t : Store). Resting p.world t) (sym (c.turn.ensures.store ∙ ap (λ (a : After). a.store) same))
+          ((c.states_keep.ensures.cycles p m.sound.fine).1 i s m.ready.rests);
     }
 
 pub invariant_of-self-clause-marks : goal.invariant_of-self-clause-marks

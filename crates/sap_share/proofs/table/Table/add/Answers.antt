@@ -18,4 +18,5 @@ invariant_of-self-else-is_err g c =
     let place : length es ≡ c.len-place.result = search rules in
     let other : find es x ≡ None = subst (λ (fs : List (Name × _)). find fs x ≡ None) (sym c.self.view_is) c.requires.other in
     let h : hash.UpdatesBy same_bytes (same_bytes c.args.key) m m' (Some c.len-place.result) = search rules in
-    subst (λ (fs : List (Name × _)). Indexes m' (keys_of fs)) (sym more) (entry_added m m' es c.args.key x c.args.value c.len-place.result c.requires.bytes other place h c.self.invariant)
+    subst (λ (fs : List (Name × _)). Indexes m' (keys_of fs)) (sym more)
+    (entry_added m m' es c.args.key x c.args.value c.len-place.result c.requires.bytes other place h c.self.invariant)

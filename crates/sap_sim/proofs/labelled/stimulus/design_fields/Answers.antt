@@ -9,7 +9,8 @@ use Rattle.sap_sim.proofs.labelled.stimulus.design_fields.Goals.{in-Some+in_ok-p
 
 pub loop-entity-preserved : goal.loop-entity-preserved
 loop-entity-preserved c =
-    let more = fields_more c.names-names.result.now c.loop-entity.entity c.field_of.result c.loop-entity.fields.items (omega (arith, c.loop-entity-test.true, c.count-entity-end.ensures)) c.field_of.ensures c.loop-entity.invariant in
+    let more = fields_more c.names-names.result.now c.loop-entity.entity c.field_of.result c.loop-entity.fields.items
+    (omega (arith, c.loop-entity-test.true, c.count-entity-end.ensures)) c.field_of.ensures c.loop-entity.invariant in
     elim c.match-field_of.branch [
       | in-Some+in_ok-push w ↦ rw w.fields-is (w.in_ok-push.ensures.items ∙ (rw w.in-Some.is at more))
       | in_default w ↦ rw w.fields-is (sym (append-nil c.loop-entity.fields.items) ∙ (rw w.in_default.is at more))

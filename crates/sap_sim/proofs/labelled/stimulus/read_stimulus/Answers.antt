@@ -12,6 +12,7 @@ pub returns : goal.returns
 returns c =
     let ls = levels_in c.args.checked.now in
     let bytes = c.args.stimulus.now in
-    IfOk-weaker c.parse_stream.result (λ (p : Parsed). p ≡ stimulus_of c.lattice.result.now c.in_ok-fields.fields bytes) (λ (p : Parsed). p ≡ read_for ls (tree_in c.args.checked.now) bytes)
+    IfOk-weaker c.parse_stream.result (λ (p : Parsed). p ≡ stimulus_of c.lattice.result.now c.in_ok-fields.fields bytes)
+    (λ (p : Parsed). p ≡ read_for ls (tree_in c.args.checked.now) bytes)
     (λ p e. e ∙ ap (λ (l : Levels). stimulus_of l c.in_ok-fields.fields bytes) c.lattice.ensures ∙ ap (λ (fs : List Field). stimulus_of ls fs bytes) c.in_ok-fields.ensures.fields)
     c.parse_stream.ensures.read

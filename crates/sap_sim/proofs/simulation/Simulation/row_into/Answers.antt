@@ -31,7 +31,8 @@ pub take_numbers-requires-clause-places : goal.take_numbers-requires-clause-plac
 take_numbers-requires-clause-places c =
     let d = (goal.at.take_numbers-requires-clause-places c).After-values in
     subst (λ (list : List Source). All (λ x. source_place x < length c.values.result.now) list) (sym c.deref.ensures.value)
-    (subst (λ (xs : List Given). All (λ x. source_place x < length xs) c.self.inside.plan.sources.items) (sym c.values.ensures) (sources_there c.args.lattice.now (the d) c.args.line.now (planned d) (fits d)))
+    (subst (λ (xs : List Given). All (λ x. source_place x < length xs) c.self.inside.plan.sources.items) (sym c.values.ensures)
+    (sources_there c.args.lattice.now (the d) c.args.line.now (planned d) (fits d)))
 
 numbers_taken : (c : After-deref-2) → c.deref-2.result.now ≡ map (number_from c.args.lattice.now c.args.line.now) c.self.inside.plan.sources.items
 numbers_taken c =
@@ -52,13 +53,15 @@ named c = c.deref-5.ensures.value ∙ c.self.invariant.3
 pub push_held-requires-clause-values : goal.push_held-requires-clause-values
 push_held-requires-clause-values c =
     let d = (goal.at.push_held-requires-clause-values c).After-values in
-    ap length (c.deref-6.ensures.value ∙ with_items_is c.self.inside.values c.take_seen.new.numbers (search (rules, places))) ∙ c.take_seen.ensures.count ∙ ap length c.deref-3.ensures.value
+    ap length (c.deref-6.ensures.value ∙ with_items_is c.self.inside.values c.take_seen.new.numbers (search (rules, places)))
+    ∙ c.take_seen.ensures.count ∙ ap length c.deref-3.ensures.value
     ∙ values_count c.args.lattice.now (the d) (planned d) ∙ sym (ap length (named (goal.at.push_held-requires-clause-values c).After-deref-5))
 
 pub push_held-requires-clause-tags : goal.push_held-requires-clause-tags
 push_held-requires-clause-tags c =
     let d = (goal.at.push_held-requires-clause-tags c).After-values in
-    ap length (c.deref-7.ensures.value ∙ with_items_is c.self.inside.tags c.take_seen-2.new.numbers (search (rules, places))) ∙ c.take_seen-2.ensures.count ∙ ap length c.deref-4.ensures.value
+    ap length (c.deref-7.ensures.value ∙ with_items_is c.self.inside.tags c.take_seen-2.new.numbers (search (rules, places)))
+    ∙ c.take_seen-2.ensures.count ∙ ap length c.deref-4.ensures.value
     ∙ tags_count c.args.lattice.now (the d) (planned d) ∙ sym (ap length (named (goal.at.push_held-requires-clause-tags c).After-deref-5))
 
 pub push_held-requires-clause-levels : goal.push_held-requires-clause-levels
@@ -93,6 +96,9 @@ returns-clause-row c = λ n lines at.
     let m = c.step.new.self.net in
     row_more ls n (the d) lines c.args.line.now c.step.new.self (subst (IsAfter ls n lines) (sym c.self.view_is) at) c.step.ensures.netlist next
     c.args.cycle c.args.out.now.bytes c.push_held.new.out.bytes c.deref-6.result.now c.deref-7.result.now
-    (λ k shows. c.deref-6.ensures.value ∙ with_items_is c.self.inside.values c.take_seen.new.numbers (search (rules, places)) ∙ c.take_seen.ensures.seen k shows ∙ ap (seen_at m (seen m k)) c.deref-3.ensures.value)
-    (λ k shows. c.deref-7.ensures.value ∙ with_items_is c.self.inside.tags c.take_seen-2.new.numbers (search (rules, places)) ∙ c.take_seen-2.ensures.seen k shows ∙ ap (seen_at m (seen m k)) c.deref-4.ensures.value)
-    (c.push_held.ensures.text ∙ ap (λ (names : List Name). c.args.out.now.bytes ++ row_text c.args.cycle (shown_of ls names c.deref-6.result.now c.deref-7.result.now)) (named (goal.at.returns-clause-row c).After-deref-5))
+    (λ k shows. c.deref-6.ensures.value ∙ with_items_is c.self.inside.values c.take_seen.new.numbers (search (rules, places))
+    ∙ c.take_seen.ensures.seen k shows ∙ ap (seen_at m (seen m k)) c.deref-3.ensures.value)
+    (λ k shows. c.deref-7.ensures.value ∙ with_items_is c.self.inside.tags c.take_seen-2.new.numbers (search (rules, places))
+    ∙ c.take_seen-2.ensures.seen k shows ∙ ap (seen_at m (seen m k)) c.deref-4.ensures.value)
+    (c.push_held.ensures.text ∙ ap (λ (names : List Name). c.args.out.now.bytes
+    ++ row_text c.args.cycle (shown_of ls names c.deref-6.result.now c.deref-7.result.now)) (named (goal.at.returns-clause-row c).After-deref-5))

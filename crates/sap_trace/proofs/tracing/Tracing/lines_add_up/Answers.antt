@@ -10,5 +10,6 @@ pub returns : goal.returns
 returns c =
     let ls = levels_in c.args.checked.now in
     let d = tree_in c.args.checked.now in
-    add_up ls d c.args.self.now.runner.net c.requires.stands c.known.ensures.order c.stimulus_fits.ensures c.known.ensures.codes c.known.ensures.some c.known.ensures.numbering c.known.ensures.in_order
+    add_up ls d c.args.self.now.runner.net c.requires.stands c.known.ensures.order c.stimulus_fits.ensures c.known.ensures.codes
+    c.known.ensures.some c.known.ensures.numbering c.known.ensures.in_order
     (subst SomeRun (c.netlist-netlist.ensures ∙ ap (λ (s : Stepped Wires). s.runner.net) c.self.view_is) c.one_run.ensures.some)

@@ -34,7 +34,8 @@ take_numbers-requires c =
 
 numbers_taken : (c : After-deref) → c.deref.result.now ≡ given (levels_in c.args.checked.now) c.args.line.now
 numbers_taken c =
-    c.deref.ensures.value ∙ with_items_is c.self.inside.numbers c.take_numbers.new.numbers (search (rules, places)) ∙ c.take_numbers.ensures ∙ ap (λ (ls : Levels). given ls c.values.result.now) c.lattice.ensures ∙ ap (given (levels_in c.args.checked.now)) c.values.ensures
+    c.deref.ensures.value ∙ with_items_is c.self.inside.numbers c.take_numbers.new.numbers (search (rules, places)) ∙ c.take_numbers.ensures
+    ∙ ap (λ (ls : Levels). given ls c.values.result.now) c.lattice.ensures ∙ ap (given (levels_in c.args.checked.now)) c.values.ensures
 
 pub step-requires : goal.step-requires
 step-requires c =

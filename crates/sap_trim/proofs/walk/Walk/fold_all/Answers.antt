@@ -17,5 +17,6 @@ loop-wire-preserved c =
     let u = state_of c.fold_wire.new.self in
     record {
       orderly = c.in_ok-fold_wire.ensures.orderly;
-      walked = subst (λ (zs : List Wire). Walked step s zs u) (sym e) (walked_push step (take k xs) s (state_of c.loop-wire.self) u y c.loop-wire.invariant.walked c.in_ok-fold_wire.ensures.folds);
+      walked = subst (λ (zs : List Wire). Walked step s zs u) (sym e)
+          (walked_push step (take k xs) s (state_of c.loop-wire.self) u y c.loop-wire.invariant.walked c.in_ok-fold_wire.ensures.folds);
     }

@@ -11,6 +11,7 @@ returns-clause-folds c =
     let t = c.fold_into.new.wires in
     on_ok_weaker c.put.result (λ b. record {
       operand = c.in_ok-operand.operand;
-      gives = subst (λ (r : Right). Gives (holds c.args.taken.now) s.list.items s.next c.args.wire.now.width r c.in_ok-operand.operand t.list.items t.next) (c.in_ok-replaced.ensures {u = tt}) c.in_ok-operand.ensures.gives;
+      gives = subst (λ (r : Right). Gives (holds c.args.taken.now) s.list.items s.next c.args.wire.now.width r c.in_ok-operand.operand
+          t.list.items t.next) (c.in_ok-replaced.ensures {u = tt}) c.in_ok-operand.ensures.gives;
       binds = b;
     }) c.put.ensures

@@ -19,7 +19,9 @@ loop-k-preserved c =
     let u = state_of c.settle_if_kept.new.self in
     record {
       orderly = c.in_ok-settle_if_kept.ensures.orderly;
-      walked = subst (λ (zs : List Wire). Walked step s zs u) (sym g) (walked_both step (marked bs (take k ws)) (marked (is_marked bs k ∷ []) (w ∷ [])) s (state_of c.loop-k.self) u c.loop-k.invariant.walked c.in_ok-settle_if_kept.ensures.walked);
+      walked = subst (λ (zs : List Wire). Walked step s zs u) (sym g)
+          (walked_both step (marked bs (take k ws)) (marked (is_marked bs k ∷ []) (w ∷ [])) s (state_of c.loop-k.self) u
+          c.loop-k.invariant.walked c.in_ok-settle_if_kept.ensures.walked);
     }
 
 pub settle_if_kept-requires-clause-place : goal.settle_if_kept-requires-clause-place

@@ -10,7 +10,8 @@ returns-clause-begins c =
     record {
       wires = c.new-wires.ensures.list;
       next = c.new-wires.ensures.next;
-      stands = λ x. starts_over n.wires c.registers.result.now n.registers x _ _ _ c.registers.ensures (c.in_ok-bind_starts.ensures {u = tt} n.wires (c.in_ok-stays.ensures {u = tt}) x) (ap (λ es. find es x) (c.in_ok-stands.ensures {u = tt}));
+      stands = λ x. starts_over n.wires c.registers.result.now n.registers x _ _ _ c.registers.ensures
+          (c.in_ok-bind_starts.ensures {u = tt} n.wires (c.in_ok-stays.ensures {u = tt}) x) (ap (λ es. find es x) (c.in_ok-stands.ensures {u = tt}));
     }
 
 pub returns-clause-orderly : goal.returns-clause-orderly

@@ -25,20 +25,23 @@ pass-requires c = some_number c.args.self.now (c.in-Some.value, c.in-Some.digits
 pub returns-then-digits-eq1-clause-goes : goal.returns-then-digits-eq1-clause-goes
 returns-then-digits-eq1-clause-goes c =
     let front : front_number c.args.self.now ≡ Some (c.in-Some.value, c.in-Some.digits) = search rules in
-    let same : (c.in-Some.value, c.in-Some.digits) ≡ (c.args.digit, 1) = ap (λ (n : ℕ). (n, c.in-Some.digits)) c.if-value-digit.true ∙ ap (λ (n : ℕ). (c.args.digit, n)) c.if-digits-eq1.true in
+    let same : (c.in-Some.value, c.in-Some.digits) ≡ (c.args.digit, 1) = ap (λ (n : ℕ). (n, c.in-Some.digits)) c.if-value-digit.true
+    ∙ ap (λ (n : ℕ). (c.args.digit, n)) c.if-digits-eq1.true in
     digit_read c.args.self.now c.pass.new.self c.pass.result c.args.digit (front ∙ ap (λ (v : ℕ × ℕ). Some v) same) c.pass.ensures
 
 pub returns-then-digits-eq1-clause-tree : goal.returns-then-digits-eq1-clause-tree
 returns-then-digits-eq1-clause-tree c =
     let front : front_number c.args.self.now ≡ Some (c.in-Some.value, c.in-Some.digits) = search rules in
-    let same : (c.in-Some.value, c.in-Some.digits) ≡ (c.args.digit, 1) = ap (λ (n : ℕ). (n, c.in-Some.digits)) c.if-value-digit.true ∙ ap (λ (n : ℕ). (c.args.digit, n)) c.if-digits-eq1.true in
+    let same : (c.in-Some.value, c.in-Some.digits) ≡ (c.args.digit, 1) = ap (λ (n : ℕ). (n, c.in-Some.digits)) c.if-value-digit.true
+    ∙ ap (λ (n : ℕ). (c.args.digit, n)) c.if-digits-eq1.true in
     record { place = c.pass.result; is = number_is c.args.self.now c.pass.new.self c.pass.result (c.args.digit, 1) (front ∙ ap (λ (v : ℕ × ℕ). Some v) same) c.pass.ensures }
 
 pub returns-else-value-digit-clause-goes : goal.returns-else-value-digit-clause-goes
 returns-else-value-digit-clause-goes c = λ known.
     let front : front_number c.args.self.now ≡ Some (c.in-Some.value, c.in-Some.digits) = search rules in
     elim c.else-value-digit.branch [
-      | else-value-digit-via-then-value-digit+else-digits-eq1 w ↦ digit_other c.args.self.now c.args.digit (c.in-Some.value, c.in-Some.digits) front (other_second _ _ _ w.if-digits-eq1.false)
+      | else-value-digit-via-then-value-digit+else-digits-eq1 w ↦
+          digit_other c.args.self.now c.args.digit (c.in-Some.value, c.in-Some.digits) front (other_second _ _ _ w.if-digits-eq1.false)
       | else-value-digit-via-else-value-digit w ↦ digit_other c.args.self.now c.args.digit (c.in-Some.value, c.in-Some.digits) front (other_first _ _ _ w.if-value-digit.false)
     ]
 

@@ -17,6 +17,7 @@ pub returns-clause-memories : goal.returns-clause-memories
 returns-clause-memories c =
     let t = c.args.tables.now in
     c.in_ok-push_memories.ensures
-    ∙ ap (λ ms. ms ++ flat_map (λ x. b.item_memories (number_of t.starts) (number_of t.writes) c.as_slice-items.result.now (item_of x)) c.as_slice-items.result.now) c.new-memories.ensures.items
+    ∙ ap (λ ms. ms ++ flat_map (λ x. b.item_memories (number_of t.starts) (number_of t.writes) c.as_slice-items.result.now (item_of x))
+    c.as_slice-items.result.now) c.new-memories.ensures.items
     ∙ ap (λ xs. flat_map (λ x. b.item_memories (number_of t.starts) (number_of t.writes) xs (item_of x)) xs) c.as_slice-items.ensures.value
     ∙ memories_built c.args.file.now c.args.tables.now c.requires

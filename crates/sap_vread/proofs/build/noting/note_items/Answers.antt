@@ -14,5 +14,6 @@ loop-place-preserved c = λ n.
 
 pub returns : goal.returns
 returns c = λ n.
-    noted_end (λ (xs : List Item). all_noted c.args.noting n c.loop-place.place (items_of xs)) (all_noted-none c.args.noting n c.loop-place.place) c.args.items.now c.loop-place.place _ _
+    noted_end (λ (xs : List Item). all_noted c.args.noting n c.loop-place.place (items_of xs))
+    (all_noted-none c.args.noting n c.loop-place.place) c.args.items.now c.loop-place.place _ _
     (omega arith) (c.loop-place.invariant n)

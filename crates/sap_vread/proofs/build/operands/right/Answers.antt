@@ -10,4 +10,5 @@ use Rattle.sap_vread.proofs.build.operands.right.Goals as goal
 pub returns-in_ok-operands-in-Concat : goal.returns-in_ok-operands-in-Concat
 returns-in_ok-operands-in-Concat c =
     rw c.in-Concat.is
-    (ap Concat (c.in_ok-operands-in-Concat.ensures ∙ ap (λ (xs : List Operand). map (λ o. net_operand (narrow_operand (operand_of o))) xs) c.as_slice.ensures ∙ sym (operands_mapped _)))
+    (ap Concat (c.in_ok-operands-in-Concat.ensures
+    ∙ ap (λ (xs : List Operand). map (λ o. net_operand (narrow_operand (operand_of o))) xs) c.as_slice.ensures ∙ sym (operands_mapped _)))
