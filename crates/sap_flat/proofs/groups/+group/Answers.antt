@@ -45,7 +45,7 @@ state-returns-clause-commands t c =
     ∙ c.in_ok-fell.ensures.more) (c.in_ok-add_all.ensures ∙ ap (λ n. n + length kids) c.in_ok-fell.ensures.more)
     c.in_ok-commands.ensures.commands c.in_ok-commands.ensures.gates (c.in_ok-mark.ensures
     ∙ ap (λ x. commands_of c.commands.new.out.items ++ gates_commands x own (seat_width (length kids)) kids 0 c.len-first.result)
-    c.in_ok-has_fallen.ensures) c.in_ok-states.ensures.commands c.in_ok-states.ensures.gates).0
+    c.is_open-has_fallen.ensures) c.in_ok-states.ensures.commands c.in_ok-states.ensures.gates).0
 
 pub state-returns-clause-gates : goal.state-returns-clause-gates
 state-returns-clause-gates t c =
@@ -58,4 +58,4 @@ state-returns-clause-gates t c =
     ∙ c.in_ok-fell.ensures.more) (c.in_ok-add_all.ensures ∙ ap (λ n. n + length kids) c.in_ok-fell.ensures.more)
     c.in_ok-commands.ensures.commands c.in_ok-commands.ensures.gates (c.in_ok-mark.ensures
     ∙ ap (λ x. commands_of c.commands.new.out.items ++ gates_commands x own (seat_width (length kids)) kids 0 c.len-first.result)
-    c.in_ok-has_fallen.ensures) c.in_ok-states.ensures.commands c.in_ok-states.ensures.gates).1
+    c.is_open-has_fallen.ensures) c.in_ok-states.ensures.commands c.in_ok-states.ensures.gates).1

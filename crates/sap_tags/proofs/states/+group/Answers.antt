@@ -53,7 +53,7 @@ state-returns-clause-state t c =
     (body_of c.set_wire.new.out.items)
     refl refl refl c.as_slice-body.ensures.value c.as_slice-children.ensures.value c.in_ok-commands.ensures.wires
     c.in_ok-name.ensures
-    (fresh c.new-cmds.result.items _ _ c.new-cmds.ensures.items c.in_ok-set_wire.ensures ∙ ap (λ v. gives (setting_in s) (wire_key k) v stop) c.in_ok-context.ensures)
+    (fresh c.new-cmds.result.items _ _ c.new-cmds.ensures.items c.in_ok-set_wire.ensures ∙ ap (λ v. gives (setting_in s) (wire_key k) v stop) c.inner_variable-context.ensures)
     c.in_ok-commands.ensures.body
     c.in_ok-children.ensures.states
 

@@ -40,8 +40,8 @@ returns t c =
     let e : bits ≡ suc m = omega arith in
     let half = shifted m (omega arith) in
     let l : 2 ^ m < length blocks = omega (arith, half, c.len.ensures, c.if-len-half.false, c.args.blocks.ok.0) in
-    code_choice d c.args.wire m blocks low high c.in_ok-test.test c.in_ok-number.number c.decide_block-2.new.out c.decide_block-3.new.out
-    c.args.out.now.items c.push.new.self.items c.in_ok-push.ensures.items c.in_ok-number.ensures c.in_ok-test.ensures
+    code_choice d c.args.wire m blocks low high c.in_ok-test.test c.wire_variable-number.result c.decide_block-2.new.out c.decide_block-3.new.out
+    c.args.out.now.items c.push.new.self.items c.in_ok-push.ensures.items c.wire_variable-number.ensures c.in_ok-test.ensures
     (fresh c.new-yes.result.items _ _ c.new-yes.ensures.items c.in_ok-decide_block.ensures) (fresh c.new-no.result.items _ _ c.new-no.ensures.items c.in_ok-decide_block-2.ensures)
     ∙ ap (follow (body_of c.args.out.now.items)) (code_many d c.args.wire bits m blocks low high e l (c.in_ok-upper.ensures.items
     ∙ ap (λ n. take n blocks) half) (c.in_ok-upper.ensures.tail ∙ ap (λ n. drop n blocks) half))

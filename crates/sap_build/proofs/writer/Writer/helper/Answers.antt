@@ -26,5 +26,5 @@ pub returns-clause-fresh : goal.returns-clause-fresh
 returns-clause-fresh c =
     let k = c.in_ok-number.number in
     let next = counted _ c.checked_add.result k c.in_ok-next.next c.checked_add.ensures c.in_ok-next.ensures.value in
-    let named : c.in_ok-name.name ≡ helper k = search rules in
-    is_fresh (taken c.args.self.now) k c.in_ok-name.name (omega (arith, next.0, next.1)) named (c.in_ok-number.ensures {u = tt})
+    let named : c.helper_name-name.result ≡ helper k = search rules in
+    is_fresh (taken c.args.self.now) k c.helper_name-name.result (omega (arith, next.0, next.1)) named (c.in_ok-number.ensures {u = tt})
