@@ -19,6 +19,7 @@ use Rattle.sap_shape.specs.Sites.{state_sites, states_sites}
 use Rattle.sap_text.specs.declared.place.Place.{Place}
 use Rattle.sap_tree.specs.Points as tree
 use Rattle.sap_tree.specs.Syntax as t
+use Rattle.sap_tree.specs.Touches.{home_of}
 use Rattle.sap_tree.specs.declared.syntax.Decl.{Decl}
 
 -- entities
@@ -57,8 +58,9 @@ declarations_passed ds = passes (declarations_named ds)
 module _ (es : List Entity) where
   mutual
     state_placed : {depth : ℕ} {p q : Stage} {s : t.StateTree} → g.State depth p s q → Between site_place p (state_sites es s) q
-    state_placed (g.state a n k b cs ss c) =
-        skips a then skips n then kind_passed k then skips b then commands_placed _ cs then (states_placed ss upto skips c)
+    state_placed {s = s} (g.state a n k b cs ss c) =
+        skips a then skips n then kind_passed k then skips b then commands_placed (record { entities = es; home = home_of s }) cs
+        then (states_placed ss upto skips c)
 
     states_placed : {depth : ℕ} {p q : Stage} {ss : t.StateList} → g.States depth p ss q → Between site_place p (states_sites es ss) q
     states_placed g.no_state = stay
