@@ -16,7 +16,7 @@ use crate::order::{see_equal, see_unequal};
 use crate::parts::see_concat;
 use crate::rules::is;
 use crate::slices::see_slice;
-use crate::under::{definition, number, under};
+use crate::under::{Known, definition, number, under};
 use crate::wires::Wires;
 use sap_bits::{Op1, Op2};
 use sap_net::parts::{Operand, Right};
@@ -63,17 +63,16 @@ fn arm(
     wires: &mut Wires,
     taken: &NameSet,
     width: u32,
-    bit: &Operand,
-    value: bool,
+    known: Known<'_>,
     operand: Operand,
 ) -> Result<Operand, AllocError>
     requires { Orderly wires.old.numbers wires.old.list.items }
     ensures orderly { OnOk result (Orderly wires.new.numbers wires.new.list.items) }
-    ensures arm { IfOk result (λ p. ArmGives (holds taken.now) wires.old.list.items wires.old.next width bit.now (spec.number value) operand p wires.new.list.items wires.new.next) }
+    ensures arm { IfOk result (λ p. ArmGives (holds taken.now) wires.old.list.items wires.old.next width known.entry.bit.now (spec.number known.entry.value) operand p wires.new.list.items wires.new.next) }
 {
-    match under(alloc, wires, bit, value, &operand)? {
-        Some(known) => {
-            let simple = plain(alloc, wires, width, known)?;
+    match under(alloc, wires, known, &operand)? {
+        Some(right) => {
+            let simple = plain(alloc, wires, width, right)?;
             let provided = wires.provide(alloc, taken, width, simple)?;
             Ok(provided)
         }
@@ -81,25 +80,44 @@ fn arm(
     }
 }
 
-/// The condition of a choice, simple where it counts: of one between 0 and a bit that is where the bit is 1.
+/// The choice `condition ? when_one : when_zero`.
+#[derive(Drop)]
+struct Choice {
+    condition: Operand,
+    when_one: Operand,
+    when_zero: Operand,
+}
+
+/// A choice whose condition is simple where it counts: of one between 0 and a bit that is where the bit is 1.
 fn see_condition(
     alloc: Global,
     wires: &mut Wires,
     taken: &NameSet,
     width: u32,
-    condition: Operand,
-    a: &Operand,
-    b: &Operand,
-) -> Result<Operand, AllocError>
+    choice: Choice,
+) -> Result<Choice, AllocError>
     requires { Orderly wires.old.numbers wires.old.list.items }
     ensures orderly { OnOk result (Orderly wires.new.numbers wires.new.list.items) }
-    ensures becomes { IfOk result (λ c. Becomes (holds taken.now) wires.old.list.items wires.old.next width (right.Choose condition a.now b.now) (right.Choose c a.now b.now) wires.new.list.items wires.new.next) }
+    ensures becomes { IfOk result (λ c. Becomes (holds taken.now) wires.old.list.items wires.old.next width (right.Choose choice.condition choice.when_one choice.when_zero) (right.Choose c.condition c.when_one c.when_zero) wires.new.list.items wires.new.next) }
 {
-    if width == 1 && is(a, 0) {
-        let known = arm(alloc, wires, taken, width, b, true, condition)?;
-        return Ok(known);
+    if width == 1 && is(&choice.when_one, 0) {
+        let Choice {
+            condition,
+            when_one,
+            when_zero,
+        } = choice;
+        let known = Known {
+            bit: &when_zero,
+            value: true,
+        };
+        let condition = arm(alloc, wires, taken, width, known, condition)?;
+        return Ok(Choice {
+            condition,
+            when_one,
+            when_zero,
+        });
     }
-    Ok(condition)
+    Ok(choice)
 }
 
 /// A choice whose condition is simple where it counts, and whose arms are where the condition is known.
@@ -108,18 +126,29 @@ fn see_arms(
     wires: &mut Wires,
     taken: &NameSet,
     width: u32,
-    condition: Operand,
-    a: Operand,
-    b: Operand,
+    choice: Choice,
 ) -> Result<Right, AllocError>
     requires { Orderly wires.old.numbers wires.old.list.items }
     ensures orderly { OnOk result (Orderly wires.new.numbers wires.new.list.items) }
-    ensures becomes { IfOk result (λ r. Becomes (holds taken.now) wires.old.list.items wires.old.next width (right.Choose condition a b) r wires.new.list.items wires.new.next) }
+    ensures becomes { IfOk result (λ r. Becomes (holds taken.now) wires.old.list.items wires.old.next width (right.Choose choice.condition choice.when_one choice.when_zero) r wires.new.list.items wires.new.next) }
 {
-    let condition = see_condition(alloc, wires, taken, width, condition, &a, &b)?;
-    let a = arm(alloc, wires, taken, width, &condition, true, a)?;
-    let b = arm(alloc, wires, taken, width, &condition, false, b)?;
-    Ok(Right::Choose(condition, a, b))
+    let choice = see_condition(alloc, wires, taken, width, choice)?;
+    let Choice {
+        condition,
+        when_one,
+        when_zero,
+    } = choice;
+    let one = Known {
+        bit: &condition,
+        value: true,
+    };
+    let when_one = arm(alloc, wires, taken, width, one, when_one)?;
+    let zero = Known {
+        bit: &condition,
+        value: false,
+    };
+    let when_zero = arm(alloc, wires, taken, width, zero, when_zero)?;
+    Ok(Right::Choose(condition, when_one, when_zero))
 }
 
 /// A choice by no negation.
@@ -128,21 +157,24 @@ fn see_choice(
     wires: &mut Wires,
     taken: &NameSet,
     width: u32,
-    condition: Operand,
-    a: Operand,
-    b: Operand,
+    choice: Choice,
 ) -> Result<Right, AllocError>
     requires { Orderly wires.old.numbers wires.old.list.items }
     ensures orderly { OnOk result (Orderly wires.new.numbers wires.new.list.items) }
-    ensures becomes { IfOk result (λ r. Becomes (holds taken.now) wires.old.list.items wires.old.next width (right.Choose condition a b) r wires.new.list.items wires.new.next) }
+    ensures becomes { IfOk result (λ r. Becomes (holds taken.now) wires.old.list.items wires.old.next width (right.Choose choice.condition choice.when_one choice.when_zero) r wires.new.list.items wires.new.next) }
 {
-    match negated(alloc, wires, &condition)? {
+    match negated(alloc, wires, &choice.condition)? {
         Some(of) => {
-            let turned = see_arms(alloc, wires, taken, width, of, b, a)?;
+            let swapped = Choice {
+                condition: of,
+                when_one: choice.when_zero,
+                when_zero: choice.when_one,
+            };
+            let turned = see_arms(alloc, wires, taken, width, swapped)?;
             Ok(turned)
         }
         None => {
-            let seen = see_arms(alloc, wires, taken, width, condition, a, b)?;
+            let seen = see_arms(alloc, wires, taken, width, choice)?;
             Ok(seen)
         }
     }
@@ -164,23 +196,25 @@ fn chosen_by(op: Op2, negation: Operand, bit: Operand, other: Operand) -> Right
     }
 }
 
-/// `&` or `|` of two bits, `&` as a choice by a bit that one of them is the negation of.
-fn see_negated(
-    alloc: Global,
-    wires: &Wires,
+/// An operator between two operands.
+#[derive(Drop)]
+struct Two {
     op: Op2,
     a: Operand,
     b: Operand,
-) -> Result<Right, AllocError>
-    requires { spec.IsBitwise op }
-    ensures { IfOk result (λ r. Equals wires.now.list.items 1 (right.Two op a b) r) }
+}
+
+/// `&` or `|` of two bits, `&` as a choice by a bit that one of them is the negation of.
+fn see_negated(alloc: Global, wires: &Wires, two: Two) -> Result<Right, AllocError>
+    requires { spec.IsBitwise two.op }
+    ensures { IfOk result (λ r. Equals wires.now.list.items 1 (right.Two two.op two.a two.b) r) }
 {
-    if let Some(bit) = negated(alloc, wires, &a)? {
-        return Ok(chosen_by(op, a, bit, b));
+    if let Some(bit) = negated(alloc, wires, &two.a)? {
+        return Ok(chosen_by(two.op, two.a, bit, two.b));
     }
-    match negated(alloc, wires, &b)? {
-        Some(bit) => Ok(chosen_by(op, b, bit, a)),
-        None => Ok(Right::Two(op, a, b)),
+    match negated(alloc, wires, &two.b)? {
+        Some(bit) => Ok(chosen_by(two.op, two.b, bit, two.a)),
+        None => Ok(Right::Two(two.op, two.a, two.b)),
     }
 }
 
@@ -189,19 +223,18 @@ fn see_bits(
     alloc: Global,
     wires: &mut Wires,
     taken: &NameSet,
-    op: Op2,
-    a: Operand,
-    b: Operand,
+    two: Two,
 ) -> Result<Right, AllocError>
     requires orderly { Orderly wires.old.numbers wires.old.list.items }
-    requires bits { spec.IsBitwise op }
+    requires bits { spec.IsBitwise two.op }
     ensures orderly { OnOk result (Orderly wires.new.numbers wires.new.list.items) }
-    ensures becomes { IfOk result (λ r. Becomes (holds taken.now) wires.old.list.items wires.old.next 1 (right.Two op a b) r wires.new.list.items wires.new.next) }
+    ensures becomes { IfOk result (λ r. Becomes (holds taken.now) wires.old.list.items wires.old.next 1 (right.Two two.op two.a two.b) r wires.new.list.items wires.new.next) }
 {
+    let Two { op, a, b } = two;
     let value = is_and(op);
-    let b = arm(alloc, wires, taken, 1, &a, value, b)?;
-    let a = arm(alloc, wires, taken, 1, &b, value, a)?;
-    let seen = see_negated(alloc, wires, op, a, b)?;
+    let b = arm(alloc, wires, taken, 1, Known { bit: &a, value }, b)?;
+    let a = arm(alloc, wires, taken, 1, Known { bit: &b, value }, a)?;
+    let seen = see_negated(alloc, wires, Two { op, a, b })?;
     Ok(seen)
 }
 
@@ -211,19 +244,17 @@ fn see_both(
     wires: &mut Wires,
     taken: &NameSet,
     width: u32,
-    op: Op2,
-    a: Operand,
-    b: Operand,
+    two: Two,
 ) -> Result<Right, AllocError>
     requires orderly { Orderly wires.old.numbers wires.old.list.items }
-    requires bits { spec.IsBitwise op }
+    requires bits { spec.IsBitwise two.op }
     ensures orderly { OnOk result (Orderly wires.new.numbers wires.new.list.items) }
-    ensures becomes { IfOk result (λ r. Becomes (holds taken.now) wires.old.list.items wires.old.next width (right.Two op a b) r wires.new.list.items wires.new.next) }
+    ensures becomes { IfOk result (λ r. Becomes (holds taken.now) wires.old.list.items wires.old.next width (right.Two two.op two.a two.b) r wires.new.list.items wires.new.next) }
 {
     if width != 1 {
-        return Ok(absorb(wires, op, a, b));
+        return Ok(absorb(wires, two.op, two.a, two.b));
     }
-    let seen = see_bits(alloc, wires, taken, op, a, b)?;
+    let seen = see_bits(alloc, wires, taken, two)?;
     Ok(seen)
 }
 
@@ -233,22 +264,20 @@ fn see_two(
     wires: &mut Wires,
     taken: &NameSet,
     width: u32,
-    op: Op2,
-    a: Operand,
-    b: Operand,
+    two: Two,
 ) -> Result<Right, AllocError>
     requires { Orderly wires.old.numbers wires.old.list.items }
     ensures orderly { OnOk result (Orderly wires.new.numbers wires.new.list.items) }
-    ensures becomes { IfOk result (λ r. Becomes (holds taken.now) wires.old.list.items wires.old.next width (right.Two op a b) r wires.new.list.items wires.new.next) }
+    ensures becomes { IfOk result (λ r. Becomes (holds taken.now) wires.old.list.items wires.old.next width (right.Two two.op two.a two.b) r wires.new.list.items wires.new.next) }
 {
-    match op {
-        Op2::And | Op2::Or => see_both(alloc, wires, taken, width, op, a, b),
-        Op2::Eq => see_equal(alloc, wires, taken, width, a, b),
+    match two.op {
+        Op2::And | Op2::Or => see_both(alloc, wires, taken, width, two),
+        Op2::Eq => see_equal(alloc, wires, taken, width, two.a, two.b),
         Op2::Ne => {
-            let seen = see_unequal(alloc, wires, a, b)?;
+            let seen = see_unequal(alloc, wires, two.a, two.b)?;
             Ok(seen)
         }
-        _ => Ok(Right::Two(op, a, b)),
+        _ => Ok(Right::Two(two.op, two.a, two.b)),
     }
 }
 
@@ -269,8 +298,15 @@ pub fn see(
             let seen = see_not(alloc, wires, a)?;
             Ok(seen)
         }
-        Right::Two(op, a, b) => see_two(alloc, wires, taken, width, op, a, b),
-        Right::Choose(condition, a, b) => see_choice(alloc, wires, taken, width, condition, a, b),
+        Right::Two(op, a, b) => see_two(alloc, wires, taken, width, Two { op, a, b }),
+        Right::Choose(condition, when_one, when_zero) => {
+            let choice = Choice {
+                condition,
+                when_one,
+                when_zero,
+            };
+            see_choice(alloc, wires, taken, width, choice)
+        }
         Right::Slice { name, hi, lo } => {
             let seen = see_slice(alloc, wires, name, hi, lo)?;
             Ok(seen)

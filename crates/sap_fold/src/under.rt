@@ -12,6 +12,13 @@ use sap_bits::{Op1, Op2};
 use sap_net::parts::{Operand, Right, Wire};
 use std::alloc::{AllocError, Global};
 
+/// A bit, and the value that it is known to have.
+#[derive(Clone, Copy, Drop)]
+pub struct Known<'a> {
+    pub bit: &'a Operand,
+    pub value: bool,
+}
+
 /// The right side of the helping wire that an operand names.
 pub fn definition<'a>(wires: &'a Wires, operand: &Operand) -> Option<&'a Right>
     ensures { IfSome result (λ r. Defines wires.now.list.items operand.now r.now) }
@@ -51,21 +58,20 @@ pub fn other(
     }
 }
 
-/// What a choice is, if the bit is what it chooses by.
+/// What a choice is, if the known bit is what it chooses by.
 fn chosen(
     alloc: Global,
-    bit: &Operand,
-    value: bool,
+    known: Known<'_>,
     by: &Operand,
     a: &Operand,
     b: &Operand,
 ) -> Result<Option<Operand>, AllocError>
-    ensures { IfOk result (λ o. o ≡ spec.chosen bit.now value by.now a.now b.now) }
+    ensures { IfOk result (λ o. o ≡ spec.chosen known.entry.bit.now known.entry.value by.now a.now b.now) }
 {
-    if !same(by, bit) {
+    if !same(by, known.bit) {
         return Ok(None);
     }
-    let arm = if value { a } else { b };
+    let arm = if known.value { a } else { b };
     let arm = arm.copy(alloc)?;
     Ok(Some(arm))
 }
@@ -83,21 +89,20 @@ fn decided(value: bool, decides: bool, rest: Option<Operand>) -> Option<Operand>
 /// What a right side is where a bit is known, if the bit is among its operands.
 fn right_under(
     alloc: Global,
-    bit: &Operand,
-    value: bool,
+    known: Known<'_>,
     right: &Right,
 ) -> Result<Option<Operand>, AllocError>
-    ensures { IfOk result (λ o. o ≡ spec.right_under bit.now value right.now) }
+    ensures { IfOk result (λ o. o ≡ spec.right_under known.entry.bit.now known.entry.value right.now) }
 {
     match right {
-        Right::Choose(by, a, b) => chosen(alloc, bit, value, by, a, b),
+        Right::Choose(by, a, b) => chosen(alloc, known, by, a, b),
         Right::Two(Op2::And, a, b) => {
-            let rest = other(alloc, bit, a, b)?;
-            Ok(decided(value, !value, rest))
+            let rest = other(alloc, known.bit, a, b)?;
+            Ok(decided(known.value, !known.value, rest))
         }
         Right::Two(Op2::Or, a, b) => {
-            let rest = other(alloc, bit, a, b)?;
-            Ok(decided(value, value, rest))
+            let rest = other(alloc, known.bit, a, b)?;
+            Ok(decided(known.value, known.value, rest))
         }
         _ => Ok(None),
     }
@@ -106,19 +111,18 @@ fn right_under(
 /// The operand that a wire of this right side is where a bit is known.
 fn right_known(
     alloc: Global,
-    bit: &Operand,
-    value: bool,
+    known: Known<'_>,
     right: &Right,
 ) -> Result<Option<Operand>, AllocError>
-    ensures { IfOk result (λ o. (ws : List Wire) (x : Operand) → Defines ws x right.now → IfSome o (λ p. spec.Under ws bit.now (spec.number value) x (kind.Copy p))) }
+    ensures { IfOk result (λ o. (ws : List Wire) (x : Operand) → Defines ws x right.now → IfSome o (λ p. spec.Under ws known.entry.bit.now (spec.number known.entry.value) x (kind.Copy p))) }
 {
     match right {
         Right::Concat(operands) => {
-            let whole = concat_under(alloc, bit, value, operands)?;
+            let whole = concat_under(alloc, known.bit, known.value, operands)?;
             Ok(whole)
         }
         right => {
-            let rest = right_under(alloc, bit, value, right)?;
+            let rest = right_under(alloc, known, right)?;
             Ok(rest)
         }
     }
@@ -128,18 +132,17 @@ fn right_known(
 fn direct(
     alloc: Global,
     wires: &Wires,
-    bit: &Operand,
-    value: bool,
+    known: Known<'_>,
     operand: &Operand,
 ) -> Result<Option<Operand>, AllocError>
-    ensures { IfOk result (λ o. IfSome o (λ p. spec.Under wires.now.list.items bit.now (spec.number value) operand.now (kind.Copy p))) }
+    ensures { IfOk result (λ o. IfSome o (λ p. spec.Under wires.now.list.items known.entry.bit.now (spec.number known.entry.value) operand.now (kind.Copy p))) }
 {
-    if same(operand, bit) {
-        return Ok(Some(number(value)));
+    if same(operand, known.bit) {
+        return Ok(Some(number(known.value)));
     }
     match definition(wires, operand) {
         Some(right) => {
-            let rest = right_known(alloc, bit, value, right)?;
+            let rest = right_known(alloc, known, right)?;
             Ok(rest)
         }
         None => Ok(None),
@@ -150,16 +153,15 @@ fn direct(
 fn negation_under(
     alloc: Global,
     wires: &Wires,
-    bit: &Operand,
-    value: bool,
+    known: Known<'_>,
     operand: &Operand,
 ) -> Result<Option<Right>, AllocError>
-    ensures { IfOk result (λ o. IfSome o (λ r. spec.Under wires.now.list.items bit.now (spec.number value) operand.now r)) }
+    ensures { IfOk result (λ o. IfSome o (λ r. spec.Under wires.now.list.items known.entry.bit.now (spec.number known.entry.value) operand.now r)) }
 {
     let Some(Right::One(Op1::Not, of)) = definition(wires, operand) else {
         return Ok(None);
     };
-    match direct(alloc, wires, bit, value, of)? {
+    match direct(alloc, wires, known, of)? {
         Some(rest) => Ok(Some(Right::One(Op1::Not, rest))),
         None => Ok(None),
     }
@@ -187,17 +189,16 @@ fn masked_right(alloc: Global, value: bool, by: &Operand) -> Result<Right, Alloc
 fn choice_under(
     alloc: Global,
     wires: &Wires,
-    bit: &Operand,
-    value: bool,
+    known: Known<'_>,
     operand: &Operand,
 ) -> Result<Option<Right>, AllocError>
-    ensures { IfOk result (λ o. IfSome o (λ r. spec.Under wires.now.list.items bit.now (spec.number value) operand.now r)) }
+    ensures { IfOk result (λ o. IfSome o (λ r. spec.Under wires.now.list.items known.entry.bit.now (spec.number known.entry.value) operand.now r)) }
 {
     let Some(Right::Choose(by, a, b)) = definition(wires, operand) else {
         return Ok(None);
     };
-    if is_masked(bit, a, b) {
-        let right = masked_right(alloc, value, by)?;
+    if is_masked(known.bit, a, b) {
+        let right = masked_right(alloc, known.value, by)?;
         return Ok(Some(right));
     }
     Ok(None)
@@ -207,19 +208,18 @@ fn choice_under(
 fn found(
     alloc: Global,
     wires: &Wires,
-    bit: &Operand,
-    value: bool,
+    known: Known<'_>,
     operand: &Operand,
 ) -> Result<Option<Right>, AllocError>
-    ensures { IfOk result (λ o. IfSome o (λ r. spec.Under wires.now.list.items bit.now (spec.number value) operand.now r)) }
+    ensures { IfOk result (λ o. IfSome o (λ r. spec.Under wires.now.list.items known.entry.bit.now (spec.number known.entry.value) operand.now r)) }
 {
-    if let Some(right) = negation_under(alloc, wires, bit, value, operand)? {
+    if let Some(right) = negation_under(alloc, wires, known, operand)? {
         return Ok(Some(right));
     }
-    if let Some(operand) = direct(alloc, wires, bit, value, operand)? {
+    if let Some(operand) = direct(alloc, wires, known, operand)? {
         return Ok(Some(Right::Copy(operand)));
     }
-    choice_under(alloc, wires, bit, value, operand)
+    choice_under(alloc, wires, known, operand)
 }
 
 /// Whether both operands have the value that an operator of one bit has.
@@ -247,45 +247,60 @@ fn only_first(value: bool, b: &Operand) -> bool
     !value && is(b, 1)
 }
 
-/// What an operand is where two bits are known.
+/// What an operand is where each of two bits is known.
 fn either(
     alloc: Global,
     wires: &Wires,
-    a: &Operand,
-    first: bool,
-    b: &Operand,
-    second: bool,
+    first: Known<'_>,
+    second: Known<'_>,
     operand: &Operand,
 ) -> Result<Option<Right>, AllocError>
-    ensures { IfOk result (λ o. IfSome o (λ r. spec.Under wires.now.list.items a.now (spec.number first) operand.now r ⊎ spec.Under wires.now.list.items b.now (spec.number second) operand.now r)) }
+    ensures { IfOk result (λ o. IfSome o (λ r. spec.Under wires.now.list.items first.entry.bit.now (spec.number first.entry.value) operand.now r ⊎ spec.Under wires.now.list.items second.entry.bit.now (spec.number second.entry.value) operand.now r)) }
 {
-    if let Some(right) = found(alloc, wires, a, first, operand)? {
+    if let Some(right) = found(alloc, wires, first, operand)? {
         return Ok(Some(right));
     }
-    match found(alloc, wires, b, second, operand)? {
+    match found(alloc, wires, second, operand)? {
         Some(right) => Ok(Some(right)),
         None => Ok(None),
     }
 }
 
-/// What an operand is where a choice between bits is known, if that tells which arm it is.
+/// What an operand is where a wire of this right side is known, if that is a choice between bits and tells which arm it is.
 fn caused_by_choice(
     alloc: Global,
     wires: &Wires,
-    by: &Operand,
-    a: &Operand,
-    b: &Operand,
+    right: &Right,
     value: bool,
     operand: &Operand,
 ) -> Result<Option<Right>, AllocError>
-    ensures { IfOk result (λ o. (c : Operand) → Defines wires.now.list.items c (kind.Choose by.now a.now b.now) → IfSome o (λ r. spec.Under wires.now.list.items c (spec.number value) operand.now r)) }
+    ensures { IfOk result (λ o. (c : Operand) → Defines wires.now.list.items c right.now → IfSome o (λ r. spec.Under wires.now.list.items c (spec.number value) operand.now r)) }
 {
+    let Right::Choose(by, a, b) = right else {
+        return Ok(None);
+    };
     if only_second(value, a) {
-        let second = either(alloc, wires, by, false, b, true, operand)?;
+        let condition = Known {
+            bit: by,
+            value: false,
+        };
+        let arm = Known {
+            bit: b,
+            value: true,
+        };
+        let second = either(alloc, wires, condition, arm, operand)?;
         return Ok(second);
     }
     if only_first(value, b) {
-        let first = either(alloc, wires, by, true, a, false, operand)?;
+        let condition = Known {
+            bit: by,
+            value: true,
+        };
+        let arm = Known {
+            bit: a,
+            value: false,
+        };
+        let first = either(alloc, wires, condition, arm, operand)?;
         return Ok(first);
     }
     Ok(None)
@@ -295,23 +310,32 @@ fn caused_by_choice(
 fn caused(
     alloc: Global,
     wires: &Wires,
-    bit: &Operand,
-    value: bool,
+    known: Known<'_>,
     operand: &Operand,
 ) -> Result<Option<Right>, AllocError>
-    ensures { IfOk result (λ o. IfSome o (λ r. spec.Under wires.now.list.items bit.now (spec.number value) operand.now r)) }
+    ensures { IfOk result (λ o. IfSome o (λ r. spec.Under wires.now.list.items known.entry.bit.now (spec.number known.entry.value) operand.now r)) }
 {
-    match definition(wires, bit) {
-        Some(Right::One(Op1::Not, of)) => {
-            let told = found(alloc, wires, of, !value, operand)?;
+    let Some(right) = definition(wires, known.bit) else {
+        return Ok(None);
+    };
+    let value = known.value;
+    match right {
+        Right::One(Op1::Not, of) => {
+            let negated = Known {
+                bit: of,
+                value: !value,
+            };
+            let told = found(alloc, wires, negated, operand)?;
             Ok(told)
         }
-        Some(Right::Two(op, a, b)) if tells(*op, value) => {
-            let both = either(alloc, wires, a, value, b, value, operand)?;
+        Right::Two(op, a, b) if tells(*op, value) => {
+            let first = Known { bit: a, value };
+            let second = Known { bit: b, value };
+            let both = either(alloc, wires, first, second, operand)?;
             Ok(both)
         }
-        Some(Right::Choose(by, a, b)) => {
-            let told = caused_by_choice(alloc, wires, by, a, b, value, operand)?;
+        Right::Choose(..) => {
+            let told = caused_by_choice(alloc, wires, right, value, operand)?;
             Ok(told)
         }
         _ => Ok(None),
@@ -322,14 +346,13 @@ fn caused(
 pub fn under(
     alloc: Global,
     wires: &Wires,
-    bit: &Operand,
-    value: bool,
+    known: Known<'_>,
     operand: &Operand,
 ) -> Result<Option<Right>, AllocError>
-    ensures { IfOk result (λ o. IfSome o (λ r. spec.Under wires.now.list.items bit.now (spec.number value) operand.now r)) }
+    ensures { IfOk result (λ o. IfSome o (λ r. spec.Under wires.now.list.items known.entry.bit.now (spec.number known.entry.value) operand.now r)) }
 {
-    if let Some(right) = found(alloc, wires, bit, value, operand)? {
+    if let Some(right) = found(alloc, wires, known, operand)? {
         return Ok(Some(right));
     }
-    caused(alloc, wires, bit, value, operand)
+    caused(alloc, wires, known, operand)
 }

@@ -13,15 +13,15 @@ pub returns-in_ok-provided-in-Some-clause-arm : goal.returns-in_ok-provided-in-S
 returns-in_ok-provided-in-Some-clause-arm c =
     let s = c.args.wires.now in
     let t = c.provide.new.self in
-    let n = number c.args.value in
-    let k = subst (λ (o : Option Right). IfSome o (λ r. Under s.list.items c.args.bit.now n c.args.operand r)) c.in-Some.is (c.in_ok-known.ensures {u = tt}) in
+    let n = number c.args.known.value in
+    let k = subst (λ (o : Option Right). IfSome o (λ r. Under s.list.items c.args.known.bit.now n c.args.operand r)) c.in-Some.is (c.in_ok-right.ensures {u = tt}) in
     let simple = c.in_ok-simple-in-Some.simple in
-    arm_known (holds c.args.taken.now) s.list.items s.next c.args.width c.args.bit.now n c.args.operand c.in-Some.known
+    arm_known (holds c.args.taken.now) s.list.items s.next c.args.width c.args.known.bit.now n c.args.operand c.in-Some.right
     (settled c.args.width simple) c.in_ok-provided-in-Some.provided t.list.items t.next
-    k (equals_both s.list.items c.args.width c.in-Some.known simple (settled c.args.width simple) (c.in_ok-simple-in-Some.ensures {u = tt})
+    k (equals_both s.list.items c.args.width c.in-Some.right simple (settled c.args.width simple) (c.in_ok-simple-in-Some.ensures {u = tt})
     (settled_equals s.list.items c.args.width simple)) c.in_ok-provided-in-Some.ensures.provides
 
 pub returns-in-None-clause-arm : goal.returns-in-None-clause-arm
 returns-in-None-clause-arm c =
     let s = c.args.wires.now in
-    arm_itself (holds c.args.taken.now) s.list.items s.next c.args.width c.args.bit.now (number c.args.value) c.args.operand
+    arm_itself (holds c.args.taken.now) s.list.items s.next c.args.width c.args.known.bit.now (number c.args.known.value) c.args.operand

@@ -11,9 +11,10 @@ returns-clause-becomes c =
     let m = c.arm.new.wires in
     let t = c.arm-2.new.wires in
     let u = c.args.width in
-    let d = c.in_ok-condition.condition in
-    let p = c.in_ok-a.a in
-    let q = c.in_ok-b.b in
-    becomes_both f s.list.items s.next u (Choose c.args.condition c.args.a c.args.b) (Choose d c.args.a c.args.b) (Choose d p q) k.list.items k.next t.list.items t.next
-    c.in_ok-condition.ensures.becomes
-    (arms_become f k.list.items k.next u d c.args.a c.args.b p q m.list.items m.next t.list.items t.next c.in_ok-a.ensures.arm c.in_ok-b.ensures.arm)
+    let x = c.args.choice in
+    let y = c.in_ok-choice.choice in
+    let p = c.in_ok-when_one.when_one in
+    let q = c.in_ok-when_zero.when_zero in
+    becomes_both f s.list.items s.next u (Choose x.condition x.when_one x.when_zero) (Choose y.condition y.when_one y.when_zero) (Choose y.condition p q)
+    k.list.items k.next t.list.items t.next c.in_ok-choice.ensures.becomes
+    (arms_become f k.list.items k.next u y.condition y.when_one y.when_zero p q m.list.items m.next t.list.items t.next c.in_ok-when_one.ensures.arm c.in_ok-when_zero.ensures.arm)

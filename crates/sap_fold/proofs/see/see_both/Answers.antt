@@ -6,4 +6,4 @@ use Rattle.sap_fold.proofs.see.see_both.Goals as goal
 pub returns-then-width-ne1-clause-becomes : goal.returns-then-width-ne1-clause-becomes
 returns-then-width-ne1-clause-becomes c =
     let s = c.args.wires.now in
-    becomes_equal (holds c.args.taken.now) s.list.items s.next c.args.width (Two c.args.op c.args.a c.args.b) c.absorb.result (c.absorb.ensures c.args.width)
+    becomes_equal (holds c.args.taken.now) s.list.items s.next c.args.width (Two c.args.two.op c.args.two.a c.args.two.b) c.absorb.result (c.absorb.ensures c.args.width)

@@ -16,8 +16,10 @@ returns-in_ok-turned-in-Some-clause-becomes c =
     let t = c.see_arms.new.wires in
     let u = c.args.width in
     let d = c.in-Some.of in
-    let x = Choose c.args.condition c.args.a c.args.b in
-    let y = Choose d c.args.b c.args.a in
-    let k = subst (λ (o : Option Operand). IfSome o (λ p. Defines ws c.args.condition (One Not p))) c.in-Some.is (c.in_ok-of.ensures {u = tt}) in
+    let o = c.args.choice in
+    let x = Choose o.condition o.when_one o.when_zero in
+    let y = Choose d o.when_zero o.when_one in
+    let k = subst (λ (m : Option Operand). IfSome m (λ p. Defines ws o.condition (One Not p))) c.in-Some.is (c.in_ok-of.ensures {u = tt}) in
     becomes_both (holds c.args.taken.now) ws s.next u x y c.in_ok-turned-in-Some.turned ws s.next t.list.items t.next
-    (becomes_equal (holds c.args.taken.now) ws s.next u x y (choose_turned ws u c.args.condition d c.args.a c.args.b k)) c.in_ok-turned-in-Some.ensures.becomes
+    (becomes_equal (holds c.args.taken.now) ws s.next u x y (choose_turned ws u o.condition d o.when_one o.when_zero k))
+    c.in_ok-turned-in-Some.ensures.becomes

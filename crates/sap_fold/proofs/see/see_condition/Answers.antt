@@ -7,5 +7,6 @@ pub returns-then-is-clause-becomes : goal.returns-then-is-clause-becomes
 returns-then-is-clause-becomes c =
     let s = c.args.wires.now in
     let t = c.arm.new.wires in
-    condition_becomes (holds c.args.taken.now) s.list.items s.next c.args.width c.args.condition c.in_ok-known.known c.args.a.now c.args.b.now t.list.items t.next
-    c.if-width-eq1.true (sym c.is.ensures ∙ c.if-is.true) c.in_ok-known.ensures.arm
+    let x = c.args.choice in
+    condition_becomes (holds c.args.taken.now) s.list.items s.next c.args.width x.condition c.in_ok-condition.condition x.when_one x.when_zero t.list.items t.next
+    c.if-width-eq1.true (sym c.is.ensures ∙ c.if-is.true) c.in_ok-condition.ensures.arm

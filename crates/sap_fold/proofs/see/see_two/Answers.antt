@@ -11,8 +11,8 @@ pub returns-in_ok-seen-in-Ne-clause-becomes : goal.returns-in_ok-seen-in-Ne-clau
 returns-in_ok-seen-in-Ne-clause-becomes c =
     let s = c.args.wires.now in
     let w = c.args.width in
-    let a = c.args.a in
-    let b = c.args.b in
+    let a = c.args.two.a in
+    let b = c.args.two.b in
     let r = c.in_ok-seen-in-Ne.seen in
     subst (λ (op : Op2). Becomes (holds c.args.taken.now) s.list.items s.next w (Two op a b) r s.list.items s.next) (sym c.in-Ne.is)
     (becomes_equal (holds c.args.taken.now) s.list.items s.next w (Two Ne a b) r (c.in_ok-seen-in-Ne.ensures {u = tt} w))

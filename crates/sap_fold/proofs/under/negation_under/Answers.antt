@@ -11,8 +11,8 @@ use Rattle.sap_fold.proofs.under.negation_under.Goals as goal
 pub returns-in-Some : goal.returns-in-Some
 returns-in-Some c =
     let ws = c.args.wires.now.list.items in
-    let bit = c.args.bit.now in
-    let n = number c.args.value in
+    let bit = c.args.known.bit.now in
+    let n = number c.args.known.value in
     let of = c.in-Some-One-Not-default.of in
     let e : c.in-Some-One-Not-default.field-0.now ≡ One Not of = search rules in
     let k = subst (Defines ws c.args.operand.now) e c.in-Some-One-Not-default.ensures in
