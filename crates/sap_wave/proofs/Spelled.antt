@@ -59,6 +59,13 @@ few_bits ds all few =
     let more : 2 ^ length ds ≤ 2 ^ 64 = pow-le-pow_right (omega arith) few in
     omega (arith, below, more)
 
+pub short_id : (ds : List ℕ) → list_all (is_digit 33 94) ds ≡ true → length ds ≤ 9 → spelled 33 94 ds < 2 ^ 64
+short_id ds all short =
+    let below = spelled_below 33 94 0 ds all in
+    let more : 94 ^ length ds ≤ 94 ^ 9 = pow-le-pow_right (omega arith) short in
+    let word : 94 ^ 9 < 2 ^ 64 = omega arith in
+    omega (arith, below, more, word)
+
 pub bits_whole : (ds : List ℕ) (k : ℕ) → length ds ≤ k → spelled 48 2 (take k ds) ≡ bits_number ds
 unfolding bits_number
 bits_whole ds k l = ap (spelled 48 2) (take_all k ds l)

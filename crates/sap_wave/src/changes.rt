@@ -1,7 +1,7 @@
 //! The changes of a block, one after another.
 
 ghost use Rattle.std.specs.Prelude.{◌≡◌, ◌+◌, ◌<◌, ◌≤◌, ◌^◌, ◌&&◌, ℕ, List, true, not, get_or, length, IfErr, IfNone, IfOk, IfSome, None};
-ghost use Rattle.sap_wave.specs.Digits.{bits_number};
+ghost use Rattle.sap_wave.specs.Digits.{bits_number, number_spelled};
 ghost use Rattle.sap_wave.specs.Lines.{change, is_formed, is_id};
 ghost use Rattle.sap_wave.specs.Reading.{Takes, after, in_block, is_first};
 ghost use Rattle.sap_wave.specs.Read.{IsWaveFault, ReadUpTo};
@@ -11,7 +11,7 @@ ghost use Rattle.sap_wave.specs.Changes.{IsNoChange};
 ghost use Rattle.sap_wave.specs.Steps.{IsPlaced, is_number, open_of, with_number};
 
 use crate::fault::{WaveCode, WaveFault};
-use crate::numbers::identified;
+use crate::numbers::identified_by;
 use crate::parts::{Change, change_at};
 use crate::state::Block;
 use crate::variable::Variable;
@@ -37,11 +37,12 @@ fn stands(reached: &Block, place: usize, number: u64) -> bool
 
 /// Which variable a change is of, where it is in place.
 fn placed(variables: &[Variable], reached: &Block, parts: &Change<'_>) -> Option<usize>
-    requires { is_id parts.now.id.now ≡ true }
+    requires id { is_id parts.now.id.now ≡ true }
+    requires number { length parts.now.id.now ≤ 9 → parts.now.id_number ≡ number_spelled parts.now.id.now }
     ensures none { IfNone result (Misplaced variables.now (open_of reached.now) parts.now.digits.now parts.now.id.now) }
     ensures some { IfSome result (IsPlaced variables.now (open_of reached.now) parts.now.digits.now parts.now.id.now) }
 {
-    let place = identified(parts.id, variables.len())?;
+    let place = identified_by(parts.id, parts.id_number, variables.len())?;
     if place < reached.next {
         return None;
     }
@@ -65,6 +66,7 @@ fn changed(variables: &[Variable], reached: &mut Block, parts: &Change<'_>) -> O
     requires sound { IsSound (in_block variables.now (open_of reached.old)) }
     requires formed { is_formed (change parts.now.digits.now parts.now.id.now) ≡ true }
     requires number { length parts.now.digits.now ≤ 64 → parts.now.number ≡ bits_number parts.now.digits.now }
+    requires id { length parts.now.id.now ≤ 9 → parts.now.id_number ≡ number_spelled parts.now.id.now }
     ensures wrong { IfSome result (IsLeast (IsWrong (in_block variables.now (open_of reached.old)) (change parts.now.digits.now parts.now.id.now))) }
     ensures right { IfNone result (Takes (in_block variables.now (open_of reached.old)) (change parts.now.digits.now parts.now.id.now)) }
     ensures after { IfNone result (in_block variables.now (open_of reached.new) ≡ after (in_block variables.now (open_of reached.old)) (change parts.now.digits.now parts.now.id.now)) }

@@ -10,8 +10,10 @@ use crate::eights::eights_at;
 use crate::pieces::is_digit;
 use sap_text::scan::number;
 
-/// The binary digits at the front of a text, the number that they spell where they are 64 at most, and what stands behind
-/// them.
+/// An identifier of so many digits at most spells a number below 2^64.
+const SHORT: usize = 9;
+
+/// The digits at the front of a text, the number that they spell where they are few, and what stands behind them.
 #[derive(Clone, Copy)]
 pub struct Front<'a> {
     pub digits: &'a [u8],
@@ -32,6 +34,27 @@ pub fn bits_at(text: &[u8]) -> Front<'_>
     'digits: while count < text.len() && is_digit(text[count], b'0', 2) {
         let digit = text[count] - b'0';
         number = number.wrapping_mul(2).wrapping_add(u64::from(digit));
+        count += 1;
+    }
+    Front {
+        digits: &text[..count],
+        number,
+        behind: &text[count..],
+    }
+}
+
+/// Takes an identifier off the front of a text.
+pub fn id_at(text: &[u8]) -> Front<'_>
+    ensures whole { text.now ≡ result.digits.now ++ result.behind.now }
+    ensures digits { list_all (is_digit 33 94) result.digits.now ≡ true }
+    ensures others { is_digit 33 94 (slice_index result.behind.now 0) ≡ false }
+    ensures number { length result.digits.now ≤ 9 → result.number ≡ number_spelled result.digits.now }
+{
+    let mut number = 0u64;
+    let mut count = 0;
+    'digits: while count < text.len() && is_digit(text[count], b'!', 94) {
+        let digit = text[count] - b'!';
+        number = number.wrapping_mul(94).wrapping_add(u64::from(digit));
         count += 1;
     }
     Front {
@@ -68,6 +91,27 @@ pub fn identified(id: &[u8], count: usize) -> Option<usize>
     }
     let number = spelled(id)?;
     if number < count { Some(number) } else { None }
+}
+
+/// Which of so many variables has an identifier, where a short one spells this number.
+pub fn identified_by(id: &[u8], number: u64, count: usize) -> Option<usize>
+    requires digits { are_digits 33 94 id.now ≡ true }
+    requires number { length id.now ≤ 9 → number ≡ number_spelled id.now }
+    ensures none { IfNone result ((k : ℕ) → k < count → id.now ≢ identifier k) }
+    ensures within { IfSome result (λ k. k < count) }
+    ensures is { IfSome result (λ k. id.now ≡ identifier k) }
+{
+    if id.len() > SHORT {
+        return identified(id, count);
+    }
+    if id.len() > 1 && id[0] == b'!' {
+        return None;
+    }
+    if number < count as u64 {
+        Some(number as usize)
+    } else {
+        None
+    }
 }
 
 /// Whether this is the identifier of the variable of a number.

@@ -1,14 +1,14 @@
 //! The parts of lines, by their forms.
 
-ghost use Rattle.std.specs.Prelude.{◌≡◌, ◌++◌, ◌&&◌, true, bytes_eq, ℕ, List, IfNone, IfSome, codes};
+ghost use Rattle.std.specs.Prelude.{◌≡◌, ◌++◌, ◌≤◌, ◌&&◌, true, bytes_eq, length, ℕ, List, IfNone, IfSome, codes};
 ghost use Rattle.std.specs.List.{list_all};
 ghost use Rattle.sap_wave.specs.Lines.{IsLine, block, change, is_formed, is_piece, variable};
-ghost use Rattle.sap_wave.specs.Digits.{is_digit};
+ghost use Rattle.sap_wave.specs.Digits.{is_digit, number_spelled};
 ghost use Rattle.sap_wave.specs.Lines.{ended};
 ghost use Rattle.sap_wave.specs.Changes.{IsChangeAt, IsNoChange};
 ghost use Rattle.sap_wave.specs.Pieces.{is_not};
 
-use crate::numbers::bits_at;
+use crate::numbers::{bits_at, id_at};
 use crate::pieces::{cut_at, is_id, is_number, is_same};
 
 /// What stands behind a text, where it begins with these bytes.
@@ -89,30 +89,35 @@ pub struct Change<'a> {
     /// What the digits spell, where they are 64 at most.
     pub number: u64,
     pub id: &'a [u8],
+    /// What the identifier spells, where it has nine digits at most.
+    pub id_number: u64,
     pub behind: &'a [u8],
 }
 
 fn is_change(digits: &[u8], id: &[u8]) -> bool
-    requires { list_all (is_digit 48 2) digits.now ≡ true }
+    requires digits { list_all (is_digit 48 2) digits.now ≡ true }
+    requires id { list_all (is_digit 33 94) id.now ≡ true }
     ensures { result ≡ is_formed (change digits.now id.now) }
 {
-    !digits.is_empty() && is_id(id)
+    !digits.is_empty() && !id.is_empty()
 }
 
 /// The change that the first line of a text is. There is no answer where it is none.
 pub fn change_at(text: &[u8]) -> Option<Change<'_>>
     ensures none { IfNone result (IsNoChange text.now) }
     ensures some { IfSome result (λ c. IsChangeAt text.now c.digits.now c.id.now c.number c.behind.now) }
+    ensures id { IfSome result (λ c. length c.id.now ≤ 9 → c.id_number ≡ number_spelled c.id.now) }
 {
-    let front = bits_at(behind(text, b"b")?);
-    let halves = cut_at(front.behind, b'\n')?;
-    let id = behind(halves.before, b" ")?;
-    if is_change(front.digits, id) {
+    let bits = bits_at(behind(text, b"b")?);
+    let id = id_at(behind(bits.behind, b" ")?);
+    let rest = behind(id.behind, b"\n")?;
+    if is_change(bits.digits, id.digits) {
         Some(Change {
-            digits: front.digits,
-            number: front.number,
-            id,
-            behind: halves.behind,
+            digits: bits.digits,
+            number: bits.number,
+            id: id.digits,
+            id_number: id.number,
+            behind: rest,
         })
     } else {
         None

@@ -12,7 +12,7 @@ use Rattle.sap_wave.proofs.changes.changed.Goals as goal
 pub placed-requires : goal.placed-requires
 placed-requires c =
     let p = c.args.parts.now in
-    (and_parts (are_digits 48 2 p.digits.now) (is_id p.id.now) c.requires.formed).1
+    record { id = (and_parts (are_digits 48 2 p.digits.now) (is_id p.id.now) c.requires.formed).1; number = c.requires.id }
 
 pub returns-in_default-clause-wrong : goal.returns-in_default-clause-wrong
 returns-in_default-clause-wrong c =
