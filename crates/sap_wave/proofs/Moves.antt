@@ -85,6 +85,14 @@ from_some k (x ∷ xs) (m ∷ ms) (n ∷ ns) =
       | inr f ↦ rw f (ap (λ (z : List Form). set_to k x n ∷ z) more)
     ]
 
+pub all_there : (ns : List ℕ) → is_full (map Some ns) ≡ true
+all_there [] = refl
+all_there (n ∷ ns) = all_there ns
+
+pub all_numbers : (ns : List ℕ) → numbers_in (map Some ns) ≡ ns
+all_numbers [] = refl
+all_numbers (n ∷ ns) = ap (λ (z : List ℕ). n ∷ z) (all_numbers ns)
+
 pub none_lacks : (now : List (Option ℕ)) → is_full now ≡ true → now ≡ map Some (numbers_in now)
 none_lacks [] h = refl
 none_lacks (None ∷ now) h = absurd (cc)

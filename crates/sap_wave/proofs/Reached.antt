@@ -27,8 +27,9 @@ use Rattle.sap_wave.specs.Lines.{variable}
 use Rattle.sap_wave.specs.Waves.{names_of}
 use Rattle.sap_wave.specs.Reading.{OpenBlock, declaring, in_block, blocks_of, changed, first_block, is_first, is_full, next_block, numbers_in, width_at, IsChange, IsVariable, after}
 use Rattle.sap_wave.specs.Faults.{IsIdle, IsLeast, StandsAtEnd, Misdeclared, no_width, Misplaced, not_later, other_width}
-use Rattle.sap_wave.specs.Steps.{is_number, open_of, state_of, with_number}
+use Rattle.sap_wave.specs.Steps.{is_number, now_of, open_of, state_of, with_number}
 use Rattle.sap_wave.proofs.Each.{one_least}
+use Rattle.sap_wave.proofs.Moves.{none_lacks}
 use Rattle.sap_wave.proofs.Stepping.{is_known, number_is}
 
 -- a map of nothing
@@ -80,19 +81,26 @@ nones (x ∷ xs) = ap (λ (z : List (Option ℕ)). None ∷ z) (nones xs)
 abbrev item_lists : List (Vec ℕ Global) → List (List ℕ)
 item_lists vs = map (λ v. v.items) vs
 
-pub first_so : (xs : List Variable) (b : Block) → b.before.items ≡ [] → b.numbers.items ≡ replicate (length xs) None → b.next ≡ 0
+pub first_so : (xs : List Variable) (b : Block) → b.before.items ≡ [] → now_of b.numbers ≡ replicate (length xs) None → b.next ≡ 0
     → in_block xs (open_of b) ≡ in_block xs (first_block xs)
 first_so xs b before now next =
-    ap (in_block xs) (same_block (item_lists b.before.items) [] b.numbers.items (map (λ x. None) xs) b.next 0 (ap item_lists before) (now ∙ nones xs) next)
+    ap (in_block xs) (same_block (item_lists b.before.items) [] (now_of b.numbers) (map (λ x. None) xs) b.next 0 (ap item_lists before) (now ∙ nones xs) next)
 
-pub next_so : (old new : Block) (numbers : Vec ℕ Global) → numbers.items ≡ numbers_in old.numbers.items → new.before.items ≡ old.before.items ++ (numbers ∷ [])
-    → new.numbers.items ≡ old.numbers.items → new.next ≡ 0 → open_of new ≡ next_block (open_of old)
-next_so old new numbers are grown now next =
-    let before : item_lists new.before.items ≡ item_lists old.before.items ++ (numbers_in old.numbers.items ∷ []) =
+pub wave_so : (b : Block) (before : List (Vec ℕ Global)) (last : Vec ℕ Global) → last.items ≡ numbers_in (now_of b.numbers) → before ≡ b.before.items ++ (last ∷ [])
+    → item_lists before ≡ blocks_of (open_of b)
+wave_so b before last is grown =
     ap item_lists grown
-    ∙ map-append (λ (v : Vec ℕ Global). v.items) old.before.items (numbers ∷ [])
-    ∙ ap (λ (z : List ℕ). item_lists old.before.items ++ (z ∷ [])) are in
-    same_block (item_lists new.before.items) (item_lists old.before.items ++ (numbers_in old.numbers.items ∷ [])) new.numbers.items old.numbers.items new.next 0 before now next
+    ∙ map-append (λ (v : Vec ℕ Global). v.items) b.before.items (last ∷ [])
+    ∙ ap (λ (z : List ℕ). item_lists b.before.items ++ (z ∷ [])) is
+
+-- the numbers of an ended block stand behind those of the blocks before it, and the next begins with them
+pub next_so : (old new : Block) (ended : Vec ℕ Global) (numbers : List ℕ) → is_full (now_of old.numbers) ≡ true → numbers ≡ numbers_in (now_of old.numbers)
+    → ended.items ≡ numbers → new.before.items ≡ old.before.items ++ (ended ∷ []) → now_of new.numbers ≡ map Some numbers → new.next ≡ 0
+    → open_of new ≡ next_block (open_of old)
+next_so old new ended numbers full are copied grown now next =
+    let o = open_of old in
+    same_block (item_lists new.before.items) (blocks_of o) (now_of new.numbers) (now_of old.numbers) new.next 0 (wave_so old new.before.items ended (copied ∙ are) grown)
+    (now ∙ ap (map Some) are ∙ sym (none_lacks (now_of old.numbers) full)) next
 
 pub count_so : (b : Block) → length (open_of b).before ≡ length b.before.items
 count_so b = length_map (λ (v : Vec ℕ Global). v.items) b.before.items
@@ -158,13 +166,6 @@ few_digits (x ∷ xs) zero h l = h.0.1
 few_digits (x ∷ xs) (suc k) h l = few_digits xs k h.1 (omega (arith, l))
 
 -- The end.
-
-pub wave_so : (b : Block) (before : List (Vec ℕ Global)) (last : Vec ℕ Global) → last.items ≡ numbers_in b.numbers.items → before ≡ b.before.items ++ (last ∷ [])
-    → item_lists before ≡ blocks_of (open_of b)
-wave_so b before last is grown =
-    ap item_lists grown
-    ∙ map-append (λ (v : Vec ℕ Global). v.items) b.before.items (last ∷ [])
-    ∙ ap (λ (z : List ℕ). item_lists b.before.items ++ (z ∷ [])) is
 
 pub lacks : (xs : List Variable) (o : OpenBlock) → is_full o.now ≡ false → IsLeast (StandsAtEnd (in_block xs o)) Y5
 lacks xs o h = record { stands = h; least = above } where

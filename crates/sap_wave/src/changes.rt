@@ -1,6 +1,6 @@
 //! The changes of a block, one after another.
 
-ghost use Rattle.std.specs.Prelude.{◌≡◌, ◌+◌, ◌<◌, ◌≤◌, ◌^◌, ◌&&◌, ℕ, List, true, not, get_or, length, IfErr, IfNone, IfOk, IfSome, None};
+ghost use Rattle.std.specs.Prelude.{◌≡◌, ◌+◌, ◌<◌, ◌≤◌, ◌^◌, ◌&&◌, ℕ, List, true, not, get_or, length, set, IfErr, IfNone, IfOk, IfSome, None, Some};
 ghost use Rattle.sap_wave.specs.Digits.{bits_number, number_spelled};
 ghost use Rattle.sap_wave.specs.Lines.{change, is_formed, is_id};
 ghost use Rattle.sap_wave.specs.Reading.{Takes, after, in_block, is_first};
@@ -8,29 +8,40 @@ ghost use Rattle.sap_wave.specs.Read.{IsWaveFault, ReadUpTo};
 ghost use Rattle.sap_wave.specs.Faults.{IsLeast, IsWrong, Misplaced};
 ghost use Rattle.sap_wave.specs.Sound.{IsSound};
 ghost use Rattle.sap_wave.specs.Changes.{IsNoChange};
-ghost use Rattle.sap_wave.specs.Steps.{IsPlaced, is_number, open_of, with_number};
+ghost use Rattle.sap_wave.specs.Steps.{IsPlaced, is_number, now_of, open_of, with_number};
 
 use crate::fault::{WaveCode, WaveFault};
 use crate::numbers::identified_by;
 use crate::parts::{Change, change_at};
-use crate::state::Block;
+use crate::state::{Block, Numbers};
 use crate::variable::Variable;
 
-/// Whether a variable has a number.
-fn has_number(now: &[Option<u64>], place: usize, number: u64) -> bool
-    requires { place < length now.now }
-    ensures { result ≡ is_number number (get_or now.now place None) }
+/// Whether a variable has this number.
+fn has_number(numbers: &Numbers, place: usize, number: u64) -> bool
+    requires { place < length (now_of numbers.now) }
+    ensures { result ≡ is_number number (get_or (now_of numbers.now) place None) }
 {
-    match now[place] {
-        Some(other) => other == number,
-        None => false,
+    match numbers {
+        Numbers::First(numbers) => numbers[place] == Some(number),
+        Numbers::Later(numbers) => numbers[place] == number,
+    }
+}
+
+/// Gives a variable this number.
+fn set_number(numbers: &mut Numbers, place: usize, number: u64)
+    requires { place < length (now_of numbers.old) }
+    ensures { now_of numbers.new ≡ set (now_of numbers.old) place (Some number) }
+{
+    match numbers {
+        Numbers::First(numbers) => numbers[place] = Some(number),
+        Numbers::Later(numbers) => numbers[place] = number,
     }
 }
 
 /// Whether a block isn't the first, and a variable has a number there already.
 fn stands(reached: &Block, place: usize, number: u64) -> bool
-    requires { place < length reached.now.numbers.items }
-    ensures { result ≡ (not (is_first (open_of reached.now)) && is_number number (get_or reached.now.numbers.items place None)) }
+    requires { place < length (now_of reached.now.numbers) }
+    ensures { result ≡ (not (is_first (open_of reached.now)) && is_number number (get_or (now_of reached.now.numbers) place None)) }
 {
     !reached.before.is_empty() && has_number(&reached.numbers, place, number)
 }
@@ -54,10 +65,10 @@ fn placed(variables: &[Variable], reached: &Block, parts: &Change<'_>) -> Option
 
 /// Sets a variable, behind which the next can change.
 fn set(reached: &mut Block, place: usize, number: u64)
-    requires { place < length reached.old.numbers.items }
+    requires { place < length (now_of reached.old.numbers) }
     ensures { open_of reached.new ≡ with_number (open_of reached.old) place number }
 {
-    reached.numbers[place] = Some(number);
+    set_number(&mut reached.numbers, place, number);
     reached.next = place + 1;
 }
 

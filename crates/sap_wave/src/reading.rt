@@ -12,7 +12,7 @@ ghost use Rattle.sap_wave.specs.Waves.{Wave as Read};
 ghost use Rattle.sap_wave.specs.Reading.{Ends, in_block, is_full, ReadsSo};
 ghost use Rattle.sap_wave.specs.Faults.{IsFault, Stands, StandsAtEnd};
 ghost use Rattle.sap_wave.specs.Sound.{IsSound};
-ghost use Rattle.sap_wave.specs.Steps.{IsIndexed, Reaches, open_of, state_of};
+ghost use Rattle.sap_wave.specs.Steps.{IsIndexed, Reaches, now_of, open_of, state_of};
 
 use crate::changes::{Rest, read_changes};
 use crate::fault::{WaveCode, WaveFault};
@@ -40,7 +40,7 @@ fn read_numbered(alloc: Global, state: State, line: u64, text: &[u8]) -> Result<
 
 /// The wave that ends in a block in which each variable has a number.
 fn ended_in(alloc: Global, variables: Vec<Variable>, block: Block) -> Result<Wave, AllocError>
-    requires { is_full block.numbers.items ≡ true }
+    requires { is_full (now_of block.numbers) ≡ true }
     ensures { IfOk result (Ends (in_block variables.items (open_of block))) }
 {
     let Block {
@@ -48,7 +48,7 @@ fn ended_in(alloc: Global, variables: Vec<Variable>, block: Block) -> Result<Wav
         numbers,
         next: _,
     } = block;
-    let last = numbers_in(alloc, &numbers)?;
+    let last = numbers_in(alloc, numbers)?;
     before.push(last)?;
     Ok(Wave::new(variables, before))
 }

@@ -9,12 +9,21 @@ use crate::variable::Variable;
 use std::alloc::{AllocError, AllocFailed};
 use std::collections::HashMap;
 
-/// A block that isn't over: the numbers after each block before it, those that the variables have so far, which in
-/// block 0 may be missing, and the first variable that can still change.
+/// The numbers that the variables have so far.
+#[derive(Drop)]
+pub enum Numbers {
+    /// In block 0, where some may be missing.
+    First(Vec<Option<u64>>),
+    /// In a later block, where each has one.
+    Later(Vec<u64>),
+}
+
+/// A block that isn't over: the numbers after each block before it, those that the variables have so far, and the first
+/// variable that can still change.
 #[derive(Drop)]
 pub struct Block {
     pub before: Vec<Vec<u64>>,
-    pub numbers: Vec<Option<u64>>,
+    pub numbers: Numbers,
     pub next: usize,
 }
 

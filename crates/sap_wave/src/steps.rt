@@ -9,31 +9,54 @@ ghost use Rattle.sap_wave.specs.Waves.{names_of};
 ghost use Rattle.sap_wave.specs.Reading.{IsNextBlock, IsVariable, before_blocks, before_end, before_scope, before_timescale, declaring, in_block, is_full, next_block, numbers_in};
 ghost use Rattle.sap_wave.specs.Faults.{IsLeast, IsWrong, Misdeclared};
 ghost use Rattle.sap_wave.specs.Changes.{IsOther, IsOtherIn};
-ghost use Rattle.sap_wave.specs.Steps.{FormRead, IsIndexed, LineRead, open_of, state_of};
+ghost use Rattle.sap_wave.specs.Steps.{FormRead, IsIndexed, LineRead, now_of, open_of, state_of};
 
 use crate::fault::WaveCode;
 use crate::numbers::{has_identifier, is_number, width};
 use crate::parts::{Declaration, block_number, declaration_of};
 use crate::pieces::{is_name, is_same};
-use crate::state::{Block, State, Stop};
+use crate::state::{Block, Numbers, State, Stop};
 use crate::variable::Variable;
 use sap_net::name_map::{index, is_indexed};
 use sap_net::parts::Name;
 use std::alloc::{AllocError, Global};
 use std::collections::HashMap;
 
-/// Whether each variable has a number.
-pub fn is_full(now: &[Option<u64>]) -> bool
-    ensures { result ≡ is_full now.now }
+/// Whether none is missing.
+fn are_there(numbers: &[Option<u64>]) -> bool
+    ensures { result ≡ is_full numbers.now }
 {
-    now.iter().all(|number| number.is_some())
+    numbers.iter().all(|number| number.is_some())
+}
+
+/// Whether each variable has a number.
+pub fn is_full(numbers: &Numbers) -> bool
+    ensures { result ≡ is_full (now_of numbers.now) }
+{
+    match numbers {
+        Numbers::First(numbers) => are_there(numbers),
+        Numbers::Later(_) => true,
+    }
+}
+
+/// These numbers, 0 where one is missing.
+fn or_zeros(alloc: Global, numbers: &[Option<u64>]) -> Result<Vec<u64>, AllocError>
+    ensures { IfOk result (λ all. all.items ≡ numbers_in numbers.now) }
+{
+    numbers
+        .iter()
+        .map(|number| number.unwrap_or(0))
+        .collect(alloc)
 }
 
 /// The numbers of the variables.
-pub fn numbers_in(alloc: Global, now: &[Option<u64>]) -> Result<Vec<u64>, AllocError>
-    ensures { IfOk result (λ numbers. numbers.items ≡ numbers_in now.now) }
+pub fn numbers_in(alloc: Global, numbers: Numbers) -> Result<Vec<u64>, AllocError>
+    ensures { IfOk result (λ all. all.items ≡ numbers_in (now_of numbers)) }
 {
-    now.iter().map(|number| number.unwrap_or(0)).collect(alloc)
+    match numbers {
+        Numbers::First(numbers) => or_zeros(alloc, &numbers),
+        Numbers::Later(numbers) => Ok(numbers),
+    }
 }
 
 fn first_line(text: &[u8]) -> Result<State, Stop>
@@ -164,7 +187,7 @@ fn first_block(alloc: Global, variables: Vec<Variable>, digits: &[u8]) -> Result
     if !is_number(digits, 0) {
         return Err(Stop::Code(WaveCode::Y4));
     }
-    let numbers = unset(alloc, variables.len())?;
+    let numbers = Numbers::First(unset(alloc, variables.len())?);
     let before = Vec::new(alloc);
     Ok(State::InBlock(
         variables,
@@ -200,20 +223,30 @@ fn wrong_end(reached: &Block, digits: &[u8]) -> Option<WaveCode>
 }
 
 /// Ends a block and begins the next.
-fn begin_next(alloc: Global, reached: &mut Block) -> Result<(), AllocError>
-    ensures { OnOk result (open_of reached.new ≡ next_block (open_of reached.old)) }
+fn begin_next(alloc: Global, reached: Block) -> Result<Block, AllocError>
+    requires { is_full (now_of reached.numbers) ≡ true }
+    ensures { IfOk result (λ next. open_of next ≡ next_block (open_of reached)) }
 {
-    let numbers = numbers_in(alloc, &reached.numbers)?;
-    reached.before.push(numbers)?;
-    reached.next = 0;
-    Ok(())
+    let Block {
+        mut before,
+        numbers,
+        next: _,
+    } = reached;
+    let numbers = numbers_in(alloc, numbers)?;
+    let ended = numbers.to_vec(alloc)?;
+    before.push(ended)?;
+    Ok(Block {
+        before,
+        numbers: Numbers::Later(numbers),
+        next: 0,
+    })
 }
 
 /// Ends a block and begins the next, which has this number.
 fn next_block(
     alloc: Global,
     variables: Vec<Variable>,
-    mut reached: Block,
+    reached: Block,
     digits: &[u8],
 ) -> Result<State, Stop>
     ensures { FormRead (in_block variables.items (open_of reached)) (block digits.now) result }
@@ -221,8 +254,8 @@ fn next_block(
     if let Some(code) = wrong_end(&reached, digits) {
         return Err(Stop::Code(code));
     }
-    begin_next(alloc, &mut reached)?;
-    Ok(State::InBlock(variables, reached))
+    let next = begin_next(alloc, reached)?;
+    Ok(State::InBlock(variables, next))
 }
 
 fn block_line(

@@ -3,7 +3,7 @@ use Rattle.std.proofs.lemmas.Bool.{and_parts}
 use Rattle.sap_wave.specs.Digits.{are_digits}
 use Rattle.sap_wave.specs.Lines.{is_id}
 use Rattle.sap_wave.specs.Reading.{in_block}
-use Rattle.sap_wave.specs.Steps.{open_of}
+use Rattle.sap_wave.specs.Steps.{now_of, open_of}
 use Rattle.sap_wave.proofs.Reached.{changes_so, few_digits, idle_so, number_so}
 use Rattle.sap_wave.proofs.Sounding.{one_each}
 use Rattle.sap_wave.proofs.Stepping.{idle, misplaced, well_placed}
@@ -21,13 +21,13 @@ returns-in_default-clause-wrong c =
 
 pub stands-requires : goal.stands-requires
 stands-requires c =
-    let each = one_each c.args.variables.now c.args.reached.now.numbers.items c.requires.sound.1 in
+    let each = one_each c.args.variables.now (now_of c.args.reached.now.numbers) c.requires.sound.1 in
     let within = c.in-Some.ensures.some.within in
     omega (arith, each, within)
 
 pub set-requires : goal.set-requires
 set-requires c =
-    let each = one_each c.args.variables.now c.args.reached.now.numbers.items c.requires.sound.1 in
+    let each = one_each c.args.variables.now (now_of c.args.reached.now.numbers) c.requires.sound.1 in
     let within = c.in-Some.ensures.some.within in
     omega (arith, each, within)
 

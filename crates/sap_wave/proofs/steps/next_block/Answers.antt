@@ -6,4 +6,4 @@ pub returns-in-Some : goal.returns-in-Some
 returns-in-Some c = c.in-Some.ensures.some c.args.variables.items
 
 pub returns : goal.returns
-returns c = (c.in_default.ensures.none, ap (in_block c.args.variables.items) c.in_ok-begin_next.ensures, tt)
+returns c = (c.in_default.ensures.none, ap (in_block c.args.variables.items) c.in_ok-next.ensures, tt)

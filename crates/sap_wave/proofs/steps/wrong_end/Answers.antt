@@ -2,7 +2,6 @@ use Rattle.std.proofs.Common.{◌≡◌, ap, sym, length, ◌+◌, ◌∙◌}
 use Rattle.std.specs.Str.Parse.{digits_value}
 use Rattle.sap_lemmas.proofs.Bools.{true_is_not_false}
 use Rattle.sap_lemmas.proofs.Numbers.{equal_of_test, test_of_equal}
-use Rattle.sap_wave.specs.Reading.{is_full}
 use Rattle.sap_wave.specs.Steps.{open_of}
 use Rattle.sap_wave.proofs.Reached.{count_so}
 use Rattle.sap_wave.proofs.Stepping.{not_full, other_next}
@@ -20,13 +19,13 @@ returns-then-not-is_full-clause-some c = λ xs.
     let b = c.args.reached.now in
     let next : length (open_of b).before + 1 ≡ c.len.result + 1 = ap (λ k. k + 1) (count_so b ∙ sym (c.len.ensures ∙ b.before.ok.0)) in
     not_full xs (open_of b) c.args.digits.now (equal_of_test (digits_value 10 c.args.digits.now) (c.len.result + 1) (sym c.if-not-is_number.ensures) ∙ sym next)
-    (ap is_full (sym c.deref.ensures.value) ∙ sym c.if-not-is_full.ensures)
+    (sym c.if-not-is_full.ensures)
 
 pub returns-clause-none : goal.returns-clause-none
 returns-clause-none c =
     let b = c.args.reached.now in
     let next : length (open_of b).before + 1 ≡ c.len.result + 1 = ap (λ k. k + 1) (count_so b ∙ sym (c.len.ensures ∙ b.before.ok.0)) in
     record {
-      full = ap is_full (sym c.deref.ensures.value) ∙ sym c.if-not-is_full.ensures;
+      full = sym c.if-not-is_full.ensures;
       in_turn = equal_of_test (digits_value 10 c.args.digits.now) (c.len.result + 1) (sym c.if-not-is_number.ensures) ∙ sym next;
     }

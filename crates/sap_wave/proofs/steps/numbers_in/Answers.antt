@@ -1,0 +1,8 @@
+use Rattle.std.proofs.Common.{ap, sym, ◌∙◌}
+use Rattle.sap_wave.specs.Reading.{numbers_in}
+use Rattle.sap_wave.specs.Steps.{now_of}
+use Rattle.sap_wave.proofs.Moves.{all_numbers}
+use Rattle.sap_wave.proofs.steps.numbers_in.Goals as goal
+
+pub returns-in-Later : goal.returns-in-Later
+returns-in-Later c = sym (ap (λ ns. numbers_in (now_of ns)) c.in-Later.is ∙ all_numbers c.in-Later.numbers.items)
