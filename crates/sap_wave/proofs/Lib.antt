@@ -33,5 +33,6 @@ pub mod Sounding
 pub mod ReadUpTo
 pub mod ChangesRead
 pub mod WorkedFaults
+pub mod Flat
 pub mod Reached
 pub mod Exact

@@ -1,13 +1,12 @@
 -- What is reached by a line of its form.
 use Rattle.std.proofs.Common.{◌≡◌, ℕ, zero, suc, ◌<◌, ◌≤◌, List, [], ◌∷◌, ◌++◌, Bool, true, false, not, ◌&&◌, Option, Some, None, length, map, get_or, replicate, Vec, Global, refl, sym, ap, ◌∙◌, arith, subst}
-use Rattle.std.specs.Prelude.{◌==◌, IfNone, IfSome}
+use Rattle.std.specs.Prelude.{IfNone, IfSome}
 use Rattle.std.specs.List.{AllByRecursion}
 use Rattle.std.specs.Map.{lookup}
 use Rattle.std.specs.Str.{bytes_eq}
 use Rattle.std.specs.Str.Parse.{digits_value}
 use Rattle.std.proofs.lemmas.List.{map-append}
 use Rattle.sap_lemmas.proofs.Bools.{true_is_not_false}
-use Rattle.sap_lemmas.proofs.Lists.{length_map}
 use Rattle.sap_lemmas.proofs.Numbers.{equal_of_test, test_of_equal}
 use Rattle.sap_lemmas.proofs.Options.{some_same}
 use Rattle.sap_lemmas.proofs.Texts.{equal_of_bytes_eq}
@@ -27,7 +26,7 @@ use Rattle.sap_wave.specs.Lines.{variable}
 use Rattle.sap_wave.specs.Waves.{names_of}
 use Rattle.sap_wave.specs.Reading.{OpenBlock, declaring, in_block, blocks_of, changed, first_block, is_first, is_full, next_block, numbers_in, width_at, IsChange, IsVariable, after}
 use Rattle.sap_wave.specs.Faults.{IsIdle, IsLeast, StandsAtEnd, Misdeclared, no_width, Misplaced, not_later, other_width}
-use Rattle.sap_wave.specs.Steps.{is_number, now_of, open_of, state_of, with_number}
+use Rattle.sap_wave.specs.Steps.{is_number, state_of, with_number}
 use Rattle.sap_wave.proofs.Each.{one_least}
 use Rattle.sap_wave.proofs.Moves.{none_lacks}
 use Rattle.sap_wave.proofs.Stepping.{is_known, number_is}
@@ -78,37 +77,20 @@ pub nones : (xs : List Variable) → replicate {A = Option ℕ} (length xs) None
 nones [] = refl
 nones (x ∷ xs) = ap (λ (z : List (Option ℕ)). None ∷ z) (nones xs)
 
-abbrev item_lists : List (Vec ℕ Global) → List (List ℕ)
-item_lists vs = map (λ v. v.items) vs
+pub first_so : (xs : List Variable) (before : List (List ℕ)) (now : List (Option ℕ)) → before ≡ [] → now ≡ replicate (length xs) None
+    → in_block xs (opened before now 0) ≡ in_block xs (first_block xs)
+first_so xs before now none lacking = ap (in_block xs) (same_block before [] now (map (λ x. None) xs) 0 0 none (lacking ∙ nones xs) refl)
 
-pub first_so : (xs : List Variable) (b : Block) → b.before.items ≡ [] → now_of b.numbers ≡ replicate (length xs) None → b.next ≡ 0
-    → in_block xs (open_of b) ≡ in_block xs (first_block xs)
-first_so xs b before now next =
-    ap (in_block xs) (same_block (item_lists b.before.items) [] (now_of b.numbers) (map (λ x. None) xs) b.next 0 (ap item_lists before) (now ∙ nones xs) next)
-
-pub wave_so : (b : Block) (before : List (Vec ℕ Global)) (last : Vec ℕ Global) → last.items ≡ numbers_in (now_of b.numbers) → before ≡ b.before.items ++ (last ∷ [])
-    → item_lists before ≡ blocks_of (open_of b)
-wave_so b before last is grown =
-    ap item_lists grown
-    ∙ map-append (λ (v : Vec ℕ Global). v.items) b.before.items (last ∷ [])
-    ∙ ap (λ (z : List ℕ). item_lists b.before.items ++ (z ∷ [])) is
+pub ended_so : (o : OpenBlock) (blocks : List (List ℕ)) (numbers : List ℕ) → numbers ≡ numbers_in o.now → blocks ≡ o.before ++ (numbers ∷ []) → blocks ≡ blocks_of o
+ended_so o blocks numbers are grown = grown ∙ ap (λ (z : List ℕ). o.before ++ (z ∷ [])) are
 
 -- the numbers of an ended block stand behind those of the blocks before it, and the next begins with them
-pub next_so : (old new : Block) (ended : Vec ℕ Global) (numbers : List ℕ) → is_full (now_of old.numbers) ≡ true → numbers ≡ numbers_in (now_of old.numbers)
-    → ended.items ≡ numbers → new.before.items ≡ old.before.items ++ (ended ∷ []) → now_of new.numbers ≡ map Some numbers → new.next ≡ 0
-    → open_of new ≡ next_block (open_of old)
-next_so old new ended numbers full are copied grown now next =
-    let o = open_of old in
-    same_block (item_lists new.before.items) (blocks_of o) (now_of new.numbers) (now_of old.numbers) new.next 0 (wave_so old new.before.items ended (copied ∙ are) grown)
-    (now ∙ ap (map Some) are ∙ sym (none_lacks (now_of old.numbers) full)) next
-
-pub count_so : (b : Block) → length (open_of b).before ≡ length b.before.items
-count_so b = length_map (λ (v : Vec ℕ Global). v.items) b.before.items
+pub next_so : (o : OpenBlock) (blocks : List (List ℕ)) (numbers : List ℕ) → is_full o.now ≡ true → numbers ≡ numbers_in o.now → blocks ≡ o.before ++ (numbers ∷ [])
+    → opened blocks (map Some numbers) 0 ≡ next_block o
+next_so o blocks numbers full are grown =
+    same_block blocks (blocks_of o) (map Some numbers) o.now 0 0 (ended_so o blocks numbers are grown) (ap (map Some) are ∙ sym (none_lacks o.now full)) refl
 
 -- Changes.
-
-pub is_first_so : (b : Block) (e : Bool) → e ≡ (length b.before.items == 0) → e ≡ is_first (open_of b)
-is_first_so b e h = h ∙ ap (λ (k : ℕ). k == 0) (sym (count_so b))
 
 number_there : (n : ℕ) (o : Option ℕ) → is_number n o ≡ true → o ≡ Some n
 number_there n None h = absurd (true_is_not_false (sym h))

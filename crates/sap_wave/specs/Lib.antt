@@ -4,6 +4,8 @@ pub mod FaultTexts
 pub mod Lines
 pub mod Pieces
 pub mod Waves
+pub mod BlockLists
+pub mod Numbers
 pub mod Dumps
 pub mod Reading
 pub mod Faults

@@ -1,9 +1,7 @@
 -- What is read of one line after another, as a reader holds it.
-use Rattle.std.specs.Prelude.{◌≡◌, ◌==◌, ◌+◌, ◌<◌, ◌≤◌, ℕ, Bool, false, List, length, map, set, Option, Some, None, Result, Ok, Err}
+use Rattle.std.specs.Prelude.{◌≡◌, ◌==◌, ◌+◌, ◌<◌, ◌≤◌, ℕ, Bool, false, List, length, set, Option, Some, None, Result, Ok, Err}
 use Rattle.sap_net.specs.NameMaps.{Indexes}
 use Rattle.sap_wave.specs.declared.state.Block.{Block}
-use Rattle.sap_wave.specs.declared.state.Numbers.{Numbers}
-use Rattle.sap_wave.specs.declared.state.Numbers.TheVariants.{First, Later}
 use Rattle.sap_wave.specs.declared.state.State.{State as Held}
 use Rattle.sap_wave.specs.declared.state.State.TheVariants as held
 use Rattle.sap_wave.specs.declared.state.Stop.{Stop}
@@ -13,15 +11,13 @@ use Rattle.sap_wave.specs.Lines.{ended, Form, IsLine}
 use Rattle.sap_wave.specs.declared.variable.Variable.{Variable}
 use Rattle.sap_wave.specs.Digits.{identifier}
 use Rattle.sap_wave.specs.Waves.{names_of}
+use Rattle.sap_wave.specs.BlockLists.{blocks_in}
+use Rattle.sap_wave.specs.Numbers.{now_of}
 use Rattle.sap_wave.specs.Reading.{OpenBlock, State, before_timescale, before_scope, declaring, before_end, before_blocks, in_block, width_at, Takes, after}
 use Rattle.sap_wave.specs.Faults.{IsLeast, IsWrong, Stands}
 
-abbrev pub now_of : Numbers → List (Option ℕ)
-now_of (First ns) = ns.items
-now_of (Later ns) = map Some ns.items
-
 abbrev pub open_of : Block → OpenBlock
-open_of b = record { before = map (λ numbers. numbers.items) b.before.items; now = now_of b.numbers; next = b.next }
+open_of b = record { before = blocks_in b.before; now = now_of b.numbers; next = b.next }
 
 abbrev pub state_of : Held → State
 state_of held.BeforeTimescale = before_timescale

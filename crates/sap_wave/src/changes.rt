@@ -8,7 +8,8 @@ ghost use Rattle.sap_wave.specs.Read.{IsWaveFault, ReadUpTo};
 ghost use Rattle.sap_wave.specs.Faults.{IsLeast, IsWrong, Misplaced};
 ghost use Rattle.sap_wave.specs.Sound.{IsSound};
 ghost use Rattle.sap_wave.specs.Changes.{IsNoChange};
-ghost use Rattle.sap_wave.specs.Steps.{IsPlaced, is_number, now_of, open_of, with_number};
+ghost use Rattle.sap_wave.specs.Steps.{IsPlaced, is_number, open_of, with_number};
+ghost use Rattle.sap_wave.specs.Numbers.{now_of};
 
 use crate::fault::{WaveCode, WaveFault};
 use crate::numbers::identified_by;

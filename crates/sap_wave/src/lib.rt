@@ -3,6 +3,7 @@
 //! Each law stands on an empty function, whose clauses a caller in another crate has by calling it.
 #![tactic(auto)]
 
+mod block_list;
 mod changes;
 mod digits;
 pub mod dumper;

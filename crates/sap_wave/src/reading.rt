@@ -12,7 +12,8 @@ ghost use Rattle.sap_wave.specs.Waves.{Wave as Read};
 ghost use Rattle.sap_wave.specs.Reading.{Ends, in_block, is_full, ReadsSo};
 ghost use Rattle.sap_wave.specs.Faults.{IsFault, Stands, StandsAtEnd};
 ghost use Rattle.sap_wave.specs.Sound.{IsSound};
-ghost use Rattle.sap_wave.specs.Steps.{IsIndexed, Reaches, now_of, open_of, state_of};
+ghost use Rattle.sap_wave.specs.Steps.{IsIndexed, Reaches, open_of, state_of};
+ghost use Rattle.sap_wave.specs.Numbers.{now_of};
 
 use crate::changes::{Rest, read_changes};
 use crate::fault::{WaveCode, WaveFault};
@@ -49,7 +50,7 @@ fn ended_in(alloc: Global, variables: Vec<Variable>, block: Block) -> Result<Wav
         next: _,
     } = block;
     let last = numbers_in(alloc, numbers)?;
-    before.push(last)?;
+    before.push(&last)?;
     Ok(Wave::new(variables, before))
 }
 

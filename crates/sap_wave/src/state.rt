@@ -1,9 +1,11 @@
 //! What was read of a dump so far.
 
-ghost use Rattle.std.specs.Prelude.{◌≡◌};
+ghost use Rattle.std.specs.Prelude.{◌≡◌, length};
+ghost use Rattle.sap_wave.specs.Numbers.{now_of};
 ghost use Rattle.sap_wave.specs.Read.{fault_at};
 ghost use Rattle.sap_wave.specs.declared.state.Stop.TheVariants.{Memory};
 
+use crate::block_list::BlockList;
 use crate::fault::{WaveCode, WaveFault};
 use crate::variable::Variable;
 use std::alloc::{AllocError, AllocFailed};
@@ -22,9 +24,10 @@ pub enum Numbers {
 /// variable that can still change.
 #[derive(Drop)]
 pub struct Block {
-    pub before: Vec<Vec<u64>>,
+    pub before: BlockList,
     pub numbers: Numbers,
     pub next: usize,
+    ghost wide: { length (now_of numbers) ≡ before.width },
 }
 
 /// What was read so far, and so which lines can come next.

@@ -9,8 +9,10 @@ ghost use Rattle.sap_wave.specs.Waves.{names_of};
 ghost use Rattle.sap_wave.specs.Reading.{IsNextBlock, IsVariable, before_blocks, before_end, before_scope, before_timescale, declaring, in_block, is_full, next_block, numbers_in};
 ghost use Rattle.sap_wave.specs.Faults.{IsLeast, IsWrong, Misdeclared};
 ghost use Rattle.sap_wave.specs.Changes.{IsOther, IsOtherIn};
-ghost use Rattle.sap_wave.specs.Steps.{FormRead, IsIndexed, LineRead, now_of, open_of, state_of};
+ghost use Rattle.sap_wave.specs.Steps.{FormRead, IsIndexed, LineRead, open_of, state_of};
+ghost use Rattle.sap_wave.specs.Numbers.{now_of};
 
+use crate::block_list::BlockList;
 use crate::fault::WaveCode;
 use crate::numbers::{has_identifier, is_number, width};
 use crate::parts::{Declaration, block_number, declaration_of};
@@ -187,8 +189,9 @@ fn first_block(alloc: Global, variables: Vec<Variable>, digits: &[u8]) -> Result
     if !is_number(digits, 0) {
         return Err(Stop::Code(WaveCode::Y4));
     }
-    let numbers = Numbers::First(unset(alloc, variables.len())?);
-    let before = Vec::new(alloc);
+    let count = variables.len();
+    let numbers = Numbers::First(unset(alloc, count)?);
+    let before = BlockList::new(alloc, count);
     Ok(State::InBlock(
         variables,
         Block {
@@ -213,7 +216,7 @@ fn wrong_end(reached: &Block, digits: &[u8]) -> Option<WaveCode>
     ensures some { IfSome result (λ code. (xs : List Variable) → IsLeast (IsWrong (in_block xs (open_of reached.now)) (block digits.now)) code) }
     ensures none { IfNone result (IsNextBlock (open_of reached.now) digits.now) }
 {
-    if !is_number(digits, reached.before.len() as u64 + 1) {
+    if !is_number(digits, reached.before.count() as u64 + 1) {
         return Some(WaveCode::Y4);
     }
     if !is_full(&reached.numbers) {
@@ -233,8 +236,7 @@ fn begin_next(alloc: Global, reached: Block) -> Result<Block, AllocError>
         next: _,
     } = reached;
     let numbers = numbers_in(alloc, numbers)?;
-    let ended = numbers.to_vec(alloc)?;
-    before.push(ended)?;
+    before.push(&numbers)?;
     Ok(Block {
         before,
         numbers: Numbers::Later(numbers),

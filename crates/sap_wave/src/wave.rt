@@ -1,7 +1,8 @@
 //! What a dump is read as.
 
-ghost use Rattle.std.specs.Prelude.{◌≡◌, ◌<◌, length, slice_get, map, Some};
+ghost use Rattle.std.specs.Prelude.{◌≡◌, ◌<◌, length, slice_get, Some};
 
+use crate::block_list::BlockList;
 use crate::variable::Variable;
 use std::marker::Model;
 
@@ -9,22 +10,24 @@ use std::marker::Model;
 #[derive(Drop)]
 pub struct Wave {
     variables: Vec<Variable>,
-    blocks: Vec<Vec<u64>>,
+    blocks: BlockList,
 }
 
 impl Model for Wave {
-    ghost use Rattle.std.specs.Prelude.{map};
+    ghost use Rattle.sap_wave.specs.BlockLists.{blocks_in};
     ghost use Rattle.sap_wave.specs.Waves.{Wave as Read};
 
     ghost Value = { Read };
 
-    ghost view = { λ w. record { variables = w.variables.items; blocks = map (λ numbers. numbers.items) w.blocks.items } };
+    ghost view = { λ w. record { variables = w.variables.items; blocks = blocks_in w.blocks } };
 }
 
 impl Wave {
+    ghost use Rattle.sap_wave.specs.BlockLists.{blocks_in};
+
     /// These variables, with these numbers after each block.
-    pub fn new(variables: Vec<Variable>, blocks: Vec<Vec<u64>>) -> Wave
-        ensures { result ≡ record { variables = variables.items; blocks = map (λ numbers. numbers.items) blocks.items } }
+    pub fn new(variables: Vec<Variable>, blocks: BlockList) -> Wave
+        ensures { result ≡ record { variables = variables.items; blocks = blocks_in blocks } }
     {
         Wave { variables, blocks }
     }
@@ -39,7 +42,7 @@ impl Wave {
     pub fn block_count(&self) -> usize
         ensures { result ≡ length self.now.blocks }
     {
-        self.blocks.len()
+        self.blocks.count()
     }
 
     /// The numbers of the variables after a block.
@@ -47,6 +50,6 @@ impl Wave {
         requires { number < length self.now.blocks }
         ensures { slice_get self.now.blocks number ≡ Some result.now }
     {
-        self.blocks[number].as_slice()
+        self.blocks.block(number)
     }
 }

@@ -1,6 +1,6 @@
 use Rattle.std.proofs.Common.{Some, ap, set, sym, ◌∙◌}
 use Rattle.std.proofs.lemmas.List.{map-set}
-use Rattle.sap_wave.specs.Steps.{now_of}
+use Rattle.sap_wave.specs.Numbers.{now_of}
 use Rattle.sap_wave.proofs.changes.set_number.Goals as goal
 
 pub returns-in-Later : goal.returns-in-Later

@@ -1,7 +1,6 @@
-use Rattle.std.proofs.Common.{ℕ, Option, None, replicate, refl, sym, ap, ◌∙◌}
+use Rattle.std.proofs.Common.{ℕ, Option, None, replicate, sym, ap, ◌∙◌}
 use Rattle.std.specs.Str.Parse.{digits_value}
 use Rattle.sap_lemmas.proofs.Numbers.{equal_of_test}
-use Rattle.sap_wave.specs.declared.state.Numbers.TheVariants.{First}
 use Rattle.sap_wave.proofs.Reached.{first_so}
 use Rattle.sap_wave.proofs.steps.first_block.Goals as goal
 
@@ -9,7 +8,7 @@ use Rattle.sap_wave.proofs.steps.first_block.Goals as goal
 pub returns : goal.returns
 returns c = (
   equal_of_test (digits_value 10 c.args.digits.now) 0 (sym c.if-not-is_number.ensures),
-  first_so c.args.variables.items (record { before = c.new-before.result; numbers = First c.in_ok-unset.field-0; next = 0 }) c.new-before.ensures.items
-      (c.in_ok-unset.ensures ∙ ap (λ (k : ℕ). replicate {A = Option ℕ} k None) (c.len.ensures ∙ c.args.variables.ok.0)) refl,
+  first_so c.args.variables.items _ c.in_ok-unset.field-0.items c.new-before.ensures.blocks
+      (c.in_ok-unset.ensures ∙ ap (λ (k : ℕ). replicate {A = Option ℕ} k None) (c.len-count.ensures ∙ c.args.variables.ok.0)),
   tt,
 )
