@@ -87,12 +87,12 @@ commands_are r t j a (suc k) b some few more short =
     (commands_are r t j (a + 1) k (omega arith) some few more short)
 
 so_many_commands : (r t j a k : ℕ) → list_count (rest_of_body r t j a k) ≡ k + 1
-unfolding list_count command_count
+unfolding command_count list_count
 so_many_commands r t j a zero = refl
 so_many_commands r t j a (suc k) = ap (λ (n : ℕ). 1 + n) (so_many_commands r t j (a + 1) k) ∙ (let e : 1 + (k + 1) ≡ suc k + 1 = omega arith in e)
 
 no_blocks : (r t j a k : ℕ) → list_depth (rest_of_body r t j a k) ≡ 1
-unfolding list_depth command_depth
+unfolding command_depth list_depth
 no_blocks r t j a zero = refl
 no_blocks r t j a (suc k) = ap (λ (n : ℕ). max 1 n) (no_blocks r t j (a + 1) k)
 
@@ -106,7 +106,7 @@ flat : (depth : ℕ) → depth ≡ 1 → nat_le depth most_blocks ≡ true
 flat depth e = rw e refl
 
 state_is : (r t j : ℕ) → j < 64 → 0 < r → r ≤ 64 → 0 < t → t ≤ 64 → is_state One (state r t j) ≡ true
-unfolding is_state is_block block_depth are_states
+unfolding is_state is_block block_depth list_depth are_states
 state_is r t j h some few more short =
     and_from _ true
     (and_from _ _ (and_from _ _ (and_from _ _ (state_is_name j h) low_is) (commands_are r t j 0 r (omega arith) some few more short))
@@ -131,7 +131,7 @@ one_level r t a zero = omega arith
 one_level r t a (suc k) = let h = one_level r t (a + 1) k in omega arith
 
 few_commands : (r t a k : ℕ) → r ≤ 61 → states_commands (states (map (state r t) (range_with_len a k))) ≤ 62 * k
-unfolding states_commands state_commands block_count
+unfolding states_commands state_commands block_count list_count
 few_commands r t a zero few = omega arith
 few_commands r t a (suc k) few = let h = few_commands r t (a + 1) k few in let e = so_many_commands r t a 0 r in omega arith
 

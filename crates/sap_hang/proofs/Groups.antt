@@ -27,7 +27,7 @@ home_in s = record { name = (out-State s).name.name; kind = (out-State s).kind; 
 
 state_assigns-is : (s : State) (x : List ℕ)
     → state_assigns (state_of s) x ≡ (list_assigns (commands_of (out-State s).body.commands.items) x || states_assign (states_of (out-State s).children.items) x)
-unfolding state_assigns block_assigns list_assigns
+unfolding state_assigns states_assign block_assigns list_assigns
 state_assigns-is s x = ap (λ (t : StateTree). state_assigns t x) (state_of-out s)
 
 module _ (es : List Entity) (ds : List Decl) where
@@ -81,7 +81,7 @@ module _ (es : List Entity) (ds : List Decl) where
 
   pub states_start : (ss : List State) (n : ℕ) (r : List Set) (a f : Set) → length ss ≤ n → ((x : ℕ) → has a x ≡ false)
       → ((x : ℕ) → has f x ≡ false) → Passed es ds (drop n ss) r r a f
-  unfolding states_assign is_dynamic_child
+  unfolding state_assigns states_assign is_dynamic_child
   states_start ss n r a f l ea ef =
       subst (λ (z : List State). Passed es ds z r r a f) (sym (drop_of_length-le ss l)) (record {
         rows = refl;
@@ -99,7 +99,7 @@ module _ (es : List Entity) (ds : List Decl) where
       → Adds es (λ x. bytes_eq (out-State d).name.name x && is_dynamic_kind (out-State d).kind) f1 f2
       → table_of es r2 ≡ touched_on es ds (state_points (state_of d)) ++ table_of es r1 → Adds es (stored ds (λ x. state_assigns (state_of d) x)) a1 a2
       → Passed es ds (drop n ss) r0 r2 a2 f2
-  unfolding states_assign
+  unfolding state_assigns states_assign
   states_step ss n m d r0 r1 r2 a1 f1 a2 f2 l next e p c r a =
       let rest = drop m ss in
       let parts : drop n ss ≡ d ∷ rest = drop_more ss n d l ∙ ap (λ (k : ℕ). get_or ss n d ∷ drop k ss) (sym next) ∙ ap (λ (z : State). z ∷ rest) (sym e) in

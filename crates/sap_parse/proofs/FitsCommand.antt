@@ -249,7 +249,7 @@ do_fits a b =
 
 try_fits : {version : Version} {n : ℕ} {p : Place} {x : t.SimpleCommand} {h : t.CommandBlock} {c1 c2 c3 c4 : Counts} → FitsSimple version n x c1 c2 → RoleFact r.Plain c2 c3
     → FitsCommands (n + 1) (is_block version h) (block_count h) (block_depth h) c3 c4 → FitsCommand version n (t.try x p h) c1 c4
-unfolding is_command command_count command_depth
+unfolding is_command command_count block_count command_depth block_depth
 try_fits a b c =
     let n = a.count in let m = a.room in let l = a.level in let s = a.states in let n' = c.count in let m' = c.room (omega arith) in
     let l' = c.level (omega arith) in let s' = c.states in
@@ -260,7 +260,7 @@ if_fits : {version : Version} {n : ℕ} {p : Place} {x : t.Expression} {h : t.Co
     → RoleFact r.Plain c4 c5 → FitsCommands (n + 1) (is_block version h) (block_count h) (block_depth h) c5 c6
     → FitsCommands (n + 1) (is_else version o) (else_count o) (else_depth o) c6 c7
     → FitsCommand version n (t.if_else p x h o) c1 c7
-unfolding is_command command_count command_depth
+unfolding is_command command_count block_count else_count command_depth block_depth else_depth
 if_fits a b x d h o =
     let a0 = a.0 in let a1 = a.1 in let a2 = a.2 in let sx = x.states in let nx = x.commands in
     let nh = h.count in let mh = h.room (omega arith) in let lh = h.level (omega arith) in let sh = h.states in
@@ -276,7 +276,7 @@ try_then_fits : {version : Version} {n : ℕ} {p : Place} {x : t.SimpleCommand} 
     → FitsCommands (n + 1) (is_block version a) (block_count a) (block_depth a) c3 c4 → RoleFact r.Plain c4 c5
     → FitsCommands (n + 1) (is_block version b) (block_count b) (block_depth b) c5 c6
     → FitsCommand version n (t.try_then x p a b) c1 c6
-unfolding is_command command_count command_depth
+unfolding is_command command_count block_count command_depth block_depth
 try_then_fits second x d a e b =
     let n = x.count in let m = x.room in let l = x.level in let s = x.states in
     let na = a.count in let ma = a.room (omega arith) in let la = a.level (omega arith) in let sa = a.states in
@@ -313,7 +313,7 @@ arm_fits version x xs k a b d h =
 last_fits : (version : Version) {n : ℕ} (h : t.CommandBlock) {c1 c2 c3 : Counts} → RoleFact r.Plain c1 c2
     → FitsCommands n (is_block version h) (block_count h) (block_depth h) c2 c3
     → FitsCommands n (are_arms version (t.last_arm h)) (arms_count (t.last_arm h)) (arms_depth (t.last_arm h)) c1 c3
-unfolding is_command command_count command_depth
+unfolding is_command block_count arms_count block_depth arms_depth
 last_fits version h a b =
     let n = b.count in let s = b.states in
     record { are = b.are; count = omega arith; room = λ m. b.room (omega arith); level = b.level; states = omega arith }
@@ -322,7 +322,7 @@ arms_fit : (version : Version) {n : ℕ} (cs : t.Expressions) (h : t.CommandBloc
     → FitsCommands n (are_constants cs && is_block version h) (block_count h) (block_depth h) c1 c2
     → FitsCommands n (are_arms version arms) (arms_count arms) (arms_depth arms) c2 c3
     → FitsCommands n (are_arms version (t.and_arm cs h arms)) (arms_count (t.and_arm cs h arms)) (arms_depth (t.and_arm cs h arms)) c1 c3
-unfolding is_command command_count command_depth
+unfolding is_command block_count arms_count block_depth arms_depth
 arms_fit version cs h arms some a b =
     let n = a.count in let s = a.states in let n' = b.count in let s' = b.states in
     record {
@@ -344,7 +344,7 @@ case_fits : {version : Version} {n : ℕ} {p : Place} {x : t.Expression} (arms :
     → is_second version ≡ true → RoleFact (r.Command n) c1 c2 → RoleFact r.Plain c2 c3
     → Fits version 0 x c3 c4 → RoleFact r.Plain c4 c5 → RoleFact r.Plain c5 c6 → has_arm arms ≡ true → arm_count arms ≤ most_arms
     → FitsCommands (n + 1) (are_arms version arms) (arms_count arms) (arms_depth arms) c6 c7 → RoleFact r.Plain c7 c8 → FitsCommand version n (t.case_of p x arms) c1 c8
-unfolding is_command command_count command_depth
+unfolding is_command command_count arms_count command_depth arms_depth
 case_fits arms second a b x d e some few f h =
     let a0 = a.0 in let a1 = a.1 in let a2 = a.2 in let sx = x.states in let nx = x.commands in
     let nf = f.count in let mf = f.room (omega arith) in let lf = f.level (omega arith) in let sf = f.states in
@@ -357,13 +357,13 @@ case_fits arms second a b x d e some few f h =
     }
 
 no_else_fits : (version : Version) (n : ℕ) (c : Counts) → FitsCommands n (is_else version t.no_else) (else_count t.no_else) (else_depth t.no_else) c c
-unfolding is_command command_count command_depth
+unfolding is_command else_count else_depth
 no_else_fits version n c = record { are = refl; count = omega arith; room = λ h. h; level = λ h. omega arith; states = refl }
 
 else_fits : (version : Version) {n : ℕ} (h : t.CommandBlock) {c1 c2 c3 : Counts} → RoleFact r.Plain c1 c2
     → FitsCommands n (is_block version h) (block_count h) (block_depth h) c2 c3
     → FitsCommands n (is_else version (t.with_else h)) (else_count (t.with_else h)) (else_depth (t.with_else h)) c1 c3
-unfolding is_command command_count command_depth
+unfolding is_command block_count else_count block_depth else_depth
 else_fits version h a b =
     let n = b.count in let s = b.states in
     record { are = b.are; count = omega arith; room = λ m. b.room (omega arith); level = b.level; states = omega arith }
@@ -371,19 +371,19 @@ else_fits version h a b =
 block_fits : (version : Version) {n : ℕ} (cs : t.CommandList) (p : Place) {c1 c2 c3 c4 : Counts} → RoleFact r.Plain c1 c2
     → FitsCommands n (are_commands version cs) (list_count cs) (list_depth cs) c2 c3 → RoleFact r.Plain c3 c4
     → FitsCommands n (is_block version (t.command_block cs p)) (block_count (t.command_block cs p)) (block_depth (t.command_block cs p)) c1 c4
-unfolding is_command command_count command_depth
+unfolding is_command block_count list_count block_depth list_depth
 block_fits version cs p a b d =
     let n = b.count in let s = b.states in
     record { are = b.are; count = omega arith; room = λ h. let m = b.room (omega arith) in omega arith; level = b.level; states = omega arith }
 
 no_commands_fit : (version : Version) (n : ℕ) (c : Counts) → FitsCommands n (are_commands version t.no_command) (list_count t.no_command) (list_depth t.no_command) c c
-unfolding is_command command_count command_depth
+unfolding is_command list_count list_depth
 no_commands_fit version n c = record { are = refl; count = omega arith; room = λ h. h; level = λ h. omega arith; states = refl }
 
 commands_fit : {version : Version} {n : ℕ} {x : t.Command} (cs : t.CommandList) {c1 c2 c3 : Counts} → FitsCommand version n x c1 c2
     → FitsCommands n (are_commands version cs) (list_count cs) (list_depth cs) c2 c3
     → FitsCommands n (are_commands version (t.and_command x cs)) (list_count (t.and_command x cs)) (list_depth (t.and_command x cs)) c1 c3
-unfolding is_command command_count command_depth
+unfolding is_command command_count list_count command_depth list_depth
 commands_fit cs a b =
     let n = a.count in let s = a.states in let l = a.level in let n' = b.count in let s' = b.states in
     record { are = all_true a.is b.are; count = omega arith; room = λ h. b.room a.room; level = λ h. let l' = b.level h in omega arith; states = omega arith }

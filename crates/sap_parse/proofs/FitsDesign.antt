@@ -213,7 +213,7 @@ state_fits : (version : Version) {n : ℕ} (p : Place) (m : Mention) (k : Kind) 
     → FitsStates n (is_state version (t.state_node p m k (t.command_block cs after) xs))
     (state_count (t.state_node p m k (t.command_block cs after) xs)) (state_commands (t.state_node p m k (t.command_block cs after) xs))
     (state_depth (t.state_node p m k (t.command_block cs after) xs)) c1 c8
-unfolding is_state is_block block_count block_depth state_count state_commands state_depth
+unfolding is_state is_block block_count list_count block_depth list_depth state_count states_count state_commands states_commands state_depth states_depth
 state_fits version p m k cs after xs a is b kind e body children f =
     let a0 = a.0 in let a1 = a.1 in let a2 = a.2 in
     let deep = body.level (omega arith) in
@@ -232,14 +232,14 @@ state_fits version p m k cs after xs a is b kind e body children f =
 
 no_states_fit : (version : Version) (n : ℕ) (c : Counts)
     → FitsStates n (are_states version t.no_state) (states_count t.no_state) (states_commands t.no_state) (states_depth t.no_state) c c
-unfolding is_state state_count state_commands state_depth
+unfolding is_state state_count states_count state_commands states_commands state_depth states_depth
 no_states_fit version n c = record { test = refl; states = omega arith; commands = omega arith; state_room = λ h. h; command_room = λ h. h; level = λ h. omega arith }
 
 states_fit : (version : Version) {n : ℕ} (x : t.StateTree) (xs : t.StateList) {c1 c2 c3 : Counts}
     → FitsStates n (is_state version x) (state_count x) (state_commands x) (state_depth x) c1 c2
     → FitsStates n (are_states version xs) (states_count xs) (states_commands xs) (states_depth xs) c2 c3
     → FitsStates n (are_states version (t.and_state x xs)) (states_count (t.and_state x xs)) (states_commands (t.and_state x xs)) (states_depth (t.and_state x xs)) c1 c3
-unfolding is_state state_count state_commands state_depth
+unfolding is_state state_count states_count state_commands states_commands state_depth states_depth
 states_fit version x xs a b =
     let n1 = a.states in let n2 = b.states in let m1 = a.commands in let m2 = b.commands in
     record {

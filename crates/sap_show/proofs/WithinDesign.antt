@@ -233,7 +233,7 @@ margin_within zero c rest h = h
 margin_within (suc level) c rest h = margin_within level c rest h
 
 mutual
-  unfolding is_command command_count command_depth
+  unfolding is_command command_count block_count else_count arms_count list_count command_depth block_depth else_depth arms_depth list_depth
 
   command_within : (version : Version) (x : Command) (level depth : ℕ) → is_command version x ≡ true
       → (c : Counts) (n m : ℕ) (rest : List Piece) → m ≡ n + command_count x → m ≤ most_commands
@@ -253,7 +253,7 @@ mutual
   command_within version (if_else place x one other) level depth h c n m rest e top deep a t b =
       let f = and_parts (is_outermost version x && is_block version one) (is_else version other) h in
       let g = and_parts (is_outermost version x) (is_block version one) f.0 in
-      let same : m ≡ n + (1 + block_count one + else_count other) = e in
+      let same : m ≡ n + (1 + (block_count one + else_count other)) = e in
       let fits : depth + (1 + max (block_depth one) (else_depth other)) ≤ most_blocks + 1 = deep in
       let c' : Counts = with_commands c (n + 1) in
       let blocks = block one level depth (else_part other level depth (line ∷ rest)) in
@@ -271,7 +271,7 @@ mutual
       let f = and_parts (is_second version && is_simple version x && is_block version one) (is_block version other) h in
       let g = and_parts (is_second version && is_simple version x) (is_block version one) f.0 in
       let i = and_parts (is_second version) (is_simple version x) g.0 in
-      let same : m ≡ n + (1 + block_count one + block_count other) = e in
+      let same : m ≡ n + (1 + (block_count one + block_count other)) = e in
       let fits : depth + (1 + max (block_depth one) (block_depth other)) ≤ most_blocks + 1 = deep in
       let c' : Counts = with_commands c (n + 1 + block_count one) in
       let last = space ∷ word r.Plain w.Otherwise ∷ block other level depth (line ∷ rest) in
@@ -468,7 +468,7 @@ begins_state : (n depth : ℕ) → n + 1 ≤ most_states → depth ≤ most_nest
 begins_state n depth h m = ap (λ o. o or_else above most_nesting depth l.Nesting) (not_above most_states (n + 1) l.States h) ∙ not_above most_nesting depth l.Nesting m
 
 mutual
-  unfolding is_state is_command state_count state_commands state_depth command_count command_depth
+  unfolding is_state is_command state_count states_count state_commands states_commands state_depth states_depth command_count block_count else_count arms_count list_count command_depth block_depth else_depth arms_depth list_depth
 
   state_within : (version : Version) (x : StateTree) (level depth : ℕ) → is_state version x ≡ true
       → (c : Counts) (i j n m : ℕ) (rest : List Piece) → j ≡ i + state_count x → j ≤ most_states

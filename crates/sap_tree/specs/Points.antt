@@ -2,6 +2,7 @@
 use Rattle.std.specs.Prelude.{List, [], ◌∷◌, ◌++◌, map}
 use Rattle.sap_tree.specs.Syntax.{SimpleCommand, assign, write, set_tag, set_cell_tag, go_to, fall_to_child, Command, lone, try, if_else, try_then, case_of, Arms, last_arm, and_arm, CommandBlock, command_block, ElseBlock, no_else, with_else, CommandList, no_command, and_command, StateTree, state_node, StateList, no_state, and_state, DesignTree}
 use Rattle.sap_tree.specs.Touches.{Home, home_of}
+use Rattle.sap_tree.specs.Walks.{folded, folded_in_block, folded_in_else, folded_in_arms, folded_in_list, body_of, gathered_from, gathered_from_list}
 
 -- those of a body, as commands
 
@@ -14,28 +15,27 @@ simple_points (go_to place target) = []
 simple_points (fall_to_child place) = lone (fall_to_child place) ∷ []
 
 -- an `otherwise` is the whole command, with its handler
-abbrev mutual
-  pub command_points : Command → List Command
-  command_points (lone k) = simple_points k
-  command_points (try k place handler) = simple_points k ++ try k place handler ∷ block_points handler
-  command_points (if_else place condition then_block else_block) = if_else place condition then_block else_block ∷ block_points then_block ++ else_points else_block
-  command_points (try_then k place accepted refused) = simple_points k ++ try_then k place accepted refused ∷ (block_points accepted ++ block_points refused)
-  command_points (case_of place e arms) = case_of place e arms ∷ arms_points arms
+abbrev pub own_points : Command → (below : List Command) → List Command
+own_points (lone k) below = simple_points k
+own_points (try k place handler) below = simple_points k ++ try k place handler ∷ below
+own_points (if_else place condition then_block else_block) below = if_else place condition then_block else_block ∷ below
+own_points (try_then k place accepted refused) below = simple_points k ++ try_then k place accepted refused ∷ below
+own_points (case_of place e arms) below = case_of place e arms ∷ below
 
-  pub block_points : CommandBlock → List Command
-  block_points (command_block cs after) = list_points cs
+abbrev pub command_points : Command → List Command
+command_points c = folded [] ◌++◌ own_points c
 
-  pub else_points : ElseBlock → List Command
-  else_points no_else = []
-  else_points (with_else b) = block_points b
+abbrev pub block_points : CommandBlock → List Command
+block_points block = folded_in_block [] ◌++◌ own_points block
 
-  pub arms_points : Arms → List Command
-  arms_points (last_arm b) = block_points b
-  arms_points (and_arm constants b arms) = block_points b ++ arms_points arms
+abbrev pub else_points : ElseBlock → List Command
+else_points other = folded_in_else [] ◌++◌ own_points other
 
-  pub list_points : CommandList → List Command
-  list_points no_command = []
-  list_points (and_command c cs) = command_points c ++ list_points cs
+abbrev pub arms_points : Arms → List Command
+arms_points arms = folded_in_arms [] ◌++◌ own_points arms
+
+abbrev pub list_points : CommandList → List Command
+list_points list = folded_in_list [] ◌++◌ own_points list
 
 pub record Point : Type 0 where
   pub home : Home
@@ -45,14 +45,14 @@ abbrev pub point : Home → Command → Point
 point h c = record { home = h; command = c }
 
 -- those of a body stand before those of the children
-abbrev mutual
-  pub state_points : StateTree → List Point
-  state_points (state_node place name kind body children) =
-      map (point (home_of (state_node place name kind body children))) (block_points body) ++ states_points children
+abbrev pub body_points : StateTree → List Point
+body_points s = map (point (home_of s)) (block_points (body_of s))
 
-  pub states_points : StateList → List Point
-  states_points no_state = []
-  states_points (and_state s rest) = state_points s ++ states_points rest
+abbrev pub state_points : StateTree → List Point
+state_points s = gathered_from [] ◌++◌ body_points s
+
+abbrev pub states_points : StateList → List Point
+states_points states = gathered_from_list [] ◌++◌ body_points states
 
 abbrev pub points_of : DesignTree → List Point
 points_of d = states_points d.states

@@ -3,7 +3,7 @@ use Rattle.std.specs.Prelude.{ℕ, Bool, true, false, ◌&&◌, ◌||◌, List}
 use Rattle.std.specs.List.{list_any}
 use Rattle.std.specs.Str.{bytes_eq}
 use Rattle.sap_tree.specs.Syntax.{SimpleCommand, assign, write, set_tag, set_cell_tag, go_to, fall_to_child, Command, lone, try, if_else, try_then, case_of, Arms, last_arm, and_arm, CommandBlock, command_block, ElseBlock, no_else, with_else, CommandList, no_command, and_command, StateTree, state_node, StateList, no_state, and_state, DesignTree}
-use Rattle.sap_tree.specs.Walks.{some, some_in_block, some_in_else, some_in_arms, some_in_list}
+use Rattle.sap_tree.specs.Walks.{some, some_in_block, some_in_else, some_in_arms, some_in_list, body_of, gathered_from, gathered_from_list}
 use Rattle.sap_tree.specs.declared.syntax.Decl.TheVariants as d
 use Rattle.sap_tree.specs.declared.syntax.Decl.{Decl}
 use Rattle.sap_tree.specs.declared.syntax.Kind.TheVariants as k
@@ -56,13 +56,11 @@ unfoldable pub list_assigns : CommandList → List ℕ → Bool
 list_assigns list x = some_in_list (λ k. simple_assigns k x) list
 
 -- whether the body of one of these states or of their descendants assigns x
-unfoldable mutual
-  pub state_assigns : StateTree → List ℕ → Bool
-  state_assigns (state_node place name kind body children) x = block_assigns body x || states_assign children x
+unfoldable pub state_assigns : StateTree → List ℕ → Bool
+state_assigns s x = gathered_from false ◌||◌ (λ s. block_assigns (body_of s) x) s
 
-  pub states_assign : StateList → List ℕ → Bool
-  states_assign no_state x = false
-  states_assign (and_state s states) x = state_assigns s x || states_assign states x
+unfoldable pub states_assign : StateList → List ℕ → Bool
+states_assign states x = gathered_from_list false ◌||◌ (λ s. block_assigns (body_of s) x) states
 
 -- the state in whose body a command stands
 pub record Home : Type 0 where

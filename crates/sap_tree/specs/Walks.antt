@@ -27,30 +27,54 @@ module _ (P : SimpleCommand → Type 0) (Q : (asked : Option ℕ) → Expression
     EveryInList no_command = Unit {0}
     EveryInList (and_command c list) = Every c × EveryInList list
 
--- what f has of each simple command, joined in the order of the text; `none` where there is none
-module _ {A : Type 0} (none : A) (join : A → A → A) (f : SimpleCommand → A) where
+-- A fold: `own c below` is what a command has where its blocks have `below`, which is what their commands have, joined in the order of the text, or `none`.
+module _ {A : Type 0} (none : A) (join : A → A → A) (own : Command → (below : A) → A) where
   abbrev mutual
-    pub gathered : Command → A
-    gathered (lone c) = f c
-    gathered (try c place handler) = join (f c) (gathered_in_block handler)
-    gathered (if_else place e one other) = join (gathered_in_block one) (gathered_in_else other)
-    gathered (try_then c place one other) = join (f c) (join (gathered_in_block one) (gathered_in_block other))
-    gathered (case_of place e arms) = gathered_in_arms arms
+    pub folded : Command → A
+    folded (lone c) = own (lone c) none
+    folded (try c place handler) = own (try c place handler) (folded_in_block handler)
+    folded (if_else place e one other) = own (if_else place e one other) (join (folded_in_block one) (folded_in_else other))
+    folded (try_then c place one other) = own (try_then c place one other) (join (folded_in_block one) (folded_in_block other))
+    folded (case_of place e arms) = own (case_of place e arms) (folded_in_arms arms)
 
-    pub gathered_in_block : CommandBlock → A
-    gathered_in_block (command_block list after) = gathered_in_list list
+    pub folded_in_block : CommandBlock → A
+    folded_in_block (command_block list after) = folded_in_list list
 
-    pub gathered_in_else : ElseBlock → A
-    gathered_in_else no_else = none
-    gathered_in_else (with_else block) = gathered_in_block block
+    pub folded_in_else : ElseBlock → A
+    folded_in_else no_else = none
+    folded_in_else (with_else block) = folded_in_block block
 
-    pub gathered_in_arms : Arms → A
-    gathered_in_arms (last_arm block) = gathered_in_block block
-    gathered_in_arms (and_arm constants block arms) = join (gathered_in_block block) (gathered_in_arms arms)
+    pub folded_in_arms : Arms → A
+    folded_in_arms (last_arm block) = folded_in_block block
+    folded_in_arms (and_arm constants block arms) = join (folded_in_block block) (folded_in_arms arms)
 
-    pub gathered_in_list : CommandList → A
-    gathered_in_list no_command = none
-    gathered_in_list (and_command c list) = join (gathered c) (gathered_in_list list)
+    pub folded_in_list : CommandList → A
+    folded_in_list no_command = none
+    folded_in_list (and_command c list) = join (folded c) (folded_in_list list)
+
+-- what f has of each simple command, joined in the order of the text
+module _ {A : Type 0} (none : A) (join : A → A → A) (f : SimpleCommand → A) where
+  abbrev pub with_simple : Command → (below : A) → A
+  with_simple (lone c) below = f c
+  with_simple (try c place handler) below = join (f c) below
+  with_simple (if_else place e one other) below = below
+  with_simple (try_then c place one other) below = join (f c) below
+  with_simple (case_of place e arms) below = below
+
+  abbrev pub gathered : Command → A
+  gathered c = folded none join with_simple c
+
+  abbrev pub gathered_in_block : CommandBlock → A
+  gathered_in_block block = folded_in_block none join with_simple block
+
+  abbrev pub gathered_in_else : ElseBlock → A
+  gathered_in_else other = folded_in_else none join with_simple other
+
+  abbrev pub gathered_in_arms : Arms → A
+  gathered_in_arms arms = folded_in_arms none join with_simple arms
+
+  abbrev pub gathered_in_list : CommandList → A
+  gathered_in_list list = folded_in_list none join with_simple list
 
 -- p holds of some simple command
 module _ (p : SimpleCommand → Bool) where
@@ -72,12 +96,20 @@ module _ (p : SimpleCommand → Bool) where
 abbrev pub body_of : StateTree → CommandBlock
 body_of (state_node place name kind body children) = body
 
+-- a fold over states: `own s below` is what a state has where its children have `below`
+module _ {A : Type 0} (none : A) (join : A → A → A) (own : StateTree → (below : A) → A) where
+  abbrev mutual
+    pub folded_from : StateTree → A
+    folded_from (state_node place name kind body children) = own (state_node place name kind body children) (folded_from_list children)
+
+    pub folded_from_list : StateList → A
+    folded_from_list no_state = none
+    folded_from_list (and_state s states) = join (folded_from s) (folded_from_list states)
+
 -- what f has of each state, joined, a state before its children
 module _ {A : Type 0} (none : A) (join : A → A → A) (f : StateTree → A) where
-  abbrev mutual
-    pub gathered_from : StateTree → A
-    gathered_from (state_node place name kind body children) = join (f (state_node place name kind body children)) (gathered_from_list children)
+  abbrev pub gathered_from : StateTree → A
+  gathered_from s = folded_from none join (λ s below. join (f s) below) s
 
-    pub gathered_from_list : StateList → A
-    gathered_from_list no_state = none
-    gathered_from_list (and_state s states) = join (gathered_from s) (gathered_from_list states)
+  abbrev pub gathered_from_list : StateList → A
+  gathered_from_list states = folded_from_list none join (λ s below. join (f s) below) states

@@ -4,6 +4,7 @@ use Rattle.std.specs.List.{list_all, count_by}
 use Rattle.sap_tree.specs.Extent.{fits, tag_fits}
 use Rattle.sap_tree.specs.Limits.{most_inputs, most_registers, most_memories, most_states, most_nesting, most_commands, most_blocks, most_arms}
 use Rattle.sap_tree.specs.Syntax.{Expression, Expressions, literal, sized_literal, variable, cell_at, unary_of, binary_of, choice, slice, concat, zero_extend, no_part, and_part, TagExpression, TagExpressions, level_of, tag_at, level_at, join_of, no_tag, and_tag, SimpleCommand, assign, write, set_tag, set_cell_tag, go_to, fall_to_child, Command, lone, try, if_else, try_then, case_of, Arms, last_arm, and_arm, CommandBlock, command_block, ElseBlock, no_else, with_else, CommandList, no_command, and_command, StateTree, state_node, StateList, no_state, and_state, DesignTree}
+use Rattle.sap_tree.specs.Walks.{folded, folded_in_block, folded_in_else, folded_in_arms, folded_in_list, body_of, folded_from, folded_from_list, gathered_from, gathered_from_list}
 use Rattle.sap_tree.specs.Words.{is_name, is_second}
 use Rattle.sap_tree.specs.declared.syntax.Decl.TheVariants as d
 use Rattle.sap_tree.specs.declared.syntax.Decl.{Decl}
@@ -119,55 +120,43 @@ unfoldable mutual
   are_commands version no_command = true
   are_commands version (and_command c list) = is_command version c && are_commands version list
 
+-- one more than what stands below
+abbrev pub one_more : {A : Type 0} → A → (below : ℕ) → ℕ
+one_more part below = 1 + below
+
 -- how many commands there are, those in blocks counted
 
-unfoldable mutual
-  pub command_count : Command → ℕ
-  command_count (lone c) = 1
-  command_count (try c place handler) = 1 + block_count handler
-  command_count (if_else place x one other) = 1 + block_count one + else_count other
-  command_count (try_then c place one other) = 1 + block_count one + block_count other
-  command_count (case_of place x arms) = 1 + arms_count arms
+unfoldable pub command_count : Command → ℕ
+command_count c = folded 0 ◌+◌ one_more c
 
-  pub block_count : CommandBlock → ℕ
-  block_count (command_block list after) = list_count list
+unfoldable pub block_count : CommandBlock → ℕ
+block_count block = folded_in_block 0 ◌+◌ one_more block
 
-  pub else_count : ElseBlock → ℕ
-  else_count no_else = 0
-  else_count (with_else block) = block_count block
+unfoldable pub else_count : ElseBlock → ℕ
+else_count other = folded_in_else 0 ◌+◌ one_more other
 
-  pub arms_count : Arms → ℕ
-  arms_count (last_arm block) = block_count block
-  arms_count (and_arm constants block arms) = block_count block + arms_count arms
+unfoldable pub arms_count : Arms → ℕ
+arms_count arms = folded_in_arms 0 ◌+◌ one_more arms
 
-  pub list_count : CommandList → ℕ
-  list_count no_command = 0
-  list_count (and_command c list) = command_count c + list_count list
+unfoldable pub list_count : CommandList → ℕ
+list_count list = folded_in_list 0 ◌+◌ one_more list
 
 -- the depth of the deepest command: 1 for a command in no block, and one more for those in its blocks
 
-unfoldable mutual
-  pub command_depth : Command → ℕ
-  command_depth (lone c) = 1
-  command_depth (try c place handler) = 1 + block_depth handler
-  command_depth (if_else place x one other) = 1 + max (block_depth one) (else_depth other)
-  command_depth (try_then c place one other) = 1 + max (block_depth one) (block_depth other)
-  command_depth (case_of place x arms) = 1 + arms_depth arms
+unfoldable pub command_depth : Command → ℕ
+command_depth c = folded 0 max one_more c
 
-  pub block_depth : CommandBlock → ℕ
-  block_depth (command_block list after) = list_depth list
+unfoldable pub block_depth : CommandBlock → ℕ
+block_depth block = folded_in_block 0 max one_more block
 
-  pub else_depth : ElseBlock → ℕ
-  else_depth no_else = 0
-  else_depth (with_else block) = block_depth block
+unfoldable pub else_depth : ElseBlock → ℕ
+else_depth other = folded_in_else 0 max one_more other
 
-  pub arms_depth : Arms → ℕ
-  arms_depth (last_arm block) = block_depth block
-  arms_depth (and_arm constants block arms) = max (block_depth block) (arms_depth arms)
+unfoldable pub arms_depth : Arms → ℕ
+arms_depth arms = folded_in_arms 0 max one_more arms
 
-  pub list_depth : CommandList → ℕ
-  list_depth no_command = 0
-  list_depth (and_command c list) = max (command_depth c) (list_depth list)
+unfoldable pub list_depth : CommandList → ℕ
+list_depth list = folded_in_list 0 max one_more list
 
 -- kinds and declarations
 
@@ -211,31 +200,25 @@ unfoldable mutual
   are_states version no_state = true
   are_states version (and_state s states) = is_state version s && are_states version states
 
-unfoldable mutual
-  pub state_count : StateTree → ℕ
-  state_count (state_node place name kind body children) = 1 + states_count children
+unfoldable pub state_count : StateTree → ℕ
+state_count s = folded_from 0 ◌+◌ one_more s
 
-  pub states_count : StateList → ℕ
-  states_count no_state = 0
-  states_count (and_state s states) = state_count s + states_count states
+unfoldable pub states_count : StateList → ℕ
+states_count states = folded_from_list 0 ◌+◌ one_more states
 
 -- 1 for a state without children, and one more for each level of children
-unfoldable mutual
-  pub state_depth : StateTree → ℕ
-  state_depth (state_node place name kind body children) = 1 + states_depth children
+unfoldable pub state_depth : StateTree → ℕ
+state_depth s = folded_from 0 max one_more s
 
-  pub states_depth : StateList → ℕ
-  states_depth no_state = 0
-  states_depth (and_state s states) = max (state_depth s) (states_depth states)
+unfoldable pub states_depth : StateList → ℕ
+states_depth states = folded_from_list 0 max one_more states
 
 -- the commands of all bodies
-unfoldable mutual
-  pub state_commands : StateTree → ℕ
-  state_commands (state_node place name kind body children) = block_count body + states_commands children
+unfoldable pub state_commands : StateTree → ℕ
+state_commands s = gathered_from 0 ◌+◌ (λ s. block_count (body_of s)) s
 
-  pub states_commands : StateList → ℕ
-  states_commands no_state = 0
-  states_commands (and_state s states) = state_commands s + states_commands states
+unfoldable pub states_commands : StateList → ℕ
+states_commands states = gathered_from_list 0 ◌+◌ (λ s. block_count (body_of s)) states
 
 -- designs
 
