@@ -21,8 +21,7 @@ ReadsWithin Symbol Role Token Counts Limit =
       Counts = Counts;
       Limit = Limit;
       next = next;
-      may_be_empty =
-          may_be_empty;
+      may_be_empty = may_be_empty;
       tally = tally;
       breach = breach;
     } in
