@@ -1,6 +1,7 @@
 -- How large designs are.
 use Rattle.std.specs.Prelude.{ℕ, ◌+◌, length}
 use Rattle.sap_tree.specs.Syntax.{Expression, Expressions, literal, sized_literal, variable, cell_at, unary_of, binary_of, choice, slice, concat, zero_extend, no_part, and_part, TagExpression, TagExpressions, level_of, tag_at, level_at, join_of, no_tag, and_tag, SimpleCommand, assign, write, set_tag, set_cell_tag, go_to, fall_to_child, Command, lone, try, if_else, try_then, case_of, Arms, last_arm, and_arm, CommandBlock, command_block, ElseBlock, no_else, with_else, CommandList, no_command, and_command, StateTree, state_node, StateList, no_state, and_state, DesignTree}
+use Rattle.sap_tree.specs.Walks.{folded, folded_in_block, folded_in_else, folded_in_arms, folded_in_list, body_of, gathered_from, gathered_from_list}
 use Rattle.sap_tree.specs.Whole.{states_count}
 
 -- The nodes of expressions, tag expressions, commands and states. A command with its handler is one node beside the nodes of the handler, and
@@ -43,36 +44,40 @@ operand_nodes (set_cell_tag place memory index n) = expression_nodes index + tag
 operand_nodes (go_to place target) = 0
 operand_nodes (fall_to_child place) = 0
 
-abbrev mutual
-  pub command_nodes : Command → ℕ
-  command_nodes (lone c) = 1 + operand_nodes c
-  command_nodes (try c place handler) = 1 + operand_nodes c + block_nodes handler
-  command_nodes (if_else place x one other) = 1 + expression_nodes x + block_nodes one + else_nodes other
-  command_nodes (try_then c place one other) = 1 + operand_nodes c + block_nodes one + block_nodes other
-  command_nodes (case_of place x arms) = 1 + expression_nodes x + arms_nodes arms
+-- those of the arms' constants
+abbrev pub constant_nodes : Arms → ℕ
+constant_nodes (last_arm block) = 0
+constant_nodes (and_arm constants block arms) = part_nodes constants + constant_nodes arms
 
-  pub block_nodes : CommandBlock → ℕ
-  block_nodes (command_block list after) = list_nodes list
+-- those of a command where its blocks have so many
+abbrev pub own_nodes : Command → (below : ℕ) → ℕ
+own_nodes (lone c) below = 1 + operand_nodes c
+own_nodes (try c place handler) below = 1 + operand_nodes c + below
+own_nodes (if_else place x one other) below = 1 + expression_nodes x + below
+own_nodes (try_then c place one other) below = 1 + operand_nodes c + below
+own_nodes (case_of place x arms) below = 1 + expression_nodes x + constant_nodes arms + below
 
-  pub else_nodes : ElseBlock → ℕ
-  else_nodes no_else = 0
-  else_nodes (with_else block) = block_nodes block
+abbrev pub command_nodes : Command → ℕ
+command_nodes c = folded 0 ◌+◌ own_nodes c
 
-  pub arms_nodes : Arms → ℕ
-  arms_nodes (last_arm block) = block_nodes block
-  arms_nodes (and_arm constants block arms) = part_nodes constants + block_nodes block + arms_nodes arms
+abbrev pub block_nodes : CommandBlock → ℕ
+block_nodes block = folded_in_block 0 ◌+◌ own_nodes block
 
-  pub list_nodes : CommandList → ℕ
-  list_nodes no_command = 0
-  list_nodes (and_command c list) = command_nodes c + list_nodes list
+abbrev pub else_nodes : ElseBlock → ℕ
+else_nodes other = folded_in_else 0 ◌+◌ own_nodes other
 
-abbrev mutual
-  pub state_nodes : StateTree → ℕ
-  state_nodes (state_node place name kind body children) = 1 + block_nodes body + states_nodes children
+-- those of the arms' blocks
+abbrev pub arms_nodes : Arms → ℕ
+arms_nodes arms = folded_in_arms 0 ◌+◌ own_nodes arms
 
-  pub states_nodes : StateList → ℕ
-  states_nodes no_state = 0
-  states_nodes (and_state s states) = state_nodes s + states_nodes states
+abbrev pub list_nodes : CommandList → ℕ
+list_nodes list = folded_in_list 0 ◌+◌ own_nodes list
+
+abbrev pub state_nodes : StateTree → ℕ
+state_nodes s = gathered_from 0 ◌+◌ (λ s. 1 + block_nodes (body_of s)) s
+
+abbrev pub states_nodes : StateList → ℕ
+states_nodes states = gathered_from_list 0 ◌+◌ (λ s. 1 + block_nodes (body_of s)) states
 
 abbrev pub design_nodes : DesignTree → ℕ
 design_nodes d = states_nodes d.states

@@ -23,7 +23,7 @@ use Rattle.sap_resolved.specs.Resolve.{site_number, step_of, numbers_of, command
 use Rattle.sap_resolved.specs.Fill.{filled_step, filled, filled_arms, filled_block, filled_state, filled_group}
 use Rattle.sap_size.specs.Terms.{term_size}
 use Rattle.sap_size.specs.Programs.{level_size, step_size, command_size, arms_size, block_size, state_size, group_size, states_of, states_below}
-use Rattle.sap_size.specs.Trees.{expression_nodes, part_nodes, tag_nodes, tag_part_nodes, operand_nodes, command_nodes, arms_nodes, block_nodes, else_nodes, list_nodes, state_nodes, states_nodes}
+use Rattle.sap_size.specs.Trees.{expression_nodes, part_nodes, tag_nodes, tag_part_nodes, operand_nodes, command_nodes, constant_nodes, arms_nodes, block_nodes, else_nodes, list_nodes, state_nodes, states_nodes}
 
 -- expressions
 
@@ -136,8 +136,8 @@ mutual
       let r = arms_within ls h k arms in
       omega (arith, q, r)
 
-  arms_within : (ls : Levels) (h : Surroundings) (k : ℕ) (arms : tree.Arms) → arms_size (arms_of ls h k arms) ≤ arms_nodes arms
-  arms_within ls h k (tree.last_arm b) = block_within ls h k b
+  arms_within : (ls : Levels) (h : Surroundings) (k : ℕ) (arms : tree.Arms) → arms_size (arms_of ls h k arms) ≤ constant_nodes arms + arms_nodes arms
+  arms_within ls h k (tree.last_arm b) = let r = block_within ls h k b in omega (arith, r)
   arms_within ls h k (tree.and_arm constants b arms) =
       let q = constants_within constants in
       let r = block_within ls h k b in
