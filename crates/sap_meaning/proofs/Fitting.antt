@@ -159,18 +159,18 @@ module _ (w : World) (laws : Laws w.order) where
       does_fits (if_else hang e a b) fine sized pc lp s f =
           select_fits e (touches w at (if_else hang e a b)) (branch (does_block w at enter a) (does_block w at enter b))
           (λ v p lq t i. branch_all (λ z. Fits w z.store) (does_block w at enter a) (does_block w at enter b) v p t
-          (block_fits a fine.1 sized.2 p lq t i) (block_fits b fine.2 sized.3 p lq t i)) pc s f
+          (block_fits a fine.1 sized.1 p lq t i) (block_fits b fine.2 sized.2 p lq t i)) pc s f
       does_fits (try_then k hang a b) fine sized pc lp s f =
           attempt_then_fits k fine.0 sized.0 (touches w at (try_then k hang a b)) (does_block w at enter a) (does_block w at enter b)
           (λ p lq t i. block_fits a fine.1 sized.1 p lq t i) (λ p lq t i. block_fits b fine.2 sized.2 p lq t i) pc lp s f
       does_fits (case_of hang e arms) fine sized pc lp s f =
-          select_fits e (touches w at (case_of hang e arms)) (does_arms w at enter arms) (λ v p lq t i. arms_fit (width_of w e) arms fine.1 sized.1 v p lq t i) pc s f
+          select_fits e (touches w at (case_of hang e arms)) (does_arms w at enter arms) (λ v p lq t i. arms_fit arms fine.1 sized.1 v p lq t i) pc s f
 
-      arms_fit : (u : ℕ) (arms : Arms) → FineArms w q at.children arms → SizedArms w u arms → (v pc : ℕ) → Level pc → Fitting (does_arms w at enter arms v pc)
-      arms_fit u (last_arm b) fine sized v pc lp s f = block_fits b fine sized pc lp s f
-      arms_fit u (and_arm cs b arms) fine sized v pc lp s f =
+      arms_fit : (arms : Arms) → FineArms w q at.children arms → SizedArms w arms → (v pc : ℕ) → Level pc → Fitting (does_arms w at enter arms v pc)
+      arms_fit (last_arm b) fine sized v pc lp s f = block_fits b fine sized pc lp s f
+      arms_fit (and_arm cs b arms) fine sized v pc lp s f =
           choose_all (λ z. Fits w z.store) cs (does_block w at enter b) (does_arms w at enter arms) v pc s
-          (block_fits b fine.0 sized.1 pc lp s f) (arms_fit u arms fine.1 sized.2 v pc lp s f)
+          (block_fits b fine.0 sized.0 pc lp s f) (arms_fit arms fine.1 sized.1 v pc lp s f)
 
       pub block_fits : (b : Block) → FineBlock w q at.children b → SizedBlock w b → (pc : ℕ) → Level pc → Fitting (does_block w at enter b pc)
       block_fits end_block fine sized pc lp s f = f

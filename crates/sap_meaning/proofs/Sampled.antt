@@ -275,7 +275,7 @@ sized = record {
         (((tt, (refl, tt)), refl), (((omega arith, tt), refl), tt)),
         (
           ((tt, tt), refl, (tt, tt), refl),
-          ((((tt, omega arith, refl), (tt, tt)), refl, (tt, tt), ((tt, (tt, tt)), tt)), tt),
+          (((((tt, omega arith, refl), (tt, tt)), refl), (tt, tt), ((tt, (tt, tt)), tt)), tt),
         ),
       ),
       (((((tt, tt), refl, (omega arith, tt), refl), (((tt, (refl, tt)), refl), (tt, tt))), tt), (((tt, (tt, tt)), tt), tt)),

@@ -1,11 +1,11 @@
 -- On what stands in Walks: what several crates cite.
-use Rattle.std.proofs.Common.{◌≡◌, ℕ, Bool, true, false, ◌||◌, List, inl, inr, refl, sym, ap₂, ◌∙◌}
+use Rattle.std.proofs.Common.{◌≡◌, ℕ, Bool, true, false, ◌||◌, List, inl, inr, refl, sym, ap, ap₂, ◌∙◌}
 use Rattle.std.proofs.Props.{props}
 use Rattle.std.proofs.lemmas.Bool.{or_cases, or_from}
 use Rattle.sap_lemmas.proofs.Bools.{either_follows, neither_left, neither_right, true_is_not_false}
 use Rattle.sap_maps.specs.Term.{Term}
 use Rattle.sap_meaning.specs.Program.{LevelTerm, fixed, of, at_place, both, Step, Command, lone, try, if_else, try_then, case_of, Arms, last_arm, and_arm, Block, end_block, command_then}
-use Rattle.sap_meaning.specs.Walks.{EveryLevel, Every, EveryInArms, EveryInBlock, Asks, EveryStep, EveryStepInArms, EveryStepInBlock, gathered, gathered_in_arms, gathered_in_block, some, some_in_arms, some_in_block, mapped, mapped_arms, mapped_block}
+use Rattle.sap_meaning.specs.Walks.{EveryLevel, Every, EveryInArms, EveryInBlock, Asks, EveryStep, EveryStepInArms, EveryStepInBlock, folded, folded_in_arms, folded_in_block, with_step, gathered, gathered_in_block, some, some_in_arms, some_in_block, mapped, mapped_arms, mapped_block}
 
 -- what is asked of every command is a proposition where it is one of each
 module _ (P : Command → Type 0) (prop : (c : Command) → IsProp (P c)) where
@@ -105,37 +105,55 @@ module _ (P R S : Step → Type 0) (Q T U : Term ℕ → Type 0) (step_gives : (
   pub every_both_in_block : (b : Block) → EveryInBlock (Asks P Q) b → EveryInBlock (Asks R T) b → EveryInBlock (Asks S U) b
   every_both_in_block b p r = every_with_in_block (Asks P Q) (Asks R T) (Asks S U) asks_both b p r
 
--- Two things that are gathered are related where they are so at each step of which P holds, and joining keeps it.
+-- Two folds are related where they are so at each command of which P holds, if its blocks' are, and joining keeps it.
 module _ {A B : Type 0} (none : A) (join : A → A → A) (least : B) (meet : B → B → B) (Rel : A → B → Type 0) (at_none : Rel none least)
     (at_join : (a b : A) (c d : B) → Rel a c → Rel b d → Rel (join a b) (meet c d)) where
-  module _ (P : Step → Type 0) (Q : Term ℕ → Type 0) (f : Step → A) (g : Step → B) (at_step : (k : Step) → P k → Rel (f k) (g k)) where
+  module _ (P : Command → Type 0) (f : Command → A → A) (g : Command → B → B)
+      (here : (c : Command) → P c → (a : A) (b : B) → Rel a b → Rel (f c a) (g c b)) where
     abbrev of_block : Block → A
-    of_block b = gathered_in_block none join f b
+    of_block b = folded_in_block none join f b
 
     abbrev to_block : Block → B
-    to_block b = gathered_in_block least meet g b
+    to_block b = folded_in_block least meet g b
 
     mutual
-      pub gathered_related : (c : Command) → Every (Asks P Q) c → Rel (gathered none join f c) (gathered least meet g c)
-      gathered_related (lone k) h = at_step k h
-      gathered_related (try k hang b) h = at_join (f k) (of_block b) (g k) (to_block b) (at_step k h.0) (gathered_in_block_related b h.1)
-      gathered_related (if_else hang e a b) h =
-          at_join (of_block a) (of_block b) (to_block a) (to_block b) (gathered_in_block_related a h.1) (gathered_in_block_related b h.2)
-      gathered_related (try_then k hang a b) h =
-          at_join (f k) (join (of_block a) (of_block b)) (g k) (meet (to_block a) (to_block b)) (at_step k h.0)
-          (at_join (of_block a) (of_block b) (to_block a) (to_block b) (gathered_in_block_related a h.1) (gathered_in_block_related b h.2))
-      gathered_related (case_of hang e arms) h = gathered_in_arms_related arms h.1
+      pub folded_related : (c : Command) → Every P c → Rel (folded none join f c) (folded least meet g c)
+      folded_related (lone k) h = here (lone k) h none least at_none
+      folded_related (try k hang b) h = here (try k hang b) h.0 (of_block b) (to_block b) (folded_in_block_related b h.1)
+      folded_related (if_else hang e a b) h =
+          here (if_else hang e a b) h.0 (join (of_block a) (of_block b)) (meet (to_block a) (to_block b))
+          (at_join (of_block a) (of_block b) (to_block a) (to_block b) (folded_in_block_related a h.1) (folded_in_block_related b h.2))
+      folded_related (try_then k hang a b) h =
+          here (try_then k hang a b) h.0 (join (of_block a) (of_block b)) (meet (to_block a) (to_block b))
+          (at_join (of_block a) (of_block b) (to_block a) (to_block b) (folded_in_block_related a h.1) (folded_in_block_related b h.2))
+      folded_related (case_of hang e arms) h =
+          here (case_of hang e arms) h.0 (folded_in_arms none join f arms) (folded_in_arms least meet g arms) (folded_in_arms_related arms h.1)
 
-      gathered_in_arms_related : (arms : Arms) → EveryInArms (Asks P Q) arms → Rel (gathered_in_arms none join f arms) (gathered_in_arms least meet g arms)
-      gathered_in_arms_related (last_arm b) h = gathered_in_block_related b h
-      gathered_in_arms_related (and_arm constants b arms) h =
-          at_join (of_block b) (gathered_in_arms none join f arms) (to_block b) (gathered_in_arms least meet g arms) (gathered_in_block_related b h.0)
-          (gathered_in_arms_related arms h.1)
+      folded_in_arms_related : (arms : Arms) → EveryInArms P arms → Rel (folded_in_arms none join f arms) (folded_in_arms least meet g arms)
+      folded_in_arms_related (last_arm b) h = folded_in_block_related b h
+      folded_in_arms_related (and_arm constants b arms) h =
+          at_join (of_block b) (folded_in_arms none join f arms) (to_block b) (folded_in_arms least meet g arms) (folded_in_block_related b h.0)
+          (folded_in_arms_related arms h.1)
 
-      pub gathered_in_block_related : (b : Block) → EveryInBlock (Asks P Q) b → Rel (of_block b) (to_block b)
-      gathered_in_block_related end_block h = at_none
-      gathered_in_block_related (command_then c cs) h =
-          at_join (gathered none join f c) (of_block cs) (gathered least meet g c) (to_block cs) (gathered_related c h.0) (gathered_in_block_related cs h.1)
+      pub folded_in_block_related : (b : Block) → EveryInBlock P b → Rel (of_block b) (to_block b)
+      folded_in_block_related end_block h = at_none
+      folded_in_block_related (command_then c cs) h =
+          at_join (folded none join f c) (of_block cs) (folded least meet g c) (to_block cs) (folded_related c h.0) (folded_in_block_related cs h.1)
+
+  -- So are two things that are gathered, where they are at each step of which P holds.
+  module _ (P : Step → Type 0) (Q : Term ℕ → Type 0) (f : Step → A) (g : Step → B) (at_step : (k : Step) → P k → Rel (f k) (g k)) where
+    with_step_related : (c : Command) → Asks P Q c → (a : A) (b : B) → Rel a b → Rel (with_step none join f c a) (with_step least meet g c b)
+    with_step_related (lone k) h a b r = at_step k h
+    with_step_related (try k hang i) h a b r = at_join (f k) a (g k) b (at_step k h) r
+    with_step_related (if_else hang e i j) h a b r = r
+    with_step_related (try_then k hang i j) h a b r = at_join (f k) a (g k) b (at_step k h) r
+    with_step_related (case_of hang e arms) h a b r = r
+
+    pub gathered_related : (c : Command) → Every (Asks P Q) c → Rel (gathered none join f c) (gathered least meet g c)
+    gathered_related c h = folded_related (Asks P Q) (with_step none join f) (with_step least meet g) with_step_related c h
+
+    pub gathered_in_block_related : (b : Block) → EveryInBlock (Asks P Q) b → Rel (gathered_in_block none join f b) (gathered_in_block least meet g b)
+    gathered_in_block_related b h = folded_in_block_related (Asks P Q) (with_step none join f) (with_step least meet g) with_step_related b h
 
 -- where no step of which P holds passes p, none does
 module _ (P : Step → Type 0) (Q : Term ℕ → Type 0) (p : Step → Bool) (fails : (k : Step) → P k → p k ≡ false) where
@@ -256,23 +274,41 @@ module _ {A B : Type 0} (none : A) (join : A → A → A) (least : B) (meet : B 
 
 -- With other steps and other lists of what hangs: ..
 module _ (step : Step → Step) (list : Command → List Bool) where
-  -- .. what is gathered, is gathered from the other steps;
-  module _ {A : Type 0} (none : A) (join : A → A → A) (f g : Step → A) (same : (k : Step) → f (step k) ≡ g k) where
-    mutual
-      pub gathered_mapped : (c : Command) → gathered none join f (mapped step list c) ≡ gathered none join g c
-      gathered_mapped (lone k) = same k
-      gathered_mapped (try k hang h) = λ i. join (same k i) (gathered_mapped_block h i)
-      gathered_mapped (if_else hang e a b) = λ i. join (gathered_mapped_block a i) (gathered_mapped_block b i)
-      gathered_mapped (try_then k hang a b) = λ i. join (same k i) (join (gathered_mapped_block a i) (gathered_mapped_block b i))
-      gathered_mapped (case_of hang e arms) = gathered_mapped_arms arms
+  -- .. a fold is one over the other commands;
+  module _ {A : Type 0} (none : A) (join : A → A → A) where
+    module _ (f g : Command → A → A) (same : (c : Command) (a : A) → f (mapped step list c) a ≡ g c a) where
+      here : (c : Command) (a b : A) → a ≡ b → f (mapped step list c) a ≡ g c b
+      here c a b e = same c a ∙ ap (g c) e
 
-      pub gathered_mapped_arms : (arms : Arms) → gathered_in_arms none join f (mapped_arms step list arms) ≡ gathered_in_arms none join g arms
-      gathered_mapped_arms (last_arm b) = gathered_mapped_block b
-      gathered_mapped_arms (and_arm constants b arms) = λ i. join (gathered_mapped_block b i) (gathered_mapped_arms arms i)
+      mutual
+        pub folded_mapped : (c : Command) → folded none join f (mapped step list c) ≡ folded none join g c
+        folded_mapped (lone k) = same (lone k) none
+        folded_mapped (try k hang h) = here (try k hang h) _ _ (folded_mapped_block h)
+        folded_mapped (if_else hang e a b) = here (if_else hang e a b) _ _ (λ i. join (folded_mapped_block a i) (folded_mapped_block b i))
+        folded_mapped (try_then k hang a b) = here (try_then k hang a b) _ _ (λ i. join (folded_mapped_block a i) (folded_mapped_block b i))
+        folded_mapped (case_of hang e arms) = here (case_of hang e arms) _ _ (folded_mapped_arms arms)
+
+        folded_mapped_arms : (arms : Arms) → folded_in_arms none join f (mapped_arms step list arms) ≡ folded_in_arms none join g arms
+        folded_mapped_arms (last_arm b) = folded_mapped_block b
+        folded_mapped_arms (and_arm constants b arms) = λ i. join (folded_mapped_block b i) (folded_mapped_arms arms i)
+
+        pub folded_mapped_block : (b : Block) → folded_in_block none join f (mapped_block step list b) ≡ folded_in_block none join g b
+        folded_mapped_block end_block = refl
+        folded_mapped_block (command_then c cs) = λ i. join (folded_mapped c i) (folded_mapped_block cs i)
+
+    module _ (f g : Step → A) (same : (k : Step) → f (step k) ≡ g k) where
+      with_step_mapped : (c : Command) (a : A) → with_step none join f (mapped step list c) a ≡ with_step none join g c a
+      with_step_mapped (lone k) a = same k
+      with_step_mapped (try k hang h) a = λ i. join (same k i) a
+      with_step_mapped (if_else hang e b d) a = refl
+      with_step_mapped (try_then k hang b d) a = λ i. join (same k i) a
+      with_step_mapped (case_of hang e arms) a = refl
+
+      pub gathered_mapped : (c : Command) → gathered none join f (mapped step list c) ≡ gathered none join g c
+      gathered_mapped c = folded_mapped (with_step none join f) (with_step none join g) with_step_mapped c
 
       pub gathered_mapped_block : (b : Block) → gathered_in_block none join f (mapped_block step list b) ≡ gathered_in_block none join g b
-      gathered_mapped_block end_block = refl
-      gathered_mapped_block (command_then c cs) = λ i. join (gathered_mapped c i) (gathered_mapped_block cs i)
+      gathered_mapped_block b = folded_mapped_block (with_step none join f) (with_step none join g) with_step_mapped b
 
   -- .. what is asked of each step follows from what was asked of it,
   module _ (P R : Step → Type 0) (follows : (k : Step) → P k → R (step k)) where

@@ -2,8 +2,8 @@
 use Rattle.std.specs.Prelude.{◌≡◌, ℕ, ◌<◌, ◌^◌, List}
 use Rattle.std.specs.List.{AllByRecursion}
 use Rattle.sap_maps.specs.Term.{Term, constant, read, cell, one, two, choose, join, part, TermFits}
-use Rattle.sap_meaning.specs.Program.{World, Program, entity, width, depth_of, LevelTerm, Step, assign, write, retag, retag_cell, go_to, fall_to_child, Command, lone, try, if_else, try_then, case_of, Arms, last_arm, and_arm, Block, end_block, command_then, State, Group}
-use Rattle.sap_meaning.specs.Walks.{EveryLevel, EveryBody, EveryBodyIn}
+use Rattle.sap_meaning.specs.Program.{World, Program, entity, width, depth_of, LevelTerm, Step, assign, write, retag, retag_cell, go_to, fall_to_child, Command, lone, try, if_else, try_then, case_of, Arms, Block, State, Group}
+use Rattle.sap_meaning.specs.Walks.{EveryLevel, Every, EveryInArms, EveryInBlock, arm_constants, EveryBody, EveryBodyIn}
 use Rattle.sap_meaning.specs.Expressions.{width_of}
 
 abbrev pub depth : World → ℕ → ℕ
@@ -42,22 +42,22 @@ SizedStep w (fall_to_child site hang) = Unit {0}
 abbrev pub AreWithin : (width : ℕ) → List ℕ → Type 0
 AreWithin u ns = AllByRecursion (λ n. n < 2 ^ u) ns
 
-abbrev mutual
-  pub Sized : World → Command → Type 0
-  Sized w (lone k) = SizedStep w k
-  Sized w (try k hang h) = SizedStep w k × SizedBlock w h
-  Sized w (if_else hang e a b) = SizedTerm w e × (width_of w e ≡ 1) × SizedBlock w a × SizedBlock w b
-  Sized w (try_then k hang a b) = SizedStep w k × SizedBlock w a × SizedBlock w b
-  Sized w (case_of hang e arms) = SizedTerm w e × SizedArms w (width_of w e) arms
+-- A condition has one bit, and the constants of a `case` are within the width of its number.
+abbrev pub SizedHere : World → Command → Type 0
+SizedHere w (lone k) = SizedStep w k
+SizedHere w (try k hang h) = SizedStep w k
+SizedHere w (if_else hang e a b) = SizedTerm w e × (width_of w e ≡ 1)
+SizedHere w (try_then k hang a b) = SizedStep w k
+SizedHere w (case_of hang e arms) = SizedTerm w e × AllByRecursion (AreWithin (width_of w e)) (arm_constants arms)
 
-  -- constants that are compared with numbers of this width
-  pub SizedArms : World → (width : ℕ) → Arms → Type 0
-  SizedArms w u (last_arm b) = SizedBlock w b
-  SizedArms w u (and_arm constants b arms) = AreWithin u constants × SizedBlock w b × SizedArms w u arms
+abbrev pub Sized : World → Command → Type 0
+Sized w c = Every (SizedHere w) c
 
-  pub SizedBlock : World → Block → Type 0
-  SizedBlock w end_block = Unit {0}
-  SizedBlock w (command_then c cs) = Sized w c × SizedBlock w cs
+abbrev pub SizedArms : World → Arms → Type 0
+SizedArms w arms = EveryInArms (SizedHere w) arms
+
+abbrev pub SizedBlock : World → Block → Type 0
+SizedBlock w b = EveryInBlock (SizedHere w) b
 
 abbrev pub SizedState : World → State → Type 0
 SizedState w t = EveryBody (SizedBlock w) t

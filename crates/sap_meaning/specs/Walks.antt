@@ -1,5 +1,5 @@
 -- Walks over a program. A definition that asks the same of all parts, or gathers from all of them, is a walk, and says what it asks of one.
-use Rattle.std.specs.Prelude.{ℕ, Bool, false, ◌||◌, List}
+use Rattle.std.specs.Prelude.{ℕ, Bool, false, ◌||◌, List, [], ◌∷◌}
 use Rattle.sap_maps.specs.Term.{Term}
 use Rattle.sap_meaning.specs.Program.{LevelTerm, fixed, of, at_place, both, Step, Command, lone, try, if_else, try_then, case_of, Arms, last_arm, and_arm, Block, end_block, command_then, State, state_node, Group, no_node, and_node}
 
@@ -55,23 +55,41 @@ Asks P Q (if_else hang e a b) = Q e
 Asks P Q (try_then k hang a b) = P k
 Asks P Q (case_of hang e arms) = Q e
 
--- what f has of each step, joined in the order of the text; `none` where there is no step
-module _ {A : Type 0} (none : A) (join : A → A → A) (f : Step → A) where
+-- What a command has where its blocks have `below`, their parts joined in the order of the text; `none` where there is no part.
+module _ {A : Type 0} (none : A) (join : A → A → A) (own : Command → (below : A) → A) where
   abbrev mutual
-    pub gathered : Command → A
-    gathered (lone k) = f k
-    gathered (try k hang h) = join (f k) (gathered_in_block h)
-    gathered (if_else hang e a b) = join (gathered_in_block a) (gathered_in_block b)
-    gathered (try_then k hang a b) = join (f k) (join (gathered_in_block a) (gathered_in_block b))
-    gathered (case_of hang e arms) = gathered_in_arms arms
+    pub folded : Command → A
+    folded (lone k) = own (lone k) none
+    folded (try k hang h) = own (try k hang h) (folded_in_block h)
+    folded (if_else hang e a b) = own (if_else hang e a b) (join (folded_in_block a) (folded_in_block b))
+    folded (try_then k hang a b) = own (try_then k hang a b) (join (folded_in_block a) (folded_in_block b))
+    folded (case_of hang e arms) = own (case_of hang e arms) (folded_in_arms arms)
 
-    pub gathered_in_arms : Arms → A
-    gathered_in_arms (last_arm b) = gathered_in_block b
-    gathered_in_arms (and_arm constants b arms) = join (gathered_in_block b) (gathered_in_arms arms)
+    pub folded_in_arms : Arms → A
+    folded_in_arms (last_arm b) = folded_in_block b
+    folded_in_arms (and_arm constants b arms) = join (folded_in_block b) (folded_in_arms arms)
 
-    pub gathered_in_block : Block → A
-    gathered_in_block end_block = none
-    gathered_in_block (command_then c cs) = join (gathered c) (gathered_in_block cs)
+    pub folded_in_block : Block → A
+    folded_in_block end_block = none
+    folded_in_block (command_then c cs) = join (folded c) (folded_in_block cs)
+
+-- what f has of each step, joined in the order of the text
+module _ {A : Type 0} (none : A) (join : A → A → A) (f : Step → A) where
+  abbrev pub with_step : Command → (below : A) → A
+  with_step (lone k) below = f k
+  with_step (try k hang h) below = join (f k) below
+  with_step (if_else hang e a b) below = below
+  with_step (try_then k hang a b) below = join (f k) below
+  with_step (case_of hang e arms) below = below
+
+  abbrev pub gathered : Command → A
+  gathered c = folded none join with_step c
+
+  abbrev pub gathered_in_arms : Arms → A
+  gathered_in_arms arms = folded_in_arms none join with_step arms
+
+  abbrev pub gathered_in_block : Block → A
+  gathered_in_block b = folded_in_block none join with_step b
 
 -- the same commands with other steps and other lists of what hangs
 module _ (step : Step → Step) (hang_of : Command → List Bool) where
@@ -100,6 +118,11 @@ some_in_arms p arms = gathered_in_arms false ◌||◌ p arms
 
 abbrev pub some_in_block : (p : Step → Bool) → Block → Bool
 some_in_block p b = gathered_in_block false ◌||◌ p b
+
+-- the constants of each arm
+abbrev pub arm_constants : Arms → List (List ℕ)
+arm_constants (last_arm b) = []
+arm_constants (and_arm constants b arms) = constants ∷ arm_constants arms
 
 abbrev pub body_of : State → Block
 body_of (state_node s b g) = b
