@@ -1,11 +1,11 @@
 -- On what stands in Walks: what several crates cite.
-use Rattle.std.proofs.Common.{◌≡◌, ℕ, Bool, true, false, ◌||◌, List, inl, inr, refl, sym, ap, ap₂, ◌∙◌}
+use Rattle.std.proofs.Common.{◌≡◌, ℕ, Bool, true, false, ◌||◌, List, ◌∷◌, inl, inr, refl, sym, ap, ap₂, ◌∙◌}
 use Rattle.std.proofs.Props.{props}
 use Rattle.std.proofs.lemmas.Bool.{or_cases, or_from}
 use Rattle.sap_lemmas.proofs.Bools.{either_follows, neither_left, neither_right, true_is_not_false}
 use Rattle.sap_maps.specs.Term.{Term}
 use Rattle.sap_meaning.specs.Program.{LevelTerm, fixed, of, at_place, both, Step, Command, lone, try, if_else, try_then, case_of, Arms, last_arm, and_arm, Block, end_block, command_then}
-use Rattle.sap_meaning.specs.Walks.{EveryLevel, Every, EveryInArms, EveryInBlock, Asks, EveryStep, EveryStepInArms, EveryStepInBlock, folded, folded_in_arms, folded_in_block, with_step, gathered, gathered_in_block, some, some_in_arms, some_in_block, mapped, mapped_arms, mapped_block}
+use Rattle.sap_meaning.specs.Walks.{EveryLevel, Every, EveryInArms, EveryInBlock, Asks, EveryStep, EveryStepInArms, EveryStepInBlock, folded, folded_in_arms, folded_in_block, with_step, gathered, gathered_in_block, some, some_in_arms, some_in_block, mapped, mapped_arms, mapped_block, arm_constants}
 
 -- what is asked of every command is a proposition where it is one of each
 module _ (P : Command → Type 0) (prop : (c : Command) → IsProp (P c)) where
@@ -309,6 +309,11 @@ module _ (step : Step → Step) (list : Command → List Bool) where
 
       pub gathered_mapped_block : (b : Block) → gathered_in_block none join f (mapped_block step list b) ≡ gathered_in_block none join g b
       gathered_mapped_block b = folded_mapped_block (with_step none join f) (with_step none join g) with_step_mapped b
+
+  -- .. the constants of arms stay,
+  pub constants_mapped : (arms : Arms) → arm_constants (mapped_arms step list arms) ≡ arm_constants arms
+  constants_mapped (last_arm b) = refl
+  constants_mapped (and_arm constants b arms) = λ i. constants ∷ constants_mapped arms i
 
   -- .. what is asked of each step follows from what was asked of it,
   module _ (P R : Step → Type 0) (follows : (k : Step) → P k → R (step k)) where

@@ -89,13 +89,13 @@ module _ (w : World) where
         able_command : (c : Command) → FineCommand w q g c → Sized w c → Ranged w c → AbleCommand w c
         able_command (lone k) f s r = able_step q g fq k f s r
         able_command (try k hang h) f s r = (able_step q g fq k f.0 s.0 r.0, able_block h f.1 s.1 r.1)
-        able_command (if_else hang e a b) f s r = (able_term e s.0 r.0, able_block a f.1 s.2 r.1, able_block b f.2 s.3 r.2)
+        able_command (if_else hang e a b) f s r = (able_term e s.0.0 r.0, able_block a f.1 s.1 r.1, able_block b f.2 s.2 r.2)
         able_command (try_then k hang a b) f s r = (able_step q g fq k f.0 s.0 r.0, able_block a f.1 s.1 r.1, able_block b f.2 s.2 r.2)
-        able_command (case_of hang e arms) f s r = (able_term e s.0 r.0, able_arms (width_of w e) arms f.1 s.1 r.1)
+        able_command (case_of hang e arms) f s r = (able_term e s.0.0 r.0, able_arms arms f.1 s.1 r.1)
 
-        able_arms : (u : ℕ) (arms : Arms) → FineArms w q g arms → SizedArms w u arms → RangedArms w arms → AbleArms w arms
-        able_arms u (last_arm b) f s r = able_block b f s r
-        able_arms u (and_arm constants b arms) f s r = (able_block b f.0 s.1 r.0, able_arms u arms f.1 s.2 r.1)
+        able_arms : (arms : Arms) → FineArms w q g arms → SizedArms w arms → RangedArms w arms → AbleArms w arms
+        able_arms (last_arm b) f s r = able_block b f s r
+        able_arms (and_arm constants b arms) f s r = (able_block b f.0 s.0 r.0, able_arms arms f.1 s.1 r.1)
 
         able_block : (b : Block) → FineBlock w q g b → SizedBlock w b → RangedBlock w b → AbleBlock w b
         able_block end_block f s r = tt

@@ -1,5 +1,6 @@
 -- Bodies keep the rules of names and of widths.
 use Rattle.std.proofs.Common.{◌≡◌, ℕ, zero, suc, ◌+◌, ◌^◌, ◌<◌, ◌≤◌, List, [], ◌∷◌, ◌++◌, length, take, drop, Bool, true, false, not, ◌&&◌, ◌||◌, Some, refl, sym, ap, ◌∙◌, subst, if◌then◌else◌, arith, nat_lt, nat_le, inl, inr}
+use Rattle.std.specs.List.{AllByRecursion}
 use Rattle.std.proofs.lemmas.Bool.{cases_Bool, and_parts, or_right}
 use Rattle.std.proofs.lemmas.Grind.{common_steps}
 use Rattle.std.proofs.Math.Pow.{pow_pos}
@@ -14,7 +15,7 @@ use Rattle.sap_tree.specs.Limits.{most_arms}
 use Rattle.sap_meaning.specs.Program.{World, Kind, entity, root, is_dynamic, is_input, is_register, is_state, width, children, listed, Step, assign, write, retag, retag_cell, go_to, fall_to_child, Command, lone, try, if_else, try_then, case_of, Arms, last_arm, and_arm, Block, end_block, command_then, Group, kind_is_input, kind_is_register, kind_is_state}
 use Rattle.sap_meaning.specs.Program as program
 use Rattle.sap_meaning.specs.Expressions.{width_of}
-use Rattle.sap_meaning.specs.Walks.{Every, EveryInArms, EveryInBlock}
+use Rattle.sap_meaning.specs.Walks.{Every, EveryInArms, EveryInBlock, arm_constants}
 use Rattle.sap_meaning.specs.Checks.{Home, site_of}
 use Rattle.sap_meaning.specs.Touches.{among}
 use Rattle.sap_meaning.specs.Runs.{listed_alone}
@@ -336,11 +337,12 @@ module _ (d : Setting) (s : Source) (h : Declares d s) (fixed group : List Name)
         wire_gives j w (choose (two Eq (var d (wire_key n)) (constant u c)) (constant w i) (var d (wire_key j))) (picks_arm d u n w j i cs rest) wj
         ((u, u, wide, wide, wn.0, (refl, within.0), refl, refl), (refl, small), wj.0) (picks_arm_fine u n w j i cs rest wide wn wj small within.1 g)
 
-    picks_fine : (u n w j i : ℕ) (arms : Arms) (rest : Body) → IsWidth u → IsWire d s n u → IsWire d s j w → i + arm_count arms < 2 ^ w → SizedArms d.world u arms → Good rest
+    picks_fine : (u n w j i : ℕ) (arms : Arms) (rest : Body) → IsWidth u → IsWire d s n u → IsWire d s j w → i + arm_count arms < 2 ^ w
+        → AllByRecursion (AreWithin u) (arm_constants arms) → Good rest
         → Good (picks d u n w j i arms rest)
     picks_fine u n w j i (last_arm b) rest wide wn wj small z g = wire_gives j w (constant w i) rest wj (refl, (omega (arith, small))) g
     picks_fine u n w j i (and_arm constants b arms) rest wide wn wj small z g =
-        picks_fine u n w j (suc i) arms (picks_arm d u n w j i constants rest) wide wn wj (omega (arith, small)) z.2
+        picks_fine u n w j (suc i) arms (picks_arm d u n w j i constants rest) wide wn wj (omega (arith, small)) z.1
         (picks_arm_fine u n w j i constants rest wide wn wj (omega (arith, small)) z.0 g)
 
     -- the block that has it
@@ -376,7 +378,8 @@ module _ (d : Setting) (s : Source) (h : Declares d s) (fixed group : List Name)
     pick_fine : (p k : ℕ) (e : Term ℕ) (hangs : ℕ → Bool) (arms : Arms) (blocks : List Body) → IsWire d s p d.tag → IsWire d s k d.tag → IsWire d s (k + 1) d.tag
         → IsWire d s (k + 2) (width_of d.world e) → IsWire d s (k + 3) (pick_width arms) → Hangs d.world hangs
         → Fine d s h d.tag (tag_of d e) → Fine d s h (width_of d.world e) (expr d e)
-        → IsWidth (width_of d.world e) → arm_count arms ≤ most_arms → SizedArms d.world (width_of d.world e) arms → AllGood blocks → Good (pick_of d p k e hangs arms blocks)
+        → IsWidth (width_of d.world e) → arm_count arms ≤ most_arms
+        → AllByRecursion (AreWithin (width_of d.world e)) (arm_constants arms) → AllGood blocks → Good (pick_of d p k e hangs arms blocks)
     unfolding pick_of
     pick_fine p k e hangs arms blocks pc a b n j hs level number wide few z g =
         let w = pick_width arms in
@@ -406,11 +409,11 @@ module _ (d : Setting) (s : Source) (h : Declares d s) (fixed group : List Name)
           (λ n i. site n (among_right (sites.step_sites d.world sp.state sp.children t) (sites.block_sites d.world sp.state sp.children b) n i)) f.1 z.1 r.1 c.1 few)
       command_fine p k (if_else hang e a b) pc ws hs site f z r c few =
           select_fine p k e (listed hang) (block_plain d sp (k + 1) (k + 2) a) (block_plain d sp (k + 1) (k + 2 + wires_block a) b) pc ws.0 ws.1 hs.0
-          (level_fine d s h e f.0 z.0 r.0 c.0) (subst (λ (u : ℕ). Fine d s h u (expr d e)) z.1 (number_fine d s h e f.0 z.0 r.0 c.0))
+          (level_fine d s h e f.0 z.0.0 r.0 c.0) (subst (λ (u : ℕ). Fine d s h u (expr d e)) z.0.1 (number_fine d s h e f.0 z.0.0 r.0 c.0))
           (block_fine (k + 1) (k + 2) a ws.1 ws.2 hs.1
-          (λ n i. site n (among_left (sites.block_sites d.world sp.state sp.children a) (sites.block_sites d.world sp.state sp.children b) n i)) f.1 z.2 r.1 c.1 few.0)
+          (λ n i. site n (among_left (sites.block_sites d.world sp.state sp.children a) (sites.block_sites d.world sp.state sp.children b) n i)) f.1 z.1 r.1 c.1 few.0)
           (block_fine (k + 1) (k + 2 + wires_block a) b ws.1 ws.3 hs.2
-          (λ n i. site n (among_right (sites.block_sites d.world sp.state sp.children a) (sites.block_sites d.world sp.state sp.children b) n i)) f.2 z.3 r.2 c.2 few.1)
+          (λ n i. site n (among_right (sites.block_sites d.world sp.state sp.children a) (sites.block_sites d.world sp.state sp.children b) n i)) f.2 z.2 r.2 c.2 few.1)
       command_fine p k (try_then t hang a b) pc ws hs site f z r c few =
           let own = sites.step_sites d.world sp.state sp.children t in
           let first = sites.block_sites d.world sp.state sp.children a in
@@ -420,19 +423,19 @@ module _ (d : Setting) (s : Source) (h : Declares d s) (fixed group : List Name)
           (block_fine (k + 2) (k + 5) a ws.0.2 ws.1 hs.1 (λ m i. site m (among_right own (first ++ second) m (among_left first second m i))) f.1 z.1 r.1 c.1 few.0)
           (block_fine (k + 2) (k + 5 + wires_block a) b ws.0.2 ws.2 hs.2 (λ m i. site m (among_right own (first ++ second) m (among_right first second m i))) f.2 z.2 r.2 c.2 few.1)
       command_fine p k (case_of hang e arms) pc ws hs site f z r c few =
-          pick_fine p k e (listed hang) arms (arms_plain d sp (k + 1) (k + 4) arms) pc ws.0 ws.1 ws.2 ws.3 hs.0 (level_fine d s h e f.0 z.0 r.0 c.0)
-          (number_fine d s h e f.0 z.0 r.0 c.0) (ranged_width d.world e r.0) few.0 z.1
-          (arms_fine (width_of d.world e) (k + 1) (k + 4) arms ws.1 ws.4 hs.1 site f.1 z.1 r.1 c.1 few.1)
+          pick_fine p k e (listed hang) arms (arms_plain d sp (k + 1) (k + 4) arms) pc ws.0 ws.1 ws.2 ws.3 hs.0 (level_fine d s h e f.0 z.0.0 r.0 c.0)
+          (number_fine d s h e f.0 z.0.0 r.0 c.0) (ranged_width d.world e r.0) few.0 z.0.1
+          (arms_fine (k + 1) (k + 4) arms ws.1 ws.4 hs.1 site f.1 z.1 r.1 c.1 few.1)
 
-      arms_fine : (u p k : ℕ) (arms : Arms) → IsWire d s p d.tag → ArmsWires d s k arms → ArmsHang d.world sp arms → AllSites (sites.arms_sites d.world sp.state sp.children arms)
-          → FineArms d.world q sp.children arms → SizedArms d.world u arms → RangedArms d.world arms → ArmsConditions d.world arms
+      arms_fine : (p k : ℕ) (arms : Arms) → IsWire d s p d.tag → ArmsWires d s k arms → ArmsHang d.world sp arms → AllSites (sites.arms_sites d.world sp.state sp.children arms)
+          → FineArms d.world q sp.children arms → SizedArms d.world arms → RangedArms d.world arms → ArmsConditions d.world arms
           → FewArms arms → AllGood (arms_plain d sp p k arms)
-      arms_fine u p k (last_arm b) pc ws hs site f z r c few = (block_fine p k b pc ws hs site f z r c few, tt)
-      arms_fine u p k (and_arm constants b arms) pc ws hs site f z r c few =
+      arms_fine p k (last_arm b) pc ws hs site f z r c few = (block_fine p k b pc ws hs site f z r c few, tt)
+      arms_fine p k (and_arm constants b arms) pc ws hs site f z r c few =
           let first = sites.block_sites d.world sp.state sp.children b in
           let others = sites.arms_sites d.world sp.state sp.children arms in (
-            block_fine p k b pc ws.0 hs.0 (λ m i. site m (among_left first others m i)) f.0 z.1 r.0 c.0 few.1,
-            arms_fine u p (k + wires_block b) arms pc ws.1 hs.1 (λ m i. site m (among_right first others m i)) f.1 z.2 r.1 c.1 few.2,
+            block_fine p k b pc ws.0 hs.0 (λ m i. site m (among_left first others m i)) f.0 z.0 r.0 c.0 few.1,
+            arms_fine p (k + wires_block b) arms pc ws.1 hs.1 (λ m i. site m (among_right first others m i)) f.1 z.1 r.1 c.1 few.2,
           )
 
       pub block_fine : (p k : ℕ) (b : Block) → IsWire d s p d.tag → BlockWires d s k b → BlockHangs d.world sp b → AllSites (sites.block_sites d.world sp.state sp.children b)

@@ -1,5 +1,6 @@
 -- Commands, bodies and states in which no fault stands: their names are those of entities of the right kind, and their widths fit.
 use Rattle.std.proofs.Common.{◌≡◌, ℕ, ◌+◌, ◌^◌, ◌<◌, List, [], Bool, true, false, ◌||◌, Option, Some, None, refl, sym, ap, subst, ◌∙◌, length}
+use Rattle.std.specs.List.{AllByRecursion}
 use Rattle.std.proofs.Math.Pow.{pow_pos}
 use Rattle.sap_tree.specs.declared.name.Mention.{Mention}
 use Rattle.sap_tree.specs.Syntax as tree
@@ -15,6 +16,7 @@ use Rattle.sap_names.specs.Widths.{own, else_of as first_width, register_width, 
 use Rattle.sap_meaning.specs.Program as program
 use Rattle.sap_meaning.specs.Program.{World, entity, width, is_register, is_memory, is_state, kind_is_register, kind_is_state}
 use Rattle.sap_meaning.specs.Expressions.{width_of}
+use Rattle.sap_meaning.specs.Walks.{arm_constants}
 use Rattle.sap_meaning.specs.Sized.{SizedTerm, Indexes, AreWithin, SizedStep, Sized, SizedArms, SizedBlock, SizedState, SizedGroup}
 use Rattle.sap_meaning.specs.Fine.{FineTerm}
 use Rattle.sap_shape.specs.Sites.{Surroundings, simple_sites, command_sites, block_sites, state_sites}
@@ -168,7 +170,7 @@ module _ (ls : Levels) (h : Surroundings) (w : World) (r : Ready ls h.entities w
         let i = asked_width w (term_of es condition (Some 1)) (own what condition) (Some 1) 1 refl t in
         let a = block_fits k one n.1 in
         let b = else_fits (k + length (block_sites h one)) other n.2 in
-        ((t.fine, a.0, b.0), ((t.fits, t.indexed), i, a.1, b.1))
+        ((t.fine, a.0, b.0), (((t.fits, t.indexed), i), a.1, b.1))
     command_fits k (try_then c place one other) f =
         let n = none_three (simple_faults ls.names what c) (block_faults ls.names what one) (block_faults ls.names what other) f in
         let s = step_fits (site_number h k c) c n.0 in
@@ -180,15 +182,16 @@ module _ (ls : Levels) (h : Surroundings) (w : World) (r : Ready ls h.entities w
         let t = expression_fitted es w r.names e None n.0 in
         let mine : own what e ≡ Some (width_of w (term_of es e None)) = sym (first_alone (own what e)) ∙ t.wide in
         let a = arms_fit (width_of w (term_of es e None)) k arms (subst (λ (o : Option ℕ). arms_faults ls.names what o arms ≡ []) mine n.1) in
-        ((t.fine, a.0), ((t.fits, t.indexed), a.1))
+        ((t.fine, a.0), (((t.fits, t.indexed), a.1), a.2))
 
-    arms_fit : (u k : ℕ) (arms : Arms) → arms_faults ls.names what (Some u) arms ≡ [] → WellNamedArms w (arms_of ls h k arms) × SizedArms w u (arms_of ls h k arms)
-    arms_fit u k (last_arm b) f = block_fits k b f
+    arms_fit : (u k : ℕ) (arms : Arms) → arms_faults ls.names what (Some u) arms ≡ []
+        → WellNamedArms w (arms_of ls h k arms) × AllByRecursion (AreWithin u) (arm_constants (arms_of ls h k arms)) × SizedArms w (arms_of ls h k arms)
+    arms_fit u k (last_arm b) f = let a = block_fits k b f in (a.0, tt, a.1)
     arms_fit u k (tree.and_arm constants b arms) f =
         let n = none_three (constants_faults what (Some u) constants) (block_faults ls.names what b) (arms_faults ls.names what (Some u) arms) f in
         let a = block_fits k b n.1 in
         let rest = arms_fit u (k + length (block_sites h b)) arms n.2 in
-        ((a.0, rest.0), (constants_within u constants n.0, a.1, rest.1))
+        ((a.0, rest.0), (constants_within u constants n.0, rest.1), (a.1, rest.2))
 
     pub block_fits : (k : ℕ) (b : CommandBlock) → block_faults ls.names what b ≡ [] → BlockFits (block_of ls h k b)
     block_fits k (command_block cs after) f = list_fits k cs f
