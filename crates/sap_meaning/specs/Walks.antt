@@ -1,4 +1,4 @@
--- Walks over a program. A definition that asks the same of all parts, or gathers from all of them, is a walk, and says what it asks of one.
+-- Walks over a program. A definition that asks the same of all parts, or gathers from all of them, is a walk, and says what it asks or has of one.
 use Rattle.std.specs.Prelude.{ℕ, Bool, false, ◌||◌, List, [], ◌∷◌}
 use Rattle.sap_maps.specs.Term.{Term}
 use Rattle.sap_meaning.specs.Program.{LevelTerm, fixed, of, at_place, both, Step, Command, lone, try, if_else, try_then, case_of, Arms, last_arm, and_arm, Block, end_block, command_then, State, state_node, Group, no_node, and_node}
@@ -55,7 +55,7 @@ Asks P Q (if_else hang e a b) = Q e
 Asks P Q (try_then k hang a b) = P k
 Asks P Q (case_of hang e arms) = Q e
 
--- What a command has where its blocks have `below`, their parts joined in the order of the text; `none` where there is no part.
+-- A fold: `own c below` is what a command has where its blocks have `below`, which is what their commands have, joined in the order of the text, or `none`.
 module _ {A : Type 0} (none : A) (join : A → A → A) (own : Command → (below : A) → A) where
   abbrev mutual
     pub folded : Command → A
