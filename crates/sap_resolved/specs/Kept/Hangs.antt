@@ -7,8 +7,8 @@ use Rattle.sap_tree.specs.Touches as tree
 use Rattle.sap_lattice.specs.Levels.{Levels}
 use Rattle.sap_names.specs.declared.entity.Entity.{Entity}
 use Rattle.sap_names.specs.Entities.{entities_of}
-use Rattle.sap_meaning.specs.Program.{Step, assign, write, retag, retag_cell, go_to, fall_to_child, Command, lone, try, if_else, try_then, case_of, Arms, last_arm, and_arm, Block, end_block, command_then, State, Group}
-use Rattle.sap_meaning.specs.Walks.{body_of, gathered_from, gathered_from_group}
+use Rattle.sap_meaning.specs.Program.{Step, assign, write, retag, retag_cell, go_to, fall_to_child, Command, lone, try, if_else, try_then, case_of, Arms, Block, State, Group}
+use Rattle.sap_meaning.specs.Walks.{folded, folded_in_arms, folded_in_block, body_of, gathered_from, gathered_from_group}
 use Rattle.sap_resolved.specs.Fill.{program_of}
 
 -- an `if`, an `otherwise`, a `fall`, a `then` or a `case`, with the names of what hangs on it
@@ -35,21 +35,21 @@ step_points names (go_to site target) = []
 step_points names (fall_to_child site hang) = at_fall (hanging names hang) ∷ []
 
 -- in the order of the words
-abbrev mutual
-  pub points : List (List ℕ) → Command → List Point
-  points names (lone k) = step_points names k
-  points names (try k hang h) = step_points names k ++ at_otherwise (hanging names hang) ∷ block_points names h
-  points names (if_else hang e a b) = at_if (hanging names hang) ∷ block_points names a ++ block_points names b
-  points names (try_then k hang a b) = step_points names k ++ at_then (hanging names hang) ∷ (block_points names a ++ block_points names b)
-  points names (case_of hang e arms) = at_case (hanging names hang) ∷ arms_points names arms
+abbrev pub own_points : List (List ℕ) → Command → (below : List Point) → List Point
+own_points names (lone k) below = step_points names k
+own_points names (try k hang h) below = step_points names k ++ at_otherwise (hanging names hang) ∷ below
+own_points names (if_else hang e a b) below = at_if (hanging names hang) ∷ below
+own_points names (try_then k hang a b) below = step_points names k ++ at_then (hanging names hang) ∷ below
+own_points names (case_of hang e arms) below = at_case (hanging names hang) ∷ below
 
-  pub arms_points : List (List ℕ) → Arms → List Point
-  arms_points names (last_arm b) = block_points names b
-  arms_points names (and_arm constants b arms) = block_points names b ++ arms_points names arms
+abbrev pub points : List (List ℕ) → Command → List Point
+points names c = folded [] ◌++◌ (own_points names) c
 
-  pub block_points : List (List ℕ) → Block → List Point
-  block_points names end_block = []
-  block_points names (command_then c cs) = points names c ++ block_points names cs
+abbrev pub arms_points : List (List ℕ) → Arms → List Point
+arms_points names arms = folded_in_arms [] ◌++◌ (own_points names) arms
+
+abbrev pub block_points : List (List ℕ) → Block → List Point
+block_points names b = folded_in_block [] ◌++◌ (own_points names) b
 
 abbrev pub state_points : List (List ℕ) → State → List Point
 state_points names t = gathered_from [] ◌++◌ (λ s. block_points names (body_of s)) t
@@ -76,21 +76,21 @@ step_rows (retag_cell site m j n) = []
 step_rows (go_to site target) = []
 step_rows (fall_to_child site hang) = hang ∷ []
 
-abbrev mutual
-  pub rows : Command → List (List Bool)
-  rows (lone k) = step_rows k
-  rows (try k hang h) = step_rows k ++ hang ∷ block_rows h
-  rows (if_else hang e a b) = hang ∷ block_rows a ++ block_rows b
-  rows (try_then k hang a b) = step_rows k ++ hang ∷ (block_rows a ++ block_rows b)
-  rows (case_of hang e arms) = hang ∷ arms_rows arms
+abbrev pub own_rows : Command → (below : List (List Bool)) → List (List Bool)
+own_rows (lone k) below = step_rows k
+own_rows (try k hang h) below = step_rows k ++ hang ∷ below
+own_rows (if_else hang e a b) below = hang ∷ below
+own_rows (try_then k hang a b) below = step_rows k ++ hang ∷ below
+own_rows (case_of hang e arms) below = hang ∷ below
 
-  pub arms_rows : Arms → List (List Bool)
-  arms_rows (last_arm b) = block_rows b
-  arms_rows (and_arm constants b arms) = block_rows b ++ arms_rows arms
+abbrev pub rows : Command → List (List Bool)
+rows c = folded [] ◌++◌ own_rows c
 
-  pub block_rows : Block → List (List Bool)
-  block_rows end_block = []
-  block_rows (command_then c cs) = rows c ++ block_rows cs
+abbrev pub arms_rows : Arms → List (List Bool)
+arms_rows arms = folded_in_arms [] ◌++◌ own_rows arms
+
+abbrev pub block_rows : Block → List (List Bool)
+block_rows b = folded_in_block [] ◌++◌ own_rows b
 
 abbrev pub state_rows : State → List (List Bool)
 state_rows t = gathered_from [] ◌++◌ (λ s. block_rows (body_of s)) t
