@@ -68,7 +68,7 @@ module _ (r : Rows) where
           let x = block_placed at a (p + 1) (block_rows (filled_block w at b) ++ more)
           (joined_rows (p + 1) (block_rows (filled_block w at a)) (block_rows (filled_block w at b)) more h.1) in
           let y = block_placed at b (p + 1 + block_points a) more x.1 in
-          (if_same _ _ condition _ _ _ _ (sym h.0) x.0 y.0, at_point (p + 1 + block_points a + block_points b) (p + (1 + block_points a + block_points b)) more (omega arith) y.1)
+          (if_same _ _ condition _ _ _ _ (sym h.0) x.0 y.0, at_point (p + 1 + block_points a + block_points b) (p + (1 + (block_points a + block_points b))) more (omega arith) y.1)
       command_placed at (try_then k hang a b) p more h =
           let row = table (root w) (touches w at (try_then k hang a b)) in
           let blocks = block_rows (filled_block w at a) ++ block_rows (filled_block w at b) in
@@ -77,7 +77,7 @@ module _ (r : Rows) where
           let x = block_placed at a q (block_rows (filled_block w at b) ++ more) (joined_rows q (block_rows (filled_block w at a)) (block_rows (filled_block w at b)) more s.1.1) in
           let y = block_placed at b (q + block_points a) more x.1 in (
             then_same _ _ _ _ _ _ _ _ s.0 (sym s.1.0) x.0 y.0,
-            at_point (q + block_points a + block_points b) (p + (step_points k + 1 + block_points a + block_points b)) more (omega arith) y.1,
+            at_point (q + block_points a + block_points b) (p + (step_points k + 1 + (block_points a + block_points b))) more (omega arith) y.1,
           )
       command_placed at (case_of hang e arms) p more h =
           let x = arms_placed at arms (p + 1) more h.1 in

@@ -3,6 +3,7 @@
 use Rattle.std.specs.Prelude.{ℕ, ◌+◌, Bool, List}
 use Rattle.sap_hang.specs.Hang.{Table, says, says_of_root}
 use Rattle.sap_meaning.specs.Program.{Step, assign, write, retag, retag_cell, go_to, fall_to_child, Command, lone, try, if_else, try_then, case_of, Arms, last_arm, and_arm, Block, end_block, command_then, State, state_node, Group, no_node, and_node}
+use Rattle.sap_meaning.specs.Walks.{folded, folded_in_arms, folded_in_block, body_of, gathered_from, gathered_from_group}
 use Rattle.sap_resolved.specs.Fill.{table}
 
 -- for each point, of each entity whether it hangs there
@@ -26,29 +27,27 @@ step_points (retag_cell site m j n) = 0
 step_points (go_to site target) = 0
 step_points (fall_to_child site hang) = 1
 
-abbrev mutual
-  pub command_points : Command → ℕ
-  command_points (lone k) = step_points k
-  command_points (try k hang handler) = step_points k + 1 + block_points handler
-  command_points (if_else hang condition a b) = 1 + block_points a + block_points b
-  command_points (try_then k hang a b) = step_points k + 1 + block_points a + block_points b
-  command_points (case_of hang e arms) = 1 + arms_points arms
+abbrev pub own_points : Command → (below : ℕ) → ℕ
+own_points (lone k) below = step_points k
+own_points (try k hang handler) below = step_points k + 1 + below
+own_points (if_else hang condition a b) below = 1 + below
+own_points (try_then k hang a b) below = step_points k + 1 + below
+own_points (case_of hang e arms) below = 1 + below
 
-  pub arms_points : Arms → ℕ
-  arms_points (last_arm b) = block_points b
-  arms_points (and_arm constants b arms) = block_points b + arms_points arms
+abbrev pub command_points : Command → ℕ
+command_points c = folded 0 ◌+◌ own_points c
 
-  pub block_points : Block → ℕ
-  block_points end_block = 0
-  block_points (command_then c cs) = command_points c + block_points cs
+abbrev pub arms_points : Arms → ℕ
+arms_points arms = folded_in_arms 0 ◌+◌ own_points arms
 
-abbrev mutual
-  pub state_points : State → ℕ
-  state_points (state_node s body children) = block_points body + group_points children
+abbrev pub block_points : Block → ℕ
+block_points b = folded_in_block 0 ◌+◌ own_points b
 
-  pub group_points : Group → ℕ
-  group_points no_node = 0
-  group_points (and_node s rest) = state_points s + group_points rest
+abbrev pub state_points : State → ℕ
+state_points s = gathered_from 0 ◌+◌ (λ t. block_points (body_of t)) s
+
+abbrev pub group_points : Group → ℕ
+group_points g = gathered_from_group 0 ◌+◌ (λ t. block_points (body_of t)) g
 
 -- with these rows at its points, of which the first has the number p
 
