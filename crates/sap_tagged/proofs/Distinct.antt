@@ -223,17 +223,13 @@ module _ (d : Named) (tag : ℕ) where
         ap (λ (ns : List Name). key_name d (wire_key k) ∷ key_name d (wire_key (k + 1)) ∷ ns) (r ∙ ap (λ (i : ℕ). keyed (wire_keys i (m + n))) two)
         ∙ ap (λ (i : ℕ). keyed (wire_keys k i)) (count m n)
       where
-        count : (m n : ℕ) → suc (suc (m + n)) ≡ 2 + m + n
+        count : (m n : ℕ) → suc (suc (m + n)) ≡ 2 + (m + n)
         count m n = omega arith
     command_named k (try_then s hang a b) =
         let m = wires_block a in
         let n = wires_block b in
         two_lists (step_wires d tag k) (block_wires d tag (k + 5) a ++ block_wires d tag (k + 5 + m) b) k 5 (m + n) (step_named k)
         (two_lists (block_wires d tag (k + 5) a) (block_wires d tag (k + 5 + m) b) (k + 5) m n (block_named (k + 5) a) (block_named (k + 5 + m) b))
-        ∙ ap (λ (i : ℕ). keyed (wire_keys k i)) (count m n)
-      where
-        count : (m n : ℕ) → 5 + (m + n) ≡ 5 + m + n
-        count m n = omega arith
     command_named k (case_of hang e arms) =
         let n = wires_arms arms in
         let two : k + 2 ≡ k + 1 + 1 = omega arith in

@@ -1,5 +1,5 @@
 -- The program of a well-formed design has what the rules ask for.
-use Rattle.std.proofs.Common.{◌≡◌, ℕ, ◌+◌, ◌*◌, ◌<◌, ◌≤◌, List, length, Bool, ◌&&◌, IsTrue, refl, ap, ap₂, arith, nat_le}
+use Rattle.std.proofs.Common.{◌≡◌, ℕ, ◌+◌, ◌*◌, ◌<◌, ◌≤◌, List, length, Bool, ◌&&◌, IsTrue, refl, ap, arith, nat_le}
 use Rattle.std.specs.List.{count_by}
 use Rattle.std.proofs.lemmas.Grind.{common_steps}
 use Rattle.sap_tree.proofs.SyntaxLemmas.{tree_of_whole}
@@ -11,19 +11,21 @@ use Rattle.sap_lattice.specs.Levels.{Levels, order_of}
 use Rattle.sap_lattice.specs.Codes.{width_of}
 use Rattle.sap_names.specs.Entities.{entities_of}
 use Rattle.sap_names.specs.declared.entity.Entity.{Entity}
-use Rattle.sap_meaning.specs.Program.{World, root, Command, lone, try, if_else, try_then, case_of, Arms, last_arm, and_arm, Block, end_block, command_then, State, state_node, Group, no_node, and_node}
+use Rattle.sap_meaning.specs.Program.{World, root, Command, lone, try, if_else, try_then, case_of, State, state_node, Group}
 use Rattle.sap_meaning.specs.Checks.{Home}
+use Rattle.sap_meaning.proofs.WalksLemmas.{folded_mapped_block}
 use Rattle.sap_resolved.specs.Worlds.{world_of, states_in}
 use Rattle.sap_shape.specs.Sites.{Surroundings, simple_sites, command_sites, block_sites, state_sites}
 use Rattle.sap_resolved.specs.Resolve.{command_of, arms_of, block_of, else_of, list_of, state_of, group_of, states_of}
-use Rattle.sap_resolved.specs.Fill.{filled, filled_arms, filled_block, filled_state, filled_group}
+use Rattle.sap_resolved.specs.Fill.{filled_step, filled_hang, filled, filled_state, filled_group}
+use Rattle.sap_resolved.proofs.FillLemmas.{gathered_filled_group}
 use Rattle.sap_resolved.specs.Sized.Ranges.{IsWidth}
 use Rattle.sap_resolved.proofs.sized.Declared.{resolved}
 use Rattle.sap_resolved.proofs.sized.Programs.{faultless, sizes_fit_law}
 use Rattle.sap_resolved.proofs.sized.RangedPrograms.{widths_in_range_law}
 use Rattle.sap_interface.specs.Designs.{named_of, site_count_of}
-use Rattle.sap_tagged.specs.Commands.{wires, wires_arms, wires_block}
-use Rattle.sap_tagged.specs.States.{wires_state, wires_group}
+use Rattle.sap_tagged.specs.Commands.{own_wires, wires, wires_arms, wires_block}
+use Rattle.sap_tagged.specs.States.{body_wires, wires_state, wires_group}
 use Rattle.sap_tagged.specs.Law.{IsSound, PlainsKeepRules, PlainsWriteOnce}
 use Rattle.sap_tagged.proofs.Conditions.{group_conditions, filled_group_conditions}
 use Rattle.sap_tagged.proofs.Rules.{Fitting}
@@ -33,30 +35,20 @@ use Rattle.sap_tagged.proofs.Designs.{design, some_child}
 
 -- filling in what hangs adds no wire
 module _ (w : World) where
-  mutual
-    wires_filled : (at : Home) (c : Command) → wires (filled w at c) ≡ wires c
-    wires_filled at (lone k) = refl
-    wires_filled at (try k hang h) = ap (λ (n : ℕ). 5 + n) (block_filled at h)
-    wires_filled at (if_else hang e a b) = ap₂ (λ (m n : ℕ). 2 + m + n) (block_filled at a) (block_filled at b)
-    wires_filled at (try_then k hang a b) = ap₂ (λ (m n : ℕ). 5 + m + n) (block_filled at a) (block_filled at b)
-    wires_filled at (case_of hang e arms) = ap (λ (n : ℕ). 4 + n) (arms_filled at arms)
+  own_filled : (at : Home) (c : Command) (n : ℕ) → own_wires (filled w at c) n ≡ own_wires c n
+  own_filled at (lone k) n = refl
+  own_filled at (try k hang h) n = refl
+  own_filled at (if_else hang e a b) n = refl
+  own_filled at (try_then k hang a b) n = refl
+  own_filled at (case_of hang e arms) n = refl
 
-    arms_filled : (at : Home) (arms : Arms) → wires_arms (filled_arms w at arms) ≡ wires_arms arms
-    arms_filled at (last_arm b) = block_filled at b
-    arms_filled at (and_arm constants b arms) = ap₂ (λ (m n : ℕ). m + n) (block_filled at b) (arms_filled at arms)
+  body_filled : (p : ℕ) (t : State) → body_wires (filled_state w p t) ≡ body_wires t
+  body_filled p (state_node s b g) =
+      let at : Home = record { state = s; parent = p; children = g } in
+      ap (λ (n : ℕ). 1 + n) (folded_mapped_block (filled_step w at) (filled_hang w at) 0 ◌+◌ own_wires own_wires (own_filled at) b)
 
-    block_filled : (at : Home) (b : Block) → wires_block (filled_block w at b) ≡ wires_block b
-    block_filled at end_block = refl
-    block_filled at (command_then c cs) = ap₂ (λ (m n : ℕ). m + n) (wires_filled at c) (block_filled at cs)
-
-  mutual
-    state_filled : (p : ℕ) (t : State) → wires_state (filled_state w p t) ≡ wires_state t
-    state_filled p (state_node s b g) =
-        ap₂ (λ (m n : ℕ). 1 + m + n) (block_filled (record { state = s; parent = p; children = g }) b) (group_filled s g)
-
-    pub group_filled : (p : ℕ) (g : Group) → wires_group (filled_group w p g) ≡ wires_group g
-    group_filled p no_node = refl
-    group_filled p (and_node t g) = ap₂ (λ (m n : ℕ). m + n) (state_filled p t) (group_filled p g)
+  pub group_filled : (p : ℕ) (g : Group) → wires_group (filled_group w p g) ≡ wires_group g
+  group_filled p g = gathered_filled_group w 0 ◌+◌ body_wires body_wires body_filled p g
 
 -- five wires a command, and one a state
 

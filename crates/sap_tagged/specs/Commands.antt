@@ -4,6 +4,7 @@ use Rattle.sap_bits.specs.declared.Op2.TheVariants.{Eq}
 use Rattle.sap_maps.specs.Maps.{Name}
 use Rattle.sap_maps.specs.Term.{Term, constant, cell, two, choose, part}
 use Rattle.sap_meaning.specs.Program.{World, root, is_dynamic, is_register, width, below, listed, Step, assign, write, retag, retag_cell, go_to, fall_to_child, Command, lone, try, if_else, try_then, case_of, Arms, last_arm, and_arm, Block, end_block, command_then}
+use Rattle.sap_meaning.specs.Walks.{folded, folded_in_arms, folded_in_block}
 use Rattle.sap_meaning.specs.Expressions.{width_of}
 use Rattle.sap_meaning.specs.Checks.{Home, site_of}
 use Rattle.sap_meaning.specs.Runs.{listed_alone}
@@ -142,21 +143,21 @@ select_of d p k e hangs a b =
     (raises d hangs k (cases (expr d e) a b stop)))
 
 -- how many wires a command has
-abbrev mutual
-  pub wires : Command → ℕ
-  wires (lone s) = 5
-  wires (try s hang h) = 5 + wires_block h
-  wires (if_else hang e a b) = 2 + wires_block a + wires_block b
-  wires (try_then s hang a b) = 5 + wires_block a + wires_block b
-  wires (case_of hang e arms) = 4 + wires_arms arms
+abbrev pub own_wires : Command → (below : ℕ) → ℕ
+own_wires (lone s) below = 5
+own_wires (try s hang h) below = 5 + below
+own_wires (if_else hang e a b) below = 2 + below
+own_wires (try_then s hang a b) below = 5 + below
+own_wires (case_of hang e arms) below = 4 + below
 
-  pub wires_arms : Arms → ℕ
-  wires_arms (last_arm b) = wires_block b
-  wires_arms (and_arm constants b arms) = wires_block b + wires_arms arms
+abbrev pub wires : Command → ℕ
+wires c = folded 0 ◌+◌ own_wires c
 
-  pub wires_block : Block → ℕ
-  wires_block end_block = 0
-  wires_block (command_then c cs) = wires c + wires_block cs
+abbrev pub wires_arms : Arms → ℕ
+wires_arms arms = folded_in_arms 0 ◌+◌ own_wires arms
+
+abbrev pub wires_block : Block → ℕ
+wires_block b = folded_in_block 0 ◌+◌ own_wires b
 
 unfoldable mutual
   pub command_plain : Setting → Home → (p k : ℕ) → Command → Body

@@ -1,6 +1,7 @@
 -- The states of a plain program.
 use Rattle.std.specs.Prelude.{ℕ, ◌+◌, ◌&&◌, Bool}
 use Rattle.sap_meaning.specs.Program.{World, root, is_dynamic, is_memory, State, state_node, Group, no_node, and_node}
+use Rattle.sap_meaning.specs.Walks.{body_of, gathered_from, gathered_from_group}
 use Rattle.sap_ir.specs.Plain.Nested.{Body, Forest, none, state}
 use Rattle.sap_tagged.specs.Keys.{tag_key, wire_key, first_key, inner_key}
 use Rattle.sap_tagged.specs.Setting.{Setting}
@@ -8,13 +9,14 @@ use Rattle.sap_tagged.specs.Levels.{var}
 use Rattle.sap_tagged.specs.Commands.{gives, for_each, raises, wires_block, block_plain}
 
 -- how many wires the states of a group have: each has one for its own context
-abbrev mutual
-  pub wires_state : State → ℕ
-  wires_state (state_node s b g) = 1 + wires_block b + wires_group g
+abbrev pub body_wires : State → ℕ
+body_wires t = 1 + wires_block (body_of t)
 
-  pub wires_group : Group → ℕ
-  wires_group no_node = 0
-  wires_group (and_node t g) = wires_state t + wires_group g
+abbrev pub wires_state : State → ℕ
+wires_state t = gathered_from 0 ◌+◌ body_wires t
+
+abbrev pub wires_group : Group → ℕ
+wires_group g = gathered_from_group 0 ◌+◌ body_wires g
 
 -- The states of a group, from wire k on. The body of each first takes the context that its parent left.
 unfoldable pub group_plain : Setting → (parent k : ℕ) → Group → Forest

@@ -35,8 +35,8 @@ module _ (n : ℕ) where
     same_wires : (c : Command) → wires (command_of n c) ≡ wires (command_of 0 c)
     same_wires (command.Do s) = refl
     same_wires (command.Try' s hang k handler) = ap (λ (m : ℕ). 5 + m) (same_row handler)
-    same_wires (command.If' hang e k ys m ns) = ap₂ (λ (a b : ℕ). 2 + a + b) (same_row ys) (same_row ns)
-    same_wires (command.TryThen' s hang k ys m ns) = ap₂ (λ (a b : ℕ). 5 + a + b) (same_row ys) (same_row ns)
+    same_wires (command.If' hang e k ys m ns) = ap₂ (λ (a b : ℕ). 2 + (a + b)) (same_row ys) (same_row ns)
+    same_wires (command.TryThen' s hang k ys m ns) = ap₂ (λ (a b : ℕ). 5 + (a + b)) (same_row ys) (same_row ns)
     same_wires (command.Case' hang e k arms m cs) = ap (λ (a : ℕ). 4 + a) (same_arms arms (last_arm (row_block n cs)) (last_arm (row_block 0 cs)) (same_row cs))
 
     same_arms : {k : _} (row : Row_of-Arm k) (a b : Arms) → wires_arms a ≡ wires_arms b → wires_arms (row_arms n row a) ≡ wires_arms (row_arms 0 row b)
@@ -102,11 +102,11 @@ wires_try s hang cs = ap wires (command_of-try 0 s hang cs)
 
 pub wires_if : (hang : List ℕ) (e : Number) (ys ns : Vec Command Global) → command_wires (shown.If hang e ys ns) ≡ 2 + commands_wires ys.items + commands_wires ns.items
 unfolding command_wires commands_wires
-wires_if hang e ys ns = ap wires (command_of-if 0 hang e ys ns)
+wires_if hang e ys ns = let a = ap wires (command_of-if 0 hang e ys ns) in omega (arith, a)
 
 pub wires_then : (s : Step) (hang : List ℕ) (ys ns : Vec Command Global) → command_wires (shown.TryThen s hang ys ns) ≡ 5 + commands_wires ys.items + commands_wires ns.items
 unfolding command_wires commands_wires
-wires_then s hang ys ns = ap wires (command_of-then 0 s hang ys ns)
+wires_then s hang ys ns = let a = ap wires (command_of-then 0 s hang ys ns) in omega (arith, a)
 
 pub wires_case : (hang : List ℕ) (e : Number) (arms : Vec Arm Global) (cs : Vec Command Global)
     → command_wires (shown.Case hang e arms cs) ≡ 4 + arm_wires arms.items + commands_wires cs.items

@@ -92,11 +92,11 @@ try_count n c s hang handler cs e f =
 
 pub if_count : (n : ℕ) (c : Command) (hang : List ℕ) (e : Number) (ys ns : Vec Command Global) → c ≡ shown.If hang e ys ns
     → wires (command_of n c) ≡ 2 + wires_block (block_of n ys.items) + wires_block (block_of n ns.items)
-if_count n c hang e ys ns f = ap (λ (x : Command). wires (command_of n x)) f ∙ ap wires (command_of-if n hang e ys ns)
+if_count n c hang e ys ns f = let a = ap (λ (x : Command). wires (command_of n x)) f ∙ ap wires (command_of-if n hang e ys ns) in omega (arith, a)
 
 pub then_count : (n : ℕ) (c : Command) (s : Step) (hang : List ℕ) (ys ns : Vec Command Global) → c ≡ shown.TryThen s hang ys ns
     → wires (command_of n c) ≡ 5 + wires_block (block_of n ys.items) + wires_block (block_of n ns.items)
-then_count n c s hang ys ns f = ap (λ (x : Command). wires (command_of n x)) f ∙ ap wires (command_of-then n s hang ys ns)
+then_count n c s hang ys ns f = let a = ap (λ (x : Command). wires (command_of n x)) f ∙ ap wires (command_of-then n s hang ys ns) in omega (arith, a)
 
 pub case_count : (n : ℕ) (c : Command) (hang : List ℕ) (e : Number) (arms : Vec Arm Global) (cs : Vec Command Global) → c ≡ shown.Case hang e arms cs
     → wires (command_of n c) ≡ 4 + arm_wires arms.items + wires_block (block_of n cs.items)
