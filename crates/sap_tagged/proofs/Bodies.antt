@@ -406,25 +406,25 @@ module _ (d : Setting) (s : Source) (h : Declares d s) (fixed group : List Name)
           attempt_fine p k t (listed hang) (block_plain d sp (k + 2) (k + 5) b) pc ws.0 hs.0
           (λ n i. site n (among_left (sites.step_sites d.world sp.state sp.children t) (sites.block_sites d.world sp.state sp.children b) n i)) f.0 z.0 r.0 c.0
           (block_fine (k + 2) (k + 5) b ws.0.2 ws.1 hs.1
-          (λ n i. site n (among_right (sites.step_sites d.world sp.state sp.children t) (sites.block_sites d.world sp.state sp.children b) n i)) f.1 z.1 r.1 c.1 few)
+          (λ n i. site n (among_right (sites.step_sites d.world sp.state sp.children t) (sites.block_sites d.world sp.state sp.children b) n i)) f.1 z.1 r.1 c.1 few.1)
       command_fine p k (if_else hang e a b) pc ws hs site f z r c few =
           select_fine p k e (listed hang) (block_plain d sp (k + 1) (k + 2) a) (block_plain d sp (k + 1) (k + 2 + wires_block a) b) pc ws.0 ws.1 hs.0
           (level_fine d s h e f.0 z.0.0 r.0 c.0) (subst (λ (u : ℕ). Fine d s h u (expr d e)) z.0.1 (number_fine d s h e f.0 z.0.0 r.0 c.0))
           (block_fine (k + 1) (k + 2) a ws.1 ws.2 hs.1
-          (λ n i. site n (among_left (sites.block_sites d.world sp.state sp.children a) (sites.block_sites d.world sp.state sp.children b) n i)) f.1 z.1 r.1 c.1 few.0)
+          (λ n i. site n (among_left (sites.block_sites d.world sp.state sp.children a) (sites.block_sites d.world sp.state sp.children b) n i)) f.1 z.1 r.1 c.1 few.1)
           (block_fine (k + 1) (k + 2 + wires_block a) b ws.1 ws.3 hs.2
-          (λ n i. site n (among_right (sites.block_sites d.world sp.state sp.children a) (sites.block_sites d.world sp.state sp.children b) n i)) f.2 z.2 r.2 c.2 few.1)
+          (λ n i. site n (among_right (sites.block_sites d.world sp.state sp.children a) (sites.block_sites d.world sp.state sp.children b) n i)) f.2 z.2 r.2 c.2 few.2)
       command_fine p k (try_then t hang a b) pc ws hs site f z r c few =
           let own = sites.step_sites d.world sp.state sp.children t in
           let first = sites.block_sites d.world sp.state sp.children a in
           let second = sites.block_sites d.world sp.state sp.children b in
           attempt_then_fine p k t (listed hang) (block_plain d sp (k + 2) (k + 5) a) (block_plain d sp (k + 2) (k + 5 + wires_block a) b) pc ws.0 hs.0
           (λ m i. site m (among_left own (first ++ second) m i)) f.0 z.0 r.0 c.0
-          (block_fine (k + 2) (k + 5) a ws.0.2 ws.1 hs.1 (λ m i. site m (among_right own (first ++ second) m (among_left first second m i))) f.1 z.1 r.1 c.1 few.0)
-          (block_fine (k + 2) (k + 5 + wires_block a) b ws.0.2 ws.2 hs.2 (λ m i. site m (among_right own (first ++ second) m (among_right first second m i))) f.2 z.2 r.2 c.2 few.1)
+          (block_fine (k + 2) (k + 5) a ws.0.2 ws.1 hs.1 (λ m i. site m (among_right own (first ++ second) m (among_left first second m i))) f.1 z.1 r.1 c.1 few.1)
+          (block_fine (k + 2) (k + 5 + wires_block a) b ws.0.2 ws.2 hs.2 (λ m i. site m (among_right own (first ++ second) m (among_right first second m i))) f.2 z.2 r.2 c.2 few.2)
       command_fine p k (case_of hang e arms) pc ws hs site f z r c few =
           pick_fine p k e (listed hang) arms (arms_plain d sp (k + 1) (k + 4) arms) pc ws.0 ws.1 ws.2 ws.3 hs.0 (level_fine d s h e f.0 z.0.0 r.0 c.0)
-          (number_fine d s h e f.0 z.0.0 r.0 c.0) (ranged_width d.world e r.0) few.0 z.0.1
+          (number_fine d s h e f.0 z.0.0 r.0 c.0) (ranged_width d.world e r.0) few.0.0 z.0.1
           (arms_fine (k + 1) (k + 4) arms ws.1 ws.4 hs.1 site f.1 z.1 r.1 c.1 few.1)
 
       arms_fine : (p k : ℕ) (arms : Arms) → IsWire d s p d.tag → ArmsWires d s k arms → ArmsHang d.world sp arms → AllSites (sites.arms_sites d.world sp.state sp.children arms)
@@ -434,8 +434,8 @@ module _ (d : Setting) (s : Source) (h : Declares d s) (fixed group : List Name)
       arms_fine p k (and_arm constants b arms) pc ws hs site f z r c few =
           let first = sites.block_sites d.world sp.state sp.children b in
           let others = sites.arms_sites d.world sp.state sp.children arms in (
-            block_fine p k b pc ws.0 hs.0 (λ m i. site m (among_left first others m i)) f.0 z.0 r.0 c.0 few.1,
-            arms_fine p (k + wires_block b) arms pc ws.1 hs.1 (λ m i. site m (among_right first others m i)) f.1 z.1 r.1 c.1 few.2,
+            block_fine p k b pc ws.0 hs.0 (λ m i. site m (among_left first others m i)) f.0 z.0 r.0 c.0 few.0,
+            arms_fine p (k + wires_block b) arms pc ws.1 hs.1 (λ m i. site m (among_right first others m i)) f.1 z.1 r.1 c.1 few.1,
           )
 
       pub block_fine : (p k : ℕ) (b : Block) → IsWire d s p d.tag → BlockWires d s k b → BlockHangs d.world sp b → AllSites (sites.block_sites d.world sp.state sp.children b)

@@ -2,6 +2,7 @@
 use Rattle.std.proofs.Common.{◌≡◌, ℕ, suc, ◌+◌, ◌≤◌, List, length, true, ◌&&◌, refl, sym, ap, subst, arith, nat_le}
 use Rattle.sap_lemmas.proofs.Bools.{and_left, and_right}
 use Rattle.std.proofs.lemmas.Bool.{and_parts, leb-true}
+use Rattle.std.specs.List.{AllByRecursion}
 use Rattle.sap_tree.specs.Limits.{most_arms, most_blocks}
 use Rattle.sap_tree.specs.Syntax as tree
 use Rattle.sap_tree.specs.Whole as whole
@@ -10,14 +11,16 @@ use Rattle.sap_tree.specs.Words.{is_name, is_second}
 use Rattle.sap_tree.specs.declared.version.Version.{Version}
 use Rattle.sap_lattice.specs.Levels.{Levels}
 use Rattle.sap_names.specs.declared.entity.Entity.{Entity}
-use Rattle.sap_meaning.specs.Program.{World, Command, lone, try, if_else, try_then, case_of, Arms, last_arm, and_arm, Block, end_block, command_then, State, state_node, Group, no_node, and_node}
+use Rattle.sap_meaning.specs.Program.{World, Command, lone, try, if_else, try_then, case_of, Arms, last_arm, and_arm, Group}
 use Rattle.sap_meaning.specs.Checks.{Home}
+use Rattle.sap_meaning.proofs.WalksLemmas.{constants_mapped}
 use Rattle.sap_resolved.specs.Worlds.{states_in}
 use Rattle.sap_shape.specs.Sites.{Surroundings, simple_sites, command_sites, block_sites, state_sites}
 use Rattle.sap_resolved.specs.Resolve.{numbers_of, command_of, arms_of, block_of, else_of, list_of, state_of, group_of}
-use Rattle.sap_resolved.specs.Fill.{filled, filled_arms, filled_block, filled_state, filled_group}
+use Rattle.sap_resolved.specs.Fill.{filled_step, filled_hang, filled, filled_arms, filled_group}
+use Rattle.sap_resolved.proofs.FillLemmas.{every_filled_group}
 use Rattle.sap_tagged.specs.Commands.{arm_count}
-use Rattle.sap_tagged.specs.Few.{Few, FewArms, FewBlock, FewState, FewGroup}
+use Rattle.sap_tagged.specs.Few.{HaveConstants, FewHere, Few, FewArms, FewBlock, FewState, FewGroup}
 
 -- resolving keeps the arms and their constants
 
@@ -35,26 +38,33 @@ module _ (version : Version) (ls : Levels) (h : Surroundings) where
 
     command_few : (k : ℕ) (c : tree.Command) → is_command version c ≡ true → Few (command_of ls h k c)
     command_few k (tree.lone c) i = tt
-    command_few k (tree.try c place b) i = block_few (k + length (simple_sites h c)) b (and_right (is_simple version c) (is_block version b) i)
+    command_few k (tree.try c place b) i = (tt, block_few (k + length (simple_sites h c)) b (and_right (is_simple version c) (is_block version b) i))
     command_few k (tree.if_else place x a b) i =
         let j = and_parts (is_outermost version x && is_block version a) (is_else version b) i in
-        (block_few k a (and_right (is_outermost version x) (is_block version a) j.0), else_few (k + length (block_sites h a)) b j.1)
+        (tt, block_few k a (and_right (is_outermost version x) (is_block version a) j.0), else_few (k + length (block_sites h a)) b j.1)
     command_few k (tree.try_then c place a b) i =
         let j = and_parts (is_second version && is_simple version c && is_block version a) (is_block version b) i in (
+          tt,
           block_few (k + length (simple_sites h c)) a (and_right (is_second version && is_simple version c) (is_block version a) j.0),
           block_few (k + length (simple_sites h c) + length (block_sites h a)) b j.1,
         )
     command_few k (tree.case_of place x arms) i =
         let j = and_parts (is_second version && is_outermost version x && has_arm arms && nat_le (whole.arm_count arms) most_arms) (are_arms version arms) i in
         let l = leb-true (whole.arm_count arms) most_arms (and_right (is_second version && is_outermost version x && has_arm arms) (nat_le (whole.arm_count arms) most_arms) j.0) in
-        (subst (λ (n : ℕ). n ≤ most_arms) (sym (arms_counted k arms)) l, arms_few k arms j.1)
+        ((subst (λ (n : ℕ). n ≤ most_arms) (sym (arms_counted k arms)) l, arms_have k arms j.1), arms_few k arms j.1)
 
     arms_few : (k : ℕ) (arms : tree.Arms) → are_arms version arms ≡ true → FewArms (arms_of ls h k arms)
     arms_few k (tree.last_arm b) i = block_few k b i
     arms_few k (tree.and_arm constants b arms) i =
         let j = and_parts (has_constant constants && are_constants constants && is_block version b) (are_arms version arms) i in
-        let m = and_parts (has_constant constants && are_constants constants) (is_block version b) j.0 in
-        (some_number constants (and_left (has_constant constants) (are_constants constants) m.0), block_few k b m.1, arms_few (k + length (block_sites h b)) arms j.1)
+        (block_few k b (and_right (has_constant constants && are_constants constants) (is_block version b) j.0), arms_few (k + length (block_sites h b)) arms j.1)
+
+    arms_have : (k : ℕ) (arms : tree.Arms) → are_arms version arms ≡ true → HaveConstants (arms_of ls h k arms)
+    arms_have k (tree.last_arm b) i = tt
+    arms_have k (tree.and_arm constants b arms) i =
+        let j = and_parts (has_constant constants && are_constants constants && is_block version b) (are_arms version arms) i in
+        let m = and_left (has_constant constants && are_constants constants) (is_block version b) j.0 in
+        (some_number constants (and_left (has_constant constants) (are_constants constants) m), arms_have (k + length (block_sites h b)) arms j.1)
 
     block_few : (k : ℕ) (b : tree.CommandBlock) → is_block version b ≡ true → FewBlock (block_of ls h k b)
     block_few k (tree.command_block cs after) i = list_few k cs i
@@ -92,26 +102,16 @@ module _ (w : World) where
   arms_filled at (last_arm b) = refl
   arms_filled at (and_arm constants b arms) = ap (λ (n : ℕ). suc n) (arms_filled at arms)
 
-  mutual
-    filled_few : (at : Home) (c : Command) → Few c → Few (filled w at c)
-    filled_few at (lone k) f = tt
-    filled_few at (try k hang b) f = filled_block_few at b f
-    filled_few at (if_else hang e a b) f = (filled_block_few at a f.0, filled_block_few at b f.1)
-    filled_few at (try_then k hang a b) f = (filled_block_few at a f.0, filled_block_few at b f.1)
-    filled_few at (case_of hang e arms) f = (subst (λ (n : ℕ). n ≤ most_arms) (sym (arms_filled at arms)) f.0, filled_arms_few at arms f.1)
+  filled_few : (at : Home) (c : Command) → FewHere c → FewHere (filled w at c)
+  filled_few at (lone k) f = tt
+  filled_few at (try k hang b) f = tt
+  filled_few at (if_else hang e a b) f = tt
+  filled_few at (try_then k hang a b) f = tt
+  filled_few at (case_of hang e arms) f = (
+    subst (λ (n : ℕ). n ≤ most_arms) (sym (arms_filled at arms)) f.0,
+    subst (λ (cs : List (List ℕ)). AllByRecursion (λ (constants : List ℕ). 1 ≤ length constants) cs)
+        (sym (constants_mapped (filled_step w at) (filled_hang w at) arms)) f.1,
+  )
 
-    filled_arms_few : (at : Home) (arms : Arms) → FewArms arms → FewArms (filled_arms w at arms)
-    filled_arms_few at (last_arm b) f = filled_block_few at b f
-    filled_arms_few at (and_arm constants b arms) f = (f.0, filled_block_few at b f.1, filled_arms_few at arms f.2)
-
-    filled_block_few : (at : Home) (b : Block) → FewBlock b → FewBlock (filled_block w at b)
-    filled_block_few at end_block f = tt
-    filled_block_few at (command_then c cs) f = (filled_few at c f.0, filled_block_few at cs f.1)
-
-  mutual
-    filled_state_few : (p : ℕ) (t : State) → FewState t → FewState (filled_state w p t)
-    filled_state_few p (state_node s b g) f = (filled_block_few (record { state = s; parent = p; children = g }) b f.0, filled_group_few s g f.1)
-
-    pub filled_group_few : (p : ℕ) (g : Group) → FewGroup g → FewGroup (filled_group w p g)
-    filled_group_few p no_node f = tt
-    filled_group_few p (and_node t g) f = (filled_state_few p t f.0, filled_group_few p g f.1)
+  pub filled_group_few : (p : ℕ) (g : Group) → FewGroup g → FewGroup (filled_group w p g)
+  filled_group_few p g f = every_filled_group w FewHere FewHere filled_few p g f

@@ -272,29 +272,29 @@ module _ (d : Setting) (widths : Name → ℕ) (laws : Lawful d widths) (f : Goi
           attempt_runs p k t _ stop (λ l s. stay s) pk (omega arith) fine (λ g s l st pc. turns_stay d (k + 5) g g s (quiet_none d (k + 5) g) st)
       command_runs (try t hang h) fine few p k pk kb =
           attempt_runs p k t (listed hang) (block_plain d sp (k + 2) (k + 5) h) (run_block d.world sp enter h) pk (omega arith) fine.0
-          (block_runs h fine.1 few (k + 2) (k + 5) (omega arith) (omega arith))
+          (block_runs h fine.1 few.1 (k + 2) (k + 5) (omega arith) (omega arith))
       command_runs (if_else hang e a b) fine few p k pk kb =
           select_runs p k e (listed hang) (block_plain d sp (k + 1) (k + 2) a) (block_plain d sp (k + 1) (k + 2 + wires_block a) b) (run_block d.world sp enter a)
           (run_block d.world sp enter b) (k + 2) (k + 2 + wires_block a) pk (omega arith) (omega arith) fine.0
-          (block_runs a fine.1 few.0 (k + 1) (k + 2) (omega arith) (omega arith)) (block_runs b fine.2 few.1 (k + 1) (k + 2 + wires_block a) (omega arith) (omega arith))
+          (block_runs a fine.1 few.1 (k + 1) (k + 2) (omega arith) (omega arith)) (block_runs b fine.2 few.2 (k + 1) (k + 2 + wires_block a) (omega arith) (omega arith))
       command_runs (try_then t hang a b) fine few p k pk kb =
           attempt_then_runs p k (k + 5) (k + 5 + wires_block a) t (listed hang) (block_plain d sp (k + 2) (k + 5) a) (block_plain d sp (k + 2) (k + 5 + wires_block a) b)
           (run_block d.world sp enter a) (run_block d.world sp enter b) pk (omega arith) (omega arith) (omega arith) fine.0
-          (block_runs a fine.1 few.0 (k + 2) (k + 5) (omega arith) (omega arith)) (block_runs b fine.2 few.1 (k + 2) (k + 5 + wires_block a) (omega arith) (omega arith))
+          (block_runs a fine.1 few.1 (k + 2) (k + 5) (omega arith) (omega arith)) (block_runs b fine.2 few.2 (k + 2) (k + 5 + wires_block a) (omega arith) (omega arith))
       command_runs (case_of hang e arms) fine few p k pk kb =
           pick_runs p k e (listed hang) arms (arms_plain d sp (k + 1) (k + 4) arms) (run_arms d.world sp enter arms) pk fine.0 (blocks_counted (k + 1) (k + 4) arms)
-          (blocks_hold (k + 1) (k + 4) arms few.0) (λ n. arms_run arms fine.1 few.1 (k + 1) (k + 4) (omega arith) (omega arith) n)
+          (blocks_hold (k + 1) (k + 4) arms few.0.0) (λ n. arms_run arms fine.1 few.1 (k + 1) (k + 4) (omega arith) (omega arith) n)
 
       -- the block that the number picks
       arms_run : (arms : Arms) → FineArms d.world q sp.children arms → FewArms arms → (p k : ℕ) → p < k → k + wires_arms arms ≤ base → (n : ℕ)
           → BodyRuns d widths f go p k (get_or (arms_plain d sp p k arms) (arm_place arms n) stop) (run_arms d.world sp enter arms n)
       arms_run (last_arm b) fine few p k pk kb n = block_runs b fine few p k pk kb
       arms_run (and_arm constants b arms) fine few p k pk kb n = elim (cases_Bool (is_constant constants n)) [
-        | inl t ↦ rw t (block_runs b fine.0 few.1 p k pk (omega arith))
+        | inl t ↦ rw t (block_runs b fine.0 few.0 p k pk (omega arith))
         | inr t ↦
             rw t
             (runs_less p k (k + wires_block b) (get_or (arms_plain d sp p (k + wires_block b) arms) (arm_place arms n) stop) (run_arms d.world sp enter arms n) (omega arith)
-            (arms_run arms fine.1 few.2 p (k + wires_block b) (omega arith) (omega arith) n))
+            (arms_run arms fine.1 few.1 p (k + wires_block b) (omega arith) (omega arith) n))
       ]
 
       pub block_runs : (c : Block) → FineBlock d.world q sp.children c → FewBlock c → (p k : ℕ) → p < k → k + wires_block c ≤ base

@@ -1,29 +1,32 @@
 -- Programs whose cases have few arms, so that the numbers of their blocks have widths. Each arm has a constant.
-use Rattle.std.specs.Prelude.{◌≤◌, length}
+use Rattle.std.specs.Prelude.{◌≤◌, ℕ, List, length}
+use Rattle.std.specs.List.{AllByRecursion}
 use Rattle.sap_tree.specs.Limits.{most_arms}
-use Rattle.sap_meaning.specs.Program.{Command, lone, try, if_else, try_then, case_of, Arms, last_arm, and_arm, Block, end_block, command_then, State, state_node, Group, no_node, and_node}
+use Rattle.sap_meaning.specs.Program.{Command, lone, try, if_else, try_then, case_of, Arms, Block, State, Group}
+use Rattle.sap_meaning.specs.Walks.{Every, EveryInArms, EveryInBlock, arm_constants, EveryBody, EveryBodyIn}
 use Rattle.sap_tagged.specs.Commands.{arm_count}
 
-abbrev mutual
-  pub Few : Command → Type 0
-  Few (lone k) = Unit {0}
-  Few (try k hang h) = FewBlock h
-  Few (if_else hang e a b) = FewBlock a × FewBlock b
-  Few (try_then k hang a b) = FewBlock a × FewBlock b
-  Few (case_of hang e arms) = (arm_count arms ≤ most_arms) × FewArms arms
+abbrev pub HaveConstants : Arms → Type 0
+HaveConstants arms = AllByRecursion (λ (constants : List ℕ). 1 ≤ length constants) (arm_constants arms)
 
-  pub FewArms : Arms → Type 0
-  FewArms (last_arm b) = FewBlock b
-  FewArms (and_arm constants b arms) = (1 ≤ length constants) × FewBlock b × FewArms arms
+abbrev pub FewHere : Command → Type 0
+FewHere (lone k) = Unit {0}
+FewHere (try k hang h) = Unit {0}
+FewHere (if_else hang e a b) = Unit {0}
+FewHere (try_then k hang a b) = Unit {0}
+FewHere (case_of hang e arms) = (arm_count arms ≤ most_arms) × HaveConstants arms
 
-  pub FewBlock : Block → Type 0
-  FewBlock end_block = Unit {0}
-  FewBlock (command_then c cs) = Few c × FewBlock cs
+abbrev pub Few : Command → Type 0
+Few c = Every FewHere c
 
-abbrev mutual
-  pub FewState : State → Type 0
-  FewState (state_node s b g) = FewBlock b × FewGroup g
+abbrev pub FewArms : Arms → Type 0
+FewArms arms = EveryInArms FewHere arms
 
-  pub FewGroup : Group → Type 0
-  FewGroup no_node = Unit {0}
-  FewGroup (and_node t g) = FewState t × FewGroup g
+abbrev pub FewBlock : Block → Type 0
+FewBlock b = EveryInBlock FewHere b
+
+abbrev pub FewState : State → Type 0
+FewState t = EveryBody FewBlock t
+
+abbrev pub FewGroup : Group → Type 0
+FewGroup g = EveryBodyIn FewBlock g

@@ -1,7 +1,9 @@
 -- Cases have few arms, whatever hangs.
-use Rattle.std.proofs.Common.{◌≡◌, ℕ, suc, ◌≤◌, List, [], ◌∷◌, refl, ap, subst}
+use Rattle.std.proofs.Common.{◌≡◌, ℕ, suc, ◌≤◌, List, [], ◌∷◌, length, refl, ap, subst}
+use Rattle.std.specs.List.{AllByRecursion}
 use Rattle.sap_tree.specs.Limits.{most_arms}
 use Rattle.sap_meaning.specs.Program.{Arms, last_arm}
+use Rattle.sap_meaning.specs.Walks.{arm_constants}
 use Rattle.sap_program.specs.declared.program.Command.{Command, Row_of-Command, end_of-Command, more_of-Command, Row_of-Arm, end_of-Arm, more_of-Arm}
 use Rattle.sap_program.specs.declared.program.Command.TheVariants as command
 use Rattle.sap_program.specs.declared.program.State.{State, State', Row_of-State, end_of-State, more_of-State}
@@ -15,22 +17,31 @@ module _ (n : ℕ) where
   same_count end_of-Arm a b e = e
   same_count (more_of-Arm constants m block rest) a b e = ap (λ (i : ℕ). suc i) (same_count rest a b e)
 
+  same_constants : {k : _} (row : Row_of-Arm k) (a b : Arms) → arm_constants a ≡ arm_constants b → arm_constants (row_arms n row a) ≡ arm_constants (row_arms 0 row b)
+  unfolding row_arms
+  same_constants end_of-Arm a b e = e
+  same_constants (more_of-Arm constants m block rest) a b e = ap (λ (ks : List (List ℕ)). constants.items ∷ ks) (same_constants rest a b e)
+
   mutual
     unfolding command_of row_arms row_block
 
     few_same : (c : Command) → Few (command_of n c) → Few (command_of 0 c)
     few_same (command.Do s) f = tt
-    few_same (command.Try' s hang k handler) f = few_row handler f
-    few_same (command.If' hang e k ys m ns) f = (few_row ys f.0, few_row ns f.1)
-    few_same (command.TryThen' s hang k ys m ns) f = (few_row ys f.0, few_row ns f.1)
+    few_same (command.Try' s hang k handler) f = (tt, few_row handler f.1)
+    few_same (command.If' hang e k ys m ns) f = (tt, few_row ys f.1, few_row ns f.2)
+    few_same (command.TryThen' s hang k ys m ns) f = (tt, few_row ys f.1, few_row ns f.2)
     few_same (command.Case' hang e k arms m cs) f = (
-      subst (λ (i : ℕ). i ≤ most_arms) (same_count arms (last_arm (row_block n cs)) (last_arm (row_block 0 cs)) refl) f.0,
+      (
+        subst (λ (i : ℕ). i ≤ most_arms) (same_count arms (last_arm (row_block n cs)) (last_arm (row_block 0 cs)) refl) f.0.0,
+        subst (λ (ks : List (List ℕ)). AllByRecursion (λ (constants : List ℕ). 1 ≤ length constants) ks)
+            (same_constants arms (last_arm (row_block n cs)) (last_arm (row_block 0 cs)) refl) f.0.1,
+      ),
       few_arms arms (last_arm (row_block n cs)) (last_arm (row_block 0 cs)) (few_row cs) f.1,
     )
 
     few_arms : {k : _} (row : Row_of-Arm k) (a b : Arms) → (FewArms a → FewArms b) → FewArms (row_arms n row a) → FewArms (row_arms 0 row b)
     few_arms end_of-Arm a b g f = g f
-    few_arms (more_of-Arm constants m block rest) a b g f = (f.0, few_row block f.1, few_arms rest a b g f.2)
+    few_arms (more_of-Arm constants m block rest) a b g f = (few_row block f.0, few_arms rest a b g f.1)
 
     few_row : {k : _} (row : Row_of-Command k) → FewBlock (row_block n row) → FewBlock (row_block 0 row)
     few_row end_of-Command f = tt

@@ -21,12 +21,12 @@ use Rattle.sap_program.specs.declared.program.State.{State as StateCode, out-Sta
 
 pub few_handler : (c : Command) (st : Step) (hang : List ℕ) (hs : Vec Command Global) (l : List Command) → c ≡ shown.Try st hang hs → l ≡ hs.items → CommandFew c → CommandsFew l
 unfolding CommandFew CommandsFew
-few_handler c st hang hs l i f r = subst (λ (l : List Command). FewBlock (block_of 0 l)) (sym f) (subst Few (ap (command_of 0) i ∙ command_of-try 0 st hang hs) r)
+few_handler c st hang hs l i f r = subst (λ (l : List Command). FewBlock (block_of 0 l)) (sym f) (subst Few (ap (command_of 0) i ∙ command_of-try 0 st hang hs) r).1
 
 few_if : (c : Command) (hang : List ℕ) (e : Number) (ys ns : Vec Command Global) → c ≡ shown.If hang e ys ns → CommandFew c
     → FewBlock (block_of 0 ys.items) × FewBlock (block_of 0 ns.items)
 unfolding CommandFew
-few_if c hang e ys ns i r = subst Few (ap (command_of 0) i ∙ command_of-if 0 hang e ys ns) r
+few_if c hang e ys ns i r = let q = subst Few (ap (command_of 0) i ∙ command_of-if 0 hang e ys ns) r in (q.1, q.2)
 
 pub few_yes : (c : Command) (hang : List ℕ) (e : Number) (ys ns : Vec Command Global) (l : List Command) → c ≡ shown.If hang e ys ns → l ≡ ys.items → CommandFew c → CommandsFew l
 unfolding CommandsFew
@@ -39,7 +39,7 @@ few_no c hang e ys ns l i f r = subst (λ (l : List Command). FewBlock (block_of
 few_then : (c : Command) (st : Step) (hang : List ℕ) (ys ns : Vec Command Global) → c ≡ shown.TryThen st hang ys ns → CommandFew c
     → FewBlock (block_of 0 ys.items) × FewBlock (block_of 0 ns.items)
 unfolding CommandFew
-few_then c st hang ys ns i r = subst Few (ap (command_of 0) i ∙ command_of-then 0 st hang ys ns) r
+few_then c st hang ys ns i r = let q = subst Few (ap (command_of 0) i ∙ command_of-then 0 st hang ys ns) r in (q.1, q.2)
 
 pub few_accepted : (c : Command) (st : Step) (hang : List ℕ) (ys ns : Vec Command Global) (l : List Command)
     → c ≡ shown.TryThen st hang ys ns → l ≡ ys.items → CommandFew c → CommandsFew l
@@ -54,12 +54,12 @@ few_refused c st hang ys ns l i f r = subst (λ (l : List Command). FewBlock (bl
 few_before : (n : ℕ) (arms : List Arm) (others : Arms) → FewArms (arms_before n arms others) → FewArms (arms_before n arms (last_arm end_block)) × FewArms others
 unfolding arms_before
 few_before n [] others r = (tt, r)
-few_before n (a ∷ arms) others r = let q = few_before n arms others r.2 in ((r.0, r.1, q.0), q.1)
+few_before n (a ∷ arms) others r = let q = few_before n arms others r.1 in ((r.0, q.0), q.1)
 
 few_case : (c : Command) (hang : List ℕ) (e : Number) (arms : Vec Arm Global) (cs : Vec Command Global) → c ≡ shown.Case hang e arms cs → CommandFew c
     → (let all = arms_before 0 arms.items (last_arm (block_of 0 cs.items)) in (arm_count all ≤ most_arms) × FewArms all)
 unfolding CommandFew
-few_case c hang e arms cs i r = subst Few (ap (command_of 0) i ∙ command_of-case 0 hang e arms cs) r
+few_case c hang e arms cs i r = let q = subst Few (ap (command_of 0) i ∙ command_of-case 0 hang e arms cs) r in (q.0.0, q.1)
 
 pub few_arms : (c : Command) (hang : List ℕ) (e : Number) (arms : Vec Arm Global) (cs : Vec Command Global) (l : List Arm)
     → c ≡ shown.Case hang e arms cs → l ≡ arms.items → CommandFew c → ArmsFew l
@@ -81,8 +81,8 @@ few_last c hang e arms cs l i f r =
 pub few_arm : (arms : List Arm) (i : ℕ) (e : Arm) → i < length arms → ArmsFew arms → CommandsFew (commands_in (get_or arms i e))
 unfolding ArmsFew CommandsFew arms_before
 few_arm [] i e l r = absurd (omega arith)
-few_arm (a ∷ arms) zero e l r = r.1
-few_arm (a ∷ arms) (suc i) e l r = few_arm arms i e (omega arith) r.2
+few_arm (a ∷ arms) zero e l r = r.0
+few_arm (a ∷ arms) (suc i) e l r = few_arm arms i e (omega arith) r.1
 
 pub few_in : (cs : List Command) (i : ℕ) (e : Command) → i < length cs → CommandsFew cs → CommandFew (get_or cs i e)
 unfolding CommandsFew CommandFew block_of

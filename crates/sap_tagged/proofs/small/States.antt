@@ -17,7 +17,7 @@ use Rattle.sap_tagged.specs.Keys.{tag_key, wire_key, first_key}
 use Rattle.sap_tagged.specs.Setting.{Setting}
 use Rattle.sap_tagged.specs.Levels.{var, expr}
 use Rattle.sap_tagged.specs.Commands.{gives, raises, arm_count, pick_width, picks_arm, picks, decides, pick_of, select_of, wires, wires_block, command_plain, arms_plain, block_plain}
-use Rattle.sap_tagged.specs.Few.{Few, FewArms, FewBlock, FewGroup}
+use Rattle.sap_tagged.specs.Few.{HaveConstants, Few, FewArms, FewBlock, FewGroup}
 use Rattle.sap_tagged.specs.States.{wires_group, saved, group_plain, top_plain}
 use Rattle.sap_tagged.proofs.small.Held.{lub_weighs, two_weighs, choose_weighs, part_weighs}
 use Rattle.sap_tagged.proofs.small.Tags.{Roomy, expr_weighs, tag_weighs}
@@ -30,9 +30,9 @@ abbrev constant_count : Arms → ℕ
 constant_count (last_arm b) = 0
 constant_count (and_arm constants b arms) = length constants + constant_count arms
 
-arms_fewer : (arms : Arms) → FewArms arms → arm_count arms ≤ constant_count arms
+arms_fewer : (arms : Arms) → HaveConstants arms → arm_count arms ≤ constant_count arms
 arms_fewer (last_arm b) n = omega arith
-arms_fewer (and_arm constants b arms) n = let r = arms_fewer arms n.2 in let l = n.0 in omega (arith, r, l)
+arms_fewer (and_arm constants b arms) n = let r = arms_fewer arms n.1 in let l = n.0 in omega (arith, r, l)
 
 abbrev total : Forest → List Body → ℕ
 total group [] = 0
@@ -94,7 +94,7 @@ module _ (d : Setting) (room : ℕ) (r : Roomy d room) where
           omega (arith, a, first, last, x, y, z, o))
     ]
 
-    pick_weighs : (p k : ℕ) (e : Term ℕ) (hangs : ℕ → Bool) (arms : Arms) (blocks : List Body) → FewArms arms → length blocks ≡ suc (arm_count arms)
+    pick_weighs : (p k : ℕ) (e : Term ℕ) (hangs : ℕ → Bool) (arms : Arms) (blocks : List Body) → HaveConstants arms → length blocks ≡ suc (arm_count arms)
         → body_weight group (pick_of d p k e hangs arms blocks) ≤ room * (1 + term_size e + constant_count arms) + total group blocks
     unfolding pick_of
     pick_weighs p k e hangs arms blocks n size =
@@ -126,28 +126,28 @@ module _ (d : Setting) (room : ℕ) (r : Roomy d room) where
           let a = attempt_weighs d room r at few group small p k s (listed_alone d.world at s) stop in omega (arith, a)
       command_weighs p k (try s hang h) n =
           let a = attempt_weighs d room r at few group small p k s (listed hang) (block_plain d at (k + 2) (k + 5) h) in
-          let b = block_weighs (k + 2) (k + 5) h n in
+          let b = block_weighs (k + 2) (k + 5) h n.1 in
           omega (arith, a, b)
       command_weighs p k (if_else hang e a b) n =
           let s = select_weighs p k e (listed hang) (block_plain d at (k + 1) (k + 2) a) (block_plain d at (k + 1) (k + 2 + wires_block a) b) in
-          let x = block_weighs (k + 1) (k + 2) a n.0 in
-          let y = block_weighs (k + 1) (k + 2 + wires_block a) b n.1 in
+          let x = block_weighs (k + 1) (k + 2) a n.1 in
+          let y = block_weighs (k + 1) (k + 2 + wires_block a) b n.2 in
           omega (arith, s, x, y)
       command_weighs p k (try_then s hang a b) n =
           let q = attempt_then_weighs d room r at few group small p k s (listed hang) (block_plain d at (k + 2) (k + 5) a) (block_plain d at (k + 2) (k + 5 + wires_block a) b) in
-          let x = block_weighs (k + 2) (k + 5) a n.0 in
-          let y = block_weighs (k + 2) (k + 5 + wires_block a) b n.1 in
+          let x = block_weighs (k + 2) (k + 5) a n.1 in
+          let y = block_weighs (k + 2) (k + 5 + wires_block a) b n.2 in
           omega (arith, q, x, y)
       command_weighs p k (case_of hang e arms) n =
-          let q = pick_weighs p k e (listed hang) arms (arms_plain d at (k + 1) (k + 4) arms) n.1 (blocks_counted (k + 1) (k + 4) arms) in
+          let q = pick_weighs p k e (listed hang) arms (arms_plain d at (k + 1) (k + 4) arms) n.0.1 (blocks_counted (k + 1) (k + 4) arms) in
           let x = arms_weigh (k + 1) (k + 4) arms n.1 in
           omega (arith, q, x)
 
       arms_weigh : (p k : ℕ) (arms : Arms) → FewArms arms → total group (arms_plain d at p k arms) + room * constant_count arms ≤ room * arms_size arms
       arms_weigh p k (last_arm b) n = let x = block_weighs p k b n in omega (arith, x)
       arms_weigh p k (and_arm constants b arms) n =
-          let x = block_weighs p k b n.1 in
-          let y = arms_weigh p (k + wires_block b) arms n.2 in
+          let x = block_weighs p k b n.0 in
+          let y = arms_weigh p (k + wires_block b) arms n.1 in
           omega (arith, x, y)
 
       block_weighs : (p k : ℕ) (b : Block) → FewBlock b → body_weight group (block_plain d at p k b) ≤ room * block_size b
