@@ -14,6 +14,7 @@ pub fn write_text<D: Desk>(desk: &mut D, channel: usize, text: &[u8]) -> Result<
     ensures told { OnOk result (D.told desk.new ≡ option_map (added channel text.now) (D.told desk.old)) }
     ensures failed { OnErr result (CutOff channel text.now (D.told desk.old) (D.told desk.new)) }
     ensures cause { OnErr result (D.sure desk.old → IfSome (D.told desk.old) (λ t. FailsToWrite channel text.now t (D.told desk.new))) }
+    ensures given { D.given desk.new ≡ D.given desk.old }
     ensures counts { CountsAt channel (D.faults desk.old) (D.faults desk.new) (D.lost desk.old) (D.lost desk.new) result }
     ensures sure { D.sure desk.old → D.sure desk.new }
 {
@@ -38,6 +39,7 @@ pub fn flush<D: Desk>(desk: &mut D, channel: usize, waiting: &mut RowBuf) -> Res
     ensures room { waiting.old.room ≤ waiting.new.room }
     ensures failed { OnErr result (CutOff channel waiting.old.bytes (D.told desk.old) (D.told desk.new)) }
     ensures cause { OnErr result (D.sure desk.old → IfSome (D.told desk.old) (λ t. FailsToWrite channel waiting.old.bytes t (D.told desk.new))) }
+    ensures given { D.given desk.new ≡ D.given desk.old }
     ensures counts { CountsAt channel (D.faults desk.old) (D.faults desk.new) (D.lost desk.old) (D.lost desk.new) result }
     ensures sure { D.sure desk.old → D.sure desk.new }
 {
@@ -61,6 +63,7 @@ fn make_room<D: Desk>(
     ensures none { OnOk result (LARGE_BYTES < length text.now → waiting.new.bytes ≡ []) }
     ensures failed { OnErr result (CutOff channel waiting.old.bytes (D.told desk.old) (D.told desk.new)) }
     ensures cause { OnErr result (D.sure desk.old → IfSome (D.told desk.old) (λ t. FailsToWrite channel waiting.old.bytes t (D.told desk.new))) }
+    ensures given { D.given desk.new ≡ D.given desk.old }
     ensures counts { CountsAt channel (D.faults desk.old) (D.faults desk.new) (D.lost desk.old) (D.lost desk.new) result }
     ensures sure { D.sure desk.old → D.sure desk.new }
 {
@@ -84,6 +87,7 @@ pub fn put<D: Desk>(
     ensures room { waiting.old.room ≤ waiting.new.room }
     ensures failed { OnErr result (CutOff channel (waiting.old.bytes ++ text.now) (D.told desk.old) (D.told desk.new)) }
     ensures cause { OnErr result (D.sure desk.old → IfSome (D.told desk.old) (λ t. FailsToWrite channel (waiting.old.bytes ++ text.now) t (D.told desk.new))) }
+    ensures given { D.given desk.new ≡ D.given desk.old }
     ensures counts { CountsAt channel (D.faults desk.old) (D.faults desk.new) (D.lost desk.old) (D.lost desk.new) result }
     ensures sure { D.sure desk.old → D.sure desk.new }
 {

@@ -19,6 +19,7 @@ loop-desk-preserved g c =
           );
       few = c.in_ok-put.ensures.few;
       room = omega (arith, inv.room, c.in_ok-put.ensures.room);
+      given = c.in_ok-put.ensures.given ∙ inv.given;
       faults = c.in_ok-put.ensures.counts.ok.0 ∙ inv.faults;
       lost = c.in_ok-put.ensures.counts.ok.1 ∙ inv.lost;
       sure = λ s. c.in_ok-put.ensures.sure (inv.sure s);

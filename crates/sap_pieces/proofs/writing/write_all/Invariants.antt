@@ -10,6 +10,7 @@ invariant-loop-desk g l = record {
       → (rest : List ℕ) × g.P.Pieces.comes l.pieces rest × PartWritten l.channel text (l.waiting.bytes ++ rest) (g.D.Desk.told l.fn.desk) (g.D.Desk.told l.desk);
   few : length l.waiting.bytes ≤ LARGE_BYTES;
   room : LARGE_BYTES ≤ l.waiting.room;
+  given : g.D.Desk.given l.desk ≡ g.D.Desk.given l.fn.desk;
   faults : g.D.Desk.faults l.desk ≡ g.D.Desk.faults l.fn.desk;
   lost : g.D.Desk.lost l.desk ≡ g.D.Desk.lost l.fn.desk;
   sure : g.D.Desk.sure l.fn.desk → g.D.Desk.sure l.desk;
