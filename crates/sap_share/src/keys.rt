@@ -7,8 +7,8 @@ use sap_bits::{Op1, Op2};
 use sap_net::parts::{Operand, Right};
 use std::alloc::{AllocError, Global};
 
-/// The bytes of the right side of an operator on two names of up to eight bytes, which most wires have.
-const MOST_BYTES: usize = 24;
+/// Room for the right side of a choice on three names of up to ten bytes, which holds what most wires have.
+const MOST_BYTES: usize = 40;
 
 fn number_one(op: Op1) -> u8
     ensures { result ≡ spec.number1 op }
