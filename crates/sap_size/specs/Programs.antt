@@ -1,6 +1,7 @@
 -- How large programs with numbers for names are.
 use Rattle.std.specs.Prelude.{ℕ, ◌+◌, length}
-use Rattle.sap_meaning.specs.Program.{LevelTerm, fixed, of, at_place, both, Step, assign, write, retag, retag_cell, go_to, fall_to_child, Command, lone, try, if_else, try_then, case_of, Arms, last_arm, and_arm, Block, end_block, command_then, State, state_node, Group, no_node, and_node}
+use Rattle.sap_meaning.specs.Program.{LevelTerm, fixed, of, at_place, both, Step, assign, write, retag, retag_cell, go_to, fall_to_child, Command, lone, try, if_else, try_then, case_of, Arms, last_arm, and_arm, Block, State, Group}
+use Rattle.sap_meaning.specs.Walks.{folded, folded_in_arms, folded_in_block, body_of, gathered_from, gathered_from_group}
 use Rattle.sap_size.specs.Terms.{term_size}
 
 -- The nodes of expressions, tag expressions, commands and states; a join of levels counts by its parts alone.
@@ -19,36 +20,41 @@ step_size (retag_cell site m j n) = term_size j + level_size n
 step_size (go_to site target) = 0
 step_size (fall_to_child site hang) = 0
 
--- a step with its handler is one
-abbrev mutual
-  pub command_size : Command → ℕ
-  command_size (lone s) = 1 + step_size s
-  command_size (try s hang h) = 1 + step_size s + block_size h
-  command_size (if_else hang e a b) = 1 + term_size e + block_size a + block_size b
-  command_size (try_then s hang a b) = 1 + step_size s + block_size a + block_size b
-  command_size (case_of hang e arms) = 1 + term_size e + arms_size arms
+-- the constants of a `case`
+abbrev pub constant_count : Arms → ℕ
+constant_count (last_arm b) = 0
+constant_count (and_arm constants b arms) = length constants + constant_count arms
 
-  pub arms_size : Arms → ℕ
-  arms_size (last_arm b) = block_size b
-  arms_size (and_arm constants b arms) = length constants + block_size b + arms_size arms
+-- a command where its blocks have so many: a step with its handler is one
+abbrev pub own_size : Command → (below : ℕ) → ℕ
+own_size (lone s) below = 1 + step_size s
+own_size (try s hang h) below = 1 + step_size s + below
+own_size (if_else hang e a b) below = 1 + term_size e + below
+own_size (try_then s hang a b) below = 1 + step_size s + below
+own_size (case_of hang e arms) below = 1 + term_size e + constant_count arms + below
 
-  pub block_size : Block → ℕ
-  block_size end_block = 0
-  block_size (command_then c cs) = command_size c + block_size cs
+abbrev pub command_size : Command → ℕ
+command_size c = folded 0 ◌+◌ own_size c
 
-abbrev mutual
-  pub state_size : State → ℕ
-  state_size (state_node s b g) = 1 + block_size b + group_size g
+-- the blocks of arms
+abbrev pub arms_size : Arms → ℕ
+arms_size arms = folded_in_arms 0 ◌+◌ own_size arms
 
-  pub group_size : Group → ℕ
-  group_size no_node = 0
-  group_size (and_node t g) = state_size t + group_size g
+abbrev pub block_size : Block → ℕ
+block_size b = folded_in_block 0 ◌+◌ own_size b
+
+abbrev pub body_size : State → ℕ
+body_size t = 1 + block_size (body_of t)
+
+abbrev pub state_size : State → ℕ
+state_size t = gathered_from 0 ◌+◌ body_size t
+
+abbrev pub group_size : Group → ℕ
+group_size g = gathered_from_group 0 ◌+◌ body_size g
 
 -- how many states a group has, those below them counted
-abbrev mutual
-  pub states_of : State → ℕ
-  states_of (state_node s b g) = 1 + states_below g
+abbrev pub states_of : State → ℕ
+states_of t = gathered_from 0 ◌+◌ (λ s. 1) t
 
-  pub states_below : Group → ℕ
-  states_below no_node = 0
-  states_below (and_node t g) = states_of t + states_below g
+abbrev pub states_below : Group → ℕ
+states_below g = gathered_from_group 0 ◌+◌ (λ s. 1) g

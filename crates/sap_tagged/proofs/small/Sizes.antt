@@ -13,16 +13,18 @@ use Rattle.sap_maps.specs.Term.{Term}
 use Rattle.sap_lattice.specs.Levels.{Levels}
 use Rattle.sap_shape.specs.Sites.{Surroundings, simple_sites, command_sites, arms_sites, block_sites, else_sites, list_sites, state_sites, states_sites}
 use Rattle.sap_shape.proofs.SiteCounts.{simple_few}
-use Rattle.sap_meaning.specs.Program.{World, Step, assign, retag, retag_cell, go_to, fall_to_child, Command, lone, try, if_else, try_then, case_of, Arms, last_arm, and_arm, Block, end_block, command_then, State, state_node, Group, and_node}
+use Rattle.sap_meaning.specs.Program.{World, Step, assign, retag, retag_cell, go_to, fall_to_child, Command, lone, try, if_else, try_then, case_of, Arms, last_arm, and_arm, State, state_node, Group}
 use Rattle.sap_meaning.specs.Program as program
 use Rattle.sap_meaning.specs.Checks.{Home}
+use Rattle.sap_meaning.proofs.WalksLemmas.{folded_mapped_block}
 use Rattle.sap_resolved.specs.Worlds.{states_in, state_entities, group_entities}
 use Rattle.sap_resolved.specs.Worlds as worlds
 use Rattle.sap_resolved.specs.Terms.{known, widened, term_of, parts_of, level_term, level_terms}
 use Rattle.sap_resolved.specs.Resolve.{site_number, step_of, numbers_of, command_of, arms_of, block_of, else_of, list_of, state_of, group_of}
-use Rattle.sap_resolved.specs.Fill.{filled_step, filled, filled_arms, filled_block, filled_state, filled_group}
+use Rattle.sap_resolved.specs.Fill.{filled_step, filled_hang, filled, filled_arms, filled_state, filled_group}
+use Rattle.sap_resolved.proofs.FillLemmas.{gathered_filled_group}
 use Rattle.sap_size.specs.Terms.{term_size}
-use Rattle.sap_size.specs.Programs.{level_size, step_size, command_size, arms_size, block_size, state_size, group_size, states_of, states_below}
+use Rattle.sap_size.specs.Programs.{level_size, step_size, constant_count, own_size, command_size, arms_size, block_size, body_size, state_size, group_size, states_of, states_below}
 use Rattle.sap_size.specs.Trees.{expression_nodes, part_nodes, tag_nodes, tag_part_nodes, operand_nodes, command_nodes, constant_nodes, arms_nodes, block_nodes, else_nodes, list_nodes, state_nodes, states_nodes}
 
 -- expressions
@@ -136,7 +138,7 @@ mutual
       let r = arms_within ls h k arms in
       omega (arith, q, r)
 
-  arms_within : (ls : Levels) (h : Surroundings) (k : ℕ) (arms : tree.Arms) → arms_size (arms_of ls h k arms) ≤ constant_nodes arms + arms_nodes arms
+  arms_within : (ls : Levels) (h : Surroundings) (k : ℕ) (arms : tree.Arms) → constant_count (arms_of ls h k arms) + arms_size (arms_of ls h k arms) ≤ constant_nodes arms + arms_nodes arms
   arms_within ls h k (tree.last_arm b) = let r = block_within ls h k b in omega (arith, r)
   arms_within ls h k (tree.and_arm constants b arms) =
       let q = constants_within constants in
@@ -271,36 +273,24 @@ step_filled w at (retag_cell site m j n) = refl
 step_filled w at (go_to site target) = refl
 step_filled w at (fall_to_child site hang) = refl
 
-mutual
-  command_filled : (w : World) (at : Home) (c : Command) → command_size (filled w at c) ≡ command_size c
-  command_filled w at (lone s) = ap (λ (n : ℕ). 1 + n) (step_filled w at s)
-  command_filled w at (try s hang h) = let r = step_filled w at s in let q = block_filled w at h in omega (arith, r, q)
-  command_filled w at (if_else hang e a b) = let r = block_filled w at a in let q = block_filled w at b in omega (arith, r, q)
-  command_filled w at (try_then s hang a b) =
-      let o = step_filled w at s in let r = block_filled w at a in let q = block_filled w at b in omega (arith, o, r, q)
-  command_filled w at (case_of hang e arms) = let r = arms_filled w at arms in omega (arith, r)
+constants_filled : (w : World) (at : Home) (arms : Arms) → constant_count (filled_arms w at arms) ≡ constant_count arms
+constants_filled w at (last_arm b) = refl
+constants_filled w at (and_arm constants b arms) = ap (λ (n : ℕ). length constants + n) (constants_filled w at arms)
 
-  arms_filled : (w : World) (at : Home) (arms : Arms) → arms_size (filled_arms w at arms) ≡ arms_size arms
-  arms_filled w at (last_arm b) = block_filled w at b
-  arms_filled w at (and_arm constants b arms) = let r = block_filled w at b in let q = arms_filled w at arms in omega (arith, r, q)
+own_filled : (w : World) (at : Home) (c : Command) (n : ℕ) → own_size (filled w at c) n ≡ own_size c n
+own_filled w at (lone s) n = ap (λ (m : ℕ). 1 + m) (step_filled w at s)
+own_filled w at (try s hang h) n = ap (λ (m : ℕ). 1 + m + n) (step_filled w at s)
+own_filled w at (if_else hang e a b) n = refl
+own_filled w at (try_then s hang a b) n = ap (λ (m : ℕ). 1 + m + n) (step_filled w at s)
+own_filled w at (case_of hang e arms) n = ap (λ (m : ℕ). 1 + term_size e + m + n) (constants_filled w at arms)
 
-  block_filled : (w : World) (at : Home) (b : Block) → block_size (filled_block w at b) ≡ block_size b
-  block_filled w at end_block = refl
-  block_filled w at (command_then c cs) = let r = command_filled w at c in let q = block_filled w at cs in omega (arith, r, q)
+body_filled : (w : World) (p : ℕ) (t : State) → body_size (filled_state w p t) ≡ body_size t
+body_filled w p (state_node s b g) =
+    let at : Home = record { state = s; parent = p; children = g } in
+    ap (λ (n : ℕ). 1 + n) (folded_mapped_block (filled_step w at) (filled_hang w at) 0 ◌+◌ own_size own_size (own_filled w at) b)
 
-mutual
-  state_filled : (w : World) (p : ℕ) (s : State) → state_size (filled_state w p s) ≡ state_size s
-  state_filled w p (state_node s b g) =
-      let r = block_filled w (record { state = s; parent = p; children = g }) b in let q = group_filled w s g in omega (arith, r, q)
+pub group_filled : (w : World) (p : ℕ) (g : Group) → group_size (filled_group w p g) ≡ group_size g
+group_filled w p g = gathered_filled_group w 0 ◌+◌ body_size body_size (body_filled w) p g
 
-  pub group_filled : (w : World) (p : ℕ) (g : Group) → group_size (filled_group w p g) ≡ group_size g
-  group_filled w p program.no_node = refl
-  group_filled w p (and_node t g) = let r = state_filled w p t in let q = group_filled w p g in omega (arith, r, q)
-
-mutual
-  state_kept : (w : World) (p : ℕ) (s : State) → states_of (filled_state w p s) ≡ states_of s
-  state_kept w p (state_node s b g) = ap (λ (n : ℕ). 1 + n) (group_kept w s g)
-
-  pub group_kept : (w : World) (p : ℕ) (g : Group) → states_below (filled_group w p g) ≡ states_below g
-  group_kept w p program.no_node = refl
-  group_kept w p (and_node t g) = let r = state_kept w p t in let q = group_kept w p g in omega (arith, r, q)
+pub group_kept : (w : World) (p : ℕ) (g : Group) → states_below (filled_group w p g) ≡ states_below g
+group_kept w p g = gathered_filled_group w 0 ◌+◌ (λ t. 1) (λ t. 1) (λ q t. refl) p g

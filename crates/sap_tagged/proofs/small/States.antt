@@ -12,7 +12,7 @@ use Rattle.sap_meaning.specs.Runs.{listed_alone}
 use Rattle.sap_ir.specs.Plain.Nested.{Body, stop, cases, Forest, state_names}
 use Rattle.sap_size.specs.Terms.{term_size}
 use Rattle.sap_size.specs.Nested.{states_in, body_weight, forest_weight}
-use Rattle.sap_size.specs.Programs.{command_size, arms_size, block_size, group_size, states_below}
+use Rattle.sap_size.specs.Programs.{constant_count, command_size, arms_size, block_size, group_size, states_below}
 use Rattle.sap_tagged.specs.Keys.{tag_key, wire_key, first_key}
 use Rattle.sap_tagged.specs.Setting.{Setting}
 use Rattle.sap_tagged.specs.Levels.{var, expr}
@@ -25,10 +25,6 @@ use Rattle.sap_tagged.proofs.small.Steps.{follow_weighs, sweep_weighs, raises_we
 use Rattle.std.proofs.Math.Nat.{mul-le-mul_left}
 
 -- the constants of all arms, and all blocks
-
-abbrev constant_count : Arms → ℕ
-constant_count (last_arm b) = 0
-constant_count (and_arm constants b arms) = length constants + constant_count arms
 
 arms_fewer : (arms : Arms) → HaveConstants arms → arm_count arms ≤ constant_count arms
 arms_fewer (last_arm b) n = omega arith
@@ -143,7 +139,7 @@ module _ (d : Setting) (room : ℕ) (r : Roomy d room) where
           let x = arms_weigh (k + 1) (k + 4) arms n.1 in
           omega (arith, q, x)
 
-      arms_weigh : (p k : ℕ) (arms : Arms) → FewArms arms → total group (arms_plain d at p k arms) + room * constant_count arms ≤ room * arms_size arms
+      arms_weigh : (p k : ℕ) (arms : Arms) → FewArms arms → total group (arms_plain d at p k arms) ≤ room * arms_size arms
       arms_weigh p k (last_arm b) n = let x = block_weighs p k b n in omega (arith, x)
       arms_weigh p k (and_arm constants b arms) n =
           let x = block_weighs p k b n.0 in
