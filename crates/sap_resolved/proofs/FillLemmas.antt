@@ -7,7 +7,7 @@ use Rattle.sap_maps.specs.Term.{Term}
 use Rattle.sap_meaning.specs.Program.{World, Step, Command, Block, State, state_node, Group, no_node, and_node}
 use Rattle.sap_meaning.specs.Checks.{Home}
 use Rattle.sap_meaning.specs.Walks.{EveryInBlock, Asks, EveryBody, EveryBodyIn, gathered, gathered_in_block, gathered_from, gathered_from_group}
-use Rattle.sap_meaning.proofs.WalksLemmas.{gathered_mapped, gathered_mapped_block, every_mapped_block, every_unmapped_block, asks_unmapped}
+use Rattle.sap_meaning.proofs.WalksLemmas.{gathered_mapped, gathered_mapped_block, every_mapped_block, every_unmapped_block, asks_mapped, asks_unmapped}
 use Rattle.sap_resolved.specs.Fill.{table, filled_step, filled_hang, filled, filled_block, filled_state, filled_group}
 
 pub table_length : (n : ℕ) (test : ℕ → Bool) → length (table n test) ≡ n
@@ -41,19 +41,24 @@ table_front (suc m) f = ap (λ (l : List Bool). l ++ f (suc m) ∷ []) (table_fr
 module _ (w : World) where
   -- .. what is asked of each command of the bodies follows from what was asked of it, ..
   module _ (P R : Command → Type 0) (follows : (at : Home) (c : Command) → P c → R (filled w at c)) where
-    every_filled : (at : Home) (b : Block) → EveryInBlock P b → EveryInBlock R (filled_block w at b)
-    every_filled at b h = every_mapped_block (filled_step w at) (filled_hang w at) P R (follows at) b h
+    commands_filled : (at : Home) (b : Block) → EveryInBlock P b → EveryInBlock R (filled_block w at b)
+    commands_filled at b h = every_mapped_block (filled_step w at) (filled_hang w at) P R (follows at) b h
 
     mutual
-      every_filled_state : (p : ℕ) (t : State) → EveryBody (EveryInBlock P) t → EveryBody (EveryInBlock R) (filled_state w p t)
-      every_filled_state p (state_node s b g) h = (every_filled (record { state = s; parent = p; children = g }) b h.0, every_filled_group s g h.1)
+      commands_filled_state : (p : ℕ) (t : State) → EveryBody (EveryInBlock P) t → EveryBody (EveryInBlock R) (filled_state w p t)
+      commands_filled_state p (state_node s b g) h = (commands_filled (record { state = s; parent = p; children = g }) b h.0, commands_filled_group s g h.1)
 
-      pub every_filled_group : (p : ℕ) (g : Group) → EveryBodyIn (EveryInBlock P) g → EveryBodyIn (EveryInBlock R) (filled_group w p g)
-      every_filled_group p no_node h = h
-      every_filled_group p (and_node t g) h = (every_filled_state p t h.0, every_filled_group p g h.1)
+      pub commands_filled_group : (p : ℕ) (g : Group) → EveryBodyIn (EveryInBlock P) g → EveryBodyIn (EveryInBlock R) (filled_group w p g)
+      commands_filled_group p no_node h = h
+      commands_filled_group p (and_node t g) h = (commands_filled_state p t h.0, commands_filled_group p g h.1)
 
-  -- .. and of each step and term the other way round;
+  -- .. so is what is asked of each step, and the other way round;
   module _ (P R : Step → Type 0) (Q : Term ℕ → Type 0) where
+    module _ (follows : (at : Home) (k : Step) → P k → R (filled_step w at k)) where
+      pub every_filled_group : (p : ℕ) (g : Group) → EveryBodyIn (EveryInBlock (Asks P Q)) g → EveryBodyIn (EveryInBlock (Asks R Q)) (filled_group w p g)
+      every_filled_group p g h =
+          commands_filled_group (Asks P Q) (Asks R Q) (λ at. asks_mapped (filled_step w at) (filled_hang w at) P R Q Q (follows at) (λ e q. q)) p g h
+
     module _ (follows : (at : Home) (k : Step) → R (filled_step w at k) → P k) where
       every_unfilled : (at : Home) (b : Block) → EveryInBlock (Asks R Q) (filled_block w at b) → EveryInBlock (Asks P Q) b
       every_unfilled at b h =

@@ -18,7 +18,7 @@ use Rattle.sap_resolved.specs.Worlds.{states_in}
 use Rattle.sap_shape.specs.Sites.{Surroundings, simple_sites, command_sites, block_sites, state_sites}
 use Rattle.sap_resolved.specs.Resolve.{numbers_of, command_of, arms_of, block_of, else_of, list_of, state_of, group_of}
 use Rattle.sap_resolved.specs.Fill.{filled_step, filled_hang, filled, filled_arms, filled_group}
-use Rattle.sap_resolved.proofs.FillLemmas.{every_filled_group}
+use Rattle.sap_resolved.proofs.FillLemmas.{commands_filled_group}
 use Rattle.sap_tagged.specs.Commands.{arm_count}
 use Rattle.sap_tagged.specs.Few.{HaveConstants, FewHere, Few, FewArms, FewBlock, FewState, FewGroup}
 
@@ -114,4 +114,4 @@ module _ (w : World) where
   )
 
   pub filled_group_few : (p : ℕ) (g : Group) → FewGroup g → FewGroup (filled_group w p g)
-  filled_group_few p g f = every_filled_group w FewHere FewHere filled_few p g f
+  filled_group_few p g f = commands_filled_group w FewHere FewHere filled_few p g f

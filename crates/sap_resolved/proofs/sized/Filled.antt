@@ -4,12 +4,11 @@ use Rattle.std.specs.List.{AllByRecursion}
 use Rattle.sap_meaning.specs.Program.{World, Step, assign, write, retag, retag_cell, go_to, fall_to_child, Command, lone, try, if_else, try_then, case_of, Group}
 use Rattle.sap_meaning.specs.Checks.{Home}
 use Rattle.sap_meaning.specs.Expressions.{width_of}
-use Rattle.sap_meaning.specs.Walks.{Asks}
-use Rattle.sap_meaning.proofs.WalksLemmas.{asks_mapped, constants_mapped}
+use Rattle.sap_meaning.proofs.WalksLemmas.{constants_mapped}
 use Rattle.sap_meaning.specs.Sized.{AreWithin, SizedStep, SizedHere, SizedGroup}
 use Rattle.sap_meaning.specs.Fine.{FineTerm}
 use Rattle.sap_resolved.specs.WellNamed.{WellNamedStep, WellNamedGroup}
-use Rattle.sap_resolved.proofs.FillLemmas.{every_filled_group}
+use Rattle.sap_resolved.proofs.FillLemmas.{commands_filled_group, every_filled_group}
 use Rattle.sap_resolved.specs.Fill.{filled_step, filled_hang, filled, filled_group}
 
 module _ (w : World) where
@@ -38,9 +37,7 @@ module _ (w : World) where
       (h.0, subst (λ (cs : List (List ℕ)). AllByRecursion (AreWithin (width_of w e)) cs) (sym (constants_mapped (filled_step w at) (filled_hang w at) arms)) h.1)
 
   pub group_named : (p : ℕ) (g : Group) → WellNamedGroup w g → WellNamedGroup w (filled_group w p g)
-  group_named p g h =
-      every_filled_group w (Asks (WellNamedStep w) (FineTerm w)) (Asks (WellNamedStep w) (FineTerm w))
-      (λ at. asks_mapped (filled_step w at) (filled_hang w at) (WellNamedStep w) (WellNamedStep w) (FineTerm w) (FineTerm w) (step_named at) (λ e t. t)) p g h
+  group_named p g h = every_filled_group w (WellNamedStep w) (WellNamedStep w) (FineTerm w) step_named p g h
 
   pub group_sized : (p : ℕ) (g : Group) → SizedGroup w g → SizedGroup w (filled_group w p g)
-  group_sized p g h = every_filled_group w (SizedHere w) (SizedHere w) here_sized p g h
+  group_sized p g h = commands_filled_group w (SizedHere w) (SizedHere w) here_sized p g h
