@@ -9,8 +9,8 @@ use Rattle.sap_cycle.specs.declared.instructions.Placed.{Placed}
 use Rattle.sap_cycle.specs.declared.steps.Part.{Part}
 use Rattle.sap_cycle.specs.declared.steps.Step.{Step}
 use Rattle.sap_cycle.specs.Instructions.{placed_step}
-use Rattle.sap_cycle.specs.Order.{ReadsAmong, Also, InOrder, KnownAfter, IsOrder, IsOwn, IsMarked}
-use Rattle.sap_cycle.proofs.Ordered.{reads_more}
+use Rattle.sap_cycle.specs.Order.{ReadsAmong, IsOrder, IsOwn, IsMarked}
+use Rattle.sap_cycle.proofs.Walked.{Also, InOrder, KnownAfter, reads_more, walked_order}
 
 pub record Arranging (base : ℕ) (parts : List Part) (steps : List Step) (marks : List Bool) (placed : List (ℕ × Step)) : Type 0 where
   pub long : length marks ≡ base + length steps
@@ -90,8 +90,9 @@ marked_at (m ∷ ms) h (suc k) lt = marked_at ms h.1 k (omega (arith, lt))
 pub arranged_all : (base : ℕ) (parts : List Part) (steps : List Step) (marks : List Bool) (ps : List (ℕ × Step))
     → Arranging base parts steps marks ps → AllByRecursion (λ m. m ≡ true) marks → IsOrder base parts steps ps
 arranged_all base parts steps marks ps a all =
-    record {
+    walked_order base parts steps ps
+    (record {
       own = a.own;
       finds = a.finds;
       all = λ k lt. a.known k (marked_at marks all k (omega (arith, lt, a.long)));
-    }
+    })

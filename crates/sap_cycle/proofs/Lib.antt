@@ -10,6 +10,7 @@ pub mod Learned
 pub mod Others
 pub mod Compiling
 pub mod First
+pub mod Walked
 pub mod Ordered
 pub mod Row
 pub mod Arranging

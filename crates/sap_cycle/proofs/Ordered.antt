@@ -13,26 +13,8 @@ use Rattle.sap_cycle.specs.declared.steps.Part.{Part}
 use Rattle.sap_cycle.specs.declared.steps.Step.{Step}
 use Rattle.sap_cycle.specs.declared.steps.Step.TheVariants.{Copy, One, Two, Choose, Concat, Pair, Slice, Cell}
 use Rattle.sap_cycle.specs.Steps.{slot_value, joined_from, step_value, SlotIn, ArePartsReady, IsReady, settled, AreReady}
-use Rattle.sap_cycle.specs.Order.{SlotAmong, PartsAmong, ReadsAmong, Also, InOrder, KnownAfter, IsOrder, IsOwn}
-
--- what is known before is known where more is
-pub slot_more : (P Q : ℕ → Type 0) → ((k : ℕ) → P k → Q k) → (s : Slot) → SlotAmong P s → SlotAmong Q s
-slot_more P Q f (At k) h = f k h
-slot_more P Q f (Number x) h = tt
-
-pub parts_more : (P Q : ℕ → Type 0) → ((k : ℕ) → P k → Q k) → (ps : List Part) → PartsAmong P ps → PartsAmong Q ps
-parts_more P Q f [] h = tt
-parts_more P Q f (p ∷ ps) h = (slot_more P Q f p.slot h.0, parts_more P Q f ps h.1)
-
-pub reads_more : (P Q : ℕ → Type 0) → ((k : ℕ) → P k → Q k) → (parts : List Part) (s : Step) → ReadsAmong P parts s → ReadsAmong Q parts s
-reads_more P Q f parts (Copy a) h = slot_more P Q f a h
-reads_more P Q f parts (One op w a) h = slot_more P Q f a h
-reads_more P Q f parts (Two op w a b) h = (slot_more P Q f a h.0, slot_more P Q f b h.1)
-reads_more P Q f parts (Choose c a b) h = (slot_more P Q f c h.0, slot_more P Q f a h.1, slot_more P Q f b h.2)
-reads_more P Q f parts (Concat from to) h = parts_more P Q f (slice_range parts from to) h
-reads_more P Q f parts (Pair w a b) h = (slot_more P Q f a h.0, slot_more P Q f b h.1)
-reads_more P Q f parts (Slice a hi lo) h = slot_more P Q f a h
-reads_more P Q f parts (Cell base i) h = slot_more P Q f i h
+use Rattle.sap_cycle.specs.Order.{SlotAmong, PartsAmong, ReadsAmong, IsOrder, IsOwn}
+use Rattle.sap_cycle.proofs.Walked.{Also, InOrder, KnownAfter, Walked, reads_more, order_walked}
 
 -- two arrays have the same number at a place
 abbrev pub Agree : (a b : List ℕ) → ℕ → Type 0
@@ -141,6 +123,7 @@ pub order_settles : (cells last : List ℕ) (parts : List Part) (base : ℕ) (st
     → (a : List ℕ) → length a ≡ length last → length last ≡ base + length steps → ((k : ℕ) → k < base → Agree a last k)
     → AreReady cells parts ps a × (settled cells parts ps a ≡ last)
 order_settles cells last parts base steps ps o f a le whole agree =
-    let go = agree_after cells last parts ps (λ k. k < base) a le agree o.finds (owned cells last parts base steps ps f o.own) in
+    let w : Walked base parts steps ps = order_walked base parts steps ps o in
+    let go = agree_after cells last parts ps (λ k. k < base) a le agree w.finds (owned cells last parts base steps ps f o.own) in
     let l : length (settled cells parts ps a) ≡ length last = settled_long cells parts ps a ∙ le in
-    (go.0, same_number_lists (settled cells parts ps a) last l (λ k lt. go.1 k (o.all k (omega (arith, lt, l, whole)))))
+    (go.0, same_number_lists (settled cells parts ps a) last l (λ k lt. go.1 k (w.all k (omega (arith, lt, l, whole)))))

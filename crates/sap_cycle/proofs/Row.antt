@@ -18,8 +18,8 @@ use Rattle.sap_cycle.specs.Known.{Knows}
 use Rattle.sap_cycle.specs.Means.{StepsMean}
 use Rattle.sap_cycle.specs.Running.{first_names, value_names}
 use Rattle.sap_cycle.proofs.Cycle.{steps_long}
-use Rattle.sap_cycle.specs.Order.{Also, InOrder, KnownAfter, IsOrder, IsOwn, in_row}
-use Rattle.sap_cycle.proofs.Ordered.{reads_more}
+use Rattle.sap_cycle.specs.Order.{IsOrder, IsOwn, in_row}
+use Rattle.sap_cycle.proofs.Walked.{Also, InOrder, KnownAfter, reads_more, walked_order}
 use Rattle.sap_cycle.proofs.Settled.{reads_below}
 
 row_own : (others : List Step) (base : ℕ) (is : List Instruction) → AllByRecursion (IsOwn base (map (step_of_instruction others) is)) (map (placed_step others) (in_row base is))
@@ -60,12 +60,14 @@ pub row_is_order : (widths : Name → ℕ) (ms : List Memory) (parts : List Part
     → StepsMean widths ms parts names (map (step_of_instruction others) is) ws
     → IsOrder (length names) parts (map (step_of_instruction others) is) (map (placed_step others) (in_row (length names) is))
 row_is_order widths ms parts others names is ws h =
-    let l : length (map (step_of_instruction others) is) ≡ length is = length-map is (step_of_instruction others) in
-    record {
+    let steps = map (step_of_instruction others) is in
+    let l : length steps ≡ length is = length-map is (step_of_instruction others) in
+    walked_order (length names) parts steps (map (placed_step others) (in_row (length names) is))
+    (record {
       own = row_own others (length names) is;
       finds = row_finds widths ms parts others (λ k. k < length names) names (λ k lt. lt) is ws h;
       all = λ k lt. row_all others (λ k. k < length names) (length names) (λ k lt. lt) is k (omega (arith, lt, l));
-    }
+    })
 
 -- what is known grows by a place a wire
 widths_long : (f : Name → ℕ) (ms : List Memory) (names : List Name) (k : Known) → Knows f ms names k → length k.widths.items ≡ length names

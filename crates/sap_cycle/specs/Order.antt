@@ -28,19 +28,10 @@ ReadsAmong known parts (Pair w a b) = SlotAmong known a × SlotAmong known b
 ReadsAmong known parts (Slice a hi lo) = SlotAmong known a
 ReadsAmong known parts (Cell base i) = SlotAmong known i
 
--- one place more
-abbrev pub Also : (known : ℕ → Type 0) → (place : ℕ) → (ℕ → Type 0)
-Also known t k = known k ⊎ (k ≡ t)
-
--- Each step reads places that are known before it, and its own place is known behind it.
-abbrev pub InOrder : List Part → (known : ℕ → Type 0) → List (ℕ × Step) → Type 0
-InOrder parts known [] = Unit {0}
-InOrder parts known (p ∷ ps) = ReadsAmong known parts p.1 × InOrder parts (Also known p.0) ps
-
--- the places that are known behind all steps
-abbrev pub KnownAfter : (known : ℕ → Type 0) → List (ℕ × Step) → ℕ → Type 0
-KnownAfter known [] k = known k
-KnownAfter known (p ∷ ps) k = KnownAfter (Also known p.0) ps k
+-- A place is known before a position of the list: it is one of the first, or that of a step that stands there earlier.
+abbrev pub IsKnownBefore : (base : ℕ) → (placed : List (ℕ × Step)) → (position place : ℕ) → Type 0
+IsKnownBefore base placed position place =
+    (place < base) ⊎ ((earlier : ℕ) × (step : Step) × (earlier < position) × (slice_get placed earlier ≡ Some (place, step)))
 
 -- one of these steps, at its place behind others
 abbrev pub IsOwn : (base : ℕ) → List Step → ℕ × Step → Type 0
@@ -49,8 +40,8 @@ IsOwn base steps p = (k : ℕ) × (p.0 ≡ base + k) × (slice_get steps k ≡ S
 -- The steps in an order in which each finds what it reads, where the places before the first are known from the start.
 pub record IsOrder (base : ℕ) (parts : List Part) (steps : List Step) (placed : List (ℕ × Step)) : Type 0 where
   pub own : AllByRecursion (IsOwn base steps) placed
-  pub finds : InOrder parts (λ k. k < base) placed
-  pub all : (k : ℕ) → k < base + length steps → KnownAfter (λ k. k < base) placed k
+  pub finds : (k : ℕ) (p : ℕ × Step) → slice_get placed k ≡ Some p → ReadsAmong (IsKnownBefore base placed k) parts p.1
+  pub all : (place : ℕ) → place < base + length steps → IsKnownBefore base placed (length placed) place
 
 -- the instructions one behind another
 abbrev pub in_row : (base : ℕ) → List Instruction → List Placed
