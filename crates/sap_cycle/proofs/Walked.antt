@@ -7,7 +7,7 @@ use Rattle.sap_cycle.specs.declared.steps.Slot.TheVariants.{At, Number}
 use Rattle.sap_cycle.specs.declared.steps.Part.{Part}
 use Rattle.sap_cycle.specs.declared.steps.Step.{Step}
 use Rattle.sap_cycle.specs.declared.steps.Step.TheVariants.{Copy, One, Two, Choose, Concat, Pair, Slice, Cell}
-use Rattle.sap_cycle.specs.Order.{SlotAmong, PartsAmong, ReadsAmong, IsKnownBefore, IsOrder, IsOwn}
+use Rattle.sap_cycle.specs.Order.{SlotAmong, PartsAmong, ReadsAmong, IsOrder, IsOwn}
 
 -- what is known before is known where more is
 pub slot_more : (P Q : ℕ → Type 0) → ((k : ℕ) → P k → Q k) → (s : Slot) → SlotAmong P s → SlotAmong Q s
