@@ -11,6 +11,9 @@ use crate::runs::Run;
 use crate::sort::operator;
 use std::alloc::{AllocError, Global};
 
+// From how many steps a run on a loop for each run costs less than one loop over all steps.
+const LONG_RUN: usize = 3;
+
 /// Steps in their short form, where they have one and all do this.
 fn alike(
     alloc: Global,
@@ -43,7 +46,7 @@ fn run_of(alloc: Global, steps: &[Placed]) -> Result<Run, AllocError>
     Ok(Run::Other(steps.to_vec(alloc)?))
 }
 
-/// Where the runs of one operator end, or nothing where they are short.
+/// Where the runs of one operator end, but for the last, or nothing where they are short.
 fn run_ends(alloc: Global, steps: &[Placed]) -> Result<Vec<usize>, AllocError> {
     let mut ends = Vec::new(alloc);
     let mut last = 0;
@@ -54,8 +57,7 @@ fn run_ends(alloc: Global, steps: &[Placed]) -> Result<Vec<usize>, AllocError> {
         }
         last = this;
     }
-    ends.push(steps.len())?;
-    if ends.len() > steps.len() / 3 {
+    if ends.len() >= steps.len() / LONG_RUN {
         ends.truncate(0);
     }
     Ok(ends)
