@@ -7,3 +7,4 @@ pub mod Differing
 pub mod Lookups
 pub mod Held
 pub mod Growing
+pub mod Fronts

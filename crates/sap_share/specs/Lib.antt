@@ -4,4 +4,5 @@ pub mod Rights
 pub mod Differing
 pub mod Tables
 pub mod Sets
+pub mod Fronts
 pub mod Copying
