@@ -79,6 +79,11 @@ names_replaced [] n x = refl
 names_replaced (e ∷ es) n x =
     elim (cases_Bool (bytes_eq e.0 n)) [ inl t ↦ rw t refl | inr f ↦ rw f (ap (λ ns. e.0 ∷ ns) (names_replaced es n x)) ]
 
+pub names_set : {X : Type 0} (es : List (Name × X)) (k : ℕ) (x : X) (d : Name × X) → keys_of (slice_set es k ((get_or es k d).0, x)) ≡ keys_of es
+names_set [] k x d = refl
+names_set (e ∷ es) zero x d = refl
+names_set (e ∷ es) (suc k) x d = ap (λ ns. e.0 ∷ ns) (names_set es k x d)
+
 pub set_replaced : {X : Type 0} (es : List (Name × X)) (n : Name) (k : ℕ) (x : X) (d : Name × X) → place_in (keys_of es) n ≡ Some k
     → slice_set es k ((get_or es k d).0, x) ≡ replaced es n x
 set_replaced [] n k x d h = absurd (cc)

@@ -1,10 +1,10 @@
 //! Values by name.
 
-ghost use Rattle.std.specs.Prelude.{◌≡◌, ◌++◌, [], ◌∷◌, None, IfOk, OnOk};
+ghost use Rattle.std.specs.Prelude.{◌≡◌, ◌++◌, ℕ, List, [], ◌∷◌, None, Some, IfOk, OnOk};
 ghost use Rattle.std.specs.Map.{keys_of};
 ghost use Rattle.std.specs.Option.{option_map};
 ghost use Rattle.sap_maps.specs.Scope.{find};
-ghost use Rattle.sap_net.specs.NameMaps.{Indexes, Puts};
+ghost use Rattle.sap_net.specs.NameMaps.{Indexes, Puts, place_in};
 ghost use Rattle.sap_share.specs.Tables.{replaced};
 
 use sap_net::name_map::{at_name, index};
@@ -55,6 +55,29 @@ impl<T: Drop> Table<T> {
     {
         let places = index_entries(alloc, &entries)?;
         Ok(Table { entries, places })
+    }
+
+    /// How many names stand before the first place of this one, if it has a value.
+    pub fn place(&self, name: &Name) -> Option<usize>
+        ensures { result ≡ place_in (keys_of self.now) name.now }
+    {
+        at_name(&self.places, name.as_bytes())
+    }
+
+    /// The value of the name that has this place.
+    pub fn at(&self, place: usize) -> &T
+        requires { (n : List ℕ) × (place_in (keys_of self.now) n ≡ Some place) }
+        ensures { (n : List ℕ) → place_in (keys_of self.now) n ≡ Some place → find self.now n ≡ Some result.now }
+    {
+        &self.entries[place].1
+    }
+
+    /// Gives the name that has this place another value.
+    pub fn replace_at(&mut self, place: usize, value: T)
+        requires { (n : List ℕ) × (place_in (keys_of self.old) n ≡ Some place) }
+        ensures { (n : List ℕ) → place_in (keys_of self.old) n ≡ Some place → self.new ≡ replaced self.old n value }
+    {
+        self.entries[place].1 = value;
     }
 
     /// The value of a name.
