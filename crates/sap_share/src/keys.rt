@@ -60,14 +60,25 @@ fn add_numbers(key: &mut Vec<u8>, first: u64, second: u64) -> Result<(), AllocEr
     add_number(key, second)
 }
 
+// What stands in front of a name of so many bytes.
+#[tactic(auto, using(crate::proofs::Digits::number_last))]
+fn add_length(key: &mut Vec<u8>, length: usize) -> Result<(), AllocError>
+    ensures { OnOk result (key.new.items ≡ key.old.items ++ 0 ∷ spec.number length) }
+{
+    if length < 128 {
+        return key.extend_from_slice(&[0, length as u8]);
+    }
+    key.push(0)?;
+    add_number(key, length as u64)
+}
+
 fn add_operand(key: &mut Vec<u8>, operand: &Operand) -> Result<(), AllocError>
     ensures { OnOk result (key.new.items ≡ key.old.items ++ spec.operand_bytes operand.now) }
 {
     match operand {
         Operand::Named(name) => {
             let bytes = name.as_bytes();
-            key.push(0)?;
-            add_number(key, bytes.len() as u64)?;
+            add_length(key, bytes.len())?;
             key.extend_from_slice(bytes)
         }
         Operand::Constant { width, value } => {
