@@ -10,11 +10,11 @@ use Rattle.sap_cycle.specs.declared.steps.Step.TheVariants.{Copy, One, Two, Choo
 use Rattle.sap_cycle.specs.Order.{SlotAmong, PartsAmong, ReadsAmong, IsOrder, IsOwn}
 
 -- what is known before is known where more is
-pub slot_more : (P Q : ℕ → Type 0) → ((k : ℕ) → P k → Q k) → (s : Slot) → SlotAmong P s → SlotAmong Q s
+slot_more : (P Q : ℕ → Type 0) → ((k : ℕ) → P k → Q k) → (s : Slot) → SlotAmong P s → SlotAmong Q s
 slot_more P Q f (At k) h = f k h
 slot_more P Q f (Number x) h = tt
 
-pub parts_more : (P Q : ℕ → Type 0) → ((k : ℕ) → P k → Q k) → (ps : List Part) → PartsAmong P ps → PartsAmong Q ps
+parts_more : (P Q : ℕ → Type 0) → ((k : ℕ) → P k → Q k) → (ps : List Part) → PartsAmong P ps → PartsAmong Q ps
 parts_more P Q f [] h = tt
 parts_more P Q f (p ∷ ps) h = (slot_more P Q f p.slot h.0, parts_more P Q f ps h.1)
 
@@ -49,10 +49,10 @@ pub record Walked (base : ℕ) (parts : List Part) (steps : List Step) (placed :
   pub all : (k : ℕ) → k < base + length steps → KnownAfter (λ k. k < base) placed k
 
 -- the place of a step before a position
-abbrev pub IsEarlier : List (ℕ × Step) → (position place : ℕ) → Type 0
+abbrev IsEarlier : List (ℕ × Step) → (position place : ℕ) → Type 0
 IsEarlier ps k place = (j : ℕ) × (s : Step) × (j < k) × (slice_get ps j ≡ Some (place, s))
 
-abbrev pub Before : (known : ℕ → Type 0) → List (ℕ × Step) → (position place : ℕ) → Type 0
+abbrev Before : (known : ℕ → Type 0) → List (ℕ × Step) → (position place : ℕ) → Type 0
 Before known ps k place = known place ⊎ IsEarlier ps k place
 
 none_earlier : (ps : List (ℕ × Step)) (place : ℕ) → IsEarlier ps 0 place → ⊥
@@ -84,7 +84,7 @@ walk_back known p ps k place (inr e) =
     ⊎_elim (λ (q : place ≡ p.0). inl (inr q)) (λ (q : IsEarlier ps k place). inr q) (first_or_later p ps k place e.0 e.1 e.2 e.3)
 
 -- what the walk knows behind all steps is what is known before the end, and the other way
-pub known_before : (known : ℕ → Type 0) (ps : List (ℕ × Step)) (place : ℕ) → KnownAfter known ps place → Before known ps (length ps) place
+known_before : (known : ℕ → Type 0) (ps : List (ℕ × Step)) (place : ℕ) → KnownAfter known ps place → Before known ps (length ps) place
 known_before known [] place h = inl h
 known_before known (p ∷ ps) place h = walk_on known p ps (length ps) place (known_before (Also known p.0) ps place h)
 
