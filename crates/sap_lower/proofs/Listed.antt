@@ -1,5 +1,5 @@
 -- The wires that are ports.
-use Rattle.std.proofs.Common.{◌≡◌, ◌&&◌, List, [], ◌∷◌, filter, true, sym, ap, ◌∙◌, subst, refl, inl, inr}
+use Rattle.std.proofs.Common.{◌≡◌, ◌&&◌, List, [], ◌∷◌, filter, true, false, sym, ap, ◌∙◌, subst, refl, inl, inr}
 use Rattle.std.specs.List.{AllByRecursion}
 use Rattle.std.proofs.lemmas.Bool.{cases_Bool, and_from}
 use Rattle.sap_lemmas.proofs.Bools.{and_left, and_right}
@@ -8,7 +8,8 @@ use Rattle.sap_maps.specs.Maps.{Name}
 use Rattle.sap_net.specs.Names.{is_among, AreDistinct}
 use Rattle.sap_ir.specs.declared.guarded.Var.{Var}
 use Rattle.sap_ir.specs.IsGuarded.{variable_names}
-use Rattle.sap_lower.specs.Lowered.{listed}
+use Rattle.sap_lower.specs.Lowered.{listed, unported}
+use Rattle.sap_share.specs.Sets.{AreSame}
 
 pub listed_names : (ps : List Name) (xs : List Var) → variable_names (listed ps xs) ≡ filter (λ n. is_among n ps) (variable_names xs)
 listed_names ps [] = refl
@@ -39,4 +40,22 @@ listed_holds P ps (x ∷ xs) a =
     elim (cases_Bool (is_among x.name ps)) [
       | inl t ↦ rw t (a.0, listed_holds P ps xs a.1)
       | inr f ↦ rw f (listed_holds P ps xs a.1)
+    ]
+
+-- two sets of the same names leave out the same
+pub unported_same : (ps qs xs : List Name) → AreSame ps qs → unported ps xs ≡ unported qs xs
+unported_same ps qs [] h = refl
+unported_same ps qs (x ∷ xs) h =
+    elim (cases_Bool (is_among x ps)) [
+      | inl t ↦ let u : is_among x qs ≡ true = sym (h x) ∙ t in rw (t, u) (unported_same ps qs xs h)
+      | inr f ↦ let u : is_among x qs ≡ false = sym (h x) ∙ f in rw (f, u) (ap (λ (ns : List Name). x ∷ ns) (unported_same ps qs xs h))
+    ]
+
+-- two sets of the same names list the same
+pub listed_same : (ps qs : List Name) (xs : List Var) → AreSame ps qs → listed ps xs ≡ listed qs xs
+listed_same ps qs [] h = refl
+listed_same ps qs (x ∷ xs) h =
+    elim (cases_Bool (is_among x.name ps)) [
+      | inl t ↦ let u : is_among x.name qs ≡ true = sym (h x.name) ∙ t in rw (t, u) (ap (λ (ys : List Var). x ∷ ys) (listed_same ps qs xs h))
+      | inr f ↦ let u : is_among x.name qs ≡ false = sym (h x.name) ∙ f in rw (f, u) (listed_same ps qs xs h)
     ]

@@ -15,7 +15,7 @@ use sap_share::table::Table;
 use std::alloc::{AllocError, Global};
 
 /// The operand of what has no part.
-fn nothing_yet() -> Part
+pub fn nothing_yet() -> Part
     ensures { result ≡ nothing }
 {
     Part {

@@ -1,8 +1,10 @@
 //! The declarations of the netlist.
 
-ghost use Rattle.std.specs.Prelude.{◌≡◌, [], ◌∷◌, ◌++◌, map, IfOk, OnOk};
+ghost use Rattle.std.specs.Prelude.{◌≡◌, ◌||◌, ℕ, List, [], ◌∷◌, ◌++◌, map, IfOk, OnOk};
 ghost use Rattle.sap_net.specs.IsNetlist.{names_of};
 ghost use Rattle.sap_ir.specs.IsGuarded.{memory_names, variable_names};
+ghost use Rattle.sap_net.specs.Names.{is_among};
+ghost use Rattle.sap_share.specs.Sets.{AreSame, holds};
 ghost use Rattle.sap_lower.specs.Lowered.{input_of, input_port, listed, memory_of, out_wire, picked, port_among, register_of, unlisted, unported};
 
 use crate::calc::present_part;
@@ -10,10 +12,28 @@ use crate::parts::{Part, WritePort};
 use crate::write_ports::present_port;
 use sap_ir::guarded::{MemoryVariable, Var, variable_names};
 use sap_net::parts::{Input, Memory, Name, Port, PortKind, Register, Right, Wire};
+use sap_share::name_set::NameSet;
 use sap_share::places::Places;
 use sap_share::table::Table;
 use sap_text::name::copy_names;
 use std::alloc::{AllocError, Global};
+
+fn add_names(alloc: Global, set: &mut NameSet, names: &[Name]) -> Result<(), AllocError>
+    ensures { OnOk result ((n : List ℕ) → holds set.new n ≡ (is_among n names.now || holds set.old n)) }
+{
+    for name in names {
+        set.add(alloc, name)?;
+    }
+    Ok(())
+}
+
+fn set_of(alloc: Global, names: &[Name]) -> Result<NameSet, AllocError>
+    ensures { IfOk result (λ s. AreSame s names.now) }
+{
+    let mut set = NameSet::new(alloc);
+    add_names(alloc, &mut set, names)?;
+    Ok(set)
+}
 
 fn register(alloc: Global, entries: &Table<Part>, variable: &Var) -> Result<Register, AllocError>
     ensures { IfOk result (λ r. r ≡ register_of entries.now variable.now) }
@@ -60,6 +80,23 @@ fn memory(
     })
 }
 
+fn add_shown(
+    alloc: Global,
+    wires: &mut Vec<Wire>,
+    entries: &Table<Part>,
+    ports: &NameSet,
+    variables: &[Var],
+) -> Result<(), AllocError>
+    ensures { OnOk result (wires.new.items ≡ wires.old.items ++ map (out_wire entries.now) (listed ports.now variables.now)) }
+{
+    for variable in variables {
+        if ports.has(&variable.name) {
+            wires.push(wire(alloc, entries, variable)?)?;
+        }
+    }
+    Ok(())
+}
+
 /// Each wire that is a port, as a copy of what it stands for at the end.
 pub fn out_wires(
     alloc: Global,
@@ -70,12 +107,8 @@ pub fn out_wires(
 ) -> Result<(), AllocError>
     ensures { OnOk result (wires.new.items ≡ wires.old.items ++ map (out_wire entries.now) (listed ports.now variables.now)) }
 {
-    for variable in variables {
-        if ports.holds(&variable.name) {
-            wires.push(wire(alloc, entries, variable)?)?;
-        }
-    }
-    Ok(())
+    let set = set_of(alloc, ports.names())?;
+    add_shown(alloc, wires, entries, &set, variables)
 }
 
 pub fn memories(
@@ -229,6 +262,22 @@ pub fn ports(
     Ok(made)
 }
 
+fn add_other_than(
+    alloc: Global,
+    made: &mut Vec<Name>,
+    ports: &NameSet,
+    wires: &[Wire],
+) -> Result<(), AllocError>
+    ensures { OnOk result (made.new.items ≡ made.old.items ++ unported ports.now (names_of wires.now)) }
+{
+    for wire in wires {
+        if !ports.has(&wire.name) {
+            made.push(wire.name.copy(alloc)?)?;
+        }
+    }
+    Ok(())
+}
+
 fn add_wires(
     alloc: Global,
     made: &mut Vec<Name>,
@@ -237,12 +286,9 @@ fn add_wires(
 ) -> Result<(), AllocError>
     ensures { OnOk result (made.new.items ≡ made.old.items ++ unported ports.now (names_of wires.now)) }
 {
-    for wire in wires {
-        if !ports.holds(&wire.name) {
-            made.push(wire.name.copy(alloc)?)?;
-        }
-    }
-    Ok(())
+    let set = set_of(alloc, ports.names())?;
+    made.reserve(wires.len())?;
+    add_other_than(alloc, made, &set, wires)
 }
 
 fn add_registers(

@@ -1,12 +1,14 @@
 //! What a program is lowered to, one command after another.
 
-ghost use Rattle.std.specs.Prelude.{◌≡◌, IfOk, OnOk};
+ghost use Rattle.std.specs.Prelude.{◌≡◌, ℕ, List, None, Some, IfOk, OnOk};
+ghost use Rattle.std.specs.Map.{keys_of};
+ghost use Rattle.sap_net.specs.NameMaps.{place_in};
 ghost use Rattle.sap_ir.specs.Calcs.{action_of, commands_of, term_of};
 ghost use Rattle.sap_ir.specs.Program.{source_of};
 ghost use Rattle.sap_lower.specs.Commands.{assigned, chosen, low_action, low_commands, merged_port, port_of, written};
 ghost use Rattle.sap_lower.specs.Lowered.{first_lowering};
 
-use crate::calc::{lower_calc, present_part};
+use crate::calc::{lower_calc, nothing_yet};
 use crate::first;
 use crate::parts::{Part, WritePort};
 use crate::wires::Wires;
@@ -32,8 +34,9 @@ impl Lowering {
     {
         let entries = first::entries(alloc, source)?;
         let ports = first::ports(alloc, source.memories())?;
+        let wires = Wires::with_room(alloc, source.cmds().len())?;
         Ok(Lowering {
-            wires: Wires::new(alloc),
+            wires,
             entries,
             ports,
         })
@@ -49,11 +52,37 @@ impl Lowering {
     ) -> Result<(), AllocError>
         ensures { OnOk result (self.new ≡ assigned self.old name.now (chosen self.old.entries name.now when value self.old.wires)) }
     {
-        let old = present_part(alloc, &self.entries, name)?;
-        let part = self
-            .wires
-            .add(alloc, old.width, Right::Choose(when, value, old.operand))?;
-        self.entries.replace(name, part);
+        match self.entries.place(name) {
+            Some(place) => self.set_at(alloc, place, when, value),
+            None => self.set_none(alloc, when, value),
+        }
+    }
+
+    /// An assignment to the name that has this place.
+    fn set_at(
+        &mut self,
+        alloc: Global,
+        place: usize,
+        when: Operand,
+        value: Operand,
+    ) -> Result<(), AllocError>
+        requires { (n : List ℕ) × (place_in (keys_of self.old.entries) n ≡ Some place) }
+        ensures { OnOk result ((n : List ℕ) → place_in (keys_of self.old.entries) n ≡ Some place → self.new ≡ assigned self.old n (chosen self.old.entries n when value self.old.wires)) }
+    {
+        let old = self.entries.at(place).copy(alloc)?;
+        let right = Right::Choose(when, value, old.operand);
+        let part = self.wires.add(alloc, old.width, right)?;
+        self.entries.replace_at(place, part);
+        Ok(())
+    }
+
+    /// An assignment to a name that stands for nothing.
+    fn set_none(&mut self, alloc: Global, when: Operand, value: Operand) -> Result<(), AllocError>
+        ensures { OnOk result ((n : List ℕ) → place_in (keys_of self.old.entries) n ≡ None → self.new ≡ assigned self.old n (chosen self.old.entries n when value self.old.wires)) }
+    {
+        let old = nothing_yet();
+        let right = Right::Choose(when, value, old.operand);
+        self.wires.add(alloc, old.width, right)?;
         Ok(())
     }
 

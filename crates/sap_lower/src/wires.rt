@@ -43,13 +43,13 @@ impl Model for Wires {
 }
 
 impl Wires {
-    pub fn new(alloc: Global) -> Wires
-        ensures { result ≡ [] }
+    /// None yet, with room for so many.
+    pub fn with_room(alloc: Global, room: usize) -> Result<Wires, AllocError>
+        ensures { IfOk result (λ w. w ≡ []) }
     {
-        Wires {
-            list: Vec::new(alloc),
-            numbers: HashMap::new(alloc),
-        }
+        let list = Vec::with_capacity(alloc, room)?;
+        let numbers = HashMap::with_capacity(alloc, room)?;
+        Ok(Wires { list, numbers })
     }
 
     pub fn into_vec(self) -> Vec<Wire>

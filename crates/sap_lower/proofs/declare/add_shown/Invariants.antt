@@ -1,6 +1,6 @@
 use Rattle.std.proofs.Common.{◌≡◌, ◌++◌, map, drop}
 use Rattle.sap_lower.specs.Lowered.{listed, out_wire}
-use Rattle.sap_lower.proofs.declare.out_wires.Given as goal
+use Rattle.sap_lower.proofs.declare.add_shown.Given as goal
 
 abbrev pub invariant-loop-variable : goal.invariant-loop-variable
 invariant-loop-variable l =
