@@ -13,18 +13,17 @@ pub then_text : (o : Option ℕ) (old mid new : List ℕ) (at end : ℕ) (a b wh
 then_text None old mid new at end a b whole p q w = tt
 then_text (Some e) old mid new at end a b whole p q w = q ∙ ap (λ l. l ++ b) p ∙ append_assoc (take at old) a b ∙ ap (λ l. take at old ++ l) w
 
--- the last digit behind the others
-pub then_digit : (o : Option ℕ) (old mid new : List ℕ) (at end n : ℕ) → 10 ≤ n → n < 2 ^ 64 → take end mid ≡ take at old ++ decimal (n / 10)
-    → IfSome o (λ e. take e new ≡ take end mid ++ (48 + n % 10) ∷ []) → IfSome o (λ e. take e new ≡ take at old ++ decimal n)
-then_digit o old mid new at end n big small p q =
-    then_text o old mid new at end (decimal (n / 10)) ((48 + n % 10) ∷ []) (decimal n) p q (sym (decimal_step n big small))
+-- a digit behind those of a number
+pub then_digit : (n q at end : ℕ) (start mid new : List ℕ) → 10 ≤ n → n < 2 ^ 64 → n / 10 ≡ q → take at mid ≡ start ++ decimal q
+    → take end new ≡ take at mid ++ (48 + n % 10) ∷ [] → take end new ≡ start ++ decimal n
+then_digit n q at end start mid new big small e p r =
+    r ∙ ap (λ l. l ++ (48 + n % 10) ∷ []) (p ∙ ap (λ k. start ++ decimal k) (sym e))
+    ∙ append_assoc start (decimal (n / 10)) ((48 + n % 10) ∷ [])
+    ∙ ap (λ l. start ++ l) (sym (decimal_step n big small))
 
--- the last of two digits
-pub then_second : (o : Option ℕ) (old mid new : List ℕ) (at end n : ℕ) → 10 ≤ n → n < 100 → take end mid ≡ take at old ++ (48 + n / 10) ∷ []
-    → IfSome o (λ e. take e new ≡ take end mid ++ (48 + n % 10) ∷ []) → IfSome o (λ e. take e new ≡ take at old ++ decimal n)
-then_second o old mid new at end n big small p q =
-    let first : decimal (n / 10) ≡ (48 + n / 10) ∷ [] = decimal_digit (n / 10) (omega arith) in
-    then_digit o old mid new at end n big (omega arith) (p ∙ ap (λ l. take at old ++ l) (sym first)) q
+-- the one digit of a number
+pub one_digit : (n end : ℕ) (start new : List ℕ) → n < 10 → take end new ≡ start ++ (48 + n) ∷ [] → take end new ≡ start ++ decimal n
+one_digit n end start new small p = p ∙ ap (λ l. start ++ l) (sym (decimal_digit n small))
 
 -- a text behind a place, of what was written there
 pub written : (at len : ℕ) (old bytes rest : List ℕ) → at ≤ length old → len ≤ length bytes → take (at + len) (take at old ++ (bytes ++ rest)) ≡ take at old ++ take len bytes
@@ -32,9 +31,3 @@ written at len old bytes rest within short =
     ap (λ k. take (k + len) (take at old ++ (bytes ++ rest))) (sym (length-take-le at old within))
     ∙ take-append-add (take at old) (bytes ++ rest) len
     ∙ ap (λ l. take at old ++ l) (take-append-le len bytes rest short)
-
--- the one digit of a number
-pub one_digit : (o : Option ℕ) (old new : List ℕ) (at n : ℕ) → n < 10 → IfSome o (λ e. take e new ≡ take at old ++ (48 + n) ∷ [])
-    → IfSome o (λ e. take e new ≡ take at old ++ decimal n)
-one_digit None old new at n small p = tt
-one_digit (Some e) old new at n small p = p ∙ ap (λ l. take at old ++ l) (sym (decimal_digit n small))

@@ -1,14 +1,18 @@
 //! Rows in an array of bytes. Each call writes at a place and tells where the text ends, or stops where there is little room.
 
-ghost use Rattle.std.specs.Prelude.{◌≡◌, ◌<◌, ◌+◌, ◌++◌, [], ◌∷◌, IfSome, codes, length, take};
+ghost use Rattle.std.specs.Prelude.{◌≡◌, ◌<◌, ◌≤◌, ◌+◌, ◌/◌, ◌++◌, [], ◌∷◌, ℕ, List, IfSome, codes, length, take};
 ghost use Rattle.std.specs.Fmt.{decimal};
+ghost use Rattle.sap_stim.specs.declared.flat.TheConstants.{MOST_SHOWN};
 ghost use Rattle.sap_stim.specs.Rows.{AreLevelTexts, all_shown, at_level, row_text, shown, shown_of, shown_text, label_text};
 
 use crate::label::RowLabel;
 use crate::rows::level_of_tag;
-use crate::short::{Short, put_text};
+use crate::short::{MOST_SHORT, Short, put_text};
 use sap_lattice::lattice::Lattice;
 use sap_text::digits::Digits;
+
+/// How many bytes are written at most for a register whose label and level have short texts.
+const MOST_SHOWN: usize = MOST_SHORT + 8 + MOST_SHORT;
 
 fn put_byte(bytes: &mut [u8], at: usize, byte: u8) -> Option<usize>
     ensures { IfSome result (λ end. take end bytes.new ≡ take at bytes.old ++ byte ∷ []) }
@@ -21,63 +25,89 @@ fn put_byte(bytes: &mut [u8], at: usize, byte: u8) -> Option<usize>
 }
 
 // Writes a digit.
-fn put_digit(bytes: &mut [u8], at: usize, digit: u64) -> Option<usize>
-    requires { digit < 10 }
-    ensures { IfSome result (λ end. take end bytes.new ≡ take at bytes.old ++ (48 + digit) ∷ []) }
+fn put_digit(bytes: &mut [u8], at: usize, digit: u64) -> usize
+    requires digit { digit < 10 }
+    requires room { at < length bytes.old }
+    ensures text { take result bytes.new ≡ take at bytes.old ++ (48 + digit) ∷ [] }
+    ensures end { result ≡ at + 1 }
 {
-    put_byte(bytes, at, b'0' + digit as u8)
+    bytes[at] = b'0' + digit as u8;
+    at + 1
 }
 
-fn put_below_100(bytes: &mut [u8], at: usize, number: u64) -> Option<usize>
-    requires { number < 100 }
-    ensures { IfSome result (λ end. take end bytes.new ≡ take at bytes.old ++ decimal number) }
+fn put_below_100(bytes: &mut [u8], at: usize, number: u64) -> usize
+    requires number { number < 100 }
+    requires room { at + 2 ≤ length bytes.old }
+    ensures text { take result bytes.new ≡ take at bytes.old ++ decimal number }
+    ensures end { result ≤ at + 2 }
 {
     if number < 10 {
         return put_digit(bytes, at, number);
     }
-    let end = put_digit(bytes, at, number / 10)?;
+    let end = put_digit(bytes, at, number / 10);
     put_digit(bytes, end, number % 10)
 }
 
-fn put_below_1000(bytes: &mut [u8], at: usize, number: u64) -> Option<usize>
-    requires { number < 1000 }
-    ensures { IfSome result (λ end. take end bytes.new ≡ take at bytes.old ++ decimal number) }
+fn put_below_1000(bytes: &mut [u8], at: usize, number: u64) -> usize
+    requires number { number < 1000 }
+    requires room { at + 3 ≤ length bytes.old }
+    ensures text { take result bytes.new ≡ take at bytes.old ++ decimal number }
+    ensures end { result ≤ at + 3 }
 {
     if number < 100 {
         return put_below_100(bytes, at, number);
     }
-    let end = put_below_100(bytes, at, number / 10)?;
+    let end = put_below_100(bytes, at, number / 10);
     put_digit(bytes, end, number % 10)
 }
 
-fn put_below_10000(bytes: &mut [u8], at: usize, number: u64) -> Option<usize>
-    requires { number < 10000 }
-    ensures { IfSome result (λ end. take end bytes.new ≡ take at bytes.old ++ decimal number) }
+fn put_below_10000(bytes: &mut [u8], at: usize, number: u64) -> usize
+    requires number { number < 10000 }
+    requires room { at + 4 ≤ length bytes.old }
+    ensures text { take result bytes.new ≡ take at bytes.old ++ decimal number }
+    ensures end { result ≤ at + 4 }
 {
     if number < 1000 {
         return put_below_1000(bytes, at, number);
     }
-    let end = put_below_1000(bytes, at, number / 10)?;
+    let end = put_below_1000(bytes, at, number / 10);
     put_digit(bytes, end, number % 10)
 }
 
-fn put_below_100000(bytes: &mut [u8], at: usize, number: u64) -> Option<usize>
-    requires { number < 100000 }
-    ensures { IfSome result (λ end. take end bytes.new ≡ take at bytes.old ++ decimal number) }
+// Writes the last four digits of a number behind the others.
+fn put_four(bytes: &mut [u8], at: usize, number: u64) -> usize
+    requires number { 10000 ≤ number }
+    requires room { at + 4 ≤ length bytes.old }
+    ensures text { (start : List ℕ) → take at bytes.old ≡ start ++ decimal (number / 10000) → take result bytes.new ≡ start ++ decimal number }
+    ensures end { result ≡ at + 4 }
+{
+    let end = put_digit(bytes, at, number / 1000 % 10);
+    let end = put_digit(bytes, end, number / 100 % 10);
+    let end = put_digit(bytes, end, number / 10 % 10);
+    put_digit(bytes, end, number % 10)
+}
+
+// Writes a number of at most eight digits.
+#[inline(always)]
+fn put_small(bytes: &mut [u8], at: usize, number: u64) -> usize
+    requires number { number < 100000000 }
+    requires room { at + 8 ≤ length bytes.old }
+    ensures text { take result bytes.new ≡ take at bytes.old ++ decimal number }
+    ensures end { result ≤ at + 8 }
 {
     if number < 10_000 {
         return put_below_10000(bytes, at, number);
     }
-    let end = put_below_10000(bytes, at, number / 10)?;
-    put_digit(bytes, end, number % 10)
+    let end = put_below_10000(bytes, at, number / 10_000);
+    put_four(bytes, end, number)
 }
 
 /// Writes a number in decimal digits.
 fn put_number(bytes: &mut [u8], at: usize, number: u64) -> Option<usize>
     ensures { IfSome result (λ end. take end bytes.new ≡ take at bytes.old ++ decimal number) }
 {
-    if number < 100_000 {
-        return put_below_100000(bytes, at, number);
+    if number < 100_000_000 && at <= bytes.len() && bytes.len() - at >= 8 {
+        return Some(put_small(bytes, at, number));
     }
     put_text(bytes, at, Digits::new(number).as_bytes())
 }
@@ -115,6 +145,19 @@ fn put_at_level(
     put_tag(bytes, at, tag, lattice)
 }
 
+// Writes a register whose label and level have short texts, for which there is room.
+#[inline(always)]
+fn put_short(bytes: &mut [u8], at: usize, label: &Short, value: u64, level: &Short) -> usize
+    requires value { value < 100000000 }
+    requires room { at + MOST_SHOWN ≤ length bytes.old }
+    ensures { take result bytes.new ≡ take at bytes.old ++ (label.now ++ (decimal value ++ level.now)) }
+{
+    let end = label.write(bytes, at);
+    let end = put_small(bytes, end, value);
+    level.write(bytes, end)
+}
+
+#[inline(always)]
 fn put_shown(
     bytes: &mut [u8],
     at: usize,
@@ -127,6 +170,12 @@ fn put_shown(
     requires { AreLevelTexts lattice.now levels.now }
     ensures { IfSome result (λ end. take end bytes.new ≡ take at bytes.old ++ shown_text (shown lattice.now label.now value tag)) }
 {
+    let is_near = value < 100_000_000 && tag < levels.len() as u64;
+    if is_near && at <= bytes.len() && bytes.len() - at >= MOST_SHOWN {
+        if let Some(label) = label.short() {
+            return Some(put_short(bytes, at, label, value, &levels[tag as usize]));
+        }
+    }
     let end = label.put(bytes, at)?;
     let end = put_number(bytes, end, value)?;
     put_at_level(bytes, end, tag, levels, lattice)

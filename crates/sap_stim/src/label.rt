@@ -62,6 +62,17 @@ impl RowLabel {
         &self.text
     }
 
+    /// The name between a space and `=`, where that is short.
+    #[inline(always)]
+    pub(crate) fn short(&self) -> Option<&Short>
+        ensures { IfSome result (λ s. s.now ≡ label_text self.now) }
+    {
+        match &self.short {
+            Some(short) => Some(short),
+            None => None,
+        }
+    }
+
     /// Writes the name between a space and `=` at a place, and tells where that ends; none where there is little room.
     pub(crate) fn put(&self, bytes: &mut [u8], at: usize) -> Option<usize>
         ensures { IfSome result (λ end. take end bytes.new ≡ take at bytes.old ++ label_text self.now) }

@@ -1,6 +1,7 @@
 //! Short texts.
 
-ghost use Rattle.std.specs.Prelude.{◌≡◌, ◌++◌, IfSome, take};
+ghost use Rattle.std.specs.Prelude.{◌≡◌, ◌≤◌, ◌+◌, ◌++◌, IfSome, length, take};
+ghost use Rattle.sap_stim.specs.declared.short.TheConstants.{MOST_SHORT};
 
 use std::marker::Model;
 
@@ -46,15 +47,26 @@ impl Short {
         &self.bytes[..self.len]
     }
 
+    /// Writes the text at a place, and tells where it ends. It writes behind it too, for which there is room.
+    #[inline(always)]
+    pub(crate) fn write(&self, bytes: &mut [u8], at: usize) -> usize
+        requires { at + MOST_SHORT ≤ length bytes.old }
+        ensures text { take result bytes.new ≡ take at bytes.old ++ self.now }
+        ensures end { result ≤ at + MOST_SHORT }
+    {
+        bytes[at..at + MOST_SHORT].copy_from_slice(&self.bytes);
+        at + self.len
+    }
+
     /// Writes the text at a place, and tells where it ends. It writes behind it too, for which there must be room.
+    #[inline(always)]
     pub fn put(&self, bytes: &mut [u8], at: usize) -> Option<usize>
         ensures { IfSome result (λ end. take end bytes.new ≡ take at bytes.old ++ self.now) }
     {
         if at > bytes.len() || bytes.len() - at < MOST_SHORT {
             return None;
         }
-        bytes[at..at + MOST_SHORT].copy_from_slice(&self.bytes);
-        Some(at + self.len)
+        Some(self.write(bytes, at))
     }
 }
 
