@@ -1,5 +1,5 @@
 -- Fields, read from the left while nothing is wrong.
-use Rattle.std.proofs.Common.{◌≡◌, ℕ, ◌+◌, ◌<◌, ◌≤◌, Bool, true, false, cond, List, [], ◌∷◌, ◌++◌, length, refl, sym, ap, ◌∙◌, inl, inr, append_assoc, length-append, arith}
+use Rattle.std.proofs.Common.{◌≡◌, ℕ, ◌+◌, ◌<◌, Bool, true, false, cond, List, [], ◌∷◌, ◌++◌, length, refl, sym, ap, ◌∙◌, inl, inr, append_assoc, length-append, arith}
 use Rattle.std.specs.List.{position_or_len, before_first, after_first}
 use Rattle.std.proofs.lemmas.Bool.{cases_lt}
 use Rattle.sap_lattice.specs.Levels.{Levels}
@@ -7,7 +7,7 @@ use Rattle.sap_meaning.specs.Cycle.{Tagged as Given}
 use Rattle.sap_stim.specs.declared.field.Field.{Field}
 use Rattle.sap_text.specs.Lines.{split_at}
 use Rattle.sap_stim.specs.Line.{is_starred, fields_in, fields_of, inputs_of}
-use Rattle.sap_stim.proofs.Pieces.{is_mark, split_marked, split_unmarked, before_unmarked, length_before}
+use Rattle.sap_stim.proofs.Pieces.{is_mark, split_marked, split_unmarked, before_unmarked}
 use Rattle.sap_stim.proofs.LastPiece.{IsUnmarked, fields_last}
 use Rattle.sap_stim.proofs.EachField.{read_on, EnoughLeft}
 
@@ -43,16 +43,6 @@ left_behind line k rest text later left t l h =
 
 pub left_whole : (line : List ℕ) (k : ℕ) (rest : List ℕ) → IsLeft line k rest → IsUnmarked 32 rest → IsLast line k rest
 left_whole line k rest left u = (left.0, left.1, left.2 ∙ ap (λ (ps : List (List ℕ)). left.0 ++ ps) (split_unmarked 32 rest u))
-
--- a piece with no space behind it
-pub left_last : (line : List ℕ) (k : ℕ) (rest text : List ℕ) → IsLeft line k rest → text ≡ before_first (is_mark 32) rest → length rest ≤ length text → IsLast line k text
-left_last line k rest text left t h =
-    elim (cases_lt (position_or_len (is_mark 32) rest) (length rest)) [
-      | inl marked ↦ absurd (omega (arith, ap length t, length_before 32 rest marked))
-      | inr unmarked ↦
-          let last = left_whole line k rest left unmarked in
-          (last.0, last.1, last.2 ∙ ap (λ (x : List ℕ). last.0 ++ x ∷ []) (sym (t ∙ before_unmarked 32 rest unmarked)))
-    ]
 
 fields_by_last : (line : List ℕ) (k : ℕ) (piece : List ℕ) → 0 < length line → (last : IsLast line k piece) → fields_of line ≡ cond (is_starred piece) last.0 (last.0 ++ piece ∷ [])
 fields_by_last [] k piece h last = absurd (omega arith)

@@ -3,6 +3,7 @@ pub mod LastPiece
 pub mod Counts
 pub mod EachField
 pub mod FromLeft
+pub mod Fronts
 pub mod SmallValues
 pub mod Fitting
 pub mod Lines

@@ -43,6 +43,25 @@ after_unmarked m s h = drop_all (position_or_len (is_mark m) s + 1) s (omega ari
 pub length_before : (m : ℕ) (s : List ℕ) → position_or_len (is_mark m) s < length s → length (before_first (is_mark m) s) ≡ position_or_len (is_mark m) s
 length_before m s h = length-take-le (position_or_len (is_mark m) s) s (omega arith)
 
+-- the first mark stands within a text or behind it
+pub mark_within : (m : ℕ) (s : List ℕ) → position_or_len (is_mark m) s ≤ length s
+mark_within m [] = omega arith
+mark_within m (b ∷ bs) =
+    elim (eqb b m) as (λ t. cond (not t) (1 + position_or_len (is_mark m) bs) 0 ≤ suc (length bs)) [
+      | true ↦ omega arith
+      | false ↦ let later = mark_within m bs in omega arith
+    ]
+
+-- the first piece ends where the first mark stands
+pub piece_ends : (m : ℕ) (s text : List ℕ) → text ≡ before_first (is_mark m) s → length text ≡ position_or_len (is_mark m) s
+piece_ends m s text e = ap length e ∙ length-take-le (position_or_len (is_mark m) s) s (mark_within m s)
+
+-- what stands behind the first mark, by where that stands
+pub behind_mark : (m : ℕ) (s : List ℕ) (end : ℕ) → end ≡ position_or_len (is_mark m) s → take (length s - (end + 1)) (drop (end + 1) s) ≡ after_first (is_mark m) s
+behind_mark m s end e =
+    take_all (length s - (end + 1)) (drop (end + 1) s) (let l = length-drop (end + 1) s in omega arith)
+    ∙ ap (λ (k : ℕ). drop (k + 1) s) e
+
 length_onto_first : (b : ℕ) (ps : List (List ℕ)) (n : ℕ) → length ps ≡ n + 1 → length (onto_first b ps) ≡ n + 1
 length_onto_first b [] n h = absurd (omega arith)
 length_onto_first b (p ∷ ps) n h = h

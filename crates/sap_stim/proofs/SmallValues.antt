@@ -1,13 +1,13 @@
 -- A field whose digits were read in one look.
-use Rattle.std.proofs.Common.{◌≡◌, ℕ, zero, suc, ◌+◌, ◌-◌, ◌*◌, ◌<◌, ◌≤◌, ◌^◌, Bool, true, false, not, cond, eqb, Some, Result, Ok, Err, List, [], ◌∷◌, length, get_or, take, drop, sym, ap, ap₂, ◌∙◌, arith}
+use Rattle.std.proofs.Common.{◌≡◌, ℕ, zero, suc, ◌+◌, ◌-◌, ◌*◌, ◌<◌, ◌≤◌, ◌^◌, Bool, true, false, not, cond, eqb, Some, Result, Ok, Err, List, [], ◌∷◌, length, get_or, take, drop, refl, sym, ap, ap₂, ◌∙◌, arith}
 use Rattle.std.specs.Prelude.{nat_lt}
 use Rattle.std.specs.Char.{digit_value, is_ascii_digit}
-use Rattle.std.specs.List.{list_all, position_or_len}
+use Rattle.std.specs.List.{before_first, list_all, position_or_len}
 use Rattle.std.specs.Str.Parse.{digits_value}
 use Rattle.std.proofs.lemmas.Bool.{and_parts, and_from, le-leb, leb-true}
 use Rattle.std.proofs.lemmas.Bool.Decides.{nat_tests}
 use Rattle.std.proofs.lemmas.Int.Digits.{digits_value_more}
-use Rattle.std.proofs.lemmas.List.{take_all, length-take-le, length-drop}
+use Rattle.std.proofs.lemmas.List.{drop-take, get_or-take, length-drop, length-take-le, take-take}
 use Rattle.std.proofs.lemmas.List.Folds.{list_all_more}
 use borrow.Author.Tests.{eq-eqb, ne_eqb}
 use Rattle.sap_lattice.specs.Levels.{Levels, level_named}
@@ -15,7 +15,8 @@ use Rattle.sap_meaning.specs.Cycle.{Tagged as Given}
 use Rattle.sap_stim.specs.declared.fault.StimCode.{StimCode}
 use Rattle.sap_stim.specs.declared.fault.StimCode.TheVariants.{S1, S2}
 use Rattle.sap_stim.specs.Line.{and_then, is_value, value_of, with_level, tagged_of}
-use Rattle.sap_stim.proofs.Pieces.{is_mark}
+use Rattle.sap_stim.proofs.Fronts.{ends_behind}
+use Rattle.sap_stim.proofs.Pieces.{is_mark, piece_ends}
 
 -- where a byte lies that is a digit
 digit_bounds : (b : ℕ) → is_ascii_digit b ≡ true → (48 ≤ b) × (b ≤ 57)
@@ -63,16 +64,33 @@ value_small width number s is e small =
 abbrev parts_of : Levels → (width : ℕ) → List ℕ → List ℕ → Result Given StimCode
 parts_of ls width digits name = cond (eqb (length name) 0) (Err S1) (and_then (value_of width digits) (λ value. with_level value (level_named ls.names name)))
 
-pub tagged_small : (ls : Levels) (width : ℕ) (s : List ℕ) (k number level : ℕ) → 0 < k → k ≤ 20 → k + 1 < length s → list_all is_ascii_digit (take k s) ≡ true → get_or s k 0 ≡ 64
-    → number ≡ digits_value 10 (take k s) → nat_lt number (2 ^ width) ≡ true → Some level ≡ level_named ls.names (take (length s - (k + 1)) (drop (k + 1) s))
+tagged_small : (ls : Levels) (width : ℕ) (s : List ℕ) (k number level : ℕ) → 0 < k → k ≤ 20 → k + 1 < length s → list_all is_ascii_digit (take k s) ≡ true → get_or s k 0 ≡ 64
+    → number ≡ digits_value 10 (take k s) → nat_lt number (2 ^ width) ≡ true → Some level ≡ level_named ls.names (drop (k + 1) s)
     → Ok (record { number = number; level = level }) ≡ tagged_of ls width s
 tagged_small ls width s k number level some few more all mark is small named =
     let place : position_or_len (is_mark 64) s ≡ k = at_mark s k (omega arith) all mark in
-    let behind : take (length s - (k + 1)) (drop (k + 1) s) ≡ drop (k + 1) s = take_all (length s - (k + 1)) (drop (k + 1) s) (let l = length-drop (k + 1) s in omega arith) in
     let size : length (take k s) ≡ k = length-take-le k s (omega arith) in
     let value : value_of width (take k s) ≡ Ok number = value_small width number (take k s) (some_digits (take k s) (omega (arith, size)) (omega (arith, size)) all) is small in
     let filled : eqb (length (drop (k + 1) s)) 0 ≡ false = ne_eqb (length (drop (k + 1) s)) 0 (λ none. let l = length-drop (k + 1) s in omega (arith, none)) in
     sym (ap₂ (parts_of ls width) (ap (λ (j : ℕ). take j s) place) (ap (λ (j : ℕ). drop (j + 1) s) place)
     ∙ ap (λ (t : Bool). cond t (Err S1) (and_then (value_of width (take k s)) (λ value. with_level value (level_named ls.names (drop (k + 1) s))))) filled
     ∙ ap (λ (r : Result ℕ StimCode). and_then r (λ value. with_level value (level_named ls.names (drop (k + 1) s)))) value
-    ∙ ap (with_level number) (sym (named ∙ ap (level_named ls.names) behind)))
+    ∙ ap (with_level number) (sym named))
+
+-- the field at the front of a text, whose level's name is so long
+pub tagged_first : (ls : Levels) (width : ℕ) (s : List ℕ) (k number level p : ℕ) → 0 < k → k ≤ 20 → k < length s → list_all is_ascii_digit (take k s) ≡ true → get_or s k 0 ≡ 64
+    → number ≡ digits_value 10 (take k s) → nat_lt number (2 ^ width) ≡ true → p ≡ position_or_len (is_mark 32) (drop (k + 1) s) → 0 < p
+    → Some level ≡ level_named ls.names (before_first (is_mark 32) (drop (k + 1) s))
+    → (k + 1 + p ≡ position_or_len (is_mark 32) s) × (Ok (record { number = number; level = level }) ≡ tagged_of ls width (before_first (is_mark 32) s))
+tagged_first ls width s k number level p some few more all mark is small ends named_some named =
+    let end : k + 1 + p ≡ position_or_len (is_mark 32) s = omega (arith, ends_behind s k more all mark, ends) in
+    let text : List ℕ = take (k + 1 + p) s in
+    let whole : text ≡ before_first (is_mark 32) s = ap (λ (j : ℕ). take j s) end in
+    let size : length text ≡ k + 1 + p = ap length whole ∙ piece_ends 32 s (before_first (is_mark 32) s) refl ∙ sym end in
+    let front : take k text ≡ take k s = take-take k (k + 1 + p) s (omega arith) in
+    let name : before_first (is_mark 32) (drop (k + 1) s) ≡ drop (k + 1) text = ap (λ (j : ℕ). take j (drop (k + 1) s)) (sym ends) ∙ sym (drop-take (k + 1) p s) in (
+      end,
+      tagged_small ls width text k number level some few (omega (arith, size)) (ap (list_all is_ascii_digit) front ∙ all) (get_or-take (k + 1 + p) s k 0 (omega arith) ∙ mark)
+          (is ∙ ap (digits_value 10) (sym front)) small (named ∙ ap (level_named ls.names) name)
+          ∙ ap (tagged_of ls width) whole,
+    )

@@ -4,9 +4,9 @@ ghost use Rattle.std.specs.Prelude.{◌≡◌, ◌++◌, [], ◌∷◌, All, IfS
 ghost use Rattle.sap_text.specs.Lines.{split_at};
 ghost use Rattle.sap_stim.specs.Line.{IsSized, fields_of, inputs_of};
 
+use crate::ahead::field_ahead;
 use crate::field::Field;
-use crate::text::{cut, find, is_starred};
-use crate::value::read_field;
+use crate::text::{find, is_starred};
 use sap_lattice::lattice::Lattice;
 use sap_stream::inputs::Tagged;
 
@@ -29,18 +29,15 @@ pub(crate) fn read_along<'a>(
     }
     let mut rest = line;
     for k in 0..fields.len() {
-        let (text, behind) = cut(rest, b' ');
-        match read_field(text, fields[k], lattice) {
-            Ok(input) => inputs[k] = input,
-            Err(_) => return None,
-        }
-        if rest.len() <= text.len() {
-            if k + 1 < fields.len() || is_starred(text) {
+        let (input, end) = field_ahead(rest, fields[k], lattice, inputs[k].level())?;
+        inputs[k] = input;
+        if end >= rest.len() {
+            if k + 1 < fields.len() || is_starred(rest) {
                 return None;
             }
-            return Some(text);
+            return Some(rest);
         }
-        rest = behind;
+        rest = &rest[end + 1..];
     }
     if !is_starred(rest) {
         return None;

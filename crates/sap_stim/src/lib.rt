@@ -5,6 +5,7 @@
 //! `labelled_row_into` does so with the labels of registers and texts of levels made beforehand.
 #![tactic(auto)]
 
+mod ahead;
 mod along;
 mod count;
 pub mod fault;

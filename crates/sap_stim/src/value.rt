@@ -1,6 +1,6 @@
 //! Values and levels of a field.
 
-ghost use Rattle.std.specs.Prelude.{◌≡◌, ◌≤◌, ◌^◌, IfSome, Ok, length, nat_lt, take, true};
+ghost use Rattle.std.specs.Prelude.{◌≡◌, ◌≤◌, ◌^◌, nat_lt};
 ghost use Rattle.std.specs.Char.{is_ascii_digit};
 ghost use Rattle.std.specs.List.{list_all};
 ghost use Rattle.std.specs.Str.Parse.{digits_value};
@@ -16,9 +16,6 @@ use sap_lattice::level::Level;
 use sap_stream::inputs::Tagged;
 use sap_text::scan::number;
 
-/// A number below this, a tenth of 2^64, has room for a further digit.
-const LARGE: u64 = 1_844_674_407_370_955_161;
-
 pub(crate) fn are_digits(text: &[u8]) -> bool
     ensures { result ≡ list_all is_ascii_digit text.now }
 {
@@ -26,7 +23,7 @@ pub(crate) fn are_digits(text: &[u8]) -> bool
 }
 
 /// Whether a number has at most `width` bits.
-fn is_within(value: u64, width: u32) -> bool
+pub(crate) fn is_within(value: u64, width: u32) -> bool
     requires wide { 1 ≤ width }
     requires narrow { width ≤ 64 }
     ensures { result ≡ nat_lt value (2 ^ width) }
@@ -49,42 +46,10 @@ fn read_value(text: &[u8], width: u32) -> Result<u64, StimCode>
 }
 
 /// The level of this name.
-fn find_level(lattice: &Lattice, name: &[u8]) -> Option<Level>
+pub(crate) fn find_level(lattice: &Lattice, name: &[u8]) -> Option<Level>
     ensures { result ≡ level_named lattice.now.names name.now }
 {
     lattice.level_named(name)
-}
-
-/// The number that digits at the front of a text spell, and how many they are: all, where the number is small.
-fn leading_number(text: &[u8]) -> (u64, usize)
-    ensures within { result.1 ≤ length text.now }
-    ensures digits { list_all is_ascii_digit (take result.1 text.now) ≡ true }
-    ensures number { result.0 ≡ digits_value 10 (take result.1 text.now) }
-{
-    let mut number: u64 = 0;
-    let mut count = 0;
-    while count < text.len() && number < LARGE && text[count].is_ascii_digit() {
-        number = number * 10 + u64::from(text[count] - b'0');
-        count += 1;
-    }
-    (number, count)
-}
-
-/// What a field of a value and a level gives, in one look at its digits, where the value is small and nothing is wrong.
-fn read_small(text: &[u8], width: u32, lattice: &Lattice) -> Option<Tagged>
-    requires wide { 1 ≤ width }
-    requires narrow { width ≤ 64 }
-    ensures { IfSome result (λ tagged. Ok tagged ≡ tagged_of lattice.now width text.now) }
-{
-    let (number, count) = leading_number(text);
-    if count < 1 || count > MOST_DIGITS || !is_within(number, width) {
-        return None;
-    }
-    if count + 1 >= text.len() || text[count] != b'@' {
-        return None;
-    }
-    let level = find_level(lattice, &text[count + 1..])?;
-    Some(Tagged::new(number, level))
 }
 
 fn read_tagged(text: &[u8], width: u32, lattice: &Lattice) -> Result<Tagged, StimCode>
@@ -92,9 +57,6 @@ fn read_tagged(text: &[u8], width: u32, lattice: &Lattice) -> Result<Tagged, Sti
     requires narrow { width ≤ 64 }
     ensures { result ≡ tagged_of lattice.now width text.now }
 {
-    if let Some(tagged) = read_small(text, width, lattice) {
-        return Ok(tagged);
-    }
     let (digits, name) = cut(text, b'@');
     if name.is_empty() {
         return Err(StimCode::S1);

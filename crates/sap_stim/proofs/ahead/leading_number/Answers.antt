@@ -1,7 +1,7 @@
 use Rattle.std.proofs.Common.{◌≡◌, ◌+◌, ◌*◌, ℕ, true, sym, ap, ◌∙◌, slice_index_or, arith}
 use Rattle.std.specs.Char.{is_ascii_digit}
 use Rattle.sap_stim.proofs.SmallValues.{digit_more, digits_more}
-use Rattle.sap_stim.proofs.value.leading_number.Goals as goal
+use Rattle.sap_stim.proofs.ahead.leading_number.Goals as goal
 
 pub loop-count-preserved : goal.loop-count-preserved
 loop-count-preserved c =

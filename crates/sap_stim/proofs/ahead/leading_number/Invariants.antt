@@ -2,7 +2,7 @@ use Rattle.std.proofs.Common.{◌≡◌, ◌-◌, ◌≤◌, length, take, true}
 use Rattle.std.specs.Char.{is_ascii_digit}
 use Rattle.std.specs.List.{list_all}
 use Rattle.std.specs.Str.Parse.{digits_value}
-use Rattle.sap_stim.proofs.value.leading_number.Given as goal
+use Rattle.sap_stim.proofs.ahead.leading_number.Given as goal
 
 -- with the digits so far
 abbrev pub invariant-loop-count : goal.invariant-loop-count

@@ -1,0 +1,111 @@
+//! The field at the front of a text, in one look.
+
+ghost use Rattle.std.specs.Prelude.{◌≡◌, ◌==◌, ◌≤◌, IfSome, IsTrue, Ok, Some, length, take, true};
+ghost use Rattle.std.specs.Char.{is_ascii_digit};
+ghost use Rattle.std.specs.List.{before_first, list_all, position_or_len};
+ghost use Rattle.std.specs.Str.Parse.{digits_value};
+ghost use Rattle.sap_lattice.specs.Levels.{level_named};
+ghost use Rattle.sap_text.specs.Names.{is_word};
+ghost use Rattle.sap_stim.specs.Line.{IsSized, field_of, tagged_of};
+
+use crate::MOST_DIGITS;
+use crate::field::Field;
+use crate::text::cut;
+use crate::value::{find_level, is_within, read_field};
+use sap_lattice::lattice::Lattice;
+use sap_lattice::level::Level;
+use sap_stream::inputs::Tagged;
+
+/// A number below this, a tenth of 2^64, has room for a further digit.
+const LARGE: u64 = 1_844_674_407_370_955_161;
+
+/// The number that digits at the front of a text spell, and how many they are: all, where the number is small.
+fn leading_number(text: &[u8]) -> (u64, usize)
+    ensures within { result.1 ≤ length text.now }
+    ensures digits { list_all is_ascii_digit (take result.1 text.now) ≡ true }
+    ensures number { result.0 ≡ digits_value 10 (take result.1 text.now) }
+{
+    let mut number: u64 = 0;
+    let mut count = 0;
+    while count < text.len() && number < LARGE && text[count].is_ascii_digit() {
+        number = number * 10 + u64::from(text[count] - b'0');
+        count += 1;
+    }
+    (number, count)
+}
+
+/// Whether a text begins with a word, and a space or its end stands behind that.
+fn begins_with(text: &[u8], word: &[u8]) -> bool
+    requires { is_word word.now ≡ true }
+    ensures end { IsTrue result → length word.now ≡ position_or_len (λ b. b == 32) text.now }
+    ensures word { IsTrue result → word.now ≡ before_first (λ b. b == 32) text.now }
+{
+    if text.len() < word.len() || &text[..word.len()] != word {
+        return false;
+    }
+    text.len() == word.len() || text[word.len()] == b' '
+}
+
+/// The level whose name stands at the front of a text, before a space or the end. The level `last` is tried first.
+fn level_ahead(text: &[u8], lattice: &Lattice, last: Level) -> Option<(Level, usize)>
+    ensures end { IfSome result (λ r. r.1 ≡ position_or_len (λ b. b == 32) text.now) }
+    ensures within { IfSome result (λ r. r.1 ≤ length text.now) }
+    ensures level { IfSome result (λ r. Some r.0 ≡ level_named lattice.now.names (before_first (λ b. b == 32) text.now)) }
+{
+    lattice.lawful();
+    if u32::from(last.place()) < lattice.count() {
+        let name = lattice.name(last).as_bytes();
+        if begins_with(text, name) {
+            return Some((last, name.len()));
+        }
+    }
+    let (name, _) = cut(text, b' ');
+    let level = find_level(lattice, name)?;
+    Some((level, name.len()))
+}
+
+/// What the field of a value and a level at the front of a text gives, and where it ends, where the value is small and
+/// nothing is wrong.
+fn tagged_ahead(text: &[u8], width: u32, lattice: &Lattice, last: Level) -> Option<(Tagged, usize)>
+    requires wide { 1 ≤ width }
+    requires narrow { width ≤ 64 }
+    ensures end { IfSome result (λ r. r.1 ≡ position_or_len (λ b. b == 32) text.now) }
+    ensures given { IfSome result (λ r. Ok r.0 ≡ tagged_of lattice.now width (before_first (λ b. b == 32) text.now)) }
+{
+    let (number, count) = leading_number(text);
+    if count < 1 || count > MOST_DIGITS || !is_within(number, width) {
+        return None;
+    }
+    if count >= text.len() || text[count] != b'@' {
+        return None;
+    }
+    let (level, size) = level_ahead(&text[count + 1..], lattice, last)?;
+    if size < 1 {
+        return None;
+    }
+    Some((Tagged::new(number, level), count + 1 + size))
+}
+
+/// What the field at the front of a text gives, and where it ends, where nothing is wrong with it. The level `last` is
+/// tried first.
+pub fn field_ahead(
+    text: &[u8],
+    field: Field,
+    lattice: &Lattice,
+    last: Level,
+) -> Option<(Tagged, usize)>
+    requires { IsSized field }
+    ensures end { IfSome result (λ r. r.1 ≡ position_or_len (λ b. b == 32) text.now) }
+    ensures given { IfSome result (λ r. Ok r.0 ≡ field_of lattice.now field (before_first (λ b. b == 32) text.now)) }
+{
+    if let Field::Tagged(width) = field {
+        if let Some(found) = tagged_ahead(text, width, lattice, last) {
+            return Some(found);
+        }
+    }
+    let (text, _) = cut(text, b' ');
+    match read_field(text, field, lattice) {
+        Ok(input) => Some((input, text.len())),
+        Err(_) => None,
+    }
+}
