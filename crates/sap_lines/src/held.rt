@@ -1,6 +1,6 @@
 //! Bytes that were read and aren't taken yet.
 
-ghost use Rattle.std.specs.Prelude.{◌≡◌, ◌==◌, ◌+◌, ◌++◌, ◌≤◌, [], IfOk, drop, length, position, vec_capacity};
+ghost use Rattle.std.specs.Prelude.{◌≡◌, ◌≢◌, ◌==◌, ◌+◌, ◌++◌, ◌<◌, ◌≤◌, [], ℕ, IfOk, IsTrue, drop, length, slice_index_or, vec_capacity};
 ghost use Rattle.std.specs.List.{before_first, position_or_len};
 ghost use Rattle.sap_lines.specs.declared.TheConstants.{MOST_HELD};
 
@@ -30,20 +30,43 @@ impl Model for Held {
         × (h.line ≡ position_or_len (λ b. b == 10) (drop h.start h.bytes.items)) };
 }
 
-fn find_end(bytes: &[u8]) -> Option<usize>
-    ensures { result ≡ position (λ b. b == 10) bytes.now }
+// Whether none of the eight bytes from a place on is an LF.
+#[inline(always)]
+fn eight_go_on(bytes: &[u8], at: usize) -> bool
+    requires { at + 8 ≤ length bytes.now }
+    ensures { IsTrue result → (k : ℕ) → k < 8 → slice_index_or bytes.now (at + k) 0 ≢ 10 }
 {
-    bytes.iter().position(|b| *b == b'\n')
+    bytes[at] != b'\n'
+        && bytes[at + 1] != b'\n'
+        && bytes[at + 2] != b'\n'
+        && bytes[at + 3] != b'\n'
+        && bytes[at + 4] != b'\n'
+        && bytes[at + 5] != b'\n'
+        && bytes[at + 6] != b'\n'
+        && bytes[at + 7] != b'\n'
+}
+
+// How many bytes stand before any LF, by eights.
+fn eights_on(bytes: &[u8]) -> usize
+    ensures within { result ≤ length bytes.now }
+    ensures none { (k : ℕ) → k < result → slice_index_or bytes.now k 0 ≢ 10 }
+{
+    let mut at = 0;
+    while bytes.len() - at >= 8 && eight_go_on(bytes, at) {
+        at += 8;
+    }
+    at
 }
 
 // How many bytes stand before the first LF, or all where there is none.
 fn line_len(bytes: &[u8]) -> usize
     ensures { result ≡ position_or_len (λ b. b == 10) bytes.now }
 {
-    match find_end(bytes) {
-        Some(len) => len,
-        None => bytes.len(),
+    let mut at = eights_on(bytes);
+    while at < bytes.len() && bytes[at] != b'\n' {
+        at += 1;
     }
+    at
 }
 
 // Takes the bytes before a place away.

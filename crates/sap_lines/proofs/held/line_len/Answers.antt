@@ -1,8 +1,10 @@
-use Rattle.sap_lines.proofs.Ended.{end_found, no_end}
+use Rattle.std.proofs.Common.{arith}
+use Rattle.sap_lines.proofs.Ended.{ends_at}
 use Rattle.sap_lines.proofs.held.line_len.Goals as goal
 
-pub returns-in-Some : goal.returns-in-Some
-returns-in-Some c = end_found c.args.bytes.now c.in-Some.len c.in-Some.ensures
+pub returns-else-bytes-at-ne10 : goal.returns-else-bytes-at-ne10
+returns-else-bytes-at-ne10 c = ends_at c.args.bytes.now c.loop-at.at c.loop-at.invariant.within c.loop-at.invariant.none (λ h. c.if-bytes-at-ne10.false)
 
-pub returns-in-None : goal.returns-in-None
-returns-in-None c = no_end c.args.bytes.now c.in-None.ensures
+pub returns-after-loop-at : goal.returns-after-loop-at
+returns-after-loop-at c =
+    ends_at c.args.bytes.now c.loop-at.at c.loop-at.invariant.within c.loop-at.invariant.none (λ h. absurd (omega (arith, h, c.loop-at-test.false)))
