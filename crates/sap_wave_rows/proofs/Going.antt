@@ -1,5 +1,6 @@
 -- Rows, a block at a time.
-use Rattle.std.proofs.Common.{◌≡◌, ℕ, zero, suc, ◌+◌, ◌<◌, ◌≤◌, List, [], ◌∷◌, ◌++◌, length, get_or, take, drop, map, refl, ap, ◌∙◌, arith}
+use Rattle.std.proofs.Common.{◌≡◌, ℕ, zero, suc, ◌+◌, ◌<◌, ◌≤◌, List, [], ◌∷◌, ◌++◌, length, get_or, take, drop, map, refl, sym, ap, ◌∙◌, arith}
+use Rattle.std.proofs.lemmas.List.{at_drop_all, at_drop_more}
 use Rattle.sap_lattice.specs.Levels.{Levels}
 use Rattle.sap_maps.specs.Maps.{Name}
 use Rattle.sap_net.specs.PortNames.{value_name, tag_name}
@@ -10,9 +11,9 @@ use Rattle.sap_sim.proofs.Seen.{map_twice, row_is}
 use Rattle.sap_sim.proofs.Told.{mapped_push}
 use Rattle.sap_sim.specs.Numbers.{place}
 use Rattle.sap_wave.specs.declared.variable.Variable.{Variable}
-use Rattle.sap_wave.specs.Waves.{names_of}
+use Rattle.sap_wave.specs.Waves.{Wave, names_of}
 use Rattle.sap_wave_rows.specs.Places.{value_places, tag_places, numbers_at}
-use Rattle.sap_wave_rows.specs.Rows.{by_name}
+use Rattle.sap_wave_rows.specs.Rows.{by_name, rows_of_blocks, shown_variables}
 
 -- the row of a block, by the numbers at the places of what it shows
 pub row_at : (ls : Levels) (cycle : ℕ) (vs : List Variable) (numbers : List ℕ) (xs names : List Name) (value_at tag_at values tags : List ℕ) → names ≡ xs
@@ -48,6 +49,20 @@ rows_more ls vs xs blocks k numbers l h e =
     ap (λ (bs : List (List ℕ)). rows_from ls xs 1 (map (by_name vs) bs)) (behind_more blocks k numbers l h e)
     ∙ mapped_push (row_of ls xs) (by_name vs) 1 (drop 1 (take k blocks)) numbers
     ∙ ap (λ (j : ℕ). rows_from ls xs 1 (map (by_name vs) (drop 1 (take k blocks))) ++ row_of ls xs j (by_name vs numbers)) (behind_count blocks k l h)
+
+-- the rows from a block on begin with its row
+pub first_row : (ls : Levels) (w : Wave) (xs : List Name) (k : ℕ) (numbers : List ℕ) → xs ≡ shown_variables ls w.variables → k < length w.blocks
+    → numbers ≡ get_or w.blocks k numbers → rows_of_blocks ls w k ≡ row_of ls xs k (by_name w.variables numbers) ++ rows_of_blocks ls w (k + 1)
+first_row ls w xs k numbers names h e =
+    let shown = shown_variables ls w.variables in
+    let rest = rows_of_blocks ls w (k + 1) in
+    at_drop_more (λ (bs : List (List ℕ)). rows_from ls shown k (map (by_name w.variables) bs)) w.blocks k numbers h
+    ∙ ap (λ (ns : List ℕ). row_of ls shown k (by_name w.variables ns) ++ rest) (sym e)
+    ∙ ap (λ (ys : List Name). row_of ls ys k (by_name w.variables numbers) ++ rest) (sym names)
+
+-- and none is behind the last
+pub no_row : (ls : Levels) (w : Wave) (k : ℕ) → length w.blocks ≤ k → rows_of_blocks ls w k ≡ []
+no_row ls w k l = at_drop_all (λ (bs : List (List ℕ)). rows_from ls (shown_variables ls w.variables) k (map (by_name w.variables) bs)) w.blocks k l
 
 -- more room holds any row too
 pub more_room : (ls : Levels) (names : List Name) (room more : ℕ) → HoldsRows ls names room → room ≤ more → HoldsRows ls names more

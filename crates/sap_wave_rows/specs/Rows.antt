@@ -22,6 +22,10 @@ shown_variables ls xs = shown_among (tag_width ls) (widths_of xs) (names_of xs)
 abbrev pub by_name : List Variable → (numbers : List ℕ) → Valuation
 by_name xs numbers = record { value = λ x. get_or numbers (place (names_of xs) x) 0; cell = λ x i. 0 }
 
--- block N has the row of cycle N, as rows of cycles are
+-- block N has the row of cycle N, as rows of cycles are: the rows from a block on
+abbrev pub rows_of_blocks : Levels → Wave → (first : ℕ) → List ℕ
+rows_of_blocks ls w first = rows_from ls (shown_variables ls w.variables) first (map (by_name w.variables) (drop first w.blocks))
+
+-- and all rows
 abbrev pub rows_of_wave : Levels → Wave → List ℕ
-rows_of_wave ls w = rows_from ls (shown_variables ls w.variables) 1 (map (by_name w.variables) (drop 1 w.blocks))
+rows_of_wave ls w = rows_of_blocks ls w 1

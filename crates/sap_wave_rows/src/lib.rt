@@ -3,12 +3,14 @@
 //! Each law stands on an empty function, whose clauses a caller in another crate has by calling it.
 #![tactic(auto)]
 
+mod block_rows;
 pub mod rows;
 mod shown;
 
 ghost use Rattle.sap_wave_rows.specs.Examples as examples;
 ghost use Rattle.sap_wave_rows.specs.Laws.{RowsOfDumps, RowsOfRuns, RowsOfStimuli};
 
+pub use block_rows::BlockRows;
 pub use rows::wave_rows;
 use sap_wave::{one_wave_or_fault, runs_read_back};
 

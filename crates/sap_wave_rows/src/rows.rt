@@ -28,8 +28,16 @@ pub struct Held {
     pub row: RowBuf,
 }
 
+fn zeros(alloc: Global, count: usize) -> Result<Vec<u64>, AllocError>
+    ensures { IfOk result (λ zeros. length zeros.items ≡ count) }
+{
+    let mut zeros = Vec::new(alloc);
+    zeros.resize(count, 0)?;
+    Ok(zeros)
+}
+
 /// What the rows of the registers of these names are made with.
-fn held_for(alloc: Global, lattice: &Lattice, names: &[Name]) -> Result<Held, AllocError>
+pub(crate) fn held_for(alloc: Global, lattice: &Lattice, names: &[Name]) -> Result<Held, AllocError>
     ensures { IfOk result (IsHeld lattice.now names.now) }
 {
     let Some(room) = row_room(names, lattice) else {
@@ -38,23 +46,21 @@ fn held_for(alloc: Global, lattice: &Lattice, names: &[Name]) -> Result<Held, Al
     Ok(Held {
         labels: labels_of(alloc, names)?,
         levels: level_texts(alloc, lattice)?,
-        values: Vec::new(alloc),
-        tags: Vec::new(alloc),
+        values: zeros(alloc, names.len())?,
+        tags: zeros(alloc, names.len())?,
         array: row_array(alloc, room)?,
         row: RowBuf::new(alloc, room)?,
     })
 }
 
-/// Takes the numbers at places; 0 where there is none.
-fn take_numbers(seen: &mut Vec<u64>, numbers: &[u64], places: &[usize]) -> Result<(), AllocError>
-    ensures { OnOk result (seen.new.items ≡ numbers_at numbers.now places.now) }
+/// Takes the numbers at places, in place of others; 0 where there is none.
+fn take_numbers(seen: &mut [u64], numbers: &[u64], places: &[usize])
+    requires { length seen.old ≡ length places.now }
+    ensures { seen.new ≡ numbers_at numbers.now places.now }
 {
-    seen.clear();
-    for place in places {
-        let number = numbers.get(*place).copied().unwrap_or(0);
-        seen.push(number)?;
+    for k in 0..places.len() {
+        seen[k] = numbers.get(places[k]).copied().unwrap_or(0);
     }
-    Ok(())
 }
 
 /// Writes the row of a cycle in place of what stands in a buffer that has room for any row.
@@ -79,6 +85,35 @@ fn write_row(
     labelled_row_into(row, array, cycle, labels, values, tags, levels, lattice);
 }
 
+/// Makes the row of a block, in place of the one that is held. It takes no memory.
+pub(crate) fn make_row(
+    held: &mut Held,
+    cycle: u64,
+    numbers: &[u64],
+    shown: &Shown,
+    lattice: &Lattice,
+)
+    requires held { IsHeld lattice.now shown.now.names.items held.old }
+    requires values { length shown.now.values.items ≡ length shown.now.names.items }
+    requires tags { length shown.now.tags.items ≡ length shown.now.names.items }
+    ensures row { (vs : List OfWave) → shown.now.values.items ≡ value_places vs shown.now.names.items → shown.now.tags.items ≡ tag_places vs shown.now.names.items
+        → held.new.row.bytes ≡ row_of lattice.now shown.now.names.items cycle (by_name vs numbers.now) }
+    ensures held { IsHeld lattice.now shown.now.names.items held.new }
+{
+    take_numbers(&mut held.values, numbers, &shown.values);
+    take_numbers(&mut held.tags, numbers, &shown.tags);
+    write_row(
+        &mut held.row,
+        &mut held.array,
+        cycle,
+        &held.labels,
+        &held.values,
+        &held.tags,
+        &held.levels,
+        lattice,
+    );
+}
+
 /// Appends the row of a block.
 fn push_block(
     out: &mut Vec<u8>,
@@ -95,18 +130,7 @@ fn push_block(
         → out.new.items ≡ out.old.items ++ row_of lattice.now shown.now.names.items cycle (by_name vs numbers.now)) }
     ensures held { OnOk result (IsHeld lattice.now shown.now.names.items held.new) }
 {
-    take_numbers(&mut held.values, numbers, &shown.values)?;
-    take_numbers(&mut held.tags, numbers, &shown.tags)?;
-    write_row(
-        &mut held.row,
-        &mut held.array,
-        cycle,
-        &held.labels,
-        &held.values,
-        &held.tags,
-        &held.levels,
-        lattice,
-    );
+    make_row(held, cycle, numbers, shown, lattice);
     out.extend_from_slice(held.row.bytes())?;
     Ok(())
 }

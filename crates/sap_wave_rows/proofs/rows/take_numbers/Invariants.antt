@@ -2,5 +2,6 @@ use Rattle.std.proofs.Common.{◌≡◌, take}
 use Rattle.sap_wave_rows.specs.Places.{numbers_at}
 use Rattle.sap_wave_rows.proofs.rows.take_numbers.Given as goal
 
-abbrev pub invariant-loop-place : goal.invariant-loop-place
-invariant-loop-place l = l.seen.items ≡ numbers_at l.numbers (take l.place-index l.places)
+-- the numbers so far
+abbrev pub invariant-loop-k : goal.invariant-loop-k
+invariant-loop-k l = take l.k l.seen ≡ numbers_at l.numbers (take l.k l.places)
