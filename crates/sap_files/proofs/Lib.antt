@@ -11,6 +11,7 @@ pub mod TracesAlike
 pub mod ReportsAlike
 pub mod Lawful
 pub mod Ended
+pub mod Given
 pub mod PrintedEnds
 pub mod Fronts
 pub mod Reading

@@ -12,13 +12,14 @@ ghost use Rattle.sap_files.specs.Steps.{Ends, ending_of, seen};
 
 use crate::failure::Failure;
 use crate::files::{lattice_of_file, lines_of_file, module_of_file, wave_of_file};
-use crate::output::put;
-use sap_desk::{Desk, DeskError};
+use crate::output::put_pieces;
+use sap_desk::{Desk, DeskError, RowBuf};
 use sap_lattice::Lattice;
 use sap_net::netlist::Netlist;
+use sap_pieces::LARGE_BYTES;
 use sap_stim::stimulus_fits;
 use sap_stream::Stream;
-use sap_wave_rows::wave_rows;
+use sap_wave_rows::BlockRows;
 use sap_wave_run::{Recording, write_run};
 use std::alloc::Global;
 
@@ -78,7 +79,7 @@ pub fn wave<'a, D: Desk>(
     record(alloc, desk, &file.lattice, netlist, stimulus, out)
 }
 
-/// Writes the rows of a value change dump, over a lattice file.
+/// Writes the rows of a value change dump, over a lattice file, one after another. All memory is taken before the first is written.
 pub fn unwave<'a, D: Desk>(
     alloc: Global,
     desk: &mut D,
@@ -89,10 +90,7 @@ pub fn unwave<'a, D: Desk>(
 {
     let file = lattice_of_file(alloc, desk, lattice)?;
     let wave = wave_of_file(alloc, desk, dump)?;
-    let made = wave_rows(alloc, &file.lattice, &wave);
-    // The dump gives its memory back before its rows are written.
-    drop(wave);
-    drop(file);
-    let text = made?;
-    put(desk, &text)
+    let mut rows = BlockRows::new(alloc, &file.lattice, &wave)?;
+    let mut waiting = RowBuf::new(alloc, LARGE_BYTES)?;
+    put_pieces(desk, &mut rows, &mut waiting)
 }

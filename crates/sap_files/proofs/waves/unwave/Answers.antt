@@ -1,5 +1,6 @@
-use Rattle.std.proofs.Common.{◌≡◌, ◌∙◌}
-use Rattle.std.proofs.lemmas.Result.{IfOk-at_ok, err_from_is_err_and}
+use Rattle.std.proofs.Common.{ap, arith}
+use Rattle.std.proofs.lemmas.Result.{err_from_is_err_and}
+use Rattle.sap_desk.specs.Row.{Row}
 use Rattle.sap_wave_rows.specs.Rows.{rows_of_wave}
 use Rattle.sap_files.specs.Steps.{whole}
 use Rattle.sap_files.proofs.Ended.{gave, got, past, quiet_self, reading_ended, starved}
@@ -17,17 +18,32 @@ returns-in_err-wave g c =
     let p = err_from_is_err_and c.from_residual-in_err-wave.result c.from_residual-in_err-wave.ensures.1 in
     rw (p.1, p.2) (past (whole c.in_ok-file.file.lattice) c.in_ok-file.ensures.0 c.in_ok-file.ensures.1 (reading_ended c.in_err-wave.ensures))
 
-pub returns-in_err-text : goal.returns-in_err-text
-returns-in_err-text g c =
-    let p = err_from_is_err_and c.from_residual-in_err-text.result c.from_residual-in_err-text.ensures.1 in
+pub returns-in_err-rows : goal.returns-in_err-rows
+returns-in_err-rows g c =
+    let p = err_from_is_err_and c.from_residual-in_err-rows.result c.from_residual-in_err-rows.ensures.1 in
     rw (p.1, p.2)
     (past (whole c.in_ok-file.file.lattice) c.in_ok-file.ensures.0 c.in_ok-file.ensures.1 (got c.in_ok-wave.wave c.in_ok-wave.ensures (starved _ (quiet_self _))))
+
+pub returns-in_err-waiting : goal.returns-in_err-waiting
+returns-in_err-waiting g c =
+    let p = err_from_is_err_and c.from_residual-in_err-waiting.result c.from_residual-in_err-waiting.ensures.1 in
+    rw (p.1, p.2)
+    (past (whole c.in_ok-file.file.lattice) c.in_ok-file.ensures.0 c.in_ok-file.ensures.1 (got c.in_ok-wave.wave c.in_ok-wave.ensures (starved _ (quiet_self _))))
+
+pub put_pieces-requires-clause-stands : goal.put_pieces-requires-clause-stands
+put_pieces-requires-clause-stands g c = (rows_of_wave c.in_ok-file.file.lattice c.in_ok-wave.wave, c.in_ok-rows.ensures)
+
+pub put_pieces-requires-clause-waiting : goal.put_pieces-requires-clause-waiting
+put_pieces-requires-clause-waiting g c = ap (λ (b : Row). b.bytes) c.in_ok-waiting.ensures
+
+pub put_pieces-requires-clause-room : goal.put_pieces-requires-clause-room
+put_pieces-requires-clause-room g c = omega (arith, ap (λ (b : Row). b.room) c.in_ok-waiting.ensures)
 
 pub returns : goal.returns
 returns g c =
     let k = c.in_ok-file.file.lattice in
     let w = c.in_ok-wave.wave in
     let same = whole_same c.in_ok-file.file.bytes k c.in_ok-file.ensures.1 in
+    let text = rows_of_wave k w in
     past (whole k) c.in_ok-file.ensures.0 c.in_ok-file.ensures.1
-    (got w c.in_ok-wave.ensures
-    (gave c.in_ok-text.text (IfOk-at_ok (λ text. text ≡ rows_of_wave k w) c.in_ok-text.was c.wave_rows-made.ensures ∙ waves_in k (whole k) same w) c.put.ensures))
+    (got w c.in_ok-wave.ensures (gave text (waves_in k (whole k) same w) (c.put_pieces.ensures text c.in_ok-rows.ensures)))
