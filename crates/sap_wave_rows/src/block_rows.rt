@@ -1,8 +1,8 @@
 //! The rows of a wave, one after another.
 
-ghost use Rattle.std.specs.Prelude.{◌-◌, IfOk, length};
+ghost use Rattle.std.specs.Prelude.{IfOk};
 ghost use Rattle.sap_wave_rows.specs.Rows.{rows_of_wave};
-ghost use Rattle.sap_wave_rows.specs.ToCome.{IsToCome};
+ghost use Rattle.sap_wave_rows.specs.ToCome.{IsToCome, made_row, rows_left};
 
 use crate::rows::{Held, held_for, make_row};
 use crate::shown::{Shown, shown_of};
@@ -44,11 +44,11 @@ impl<'a> BlockRows<'a> {
 }
 
 impl Pieces for BlockRows<'_> {
-    ghost piece = { λ rows. rows.held.row.bytes };
+    ghost piece = { λ rows. made_row rows };
 
     ghost comes = { λ rows text. IsToCome rows text };
 
-    ghost left = { λ rows. length rows.wave.now.blocks - rows.next };
+    ghost left = { λ rows. rows_left rows };
 
     fn advance(&mut self) -> bool {
         if self.next >= self.wave.block_count() {
