@@ -1,5 +1,5 @@
 -- One pass behind another.
-use Rattle.std.proofs.Common.{◌≡◌, ℕ, List, [], ◌∷◌, map, None, sym, ap, ◌∙◌, subst, refl}
+use Rattle.std.proofs.Common.{◌≡◌, ℕ, List, [], ◌∷◌, ◌++◌, map, None, sym, ap, ap₂, ◌∙◌, subst, refl}
 use Rattle.std.specs.List.{AllByRecursion, AllZip}
 use Rattle.sap_lemmas.proofs.Everywhere.{all_of_map, map_of_all}
 use Rattle.sap_maps.specs.Maps.{Name, Valuation}
@@ -11,6 +11,9 @@ use Rattle.sap_net.specs.declared.parts.Memory.{Memory}
 use Rattle.sap_net.specs.IsNetlist.{width_of, IsNetlist}
 use Rattle.sap_net.specs.Runs.{AllFit, observed}
 use Rattle.sap_net.proofs.Exists.{run_exists}
+use Rattle.sap_net.specs.Names.{is_among}
+use Rattle.sap_share.specs.Sets.{AreSame}
+use Rattle.sap_trim.specs.Names.{lasting_names, port_names}
 use Rattle.sap_trim.specs.Alike.{DeclaresAlike, ShowsAlike, RunsAlike}
 
 joined : {X : Type 0} (f g h : Name → X) (xs : List Name) → AllByRecursion (λ x. f x ≡ g x) xs → AllByRecursion (λ x. g x ≡ h x) xs → AllByRecursion (λ x. f x ≡ h x) xs
@@ -45,6 +48,17 @@ registers_same a b d =
 memories_same : (a b : Net) → DeclaresAlike a b → map (λ m. m.name) b.memories ≡ map (λ m. m.name) a.memories
 memories_same a b d =
     sym (first_in b.memories) ∙ ap (λ (es : List (Name × (ℕ × (ℕ × ℕ)))). map (λ (e : Name × (ℕ × (ℕ × ℕ))). e.0) es) d.memories ∙ first_in a.memories
+
+-- the same names of ports, and the same that stay
+
+pub shown_same : (a b : Net) (xs : List Name) → DeclaresAlike a b → AreSame xs (port_names a) → AreSame xs (port_names b)
+shown_same a b xs d h n = h n ∙ ap (λ (ps : List Port). is_among n (map (λ p. p.name) ps)) (sym d.ports)
+
+pub lasting_same : (a b : Net) (xs : List Name) → DeclaresAlike a b → AreSame xs (lasting_names a) → AreSame xs (lasting_names b)
+lasting_same a b xs d h n =
+    let ports : port_names b ≡ port_names a = ap (λ (ps : List Port). map (λ p. p.name) ps) d.ports in
+    let edge = ap₂ (λ (rs ms : List Name). rs ++ ms) (registers_same a b d) (memories_same a b d) in
+    h n ∙ ap (is_among n) (sym (ap₂ (λ (ps rs : List Name). ps ++ rs) ports edge))
 
 pub declares_both : (a b c : Net) → DeclaresAlike a b → DeclaresAlike b c → DeclaresAlike a c
 declares_both a b c d e =

@@ -30,6 +30,22 @@ use sap_share::name_set::NameSet;
 use sap_share::table::Table;
 use std::alloc::{AllocError, Global};
 
+// The names that stay, and those of ports, of a netlist and of all that it becomes.
+#[derive(Drop)]
+struct Known {
+    lasting: NameSet,
+    shown: NameSet,
+}
+
+fn known_of(alloc: Global, netlist: &Netlist) -> Result<Known, AllocError>
+    ensures lasting { IfOk result (λ k. AreSame k.lasting (lasting_names netlist.now)) }
+    ensures shown { IfOk result (λ k. AreSame k.shown (port_names netlist.now)) }
+{
+    let lasting = names::lasting(alloc, netlist)?;
+    let shown = names::ports(alloc, netlist)?;
+    Ok(Known { lasting, shown })
+}
+
 // The wires that are made of those of a netlist, and what its names stand for over them.
 #[derive(Drop)]
 struct Made {
@@ -69,65 +85,51 @@ fn folded_wires(alloc: Global, netlist: &Netlist, lasting: &NameSet) -> Result<M
 }
 
 /// The netlist with right sides folded and shared.
-fn fold_wires(alloc: Global, netlist: &Netlist) -> Result<Netlist, AllocError>
+fn fold_wires(alloc: Global, netlist: &Netlist, known: &Known) -> Result<Netlist, AllocError>
+    requires lasting { AreSame known.now.lasting (lasting_names netlist.now) }
+    requires shown { AreSame known.now.shown (port_names netlist.now) }
     ensures declares { IfOk result (λ n. DeclaresAlike netlist.now n) }
     ensures same { IfOk result (λ n. RunsAlike netlist.now n) }
     ensures folded { IfOk result (λ n. IsFolded n) }
 {
-    let lasting = names::lasting(alloc, netlist)?;
-    let shown = names::ports(alloc, netlist)?;
-    let made = folded_wires(alloc, netlist, &lasting)?;
+    let made = folded_wires(alloc, netlist, &known.lasting)?;
     let Made { wires, stands } = made;
-    let parts = build(alloc, netlist, &lasting, &shown, &stands, wires)?;
+    let parts = build(alloc, netlist, &known.lasting, &known.shown, &stands, wires)?;
     Ok(Netlist::new(parts))
 }
 
-// The names of the ports of a netlist, and a mark for each of its wires, which those have that are needed.
-#[derive(Drop)]
-struct Needs {
-    shown: NameSet,
-    kept: Vec<bool>,
-}
-
-fn needs_of(alloc: Global, netlist: &Netlist) -> Result<Needs, AllocError>
-    ensures shown { IfOk result (λ s. AreSame s.shown (port_names netlist.now)) }
-    ensures kept { IfOk result (λ s. MarksNeeded netlist.now s.kept.items) }
-{
-    let shown = names::ports(alloc, netlist)?;
-    let kept = needed(alloc, netlist)?;
-    Ok(Needs { shown, kept })
-}
-
 // How many wires of a netlist are left at most.
-fn left_of(alloc: Global, netlist: &Netlist) -> Result<usize, AllocError>
+fn left_of(alloc: Global, netlist: &Netlist, known: &Known) -> Result<usize, AllocError>
+    requires { AreSame known.now.shown (port_names netlist.now) }
     ensures { IfOk result (λ k. k ≡ most_left netlist.now) }
 {
-    let needs = needs_of(alloc, netlist)?;
-    Ok(wires_left(netlist, &needs.shown, &needs.kept))
+    let kept = needed(alloc, netlist)?;
+    Ok(wires_left(netlist, &known.shown, &kept))
 }
 
 // How often a netlist is folded by what its wires say, at most.
 const ROUNDS: usize = 8;
 
-// A netlist with right sides folded and shared, and what it needs.
+// A netlist with right sides folded and shared, and a mark for each of its wires, which those have that are needed.
 #[derive(Drop)]
 struct Folded {
     netlist: Netlist,
-    needs: Needs,
+    kept: Vec<bool>,
 }
 
-fn folded_of(alloc: Global, netlist: &Netlist) -> Result<Folded, AllocError>
+fn folded_of(alloc: Global, netlist: &Netlist, known: &Known) -> Result<Folded, AllocError>
+    requires lasting { AreSame known.now.lasting (lasting_names netlist.now) }
+    requires shown { AreSame known.now.shown (port_names netlist.now) }
     ensures declares { IfOk result (λ f. DeclaresAlike netlist.now f.netlist) }
     ensures same { IfOk result (λ f. RunsAlike netlist.now f.netlist) }
     ensures folded { IfOk result (λ f. IsFolded f.netlist) }
-    ensures shown { IfOk result (λ f. AreSame f.needs.shown (port_names f.netlist)) }
-    ensures kept { IfOk result (λ f. MarksNeeded f.netlist f.needs.kept.items) }
+    ensures kept { IfOk result (λ f. MarksNeeded f.netlist f.kept.items) }
 {
-    let folded = fold_wires(alloc, netlist)?;
-    let needs = needs_of(alloc, &folded)?;
+    let folded = fold_wires(alloc, netlist, known)?;
+    let kept = needed(alloc, &folded)?;
     Ok(Folded {
         netlist: folded,
-        needs,
+        kept,
     })
 }
 
@@ -151,18 +153,23 @@ fn kept_wires(
 }
 
 /// The netlist without the wires that are not kept, the others folded each by itself and numbered in order.
-fn keep(alloc: Global, netlist: &Netlist, needs: Needs, walk: Walk) -> Result<Netlist, AllocError>
-    requires shown { AreSame needs.shown (port_names netlist.now) }
-    requires kept { MarksNeeded netlist.now needs.kept.items }
+fn keep(
+    alloc: Global,
+    netlist: &Netlist,
+    known: &Known,
+    kept: Vec<bool>,
+    walk: Walk,
+) -> Result<Netlist, AllocError>
+    requires lasting { AreSame known.now.lasting (lasting_names netlist.now) }
+    requires shown { AreSame known.now.shown (port_names netlist.now) }
+    requires kept { MarksNeeded netlist.now kept.items }
     requires begins { Begins netlist.now (state_of walk) }
     requires orderly { Orderly walk.wires.numbers walk.wires.list.items }
     ensures { IfOk result (λ n. Tidied netlist.now (state_of walk) n) }
 {
-    let Needs { shown, kept } = needs;
-    let lasting = names::lasting(alloc, netlist)?;
-    let made = kept_wires(alloc, netlist, &lasting, kept, walk)?;
+    let made = kept_wires(alloc, netlist, &known.lasting, kept, walk)?;
     let Made { wires, stands } = made;
-    let parts = build(alloc, netlist, &lasting, &shown, &stands, wires)?;
+    let parts = build(alloc, netlist, &known.lasting, &known.shown, &stands, wires)?;
     Ok(Netlist::new(parts))
 }
 
@@ -178,24 +185,37 @@ fn settled_wires(alloc: Global, netlist: &Netlist, lasting: &NameSet) -> Result<
 }
 
 /// The netlist with each right side folded by itself, and each register that keeps its start as that number.
-fn share(alloc: Global, netlist: Netlist) -> Result<Netlist, AllocError>
+fn share(alloc: Global, netlist: Netlist, known: &Known) -> Result<Netlist, AllocError>
+    requires lasting { AreSame known.now.lasting (lasting_names netlist) }
+    requires shown { AreSame known.now.shown (port_names netlist) }
     ensures { IfOk result (λ n. SettledNet netlist n) }
 {
-    let lasting = names::lasting(alloc, &netlist)?;
-    let shown = names::ports(alloc, &netlist)?;
-    let made = settled_wires(alloc, &netlist, &lasting)?;
+    let made = settled_wires(alloc, &netlist, &known.lasting)?;
     let Made { wires, stands } = made;
-    let parts = build(alloc, &netlist, &lasting, &shown, &stands, wires)?;
+    let parts = build(
+        alloc,
+        &netlist,
+        &known.lasting,
+        &known.shown,
+        &stands,
+        wires,
+    )?;
     drop(netlist);
     Ok(Netlist::new(parts))
 }
 
 /// The folded netlist without the wires that nothing reads, the others numbered in order. Inputs and registers stand for themselves here, so that nothing is
 /// left to fold.
-fn number(alloc: Global, netlist: Netlist, needs: Needs) -> Result<Netlist, AllocError>
+fn number(
+    alloc: Global,
+    netlist: Netlist,
+    known: &Known,
+    kept: Vec<bool>,
+) -> Result<Netlist, AllocError>
     requires folded { IsFolded netlist }
-    requires shown { AreSame needs.shown (port_names netlist) }
-    requires kept { MarksNeeded netlist needs.kept.items }
+    requires lasting { AreSame known.now.lasting (lasting_names netlist) }
+    requires shown { AreSame known.now.shown (port_names netlist) }
+    requires kept { MarksNeeded netlist kept.items }
     ensures declares { IfOk result (λ n. DeclaresAlike netlist n) }
     ensures same { IfOk result (λ n. RunsAlike netlist n) }
     ensures named { IfOk result (λ n. NamesWires n) }
@@ -207,7 +227,7 @@ fn number(alloc: Global, netlist: Netlist, needs: Needs) -> Result<Netlist, Allo
     ensures left { IfOk result (λ n. length n.wires ≤ most_left netlist) }
 {
     let walk = Walk::new(alloc, &netlist)?;
-    let numbered = keep(alloc, &netlist, needs, walk);
+    let numbered = keep(alloc, &netlist, known, kept, walk);
     drop(netlist);
     numbered
 }
@@ -226,27 +246,28 @@ pub fn trim(alloc: Global, netlist: Netlist) -> Result<Netlist, AllocError>
     ensures read { IfOk result (λ n. ReadsWires n) }
     ensures few { IfOk result (λ n. HasFewWires netlist n) }
 {
-    let mut small = share(alloc, netlist)?;
-    let mut left = left_of(alloc, &small)?;
-    let mut kept = count_kept(alloc, &small)?;
+    let known = known_of(alloc, &netlist)?;
+    let mut small = share(alloc, netlist, &known)?;
+    let mut left = left_of(alloc, &small, &known)?;
+    let mut stay = count_kept(alloc, &small)?;
     for _ in 0..ROUNDS {
         small.rules();
-        let round = folded_of(alloc, &small)?;
-        let now = wires_left(&round.netlist, &round.needs.shown, &round.needs.kept);
+        let round = folded_of(alloc, &small, &known)?;
+        let now = wires_left(&round.netlist, &known.shown, &round.kept);
         if left < now {
             break;
         }
-        let Folded { netlist, needs } = round;
+        let Folded { netlist, kept } = round;
         small = netlist;
         left = now;
-        let before = kept;
-        kept = count_kept(alloc, &small)?;
-        if kept <= before {
+        let before = stay;
+        stay = count_kept(alloc, &small)?;
+        if stay <= before {
             small.rules();
-            return number(alloc, small, needs);
+            return number(alloc, small, &known, kept);
         }
     }
     small.rules();
-    let needs = needs_of(alloc, &small)?;
-    number(alloc, small, needs)
+    let kept = needed(alloc, &small)?;
+    number(alloc, small, &known, kept)
 }
