@@ -10,7 +10,7 @@ use Rattle.std.proofs.lemmas.Fmt.{decimal_is_IsNumeral}
 use Rattle.std.proofs.lemmas.List.{length-append, length-take}
 use Rattle.std.proofs.lemmas.Str.{is_utf8-from_IsUtf8}
 use Rattle.sap_text.specs.Names.{is_inner}
-use Rattle.sap_text.proofs.NamesLemmas.{inner_text, numeral_inner}
+use Rattle.sap_text.proofs.NamesLemmas.{numeral_inner}
 
 -- a text in front of the room that is left
 pub text_in_front : (text front rest : List ℕ) → front ≡ text → IsUtf8 text
@@ -33,9 +33,9 @@ all_inner (x ∷ xs) k small h =
     let p = and_parts (is_inner x) (list_all is_inner xs) h in
     and_from (is_inner x) (list_all is_inner (xs ++ decimal k)) p.0 (all_inner xs k small p.1)
 
--- a row that starts with letters, digits and `_`
-pub row_is_text : (len : ℕ) (row text : List ℕ) → take len row ≡ text → list_all is_inner text ≡ true → length text ≡ len
+-- a row that starts with a text
+pub row_is_text : (len : ℕ) (row text : List ℕ) → take len row ≡ text → IsUtf8 text → length text ≡ len
     → (len ≤ length row) × (is_utf8 (take len row) ≡ true)
 row_is_text len row text e h l =
     let whole : length (take len row) ≡ length text = rw e refl in
-    (omega (arith, whole, l, length-take len row), rw e (is_utf8-from_IsUtf8 text (inner_text text h)))
+    (omega (arith, whole, l, length-take len row), rw e (is_utf8-from_IsUtf8 text h))

@@ -1,13 +1,19 @@
 //! Names.
 
-ghost use Rattle.std.specs.Prelude.{◌≡◌, ◌≤◌, ◌++◌, true, IfOk, IsUtf8, length, string_bytes};
+ghost use Rattle.std.specs.Prelude.{◌≡◌, ◌≤◌, ◌+◌, ◌++◌, true, IfOk, IsUtf8, length, string_bytes};
 ghost use Rattle.std.specs.Fmt.{decimal};
 ghost use Rattle.std.specs.List.{list_all};
 ghost use Rattle.std.specs.Str.{bytes_eq};
+ghost use Rattle.std.proofs.Common.{rules};
+ghost use Rattle.std.specs.Hash as fed;
+ghost use Rattle.std.specs.Cmp.{partial_equiv_from_equiv};
+ghost use Rattle.std.specs.Cmp.Lexicographic.{nat_list_eq_equiv};
+ghost use Rattle.std.specs.Cmp.Rules.{hashing};
 ghost use Rattle.sap_text.specs.Names.{is_inner};
 
 use crate::digits::Digits;
 use std::alloc::{AllocError, Global};
+use std::hash::{Hash, Hasher};
 use std::marker::Model;
 use std::{fmt, str};
 
@@ -77,6 +83,22 @@ impl ShortText {
         let mut bytes = [0u8; MOST_SHORT];
         bytes[..from].copy_from_slice(front.as_bytes());
         bytes[from..end].copy_from_slice(back);
+        ShortText {
+            bytes,
+            len: end as u8,
+        }
+    }
+
+    // These letters and a name behind them.
+    fn fronted(front: &str, name: &str) -> ShortText
+        requires short { length front.now + length name.now ≤ MOST_SHORT }
+        ensures { result ≡ front.now ++ name.now }
+    {
+        let from = front.len();
+        let end = from + name.len();
+        let mut bytes = [0u8; MOST_SHORT];
+        bytes[..from].copy_from_slice(front.as_bytes());
+        bytes[from..end].copy_from_slice(name.as_bytes());
         ShortText {
             bytes,
             len: end as u8,
@@ -187,6 +209,22 @@ impl Name {
         }
     }
 
+    /// The name of these letters and another name behind them. It takes no memory where that is short.
+    pub fn fronted(alloc: Global, front: &str, name: &Name) -> Result<Name, AllocError>
+        ensures { IfOk result (λ n. n ≡ front.now ++ name.now) }
+    {
+        let back = name.as_str();
+        if front.len() <= MOST_SHORT && back.len() <= MOST_SHORT - front.len() {
+            return Ok(Name {
+                text: Text::Short(ShortText::fronted(front, back)),
+            });
+        }
+        let mut text = String::with_capacity(alloc, front.len().saturating_add(back.len()))?;
+        text.push_str(front)?;
+        text.push_str(back)?;
+        Ok(Name::new(text))
+    }
+
     pub fn as_str(&self) -> &str
         ensures { result.now ≡ self.now }
     {
@@ -234,6 +272,30 @@ pub fn copy_names(alloc: Global, names: &[Name]) -> Result<Vec<Name>, AllocError
         copies.push(name.copy(alloc)?)?;
     }
     Ok(copies)
+}
+
+impl PartialEq for Name {
+    ghost eq = { bytes_eq };
+
+    ghost laws = { partial_equiv_from_equiv nat_list_eq_equiv };
+
+    fn eq(&self, other: &Name) -> bool {
+        self.as_bytes() == other.as_bytes()
+    }
+}
+
+impl Eq for Name {
+    ghost laws = { nat_list_eq_equiv };
+}
+
+impl Hash for Name {
+    ghost hash_input = { λ n. fed.str n };
+
+    ghost respects_eq = { Prim.search (hashing, rules) };
+
+    fn hash<H: Hasher>(&self, state: &mut H) {
+        self.as_str().hash(state);
+    }
 }
 
 impl fmt::Display for Name {

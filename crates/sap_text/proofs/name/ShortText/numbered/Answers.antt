@@ -1,6 +1,7 @@
 use Rattle.std.proofs.Common.{List, ap, length, sym, ℕ, ◌+◌, ◌∙◌, ◌≡◌}
 use Rattle.std.specs.Fmt.{decimal}
 use Rattle.std.proofs.lemmas.List.{length-append}
+use Rattle.sap_text.proofs.NamesLemmas.{inner_text}
 use Rattle.sap_text.proofs.ShortTexts.{all_inner, in_row, row_is_text}
 use Rattle.sap_text.proofs.name.ShortText.numbered.Goals as goal
 
@@ -12,5 +13,5 @@ returns c =
 pub invariant_of-result : goal.invariant_of-result
 invariant_of-result c =
     let digits : c.as_bytes-back.result.now ≡ decimal c.args.number = c.as_bytes-back.ensures ∙ c.new-digits.ensures in
-    row_is_text _ _ _ (returns c) (all_inner c.args.front.now c.args.number c.ranges.number.fits c.requires.inner)
+    row_is_text _ _ _ (returns c) (inner_text _ (all_inner c.args.front.now c.args.number c.ranges.number.fits c.requires.inner))
     (length-append c.args.front.now (decimal c.args.number) ∙ ap (λ (l : List ℕ). length c.args.front.now + length l) (sym digits))
