@@ -10,15 +10,6 @@ use crate::setting::Setting;
 use sap_net::parts::Name;
 use std::alloc::{AllocError, Global};
 
-fn prefixed(alloc: Global, front: &str, name: &str) -> Result<Name, AllocError>
-    ensures { IfOk result (λ n. n ≡ front.now ++ name.now) }
-{
-    let mut text = String::with_capacity(alloc, front.len() + name.len())?;
-    text.push_str(front)?;
-    text.push_str(name)?;
-    Ok(Name::new(text))
-}
-
 /// A prefix and a number.
 #[tactic(auto, using(crate::proofs::Words::words))]
 fn numbered(front: &str, k: u64) -> Name
@@ -42,7 +33,7 @@ fn entity_name(
     ensures { IfOk result (λ n. n ≡ front.now ++ entity_word (named_in setting.now) x) }
 {
     match setting.program.entities.get(x) {
-        Some(entity) => prefixed(alloc, front, entity.name.as_str()),
+        Some(entity) => Name::fronted(alloc, front, &entity.name),
         None => Ok(numbered(front, x as u64)),
     }
 }
@@ -74,7 +65,7 @@ pub fn seat_name(alloc: Global, setting: &Setting<'_>, x: usize) -> Result<Name,
     ensures { IfOk result (λ n. n ≡ key_name (named_in setting.now) (seat_key x)) }
 {
     if x == setting.program.entities.len() {
-        prefixed(alloc, "s_", "0")
+        Ok(numbered("s_", 0))
     } else {
         entity_name(alloc, setting, "s_", x)
     }
