@@ -24,6 +24,9 @@ abbrev pub place_in : List Name → Name → Option ℕ
 place_in [] n = None
 place_in (x ∷ xs) n = if bytes_eq x n then Some zero else option_map suc (place_in xs n)
 
--- each name of a list at its first place
+-- each name of a list at its first place, and no other
+abbrev pub AtPlaces : (at : Name → Option ℕ) → List Name → Type 0
+AtPlaces at names = (n : Name) → at n ≡ place_in names n
+
 abbrev pub Indexes : NameMap ℕ → List Name → Type 0
-Indexes m names = (n : Name) → at_name m n ≡ place_in names n
+Indexes m names = AtPlaces (at_name m) names
