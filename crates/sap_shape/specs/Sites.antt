@@ -2,7 +2,7 @@
 -- tell of its list (`sap_check`, `Sites`), and the commands of a design's program are numbered by its length (`sap_resolved`, `Resolve`).
 use Rattle.std.specs.Prelude.{List, [], ◌∷◌, ◌++◌, Bool, true, false, not, ◌||◌, ℕ, if◌then◌else◌}
 use Rattle.sap_tree.specs.declared.syntax.Kind.{Kind}
-use Rattle.sap_tree.specs.Syntax.{SimpleCommand, assign, write, set_tag, set_cell_tag, go_to, fall_to_child, Command, lone, try, if_else, try_then, case_of, Arms, last_arm, and_arm, CommandBlock, command_block, ElseBlock, no_else, with_else, CommandList, no_command, and_command, StateTree, state_node, StateList, no_state, and_state, DesignTree}
+use Rattle.sap_tree.specs.Syntax.{SimpleCommand, assign, write, set_tag, set_cell_tag, go_to, fall_to_child, Command, Arms, CommandBlock, ElseBlock, CommandList, StateTree, state_node, StateList, no_state, and_state, DesignTree}
 use Rattle.sap_tree.specs.Walks.{gathered, gathered_in_block, gathered_in_else, gathered_in_arms, gathered_in_list, gathered_from, gathered_from_list, body_of}
 use Rattle.sap_tree.specs.Touches.{Home, home_of, is_dynamic_kind}
 use Rattle.sap_names.specs.declared.entity.Entity.{Entity}

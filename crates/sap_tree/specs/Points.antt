@@ -1,6 +1,6 @@
 -- The points of a design: each `if`, `otherwise`, `fall`, `then` and `case`, in the order of these words. The `otherwise` of a `then` is none. Each is the command that it is, and the state in whose body it stands.
 use Rattle.std.specs.Prelude.{List, [], ◌∷◌, ◌++◌, map}
-use Rattle.sap_tree.specs.Syntax.{SimpleCommand, assign, write, set_tag, set_cell_tag, go_to, fall_to_child, Command, lone, try, if_else, try_then, case_of, Arms, last_arm, and_arm, CommandBlock, command_block, ElseBlock, no_else, with_else, CommandList, no_command, and_command, StateTree, state_node, StateList, no_state, and_state, DesignTree}
+use Rattle.sap_tree.specs.Syntax.{SimpleCommand, assign, write, set_tag, set_cell_tag, go_to, fall_to_child, Command, lone, try, if_else, try_then, case_of, Arms, CommandBlock, ElseBlock, CommandList, StateTree, StateList, DesignTree}
 use Rattle.sap_tree.specs.Touches.{Home, home_of}
 use Rattle.sap_tree.specs.Walks.{folded, folded_in_block, folded_in_else, folded_in_arms, folded_in_list, body_of, gathered_from, gathered_from_list}
 

@@ -22,10 +22,10 @@ use Rattle.sap_names.specs.Entities.{entities_of, what_is}
 use Rattle.sap_names.specs.NameFaults.{name_faults, expression_faults, simple_faults, command_faults, block_faults, else_faults, arms_faults, constants_faults, commands_faults, kind_faults, state_faults, states_faults, declarations_faults, twice}
 use Rattle.sap_names.specs.Widths.{own as own_of, index_width, register_width, cell_width}
 use Rattle.sap_meaning.specs.Program.{World, Group, is_dynamic, is_register, is_memory, root}
-use Rattle.sap_meaning.specs.Touches.{step_assigns, assigns, arms_assign, block_assigns, state_assigns, group_assigns, among, step_hangs, hangs, arms_hang, block_hangs, touches}
+use Rattle.sap_meaning.specs.Touches.{step_assigns, block_assigns, state_assigns, group_assigns, among, step_hangs, hangs, touches}
 use Rattle.sap_meaning.specs.Checks.{Home}
 use Rattle.sap_resolved.specs.Fill.{table, filled, filled_arms, filled_block, filled_state, filled_group}
-use Rattle.sap_resolved.specs.Resolve.{site_number, step_of, command_of, arms_of, block_of, else_of, list_of, state_of, group_of}
+use Rattle.sap_resolved.specs.Resolve.{step_of, command_of, arms_of, block_of, else_of, list_of, state_of, group_of}
 use Rattle.sap_shape.specs.Sites.{Surroundings, simple_sites, command_sites, block_sites, state_sites}
 use Rattle.sap_resolved.specs.Terms.{entity_number}
 use Rattle.sap_resolved.specs.Worlds.{states_in, world_of}

@@ -1,4 +1,4 @@
-use Rattle.std.proofs.Common.{get_or, map, sym, ap, ◌∙◌, arith, rules}
+use Rattle.std.proofs.Common.{get_or, sym, ap, ◌∙◌, arith, rules}
 use Rattle.std.proofs.lemmas.List.{take_all}
 use Rattle.sap_sim.proofs.Lists.{written_more}
 use Rattle.sap_wave_rows.specs.Places.{numbers_at}

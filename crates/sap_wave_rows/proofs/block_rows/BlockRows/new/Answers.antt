@@ -1,4 +1,4 @@
-use Rattle.std.proofs.Common.{◌≡◌, ℕ, List, refl, subst, ap, ap₂, ◌∙◌}
+use Rattle.std.proofs.Common.{ℕ, List, refl, subst, ap, ap₂, ◌∙◌}
 use Rattle.sap_maps.specs.Maps.{Name}
 use Rattle.sap_net.specs.Shown.{shown_among}
 use Rattle.sap_wave.specs.declared.variable.Variable.{Variable}

@@ -1,4 +1,4 @@
-use Rattle.std.proofs.Common.{rules, ◌≡◌, ◌+◌, ◌<◌, ◌++◌, ℕ, List, length, refl, sym, ap, ◌∙◌}
+use Rattle.std.proofs.Common.{rules, ◌+◌, ◌<◌, ◌++◌, ℕ, List, length, refl, sym, ap, ◌∙◌}
 use Rattle.std.proofs.lemmas.Option.{get_or_from_slice_get}
 use Rattle.sap_wave_rows.specs.Rows.{rows_of_blocks}
 use Rattle.sap_wave_rows.proofs.Going.{first_row}
