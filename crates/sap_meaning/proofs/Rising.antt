@@ -132,12 +132,12 @@ module _ (w : World) where
           (effect_none k plain.0) (λ xs i. none xs (OwnBlock h) i) (λ p t. open_list h plain.1 p t) pc s
       open_from (if_else hang e a b) plain pc s =
           select_from e (touches w at (if_else hang e a b)) (does_block w at enter a) (does_block w at enter b) (OwnBlock a ++ OwnBlock b)
-          (λ p t. sites_front _ (OwnBlock a) (OwnBlock b) (open_list a plain.0 p t)) (λ p t. sites_behind _ (OwnBlock a) (OwnBlock b) (open_list b plain.1 p t)) pc s
+          (λ p t. sites_front _ (OwnBlock a) (OwnBlock b) (open_list a plain.1 p t)) (λ p t. sites_behind _ (OwnBlock a) (OwnBlock b) (open_list b plain.2 p t)) pc s
       open_from (try_then k hang a b) plain pc s =
           attempt_then_from k plain.0 (touches w at (try_then k hang a b)) (does_block w at enter a) (does_block w at enter b) (OwnBlock a ++ OwnBlock b)
           (λ p t. sites_front _ (OwnBlock a) (OwnBlock b) (open_list a plain.1 p t)) (λ p t. sites_behind _ (OwnBlock a) (OwnBlock b) (open_list b plain.2 p t)) pc s
       open_from (case_of hang e arms) plain pc s =
-          pick_from e (touches w at (case_of hang e arms)) (does_arms w at enter arms) (OwnArms arms) (λ v p t. open_arms arms plain v p t) pc s
+          pick_from e (touches w at (case_of hang e arms)) (does_arms w at enter arms) (OwnArms arms) (λ v p t. open_arms arms plain.1 v p t) pc s
 
       open_arms : (arms : Arms) → OpenArms arms → (v pc : ℕ) (s : Store) → From (does_arms w at enter arms v pc s) (OwnArms arms)
       open_arms (last_arm b) plain v pc s = open_list b plain pc s

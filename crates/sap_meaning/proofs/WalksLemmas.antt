@@ -2,10 +2,10 @@
 use Rattle.std.proofs.Common.{◌≡◌, ℕ, Bool, true, false, ◌||◌, List, ◌∷◌, inl, inr, refl, sym, ap, ap₂, ◌∙◌}
 use Rattle.std.proofs.Props.{props}
 use Rattle.std.proofs.lemmas.Bool.{or_cases, or_from}
-use Rattle.sap_lemmas.proofs.Bools.{either_follows, neither_left, neither_right, true_is_not_false}
+use Rattle.sap_lemmas.proofs.Bools.{either_follows, true_is_not_false}
 use Rattle.sap_maps.specs.Term.{Term}
 use Rattle.sap_meaning.specs.Program.{LevelTerm, fixed, of, at_place, both, Step, Command, lone, try, if_else, try_then, case_of, Arms, last_arm, and_arm, Block, end_block, command_then}
-use Rattle.sap_meaning.specs.Walks.{EveryLevel, Every, EveryInArms, EveryInBlock, Asks, EveryStep, EveryStepInArms, EveryStepInBlock, folded, folded_in_arms, folded_in_block, with_step, gathered, gathered_in_block, some, some_in_arms, some_in_block, mapped, mapped_arms, mapped_block, arm_constants}
+use Rattle.sap_meaning.specs.Walks.{EveryLevel, Every, EveryInArms, EveryInBlock, Asks, folded, folded_in_arms, folded_in_block, with_step, gathered, gathered_in_block, some, some_in_arms, some_in_block, mapped, mapped_arms, mapped_block, arm_constants}
 
 -- what is asked of every command is a proposition where it is one of each
 module _ (P : Command → Type 0) (prop : (c : Command) → IsProp (P c)) where
@@ -32,23 +32,6 @@ module _ (P : Step → Type 0) (Q : Term ℕ → Type 0) (step_prop : (k : Step)
   asks_prop (if_else hang e a b) = term_prop e
   asks_prop (try_then k hang a b) = step_prop k
   asks_prop (case_of hang e arms) = term_prop e
-
-module _ (P : Step → Type 0) (prop : (k : Step) → IsProp (P k)) where
-  mutual
-    pub every_step_prop : (c : Command) → IsProp (EveryStep P c)
-    every_step_prop (lone k) = prop k
-    every_step_prop (try k hang h) = hlevel (props, prop k, every_step_prop_in_block h)
-    every_step_prop (if_else hang e a b) = hlevel (props, every_step_prop_in_block a, every_step_prop_in_block b)
-    every_step_prop (try_then k hang a b) = hlevel (props, prop k, every_step_prop_in_block a, every_step_prop_in_block b)
-    every_step_prop (case_of hang e arms) = every_step_prop_in_arms arms
-
-    every_step_prop_in_arms : (arms : Arms) → IsProp (EveryStepInArms P arms)
-    every_step_prop_in_arms (last_arm b) = every_step_prop_in_block b
-    every_step_prop_in_arms (and_arm constants b arms) = hlevel (props, every_step_prop_in_block b, every_step_prop_in_arms arms)
-
-    every_step_prop_in_block : (b : Block) → IsProp (EveryStepInBlock P b)
-    every_step_prop_in_block end_block = hlevel props
-    every_step_prop_in_block (command_then c cs) = hlevel (props, every_step_prop c, every_step_prop_in_block cs)
 
 module _ (P : ℕ → Type 0) (Q : Term ℕ → Type 0) (number_prop : (n : ℕ) → IsProp (P n)) (term_prop : (e : Term ℕ) → IsProp (Q e)) where
   pub every_level_prop : (n : LevelTerm) → IsProp (EveryLevel P Q n)
@@ -240,28 +223,6 @@ pub passes_follow : (p q : Step → Bool) → ((k : Step) → p k ≡ true → q
 passes_follow p q f c h =
     gathered_alike false ◌||◌ false ◌||◌ (λ (a b : Bool). a ≡ true → b ≡ true) (λ e. e) (λ a b x y i j. either_follows a b x y i j) p q f c h
 
--- where no step passes p, p fails at every step
-module _ (p : Step → Bool) where
-  mutual
-    pub every_fails : (c : Command) → some p c ≡ false → EveryStep (λ k. p k ≡ false) c
-    every_fails (lone k) h = h
-    every_fails (try k hang b) h = (neither_left _ _ h, every_fails_in_block b (neither_right (p k) _ h))
-    every_fails (if_else hang e a b) h = (every_fails_in_block a (neither_left _ _ h), every_fails_in_block b (neither_right (some_in_block p a) _ h))
-    every_fails (try_then k hang a b) h = (
-      neither_left _ _ h,
-      every_fails_in_block a (neither_left _ _ (neither_right (p k) _ h)),
-      every_fails_in_block b (neither_right (some_in_block p a) _ (neither_right (p k) _ h)),
-    )
-    every_fails (case_of hang e arms) h = every_fails_in_arms arms h
-
-    every_fails_in_arms : (arms : Arms) → some_in_arms p arms ≡ false → EveryStepInArms (λ k. p k ≡ false) arms
-    every_fails_in_arms (last_arm b) h = every_fails_in_block b h
-    every_fails_in_arms (and_arm constants b arms) h = (every_fails_in_block b (neither_left _ _ h), every_fails_in_arms arms (neither_right (some_in_block p b) _ h))
-
-    pub every_fails_in_block : (b : Block) → some_in_block p b ≡ false → EveryStepInBlock (λ k. p k ≡ false) b
-    every_fails_in_block end_block h = tt
-    every_fails_in_block (command_then c cs) h = (every_fails c (neither_left _ _ h), every_fails_in_block cs (neither_right (some p c) _ h))
-
 -- A map of what is gathered is gathered from the maps.
 module _ {A B : Type 0} (none : A) (join : A → A → A) (least : B) (meet : B → B → B) (through : A → B) (at_none : through none ≡ least)
     (at_join : (a b : A) → through (join a b) ≡ meet (through a) (through b)) (f : Step → A) where
@@ -315,25 +276,7 @@ module _ (step : Step → Step) (list : Command → List Bool) where
   constants_mapped (last_arm b) = refl
   constants_mapped (and_arm constants b arms) = λ i. constants ∷ constants_mapped arms i
 
-  -- .. what is asked of each step follows from what was asked of it,
-  module _ (P R : Step → Type 0) (follows : (k : Step) → P k → R (step k)) where
-    mutual
-      pub every_step_mapped : (c : Command) → EveryStep P c → EveryStep R (mapped step list c)
-      every_step_mapped (lone k) h = follows k h
-      every_step_mapped (try k hang b) h = (follows k h.0, every_step_mapped_block b h.1)
-      every_step_mapped (if_else hang e a b) h = (every_step_mapped_block a h.0, every_step_mapped_block b h.1)
-      every_step_mapped (try_then k hang a b) h = (follows k h.0, every_step_mapped_block a h.1, every_step_mapped_block b h.2)
-      every_step_mapped (case_of hang e arms) h = every_step_mapped_arms arms h
-
-      every_step_mapped_arms : (arms : Arms) → EveryStepInArms P arms → EveryStepInArms R (mapped_arms step list arms)
-      every_step_mapped_arms (last_arm b) h = every_step_mapped_block b h
-      every_step_mapped_arms (and_arm constants b arms) h = (every_step_mapped_block b h.0, every_step_mapped_arms arms h.1)
-
-      every_step_mapped_block : (b : Block) → EveryStepInBlock P b → EveryStepInBlock R (mapped_block step list b)
-      every_step_mapped_block end_block h = h
-      every_step_mapped_block (command_then c cs) h = (every_step_mapped c h.0, every_step_mapped_block cs h.1)
-
-  -- .. what is asked of each command likewise, ..
+  -- .. what is asked of each command follows from what was asked of it, ..
   module _ (P R : Command → Type 0) (follows : (c : Command) → P c → R (mapped step list c)) where
     mutual
       pub every_mapped : (c : Command) → Every P c → Every R (mapped step list c)

@@ -3,7 +3,7 @@ use Rattle.std.specs.Prelude.{◌≡◌, ℕ, zero, suc, ◌<◌, ◌≤◌, Boo
 use Rattle.sap_lattice.specs.Order.{Laws}
 use Rattle.sap_maps.specs.Term.{Term, constant, read, cell, one, two, choose, join, part}
 use Rattle.sap_meaning.specs.Program.{World, Program, entity, is_dynamic, is_input, is_register, is_memory, is_state, authority, children, root, place, last, below, listed, LevelTerm, Step, assign, write, retag, retag_cell, go_to, fall_to_child, Command, lone, try, if_else, try_then, case_of, Arms, last_arm, and_arm, Block, end_block, command_then, State, state_node, Group, no_node, and_node}
-use Rattle.sap_meaning.specs.Walks.{EveryLevel, Every, EveryInArms, EveryInBlock, Asks, EveryStep, EveryStepInArms, EveryStepInBlock, some, some_in_arms, some_in_block, some_body, some_body_in}
+use Rattle.sap_meaning.specs.Walks.{EveryLevel, Every, EveryInArms, EveryInBlock, Asks, some, some_in_arms, some_in_block, some_body, some_body_in}
 use Rattle.sap_meaning.specs.Checks.{Home}
 use Rattle.sap_meaning.specs.Touches.{among, touches, root_touches}
 
@@ -55,15 +55,19 @@ transfers (retag_cell site m j n) = false
 transfers (go_to site target) = true
 transfers (fall_to_child site hang) = true
 
+-- its step, if it has one, is no transfer
+abbrev pub NoTransfer : Command → Type 0
+NoTransfer c = Asks (λ k. transfers k ≡ false) (λ e. Unit {0}) c
+
 -- no transfer stands in it
 abbrev pub Open : Command → Type 0
-Open c = EveryStep (λ k. transfers k ≡ false) c
+Open c = Every NoTransfer c
 
 abbrev pub OpenArms : Arms → Type 0
-OpenArms arms = EveryStepInArms (λ k. transfers k ≡ false) arms
+OpenArms arms = EveryInArms NoTransfer arms
 
 abbrev pub OpenBlock : Block → Type 0
-OpenBlock b = EveryStepInBlock (λ k. transfers k ≡ false) b
+OpenBlock b = EveryInBlock NoTransfer b
 
 -- A list closes: its last command is a transfer, whose handler closes, or an `if` whose branches close, or a `then` whose
 -- command is no transfer or a `case`, whose blocks close, and all before it are open.

@@ -29,24 +29,6 @@ module _ (P : Command → Type 0) where
     EveryInBlock end_block = Unit {0}
     EveryInBlock (command_then c cs) = Every c × EveryInBlock cs
 
--- P holds of each step
-module _ (P : Step → Type 0) where
-  abbrev mutual
-    pub EveryStep : Command → Type 0
-    EveryStep (lone k) = P k
-    EveryStep (try k hang h) = P k × EveryStepInBlock h
-    EveryStep (if_else hang e a b) = EveryStepInBlock a × EveryStepInBlock b
-    EveryStep (try_then k hang a b) = P k × EveryStepInBlock a × EveryStepInBlock b
-    EveryStep (case_of hang e arms) = EveryStepInArms arms
-
-    pub EveryStepInArms : Arms → Type 0
-    EveryStepInArms (last_arm b) = EveryStepInBlock b
-    EveryStepInArms (and_arm constants b arms) = EveryStepInBlock b × EveryStepInArms arms
-
-    pub EveryStepInBlock : Block → Type 0
-    EveryStepInBlock end_block = Unit {0}
-    EveryStepInBlock (command_then c cs) = EveryStep c × EveryStepInBlock cs
-
 -- P holds of a command's step, Q of its condition or number
 abbrev pub Asks : (P : Step → Type 0) → (Q : Term ℕ → Type 0) → Command → Type 0
 Asks P Q (lone k) = P k

@@ -127,9 +127,9 @@ module _ (w : World) (i : Site w) (q : ℕ) where
       command_off : (c : Command) → Proper w i c → Open c → hangs i.state i.kids c x ≡ false
       command_off (lone k) fine plain = step_off k fine plain
       command_off (try k hang h) fine plain = or_from _ _ (step_off k fine.0 plain.0) (block_off h fine.1 plain.1)
-      command_off (if_else hang e a b) fine plain = or_from _ _ (block_off a fine.1 plain.0) (block_off b fine.2 plain.1)
+      command_off (if_else hang e a b) fine plain = or_from _ _ (block_off a fine.1 plain.1) (block_off b fine.2 plain.2)
       command_off (try_then k hang a b) fine plain = or_from _ _ (step_off k fine.0 plain.0) (or_from _ _ (block_off a fine.1 plain.1) (block_off b fine.2 plain.2))
-      command_off (case_of hang e arms) fine plain = arms_off arms fine.1 plain
+      command_off (case_of hang e arms) fine plain = arms_off arms fine.1 plain.1
 
       arms_off : (arms : Arms) → ProperArms w i arms → OpenArms arms → arms_hang i.state i.kids arms x ≡ false
       arms_off (last_arm b) fine plain = block_off b fine plain
@@ -157,7 +157,7 @@ module _ (w : World) (i : Site w) (q : ℕ) where
       open_kept (if_else hang e a b) fine plain un pc t =
           kept_select w (own x) q e (touches w (spot i) (if_else hang e a b)) (does_block w (spot i) i.enter a)
           (does_block w (spot i) i.enter b) pc t (untouched (is_dynamic w x) _ (command_off (if_else hang e a b) fine plain))
-          (λ p t. open_list a fine.1 plain.0 (neither_left _ _ un) p t) (λ p t. open_list b fine.2 plain.1 (neither_right (block_retags a x) _ un) p t)
+          (λ p t. open_list a fine.1 plain.1 (neither_left _ _ un) p t) (λ p t. open_list b fine.2 plain.2 (neither_right (block_retags a x) _ un) p t)
       open_kept (try_then k hang a b) fine plain un pc t =
           kept_attempt_then w (own x) q (spot i) i.enter k (touches w (spot i) (try_then k hang a b)) (does_block w (spot i) i.enter a) (does_block w (spot i) i.enter b) pc t
           (untouched (is_dynamic w x) _ (command_off (try_then k hang a b) fine plain)) (λ b' r. open_step k fine.0 plain.0 (neither_left _ _ un) pc b' r)
@@ -166,7 +166,7 @@ module _ (w : World) (i : Site w) (q : ℕ) where
       open_kept (case_of hang e arms) fine plain un pc t =
           kept_pick w (own x) q e (touches w (spot i) (case_of hang e arms)) (does_arms w (spot i) i.enter arms) pc t
           (untouched (is_dynamic w x) _ (command_off (case_of hang e arms) fine plain))
-          (λ v p t. open_arms arms fine.1 plain un v p t)
+          (λ v p t. open_arms arms fine.1 plain.1 un v p t)
 
       open_arms : (arms : Arms) → ProperArms w i arms → OpenArms arms → arms_retag arms x ≡ false → (v pc : ℕ) (t : Store)
           → Kept w (own x) q t (does_arms w (spot i) i.enter arms v pc t).store
@@ -213,13 +213,13 @@ module _ (w : World) (i : Site w) (q : ℕ) where
           (λ b r. cell_step k plain.0 (neither_left _ _ un) pc b r) (λ p t. cell_list h plain.1 (neither_right (step_writes k m) _ un) p t)
       cell_kept (if_else hang e a b) plain un pc t =
           kept_select w z q e (touches w (spot i) (if_else hang e a b)) (does_block w (spot i) i.enter a) (does_block w (spot i) i.enter b) pc t (cell _)
-          (λ p t. cell_list a plain.0 (neither_left _ _ un) p t) (λ p t. cell_list b plain.1 (neither_right (block_writes a m) _ un) p t)
+          (λ p t. cell_list a plain.1 (neither_left _ _ un) p t) (λ p t. cell_list b plain.2 (neither_right (block_writes a m) _ un) p t)
       cell_kept (try_then k hang a b) plain un pc t =
           kept_attempt_then w z q (spot i) i.enter k (touches w (spot i) (try_then k hang a b)) (does_block w (spot i) i.enter a) (does_block w (spot i) i.enter b) pc t (cell _)
           (λ b' r. cell_step k plain.0 (neither_left _ _ un) pc b' r) (λ p t. cell_list a plain.1 (neither_left _ _ (neither_right (step_writes k m) _ un)) p t)
           (λ p t. cell_list b plain.2 (neither_right (block_writes a m) _ (neither_right (step_writes k m) _ un)) p t)
       cell_kept (case_of hang e arms) plain un pc t =
-          kept_pick w z q e (touches w (spot i) (case_of hang e arms)) (does_arms w (spot i) i.enter arms) pc t (cell _) (λ v p t. cell_arms arms plain un v p t)
+          kept_pick w z q e (touches w (spot i) (case_of hang e arms)) (does_arms w (spot i) i.enter arms) pc t (cell _) (λ v p t. cell_arms arms plain.1 un v p t)
 
       cell_arms : (arms : Arms) → OpenArms arms → arms_write arms m ≡ false → (v pc : ℕ) (t : Store) → Kept w z q t (does_arms w (spot i) i.enter arms v pc t).store
       cell_arms (last_arm b) plain un v pc t = cell_list b plain un pc t

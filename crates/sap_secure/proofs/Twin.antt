@@ -570,10 +570,10 @@ module _ (w : World) (laws : Laws w.order) (l : ℕ) where
               | inl g ↦ select_low e fine.0 hung (branch (does_block w At i.enter a) (does_block w At i.enter b)) pc s t dyn hs ht low like
                   g (concerns w i.state i.kids (if_else hang e a b)) es et
                   (λ v q r u hr hu lq k er eu. branch_both (λ y z. Twin w l y z) (does_block w At i.enter a) (does_block w At i.enter b) v q r u
-                  (block_twin a fine.1 once.0 plain.0 q r u hr hu lq k
+                  (block_twin a fine.1 once.0 plain.1 q r u hr hu lq k
                   (even_left (block_concerns w i.state i.kids a) (block_concerns w i.state i.kids b) r er)
                   (even_left (block_concerns w i.state i.kids a) (block_concerns w i.state i.kids b) u eu))
-                  (block_twin b fine.2 once.1 plain.1 q r u hr hu lq k
+                  (block_twin b fine.2 once.1 plain.2 q r u hr hu lq k
                   (even_right (block_concerns w i.state i.kids a) (block_concerns w i.state i.kids b) r er)
                   (even_right (block_concerns w i.state i.kids a) (block_concerns w i.state i.kids b) u eu)))
               | inr g ↦ twin_confined (raise w.order hung (tag w e s) s) (raise w.order hung (tag w e t) t)
@@ -607,7 +607,7 @@ module _ (w : World) (laws : Laws w.order) (l : ℕ) where
             let dyn : OfDynamic w hung = touches_dynamic w laws l i entering holding (case_of hang e arms) in
             elim (cases_Bool (w.order.le (tag w e s) l)) [
               | inl g ↦ select_low e fine.0 hung (does_arms w At i.enter arms) pc s t dyn hs ht low like g (arms_concern w i.state i.kids arms) es et
-                  (λ v q r u hr hu lq k er eu. arms_twin arms fine.1 once plain v q r u hr hu lq k er eu)
+                  (λ v q r u hr hu lq k er eu. arms_twin arms fine.1 once plain.1 v q r u hr hu lq k er eu)
               | inr g ↦ twin_confined (raise w.order hung (tag w e s) s) (raise w.order hung (tag w e t) t)
                   _ _ (agree_raised w laws l s t hung _ _ dyn like (tag_same e fine.0 s t like, λ lo. tag_low e fine.0 s t like lo))
                   (case_side hang e arms fine pc s hs es g)

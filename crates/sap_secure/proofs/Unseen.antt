@@ -37,8 +37,8 @@ module _ (w : World) (i : Site w) where
     proper_in c (if_else hang t a b) h p e = elim h [
       | inl q ↦ subst (λ x. Proper w i x × Ended x) (sym q) (p, e)
       | inr q ↦ elim q [
-        | inl r ↦ proper_in_block c a r p.1 (elim e [ inl f ↦ inl f.0 | inr f ↦ inr f.0 ])
-        | inr r ↦ proper_in_block c b r p.2 (elim e [ inl f ↦ inl f.1 | inr f ↦ inr f.1 ])
+        | inl r ↦ proper_in_block c a r p.1 (elim e [ inl f ↦ inl f.0 | inr f ↦ inr f.1 ])
+        | inr r ↦ proper_in_block c b r p.2 (elim e [ inl f ↦ inl f.1 | inr f ↦ inr f.2 ])
       ]
     ]
     proper_in c (try_then k hang a b) h p e = elim h [
@@ -50,7 +50,7 @@ module _ (w : World) (i : Site w) where
     ]
     proper_in c (case_of hang t arms) h p e = elim h [
       | inl q ↦ subst (λ x. Proper w i x × Ended x) (sym q) (p, e)
-      | inr q ↦ proper_in_arms c arms q p.1 e
+      | inr q ↦ proper_in_arms c arms q p.1 (elim e [ inl f ↦ inl f | inr f ↦ inr f.1 ])
     ]
 
     proper_in_arms : (c : Command) (arms : Arms) → StandsInArms c arms → ProperArms w i arms → ClosingArms arms ⊎ OpenArms arms → Proper w i c × Ended c

@@ -6,10 +6,10 @@ use Rattle.sap_bits.specs.declared.Op2.TheVariants.{Add, Sub, Mul, And, Or, Xor,
 use Rattle.sap_maps.specs.Term.{Term, constant, read, cell, one, two, choose, join, part, CountFits, TermFits}
 use Rattle.sap_meaning.specs.Program.{World, width, LevelTerm, Step, assign, write, retag, retag_cell, go_to, fall_to_child, Command, lone, try, if_else, try_then, case_of, Arms, last_arm, and_arm, Block, end_block, command_then, State, state_node, Group, no_node, and_node}
 use Rattle.sap_meaning.specs.Walks.{Asks}
-use Rattle.sap_meaning.proofs.WalksLemmas.{every_prop_in_block, asks_prop, every_step_prop, every_level_prop}
+use Rattle.sap_meaning.proofs.WalksLemmas.{every_prop, every_prop_in_block, asks_prop, every_level_prop}
 use Rattle.sap_meaning.specs.Checks.{Home}
 use Rattle.sap_lattice.specs.Levels.{Levels}
-use Rattle.sap_meaning.specs.Fine.{FineTerm, FineLevel, FineStep, FineBlock, transfers, Open, Closes, Final, ClosingArms, OnceStep, Once, OnceArms, OnceBlock, OnceState, OnceGroup, FineState, FineGroup, ExactStep, ExactCommand, ExactBlock, ExactState, ExactGroup}
+use Rattle.sap_meaning.specs.Fine.{FineTerm, FineLevel, FineStep, FineBlock, transfers, NoTransfer, Open, Closes, Final, ClosingArms, OnceStep, Once, OnceArms, OnceBlock, OnceState, OnceGroup, FineState, FineGroup, ExactStep, ExactCommand, ExactBlock, ExactState, ExactGroup}
 use Rattle.sap_meaning.specs.Sized.{Indexed}
 use Rattle.sap_resolved.specs.Sized.Ranges.{RangedTerm}
 use Rattle.sap_program.specs.declared.program.Program as code
@@ -41,7 +41,7 @@ fits_prop widths (join a b) = hlevel (props, fits_prop widths a, fits_prop width
 fits_prop widths (part a hi lo) = hlevel (props, fits_prop widths a)
 
 open_prop : (c : Command) → IsProp (Open c)
-open_prop c = every_step_prop (λ k. transfers k ≡ false) (λ k. hlevel props) c
+open_prop c = every_prop NoTransfer (λ d. asks_prop (λ k. transfers k ≡ false) (λ e. Unit {0}) (λ k. hlevel props) (λ e. hlevel props) d) c
 
 mutual
   closes_prop : (b : Block) → IsProp (Closes b)

@@ -231,8 +231,8 @@ module _ (d : Setting) where
             goes = attempt_goes p k t (listed hang) (block_plain d sp (k + 2) (k + 5) h) o.0 r.goes;
           }
       command_stays p k (if_else hang e a b) o =
-          let x = block_stays (k + 1) (k + 2) a o.0 in
-          let y = block_stays (k + 1) (k + 2 + wires_block a) b o.1 in
+          let x = block_stays (k + 1) (k + 2) a o.1 in
+          let y = block_stays (k + 1) (k + 2 + wires_block a) b o.2 in
           record {
             ends = select_ends p k e (listed hang) (block_plain d sp (k + 1) (k + 2) a) (block_plain d sp (k + 1) (k + 2 + wires_block a) b) x.ends y.ends;
             goes = select_goes p k e (listed hang) (block_plain d sp (k + 1) (k + 2) a) (block_plain d sp (k + 1) (k + 2 + wires_block a) b) x.goes y.goes;
@@ -246,7 +246,7 @@ module _ (d : Setting) where
           }
       command_stays p k (case_of hang e arms) o =
           let blocks = arms_plain d sp (k + 1) (k + 4) arms in
-          let h = arms_stay (k + 1) (k + 4) arms o in
+          let h = arms_stay (k + 1) (k + 4) arms o.1 in
           record { ends = pick_ends p k e (listed hang) arms blocks (all_end blocks h); goes = pick_goes p k e (listed hang) arms blocks (none_go blocks h) }
 
       arms_stay : (p k : ℕ) (arms : Arms) → OpenArms arms → Each Stays (arms_plain d sp p k arms)

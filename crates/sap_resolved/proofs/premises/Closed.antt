@@ -36,13 +36,14 @@ module _ (ls : Levels) (h : Surroundings) where
       open_body (k + length (simple_sites h c)) b (nil_right _ _ f),
     )
     open_command k (if_else place e b other) f = (
+      tt,
       open_body k b (nil_left _ _ f),
       open_else (k + length (block_sites h b)) other (nil_right _ _ f),
     )
     open_command k (try_then c place a b) f =
         let t = then_step (site_number h k c) c place (open_block_faults a ++ open_block_faults b) f in
         (t.0, open_body (k + length (simple_sites h c)) a (nil_left _ _ t.1), open_body (k + length (simple_sites h c) + length (block_sites h a)) b (nil_right _ _ t.1))
-    open_command k (case_of place e arms) f = open_arms k arms f
+    open_command k (case_of place e arms) f = (tt, open_arms k arms f)
 
     open_arms : (k : ℕ) (arms : Arms) → open_arms_faults arms ≡ [] → OpenArms (arms_of ls h k arms)
     open_arms k (last_arm b) f = open_body k b f

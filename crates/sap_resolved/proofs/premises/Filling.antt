@@ -4,11 +4,11 @@ use Rattle.sap_lemmas.proofs.Bools.{or_equal}
 use Rattle.sap_meaning.specs.Program.{World, Step, assign, write, retag, retag_cell, go_to, fall_to_child, Command, lone, try, if_else, try_then, case_of, Arms, last_arm, and_arm, Block, end_block, command_then, State, state_node, Group, no_node, and_node}
 use Rattle.sap_meaning.specs.Checks.{Home}
 use Rattle.sap_meaning.specs.Touches.{step_assigns, block_assigns, group_assigns, among, step_hangs, hangs}
-use Rattle.sap_meaning.specs.Fine.{FineTerm, size, inside, transfers, Open, Closes, Final, ClosingArms, step_writes, step_reaching, reaching, block_reaching, state_reaches, group_reaches, OnceStep, Once, OnceArms, OnceBlock, OnceState, OnceGroup, step_retags, block_retags, group_retags, FineStep, FineBlock, FineNode, FineState, FineGroup, number_of}
+use Rattle.sap_meaning.specs.Fine.{FineTerm, size, inside, transfers, NoTransfer, Open, Closes, Final, ClosingArms, step_writes, step_reaching, reaching, block_reaching, state_reaches, group_reaches, OnceStep, Once, OnceArms, OnceBlock, OnceState, OnceGroup, step_retags, block_retags, group_retags, FineStep, FineBlock, FineNode, FineState, FineGroup, number_of}
 use Rattle.sap_resolved.specs.Fill.{filled_step, filled_hang, filled, filled_arms, filled_block, filled_state, filled_group}
 use Rattle.sap_resolved.specs.WellNamed.{WellNamedStep, WellNamedGroup}
 use Rattle.sap_meaning.specs.Walks.{Asks, body_of}
-use Rattle.sap_meaning.proofs.WalksLemmas.{every_step_mapped, every_mapped_block, asks_mapped}
+use Rattle.sap_meaning.proofs.WalksLemmas.{every_mapped, every_mapped_block, asks_mapped}
 use Rattle.sap_resolved.proofs.FillLemmas.{every_unfilled_group, gathered_filled, gathered_filled_block, gathered_filled_group}
 
 module _ (w : World) where
@@ -41,7 +41,9 @@ module _ (w : World) where
 
     open_filled : (c : Command) → Open c → Open (filled w at c)
     open_filled c h =
-        every_step_mapped (filled_step w at) (filled_hang w at) (λ k. transfers k ≡ false) (λ k. transfers k ≡ false) (λ k f. transfers_filled k ∙ f) c h
+        every_mapped (filled_step w at) (filled_hang w at) NoTransfer NoTransfer
+        (asks_mapped (filled_step w at) (filled_hang w at) (λ k. transfers k ≡ false) (λ k. transfers k ≡ false) (λ e. Unit {0}) (λ e. Unit {0})
+        (λ k f. transfers_filled k ∙ f) (λ e u. u)) c h
 
     mutual
       final_filled : (c : Command) → Final c → Final (filled w at c)

@@ -99,14 +99,14 @@ module _ (w : World) where
           (λ xs i. none xs (block_marks h) i) (λ p t. open_list h plain.1 p t) pc s
       open_from (if_else hang e a b) plain pc s =
           chosen_from e (touches w at (if_else hang e a b)) (block_steps w at entered a) (block_steps w at entered b) (block_marks a ++ block_marks b)
-          (λ p t. sublist_front _ (block_marks a) (block_marks b) (open_list a plain.0 p t))
-          (λ p t. sublist_behind _ (block_marks a) (block_marks b) (open_list b plain.1 p t)) pc s
+          (λ p t. sublist_front _ (block_marks a) (block_marks b) (open_list a plain.1 p t))
+          (λ p t. sublist_behind _ (block_marks a) (block_marks b) (open_list b plain.2 p t)) pc s
       open_from (try_then k hang a b) plain pc s =
           tried_then_from k plain.0 (touches w at (try_then k hang a b)) (block_steps w at entered a) (block_steps w at entered b) (block_marks a ++ block_marks b)
           (λ p t. sublist_front _ (block_marks a) (block_marks b) (open_list a plain.1 p t))
           (λ p t. sublist_behind _ (block_marks a) (block_marks b) (open_list b plain.2 p t)) pc s
       open_from (case_of hang e arms) plain pc s =
-          picked_from e (touches w at (case_of hang e arms)) (arms_steps w at entered arms) (arms_marks arms) (λ v p t. open_arms arms plain v p t) pc s
+          picked_from e (touches w at (case_of hang e arms)) (arms_steps w at entered arms) (arms_marks arms) (λ v p t. open_arms arms plain.1 v p t) pc s
 
       open_arms : (arms : Arms) → OpenArms arms → (v pc : ℕ) (s : Store) → From (arms_steps w at entered arms v pc s) (arms_marks arms)
       open_arms (last_arm b) plain v pc s = open_list b plain pc s
