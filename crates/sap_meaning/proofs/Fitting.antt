@@ -14,11 +14,12 @@ use Rattle.sap_meaning.specs.Touches.{touches, raised_alone, root_touches}
 use Rattle.sap_meaning.specs.Does.{effect, attempt, attempt_then, select, branch, does, does_arms, does_block, does_state, does_child}
 use Rattle.sap_meaning.specs.Cycle.{Tagged, inputs_before, given, at_inputs, set_inputs, root_fall, cycle}
 use Rattle.sap_meaning.specs.State.{Fits, first, first_number, input_widths, AllFit, InputsFit}
-use Rattle.sap_meaning.specs.Fine.{FineLevel, FineStep, FineCommand, FineArms, FineBlock, FineState, FineGroup, FineProgram}
-use Rattle.sap_meaning.specs.Sized.{SizedTerm, SizedStep, Sized, SizedArms, SizedBlock, SizedState, SizedGroup, SizedProgram}
+use Rattle.sap_meaning.specs.Fine.{FineLevel, FineStep, FineCommand, FineState, FineGroup, FineProgram}
+use Rattle.sap_meaning.specs.Sized.{SizedTerm, SizedStep, SizedState, SizedGroup, SizedProgram, SizedCommand}
 use Rattle.sap_meaning.specs.Laws.{NumbersFit}
 use Rattle.sap_meaning.proofs.Slots.{slot_same, owner_source}
 use Rattle.sap_meaning.proofs.Keeps.{branch_all, choose_all}
+use Rattle.sap_meaning.specs.Walks.{Every, EveryInArms, EveryInBlock}
 
 module _ (w : World) (laws : Laws w.order) where
   abbrev Level : ℕ → Type 0
@@ -152,7 +153,7 @@ module _ (w : World) (laws : Laws w.order) where
     mutual
       unfolding does does_arms does_block
 
-      does_fits : (c : Command) → FineCommand w q at.children c → Sized w c → (pc : ℕ) → Level pc → Fitting (does w at enter c pc)
+      does_fits : (c : Command) → Every (FineCommand w q at.children) c → Every (SizedCommand w) c → (pc : ℕ) → Level pc → Fitting (does w at enter c pc)
       does_fits (lone k) fine sized pc lp s f = attempt_fits k fine sized (raised_alone w at k) (λ p t. stay t) (λ p lq t h. h) pc lp s f
       does_fits (try k hang h) fine sized pc lp s f =
           attempt_fits k fine.0 sized.0 (touches w at (try k hang h)) (does_block w at enter h) (λ p lq t i. block_fits h fine.1 sized.1 p lq t i) pc lp s f
@@ -166,13 +167,15 @@ module _ (w : World) (laws : Laws w.order) where
       does_fits (case_of hang e arms) fine sized pc lp s f =
           select_fits e (touches w at (case_of hang e arms)) (does_arms w at enter arms) (λ v p lq t i. arms_fit arms fine.1 sized.1 v p lq t i) pc s f
 
-      arms_fit : (arms : Arms) → FineArms w q at.children arms → SizedArms w arms → (v pc : ℕ) → Level pc → Fitting (does_arms w at enter arms v pc)
+      arms_fit : (arms : Arms) → EveryInArms (FineCommand w q at.children) arms → EveryInArms (SizedCommand w) arms → (v pc : ℕ) → Level pc
+          → Fitting (does_arms w at enter arms v pc)
       arms_fit (last_arm b) fine sized v pc lp s f = block_fits b fine sized pc lp s f
       arms_fit (and_arm cs b arms) fine sized v pc lp s f =
           choose_all (λ z. Fits w z.store) cs (does_block w at enter b) (does_arms w at enter arms) v pc s
           (block_fits b fine.0 sized.0 pc lp s f) (arms_fit arms fine.1 sized.1 v pc lp s f)
 
-      pub block_fits : (b : Block) → FineBlock w q at.children b → SizedBlock w b → (pc : ℕ) → Level pc → Fitting (does_block w at enter b pc)
+      pub block_fits : (b : Block) → EveryInBlock (FineCommand w q at.children) b → EveryInBlock (SizedCommand w) b → (pc : ℕ) → Level pc
+          → Fitting (does_block w at enter b pc)
       block_fits end_block fine sized pc lp s f = f
       block_fits (command_then c cs) fine sized pc lp s f = block_fits cs fine.1 sized.1 pc lp _ (does_fits c fine.0 sized.0 pc lp s f)
 

@@ -13,9 +13,10 @@ use Rattle.sap_meaning.specs.Does.{effect, attempt, attempt_then, select, branch
 use Rattle.sap_meaning.specs.Cycle.{Tagged, at_inputs, given, set_inputs}
 use Rattle.sap_meaning.specs.State.{Holds, Rests, first}
 pub use Rattle.sap_meaning.specs.Laws.{Keeps}
-use Rattle.sap_meaning.specs.Fine.{FineStep, FineCommand, FineArms, FineBlock, FineState, FineGroup}
+use Rattle.sap_meaning.specs.Fine.{FineStep, FineCommand, FineState, FineGroup}
 use Rattle.sap_meaning.proofs.Trees.{lands}
 use Rattle.sap_meaning.proofs.Slots.{slot_same, owner_home, home_start, home_next, level_raise, level_reset, level_settle, owner_source, raised_hangs, lowered_dynamic, held_source, held_register}
+use Rattle.sap_meaning.specs.Walks.{Every, EveryInArms, EveryInBlock}
 
 -- all that hangs is dynamic
 abbrev pub OfDynamic : World → (ℕ → Bool) → Type 0
@@ -167,7 +168,7 @@ module _ (w : World) (at : Home) (q : Group) (landing : (target : ℕ) → among
   mutual
     unfolding does does_arms does_block
 
-    pub does_holds : (c : Command) → FineCommand w q at.children c → (pc : ℕ) → Keeps w (does w at enter c pc)
+    pub does_holds : (c : Command) → Every (FineCommand w q at.children) c → (pc : ℕ) → Keeps w (does w at enter c pc)
     does_holds (lone k) fine pc s r = attempt_holds k fine (raised_alone w at k) (λ p t. stay t) (alone_dynamic k) (λ p t h. h) pc s r
     does_holds (try k hang h) fine pc s r = attempt_holds k fine.0 (touches w at (try k hang h)) (does_block w at enter h)
         (λ x i. and_left (is_dynamic w x) _ i) (λ p t i. block_holds h fine.1 p t i) pc s r
@@ -180,12 +181,12 @@ module _ (w : World) (at : Home) (q : Group) (landing : (target : ℕ) → among
     does_holds (case_of hang e arms) fine pc s r =
         select_holds e (touches w at (case_of hang e arms)) (does_arms w at enter arms) (λ x i. and_left (is_dynamic w x) _ i) (λ v p t i. arms_hold arms fine.1 v p t i) pc s r
 
-    pub arms_hold : (arms : Arms) → FineArms w q at.children arms → (v pc : ℕ) → Keeps w (does_arms w at enter arms v pc)
+    pub arms_hold : (arms : Arms) → EveryInArms (FineCommand w q at.children) arms → (v pc : ℕ) → Keeps w (does_arms w at enter arms v pc)
     arms_hold (last_arm b) fine v pc s r = block_holds b fine pc s r
     arms_hold (and_arm cs b arms) fine v pc s r =
         choose_all (λ z. Holds w z.store) cs (does_block w at enter b) (does_arms w at enter arms) v pc s (block_holds b fine.0 pc s r) (arms_hold arms fine.1 v pc s r)
 
-    pub block_holds : (b : Block) → FineBlock w q at.children b → (pc : ℕ) → Keeps w (does_block w at enter b pc)
+    pub block_holds : (b : Block) → EveryInBlock (FineCommand w q at.children) b → (pc : ℕ) → Keeps w (does_block w at enter b pc)
     block_holds end_block fine pc s r = r
     block_holds (command_then c cs) fine pc s r = block_holds cs fine.1 pc _ (does_holds c fine.0 pc s r)
 

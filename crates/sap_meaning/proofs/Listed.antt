@@ -10,8 +10,9 @@ use Rattle.sap_meaning.specs.Touches.{raised_alone, root_touches}
 use Rattle.sap_meaning.specs.Does.{effect, attempt, attempt_then, select, branch, is_constant, choose_arm, does, does_arms, does_block, does_state, does_child}
 use Rattle.sap_meaning.specs.Runs.{listed_alone, run, run_arms, run_block, run_state, run_child}
 use Rattle.sap_meaning.specs.Cycle.{set_inputs, root_fall, cycle, cycle_listed}
-use Rattle.sap_meaning.specs.Fine.{ExactStep, Exact, ExactArms, ExactBlock, ExactState, ExactGroup}
+use Rattle.sap_meaning.specs.Fine.{ExactStep, ExactState, ExactGroup, ExactCommand}
 use Rattle.sap_meaning.specs.Laws.{ListsServe}
+use Rattle.sap_meaning.specs.Walks.{Every, EveryInArms, EveryInBlock}
 
 abbrev Alike : (ℕ → Store → After) → (ℕ → Store → After) → Type 0
 Alike f g = (pc : ℕ) (s : Store) → f pc s ≡ g pc s
@@ -72,19 +73,19 @@ module _ (w : World) (at : Home) (enter enter' : ℕ → ℕ → Store → After
   mutual
     unfolding run run_arms run_block does does_arms does_block
 
-    run_same : (c : Command) → Exact w at c → Alike (run w at enter c) (does w at enter' c)
+    run_same : (c : Command) → Every (ExactCommand w at) c → Alike (run w at enter c) (does w at enter' c)
     run_same (lone k) fine = attempt_same k _ _ _ _ (alone_same k fine) (λ pc s. refl)
     run_same (try k hang h) fine = attempt_same k _ _ _ _ fine.0 (block_same h fine.1)
     run_same (if_else hang e a b) fine = select_same e _ _ _ _ _ _ fine.0 (block_same a fine.1) (block_same b fine.2)
     run_same (try_then k hang a b) fine = attempt_then_same k _ _ _ _ _ _ fine.0 (block_same a fine.1) (block_same b fine.2)
     run_same (case_of hang e arms) fine = pick_same e _ _ _ _ fine.0 (λ v. arms_same arms fine.1 v)
 
-    arms_same : (arms : Arms) → ExactArms w at arms → (v : ℕ) → Alike (run_arms w at enter arms v) (does_arms w at enter' arms v)
+    arms_same : (arms : Arms) → EveryInArms (ExactCommand w at) arms → (v : ℕ) → Alike (run_arms w at enter arms v) (does_arms w at enter' arms v)
     arms_same (last_arm b) fine v = block_same b fine
     arms_same (and_arm cs b arms) fine v =
         choose_same cs _ _ (run_arms w at enter arms) (does_arms w at enter' arms) v (block_same b fine.0) (arms_same arms fine.1 v)
 
-    pub block_same : (b : Block) → ExactBlock w at b → Alike (run_block w at enter b) (does_block w at enter' b)
+    pub block_same : (b : Block) → EveryInBlock (ExactCommand w at) b → Alike (run_block w at enter b) (does_block w at enter' b)
     block_same end_block fine pc s = refl
     block_same (command_then c cs) fine pc s = then_same _ _ _ _ (run_same c fine.0 pc s) (λ r. block_same cs fine.1 pc r)
 

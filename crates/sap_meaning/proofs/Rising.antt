@@ -11,10 +11,11 @@ use Rattle.sap_meaning.specs.Checks.{Home, child_opens, guard, test}
 use Rattle.sap_meaning.specs.Touches.{touches, raised_alone, root_touches}
 use Rattle.sap_meaning.specs.Does.{effect, attempt, attempt_then, select, branch, does, does_arms, does_block, does_state, does_child}
 use Rattle.sap_meaning.specs.Cycle.{set_inputs, root_fall, cycle}
-use Rattle.sap_meaning.specs.Fine.{transfers, Open, OpenArms, OpenBlock, Closes, Final, ClosingArms, FineState, FineGroup}
+use Rattle.sap_meaning.specs.Fine.{transfers, Open, Closes, Final, ClosingArms, FineState, FineGroup, NoTransfer}
 use Rattle.sap_meaning.specs.Sites.{some_enforced, is_site, PlacedStep, step_sites, command_sites, arms_sites, block_sites, state_sites, group_sites, program_sites, refused_sites, Sublist, RisesFrom}
 use Rattle.sap_meaning.specs.Laws.{SitesInOrder}
 use Rattle.sap_meaning.proofs.Keeps.{branch_all, choose_all}
+use Rattle.sap_meaning.specs.Walks.{EveryInArms, EveryInBlock}
 
 refused-append : (a b : List Refusal) → refused_sites (a ++ b) ≡ refused_sites a ++ refused_sites b
 refused-append [] b = refl
@@ -139,13 +140,13 @@ module _ (w : World) where
       open_from (case_of hang e arms) plain pc s =
           pick_from e (touches w at (case_of hang e arms)) (does_arms w at enter arms) (OwnArms arms) (λ v p t. open_arms arms plain.1 v p t) pc s
 
-      open_arms : (arms : Arms) → OpenArms arms → (v pc : ℕ) (s : Store) → From (does_arms w at enter arms v pc s) (OwnArms arms)
+      open_arms : (arms : Arms) → EveryInArms NoTransfer arms → (v pc : ℕ) (s : Store) → From (does_arms w at enter arms v pc s) (OwnArms arms)
       open_arms (last_arm b) plain v pc s = open_list b plain pc s
       open_arms (and_arm cs b arms) plain v pc s =
           choose_all (λ z. From z (OwnBlock b ++ OwnArms arms)) cs (does_block w at enter b) (does_arms w at enter arms) v pc s
           (sites_front _ (OwnBlock b) (OwnArms arms) (open_list b plain.0 pc s)) (sites_behind _ (OwnBlock b) (OwnArms arms) (open_arms arms plain.1 v pc s))
 
-      open_list : (b : Block) → OpenBlock b → (pc : ℕ) (s : Store) → From (does_block w at enter b pc s) (OwnBlock b)
+      open_list : (b : Block) → EveryInBlock NoTransfer b → (pc : ℕ) (s : Store) → From (does_block w at enter b pc s) (OwnBlock b)
       open_list end_block plain pc s = tt
       open_list (command_then c cs) plain pc s =
           rw (refused-append (does w at enter c pc s).refused)

@@ -3,7 +3,7 @@ use Rattle.std.specs.Prelude.{◌≡◌, ℕ, zero, suc, ◌<◌, ◌≤◌, Boo
 use Rattle.sap_lattice.specs.Order.{Laws}
 use Rattle.sap_maps.specs.Term.{Term, constant, read, cell, one, two, choose, join, part}
 use Rattle.sap_meaning.specs.Program.{World, Program, entity, is_dynamic, is_input, is_register, is_memory, is_state, authority, children, root, place, last, below, listed, LevelTerm, Step, assign, write, retag, retag_cell, go_to, fall_to_child, Command, lone, try, if_else, try_then, case_of, Arms, last_arm, and_arm, Block, end_block, command_then, State, state_node, Group, no_node, and_node}
-use Rattle.sap_meaning.specs.Walks.{EveryLevel, Every, EveryInArms, EveryInBlock, Asks, some, some_in_arms, some_in_block, some_body, some_body_in}
+use Rattle.sap_meaning.specs.Walks.{EveryLevel, Every, EveryInBlock, Asks, some, some_in_arms, some_in_block, some_body, some_body_in}
 use Rattle.sap_meaning.specs.Checks.{Home}
 use Rattle.sap_meaning.specs.Touches.{among, touches, root_touches}
 
@@ -37,14 +37,9 @@ FineStep w q g (retag_cell site m j n) = (is_memory w m ≡ true) × (is_dynamic
 FineStep w q g (go_to site target) = among q target ≡ true
 FineStep w q g (fall_to_child site hang) = 0 < size g
 
+-- what is asked of a command alone
 abbrev pub FineCommand : World → (siblings children : Group) → Command → Type 0
-FineCommand w q g c = Every (Asks (FineStep w q g) (FineTerm w)) c
-
-abbrev pub FineArms : World → (siblings children : Group) → Arms → Type 0
-FineArms w q g arms = EveryInArms (Asks (FineStep w q g) (FineTerm w)) arms
-
-abbrev pub FineBlock : World → (siblings children : Group) → Block → Type 0
-FineBlock w q g b = EveryInBlock (Asks (FineStep w q g) (FineTerm w)) b
+FineCommand w q g c = Asks (FineStep w q g) (FineTerm w) c
 
 -- a goto or a fall
 abbrev pub transfers : Step → Bool
@@ -62,12 +57,6 @@ NoTransfer c = Asks (λ k. transfers k ≡ false) (λ e. Unit {0}) c
 -- no transfer stands in it
 abbrev pub Open : Command → Type 0
 Open c = Every NoTransfer c
-
-abbrev pub OpenArms : Arms → Type 0
-OpenArms arms = EveryInArms NoTransfer arms
-
-abbrev pub OpenBlock : Block → Type 0
-OpenBlock b = EveryInBlock NoTransfer b
 
 -- A list closes: its last command is a transfer, whose handler closes, or an `if` whose branches close, or a `then` whose
 -- command is no transfer or a `case`, whose blocks close, and all before it are open.
@@ -99,12 +88,6 @@ step_writes (fall_to_child site hang) m = false
 
 abbrev pub writes : Command → ℕ → Bool
 writes c m = some (λ k. step_writes k m) c
-
-abbrev pub arms_write : Arms → ℕ → Bool
-arms_write arms m = some_in_arms (λ k. step_writes k m) arms
-
-abbrev pub block_writes : Block → ℕ → Bool
-block_writes b m = some_in_block (λ k. step_writes k m) b
 
 -- it writes m, or falls, where m is written by what a fall leads to
 abbrev pub step_reaching : (falls : ℕ → Bool) → Step → ℕ → Bool
@@ -193,9 +176,6 @@ step_retags (fall_to_child site hang) x = false
 abbrev pub retags : Command → ℕ → Bool
 retags c x = some (λ k. step_retags k x) c
 
-abbrev pub arms_retag : Arms → ℕ → Bool
-arms_retag arms x = some_in_arms (λ k. step_retags k x) arms
-
 abbrev pub block_retags : Block → ℕ → Bool
 block_retags b x = some_in_block (λ k. step_retags k x) b
 
@@ -231,7 +211,7 @@ pub record FineNode (w : World) (q : Group) (n s : ℕ) (b : Block) (g : Group) 
   pub numbers : (x : ℕ) → inside g x ≡ below w s x
   pub itself : s ≤ last w s
   pub declared : last w s < root w
-  pub steps : FineBlock w q g b
+  pub steps : EveryInBlock (FineCommand w q g) b
   pub closes : Closes b
   -- a body retags neither its own state nor one above or below it
   pub retags_itself : (block_retags b s || group_retags g s) ≡ false
@@ -266,18 +246,9 @@ ExactCommand w at (if_else hang e a b) = ExactList w at hang (if_else hang e a b
 ExactCommand w at (try_then k hang a b) = ExactList w at hang (try_then k hang a b)
 ExactCommand w at (case_of hang e arms) = ExactList w at hang (case_of hang e arms)
 
-abbrev pub Exact : World → Home → Command → Type 0
-Exact w at c = Every (ExactCommand w at) c
-
-abbrev pub ExactArms : World → Home → Arms → Type 0
-ExactArms w at arms = EveryInArms (ExactCommand w at) arms
-
-abbrev pub ExactBlock : World → Home → Block → Type 0
-ExactBlock w at b = EveryInBlock (ExactCommand w at) b
-
 abbrev mutual
   pub ExactState : World → (parent : ℕ) → State → Type 0
-  ExactState w p (state_node s b g) = ExactBlock w (record { state = s; parent = p; children = g }) b × ExactGroup w s g
+  ExactState w p (state_node s b g) = EveryInBlock (ExactCommand w (record { state = s; parent = p; children = g })) b × ExactGroup w s g
 
   pub ExactGroup : World → (parent : ℕ) → Group → Type 0
   ExactGroup w p no_node = Unit {0}

@@ -10,6 +10,7 @@ use Rattle.sap_meaning.specs.State.{Holds, Resting, first, Fits, InputsFit}
 use Rattle.sap_meaning.specs.Fine.{FineProgram, FineCommand, ExactProgram}
 use Rattle.sap_meaning.specs.Sized.{SizedProgram}
 use Rattle.sap_meaning.specs.Sites.{program_sites, refused_sites, Sublist, RisesFrom}
+use Rattle.sap_meaning.specs.Walks.{Every}
 
 -- Where the lists in a program are exact, a cycle by them is the cycle.
 abbrev pub ListsServe : Type 0
@@ -24,7 +25,7 @@ Keeps w f = (s : Store) → Holds w s → Holds w (f s).store
 abbrev pub CommandsKeep : Type 0
 CommandsKeep = (w : World) (at : Home) (q : Group) → ((s : ℕ) → among q s ≡ true → place w s < children w at.parent)
     → (enter : ℕ → ℕ → Store → After) → ((n pc : ℕ) → Keeps w (enter n pc))
-    → (c : Command) → FineCommand w q at.children c → (pc : ℕ) → Keeps w (does w at enter c pc)
+    → (c : Command) → Every (FineCommand w q at.children) c → (pc : ℕ) → Keeps w (does w at enter c pc)
 
 -- .. the first state is one between cycles, and every cycle leads from such a one to another.
 abbrev pub StatesRest : Type 0

@@ -2,8 +2,8 @@
 use Rattle.std.specs.Prelude.{◌≡◌, ℕ, ◌<◌, ◌^◌, List}
 use Rattle.std.specs.List.{AllByRecursion}
 use Rattle.sap_maps.specs.Term.{Term, constant, read, cell, one, two, choose, join, part, TermFits}
-use Rattle.sap_meaning.specs.Program.{World, Program, entity, width, depth_of, LevelTerm, Step, assign, write, retag, retag_cell, go_to, fall_to_child, Command, lone, try, if_else, try_then, case_of, Arms, Block, State, Group}
-use Rattle.sap_meaning.specs.Walks.{EveryLevel, Every, EveryInArms, EveryInBlock, arm_constants, EveryBody, EveryBodyIn}
+use Rattle.sap_meaning.specs.Program.{World, Program, entity, width, depth_of, LevelTerm, Step, assign, write, retag, retag_cell, go_to, fall_to_child, Command, lone, try, if_else, try_then, case_of, State, Group}
+use Rattle.sap_meaning.specs.Walks.{EveryLevel, EveryInBlock, arm_constants, EveryBody, EveryBodyIn}
 use Rattle.sap_meaning.specs.Expressions.{width_of}
 
 abbrev pub depth : World → ℕ → ℕ
@@ -43,27 +43,18 @@ abbrev pub AreWithin : (width : ℕ) → List ℕ → Type 0
 AreWithin u ns = AllByRecursion (λ n. n < 2 ^ u) ns
 
 -- A condition has one bit, and the constants of a `case` are within the width of its number.
-abbrev pub SizedHere : World → Command → Type 0
-SizedHere w (lone k) = SizedStep w k
-SizedHere w (try k hang h) = SizedStep w k
-SizedHere w (if_else hang e a b) = SizedTerm w e × (width_of w e ≡ 1)
-SizedHere w (try_then k hang a b) = SizedStep w k
-SizedHere w (case_of hang e arms) = SizedTerm w e × AllByRecursion (AreWithin (width_of w e)) (arm_constants arms)
-
-abbrev pub Sized : World → Command → Type 0
-Sized w c = Every (SizedHere w) c
-
-abbrev pub SizedArms : World → Arms → Type 0
-SizedArms w arms = EveryInArms (SizedHere w) arms
-
-abbrev pub SizedBlock : World → Block → Type 0
-SizedBlock w b = EveryInBlock (SizedHere w) b
+abbrev pub SizedCommand : World → Command → Type 0
+SizedCommand w (lone k) = SizedStep w k
+SizedCommand w (try k hang h) = SizedStep w k
+SizedCommand w (if_else hang e a b) = SizedTerm w e × (width_of w e ≡ 1)
+SizedCommand w (try_then k hang a b) = SizedStep w k
+SizedCommand w (case_of hang e arms) = SizedTerm w e × AllByRecursion (AreWithin (width_of w e)) (arm_constants arms)
 
 abbrev pub SizedState : World → State → Type 0
-SizedState w t = EveryBody (SizedBlock w) t
+SizedState w t = EveryBody (EveryInBlock (SizedCommand w)) t
 
 abbrev pub SizedGroup : World → Group → Type 0
-SizedGroup w g = EveryBodyIn (SizedBlock w) g
+SizedGroup w g = EveryBodyIn (EveryInBlock (SizedCommand w)) g
 
 pub record SizedProgram (p : Program) : Type 0 where
   pub states : SizedGroup p.world p.states

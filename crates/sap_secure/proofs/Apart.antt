@@ -6,9 +6,10 @@ use Rattle.sap_meaning.proofs.ProgramLemmas.{memory_no_state, register_no_memory
 use Rattle.sap_meaning.proofs.FineLemmas.{inside_among}
 use Rattle.sap_meaning.specs.Program.{World, is_dynamic, entity, is_register, is_memory, is_state, Step, assign, write, retag, retag_cell, go_to, fall_to_child, Command, Block, State, state_node, Group, no_node, and_node}
 use Rattle.sap_meaning.specs.Touches.{among, step_assigns, assigns, block_assigns, state_assigns, group_assigns, step_hangs, hangs, block_hangs}
-use Rattle.sap_meaning.specs.Fine.{FineTerm, FineStep, FineCommand, FineBlock, FineState, FineGroup, inside, step_writes, writes, step_reaches, reaches, block_reaches}
+use Rattle.sap_meaning.specs.Fine.{FineTerm, FineStep, FineCommand, FineState, FineGroup, inside, step_writes, writes, step_reaches, reaches, block_reaches}
 use Rattle.sap_meaning.proofs.WalksLemmas.{none_passes, none_passes_in_block, some_follows, some_follows_in_block, passes_follow, gathered_alike, gathered_in_block_alike}
 use Rattle.sap_secure.proofs.Concerns.{parted_of, group_parted, step_concerns, concerns, block_concerns}
+use Rattle.sap_meaning.specs.Walks.{Every, EveryInBlock}
 
 module _ (w : World) where
   pub register_apart : (x y : ℕ) → is_state w x ≡ true → is_register w y ≡ true → nat_eq x y ≡ false
@@ -39,10 +40,10 @@ module _ (w : World) where
     step_unassigned q j (go_to site target) fine = refl
     step_unassigned q j (fall_to_child site hang) fine = refl
 
-    pub unassigned : (q j : Group) (c : Command) → FineCommand w q j c → assigns c x ≡ false
+    pub unassigned : (q j : Group) (c : Command) → Every (FineCommand w q j) c → assigns c x ≡ false
     unassigned q j c fine = none_passes (FineStep w q j) (FineTerm w) (λ k. step_assigns k x) (step_unassigned q j) c fine
 
-    pub block_unassigned : (q j : Group) (b : Block) → FineBlock w q j b → block_assigns b x ≡ false
+    pub block_unassigned : (q j : Group) (b : Block) → EveryInBlock (FineCommand w q j) b → block_assigns b x ≡ false
     block_unassigned q j b fine = none_passes_in_block (FineStep w q j) (FineTerm w) (λ k. step_assigns k x) (step_unassigned q j) b fine
 
     mutual
@@ -63,10 +64,10 @@ module _ (w : World) where
     step_hung q j (go_to site target) fine h = cc
     step_hung q j (fall_to_child site hang) fine h = sym (group_parted w m (parted_of w m mem d) g) ∙ rw kids at h
 
-    pub hung : (q j : Group) (c : Command) → FineCommand w q j c → concerns w e g c m ≡ true → reaches g c m ≡ true
+    pub hung : (q j : Group) (c : Command) → Every (FineCommand w q j) c → concerns w e g c m ≡ true → reaches g c m ≡ true
     hung q j c fine h = some_follows (FineStep w q j) (FineTerm w) (λ k. step_concerns w e g k m) (λ k. step_reaches g k m) (step_hung q j) c fine h
 
-    pub block_hung : (q j : Group) (b : Block) → FineBlock w q j b → block_concerns w e g b m ≡ true → block_reaches g b m ≡ true
+    pub block_hung : (q j : Group) (b : Block) → EveryInBlock (FineCommand w q j) b → block_concerns w e g b m ≡ true → block_reaches g b m ≡ true
     block_hung q j b fine h = some_follows_in_block (FineStep w q j) (FineTerm w) (λ k. step_concerns w e g k m) (λ k. step_reaches g k m) (step_hung q j) b fine h
 
   -- a state that is neither the body's own nor a child hangs on nothing
@@ -79,10 +80,10 @@ module _ (w : World) where
     step_unhung q (go_to site target) fine = own
     step_unhung q (fall_to_child site hang) fine = or_from _ _ kids free
 
-    pub unhung : (q : Group) (c : Command) → FineCommand w q g c → hangs e g c x ≡ false
+    pub unhung : (q : Group) (c : Command) → Every (FineCommand w q g) c → hangs e g c x ≡ false
     unhung q c fine = none_passes (FineStep w q g) (FineTerm w) (λ k. step_hangs e g k x) (step_unhung q) c fine
 
-    pub block_unhung : (q : Group) (b : Block) → FineBlock w q g b → block_hangs e g b x ≡ false
+    pub block_unhung : (q : Group) (b : Block) → EveryInBlock (FineCommand w q g) b → block_hangs e g b x ≡ false
     block_unhung q b fine = none_passes_in_block (FineStep w q g) (FineTerm w) (λ k. step_hangs e g k x) (step_unhung q) b fine
 
   -- what writes, reaches

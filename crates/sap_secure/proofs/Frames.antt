@@ -11,11 +11,12 @@ use Rattle.sap_meaning.specs.Expressions.{value, tag}
 use Rattle.sap_meaning.specs.Checks.{Home, guard, test}
 use Rattle.sap_meaning.specs.Touches.{among, step_hangs, hangs, block_hangs, touches, raised_alone, group_assigns, arms_hang}
 use Rattle.sap_meaning.specs.Does.{effect, attempt, select, branch, does, does_block, does_state, does_child, attempt_then, does_arms}
-use Rattle.sap_meaning.specs.Fine.{FineStep, FineCommand, FineBlock, FineState, FineGroup, transfers, Open, OpenBlock, step_writes, writes, block_writes, step_retags, retags, block_retags, state_retags, group_retags, inside, FineArms, OpenArms, arms_write, arms_retag}
+use Rattle.sap_meaning.specs.Fine.{FineStep, FineCommand, FineState, FineGroup, transfers, Open, step_writes, writes, step_retags, retags, block_retags, state_retags, group_retags, inside, NoTransfer}
 use Rattle.sap_meaning.proofs.Slots.{slot_same, home_next, home_start, owner_home}
 use Rattle.sap_meaning.proofs.Keeps.{branch_all, choose_all}
 use Rattle.sap_secure.proofs.Apart.{register_apart, memory_apart, state_no_register, state_no_memory, group_unassigned, unhung}
 use Rattle.sap_secure.proofs.Sites.{Site, spot, Proper, ProperBlock, ProperStep, ProperArms}
+use Rattle.sap_meaning.specs.Walks.{Every, EveryInArms, EveryInBlock, some_in_arms, some_in_block}
 
 -- the level of z and the current child of q
 pub record Kept (w : World) (z : Slot) (q : ℕ) (s t : Store) : Type 0 where
@@ -131,11 +132,11 @@ module _ (w : World) (i : Site w) (q : ℕ) where
       command_off (try_then k hang a b) fine plain = or_from _ _ (step_off k fine.0 plain.0) (or_from _ _ (block_off a fine.1 plain.1) (block_off b fine.2 plain.2))
       command_off (case_of hang e arms) fine plain = arms_off arms fine.1 plain.1
 
-      arms_off : (arms : Arms) → ProperArms w i arms → OpenArms arms → arms_hang i.state i.kids arms x ≡ false
+      arms_off : (arms : Arms) → ProperArms w i arms → EveryInArms NoTransfer arms → arms_hang i.state i.kids arms x ≡ false
       arms_off (last_arm b) fine plain = block_off b fine plain
       arms_off (and_arm constants b arms) fine plain = or_from _ _ (block_off b fine.0 plain.0) (arms_off arms fine.1 plain.1)
 
-      block_off : (b : Block) → ProperBlock w i b → OpenBlock b → block_hangs i.state i.kids b x ≡ false
+      block_off : (b : Block) → ProperBlock w i b → EveryInBlock NoTransfer b → block_hangs i.state i.kids b x ≡ false
       block_off end_block fine plain = refl
       block_off (command_then c cs) fine plain = or_from _ _ (command_off c fine.0 plain.0) (block_off cs fine.1 plain.1)
 
@@ -168,7 +169,7 @@ module _ (w : World) (i : Site w) (q : ℕ) where
           (untouched (is_dynamic w x) _ (command_off (case_of hang e arms) fine plain))
           (λ v p t. open_arms arms fine.1 plain.1 un v p t)
 
-      open_arms : (arms : Arms) → ProperArms w i arms → OpenArms arms → arms_retag arms x ≡ false → (v pc : ℕ) (t : Store)
+      open_arms : (arms : Arms) → ProperArms w i arms → EveryInArms NoTransfer arms → some_in_arms (λ k. step_retags k x) arms ≡ false → (v pc : ℕ) (t : Store)
           → Kept w (own x) q t (does_arms w (spot i) i.enter arms v pc t).store
       open_arms (last_arm b) fine plain un v pc t = open_list b fine plain un pc t
       open_arms (and_arm cs b arms) fine plain un v pc t =
@@ -176,7 +177,8 @@ module _ (w : World) (i : Site w) (q : ℕ) where
           (open_list b fine.0 plain.0 (neither_left _ _ un) pc t)
           (open_arms arms fine.1 plain.1 (neither_right (block_retags b x) _ un) v pc t)
 
-      open_list : (b : Block) → ProperBlock w i b → OpenBlock b → block_retags b x ≡ false → (pc : ℕ) (t : Store) → Kept w (own x) q t (does_block w (spot i) i.enter b pc t).store
+      open_list : (b : Block) → ProperBlock w i b → EveryInBlock NoTransfer b → block_retags b x ≡ false → (pc : ℕ) (t : Store)
+          → Kept w (own x) q t (does_block w (spot i) i.enter b pc t).store
       open_list end_block fine plain un pc t = kept_self w (own x) q t
       open_list (command_then c cs) fine plain un pc t =
           kept_next w (own x) q _ _ _ (open_kept c fine.0 plain.0 (neither_left _ _ un) pc t) (open_list cs fine.1 plain.1 (neither_right (retags c x) _ un) pc _)
@@ -213,21 +215,23 @@ module _ (w : World) (i : Site w) (q : ℕ) where
           (λ b r. cell_step k plain.0 (neither_left _ _ un) pc b r) (λ p t. cell_list h plain.1 (neither_right (step_writes k m) _ un) p t)
       cell_kept (if_else hang e a b) plain un pc t =
           kept_select w z q e (touches w (spot i) (if_else hang e a b)) (does_block w (spot i) i.enter a) (does_block w (spot i) i.enter b) pc t (cell _)
-          (λ p t. cell_list a plain.1 (neither_left _ _ un) p t) (λ p t. cell_list b plain.2 (neither_right (block_writes a m) _ un) p t)
+          (λ p t. cell_list a plain.1 (neither_left _ _ un) p t) (λ p t. cell_list b plain.2 (neither_right (some_in_block (λ k. step_writes k m) a) _ un) p t)
       cell_kept (try_then k hang a b) plain un pc t =
           kept_attempt_then w z q (spot i) i.enter k (touches w (spot i) (try_then k hang a b)) (does_block w (spot i) i.enter a) (does_block w (spot i) i.enter b) pc t (cell _)
           (λ b' r. cell_step k plain.0 (neither_left _ _ un) pc b' r) (λ p t. cell_list a plain.1 (neither_left _ _ (neither_right (step_writes k m) _ un)) p t)
-          (λ p t. cell_list b plain.2 (neither_right (block_writes a m) _ (neither_right (step_writes k m) _ un)) p t)
+          (λ p t. cell_list b plain.2 (neither_right (some_in_block (λ k. step_writes k m) a) _ (neither_right (step_writes k m) _ un)) p t)
       cell_kept (case_of hang e arms) plain un pc t =
           kept_pick w z q e (touches w (spot i) (case_of hang e arms)) (does_arms w (spot i) i.enter arms) pc t (cell _) (λ v p t. cell_arms arms plain.1 un v p t)
 
-      cell_arms : (arms : Arms) → OpenArms arms → arms_write arms m ≡ false → (v pc : ℕ) (t : Store) → Kept w z q t (does_arms w (spot i) i.enter arms v pc t).store
+      cell_arms : (arms : Arms) → EveryInArms NoTransfer arms → some_in_arms (λ k. step_writes k m) arms ≡ false → (v pc : ℕ) (t : Store)
+          → Kept w z q t (does_arms w (spot i) i.enter arms v pc t).store
       cell_arms (last_arm b) plain un v pc t = cell_list b plain un pc t
       cell_arms (and_arm cs b arms) plain un v pc t =
           choose_all (λ r. Kept w z q t r.store) cs (does_block w (spot i) i.enter b) (does_arms w (spot i) i.enter arms) v pc t (cell_list b plain.0 (neither_left _ _ un) pc t)
-          (cell_arms arms plain.1 (neither_right (block_writes b m) _ un) v pc t)
+          (cell_arms arms plain.1 (neither_right (some_in_block (λ k. step_writes k m) b) _ un) v pc t)
 
-      cell_list : (b : Block) → OpenBlock b → block_writes b m ≡ false → (pc : ℕ) (t : Store) → Kept w z q t (does_block w (spot i) i.enter b pc t).store
+      cell_list : (b : Block) → EveryInBlock NoTransfer b → some_in_block (λ k. step_writes k m) b ≡ false → (pc : ℕ) (t : Store)
+          → Kept w z q t (does_block w (spot i) i.enter b pc t).store
       cell_list end_block plain un pc t = kept_self w z q t
       cell_list (command_then c cs) plain un pc t =
           kept_next w z q _ _ _ (cell_kept c plain.0 (neither_left _ _ un) pc t) (cell_list cs plain.1 (neither_right (writes c m) _ un) pc _)
@@ -311,7 +315,7 @@ module _ (w : World) (e p : ℕ) (s : is_state w e ≡ true) where
     mutual
       unfolding does does_arms does_block
 
-      pub under_kept : (j : Command) → FineCommand w g k j → retags j e ≡ false → (pc : ℕ) (t : Store) → Kept w (own e) p t (does w Here enter j pc t).store
+      pub under_kept : (j : Command) → Every (FineCommand w g k) j → retags j e ≡ false → (pc : ℕ) (t : Store) → Kept w (own e) p t (does w Here enter j pc t).store
       under_kept (lone j) fine un pc t =
           kept_attempt w (own e) p Here enter j (raised_alone w Here j) (λ q t. stay t) pc t (alone_free j fine)
           (λ b r. under_step j fine un pc b r) (λ q t. kept_self w (own e) p t)
@@ -332,13 +336,15 @@ module _ (w : World) (e p : ℕ) (s : is_state w e ≡ true) where
           kept_pick w (own e) p u (touches w Here (case_of hang u arms)) (does_arms w Here enter arms) pc t
           (not_touched (is_dynamic w e) _ (unhung w e s c k own_out kids_out free g (case_of hang u arms) fine)) (λ v q t. under_arms arms fine.1 un v q t)
 
-      under_arms : (arms : Arms) → FineArms w g k arms → arms_retag arms e ≡ false → (v pc : ℕ) (t : Store) → Kept w (own e) p t (does_arms w Here enter arms v pc t).store
+      under_arms : (arms : Arms) → EveryInArms (FineCommand w g k) arms → some_in_arms (λ k. step_retags k e) arms ≡ false → (v pc : ℕ) (t : Store)
+          → Kept w (own e) p t (does_arms w Here enter arms v pc t).store
       under_arms (last_arm b) fine un v pc t = under_list b fine un pc t
       under_arms (and_arm cs b arms) fine un v pc t =
           choose_all (λ r. Kept w (own e) p t r.store) cs (does_block w Here enter b) (does_arms w Here enter arms) v pc t (under_list b fine.0 (neither_left _ _ un) pc t)
           (under_arms arms fine.1 (neither_right (block_retags b e) _ un) v pc t)
 
-      under_list : (b : Block) → FineBlock w g k b → block_retags b e ≡ false → (pc : ℕ) (t : Store) → Kept w (own e) p t (does_block w Here enter b pc t).store
+      under_list : (b : Block) → EveryInBlock (FineCommand w g k) b → block_retags b e ≡ false → (pc : ℕ) (t : Store)
+          → Kept w (own e) p t (does_block w Here enter b pc t).store
       under_list end_block fine un pc t = kept_self w (own e) p t
       under_list (command_then j js) fine un pc t =
           kept_next w (own e) p _ _ _ (under_kept j fine.0 (neither_left _ _ un) pc t) (under_list js fine.1 (neither_right (retags j e) _ un) pc _)

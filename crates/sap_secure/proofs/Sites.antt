@@ -4,12 +4,12 @@ use Rattle.std.proofs.lemmas.Grind.{common_steps}
 use Rattle.sap_lemmas.proofs.Bools.{and_left, and_right, neither_left, neither_right}
 use Rattle.std.proofs.lemmas.Bool.{eqb-true, false_from_ne_true, or_cases, or_from, or_right}
 use Rattle.sap_meaning.specs.Program.{World, children, is_dynamic, is_memory, is_state, last, below, root, Step, Command, lone, try, if_else, try_then, case_of, Arms, last_arm, and_arm, Block, end_block, command_then, state_node, Group, no_node, and_node}
-use Rattle.sap_meaning.specs.Walks.{Every, EveryInArms, EveryInBlock, Asks}
+use Rattle.sap_meaning.specs.Walks.{Every, EveryInArms, EveryInBlock, Asks, some_in_arms}
 use Rattle.sap_meaning.proofs.WalksLemmas.{every_follows, every_follows_in_arms, every_follows_in_block, asks_follows, none_passes, none_passes_in_block}
 use Rattle.sap_meaning.specs.Store.{Store, After}
 use Rattle.sap_meaning.specs.Checks.{Home}
 use Rattle.sap_meaning.specs.Touches.{among}
-use Rattle.sap_meaning.specs.Fine.{FineTerm, FineStep, FineCommand, FineBlock, FineNode, FineState, FineGroup, Open, OpenBlock, Closes, Final, writes, reaches, block_reaches, step_retags, retags, block_retags, inside, size, FineArms, arms_retag}
+use Rattle.sap_meaning.specs.Fine.{FineTerm, FineStep, FineCommand, FineNode, FineState, FineGroup, Open, Closes, Final, writes, reaches, block_reaches, step_retags, retags, block_retags, inside, size, NoTransfer}
 use Rattle.sap_meaning.proofs.Bools.{and_false}
 use Rattle.sap_meaning.proofs.Trees.{Nth, nth_fine}
 use Rattle.sap_secure.proofs.Concerns.{block_concerns}
@@ -129,7 +129,7 @@ ProperBlock w i b = EveryInBlock (Asks (ProperStep w i) (FineTerm w)) b
 
 -- whether it closes or is open
 abbrev pub Shut : Block → Type 0
-Shut b = Closes b ⊎ OpenBlock b
+Shut b = Closes b ⊎ EveryInBlock NoTransfer b
 
 abbrev pub Ended : Command → Type 0
 Ended c = Final c ⊎ Open c
@@ -141,7 +141,7 @@ module _ (w : World) (i : Site w) where
   abbrev UnmarkedBlock : Block → Type 0
   UnmarkedBlock b = (x : ℕ) → mine i x ≡ true → block_retags b x ≡ false
 
-  pub apart_from : (c : Command) (cs : Block) → FineBlock w i.siblings i.kids cs → Open c
+  pub apart_from : (c : Command) (cs : Block) → EveryInBlock (FineCommand w i.siblings i.kids) cs → Open c
       → ((m : ℕ) → (reaches i.kids c m && block_reaches i.kids cs m) ≡ false) → Disjoint w i c cs
   apart_from c cs fine open_ once m mem d h =
       let s : is_state w m ≡ false = no_state w m (or_right _ _ mem) in
@@ -150,7 +150,7 @@ module _ (w : World) (i : Site w) where
       (open_, false_from_ne_true (writes c m) (λ y. let z = writes_within w i.kids m c y in cc))
 
   mutual
-    pub proper : (c : Command) → FineCommand w i.siblings i.kids c → Unmarked c → Proper w i c
+    pub proper : (c : Command) → Every (FineCommand w i.siblings i.kids) c → Unmarked c → Proper w i c
     proper (lone k) fine un = (fine, un)
     proper (try k hang h) fine un = (
       (fine.0, λ x m. neither_left _ _ (un x m)),
@@ -168,12 +168,13 @@ module _ (w : World) (i : Site w) where
     )
     proper (case_of hang e arms) fine un = (fine.0, proper_arms arms fine.1 un)
 
-    proper_arms : (arms : Arms) → FineArms w i.siblings i.kids arms → ((x : ℕ) → mine i x ≡ true → arms_retag arms x ≡ false) → ProperArms w i arms
+    proper_arms : (arms : Arms) → EveryInArms (FineCommand w i.siblings i.kids) arms
+        → ((x : ℕ) → mine i x ≡ true → some_in_arms (λ k. step_retags k x) arms ≡ false) → ProperArms w i arms
     proper_arms (last_arm b) fine un = proper_block b fine un
     proper_arms (and_arm constants b arms) fine un =
         (proper_block b fine.0 (λ x m. neither_left _ _ (un x m)), proper_arms arms fine.1 (λ x m. neither_right (block_retags b x) _ (un x m)))
 
-    pub proper_block : (b : Block) → FineBlock w i.siblings i.kids b → UnmarkedBlock b → ProperBlock w i b
+    pub proper_block : (b : Block) → EveryInBlock (FineCommand w i.siblings i.kids) b → UnmarkedBlock b → ProperBlock w i b
     proper_block end_block fine un = tt
     proper_block (command_then c cs) fine un =
         (proper c fine.0 (λ x m. neither_left _ _ (un x m)), proper_block cs fine.1 (λ x m. neither_right (retags c x) _ (un x m)))
@@ -189,17 +190,17 @@ module _ (w : World) (i : Site w) where
 
 -- what the keeping of states asks of it
 module _ (w : World) (i : Site w) where
-  as_fine : (c : Command) → Asks (ProperStep w i) (FineTerm w) c → Asks (FineStep w i.siblings i.kids) (FineTerm w) c
+  as_fine : (c : Command) → Asks (ProperStep w i) (FineTerm w) c → FineCommand w i.siblings i.kids c
   as_fine c p = asks_follows (ProperStep w i) (FineStep w i.siblings i.kids) (FineTerm w) (FineTerm w) (λ k h. h.0) (λ e h. h) c p
 
-  pub fine_command : (c : Command) → Proper w i c → FineCommand w i.siblings i.kids c
-  fine_command c p = every_follows (Asks (ProperStep w i) (FineTerm w)) (Asks (FineStep w i.siblings i.kids) (FineTerm w)) as_fine c p
+  pub fine_command : (c : Command) → Proper w i c → Every (FineCommand w i.siblings i.kids) c
+  fine_command c p = every_follows (Asks (ProperStep w i) (FineTerm w)) (FineCommand w i.siblings i.kids) as_fine c p
 
-  pub fine_arms : (arms : Arms) → ProperArms w i arms → FineArms w i.siblings i.kids arms
-  fine_arms arms p = every_follows_in_arms (Asks (ProperStep w i) (FineTerm w)) (Asks (FineStep w i.siblings i.kids) (FineTerm w)) as_fine arms p
+  pub fine_arms : (arms : Arms) → ProperArms w i arms → EveryInArms (FineCommand w i.siblings i.kids) arms
+  fine_arms arms p = every_follows_in_arms (Asks (ProperStep w i) (FineTerm w)) (FineCommand w i.siblings i.kids) as_fine arms p
 
-  pub fine_block : (b : Block) → ProperBlock w i b → FineBlock w i.siblings i.kids b
-  fine_block b p = every_follows_in_block (Asks (ProperStep w i) (FineTerm w)) (Asks (FineStep w i.siblings i.kids) (FineTerm w)) as_fine b p
+  pub fine_block : (b : Block) → ProperBlock w i b → EveryInBlock (FineCommand w i.siblings i.kids) b
+  fine_block b p = every_follows_in_block (Asks (ProperStep w i) (FineTerm w)) (FineCommand w i.siblings i.kids) as_fine b p
 
 -- nor does it retag the state or one below it
 pub unmarked : (w : World) (i : Site w) (c : Command) → Proper w i c → (x : ℕ) → mine i x ≡ true → retags c x ≡ false

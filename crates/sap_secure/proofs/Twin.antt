@@ -13,7 +13,7 @@ use Rattle.sap_meaning.specs.Checks.{Home, site_of, guard, test}
 use Rattle.sap_meaning.specs.Touches.{touches, raised_alone}
 use Rattle.sap_meaning.specs.Does.{effect, attempt, select, branch, does, does_block, attempt_then, is_constant, choose_arm, does_arms}
 use Rattle.sap_meaning.specs.Agree.{Low, High, seen}
-use Rattle.sap_meaning.specs.Fine.{FineTerm, FineLevel, transfers, Open, OpenBlock, Once, OnceBlock, OpenArms, OnceArms, step_writes, step_reaches, block_reaches}
+use Rattle.sap_meaning.specs.Fine.{FineTerm, FineLevel, transfers, Open, Once, OnceBlock, OnceArms, step_writes, step_reaches, block_reaches, NoTransfer}
 use Rattle.sap_meaning.proofs.Slots.{held_register}
 use Rattle.sap_meaning.proofs.Keeps.{OfDynamic, Keeps, branch_all, holds_raise, alone_dynamic, effect_holds}
 use Rattle.sap_secure.proofs.Levels.{Like, Same, high_right, low_below, low_left, low_right, low_join, not_below, same_high, seen_parts}
@@ -22,6 +22,7 @@ use Rattle.sap_secure.proofs.Concerns.{step_concerns, concerns, block_concerns, 
 use Rattle.sap_secure.proofs.Sites.{Site, spot, Proper, ProperBlock, ProperStep, fine_block, apart_from, ProperArms}
 use Rattle.sap_secure.proofs.Frames.{start_effect, next_effect}
 use Rattle.sap_secure.proofs.Confined.{held_target, Confined, Entering, Quiet, Even, confined_self, quiet_raise, even_raise, even_next, landing, keeps, attempt_confined, select_confined, block_confined, touches_dynamic, quiet_left, quiet_right, attempt_then_confined, arms_confined, hush_next, changing, begun}
+use Rattle.sap_meaning.specs.Walks.{EveryInArms, EveryInBlock}
 
 -- two results that look alike
 pub record Twin (w : World) (l : ℕ) (a b : After) : Type 0 where
@@ -614,7 +615,7 @@ module _ (w : World) (laws : Laws w.order) (l : ℕ) where
                   (case_side hang e arms fine pc t ht et (sym (tag_same e fine.0 s t like) ∙ g))
             ]
 
-        arms_twin : (arms : Arms) → ProperArms w i arms → OnceArms i.kids below arms → OpenArms arms → (v pc : ℕ) (s t : Store) → Holds w s
+        arms_twin : (arms : Arms) → ProperArms w i arms → OnceArms i.kids below arms → EveryInArms NoTransfer arms → (v pc : ℕ) (s t : Store) → Holds w s
             → Holds w t → IsLow pc → Agree w l s t → Even w (arms_concern w i.state i.kids arms) s → Even w (arms_concern w i.state i.kids arms) t
             → Twin w l (does_arms w At i.enter arms v pc s) (does_arms w At i.enter arms v pc t)
         arms_twin (last_arm b) fine once plain v pc s t hs ht low like es et = block_twin b fine once plain pc s t hs ht low like es et
@@ -625,7 +626,7 @@ module _ (w : World) (laws : Laws w.order) (l : ℕ) where
             (block_twin b fine.0 once.0 plain.0 pc s t hs ht low like (even_left here rest s es) (even_left here rest t et))
             (arms_twin arms fine.1 once.1 plain.1 v pc s t hs ht low like (even_right here rest s es) (even_right here rest t et))
 
-        pub block_twin : (b : Block) → ProperBlock w i b → OnceBlock i.kids below b → OpenBlock b → (pc : ℕ) (s t : Store) → Holds w s
+        pub block_twin : (b : Block) → ProperBlock w i b → OnceBlock i.kids below b → EveryInBlock NoTransfer b → (pc : ℕ) (s t : Store) → Holds w s
             → Holds w t → IsLow pc → Agree w l s t → Even w (block_concerns w i.state i.kids b) s
             → Even w (block_concerns w i.state i.kids b) t → Twin w l (does_block w At i.enter b pc s) (does_block w At i.enter b pc t)
         block_twin end_block fine once plain pc s t hs ht low like es et = record { same = like; refused = refl }

@@ -12,7 +12,7 @@ use Rattle.sap_meaning.specs.Touches.{among, step_hangs, hangs, touches, group_a
 use Rattle.sap_meaning.specs.Does.{does, does_child}
 use Rattle.sap_meaning.specs.State.{Holds}
 use Rattle.sap_meaning.specs.Agree.{High}
-use Rattle.sap_meaning.specs.Fine.{FineTerm, FineStep, FineCommand, step_retags, retags, block_retags, state_retags, group_retags, reaches, inside, number_of, kids_of, Nth, OpenArms, ClosingArms, arms_retag}
+use Rattle.sap_meaning.specs.Fine.{FineTerm, FineStep, FineCommand, step_retags, retags, block_retags, state_retags, group_retags, reaches, inside, number_of, kids_of, Nth, ClosingArms, NoTransfer}
 use Rattle.sap_secure.specs.Confinement.{last_group, last_parent, Active, StandsIn, StandsInBlock, is_goto, is_fall, has_goto, has_fall, level_slot, EqualParts, SomeHigh, Guarded, Confinement, StandsInArms}
 use Rattle.sap_meaning.proofs.WalksLemmas.{some_follows}
 use Rattle.sap_secure.proofs.Apart.{found, hung, unassigned, group_unassigned, inside_state, state_no_register, state_no_memory, register_apart, memory_apart}
@@ -24,6 +24,7 @@ use Rattle.sap_secure.proofs.Walks.{path, path_here, path_high, nth_among}
 use Rattle.sap_secure.proofs.Still.{Scene, Cover, clear_path, does_still}
 use Rattle.sap_secure.proofs.Over.{nth_inside, nth_below, scene_at}
 use Rattle.sap_secure.proofs.Relations.{kid_around, states_agree, paths_alike}
+use Rattle.sap_meaning.specs.Walks.{Every, EveryInArms, some_in_arms}
 
 -- a command in the body is proper, and closes or is open
 module _ (w : World) (i : Site w) where
@@ -53,7 +54,7 @@ module _ (w : World) (i : Site w) where
       | inr q ↦ proper_in_arms c arms q p.1 (elim e [ inl f ↦ inl f | inr f ↦ inr f.1 ])
     ]
 
-    proper_in_arms : (c : Command) (arms : Arms) → StandsInArms c arms → ProperArms w i arms → ClosingArms arms ⊎ OpenArms arms → Proper w i c × Ended c
+    proper_in_arms : (c : Command) (arms : Arms) → StandsInArms c arms → ProperArms w i arms → ClosingArms arms ⊎ EveryInArms NoTransfer arms → Proper w i c × Ended c
     proper_in_arms c (last_arm b) h p e = proper_in_block c b h p e
     proper_in_arms c (and_arm constants b arms) h p e = elim h [
       | inl q ↦ proper_in_block c b q p.0 (elim e [ inl f ↦ inl f.0 | inr f ↦ inr f.0 ])
@@ -88,7 +89,7 @@ module _ (w : World) (i : Site w) where
   step_own (go_to site target) fine h = refl
   step_own (fall_to_child site hang) fine h = let no = or_from _ _ own_out (out i.state (node w i).kind) in cc
 
-  own_goto : (c : Command) → FineCommand w i.siblings i.kids c → hangs i.state i.kids c i.state ≡ true → has_goto c ≡ true
+  own_goto : (c : Command) → Every (FineCommand w i.siblings i.kids) c → hangs i.state i.kids c i.state ≡ true → has_goto c ≡ true
   own_goto c fine h =
       some_follows (FineStep w i.siblings i.kids) (FineTerm w) (λ k. step_hangs i.state i.kids k i.state) (λ k. is_goto k) step_own c fine h
 
@@ -101,7 +102,7 @@ module _ (w : World) (i : Site w) where
     step_kid (go_to site target) fine h = cc
     step_kid (fall_to_child site hang) fine h = refl
 
-    kid_fall : (c : Command) → FineCommand w i.siblings i.kids c → hangs i.state i.kids c x ≡ true → has_fall c ≡ true
+    kid_fall : (c : Command) → Every (FineCommand w i.siblings i.kids) c → hangs i.state i.kids c x ≡ true → has_fall c ≡ true
     kid_fall c fine h = some_follows (FineStep w i.siblings i.kids) (FineTerm w) (λ k. step_hangs i.state i.kids k x) (λ k. is_fall k) step_kid c fine h
 
 -- an input is no register and no memory
@@ -138,7 +139,7 @@ mutual
     | inr q ↦ retags_in_arms c arms q x n
   ]
 
-  retags_in_arms : (c : Command) (arms : Arms) → StandsInArms c arms → (x : ℕ) → arms_retag arms x ≡ false → retags c x ≡ false
+  retags_in_arms : (c : Command) (arms : Arms) → StandsInArms c arms → (x : ℕ) → some_in_arms (λ k. step_retags k x) arms ≡ false → retags c x ≡ false
   retags_in_arms c (last_arm b) h x n = retags_in_block c b h x n
   retags_in_arms c (and_arm constants b arms) h x n = elim h [
     | inl q ↦ retags_in_block c b q x (neither_left _ _ n)

@@ -9,10 +9,11 @@ use Rattle.sap_meaning.proofs.FineLemmas.{inside_among}
 use Rattle.sap_maps.specs.Term.{Term}
 use Rattle.sap_meaning.specs.Program.{World, Program, Entity, nothing, entity, kind_is_register, kind_is_memory, root, is_register, is_memory, is_dynamic, last, LevelTerm, fixed, of, at_place, both, Step, assign, write, retag, retag_cell, go_to, fall_to_child, Command, lone, try, if_else, try_then, case_of, Arms, last_arm, and_arm, Block, end_block, command_then, State, state_node, Group, no_node, and_node}
 use Rattle.sap_meaning.specs.Touches.{among}
-use Rattle.sap_meaning.specs.Fine.{FineStep, FineCommand, FineArms, FineBlock, FineState, FineGroup, FineProgram, FineNode}
-use Rattle.sap_meaning.specs.Sized.{SizedTerm, SizedLevel, SizedStep, Sized, SizedArms, SizedBlock, SizedState, SizedGroup, SizedProgram}
+use Rattle.sap_meaning.specs.Fine.{FineStep, FineCommand, FineState, FineGroup, FineProgram, FineNode}
+use Rattle.sap_meaning.specs.Sized.{SizedTerm, SizedLevel, SizedStep, SizedState, SizedGroup, SizedProgram, SizedCommand}
 use Rattle.sap_resolved.specs.Sized.Ranges.{RangedTerm, RangedLevel, RangedStep, Ranged, RangedArms, RangedBlock, RangedState, RangedGroup, RangedProgram}
 use Rattle.sap_store.specs.Able.{AbleTerm, AbleLevel, AbleTarget, AbleStep, AbleCommand, AbleArms, AbleBlock, AbleState, AbleGroup}
+use Rattle.sap_meaning.specs.Walks.{Every, EveryInArms, EveryInBlock}
 
 module _ (w : World) where
   -- what is no entity is nothing
@@ -85,18 +86,18 @@ module _ (w : World) where
       mutual
         unfolding AbleCommand AbleArms AbleBlock
 
-        able_command : (c : Command) → FineCommand w q g c → Sized w c → Ranged w c → AbleCommand w c
+        able_command : (c : Command) → Every (FineCommand w q g) c → Every (SizedCommand w) c → Ranged w c → AbleCommand w c
         able_command (lone k) f s r = able_step q g fq k f s r
         able_command (try k hang h) f s r = (able_step q g fq k f.0 s.0 r.0, able_block h f.1 s.1 r.1)
         able_command (if_else hang e a b) f s r = (able_term e s.0.0 r.0, able_block a f.1 s.1 r.1, able_block b f.2 s.2 r.2)
         able_command (try_then k hang a b) f s r = (able_step q g fq k f.0 s.0 r.0, able_block a f.1 s.1 r.1, able_block b f.2 s.2 r.2)
         able_command (case_of hang e arms) f s r = (able_term e s.0.0 r.0, able_arms arms f.1 s.1 r.1)
 
-        able_arms : (arms : Arms) → FineArms w q g arms → SizedArms w arms → RangedArms w arms → AbleArms w arms
+        able_arms : (arms : Arms) → EveryInArms (FineCommand w q g) arms → EveryInArms (SizedCommand w) arms → RangedArms w arms → AbleArms w arms
         able_arms (last_arm b) f s r = able_block b f s r
         able_arms (and_arm constants b arms) f s r = (able_block b f.0 s.0 r.0, able_arms arms f.1 s.1 r.1)
 
-        able_block : (b : Block) → FineBlock w q g b → SizedBlock w b → RangedBlock w b → AbleBlock w b
+        able_block : (b : Block) → EveryInBlock (FineCommand w q g) b → EveryInBlock (SizedCommand w) b → RangedBlock w b → AbleBlock w b
         able_block end_block f s r = tt
         able_block (command_then c cs) f s r = (able_command c f.0 s.0 r.0, able_block cs f.1 s.1 r.1)
 

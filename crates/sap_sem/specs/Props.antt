@@ -5,11 +5,11 @@ use Rattle.sap_bits.specs.declared.Op2.{Op2}
 use Rattle.sap_bits.specs.declared.Op2.TheVariants.{Add, Sub, Mul, And, Or, Xor, Eq, Ne, Lt, Le, Shl, Shr}
 use Rattle.sap_maps.specs.Term.{Term, constant, read, cell, one, two, choose, join, part, CountFits, TermFits}
 use Rattle.sap_meaning.specs.Program.{World, width, LevelTerm, Step, assign, write, retag, retag_cell, go_to, fall_to_child, Command, lone, try, if_else, try_then, case_of, Arms, last_arm, and_arm, Block, end_block, command_then, State, state_node, Group, no_node, and_node}
-use Rattle.sap_meaning.specs.Walks.{Asks}
+use Rattle.sap_meaning.specs.Walks.{Asks, EveryInBlock}
 use Rattle.sap_meaning.proofs.WalksLemmas.{every_prop, every_prop_in_block, asks_prop, every_level_prop}
 use Rattle.sap_meaning.specs.Checks.{Home}
 use Rattle.sap_lattice.specs.Levels.{Levels}
-use Rattle.sap_meaning.specs.Fine.{FineTerm, FineLevel, FineStep, FineBlock, transfers, NoTransfer, Open, Closes, Final, ClosingArms, OnceStep, Once, OnceArms, OnceBlock, OnceState, OnceGroup, FineState, FineGroup, ExactStep, ExactCommand, ExactBlock, ExactState, ExactGroup}
+use Rattle.sap_meaning.specs.Fine.{FineTerm, FineLevel, FineStep, transfers, NoTransfer, Open, Closes, Final, ClosingArms, OnceStep, Once, OnceArms, OnceBlock, OnceState, OnceGroup, FineState, FineGroup, ExactStep, ExactCommand, ExactState, ExactGroup, FineCommand}
 use Rattle.sap_meaning.specs.Sized.{Indexed}
 use Rattle.sap_resolved.specs.Sized.Ranges.{RangedTerm}
 use Rattle.sap_program.specs.declared.program.Program as code
@@ -157,7 +157,7 @@ module _ (w : World) where
   exact_command_prop at (try_then k hang a b) = hlevel props
   exact_command_prop at (case_of hang e arms) = hlevel props
 
-  exact_block_prop : (at : Home) (b : Block) → IsProp (ExactBlock w at b)
+  exact_block_prop : (at : Home) (b : Block) → IsProp (EveryInBlock (ExactCommand w at) b)
   exact_block_prop at b = every_prop_in_block (ExactCommand w at) (exact_command_prop at) b
 
   mutual
@@ -190,8 +190,8 @@ module _ (w : World) where
     fine_step_prop (go_to site target) = hlevel props
     fine_step_prop (fall_to_child site hang) = hlevel props
 
-    fine_block_prop : (b : Block) → IsProp (FineBlock w q g b)
-    fine_block_prop b = every_prop_in_block (Asks (FineStep w q g) (FineTerm w)) (asks_prop (FineStep w q g) (FineTerm w) fine_step_prop fine_term_prop) b
+    fine_block_prop : (b : Block) → IsProp (EveryInBlock (FineCommand w q g) b)
+    fine_block_prop b = every_prop_in_block (FineCommand w q g) (asks_prop (FineStep w q g) (FineTerm w) fine_step_prop fine_term_prop) b
 
   mutual
     fine_state_prop : (q : Group) (n : ℕ) (t : State) → IsProp (FineState w q n t)

@@ -20,8 +20,8 @@ use Rattle.sap_meaning.specs.Checks.{Home, site_of}
 use Rattle.sap_meaning.specs.Touches.{among}
 use Rattle.sap_meaning.specs.Runs.{listed_alone}
 use Rattle.sap_meaning.specs.Sites as sites
-use Rattle.sap_meaning.specs.Fine.{FineStep, FineCommand, FineArms, FineBlock, size}
-use Rattle.sap_meaning.specs.Sized.{SizedStep, AreWithin, Sized, SizedArms, SizedBlock, depth}
+use Rattle.sap_meaning.specs.Fine.{FineStep, FineCommand, size}
+use Rattle.sap_meaning.specs.Sized.{SizedStep, AreWithin, depth, SizedCommand}
 use Rattle.sap_resolved.specs.Sized.Ranges.{IsWidth, RangedStep, Ranged, RangedArms, RangedBlock}
 use Rattle.sap_net.specs.Names.{is_among}
 use Rattle.sap_ir.specs.Source.{Source, readable, shapes}
@@ -400,7 +400,8 @@ module _ (d : Setting) (s : Source) (h : Declares d s) (fixed group : List Name)
       unfolding command_plain arms_plain block_plain
 
       command_fine : (p k : ℕ) (c : Command) → IsWire d s p d.tag → CommandWires d s k c → CommandHangs d.world sp c → AllSites (sites.command_sites d.world sp.state sp.children c)
-          → FineCommand d.world q sp.children c → Sized d.world c → Ranged d.world c → CommandConditions d.world c → Few c → Good (command_plain d sp p k c)
+          → Every (FineCommand d.world q sp.children) c → Every (SizedCommand d.world) c → Ranged d.world c → CommandConditions d.world c → Few c
+          → Good (command_plain d sp p k c)
       command_fine p k (lone t) pc ws hs site f z r c few = attempt_fine p k t (listed_alone d.world sp t) stop pc ws hs site f z r c tt
       command_fine p k (try t hang b) pc ws hs site f z r c few =
           attempt_fine p k t (listed hang) (block_plain d sp (k + 2) (k + 5) b) pc ws.0 hs.0
@@ -428,7 +429,7 @@ module _ (d : Setting) (s : Source) (h : Declares d s) (fixed group : List Name)
           (arms_fine (k + 1) (k + 4) arms ws.1 ws.4 hs.1 site f.1 z.1 r.1 c.1 few.1)
 
       arms_fine : (p k : ℕ) (arms : Arms) → IsWire d s p d.tag → ArmsWires d s k arms → ArmsHang d.world sp arms → AllSites (sites.arms_sites d.world sp.state sp.children arms)
-          → FineArms d.world q sp.children arms → SizedArms d.world arms → RangedArms d.world arms → ArmsConditions d.world arms
+          → EveryInArms (FineCommand d.world q sp.children) arms → EveryInArms (SizedCommand d.world) arms → RangedArms d.world arms → ArmsConditions d.world arms
           → FewArms arms → AllGood (arms_plain d sp p k arms)
       arms_fine p k (last_arm b) pc ws hs site f z r c few = (block_fine p k b pc ws hs site f z r c few, tt)
       arms_fine p k (and_arm constants b arms) pc ws hs site f z r c few =
@@ -439,7 +440,8 @@ module _ (d : Setting) (s : Source) (h : Declares d s) (fixed group : List Name)
           )
 
       pub block_fine : (p k : ℕ) (b : Block) → IsWire d s p d.tag → BlockWires d s k b → BlockHangs d.world sp b → AllSites (sites.block_sites d.world sp.state sp.children b)
-          → FineBlock d.world q sp.children b → SizedBlock d.world b → RangedBlock d.world b → BlockConditions d.world b → FewBlock b → Good (block_plain d sp p k b)
+          → EveryInBlock (FineCommand d.world q sp.children) b → EveryInBlock (SizedCommand d.world) b → RangedBlock d.world b → BlockConditions d.world b
+          → FewBlock b → Good (block_plain d sp p k b)
       block_fine p k end_block pc ws hs site f z r c few = tt
       block_fine p k (command_then a b) pc ws hs site f z r c few =
           follow_fine (command_plain d sp p k a) (block_plain d sp p (k + wires a) b)

@@ -10,7 +10,7 @@ use Rattle.sap_meaning.specs.Expressions.{width_of}
 use Rattle.sap_meaning.specs.Checks.{Home}
 use Rattle.sap_meaning.specs.Runs.{listed_alone}
 use Rattle.sap_meaning.specs.Fine as fine
-use Rattle.sap_meaning.specs.Fine.{Open, OpenArms, OpenBlock, Closes, Final, ClosingArms}
+use Rattle.sap_meaning.specs.Fine.{Open, Closes, Final, ClosingArms, NoTransfer}
 use Rattle.sap_ir.specs.Plain.Nested.{Body, stop, act, cases, goto, fall}
 use Rattle.sap_ir.specs.Plain.IsPlain.{transfers, ends_in_transfers}
 use Rattle.sap_ir.specs.Plain.Views.{follow}
@@ -18,6 +18,7 @@ use Rattle.sap_tagged.specs.Keys.{Key, tag_key, wire_key}
 use Rattle.sap_tagged.specs.Setting.{Setting}
 use Rattle.sap_tagged.specs.Levels.{always, expr, var, lub, bits}
 use Rattle.sap_tagged.specs.Commands.{gives, sweep, resets, effect_of, refusal, outcome, attempt_of, outcome_then, attempt_then_of, pick_width, picks_arm, picks, decides, pick_of, select_of, wires, wires_block, command_plain, arms_plain, block_plain}
+use Rattle.sap_meaning.specs.Walks.{EveryInArms, EveryInBlock}
 
 -- a body that ends as it should; and one that goes nowhere either
 abbrev pub Ends : Body → Type 0
@@ -249,11 +250,11 @@ module _ (d : Setting) where
           let h = arms_stay (k + 1) (k + 4) arms o.1 in
           record { ends = pick_ends p k e (listed hang) arms blocks (all_end blocks h); goes = pick_goes p k e (listed hang) arms blocks (none_go blocks h) }
 
-      arms_stay : (p k : ℕ) (arms : Arms) → OpenArms arms → Each Stays (arms_plain d sp p k arms)
+      arms_stay : (p k : ℕ) (arms : Arms) → EveryInArms NoTransfer arms → Each Stays (arms_plain d sp p k arms)
       arms_stay p k (last_arm b) o = (block_stays p k b o, tt)
       arms_stay p k (and_arm constants b arms) o = (block_stays p k b o.0, arms_stay p (k + wires_block b) arms o.1)
 
-      block_stays : (p k : ℕ) (b : Block) → OpenBlock b → Stays (block_plain d sp p k b)
+      block_stays : (p k : ℕ) (b : Block) → EveryInBlock NoTransfer b → Stays (block_plain d sp p k b)
       block_stays p k end_block o = record { ends = refl; goes = refl }
       block_stays p k (command_then c cs) o =
           let x = command_stays p k c o.0 in

@@ -4,12 +4,12 @@ use Rattle.std.proofs.lemmas.Bool.{cases_Bool, eqb-true, and_parts}
 use Rattle.sap_lemmas.proofs.Bools.{true_is_not_false}
 use Rattle.sap_meaning.specs.Program.{World, Kind, entity, root, is_dynamic, is_input, is_memory, is_register, listed, Step, assign, write, retag, retag_cell, go_to, fall_to_child, Command, lone, try, if_else, try_then, case_of, Block, state_node, Group, no_node, and_node, kind_is_input, kind_is_register, kind_is_memory, kind_is_state}
 use Rattle.sap_meaning.specs.Program as program
-use Rattle.sap_meaning.specs.Walks.{Asks}
+use Rattle.sap_meaning.specs.Walks.{Every, EveryInBlock}
 use Rattle.sap_meaning.proofs.WalksLemmas.{some_gives, some_in_block_gives, every_with_in_block}
 use Rattle.sap_meaning.specs.Checks.{Home}
 use Rattle.sap_meaning.specs.Touches.{step_assigns, block_assigns, group_assigns, among, step_hangs, hangs, touches, root_touches}
 use Rattle.sap_meaning.specs.Runs.{listed_alone}
-use Rattle.sap_meaning.specs.Fine.{FineTerm, FineStep, FineCommand, FineBlock, FineGroup, ExactStep, ExactCommand, ExactBlock}
+use Rattle.sap_meaning.specs.Fine.{FineTerm, FineStep, FineCommand, FineGroup, ExactStep, ExactCommand}
 use Rattle.sap_tagged.specs.Stands.{has_tag}
 use Rattle.sap_tagged.proofs.Bools.{register_within, memory_within, tagged, tagged_memory}
 use Rattle.sap_tagged.proofs.Groups.{IsState, group_states}
@@ -63,7 +63,7 @@ module _ (w : World) (x : ℕ) where
     step_assigned (go_to site target) f h = absurd (true_is_not_false (sym h))
     step_assigned (fall_to_child site hang) f h = absurd (true_is_not_false (sym h))
 
-    block_assigned : (b : Block) → FineBlock w q g b → block_assigns b x ≡ true → CanHang w x
+    block_assigned : (b : Block) → EveryInBlock (FineCommand w q g) b → block_assigns b x ≡ true → CanHang w x
     block_assigned b f h = some_in_block_gives (FineStep w q g) (FineTerm w) (λ k. step_assigns k x) (CanHang w x) step_assigned b f h
 
   group_assigned : (q : Group) (n : ℕ) (g : Group) → FineGroup w q n g → group_assigns g x ≡ true → CanHang w x
@@ -81,7 +81,7 @@ module _ (w : World) (x : ℕ) where
     step_hung (go_to site target) f h = moved w x s h (state_can w s here)
     step_hung (fall_to_child site hang) f h = either (among g x) (group_assigns g x) h (λ i. state_can w x (group_states w g 0 g kids x i)) (group_assigned g 0 g kids)
 
-    hung : (c : Command) → FineCommand w q g c → hangs s g c x ≡ true → CanHang w x
+    hung : (c : Command) → Every (FineCommand w q g) c → hangs s g c x ≡ true → CanHang w x
     hung c f h = some_gives (FineStep w q g) (FineTerm w) (λ k. step_hangs s g k x) (CanHang w x) step_hung c f h
 
 -- a dynamic entity that can hang has a tag
@@ -92,12 +92,12 @@ dynamic_tag w x t c = elim (cases_Bool (is_memory w x)) [
 ]
 
 module _ (w : World) (q : Group) (sp : Home) (here : IsState w sp.state) (kids : FineGroup w sp.children 0 sp.children) where
-  touched : (c : Command) → FineCommand w q sp.children c → Hangs w (touches w sp c)
+  touched : (c : Command) → Every (FineCommand w q sp.children) c → Hangs w (touches w sp c)
   touched c f x h =
       let b = and_parts (is_dynamic w x) (hangs sp.state sp.children c x) h in
       dynamic_tag w x b.0 (hung w x q sp.state sp.children here kids c f b.1)
 
-  exact_hangs : (c : Command) (list : List Bool) → FineCommand w q sp.children c → ((x : ℕ) → listed list x ≡ touches w sp c x) → Hangs w (listed list)
+  exact_hangs : (c : Command) (list : List Bool) → Every (FineCommand w q sp.children) c → ((x : ℕ) → listed list x ≡ touches w sp c x) → Hangs w (listed list)
   exact_hangs c list f e x h = touched c f x (sym (e x) ∙ h)
 
   alone_hangs : (k : Step) → FineStep w q sp.children k → ExactStep w sp k → Hangs w (listed_alone w sp k)
@@ -108,15 +108,15 @@ module _ (w : World) (q : Group) (sp : Home) (here : IsState w sp.state) (kids :
   alone_hangs (go_to site target) f i x h = touched (lone (go_to site target)) f x h
   alone_hangs (fall_to_child site hang) f i x h = exact_hangs (lone (fall_to_child site hang)) hang f i x h
 
-  own_hangs : (c : Command) → FineCommand w q sp.children c → ExactCommand w sp c → OwnHangs w sp c
+  own_hangs : (c : Command) → Every (FineCommand w q sp.children) c → ExactCommand w sp c → OwnHangs w sp c
   own_hangs (lone k) f e = alone_hangs k f e
   own_hangs (try k hang b) f e = exact_hangs (try k hang b) hang f e
   own_hangs (if_else hang t a b) f e = exact_hangs (if_else hang t a b) hang f e
   own_hangs (try_then k hang a b) f e = exact_hangs (try_then k hang a b) hang f e
   own_hangs (case_of hang t arms) f e = exact_hangs (case_of hang t arms) hang f e
 
-  pub body_hangs : (b : Block) → FineBlock w q sp.children b → ExactBlock w sp b → BlockHangs w sp b
-  body_hangs b f e = every_with_in_block (Asks (FineStep w q sp.children) (FineTerm w)) (ExactCommand w sp) (OwnHangs w sp) own_hangs b f e
+  pub body_hangs : (b : Block) → EveryInBlock (FineCommand w q sp.children) b → EveryInBlock (ExactCommand w sp) b → BlockHangs w sp b
+  body_hangs b f e = every_with_in_block (FineCommand w q sp.children) (ExactCommand w sp) (OwnHangs w sp) own_hangs b f e
 
 pub root_hangs : (w : World) (g : Group) (list : List Bool) → FineGroup w g 0 g → ((x : ℕ) → listed list x ≡ root_touches w g x) → Hangs w (listed list)
 root_hangs w g list f e x h =

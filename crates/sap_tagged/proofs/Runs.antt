@@ -11,7 +11,7 @@ use Rattle.sap_meaning.specs.Expressions.{value, tag, width_of}
 use Rattle.sap_meaning.specs.Checks.{Home, site_of, guard, test}
 use Rattle.sap_meaning.specs.Does.{effect, attempt, attempt_then, select, branch, is_constant}
 use Rattle.sap_meaning.specs.Runs.{run, run_arms, run_block}
-use Rattle.sap_meaning.specs.Fine.{FineTerm, FineStep, FineCommand, FineArms, FineBlock}
+use Rattle.sap_meaning.specs.Fine.{FineTerm, FineStep, FineCommand}
 use Rattle.sap_ir.specs.Guarded.{Going, value_in}
 use Rattle.sap_ir.specs.Plain.Nested.{Body, stop, cases}
 use Rattle.sap_ir.specs.Plain.Does.{body_does}
@@ -31,6 +31,7 @@ use Rattle.sap_tagged.proofs.Effects.{Begins, FallsRun, set_effect, retag_effect
 use Rattle.sap_tagged.proofs.Cells.{write_effect, retag_cell_effect}
 use Rattle.sap_tagged.proofs.Gotos.{GoesRun, goto_effect}
 use Rattle.sap_tagged.proofs.Picks.{arm_place, arm_within, decided, arms_picked}
+use Rattle.sap_meaning.specs.Walks.{Every, EveryInArms, EveryInBlock}
 
 -- what a body does, with its context in the wire p and the wires from k on free
 abbrev pub BodyRuns : Setting → (Name → ℕ) → (Going → Going) → (Name → Going → Going) → (p k : ℕ) → Body → (ℕ → Store → After) → Type 0
@@ -266,7 +267,7 @@ module _ (d : Setting) (widths : Name → ℕ) (laws : Lawful d widths) (f : Goi
     mutual
       unfolding run run_arms run_block command_plain arms_plain block_plain
 
-      pub command_runs : (c : Command) → FineCommand d.world q sp.children c → Few c → (p k : ℕ) → p < k → k + wires c ≤ base
+      pub command_runs : (c : Command) → Every (FineCommand d.world q sp.children) c → Few c → (p k : ℕ) → p < k → k + wires c ≤ base
           → BodyRuns d widths f go p k (command_plain d sp p k c) (run d.world sp enter c)
       command_runs (lone t) fine few p k pk kb =
           attempt_runs p k t _ stop (λ l s. stay s) pk (omega arith) fine (λ g s l st pc. turns_stay d (k + 5) g g s (quiet_none d (k + 5) g) st)
@@ -286,7 +287,7 @@ module _ (d : Setting) (widths : Name → ℕ) (laws : Lawful d widths) (f : Goi
           (blocks_hold (k + 1) (k + 4) arms few.0.0) (λ n. arms_run arms fine.1 few.1 (k + 1) (k + 4) (omega arith) (omega arith) n)
 
       -- the block that the number picks
-      arms_run : (arms : Arms) → FineArms d.world q sp.children arms → FewArms arms → (p k : ℕ) → p < k → k + wires_arms arms ≤ base → (n : ℕ)
+      arms_run : (arms : Arms) → EveryInArms (FineCommand d.world q sp.children) arms → FewArms arms → (p k : ℕ) → p < k → k + wires_arms arms ≤ base → (n : ℕ)
           → BodyRuns d widths f go p k (get_or (arms_plain d sp p k arms) (arm_place arms n) stop) (run_arms d.world sp enter arms n)
       arms_run (last_arm b) fine few p k pk kb n = block_runs b fine few p k pk kb
       arms_run (and_arm constants b arms) fine few p k pk kb n = elim (cases_Bool (is_constant constants n)) [
@@ -297,7 +298,7 @@ module _ (d : Setting) (widths : Name → ℕ) (laws : Lawful d widths) (f : Goi
             (arms_run arms fine.1 few.1 p (k + wires_block b) (omega arith) (omega arith) n))
       ]
 
-      pub block_runs : (c : Block) → FineBlock d.world q sp.children c → FewBlock c → (p k : ℕ) → p < k → k + wires_block c ≤ base
+      pub block_runs : (c : Block) → EveryInBlock (FineCommand d.world q sp.children) c → FewBlock c → (p k : ℕ) → p < k → k + wires_block c ≤ base
           → BodyRuns d widths f go p k (block_plain d sp p k c) (run_block d.world sp enter c)
       block_runs end_block fine few p k pk kb g s l st pc = turns_stay d k g g s (quiet_none d k g) st
       block_runs (command_then c cs) fine few p k pk kb g s l st pc =

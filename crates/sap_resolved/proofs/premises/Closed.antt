@@ -6,9 +6,10 @@ use Rattle.sap_tree.specs.Syntax.{SimpleCommand, assign, write, set_tag, set_cel
 use Rattle.sap_lattice.specs.Levels.{Levels}
 use Rattle.sap_names.specs.declared.fault.Fault.{Fault}
 use Rattle.sap_shape.specs.Closing.{transfer_faults, then_faults, open_faults, open_arms_faults, open_block_faults, open_else_faults, open_list_faults, last_simple_faults, last_faults, closing_arms_faults, closing_faults, closing_else_faults, closing_list_faults}
-use Rattle.sap_meaning.specs.Fine.{transfers, Open, OpenArms, OpenBlock, Closes, Final, ClosingArms}
+use Rattle.sap_meaning.specs.Fine.{transfers, Open, Closes, Final, ClosingArms, NoTransfer}
 use Rattle.sap_shape.specs.Sites.{Surroundings, simple_sites, block_sites, command_sites}
 use Rattle.sap_resolved.specs.Resolve.{site_number, step_of, command_of, arms_of, block_of, else_of, list_of}
+use Rattle.sap_meaning.specs.Walks.{EveryInArms, EveryInBlock}
 
 module _ (ls : Levels) (h : Surroundings) where
   pub open_step : (n : ℕ) (c : SimpleCommand) → transfer_faults c ≡ [] → transfers (step_of ls h n c) ≡ false
@@ -45,18 +46,18 @@ module _ (ls : Levels) (h : Surroundings) where
         (t.0, open_body (k + length (simple_sites h c)) a (nil_left _ _ t.1), open_body (k + length (simple_sites h c) + length (block_sites h a)) b (nil_right _ _ t.1))
     open_command k (case_of place e arms) f = (tt, open_arms k arms f)
 
-    open_arms : (k : ℕ) (arms : Arms) → open_arms_faults arms ≡ [] → OpenArms (arms_of ls h k arms)
+    open_arms : (k : ℕ) (arms : Arms) → open_arms_faults arms ≡ [] → EveryInArms NoTransfer (arms_of ls h k arms)
     open_arms k (last_arm b) f = open_body k b f
     open_arms k (and_arm constants b arms) f = (open_body k b (nil_left _ _ f), open_arms (k + length (block_sites h b)) arms (nil_right _ _ f))
 
-    open_body : (k : ℕ) (b : CommandBlock) → open_block_faults b ≡ [] → OpenBlock (block_of ls h k b)
+    open_body : (k : ℕ) (b : CommandBlock) → open_block_faults b ≡ [] → EveryInBlock NoTransfer (block_of ls h k b)
     open_body k (command_block cs after) f = open_list k cs f
 
-    open_else : (k : ℕ) (b : ElseBlock) → open_else_faults b ≡ [] → OpenBlock (else_of ls h k b)
+    open_else : (k : ℕ) (b : ElseBlock) → open_else_faults b ≡ [] → EveryInBlock NoTransfer (else_of ls h k b)
     open_else k no_else f = tt
     open_else k (with_else b) f = open_body k b f
 
-    open_list : (k : ℕ) (cs : CommandList) → open_list_faults cs ≡ [] → OpenBlock (list_of ls h k cs)
+    open_list : (k : ℕ) (cs : CommandList) → open_list_faults cs ≡ [] → EveryInBlock NoTransfer (list_of ls h k cs)
     open_list k no_command f = tt
     open_list k (and_command c cs) f = (
       open_command k c (nil_left _ _ f),

@@ -4,10 +4,10 @@ use Rattle.sap_lemmas.proofs.Bools.{or_equal}
 use Rattle.sap_meaning.specs.Program.{World, Step, assign, write, retag, retag_cell, go_to, fall_to_child, Command, lone, try, if_else, try_then, case_of, Arms, last_arm, and_arm, Block, end_block, command_then, State, state_node, Group, no_node, and_node}
 use Rattle.sap_meaning.specs.Checks.{Home}
 use Rattle.sap_meaning.specs.Touches.{step_assigns, block_assigns, group_assigns, among, step_hangs, hangs}
-use Rattle.sap_meaning.specs.Fine.{FineTerm, size, inside, transfers, NoTransfer, Open, Closes, Final, ClosingArms, step_writes, step_reaching, reaching, block_reaching, state_reaches, group_reaches, OnceStep, Once, OnceArms, OnceBlock, OnceState, OnceGroup, step_retags, block_retags, group_retags, FineStep, FineBlock, FineNode, FineState, FineGroup, number_of}
+use Rattle.sap_meaning.specs.Fine.{FineTerm, size, inside, transfers, NoTransfer, Open, Closes, Final, ClosingArms, step_writes, step_reaching, reaching, block_reaching, state_reaches, group_reaches, OnceStep, Once, OnceArms, OnceBlock, OnceState, OnceGroup, step_retags, block_retags, group_retags, FineStep, FineNode, FineState, FineGroup, number_of, FineCommand}
 use Rattle.sap_resolved.specs.Fill.{filled_step, filled_hang, filled, filled_arms, filled_block, filled_state, filled_group}
 use Rattle.sap_resolved.specs.WellNamed.{WellNamedStep, WellNamedGroup}
-use Rattle.sap_meaning.specs.Walks.{Asks, body_of}
+use Rattle.sap_meaning.specs.Walks.{body_of, EveryInBlock}
 use Rattle.sap_meaning.proofs.WalksLemmas.{every_mapped, every_mapped_block, asks_mapped}
 use Rattle.sap_resolved.proofs.FillLemmas.{every_unfilled_group, gathered_filled, gathered_filled_block, gathered_filled_group}
 
@@ -118,9 +118,9 @@ module _ (w : World) where
       fine_step_filled (go_to site target) h = siblings target ∙ h
       fine_step_filled (fall_to_child site hang) h = subst (λ (n : ℕ). 0 < n) (sym children) h
 
-      fine_block_filled : (b : Block) → FineBlock w q g b → FineBlock w j i (filled_block w at b)
+      fine_block_filled : (b : Block) → EveryInBlock (FineCommand w q g) b → EveryInBlock (FineCommand w j i) (filled_block w at b)
       fine_block_filled b h =
-          every_mapped_block (filled_step w at) (filled_hang w at) (Asks (FineStep w q g) (FineTerm w)) (Asks (FineStep w j i) (FineTerm w))
+          every_mapped_block (filled_step w at) (filled_hang w at) (FineCommand w q g) (FineCommand w j i)
           (asks_mapped (filled_step w at) (filled_hang w at) (FineStep w q g) (FineStep w j i) (FineTerm w) (FineTerm w) fine_step_filled (λ e t. t)) b h
 
     -- what hangs, where the children are the same and assign the same

@@ -5,7 +5,7 @@ use Rattle.sap_lemmas.proofs.Bools.{and_right, or_equal}
 use Rattle.sap_resolved.proofs.FillLemmas.{table_length, table_at}
 use Rattle.sap_resolved.proofs.TreeWalks.{steps_of_block}
 use Rattle.sap_meaning.proofs.WalksLemmas.{some_gives, some_in_block_gives, every_with_in_block, every_mapped_block}
-use Rattle.sap_meaning.specs.Walks.{Every, Asks}
+use Rattle.sap_meaning.specs.Walks.{Every, Asks, EveryInBlock}
 use Rattle.sap_meaning.specs.Program as program
 use Rattle.sap_tree.specs.Syntax.{SimpleCommand, assign, write, set_tag, set_cell_tag, go_to, fall_to_child, CommandBlock, StateTree, state_node, StateList, no_state, and_state, DesignTree}
 use Rattle.sap_lattice.specs.Levels.{Levels}
@@ -14,7 +14,7 @@ use Rattle.sap_names.specs.Entities.{number_of, entities_of}
 use Rattle.sap_meaning.specs.Program.{World, is_dynamic, root, listed, Step, Group}
 use Rattle.sap_meaning.specs.Checks.{Home}
 use Rattle.sap_meaning.specs.Touches.{among, step_assigns, block_assigns, state_assigns, group_assigns, step_hangs, hangs, touches, root_touches}
-use Rattle.sap_meaning.specs.Fine.{ExactStep, ExactCommand, ExactBlock, ExactState, ExactGroup, ExactProgram}
+use Rattle.sap_meaning.specs.Fine.{ExactStep, ExactCommand, ExactState, ExactGroup, ExactProgram}
 use Rattle.sap_resolved.specs.Worlds.{states_in, states_below, group_entities, world_of}
 use Rattle.sap_shape.specs.Sites.{Surroundings, block_sites, state_sites}
 use Rattle.sap_resolved.specs.Resolve.{step_of, block_of, state_of, group_of}
@@ -157,7 +157,7 @@ module _ (ls : Levels) (w : World) where
     exact_command (program.try_then k hang a b) all = exact_list (program.try_then k hang a b) all
     exact_command (program.case_of hang e arms) all = exact_list (program.case_of hang e arms) all
 
-    exact_block : (k : ℕ) (b : CommandBlock) → ExactBlock w After (filled_block w Before (block_of ls h k b))
+    exact_block : (k : ℕ) (b : CommandBlock) → EveryInBlock (ExactCommand w After) (filled_block w Before (block_of ls h k b))
     exact_block k b =
         let all = steps_of_block ls h Hung (λ n c y. step_hung (root w) y ls h bound s own g (kids y) (below y) n c) k b in
         every_mapped_block (filled_step w Before) (filled_hang w Before) (λ c. ExactCommand w After (filled w Before c)) (ExactCommand w After) (λ c e. e)

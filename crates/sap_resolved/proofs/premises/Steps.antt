@@ -16,7 +16,7 @@ use Rattle.sap_shape.specs.Sites.{is_dynamic, Surroundings, block_sites, state_s
 use Rattle.sap_shape.specs.ShapeFaults.{Body, is_among, is_in, is_leaf, is_comparable, simple_shape, block_shape, state_shape, states_shape}
 use Rattle.sap_meaning.specs.Program.{World, Step, Group}
 use Rattle.sap_meaning.specs.Touches.{among}
-use Rattle.sap_meaning.specs.Fine.{size, FineTerm, FineStep, FineBlock, step_retags, block_retags, state_retags, group_retags}
+use Rattle.sap_meaning.specs.Fine.{size, FineTerm, FineStep, step_retags, block_retags, state_retags, group_retags, FineCommand}
 use Rattle.sap_resolved.specs.Worlds.{states_in}
 use Rattle.sap_resolved.specs.Resolve.{step_of, block_of, state_of, group_of}
 use Rattle.sap_resolved.specs.Terms.{entity_number}
@@ -27,6 +27,7 @@ use Rattle.sap_resolved.proofs.premises.Places.{name_at}
 use Rattle.sap_resolved.proofs.premises.Lookups.{named, dynamic_same}
 use Rattle.sap_meaning.proofs.WalksLemmas.{none_passes_in_block, every_both_in_block}
 use Rattle.sap_resolved.proofs.TreeWalks.{Named, Fitting, every_named_in_block, Shaped, Any, every_shaped_in_block, every_resolved_in_block}
+use Rattle.sap_meaning.specs.Walks.{EveryInBlock}
 
 pub some_child : (ls : Levels) (es : List Entity) (k x : ℕ) (g : StateList) → is_leaf g ≡ false → 0 < size (group_of ls es k x g)
 some_child ls es k x no_state h = cc
@@ -91,7 +92,7 @@ module _ (ls : Levels) (levels : List (List ℕ)) (h : Surroundings) (w : World)
       Follows c = WellNamedStep w c → FineStep w q g c
 
       pub fine_body : (k : ℕ) (b : CommandBlock) → block_faults levels What b ≡ [] → block_shape h.entities at b ≡ [] → WellNamedBlock w (block_of ls h k b)
-          → FineBlock w q g (block_of ls h k b)
+          → EveryInBlock (FineCommand w q g) (block_of ls h k b)
       fine_body k b f s i =
           every_both_in_block (WellNamedStep w) Follows (FineStep w q g) (FineTerm w) (λ e. Unit {0}) (FineTerm w) (λ c named follows. follows named)
           (λ e t u. t) (block_of ls h k b) i

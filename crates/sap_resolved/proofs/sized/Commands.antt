@@ -16,8 +16,8 @@ use Rattle.sap_names.specs.Widths.{own, else_of as first_width, register_width, 
 use Rattle.sap_meaning.specs.Program as program
 use Rattle.sap_meaning.specs.Program.{World, entity, width, is_register, is_memory, is_state, kind_is_register, kind_is_state}
 use Rattle.sap_meaning.specs.Expressions.{width_of}
-use Rattle.sap_meaning.specs.Walks.{arm_constants}
-use Rattle.sap_meaning.specs.Sized.{SizedTerm, Indexes, AreWithin, SizedStep, Sized, SizedArms, SizedBlock, SizedState, SizedGroup}
+use Rattle.sap_meaning.specs.Walks.{arm_constants, Every, EveryInArms, EveryInBlock}
+use Rattle.sap_meaning.specs.Sized.{SizedTerm, Indexes, AreWithin, SizedStep, SizedState, SizedGroup, SizedCommand}
 use Rattle.sap_meaning.specs.Fine.{FineTerm}
 use Rattle.sap_shape.specs.Sites.{Surroundings, simple_sites, command_sites, block_sites, state_sites}
 use Rattle.sap_resolved.specs.Worlds.{states_in}
@@ -67,10 +67,10 @@ module _ (ls : Levels) (h : Surroundings) (w : World) (r : Ready ls h.entities w
   what = what_is h.entities
 
   abbrev Fits : program.Command → Type 0
-  Fits c = WellNamed w c × Sized w c
+  Fits c = WellNamed w c × Every (SizedCommand w) c
 
   abbrev BlockFits : program.Block → Type 0
-  BlockFits b = WellNamedBlock w b × SizedBlock w b
+  BlockFits b = WellNamedBlock w b × EveryInBlock (SizedCommand w) b
 
   -- an index and what it indexes
   record Indexing (name : List ℕ) (i : Expression) : Type 0 where
@@ -185,7 +185,7 @@ module _ (ls : Levels) (h : Surroundings) (w : World) (r : Ready ls h.entities w
         ((t.fine, a.0), (((t.fits, t.indexed), a.1), a.2))
 
     arms_fit : (u k : ℕ) (arms : Arms) → arms_faults ls.names what (Some u) arms ≡ []
-        → WellNamedArms w (arms_of ls h k arms) × AllByRecursion (AreWithin u) (arm_constants (arms_of ls h k arms)) × SizedArms w (arms_of ls h k arms)
+        → WellNamedArms w (arms_of ls h k arms) × AllByRecursion (AreWithin u) (arm_constants (arms_of ls h k arms)) × EveryInArms (SizedCommand w) (arms_of ls h k arms)
     arms_fit u k (last_arm b) f = let a = block_fits k b f in (a.0, tt, a.1)
     arms_fit u k (tree.and_arm constants b arms) f =
         let n = none_three (constants_faults what (Some u) constants) (block_faults ls.names what b) (arms_faults ls.names what (Some u) arms) f in

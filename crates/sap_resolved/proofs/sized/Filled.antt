@@ -5,7 +5,7 @@ use Rattle.sap_meaning.specs.Program.{World, Step, assign, write, retag, retag_c
 use Rattle.sap_meaning.specs.Checks.{Home}
 use Rattle.sap_meaning.specs.Expressions.{width_of}
 use Rattle.sap_meaning.proofs.WalksLemmas.{constants_mapped}
-use Rattle.sap_meaning.specs.Sized.{AreWithin, SizedStep, SizedHere, SizedGroup}
+use Rattle.sap_meaning.specs.Sized.{AreWithin, SizedStep, SizedGroup, SizedCommand}
 use Rattle.sap_meaning.specs.Fine.{FineTerm}
 use Rattle.sap_resolved.specs.WellNamed.{WellNamedStep, WellNamedGroup}
 use Rattle.sap_resolved.proofs.FillLemmas.{commands_filled_group, every_filled_group}
@@ -28,7 +28,7 @@ module _ (w : World) where
   step_sized at (go_to site target) h = h
   step_sized at (fall_to_child site hang) h = h
 
-  here_sized : (at : Home) (c : Command) → SizedHere w c → SizedHere w (filled w at c)
+  here_sized : (at : Home) (c : Command) → SizedCommand w c → SizedCommand w (filled w at c)
   here_sized at (lone k) h = step_sized at k h
   here_sized at (try k hang b) h = step_sized at k h
   here_sized at (if_else hang e a b) h = h
@@ -40,4 +40,4 @@ module _ (w : World) where
   group_named p g h = every_filled_group w (WellNamedStep w) (WellNamedStep w) (FineTerm w) step_named p g h
 
   pub group_sized : (p : ℕ) (g : Group) → SizedGroup w g → SizedGroup w (filled_group w p g)
-  group_sized p g h = commands_filled_group w (SizedHere w) (SizedHere w) here_sized p g h
+  group_sized p g h = commands_filled_group w (SizedCommand w) (SizedCommand w) here_sized p g h

@@ -10,12 +10,13 @@ use Rattle.sap_meaning.specs.Checks.{Home, guard, test}
 use Rattle.sap_meaning.specs.Touches.{touches, root_touches, raised_alone}
 use Rattle.sap_meaning.specs.Does.{does, does_child, effect, is_constant}
 use Rattle.sap_meaning.specs.Cycle.{Tagged, set_inputs}
-use Rattle.sap_meaning.specs.Fine.{transfers, Open, OpenArms, OpenBlock, Closes, Final, ClosingArms, FineState, FineGroup, FineProgram}
+use Rattle.sap_meaning.specs.Fine.{transfers, Open, Closes, Final, ClosingArms, FineState, FineGroup, FineProgram, NoTransfer}
 use Rattle.sap_meaning.specs.Sites.{Sublist}
 use Rattle.sap_secure.specs.Once.Steps.{onward, tried, tried_then, picked, chosen, steps, arms_steps, block_steps, state_steps, child_steps, root_steps, cycle_steps}
 use Rattle.sap_secure.specs.CheckSites.Once.{own_site, sites_met}
 use Rattle.sap_secure.proofs.check_sites.Sublists.{same, none}
 use Rattle.sap_secure.proofs.check_sites.Marks.{marks, arms_marks, block_marks, state_marks, group_marks}
+use Rattle.sap_meaning.specs.Walks.{EveryInArms, EveryInBlock}
 
 met-append : (xs ys : List Step) → sites_met (xs ++ ys) ≡ sites_met xs ++ sites_met ys
 met-append [] ys = refl
@@ -108,13 +109,13 @@ module _ (w : World) where
       open_from (case_of hang e arms) plain pc s =
           picked_from e (touches w at (case_of hang e arms)) (arms_steps w at entered arms) (arms_marks arms) (λ v p t. open_arms arms plain.1 v p t) pc s
 
-      open_arms : (arms : Arms) → OpenArms arms → (v pc : ℕ) (s : Store) → From (arms_steps w at entered arms v pc s) (arms_marks arms)
+      open_arms : (arms : Arms) → EveryInArms NoTransfer arms → (v pc : ℕ) (s : Store) → From (arms_steps w at entered arms v pc s) (arms_marks arms)
       open_arms (last_arm b) plain v pc s = open_list b plain pc s
       open_arms (and_arm cs b arms) plain v pc s =
           either (is_constant cs v) (block_steps w at entered b pc s) (arms_steps w at entered arms v pc s) (block_marks b ++ arms_marks arms)
           (sublist_front _ (block_marks b) (arms_marks arms) (open_list b plain.0 pc s)) (sublist_behind _ (block_marks b) (arms_marks arms) (open_arms arms plain.1 v pc s))
 
-      open_list : (b : Block) → OpenBlock b → (pc : ℕ) (s : Store) → From (block_steps w at entered b pc s) (block_marks b)
+      open_list : (b : Block) → EveryInBlock NoTransfer b → (pc : ℕ) (s : Store) → From (block_steps w at entered b pc s) (block_marks b)
       open_list end_block plain pc s = tt
       open_list (command_then c cs) plain pc s =
           behind (steps w at entered c pc s) (block_steps w at entered cs pc (does w at (does_child w at.children at.state) c pc s).store) (marks c)
