@@ -9,7 +9,8 @@ use Rattle.sap_bits.specs.declared.Op2.TheVariants.{Eq}
 use Rattle.sap_meaning.specs.Program.{entity, is_dynamic, is_input, authority, width, is_state, below, listed, assign, write, go_to, fall_to_child, Command, lone, try, if_else, end_block, command_then, state_node, no_node, and_node}
 use Rattle.sap_meaning.specs.Checks.{Home}
 use Rattle.sap_meaning.specs.Touches.{touches, root_touches}
-use Rattle.sap_meaning.specs.Fine.{FineNode, FineProgram, ExactProgram, ExactList, reaches, block_reaches, OnceState, inside}
+use Rattle.sap_meaning.specs.Fine.{FineNode, FineProgram, ExactProgram, ExactList, inside}
+use Rattle.sap_meaning.specs.Once.{reaches, block_reaches, OnceState}
 use Rattle.sap_meaning.specs.Sized.{SizedProgram}
 use Rattle.sap_meaning.specs.Examples.{two_levels}
 use Rattle.sap_meaning.specs.Sample.{sample_world, on_fall, on_root, body_c, body_d, body_q, body_p, sample_kids, sample_states, sample, SampleIsFine}

@@ -5,7 +5,7 @@ use Rattle.std.proofs.lemmas.Bool.{or_cases, or_from}
 use Rattle.sap_lemmas.proofs.Bools.{either_follows, true_is_not_false}
 use Rattle.sap_maps.specs.Term.{Term}
 use Rattle.sap_meaning.specs.Program.{LevelTerm, fixed, of, at_place, both, Step, Command, lone, try, if_else, try_then, case_of, Arms, last_arm, and_arm, Block, end_block, command_then}
-use Rattle.sap_meaning.specs.Walks.{EveryLevel, Every, EveryInArms, EveryInBlock, Asks, folded, folded_in_arms, folded_in_block, with_step, gathered, gathered_in_block, some, some_in_arms, some_in_block, mapped, mapped_arms, mapped_block, arm_constants}
+use Rattle.sap_meaning.specs.Walks.{EveryLevel, Every, EveryInArms, EveryInBlock, Asks, folded, folded_in_arms, folded_in_block, with_step, gathered, gathered_in_block, some, some_in_block, mapped, mapped_arms, mapped_block, arm_constants}
 
 -- what is asked of every command is a proposition where it is one of each
 module _ (P : Command → Type 0) (prop : (c : Command) → IsProp (P c)) where

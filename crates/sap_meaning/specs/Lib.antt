@@ -10,6 +10,7 @@ pub mod Cycle
 pub mod State
 pub mod Agree
 pub mod Codes
+pub mod Once
 pub mod Fine
 pub mod Sized
 pub mod Sites

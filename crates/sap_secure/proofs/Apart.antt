@@ -6,7 +6,8 @@ use Rattle.sap_meaning.proofs.ProgramLemmas.{memory_no_state, register_no_memory
 use Rattle.sap_meaning.proofs.FineLemmas.{inside_among}
 use Rattle.sap_meaning.specs.Program.{World, is_dynamic, entity, is_register, is_memory, is_state, Step, assign, write, retag, retag_cell, go_to, fall_to_child, Command, Block, State, state_node, Group, no_node, and_node}
 use Rattle.sap_meaning.specs.Touches.{among, step_assigns, assigns, block_assigns, state_assigns, group_assigns, step_hangs, hangs, block_hangs}
-use Rattle.sap_meaning.specs.Fine.{FineTerm, FineStep, FineCommand, FineState, FineGroup, inside, step_writes, writes, step_reaches, reaches, block_reaches}
+use Rattle.sap_meaning.specs.Fine.{FineTerm, FineStep, FineCommand, FineState, FineGroup, inside}
+use Rattle.sap_meaning.specs.Once.{step_writes, writes, step_reaches, reaches, block_reaches}
 use Rattle.sap_meaning.proofs.WalksLemmas.{none_passes, none_passes_in_block, some_follows, some_follows_in_block, passes_follow, gathered_alike, gathered_in_block_alike}
 use Rattle.sap_secure.proofs.Concerns.{parted_of, group_parted, step_concerns, concerns, block_concerns}
 use Rattle.sap_meaning.specs.Walks.{Every, EveryInBlock}

@@ -5,7 +5,7 @@ use Rattle.std.proofs.lemmas.Bool.{and_from}
 use Rattle.sap_meaning.specs.Program.{World, is_dynamic, is_memory, Step, assign, write, retag, retag_cell, go_to, fall_to_child, Command, Arms, Block, State, state_node, Group, no_node, and_node}
 use Rattle.sap_meaning.specs.Walks.{some, some_in_arms, some_in_block}
 use Rattle.sap_meaning.specs.Touches.{among, block_assigns, state_assigns, group_assigns, step_hangs, hangs, block_hangs}
-use Rattle.sap_meaning.specs.Fine.{block_reaches, state_reaches, group_reaches}
+use Rattle.sap_meaning.specs.Once.{block_reaches, state_reaches, group_reaches}
 
 -- an enforced memory
 abbrev pub parted : World → ℕ → Bool

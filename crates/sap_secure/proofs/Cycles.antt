@@ -10,7 +10,8 @@ use Rattle.sap_meaning.specs.Touches.{among, root_touches}
 use Rattle.sap_meaning.specs.Does.{does_state, does_child}
 use Rattle.sap_meaning.specs.Cycle.{root_fall}
 use Rattle.sap_meaning.specs.Agree.{Low, High}
-use Rattle.sap_meaning.specs.Fine.{OnceState, OnceGroup, number_of}
+use Rattle.sap_meaning.specs.Fine.{number_of}
+use Rattle.sap_meaning.specs.Once.{OnceState, OnceGroup}
 use Rattle.sap_meaning.proofs.Slots.{child_raise}
 use Rattle.sap_meaning.proofs.Trees.{Nth, nth_of}
 use Rattle.sap_meaning.proofs.Keeps.{OfDynamic, holds_raise}

@@ -11,7 +11,8 @@ use Rattle.sap_meaning.specs.Expressions.{value, tag}
 use Rattle.sap_meaning.specs.Checks.{Home, guard, test}
 use Rattle.sap_meaning.specs.Touches.{among, step_hangs, hangs, block_hangs, touches, raised_alone, group_assigns, arms_hang}
 use Rattle.sap_meaning.specs.Does.{effect, attempt, select, branch, does, does_block, does_state, does_child, attempt_then, does_arms}
-use Rattle.sap_meaning.specs.Fine.{FineStep, FineCommand, FineState, FineGroup, transfers, Open, step_writes, writes, step_retags, retags, block_retags, state_retags, group_retags, inside, NoTransfer}
+use Rattle.sap_meaning.specs.Fine.{FineStep, FineCommand, FineState, FineGroup, transfers, Open, step_retags, retags, block_retags, state_retags, group_retags, inside, NoTransfer}
+use Rattle.sap_meaning.specs.Once.{step_writes, writes}
 use Rattle.sap_meaning.proofs.Slots.{slot_same, home_next, home_start, owner_home}
 use Rattle.sap_meaning.proofs.Keeps.{branch_all, choose_all}
 use Rattle.sap_secure.proofs.Apart.{register_apart, memory_apart, state_no_register, state_no_memory, group_unassigned, unhung}

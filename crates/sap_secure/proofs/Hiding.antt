@@ -10,7 +10,8 @@ use Rattle.sap_meaning.specs.Does.{effect, attempt, attempt_then, select, does, 
 use Rattle.sap_meaning.specs.Cycle.{cycle, set_inputs, root_fall}
 use Rattle.sap_meaning.specs.State.{Holds, first}
 use Rattle.sap_meaning.specs.Agree.{High}
-use Rattle.sap_meaning.specs.Fine.{FineNode, FineProgram, OnceState, inside}
+use Rattle.sap_meaning.specs.Fine.{FineNode, FineProgram, inside}
+use Rattle.sap_meaning.specs.Once.{OnceState}
 use Rattle.sap_meaning.specs.Examples.{two_levels}
 use Rattle.sap_meaning.proofs.Sampled.{lawful}
 use Rattle.sap_secure.specs.Confinement.{Hidden, Confinement, level_slot}

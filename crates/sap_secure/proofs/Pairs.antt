@@ -12,7 +12,8 @@ use Rattle.sap_meaning.specs.Checks.{Home, site_of, child_level, guard, test}
 use Rattle.sap_meaning.specs.Touches.{among, step_hangs, block_hangs, touches, raised_alone, arms_hang}
 use Rattle.sap_meaning.specs.Does.{effect, attempt, select, branch, does, does_block, attempt_then, does_arms}
 use Rattle.sap_meaning.specs.Agree.{Low, High}
-use Rattle.sap_meaning.specs.Fine.{FineTerm, transfers, Closes, Final, OnceStep, Once, OnceBlock, number_of, ClosingArms, OnceArms}
+use Rattle.sap_meaning.specs.Fine.{FineTerm, transfers, Closes, Final, number_of, ClosingArms}
+use Rattle.sap_meaning.specs.Once.{OnceStep, Once, OnceBlock, OnceArms}
 use Rattle.sap_meaning.proofs.Slots.{child_raise, held_state}
 use Rattle.sap_meaning.proofs.Trees.{Nth, nth_same}
 use Rattle.sap_meaning.proofs.Keeps.{OfDynamic, branch_all, holds_raise, alone_dynamic, choose_all, effect_holds}

@@ -9,7 +9,8 @@ use Rattle.sap_meaning.proofs.WalksLemmas.{every_follows, every_follows_in_arms,
 use Rattle.sap_meaning.specs.Store.{Store, After}
 use Rattle.sap_meaning.specs.Checks.{Home}
 use Rattle.sap_meaning.specs.Touches.{among}
-use Rattle.sap_meaning.specs.Fine.{FineTerm, FineStep, FineCommand, FineNode, FineState, FineGroup, Open, Closes, Final, writes, reaches, block_reaches, step_retags, retags, block_retags, inside, size, NoTransfer}
+use Rattle.sap_meaning.specs.Fine.{FineTerm, FineStep, FineCommand, FineNode, FineState, FineGroup, Open, Closes, Final, step_retags, retags, block_retags, inside, size, NoTransfer}
+use Rattle.sap_meaning.specs.Once.{writes, reaches, block_reaches}
 use Rattle.sap_meaning.proofs.Bools.{and_false}
 use Rattle.sap_meaning.proofs.Trees.{Nth, nth_fine}
 use Rattle.sap_secure.proofs.Concerns.{block_concerns}

@@ -13,7 +13,8 @@ use Rattle.sap_meaning.specs.Checks.{Home, site_of, guard, test}
 use Rattle.sap_meaning.specs.Touches.{touches, raised_alone}
 use Rattle.sap_meaning.specs.Does.{effect, attempt, select, branch, does, does_block, attempt_then, is_constant, choose_arm, does_arms}
 use Rattle.sap_meaning.specs.Agree.{Low, High, seen}
-use Rattle.sap_meaning.specs.Fine.{FineTerm, FineLevel, transfers, Open, Once, OnceBlock, OnceArms, step_writes, step_reaches, block_reaches, NoTransfer}
+use Rattle.sap_meaning.specs.Fine.{FineTerm, FineLevel, transfers, Open, NoTransfer}
+use Rattle.sap_meaning.specs.Once.{Once, OnceBlock, OnceArms, step_writes, step_reaches, block_reaches}
 use Rattle.sap_meaning.proofs.Slots.{held_register}
 use Rattle.sap_meaning.proofs.Keeps.{OfDynamic, Keeps, branch_all, holds_raise, alone_dynamic, effect_holds}
 use Rattle.sap_secure.proofs.Levels.{Like, Same, high_right, low_below, low_left, low_right, low_join, not_below, same_high, seen_parts}

@@ -12,7 +12,8 @@ use Rattle.sap_meaning.specs.Touches.{among, step_hangs, hangs, touches, group_a
 use Rattle.sap_meaning.specs.Does.{does, does_child}
 use Rattle.sap_meaning.specs.State.{Holds}
 use Rattle.sap_meaning.specs.Agree.{High}
-use Rattle.sap_meaning.specs.Fine.{FineTerm, FineStep, FineCommand, step_retags, retags, block_retags, state_retags, group_retags, reaches, inside, number_of, kids_of, Nth, ClosingArms, NoTransfer}
+use Rattle.sap_meaning.specs.Fine.{FineTerm, FineStep, FineCommand, step_retags, retags, block_retags, state_retags, group_retags, inside, number_of, kids_of, Nth, ClosingArms, NoTransfer}
+use Rattle.sap_meaning.specs.Once.{reaches}
 use Rattle.sap_secure.specs.Confinement.{last_group, last_parent, Active, StandsIn, StandsInBlock, is_goto, is_fall, has_goto, has_fall, level_slot, EqualParts, SomeHigh, Guarded, Confinement, StandsInArms}
 use Rattle.sap_meaning.proofs.WalksLemmas.{some_follows}
 use Rattle.sap_secure.proofs.Apart.{found, hung, unassigned, group_unassigned, inside_state, state_no_register, state_no_memory, register_apart, memory_apart}

@@ -7,7 +7,8 @@ use Rattle.sap_meaning.specs.Touches.{touches}
 use Rattle.sap_meaning.specs.Does.{does, does_child}
 use Rattle.sap_meaning.specs.State.{Holds}
 use Rattle.sap_meaning.specs.Agree.{High, StatesAgree, seen}
-use Rattle.sap_meaning.specs.Fine.{FineProgram, reaches, number_of, kids_of, Nth}
+use Rattle.sap_meaning.specs.Fine.{FineProgram, number_of, kids_of, Nth}
+use Rattle.sap_meaning.specs.Once.{reaches}
 
 -- The group in which the way ends that begins in a group and goes down through those states, and that group's parent.
 abbrev pub last_group : Group → (way : List State) → Group

@@ -9,7 +9,8 @@ use Rattle.sap_meaning.specs.Walks.{Asks, EveryInBlock}
 use Rattle.sap_meaning.proofs.WalksLemmas.{every_prop, every_prop_in_block, asks_prop, every_level_prop}
 use Rattle.sap_meaning.specs.Checks.{Home}
 use Rattle.sap_lattice.specs.Levels.{Levels}
-use Rattle.sap_meaning.specs.Fine.{FineTerm, FineLevel, FineStep, transfers, NoTransfer, Open, Closes, Final, ClosingArms, OnceStep, Once, OnceArms, OnceBlock, OnceState, OnceGroup, FineState, FineGroup, ExactStep, ExactCommand, ExactState, ExactGroup, FineCommand}
+use Rattle.sap_meaning.specs.Fine.{FineTerm, FineLevel, FineStep, transfers, NoTransfer, Open, Closes, Final, ClosingArms, FineState, FineGroup, ExactStep, ExactCommand, ExactState, ExactGroup, FineCommand}
+use Rattle.sap_meaning.specs.Once.{OnceStep, Once, OnceArms, OnceBlock, OnceState, OnceGroup}
 use Rattle.sap_meaning.specs.Sized.{Indexed}
 use Rattle.sap_resolved.specs.Sized.Ranges.{RangedTerm}
 use Rattle.sap_program.specs.declared.program.Program as code

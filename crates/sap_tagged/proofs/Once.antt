@@ -9,7 +9,8 @@ use Rattle.sap_meaning.specs.Program.{root, is_dynamic, is_register, listed, Ste
 use Rattle.sap_meaning.specs.Expressions.{width_of as number_width}
 use Rattle.sap_meaning.specs.Checks.{Home}
 use Rattle.sap_meaning.specs.Runs.{listed_alone}
-use Rattle.sap_meaning.specs.Fine.{step_reaching, reaching, arms_reaching, block_reaching, group_reaches, OnceStep, Once, OnceArms, OnceBlock, OnceGroup, FineProgram}
+use Rattle.sap_meaning.specs.Fine.{FineProgram}
+use Rattle.sap_meaning.specs.Once.{step_reaching, reaching, arms_reaching, block_reaching, group_reaches, OnceStep, Once, OnceArms, OnceBlock, OnceGroup}
 use Rattle.sap_net.specs.Names.{is_among, AreDistinct}
 use Rattle.sap_ir.specs.Source.{set, put}
 use Rattle.sap_ir.specs.Source.{width_of}

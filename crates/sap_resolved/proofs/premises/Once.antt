@@ -20,7 +20,7 @@ use Rattle.sap_shape.specs.Closing.{transfer_faults, open_faults, open_block_fau
 use Rattle.sap_shape.specs.Walk.{Written, writing, past_simple, past, past_block, past_arms, past_else, past_list, is_fall, falls, falls_block, falls_arms, falls_else, falls_list, entering_simple, entering, entering_block, entering_arms, entering_else, entering_list, second_simple, second, second_block, second_arms, second_else, second_list, second_state, second_states}
 use Rattle.sap_shape.specs.ShapeFaults.{state_shape, states_shape}
 use Rattle.sap_meaning.specs.Program.{World, Group}
-use Rattle.sap_meaning.specs.Fine.{step_writes, step_reaching, reaching, arms_reaching, block_reaching, state_reaches, group_reaches, OnceStep, Once, OnceArms, OnceBlock, OnceState, OnceGroup}
+use Rattle.sap_meaning.specs.Once.{step_writes, step_reaching, reaching, arms_reaching, block_reaching, state_reaches, group_reaches, OnceStep, Once, OnceArms, OnceBlock, OnceState, OnceGroup}
 use Rattle.sap_resolved.specs.Worlds.{states_in}
 use Rattle.sap_shape.specs.Sites.{Surroundings, simple_sites, block_sites, command_sites, state_sites}
 use Rattle.sap_resolved.specs.Resolve.{site_number, step_of, command_of, arms_of, block_of, else_of, list_of, state_of, group_of}

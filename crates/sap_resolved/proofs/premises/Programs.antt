@@ -12,7 +12,8 @@ use Rattle.sap_shape.specs.ShapeFaults.{states_shape}
 use Rattle.sap_shape.specs.WellFormed.{WellFormed}
 use Rattle.sap_shape.proofs.Again.{states_faultless, paths_faultless}
 use Rattle.sap_meaning.specs.Program.{World, Group, root}
-use Rattle.sap_meaning.specs.Fine.{OnceGroup, FineGroup}
+use Rattle.sap_meaning.specs.Fine.{FineGroup}
+use Rattle.sap_meaning.specs.Once.{OnceGroup}
 use Rattle.sap_meaning.specs.Sites.{PlacedStep, group_sites, site_numbers, program_sites, numbers_from, RisesFrom}
 use Rattle.sap_meaning.proofs.SitesLemmas.{numbers_rise}
 use Rattle.sap_resolved.specs.Worlds.{world_of}

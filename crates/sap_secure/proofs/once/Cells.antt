@@ -10,7 +10,7 @@ use Rattle.sap_meaning.specs.Touches.{touches, root_touches, raised_alone}
 use Rattle.sap_meaning.specs.Does.{effect, attempt, attempt_then, select, branch, is_constant, does, does_arms, does_block, does_state, does_child}
 use Rattle.sap_meaning.specs.Cycle.{Tagged, set_inputs, root_fall, cycle}
 use Rattle.sap_meaning.specs.State.{Resting}
-use Rattle.sap_meaning.specs.Fine.{step_writes}
+use Rattle.sap_meaning.specs.Once.{step_writes}
 use Rattle.sap_secure.specs.Once.Steps.{onward, tried, tried_then, picked, chosen, steps, arms_steps, block_steps, state_steps, child_steps, root_steps, cycle_steps}
 use Rattle.sap_secure.specs.Once.Once.{writes_to, CellStays, WritesOnce, UnwrittenStays, ChangesOneCell}
 use Rattle.sap_secure.proofs.once.Counts.{writing, writes_to-cons, writes_to-append, split_one}

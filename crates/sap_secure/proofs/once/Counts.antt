@@ -4,7 +4,7 @@ use Rattle.std.proofs.lemmas.Bool.{cases_Bool}
 use Rattle.std.proofs.lemmas.List.Sums.{sum_by-append, sum_by-cons}
 use Rattle.sap_lemmas.proofs.Bools.{neither_left, neither_right}
 use Rattle.sap_meaning.specs.Program.{Step}
-use Rattle.sap_meaning.specs.Fine.{step_writes}
+use Rattle.sap_meaning.specs.Once.{step_writes}
 use Rattle.sap_meaning.proofs.Bools.{and_false}
 use Rattle.sap_secure.specs.Once.Once.{writes_to}
 

@@ -10,7 +10,8 @@ use Rattle.sap_meaning.specs.Checks.{Home, guard, test}
 use Rattle.sap_meaning.specs.Touches.{touches, root_touches, raised_alone}
 use Rattle.sap_meaning.specs.Does.{does, does_child, effect, is_constant}
 use Rattle.sap_meaning.specs.Cycle.{set_inputs}
-use Rattle.sap_meaning.specs.Fine.{step_writes, step_reaching, reaching, arms_reaching, block_reaching, state_reaches, group_reaches, OnceStep, Once, OnceArms, OnceBlock, OnceState, OnceGroup, FineProgram}
+use Rattle.sap_meaning.specs.Fine.{FineProgram}
+use Rattle.sap_meaning.specs.Once.{step_writes, step_reaching, reaching, arms_reaching, block_reaching, state_reaches, group_reaches, OnceStep, Once, OnceArms, OnceBlock, OnceState, OnceGroup}
 use Rattle.sap_meaning.proofs.Bools.{and_false}
 use Rattle.sap_secure.specs.Once.Steps.{onward, tried, tried_then, picked, chosen, steps, arms_steps, block_steps, state_steps, child_steps, root_steps, cycle_steps}
 use Rattle.sap_secure.specs.Once.Once.{writes_to, WritesOnce}

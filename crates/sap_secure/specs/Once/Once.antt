@@ -8,7 +8,7 @@ use Rattle.sap_meaning.specs.Program.{World, Program, Step, is_dynamic}
 use Rattle.sap_meaning.specs.Store.{Store, start, number, level}
 use Rattle.sap_meaning.specs.Cycle.{Tagged, cycle}
 use Rattle.sap_meaning.specs.State.{Resting}
-use Rattle.sap_meaning.specs.Fine.{step_writes}
+use Rattle.sap_meaning.specs.Once.{step_writes}
 use Rattle.sap_resolved.specs.Fill.{program_of}
 use Rattle.sap_secure.specs.Once.Steps.{cycle_steps}
 
