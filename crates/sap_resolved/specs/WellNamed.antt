@@ -1,8 +1,8 @@
 -- Programs in which each name is that of an entity of the kind that its place asks for. A state is named by a number below the root's, past which
 -- every number would pass for one.
 use Rattle.std.specs.Prelude.{◌≡◌, ◌<◌, true, ◌||◌}
-use Rattle.sap_meaning.specs.Program.{World, root, is_register, is_memory, is_state, Step, assign, write, retag, retag_cell, go_to, fall_to_child, Command, Arms, Block, State, Group}
-use Rattle.sap_meaning.specs.Walks.{Every, EveryInArms, EveryInBlock, Asks, EveryBody, EveryBodyIn}
+use Rattle.sap_meaning.specs.Program.{World, root, is_register, is_memory, is_state, Step, assign, write, retag, retag_cell, go_to, fall_to_child, Command, State, Group}
+use Rattle.sap_meaning.specs.Walks.{EveryInBlock, Asks, EveryBody, EveryBodyIn}
 use Rattle.sap_meaning.specs.Fine.{FineTerm, FineLevel}
 
 abbrev pub WellNamedStep : World → Step → Type 0
@@ -13,17 +13,12 @@ WellNamedStep w (retag_cell site m j n) = (is_memory w m ≡ true) × FineTerm w
 WellNamedStep w (go_to site target) = (is_state w target ≡ true) × (target < root w)
 WellNamedStep w (fall_to_child site hang) = Unit {0}
 
-abbrev pub WellNamed : World → Command → Type 0
-WellNamed w c = Every (Asks (WellNamedStep w) (FineTerm w)) c
-
-abbrev pub WellNamedArms : World → Arms → Type 0
-WellNamedArms w arms = EveryInArms (Asks (WellNamedStep w) (FineTerm w)) arms
-
-abbrev pub WellNamedBlock : World → Block → Type 0
-WellNamedBlock w b = EveryInBlock (Asks (WellNamedStep w) (FineTerm w)) b
+-- what is asked of a command alone
+abbrev pub WellNamedCommand : World → Command → Type 0
+WellNamedCommand w c = Asks (WellNamedStep w) (FineTerm w) c
 
 abbrev pub WellNamedState : World → State → Type 0
-WellNamedState w t = EveryBody (WellNamedBlock w) t
+WellNamedState w t = EveryBody (EveryInBlock (WellNamedCommand w)) t
 
 abbrev pub WellNamedGroup : World → Group → Type 0
-WellNamedGroup w g = EveryBodyIn (WellNamedBlock w) g
+WellNamedGroup w g = EveryBodyIn (EveryInBlock (WellNamedCommand w)) g

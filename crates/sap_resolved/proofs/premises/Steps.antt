@@ -20,7 +20,7 @@ use Rattle.sap_meaning.specs.Fine.{size, FineTerm, FineStep, step_retags, block_
 use Rattle.sap_resolved.specs.Worlds.{states_in}
 use Rattle.sap_resolved.specs.Resolve.{step_of, block_of, state_of, group_of}
 use Rattle.sap_resolved.specs.Terms.{entity_number}
-use Rattle.sap_resolved.specs.WellNamed.{WellNamedStep, WellNamedBlock}
+use Rattle.sap_resolved.specs.WellNamed.{WellNamedStep, WellNamedCommand}
 use Rattle.sap_resolved.proofs.Lookup.{AllMatch}
 use Rattle.sap_resolved.proofs.premises.Commands.{tag_named, cell_named, body_fits, below_fits}
 use Rattle.sap_resolved.proofs.premises.Places.{name_at}
@@ -91,7 +91,8 @@ module _ (ls : Levels) (levels : List (List ℕ)) (h : Surroundings) (w : World)
       abbrev Follows : Step → Type 0
       Follows c = WellNamedStep w c → FineStep w q g c
 
-      pub fine_body : (k : ℕ) (b : CommandBlock) → block_faults levels What b ≡ [] → block_shape h.entities at b ≡ [] → WellNamedBlock w (block_of ls h k b)
+      pub fine_body : (k : ℕ) (b : CommandBlock) → block_faults levels What b ≡ [] → block_shape h.entities at b ≡ []
+          → EveryInBlock (WellNamedCommand w) (block_of ls h k b)
           → EveryInBlock (FineCommand w q g) (block_of ls h k b)
       fine_body k b f s i =
           every_both_in_block (WellNamedStep w) Follows (FineStep w q g) (FineTerm w) (λ e. Unit {0}) (FineTerm w) (λ c named follows. follows named)

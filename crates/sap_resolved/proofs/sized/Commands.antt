@@ -23,7 +23,7 @@ use Rattle.sap_shape.specs.Sites.{Surroundings, simple_sites, command_sites, blo
 use Rattle.sap_resolved.specs.Worlds.{states_in}
 use Rattle.sap_resolved.specs.Terms.{entity_number, term_of}
 use Rattle.sap_resolved.specs.Resolve.{site_number, step_of, number_of, numbers_of, command_of, arms_of, block_of, else_of, list_of, state_of, group_of}
-use Rattle.sap_resolved.specs.WellNamed.{WellNamedStep, WellNamed, WellNamedArms, WellNamedBlock, WellNamedState, WellNamedGroup}
+use Rattle.sap_resolved.specs.WellNamed.{WellNamedStep, WellNamedCommand, WellNamedState, WellNamedGroup}
 use Rattle.sap_resolved.proofs.Lookup.{Stands}
 use Rattle.sap_resolved.proofs.sized.Faultless.{none_two, none_three, sound_same}
 use Rattle.sap_resolved.proofs.sized.Declared.{Sound}
@@ -67,10 +67,10 @@ module _ (ls : Levels) (h : Surroundings) (w : World) (r : Ready ls h.entities w
   what = what_is h.entities
 
   abbrev Fits : program.Command → Type 0
-  Fits c = WellNamed w c × Every (SizedCommand w) c
+  Fits c = Every (WellNamedCommand w) c × Every (SizedCommand w) c
 
   abbrev BlockFits : program.Block → Type 0
-  BlockFits b = WellNamedBlock w b × EveryInBlock (SizedCommand w) b
+  BlockFits b = EveryInBlock (WellNamedCommand w) b × EveryInBlock (SizedCommand w) b
 
   -- an index and what it indexes
   record Indexing (name : List ℕ) (i : Expression) : Type 0 where
@@ -185,7 +185,8 @@ module _ (ls : Levels) (h : Surroundings) (w : World) (r : Ready ls h.entities w
         ((t.fine, a.0), (((t.fits, t.indexed), a.1), a.2))
 
     arms_fit : (u k : ℕ) (arms : Arms) → arms_faults ls.names what (Some u) arms ≡ []
-        → WellNamedArms w (arms_of ls h k arms) × AllByRecursion (AreWithin u) (arm_constants (arms_of ls h k arms)) × EveryInArms (SizedCommand w) (arms_of ls h k arms)
+        → EveryInArms (WellNamedCommand w) (arms_of ls h k arms) × AllByRecursion (AreWithin u) (arm_constants (arms_of ls h k arms))
+        × EveryInArms (SizedCommand w) (arms_of ls h k arms)
     arms_fit u k (last_arm b) f = let a = block_fits k b f in (a.0, tt, a.1)
     arms_fit u k (tree.and_arm constants b arms) f =
         let n = none_three (constants_faults what (Some u) constants) (block_faults ls.names what b) (arms_faults ls.names what (Some u) arms) f in
