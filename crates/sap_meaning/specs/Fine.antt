@@ -3,9 +3,9 @@ use Rattle.std.specs.Prelude.{◌≡◌, ℕ, zero, suc, ◌<◌, ◌≤◌, Boo
 use Rattle.sap_lattice.specs.Order.{Laws}
 use Rattle.sap_maps.specs.Term.{Term, constant, read, cell, one, two, choose, join, part}
 use Rattle.sap_meaning.specs.Program.{World, Program, entity, is_dynamic, is_input, is_register, is_memory, is_state, authority, children, root, place, last, below, listed, LevelTerm, Step, assign, write, retag, retag_cell, go_to, fall_to_child, Command, lone, try, if_else, try_then, case_of, Arms, last_arm, and_arm, Block, end_block, command_then, State, state_node, Group, no_node, and_node}
-use Rattle.sap_meaning.specs.Walks.{EveryLevel, Every, EveryInBlock, Asks, some, some_in_block, some_body, some_body_in}
+use Rattle.sap_meaning.specs.Walks.{EveryLevel, Every, EveryInBlock, Asks}
 use Rattle.sap_meaning.specs.Checks.{Home}
-use Rattle.sap_meaning.specs.Touches.{among, touches, root_touches}
+use Rattle.sap_meaning.specs.Touches.{among, touches, root_touches, block_retags, group_retags}
 use Rattle.sap_meaning.specs.Once.{OnceGroup}
 
 -- What is read plain is an input or a register, and what is read by an index is a memory.
@@ -77,27 +77,6 @@ abbrev mutual
   pub ClosingArms : Arms → Type 0
   ClosingArms (last_arm b) = Closes b
   ClosingArms (and_arm constants b arms) = Closes b × ClosingArms arms
-
--- a step gives the register or state x a level
-abbrev pub step_retags : Step → ℕ → Bool
-step_retags (assign site y e) x = false
-step_retags (write site m i e) x = false
-step_retags (retag site y n) x = nat_eq x y
-step_retags (retag_cell site m j n) x = false
-step_retags (go_to site target) x = false
-step_retags (fall_to_child site hang) x = false
-
-abbrev pub retags : Command → ℕ → Bool
-retags c x = some (λ k. step_retags k x) c
-
-abbrev pub block_retags : Block → ℕ → Bool
-block_retags b x = some_in_block (λ k. step_retags k x) b
-
-abbrev pub state_retags : State → ℕ → Bool
-state_retags t x = some_body (λ b. block_retags b x) t
-
-abbrev pub group_retags : Group → ℕ → Bool
-group_retags g x = some_body_in (λ b. block_retags b x) g
 
 -- x is a state of the group, or below one
 abbrev pub inside : Group → ℕ → Bool

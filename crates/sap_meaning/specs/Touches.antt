@@ -1,4 +1,4 @@
--- What a command touches: what hangs on it.
+-- What a command assigns and retags, and what it touches: what hangs on it.
 use Rattle.std.specs.Prelude.{ℕ, Bool, false, ◌||◌, ◌&&◌, nat_eq}
 use Rattle.sap_meaning.specs.Program.{World, is_dynamic, Step, assign, write, retag, retag_cell, go_to, fall_to_child, Command, lone, Arms, Block, State, state_node, Group, no_node, and_node}
 use Rattle.sap_meaning.specs.Walks.{some, some_in_arms, some_in_block, some_body, some_body_in}
@@ -29,6 +29,27 @@ state_assigns t x = some_body (λ b. block_assigns b x) t
 
 abbrev pub group_assigns : Group → ℕ → Bool
 group_assigns g x = some_body_in (λ b. block_assigns b x) g
+
+-- a step gives the register or state x a level
+abbrev pub step_retags : Step → ℕ → Bool
+step_retags (assign site y e) x = false
+step_retags (write site m i e) x = false
+step_retags (retag site y n) x = nat_eq x y
+step_retags (retag_cell site m j n) x = false
+step_retags (go_to site target) x = false
+step_retags (fall_to_child site hang) x = false
+
+abbrev pub retags : Command → ℕ → Bool
+retags c x = some (λ k. step_retags k x) c
+
+abbrev pub block_retags : Block → ℕ → Bool
+block_retags b x = some_in_block (λ k. step_retags k x) b
+
+abbrev pub state_retags : State → ℕ → Bool
+state_retags t x = some_body (λ b. block_retags b x) t
+
+abbrev pub group_retags : Group → ℕ → Bool
+group_retags g x = some_body_in (λ b. block_retags b x) g
 
 -- x is one of the states of a group
 abbrev pub among : Group → ℕ → Bool

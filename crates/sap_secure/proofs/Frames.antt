@@ -9,9 +9,9 @@ use Rattle.sap_meaning.specs.Program.{World, is_dynamic, is_memory, is_state, pl
 use Rattle.sap_meaning.specs.Store.{Slot, own, start, next, Store, owner, home, level, child, same_slot, put_number, put_level, put_child, raised, raise, lowered, reset, After, stay}
 use Rattle.sap_meaning.specs.Expressions.{value, tag}
 use Rattle.sap_meaning.specs.Checks.{Home, guard, test}
-use Rattle.sap_meaning.specs.Touches.{among, step_hangs, hangs, block_hangs, touches, raised_alone, group_assigns, arms_hang}
+use Rattle.sap_meaning.specs.Touches.{among, step_hangs, hangs, block_hangs, touches, raised_alone, group_assigns, arms_hang, step_retags, retags, block_retags, state_retags, group_retags}
 use Rattle.sap_meaning.specs.Does.{effect, attempt, select, branch, does, does_block, does_state, does_child, attempt_then, does_arms}
-use Rattle.sap_meaning.specs.Fine.{FineStep, FineCommand, FineState, FineGroup, transfers, Open, step_retags, retags, block_retags, state_retags, group_retags, inside, NoTransfer}
+use Rattle.sap_meaning.specs.Fine.{FineStep, FineCommand, FineState, FineGroup, transfers, Open, inside, NoTransfer}
 use Rattle.sap_meaning.specs.Once.{step_writes, writes}
 use Rattle.sap_meaning.proofs.Slots.{slot_same, home_next, home_start, owner_home}
 use Rattle.sap_meaning.proofs.Keeps.{branch_all, choose_all}

@@ -9,7 +9,8 @@ use Rattle.sap_meaning.specs.Store.{own, Store, owner, level, child}
 use Rattle.sap_meaning.specs.State.{Holds}
 use Rattle.sap_meaning.specs.Does.{does_state, does_child}
 use Rattle.sap_meaning.specs.Agree.{High}
-use Rattle.sap_meaning.specs.Fine.{inside, number_of, block_retags}
+use Rattle.sap_meaning.specs.Fine.{inside, number_of}
+use Rattle.sap_meaning.specs.Touches.{block_retags}
 use Rattle.sap_meaning.proofs.Trees.{Nth}
 use Rattle.sap_secure.proofs.Concerns.{state_concerns, group_concerns}
 use Rattle.sap_secure.proofs.Sites.{Around, node, own_fine, kids_around, proper_body}

@@ -8,8 +8,8 @@ use Rattle.sap_meaning.specs.Walks.{Every, EveryInArms, EveryInBlock, Asks, some
 use Rattle.sap_meaning.proofs.WalksLemmas.{every_follows, every_follows_in_arms, every_follows_in_block, asks_follows, none_passes, none_passes_in_block}
 use Rattle.sap_meaning.specs.Store.{Store, After}
 use Rattle.sap_meaning.specs.Checks.{Home}
-use Rattle.sap_meaning.specs.Touches.{among}
-use Rattle.sap_meaning.specs.Fine.{FineTerm, FineStep, FineCommand, FineNode, FineState, FineGroup, Open, Closes, Final, step_retags, retags, block_retags, inside, size, NoTransfer}
+use Rattle.sap_meaning.specs.Touches.{among, step_retags, retags, block_retags}
+use Rattle.sap_meaning.specs.Fine.{FineTerm, FineStep, FineCommand, FineNode, FineState, FineGroup, Open, Closes, Final, inside, size, NoTransfer}
 use Rattle.sap_meaning.specs.Once.{writes, reaches, block_reaches}
 use Rattle.sap_meaning.proofs.Bools.{and_false}
 use Rattle.sap_meaning.proofs.Trees.{Nth, nth_fine}

@@ -8,11 +8,11 @@ use Rattle.sap_meaning.proofs.FineLemmas.{inside_among}
 use Rattle.sap_lattice.specs.Order.{Laws}
 use Rattle.sap_meaning.specs.Program.{World, Kind, input, register, memory, state, entity, kind_is_input, kind_is_register, kind_is_memory, is_dynamic, is_register, is_memory, is_state, root, below, Step, assign, write, retag, retag_cell, go_to, fall_to_child, Command, lone, try, if_else, try_then, case_of, Arms, last_arm, and_arm, Block, end_block, command_then, State, state_node, Group, no_node, and_node}
 use Rattle.sap_meaning.specs.Store.{own, start, next, start_whole, next_whole, Store, home, level, child}
-use Rattle.sap_meaning.specs.Touches.{among, step_hangs, hangs, touches, group_assigns}
+use Rattle.sap_meaning.specs.Touches.{among, step_hangs, hangs, touches, group_assigns, step_retags, retags, block_retags, state_retags, group_retags}
 use Rattle.sap_meaning.specs.Does.{does, does_child}
 use Rattle.sap_meaning.specs.State.{Holds}
 use Rattle.sap_meaning.specs.Agree.{High}
-use Rattle.sap_meaning.specs.Fine.{FineTerm, FineStep, FineCommand, step_retags, retags, block_retags, state_retags, group_retags, inside, number_of, kids_of, Nth, ClosingArms, NoTransfer}
+use Rattle.sap_meaning.specs.Fine.{FineTerm, FineStep, FineCommand, inside, number_of, kids_of, Nth, ClosingArms, NoTransfer}
 use Rattle.sap_meaning.specs.Once.{reaches}
 use Rattle.sap_secure.specs.Confinement.{last_group, last_parent, Active, StandsIn, StandsInBlock, is_goto, is_fall, has_goto, has_fall, level_slot, EqualParts, SomeHigh, Guarded, Confinement, StandsInArms}
 use Rattle.sap_meaning.proofs.WalksLemmas.{some_follows}

@@ -15,8 +15,8 @@ use Rattle.sap_shape.specs.Closing.{closing_faults}
 use Rattle.sap_shape.specs.Sites.{is_dynamic, Surroundings, block_sites, state_sites}
 use Rattle.sap_shape.specs.ShapeFaults.{Body, is_among, is_in, is_leaf, is_comparable, simple_shape, block_shape, state_shape, states_shape}
 use Rattle.sap_meaning.specs.Program.{World, Step, Group}
-use Rattle.sap_meaning.specs.Touches.{among}
-use Rattle.sap_meaning.specs.Fine.{size, FineTerm, FineStep, step_retags, block_retags, state_retags, group_retags, FineCommand}
+use Rattle.sap_meaning.specs.Touches.{among, step_retags, block_retags, state_retags, group_retags}
+use Rattle.sap_meaning.specs.Fine.{size, FineTerm, FineStep, FineCommand}
 use Rattle.sap_resolved.specs.Worlds.{states_in}
 use Rattle.sap_resolved.specs.Resolve.{step_of, block_of, state_of, group_of}
 use Rattle.sap_resolved.specs.Terms.{entity_number}
