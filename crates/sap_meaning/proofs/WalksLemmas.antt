@@ -1,44 +1,10 @@
 -- On what stands in Walks: what several crates cite.
 use Rattle.std.proofs.Common.{◌≡◌, ℕ, Bool, true, false, ◌||◌, List, ◌∷◌, inl, inr, refl, sym, ap, ap₂, ◌∙◌}
-use Rattle.std.proofs.Props.{props}
 use Rattle.std.proofs.lemmas.Bool.{or_cases, or_from}
 use Rattle.sap_lemmas.proofs.Bools.{either_follows, true_is_not_false}
 use Rattle.sap_maps.specs.Term.{Term}
-use Rattle.sap_meaning.specs.Program.{LevelTerm, fixed, of, at_place, both, Step, Command, lone, try, if_else, try_then, case_of, Arms, last_arm, and_arm, Block, end_block, command_then}
-use Rattle.sap_meaning.specs.Walks.{EveryLevel, Every, EveryInArms, EveryInBlock, Asks, folded, folded_in_arms, folded_in_block, with_step, gathered, gathered_in_block, some, some_in_block, mapped, mapped_arms, mapped_block, arm_constants}
-
--- what is asked of every command is a proposition where it is one of each
-module _ (P : Command → Type 0) (prop : (c : Command) → IsProp (P c)) where
-  mutual
-    pub every_prop : (c : Command) → IsProp (Every P c)
-    every_prop (lone k) = prop (lone k)
-    every_prop (try k hang h) = hlevel (props, prop (try k hang h), every_prop_in_block h)
-    every_prop (if_else hang e a b) = hlevel (props, prop (if_else hang e a b), every_prop_in_block a, every_prop_in_block b)
-    every_prop (try_then k hang a b) = hlevel (props, prop (try_then k hang a b), every_prop_in_block a, every_prop_in_block b)
-    every_prop (case_of hang e arms) = hlevel (props, prop (case_of hang e arms), every_prop_in_arms arms)
-
-    every_prop_in_arms : (arms : Arms) → IsProp (EveryInArms P arms)
-    every_prop_in_arms (last_arm b) = every_prop_in_block b
-    every_prop_in_arms (and_arm constants b arms) = hlevel (props, every_prop_in_block b, every_prop_in_arms arms)
-
-    pub every_prop_in_block : (b : Block) → IsProp (EveryInBlock P b)
-    every_prop_in_block end_block = hlevel props
-    every_prop_in_block (command_then c cs) = hlevel (props, every_prop c, every_prop_in_block cs)
-
-module _ (P : Step → Type 0) (Q : Term ℕ → Type 0) (step_prop : (k : Step) → IsProp (P k)) (term_prop : (e : Term ℕ) → IsProp (Q e)) where
-  pub asks_prop : (c : Command) → IsProp (Asks P Q c)
-  asks_prop (lone k) = step_prop k
-  asks_prop (try k hang h) = step_prop k
-  asks_prop (if_else hang e a b) = term_prop e
-  asks_prop (try_then k hang a b) = step_prop k
-  asks_prop (case_of hang e arms) = term_prop e
-
-module _ (P : ℕ → Type 0) (Q : Term ℕ → Type 0) (number_prop : (n : ℕ) → IsProp (P n)) (term_prop : (e : Term ℕ) → IsProp (Q e)) where
-  pub every_level_prop : (n : LevelTerm) → IsProp (EveryLevel P Q n)
-  every_level_prop (fixed n) = number_prop n
-  every_level_prop (of e) = term_prop e
-  every_level_prop (at_place e) = term_prop e
-  every_level_prop (both a b) = hlevel (props, every_level_prop a, every_level_prop b)
+use Rattle.sap_meaning.specs.Program.{Step, Command, lone, try, if_else, try_then, case_of, Arms, last_arm, and_arm, Block, end_block, command_then}
+use Rattle.sap_meaning.specs.Walks.{Every, EveryInArms, EveryInBlock, Asks, folded, folded_in_arms, folded_in_block, with_step, gathered, gathered_in_block, some, some_in_block, mapped, mapped_arms, mapped_block, arm_constants}
 
 -- What is asked of each command follows from what is asked of it there, and of all that stands in it.
 module _ (P R S : Command → Type 0) (follows : (c : Command) → Every P c → R c → S c) where
