@@ -1,4 +1,4 @@
-"""What a program takes: processor seconds and the most memory.
+"""What a program takes: processor seconds, seconds and the most memory.
 
 A process that is started from a large one is told to have taken the memory of that one at least. So a starter, which begins while this process is small and stays
 so, starts the programs."""
@@ -6,14 +6,26 @@ so, starts the programs."""
 import json
 import os
 import sys
+import time
+from typing import NamedTuple
 
 
-def started(words, out):
-    """The status of a program, its processor seconds and the most memory in KiB; its channel 1 goes to a file."""
+class Took(NamedTuple):
+    """Seconds of processors, seconds, and the most memory in KiB."""
+
+    processor: float
+    passed: float
+    memory: int
+
+
+def started(words, out, folder):
+    """The status of a program that is started in a folder, and what it took; its channel 1 goes to a file."""
+    start = time.perf_counter()
+    os.chdir(folder)
     actions = [(os.POSIX_SPAWN_OPEN, 1, out, os.O_WRONLY | os.O_CREAT | os.O_TRUNC, 0o600)]
     child = os.posix_spawnp(words[0], words, os.environ, file_actions=actions)
     _, status, used = os.wait4(child, 0)
-    return os.waitstatus_to_exitcode(status), used.ru_utime + used.ru_stime, used.ru_maxrss
+    return os.waitstatus_to_exitcode(status), used.ru_utime + used.ru_stime, time.perf_counter() - start, used.ru_maxrss
 
 
 def serve(asked, answered):
@@ -36,11 +48,11 @@ class Starter:
         os.close(answered)
         self.ask, self.answer = os.fdopen(ask, "w"), os.fdopen(answer)
 
-    def run(self, words, out=os.devnull):
-        """The processor seconds of a program that is to end with 0, and the most memory in KiB, at least that of a small process of Python."""
-        self.ask.write(json.dumps([words, out]) + "\n")
+    def run(self, words, out=os.devnull, folder=None):
+        """What a program takes that is to end with 0: memory at least that of a small process of Python."""
+        self.ask.write(json.dumps([words, out, folder or os.getcwd()]) + "\n")
         self.ask.flush()
-        status, seconds, memory = json.loads(self.answer.readline())
+        status, *took = json.loads(self.answer.readline())
         if status:
             sys.exit(f"unexpected: status {status} of {' '.join(words)}")
-        return seconds, memory
+        return Took(*took)
