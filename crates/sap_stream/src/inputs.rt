@@ -46,7 +46,7 @@ impl Tagged {
 /// What each input gets, in the order of their declaration.
 #[derive(Debug, Drop)]
 pub struct Inputs {
-    values: Vec<Tagged>,
+    pub values: Vec<Tagged>,
 }
 
 impl Model for Inputs {
