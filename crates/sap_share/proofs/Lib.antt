@@ -6,5 +6,6 @@ pub mod Found
 pub mod Differing
 pub mod Lookups
 pub mod Held
+pub mod NameTables
 pub mod Growing
 pub mod Fronts

@@ -110,19 +110,15 @@ pub names_long : {X : Type 0} (es : List (Name × X)) → length (keys_of es) �
 names_long [] = refl
 names_long (e ∷ es) = ap suc (names_long es)
 
-pub not_placed : {X : Type 0} (es : List (Name × X)) (n : Name) → find es n ≡ None → place_in (keys_of es) n ≡ None
-not_placed [] n h = refl
-not_placed {X} (e ∷ es) n h =
+pub entry_there : {X : Type 0} (es : List (Name × X)) (n : Name) (k : ℕ) → place_in (keys_of es) n ≡ Some k → is_some (find es n) ≡ true
+entry_there [] n k h = absurd (cc)
+entry_there (e ∷ es) n k h =
     elim (cases_Bool (bytes_eq e.0 n)) [
-      | inl t ↦ absurd (let g : Some e.1 ≡ None = rw t at h in cc)
-      | inr f ↦ rw f (ap (option_map suc) (not_placed es n (rw f at h)))
+      | inl t ↦ rw t refl
+      | inr f ↦ let b = before (place_in (keys_of es) n) k (rw f at h) in rw f (entry_there es n b.0 b.1)
     ]
 
 -- what is found, as a name has another value
-
-pub still_some : {X Y : Type 0} (f : X → Y) (o : Option X) → is_some (option_map f o) ≡ is_some o
-still_some f None = refl
-still_some f (Some x) = refl
 
 replaced_first : {X : Type 0} (e : Name × X) (es : List (Name × X)) (n m : Name) (x : X) → e.0 ≡ n → bytes_eq e.0 n ≡ true
     → find (replaced (e ∷ es) n x) m ≡ (if bytes_eq n m then Some x else find (e ∷ es) m)

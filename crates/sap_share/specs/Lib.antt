@@ -2,6 +2,7 @@ pub mod Keys
 pub mod Names
 pub mod Rights
 pub mod Differing
+pub mod NameTables
 pub mod Tables
 pub mod Sets
 pub mod Fronts

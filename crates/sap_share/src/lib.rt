@@ -4,6 +4,7 @@
 
 pub mod keys;
 pub mod name_set;
+pub mod name_table;
 pub mod names;
 pub mod places;
 pub mod rights;

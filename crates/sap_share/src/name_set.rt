@@ -12,19 +12,19 @@ use std::marker::Model;
 /// Names, seen as a list on which they stand, in no certain order. The first byte of each has a mark, which tells most other names apart.
 #[derive(Drop)]
 pub struct NameSet {
-    names: HashSet<Vec<u8>>,
+    names: HashSet<Name>,
     fronts: [bool; 256],
 }
 
 impl Model for NameSet {
-    ghost use Rattle.std.specs.Prelude.{ℕ, List, map};
+    ghost use Rattle.std.specs.Prelude.{ℕ, List};
     ghost use Rattle.sap_share.specs.Fronts.{AreMarked};
 
     ghost Value = { List (List ℕ) };
 
-    ghost view = { λ s. map (λ k. k.items) s.names.keys };
+    ghost view = { λ s. s.names.keys };
 
-    ghost invariant = { λ s. AreMarked s.fronts (map (λ k. k.items) s.names.keys) };
+    ghost invariant = { λ s. AreMarked s.fronts s.names.keys };
 }
 
 // The first byte of a name, 0 if it has none.
@@ -61,9 +61,8 @@ impl NameSet {
     pub fn add(&mut self, alloc: Global, name: &Name) -> Result<(), AllocError>
         ensures { OnOk result (AreSame self.new (name.now ∷ self.old)) }
     {
-        let bytes = name.as_bytes();
-        let key = bytes.to_vec(alloc)?;
-        mark(&mut self.fronts, bytes);
+        let key = name.copy(alloc)?;
+        mark(&mut self.fronts, name.as_bytes());
         self.names.insert(key)?;
         Ok(())
     }
@@ -71,7 +70,6 @@ impl NameSet {
     pub fn has(&self, name: &Name) -> bool
         ensures { result ≡ holds self.now name.now }
     {
-        let bytes = name.as_bytes();
-        is_marked(&self.fronts, bytes) && self.names.contains(bytes)
+        is_marked(&self.fronts, name.as_bytes()) && self.names.contains(name)
     }
 }

@@ -4,7 +4,7 @@ ghost use Rattle.std.specs.Prelude.{◌≡◌, ◌++◌, [], ◌∷◌, true, fa
 ghost use Rattle.sap_net.specs.NameMaps.{place_in};
 ghost use Rattle.sap_net.specs.Names.{is_among};
 
-use sap_net::name_map::{at_name, index_names, is_indexed};
+use crate::name_table::{at_name, index_names, is_indexed};
 use sap_net::parts::Name;
 use std::alloc::{AllocError, Global};
 use std::collections::HashMap;
@@ -14,18 +14,19 @@ use std::marker::Model;
 #[derive(Drop)]
 pub struct Places {
     names: Vec<Name>,
-    places: HashMap<Vec<u8>, usize>,
+    places: HashMap<Name, usize>,
 }
 
 impl Model for Places {
     ghost use Rattle.std.specs.Prelude.{ℕ, List};
-    ghost use Rattle.sap_net.specs.NameMaps.{Indexes};
+    ghost use Rattle.sap_net.specs.NameMaps.{AtPlaces};
+    ghost use Rattle.sap_share.specs.NameTables.{of_name};
 
     ghost Value = { List (List ℕ) };
 
     ghost view = { λ p. p.names.items };
 
-    ghost invariant = { λ p. Indexes p.places p.names.items };
+    ghost invariant = { λ p. AtPlaces (of_name p.places) p.names.items };
 }
 
 impl Places {
@@ -46,13 +47,13 @@ impl Places {
     pub fn place(&self, name: &Name) -> Option<usize>
         ensures { result ≡ place_in self.now name.now }
     {
-        at_name(&self.places, name.as_bytes())
+        at_name(&self.places, name)
     }
 
     pub fn holds(&self, name: &Name) -> bool
         ensures { result ≡ is_among name.now self.now }
     {
-        is_indexed(&self.places, name.as_bytes())
+        is_indexed(&self.places, name)
     }
 
     /// Gives the names.
@@ -70,7 +71,7 @@ impl Places {
         if self.holds(&name) {
             self.add_again(name)
         } else {
-            let key = name.as_bytes().to_vec(alloc)?;
+            let key = name.copy(alloc)?;
             self.add_new(key, name)
         }
     }
@@ -85,9 +86,9 @@ impl Places {
         Ok(())
     }
 
-    /// Adds a name that has none, with its bytes.
-    fn add_new(&mut self, key: Vec<u8>, name: Name) -> Result<(), AllocError>
-        requires bytes { key.items ≡ name }
+    /// Adds a name that has none, with a copy of it.
+    fn add_new(&mut self, key: Name, name: Name) -> Result<(), AllocError>
+        requires copy { key ≡ name }
         requires other { is_among name self.old ≡ false }
         ensures more { OnOk result (self.new ≡ self.old ++ name ∷ []) }
         ensures same { OnErr result (self.new ≡ self.old) }

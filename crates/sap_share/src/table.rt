@@ -4,10 +4,11 @@ ghost use Rattle.std.specs.Prelude.{◌≡◌, ◌++◌, ℕ, List, [], ◌∷�
 ghost use Rattle.std.specs.Map.{keys_of};
 ghost use Rattle.std.specs.Option.{option_map};
 ghost use Rattle.sap_maps.specs.Scope.{find};
-ghost use Rattle.sap_net.specs.NameMaps.{Indexes, Puts, place_in};
+ghost use Rattle.sap_net.specs.NameMaps.{AtPlaces, Puts, place_in};
+ghost use Rattle.sap_share.specs.NameTables.{of_name};
 ghost use Rattle.sap_share.specs.Tables.{replaced};
 
-use sap_net::name_map::{at_name, index};
+use crate::name_table::{at_name, index};
 use sap_net::parts::Name;
 use std::alloc::{AllocError, Global};
 use std::collections::HashMap;
@@ -17,14 +18,15 @@ use std::marker::Model;
 #[derive(Drop)]
 pub struct Table<T> {
     entries: Vec<(Name, T)>,
-    places: HashMap<Vec<u8>, usize>,
+    places: HashMap<Name, usize>,
 }
 
 impl<T> Model for Table<T> {
     ghost use Rattle.std.specs.Prelude.{ℕ, List};
     ghost use Rattle.std.specs.Coded.{coded_list, coded×, coded_ℕ};
     ghost use Rattle.std.specs.Map.{keys_of};
-    ghost use Rattle.sap_net.specs.NameMaps.{Indexes};
+    ghost use Rattle.sap_net.specs.NameMaps.{AtPlaces};
+    ghost use Rattle.sap_share.specs.NameTables.{of_name};
 
     ghost Value = { List (List ℕ × T) };
 
@@ -32,15 +34,15 @@ impl<T> Model for Table<T> {
 
     ghost view = { λ t. t.entries.items };
 
-    ghost invariant = { λ t. Indexes t.places (keys_of t.entries.items) };
+    ghost invariant = { λ t. AtPlaces (of_name t.places) (keys_of t.entries.items) };
 }
 
 /// The first places of the names.
 fn index_entries<T>(
     alloc: Global,
     entries: &[(Name, T)],
-) -> Result<HashMap<Vec<u8>, usize>, AllocError>
-    ensures { IfOk result (λ m. Indexes m (keys_of entries.now)) }
+) -> Result<HashMap<Name, usize>, AllocError>
+    ensures { IfOk result (λ m. AtPlaces (of_name m) (keys_of entries.now)) }
 {
     let mut places = HashMap::with_capacity(alloc, entries.len())?;
     for (k, entry) in entries.iter().enumerate() {
@@ -61,7 +63,7 @@ impl<T: Drop> Table<T> {
     pub fn place(&self, name: &Name) -> Option<usize>
         ensures { result ≡ place_in (keys_of self.now) name.now }
     {
-        at_name(&self.places, name.as_bytes())
+        at_name(&self.places, name)
     }
 
     /// The value of the name that has this place.
@@ -84,7 +86,7 @@ impl<T: Drop> Table<T> {
     pub fn get(&self, name: &Name) -> Option<&T>
         ensures { option_map (λ x. x.now) result ≡ find self.now name.now }
     {
-        match at_name(&self.places, name.as_bytes()) {
+        match at_name(&self.places, name) {
             Some(k) => Some(&self.entries[k].1),
             None => None,
         }
@@ -94,7 +96,7 @@ impl<T: Drop> Table<T> {
     pub fn replace(&mut self, name: &Name, value: T)
         ensures { self.new ≡ replaced self.old name.now value }
     {
-        match at_name(&self.places, name.as_bytes()) {
+        match at_name(&self.places, name) {
             Some(k) => self.entries[k].1 = value,
             None => {}
         }
@@ -104,22 +106,22 @@ impl<T: Drop> Table<T> {
     pub fn put(&mut self, alloc: Global, name: &Name, value: T) -> Result<(), AllocError>
         ensures { OnOk result (Puts (find self.old) name.now value (find self.new)) }
     {
-        if self.get(name).is_some() {
-            self.replace(name, value);
-            Ok(())
-        } else {
-            let key = name.as_bytes().to_vec(alloc)?;
-            let name = name.copy(alloc)?;
-            self.add(key, name, value)
+        match self.place(name) {
+            Some(place) => {
+                self.replace_at(place, value);
+                Ok(())
+            }
+            None => self.add(alloc, name, value),
         }
     }
 
-    /// Adds a name that has no value, with its bytes.
-    fn add(&mut self, key: Vec<u8>, name: Name, value: T) -> Result<(), AllocError>
-        requires bytes { key.items ≡ name }
-        requires other { find self.old name ≡ None }
-        ensures { OnOk result (self.new ≡ self.old ++ (name, value) ∷ []) }
+    /// Adds a name that has no value.
+    fn add(&mut self, alloc: Global, name: &Name, value: T) -> Result<(), AllocError>
+        requires { place_in (keys_of self.old) name.now ≡ None }
+        ensures { OnOk result (self.new ≡ self.old ++ (name.now, value) ∷ []) }
     {
+        let key = name.copy(alloc)?;
+        let name = name.copy(alloc)?;
         let place = self.entries.len();
         self.entries.push((name, value))?;
         if self.places.insert(key, place).is_err() {

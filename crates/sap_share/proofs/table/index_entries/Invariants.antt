@@ -1,7 +1,8 @@
 use Rattle.std.proofs.Common.{take}
 use Rattle.std.specs.Map.{keys_of}
-use Rattle.sap_net.specs.NameMaps.{Indexes}
+use Rattle.sap_net.specs.NameMaps.{AtPlaces}
+use Rattle.sap_share.specs.NameTables.{of_name}
 use Rattle.sap_share.proofs.table.index_entries.Given as goal
 
 abbrev pub invariant-loop-k : goal.invariant-loop-k
-invariant-loop-k g l = Indexes l.places (keys_of (take l.k l.entries))
+invariant-loop-k g l = AtPlaces (of_name l.places) (keys_of (take l.k l.entries))

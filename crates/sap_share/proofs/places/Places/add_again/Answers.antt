@@ -1,7 +1,8 @@
 use Rattle.std.proofs.Common.{◌≡◌, ◌++◌, [], ◌∷◌, List, true, sym, subst, rules}
 use Rattle.sap_maps.specs.Maps.{Name}
 use Rattle.sap_net.specs.Names.{is_among}
-use Rattle.sap_net.specs.NameMaps.{Indexes}
+use Rattle.sap_net.specs.NameMaps.{AtPlaces}
+use Rattle.sap_share.specs.NameTables.{of_name}
 use Rattle.sap_share.proofs.Growing.{added_again}
 use Rattle.sap_share.proofs.places.Places.add_again.Goals as goal
 
@@ -12,4 +13,4 @@ invariant_of-self-2 c =
     let x = c.args.name in
     let more : c.push.new.self.items ≡ names ++ x ∷ [] = search rules in
     let there : is_among x names ≡ true = subst (λ (xs : List Name). is_among x xs ≡ true) (sym c.self.view_is) c.requires in
-    subst (Indexes m) (sym more) (added_again m names x there c.self.invariant)
+    subst (AtPlaces (of_name m)) (sym more) (added_again m names x there c.self.invariant)

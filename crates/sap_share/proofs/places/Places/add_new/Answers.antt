@@ -1,9 +1,10 @@
 use Rattle.std.proofs.Common.{◌≡◌, ◌++◌, [], ◌∷◌, List, Some, false, length, sym, subst, rules}
+use Rattle.std.specs.Str.{bytes_eq}
 use Rattle.std.specs.HashMap as hash
 use Rattle.sap_maps.specs.Maps.{Name}
 use Rattle.sap_net.specs.Names.{is_among}
-use Rattle.sap_net.specs.NameMaps.{Indexes}
-use Rattle.sap_net.proofs.NameMaps.{same_bytes}
+use Rattle.sap_net.specs.NameMaps.{AtPlaces}
+use Rattle.sap_share.specs.NameTables.{of_name}
 use Rattle.sap_share.proofs.Growing.{added}
 use Rattle.sap_share.proofs.places.Places.add_new.Goals as goal
 
@@ -16,5 +17,5 @@ invariant_of-self-else-is_err c =
     let more : c.push.new.self.items ≡ names ++ x ∷ [] = search rules in
     let place : length names ≡ c.len-place.result = search rules in
     let other : is_among x names ≡ false = subst (λ (xs : List Name). is_among x xs ≡ false) (sym c.self.view_is) c.requires.other in
-    let h : hash.UpdatesBy same_bytes (same_bytes c.args.key) m m' (Some c.len-place.result) = search rules in
-    subst (Indexes m') (sym more) (added m m' names c.args.key x c.len-place.result c.requires.bytes other place h c.self.invariant)
+    let h : hash.Updates bytes_eq m m' c.args.key (Some c.len-place.result) = search rules in
+    subst (AtPlaces (of_name m')) (sym more) (added m m' names c.args.key x c.len-place.result c.requires.copy other place h c.self.invariant)

@@ -1,24 +1,30 @@
-use Rattle.std.proofs.Common.{◌≡◌, ◌∙◌, ◌++◌, [], ◌∷◌, List, true, false, is_some, ap, sym, subst}
+use Rattle.std.proofs.Common.{◌≡◌, ◌∙◌, List, false, is_some, ap, sym, subst}
 use Rattle.std.proofs.lemmas.Result.{on_ok_weaker}
 use Rattle.sap_maps.specs.Maps.{Name}
 use Rattle.sap_maps.specs.Scope.{find}
 use Rattle.sap_net.specs.NameMaps.{Puts}
-use Rattle.sap_share.proofs.Lookups.{puts_behind, puts_replaced, still_some}
+use Rattle.sap_share.proofs.Lookups.{entry_missing, entry_there, puts_behind, puts_replaced}
 use Rattle.sap_share.proofs.table.Table.put.Goals as goal
 
-pub returns-then-is_some : goal.returns-then-is_some
-returns-then-is_some g c =
+pub replace_at-requires : goal.replace_at-requires
+replace_at-requires g c = (c.args.name.now, sym c.place.ensures ∙ c.in-Some.is)
+
+pub returns-in-Some : goal.returns-in-Some
+returns-in-Some g c =
     let es = c.args.self.now in
     let n = c.args.name.now in
-    let there : is_some (find es n) ≡ true = sym (ap is_some c.get.ensures) ∙ still_some (λ x. x.now) c.get.result ∙ sym (c.if-is_some.ensures {u = tt}) in
-    λ m. ap (λ fs. find fs m) c.replace.ensures ∙ puts_replaced es n c.args.value there m
+    let at = sym c.place.ensures ∙ c.in-Some.is in
+    λ m. ap (λ fs. find fs m) (c.replace_at.ensures n at) ∙ puts_replaced es n c.args.value (entry_there es n c.in-Some.place at) m
 
-pub returns-in_ok-name : goal.returns-in_ok-name
-returns-in_ok-name g c =
+pub add-requires : goal.add-requires
+add-requires g c = sym c.place.ensures ∙ c.in-None.is
+
+pub returns-in-None : goal.returns-in-None
+returns-in-None g c =
     let es = c.args.self.now in
     let n = c.args.name.now in
     let x = c.args.value in
-    let missing : is_some (find es n) ≡ false = sym (ap is_some c.get.ensures) ∙ still_some (λ x. x.now) c.get.result ∙ sym (c.if-is_some.ensures {u = tt}) in
+    let missing : is_some (find es n) ≡ false = ap is_some (entry_missing es n (sym c.place.ensures ∙ c.in-None.is)) in
     on_ok_weaker c.add.result
-    (λ e. subst (λ (fs : List (Name × _)). Puts (find es) n x (find fs)) (sym (e ∙ ap (λ y. es ++ (y, x) ∷ []) (c.in_ok-name.ensures {u = tt}))) (puts_behind es n x missing))
+    (λ e. subst (λ (fs : List (Name × _)). Puts (find es) n x (find fs)) (sym e) (puts_behind es n x missing))
     c.add.ensures
