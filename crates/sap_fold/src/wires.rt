@@ -12,7 +12,7 @@ ghost use Rattle.sap_fold.specs.Wires.{Adds, AddsNew, HasWire, IsFree, Provides}
 
 use crate::fold::settle;
 use sap_net::parts::{Name, Operand, Right, Wire};
-use sap_share::keys::key;
+use sap_share::keys::{RightKey, key};
 use sap_share::name_set::NameSet;
 use sap_share::names::helper_name;
 use sap_share::rights::known;
@@ -24,7 +24,7 @@ use std::collections::HashMap;
 #[derive(Drop)]
 pub struct Wires {
     pub list: Vec<Wire>,
-    pub numbers: HashMap<Vec<u8>, u64>,
+    pub numbers: HashMap<RightKey, u64>,
     pub next: u64,
 }
 
@@ -170,12 +170,12 @@ impl Wires {
         &mut self,
         alloc: Global,
         taken: &NameSet,
-        key: Vec<u8>,
+        key: RightKey,
         width: u32,
         right: Right,
     ) -> Result<Name, AllocError>
         requires orderly { Orderly self.old.numbers self.old.list.items }
-        requires bytes { key.items ≡ spec.key width right }
+        requires bytes { key ≡ spec.key width right }
         requires new { find (rights self.old.list.items) (spec.key width right) ≡ None }
         requires settled { folded width right ≡ right }
         requires calculated { is_copy right ≡ false }

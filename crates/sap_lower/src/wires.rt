@@ -9,7 +9,7 @@ ghost use Rattle.sap_lower.specs.Lowering.{plus, shared};
 
 use crate::parts::Part;
 use sap_net::parts::{Name, Operand, Right, Wire};
-use sap_share::keys::key;
+use sap_share::keys::{RightKey, key};
 use sap_share::names::helper_name;
 use sap_share::rights::known;
 use std::alloc::{AllocError, Global};
@@ -20,13 +20,13 @@ use std::marker::Model;
 #[derive(Drop)]
 pub struct Wires {
     list: Vec<Wire>,
-    numbers: HashMap<Vec<u8>, u64>,
+    numbers: HashMap<RightKey, u64>,
 }
 
 // The bytes of a right side, and the name of its wire, if there is one.
 #[derive(Drop)]
 struct Lookup {
-    key: Vec<u8>,
+    key: RightKey,
     name: Option<Name>,
 }
 
@@ -59,7 +59,7 @@ impl Wires {
     }
 
     fn look_up(&self, alloc: Global, width: u32, right: &Right) -> Result<Lookup, AllocError>
-        ensures key { IfOk result (λ l. l.key.items ≡ spec.key width right.now) }
+        ensures key { IfOk result (λ l. l.key ≡ spec.key width right.now) }
         ensures name { IfOk result (λ l. l.name ≡ find (rights self.now) (spec.key width right.now)) }
     {
         let key = key(alloc, width, right)?;
@@ -87,12 +87,12 @@ impl Wires {
     fn push(
         &mut self,
         alloc: Global,
-        key: Vec<u8>,
+        key: RightKey,
         width: u32,
         right: Right,
     ) -> Result<Part, AllocError>
-        requires bytes { key.items ≡ spec.key width right }
-        requires new { find (rights self.old) key.items ≡ None }
+        requires bytes { key ≡ spec.key width right }
+        requires new { find (rights self.old) key ≡ None }
         ensures wires { OnOk result (self.new ≡ (shared None self.old width right).wires) }
         ensures part { IfOk result (λ p. p ≡ (shared None self.old width right).part) }
     {
@@ -107,9 +107,9 @@ impl Wires {
     }
 
     // The wire of the next number.
-    fn put(&mut self, key: Vec<u8>, number: u64, wire: Wire) -> Result<(), AllocError>
-        requires bytes { key.items ≡ spec.key wire.width wire.right }
-        requires new { find (rights self.old) key.items ≡ None }
+    fn put(&mut self, key: RightKey, number: u64, wire: Wire) -> Result<(), AllocError>
+        requires bytes { key ≡ spec.key wire.width wire.right }
+        requires new { find (rights self.old) key ≡ None }
         requires number { number ≡ length self.old }
         requires named { wire.name ≡ helper number }
         ensures { OnOk result (self.new ≡ self.old ++ wire ∷ []) }

@@ -12,7 +12,6 @@ use Rattle.sap_net.specs.declared.parts.Wire.{Wire}
 use Rattle.sap_share.specs.Keys.{key}
 use Rattle.sap_share.specs.Names.{helper}
 use Rattle.sap_share.specs.Rights.{rights, RightMap, at_key, NamesRights}
-use Rattle.sap_net.proofs.NameMaps.{same_bytes, at_other}
 
 abbrev key_of : Wire → List ℕ
 key_of w = key w.width w.right
@@ -30,10 +29,10 @@ last_other [] w k f = rw f refl
 last_other (x ∷ ws) w k f = ap (λ o. if bytes_eq (key_of x) k then Some x.name else o) (last_other ws w k f)
 
 pub one_more : (m m' : RightMap) (ws : List Wire) (w : Wire) (k : ℕ) → w.name ≡ helper k → find (rights ws) (key_of w) ≡ None
-    → hash.UpdatesBy same_bytes (λ b. bytes_eq (key_of w) b.items) m m' (Some k) → NamesRights m ws → NamesRights m' (ws ++ w ∷ [])
+    → hash.Updates bytes_eq m m' (key_of w) (Some k) → NamesRights m ws → NamesRights m' (ws ++ w ∷ [])
 one_more m m' ws w k named new h is b =
     elim (cases_Bool (bytes_eq (key_of w) b)) [
       | inl t ↦ subst (λ (x : List ℕ). at_key m' x ≡ find (rights (ws ++ w ∷ [])) x) (equal_of_bytes_eq (key_of w) b t)
           (ap (option_map helper) h.1 ∙ ap Some (sym named) ∙ sym (last_here ws w new))
-      | inr f ↦ ap (option_map helper) (at_other m m' (key_of w) (Some k) h b f) ∙ is b ∙ sym (last_other ws w b f)
+      | inr f ↦ ap (option_map helper) (h.2 b f) ∙ is b ∙ sym (last_other ws w b f)
     ]

@@ -4,8 +4,6 @@ use Rattle.std.specs.HashMap.{HashMap, get_by}
 use Rattle.std.specs.Option.{option_map}
 use Rattle.std.specs.declared.hash.FoldHasher.{FoldHasher}
 use Rattle.std.specs.declared.hash.BuildHasherDefault.{BuildHasherDefault}
-use Rattle.std.specs.declared.vec.Vec.{Vec}
-use Rattle.std.specs.declared.alloc.Global.{Global}
 use Rattle.sap_maps.specs.Maps.{Name}
 use Rattle.sap_maps.specs.Scope.{find}
 use Rattle.sap_net.specs.declared.parts.Wire.{Wire}
@@ -17,11 +15,11 @@ abbrev pub rights : List Wire → List (Name × Name)
 rights ws = map (λ w. (key w.width w.right, w.name)) ws
 
 abbrev pub RightMap : Type 0
-RightMap = HashMap (Vec ℕ Global) ℕ (BuildHasherDefault FoldHasher)
+RightMap = HashMap (List ℕ) ℕ (BuildHasherDefault FoldHasher)
 
 -- the name with the number that the map has for a right side
 abbrev pub at_key : RightMap → List ℕ → Option Name
-at_key m k = option_map helper (get_by (λ x. bytes_eq k x.items) m)
+at_key m k = option_map helper (get_by (bytes_eq k) m)
 
 -- each right side has the number in the name of its wire, and nothing else has one
 abbrev pub NamesRights : RightMap → List Wire → Type 0

@@ -1,14 +1,59 @@
 //! The bytes that tell right sides apart.
 
-ghost use Rattle.std.specs.Prelude.{◌≡◌, ◌++◌, ◌∷◌, IfOk, OnOk, length};
+ghost use Rattle.std.specs.Prelude.{◌≡◌, ◌++◌, ◌∷◌, [], IfOk, OnOk, length};
+ghost use Rattle.std.specs.Str.{bytes_eq};
+ghost use Rattle.std.specs.Cmp.{partial_equiv_from_equiv};
+ghost use Rattle.std.specs.Cmp.Lexicographic.{nat_list_eq_equiv};
+ghost use Rattle.std.specs.Cmp.Rules.{hashing};
+ghost use Rattle.std.proofs.Common.{rules};
 ghost use Rattle.sap_share.specs.Keys as spec;
 
 use sap_bits::{Op1, Op2};
 use sap_net::parts::{Operand, Right};
 use std::alloc::{AllocError, Global};
+use std::hash::{Hash, Hasher};
+use std::marker::Model;
 
 /// Room for the right side of a choice on three names of up to ten bytes, which holds what most wires have.
 const MOST_BYTES: usize = 40;
+
+/// The bytes of a right side at a width, seen as these. They are hashed at once.
+#[derive(Drop)]
+pub struct RightKey {
+    bytes: Vec<u8>,
+}
+
+impl Model for RightKey {
+    ghost use Rattle.std.specs.Prelude.{ℕ, List};
+
+    ghost Value = { List ℕ };
+
+    ghost view = { λ k. k.bytes.items };
+}
+
+impl PartialEq for RightKey {
+    ghost eq = { bytes_eq };
+
+    ghost laws = { partial_equiv_from_equiv nat_list_eq_equiv };
+
+    fn eq(&self, other: &RightKey) -> bool {
+        self.bytes.as_slice() == other.bytes.as_slice()
+    }
+}
+
+impl Eq for RightKey {
+    ghost laws = { nat_list_eq_equiv };
+}
+
+impl Hash for RightKey {
+    ghost hash_input = { λ k. k ∷ [] };
+
+    ghost respects_eq = { Prim.search (hashing, rules) };
+
+    fn hash<H: Hasher>(&self, state: &mut H) {
+        state.write(&self.bytes);
+    }
+}
 
 fn number_one(op: Op1) -> u8
     ensures { result ≡ spec.number1 op }
@@ -156,11 +201,11 @@ fn add_right(key: &mut Vec<u8>, right: &Right) -> Result<(), AllocError>
 
 /// The bytes of a right side at a width.
 #[tactic(auto, unfolding(crate::specs::Keys::key))]
-pub fn key(alloc: Global, width: u32, right: &Right) -> Result<Vec<u8>, AllocError>
-    ensures { IfOk result (λ k. k.items ≡ spec.key width right.now) }
+pub fn key(alloc: Global, width: u32, right: &Right) -> Result<RightKey, AllocError>
+    ensures { IfOk result (λ k. k ≡ spec.key width right.now) }
 {
-    let mut key = Vec::with_capacity(alloc, MOST_BYTES)?;
-    add_number(&mut key, u64::from(width))?;
-    add_right(&mut key, right)?;
-    Ok(key)
+    let mut bytes = Vec::with_capacity(alloc, MOST_BYTES)?;
+    add_number(&mut bytes, u64::from(width))?;
+    add_right(&mut bytes, right)?;
+    Ok(RightKey { bytes })
 }

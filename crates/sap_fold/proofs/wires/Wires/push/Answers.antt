@@ -5,7 +5,6 @@ use Rattle.sap_lemmas.proofs.Everywhere.{all_append}
 use Rattle.sap_net.specs.declared.parts.Wire.{Wire}
 use Rattle.sap_share.specs.Keys.{key}
 use Rattle.sap_share.specs.Names.{helper}
-use Rattle.sap_net.proofs.NameMaps.{same_bytes}
 use Rattle.sap_share.proofs.Differing.{all_more}
 use Rattle.sap_share.proofs.RightMaps.{one_more}
 use Rattle.sap_fold.specs.Settled.{Orderly}
@@ -18,11 +17,11 @@ returns-clause-orderly c =
     let m' = c.insert.new.self in
     let k = c.in_ok-free.free.number in
     let w : Wire = record { name = c.in_ok-free.free.name; width = c.args.width; right = c.args.right } in
-    let bytes : c.args.key.items ≡ key w.width w.right = c.requires.bytes in
+    let bytes : c.args.key ≡ key w.width w.right = c.requires.bytes in
     let named : w.name ≡ helper k = c.in_ok-free.ensures.name in
     let more : c.push.new.self.items ≡ ws ++ w ∷ [] = search rules in
-    let h : hash.UpdatesBy same_bytes (λ b. bytes_eq c.args.key.items b.items) m m' (Some k) = c.in_ok-insert.ensures.updates in
-    let updates = subst (λ (n : List ℕ). hash.UpdatesBy same_bytes (λ b. bytes_eq n b.items) m m' (Some k)) bytes h in
+    let h : hash.Updates bytes_eq m m' c.args.key (Some k) = c.in_ok-insert.ensures.updates in
+    let updates = subst (λ (n : List ℕ). hash.Updates bytes_eq m m' n (Some k)) bytes h in
     let before = c.requires.orderly in
     let all : Orderly m' (ws ++ w ∷ []) = record {
       names = one_more m m' ws w k named c.requires.new updates before.names;
