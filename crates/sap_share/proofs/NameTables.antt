@@ -55,3 +55,13 @@ added_old at names y j old is n =
       | inl t ↦ subst (λ (x : Name). at x ≡ place_in (names ++ y ∷ []) x) (equal_of_bytes_eq y n t) (old ∙ sym (place_push_old names y y j (sym (is y) ∙ old)))
       | inr f ↦ is n ∙ sym (place_push_other names y n f)
     ]
+
+-- so does one that has another for a while
+pub put_back : (at mid at' : Name → Option ℕ) (names : List Name) (y : Name) (k j : ℕ) → at y ≡ Some j → Puts at y k mid → Puts mid y j at' → AtPlaces at names
+    → AtPlaces at' (names ++ y ∷ [])
+put_back at mid at' names y k j old p q is n =
+    let same : at' n ≡ at n = elim (cases_Bool (bytes_eq y n)) [
+      | inl t ↦ q n ∙ rw t (sym old ∙ ap at (equal_of_bytes_eq y n t))
+      | inr f ↦ q n ∙ rw f (p n ∙ rw f refl)
+    ] in
+    same ∙ added_old at names y j old is n

@@ -46,8 +46,9 @@ pub fn index(
 ) -> Result<(), AllocError>
     ensures { OnOk result ((names : List (List ℕ)) → length names ≡ place → AtPlaces (of_name places.old) names → AtPlaces (of_name places.new) (names ++ name.now ∷ [])) }
 {
-    if at_name(places, name).is_none() {
-        put(places, alloc, name, place)?;
+    let key = name.copy(alloc)?;
+    if let Some(first) = places.insert(key, place)? {
+        put(places, alloc, name, first)?;
     }
     Ok(())
 }
