@@ -47,6 +47,7 @@ pub fn index(
     ensures { OnOk result ((names : List (List ℕ)) → length names ≡ place → AtPlaces (of_name places.old) names → AtPlaces (of_name places.new) (names ++ name.now ∷ [])) }
 {
     let key = name.copy(alloc)?;
+    // A name that stood further in front has its place back.
     if let Some(first) = places.insert(key, place)? {
         put(places, alloc, name, first)?;
     }
