@@ -1,5 +1,5 @@
 pub mod Falls
+pub mod Seen
 pub mod Sound
 pub mod Machine
-pub mod Props
 pub mod Pair

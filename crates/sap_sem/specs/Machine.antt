@@ -4,29 +4,29 @@ use Rattle.sap_lattice.specs.Levels.{Levels, order_of}
 use Rattle.sap_meaning.specs.Program.{Program}
 use Rattle.sap_meaning.specs.Store.{Store, Refusal}
 use Rattle.sap_program.specs.Views.{program_in}
-use Rattle.sap_sem.specs.declared.machine.Machine.{Machine}
+use Rattle.sap_sem.specs.Seen.{MachineSeen}
 use Rattle.sap_store.specs.Kept.{store_of}
 
-abbrev pub levels_of : Machine → Levels
+abbrev pub levels_of : MachineSeen → Levels
 levels_of m = m.lattice
 
 -- over the order of these levels
-abbrev pub program_of : Machine → Program
+abbrev pub program_of : MachineSeen → Program
 program_of m = program_in (order_of m.lattice) m.program
 
-abbrev pub state_of : Machine → Store
+abbrev pub state_of : MachineSeen → Store
 state_of m = store_of (program_of m).world m.store
 
 -- how many check sites there are, which are numbered from 1
-abbrev pub site_count_of : Machine → ℕ
+abbrev pub site_count_of : MachineSeen → ℕ
 site_count_of m = m.program.sites
 
-abbrev pub IsSite : Machine → ℕ → Type 0
+abbrev pub IsSite : MachineSeen → ℕ → Type 0
 IsSite m k = (1 ≤ k) × (k ≤ site_count_of m)
 
 -- the level at which a site was refused in the last cycle, where it was
-abbrev pub refused_at : Machine → ℕ → Option ℕ
-refused_at m k = get_or m.refusals.items k None
+abbrev pub refused_at : MachineSeen → ℕ → Option ℕ
+refused_at m k = get_or m.refusals k None
 
 abbrev pub refusal_before : (site : ℕ) → Option ℕ → List Refusal → List Refusal
 refusal_before k None rs = rs
@@ -38,7 +38,7 @@ refusals_from level_at k zero = []
 refusals_from level_at k (suc n) = refusal_before k (level_at k) (refusals_from level_at (suc k) n)
 
 -- what was refused in the last cycle: each refused site once, with its level, by rising numbers
-abbrev pub refusals_of : Machine → List Refusal
+abbrev pub refusals_of : MachineSeen → List Refusal
 refusals_of m = refusals_from (refused_at m) 1 (site_count_of m)
 
 -- the level with which a site stands in a list, where it does

@@ -7,6 +7,7 @@ use Rattle.sap_meaning.specs.Sites.{program_sites, numbers_from}
 use Rattle.sap_meaning.specs.State.{Resting}
 use Rattle.sap_program.specs.declared.program.Program.{Program}
 use Rattle.sap_program.specs.Views.{program_in}
+use Rattle.sap_sem.specs.Seen.{MachineSeen}
 use Rattle.sap_store.specs.declared.store.Store.{Store}
 use Rattle.sap_store.specs.Able.{AbleGroup}
 use Rattle.sap_store.specs.Kept.{Ready, store_of}
@@ -29,3 +30,9 @@ pub record IsReady (ls : Levels) (p : Program) (s : Store) : Type 0 where
 -- a mark for each site, and one for 0
 abbrev pub AreMarks : Program → List (Option ℕ) → Type 0
 AreMarks p marks = length marks ≡ p.sites + 1
+
+-- Between two calls, every machine has a program that it can run, a state between cycles, and its marks.
+pub record IsMachine (m : MachineSeen) : Type 0 where
+  pub sound : IsSound m.lattice m.program
+  pub ready : IsReady m.lattice m.program m.store
+  pub marks : AreMarks m.program m.refusals

@@ -29,7 +29,9 @@ impl Machine {
     pub fn lawful(&self)
         ensures fine { FineProgram (program_of self.now) }
         ensures rests { Resting (program_of self.now).world (state_of self.now) }
-    {}
+    {
+        let _ = &self.program;
+    }
 
     /// The number of a register, with its level.
     pub fn value(&self, entity: u32) -> (u64, Level)

@@ -2,15 +2,15 @@
 use Rattle.std.specs.Prelude.{◌≡◌, ℕ, List}
 use Rattle.sap_meaning.specs.Agree.{StatesAgree}
 use Rattle.sap_meaning.specs.Cycle.{Tagged, cycle}
-use Rattle.sap_sem.specs.declared.machine.Machine.{Machine}
 use Rattle.sap_sem.specs.Machine.{levels_of, program_of, state_of, site_count_of, refusals_of, refused_at, refusal_of, IsSite}
+use Rattle.sap_sem.specs.Seen.{MachineSeen}
 
 -- the states of two machines of one program agree at a level
-abbrev pub MachinesAgree : ℕ → Machine → Machine → Type 0
+abbrev pub MachinesAgree : ℕ → MachineSeen → MachineSeen → Type 0
 MachinesAgree l m n = StatesAgree (program_of m) l (state_of m) (state_of n)
 
 -- what a machine is after a step on these inputs: the labelled cycle's state and refusals, and all else as it was
-pub record Steps (before : Machine) (inputs : List Tagged) (after : Machine) : Type 0 where
+pub record Steps (before : MachineSeen) (inputs : List Tagged) (after : MachineSeen) : Type 0 where
   pub levels : levels_of after ≡ levels_of before
   pub program : program_of after ≡ program_of before
   pub sites : site_count_of after ≡ site_count_of before

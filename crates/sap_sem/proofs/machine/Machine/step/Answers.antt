@@ -4,58 +4,68 @@ use Rattle.sap_meaning.specs.Cycle.{cycle, cycle_listed}
 use Rattle.sap_meaning.specs.Sites.{Sublist, refused_sites, numbers_from}
 use Rattle.sap_meaning.specs.State.{Resting}
 use Rattle.sap_meaning.specs.Store.{After, Store}
-use Rattle.sap_sem.specs.Machine.{program_of, refusals_from, site_count_of, state_of}
+use Rattle.sap_sem.specs.Machine.{IsSite, program_of, refusal_of, refusals_from, site_count_of, state_of}
+use Rattle.sap_sem.specs.Seen.{MachineSeen}
 use Rattle.sap_run.specs.Runs.{GroupAble}
 use Rattle.sap_sem.proofs.Refused.{told, told_again}
 use Rattle.sap_sem.proofs.machine.Machine.step.Goals as goal
+use Rattle.sap_sem.proofs.machine.Machine.step.Goals.{After-self}
+
+-- what the call finds
+abbrev the : After-self → MachineSeen
+the c = record { lattice = c.self.inside.lattice; program = c.self.inside.program; store = c.self.inside.store; refusals = c.self.inside.refusals.items }
+
+after : (c : After-self) → After
+after c = cycle (program_of (the c)) c.args.inputs.now (state_of (the c))
+
+listed : (c : After-self) → cycle_listed (program_of (the c)) c.args.inputs.now (state_of (the c)) ≡ after c
+listed c = c.lists_serve.ensures (program_of (the c)) c.self.invariant.sound.exact c.args.inputs.now (state_of (the c))
+
+rises : (c : After-self) → Sublist (refused_sites (after c).refused) (numbers_from 1 (site_count_of (the c)))
+rises c =
+    subst (λ (ns : List ℕ). Sublist (refused_sites (after c).refused) ns) c.self.invariant.sound.sites
+    (c.refusals_in_order.ensures (program_of (the c)) c.self.invariant.sound.fine c.args.inputs.now (state_of (the c))).0
 
 pub turn-requires-clause-able : goal.turn-requires-clause-able
 unfolding GroupAble
-turn-requires-clause-able c = c.args.self.now.sound.able
+turn-requires-clause-able c = c.self.invariant.sound.able
 
 pub returns-clause-refusals : goal.returns-clause-refusals
 returns-clause-refusals c =
-    let m = c.args.self.now in
-    let p = program_of m in
+    let d = (goal.at.returns-clause-refusals c).After-self in
     let i = c.args.inputs.now in
-    let s = state_of m in
-    let same : cycle_listed p i s ≡ cycle p i s = c.lists_serve.ensures p m.sound.exact i s in
-    let rises : Sublist (refused_sites (cycle p i s).refused) (numbers_from 1 (site_count_of m)) =
-    subst (λ (ns : List ℕ). Sublist (refused_sites (cycle p i s).refused) ns) m.sound.sites (c.refusals_in_order.ensures p m.sound.fine i s).0 in
-    ap (λ (l : List (Option ℕ)). refusals_from (λ k. get_or l k None) 1 (site_count_of m)) (with_items_is m.refusals c.turn.new.marks (search (rules, places)))
-    ∙ told_again _ _ c.turn.new.marks (length c.deref_mut.result.now) (site_count_of m) c.turn.ensures.marks (ap (λ (a : After). a.refused) same) rises
-    (ap (λ (l : List (Option ℕ)). length l) c.deref_mut.ensures.value ∙ m.marks)
+    let count = site_count_of (the d) in
+    let here =
+    ap (λ (l : List (Option ℕ)). refusals_from (λ k. get_or l k None) 1 count) (with_items_is c.self.inside.refusals c.turn.new.marks (search (rules, places)))
+    ∙ told_again _ _ c.turn.new.marks (length c.deref_mut.result.now) count c.turn.ensures.marks (ap (λ (a : After). a.refused) (listed d)) (rises d)
+    (ap (λ (l : List (Option ℕ)). length l) c.deref_mut.ensures.value ∙ c.self.invariant.marks) in
+    here ∙ ap (λ (m : MachineSeen). (cycle (program_of m) i (state_of m)).refused) c.self.view_is
 
 pub returns-clause-refused : goal.returns-clause-refused
 returns-clause-refused c = λ k h.
-    let m = c.args.self.now in
-    let p = program_of m in
+    let d = (goal.at.returns-clause-refused c).After-self in
     let i = c.args.inputs.now in
-    let s = state_of m in
-    let same : cycle_listed p i s ≡ cycle p i s = c.lists_serve.ensures p m.sound.exact i s in
-    let rises : Sublist (refused_sites (cycle p i s).refused) (numbers_from 1 (site_count_of m)) =
-    subst (λ (ns : List ℕ). Sublist (refused_sites (cycle p i s).refused) ns) m.sound.sites (c.refusals_in_order.ensures p m.sound.fine i s).0 in
-    ap (λ (l : List (Option ℕ)). get_or l k None) (with_items_is m.refusals c.turn.new.marks (search (rules, places)))
-    ∙ told _ _ c.turn.new.marks (length c.deref_mut.result.now) (site_count_of m) k c.turn.ensures.marks (ap (λ (a : After). a.refused) same) rises
-    (ap (λ (l : List (Option ℕ)). length l) c.deref_mut.ensures.value ∙ m.marks) h.1
+    let count = site_count_of (the d) in
+    let here =
+    ap (λ (l : List (Option ℕ)). get_or l k None) (with_items_is c.self.inside.refusals c.turn.new.marks (search (rules, places)))
+    ∙ told _ _ c.turn.new.marks (length c.deref_mut.result.now) count k c.turn.ensures.marks (ap (λ (a : After). a.refused) (listed d)) (rises d)
+    (ap (λ (l : List (Option ℕ)). length l) c.deref_mut.ensures.value ∙ c.self.invariant.marks)
+    (subst (λ (m : MachineSeen). IsSite m k) (sym c.self.view_is) h).1 in
+    here ∙ ap (λ (m : MachineSeen). refusal_of (cycle (program_of m) i (state_of m)).refused k) c.self.view_is
 
-pub invariant_of-self-clause-ready : goal.invariant_of-self-clause-ready
-invariant_of-self-clause-ready c =
-    let m = c.args.self.now in
-    let p = program_of m in
-    let i = c.args.inputs.now in
-    let s = state_of m in
-    let same : cycle_listed p i s ≡ cycle p i s = c.lists_serve.ensures p m.sound.exact i s in
+pub invariant_of-self : goal.invariant_of-self
+invariant_of-self c =
+    let d = (goal.at.invariant_of-self c).After-self in
+    let m = the d in
     record {
-      kept = c.turn.ensures.ready;
-      rests = subst (λ (t : Store). Resting p.world t) (sym (c.turn.ensures.store ∙ ap (λ (a : After). a.store) same))
-          ((c.states_keep.ensures.cycles p m.sound.fine).1 i s m.ready.rests);
+      sound = c.self.invariant.sound;
+      ready = record {
+        kept = c.turn.ensures.ready;
+        rests = subst (λ (t : Store). Resting (program_of m).world t) (sym (c.turn.ensures.store ∙ ap (λ (a : After). a.store) (listed d)))
+            ((c.states_keep.ensures.cycles (program_of m) c.self.invariant.sound.fine).1 c.args.inputs.now (state_of m) c.self.invariant.ready.rests);
+      };
+      marks = ap (λ (l : List (Option ℕ)). length l) (with_items_is c.self.inside.refusals c.turn.new.marks (search (rules, places)))
+          ∙ c.turn.auto.marks
+          ∙ ap (λ (l : List (Option ℕ)). length l) c.deref_mut.ensures.value
+          ∙ c.self.invariant.marks;
     }
-
-pub invariant_of-self-clause-marks : goal.invariant_of-self-clause-marks
-invariant_of-self-clause-marks c =
-    let m = c.args.self.now in
-    ap (λ (l : List (Option ℕ)). length l) (with_items_is m.refusals c.turn.new.marks (search (rules, places)))
-    ∙ c.turn.auto.marks
-    ∙ ap (λ (l : List (Option ℕ)). length l) c.deref_mut.ensures.value
-    ∙ m.marks
