@@ -3,7 +3,6 @@ pub mod Ended
 pub mod Reading
 pub mod Answered
 pub mod Following
-pub mod Decided
 pub mod Undecided
 pub mod Fronts
 pub mod Shifting

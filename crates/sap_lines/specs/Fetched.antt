@@ -1,7 +1,13 @@
 -- Bytes that were read of a channel, and held.
-use Rattle.std.specs.Prelude.{◌≡◌, ℕ, ◌+◌, ◌<◌, ◌≤◌, ◌⊎◌, List, [], ◌++◌, ◌==◌, drop, take, length, true, Option, IfSome, option_map}
+use Rattle.std.specs.Prelude.{◌≡◌, ◌≢◌, ℕ, ◌+◌, ◌-◌, ◌<◌, ◌≤◌, ◌⊎◌, List, [], ◌++◌, ◌==◌, drop, take, length, slice_index_or, true, Option, IfSome, option_map}
 use Rattle.std.specs.List.{list_any}
 use Rattle.sap_desk.specs.Desk.{Told, at_number, blame_at, moved, name_if_reading, rest_of}
+
+-- No LF stands from the place `ended` on; and where that is behind `start`, one stands right before it.
+pub record EndsAt (start ended : ℕ) (bytes : List ℕ) : Type 0 where
+  pub within : ended ≤ length bytes
+  pub none : (k : ℕ) → ended ≤ k → k < length bytes → slice_index_or bytes k 0 ≢ 10
+  pub last : start < ended → slice_index_or bytes (ended - 1) 0 ≡ 10
 
 -- the next line is told by the first bytes of what is to come: it ends in them, or is too long
 abbrev pub IsDecided : List ℕ → Type 0

@@ -14,11 +14,7 @@ use sap_stim::MOST_LINE_BYTES;
 pub(crate) fn is_decided(held: &Held) -> bool
     ensures { IsTrue result ↔ IsDecided held.now }
 {
-    let bytes = held.as_slice();
-    if bytes.len() > MOST_LINE_BYTES {
-        return true;
-    }
-    held.line().len() < bytes.len()
+    held.has_line() || held.as_slice().len() > MOST_LINE_BYTES
 }
 
 // Reads pieces of a channel until the bytes that are held tell the next line, or the channel is at its end.

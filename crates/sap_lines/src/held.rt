@@ -1,10 +1,12 @@
 //! Bytes that were read and aren't taken yet.
 
-ghost use Rattle.std.specs.Prelude.{◌≡◌, ◌≢◌, ◌==◌, ◌+◌, ◌++◌, ◌<◌, ◌≤◌, [], ℕ, IfOk, IsTrue, drop, length, slice_index_or, vec_capacity};
-ghost use Rattle.std.specs.List.{before_first, position_or_len};
+ghost use Rattle.std.specs.Prelude.{◌≡◌, ◌==◌, ◌+◌, ◌++◌, ◌↔◌, ◌≤◌, [], IfOk, IsTrue, drop, length, true, vec_capacity};
+ghost use Rattle.std.specs.List.{before_first, list_any};
+ghost use Rattle.sap_lines.specs.Fetched.{EndsAt};
 ghost use Rattle.sap_lines.specs.declared.TheConstants.{MOST_HELD};
 
 use crate::MOST_HELD;
+use sap_stim::cut;
 use std::alloc::{AllocError, Global};
 use std::marker::Model;
 
@@ -13,58 +15,29 @@ use std::marker::Model;
 pub struct Held {
     bytes: Vec<u8>,
     start: usize,
-    // how many bytes from there on stand before the first LF, or all where there is none
-    line: usize,
+    // the place behind the last LF, or one not behind `start` where no LF is left
+    ended: usize,
 }
 
 impl Model for Held {
-    ghost use Rattle.std.specs.Prelude.{ℕ, List, ◌≡◌, ◌==◌, ◌≤◌, drop, length, vec_capacity};
-    ghost use Rattle.std.specs.List.{position_or_len};
+    ghost use Rattle.std.specs.Prelude.{ℕ, List, ◌≤◌, drop, length, vec_capacity};
+    ghost use Rattle.sap_lines.specs.Fetched.{EndsAt};
     ghost use Rattle.sap_lines.specs.declared.TheConstants.{MOST_HELD};
 
     ghost Value = { List ℕ };
 
     ghost view = { λ h. drop h.start h.bytes.items };
 
-    ghost invariant = { λ h. (h.start ≤ length h.bytes.items) × (MOST_HELD ≤ vec_capacity h.bytes)
-        × (h.line ≡ position_or_len (λ b. b == 10) (drop h.start h.bytes.items)) };
+    ghost invariant = { λ h. (h.start ≤ length h.bytes.items) × (MOST_HELD ≤ vec_capacity h.bytes) × EndsAt h.start h.ended h.bytes.items };
 }
 
-// Whether none of the eight bytes from a place on is an LF.
-#[inline(always)]
-fn eight_go_on(bytes: &[u8], at: usize) -> bool
-    requires { at + 8 ≤ length bytes.now }
-    ensures { IsTrue result → (k : ℕ) → k < 8 → slice_index_or bytes.now (at + k) 0 ≢ 10 }
+// The place behind the last LF, or 0 where there is none.
+fn last_end(bytes: &[u8]) -> usize
+    ensures { EndsAt 0 result bytes.now }
 {
-    bytes[at] != b'\n'
-        && bytes[at + 1] != b'\n'
-        && bytes[at + 2] != b'\n'
-        && bytes[at + 3] != b'\n'
-        && bytes[at + 4] != b'\n'
-        && bytes[at + 5] != b'\n'
-        && bytes[at + 6] != b'\n'
-        && bytes[at + 7] != b'\n'
-}
-
-// How many bytes stand before any LF, by eights.
-fn eights_on(bytes: &[u8]) -> usize
-    ensures within { result ≤ length bytes.now }
-    ensures none { (k : ℕ) → k < result → slice_index_or bytes.now k 0 ≢ 10 }
-{
-    let mut at = 0;
-    while bytes.len() - at >= 8 && eight_go_on(bytes, at) {
-        at += 8;
-    }
-    at
-}
-
-// How many bytes stand before the first LF, or all where there is none.
-fn line_len(bytes: &[u8]) -> usize
-    ensures { result ≡ position_or_len (λ b. b == 10) bytes.now }
-{
-    let mut at = eights_on(bytes);
-    while at < bytes.len() && bytes[at] != b'\n' {
-        at += 1;
+    let mut at = bytes.len();
+    while at > 0 && bytes[at - 1] != b'\n' {
+        at -= 1;
     }
     at
 }
@@ -87,7 +60,7 @@ impl Held {
         Ok(Held {
             bytes: Vec::with_capacity(alloc, MOST_HELD)?,
             start: 0,
-            line: 0,
+            ended: 0,
         })
     }
 
@@ -97,11 +70,19 @@ impl Held {
         &self.bytes[self.start..]
     }
 
-    /// The bytes before the first LF, or all where there is none. They were looked for once.
+    /// Whether there is an LF among the bytes. None is looked for.
+    pub fn has_line(&self) -> bool
+        ensures { IsTrue result ↔ (list_any (λ b. b == 10) self.now ≡ true) }
+    {
+        self.start < self.ended
+    }
+
+    /// The bytes before the first LF, or all where there is none.
     pub fn line(&self) -> &[u8]
         ensures { result.now ≡ before_first (λ b. b == 10) self.now }
     {
-        &self.as_slice()[..self.line]
+        let (line, _) = cut(self.as_slice(), b'\n');
+        line
     }
 
     /// Takes bytes away at the front.
@@ -110,7 +91,6 @@ impl Held {
         ensures { self.new ≡ drop count self.old }
     {
         self.start += count;
-        self.line = line_len(&self.bytes[self.start..]);
     }
 
     /// Adds bytes at the end.
@@ -119,8 +99,13 @@ impl Held {
         ensures { self.new ≡ self.old ++ piece.now }
     {
         shift(&mut self.bytes, self.start);
+        let ended = last_end(piece);
+        self.ended = if ended > 0 {
+            self.bytes.len() + ended
+        } else {
+            self.ended.saturating_sub(self.start)
+        };
         self.start = 0;
         self.bytes.extend_from_slice(piece).unwrap();
-        self.line = line_len(&self.bytes);
     }
 }
