@@ -21,7 +21,7 @@ use sap_desk::{Desk, Failed};
 use sap_lattice::lattice::Lattice;
 use sap_lattice::level::Level;
 use sap_stim::{Field, Fields};
-use sap_stream::{Inputs, Span, Tagged};
+use sap_stream::{Inputs, Tagged};
 use std::alloc::{AllocError, Global};
 use std::marker::Model;
 
@@ -29,10 +29,11 @@ use std::marker::Model;
 /// made.
 #[derive(Debug, Drop)]
 pub struct Lines {
-    alloc: Global,
     fields: Vec<Field>,
     held: Held,
-    line: Span,
+    // what the last line gave, and for how many cycles
+    inputs: Inputs,
+    cycles: u32,
     count: u64,
     live: bool,
 }
@@ -40,13 +41,14 @@ pub struct Lines {
 impl Model for Lines {
     ghost use Rattle.std.specs.Prelude.{◌≡◌, All, length};
     ghost use Rattle.sap_stim.specs.Line.{IsSized};
+    ghost use Rattle.sap_stream.specs.Spans.{IsCount};
     ghost use Rattle.sap_lines.specs.Reader.{Reader};
 
     ghost Value = { Reader };
 
-    ghost view = { λ l. record { fields = l.fields.items; live = l.live; line = l.line; count = l.count; pending = l.held } };
+    ghost view = { λ l. record { fields = l.fields.items; live = l.live; line = record { inputs = l.inputs; count = l.cycles }; count = l.count; pending = l.held } };
 
-    ghost invariant = { λ l. All IsSized l.fields.items × (length l.line.inputs ≡ length l.fields.items) };
+    ghost invariant = { λ l. All IsSized l.fields.items × (length l.inputs ≡ length l.fields.items) × IsCount l.cycles };
 }
 
 impl Lines {
@@ -59,10 +61,10 @@ impl Lines {
         let mut inputs = Vec::new(alloc);
         inputs.resize(fields.len(), Tagged::new(0, Level::new(0)))?;
         Ok(Lines {
-            alloc,
             fields,
             held: Held::new(alloc)?,
-            line: Span::new(Inputs::new(inputs), 1),
+            inputs: Inputs::new(inputs),
+            cycles: 1,
             count: 0,
             live: true,
         })
@@ -79,7 +81,7 @@ impl Lines {
     pub fn inputs(&self) -> &Inputs
         ensures { result.now ≡ self.now.line.inputs }
     {
-        self.line.inputs()
+        &self.inputs
     }
 
     /// For how many cycles the last line stands. It takes no memory.
@@ -87,7 +89,7 @@ impl Lines {
         ensures number { result ≡ self.now.line.count }
         ensures within { IsCount self.now.line.count }
     {
-        self.line.count()
+        self.cycles
     }
 
     /// Whether the bytes that were read tell the next line, so that `next` reads none.
@@ -128,12 +130,12 @@ impl Lines {
         match fetch(&mut self.held, desk, channel) {
             Ok(()) => {
                 let next = take_line(
-                    self.alloc,
                     &mut self.held,
-                    &mut self.line,
-                    self.count,
                     self.fields.as_slice(),
                     lattice,
+                    self.count,
+                    &mut self.inputs,
+                    &mut self.cycles,
                 );
                 keep(next, &mut self.live, &mut self.count);
                 next

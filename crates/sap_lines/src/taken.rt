@@ -1,71 +1,40 @@
 //! Taking the next line from the bytes that are held.
 
-ghost use Rattle.std.specs.Prelude.{◌≡◌, ◌+◌, ◌≤◌, ◌<◌, ◌^◌, ◌++◌, ◌⊎◌, [], List, ℕ, All, Ok, Err, MatchResult, OnOk, IsTrue, false, length};
+ghost use Rattle.std.specs.Prelude.{◌≡◌, ◌+◌, ◌≤◌, ◌<◌, ◌^◌, ◌++◌, ◌⊎◌, [], List, ℕ, All, IsTrue, false, length};
 ghost use Rattle.sap_stim.specs.Fits.{LineFits};
-ghost use Rattle.sap_stim.specs.Line.{IsSized, line_of};
+ghost use Rattle.sap_stim.specs.Line.{IsSized};
 ghost use Rattle.sap_stim.specs.Stimulus.{read_from};
+ghost use Rattle.sap_stream.specs.Spans.{IsCount};
 ghost use Rattle.sap_lines.specs.Answers.{Tells, is_failed, is_line, lines_in};
 ghost use Rattle.sap_lines.specs.Fetched.{IsDecided};
 
 use crate::Next;
 use crate::held::Held;
 use sap_lattice::lattice::Lattice;
-use sap_stim::{Field, StimCode, StimFault, read_line_into};
-use sap_stream::{Inputs, Span};
-use std::alloc::Global;
-use std::mem;
-
-// Reads a line, without its LF, in place of the last one.
-fn read_span(
-    alloc: Global,
-    text: &[u8],
-    ended: bool,
-    fields: &[Field],
-    lattice: &Lattice,
-    line: &mut Span,
-) -> Result<(), StimCode>
-    requires widths { All IsSized fields.now }
-    requires places { length line.old.inputs ≡ length fields.now }
-    ensures given { let given = line_of lattice.now fields.now ended text.now in
-        MatchResult result (λ _. Ok line.new ≡ given) (λ code. Err code ≡ given) }
-    ensures fits { OnOk result (LineFits lattice.now fields.now line.new.inputs) }
-    ensures places { length line.new.inputs ≡ length fields.now }
-{
-    let last = mem::replace(line, Span::new(Inputs::new(Vec::new(alloc)), 1));
-    let mut values = last.into_inputs().into_values();
-    let read = read_line_into(text, ended, fields, lattice, &mut values);
-    let inputs = Inputs::new(values);
-    match read {
-        Ok(count) => {
-            *line = Span::new(inputs, count);
-            Ok(())
-        }
-        Err(code) => {
-            *line = Span::new(inputs, 1);
-            Err(code)
-        }
-    }
-}
+use sap_stim::{Field, StimFault, read_line_into};
+use sap_stream::Inputs;
 
 /// Takes the next line, where the bytes that are held tell it or none come behind them. `count` lines
 /// stand before it.
 pub fn take_line(
-    alloc: Global,
     held: &mut Held,
-    line: &mut Span,
-    count: u64,
     fields: &[Field],
     lattice: &Lattice,
+    count: u64,
+    inputs: &mut Inputs,
+    cycles: &mut u32,
 ) -> Next
     requires widths { All IsSized fields.now }
-    requires places { length line.old.inputs ≡ length fields.now }
+    requires places { length inputs.old ≡ length fields.now }
+    requires cycles { IsCount cycles.old }
     ensures tells { (rest : List ℕ) → IsDecided held.old ⊎ (rest ≡ []) → count < 2 ^ 32
-        → Tells result (read_from lattice.now fields.now (count + 1) (held.old ++ rest)) line.new (read_from lattice.now fields.now (count + 2) (held.new ++ rest)) }
+        → Tells result (read_from lattice.now fields.now (count + 1) (held.old ++ rest)) (record { inputs = inputs.new; count = cycles.new }) (read_from lattice.now fields.now (count + 2) (held.new ++ rest)) }
     ensures decided { IsTrue (is_line result) → IsDecided held.old }
     ensures answered { is_failed result ≡ false }
-    ensures fits { IsTrue (is_line result) → LineFits lattice.now fields.now line.new.inputs }
+    ensures fits { IsTrue (is_line result) → LineFits lattice.now fields.now inputs.new }
     ensures shorter { length held.new + lines_in result ≤ length held.old }
-    ensures places { length line.new.inputs ≡ length fields.now }
+    ensures places { length inputs.new ≡ length fields.now }
+    ensures cycles { IsCount cycles.new }
 {
     let bytes = held.as_slice();
     if bytes.is_empty() {
@@ -74,8 +43,9 @@ pub fn take_line(
     let text = held.line();
     let len = text.len();
     let ended = len < bytes.len();
-    match read_span(alloc, text, ended, fields, lattice, line) {
-        Ok(()) => {
+    match read_line_into(text, ended, fields, lattice, &mut inputs.values) {
+        Ok(read) => {
+            *cycles = read;
             held.skip(len + 1);
             Next::Line
         }

@@ -1,17 +1,22 @@
-use Rattle.std.proofs.Common.{◌≡◌, ℕ, ◌-◌, [], ◌++◌, take, sym, subst}
+use Rattle.std.proofs.Common.{◌≡◌, ℕ, ◌-◌, List, [], ◌++◌, take, sym, subst}
 use Rattle.std.specs.Prelude.{IfSome}
 use Rattle.sap_desk.specs.Desk.{rest_of}
+use Rattle.sap_meaning.specs.Cycle.{Tagged as Given}
+use Rattle.sap_stream.specs.Spans.{Span}
 use Rattle.sap_lines.specs.Fetched.{IsDecided, ReadsLeast}
 use Rattle.sap_lines.specs.Reader.{Reader}
 use Rattle.sap_lines.proofs.Answered.{if_told, next_by, next_read, next_told}
 use Rattle.sap_lines.proofs.Reading.{held_so, read_count, reads_least, wanted_so}
 use Rattle.sap_lines.proofs.lines.Lines.next.Goals as goal
 
+abbrev line_so : (inputs : List Given) (cycles : ℕ) → Span
+line_so inputs cycles = record { inputs = inputs; count = cycles }
+
 pub returns-in-Ok-clause-lines : goal.returns-in-Ok-clause-lines
 returns-in-Ok-clause-lines g c =
     next_told c.args.lattice.now c.as_slice.result.now c.self.inside.fields.items c.args.channel c.self.inside.count c.keep.new.count
     c.self.inside.held c.fetch.new.held c.take_line-next.new.held
-    c.self.inside.line c.take_line-next.new.line c.self.inside.live c.keep.new.live c.take_line-next.result _ _ _ _ c.args.self.now
+    _ (line_so c.take_line-next.new.inputs c.take_line-next.new.cycles) c.self.inside.live c.keep.new.live c.take_line-next.result _ _ _ _ c.args.self.now
     c.self.view_is c.as_slice.ensures.value c.keep.ensures.count
     c.in-Ok.ensures.more c.in-Ok.ensures.decided c.take_line-next.ensures.tells
 
@@ -21,7 +26,7 @@ returns-in-Ok-clause-some g c = λ small.
       behind.0,
       next_by c.args.lattice.now c.as_slice.result.now c.self.inside.fields.items c.self.inside.count c.keep.new.count c.self.inside.held
           behind.0 c.fetch.new.held c.take_line-next.new.held
-          c.self.inside.line c.take_line-next.new.line c.self.inside.live c.keep.new.live c.take_line-next.result c.args.self.now
+          _ (line_so c.take_line-next.new.inputs c.take_line-next.new.cycles) c.self.inside.live c.keep.new.live c.take_line-next.result c.args.self.now
           c.self.view_is c.as_slice.ensures.value c.keep.ensures.count
           behind.1 c.take_line-next.ensures.decided c.take_line-next.ensures.tells small,
     )
@@ -37,7 +42,7 @@ returns-in-Ok-clause-by g c = λ small.
     (held_so c.args.channel more.count c.self.inside.held c.fetch.new.held told more.size more.bytes) in
     next_read c.args.lattice.now c.as_slice.result.now c.self.inside.fields.items c.args.channel read c.self.inside.count c.keep.new.count
     c.self.inside.held c.fetch.new.held c.take_line-next.new.held
-    c.self.inside.line c.take_line-next.new.line c.self.inside.live c.keep.new.live c.take_line-next.result c.args.self.now told
+    _ (line_so c.take_line-next.new.inputs c.take_line-next.new.cycles) c.self.inside.live c.keep.new.live c.take_line-next.result c.args.self.now told
     c.self.view_is c.as_slice.ensures.value c.keep.ensures.count
     is c.take_line-next.ensures.decided c.take_line-next.ensures.tells small
 
