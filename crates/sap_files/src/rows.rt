@@ -41,6 +41,10 @@ impl Steps for Rows<'_> {
         self.lattice
     }
 
+    fn room(&self) -> usize {
+        self.simulation.room()
+    }
+
     fn step(&mut self, out: &mut RowBuf, cycle: u64, line: &Inputs) {
         self.simulation.rows_add_up(self.lattice);
         self.simulation.row_into(out, self.lattice, cycle, line);

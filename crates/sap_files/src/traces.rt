@@ -42,6 +42,10 @@ impl Steps for Traces<'_> {
         self.checked.lattice()
     }
 
+    fn room(&self) -> usize {
+        self.tracing.room()
+    }
+
     fn step(&mut self, out: &mut RowBuf, cycle: u64, line: &Inputs) {
         self.tracing.lines_add_up(self.checked);
         self.tracing.lines_into(out, self.checked, cycle, line);

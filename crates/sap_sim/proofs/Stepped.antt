@@ -1,17 +1,33 @@
 -- A netlist that is stepped on line after line, and what is told of it.
-use Rattle.std.proofs.Common.{◌≡◌, ℕ, ◌+◌, List, [], ◌∷◌, ◌++◌, Option, Some, None, length, map, sym, ap, ap₂, ◌∙◌, subst, arith}
+use Rattle.std.proofs.Common.{◌≡◌, ◌≤◌, ℕ, ◌+◌, List, [], ◌∷◌, ◌++◌, Option, Some, None, append_assoc, length, length-append, map, sym, ap, ap₂, ◌∙◌, subst, arith}
 use Rattle.std.specs.List.{last_or}
-use Rattle.std.proofs.lemmas.List.{map-append, length-map}
+use Rattle.std.proofs.lemmas.List.{append_cancel_left, map-append, length-map}
 use Rattle.sap_maps.specs.Maps.{Valuation}
 use Rattle.sap_meaning.specs.Cycle.{Tagged as Given}
 use Rattle.sap_net.specs.Net.{Net}
 use Rattle.sap_net.specs.Runs.{IsCycle, IsRun, observed}
 use Rattle.sap_cycle.specs.Running.{Running, Shows, ShowsNext}
-use Rattle.sap_sim.specs.Stepped.{Stepped, IsRunOn, IsAfter, TellsMore, TellsAll}
+use Rattle.sap_sim.specs.Stepped.{HasMore, Stepped, IsRunOn, IsAfter, TellsMore, TellsAll}
 use Rattle.sap_sim.specs.Told.{told_from}
 use Rattle.sap_sim.proofs.OneMore.{run_split, run_ends, EndsIn, last_pushed, run_front, no_run}
 use Rattle.sap_sim.proofs.Runs.{run_count}
 use Rattle.sap_sim.proofs.Told.{mapped_push, mapped_split}
+
+-- behind what stands behind other bytes stand further ones
+pub more_behind : (most others : ℕ) (first old now : List ℕ) → HasMore most first old → HasMore others old now → HasMore (most + others) first now
+more_behind most others first old now before after =
+    let whole : now ≡ first ++ (before.0 ++ after.0) = after.1 ∙ ap (λ (l : List ℕ). l ++ after.0) before.1 ∙ append_assoc first before.0 after.0 in
+    let size : length (before.0 ++ after.0) ≡ length before.0 + length after.0 = length-append before.0 after.0 in
+    (before.0 ++ after.0, whole, omega (arith, size, before.2, after.2))
+
+pub more_size : (most : ℕ) (old now : List ℕ) → HasMore most old now → length now ≤ length old + most
+more_size most old now has =
+    let size : length now ≡ length old + length has.0 = ap length has.1 ∙ length-append old has.0 in
+    omega (arith, size, has.2)
+
+-- within a larger number, of other names for the same bytes
+pub more_within : (most room : ℕ) (a b old now : List ℕ) → a ≡ old → now ≡ b → most ≤ room → HasMore most a b → HasMore room old now
+more_within most room a b old now first last fits has = (has.0, last ∙ has.1 ∙ ap (λ (l : List ℕ). l ++ has.0) first, omega (arith, fits, has.2))
 
 module _ (n : Net) (numbers : List Given → List ℕ) where
   numbers_more : (lines : List (List Given)) (line : List Given) → map numbers (lines ++ line ∷ []) ≡ map numbers lines ++ numbers line ∷ []
@@ -46,6 +62,11 @@ module _ (n : Net) (numbers : List Given → List ℕ) where
         ∙ ap (λ (k : ℕ). told e.run ++ tell k (observed n e.last)) (sym counts)
         ∙ sym (mapped_push tell (observed n) 1 e.run e.last)
         ∙ ap told (sym e.whole)
+
+    -- what is told behind old bytes is told by itself
+    pub told_alone : (lines : List (List Given)) (cycle : ℕ) (old more now : List ℕ) → now ≡ old ++ more → TellsMore tell n numbers lines cycle old now
+        → TellsMore tell n numbers lines cycle [] more
+    told_alone lines cycle old more now is tells run v h = append_cancel_left old more (tell cycle (observed n v)) (sym is ∙ tells run v h)
 
     -- what is told of the first lines begins what is told of all
     pub told_part : (lines more : List (List Given)) (text : List ℕ) (run : List Valuation) → IsRunOn n numbers (lines ++ more) run → TellsAll tell n numbers lines text

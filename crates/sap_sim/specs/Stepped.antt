@@ -1,5 +1,5 @@
 -- A netlist that is stepped on the lines of a stimulus, one after another.
-use Rattle.std.specs.Prelude.{◌≡◌, ℕ, List, [], ◌∷◌, ◌++◌, None, map}
+use Rattle.std.specs.Prelude.{◌≡◌, ℕ, ◌≤◌, List, [], ◌∷◌, ◌++◌, None, length, map}
 use Rattle.std.specs.List.{last_or}
 use Rattle.sap_maps.specs.Maps.{Valuation}
 use Rattle.sap_meaning.specs.Cycle.{Tagged as Given}
@@ -32,6 +32,10 @@ pub record IsAfter {Plan : Type 0} (IsPlanned : Stepped Plan → Type 0) (n : Ne
   pub net : s.runner.net ≡ n
   pub planned : IsPlanned s
   pub shows : ShowsLast n numbers lines s.runner
+
+-- behind the old bytes stand others, at most so many
+abbrev pub HasMore : (most : ℕ) → (old now : List ℕ) → Type 0
+HasMore most old now = (more : List ℕ) × (now ≡ old ++ more) × (length more ≤ most)
 
 -- behind the old bytes stands what is told of the last of these lines
 abbrev pub TellsMore : (tell : (cycle : ℕ) → Valuation → List ℕ) → Net → (numbers : List Given → List ℕ) → (lines : List (List Given)) → (cycle : ℕ) → (old now : List ℕ) → Type 0

@@ -7,6 +7,7 @@ ghost use Rattle.sap_cycle.specs.Running.{ShowsNext};
 ghost use Rattle.sap_stim.specs.Fits.{LineFits};
 ghost use Rattle.sap_stim.specs.Rows.{AreLevelTexts, HoldsRows, row_text, shown_of};
 ghost use Rattle.sap_sim.specs.Numbers.{numbers_of};
+ghost use Rattle.sap_sim.specs.Stepped.{HasMore};
 ghost use Rattle.sap_sim.specs.Stepping.{HasRowMore, IsAfter, IsPlanned, RowsAddUp};
 
 use crate::feed::feed_of;
@@ -112,6 +113,7 @@ fn push_held(
     requires levels { AreLevelTexts lattice.now levels.now }
     requires room { (room : ℕ) × HoldsRows lattice.now labels.now room × (length out.old.bytes + room ≤ out.old.room) }
     ensures text { out.new.bytes ≡ out.old.bytes ++ row_text cycle (shown_of lattice.now labels.now values.now tags.now) }
+    ensures more { (room : ℕ) → HoldsRows lattice.now labels.now room → HasMore room out.old.bytes out.new.bytes }
     ensures memory { out.old.room ≤ out.new.room }
 {
     labelled_row_into(out, array, cycle, labels, values, tags, levels, lattice);
@@ -190,6 +192,7 @@ impl Simulation {
         ensures after { (n : Net) (lines : List (List Given)) → IsAfter lattice.now n lines self.old → IsAfter lattice.now n (lines ++ line.now ∷ []) self.new }
         ensures row { (n : Net) (lines : List (List Given)) → IsAfter lattice.now n lines self.old
             → HasRowMore lattice.now n (lines ++ line.now ∷ []) cycle out.old.bytes out.new.bytes }
+        ensures more { HasMore self.old.room out.old.bytes out.new.bytes }
         ensures fields { self.new.fields ≡ self.old.fields }
         ensures same_room { self.new.room ≡ self.old.room }
         ensures memory { out.old.room ≤ out.new.room }

@@ -1,6 +1,6 @@
 -- The room of the lines of a trace.
-use Rattle.std.proofs.Common.{◌≡◌, ℕ, suc, [], inl, inr, ◌+◌, ◌-◌, ◌*◌, ◌^◌, ◌<◌, ◌≤◌, List, length, max, ap, ◌∙◌, length-append, eq-zero-or-pos, arith}
-use Rattle.std.specs.Prelude.{Option, Some, Result, Ok, Err, OnErr, decimal, slice_get, option_map, unwrap_or}
+use Rattle.std.proofs.Common.{◌≡◌, ℕ, suc, [], inl, inr, ◌+◌, ◌-◌, ◌*◌, ◌^◌, ◌<◌, ◌≤◌, List, length, max, ap, ◌∙◌, length-append, eq-zero-or-pos, arith, subst}
+use Rattle.std.specs.Prelude.{Option, Some, Result, Ok, Err, OnErr, OnOk, decimal, slice_get, option_map, unwrap_or}
 use Rattle.std.proofs.lemmas.Bool.{cases_lt}
 use Rattle.std.proofs.lemmas.Fmt.{length-decimal-le}
 use Rattle.std.proofs.Math.Nat.{mul-le-mul_right, mul_comm}
@@ -119,6 +119,9 @@ room_more k count line small =
     let one : (k + 1) * line ≤ count * line = mul-le-mul_right line (omega arith) in
     let two : (k + 1) * line ≡ k * line + line = omega arith in
     omega (arith, one, two)
+
+pub ok_at : {T E P : Type 0} (r : Result T E) (value : T) → r ≡ Ok value → OnOk r P → P
+ok_at {T} {E} {P} r value is holds = subst (λ (q : Result T E). OnOk q P) is holds
 
 pub err_at : {T E : Type 0} (P Q : ℕ → Type 0) (r : Result T E) (line : ℕ) → P line → OnErr r ((l : ℕ) → P l → Q l) → OnErr r (Q line)
 err_at {T} {E} P Q (Ok v) line p h = tt

@@ -6,6 +6,7 @@ ghost use Rattle.sap_check.specs.Checked.{levels_in, tree_in};
 ghost use Rattle.sap_check.specs.Sites.{sites_of};
 ghost use Rattle.sap_cycle.specs.Running.{Shows, seen};
 ghost use Rattle.sap_sim.specs.Labelled.LabelledRows.{level_name};
+ghost use Rattle.sap_sim.specs.Stepped.{HasMore};
 ghost use Rattle.sap_trace.specs.Lines.{line_before, line_head, refusal_line, site_line};
 ghost use Rattle.sap_trace.specs.Rooms.{HoldsCycle, HoldsLine, site_room};
 ghost use Rattle.sap_trace.specs.Seen.{AreWires, coded_name, seen_line, seen_lines};
@@ -117,7 +118,7 @@ fn push_site(
     ensures text { OnOk result ((shown : Option Valuation) → Shows runner.now shown
         → out.new.items ≡ out.old.items ++ seen_line (levels_in checked.now) (tree_in checked.now) cycle site (seen runner.now.net shown)) }
     ensures room { vec_capacity out.old ≤ vec_capacity out.new }
-    ensures bounded { OnOk result ((line : ℕ) → HoldsLine (levels_in checked.now) (tree_in checked.now) line → length out.new.items ≤ length out.old.items + line) }
+    ensures more { OnOk result ((line : ℕ) → HoldsLine (levels_in checked.now) (tree_in checked.now) line → HasMore line out.old.items out.new.items) }
     ensures full { OnErr result ((line : ℕ) → HoldsLine (levels_in checked.now) (tree_in checked.now) line → vec_capacity out.old < length out.old.items + line) }
 {
     let place = site as usize - 1;
@@ -139,6 +140,7 @@ pub(crate) fn push_refused(
     requires { AreWires runner.now.net (length (sites_of (tree_in checked.now))) wires.now }
     ensures text { OnOk result ((shown : Option Valuation) → Shows runner.now shown
         → out.new.items ≡ out.old.items ++ seen_lines (levels_in checked.now) (tree_in checked.now) cycle 1 (length (sites_of (tree_in checked.now))) (seen runner.now.net shown)) }
+    ensures more { OnOk result ((line : ℕ) → HoldsLine (levels_in checked.now) (tree_in checked.now) line → HasMore (length (sites_of (tree_in checked.now)) * line) out.old.items out.new.items) }
     ensures room { vec_capacity out.old ≤ vec_capacity out.new }
     ensures full { OnErr result ((line : ℕ) → HoldsLine (levels_in checked.now) (tree_in checked.now) line → vec_capacity out.old < length out.old.items + length (sites_of (tree_in checked.now)) * line) }
 {
@@ -160,6 +162,7 @@ pub(crate) fn refused_into(
     requires fits { (room : ℕ) × HoldsCycle (levels_in checked.now) (tree_in checked.now) room × (length out.old.bytes + room ≤ out.old.room) }
     ensures text { (shown : Option Valuation) → Shows runner.now shown
         → out.new.bytes ≡ out.old.bytes ++ seen_lines (levels_in checked.now) (tree_in checked.now) cycle 1 (length (sites_of (tree_in checked.now))) (seen runner.now.net shown) }
+    ensures more { (room : ℕ) → HoldsCycle (levels_in checked.now) (tree_in checked.now) room → HasMore room out.old.bytes out.new.bytes }
     ensures room { out.old.room ≤ out.new.room }
 {
     let mut bytes = out.take();

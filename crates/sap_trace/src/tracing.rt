@@ -5,6 +5,7 @@ ghost use Rattle.sap_check.specs.Checked.{levels_in, tree_in};
 ghost use Rattle.sap_interface.specs.Designs.{StandsForDesign};
 ghost use Rattle.sap_meaning.specs.Cycle.{Tagged as Given};
 ghost use Rattle.sap_net.specs.Net.{Net};
+ghost use Rattle.sap_sim.specs.Stepped.{HasMore};
 ghost use Rattle.sap_stim.specs.Fits.{LineFits};
 ghost use Rattle.sap_trace.specs.Rooms.{HoldsCycle};
 ghost use Rattle.sap_trace.specs.Stepping.{HasLinesMore, IsAfter, IsPlanned, LinesAddUp};
@@ -108,6 +109,7 @@ impl Tracing {
             → IsAfter (levels_in checked.now) (tree_in checked.now) n (lines ++ line.now ∷ []) self.new }
         ensures lines { (n : Net) (lines : List (List Given)) → IsAfter (levels_in checked.now) (tree_in checked.now) n lines self.old
             → HasLinesMore (levels_in checked.now) (tree_in checked.now) n (lines ++ line.now ∷ []) cycle out.old.bytes out.new.bytes }
+        ensures more { HasMore self.old.room out.old.bytes out.new.bytes }
         ensures fields { self.new.fields ≡ self.old.fields }
         ensures same_room { self.new.room ≡ self.old.room }
         ensures memory { out.old.room ≤ out.new.room }

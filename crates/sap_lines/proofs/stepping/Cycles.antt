@@ -66,10 +66,8 @@ pub behind_more : (behind now after : List (List Given) → Type 0) (x line : Li
 behind_more behind now after x line i same so step cycles h =
     subst after (cycle_more cycles x i) (subst (λ (l : List Given). after ((cycles ++ replicate i x) ++ l ∷ [])) same (step (cycles ++ replicate i x) (so cycles h)))
 
-module _ (behind now : List (List Given) → Type 0) (shows later last : Shows) (count cycle i : ℕ) (x line : List Given)
-    (waited waits text bytes : List ℕ) (before mid after : Option Told)
-    (same : line ≡ x) (bytes_are : bytes ≡ text) (stands : (cycles : List (List Given)) → behind cycles → now (cycles ++ replicate i x)) (is : cycle ≡ count + i)
-    (step : (cycles : List (List Given)) (shown : List ℕ) → now cycles → cycle + 1 ≡ length cycles + 1 → later cycles shown → last (cycles ++ line ∷ []) (shown ++ text))
+module _ (behind now : List (List Given) → Type 0) (shows later last : Shows) (count cycle i : ℕ) (x line : List Given) (waited waits text : List ℕ) (before mid after : Option Told)
+    (same : line ≡ x) (stands : (cycles : List (List Given)) → behind cycles → now (cycles ++ replicate i x)) (is : cycle ≡ count + i) (step : Adds now later last cycle (line ∷ []) text)
     (so : CyclesShown behind shows later count (replicate i x) waited waits before mid) where
   adds_more : Adds behind shows last count (replicate (i + 1) x) (so.text ++ text)
   adds_more cycles shown h many is_shown =
@@ -81,11 +79,9 @@ module _ (behind now : List (List Given) → Type 0) (shows later last : Shows) 
       (subst (λ (l : List Given). last (so_far ++ l ∷ []) (shown ++ (so.text ++ text))) same
       (subst (last (so_far ++ line ∷ [])) (append_assoc shown so.text text) here))
 
-  bytes_more : (waited ++ so.text) ++ bytes ≡ waited ++ (so.text ++ text)
-  bytes_more = append_assoc waited so.text bytes ∙ ap (λ (l : List ℕ). waited ++ (so.text ++ l)) bytes_are
-
-  written_so : PieceWritten ((waited ++ so.text) ++ bytes) (waits ++ bytes) before mid
-  written_so = written_behind (waited ++ so.text) waits bytes before mid so.written
+  written_so : PieceWritten (waited ++ (so.text ++ text)) (waits ++ text) before mid
+  written_so =
+      subst (λ (l : List ℕ). PieceWritten l (waits ++ text) before mid) (append_assoc waited so.text text) (written_behind (waited ++ so.text) waits text before mid so.written)
 
   along_more : ((cycles : List (List Given)) (shown : List ℕ) → last cycles shown → shows cycles shown) → AddsAlong behind shows count (replicate (i + 1) x) (so.text ++ text)
   along_more back first = elim (cases_lt i first) [
@@ -108,26 +104,22 @@ module _ (behind now : List (List Given) → Type 0) (shows later last : Shows) 
         )
   ]
 
-  pub shown_more : ((cycles : List (List Given)) (shown : List ℕ) → last cycles shown → shows cycles shown) → (left : List ℕ) → PieceWritten (waits ++ bytes) left mid after
+  pub shown_more : ((cycles : List (List Given)) (shown : List ℕ) → last cycles shown → shows cycles shown) → (left : List ℕ) → PieceWritten (waits ++ text) left mid after
       → CyclesShown behind shows last count (replicate (i + 1) x) waited left before after
   shown_more back left wrote = record {
     text = so.text ++ text;
     adds = adds_more;
     along = along_more back;
-    written =
-        subst (λ (l : List ℕ). PieceWritten l left before after) bytes_more
-        (written_then ((waited ++ so.text) ++ bytes) (waits ++ bytes) left before mid after written_so wrote);
+    written = written_then (waited ++ (so.text ++ text)) (waits ++ text) left before mid after written_so wrote;
   }
 
-  pub cut_more : (n : ℕ) → i < n → CutOutput (waits ++ bytes) mid after → CyclesCut behind shows last count (record { inputs = x; count = n }) waited before after
+  pub cut_more : (n : ℕ) → i < n → CutOutput (waits ++ text) mid after → CyclesCut behind shows last count (record { inputs = x; count = n }) waited before after
   cut_more n below failed = record {
     first = i + 1;
     within = omega arith;
     text = so.text ++ text;
     adds = adds_more;
-    cut =
-        subst (λ (l : List ℕ). CutOutput l before after) bytes_more
-        (cut_then ((waited ++ so.text) ++ bytes) (waits ++ bytes) before mid after written_so failed);
+    cut = cut_then (waited ++ (so.text ++ text)) (waits ++ text) before mid after written_so failed;
   }
 
 -- the first cycles of a line and the others

@@ -1,5 +1,5 @@
 -- What the steps in some cycles of a line show.
-use Rattle.std.specs.Prelude.{◌≡◌, ℕ, ◌≤◌, List, ◌++◌, length, replicate, take, Option}
+use Rattle.std.specs.Prelude.{◌≡◌, ℕ, ◌+◌, ◌≤◌, List, [], ◌∷◌, ◌++◌, length, replicate, take, Option}
 use Rattle.sap_desk.specs.Desk.{Told}
 use Rattle.sap_desk.specs.Whole.{CutOutput}
 use Rattle.sap_meaning.specs.Cycle.{Tagged as Given}
@@ -11,6 +11,12 @@ use Rattle.sap_lines.specs.Stepping.Waiting.{PieceWritten}
 abbrev pub Adds : (behind : List (List Given) → Type 0) → (shows later : Shows) → (count : ℕ) → (cycles : List (List Given)) → (text : List ℕ) → Type 0
 Adds behind shows later count cycles text =
     (before : List (List Given)) (shown : List ℕ) → behind before → count ≡ length before → shows before shown → later (before ++ cycles) (shown ++ text)
+
+-- the step on a line, in the cycle of this number, adds a text to what is shown, and this holds of the text
+pub record StepShown (behind : List (List Given) → Type 0) (shows later : Shows) (cycle : ℕ) (line : List Given) (Holds : (text : List ℕ) → Type 0) : Type 0 where
+  pub text : List ℕ
+  pub adds : (count : ℕ) → cycle ≡ count + 1 → Adds behind shows later count (line ∷ []) text
+  pub holds : Holds text
 
 -- the first of these cycles, however many, add a beginning of this text
 abbrev pub AddsAlong : (behind : List (List Given) → Type 0) → (shows : Shows) → (count : ℕ) → (cycles : List (List Given)) → (text : List ℕ) → Type 0

@@ -1,26 +1,73 @@
 //! Printing what the steps show.
 
-ghost use Rattle.std.specs.Prelude.{◌≡◌, ◌+◌, ◌<◌, ◌≤◌, ◌^◌, ◌⊎◌, ◌++◌, ℕ, List, [], OnOk, OnErr, IfOk, IfErr, MatchResult, length};
+ghost use Rattle.std.specs.Prelude.{◌≡◌, ◌+◌, ◌<◌, ◌≤◌, ◌^◌, ◌⊎◌, ◌++◌, ◌∷◌, ℕ, List, [], OnOk, OnErr, IfOk, IfErr, MatchResult, length};
 ghost use Rattle.sap_desk.specs.Cause.{counted};
 ghost use Rattle.sap_desk.specs.Desk.{IsWriting};
-ghost use Rattle.sap_desk.specs.Whole.{Between, CountsFailed};
+ghost use Rattle.sap_desk.specs.Whole.{Between, CountsFailed, CutOutput};
 ghost use Rattle.sap_meaning.specs.Cycle.{Tagged as Given};
 ghost use Rattle.sap_stream.specs.Spans.{cycles_in};
 ghost use Rattle.sap_stim.specs.Fits.{LineFits};
 ghost use Rattle.sap_lines.specs.Fetched.{IsDecided};
 ghost use Rattle.sap_lines.specs.Reader.{IsNew};
-ghost use Rattle.sap_lines.specs.Stepping.Cycles.{CyclesCut, CyclesShown};
+ghost use Rattle.sap_lines.specs.Stepping.Cycles.{CyclesCut, CyclesShown, StepShown};
 ghost use Rattle.sap_lines.specs.Stepping.Followed.{Broken, Counts, FailsFor, Followed, GoesTooFar, IsFaultOfSome};
 ghost use Rattle.sap_lines.specs.Stepping.Pace.{printed_fault};
 ghost use Rattle.sap_lines.specs.Stepping.Printed.{CallFailed, MissingOrTooLong, Printed, Stops};
+ghost use Rattle.sap_lines.specs.Stepping.Waiting.{PieceWritten};
 ghost use Rattle.sap_lines.specs.declared.stepping.TheConstants.{LARGE_BYTES};
 
+use crate::stepping::LARGE_BYTES;
 use crate::stepping::steps::Steps;
 use crate::stepping::stopped::{FailedCall, Stopped};
 use crate::stepping::waiting::{flush_unless_held, show, write_text};
 use crate::{Lines, Next, lines_follow};
 use sap_desk::{Desk, DeskError, Failed, RowBuf};
 use sap_stim::StimFault;
+use sap_stream::Inputs;
+
+// Steps on a line once, in the cycle of this number. The text of the step is put straight behind what waits where any
+// text would fit there, and else by way of `out`.
+fn step_once<D: Desk, S: Steps>(
+    desk: &mut D,
+    steps: &mut S,
+    line: &Inputs,
+    cycle: u64,
+    out: &mut RowBuf,
+    waiting: &mut RowBuf,
+) -> Result<(), Failed>
+    requires stands { (cycles : List (List Given)) × S.behind steps.old cycles }
+    requires line { LineFits (S.levels steps.old) (S.fields steps.old) line.now }
+    requires room { S.room steps.old ≤ out.old.room }
+    requires few { length waiting.old.bytes ≤ LARGE_BYTES }
+    requires large { LARGE_BYTES ≤ waiting.old.room }
+    // It is a step further.
+    ensures behind { (cycles : List (List Given)) → S.behind steps.old cycles → S.behind steps.new (cycles ++ line.now ∷ []) }
+    ensures shown { OnOk result (StepShown (S.behind steps.old) (S.shows steps.old) (S.shows steps.new) cycle line.now (λ text. PieceWritten (waiting.old.bytes ++ text) waiting.new.bytes (D.told desk.old) (D.told desk.new))) }
+    // Or a write failed.
+    ensures cut { OnErr result (StepShown (S.behind steps.old) (S.shows steps.old) (S.shows steps.new) cycle line.now (λ text. CutOutput (waiting.old.bytes ++ text) (D.told desk.old) (D.told desk.new))) }
+    ensures cause { OnErr result (D.sure desk.old → Between (D.told desk.old) (D.told desk.new) (λ t n. IsWriting (t.uses 1) → length (n.written 1) ≡ n.room)) }
+    ensures counts { CountsFailed (D.faults desk.old) (D.faults desk.new) result }
+    // All else is as before.
+    ensures same_levels { S.levels steps.new ≡ S.levels steps.old }
+    ensures same_fields { S.fields steps.new ≡ S.fields steps.old }
+    ensures same_room { S.room steps.new ≡ S.room steps.old }
+    ensures same_shows { (cycles : List (List Given)) (text : List ℕ) → S.shows steps.new cycles text → S.shows steps.old cycles text }
+    ensures room { out.old.room ≤ out.new.room }
+    ensures few { length waiting.new.bytes ≤ LARGE_BYTES }
+    ensures large { waiting.old.room ≤ waiting.new.room }
+    ensures given { D.given desk.new ≡ D.given desk.old }
+    ensures lost { D.lost desk.new ≡ D.lost desk.old }
+    ensures sure { D.sure desk.old → D.sure desk.new }
+{
+    let spare = LARGE_BYTES - waiting.bytes().len();
+    if steps.room() <= spare {
+        steps.step(waiting, cycle, line);
+        return Ok(());
+    }
+    out.clear();
+    steps.step(out, cycle, line);
+    show(desk, waiting, out.bytes())
+}
 
 // Steps on the last line that was read, in each of its cycles; `cycle` counts the steps. The texts of the steps wait to be
 // written, behind the line no longer than until more has to be read.
@@ -62,9 +109,7 @@ fn step_line<D: Desk, S: Steps>(
 {
     for _ in 0..lines.count() {
         *cycle += 1;
-        out.clear();
-        steps.step(out, *cycle, lines.inputs());
-        show(desk, waiting, out.bytes())?;
+        step_once(desk, steps, lines.inputs(), *cycle, out, waiting)?;
     }
     flush_unless_held(desk, lines, waiting)
 }

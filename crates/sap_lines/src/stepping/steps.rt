@@ -5,6 +5,7 @@ ghost use Rattle.sap_lattice.specs.Levels.{Levels};
 ghost use Rattle.sap_meaning.specs.Cycle.{Tagged as Given};
 ghost use Rattle.sap_stim.specs.declared.field.Field.{Field};
 ghost use Rattle.sap_stim.specs.Fits.{LineFits};
+ghost use Rattle.sap_lines.specs.Stepping.Cycles.{StepShown};
 
 use sap_desk::RowBuf;
 use sap_lattice::Lattice;
@@ -19,7 +20,7 @@ pub trait Steps {
     /// The fields of a line.
     ghost fields: { Self → List Field };
 
-    /// For how many bytes a buffer needs room to take the text of any step.
+    /// How many bytes the text of any step takes at most.
     ghost room: { Self → ℕ };
 
     /// It stands behind the steps on these lines.
@@ -32,16 +33,18 @@ pub trait Steps {
     fn lattice(&self) -> &Lattice
         ensures { result.now ≡ levels self.now };
 
-    /// Steps on a line, and puts the text of the step into an empty buffer. It takes no memory.
+    /// How many bytes the text of any step takes at most.
+    fn room(&self) -> usize
+        ensures { result ≡ room self.now };
+
+    /// Steps on a line, and appends the text of the step, for which there is room. It takes no memory.
     fn step(&mut self, out: &mut RowBuf, cycle: u64, line: &Inputs)
         requires stands { (lines : List (List Given)) × behind self.old lines }
         requires line { LineFits (levels self.old) (fields self.old) line.now }
-        requires empty { out.old.bytes ≡ [] }
-        requires room { room self.old ≤ out.old.room }
+        requires room { length out.old.bytes + room self.old ≤ out.old.room }
         // It is a step further.
         ensures behind { (lines : List (List Given)) → behind self.old lines → behind self.new (lines ++ line.now ∷ []) }
-        ensures shows { (lines : List (List Given)) (text : List ℕ) → behind self.old lines → cycle ≡ length lines + 1 → shows self.old lines text
-            → shows self.new (lines ++ line.now ∷ []) (text ++ out.new.bytes) }
+        ensures shows { StepShown (behind self.old) (shows self.old) (shows self.new) cycle line.now (λ text. (out.new.bytes ≡ out.old.bytes ++ text) × (length text ≤ room self.old)) }
         // All else is as before.
         ensures same_levels { levels self.new ≡ levels self.old }
         ensures same_fields { fields self.new ≡ fields self.old }

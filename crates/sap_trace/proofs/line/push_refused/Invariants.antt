@@ -1,8 +1,9 @@
-use Rattle.std.proofs.Common.{◌≡◌, ◌≤◌, ◌+◌, ◌*◌, ◌++◌, ℕ, Option, length}
+use Rattle.std.proofs.Common.{◌≡◌, ◌≤◌, ◌*◌, ◌++◌, ℕ, Option}
 use Rattle.std.specs.Prelude.{vec_capacity}
 use Rattle.sap_maps.specs.Maps.{Valuation}
 use Rattle.sap_check.specs.Checked.{levels_in, tree_in}
 use Rattle.sap_cycle.specs.Running.{Shows, seen}
+use Rattle.sap_sim.specs.Stepped.{HasMore}
 use Rattle.sap_trace.specs.Rooms.{HoldsLine}
 use Rattle.sap_trace.specs.Seen.{seen_lines}
 use Rattle.sap_trace.proofs.line.push_refused.Given as goal
@@ -13,5 +14,5 @@ invariant-loop-k l = record {
   text : (shown : Option Valuation) → Shows l.runner shown
       → l.out.items ≡ l.fn.out.items ++ seen_lines (levels_in l.checked) (tree_in l.checked) l.cycle 1 l.k (seen l.runner.net shown);
   room : vec_capacity l.fn.out ≤ vec_capacity l.out;
-  bounded : (line : ℕ) → HoldsLine (levels_in l.checked) (tree_in l.checked) line → length l.out.items ≤ length l.fn.out.items + l.k * line;
+  more : (line : ℕ) → HoldsLine (levels_in l.checked) (tree_in l.checked) line → HasMore (l.k * line) l.fn.out.items l.out.items;
 }

@@ -1,4 +1,4 @@
-use Rattle.std.proofs.Common.{◌≡◌, ◌<◌, ◌+◌, ◌^◌, ℕ, length, ap, ◌∙◌, length-append, arith}
+use Rattle.std.proofs.Common.{◌<◌, ◌+◌, ◌^◌, ℕ, length, arith}
 use Rattle.std.specs.Prelude.{vec_capacity}
 use Rattle.sap_desk.proofs.Steps.{on_err}
 use Rattle.sap_check.specs.Checked.{levels_in, tree_in}
@@ -17,12 +17,11 @@ returns-in_err-push_line-clause-full c =
     λ line holds. (let room = holds.code c.args.site tag c.requires.from_one c.requires.within small in omega (arith, fits, room, c.in_err-push_line.ensures.full)) in
     on_err c.from_residual.result p
 
-pub returns-in_ok-push_line-clause-bounded : goal.returns-in_ok-push_line-clause-bounded
-returns-in_ok-push_line-clause-bounded c = λ line holds.
+pub returns-in_ok-push_line-clause-more : goal.returns-in_ok-push_line-clause-more
+returns-in_ok-push_line-clause-more c = λ line holds.
     let tag = c.at-then-at-eq1.result in
     let text = site_line (tree_in c.args.checked.now) c.args.cycle c.args.site (coded_name (levels_in c.args.checked.now) c.at-then-at-eq1.result) in
     let small : c.at-then-at-eq1.result < 2 ^ 64 = omega (arith, c.at-then-at-eq1.type_inv) in
     let fits = line_fits (tree_in c.args.checked.now) c.args.cycle c.args.site (coded_name (levels_in c.args.checked.now) tag) c.ranges.cycle.fits in
     let room = holds.code c.args.site tag c.requires.from_one c.requires.within small in
-    let size : length c.push_line.new.out.items ≡ length c.args.out.now.items + length text = ap length c.in_ok-push_line.ensures.text ∙ length-append c.args.out.now.items text in
-    omega (arith, fits, room, size)
+    (text, c.in_ok-push_line.ensures.text, omega (arith, fits, room))

@@ -29,40 +29,42 @@ pub loop-preserved : goal.loop-preserved
 loop-preserved g c =
     let inv = c.loop.invariant in
     let x = c.args.lines.now.line.inputs in
+    let step = c.in_ok-step_once.ensures in
     record {
       cycle = omega arith;
-      behind = behind_more (g.S.Steps.behind c.args.steps.now) (g.S.Steps.behind c.loop.steps) (g.S.Steps.behind c.step.new.self) x
-          c.inputs.result.now c.loop.counter c.inputs.ensures inv.behind c.step.ensures.behind;
+      behind = behind_more (g.S.Steps.behind c.args.steps.now) (g.S.Steps.behind c.loop.steps) (g.S.Steps.behind c.step_once.new.steps) x
+          c.inputs.result.now c.loop.counter c.inputs.ensures inv.behind step.behind;
       shown = shown_more (g.S.Steps.behind c.args.steps.now) (g.S.Steps.behind c.loop.steps) (g.S.Steps.shows c.args.steps.now)
-          (g.S.Steps.shows c.loop.steps) (g.S.Steps.shows c.step.new.self)
-          c.args.cycle.now c.loop.cycle c.loop.counter x c.inputs.result.now c.args.waiting.now.bytes c.loop.waiting.bytes c.step.new.out.bytes c.bytes.result.now
-          (g.D.Desk.told c.args.desk.now) (g.D.Desk.told c.loop.desk) (g.D.Desk.told c.show.new.desk) c.inputs.ensures c.bytes.ensures
-          inv.behind inv.cycle c.step.ensures.shows inv.shown
-          (λ cycles text h. inv.same_shows cycles text (c.step.ensures.same_shows cycles text h)) c.show.new.waiting.bytes c.in_ok-show.ensures.written;
-      same_levels = c.step.ensures.same_levels ∙ inv.same_levels;
-      same_fields = c.step.ensures.same_fields ∙ inv.same_fields;
-      same_room = c.step.ensures.same_room ∙ inv.same_room;
-      same_shows = λ cycles text h. inv.same_shows cycles text (c.step.ensures.same_shows cycles text h);
+          (g.S.Steps.shows c.loop.steps) (g.S.Steps.shows c.step_once.new.steps)
+          c.args.cycle.now c.loop.cycle c.loop.counter x c.inputs.result.now c.args.waiting.now.bytes c.loop.waiting.bytes step.shown.text
+          (g.D.Desk.told c.args.desk.now) (g.D.Desk.told c.loop.desk) (g.D.Desk.told c.step_once.new.desk) c.inputs.ensures
+          inv.behind inv.cycle (step.shown.adds c.loop.cycle refl) inv.shown
+          (λ cycles text h. inv.same_shows cycles text (step.same_shows cycles text h)) c.step_once.new.waiting.bytes step.shown.holds;
+      same_levels = step.same_levels ∙ inv.same_levels;
+      same_fields = step.same_fields ∙ inv.same_fields;
+      same_room = step.same_room ∙ inv.same_room;
+      same_shows = λ cycles text h. inv.same_shows cycles text (step.same_shows cycles text h);
       room = search rules;
-      few = c.in_ok-show.ensures.few;
+      few = step.few;
       large = search rules;
-      given = c.in_ok-show.ensures.given ∙ inv.given;
-      faults = c.in_ok-show.ensures.counts.ok ∙ inv.faults;
-      lost = c.in_ok-show.ensures.lost ∙ inv.lost;
-      sure = λ s. c.in_ok-show.ensures.sure (inv.sure s);
+      given = step.given ∙ inv.given;
+      faults = step.counts.ok ∙ inv.faults;
+      lost = step.lost ∙ inv.lost;
+      sure = λ s. step.sure (inv.sure s);
     }
 
-pub returns-in_err-show-clause-cut : goal.returns-in_err-show-clause-cut
-returns-in_err-show-clause-cut g c =
+pub returns-in_err-step_once-clause-cut : goal.returns-in_err-step_once-clause-cut
+returns-in_err-step_once-clause-cut g c =
     let inv = c.loop.invariant in
     let line = c.args.lines.now.line in
+    let step = c.in_err-step_once.ensures in
     let below : c.loop.counter < line.count = omega (arith, c.count-end.ensures.number, c.loop-test.true) in
     on_err c.from_residual.result
     (cut_more (g.S.Steps.behind c.args.steps.now) (g.S.Steps.behind c.loop.steps) (g.S.Steps.shows c.args.steps.now)
-    (g.S.Steps.shows c.loop.steps) (g.S.Steps.shows c.step.new.self)
-    c.args.cycle.now c.loop.cycle c.loop.counter line.inputs c.inputs.result.now c.args.waiting.now.bytes c.loop.waiting.bytes c.step.new.out.bytes c.bytes.result.now
-    (g.D.Desk.told c.args.desk.now) (g.D.Desk.told c.loop.desk) (g.D.Desk.told c.show.new.desk) c.inputs.ensures c.bytes.ensures inv.behind inv.cycle c.step.ensures.shows inv.shown
-    line.count below c.in_err-show.ensures.failed)
+    (g.S.Steps.shows c.loop.steps) (g.S.Steps.shows c.step_once.new.steps)
+    c.args.cycle.now c.loop.cycle c.loop.counter line.inputs c.inputs.result.now c.args.waiting.now.bytes c.loop.waiting.bytes step.cut.text
+    (g.D.Desk.told c.args.desk.now) (g.D.Desk.told c.loop.desk) (g.D.Desk.told c.step_once.new.desk) c.inputs.ensures inv.behind inv.cycle
+    (step.cut.adds c.loop.cycle refl) inv.shown line.count below step.cut.holds)
 
 pub returns-clause-shown : goal.returns-clause-shown
 returns-clause-shown g c =

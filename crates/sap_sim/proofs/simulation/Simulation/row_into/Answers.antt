@@ -11,7 +11,7 @@ use Rattle.sap_sim.specs.declared.sources.Source.{Source}
 use Rattle.sap_sim.specs.Layout.{number_from, seen_at, source_place}
 use Rattle.sap_sim.specs.Numbers.{numbers_of}
 use Rattle.sap_sim.specs.declared.steps.Plan.{Plan}
-use Rattle.sap_sim.specs.Stepped.{Stepped}
+use Rattle.sap_sim.specs.Stepped.{HasMore, Stepped}
 use Rattle.sap_sim.specs.Stepping.{IsAfter, IsPlanned}
 use Rattle.sap_sim.proofs.Stepping.{after_more, inputs_right, numbers_right, row_more, sources_there, tags_count, values_count}
 use Rattle.sap_sim.proofs.simulation.Simulation.row_into.Goals as goal
@@ -102,3 +102,10 @@ returns-clause-row c = λ n lines at.
     ∙ c.take_seen-2.ensures.seen k shows ∙ ap (seen_at m (seen m k)) c.deref-4.ensures.value)
     (c.push_held.ensures.text ∙ ap (λ (names : List Name). c.args.out.now.bytes
     ++ row_text c.args.cycle (shown_of ls names c.deref-6.result.now c.deref-7.result.now)) (named (goal.at.returns-clause-row c).After-deref-5))
+
+pub returns-clause-more : goal.returns-clause-more
+returns-clause-more c =
+    let d = (goal.at.returns-clause-more c).After-values in
+    let holds : HoldsRows c.args.lattice.now c.deref-5.result.now c.self.inside.room
+    = subst (λ (names : List Name). HoldsRows c.args.lattice.now names c.self.inside.room) (sym (named (goal.at.returns-clause-more c).After-deref-5)) (planned d).room in
+    subst (λ (s : Stepped Plan). HasMore s.room c.args.out.now.bytes c.push_held.new.out.bytes) c.self.view_is (c.push_held.ensures.more c.self.inside.room holds)

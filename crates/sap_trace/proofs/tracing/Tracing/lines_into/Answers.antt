@@ -9,7 +9,7 @@ use Rattle.sap_cycle.specs.Running.{ShowsNext}
 use Rattle.sap_stim.specs.Fits.{LineFits}
 use Rattle.sap_trace.specs.Given.{given}
 use Rattle.sap_trace.specs.Seen.{AreWires}
-use Rattle.sap_sim.specs.Stepped.{Stepped}
+use Rattle.sap_sim.specs.Stepped.{HasMore, Stepped}
 use Rattle.sap_trace.specs.declared.wires.Wires.{Wires}
 use Rattle.sap_trace.specs.Stepping.{IsAfter, IsPlanned}
 use Rattle.sap_trace.proofs.Stepping.{after_more, fields_count, inputs_right, lines_more}
@@ -71,3 +71,9 @@ returns-clause-lines c = λ n lines at.
     let t = tree_in c.args.checked.now in
     lines_more ls t n (the d) lines c.args.line.now c.step.new.self (subst (IsAfter ls t n lines) (sym c.self.view_is) at) c.step.ensures.netlist next
     c.args.cycle c.args.out.now.bytes c.refused_into.new.out.bytes (λ k shows. c.refused_into.ensures.text k shows)
+
+pub returns-clause-more : goal.returns-clause-more
+returns-clause-more c =
+    let d = (goal.at.returns-clause-more c).After-deref_mut in
+    subst (λ (s : Stepped Wires). HasMore s.room c.args.out.now.bytes c.refused_into.new.out.bytes) c.self.view_is
+    (c.refused_into.ensures.more c.self.inside.room (planned d).room)
