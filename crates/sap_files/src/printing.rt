@@ -24,8 +24,8 @@ fn blamed<'a>(why: FailedCall, stimulus: &'a str) -> &'a str
     }
 }
 
-/// Prints what the steps on the lines of a stimulus file show, and ends as its lines do. Each step is put into `out`, and
-/// what it shows waits in `waiting` to be written.
+/// Prints what the steps on the lines of a stimulus file show, and ends as its lines do. What they show waits in `waiting`
+/// to be written; a step of which the text may be too long to wait there too is put into `out` first.
 pub fn print_steps<'a, D: Desk, S: Steps>(
     desk: &mut D,
     stimulus: &'a str,
