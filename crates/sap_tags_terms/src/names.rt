@@ -65,7 +65,7 @@ pub fn seat_name(alloc: Global, setting: &Setting<'_>, x: usize) -> Result<Name,
     ensures { IfOk result (λ n. n ≡ key_name (named_in setting.now) (seat_key x)) }
 {
     if x == setting.program.entities.len() {
-        Ok(numbered("s_", 0))
+        Name::spelled(alloc, b"s_0")
     } else {
         entity_name(alloc, setting, "s_", x)
     }
