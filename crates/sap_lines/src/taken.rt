@@ -1,8 +1,8 @@
 //! Taking the next line from the bytes that are held.
 
-ghost use Rattle.std.specs.Prelude.{◌≡◌, ◌+◌, ◌≤◌, ◌<◌, ◌^◌, ◌++◌, ◌⊎◌, [], List, ℕ, All, IsTrue, false, length};
+ghost use Rattle.std.specs.Prelude.{◌≡◌, ◌+◌, ◌≤◌, ◌<◌, ◌^◌, ◌++◌, ◌⊎◌, [], List, ℕ, All, IfOk, OnOk, IsTrue, false, length};
 ghost use Rattle.sap_stim.specs.Fits.{LineFits};
-ghost use Rattle.sap_stim.specs.Line.{IsSized};
+ghost use Rattle.sap_stim.specs.Line.{IsSized, line_of, with_inputs};
 ghost use Rattle.sap_stim.specs.Stimulus.{read_from};
 ghost use Rattle.sap_stream.specs.Spans.{IsCount};
 ghost use Rattle.sap_lines.specs.Answers.{Tells, is_failed, is_line, lines_in};
@@ -11,8 +11,26 @@ ghost use Rattle.sap_lines.specs.Fetched.{IsDecided};
 use crate::Next;
 use crate::held::Held;
 use sap_lattice::lattice::Lattice;
-use sap_stim::{Field, StimFault, read_line_into};
+use sap_stim::{Field, StimCode, StimFault, read_line_into};
 use sap_stream::Inputs;
+
+// Reads a line, without its LF, in place of the last one, and tells for how many cycles it stands.
+fn read_into(
+    text: &[u8],
+    ended: bool,
+    fields: &[Field],
+    lattice: &Lattice,
+    inputs: &mut Inputs,
+) -> Result<u32, StimCode>
+    requires widths { All IsSized fields.now }
+    requires places { length inputs.old ≡ length fields.now }
+    ensures given { with_inputs result inputs.new ≡ line_of lattice.now fields.now ended text.now }
+    ensures fits { OnOk result (LineFits lattice.now fields.now inputs.new) }
+    ensures count { IfOk result IsCount }
+    ensures places { length inputs.new ≡ length fields.now }
+{
+    read_line_into(text, ended, fields, lattice, &mut inputs.values)
+}
 
 /// Takes the next line, where the bytes that are held tell it or none come behind them. `count` lines
 /// stand before it.
@@ -43,7 +61,7 @@ pub fn take_line(
     let text = held.line();
     let len = text.len();
     let ended = len < bytes.len();
-    match read_line_into(text, ended, fields, lattice, &mut inputs.values) {
+    match read_into(text, ended, fields, lattice, inputs) {
         Ok(read) => {
             *cycles = read;
             held.skip(len + 1);
