@@ -21,6 +21,11 @@ then_digit n q at end start mid new big small e p r =
     ∙ append_assoc start (decimal (n / 10)) ((48 + n % 10) ∷ [])
     ∙ ap (λ l. start ++ l) (sym (decimal_step n big small))
 
+-- a digit that was found in another way, behind those of a number
+pub then_last : (n q digit at end : ℕ) (start mid new : List ℕ) → 10 ≤ n → n < 2 ^ 64 → n / 10 ≡ q → digit ≡ n % 10 → take at mid ≡ start ++ decimal q
+    → take end new ≡ take at mid ++ (48 + digit) ∷ [] → take end new ≡ start ++ decimal n
+then_last n q digit at end start mid new big small e is p r = then_digit n q at end start mid new big small e p (r ∙ ap (λ k. take at mid ++ (48 + k) ∷ []) is)
+
 -- the one digit of a number
 pub one_digit : (n end : ℕ) (start new : List ℕ) → n < 10 → take end new ≡ start ++ (48 + n) ∷ [] → take end new ≡ start ++ decimal n
 one_digit n end start new small p = p ∙ ap (λ l. start ++ l) (sym (decimal_digit n small))

@@ -75,16 +75,33 @@ fn put_below_10000(bytes: &mut [u8], at: usize, number: u64) -> usize
 }
 
 // Writes the last four digits of a number behind the others.
-fn put_four(bytes: &mut [u8], at: usize, number: u64) -> usize
+#[inline(always)]
+fn put_four(bytes: &mut [u8], at: usize, number: u32) -> usize
     requires number { 10000 ≤ number }
     requires room { at + 4 ≤ length bytes.old }
     ensures text { (start : List ℕ) → take at bytes.old ≡ start ++ decimal (number / 10000) → take result bytes.new ≡ start ++ decimal number }
     ensures end { result ≡ at + 4 }
 {
-    let end = put_digit(bytes, at, number / 1000 % 10);
-    let end = put_digit(bytes, end, number / 100 % 10);
-    let end = put_digit(bytes, end, number / 10 % 10);
-    put_digit(bytes, end, number % 10)
+    let last = number % 10_000;
+    let high = last / 100;
+    let low = last % 100;
+    let end = put_digit(bytes, at, u64::from(high / 10));
+    let end = put_digit(bytes, end, u64::from(high % 10));
+    let end = put_digit(bytes, end, u64::from(low / 10));
+    put_digit(bytes, end, u64::from(low % 10))
+}
+
+// Writes a number of five to eight digits.
+#[inline(always)]
+fn put_long(bytes: &mut [u8], at: usize, number: u32) -> usize
+    requires long { 10000 ≤ number }
+    requires number { number < 100000000 }
+    requires room { at + 8 ≤ length bytes.old }
+    ensures text { take result bytes.new ≡ take at bytes.old ++ decimal number }
+    ensures end { result ≤ at + 8 }
+{
+    let end = put_below_10000(bytes, at, u64::from(number / 10_000));
+    put_four(bytes, end, number)
 }
 
 // Writes a number of at most eight digits.
@@ -98,8 +115,7 @@ fn put_small(bytes: &mut [u8], at: usize, number: u64) -> usize
     if number < 10_000 {
         return put_below_10000(bytes, at, number);
     }
-    let end = put_below_10000(bytes, at, number / 10_000);
-    put_four(bytes, end, number)
+    put_long(bytes, at, number as u32)
 }
 
 /// Writes a number in decimal digits.
