@@ -68,13 +68,9 @@ ends_behind (b ∷ bs) (suc k) h all e =
     let same : position_or_len (is_mark 32) (drop (suc k + 1) (b ∷ bs)) ≡ q = ap (λ (j : ℕ). position_or_len (is_mark 32) (drop j (b ∷ bs))) (let f : suc k + 1 ≡ suc (k + 1) = omega arith in f) in
     omega (arith, first_other b bs other, later, same)
 
-truly : (b : Bool) → false ≡ not b → b ≡ true
-truly true e = refl
-truly false e = absurd (let f : ⊥ = cc in f)
-
 -- bytes that don't differ
-pub same_bytes : (a b : List ℕ) → false ≡ not (bytes_eq a b) → a ≡ b
-same_bytes a b e = (bytes_eq-Decides a b).0 (truly (bytes_eq a b) e)
+pub same_bytes : (a b : List ℕ) → bytes_eq a b ≡ true → a ≡ b
+same_bytes a b e = (bytes_eq-Decides a b).0 e
 
 pub word_first : (name text : List ℕ) → is_word name ≡ true → take (length name) text ≡ name → (length text ≡ length name) ⊎ (get_or text (length name) 0 ≡ 32)
     → length name ≤ length text → name ≡ before_first (is_mark 32) text

@@ -1,6 +1,6 @@
 //! The field at the front of a text, in one look.
 
-ghost use Rattle.std.specs.Prelude.{◌≡◌, ◌==◌, ◌≤◌, IfSome, IsTrue, Ok, Some, length, take, true};
+ghost use Rattle.std.specs.Prelude.{◌≡◌, ◌==◌, ◌≤◌, ◌⊎◌, IfSome, IsTrue, Ok, Some, length, slice_index_or, take, true};
 ghost use Rattle.std.specs.Char.{is_ascii_digit};
 ghost use Rattle.std.specs.List.{before_first, list_all, position_or_len};
 ghost use Rattle.std.specs.Str.Parse.{digits_value};
@@ -19,6 +19,9 @@ use sap_stream::inputs::Tagged;
 /// A number below this, a tenth of 2^64, has room for a further digit.
 const LARGE: u64 = 1_844_674_407_370_955_161;
 
+/// How many levels of a lattice are tried, one after another, before a level is looked for by its name.
+const FIRST_LEVELS: u8 = 2;
+
 /// The number that digits at the front of a text spell, and how many they are: all, where the number is small.
 fn leading_number(text: &[u8]) -> (u64, usize)
     ensures within { result.1 ≤ length text.now }
@@ -34,30 +37,76 @@ fn leading_number(text: &[u8]) -> (u64, usize)
     (number, count)
 }
 
+/// Whether a text ends at a place, or a space stands there.
+#[inline(always)]
+fn ends_at(text: &[u8], at: usize) -> bool
+    ensures within { IsTrue result → at ≤ length text.now }
+    ensures end { IsTrue result → (length text.now ≡ at) ⊎ (slice_index_or text.now at 0 ≡ 32) }
+{
+    if at >= text.len() {
+        return at == text.len();
+    }
+    text[at] == b' '
+}
+
 /// Whether a text begins with a word, and a space or its end stands behind that.
+#[inline(always)]
 fn begins_with(text: &[u8], word: &[u8]) -> bool
     requires { is_word word.now ≡ true }
     ensures end { IsTrue result → length word.now ≡ position_or_len (λ b. b == 32) text.now }
     ensures word { IsTrue result → word.now ≡ before_first (λ b. b == 32) text.now }
 {
-    if text.len() < word.len() || &text[..word.len()] != word {
+    if !ends_at(text, word.len()) {
         return false;
     }
-    text.len() == word.len() || text[word.len()] == b' '
+    &text[..word.len()] == word
 }
 
-/// The level whose name stands at the front of a text, before a space or the end. The level `last` is tried first.
+/// How long the name of a level is, where it stands at the front of a text, before a space or the end.
+#[inline(always)]
+fn name_ahead(text: &[u8], lattice: &Lattice, level: Level) -> Option<usize>
+    ensures end { IfSome result (λ n. n ≡ position_or_len (λ b. b == 32) text.now) }
+    ensures within { IfSome result (λ n. n ≤ length text.now) }
+    ensures level { IfSome result (λ n. Some level ≡ level_named lattice.now.names (before_first (λ b. b == 32) text.now)) }
+{
+    lattice.lawful();
+    if u32::from(level.place()) >= lattice.count() {
+        return None;
+    }
+    let name = lattice.name(level).as_bytes();
+    if !begins_with(text, name) {
+        return None;
+    }
+    Some(name.len())
+}
+
+/// The level whose name stands at the front of a text, among the first few of the lattice.
+fn first_ahead(text: &[u8], lattice: &Lattice) -> Option<(Level, usize)>
+    ensures end { IfSome result (λ r. r.1 ≡ position_or_len (λ b. b == 32) text.now) }
+    ensures within { IfSome result (λ r. r.1 ≤ length text.now) }
+    ensures level { IfSome result (λ r. Some r.0 ≡ level_named lattice.now.names (before_first (λ b. b == 32) text.now)) }
+{
+    for place in 0..FIRST_LEVELS {
+        let level = Level::new(place);
+        if let Some(size) = name_ahead(text, lattice, level) {
+            return Some((level, size));
+        }
+    }
+    None
+}
+
+/// The level whose name stands at the front of a text, before a space or the end. The level `last` is tried first, then
+/// the first few of the lattice.
 fn level_ahead(text: &[u8], lattice: &Lattice, last: Level) -> Option<(Level, usize)>
     ensures end { IfSome result (λ r. r.1 ≡ position_or_len (λ b. b == 32) text.now) }
     ensures within { IfSome result (λ r. r.1 ≤ length text.now) }
     ensures level { IfSome result (λ r. Some r.0 ≡ level_named lattice.now.names (before_first (λ b. b == 32) text.now)) }
 {
-    lattice.lawful();
-    if u32::from(last.place()) < lattice.count() {
-        let name = lattice.name(last).as_bytes();
-        if begins_with(text, name) {
-            return Some((last, name.len()));
-        }
+    if let Some(size) = name_ahead(text, lattice, last) {
+        return Some((last, size));
+    }
+    if let Some(found) = first_ahead(text, lattice) {
+        return Some(found);
     }
     let (name, _) = cut(text, b' ');
     let level = find_level(lattice, name)?;
