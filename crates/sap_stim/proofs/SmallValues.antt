@@ -9,6 +9,8 @@ use Rattle.std.proofs.lemmas.Bool.Decides.{nat_tests}
 use Rattle.std.proofs.lemmas.Int.Digits.{digits_value_more}
 use Rattle.std.proofs.lemmas.List.{drop-take, get_or-take, length-drop, length-take-le, take-take}
 use Rattle.std.proofs.lemmas.List.Folds.{list_all_more}
+use Rattle.std.proofs.lemmas.Str.Parse.{digits_value_short}
+use Rattle.sap_lemmas.proofs.Texts.{digits_model}
 use borrow.Author.Tests.{eq-eqb, ne_eqb}
 use Rattle.sap_lattice.specs.Levels.{Levels, level_named}
 use Rattle.sap_meaning.specs.Cycle.{Tagged as Given}
@@ -35,6 +37,13 @@ digit_more s k number h is e =
 pub digits_more : (s : List ℕ) (k : ℕ) → k < length s → is_ascii_digit (get_or s k 0) ≡ true → list_all is_ascii_digit (take k s) ≡ true
     → list_all is_ascii_digit (take (k + 1) s) ≡ true
 digits_more s k h is all = list_all_more is_ascii_digit s k 0 h ∙ and_from _ _ all is
+
+-- a number of at most 18 digits
+pub few_small : (s : List ℕ) (k number : ℕ) → k < length s → k < 19 → list_all is_ascii_digit (take k s) ≡ true → number ≡ digits_value 10 (take k s) → number < 10 ^ 18
+few_small s k number h few all e =
+    let short : length (take k s) ≤ 18 = omega (arith, few, length-take-le k s (omega (arith, h))) in
+    let small : digits_value 10 (take k s) < 10 ^ 18 = digits_value_short digits_model (take k s) 18 all short in
+    omega (arith, e, small)
 
 -- the first mark stands behind digits
 at_mark : (s : List ℕ) (k : ℕ) → k < length s → list_all is_ascii_digit (take k s) ≡ true → get_or s k 0 ≡ 64 → position_or_len (is_mark 64) s ≡ k

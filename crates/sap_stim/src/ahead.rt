@@ -22,19 +22,45 @@ const LARGE: u64 = 1_844_674_407_370_955_161;
 /// How many levels of a lattice are tried, one after another, before a level is looked for by its name.
 const FIRST_LEVELS: u8 = 2;
 
+/// How many digits have room in 64 bits, whatever they are.
+const FEW_DIGITS: usize = 19;
+
+/// The number that the digits at the front of a text spell, and how many they are, up to 19.
+#[inline(always)]
+fn few_digits(text: &[u8]) -> (u64, usize)
+    ensures within { result.1 ≤ length text.now }
+    ensures digits { list_all is_ascii_digit (take result.1 text.now) ≡ true }
+    ensures number { result.0 ≡ digits_value 10 (take result.1 text.now) }
+{
+    let most = if text.len() < FEW_DIGITS {
+        text.len()
+    } else {
+        FEW_DIGITS
+    };
+    let mut number: u64 = 0;
+    let mut count = 0;
+    while count < most && text[count].is_ascii_digit() {
+        number = number * 10 + u64::from(text[count] - b'0');
+        count += 1;
+    }
+    (number, count)
+}
+
 /// The number that digits at the front of a text spell, and how many they are: all, where the number is small.
+#[inline(always)]
 fn leading_number(text: &[u8]) -> (u64, usize)
     ensures within { result.1 ≤ length text.now }
     ensures digits { list_all is_ascii_digit (take result.1 text.now) ≡ true }
     ensures number { result.0 ≡ digits_value 10 (take result.1 text.now) }
 {
-    let mut number: u64 = 0;
-    let mut count = 0;
-    while count < text.len() && number < LARGE && text[count].is_ascii_digit() {
-        number = number * 10 + u64::from(text[count] - b'0');
-        count += 1;
+    let (number, count) = few_digits(text);
+    if count < FEW_DIGITS || number >= LARGE {
+        return (number, count);
     }
-    (number, count)
+    if count >= text.len() || !text[count].is_ascii_digit() {
+        return (number, count);
+    }
+    (number * 10 + u64::from(text[count] - b'0'), count + 1)
 }
 
 /// Whether a text ends at a place, or a space stands there.
