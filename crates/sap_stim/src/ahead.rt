@@ -19,8 +19,9 @@ use sap_stream::inputs::Tagged;
 /// A number below this, a tenth of 2^64, has room for a further digit.
 const LARGE: u64 = 1_844_674_407_370_955_161;
 
-/// How many levels of a lattice are tried, one after another, before a level is looked for by its name.
-const FIRST_LEVELS: u8 = 2;
+/// How many levels are tried, one after another, before a level is looked for by its name: the one of the line before,
+/// and the first two of the lattice.
+const TRIED_LEVELS: u8 = 3;
 
 /// How many digits have room in 64 bits, whatever they are.
 const FEW_DIGITS: usize = 19;
@@ -106,21 +107,6 @@ fn name_ahead(text: &[u8], lattice: &Lattice, level: Level) -> Option<usize>
     Some(name.len())
 }
 
-/// The level whose name stands at the front of a text, among the first few of the lattice.
-fn first_ahead(text: &[u8], lattice: &Lattice) -> Option<(Level, usize)>
-    ensures end { IfSome result (λ r. r.1 ≡ position_or_len (λ b. b == 32) text.now) }
-    ensures within { IfSome result (λ r. r.1 ≤ length text.now) }
-    ensures level { IfSome result (λ r. Some r.0 ≡ level_named lattice.now.names (before_first (λ b. b == 32) text.now)) }
-{
-    for place in 0..FIRST_LEVELS {
-        let level = Level::new(place);
-        if let Some(size) = name_ahead(text, lattice, level) {
-            return Some((level, size));
-        }
-    }
-    None
-}
-
 /// The level whose name stands at the front of a text, before a space or the end. The level `last` is tried first, then
 /// the first few of the lattice.
 fn level_ahead(text: &[u8], lattice: &Lattice, last: Level) -> Option<(Level, usize)>
@@ -128,11 +114,12 @@ fn level_ahead(text: &[u8], lattice: &Lattice, last: Level) -> Option<(Level, us
     ensures within { IfSome result (λ r. r.1 ≤ length text.now) }
     ensures level { IfSome result (λ r. Some r.0 ≡ level_named lattice.now.names (before_first (λ b. b == 32) text.now)) }
 {
-    if let Some(size) = name_ahead(text, lattice, last) {
-        return Some((last, size));
-    }
-    if let Some(found) = first_ahead(text, lattice) {
-        return Some(found);
+    let mut level = last;
+    for place in 0..TRIED_LEVELS {
+        if let Some(size) = name_ahead(text, lattice, level) {
+            return Some((level, size));
+        }
+        level = Level::new(place);
     }
     let (name, _) = cut(text, b' ');
     let level = find_level(lattice, name)?;
