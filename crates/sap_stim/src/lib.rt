@@ -26,7 +26,7 @@ ghost use Rattle.sap_stim.specs.Examples as examples;
 pub use fault::{StimCode, StimFault};
 pub use field::{Field, Fields};
 pub use label::{RowLabel, labels_of, level_texts};
-pub use line::read_line_into;
+pub use line::{line_ahead, read_line_into};
 pub use room::{longest_level, row_array, row_room};
 pub use rows::{labelled_row_into, push_row, row, row_into};
 pub use short::Short;

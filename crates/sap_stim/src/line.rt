@@ -1,6 +1,7 @@
 //! Lines.
 
-ghost use Rattle.std.specs.Prelude.{◌≡◌, ◌==◌, All, IfOk, MatchResult, OnOk, length};
+ghost use Rattle.std.specs.Prelude.{◌≡◌, ◌==◌, ◌<◌, All, IfOk, IfSome, MatchResult, Ok, OnOk, length, true};
+ghost use Rattle.std.specs.List.{before_first, position_or_len};
 ghost use Rattle.sap_stream.specs.Spans.{IsCount};
 ghost use Rattle.sap_stim.specs.Fits.{LineFits};
 ghost use Rattle.sap_stim.specs.Line.{IsSized, fields_of, inputs_of, line_of, with_inputs};
@@ -73,6 +74,34 @@ pub fn read_line_into(
     }
     read_fields(line, fields, lattice, inputs)?;
     read_count(piece)
+}
+
+/// Reads the line at the front of a text, in one look, where it has an LF and nothing is wrong with it, writes what it
+/// gives in place of `inputs`, and tells for how many cycles it stands and how many bytes stand before its LF. It takes
+/// no memory. None says nothing of the line.
+pub fn line_ahead(
+    text: &[u8],
+    fields: &[Field],
+    lattice: &Lattice,
+    inputs: &mut [Tagged],
+) -> Option<(u32, usize)>
+    requires widths { All IsSized fields.now }
+    requires places { length inputs.old ≡ length fields.now }
+    ensures end { IfSome result (λ r. r.1 ≡ position_or_len (λ b. b == 10) text.now) }
+    ensures within { IfSome result (λ r. r.1 < length text.now) }
+    ensures given { IfSome result (λ r. with_inputs (Ok r.0) inputs.new ≡ line_of lattice.now fields.now true (before_first (λ b. b == 10) text.now)) }
+    ensures fits { IfSome result (λ r. LineFits lattice.now fields.now inputs.new) }
+    ensures count { IfSome result (λ r. IsCount r.0) }
+    ensures places { length inputs.new ≡ length fields.now }
+{
+    let (line, _) = cut(text, b'\n');
+    if line.len() >= text.len() {
+        return None;
+    }
+    match read_line_into(line, true, fields, lattice, inputs) {
+        Ok(count) => Some((count, line.len())),
+        Err(_) => None,
+    }
 }
 
 /// What a line gives, without its LF; `ended` says whether it has one.
