@@ -1,11 +1,12 @@
 -- What a stimulus gives fits.
-use Rattle.std.proofs.Common.{◌≡◌, ℕ, zero, suc, ◌+◌, ◌<◌, ◌^◌, Bool, true, false, not, Option, Some, None, Result, Ok, Err, IfOk, eqb, ltb, List, [], ◌∷◌, ◌++◌, length, drop, replicate, refl, sym, subst, OnOk, if◌then◌else◌, arith}
+use Rattle.std.proofs.Common.{◌≡◌, ℕ, zero, suc, ◌+◌, ◌<◌, ◌^◌, Bool, true, false, not, Option, Some, None, Result, Ok, Err, IfOk, eqb, ltb, List, [], ◌∷◌, ◌++◌, length, drop, replicate, refl, sym, ap, subst, ◌∙◌, ◌≤◌, OnOk, if◌then◌else◌, arith}
 use Rattle.std.specs.Prelude.{IfSome, nat_lt}
 use Rattle.std.specs.List.{position_or_len, before_first, after_first}
 use Rattle.std.specs.Str.{bytes_eq}
 use Rattle.std.specs.Str.Parse.{digits_value}
 use Rattle.std.proofs.lemmas.Bool.Decides.{nat_tests}
-use borrow.Author.Tests.{ltb-true}
+use Rattle.std.proofs.lemmas.Bool.{le-ltb}
+use borrow.Author.Tests.{eq-eqb, ltb-true}
 use Rattle.sap_lattice.specs.Levels.{Levels, level_named, order_of, order_by}
 use Rattle.sap_meaning.specs.Cycle.{Tagged as Given}
 use Rattle.sap_stream.specs.Spans.{Span, IsCount}
@@ -154,3 +155,15 @@ given_fits ls bottom fs texts inputs given (Ok count) =
     let P : Result (List Given) StimCode → Type 0 = λ x. IfOk x (LineFits ls fs) in
     subst P (sym given) (inputs_fit ls bottom fs texts)
 given_fits ls bottom fs texts inputs given (Err code) = tt
+
+-- what a line gives whose fields and count are read
+pub line_given : (ls : Levels) (fs : List Field) (text : List ℕ) (inputs : List Given) (count : ℕ) → length text ≤ 65536 → length (fields_of text) ≡ length fs
+    → Ok inputs ≡ inputs_of ls fs (fields_of text) → Ok count ≡ count_of (count_in (pieces_of text)) → Ok (record { inputs = inputs; count = count }) ≡ line_of ls fs true text
+line_given ls fs text inputs count short n given number =
+    let counted : List Given → Result ℕ StimCode → Result Span StimCode = λ xs r. and_then r (λ k. Ok (record { inputs = xs; count = k })) in
+    let fields : Result (List Given) StimCode → Result Span StimCode = λ r. and_then r (λ xs. counted xs (count_of (count_in (pieces_of text)))) in
+    let judged : Bool → Result Span StimCode = λ t. if not t then Err S4 else fields (inputs_of ls fs (fields_of text)) in
+    sym (ap (λ (t : Bool). if t then Err S1 else judged (eqb (length (fields_of text)) (length fs))) (le-ltb 65536 (length text) short)
+    ∙ ap judged (eq-eqb (length (fields_of text)) (length fs) n)
+    ∙ ap fields (sym given)
+    ∙ ap (counted inputs) (sym number))

@@ -1,12 +1,13 @@
 -- Fields, read from the left while nothing is wrong.
-use Rattle.std.proofs.Common.{◌≡◌, ℕ, ◌+◌, ◌<◌, Bool, true, false, cond, List, [], ◌∷◌, ◌++◌, length, refl, sym, ap, ◌∙◌, inl, inr, append_assoc, length-append, arith}
+use Rattle.std.proofs.Common.{◌≡◌, ℕ, zero, suc, ◌+◌, ◌-◌, ◌<◌, ◌≤◌, Bool, true, false, cond, Ok, List, [], ◌∷◌, ◌++◌, length, get_or, drop, take, refl, sym, ap, ◌∙◌, inl, inr, append_assoc, length-append, arith}
 use Rattle.std.specs.List.{position_or_len, before_first, after_first}
 use Rattle.std.proofs.lemmas.Bool.{cases_lt}
 use Rattle.sap_lattice.specs.Levels.{Levels}
 use Rattle.sap_meaning.specs.Cycle.{Tagged as Given}
 use Rattle.sap_stim.specs.declared.field.Field.{Field}
 use Rattle.sap_text.specs.Lines.{split_at}
-use Rattle.sap_stim.specs.Line.{is_starred, fields_in, fields_of, inputs_of}
+use Rattle.sap_stim.specs.Line.{field_of, is_starred, fields_in, fields_of, inputs_of}
+use Rattle.sap_stim.proofs.Marks.{front_length, line, mark_behind}
 use Rattle.sap_stim.proofs.Pieces.{is_mark, split_marked, split_unmarked, before_unmarked}
 use Rattle.sap_stim.proofs.LastPiece.{IsUnmarked, fields_last}
 use Rattle.sap_stim.proofs.EachField.{read_on, EnoughLeft}
@@ -57,3 +58,34 @@ pub fields_before : (line : List ℕ) (k : ℕ) (piece : List ℕ) → 0 < lengt
 fields_before line k piece h last starred =
     ap length (fields_by_last line k piece h last ∙ ap (λ (t : Bool). cond t last.0 (last.0 ++ piece ∷ [])) starred)
     ∙ last.1
+
+-- what a field gives, where it stands in a text that is another's end
+pub field_given : (ls : Levels) (fs : List Field) (k : ℕ) (d : Field) (x : Given) (rest s : List ℕ) → rest ≡ s → Ok x ≡ field_of ls (get_or fs k d) (before_first (is_mark 32) (line rest))
+    → Ok x ≡ field_of ls (get_or fs k d) (before_first (is_mark 32) (line s))
+field_given ls fs k d x rest s same e = e ∙ ap (λ (l : List ℕ). field_of ls (get_or fs k d) (before_first (is_mark 32) (line l))) same
+
+-- the last piece of the line at the front of a text, behind so many others: it stands at a place, and the line ends with it
+abbrev pub EndsAhead : List ℕ → ℕ → ℕ → ℕ → Type 0
+EndsAhead s k at size = IsLast (line s) k (take (at + size - at) (drop at s)) × (at + size ≡ position_or_len (is_mark 10) s)
+
+pub piece_same : (s : List ℕ) (at size : ℕ) (rest : List ℕ) → rest ≡ drop at s → take (at + size - at) (drop at s) ≡ take size rest
+piece_same s at size rest same =
+    let size_is : at + size - at ≡ size = omega arith in
+    ap (λ (j : ℕ). take j (drop at s)) size_is ∙ ap (take size) (sym same)
+
+pub last_ahead : (s : List ℕ) (k at size : ℕ) (rest : List ℕ) → rest ≡ drop at s → IsLeft (line s) k (line (drop at s)) → at ≤ position_or_len (is_mark 10) s
+    → size ≡ position_or_len (is_mark 32) (line rest) → size ≡ position_or_len (is_mark 10) rest → EndsAhead s k at size
+last_ahead s k at size rest same left within field whole =
+    let field_here : size ≡ position_or_len (is_mark 32) (line (drop at s)) = field ∙ ap (λ (l : List ℕ). position_or_len (is_mark 32) (line l)) same in
+    let whole_here : size ≡ position_or_len (is_mark 10) (drop at s) = whole ∙ ap (position_or_len (is_mark 10)) same in
+    let last : IsLast (line s) k (line (drop at s)) = left_whole (line s) k (line (drop at s)) left (omega (arith, front_length 10 (drop at s), field_here, whole_here)) in
+    let size_is : at + size - at ≡ position_or_len (is_mark 10) (drop at s) = omega (arith, whole_here) in
+    let piece : line (drop at s) ≡ take (at + size - at) (drop at s) = ap (λ (j : ℕ). take j (drop at s)) (sym size_is) in (
+      (last.0, last.1, last.2 ∙ ap (λ (p : List ℕ). last.0 ++ p ∷ []) piece),
+      omega (arith, whole_here, mark_behind 10 s at within),
+    )
+
+-- a piece that begins with `*` has a byte
+pub starred_some : (size : ℕ) (s : List ℕ) → is_starred (take size s) ≡ true → 0 < size
+starred_some zero s e = absurd (let f : false ≡ true = e in let g : ⊥ = cc in g)
+starred_some (suc n) s e = omega arith

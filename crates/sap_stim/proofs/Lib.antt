@@ -1,4 +1,5 @@
 pub mod Pieces
+pub mod Marks
 pub mod LastPiece
 pub mod Counts
 pub mod EachField

@@ -18,6 +18,7 @@ use Rattle.sap_stim.specs.declared.fault.StimCode.{StimCode}
 use Rattle.sap_stim.specs.declared.fault.StimCode.TheVariants.{S1, S2}
 use Rattle.sap_stim.specs.Line.{and_then, is_value, value_of, with_level, tagged_of}
 use Rattle.sap_stim.proofs.Fronts.{ends_behind}
+use Rattle.sap_stim.proofs.Marks.{front_behind, front_byte, front_length, front_take, kind_inside, line}
 use Rattle.sap_stim.proofs.Pieces.{is_mark, piece_ends}
 
 -- where a byte lies that is a digit
@@ -103,3 +104,16 @@ tagged_first ls width s k number level p some few more all mark is small ends na
           (is ∙ ap (digits_value 10) (sym front)) small (named ∙ ap (level_named ls.names) name)
           ∙ ap (tagged_of ls width) whole,
     )
+
+-- the same of a text that has lines behind
+pub tagged_ahead : (ls : Levels) (width : ℕ) (s : List ℕ) (k number level p : ℕ) → 0 < k → k ≤ 20 → k < length s → list_all is_ascii_digit (take k s) ≡ true → get_or s k 0 ≡ 64
+    → number ≡ digits_value 10 (take k s) → nat_lt number (2 ^ width) ≡ true → p ≡ position_or_len (is_mark 32) (line (drop (k + 1) s)) → 0 < p
+    → Some level ≡ level_named ls.names (before_first (is_mark 32) (line (drop (k + 1) s)))
+    → (k + 1 + p ≡ position_or_len (is_mark 32) (line s)) × (Ok (record { number = number; level = level }) ≡ tagged_of ls width (before_first (is_mark 32) (line s)))
+tagged_ahead ls width s k number level p some few more all mark is small ends named_some named =
+    let inside : k < position_or_len (is_mark 10) s = kind_inside is_ascii_digit 10 refl s k more all (λ lf. omega (arith, lf, mark)) in
+    let front : take k (line s) ≡ take k s = front_take 10 s k (omega (arith, inside)) in
+    let rest : drop (k + 1) (line s) ≡ line (drop (k + 1) s) = front_behind 10 s (k + 1) (omega (arith, inside)) in
+    tagged_first ls width (line s) k number level p some few (omega (arith, inside, front_length 10 s)) (ap (list_all is_ascii_digit) front ∙ all) (front_byte 10 s k inside ∙ mark)
+    (is ∙ ap (digits_value 10) (sym front)) small (ends ∙ ap (position_or_len (is_mark 32)) (sym rest)) named_some
+    (named ∙ ap (λ (l : List ℕ). level_named ls.names (before_first (is_mark 32) l)) (sym rest))

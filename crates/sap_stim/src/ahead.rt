@@ -1,6 +1,7 @@
-//! The field at the front of a text, in one look.
+//! The field at the front of a text, in one look. It ends before the first space or LF.
 
-ghost use Rattle.std.specs.Prelude.{◌≡◌, ◌==◌, ◌≤◌, ◌⊎◌, IfSome, IsTrue, Ok, Some, length, slice_index_or, take, true};
+ghost use Rattle.std.specs.Prelude.{◌≡◌, ◌==◌, ◌≤◌, ◌<◌, ◌⊎◌, IfSome, IsTrue, Ok, Some, length, slice_index_or, take, true};
+ghost use Rattle.std.specs.Bool.{IsFalse};
 ghost use Rattle.std.specs.Char.{is_ascii_digit};
 ghost use Rattle.std.specs.List.{before_first, list_all, position_or_len};
 ghost use Rattle.std.specs.Str.Parse.{digits_value};
@@ -10,7 +11,6 @@ ghost use Rattle.sap_stim.specs.Line.{IsSized, field_of, tagged_of};
 
 use crate::MOST_DIGITS;
 use crate::field::Field;
-use crate::text::cut;
 use crate::value::{find_level, is_within, read_field};
 use sap_lattice::lattice::Lattice;
 use sap_lattice::level::Level;
@@ -64,55 +64,96 @@ fn leading_number(text: &[u8]) -> (u64, usize)
     (number * 10 + u64::from(text[count] - b'0'), count + 1)
 }
 
-/// Whether a text ends at a place, or a space stands there.
+/// Whether a text ends at a place, or a space or an LF stands there.
 #[inline(always)]
 fn ends_at(text: &[u8], at: usize) -> bool
     ensures within { IsTrue result → at ≤ length text.now }
-    ensures end { IsTrue result → (length text.now ≡ at) ⊎ (slice_index_or text.now at 0 ≡ 32) }
+    ensures end { IsTrue result → (length text.now ≡ at) ⊎ (slice_index_or text.now at 0 ≡ 32) ⊎ (slice_index_or text.now at 0 ≡ 10) }
 {
     if at >= text.len() {
         return at == text.len();
     }
-    text[at] == b' '
+    text[at] == b' ' || text[at] == b'\n'
 }
 
-/// Whether a text begins with a word, and a space or its end stands behind that.
+/// Whether a text begins with a word.
 #[inline(always)]
 fn begins_with(text: &[u8], word: &[u8]) -> bool
-    requires { is_word word.now ≡ true }
-    ensures end { IsTrue result → length word.now ≡ position_or_len (λ b. b == 32) text.now }
-    ensures word { IsTrue result → word.now ≡ before_first (λ b. b == 32) text.now }
+    ensures { IsTrue result → take (length word.now) text.now ≡ word.now }
 {
-    if !ends_at(text, word.len()) {
+    if word.len() > text.len() {
         return false;
     }
-    &text[..word.len()] == word
+    let mut k = 0;
+    while k < word.len() {
+        if text[k] != word[k] {
+            return false;
+        }
+        k += 1;
+    }
+    true
 }
 
-/// How long the name of a level is, where it stands at the front of a text, before a space or the end.
+/// Whether a word is the field at the front of a text.
+#[inline(always)]
+fn is_first(text: &[u8], word: &[u8]) -> bool
+    requires { is_word word.now ≡ true }
+    ensures end { IsTrue result → length word.now ≡ position_or_len (λ b. b == 32) (before_first (λ b. b == 10) text.now) }
+    ensures within { IsTrue result → length word.now ≤ length text.now }
+    ensures word { IsTrue result → word.now ≡ before_first (λ b. b == 32) (before_first (λ b. b == 10) text.now) }
+{
+    if !begins_with(text, word) {
+        return false;
+    }
+    ends_at(text, word.len())
+}
+
+/// How long the name of a level is, where it is the field at the front of a text.
 #[inline(always)]
 fn name_ahead(text: &[u8], lattice: &Lattice, level: Level) -> Option<usize>
-    ensures end { IfSome result (λ n. n ≡ position_or_len (λ b. b == 32) text.now) }
+    ensures end { IfSome result (λ n. n ≡ position_or_len (λ b. b == 32) (before_first (λ b. b == 10) text.now)) }
     ensures within { IfSome result (λ n. n ≤ length text.now) }
-    ensures level { IfSome result (λ n. Some level ≡ level_named lattice.now.names (before_first (λ b. b == 32) text.now)) }
+    ensures level { IfSome result (λ n. Some level ≡ level_named lattice.now.names (before_first (λ b. b == 32) (before_first (λ b. b == 10) text.now))) }
 {
     lattice.lawful();
     if u32::from(level.place()) >= lattice.count() {
         return None;
     }
     let name = lattice.name(level).as_bytes();
-    if !begins_with(text, name) {
+    if !is_first(text, name) {
         return None;
     }
     Some(name.len())
 }
 
-/// The level whose name stands at the front of a text, before a space or the end. The level `last` is tried first, then
-/// the first few of the lattice.
+/// How long the field at the front of a text is.
+pub(crate) fn field_len(text: &[u8]) -> usize
+    ensures end { result ≡ position_or_len (λ b. b == 32) (before_first (λ b. b == 10) text.now) }
+    ensures within { result ≤ length text.now }
+{
+    let mut size = 0;
+    while size < text.len() && text[size] != b' ' && text[size] != b'\n' {
+        size += 1;
+    }
+    size
+}
+
+/// The field at the front of a text.
+fn first_field(text: &[u8]) -> &[u8]
+    ensures field { result.now ≡ before_first (λ b. b == 32) (before_first (λ b. b == 10) text.now) }
+    ensures end { length result.now ≡ position_or_len (λ b. b == 32) (before_first (λ b. b == 10) text.now) }
+    ensures within { length result.now ≤ length text.now }
+{
+    let size = field_len(text);
+    &text[..size]
+}
+
+/// The level whose name is the field at the front of a text. The level `last` is tried first, then the first few of the
+/// lattice.
 fn level_ahead(text: &[u8], lattice: &Lattice, last: Level) -> Option<(Level, usize)>
-    ensures end { IfSome result (λ r. r.1 ≡ position_or_len (λ b. b == 32) text.now) }
+    ensures end { IfSome result (λ r. r.1 ≡ position_or_len (λ b. b == 32) (before_first (λ b. b == 10) text.now)) }
     ensures within { IfSome result (λ r. r.1 ≤ length text.now) }
-    ensures level { IfSome result (λ r. Some r.0 ≡ level_named lattice.now.names (before_first (λ b. b == 32) text.now)) }
+    ensures level { IfSome result (λ r. Some r.0 ≡ level_named lattice.now.names (before_first (λ b. b == 32) (before_first (λ b. b == 10) text.now))) }
 {
     let mut level = last;
     for place in 0..TRIED_LEVELS {
@@ -121,18 +162,20 @@ fn level_ahead(text: &[u8], lattice: &Lattice, last: Level) -> Option<(Level, us
         }
         level = Level::new(place);
     }
-    let (name, _) = cut(text, b' ');
+    let name = first_field(text);
     let level = find_level(lattice, name)?;
     Some((level, name.len()))
 }
 
 /// What the field of a value and a level at the front of a text gives, and where it ends, where the value is small and
 /// nothing is wrong.
+#[inline(always)]
 fn tagged_ahead(text: &[u8], width: u32, lattice: &Lattice, last: Level) -> Option<(Tagged, usize)>
     requires wide { 1 ≤ width }
     requires narrow { width ≤ 64 }
-    ensures end { IfSome result (λ r. r.1 ≡ position_or_len (λ b. b == 32) text.now) }
-    ensures given { IfSome result (λ r. Ok r.0 ≡ tagged_of lattice.now width (before_first (λ b. b == 32) text.now)) }
+    ensures end { IfSome result (λ r. r.1 ≡ position_or_len (λ b. b == 32) (before_first (λ b. b == 10) text.now)) }
+    ensures within { IfSome result (λ r. r.1 ≤ length text.now) }
+    ensures given { IfSome result (λ r. Ok r.0 ≡ tagged_of lattice.now width (before_first (λ b. b == 32) (before_first (λ b. b == 10) text.now))) }
 {
     let (number, count) = leading_number(text);
     if count < 1 || count > MOST_DIGITS || !is_within(number, width) {
@@ -150,6 +193,7 @@ fn tagged_ahead(text: &[u8], width: u32, lattice: &Lattice, last: Level) -> Opti
 
 /// What the field at the front of a text gives, and where it ends, where nothing is wrong with it. The level `last` is
 /// tried first.
+#[inline(always)]
 pub fn field_ahead(
     text: &[u8],
     field: Field,
@@ -157,17 +201,31 @@ pub fn field_ahead(
     last: Level,
 ) -> Option<(Tagged, usize)>
     requires { IsSized field }
-    ensures end { IfSome result (λ r. r.1 ≡ position_or_len (λ b. b == 32) text.now) }
-    ensures given { IfSome result (λ r. Ok r.0 ≡ field_of lattice.now field (before_first (λ b. b == 32) text.now)) }
+    ensures end { IfSome result (λ r. r.1 ≡ position_or_len (λ b. b == 32) (before_first (λ b. b == 10) text.now)) }
+    ensures within { IfSome result (λ r. r.1 ≤ length text.now) }
+    ensures given { IfSome result (λ r. Ok r.0 ≡ field_of lattice.now field (before_first (λ b. b == 32) (before_first (λ b. b == 10) text.now))) }
 {
     if let Field::Tagged(width) = field {
         if let Some(found) = tagged_ahead(text, width, lattice, last) {
             return Some(found);
         }
     }
-    let (text, _) = cut(text, b' ');
-    match read_field(text, field, lattice) {
-        Ok(input) => Some((input, text.len())),
+    let first = first_field(text);
+    match read_field(first, field, lattice) {
+        Ok(input) => Some((input, first.len())),
         Err(_) => None,
     }
+}
+
+/// Whether the line at the front of a text ends where its first field does.
+#[inline(always)]
+pub(crate) fn ends_line(text: &[u8], size: usize) -> bool
+    requires { size ≡ position_or_len (λ b. b == 32) (before_first (λ b. b == 10) text.now) }
+    ensures whole { IsTrue result → size ≡ position_or_len (λ b. b == 10) text.now }
+    ensures more { IsFalse result → size < position_or_len (λ b. b == 10) text.now }
+{
+    if size >= text.len() {
+        return true;
+    }
+    text[size] == b'\n'
 }

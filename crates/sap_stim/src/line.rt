@@ -7,7 +7,7 @@ ghost use Rattle.sap_stim.specs.Fits.{LineFits};
 ghost use Rattle.sap_stim.specs.Line.{IsSized, fields_of, inputs_of, line_of, with_inputs};
 
 use crate::MOST_LINE_BYTES;
-use crate::along::read_along;
+use crate::along::{read_ahead, read_along};
 use crate::count::read_count;
 use crate::fault::StimCode;
 use crate::field::Field;
@@ -94,12 +94,13 @@ pub fn line_ahead(
     ensures count { IfSome result (λ r. IsCount r.0) }
     ensures places { length inputs.new ≡ length fields.now }
 {
-    let (line, _) = cut(text, b'\n');
-    if line.len() >= text.len() {
+    lattice.lawful();
+    let (start, end) = read_ahead(text, fields, lattice, inputs)?;
+    if end > MOST_LINE_BYTES || end >= text.len() {
         return None;
     }
-    match read_line_into(line, true, fields, lattice, inputs) {
-        Ok(count) => Some((count, line.len())),
+    match read_count(&text[start..end]) {
+        Ok(count) => Some((count, end)),
         Err(_) => None,
     }
 }

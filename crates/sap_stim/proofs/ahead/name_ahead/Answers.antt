@@ -6,4 +6,4 @@ pub returns-clause-level : goal.returns-clause-level
 returns-clause-level c =
     named_last c.args.lattice.now.names c.lawful.ensures.names c.args.level c.as_bytes-name.result.now _
     (omega (arith, c.if-from-count.false, c.count.ensures.names, c.from.ensures, c.place.ensures))
-    (c.as_bytes-name.ensures ∙ c.name.ensures) (c.if-not-begins_with.ensures.word refl)
+    (c.as_bytes-name.ensures ∙ c.name.ensures) (c.if-not-is_first.ensures.word refl)
