@@ -30,9 +30,8 @@ fn simpler(
     Ok(fold(width, bits))
 }
 
-/// The operand that has the value of a right side at a width, after one more wire where it needs one, and after those that the rules ask for. One rule often
-/// makes room for another, so there are three rounds.
-pub fn fold_into(
+/// The operand that has the value of a right side, after three rounds of the rules: one rule often makes room for another.
+fn fold_in_rounds(
     alloc: Global,
     wires: &mut Wires,
     taken: &NameSet,
@@ -48,4 +47,22 @@ pub fn fold_into(
     let folded = simpler(alloc, wires, taken, width, twice)?;
     let operand = wires.provide(alloc, taken, width, folded)?;
     Ok(operand)
+}
+
+/// The operand that has the value of a right side at a width: the copied one, or that of one more wire where it needs one, after those that the rules ask for.
+pub fn fold_into(
+    alloc: Global,
+    wires: &mut Wires,
+    taken: &NameSet,
+    width: u32,
+    given: Right,
+) -> Result<Operand, AllocError>
+    requires { Orderly wires.old.numbers wires.old.list.items }
+    ensures orderly { OnOk result (Orderly wires.new.numbers wires.new.list.items) }
+    ensures gives { IfOk result (λ o. Gives (holds taken.now) wires.old.list.items wires.old.next width given o wires.new.list.items wires.new.next) }
+{
+    match given {
+        Right::Copy(operand) => Ok(operand),
+        given => fold_in_rounds(alloc, wires, taken, width, given),
+    }
 }
