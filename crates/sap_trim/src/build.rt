@@ -32,7 +32,8 @@ fn add_lasting(
     Ok(())
 }
 
-fn add_wires(alloc: Global, made: &mut Vec<Name>, wires: &[Wire]) -> Result<(), AllocError>
+/// Adds the names of wires.
+pub fn add_wires(alloc: Global, made: &mut Vec<Name>, wires: &[Wire]) -> Result<(), AllocError>
     ensures { OnOk result (made.new.items ≡ made.old.items ++ names_of wires.now) }
 {
     for wire in wires {
@@ -95,7 +96,7 @@ fn registers(
 ) -> Result<Vec<Register>, AllocError>
     ensures { IfOk result (λ rs. rs.items ≡ map (register_of (find stands.now)) registers.now) }
 {
-    let mut made = Vec::new(alloc);
+    let mut made = Vec::with_capacity(alloc, registers.len())?;
     for given in registers {
         made.push(register(alloc, stands, given)?)?;
     }
@@ -148,9 +149,14 @@ pub fn build(
     ensures { IfOk result (λ p. net_of p ≡ built netlist.now wires.items (find stands.now)) }
 {
     let module_name = netlist.module_name().copy(alloc)?;
-    let mut names = Vec::new(alloc);
+    let edge = netlist
+        .ports()
+        .len()
+        .saturating_add(netlist.registers().len());
+    let mut names = Vec::with_capacity(alloc, edge.saturating_add(wires.len()))?;
     add_lasting(alloc, &mut names, lasting, netlist.names())?;
     add_wires(alloc, &mut names, &wires)?;
+    wires.reserve_exact(netlist.ports().len())?;
     add_shown(alloc, &mut wires, shown, stands, netlist.wires())?;
     let ports = copy_ports(alloc, netlist.ports())?;
     let inputs = copy_inputs(alloc, netlist.inputs())?;

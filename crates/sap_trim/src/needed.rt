@@ -6,6 +6,7 @@ ghost use Rattle.sap_trim.specs.Names.{port_names};
 ghost use Rattle.sap_trim.specs.Needed.{Marks, MarksNeeded, is_marked};
 ghost use Rattle.sap_trim.specs.Reads.{edge_reads, memory_reads, operand_reads, operands_reads, register_reads, right_reads};
 
+use crate::build::add_wires;
 use sap_net::netlist::Netlist;
 use sap_net::parts::{Memory, Name, Operand, Port, Register, Right, Wire};
 use sap_share::places::Places;
@@ -15,11 +16,9 @@ use std::alloc::{AllocError, Global};
 fn places_of(alloc: Global, wires: &[Wire]) -> Result<Places, AllocError>
     ensures { IfOk result (λ m. m ≡ names_of wires.now) }
 {
-    let mut places = Places::new(alloc, Vec::new(alloc))?;
-    for wire in wires {
-        places.add(alloc, wire.name.copy(alloc)?)?;
-    }
-    Ok(places)
+    let mut names = Vec::with_capacity(alloc, wires.len())?;
+    add_wires(alloc, &mut names, wires)?;
+    Places::new(alloc, names)
 }
 
 fn fill(marks: &mut Vec<bool>, count: usize) -> Result<(), AllocError>

@@ -1,6 +1,6 @@
 //! Wires that have one number as long as a register has its start.
 
-ghost use Rattle.std.specs.Prelude.{◌≡◌, true, List, [], ◌∷◌, ◌++◌, IfOk, OnOk};
+ghost use Rattle.std.specs.Prelude.{◌≡◌, ◌≤◌, true, List, [], ◌∷◌, ◌++◌, length, IfOk, OnOk};
 ghost use Rattle.sap_maps.specs.Scope.{find};
 ghost use Rattle.sap_trim.specs.Stays as spec;
 
@@ -151,14 +151,40 @@ fn put_wires(alloc: Global, stays: &mut Table<Stay>, wires: &[Wire]) -> Result<(
     Ok(())
 }
 
-/// What the registers and wires of a netlist stay at.
-pub fn stays(alloc: Global, netlist: &Netlist) -> Result<Table<Stay>, AllocError>
-    ensures { IfOk result (λ s. spec.AllStay netlist.now.wires (find s)) }
+/// What registers and wires stay at.
+pub fn stays(
+    alloc: Global,
+    registers: &[Register],
+    wires: &[Wire],
+) -> Result<Table<Stay>, AllocError>
+    ensures { IfOk result (λ s. spec.AllStay wires.now (find s)) }
 {
     let mut stays = Table::new(alloc, Vec::new(alloc))?;
-    put_registers(alloc, &mut stays, netlist.registers())?;
-    put_wires(alloc, &mut stays, netlist.wires())?;
+    put_registers(alloc, &mut stays, registers)?;
+    put_wires(alloc, &mut stays, wires)?;
     Ok(stays)
+}
+
+/// How many wires stand before the copies at the end.
+fn before_copies(wires: &[Wire]) -> usize
+    ensures { result ≤ length wires.now }
+{
+    let mut rest = wires.len();
+    while rest > 0 {
+        if !matches!(&wires[rest - 1].right, Right::Copy(_)) {
+            return rest;
+        }
+        rest -= 1;
+    }
+    0
+}
+
+/// What the registers and wires of a folded netlist stay at. Nothing in it reads the copies behind its wires, so that they are left out.
+pub fn folded_stays(alloc: Global, netlist: &Netlist) -> Result<Table<Stay>, AllocError>
+    ensures { IfOk result (λ s. spec.AllStay netlist.now.wires (find s)) }
+{
+    let wires = netlist.wires();
+    stays(alloc, netlist.registers(), &wires[..before_copies(wires)])
 }
 
 /// Whether a stay is at the number, as long as the register has it.
@@ -185,12 +211,15 @@ pub fn keeps_start(
     }
 }
 
-/// How many registers of a netlist keep their start, as far as its wires tell.
-pub fn count_kept(alloc: Global, netlist: &Netlist) -> Result<usize, AllocError> {
-    let stays = stays(alloc, netlist)?;
+/// How many of the registers keep their start, as far as this tells.
+pub fn count_kept(
+    alloc: Global,
+    stays: &Table<Stay>,
+    registers: &[Register],
+) -> Result<usize, AllocError> {
     let mut count = 0;
-    for register in netlist.registers() {
-        if keeps_start(alloc, &stays, register)? {
+    for register in registers {
+        if keeps_start(alloc, stays, register)? {
             count += 1;
         }
     }

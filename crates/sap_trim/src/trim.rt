@@ -14,6 +14,7 @@ ghost use Rattle.sap_trim.specs.Needed.{MarksNeeded};
 ghost use Rattle.sap_trim.specs.Reads.{ReadsWires};
 ghost use Rattle.sap_share.specs.Copying.{CopiesPorts};
 ghost use Rattle.sap_trim.specs.Trimmed.{FoldsWires, NamesWires, NumbersWires, SharesWires};
+ghost use Rattle.sap_trim.specs.Stays.{AllStay};
 ghost use Rattle.sap_trim.specs.Tidied.{SettledNet, Tidied};
 ghost use Rattle.sap_trim.specs.Walked.{Begins, state_of};
 
@@ -21,7 +22,7 @@ use crate::build::build;
 use crate::left::wires_left;
 use crate::names;
 use crate::needed::needed;
-use crate::stays::count_kept;
+use crate::stays::{Stay, count_kept, folded_stays, stays};
 use crate::walk::Walk;
 use sap_fold::wires::Wires;
 use sap_net::netlist::Netlist;
@@ -71,40 +72,43 @@ fn made_by(walk: Walk) -> Made
 }
 
 // The wires with their right sides folded and shared.
-fn folded_wires(alloc: Global, netlist: &Netlist, lasting: &NameSet) -> Result<Made, AllocError>
-    requires { AreSame lasting.now (lasting_names netlist.now) }
+fn folded_wires(
+    alloc: Global,
+    netlist: &Netlist,
+    stays: Table<Stay>,
+    lasting: &NameSet,
+) -> Result<Made, AllocError>
+    requires stays { AllStay netlist.now.wires (find stays) }
+    requires lasting { AreSame lasting.now (lasting_names netlist.now) }
     ensures rules { IfOk result (λ m. IsNetlist (built netlist.now m.wires.items (find m.stands))) }
     ensures declares { IfOk result (λ m. DeclaresAlike netlist.now (built netlist.now m.wires.items (find m.stands))) }
     ensures same { IfOk result (λ m. RunsAlike netlist.now (built netlist.now m.wires.items (find m.stands))) }
     ensures folded { IfOk result (λ m. IsFolded (built netlist.now m.wires.items (find m.stands))) }
 {
     netlist.rules();
-    let mut walk = Walk::with_starts(alloc, netlist)?;
+    let mut walk = Walk::with_starts(alloc, netlist, stays)?;
     walk.fold_all(alloc, lasting, netlist.wires())?;
     Ok(made_by(walk))
 }
 
 /// The netlist with right sides folded and shared.
-fn fold_wires(alloc: Global, netlist: &Netlist, known: &Known) -> Result<Netlist, AllocError>
+fn fold_wires(
+    alloc: Global,
+    netlist: &Netlist,
+    stays: Table<Stay>,
+    known: &Known,
+) -> Result<Netlist, AllocError>
+    requires stays { AllStay netlist.now.wires (find stays) }
     requires lasting { AreSame known.now.lasting (lasting_names netlist.now) }
     requires shown { AreSame known.now.shown (port_names netlist.now) }
     ensures declares { IfOk result (λ n. DeclaresAlike netlist.now n) }
     ensures same { IfOk result (λ n. RunsAlike netlist.now n) }
     ensures folded { IfOk result (λ n. IsFolded n) }
 {
-    let made = folded_wires(alloc, netlist, &known.lasting)?;
+    let made = folded_wires(alloc, netlist, stays, &known.lasting)?;
     let Made { wires, stands } = made;
     let parts = build(alloc, netlist, &known.lasting, &known.shown, &stands, wires)?;
     Ok(Netlist::new(parts))
-}
-
-// How many wires of a netlist are left at most.
-fn left_of(alloc: Global, netlist: &Netlist, known: &Known) -> Result<usize, AllocError>
-    requires { AreSame known.now.shown (port_names netlist.now) }
-    ensures { IfOk result (λ k. k ≡ most_left netlist.now) }
-{
-    let kept = needed(alloc, netlist)?;
-    Ok(wires_left(netlist, &known.shown, &kept))
 }
 
 // How often a netlist is folded by what its wires say, at most.
@@ -117,7 +121,13 @@ struct Folded {
     kept: Vec<bool>,
 }
 
-fn folded_of(alloc: Global, netlist: &Netlist, known: &Known) -> Result<Folded, AllocError>
+fn folded_of(
+    alloc: Global,
+    netlist: &Netlist,
+    stays: Table<Stay>,
+    known: &Known,
+) -> Result<Folded, AllocError>
+    requires stays { AllStay netlist.now.wires (find stays) }
     requires lasting { AreSame known.now.lasting (lasting_names netlist.now) }
     requires shown { AreSame known.now.shown (port_names netlist.now) }
     ensures declares { IfOk result (λ f. DeclaresAlike netlist.now f.netlist) }
@@ -125,7 +135,7 @@ fn folded_of(alloc: Global, netlist: &Netlist, known: &Known) -> Result<Folded, 
     ensures folded { IfOk result (λ f. IsFolded f.netlist) }
     ensures kept { IfOk result (λ f. MarksNeeded f.netlist f.kept.items) }
 {
-    let folded = fold_wires(alloc, netlist, known)?;
+    let folded = fold_wires(alloc, netlist, stays, known)?;
     let kept = needed(alloc, &folded)?;
     Ok(Folded {
         netlist: folded,
@@ -179,7 +189,8 @@ fn settled_wires(alloc: Global, netlist: &Netlist, lasting: &NameSet) -> Result<
     ensures { IfOk result (λ m. SettledNet netlist.now (built netlist.now m.wires.items (find m.stands))) }
 {
     netlist.rules();
-    let mut walk = Walk::with_starts(alloc, netlist)?;
+    let stays = stays(alloc, netlist.registers(), netlist.wires())?;
+    let mut walk = Walk::with_starts(alloc, netlist, stays)?;
     walk.settle_all(alloc, lasting, netlist.wires())?;
     Ok(made_by(walk))
 }
@@ -248,26 +259,30 @@ pub fn trim(alloc: Global, netlist: Netlist) -> Result<Netlist, AllocError>
 {
     let known = known_of(alloc, &netlist)?;
     let mut small = share(alloc, netlist, &known)?;
-    let mut left = left_of(alloc, &small, &known)?;
-    let mut stay = count_kept(alloc, &small)?;
-    for _ in 0..ROUNDS {
+    let mut kept = needed(alloc, &small)?;
+    let mut left = wires_left(&small, &known.shown, &kept);
+    let mut before = 0;
+    for round in 0..ROUNDS {
         small.rules();
-        let round = folded_of(alloc, &small, &known)?;
-        let now = wires_left(&round.netlist, &known.shown, &round.kept);
+        let stays = folded_stays(alloc, &small)?;
+        let stay = count_kept(alloc, &stays, small.registers())?;
+        if round > 0 && stay <= before {
+            break;
+        }
+        before = stay;
+        let folded = folded_of(alloc, &small, stays, &known)?;
+        let now = wires_left(&folded.netlist, &known.shown, &folded.kept);
         if left < now {
             break;
         }
-        let Folded { netlist, kept } = round;
+        let Folded {
+            netlist,
+            kept: marks,
+        } = folded;
         small = netlist;
+        kept = marks;
         left = now;
-        let before = stay;
-        stay = count_kept(alloc, &small)?;
-        if stay <= before {
-            small.rules();
-            return number(alloc, small, &known, kept);
-        }
     }
     small.rules();
-    let kept = needed(alloc, &small)?;
     number(alloc, small, &known, kept)
 }

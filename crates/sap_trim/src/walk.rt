@@ -11,7 +11,7 @@ ghost use Rattle.sap_trim.specs.Stays.{AllStay};
 ghost use Rattle.sap_trim.specs.Walked.{Begins, Folds, Settles, StandForThemselves, Starts, StartsAt, Steps, Walked, itself, state_of, themselves};
 
 use crate::replace::replace;
-use crate::stays::{Stay, keeps_start, stays};
+use crate::stays::{Stay, keeps_start};
 use sap_fold::folding::fold_into;
 use sap_fold::wires::Wires;
 use sap_net::netlist::Netlist;
@@ -61,11 +61,15 @@ fn add_registers(
     Ok(())
 }
 
-/// Inputs and registers stand for themselves.
+/// Inputs and registers stand for themselves, and there is room for the wires.
 fn themselves(alloc: Global, netlist: &Netlist) -> Result<Table<Operand>, AllocError>
     ensures { IfOk result (λ t. t ≡ themselves netlist.now) }
 {
-    let mut entries = Vec::new(alloc);
+    let edge = netlist
+        .inputs()
+        .len()
+        .saturating_add(netlist.registers().len());
+    let mut entries = Vec::with_capacity(alloc, edge.saturating_add(netlist.wires().len()))?;
     add_inputs(alloc, &mut entries, netlist.inputs())?;
     add_registers(alloc, &mut entries, netlist.registers())?;
     Table::new(alloc, entries)
@@ -117,12 +121,16 @@ impl Walk {
     }
 
     /// No wires yet, and a register that keeps its start stands for that.
-    pub fn with_starts(alloc: Global, netlist: &Netlist) -> Result<Walk, AllocError>
+    pub fn with_starts(
+        alloc: Global,
+        netlist: &Netlist,
+        stays: Table<Stay>,
+    ) -> Result<Walk, AllocError>
+        requires { AllStay netlist.now.wires (find stays) }
         ensures begins { IfOk result (λ w. Begins netlist.now (state_of w)) }
         ensures orderly { IfOk result (λ w. Orderly w.wires.numbers w.wires.list.items) }
     {
         let mut stands = themselves(alloc, netlist)?;
-        let stays = stays(alloc, netlist)?;
         bind_starts(alloc, &mut stands, &stays, netlist.registers())?;
         let wires = Wires::new(alloc);
         Ok(Walk { wires, stands })

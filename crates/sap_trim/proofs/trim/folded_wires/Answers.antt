@@ -10,7 +10,7 @@ use Rattle.sap_trim.proofs.trim.folded_wires.Goals as goal
 pub returns-clause-rules : goal.returns-clause-rules
 returns-clause-rules c =
     (folded_all c.args.netlist.now (holds c.args.lasting.now) (state_of c.in_ok-walk.walk) (state_of c.fold_all.new.self) c.wires.result.now
-    (built c.args.netlist.now c.made_by.result.wires.items (find c.made_by.result.stands)) c.rules.ensures c.requires
+    (built c.args.netlist.now c.made_by.result.wires.items (find c.made_by.result.stands)) c.rules.ensures c.requires.lasting
     c.in_ok-walk.ensures.begins c.wires.ensures c.in_ok-fold_all.ensures.walked
     c.fold_all.new.self.wires.numbers c.in_ok-fold_all.ensures.orderly
     (ap₂ (λ (ws : List Wire) e. built c.args.netlist.now ws (find e)) c.made_by.ensures.wires c.made_by.ensures.stands)).rules
@@ -18,7 +18,7 @@ returns-clause-rules c =
 pub returns-clause-declares : goal.returns-clause-declares
 returns-clause-declares c =
     (folded_all c.args.netlist.now (holds c.args.lasting.now) (state_of c.in_ok-walk.walk) (state_of c.fold_all.new.self) c.wires.result.now
-    (built c.args.netlist.now c.made_by.result.wires.items (find c.made_by.result.stands)) c.rules.ensures c.requires
+    (built c.args.netlist.now c.made_by.result.wires.items (find c.made_by.result.stands)) c.rules.ensures c.requires.lasting
     c.in_ok-walk.ensures.begins c.wires.ensures c.in_ok-fold_all.ensures.walked
     c.fold_all.new.self.wires.numbers c.in_ok-fold_all.ensures.orderly
     (ap₂ (λ (ws : List Wire) e. built c.args.netlist.now ws (find e)) c.made_by.ensures.wires c.made_by.ensures.stands)).declares
@@ -26,7 +26,7 @@ returns-clause-declares c =
 pub returns-clause-same : goal.returns-clause-same
 returns-clause-same c =
     (folded_all c.args.netlist.now (holds c.args.lasting.now) (state_of c.in_ok-walk.walk) (state_of c.fold_all.new.self) c.wires.result.now
-    (built c.args.netlist.now c.made_by.result.wires.items (find c.made_by.result.stands)) c.rules.ensures c.requires
+    (built c.args.netlist.now c.made_by.result.wires.items (find c.made_by.result.stands)) c.rules.ensures c.requires.lasting
     c.in_ok-walk.ensures.begins c.wires.ensures c.in_ok-fold_all.ensures.walked
     c.fold_all.new.self.wires.numbers c.in_ok-fold_all.ensures.orderly
     (ap₂ (λ (ws : List Wire) e. built c.args.netlist.now ws (find e)) c.made_by.ensures.wires c.made_by.ensures.stands)).same
@@ -34,7 +34,7 @@ returns-clause-same c =
 pub returns-clause-folded : goal.returns-clause-folded
 returns-clause-folded c =
     (folded_all c.args.netlist.now (holds c.args.lasting.now) (state_of c.in_ok-walk.walk) (state_of c.fold_all.new.self) c.wires.result.now
-    (built c.args.netlist.now c.made_by.result.wires.items (find c.made_by.result.stands)) c.rules.ensures c.requires
+    (built c.args.netlist.now c.made_by.result.wires.items (find c.made_by.result.stands)) c.rules.ensures c.requires.lasting
     c.in_ok-walk.ensures.begins c.wires.ensures c.in_ok-fold_all.ensures.walked
     c.fold_all.new.self.wires.numbers c.in_ok-fold_all.ensures.orderly
     (ap₂ (λ (ws : List Wire) e. built c.args.netlist.now ws (find e)) c.made_by.ensures.wires c.made_by.ensures.stands)).folded

@@ -11,7 +11,7 @@ returns-clause-begins c =
       wires = c.new-wires.ensures.list;
       next = c.new-wires.ensures.next;
       stands = λ x. starts_over n.wires c.registers.result.now n.registers x _ _ _ c.registers.ensures
-          (c.in_ok-bind_starts.ensures {u = tt} n.wires (c.in_ok-stays.ensures {u = tt}) x) (ap (λ es. find es x) (c.in_ok-stands.ensures {u = tt}));
+          (c.in_ok-bind_starts.ensures {u = tt} n.wires c.requires x) (ap (λ es. find es x) (c.in_ok-stands.ensures {u = tt}));
     }
 
 pub returns-clause-orderly : goal.returns-clause-orderly
