@@ -65,6 +65,19 @@ next_told ls fs fields channel count count_now held now later line line_now live
     (λ t n. Tells next (read_from ls list (count + 1) (held ++ rest_of t channel)) line_now (read_from ls list (count_after next count + 1) (later ++ rest_of n channel)))) same
     (told_lines ls fs channel count held now later line_now next told told_now g h m decided tells small)))
 
+-- what an answer tells of bytes that stand as they were
+pub still_tells : (ls : Levels) (fs : List Field) (count : ℕ) (held now later : List ℕ) (line : Span) (next : Next) → now ≡ held
+    → ((rest : List ℕ) → IsDecided now ⊎ (rest ≡ []) → count < 2 ^ 32
+    → Tells next (read_from ls fs (count + 1) (now ++ rest)) line (read_from ls fs (count + 2) (later ++ rest)))
+    → (rest : List ℕ) → IsDecided held ⊎ (rest ≡ []) → count < 2 ^ 32
+    → Tells next (read_from ls fs (count + 1) (held ++ rest)) line (read_from ls fs (count + 2) (later ++ rest))
+still_tells ls fs count held now later line next same =
+    subst (λ (s : List ℕ). (rest : List ℕ) → IsDecided s ⊎ (rest ≡ []) → count < 2 ^ 32
+    → Tells next (read_from ls fs (count + 1) (s ++ rest)) line (read_from ls fs (count + 2) (later ++ rest))) same
+
+pub still_decided : (held now : List ℕ) (next : Next) → now ≡ held → (IsTrue (is_line next) → IsDecided now) → IsTrue (is_line next) → IsDecided held
+still_decided held now next same = subst (λ (s : List ℕ). IsTrue (is_line next) → IsDecided s) same
+
 -- on every desk
 
 module _ (ls : Levels) (fs : List Field) (count : ℕ) (held piece now later : List ℕ) (line : Span) (next : Next) (is : now ≡ held ++ piece)

@@ -202,3 +202,25 @@ pub shorter_by : (s now : List ℕ) (n : ℕ) → n + 1 ≤ length s → now ≡
 shorter_by s now n h left =
     let l : length now ≡ length s - (n + 1) = ap length left ∙ length-drop (n + 1) s in
     omega arith
+
+-- the same of a line that is read in one look, whose LF stands behind so many bytes
+
+pub has_lf : (s bytes : List ℕ) (len : ℕ) → bytes ≡ s → len ≡ place bytes → len < length bytes → place s < length s
+has_lf s bytes len same at within =
+    let l : length bytes ≡ length s = ap length same in
+    let there : place bytes ≡ place s = ap place same in
+    omega (arith, at, within)
+
+pub ahead_of : (ls : Levels) (fs : List Field) (count len : ℕ) (s bytes rest now : List ℕ) (line : Span) → bytes ≡ s → len ≡ place bytes → len < length bytes
+    → Ok line ≡ line_of ls fs true (before bytes) → now ≡ drop (len + 1) s
+    → read_from ls fs (count + 1) (s ++ rest) ≡ ahead line (read_from ls fs (count + 2) (now ++ rest))
+ahead_of ls fs count len s bytes rest now line same at within given left =
+    let marked : place s < length s = has_lf s bytes len same at within in
+    let size : length (before s) ≡ place s = length_before 10 s marked in
+    let sizes : len ≡ length (before s) = at ∙ ap place same ∙ sym size in
+    let test : ltb (length (before s)) (length s) ≡ true = lt-ltb (length (before s)) (length s) (omega (arith, size, marked)) in
+    line_taken ls fs (count + 1) (count + 2) s rest (before s) now true line (omega (arith, marked)) (inl (inr (marked_any s marked))) refl (sym test)
+    (given ∙ ap (λ (x : List ℕ). line_of ls fs true (before x)) same) (left ∙ ap (λ (k : ℕ). drop (k + 1) s) sizes) (omega arith)
+
+pub ahead_decided : (s bytes : List ℕ) (len : ℕ) → bytes ≡ s → len ≡ place bytes → len < length bytes → IsDecided s
+ahead_decided s bytes len same at within = inr (marked_any s (has_lf s bytes len same at within))

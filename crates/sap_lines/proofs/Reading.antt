@@ -148,6 +148,16 @@ pub held_so : (channel count : ℕ) (held now : List ℕ) (told : Option Told) �
 held_so channel count held now None size same = tt
 held_so channel count held now (Some t) size same = held_read channel count held now t size same
 
+pub read_count : (channel count : ℕ) (g h : ℕ → ℕ) → h ≡ at_number channel (g channel + count) g → h channel - g channel ≡ count
+read_count channel count g h given = let here : h channel ≡ g channel + count = number-at channel (g channel + count) g h given in omega arith
+
+-- so many bytes as the desk gave more
+pub held_read_so : (channel : ℕ) (held now : List ℕ) (told told_now : Option Told) (g h : ℕ → ℕ) → More channel held now told told_now g h
+    → IfSome told (λ t. now ≡ held ++ take (h channel - g channel) (rest_of t channel))
+held_read_so channel held now told told_now g h m =
+    subst (λ (n : ℕ). IfSome told (λ t. now ≡ held ++ take n (rest_of t channel))) (sym (read_count channel m.count g h m.given))
+    (held_so channel m.count held now told m.size m.bytes)
+
 -- where that doesn't tell the line
 pub wanted_so : (channel count : ℕ) (held now : List ℕ) (told : Option Told) → length now ≡ length held + count
     → IfSome told (λ t. now ++ drop count (rest_of t channel) ≡ held ++ rest_of t channel) → (IsDecided now → ⊥)
@@ -160,9 +170,6 @@ least_told : (channel count : ℕ) (held now : List ℕ) (t : Told) → length n
 least_told channel count held now t size same (inl none) = inl (let l : length now ≡ length held = ap length none in omega arith)
 least_told channel count held now t size same (inr (k, behind, before, most, undecided)) =
     inr (k - length held, omega arith, omega arith, λ decided. undecided (subst IsDecided (sym (take_same held now (rest_of t channel) count k same behind (omega arith))) decided))
-
-pub read_count : (channel count : ℕ) (g h : ℕ → ℕ) → h ≡ at_number channel (g channel + count) g → h channel - g channel ≡ count
-read_count channel count g h given = let here : h channel ≡ g channel + count = number-at channel (g channel + count) g h given in omega arith
 
 -- of what is read behind the bytes that were pending
 pub reads_least : (channel count : ℕ) (held now : List ℕ) (told : Option Told) (g h : ℕ → ℕ) → length now ≡ length held + count

@@ -16,7 +16,7 @@ use crate::Next;
 use crate::fetch::{fetch, is_decided};
 use crate::held::Held;
 use crate::next::keep;
-use crate::taken::take_line;
+use crate::taken::{take_ahead, take_line};
 use sap_desk::{Desk, Failed};
 use sap_lattice::lattice::Lattice;
 use sap_lattice::level::Level;
@@ -129,6 +129,16 @@ impl Lines {
     {
         match fetch(&mut self.held, desk, channel) {
             Ok(()) => {
+                if let Some(cycles) = take_ahead(
+                    &mut self.held,
+                    self.fields.as_slice(),
+                    lattice,
+                    &mut self.inputs,
+                ) {
+                    self.cycles = cycles;
+                    self.count = self.count.saturating_add(1);
+                    return Next::Line;
+                }
                 let next = take_line(
                     &mut self.held,
                     self.fields.as_slice(),

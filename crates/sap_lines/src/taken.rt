@@ -1,9 +1,9 @@
 //! Taking the next line from the bytes that are held.
 
-ghost use Rattle.std.specs.Prelude.{◌≡◌, ◌+◌, ◌≤◌, ◌<◌, ◌^◌, ◌++◌, ◌⊎◌, [], List, ℕ, All, IfOk, OnOk, IsTrue, false, length};
+ghost use Rattle.std.specs.Prelude.{◌≡◌, ◌+◌, ◌≤◌, ◌<◌, ◌^◌, ◌++◌, ◌⊎◌, [], List, ℕ, None, All, IfOk, IfSome, OnOk, IsTrue, false, length};
 ghost use Rattle.sap_stim.specs.Fits.{LineFits};
 ghost use Rattle.sap_stim.specs.Line.{IsSized, line_of, with_inputs};
-ghost use Rattle.sap_stim.specs.Stimulus.{read_from};
+ghost use Rattle.sap_stim.specs.Stimulus.{ahead, read_from};
 ghost use Rattle.sap_stream.specs.Spans.{IsCount};
 ghost use Rattle.sap_lines.specs.Answers.{Tells, is_failed, is_line, lines_in};
 ghost use Rattle.sap_lines.specs.Fetched.{IsDecided};
@@ -11,8 +11,32 @@ ghost use Rattle.sap_lines.specs.Fetched.{IsDecided};
 use crate::Next;
 use crate::held::Held;
 use sap_lattice::lattice::Lattice;
-use sap_stim::{Field, StimCode, StimFault, read_line_into};
+use sap_stim::{Field, StimCode, StimFault, line_ahead, read_line_into};
 use sap_stream::Inputs;
+
+/// Takes the next line in one look, where nothing is wrong with it, and gives for how many cycles it stands. None says
+/// nothing of it.
+pub fn take_ahead(
+    held: &mut Held,
+    fields: &[Field],
+    lattice: &Lattice,
+    inputs: &mut Inputs,
+) -> Option<u32>
+    requires widths { All IsSized fields.now }
+    requires places { length inputs.old ≡ length fields.now }
+    ensures tells { IfSome result (λ cycles. (count : ℕ) (rest : List ℕ) → read_from lattice.now fields.now (count + 1) (held.old ++ rest)
+        ≡ ahead (record { inputs = inputs.new; count = cycles }) (read_from lattice.now fields.now (count + 2) (held.new ++ rest))) }
+    ensures decided { IfSome result (λ _. IsDecided held.old) }
+    ensures fits { IfSome result (λ _. LineFits lattice.now fields.now inputs.new) }
+    ensures cycles { IfSome result IsCount }
+    ensures shorter { IfSome result (λ _. length held.new + 1 ≤ length held.old) }
+    ensures stands { (result ≡ None) → held.new ≡ held.old }
+    ensures places { length inputs.new ≡ length fields.now }
+{
+    let (cycles, len) = line_ahead(held.as_slice(), fields, lattice, &mut inputs.values)?;
+    held.skip(len + 1);
+    Some(cycles)
+}
 
 // Reads a line, without its LF, in place of the last one, and tells for how many cycles it stands.
 fn read_into(
