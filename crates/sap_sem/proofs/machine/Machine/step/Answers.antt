@@ -15,7 +15,7 @@ use Rattle.sap_sem.proofs.machine.Machine.step.Goals.{After-self}
 abbrev the : After-self → MachineSeen
 the c = record { lattice = c.self.inside.lattice; program = c.self.inside.program; store = c.self.inside.store; refusals = c.self.inside.refusals.items }
 
-after : (c : After-self) → After
+abbrev after : (c : After-self) → After
 after c = cycle (program_of (the c)) c.args.inputs.now (state_of (the c))
 
 listed : (c : After-self) → cycle_listed (program_of (the c)) c.args.inputs.now (state_of (the c)) ≡ after c
