@@ -24,12 +24,15 @@ has_end start ended bytes s ends within same =
     ] where
       size : length s ≡ length bytes - start
       size = ap length (sym same) ∙ length-drop start bytes
+
       at : (k : ℕ) → get_or s k 0 ≡ get_or bytes (start + k) 0
       at k = ap (λ (l : List ℕ). get_or l k 0) (sym same) ∙ get_or-drop start bytes k 0
+
       found : start < ended → list_any (λ b. eqb b 10) s ≡ true
       found behind =
           let last : start + (ended - 1 - start) ≡ ended - 1 = omega (arith, behind) in
           let is : get_or s (ended - 1 - start) 0 ≡ 10 = at (ended - 1 - start) ∙ ap (λ (k : ℕ). get_or bytes k 0) last ∙ ends.last behind in
           list_any_at (λ b. eqb b 10) s (ended - 1 - start) 0 (omega (arith, size, behind, ends.within)) (eq-eqb (get_or s (ended - 1 - start) 0) 10 is)
+
       none : ended ≤ start → list_any (λ b. eqb b 10) s ≡ false
       none before = none_there s (λ k h lf. ends.none (start + k) (omega (arith, before)) (omega (arith, h, size)) (sym (at k) ∙ lf))

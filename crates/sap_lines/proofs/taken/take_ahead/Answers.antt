@@ -1,10 +1,22 @@
+use Rattle.std.proofs.Common.{rules, ◌≡◌, ℕ, List, ◌++◌, length, take, drop, sym, ap, ◌∙◌, subst}
+use Rattle.std.proofs.Math.Seq.{take-append_seam}
+use Rattle.sap_meaning.specs.Cycle.{Tagged as Given}
 use Rattle.sap_lines.proofs.FirstLine.{ahead_decided, ahead_of}
 use Rattle.sap_lines.proofs.taken.take_ahead.Goals as goal
 
+-- a slice that was lent from a vector, as the vector has it back
+whole_back : (new items : List Given) (k : ℕ) → length new ≡ length items → k ≡ length items → take k (new ++ drop (length new) items) ≡ new
+whole_back new items k same whole =
+    subst (λ (n : ℕ). take n (new ++ drop (length new) items) ≡ new) (same ∙ sym whole) (take-append_seam new (drop (length new) items))
+
 pub returns-clause-tells : goal.returns-clause-tells
 returns-clause-tells c = λ count rest.
-    ahead_of c.args.lattice.now c.args.fields.now count c.in_ok-cycles.len c.args.held.now c.as_slice.result.now rest c.skip.new.self
-    _ c.as_slice.ensures c.in_ok-cycles.ensures.end c.in_ok-cycles.ensures.within c.in_ok-cycles.ensures.given c.skip.ensures
+    let new = c.line_ahead.new.inputs in
+    let items = c.inputs.inside.values.items in
+    let places : length new ≡ length items = c.line_ahead.ensures.places ∙ sym c.requires.places ∙ sym (ap length c.inputs.view_is) in
+    let whole : take c.inputs.inside.values.len (new ++ drop (length new) items) ≡ new = whole_back _ _ _ places (search rules) in
+    rw whole (ahead_of c.args.lattice.now c.args.fields.now count c.in_ok-cycles.len c.args.held.now c.as_slice.result.now rest c.skip.new.self
+    _ c.as_slice.ensures c.in_ok-cycles.ensures.end c.in_ok-cycles.ensures.within c.in_ok-cycles.ensures.given c.skip.ensures)
 
 pub returns-clause-decided : goal.returns-clause-decided
 returns-clause-decided c =

@@ -17,20 +17,20 @@ line_so inputs cycles = record { inputs = inputs; count = cycles }
 
 pub returns-in-Some-clause-lines : goal.returns-in-Some-clause-lines
 returns-in-Some-clause-lines g c =
-    next_told c.args.lattice.now c.as_slice.result.now c.self.inside.fields.items c.args.channel c.self.inside.count c.saturating_add.result
+    next_told c.args.lattice.now c.as_slice.result.now c.self.inside.fields.items c.args.channel c.self.inside.count c.saturating_add-self-inside.result
     c.self.inside.held c.fetch.new.held c.take_ahead.new.held
     _ (line_so c.take_ahead.new.inputs c.in-Some.cycles) c.self.inside.live c.self.inside.live Line _ _ _ _ c.args.self.now
-    c.self.view_is c.as_slice.ensures.value c.saturating_add.ensures
+    c.self.view_is c.as_slice.ensures.value c.saturating_add-self-inside.ensures
     c.in-Ok.ensures.more c.in-Ok.ensures.decided (λ rest decided small. c.in-Some.ensures.tells c.self.inside.count rest)
 
 pub returns-in-Some-clause-some : goal.returns-in-Some-clause-some
 returns-in-Some-clause-some g c = λ small.
     let behind = c.fetch.ensures.behind in (
       behind.0,
-      next_by c.args.lattice.now c.as_slice.result.now c.self.inside.fields.items c.self.inside.count c.saturating_add.result c.self.inside.held
+      next_by c.args.lattice.now c.as_slice.result.now c.self.inside.fields.items c.self.inside.count c.saturating_add-self-inside.result c.self.inside.held
           behind.0 c.fetch.new.held c.take_ahead.new.held
           _ (line_so c.take_ahead.new.inputs c.in-Some.cycles) c.self.inside.live c.self.inside.live Line c.args.self.now
-          c.self.view_is c.as_slice.ensures.value c.saturating_add.ensures
+          c.self.view_is c.as_slice.ensures.value c.saturating_add-self-inside.ensures
           behind.1 (λ _. c.in-Some.ensures.decided) (λ rest decided small. c.in-Some.ensures.tells c.self.inside.count rest) small,
     )
 
@@ -38,10 +38,10 @@ pub returns-in-Some-clause-by : goal.returns-in-Some-clause-by
 returns-in-Some-clause-by g c = λ small.
     let told = g.D.Desk.told c.args.desk.now in
     let read : ℕ = g.D.Desk.given c.fetch.new.desk c.args.channel - g.D.Desk.given c.args.desk.now c.args.channel in
-    next_read c.args.lattice.now c.as_slice.result.now c.self.inside.fields.items c.args.channel read c.self.inside.count c.saturating_add.result
+    next_read c.args.lattice.now c.as_slice.result.now c.self.inside.fields.items c.args.channel read c.self.inside.count c.saturating_add-self-inside.result
     c.self.inside.held c.fetch.new.held c.take_ahead.new.held
     _ (line_so c.take_ahead.new.inputs c.in-Some.cycles) c.self.inside.live c.self.inside.live Line c.args.self.now told
-    c.self.view_is c.as_slice.ensures.value c.saturating_add.ensures
+    c.self.view_is c.as_slice.ensures.value c.saturating_add-self-inside.ensures
     (held_read_so c.args.channel c.self.inside.held c.fetch.new.held told (g.D.Desk.told c.fetch.new.desk) (g.D.Desk.given c.args.desk.now)
     (g.D.Desk.given c.fetch.new.desk) c.in-Ok.ensures.more)
     (λ _. c.in-Some.ensures.decided) (λ rest decided small. c.in-Some.ensures.tells c.self.inside.count rest) small
@@ -55,44 +55,44 @@ returns-in-Some-clause-least g c =
 
 -- another answer
 
-pub returns-in-Ok-clause-lines : goal.returns-in-Ok-clause-lines
-returns-in-Ok-clause-lines g c =
-    next_told c.args.lattice.now c.as_slice-2.result.now c.self.inside.fields.items c.args.channel c.self.inside.count c.keep.new.count
+pub returns-in_default-clause-lines : goal.returns-in_default-clause-lines
+returns-in_default-clause-lines g c =
+    next_told c.args.lattice.now c.as_slice-in-Ok.result.now c.self.inside.fields.items c.args.channel c.self.inside.count c.keep.new.count
     c.self.inside.held c.fetch.new.held c.take_line-next.new.held
     _ (line_so c.take_line-next.new.inputs c.take_line-next.new.cycles) c.self.inside.live c.keep.new.live c.take_line-next.result _ _ _ _ c.args.self.now
-    c.self.view_is c.as_slice-2.ensures.value c.keep.ensures.count
+    c.self.view_is c.as_slice-in-Ok.ensures.value c.keep.ensures.count
     c.in-Ok.ensures.more c.in-Ok.ensures.decided
-    (still_tells c.args.lattice.now c.as_slice-2.result.now c.self.inside.count c.fetch.new.held c.take_ahead.new.held c.take_line-next.new.held _ c.take_line-next.result
+    (still_tells c.args.lattice.now c.as_slice-in-Ok.result.now c.self.inside.count c.fetch.new.held c.take_ahead.new.held c.take_line-next.new.held _ c.take_line-next.result
     (c.take_ahead.ensures.stands c.in_default.is) c.take_line-next.ensures.tells)
 
-pub returns-in-Ok-clause-some : goal.returns-in-Ok-clause-some
-returns-in-Ok-clause-some g c = λ small.
+pub returns-in_default-clause-some : goal.returns-in_default-clause-some
+returns-in_default-clause-some g c = λ small.
     let behind = c.fetch.ensures.behind in
     let still = c.take_ahead.ensures.stands c.in_default.is in (
       behind.0,
-      next_by c.args.lattice.now c.as_slice-2.result.now c.self.inside.fields.items c.self.inside.count c.keep.new.count c.self.inside.held
+      next_by c.args.lattice.now c.as_slice-in-Ok.result.now c.self.inside.fields.items c.self.inside.count c.keep.new.count c.self.inside.held
           behind.0 c.fetch.new.held c.take_line-next.new.held
           _ (line_so c.take_line-next.new.inputs c.take_line-next.new.cycles) c.self.inside.live c.keep.new.live c.take_line-next.result c.args.self.now
-          c.self.view_is c.as_slice-2.ensures.value c.keep.ensures.count behind.1
+          c.self.view_is c.as_slice-in-Ok.ensures.value c.keep.ensures.count behind.1
           (still_decided c.fetch.new.held c.take_ahead.new.held c.take_line-next.result still c.take_line-next.ensures.decided)
-          (still_tells c.args.lattice.now c.as_slice-2.result.now c.self.inside.count c.fetch.new.held c.take_ahead.new.held c.take_line-next.new.held
+          (still_tells c.args.lattice.now c.as_slice-in-Ok.result.now c.self.inside.count c.fetch.new.held c.take_ahead.new.held c.take_line-next.new.held
           _ c.take_line-next.result still c.take_line-next.ensures.tells)
           small,
     )
 
-pub returns-in-Ok-clause-by : goal.returns-in-Ok-clause-by
-returns-in-Ok-clause-by g c = λ small.
+pub returns-in_default-clause-by : goal.returns-in_default-clause-by
+returns-in_default-clause-by g c = λ small.
     let told = g.D.Desk.told c.args.desk.now in
     let read : ℕ = g.D.Desk.given c.fetch.new.desk c.args.channel - g.D.Desk.given c.args.desk.now c.args.channel in
     let still = c.take_ahead.ensures.stands c.in_default.is in
-    next_read c.args.lattice.now c.as_slice-2.result.now c.self.inside.fields.items c.args.channel read c.self.inside.count c.keep.new.count
+    next_read c.args.lattice.now c.as_slice-in-Ok.result.now c.self.inside.fields.items c.args.channel read c.self.inside.count c.keep.new.count
     c.self.inside.held c.fetch.new.held c.take_line-next.new.held
     _ (line_so c.take_line-next.new.inputs c.take_line-next.new.cycles) c.self.inside.live c.keep.new.live c.take_line-next.result c.args.self.now told
-    c.self.view_is c.as_slice-2.ensures.value c.keep.ensures.count
+    c.self.view_is c.as_slice-in-Ok.ensures.value c.keep.ensures.count
     (held_read_so c.args.channel c.self.inside.held c.fetch.new.held told (g.D.Desk.told c.fetch.new.desk) (g.D.Desk.given c.args.desk.now)
     (g.D.Desk.given c.fetch.new.desk) c.in-Ok.ensures.more)
     (still_decided c.fetch.new.held c.take_ahead.new.held c.take_line-next.result still c.take_line-next.ensures.decided)
-    (still_tells c.args.lattice.now c.as_slice-2.result.now c.self.inside.count c.fetch.new.held c.take_ahead.new.held c.take_line-next.new.held
+    (still_tells c.args.lattice.now c.as_slice-in-Ok.result.now c.self.inside.count c.fetch.new.held c.take_ahead.new.held c.take_line-next.new.held
     _ c.take_line-next.result still c.take_line-next.ensures.tells)
     small
 
@@ -102,8 +102,8 @@ returns-in-Err-clause-by g c = λ _. if_told (g.D.Desk.told c.args.desk.now) _ (
 pub returns-in-Err-clause-some : goal.returns-in-Err-clause-some
 returns-in-Err-clause-some g c = λ _. ([], λ rest _. tt)
 
-pub returns-in-Ok-clause-least : goal.returns-in-Ok-clause-least
-returns-in-Ok-clause-least g c =
+pub returns-in_default-clause-least : goal.returns-in_default-clause-least
+returns-in_default-clause-least g c =
     let count = g.D.Desk.given c.fetch.new.desk c.args.channel - g.D.Desk.given c.args.desk.now c.args.channel in
     subst (λ (r : Reader). IfSome (g.D.Desk.told c.args.desk.now) (ReadsLeast c.args.channel r.pending count)) c.self.view_is
     (reads_least c.args.channel c.in-Ok.ensures.more.count c.self.inside.held c.fetch.new.held (g.D.Desk.told c.args.desk.now)
