@@ -5,6 +5,7 @@ ghost use Rattle.std.specs.Fmt.{decimal};
 ghost use Rattle.sap_stim.specs.declared.flat.TheConstants.{MOST_SHOWN};
 ghost use Rattle.sap_stim.specs.Rows.{AreLevelTexts, all_shown, at_level, row_text, shown, shown_of, shown_text, label_text};
 
+use crate::head::RowHead;
 use crate::label::RowLabel;
 use crate::rows::level_of_tag;
 use crate::short::{MOST_SHORT, Short, put_text};
@@ -14,7 +15,8 @@ use sap_text::digits::Digits;
 /// How many bytes are written at most for a register whose label and level have short texts.
 const MOST_SHOWN: usize = MOST_SHORT + 8 + MOST_SHORT;
 
-fn put_byte(bytes: &mut [u8], at: usize, byte: u8) -> Option<usize>
+/// Writes a byte.
+pub(crate) fn put_byte(bytes: &mut [u8], at: usize, byte: u8) -> Option<usize>
     ensures { IfSome result (λ end. take end bytes.new ≡ take at bytes.old ++ byte ∷ []) }
 {
     if at >= bytes.len() {
@@ -24,8 +26,8 @@ fn put_byte(bytes: &mut [u8], at: usize, byte: u8) -> Option<usize>
     Some(at + 1)
 }
 
-// Writes a digit.
-fn put_digit(bytes: &mut [u8], at: usize, digit: u64) -> usize
+/// Writes a digit.
+pub(crate) fn put_digit(bytes: &mut [u8], at: usize, digit: u64) -> usize
     requires digit { digit < 10 }
     requires room { at < length bytes.old }
     ensures text { take result bytes.new ≡ take at bytes.old ++ (48 + digit) ∷ [] }
@@ -119,7 +121,7 @@ fn put_small(bytes: &mut [u8], at: usize, number: u64) -> usize
 }
 
 /// Writes a number in decimal digits.
-fn put_number(bytes: &mut [u8], at: usize, number: u64) -> Option<usize>
+pub(crate) fn put_number(bytes: &mut [u8], at: usize, number: u64) -> Option<usize>
     ensures { IfSome result (λ end. take end bytes.new ≡ take at bytes.old ++ decimal number) }
 {
     if number < 100_000_000 && at <= bytes.len() && bytes.len() - at >= 8 {
@@ -218,10 +220,10 @@ fn put_all(
     put_byte(bytes, end, b'\n')
 }
 
-/// Writes the row of a cycle at the front, and tells where it ends; none where there is little room.
+/// Writes a row at the front, its own front given, and tells where it ends; none where there is little room.
 pub fn put_row(
     bytes: &mut [u8],
-    cycle: u64,
+    head: &RowHead,
     labels: &[RowLabel],
     values: &[u64],
     tags: &[u64],
@@ -231,10 +233,8 @@ pub fn put_row(
     requires values { length values.now ≡ length labels.now }
     requires levels { AreLevelTexts lattice.now levels.now }
     requires tags { length tags.now ≡ length labels.now }
-    ensures { IfSome result (λ end. take end bytes.new ≡ row_text cycle (shown_of lattice.now labels.now values.now tags.now)) }
+    ensures { IfSome result (λ end. take end bytes.new ≡ row_text head.now (shown_of lattice.now labels.now values.now tags.now)) }
 {
-    let end = put_text(bytes, 0, b"cycle ")?;
-    let end = put_number(bytes, end, cycle)?;
-    let end = put_text(bytes, end, b":")?;
+    let end = head.put(bytes)?;
     put_all(bytes, end, labels, values, tags, levels, lattice)
 }

@@ -2,7 +2,7 @@
 //!
 //! `parse_stream` reads the lines of a stimulus file before the first that is refused, and says which
 //! one that is and why. `push_row`, `row` and `row_into` print a cycle's registers;
-//! `labelled_row_into` does so with the labels of registers and texts of levels made beforehand.
+//! `labelled_row_into` does so with the labels of registers and texts of levels made beforehand, and a front that is kept.
 #![tactic(auto)]
 
 mod ahead;
@@ -11,6 +11,7 @@ mod count;
 pub mod fault;
 pub mod field;
 mod flat;
+pub mod head;
 pub mod label;
 mod line;
 mod room;
@@ -25,6 +26,7 @@ ghost use Rattle.sap_stim.specs.Examples as examples;
 
 pub use fault::{StimCode, StimFault};
 pub use field::{Field, Fields};
+pub use head::RowHead;
 pub use label::{RowLabel, labels_of, level_texts};
 pub use line::{line_ahead, read_line_into};
 pub use room::{longest_level, row_array, row_room};

@@ -6,6 +6,7 @@ ghost use Rattle.sap_lattice.specs.Closure.{name_at};
 ghost use Rattle.sap_stim.specs.Rows.{AreLevelTexts, at_level, row_room, row_text, shown, shown_of, shown_text, level_coded, level_text, all_shown};
 
 use crate::flat::put_row;
+use crate::head::RowHead;
 use crate::label::RowLabel;
 use crate::short::Short;
 use sap_desk::{Bytes, RowBuf};
@@ -217,11 +218,11 @@ fn push_labelled_row(
     push_all_labelled(out, labels, values, tags, levels, lattice)
 }
 
-// Appends the row of a cycle, by way of an array of bytes where that is large enough.
+// Appends the row with a front, by way of an array of bytes where that is large enough.
 fn push_row_by(
     out: &mut Vec<u8>,
     bytes: &mut [u8],
-    cycle: u64,
+    head: &RowHead,
     labels: &[RowLabel],
     values: &[u64],
     tags: &[u64],
@@ -231,21 +232,22 @@ fn push_row_by(
     requires values { length values.now ≡ length labels.now }
     requires levels { AreLevelTexts lattice.now levels.now }
     requires tags { length tags.now ≡ length labels.now }
-    ensures text { OnOk result (out.new.items ≡ out.old.items ++ row_text cycle (shown_of lattice.now labels.now values.now tags.now)) }
+    ensures text { OnOk result (out.new.items ≡ out.old.items ++ row_text head.now (shown_of lattice.now labels.now values.now tags.now)) }
     ensures room { vec_capacity out.old ≤ vec_capacity out.new }
-    ensures full { OnErr result (vec_capacity out.old < length out.old.items + length (row_text cycle (shown_of lattice.now labels.now values.now tags.now))) }
+    ensures full { OnErr result (vec_capacity out.old < length out.old.items + length (row_text head.now (shown_of lattice.now labels.now values.now tags.now))) }
 {
-    match put_row(bytes, cycle, labels, values, tags, levels, lattice) {
+    match put_row(bytes, head, labels, values, tags, levels, lattice) {
         Some(end) if end <= bytes.len() => out.extend_from_slice(&bytes[..end]),
-        _ => push_labelled_row(out, cycle, labels, values, tags, levels, lattice),
+        _ => push_labelled_row(out, head.cycle(), labels, values, tags, levels, lattice),
     }
 }
 
-/// Appends the row of a cycle as `row_into` does, the labels of its registers and texts of levels made
-/// beforehand. The row is written to an array of bytes first, where that is large enough. It takes no memory.
+/// Appends the row of a cycle as `row_into` does, the labels of its registers and texts of levels made beforehand. A
+/// front is kept from one row to the next. The row is written to an array of bytes first, where that is large enough. It takes no memory.
 pub fn labelled_row_into(
     out: &mut RowBuf,
     array: &mut [u8],
+    head: &mut RowHead,
     cycle: u64,
     labels: &[RowLabel],
     values: &[u64],
@@ -260,9 +262,10 @@ pub fn labelled_row_into(
     ensures text { out.new.bytes ≡ out.old.bytes ++ row_text cycle (shown_of lattice.now labels.now values.now tags.now) }
     ensures room { out.old.room ≤ out.new.room }
 {
+    head.turn_to(cycle);
     let mut bytes = out.take();
     push_row_by(
-        &mut bytes, array, cycle, labels, values, tags, levels, lattice,
+        &mut bytes, array, head, labels, values, tags, levels, lattice,
     )
     .unwrap();
     out.put(bytes);
