@@ -19,7 +19,8 @@ use sap_lattice::Lattice;
 use sap_net::laws::one_run;
 use sap_net::netlist::Netlist;
 use sap_stim::{
-    Fields, RowLabel, Short, labelled_row_into, labels_of, row_array, row_room, stimulus_fits,
+    Fields, RowHead, RowLabel, Short, labelled_row_into, labels_of, row_array, row_room,
+    stimulus_fits,
 };
 use sap_stream::{Inputs, Tagged};
 use std::alloc::{AllocError, Global};
@@ -33,7 +34,8 @@ pub struct Simulation {
     plan: Plan,
     fields: Fields,
     room: usize,
-    // what stands before the numbers in a row
+    // what stands before the registers of a row, and before their numbers
+    head: RowHead,
     labels: Vec<RowLabel>,
     // the numbers of the inputs, and what the rows show
     numbers: Vec<u64>,
@@ -65,10 +67,11 @@ fn zeros(alloc: Global, count: usize) -> Result<Vec<u64>, AllocError>
     Ok(zeros)
 }
 
-/// The room that a row takes, its labels and its array, the numbers of the inputs of a cycle, and what its row shows.
+/// The room that a row takes, its front, labels and array, the numbers of the inputs of a cycle, and what its row shows.
 #[derive(Drop)]
 struct Held {
     room: usize,
+    head: RowHead,
     labels: Vec<RowLabel>,
     numbers: Vec<u64>,
     values: Vec<u64>,
@@ -89,6 +92,7 @@ fn held_for(alloc: Global, lattice: &Lattice, plan: &Plan) -> Result<Held, Alloc
     };
     Ok(Held {
         room,
+        head: RowHead::new(0),
         labels: labels_of(alloc, &plan.shown.names)?,
         numbers: zeros(alloc, plan.sources.len())?,
         values: zeros(alloc, plan.shown.values.len())?,
@@ -101,6 +105,7 @@ fn held_for(alloc: Global, lattice: &Lattice, plan: &Plan) -> Result<Held, Alloc
 fn push_held(
     out: &mut RowBuf,
     array: &mut [u8],
+    head: &mut RowHead,
     cycle: u64,
     labels: &[RowLabel],
     values: &[u64],
@@ -116,7 +121,9 @@ fn push_held(
     ensures more { (room : ℕ) → HoldsRows lattice.now labels.now room → HasMore room out.old.bytes out.new.bytes }
     ensures memory { out.old.room ≤ out.new.room }
 {
-    labelled_row_into(out, array, cycle, labels, values, tags, levels, lattice);
+    labelled_row_into(
+        out, array, head, cycle, labels, values, tags, levels, lattice,
+    );
 }
 
 impl Simulation {
@@ -133,6 +140,7 @@ impl Simulation {
             plan: planned.plan,
             fields: feed.fields,
             room: held.room,
+            head: held.head,
             labels: held.labels,
             numbers: held.numbers,
             values: held.values,
@@ -211,6 +219,7 @@ impl Simulation {
         push_held(
             out,
             &mut self.array,
+            &mut self.head,
             cycle,
             &self.labels,
             &self.values,

@@ -12,14 +12,17 @@ use crate::shown::{Shown, shown_of};
 use sap_desk::{Bytes, RowBuf};
 use sap_lattice::Lattice;
 use sap_net::parts::Name;
-use sap_stim::{RowLabel, Short, labelled_row_into, labels_of, level_texts, row_array, row_room};
+use sap_stim::{
+    RowHead, RowLabel, Short, labelled_row_into, labels_of, level_texts, row_array, row_room,
+};
 use sap_wave::Wave;
 use std::alloc::{AllocError, Global};
 
-/// What each row is made with: the labels of its registers and the texts of levels, the numbers that it shows, an array that
-/// it is written to first, and a buffer that has room for any row.
+/// What each row is made with: its front, the labels of its registers and the texts of levels, the numbers that it shows, an
+/// array that it is written to first, and a buffer that has room for any row.
 #[derive(Drop)]
 pub struct Held {
+    pub head: RowHead,
     pub labels: Vec<RowLabel>,
     pub levels: Vec<Short>,
     pub values: Vec<u64>,
@@ -44,6 +47,7 @@ pub(crate) fn held_for(alloc: Global, lattice: &Lattice, names: &[Name]) -> Resu
         return Err(AllocError);
     };
     Ok(Held {
+        head: RowHead::new(0),
         labels: labels_of(alloc, names)?,
         levels: level_texts(alloc, lattice)?,
         values: zeros(alloc, names.len())?,
@@ -67,6 +71,7 @@ fn take_numbers(seen: &mut [u64], numbers: &[u64], places: &[usize])
 fn write_row(
     row: &mut RowBuf,
     array: &mut [u8],
+    head: &mut RowHead,
     cycle: u64,
     labels: &[RowLabel],
     values: &[u64],
@@ -82,7 +87,9 @@ fn write_row(
     ensures room { row.old.room ≤ row.new.room }
 {
     row.clear();
-    labelled_row_into(row, array, cycle, labels, values, tags, levels, lattice);
+    labelled_row_into(
+        row, array, head, cycle, labels, values, tags, levels, lattice,
+    );
 }
 
 /// Makes the row of a block, in place of the one that is held. It takes no memory.
@@ -105,6 +112,7 @@ pub(crate) fn make_row(
     write_row(
         &mut held.row,
         &mut held.array,
+        &mut held.head,
         cycle,
         &held.labels,
         &held.values,
