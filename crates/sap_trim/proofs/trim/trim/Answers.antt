@@ -73,3 +73,6 @@ returns-clause-same c =
     IfOk-weaker c.number.result _ _
     (λ trimmed h. runs_both c.args.netlist c.loop-round.small trimmed c.rules-2.ensures c.loop-round.invariant.declares c.loop-round.invariant.same h)
     c.number.ensures.same
+
+pub returns-clause-few : goal.returns-clause-few
+returns-clause-few c = IfOk-weaker c.number.result _ _ (λ trimmed h. let few = c.loop-round.invariant.few in omega (arith, h, few)) c.number.ensures.left
