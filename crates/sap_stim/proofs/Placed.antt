@@ -1,11 +1,14 @@
 -- Texts in an array of bytes, one behind another.
-use Rattle.std.proofs.Common.{◌≡◌, ◌≤◌, ◌<◌, ◌+◌, ◌^◌, ℕ, List, [], ◌∷◌, ◌++◌, take, length, ap, sym, subst, ◌∙◌, append_assoc, Option, Some, None, ◌⊎◌, inl, inr, arith}
+use Rattle.std.proofs.Common.{◌≡◌, ◌≤◌, ◌<◌, ◌+◌, ◌^◌, ℕ, List, [], ◌∷◌, ◌++◌, take, length, ap, ap₂, sym, subst, set, length-set, ◌*◌, get_or, ◌∙◌, append_assoc, Option, Some, None, ◌⊎◌, inl, inr, arith}
 use Rattle.std.specs.Prelude.{IfSome, ◌/◌, ◌%◌}
 use Rattle.std.specs.Fmt.{decimal}
 use Rattle.std.proofs.Math.Seq.{take-append-add}
 use Rattle.std.proofs.lemmas.Fmt.{decimal_digit, decimal_step}
-use Rattle.std.proofs.lemmas.List.{append_cancel_right, length-take-le, take-append-le}
+use Rattle.std.proofs.lemmas.List.{append_cancel_right, length-take-le, take-append-le, take_more_set}
 use Rattle.std.proofs.lemmas.Bool.{cases_lt}
+use Rattle.std.proofs.lemmas.Grind.{take-set_at}
+use Rattle.sap_text.proofs.PairsOfDigits.{last_two, pair_at, pair_of, two_digits}
+use Rattle.sap_stim.specs.declared.flat.TheConstants.{PAIRS}
 
 -- a text behind another
 pub then_text : (o : Option ℕ) (old mid new : List ℕ) (at end : ℕ) (a b whole : List ℕ) → take end mid ≡ take at old ++ a
@@ -14,18 +17,30 @@ pub then_text : (o : Option ℕ) (old mid new : List ℕ) (at end : ℕ) (a b wh
 then_text None old mid new at end a b whole p q w = tt
 then_text (Some e) old mid new at end a b whole p q w = q ∙ ap (λ l. l ++ b) p ∙ append_assoc (take at old) a b ∙ ap (λ l. take at old ++ l) w
 
--- a digit behind those of a number
-pub then_digit : (n q at end : ℕ) (start mid new : List ℕ) → 10 ≤ n → n < 2 ^ 64 → n / 10 ≡ q → take at mid ≡ start ++ decimal q
-    → take end new ≡ take at mid ++ (48 + n % 10) ∷ [] → take end new ≡ start ++ decimal n
-then_digit n q at end start mid new big small e p r =
-    r ∙ ap (λ l. l ++ (48 + n % 10) ∷ []) (p ∙ ap (λ k. start ++ decimal k) (sym e))
-    ∙ append_assoc start (decimal (n / 10)) ((48 + n % 10) ∷ [])
-    ∙ ap (λ l. start ++ l) (sym (decimal_step n big small))
+-- two bytes that are set one behind the other
+pub two_set : (bytes : List ℕ) (at a b x y : ℕ) → at + 2 ≤ length bytes → a ≡ x → b ≡ y
+    → take (at + 2) (set (set bytes at a) (at + 1) b) ≡ take at bytes ++ x ∷ y ∷ []
+two_set bytes at a b x y within p q =
+    take-set_at (set bytes at a) (at + 1) (at + 2) b (omega arith) (omega (arith, within, length-set bytes at a))
+    ∙ ap (λ l. l ++ b ∷ []) (take_more_set bytes at a (omega (arith, within)))
+    ∙ append_assoc (take at bytes) (a ∷ []) (b ∷ [])
+    ∙ ap₂ (λ m n. take at bytes ++ m ∷ n ∷ []) p q
 
--- a digit that was found in another way, behind those of a number
-pub then_last : (n q digit at end : ℕ) (start mid new : List ℕ) → 10 ≤ n → n < 2 ^ 64 → n / 10 ≡ q → digit ≡ n % 10 → take at mid ≡ start ++ decimal q
-    → take end new ≡ take at mid ++ (48 + digit) ∷ [] → take end new ≡ start ++ decimal n
-then_last n q digit at end start mid new big small e is p r = then_digit n q at end start mid new big small e p (r ∙ ap (λ k. take at mid ++ (48 + k) ∷ []) is)
+-- the table of pairs holds the two digits of each number below 100
+pub pair_there : (p : ℕ) → p < 100 → (get_or PAIRS (p * 2) 0 ≡ 48 + p / 10) × (get_or PAIRS (p * 2 + 1) 0 ≡ 48 + p % 10)
+pair_there p small = pair_at p small
+
+-- two digits behind those of a number
+pub then_pair : (n q pair at end : ℕ) (start mid new : List ℕ) → 100 ≤ n → n < 2 ^ 64 → n / 100 ≡ q → pair ≡ n % 100 → take at mid ≡ start ++ decimal q
+    → take end new ≡ take at mid ++ pair_of pair → take end new ≡ start ++ decimal n
+then_pair n q pair at end start mid new big small e is p r =
+    r ∙ ap (λ k. take at mid ++ pair_of k) is ∙ ap (λ l. l ++ pair_of (n % 100)) (p ∙ ap (λ k. start ++ decimal k) (sym e))
+    ∙ append_assoc start (decimal (n / 100)) (pair_of (n % 100))
+    ∙ ap (λ l. start ++ l) (sym (last_two n big small))
+
+-- the two digits of a number
+pub one_pair : (n end : ℕ) (start new : List ℕ) → 10 ≤ n → n < 100 → take end new ≡ start ++ pair_of n → take end new ≡ start ++ decimal n
+one_pair n end start new more few p = p ∙ ap (λ l. start ++ l) (sym (two_digits n more few))
 
 -- the one digit of a number
 pub one_digit : (n end : ℕ) (start new : List ℕ) → n < 10 → take end new ≡ start ++ (48 + n) ∷ [] → take end new ≡ start ++ decimal n

@@ -1,6 +1,6 @@
 //! Rows in an array of bytes. Each call writes at a place and tells where the text ends, or stops where there is little room.
 
-ghost use Rattle.std.specs.Prelude.{◌≡◌, ◌<◌, ◌≤◌, ◌+◌, ◌/◌, ◌++◌, [], ◌∷◌, ℕ, List, IfSome, codes, length, take};
+ghost use Rattle.std.specs.Prelude.{◌≡◌, ◌<◌, ◌≤◌, ◌+◌, ◌/◌, ◌%◌, ◌++◌, [], ◌∷◌, ℕ, List, IfSome, codes, length, take};
 ghost use Rattle.std.specs.Fmt.{decimal};
 ghost use Rattle.sap_stim.specs.declared.flat.TheConstants.{MOST_SHOWN};
 ghost use Rattle.sap_stim.specs.Rows.{AreLevelTexts, all_shown, at_level, row_text, shown, shown_of, shown_text, label_text};
@@ -14,6 +14,10 @@ use sap_text::digits::Digits;
 
 /// How many bytes are written at most for a register whose label and level have short texts.
 const MOST_SHOWN: usize = MOST_SHORT + 8 + MOST_SHORT;
+
+// The two digits of each number below 100.
+static PAIRS: [u8; 200] =
+    *b"00010203040506070809101112131415161718192021222324252627282930313233343536373839404142434445464748495051525354555657585960616263646566676869707172737475767778798081828384858687888990919293949596979899";
 
 /// Writes a byte.
 pub(crate) fn put_byte(bytes: &mut [u8], at: usize, byte: u8) -> Option<usize>
@@ -37,6 +41,20 @@ pub(crate) fn put_digit(bytes: &mut [u8], at: usize, digit: u64) -> usize
     at + 1
 }
 
+// Writes two digits.
+#[inline(always)]
+fn put_pair(bytes: &mut [u8], at: usize, pair: u64) -> usize
+    requires pair { pair < 100 }
+    requires room { at + 2 ≤ length bytes.old }
+    ensures text { take result bytes.new ≡ take at bytes.old ++ (48 + pair / 10) ∷ (48 + pair % 10) ∷ [] }
+    ensures end { result ≡ at + 2 }
+{
+    let place = pair as usize * 2;
+    bytes[at] = PAIRS[place];
+    bytes[at + 1] = PAIRS[place + 1];
+    at + 2
+}
+
 fn put_below_100(bytes: &mut [u8], at: usize, number: u64) -> usize
     requires number { number < 100 }
     requires room { at + 2 ≤ length bytes.old }
@@ -46,21 +64,7 @@ fn put_below_100(bytes: &mut [u8], at: usize, number: u64) -> usize
     if number < 10 {
         return put_digit(bytes, at, number);
     }
-    let end = put_digit(bytes, at, number / 10);
-    put_digit(bytes, end, number % 10)
-}
-
-fn put_below_1000(bytes: &mut [u8], at: usize, number: u64) -> usize
-    requires number { number < 1000 }
-    requires room { at + 3 ≤ length bytes.old }
-    ensures text { take result bytes.new ≡ take at bytes.old ++ decimal number }
-    ensures end { result ≤ at + 3 }
-{
-    if number < 100 {
-        return put_below_100(bytes, at, number);
-    }
-    let end = put_below_100(bytes, at, number / 10);
-    put_digit(bytes, end, number % 10)
+    put_pair(bytes, at, number)
 }
 
 fn put_below_10000(bytes: &mut [u8], at: usize, number: u64) -> usize
@@ -69,11 +73,11 @@ fn put_below_10000(bytes: &mut [u8], at: usize, number: u64) -> usize
     ensures text { take result bytes.new ≡ take at bytes.old ++ decimal number }
     ensures end { result ≤ at + 4 }
 {
-    if number < 1000 {
-        return put_below_1000(bytes, at, number);
+    if number < 100 {
+        return put_below_100(bytes, at, number);
     }
-    let end = put_below_1000(bytes, at, number / 10);
-    put_digit(bytes, end, number % 10)
+    let end = put_below_100(bytes, at, number / 100);
+    put_pair(bytes, end, number % 100)
 }
 
 // Writes the last four digits of a number behind the others.
@@ -85,12 +89,8 @@ fn put_four(bytes: &mut [u8], at: usize, number: u32) -> usize
     ensures end { result ≡ at + 4 }
 {
     let last = number % 10_000;
-    let high = last / 100;
-    let low = last % 100;
-    let end = put_digit(bytes, at, u64::from(high / 10));
-    let end = put_digit(bytes, end, u64::from(high % 10));
-    let end = put_digit(bytes, end, u64::from(low / 10));
-    put_digit(bytes, end, u64::from(low % 10))
+    let end = put_pair(bytes, at, u64::from(last / 100));
+    put_pair(bytes, end, u64::from(last % 100))
 }
 
 // Writes a number of five to eight digits.
