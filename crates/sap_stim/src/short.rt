@@ -54,7 +54,9 @@ impl Short {
         ensures text { take result bytes.new ≡ take at bytes.old ++ self.now }
         ensures end { result ≤ at + MOST_SHORT }
     {
-        bytes[at..at + MOST_SHORT].copy_from_slice(&self.bytes);
+        // a copy lies apart from the bytes that are written, so that it goes through registers
+        let text = self.bytes;
+        bytes[at..at + MOST_SHORT].copy_from_slice(&text);
         at + self.len
     }
 
