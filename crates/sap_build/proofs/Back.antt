@@ -1,16 +1,8 @@
 -- Every run of a netlist is one of a run of its copy.
-use Rattle.std.proofs.Common.{◌≡◌, ℕ, List, [], ◌∷◌, map, Option, Some, None, subst}
-use Rattle.std.specs.Prelude.{◌^◌, ◌<◌, true}
-use Rattle.std.specs.List.{AllByRecursion}
-use Rattle.sap_lemmas.proofs.Everywhere.{all_of_map, all_parts, all_follow}
-use Rattle.sap_maps.specs.Maps.{Name, Valuation}
-use Rattle.sap_maps.specs.Scope.{find}
+use Rattle.sap_lemmas.proofs.Common.{◌≡◌, ℕ, List, [], ◌∷◌, map, Option, Some, None, subst, ◌^◌, ◌<◌, true, AllByRecursion, all_of_map, all_parts, all_follow}
+use Rattle.sap_maps.specs.Prelude.{Name, Valuation, find}
+use Rattle.sap_net.specs.Prelude.{Net, is_name, IsNetlist, first_readable, readable, shapes, InputsFit, InputsAre, AllFit, IsRun, IsRunAfter, IsWithin, AreSameRuns}
 use Rattle.sap_net.specs.declared.parts.Input.{Input}
-use Rattle.sap_net.specs.Net.{Net}
-use Rattle.sap_net.specs.Names.{is_name}
-use Rattle.sap_net.specs.IsNetlist.{IsNetlist, first_readable, readable, shapes}
-use Rattle.sap_net.specs.Runs.{InputsFit, InputsAre, AllFit, IsRun, IsRunAfter, IsWithin}
-use Rattle.sap_net.specs.Laws.{AreSameRuns}
 use Rattle.sap_net.proofs.Exists.{run_exists}
 use Rattle.sap_net.proofs.Same.{run_same}
 use Rattle.sap_net.proofs.RulesLemmas.{values_found, readable_kept}

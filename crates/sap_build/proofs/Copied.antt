@@ -1,27 +1,17 @@
 -- A copy keeps the rules of netlists.
-use Rattle.std.proofs.Common.{◌≡◌, ℕ, List, [], ◌∷◌, ◌++◌, map, filter, take, length, None, suc, Bool, true, false, sym, ap, ◌∙◌, subst, refl, inl, inr}
-use Rattle.std.specs.Str.{bytes_eq}
-use Rattle.std.specs.Prelude.{◌≤◌}
-use Rattle.std.specs.List.{AllByRecursion}
-use Rattle.std.specs.Option.{option_map}
-use Rattle.std.proofs.lemmas.Bool.{cases_Bool, or_right}
-use Rattle.sap_lemmas.proofs.Texts.{bytes_eq_same, equal_of_bytes_eq}
-use Rattle.sap_maps.specs.Maps.{Name}
-use Rattle.sap_maps.specs.Scope.{Scope, find}
+use Rattle.sap_lemmas.proofs.Common.{◌≡◌, ℕ, List, [], ◌∷◌, ◌++◌, map, filter, take, length, None, suc, Bool, true, false, sym, ap, ◌∙◌, subst, refl, inl, inr, bytes_eq, ◌≤◌, AllByRecursion, option_map, cases_Bool, or_right, bytes_eq_same, equal_of_bytes_eq}
+use Rattle.sap_maps.specs.Prelude.{Name, Scope, find}
+use Rattle.sap_net.specs.Prelude.{Net, is_name, is_among, AreDistinct, Shapes, IsOperand, AreOperands, IsRight, AreWires, IsRegister, IsMemory, AreValues, AreMemories, IsNetlist, PortShows, is_input, input_names, wire_names, register_names, memory_names, names_of, first_readable, readable, shapes}
 use Rattle.sap_net.specs.declared.parts.Operand.{Operand}
 use Rattle.sap_net.specs.declared.parts.Operand.TheVariants.{Named, Constant}
 use Rattle.sap_net.specs.declared.parts.Right.{Right}
 use Rattle.sap_net.specs.declared.parts.Right.TheVariants.{Copy, One, Two, Choose, Concat, Slice, Cell}
 use Rattle.sap_net.specs.declared.parts.PortKind.{PortKind}
-use Rattle.sap_net.specs.declared.parts.PortKind.TheVariants as kind
 use Rattle.sap_net.specs.declared.parts.Port.{Port}
 use Rattle.sap_net.specs.declared.parts.Wire.{Wire}
 use Rattle.sap_net.specs.declared.parts.Register.{Register}
 use Rattle.sap_net.specs.declared.parts.Memory.{Memory}
-use Rattle.sap_net.specs.Net.{Net}
-use Rattle.sap_net.specs.Names.{is_name, is_among, AreDistinct}
-use Rattle.sap_net.specs.Rules.{Shapes, IsOperand, AreOperands, IsRight, AreWires, IsRegister, IsMemory, AreValues, AreMemories}
-use Rattle.sap_net.specs.IsNetlist.{IsNetlist, PortShows, is_input, input_names, wire_names, register_names, memory_names, names_of, first_readable, readable, shapes}
+use Rattle.sap_net.specs.declared.parts.PortKind.TheVariants as kind
 use Rattle.sap_build.specs.Copies.{copy_operand, copy_right, copy_port, copy_input, copy_wire, copy_register, copy_memory, copy_net, IsOneToOne, KeepsApart}
 use Rattle.sap_build.proofs.Found.{copied, AreDeclared, AllAmong, find_copied, found_copied, registers_among, memories_among, wires_among, first_declared, readable_declared, shapes_declared, first_readable_copied, readable_copied, shapes_copied}
 

@@ -1,21 +1,12 @@
 -- A copy is a whole of one part.
-use Rattle.std.proofs.Common.{◌≡◌, List, [], ◌∷◌, ◌++◌, map, Some, true, false, ap, ◌∙◌, subst, refl, inl, inr}
-use Rattle.std.specs.List.{AllByRecursion}
-use Rattle.std.specs.Str.{bytes_eq}
-use Rattle.std.proofs.lemmas.Bool.{cases_Bool, or_right}
-use Rattle.sap_lemmas.proofs.Everywhere.{all_follow}
-use Rattle.sap_lemmas.proofs.Texts.{bytes_eq_same}
-use Rattle.sap_maps.specs.Maps.{Name}
-use Rattle.sap_maps.specs.Scope.{find}
+use Rattle.sap_lemmas.proofs.Common.{◌≡◌, List, [], ◌∷◌, ◌++◌, map, Some, true, false, ap, ◌∙◌, subst, refl, inl, inr, AllByRecursion, bytes_eq, cases_Bool, or_right, all_follow, bytes_eq_same}
+use Rattle.sap_maps.specs.Prelude.{Name, find}
 use Rattle.sap_maps.proofs.Scopes.{found_behind, found_here}
+use Rattle.sap_net.specs.Prelude.{AreDistinct, is_among, Net, Shapes, AreValues, IsNetlist, first_readable, memory_names, readable, register_names, shapes}
 use Rattle.sap_net.specs.declared.parts.Input.{Input}
 use Rattle.sap_net.specs.declared.parts.Wire.{Wire}
 use Rattle.sap_net.specs.declared.parts.Register.{Register}
 use Rattle.sap_net.specs.declared.parts.Memory.{Memory}
-use Rattle.sap_net.specs.Names.{AreDistinct, is_among}
-use Rattle.sap_net.specs.Net.{Net}
-use Rattle.sap_net.specs.Rules.{Shapes, AreValues}
-use Rattle.sap_net.specs.IsNetlist.{IsNetlist, first_readable, memory_names, readable, register_names, shapes}
 use Rattle.sap_net.proofs.InputLemmas.{past_inputs}
 use Rattle.sap_net.proofs.NamesLemmas.{filter_distinct, found_of, not_found}
 use Rattle.sap_net.proofs.RulesLemmas.{wires_distinct}

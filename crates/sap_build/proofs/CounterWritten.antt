@@ -1,12 +1,9 @@
 -- The counter keeps the rules of netlists, since each step of writing does.
 use Rattle.std.proofs.Common.{[], ◌∷◌, codes, refl, lit<, lit≤}
+use Rattle.sap_net.specs.Prelude.{is_name, Net, IsNetlist, IsWidth}
 use Rattle.sap_net.specs.declared.parts.Operand.TheVariants.{Constant}
-use Rattle.sap_net.specs.declared.parts.PortKind.TheVariants as kind
 use Rattle.sap_net.specs.declared.parts.Register.{Register}
-use Rattle.sap_net.specs.Names.{is_name}
-use Rattle.sap_net.specs.Net.{Net}
-use Rattle.sap_net.specs.IsNetlist.{IsNetlist}
-use Rattle.sap_net.specs.Rules.{IsWidth}
+use Rattle.sap_net.specs.declared.parts.PortKind.TheVariants as kind
 use Rattle.sap_build.specs.Writing.{blank, declared, shown, with_input, assigned, registered}
 use Rattle.sap_build.specs.Waiting.{waiting}
 use Rattle.sap_build.specs.Counting.{CounterIsNetlist, count, counts, next, output, place, step}

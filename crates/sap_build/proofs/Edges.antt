@@ -1,18 +1,12 @@
 -- What registers take and memories are written, given at the end.
-use Rattle.std.proofs.Common.{◌≡◌, ℕ, List, [], ◌∷◌, ◌++◌, map, filter, ap, ap₂, sym, ◌∙◌, refl, subst}
-use Rattle.std.specs.List.{AllByRecursion}
-use Rattle.sap_lemmas.proofs.Everywhere.{all_follow}
-use Rattle.sap_maps.specs.Maps.{Name}
-use Rattle.sap_maps.specs.Scope.{Scope}
+use Rattle.sap_lemmas.proofs.Common.{◌≡◌, ℕ, List, [], ◌∷◌, ◌++◌, map, filter, ap, ap₂, sym, ◌∙◌, refl, subst, AllByRecursion, all_follow}
+use Rattle.sap_maps.specs.Prelude.{Name, Scope}
+use Rattle.sap_net.specs.Prelude.{is_among, Net, Shapes, AreValues, AreMemories, AreWires, IsRegister, IsMemory, readable_after, IsNetlist, PortShows, input_names, wire_names, register_names, memory_names, first_readable, readable, shapes}
 use Rattle.sap_net.specs.declared.parts.PortKind.{PortKind}
-use Rattle.sap_net.specs.declared.parts.PortKind.TheVariants as kind
 use Rattle.sap_net.specs.declared.parts.Port.{Port}
 use Rattle.sap_net.specs.declared.parts.Register.{Register}
 use Rattle.sap_net.specs.declared.parts.Memory.{Memory}
-use Rattle.sap_net.specs.Names.{is_among}
-use Rattle.sap_net.specs.Net.{Net}
-use Rattle.sap_net.specs.Rules.{Shapes, AreValues, AreMemories, AreWires, IsRegister, IsMemory, readable_after}
-use Rattle.sap_net.specs.IsNetlist.{IsNetlist, PortShows, input_names, wire_names, register_names, memory_names, first_readable, readable, shapes}
+use Rattle.sap_net.specs.declared.parts.PortKind.TheVariants as kind
 use Rattle.sap_build.specs.Waiting.{at_edges}
 
 names_of_entries : {X Y : Type 0} (name : Y → Name) (of : Y → X) (ys : List Y) → map (λ (e : Name × X). e.0) (map (λ y. (name y, of y)) ys) ≡ map name ys

@@ -1,9 +1,7 @@
 -- Examples: a netlist behind a prefix, and two side by side.
 use Rattle.std.proofs.Common.{◌++◌, refl, codes, lit<, lit≤}
 use Rattle.sap_maps.specs.Maps.{Name}
-use Rattle.sap_net.specs.Names.{is_name}
-use Rattle.sap_net.specs.IsNetlist.{IsNetlist}
-use Rattle.sap_net.specs.Rules.{IsWidth}
+use Rattle.sap_net.specs.Prelude.{is_name, IsNetlist, IsWidth}
 use Rattle.sap_net.specs.Summing.{summing}
 use Rattle.sap_build.specs.Copies.{KeepsApart}
 use Rattle.sap_build.specs.SideBySide.{SideBySide, both}

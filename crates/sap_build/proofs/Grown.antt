@@ -1,10 +1,9 @@
 -- Netlists with more at the end of their lists.
-use Rattle.std.proofs.Common.{◌≡◌, List, [], ◌∷◌, ◌++◌, ap, ap₂, sym, ◌∙◌, refl, append-nil}
-use Rattle.std.proofs.lemmas.List.{append_assoc}
+use Rattle.sap_lemmas.proofs.Common.{◌≡◌, List, [], ◌∷◌, ◌++◌, ap, ap₂, sym, ◌∙◌, refl, append-nil, append_assoc}
 use Rattle.sap_maps.specs.Maps.{Name}
+use Rattle.sap_net.specs.Net.{Net}
 use Rattle.sap_net.specs.declared.parts.Wire.{Wire}
 use Rattle.sap_net.specs.declared.parts.Register.{Register}
-use Rattle.sap_net.specs.Net.{Net}
 use Rattle.sap_build.specs.Writing.{grown, declared, assigned, registered}
 
 -- the netlist with other names, wires and registers

@@ -1,20 +1,14 @@
 -- Scopes with one more entry, and what reads them.
-use Rattle.std.proofs.Common.{◌≡◌, ℕ, true, false, List, [], ◌∷◌, ◌++◌, Some, None, refl, ◌∙◌, subst, inl, inr}
-use Rattle.std.specs.Str.{bytes_eq}
-use Rattle.std.proofs.lemmas.Bool.{cases_Bool, or_right}
-use Rattle.sap_lemmas.proofs.Texts.{bytes_eq_apart_back, bytes_eq_same, equal_of_bytes_eq}
-use Rattle.sap_maps.specs.Maps.{Name}
-use Rattle.sap_maps.specs.Scope.{Scope, find}
+use Rattle.sap_lemmas.proofs.Common.{◌≡◌, ℕ, true, false, List, [], ◌∷◌, ◌++◌, Some, None, refl, ◌∙◌, subst, inl, inr, bytes_eq, cases_Bool, or_right, bytes_eq_apart_back, bytes_eq_same, equal_of_bytes_eq}
+use Rattle.sap_maps.specs.Prelude.{Name, Scope, find}
 use Rattle.sap_maps.proofs.Scopes.{not_behind, not_first}
+use Rattle.sap_net.specs.Prelude.{is_among, Shapes, AreOperands, IsRight, AreWires, IsRegister, IsMemory, AreValues, AreMemories, IsWidth, readable_after, names_of}
 use Rattle.sap_net.specs.declared.parts.Operand.{Operand}
 use Rattle.sap_net.specs.declared.parts.Right.{Right}
 use Rattle.sap_net.specs.declared.parts.Right.TheVariants.{Copy, One, Two, Choose, Concat, Slice, Cell}
 use Rattle.sap_net.specs.declared.parts.Wire.{Wire}
 use Rattle.sap_net.specs.declared.parts.Register.{Register}
 use Rattle.sap_net.specs.declared.parts.Memory.{Memory}
-use Rattle.sap_net.specs.Names.{is_among}
-use Rattle.sap_net.specs.Rules.{Shapes, AreOperands, IsRight, AreWires, IsRegister, IsMemory, AreValues, AreMemories, IsWidth, readable_after}
-use Rattle.sap_net.specs.IsNetlist.{names_of}
 use Rattle.sap_net.proofs.NamesLemmas.{among_here}
 use Rattle.sap_net.proofs.RulesLemmas.{Grows, operand_grows, wires_new}
 use Rattle.sap_build.proofs.Found.{AreDeclared}

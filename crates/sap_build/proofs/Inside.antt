@@ -1,21 +1,12 @@
 -- What is found of the names of a part.
-use Rattle.std.proofs.Common.{◌≡◌, ℕ, List, [], ◌∷◌, map, Some, sym, ap, ◌∙◌, subst, inl, inr}
-use Rattle.std.specs.Prelude.{unwrap_or}
-use Rattle.std.specs.Str.{bytes_eq}
-use Rattle.std.specs.List.{AllByRecursion}
-use Rattle.std.proofs.lemmas.Bool.{cases_Bool}
-use Rattle.sap_lemmas.proofs.Everywhere.{all_append, all_follow, all_of_map, all_second, map_of_all}
-use Rattle.sap_lemmas.proofs.Texts.{equal_of_bytes_eq}
-use Rattle.sap_maps.specs.Maps.{Name}
-use Rattle.sap_maps.specs.Scope.{Scope, find}
+use Rattle.sap_lemmas.proofs.Common.{◌≡◌, ℕ, List, [], ◌∷◌, map, Some, sym, ap, ◌∙◌, subst, inl, inr, unwrap_or, bytes_eq, AllByRecursion, cases_Bool, all_append, all_follow, all_of_map, all_second, map_of_all, equal_of_bytes_eq}
+use Rattle.sap_maps.specs.Prelude.{Name, Scope, find}
 use Rattle.sap_maps.proofs.Scopes.{found_here}
+use Rattle.sap_net.specs.Prelude.{Net, Shapes, AreWires, readable_after, IsNetlist, first_readable, readable, shapes, width_of}
 use Rattle.sap_net.specs.declared.parts.Input.{Input}
 use Rattle.sap_net.specs.declared.parts.Wire.{Wire}
 use Rattle.sap_net.specs.declared.parts.Register.{Register}
 use Rattle.sap_net.specs.declared.parts.Memory.{Memory}
-use Rattle.sap_net.specs.Net.{Net}
-use Rattle.sap_net.specs.Rules.{Shapes, AreWires, readable_after}
-use Rattle.sap_net.specs.IsNetlist.{IsNetlist, first_readable, readable, shapes, width_of}
 use Rattle.sap_net.proofs.RulesLemmas.{readable_kept, values_found}
 use Rattle.sap_net.proofs.Same.{all_found}
 use Rattle.sap_build.specs.Copies.{copy_wire, copy_register, copy_memory}

@@ -1,16 +1,8 @@
 -- Lists of names and ports with one more at the end.
-use Rattle.std.proofs.Common.{◌≡◌, Bool, true, false, ◌||◌, List, [], ◌∷◌, ◌++◌, map, filter, take, length, ap, ap₂, sym, ◌∙◌, refl, inl, inr}
-use Rattle.std.specs.Str.{bytes_eq}
-use Rattle.std.specs.List.{AllByRecursion}
-use Rattle.std.proofs.lemmas.Bool.{cases_Bool, or_right}
-use Rattle.std.proofs.lemmas.List.{append-nil, map-append}
-use Rattle.std.proofs.lemmas.List.Elements.{filter-append}
-use Rattle.sap_lemmas.proofs.Bools.{neither_left, neither_right, or_assoc, or_false, or_true}
-use Rattle.sap_lemmas.proofs.Everywhere.{all_append}
-use Rattle.sap_lemmas.proofs.Texts.{bytes_eq_apart_back}
+use Rattle.sap_lemmas.proofs.Common.{◌≡◌, Bool, true, false, ◌||◌, List, [], ◌∷◌, ◌++◌, map, filter, take, length, ap, ap₂, sym, ◌∙◌, refl, inl, inr, bytes_eq, AllByRecursion, cases_Bool, or_right, append-nil, map-append, filter-append, neither_left, neither_right, or_assoc, or_false, or_true, all_append, bytes_eq_apart_back}
 use Rattle.sap_maps.specs.Maps.{Name}
-use Rattle.sap_net.specs.declared.parts.Port.{Port}
 use Rattle.sap_net.specs.Names.{AreDistinct, is_among}
+use Rattle.sap_net.specs.declared.parts.Port.{Port}
 use Rattle.sap_net.proofs.NamesLemmas.{among_append, among_behind, among_here, among_neither, apart_by_membership}
 
 pub all_more : {A : Type 0} (P : A → Type 0) (xs : List A) (x : A) → AllByRecursion P xs → P x → AllByRecursion P (xs ++ x ∷ [])

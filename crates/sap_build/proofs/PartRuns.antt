@@ -1,20 +1,11 @@
 -- Cycles and runs of a part, and what is seen of them.
-use Rattle.std.proofs.Common.{◌≡◌, ℕ, List, [], ◌∷◌, map, Option, Some, None, sym, ap, ◌∙◌, refl}
-use Rattle.std.specs.Prelude.{false}
-use Rattle.std.specs.Option.{option_map}
-use Rattle.std.specs.List.{AllByRecursion}
-use Rattle.sap_lemmas.proofs.Everywhere.{all_follow, map_of_all}
+use Rattle.sap_lemmas.proofs.Common.{◌≡◌, ℕ, List, [], ◌∷◌, map, Option, Some, None, sym, ap, ◌∙◌, refl, false, option_map, AllByRecursion, all_follow, map_of_all}
 use Rattle.sap_maps.specs.Maps.{Name, Valuation}
+use Rattle.sap_net.specs.Prelude.{is_among, Net, operand_value, right_value, Holds, IsNetlist, first_readable, register_names, shapes, width_of, written, value_after, Begins, InputsAre, IsCycle, IsRun, IsRunAfter, observed, AreSame, AreSameRuns}
 use Rattle.sap_net.specs.declared.parts.Input.{Input}
 use Rattle.sap_net.specs.declared.parts.Wire.{Wire}
 use Rattle.sap_net.specs.declared.parts.Register.{Register}
 use Rattle.sap_net.specs.declared.parts.Memory.{Memory}
-use Rattle.sap_net.specs.Names.{is_among}
-use Rattle.sap_net.specs.Net.{Net}
-use Rattle.sap_net.specs.Values.{operand_value, right_value, Holds}
-use Rattle.sap_net.specs.IsNetlist.{IsNetlist, first_readable, register_names, shapes, width_of}
-use Rattle.sap_net.specs.Runs.{written, value_after, Begins, InputsAre, IsCycle, IsRun, IsRunAfter, observed}
-use Rattle.sap_net.specs.Laws.{AreSame, AreSameRuns}
 use Rattle.sap_net.proofs.NamesLemmas.{not_found}
 use Rattle.sap_net.proofs.Observed.{observed_inputs, observed_memories, observed_registers, observed_wires}
 use Rattle.sap_net.proofs.Same.{run_same}

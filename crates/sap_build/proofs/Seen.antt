@@ -1,18 +1,9 @@
 -- What is seen of a valuation that has the numbers of one of a copy.
-use Rattle.std.proofs.Common.{◌≡◌, ℕ, List, [], ◌∷◌, map, sym, subst, ◌∙◌, inl, inr}
-use Rattle.std.specs.Str.{bytes_eq}
-use Rattle.std.specs.List.{AllByRecursion}
-use Rattle.std.proofs.lemmas.Bool.{cases_Bool}
-use Rattle.sap_lemmas.proofs.Texts.{equal_of_bytes_eq}
-use Rattle.sap_maps.specs.Maps.{Name, Valuation}
-use Rattle.sap_maps.specs.Scope.{Scope, find, Agree}
+use Rattle.sap_lemmas.proofs.Common.{◌≡◌, ℕ, List, [], ◌∷◌, map, sym, subst, ◌∙◌, inl, inr, bytes_eq, AllByRecursion, cases_Bool, equal_of_bytes_eq}
+use Rattle.sap_maps.specs.Prelude.{Name, Valuation, Scope, find, Agree}
+use Rattle.sap_net.specs.Prelude.{Net, IsRegister, IsMemory, IsNetlist, readable, written, value_after, cell_after, observed, AreSame}
 use Rattle.sap_net.specs.declared.parts.Register.{Register}
 use Rattle.sap_net.specs.declared.parts.Memory.{Memory}
-use Rattle.sap_net.specs.Net.{Net}
-use Rattle.sap_net.specs.Rules.{IsRegister, IsMemory}
-use Rattle.sap_net.specs.IsNetlist.{IsNetlist, readable}
-use Rattle.sap_net.specs.Runs.{written, value_after, cell_after, observed}
-use Rattle.sap_net.specs.Laws.{AreSame}
 use Rattle.sap_net.proofs.Unique.{operand_agree}
 use Rattle.sap_build.specs.Copies.{copy_net, KeepsApart, through}
 use Rattle.sap_build.proofs.Through.{observed_through}

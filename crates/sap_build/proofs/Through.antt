@@ -1,9 +1,7 @@
 -- Cycles and runs of a copy, read through the names.
-use Rattle.std.proofs.Common.{◌≡◌, ℕ, List, [], ◌∷◌, map, Option, Some, None, sym, ap, ◌∙◌, refl, unwrap_or}
-use Rattle.std.specs.Option.{option_map}
-use Rattle.std.specs.List.{AllByRecursion}
-use Rattle.sap_maps.specs.Maps.{Name, Valuation}
-use Rattle.sap_maps.specs.Scope.{Scope, find}
+use Rattle.sap_lemmas.proofs.Common.{◌≡◌, ℕ, List, [], ◌∷◌, map, Option, Some, None, sym, ap, ◌∙◌, refl, unwrap_or, option_map, AllByRecursion}
+use Rattle.sap_maps.specs.Prelude.{Name, Valuation, Scope, find}
+use Rattle.sap_net.specs.Prelude.{Net, operand_value, operand_width, operands_value, operands_width, right_value, Holds, Shapes, IsOperand, AreOperands, IsRight, AreWires, readable_after, IsNetlist, first_readable, readable, shapes, width_of, written, Begins, InputsAre, IsCycle, IsRunAfter, value_after, cell_after, observed, AreSame}
 use Rattle.sap_net.specs.declared.parts.Operand.{Operand}
 use Rattle.sap_net.specs.declared.parts.Operand.TheVariants.{Named, Constant}
 use Rattle.sap_net.specs.declared.parts.Right.{Right}
@@ -12,12 +10,6 @@ use Rattle.sap_net.specs.declared.parts.Input.{Input}
 use Rattle.sap_net.specs.declared.parts.Wire.{Wire}
 use Rattle.sap_net.specs.declared.parts.Register.{Register}
 use Rattle.sap_net.specs.declared.parts.Memory.{Memory}
-use Rattle.sap_net.specs.Net.{Net}
-use Rattle.sap_net.specs.Values.{operand_value, operand_width, operands_value, operands_width, right_value, Holds}
-use Rattle.sap_net.specs.Rules.{Shapes, IsOperand, AreOperands, IsRight, AreWires, readable_after}
-use Rattle.sap_net.specs.IsNetlist.{IsNetlist, first_readable, readable, shapes, width_of}
-use Rattle.sap_net.specs.Runs.{written, Begins, InputsAre, IsCycle, IsRunAfter, value_after, cell_after, observed}
-use Rattle.sap_net.specs.Laws.{AreSame}
 use Rattle.sap_net.proofs.RulesLemmas.{readable_kept}
 use Rattle.sap_build.specs.Copies.{copy_operand, copy_right, copy_input, copy_wire, copy_register, copy_memory, copy_net, KeepsApart, through}
 use Rattle.sap_build.proofs.Found.{find_copied, found_copied, found_declared, entries_declared, registers_among, memories_among, readable_declared, shapes_declared, readable_copied, shapes_copied, entries_copied}

@@ -1,23 +1,12 @@
 -- Wires that wait for their `assign`.
-use Rattle.std.proofs.Common.{◌≡◌, ℕ, Bool, true, false, ◌||◌, List, [], ◌∷◌, ◌++◌, map, Some, None, ap, ap₂, sym, ◌∙◌, refl, subst, inl, inr}
-use Rattle.std.specs.Str.{bytes_eq}
-use Rattle.std.proofs.Math.Pow.{pow_pos}
-use Rattle.std.proofs.lemmas.Bool.{cases_Bool}
-use Rattle.std.proofs.lemmas.List.{append_assoc, map-append}
-use Rattle.sap_lemmas.proofs.Bools.{or_false, or_true}
-use Rattle.sap_lemmas.proofs.Everywhere.{all_follow}
-use Rattle.sap_lemmas.proofs.Texts.{equal_of_bytes_eq}
-use Rattle.sap_maps.specs.Maps.{Name}
-use Rattle.sap_maps.specs.Scope.{Scope, find}
+use Rattle.sap_lemmas.proofs.Common.{◌≡◌, ℕ, Bool, true, false, ◌||◌, List, [], ◌∷◌, ◌++◌, map, Some, None, ap, ap₂, sym, ◌∙◌, refl, subst, inl, inr, bytes_eq, pow_pos, cases_Bool, append_assoc, map-append, or_false, or_true, all_follow, equal_of_bytes_eq}
+use Rattle.sap_maps.specs.Prelude.{Name, Scope, find}
 use Rattle.sap_maps.proofs.Scopes.{not_behind, not_first}
+use Rattle.sap_net.specs.Prelude.{is_among, Net, Shapes, IsWidth, IsRight, AreWires, IsRegister, IsMemory, readable_after, IsNetlist, PortShows, names_of, input_names, wire_names, register_names, memory_names, first_readable, readable, shapes}
 use Rattle.sap_net.specs.declared.parts.PortKind.{PortKind}
-use Rattle.sap_net.specs.declared.parts.PortKind.TheVariants as kind
 use Rattle.sap_net.specs.declared.parts.Port.{Port}
 use Rattle.sap_net.specs.declared.parts.Wire.{Wire}
-use Rattle.sap_net.specs.Names.{is_among}
-use Rattle.sap_net.specs.Net.{Net}
-use Rattle.sap_net.specs.Rules.{Shapes, IsWidth, IsRight, AreWires, IsRegister, IsMemory, readable_after}
-use Rattle.sap_net.specs.IsNetlist.{IsNetlist, PortShows, names_of, input_names, wire_names, register_names, memory_names, first_readable, readable, shapes}
+use Rattle.sap_net.specs.declared.parts.PortKind.TheVariants as kind
 use Rattle.sap_net.proofs.NamesLemmas.{among_append}
 use Rattle.sap_net.proofs.RulesLemmas.{Grows, readable_both, wires_both}
 use Rattle.sap_build.specs.Writing.{declared, shown, assigned}

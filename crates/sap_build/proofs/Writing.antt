@@ -1,9 +1,6 @@
 -- Names of helping wires that are taken.
-use Rattle.std.proofs.Common.{◌≡◌, ◌≤◌, ◌<◌, ◌+◌, ◌^◌, ℕ, List, [], ◌∷◌, ◌++◌, ◌==◌, true, sym, ◌∙◌, subst, inl, inr, arith}
-use Rattle.std.specs.Prelude.{Option, Some, None, Ok, Err, Result, OnOk, OnErr}
+use Rattle.sap_lemmas.proofs.Common.{◌≡◌, ◌≤◌, ◌<◌, ◌+◌, ◌^◌, ℕ, List, [], ◌∷◌, ◌++◌, ◌==◌, true, sym, ◌∙◌, subst, inl, inr, arith, Option, Some, None, Ok, Err, Result, OnOk, OnErr, cases_Bool, equal_of_test, above_unequal}
 use Rattle.std.specs.Option.{SomeIff, ok_or}
-use Rattle.std.proofs.lemmas.Bool.{cases_Bool}
-use Rattle.sap_lemmas.proofs.Numbers.{equal_of_test, above_unequal}
 use Rattle.sap_maps.specs.Maps.{Name}
 use Rattle.sap_net.specs.Names.{is_among, helper}
 use Rattle.sap_net.proofs.NamesLemmas.{among_here, among_front, among_behind}

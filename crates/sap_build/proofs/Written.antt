@@ -1,26 +1,15 @@
 -- Netlists with one more part keep the rules of netlists.
-use Rattle.std.proofs.Common.{◌≡◌, ℕ, true, false, List, [], ◌∷◌, ◌++◌, map, filter, Some, None, ap, sym, ◌∙◌, refl, subst, inl, inr}
-use Rattle.std.specs.Str.{bytes_eq}
-use Rattle.std.specs.List.{AllByRecursion}
-use Rattle.std.proofs.lemmas.Bool.{cases_Bool}
-use Rattle.std.proofs.lemmas.List.{append-nil, append_assoc, map-append}
-use Rattle.sap_lemmas.proofs.Bools.{neither_right}
-use Rattle.sap_lemmas.proofs.Everywhere.{all_follow}
-use Rattle.sap_lemmas.proofs.Texts.{equal_of_bytes_eq}
-use Rattle.sap_maps.specs.Maps.{Name}
-use Rattle.sap_maps.specs.Scope.{Scope, find}
+use Rattle.sap_lemmas.proofs.Common.{◌≡◌, ℕ, true, false, List, [], ◌∷◌, ◌++◌, map, filter, Some, None, ap, sym, ◌∙◌, refl, subst, inl, inr, bytes_eq, AllByRecursion, cases_Bool, append-nil, append_assoc, map-append, neither_right, all_follow, equal_of_bytes_eq}
+use Rattle.sap_maps.specs.Prelude.{Name, Scope, find}
 use Rattle.sap_maps.proofs.Scopes.{found_behind}
+use Rattle.sap_net.specs.Prelude.{AreDistinct, is_name, is_among, helper, Net, Shapes, IsWidth, IsRight, AreValues, AreMemories, AreWires, IsRegister, IsMemory, readable_after, IsNetlist, PortShows, is_input, input_names, wire_names, register_names, memory_names, first_readable, readable, shapes}
 use Rattle.sap_net.specs.declared.parts.PortKind.{PortKind}
-use Rattle.sap_net.specs.declared.parts.PortKind.TheVariants as kind
 use Rattle.sap_net.specs.declared.parts.Port.{Port}
 use Rattle.sap_net.specs.declared.parts.Input.{Input}
 use Rattle.sap_net.specs.declared.parts.Wire.{Wire}
 use Rattle.sap_net.specs.declared.parts.Register.{Register}
 use Rattle.sap_net.specs.declared.parts.Memory.{Memory}
-use Rattle.sap_net.specs.Names.{AreDistinct, is_name, is_among, helper}
-use Rattle.sap_net.specs.Net.{Net}
-use Rattle.sap_net.specs.Rules.{Shapes, IsWidth, IsRight, AreValues, AreMemories, AreWires, IsRegister, IsMemory, readable_after}
-use Rattle.sap_net.specs.IsNetlist.{IsNetlist, PortShows, is_input, input_names, wire_names, register_names, memory_names, first_readable, readable, shapes}
+use Rattle.sap_net.specs.declared.parts.PortKind.TheVariants as kind
 use Rattle.sap_net.proofs.NamesLemmas.{among_behind, among_front, among_here, apart_by_membership}
 use Rattle.sap_net.proofs.RulesLemmas.{Grows, readable_both, readable_kept, wires_both, wires_new}
 use Rattle.sap_share.proofs.Helpers.{helper_is_name}

@@ -2,10 +2,7 @@
 use Rattle.std.proofs.Common.{◌≡◌, ℕ, ◌<◌, List, [], ◌∷◌, ◌++◌, length, length-append, get_or, replicate, sym, ap, ◌∙◌, subst, arith}
 use Rattle.sap_tree.specs.Syntax.{DesignTree}
 use Rattle.sap_lattice.specs.Levels.{Levels}
-use Rattle.sap_meaning.specs.Cycle.{Tagged}
-use Rattle.sap_meaning.specs.Program.{World}
-use Rattle.sap_meaning.specs.State.{InputsFit, StreamFits, labelled_run}
-use Rattle.sap_meaning.specs.Store.{Refusal}
+use Rattle.sap_meaning.specs.Prelude.{Tagged, World, InputsFit, StreamFits, labelled_run, Refusal}
 use Rattle.sap_net.specs.Net.{Net}
 use Rattle.sap_cycle.specs.Running.{Running, ShowsNext}
 use Rattle.sap_resolved.specs.Fill.{program_of}

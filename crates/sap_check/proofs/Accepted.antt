@@ -5,8 +5,8 @@ use Rattle.sap_tree.specs.Syntax.{DesignTree}
 use Rattle.sap_text.specs.declared.place.Place.{Place}
 use Rattle.sap_lattice.specs.Levels.{Levels}
 use Rattle.sap_names.specs.declared.fault.CheckFault.{CheckFault}
-use Rattle.sap_names.specs.declared.fault.CheckFault.TheVariants.{Memory, Rule}
 use Rattle.sap_names.specs.declared.kind.Code.{Code}
+use Rattle.sap_names.specs.declared.fault.CheckFault.TheVariants.{Memory, Rule}
 use Rattle.sap_shape.specs.WellFormed.{WellFormed, IsFirstFault}
 
 -- so that a fault of it is want of memory

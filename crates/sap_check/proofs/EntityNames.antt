@@ -1,6 +1,5 @@
 -- A name that is written last.
-use Rattle.std.proofs.Common.{◌≡◌, ℕ, ◌+◌, ◌<◌, List, [], ◌++◌, length, sym, ap, ◌∙◌, subst, Option, Some, Result, OnOk, if◌then◌else◌}
-use Rattle.std.specs.Prelude.{OnErr, is_ok, option_map, slice_get, unwrap_or}
+use Rattle.sap_lemmas.proofs.Common.{◌≡◌, ℕ, ◌+◌, ◌<◌, List, [], ◌++◌, length, sym, ap, ◌∙◌, subst, Option, Some, Result, OnOk, if◌then◌else◌, OnErr, is_ok, option_map, slice_get, unwrap_or}
 use Rattle.sap_lemmas.proofs.Lists.{joined_part_on_last}
 use Rattle.sap_names.specs.declared.entity.Entity.{Entity}
 use Rattle.sap_check.specs.SiteTexts.{entity_name}

@@ -1,14 +1,14 @@
 -- A design has at most one first fault.
-use Rattle.std.proofs.Common.{◌≡◌, ◌<◌, ◌≤◌, ◌⊎◌, inl, inr, ℕ, List, [], ◌∷◌, Some, if◌then◌else◌, nat_eq, refl, sym, subst, ap, ap₂, ◌∙◌, arith}
-use Rattle.std.proofs.lemmas.Grind.{common_steps}
+use Rattle.sap_lemmas.proofs.Common.{◌≡◌, ◌<◌, ◌≤◌, ◌⊎◌, inl, inr, ℕ, List, [], ◌∷◌, Some, if◌then◌else◌, nat_eq, refl, sym, subst, ap, ap₂, ◌∙◌, arith, common_steps}
 use Rattle.sap_tree.specs.Syntax.{DesignTree}
 use Rattle.sap_text.specs.declared.place.Place.{Place}
 use Rattle.sap_lattice.specs.Levels.{Levels, order_of}
-use Rattle.sap_names.specs.Fault.{number, StandsIn, Before, BeforeAll, First}
+use Rattle.sap_names.specs.Prelude.{StandsIn, Before, BeforeAll, First, design_name_faults}
 use Rattle.sap_names.specs.declared.fault.Fault.{Fault}
-use Rattle.sap_names.specs.NameFaults.{design_name_faults}
 use Rattle.sap_names.specs.declared.kind.Code.{Code}
-use Rattle.sap_names.specs.declared.kind.Code.TheVariants.{E3, E4, E5, E6, E7, E8, E9, E10, E11, E12, E14, E15, E16, E17}
+use Rattle.sap_names.specs.declared.kind.Code.TheVariants.{E3, E5, E6, E7, E8, E9, E10, E11, E12, E14, E16, E17}
+use Rattle.sap_names.specs.Fault.{number}
+use Rattle.sap_names.specs.declared.kind.Code.TheVariants.{E4, E15}
 use Rattle.sap_shape.specs.ShapeFaults.{IsFirstShapeFault}
 use Rattle.sap_shape.specs.WellFormed.{IsFirstFault}
 

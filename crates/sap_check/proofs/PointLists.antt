@@ -1,21 +1,15 @@
 -- The points of lists of commands and of states, from a place on.
-use Rattle.std.proofs.Common.{◌≡◌, ℕ, zero, suc, ◌+◌, ◌<◌, ◌≤◌, List, [], ◌∷◌, ◌++◌, length, get_or, drop, map, refl, sym, ap, ◌∙◌, arith, add-one, append_assoc, Some}
-use Rattle.std.proofs.lemmas.List.{append-nil, map-append}
-use Rattle.std.proofs.lemmas.Simd.{map-map}
+use Rattle.sap_lemmas.proofs.Common.{◌≡◌, ℕ, zero, suc, ◌+◌, ◌<◌, ◌≤◌, List, [], ◌∷◌, ◌++◌, length, get_or, drop, map, refl, sym, ap, ◌∙◌, arith, add-one, append_assoc, Some, append-nil, map-append, map-map}
+use Rattle.sap_tree.specs.Prelude.{tree_of, simple_points, command_points, block_points, else_points, state_points, Expression, SimpleCommand, Command, if_else, try_then, case_of, ElseBlock, StateTree, Home, command_of, commands_of, block_of, arm_block_of, arms_of, else_of, state_of, states_of}
 use Rattle.sap_tree.specs.declared.syntax.Block.{Block}
 use Rattle.sap_tree.specs.declared.syntax.Arm.{Arm}
 use Rattle.sap_tree.specs.declared.syntax.Cmd.{Cmd}
 use Rattle.sap_tree.specs.declared.syntax.State.{State, out-State}
 use Rattle.sap_tree.specs.declared.syntax.Decl.{Decl}
-use Rattle.sap_tree.specs.Parts.{tree_of}
 use Rattle.sap_tree.specs.declared.version.Version.{Version}
 use Rattle.sap_text.specs.declared.place.Place.{Place}
-use Rattle.sap_tree.specs.Points.{simple_points, command_points, block_points, else_points, state_points}
 use Rattle.sap_tree.specs.Points as points
-use Rattle.sap_tree.specs.Syntax.{Expression, SimpleCommand, Command, if_else, try_then, case_of, ElseBlock, StateTree}
-use Rattle.sap_tree.specs.Touches.{Home}
 use Rattle.sap_check.specs.declared.point.PointKind.TheVariants as kind
-use Rattle.sap_tree.specs.Trees.{command_of, commands_of, block_of, arm_block_of, arms_of, else_of, state_of, states_of}
 use Rattle.sap_tree.proofs.Views.{state_of-out}
 use Rattle.sap_check.specs.declared.point.Point.{Point}
 use Rattle.sap_check.specs.Points.{point, word_of, words_of, words_at, points_of}

@@ -1,24 +1,16 @@
 -- What comparing two streams of a design comes to: the line of those that agree, or why they are refused.
 use Rattle.std.proofs.Common.{◌≡◌, ℕ, List, length, sym, subst, inl, inr, Err}
 use Rattle.std.specs.Prelude.{Option, Some}
-use Rattle.sap_lattice.specs.Levels.{Levels, order_of}
-use Rattle.sap_lattice.specs.Order.{Order}
+use Rattle.sap_lattice.specs.Prelude.{Levels, order_of, Order}
 use Rattle.sap_latfile.specs.LatticeFile.{IsLatticeOfFile}
-use Rattle.sap_meaning.specs.Agree.{StreamsAgree}
-use Rattle.sap_meaning.specs.State.{StreamFits}
-use Rattle.sap_meaning.specs.Cycle.{Tagged}
+use Rattle.sap_meaning.specs.Prelude.{StreamsAgree, StreamFits, Tagged}
 use Rattle.sap_tree.specs.Syntax.{DesignTree}
 use Rattle.sap_stream.specs.Apart.{IsApart}
 use Rattle.sap_stream.specs.declared.apart.Apart.{Apart}
 use Rattle.sap_net.specs.Net.{Net}
-use Rattle.sap_interface.specs.Designs.{named_of}
-use Rattle.sap_interface.specs.StandsFor.{world}
+use Rattle.sap_interface.specs.Prelude.{named_of, world}
 use Rattle.sap_compile.specs.Compiles.{IsModuleFor}
-use Rattle.sap_files.specs.Ending.{Ending, no_memory}
-use Rattle.sap_files.specs.Kinds.{stream_file}
-use Rattle.sap_files.specs.Asks.{Asks, by}
-use Rattle.sap_files.specs.Compared.{Finds, IsVerdict, agreement_line, difference}
-use Rattle.sap_files.specs.Steps.{Ends, Moment, ending}
+use Rattle.sap_files.specs.Prelude.{Ending, no_memory, stream_file, Asks, by, Finds, IsVerdict, agreement_line, difference, Ends, Moment, ending}
 use Rattle.sap_files.specs.declared.failure.Failure.{Failure}
 use Rattle.sap_files.proofs.Ended.{chosen, quiet_self, starved, stopped_by}
 use Rattle.sap_files.proofs.Streams.{stream_fits}

@@ -1,8 +1,7 @@
 -- What each command asks is lawful.
 use Rattle.std.proofs.Common.{◌≡◌, ℕ, List, [], ◌∷◌, refl, sym, ◌∙◌, ap, inl, inr, ◌⊎◌, arith}
 use Rattle.std.specs.Prelude.{Option, Some, None}
-use Rattle.sap_lattice.specs.Levels.{Levels, order_of}
-use Rattle.sap_lattice.specs.Order.{Order}
+use Rattle.sap_lattice.specs.Prelude.{Levels, order_of, Order}
 use Rattle.sap_meaning.specs.Cycle.{Tagged}
 use Rattle.sap_tree.specs.Syntax.{DesignTree}
 use Rattle.sap_stim.specs.declared.fault.StimFault.{StimFault}
@@ -10,10 +9,7 @@ use Rattle.sap_stream.specs.declared.apart.Apart.{Apart}
 use Rattle.sap_stream.proofs.Agreeing.{at_most_one}
 use Rattle.sap_sim.specs.Labelled.RunOf.{read_for as design_stimulus}
 use Rattle.sap_sim.specs.Simulated.{read_for as module_stimulus}
-use Rattle.sap_files.specs.Ending.{Ending, Refusal, done, refused, failed, no_memory, taint_refused, wires_refused, status_of, status_of_refusal, IsFree}
-use Rattle.sap_files.specs.Kinds.{assembly_file, design_file, design_text_file, lattice_file, module_file, module_stream_file, stream_file, wave_file}
-use Rattle.sap_files.specs.Compared.{IsVerdict}
-use Rattle.sap_files.specs.Tainting.{FirstClash, tagged_or_refused}
+use Rattle.sap_files.specs.Prelude.{Ending, Refusal, done, refused, failed, no_memory, taint_refused, wires_refused, status_of, status_of_refusal, IsFree, assembly_file, design_file, design_text_file, lattice_file, module_file, module_stream_file, stream_file, wave_file, IsVerdict, FirstClash, tagged_or_refused, asks_programs, Asks, file, by, AreLawful, MayEnd, end_of}
 use Rattle.sap_taint_pass.specs.declared.fault.TaintFault.TheVariants.{Clash}
 use Rattle.sap_taint.proofs.Clashes.{no_clash_with_room, one_clash}
 use Rattle.sap_net.specs.Net.{Net}
@@ -25,8 +21,6 @@ use Rattle.sap_linked.specs.Designs.{NamedDesign}
 use Rattle.sap_linking.specs.Asked.{asks_parts, asks_wired}
 use Rattle.sap_linking.specs.Kinds.{part_file, system_file}
 use Rattle.sap_linking.proofs.Lawful.{lawful_link}
-use Rattle.sap_files.specs.Uncompiled.{asks_programs}
-use Rattle.sap_files.specs.Asks.{Asks, file, by, AreLawful, MayEnd, end_of}
 use Rattle.sap_commands.specs.Commands.{OneCause, OneOutput, asks, asks_for, asks_if, at_level, compared}
 use Rattle.sap_files.proofs.Lattices.{lattice_lawful}
 use Rattle.sap_files.proofs.Designs.{design_lawful, text_lawful}

@@ -15,10 +15,7 @@ use Rattle.sap_compile.specs.declared.fault.CompileFault.{CompileFault}
 use Rattle.sap_compile.specs.declared.fault.CompileFault.TheVariants as compile
 use Rattle.sap_files.specs.declared.fault.DesignFault.TheVariants as design
 use Rattle.sap_files.specs.declared.failure.Failure.{Failure}
-use Rattle.sap_files.specs.Ending.{Ending, design_refused}
-use Rattle.sap_files.specs.Kinds.{IsLatticeFile, IsWellFormedText, design_file}
-use Rattle.sap_files.specs.Asks.{Asks, file}
-use Rattle.sap_files.specs.Steps.{Ends, Moment, Reads, Refuses, ending}
+use Rattle.sap_files.specs.Prelude.{Ending, design_refused, IsLatticeFile, IsWellFormedText, design_file, Asks, file, Ends, Moment, Reads, Refuses, ending}
 use Rattle.sap_files.proofs.Designs.{fault_in, text_in}
 use Rattle.sap_files.proofs.Ended.{past}
 use Rattle.sap_files.proofs.Fronts.{refused_design, text_of}

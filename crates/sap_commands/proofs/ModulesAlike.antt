@@ -1,23 +1,16 @@
 -- Two lattices that are the same have the same modules for a design.
 use Rattle.std.proofs.Common.{ℕ, ◌+◌, ◌*◌, ◌≤◌, List, length, subst}
 use Rattle.std.specs.List.{AllZip}
-use Rattle.sap_lattice.specs.Levels.{Levels, order_of}
-use Rattle.sap_lattice.specs.Order.{Order}
-use Rattle.sap_lattice.specs.Codes.{width_of}
+use Rattle.sap_lattice.specs.Prelude.{Levels, order_of, Order, width_of}
 use Rattle.sap_latfile.specs.OneLattice.{AreSame}
 use Rattle.sap_maps.specs.Maps.{Valuation}
-use Rattle.sap_meaning.specs.Agree.{StreamsAgree}
-use Rattle.sap_meaning.specs.Cycle.{Tagged}
-use Rattle.sap_meaning.specs.State.{StreamFits}
+use Rattle.sap_meaning.specs.Prelude.{StreamsAgree, Tagged, StreamFits}
 use Rattle.sap_tree.specs.Syntax.{DesignTree}
-use Rattle.sap_net.specs.Net.{Net}
-use Rattle.sap_net.specs.Runs.{IsRun, observed}
+use Rattle.sap_net.specs.Prelude.{Net, IsRun, observed}
 use Rattle.std.specs.Prelude.{map}
 use Rattle.sap_size.specs.Items.{items}
 use Rattle.sap_size.specs.Trees.{design_nodes, entity_count}
-use Rattle.sap_interface.specs.Compiled.{NetStandsFor, NetStartsAs, coded_stream}
-use Rattle.sap_interface.specs.Designs.{named_of, site_count_of}
-use Rattle.sap_interface.specs.StandsFor.{Named, world}
+use Rattle.sap_interface.specs.Prelude.{NetStandsFor, NetStartsAs, coded_stream, named_of, site_count_of, Named, world}
 use Rattle.sap_compile.specs.Agree.{CyclesAgree, CyclesLookAlike}
 use Rattle.sap_compile.specs.Compiles.{IsModuleFor}
 use Rattle.sap_compile.specs.Runs.{HasOneRun}

@@ -1,21 +1,15 @@
 -- How the streams of `twin` end, step by step, behind its design.
 use Rattle.std.proofs.Common.{◌≡◌, ℕ, List, subst, inl, inr}
 use Rattle.std.specs.Prelude.{None, Ok, Err}
-use Rattle.sap_lattice.specs.Levels.{Levels, order_of}
-use Rattle.sap_lattice.specs.Order.{Order}
+use Rattle.sap_lattice.specs.Prelude.{Levels, order_of, Order}
 use Rattle.sap_latfile.specs.LatticeFile.{IsLatticeOfFile}
 use Rattle.sap_latfile.specs.OneLattice.{AreSame}
 use Rattle.sap_latfile.proofs.OneLattice.{one_lattice}
-use Rattle.sap_meaning.specs.Agree.{StreamsAgree}
-use Rattle.sap_meaning.specs.Cycle.{Tagged}
+use Rattle.sap_meaning.specs.Prelude.{StreamsAgree, Tagged}
 use Rattle.sap_tree.specs.Syntax.{DesignTree}
 use Rattle.sap_net.specs.Net.{Net}
 use Rattle.sap_compile.specs.Compiles.{IsModuleFor}
-use Rattle.sap_files.specs.Ending.{Ending}
-use Rattle.sap_files.specs.Kinds.{IsLatticeFile, stream_file}
-use Rattle.sap_files.specs.Asks.{gives}
-use Rattle.sap_files.specs.Compared.{Finds}
-use Rattle.sap_files.specs.Steps.{Ends, EndsReading, Moment, Reads, ending}
+use Rattle.sap_files.specs.Prelude.{Ending, IsLatticeFile, stream_file, gives, Finds, Ends, EndsReading, Moment, Reads, ending}
 use Rattle.sap_files.specs.declared.failure.Failure.{Failure}
 use Rattle.sap_files.proofs.Ended.{chosen, gave, past, reading_ended}
 use Rattle.sap_files.proofs.Streams.{stream_in, stream_refused_in}

@@ -5,10 +5,7 @@ use Rattle.sap_lattice.specs.Levels.{Levels, level_named}
 use Rattle.sap_compile.specs.Parts.{design_of}
 use Rattle.sap_compile.specs.declared.compiled.Compiled.{Compiled}
 use Rattle.sap_words.specs.Words.{twin}
-use Rattle.sap_files.specs.Ending.{Ending, level_refused, refused}
-use Rattle.sap_files.specs.Kinds.{IsLatticeFile, design_file, lattice_file}
-use Rattle.sap_files.specs.Asks.{file}
-use Rattle.sap_files.specs.Steps.{Ends, EndsReading, Moment, Reads, whole}
+use Rattle.sap_files.specs.Prelude.{Ending, level_refused, refused, IsLatticeFile, design_file, lattice_file, file, Ends, EndsReading, Moment, Reads, whole}
 use Rattle.sap_files.proofs.Ended.{chosen, past, quiet_self, reading_ended, stopped_by}
 use Rattle.sap_commands.specs.Commands.{asks, asks_streams}
 use Rattle.sap_commands.specs.Compiling.{IsCompiled}

@@ -1,31 +1,19 @@
 -- What stands for a well-formed design has runs that agree, and look alike, where their streams agree.
-use Rattle.std.proofs.Common.{◌≡◌, ◌≤◌, ℕ, true, ◌==◌, bit_or, List, [], ◌∷◌, map, inl, inr, sym, ap, ◌∙◌, subst}
-use Rattle.std.specs.List.{AllZip}
-use Rattle.std.proofs.lemmas.Bool.{cases_Bool}
+use Rattle.sap_lemmas.proofs.Common.{◌≡◌, ◌≤◌, ℕ, true, ◌==◌, bit_or, List, [], ◌∷◌, map, inl, inr, sym, ap, ◌∙◌, subst, AllZip, cases_Bool}
 use Rattle.sap_meaning.proofs.ProgramLemmas.{register_no_memory_test, state_no_memory_test}
-use Rattle.sap_lattice.specs.Order.{Order, Laws}
-use Rattle.sap_lattice.specs.Levels.{Levels, order_of}
-use Rattle.sap_lattice.specs.Codes.{Codes}
+use Rattle.sap_lattice.specs.Prelude.{Order, Laws, Levels, order_of, Codes}
 use Rattle.sap_maps.specs.Maps.{Valuation}
 use Rattle.sap_tree.specs.Syntax.{DesignTree}
 use Rattle.sap_shape.specs.WellFormed.{WellFormed}
-use Rattle.sap_meaning.specs.Program.{entity}
-use Rattle.sap_meaning.specs.Store.{Store, own, start, start_whole, home, level, Refusal, After}
-use Rattle.sap_meaning.specs.Cycle.{Tagged, cycle, run_from}
-use Rattle.sap_meaning.specs.Fine.{FineProgram}
-use Rattle.sap_meaning.specs.State.{Resting, Fits, InputsFit, StreamFits, first, labelled_run}
-use Rattle.sap_meaning.specs.Agree.{Low, seen}
+use Rattle.sap_meaning.specs.Prelude.{entity, Store, own, start, start_whole, home, level, Refusal, After, Tagged, cycle, run_from, FineProgram, Resting, InputsFit, StreamFits, first, labelled_run, Low, seen}
+use Rattle.sap_meaning.specs.State.{Fits}
 use Rattle.sap_meaning.specs.Agree as meaning
 use Rattle.sap_meaning.proofs.Paths.{coded_alike}
 use Rattle.sap_resolved.specs.Fill.{program_of}
 use Rattle.sap_resolved.specs.Premises.Premises.{ProgramsAreFine}
 use Rattle.sap_secure.specs.Designs.Designs.{RunsOfDesignsAgree, DesignStatesRest, DesignNumbersFit}
-use Rattle.sap_net.specs.Laws.{SomeRun, OneRun}
-use Rattle.sap_net.specs.Net.{Net}
-use Rattle.sap_net.specs.Runs.{observed}
-use Rattle.sap_interface.specs.StandsFor.{Named, world, IsRefusedAt, StandsFor}
-use Rattle.sap_interface.specs.Compiled.{coded_stream, CyclesStand}
-use Rattle.sap_interface.specs.Designs.{named_of, site_count_of, StandsForDesign}
+use Rattle.sap_net.specs.Prelude.{SomeRun, OneRun, Net, observed}
+use Rattle.sap_interface.specs.Prelude.{Named, world, IsRefusedAt, StandsFor, coded_stream, CyclesStand, named_of, site_count_of, StandsForDesign}
 use Rattle.sap_compile.specs.Agree.{IsState, CyclesAgree, IsToldAt, CyclesLookAlike, RunsAgree, RunsLookAlike}
 use Rattle.sap_compile.specs.Runs.{HasOneRunOnStreams}
 use Rattle.sap_compile.proofs.Paths.{are_children, paths_look_alike}

@@ -1,17 +1,15 @@
 -- A lattice file and a design that are taken have no fault, and the other way round.
-use Rattle.std.proofs.Common.{◌≡◌, ◌≢◌, ◌⊎◌, ℕ, List, [], inl, inr, refl, sym, ap, ◌∙◌, subst, Ok}
-use Rattle.std.specs.Prelude.{IsErrOf}
+use Rattle.sap_lemmas.proofs.Common.{◌≡◌, ◌≢◌, ◌⊎◌, ℕ, List, [], inl, inr, refl, sym, ap, ◌∙◌, subst, Ok, IsErrOf}
 use Rattle.sap_check.proofs.FaultsLemmas.{no_check_fault}
 use Rattle.sap_latfile.specs.LatticeFile.{IsLatticeOfFile, FirstFault}
 use Rattle.sap_latfile.specs.OneLattice.{AreSame, OneLattice}
 use Rattle.sap_latfile.specs.declared.fault.LatFileFault.{LatFileFault}
 use Rattle.sap_latfile.specs.declared.fault.LatFileFault.TheVariants as lattice_fault
-use Rattle.sap_lattice.specs.Levels.{Levels, order_of}
-use Rattle.sap_lattice.specs.Order.{Order}
+use Rattle.sap_lattice.specs.Prelude.{Levels, order_of, Order}
 use Rattle.sap_names.specs.NameFaults.{design_name_faults}
 use Rattle.sap_names.specs.declared.fault.CheckFault.{CheckFault}
-use Rattle.sap_names.specs.declared.fault.CheckFault.TheVariants as check
 use Rattle.sap_names.specs.declared.kind.Code.{Code}
+use Rattle.sap_names.specs.declared.fault.CheckFault.TheVariants as check
 use Rattle.sap_parse.specs.Text.{IsText, IsReadFault}
 use Rattle.sap_lex.specs.declared.fault.ReadFault.{ReadFault}
 use Rattle.sap_lex.specs.declared.fault.ReadFault.TheVariants as read

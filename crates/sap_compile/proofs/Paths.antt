@@ -1,11 +1,7 @@
 -- What a cycle shows of the active path in the state for which it stands.
 use Rattle.std.proofs.Common.{◌≡◌, ◌<◌, ◌≤◌, ℕ, zero, suc, List, map, refl, sym, subst, arith}
 use Rattle.sap_maps.specs.Maps.{Valuation}
-use Rattle.sap_meaning.specs.Program.{state_node, Group, no_node, and_node, Block, children, last, root}
-use Rattle.sap_meaning.specs.Store.{Store, Refusal, own, level, child}
-use Rattle.sap_meaning.specs.Fine.{FineNode, FineGroup, FineProgram, size}
-use Rattle.sap_meaning.specs.Agree.{ActiveState, path_from, active_path, PathsRelated}
-use Rattle.sap_meaning.specs.Codes.{LookAlike}
+use Rattle.sap_meaning.specs.Prelude.{state_node, Group, no_node, and_node, Block, children, last, root, Store, Refusal, own, level, child, FineNode, FineGroup, FineProgram, size, ActiveState, path_from, active_path, PathsRelated, LookAlike}
 use Rattle.sap_meaning.proofs.Paths.{with_code, path_levels, coded_related}
 use Rattle.sap_net.specs.PortNames.{root_seat}
 use Rattle.sap_interface.specs.StandsFor.{Named, world, StandsFor}

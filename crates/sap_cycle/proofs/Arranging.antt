@@ -1,10 +1,6 @@
 -- Steps that are placed one after another, each once all that it reads is marked.
-use Rattle.std.proofs.Common.{◌≡◌, ℕ, zero, suc, ◌+◌, ◌<◌, Bool, true, false, List, [], ◌∷◌, ◌++◌, ◌⊎◌, inl, inr, Some, length, replicate, map, sym, ap, ◌∙◌, subst, refl, arith}
-use Rattle.std.specs.Prelude.{slice_get, slice_set}
-use Rattle.std.specs.List.{AllByRecursion}
-use Rattle.std.proofs.lemmas.List.{length-set, map-append}
-use Rattle.std.proofs.lemmas.Bool.{cases_eq}
-use Rattle.sap_lemmas.proofs.Everywhere.{all_append}
+use Rattle.sap_lemmas.proofs.Common.{◌≡◌, ℕ, zero, suc, ◌+◌, ◌<◌, Bool, true, List, [], ◌∷◌, ◌++◌, ◌⊎◌, inl, inr, Some, length, map, sym, ap, ◌∙◌, subst, refl, arith, slice_get, slice_set, AllByRecursion, map-append, cases_eq, all_append}
+use Rattle.std.proofs.lemmas.List.{length-set}
 use Rattle.sap_cycle.specs.declared.instructions.Placed.{Placed}
 use Rattle.sap_cycle.specs.declared.steps.Part.{Part}
 use Rattle.sap_cycle.specs.declared.steps.Step.{Step}
@@ -17,26 +13,6 @@ pub record Arranging (base : ℕ) (parts : List Part) (steps : List Step) (marks
   pub known : (k : ℕ) → IsMarked marks k → KnownAfter (λ k. k < base) placed k
   pub finds : InOrder parts (λ k. k < base) placed
   pub own : AllByRecursion (IsOwn base steps) placed
-
-none_marked : (n k : ℕ) → IsMarked (replicate n false) k → ⊥
-none_marked zero k h = absurd (cc)
-none_marked (suc n) zero h = absurd (cc)
-none_marked (suc n) (suc k) h = none_marked n k h
-
-first_marked : (base n k : ℕ) → IsMarked (replicate base true ++ replicate n false) k → k < base
-first_marked zero n k h = absurd (none_marked n k h)
-first_marked (suc base) n zero h = omega arith
-first_marked (suc base) n (suc k) h = omega (arith, first_marked base n k h)
-
-pub arranging_none : (base : ℕ) (parts : List Part) (steps : List Step) (marks : List Bool) → length marks ≡ base + length steps → (n : ℕ)
-    → marks ≡ replicate base true ++ replicate n false → Arranging base parts steps marks []
-arranging_none base parts steps marks l n e =
-    record {
-      long = l;
-      known = λ k h. first_marked base n k (subst (λ (ms : List Bool). IsMarked ms k) e h);
-      finds = tt;
-      own = tt;
-    }
 
 get_other : (xs : List Bool) (t k : ℕ) (x : Bool) → (k ≡ t → ⊥) → slice_get (slice_set xs t x) k ≡ slice_get xs k
 get_other [] t k x n = refl

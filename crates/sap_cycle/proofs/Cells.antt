@@ -1,15 +1,11 @@
 -- The cells of memories in one array.
-use Rattle.std.proofs.Common.{◌≡◌, ℕ, ◌+◌, ◌<◌, ◌≤◌, ◌==◌, List, [], ◌∷◌, ◌++◌, Bool, true, false, zero, suc, ◌-◌, ◌&&◌, map, length, get_or, set, sym, ap, ◌∙◌, subst, refl, arith, length-append, append_assoc, ⊎_elim, get_or-set_same, get_or-set_other}
-use Rattle.std.specs.Prelude.{if◌then◌else◌}
-use Rattle.std.specs.List.{range_with_len, flat_map, AllByRecursion}
-use Rattle.std.proofs.Math.ListN.{length-set}
-use Rattle.std.proofs.lemmas.Bool.{cases_eq, eq-eqb, ne_eqb}
-use Rattle.std.proofs.lemmas.List.{get_or_append_left, get_or-append-add, set-append_left, set-append_right}
+use Rattle.sap_lemmas.proofs.Common.{◌≡◌, ℕ, ◌+◌, ◌<◌, ◌≤◌, ◌==◌, List, [], ◌∷◌, ◌++◌, Bool, true, false, zero, suc, ◌-◌, ◌&&◌, map, length, get_or, set, sym, ap, ◌∙◌, subst, refl, arith, length-append, append_assoc, ⊎_elim, get_or-set_other, if◌then◌else◌, range_with_len, flat_map, AllByRecursion, length-set, cases_eq, eq-eqb, ne_eqb, get_or_append_left, get_or-append-add}
+use Rattle.std.proofs.Common.{get_or-set_same}
+use Rattle.std.proofs.lemmas.List.{set-append_left, set-append_right}
 use Rattle.std.proofs.lemmas.List.FromFn.{length-map-range_with_len, get_or-map-range_with_len, fill_by_all}
 use Rattle.sap_maps.specs.Maps.{Name, Valuation}
+use Rattle.sap_net.specs.Prelude.{operand_value, written}
 use Rattle.sap_net.specs.declared.parts.Memory.{Memory}
-use Rattle.sap_net.specs.Values.{operand_value}
-use Rattle.sap_net.specs.Runs.{written}
 use Rattle.sap_cycle.specs.declared.steps.WritePort.{WritePort}
 use Rattle.sap_cycle.specs.Steps.{slot_value, stored, stored_one, ArePortsReady}
 use Rattle.sap_cycle.specs.Means.{cell_count, PortsMean, Matches}

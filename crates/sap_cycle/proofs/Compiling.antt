@@ -1,18 +1,12 @@
 -- The steps of the wires, one wire after another.
-use Rattle.std.proofs.Common.{◌≡◌, ℕ, ◌+◌, ◌<◌, ◌≤◌, List, [], ◌∷◌, ◌++◌, map, Some, length, get_or, take, drop, sym, ap, ◌∙◌, subst, refl, append_assoc, append-nil}
-use Rattle.std.specs.Prelude.{unwrap_or}
-use Rattle.std.specs.List.{AllByRecursion}
-use Rattle.std.proofs.lemmas.List.{map_more, take_more, take_all, drop_more}
+use Rattle.sap_lemmas.proofs.Common.{◌≡◌, ℕ, ◌+◌, ◌<◌, ◌≤◌, List, [], ◌∷◌, ◌++◌, map, Some, length, get_or, take, drop, sym, ap, ◌∙◌, subst, refl, append_assoc, append-nil, unwrap_or, AllByRecursion, map_more, take_more, take_all, drop_more}
 use Rattle.sap_net.proofs.RulesLemmas.{readable_kept}
-use Rattle.sap_maps.specs.Maps.{Name}
-use Rattle.sap_maps.specs.Scope.{Scope, find}
+use Rattle.sap_maps.specs.Prelude.{Name, Scope, find}
 use Rattle.sap_maps.proofs.Scopes.{found_here}
+use Rattle.sap_net.specs.Prelude.{Net, AreWires, readable_after, IsRegister, IsMemory, IsNetlist, first_readable, readable, shapes, width_of}
 use Rattle.sap_net.specs.declared.parts.Wire.{Wire}
 use Rattle.sap_net.specs.declared.parts.Register.{Register}
 use Rattle.sap_net.specs.declared.parts.Memory.{Memory}
-use Rattle.sap_net.specs.Net.{Net}
-use Rattle.sap_net.specs.Rules.{AreWires, readable_after, IsRegister, IsMemory}
-use Rattle.sap_net.specs.IsNetlist.{IsNetlist, first_readable, readable, shapes, width_of}
 use Rattle.sap_cycle.specs.declared.known.Known.{Known}
 use Rattle.sap_cycle.specs.declared.steps.Part.{Part}
 use Rattle.sap_cycle.specs.declared.steps.Step.{Step}

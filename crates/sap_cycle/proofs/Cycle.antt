@@ -1,20 +1,12 @@
 -- A cycle on the arrays is a cycle of the netlist.
-use Rattle.std.proofs.Common.{◌≡◌, ℕ, ◌+◌, ◌<◌, ◌≤◌, List, [], ◌∷◌, ◌++◌, map, Option, Some, None, length, take, drop, sym, ap, ◌∙◌, subst, arith, refl, length-append, append_assoc}
-use Rattle.std.specs.Prelude.{unwrap_or, slice_index}
-use Rattle.std.specs.List.{AllByRecursion}
-use Rattle.std.proofs.Math.Seq.{drop-append_seam, take-append_seam, take-length, drop-length}
-use Rattle.std.proofs.lemmas.List.{map-append, length-map, append-nil, get_or_append_left}
-use Rattle.sap_maps.specs.Maps.{Name, Valuation}
-use Rattle.sap_maps.specs.Scope.{Scope, find}
+use Rattle.sap_lemmas.proofs.Common.{◌≡◌, ℕ, ◌+◌, ◌<◌, ◌≤◌, List, [], ◌∷◌, ◌++◌, map, Option, Some, None, length, take, drop, sym, ap, ◌∙◌, subst, arith, refl, length-append, append_assoc, unwrap_or, slice_index, AllByRecursion, take-append_seam, map-append, length-map, append-nil, get_or_append_left}
+use Rattle.std.proofs.Math.Seq.{drop-append_seam, take-length, drop-length}
+use Rattle.sap_maps.specs.Prelude.{Name, Valuation, Scope, find}
+use Rattle.sap_net.specs.Prelude.{operand_value, IsMemory, Net, IsNetlist, width_of, first_readable, readable, shapes, input_names, register_names, wire_names, written, observed, InputsAre, IsCycle}
 use Rattle.sap_net.specs.declared.parts.Input.{Input}
 use Rattle.sap_net.specs.declared.parts.Register.{Register}
 use Rattle.sap_net.specs.declared.parts.Wire.{Wire}
 use Rattle.sap_net.specs.declared.parts.Memory.{Memory}
-use Rattle.sap_net.specs.Values.{operand_value}
-use Rattle.sap_net.specs.Rules.{IsMemory}
-use Rattle.sap_net.specs.Net.{Net}
-use Rattle.sap_net.specs.IsNetlist.{IsNetlist, width_of, first_readable, readable, shapes, input_names, register_names, wire_names}
-use Rattle.sap_net.specs.Runs.{written, observed, InputsAre, IsCycle}
 use Rattle.sap_net.proofs.Same.{all_found}
 use Rattle.sap_net.proofs.Within.{ValuesBelow, operand_below, widths_are}
 use Rattle.sap_net.proofs.Observed.{observed_inputs, observed_registers, observed_wires, observed_memories}

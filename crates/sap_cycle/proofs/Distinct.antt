@@ -1,19 +1,14 @@
 -- Names of a netlist are found where they are declared, and nowhere else.
-use Rattle.std.proofs.Common.{◌≡◌, ℕ, List, [], ◌∷◌, ◌++◌, map, Some, None, refl}
-use Rattle.std.specs.List.{AllByRecursion}
-use Rattle.sap_lemmas.proofs.Texts.{bytes_eq_apart_back}
+use Rattle.sap_lemmas.proofs.Common.{◌≡◌, ℕ, List, [], ◌∷◌, ◌++◌, map, Some, None, refl, AllByRecursion, bytes_eq_apart_back}
 use Rattle.sap_net.proofs.RulesLemmas.{readable_kept, values_found, values_past}
 use Rattle.sap_net.proofs.InputLemmas.{past_inputs}
-use Rattle.sap_maps.specs.Maps.{Name}
-use Rattle.sap_maps.specs.Scope.{Scope, find}
+use Rattle.sap_maps.specs.Prelude.{Name, Scope, find}
 use Rattle.sap_maps.proofs.Scopes.{found_here, not_first, not_behind}
+use Rattle.sap_net.specs.Prelude.{Net, Shapes, AreWires, AreValues, AreMemories, readable_after, IsNetlist, shapes, first_readable, readable}
 use Rattle.sap_net.specs.declared.parts.Input.{Input}
 use Rattle.sap_net.specs.declared.parts.Wire.{Wire}
 use Rattle.sap_net.specs.declared.parts.Register.{Register}
 use Rattle.sap_net.specs.declared.parts.Memory.{Memory}
-use Rattle.sap_net.specs.Net.{Net}
-use Rattle.sap_net.specs.Rules.{Shapes, AreWires, AreValues, AreMemories, readable_after}
-use Rattle.sap_net.specs.IsNetlist.{IsNetlist, shapes, first_readable, readable}
 
 -- a list under its names, each with something of its own
 abbrev pub listed : {A X : Type 0} → (key : A → Name) → (of : A → X) → List A → List (Name × X)
@@ -87,11 +82,6 @@ pub wires_no_registers : {Y : Type 0} (n : Net) → IsNetlist n → (g : Registe
 wires_no_registers {Y} n rules g =
     wires_apart (shapes n) g n.registers n.wires (first_readable n) rules.assigns
     (λ x h. none_listed (λ r. r.name) (λ r. r.width) g n.registers x (past_inputs n.inputs _ x h))
-
--- Every input, register and wire can be read.
-keep_entries : (e : Name × ℕ) (all es : Scope) → find es e.0 ≡ None → AllByRecursion (λ d. find all d.0 ≡ Some d.1) es → AllByRecursion (λ d. find (e ∷ all) d.0 ≡ Some d.1) es
-keep_entries e all [] fresh h = tt
-keep_entries e all (d ∷ es) fresh h = (rw (not_first d es e.0 fresh) h.0, keep_entries e all es (not_behind d es e.0 fresh) h.1)
 
 abbrev pub AreReadable : {A : Type 0} → Scope → (key : A → Name) → (width : A → ℕ) → List A → Type 0
 AreReadable sc key width list = AllByRecursion (λ a. find sc (key a) ≡ Some (width a)) list

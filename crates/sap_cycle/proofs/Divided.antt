@@ -1,8 +1,5 @@
 -- Steps that are divided into runs.
-use Rattle.std.proofs.Common.{◌≡◌, ℕ, ◌+◌, ◌≤◌, List, [], ◌∷◌, ◌++◌, length, map, take, drop, sym, ap, ◌∙◌, arith, append_assoc}
-use Rattle.std.specs.Prelude.{◌-◌, slice_range}
-use Rattle.std.proofs.Math.Seq.{take-add}
-use Rattle.std.proofs.lemmas.List.{append-nil, map-append, take-append-drop}
+use Rattle.sap_lemmas.proofs.Common.{◌≡◌, ℕ, ◌+◌, ◌≤◌, List, [], ◌∷◌, ◌++◌, length, map, take, drop, sym, ap, ◌∙◌, arith, append_assoc, ◌-◌, slice_range, take-add, append-nil, map-append, take-append-drop}
 use Rattle.sap_cycle.specs.declared.instructions.Placed.{Placed}
 use Rattle.sap_cycle.specs.declared.runs.Run.{Run}
 use Rattle.sap_cycle.specs.declared.steps.Step.{Step}

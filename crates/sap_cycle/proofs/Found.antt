@@ -1,11 +1,6 @@
 -- A map of places, name by name.
-use Rattle.std.proofs.Common.{◌≡◌, ◌<◌, ℕ, zero, suc, arith, List, [], ◌∷◌, ◌++◌, Some, None, length, sym, ap, ◌∙◌, subst, refl, inl, inr, true≢false}
-use Rattle.std.specs.Prelude.{slice_get, Contains, IsSome, Vec}
-use Rattle.std.specs.Str.{bytes_eq}
-use Rattle.std.specs.Map.{lookup}
-use Rattle.std.specs.declared.alloc.Global.{Global}
-use Rattle.std.proofs.lemmas.Slice.Eq.{bytes_eq-Decides}
-use Rattle.std.proofs.lemmas.Bool.{cases_Bool}
+use Rattle.sap_lemmas.proofs.Common.{◌≡◌, ◌<◌, ℕ, zero, suc, arith, List, [], ◌∷◌, ◌++◌, Some, None, length, sym, ap, ◌∙◌, subst, refl, inl, inr, true≢false, slice_get, Contains, IsSome, bytes_eq, lookup, Global, bytes_eq-Decides, cases_Bool}
+use Rattle.std.specs.Prelude.{Vec}
 use Rattle.std.proofs.lemmas.List.Elements.{Contains-push_cases}
 use Rattle.sap_maps.specs.Maps.{Name}
 use Rattle.sap_net.specs.NameMaps.{at_name, NameMap, Puts}

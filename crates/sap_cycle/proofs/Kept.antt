@@ -1,15 +1,8 @@
 -- Where a memory's cells are kept.
-use Rattle.std.proofs.Common.{◌≡◌, ℕ, zero, suc, ◌+◌, ◌<◌, ◌≤◌, List, [], ◌∷◌, ◌++◌, map, Option, Some, None, length, get_or, ap, ◌∙◌, subst, refl, arith}
-use Rattle.std.specs.Prelude.{slice_get, slice_index}
-use Rattle.std.specs.List.{AllByRecursion}
-use Rattle.std.proofs.lemmas.List.{get_or_default}
-use Rattle.std.proofs.lemmas.Bool.{lt-ltb, le-ltb}
-use Rattle.sap_maps.specs.Maps.{Name, Valuation}
-use Rattle.sap_maps.specs.Scope.{find}
+use Rattle.sap_lemmas.proofs.Common.{◌≡◌, ℕ, zero, suc, ◌+◌, ◌<◌, ◌≤◌, List, [], ◌∷◌, ◌++◌, map, Option, Some, None, length, get_or, ap, ◌∙◌, subst, refl, arith, slice_get, slice_index, AllByRecursion, get_or_default, lt-ltb, le-ltb}
+use Rattle.sap_maps.specs.Prelude.{Name, Valuation, find}
+use Rattle.sap_net.specs.Prelude.{Net, IsNetlist, memory_names, at_name, NameMap}
 use Rattle.sap_net.specs.declared.parts.Memory.{Memory}
-use Rattle.sap_net.specs.Net.{Net}
-use Rattle.sap_net.specs.IsNetlist.{IsNetlist, memory_names}
-use Rattle.sap_net.specs.NameMaps.{at_name, NameMap}
 use Rattle.sap_cycle.specs.declared.steps.WritePort.{WritePort}
 use Rattle.sap_cycle.specs.Means.{PortsMean, cell_count}
 use Rattle.sap_cycle.specs.Places.{Finds}

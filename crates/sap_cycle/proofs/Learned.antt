@@ -1,20 +1,13 @@
 -- What is known finds the operands' places and widths.
-use Rattle.std.proofs.Common.{◌≡◌, ℕ, zero, suc, ◌+◌, ◌<◌, List, [], ◌∷◌, ◌++◌, map, Some, length, get_or, take, sym, ap, ap₂, ◌∙◌, subst, refl, arith, append_assoc, append-nil, inl, inr}
-use Rattle.std.specs.Prelude.{slice_get, slice_index, unwrap_or, Contains}
-use Rattle.std.specs.List.{AllByRecursion}
-use Rattle.std.proofs.lemmas.List.{length-map, map_more}
-use Rattle.std.proofs.lemmas.Option.{slice_get_within}
-use Rattle.sap_maps.specs.Maps.{Name}
-use Rattle.sap_maps.specs.Scope.{Scope}
+use Rattle.sap_lemmas.proofs.Common.{◌≡◌, ℕ, zero, suc, ◌+◌, ◌<◌, List, [], ◌∷◌, ◌++◌, map, Some, length, get_or, take, sym, ap, ap₂, ◌∙◌, subst, refl, arith, append_assoc, append-nil, inl, inr, slice_get, slice_index, unwrap_or, Contains, AllByRecursion, length-map, map_more, slice_get_within}
+use Rattle.sap_maps.specs.Prelude.{Name, Scope}
+use Rattle.sap_net.specs.Prelude.{operand_width, Shapes, IsOperand, AreOperands, IsRight, at_name}
 use Rattle.sap_net.specs.declared.parts.Operand.{Operand}
 use Rattle.sap_net.specs.declared.parts.Operand.TheVariants.{Named, Constant}
 use Rattle.sap_net.specs.declared.parts.Right.{Right}
-use Rattle.sap_net.specs.declared.parts.Right.TheVariants as right
 use Rattle.sap_net.specs.declared.parts.Wire.{Wire}
 use Rattle.sap_net.specs.declared.parts.Memory.{Memory}
-use Rattle.sap_net.specs.Values.{operand_width}
-use Rattle.sap_net.specs.Rules.{Shapes, IsOperand, AreOperands, IsRight}
-use Rattle.sap_net.specs.NameMaps.{at_name}
+use Rattle.sap_net.specs.declared.parts.Right.TheVariants as right
 use Rattle.sap_cycle.specs.declared.known.Known.{Known}
 use Rattle.sap_cycle.specs.declared.steps.Part.{Part}
 use Rattle.sap_cycle.specs.declared.steps.Step.{Step}

@@ -1,22 +1,10 @@
 -- What a look-up of a name finds.
-use Rattle.std.proofs.Common.{◌≡◌, ℕ, zero, suc, ◌+◌, ◌-◌, ◌<◌, ◌≤◌, List, [], ◌∷◌, ◌++◌, Bool, true, false, map, Option, Some, None, length, get_or, sym, ap, ◌∙◌, subst, refl, arith, length-append, append_assoc, append-nil, ⊎_elim, ◌⊎◌, inl, inr, true≢false}
-use Rattle.std.specs.Prelude.{slice_get, option_map, is_some, IsSome, Contains, nat_le, nat_lt, ◌||◌, ◌&&◌}
-use Rattle.std.specs.Str.{bytes_eq}
-use Rattle.std.specs.List.{AllByRecursion}
-use Rattle.std.proofs.lemmas.Bool.{cases_Bool, cases_lt, lt-ltb, le-ltb, le-leb, lt-leb}
-use Rattle.std.proofs.lemmas.List.{length-map}
+use Rattle.sap_lemmas.proofs.Common.{◌≡◌, ℕ, zero, suc, ◌+◌, ◌-◌, ◌<◌, ◌≤◌, List, [], ◌∷◌, ◌++◌, Bool, true, false, map, Option, Some, None, length, get_or, sym, ap, ◌∙◌, subst, refl, arith, length-append, append_assoc, append-nil, ⊎_elim, ◌⊎◌, inl, inr, true≢false, slice_get, option_map, is_some, IsSome, Contains, nat_le, nat_lt, ◌||◌, ◌&&◌, bytes_eq, AllByRecursion, cases_Bool, cases_lt, lt-ltb, le-ltb, le-leb, lt-leb, length-map, slice_get-map, get_or_from_slice_get, all_append, equal_of_bytes_eq}
 use Rattle.std.proofs.lemmas.List.Elements.{Contains-append_left, Contains-append_right, Contains-push}
-use Rattle.std.proofs.lemmas.Option.{slice_get-map, get_or_from_slice_get}
-use Rattle.sap_lemmas.proofs.Everywhere.{all_append}
-use Rattle.sap_lemmas.proofs.Texts.{equal_of_bytes_eq}
-use Rattle.sap_maps.specs.Maps.{Name, Valuation}
-use Rattle.sap_maps.specs.Scope.{Scope, find}
+use Rattle.sap_maps.specs.Prelude.{Name, Valuation, Scope, find}
+use Rattle.sap_net.specs.Prelude.{Net, readable_after, IsNetlist, first_readable, readable, input_names, register_names, wire_names, at_name, NameMap}
 use Rattle.sap_net.specs.declared.parts.Input.{Input}
 use Rattle.sap_net.specs.declared.parts.Wire.{Wire}
-use Rattle.sap_net.specs.Net.{Net}
-use Rattle.sap_net.specs.Rules.{readable_after}
-use Rattle.sap_net.specs.IsNetlist.{IsNetlist, first_readable, readable, input_names, register_names, wire_names}
-use Rattle.sap_net.specs.NameMaps.{at_name, NameMap}
 use Rattle.sap_cycle.specs.Places.{Finds}
 use Rattle.sap_cycle.specs.Running.{first_names, value_names, can_be_seen}
 use Rattle.sap_cycle.proofs.Distinct.{inputs_readable, registers_readable, wires_readable, registers_found, inputs_no_registers, wires_no_registers}

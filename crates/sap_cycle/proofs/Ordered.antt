@@ -1,11 +1,6 @@
 -- Steps in an order in which each finds what it reads give the numbers that belong to their places.
-use Rattle.std.proofs.Common.{◌≡◌, ℕ, ◌+◌, ◌<◌, List, [], ◌∷◌, ◌⊎◌, inl, inr, length, Some, sym, ap, ap₂, ◌∙◌, refl, arith, ⊎_elim}
-use Rattle.std.specs.Prelude.{slice_get, slice_index, slice_range, slice_set}
-use Rattle.std.specs.List.{AllByRecursion}
-use Rattle.std.proofs.Math.ListN.{length-set}
-use Rattle.std.proofs.lemmas.Bool.{cases_eq}
-use Rattle.std.proofs.lemmas.Grind.{get_or-set_at, same_number_lists}
-use Rattle.std.proofs.lemmas.List.{get_or-set_other}
+use Rattle.sap_lemmas.proofs.Common.{◌≡◌, ℕ, ◌+◌, ◌<◌, List, [], ◌∷◌, ◌⊎◌, inl, inr, length, Some, sym, ap, ap₂, ◌∙◌, refl, arith, ⊎_elim, slice_get, slice_index, slice_range, slice_set, AllByRecursion, length-set, cases_eq, get_or-set_at, get_or-set_other}
+use Rattle.std.proofs.lemmas.Grind.{same_number_lists}
 use Rattle.sap_bits.specs.Arithmetic.{value1, value2, slice_of, joined}
 use Rattle.sap_cycle.specs.declared.steps.Slot.{Slot}
 use Rattle.sap_cycle.specs.declared.steps.Slot.TheVariants.{At, Number}

@@ -1,22 +1,19 @@
 -- Steps over places give the wires' numbers.
-use Rattle.std.proofs.Common.{◌≡◌, ℕ, zero, suc, ◌+◌, ◌*◌, ◌^◌, ◌<◌, ◌≤◌, List, [], ◌∷◌, ◌++◌, map, Some, length, take, drop, sym, ap, ◌∙◌, subst, arith, refl, length-append, append_assoc}
-use Rattle.std.specs.Prelude.{slice_get, slice_index, slice_range, ◌-◌}
+use Rattle.sap_lemmas.proofs.Common.{◌≡◌, ℕ, zero, suc, ◌+◌, ◌*◌, ◌^◌, ◌<◌, ◌≤◌, List, [], ◌∷◌, ◌++◌, map, Some, length, take, drop, sym, ap, ◌∙◌, subst, arith, refl, length-append, append_assoc, slice_get, slice_index, slice_range, ◌-◌, length-map, map-append, slice_get_within}
 use Rattle.std.proofs.Math.Seq.{get_or-append_seam}
-use Rattle.std.proofs.lemmas.List.{length-map, map-append, take_at, drop_at}
-use Rattle.std.proofs.lemmas.Option.{some_pair_parts, slice_get_within}
+use Rattle.std.proofs.lemmas.List.{take_at, drop_at}
+use Rattle.std.proofs.lemmas.Option.{some_pair_parts}
 use Rattle.sap_net.proofs.RulesLemmas.{readable_kept}
-use Rattle.sap_maps.specs.Maps.{Name, Valuation}
-use Rattle.sap_maps.specs.Scope.{Scope, find}
+use Rattle.sap_maps.specs.Prelude.{Name, Valuation, Scope, find}
 use Rattle.sap_maps.proofs.Terms.{right_fits}
+use Rattle.sap_net.specs.Prelude.{operand_value, operand_width, operands_width, operands_value, right_value, Holds, Shapes, AreOperands, IsRight, AreWires, readable_after, IsWidth}
 use Rattle.sap_net.specs.declared.parts.Operand.TheVariants.{Named}
 use Rattle.sap_net.specs.declared.parts.Operand.{Operand}
 use Rattle.sap_net.specs.declared.parts.Right.{Right}
-use Rattle.sap_net.specs.declared.parts.Right.TheVariants as right
 use Rattle.sap_net.specs.declared.parts.Wire.{Wire}
 use Rattle.sap_net.specs.declared.parts.Memory.{Memory}
+use Rattle.sap_net.specs.declared.parts.Right.TheVariants as right
 use Rattle.sap_bits.specs.Arithmetic.{joined}
-use Rattle.sap_net.specs.Values.{operand_value, operand_width, operands_width, operands_value, right_value, Holds}
-use Rattle.sap_net.specs.Rules.{Shapes, AreOperands, IsRight, AreWires, readable_after, IsWidth}
 use Rattle.sap_net.proofs.Same.{AreFound}
 use Rattle.sap_net.proofs.Within.{ValuesBelow, WidthsAre, operand_below, operand_is_wide}
 use Rattle.sap_cycle.specs.declared.steps.Part.{Part}

@@ -1,17 +1,11 @@
 -- Slots and parts have the operands' numbers.
-use Rattle.std.proofs.Common.{◌≡◌, ℕ, ◌+◌, ◌-◌, ◌*◌, ◌^◌, ◌<◌, ◌≤◌, List, [], ◌∷◌, map, length, get_or, sym, ap, ◌∙◌, arith, get_or-take, Some}
-use Rattle.std.specs.Prelude.{slice_get, option_map}
-use Rattle.std.proofs.Math.Nat.{pow-le-pow_right}
-use Rattle.std.proofs.lemmas.Nat.{pow-add}
-use Rattle.std.proofs.lemmas.Option.{slice_get-map, slice_get_within, get_or_from_slice_get}
+use Rattle.sap_lemmas.proofs.Common.{◌≡◌, ℕ, ◌+◌, ◌-◌, ◌*◌, ◌^◌, ◌<◌, ◌≤◌, List, [], ◌∷◌, map, length, get_or, sym, ap, ◌∙◌, arith, get_or-take, Some, slice_get, option_map, pow-le-pow_right, pow-add, slice_get-map, slice_get_within, get_or_from_slice_get}
 use Rattle.sap_bits.specs.Arithmetic.{joined}
-use Rattle.sap_maps.specs.Maps.{Name, Valuation}
-use Rattle.sap_maps.specs.Scope.{Scope}
+use Rattle.sap_maps.specs.Prelude.{Name, Valuation, Scope}
 use Rattle.sap_maps.proofs.Terms.{joined_below}
+use Rattle.sap_net.specs.Prelude.{operand_value, operand_width, operands_width, operands_value, AreOperands}
 use Rattle.sap_net.specs.declared.parts.Operand.{Operand}
 use Rattle.sap_net.specs.declared.parts.Operand.TheVariants.{Named, Constant}
-use Rattle.sap_net.specs.Values.{operand_value, operand_width, operands_width, operands_value}
-use Rattle.sap_net.specs.Rules.{AreOperands}
 use Rattle.sap_net.proofs.Within.{ValuesBelow, WidthsAre, operand_below, operand_is_wide}
 use Rattle.sap_cycle.specs.declared.steps.Slot.{Slot}
 use Rattle.sap_cycle.specs.declared.steps.Slot.TheVariants.{At, Number}

@@ -1,7 +1,5 @@
 -- What is known before each position of a list of steps, along a walk over the list.
-use Rattle.std.proofs.Common.{◌≡◌, ℕ, zero, suc, ◌+◌, ◌<◌, List, [], ◌∷◌, ◌⊎◌, inl, inr, Some, length, sym, ap, subst, refl, arith, ⊎_elim}
-use Rattle.std.specs.Prelude.{slice_get, slice_range}
-use Rattle.std.specs.List.{AllByRecursion}
+use Rattle.sap_lemmas.proofs.Common.{◌≡◌, ℕ, zero, suc, ◌+◌, ◌<◌, List, [], ◌∷◌, ◌⊎◌, inl, inr, Some, length, sym, ap, subst, refl, arith, ⊎_elim, slice_get, slice_range, AllByRecursion}
 use Rattle.sap_cycle.specs.declared.steps.Slot.{Slot}
 use Rattle.sap_cycle.specs.declared.steps.Slot.TheVariants.{At, Number}
 use Rattle.sap_cycle.specs.declared.steps.Part.{Part}

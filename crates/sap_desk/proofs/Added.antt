@@ -1,11 +1,6 @@
 -- A part is added to a channel that is open for writing, and to its file.
-use Rattle.std.proofs.Common.{◌≡◌, ℕ, ◌+◌, ◌-◌, ◌<◌, ◌≤◌, Bool, true, false, cond, List, [], ◌∷◌, ◌++◌, length, get_or, refl, sym, ◌∙◌, ap, subst, arith, inl, inr, length-append}
-use Rattle.std.specs.Prelude.{bytes_eq, string_bytes, slice_get, vec_capacity, position, unwrap_or, option_map, ltb, is_some, IfNone, Option, Some, None}
-use Rattle.std.proofs.lemmas.Bool.{cases_Bool}
-use Rattle.std.proofs.lemmas.Bool.Decides.{nat_tests}
-use Rattle.std.specs.List.{position_or_len}
+use Rattle.sap_lemmas.proofs.Common.{◌≡◌, ℕ, ◌+◌, ◌-◌, ◌<◌, ◌≤◌, Bool, true, false, cond, List, [], ◌∷◌, ◌++◌, length, get_or, refl, sym, ◌∙◌, ap, subst, arith, inl, inr, length-append, bytes_eq, string_bytes, slice_get, vec_capacity, position, unwrap_or, option_map, ltb, is_some, IfNone, Option, Some, None, cases_Bool, nat_tests, position_or_len, bytes_eq_apart_back, bytes_eq_same}
 use Rattle.std.proofs.lemmas.List.Sums.{get_or-le-sum_by}
-use Rattle.sap_lemmas.proofs.Texts.{bytes_eq_apart_back, bytes_eq_same}
 use Rattle.sap_desk.specs.Desk.{Use, closed, reads, writes, stream, at_number, at_name, added, added_to, IsWriting}
 use Rattle.sap_desk.proofs.Places.{placed_read}
 use Rattle.sap_desk.specs.declared.stored.StoredFile.{StoredFile}

@@ -1,8 +1,7 @@
 -- Channels by their numbers.
-use Rattle.std.proofs.Common.{◌≡◌, ℕ, zero, suc, ◌+◌, ◌<◌, List, [], ◌∷◌, ◌++◌, length, set, get_or, sym, ◌∙◌, ap, arith, length-append, length-set}
-use Rattle.std.specs.Prelude.{string_bytes, slice_get, Option, Some, None, option_map, unwrap_or}
+use Rattle.sap_lemmas.proofs.Common.{◌≡◌, ℕ, zero, suc, ◌+◌, ◌<◌, List, [], ◌∷◌, ◌++◌, length, set, get_or, sym, ◌∙◌, ap, arith, length-append, string_bytes, slice_get, Option, Some, None, option_map, unwrap_or, slice_get-get_or}
+use Rattle.std.proofs.Common.{length-set}
 use Rattle.std.proofs.lemmas.List.Sums.{sum_by-set, sum_by_push}
-use Rattle.std.proofs.lemmas.Option.{slice_get-get_or}
 use Rattle.sap_desk.specs.Desk.{at_number, placed}
 use Rattle.sap_desk.proofs.Places.{placed_push, placed_set, placed_set_same}
 use Rattle.sap_desk.specs.declared.stored.Channel.{Channel}

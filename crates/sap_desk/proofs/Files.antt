@@ -1,13 +1,7 @@
 -- Files by their names.
-use Rattle.std.proofs.Common.{◌≡◌, ℕ, ◌<◌, ◌≤◌, Bool, true, false, cond, List, [], ◌∷◌, ◌++◌, length, set, get_or, refl, sym, ◌∙◌, ap, subst, arith, inl, inr, one-add}
-use Rattle.std.specs.Prelude.{bytes_eq, string_bytes, position, nat_lt, slice_get, Option, Some, None, option_map}
-use Rattle.std.specs.List.{position_or_len}
-use Rattle.std.specs.Option.{option_or}
+use Rattle.sap_lemmas.proofs.Common.{◌≡◌, ℕ, ◌<◌, ◌≤◌, Bool, true, false, cond, List, [], ◌∷◌, ◌++◌, length, set, get_or, refl, sym, ◌∙◌, ap, subst, arith, inl, inr, bytes_eq, string_bytes, position, nat_lt, slice_get, Option, Some, None, option_map, position_or_len, option_or, nat_tests, cases_Bool, slice_get-get_or, bytes_eq_apart_back, bytes_eq_same, equal_of_bytes_eq}
+use Rattle.std.proofs.Common.{one-add}
 use Rattle.std.proofs.lemmas.List.Folds.{find-set, find_past, find-append, find_at}
-use Rattle.std.proofs.lemmas.Bool.Decides.{nat_tests}
-use Rattle.std.proofs.lemmas.Bool.{cases_Bool}
-use Rattle.std.proofs.lemmas.Option.{slice_get-get_or}
-use Rattle.sap_lemmas.proofs.Texts.{bytes_eq_apart_back, bytes_eq_same, equal_of_bytes_eq}
 use Rattle.sap_desk.specs.Desk.{at_name}
 use Rattle.sap_desk.specs.declared.stored.StoredFile.{StoredFile}
 use Rattle.sap_desk.specs.Memory.{file_named, files_of, named}

@@ -10,5 +10,4 @@ pub mod Added
 pub mod Told
 pub mod Shown
 pub mod Written
-pub mod Gaining
 pub mod DeskLemmas

@@ -1,10 +1,5 @@
 -- A line in parts: what one more part makes of what was written before it.
-use Rattle.std.proofs.Common.{◌≡◌, ℕ, ◌+◌, ◌<◌, ◌≤◌, List, [], ◌∷◌, ◌++◌, length, take, drop, append_assoc, refl, sym, ◌∙◌, ap, subst, arith, inl, inr, length-append}
-use Rattle.std.specs.Prelude.{Option, Some, None, option_map, IfSome}
-use Rattle.std.specs.Borrow.{Bor}
-use Rattle.std.proofs.Math.Seq.{take-append-add}
-use Rattle.std.proofs.lemmas.List.{take-append-le, take-append-drop, append-nil}
-use Rattle.std.proofs.lemmas.List.Concat.{flat_map-append}
+use Rattle.sap_lemmas.proofs.Common.{◌≡◌, ℕ, ◌+◌, ◌<◌, ◌≤◌, List, [], ◌∷◌, ◌++◌, length, take, drop, append_assoc, refl, sym, ◌∙◌, ap, subst, arith, inl, inr, length-append, Option, Some, None, option_map, IfSome, Bor, take-append-add, take-append-le, take-append-drop, append-nil, flat_map-append}
 use Rattle.sap_desk.specs.Desk.{Told, added, IsWriting}
 use Rattle.sap_desk.specs.Cause.{Took, FillsRoom, FailsToWrite}
 use Rattle.sap_desk.specs.Whole.{CutLine, joined}

@@ -1,7 +1,5 @@
 -- What a list tells by place, after a push and after a write.
-use Rattle.std.proofs.Common.{◌≡◌, ℕ, zero, suc, ◌<◌, false, List, [], ◌∷◌, ◌++◌, length, set, get_or, refl, sym, ◌∙◌, ap, arith}
-use Rattle.std.specs.Prelude.{eqb}
-use Rattle.std.proofs.lemmas.Bool.Decides.{nat_tests}
+use Rattle.sap_lemmas.proofs.Common.{◌≡◌, ℕ, zero, suc, ◌<◌, false, List, [], ◌∷◌, ◌++◌, length, set, get_or, refl, sym, ◌∙◌, ap, arith, eqb, nat_tests}
 use Rattle.sap_desk.specs.Desk.{at_number, placed}
 use Rattle.sap_desk.proofs.Steps.{at_number-keeps}
 
@@ -36,10 +34,6 @@ placed_set f none xs i x h = λ j k. placed_set_at f none xs i x k h j
 pub placed_end : {X A : Type 0} (f : X → A) (none : A) (xs : List X) → placed f none xs (length xs) ≡ none
 placed_end f none [] = refl
 placed_end f none (x ∷ xs) = placed_end f none xs
-
--- a push of what is told past the end changes nothing
-pub placed_push_none : {X A : Type 0} (f : X → A) (none : A) (xs : List X) (x : X) → f x ≡ none → placed f none (xs ++ x ∷ []) ≡ placed f none xs
-placed_push_none f none xs x h = placed_push f none xs x ∙ at_number-keeps (length xs) (f x) (placed f none xs) (placed_end f none xs ∙ sym h)
 
 -- the same for a list that is only equal to the one after the push, or after the write
 pub pushed : {X A : Type 0} (f : X → A) (none : A) (xs ys : List X) (x : X) (k : ℕ) → ys ≡ xs ++ x ∷ [] → k ≡ length xs → placed f none ys ≡ at_number k (f x) (placed f none xs)

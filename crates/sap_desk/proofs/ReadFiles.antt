@@ -1,6 +1,5 @@
 -- A file that was opened, read and finished, or not to its end.
-use Rattle.std.proofs.Common.{◌≡◌, ℕ, ◌+◌, ◌^◌, ◌<◌, ◌≤◌, List, ◌++◌, length, drop, refl, sym, ◌∙◌, ap, subst, arith, inr}
-use Rattle.std.specs.Prelude.{Option, Some, None, option_map, IfSome, IsSome, Result, Ok, Err, IfOk}
+use Rattle.sap_lemmas.proofs.Common.{◌≡◌, ℕ, ◌+◌, ◌^◌, ◌<◌, ◌≤◌, List, ◌++◌, length, drop, refl, sym, ◌∙◌, ap, subst, arith, inr, Option, Some, None, option_map, IfSome, IsSome, Result, Ok, Err, IfOk}
 use Rattle.sap_desk.specs.Desk.{Told, Use, closed, reads, at_number, blame_at, blamed, bytes_of, moved, moved_use, name_if_open, name_if_reading, opened, rest_of, rest_of_use}
 use Rattle.sap_desk.specs.Whole.{Between, FailedReading, IsFront, IsFrontOf, LeftOpen, OneMore}
 use Rattle.sap_desk.specs.Whole.IsFront.{all, more}

@@ -1,8 +1,5 @@
 -- The memory that files and channels keep, after each step.
-use Rattle.std.proofs.Common.{◌≡◌, ℕ, ◌+◌, ◌<◌, ◌≤◌, true, false, List, [], length, set, refl, sym, ◌∙◌, ap, subst, arith, inl, inr}
-use Rattle.std.specs.Prelude.{bytes_eq, string_bytes, slice_get, vec_capacity, is_some, eqb, Some}
-use Rattle.std.proofs.lemmas.Bool.{cases_Bool, eqb-true}
-use Rattle.sap_lemmas.proofs.Texts.{equal_of_bytes_eq}
+use Rattle.sap_lemmas.proofs.Common.{◌≡◌, ℕ, ◌+◌, ◌<◌, ◌≤◌, true, false, List, [], length, set, refl, sym, ◌∙◌, ap, subst, arith, inl, inr, bytes_eq, string_bytes, slice_get, vec_capacity, is_some, eqb, Some, cases_Bool, eqb-true, equal_of_bytes_eq}
 use Rattle.sap_desk.specs.Desk.{Use, closed, writes, at_number, IsWriting}
 use Rattle.sap_desk.specs.declared.stored.StoredFile.{StoredFile}
 use Rattle.sap_desk.specs.declared.stored.Channel.{Channel}

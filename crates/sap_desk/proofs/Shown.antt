@@ -1,6 +1,5 @@
 -- What a desk in memory tells once its store or its blame changed.
-use Rattle.std.proofs.Common.{rules, ◌≡◌, ℕ, ◌<◌, Bool, true, false, cond, List, [], length, refl, sym, ◌∙◌, ap, arith}
-use Rattle.std.specs.Prelude.{eqb, codes, IsTrue, ◌↔◌, if◌then◌else◌}
+use Rattle.sap_lemmas.proofs.Common.{rules, ◌≡◌, ℕ, ◌<◌, Bool, true, false, cond, List, [], length, refl, sym, ◌∙◌, ap, arith, eqb, codes, IsTrue, ◌↔◌, if◌then◌else◌}
 use Rattle.sap_desk.specs.Desk.{Told, blamed, blame_at}
 use Rattle.sap_desk.specs.declared.stored.Channel.{Channel}
 use Rattle.sap_desk.specs.declared.stored.Blame.{Blame}

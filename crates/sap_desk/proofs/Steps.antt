@@ -1,14 +1,7 @@
 -- What calls in a row make of a desk.
-use Rattle.std.proofs.Common.{◌≡◌, ℕ, ◌+◌, ◌<◌, Bool, true, false, cond, List, [], ◌++◌, length, take, drop, append_assoc, refl, sym, ◌∙◌, ap, subst, arith, inl, inr}
-use Rattle.std.specs.Prelude.{eqb, Option, Some, None, option_map}
-use Rattle.std.proofs.lemmas.Bool.{cases_eq}
-use Rattle.std.proofs.lemmas.Bool.Decides.{nat_tests}
-use Rattle.std.proofs.lemmas.List.{drop-drop, take-append-drop, append-nil}
+use Rattle.sap_lemmas.proofs.Common.{◌≡◌, ℕ, ◌+◌, ◌<◌, Bool, true, false, cond, List, [], ◌++◌, length, take, drop, append_assoc, refl, sym, ◌∙◌, ap, subst, arith, inl, inr, eqb, Option, Some, None, option_map, cases_eq, nat_tests, drop-drop, take-append-drop, append-nil, bytes_eq, ltb, IfSome, IsSome, unwrap_or, Result, Ok, Err, OnErr, test_of_same, bytes_eq_same}
 use Rattle.std.proofs.Math.Seq.{drop-nil}
 use Rattle.sap_desk.specs.Cause.{Gave}
-use Rattle.std.specs.Prelude.{bytes_eq, ltb, IfSome, IsSome, unwrap_or, Result, Ok, Err, OnErr}
-use Rattle.sap_lemmas.proofs.Numbers.{test_of_same}
-use Rattle.sap_lemmas.proofs.Texts.{bytes_eq_same}
 use Rattle.sap_desk.specs.Desk.{Told, Use, at_name, added, added_to, closed, reads, writes, stream, at_number, rest_of, rest_of_use, moved, moved_use, bytes_of}
 
 pub option_map-twice : {A B C : Type 0} (f : B → C) (g : A → B) (o : Option A) → option_map f (option_map g o) ≡ option_map (λ a. f (g a)) o

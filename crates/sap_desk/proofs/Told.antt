@@ -1,9 +1,5 @@
 -- What a store tells after each of its steps, and that its files and channels stand.
-use Rattle.std.proofs.Common.{◌≡◌, ℕ, ◌+◌, ◌-◌, ◌<◌, ◌≤◌, Bool, true, false, cond, List, [], ◌∷◌, ◌++◌, length, refl, sym, ◌∙◌, ap, subst, arith, inl, inr}
-use Rattle.std.specs.Prelude.{bytes_eq, string_bytes, vec_capacity, eqb}
-use Rattle.std.proofs.lemmas.Bool.{cases_Bool, eqb-true}
-use Rattle.std.proofs.lemmas.Bool.Decides.{nat_tests}
-use Rattle.sap_lemmas.proofs.Texts.{bytes_eq_apart_back, bytes_eq_same}
+use Rattle.sap_lemmas.proofs.Common.{◌≡◌, ℕ, ◌+◌, ◌-◌, ◌<◌, ◌≤◌, Bool, true, false, cond, List, [], ◌∷◌, ◌++◌, length, refl, sym, ◌∙◌, ap, subst, arith, inl, inr, bytes_eq, string_bytes, vec_capacity, eqb, cases_Bool, eqb-true, nat_tests, bytes_eq_apart_back, bytes_eq_same}
 use Rattle.sap_desk.specs.Desk.{Use, closed, reads, writes, at_number, opened, moved, moved_use, created, finished, IsWriting}
 use Rattle.sap_desk.proofs.Steps.{at_number-keeps}
 use Rattle.sap_desk.proofs.Places.{placed_end}
@@ -11,7 +7,6 @@ use Rattle.sap_desk.specs.declared.stored.StoredFile.{StoredFile}
 use Rattle.sap_desk.specs.declared.stored.Channel.{Channel}
 use Rattle.sap_desk.specs.declared.stored.State.TheVariants.{Closed, Reading}
 use Rattle.sap_desk.specs.Memory.{use_at, uses_of, written_of, given_of, names_of, told_of, KeepsNames}
-use Rattle.sap_desk.specs.MemoryCalls.{with_file}
 use Rattle.sap_desk.specs.Room.{claim, claim_of, claims, rooms_of, Stands, Changed, Puts}
 use Rattle.sap_desk.proofs.Files.{files_put}
 use Rattle.sap_desk.proofs.Channels.{told_before, told_after, told_same, names_after, told_added, claims_added, length_added}
@@ -179,18 +174,6 @@ module _ (old new : List Channel) (c : Channel) (now : new ≡ old ++ c ∷ []) 
           | inr other ↦ let same = room_old k other in omega (arith, same, s.channel_room k (subst IsWriting (use_old k other) open_for))
         ])
         (within_added room s.within_room)
-
--- a file is put in place of one of its name, whoever writes it
-pub told_put : (files later : List StoredFile) (channels : List Channel) (f : StoredFile) (room : ℕ) (blame name bytes : List ℕ)
-    → Puts f files later → string_bytes f.name ≡ name → f.bytes.items ≡ bytes
-    → told_of later channels room blame ≡ with_file name bytes (told_of files channels room blame)
-told_put files later channels f room blame name bytes puts bears holds =
-    λ i. record (told_of files channels room blame) { files = files_put files later f name bytes puts bears holds i }
-
-pub stands_put : (room : ℕ) (files later : List StoredFile) (channels : List Channel) (f : StoredFile) → Stands room files channels → Puts f files later
-    → length f.bytes.items + claims room (string_bytes f.name) channels ≤ vec_capacity f.bytes → Stands room later channels
-stands_put room files later channels f s puts fits = stands_putting room files later channels channels f s puts
-    (omega arith) fits (λ n other. omega arith) s.above (λ k n other is. is) s.channel_room s.within_room
 
 -- a channel for reading is added, or nothing is
 pub stands_reader : (room : ℕ) (files : List StoredFile) (old new : List Channel) (c : Channel) (name : List ℕ) (b : Bool) → new ≡ cond b (old ++ c ∷ []) old

@@ -1,9 +1,5 @@
 -- A file that was made, written and finished.
-use Rattle.std.proofs.Common.{◌≡◌, ℕ, ◌+◌, ◌<◌, ◌≤◌, Bool, true, false, cond, List, [], ◌++◌, length, take, refl, sym, ◌∙◌, ap, subst, arith, inl, inr, length-take}
-use Rattle.std.specs.Prelude.{eqb, ltb, Option, Some, None, option_map, IfSome, unwrap_or}
-use Rattle.std.proofs.lemmas.Bool.Decides.{nat_tests}
-use Rattle.std.proofs.lemmas.List.{take_all}
-use Rattle.std.proofs.lemmas.Bool.{cases_eq}
+use Rattle.sap_lemmas.proofs.Common.{◌≡◌, ℕ, ◌+◌, ◌<◌, ◌≤◌, Bool, true, false, cond, List, [], ◌++◌, length, take, refl, sym, ◌∙◌, ap, subst, arith, inl, inr, length-take, eqb, ltb, Option, Some, None, option_map, IfSome, unwrap_or, nat_tests, take_all, cases_eq}
 use Rattle.sap_desk.specs.Desk.{Told, Use, closed, writes, at_name, at_number, added, added_to, created, finished, blame_at, blamed, name_if_open, name_if_writing, IsOpen, IsWriting}
 use Rattle.sap_desk.specs.Cause.{Took, FailsToWrite}
 use Rattle.sap_desk.specs.Whole.{Between, IsFor, OneMore, SameChannels, Wrote, FailedWriting, FillsFile}

@@ -1,7 +1,5 @@
 -- What a write took that failed.
-use Rattle.std.proofs.Common.{◌≡◌, ℕ, ◌+◌, ◌-◌, ◌<◌, ◌≤◌, ◌⊎◌, true, false, cond, List, ◌++◌, length, take, min, refl, ◌∙◌, ap, arith, inl, inr, length-append, length-take, take-take}
-use Rattle.std.specs.Prelude.{eqb, codes, Some}
-use Rattle.std.proofs.lemmas.List.{take_all}
+use Rattle.sap_lemmas.proofs.Common.{◌≡◌, ℕ, ◌+◌, ◌-◌, ◌<◌, ◌≤◌, ◌⊎◌, true, false, cond, List, ◌++◌, length, take, min, refl, ◌∙◌, ap, arith, inl, inr, length-append, length-take, take-take, eqb, codes, Some, take_all}
 use Rattle.sap_desk.specs.Desk.{Told, Use, closed, reads, writes, stream, IsWriting, added, blamed, blame_at, name_if_writing}
 use Rattle.sap_desk.specs.Cause.{Took, FailsToWrite}
 use Rattle.sap_desk.specs.MemoryCalls.{fitting, fitting_use}

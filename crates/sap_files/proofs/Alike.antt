@@ -1,24 +1,14 @@
 -- Two lattices that are the same give a design the same run.
-use Rattle.std.proofs.Common.{◌≡◌, ℕ, ◌+◌, List, [], ◌∷◌, ◌++◌, refl, ◌∙◌, ap}
-use Rattle.std.specs.Prelude.{map}
-use Rattle.sap_lattice.specs.Levels.{Levels, order_of}
-use Rattle.sap_lattice.specs.Codes.{code_of}
-use Rattle.sap_lattice.specs.Order.{Order}
+use Rattle.sap_lemmas.proofs.Common.{◌≡◌, ℕ, ◌+◌, List, [], ◌∷◌, ◌++◌, refl, ◌∙◌, ap, map}
+use Rattle.sap_lattice.specs.Prelude.{Levels, order_of, code_of, Order}
 use Rattle.sap_latfile.specs.OneLattice.{AreSame}
 use Rattle.sap_tree.specs.Syntax.{DesignTree}
 use Rattle.sap_names.specs.Entities.{entities_of}
-use Rattle.sap_meaning.specs.Cycle.{Tagged}
-use Rattle.sap_meaning.specs.Program.{Entity, Program}
-use Rattle.sap_meaning.specs.Store.{After, Store}
-use Rattle.sap_meaning.specs.State.{labelled_run}
+use Rattle.sap_meaning.specs.Prelude.{Tagged, Entity, Program, After, Store, labelled_run}
 use Rattle.sap_resolved.specs.Fill.{program_of}
-use Rattle.sap_interface.specs.StandsFor.{Named, world}
-use Rattle.sap_interface.specs.Designs.{named_of}
+use Rattle.sap_interface.specs.Prelude.{Named, world, named_of}
 use Rattle.sap_stim.specs.declared.stimulus.Parsed.{Parsed}
-use Rattle.sap_sim.specs.Simulated.{Rows}
-use Rattle.sap_sim.specs.Labelled.Fields.{design_fields}
-use Rattle.sap_sim.specs.Labelled.LabelledRows.{labelled_row, labelled_rows, register_shown, registers_shown, rows_of_run}
-use Rattle.sap_sim.specs.Labelled.RunOf.{IsRunOf, read_for}
+use Rattle.sap_sim.specs.Prelude.{Rows, design_fields, labelled_row, labelled_rows, register_shown, registers_shown, rows_of_run, IsRunOf, read_for}
 use Rattle.sap_files.proofs.Programs.{program_in}
 use Rattle.sap_files.proofs.Stimuli.{stimulus_in}
 

@@ -1,10 +1,8 @@
 -- A text in assembly stands for one list of words, or is refused for one reason.
-use Rattle.std.proofs.Common.{◌≡◌, ℕ, List, sym, ◌∙◌, ap}
-use Rattle.std.specs.Prelude.{Ok, Err}
+use Rattle.sap_lemmas.proofs.Common.{◌≡◌, ℕ, List, sym, ◌∙◌, ap, Ok, Err}
 use Rattle.sap_machine.specs.Assembly.{Assembled, assembled}
 use Rattle.sap_machine.specs.declared.fault.AsmFault.{AsmFault}
-use Rattle.sap_files.specs.Ending.{asm_refused}
-use Rattle.sap_files.specs.Kinds.{IsLawful, assembly_file}
+use Rattle.sap_files.specs.Prelude.{asm_refused, IsLawful, assembly_file}
 
 one_words : (x : Assembled) (v w : List ℕ) → x ≡ Ok v → x ≡ Ok w → v ≡ w
 one_words x v w is was = cc

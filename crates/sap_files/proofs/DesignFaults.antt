@@ -4,8 +4,8 @@ use Rattle.sap_check.proofs.FaultsLemmas.{no_check_fault}
 use Rattle.sap_check.proofs.OneFault.{one_first_fault}
 use Rattle.sap_check.specs.Faults.{IsCheckFault}
 use Rattle.sap_names.specs.declared.fault.CheckFault.{CheckFault}
-use Rattle.sap_names.specs.declared.fault.CheckFault.TheVariants as check
 use Rattle.sap_names.specs.declared.fault.Fault.{Fault}
+use Rattle.sap_names.specs.declared.fault.CheckFault.TheVariants as check
 use Rattle.sap_lattice.specs.Levels.{Levels}
 use Rattle.sap_tree.specs.Syntax.{DesignTree}
 use Rattle.sap_parse.specs.Text.{IsText, IsReadFault}

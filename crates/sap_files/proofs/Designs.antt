@@ -1,7 +1,6 @@
 -- Design files: a text is at most one design, and what reading and checking one come to.
 use Rattle.std.proofs.Common.{◌≡◌, ◌≢◌, ℕ, List, [], refl, sym, ◌∙◌, ap, subst, inl, inr, ◌⊎◌, Some}
-use Rattle.sap_lattice.specs.Levels.{Levels, order_of}
-use Rattle.sap_lattice.specs.Order.{Order}
+use Rattle.sap_lattice.specs.Prelude.{Levels, order_of, Order}
 use Rattle.sap_latfile.specs.OneLattice.{AreSame}
 use Rattle.sap_tree.specs.Syntax.{DesignTree}
 use Rattle.sap_text.specs.declared.place.Place.{Place}
@@ -9,20 +8,16 @@ use Rattle.sap_parse.specs.Text.{IsText, IsReadFault}
 use Rattle.sap_lex.specs.declared.fault.ReadFault.{ReadFault}
 use Rattle.sap_lex.specs.declared.fault.ReadFault.TheVariants as read
 use Rattle.sap_parse.proofs.OneReading as reading
-use Rattle.sap_names.specs.Fault.{First}
+use Rattle.sap_names.specs.Prelude.{First, design_name_faults}
 use Rattle.sap_names.specs.declared.fault.Fault.{Fault}
 use Rattle.sap_names.specs.declared.fault.CheckFault.{CheckFault}
-use Rattle.sap_names.specs.declared.fault.CheckFault.TheVariants as check
 use Rattle.sap_names.specs.declared.kind.Code.{Code}
-use Rattle.sap_names.specs.NameFaults.{design_name_faults}
+use Rattle.sap_names.specs.declared.fault.CheckFault.TheVariants as check
 use Rattle.sap_shape.specs.ShapeFaults.{IsFirstShapeFault}
 use Rattle.sap_shape.specs.WellFormed.{WellFormed, IsFirstFault}
 use Rattle.sap_files.specs.declared.fault.DesignFault.{DesignFault}
 use Rattle.sap_files.specs.declared.fault.DesignFault.TheVariants as design
-use Rattle.sap_files.specs.DesignFaults.{IsDesignFault}
-use Rattle.sap_files.specs.Ending.{Ending, design_refused}
-use Rattle.sap_files.specs.Kinds.{IsLawful, IsWellFormedText, design_file, design_text_file}
-use Rattle.sap_files.specs.Steps.{Refuses, check_failure, ending, read_failure}
+use Rattle.sap_files.specs.Prelude.{IsDesignFault, Ending, design_refused, IsLawful, IsWellFormedText, design_file, design_text_file, Refuses, check_failure, ending, read_failure}
 use Rattle.sap_files.specs.declared.failure.Failure.{Failure}
 use Rattle.sap_files.proofs.DesignFaults.{no_fault, one_fault}
 

@@ -1,6 +1,5 @@
 -- Dumps: what reading one comes to, what writing one whole comes to, and that two lattices that are the same ask for the same.
-use Rattle.std.proofs.Common.{◌≡◌, ◌≢◌, ℕ, List, [], refl, sym, ◌∙◌, ap, ap₂, subst, inl, inr}
-use Rattle.std.proofs.lemmas.List.{append-nil}
+use Rattle.sap_lemmas.proofs.Common.{◌≡◌, ◌≢◌, ℕ, List, [], refl, sym, ◌∙◌, ap, ap₂, subst, inl, inr, append-nil}
 use Rattle.sap_desk.specs.Desk.{Told}
 use Rattle.sap_desk.specs.Whole.{Between, Wrote}
 use Rattle.sap_lattice.specs.Levels.{Levels}
@@ -12,15 +11,10 @@ use Rattle.sap_sim.specs.Numbers.{numbers_of}
 use Rattle.sap_sim.specs.Simulated.{read_for}
 use Rattle.sap_wave.specs.declared.fault.WaveFault.{WaveFault}
 use Rattle.sap_wave.specs.declared.fault.WaveFault.TheVariants.{Rule, Memory}
-use Rattle.sap_wave.specs.Dumps.{IsReading}
-use Rattle.sap_wave.specs.Read.{IsWaveFault}
-use Rattle.sap_wave.specs.Waves.{Wave}
+use Rattle.sap_wave.specs.Prelude.{IsReading, IsWaveFault, Wave}
 use Rattle.sap_wave.proofs.Once.{one_wave_or_fault}
 use Rattle.sap_wave_run.specs.Dumped.{IsDumpOn}
-use Rattle.sap_files.specs.Ending.{Ending, done, wave_refused}
-use Rattle.sap_files.specs.Kinds.{IsLawful, stream_by, wave_file}
-use Rattle.sap_files.specs.Asks.{Asks, file, writes}
-use Rattle.sap_files.specs.Steps.{Ends, EndsReading, FaultRose, Left, Moment, Refuses, ending, wave_failure}
+use Rattle.sap_files.specs.Prelude.{Ending, done, wave_refused, IsLawful, stream_by, wave_file, Asks, file, writes, Ends, EndsReading, FaultRose, Left, Moment, Refuses, ending, wave_failure}
 use Rattle.sap_files.specs.declared.failure.Failure.{Failure}
 use Rattle.sap_files.proofs.Ended.{between_map}
 use Rattle.sap_files.proofs.NetsAlike.{line_numbers_in, read_net_in}

@@ -1,17 +1,9 @@
 -- The steps of a command joined, once for all of them: from how what it asks next ends to how the whole ends.
-use Rattle.std.proofs.Common.{◌≡◌, ◌≢◌, ℕ, List, [], length, take, refl, sym, ◌∙◌, ap, subst, inl, inr, arith, length-take}
-use Rattle.std.specs.Prelude.{Option, Some, None, IfSome, Bool, cond, unwrap_or}
-use Rattle.std.proofs.lemmas.List.{append-nil}
-use Rattle.sap_lemmas.proofs.Texts.{bytes_eq_same}
+use Rattle.sap_lemmas.proofs.Common.{◌≡◌, ◌≢◌, ℕ, List, [], length, take, refl, sym, ◌∙◌, ap, subst, inl, inr, arith, length-take, Option, Some, None, IfSome, Bool, cond, unwrap_or, append-nil, bytes_eq_same}
 use Rattle.sap_desk.specs.Desk.{Told, Use}
 use Rattle.sap_desk.specs.Cause.{counted}
 use Rattle.sap_desk.specs.Whole.{Between, FailedWriting, FillsFile}
-use Rattle.sap_files.specs.Ending.{Ending, Refusal, done, refused, failed, no_memory, IsFree}
-use Rattle.sap_files.specs.Kinds.{Kind, Has, IsRefused}
-use Rattle.sap_files.specs.Asks.{Asks, file, by, gives, writes, stops, Files, IsCut, Leaves, Output}
-use Rattle.sap_files.specs.Outside.{FullFile}
-use Rattle.sap_files.specs.After.{Stands}
-use Rattle.sap_files.specs.Steps.{Counted, Ends, EndsReading, FaultRose, Left, Moment, NotRead, OpensUnread, Quiet, Reads, Refuses, Same, Stops}
+use Rattle.sap_files.specs.Prelude.{Ending, Refusal, done, refused, failed, no_memory, IsFree, Kind, Has, IsRefused, Asks, file, by, gives, writes, stops, Files, IsCut, Leaves, Output, FullFile, Stands, Counted, Ends, EndsReading, FaultRose, Left, Moment, NotRead, OpensUnread, Quiet, Reads, Refuses, Same, Stops}
 
 pub between_map : (P Q : Told → Told → Type 0) (old new : Option Told) → ((t n : Told) → P t n → Q t n) → Between old new P → Between old new Q
 between_map P Q None new h b = tt

@@ -1,6 +1,5 @@
 -- What is read of a design file says of a design what the whole file says.
-use Rattle.std.proofs.Common.{◌≡◌, ◌<◌, ◌≤◌, ◌+◌, ◌++◌, ℕ, List, length, refl, sym, ◌∙◌, ap, subst, inl, inr, arith, length-append}
-use Rattle.std.specs.Prelude.{Option, Some, None, IfSome}
+use Rattle.sap_lemmas.proofs.Common.{◌≡◌, ◌<◌, ◌≤◌, ◌+◌, ◌++◌, ℕ, List, length, refl, sym, ◌∙◌, ap, subst, inl, inr, arith, length-append, Option, Some, None, IfSome}
 use Rattle.sap_desk.specs.Desk.{Told}
 use Rattle.sap_desk.specs.Cause.{counted}
 use Rattle.sap_desk.specs.Whole.{Between, FailedReading, IsFront, IsFrontOf, MissingOrFar}
@@ -12,11 +11,7 @@ use Rattle.sap_parse.specs.Text.{IsText, IsReadFault, too_long, no_token, unexpe
 use Rattle.sap_lex.specs.declared.fault.ReadFault.{ReadFault}
 use Rattle.sap_files.specs.declared.fault.DesignFault.{DesignFault}
 use Rattle.sap_files.specs.declared.fault.DesignFault.TheVariants.{Read, Check}
-use Rattle.sap_files.specs.DesignFaults.{IsDesignFault}
-use Rattle.sap_files.specs.Ending.{Ending, failed}
-use Rattle.sap_files.specs.Kinds.{IsWellFormedText, design_file, design_text_file}
-use Rattle.sap_files.specs.Outside.{IsUnreadable}
-use Rattle.sap_files.specs.Steps.{FaultRose, Moment, NotRead, Quiet, Reads, Refuses, Stops}
+use Rattle.sap_files.specs.Prelude.{IsDesignFault, Ending, failed, IsWellFormedText, design_file, design_text_file, IsUnreadable, FaultRose, Moment, NotRead, Quiet, Reads, Refuses, Stops}
 
 longer : (bytes front rest : List ℕ) → front ++ rest ≡ bytes → most_bytes < length front → most_bytes < length bytes
 longer bytes front rest is long =

@@ -1,12 +1,9 @@
 -- A text was written on channel 1, whole or cut off.
-use Rattle.std.proofs.Common.{◌≡◌, ◌≤◌, ℕ, List, length, take, refl, sym, subst, inl, inr}
-use Rattle.std.specs.Prelude.{Option, Some, None, IfSome, codes, option_map}
+use Rattle.sap_lemmas.proofs.Common.{◌≡◌, ◌≤◌, ℕ, List, length, take, refl, sym, subst, inl, inr, Option, Some, None, IfSome, codes, option_map}
 use Rattle.sap_desk.specs.Desk.{Told, IsWriting, added, blamed}
 use Rattle.sap_desk.specs.Cause.{FillsRoom, counted}
 use Rattle.sap_desk.specs.Whole.{Between, CutOutput}
-use Rattle.sap_files.specs.Asks.{gives}
-use Rattle.sap_files.specs.Ending.{done, failed}
-use Rattle.sap_files.specs.Steps.{Ends, FaultRose, Left, Moment}
+use Rattle.sap_files.specs.Prelude.{gives, done, failed, Ends, FaultRose, Left, Moment}
 
 module _ (text : List ℕ) where
   whole_left : (F : Type 0) (t : Told) → (F → ⊥) → Left (gives (λ x. x ≡ text)) done F t (added 1 text t)

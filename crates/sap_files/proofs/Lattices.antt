@@ -1,14 +1,11 @@
 -- Lattice files: a file is at most one lattice with its whole table, and what reading one comes to.
-use Rattle.std.proofs.Common.{◌≡◌, ◌≢◌, ◌↔◌, ◌<◌, ℕ, Bool, true, false, List, [], length, refl, sym, ◌∙◌, ap, subst, inl, inr, arith}
-use Rattle.std.specs.Prelude.{map, slice_index_or}
+use Rattle.sap_lemmas.proofs.Common.{◌≡◌, ◌≢◌, ◌↔◌, ◌<◌, ℕ, Bool, true, false, List, [], length, refl, sym, ◌∙◌, ap, subst, inl, inr, arith, map, slice_index_or}
 use Rattle.std.proofs.lemmas.List.FromFn.{get_or-map-range_with_len}
 use Rattle.sap_lattice.proofs.LevelsLemmas.{level_in_same}
 use mathlib.Core.Path.{fun_ext}
-use Rattle.sap_lattice.specs.Built.{IsLatticeOf}
-use Rattle.sap_lattice.specs.Closure.{Below, IsGreatest, IsJoin, IsLeast, IsLevel}
-use Rattle.sap_lattice.specs.Levels.{Levels, is_below, level_in, numbers, order_by, order_of}
-use Rattle.sap_lattice.specs.Order.{Order}
+use Rattle.sap_lattice.specs.Prelude.{IsLatticeOf, Below, Levels, is_below, level_in, numbers, order_by, order_of, Order}
 use Rattle.sap_lattice.specs.declared.pair.Pair.{Pair}
+use Rattle.sap_lattice.specs.Closure.{IsGreatest, IsJoin, IsLeast, IsLevel}
 use Rattle.sap_lattice.proofs.Orders.{level_in_below}
 use Rattle.sap_latfile.specs.LatticeFile.{FirstFault, IsLatticeOfFile}
 use Rattle.sap_latfile.specs.OneLattice.{AreSame}
@@ -16,9 +13,7 @@ use Rattle.sap_latfile.specs.declared.fault.LatFileFault.{LatFileFault}
 use Rattle.sap_latfile.specs.declared.fault.LatFileFault.TheVariants as lattice
 use Rattle.sap_latfile.proofs.Answered.{one_fault, not_both}
 use Rattle.sap_latfile.proofs.OneLattice.{one_lattice}
-use Rattle.sap_files.specs.Ending.{lattice_refused}
-use Rattle.sap_files.specs.Kinds.{IsLatticeFile, IsLawful, lattice_file, table_by}
-use Rattle.sap_files.specs.Steps.{Refuses, ending, lattice_failure, whole}
+use Rattle.sap_files.specs.Prelude.{lattice_refused, IsLatticeFile, IsLawful, lattice_file, table_by, Refuses, ending, lattice_failure, whole}
 use Rattle.sap_files.specs.declared.failure.Failure.{Failure}
 
 -- the whole table

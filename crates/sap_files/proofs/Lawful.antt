@@ -1,10 +1,7 @@
 -- A command has at most one cause and at most one text, once for all of them.
-use Rattle.std.proofs.Common.{◌≡◌, ℕ, List, sym, ◌∙◌, ap, subst, inl, inr}
-use Rattle.sap_lemmas.proofs.Options.{some_unique}
+use Rattle.sap_lemmas.proofs.Common.{◌≡◌, ℕ, List, sym, ◌∙◌, ap, subst, inl, inr, some_unique}
 use Rattle.sap_desk.specs.Desk.{Told}
-use Rattle.sap_files.specs.Ending.{Ending, Refusal, refused}
-use Rattle.sap_files.specs.Kinds.{Kind, Has, IsRefused, IsLawful}
-use Rattle.sap_files.specs.Asks.{Asks, file, by, gives, prints, writes, stops, AreLawful, Cause, EndsAtFile, Shows, end_of}
+use Rattle.sap_files.specs.Prelude.{Ending, Refusal, refused, Kind, Has, IsRefused, IsLawful, Asks, file, by, gives, prints, writes, stops, AreLawful, Cause, EndsAtFile, Shows, end_of}
 
 module _ (k : Kind) (law : IsLawful k) (t : Told) (name : List ℕ) where
   pub one_value : (v w : k.Value) → Has t name k v → Has t name k w → v ≡ w

@@ -9,9 +9,7 @@ use Rattle.sap_vread.specs.ModuleFault.{IsModuleFault}
 use Rattle.sap_vread.specs.declared.fault.ModFault.{ModFault}
 use Rattle.sap_vread.specs.declared.fault.ModFault.TheVariants as verilog
 use Rattle.sap_vread.proofs.Faults.{not_both, one_fault}
-use Rattle.sap_files.specs.Ending.{module_refused}
-use Rattle.sap_files.specs.Kinds.{IsLawful, module_file}
-use Rattle.sap_files.specs.Steps.{Refuses, ending, module_failure}
+use Rattle.sap_files.specs.Prelude.{module_refused, IsLawful, module_file, Refuses, ending, module_failure}
 use Rattle.sap_files.specs.declared.failure.Failure.{Failure}
 
 pub one_module : (text : List ℕ) (one other : Net) → IsModule text one → IsModule text other → one ≡ other

@@ -1,7 +1,6 @@
 -- The netlist of a module's text is one that the type of netlists takes.
 use Rattle.std.proofs.Common.{ℕ, List, subst}
-use Rattle.sap_net.specs.Net.{Net}
-use Rattle.sap_net.specs.IsNetlist.{IsNetlist}
+use Rattle.sap_net.specs.Prelude.{Net, IsNetlist}
 use Rattle.sap_vtext.specs.Modules.{IsModule}
 use Rattle.sap_vread.proofs.build.Netlist.{file_netlist}
 use Rattle.sap_vread.proofs.build.SpelledNames.{spelled_written}

@@ -1,37 +1,19 @@
 -- A module has one text of rows on a stimulus, and two lattices that are the same give it the same.
-use Rattle.std.proofs.Common.{◌≡◌, ℕ, ◌+◌, true, false, List, [], ◌∷◌, ◌++◌, drop, map, None, refl, sym, ◌∙◌, ap, subst, inl, inr}
-use Rattle.std.specs.Prelude.{◌==◌, bytes_eq, find as find_level, if◌then◌else◌, length, option_map}
-use Rattle.std.specs.List.{AllByRecursion}
-use Rattle.std.proofs.lemmas.Bool.{cases_Bool, false≢true}
-use Rattle.sap_lemmas.proofs.Texts.{bytes_eq_same, equal_of_bytes_eq}
-use Rattle.sap_lattice.specs.Closure.{name_at}
-use Rattle.sap_lattice.specs.Levels.{Levels, numbers, order_of}
-use Rattle.sap_lattice.specs.Codes.{code_of, width_of}
-use Rattle.sap_lattice.specs.Order.{Order}
+use Rattle.sap_lemmas.proofs.Common.{◌≡◌, ℕ, ◌+◌, true, false, List, [], ◌∷◌, ◌++◌, drop, map, None, refl, sym, ◌∙◌, ap, subst, inl, inr, ◌==◌, bytes_eq, find as find_level, if◌then◌else◌, length, option_map, AllByRecursion, cases_Bool, false≢true, bytes_eq_same, equal_of_bytes_eq}
+use Rattle.sap_lattice.specs.Prelude.{name_at, Levels, numbers, order_of, code_of, width_of, Order}
 use Rattle.sap_latfile.specs.OneLattice.{AreSame}
-use Rattle.sap_maps.specs.Maps.{Name, Valuation}
-use Rattle.sap_maps.specs.Scope.{find}
+use Rattle.sap_maps.specs.Prelude.{Name, Valuation, find}
+use Rattle.sap_net.specs.Prelude.{Net, is_among, IsNetlist, readable, register_names, AreSame as AreSameValues, AreSameRuns, IsRegister, IsRun, observed, value_after, operand_value, value_name, tag_name, port_widths, register_ports, shown_among}
 use Rattle.sap_net.specs.declared.parts.Input.{Input}
 use Rattle.sap_net.specs.declared.parts.Register.{Register}
-use Rattle.sap_net.specs.Net.{Net}
-use Rattle.sap_net.specs.Names.{is_among}
-use Rattle.sap_net.specs.IsNetlist.{IsNetlist, readable, register_names}
-use Rattle.sap_net.specs.Laws.{AreSame as AreSameValues, AreSameRuns}
-use Rattle.sap_net.specs.Rules.{IsRegister}
-use Rattle.sap_net.specs.Runs.{IsRun, observed, value_after}
-use Rattle.sap_net.specs.Values.{operand_value}
 use Rattle.sap_net.proofs.Same.{run_same}
 use Rattle.sap_net.proofs.Unique.{operand_agree}
 use Rattle.sap_meaning.specs.Cycle.{Tagged as Given}
 use Rattle.sap_stim.specs.declared.stimulus.Parsed.{Parsed}
 use Rattle.sap_stim.specs.Rows.{Shown, shown, shown_of, row_text}
 use Rattle.sap_stim.specs.Stimulus.{stimulus_of}
-use Rattle.sap_sim.specs.Fields.{field_of, fields_of, is_tag, with_field}
-use Rattle.sap_sim.specs.Numbers.{given, numbers_of, value_for}
-use Rattle.sap_net.specs.PortNames.{value_name, tag_name}
-use Rattle.sap_net.specs.Shown.{port_widths, register_ports, shown_among}
-use Rattle.sap_sim.specs.Shown.{row_of, rows_from, shown_registers}
-use Rattle.sap_sim.specs.Simulated.{IsSimulated, Rows, read_for}
+use Rattle.sap_sim.specs.Prelude.{field_of, fields_of, is_tag, with_field, given, numbers_of, value_for, row_of, rows_from, shown_registers, IsSimulated, Rows}
+use Rattle.sap_sim.specs.Simulated.{read_for}
 use Rattle.sap_sim.proofs.Registers.{IsShown, all_shown, register_port_is}
 use Rattle.sap_wave.specs.Waves.{Wave, names_of}
 use Rattle.sap_wave_rows.specs.Rows.{by_name, rows_of_wave, shown_variables, widths_of}

@@ -1,7 +1,5 @@
 -- From what comes of a stimulus that is printed to how the command ends.
-use Rattle.std.proofs.Common.{◌≡◌, ℕ, ◌-◌, List, [], ◌++◌, take, refl, sym, ◌∙◌, ap, subst, inl, inr, ◌⊎◌}
-use Rattle.std.specs.Prelude.{◌^◌, Bool, cond, Option, Some, None}
-use Rattle.std.proofs.lemmas.List.{append-nil}
+use Rattle.sap_lemmas.proofs.Common.{◌≡◌, ℕ, ◌-◌, List, [], ◌++◌, take, refl, sym, ◌∙◌, ap, subst, inl, inr, ◌⊎◌, ◌^◌, Bool, cond, Option, Some, None, append-nil}
 use Rattle.sap_desk.specs.Desk.{Told, Use, reads, IsWriting, blamed, bytes_of}
 use Rattle.sap_desk.specs.Cause.{counted}
 use Rattle.sap_desk.specs.Whole.{Between}
@@ -15,11 +13,7 @@ use Rattle.sap_lines.specs.Stepping.Printed.{CallFailed, CutShort, MissingOrTooL
 use Rattle.sap_lines.specs.declared.stepping.stopped.FailedCall.{FailedCall}
 use Rattle.sap_lines.specs.declared.stepping.stopped.FailedCall.TheVariants.{Input, Output as OnOutput}
 use Rattle.sap_lines.specs.declared.stepping.stopped.Stopped.TheVariants.{Call, Memory}
-use Rattle.sap_files.specs.Ending.{Ending, done, refused, failed, no_memory, IsFree}
-use Rattle.sap_files.specs.Asks.{prints, Cause, Files, IsCut, Leaves, MayEnd, Output, Shows as ShowsOn, end_of}
-use Rattle.sap_files.specs.After.{Blames, Stands}
-use Rattle.sap_files.specs.Outside.{OutsideOf}
-use Rattle.sap_files.specs.Steps.{Counted, Ends, FaultRose, HasWhole, Left, Moment}
+use Rattle.sap_files.specs.Prelude.{Ending, done, refused, failed, no_memory, IsFree, prints, Cause, Files, IsCut, Leaves, MayEnd, Output, Shows as ShowsOn, end_of, Blames, Stands, OutsideOf, Counted, Ends, FaultRose, HasWhole, Left, Moment}
 use Rattle.sap_files.proofs.Ended.{between_map, starved_left}
 
 -- with why it failed

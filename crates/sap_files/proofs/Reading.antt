@@ -1,6 +1,5 @@
 -- From a file's bytes and what they give to what reading the file as one of a kind gives.
-use Rattle.std.proofs.Common.{ℕ, List, inl, inr, Ok, Err}
-use Rattle.std.specs.Prelude.{Result}
+use Rattle.sap_lemmas.proofs.Common.{ℕ, List, inl, inr, Ok, Err, Result}
 use Rattle.sap_desk.specs.Whole.{IsFront}
 use Rattle.sap_lattice.specs.Levels.{Levels}
 use Rattle.sap_latfile.specs.OneLattice.{AreSame}
@@ -8,9 +7,7 @@ use Rattle.sap_parse.specs.Limits.{most_bytes}
 use Rattle.sap_check.specs.declared.checked.Checked.{Checked}
 use Rattle.sap_tree.specs.Designs.{design_of}
 use Rattle.sap_tree.specs.declared.design.Design.{Design}
-use Rattle.sap_files.specs.Ending.{Ending}
-use Rattle.sap_files.specs.Kinds.{Kind, design_file, design_text_file}
-use Rattle.sap_files.specs.Steps.{EndsReading, Gets, GetsChecked, Gives, IsChecked, Moment, Reads}
+use Rattle.sap_files.specs.Prelude.{Ending, Kind, design_file, design_text_file, EndsReading, Gets, GetsChecked, Gives, IsChecked, Moment, Reads}
 use Rattle.sap_files.specs.declared.failure.Failure.{Failure}
 use Rattle.sap_files.proofs.Designs.{refuses_in}
 use Rattle.sap_files.proofs.Fronts.{checked_whole, refused_design, refused_text, text_whole}

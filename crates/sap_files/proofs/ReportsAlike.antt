@@ -1,8 +1,6 @@
 -- Two lattices that are the same give a design the same report.
 use Rattle.std.proofs.Common.{◌≡◌, ℕ, ◌+◌, List, [], ◌∷◌, ◌++◌, refl, ◌∙◌, ap}
-use Rattle.sap_lattice.specs.Levels.{Levels, order_of}
-use Rattle.sap_lattice.specs.Order.{Order}
-use Rattle.sap_lattice.specs.Codes.{code_of}
+use Rattle.sap_lattice.specs.Prelude.{Levels, order_of, Order, code_of}
 use Rattle.sap_latfile.specs.OneLattice.{AreSame}
 use Rattle.sap_tree.specs.Syntax.{DesignTree}
 use Rattle.sap_names.specs.Entities.{entities_of}

@@ -1,18 +1,11 @@
 -- A level by its name, and streams of a design: what reading them comes to, and the names of inputs.
-use Rattle.std.proofs.Common.{◌≡◌, ◌≢◌, ◌<◌, ◌+◌, ◌-◌, ℕ, zero, suc, drop, true, false, List, [], length, get_or, refl, sym, ◌∙◌, ap, subst, inl, inr, arith}
-use Rattle.std.specs.Prelude.{Option, Some, None, bytes_eq, slice_get, slice_index_or}
-use Rattle.std.proofs.lemmas.Bool.{cases_Bool}
-use Rattle.std.proofs.lemmas.Bool.Decides.{nat_tests}
+use Rattle.sap_lemmas.proofs.Common.{◌≡◌, ◌≢◌, ◌<◌, ◌+◌, ◌-◌, ℕ, zero, suc, drop, true, false, List, [], length, get_or, refl, sym, ◌∙◌, ap, subst, inl, inr, arith, Option, Some, None, bytes_eq, slice_get, slice_index_or, cases_Bool, nat_tests, position_or_len, some_unique, bytes_eq_same, equal_of_bytes_eq}
 use Rattle.std.proofs.lemmas.List.Sums.{position_or_len_is}
-use Rattle.std.specs.List.{position_or_len}
-use Rattle.sap_lemmas.proofs.Options.{some_unique}
-use Rattle.sap_lemmas.proofs.Texts.{bytes_eq_same, equal_of_bytes_eq}
 use Rattle.sap_lattice.specs.Levels.{Levels, level_named, order_by, order_of}
 use Rattle.sap_lattice.specs.Rules.{KeepsNames, repeated}
 use Rattle.sap_latfile.specs.LatticeFile.{IsLatticeOfFile}
 use Rattle.sap_latfile.specs.OneLattice.{AreSame}
-use Rattle.sap_meaning.specs.Cycle.{Tagged}
-use Rattle.sap_meaning.specs.State.{StreamFits}
+use Rattle.sap_meaning.specs.Prelude.{Tagged, StreamFits}
 use Rattle.sap_tree.specs.Syntax.{DesignTree}
 use Rattle.sap_names.specs.declared.entity.Entity.{Entity}
 use Rattle.sap_report.proofs.Lists.{drop-at}
@@ -22,17 +15,12 @@ use Rattle.sap_stim.specs.declared.stimulus.Parsed.{Parsed}
 use Rattle.sap_stim.proofs.Fitting.{fits}
 use Rattle.sap_stream.specs.Apart.{AreOfOneLength}
 use Rattle.sap_sim.proofs.Fits.{counts}
-use Rattle.sap_sim.specs.Labelled.Fields.{design_fields}
-use Rattle.sap_sim.specs.Labelled.RunOf.{read_for}
+use Rattle.sap_sim.specs.Prelude.{design_fields, read_for}
 use Rattle.sap_sim.specs.Simulated.{read_for as read_for_module}
 use Rattle.sap_net.specs.Net.{Net}
 use Rattle.sap_sim.proofs.labelled.Designs.{fit_stream}
-use Rattle.sap_interface.specs.Designs.{named_of}
-use Rattle.sap_interface.specs.StandsFor.{world}
-use Rattle.sap_files.specs.Ending.{Ending, stimulus_refused}
-use Rattle.sap_files.specs.Kinds.{IsLawful, stream_by, stream_file, module_stream_file}
-use Rattle.sap_files.specs.Compared.{input_names, is_input}
-use Rattle.sap_files.specs.Steps.{Refuses}
+use Rattle.sap_interface.specs.Prelude.{named_of, world}
+use Rattle.sap_files.specs.Prelude.{Ending, stimulus_refused, IsLawful, stream_by, stream_file, module_stream_file, input_names, is_input, Refuses}
 use Rattle.sap_files.proofs.Alike.{read_in}
 
 -- the level of a name

@@ -1,18 +1,13 @@
 -- What comes of a module to which tags are added.
-use Rattle.std.proofs.Common.{◌≡◌, ◌⊎◌, List, ℕ, sym, subst, inl, inr, refl}
-use Rattle.std.specs.Prelude.{Option, Some}
-use Rattle.sap_lattice.specs.Levels.{Levels}
-use Rattle.sap_lattice.specs.Order.{Order}
+use Rattle.sap_lemmas.proofs.Common.{◌≡◌, ◌⊎◌, List, ℕ, sym, subst, inl, inr, refl, Option, Some}
+use Rattle.sap_lattice.specs.Prelude.{Levels, Order}
 use Rattle.sap_latfile.specs.OneLattice.{AreSame}
 use Rattle.sap_net.specs.Net.{Net}
 use Rattle.sap_taint.specs.TagNames.{IsClash}
 use Rattle.sap_taint_pass.specs.FaultTexts.{IsTaintFault}
 use Rattle.sap_taint_pass.specs.declared.fault.TaintFault.{TaintFault}
 use Rattle.sap_taint_pass.specs.declared.fault.TaintFault.TheVariants.{Clash, Memory}
-use Rattle.sap_files.specs.Ending.{Ending, refused, no_memory, taint_refused}
-use Rattle.sap_files.specs.Tainting.{FirstClash, HasTaintOf, IsTaintedText, tagged_or_refused}
-use Rattle.sap_files.specs.Asks.{by}
-use Rattle.sap_files.specs.Steps.{Ends, Moment, ending, taint_failure}
+use Rattle.sap_files.specs.Prelude.{Ending, refused, no_memory, taint_refused, FirstClash, HasTaintOf, IsTaintedText, tagged_or_refused, by, Ends, Moment, ending, taint_failure}
 use Rattle.sap_files.specs.declared.failure.Failure.{Failure}
 use Rattle.sap_files.proofs.Ended.{chosen, quiet_self, starved, stopped_by}
 

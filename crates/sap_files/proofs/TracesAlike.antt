@@ -3,10 +3,7 @@ use Rattle.std.proofs.Common.{◌≡◌, ℕ, ◌+◌, List, [], ◌∷◌, ◌+
 use Rattle.sap_lattice.specs.Levels.{Levels}
 use Rattle.sap_latfile.specs.OneLattice.{AreSame}
 use Rattle.sap_tree.specs.Syntax.{DesignTree}
-use Rattle.sap_meaning.specs.Cycle.{Tagged}
-use Rattle.sap_meaning.specs.Program.{Program}
-use Rattle.sap_meaning.specs.Store.{After, Refusal}
-use Rattle.sap_meaning.specs.State.{labelled_run}
+use Rattle.sap_meaning.specs.Prelude.{Tagged, Program, After, Refusal, labelled_run}
 use Rattle.sap_resolved.specs.Fill.{program_of}
 use Rattle.sap_stim.specs.declared.stimulus.Parsed.{Parsed}
 use Rattle.sap_sim.specs.Labelled.RunOf.{read_for}

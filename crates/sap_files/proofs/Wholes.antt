@@ -1,30 +1,17 @@
 -- The whole text of a stimulus, of which the text of its first lines is the beginning.
-use Rattle.std.proofs.Common.{◌≡◌, ℕ, List, ◌++◌, ◌+◌, append_assoc, length, map, take, sym, ◌∙◌, ap, arith, length-append}
-use Rattle.std.specs.Prelude.{None}
-use Rattle.std.proofs.lemmas.List.{take-append-le, take_all}
-use Rattle.sap_lattice.specs.Codes.{width_of}
-use Rattle.sap_lattice.specs.Levels.{Levels, order_of}
+use Rattle.sap_lemmas.proofs.Common.{◌≡◌, ℕ, List, ◌++◌, ◌+◌, append_assoc, length, map, take, sym, ◌∙◌, ap, arith, length-append, None, take-append-le, take_all}
+use Rattle.sap_lattice.specs.Prelude.{width_of, Levels, order_of}
 use Rattle.sap_maps.specs.Maps.{Valuation}
 use Rattle.sap_meaning.specs.Cycle.{Tagged as Given}
-use Rattle.sap_net.specs.IsNetlist.{IsNetlist}
-use Rattle.sap_net.specs.Laws.{SomeRun}
-use Rattle.sap_net.specs.Net.{Net}
-use Rattle.sap_net.specs.Runs.{AllFit, IsRun, observed}
+use Rattle.sap_net.specs.Prelude.{IsNetlist, SomeRun, Net, AllFit, IsRun, observed, register_ports}
 use Rattle.sap_net.proofs.Same.{run_same}
-use Rattle.sap_sim.specs.Fields.{fields_of}
-use Rattle.sap_sim.specs.Numbers.{numbers_of}
-use Rattle.sap_net.specs.Shown.{register_ports}
-use Rattle.sap_sim.specs.Shown.{rows_from, shown_registers}
+use Rattle.sap_sim.specs.Prelude.{fields_of, numbers_of, rows_from, shown_registers, AreRows, RowsAddUp, rows_of, design_fields, read_for as read_lines}
 use Rattle.sap_sim.specs.Simulated.{read_for}
-use Rattle.sap_sim.specs.Stepping.{AreRows, RowsAddUp, rows_of}
 use Rattle.sap_sim.proofs.Registers.{all_shown}
 use Rattle.sap_tree.specs.Syntax.{DesignTree}
-use Rattle.sap_sim.specs.Labelled.Fields.{design_fields}
-use Rattle.sap_sim.specs.Labelled.RunOf.{read_for as read_lines}
 use Rattle.sap_trace.specs.Lines.{labelled_trace}
 use Rattle.sap_trace.specs.Stepping.{AreLines, LinesAddUp, trace_as}
-use Rattle.sap_files.specs.Asks.{IsPrefix}
-use Rattle.sap_files.specs.Steps.{HasWhole}
+use Rattle.sap_files.specs.Prelude.{IsPrefix, HasWhole}
 use Rattle.sap_files.proofs.NetsAlike.{run_rows_same}
 
 pub prefix_of : (part rest whole : List ℕ) → whole ≡ part ++ rest → IsPrefix part whole

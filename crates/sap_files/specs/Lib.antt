@@ -9,3 +9,4 @@ pub mod Compared
 pub mod StimulusTexts
 pub mod Tainting
 pub mod Uncompiled
+pub mod Prelude

@@ -1,24 +1,13 @@
 -- Numbers that are equal but for gates.
-use Rattle.std.proofs.Common.{◌≡◌, ℕ, ◌≤◌, ◌&&◌, ◌==◌, map, Some, None, Bool, true, false, sym, ap, ap₂, ◌∙◌, refl, inl, inr}
-use Rattle.std.specs.Prelude.{if◌then◌else◌}
-use Rattle.std.specs.Str.{bytes_eq}
-use Rattle.std.proofs.lemmas.Bool.{cases_Bool}
-use Rattle.sap_lemmas.proofs.Texts.{bytes_eq_apart_back, bytes_eq_same}
+use Rattle.sap_lemmas.proofs.Common.{◌≡◌, ℕ, ◌≤◌, ◌&&◌, ◌==◌, map, Some, None, Bool, true, false, sym, ap, ap₂, ◌∙◌, refl, inl, inr, if◌then◌else◌, bytes_eq, cases_Bool, bytes_eq_apart_back, bytes_eq_same}
 use Rattle.sap_maps.proofs.ScopeLemmas.{found_first}
 use Rattle.sap_bits.specs.Arithmetic.{value1, value2, slice_of, joined}
-use Rattle.sap_maps.specs.Maps.{Name}
-use Rattle.sap_maps.specs.Scope.{find}
-use Rattle.sap_maps.specs.Term.{Term, constant, read, cell, one, two, choose, join, part, term_width}
+use Rattle.sap_maps.specs.Prelude.{Name, find, Term, constant, read, cell, one, two, choose, join, part, term_width}
 use Rattle.sap_maps.proofs.Scopes.{apart}
 use Rattle.sap_net.specs.Names.{AreDistinct}
-use Rattle.sap_ir.specs.Source.{Action, set, put, Source, readable, shapes}
-use Rattle.sap_ir.specs.Guarded.{Going, value_in, after_action}
-use Rattle.sap_ir.specs.IsGuarded.{TermFine, ActionFine, declared}
+use Rattle.sap_ir.specs.Prelude.{Action, set, put, Source, readable, shapes, Going, value_in, after_action, TermFine, ActionFine, declared, Forest, has_states, size, seat_width, put_value, SeatFine}
 use Rattle.sap_ir.proofs.Declared.{assignable_readable}
 use Rattle.sap_ir.proofs.Passes.{WidthsDeclared, fine_width}
-use Rattle.sap_ir.specs.Plain.Nested.{Forest, has_states, size, seat_width}
-use Rattle.sap_ir.specs.Plain.Does.{put_value}
-use Rattle.sap_ir.specs.Plain.IsPlain.{SeatFine}
 use Rattle.sap_ir.proofs.plain.SeatWidths.{seat_register}
 use Rattle.sap_flat.specs.Gates.{gate_name}
 use Rattle.sap_flat.proofs.GateNames.{gate_differs}

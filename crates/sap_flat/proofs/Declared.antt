@@ -1,21 +1,14 @@
 -- What the flat program declares, and that it is one.
-use Rattle.std.proofs.Common.{◌≡◌, ℕ, ◌^◌, ◌≤◌, List, [], ◌∷◌, ◌++◌, map, None, true, false, sym, ap, ◌∙◌, subst, refl, arith, append_assoc}
-use Rattle.std.specs.List.{AllByRecursion}
-use Rattle.sap_lemmas.proofs.Everywhere.{all_append}
+use Rattle.sap_lemmas.proofs.Common.{◌≡◌, ℕ, ◌^◌, ◌≤◌, List, [], ◌∷◌, ◌++◌, map, None, true, false, sym, ap, ◌∙◌, subst, refl, arith, append_assoc, AllByRecursion, all_append}
 use Rattle.sap_net.proofs.NamesLemmas.{among_front, not_found}
 use Rattle.sap_maps.proofs.ScopeLemmas.{found_first, found_second}
 use Rattle.sap_ir.proofs.IsGuardedLemmas.{variables_append}
-use Rattle.sap_maps.specs.Maps.{Name}
-use Rattle.sap_maps.specs.Scope.{Scope, find}
-use Rattle.sap_net.specs.Names.{is_name, is_among, AreDistinct}
+use Rattle.sap_maps.specs.Prelude.{Name, Scope, find}
+use Rattle.sap_net.specs.Prelude.{is_name, is_among, AreDistinct, root_seat}
+use Rattle.sap_ir.specs.Prelude.{readable, width_of, assignable, variable_names, memory_names, declared, is_helping, IsPlainVar, IsGuarded, Nested, declarations, seats, IsPlain}
 use Rattle.sap_ir.specs.declared.guarded.Var.{Var}
-use Rattle.sap_ir.specs.Source.{readable, width_of}
-use Rattle.sap_ir.specs.IsGuarded.{assignable, variable_names, memory_names, declared, is_helping, IsPlainVar, IsGuarded}
 use Rattle.sap_ir.proofs.Declared.{not_front, not_behind_list, readable_width, shape_width}
 use Rattle.sap_ir.proofs.Passes.{source_widths}
-use Rattle.sap_ir.specs.Plain.Nested.{Nested, declarations, seats}
-use Rattle.sap_net.specs.PortNames.{root_seat}
-use Rattle.sap_ir.specs.Plain.IsPlain.{IsPlain}
 use Rattle.sap_flat.specs.Gates.{gate_name, gate_wires}
 use Rattle.sap_flat.specs.Flat.{flat_states, flattened}
 use Rattle.sap_flat.proofs.GateNames.{gate_not_among}

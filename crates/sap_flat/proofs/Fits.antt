@@ -1,22 +1,10 @@
 -- The flat program's commands use names as what they are, and all widths fit.
-use Rattle.std.proofs.Common.{◌≡◌, ℕ, ◌+◌, ◌^◌, ◌<◌, ◌≤◌, List, ◌++◌, map, Some, Bool, true, refl, arith, inl, inr}
-use Rattle.std.specs.Str.{bytes_eq}
-use Rattle.std.specs.List.{AllByRecursion}
-use Rattle.std.proofs.lemmas.Bool.{cases_Bool}
-use Rattle.sap_lemmas.proofs.Everywhere.{all_append}
-use Rattle.sap_lemmas.proofs.Texts.{bytes_eq_apart_back}
+use Rattle.sap_lemmas.proofs.Common.{◌≡◌, ℕ, ◌+◌, ◌^◌, ◌<◌, ◌≤◌, List, ◌++◌, map, Some, Bool, true, refl, arith, inl, inr, bytes_eq, AllByRecursion, cases_Bool, all_append, bytes_eq_apart_back}
 use Rattle.sap_net.proofs.RulesLemmas.{one_wide}
 use Rattle.sap_maps.proofs.ScopeLemmas.{found_first}
-use Rattle.sap_maps.specs.Maps.{Name}
-use Rattle.sap_maps.specs.Scope.{Scope, find}
-use Rattle.sap_maps.specs.Term.{Term, constant, read, cell, one, two, choose, join, part}
-use Rattle.sap_net.specs.Names.{is_among}
-use Rattle.sap_net.specs.Rules.{Shapes, IsWidth}
-use Rattle.sap_ir.specs.Source.{Action, set, put, Command, readable, shapes}
-use Rattle.sap_ir.specs.IsGuarded.{TermFine, assignable, ActionFine, CommandFine}
-use Rattle.sap_ir.specs.Plain.Nested.{Body, stop, act, cases, goto, fall, Forest, none, state, Nested, declarations, has_states, size, group_names, place, children_of, seat_width}
-use Rattle.sap_net.specs.PortNames.{seat_name}
-use Rattle.sap_ir.specs.Plain.IsPlain.{BodyFine, SeatFine, ForestFine}
+use Rattle.sap_maps.specs.Prelude.{Name, Scope, find, Term, constant, read, cell, one, two, choose, join, part}
+use Rattle.sap_net.specs.Prelude.{is_among, Shapes, IsWidth, seat_name}
+use Rattle.sap_ir.specs.Prelude.{Action, set, put, Command, readable, shapes, TermFine, assignable, ActionFine, CommandFine, Body, stop, act, cases, goto, fall, Forest, none, state, Nested, declarations, has_states, size, group_names, place, children_of, seat_width, BodyFine, SeatFine, ForestFine}
 use Rattle.sap_ir.proofs.plain.SeatWidths.{seat_positive, seat_within, seat_register}
 use Rattle.sap_flat.specs.Gates.{gate_name}
 use Rattle.sap_flat.specs.Flat.{under, is_number, seated, flat_first, flat_restart, flat_goto, flat_body, flat_gates, flat_group, flattened}

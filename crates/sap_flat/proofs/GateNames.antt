@@ -1,19 +1,11 @@
 -- The names of gates.
-use Rattle.std.proofs.Common.{◌≡◌, ℕ, zero, suc, ◌+◌, ◌%◌, ◌/◌, ◌^◌, ◌<◌, ◌≤◌, ◌==◌, List, [], ◌∷◌, ◌++◌, length, replicate, true, false, sym, ap, ◌∙◌, refl, arith, inl, inr}
-use Rattle.std.specs.Prelude.{nat_lt}
-use Rattle.std.specs.Char.{is_ascii_digit}
-use Rattle.std.specs.Fmt.{decimal}
-use Rattle.std.specs.List.{AllByRecursion, list_all}
-use Rattle.std.specs.Str.{bytes_eq}
-use Rattle.std.proofs.lemmas.Fmt.{decimal_by_steps, decimal_injective}
-use Rattle.std.proofs.lemmas.List.{length-replicate}
-use Rattle.std.proofs.lemmas.Bool.{and_from, and_parts, cases_Bool, eq-eqb, lt-ltb, ltb-true}
-use Rattle.sap_lemmas.proofs.Texts.{digit_in_range, equal_of_bytes_eq}
+use Rattle.sap_lemmas.proofs.Common.{◌≡◌, ℕ, zero, suc, ◌+◌, ◌%◌, ◌/◌, ◌^◌, ◌<◌, ◌≤◌, ◌==◌, List, [], ◌∷◌, ◌++◌, length, replicate, true, false, sym, ap, ◌∙◌, refl, arith, inl, inr, nat_lt, is_ascii_digit, decimal, AllByRecursion, list_all, bytes_eq, decimal_injective, length-replicate, and_from, and_parts, cases_Bool, eq-eqb, lt-ltb, ltb-true, equal_of_bytes_eq}
+use Rattle.std.proofs.lemmas.Fmt.{decimal_by_steps}
+use Rattle.sap_lemmas.proofs.Texts.{digit_in_range}
 use Rattle.sap_text.proofs.NamesLemmas.{digits_inner}
 use Rattle.sap_maps.specs.Maps.{Name}
 use Rattle.sap_net.specs.Names.{is_inner, is_name, is_among}
-use Rattle.sap_ir.specs.IsGuarded.{is_helping}
-use Rattle.sap_ir.specs.Plain.IsPlain.{is_gate}
+use Rattle.sap_ir.specs.Prelude.{is_helping, is_gate}
 use Rattle.sap_flat.specs.Gates.{gate_name}
 
 all_behind : (xs ys : List ℕ) → list_all is_ascii_digit xs ≡ true → list_all is_ascii_digit ys ≡ true → list_all is_ascii_digit (xs ++ ys) ≡ true

@@ -1,17 +1,8 @@
 -- Groups of states: the body of the current one is done, with those that it falls into.
-use Rattle.std.proofs.Common.{◌≡◌, ℕ, zero, suc, ◌+◌, ◌<◌, ◌≤◌, ◌==◌, List, [], ◌∷◌, ◌++◌, Some, Bool, true, false, sym, ap, ◌∙◌, subst, refl, arith}
-use Rattle.std.specs.Prelude.{if◌then◌else◌}
-use Rattle.std.proofs.lemmas.Bool.{ne_eqb, eq-eqb}
-use Rattle.sap_maps.specs.Maps.{Name}
-use Rattle.sap_maps.specs.Scope.{find}
-use Rattle.sap_maps.specs.Term.{Term, read}
-use Rattle.sap_ir.specs.Source.{set, Command, Source, readable}
-use Rattle.sap_ir.specs.Guarded.{Going, value_in, after_action}
-use Rattle.sap_ir.specs.Plain.Nested.{Body, Forest, none, state, has_states, size, group_names, seat_width}
+use Rattle.sap_lemmas.proofs.Common.{◌≡◌, ℕ, zero, suc, ◌+◌, ◌<◌, ◌≤◌, ◌==◌, List, [], ◌∷◌, ◌++◌, Some, Bool, true, false, sym, ap, ◌∙◌, subst, refl, arith, if◌then◌else◌, ne_eqb, eq-eqb}
+use Rattle.sap_maps.specs.Prelude.{Name, find, Term, read}
+use Rattle.sap_ir.specs.Prelude.{set, Command, Source, readable, Going, value_in, after_action, Body, Forest, none, state, has_states, size, group_names, seat_width, put_value, enter, child_does, falls_of, child_writes, ends_in_transfers, SeatFine, ForestFine}
 use Rattle.sap_net.specs.PortNames.{seat_name}
-use Rattle.sap_ir.specs.Plain.Does.{put_value, enter, child_does, falls_of}
-use Rattle.sap_ir.specs.Plain.Writes.{child_writes}
-use Rattle.sap_ir.specs.Plain.IsPlain.{ends_in_transfers, SeatFine, ForestFine}
 use Rattle.sap_flat.specs.Gates.{gate_name}
 use Rattle.sap_flat.specs.Flat.{Flat, is_number, flat_body, flat_gates, flat_group}
 use Rattle.sap_flat.proofs.Runs.{Runs, runs_none, runs_on, runs_append, runs_last}
@@ -25,14 +16,6 @@ abbrev pub Marked : Forest → (c j : ℕ) → Going → Type 0
 Marked none c j g = Unit {0}
 Marked (state x b kids rest) zero j g = (g.now.value (gate_name j) ≡ 1) × AllZero rest (j + 1) g
 Marked (state x b kids rest) (suc c) j g = (g.now.value (gate_name j) ≡ 0) × Marked rest c (j + 1) g
-
-pub marked_kept : (f : Forest) (c j : ℕ) (g h : Going)
-    → ((i : ℕ) → j ≤ i → i < j + size f → h.now.value (gate_name i) ≡ g.now.value (gate_name i)) → Marked f c j g → Marked f c j h
-marked_kept none c j g h k m = tt
-marked_kept (state x b kids rest) zero j g h k m =
-    (k j (omega arith) (omega arith) ∙ m.0, zero_kept rest (j + 1) g h (λ i l n. k i (omega arith) (omega arith)) m.1)
-marked_kept (state x b kids rest) (suc c) j g h k m =
-    (k j (omega arith) (omega arith) ∙ m.0, marked_kept rest c (j + 1) g h (λ i l n. k i (omega arith) (omega arith)) m.1)
 
 -- what sets gates from j on, and nothing else
 pub record Gated (s : Source) (vf : Name → ℕ) (j k : ℕ) (g : Going) (cs : List Command) (h : Going) (T : Going → Type 0) : Type 0 where

@@ -1,19 +1,11 @@
 -- Names on lists with gates among them.
-use Rattle.std.proofs.Common.{◌≡◌, ℕ, zero, suc, ◌+◌, ◌<◌, ◌≤◌, ◌^◌, ◌==◌, List, [], ◌∷◌, ◌++◌, map, Some, None, true, false, sym, ◌∙◌, subst, refl, arith, inl, inr}
-use Rattle.std.specs.Str.{bytes_eq}
-use Rattle.std.specs.List.{AllByRecursion}
-use Rattle.std.proofs.lemmas.Bool.{cases_Bool, ne_eqb}
-use Rattle.sap_lemmas.proofs.Everywhere.{all_append}
-use Rattle.sap_lemmas.proofs.Numbers.{above_unequal, equal_of_test}
-use Rattle.sap_lemmas.proofs.Texts.{bytes_eq_apart_back, bytes_eq_same, equal_of_bytes_eq}
+use Rattle.sap_lemmas.proofs.Common.{◌≡◌, ℕ, zero, suc, ◌+◌, ◌<◌, ◌≤◌, ◌^◌, ◌==◌, List, [], ◌∷◌, ◌++◌, map, Some, None, true, false, sym, ◌∙◌, subst, refl, arith, inl, inr, bytes_eq, AllByRecursion, cases_Bool, ne_eqb, all_append, above_unequal, equal_of_test, bytes_eq_apart_back, bytes_eq_same, equal_of_bytes_eq}
 use Rattle.sap_net.proofs.NamesLemmas.{among_behind, among_neither, distinct_both, not_found}
 use Rattle.sap_maps.proofs.ScopeLemmas.{found_second}
-use Rattle.sap_maps.specs.Maps.{Name}
-use Rattle.sap_maps.specs.Scope.{Scope, find}
+use Rattle.sap_maps.specs.Prelude.{Name, Scope, find}
 use Rattle.sap_net.specs.Names.{is_name, is_among, AreDistinct}
+use Rattle.sap_ir.specs.Prelude.{Source, readable, variable_names, memory_names, declared, is_helping, IsPlainVar}
 use Rattle.sap_ir.specs.declared.guarded.Var.{Var}
-use Rattle.sap_ir.specs.Source.{Source, readable}
-use Rattle.sap_ir.specs.IsGuarded.{variable_names, memory_names, declared, is_helping, IsPlainVar}
 use Rattle.sap_ir.proofs.Declared.{not_front, not_behind_list}
 use Rattle.sap_flat.specs.Gates.{gate_name, gate_wires}
 use Rattle.sap_flat.specs.Same.{IsGate}

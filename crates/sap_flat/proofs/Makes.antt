@@ -1,35 +1,21 @@
 -- What lists of commands and of states become, one after another.
-use Rattle.std.proofs.Common.{◌≡◌, ℕ, zero, suc, ◌+◌, ◌-◌, ◌<◌, ◌≤◌, List, [], ◌∷◌, ◌++◌, length, get_or, drop, Some, None, Bool, refl, sym, ap, ◌∙◌, arith, add-one, append_assoc, inl, inr}
-use Rattle.std.specs.declared.vec.Vec.{Vec}
-use Rattle.std.specs.declared.alloc.Global.{Global}
-use Rattle.std.specs.Prelude.{if◌then◌else◌, slice_get, not, Option, true, false, nat_lt}
-use Rattle.std.specs.List.{position_or_len}
-use Rattle.std.specs.Option.{unwrap_or}
-use Rattle.std.proofs.Common.{cond}
-use Rattle.std.proofs.lemmas.Bool.Decides.{nat_tests}
+use Rattle.sap_lemmas.proofs.Common.{◌≡◌, ℕ, zero, suc, ◌+◌, ◌-◌, ◌<◌, ◌≤◌, List, [], ◌∷◌, ◌++◌, length, get_or, drop, Some, None, Bool, refl, sym, ap, ◌∙◌, arith, add-one, append_assoc, inl, inr, Vec, Global, if◌then◌else◌, slice_get, not, Option, true, false, nat_lt, position_or_len, unwrap_or, cond, nat_tests, bytes_eq, cases_Bool, append-nil}
 use Rattle.std.proofs.lemmas.List.Recursion.{is_position_or_len}
 use Rattle.std.proofs.lemmas.List.Sums.{prefix_len-le-length}
-use Rattle.std.specs.Str.{bytes_eq}
-use Rattle.std.proofs.lemmas.Bool.{cases_Bool}
-use Rattle.std.proofs.lemmas.List.{append-nil}
-use Rattle.sap_maps.specs.Maps.{Name}
-use Rattle.sap_maps.specs.Term.{Term, constant, read}
-use Rattle.sap_ir.specs.declared.guarded.Var.{Var}
+use Rattle.sap_maps.specs.Prelude.{Name, Term, constant, read}
+use Rattle.sap_ir.specs.Prelude.{term_of, action_of, set, Command, Body, stop, act, cases, goto, fall, Forest, none, state, size, place, children_of, seat_width, command_before, body_of, state_before, forest_of, follow, planted}
 use Rattle.sap_ir.specs.declared.guarded.Act.{Act}
 use Rattle.sap_ir.specs.declared.guarded.Calc.{Calc}
-use Rattle.sap_ir.specs.Calcs.{term_of, action_of}
-use Rattle.sap_ir.specs.Source.{set, Command}
 use Rattle.sap_ir.specs.declared.plain.nested.PlainCmd.{PlainCmd}
+use Rattle.sap_ir.specs.declared.plain.nested.PlainState.{PlainState, out-PlainState}
 use Rattle.sap_ir.specs.declared.plain.nested.PlainCmd.TheVariants as cmd
 use Rattle.sap_ir.specs.declared.plain.nested.PlainCmd.TheViews as shown
-use Rattle.sap_ir.specs.declared.plain.nested.PlainState.{PlainState, out-PlainState}
-use Rattle.sap_ir.specs.Plain.Nested.{Body, stop, act, cases, goto, fall, Forest, none, state, size, place, children_of, seat_width}
 use Rattle.sap_net.specs.PortNames.{seat_name, root_seat}
-use Rattle.sap_ir.specs.Plain.Views.{command_before, body_of, state_before, forest_of, follow, planted}
 use Rattle.sap_ir.proofs.plain.Views.{body_of-none, body_of-more, before-do, before-if, before-goto, before-fall, forest_of-none, forest_of-more, state_before-out, follow-before, planted-before}
 use Rattle.sap_flat.specs.Gates.{gate_name, gate_wire, gate_wires}
 use Rattle.sap_flat.specs.Flat.{Flat, under, is_number, flat_first, flat_restart, flat_goto, flat_body, flat_gates, flat_group, flat_states}
 use Rattle.sap_flat.specs.Lists.{first_commands, restart_commands, restart_one, place_in, goto_commands, choice_commands, commands_flat, command_flat, gates_commands, states_flat, state_flat}
+use Rattle.sap_ir.specs.declared.guarded.Var.{Var}
 
 -- gates
 

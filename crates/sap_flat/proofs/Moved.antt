@@ -1,18 +1,8 @@
 -- A goto, under a gate that is not 0.
-use Rattle.std.proofs.Common.{◌≡◌, ℕ, ◌==◌, List, [], ◌∷◌, ◌++◌, Some, true, false, ap, ◌∙◌, subst, refl, inl, inr}
-use Rattle.std.specs.Str.{bytes_eq}
-use Rattle.std.proofs.lemmas.Bool.{cases_Bool}
-use Rattle.sap_lemmas.proofs.Texts.{equal_of_bytes_eq}
-use Rattle.sap_maps.specs.Maps.{Name}
-use Rattle.sap_maps.specs.Scope.{find}
-use Rattle.sap_net.specs.Names.{is_among}
-use Rattle.sap_ir.specs.Source.{Source, readable}
-use Rattle.sap_ir.specs.Guarded.{Going}
-use Rattle.sap_ir.specs.Source.{Command}
-use Rattle.sap_ir.specs.Plain.Nested.{Forest, none, state, has_states, size, group_names, place, children_of, seat_width}
-use Rattle.sap_net.specs.PortNames.{seat_name}
-use Rattle.sap_ir.specs.Plain.Does.{put_value, first_child, restart, enter}
-use Rattle.sap_ir.specs.Plain.IsPlain.{SeatFine, ForestFine}
+use Rattle.sap_lemmas.proofs.Common.{◌≡◌, ℕ, ◌==◌, List, [], ◌∷◌, ◌++◌, Some, true, false, ap, ◌∙◌, subst, refl, inl, inr, bytes_eq, cases_Bool, equal_of_bytes_eq}
+use Rattle.sap_maps.specs.Prelude.{Name, find}
+use Rattle.sap_net.specs.Prelude.{is_among, seat_name}
+use Rattle.sap_ir.specs.Prelude.{Source, readable, Going, Command, Forest, none, state, has_states, size, group_names, place, children_of, seat_width, put_value, first_child, restart, enter, SeatFine, ForestFine}
 use Rattle.sap_flat.specs.Gates.{gate_name}
 use Rattle.sap_flat.specs.Flat.{under, seated, flat_first, flat_restart, flat_goto}
 use Rattle.sap_flat.proofs.Runs.{Runs, runs_none, runs_on, runs_append}

@@ -1,10 +1,7 @@
 -- Where a gate is 0, what stands under it does nothing.
 use Rattle.std.proofs.Common.{◌≡◌, ℕ, ◌+◌, ◌<◌, ◌≤◌, [], ◌∷◌, ◌++◌, ◌∙◌, arith}
-use Rattle.sap_maps.specs.Maps.{Name}
-use Rattle.sap_maps.specs.Term.{Term, constant, read}
-use Rattle.sap_ir.specs.Source.{set, Command}
-use Rattle.sap_ir.specs.Guarded.{Going, value_in}
-use Rattle.sap_ir.specs.Plain.Nested.{Body, stop, act, cases, goto, fall, Forest, none, state, size, place, children_of, seat_width}
+use Rattle.sap_maps.specs.Prelude.{Name, Term, constant, read}
+use Rattle.sap_ir.specs.Prelude.{set, Command, Going, value_in, Body, stop, act, cases, goto, fall, Forest, none, state, size, place, children_of, seat_width}
 use Rattle.sap_net.specs.PortNames.{seat_name}
 use Rattle.sap_flat.specs.Gates.{gate_name}
 use Rattle.sap_flat.specs.Flat.{Flat, under, is_number, seated, flat_first, flat_restart, flat_goto, flat_body, flat_gates, flat_group}

@@ -1,18 +1,9 @@
 -- A body, under a gate that is not 0: its commands do what it does until it falls, and then its other gate is 1.
-use Rattle.std.proofs.Common.{◌≡◌, ℕ, ◌+◌, ◌<◌, ◌≤◌, ◌==◌, List, [], ◌∷◌, ◌++◌, Bool, true, false, ap, ◌∙◌, refl, arith}
-use Rattle.std.specs.Prelude.{if◌then◌else◌}
-use Rattle.std.proofs.lemmas.Bool.{ne_eqb}
-use Rattle.sap_lemmas.proofs.Numbers.{zero_of_test}
+use Rattle.sap_lemmas.proofs.Common.{◌≡◌, ℕ, ◌+◌, ◌<◌, ◌≤◌, ◌==◌, List, [], ◌∷◌, ◌++◌, Bool, true, false, ap, ◌∙◌, refl, arith, if◌then◌else◌, ne_eqb, zero_of_test}
 use Rattle.sap_ir.proofs.PlainLemmas.{ends_stop}
-use Rattle.sap_maps.specs.Maps.{Name}
-use Rattle.sap_maps.specs.Term.{Term, constant, read}
+use Rattle.sap_maps.specs.Prelude.{Name, Term, constant, read}
 use Rattle.sap_net.specs.Names.{is_among}
-use Rattle.sap_ir.specs.Source.{Action, set, Command, Source, readable, shapes}
-use Rattle.sap_ir.specs.IsGuarded.{TermFine, ActionFine}
-use Rattle.sap_ir.specs.Guarded.{Going, value_in, after_action}
-use Rattle.sap_ir.specs.Plain.Nested.{Body, stop, act, cases, goto, fall, Forest, group_names}
-use Rattle.sap_ir.specs.Plain.Does.{put_value, enter}
-use Rattle.sap_ir.specs.Plain.IsPlain.{BodyFine, is_stop, ends_in_transfers, SeatFine, ForestFine}
+use Rattle.sap_ir.specs.Prelude.{Action, set, Command, Source, readable, shapes, TermFine, ActionFine, Going, value_in, after_action, Body, stop, act, cases, goto, fall, Forest, group_names, put_value, enter, BodyFine, is_stop, ends_in_transfers, SeatFine, ForestFine}
 use Rattle.sap_flat.specs.Gates.{gate_name}
 use Rattle.sap_flat.specs.Flat.{under, is_number, flat_goto, flat_body}
 use Rattle.sap_flat.proofs.Runs.{Runs, runs_none, runs_on, runs_append, runs_end, runs_last}

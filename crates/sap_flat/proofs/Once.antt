@@ -1,21 +1,12 @@
 -- Each body stands once in the flat program.
-use Rattle.std.proofs.Common.{◌≡◌, ◌⊎◌, ◌&&◌, ℕ, ◌+◌, List, [], ◌∷◌, ◌++◌, map, filter, Some, Bool, true, false, not, sym, ap, ap₂, ◌∙◌, subst, refl, inl, inr}
-use Rattle.std.specs.Str.{bytes_eq}
-use Rattle.std.proofs.lemmas.Bool.{cases_Bool}
-use Rattle.sap_lemmas.proofs.Bools.{and_false}
-use Rattle.sap_lemmas.proofs.Texts.{bytes_eq_same, equal_of_bytes_eq}
+use Rattle.sap_lemmas.proofs.Common.{◌≡◌, ◌⊎◌, ◌&&◌, ℕ, ◌+◌, List, [], ◌∷◌, ◌++◌, map, filter, Some, Bool, true, false, not, sym, ap, ap₂, ◌∙◌, subst, refl, inl, inr, bytes_eq, cases_Bool, and_false, bytes_eq_same, equal_of_bytes_eq}
 use Rattle.sap_net.proofs.NamesLemmas.{among_behind, among_front, found_among, not_found}
 use Rattle.sap_maps.proofs.ScopeLemmas.{found_second}
-use Rattle.sap_maps.specs.Maps.{Name}
-use Rattle.sap_maps.specs.Scope.{Scope, find}
-use Rattle.sap_maps.specs.Term.{Term, constant, read}
-use Rattle.sap_net.specs.Names.{is_among}
+use Rattle.sap_maps.specs.Prelude.{Name, Scope, find, Term, constant, read}
+use Rattle.sap_net.specs.Prelude.{is_among, seat_name, root_seat}
+use Rattle.sap_ir.specs.Prelude.{Action, set, put, Command, variable_names, memory_names, declared, assignable, ActionFine, Body, stop, act, cases, goto, fall, Forest, none, state, Nested, declarations, has_states, size, group_names, state_names, place, children_of, seats, seat_width, BodyFine, ForestFine, IsPlain}
 use Rattle.sap_ir.specs.declared.guarded.Var.{Var}
-use Rattle.sap_ir.specs.Source.{Action, set, put, Command}
-use Rattle.sap_ir.specs.IsGuarded.{variable_names, memory_names, declared, assignable, ActionFine}
-use Rattle.sap_ir.specs.Plain.Nested.{Body, stop, act, cases, goto, fall, Forest, none, state, Nested, declarations, has_states, size, group_names, state_names, place, children_of, seats, seat_width}
-use Rattle.sap_net.specs.PortNames.{seat_name, root_seat}
-use Rattle.sap_ir.specs.Plain.IsPlain.{keeps_seats, BodyFine, ForestFine, IsPlain}
+use Rattle.sap_ir.specs.Plain.IsPlain.{keeps_seats}
 use Rattle.sap_flat.specs.Gates.{gate_name}
 use Rattle.sap_flat.specs.Flat.{under, is_number, seated, flat_first, flat_restart, flat_goto, flat_body, flat_gates, flat_group, flattened}
 use Rattle.sap_flat.specs.Once.{body_actions, forest_actions, is_own, actions_of, BodiesOnce}

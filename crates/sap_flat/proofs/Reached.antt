@@ -1,18 +1,8 @@
 -- A body up to its fall: what stands behind one does nothing.
-use Rattle.std.proofs.Common.{◌≡◌, ℕ, ◌&&◌, ◌||◌, ◌==◌, List, [], ◌++◌, Bool, true, false, not, sym, ap, ap₂, ◌∙◌, refl, append_assoc}
-use Rattle.std.specs.Prelude.{if◌then◌else◌}
-use Rattle.std.proofs.lemmas.Bool.{and_parts, or_left, or_right}
-use Rattle.std.proofs.lemmas.List.{append-nil}
+use Rattle.sap_lemmas.proofs.Common.{◌≡◌, ℕ, ◌&&◌, ◌||◌, ◌==◌, List, [], ◌++◌, Bool, true, false, not, sym, ap, ap₂, ◌∙◌, refl, append_assoc, if◌then◌else◌, and_parts, or_left, or_right, append-nil}
 use Rattle.sap_ir.proofs.PlainLemmas.{ends_stop}
-use Rattle.sap_maps.specs.Maps.{Name}
-use Rattle.sap_maps.specs.Term.{Term}
-use Rattle.sap_ir.specs.Source.{Action, set, put}
-use Rattle.sap_ir.specs.Guarded.{Going, value_in, after_action}
-use Rattle.sap_ir.specs.Writes.{with_memory}
-use Rattle.sap_ir.specs.Plain.Nested.{Body, stop, act, cases, goto, fall}
-use Rattle.sap_ir.specs.Plain.Does.{body_does}
-use Rattle.sap_ir.specs.Plain.Writes.{body_writes}
-use Rattle.sap_ir.specs.Plain.IsPlain.{is_stop, transfers, ends_in_transfers}
+use Rattle.sap_maps.specs.Prelude.{Name, Term}
+use Rattle.sap_ir.specs.Prelude.{Action, set, put, Going, value_in, after_action, with_memory, Body, stop, act, cases, goto, fall, body_does, body_writes, is_stop, transfers, ends_in_transfers}
 
 -- Where a body ends, or where it falls, and which memories it has written until then.
 pub record Reached : Type 0 where
@@ -84,13 +74,6 @@ stop_writes vw falls below goes (act a rest) g h = absurd (cc)
 stop_writes vw falls below goes (cases t y n rest) g h = absurd (cc)
 stop_writes vw falls below goes (goto x rest) g h = absurd (cc)
 stop_writes vw falls below goes (fall rest) g h = absurd (cc)
-
-stop_reached : (vw : Name → ℕ) (goes : Name → Going → Going) (b : Body) (g : Going) → is_stop b ≡ true → reached vw goes b g ≡ record { going = g; fell = false; written = [] }
-stop_reached vw goes stop g h = refl
-stop_reached vw goes (act a rest) g h = absurd (cc)
-stop_reached vw goes (cases t y n rest) g h = absurd (cc)
-stop_reached vw goes (goto x rest) g h = absurd (cc)
-stop_reached vw goes (fall rest) g h = absurd (cc)
 
 -- the parts of a choice whose body ends in transfers
 pub record Ending (y n rest : Body) : Type 0 where

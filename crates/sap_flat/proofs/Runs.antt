@@ -1,11 +1,7 @@
 -- What commands lead to, and which memories they write.
-use Rattle.std.proofs.Common.{◌≡◌, ℕ, ◌==◌, List, [], ◌∷◌, ◌++◌, Bool, true, false, ap, ap₂, ◌∙◌, refl}
-use Rattle.std.specs.Prelude.{if◌then◌else◌}
-use Rattle.std.proofs.lemmas.List.{append-nil as append_none, append-nil as names_none}
+use Rattle.sap_lemmas.proofs.Common.{◌≡◌, ℕ, ◌==◌, List, [], ◌∷◌, ◌++◌, Bool, true, false, ap, ap₂, ◌∙◌, refl, if◌then◌else◌, append-nil as append_none, append-nil as names_none}
 use Rattle.sap_maps.specs.Maps.{Name}
-use Rattle.sap_ir.specs.Source.{Action, set, put, Command}
-use Rattle.sap_ir.specs.Guarded.{Going, value_in, after_action, after_command, after}
-use Rattle.sap_ir.specs.Writes.{with_memory, memories_written}
+use Rattle.sap_ir.specs.Prelude.{Action, set, put, Command, Going, value_in, after_action, after_command, after, with_memory, memories_written}
 
 pub record Runs (vw : Name → ℕ) (g : Going) (cs : List Command) (h : Going) (ms : List Name) : Type 0 where
   pub ends : after vw g cs ≡ h

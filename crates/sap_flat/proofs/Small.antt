@@ -1,9 +1,7 @@
 -- How large the flat program of nested states is.
 use Rattle.std.proofs.Common.{◌≡◌, ℕ, ◌+◌, ◌*◌, ◌≤◌, List, [], ◌∷◌, ◌++◌, refl, arith, length-append}
-use Rattle.sap_maps.specs.Maps.{Name}
-use Rattle.sap_maps.specs.Term.{Term, constant, read}
-use Rattle.sap_ir.specs.Source.{Command}
-use Rattle.sap_ir.specs.Plain.Nested.{Body, stop, act, cases, goto, fall, Forest, none, state, Nested, size, state_names, children_of, seat_width}
+use Rattle.sap_maps.specs.Prelude.{Name, Term, constant, read}
+use Rattle.sap_ir.specs.Prelude.{Command, Body, stop, act, cases, goto, fall, Forest, none, state, Nested, size, state_names, children_of, seat_width}
 use Rattle.sap_net.specs.PortNames.{seat_name, root_seat}
 use Rattle.sap_size.specs.Terms.{operations}
 use Rattle.sap_size.specs.Flat.{commands_weight, source_weight}

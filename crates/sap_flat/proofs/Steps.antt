@@ -1,29 +1,21 @@
 -- One command, one state more, and the ends of loops over them.
-use Rattle.std.proofs.Common.{◌≡◌, ℕ, ◌+◌, ◌<◌, ◌≤◌, List, [], ◌∷◌, ◌++◌, length, get_or, drop, Some, None, refl, sym, ap, ap₂, ◌∙◌, arith, append_assoc}
-use Rattle.std.specs.Prelude.{slice_get}
-use Rattle.std.specs.declared.vec.Vec.{Vec}
-use Rattle.std.specs.declared.alloc.Global.{Global}
-use Rattle.std.proofs.lemmas.List.{append-nil}
-use Rattle.sap_maps.specs.Maps.{Name}
-use Rattle.sap_maps.specs.Term.{Term, constant, read}
+use Rattle.sap_lemmas.proofs.Common.{◌≡◌, ℕ, ◌+◌, ◌<◌, ◌≤◌, List, [], ◌∷◌, ◌++◌, length, get_or, drop, Some, None, refl, sym, ap, ap₂, ◌∙◌, arith, append_assoc, slice_get, Vec, Global, append-nil}
+use Rattle.sap_maps.specs.Prelude.{Name, Term, constant, read}
+use Rattle.sap_ir.specs.Prelude.{term_of, action_of, command_of, commands_of, Action, set, Command, Forest, seat_width, body_of, forest_of}
 use Rattle.sap_ir.specs.declared.guarded.Act.{Act}
-use Rattle.sap_ir.specs.declared.guarded.Act.TheVariants as act
 use Rattle.sap_ir.specs.declared.guarded.Calc.{Calc}
 use Rattle.sap_ir.specs.declared.guarded.GuardedCmd.{GuardedCmd}
-use Rattle.sap_ir.specs.Calcs.{term_of, action_of, command_of, commands_of}
-use Rattle.sap_ir.specs.Source.{Action, set, Command}
 use Rattle.sap_ir.specs.declared.plain.nested.PlainCmd.{PlainCmd}
+use Rattle.sap_ir.specs.declared.plain.nested.PlainState.{PlainState, out-PlainState}
+use Rattle.sap_ir.specs.declared.guarded.Act.TheVariants as act
 use Rattle.sap_ir.specs.declared.plain.nested.PlainCmd.TheVariants as cmd
 use Rattle.sap_ir.specs.declared.plain.nested.PlainCmd.TheViews as shown
-use Rattle.sap_ir.specs.declared.plain.nested.PlainState.{PlainState, out-PlainState}
-use Rattle.sap_ir.specs.Plain.Nested.{Forest, seat_width}
 use Rattle.sap_net.specs.PortNames.{seat_name, root_seat}
-use Rattle.sap_ir.specs.Plain.Views.{body_of, forest_of}
 use Rattle.sap_flat.specs.Gates.{gate_name}
 use Rattle.sap_flat.specs.Flat.{Flat, under, is_number, flat_states}
 use Rattle.sap_flat.specs.Lists.{first_commands, restart_commands, place_in, goto_commands, choice_commands, commands_flat, command_flat, gates_commands, states_flat, state_flat}
 use Rattle.sap_flat.proofs.Grows.{body_grows}
-use Rattle.sap_flat.proofs.Makes.{made, then_flat, commands-drop, commands-past, command_do, command_if, command_goto, command_fall, gates-drop, gates-past, state_is, states-drop, states-past, goto_some, goto_none, whole_is}
+use Rattle.sap_flat.proofs.Makes.{made, then_flat, commands-drop, commands-past, command_do, command_if, command_goto, command_fall, gates-drop, state_is, states-drop, states-past, goto_some, goto_none, whole_is}
 
 -- what is behind is what a flat list says
 pub record Behind (now init : List Command) (rest all : Flat) : Type 0 where
@@ -103,11 +95,6 @@ gates_step c seat u ss n i j now new all l e b =
     ap (λ (cs : List Command). cs ++ gates_commands c seat u (drop (n + 1) ss) (i + 1) (j + 1)) e
     ∙ append_assoc now (record { when = c; act = set (gate_name j) (is_number (read seat) u i) } ∷ []) (gates_commands c seat u (drop (n + 1) ss) (i + 1) (j + 1))
     ∙ ap (λ (cs : List Command). now ++ cs) (sym (gates-drop c seat u ss n i j l)) ∙ b
-
-pub gates_rest : (c : Term Name) (seat : Name) (u : ℕ) (ss : List PlainState) (n i j : ℕ) (now all : List Command) → length ss ≤ n
-    → now ++ gates_commands c seat u (drop n ss) i j ≡ all → now ≡ all
-gates_rest c seat u ss n i j now all l b =
-    sym (append-nil now) ∙ ap (λ (cs : List Command). now ++ cs) (sym (gates-past c seat u ss n i j l)) ∙ b
 
 -- states
 

@@ -1,13 +1,10 @@
 -- The sizes of bodies and groups, by which recursions end.
-use Rattle.std.proofs.Common.{◌≡◌, ℕ, zero, suc, ◌+◌, ◌<◌, ◌≤◌, length, get_or, List, [], ◌∷◌, sym, ap, ◌∙◌, arith}
-use Rattle.std.specs.declared.vec.Vec.{Vec}
-use Rattle.std.specs.declared.alloc.Global.{Global}
+use Rattle.sap_lemmas.proofs.Common.{◌≡◌, ℕ, zero, suc, ◌+◌, ◌<◌, ◌≤◌, length, get_or, List, [], ◌∷◌, sym, ap, ◌∙◌, arith, Vec, Global}
+use Rattle.sap_ir.specs.Prelude.{Body, stop, act, cases, goto, fall, Forest, none, state, command_before, body_of, state_before, forest_of, follow, planted}
 use Rattle.sap_ir.specs.declared.guarded.Calc.{Calc}
 use Rattle.sap_ir.specs.declared.plain.nested.PlainCmd.{PlainCmd}
-use Rattle.sap_ir.specs.declared.plain.nested.PlainCmd.TheViews as shown
 use Rattle.sap_ir.specs.declared.plain.nested.PlainState.{PlainState, out-PlainState}
-use Rattle.sap_ir.specs.Plain.Nested.{Body, stop, act, cases, goto, fall, Forest, none, state}
-use Rattle.sap_ir.specs.Plain.Views.{command_before, body_of, state_before, forest_of, follow, planted}
+use Rattle.sap_ir.specs.declared.plain.nested.PlainCmd.TheViews as shown
 use Rattle.sap_ir.proofs.plain.Views.{body_of-more, before-if, forest_of-more, state_before-out, follow-before, planted-before}
 
 abbrev pub body_weight : Body → ℕ

@@ -1,28 +1,15 @@
 -- Cycles and runs.
-use Rattle.std.proofs.Common.{◌≡◌, ℕ, List, [], ◌∷◌, ◌++◌, Option, Some, None, true, false, sym, ap, subst, refl, arith, inl, inr}
-use Rattle.std.specs.Prelude.{if◌then◌else◌}
-use Rattle.std.specs.Str.{bytes_eq}
-use Rattle.std.specs.List.{AllByRecursion, AllZip}
-use Rattle.std.proofs.lemmas.Bool.{cases_Bool}
-use Rattle.sap_lemmas.proofs.Texts.{bytes_eq_apart_back}
-use Rattle.sap_maps.specs.Maps.{Name, Valuation}
-use Rattle.sap_maps.specs.Scope.{find}
-use Rattle.sap_maps.specs.Term.{constant}
-use Rattle.sap_net.specs.Names.{is_among, AreDistinct}
+use Rattle.sap_lemmas.proofs.Common.{◌≡◌, ℕ, List, [], ◌∷◌, ◌++◌, Option, Some, None, true, false, sym, ap, subst, refl, arith, inl, inr, if◌then◌else◌, bytes_eq, AllByRecursion, AllZip, cases_Bool, bytes_eq_apart_back}
+use Rattle.sap_maps.specs.Prelude.{Name, Valuation, find, constant}
+use Rattle.sap_net.specs.Prelude.{is_among, AreDistinct, root_seat}
+use Rattle.sap_ir.specs.Prelude.{Source, readable, width_of, Going, first_number, register_number, number_at_start, first_cell, cell_at_start, begun, WithinBefore, WritesOnce, variable_names, memory_names, Nested, declarations, has_states, size, seats, seat_width, enter, falls_of, child_writes, PlainWritesOnce, IsPlain}
 use Rattle.sap_ir.specs.declared.guarded.Var.{Var}
 use Rattle.sap_ir.specs.declared.guarded.MemoryVariable.{MemoryVariable}
-use Rattle.sap_ir.specs.Source.{Source, readable, width_of}
+use Rattle.sap_ir.specs.Guarded.{ended}
+use Rattle.sap_ir.specs.Plain.Writes.{cycle_writes}
 use Rattle.sap_ir.specs.Guarded as flat
-use Rattle.sap_ir.specs.Guarded.{Going, first_number, register_number, number_at_start, first_cell, cell_at_start, begun, ended}
-use Rattle.sap_ir.specs.Writes.{WithinBefore, WritesOnce}
-use Rattle.sap_ir.specs.IsGuarded.{variable_names, memory_names}
 use Rattle.sap_ir.proofs.Declared.{not_front, not_behind_list}
-use Rattle.sap_ir.specs.Plain.Nested.{Nested, declarations, has_states, size, seats, seat_width}
-use Rattle.sap_net.specs.PortNames.{root_seat}
 use Rattle.sap_ir.specs.Plain.Does as plain
-use Rattle.sap_ir.specs.Plain.Does.{enter, falls_of}
-use Rattle.sap_ir.specs.Plain.Writes.{child_writes, cycle_writes, PlainWritesOnce}
-use Rattle.sap_ir.specs.Plain.IsPlain.{IsPlain}
 use Rattle.sap_flat.specs.Gates.{gate_name}
 use Rattle.sap_flat.specs.Flat.{flat_gates, flat_group, flattened}
 use Rattle.sap_flat.specs.Same.{SameNumbers, RunsAlike}

@@ -1,22 +1,16 @@
 -- `&` and `|` of an operand with a wire that reads it.
-use Rattle.std.proofs.Common.{◌≡◌, ℕ, ◌==◌, ◌&&◌, List, Bool, true, false, sym, ap, ◌∙◌, subst, refl, inl, inr, arith}
-use Rattle.std.specs.Prelude.{◌⊎◌, if◌then◌else◌, bit_and, bit_or}
-use Rattle.std.specs.Int.Bits.{or_self, or_zero_l}
-use Rattle.std.proofs.lemmas.Nat.{and_comm, or_comm}
-use Rattle.std.proofs.lemmas.Nat.Bits.{same_from_bits, bit_at_and, bit_at_or}
-use Rattle.std.proofs.lemmas.Bool.{and_parts}
+use Rattle.sap_lemmas.proofs.Common.{◌≡◌, ℕ, ◌==◌, ◌&&◌, List, Bool, true, false, sym, ap, ◌∙◌, subst, refl, inl, inr, arith, ◌⊎◌, if◌then◌else◌, bit_and, bit_or, or_zero_l, and_comm, or_comm, same_from_bits, bit_at_or, and_parts}
+use Rattle.std.specs.Int.Bits.{or_self}
+use Rattle.std.proofs.lemmas.Nat.Bits.{bit_at_and}
 use Rattle.sap_bits.specs.Arithmetic.{value2, width2}
 use Rattle.sap_bits.specs.declared.Op2.{Op2}
 use Rattle.sap_bits.specs.declared.Op2.TheVariants.{And, Or}
-use Rattle.sap_maps.specs.Maps.{Name, Valuation}
-use Rattle.sap_maps.specs.Scope.{Scope}
-use Rattle.sap_maps.specs.Term.{CountFits}
+use Rattle.sap_maps.specs.Prelude.{Name, Valuation, Scope, CountFits}
+use Rattle.sap_net.specs.Prelude.{Shapes, IsOperand, readable_after, operand_value, operand_width, right_value}
 use Rattle.sap_net.specs.declared.parts.Operand.{Operand}
 use Rattle.sap_net.specs.declared.parts.Right.{Right}
 use Rattle.sap_net.specs.declared.parts.Right.TheVariants.{Copy, Two, Choose}
 use Rattle.sap_net.specs.declared.parts.Wire.{Wire}
-use Rattle.sap_net.specs.Rules.{Shapes, IsOperand, readable_after}
-use Rattle.sap_net.specs.Values.{operand_value, operand_width, right_value}
 use Rattle.sap_fold.specs.Equals.{Over, Equals}
 use Rattle.sap_fold.specs.Seen.{Defines}
 use Rattle.sap_fold.specs.Folding.{same_operand, is_number}

@@ -1,22 +1,14 @@
 -- Right sides that become others over the same wires and perhaps more.
-use Rattle.std.proofs.Common.{◌≡◌, ℕ, ◌^◌, ◌<◌, ◌==◌, List, [], ◌++◌, Bool, false, sym, ap, ◌∙◌, subst, refl, inl, inr, arith, append_assoc, append-nil}
-use Rattle.std.specs.Prelude.{bit_and, bit_or}
-use Rattle.std.specs.Int.Bits.{and_zero_l}
-use Rattle.std.proofs.lemmas.Nat.{and_comm, or_comm}
-use Rattle.std.proofs.lemmas.Bool.{cases_Bool}
-use Rattle.sap_lemmas.proofs.Numbers.{positive_of_test, zero_of_test}
+use Rattle.sap_lemmas.proofs.Common.{◌≡◌, ℕ, ◌^◌, ◌<◌, ◌==◌, List, [], ◌++◌, Bool, false, sym, ap, ◌∙◌, subst, refl, inl, inr, arith, append_assoc, append-nil, bit_and, bit_or, and_zero_l, and_comm, or_comm, cases_Bool, positive_of_test, zero_of_test}
 use Rattle.sap_bits.specs.Arithmetic.{value2}
 use Rattle.sap_bits.specs.declared.Op2.{Op2}
 use Rattle.sap_bits.specs.declared.Op2.TheVariants.{And, Or}
-use Rattle.sap_maps.specs.Maps.{Name}
-use Rattle.sap_maps.specs.Scope.{Scope}
-use Rattle.sap_maps.specs.Term.{CountFits}
+use Rattle.sap_maps.specs.Prelude.{Name, Scope, CountFits}
+use Rattle.sap_net.specs.Prelude.{Shapes, AreWires, IsOperand, IsRight, readable_after, operand_value, operand_width}
 use Rattle.sap_net.specs.declared.parts.Operand.{Operand}
 use Rattle.sap_net.specs.declared.parts.Right.{Right}
 use Rattle.sap_net.specs.declared.parts.Right.TheVariants.{Two, Choose}
 use Rattle.sap_net.specs.declared.parts.Wire.{Wire}
-use Rattle.sap_net.specs.Rules.{Shapes, AreWires, IsOperand, IsRight, readable_after}
-use Rattle.sap_net.specs.Values.{operand_value, operand_width}
 use Rattle.sap_net.proofs.Within.{operand_below}
 use Rattle.sap_net.proofs.RulesLemmas.{operand_grows}
 use Rattle.sap_fold.specs.Equals.{Equals}

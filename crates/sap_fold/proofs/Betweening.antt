@@ -1,19 +1,14 @@
 -- A choice between two numbers, bit by bit.
-use Rattle.std.proofs.Common.{◌≡◌, ℕ, ◌+◌, ◌-◌, ◌*◌, ◌/◌, ◌%◌, ◌^◌, ◌<◌, ◌≤◌, ◌==◌, List, [], ◌∷◌, ◌++◌, length, Some, None, Bool, true, false, sym, ap, ap₂, ◌∙◌, subst, refl, inl, inr, arith}
-use Rattle.std.specs.Prelude.{if◌then◌else◌}
-use Rattle.std.proofs.Math.Nat.{div-eq_of_lt, div-add-mod, mod-lt}
+use Rattle.sap_lemmas.proofs.Common.{◌≡◌, ℕ, ◌+◌, ◌-◌, ◌*◌, ◌/◌, ◌%◌, ◌^◌, ◌<◌, ◌≤◌, ◌==◌, List, [], ◌∷◌, ◌++◌, length, Some, None, Bool, true, false, sym, ap, ap₂, ◌∙◌, subst, refl, inl, inr, arith, if◌then◌else◌, mod-lt, nat_tests, equal_of_test}
+use Rattle.std.proofs.Math.Nat.{div-eq_of_lt, div-add-mod}
 use Rattle.std.proofs.lemmas.Nat.{shr-shr}
-use Rattle.std.proofs.lemmas.Bool.Decides.{nat_tests}
-use Rattle.sap_lemmas.proofs.Numbers.{equal_of_test}
 use Rattle.sap_net.proofs.RulesLemmas.{one_wide}
-use Rattle.sap_maps.specs.Maps.{Valuation}
-use Rattle.sap_maps.specs.Scope.{Scope}
+use Rattle.sap_maps.specs.Prelude.{Valuation, Scope}
+use Rattle.sap_net.specs.Prelude.{IsOperand, AreOperands, readable_after, operand_value, operands_width, operands_value}
 use Rattle.sap_net.specs.declared.parts.Operand.{Operand}
 use Rattle.sap_net.specs.declared.parts.Operand.TheVariants.{Named, Constant}
 use Rattle.sap_net.specs.declared.parts.Right.TheVariants.{Choose, Concat}
 use Rattle.sap_net.specs.declared.parts.Wire.{Wire}
-use Rattle.sap_net.specs.Rules.{IsOperand, AreOperands, readable_after}
-use Rattle.sap_net.specs.Values.{operand_value, operands_width, operands_value}
 use Rattle.sap_net.proofs.Within.{operand_below}
 use Rattle.sap_fold.specs.Equals.{Equals}
 use Rattle.sap_fold.specs.Under.{number, bit}

@@ -1,14 +1,10 @@
 -- Each rule gives a right side that fits where the given one does, and has its value.
-use Rattle.std.proofs.Common.{◌≡◌, ℕ, zero, suc, ◌+◌, ◌-◌, ◌*◌, ◌/◌, ◌%◌, ◌^◌, ◌<◌, ◌≤◌, ◌==◌, ◌&&◌, ◌||◌, List, Bool, true, false, sym, ap, ap₂, ◌∙◌, subst, refl, inl, inr, arith}
-use Rattle.std.specs.Prelude.{◌⊎◌, nat_le, if◌then◌else◌, bit_and, bit_or, bit_xor}
-use Rattle.std.specs.Int.Bits.{and_self, or_self, xor_self, and_zero_l, and_zero_r, or_zero_l, or_zero_r, xor_zero_l, xor_zero_r}
-use Rattle.std.proofs.Math.Pow.{pow_pos}
-use Rattle.std.proofs.Math.Nat.{add-mul-mod_self_left, mod-eq_of_lt, mod_self, div-eq_of_lt}
-use Rattle.std.proofs.lemmas.Nat.{and_mask, and_comm, or_comm, and_or_self}
-use Rattle.std.proofs.lemmas.Bool.{cases_Bool, and_parts, le-leb, le-ltb, leb-true}
-use Rattle.std.proofs.lemmas.Bool.Decides.{nat_tests}
-use Rattle.sap_lemmas.proofs.Numbers.{equal_of_test, positive_of_test, test_of_zero}
-use Rattle.sap_lemmas.proofs.Texts.{equal_of_bytes_eq}
+use Rattle.sap_lemmas.proofs.Common.{◌≡◌, ℕ, zero, suc, ◌+◌, ◌-◌, ◌*◌, ◌/◌, ◌%◌, ◌^◌, ◌<◌, ◌≤◌, ◌==◌, ◌&&◌, ◌||◌, List, Bool, true, false, sym, ap, ap₂, ◌∙◌, subst, refl, inl, inr, arith, ◌⊎◌, nat_le, if◌then◌else◌, bit_and, bit_or, and_zero_l, or_zero_l, or_zero_r, pow_pos, mod-eq_of_lt, and_comm, or_comm, cases_Bool, and_parts, le-leb, le-ltb, leb-true, nat_tests, equal_of_test, positive_of_test, equal_of_bytes_eq}
+use Rattle.std.specs.Prelude.{bit_xor}
+use Rattle.std.specs.Int.Bits.{and_self, or_self, xor_self, and_zero_r, xor_zero_l, xor_zero_r}
+use Rattle.std.proofs.Math.Nat.{add-mul-mod_self_left, mod_self, div-eq_of_lt}
+use Rattle.std.proofs.lemmas.Nat.{and_mask, and_or_self}
+use Rattle.sap_lemmas.proofs.Numbers.{test_of_zero}
 use Rattle.sap_net.proofs.RulesLemmas.{one_wide}
 use Rattle.sap_bits.specs.Arithmetic.{value1, value2, width1, width2}
 use Rattle.sap_bits.specs.declared.Op1.{Op1}
@@ -17,17 +13,14 @@ use Rattle.sap_bits.specs.declared.Op2.{Op2}
 use Rattle.sap_bits.specs.declared.Op2.TheVariants.{Add, Sub, Mul, And, Or, Xor, Eq, Ne, Lt, Le, Shl, Shr}
 use Rattle.sap_bits.proofs.Within.{value1_below, value2_below}
 use Rattle.sap_bits.proofs.Low.{shl_past, shr_past}
-use Rattle.sap_maps.specs.Maps.{Name, Valuation}
-use Rattle.sap_maps.specs.Scope.{Scope}
-use Rattle.sap_maps.specs.Term.{CountFits}
+use Rattle.sap_maps.specs.Prelude.{Name, Valuation, Scope, CountFits}
 use Rattle.sap_maps.proofs.Terms.{right_fits}
+use Rattle.sap_net.specs.Prelude.{Shapes, IsWidth, IsOperand, IsRight, readable_after, operand_value, right_value}
 use Rattle.sap_net.specs.declared.parts.Operand.{Operand}
 use Rattle.sap_net.specs.declared.parts.Operand.TheVariants.{Named, Constant}
 use Rattle.sap_net.specs.declared.parts.Right.{Right}
 use Rattle.sap_net.specs.declared.parts.Right.TheVariants.{Copy, One, Two, Choose, Concat, Slice, Cell}
 use Rattle.sap_net.specs.declared.parts.Wire.{Wire}
-use Rattle.sap_net.specs.Rules.{Shapes, IsWidth, IsOperand, IsRight, readable_after}
-use Rattle.sap_net.specs.Values.{operand_value, right_value}
 use Rattle.sap_net.proofs.Within.{ValuesBelow, WidthsAre, operand_below, operand_is_wide}
 use Rattle.sap_fold.specs.declared.rules.Outcome.{Outcome}
 use Rattle.sap_fold.specs.declared.rules.Outcome.TheVariants.{Keep, Condition, First, Second, Number, NotCondition, NotFirst, NotSecond, ConditionAndFirst, ConditionOrSecond}

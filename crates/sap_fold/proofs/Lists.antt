@@ -1,11 +1,7 @@
 -- Names on lists, and what is found under them.
-use Rattle.std.proofs.Common.{◌≡◌, List, [], ◌∷◌, ◌++◌, ◌||◌, filter, Some, None, Bool, true, false, sym, ap, ◌∙◌, refl, inl, inr}
-use Rattle.std.specs.Str.{bytes_eq}
-use Rattle.std.specs.List.{AllByRecursion}
-use Rattle.std.proofs.lemmas.Bool.{cases_Bool, or_parts}
+use Rattle.sap_lemmas.proofs.Common.{◌≡◌, List, [], ◌∷◌, ◌++◌, ◌||◌, filter, Some, None, Bool, true, false, sym, ap, ◌∙◌, refl, inl, inr, bytes_eq, AllByRecursion, cases_Bool, or_parts}
 use Rattle.sap_net.proofs.NamesLemmas.{among_append}
-use Rattle.sap_maps.specs.Maps.{Name}
-use Rattle.sap_maps.specs.Scope.{find}
+use Rattle.sap_maps.specs.Prelude.{Name, find}
 use Rattle.sap_maps.proofs.Scopes.{not_behind}
 use Rattle.sap_net.specs.Names.{is_among}
 

@@ -1,20 +1,14 @@
 -- `&` and `|` of a negation as choices, and choices between 0 and a bit.
-use Rattle.std.proofs.Common.{◌≡◌, ℕ, ◌-◌, ◌^◌, ◌<◌, ◌==◌, List, Bool, false, true, sym, ap, ◌∙◌, subst, inl, inr, refl, arith}
-use Rattle.std.specs.Prelude.{bit_and, if◌then◌else◌}
-use Rattle.std.specs.Int.Bits.{and_zero_l}
-use Rattle.std.proofs.lemmas.Nat.{and_comm, or_comm}
-use Rattle.std.proofs.lemmas.Bool.{cases_Bool}
+use Rattle.sap_lemmas.proofs.Common.{◌≡◌, ℕ, ◌-◌, ◌^◌, ◌<◌, ◌==◌, List, Bool, false, true, sym, ap, ◌∙◌, subst, inl, inr, refl, arith, bit_and, if◌then◌else◌, and_zero_l, and_comm, or_comm, cases_Bool}
 use Rattle.sap_bits.specs.Arithmetic.{value2}
 use Rattle.sap_bits.specs.declared.Op1.TheVariants.{Not}
 use Rattle.sap_bits.specs.declared.Op2.{Op2}
 use Rattle.sap_bits.specs.declared.Op2.TheVariants.{And, Or}
-use Rattle.sap_maps.specs.Maps.{Name, Valuation}
-use Rattle.sap_maps.specs.Scope.{Scope}
+use Rattle.sap_maps.specs.Prelude.{Name, Valuation, Scope}
+use Rattle.sap_net.specs.Prelude.{Shapes, IsOperand, IsRight, readable_after, operand_value, operand_width}
 use Rattle.sap_net.specs.declared.parts.Operand.{Operand}
 use Rattle.sap_net.specs.declared.parts.Right.TheVariants.{Copy, One, Two, Choose}
 use Rattle.sap_net.specs.declared.parts.Wire.{Wire}
-use Rattle.sap_net.specs.Rules.{Shapes, IsOperand, IsRight, readable_after}
-use Rattle.sap_net.specs.Values.{operand_value, operand_width}
 use Rattle.sap_net.proofs.Within.{operand_below, operand_is_wide}
 use Rattle.sap_net.proofs.RulesLemmas.{operand_grows}
 use Rattle.sap_fold.specs.Equals.{Equals}

@@ -1,27 +1,17 @@
 -- Comparisons of an operand with `|` of it and another.
-use Rattle.std.proofs.Common.{◌≡◌, ℕ, ◌+◌, ◌-◌, ◌*◌, ◌/◌, ◌%◌, ◌^◌, ◌<◌, ◌≤◌, ◌==◌, List, Option, Some, None, Bool, true, false, sym, ap, ap₂, ◌∙◌, subst, refl, inl, inr, arith}
-use Rattle.std.specs.Prelude.{◌⊎◌, if◌then◌else◌, nat_lt, nat_le, bit_or, IfSome}
-use Rattle.std.specs.Int.{bit_at}
-use Rattle.std.proofs.lemmas.Nat.{or_comm, pow-add}
-use Rattle.std.proofs.Math.Nat.{add-mul}
-use Rattle.std.proofs.Math.Pow.{pow_pos}
-use Rattle.std.proofs.lemmas.Nat.Bits.{bit_at_or, bit_at-lt, same_from_bits_below, bit_at_above, bit_at_ones, bit_at_cat_low, bit_at_cat_high}
-use Rattle.std.proofs.lemmas.Bool.{cases_Bool, ltb-true}
-use Rattle.std.proofs.lemmas.Bool.Decides.{nat_tests}
-use Rattle.sap_lemmas.proofs.Numbers.{equal_of_test, test_of_equal}
+use Rattle.sap_lemmas.proofs.Common.{◌≡◌, ℕ, ◌+◌, ◌-◌, ◌*◌, ◌/◌, ◌%◌, ◌^◌, ◌<◌, ◌≤◌, ◌==◌, List, Option, Some, None, Bool, true, false, sym, ap, ap₂, ◌∙◌, subst, refl, inl, inr, arith, ◌⊎◌, if◌then◌else◌, nat_lt, nat_le, bit_or, IfSome, bit_at, or_comm, pow-add, add-mul, pow_pos, bit_at_or, cases_Bool, ltb-true, nat_tests, equal_of_test, test_of_equal}
+use Rattle.std.proofs.lemmas.Nat.Bits.{bit_at-lt, same_from_bits_below, bit_at_above, bit_at_ones, bit_at_cat_low, bit_at_cat_high}
 use Rattle.sap_net.proofs.RulesLemmas.{one_wide}
 use Rattle.sap_bits.specs.Arithmetic.{slice_of}
 use Rattle.sap_bits.specs.declared.Op1.TheVariants.{Not}
 use Rattle.sap_bits.specs.declared.Op2.TheVariants.{Or, Eq, Ne, Lt, Le}
 use Rattle.sap_bits.proofs.Within.{value2_below}
-use Rattle.sap_maps.specs.Maps.{Name, Valuation}
-use Rattle.sap_maps.specs.Scope.{Scope, find}
+use Rattle.sap_maps.specs.Prelude.{Name, Valuation, Scope, find}
+use Rattle.sap_net.specs.Prelude.{Shapes, IsWidth, IsOperand, IsRight, AreWires, readable_after, operand_value}
 use Rattle.sap_net.specs.declared.parts.Operand.{Operand}
 use Rattle.sap_net.specs.declared.parts.Operand.TheVariants.{Named, Constant}
 use Rattle.sap_net.specs.declared.parts.Right.TheVariants.{One, Two, Slice}
 use Rattle.sap_net.specs.declared.parts.Wire.{Wire}
-use Rattle.sap_net.specs.Rules.{Shapes, IsWidth, IsOperand, IsRight, AreWires, readable_after}
-use Rattle.sap_net.specs.Values.{operand_value}
 use Rattle.sap_net.proofs.Within.{operand_below, operand_is_wide}
 use Rattle.sap_fold.specs.Equals.{Over, Equals}
 use Rattle.sap_fold.specs.Wires.{Provides}

@@ -1,18 +1,12 @@
 -- Parts of concatenations: the same bits from fewer of them.
-use Rattle.std.proofs.Common.{◌≡◌, ℕ, ◌+◌, ◌-◌, ◌*◌, ◌^◌, ◌<◌, ◌≤◌, List, [], ◌∷◌, ◌++◌, length, Option, Some, None, Bool, true, false, sym, ap, ap₂, ◌∙◌, subst, refl, inl, inr, arith, append_assoc}
-use Rattle.std.specs.Prelude.{◌&&◌, nat_le, IfSome}
-use Rattle.std.proofs.Math.Nat.{add-mul, mul_assoc}
-use Rattle.std.proofs.Math.Pow.{pow_pos, pow_mono}
-use Rattle.std.proofs.lemmas.Nat.{pow-add}
-use Rattle.std.proofs.lemmas.Bool.{cases_Bool, and_parts, leb-true}
-use Rattle.sap_maps.specs.Maps.{Name, Valuation}
-use Rattle.sap_maps.specs.Scope.{Scope}
+use Rattle.sap_lemmas.proofs.Common.{◌≡◌, ℕ, ◌+◌, ◌-◌, ◌*◌, ◌^◌, ◌<◌, ◌≤◌, List, [], ◌∷◌, ◌++◌, length, Option, Some, None, Bool, true, false, sym, ap, ap₂, ◌∙◌, subst, refl, inl, inr, arith, append_assoc, ◌&&◌, nat_le, IfSome, add-mul, pow_pos, pow_mono, pow-add, cases_Bool, and_parts, leb-true}
+use Rattle.std.proofs.Math.Nat.{mul_assoc}
+use Rattle.sap_maps.specs.Prelude.{Name, Valuation, Scope}
+use Rattle.sap_net.specs.Prelude.{IsWidth, IsOperand, AreOperands, readable_after, operand_value, operands_width, operands_value}
 use Rattle.sap_net.specs.declared.parts.Operand.{Operand}
 use Rattle.sap_net.specs.declared.parts.Operand.TheVariants.{Constant}
 use Rattle.sap_net.specs.declared.parts.Right.TheVariants.{Copy, Concat}
 use Rattle.sap_net.specs.declared.parts.Wire.{Wire}
-use Rattle.sap_net.specs.Rules.{IsWidth, IsOperand, AreOperands, readable_after}
-use Rattle.sap_net.specs.Values.{operand_value, operands_width, operands_value}
 use Rattle.sap_net.proofs.Within.{WidthsAre, operand_is_wide}
 use Rattle.sap_maps.proofs.Terms.{joined_below}
 use Rattle.sap_fold.specs.Equals.{Equals}
@@ -226,11 +220,4 @@ concat_same ws u os ps s l =
     record {
       fits = λ ms sc f h. (l, s.fits (readable_after sc ws) u (zero_fits (readable_after sc ws)) h.1);
       same = λ ms sc widths v o h. s.same (readable_after sc ws) widths v u o.wide (zero_fits (readable_after sc ws)) h.1 refl;
-    }
-
-pub concat_one : (ws : List Wire) (u : ℕ) (os : List Operand) (p : Operand) → SameParts (bit false) 0 os (p ∷ []) → Equals ws u (Concat os) (Copy p)
-concat_one ws u os p s =
-    record {
-      fits = λ ms sc f h. (one_is (readable_after sc ws) u p (s.fits (readable_after sc ws) u (zero_fits (readable_after sc ws)) h.1)).1;
-      same = λ ms sc widths v o h. s.same (readable_after sc ws) widths v u o.wide (zero_fits (readable_after sc ws)) h.1 refl ∙ one_value widths v p;
     }

@@ -1,19 +1,14 @@
 -- Rules that look at the right sides of helping wires.
-use Rattle.std.proofs.Common.{◌≡◌, ℕ, zero, suc, ◌-◌, ◌^◌, ◌<◌, ◌==◌, List, [], ◌∷◌, length, get_or, Some, sym, ap, ap₂, ◌∙◌, subst, refl, inl, inr, arith}
-use Rattle.std.specs.Prelude.{if◌then◌else◌}
-use Rattle.std.specs.List.{AllByRecursion}
-use Rattle.std.proofs.lemmas.Bool.{cases_Bool}
-use Rattle.sap_lemmas.proofs.Numbers.{positive_of_test, test_of_positive, test_of_zero, zero_of_test}
+use Rattle.sap_lemmas.proofs.Common.{◌≡◌, ℕ, zero, suc, ◌-◌, ◌^◌, ◌<◌, ◌==◌, List, [], ◌∷◌, length, get_or, Some, sym, ap, ap₂, ◌∙◌, subst, refl, inl, inr, arith, if◌then◌else◌, AllByRecursion, cases_Bool, positive_of_test, test_of_positive, zero_of_test}
+use Rattle.sap_lemmas.proofs.Numbers.{test_of_zero}
 use Rattle.sap_bits.specs.declared.Op1.TheVariants.{Not}
-use Rattle.sap_maps.specs.Maps.{Name, Valuation}
-use Rattle.sap_maps.specs.Scope.{Scope, find}
+use Rattle.sap_maps.specs.Prelude.{Name, Valuation, Scope, find}
 use Rattle.sap_maps.proofs.Scopes.{found_here}
+use Rattle.sap_net.specs.Prelude.{Shapes, IsOperand, AreOperands, IsRight, AreWires, readable_after, operand_value, operand_width, right_value, Holds}
 use Rattle.sap_net.specs.declared.parts.Operand.{Operand}
 use Rattle.sap_net.specs.declared.parts.Right.{Right}
 use Rattle.sap_net.specs.declared.parts.Right.TheVariants.{Copy, One, Two, Choose, Concat, Slice, Cell}
 use Rattle.sap_net.specs.declared.parts.Wire.{Wire}
-use Rattle.sap_net.specs.Rules.{Shapes, IsOperand, AreOperands, IsRight, AreWires, readable_after}
-use Rattle.sap_net.specs.Values.{operand_value, operand_width, right_value, Holds}
 use Rattle.sap_net.proofs.Within.{operand_below, operand_is_wide}
 use Rattle.sap_net.proofs.RulesLemmas.{readable_kept, Grows, operand_grows}
 use Rattle.sap_fold.specs.Equals.{Equals}

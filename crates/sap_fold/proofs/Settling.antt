@@ -1,6 +1,5 @@
 -- A right side is settled after three folds, and has its value.
-use Rattle.std.proofs.Common.{◌≡◌, ℕ, List, sym, ap, ◌∙◌, refl, inl, inr}
-use Rattle.std.proofs.lemmas.Bool.{cases_Bool}
+use Rattle.sap_lemmas.proofs.Common.{◌≡◌, ℕ, List, sym, ap, ◌∙◌, refl, inl, inr, cases_Bool}
 use Rattle.sap_bits.specs.Arithmetic.{value1}
 use Rattle.sap_bits.specs.declared.Op1.{Op1}
 use Rattle.sap_bits.specs.declared.Op1.TheVariants.{Not}

@@ -1,22 +1,16 @@
 -- Slices of slices, of parts of concatenations, and of whole wires.
-use Rattle.std.proofs.Common.{◌≡◌, ℕ, suc, ◌+◌, ◌-◌, ◌*◌, ◌/◌, ◌%◌, ◌^◌, ◌<◌, ◌≤◌, ◌==◌, List, [], ◌∷◌, ◌++◌, length, take, drop, get_or, drop-cons, Option, Some, None, true, sym, ap, ap₂, ◌∙◌, subst, refl, arith}
-use Rattle.std.specs.Prelude.{IfSome}
-use Rattle.std.proofs.Math.Nat.{add-mul, mul_assoc, mul_comm, div-add-mod, mod-lt, add-mul-mod_self_right, add-mul-div_right, mod-eq_of_lt}
-use Rattle.std.proofs.Math.Pow.{pow_pos}
-use Rattle.std.proofs.lemmas.List.{take-append-drop, length-take}
-use Rattle.std.proofs.lemmas.Nat.{pow-add, shr-shr, div-mul-add}
-use Rattle.std.proofs.lemmas.Bool.Decides.{nat_tests}
-use Rattle.std.proofs.lemmas.Bool.{le-leb, lt-ltb}
+use Rattle.sap_lemmas.proofs.Common.{◌≡◌, ℕ, suc, ◌+◌, ◌-◌, ◌*◌, ◌/◌, ◌%◌, ◌^◌, ◌<◌, ◌≤◌, ◌==◌, List, [], ◌∷◌, ◌++◌, length, take, drop, get_or, Option, Some, None, true, sym, ap, ap₂, ◌∙◌, subst, refl, arith, IfSome, add-mul, mul_comm, mod-lt, mod-eq_of_lt, pow_pos, take-append-drop, length-take, pow-add, div-mul-add, nat_tests, le-leb, lt-ltb}
+use Rattle.std.proofs.Common.{drop-cons}
+use Rattle.std.proofs.Math.Nat.{mul_assoc, div-add-mod, add-mul-mod_self_right, add-mul-div_right}
+use Rattle.std.proofs.lemmas.Nat.{shr-shr}
 use Rattle.sap_bits.specs.Arithmetic.{slice_of}
-use Rattle.sap_maps.specs.Maps.{Name, Valuation}
-use Rattle.sap_maps.specs.Scope.{Scope, find}
+use Rattle.sap_maps.specs.Prelude.{Name, Valuation, Scope, find}
+use Rattle.sap_net.specs.Prelude.{Shapes, IsWidth, IsOperand, AreOperands, IsRight, readable_after, operand_value, operands_width, operands_value, right_value}
 use Rattle.sap_net.specs.declared.parts.Operand.{Operand}
 use Rattle.sap_net.specs.declared.parts.Operand.TheVariants.{Named, Constant}
 use Rattle.sap_net.specs.declared.parts.Right.{Right}
 use Rattle.sap_net.specs.declared.parts.Right.TheVariants.{Copy, Concat, Slice}
 use Rattle.sap_net.specs.declared.parts.Wire.{Wire}
-use Rattle.sap_net.specs.Rules.{Shapes, IsWidth, IsOperand, AreOperands, IsRight, readable_after}
-use Rattle.sap_net.specs.Values.{operand_value, operands_width, operands_value, right_value}
 use Rattle.sap_net.proofs.Within.{operands_below}
 use Rattle.sap_fold.specs.Equals.{Equals}
 use Rattle.sap_fold.specs.Wires.{HasWire}
@@ -235,12 +229,3 @@ pub some_parts : (ws : List Wire) (d : Right) (os : List Operand) (hi lo : ℕ) 
     → IfSome m (λ r. OfParts ws os hi lo r) → IfSome m (λ r. SlicesRight ws d hi lo r)
 some_parts ws d os hi lo None e f = tt
 some_parts ws d os hi lo (Some r) e f = λ x u k. slice_of_parts ws u x os hi lo r (subst (Defines ws (Named x)) e k) f
-
-pub wire_defines : (ws : List Wire) (x : Name) (w : Wire) → HasWire ws x w → Defines ws (Named x) w.right
-wire_defines ws x w h =
-    record {
-      wire = w;
-      has = subst (λ (n : Name). HasWire ws n w) (sym h.named) h;
-      operand = ap Named (sym h.named);
-      right = refl;
-    }

@@ -1,22 +1,16 @@
 -- What operands are where a bit is known.
-use Rattle.std.proofs.Common.{◌≡◌, ℕ, ◌-◌, ◌^◌, ◌<◌, ◌==◌, List, Option, Some, None, Bool, true, false, sym, ap, ◌∙◌, subst, refl, inl, inr, arith}
-use Rattle.std.specs.Prelude.{◌⊎◌, not, IfSome, if◌then◌else◌, bit_and, bit_or}
-use Rattle.std.specs.Int.Bits.{and_zero_l, or_zero_l}
-use Rattle.std.proofs.lemmas.Nat.{and_comm, or_comm}
-use Rattle.std.proofs.lemmas.Bool.{cases_Bool}
+use Rattle.sap_lemmas.proofs.Common.{◌≡◌, ℕ, ◌-◌, ◌^◌, ◌<◌, ◌==◌, List, Option, Some, None, Bool, true, false, sym, ap, ◌∙◌, subst, refl, inl, inr, arith, ◌⊎◌, not, IfSome, if◌then◌else◌, bit_and, bit_or, and_zero_l, or_zero_l, and_comm, or_comm, cases_Bool}
 use Rattle.sap_bits.specs.Arithmetic.{value2}
 use Rattle.sap_bits.specs.declared.Op1.TheVariants.{Not}
 use Rattle.sap_bits.specs.declared.Op2.{Op2}
 use Rattle.sap_bits.specs.declared.Op2.TheVariants.{And, Or}
-use Rattle.sap_maps.specs.Maps.{Valuation}
-use Rattle.sap_maps.specs.Scope.{Scope}
+use Rattle.sap_maps.specs.Prelude.{Valuation, Scope}
+use Rattle.sap_net.specs.Prelude.{Shapes, IsOperand, AreWires, readable_after, operand_value, operand_width}
 use Rattle.sap_net.specs.declared.parts.Operand.{Operand}
 use Rattle.sap_net.specs.declared.parts.Operand.TheVariants.{Named, Constant}
 use Rattle.sap_net.specs.declared.parts.Right.{Right}
 use Rattle.sap_net.specs.declared.parts.Right.TheVariants.{Copy, One, Two, Choose}
 use Rattle.sap_net.specs.declared.parts.Wire.{Wire}
-use Rattle.sap_net.specs.Rules.{Shapes, IsOperand, AreWires, readable_after}
-use Rattle.sap_net.specs.Values.{operand_value, operand_width}
 use Rattle.sap_net.proofs.Within.{operand_below, operand_is_wide}
 use Rattle.sap_fold.specs.Seen.{Defines}
 use Rattle.sap_fold.specs.Folding.{same_operand}
@@ -36,15 +30,6 @@ number_below false = omega arith
 
 pub bit_fits : (sc : Scope) (u : ℕ) (t : Bool) → u ≡ 1 → IsOperand sc u (bit t)
 bit_fits sc u t e = (sym e, subst (λ (k : ℕ). number t < 2 ^ k) (sym e) (number_below t))
-
--- the bit itself
-pub under_itself : (ws : List Wire) (c a : Operand) (t : Bool) → same_operand a c ≡ true → Under ws c (number t) a (Copy (bit t))
-under_itself ws c a t h =
-    let e = same_is a c h in
-    record {
-      fits = λ ms sc u f hc ha. bit_fits (readable_after sc ws) u t (one_width (readable_after sc ws) u 1 c (subst (IsOperand (readable_after sc ws) u) e ha) hc);
-      same = λ ms sc widths v u o hc ha n. ap (operand_value v) e ∙ n;
-    }
 
 -- a choice by the bit
 

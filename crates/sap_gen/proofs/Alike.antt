@@ -1,27 +1,18 @@
 -- Two lattices of the same names and the same order give a design the same program, and its states the same rows.
-use Rattle.std.proofs.Common.{◌≡◌, ℕ, ◌+◌, List, [], ◌∷◌, ◌++◌, Option, Some, None, ◌-◌, length, map, refl, ap, ap₂, ◌∙◌, if◌then◌else◌}
-use Rattle.std.specs.Prelude.{slice_get, unwrap_or}
-use Rattle.sap_lattice.specs.Closure.{name_at}
-use Rattle.sap_lattice.specs.Codes.{code_of}
-use Rattle.sap_lattice.specs.Levels.{Levels, level_in, level_named, order_of}
-use Rattle.sap_lattice.specs.Order.{Order}
+use Rattle.sap_lemmas.proofs.Common.{◌≡◌, ℕ, ◌+◌, List, [], ◌∷◌, ◌++◌, Option, Some, None, ◌-◌, length, map, refl, ap, ap₂, ◌∙◌, if◌then◌else◌, slice_get, unwrap_or}
+use Rattle.sap_lattice.specs.Prelude.{name_at, code_of, Levels, level_in, level_named, order_of, Order}
+use Rattle.sap_tree.specs.Syntax.{TagExpression, level_of, tag_at, level_at, join_of, TagExpressions, no_tag, and_tag, SimpleCommand, assign, write, set_tag, set_cell_tag, go_to, fall_to_child, Command, lone, try, if_else, try_then, case_of, Arms, last_arm, and_arm, CommandBlock, command_block, ElseBlock, no_else, with_else, CommandList, no_command, and_command, StateTree, state_node, StateList, no_state, and_state, DesignTree}
 use Rattle.sap_tree.specs.declared.name.Mention.{Mention}
 use Rattle.sap_tree.specs.declared.syntax.Decl.{Decl}
 use Rattle.sap_tree.specs.declared.syntax.Decl.TheVariants.{Input, Register, Memory}
 use Rattle.sap_tree.specs.declared.syntax.Kind.{Kind}
 use Rattle.sap_tree.specs.declared.syntax.Kind.TheVariants.{Dynamic, Enforced}
 use Rattle.sap_tree.specs.declared.syntax.Under.{Under}
-use Rattle.sap_tree.specs.Syntax.{TagExpression, level_of, tag_at, level_at, join_of, TagExpressions, no_tag, and_tag, SimpleCommand, assign, write, set_tag, set_cell_tag, go_to, fall_to_child, Command, lone, try, if_else, try_then, case_of, Arms, last_arm, and_arm, CommandBlock, command_block, ElseBlock, no_else, with_else, CommandList, no_command, and_command, StateTree, state_node, StateList, no_state, and_state, DesignTree}
 use Rattle.sap_names.specs.declared.entity.Entity as tree
-use Rattle.sap_names.specs.Entities.{entities_of, what_is}
-use Rattle.sap_names.specs.Widths.{index_width}
-use Rattle.sap_meaning.specs.Program.{Block, Entity, Group, World, Program, root}
+use Rattle.sap_names.specs.Prelude.{entities_of, what_is, index_width}
+use Rattle.sap_meaning.specs.Prelude.{Block, Entity, Group, World, Program, root, root_touches, Store, After, level, number, own, labelled_run}
 use Rattle.sap_meaning.specs.Program as program
-use Rattle.sap_meaning.specs.Touches.{root_touches}
-use Rattle.sap_meaning.specs.Store.{Store, After, level, number, own}
-use Rattle.sap_meaning.specs.State.{labelled_run}
-use Rattle.sap_interface.specs.Designs.{named_of}
-use Rattle.sap_interface.specs.StandsFor.{Named, name, world}
+use Rattle.sap_interface.specs.Prelude.{named_of, Named, name, world}
 use Rattle.sap_stim.specs.Rows.{Shown, row_text}
 use Rattle.sap_sim.specs.Labelled.LabelledRows.{register_shown, registers_shown}
 use Rattle.sap_gen.specs.Design.{generated_design}

@@ -1,19 +1,13 @@
 -- Lists of commands and of states, one by one.
-use Rattle.std.proofs.Common.{◌≡◌, ℕ, ◌+◌, List, [], ◌∷◌, ◌++◌, map, refl, sym, ap, ap₂, ◌∙◌, arith}
-use Rattle.std.specs.List.{range_with_len}
-use Rattle.std.proofs.lemmas.List.{map-append}
+use Rattle.sap_lemmas.proofs.Common.{◌≡◌, ℕ, ◌+◌, List, [], ◌∷◌, ◌++◌, map, refl, sym, ap, ap₂, ◌∙◌, arith, range_with_len, map-append}
 use Rattle.std.proofs.lemmas.List.FromFn.{map-range_with_len_more}
-use Rattle.sap_tree.specs.Bare.{nowhere}
-use Rattle.sap_tree.specs.Syntax.{Command, command_block, CommandList, DesignTree, StateList, and_command, and_state}
-use Rattle.sap_tree.specs.Trees.{command_of, commands_of, state_of, states_of}
-use Rattle.sap_text.specs.declared.place.Place.{Place}
+use Rattle.sap_tree.specs.Prelude.{nowhere, Command, command_block, CommandList, DesignTree, StateList, and_command, and_state, command_of, commands_of, state_of, states_of, tree_of, commands, states}
 use Rattle.sap_tree.specs.declared.syntax.Cmd.{Cmd}
 use Rattle.sap_tree.specs.declared.syntax.Decl.{Decl}
 use Rattle.sap_tree.specs.declared.syntax.State.{State}
-use Rattle.sap_tree.specs.Parts.{tree_of}
 use Rattle.sap_tree.specs.declared.version.Version.TheVariants.{One}
+use Rattle.sap_text.specs.declared.place.Place.{Place}
 use Rattle.sap_gen.specs.Design.{assignment, body, declared_input, declared_register, design_of_counts, state, transfer}
-use Rattle.sap_tree.specs.Making.{commands, states}
 
 -- one more is added to what a range gives
 pub one_more : {A B : Type 0} (seen : A → B) (f : ℕ → B) (old new : List A) (x : A) (n : ℕ) → map seen old ≡ map f (range_with_len 0 n) → new ≡ old ++ x ∷ [] → seen x ≡ f n

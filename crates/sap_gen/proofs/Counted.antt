@@ -1,6 +1,5 @@
 -- How many check sites were refused, a site after another.
-use Rattle.std.proofs.Common.{◌≡◌, ℕ, zero, suc, ◌+◌, List, [], Bool, Option, Some, None, length, sym, ap, ap₂, ◌∙◌, arith, if◌then◌else◌}
-use Rattle.std.specs.Prelude.{is_some}
+use Rattle.sap_lemmas.proofs.Common.{◌≡◌, ℕ, zero, suc, ◌+◌, List, [], Bool, Option, Some, None, length, sym, ap, ap₂, ◌∙◌, arith, if◌then◌else◌, is_some}
 use Rattle.sap_meaning.specs.Store.{Refusal}
 use Rattle.sap_sem.specs.Machine.{refusal_before, refusals_from}
 

@@ -1,14 +1,8 @@
 -- A run, a cycle after another.
-use Rattle.std.proofs.Common.{◌≡◌, ℕ, zero, suc, ◌+◌, ◌-◌, ◌<◌, ◌≤◌, List, [], ◌∷◌, length, map, refl, sym, ap, ap₂, subst, ◌∙◌, arith}
-use Rattle.std.specs.Prelude.{slice_get}
-use Rattle.std.specs.List.{range_with_len}
+use Rattle.sap_lemmas.proofs.Common.{◌≡◌, ℕ, zero, suc, ◌+◌, ◌-◌, ◌<◌, ◌≤◌, List, [], ◌∷◌, length, map, refl, sym, ap, ap₂, subst, ◌∙◌, arith, slice_get, range_with_len, sum_by-cons}
 use Rattle.std.proofs.lemmas.List.FromFn.{length-map-range_with_len}
-use Rattle.std.proofs.lemmas.List.Sums.{sum_by-cons}
 use Rattle.sap_lattice.specs.Levels.{Levels}
-use Rattle.sap_meaning.specs.Program.{Program}
-use Rattle.sap_meaning.specs.State.{InputsFit}
-use Rattle.sap_meaning.specs.Store.{Store, After, Refusal}
-use Rattle.sap_meaning.specs.Cycle.{Tagged, cycle, run_from}
+use Rattle.sap_meaning.specs.Prelude.{Program, InputsFit, Store, After, Refusal, Tagged, cycle, run_from}
 use Rattle.sap_interface.specs.StandsFor.{Named}
 use Rattle.sap_sim.specs.Labelled.LabelledRows.{labelled_row}
 use Rattle.sap_gen.specs.Running.{last_store}
@@ -48,19 +42,6 @@ store_step p n c last s t end l before moved =
     ap (λ (u : Store). last_store u (run_from p u (stream_behind n (c + 1) (last - (c + 1))))) moved
     ∙ ap (λ (k : ℕ). last_store s (run_from p s (stream_behind n c k))) (sym (one_less c last l))
     ∙ before
-
-pub count_end : (p : Program) (n c last refusals total : ℕ) (s : Store) → last ≤ c
-    → refusals + refusal_count (run_from p s (stream_behind n c (last - c))) ≡ total → refusals ≡ total
-count_end p n c last refusals total s l before =
-    let z : last - c ≡ 0 = omega arith in
-    let a : refusal_count (run_from p s (stream_behind n c (last - c))) ≡ 0 = ap (λ (k : ℕ). refusal_count (run_from p s (stream_behind n c k))) z in
-    omega arith
-
-pub store_end : (p : Program) (n c last : ℕ) (s end : Store) → last ≤ c
-    → last_store s (run_from p s (stream_behind n c (last - c))) ≡ end → s ≡ end
-store_end p n c last s end l before =
-    let z : last - c ≡ 0 = omega arith in
-    ap (λ (k : ℕ). last_store s (run_from p s (stream_behind n c k))) (sym z) ∙ before
 
 -- the row of the last cycle
 

@@ -1,31 +1,25 @@
 -- The lattice of the generated run keeps the rules on lattices, and is that of its names and pairs.
-use Rattle.std.proofs.Common.{◌≡◌, ℕ, zero, suc, ◌<◌, ◌≤◌, List, [], ◌∷◌, Bool, true, false, ◌||◌, Some, None, length, refl, sym, ap, ◌∙◌, subst, inl, inr, arith, lit<, lit≤, if◌then◌else◌}
-use Rattle.std.specs.Prelude.{codes, find, not, slice_get, Contains}
-use Rattle.std.specs.Str.{bytes_eq}
-use Rattle.std.proofs.lemmas.Bool.{both_ways, cases_lt, false≢true, not-true}
-use Rattle.std.proofs.lemmas.Option.{get_or_from_slice_get, slice_get_past}
-use Rattle.sap_lemmas.proofs.Bools.{iff_same}
-use Rattle.sap_lemmas.proofs.Texts.{bytes_eq_same}
+use Rattle.sap_lemmas.proofs.Common.{◌≡◌, ℕ, zero, suc, ◌<◌, ◌≤◌, List, [], ◌∷◌, Bool, true, false, ◌||◌, Some, None, length, refl, sym, ap, ◌∙◌, subst, inl, inr, arith, lit<, lit≤, if◌then◌else◌, codes, find, not, slice_get, Contains, bytes_eq, both_ways, cases_lt, false≢true, not-true, get_or_from_slice_get, slice_get_past, iff_same, bytes_eq_same}
 use Rattle.sap_lattice.proofs.LevelsLemmas.{level_in_same}
 use mathlib.Core.Path.{fun_ext}
-use Rattle.sap_lattice.specs.Built.{IsLatticeOf}
-use Rattle.sap_lattice.specs.Closure.{AtOrBelow, Below, name_at}
+use Rattle.sap_lattice.specs.Prelude.{IsLatticeOf, Below, name_at, Levels, every, is_below, level_in, numbers, order_by, order_of, KeepsAll, KeepsNames, no_word, repeated, diamond, level_names, level_pairs, table}
+use Rattle.sap_lattice.specs.declared.pair.Pair.{Pair}
+use Rattle.sap_lattice.specs.Closure.{AtOrBelow}
 use Rattle.sap_lattice.specs.Closure.AtOrBelow.{itself, given, through}
-use Rattle.sap_lattice.specs.Levels.{Levels, every, is_below, is_least, level_in, numbers, order_by, order_of}
+use Rattle.sap_lattice.specs.Levels.{is_least}
 use Rattle.sap_lattice.specs.Pairs.{IsBroken, breaks}
 use Rattle.sap_lattice.specs.Related.{TellsOrder}
 use Rattle.sap_lattice.specs.Rows.{holds, le_in, order_in, tells}
-use Rattle.sap_lattice.specs.Rules.{BadName, BadPair, KeepsAll, KeepsNames, KeepsPairs}
-use Rattle.sap_lattice.specs.Rules.BadName.{no_word, keyword, too_long, repeated}
+use Rattle.sap_lattice.specs.Rules.{BadName, BadPair, KeepsPairs}
+use Rattle.sap_lattice.specs.Rules.BadName.{keyword, too_long}
 use Rattle.sap_lattice.specs.Rules.BadPair.{lower, upper}
-use Rattle.sap_text.specs.Names.{is_word, is_among, design_keywords}
 use Rattle.sap_lattice.specs.declared.order.PairRule.{PairRule}
 use Rattle.sap_lattice.specs.declared.order.PairRule.TheVariants.{Apart, Joined}
-use Rattle.sap_lattice.specs.declared.pair.Pair.{Pair}
+use Rattle.sap_lattice.specs.Diamond.{pair}
+use Rattle.sap_text.specs.Names.{is_word, is_among, design_keywords}
 use Rattle.sap_lattice.proofs.Judged.{is_lattice_of, keeps_all}
 use Rattle.sap_lattice.proofs.Numbers.{every_at}
 use Rattle.sap_lattice.proofs.Orders.{level_in_below}
-use Rattle.sap_lattice.specs.Diamond.{diamond, level_names, level_pairs, pair, table}
 
 -- the levels at or above each level, as the bits of a number
 abbrev rows : List ℕ

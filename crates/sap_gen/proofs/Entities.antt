@@ -1,19 +1,12 @@
 -- The entities of the generated design: each name is declared once, and what it stands for.
-use Rattle.std.proofs.Common.{◌≡◌, ℕ, zero, suc, ◌+◌, ◌<◌, ◌≤◌, List, [], ◌∷◌, ◌++◌, Bool, true, false, Some, map, refl, sym, ap, ◌∙◌, inl, inr, arith, append_assoc, if◌then◌else◌}
-use Rattle.std.specs.Prelude.{option_map}
-use Rattle.std.specs.List.{range_with_len}
-use Rattle.std.specs.Str.{bytes_eq}
-use Rattle.std.proofs.lemmas.Bool.{cases_eq}
-use Rattle.std.proofs.lemmas.List.{append-nil}
-use Rattle.sap_lemmas.proofs.Texts.{bytes_eq_same}
+use Rattle.sap_lemmas.proofs.Common.{◌≡◌, ℕ, zero, suc, ◌+◌, ◌<◌, ◌≤◌, List, [], ◌∷◌, ◌++◌, Bool, true, false, Some, map, refl, sym, ap, ◌∙◌, inl, inr, arith, append_assoc, if◌then◌else◌, option_map, range_with_len, bytes_eq, cases_eq, append-nil, bytes_eq_same}
 use Rattle.sap_text.specs.declared.place.Place.{Place}
+use Rattle.sap_names.specs.Prelude.{declared_in, entities_of, entity_of, find, group_entities, what_is, fault_if, is_declared, twice}
 use Rattle.sap_names.specs.declared.fault.Fault.{Fault}
 use Rattle.sap_names.specs.declared.kind.Code.{Code}
 use Rattle.sap_names.specs.declared.kind.Code.TheVariants.{E3}
-use Rattle.sap_names.specs.declared.kind.Declared.TheVariants as what
 use Rattle.sap_names.specs.declared.entity.Entity.{Entity}
-use Rattle.sap_names.specs.Entities.{declared_in, entities_of, entity_of, find, group_entities, what_is}
-use Rattle.sap_names.specs.NameFaults.{fault_if, is_declared, twice}
+use Rattle.sap_names.specs.declared.kind.Declared.TheVariants as what
 use Rattle.sap_gen.specs.Design.{declared_input, declared_register, design_of_counts, input_name, register_name, state, state_name}
 use Rattle.sap_tree.specs.Making.{named, states}
 use Rattle.sap_gen.proofs.Words.{registers_differ, states_differ}

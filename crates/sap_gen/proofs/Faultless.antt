@@ -1,18 +1,13 @@
 -- The generated design has no fault of names and widths over the levels low, a, b and high.
-use Rattle.std.proofs.Common.{◌≡◌, ℕ, zero, suc, ◌+◌, ◌%◌, ◌<◌, ◌≤◌, List, [], ◌∷◌, ◌++◌, Bool, true, false, Some, map, refl, ap, arith, if◌then◌else◌}
-use Rattle.std.specs.Prelude.{◌==◌, codes}
-use Rattle.std.specs.List.{range_with_len}
-use Rattle.sap_tree.specs.Bare.{nowhere, no_spot}
-use Rattle.sap_tree.specs.Syntax.{variable, binary_of, assign, go_to}
+use Rattle.sap_lemmas.proofs.Common.{◌≡◌, ℕ, zero, suc, ◌+◌, ◌%◌, ◌<◌, ◌≤◌, List, [], ◌∷◌, ◌++◌, Bool, true, false, Some, map, refl, ap, arith, if◌then◌else◌, ◌==◌, codes, range_with_len}
+use Rattle.sap_tree.specs.Prelude.{nowhere, no_spot, variable, binary_of, assign, go_to, commands, enforced, named, states}
 use Rattle.sap_tree.specs.declared.syntax.BinaryOperator.TheVariants.{Add}
 use Rattle.sap_tree.specs.declared.syntax.Kind.TheVariants.{Dynamic}
+use Rattle.sap_names.specs.Prelude.{Lookup, entities_of, what_is, command_faults, commands_faults, declaration_faults, declarations_faults, design_name_faults, kind_faults, simple_faults, states_faults}
 use Rattle.sap_names.specs.declared.fault.Fault.{Fault}
 use Rattle.sap_names.specs.declared.kind.Declared.TheVariants as d
-use Rattle.sap_names.specs.Entities.{Lookup, entities_of, what_is}
-use Rattle.sap_names.specs.NameFaults.{command_faults, commands_faults, declaration_faults, declarations_faults, design_name_faults, kind_faults, simple_faults, states_faults}
 use Rattle.sap_lattice.specs.Diamond.{level_names}
 use Rattle.sap_gen.specs.Design.{assignment, declared_register, design_of_counts, input_name, register_name, state, state_name, transfer}
-use Rattle.sap_tree.specs.Making.{commands, enforced, named, states}
 use Rattle.sap_gen.proofs.Entities.{each_once, what_input, what_register, what_state}
 
 pub none_of : (xs ys : List Fault) → xs ≡ [] → ys ≡ [] → xs ++ ys ≡ []

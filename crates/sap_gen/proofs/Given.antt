@@ -1,13 +1,10 @@
 -- What the input gets fits it.
-use Rattle.std.proofs.Common.{◌≡◌, ℕ, zero, suc, ◌+◌, List, [], ◌∷◌, ◌++◌, length, map, refl, sym, ap, ◌∙◌, subst, arith}
-use Rattle.std.specs.List.{range_with_len}
+use Rattle.sap_lemmas.proofs.Common.{◌≡◌, ℕ, zero, suc, ◌+◌, List, [], ◌∷◌, ◌++◌, length, map, refl, sym, ap, ◌∙◌, subst, arith, range_with_len}
 use Rattle.sap_lattice.proofs.KeptLemmas.{order_of-count}
-use Rattle.sap_lattice.specs.Levels.{Levels, order_of}
-use Rattle.sap_meaning.specs.Program.{Entity}
-use Rattle.sap_meaning.specs.State.{AllFit, InputsFit, input_widths}
+use Rattle.sap_lattice.specs.Prelude.{Levels, order_of, level_names}
+use Rattle.sap_meaning.specs.Prelude.{Entity, AllFit, InputsFit, input_widths}
 use Rattle.sap_resolved.specs.Fill.{program_of}
 use Rattle.sap_resolved.specs.Worlds.{all_declared, group_entities, states_in}
-use Rattle.sap_lattice.specs.Diamond.{level_names}
 use Rattle.sap_gen.specs.Design.{declared_register, design_of_counts, state}
 use Rattle.sap_tree.specs.Making.{states}
 use Rattle.sap_gen.specs.Stream.{given}

@@ -1,18 +1,10 @@
 -- The registers of a row, an entity after another.
-use Rattle.std.proofs.Common.{◌≡◌, ℕ, suc, ◌+◌, ◌<◌, ◌≤◌, List, [], ◌∷◌, ◌++◌, Bool, true, false, Some, length, length-append, drop, refl, sym, ap, ◌∙◌, arith, append_assoc, Result, OnOk, if◌then◌else◌}
-use Rattle.std.specs.Prelude.{option_map, slice_get}
-use Rattle.std.proofs.Math.Seq.{drop-cons}
-use Rattle.std.proofs.lemmas.List.{append-nil}
-use Rattle.std.proofs.lemmas.Option.{get_or_from_slice_get, slice_get-map}
-use Rattle.std.proofs.lemmas.Result.{on_ok_weaker}
-use Rattle.sap_lemmas.proofs.Lists.{drop_past}
-use Rattle.sap_lattice.specs.Codes.{Codes, code_of}
-use Rattle.sap_lattice.specs.Levels.{Levels, order_of}
+use Rattle.sap_lemmas.proofs.Common.{◌≡◌, ℕ, suc, ◌+◌, ◌<◌, ◌≤◌, List, [], ◌∷◌, ◌++◌, Bool, true, false, Some, length, length-append, drop, refl, sym, ap, ◌∙◌, arith, append_assoc, Result, OnOk, if◌then◌else◌, option_map, slice_get, drop-cons, append-nil, get_or_from_slice_get, slice_get-map, on_ok_weaker, drop_past}
+use Rattle.sap_lattice.specs.Prelude.{Codes, code_of, Levels, order_of}
 use Rattle.sap_tree.specs.Syntax.{DesignTree}
 use Rattle.sap_names.specs.declared.entity.Entity as tree
 use Rattle.sap_names.specs.Entities.{entities_of}
-use Rattle.sap_meaning.specs.Program.{Entity, Program, is_register, nothing}
-use Rattle.sap_meaning.specs.Store.{Store, level, number, own}
+use Rattle.sap_meaning.specs.Prelude.{Entity, Program, is_register, nothing, Store, level, number, own}
 use Rattle.sap_resolved.specs.Fill.{program_of}
 use Rattle.sap_resolved.specs.Worlds.{world_of}
 use Rattle.sap_resolved.proofs.Lookup.{entities_length}

@@ -1,10 +1,9 @@
 -- The generated design is whole, and well formed over the lattice of the generated run.
 use Rattle.std.proofs.Common.{◌≡◌, ℕ, ◌<◌, ◌≤◌, true, List, [], sym, subst, arith}
-use Rattle.sap_lattice.specs.Levels.{Levels, order_of}
+use Rattle.sap_lattice.specs.Prelude.{Levels, order_of, level_names}
 use Rattle.sap_tree.specs.Whole.{is_whole}
 use Rattle.sap_names.specs.NameFaults.{design_name_faults}
 use Rattle.sap_shape.specs.WellFormed.{WellFormed}
-use Rattle.sap_lattice.specs.Diamond.{level_names}
 use Rattle.sap_gen.specs.Design.{design_of_counts, generated_design, register_count, state_count}
 use Rattle.sap_gen.proofs.Faultless.{names_faultless}
 use Rattle.sap_gen.proofs.Shapes.{has_shape}

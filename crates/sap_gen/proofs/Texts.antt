@@ -1,18 +1,11 @@
 -- The text of the generated run, from what was run over a lattice of its names and pairs.
-use Rattle.std.proofs.Common.{◌≡◌, ℕ, ◌≤◌, List, [], ◌∷◌, ◌++◌, sym, ap, ap₂, ◌∙◌, append_assoc, Result, Ok, Err, OnOk}
-use Rattle.std.specs.Prelude.{codes}
-use Rattle.std.specs.Fmt.{decimal}
-use Rattle.sap_lattice.specs.Built.{IsLatticeOf}
-use Rattle.sap_lattice.specs.Levels.{Levels}
+use Rattle.sap_lemmas.proofs.Common.{◌≡◌, ℕ, ◌≤◌, List, [], ◌∷◌, ◌++◌, sym, ap, ap₂, ◌∙◌, append_assoc, Result, Ok, Err, OnOk, codes, decimal}
+use Rattle.sap_lattice.specs.Prelude.{IsLatticeOf, Levels, diamond, level_names, level_pairs}
 use Rattle.sap_tree.specs.Syntax.{DesignTree}
-use Rattle.sap_meaning.specs.Cycle.{run_from}
-use Rattle.sap_meaning.specs.Program.{Program}
-use Rattle.sap_meaning.specs.State.{first}
-use Rattle.sap_meaning.specs.Store.{Store}
+use Rattle.sap_meaning.specs.Prelude.{run_from, Program, first, Store}
 use Rattle.sap_resolved.specs.Fill.{program_of}
 use Rattle.sap_interface.specs.Designs.{named_of}
 use Rattle.sap_sim.specs.Labelled.LabelledRows.{labelled_row}
-use Rattle.sap_lattice.specs.Diamond.{diamond, level_names, level_pairs}
 use Rattle.sap_gen.specs.Design.{design_of_counts, generated_design, register_count, state_count}
 use Rattle.sap_gen.specs.Running.{last_store}
 use Rattle.sap_gen.specs.Stream.{cycle_count, generated_stream}

@@ -1,21 +1,10 @@
 -- The generated design is a tree of the grammar within the limits.
-use Rattle.std.proofs.Common.{◌≡◌, ℕ, zero, suc, ◌+◌, ◌*◌, ◌%◌, ◌<◌, ◌≤◌, max, [], ◌∷◌, ◌++◌, Bool, true, false, ◌&&◌, map, refl, ap, ◌∙◌, arith, if◌then◌else◌}
-use Rattle.std.specs.Prelude.{◌==◌, codes, nat_le}
-use Rattle.std.specs.List.{count_by, list_all, range_with_len}
-use Rattle.std.proofs.lemmas.Bool.{and_from, le-leb}
-use Rattle.std.proofs.lemmas.List.Sums.{sum_by-cons}
-use Rattle.sap_tree.specs.Bare.{nowhere}
-use Rattle.sap_tree.specs.Extent.{brackets, fits, tokens}
-use Rattle.sap_tree.specs.Limits.{most_blocks}
-use Rattle.sap_tree.specs.Precedence.{precedence_of}
-use Rattle.sap_tree.specs.Syntax.{CommandList}
-use Rattle.sap_tree.specs.Whole.{are_commands, are_states, has_state, is_command, is_declaration, is_expression, is_input, is_kind, is_memory, is_register, is_simple, is_state, is_whole, list_count, list_depth, states_commands, states_count, states_depth, command_count, command_depth, block_count, block_depth, is_block, state_count, state_depth, state_commands}
-use Rattle.sap_tree.specs.Words.{is_name}
+use Rattle.sap_lemmas.proofs.Common.{◌≡◌, ℕ, zero, suc, ◌+◌, ◌*◌, ◌%◌, ◌<◌, ◌≤◌, max, [], ◌∷◌, ◌++◌, Bool, true, false, ◌&&◌, map, refl, ap, ◌∙◌, arith, if◌then◌else◌, ◌==◌, codes, nat_le, count_by, list_all, range_with_len, and_from, le-leb, sum_by-cons}
+use Rattle.sap_tree.specs.Prelude.{nowhere, brackets, fits, tokens, most_blocks, precedence_of, CommandList, are_commands, are_states, has_state, is_command, is_declaration, is_expression, is_input, is_kind, is_memory, is_register, is_simple, is_state, is_whole, list_count, list_depth, states_commands, states_count, states_depth, command_count, command_depth, block_count, block_depth, is_block, state_count, state_depth, state_commands, is_name, commands, enforced, states}
 use Rattle.sap_tree.specs.declared.syntax.Decl.{Decl}
 use Rattle.sap_tree.specs.declared.syntax.Kind.TheVariants.{Dynamic}
 use Rattle.sap_tree.specs.declared.version.Version.TheVariants.{One}
 use Rattle.sap_gen.specs.Design.{assignment, declared_input, declared_register, design_of_counts, input_name, register_name, state, sum, transfer}
-use Rattle.sap_tree.specs.Making.{commands, enforced, states}
 use Rattle.sap_gen.proofs.Words.{register_is_name, state_is_name}
 
 -- declarations

@@ -1,10 +1,6 @@
 -- The names of the generated design are names of the language, and differ.
-use Rattle.std.proofs.Common.{◌≡◌, ◌≢◌, ℕ, ◌<◌, ◌^◌, true, false, refl, arith, inl, inr}
-use Rattle.std.specs.Fmt.{decimal, digits}
-use Rattle.std.specs.Str.{bytes_eq}
-use Rattle.std.proofs.lemmas.Bool.{cases_Bool}
-use Rattle.std.proofs.lemmas.Fmt.{decimal_injective}
-use Rattle.sap_lemmas.proofs.Texts.{equal_of_bytes_eq}
+use Rattle.sap_lemmas.proofs.Common.{◌≡◌, ◌≢◌, ℕ, ◌<◌, ◌^◌, true, false, refl, arith, inl, inr, decimal, bytes_eq, cases_Bool, decimal_injective, equal_of_bytes_eq}
+use Rattle.std.specs.Fmt.{digits}
 use Rattle.sap_lattice.specs.Levels.{every}
 use Rattle.sap_lattice.proofs.Numbers.{every_at}
 use Rattle.sap_tree.specs.Words.{is_name}

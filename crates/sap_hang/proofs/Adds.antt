@@ -1,10 +1,8 @@
 -- What is added to sets, one after another.
-use Rattle.std.proofs.Common.{◌≡◌, ◌∙◌, ℕ, ◌||◌, ◌&&◌, Bool, true, false, List, [], ◌∷◌, ◌++◌, map, refl, sym, ap, ap₂}
-use Rattle.std.specs.Prelude.{Some, eqb, bytes_eq}
+use Rattle.sap_lemmas.proofs.Common.{◌≡◌, ◌∙◌, ℕ, ◌||◌, ◌&&◌, Bool, true, false, List, [], ◌∷◌, ◌++◌, map, refl, sym, ap, ap₂, Some, eqb, bytes_eq, or_assoc, or_false, and_false}
 use Rattle.std.proofs.lemmas.List.{reverse-append}
-use Rattle.sap_lemmas.proofs.Bools.{or_assoc, or_false, and_false}
-use Rattle.sap_names.specs.declared.entity.Entity.{Entity}
 use Rattle.sap_names.specs.Entities.{number_of, entity_number}
+use Rattle.sap_names.specs.declared.entity.Entity.{Entity}
 use Rattle.sap_hang.specs.Sets.{has}
 use Rattle.sap_hang.specs.Rows.{rows_of}
 use Rattle.sap_hang.specs.Walks.{Test, Stands, Adds, firsts_of, table_of, passing}

@@ -1,19 +1,13 @@
 -- What was walked of a body, one part after another, the last of the text first.
-use Rattle.std.proofs.Common.{◌≡◌, ◌∙◌, ℕ, ◌+◌, ◌<◌, ◌≤◌, ◌||◌, ◌&&◌, Bool, false, List, [], ◌∷◌, ◌++◌, length, get_or, drop, refl, sym, ap, subst, append_assoc, Some, None}
-use Rattle.std.specs.Prelude.{Result, Ok, Err, OnOk}
+use Rattle.sap_lemmas.proofs.Common.{◌≡◌, ◌∙◌, ℕ, ◌+◌, ◌<◌, ◌≤◌, ◌||◌, ◌&&◌, Bool, false, List, [], ◌∷◌, ◌++◌, length, get_or, drop, refl, sym, ap, subst, append_assoc, Some, None, Result, Ok, Err, OnOk, drop_of_length-le, map-append, append-nil, drop_more, and_false}
 use Rattle.std.proofs.Math.Bool.{and-or_distrib_left}
-use Rattle.std.proofs.Math.ListN.{drop_of_length-le}
-use Rattle.std.proofs.lemmas.List.{map-append, append-nil, drop_more}
-use Rattle.sap_lemmas.proofs.Bools.{and_false}
 use Rattle.sap_text.specs.declared.place.Place.{Place}
+use Rattle.sap_tree.specs.Prelude.{simple_points, Expression, SimpleCommand, Command, lone, try, if_else, try_then, case_of, last_arm, ElseBlock, no_command, Home, is_dynamic_store, simple_assigns, simple_touches, touches, block_touches, block_assigns, else_touches, list_touches, list_assigns, command_of, commands_of, block_of, arms_of, else_of}
 use Rattle.sap_tree.specs.declared.syntax.Block.{Block}
 use Rattle.sap_tree.specs.declared.syntax.Arm.{Arm}
 use Rattle.sap_tree.specs.declared.syntax.Cmd.{Cmd}
 use Rattle.sap_tree.specs.declared.syntax.Decl.{Decl}
-use Rattle.sap_tree.specs.Points.{simple_points}
-use Rattle.sap_tree.specs.Syntax.{Expression, SimpleCommand, Command, lone, try, if_else, try_then, case_of, last_arm, ElseBlock, no_command}
-use Rattle.sap_tree.specs.Touches.{Home, is_dynamic_store, simple_assigns, simple_touches, touches, assigns, block_touches, block_assigns, else_touches, else_assigns, list_touches, list_assigns, arms_touch, arms_assign}
-use Rattle.sap_tree.specs.Trees.{command_of, commands_of, block_of, arms_of, else_of}
+use Rattle.sap_tree.specs.Touches.{assigns, else_assigns, arms_touch, arms_assign}
 use Rattle.sap_names.specs.declared.entity.Entity.{Entity}
 use Rattle.sap_hang.specs.Hang.{Rows}
 use Rattle.sap_hang.specs.Sets.{has}

@@ -1,18 +1,11 @@
 -- What was walked of states, the last of the text first.
-use Rattle.std.proofs.Common.{◌≡◌, ◌∙◌, ℕ, ◌+◌, ◌<◌, ◌≤◌, ◌||◌, ◌&&◌, Bool, false, List, ◌∷◌, ◌++◌, map, length, get_or, drop, refl, sym, ap, subst, append_assoc}
-use Rattle.std.specs.Prelude.{bytes_eq}
+use Rattle.sap_lemmas.proofs.Common.{◌≡◌, ◌∙◌, ℕ, ◌+◌, ◌<◌, ◌≤◌, ◌||◌, ◌&&◌, Bool, false, List, ◌∷◌, ◌++◌, map, length, get_or, drop, refl, sym, ap, subst, append_assoc, bytes_eq, drop_of_length-le, map-append, drop_more, map-map, and_false}
 use Rattle.std.proofs.Math.Bool.{and-or_distrib_left, or_comm}
-use Rattle.std.proofs.Math.ListN.{drop_of_length-le}
-use Rattle.std.proofs.lemmas.List.{map-append, drop_more}
-use Rattle.std.proofs.lemmas.Simd.{map-map}
-use Rattle.sap_lemmas.proofs.Bools.{and_false}
+use Rattle.sap_tree.specs.Prelude.{Point, point, list_points, state_points, states_points, StateTree, and_state, no_state, Home, touches, is_dynamic_kind, is_dynamic_child, is_dynamic_store, fall_touches, block_assigns, list_assigns, commands_of, state_of, states_of}
 use Rattle.sap_tree.specs.declared.syntax.Cmd.{Cmd}
 use Rattle.sap_tree.specs.declared.syntax.Decl.{Decl}
 use Rattle.sap_tree.specs.declared.syntax.State.{State, out-State}
-use Rattle.sap_tree.specs.Points.{Point, point, list_points, state_points, states_points}
-use Rattle.sap_tree.specs.Syntax.{StateTree, and_state, no_state}
-use Rattle.sap_tree.specs.Touches.{Home, touches, is_dynamic_kind, is_dynamic_child, is_dynamic_store, fall_touches, state_assigns, states_assign, block_assigns, list_assigns}
-use Rattle.sap_tree.specs.Trees.{commands_of, state_of, states_of}
+use Rattle.sap_tree.specs.Touches.{state_assigns, states_assign}
 use Rattle.sap_tree.proofs.Views.{state_of-out}
 use Rattle.sap_names.specs.declared.entity.Entity.{Entity}
 use Rattle.sap_hang.specs.Hang.{Rows}

@@ -1,11 +1,7 @@
 -- The numbers of names: two names with one number are one.
-use Rattle.std.proofs.Common.{◌≡◌, ◌∙◌, ◌+◌, ℕ, suc, Bool, true, false, List, [], ◌∷◌, refl, sym, ap, subst, arith}
-use Rattle.std.specs.Prelude.{Option, Some, None, eqb, if◌then◌else◌, option_map, unwrap_or, is_some, slice_get, bytes_eq}
-use Rattle.std.proofs.lemmas.Bool.{eqb-true, eq-eqb}
-use Rattle.std.proofs.lemmas.Slice.Eq.{bytes_eq-Decides}
-use Rattle.std.proofs.lemmas.Cmp.{nat_list_eq_equiv}
-use Rattle.sap_names.specs.declared.entity.Entity.{Entity}
+use Rattle.sap_lemmas.proofs.Common.{◌≡◌, ◌∙◌, ◌+◌, ℕ, suc, Bool, true, false, List, [], ◌∷◌, refl, sym, ap, subst, arith, Option, Some, None, eqb, if◌then◌else◌, option_map, unwrap_or, is_some, slice_get, bytes_eq, eqb-true, eq-eqb, bytes_eq-Decides, nat_list_eq_equiv}
 use Rattle.sap_names.specs.Entities.{number_of}
+use Rattle.sap_names.specs.declared.entity.Entity.{Entity}
 
 pub same_bytes : (a b : List ℕ) → bytes_eq a b ≡ true → a ≡ b
 same_bytes a b h = (bytes_eq-Decides a b).0 h

@@ -1,12 +1,9 @@
 -- Words, and the numbers that they have.
-use Rattle.std.proofs.Common.{◌≡◌, ◌≢◌, ◌∙◌, ◌+◌, ◌*◌, ◌<◌, ◌≤◌, ℕ, zero, suc, ◌/◌, ◌%◌, ◌^◌, ◌||◌, Bool, true, false, List, [], length, set, refl, sym, ap, ap₂, arith, get_or, bit_or, bit_and, w64}
-use Rattle.std.specs.Prelude.{eqb, ltb, max}
-use Rattle.std.specs.Int.{bit_at}
-use Rattle.std.proofs.lemmas.Bool.{eqb-true, eq-eqb, ltb-true, ltb-false}
-use Rattle.std.proofs.lemmas.List.{get_or-set_same, get_or-set_other, get_or_default}
+use Rattle.sap_lemmas.proofs.Common.{◌≡◌, ◌≢◌, ◌∙◌, ◌+◌, ◌*◌, ◌<◌, ◌≤◌, ℕ, zero, suc, ◌/◌, ◌%◌, ◌^◌, ◌||◌, Bool, true, false, List, [], length, set, refl, sym, ap, ap₂, arith, get_or, bit_or, bit_and, eqb, ltb, max, bit_at, eqb-true, eq-eqb, ltb-true, ltb-false, get_or-set_other, get_or_default, or_zero_r, bit_at_or}
+use Rattle.std.proofs.Common.{w64}
+use Rattle.std.proofs.lemmas.List.{get_or-set_same}
 use Rattle.std.proofs.Math.ListN.{get_or-eq_default}
-use Rattle.std.specs.Int.Bits.{or_zero_r}
-use Rattle.std.proofs.lemmas.Nat.Bits.{bit_at-zero, bit_at_or, bit_at_set_same, bit_at_set_other, bit_at-lt, shr_and_one}
+use Rattle.std.proofs.lemmas.Nat.Bits.{bit_at-zero, bit_at_set_same, bit_at_set_other, bit_at-lt, shr_and_one}
 use Rattle.sap_hang.specs.declared.set.Set.{Set}
 use Rattle.sap_hang.specs.Sets.{has}
 

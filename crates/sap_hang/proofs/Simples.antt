@@ -1,14 +1,10 @@
 -- What is added for each command that can have a handler.
-use Rattle.std.proofs.Common.{◌≡◌, ◌∙◌, ◌||◌, ◌&&◌, ℕ, Bool, false, List, [], ◌∷◌, ◌++◌, refl, sym, ap, subst}
-use Rattle.std.specs.Prelude.{bytes_eq}
+use Rattle.sap_lemmas.proofs.Common.{◌≡◌, ◌∙◌, ◌||◌, ◌&&◌, ℕ, Bool, false, List, [], ◌∷◌, ◌++◌, refl, sym, ap, subst, bytes_eq, and_false}
 use Rattle.std.proofs.Math.Bool.{and_comm}
-use Rattle.sap_lemmas.proofs.Bools.{and_false}
 use Rattle.sap_text.specs.declared.place.Place.{Place}
+use Rattle.sap_tree.specs.Prelude.{simple_points, Expression, TagExpression, SimpleCommand, assign, write, set_tag, set_cell_tag, go_to, fall_to_child, lone, Home, touches, simple_touches, simple_assigns, fall_touches, is_dynamic_kind, is_dynamic_store}
 use Rattle.sap_tree.specs.declared.name.Mention.{Mention}
 use Rattle.sap_tree.specs.declared.syntax.Decl.{Decl}
-use Rattle.sap_tree.specs.Points.{simple_points}
-use Rattle.sap_tree.specs.Syntax.{Expression, TagExpression, SimpleCommand, assign, write, set_tag, set_cell_tag, go_to, fall_to_child, lone}
-use Rattle.sap_tree.specs.Touches.{Home, touches, simple_touches, simple_assigns, fall_touches, is_dynamic_kind, is_dynamic_store}
 use Rattle.sap_names.specs.declared.entity.Entity.{Entity}
 use Rattle.sap_hang.specs.Sets.{has}
 use Rattle.sap_hang.specs.Walks.{Adds, Stands, stored, table_of, touched_at}

@@ -1,20 +1,12 @@
 -- Rows are the table of what hangs; which entities are dynamic registers and memories; and the numbers of entities.
-use Rattle.std.proofs.Common.{◌≡◌, ◌∙◌, ◌+◌, ◌<◌, ◌≤◌, ℕ, zero, suc, Bool, true, false, List, [], ◌∷◌, ◌++◌, map, length, get_or, drop, refl, sym, ap, subst, add-one, append_assoc}
-use Rattle.std.specs.Prelude.{Option, Some, None, slice_get, option_map, unwrap_or, reverse, ltb}
-use Rattle.std.proofs.lemmas.Bool.{ltb-true, ltb-false}
-use Rattle.std.proofs.Math.ListN.{drop_of_length-le}
-use Rattle.std.proofs.lemmas.List.{append-nil, drop_more}
-use Rattle.std.proofs.lemmas.Option.{slice_get-map, slice_get_past, slice_get_read}
+use Rattle.sap_lemmas.proofs.Common.{◌≡◌, ◌∙◌, ◌+◌, ◌<◌, ◌≤◌, ℕ, zero, suc, Bool, true, false, List, [], ◌∷◌, ◌++◌, map, length, get_or, drop, refl, sym, ap, subst, add-one, append_assoc, Option, Some, None, slice_get, option_map, unwrap_or, ltb, ltb-true, ltb-false, drop_of_length-le, append-nil, drop_more, slice_get-map, slice_get_past, slice_get_read}
+use Rattle.std.specs.Prelude.{reverse}
+use Rattle.sap_tree.specs.Prelude.{tree_of, Point, points_of, states_points, DesignTree, touches, root_touches, fall_touches, is_dynamic_store, declares_dynamic, states_of}
 use Rattle.sap_tree.specs.declared.syntax.Decl.{Decl}
 use Rattle.sap_tree.specs.declared.syntax.State.{State}
 use Rattle.sap_tree.specs.declared.version.Version.{Version}
-use Rattle.sap_tree.specs.Parts.{tree_of}
-use Rattle.sap_tree.specs.Points.{Point, points_of, states_points}
-use Rattle.sap_tree.specs.Syntax.{DesignTree}
-use Rattle.sap_tree.specs.Touches.{touches, root_touches, fall_touches, is_dynamic_store, declares_dynamic}
-use Rattle.sap_tree.specs.Trees.{states_of}
-use Rattle.sap_names.specs.declared.entity.Entity.{Entity}
 use Rattle.sap_names.specs.Entities.{entities_of, entity_number}
+use Rattle.sap_names.specs.declared.entity.Entity.{Entity}
 use Rattle.sap_hang.specs.Hang.{IsHangTable, Rows, Table, bit_of, hangs, hangs_on_root, says, says_of_root, touches_entity, root_touches_entity}
 use Rattle.sap_hang.specs.Rows.{row_of, rows_of}
 use Rattle.sap_hang.specs.Sets.{has}

@@ -1,10 +1,8 @@
 -- What a line on channel 2 leaves, and what a text leaves on channel 1 that was cut off.
-use Rattle.std.proofs.Common.{◌≡◌, ◌≤◌, ◌∙◌, ℕ, List, [], ◌++◌, take, length, refl, sym, ap, subst, inl, ◌⊎◌}
-use Rattle.std.specs.Prelude.{Option, Some, None, Result, Ok, Err, OnOk, OnErr, IsSomeAnd, option_map, codes}
-use Rattle.std.proofs.lemmas.List.{append-nil}
-use Rattle.sap_desk.specs.Cause.{counted}
+use Rattle.std.proofs.Common.{◌≡◌, ◌≤◌, ◌∙◌, ℕ, List, [], take, length, refl, ap, subst, sym}
+use Rattle.std.specs.Prelude.{Option, Some, None, IsSomeAnd, codes, Result, Ok, Err, OnOk, OnErr, option_map}
 use Rattle.sap_desk.specs.Desk.{Told, added, blamed}
-use Rattle.sap_desk.specs.Whole.{Between, CutLine, CutOutput, Gained}
+use Rattle.sap_desk.specs.Whole.{Between, CutOutput, CutLine}
 use Rattle.sap_help.specs.Questions.{Asked, IsAnswer, IsCutOff, Untouched}
 
 quiet_added : (line : List ℕ) (before after : Option Told) → after ≡ option_map (added 2 line) before → Between before after Untouched
@@ -37,26 +35,3 @@ pub cut_off : (asked : Asked) (text : List ℕ) (before middle after : Option To
 cut_off asked text None middle after is cut quiet = tt
 cut_off asked text (Some t) middle after is cut quiet =
     cut_then asked text t (blamed (codes "output") (added 1 (take cut.count text) t)) after is cut.count cut.within refl (subst (λ (o : Option Told). Between o after Untouched) cut.told quiet)
-
--- the line that is told behind them
-
-after_cut : (text line : List ℕ) (lost mid now : ℕ) (t m : Told) (after : Option Told) → (count : ℕ) → m ≡ blamed (codes "output") (added 1 (take count text) t) → mid ≡ lost
-    → IsSomeAnd after (λ n. Gained line mid now m n) → IsSomeAnd after (λ n. Gained line lost now t n)
-after_cut text line lost mid now t m None count is same h = h
-after_cut text line lost mid now t m (Some n) count is same h =
-    subst (λ (k : ℕ). Gained line k now t n) same (subst (λ (w : List ℕ). Lines w) (ap (λ (x : Told). x.written 2) is) h) where
-      Lines : List ℕ → Type 0
-      Lines w = ((now ≡ mid) × (n.written 2 ≡ w ++ line)) ⊎ ((now ≡ counted mid) × ((k : ℕ) × (k ≤ length line) × (n.written 2 ≡ w ++ take k line)))
-
-pub gained_behind : (text line : List ℕ) (lost mid now : ℕ) (before middle after : Option Told) → CutOutput text before middle → mid ≡ lost
-    → Between middle after (Gained line mid now)
-    → Between before after (Gained line lost now)
-gained_behind text line lost mid now None middle after cut same h = tt
-gained_behind text line lost mid now (Some t) middle after cut same h =
-    after_cut text line lost mid now t (blamed (codes "output") (added 1 (take cut.count text) t)) after cut.count refl same
-    (subst (λ (o : Option Told). Between o after (Gained line mid now)) cut.told h)
-
--- no line
-pub gained_none : (text : List ℕ) (lost now : ℕ) (before after : Option Told) → after ≡ option_map (added 1 text) before → now ≡ lost → Between before after (Gained [] lost now)
-gained_none text lost now None after is same = tt
-gained_none text lost now (Some t) after is same = subst (λ (o : Option Told). IsSomeAnd o (λ n. Gained [] lost now t n)) (sym is) (inl (same, sym (append-nil (t.written 2))))

@@ -3,3 +3,4 @@ pub mod InterfaceNames
 pub mod Interface
 pub mod Compiled
 pub mod Designs
+pub mod Prelude

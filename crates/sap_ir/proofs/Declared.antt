@@ -1,13 +1,8 @@
 -- Names on lists, and what is found under them.
-use Rattle.std.proofs.Common.{◌≡◌, ℕ, List, [], ◌∷◌, ◌++◌, ◌||◌, map, Some, None, true, false, sym, ap, ◌∙◌, subst, refl, inl, inr, append_assoc}
-use Rattle.std.specs.Prelude.{unwrap_or}
-use Rattle.std.specs.Str.{bytes_eq}
-use Rattle.std.proofs.lemmas.Bool.{cases_Bool}
-use Rattle.sap_lemmas.proofs.Texts.{equal_of_bytes_eq}
+use Rattle.sap_lemmas.proofs.Common.{◌≡◌, ℕ, List, [], ◌∷◌, ◌++◌, ◌||◌, map, Some, None, true, false, sym, ap, ◌∙◌, subst, refl, inl, inr, append_assoc, unwrap_or, bytes_eq, cases_Bool, equal_of_bytes_eq}
 use Rattle.sap_net.proofs.NamesLemmas.{among_append, among_behind, among_front, found_among, not_found}
 use Rattle.sap_maps.proofs.ScopeLemmas.{found_first, found_second}
-use Rattle.sap_maps.specs.Maps.{Name}
-use Rattle.sap_maps.specs.Scope.{Scope, find}
+use Rattle.sap_maps.specs.Prelude.{Name, find}
 use Rattle.sap_net.specs.Names.{is_among, AreDistinct}
 use Rattle.sap_ir.specs.declared.guarded.Var.{Var}
 use Rattle.sap_ir.specs.declared.guarded.MemoryVariable.{MemoryVariable}
@@ -48,9 +43,6 @@ apart_lists_back xs ys d n h =
 -- names and what is found under them
 
 -- the names of a source
-
-scope_of : List Var → Scope
-scope_of xs = map (λ x. (x.name, x.width)) xs
 
 pub inputs_apart : (s : Source) → AreDistinct (declared s) → (n : Name)
     → is_among n (variable_names s.registers ++ (variable_names s.wires ++ memory_names s.memories)) ≡ true → is_among n (variable_names s.inputs) ≡ false

@@ -1,6 +1,5 @@
 -- On what stands in IsGuarded: what several crates cite.
-use Rattle.std.proofs.Common.{List, [], ap, refl, ◌++◌, ◌∷◌, ◌≡◌}
-use Rattle.std.specs.List.{AllByRecursion}
+use Rattle.sap_lemmas.proofs.Common.{List, [], ap, refl, ◌++◌, ◌∷◌, ◌≡◌, AllByRecursion}
 use Rattle.sap_ir.specs.IsGuarded.{IsPlainVar, IsRegisterVar, variable_names}
 use Rattle.sap_ir.specs.declared.guarded.Var.{Var}
 use Rattle.sap_maps.specs.Maps.{Name}

@@ -1,20 +1,14 @@
 -- What the type keeps passes the test.
-use Rattle.std.proofs.Common.{◌≡◌, ℕ, zero, suc, ◌+◌, ◌-◌, ◌^◌, ◌≤◌, ◌&&◌, ◌==◌, ◌++◌, Option, Some, Bool, true, not, sym, ap, ap₂, ◌∙◌, refl, arith, inl, inr}
-use Rattle.std.specs.Prelude.{nat_lt, nat_le}
-use Rattle.std.proofs.lemmas.Bool.{and_from, cases_Bool, le-leb, lt-ltb}
-use Rattle.std.proofs.lemmas.Bool.Decides.{Decides-eqb}
+use Rattle.sap_lemmas.proofs.Common.{◌≡◌, ℕ, zero, suc, ◌+◌, ◌-◌, ◌^◌, ◌≤◌, ◌&&◌, ◌==◌, ◌++◌, Option, Some, Bool, true, not, sym, ap, ap₂, ◌∙◌, refl, arith, inl, inr, nat_lt, nat_le, and_from, cases_Bool, le-leb, lt-ltb, Decides-eqb, test_of_equal}
 use Rattle.sap_lemmas.proofs.Bools.{five_from, three_from}
 use Rattle.sap_lemmas.proofs.Everywhere.{test_of_all}
-use Rattle.sap_lemmas.proofs.Numbers.{below_unequal, test_of_equal}
+use Rattle.sap_lemmas.proofs.Numbers.{below_unequal}
 use Rattle.sap_ir.proofs.TestLemmas.{distinct_to}
 use Rattle.sap_bits.specs.Arithmetic.{width1, width2}
 use Rattle.sap_bits.specs.declared.Op2.{Op2}
 use Rattle.sap_bits.specs.declared.Op2.TheVariants.{Add, Sub, Mul, And, Or, Xor, Eq, Ne, Lt, Le, Shl, Shr}
-use Rattle.sap_maps.specs.Maps.{Name}
-use Rattle.sap_maps.specs.Scope.{Scope, find}
-use Rattle.sap_maps.specs.Term.{Term, constant, read, cell, one, two, choose, join, part, term_width, CountFits}
-use Rattle.sap_net.specs.Names.{is_name, is_among, AreDistinct}
-use Rattle.sap_net.specs.Rules.{IsWidth, Shapes}
+use Rattle.sap_maps.specs.Prelude.{Name, Scope, find, Term, constant, read, cell, one, two, choose, join, part, term_width, CountFits}
+use Rattle.sap_net.specs.Prelude.{is_name, is_among, AreDistinct, IsWidth, Shapes}
 use Rattle.sap_ir.specs.declared.guarded.Var.{Var}
 use Rattle.sap_ir.specs.declared.guarded.MemoryVariable.{MemoryVariable}
 use Rattle.sap_ir.specs.Source.{Action, set, put, Command, Source, readable, shapes, width_of}

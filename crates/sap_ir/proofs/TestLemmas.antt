@@ -1,6 +1,5 @@
 -- On what stands in Test: what several crates cite.
-use Rattle.std.proofs.Common.{List, [], ap, not, refl, true, ◌∷◌, ◌≡◌}
-use Rattle.std.proofs.lemmas.Bool.{and_from, and_parts, not-true}
+use Rattle.sap_lemmas.proofs.Common.{List, [], ap, not, refl, true, ◌∷◌, ◌≡◌, and_from, and_parts, not-true}
 use Rattle.sap_ir.specs.Test.{are_distinct}
 use Rattle.sap_maps.specs.Maps.{Name}
 use Rattle.sap_net.specs.Names.{AreDistinct, is_among}

@@ -1,18 +1,11 @@
 -- What passes the test is what the type keeps.
-use Rattle.std.proofs.Common.{◌≡◌, ℕ, zero, suc, ◌^◌, ◌≤◌, ◌&&◌, ◌==◌, ◌++◌, Option, Some, None, Bool, true, not, ap, ap₂, ◌∙◌, refl, arith, ⊎_elim}
-use Rattle.std.specs.Prelude.{nat_lt, nat_le}
-use Rattle.std.proofs.lemmas.Bool.{and_parts, cases_Bool, leb-true, ltb-true, not-true}
-use Rattle.sap_lemmas.proofs.Bools.{five_parts, three_parts}
-use Rattle.sap_lemmas.proofs.Everywhere.{all_of_test}
-use Rattle.sap_lemmas.proofs.Numbers.{equal_of_test}
+use Rattle.sap_lemmas.proofs.Common.{◌≡◌, ℕ, zero, suc, ◌^◌, ◌≤◌, ◌&&◌, ◌==◌, ◌++◌, Option, Some, None, Bool, true, not, ap, ap₂, ◌∙◌, refl, arith, ⊎_elim, nat_lt, nat_le, and_parts, cases_Bool, leb-true, ltb-true, not-true, three_parts, all_of_test, equal_of_test}
+use Rattle.sap_lemmas.proofs.Bools.{five_parts}
 use Rattle.sap_ir.proofs.TestLemmas.{distinct_from}
 use Rattle.sap_bits.specs.declared.Op2.{Op2}
 use Rattle.sap_bits.specs.declared.Op2.TheVariants.{Add, Sub, Mul, And, Or, Xor, Eq, Ne, Lt, Le, Shl, Shr}
-use Rattle.sap_maps.specs.Maps.{Name}
-use Rattle.sap_maps.specs.Scope.{Scope, find}
-use Rattle.sap_maps.specs.Term.{Term, constant, read, cell, one, two, choose, join, part, term_width, CountFits}
-use Rattle.sap_net.specs.Names.{is_name, is_among}
-use Rattle.sap_net.specs.Rules.{IsWidth, Shapes}
+use Rattle.sap_maps.specs.Prelude.{Name, Scope, find, Term, constant, read, cell, one, two, choose, join, part, term_width, CountFits}
+use Rattle.sap_net.specs.Prelude.{is_name, is_among, IsWidth, Shapes}
 use Rattle.sap_ir.specs.declared.guarded.Var.{Var}
 use Rattle.sap_ir.specs.declared.guarded.MemoryVariable.{MemoryVariable}
 use Rattle.sap_ir.specs.Source.{Action, set, put, Command, Source, readable, shapes, width_of}

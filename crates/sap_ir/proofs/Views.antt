@@ -1,7 +1,5 @@
 -- What a concatenation of a list of expressions is seen as.
-use Rattle.std.proofs.Common.{◌≡◌, ◌∷◌, map, ap, ◌∙◌, refl}
-use Rattle.std.specs.declared.vec.Vec.{Vec}
-use Rattle.std.specs.declared.alloc.Global.{Global}
+use Rattle.sap_lemmas.proofs.Common.{◌≡◌, ◌∷◌, map, ap, ◌∙◌, refl, Vec, Global}
 use Rattle.sap_ir.specs.declared.guarded.Calc.{Calc, Row_of-Calc, end_of-Calc, more_of-Calc, items-the_row-Calc, items_hidden-the_row-Calc-0}
 use Rattle.sap_ir.specs.declared.guarded.Calc.TheBlock.{hidden-the_row-Calc-0}
 use Rattle.sap_ir.specs.declared.guarded.Calc.TheVariants as calc

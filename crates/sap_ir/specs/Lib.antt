@@ -7,3 +7,4 @@ pub mod Test
 pub mod Parts
 pub mod Program
 pub mod Plain
+pub mod Prelude

@@ -1,32 +1,20 @@
 -- The wires that feed by names, and which inputs they feed.
-use Rattle.std.proofs.Common.{◌≡◌, ℕ, zero, suc, ◌+◌, ◌<◌, Bool, true, false, List, [], ◌∷◌, ◌++◌, map, get_or, length, Option, Some, None, refl, sym, ◌∙◌, ap, ap₂, subst, inl, inr, arith}
-use Rattle.std.specs.Prelude.{not}
-use Rattle.std.specs.Option.{option_map}
-use Rattle.std.specs.Str.{bytes_eq}
-use Rattle.std.proofs.lemmas.Bool.{and_from, and_parts, cases_Bool, or_cases, or_right}
-use Rattle.sap_lemmas.proofs.Texts.{equal_of_bytes_eq}
+use Rattle.sap_lemmas.proofs.Common.{◌≡◌, ℕ, zero, suc, ◌+◌, ◌<◌, Bool, true, false, List, [], ◌∷◌, ◌++◌, map, get_or, length, Option, Some, None, refl, sym, ◌∙◌, ap, ap₂, subst, inl, inr, arith, not, option_map, bytes_eq, and_from, and_parts, cases_Bool, or_cases, or_right, equal_of_bytes_eq}
 use Rattle.sap_maps.specs.Maps.{Name}
 use Rattle.sap_lattice.specs.Codes.{code_of, width_of}
 use Rattle.sap_meaning.specs.Program.{Entity, nothing, kind_is_input, is_input}
+use Rattle.sap_net.specs.Prelude.{is_among, AreDistinct, Net, names_of, input_names, value_name, tag_name}
 use Rattle.sap_net.specs.declared.parts.PortKind.{PortKind}
-use Rattle.sap_net.specs.declared.parts.PortKind.TheVariants as kind
 use Rattle.sap_net.specs.declared.parts.Wire.{Wire}
 use Rattle.sap_net.specs.declared.parts.Register.{Register}
 use Rattle.sap_net.specs.declared.parts.Memory.{Memory}
-use Rattle.sap_net.specs.Names.{is_among, AreDistinct}
-use Rattle.sap_net.specs.Net.{Net}
-use Rattle.sap_net.specs.IsNetlist.{names_of, input_names}
-use Rattle.sap_net.specs.PortNames.{value_name, tag_name}
+use Rattle.sap_net.specs.declared.parts.PortKind.TheVariants as kind
 use Rattle.sap_net.proofs.NamesLemmas.{among_behind, among_front, among_here}
-use Rattle.sap_interface.specs.StandsFor.{Named, name, world}
-use Rattle.sap_interface.specs.Interface.{Shown, pairs_of}
+use Rattle.sap_interface.specs.Prelude.{Named, name, world, Shown, pairs_of}
 use Rattle.sap_build.specs.Copies.{copy_wire, copy_register, copy_memory}
 use Rattle.sap_link.specs.Systems.{Endpoint, endpoint, same_endpoint}
 use Rattle.sap_link.specs.Systems.{Wire as SystemWire, is_fed as is_fed_end}
-use Rattle.sap_linked.specs.Parts.{Part, NamedSystem, no_part, part_at, in_part, value_at, tag_at}
-use Rattle.sap_linked.specs.Interface.{ports_in, is_free, input_ports}
-use Rattle.sap_linked.specs.Laws.{InputsInOrder}
-use Rattle.sap_linked.specs.Netlist.{joined_at, below_at, feeds_through, feeds, copies_of, linked_net, inner_names}
+use Rattle.sap_linked.specs.Prelude.{Part, NamedSystem, no_part, part_at, in_part, value_at, tag_at, ports_in, is_free, input_ports, InputsInOrder, joined_at, below_at, feeds_through, feeds, copies_of, linked_net, inner_names}
 use Rattle.sap_joined.specs.Joined.{feeds_by, feed_wires, fed_names, is_fed}
 use Rattle.sap_joined.specs.Systems.{feed_of, feeds_of}
 use Rattle.sap_joined.proofs.Sorting.{map_both}

@@ -1,26 +1,15 @@
 -- The inputs of netlists that stand for designs, and which of them are free.
-use Rattle.std.proofs.Common.{◌≡◌, ℕ, ◌+◌, true, false, List, [], ◌∷◌, ◌++◌, map, filter, Some, None, if◌then◌else◌, refl, sym, ◌∙◌, ap, ap₂, inl, inr, append-nil}
-use Rattle.std.specs.List.{AllByRecursion}
-use Rattle.std.specs.Str.{bytes_eq}
-use Rattle.std.proofs.lemmas.Bool.{cases_Bool}
-use Rattle.sap_lemmas.proofs.Bools.{neither_left, neither_right}
-use Rattle.sap_maps.specs.Maps.{Name}
-use Rattle.sap_maps.specs.Scope.{Scope, find}
+use Rattle.sap_lemmas.proofs.Common.{◌≡◌, ℕ, ◌+◌, true, false, List, [], ◌∷◌, ◌++◌, map, filter, Some, None, if◌then◌else◌, refl, sym, ◌∙◌, ap, ap₂, inl, inr, append-nil, AllByRecursion, bytes_eq, cases_Bool, neither_left, neither_right}
+use Rattle.sap_maps.specs.Prelude.{Name, Scope, find}
 use Rattle.sap_maps.proofs.Scopes.{found_here}
 use Rattle.sap_meaning.specs.Program.{Entity, is_input, is_register, width}
 use Rattle.sap_net.specs.declared.parts.PortKind.TheVariants as kind
+use Rattle.sap_net.specs.Prelude.{is_among, Net, Shapes, AreValues, IsNetlist, shapes, is_input as is_input_port, value_name, tag_name}
 use Rattle.sap_net.specs.declared.parts.Port.{Port}
 use Rattle.sap_net.specs.declared.parts.Input.{Input}
 use Rattle.sap_net.specs.declared.parts.Register.{Register}
-use Rattle.sap_net.specs.Names.{is_among}
-use Rattle.sap_net.specs.Net.{Net}
-use Rattle.sap_net.specs.Rules.{Shapes, AreValues}
-use Rattle.sap_net.specs.IsNetlist.{IsNetlist, shapes}
-use Rattle.sap_net.specs.IsNetlist.{is_input as is_input_port}
-use Rattle.sap_net.specs.PortNames.{value_name, tag_name}
 use Rattle.sap_net.proofs.NamesLemmas.{found_of}
-use Rattle.sap_interface.specs.StandsFor.{Named, name, world}
-use Rattle.sap_interface.specs.Interface.{Shown, pairs_of, ports_of, HasInterface}
+use Rattle.sap_interface.specs.Prelude.{Named, name, world, Shown, pairs_of, ports_of, HasInterface}
 use Rattle.sap_joined.proofs.Sorting.{port, ports, behind, tested, pairs_all, pairs_none, sites_none, declared_ports}
 
 abbrev scope : List Input → Scope

@@ -1,8 +1,5 @@
 -- Lists that grow, item by item, while others are gone through.
-use Rattle.std.proofs.Common.{◌≡◌, ◌<◌, ℕ, ◌+◌, suc, Bool, List, [], ◌∷◌, ◌++◌, length, drop, get_or, filter, ap, ap₂, sym, ◌∙◌, arith}
-use Rattle.std.proofs.Math.Seq.{drop-cons}
-use Rattle.std.proofs.lemmas.List.{append_assoc}
-use Rattle.std.proofs.lemmas.List.Elements.{filter-append}
+use Rattle.sap_lemmas.proofs.Common.{◌≡◌, ◌<◌, ℕ, ◌+◌, suc, Bool, List, [], ◌∷◌, ◌++◌, length, drop, get_or, filter, ap, ap₂, sym, ◌∙◌, arith, drop-cons, append_assoc, filter-append}
 
 tail_of : {X : Type 0} (xs : List X) (k : ℕ) (x : X) → k < length xs → x ≡ get_or xs k x → drop k xs ≡ x ∷ drop (k + 1) xs
 tail_of xs k x l e =

@@ -1,32 +1,20 @@
 -- Joined, the netlists of a system's parts are the netlist of the system.
-use Rattle.std.proofs.Common.{◌≡◌, ℕ, zero, suc, ◌+◌, ◌<◌, Bool, true, false, List, [], ◌∷◌, ◌++◌, map, filter, get_or, length, refl, sym, ◌∙◌, ap, ap₂, subst, inl, inr, arith, append-nil}
-use Rattle.std.specs.Prelude.{not}
-use Rattle.std.proofs.lemmas.Bool.{cases_Bool}
-use Rattle.std.proofs.lemmas.List.Elements.{filter-append}
+use Rattle.sap_lemmas.proofs.Common.{◌≡◌, ℕ, zero, suc, ◌+◌, ◌<◌, Bool, true, false, List, [], ◌∷◌, ◌++◌, map, filter, get_or, length, refl, sym, ◌∙◌, ap, ap₂, subst, inl, inr, arith, append-nil, not, cases_Bool, filter-append}
 use Rattle.sap_maps.specs.Maps.{Name}
-use Rattle.sap_lattice.specs.Order.{Order}
-use Rattle.sap_lattice.specs.Codes.{width_of}
+use Rattle.sap_lattice.specs.Prelude.{Order, width_of}
 use Rattle.sap_meaning.specs.Program.{Entity, nothing, kind_is_input, is_input, is_register, width, Program}
 use Rattle.sap_net.specs.declared.parts.PortKind.TheVariants as kind
+use Rattle.sap_net.specs.Prelude.{is_among, AreDistinct, Net, input_names, value_name, tag_name, top_name}
 use Rattle.sap_net.specs.declared.parts.Port.{Port}
 use Rattle.sap_net.specs.declared.parts.Input.{Input}
 use Rattle.sap_net.specs.declared.parts.Wire.{Wire}
 use Rattle.sap_net.specs.declared.parts.Register.{Register}
 use Rattle.sap_net.specs.declared.parts.Memory.{Memory}
-use Rattle.sap_net.specs.Names.{is_among, AreDistinct}
-use Rattle.sap_net.specs.Net.{Net}
-use Rattle.sap_net.specs.IsNetlist.{input_names}
-use Rattle.sap_net.specs.PortNames.{value_name, tag_name, top_name}
-use Rattle.sap_interface.specs.StandsFor.{Named, name, world}
-use Rattle.sap_interface.specs.Interface.{Shown, pairs_of, site_ports, ports_of}
+use Rattle.sap_interface.specs.Prelude.{Named, name, world, Shown, pairs_of, site_ports, ports_of}
 use Rattle.sap_build.specs.Copies.{copy_port, copy_input, copy_wire, copy_register, copy_memory}
 use Rattle.sap_link.specs.Systems.{Endpoint, endpoint, width_at, inputs_from, inputs_of}
 use Rattle.sap_link.specs.Systems.{is_fed as is_fed_end, free_inputs as free_ends, no_part as no_program}
-use Rattle.sap_linked.specs.Parts.{Part, NamedSystem, no_part, part_at, system_of, in_part, value_at, tag_at}
-use Rattle.sap_linked.specs.Linking.{IsNetOf, inputs_for}
-use Rattle.sap_linked.specs.Interface.{ports_in, is_free, input_ports, register_ports, refusal_ports, is_fed_input, fed_inputs}
-use Rattle.sap_linked.specs.Laws.{InputsInOrder, AllNamesDiffer}
-use Rattle.sap_linked.specs.Netlist.{feeds, held_ports, shown_names, linked_net, inner_names}
+use Rattle.sap_linked.specs.Prelude.{Part, NamedSystem, no_part, part_at, system_of, in_part, value_at, tag_at, IsNetOf, inputs_for, ports_in, is_free, input_ports, register_ports, refusal_ports, is_fed_input, fed_inputs, InputsInOrder, AllNamesDiffer, feeds, held_ports, shown_names, linked_net, inner_names}
 use Rattle.sap_linked.specs.Netlist as linked
 use Rattle.sap_joined.specs.Joined.{feed_wires, copies_of, part_ports, part_inputs, part_registers, is_fed, is_free_port, is_fed_port, is_register_port, is_wire_port, as_wire, is_free_input, free_inputs, joined_ports, port_names, is_hidden, shown_first, names_within, joined}
 use Rattle.sap_joined.specs.Systems.{nets_from, named_nets, feeds_of, JoinedIsLinked}

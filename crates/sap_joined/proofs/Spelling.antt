@@ -1,31 +1,21 @@
 -- All names in netlists are made of letters, digits and `_`.
-use Rattle.std.proofs.Common.{◌≡◌, ◌<◌, ◌≤◌, ℕ, zero, suc, true, List, [], ◌∷◌, ◌++◌, map, length, get_or, Some, sym, ◌∙◌, ◌^◌, subst, inl, inr, arith}
-use Rattle.std.specs.Prelude.{not}
-use Rattle.std.specs.List.{All, AllByRecursion, list_all}
-use Rattle.std.specs.Str.{IsCharBoundary, bytes_eq}
-use Rattle.std.proofs.lemmas.Bool.{and_parts, cases_Bool}
-use Rattle.std.proofs.lemmas.Bool.Decides.{nat_tests}
+use Rattle.sap_lemmas.proofs.Common.{◌≡◌, ◌<◌, ◌≤◌, ℕ, zero, suc, true, List, [], ◌∷◌, ◌++◌, map, length, get_or, Some, ◌∙◌, ◌^◌, subst, inl, inr, arith, not, All, AllByRecursion, list_all, bytes_eq, and_parts, cases_Bool, nat_tests, all_append, all_follow, all_of_map, map_of_all, equal_of_bytes_eq}
+use Rattle.std.specs.Str.{IsCharBoundary}
 use Rattle.std.proofs.lemmas.Str.{IsCharBoundary-from_ascii}
-use Rattle.sap_lemmas.proofs.Everywhere.{all_append, all_follow, all_of_map, map_of_all}
-use Rattle.sap_lemmas.proofs.Texts.{equal_of_bytes_eq}
 use Rattle.sap_text.proofs.NamesLemmas.{word_inner}
-use Rattle.sap_maps.specs.Maps.{Name}
-use Rattle.sap_maps.specs.Scope.{find}
+use Rattle.sap_maps.specs.Prelude.{Name, find}
+use Rattle.sap_net.specs.Prelude.{is_name, is_word, is_keyword, is_inner, is_among, Net, Shapes, IsOperand, AreOperands, IsRight, AreWires, IsRegister, IsMemory, readable_after, IsNetlist, PortShows, input_names, wire_names, register_names, memory_names, first_readable, readable, shapes}
 use Rattle.sap_net.specs.declared.parts.Operand.{Operand}
 use Rattle.sap_net.specs.declared.parts.Operand.TheVariants.{Named, Constant}
 use Rattle.sap_net.specs.declared.parts.Right.{Right}
 use Rattle.sap_net.specs.declared.parts.Right.TheVariants.{Copy, One, Two, Choose, Concat, Slice, Cell}
 use Rattle.sap_net.specs.declared.parts.PortKind.{PortKind}
-use Rattle.sap_net.specs.declared.parts.PortKind.TheVariants as kind
 use Rattle.sap_net.specs.declared.parts.Port.{Port}
 use Rattle.sap_net.specs.declared.parts.Input.{Input}
 use Rattle.sap_net.specs.declared.parts.Wire.{Wire}
 use Rattle.sap_net.specs.declared.parts.Register.{Register}
 use Rattle.sap_net.specs.declared.parts.Memory.{Memory}
-use Rattle.sap_net.specs.Names.{is_name, is_word, is_keyword, is_inner, is_among}
-use Rattle.sap_net.specs.Net.{Net}
-use Rattle.sap_net.specs.Rules.{Shapes, IsOperand, AreOperands, IsRight, AreWires, IsRegister, IsMemory, readable_after}
-use Rattle.sap_net.specs.IsNetlist.{IsNetlist, PortShows, input_names, wire_names, register_names, memory_names, first_readable, readable, shapes}
+use Rattle.sap_net.specs.declared.parts.PortKind.TheVariants as kind
 use Rattle.sap_net.proofs.NamesLemmas.{among_each, each_among, among_front, among_behind}
 use Rattle.sap_joined.specs.Spelled.{IsSpelled, OperandSpelled, RightSpelled, WireSpelled, RegisterSpelled, MemorySpelled}
 
@@ -51,10 +41,6 @@ one_and_all P x xs here later (suc k) d l = later k d (omega arith)
 at_each : {X : Type 0} (P : X → Type 0) (xs : List X) → AllByRecursion P xs → All P xs
 at_each P [] a = λ k d l. absurd (omega arith)
 at_each P (x ∷ xs) a = one_and_all P x xs a.0 (at_each P xs a.1)
-
--- the item at a place of a list
-pub item_has : {X : Type 0} (P : X → Type 0) (xs : List X) → All P xs → (k : ℕ) (x : X) → k < length xs → x ≡ get_or xs k x → P x
-item_has P xs a k x l e = subst P (sym e) (a k x l)
 
 -- scopes of such names
 

@@ -1,12 +1,10 @@
 -- Of the rules on a file at most one is the first that is broken.
-use Rattle.std.proofs.Common.{◌≡◌, ◌≢◌, ℕ, List, refl, sym, ap, ◌∙◌, subst, inl, inr, ◌⊎◌, Result, Ok, Err}
-use Rattle.std.specs.Prelude.{IfErr, IfOk, IsErrOf, IsOkUnless}
+use Rattle.sap_lemmas.proofs.Common.{◌≡◌, ◌≢◌, ℕ, List, refl, sym, ap, ◌∙◌, subst, inl, inr, ◌⊎◌, Result, Ok, Err, IfErr, IfOk, IsErrOf, IsOkUnless}
 use Rattle.toml.specs.Data.{Members}
-use Rattle.sap_lattice.specs.Levels.{Levels}
-use Rattle.sap_lattice.specs.Rules.{FirstBroken, KeepsAll}
+use Rattle.sap_lattice.specs.Prelude.{Levels, FirstBroken, KeepsAll}
 use Rattle.sap_lattice.specs.declared.fault.LatFault.{LatFault}
-use Rattle.sap_lattice.specs.declared.fault.LatFault.TheVariants as rule
 use Rattle.sap_lattice.specs.declared.pair.Pair.{Pair}
+use Rattle.sap_lattice.specs.declared.fault.LatFault.TheVariants as rule
 use Rattle.sap_lattice.proofs.Answered.{none_broken, one_answer}
 use Rattle.sap_latfile.specs.Document.{Lists}
 use Rattle.sap_latfile.specs.LatticeFile.{FirstFault, IsDocument, IsFileOf, IsLatticeOfFile}

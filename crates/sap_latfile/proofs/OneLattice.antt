@@ -1,13 +1,9 @@
 -- Two lattices of one file are the same.
-use Rattle.std.proofs.Common.{◌≡◌, ℕ, ◌<◌, List, length, sym, ap, ◌∙◌, subst, arith}
-use Rattle.sap_lemmas.proofs.Bools.{iff_same}
-use Rattle.sap_lemmas.proofs.Options.{some_unique}
+use Rattle.sap_lemmas.proofs.Common.{◌≡◌, ℕ, ◌<◌, List, length, sym, ap, ◌∙◌, subst, arith, iff_same, some_unique}
 use Rattle.sap_lattice.proofs.LevelsLemmas.{level_in_same}
 use mathlib.Core.Path.{fun_ext}
 use Rattle.toml.specs.Parse.{parse_document}
-use Rattle.sap_lattice.specs.Built.{IsLatticeOf}
-use Rattle.sap_lattice.specs.Levels.{Levels, order_of, order_by, is_below, level_in}
-use Rattle.sap_lattice.specs.Rules.{KeepsAll}
+use Rattle.sap_lattice.specs.Prelude.{IsLatticeOf, Levels, order_of, order_by, is_below, level_in, KeepsAll}
 use Rattle.sap_lattice.specs.declared.pair.Pair.{Pair}
 use Rattle.sap_lattice.proofs.Orders.{level_in_below}
 use Rattle.sap_latfile.specs.Document.{Lists}

@@ -122,9 +122,6 @@ filter_few_from test a (suc n) =
     let ih = filter_few_from test (a + 1) n in
     cond_both (test a) (a ∷ rest) rest (λ ks. length ks ≤ suc n) (λ _. omega arith) (λ _. omega arith)
 
-pub filter_few : (test : ℕ → Bool) (n : ℕ) → length (filter test (numbers n)) ≤ n
-filter_few test n = filter_few_from test 0 n
-
 filter_fewer_from : (test : ℕ → Bool) (a n k : ℕ) → a ≤ k → k < a + n → test k ≡ false → length (filter test (range_with_len a n)) < n
 filter_fewer_from test a zero k low high h = absurd (omega arith)
 filter_fewer_from test a (suc n) k low high h =

@@ -13,3 +13,4 @@ pub mod Pairs
 pub mod Related
 pub mod Rows
 pub mod Rules
+pub mod Prelude

@@ -4,3 +4,4 @@ pub mod Options
 pub mod Lists
 pub mod Everywhere
 pub mod Texts
+pub mod Common

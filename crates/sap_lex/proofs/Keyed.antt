@@ -1,6 +1,5 @@
 -- The words of a text that begins with `sapper`, made one after another.
-use Rattle.std.proofs.Common.{ℕ, List, ◌++◌, take, drop}
-use Rattle.std.specs.Prelude.{map}
+use Rattle.sap_lemmas.proofs.Common.{ℕ, List, ◌++◌, take, drop, map}
 use Rattle.sap_lex.specs.Lexing.{later_token}
 use Rattle.sap_lex.specs.declared.token.Token.{Token}
 

@@ -1,11 +1,7 @@
 -- A text has at most one list of tokens, or at most one place where no token begins, and not both.
-use Rattle.std.proofs.Common.{◌≡◌, ◌<◌, ◌+◌, ℕ, List, [], ◌∷◌, length, length-take, take, drop, Bool, true, false, Option, Some, None, refl, sym, ap, subst, ◌∙◌, arith}
-use Rattle.std.proofs.lemmas.Bool.Decides.{nat_tests}
-use Rattle.std.proofs.lemmas.Grind.{common_steps}
-use Rattle.std.specs.Prelude.{slice_index, ◌==◌}
-use Rattle.std.specs.Char.{is_ascii_digit}
-use Rattle.std.specs.Str.{byte}
+use Rattle.sap_lemmas.proofs.Common.{◌≡◌, ◌<◌, ◌+◌, ℕ, List, [], ◌∷◌, length, length-take, take, drop, Bool, true, false, Option, Some, None, refl, sym, ap, subst, ◌∙◌, arith, nat_tests, common_steps, slice_index, ◌==◌, is_ascii_digit, byte}
 use Rattle.sap_tree.specs.Words.{is_initial}
+use Rattle.sap_tree.specs.declared.word.Word.{Word}
 use Rattle.sap_lex.specs.Lexemes.{lexeme_of, name_at, number_at, number_lexeme, sized_at, sized_in, sized_lexeme, sign_at, sign_or, word_or_name}
 use Rattle.sap_lex.specs.Lexing.{AreTokens, IsBadAt, IsBlankAt, IsLexFault, StandsAt, keyed}
 use Rattle.sap_text.specs.Places.{place_at}
@@ -22,7 +18,6 @@ use Rattle.sap_lex.specs.declared.lexeme.Lexeme.{Lexeme}
 use Rattle.sap_lex.specs.declared.token.Kind.{Kind}
 use Rattle.sap_lex.specs.declared.token.Sign.{Sign}
 use Rattle.sap_lex.specs.declared.token.Token.{Token as TokenOf}
-use Rattle.sap_tree.specs.declared.word.Word.{Word}
 use Rattle.sap_lex.proofs.Spelled.{IsSpelled, by_test, lexeme_spelled}
 use Rattle.sap_lex.proofs.TokenTexts.{text_some}
 use Rattle.sap_walk.proofs.Reached as reached

@@ -1,6 +1,5 @@
 -- Places behind bytes.
-use Rattle.std.proofs.Common.{◌≡◌, ◌+◌, ℕ, List, [], ◌∷◌, ◌++◌, take, drop, refl, ap, sym, ◌∙◌}
-use Rattle.std.proofs.Math.Seq.{take-add}
+use Rattle.sap_lemmas.proofs.Common.{◌≡◌, ◌+◌, ℕ, List, [], ◌∷◌, ◌++◌, take, drop, refl, ap, sym, ◌∙◌, take-add}
 use Rattle.sap_text.specs.declared.place.Place.{Place}
 use Rattle.sap_text.specs.Places.{first_place, next_place, place_after, place_at}
 

@@ -1,24 +1,14 @@
 -- What stands at the front of a text is spelled by its bytes.
-use Rattle.std.proofs.Common.{◌≡◌, ◌<◌, ◌+◌, ◌^◌, ℕ, suc, List, [], ◌∷◌, ◌++◌, length, take, drop, Bool, true, false, cond, refl, sym, ap, subst, ◌∙◌, append_assoc, arith, Option, Some, None}
-use Rattle.std.proofs.lemmas.Bool.Decides.{nat_tests}
-use Rattle.std.proofs.lemmas.Grind.{common_steps}
+use Rattle.sap_lemmas.proofs.Common.{◌≡◌, ◌<◌, ◌+◌, ◌^◌, ℕ, suc, List, [], ◌∷◌, ◌++◌, length, take, drop, Bool, true, false, cond, refl, sym, ap, subst, ◌∙◌, append_assoc, arith, Option, Some, None, nat_tests, common_steps, take-add, slice_index, ◌||◌, ◌&&◌, ◌==◌, nat_lt, is_ascii_digit, find, list_all, list_any, prefix_len, byte, bytes_eq, run_passes, equal_of_test, equal_of_bytes_eq, digits_value}
 use Rattle.std.proofs.lemmas.List.Folds.{length-prefix_len}
-use Rattle.std.proofs.Math.Seq.{take-add}
-use Rattle.std.specs.Prelude.{slice_index, ◌||◌, ◌&&◌, ◌==◌, nat_lt}
-use Rattle.std.specs.Char.{is_ascii_digit}
-use Rattle.std.specs.List.{find, list_all, list_any, prefix_len}
-use Rattle.std.specs.Str.{byte, bytes_eq}
-use Rattle.sap_lemmas.proofs.Everywhere.{run_passes}
 use Rattle.sap_lemmas.proofs.Lists.{index_drop}
-use Rattle.sap_lemmas.proofs.Numbers.{equal_of_test}
-use Rattle.sap_lemmas.proofs.Texts.{equal_of_bytes_eq}
 use Rattle.sap_text.proofs.NamesLemmas.{initial_inner}
 use Rattle.sap_tree.specs.Words.{is_initial, is_inner, is_word, word_text, first_words}
+use Rattle.sap_tree.specs.declared.word.Word.{Word}
 use Rattle.sap_tree.specs.declared.version.Version.TheVariants as v
 use Rattle.sap_lex.specs.Lexemes.{lexeme_of, name_at, number_at, number_lexeme, sized_at, sized_in, sized_lexeme, sign_at, sign_or, word_or_name}
 use Rattle.sap_lex.specs.Spelled.{SpellsNumber, SpellsSized, decimal, hexadecimal, Spells, is_of}
 use Rattle.sap_lex.specs.Spelling.{word_of, sign_of, sign_text, signs}
-use Rattle.std.specs.Str.Parse.{digits_value}
 use Rattle.sap_text.specs.Blanks.{is_blank, is_comment}
 use Rattle.sap_text.specs.Runs.{is_in, number_of, run}
 use Rattle.sap_text.specs.declared.scan.Class.TheVariants as c
@@ -26,7 +16,6 @@ use Rattle.sap_text.specs.declared.scan.Class.{Class}
 use Rattle.sap_lex.specs.declared.lexeme.Lexeme.TheVariants.{Blank, Token, Bad}
 use Rattle.sap_lex.specs.declared.lexeme.Lexeme.{Lexeme}
 use Rattle.sap_lex.specs.declared.token.Sign.{Sign}
-use Rattle.sap_tree.specs.declared.word.Word.{Word}
 
 abbrev pub IsSpelled : List ℕ → Lexeme → Type 0
 IsSpelled bytes (Blank len) = Unit {0}

@@ -1,13 +1,6 @@
 -- The word that a text spells, by the words' uses, and the sign, by the text's length.
-use Rattle.std.proofs.Common.{◌≡◌, ℕ, List, [], ◌∷◌, length, Bool, true, false, cond, not, refl, ap, ◌∙◌, arith, eqb, inl, inr, Option, Some, None}
-use Rattle.std.proofs.lemmas.Bool.{cases_Bool}
-use Rattle.std.proofs.lemmas.Bool.Decides.{nat_tests}
+use Rattle.sap_lemmas.proofs.Common.{◌≡◌, ℕ, List, [], ◌∷◌, length, Bool, true, false, cond, not, refl, ap, ◌∙◌, arith, eqb, inl, inr, Option, Some, None, cases_Bool, nat_tests, slice_index, ◌&&◌, ◌++◌, list_all, option_or, bytes_eq, equal_of_bytes_eq}
 use Rattle.std.proofs.lemmas.List.Folds.{find-append}
-use Rattle.std.specs.Prelude.{slice_index, ◌&&◌, ◌++◌}
-use Rattle.std.specs.List.{list_all}
-use Rattle.std.specs.Option.{option_or}
-use Rattle.std.specs.Str.{bytes_eq}
-use Rattle.sap_lemmas.proofs.Texts.{equal_of_bytes_eq}
 use Rattle.sap_tree.specs.Words.{word_text}
 use Rattle.sap_lex.specs.Spelling.{command_word, command_words, declaration_word, declaration_words, expression_word, expression_words, pair_sign, pair_signs, sign_among, sign_of, sign_text, signs, single_sign, single_signs, word_of}
 use Rattle.sap_lex.specs.declared.token.Sign.{Sign}

@@ -1,22 +1,15 @@
 -- Where the tokens of a text lie, and what their texts are.
-use Rattle.std.proofs.Common.{◌≡◌, ◌<◌, ◌≤◌, ◌+◌, ◌-◌, ◌∙◌, ℕ, zero, suc, List, [], ◌∷◌, ◌++◌, length, length-append, length-take, take, drop, Bool, true, false, Option, Some, None, refl, sym, ap, ap₂, subst, arith}
+use Rattle.sap_lemmas.proofs.Common.{◌≡◌, ◌<◌, ◌≤◌, ◌+◌, ◌-◌, ◌∙◌, ℕ, zero, suc, List, [], ◌∷◌, ◌++◌, length, length-append, length-take, take, drop, Bool, true, false, Option, Some, None, refl, sym, ap, ap₂, subst, arith, nat_tests, list_any-append, codes, map, ◌||◌, ◌==◌, bytes_eq, All, equal_of_bytes_eq, and_parts}
 use Rattle.std.proofs.lemmas.List.Elements.{All-append}
-use Rattle.std.proofs.lemmas.Bool.Decides.{nat_tests}
-use Rattle.std.proofs.lemmas.List.Folds.{list_any-append}
-use Rattle.std.specs.Prelude.{codes, map, ◌||◌, ◌==◌}
-use Rattle.std.specs.Str.{bytes_eq}
 use Rattle.sap_tree.specs.Words.{is_word, is_keyword, keywords, later_words, word_text}
-use Rattle.sap_tree.specs.declared.version.Version.TheVariants as v
 use Rattle.sap_tree.specs.declared.version.Version.{Version}
+use Rattle.sap_tree.specs.declared.word.Word.{Word}
+use Rattle.sap_tree.specs.declared.version.Version.TheVariants as v
 use Rattle.sap_lex.specs.Spelling.{later_word_of, sign_text}
 use Rattle.sap_lex.specs.declared.token.Kind.TheVariants as k
 use Rattle.sap_lex.specs.declared.token.Sign.TheVariants as s
 use Rattle.sap_lex.specs.declared.token.Sign.{Sign}
 use Rattle.sap_tree.specs.declared.word.Word.TheVariants as w
-use Rattle.sap_tree.specs.declared.word.Word.{Word}
-use Rattle.std.specs.List.{All}
-use Rattle.sap_lemmas.proofs.Texts.{equal_of_bytes_eq}
-use Rattle.std.proofs.lemmas.Bool.{and_parts}
 use Rattle.sap_walk.specs.Reached.{start, blank, token}
 use Rattle.sap_lex.specs.Lexing.{AreSpanned, AreTokens, Reached, StandsAt, behind_sapper, is_number_two, is_sapper, is_two, keyed, kind_by, later_kind, later_token, second_token, version_of, version_of_kind, version_of_word, with_kind}
 use Rattle.sap_lex.specs.Spelled.{Spells, SpellsNumber, SpellsSized, decimal, hexadecimal, HasText, AreInOrder, is_of, text_of}

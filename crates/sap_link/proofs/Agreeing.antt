@@ -2,8 +2,7 @@
 use Rattle.std.proofs.Common.{◌≡◌, ℕ, zero, suc, false, List, [], ◌∷◌, map, get_or, Option, Some, None, refl, subst, inl, inr}
 use Rattle.std.proofs.lemmas.Bool.{cases_Bool}
 use Rattle.sap_lattice.specs.Order.{Order, Laws}
-use Rattle.sap_meaning.specs.Cycle.{Tagged}
-use Rattle.sap_meaning.specs.Agree.{Alike, Low, High, InputsAgree}
+use Rattle.sap_meaning.specs.Prelude.{Tagged, Alike, Low, High, InputsAgree}
 use Rattle.sap_link.specs.Systems.{Endpoint, endpoint, Wire, System, feeding, Connects}
 use Rattle.sap_link.specs.Composites.{CompositeState, content_at, let_through, received, received_by, part_inputs}
 use Rattle.sap_link.specs.Agree.{PartsAgree}

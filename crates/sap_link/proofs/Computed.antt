@@ -2,10 +2,7 @@
 use Rattle.std.proofs.Common.{◌≡◌, ℕ, ◌<◌, Some, refl, arith}
 use Rattle.sap_lattice.specs.Levels.{order_of, order_by}
 use Rattle.sap_shape.proofs.Again.{no_faults}
-use Rattle.sap_meaning.specs.Store.{put_number, put_level, put_child, raise, reset, settle}
-use Rattle.sap_meaning.specs.Does.{effect, attempt, select, does, does_block, does_state, does_child}
-use Rattle.sap_meaning.specs.Cycle.{cycle, set_inputs, root_fall}
-use Rattle.sap_meaning.specs.State.{first}
+use Rattle.sap_meaning.specs.Prelude.{put_number, put_level, put_child, raise, reset, settle, effect, attempt, select, does, does_block, does_state, does_child, cycle, set_inputs, root_fall, first}
 use Rattle.sap_link.specs.Examples.{FreeInput, Fed, FedThroughLow, FedThroughHigh, NothingThrough, ToItself, Exchanged, FreeInOrder, Formed}
 
 pub free_input : FreeInput

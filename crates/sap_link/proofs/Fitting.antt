@@ -4,11 +4,7 @@ use Rattle.std.specs.List.{AllByRecursion, position_or_len}
 use Rattle.std.proofs.Math.Pow.{pow_pos}
 use Rattle.std.proofs.lemmas.Bool.{cases_Bool}
 use Rattle.sap_lattice.specs.Order.{Order, Laws}
-use Rattle.sap_meaning.specs.Program.{nothing, width}
-use Rattle.sap_meaning.specs.Store.{own}
-use Rattle.sap_meaning.specs.Cycle.{Tagged}
-use Rattle.sap_meaning.specs.State.{AllFit, input_widths}
-use Rattle.sap_meaning.specs.State.{InputsFit as InputsFitPart}
+use Rattle.sap_meaning.specs.Prelude.{nothing, width, own, Tagged, AllFit, input_widths, InputsFit as InputsFitPart}
 use Rattle.sap_meaning.specs.Laws.{NumbersFit}
 use Rattle.sap_link.specs.Systems.{Endpoint, endpoint, same_endpoint, Wire, System, part, world, width_at, IsPart, feeding, inputs_in, free_inputs, Connects}
 use Rattle.sap_link.specs.Composites.{CompositeState, states_of, content_at, let_through, carried, received, received_by, part_inputs, composite_cycle, stream_of_part, InputsFit}

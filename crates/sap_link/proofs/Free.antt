@@ -2,8 +2,7 @@
 use Rattle.std.proofs.Common.{◌≡◌, ℕ, suc, ◌<◌, ◌+◌, Bool, true, false, not, List, [], ◌∷◌, ◌++◌, map, filter, length, get_or, Option, Some, None, is_some, refl, ◌∙◌, ap, ap₂, subst, inl, inr, arith}
 use Rattle.std.specs.List.{AllByRecursion, position_or_len}
 use Rattle.std.proofs.lemmas.Bool.{cases_Bool}
-use Rattle.sap_meaning.specs.Program.{Entity, Program, kind_is_input}
-use Rattle.sap_meaning.specs.Cycle.{Tagged}
+use Rattle.sap_meaning.specs.Prelude.{Entity, Program, kind_is_input, Tagged}
 use Rattle.sap_link.specs.Systems.{Endpoint, endpoint, same_endpoint, Wire, System, feeding, is_fed, inputs_from, inputs_of, free_inputs}
 use Rattle.sap_link.specs.Composites.{CompositeState, given_to, received, received_by}
 use Rattle.sap_link.specs.Laws.{FreeInputsReceive}

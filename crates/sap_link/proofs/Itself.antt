@@ -2,9 +2,7 @@
 use Rattle.std.proofs.Common.{ℕ, List, [], ◌∷◌, refl, inl, inr}
 use Rattle.std.proofs.lemmas.Bool.{cases_Bool}
 use Rattle.sap_lattice.specs.Order.{Order}
-use Rattle.sap_meaning.specs.Program.{Program}
-use Rattle.sap_meaning.specs.Store.{Store, own, start, next, start_whole, next_whole, level}
-use Rattle.sap_meaning.specs.Agree.{Alike, ActiveState, PathsRelated, active_path, StatesAgree}
+use Rattle.sap_meaning.specs.Prelude.{Program, Store, own, start, next, start_whole, next_whole, level, Alike, ActiveState, PathsRelated, active_path, StatesAgree}
 
 pub same_alike : (o : Order) (l : ℕ) (Same : Type 0) → Same → (t : ℕ) → Alike o l Same t t
 same_alike o l Same same t = elim (cases_Bool (o.le t l)) [ inl low ↦ inl (same, refl, low) | inr high ↦ inr (high, high) ]

@@ -1,9 +1,7 @@
 -- What the inputs of a part get, by their places and by their numbers.
 use Rattle.std.proofs.Common.{◌≡◌, ℕ, zero, suc, ◌+◌, true, List, [], ◌∷◌, map, get_or, refl, sym, ◌∙◌, ap, ap₂, inl, inr, arith}
 use Rattle.std.proofs.lemmas.Bool.{cases_Bool}
-use Rattle.sap_meaning.specs.Program.{Entity, nothing, kind_is_input}
-use Rattle.sap_meaning.specs.Cycle.{Tagged, inputs_before}
-use Rattle.sap_meaning.specs.State.{input_widths}
+use Rattle.sap_meaning.specs.Prelude.{Entity, nothing, kind_is_input, Tagged, inputs_before, input_widths}
 use Rattle.sap_link.specs.Systems.{world, inputs_from, endpoint}
 use Rattle.sap_link.specs.Composites.{composite_cycle, states_of, received}
 use Rattle.sap_link.specs.Laws.{PartsAreGiven, PartsRunAlone}

@@ -3,14 +3,9 @@ use Rattle.std.proofs.Common.{◌≡◌, ℕ, zero, suc, ◌<◌, List, [], ◌�
 use Rattle.std.specs.Prelude.{slice_get}
 use Rattle.std.specs.List.{AllByRecursion}
 use Rattle.sap_tree.specs.Syntax.{DesignTree}
-use Rattle.sap_lattice.specs.Order.{Laws}
-use Rattle.sap_lattice.specs.Levels.{Levels, order_of}
+use Rattle.sap_lattice.specs.Prelude.{Laws, Levels, order_of}
 use Rattle.sap_shape.specs.WellFormed.{WellFormed}
-use Rattle.sap_meaning.specs.Program.{Program}
-use Rattle.sap_meaning.specs.State.{labelled_run}
-use Rattle.sap_meaning.specs.State.{StreamFits as StreamFitsPart}
-use Rattle.sap_meaning.specs.Fine.{FineProgram}
-use Rattle.sap_meaning.specs.Sized.{SizedProgram}
+use Rattle.sap_meaning.specs.Prelude.{Program, labelled_run, StreamFits as StreamFitsPart, FineProgram, SizedProgram}
 use Rattle.sap_resolved.specs.Fill.{program_of}
 use Rattle.sap_resolved.specs.Premises.Premises.{ProgramsAreFine}
 use Rattle.sap_resolved.specs.Sized.Sound.{SizesFit}

@@ -1,18 +1,9 @@
 -- "Stands for" through the names of an
-use Rattle.std.proofs.Common.{◌≡◌, ℕ, true, List, Some, refl, sym, ◌∙◌, ap}
-use Rattle.std.specs.Prelude.{◌||◌}
-use Rattle.sap_lemmas.proofs.Bools.{or_true}
-use Rattle.sap_maps.specs.Maps.{Name, Valuation}
-use Rattle.sap_maps.specs.Scope.{find}
-use Rattle.sap_meaning.specs.Program.{is_input, is_register, is_memory}
-use Rattle.sap_meaning.specs.Store.{Store, Refusal}
-use Rattle.sap_net.specs.Net.{Net}
-use Rattle.sap_net.specs.IsNetlist.{IsNetlist, readable, shapes}
-use Rattle.sap_net.specs.Laws.{AreSame}
-use Rattle.sap_net.specs.PortNames.{value_name, tag_name, refused_name, refused_level_name, seat_name, root_seat}
-use Rattle.sap_interface.specs.StandsFor.{Named, name, world, StandsFor}
-use Rattle.sap_interface.specs.Interface.{declared_by, DeclaresPart, HasSeat}
-use Rattle.sap_interface.specs.InterfaceNames.{holds_numbers, IsInterfaceName, value_of, tag_of, state_tag_of, child_of, child_of_root, refusal_of, level_of}
+use Rattle.sap_lemmas.proofs.Common.{◌≡◌, ℕ, true, List, Some, refl, sym, ◌∙◌, ap, ◌||◌, or_true}
+use Rattle.sap_maps.specs.Prelude.{Name, Valuation, find}
+use Rattle.sap_meaning.specs.Prelude.{is_input, is_register, is_memory, Store, Refusal}
+use Rattle.sap_net.specs.Prelude.{Net, IsNetlist, readable, shapes, AreSame, value_name, tag_name, refused_name, refused_level_name, seat_name, root_seat}
+use Rattle.sap_interface.specs.Prelude.{Named, name, world, StandsFor, declared_by, DeclaresPart, HasSeat, holds_numbers, IsInterfaceName, value_of, tag_of, state_tag_of, child_of, child_of_root, refusal_of, level_of}
 use Rattle.sap_build.specs.Copies.{through}
 use Rattle.sap_linked.proofs.Reading.{register_read, wire_read}
 

@@ -1,11 +1,7 @@
 -- Names of parts stay apart.
-use Rattle.std.proofs.Common.{◌≡◌, ℕ, true, false, not, [], ◌∷◌, ◌++◌, refl, sym, ap₂, subst, arith}
-use Rattle.std.specs.Prelude.{◌==◌, codes}
-use Rattle.std.specs.Str.{byte}
-use Rattle.std.proofs.lemmas.Bool.{and_parts}
+use Rattle.sap_lemmas.proofs.Common.{◌≡◌, ℕ, true, false, not, [], ◌∷◌, ◌++◌, refl, sym, ap₂, subst, arith, ◌==◌, codes, byte, and_parts}
 use Rattle.sap_maps.specs.Maps.{Name}
-use Rattle.sap_linked.specs.Parts.{has_no_underscore}
-use Rattle.sap_linked.specs.Laws.{NamesStayApart}
+use Rattle.sap_linked.specs.Prelude.{has_no_underscore, NamesStayApart}
 
 heads : {a b : ℕ} {xs ys : Name} → a ∷ xs ≡ b ∷ ys → a ≡ b
 heads e = cc

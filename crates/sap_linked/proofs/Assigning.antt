@@ -1,19 +1,12 @@
 -- The wires, registers and memories of the netlist of a system keep the rules of use and of widths.
-use Rattle.std.proofs.Common.{◌≡◌, ℕ, ◌<◌, true, List, ◌++◌, map, length, Some, None, refl, sym, ◌∙◌, ap, subst}
-use Rattle.std.specs.List.{AllByRecursion}
-use Rattle.sap_lemmas.proofs.Everywhere.{all_append, all_follow, all_of_map, all_parts, map_of_all}
-use Rattle.sap_maps.specs.Maps.{Name}
-use Rattle.sap_maps.specs.Scope.{Scope, find}
+use Rattle.sap_lemmas.proofs.Common.{◌≡◌, ℕ, ◌<◌, true, List, ◌++◌, map, length, Some, None, refl, sym, ◌∙◌, ap, subst, AllByRecursion, all_append, all_follow, all_of_map, all_parts, map_of_all}
+use Rattle.sap_maps.specs.Prelude.{Name, Scope, find}
 use Rattle.sap_lattice.specs.Codes.{Codes}
+use Rattle.sap_net.specs.Prelude.{is_among, is_name, AreDistinct, Net, Shapes, AreWires, IsRegister, IsMemory, readable_after, IsNetlist, first_readable, readable, shapes, top_name}
 use Rattle.sap_net.specs.declared.parts.Input.{Input}
 use Rattle.sap_net.specs.declared.parts.Wire.{Wire}
 use Rattle.sap_net.specs.declared.parts.Register.{Register}
 use Rattle.sap_net.specs.declared.parts.Memory.{Memory}
-use Rattle.sap_net.specs.Names.{is_among, is_name, AreDistinct}
-use Rattle.sap_net.specs.Net.{Net}
-use Rattle.sap_net.specs.Rules.{Shapes, AreWires, IsRegister, IsMemory, readable_after}
-use Rattle.sap_net.specs.IsNetlist.{IsNetlist, first_readable, readable, shapes}
-use Rattle.sap_net.specs.PortNames.{top_name}
 use Rattle.sap_net.proofs.NamesLemmas.{among_front, among_neither}
 use Rattle.sap_net.proofs.RulesLemmas.{operand_grows, readable_kept, wires_both, Grows}
 use Rattle.sap_net.proofs.Same.{all_found}
@@ -22,9 +15,7 @@ use Rattle.sap_build.specs.Laws.{CopiesAreNetlists}
 use Rattle.sap_build.proofs.Inserted.{GrowsIn}
 use Rattle.sap_build.proofs.Inside.{of_entries, of_readable}
 use Rattle.sap_link.specs.Systems.{WiresFit}
-use Rattle.sap_linked.specs.Parts.{NamedSystem, part_at, system_of, in_part, NamesFit}
-use Rattle.sap_linked.specs.Linking.{IsNetOf}
-use Rattle.sap_linked.specs.Netlist.{copies_of, feeds, linked_net}
+use Rattle.sap_linked.specs.Prelude.{NamedSystem, part_at, system_of, in_part, NamesFit, IsNetOf, copies_of, feeds, linked_net}
 use Rattle.sap_linked.proofs.EachInput.{at_inputs}
 use Rattle.sap_linked.proofs.Families.{whole_list}
 use Rattle.sap_linked.proofs.Feeding.{all_feeds, inputs_there, part_registers}

@@ -1,17 +1,10 @@
 -- The example, by computation.
-use Rattle.std.proofs.Common.{refl, lit<, lit≤, true, ◌++◌, ◌≡◌}
+use Rattle.sap_lemmas.proofs.Common.{refl, lit<, lit≤, true, ◌++◌, ◌≡◌, iff_same, all_of_test}
 use Rattle.std.specs.Fmt.{digits}
-use Rattle.sap_lemmas.proofs.Bools.{iff_same}
-use Rattle.sap_lemmas.proofs.Everywhere.{all_of_test}
-use Rattle.sap_lattice.specs.Codes.{code_of, meet_irreducibles}
-use Rattle.sap_lattice.specs.Levels.{order_of, order_by}
-use Rattle.sap_net.specs.Names.{is_among, is_name}
-use Rattle.sap_net.specs.Net.{Net}
-use Rattle.sap_net.specs.IsNetlist.{input_names, memory_names, register_names, wire_names}
-use Rattle.sap_net.specs.Rules.{IsWidth}
+use Rattle.sap_lattice.specs.Prelude.{code_of, meet_irreducibles, order_of, order_by}
+use Rattle.sap_net.specs.Prelude.{is_among, is_name, Net, input_names, memory_names, register_names, wire_names, IsWidth}
 use Rattle.sap_net.proofs.NamesLemmas.{among_each}
-use Rattle.sap_linked.specs.Netlist.{linked_net}
-use Rattle.sap_linked.specs.Examples.{p_and_q, simple_nets, PortsInOrder, LinkedIsNetlist}
+use Rattle.sap_linked.specs.Prelude.{linked_net, p_and_q, simple_nets, PortsInOrder, LinkedIsNetlist}
 
 pub ports_in_order : PortsInOrder
 unfolding digits order_of order_by

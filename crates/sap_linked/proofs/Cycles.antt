@@ -1,26 +1,11 @@
 -- The cycles of a netlist that stands for a design, one after another.
-use Rattle.std.proofs.Common.{◌≡◌, ℕ, true, List, [], ◌∷◌, map, Option, Some, None, sym, ap, ◌∙◌, inl, inr}
-use Rattle.std.specs.Prelude.{unwrap_or}
-use Rattle.std.specs.Str.{bytes_eq}
-use Rattle.std.specs.List.{AllByRecursion}
-use Rattle.std.proofs.lemmas.Bool.{cases_Bool}
-use Rattle.sap_lemmas.proofs.Texts.{equal_of_bytes_eq}
-use Rattle.sap_maps.specs.Maps.{Name, Valuation}
-use Rattle.sap_maps.specs.Scope.{find}
-use Rattle.sap_meaning.specs.Program.{is_register}
-use Rattle.sap_meaning.specs.Store.{Store, own, number, level, Refusal}
-use Rattle.sap_meaning.specs.Cycle.{Tagged, cycle, run_from}
-use Rattle.sap_meaning.specs.State.{InputsFit, StreamFits, first}
+use Rattle.sap_lemmas.proofs.Common.{◌≡◌, ℕ, true, List, [], ◌∷◌, map, Option, Some, None, sym, ap, ◌∙◌, inl, inr, unwrap_or, bytes_eq, AllByRecursion, cases_Bool, equal_of_bytes_eq}
+use Rattle.sap_maps.specs.Prelude.{Name, Valuation, find}
+use Rattle.sap_meaning.specs.Prelude.{is_register, Store, own, number, level, Refusal, Tagged, cycle, run_from, InputsFit, StreamFits, first}
+use Rattle.sap_net.specs.Prelude.{Net, operand_value, IsNetlist, Begins, IsCycle, IsRunAfter, observed, value_name, tag_name}
 use Rattle.sap_net.specs.declared.parts.Register.{Register}
-use Rattle.sap_net.specs.Net.{Net}
-use Rattle.sap_net.specs.Values.{operand_value}
-use Rattle.sap_net.specs.IsNetlist.{IsNetlist}
-use Rattle.sap_net.specs.Runs.{Begins, IsCycle, IsRunAfter, observed}
-use Rattle.sap_net.specs.PortNames.{value_name, tag_name}
 use Rattle.sap_net.proofs.Observed.{observed_registers}
-use Rattle.sap_interface.specs.StandsFor.{Named, name, world, StandsFor}
-use Rattle.sap_interface.specs.Interface.{declared_by, DeclaresPart}
-use Rattle.sap_interface.specs.Compiled.{coded, coded_stream, CyclesStand, NetStartsAs}
+use Rattle.sap_interface.specs.Prelude.{Named, name, world, StandsFor, declared_by, DeclaresPart, coded, coded_stream, CyclesStand, NetStartsAs}
 use Rattle.sap_linked.proofs.Reading.{at_name}
 
 -- from the cycle `before` on, each cycle stands for one from the state s on

@@ -1,18 +1,11 @@
 -- What a whole declares of a part.
-use Rattle.std.proofs.Common.{◌≡◌, ℕ, List, [], ◌∷◌, map, Some, ap, subst, inl, inr}
-use Rattle.std.specs.Str.{bytes_eq}
-use Rattle.std.proofs.lemmas.Bool.{cases_Bool}
-use Rattle.sap_lemmas.proofs.Everywhere.{all_follow, map_of_all}
-use Rattle.sap_maps.specs.Maps.{Name}
-use Rattle.sap_maps.specs.Scope.{find}
+use Rattle.sap_lemmas.proofs.Common.{◌≡◌, ℕ, List, [], ◌∷◌, map, Some, ap, subst, inl, inr, bytes_eq, cases_Bool, all_follow, map_of_all}
+use Rattle.sap_maps.specs.Prelude.{Name, find}
+use Rattle.sap_net.specs.Prelude.{Net, value_name, tag_name, refused_name, refused_level_name, seat_name, root_seat}
 use Rattle.sap_net.specs.declared.parts.Wire.{Wire}
 use Rattle.sap_net.specs.declared.parts.Register.{Register}
 use Rattle.sap_net.specs.declared.parts.Memory.{Memory}
-use Rattle.sap_net.specs.Net.{Net}
-use Rattle.sap_net.specs.PortNames.{value_name, tag_name, refused_name, refused_level_name, seat_name, root_seat}
-use Rattle.sap_interface.specs.StandsFor.{Named, name}
-use Rattle.sap_interface.specs.Interface.{declared_by, DeclaresPart, HasSeat}
-use Rattle.sap_interface.specs.InterfaceNames.{IsInterfaceName, value_of, tag_of, state_tag_of, child_of, child_of_root, refusal_of, level_of}
+use Rattle.sap_interface.specs.Prelude.{Named, name, declared_by, DeclaresPart, HasSeat, IsInterfaceName, value_of, tag_of, state_tag_of, child_of, child_of_root, refusal_of, level_of}
 use Rattle.sap_build.specs.Copies.{copy_wire, copy_register, copy_memory}
 use Rattle.sap_build.specs.Parts.{IsPart}
 use Rattle.sap_build.proofs.Inside.{of_entries}

@@ -1,29 +1,17 @@
 -- The netlist of a system declares the system's interface.
-use Rattle.std.proofs.Common.{◌≡◌, ℕ, ◌<◌, not, List, [], ◌∷◌, ◌++◌, map, filter, length, take, Some, refl, sym, ap, subst}
-use Rattle.std.specs.List.{AllByRecursion}
-use Rattle.std.proofs.lemmas.Bool.{and_parts}
-use Rattle.sap_lemmas.proofs.Everywhere.{all_append, all_filter, all_follow, all_of_map, all_parts}
-use Rattle.sap_maps.specs.Maps.{Name}
-use Rattle.sap_maps.specs.Scope.{find}
+use Rattle.sap_lemmas.proofs.Common.{◌≡◌, ℕ, ◌<◌, not, List, [], ◌∷◌, ◌++◌, map, filter, length, take, Some, refl, sym, ap, subst, AllByRecursion, and_parts, all_append, all_filter, all_follow, all_of_map, all_parts}
+use Rattle.sap_maps.specs.Prelude.{Name, find}
 use Rattle.sap_lattice.specs.Codes.{width_of}
 use Rattle.sap_meaning.specs.Program.{is_input}
+use Rattle.sap_net.specs.Prelude.{is_among, Net, IsNetlist}
 use Rattle.sap_net.specs.declared.parts.Port.{Port}
 use Rattle.sap_net.specs.declared.parts.Wire.{Wire}
 use Rattle.sap_net.specs.declared.parts.Register.{Register}
 use Rattle.sap_net.specs.declared.parts.Memory.{Memory}
-use Rattle.sap_net.specs.Names.{is_among}
-use Rattle.sap_net.specs.Net.{Net}
-use Rattle.sap_net.specs.IsNetlist.{IsNetlist}
-use Rattle.sap_interface.specs.StandsFor.{Named, world}
-use Rattle.sap_interface.specs.Interface.{Shown, declared_by, DeclaresPart, HasInterface}
-use Rattle.sap_interface.specs.InterfaceNames.{IsInterfaceName}
+use Rattle.sap_interface.specs.Prelude.{Named, world, Shown, declared_by, DeclaresPart, HasInterface, IsInterfaceName}
 use Rattle.sap_build.specs.Copies.{copy_wire, copy_register, copy_memory}
 use Rattle.sap_link.specs.Systems.{endpoint, System, is_fed, free_inputs}
-use Rattle.sap_linked.specs.Parts.{Part, NamedSystem, part_at, system_of, in_part}
-use Rattle.sap_linked.specs.Linking.{IsNetOf}
-use Rattle.sap_linked.specs.Interface.{linked_ports, fed_inputs, IsPartName, DeclaresLinkedPart, DeclaresSystem}
-use Rattle.sap_linked.specs.Netlist.{feeds, copies_of, shown_names, linked_net, without_fed}
-use Rattle.sap_linked.specs.Laws.{LinkedNetDeclares}
+use Rattle.sap_linked.specs.Prelude.{Part, NamedSystem, part_at, system_of, in_part, IsNetOf, linked_ports, fed_inputs, IsPartName, DeclaresLinkedPart, DeclaresSystem, feeds, copies_of, shown_names, linked_net, without_fed, LinkedNetDeclares}
 use Rattle.sap_linked.proofs.Own.{inputs_found, wires_own}
 use Rattle.sap_linked.proofs.Fed.{of_free, of_fed}
 use Rattle.sap_linked.proofs.EachInput.{free_ends, fed_ends, AtEnd}

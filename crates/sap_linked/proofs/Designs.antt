@@ -1,6 +1,5 @@
 -- The netlists of well-formed designs are what the law of linked netlists asks for.
-use Rattle.std.proofs.Common.{◌≡◌, ℕ, zero, suc, ◌<◌, List, [], ◌∷◌, map, get_or, length, Some, refl, ap, subst, arith}
-use Rattle.std.specs.Prelude.{slice_get}
+use Rattle.sap_lemmas.proofs.Common.{◌≡◌, ℕ, zero, suc, ◌<◌, List, [], ◌∷◌, map, get_or, length, Some, refl, ap, subst, arith, slice_get}
 use Rattle.sap_lattice.specs.Levels.{Levels, order_of}
 use Rattle.sap_meaning.specs.Program.{Program}
 use Rattle.sap_net.specs.Net.{Net}
@@ -8,10 +7,7 @@ use Rattle.sap_resolved.specs.Fill.{program_of}
 use Rattle.sap_link.specs.Systems.{Wire, System, WiresFit}
 use Rattle.sap_link.specs.Laws.{FineSystem, SizedSystem}
 use Rattle.sap_link.specs.Designs.{linked, LinkedDesignsServe}
-use Rattle.sap_linked.specs.Parts.{Part, no_part, system_of}
-use Rattle.sap_linked.specs.Linking.{IsNetOf}
-use Rattle.sap_linked.specs.Laws.{LinkedNetIsNetlist, LinkedNetsStand}
-use Rattle.sap_linked.specs.Designs.{NamedDesign, part_of, trees, named_system, IsNetOfDesign, LinkedDesignsAreNetlists, LinkedDesignsStand}
+use Rattle.sap_linked.specs.Prelude.{Part, no_part, system_of, IsNetOf, LinkedNetIsNetlist, LinkedNetsStand, NamedDesign, part_of, trees, named_system, IsNetOfDesign, LinkedDesignsAreNetlists, LinkedDesignsStand}
 
 same_programs : (ls : Levels) (ds : List NamedDesign) → map (program_of ls) (trees ds) ≡ map (λ (p : Part). p.design.program) (map (part_of ls) ds)
 same_programs ls [] = refl

@@ -1,34 +1,21 @@
 -- No two inputs, wires, registers or memories of the netlist of a system have one name.
-use Rattle.std.proofs.Common.{◌≡◌, ◌⊎◌, ℕ, ◌<◌, ◌≤◌, true, List, [], ◌∷◌, ◌++◌, length, refl, sym, ◌∙◌, ap, ap₂, subst, inl, inr, arith}
-use Rattle.std.specs.List.{AllByRecursion}
-use Rattle.std.specs.Str.{byte}
-use Rattle.std.specs.Prelude.{Bool, not}
-use Rattle.std.proofs.lemmas.Bool.{and_parts, cases_Bool}
-use Rattle.sap_lemmas.proofs.Lists.{length_map}
+use Rattle.sap_lemmas.proofs.Common.{◌≡◌, ◌⊎◌, ℕ, ◌<◌, ◌≤◌, true, List, [], ◌∷◌, ◌++◌, length, refl, sym, ◌∙◌, ap, ap₂, subst, inl, inr, arith, AllByRecursion, byte, Bool, not, and_parts, cases_Bool, length_map}
 use Rattle.sap_maps.specs.Maps.{Name}
 use Rattle.sap_lattice.specs.Codes.{width_of}
 use Rattle.sap_meaning.specs.Program.{is_input}
+use Rattle.sap_net.specs.Prelude.{is_among, AreDistinct, Net, first_readable, input_names, memory_names, names_of, register_names, shapes, wire_names, value_name, tag_name}
 use Rattle.sap_net.specs.declared.parts.Wire.{Wire}
 use Rattle.sap_net.specs.declared.parts.Register.{Register}
 use Rattle.sap_net.specs.declared.parts.Memory.{Memory}
-use Rattle.sap_net.specs.Names.{is_among, AreDistinct}
-use Rattle.sap_net.specs.Net.{Net}
-use Rattle.sap_net.specs.IsNetlist.{first_readable, input_names, memory_names, names_of, register_names, shapes, wire_names}
 use Rattle.sap_net.proofs.NamesLemmas.{distinct_both, filter_distinct}
 use Rattle.sap_net.proofs.RulesLemmas.{wires_distinct}
-use Rattle.sap_net.specs.PortNames.{value_name, tag_name}
 use Rattle.sap_net.specs.declared.parts.PortKind.TheVariants as kind
 use Rattle.sap_interface.specs.StandsFor.{Named, name, world}
 use Rattle.sap_build.specs.Copies.{copy_wire, copy_register, copy_memory}
 use Rattle.sap_build.proofs.Found.{memories_among, registers_among, wires_among}
 use Rattle.sap_link.specs.Systems.{Endpoint, endpoint, is_fed, same_endpoint, WiresFit, Connects}
 use Rattle.sap_link.specs.Systems.{Wire as SystemWire}
-use Rattle.sap_linked.specs.Parts.{Part, NamedSystem, part_at, system_of, in_part, NamesFit}
-use Rattle.sap_linked.specs.Linking.{IsNetOf}
-use Rattle.sap_linked.specs.Netlist.{copies_of, feeds, linked_net}
-use Rattle.sap_linked.specs.Laws.{InputsInOrder, AllNamesDiffer}
-use Rattle.sap_linked.specs.Interface.{is_free}
-use Rattle.sap_linked.specs.Standing.{names_of_inputs}
+use Rattle.sap_linked.specs.Prelude.{Part, NamedSystem, part_at, system_of, in_part, NamesFit, IsNetOf, copies_of, feeds, linked_net, InputsInOrder, AllNamesDiffer, is_free, names_of_inputs}
 use Rattle.sap_linked.proofs.Ends.{end_apart, feeds_distinct, interface_at, of_feeds, one_end, pairs_distinct, AllTo, IsEnd, IsInput}
 use Rattle.sap_linked.proofs.Families.{copies_distinct, copies_named, map_both, meets, named_copies, of_among, whole_list}
 use Rattle.sap_linked.proofs.Entities.{names_of_pairs, of_pair, still_distinct}

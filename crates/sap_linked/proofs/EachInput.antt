@@ -1,24 +1,16 @@
 -- What holds of all free inputs and of all that feeds holds of each input of a part.
-use Rattle.std.proofs.Common.{◌≡◌, ℕ, true, List, [], ◌∷◌, map, Option, Some, None, sym, subst}
-use Rattle.std.specs.List.{AllByRecursion}
-use Rattle.sap_lemmas.proofs.Everywhere.{all_of_map, all_parts}
-use Rattle.sap_lemmas.proofs.Options.{some_unique}
-use Rattle.sap_maps.specs.Maps.{Name}
-use Rattle.sap_maps.specs.Scope.{find}
+use Rattle.sap_lemmas.proofs.Common.{◌≡◌, ℕ, true, List, [], ◌∷◌, map, Option, Some, None, sym, subst, AllByRecursion, all_of_map, all_parts, some_unique}
+use Rattle.sap_maps.specs.Prelude.{Name, find}
 use Rattle.sap_lattice.specs.Codes.{width_of}
 use Rattle.sap_meaning.specs.Program.{is_input, width}
 use Rattle.sap_net.specs.declared.parts.PortKind.TheVariants as kind
+use Rattle.sap_net.specs.Net.{Net}
 use Rattle.sap_net.specs.declared.parts.Input.{Input}
 use Rattle.sap_net.specs.declared.parts.Wire.{Wire}
-use Rattle.sap_net.specs.Net.{Net}
-use Rattle.sap_interface.specs.StandsFor.{Named, world}
-use Rattle.sap_interface.specs.Compiled.{NetStandsFor}
+use Rattle.sap_interface.specs.Prelude.{Named, world, NetStandsFor}
 use Rattle.sap_link.specs.Systems.{Endpoint, endpoint, System, width_at, free_inputs}
 use Rattle.sap_link.specs.Systems.{Wire as SystemWire, world as world_at}
-use Rattle.sap_linked.specs.Parts.{NamedSystem, part_at, system_of, in_part, value_at, tag_at}
-use Rattle.sap_linked.specs.Linking.{IsNetOf, inputs_for}
-use Rattle.sap_linked.specs.Standing.{names_of_inputs}
-use Rattle.sap_linked.specs.Netlist.{feeds_through, feeds}
+use Rattle.sap_linked.specs.Prelude.{NamedSystem, part_at, system_of, in_part, value_at, tag_at, IsNetOf, inputs_for, names_of_inputs, feeds_through, feeds}
 use Rattle.sap_linked.proofs.Own.{both, inputs_found}
 use Rattle.sap_linked.proofs.Fed.{each_input}
 use Rattle.sap_linked.proofs.Inputs.{input_names_are}

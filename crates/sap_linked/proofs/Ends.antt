@@ -1,32 +1,19 @@
 -- The names of inputs, free and fed, in the netlist of a system.
-use Rattle.std.proofs.Common.{◌≡◌, ◌⊎◌, ℕ, ◌+◌, ◌<◌, ◌≤◌, true, false, List, [], ◌∷◌, ◌++◌, map, length, Option, Some, None, refl, sym, ◌∙◌, ap, ap₂, subst, inl, inr, arith}
-use Rattle.std.specs.List.{AllByRecursion}
-use Rattle.std.specs.Str.{byte, bytes_eq}
-use Rattle.std.proofs.lemmas.Bool.{cases_Bool, or_cases}
-use Rattle.sap_lemmas.proofs.Texts.{equal_of_bytes_eq}
-use Rattle.sap_maps.specs.Maps.{Name}
-use Rattle.sap_maps.specs.Scope.{Scope, find}
+use Rattle.sap_lemmas.proofs.Common.{◌≡◌, ◌⊎◌, ℕ, ◌+◌, ◌<◌, ◌≤◌, true, false, List, [], ◌∷◌, ◌++◌, map, length, Option, Some, None, refl, sym, ◌∙◌, ap, ap₂, subst, inl, inr, arith, AllByRecursion, byte, bytes_eq, cases_Bool, or_cases, equal_of_bytes_eq}
+use Rattle.sap_maps.specs.Prelude.{Name, Scope, find}
 use Rattle.sap_maps.proofs.Scopes.{not_behind, not_first}
 use Rattle.sap_lattice.specs.Codes.{width_of}
 use Rattle.sap_meaning.specs.Program.{is_input}
 use Rattle.sap_net.specs.declared.parts.PortKind.TheVariants as kind
+use Rattle.sap_net.specs.Prelude.{is_among, AreDistinct, Net, Shapes, AreValues, input_names, names_of, shapes, value_name, tag_name}
 use Rattle.sap_net.specs.declared.parts.Input.{Input}
 use Rattle.sap_net.specs.declared.parts.Wire.{Wire}
 use Rattle.sap_net.specs.declared.parts.Register.{Register}
-use Rattle.sap_net.specs.Names.{is_among, AreDistinct}
-use Rattle.sap_net.specs.Net.{Net}
-use Rattle.sap_net.specs.Rules.{Shapes, AreValues}
-use Rattle.sap_net.specs.IsNetlist.{input_names, names_of, shapes}
-use Rattle.sap_net.specs.PortNames.{value_name, tag_name}
 use Rattle.sap_net.proofs.NamesLemmas.{among_append, distinct_both, found_among}
-use Rattle.sap_interface.specs.StandsFor.{Named, name, world}
-use Rattle.sap_interface.specs.Interface.{HasInterface}
+use Rattle.sap_interface.specs.Prelude.{Named, name, world, HasInterface}
 use Rattle.sap_link.specs.Systems.{Endpoint, endpoint, same_endpoint, System, feeding, FedOnce}
 use Rattle.sap_link.specs.Systems.{Wire as SystemWire, world as world_at}
-use Rattle.sap_linked.specs.Parts.{NamedSystem, part_at, system_of, in_part, NamesFit}
-use Rattle.sap_linked.specs.Linking.{IsNetOf}
-use Rattle.sap_linked.specs.Standing.{names_of_inputs}
-use Rattle.sap_linked.specs.Netlist.{feeds_through, feeds}
+use Rattle.sap_linked.specs.Prelude.{NamedSystem, part_at, system_of, in_part, NamesFit, IsNetOf, names_of_inputs, feeds_through, feeds}
 use Rattle.sap_linked.proofs.Entities.{compared, differ, input_low}
 use Rattle.sap_linked.proofs.Families.{Behind, map_both, one_part}
 use Rattle.sap_linked.proofs.Inputs.{input_names_are}
@@ -45,9 +32,6 @@ values_distinct ms (e ∷ es) a = (none_among es e.0 a.1, values_distinct ms es 
 names_twice : (is : List Input) → map (λ (e : Name × ℕ). e.0) (map {B = Name × ℕ} (λ (i : Input). (i.name, i.width)) is) ≡ map (λ (i : Input). i.name) is
 names_twice [] = refl
 names_twice (i ∷ is) = ap (λ (ns : List Name). i.name ∷ ns) (names_twice is)
-
-heads : {a b : ℕ} {xs ys : Name} → a ∷ xs ≡ b ∷ ys → a ≡ b
-heads e = cc
 
 tails : {a b : ℕ} {xs ys : Name} → a ∷ xs ≡ b ∷ ys → xs ≡ ys
 tails e = cc

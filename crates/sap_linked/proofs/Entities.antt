@@ -1,18 +1,11 @@
 -- The names of the inputs of a design differ.
-use Rattle.std.proofs.Common.{◌≡◌, ◌⊎◌, ℕ, zero, suc, ◌+◌, ◌<◌, Bool, true, false, List, [], ◌∷◌, map, get_or, length, refl, sym, ◌∙◌, ap, subst, inl, inr, arith}
-use Rattle.std.specs.List.{AllByRecursion}
-use Rattle.std.specs.Str.{bytes_eq}
-use Rattle.std.proofs.lemmas.Bool.{cases_Bool, or_cases, or_right}
-use Rattle.sap_lemmas.proofs.Bools.{neither_right}
-use Rattle.sap_lemmas.proofs.Texts.{equal_of_bytes_eq}
+use Rattle.sap_lemmas.proofs.Common.{◌≡◌, ◌⊎◌, ℕ, zero, suc, ◌+◌, ◌<◌, Bool, true, false, List, [], ◌∷◌, map, get_or, length, refl, sym, ◌∙◌, ap, subst, inl, inr, arith, AllByRecursion, bytes_eq, cases_Bool, or_cases, or_right, neither_right, equal_of_bytes_eq}
 use Rattle.sap_maps.specs.Maps.{Name}
 use Rattle.sap_meaning.specs.Program.{Entity, nothing, kind_is_input}
+use Rattle.sap_net.specs.Prelude.{is_among, AreDistinct, value_name, tag_name}
 use Rattle.sap_net.specs.declared.parts.PortKind.{PortKind}
-use Rattle.sap_net.specs.Names.{is_among, AreDistinct}
-use Rattle.sap_net.specs.PortNames.{value_name, tag_name}
 use Rattle.sap_net.proofs.NamesLemmas.{among_behind, among_here}
-use Rattle.sap_interface.specs.StandsFor.{Named, name}
-use Rattle.sap_interface.specs.Interface.{Shown, pairs_of}
+use Rattle.sap_interface.specs.Prelude.{Named, name, Shown, pairs_of}
 use Rattle.sap_linked.proofs.Parted.{contradicted}
 
 pub input_low : (es : List Entity) (x : ℕ) → kind_is_input (get_or es x nothing).kind ≡ true → x < length es

@@ -1,14 +1,10 @@
 -- Names of copies: which they are, and that they differ.
-use Rattle.std.proofs.Common.{◌≡◌, ℕ, suc, ◌+◌, ◌<◌, ◌≤◌, true, false, List, [], ◌∷◌, ◌++◌, map, get_or, length, refl, sym, ◌∙◌, ap, subst, inl, inr, arith}
-use Rattle.std.specs.Str.{bytes_eq}
-use Rattle.std.proofs.lemmas.Bool.{cases_Bool, or_cases}
-use Rattle.sap_lemmas.proofs.Texts.{equal_of_bytes_eq}
+use Rattle.sap_lemmas.proofs.Common.{◌≡◌, ℕ, suc, ◌+◌, ◌<◌, ◌≤◌, true, false, List, [], ◌∷◌, ◌++◌, map, get_or, length, refl, sym, ◌∙◌, ap, subst, inl, inr, arith, bytes_eq, cases_Bool, or_cases, equal_of_bytes_eq}
 use Rattle.sap_maps.specs.Maps.{Name}
 use Rattle.sap_net.specs.Names.{is_among, AreDistinct}
 use Rattle.sap_net.proofs.NamesLemmas.{among_append, among_behind, among_front, among_here, distinct_both}
 use Rattle.sap_build.proofs.Copied.{among_copied}
-use Rattle.sap_linked.specs.Parts.{Part, NamedSystem, no_part, part_at, in_part, NamesFit}
-use Rattle.sap_linked.specs.Netlist.{copies_of}
+use Rattle.sap_linked.specs.Prelude.{Part, NamedSystem, no_part, part_at, in_part, NamesFit, copies_of}
 use Rattle.sap_linked.proofs.Apart.{stay_apart}
 use Rattle.sap_linked.proofs.Entities.{compared}
 

@@ -1,20 +1,13 @@
 -- What the inputs of parts have in a cycle of the whole.
-use Rattle.std.proofs.Common.{◌≡◌, ℕ, zero, suc, ◌+◌, Bool, true, not, List, [], ◌∷◌, map, filter, get_or, length, Option, Some, None, is_some, if◌then◌else◌, refl, sym, ◌∙◌, ap, ap₂, subst, inl, inr, arith}
-use Rattle.std.specs.List.{AllByRecursion}
-use Rattle.std.proofs.lemmas.Bool.{cases_Bool}
-use Rattle.sap_lemmas.proofs.Everywhere.{all_parts}
+use Rattle.sap_lemmas.proofs.Common.{◌≡◌, ℕ, zero, suc, ◌+◌, Bool, true, not, List, [], ◌∷◌, map, filter, get_or, length, Option, Some, None, is_some, if◌then◌else◌, refl, sym, ◌∙◌, ap, ap₂, subst, inl, inr, arith, AllByRecursion, cases_Bool, all_parts}
 use Rattle.sap_maps.specs.Maps.{Valuation}
-use Rattle.sap_lattice.specs.Order.{Order}
-use Rattle.sap_lattice.specs.Codes.{Codes, code_of}
-use Rattle.sap_meaning.specs.Program.{Entity, Program, nothing, kind_is_input, is_input}
-use Rattle.sap_meaning.specs.Cycle.{Tagged}
-use Rattle.sap_meaning.specs.State.{AllFit}
+use Rattle.sap_lattice.specs.Prelude.{Order, Codes, code_of}
+use Rattle.sap_meaning.specs.Prelude.{Entity, Program, nothing, kind_is_input, is_input, Tagged, AllFit}
 use Rattle.sap_net.specs.Runs.{InputsAre}
 use Rattle.sap_interface.specs.Compiled.{coded}
 use Rattle.sap_link.specs.Systems.{Endpoint, endpoint, Wire, System, no_part, same_endpoint, feeding, is_fed, inputs_from, inputs_of, free_inputs, world}
 use Rattle.sap_link.specs.Composites.{CompositeState, content_at, let_through, carried, received}
-use Rattle.sap_linked.specs.Parts.{NamedSystem, system_of, value_at, tag_at}
-use Rattle.sap_linked.specs.Linking.{through_level, Carries, inputs_for}
+use Rattle.sap_linked.specs.Prelude.{NamedSystem, system_of, value_at, tag_at, through_level, Carries, inputs_for}
 
 -- an endpoint has a number, and the code of a level
 abbrev pub Has : NamedSystem → Valuation → Endpoint → Tagged → Type 0

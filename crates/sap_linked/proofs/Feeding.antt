@@ -1,20 +1,13 @@
 -- The wires that feed keep the rules of netlists.
-use Rattle.std.proofs.Common.{◌≡◌, ℕ, ◌<◌, true, not, List, [], ◌∷◌, ◌++◌, map, filter, length, Option, Some, None, refl, ◌∙◌, ap, subst}
-use Rattle.std.specs.List.{AllByRecursion}
+use Rattle.sap_lemmas.proofs.Common.{◌≡◌, ℕ, ◌<◌, true, not, List, [], ◌∷◌, ◌++◌, map, filter, length, Option, Some, None, refl, ◌∙◌, ap, subst, AllByRecursion, all_follow, all_of_map, all_parts, map_of_all}
 use Rattle.std.proofs.lemmas.Nat.{pow_pos}
-use Rattle.sap_lemmas.proofs.Everywhere.{all_follow, all_of_map, all_parts, map_of_all}
-use Rattle.sap_maps.specs.Maps.{Name}
-use Rattle.sap_maps.specs.Scope.{Scope, find}
+use Rattle.sap_maps.specs.Prelude.{Name, Scope, find}
 use Rattle.sap_maps.proofs.Scopes.{found_here}
 use Rattle.sap_lattice.specs.Codes.{width_of, Codes}
+use Rattle.sap_net.specs.Prelude.{is_among, AreDistinct, Net, Shapes, AreWires, IsWidth, readable_after, first_readable, names_of, shapes, value_name, tag_name}
 use Rattle.sap_net.specs.declared.parts.Input.{Input}
 use Rattle.sap_net.specs.declared.parts.Wire.{Wire}
 use Rattle.sap_net.specs.declared.parts.Register.{Register}
-use Rattle.sap_net.specs.Names.{is_among, AreDistinct}
-use Rattle.sap_net.specs.Net.{Net}
-use Rattle.sap_net.specs.Rules.{Shapes, AreWires, IsWidth, readable_after}
-use Rattle.sap_net.specs.IsNetlist.{first_readable, names_of, shapes}
-use Rattle.sap_net.specs.PortNames.{value_name, tag_name}
 use Rattle.sap_net.proofs.NamesLemmas.{among_behind, among_front, among_here}
 use Rattle.sap_net.proofs.RulesLemmas.{one_wide, readable_kept, values_found, wires_both, Grows}
 use Rattle.sap_interface.specs.StandsFor.{name}
@@ -22,9 +15,7 @@ use Rattle.sap_build.specs.Copies.{copy_register}
 use Rattle.sap_build.proofs.Inside.{of_entries}
 use Rattle.sap_link.specs.Systems.{Connects, System, width_at, WiresFit}
 use Rattle.sap_link.specs.Systems.{Wire as SystemWire}
-use Rattle.sap_linked.specs.Parts.{NamedSystem, part_at, system_of, in_part, value_at, tag_at, NamesFit}
-use Rattle.sap_linked.specs.Linking.{IsNetOf}
-use Rattle.sap_linked.specs.Netlist.{below_at, feeds, feeds_through, joined_at, linked_net, shown_names}
+use Rattle.sap_linked.specs.Prelude.{NamedSystem, part_at, system_of, in_part, value_at, tag_at, NamesFit, IsNetOf, below_at, feeds, feeds_through, joined_at, linked_net, shown_names}
 use Rattle.sap_linked.proofs.Differing.{is_low}
 use Rattle.sap_linked.proofs.Ends.{interface_at}
 use Rattle.sap_linked.proofs.Families.{map_both}

@@ -1,19 +1,12 @@
 -- The registers and memories of the netlist of a system stand in the order of its names.
-use Rattle.std.proofs.Common.{◌≡◌, ℕ, suc, Bool, true, false, not, ◌<◌, List, [], ◌∷◌, ◌++◌, map, filter, length, take, drop, refl, sym, ◌∙◌, ap, ap₂, subst, inl, inr, arith}
-use Rattle.std.proofs.lemmas.Bool.{and_parts}
-use Rattle.std.proofs.lemmas.List.{append-nil, take-append-drop}
-use Rattle.std.proofs.lemmas.List.Elements.{filter-append}
+use Rattle.sap_lemmas.proofs.Common.{◌≡◌, ℕ, suc, Bool, true, false, not, ◌<◌, List, [], ◌∷◌, ◌++◌, map, filter, length, take, drop, refl, sym, ◌∙◌, ap, ap₂, subst, inl, inr, arith, and_parts, append-nil, take-append-drop, filter-append}
 use Rattle.sap_maps.specs.Maps.{Name}
+use Rattle.sap_net.specs.Prelude.{is_among, AreDistinct, Net, register_names}
 use Rattle.sap_net.specs.declared.parts.Register.{Register}
-use Rattle.sap_net.specs.Names.{is_among, AreDistinct}
-use Rattle.sap_net.specs.Net.{Net}
-use Rattle.sap_net.specs.IsNetlist.{register_names}
 use Rattle.sap_net.proofs.NamesLemmas.{among_behind, among_front, distinct_both, filter_among, filter_distinct}
 use Rattle.sap_interface.specs.Interface.{site_ports}
 use Rattle.sap_link.specs.Systems.{WiresFit}
-use Rattle.sap_linked.specs.Parts.{Part, NamedSystem, part_at, system_of, in_part, NamesFit}
-use Rattle.sap_linked.specs.Linking.{IsNetOf}
-use Rattle.sap_linked.specs.Netlist.{linked_net, shown_names}
+use Rattle.sap_linked.specs.Prelude.{Part, NamedSystem, part_at, system_of, in_part, NamesFit, IsNetOf, linked_net, shown_names}
 use Rattle.sap_linked.proofs.Differing.{registers_in, registers_long}
 use Rattle.sap_linked.proofs.Families.{among_copies, later, map_both, named_copies, of_among, of_map, one_part, this, whole_list, Suffix}
 use Rattle.sap_linked.proofs.Inputs.{input_names_are}

@@ -1,21 +1,12 @@
 -- The inputs of a netlist that has a design's interface, in order.
-use Rattle.std.proofs.Common.{◌≡◌, ℕ, zero, suc, ◌+◌, List, [], ◌∷◌, ◌++◌, Bool, true, false, map, get_or, filter, sym, ap, ap₂, ◌∙◌, refl, if◌then◌else◌, inl, inr, arith}
-use Rattle.std.proofs.lemmas.Bool.{cases_Bool}
-use Rattle.std.proofs.lemmas.List.{append-nil}
-use Rattle.sap_lemmas.proofs.Numbers.{one_more}
+use Rattle.sap_lemmas.proofs.Common.{◌≡◌, ℕ, zero, suc, ◌+◌, List, [], ◌∷◌, ◌++◌, Bool, true, false, map, get_or, filter, sym, ap, ap₂, ◌∙◌, refl, if◌then◌else◌, inl, inr, arith, cases_Bool, append-nil, one_more}
 use Rattle.sap_maps.specs.Maps.{Name, Valuation}
-use Rattle.sap_meaning.specs.Program.{Entity, nothing, kind_is_input, is_input, is_register}
-use Rattle.sap_meaning.specs.Cycle.{Tagged}
+use Rattle.sap_meaning.specs.Prelude.{Entity, nothing, kind_is_input, is_input, is_register, Tagged}
 use Rattle.sap_net.specs.declared.parts.PortKind.TheVariants as kind
+use Rattle.sap_net.specs.Prelude.{Net, IsNetlist, input_names, is_input as is_input_port, value_name, tag_name}
 use Rattle.sap_net.specs.declared.parts.Port.{Port}
 use Rattle.sap_net.specs.declared.parts.Input.{Input}
-use Rattle.sap_net.specs.Net.{Net}
-use Rattle.sap_net.specs.IsNetlist.{IsNetlist, input_names}
-use Rattle.sap_net.specs.IsNetlist.{is_input as is_input_port}
-use Rattle.sap_net.specs.PortNames.{value_name, tag_name}
-use Rattle.sap_interface.specs.StandsFor.{Named, name, world}
-use Rattle.sap_interface.specs.Interface.{Shown, pairs_of, site_ports, ports_of}
-use Rattle.sap_interface.specs.Compiled.{coded}
+use Rattle.sap_interface.specs.Prelude.{Named, name, world, Shown, pairs_of, site_ports, ports_of, coded}
 use Rattle.sap_build.specs.Parts.{fed_numbers}
 use Rattle.sap_link.specs.Systems.{inputs_from, inputs_in}
 use Rattle.sap_linked.specs.Standing.{names_of_inputs}

@@ -1,19 +1,11 @@
 -- The names of a netlist with a design's interface, behind the name of a part.
-use Rattle.std.proofs.Common.{◌≡◌, ◌<◌, ◌≤◌, ◌⊎◌, ℕ, zero, suc, Bool, true, false, not, List, [], ◌∷◌, ◌++◌, length, refl, sym, subst, inl, inr, arith}
-use Rattle.std.specs.Prelude.{◌==◌, ◌&&◌, ◌/◌, ◌%◌, codes}
-use Rattle.std.specs.Fmt.{decimal, digits, digits_onto, digit_glyph}
-use Rattle.std.specs.Str.{byte, bytes_eq}
-use Rattle.std.specs.List.{AllByRecursion, list_all}
-use Rattle.std.proofs.lemmas.Bool.{and_from, and_parts, cases_Bool}
-use Rattle.sap_lemmas.proofs.Bools.{and_false}
-use Rattle.sap_lemmas.proofs.Texts.{equal_of_bytes_eq}
+use Rattle.sap_lemmas.proofs.Common.{◌≡◌, ◌<◌, ◌≤◌, ◌⊎◌, ℕ, zero, suc, Bool, true, false, not, List, [], ◌∷◌, ◌++◌, length, refl, sym, subst, inl, inr, arith, ◌==◌, ◌&&◌, ◌/◌, ◌%◌, codes, decimal, byte, bytes_eq, AllByRecursion, list_all, and_from, and_parts, cases_Bool, and_false, equal_of_bytes_eq}
+use Rattle.std.specs.Fmt.{digits_onto, digit_glyph, digits}
 use Rattle.sap_maps.specs.Maps.{Name}
 use Rattle.sap_net.specs.Names.{helper, is_among, is_initial, is_inner, is_keyword, is_name, is_word, keywords, IsHelpingName}
 use Rattle.sap_net.proofs.NamesLemmas.{among_each}
-use Rattle.sap_interface.specs.StandsFor.{Named}
-use Rattle.sap_interface.specs.InterfaceNames.{IsInterfaceName, value_of, tag_of, state_tag_of, child_of, child_of_root, refusal_of, level_of}
-use Rattle.sap_linked.specs.Parts.{in_part, has_no_underscore}
-use Rattle.sap_linked.specs.Laws.{PartsKeepApart}
+use Rattle.sap_interface.specs.Prelude.{Named, IsInterfaceName, value_of, tag_of, state_tag_of, child_of, child_of_root, refusal_of, level_of}
+use Rattle.sap_linked.specs.Prelude.{in_part, has_no_underscore, PartsKeepApart}
 use Rattle.sap_linked.proofs.Apart.{stay_apart}
 use Rattle.sap_linked.proofs.Own.{both}
 

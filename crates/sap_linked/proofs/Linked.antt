@@ -1,28 +1,12 @@
 -- A netlist that links the netlists of parts stands for the composite run.
-use Rattle.std.proofs.Common.{◌≡◌, ℕ, zero, suc, ◌<◌, true, false, List, [], ◌∷◌, map, get_or, length, Option, Some, None, refl, sym, ◌∙◌, ap, ap₂, subst, arith}
-use Rattle.std.specs.Option.{option_map}
-use Rattle.std.specs.List.{AllByRecursion}
-use Rattle.sap_lemmas.proofs.Everywhere.{all_follow}
-use Rattle.sap_lemmas.proofs.Lists.{length_map}
-use Rattle.sap_maps.specs.Maps.{Name, Valuation}
-use Rattle.sap_maps.specs.Scope.{find}
-use Rattle.sap_lattice.specs.Order.{Order}
-use Rattle.sap_lattice.specs.Codes.{Codes, code_of, width_of}
-use Rattle.sap_meaning.specs.Program.{Program, is_input, is_register}
-use Rattle.sap_meaning.specs.Cycle.{Tagged}
-use Rattle.sap_meaning.specs.State.{InputsFit as InputsFitPart}
-use Rattle.sap_meaning.specs.State.{AllFit as AllFitWidths}
+use Rattle.sap_lemmas.proofs.Common.{◌≡◌, ℕ, zero, suc, ◌<◌, true, false, List, [], ◌∷◌, map, get_or, length, Option, Some, None, refl, sym, ◌∙◌, ap, ap₂, subst, arith, option_map, AllByRecursion, all_follow, length_map}
+use Rattle.sap_maps.specs.Prelude.{Name, Valuation, find}
+use Rattle.sap_lattice.specs.Prelude.{Order, Codes, code_of, width_of}
+use Rattle.sap_meaning.specs.Prelude.{Program, is_input, is_register, Tagged, InputsFit as InputsFitPart, AllFit as AllFitWidths}
+use Rattle.sap_net.specs.Prelude.{Net, is_among, register_names, AllFit, InputsFit, InputsAre, IsCycle, IsRunAfter, observed, value_after, value_name, tag_name}
 use Rattle.sap_net.specs.declared.parts.Input.{Input}
-use Rattle.sap_net.specs.Net.{Net}
-use Rattle.sap_net.specs.Names.{is_among}
-use Rattle.sap_net.specs.IsNetlist.{register_names}
-use Rattle.sap_net.specs.Runs.{AllFit, InputsFit, InputsAre, IsCycle, IsRunAfter, observed, value_after}
-use Rattle.sap_net.specs.PortNames.{value_name, tag_name}
 use Rattle.sap_net.proofs.NamesLemmas.{not_found}
-use Rattle.sap_interface.specs.StandsFor.{Named, name, StandsFor}
-use Rattle.sap_interface.specs.Interface.{HasInterface}
-use Rattle.sap_interface.specs.InterfaceNames.{IsInterfaceName, value_of, tag_of}
-use Rattle.sap_interface.specs.Compiled.{coded, coded_stream, CyclesStand, NetStandsFor, NetStartsAs}
+use Rattle.sap_interface.specs.Prelude.{Named, name, StandsFor, HasInterface, IsInterfaceName, value_of, tag_of, coded, coded_stream, CyclesStand, NetStandsFor, NetStartsAs}
 use Rattle.sap_build.specs.Copies.{through}
 use Rattle.sap_build.specs.Parts.{Feeds, fed_numbers}
 use Rattle.sap_build.specs.Laws.{PartsRun, PartsShow}
@@ -32,10 +16,7 @@ use Rattle.sap_link.specs.Systems.{world as world_at}
 use Rattle.sap_link.specs.Composites.{CompositeState, states_of, content_at, received, part_inputs, composite_cycle, composite_run_from, first_states, run_of_part, stream_of_part}
 use Rattle.sap_link.specs.Composites.{InputsFit as InputsFitSystem, StreamFits as StreamFitsSystem}
 use Rattle.sap_link.specs.Laws.{FineSystem, SizedSystem, PartsFit, CompositesFit, StreamsOfPartsFit, FedInputsReceive, FreeInputsReceive}
-use Rattle.sap_linked.specs.Parts.{Part, NamedSystem, no_part, part_at, system_of, in_part}
-use Rattle.sap_linked.specs.Linking.{IsNetOf, inputs_for, LinksParts}
-use Rattle.sap_linked.specs.Standing.{names_of_inputs, RunsStand}
-use Rattle.sap_linked.specs.Laws.{LinkedNetsStand}
+use Rattle.sap_linked.specs.Prelude.{Part, NamedSystem, no_part, part_at, system_of, in_part, IsNetOf, inputs_for, LinksParts, names_of_inputs, RunsStand, LinkedNetsStand}
 use Rattle.sap_linked.proofs.Reading.{at_name}
 use Rattle.sap_linked.proofs.Alike.{register_holds, input_holds, stands_behind}
 use Rattle.sap_linked.proofs.Cycles.{StandsAfter, this_cycle, later_cycles, BeginsAs, begins_first, begins_later}

@@ -1,22 +1,15 @@
 -- Each name of the netlist of a system is one that a module can have.
-use Rattle.std.proofs.Common.{◌≡◌, ℕ, ◌<◌, true, not, List, ◌∷◌, ◌++◌, length, sym, ◌∙◌, ap, refl, subst, inl, inr}
-use Rattle.std.specs.Prelude.{◌&&◌}
-use Rattle.std.specs.List.{list_all}
-use Rattle.std.specs.Str.{byte}
-use Rattle.std.proofs.lemmas.Bool.{and_from, and_parts}
+use Rattle.sap_lemmas.proofs.Common.{◌≡◌, ℕ, ◌<◌, true, not, List, ◌∷◌, ◌++◌, length, sym, ◌∙◌, ap, refl, subst, inl, inr, ◌&&◌, list_all, byte, and_from, and_parts}
 use Rattle.sap_maps.specs.Maps.{Name}
 use Rattle.sap_lattice.specs.Codes.{width_of}
+use Rattle.sap_net.specs.Prelude.{is_among, is_initial, is_inner, is_keyword, is_name, is_word, Net, value_name}
 use Rattle.sap_net.specs.declared.parts.Input.{Input}
-use Rattle.sap_net.specs.Names.{is_among, is_initial, is_inner, is_keyword, is_name, is_word}
-use Rattle.sap_net.specs.Net.{Net}
-use Rattle.sap_net.specs.PortNames.{value_name}
 use Rattle.sap_net.proofs.NamesLemmas.{among_each, found_among}
 use Rattle.sap_interface.specs.StandsFor.{name}
 use Rattle.sap_build.specs.Copies.{KeepsApart}
 use Rattle.sap_build.proofs.Found.{inputs_among}
 use Rattle.sap_link.specs.Systems.{Endpoint, WiresFit}
-use Rattle.sap_linked.specs.Parts.{NamedSystem, part_at, system_of, in_part, NamesFit}
-use Rattle.sap_linked.specs.Linking.{IsNetOf}
+use Rattle.sap_linked.specs.Prelude.{NamedSystem, part_at, system_of, in_part, NamesFit, IsNetOf}
 use Rattle.sap_linked.proofs.Differing.{all_inputs as all_lead_to_inputs, all_to, free_end, inputs_there, memories_declared, memories_in, registers_declared, registers_in, wires_declared, wires_in, IsUnfed}
 use Rattle.sap_linked.proofs.Ends.{interface_at, of_feeds, IsEnd, IsLetter}
 use Rattle.sap_linked.proofs.Families.{of_among, whole_list, Behind}

@@ -1,19 +1,13 @@
 -- The free inputs of a system come in the order of its ports.
-use Rattle.std.proofs.Common.{◌≡◌, ℕ, suc, ◌+◌, Bool, true, false, not, List, [], ◌∷◌, ◌++◌, map, filter, get_or, refl, sym, ◌∙◌, ap, ap₂, inl, inr, arith}
-use Rattle.std.proofs.lemmas.Bool.{cases_Bool}
-use Rattle.sap_lemmas.proofs.Numbers.{one_more}
+use Rattle.sap_lemmas.proofs.Common.{◌≡◌, ℕ, suc, ◌+◌, Bool, true, false, not, List, [], ◌∷◌, ◌++◌, map, filter, get_or, refl, sym, ◌∙◌, ap, ap₂, inl, inr, arith, cases_Bool, one_more}
 use Rattle.sap_maps.specs.Maps.{Name}
 use Rattle.sap_meaning.specs.Program.{Entity, nothing, kind_is_input, is_input}
 use Rattle.sap_net.specs.declared.parts.PortKind.TheVariants as kind
-use Rattle.sap_net.specs.declared.parts.Input.{Input}
 use Rattle.sap_net.specs.PortNames.{value_name, tag_name}
-use Rattle.sap_interface.specs.StandsFor.{name, world}
-use Rattle.sap_interface.specs.Interface.{Shown, pairs_of}
+use Rattle.sap_net.specs.declared.parts.Input.{Input}
+use Rattle.sap_interface.specs.Prelude.{name, world, Shown, pairs_of}
 use Rattle.sap_link.specs.Systems.{Endpoint, endpoint, is_fed, inputs_from, inputs_of}
-use Rattle.sap_linked.specs.Parts.{Part, NamedSystem, no_part, part_at, in_part, value_at, tag_at}
-use Rattle.sap_linked.specs.Linking.{inputs_for}
-use Rattle.sap_linked.specs.Interface.{ports_in, is_free, input_ports}
-use Rattle.sap_linked.specs.Laws.{InputsInOrder}
+use Rattle.sap_linked.specs.Prelude.{Part, NamedSystem, no_part, part_at, in_part, value_at, tag_at, inputs_for, ports_in, is_free, input_ports, InputsInOrder}
 
 filter_both : (test : Endpoint → Bool) (es fs : List Endpoint) → filter test (es ++ fs) ≡ filter test es ++ filter test fs
 filter_both test [] fs = refl

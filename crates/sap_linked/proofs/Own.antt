@@ -1,20 +1,12 @@
 -- What each input, wire, register and memory of a netlist has under its name.
-use Rattle.std.proofs.Common.{◌≡◌, ℕ, List, [], ◌∷◌, ◌++◌, map, Some, None, false, subst, refl, inl, inr}
-use Rattle.std.specs.List.{AllByRecursion}
-use Rattle.std.specs.Str.{bytes_eq}
-use Rattle.std.proofs.lemmas.Bool.{cases_Bool}
-use Rattle.sap_lemmas.proofs.Everywhere.{all_follow, all_of_map, all_parts}
-use Rattle.sap_maps.specs.Maps.{Name}
-use Rattle.sap_maps.specs.Scope.{Scope, find}
+use Rattle.sap_lemmas.proofs.Common.{◌≡◌, ℕ, List, [], ◌∷◌, ◌++◌, map, Some, None, false, subst, refl, inl, inr, AllByRecursion, bytes_eq, cases_Bool, all_follow, all_of_map, all_parts}
+use Rattle.sap_maps.specs.Prelude.{Name, Scope, find}
 use Rattle.sap_maps.proofs.Scopes.{found_behind, found_here, not_behind}
+use Rattle.sap_net.specs.Prelude.{AreDistinct, is_among, Net, Shapes, AreValues, AreWires, readable_after, IsNetlist, first_readable, memory_names, readable, register_names, shapes}
 use Rattle.sap_net.specs.declared.parts.Input.{Input}
 use Rattle.sap_net.specs.declared.parts.Wire.{Wire}
 use Rattle.sap_net.specs.declared.parts.Register.{Register}
 use Rattle.sap_net.specs.declared.parts.Memory.{Memory}
-use Rattle.sap_net.specs.Names.{AreDistinct, is_among}
-use Rattle.sap_net.specs.Net.{Net}
-use Rattle.sap_net.specs.Rules.{Shapes, AreValues, AreWires, readable_after}
-use Rattle.sap_net.specs.IsNetlist.{IsNetlist, first_readable, memory_names, readable, register_names, shapes}
 use Rattle.sap_net.proofs.InputLemmas.{past_inputs}
 use Rattle.sap_net.proofs.NamesLemmas.{filter_distinct, found_of, not_found}
 use Rattle.sap_net.proofs.RulesLemmas.{readable_kept, values_found, wires_distinct}

@@ -1,24 +1,15 @@
 -- The names of a part's netlist, by what they name.
-use Rattle.std.proofs.Common.{◌≡◌, ◌⊎◌, ℕ, ◌≤◌, true, false, [], ◌∷◌, map, length, Some, None, sym, ◌∙◌, inl, inr, arith}
-use Rattle.std.specs.List.{AllByRecursion}
-use Rattle.std.specs.Str.{byte}
-use Rattle.sap_lemmas.proofs.Everywhere.{all_of_map, all_parts, map_of_all}
-use Rattle.sap_maps.specs.Maps.{Name}
-use Rattle.sap_maps.specs.Scope.{Scope, find}
+use Rattle.sap_lemmas.proofs.Common.{◌≡◌, ◌⊎◌, ℕ, ◌≤◌, true, false, [], ◌∷◌, map, length, Some, None, sym, ◌∙◌, inl, inr, arith, AllByRecursion, byte, all_of_map, all_parts, map_of_all}
+use Rattle.sap_maps.specs.Prelude.{Name, Scope, find}
 use Rattle.sap_maps.proofs.ScopeLemmas.{found_first}
+use Rattle.sap_net.specs.Prelude.{helper, is_among, IsHelpingName, Net, Shapes, AreValues, IsNetlist, first_readable, input_names, memory_names, register_names, shapes, wire_names}
 use Rattle.sap_net.specs.declared.parts.Input.{Input}
 use Rattle.sap_net.specs.declared.parts.Register.{Register}
 use Rattle.sap_net.specs.declared.parts.Memory.{Memory}
-use Rattle.sap_net.specs.Names.{helper, is_among, IsHelpingName}
-use Rattle.sap_net.specs.Net.{Net}
-use Rattle.sap_net.specs.Rules.{Shapes, AreValues}
-use Rattle.sap_net.specs.IsNetlist.{IsNetlist, first_readable, input_names, memory_names, register_names, shapes, wire_names}
 use Rattle.sap_net.proofs.InputLemmas.{past_inputs}
 use Rattle.sap_net.proofs.NamesLemmas.{among_each, found_of}
 use Rattle.sap_net.proofs.RulesLemmas.{wires_new}
-use Rattle.sap_interface.specs.StandsFor.{Named}
-use Rattle.sap_interface.specs.Interface.{HasInterface}
-use Rattle.sap_interface.specs.InterfaceNames.{IsInterfaceName, value_of, tag_of, state_tag_of, child_of, child_of_root, refusal_of, level_of}
+use Rattle.sap_interface.specs.Prelude.{Named, HasInterface, IsInterfaceName, value_of, tag_of, state_tag_of, child_of, child_of_root, refusal_of, level_of}
 use Rattle.sap_linked.proofs.Keeping.{either_long}
 use Rattle.sap_linked.proofs.Own.{inputs_apart}
 

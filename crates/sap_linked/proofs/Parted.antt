@@ -1,12 +1,6 @@
 -- Names that stand in one of two lists, and lists with and without those that pass a test.
-use Rattle.std.proofs.Common.{◌≡◌, ◌⊎◌, ◌&&◌, ◌||◌, Bool, true, false, not, List, [], ◌∷◌, ◌++◌, map, filter, None, refl, sym, ◌∙◌, ap, inl, inr}
-use Rattle.std.specs.Str.{bytes_eq}
-use Rattle.std.specs.List.{AllByRecursion}
-use Rattle.std.proofs.lemmas.Bool.{cases_Bool, or_cases}
-use Rattle.sap_lemmas.proofs.Bools.{neither_left, neither_right}
-use Rattle.sap_lemmas.proofs.Texts.{bytes_eq_apart_back}
-use Rattle.sap_maps.specs.Maps.{Name}
-use Rattle.sap_maps.specs.Scope.{find}
+use Rattle.sap_lemmas.proofs.Common.{◌≡◌, ◌⊎◌, ◌&&◌, ◌||◌, Bool, true, false, not, List, [], ◌∷◌, ◌++◌, map, filter, None, refl, sym, ◌∙◌, ap, inl, inr, bytes_eq, AllByRecursion, cases_Bool, or_cases, neither_left, neither_right, bytes_eq_apart_back}
+use Rattle.sap_maps.specs.Prelude.{Name, find}
 use Rattle.sap_net.specs.Names.{AreDistinct, is_among}
 use Rattle.sap_net.proofs.NamesLemmas.{among_append, each_among, filter_among}
 

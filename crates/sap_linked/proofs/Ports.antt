@@ -1,18 +1,13 @@
 -- The ports of a system, part by part, each behind its part's name.
-use Rattle.std.proofs.Common.{◌≡◌, ℕ, zero, suc, Bool, true, ◌+◌, ◌<◌, ◌≤◌, List, [], ◌∷◌, ◌++◌, map, length, refl, sym, ◌∙◌, ap, ap₂, subst, inl, inr, arith}
-use Rattle.std.specs.List.{AllByRecursion}
-use Rattle.std.proofs.lemmas.Bool.{cases_Bool}
-use Rattle.sap_lemmas.proofs.Everywhere.{all_append, map_of_all}
+use Rattle.sap_lemmas.proofs.Common.{◌≡◌, ℕ, zero, suc, Bool, true, ◌+◌, ◌<◌, ◌≤◌, List, [], ◌∷◌, ◌++◌, map, length, refl, sym, ◌∙◌, ap, ap₂, subst, inl, inr, arith, AllByRecursion, cases_Bool, all_append, map_of_all}
 use Rattle.sap_maps.specs.Maps.{Name}
 use Rattle.sap_meaning.specs.Program.{Entity, is_register}
+use Rattle.sap_net.specs.PortNames.{value_name, tag_name, refused_name, refused_level_name}
 use Rattle.sap_net.specs.declared.parts.PortKind.{PortKind}
 use Rattle.sap_net.specs.declared.parts.PortKind.TheVariants as kind
-use Rattle.sap_net.specs.PortNames.{value_name, tag_name, refused_name, refused_level_name}
-use Rattle.sap_interface.specs.StandsFor.{Named, name, world}
-use Rattle.sap_interface.specs.Interface.{Shown, pairs_of, site_ports}
+use Rattle.sap_interface.specs.Prelude.{Named, name, world, Shown, pairs_of, site_ports}
 use Rattle.sap_link.specs.Systems.{Wire}
-use Rattle.sap_linked.specs.Parts.{Part, NamedSystem, part_at, in_part}
-use Rattle.sap_linked.specs.Interface.{ports_in, is_free, input_ports, register_ports, refusal_ports, is_fed_input, fed_inputs}
+use Rattle.sap_linked.specs.Prelude.{Part, NamedSystem, part_at, in_part, ports_in, is_free, input_ports, register_ports, refusal_ports, is_fed_input, fed_inputs}
 use Rattle.sap_linked.proofs.Families.{named_copies, map_both, later, this, Suffix}
 
 abbrev pub names_in : List Shown → List Name

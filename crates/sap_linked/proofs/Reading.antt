@@ -1,16 +1,11 @@
 -- What holds under a name of a netlist, and which names can be read.
-use Rattle.std.proofs.Common.{◌≡◌, ℕ, List, [], ◌∷◌, map, Some}
-use Rattle.std.specs.List.{AllByRecursion}
-use Rattle.sap_lemmas.proofs.Everywhere.{all_follow, all_second, map_of_all}
-use Rattle.sap_maps.specs.Maps.{Name}
-use Rattle.sap_maps.specs.Scope.{Scope, find}
+use Rattle.sap_lemmas.proofs.Common.{◌≡◌, ℕ, List, [], ◌∷◌, map, Some, AllByRecursion, all_follow, all_second, map_of_all}
+use Rattle.sap_maps.specs.Prelude.{Name, Scope, find}
 use Rattle.sap_maps.proofs.Scopes.{found_here}
+use Rattle.sap_net.specs.Prelude.{Net, Shapes, AreWires, readable_after, IsNetlist, first_readable, readable, shapes}
 use Rattle.sap_net.specs.declared.parts.Input.{Input}
 use Rattle.sap_net.specs.declared.parts.Wire.{Wire}
 use Rattle.sap_net.specs.declared.parts.Register.{Register}
-use Rattle.sap_net.specs.Net.{Net}
-use Rattle.sap_net.specs.Rules.{Shapes, AreWires, readable_after}
-use Rattle.sap_net.specs.IsNetlist.{IsNetlist, first_readable, readable, shapes}
 use Rattle.sap_net.proofs.RulesLemmas.{readable_kept, values_found}
 use Rattle.sap_build.proofs.Inside.{of_entries}
 

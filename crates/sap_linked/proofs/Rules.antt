@@ -1,25 +1,14 @@
 -- The netlist of a system keeps the rules of netlists.
-use Rattle.std.proofs.Common.{◌≡◌, ℕ, Bool, true, false, not, ◌<◌, List, [], ◌∷◌, ◌++◌, map, filter, length, take, refl, sym, ◌∙◌, ap, ap₂, inl, inr}
-use Rattle.std.specs.List.{AllByRecursion}
-use Rattle.std.proofs.lemmas.Bool.{and_from, and_parts, cases_Bool}
-use Rattle.std.proofs.lemmas.List.{append-nil}
-use Rattle.sap_lemmas.proofs.Bools.{iff_same}
-use Rattle.sap_lemmas.proofs.Everywhere.{map_of_all}
+use Rattle.sap_lemmas.proofs.Common.{◌≡◌, ℕ, Bool, true, false, not, ◌<◌, List, [], ◌∷◌, ◌++◌, map, filter, length, take, refl, sym, ◌∙◌, ap, ap₂, inl, inr, AllByRecursion, and_from, and_parts, cases_Bool, append-nil, iff_same, map_of_all}
 use Rattle.sap_maps.specs.Maps.{Name}
 use Rattle.sap_lattice.specs.Codes.{Codes}
+use Rattle.sap_net.specs.Prelude.{is_among, is_name, AreDistinct, Net, input_names, is_input, memory_names, register_names, wire_names, IsNetlist, PortShows}
 use Rattle.sap_net.specs.declared.parts.Port.{Port}
-use Rattle.sap_net.specs.Names.{is_among, is_name, AreDistinct}
-use Rattle.sap_net.specs.Net.{Net}
-use Rattle.sap_net.specs.IsNetlist.{input_names, is_input, memory_names, register_names, wire_names, IsNetlist, PortShows}
 use Rattle.sap_net.proofs.NamesLemmas.{among_behind, among_front, distinct_both, each_among, filter_among, filter_distinct}
 use Rattle.sap_interface.specs.Interface.{Shown}
 use Rattle.sap_build.specs.Laws.{CopiesAreNetlists}
 use Rattle.sap_link.specs.Systems.{WiresFit}
-use Rattle.sap_linked.specs.Parts.{NamedSystem, part_at, system_of, NamesFit}
-use Rattle.sap_linked.specs.Linking.{IsNetOf}
-use Rattle.sap_linked.specs.Interface.{input_ports, register_ports, refusal_ports, fed_inputs, linked_ports}
-use Rattle.sap_linked.specs.Netlist.{held_ports, linked_net, shown_names}
-use Rattle.sap_linked.specs.Laws.{LinkedNetIsNetlist}
+use Rattle.sap_linked.specs.Prelude.{NamedSystem, part_at, system_of, NamesFit, IsNetOf, input_ports, register_ports, refusal_ports, fed_inputs, linked_ports, held_ports, linked_net, shown_names, LinkedNetIsNetlist}
 use Rattle.sap_linked.proofs.Assigning.{assigns, nexts, top_named, writes}
 use Rattle.sap_linked.proofs.InOrder.{memories_in_order, registers_in_order, same_registers, shown_is, whole_registers}
 use Rattle.sap_linked.proofs.Inputs.{inputs_among, of_both, of_ports}

@@ -1,31 +1,20 @@
 -- What the ports of a system show is there, and no two show the same.
-use Rattle.std.proofs.Common.{◌≡◌, ℕ, ◌+◌, ◌<◌, ◌≤◌, Bool, true, false, List, [], ◌∷◌, ◌++◌, map, length, take, drop, refl, sym, ◌∙◌, ap, subst, inl, inr, arith}
-use Rattle.std.specs.List.{AllByRecursion}
-use Rattle.std.proofs.lemmas.Bool.{and_parts, cases_Bool}
-use Rattle.std.proofs.lemmas.List.{take-append-drop}
-use Rattle.sap_lemmas.proofs.Everywhere.{all_append, all_of_map, map_of_all}
+use Rattle.sap_lemmas.proofs.Common.{◌≡◌, ℕ, ◌+◌, ◌<◌, ◌≤◌, Bool, true, false, List, [], ◌∷◌, ◌++◌, map, length, take, drop, refl, sym, ◌∙◌, ap, subst, inl, inr, arith, AllByRecursion, and_parts, cases_Bool, take-append-drop, all_append, all_of_map, map_of_all}
 use Rattle.sap_maps.specs.Maps.{Name}
 use Rattle.sap_lattice.specs.Codes.{width_of}
 use Rattle.sap_meaning.specs.Program.{Entity, is_input, is_register}
+use Rattle.sap_net.specs.Prelude.{is_among, AreDistinct, Net, input_names, memory_names, names_of, wire_names, value_name, tag_name, refused_name, refused_level_name}
 use Rattle.sap_net.specs.declared.parts.PortKind.{PortKind}
-use Rattle.sap_net.specs.declared.parts.PortKind.TheVariants as kind
 use Rattle.sap_net.specs.declared.parts.Port.{Port}
 use Rattle.sap_net.specs.declared.parts.Wire.{Wire}
 use Rattle.sap_net.specs.declared.parts.Register.{Register}
 use Rattle.sap_net.specs.declared.parts.Memory.{Memory}
-use Rattle.sap_net.specs.Names.{is_among, AreDistinct}
-use Rattle.sap_net.specs.Net.{Net}
-use Rattle.sap_net.specs.IsNetlist.{input_names, memory_names, names_of, wire_names}
-use Rattle.sap_net.specs.PortNames.{value_name, tag_name, refused_name, refused_level_name}
+use Rattle.sap_net.specs.declared.parts.PortKind.TheVariants as kind
 use Rattle.sap_net.proofs.NamesLemmas.{among_behind, among_each, among_front, distinct_both, each_among, found_among}
-use Rattle.sap_interface.specs.StandsFor.{Named, name, world}
-use Rattle.sap_interface.specs.Interface.{Shown, HasInterface, pairs_of, ports_of, site_ports}
+use Rattle.sap_interface.specs.Prelude.{Named, name, world, Shown, HasInterface, pairs_of, ports_of, site_ports}
 use Rattle.sap_build.specs.Copies.{copy_wire, copy_register, copy_memory}
 use Rattle.sap_link.specs.Systems.{endpoint, is_fed, WiresFit}
-use Rattle.sap_linked.specs.Parts.{NamedSystem, part_at, system_of, in_part, NamesFit}
-use Rattle.sap_linked.specs.Linking.{IsNetOf}
-use Rattle.sap_linked.specs.Interface.{input_ports, register_ports, refusal_ports, fed_inputs, is_fed_input, is_free, linked_ports}
-use Rattle.sap_linked.specs.Netlist.{copies_of, feeds, held_ports, linked_net, shown_names}
+use Rattle.sap_linked.specs.Prelude.{NamedSystem, part_at, system_of, in_part, NamesFit, IsNetOf, input_ports, register_ports, refusal_ports, fed_inputs, is_fed_input, is_free, linked_ports, copies_of, feeds, held_ports, linked_net, shown_names}
 use Rattle.sap_linked.proofs.Differing.{all_names_differ, memories_in, own_pairs, pair_long, registers_in, registers_long, wires_in, wires_long}
 use Rattle.sap_linked.proofs.EachInput.{fed_ends, AtEnd}
 use Rattle.sap_linked.proofs.Entities.{names_of_pairs, of_pair, still_distinct}

@@ -1,29 +1,16 @@
 -- The netlist of a system links those of its parts.
-use Rattle.std.proofs.Common.{◌≡◌, ℕ, zero, suc, ◌+◌, ◌<◌, Bool, true, false, not, List, [], ◌∷◌, ◌++◌, map, filter, get_or, length, Option, Some, None, if◌then◌else◌, refl, sym, ◌∙◌, ap, subst, inl, inr, arith}
-use Rattle.std.specs.Prelude.{◌==◌, bit_or}
-use Rattle.std.specs.List.{AllByRecursion}
-use Rattle.std.proofs.lemmas.Bool.{cases_Bool}
-use Rattle.sap_lemmas.proofs.Everywhere.{all_append, all_of_map, all_parts, all_second, map_of_all}
-use Rattle.sap_maps.specs.Maps.{Name, Valuation}
-use Rattle.sap_maps.specs.Scope.{find}
-use Rattle.sap_lattice.specs.Order.{Order}
-use Rattle.sap_lattice.specs.Codes.{code_of}
+use Rattle.sap_lemmas.proofs.Common.{◌≡◌, ℕ, zero, suc, ◌+◌, ◌<◌, Bool, true, false, not, List, [], ◌∷◌, ◌++◌, map, filter, get_or, length, Option, Some, None, if◌then◌else◌, refl, sym, ◌∙◌, ap, subst, inl, inr, arith, ◌==◌, bit_or, AllByRecursion, cases_Bool, all_append, all_of_map, all_parts, all_second, map_of_all}
+use Rattle.sap_maps.specs.Prelude.{Name, Valuation, find}
+use Rattle.sap_lattice.specs.Prelude.{Order, code_of}
+use Rattle.sap_net.specs.Prelude.{is_among, Net, Holds, IsNetlist, width_of as width_in}
 use Rattle.sap_net.specs.declared.parts.Input.{Input}
 use Rattle.sap_net.specs.declared.parts.Wire.{Wire}
 use Rattle.sap_net.specs.declared.parts.Register.{Register}
 use Rattle.sap_net.specs.declared.parts.Memory.{Memory}
-use Rattle.sap_net.specs.Names.{is_among}
-use Rattle.sap_net.specs.Net.{Net}
-use Rattle.sap_net.specs.Values.{Holds}
-use Rattle.sap_net.specs.IsNetlist.{IsNetlist}
-use Rattle.sap_net.specs.IsNetlist.{width_of as width_in}
 use Rattle.sap_build.specs.Copies.{copy_wire, copy_register, copy_memory}
 use Rattle.sap_build.specs.Parts.{IsPart, Feeds}
 use Rattle.sap_link.specs.Systems.{Wire as SystemWire}
-use Rattle.sap_linked.specs.Parts.{Part, NamedSystem, no_part, part_at, in_part, value_at, tag_at}
-use Rattle.sap_linked.specs.Linking.{IsNetOf, Carries, through_level}
-use Rattle.sap_linked.specs.Netlist.{feeds_through, feeds, copies_of, shown_names, linked_net}
-use Rattle.sap_linked.specs.Laws.{LinkedNetLinks}
+use Rattle.sap_linked.specs.Prelude.{Part, NamedSystem, no_part, part_at, in_part, value_at, tag_at, IsNetOf, Carries, through_level, feeds_through, feeds, copies_of, shown_names, linked_net, LinkedNetLinks}
 use Rattle.sap_linked.proofs.Own.{inputs_feed, wires_feed, wires_own, registers_own, memories_own}
 use Rattle.sap_linked.proofs.EachInput.{at_inputs}
 

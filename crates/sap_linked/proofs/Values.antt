@@ -1,29 +1,19 @@
 -- The inputs, registers and memories of the netlist of a system: their widths, and that each has a name of its own.
-use Rattle.std.proofs.Common.{◌≡◌, ℕ, suc, ◌+◌, ◌<◌, true, not, List, [], ◌∷◌, ◌++◌, map, filter, get_or, length, None, sym, ◌∙◌, ap, ap₂, subst, inl, inr, arith}
-use Rattle.std.specs.List.{AllByRecursion}
-use Rattle.std.proofs.lemmas.Bool.{cases_Bool}
-use Rattle.sap_lemmas.proofs.Everywhere.{all_append, all_filter, all_of_map, all_parts, map_of_all}
-use Rattle.sap_maps.specs.Maps.{Name}
-use Rattle.sap_maps.specs.Scope.{Scope, find}
+use Rattle.sap_lemmas.proofs.Common.{◌≡◌, ℕ, suc, ◌+◌, ◌<◌, true, not, List, [], ◌∷◌, ◌++◌, map, filter, get_or, length, None, sym, ◌∙◌, ap, ap₂, subst, inl, inr, arith, AllByRecursion, cases_Bool, all_append, all_filter, all_of_map, all_parts, map_of_all}
+use Rattle.sap_maps.specs.Prelude.{Name, Scope, find}
 use Rattle.sap_lattice.specs.Codes.{width_of}
 use Rattle.sap_meaning.specs.Program.{Entity, Program, nothing, kind_is_input, is_input}
+use Rattle.sap_net.specs.Prelude.{is_among, AreDistinct, Net, Shapes, AreValues, AreMemories, IsWidth, first_readable, shapes, value_name, tag_name}
 use Rattle.sap_net.specs.declared.parts.Input.{Input}
 use Rattle.sap_net.specs.declared.parts.Register.{Register}
 use Rattle.sap_net.specs.declared.parts.Memory.{Memory}
-use Rattle.sap_net.specs.Names.{is_among, AreDistinct}
-use Rattle.sap_net.specs.Net.{Net}
-use Rattle.sap_net.specs.Rules.{Shapes, AreValues, AreMemories, IsWidth}
-use Rattle.sap_net.specs.IsNetlist.{first_readable, shapes}
-use Rattle.sap_net.specs.PortNames.{value_name, tag_name}
 use Rattle.sap_net.proofs.NamesLemmas.{among_behind, distinct_both, each_among, not_found}
 use Rattle.sap_interface.specs.StandsFor.{name}
 use Rattle.sap_build.specs.Copies.{copy_register, copy_memory}
 use Rattle.sap_build.proofs.Inside.{of_entries}
 use Rattle.sap_link.specs.Systems.{Endpoint, endpoint, System, IsPart, part, width_at, is_fed, inputs_from, inputs_in, inputs_of, free_inputs, no_part, WiresFit}
 use Rattle.sap_link.specs.Systems.{world as world_at}
-use Rattle.sap_linked.specs.Parts.{NamedSystem, part_at, system_of, NamesFit}
-use Rattle.sap_linked.specs.Linking.{IsNetOf, inputs_for}
-use Rattle.sap_linked.specs.Netlist.{linked_net, shown_names}
+use Rattle.sap_linked.specs.Prelude.{NamedSystem, part_at, system_of, NamesFit, IsNetOf, inputs_for, linked_net, shown_names}
 use Rattle.sap_linked.proofs.Differing.{is_low}
 use Rattle.sap_linked.proofs.Ends.{interface_at}
 use Rattle.sap_linked.proofs.InOrder.{same_registers, whole_registers, whole_registers_distinct}

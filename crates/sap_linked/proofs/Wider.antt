@@ -1,23 +1,13 @@
 -- The wires of parts behind more than they read.
-use Rattle.std.proofs.Common.{◌≡◌, ℕ, suc, ◌<◌, ◌≤◌, true, false, List, [], ◌∷◌, ◌++◌, map, length, None, refl, ◌∙◌, ap, subst, inl, inr, arith}
-use Rattle.std.specs.Str.{bytes_eq}
-use Rattle.std.proofs.lemmas.Bool.{cases_Bool}
-use Rattle.sap_lemmas.proofs.Bools.{neither_left, neither_right}
-use Rattle.sap_lemmas.proofs.Texts.{bytes_eq_apart_back, equal_of_bytes_eq}
-use Rattle.sap_maps.specs.Maps.{Name}
-use Rattle.sap_maps.specs.Scope.{Scope, find}
+use Rattle.sap_lemmas.proofs.Common.{◌≡◌, ℕ, suc, ◌<◌, ◌≤◌, true, false, List, [], ◌∷◌, ◌++◌, map, length, None, refl, ◌∙◌, ap, subst, inl, inr, arith, bytes_eq, cases_Bool, neither_left, neither_right, bytes_eq_apart_back, equal_of_bytes_eq}
+use Rattle.sap_maps.specs.Prelude.{Name, Scope, find}
+use Rattle.sap_net.specs.Prelude.{AreDistinct, is_among, Net, Shapes, AreWires, readable_after, IsNetlist, first_readable, names_of, shapes, top_name}
 use Rattle.sap_net.specs.declared.parts.Wire.{Wire}
-use Rattle.sap_net.specs.Names.{AreDistinct, is_among}
-use Rattle.sap_net.specs.Net.{Net}
-use Rattle.sap_net.specs.Rules.{Shapes, AreWires, readable_after}
-use Rattle.sap_net.specs.IsNetlist.{IsNetlist, first_readable, names_of, shapes}
-use Rattle.sap_net.specs.PortNames.{top_name}
 use Rattle.sap_net.proofs.NamesLemmas.{among_front, among_behind}
 use Rattle.sap_net.proofs.RulesLemmas.{Grows, readable_kept, wires_both}
 use Rattle.sap_build.specs.Copies.{copy_wire, copy_net}
 use Rattle.sap_build.proofs.Inserted.{GrowsIn, wires_grow}
-use Rattle.sap_linked.specs.Parts.{Part, NamedSystem, part_at, in_part}
-use Rattle.sap_linked.specs.Netlist.{copies_of}
+use Rattle.sap_linked.specs.Prelude.{Part, NamedSystem, part_at, in_part, copies_of}
 use Rattle.sap_linked.proofs.Families.{Suffix, later, this, map_both}
 
 pub fresh_after : (ws : List Wire) (sc : Scope) (x : Name) → find sc x ≡ None → is_among x (names_of ws) ≡ false → find (readable_after sc ws) x ≡ None

@@ -6,3 +6,4 @@ pub mod Netlist
 pub mod Laws
 pub mod Designs
 pub mod Examples
+pub mod Prelude

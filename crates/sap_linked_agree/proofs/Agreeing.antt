@@ -2,34 +2,24 @@
 use Rattle.std.proofs.Common.{◌≡◌, ◌<◌, ℕ, zero, suc, List, [], ◌∷◌, map, get_or, length, Some, None, refl, sym, ap, subst, arith}
 use Rattle.std.specs.Prelude.{slice_get}
 use Rattle.std.specs.List.{AllByRecursion, AllZip}
-use Rattle.sap_lattice.specs.Order.{Laws}
-use Rattle.sap_lattice.specs.Levels.{Levels, order_of}
-use Rattle.sap_lattice.specs.Codes.{Codes, code_of}
+use Rattle.sap_lattice.specs.Prelude.{Laws, Levels, order_of, Codes, code_of}
 use Rattle.sap_maps.specs.Maps.{Valuation}
 use Rattle.sap_tree.specs.Syntax.{DesignTree}
 use Rattle.sap_shape.specs.WellFormed.{WellFormed}
-use Rattle.sap_meaning.specs.Cycle.{Tagged}
-use Rattle.sap_meaning.specs.Program.{Program}
-use Rattle.sap_meaning.specs.Store.{After}
-use Rattle.sap_meaning.specs.Agree.{StreamsAgree}
+use Rattle.sap_meaning.specs.Prelude.{Tagged, Program, After, StreamsAgree}
 use Rattle.sap_meaning.specs.Agree as meaning
 use Rattle.sap_resolved.specs.Fill.{program_of}
 use Rattle.sap_resolved.specs.Premises.Premises.{ProgramsAreFine}
 use Rattle.sap_secure.specs.Designs.Designs.{DesignStatesRest, DesignNumbersFit}
-use Rattle.sap_net.specs.Net.{Net}
-use Rattle.sap_net.specs.Runs.{IsRun}
+use Rattle.sap_net.specs.Prelude.{Net, IsRun}
 use Rattle.sap_net.proofs.Exists.{run_exists}
 use Rattle.sap_net.proofs.Same.{run_same}
-use Rattle.sap_interface.specs.StandsFor.{Named}
-use Rattle.sap_interface.specs.Designs.{named_of, site_count_of}
-use Rattle.sap_interface.specs.Compiled.{coded_stream, CyclesStand}
+use Rattle.sap_interface.specs.Prelude.{Named, named_of, site_count_of, coded_stream, CyclesStand}
 use Rattle.sap_link.specs.Systems.{Wire, System, part, IsPart}
 use Rattle.sap_link.specs.Composites.{CompositeAfter, StreamFits, composite_run, first_states, run_of_part, stream_of_part}
 use Rattle.sap_link.specs.Agree.{CompositeRunsAgree}
 use Rattle.sap_link.specs.Designs.{linked, WellLinked, LinkedRunsAgree, PartsOfLinkedRun}
-use Rattle.sap_linked.specs.Parts.{Part, NamedSystem, no_part, system_of}
-use Rattle.sap_linked.specs.Standing.{RunsStand}
-use Rattle.sap_linked.specs.Designs.{NamedDesign, part_of, trees, named_system}
+use Rattle.sap_linked.specs.Prelude.{Part, NamedSystem, no_part, system_of, RunsStand, NamedDesign, part_of, trees, named_system}
 use Rattle.sap_compile.specs.Agree.{CyclesAgree, CyclesLookAlike}
 use Rattle.sap_compile.proofs.Agreeing.{AllStates, labelled_states, each_agrees, in_each, look_alike}
 use Rattle.sap_linked_agree.specs.Agree.{seen_of, SystemRunsAgree, SystemRunsLookAlike}

@@ -1,35 +1,21 @@
 -- A netlist that declares alike declares the interface of the system.
-use Rattle.std.proofs.Common.{◌≡◌, ◌⊎◌, ◌<◌, ℕ, true, not, List, ◌++◌, map, length, take, Some, refl, sym, ◌∙◌, ap, subst, inl, inr, arith}
-use Rattle.std.specs.Prelude.{unwrap_or, Option}
-use Rattle.std.specs.List.{AllByRecursion}
-use Rattle.std.proofs.lemmas.Bool.{and_from, and_parts, cases_Bool}
-use Rattle.sap_lemmas.proofs.Everywhere.{all_append, all_of_map, map_of_all}
-use Rattle.sap_maps.specs.Maps.{Name}
-use Rattle.sap_maps.specs.Scope.{Scope, find}
+use Rattle.sap_lemmas.proofs.Common.{◌≡◌, ◌⊎◌, ◌<◌, ℕ, true, not, List, ◌++◌, map, length, take, Some, refl, sym, ◌∙◌, ap, subst, inl, inr, arith, unwrap_or, Option, AllByRecursion, and_from, and_parts, cases_Bool, all_append, all_of_map, map_of_all}
+use Rattle.sap_maps.specs.Prelude.{Name, Scope, find}
 use Rattle.sap_meaning.specs.Program.{is_input, is_register}
 use Rattle.sap_net.specs.declared.parts.PortKind.TheVariants as kind
+use Rattle.sap_net.specs.Prelude.{is_among, IsHelpingName, Net, Shapes, input_names, memory_names, names_of, register_names, wire_names, IsNetlist, PortShows, width_of as width_in, value_name, tag_name, refused_name, refused_level_name}
 use Rattle.sap_net.specs.declared.parts.Port.{Port}
 use Rattle.sap_net.specs.declared.parts.Input.{Input}
 use Rattle.sap_net.specs.declared.parts.Wire.{Wire}
 use Rattle.sap_net.specs.declared.parts.Register.{Register}
 use Rattle.sap_net.specs.declared.parts.Memory.{Memory}
-use Rattle.sap_net.specs.Names.{is_among, IsHelpingName}
-use Rattle.sap_net.specs.Net.{Net}
-use Rattle.sap_net.specs.Rules.{Shapes}
-use Rattle.sap_net.specs.IsNetlist.{input_names, memory_names, names_of, register_names, wire_names, IsNetlist, PortShows}
-use Rattle.sap_net.specs.IsNetlist.{width_of as width_in}
-use Rattle.sap_net.specs.PortNames.{value_name, tag_name, refused_name, refused_level_name}
 use Rattle.sap_net.proofs.NamesLemmas.{among_each, each_among, filter_among, found_of}
-use Rattle.sap_interface.specs.StandsFor.{name, world}
-use Rattle.sap_interface.specs.Interface.{Shown, declared_by, HasSeat}
-use Rattle.sap_interface.specs.InterfaceNames.{IsInterfaceName, value_of, tag_of, refusal_of, level_of}
+use Rattle.sap_interface.specs.Prelude.{name, world, Shown, declared_by, HasSeat, IsInterfaceName, value_of, tag_of, refusal_of, level_of}
 use Rattle.sap_trim.specs.Alike.{DeclaresAlike}
 use Rattle.sap_trim.specs.Names.{helping_wires, port_names}
 use Rattle.sap_trim.specs.Trimmed.{NamesWires}
 use Rattle.sap_link.specs.Systems.{endpoint, is_fed}
-use Rattle.sap_linked.specs.Parts.{NamedSystem, part_at, in_part}
-use Rattle.sap_linked.specs.Interface.{fed_inputs, input_ports, is_fed_input, is_free, linked_ports, refusal_ports, register_ports, DeclaresLinkedPart, DeclaresSystem, HasLinkedInterface, IsPartName}
-use Rattle.sap_linked.specs.Netlist.{held_ports, linked_net, without_fed}
+use Rattle.sap_linked.specs.Prelude.{NamedSystem, part_at, in_part, fed_inputs, input_ports, is_fed_input, is_free, linked_ports, refusal_ports, register_ports, DeclaresLinkedPart, DeclaresSystem, HasLinkedInterface, IsPartName, held_ports, linked_net, without_fed}
 use Rattle.sap_linked.proofs.Alike.{input_holds, register_holds}
 use Rattle.sap_linked.proofs.Families.{whole_list}
 use Rattle.sap_linked.proofs.Order.{inputs_in_order}

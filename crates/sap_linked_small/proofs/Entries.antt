@@ -1,14 +1,9 @@
 -- What two netlists that declare alike have under their names.
-use Rattle.std.proofs.Common.{◌≡◌, ℕ, List, [], ◌∷◌, map, refl, sym, ◌∙◌, ap}
-use Rattle.std.specs.Prelude.{unwrap_or}
-use Rattle.sap_maps.specs.Maps.{Name}
-use Rattle.sap_maps.specs.Scope.{Scope, find}
+use Rattle.sap_lemmas.proofs.Common.{◌≡◌, ℕ, List, [], ◌∷◌, map, refl, sym, ◌∙◌, ap, unwrap_or}
+use Rattle.sap_maps.specs.Prelude.{Name, Scope, find}
+use Rattle.sap_net.specs.Prelude.{Net, Shapes, memory_names, register_names, shapes, initial_cell, initial_number}
 use Rattle.sap_net.specs.declared.parts.Register.{Register}
 use Rattle.sap_net.specs.declared.parts.Memory.{Memory}
-use Rattle.sap_net.specs.Net.{Net}
-use Rattle.sap_net.specs.Rules.{Shapes}
-use Rattle.sap_net.specs.IsNetlist.{memory_names, register_names, shapes}
-use Rattle.sap_net.specs.Runs.{initial_cell, initial_number}
 use Rattle.sap_trim.specs.Alike.{DeclaresAlike}
 use Rattle.sap_linked.proofs.Parted.{entry_names}
 

@@ -1,18 +1,11 @@
 -- A netlist without the ports of what feeds inputs: its rules and its runs.
-use Rattle.std.proofs.Common.{◌≡◌, ℕ, zero, suc, false, List, [], ◌∷◌, ◌++◌, map, filter, length, take, Option, Some, None, refl, sym, ◌∙◌, ap, ap₂, subst, inl, inr}
-use Rattle.std.specs.List.{AllByRecursion}
-use Rattle.std.proofs.lemmas.Bool.{cases_Bool}
+use Rattle.sap_lemmas.proofs.Common.{◌≡◌, ℕ, zero, suc, false, List, [], ◌∷◌, ◌++◌, map, filter, length, take, Option, Some, None, refl, sym, ◌∙◌, ap, ap₂, subst, inl, inr, AllByRecursion, cases_Bool}
 use Rattle.sap_maps.specs.Maps.{Name, Valuation}
 use Rattle.sap_net.specs.declared.parts.PortKind.TheVariants as kind
+use Rattle.sap_net.specs.Prelude.{Net, is_input, IsNetlist, PortShows, IsCycle, IsRunAfter}
 use Rattle.sap_net.specs.declared.parts.Port.{Port}
-use Rattle.sap_net.specs.Net.{Net}
-use Rattle.sap_net.specs.IsNetlist.{is_input, IsNetlist, PortShows}
-use Rattle.sap_net.specs.Runs.{IsCycle, IsRunAfter}
-use Rattle.sap_interface.specs.StandsFor.{world}
-use Rattle.sap_interface.specs.Interface.{Shown}
-use Rattle.sap_linked.specs.Parts.{NamedSystem, part_at}
-use Rattle.sap_linked.specs.Interface.{fed_inputs, is_fed_input, linked_ports}
-use Rattle.sap_linked.specs.Netlist.{held_ports, without_fed}
+use Rattle.sap_interface.specs.Prelude.{world, Shown}
+use Rattle.sap_linked.specs.Prelude.{NamedSystem, part_at, fed_inputs, is_fed_input, linked_ports, held_ports, without_fed}
 use Rattle.sap_linked.proofs.Families.{whole_list}
 use Rattle.sap_linked.proofs.Ports.{block_each, fed_are, fed_of, pairs_each}
 

@@ -1,19 +1,13 @@
 -- What holds of all ports of the netlist of a system holds of those of each input and each check site.
-use Rattle.std.proofs.Common.{◌≡◌, ℕ, zero, suc, ◌+◌, ◌<◌, ◌≤◌, Bool, true, not, List, [], ◌∷◌, ◌++◌, length, refl, sym, ◌∙◌, ap, subst, inl, inr, arith}
-use Rattle.std.specs.List.{AllByRecursion}
-use Rattle.std.proofs.lemmas.Bool.{and_from, cases_Bool}
-use Rattle.sap_lemmas.proofs.Everywhere.{all_of_map, all_parts}
+use Rattle.sap_lemmas.proofs.Common.{◌≡◌, ℕ, zero, suc, ◌+◌, ◌<◌, ◌≤◌, Bool, true, not, List, [], ◌∷◌, ◌++◌, length, refl, sym, ◌∙◌, ap, subst, inl, inr, arith, AllByRecursion, and_from, cases_Bool, all_of_map, all_parts}
 use Rattle.sap_maps.specs.Maps.{Name}
 use Rattle.sap_meaning.specs.Program.{Entity, is_input}
+use Rattle.sap_net.specs.PortNames.{value_name, tag_name, refused_name, refused_level_name}
 use Rattle.sap_net.specs.declared.parts.PortKind.{PortKind}
 use Rattle.sap_net.specs.declared.parts.PortKind.TheVariants as kind
-use Rattle.sap_net.specs.PortNames.{value_name, tag_name, refused_name, refused_level_name}
-use Rattle.sap_interface.specs.StandsFor.{Named, name, world}
-use Rattle.sap_interface.specs.Interface.{Shown, pairs_of, site_ports}
+use Rattle.sap_interface.specs.Prelude.{Named, name, world, Shown, pairs_of, site_ports}
 use Rattle.sap_link.specs.Systems.{endpoint, is_fed}
-use Rattle.sap_linked.specs.Parts.{Part, NamedSystem, part_at, in_part}
-use Rattle.sap_linked.specs.Interface.{ports_in, is_free, is_fed_input, input_ports, register_ports, refusal_ports, fed_inputs, linked_ports}
-use Rattle.sap_linked.specs.Netlist.{held_ports}
+use Rattle.sap_linked.specs.Prelude.{Part, NamedSystem, part_at, in_part, ports_in, is_free, is_fed_input, input_ports, register_ports, refusal_ports, fed_inputs, linked_ports, held_ports}
 use Rattle.sap_linked.proofs.Entities.{compared, input_low}
 use Rattle.sap_linked.proofs.Families.{later, this, whole_list, Suffix}
 use Rattle.sap_linked.proofs.Ports.{blocks, fed_are, fed_of, free_of, inputs_are, refusals_are, sites_of}

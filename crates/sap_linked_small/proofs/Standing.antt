@@ -1,34 +1,20 @@
 -- A netlist of which the same is seen as of the netlist of a system stands for it.
-use Rattle.std.proofs.Common.{◌≡◌, ◌<◌, ℕ, List, [], ◌∷◌, map, length, Some, None, refl, sym, ◌∙◌, ap₂, subst}
-use Rattle.std.specs.Prelude.{◌↔◌}
-use Rattle.std.specs.List.{AllByRecursion, AllZip}
-use Rattle.sap_lemmas.proofs.Everywhere.{all_follow, all_of_map}
-use Rattle.sap_maps.specs.Maps.{Name, Valuation}
-use Rattle.sap_maps.specs.Scope.{find}
+use Rattle.sap_lemmas.proofs.Common.{◌≡◌, ◌<◌, ℕ, List, [], ◌∷◌, map, length, Some, None, refl, sym, ◌∙◌, ap₂, subst, ◌↔◌, AllByRecursion, AllZip, all_follow, all_of_map}
+use Rattle.sap_maps.specs.Prelude.{Name, Valuation, find}
 use Rattle.sap_lattice.specs.Codes.{code_of, width_of}
-use Rattle.sap_meaning.specs.Program.{is_input}
-use Rattle.sap_meaning.specs.Cycle.{Tagged}
-use Rattle.sap_meaning.specs.Store.{After, Refusal, Store}
+use Rattle.sap_meaning.specs.Prelude.{is_input, Tagged, After, Refusal, Store}
 use Rattle.sap_net.specs.declared.parts.PortKind.TheVariants as kind
+use Rattle.sap_net.specs.Prelude.{Net, IsNetlist, AllFit, observed}
 use Rattle.sap_net.specs.declared.parts.Port.{Port}
 use Rattle.sap_net.specs.declared.parts.Input.{Input}
 use Rattle.sap_net.specs.declared.parts.Register.{Register}
 use Rattle.sap_net.specs.declared.parts.Memory.{Memory}
-use Rattle.sap_net.specs.Net.{Net}
-use Rattle.sap_net.specs.IsNetlist.{IsNetlist}
-use Rattle.sap_net.specs.Runs.{AllFit, observed}
 use Rattle.sap_net.proofs.Exists.{run_exists}
-use Rattle.sap_interface.specs.StandsFor.{IsRefused, Named, world, StandsFor}
-use Rattle.sap_interface.specs.Interface.{Shown, declared_by, DeclaresPart}
-use Rattle.sap_interface.specs.Compiled.{coded_stream, CyclesStand}
+use Rattle.sap_interface.specs.Prelude.{IsRefused, Named, world, StandsFor, Shown, declared_by, DeclaresPart, coded_stream, CyclesStand}
 use Rattle.sap_build.specs.Copies.{through}
 use Rattle.sap_trim.specs.Alike.{ShowsAlike}
 use Rattle.sap_link.specs.Composites.{composite_run, run_of_part, StreamFits}
-use Rattle.sap_linked.specs.Parts.{NamedSystem, part_at, system_of, in_part}
-use Rattle.sap_linked.specs.Interface.{DeclaresSystem}
-use Rattle.sap_linked.specs.Netlist.{held_ports, linked_net, without_fed}
-use Rattle.sap_linked.specs.Standing.{names_of_inputs, RunsStand}
-use Rattle.sap_linked.specs.Laws.{LinkedNetDeclares, LinkedNetIsNetlist, LinkedNetLinks, LinkedNetsStand}
+use Rattle.sap_linked.specs.Prelude.{NamedSystem, part_at, system_of, in_part, DeclaresSystem, held_ports, linked_net, without_fed, names_of_inputs, RunsStand, LinkedNetDeclares, LinkedNetIsNetlist, LinkedNetLinks, LinkedNetsStand}
 use Rattle.sap_linked.proofs.Entities.{of_pairs}
 use Rattle.sap_linked.proofs.Reading.{at_name}
 use Rattle.sap_linked_small.specs.Laws.{IsSmall, SmallNetsStand}

@@ -1,30 +1,20 @@
 -- A netlist that declares alike starts as the system does.
-use Rattle.std.proofs.Common.{◌≡◌, ℕ, false, [], map, Option, Some, refl, sym, ◌∙◌, ap}
-use Rattle.std.specs.Prelude.{unwrap_or}
-use Rattle.std.specs.List.{AllByRecursion}
-use Rattle.sap_lemmas.proofs.Everywhere.{all_follow}
-use Rattle.sap_maps.specs.Maps.{Name}
-use Rattle.sap_maps.specs.Scope.{find}
+use Rattle.sap_lemmas.proofs.Common.{◌≡◌, ℕ, false, [], map, Option, Some, refl, sym, ◌∙◌, ap, unwrap_or, AllByRecursion, all_follow}
+use Rattle.sap_maps.specs.Prelude.{Name, find}
 use Rattle.sap_lattice.specs.Codes.{width_of}
 use Rattle.sap_meaning.specs.State.{first}
+use Rattle.sap_net.specs.Prelude.{is_among, Net, register_names, shapes, IsNetlist, AreSame, initial, initial_cell, initial_number}
 use Rattle.sap_net.specs.declared.parts.Input.{Input}
 use Rattle.sap_net.specs.declared.parts.Wire.{Wire}
 use Rattle.sap_net.specs.declared.parts.Register.{Register}
 use Rattle.sap_net.specs.declared.parts.Memory.{Memory}
-use Rattle.sap_net.specs.Names.{is_among}
-use Rattle.sap_net.specs.Net.{Net}
-use Rattle.sap_net.specs.IsNetlist.{register_names, shapes, IsNetlist}
-use Rattle.sap_net.specs.Laws.{AreSame}
-use Rattle.sap_net.specs.Runs.{initial, initial_cell, initial_number}
 use Rattle.sap_net.proofs.NamesLemmas.{not_found}
 use Rattle.sap_interface.specs.StandsFor.{world, StandsFor}
 use Rattle.sap_build.specs.Copies.{copy_memory, copy_register, copy_wire, through}
 use Rattle.sap_build.specs.Parts.{Feeds, IsPart}
 use Rattle.sap_build.proofs.Inside.{each_found, of_readable, of_shapes}
 use Rattle.sap_trim.specs.Alike.{DeclaresAlike}
-use Rattle.sap_linked.specs.Parts.{NamedSystem, part_at, in_part}
-use Rattle.sap_linked.specs.Linking.{IsNetOf}
-use Rattle.sap_linked.specs.Netlist.{linked_net}
+use Rattle.sap_linked.specs.Prelude.{NamedSystem, part_at, in_part, IsNetOf, linked_net}
 use Rattle.sap_linked.proofs.Alike.{stands_behind}
 use Rattle.sap_linked.proofs.Declared.{found_of}
 use Rattle.sap_linked.proofs.Own.{both, inputs_apart, memories_own, registers_own, wires_feed}

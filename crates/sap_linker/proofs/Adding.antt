@@ -1,8 +1,5 @@
 -- What was added for parts, under their names.
-use Rattle.std.proofs.Common.{◌≡◌, ℕ, ◌≤◌, List, [], ◌∷◌, ◌++◌, map, length, drop, refl, sym, ap, ◌∙◌, subst, arith}
-use Rattle.std.specs.List.{AllByRecursion}
-use Rattle.std.proofs.lemmas.List.{append-nil}
-use Rattle.sap_lemmas.proofs.Lists.{drop_past}
+use Rattle.sap_lemmas.proofs.Common.{◌≡◌, ℕ, ◌≤◌, List, [], ◌∷◌, ◌++◌, map, length, drop, refl, sym, ap, ◌∙◌, subst, arith, AllByRecursion, append-nil, drop_past}
 use Rattle.sap_lattice.specs.Levels.{Levels}
 use Rattle.sap_net.specs.Net.{Net}
 use Rattle.sap_system.specs.Listing.{Listing}

@@ -1,22 +1,13 @@
 -- How many ports the netlist of a system has, and how many of them show what feeds inputs.
-use Rattle.std.proofs.Common.{◌≡◌, ℕ, suc, ◌+◌, ◌≤◌, List, [], ◌∷◌, ◌++◌, map, length, refl, sym, ap, ◌∙◌, subst, inl, inr, arith}
-use Rattle.std.proofs.lemmas.Bool.{cases_Bool}
-use Rattle.sap_lemmas.proofs.Lists.{length_map}
-use Rattle.sap_lattice.specs.Levels.{Levels, order_of}
-use Rattle.sap_lattice.specs.Codes.{width_of}
+use Rattle.sap_lemmas.proofs.Common.{◌≡◌, ℕ, suc, ◌+◌, ◌≤◌, List, [], ◌∷◌, ◌++◌, map, length, refl, sym, ap, ◌∙◌, subst, inl, inr, arith, cases_Bool, length_map}
+use Rattle.sap_lattice.specs.Prelude.{Levels, order_of, width_of}
 use Rattle.sap_meaning.specs.Program.{Entity, is_input}
 use Rattle.sap_net.specs.declared.parts.PortKind.TheVariants as kind
-use Rattle.sap_net.specs.declared.parts.Input.{Input}
 use Rattle.sap_net.specs.Net.{Net}
-use Rattle.sap_interface.specs.StandsFor.{world}
-use Rattle.sap_interface.specs.Interface.{Shown, pairs_of}
+use Rattle.sap_net.specs.declared.parts.Input.{Input}
+use Rattle.sap_interface.specs.Prelude.{world, Shown, pairs_of}
 use Rattle.sap_link.specs.Systems.{Wire, endpoint, is_fed, free_inputs}
-use Rattle.sap_linked.specs.Parts.{Part, NamedSystem, system_of, in_part}
-use Rattle.sap_linked.specs.Linking.{inputs_for}
-use Rattle.sap_linked.specs.Interface.{ports_in, is_free, is_fed_input, input_ports, register_ports, refusal_ports, fed_inputs, linked_ports}
-use Rattle.sap_linked.specs.Netlist.{held_ports, linked_net}
-use Rattle.sap_linked.specs.Designs.{part_of, named_system}
-use Rattle.sap_linked.specs.Laws.{InputsInOrder}
+use Rattle.sap_linked.specs.Prelude.{Part, NamedSystem, system_of, in_part, inputs_for, ports_in, is_free, is_fed_input, input_ports, register_ports, refusal_ports, fed_inputs, linked_ports, held_ports, linked_net, part_of, named_system, InputsInOrder}
 use Rattle.sap_joined.proofs.FreeInputs.{inputs_by, inputs_are}
 use Rattle.sap_linker.specs.declared.parts.LinkedPart.{LinkedPart}
 use Rattle.sap_linker.specs.Given.{named_design, designs_of, net_at, AreOver}

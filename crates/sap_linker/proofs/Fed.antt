@@ -1,14 +1,10 @@
 -- A system has at most two wires behind its ports for each wire between its parts: no input is fed twice.
-use Rattle.std.proofs.Common.{◌≡◌, ℕ, suc, ◌+◌, ◌*◌, ◌<◌, ◌≤◌, Bool, true, false, List, [], ◌∷◌, ◌++◌, length, nat_eq, refl, ap, ◌∙◌, inl, inr, arith}
-use Rattle.std.proofs.lemmas.Bool.{and_parts, cases_Bool, eqb-true}
-use Rattle.sap_lemmas.proofs.Lists.{length_map}
+use Rattle.sap_lemmas.proofs.Common.{◌≡◌, ℕ, suc, ◌+◌, ◌*◌, ◌<◌, ◌≤◌, Bool, true, false, List, [], ◌∷◌, ◌++◌, length, nat_eq, refl, ap, ◌∙◌, inl, inr, arith, and_parts, cases_Bool, eqb-true, length_map}
 use Rattle.sap_meaning.specs.Program.{Entity, is_input}
 use Rattle.sap_net.specs.declared.parts.PortKind.TheVariants as kind
-use Rattle.sap_interface.specs.StandsFor.{Named, world}
-use Rattle.sap_interface.specs.Interface.{Shown, pairs_of}
+use Rattle.sap_interface.specs.Prelude.{Named, world, Shown, pairs_of}
 use Rattle.sap_link.specs.Systems.{Endpoint, Wire, endpoint, is_fed, same_endpoint}
-use Rattle.sap_linked.specs.Parts.{Part, in_part}
-use Rattle.sap_linked.specs.Interface.{fed_inputs, is_fed_input, ports_in}
+use Rattle.sap_linked.specs.Prelude.{Part, in_part, fed_inputs, is_fed_input, ports_in}
 use Rattle.sap_linker.proofs.Counting.{both_lengths}
 
 -- the ports of the entity to which a wire leads, in part i and in parts from k on

@@ -1,15 +1,10 @@
 -- The netlists of parts as the code has them, joined, are the netlist of the system.
-use Rattle.std.proofs.Common.{◌≡◌, ℕ, zero, suc, ◌+◌, List, [], ◌∷◌, map, Some, slice_get, refl, sym, ap, ap₂, ◌∙◌, subst, arith}
-use Rattle.std.proofs.lemmas.Option.{same_Some, none-some}
-use Rattle.sap_lattice.specs.Levels.{Levels, order_of}
-use Rattle.sap_lattice.specs.Codes.{Codes, width_of}
-use Rattle.sap_net.specs.Net.{Net}
-use Rattle.sap_net.specs.IsNetlist.{IsNetlist}
+use Rattle.sap_lemmas.proofs.Common.{◌≡◌, ℕ, zero, suc, ◌+◌, List, [], ◌∷◌, map, Some, slice_get, refl, sym, ap, ap₂, ◌∙◌, subst, arith, same_Some, none-some}
+use Rattle.sap_lattice.specs.Prelude.{Levels, order_of, Codes, width_of}
+use Rattle.sap_net.specs.Prelude.{Net, IsNetlist}
 use Rattle.sap_link.specs.Systems.{System, Wire, WiresFit}
 use Rattle.sap_link.specs.Designs.{WellLinked}
-use Rattle.sap_linked.specs.Parts.{NamedSystem, NamesFit}
-use Rattle.sap_linked.specs.Netlist.{linked_net}
-use Rattle.sap_linked.specs.Designs.{NamedDesign, part_of, trees, named_system, IsNetOfDesign, LinkedDesignsAreNetlists}
+use Rattle.sap_linked.specs.Prelude.{NamedSystem, NamesFit, linked_net, NamedDesign, part_of, trees, named_system, IsNetOfDesign, LinkedDesignsAreNetlists}
 use Rattle.sap_linked.proofs.Designs.{each_net, same_system}
 use Rattle.sap_joined.specs.Joined.{NamedNet, Feed, joined}
 use Rattle.sap_joined.specs.Systems.{feed_of, nets_from, JoinedIsLinked}

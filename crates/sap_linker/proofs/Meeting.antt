@@ -1,31 +1,23 @@
 -- What is given of a system, over its designs.
-use Rattle.std.proofs.Common.{◌≡◌, ℕ, zero, suc, ◌<◌, List, [], ◌∷◌, map, length, get_or, Option, Some, None, slice_get, option_map, refl, sym, ap, ap₂, ◌∙◌, subst}
-use Rattle.std.specs.List.{AllByRecursion, AllZip}
-use Rattle.std.proofs.lemmas.Option.{slice_get-map, slice_get_within, get_or_from_slice_get, slice_get-get_or, same_Some, none-some}
-use Rattle.sap_lemmas.proofs.Lists.{length_map}
+use Rattle.sap_lemmas.proofs.Common.{◌≡◌, ℕ, zero, suc, ◌<◌, List, [], ◌∷◌, map, length, get_or, Option, Some, None, slice_get, option_map, refl, sym, ap, ap₂, ◌∙◌, subst, AllByRecursion, AllZip, slice_get-map, slice_get_within, get_or_from_slice_get, slice_get-get_or, same_Some, none-some, length_map}
 use Rattle.sap_maps.specs.Maps.{Name}
 use Rattle.sap_tree.specs.Syntax.{DesignTree}
-use Rattle.sap_lattice.specs.Levels.{Levels, order_of}
-use Rattle.sap_lattice.specs.Codes.{code_of}
-use Rattle.sap_names.specs.Entities.{declared_width, entities_of}
-use Rattle.sap_names.specs.Entities.{find as find_entity}
+use Rattle.sap_lattice.specs.Prelude.{Levels, order_of, code_of}
+use Rattle.sap_names.specs.Entities.{declared_width, entities_of, find as find_entity}
 use Rattle.sap_names.specs.declared.entity.Entity.{Entity}
 use Rattle.sap_names.specs.declared.kind.Declared.{Declared}
 use Rattle.sap_names.specs.declared.kind.Declared.TheVariants as what
 use Rattle.sap_names.proofs.Numbers.{find_some}
 use Rattle.sap_shape.specs.WellFormed.{WellFormed}
-use Rattle.sap_meaning.specs.Program.{Program, nothing, width}
-use Rattle.sap_meaning.specs.Program.{Entity as ProgramEntity}
+use Rattle.sap_meaning.specs.Program.{Program, nothing, width, Entity as ProgramEntity}
 use Rattle.sap_resolved.specs.Fill.{program_of}
 use Rattle.sap_resolved.specs.Worlds.{world_of}
 use Rattle.sap_resolved.proofs.Lookup.{AllMatch, Stands, entities_match}
-use Rattle.sap_interface.specs.StandsFor.{name}
-use Rattle.sap_interface.specs.Designs.{named_of}
+use Rattle.sap_interface.specs.Prelude.{name, named_of}
 use Rattle.sap_system.specs.Wires.{NamedPart, Surroundings}
 use Rattle.sap_system.specs.declared.file.WireText.{WireText}
 use Rattle.sap_link.specs.Systems.{Endpoint, Wire, width_at}
-use Rattle.sap_linked.specs.Parts.{Part, part_at, system_of}
-use Rattle.sap_linked.specs.Designs.{NamedDesign, part_of, named_system, trees}
+use Rattle.sap_linked.specs.Prelude.{Part, part_at, system_of, NamedDesign, part_of, named_system, trees}
 use Rattle.sap_wiring.specs.Laws.{AreOfDesigns}
 use Rattle.sap_wiring.specs.Wiring.{AreWiresOf, IsEndpoint, names_in}
 use Rattle.sap_joined.specs.Joined.{Feed}

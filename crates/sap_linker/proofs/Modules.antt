@@ -1,17 +1,13 @@
 -- What comes of the netlist of a system when it is made small.
-use Rattle.std.proofs.Common.{◌≡◌, ℕ, false, not, List, [], ◌∷◌, map, filter, refl, ap, ◌∙◌, subst}
-use Rattle.std.specs.List.{AllByRecursion}
+use Rattle.sap_lemmas.proofs.Common.{◌≡◌, ℕ, false, not, List, [], ◌∷◌, map, filter, refl, ap, ◌∙◌, subst, AllByRecursion}
 use Rattle.sap_maps.specs.Maps.{Name}
+use Rattle.sap_net.specs.Prelude.{is_among, Net}
 use Rattle.sap_net.specs.declared.parts.Port.{Port}
 use Rattle.sap_net.specs.declared.parts.Wire.{Wire}
-use Rattle.sap_net.specs.Names.{is_among}
-use Rattle.sap_net.specs.Net.{Net}
 use Rattle.sap_fold.specs.Settled.{IsSettled, is_copy}
 use Rattle.sap_trim.specs.Trimmed.{FoldsWires}
 use Rattle.sap_interface.specs.Interface.{Shown}
-use Rattle.sap_linked.specs.Parts.{NamedSystem}
-use Rattle.sap_linked.specs.Netlist.{held_ports, linked_net, without_fed}
-use Rattle.sap_linked.specs.Designs.{named_system}
+use Rattle.sap_linked.specs.Prelude.{NamedSystem, held_ports, linked_net, without_fed, named_system}
 use Rattle.sap_linked_small.specs.Laws.{SmallDesignsStand}
 use Rattle.sap_linked_agree.specs.Laws.{ModulesAgree, ModulesHaveOneRun}
 use Rattle.sap_linker.specs.Laws.{SmallNetsAreModules}

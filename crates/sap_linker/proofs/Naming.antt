@@ -1,15 +1,9 @@
 -- The names of parts that keep the rules of a system file.
-use Rattle.std.proofs.Common.{◌≡◌, ℕ, zero, suc, ◌<◌, Bool, true, false, ◌||◌, ◌&&◌, not, List, [], ◌∷◌, length, get_or, map, refl, sym, ap, ◌∙◌, inl, inr, arith, subst}
-use Rattle.std.specs.Prelude.{◌==◌}
-use Rattle.std.specs.List.{list_all}
-use Rattle.std.specs.Str.{byte}
-use Rattle.std.proofs.lemmas.Bool.{both_ways, cases_Bool, cases_order}
-use Rattle.sap_lemmas.proofs.Lists.{length_map}
+use Rattle.sap_lemmas.proofs.Common.{◌≡◌, ℕ, zero, suc, ◌<◌, Bool, true, false, ◌||◌, ◌&&◌, not, List, [], ◌∷◌, length, get_or, map, refl, sym, ap, ◌∙◌, inl, inr, arith, subst, ◌==◌, list_all, byte, both_ways, cases_Bool, cases_order, length_map}
 use Rattle.sap_text.specs.Names.{is_word, is_inner}
 use Rattle.sap_text.proofs.NamesLemmas.{word_inner}
 use Rattle.sap_maps.specs.Maps.{Name}
-use Rattle.sap_lattice.specs.Closure.{name_at}
-use Rattle.sap_lattice.specs.Rules.BadName.{no_word, repeated}
+use Rattle.sap_lattice.specs.Prelude.{name_at, no_word, repeated}
 use Rattle.sap_system.specs.Rules.{BadPartName, part_names, has_underscore}
 use Rattle.sap_system.specs.Rules.BadPartName.{bad, underscore}
 use Rattle.sap_system.specs.declared.file.Part.{Part as FilePart}

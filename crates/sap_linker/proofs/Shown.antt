@@ -1,22 +1,13 @@
 -- A netlist has as many wires that ports show as ports that show wires.
-use Rattle.std.proofs.Common.{◌≡◌, ℕ, suc, ◌≤◌, Bool, true, false, not, List, [], ◌∷◌, ◌++◌, map, filter, length, take, drop, bytes_eq, Some, None, refl, sym, ap, ◌∙◌, subst, inl, inr, arith}
-use Rattle.std.specs.List.{AllByRecursion}
-use Rattle.std.proofs.lemmas.Bool.{and_parts, cases_Bool}
-use Rattle.std.proofs.lemmas.List.{take-append-drop}
-use Rattle.std.proofs.lemmas.Option.{none-some}
-use Rattle.sap_lemmas.proofs.Lists.{length_map}
-use Rattle.sap_lemmas.proofs.Texts.{bytes_eq_apart_back, equal_of_bytes_eq}
-use Rattle.sap_maps.specs.Maps.{Name}
-use Rattle.sap_maps.specs.Scope.{Scope, find}
+use Rattle.sap_lemmas.proofs.Common.{◌≡◌, ℕ, suc, ◌≤◌, Bool, true, false, not, List, [], ◌∷◌, ◌++◌, map, filter, length, take, drop, bytes_eq, Some, None, refl, sym, ap, ◌∙◌, subst, inl, inr, arith, AllByRecursion, and_parts, cases_Bool, take-append-drop, none-some, length_map, bytes_eq_apart_back, equal_of_bytes_eq}
+use Rattle.sap_maps.specs.Prelude.{Name, Scope, find}
+use Rattle.sap_net.specs.Prelude.{Net, AreDistinct, is_among, IsNetlist, PortShows, first_readable, input_names, names_of, register_names, shapes, wire_names}
 use Rattle.sap_net.specs.declared.parts.PortKind.{PortKind}
-use Rattle.sap_net.specs.declared.parts.PortKind.TheVariants as kind
 use Rattle.sap_net.specs.declared.parts.Port.{Port}
 use Rattle.sap_net.specs.declared.parts.Input.{Input}
 use Rattle.sap_net.specs.declared.parts.Register.{Register}
 use Rattle.sap_net.specs.declared.parts.Wire.{Wire}
-use Rattle.sap_net.specs.Net.{Net}
-use Rattle.sap_net.specs.Names.{AreDistinct, is_among}
-use Rattle.sap_net.specs.IsNetlist.{IsNetlist, PortShows, first_readable, input_names, names_of, register_names, shapes, wire_names}
+use Rattle.sap_net.specs.declared.parts.PortKind.TheVariants as kind
 use Rattle.sap_net.proofs.NamesLemmas.{among_behind, among_here, apart_by_membership, filter_among, filter_distinct, found_of}
 use Rattle.sap_net.proofs.RulesLemmas.{wires_distinct, wires_new}
 use Rattle.sap_trim.specs.Names.{port_names, shown_wires}

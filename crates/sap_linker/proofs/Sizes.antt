@@ -1,38 +1,26 @@
 -- How many items the netlist of a system has when it is made small.
-use Rattle.std.proofs.Common.{◌≡◌, ℕ, zero, suc, ◌+◌, ◌*◌, ◌≤◌, Bool, false, not, List, [], ◌∷◌, ◌++◌, map, filter, length, sum_by, Option, Some, None, refl, sym, ap, ◌∙◌, subst, inl, inr, arith}
-use Rattle.std.specs.List.{AllZip}
-use Rattle.std.proofs.lemmas.Bool.{cases_Bool}
-use Rattle.std.proofs.lemmas.List.Elements.{filter-append}
+use Rattle.sap_lemmas.proofs.Common.{◌≡◌, ℕ, zero, suc, ◌+◌, ◌*◌, ◌≤◌, Bool, false, not, List, [], ◌∷◌, ◌++◌, map, filter, length, sum_by, Option, Some, None, refl, sym, ap, ◌∙◌, subst, inl, inr, arith, AllZip, cases_Bool, filter-append, sum_by-cons, length_map}
 use Rattle.std.proofs.lemmas.List.Filters.{length-filter_both}
-use Rattle.std.proofs.lemmas.List.Sums.{sum_by-cons}
-use Rattle.sap_lemmas.proofs.Lists.{length_map}
 use Rattle.sap_maps.specs.Maps.{Name}
 use Rattle.sap_lattice.specs.Levels.{Levels}
 use Rattle.sap_check.specs.Checked.{tree_in}
 use Rattle.sap_meaning.specs.Program.{Entity, is_input, is_register}
+use Rattle.sap_net.specs.Prelude.{is_among, Net, IsNetlist}
 use Rattle.sap_net.specs.declared.parts.PortKind.{PortKind}
-use Rattle.sap_net.specs.declared.parts.PortKind.TheVariants as kind
 use Rattle.sap_net.specs.declared.parts.Port.{Port}
 use Rattle.sap_net.specs.declared.parts.Register.{Register}
 use Rattle.sap_net.specs.declared.parts.Memory.{Memory}
 use Rattle.sap_net.specs.declared.parts.Right.{Right}
 use Rattle.sap_net.specs.declared.parts.Right.TheVariants.{Copy, One, Two, Choose, Concat, Slice, Cell}
 use Rattle.sap_net.specs.declared.parts.Wire.{Wire}
-use Rattle.sap_net.specs.Names.{is_among}
-use Rattle.sap_net.specs.Net.{Net}
-use Rattle.sap_net.specs.IsNetlist.{IsNetlist}
+use Rattle.sap_net.specs.declared.parts.PortKind.TheVariants as kind
 use Rattle.sap_trim.specs.Alike.{DeclaresAlike}
 use Rattle.sap_trim.specs.Few.{HasFewWires, calculated, is_copy}
 use Rattle.sap_trim.specs.Names.{port_names, shown_wires}
-use Rattle.sap_interface.specs.Designs.{named_of, site_count_of}
-use Rattle.sap_interface.specs.StandsFor.{Named, world}
-use Rattle.sap_interface.specs.Interface.{Shown, pairs_of, site_ports}
+use Rattle.sap_interface.specs.Prelude.{named_of, site_count_of, Named, world, Shown, pairs_of, site_ports}
 use Rattle.sap_build.specs.Copies.{copy_right, copy_wire, copy_register, copy_memory}
 use Rattle.sap_link.specs.Systems.{Wire as SystemWire}
-use Rattle.sap_linked.specs.Parts.{Part, NamedSystem, in_part}
-use Rattle.sap_linked.specs.Interface.{fed_inputs, input_ports, is_free, linked_ports, ports_in, register_ports, refusal_ports}
-use Rattle.sap_linked.specs.Netlist.{copies_of, feeds, feeds_through, held_ports, linked_net, shown_names}
-use Rattle.sap_linked.specs.Designs.{named_system, part_of}
+use Rattle.sap_linked.specs.Prelude.{Part, NamedSystem, in_part, fed_inputs, input_ports, is_free, linked_ports, ports_in, register_ports, refusal_ports, copies_of, feeds, feeds_through, held_ports, linked_net, shown_names, named_system, part_of}
 use Rattle.sap_linker.specs.declared.parts.LinkedPart.{LinkedPart}
 use Rattle.sap_linker.specs.Given.{AreOver, IsOver, designs_of, named_design, net_at, nets_of}
 use Rattle.sap_linker.specs.Linking.{with_ports}

@@ -1,16 +1,11 @@
 -- The netlist of a system, made small and without the ports of what feeds inputs, is the module of the system.
 use Rattle.std.proofs.Common.{◌≡◌, ℕ, ◌+◌, List, length, sym, subst}
-use Rattle.sap_lattice.specs.Order.{Laws}
-use Rattle.sap_lattice.specs.Levels.{Levels, order_of}
-use Rattle.sap_lattice.specs.Codes.{Codes}
+use Rattle.sap_lattice.specs.Prelude.{Laws, Levels, order_of, Codes}
 use Rattle.sap_net.specs.Net.{Net}
 use Rattle.sap_trim.specs.Trimmed.{FoldsWires}
 use Rattle.sap_link.specs.Systems.{Wire}
 use Rattle.sap_link.specs.Designs.{WellLinked}
-use Rattle.sap_linked.specs.Parts.{NamedSystem, NamesFit}
-use Rattle.sap_linked.specs.Netlist.{linked_net}
-use Rattle.sap_linked.specs.Designs.{named_system, trees}
-use Rattle.sap_linked.specs.Laws.{InputsInOrder}
+use Rattle.sap_linked.specs.Prelude.{NamedSystem, NamesFit, linked_net, named_system, trees, InputsInOrder}
 use Rattle.sap_linked_small.specs.Laws.{IsSmall}
 use Rattle.sap_linker.specs.declared.parts.LinkedPart.{LinkedPart}
 use Rattle.sap_linker.specs.Given.{designs_of, net_at, AreOver}

@@ -1,12 +1,8 @@
 -- Two lattices that are the same have the same systems.
-use Rattle.std.proofs.Common.{◌≡◌, ℕ, ◌+◌, ◌*◌, ◌≤◌, List, [], ◌∷◌, length, map, sum_by, take, refl, ap, ap₂, subst, inl, inr}
-use Rattle.std.specs.Prelude.{Option, Result, Ok, Err}
-use Rattle.std.specs.List.{AllZip}
+use Rattle.sap_lemmas.proofs.Common.{◌≡◌, ℕ, ◌+◌, ◌*◌, ◌≤◌, List, [], ◌∷◌, length, map, sum_by, take, refl, ap, ap₂, subst, inl, inr, Option, Result, Ok, Err, AllZip, all_follow}
 use Rattle.sap_desk.specs.Desk.{Told}
-use Rattle.sap_lattice.specs.Levels.{Levels}
-use Rattle.sap_lattice.specs.Order.{Order}
+use Rattle.sap_lattice.specs.Prelude.{Levels, Order}
 use Rattle.sap_latfile.specs.OneLattice.{AreSame}
-use Rattle.sap_lemmas.proofs.Everywhere.{all_follow}
 use Rattle.sap_tree.specs.Syntax.{DesignTree}
 use Rattle.sap_names.specs.Entities.{entities_of}
 use Rattle.sap_shape.specs.WellFormed.{WellFormed}
@@ -15,16 +11,13 @@ use Rattle.sap_size.specs.Items.{items}
 use Rattle.sap_size.specs.Trees.{design_nodes, entity_count}
 use Rattle.sap_meaning.specs.Program.{Program}
 use Rattle.sap_resolved.specs.Fill.{program_of}
-use Rattle.sap_interface.specs.StandsFor.{Named}
-use Rattle.sap_interface.specs.Designs.{site_count_of}
+use Rattle.sap_interface.specs.Prelude.{Named, site_count_of}
 use Rattle.sap_system.specs.Wires.{FirstLinkFault, KeepsWires, Surroundings}
 use Rattle.sap_system.specs.declared.file.Part.{Part}
 use Rattle.sap_system.specs.declared.file.WireText.{WireText}
 use Rattle.sap_link.specs.Systems.{Wire, WiresFit}
 use Rattle.sap_link.specs.Designs.{WellLinked, linked}
-use Rattle.sap_linked.specs.Designs.{NamedDesign, named_system, part_of, trees}
-use Rattle.sap_linked.specs.Parts.{NamedSystem}
-use Rattle.sap_linked.specs.Parts.{Part as SystemPart}
+use Rattle.sap_linked.specs.Prelude.{NamedDesign, named_system, part_of, trees, NamedSystem, Part as SystemPart}
 use Rattle.sap_linked_small.specs.Laws.{IsNetOfSystem}
 use Rattle.sap_linked_agree.specs.Agree.{SystemRunsAgree, SystemRunsLookAlike, SystemHasOneRun}
 use Rattle.sap_wiring.specs.Wiring.{AreWiresOf}
@@ -32,8 +25,7 @@ use Rattle.sap_linker.specs.Given.{surroundings}
 use Rattle.sap_linker.specs.Linking.{IsLinked}
 use Rattle.sap_linker.specs.Modules.{FoldsInnerWires, IsModuleOfSystem}
 use Rattle.sap_linker.specs.Sizes.{IsSmallSystem}
-use Rattle.sap_files.specs.Ending.{Ending}
-use Rattle.sap_files.specs.Steps.{EndsReading, Moment, Refuses}
+use Rattle.sap_files.specs.Prelude.{Ending, EndsReading, Moment, Refuses}
 use Rattle.sap_files.specs.declared.failure.Failure.{Failure}
 use Rattle.sap_files.proofs.Alike.{named_in}
 use Rattle.sap_files.proofs.Designs.{fault_in, text_in, well_formed_in}

@@ -1,14 +1,9 @@
 -- From how the parts of a system are read, and what is asked behind them ends, to how the whole ends.
-use Rattle.std.proofs.Common.{◌≡◌, ℕ, zero, suc, List, [], ◌∷◌, take, sym, subst}
-use Rattle.std.specs.Prelude.{Some, slice_get}
-use Rattle.std.specs.List.{AllZip}
-use Rattle.std.proofs.lemmas.Option.{none-some, same_Some}
+use Rattle.sap_lemmas.proofs.Common.{◌≡◌, ℕ, zero, suc, List, [], ◌∷◌, take, sym, subst, Some, slice_get, AllZip, none-some, same_Some}
 use Rattle.sap_lattice.specs.Levels.{Levels}
 use Rattle.sap_system.specs.declared.file.Part.{Part}
 use Rattle.sap_linked.specs.Designs.{NamedDesign}
-use Rattle.sap_files.specs.Ending.{Ending}
-use Rattle.sap_files.specs.Asks.{Asks}
-use Rattle.sap_files.specs.Steps.{Ends, EndsReading, Moment, Reads}
+use Rattle.sap_files.specs.Prelude.{Ending, Asks, Ends, EndsReading, Moment, Reads}
 use Rattle.sap_files.proofs.Ended.{past, quiet_self, reading_ended}
 use Rattle.sap_linking.specs.Asked.{asks_parts}
 use Rattle.sap_linking.specs.Kinds.{part_file}

@@ -1,6 +1,5 @@
 -- Parts as they are handed on have the designs and netlists of those that were loaded.
-use Rattle.std.proofs.Common.{◌≡◌, List, [], ◌∷◌, map, refl, sym, ◌∙◌, ap, subst}
-use Rattle.std.specs.List.{AllByRecursion}
+use Rattle.sap_lemmas.proofs.Common.{◌≡◌, List, [], ◌∷◌, map, refl, sym, ◌∙◌, ap, subst, AllByRecursion}
 use Rattle.sap_lattice.specs.Levels.{Levels}
 use Rattle.sap_net.specs.Net.{Net}
 use Rattle.sap_shape.specs.WellFormed.{WellFormed}

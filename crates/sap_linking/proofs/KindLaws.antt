@@ -6,9 +6,7 @@ use Rattle.sap_system.specs.SystemFile.{FirstFault}
 use Rattle.sap_system.specs.declared.fault.SysFault.{SysFault}
 use Rattle.sap_system.specs.declared.fault.SysFault.TheVariants as system
 use Rattle.sap_system.proofs.Answered.{one_system, one_fault as one_system_fault, not_both as not_system_and_fault}
-use Rattle.sap_files.specs.Ending.{design_refused, part_refused, system_refused}
-use Rattle.sap_files.specs.Kinds.{IsLawful}
-use Rattle.sap_files.specs.Steps.{Refuses, ending}
+use Rattle.sap_files.specs.Prelude.{design_refused, part_refused, system_refused, IsLawful, Refuses, ending}
 use Rattle.sap_files.specs.declared.failure.Failure.{Failure}
 use Rattle.sap_files.proofs.DesignFaults.{one_fault}
 use Rattle.sap_files.proofs.Designs.{design_lawful}

@@ -1,12 +1,8 @@
 -- Where nothing changed before, a command ends as it does from there.
-use Rattle.std.proofs.Common.{◌≡◌, ℕ, List, ◌∙◌, subst, inl, inr}
-use Rattle.std.specs.Prelude.{Option, Some, IfSome}
+use Rattle.sap_lemmas.proofs.Common.{◌≡◌, ℕ, List, ◌∙◌, subst, inl, inr, Option, Some, IfSome}
 use Rattle.sap_desk.specs.Desk.{Told}
 use Rattle.sap_desk.specs.Whole.{Between}
-use Rattle.sap_files.specs.Ending.{Ending}
-use Rattle.sap_files.specs.Kinds.{Kind}
-use Rattle.sap_files.specs.Asks.{Asks}
-use Rattle.sap_files.specs.Steps.{Counted, Ends, EndsReading, FaultRose, Left, Moment, NotRead, Quiet, Reads, Stops}
+use Rattle.sap_files.specs.Prelude.{Ending, Kind, Asks, Counted, Ends, EndsReading, FaultRose, Left, Moment, NotRead, Quiet, Reads, Stops}
 use Rattle.sap_files.proofs.Ended.{between_map, quiet_then}
 
 from : (P : Told → Told → Type 0) (old mid new : Option Told) → mid ≡ old → Between mid new P → Between old new P

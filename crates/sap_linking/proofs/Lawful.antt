@@ -1,6 +1,5 @@
 -- What `link` asks is lawful.
-use Rattle.std.proofs.Common.{◌≡◌, ℕ, List, [], ◌∷◌, refl, ap}
-use Rattle.std.specs.Prelude.{Option, Some, None}
+use Rattle.sap_lemmas.proofs.Common.{◌≡◌, ℕ, List, [], ◌∷◌, refl, ap, Option, Some, None}
 use Rattle.sap_lattice.specs.Levels.{Levels}
 use Rattle.sap_system.specs.Wires.{Surroundings}
 use Rattle.sap_system.specs.declared.file.Part.{Part}

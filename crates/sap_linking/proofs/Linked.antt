@@ -1,7 +1,5 @@
 -- What linking parts gives, and how the command ends behind it.
-use Rattle.std.proofs.Common.{◌≡◌, ◌≢◌, ◌⊎◌, ℕ, List, [], ◌∷◌, refl, sym, ap₂, subst, inl, inr}
-use Rattle.std.specs.Prelude.{Option, Some, None, Ok, Err}
-use Rattle.std.specs.List.{AllZip}
+use Rattle.sap_lemmas.proofs.Common.{◌≡◌, ◌≢◌, ◌⊎◌, ℕ, List, [], ◌∷◌, refl, sym, ap₂, subst, inl, inr, Option, Some, None, Ok, Err, AllZip}
 use Rattle.sap_desk.specs.Desk.{Told}
 use Rattle.sap_lattice.specs.Levels.{Levels}
 use Rattle.sap_system.specs.Rules.{part_names}
@@ -12,9 +10,7 @@ use Rattle.sap_system.specs.declared.link_fault.LinkFault.{LinkFault}
 use Rattle.sap_system.specs.declared.link_fault.LinkFault.TheVariants as link_fault
 use Rattle.sap_linked.specs.Designs.{NamedDesign}
 use Rattle.sap_linker.specs.Given.{design_names}
-use Rattle.sap_files.specs.Ending.{Ending, refused, no_memory, wires_refused}
-use Rattle.sap_files.specs.Asks.{writes}
-use Rattle.sap_files.specs.Steps.{Ends, Moment, ending}
+use Rattle.sap_files.specs.Prelude.{Ending, refused, no_memory, wires_refused, writes, Ends, Moment, ending}
 use Rattle.sap_files.specs.declared.failure.Failure.{Failure}
 use Rattle.sap_files.proofs.Ended.{chosen, quiet_self, starved, stopped_by, wrote}
 use Rattle.sap_linking.specs.Asked.{asks_wired}

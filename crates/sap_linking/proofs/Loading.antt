@@ -1,15 +1,11 @@
 -- The parts whose files were read so far.
-use Rattle.std.proofs.Common.{◌≡◌, ◌+◌, ◌<◌, get_or, Bool, false, ℕ, zero, suc, List, [], ◌∷◌, ◌++◌, length, take, refl, sym, ◌∙◌, ap, subst, arith}
-use Rattle.std.specs.Prelude.{Option, Some, IfSome, Ok, Err, not, if◌then◌else◌, slice_get}
-use Rattle.std.specs.List.{AllByRecursion, AllZip}
-use Rattle.std.proofs.lemmas.Option.{none-some, same_Some}
+use Rattle.sap_lemmas.proofs.Common.{◌≡◌, ◌+◌, ◌<◌, get_or, Bool, false, ℕ, zero, suc, List, [], ◌∷◌, ◌++◌, length, take, refl, sym, ◌∙◌, ap, subst, arith, Option, Some, IfSome, Ok, Err, not, if◌then◌else◌, slice_get, AllByRecursion, AllZip, none-some, same_Some, all_append}
 use Rattle.sap_desk.specs.Desk.{Told}
 use Rattle.sap_lattice.specs.Levels.{Levels}
 use Rattle.sap_system.specs.declared.file.Part.{Part}
 use Rattle.sap_linked.specs.Designs.{NamedDesign}
 use Rattle.sap_files.specs.Steps.{Moment, Quiet}
-use Rattle.sap_files.proofs.Ended.{quiet_self, quiet_then}
-use Rattle.sap_lemmas.proofs.Everywhere.{all_append}
+use Rattle.sap_files.proofs.Ended.{quiet_then}
 use Rattle.sap_linking.specs.Kinds.{part_file}
 use Rattle.sap_linking.specs.Parts.{EndsAtPart, GetsPart, HasNet, HasPart, ReadsPart, ReadsParts, loaded_design, loaded_designs}
 use Rattle.sap_linking.specs.declared.parts.LoadedPart.{LoadedPart}
@@ -33,14 +29,6 @@ pub record HaveLoaded (ls : Levels) (parts : List Part) (count : ℕ) (loaded : 
   pub quiet : Quiet before now
   pub have : AllZip (HasPart ls before.told) (take count parts) (loaded_designs loaded)
   pub nets : AllByRecursion (HasNet ls) loaded
-
-pub none_loaded : (ls : Levels) (parts : List Part) (loaded : List LoadedPart) (m : Moment) → loaded ≡ [] → HaveLoaded ls parts 0 loaded m m
-none_loaded ls parts loaded m none =
-    subst (λ (l : List LoadedPart). HaveLoaded ls parts 0 l m m) (sym none) (record { quiet = quiet_self m; have = no_parts parts; nets = tt })
-  where
-    no_parts : (ps : List Part) → AllZip (HasPart ls m.told) (take 0 ps) []
-    no_parts [] = tt
-    no_parts (p ∷ ps) = tt
 
 designs_more : (loaded : List LoadedPart) (one : LoadedPart) → loaded_designs loaded ++ loaded_design one ∷ [] ≡ loaded_designs (loaded ++ one ∷ [])
 designs_more [] one = refl
@@ -88,11 +76,6 @@ module _ {ls : Levels} {parts : List Part} {k : ℕ} {loaded : List LoadedPart} 
     have = so_far.have;
     ends = reading_ends_later so_far.quiet (part_file ls p.name) (starved_there ls p b c r.bytes r.reads);
   }
-
-pub all_loaded : {ls : Levels} {parts : List Part} {k : ℕ} {loaded : List LoadedPart} {a b : Moment} → HaveLoaded ls parts k loaded a b → take k parts ≡ parts
-    → ReadsParts ls parts (loaded_designs loaded) a b
-all_loaded {ls = ls} {loaded = loaded} {a = a} so_far all =
-    record { quiet = so_far.quiet; have = subst (λ (ps : List Part). AllZip (HasPart ls a.told) ps (loaded_designs loaded)) all so_far.have }
 
 -- the count as a loop has it, and the parts as they stand behind a push
 pub next : {ls : Levels} {parts : List Part} {k : ℕ} {loaded made : List LoadedPart} {a b : Moment} → HaveLoaded ls parts (suc k) loaded a b

@@ -1,6 +1,5 @@
 -- What reading the file of a part comes to, by what reading it as a design file does.
-use Rattle.std.proofs.Common.{◌≡◌, ℕ, List, refl, sym, ◌∙◌, ap, subst, inl, inr}
-use Rattle.std.specs.Prelude.{Option, Some, Ok, Err}
+use Rattle.sap_lemmas.proofs.Common.{◌≡◌, ℕ, List, refl, sym, ◌∙◌, ap, subst, inl, inr, Option, Some, Ok, Err}
 use Rattle.sap_lattice.specs.Levels.{Levels}
 use Rattle.sap_parse.specs.Limits.{most_bytes}
 use Rattle.sap_tree.specs.Syntax.{DesignTree}
@@ -11,9 +10,7 @@ use Rattle.sap_share.specs.Copying.{CopiesPorts}
 use Rattle.sap_system.specs.declared.file.Part.{Part}
 use Rattle.sap_linked.specs.Designs.{IsNetOfDesign}
 use Rattle.sap_files.specs.declared.fault.DesignFault.{DesignFault}
-use Rattle.sap_files.specs.Ending.{refused, failed, no_memory, design_refused, part_refused}
-use Rattle.sap_files.specs.Kinds.{IsWellFormedText, design_file}
-use Rattle.sap_files.specs.Steps.{EndsReading, FaultRose, GetsChecked, Moment, NotRead, Reads, Refuses, Stops, ending}
+use Rattle.sap_files.specs.Prelude.{refused, failed, no_memory, design_refused, part_refused, IsWellFormedText, design_file, EndsReading, FaultRose, GetsChecked, Moment, NotRead, Reads, Refuses, Stops, ending}
 use Rattle.sap_files.specs.declared.failure.Failure.{Failure}
 use Rattle.sap_files.specs.declared.failure.Failure.TheVariants as failure
 use Rattle.sap_files.specs.declared.refusal.Refusal.TheVariants as refusal

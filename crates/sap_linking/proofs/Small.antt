@@ -1,15 +1,11 @@
 -- Where the netlists of parts are within the bounds of their designs, and each wire of them that is a port is a copy, a module with few items of theirs is small.
-use Rattle.std.proofs.Common.{◌≡◌, ℕ, ◌+◌, ◌≤◌, true, List, [], ◌∷◌, filter, length, sum_by, inl, inr, refl, arith}
-use Rattle.std.specs.List.{AllByRecursion}
-use Rattle.std.proofs.lemmas.Bool.{cases_Bool}
-use Rattle.std.proofs.lemmas.List.Sums.{sum_by-cons}
+use Rattle.sap_lemmas.proofs.Common.{◌≡◌, ℕ, ◌+◌, ◌≤◌, true, List, [], ◌∷◌, filter, length, sum_by, inl, inr, refl, arith, AllByRecursion, cases_Bool, sum_by-cons}
 use Rattle.sap_lattice.specs.Levels.{Levels}
 use Rattle.sap_check.specs.Checked.{tree_in}
-use Rattle.sap_net.specs.Names.{is_among}
+use Rattle.sap_net.specs.Prelude.{is_among, Net}
 use Rattle.sap_net.specs.declared.parts.Operand.{Operand}
 use Rattle.sap_net.specs.declared.parts.Right.TheVariants.{Copy}
 use Rattle.sap_net.specs.declared.parts.Wire.{Wire}
-use Rattle.sap_net.specs.Net.{Net}
 use Rattle.sap_size.specs.Items.{IsSmall, items, most_items}
 use Rattle.sap_maps.specs.Maps.{Name}
 use Rattle.sap_trim.specs.Few.{calculated}

@@ -1,15 +1,11 @@
 -- From the steps of `link` to how the whole ends.
-use Rattle.std.proofs.Common.{◌≡◌, ℕ, List, sym, subst}
-use Rattle.std.specs.Prelude.{Some, Ok, Err, slice_get}
+use Rattle.sap_lemmas.proofs.Common.{◌≡◌, ℕ, List, sym, subst, Some, Ok, Err, slice_get}
 use Rattle.sap_lattice.specs.Levels.{Levels}
 use Rattle.sap_latfile.specs.OneLattice.{AreSame}
 use Rattle.sap_system.specs.Listing.{Listing}
 use Rattle.sap_system.specs.declared.file.Part.{Part}
 use Rattle.sap_linked.specs.Designs.{NamedDesign}
-use Rattle.sap_files.specs.Ending.{Ending}
-use Rattle.sap_files.specs.Kinds.{IsLatticeFile}
-use Rattle.sap_files.specs.Asks.{Asks, writes}
-use Rattle.sap_files.specs.Steps.{Ends, EndsReading, Moment, Reads, ending, whole}
+use Rattle.sap_files.specs.Prelude.{Ending, IsLatticeFile, Asks, writes, Ends, EndsReading, Moment, Reads, ending, whole}
 use Rattle.sap_files.specs.declared.failure.Failure.{Failure}
 use Rattle.sap_files.proofs.Ended.{got, past, reading_ended}
 use Rattle.sap_files.proofs.Lattices.{whole_same}

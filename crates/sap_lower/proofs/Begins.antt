@@ -1,21 +1,12 @@
 -- How a cycle begins: what each name and each write port stand for at first.
-use Rattle.std.proofs.Common.{◌≡◌, ℕ, zero, suc, ◌^◌, ◌<◌, ◌≤◌, ◌==◌, List, [], ◌∷◌, ◌++◌, map, Option, Some, true, sym, ap, ◌∙◌, subst, refl, arith, inl, inr, append_assoc}
-use Rattle.std.specs.Str.{bytes_eq}
-use Rattle.std.specs.List.{AllByRecursion}
-use Rattle.std.proofs.Math.Pow.{pow_pos}
-use Rattle.std.proofs.lemmas.Bool.{cases_Bool}
-use Rattle.std.proofs.lemmas.Bool.Decides.{Decides-eqb}
-use Rattle.sap_lemmas.proofs.Numbers.{below_unequal, same_power}
-use Rattle.sap_lemmas.proofs.Texts.{equal_of_bytes_eq}
-use Rattle.sap_maps.specs.Maps.{Name, Valuation}
-use Rattle.sap_maps.specs.Scope.{Scope, find}
-use Rattle.sap_net.specs.Rules.{Shapes}
-use Rattle.sap_net.specs.Runs.{InputsAre}
+use Rattle.sap_lemmas.proofs.Common.{◌≡◌, ℕ, zero, suc, ◌^◌, ◌<◌, ◌≤◌, ◌==◌, List, [], ◌∷◌, ◌++◌, map, Option, Some, true, sym, ap, ◌∙◌, subst, refl, arith, inl, inr, append_assoc, bytes_eq, AllByRecursion, pow_pos, cases_Bool, Decides-eqb, same_power, equal_of_bytes_eq}
+use Rattle.sap_lemmas.proofs.Numbers.{below_unequal}
+use Rattle.sap_maps.specs.Prelude.{Name, Valuation, Scope, find}
+use Rattle.sap_net.specs.Prelude.{Shapes, InputsAre}
 use Rattle.sap_net.specs.declared.parts.Operand.TheVariants.{Constant}
+use Rattle.sap_ir.specs.Prelude.{Source, first_number, register_number, number_at_start, first_cell, cell_at_start}
 use Rattle.sap_ir.specs.declared.guarded.Var.{Var}
 use Rattle.sap_ir.specs.declared.guarded.MemoryVariable.{MemoryVariable}
-use Rattle.sap_ir.specs.Source.{Source}
-use Rattle.sap_ir.specs.Guarded.{first_number, register_number, number_at_start, first_cell, cell_at_start}
 use Rattle.sap_lower.specs.declared.parts.Part.{Part}
 use Rattle.sap_lower.specs.declared.parts.WritePort.{WritePort}
 use Rattle.sap_lower.specs.Lowered.{named_entry, zero_entry, first_entries, first_port, bits_within, index_bits, input_of}

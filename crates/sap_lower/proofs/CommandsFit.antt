@@ -1,22 +1,12 @@
 -- The wires of all assignments and writes fit.
-use Rattle.std.proofs.Common.{◌≡◌, ℕ, ◌^◌, ◌<◌, ◌≤◌, List, [], ◌∷◌, Some, false, length, ap, subst, refl, arith, inl, inr}
-use Rattle.std.specs.Prelude.{unwrap_or, nat_lt}
-use Rattle.std.specs.Str.{bytes_eq}
-use Rattle.std.specs.List.{AllByRecursion}
-use Rattle.std.proofs.lemmas.Bool.{cases_Bool}
-use Rattle.std.proofs.lemmas.Bool.Decides.{nat_tests}
-use Rattle.sap_lemmas.proofs.Numbers.{same_power}
-use Rattle.sap_lemmas.proofs.Texts.{equal_of_bytes_eq}
+use Rattle.sap_lemmas.proofs.Common.{◌≡◌, ℕ, ◌^◌, ◌<◌, ◌≤◌, List, [], ◌∷◌, Some, length, ap, subst, refl, arith, inl, inr, unwrap_or, bytes_eq, AllByRecursion, cases_Bool, same_power, equal_of_bytes_eq}
 use Rattle.sap_net.proofs.RulesLemmas.{one_wide, Grows, operand_grows}
-use Rattle.sap_maps.specs.Maps.{Name}
-use Rattle.sap_maps.specs.Scope.{Scope, find}
-use Rattle.sap_maps.specs.Term.{Term}
+use Rattle.sap_maps.specs.Prelude.{Name, Scope, find, Term}
 use Rattle.sap_net.specs.Rules.{Shapes, IsWidth, IsDepth, IsOperand, readable_after}
 use Rattle.sap_net.specs.declared.parts.Operand.TheVariants.{Constant}
 use Rattle.sap_net.specs.declared.parts.Right.TheVariants.{Choose}
 use Rattle.sap_net.specs.declared.parts.Wire.{Wire}
-use Rattle.sap_ir.specs.Source.{Action, set, put, Command}
-use Rattle.sap_ir.specs.IsGuarded.{TermFine}
+use Rattle.sap_ir.specs.Prelude.{Action, set, put, Command, TermFine}
 use Rattle.sap_lower.specs.declared.parts.Part.{Part}
 use Rattle.sap_lower.specs.declared.parts.WritePort.{WritePort}
 use Rattle.sap_lower.specs.Lowering.{nothing, present, plus, low}
@@ -60,9 +50,6 @@ port_grows sc sd g p w d f =
       index = operand_grows sc sd g p.bits p.index f.index;
       value = operand_grows sc sd g w p.value f.value;
     }
-
-neither : (a b : ℕ) → nat_lt a b ≡ false → nat_lt b a ≡ false → a ≡ b
-neither a b f g = grind (arith, nat_tests)
 
 set_long : (ms : Shapes) (s : Lowering) (c : Term Name) (n : Name) (t : Term Name) → length s.wires ≤ length (low_set ms s c n t).wires
 set_long ms s c n t =

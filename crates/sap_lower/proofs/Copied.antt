@@ -1,7 +1,5 @@
 -- Each wire that is a port is a copy.
-use Rattle.std.proofs.Common.{◌≡◌, ℕ, ◌^◌, ◌<◌, List, [], ◌∷◌, ◌++◌, map, length, true, false, sym, ◌∙◌, subst, refl, inl, inr, append_assoc}
-use Rattle.std.specs.List.{AllByRecursion}
-use Rattle.std.proofs.lemmas.Bool.{cases_Bool}
+use Rattle.sap_lemmas.proofs.Common.{◌≡◌, ℕ, ◌^◌, ◌<◌, List, [], ◌∷◌, ◌++◌, map, length, true, false, sym, ◌∙◌, subst, refl, inl, inr, append_assoc, AllByRecursion, cases_Bool}
 use Rattle.sap_net.proofs.NamesLemmas.{among_append, among_each}
 use Rattle.sap_lower.proofs.LoweredLemmas.{ports_named}
 use Rattle.sap_maps.specs.Maps.{Name}
@@ -9,9 +7,8 @@ use Rattle.sap_net.specs.Names.{is_among}
 use Rattle.sap_net.specs.declared.parts.Operand.{Operand}
 use Rattle.sap_net.specs.declared.parts.Right.TheVariants.{Copy}
 use Rattle.sap_net.specs.declared.parts.Wire.{Wire}
+use Rattle.sap_ir.specs.Prelude.{Source, variable_names, memory_names, IsGuarded}
 use Rattle.sap_ir.specs.declared.guarded.Var.{Var}
-use Rattle.sap_ir.specs.Source.{Source}
-use Rattle.sap_ir.specs.IsGuarded.{variable_names, memory_names, IsGuarded}
 use Rattle.sap_ir.proofs.Declared.{not_front, not_behind_list}
 use Rattle.sap_lower.specs.declared.parts.Part.{Part}
 use Rattle.sap_share.specs.Names.{helper}

@@ -1,28 +1,17 @@
 -- A cycle of the netlist has the numbers of the program's cycle.
-use Rattle.std.proofs.Common.{◌≡◌, ℕ, ◌^◌, ◌<◌, ◌==◌, ◌&&◌, List, [], ◌∷◌, ◌++◌, map, Option, Some, None, Bool, false, sym, ap, ◌∙◌, subst, refl}
-use Rattle.std.specs.Prelude.{if◌then◌else◌, unwrap_or}
-use Rattle.std.specs.List.{AllByRecursion, AllZip}
-use Rattle.sap_lemmas.proofs.Everywhere.{all_of_map, all_parts, all_second}
+use Rattle.sap_lemmas.proofs.Common.{◌≡◌, ℕ, ◌^◌, ◌<◌, ◌==◌, ◌&&◌, List, [], ◌∷◌, ◌++◌, map, Option, Some, None, Bool, false, sym, ap, ◌∙◌, subst, refl, if◌then◌else◌, unwrap_or, AllByRecursion, AllZip, all_of_map, all_parts, all_second}
 use Rattle.sap_net.proofs.RulesLemmas.{readable_kept}
-use Rattle.sap_maps.specs.Maps.{Name, Valuation}
-use Rattle.sap_maps.specs.Scope.{Scope, find}
+use Rattle.sap_maps.specs.Prelude.{Name, Valuation, Scope, find}
 use Rattle.sap_maps.proofs.Scopes.{found_here}
-use Rattle.sap_net.specs.Names.{AreDistinct}
-use Rattle.sap_net.specs.Net.{Net}
-use Rattle.sap_net.specs.Rules.{Shapes, AreWires, readable_after}
-use Rattle.sap_net.specs.Values.{operand_value, Holds}
-use Rattle.sap_net.specs.IsNetlist.{first_readable, readable, shapes, width_of, IsNetlist}
-use Rattle.sap_net.specs.Runs.{written, IsWithin, InputsAre, IsCycle, IsRunAfter, observed}
+use Rattle.sap_net.specs.Prelude.{AreDistinct, Net, Shapes, AreWires, readable_after, operand_value, Holds, first_readable, readable, shapes, width_of, IsNetlist, written, IsWithin, InputsAre, IsCycle, IsRunAfter, observed}
 use Rattle.sap_net.specs.declared.parts.Wire.{Wire}
 use Rattle.sap_net.proofs.Within.{WidthsAre, widths_are}
 use Rattle.sap_net.proofs.Observed.{observed_inputs, observed_registers, observed_wires, observed_memories}
+use Rattle.sap_ir.specs.Prelude.{Source, Going, first_number, first_cell, begun, after, cycle, variable_names, IsGuarded, memories_written, WithinBefore, NumbersFit, WritesOnce}
 use Rattle.sap_ir.specs.declared.guarded.Var.{Var}
 use Rattle.sap_ir.specs.declared.guarded.MemoryVariable.{MemoryVariable}
-use Rattle.sap_ir.specs.Source.{Source}
+use Rattle.sap_ir.specs.Guarded.{run_after}
 use Rattle.sap_ir.specs.Source as source
-use Rattle.sap_ir.specs.Guarded.{Going, first_number, first_cell, begun, after, cycle, run_after}
-use Rattle.sap_ir.specs.IsGuarded.{variable_names, IsGuarded}
-use Rattle.sap_ir.specs.Writes.{memories_written, WithinBefore, NumbersFit, WritesOnce}
 use Rattle.sap_ir.proofs.Passes.{source_widths}
 use Rattle.sap_lower.specs.declared.parts.Part.{Part}
 use Rattle.sap_lower.specs.declared.parts.WritePort.{WritePort}

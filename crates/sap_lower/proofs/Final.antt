@@ -1,28 +1,18 @@
 -- The netlist of a program is a netlist that declares what the program declares.
-use Rattle.std.proofs.Common.{◌≡◌, ℕ, ◌^◌, ◌<◌, ◌||◌, List, [], ◌∷◌, ◌++◌, map, take, length, Some, None, Bool, true, false, sym, ap, ◌∙◌, subst, refl, inl, inr, append_assoc, ⊎_elim}
-use Rattle.std.specs.Prelude.{codes}
-use Rattle.std.specs.Str.{bytes_eq}
-use Rattle.std.specs.List.{AllByRecursion}
-use Rattle.std.proofs.lemmas.Bool.{cases_Bool, or_cases}
+use Rattle.sap_lemmas.proofs.Common.{◌≡◌, ℕ, ◌^◌, ◌<◌, ◌||◌, List, [], ◌∷◌, ◌++◌, map, take, length, Some, None, Bool, true, false, sym, ap, ◌∙◌, subst, refl, inl, inr, append_assoc, ⊎_elim, codes, bytes_eq, AllByRecursion, cases_Bool, or_cases, all_append, map_of_all, bytes_eq_apart_back}
 use Rattle.sap_lemmas.proofs.Bools.{or_follows}
-use Rattle.sap_lemmas.proofs.Everywhere.{all_append, map_of_all}
-use Rattle.sap_lemmas.proofs.Texts.{bytes_eq_apart_back}
 use Rattle.sap_net.proofs.RulesLemmas.{wires_new, wires_distinct}
 use Rattle.sap_net.proofs.NamesLemmas.{among_append, among_behind, among_front, distinct_both, each_among, not_found, among_each}
 use Rattle.sap_lower.proofs.LoweredLemmas.{ports_named}
 use Rattle.sap_ir.proofs.IsGuardedLemmas.{plain_wide, register_wide, variables_append}
-use Rattle.sap_maps.specs.Maps.{Name}
-use Rattle.sap_maps.specs.Scope.{Scope, find}
-use Rattle.sap_net.specs.Names.{is_name, is_among, AreDistinct}
-use Rattle.sap_net.specs.Rules.{IsWidth, AreWires, readable_after, IsRegister, IsMemory, AreValues}
+use Rattle.sap_maps.specs.Prelude.{Name, Scope, find}
+use Rattle.sap_net.specs.Prelude.{is_name, is_among, AreDistinct, IsWidth, AreWires, readable_after, IsRegister, IsMemory, AreValues, input_names, register_names, memory_names, readable, PortShows, IsNetlist, names_of}
 use Rattle.sap_net.specs.declared.parts.Wire.{Wire}
-use Rattle.sap_net.specs.IsNetlist.{input_names, register_names, memory_names, readable, PortShows, IsNetlist, names_of}
+use Rattle.sap_ir.specs.Prelude.{Source, variable_names, declared, IsGuarded}
 use Rattle.sap_ir.specs.declared.guarded.Var.{Var}
 use Rattle.sap_ir.specs.declared.guarded.MemoryVariable.{MemoryVariable}
-use Rattle.sap_ir.specs.Source.{Source}
 use Rattle.sap_ir.specs.Source as source
 use Rattle.sap_ir.specs.IsGuarded as ir
-use Rattle.sap_ir.specs.IsGuarded.{variable_names, declared, IsGuarded}
 use Rattle.sap_ir.proofs.Declared.{distinct_front, distinct_behind, apart_lists, apart_lists_back}
 use Rattle.sap_lower.specs.Lowered.{listed, register_of, memory_of, input_port, port_shown, registers_declared, all_wires, names_declared, last_lowering, lowered}
 use Rattle.sap_lower.proofs.Order.{to_declared}

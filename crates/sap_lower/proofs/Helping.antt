@@ -1,13 +1,7 @@
 -- The names of helping wires.
-use Rattle.std.proofs.Common.{◌≡◌, ℕ, ◌^◌, ◌<◌, List, [], ◌∷◌, length, true, false, ap, refl, arith, inl, inr}
-use Rattle.std.specs.Char.{is_ascii_digit}
-use Rattle.std.specs.Fmt.{decimal}
-use Rattle.std.specs.List.{list_all}
-use Rattle.std.specs.Str.{bytes_eq}
+use Rattle.sap_lemmas.proofs.Common.{◌≡◌, ℕ, ◌^◌, ◌<◌, List, [], ◌∷◌, length, true, false, ap, refl, arith, inl, inr, is_ascii_digit, decimal, list_all, bytes_eq, decimal_is_IsNumeral, cases_Bool, and_from, equal_of_bytes_eq}
 use Rattle.std.specs.Str.Parse.{AllDigits}
-use Rattle.std.proofs.lemmas.Fmt.{decimal_is_IsNumeral}
-use Rattle.std.proofs.lemmas.Bool.{cases_Bool, and_from}
-use Rattle.sap_lemmas.proofs.Texts.{digit_of_value, equal_of_bytes_eq}
+use Rattle.sap_lemmas.proofs.Texts.{digit_of_value}
 use Rattle.sap_maps.specs.Maps.{Name}
 use Rattle.sap_ir.specs.IsGuarded.{is_helping}
 use Rattle.sap_share.specs.Names.{helper}

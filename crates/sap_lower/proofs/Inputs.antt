@@ -1,20 +1,11 @@
 -- An input keeps the number that it is given.
-use Rattle.std.proofs.Common.{◌≡◌, ℕ, ◌==◌, List, [], ◌∷◌, ◌++◌, map, Option, Some, None, Bool, true, false, sym, ◌∙◌, subst, refl, inl, inr}
-use Rattle.std.specs.Prelude.{if◌then◌else◌}
-use Rattle.std.specs.Str.{bytes_eq}
-use Rattle.std.specs.List.{AllByRecursion}
-use Rattle.std.proofs.lemmas.Bool.{cases_Bool}
-use Rattle.sap_lemmas.proofs.Texts.{bytes_eq_same, equal_of_bytes_eq}
+use Rattle.sap_lemmas.proofs.Common.{◌≡◌, ℕ, ◌==◌, List, [], ◌∷◌, ◌++◌, map, Option, Some, None, Bool, true, false, sym, ◌∙◌, subst, refl, inl, inr, if◌then◌else◌, bytes_eq, AllByRecursion, cases_Bool, bytes_eq_same, equal_of_bytes_eq}
 use Rattle.sap_net.proofs.NamesLemmas.{not_found}
 use Rattle.sap_maps.proofs.ScopeLemmas.{found_second}
-use Rattle.sap_maps.specs.Maps.{Name, Valuation, set_value}
-use Rattle.sap_maps.specs.Scope.{find}
-use Rattle.sap_net.specs.Names.{is_among, AreDistinct}
-use Rattle.sap_net.specs.Runs.{InputsAre}
+use Rattle.sap_maps.specs.Prelude.{Name, Valuation, set_value, find}
+use Rattle.sap_net.specs.Prelude.{is_among, AreDistinct, InputsAre}
+use Rattle.sap_ir.specs.Prelude.{Source, Action, set, put, Command, width_of, Going, value_in, number_at_start, begun, after_action, after_command, after, cycle, assignable, variable_names, memory_names, ActionFine, CommandFine, IsGuarded}
 use Rattle.sap_ir.specs.declared.guarded.Var.{Var}
-use Rattle.sap_ir.specs.Source.{Source, Action, set, put, Command, width_of}
-use Rattle.sap_ir.specs.Guarded.{Going, value_in, number_at_start, begun, after_action, after_command, after, cycle}
-use Rattle.sap_ir.specs.IsGuarded.{assignable, variable_names, memory_names, ActionFine, CommandFine, IsGuarded}
 use Rattle.sap_ir.proofs.Declared.{not_front, not_behind_list, distinct_front, apart_lists_back}
 use Rattle.sap_lower.specs.Lowered.{input_of}
 use Rattle.sap_lower.proofs.Rules.{each_variable}

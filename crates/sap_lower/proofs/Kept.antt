@@ -1,18 +1,11 @@
 -- What names the netlist of a program declares.
-use Rattle.std.proofs.Common.{◌≡◌, ◌⊎◌, ◌&&◌, ◌||◌, List, [], ◌∷◌, ◌++◌, Bool, true, false, not, sym, ap, ◌∙◌, inl, inr}
-use Rattle.std.specs.List.{AllByRecursion}
-use Rattle.std.proofs.lemmas.Bool.{cases_Bool}
-use Rattle.sap_lemmas.proofs.Bools.{or_other}
-use Rattle.sap_lemmas.proofs.Everywhere.{all_append}
+use Rattle.sap_lemmas.proofs.Common.{◌≡◌, ◌⊎◌, ◌&&◌, ◌||◌, List, [], ◌∷◌, ◌++◌, Bool, true, false, not, sym, ap, ◌∙◌, inl, inr, AllByRecursion, cases_Bool, or_other, all_append}
 use Rattle.sap_net.proofs.NamesLemmas.{among_append, each_among, among_each}
 use Rattle.sap_maps.specs.Maps.{Name}
-use Rattle.sap_net.specs.Names.{is_among}
+use Rattle.sap_net.specs.Prelude.{is_among, IsHelpingName, names_of}
 use Rattle.sap_net.specs.declared.parts.Wire.{Wire}
-use Rattle.sap_ir.specs.Source.{Source}
-use Rattle.sap_ir.specs.IsGuarded.{variable_names, memory_names, IsGuarded}
+use Rattle.sap_ir.specs.Prelude.{Source, variable_names, memory_names, IsGuarded}
 use Rattle.sap_lower.specs.Lowered.{last_lowering, listed, all_wires, unported, names_declared}
-use Rattle.sap_net.specs.Names.{IsHelpingName}
-use Rattle.sap_net.specs.IsNetlist.{names_of}
 use Rattle.sap_lower.specs.Same.{IsKept}
 use Rattle.sap_lower.proofs.Fits.{IsHelper}
 use Rattle.sap_lower.proofs.Declares.{unported_among}

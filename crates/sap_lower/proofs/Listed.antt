@@ -1,13 +1,10 @@
 -- The wires that are ports.
-use Rattle.std.proofs.Common.{◌≡◌, ◌&&◌, List, [], ◌∷◌, filter, true, false, sym, ap, ◌∙◌, subst, refl, inl, inr}
-use Rattle.std.specs.List.{AllByRecursion}
-use Rattle.std.proofs.lemmas.Bool.{cases_Bool, and_from}
-use Rattle.sap_lemmas.proofs.Bools.{and_left, and_right}
+use Rattle.sap_lemmas.proofs.Common.{◌≡◌, ◌&&◌, List, [], ◌∷◌, filter, true, false, sym, ap, ◌∙◌, subst, refl, inl, inr, AllByRecursion, cases_Bool, and_from, and_left, and_right}
 use Rattle.sap_net.proofs.NamesLemmas.{filter_among, filter_distinct}
 use Rattle.sap_maps.specs.Maps.{Name}
 use Rattle.sap_net.specs.Names.{is_among, AreDistinct}
-use Rattle.sap_ir.specs.declared.guarded.Var.{Var}
 use Rattle.sap_ir.specs.IsGuarded.{variable_names}
+use Rattle.sap_ir.specs.declared.guarded.Var.{Var}
 use Rattle.sap_lower.specs.Lowered.{listed, unported}
 use Rattle.sap_share.specs.Sets.{AreSame}
 

@@ -3,21 +3,16 @@ use Rattle.std.proofs.Common.{◌≡◌, ℕ, ◌^◌, ◌<◌, List, [], ◌∷
 use Rattle.sap_net.proofs.RulesLemmas.{readable_kept, wires_distinct}
 use Rattle.sap_net.proofs.NamesLemmas.{not_found}
 use Rattle.sap_maps.proofs.ScopeLemmas.{found_second}
-use Rattle.sap_maps.specs.Maps.{Name}
-use Rattle.sap_maps.specs.Scope.{Scope, find}
-use Rattle.sap_net.specs.Names.{is_among, AreDistinct}
-use Rattle.sap_net.specs.Net.{Net}
-use Rattle.sap_net.specs.Rules.{readable_after}
-use Rattle.sap_net.specs.IsNetlist.{readable, names_of}
+use Rattle.sap_maps.specs.Prelude.{Name, Scope, find}
+use Rattle.sap_net.specs.Prelude.{is_among, AreDistinct, Net, readable_after, readable, names_of}
 use Rattle.sap_net.specs.declared.parts.Wire.{Wire}
 use Rattle.sap_net.specs.declared.parts.Register.{Register}
 use Rattle.sap_net.specs.declared.parts.Memory.{Memory}
+use Rattle.sap_ir.specs.Prelude.{Source, variable_names, IsGuarded}
 use Rattle.sap_ir.specs.declared.guarded.Var.{Var}
 use Rattle.sap_ir.specs.declared.guarded.MemoryVariable.{MemoryVariable}
-use Rattle.sap_ir.specs.Source.{Source}
 use Rattle.sap_ir.specs.Source as source
 use Rattle.sap_ir.specs.IsGuarded as ir
-use Rattle.sap_ir.specs.IsGuarded.{variable_names, IsGuarded}
 use Rattle.sap_ir.proofs.Declared.{not_front, distinct_front, distinct_behind, apart_lists, apart_lists_back}
 use Rattle.sap_lower.specs.declared.parts.Part.{Part}
 use Rattle.sap_lower.specs.declared.parts.WritePort.{WritePort}

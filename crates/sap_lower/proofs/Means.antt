@@ -1,21 +1,14 @@
 -- In every solution of the wires' equations the operand of an expression has its value.
-use Rattle.std.proofs.Common.{◌≡◌, ℕ, ◌+◌, ◌-◌, ◌%◌, ◌/◌, ◌^◌, ◌<◌, ◌≤◌, ◌==◌, List, [], ◌∷◌, ◌++◌, Option, Some, None, Bool, true, false, length, sym, ap, ap₂, ◌∙◌, subst, refl, arith, inl, inr}
-use Rattle.std.specs.Prelude.{if◌then◌else◌, unwrap_or, nat_lt}
-use Rattle.std.proofs.Math.Pow.{pow_pos}
-use Rattle.std.proofs.Math.Nat.{mod-lt, mod-eq_of_lt}
-use Rattle.std.proofs.lemmas.Bool.{cases_Bool}
-use Rattle.std.proofs.lemmas.Bool.Decides.{nat_tests}
+use Rattle.sap_lemmas.proofs.Common.{◌≡◌, ℕ, ◌+◌, ◌-◌, ◌%◌, ◌/◌, ◌^◌, ◌<◌, ◌≤◌, ◌==◌, List, [], ◌∷◌, ◌++◌, Option, Some, None, Bool, true, false, length, sym, ap, ap₂, ◌∙◌, subst, refl, arith, inl, inr, if◌then◌else◌, unwrap_or, nat_lt, pow_pos, mod-lt, mod-eq_of_lt, cases_Bool, nat_tests}
 use Rattle.sap_bits.specs.Arithmetic.{value1, value2, width1, width2, slice_of, joined}
 use Rattle.sap_bits.specs.declared.Op2.{Op2}
 use Rattle.sap_bits.specs.declared.Op2.TheVariants.{Add, Sub, Mul, And, Or, Xor, Eq, Ne, Lt, Le, Shl, Shr}
 use Rattle.sap_bits.proofs.Low.{shl_past, shr_past}
 use Rattle.sap_bits.proofs.Within.{value1_below, value2_below}
-use Rattle.sap_maps.specs.Maps.{Name, Valuation}
-use Rattle.sap_maps.specs.Scope.{Scope, find}
-use Rattle.sap_maps.specs.Term.{Term, constant, read, cell, one, two, choose, join, part, term_width, term_value}
+use Rattle.sap_maps.specs.Prelude.{Name, Valuation, Scope, find, Term, constant, read, cell, one, two, choose, join, part, term_width}
+use Rattle.sap_maps.specs.Term.{term_value}
 use Rattle.sap_maps.proofs.Terms.{right_fits, below_both, joined_below}
-use Rattle.sap_net.specs.Rules.{Shapes}
-use Rattle.sap_net.specs.Values.{operand_value, operand_width, right_value}
+use Rattle.sap_net.specs.Prelude.{Shapes, operand_value, operand_width, right_value}
 use Rattle.sap_net.specs.declared.parts.Operand.{Operand}
 use Rattle.sap_net.specs.declared.parts.Operand.TheVariants.{Named, Constant}
 use Rattle.sap_net.specs.declared.parts.Right.{Right}

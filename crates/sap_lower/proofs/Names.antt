@@ -1,24 +1,19 @@
 -- The names of the netlist of a program, and the whole of its rules.
-use Rattle.std.proofs.Common.{◌≡◌, ℕ, ◌&&◌, ◌||◌, List, [], ◌∷◌, ◌++◌, map, filter, Some, None, Bool, true, false, not, sym, ap, ap₂, ◌∙◌, subst, refl, inl, inr}
-use Rattle.std.specs.Str.{bytes_eq}
-use Rattle.std.proofs.lemmas.Bool.{cases_Bool}
-use Rattle.sap_lemmas.proofs.Texts.{bytes_eq_apart_back}
+use Rattle.sap_lemmas.proofs.Common.{◌≡◌, ℕ, ◌&&◌, ◌||◌, List, [], ◌∷◌, ◌++◌, map, filter, Some, None, Bool, true, false, not, sym, ap, ap₂, ◌∙◌, subst, refl, inl, inr, bytes_eq, cases_Bool, bytes_eq_apart_back}
 use Rattle.sap_net.proofs.NamesLemmas.{among_append, distinct_both, filter_among, filter_distinct}
 use Rattle.sap_maps.proofs.ScopeLemmas.{found_first}
 use Rattle.sap_ir.proofs.IsGuardedLemmas.{variables_append}
-use Rattle.sap_maps.specs.Maps.{Name}
-use Rattle.sap_maps.specs.Scope.{Scope, find}
+use Rattle.sap_maps.specs.Prelude.{Name, Scope, find}
 use Rattle.sap_maps.proofs.Scopes.{not_behind}
-use Rattle.sap_net.specs.Names.{is_among, AreDistinct}
+use Rattle.sap_net.specs.Prelude.{is_among, AreDistinct, names_of}
 use Rattle.sap_net.specs.declared.parts.Input.{Input}
 use Rattle.sap_net.specs.declared.parts.Wire.{Wire}
 use Rattle.sap_net.specs.declared.parts.Register.{Register}
 use Rattle.sap_net.specs.declared.parts.Memory.{Memory}
-use Rattle.sap_net.specs.IsNetlist.{names_of}
+use Rattle.sap_ir.specs.IsGuarded.{variable_names}
 use Rattle.sap_ir.specs.declared.guarded.Var.{Var}
 use Rattle.sap_ir.specs.declared.guarded.MemoryVariable.{MemoryVariable}
 use Rattle.sap_ir.specs.IsGuarded as ir
-use Rattle.sap_ir.specs.IsGuarded.{variable_names}
 use Rattle.sap_lower.specs.declared.parts.Part.{Part}
 use Rattle.sap_lower.specs.declared.parts.WritePort.{WritePort}
 use Rattle.sap_lower.specs.Lowered.{out_wire, register_of, memory_of, input_of, picked, unlisted, unported}

@@ -1,24 +1,15 @@
 -- The netlist of a program follows the rules of netlists.
-use Rattle.std.proofs.Common.{◌≡◌, ℕ, ◌^◌, ◌<◌, List, [], ◌∷◌, ◌++◌, map, length, Some, None, false, sym, ap, ◌∙◌, subst, refl, inl, inr, append_assoc}
-use Rattle.std.specs.Prelude.{if◌then◌else◌, unwrap_or}
-use Rattle.std.specs.Str.{bytes_eq}
-use Rattle.std.specs.List.{AllByRecursion}
-use Rattle.std.proofs.Math.Pow.{pow_pos}
-use Rattle.std.proofs.lemmas.Bool.{cases_Bool}
-use Rattle.sap_lemmas.proofs.Texts.{equal_of_bytes_eq}
+use Rattle.sap_lemmas.proofs.Common.{◌≡◌, ℕ, ◌^◌, ◌<◌, List, [], ◌∷◌, ◌++◌, map, length, Some, None, false, sym, ap, ◌∙◌, subst, refl, inl, inr, append_assoc, if◌then◌else◌, unwrap_or, bytes_eq, AllByRecursion, pow_pos, cases_Bool, equal_of_bytes_eq}
 use Rattle.sap_net.proofs.NamesLemmas.{not_found, among_each}
 use Rattle.sap_maps.proofs.ScopeLemmas.{found_first, found_second}
 use Rattle.sap_ir.proofs.IsGuardedLemmas.{plain_wide, register_wide}
-use Rattle.sap_maps.specs.Maps.{Name}
-use Rattle.sap_maps.specs.Scope.{Scope, find}
-use Rattle.sap_net.specs.Names.{is_among, AreDistinct}
-use Rattle.sap_net.specs.Rules.{IsWidth, IsDepth, IsOperand}
+use Rattle.sap_maps.specs.Prelude.{Name, Scope, find}
+use Rattle.sap_net.specs.Prelude.{is_among, AreDistinct, IsWidth, IsDepth, IsOperand}
 use Rattle.sap_net.specs.declared.parts.Operand.TheVariants.{Named, Constant}
+use Rattle.sap_ir.specs.Prelude.{Source, Action, set, put, Command, variable_names, memory_names, declared, is_helping, IsStore, ActionFine, CommandFine, IsGuarded}
 use Rattle.sap_ir.specs.declared.guarded.Var.{Var}
 use Rattle.sap_ir.specs.declared.guarded.MemoryVariable.{MemoryVariable}
-use Rattle.sap_ir.specs.Source.{Source, Action, set, put, Command}
 use Rattle.sap_ir.specs.Source as source
-use Rattle.sap_ir.specs.IsGuarded.{variable_names, memory_names, declared, is_helping, IsStore, ActionFine, CommandFine, IsGuarded}
 use Rattle.sap_ir.proofs.Declared.{not_front, not_behind_list, assignable_readable}
 use Rattle.sap_lower.specs.declared.parts.Part.{Part}
 use Rattle.sap_share.specs.Names.{helper}

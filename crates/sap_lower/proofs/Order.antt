@@ -1,17 +1,10 @@
 -- The registers in the order of their declaration: those that are ports first.
-use Rattle.std.proofs.Common.{◌≡◌, List, [], ◌∷◌, ◌++◌, map, Option, Some, None, Bool, true, false, sym, ap, ◌∙◌, subst, refl, inl, inr, append_assoc}
-use Rattle.std.specs.Prelude.{if◌then◌else◌}
-use Rattle.std.specs.Str.{bytes_eq}
-use Rattle.std.specs.List.{AllByRecursion}
-use Rattle.std.proofs.lemmas.Bool.{cases_Bool}
-use Rattle.sap_lemmas.proofs.Everywhere.{all_append}
-use Rattle.sap_lemmas.proofs.Texts.{bytes_eq_apart_back, bytes_eq_same, equal_of_bytes_eq}
+use Rattle.sap_lemmas.proofs.Common.{◌≡◌, List, [], ◌∷◌, ◌++◌, map, Option, Some, None, Bool, true, false, sym, ap, ◌∙◌, subst, refl, inl, inr, append_assoc, if◌then◌else◌, bytes_eq, AllByRecursion, cases_Bool, all_append, bytes_eq_apart_back, bytes_eq_same, equal_of_bytes_eq}
 use Rattle.sap_maps.proofs.ScopeLemmas.{found_first, found_second}
-use Rattle.sap_maps.specs.Maps.{Name}
-use Rattle.sap_maps.specs.Scope.{find}
+use Rattle.sap_maps.specs.Prelude.{Name, find}
 use Rattle.sap_net.specs.Names.{is_among, AreDistinct}
-use Rattle.sap_ir.specs.declared.guarded.Var.{Var}
 use Rattle.sap_ir.specs.IsGuarded.{variable_names}
+use Rattle.sap_ir.specs.declared.guarded.Var.{Var}
 use Rattle.sap_lower.specs.Lowered.{in_front, picked, unlisted}
 
 abbrev pub under_names : List Var → List (Name × Var)

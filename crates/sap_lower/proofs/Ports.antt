@@ -1,20 +1,11 @@
 -- One write port for a memory: its condition, index and value are merged over the writes.
-use Rattle.std.proofs.Common.{◌≡◌, ℕ, ◌==◌, ◌&&◌, List, Bool, true, false, sym, ap, ◌∙◌, refl, inl, inr}
-use Rattle.std.specs.Prelude.{if◌then◌else◌}
-use Rattle.std.specs.Str.{bytes_eq}
-use Rattle.std.proofs.lemmas.Bool.{cases_Bool}
-use Rattle.std.proofs.lemmas.Bool.Decides.{Decides-eqb}
-use Rattle.sap_lemmas.proofs.Texts.{bytes_eq_apart_back, bytes_eq_same}
-use Rattle.sap_maps.specs.Maps.{Name, Valuation, set_value}
-use Rattle.sap_maps.specs.Scope.{Scope}
-use Rattle.sap_maps.specs.Term.{Term}
-use Rattle.sap_net.specs.Rules.{Shapes}
-use Rattle.sap_net.specs.Values.{operand_value}
+use Rattle.sap_lemmas.proofs.Common.{◌≡◌, ℕ, ◌==◌, ◌&&◌, List, Bool, true, false, sym, ap, ◌∙◌, refl, inl, inr, if◌then◌else◌, bytes_eq, cases_Bool, Decides-eqb, bytes_eq_apart_back, bytes_eq_same}
+use Rattle.sap_maps.specs.Prelude.{Name, Valuation, set_value, Scope, Term}
+use Rattle.sap_net.specs.Prelude.{Shapes, operand_value}
 use Rattle.sap_net.specs.declared.parts.Operand.TheVariants.{Constant}
 use Rattle.sap_net.specs.declared.parts.Right.TheVariants.{Choose}
 use Rattle.sap_net.specs.declared.parts.Wire.{Wire}
-use Rattle.sap_ir.specs.Guarded.{Going, value_in, set_cell}
-use Rattle.sap_ir.specs.IsGuarded.{TermFine}
+use Rattle.sap_ir.specs.Prelude.{Going, value_in, set_cell, TermFine}
 use Rattle.sap_lower.specs.declared.parts.Part.{Part}
 use Rattle.sap_lower.specs.declared.parts.WritePort.{WritePort}
 use Rattle.sap_lower.specs.Lowering.{plus, low}

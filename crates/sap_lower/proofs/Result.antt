@@ -1,16 +1,12 @@
 -- All rules of netlists, for the netlist of a program.
-use Rattle.std.proofs.Common.{◌≡◌, ◌&&◌, ◌||◌, List, [], ◌∷◌, ◌++◌, map, filter, take, length, Bool, true, false, not, sym, ap, ap₂, ◌∙◌, refl, inl, inr}
-use Rattle.std.proofs.lemmas.Bool.{cases_Bool}
-use Rattle.sap_lemmas.proofs.Bools.{and_false, and_left}
+use Rattle.sap_lemmas.proofs.Common.{◌≡◌, ◌&&◌, ◌||◌, List, [], ◌∷◌, ◌++◌, map, filter, take, length, Bool, true, false, not, sym, ap, ap₂, ◌∙◌, refl, inl, inr, cases_Bool, and_false, and_left, append-nil}
 use Rattle.sap_lemmas.proofs.Lists.{tail_equal}
-use Rattle.std.proofs.lemmas.List.{append-nil}
 use Rattle.sap_net.proofs.NamesLemmas.{among_append, among_neither, distinct_both, each_among}
 use Rattle.sap_maps.specs.Maps.{Name}
-use Rattle.sap_net.specs.Names.{is_among, AreDistinct}
+use Rattle.sap_net.specs.Prelude.{is_among, AreDistinct, is_input}
 use Rattle.sap_net.specs.declared.parts.Port.{Port}
-use Rattle.sap_net.specs.IsNetlist.{is_input}
-use Rattle.sap_ir.specs.declared.guarded.Var.{Var}
 use Rattle.sap_ir.specs.IsGuarded.{variable_names}
+use Rattle.sap_ir.specs.declared.guarded.Var.{Var}
 use Rattle.sap_lower.specs.Lowered.{input_port, port_shown, unported}
 use Rattle.sap_lower.proofs.Declares.{unported_among, filter_append, filter_none, filter_all, unported_distinct}
 

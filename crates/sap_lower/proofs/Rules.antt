@@ -1,26 +1,18 @@
 -- The netlist of a program follows all rules of netlists.
-use Rattle.std.proofs.Common.{◌≡◌, ℕ, List, [], ◌∷◌, ◌++◌, map, Some, None, true, false, ap, ap₂, refl, inl, inr}
-use Rattle.std.specs.Str.{bytes_eq}
-use Rattle.std.specs.List.{AllByRecursion}
-use Rattle.std.proofs.lemmas.Bool.{cases_Bool, or_right}
-use Rattle.sap_lemmas.proofs.Texts.{bytes_eq_same}
+use Rattle.sap_lemmas.proofs.Common.{◌≡◌, ℕ, List, [], ◌∷◌, ◌++◌, map, Some, None, true, false, ap, ap₂, refl, inl, inr, bytes_eq, AllByRecursion, cases_Bool, or_right, bytes_eq_same}
 use Rattle.sap_net.proofs.NamesLemmas.{among_behind, among_front}
-use Rattle.sap_maps.specs.Maps.{Name}
-use Rattle.sap_maps.specs.Scope.{Scope, find}
+use Rattle.sap_maps.specs.Prelude.{Name, Scope, find}
 use Rattle.sap_maps.proofs.Scopes.{found_here, found_behind}
-use Rattle.sap_net.specs.Names.{is_among, AreDistinct}
-use Rattle.sap_net.specs.Rules.{Shapes, IsWidth, IsOperand, AreWires}
+use Rattle.sap_net.specs.Prelude.{is_among, AreDistinct, Shapes, IsWidth, IsOperand, AreWires, first_readable, shapes}
 use Rattle.sap_net.specs.declared.parts.Input.{Input}
 use Rattle.sap_net.specs.declared.parts.Register.{Register}
 use Rattle.sap_net.specs.declared.parts.Memory.{Memory}
-use Rattle.sap_net.specs.IsNetlist.{first_readable, shapes}
 use Rattle.sap_net.proofs.RulesLemmas.{operand_grows}
+use Rattle.sap_ir.specs.Prelude.{Source, variable_names, declared}
 use Rattle.sap_ir.specs.declared.guarded.Var.{Var}
 use Rattle.sap_ir.specs.declared.guarded.MemoryVariable.{MemoryVariable}
-use Rattle.sap_ir.specs.Source.{Source}
 use Rattle.sap_ir.specs.Source as source
 use Rattle.sap_ir.specs.IsGuarded as ir
-use Rattle.sap_ir.specs.IsGuarded.{variable_names, declared}
 use Rattle.sap_ir.proofs.Declared.{distinct_behind, apart_lists, apart_lists_back}
 use Rattle.sap_lower.specs.declared.parts.Part.{Part}
 use Rattle.sap_lower.specs.declared.parts.WritePort.{WritePort}

@@ -1,9 +1,6 @@
 -- The equations of wires, and what they say of a wire that is found by its right side.
-use Rattle.std.proofs.Common.{◌≡◌, ℕ, List, [], ◌∷◌, Some, inl, inr}
-use Rattle.std.specs.Str.{bytes_eq}
-use Rattle.std.proofs.lemmas.Bool.{cases_Bool}
-use Rattle.sap_maps.specs.Maps.{Name, Valuation}
-use Rattle.sap_maps.specs.Scope.{find}
+use Rattle.sap_lemmas.proofs.Common.{◌≡◌, ℕ, List, [], ◌∷◌, Some, inl, inr, bytes_eq, cases_Bool}
+use Rattle.sap_maps.specs.Prelude.{Name, Valuation, find}
 use Rattle.sap_net.specs.Values.{right_value}
 use Rattle.sap_net.specs.declared.parts.Right.{Right}
 use Rattle.sap_net.specs.declared.parts.Wire.{Wire}

@@ -1,21 +1,15 @@
 -- No two helping wires have the same width and the same right side.
-use Rattle.std.proofs.Common.{◌≡◌, ℕ, ◌+◌, ◌-◌, ◌%◌, ◌^◌, ◌<◌, List, [], ◌∷◌, ◌++◌, map, filter, not, length, Option, Some, None, Bool, true, false, sym, ap, subst, refl}
-use Rattle.std.specs.Prelude.{if◌then◌else◌}
-use Rattle.std.specs.List.{AllByRecursion}
+use Rattle.sap_lemmas.proofs.Common.{◌≡◌, ℕ, ◌+◌, ◌-◌, ◌%◌, ◌^◌, ◌<◌, List, [], ◌∷◌, ◌++◌, map, filter, not, length, Option, Some, None, Bool, true, false, sym, ap, subst, refl, if◌then◌else◌, AllByRecursion}
 use Rattle.sap_bits.specs.Arithmetic.{width1, width2}
-use Rattle.sap_maps.specs.Maps.{Name}
-use Rattle.sap_maps.specs.Scope.{find}
-use Rattle.sap_maps.specs.Term.{Term, constant, read, cell, one, two, choose, join, part}
-use Rattle.sap_net.specs.Names.{is_among}
-use Rattle.sap_net.specs.Rules.{Shapes}
+use Rattle.sap_maps.specs.Prelude.{Name, find, Term, constant, read, cell, one, two, choose, join, part}
+use Rattle.sap_net.specs.Prelude.{is_among, Shapes}
 use Rattle.sap_net.specs.declared.parts.Operand.{Operand}
 use Rattle.sap_net.specs.declared.parts.Operand.TheVariants.{Named, Constant}
 use Rattle.sap_net.specs.declared.parts.Right.{Right}
 use Rattle.sap_net.specs.declared.parts.Right.TheVariants.{One, Two, Choose, Concat, Slice, Cell}
 use Rattle.sap_net.specs.declared.parts.Wire.{Wire}
+use Rattle.sap_ir.specs.Prelude.{Source, Command, Action, set, put, shapes, variable_names, memory_names, IsGuarded}
 use Rattle.sap_ir.specs.declared.guarded.Var.{Var}
-use Rattle.sap_ir.specs.Source.{Source, Command, Action, set, put, shapes}
-use Rattle.sap_ir.specs.IsGuarded.{variable_names, memory_names, IsGuarded}
 use Rattle.sap_ir.proofs.Declared.{not_front, not_behind_list}
 use Rattle.sap_lower.specs.declared.parts.Part.{Part}
 use Rattle.sap_lower.specs.declared.parts.WritePort.{WritePort}

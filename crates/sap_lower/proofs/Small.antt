@@ -1,27 +1,18 @@
 -- How many items the netlist of a program has.
-use Rattle.std.proofs.Common.{◌≡◌, ◌⊎◌, ℕ, ◌+◌, ◌-◌, ◌%◌, ◌≤◌, List, [], ◌∷◌, ◌++◌, map, filter, length, Option, Some, None, Bool, true, false, sym, ap, ◌∙◌, subst, refl, arith, inl, inr, length-append}
-use Rattle.std.proofs.lemmas.List.{length-map}
-use Rattle.std.specs.Prelude.{if◌then◌else◌}
+use Rattle.sap_lemmas.proofs.Common.{◌≡◌, ◌⊎◌, ℕ, ◌+◌, ◌-◌, ◌%◌, ◌≤◌, List, [], ◌∷◌, ◌++◌, map, filter, length, Option, Some, None, Bool, true, false, sym, ap, ◌∙◌, subst, refl, arith, inl, inr, length-append, length-map, if◌then◌else◌, bytes_eq, cases_Bool, bytes_eq_apart_back, bytes_eq_same, equal_of_bytes_eq}
 use Rattle.std.specs.Set.{remove_key}
-use Rattle.std.specs.Str.{bytes_eq}
-use Rattle.std.proofs.lemmas.Bool.{cases_Bool}
 use Rattle.std.proofs.lemmas.Map.Made.{length-remove_key}
-use Rattle.sap_lemmas.proofs.Texts.{bytes_eq_apart_back, bytes_eq_same, equal_of_bytes_eq}
 use Rattle.sap_bits.specs.Arithmetic.{width1, width2, slice_of}
 use Rattle.sap_bits.specs.declared.Op2.{Op2}
-use Rattle.sap_maps.specs.Maps.{Name}
-use Rattle.sap_maps.specs.Scope.{find}
-use Rattle.sap_maps.specs.Term.{Term, constant, read, cell, one, two, choose, join, part}
-use Rattle.sap_net.specs.Names.{is_among, AreDistinct}
-use Rattle.sap_net.specs.Rules.{Shapes}
+use Rattle.sap_maps.specs.Prelude.{Name, find, Term, constant, read, cell, one, two, choose, join, part}
+use Rattle.sap_net.specs.Prelude.{is_among, AreDistinct, Shapes}
 use Rattle.sap_net.specs.declared.parts.Operand.{Operand}
 use Rattle.sap_net.specs.declared.parts.Operand.TheVariants.{Named, Constant}
 use Rattle.sap_net.specs.declared.parts.Right.{Right}
 use Rattle.sap_net.specs.declared.parts.Right.TheVariants.{One, Two, Choose, Concat, Slice, Cell}
 use Rattle.sap_net.specs.declared.parts.Wire.{Wire}
+use Rattle.sap_ir.specs.Prelude.{Action, set, put, Command, Source, shapes, variable_names, memory_names, IsGuarded}
 use Rattle.sap_ir.specs.declared.guarded.Var.{Var}
-use Rattle.sap_ir.specs.Source.{Action, set, put, Command, Source, shapes}
-use Rattle.sap_ir.specs.IsGuarded.{variable_names, memory_names, IsGuarded}
 use Rattle.sap_ir.proofs.Declared.{distinct_front, distinct_behind}
 use Rattle.sap_size.specs.Terms.{same_term, operations_in, operations}
 use Rattle.sap_size.proofs.Terms.{term_is, term_self, term_laws, has, has_front, has_behind, all_operations, all_has}

@@ -1,19 +1,8 @@
 -- After all assignments and writes each name and each memory has its number.
-use Rattle.std.proofs.Common.{◌≡◌, ℕ, ◌^◌, ◌==◌, ◌||◌, List, [], ◌∷◌, Some, Bool, true, false, sym, ap, subst, refl, inl, inr}
-use Rattle.std.specs.Prelude.{if◌then◌else◌, unwrap_or}
-use Rattle.std.specs.Str.{bytes_eq}
-use Rattle.std.specs.List.{AllByRecursion}
-use Rattle.std.proofs.lemmas.Bool.{cases_Bool}
-use Rattle.sap_lemmas.proofs.Texts.{bytes_eq_apart_back, bytes_eq_same, equal_of_bytes_eq}
-use Rattle.sap_maps.specs.Maps.{Name, Valuation, set_value}
-use Rattle.sap_maps.specs.Scope.{Scope, find}
-use Rattle.sap_maps.specs.Term.{Term}
-use Rattle.sap_net.specs.Names.{is_among, AreDistinct}
-use Rattle.sap_net.specs.Rules.{Shapes, IsWidth}
-use Rattle.sap_ir.specs.Source.{Action, set, put, Command}
-use Rattle.sap_ir.specs.Guarded.{Going, value_in, set_cell, after_action, after_command, after}
-use Rattle.sap_ir.specs.IsGuarded.{TermFine}
-use Rattle.sap_ir.specs.Writes.{with_memory, memories_written}
+use Rattle.sap_lemmas.proofs.Common.{◌≡◌, ℕ, ◌^◌, ◌==◌, ◌||◌, List, [], ◌∷◌, Some, Bool, true, false, sym, ap, subst, refl, inl, inr, if◌then◌else◌, unwrap_or, bytes_eq, AllByRecursion, cases_Bool, bytes_eq_apart_back, bytes_eq_same, equal_of_bytes_eq}
+use Rattle.sap_maps.specs.Prelude.{Name, Valuation, set_value, Scope, find, Term}
+use Rattle.sap_net.specs.Prelude.{is_among, AreDistinct, Shapes, IsWidth}
+use Rattle.sap_ir.specs.Prelude.{Action, set, put, Command, Going, value_in, set_cell, after_action, after_command, after, TermFine, with_memory, memories_written}
 use Rattle.sap_lower.specs.declared.parts.WritePort.{WritePort}
 use Rattle.sap_share.specs.Tables.{replaced}
 use Rattle.sap_lower.specs.declared.lowering.Lowering.{Lowering}

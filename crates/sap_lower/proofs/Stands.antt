@@ -1,17 +1,10 @@
 -- After the assignments each name's operand has its value.
-use Rattle.std.proofs.Common.{◌≡◌, ℕ, ◌^◌, ◌==◌, List, [], ◌∷◌, Some, Bool, true, false, sym, ap, ◌∙◌, subst, refl, inl, inr}
-use Rattle.std.specs.Prelude.{if◌then◌else◌, unwrap_or}
-use Rattle.std.specs.Str.{bytes_eq}
-use Rattle.std.proofs.lemmas.Bool.{cases_Bool}
-use Rattle.sap_lemmas.proofs.Texts.{bytes_eq_apart_back, bytes_eq_same, equal_of_bytes_eq}
-use Rattle.sap_maps.specs.Maps.{Name, Valuation, set_value}
-use Rattle.sap_maps.specs.Scope.{Scope, find}
-use Rattle.sap_maps.specs.Term.{Term}
+use Rattle.sap_lemmas.proofs.Common.{◌≡◌, ℕ, ◌^◌, ◌==◌, List, [], ◌∷◌, Some, Bool, true, false, sym, ap, ◌∙◌, subst, refl, inl, inr, if◌then◌else◌, unwrap_or, bytes_eq, cases_Bool, bytes_eq_apart_back, bytes_eq_same, equal_of_bytes_eq}
+use Rattle.sap_maps.specs.Prelude.{Name, Valuation, set_value, Scope, find, Term}
 use Rattle.sap_maps.proofs.Terms.{below_both}
 use Rattle.sap_net.specs.Rules.{Shapes}
 use Rattle.sap_net.specs.declared.parts.Right.TheVariants.{Choose}
-use Rattle.sap_ir.specs.Guarded.{Going, value_in}
-use Rattle.sap_ir.specs.IsGuarded.{TermFine}
+use Rattle.sap_ir.specs.Prelude.{Going, value_in, TermFine}
 use Rattle.sap_lower.specs.Lowering.{nothing, present, low}
 use Rattle.sap_share.specs.Tables.{replaced}
 use Rattle.sap_lower.specs.declared.lowering.Lowering.{Lowering}

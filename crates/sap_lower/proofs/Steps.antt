@@ -1,8 +1,8 @@
 -- One command more.
 use Rattle.std.proofs.Common.{◌≡◌, ℕ, suc, ◌+◌, ◌<◌, List, ◌∷◌, length, drop, get_or, sym, ap, ◌∙◌, add-one, drop-cons}
 use Rattle.sap_net.specs.Rules.{Shapes}
-use Rattle.sap_ir.specs.declared.guarded.GuardedCmd.{GuardedCmd}
 use Rattle.sap_ir.specs.Calcs.{command_of, commands_of}
+use Rattle.sap_ir.specs.declared.guarded.GuardedCmd.{GuardedCmd}
 use Rattle.sap_lower.specs.declared.lowering.Lowering.{Lowering}
 use Rattle.sap_lower.specs.Commands.{low_command, low_commands}
 

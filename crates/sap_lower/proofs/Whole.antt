@@ -1,23 +1,17 @@
 -- The netlist of a program is a netlist, and declares what the program declares.
-use Rattle.std.proofs.Common.{◌≡◌, ℕ, ◌^◌, ◌<◌, ◌≤◌, List, [], ◌∷◌, ◌++◌, map, length, Some, None, true, false, sym, ◌∙◌, subst, refl, arith, inl, inr}
-use Rattle.std.specs.Str.{bytes_eq}
-use Rattle.std.specs.List.{AllByRecursion}
-use Rattle.std.proofs.lemmas.Bool.{cases_Bool}
+use Rattle.sap_lemmas.proofs.Common.{◌≡◌, ℕ, ◌^◌, ◌<◌, ◌≤◌, List, [], ◌∷◌, ◌++◌, map, length, Some, None, true, false, sym, ◌∙◌, subst, refl, arith, inl, inr, bytes_eq, AllByRecursion, cases_Bool}
 use Rattle.sap_net.proofs.RulesLemmas.{readable_both, readable_kept, wires_both, Grows, operand_grows}
 use Rattle.sap_net.proofs.NamesLemmas.{among_behind, among_front, not_found, among_each}
 use Rattle.sap_maps.proofs.ScopeLemmas.{found_first, found_second}
 use Rattle.sap_ir.proofs.IsGuardedLemmas.{plain_wide}
-use Rattle.sap_maps.specs.Maps.{Name}
-use Rattle.sap_maps.specs.Scope.{Scope, find}
+use Rattle.sap_maps.specs.Prelude.{Name, Scope, find}
 use Rattle.sap_maps.proofs.Scopes.{found_here}
-use Rattle.sap_net.specs.Names.{is_among, AreDistinct}
-use Rattle.sap_net.specs.Rules.{Shapes, IsWidth, IsOperand, AreWires, readable_after, IsRegister, IsMemory, AreValues, AreMemories}
+use Rattle.sap_net.specs.Prelude.{is_among, AreDistinct, Shapes, IsWidth, IsOperand, AreWires, readable_after, IsRegister, IsMemory, AreValues, AreMemories}
 use Rattle.sap_net.specs.declared.parts.Wire.{Wire}
+use Rattle.sap_ir.specs.Prelude.{Source, variable_names, memory_names, declared, is_helping, IsRegisterVar, IsStore, IsGuarded}
 use Rattle.sap_ir.specs.declared.guarded.Var.{Var}
 use Rattle.sap_ir.specs.declared.guarded.MemoryVariable.{MemoryVariable}
-use Rattle.sap_ir.specs.Source.{Source}
 use Rattle.sap_ir.specs.Source as source
-use Rattle.sap_ir.specs.IsGuarded.{variable_names, memory_names, declared, is_helping, IsRegisterVar, IsStore, IsGuarded}
 use Rattle.sap_ir.proofs.Declared.{distinct_front, distinct_behind, apart_lists}
 use Rattle.sap_lower.specs.declared.parts.Part.{Part}
 use Rattle.sap_lower.specs.declared.parts.WritePort.{WritePort}

@@ -3,8 +3,7 @@ use Rattle.std.proofs.Common.{◌≡◌, ℕ, Bool, true, false, ◌+◌, ◌*�
 use Rattle.std.specs.Prelude.{nat_lt}
 use Rattle.std.proofs.Math.Path.{fun_ext}
 use Rattle.std.proofs.lemmas.Grind.{common_steps}
-use Rattle.sap_meaning.specs.Store.{Store}
-use Rattle.sap_meaning.specs.Cycle.{Tagged}
+use Rattle.sap_meaning.specs.Prelude.{Store, Tagged}
 use Rattle.sap_machine.specs.declared.user.User.{User}
 use Rattle.sap_machine.proofs.Literal.{machine, machine_world}
 use Rattle.sap_machine.specs.Table.{UserState}

@@ -2,11 +2,7 @@
 use Rattle.std.proofs.Common.{◌≡◌, ℕ, true, refl, ap, ◌∙◌, [], ◌∷◌, eqb, if◌then◌else◌}
 use Rattle.sap_maps.specs.Term.{constant, read, two}
 use Rattle.sap_bits.specs.declared.Op2.TheVariants.{Sub}
-use Rattle.sap_meaning.specs.Program.{end_block, go_to}
-use Rattle.sap_meaning.specs.Store.{Store, own, After, stay}
-use Rattle.sap_meaning.specs.Does.{does_child, effect}
-use Rattle.sap_meaning.specs.Touches.{hangs, raised_alone}
-use Rattle.sap_meaning.specs.Cycle.{Tagged, cycle}
+use Rattle.sap_meaning.specs.Prelude.{end_block, go_to, Store, own, After, stay, does_child, effect, hangs, raised_alone, Tagged, cycle}
 use Rattle.sap_meaning.proofs.Commands.{Quiet, take_then, accept}
 use Rattle.sap_machine.proofs.Literal.{machine, machine_world, block}
 use Rattle.sap_machine.proofs.Literal as M

@@ -1,7 +1,6 @@
 -- What the kernel keeps of a user, and what the other's instructions leave of it.
 use Rattle.std.proofs.Common.{◌≡◌, ℕ, Bool, true, false, ◌<◌, ◌∙◌, refl, eqb, if◌then◌else◌}
-use Rattle.sap_meaning.specs.Store.{Slot, own, start, next}
-use Rattle.sap_meaning.specs.Cycle.{Tagged}
+use Rattle.sap_meaning.specs.Prelude.{Slot, own, start, next, Tagged}
 use Rattle.sap_machine.specs.declared.user.User.{User}
 use Rattle.sap_machine.specs.declared.user.User.TheVariants.{A, B}
 use Rattle.sap_machine.specs.Table.{UserState}

@@ -1,8 +1,6 @@
 -- The program of the machine, written out: what hangs on each command is nothing, since all but the inputs is enforced.
 use Rattle.std.specs.Prelude.{ℕ, Bool, false, List, [], ◌∷◌, get_or}
-use Rattle.sap_lattice.specs.Order.{Order}
-use Rattle.sap_lattice.specs.Diamond.{table}
-use Rattle.sap_lattice.specs.Levels.{is_below, level_in}
+use Rattle.sap_lattice.specs.Prelude.{Order, table, is_below, level_in}
 use Rattle.sap_maps.specs.Term.{Term, constant, read, cell, one, two, part}
 use Rattle.sap_bits.specs.declared.Op1.TheVariants.{Not}
 use Rattle.sap_bits.specs.declared.Op2.TheVariants.{Add, Sub, Eq}

@@ -1,8 +1,7 @@
 -- Where a goto of the machine leads: the place of the root's current child is another, and that of Run's is the first.
 use Rattle.std.proofs.Common.{◌≡◌, ℕ, zero, suc, Bool, true, false, ◌&&◌, arith, nat_eq, refl, if◌then◌else◌}
 use Rattle.std.proofs.lemmas.Grind.{common_steps}
-use Rattle.sap_meaning.specs.Program.{below}
-use Rattle.sap_meaning.specs.Store.{Store, Slot, own, start, next, start_whole, next_whole, lowered, put_child, reset}
+use Rattle.sap_meaning.specs.Prelude.{below, Store, Slot, own, start, next, start_whole, next_whole, lowered, put_child, reset}
 use Rattle.sap_meaning.proofs.Commands.{same_store}
 use Rattle.sap_machine.proofs.Literal.{machine_world}
 use Rattle.sap_machine.proofs.Entities.{entities, past, apart}

@@ -4,9 +4,7 @@ use Rattle.std.specs.Prelude.{nat_lt, not, ◌&&◌, ◌||◌}
 use Rattle.std.proofs.Math.Path.{fun_ext}
 use Rattle.std.proofs.lemmas.Bool.{false≢true}
 use Rattle.std.proofs.lemmas.Grind.{common_steps}
-use Rattle.sap_lattice.specs.Order.{Order, Laws}
-use Rattle.sap_lattice.specs.Levels.{is_below, first, every, level_in, order_by, order_of}
-use Rattle.sap_lattice.specs.Diamond.{diamond, table}
+use Rattle.sap_lattice.specs.Prelude.{Order, Laws, is_below, first, every, level_in, order_by, order_of, diamond, table}
 use Rattle.sap_lattice.proofs.Numbers.{every_at}
 use Rattle.sap_lattice.proofs.Orders.{level_in_below}
 use Rattle.sap_machine.proofs.Literal.{joins, diamond_order}

@@ -1,7 +1,6 @@
 -- The program of the design is the one written out, by computation.
 use Rattle.std.proofs.Common.{◌≡◌, refl}
-use Rattle.sap_lattice.specs.Diamond.{diamond}
-use Rattle.sap_lattice.specs.Levels.{order_of, order_by}
+use Rattle.sap_lattice.specs.Prelude.{diamond, order_of, order_by}
 use Rattle.sap_resolved.specs.Fill.{program_of}
 use Rattle.sap_machine.specs.Design.{machine_design}
 use Rattle.sap_machine.specs.Machine as the

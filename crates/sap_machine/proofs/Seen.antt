@@ -2,10 +2,8 @@
 use Rattle.std.proofs.Common.{◌≡◌, inl, inr, ℕ, zero, suc, true, ◌<◌, ◌≤◌, refl, sym, ap, subst, ◌∙◌, arith, List, [], ◌∷◌, length, get_or, Bool, false, ◌⊎◌}
 use Rattle.std.specs.List.{AllZip}
 use Rattle.std.proofs.lemmas.Bool.{false≢true}
-use Rattle.sap_meaning.specs.Store.{Store, Slot, own, start, stay, number, level}
-use Rattle.sap_meaning.specs.Cycle.{Tagged, cycle, run_from}
-use Rattle.sap_meaning.specs.State.{first, labelled_run, InputsFit, StreamFits}
-use Rattle.sap_meaning.specs.Agree.{Alike, High, InputsAgree, RefusalsAgree, RunsAgree, SlotsAlike, StatesAgree, StreamsAgree}
+use Rattle.sap_meaning.specs.Prelude.{Store, Slot, own, start, stay, number, level, Tagged, cycle, run_from, first, labelled_run, InputsFit, StreamFits, Alike, High, InputsAgree, RefusalsAgree, SlotsAlike, StatesAgree, StreamsAgree}
+use Rattle.sap_meaning.specs.Agree.{RunsAgree}
 use Rattle.sap_secure.specs.Laws.{LabelledAgree}
 use Rattle.sap_machine.specs.declared.user.User.{User}
 use Rattle.sap_machine.specs.declared.user.User.TheVariants.{A, B}

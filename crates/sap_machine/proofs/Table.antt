@@ -1,8 +1,7 @@
 -- One instruction of a user: what the machine does to its numbers is what the table says.
 use Rattle.std.proofs.Common.{◌≡◌, ℕ, zero, suc, Bool, true, false, ◌+◌, ◌-◌, ◌/◌, ◌%◌, ◌<◌, refl, sym, ap, subst, ◌∙◌, arith, eqb, nat_eq, get_or, if◌then◌else◌}
 use Rattle.std.proofs.lemmas.Grind.{common_steps}
-use Rattle.sap_meaning.specs.Store.{own, start, next}
-use Rattle.sap_meaning.specs.Cycle.{Tagged}
+use Rattle.sap_meaning.specs.Prelude.{own, start, next, Tagged}
 use Rattle.sap_machine.specs.declared.user.User.{User}
 use Rattle.sap_machine.specs.Table.{UserState, Operation, operations, nop, operation, operand, does_row, following, step}
 use Rattle.sap_machine.specs.Table as T

@@ -2,9 +2,7 @@
 use Rattle.std.proofs.Common.{◌≡◌, ℕ, zero, suc, Bool, true, false, ◌+◌, ◌*◌, ◌%◌, ◌<◌, ◌≤◌, ◌++◌, refl, sym, ap, subst, ◌∙◌, arith, List, [], ◌∷◌, nat_eq, eqb, if◌then◌else◌}
 use Rattle.std.specs.Prelude.{nat_lt}
 use Rattle.std.proofs.lemmas.Grind.{common_steps}
-use Rattle.sap_meaning.specs.Store.{Store, Slot, own, start, next, start_whole, next_whole, Refusal, After, stay}
-use Rattle.sap_meaning.specs.Cycle.{Tagged, cycle}
-use Rattle.sap_meaning.specs.State.{first, first_number, first_level}
+use Rattle.sap_meaning.specs.Prelude.{Store, Slot, own, start, next, start_whole, next_whole, Refusal, After, stay, Tagged, cycle, first, first_number, first_level}
 use Rattle.sap_meaning.proofs.Commands.{same_store}
 use Rattle.sap_machine.specs.declared.user.User.{User}
 use Rattle.sap_machine.specs.declared.user.User.TheVariants.{A, B}

@@ -2,10 +2,7 @@
 use Rattle.std.proofs.Common.{rules, refl}
 use Rattle.std.specs.Fmt.{digits}
 use Rattle.sap_text.specs.Lines.{lines_of}
-use Rattle.sap_meaning.specs.Store.{put_number, put_level, put_child, raise, reset, settle}
-use Rattle.sap_meaning.specs.Does.{effect, attempt, select, does, does_block, does_state, does_child}
-use Rattle.sap_meaning.specs.Cycle.{cycle, set_inputs, root_fall}
-use Rattle.sap_meaning.specs.State.{first}
+use Rattle.sap_meaning.specs.Prelude.{put_number, put_level, put_child, raise, reset, settle, effect, attempt, select, does, does_block, does_state, does_child, cycle, set_inputs, root_fall, first}
 use Rattle.sap_machine.proofs.Literal.{machine}
 use Rattle.sap_machine.specs.Assembly.{assembled}
 use Rattle.sap_machine.specs.Slices.{after_slices}

@@ -1,7 +1,5 @@
 -- On what stands in Scope: what several crates cite.
-use Rattle.std.proofs.Common.{List, None, Some, [], inl, inr, refl, ◌++◌, ◌∷◌, ◌≡◌}
-use Rattle.std.specs.Str.{bytes_eq}
-use Rattle.std.proofs.lemmas.Bool.{cases_Bool}
+use Rattle.sap_lemmas.proofs.Common.{List, None, Some, [], inl, inr, refl, ◌++◌, ◌∷◌, ◌≡◌, bytes_eq, cases_Bool}
 use Rattle.sap_maps.specs.Maps.{Name}
 use Rattle.sap_maps.specs.Scope.{find}
 

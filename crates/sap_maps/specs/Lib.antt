@@ -3,3 +3,4 @@ pub mod Scope
 pub mod Term
 pub mod Ranges
 pub mod Laws
+pub mod Prelude

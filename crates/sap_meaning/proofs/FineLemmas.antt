@@ -1,6 +1,5 @@
 -- On what stands in Fine: what several crates cite.
-use Rattle.std.proofs.Common.{inl, inr, nat_eq, true, ℕ, ◌≡◌}
-use Rattle.std.proofs.lemmas.Bool.{or_cases, or_left, or_right}
+use Rattle.sap_lemmas.proofs.Common.{inl, inr, nat_eq, true, ℕ, ◌≡◌, or_cases, or_left, or_right}
 use Rattle.sap_meaning.specs.Fine.{inside}
 use Rattle.sap_meaning.specs.Program.{Group, and_node, state_node, no_node}
 use Rattle.sap_meaning.specs.Touches.{among}

@@ -1,6 +1,5 @@
 -- The first state and every cycle keep what every state keeps.
-use Rattle.std.proofs.Common.{ℕ, zero, suc, Bool, refl, sym, ap, ◌∙◌, List, if◌then◌else◌}
-use Rattle.sap_lemmas.proofs.Bools.{and_left}
+use Rattle.sap_lemmas.proofs.Common.{ℕ, zero, suc, Bool, refl, sym, ap, ◌∙◌, List, if◌then◌else◌, and_left}
 use Rattle.sap_meaning.specs.Program.{World, Program, entity, is_dynamic, root, state_node, Group, no_node, and_node}
 use Rattle.sap_meaning.specs.Store.{start, next, Store, child}
 use Rattle.sap_meaning.specs.Touches.{root_touches}

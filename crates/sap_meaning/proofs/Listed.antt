@@ -1,6 +1,5 @@
 -- Exact lists raise what is touched.
-use Rattle.std.proofs.Common.{◌≡◌, ℕ, zero, suc, Bool, List, ◌∷◌, ◌++◌, refl, ap, nat_eq, inl, inr}
-use Rattle.std.proofs.lemmas.Bool.{cases_Bool}
+use Rattle.sap_lemmas.proofs.Common.{◌≡◌, ℕ, zero, suc, Bool, List, ◌∷◌, ◌++◌, refl, ap, nat_eq, inl, inr, cases_Bool}
 use Rattle.sap_maps.specs.Term.{Term}
 use Rattle.sap_meaning.specs.Program.{World, root, listed, Step, assign, write, retag, retag_cell, go_to, fall_to_child, Command, lone, try, if_else, try_then, case_of, Arms, last_arm, and_arm, Block, end_block, command_then, State, state_node, Group, no_node, and_node}
 use Rattle.sap_meaning.specs.Store.{Store, child, settle, After, and_then}

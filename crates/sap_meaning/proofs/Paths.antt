@@ -1,6 +1,5 @@
 -- What looks alike by levels looks alike by their codes.
-use Rattle.std.proofs.Common.{◌≡◌, ℕ, zero, suc, ◌<◌, List, [], ◌∷◌, map, inl, inr, refl, sym, ap, ◌∙◌}
-use Rattle.std.specs.List.{AllByRecursion}
+use Rattle.sap_lemmas.proofs.Common.{◌≡◌, ℕ, zero, suc, ◌<◌, List, [], ◌∷◌, map, inl, inr, refl, sym, ap, ◌∙◌, AllByRecursion}
 use Rattle.sap_lattice.specs.Order.{Order}
 use Rattle.sap_meaning.specs.Program.{state_node, Group, no_node, and_node}
 use Rattle.sap_meaning.specs.Agree.{Alike, ActiveState, path_from, PathsRelated}

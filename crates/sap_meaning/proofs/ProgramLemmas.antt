@@ -1,6 +1,5 @@
 -- On what stands in Program: what several crates cite.
-use Rattle.std.proofs.Common.{Bool, false, if◌then◌else◌, not, refl, sym, true, ◌||◌, ◌≡◌}
-use Rattle.sap_lemmas.proofs.Bools.{true_is_not_false}
+use Rattle.sap_lemmas.proofs.Common.{Bool, false, if◌then◌else◌, not, refl, sym, true, ◌||◌, ◌≡◌, true_is_not_false}
 use Rattle.sap_meaning.specs.Program.{Kind, input, kind_is_input, kind_is_memory, kind_is_register, kind_is_state, memory, register, state}
 use Rattle.sap_meaning.specs.Program as program
 

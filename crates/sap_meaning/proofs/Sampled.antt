@@ -1,8 +1,5 @@
 -- The sample program meets the premises.
-use Rattle.std.proofs.Common.{◌≡◌, ℕ, zero, suc, ◌<◌, ◌^◌, Bool, true, false, ◌&&◌, ◌||◌, [], refl, arith, nat_eq, nat_lt, nat_le, inl, inr, if◌then◌else◌}
-use Rattle.std.proofs.lemmas.Bool.{cases_Bool, eqb-true, or_cases}
-use Rattle.std.proofs.lemmas.Grind.{common_steps}
-use Rattle.sap_lemmas.proofs.Bools.{and_false}
+use Rattle.sap_lemmas.proofs.Common.{◌≡◌, ℕ, zero, suc, ◌<◌, ◌^◌, Bool, true, false, ◌&&◌, ◌||◌, [], refl, arith, nat_eq, nat_lt, nat_le, inl, inr, if◌then◌else◌, cases_Bool, eqb-true, or_cases, common_steps, and_false}
 use Rattle.sap_lattice.specs.Order.{Laws}
 use Rattle.sap_maps.specs.Term.{constant, read, cell, two}
 use Rattle.sap_bits.specs.declared.Op2.TheVariants.{Eq}

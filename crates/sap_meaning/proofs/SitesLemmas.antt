@@ -1,6 +1,5 @@
 -- On what stands in Sites: what several crates cite.
-use Rattle.std.proofs.Common.{◌≡◌, List, [], inl, inr, ℕ, zero, suc, ◌+◌, ◌++◌, ◌∷◌, refl, sym, ap, subst, arith}
-use Rattle.std.proofs.lemmas.List.{map-append}
+use Rattle.sap_lemmas.proofs.Common.{◌≡◌, List, [], inl, inr, ℕ, zero, suc, ◌+◌, ◌++◌, ◌∷◌, refl, sym, ap, subst, arith, map-append}
 use Rattle.sap_meaning.specs.Checks.{site_of}
 use Rattle.sap_meaning.specs.Sites.{PlacedStep, site_numbers, numbers_from, RisesFrom, Sublist}
 

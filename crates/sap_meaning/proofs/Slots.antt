@@ -1,9 +1,5 @@
 -- What writes, raises and resets do to numbers, levels and current children.
-use Rattle.std.proofs.Common.{◌≡◌, ℕ, Bool, true, false, refl, ap, arith, nat_eq, inl, inr, if◌then◌else◌}
-use Rattle.std.proofs.lemmas.Bool.{cases_Bool, eqb-true}
-use Rattle.std.proofs.lemmas.Grind.{common_steps}
-use Rattle.sap_lemmas.proofs.Bools.{and_left, and_right}
-use Rattle.sap_lemmas.proofs.Numbers.{test_of_same}
+use Rattle.sap_lemmas.proofs.Common.{◌≡◌, ℕ, Bool, true, false, refl, ap, arith, nat_eq, inl, inr, if◌then◌else◌, cases_Bool, eqb-true, common_steps, and_left, and_right, test_of_same}
 use Rattle.sap_meaning.proofs.ProgramLemmas.{register_no_memory_test, state_no_memory_test}
 use Rattle.sap_lattice.specs.Order.{Order}
 use Rattle.sap_meaning.specs.Program.{World, entity, is_dynamic, is_register, is_state, below}
@@ -189,10 +185,3 @@ lowered_dynamic w target (start m i) e = cc
 lowered_dynamic w target (next m i) e = cc
 lowered_dynamic w target (start_whole m) e = cc
 lowered_dynamic w target (next_whole m) e = cc
-
-pub lowered_below : (w : World) (target : ℕ) (z : Slot) → lowered w target z ≡ true → below w target (owner z) ≡ true
-lowered_below w target (own x) e = and_left _ (is_dynamic w x) e
-lowered_below w target (start m i) e = cc
-lowered_below w target (next m i) e = cc
-lowered_below w target (start_whole m) e = cc
-lowered_below w target (next_whole m) e = cc

@@ -1,6 +1,5 @@
 -- The states of a tree by their places.
-use Rattle.std.proofs.Common.{◌≡◌, ℕ, zero, suc, ◌+◌, ◌<◌, true, refl, sym, ap, ◌∙◌, subst, arith, nat_eq, inl, inr}
-use Rattle.std.proofs.lemmas.Bool.{cases_Bool, eqb-true}
+use Rattle.sap_lemmas.proofs.Common.{◌≡◌, ℕ, zero, suc, ◌+◌, ◌<◌, true, refl, sym, ap, ◌∙◌, subst, arith, nat_eq, inl, inr, cases_Bool, eqb-true}
 use Rattle.sap_meaning.specs.Program.{World, children, place, State, state_node, Group, no_node, and_node}
 use Rattle.sap_meaning.specs.Touches.{among}
 pub use Rattle.sap_meaning.specs.Fine.{Nth}

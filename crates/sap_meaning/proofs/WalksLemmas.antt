@@ -1,7 +1,6 @@
 -- On what stands in Walks: what several crates cite.
-use Rattle.std.proofs.Common.{◌≡◌, ℕ, Bool, true, false, ◌||◌, List, ◌∷◌, inl, inr, refl, sym, ap, ap₂, ◌∙◌}
-use Rattle.std.proofs.lemmas.Bool.{or_cases, or_from}
-use Rattle.sap_lemmas.proofs.Bools.{either_follows, true_is_not_false}
+use Rattle.sap_lemmas.proofs.Common.{◌≡◌, ℕ, Bool, true, false, ◌||◌, List, ◌∷◌, inl, inr, refl, sym, ap, ap₂, ◌∙◌, or_cases, or_from, true_is_not_false}
+use Rattle.sap_lemmas.proofs.Bools.{either_follows}
 use Rattle.sap_maps.specs.Term.{Term}
 use Rattle.sap_meaning.specs.Program.{Step, Command, lone, try, if_else, try_then, case_of, Arms, last_arm, and_arm, Block, end_block, command_then}
 use Rattle.sap_meaning.specs.Walks.{Every, EveryInArms, EveryInBlock, Asks, folded, folded_in_arms, folded_in_block, with_step, gathered, gathered_in_block, some, some_in_block, mapped, mapped_arms, mapped_block, arm_constants}

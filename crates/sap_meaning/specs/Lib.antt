@@ -17,3 +17,4 @@ pub mod Sites
 pub mod Laws
 pub mod Examples
 pub mod Sample
+pub mod Prelude

@@ -1,16 +1,12 @@
 -- What the entities of a design without faults have: widths from 1 to 64, and numbers of 32 bits.
-use Rattle.std.proofs.Common.{◌≡◌, ℕ, zero, suc, ◌+◌, ◌<◌, ◌≤◌, ◌^◌, List, [], ◌∷◌, ◌++◌, length, Bool, false, refl, subst, arith, length-append}
-use Rattle.std.proofs.lemmas.Grind.{common_steps}
-use Rattle.std.specs.Prelude.{Some, IsTrue, nat_le, ◌&&◌, slice_get, not}
-use Rattle.std.specs.List.{count_by}
+use Rattle.sap_lemmas.proofs.Common.{◌≡◌, ℕ, zero, suc, ◌+◌, ◌<◌, ◌≤◌, ◌^◌, List, [], ◌∷◌, ◌++◌, length, Bool, false, refl, subst, arith, length-append, common_steps, Some, IsTrue, nat_le, ◌&&◌, slice_get, not, count_by}
 use Rattle.sap_tree.proofs.DeclLemmas.{count_more}
 use Rattle.sap_names.proofs.NameFaultsLemmas.{no_fault}
 use Rattle.sap_names.proofs.FaultLemmas.{nil_left, nil_right}
+use Rattle.sap_tree.specs.Prelude.{StateTree, state_node, StateList, no_state, and_state, DesignTree, is_whole, is_tree, is_input, is_register, is_memory, state_count, states_count, states_depth, states_commands}
 use Rattle.sap_tree.specs.declared.syntax.Numeral.{Numeral}
 use Rattle.sap_tree.specs.declared.syntax.Decl.{Decl}
 use Rattle.sap_tree.specs.declared.syntax.Decl.TheVariants.{Input, Register, Memory}
-use Rattle.sap_tree.specs.Syntax.{StateTree, state_node, StateList, no_state, and_state, DesignTree}
-use Rattle.sap_tree.specs.Whole.{is_whole, is_tree, is_input, is_register, is_memory, state_count, states_count, states_depth, states_commands}
 use Rattle.sap_names.specs.Entities.{Entity, HasWidth, HaveWidths, declared_width, declared_in, entities_of, entity_of, group_entities, state_entities}
 use Rattle.sap_names.specs.NameFaults.{declaration_faults, declarations_faults, design_name_faults, width_faults}
 use Rattle.sap_names.specs.Widths.{is_sound, sound_width}

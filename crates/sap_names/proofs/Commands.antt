@@ -1,18 +1,17 @@
 -- The faults of commands, noted one part after another.
 use Rattle.std.proofs.Common.{◌≡◌, ◌∙◌, ℕ, List, ◌++◌, append_assoc, ap, ap₂, sym, Global}
 use Rattle.std.specs.Prelude.{Option, Some, None, Vec}
+use Rattle.sap_tree.specs.Prelude.{Command, expression_of, tag_of, simple_of, command_of, block_of, else_of}
 use Rattle.sap_tree.specs.declared.syntax.Arm.{Arm}
 use Rattle.sap_tree.specs.declared.name.Mention.{Mention}
-use Rattle.sap_text.specs.declared.place.Place.{Place}
 use Rattle.sap_tree.specs.declared.syntax.Block.{Block}
 use Rattle.sap_tree.specs.declared.syntax.Cmd.{Cmd}
-use Rattle.sap_tree.specs.declared.syntax.Cmd.TheVariants as c
 use Rattle.sap_tree.specs.declared.syntax.Expr.{Expr}
 use Rattle.sap_tree.specs.declared.syntax.Simple.{Simple}
-use Rattle.sap_tree.specs.declared.syntax.Simple.TheVariants as s
 use Rattle.sap_tree.specs.declared.syntax.TagExpr.{TagExpr}
-use Rattle.sap_tree.specs.Syntax.{Command}
-use Rattle.sap_tree.specs.Trees.{expression_of, tag_of, simple_of, command_of, block_of, else_of}
+use Rattle.sap_text.specs.declared.place.Place.{Place}
+use Rattle.sap_tree.specs.declared.syntax.Cmd.TheVariants as c
+use Rattle.sap_tree.specs.declared.syntax.Simple.TheVariants as s
 use Rattle.sap_tree.proofs.Views.{command_of-try, command_of-if, command_of-try_then, command_of-case}
 use Rattle.sap_names.specs.declared.kind.Declared.{Declared}
 use Rattle.sap_names.specs.declared.kind.Use.TheVariants as u

@@ -1,11 +1,6 @@
 -- Depths of memories: a power of two has one bit, whose place is the bits of its index.
-use Rattle.std.proofs.Common.{◌≡◌, ◌∙◌, ℕ, zero, suc, ◌*◌, ◌/◌, ◌%◌, ◌^◌, ◌<◌, ◌≤◌, ◌⊎◌, Some, None, true, false, refl, ap, sym, subst, arith, inl, inr, count_ones}
-use Rattle.std.specs.Prelude.{◌==◌}
-use Rattle.std.proofs.lemmas.Bool.{cases_Bool}
-use Rattle.std.proofs.lemmas.Bool.Decides.{Decides-eqb}
-use Rattle.std.proofs.lemmas.Nat.{pow_below, pow_pos, zero_from_ones, ones_le_self}
-use Rattle.std.proofs.Math.Nat.{pow-suc}
-use Rattle.std.proofs.Math.Pow.{pow_mono}
+use Rattle.sap_lemmas.proofs.Common.{◌≡◌, ◌∙◌, ℕ, zero, suc, ◌*◌, ◌/◌, ◌%◌, ◌^◌, ◌<◌, ◌≤◌, ◌⊎◌, Some, None, true, false, refl, ap, sym, subst, arith, inl, inr, count_ones, ◌==◌, cases_Bool, Decides-eqb, pow_below, pow-suc, pow_mono}
+use Rattle.std.proofs.lemmas.Nat.{pow_pos, zero_from_ones, ones_le_self}
 use lib.Count.{ones_step}
 use Rattle.sap_names.specs.Widths.{bits_up_to}
 

@@ -1,7 +1,5 @@
 -- The best of some faults is their first.
-use Rattle.std.proofs.Common.{◌≡◌, ◌<◌, ◌≤◌, ◌⊎◌, inr, ℕ, List, [], Some, None, Bool, true, false, refl, ap, ap₂, sym, ◌∙◌, arith}
-use Rattle.std.proofs.lemmas.Grind.{common_steps}
-use Rattle.std.specs.Prelude.{ltb, leb, eqb, ◌||◌, ◌&&◌}
+use Rattle.sap_lemmas.proofs.Common.{◌≡◌, ◌<◌, ◌≤◌, ◌⊎◌, inr, ℕ, List, [], Some, None, Bool, true, false, refl, ap, ap₂, sym, ◌∙◌, arith, common_steps, ltb, leb, eqb, ◌||◌, ◌&&◌}
 use Rattle.sap_text.proofs.BestLemmas as best
 use Rattle.sap_text.specs.declared.place.Place.{Place}
 use Rattle.sap_names.specs.declared.kind.Code.{Code}

@@ -1,9 +1,8 @@
 -- The entities of lists of parts, from a place on.
-use Rattle.std.proofs.Common.{◌≡◌, ℕ, zero, suc, ◌+◌, ◌<◌, ◌≤◌, List, [], ◌∷◌, ◌++◌, length, get_or, drop, refl, sym, ap, ◌∙◌, arith, add-one, append_assoc}
-use Rattle.std.proofs.lemmas.List.{append-nil}
+use Rattle.sap_lemmas.proofs.Common.{◌≡◌, ℕ, zero, suc, ◌+◌, ◌<◌, ◌≤◌, List, [], ◌∷◌, ◌++◌, length, get_or, drop, refl, sym, ap, ◌∙◌, arith, add-one, append_assoc, append-nil}
+use Rattle.sap_tree.specs.Trees.{state_of, states_of}
 use Rattle.sap_tree.specs.declared.syntax.Decl.{Decl}
 use Rattle.sap_tree.specs.declared.syntax.State.{State}
-use Rattle.sap_tree.specs.Trees.{state_of, states_of}
 use Rattle.sap_names.specs.Entities.{Entity, entity_of, declared_in, state_entities, group_entities}
 use Rattle.sap_names.specs.Lists.{states_entities}
 

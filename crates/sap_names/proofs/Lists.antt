@@ -1,9 +1,9 @@
 -- The faults of lists, from a place on.
-use Rattle.std.proofs.Common.{◌≡◌, ℕ, Bool, zero, suc, ◌+◌, ◌<◌, ◌≤◌, List, [], ◌∷◌, ◌++◌, append_assoc, length, get_or, drop, refl, sym, ap, ap₂, ◌∙◌, arith, add-one, Some}
+use Rattle.sap_lemmas.proofs.Common.{◌≡◌, ℕ, Bool, zero, suc, ◌+◌, ◌<◌, ◌≤◌, List, [], ◌∷◌, ◌++◌, append_assoc, length, get_or, drop, refl, sym, ap, ap₂, ◌∙◌, arith, add-one, Some, Option}
 use Rattle.sap_names.specs.declared.fault.Fault.{Fault}
 use Rattle.sap_names.specs.Best.{best_of}
 use Rattle.sap_names.proofs.Faults.{both, three}
-use Rattle.std.specs.Prelude.{Option}
+use Rattle.sap_tree.specs.Prelude.{CommandBlock, expression_of, tag_of, tags_of, command_of, block_of, constants_of, arm_block_of, arms_of, else_of, state_of, states_of}
 use Rattle.sap_tree.specs.declared.syntax.Arm.{Arm}
 use Rattle.sap_tree.specs.declared.syntax.Cmd.{Cmd}
 use Rattle.sap_tree.specs.declared.syntax.Expr.{Expr}
@@ -11,8 +11,6 @@ use Rattle.sap_tree.specs.declared.syntax.Block.{Block}
 use Rattle.sap_tree.specs.declared.syntax.Decl.{Decl}
 use Rattle.sap_tree.specs.declared.syntax.State.{State}
 use Rattle.sap_tree.specs.declared.syntax.TagExpr.{TagExpr}
-use Rattle.sap_tree.specs.Syntax.{CommandBlock}
-use Rattle.sap_tree.specs.Trees.{expression_of, tag_of, tags_of, command_of, block_of, constants_of, arm_block_of, arms_of, else_of, state_of, states_of}
 use Rattle.sap_names.specs.Entities.{Lookup}
 use Rattle.sap_names.specs.NameFaults.{expression_faults, tag_faults, command_faults, block_faults, else_faults, declaration_faults, declarations_faults, state_faults}
 use Rattle.sap_names.specs.NameFaults as faults

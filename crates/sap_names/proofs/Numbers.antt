@@ -1,14 +1,6 @@
 -- The numbers of names, as entities are added, and what a number finds.
-use Rattle.std.proofs.Common.{◌≡◌, ◌∙◌, ℕ, suc, ◌+◌, ◌<◌, ◌≤◌, List, [], ◌∷◌, ◌++◌, length, get_or, take, Bool, true, false, cond, refl, ap, ap₂, sym, arith, true≢false, Vec, Global, Bor}
-use Rattle.std.proofs.lemmas.Bool.{ltb-true, ltb-false}
-use Rattle.std.proofs.lemmas.Option.{slice_get_past, slice_get_read}
-use Rattle.std.proofs.lemmas.Grind.{common_steps}
-use Rattle.std.proofs.lemmas.List.{take_more}
-use Rattle.std.proofs.lemmas.Cmp.{nat_list_eq_equiv}
-use Rattle.std.proofs.lemmas.Slice.Eq.{bytes_eq-Decides}
-use Rattle.std.specs.Prelude.{Option, Some, None, if◌then◌else◌, option_map, option_and_then, is_some, slice_get, option_copied, ltb, IfSome}
-use Rattle.std.specs.Option.{option_or}
-use Rattle.std.specs.Str.{bytes_eq}
+use Rattle.sap_lemmas.proofs.Common.{◌≡◌, ◌∙◌, ℕ, suc, ◌+◌, ◌<◌, ◌≤◌, List, [], ◌∷◌, ◌++◌, length, get_or, take, Bool, true, false, cond, refl, ap, ap₂, sym, arith, true≢false, Bor, ltb-true, ltb-false, slice_get_past, slice_get_read, common_steps, take_more, nat_list_eq_equiv, bytes_eq-Decides, Option, Some, None, if◌then◌else◌, option_map, option_and_then, is_some, slice_get, option_copied, ltb, IfSome, option_or, bytes_eq}
+use Rattle.std.proofs.Common.{Vec, Global}
 use Rattle.sap_lemmas.proofs.Options.{none_of_test}
 use Rattle.sap_names.specs.Entities.{Entity, find, number_of}
 use Rattle.sap_names.specs.Index.{under, Numbers}

@@ -1,8 +1,9 @@
 -- The first of some parts, and the others.
 use Rattle.std.proofs.Common.{◌≡◌, ℕ, ◌-◌, ◌<◌, ◌≤◌, List, [], ◌∷◌, ◌++◌, None, ◌&&◌, Bool, length, get_or, drop, take, refl, ap, ap₂, sym, ◌∙◌, not, Option, arith}
 use Rattle.sap_lemmas.proofs.Lists.{take_rest_of}
+use Rattle.sap_tree.specs.Prelude.{expression_of, expressions_of, first_of, spot_of, Expression, concat, Expressions}
 use Rattle.sap_tree.specs.declared.syntax.Expr.{Expr}
-use Rattle.sap_tree.specs.Trees.{expression_of, expressions_of}
+use Rattle.sap_tree.specs.declared.place.Spot.{Spot}
 use Rattle.sap_names.specs.Entities.{Lookup}
 use Rattle.sap_names.specs.Widths.{own, is_sound, all_sound}
 use Rattle.sap_names.specs.NameFaults.{expression_faults, parts_faults, fault_if, unsettled}
@@ -10,9 +11,6 @@ use Rattle.sap_names.specs.Best.{best_of}
 use Rattle.sap_names.specs.declared.fault.Fault.{Fault}
 use Rattle.sap_names.specs.declared.kind.Code.TheVariants.{E7}
 use Rattle.sap_names.proofs.Faults.{both}
-use Rattle.sap_tree.specs.declared.place.Spot.{Spot}
-use Rattle.sap_tree.specs.Spots.{first_of, spot_of}
-use Rattle.sap_tree.specs.Syntax.{Expression, concat, Expressions}
 
 pub parts_first : (what : Lookup) (xs : List Expr) (d : Expr) → 1 ≤ length xs → d ≡ get_or xs 0 d
     → parts_faults what (expressions_of xs)

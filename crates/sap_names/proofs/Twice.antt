@@ -1,10 +1,6 @@
 -- An entity that is declared earlier is not the first of its name.
-use Rattle.std.proofs.Common.{◌≡◌, ◌∙◌, ℕ, zero, suc, ◌+◌, ◌<◌, ◌≤◌, List, [], ◌∷◌, ◌++◌, length, get_or, take, drop, Bool, true, false, refl, ap, ap₂, sym, arith, add-one}
-use Rattle.std.proofs.lemmas.Cmp.{nat_list_eq_equiv}
+use Rattle.sap_lemmas.proofs.Common.{◌≡◌, ◌∙◌, ℕ, zero, suc, ◌+◌, ◌<◌, ◌≤◌, List, [], ◌∷◌, ◌++◌, length, get_or, take, drop, Bool, true, false, refl, ap, ap₂, sym, arith, add-one, nat_list_eq_equiv, take_more, Option, Some, None, if◌then◌else◌, option_map, eqb, not, bytes_eq}
 use Rattle.std.proofs.Math.Dec.{eqb-suc-suc, eqb-zero-suc}
-use Rattle.std.proofs.lemmas.List.{take_more}
-use Rattle.std.specs.Prelude.{Option, Some, None, if◌then◌else◌, option_map, eqb, not}
-use Rattle.std.specs.Str.{bytes_eq}
 use Rattle.sap_names.specs.Best.{best_of}
 use Rattle.sap_names.specs.Entities.{Entity, number_of}
 use Rattle.sap_names.specs.Fault.{Fault}

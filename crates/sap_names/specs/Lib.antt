@@ -7,3 +7,4 @@ pub mod NameFaults
 pub mod Examples
 pub mod Lists
 pub mod Index
+pub mod Prelude

@@ -1,6 +1,5 @@
 -- The definitions at known numbers.
-use Rattle.std.proofs.Common.{◌≡◌, ℕ, ◌+◌, [], ◌∷◌, ◌∙◌, Some, None, true, false, refl, lit<, lit≤}
-use Rattle.std.specs.Prelude.{codes}
+use Rattle.sap_lemmas.proofs.Common.{◌≡◌, ℕ, ◌+◌, [], ◌∷◌, ◌∙◌, Some, None, true, false, refl, lit<, lit≤, codes}
 use lib.Count.{ones}
 use Rattle.sap_bits.specs.declared.Op1.TheVariants.{Not, Neg, AllOnes, AnyOne, Odd}
 use Rattle.sap_bits.specs.declared.Op2.TheVariants.{Add, Sub, Mul, And, Or, Xor, Eq, Ne, Lt, Le, Shl, Shr}

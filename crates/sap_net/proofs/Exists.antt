@@ -1,12 +1,7 @@
 -- A run exists on each list of inputs that fit.
-use Rattle.std.proofs.Common.{◌≡◌, ℕ, List, [], ◌∷◌, ◌++◌, map, Option, Some, None, sym, ◌∙◌, subst, refl, false}
-use Rattle.std.specs.Prelude.{unwrap_or}
-use Rattle.std.specs.Str.{bytes_eq}
-use Rattle.std.specs.List.{AllByRecursion}
-use Rattle.sap_lemmas.proofs.Texts.{bytes_eq_same}
+use Rattle.sap_lemmas.proofs.Common.{◌≡◌, ℕ, List, [], ◌∷◌, ◌++◌, map, Option, Some, None, sym, ◌∙◌, subst, refl, false, unwrap_or, bytes_eq, AllByRecursion, bytes_eq_same}
 use Rattle.sap_net.proofs.InputLemmas.{past_inputs}
-use Rattle.sap_maps.specs.Maps.{Name, Valuation}
-use Rattle.sap_maps.specs.Scope.{Scope, find, Agree}
+use Rattle.sap_maps.specs.Prelude.{Name, Valuation, Scope, find, Agree}
 use Rattle.sap_maps.proofs.Scopes.{found_here, not_first, not_behind, agree_less}
 use Rattle.sap_net.specs.declared.parts.Input.{Input}
 use Rattle.sap_net.specs.declared.parts.Register.{Register}

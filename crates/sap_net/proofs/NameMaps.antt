@@ -1,12 +1,8 @@
 -- Maps from names, as one more name is put in.
-use Rattle.std.proofs.Common.{◌≡◌, ℕ, Option, Some, Bool, false, inl, inr, subst, ◌∙◌}
-use Rattle.std.specs.Str.{bytes_eq}
-use Rattle.std.specs.HashMap as hash
-use Rattle.std.specs.declared.vec.Vec.{Vec}
-use Rattle.std.specs.declared.alloc.Global.{Global}
-use Rattle.std.proofs.lemmas.Bool.{cases_Bool}
+use Rattle.sap_lemmas.proofs.Common.{◌≡◌, ℕ, Option, Some, Bool, false, inl, inr, subst, ◌∙◌, bytes_eq, Vec, Global, cases_Bool, equal_of_bytes_eq}
 use Rattle.sap_lemmas.proofs.Lists.{others_kept}
-use Rattle.sap_lemmas.proofs.Texts.{bytes_eq_alike, bytes_eq_apart, equal_of_bytes_eq}
+use Rattle.sap_lemmas.proofs.Texts.{bytes_eq_alike, bytes_eq_apart}
+use Rattle.std.specs.HashMap as hash
 use Rattle.sap_maps.specs.Maps.{Name}
 use Rattle.sap_net.specs.NameMaps.{NameMap, at_name, Puts}
 

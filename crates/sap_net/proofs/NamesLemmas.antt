@@ -1,11 +1,6 @@
 -- On what stands in Names: what several crates cite.
-use Rattle.std.proofs.Common.{Bool, List, None, Some, [], ap, bytes_eq, false, filter, inl, inr, map, refl, subst, sym, true, ℕ, ◌&&◌, ◌++◌, ◌||◌, ◌∙◌, ◌∷◌, ◌≡◌}
-use Rattle.std.specs.List.{AllByRecursion, list_all}
-use Rattle.std.proofs.lemmas.Bool.{cases_Bool, or_right}
-use Rattle.sap_lemmas.proofs.Bools.{and_false, or_true}
-use Rattle.sap_lemmas.proofs.Texts.{bytes_eq_apart_back, bytes_eq_same, equal_of_bytes_eq}
-use Rattle.sap_maps.specs.Maps.{Name}
-use Rattle.sap_maps.specs.Scope.{find}
+use Rattle.sap_lemmas.proofs.Common.{Bool, List, None, Some, [], ap, bytes_eq, false, filter, inl, inr, map, refl, subst, sym, true, ℕ, ◌&&◌, ◌++◌, ◌||◌, ◌∙◌, ◌∷◌, ◌≡◌, AllByRecursion, list_all, cases_Bool, or_right, and_false, or_true, bytes_eq_apart_back, bytes_eq_same, equal_of_bytes_eq}
+use Rattle.sap_maps.specs.Prelude.{Name, find}
 use Rattle.sap_net.specs.Names.{AreDistinct, is_among, is_inner, is_name}
 
 pub found_of : {X Y : Type 0} (name : Y → Name) (of : Y → X) (ys : List Y) (n : Name) → is_among n (map name ys) ≡ true → (x : X) × (find (map (λ y. (name y, of y)) ys) n ≡ Some x)

@@ -1,11 +1,8 @@
 -- What is seen of a cycle: inputs and wires as they are, registers and memories as they are after the edge.
-use Rattle.std.proofs.Common.{◌≡◌, ℕ, List, [], ◌∷◌, ◌++◌, map, None, ap, refl}
-use Rattle.std.specs.List.{AllByRecursion}
-use Rattle.sap_lemmas.proofs.Texts.{bytes_eq_apart_back}
+use Rattle.sap_lemmas.proofs.Common.{◌≡◌, ℕ, List, [], ◌∷◌, ◌++◌, map, None, ap, refl, AllByRecursion, bytes_eq_apart_back}
 use Rattle.sap_net.proofs.RulesLemmas.{values_past}
 use Rattle.sap_net.proofs.InputLemmas.{past_inputs}
-use Rattle.sap_maps.specs.Maps.{Name, Valuation}
-use Rattle.sap_maps.specs.Scope.{Scope, find}
+use Rattle.sap_maps.specs.Prelude.{Name, Valuation, Scope, find}
 use Rattle.sap_maps.proofs.Scopes.{found_here, not_first, not_behind}
 use Rattle.sap_net.specs.declared.parts.Operand.{Operand}
 use Rattle.sap_net.specs.declared.parts.Input.{Input}

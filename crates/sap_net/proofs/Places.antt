@@ -1,10 +1,5 @@
 -- The places of names on a list, and a map to them as one more name is added.
-use Rattle.std.proofs.Common.{◌≡◌, ℕ, zero, List, [], ◌∷◌, ◌++◌, Option, Some, None, true, false, length, is_some, sym, ap, ◌∙◌, subst, refl, inl, inr, suc}
-use Rattle.std.specs.Prelude.{if◌then◌else◌}
-use Rattle.std.specs.Str.{bytes_eq}
-use Rattle.std.proofs.lemmas.Bool.{cases_Bool}
-use Rattle.std.specs.Option.{option_map}
-use Rattle.sap_lemmas.proofs.Texts.{bytes_eq_apart_back, bytes_eq_same, equal_of_bytes_eq}
+use Rattle.sap_lemmas.proofs.Common.{◌≡◌, ℕ, zero, List, [], ◌∷◌, ◌++◌, Option, Some, None, true, false, length, is_some, sym, ap, ◌∙◌, subst, refl, inl, inr, suc, if◌then◌else◌, bytes_eq, cases_Bool, option_map, bytes_eq_apart_back, bytes_eq_same, equal_of_bytes_eq}
 use Rattle.sap_maps.specs.Maps.{Name}
 use Rattle.sap_net.specs.Names.{is_among}
 use Rattle.sap_net.specs.NameMaps.{at_name, Indexes, NameMap, Puts, place_in}

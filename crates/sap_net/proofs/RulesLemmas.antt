@@ -1,13 +1,7 @@
 -- On what stands in Rules: what several crates cite.
-use Rattle.std.proofs.Common.{List, None, Some, [], arith, inl, inr, map, refl, subst, sym, true, ℕ, ◌++◌, ◌∷◌, ◌≡◌}
-use Rattle.std.specs.Str.{bytes_eq}
-use Rattle.std.proofs.lemmas.Bool.{cases_Bool}
-use Rattle.std.specs.List.{AllByRecursion}
-use Rattle.sap_lemmas.proofs.Everywhere.{all_follow}
-use Rattle.sap_lemmas.proofs.Texts.{equal_of_bytes_eq}
+use Rattle.sap_lemmas.proofs.Common.{List, None, Some, [], arith, inl, inr, map, refl, subst, sym, true, ℕ, ◌++◌, ◌∷◌, ◌≡◌, bytes_eq, cases_Bool, AllByRecursion, all_follow, equal_of_bytes_eq}
 use Rattle.sap_maps.proofs.Scopes.{found_behind, found_here, not_behind}
-use Rattle.sap_maps.specs.Maps.{Name}
-use Rattle.sap_maps.specs.Scope.{Scope, find}
+use Rattle.sap_maps.specs.Prelude.{Name, Scope, find}
 use Rattle.sap_net.specs.IsNetlist.{names_of}
 use Rattle.sap_net.specs.Names.{AreDistinct, is_among}
 use Rattle.sap_net.specs.Rules.{AreValues, AreWires, IsWidth, Shapes, readable_after, IsOperand}

@@ -1,12 +1,7 @@
 -- Cycles and runs on the same inputs have equal numbers.
-use Rattle.std.proofs.Common.{◌≡◌, ℕ, List, [], ◌∷◌, map, Option, Some, None, sym, ◌∙◌, subst, ⊎_elim}
-use Rattle.std.specs.Str.{bytes_eq}
-use Rattle.std.specs.List.{AllByRecursion}
-use Rattle.std.proofs.lemmas.Bool.{cases_Bool}
+use Rattle.sap_lemmas.proofs.Common.{◌≡◌, ℕ, List, [], ◌∷◌, map, Option, Some, None, sym, ◌∙◌, subst, ⊎_elim, bytes_eq, AllByRecursion, cases_Bool, equal_of_bytes_eq}
 use Rattle.sap_lemmas.proofs.Everywhere.{all_equal, all_equal_at}
-use Rattle.sap_lemmas.proofs.Texts.{equal_of_bytes_eq}
-use Rattle.sap_maps.specs.Maps.{Name, Valuation}
-use Rattle.sap_maps.specs.Scope.{Scope, find, Agree}
+use Rattle.sap_maps.specs.Prelude.{Name, Valuation, Scope, find, Agree}
 use Rattle.sap_maps.proofs.Scopes.{found_here, found_behind, agree_more, agree_both}
 use Rattle.sap_net.specs.declared.parts.Input.{Input}
 use Rattle.sap_net.specs.declared.parts.Register.{Register}

@@ -1,7 +1,6 @@
 -- The wires' values, put one after another.
 use Rattle.std.proofs.Common.{◌≡◌, ℕ, List, [], ◌∷◌, Some, ◌∙◌, refl}
-use Rattle.sap_maps.specs.Maps.{Name, Valuation, set_value}
-use Rattle.sap_maps.specs.Scope.{Scope, find, Agree}
+use Rattle.sap_maps.specs.Prelude.{Name, Valuation, set_value, Scope, find, Agree}
 use Rattle.sap_maps.proofs.Scopes.{found_behind, set_value_agrees}
 use Rattle.sap_net.specs.declared.parts.Wire.{Wire}
 use Rattle.sap_net.specs.Values.{right_value}

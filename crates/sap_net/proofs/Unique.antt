@@ -1,8 +1,7 @@
 -- The equations of the wires have one solution at the names that can be read.
 use Rattle.std.proofs.Common.{◌≡◌, ℕ, List, [], ◌∷◌, sym, ap, ◌∙◌, refl}
 use Rattle.sap_bits.specs.Arithmetic.{value1, slice_of}
-use Rattle.sap_maps.specs.Maps.{Name, Valuation, set_value}
-use Rattle.sap_maps.specs.Scope.{Scope, Agree}
+use Rattle.sap_maps.specs.Prelude.{Name, Valuation, set_value, Scope, Agree}
 use Rattle.sap_maps.proofs.Scopes.{found_here, agree_more, set_value_here}
 use Rattle.sap_net.specs.declared.parts.Operand.{Operand}
 use Rattle.sap_net.specs.declared.parts.Operand.TheVariants.{Named, Constant}

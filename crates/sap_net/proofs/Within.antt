@@ -1,16 +1,8 @@
 -- The numbers of a cycle are within their widths.
-use Rattle.std.proofs.Common.{◌≡◌, ℕ, ◌+◌, ◌^◌, ◌<◌, List, [], ◌∷◌, ◌++◌, map, Option, Some, None, sym, ap, subst, ⊎_elim, arith}
-use Rattle.std.specs.Prelude.{unwrap_or}
-use Rattle.std.specs.Str.{bytes_eq}
-use Rattle.std.specs.List.{AllByRecursion}
-use Rattle.std.proofs.Math.Pow.{pow_pos}
-use Rattle.std.proofs.Math.Nat.{mod-lt}
-use Rattle.std.proofs.lemmas.Bool.{cases_Bool}
-use Rattle.sap_lemmas.proofs.Texts.{equal_of_bytes_eq}
+use Rattle.sap_lemmas.proofs.Common.{◌≡◌, ℕ, ◌+◌, ◌^◌, ◌<◌, List, [], ◌∷◌, ◌++◌, map, Option, Some, None, sym, ap, subst, ⊎_elim, arith, unwrap_or, bytes_eq, AllByRecursion, pow_pos, mod-lt, cases_Bool, equal_of_bytes_eq}
 use Rattle.sap_net.proofs.RulesLemmas.{readable_kept}
 use Rattle.sap_bits.proofs.Within.{value1_below, value2_below}
-use Rattle.sap_maps.specs.Maps.{Name, Valuation}
-use Rattle.sap_maps.specs.Scope.{Scope, find}
+use Rattle.sap_maps.specs.Prelude.{Name, Valuation, Scope, find}
 use Rattle.sap_maps.proofs.Terms.{right_fits, below_both, joined_below}
 use Rattle.sap_net.specs.declared.parts.Operand.{Operand}
 use Rattle.sap_net.specs.declared.parts.Operand.TheVariants.{Named, Constant}

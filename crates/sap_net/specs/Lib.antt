@@ -9,3 +9,4 @@ pub mod Runs
 pub mod Shown
 pub mod Laws
 pub mod Summing
+pub mod Prelude

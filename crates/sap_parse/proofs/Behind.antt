@@ -1,6 +1,5 @@
 -- The place of a fault.
-use Rattle.std.proofs.Common.{◌≡◌, ◌≢◌, ℕ, List, [], ◌∷◌, length, take, refl, ap, sym, ◌∙◌, arith}
-use Rattle.std.proofs.lemmas.Grind.{common_steps}
+use Rattle.sap_lemmas.proofs.Common.{◌≡◌, ◌≢◌, ℕ, List, [], ◌∷◌, length, take, refl, ap, sym, ◌∙◌, arith, common_steps}
 use Rattle.sap_text.specs.Places as places
 use Rattle.sap_text.specs.Places.{place_after, place_at}
 use Rattle.sap_parse.specs.Reading.{ahead}

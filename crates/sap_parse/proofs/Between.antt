@@ -1,8 +1,5 @@
 -- What the tokens between two stages of a text within the limits give.
-use Rattle.std.proofs.Common.{◌≡◌, ◌<◌, ◌≤◌, ◌+◌, ◌-◌, ◌^◌, ℕ, suc, List, [], ◌∷◌, length, Option, Some, None, Bool, true, false, cond, not, refl, sym, ap, subst, ◌∙◌, arith}
-use Rattle.std.proofs.lemmas.Bool.Decides.{nat_tests}
-use Rattle.std.specs.Prelude.{nat_le, nat_lt, ◌&&◌}
-use Rattle.std.specs.List.{All}
+use Rattle.sap_lemmas.proofs.Common.{◌≡◌, ◌<◌, ◌≤◌, ◌+◌, ◌-◌, ◌^◌, ℕ, suc, List, [], ◌∷◌, length, Option, Some, None, Bool, true, false, cond, not, refl, sym, ap, subst, ◌∙◌, arith, nat_tests, nat_le, nat_lt, ◌&&◌, All}
 use Rattle.sap_parse.specs.Limits.{Counts, tally, breach, breach_of_name, breach_of_role, above, ◌or_else◌}
 use Rattle.sap_lex.specs.Spelled.{HasText, Spells, SpellsSized, decimal, hexadecimal, is_of, text_of}
 use Rattle.sap_parse.specs.Stages.{Stage, IsToken}
@@ -13,9 +10,7 @@ use Rattle.sap_parse.specs.declared.role.Role.{Role}
 use Rattle.sap_lex.specs.declared.token.Kind.TheVariants as k
 use Rattle.sap_lex.specs.declared.token.Kind.{Kind}
 use Rattle.sap_lex.specs.declared.token.Token.{Token}
-use Rattle.sap_tree.specs.Limits.{most_arms}
-use Rattle.sap_tree.specs.Whole.{is_number}
-use Rattle.sap_tree.specs.Words.{is_word, is_keyword, is_name}
+use Rattle.sap_tree.specs.Prelude.{most_arms, is_number, is_word, is_keyword, is_name}
 use Rattle.sap_tree.specs.declared.version.Version.{Version}
 use Rattle.sap_walk.specs.Limits.{first_of}
 

@@ -13,14 +13,14 @@ use Rattle.sap_tree.specs.declared.word.Word.TheVariants as w
 use Rattle.sap_tree.specs.Syntax as t
 use Rattle.sap_tree.specs.Trees.{arm_block_of, arms_before, arms_of, block_of, command_of, commands_of, constants_of, expression_of, expressions_of, tag_of}
 use Rattle.sap_tree.specs.declared.name.Mention.{Mention}
-use Rattle.sap_text.specs.declared.place.Place.{Place}
 use Rattle.sap_tree.specs.declared.place.Spot.{Spot}
-use Rattle.sap_parse.proofs.Makes.{both}
 use Rattle.sap_tree.specs.declared.syntax.Arm.{Arm}
 use Rattle.sap_tree.specs.declared.syntax.Block.{Block}
 use Rattle.sap_tree.specs.declared.syntax.Cmd.{Cmd}
 use Rattle.sap_tree.specs.declared.syntax.Expr.{Expr}
 use Rattle.sap_tree.specs.declared.syntax.TagExpr.{TagExpr}
+use Rattle.sap_text.specs.declared.place.Place.{Place}
+use Rattle.sap_parse.proofs.Makes.{both}
 
 pub assign_tree : {depth : ℕ} {p1 p2 p3 q : Stage} {n : Mention} {index : Option Expr} (x : Expr) → IsName p1 (r.Command depth) n.name p2
     → CellPart p2 index p3 → NewValue p3 (expression_of x) q

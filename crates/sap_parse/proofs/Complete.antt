@@ -1,7 +1,5 @@
 -- What the grammar spells in expressions, the walk reads.
-use Rattle.std.proofs.Common.{◌≡◌, ◌≢◌, ◌+◌, ℕ, List, [], ◌∷◌, ◌++◌, Option, Some, None, Ok, Bool, true, false, refl, sym, ap, subst, ◌∙◌, arith}
-use Rattle.std.specs.Prelude.{nat_lt}
-use Rattle.std.proofs.lemmas.Bool.Decides.{nat_tests}
+use Rattle.sap_lemmas.proofs.Common.{◌≡◌, ◌≢◌, ◌+◌, ℕ, List, [], ◌∷◌, ◌++◌, Option, Some, None, Ok, Bool, true, false, refl, sym, ap, subst, ◌∙◌, arith, nat_lt, nat_tests}
 use Rattle.sap_parse.proofs.ReadingLemmas.{ok_one}
 use Rattle.sap_parse.specs.Grammar as g
 use Rattle.sap_parse.specs.Grammar.{sign_of, unary_sign_of}
@@ -17,11 +15,11 @@ use Rattle.sap_lex.specs.declared.token.Sign.TheVariants as j
 use Rattle.sap_lex.specs.declared.token.Sign.{Sign as SignOf}
 use Rattle.sap_tree.specs.declared.word.Word.TheVariants as w
 use Rattle.sap_tree.specs.Precedence.{precedence, unary_precedence}
+use Rattle.sap_tree.specs.declared.syntax.BinaryOperator.{BinaryOperator}
+use Rattle.sap_tree.specs.declared.syntax.UnaryOperator.{UnaryOperator}
 use Rattle.sap_tree.specs.Syntax as t
 use Rattle.sap_tree.specs.declared.syntax.BinaryOperator.TheVariants as b
-use Rattle.sap_tree.specs.declared.syntax.BinaryOperator.{BinaryOperator}
 use Rattle.sap_tree.specs.declared.syntax.UnaryOperator.TheVariants as u
-use Rattle.sap_tree.specs.declared.syntax.UnaryOperator.{UnaryOperator}
 use Rattle.sap_parse.proofs.ExprLaws.{bin_tail, bin_unary, expr_bin, unary_full}
 use Rattle.sap_parse.proofs.Known.{R, Rs, at_token_of, at_kind, at_none, stands_here, steps_append, takes, first_kind, first_is, name_reads, number_reads, sign_reads, sized_reads, skipped, word_reads}
 use Rattle.sap_walk.specs.Rows.{push, first_then, firsts}

@@ -8,19 +8,19 @@ use Rattle.sap_parse.specs.declared.role.Role.TheVariants as r
 use Rattle.sap_parse.specs.declared.role.Role.{Role}
 use Rattle.sap_lex.specs.declared.token.Sign.TheVariants as s
 use Rattle.sap_tree.specs.declared.word.Word.TheVariants as w
-use Rattle.sap_tree.specs.declared.word.Word.{Word}
-use Rattle.sap_tree.specs.Syntax as t
 use Rattle.sap_tree.specs.Trees.{state_of, states_of}
+use Rattle.sap_tree.specs.declared.word.Word.{Word}
 use Rattle.sap_tree.specs.declared.name.Mention.{Mention}
 use Rattle.sap_tree.specs.declared.version.Version.{Version}
-use Rattle.sap_text.specs.declared.place.Place.{Place}
-use Rattle.sap_tree.specs.declared.syntax.Decl.TheVariants as d
 use Rattle.sap_tree.specs.declared.syntax.Decl.{Decl}
-use Rattle.sap_tree.specs.declared.syntax.Kind.TheVariants as k
 use Rattle.sap_tree.specs.declared.syntax.Kind.{Kind}
 use Rattle.sap_tree.specs.declared.syntax.Numeral.{Numeral}
 use Rattle.sap_tree.specs.declared.syntax.State.{State}
 use Rattle.sap_tree.specs.declared.syntax.Under.{Under}
+use Rattle.sap_tree.specs.Syntax as t
+use Rattle.sap_text.specs.declared.place.Place.{Place}
+use Rattle.sap_tree.specs.declared.syntax.Decl.TheVariants as d
+use Rattle.sap_tree.specs.declared.syntax.Kind.TheVariants as k
 
 pub authority_tree : {p1 p2 q : Stage} {place : Place} {n : Mention} → IsWord p1 r.Plain w.Under p2 → IsName p2 r.Plain n.name q → place ≡ here p1 → n ≡ mention p2 n.name
     → g.Authority p1 (Some (record { place = place; level = n })) q

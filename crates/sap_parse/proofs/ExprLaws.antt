@@ -1,7 +1,5 @@
 -- What the symbols of expressions read.
-use Rattle.std.proofs.Common.{◌≡◌, ◌≢◌, ◌<◌, ◌+◌, ◌-◌, ℕ, suc, List, [], ◌∷◌, ◌++◌, Option, Some, None, Ok, Err, Bool, true, false, cond, refl, sym, ap, subst, ◌∙◌, arith}
-use Rattle.std.proofs.lemmas.Bool.Decides.{nat_tests}
-use Rattle.std.specs.Prelude.{◌==◌}
+use Rattle.sap_lemmas.proofs.Common.{◌≡◌, ◌≢◌, ◌<◌, ◌+◌, ◌-◌, ℕ, suc, List, [], ◌∷◌, ◌++◌, Option, Some, None, Ok, Err, Bool, true, false, cond, refl, sym, ap, subst, ◌∙◌, arith, nat_tests, ◌==◌}
 use Rattle.sap_walk.proofs.RowsLemmas.{push_none, push_push}
 use Rattle.sap_parse.specs.Choices.{primary_of, sign_primary, word_primary, operator_at, of_precedence, unary_at, unary_operator_of}
 use Rattle.sap_parse.specs.Grammar.{sign_of, unary_sign_of}
@@ -20,8 +18,8 @@ use Rattle.sap_lex.specs.declared.token.Sign.TheVariants as j
 use Rattle.sap_lex.specs.declared.token.Sign.{Sign as SignOf}
 use Rattle.sap_lex.specs.declared.token.Token.{Token}
 use Rattle.sap_tree.specs.declared.word.Word.TheVariants as w
-use Rattle.sap_tree.specs.declared.word.Word.{Word as WordOf}
 use Rattle.sap_tree.specs.Precedence.{precedence, unary_precedence}
+use Rattle.sap_tree.specs.declared.word.Word.{Word as WordOf}
 use Rattle.sap_tree.specs.declared.syntax.BinaryOperator.{BinaryOperator}
 use Rattle.sap_tree.specs.declared.syntax.UnaryOperator.{UnaryOperator}
 use Rattle.sap_parse.proofs.Laws.{IsFull, push_full, or_full, first_then_full, step, step_at, skips, stops, sign_then, word_then, sign_there, sign_missing, name_full, number_full, sign_full, word_full, stands}

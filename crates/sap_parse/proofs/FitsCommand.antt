@@ -1,21 +1,17 @@
 -- Tag expressions and commands of a text within the limits are within theirs.
-use Rattle.std.proofs.Common.{◌≡◌, ◌≤◌, ◌+◌, ℕ, max, Bool, true, false, refl, ◌∙◌, arith}
-use Rattle.std.specs.Prelude.{◌&&◌, ◌||◌, length}
+use Rattle.sap_lemmas.proofs.Common.{◌≡◌, ◌≤◌, ◌+◌, ℕ, max, Bool, true, false, refl, ◌∙◌, arith, ◌&&◌, ◌||◌, length}
 use Rattle.sap_parse.specs.Grammar as g
 use Rattle.sap_parse.specs.Limits.{Counts}
 use Rattle.sap_parse.specs.Stages.{Stage}
 use Rattle.sap_parse.specs.declared.role.Role.TheVariants as r
 use Rattle.sap_parse.proofs.Between.{all_true, le_true, Between, ◌then◌, gives, still, sized, one_less, stands, RoleFact}
 use Rattle.sap_parse.proofs.FitsExpr.{Fits, expr_between, outermost}
-use Rattle.sap_tree.specs.Extent.{tokens, brackets, tag_tokens, tag_part_tokens, tag_brackets, tag_part_brackets}
-use Rattle.sap_tree.specs.Syntax as t
-use Rattle.sap_tree.specs.Whole.{is_expression, is_tag, are_tags, is_outermost_tag, is_simple, is_command, is_block, is_else, are_arms, are_commands, is_constant, are_constants, has_constant, has_arm, arm_count, command_count, block_count, else_count, arms_count, list_count, command_depth, block_depth, else_depth, arms_depth, list_depth}
-use Rattle.sap_tree.specs.Limits.{most_arms}
-use Rattle.sap_tree.specs.Words.{is_name, is_second}
-use Rattle.sap_tree.specs.declared.version.Version.TheVariants as v
+use Rattle.sap_tree.specs.Prelude.{tokens, brackets, tag_tokens, tag_part_tokens, tag_brackets, tag_part_brackets, is_expression, is_tag, are_tags, is_outermost_tag, is_simple, is_command, is_block, is_else, are_arms, are_commands, is_constant, are_constants, has_constant, has_arm, arm_count, command_count, block_count, else_count, arms_count, list_count, command_depth, block_depth, else_depth, arms_depth, list_depth, most_arms, is_name, is_second}
 use Rattle.sap_tree.specs.declared.name.Mention.{Mention}
-use Rattle.sap_text.specs.declared.place.Place.{Place}
 use Rattle.sap_tree.specs.declared.version.Version.{Version}
+use Rattle.sap_tree.specs.Syntax as t
+use Rattle.sap_tree.specs.declared.version.Version.TheVariants as v
+use Rattle.sap_text.specs.declared.place.Place.{Place}
 
 -- tag expressions
 

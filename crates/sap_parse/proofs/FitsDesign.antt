@@ -1,8 +1,5 @@
 -- The tree of a text within the limits is whole.
-use Rattle.std.proofs.Common.{◌≡◌, ◌≤◌, ◌+◌, ℕ, List, [], ◌∷◌, Option, Bool, true, cond, refl, sym, ap, subst, ◌∙◌, arith}
-use Rattle.std.proofs.lemmas.List.Sums.{sum_by-cons}
-use Rattle.std.specs.Prelude.{length}
-use Rattle.std.specs.List.{All, list_all, count_by}
+use Rattle.sap_lemmas.proofs.Common.{◌≡◌, ◌≤◌, ◌+◌, ℕ, List, [], ◌∷◌, Option, Bool, true, cond, refl, sym, ap, subst, ◌∙◌, arith, sum_by-cons, length, All, list_all, count_by}
 use Rattle.sap_parse.specs.Fault.{IsDesign}
 use Rattle.sap_parse.specs.Grammar as g
 use Rattle.sap_parse.specs.Limits.{Counts}
@@ -16,17 +13,15 @@ use Rattle.sap_lex.specs.declared.token.Token.{Token}
 use Rattle.sap_parse.proofs.Between.{all_true, le_true, AreGood, Between, ◌then◌, gives, still, stands, RoleFact, texts_good}
 use Rattle.sap_parse.proofs.FitsCommand.{FitsCommands, cmds_between}
 use Rattle.sap_tree.specs.Syntax as t
-use Rattle.sap_tree.specs.Whole.{is_block, are_commands, block_count, list_count, block_depth, list_depth, is_authority, is_kind, is_start, is_declaration, is_input, is_register, is_memory, is_state, are_states, state_count, states_count, state_depth, states_depth, state_commands, states_commands, is_whole}
-use Rattle.sap_tree.specs.Words.{is_name}
+use Rattle.sap_tree.specs.Prelude.{is_block, are_commands, block_count, list_count, block_depth, list_depth, is_authority, is_kind, is_start, is_declaration, is_input, is_register, is_memory, is_state, are_states, state_count, states_count, state_depth, states_depth, state_commands, states_commands, is_whole, is_name, most_arms}
 use Rattle.sap_tree.specs.declared.name.Mention.{Mention}
-use Rattle.sap_text.specs.declared.place.Place.{Place}
 use Rattle.sap_tree.specs.declared.syntax.Decl.{Decl}
 use Rattle.sap_tree.specs.declared.syntax.Kind.{Kind}
 use Rattle.sap_tree.specs.declared.syntax.Numeral.{Numeral}
 use Rattle.sap_tree.specs.declared.syntax.Under.{Under}
-use Rattle.sap_tree.specs.Limits.{most_arms}
-use Rattle.sap_tree.specs.declared.version.Version.TheVariants as v
 use Rattle.sap_tree.specs.declared.version.Version.{Version}
+use Rattle.sap_text.specs.declared.place.Place.{Place}
+use Rattle.sap_tree.specs.declared.version.Version.TheVariants as v
 
 -- kinds and declarations
 

@@ -1,22 +1,17 @@
 -- An expression of a text within the limits is within its own: it has at least the tokens and brackets of its canonical text.
-use Rattle.std.proofs.Common.{◌≡◌, ◌≤◌, ◌+◌, ℕ, List, max, true, refl, subst, ◌∙◌, arith}
-use Rattle.std.proofs.lemmas.Bool.Decides.{nat_tests}
+use Rattle.sap_lemmas.proofs.Common.{◌≡◌, ◌≤◌, ◌+◌, ℕ, List, max, true, refl, subst, ◌∙◌, arith, nat_tests}
 use Rattle.sap_parse.specs.Grammar as g
 use Rattle.sap_parse.specs.Limits.{Counts}
 use Rattle.sap_parse.specs.Stages.{Stage}
 use Rattle.sap_parse.specs.declared.role.Role.TheVariants as r
 use Rattle.sap_parse.proofs.Between.{all_true, le_true, Between, ◌then◌, gives, still, stands, RoleFact}
-use Rattle.sap_tree.specs.Extent.{tokens, part_tokens, brackets, part_brackets, parentheses, opened}
-use Rattle.sap_tree.specs.Precedence.{precedence, unary_precedence, slice_precedence, primary_precedence, precedence_of}
-use Rattle.sap_tree.specs.Spots.{enclosed}
-use Rattle.sap_tree.specs.Syntax as t
-use Rattle.sap_tree.specs.Whole.{is_number, is_expression, are_expressions, is_outermost}
-use Rattle.sap_tree.specs.Words.{is_name}
-use Rattle.sap_text.specs.declared.place.Place.{Place}
+use Rattle.sap_tree.specs.Prelude.{tokens, part_tokens, brackets, part_brackets, parentheses, opened, precedence, unary_precedence, slice_precedence, primary_precedence, precedence_of, enclosed, is_number, is_expression, are_expressions, is_outermost, is_name}
 use Rattle.sap_tree.specs.declared.place.Spot.{Spot}
 use Rattle.sap_tree.specs.declared.syntax.BinaryOperator.{BinaryOperator}
 use Rattle.sap_tree.specs.declared.syntax.UnaryOperator.{UnaryOperator}
 use Rattle.sap_tree.specs.declared.version.Version.{Version}
+use Rattle.sap_tree.specs.Syntax as t
+use Rattle.sap_text.specs.declared.place.Place.{Place}
 
 -- the parentheses of an operand
 

@@ -1,9 +1,6 @@
 -- The front of a list of tokens.
-use Rattle.std.proofs.Common.{◌≡◌, ◌<◌, ◌≤◌, ◌+◌, ℕ, List, [], ◌∷◌, length, drop, get_or, ap, refl, sym, Some, ◌≢◌, ◌∙◌, arith, drop-cons}
-use Rattle.std.proofs.lemmas.Grind.{common_steps}
-use Rattle.std.proofs.lemmas.List.{drop-drop}
-use Rattle.std.proofs.Common.{None}
-use Rattle.sap_lemmas.proofs.Numbers.{one_more}
+use Rattle.sap_lemmas.proofs.Common.{◌≡◌, ◌<◌, ◌≤◌, ◌+◌, ℕ, List, [], ◌∷◌, length, drop, get_or, ap, refl, sym, Some, ◌≢◌, ◌∙◌, arith, common_steps, drop-drop, None, one_more}
+use Rattle.std.proofs.Common.{drop-cons}
 use Rattle.sap_parse.specs.Reading.{Passes, ahead, ahead_of, front_name, front_number, front_sized, name_in, number_in, second, sized_in}
 use Rattle.sap_parse.specs.Stages.{Stage, front_place}
 use Rattle.sap_parse.specs.declared.cursor.Ahead.{Ahead}

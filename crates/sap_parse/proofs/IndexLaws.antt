@@ -1,6 +1,5 @@
 -- What stands behind a name and a bracket: a slice, or an index.
-use Rattle.std.proofs.Common.{◌≡◌, ◌≢◌, ℕ, List, [], ◌∷◌, ◌++◌, Result, Ok, Err, refl, sym, ap, ◌∙◌}
-use Rattle.std.proofs.lemmas.List.{append-nil}
+use Rattle.sap_lemmas.proofs.Common.{◌≡◌, ◌≢◌, ℕ, List, [], ◌∷◌, ◌++◌, Result, Ok, Err, refl, sym, ap, ◌∙◌, append-nil}
 use Rattle.sap_parse.specs.Limits.{Counts}
 use Rattle.sap_parse.specs.Reading.{Enter, Outcome, ahead, ahead_of, read_by, second, steps_by, table}
 use Rattle.sap_parse.specs.Stages.{Stage}

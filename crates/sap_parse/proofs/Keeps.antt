@@ -1,6 +1,5 @@
 -- A token that a symbol takes, with what is then to come, stands for that symbol.
-use Rattle.std.proofs.Common.{◌≡◌, ◌≤◌, ◌+◌, ◌-◌, ℕ, zero, suc, List, [], ◌∷◌, ◌++◌, Option, Some, None, Bool, true, false, cond, refl, sym, ap, subst, ◌∙◌, arith, eqb}
-use Rattle.std.proofs.lemmas.Bool.{eqb-true}
+use Rattle.sap_lemmas.proofs.Common.{◌≡◌, ◌≤◌, ◌+◌, ◌-◌, ℕ, zero, suc, List, [], ◌∷◌, ◌++◌, Option, Some, None, Bool, true, false, cond, refl, sym, ap, subst, ◌∙◌, arith, eqb, eqb-true}
 use Rattle.sap_parse.specs.Grammar as g
 use Rattle.sap_parse.specs.Grammar.{sign_of, unary_sign_of}
 use Rattle.sap_parse.specs.Limits.{Counts, tally, breach}
@@ -17,14 +16,13 @@ use Rattle.sap_lex.specs.declared.token.Sign.TheVariants as j
 use Rattle.sap_lex.specs.declared.token.Sign.{Sign as SignOf}
 use Rattle.sap_lex.specs.declared.token.Token.{Token}
 use Rattle.sap_tree.specs.declared.word.Word.TheVariants as w
+use Rattle.sap_tree.specs.Prelude.{precedence, unary_precedence, first_of}
 use Rattle.sap_tree.specs.declared.word.Word.{Word as WordOf}
-use Rattle.sap_tree.specs.Precedence.{precedence, unary_precedence}
-use Rattle.sap_tree.specs.Spots.{first_of}
+use Rattle.sap_tree.specs.declared.syntax.BinaryOperator.{BinaryOperator}
+use Rattle.sap_tree.specs.declared.syntax.UnaryOperator.{UnaryOperator}
 use Rattle.sap_tree.specs.Syntax as t
 use Rattle.sap_tree.specs.declared.syntax.BinaryOperator.TheVariants as b
-use Rattle.sap_tree.specs.declared.syntax.BinaryOperator.{BinaryOperator}
 use Rattle.sap_tree.specs.declared.syntax.UnaryOperator.TheVariants as u
-use Rattle.sap_tree.specs.declared.syntax.UnaryOperator.{UnaryOperator}
 use Rattle.sap_parse.proofs.ExprLaws.{unary_full}
 use Rattle.sap_parse.proofs.Laws.{sign_full}
 use Rattle.sap_parse.proofs.Single.{sign_back, sign_by}

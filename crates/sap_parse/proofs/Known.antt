@@ -1,6 +1,5 @@
 -- What the walk reads where the first token is known, or where it is known that a symbol is read.
-use Rattle.std.proofs.Common.{◌≡◌, ◌≢◌, ℕ, List, [], ◌∷◌, ◌++◌, Option, Some, None, Ok, Err, true, false, refl, sym, ap, subst, ◌∙◌}
-use Rattle.sap_lemmas.proofs.Numbers.{test_of_same}
+use Rattle.sap_lemmas.proofs.Common.{◌≡◌, ◌≢◌, ℕ, List, [], ◌∷◌, ◌++◌, Option, Some, None, Ok, Err, true, false, refl, sym, ap, subst, ◌∙◌, test_of_same}
 use Rattle.sap_parse.specs.Limits.{tally, breach}
 use Rattle.sap_parse.specs.Reading.{Outcome, leniently, read_by, steps_by, table}
 use Rattle.sap_parse.specs.Stages.{Stage, IsToken}
@@ -13,9 +12,9 @@ use Rattle.sap_lex.specs.declared.token.Sign.{Sign as SignOf}
 use Rattle.sap_lex.specs.declared.token.Token.{Token}
 use Rattle.sap_tree.specs.declared.word.Word.{Word as WordOf}
 use Rattle.sap_walk.specs.Limits.{passed}
-use Rattle.sap_walk.specs.Rows.{push, optional, ◌or◌, firsts}
+use Rattle.sap_walk.specs.Rows.{◌or◌, firsts}
 use Rattle.sap_walk.specs.Walk.{begins, empty_here, cannot_stand, at_token, ◌>>=◌, steps}
-use Rattle.sap_walk.proofs.Rows.{all_empty, becomes, end_as, push_first, read_as}
+use Rattle.sap_walk.proofs.Rows.{all_empty, becomes, end_as, read_as}
 use Rattle.sap_walk.proofs.Walking.{bind_bind, bind_same, read_empty, read_skip, read_stop, read_end, read_take}
 
 -- the kind of the first token that is left
@@ -152,16 +151,3 @@ takes x p q e full h = by_left p.left refl where
   by_left : (left : List Token) → p.left ≡ left → Taken x p
   by_left [] none = absurd (ok_not (R x p) h (ap (λ l. R x (record { past = p.past; left = l })) none ∙ read_end (table leniently) x p.past e))
   by_left (t ∷ ts) some = by_next t ts some (next x t.kind) refl
-
--- so a repetition, an option or a choice whose first symbol it is goes on with it
-pub goes_with : (x f : Symbol) (σ : List Symbol) (p q : Stage) → may_be_empty f ≡ false → ((i : Kind) → next f i ≢ empty_here) → R f p ≡ Ok q
-    → ((i : Kind) (role : Role) (ρ : List Symbol) → next f i ≡ begins role ρ → next x i ≡ push (next f i) σ) → R x p ≡ Rs (f ∷ σ) p
-goes_with x f σ p q e full h row =
-    let t = takes f p q e full h in
-    at_kind x (f ∷ σ) t.kind p t.here (row t.kind t.role t.behind t.row ∙ push_first (next f t.kind) σ (firsts (λ y. next y t.kind) σ) (full t.kind))
-
-pub optional_taken : (n : Row) {role : Role} {ρ : List Symbol} (σ : List Symbol) → n ≡ begins role ρ → optional (push n σ) ≡ push n σ
-optional_taken n σ e = ap (λ m. optional (push m σ)) e ∙ ap (λ m. push m σ) (sym e)
-
-pub or_taken : (n m : Row) {role : Role} {ρ : List Symbol} (σ : List Symbol) → n ≡ begins role ρ → (push n σ) or m ≡ push n σ
-or_taken n m σ e = ap (λ x. (push x σ) or m) e ∙ ap (λ x. push x σ) (sym e)

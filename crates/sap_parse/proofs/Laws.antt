@@ -1,6 +1,5 @@
 -- What each symbol of the table reads, by the symbols of its production. `enter` may be any way to go past a token.
-use Rattle.std.proofs.Common.{◌≡◌, ◌≢◌, List, [], ◌∷◌, ◌++◌, Result, Ok, Err, Bool, true, false, refl, sym, ap, ◌∙◌}
-use Rattle.std.specs.Prelude.{◌==◌}
+use Rattle.sap_lemmas.proofs.Common.{◌≡◌, ◌≢◌, List, [], ◌∷◌, ◌++◌, Result, Ok, Err, Bool, true, false, refl, sym, ap, ◌∙◌, ◌==◌}
 use Rattle.sap_parse.specs.Limits.{Counts}
 use Rattle.sap_parse.specs.Reading.{Enter, ahead, ahead_of, read_by, steps_by, table}
 use Rattle.sap_parse.specs.Stages.{Stage}

@@ -1,6 +1,5 @@
 -- Trees of expressions, from the equations that the reader's functions have.
-use Rattle.std.proofs.Common.{◌≡◌, ◌+◌, ℕ, List, [], ◌∷◌, ◌++◌, Result, Ok, Err, refl, sym, ap, subst, ◌∙◌}
-use Rattle.std.specs.Prelude.{IfOk}
+use Rattle.sap_lemmas.proofs.Common.{◌≡◌, ◌+◌, ℕ, List, [], ◌∷◌, ◌++◌, Result, Ok, Err, refl, sym, ap, subst, ◌∙◌, IfOk}
 use Rattle.sap_parse.specs.Grammar as g
 use Rattle.sap_parse.specs.Joining.{Indexes, Slices, indexes, join, slices}
 use Rattle.sap_parse.specs.Rows.{Between, LastNumber, Range, between, last_number, range}
@@ -8,15 +7,13 @@ use Rattle.sap_parse.specs.Stages.{Stage, IsName, IsNumber, IsSign, IsSized, IsW
 use Rattle.sap_parse.specs.declared.role.Role.TheVariants as r
 use Rattle.sap_lex.specs.declared.token.Sign.TheVariants as s
 use Rattle.sap_tree.specs.declared.word.Word.TheVariants as w
-use Rattle.sap_tree.specs.Precedence.{precedence}
-use Rattle.sap_tree.specs.Spots.{enclosed, first_of, spot_of}
-use Rattle.sap_tree.specs.Syntax as t
-use Rattle.sap_text.specs.declared.place.Place.{Place}
+use Rattle.sap_tree.specs.Prelude.{precedence, enclosed, first_of, spot_of, expression_of, expressions_of}
 use Rattle.sap_tree.specs.declared.place.Spot.{Spot}
 use Rattle.sap_tree.specs.declared.syntax.BinaryOperator.{BinaryOperator}
 use Rattle.sap_tree.specs.declared.syntax.Expr.{Expr}
 use Rattle.sap_tree.specs.declared.syntax.UnaryOperator.{UnaryOperator}
-use Rattle.sap_tree.specs.Trees.{expression_of, expressions_of}
+use Rattle.sap_tree.specs.Syntax as t
+use Rattle.sap_text.specs.declared.place.Place.{Place}
 use Rattle.sap_parse.specs.declared.cursor.Fault.{Fault}
 
 abbrev pub both : Place → Spot

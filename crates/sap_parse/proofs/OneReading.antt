@@ -16,8 +16,7 @@ use Rattle.sap_lex.specs.declared.fault.ReadFault.TheVariants as f
 use Rattle.sap_lex.specs.declared.fault.ReadFault.{ReadFault}
 use Rattle.sap_lex.specs.declared.limit.Limit.{Limit}
 use Rattle.sap_lex.specs.declared.token.Token.{Token}
-use Rattle.sap_tree.specs.Syntax.{DesignTree}
-use Rattle.sap_tree.specs.Whole.{is_whole}
+use Rattle.sap_tree.specs.Prelude.{DesignTree, is_whole}
 use Rattle.sap_text.specs.declared.place.Place.{Place}
 use Rattle.sap_parse.proofs.CompleteDesign.{design_reads}
 use Rattle.sap_parse.proofs.FitsDesign.{design_is_whole}

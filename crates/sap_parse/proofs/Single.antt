@@ -1,7 +1,5 @@
 -- What the walk does with a symbol that is a single token.
-use Rattle.std.proofs.Common.{◌≡◌, ◌≢◌, ℕ, List, [], ◌∷◌, Option, Some, None, Result, Ok, Err, Bool, true, false, refl, sym, ap, ◌∙◌, arith}
-use Rattle.std.proofs.lemmas.Bool.Decides.{nat_tests}
-use Rattle.std.specs.Prelude.{◌==◌, if◌then◌else◌, IfErr, IfOk}
+use Rattle.sap_lemmas.proofs.Common.{◌≡◌, ◌≢◌, ℕ, List, [], ◌∷◌, Option, Some, None, Result, Ok, Err, Bool, true, false, refl, sym, ap, ◌∙◌, arith, nat_tests, ◌==◌, if◌then◌else◌, IfErr, IfOk}
 use Rattle.sap_parse.specs.Limits.{breach, tally}
 use Rattle.sap_parse.specs.Reading.{Breaks, Goes, IsBroken, Passes, ahead, ahead_of, front_name, front_number, front_sized, name_in, number_in, read_by, reads, sized_in, strictly, table}
 use Rattle.sap_parse.specs.Stages.{Stage, IsToken}

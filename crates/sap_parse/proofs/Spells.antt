@@ -7,13 +7,13 @@ use Rattle.sap_parse.specs.Table.{Symbol, grammar, tails, tightest}
 use Rattle.sap_parse.specs.declared.role.Role.TheVariants as r
 use Rattle.sap_lex.specs.declared.token.Sign.TheVariants as j
 use Rattle.sap_tree.specs.Precedence.{unary_precedence}
-use Rattle.sap_tree.specs.Syntax as t
 use Rattle.sap_tree.specs.declared.syntax.Decl.{Decl}
 use Rattle.sap_tree.specs.declared.syntax.Kind.{Kind as KindTree}
 use Rattle.sap_tree.specs.declared.syntax.Numeral.{Numeral}
 use Rattle.sap_tree.specs.declared.syntax.Under.{Under}
-use Rattle.sap_tree.specs.declared.version.Version.TheVariants as v
 use Rattle.sap_tree.specs.declared.version.Version.{Version}
+use Rattle.sap_tree.specs.Syntax as t
+use Rattle.sap_tree.specs.declared.version.Version.TheVariants as v
 use Rattle.sap_walk.specs.Limits.{lenient}
 use Rattle.sap_walk.specs.Walk.{Table}
 use Rattle.sap_walk.proofs.Spelling.{Langs as LangsOf, split}

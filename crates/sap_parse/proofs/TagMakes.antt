@@ -10,8 +10,8 @@ use Rattle.sap_tree.specs.declared.word.Word.TheVariants as w
 use Rattle.sap_tree.specs.Syntax as t
 use Rattle.sap_tree.specs.Trees.{tag_of, tags_of}
 use Rattle.sap_tree.specs.declared.name.Mention.{Mention}
-use Rattle.sap_text.specs.declared.place.Place.{Place}
 use Rattle.sap_tree.specs.declared.syntax.TagExpr.{TagExpr}
+use Rattle.sap_text.specs.declared.place.Place.{Place}
 
 pub level_tree : {p q : Stage} {n : Mention} {x : t.TagExpression} → IsName p r.Inner n.name q → n ≡ mention p n.name → x ≡ t.level_of n → g.Texpr p x q
 level_tree {p = p} {q = q} a at made = subst (λ x. g.Texpr p x q) (sym (made ∙ ap (λ n. t.level_of n) at)) (g.level a)

@@ -16,15 +16,14 @@ use Rattle.sap_lex.specs.declared.token.Kind.{Kind}
 use Rattle.sap_lex.specs.declared.token.Sign.TheVariants as j
 use Rattle.sap_lex.specs.declared.token.Sign.{Sign as SignOf}
 use Rattle.sap_lex.specs.declared.token.Token.{Token}
-use Rattle.sap_tree.specs.Precedence.{precedence, unary_precedence}
-use Rattle.sap_tree.specs.Spots.{first_of, enclosed}
+use Rattle.sap_tree.specs.Prelude.{precedence, unary_precedence, first_of, enclosed}
+use Rattle.sap_tree.specs.declared.place.Spot.{Spot}
+use Rattle.sap_tree.specs.declared.syntax.BinaryOperator.{BinaryOperator}
+use Rattle.sap_tree.specs.declared.syntax.UnaryOperator.{UnaryOperator}
 use Rattle.sap_tree.specs.Syntax as t
 use Rattle.sap_text.specs.declared.place.Place.{Place}
-use Rattle.sap_tree.specs.declared.place.Spot.{Spot}
 use Rattle.sap_tree.specs.declared.syntax.BinaryOperator.TheVariants as b
-use Rattle.sap_tree.specs.declared.syntax.BinaryOperator.{BinaryOperator}
 use Rattle.sap_tree.specs.declared.syntax.UnaryOperator.TheVariants as u
-use Rattle.sap_tree.specs.declared.syntax.UnaryOperator.{UnaryOperator}
 use Rattle.sap_parse.proofs.Complete.{ends, ends_expr, expr_bin_ends, no_bracket, no_colon, no_question, bounds_first, bounds_read, bin_reads, expr_reads, others_end, parts_end, parts_read}
 use Rattle.sap_parse.proofs.Known.{R, first_is, first_kind}
 use Rattle.sap_walk.specs.Limits.{Past, passed}
@@ -33,10 +32,6 @@ pub same_rest : (x : Symbol) {p p' q q' : Stage} → p ≡ p' → R x p ≡ Ok q
 same_rest x {p} e a b = ok_one (R x p) a (ap (λ z. R x z) e ∙ b)
 
 -- one token stands at one stage
-
-tail_of : List Token → List Token
-tail_of [] = []
-tail_of (t ∷ ts) = ts
 
 heads : {x y : Token} {xs ys : List Token} → x ∷ xs ≡ y ∷ ys → x ≡ y
 heads e = cc

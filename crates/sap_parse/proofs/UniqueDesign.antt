@@ -10,14 +10,14 @@ use Rattle.sap_lex.specs.declared.token.Sign.TheVariants as j
 use Rattle.sap_tree.specs.declared.word.Word.TheVariants as w
 use Rattle.sap_tree.specs.Syntax as t
 use Rattle.sap_tree.specs.declared.name.Mention.{Mention}
-use Rattle.sap_text.specs.declared.place.Place.{Place}
-use Rattle.sap_tree.specs.declared.syntax.Decl.TheVariants as d
 use Rattle.sap_tree.specs.declared.syntax.Decl.{Decl}
-use Rattle.sap_tree.specs.declared.syntax.Kind.TheVariants as kd
 use Rattle.sap_tree.specs.declared.syntax.Kind.{Kind as KindTree}
 use Rattle.sap_tree.specs.declared.syntax.Numeral.{Numeral}
 use Rattle.sap_tree.specs.declared.syntax.Under.{Under}
 use Rattle.sap_tree.specs.declared.version.Version.{Version}
+use Rattle.sap_text.specs.declared.place.Place.{Place}
+use Rattle.sap_tree.specs.declared.syntax.Decl.TheVariants as d
+use Rattle.sap_tree.specs.declared.syntax.Kind.TheVariants as kd
 use Rattle.sap_parse.proofs.Complete.{ends_expr, expr_reads}
 use Rattle.sap_parse.proofs.CompleteDesign.{arm_reads, block_reads, cmd_reads, constant_reads, constants_read, declarations_not_sapper, header_reads, cmds_not_else, cmds_read, declaration_reads, declarations_read, ends_cmds, initial_not_under, kind_reads, simple_reads, state_first, state_reads, states_end_cmds, texpr_reads}
 use Rattle.sap_parse.proofs.Known.{first_is, first_kind, kind_in}

@@ -1,6 +1,5 @@
 -- Each symbol can be spelled, and tokens that the walk takes go on as the grammar has it.
-use Rattle.std.proofs.Common.{◌≡◌, ◌+◌, ◌-◌, ℕ, zero, suc, List, [], ◌∷◌, ◌++◌, Option, Result, Ok, true, refl, sym, ap, subst, append_assoc}
-use Rattle.sap_lemmas.proofs.Numbers.{test_of_same}
+use Rattle.sap_lemmas.proofs.Common.{◌≡◌, ◌+◌, ◌-◌, ℕ, zero, suc, List, [], ◌∷◌, ◌++◌, Option, Result, Ok, true, refl, sym, ap, subst, append_assoc, test_of_same}
 use Rattle.sap_parse.specs.Fault.{SpellsSome}
 use Rattle.sap_parse.specs.Limits.{Counts, tally, breach}
 use Rattle.sap_parse.specs.Reading.{leniently}
@@ -16,8 +15,8 @@ use Rattle.sap_lex.specs.declared.token.Sign.TheVariants as j
 use Rattle.sap_lex.specs.declared.token.Sign.{Sign as SignOf}
 use Rattle.sap_lex.specs.declared.token.Token.{Token}
 use Rattle.sap_tree.specs.declared.word.Word.TheVariants as w
-use Rattle.sap_tree.specs.declared.word.Word.{Word as WordOf}
 use Rattle.sap_tree.specs.Precedence.{unary_precedence}
+use Rattle.sap_tree.specs.declared.word.Word.{Word as WordOf}
 use Rattle.sap_parse.proofs.ExprLaws.{unary_full}
 use Rattle.sap_parse.proofs.KeepsDesign.{keeps}
 use Rattle.sap_parse.proofs.Laws.{IsFull, name_full, number_full, or_full, push_full, sign_full, word_full}
@@ -161,9 +160,6 @@ skip_empty s.design i e =
     absurd (then_full (s.header_next i) _ _ (design_full (push (s.declaration_next i) (s.declarations ∷ [])) (s.state_next 1 i) _ _ _ (after_word_full (r.State 1) w.State _ i)) e)
 
 -- the shortest way to spell a symbol
-
-Kept : Type 0
-Kept = Past Counts Limit
 
 record Least (x : Symbol) (past : Past Counts Limit) : Type 0 where
   tokens : List Token

@@ -1,3 +1,4 @@
 pub mod Hangs
 pub mod Views
 pub mod Design
+pub mod Prelude

@@ -1,13 +1,7 @@
 -- The lines of levels, from a place on.
-use Rattle.std.proofs.Common.{◌≡◌, ℕ, suc, ◌+◌, ◌<◌, ◌≤◌, List, [], ◌++◌, length, drop, ap, ◌∙◌, arith}
-use Rattle.std.proofs.Math.Seq.{drop-cons}
-use Rattle.std.proofs.lemmas.Bool.Decides.{nat_tests}
-use Rattle.std.specs.Prelude.{nat_lt, if◌then◌else◌}
-use Rattle.sap_lemmas.proofs.Lists.{after_part, drop_past}
+use Rattle.sap_lemmas.proofs.Common.{◌≡◌, ℕ, suc, ◌+◌, ◌<◌, ◌≤◌, List, [], ◌++◌, length, drop, ap, ◌∙◌, arith, drop-cons, nat_tests, nat_lt, if◌then◌else◌, after_part, drop_past}
 use Rattle.sap_lattice.proofs.LevelsLemmas.{level_in_same}
-use Rattle.sap_lattice.specs.Closure.{name_at}
-use Rattle.sap_lattice.specs.Codes.{code_of}
-use Rattle.sap_lattice.specs.Levels.{Levels, order_of}
+use Rattle.sap_lattice.specs.Prelude.{name_at, code_of, Levels, order_of}
 use Rattle.sap_report.specs.Report.{level_line, level_lines}
 use Rattle.sap_report.proofs.Lists.{at_end}
 

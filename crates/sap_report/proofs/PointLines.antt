@@ -1,12 +1,8 @@
 -- The lines of points and the names in them, from a place on.
-use Rattle.std.proofs.Common.{◌≡◌, ℕ, ◌+◌, ◌-◌, ◌<◌, ◌≤◌, List, [], ◌∷◌, ◌++◌, ◌&&◌, ◌==◌, length, drop, refl, sym, ap, ◌∙◌, arith, append_assoc, Bool, true, false, not}
-use Rattle.std.specs.Prelude.{Option, Some, slice_get, unwrap_or, option_map, codes, if◌then◌else◌}
-use Rattle.sap_lemmas.proofs.Lists.{after_part, drop_past}
-use Rattle.std.proofs.lemmas.Bool.Decides.{nat_tests}
-use Rattle.std.proofs.lemmas.List.{append-nil}
+use Rattle.sap_lemmas.proofs.Common.{◌≡◌, ℕ, ◌+◌, ◌-◌, ◌<◌, ◌≤◌, List, [], ◌∷◌, ◌++◌, ◌&&◌, ◌==◌, length, drop, refl, sym, ap, ◌∙◌, arith, append_assoc, Bool, true, false, not, Option, Some, slice_get, unwrap_or, option_map, codes, if◌then◌else◌, after_part, drop_past, nat_tests, append-nil}
 use Rattle.sap_tree.specs.Syntax.{DesignTree}
-use Rattle.sap_names.specs.declared.entity.Entity.{Entity}
 use Rattle.sap_names.specs.Entities.{entities_of}
+use Rattle.sap_names.specs.declared.entity.Entity.{Entity}
 use Rattle.sap_check.specs.declared.point.Point.{Point}
 use Rattle.sap_check.specs.SiteTexts.{entity_name}
 use Rattle.sap_hang.specs.Hang.{IsHangTable, Table, hangs, says}

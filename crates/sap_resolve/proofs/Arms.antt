@@ -1,6 +1,5 @@
 -- The arms, their sites and their points of lists in code, from a place on.
-use Rattle.std.proofs.Common.{◌≡◌, ℕ, ◌+◌, ◌<◌, ◌≤◌, List, [], ◌∷◌, ◌++◌, append_assoc, append-nil, length, get_or, drop, refl, sym, ap, ◌∙◌, arith, length-append}
-use Rattle.sap_lemmas.proofs.Lists.{drop_past}
+use Rattle.sap_lemmas.proofs.Common.{◌≡◌, ℕ, ◌+◌, ◌<◌, ◌≤◌, List, [], ◌∷◌, ◌++◌, append_assoc, append-nil, length, get_or, drop, refl, sym, ap, ◌∙◌, arith, length-append, drop_past}
 use Rattle.sap_tree.specs.declared.syntax.Arm.{Arm as ArmTree}
 use Rattle.sap_tree.specs.declared.syntax.Block.{Block}
 use Rattle.sap_tree.specs.declared.syntax.Cmd.{Cmd}

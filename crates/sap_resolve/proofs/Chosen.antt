@@ -1,13 +1,7 @@
 -- The numbers below n that pass a test, in rising order.
-use Rattle.std.proofs.Common.{◌≡◌, ℕ, zero, suc, ◌+◌, ◌<◌, List, [], ◌∷◌, ◌++◌, Bool, true, false, ◌&&◌, ◌||◌, refl, sym, ap, ap₂, ◌∙◌, arith, add-one, if◌then◌else◌, inl, inr, length}
+use Rattle.sap_lemmas.proofs.Common.{◌≡◌, ℕ, zero, suc, ◌+◌, ◌<◌, List, [], ◌∷◌, ◌++◌, Bool, true, false, ◌&&◌, ◌||◌, refl, sym, ap, ap₂, ◌∙◌, arith, add-one, if◌then◌else◌, inl, inr, length, nat_tests, cases_Bool, and_from, common_steps, IsTrue, nat_eq, nat_lt, or_assoc, or_false, or_true}
 use Rattle.sap_resolved.specs.Kept.Hangs.{row_of}
 use Rattle.sap_names.specs.declared.entity.Entity.{Entity}
-use Rattle.std.proofs.lemmas.Bool.Decides.{nat_tests}
-use Rattle.std.proofs.lemmas.Bool.{cases_Bool, and_from}
-use Rattle.std.proofs.lemmas.Grind.{common_steps}
-use Rattle.std.specs.Bool.{IsTrue}
-use Rattle.std.specs.Prelude.{nat_eq, nat_lt}
-use Rattle.sap_lemmas.proofs.Bools.{or_assoc, or_false, or_true}
 use Rattle.sap_resolved.proofs.FillLemmas.{table_front}
 use Rattle.sap_resolved.specs.Fill.{table}
 use Rattle.sap_program.specs.Hangs.{rises_from, rises, hangs, flags}

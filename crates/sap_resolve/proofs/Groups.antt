@@ -1,17 +1,14 @@
 -- The states and the sites of groups in code, from a place on.
-use Rattle.std.proofs.Common.{◌≡◌, ℕ, ◌+◌, ◌<◌, ◌≤◌, List, [], ◌∷◌, ◌++◌, length, get_or, drop, refl, sym, ap, ap₂, ◌∙◌, arith, length-append}
-use Rattle.sap_lemmas.proofs.Lists.{drop_past}
+use Rattle.sap_lemmas.proofs.Common.{◌≡◌, ℕ, ◌+◌, ◌<◌, ◌≤◌, List, [], ◌∷◌, ◌++◌, length, get_or, drop, refl, sym, ap, ap₂, ◌∙◌, arith, length-append, drop_past}
+use Rattle.sap_tree.specs.Prelude.{tree_of, StateTree, states_of}
 use Rattle.sap_tree.specs.declared.syntax.Cmd.{Cmd}
 use Rattle.sap_tree.specs.declared.syntax.Decl.{Decl}
 use Rattle.sap_tree.specs.declared.syntax.State.{State, out-State}
-use Rattle.sap_tree.specs.Parts.{tree_of}
 use Rattle.sap_tree.specs.declared.version.Version.{Version}
 use Rattle.sap_names.specs.Entities.{entities_of}
-use Rattle.sap_tree.specs.Syntax.{StateTree}
-use Rattle.sap_tree.specs.Trees as trees
-use Rattle.sap_tree.specs.Trees.{states_of}
-use Rattle.sap_tree.proofs.Views.{state_of-out}
 use Rattle.sap_names.specs.declared.entity.Entity.{Entity}
+use Rattle.sap_tree.specs.Trees as trees
+use Rattle.sap_tree.proofs.Views.{state_of-out}
 use Rattle.sap_lattice.specs.Levels.{Levels}
 use Rattle.sap_meaning.specs.Program.{no_node, and_node, state_node, Group}
 use Rattle.sap_meaning.specs.Program as program

@@ -1,13 +1,12 @@
 -- The parts of commands and of states weigh less than these.
 use Rattle.std.proofs.Common.{◌≡◌, ℕ, ◌+◌, ◌<◌, List, length, get_or, Option, Some, ap, arith}
 use Rattle.sap_text.specs.declared.place.Place.{Place}
+use Rattle.sap_tree.specs.Prelude.{last_arm, command_of, commands_of, block_of, arms_of, else_of, state_of, states_of}
 use Rattle.sap_tree.specs.declared.syntax.Arm.{Arm}
 use Rattle.sap_tree.specs.declared.syntax.Block.{Block}
 use Rattle.sap_tree.specs.declared.syntax.Cmd.{Cmd}
 use Rattle.sap_tree.specs.declared.syntax.State.{State, out-State}
 use Rattle.sap_tree.specs.Syntax as tree
-use Rattle.sap_tree.specs.Syntax.{last_arm}
-use Rattle.sap_tree.specs.Trees.{command_of, commands_of, block_of, arms_of, else_of, state_of, states_of}
 use Rattle.sap_tree.proofs.Views.{state_of-out}
 use Rattle.sap_tree.proofs.Weights.{command_weight, commands_weight, arm_list_weight, else_weight, state_weight, states_weight, commands_weight-in, arms_weight-of, arms_weight-in, states_weight-in}
 

@@ -1,17 +1,11 @@
 -- How many sites, points and entities a design has.
-use Rattle.std.proofs.Common.{◌≡◌, ℕ, ◌+◌, ◌*◌, ◌^◌, ◌<◌, ◌≤◌, List, [], ◌∷◌, Bool, ◌&&◌, length, arith, ap, refl}
-use Rattle.std.proofs.lemmas.Grind.{common_steps}
-use Rattle.std.specs.Bool.{IsTrue}
-use Rattle.std.specs.List.{count_by}
-use Rattle.std.specs.Prelude.{nat_le}
+use Rattle.sap_lemmas.proofs.Common.{◌≡◌, ℕ, ◌+◌, ◌*◌, ◌^◌, ◌<◌, ◌≤◌, List, [], ◌∷◌, Bool, ◌&&◌, length, arith, ap, refl, common_steps, IsTrue, count_by, nat_le}
 use Rattle.sap_tree.proofs.DeclLemmas.{count_more}
+use Rattle.sap_tree.specs.Prelude.{SimpleCommand, assign, write, set_tag, set_cell_tag, go_to, fall_to_child, Command, lone, try, if_else, try_then, case_of, Arms, last_arm, and_arm, CommandBlock, command_block, ElseBlock, no_else, with_else, CommandList, no_command, and_command, StateTree, state_node, StateList, no_state, and_state, DesignTree, command_count, block_count, arms_count, else_count, list_count, state_commands, states_commands, state_count, states_count, states_depth, is_whole, is_tree, is_input, is_register, is_memory, tree_of}
 use Rattle.sap_tree.specs.declared.syntax.Decl.{Decl}
-use Rattle.sap_tree.specs.declared.syntax.Decl.TheVariants as d
-use Rattle.sap_tree.specs.Syntax.{SimpleCommand, assign, write, set_tag, set_cell_tag, go_to, fall_to_child, Command, lone, try, if_else, try_then, case_of, Arms, last_arm, and_arm, CommandBlock, command_block, ElseBlock, no_else, with_else, CommandList, no_command, and_command, StateTree, state_node, StateList, no_state, and_state, DesignTree}
-use Rattle.sap_tree.specs.Whole.{command_count, block_count, arms_count, else_count, list_count, state_commands, states_commands, state_count, states_count, states_depth, is_whole, is_tree, is_input, is_register, is_memory}
 use Rattle.sap_tree.specs.declared.syntax.State.{State}
-use Rattle.sap_tree.specs.Parts.{tree_of}
 use Rattle.sap_tree.specs.declared.version.Version.{Version}
+use Rattle.sap_tree.specs.declared.syntax.Decl.TheVariants as d
 use Rattle.sap_lattice.specs.Levels.{Levels}
 use Rattle.sap_names.specs.declared.entity.Entity.{Entity}
 use Rattle.sap_shape.proofs.SiteCounts.{states_few}

@@ -1,19 +1,14 @@
 -- A program whose rows stand at its points is the filled one.
-use Rattle.std.proofs.Common.{◌≡◌, ℕ, zero, suc, ◌+◌, List, [], ◌∷◌, ◌++◌, Bool, Option, Some, length, map, refl, sym, ap, ap₂, subst, ◌∙◌, arith, append_assoc}
-use Rattle.std.specs.Prelude.{slice_get}
-use Rattle.std.proofs.lemmas.List.{append-nil}
+use Rattle.sap_lemmas.proofs.Common.{◌≡◌, ℕ, zero, suc, ◌+◌, List, [], ◌∷◌, ◌++◌, Bool, Option, Some, length, map, refl, sym, ap, ap₂, subst, ◌∙◌, arith, append_assoc, slice_get, append-nil}
+use Rattle.sap_tree.specs.Prelude.{DesignTree, Point, points_of}
 use Rattle.sap_tree.specs.declared.syntax.Decl.{Decl}
-use Rattle.sap_tree.specs.Syntax.{DesignTree}
 use Rattle.sap_tree.specs.Touches as tree
 use Rattle.sap_lattice.specs.Levels.{Levels}
-use Rattle.sap_names.specs.declared.entity.Entity.{Entity}
 use Rattle.sap_names.specs.Entities.{entities_of}
+use Rattle.sap_names.specs.declared.entity.Entity.{Entity}
 use Rattle.sap_maps.specs.Term.{Term}
-use Rattle.sap_meaning.specs.Program.{World, Step, assign, write, retag, retag_cell, go_to, fall_to_child, Command, lone, try, if_else, try_then, case_of, Arms, last_arm, and_arm, Block, end_block, command_then, State, state_node, Group, no_node as NoState, and_node, root}
-use Rattle.sap_meaning.specs.Checks.{Home}
-use Rattle.sap_meaning.specs.Touches.{touches}
+use Rattle.sap_meaning.specs.Prelude.{World, Step, assign, write, retag, retag_cell, go_to, fall_to_child, Command, lone, try, if_else, try_then, case_of, Arms, last_arm, and_arm, Block, end_block, command_then, State, state_node, Group, no_node as NoState, and_node, root, Home, touches}
 use Rattle.sap_hang.specs.Hang.{Table, says, says_of_root, touches_entity, root_touches_entity, IsHangTable}
-use Rattle.sap_tree.specs.Points.{Point, points_of}
 use Rattle.sap_resolved.specs.Fill.{table, filled_step, filled, filled_arms, filled_block, filled_state, filled_group, program_of}
 use Rattle.sap_resolved.specs.Resolve.{states_of}
 use Rattle.sap_resolved.specs.Worlds.{world_of}

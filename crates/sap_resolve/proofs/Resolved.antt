@@ -1,12 +1,9 @@
 -- A program that is made of its parts.
-use Rattle.std.proofs.Common.{◌≡◌, ℕ, List, Bool, length, map, sym, ap, ap₂, ◌∙◌}
-use Rattle.sap_lemmas.proofs.Lists.{length_map}
-use Rattle.sap_tree.specs.Syntax.{DesignTree}
-use Rattle.sap_tree.specs.Touches.{root_touches}
-use Rattle.sap_lattice.specs.Levels.{Levels, order_of}
-use Rattle.sap_lattice.specs.Order.{Order}
-use Rattle.sap_names.specs.declared.entity.Entity.{Entity}
+use Rattle.sap_lemmas.proofs.Common.{◌≡◌, ℕ, List, Bool, length, map, sym, ap, ap₂, ◌∙◌, length_map}
+use Rattle.sap_tree.specs.Prelude.{DesignTree, root_touches}
+use Rattle.sap_lattice.specs.Prelude.{Levels, order_of, Order}
 use Rattle.sap_names.specs.Entities.{entities_of}
+use Rattle.sap_names.specs.declared.entity.Entity.{Entity}
 use Rattle.sap_meaning.specs.Program as program
 use Rattle.sap_hang.specs.Hang.{Table, IsHangTable}
 use Rattle.sap_resolved.specs.Fill.{program_of}
@@ -14,12 +11,10 @@ use Rattle.sap_resolved.specs.Resolve.{states_of}
 use Rattle.sap_shape.specs.Sites.{check_sites}
 use Rattle.sap_resolved.specs.Worlds.{world_of}
 use Rattle.sap_resolved.specs.Kept.Hangs.{group_rows, row_of, rows_of}
+use Rattle.sap_program.specs.Prelude.{IsProgramOf, flags, entity_of, group_of, count}
 use Rattle.sap_program.specs.declared.program.Program.{Program}
-use Rattle.sap_program.specs.Design.{IsProgramOf}
-use Rattle.sap_program.specs.Hangs.{flags}
 use Rattle.sap_resolve.specs.Lists.{names_of, own_names}
 use Rattle.sap_resolve.specs.Rows.{rows_in, root_row_in, group_with}
-use Rattle.sap_program.specs.Views.{entity_of, group_of, count}
 use Rattle.sap_resolve.proofs.Placed.{placed, root_placed}
 
 abbrev build : Order → List program.Entity → List ℕ → program.Group → List Bool → program.Program

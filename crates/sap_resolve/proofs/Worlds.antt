@@ -1,22 +1,18 @@
 -- The entities and the children of declarations and of states.
-use Rattle.std.proofs.Common.{◌≡◌, ℕ, ◌+◌, ◌<◌, ◌≤◌, List, [], ◌∷◌, ◌++◌, Bool, length, get_or, drop, map, refl, sym, ap, ap₂, ◌∙◌, arith, append_assoc}
-use Rattle.std.proofs.lemmas.List.{map-append, append-nil}
-use Rattle.sap_lemmas.proofs.Lists.{drop_past}
+use Rattle.sap_lemmas.proofs.Common.{◌≡◌, ℕ, ◌+◌, ◌<◌, ◌≤◌, List, [], ◌∷◌, ◌++◌, Bool, length, get_or, drop, map, refl, sym, ap, ap₂, ◌∙◌, arith, append_assoc, map-append, append-nil, drop_past}
+use Rattle.sap_tree.specs.Prelude.{tree_of, StateTree, states_of}
 use Rattle.sap_tree.specs.declared.syntax.Decl.{Decl}
 use Rattle.sap_tree.specs.declared.syntax.State.{State, out-State}
-use Rattle.sap_tree.specs.Parts.{tree_of}
 use Rattle.sap_tree.specs.declared.version.Version.{Version}
-use Rattle.sap_tree.specs.Syntax.{StateTree}
 use Rattle.sap_tree.specs.Trees as trees
-use Rattle.sap_tree.specs.Trees.{states_of}
 use Rattle.sap_tree.proofs.Views.{state_of-out}
 use Rattle.sap_lattice.specs.Levels.{Levels}
 use Rattle.sap_meaning.specs.Program as program
 use Rattle.sap_names.specs.Entities as names
 use Rattle.sap_resolved.specs.Worlds as worlds
+use Rattle.sap_program.specs.Views.{entity_of}
 use Rattle.sap_program.specs.declared.program.Entity.{Entity}
 use Rattle.sap_resolve.specs.Lists.{states_below, group_entities, group_names, group_children, names_of, own_names}
-use Rattle.sap_program.specs.Views.{entity_of}
 use Rattle.sap_resolve.proofs.Lists.{item_drop}
 
 -- one part, and those behind it

@@ -1,12 +1,8 @@
 -- On what stands in Fill: what several crates cite.
-use Rattle.std.proofs.Common.{Bool, List, [], ap, arith, false, get_or, inl, inr, length, length-append, nat_lt, refl, suc, sym, zero, ℕ, ◌++◌, ◌+◌, ◌<◌, ◌∙◌, ◌∷◌, ◌≡◌}
-use Rattle.std.proofs.lemmas.Bool.{cases_Bool, ltb-true}
-use Rattle.std.proofs.lemmas.List.{get_or-append-add}
+use Rattle.sap_lemmas.proofs.Common.{Bool, List, [], ap, arith, false, get_or, inl, inr, length, length-append, nat_lt, refl, suc, sym, zero, ℕ, ◌++◌, ◌+◌, ◌<◌, ◌∙◌, ◌∷◌, ◌≡◌, cases_Bool, ltb-true, get_or-append-add}
 use Rattle.sap_lemmas.proofs.Lists.{get_early}
 use Rattle.sap_maps.specs.Term.{Term}
-use Rattle.sap_meaning.specs.Program.{World, Step, Command, Block, State, state_node, Group, no_node, and_node}
-use Rattle.sap_meaning.specs.Checks.{Home}
-use Rattle.sap_meaning.specs.Walks.{EveryInBlock, Asks, EveryBody, EveryBodyIn, gathered, gathered_in_block, gathered_from, gathered_from_group}
+use Rattle.sap_meaning.specs.Prelude.{World, Step, Command, Block, State, state_node, Group, no_node, and_node, Home, EveryInBlock, Asks, EveryBody, EveryBodyIn, gathered, gathered_in_block, gathered_from, gathered_from_group}
 use Rattle.sap_meaning.proofs.WalksLemmas.{gathered_mapped, gathered_mapped_block, every_mapped_block, every_unmapped_block, asks_mapped, asks_unmapped}
 use Rattle.sap_resolved.specs.Fill.{table, filled_step, filled_hang, filled, filled_block, filled_state, filled_group}
 

@@ -1,19 +1,18 @@
 -- What a name stands for in the tree of a design, and what its number stands for in the world: the same entity.
-use Rattle.std.proofs.Common.{◌≡◌, ℕ, suc, ◌+◌, ◌<◌, List, [], ◌∷◌, ◌++◌, length, true, Option, Some, None, get_or, refl, sym, ap, subst, arith, inl, inr, bytes_eq, option_map}
-use Rattle.std.proofs.lemmas.Bool.{cases_Bool}
+use Rattle.sap_lemmas.proofs.Common.{◌≡◌, ℕ, suc, ◌+◌, ◌<◌, List, [], ◌∷◌, ◌++◌, length, true, Option, Some, None, get_or, refl, sym, ap, subst, arith, inl, inr, bytes_eq, option_map, cases_Bool}
+use Rattle.sap_tree.specs.Syntax.{StateTree, state_node, StateList, no_state, and_state, DesignTree}
 use Rattle.sap_tree.specs.declared.syntax.Kind.{Kind}
 use Rattle.sap_tree.specs.declared.syntax.Kind.TheVariants.{Dynamic, Enforced}
 use Rattle.sap_tree.specs.declared.syntax.Decl.{Decl}
 use Rattle.sap_tree.specs.declared.syntax.Decl.TheVariants as decl
-use Rattle.sap_tree.specs.Syntax.{StateTree, state_node, StateList, no_state, and_state, DesignTree}
 use Rattle.sap_lattice.specs.Levels.{Levels}
+use Rattle.sap_names.specs.Entities.{entities_of, find, number_of, what_is}
 use Rattle.sap_names.specs.declared.kind.Declared.{Declared}
 use Rattle.sap_names.specs.declared.kind.Declared.TheVariants.{Input, Register, Memory, State}
 use Rattle.sap_names.specs.Entities as tree
 use Rattle.sap_names.specs.declared.entity.Entity as declared_entity
-use Rattle.sap_names.specs.Entities.{entities_of, find, number_of, what_is}
 use Rattle.sap_meaning.specs.Program as program
-use Rattle.sap_meaning.specs.Program.{Entity, nothing, entity, root, width, is_dynamic, kind_is_state}
+use Rattle.sap_meaning.specs.Program.{Entity, nothing, entity, root, width, kind_is_state}
 use Rattle.sap_resolved.specs.Worlds as world
 use Rattle.sap_resolved.specs.Worlds.{world_of, all_declared}
 use Rattle.sap_resolved.specs.Terms.{known, entity_number}
@@ -135,10 +134,6 @@ entity_within ls d name e f =
     let l : root (world_of ls d) ≡ length (entities_of d) = entities_length ls d in
     let w : r.number < length (entities_of d) = r.within in
     omega arith
-
-pub entity_dynamic : (ls : Levels) (d : DesignTree) (name : List ℕ) (e : declared_entity.Entity) → find (entities_of d) name ≡ Some e
-    → is_dynamic (world_of ls d) (entity_number (entities_of d) name) ≡ e.dynamic
-entity_dynamic ls d name e f = (entity_matches ls d name e f).dynamic
 
 -- what is declared of a name, and its entity
 pub what_found : (o : Option declared_entity.Entity) (x : Declared) → option_map (λ (e : declared_entity.Entity). e.what) o ≡ Some x

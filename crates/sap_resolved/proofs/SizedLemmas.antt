@@ -6,8 +6,7 @@ use Rattle.sap_bits.specs.declared.Op1.TheVariants.{AllOnes, AnyOne, Neg, Not, O
 use Rattle.sap_bits.specs.declared.Op2.{Op2}
 use Rattle.sap_bits.specs.declared.Op2.TheVariants.{Add, And, Eq, Le, Lt, Mul, Ne, Or, Shl, Shr, Sub, Xor}
 use Rattle.sap_maps.specs.Term.{Term, cell, choose, constant, join, one, part, read, two}
-use Rattle.sap_meaning.specs.Expressions.{width_of}
-use Rattle.sap_meaning.specs.Program.{World}
+use Rattle.sap_meaning.specs.Prelude.{width_of, World}
 use Rattle.sap_resolved.specs.Sized.Ranges.{IsWidth, RangedTerm}
 
 pub part_width : (hi lo k : ℕ) → lo ≤ hi → hi < k → IsWidth k → IsWidth (hi + 1 - lo)

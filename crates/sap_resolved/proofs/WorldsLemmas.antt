@@ -1,8 +1,5 @@
 -- On what stands in Worlds: what several crates cite.
-use Rattle.std.proofs.Common.{List, [], ap, sym, subst, ◌∙◌, arith, length, refl, suc, ◌∷◌, ◌≡◌, ◌<◌, ℕ, Bool, true, false, not, Some, is_some, position, inl, inr, bytes_eq}
-use Rattle.std.specs.Prelude.{nat_lt, unwrap_or}
-use Rattle.std.specs.List.{position_or_len}
-use Rattle.std.proofs.lemmas.Bool.{cases_Bool, ltb-false, not-false}
+use Rattle.sap_lemmas.proofs.Common.{List, [], ap, sym, subst, ◌∙◌, arith, length, refl, suc, ◌∷◌, ◌≡◌, ◌<◌, ℕ, Bool, true, false, not, Some, is_some, position, inl, inr, bytes_eq, nat_lt, unwrap_or, position_or_len, cases_Bool, ltb-false, not-false}
 use Rattle.std.proofs.lemmas.Bool.Decides.{Decides-ltb}
 use Rattle.std.proofs.lemmas.List.Sums.{prefix_len-le-length}
 use Rattle.sap_lattice.specs.Levels.{Levels, level_named}

@@ -2,14 +2,12 @@
 use Rattle.std.proofs.Common.{◌≡◌, ℕ, ◌<◌, Bool, true, false, ◌&&◌, ◌||◌, List, [], ◌∷◌, refl, sym, ap, ◌∙◌, arith, nat_eq, nat_lt}
 use Rattle.std.proofs.lemmas.Bool.{lt-ltb, eqb-true, eq-eqb, ne_eqb}
 use Rattle.sap_lattice.specs.Levels.{order_of}
-use Rattle.sap_meaning.specs.Program.{root, listed, is_dynamic}
-use Rattle.sap_meaning.specs.Runs.{listed_alone}
-use Rattle.sap_program.specs.Hangs.{flags}
-use Rattle.sap_program.specs.Views.{step_of}
+use Rattle.sap_meaning.specs.Prelude.{root, listed, is_dynamic, listed_alone}
+use Rattle.sap_program.specs.Prelude.{flags, step_of}
 use Rattle.sap_program.specs.declared.program.Step.{Step}
+use Rattle.sap_program.specs.declared.home.Home.{Home}
 use Rattle.sap_program.specs.declared.program.Step.TheVariants as step
 use Rattle.sap_store.specs.declared.environment.Environment.{Environment}
-use Rattle.sap_program.specs.declared.home.Home.{Home}
 use Rattle.sap_store.specs.Code.{world_in, entities_in, home_in}
 use Rattle.sap_store.proofs.Worlds.{root_is}
 use Rattle.sap_store.proofs.Raised.{flagged}

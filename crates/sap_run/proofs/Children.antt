@@ -1,10 +1,8 @@
 -- The child of a group at a place.
 use Rattle.std.proofs.Common.{◌≡◌, ℕ, zero, suc, ◌<◌, ◌≤◌, List, [], ◌∷◌, length, get_or, true, refl, arith}
-use Rattle.sap_meaning.specs.Program.{World}
-use Rattle.sap_meaning.specs.Store.{Store, own, level}
-use Rattle.sap_meaning.specs.Checks.{child_level, opens, child_opens}
-use Rattle.sap_program.specs.declared.program.State.{State, out-State}
+use Rattle.sap_meaning.specs.Prelude.{World, Store, own, level, child_level, opens, child_opens}
 use Rattle.sap_program.specs.Views.{group_of}
+use Rattle.sap_program.specs.declared.program.State.{State, out-State}
 use Rattle.sap_program.proofs.Shown.{state_of-out}
 
 module _ (w : World) (s : Store) (m : ℕ) where

@@ -1,8 +1,7 @@
 -- The effect of a step that enters no child.
 use Rattle.std.proofs.Common.{◌≡◌, ℕ, List, refl}
-use Rattle.sap_meaning.specs.Store.{Store, After, stay}
+use Rattle.sap_meaning.specs.Prelude.{Store, After, stay, effect}
 use Rattle.sap_meaning.specs.Checks as checks
-use Rattle.sap_meaning.specs.Does.{effect}
 use Rattle.sap_program.specs.Views.{step_of}
 use Rattle.sap_program.specs.declared.program.Step.{Step}
 use Rattle.sap_program.specs.declared.program.Step.TheVariants as step

@@ -4,24 +4,19 @@ use Rattle.std.proofs.lemmas.Bool.{cases_Bool}
 use Rattle.std.specs.declared.vec.Vec.{Vec}
 use Rattle.std.specs.declared.alloc.Global.{Global}
 use Rattle.sap_meaning.proofs.StoreLemmas.{and_stay}
-use Rattle.sap_meaning.specs.Program.{World, last_arm, root, listed}
+use Rattle.sap_meaning.specs.Prelude.{World, last_arm, root, listed, test, Store, After, stay, and_then, attempt, attempt_then, select, is_constant, listed_alone, run, run_arms, run_block, run_state, run_child}
 use Rattle.sap_meaning.specs.Program as program
-use Rattle.sap_meaning.specs.Checks.{test}
 use Rattle.sap_meaning.specs.Checks as checks
-use Rattle.sap_meaning.specs.Store.{Store, After, stay, and_then}
-use Rattle.sap_meaning.specs.Does.{attempt, attempt_then, select, is_constant}
-use Rattle.sap_meaning.specs.Runs.{listed_alone, run, run_arms, run_block, run_state, run_child}
+use Rattle.sap_program.specs.Prelude.{flags, term_of, step_of, block_of, arms_before, constants_of, group_of}
 use Rattle.sap_program.specs.declared.program.Number.{Number}
 use Rattle.sap_program.specs.declared.program.Step.{Step}
 use Rattle.sap_program.specs.declared.program.Arm.{Arm}
 use Rattle.sap_program.specs.declared.program.Command.{Command}
+use Rattle.sap_program.specs.declared.program.State.{State, out-State}
+use Rattle.sap_program.specs.declared.home.Home.{Home}
 use Rattle.sap_program.specs.declared.program.Command.TheVariants as command
 use Rattle.sap_program.specs.declared.program.Command.TheViews as shown
-use Rattle.sap_program.specs.declared.program.State.{State, out-State}
-use Rattle.sap_program.specs.Hangs.{flags}
-use Rattle.sap_program.specs.Views.{term_of, step_of, block_of, arms_before, constants_of, group_of}
 use Rattle.sap_store.specs.declared.environment.Environment.{Environment}
-use Rattle.sap_program.specs.declared.home.Home.{Home}
 use Rattle.sap_store.specs.Able.{AbleStep, AbleTerm, AbleCommand, AbleArms, AbleBlock, AbleState, AbleGroup}
 use Rattle.sap_store.specs.Code.{world_in, entities_in, home_in}
 use Rattle.sap_run.specs.Runs.{entered, block_run, command_run, attempt_run, select_run, picked_in, choose_run, state_run, CommandAble, BlockAble, ArmsAble, StateAble, GroupAble}

@@ -3,16 +3,15 @@ use Rattle.std.proofs.Common.{◌≡◌, ℕ, zero, suc, ◌+◌, ◌<◌, ◌�
 use Rattle.std.proofs.lemmas.Bool.{cases_Bool}
 use Rattle.std.specs.declared.vec.Vec.{Vec}
 use Rattle.std.specs.declared.alloc.Global.{Global}
-use Rattle.sap_meaning.specs.Program.{Command, lone, try, if_else, try_then, case_of, Arms, last_arm, and_arm, Block, end_block, command_then, State, state_node, Group, no_node, and_node}
+use Rattle.sap_meaning.specs.Prelude.{Command, lone, try, if_else, try_then, case_of, Arms, last_arm, and_arm, Block, end_block, command_then, State, state_node, Group, no_node, and_node, is_constant}
+use Rattle.sap_program.specs.Views.{command_of, block_of, arms_before, constants_of, state_of, group_of}
 use Rattle.sap_program.specs.declared.program.Number.{Number}
 use Rattle.sap_program.specs.declared.program.Step.{Step}
 use Rattle.sap_program.specs.declared.program.Arm.{Arm as ArmCode}
 use Rattle.sap_program.specs.declared.program.Command.{Command as CommandCode}
+use Rattle.sap_program.specs.declared.program.State.{State as StateCode, out-State}
 use Rattle.sap_program.specs.declared.program.Command.TheVariants as command
 use Rattle.sap_program.specs.declared.program.Command.TheViews as shown
-use Rattle.sap_program.specs.declared.program.State.{State as StateCode, out-State}
-use Rattle.sap_program.specs.Views.{command_of, block_of, arms_before, constants_of, state_of, group_of}
-use Rattle.sap_meaning.specs.Does.{is_constant}
 use Rattle.sap_run.specs.Runs.{picked_in}
 use Rattle.sap_program.proofs.Shown.{command_of-do, command_of-try, command_of-if, command_of-then, command_of-case, state_of-out}
 

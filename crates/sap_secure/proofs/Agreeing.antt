@@ -1,11 +1,8 @@
 -- Stores that look alike while a cycle runs.
-use Rattle.std.proofs.Common.{◌≡◌, ℕ, Bool, true, false, ◌||◌, refl, sym, ap, ◌∙◌, subst, inl, inr, if◌then◌else◌}
-use Rattle.std.proofs.lemmas.Bool.{cases_Bool, false_from_ne_true}
+use Rattle.sap_lemmas.proofs.Common.{◌≡◌, ℕ, Bool, true, false, ◌||◌, refl, sym, ap, ◌∙◌, subst, inl, inr, if◌then◌else◌, cases_Bool, false_from_ne_true}
 use Rattle.sap_meaning.proofs.ProgramLemmas.{state_no_value}
 use Rattle.sap_lattice.specs.Order.{Laws}
-use Rattle.sap_meaning.specs.Program.{World, entity, is_dynamic, is_input, is_register, is_memory, is_state, authority}
-use Rattle.sap_meaning.specs.Store.{Slot, own, start, next, start_whole, next_whole, Store, owner, home, number, level, same_slot, put_number, put_level, put_child, raised, raise, lowered, reset, held}
-use Rattle.sap_meaning.specs.Agree.{Low, High}
+use Rattle.sap_meaning.specs.Prelude.{World, entity, is_dynamic, is_input, is_register, is_memory, is_state, authority, Slot, own, start, next, start_whole, next_whole, Store, owner, home, number, level, same_slot, put_number, put_level, put_child, raised, raise, lowered, reset, held, Low, High}
 use Rattle.sap_meaning.proofs.Slots.{slot_self, slot_same, home_own, home_cell, home_next, level_number, level_raise, number_put}
 use Rattle.sap_meaning.proofs.Keeps.{OfDynamic, raise_keeps, reset_keeps}
 use Rattle.sap_secure.proofs.Levels.{Like, Same, high_left, high_right, low_join, same_high, same_self, same_flip, same_next, same_raised}

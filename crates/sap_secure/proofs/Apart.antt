@@ -1,16 +1,11 @@
 -- What registers, memories and states have apart.
-use Rattle.std.proofs.Common.{◌≡◌, ℕ, suc, Bool, true, false, ◌||◌, refl, sym, ◌∙◌, nat_eq, inl, inr}
-use Rattle.sap_lemmas.proofs.Bools.{and_left}
-use Rattle.std.proofs.lemmas.Bool.{eqb-true, false_from_ne_true, ne_eqb, or_cases, or_from, or_left, or_right}
+use Rattle.sap_lemmas.proofs.Common.{◌≡◌, ℕ, suc, Bool, true, false, ◌||◌, refl, sym, ◌∙◌, nat_eq, inl, inr, and_left, eqb-true, false_from_ne_true, ne_eqb, or_cases, or_from, or_left, or_right}
 use Rattle.sap_meaning.proofs.ProgramLemmas.{memory_no_state, register_no_memory, register_no_state}
 use Rattle.sap_meaning.proofs.FineLemmas.{inside_among}
-use Rattle.sap_meaning.specs.Program.{World, is_dynamic, entity, is_register, is_memory, is_state, Step, assign, write, retag, retag_cell, go_to, fall_to_child, Command, Block, State, state_node, Group, no_node, and_node}
-use Rattle.sap_meaning.specs.Touches.{among, step_assigns, assigns, block_assigns, state_assigns, group_assigns, step_hangs, hangs, block_hangs}
-use Rattle.sap_meaning.specs.Fine.{FineTerm, FineStep, FineCommand, FineState, FineGroup, inside}
-use Rattle.sap_meaning.specs.Once.{step_writes, writes, step_reaches, reaches, block_reaches}
+use Rattle.sap_meaning.specs.Prelude.{World, is_dynamic, entity, is_register, is_memory, is_state, Step, assign, write, retag, retag_cell, go_to, fall_to_child, Command, Block, State, state_node, Group, no_node, and_node, among, step_assigns, block_assigns, state_assigns, group_assigns, step_hangs, hangs, block_hangs, FineTerm, FineStep, FineCommand, FineState, FineGroup, inside, step_writes, writes, step_reaches, reaches, block_reaches, Every, EveryInBlock}
+use Rattle.sap_meaning.specs.Touches.{assigns}
 use Rattle.sap_meaning.proofs.WalksLemmas.{none_passes, none_passes_in_block, some_follows, some_follows_in_block, passes_follow, gathered_alike, gathered_in_block_alike}
 use Rattle.sap_secure.proofs.Concerns.{parted_of, group_parted, step_concerns, concerns, block_concerns}
-use Rattle.sap_meaning.specs.Walks.{Every, EveryInBlock}
 
 module _ (w : World) where
   pub register_apart : (x y : ℕ) → is_state w x ≡ true → is_register w y ≡ true → nat_eq x y ≡ false

@@ -1,13 +1,8 @@
 -- Two runs that both arrive at a state look alike from there down.
-use Rattle.std.proofs.Common.{◌≡◌, ℕ, Bool, true, false, ◌||◌, refl, sym, ◌∙◌, subst, nat_eq, inl, inr, ◌⊎◌, if◌then◌else◌}
-use Rattle.std.proofs.lemmas.Bool.{cases_Bool, eqb-true, or_cases, or_left, or_right}
+use Rattle.sap_lemmas.proofs.Common.{◌≡◌, ℕ, Bool, true, false, ◌||◌, refl, sym, ◌∙◌, subst, nat_eq, inl, inr, ◌⊎◌, if◌then◌else◌, cases_Bool, eqb-true, or_cases, or_left, or_right}
 use Rattle.sap_meaning.proofs.FineLemmas.{inside_among}
 use Rattle.sap_lattice.specs.Order.{Laws}
-use Rattle.sap_meaning.specs.Program.{World, is_dynamic, is_state, place, below, go_to, State, state_node, Group, no_node, and_node}
-use Rattle.sap_meaning.specs.Store.{own, Store, level, child, put_level, put_child, reset, After}
-use Rattle.sap_meaning.specs.State.{Holds}
-use Rattle.sap_meaning.specs.Does.{effect}
-use Rattle.sap_meaning.specs.Fine.{inside, number_of}
+use Rattle.sap_meaning.specs.Prelude.{World, is_dynamic, is_state, place, below, go_to, State, state_node, Group, no_node, and_node, own, Store, level, child, put_level, put_child, reset, After, Holds, effect, inside, number_of}
 use Rattle.sap_meaning.proofs.Slots.{level_put, child_level_put, level_reset, child_reset, held_state}
 use Rattle.sap_meaning.proofs.Trees.{Nth, lands, nth_fine}
 use Rattle.sap_meaning.proofs.Keeps.{holds_level, holds_reset, holds_child}

@@ -1,11 +1,7 @@
 -- What concerns a command: what hangs on it; but an enforced memory only where it, or a body that it may fall into, writes a cell.
-use Rattle.std.proofs.Common.{◌≡◌, ℕ, Bool, true, false, not, ◌&&◌, ◌||◌, refl, sym, ap, ◌∙◌, nat_eq, if◌then◌else◌}
-use Rattle.sap_lemmas.proofs.Bools.{or_equal}
-use Rattle.std.proofs.lemmas.Bool.{and_from}
-use Rattle.sap_meaning.specs.Program.{World, is_dynamic, is_memory, Step, assign, write, retag, retag_cell, go_to, fall_to_child, Command, Arms, Block, State, state_node, Group, no_node, and_node}
-use Rattle.sap_meaning.specs.Walks.{some, some_in_arms, some_in_block}
-use Rattle.sap_meaning.specs.Touches.{among, block_assigns, state_assigns, group_assigns, step_hangs, hangs, block_hangs}
-use Rattle.sap_meaning.specs.Once.{block_reaches, state_reaches, group_reaches}
+use Rattle.sap_lemmas.proofs.Common.{◌≡◌, ℕ, Bool, true, false, not, ◌&&◌, ◌||◌, refl, sym, ap, ◌∙◌, nat_eq, if◌then◌else◌, or_equal, and_from}
+use Rattle.sap_meaning.specs.Prelude.{World, is_dynamic, is_memory, Step, assign, write, retag, retag_cell, go_to, fall_to_child, Command, Arms, Block, State, state_node, Group, no_node, and_node, some_in_arms, some_in_block, among, block_assigns, state_assigns, group_assigns, step_hangs, hangs, block_hangs, block_reaches, state_reaches, group_reaches}
+use Rattle.sap_meaning.specs.Walks.{some}
 
 -- an enforced memory
 abbrev pub parted : World → ℕ → Bool

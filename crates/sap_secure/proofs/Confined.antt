@@ -1,20 +1,10 @@
 -- In a context or under a guard that is not at or below l, nothing changes that is.
-use Rattle.std.proofs.Common.{◌≡◌, ℕ, zero, suc, ◌+◌, ◌<◌, Bool, true, false, ◌&&◌, ◌||◌, [], refl, sym, ◌∙◌, arith, nat_eq, inl, inr, ◌⊎◌}
-use Rattle.std.proofs.lemmas.Bool.{cases_Bool, and_from, eqb-true, false_from_ne_true, or_cases, or_left, or_right}
-use Rattle.sap_lemmas.proofs.Bools.{and_left, and_right}
-use Rattle.sap_lemmas.proofs.Numbers.{test_of_same}
+use Rattle.sap_lemmas.proofs.Common.{◌≡◌, ℕ, zero, suc, ◌+◌, ◌<◌, Bool, true, false, ◌&&◌, ◌||◌, [], refl, sym, ◌∙◌, arith, nat_eq, inl, inr, ◌⊎◌, cases_Bool, and_from, eqb-true, false_from_ne_true, or_cases, or_left, or_right, and_left, and_right, test_of_same}
 use Rattle.sap_meaning.proofs.ProgramLemmas.{state_no_value}
 use Rattle.sap_meaning.proofs.FineLemmas.{inside_among}
 use Rattle.sap_lattice.specs.Order.{Laws}
 use Rattle.sap_maps.specs.Term.{Term}
-use Rattle.sap_meaning.specs.Program.{World, entity, is_dynamic, is_input, is_register, is_memory, is_state, authority, children, place, Step, assign, write, retag, retag_cell, go_to, fall_to_child, Command, lone, try, if_else, try_then, case_of, Arms, last_arm, and_arm, Block, end_block, command_then, State, state_node, Group, no_node, and_node, LevelTerm}
-use Rattle.sap_meaning.specs.Store.{Slot, own, start, next, start_whole, next_whole, Store, owner, home, level, child, put_child, raised, raise, reset, held, After, stay}
-use Rattle.sap_meaning.specs.State.{Holds}
-use Rattle.sap_meaning.specs.Expressions.{value, tag, new_level, told}
-use Rattle.sap_meaning.specs.Checks.{Home, guard, test}
-use Rattle.sap_meaning.specs.Touches.{among, step_hangs, touches, raised_alone}
-use Rattle.sap_meaning.specs.Does.{effect, attempt, select, branch, does, does_block, does_state, does_child, attempt_then, does_arms}
-use Rattle.sap_meaning.specs.Agree.{High, seen}
+use Rattle.sap_meaning.specs.Prelude.{World, entity, is_dynamic, is_input, is_register, is_memory, is_state, authority, children, place, Step, assign, write, retag, retag_cell, go_to, fall_to_child, Command, lone, try, if_else, try_then, case_of, Arms, last_arm, and_arm, Block, end_block, command_then, State, state_node, Group, no_node, and_node, LevelTerm, Slot, own, start, next, start_whole, next_whole, Store, owner, home, level, child, put_child, raised, raise, reset, held, After, stay, Holds, value, tag, new_level, told, Home, guard, test, among, step_hangs, touches, raised_alone, effect, attempt, select, branch, does, does_block, does_state, does_child, attempt_then, does_arms, High, seen}
 use Rattle.sap_meaning.proofs.Slots.{owner_home, raised_hangs, held_register, held_state}
 use Rattle.sap_meaning.proofs.Trees.{Nth, lands}
 use Rattle.sap_meaning.proofs.Keeps.{OfDynamic, Keeps, branch_all, raise_keeps, holds_raise, does_holds, block_holds, alone_dynamic, child_holds, choose_all, effect_holds}

@@ -1,17 +1,7 @@
 -- One cycle from states that agree.
-use Rattle.std.proofs.Common.{◌≡◌, ℕ, zero, suc, ◌<◌, Bool, [], refl, sym, ap, ◌∙◌, subst, arith, inl, inr}
-use Rattle.std.proofs.lemmas.Bool.{cases_Bool, and_from, or_right}
-use Rattle.sap_lemmas.proofs.Bools.{and_left, and_right}
+use Rattle.sap_lemmas.proofs.Common.{◌≡◌, ℕ, zero, suc, ◌<◌, Bool, [], refl, sym, ap, ◌∙◌, subst, arith, inl, inr, cases_Bool, and_from, or_right, and_left, and_right}
 use Rattle.sap_lattice.specs.Order.{Laws}
-use Rattle.sap_meaning.specs.Program.{World, is_dynamic, children, State, state_node, Group, no_node, and_node}
-use Rattle.sap_meaning.specs.Store.{own, Store, owner, level, child, raise, After}
-use Rattle.sap_meaning.specs.State.{Holds}
-use Rattle.sap_meaning.specs.Touches.{among, root_touches}
-use Rattle.sap_meaning.specs.Does.{does_state, does_child}
-use Rattle.sap_meaning.specs.Cycle.{root_fall}
-use Rattle.sap_meaning.specs.Agree.{Low, High}
-use Rattle.sap_meaning.specs.Fine.{number_of}
-use Rattle.sap_meaning.specs.Once.{OnceState, OnceGroup}
+use Rattle.sap_meaning.specs.Prelude.{World, is_dynamic, children, State, state_node, Group, no_node, and_node, own, Store, owner, level, child, raise, After, Holds, among, root_touches, does_state, does_child, root_fall, Low, High, number_of, OnceState, OnceGroup}
 use Rattle.sap_meaning.proofs.Slots.{child_raise}
 use Rattle.sap_meaning.proofs.Trees.{Nth, nth_of}
 use Rattle.sap_meaning.proofs.Keeps.{OfDynamic, holds_raise}

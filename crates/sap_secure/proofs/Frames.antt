@@ -1,23 +1,12 @@
 -- What runs leave alone.
-use Rattle.std.proofs.Common.{◌≡◌, ℕ, zero, suc, Bool, true, false, ◌&&◌, ◌||◌, refl, sym, ap, ◌∙◌, nat_eq, inl, inr}
-use Rattle.std.proofs.lemmas.Bool.{cases_Bool, false_from_ne_true, or_cases, or_from, or_left, or_right}
-use Rattle.sap_lemmas.proofs.Bools.{neither_left, neither_right}
-use Rattle.sap_lemmas.proofs.Numbers.{test_of_same}
+use Rattle.sap_lemmas.proofs.Common.{◌≡◌, ℕ, zero, suc, Bool, true, false, ◌&&◌, ◌||◌, refl, sym, ap, ◌∙◌, nat_eq, inl, inr, cases_Bool, false_from_ne_true, or_cases, or_from, or_left, or_right, neither_left, neither_right, test_of_same}
 use Rattle.sap_meaning.proofs.FineLemmas.{inside_among}
 use Rattle.sap_maps.specs.Term.{Term}
-use Rattle.sap_meaning.specs.Program.{World, is_dynamic, is_memory, is_state, place, below, Step, assign, write, retag, retag_cell, go_to, fall_to_child, Command, lone, try, if_else, try_then, case_of, Arms, last_arm, and_arm, Block, end_block, command_then, State, state_node, Group, no_node, and_node}
-use Rattle.sap_meaning.specs.Store.{Slot, own, start, next, Store, owner, home, level, child, same_slot, put_number, put_level, put_child, raised, raise, lowered, reset, After, stay}
-use Rattle.sap_meaning.specs.Expressions.{value, tag}
-use Rattle.sap_meaning.specs.Checks.{Home, guard, test}
-use Rattle.sap_meaning.specs.Touches.{among, step_hangs, hangs, block_hangs, touches, raised_alone, group_assigns, arms_hang, step_retags, retags, block_retags, state_retags, group_retags}
-use Rattle.sap_meaning.specs.Does.{effect, attempt, select, branch, does, does_block, does_state, does_child, attempt_then, does_arms}
-use Rattle.sap_meaning.specs.Fine.{FineStep, FineCommand, FineState, FineGroup, transfers, Open, inside, NoTransfer}
-use Rattle.sap_meaning.specs.Once.{step_writes, writes}
+use Rattle.sap_meaning.specs.Prelude.{World, is_dynamic, is_memory, is_state, place, below, Step, assign, write, retag, retag_cell, go_to, fall_to_child, Command, lone, try, if_else, try_then, case_of, Arms, last_arm, and_arm, Block, end_block, command_then, State, state_node, Group, no_node, and_node, Slot, own, start, next, Store, owner, home, level, child, same_slot, put_number, put_level, put_child, raised, raise, lowered, reset, After, stay, value, tag, Home, guard, test, among, step_hangs, hangs, block_hangs, touches, raised_alone, group_assigns, arms_hang, step_retags, retags, block_retags, state_retags, group_retags, effect, attempt, select, branch, does, does_block, does_state, does_child, attempt_then, does_arms, FineStep, FineCommand, FineState, FineGroup, transfers, Open, inside, NoTransfer, step_writes, writes, Every, EveryInArms, EveryInBlock, some_in_arms, some_in_block}
 use Rattle.sap_meaning.proofs.Slots.{slot_same, home_next, home_start, owner_home}
 use Rattle.sap_meaning.proofs.Keeps.{branch_all, choose_all}
 use Rattle.sap_secure.proofs.Apart.{register_apart, memory_apart, state_no_register, state_no_memory, group_unassigned, unhung}
 use Rattle.sap_secure.proofs.Sites.{Site, spot, Proper, ProperBlock, ProperStep, ProperArms}
-use Rattle.sap_meaning.specs.Walks.{Every, EveryInArms, EveryInBlock, some_in_arms, some_in_block}
 
 -- the level of z and the current child of q
 pub record Kept (w : World) (z : Slot) (q : ℕ) (s t : Store) : Type 0 where

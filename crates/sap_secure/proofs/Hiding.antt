@@ -1,17 +1,6 @@
 -- The conditions of a command in a context from above, worked out.
-use Rattle.std.proofs.Common.{◌≡◌, ℕ, zero, suc, ◌<◌, Bool, true, false, ◌&&◌, ◌||◌, [], ◌∷◌, refl, arith, nat_eq, nat_lt, nat_le, inl, inr}
-use Rattle.std.proofs.lemmas.Grind.{common_steps}
-use Rattle.std.proofs.lemmas.Bool.{eqb-true, or_cases}
-use Rattle.sap_meaning.specs.Program.{is_dynamic, is_input, is_register, is_memory, authority, children, is_state, below, and_node, state_node, no_node}
-use Rattle.sap_meaning.specs.Store.{owner, put_number, put_level, put_child, raise, reset, settle}
-use Rattle.sap_meaning.specs.Checks.{Home}
-use Rattle.sap_meaning.specs.Touches.{touches}
-use Rattle.sap_meaning.specs.Does.{effect, attempt, attempt_then, select, does, does_block, does_state, does_child}
-use Rattle.sap_meaning.specs.Cycle.{cycle, set_inputs, root_fall}
-use Rattle.sap_meaning.specs.State.{Holds, first}
-use Rattle.sap_meaning.specs.Agree.{High}
-use Rattle.sap_meaning.specs.Fine.{FineNode, FineProgram, inside}
-use Rattle.sap_meaning.specs.Once.{OnceState}
+use Rattle.sap_lemmas.proofs.Common.{◌≡◌, ℕ, zero, suc, ◌<◌, Bool, true, false, ◌&&◌, ◌||◌, [], ◌∷◌, refl, arith, nat_eq, nat_lt, nat_le, inl, inr, common_steps, eqb-true, or_cases}
+use Rattle.sap_meaning.specs.Prelude.{is_dynamic, is_input, is_register, is_memory, authority, children, is_state, below, and_node, state_node, no_node, owner, put_number, put_level, put_child, raise, reset, settle, Home, touches, effect, attempt, attempt_then, select, does, does_block, does_state, does_child, cycle, set_inputs, root_fall, Holds, first, High, FineNode, FineProgram, inside, OnceState}
 use Rattle.sap_meaning.specs.Examples.{two_levels}
 use Rattle.sap_meaning.proofs.Sampled.{lawful}
 use Rattle.sap_secure.specs.Confinement.{Hidden, Confinement, level_slot}

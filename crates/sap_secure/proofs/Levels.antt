@@ -1,9 +1,7 @@
 -- Levels at or below l, and those that are not.
-use Rattle.std.proofs.Common.{◌≡◌, ℕ, true, false, List, [], ◌∷◌, ◌++◌, refl, sym, ap, ◌∙◌, inl, inr}
-use Rattle.std.proofs.lemmas.Bool.{cases_Bool}
+use Rattle.sap_lemmas.proofs.Common.{◌≡◌, ℕ, true, false, List, [], ◌∷◌, ◌++◌, refl, sym, ap, ◌∙◌, inl, inr, cases_Bool}
 use Rattle.sap_lattice.specs.Order.{Order, Laws}
-use Rattle.sap_meaning.specs.Store.{Refusal}
-use Rattle.sap_meaning.specs.Agree.{seen, Low, High}
+use Rattle.sap_meaning.specs.Prelude.{Refusal, seen, Low, High}
 
 -- the same level, or both not at or below l
 abbrev pub Like : Order → ℕ → ℕ → ℕ → Type 0

@@ -1,16 +1,7 @@
 -- A state whose level is not at or below l, and all below it, leave the active path ended: by induction over the tree.
-use Rattle.std.proofs.Common.{◌≡◌, ℕ, zero, suc, true, [], sym, ap, ◌∙◌, subst, nat_eq}
-use Rattle.sap_lemmas.proofs.Bools.{neither_left, neither_right}
-use Rattle.sap_lemmas.proofs.Numbers.{test_of_same}
-use Rattle.std.proofs.lemmas.Bool.{or_left, or_right}
+use Rattle.sap_lemmas.proofs.Common.{◌≡◌, ℕ, zero, suc, true, [], sym, ap, ◌∙◌, subst, nat_eq, neither_left, neither_right, test_of_same, or_left, or_right}
 use Rattle.sap_lattice.specs.Order.{Laws}
-use Rattle.sap_meaning.specs.Program.{World, below, Block, State, state_node, Group, no_node, and_node}
-use Rattle.sap_meaning.specs.Store.{own, Store, owner, level, child}
-use Rattle.sap_meaning.specs.State.{Holds}
-use Rattle.sap_meaning.specs.Does.{does_state, does_child}
-use Rattle.sap_meaning.specs.Agree.{High}
-use Rattle.sap_meaning.specs.Fine.{inside, number_of}
-use Rattle.sap_meaning.specs.Touches.{block_retags}
+use Rattle.sap_meaning.specs.Prelude.{World, below, Block, State, state_node, Group, no_node, and_node, own, Store, owner, level, child, Holds, does_state, does_child, High, inside, number_of, block_retags}
 use Rattle.sap_meaning.proofs.Trees.{Nth}
 use Rattle.sap_secure.proofs.Concerns.{state_concerns, group_concerns}
 use Rattle.sap_secure.proofs.Sites.{Around, node, own_fine, kids_around, proper_body}

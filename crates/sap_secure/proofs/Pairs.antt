@@ -1,19 +1,9 @@
 -- Two runs of a list that closes, from stores that look alike on the active path too.
-use Rattle.std.proofs.Common.{◌≡◌, ℕ, Bool, true, false, ◌&&◌, ◌||◌, List, [], ◌∷◌, refl, sym, ap, ◌∙◌, subst, inl, inr}
-use Rattle.std.proofs.lemmas.Bool.{cases_Bool, or_left, or_right}
+use Rattle.sap_lemmas.proofs.Common.{◌≡◌, ℕ, Bool, true, false, ◌&&◌, ◌||◌, List, [], ◌∷◌, refl, sym, ap, ◌∙◌, subst, inl, inr, cases_Bool, or_left, or_right}
 use Rattle.sap_meaning.proofs.FineLemmas.{inside_among}
 use Rattle.sap_lattice.specs.Order.{Laws}
 use Rattle.sap_maps.specs.Term.{Term}
-use Rattle.sap_meaning.specs.Program.{World, is_dynamic, Step, assign, write, retag, retag_cell, go_to, fall_to_child, Command, lone, try, if_else, try_then, case_of, Arms, last_arm, and_arm, Block, end_block, command_then, State, state_node, Group}
-use Rattle.sap_meaning.specs.Store.{Slot, own, Store, owner, level, child, raise, After, stay, and_then}
-use Rattle.sap_meaning.specs.State.{Holds}
-use Rattle.sap_meaning.specs.Expressions.{value, tag}
-use Rattle.sap_meaning.specs.Checks.{Home, site_of, child_level, guard, test}
-use Rattle.sap_meaning.specs.Touches.{among, step_hangs, block_hangs, touches, raised_alone, arms_hang}
-use Rattle.sap_meaning.specs.Does.{effect, attempt, select, branch, does, does_block, attempt_then, does_arms}
-use Rattle.sap_meaning.specs.Agree.{Low, High}
-use Rattle.sap_meaning.specs.Fine.{FineTerm, transfers, Closes, Final, number_of, ClosingArms}
-use Rattle.sap_meaning.specs.Once.{OnceStep, Once, OnceBlock, OnceArms}
+use Rattle.sap_meaning.specs.Prelude.{World, is_dynamic, Step, assign, write, retag, retag_cell, go_to, fall_to_child, Command, lone, try, if_else, try_then, case_of, Arms, last_arm, and_arm, Block, end_block, command_then, State, state_node, Group, Slot, own, Store, owner, level, child, raise, After, stay, and_then, Holds, value, tag, Home, site_of, child_level, guard, test, among, step_hangs, block_hangs, touches, raised_alone, arms_hang, effect, attempt, select, branch, does, does_block, attempt_then, does_arms, Low, High, FineTerm, transfers, Closes, Final, number_of, ClosingArms, OnceStep, Once, OnceBlock, OnceArms}
 use Rattle.sap_meaning.proofs.Slots.{child_raise, held_state}
 use Rattle.sap_meaning.proofs.Trees.{Nth, nth_same}
 use Rattle.sap_meaning.proofs.Keeps.{OfDynamic, branch_all, holds_raise, alone_dynamic, choose_all, effect_holds}

@@ -1,12 +1,7 @@
 -- States that agree, in the words of the law and in those of the proofs.
-use Rattle.std.proofs.Common.{◌≡◌, ℕ, zero, suc, ◌+◌, ◌<◌, true, false, List, [], ◌∷◌, if◌then◌else◌, refl, sym, ap, ◌∙◌, subst, arith, inl, inr}
-use Rattle.std.proofs.lemmas.Bool.{cases_Bool, or_right}
+use Rattle.sap_lemmas.proofs.Common.{◌≡◌, ℕ, zero, suc, ◌+◌, ◌<◌, true, false, List, [], ◌∷◌, if◌then◌else◌, refl, sym, ap, ◌∙◌, subst, arith, inl, inr, cases_Bool, or_right}
 use Rattle.sap_lattice.specs.Order.{Order, Laws}
-use Rattle.sap_meaning.specs.Program.{World, Program, children, is_dynamic, is_input, place, Block, State, state_node, Group, no_node, and_node}
-use Rattle.sap_meaning.specs.Store.{Slot, own, start, next, start_whole, next_whole, Store, owner, home, number, level, child}
-use Rattle.sap_meaning.specs.State.{Holds}
-use Rattle.sap_meaning.specs.Agree.{Low, High, Alike, PartsAlike, ActiveState, path_from, active_path, PathsRelated, StatesAgree}
-use Rattle.sap_meaning.specs.Fine.{FineGroup, size, number_of, kids_of}
+use Rattle.sap_meaning.specs.Prelude.{World, Program, children, is_dynamic, is_input, place, Block, State, state_node, Group, no_node, and_node, Slot, own, start, next, start_whole, next_whole, Store, owner, home, number, level, child, Holds, Low, High, Alike, PartsAlike, ActiveState, path_from, active_path, PathsRelated, StatesAgree, FineGroup, size, number_of, kids_of}
 use Rattle.sap_meaning.proofs.Trees.{Nth, nth_fine}
 use Rattle.sap_secure.proofs.Levels.{Same, same_high}
 use Rattle.sap_secure.proofs.Agreeing.{compared, Agree}

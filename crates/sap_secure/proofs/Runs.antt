@@ -1,14 +1,9 @@
 -- Whole cycles, with inputs and the edge, and runs.
-use Rattle.std.proofs.Common.{◌≡◌, ℕ, zero, suc, true, false, List, [], ◌∷◌, get_or, refl, sym, ◌∙◌, subst, inl, inr, ◌⊎◌}
-use Rattle.std.proofs.lemmas.Bool.{cases_Bool}
+use Rattle.sap_lemmas.proofs.Common.{◌≡◌, ℕ, zero, suc, true, false, List, [], ◌∷◌, get_or, refl, sym, ◌∙◌, subst, inl, inr, ◌⊎◌, cases_Bool}
 use Rattle.sap_meaning.proofs.ProgramLemmas.{memory_no_input, state_no_input}
 use Rattle.sap_lattice.specs.Order.{Order, Laws}
-use Rattle.sap_meaning.specs.Program.{World, Program, entity, is_dynamic, is_input, root}
-use Rattle.sap_meaning.specs.Store.{Slot, own, start, next, start_whole, next_whole, Store, owner, home, number, level, child, source, settle}
-use Rattle.sap_meaning.specs.State.{Rests, Resting, first}
-use Rattle.sap_meaning.specs.Cycle.{Tagged, given, inputs_before, at_inputs, set_inputs, cycle}
-use Rattle.sap_meaning.specs.Agree.{InputsAgree, active_path, StatesAgree, RefusalsAgree}
-use Rattle.sap_meaning.specs.Fine.{FineProgram}
+use Rattle.sap_meaning.specs.Prelude.{World, Program, entity, is_dynamic, is_input, root, Slot, own, start, next, start_whole, next_whole, Store, owner, home, number, level, child, source, settle, Resting, first, Tagged, given, inputs_before, at_inputs, set_inputs, cycle, InputsAgree, active_path, StatesAgree, RefusalsAgree, FineProgram}
+use Rattle.sap_meaning.specs.State.{Rests}
 use Rattle.sap_meaning.proofs.Slots.{level_settle, number_settle, child_settle, owner_source, held_source}
 use Rattle.sap_meaning.proofs.Keeps.{holds_inputs, inputs_keep}
 use Rattle.sap_meaning.proofs.Holding.{cycle_rests, first_rests}

@@ -1,16 +1,7 @@
 -- A state in its group, with what is known of both, and commands in its body.
-use Rattle.std.proofs.Common.{◌≡◌, ℕ, suc, ◌+◌, ◌<◌, ◌≤◌, Bool, true, false, ◌&&◌, ◌||◌, refl, sym, ◌∙◌, arith, nat_eq, nat_lt, nat_le, inl, inr, ◌⊎◌}
-use Rattle.std.proofs.lemmas.Grind.{common_steps}
-use Rattle.sap_lemmas.proofs.Bools.{and_left, and_right, neither_left, neither_right}
-use Rattle.std.proofs.lemmas.Bool.{eqb-true, false_from_ne_true, or_cases, or_from, or_right}
-use Rattle.sap_meaning.specs.Program.{World, children, is_dynamic, is_memory, is_state, last, below, root, Step, Command, lone, try, if_else, try_then, case_of, Arms, last_arm, and_arm, Block, end_block, command_then, state_node, Group, no_node, and_node}
-use Rattle.sap_meaning.specs.Walks.{Every, EveryInArms, EveryInBlock, Asks, some_in_arms}
+use Rattle.sap_lemmas.proofs.Common.{◌≡◌, ℕ, suc, ◌+◌, ◌<◌, ◌≤◌, Bool, true, false, ◌&&◌, ◌||◌, refl, sym, ◌∙◌, arith, nat_eq, nat_lt, nat_le, inl, inr, ◌⊎◌, common_steps, and_left, and_right, neither_left, neither_right, eqb-true, false_from_ne_true, or_cases, or_from, or_right}
+use Rattle.sap_meaning.specs.Prelude.{World, children, is_dynamic, is_memory, is_state, last, below, root, Step, Command, lone, try, if_else, try_then, case_of, Arms, last_arm, and_arm, Block, end_block, command_then, state_node, Group, no_node, and_node, Every, EveryInArms, EveryInBlock, Asks, some_in_arms, Store, After, Home, among, step_retags, retags, block_retags, FineTerm, FineStep, FineCommand, FineNode, FineState, FineGroup, Open, Closes, Final, inside, size, NoTransfer, writes, reaches, block_reaches}
 use Rattle.sap_meaning.proofs.WalksLemmas.{every_follows, every_follows_in_arms, every_follows_in_block, asks_follows, none_passes, none_passes_in_block}
-use Rattle.sap_meaning.specs.Store.{Store, After}
-use Rattle.sap_meaning.specs.Checks.{Home}
-use Rattle.sap_meaning.specs.Touches.{among, step_retags, retags, block_retags}
-use Rattle.sap_meaning.specs.Fine.{FineTerm, FineStep, FineCommand, FineNode, FineState, FineGroup, Open, Closes, Final, inside, size, NoTransfer}
-use Rattle.sap_meaning.specs.Once.{writes, reaches, block_reaches}
 use Rattle.sap_meaning.proofs.Bools.{and_false}
 use Rattle.sap_meaning.proofs.Trees.{Nth, nth_fine}
 use Rattle.sap_secure.proofs.Concerns.{block_concerns}

@@ -1,21 +1,9 @@
 -- In a high context the active path stays as it is.
-use Rattle.std.proofs.Common.{◌≡◌, ℕ, zero, suc, ◌<◌, Bool, true, false, ◌&&◌, ◌||◌, List, [], refl, sym, ap, ◌∙◌, subst, arith, nat_eq, nat_lt, nat_le, inl, inr, ◌⊎◌}
-use Rattle.std.proofs.lemmas.Bool.{cases_Bool, and_from, false_from_ne_true, or_left, or_right}
-use Rattle.std.proofs.lemmas.Grind.{common_steps}
-use Rattle.sap_lemmas.proofs.Bools.{and_left, and_right, neither_left, neither_right}
-use Rattle.sap_lemmas.proofs.Numbers.{test_of_same}
+use Rattle.sap_lemmas.proofs.Common.{◌≡◌, ℕ, zero, suc, ◌<◌, Bool, true, false, ◌&&◌, ◌||◌, List, [], refl, sym, ap, ◌∙◌, subst, arith, nat_eq, nat_lt, nat_le, inl, inr, ◌⊎◌, cases_Bool, and_from, false_from_ne_true, or_left, or_right, common_steps, and_left, and_right, neither_left, neither_right, test_of_same}
 use Rattle.sap_meaning.proofs.FineLemmas.{inside_among}
 use Rattle.sap_lattice.specs.Order.{Laws}
 use Rattle.sap_maps.specs.Term.{Term}
-use Rattle.sap_meaning.specs.Program.{World, is_dynamic, is_state, children, place, last, below, Step, assign, write, retag, retag_cell, go_to, fall_to_child, Command, lone, try, if_else, try_then, case_of, Arms, last_arm, and_arm, Block, end_block, command_then, State, state_node, Group, no_node, and_node}
-use Rattle.sap_meaning.specs.Store.{Slot, own, Store, owner, level, child, put_level, put_child, raise, reset, After, stay}
-use Rattle.sap_meaning.specs.State.{Holds}
-use Rattle.sap_meaning.specs.Expressions.{tag}
-use Rattle.sap_meaning.specs.Checks.{Home, child_level, opens, child_opens, guard, test}
-use Rattle.sap_meaning.specs.Touches.{among, step_hangs, hangs, block_hangs, touches, raised_alone, arms_hang}
-use Rattle.sap_meaning.specs.Does.{effect, attempt, select, branch, does, does_block, attempt_then, does_arms}
-use Rattle.sap_meaning.specs.Agree.{Low, High}
-use Rattle.sap_meaning.specs.Fine.{transfers, Open, Closes, Final, number_of, ClosingArms}
+use Rattle.sap_meaning.specs.Prelude.{World, is_dynamic, is_state, children, place, last, below, Step, assign, write, retag, retag_cell, go_to, fall_to_child, Command, lone, try, if_else, try_then, case_of, Arms, last_arm, and_arm, Block, end_block, command_then, State, state_node, Group, no_node, and_node, Slot, own, Store, owner, level, child, put_level, put_child, raise, reset, After, stay, Holds, tag, Home, child_level, opens, child_opens, guard, test, among, step_hangs, hangs, block_hangs, touches, raised_alone, arms_hang, effect, attempt, select, branch, does, does_block, attempt_then, does_arms, Low, High, transfers, Open, Closes, Final, number_of, ClosingArms}
 use Rattle.sap_meaning.proofs.Slots.{child_raise, child_put, child_reset, level_put, child_level_put, level_child, held_state}
 use Rattle.sap_meaning.proofs.Trees.{Nth, nth_of, placed}
 use Rattle.sap_meaning.proofs.Keeps.{OfDynamic, Keeps, branch_all, raise_keeps, reset_keeps, holds_raise, alone_dynamic, choose_all, effect_holds}

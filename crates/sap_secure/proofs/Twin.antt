@@ -1,20 +1,9 @@
 -- Two runs of open commands, from stores that look alike, look alike.
-use Rattle.std.proofs.Common.{◌≡◌, ℕ, Bool, true, false, ◌&&◌, ◌||◌, List, ◌∷◌, refl, sym, ap, ◌∙◌, subst, nat_eq, inl, inr, ◌⊎◌, if◌then◌else◌}
-use Rattle.std.proofs.lemmas.Bool.{cases_Bool, eqb-true, or_left, or_right}
-use Rattle.sap_lemmas.proofs.Bools.{and_left, iff_same}
-use Rattle.sap_lemmas.proofs.Numbers.{test_of_same}
+use Rattle.sap_lemmas.proofs.Common.{◌≡◌, ℕ, Bool, true, false, ◌&&◌, ◌||◌, List, ◌∷◌, refl, sym, ap, ◌∙◌, subst, nat_eq, inl, inr, ◌⊎◌, if◌then◌else◌, cases_Bool, eqb-true, or_left, or_right, and_left, iff_same, test_of_same}
 use Rattle.sap_lattice.specs.Order.{Laws}
 use Rattle.sap_maps.specs.Term.{Term, constant, read, cell, one, two, choose, join, part}
-use Rattle.sap_meaning.specs.Program.{World, is_dynamic, authority, LevelTerm, fixed, of, at_place, both, Step, assign, write, retag, retag_cell, go_to, fall_to_child, Command, lone, try, if_else, try_then, case_of, Arms, last_arm, and_arm, Block, end_block, command_then, is_memory}
-use Rattle.sap_meaning.specs.Store.{Slot, own, start, next, start_whole, next_whole, Store, owner, number, level, put_number, raise, After, stay, and_then}
-use Rattle.sap_meaning.specs.State.{Holds}
-use Rattle.sap_meaning.specs.Expressions.{value, tag, level_at, new_level, told}
-use Rattle.sap_meaning.specs.Checks.{Home, site_of, guard, test}
-use Rattle.sap_meaning.specs.Touches.{touches, raised_alone}
-use Rattle.sap_meaning.specs.Does.{effect, attempt, select, branch, does, does_block, attempt_then, is_constant, choose_arm, does_arms}
-use Rattle.sap_meaning.specs.Agree.{Low, High, seen}
-use Rattle.sap_meaning.specs.Fine.{FineTerm, FineLevel, transfers, Open, NoTransfer}
-use Rattle.sap_meaning.specs.Once.{Once, OnceBlock, OnceArms, step_writes, step_reaches, block_reaches}
+use Rattle.sap_meaning.specs.Prelude.{World, is_dynamic, authority, LevelTerm, fixed, of, at_place, both, Step, assign, write, retag, retag_cell, go_to, fall_to_child, Command, lone, try, if_else, try_then, case_of, Arms, last_arm, and_arm, Block, end_block, command_then, is_memory, Slot, own, start, next, start_whole, next_whole, Store, owner, number, level, put_number, raise, After, stay, and_then, Holds, value, tag, level_at, new_level, told, Home, site_of, guard, test, touches, raised_alone, effect, attempt, select, branch, does, does_block, attempt_then, is_constant, does_arms, Low, High, seen, FineTerm, FineLevel, transfers, Open, NoTransfer, Once, OnceBlock, OnceArms, step_writes, step_reaches, block_reaches, EveryInArms, EveryInBlock}
+use Rattle.sap_meaning.specs.Does.{choose_arm}
 use Rattle.sap_meaning.proofs.Slots.{held_register}
 use Rattle.sap_meaning.proofs.Keeps.{OfDynamic, Keeps, branch_all, holds_raise, alone_dynamic, effect_holds}
 use Rattle.sap_secure.proofs.Levels.{Like, Same, high_right, low_below, low_left, low_right, low_join, not_below, same_high, seen_parts}
@@ -23,7 +12,6 @@ use Rattle.sap_secure.proofs.Concerns.{step_concerns, concerns, block_concerns, 
 use Rattle.sap_secure.proofs.Sites.{Site, spot, Proper, ProperBlock, ProperStep, fine_block, apart_from, ProperArms}
 use Rattle.sap_secure.proofs.Frames.{start_effect, next_effect}
 use Rattle.sap_secure.proofs.Confined.{held_target, Confined, Entering, Quiet, Even, confined_self, quiet_raise, even_raise, even_next, landing, keeps, attempt_confined, select_confined, block_confined, touches_dynamic, quiet_left, quiet_right, attempt_then_confined, arms_confined, hush_next, changing, begun}
-use Rattle.sap_meaning.specs.Walks.{EveryInArms, EveryInBlock}
 
 -- two results that look alike
 pub record Twin (w : World) (l : ℕ) (a b : After) : Type 0 where

@@ -1,19 +1,11 @@
 -- Confinement of a command on the active path.
-use Rattle.std.proofs.Common.{◌≡◌, ℕ, zero, suc, true, false, ◌||◌, List, [], ◌∷◌, refl, sym, ◌∙◌, subst, nat_eq, inl, inr, ◌⊎◌}
-use Rattle.std.proofs.lemmas.Bool.{cases_Bool, and_from, false_from_ne_true, ne_eqb, or_from, or_left, or_right}
-use Rattle.sap_lemmas.proofs.Bools.{and_left, and_right, neither_left, neither_right}
-use Rattle.sap_lemmas.proofs.Numbers.{test_of_same}
+use Rattle.sap_lemmas.proofs.Common.{◌≡◌, ℕ, zero, suc, true, false, ◌||◌, List, [], ◌∷◌, refl, sym, ◌∙◌, subst, nat_eq, inl, inr, ◌⊎◌, cases_Bool, and_from, false_from_ne_true, ne_eqb, or_from, or_left, or_right, and_left, and_right, neither_left, neither_right, test_of_same}
 use Rattle.sap_meaning.proofs.ProgramLemmas.{register_no_memory}
 use Rattle.sap_meaning.proofs.FineLemmas.{inside_among}
 use Rattle.sap_lattice.specs.Order.{Laws}
-use Rattle.sap_meaning.specs.Program.{World, Kind, input, register, memory, state, entity, kind_is_input, kind_is_register, kind_is_memory, is_dynamic, is_register, is_memory, is_state, root, below, Step, assign, write, retag, retag_cell, go_to, fall_to_child, Command, lone, try, if_else, try_then, case_of, Arms, last_arm, and_arm, Block, end_block, command_then, State, state_node, Group, no_node, and_node}
-use Rattle.sap_meaning.specs.Store.{own, start, next, start_whole, next_whole, Store, home, level, child}
-use Rattle.sap_meaning.specs.Touches.{among, step_hangs, hangs, touches, group_assigns, step_retags, retags, block_retags, state_retags, group_retags}
-use Rattle.sap_meaning.specs.Does.{does, does_child}
-use Rattle.sap_meaning.specs.State.{Holds}
-use Rattle.sap_meaning.specs.Agree.{High}
-use Rattle.sap_meaning.specs.Fine.{FineTerm, FineStep, FineCommand, inside, number_of, kids_of, Nth, ClosingArms, NoTransfer}
-use Rattle.sap_meaning.specs.Once.{reaches}
+use Rattle.sap_meaning.specs.Prelude.{World, Kind, entity, kind_is_input, kind_is_register, kind_is_memory, is_dynamic, is_register, is_memory, is_state, root, below, Step, assign, write, retag, retag_cell, go_to, fall_to_child, Command, lone, try, if_else, try_then, case_of, Arms, last_arm, and_arm, Block, end_block, command_then, State, state_node, Group, no_node, and_node, own, start, next, start_whole, next_whole, Store, home, level, child, among, step_hangs, hangs, touches, group_assigns, step_retags, retags, block_retags, state_retags, group_retags, does, does_child, Holds, High, FineTerm, FineStep, FineCommand, inside, number_of, kids_of, ClosingArms, NoTransfer, reaches, Every, EveryInArms, some_in_arms}
+use Rattle.sap_meaning.specs.Program.{input, register, memory, state}
+use Rattle.sap_meaning.specs.Fine.{Nth}
 use Rattle.sap_secure.specs.Confinement.{last_group, last_parent, Active, StandsIn, StandsInBlock, is_goto, is_fall, has_goto, has_fall, level_slot, EqualParts, SomeHigh, Guarded, Confinement, StandsInArms}
 use Rattle.sap_meaning.proofs.WalksLemmas.{some_follows}
 use Rattle.sap_secure.proofs.Apart.{found, hung, unassigned, group_unassigned, inside_state, state_no_register, state_no_memory, register_apart, memory_apart}
@@ -25,7 +17,6 @@ use Rattle.sap_secure.proofs.Walks.{path, path_here, path_high, nth_among}
 use Rattle.sap_secure.proofs.Still.{Scene, Cover, clear_path, does_still}
 use Rattle.sap_secure.proofs.Over.{nth_inside, nth_below, scene_at}
 use Rattle.sap_secure.proofs.Relations.{kid_around, states_agree, paths_alike}
-use Rattle.sap_meaning.specs.Walks.{Every, EveryInArms, some_in_arms}
 
 -- a command in the body is proper, and closes or is open
 module _ (w : World) (i : Site w) where

@@ -1,17 +1,8 @@
 -- The active path from a parent down, as the list of its states, as long as their levels are at or below l.
-use Rattle.std.proofs.Common.{◌≡◌, ℕ, zero, suc, ◌<◌, ◌≤◌, Bool, true, false, ◌&&◌, ◌||◌, List, [], ◌∷◌, refl, sym, ap, ◌∙◌, subst, arith, nat_eq, nat_lt, nat_le, inl, inr, ◌⊎◌, if◌then◌else◌}
-use Rattle.std.proofs.lemmas.Bool.{cases_Bool, false_from_ne_true, or_cases, or_from, or_left, or_right}
-use Rattle.std.proofs.lemmas.Grind.{common_steps}
-use Rattle.sap_lemmas.proofs.Bools.{and_left, and_right}
-use Rattle.sap_lemmas.proofs.Numbers.{test_of_same}
+use Rattle.sap_lemmas.proofs.Common.{◌≡◌, ℕ, zero, suc, ◌<◌, ◌≤◌, Bool, true, false, ◌&&◌, ◌||◌, List, [], ◌∷◌, refl, sym, ap, ◌∙◌, subst, arith, nat_eq, nat_lt, nat_le, inl, inr, ◌⊎◌, if◌then◌else◌, cases_Bool, false_from_ne_true, or_cases, or_from, or_left, or_right, common_steps, and_left, and_right, test_of_same}
 use Rattle.sap_meaning.proofs.FineLemmas.{inside_among}
 use Rattle.sap_lattice.specs.Order.{Laws}
-use Rattle.sap_meaning.specs.Program.{World, is_dynamic, is_state, authority, last, Block, State, state_node, Group, no_node, and_node}
-use Rattle.sap_meaning.specs.Store.{Slot, own, Store, home, level, child, raised, raise, held}
-use Rattle.sap_meaning.specs.State.{Holds}
-use Rattle.sap_meaning.specs.Touches.{among}
-use Rattle.sap_meaning.specs.Fine.{FineGroup, inside, number_of}
-use Rattle.sap_meaning.specs.Agree.{Low, High}
+use Rattle.sap_meaning.specs.Prelude.{World, is_dynamic, is_state, authority, last, Block, State, state_node, Group, no_node, and_node, Slot, own, Store, home, level, child, raised, raise, held, Holds, among, FineGroup, inside, number_of, Low, High}
 use Rattle.sap_meaning.proofs.Slots.{level_raise, child_raise}
 use Rattle.sap_meaning.proofs.Trees.{Nth}
 use Rattle.sap_secure.proofs.Levels.{Like, high_above, high_left, high_right}

@@ -1,13 +1,9 @@
 -- The root's fall.
 use Rattle.std.proofs.Common.{◌≡◌, ℕ, zero, suc, ◌<◌, ◌≤◌, Bool, List, [], ◌∷◌, length, get_or, refl, arith}
 use Rattle.sap_lattice.specs.Levels.{order_of}
-use Rattle.sap_meaning.specs.Program.{World, root, listed}
-use Rattle.sap_meaning.specs.Store.{Store, own, level, child, raise, stay}
-use Rattle.sap_meaning.specs.Cycle.{root_fall}
-use Rattle.sap_meaning.specs.Runs.{run_state}
+use Rattle.sap_meaning.specs.Prelude.{World, root, listed, Store, own, level, child, raise, stay, root_fall, run_state}
+use Rattle.sap_program.specs.Prelude.{flags, group_of, state_of}
 use Rattle.sap_program.specs.declared.program.State.{State, out-State}
-use Rattle.sap_program.specs.Hangs.{flags}
-use Rattle.sap_program.specs.Views.{group_of, state_of}
 use Rattle.sap_store.specs.declared.environment.Environment.{Environment}
 use Rattle.sap_store.specs.Code.{world_in, entities_in}
 use Rattle.sap_run.specs.Runs.{state_run}

@@ -1,11 +1,6 @@
 -- Inputs that fit, entity by entity.
-use Rattle.std.proofs.Common.{◌↔◌, ◌<◌, ◌≤◌, ℕ, List, length, drop, arith, IsTrue, nat_eq, inl, inr}
-use Rattle.std.proofs.lemmas.Bool.{cases_Bool, eqb-true, eqb-false}
-use Rattle.std.proofs.lemmas.List.{drop_more}
-use Rattle.std.proofs.Math.ListN.{drop_of_length-le}
-use Rattle.sap_meaning.specs.Cycle.{Tagged}
-use Rattle.sap_meaning.specs.Program.{Entity}
-use Rattle.sap_meaning.specs.State.{input_widths, AllFit}
+use Rattle.sap_lemmas.proofs.Common.{◌↔◌, ◌<◌, ◌≤◌, ℕ, List, length, drop, arith, IsTrue, nat_eq, inl, inr, cases_Bool, eqb-true, eqb-false, drop_more, drop_of_length-le}
+use Rattle.sap_meaning.specs.Prelude.{Tagged, Entity, input_widths, AllFit}
 
 -- what is left fits
 abbrev pub Left : (levels : ℕ) → List Entity → List Tagged → Type 0

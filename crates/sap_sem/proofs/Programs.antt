@@ -1,19 +1,10 @@
 -- A program that is fine, with widths that fit and are in range, has what a machine needs.
-use Rattle.std.proofs.Common.{◌≡◌, ℕ, suc, ◌<◌, ◌≤◌, ◌^◌, true, false, refl, sym, ap, subst, arith, nat_eq, nat_lt, inl, inr}
-use Rattle.std.proofs.lemmas.Bool.{cases_Bool, eqb-true}
-use Rattle.std.proofs.lemmas.Grind.{common_steps}
-use Rattle.sap_lemmas.proofs.Bools.{or_other}
-use Rattle.sap_lemmas.proofs.Numbers.{test_of_same}
-use Rattle.std.proofs.lemmas.List.{get_or_past}
+use Rattle.sap_lemmas.proofs.Common.{◌≡◌, ℕ, suc, ◌<◌, ◌≤◌, ◌^◌, true, false, refl, sym, ap, subst, arith, nat_eq, nat_lt, inl, inr, cases_Bool, eqb-true, common_steps, or_other, test_of_same, get_or_past}
 use Rattle.sap_meaning.proofs.FineLemmas.{inside_among}
 use Rattle.sap_maps.specs.Term.{Term}
-use Rattle.sap_meaning.specs.Program.{World, Program, Entity, nothing, entity, kind_is_register, kind_is_memory, root, is_register, is_memory, is_dynamic, last, LevelTerm, fixed, of, at_place, both, Step, assign, write, retag, retag_cell, go_to, fall_to_child, Command, lone, try, if_else, try_then, case_of, Arms, last_arm, and_arm, Block, end_block, command_then, State, state_node, Group, no_node, and_node}
-use Rattle.sap_meaning.specs.Touches.{among}
-use Rattle.sap_meaning.specs.Fine.{FineStep, FineCommand, FineState, FineGroup, FineProgram, FineNode}
-use Rattle.sap_meaning.specs.Sized.{SizedTerm, SizedLevel, SizedStep, SizedState, SizedGroup, SizedProgram, SizedCommand}
+use Rattle.sap_meaning.specs.Prelude.{World, Program, Entity, nothing, entity, kind_is_register, kind_is_memory, root, is_register, is_memory, is_dynamic, last, LevelTerm, fixed, of, at_place, both, Step, assign, write, retag, retag_cell, go_to, fall_to_child, Command, lone, try, if_else, try_then, case_of, Arms, last_arm, and_arm, Block, end_block, command_then, State, state_node, Group, no_node, and_node, among, FineStep, FineCommand, FineState, FineGroup, FineProgram, FineNode, SizedTerm, SizedLevel, SizedStep, SizedState, SizedGroup, SizedProgram, SizedCommand, Every, EveryInArms, EveryInBlock}
 use Rattle.sap_resolved.specs.Sized.Ranges.{RangedTerm, RangedLevel, RangedStep, Ranged, RangedArms, RangedBlock, RangedState, RangedGroup, RangedProgram}
 use Rattle.sap_store.specs.Able.{AbleTerm, AbleLevel, AbleTarget, AbleStep, AbleCommand, AbleArms, AbleBlock, AbleState, AbleGroup}
-use Rattle.sap_meaning.specs.Walks.{Every, EveryInArms, EveryInBlock}
 
 module _ (w : World) where
   -- what is no entity is nothing

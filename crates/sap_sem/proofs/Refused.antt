@@ -1,13 +1,7 @@
 -- Marks tell what was refused.
-use Rattle.std.proofs.Common.{◌≡◌, ℕ, zero, suc, ◌+◌, ◌<◌, ◌≤◌, Bool, true, false, List, [], ◌∷◌, length, get_or, set, Option, Some, None, refl, sym, ap, ◌∙◌, arith, get_or-set_other, inl, inr, nat_eq, if◌then◌else◌}
-use Rattle.std.specs.Prelude.{slice_set, replicate}
-use Rattle.std.proofs.Math.ListN.{length-set}
-use Rattle.std.proofs.lemmas.Bool.{cases_Bool, eqb-true, eq-eqb, ne_eqb}
-use Rattle.std.proofs.lemmas.Grind.{get_or-set_at}
-use Rattle.std.proofs.lemmas.List.{length-replicate}
-use Rattle.sap_meaning.specs.Store.{Refusal}
+use Rattle.sap_lemmas.proofs.Common.{◌≡◌, ℕ, zero, suc, ◌+◌, ◌<◌, ◌≤◌, Bool, true, false, List, [], ◌∷◌, length, get_or, set, Option, Some, None, refl, sym, ap, ◌∙◌, arith, get_or-set_other, inl, inr, nat_eq, if◌then◌else◌, slice_set, replicate, length-set, cases_Bool, eqb-true, eq-eqb, ne_eqb, get_or-set_at, length-replicate}
+use Rattle.sap_meaning.specs.Prelude.{Refusal, refused_sites, numbers_from, Sublist}
 use Rattle.sap_run.specs.Runs.{marked}
-use Rattle.sap_meaning.specs.Sites.{refused_sites, numbers_from, Sublist}
 use Rattle.sap_sem.specs.Machine.{refusal_before, refusals_from, refusal_of}
 
 -- the first of two levels that is there
@@ -30,10 +24,6 @@ module _ (v : Option ℕ) where
 otherwise_thrice : (a b c : Option ℕ) → otherwise (otherwise a b) c ≡ otherwise a (otherwise b c)
 otherwise_thrice (Some a) b c = refl
 otherwise_thrice None b c = refl
-
-pub marked_length : (rs : List Refusal) (m : List (Option ℕ)) → length (marked rs m) ≡ length m
-marked_length [] m = refl
-marked_length (r ∷ rs) m = marked_length rs (slice_set m r.site (Some r.level)) ∙ length-set m r.site (Some r.level)
 
 marked_get : (rs : List Refusal) (m : List (Option ℕ)) (k : ℕ) → k < length m → get_or (marked rs m) k None ≡ otherwise (last_refusal rs k) (get_or m k None)
 marked_get [] m k h = refl

@@ -1,21 +1,16 @@
 -- The program of a checked design serves a machine.
-use Rattle.std.proofs.Common.{◌≡◌, ℕ, ◌<◌, ◌^◌, length, sym, ap, subst, ◌∙◌, arith}
-use Rattle.std.specs.Prelude.{IsTrue}
+use Rattle.sap_lemmas.proofs.Common.{◌≡◌, ℕ, ◌<◌, ◌^◌, length, sym, ap, subst, ◌∙◌, arith, IsTrue}
 use Rattle.sap_tree.proofs.SyntaxLemmas.{tree_of_whole}
-use Rattle.sap_tree.specs.Syntax.{DesignTree}
-use Rattle.sap_tree.specs.Whole.{is_whole}
-use Rattle.sap_lattice.specs.Order.{Laws}
-use Rattle.sap_lattice.specs.Levels.{Levels, order_of}
+use Rattle.sap_tree.specs.Prelude.{DesignTree, is_whole}
+use Rattle.sap_lattice.specs.Prelude.{Laws, Levels, order_of}
 use Rattle.sap_names.specs.Entities.{entities_of}
 use Rattle.sap_shape.specs.WellFormed.{WellFormed}
-use Rattle.sap_meaning.specs.Program.{Program, entity, root, width}
+use Rattle.sap_meaning.specs.Prelude.{Program, entity, root, width, FineProgram, ExactProgram, program_sites, numbers_from}
 use Rattle.sap_resolved.specs.Premises.Premises.{ProgramsAreFine}
 use Rattle.sap_resolved.specs.Fill.{program_of}
 use Rattle.sap_resolved.proofs.Lookup.{entities_length}
 use Rattle.sap_resolved.specs.Sized.Sound.{SizesFit, WidthsInRange}
 use Rattle.sap_check.specs.Sites.{sites_of}
-use Rattle.sap_meaning.specs.Fine.{FineProgram, ExactProgram}
-use Rattle.sap_meaning.specs.Sites.{program_sites, numbers_from}
 use Rattle.sap_shape.specs.Sites.{check_sites}
 use Rattle.sap_program.specs.Design.{IsProgramOf}
 use Rattle.sap_program.specs.declared.program.Program as code

@@ -1,8 +1,5 @@
 -- Wires whose bytes differ, differ.
-use Rattle.std.proofs.Common.{◌≡◌, ℕ, List, [], ◌∷◌, ◌++◌, Some, None, true, false, sym, ap₂, subst, inl, inr}
-use Rattle.std.specs.Str.{bytes_eq}
-use Rattle.std.proofs.lemmas.Bool.{cases_Bool}
-use Rattle.sap_lemmas.proofs.Texts.{bytes_eq_same}
+use Rattle.sap_lemmas.proofs.Common.{◌≡◌, ℕ, List, [], ◌∷◌, ◌++◌, Some, None, true, false, sym, ap₂, subst, inl, inr, bytes_eq, cases_Bool, bytes_eq_same}
 use Rattle.sap_maps.specs.Scope.{find}
 use Rattle.sap_maps.proofs.Scopes.{not_behind}
 use Rattle.sap_net.specs.declared.parts.Right.{Right}

@@ -1,9 +1,5 @@
 -- Marks for the first bytes of names.
-use Rattle.std.proofs.Common.{◌≡◌, ℕ, zero, suc, ◌<◌, List, [], ◌∷◌, Bool, true, false, length, sym, ◌∙◌, subst, refl, arith, inl, inr}
-use Rattle.std.specs.Prelude.{slice_set}
-use Rattle.std.specs.Str.{bytes_eq}
-use Rattle.std.proofs.lemmas.Bool.{cases_Bool}
-use Rattle.sap_lemmas.proofs.Texts.{equal_of_bytes_eq}
+use Rattle.sap_lemmas.proofs.Common.{◌≡◌, ℕ, zero, suc, List, [], ◌∷◌, Bool, true, false, sym, ◌∙◌, subst, refl, inl, inr, slice_set, bytes_eq, cases_Bool, equal_of_bytes_eq, ◌<◌, length, arith}
 use Rattle.sap_maps.specs.Maps.{Name}
 use Rattle.sap_share.specs.Fronts.{AreMarked, front, is_marked}
 use Rattle.sap_share.specs.Sets.{AreSame, holds}
@@ -21,9 +17,6 @@ pub mark_set : (marks : List Bool) (k : ℕ) → k < length marks → is_marked 
 mark_set [] k l = absurd (omega (arith, l))
 mark_set (b ∷ bs) zero l = refl
 mark_set (b ∷ bs) (suc k) l = mark_set bs k (omega (arith, l))
-
-pub marks_kept : (marks : List Bool) (names : List Name) (j : ℕ) → AreMarked marks names → AreMarked (slice_set marks j true) names
-marks_kept marks names j h n t = mark_kept marks j (front n) (h n t)
 
 pub one_more : (marks after : List Bool) (x : Name) (old new : List Name) → after ≡ slice_set marks (front x) true → is_marked after (front x) ≡ true
     → AreSame new (x ∷ old) → AreMarked marks old → AreMarked after new

@@ -1,11 +1,8 @@
 -- Places, as one more name is added.
-use Rattle.std.proofs.Common.{◌≡◌, ℕ, List, [], ◌∷◌, ◌++◌, Option, Some, None, true, false, length, is_some, ◌∙◌, refl}
-use Rattle.std.specs.Str.{bytes_eq}
+use Rattle.sap_lemmas.proofs.Common.{◌≡◌, ℕ, List, [], ◌∷◌, ◌++◌, Option, Some, None, true, false, length, is_some, ◌∙◌, refl, bytes_eq, keys_of}
 use Rattle.std.specs.HashMap as hash
-use Rattle.std.specs.Map.{keys_of}
 use Rattle.sap_maps.specs.Maps.{Name}
-use Rattle.sap_net.specs.Names.{is_among}
-use Rattle.sap_net.specs.NameMaps.{AtPlaces, place_in}
+use Rattle.sap_net.specs.Prelude.{is_among, AtPlaces, place_in}
 use Rattle.sap_net.proofs.Places.{is_there, placed}
 use Rattle.sap_share.specs.NameTables.{NameTable, of_name}
 use Rattle.sap_share.proofs.Lookups.{named_push, names_long}

@@ -1,11 +1,8 @@
 -- Sets of names, by the keys that they hold.
-use Rattle.std.proofs.Common.{◌∷◌, true, sym, ◌∙◌, refl, inl, inr}
-use Rattle.std.specs.Str.{bytes_eq}
-use Rattle.std.specs.HashSet as bag
+use Rattle.sap_lemmas.proofs.Common.{◌∷◌, true, sym, ◌∙◌, refl, inl, inr, bytes_eq, cases_Bool, bytes_eq_symmetric}
 use Rattle.std.specs.declared.hash.FoldHasher.{FoldHasher}
 use Rattle.std.specs.declared.hash.BuildHasherDefault.{BuildHasherDefault}
-use Rattle.std.proofs.lemmas.Bool.{cases_Bool}
-use Rattle.sap_lemmas.proofs.Texts.{bytes_eq_symmetric}
+use Rattle.std.specs.HashSet as bag
 use Rattle.sap_maps.specs.Maps.{Name}
 use Rattle.sap_share.specs.Sets.{AreSame}
 

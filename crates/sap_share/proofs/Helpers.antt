@@ -1,10 +1,5 @@
 -- The names of helping wires.
-use Rattle.std.proofs.Common.{◌≡◌, ℕ, ◌^◌, ◌<◌, true, false, arith, inl, inr}
-use Rattle.std.specs.Fmt.{decimal}
-use Rattle.std.specs.Str.{bytes_eq}
-use Rattle.std.proofs.lemmas.Fmt.{decimal_is_IsNumeral, decimal_injective}
-use Rattle.std.proofs.lemmas.Bool.{cases_Bool}
-use Rattle.sap_lemmas.proofs.Texts.{equal_of_bytes_eq}
+use Rattle.sap_lemmas.proofs.Common.{◌≡◌, ℕ, ◌^◌, ◌<◌, true, false, arith, inl, inr, decimal, bytes_eq, decimal_is_IsNumeral, decimal_injective, cases_Bool, equal_of_bytes_eq}
 use Rattle.sap_text.proofs.NamesLemmas.{numeral_inner}
 use Rattle.sap_net.proofs.NamesLemmas.{wire_name}
 use Rattle.sap_net.specs.Names.{is_name}

@@ -1,22 +1,9 @@
 -- What stands at the place of a name.
-use Rattle.std.proofs.Common.{◌≡◌, ℕ, zero, suc, ◌<◌, List, [], ◌∷◌, ◌++◌, Option, Some, None, true, false, is_some, map, length, take, get_or, sym, ap, subst, refl, inl, inr, arith}
-use Rattle.std.specs.Prelude.{slice_set, if◌then◌else◌}
-use Rattle.std.specs.Str.{bytes_eq}
-use Rattle.std.proofs.lemmas.Bool.{cases_Bool}
-use Rattle.std.specs.Map.{keys_of}
-use Rattle.std.specs.Option.{option_map}
-use Rattle.sap_lemmas.proofs.Texts.{bytes_eq_apart_back, equal_of_bytes_eq}
+use Rattle.sap_lemmas.proofs.Common.{◌≡◌, ℕ, zero, suc, ◌<◌, List, [], ◌∷◌, ◌++◌, Option, Some, None, true, false, is_some, map, length, get_or, sym, ap, subst, refl, inl, inr, arith, slice_set, if◌then◌else◌, bytes_eq, cases_Bool, keys_of, option_map, bytes_eq_apart_back, equal_of_bytes_eq}
 use Rattle.sap_net.proofs.Places.{none_further}
-use Rattle.sap_maps.specs.Maps.{Name}
-use Rattle.sap_maps.specs.Scope.{find}
+use Rattle.sap_maps.specs.Prelude.{Name, find}
 use Rattle.sap_net.specs.NameMaps.{Puts, place_in}
 use Rattle.sap_share.specs.Tables.{replaced}
-
-pub named_take : {X : Type 0} (es : List (Name × X)) (k : ℕ) → keys_of (take k es) ≡ take k (keys_of es)
-named_take [] zero = refl
-named_take [] (suc k) = refl
-named_take (e ∷ es) zero = refl
-named_take (e ∷ es) (suc k) = ap (λ ns. e.0 ∷ ns) (named_take es k)
 
 pub named_push : {X : Type 0} (es : List (Name × X)) (e : Name × X) → keys_of (es ++ e ∷ []) ≡ keys_of es ++ e.0 ∷ []
 named_push [] e = refl

@@ -1,11 +1,6 @@
 -- The places of names on a list, and a look-up of them as one more name is added.
-use Rattle.std.proofs.Common.{◌≡◌, ℕ, zero, suc, List, [], ◌∷◌, ◌++◌, Option, Some, None, false, length, sym, ap, ◌∙◌, subst, refl, inl, inr}
-use Rattle.std.specs.Prelude.{if◌then◌else◌}
-use Rattle.std.specs.Str.{bytes_eq}
+use Rattle.sap_lemmas.proofs.Common.{◌≡◌, ℕ, zero, suc, List, [], ◌∷◌, ◌++◌, Option, Some, None, false, length, sym, ap, ◌∙◌, subst, refl, inl, inr, if◌then◌else◌, bytes_eq, option_map, cases_Bool, bytes_eq_same, equal_of_bytes_eq}
 use Rattle.std.specs.HashMap as hash
-use Rattle.std.specs.Option.{option_map}
-use Rattle.std.proofs.lemmas.Bool.{cases_Bool}
-use Rattle.sap_lemmas.proofs.Texts.{bytes_eq_same, equal_of_bytes_eq}
 use Rattle.sap_maps.specs.Maps.{Name}
 use Rattle.sap_net.specs.NameMaps.{AtPlaces, Puts, place_in}
 use Rattle.sap_net.proofs.Places.{none_further}

@@ -1,11 +1,6 @@
 -- A map from right sides to the numbers in the names of their wires, as one more wire is added.
-use Rattle.std.proofs.Common.{◌≡◌, ℕ, List, [], ◌∷◌, ◌++◌, Some, None, false, sym, ap, ◌∙◌, subst, refl, inl, inr}
-use Rattle.std.specs.Prelude.{if◌then◌else◌}
-use Rattle.std.specs.Str.{bytes_eq}
+use Rattle.sap_lemmas.proofs.Common.{◌≡◌, ℕ, List, [], ◌∷◌, ◌++◌, Some, None, false, sym, ap, ◌∙◌, subst, refl, inl, inr, if◌then◌else◌, bytes_eq, option_map, cases_Bool, bytes_eq_same, equal_of_bytes_eq}
 use Rattle.std.specs.HashMap as hash
-use Rattle.std.specs.Option.{option_map}
-use Rattle.std.proofs.lemmas.Bool.{cases_Bool}
-use Rattle.sap_lemmas.proofs.Texts.{bytes_eq_same, equal_of_bytes_eq}
 use Rattle.sap_maps.specs.Scope.{find}
 use Rattle.sap_maps.proofs.Scopes.{not_behind}
 use Rattle.sap_net.specs.declared.parts.Wire.{Wire}

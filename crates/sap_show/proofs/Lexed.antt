@@ -1,20 +1,9 @@
 -- Each piece is taken as the token that it stands for.
-use Rattle.std.proofs.Common.{◌≡◌, ◌<◌, ◌+◌, ◌^◌, ℕ, suc, List, [], ◌∷◌, ◌++◌, length, take, drop, Bool, true, false, cond, refl, sym, ap, ◌∙◌, arith, Option, Some, None, length-append, append_assoc}
-use Rattle.std.proofs.lemmas.Bool.Decides.{nat_tests}
-use Rattle.std.proofs.lemmas.Grind.{common_steps}
-use Rattle.std.proofs.lemmas.List.Folds.{list_any-append}
-use Rattle.std.proofs.lemmas.Fmt.{decimal_digit, digits_decimal, digits_value-decimal, decimal_nonempty}
-use Rattle.std.specs.Char.{is_ascii_digit}
-use Rattle.std.specs.List.{prefix_len, list_all, list_any}
-use Rattle.std.specs.Prelude.{slice_index, ◌||◌, ◌&&◌, ◌==◌, nat_lt, nat_le, not, decimal, map}
-use Rattle.std.specs.Str.{bytes_eq}
-use Rattle.std.specs.Str.Parse.{digits_value}
+use Rattle.sap_lemmas.proofs.Common.{◌≡◌, ◌<◌, ◌+◌, ◌^◌, ℕ, suc, List, [], ◌∷◌, ◌++◌, length, take, drop, Bool, true, false, cond, refl, sym, ap, ◌∙◌, arith, Some, None, length-append, append_assoc, nat_tests, common_steps, list_any-append, decimal_digit, digits_decimal, digits_value-decimal, decimal_nonempty, is_ascii_digit, prefix_len, list_all, list_any, slice_index, ◌||◌, ◌&&◌, ◌==◌, nat_lt, nat_le, not, decimal, map, bytes_eq, digits_value, take_front, test_of_positive, digits_model, and_from, and_parts, not-true, or_parts}
 use Rattle.sap_lemmas.proofs.Bools.{fourth_case, third_case}
 use Rattle.sap_lemmas.proofs.Everywhere.{none_found, prefix_run}
-use Rattle.sap_lemmas.proofs.Lists.{quoted_length, take_front}
-use Rattle.sap_lemmas.proofs.Numbers.{test_of_positive}
-use Rattle.sap_lemmas.proofs.Texts.{digits_model}
-use Rattle.std.proofs.lemmas.Bool.{and_from, and_left, and_parts, not-true, or_parts}
+use Rattle.sap_lemmas.proofs.Lists.{quoted_length}
+use Rattle.std.proofs.lemmas.Bool.{and_left}
 use Rattle.sap_text.proofs.NamesLemmas.{initial_inner}
 use Rattle.sap_lex.specs.Lexing.{kind_by, later_kind}
 use Rattle.sap_lex.specs.Lexemes.{clings, word_or_name, name_at, number_lexeme, sized_lexeme, sized_in, sized_at, number_at, sign_or, sign_at, lexeme_of}
@@ -28,14 +17,12 @@ use Rattle.sap_lex.specs.declared.token.Kind.{Kind}
 use Rattle.sap_lex.specs.declared.token.Sign.TheVariants as s
 use Rattle.sap_lex.specs.declared.token.Sign.{Sign}
 use Rattle.sap_tree.specs.declared.word.Word.TheVariants as w
+use Rattle.sap_tree.specs.Prelude.{most_name_bytes, is_number, first_words, is_initial, is_inner, is_keyword, is_name, is_word, keywords, later_words, word_text}
 use Rattle.sap_tree.specs.declared.word.Word.{Word}
+use Rattle.sap_tree.specs.declared.version.Version.{Version}
 use Rattle.sap_show.proofs.Pieces.{Piece, space, line, token, bytes_of, kind_bytes}
 use Rattle.sap_show.proofs.Spaced.{ends_run, ends_sign, follows, is_spelled, apart}
-use Rattle.sap_tree.specs.Limits.{most_name_bytes}
-use Rattle.sap_tree.specs.Whole.{is_number}
-use Rattle.sap_tree.specs.Words.{first_words, is_initial, is_inner, is_keyword, is_name, is_word, keywords, later_words, word_text}
 use Rattle.sap_tree.specs.declared.version.Version.TheVariants as v
-use Rattle.sap_tree.specs.declared.version.Version.{Version}
 
 -- runs and parts of lists
 
@@ -87,11 +74,6 @@ word_at x rest start all is stop =
     let b = slice_index (word_text x) 0 in
     let bs = drop 1 (word_text x) in
     name_taken b bs rest start all (stops_run (slice_index rest 0) stop).inner ∙ ap (λ o. word_or_name o (b ∷ bs) (length (b ∷ bs))) is
-
--- one test that failed, and the others
-found_step : {X : Type 0} (b : Bool) (y : X) (any : Bool) (found : Option X) → (b || any) ≡ false → (any ≡ false → found ≡ None) → cond b (Some y) found ≡ None
-found_step true y any found h ih = absurd (cc)
-found_step false y any found h ih = ih h
 
 no_word : (n : List ℕ) → is_keyword v.One n ≡ false → word_of n ≡ None
 no_word n h = none_found (λ word. bytes_eq n (word_text word)) first_words h

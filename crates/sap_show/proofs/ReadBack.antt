@@ -1,24 +1,16 @@
 -- Where the pieces of a tree stand, the grammar reads that tree, places aside.
-use Rattle.std.proofs.Common.{◌≡◌, ◌≤◌, ◌<◌, ◌+◌, ◌-◌, ℕ, zero, suc, List, [], ◌∷◌, Bool, true, false, refl, ap, ◌∙◌, arith, subst}
-use Rattle.std.proofs.lemmas.Bool.Decides.{nat_tests}
-use Rattle.std.specs.Prelude.{nat_lt, ◌&&◌}
-use Rattle.std.proofs.lemmas.Bool.{and_parts}
+use Rattle.sap_lemmas.proofs.Common.{◌≡◌, ◌≤◌, ◌<◌, ◌+◌, ◌-◌, ℕ, zero, suc, List, [], ◌∷◌, Bool, true, false, refl, ap, ◌∙◌, arith, subst, nat_tests, nat_lt, ◌&&◌, and_parts}
 use Rattle.sap_parse.specs.Grammar as g
 use Rattle.sap_parse.specs.Grammar.{sign_of}
 use Rattle.sap_parse.specs.Stages.{Stage, IsToken, IsSign, here, spot_here}
 use Rattle.sap_parse.specs.declared.role.Role.TheVariants as r
 use Rattle.sap_lex.specs.declared.token.Sign.TheVariants as s
 use Rattle.sap_show.proofs.Pieces.{Piece, space, line, token, sign, wrapped, bounds, expression, parts, more_parts}
-use Rattle.sap_tree.specs.Bare.{bare_expression, bare_expressions, no_spot}
-use Rattle.sap_tree.specs.Precedence.{precedence, unary_precedence, slice_precedence, primary_precedence, precedence_of}
-use Rattle.sap_tree.specs.Spots.{first_of, enclosed}
-use Rattle.sap_tree.specs.Syntax.{Expression, Expressions, literal, sized_literal, variable, cell_at, unary_of, binary_of, choice, slice, concat, zero_extend, no_part, and_part}
-use Rattle.sap_tree.specs.Whole.{is_expression, are_expressions, has_two_parts, is_number}
-use Rattle.sap_tree.specs.Words.{is_name}
-use Rattle.sap_text.specs.declared.place.Place.{Place}
-use Rattle.sap_tree.specs.declared.syntax.BinaryOperator.TheVariants as b
+use Rattle.sap_tree.specs.Prelude.{bare_expression, bare_expressions, no_spot, precedence, unary_precedence, slice_precedence, primary_precedence, precedence_of, first_of, enclosed, Expression, Expressions, literal, sized_literal, variable, cell_at, unary_of, binary_of, choice, slice, concat, zero_extend, no_part, and_part, is_expression, are_expressions, has_two_parts, is_number, is_name}
 use Rattle.sap_tree.specs.declared.syntax.BinaryOperator.{BinaryOperator}
 use Rattle.sap_tree.specs.declared.version.Version.{Version}
+use Rattle.sap_text.specs.declared.place.Place.{Place}
+use Rattle.sap_tree.specs.declared.syntax.BinaryOperator.TheVariants as b
 
 -- at p stand the tokens of these pieces, and q comes behind them
 abbrev pub Stand : List Piece → Stage → Stage → Type 0

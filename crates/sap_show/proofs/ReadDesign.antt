@@ -1,8 +1,5 @@
 -- Where the pieces of a tag expression, a command, a state or a design stand, the grammar reads it, places aside.
-use Rattle.std.proofs.Common.{◌≡◌, ◌+◌, ℕ, zero, suc, List, [], ◌∷◌, true, false, refl, ap, ◌∙◌, subst, Option, Some, None}
-use Rattle.std.specs.Prelude.{nat_le, ◌&&◌, map}
-use Rattle.std.specs.List.{list_all}
-use Rattle.std.proofs.lemmas.Bool.{and_parts}
+use Rattle.sap_lemmas.proofs.Common.{◌≡◌, ◌+◌, ℕ, zero, suc, List, [], ◌∷◌, true, false, refl, ap, ◌∙◌, subst, Option, Some, None, nat_le, ◌&&◌, map, list_all, and_parts}
 use Rattle.sap_tree.proofs.SyntaxLemmas.{expression_of_outermost, tag_of_outermost}
 use Rattle.sap_parse.specs.Grammar as g
 use Rattle.sap_parse.specs.Stages.{Stage, IsSign, here, spot_here, mention, numeral}
@@ -11,19 +8,16 @@ use Rattle.sap_lex.specs.declared.token.Sign.TheVariants as s
 use Rattle.sap_tree.specs.declared.word.Word.TheVariants as w
 use Rattle.sap_show.proofs.Pieces.{Piece, space, line, sign, word, name, expression, tag, tags, more_tags, constant, more_constants, constants, simple, margin, command, arms, block, else_part, commands, authority, kind, start, declaration, declarations, state, states, header, design}
 use Rattle.sap_show.proofs.ReadBack.{Stand, expression_reads, as_expression}
-use Rattle.sap_tree.specs.Bare.{nowhere, bare_name, bare_number, bare_expression, bare_expressions, bare_tag, bare_tags, bare_simple, bare_command, bare_block, bare_else, bare_arms, bare_list, bare_authority, bare_kind, bare_start, bare_declaration, bare_state, bare_states, bare}
-use Rattle.sap_tree.specs.Limits.{most_arms, most_blocks}
-use Rattle.sap_tree.specs.Syntax.{Expression, literal, sized_literal, variable, cell_at, unary_of, binary_of, choice, slice, concat, zero_extend, Expressions, no_part, and_part, TagExpression, TagExpressions, level_of, tag_at, level_at, join_of, no_tag, and_tag, SimpleCommand, assign, write, set_tag, set_cell_tag, go_to, fall_to_child, Command, lone, try, if_else, try_then, case_of, Arms, last_arm, and_arm, CommandBlock, command_block, ElseBlock, no_else, with_else, CommandList, no_command, and_command, StateTree, state_node, StateList, no_state, and_state, DesignTree}
-use Rattle.sap_tree.specs.Whole.{is_tag, are_tags, has_two_tags, is_outermost, is_outermost_tag, is_simple, is_command, is_block, is_else, is_constant, are_constants, has_constant, arm_count, are_arms, are_commands, is_kind, is_state, are_states, has_state, block_depth, is_tree, is_declaration}
-use Rattle.sap_tree.specs.Words.{is_name, is_second}
-use Rattle.sap_tree.specs.declared.syntax.Decl.TheVariants as d
+use Rattle.sap_tree.specs.Prelude.{nowhere, bare_expression, bare_expressions, bare_tag, bare_tags, bare_simple, bare_command, bare_block, bare_else, bare_arms, bare_list, bare_authority, bare_kind, bare_start, bare_declaration, bare_state, bare_states, bare, most_arms, most_blocks, Expression, literal, sized_literal, variable, cell_at, unary_of, binary_of, choice, slice, concat, zero_extend, Expressions, no_part, and_part, TagExpression, TagExpressions, level_of, tag_at, level_at, join_of, no_tag, and_tag, SimpleCommand, assign, write, set_tag, set_cell_tag, go_to, fall_to_child, Command, lone, try, if_else, try_then, case_of, Arms, last_arm, and_arm, CommandBlock, command_block, ElseBlock, no_else, with_else, CommandList, no_command, and_command, StateTree, state_node, StateList, no_state, and_state, DesignTree, is_tag, are_tags, has_two_tags, is_outermost, is_outermost_tag, is_simple, is_command, is_block, is_else, is_constant, are_constants, has_constant, arm_count, are_arms, are_commands, is_kind, is_state, are_states, has_state, block_depth, is_tree, is_declaration, is_name, is_second}
 use Rattle.sap_tree.specs.declared.syntax.Decl.{Decl}
-use Rattle.sap_tree.specs.declared.syntax.Kind.TheVariants as how
 use Rattle.sap_tree.specs.declared.syntax.Kind.{Kind as KindTree}
 use Rattle.sap_tree.specs.declared.syntax.Numeral.{Numeral}
 use Rattle.sap_tree.specs.declared.syntax.Under.{Under}
 use Rattle.sap_tree.specs.declared.version.Version.TheVariants.{One, Two}
 use Rattle.sap_tree.specs.declared.version.Version.{Version}
+use Rattle.sap_tree.specs.Bare.{bare_name, bare_number}
+use Rattle.sap_tree.specs.declared.syntax.Decl.TheVariants as d
+use Rattle.sap_tree.specs.declared.syntax.Kind.TheVariants as how
 
 -- the same, for each kind of tree
 

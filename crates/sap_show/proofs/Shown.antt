@@ -1,9 +1,5 @@
 -- The canonical text of a whole design is read as that design, places aside.
-use Rattle.std.proofs.Common.{◌≡◌, ◌+◌, ℕ, List, [], ◌∷◌, ◌++◌, length, drop, true, refl, sym, ap, ◌∙◌, arith, subst, Option, None, append_assoc, length-append}
-use Rattle.std.proofs.lemmas.Grind.{common_steps}
-use Rattle.std.specs.Prelude.{◌&&◌, map}
-use Rattle.std.proofs.lemmas.Bool.{and_parts}
-use Rattle.std.proofs.lemmas.List.{append-nil}
+use Rattle.sap_lemmas.proofs.Common.{◌≡◌, ◌+◌, ℕ, List, [], ◌∷◌, ◌++◌, length, drop, true, refl, sym, ap, ◌∙◌, arith, subst, Option, None, append_assoc, length-append, common_steps, ◌&&◌, map, and_parts, append-nil}
 use Rattle.sap_walk.specs.Reached as walk
 use Rattle.sap_walk.specs.Limits.{Past, passed, first_of}
 use Rattle.sap_lex.specs.Lexemes.{lexeme_of}
@@ -31,13 +27,11 @@ use Rattle.sap_show.proofs.Within.{Within, after, tally_is}
 use Rattle.sap_show.proofs.WithinDesign.{design_within}
 use Rattle.sap_show.specs.Canonical.{canonical_text}
 use Rattle.sap_show.specs.Reading.{ReadsAs, IsTextOfSame, ShownAgain}
-use Rattle.sap_tree.specs.Syntax.{state_node, StateList, no_state, and_state, DesignTree}
-use Rattle.sap_tree.specs.Whole.{is_whole, is_tree, is_within_limits}
-use Rattle.sap_tree.specs.Words.{word_text}
-use Rattle.sap_tree.specs.declared.syntax.Decl.TheVariants as d
+use Rattle.sap_tree.specs.Prelude.{state_node, StateList, no_state, and_state, DesignTree, is_whole, is_tree, is_within_limits, word_text}
 use Rattle.sap_tree.specs.declared.syntax.Decl.{Decl}
-use Rattle.sap_tree.specs.declared.version.Version.TheVariants as version_is
 use Rattle.sap_tree.specs.declared.version.Version.{Version}
+use Rattle.sap_tree.specs.declared.syntax.Decl.TheVariants as d
+use Rattle.sap_tree.specs.declared.version.Version.TheVariants as version_is
 use Rattle.sap_tree.specs.declared.word.Word.TheVariants as w
 
 abbrev pub token_at : List ℕ → ℕ → Kind → Token

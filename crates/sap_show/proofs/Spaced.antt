@@ -1,8 +1,5 @@
 -- No piece of a canonical text runs into the next, and each is spelled as its token.
-use Rattle.std.proofs.Common.{◌≡◌, ◌+◌, ℕ, zero, suc, List, [], ◌∷◌, Bool, true, false, refl, ap, ◌∙◌, Option, Some, None}
-use Rattle.std.specs.Prelude.{nat_lt, nat_le, ◌&&◌}
-use Rattle.std.specs.List.{list_all}
-use Rattle.std.proofs.lemmas.Bool.{and_parts}
+use Rattle.sap_lemmas.proofs.Common.{◌≡◌, ◌+◌, ℕ, zero, suc, List, [], ◌∷◌, Bool, true, false, refl, ap, ◌∙◌, Option, Some, None, nat_lt, nat_le, ◌&&◌, list_all, and_parts}
 use Rattle.sap_tree.proofs.SyntaxLemmas.{expression_of_outermost, tag_of_outermost}
 use Rattle.sap_parse.specs.Grammar.{sign_of, unary_sign_of}
 use Rattle.sap_parse.specs.declared.role.Role.TheVariants as r
@@ -11,24 +8,20 @@ use Rattle.sap_lex.specs.declared.token.Kind.TheVariants as k
 use Rattle.sap_lex.specs.declared.token.Kind.{Kind}
 use Rattle.sap_lex.specs.declared.token.Sign.TheVariants as s
 use Rattle.sap_tree.specs.declared.word.Word.TheVariants as w
+use Rattle.sap_tree.specs.Prelude.{most_arms, most_blocks, precedence, unary_precedence, slice_precedence, precedence_of, Expression, Expressions, literal, sized_literal, variable, cell_at, unary_of, binary_of, choice, slice, concat, zero_extend, no_part, and_part, TagExpression, TagExpressions, level_of, tag_at, level_at, join_of, no_tag, and_tag, SimpleCommand, assign, write, set_tag, set_cell_tag, go_to, fall_to_child, Command, lone, try, if_else, try_then, case_of, Arms, last_arm, and_arm, CommandBlock, command_block, ElseBlock, no_else, with_else, CommandList, no_command, and_command, StateTree, state_node, StateList, no_state, and_state, DesignTree, is_expression, are_expressions, has_two_parts, is_number, is_tag, are_tags, has_two_tags, is_outermost, is_outermost_tag, is_simple, is_command, is_block, is_else, is_constant, are_constants, has_constant, has_arm, arm_count, are_arms, are_commands, is_kind, is_authority, is_start, is_state, are_states, has_state, block_depth, is_tree, is_declaration, is_name, is_second}
 use Rattle.sap_tree.specs.declared.word.Word.{Word}
-use Rattle.sap_show.proofs.Pieces.{Piece, space, line, token, sign, word, name, number, wrapped, bounds, expression, parts, more_parts, tag, tags, more_tags, constant, more_constants, constants, cell, simple, margin, command, arms, block, else_part, commands, authority, kind, start, declared, declaration, declarations, state, states, parts_of}
-use Rattle.sap_tree.specs.Limits.{most_arms, most_blocks}
-use Rattle.sap_tree.specs.Precedence.{precedence, unary_precedence, slice_precedence, precedence_of}
-use Rattle.sap_tree.specs.Syntax.{Expression, Expressions, literal, sized_literal, variable, cell_at, unary_of, binary_of, choice, slice, concat, zero_extend, no_part, and_part, TagExpression, TagExpressions, level_of, tag_at, level_at, join_of, no_tag, and_tag, SimpleCommand, assign, write, set_tag, set_cell_tag, go_to, fall_to_child, Command, lone, try, if_else, try_then, case_of, Arms, last_arm, and_arm, CommandBlock, command_block, ElseBlock, no_else, with_else, CommandList, no_command, and_command, StateTree, state_node, StateList, no_state, and_state, DesignTree}
-use Rattle.sap_tree.specs.Whole.{is_expression, are_expressions, has_two_parts, is_number, is_tag, are_tags, has_two_tags, is_outermost, is_outermost_tag, is_simple, is_command, is_block, is_else, is_constant, are_constants, has_constant, has_arm, arm_count, are_arms, are_commands, is_kind, is_authority, is_start, is_state, are_states, has_state, block_depth, is_tree, is_declaration}
-use Rattle.sap_tree.specs.Words.{is_name, is_second}
-use Rattle.sap_tree.specs.declared.syntax.BinaryOperator.TheVariants as b
 use Rattle.sap_tree.specs.declared.syntax.BinaryOperator.{BinaryOperator}
-use Rattle.sap_tree.specs.declared.syntax.Decl.TheVariants as d
 use Rattle.sap_tree.specs.declared.syntax.Decl.{Decl}
-use Rattle.sap_tree.specs.declared.syntax.Kind.TheVariants as how
 use Rattle.sap_tree.specs.declared.syntax.Kind.{Kind as KindTree}
 use Rattle.sap_tree.specs.declared.syntax.Numeral.{Numeral}
-use Rattle.sap_tree.specs.declared.syntax.UnaryOperator.TheVariants as u
 use Rattle.sap_tree.specs.declared.syntax.UnaryOperator.{UnaryOperator}
 use Rattle.sap_tree.specs.declared.syntax.Under.{Under}
 use Rattle.sap_tree.specs.declared.version.Version.{Version}
+use Rattle.sap_show.proofs.Pieces.{Piece, space, line, token, sign, word, name, number, wrapped, bounds, expression, parts, more_parts, tag, tags, more_tags, constant, more_constants, constants, cell, simple, margin, command, arms, block, else_part, commands, authority, kind, start, declared, declaration, declarations, state, states, parts_of}
+use Rattle.sap_tree.specs.declared.syntax.BinaryOperator.TheVariants as b
+use Rattle.sap_tree.specs.declared.syntax.Decl.TheVariants as d
+use Rattle.sap_tree.specs.declared.syntax.Kind.TheVariants as how
+use Rattle.sap_tree.specs.declared.syntax.UnaryOperator.TheVariants as u
 
 -- what stands next ends a word, a name or a number
 abbrev pub ends_run : List Piece → Bool
@@ -87,11 +80,6 @@ a_name version role n h rest e a = three (is_name version n) (ends_run rest) (ap
 
 a_number : (version : Version) (role : Role) (n : ℕ) → is_number n ≡ true → Apart version (λ rest. number role n ∷ rest)
 a_number version role n h rest e a = three (is_number n) (ends_run rest) (apart version rest) h e a
-
--- `:` and a number
-behind_colon : (version : Version) (role : Role) (n : ℕ) (rest : List Piece) → apart version (number role n ∷ rest) ≡ true
-    → apart version (sign role s.Colon ∷ number role n ∷ rest) ≡ true
-behind_colon version role n rest h = h
 
 unary_apart : (version : Version) (o : UnaryOperator) (rest : List Piece) → apart version rest ≡ true → apart version (sign r.Inner (unary_sign_of o) ∷ rest) ≡ true
 unary_apart version u.Not rest h = h
@@ -264,10 +252,6 @@ constants_apart version (and_part x xs) h rest e a =
 margin_apart : (version : Version) (level : ℕ) (rest : List Piece) → apart version rest ≡ true → apart version (margin level rest) ≡ true
 margin_apart version zero rest a = a
 margin_apart version (suc level) rest a = margin_apart version level rest a
-
-else_ends : (x : ElseBlock) (level depth : ℕ) (rest : List Piece) → ends_run rest ≡ true → ends_run (else_part x level depth rest) ≡ true
-else_ends no_else level depth rest e = e
-else_ends (with_else x) level depth rest e = refl
 
 mutual
   unfolding is_command

@@ -1,19 +1,11 @@
 -- The text of each construct, from left to right.
-use Rattle.std.proofs.Common.{◌≡◌, ℕ, zero, suc, ◌+◌, ◌-◌, ◌<◌, ◌≤◌, List, [], ◌∷◌, ◌++◌, length, get_or, drop, take, refl, sym, ap, ◌∙◌, arith, add-one, append_assoc, Some, None, true, false, cond}
-use Rattle.std.proofs.lemmas.Bool.Decides.{nat_tests}
-use Rattle.std.specs.Prelude.{codes, decimal, nat_lt, flat_map}
-use Rattle.sap_lemmas.proofs.Lists.{after_part, take_rest_of}
-use Rattle.std.proofs.lemmas.List.{append-nil}
+use Rattle.sap_lemmas.proofs.Common.{◌≡◌, ℕ, zero, suc, ◌+◌, ◌-◌, ◌<◌, ◌≤◌, List, [], ◌∷◌, ◌++◌, length, get_or, drop, take, refl, sym, ap, ◌∙◌, arith, add-one, append_assoc, Some, None, true, false, cond, nat_tests, codes, decimal, nat_lt, flat_map, after_part, append-nil}
+use Rattle.sap_lemmas.proofs.Lists.{take_rest_of}
 use Rattle.sap_show.specs.Canonical.{unary_text, binary_text, operand_text, bounds_text, expression_text, parts_text, more_parts_text, tag_text, tags_text, more_tags_text, cell_text, simple_text, command_text, arms_text, block_text, else_text, declaration_text, head_text, state_text, version_text, canonical_text}
 use Rattle.sap_show.specs.Lists.{list_arms_text, list_text, group_text}
-use Rattle.sap_tree.specs.Parts.{tree_of}
+use Rattle.sap_tree.specs.Prelude.{tree_of, precedence, unary_precedence, slice_precedence, precedence_of, Expression, Expressions, TagExpression, TagExpressions, StateTree, expression_of, expressions_of, tag_of, tags_of, command_of, block_of, else_of, constants_of, arm_block_of, arms_of, state_of}
 use Rattle.sap_tree.specs.declared.syntax.Decl.{Decl}
-use Rattle.sap_tree.specs.Precedence.{precedence, unary_precedence, slice_precedence, precedence_of}
-use Rattle.sap_tree.specs.Syntax
-use Rattle.sap_tree.specs.Syntax.{Expression, Expressions, TagExpression, TagExpressions, StateTree}
-use Rattle.sap_tree.specs.Trees.{expression_of, expressions_of, tag_of, tags_of, command_of, block_of, else_of, constants_of, arm_block_of, arms_of, state_of}
 use Rattle.sap_tree.specs.declared.name.Mention.{Mention}
-use Rattle.sap_text.specs.declared.place.Place.{Place}
 use Rattle.sap_tree.specs.declared.place.Spot.{Spot}
 use Rattle.sap_tree.specs.declared.syntax.BinaryOperator.{BinaryOperator}
 use Rattle.sap_tree.specs.declared.syntax.UnaryOperator.{UnaryOperator}
@@ -24,6 +16,8 @@ use Rattle.sap_tree.specs.declared.syntax.Expr.{Expr}
 use Rattle.sap_tree.specs.declared.syntax.State.{State, out-State}
 use Rattle.sap_tree.specs.declared.syntax.TagExpr.{TagExpr}
 use Rattle.sap_tree.specs.declared.version.Version.{Version}
+use Rattle.sap_tree.specs.Syntax
+use Rattle.sap_text.specs.declared.place.Place.{Place}
 use Rattle.sap_tree.proofs.Views.{state_of-out}
 
 -- digits

@@ -1,8 +1,5 @@
 -- The tokens of a whole design's canonical text break no limit: they are counted as the tree's invariant counts them.
-use Rattle.std.proofs.Common.{◌≡◌, ◌≤◌, ◌+◌, ◌-◌, ℕ, List, [], ◌∷◌, length, max, Bool, true, false, cond, refl, ap, ◌∙◌, arith, subst, Some, None}
-use Rattle.std.proofs.lemmas.Bool.Decides.{nat_tests}
-use Rattle.std.specs.Prelude.{nat_lt, nat_le, ◌&&◌, not}
-use Rattle.std.proofs.lemmas.Bool.{and_parts}
+use Rattle.sap_lemmas.proofs.Common.{◌≡◌, ◌≤◌, ◌+◌, ◌-◌, ℕ, List, [], ◌∷◌, length, max, Bool, true, false, cond, refl, ap, ◌∙◌, arith, subst, Some, None, nat_tests, nat_lt, nat_le, ◌&&◌, not, and_parts}
 use Rattle.sap_parse.specs.Grammar.{sign_of, unary_sign_of}
 use Rattle.sap_parse.specs.Limits.{Counts, outside, tally, breach_of_name, breach_of_role, above, ◌or_else◌}
 use Rattle.sap_lex.specs.declared.limit.Limit.TheVariants as l
@@ -16,12 +13,7 @@ use Rattle.sap_lex.specs.declared.token.Sign.{Sign}
 use Rattle.sap_lex.specs.declared.token.Token.{Token}
 use Rattle.sap_tree.specs.declared.word.Word.TheVariants as w
 use Rattle.sap_show.proofs.Pieces.{Piece, space, line, token, sign, wrapped, bounds, expression, parts, more_parts}
-use Rattle.sap_tree.specs.Extent.{tokens, part_tokens, brackets, part_brackets, parentheses, opened}
-use Rattle.sap_tree.specs.Limits.{most_name_bytes, most_brackets, most_tokens}
-use Rattle.sap_tree.specs.Precedence.{precedence, unary_precedence, slice_precedence, precedence_of}
-use Rattle.sap_tree.specs.Syntax.{Expression, Expressions, literal, sized_literal, variable, cell_at, unary_of, binary_of, choice, slice, concat, zero_extend, no_part, and_part}
-use Rattle.sap_tree.specs.Whole.{is_expression, are_expressions, has_two_parts, is_number}
-use Rattle.sap_tree.specs.Words.{is_name, is_word, is_keyword}
+use Rattle.sap_tree.specs.Prelude.{tokens, part_tokens, brackets, part_brackets, parentheses, opened, most_name_bytes, most_brackets, most_tokens, precedence, unary_precedence, slice_precedence, precedence_of, Expression, Expressions, literal, sized_literal, variable, cell_at, unary_of, binary_of, choice, slice, concat, zero_extend, no_part, and_part, is_expression, are_expressions, has_two_parts, is_number, is_name, is_word, is_keyword}
 use Rattle.sap_tree.specs.declared.version.Version.{Version}
 
 -- the counts after a token in its role

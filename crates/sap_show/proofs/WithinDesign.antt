@@ -1,9 +1,5 @@
 -- The same of tag expressions, commands, declarations and states.
-use Rattle.std.proofs.Common.{◌≡◌, ◌≤◌, ◌+◌, ℕ, zero, suc, List, [], ◌∷◌, max, Bool, true, cond, refl, ap, ◌∙◌, arith, subst, Option, Some, None}
-use Rattle.std.proofs.lemmas.List.Sums.{sum_by-cons}
-use Rattle.std.specs.List.{list_all, count_by}
-use Rattle.std.specs.Prelude.{nat_le, ◌&&◌}
-use Rattle.std.proofs.lemmas.Bool.{and_parts, leb-true}
+use Rattle.sap_lemmas.proofs.Common.{◌≡◌, ◌≤◌, ◌+◌, ℕ, zero, suc, List, [], ◌∷◌, max, Bool, true, cond, refl, ap, ◌∙◌, arith, subst, Option, Some, None, sum_by-cons, list_all, count_by, nat_le, ◌&&◌, and_parts, leb-true}
 use Rattle.sap_parse.specs.Limits.{Counts, none_yet, breach_of_name, above, ◌or_else◌}
 use Rattle.sap_lex.specs.declared.limit.Limit.TheVariants as l
 use Rattle.sap_parse.specs.declared.role.Role.TheVariants as r
@@ -13,19 +9,16 @@ use Rattle.sap_lex.specs.declared.token.Sign.TheVariants as s
 use Rattle.sap_tree.specs.declared.word.Word.TheVariants as w
 use Rattle.sap_show.proofs.Pieces.{Piece, space, line, token, sign, word, name, number, expression, tag, tags, more_tags, constant, more_constants, constants, simple, margin, command, arms, block, else_part, commands, authority, kind, start, declarations, state, states, header, parts_of, design}
 use Rattle.sap_show.proofs.Within.{Within, at, Counted, inner_step, inner_free, opening_free, closing_step, not_above, short_name, expression_counted}
-use Rattle.sap_tree.specs.Extent.{tokens, brackets, tag_tokens, tag_part_tokens, tag_brackets, tag_part_brackets, fits, tag_fits}
-use Rattle.sap_tree.specs.Limits.{most_brackets, most_tokens, most_commands, most_arms, most_blocks, most_states, most_nesting, most_inputs, most_registers, most_memories}
-use Rattle.sap_tree.specs.Syntax.{Expression, literal, sized_literal, variable, cell_at, unary_of, binary_of, choice, slice, concat, zero_extend, Expressions, no_part, and_part, TagExpression, TagExpressions, level_of, tag_at, level_at, join_of, no_tag, and_tag, SimpleCommand, assign, write, set_tag, set_cell_tag, go_to, fall_to_child, Command, lone, try, if_else, try_then, case_of, Arms, last_arm, and_arm, CommandBlock, command_block, ElseBlock, no_else, with_else, CommandList, no_command, and_command, StateTree, state_node, StateList, no_state, and_state, DesignTree}
-use Rattle.sap_tree.specs.Whole.{is_expression, is_tag, are_tags, has_two_tags, is_outermost, is_outermost_tag, is_simple, is_command, is_block, is_else, is_constant, are_constants, has_constant, has_arm, arm_count, are_arms, are_commands, is_kind, is_authority, is_start, is_number, is_declaration, is_input, is_register, is_memory, is_state, are_states, has_state, command_count, block_count, else_count, arms_count, list_count, command_depth, block_depth, else_depth, arms_depth, list_depth, state_count, states_count, state_depth, states_depth, state_commands, states_commands, is_tree, is_within_limits, is_whole}
-use Rattle.sap_tree.specs.Words.{is_name, is_second}
-use Rattle.sap_tree.specs.declared.syntax.Decl.TheVariants as d
+use Rattle.sap_tree.specs.Prelude.{tokens, brackets, tag_tokens, tag_part_tokens, tag_brackets, tag_part_brackets, fits, tag_fits, most_brackets, most_tokens, most_commands, most_arms, most_blocks, most_states, Expression, literal, sized_literal, variable, cell_at, unary_of, binary_of, choice, slice, concat, zero_extend, Expressions, no_part, and_part, TagExpression, TagExpressions, level_of, tag_at, level_at, join_of, no_tag, and_tag, SimpleCommand, assign, write, set_tag, set_cell_tag, go_to, fall_to_child, Command, lone, try, if_else, try_then, case_of, Arms, last_arm, and_arm, CommandBlock, command_block, ElseBlock, no_else, with_else, CommandList, no_command, and_command, StateTree, state_node, StateList, no_state, and_state, DesignTree, is_expression, is_tag, are_tags, has_two_tags, is_outermost, is_outermost_tag, is_simple, is_command, is_block, is_else, is_constant, are_constants, has_constant, has_arm, arm_count, are_arms, are_commands, is_kind, is_authority, is_start, is_number, is_declaration, is_input, is_register, is_memory, is_state, are_states, has_state, command_count, block_count, else_count, arms_count, list_count, command_depth, block_depth, else_depth, arms_depth, list_depth, state_count, states_count, state_depth, states_depth, state_commands, states_commands, is_tree, is_within_limits, is_whole, is_name, is_second}
 use Rattle.sap_tree.specs.declared.syntax.Decl.{Decl}
-use Rattle.sap_tree.specs.declared.syntax.Kind.TheVariants as how
 use Rattle.sap_tree.specs.declared.syntax.Kind.{Kind as KindTree}
 use Rattle.sap_tree.specs.declared.syntax.Numeral.{Numeral}
 use Rattle.sap_tree.specs.declared.syntax.Under.{Under}
 use Rattle.sap_tree.specs.declared.version.Version.TheVariants.{One, Two}
 use Rattle.sap_tree.specs.declared.version.Version.{Version}
+use Rattle.sap_tree.specs.Limits.{most_nesting, most_inputs, most_registers, most_memories}
+use Rattle.sap_tree.specs.declared.syntax.Decl.TheVariants as d
+use Rattle.sap_tree.specs.declared.syntax.Kind.TheVariants as how
 
 -- tag expressions
 module _ (c : Counts) where

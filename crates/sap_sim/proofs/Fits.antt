@@ -1,33 +1,18 @@
 -- The numbers of a line that fits its fields fit the inputs.
-use Rattle.std.proofs.Common.{◌≡◌, ℕ, ◌^◌, ◌<◌, List, [], ◌∷◌, ◌++◌, true, Some, None, length, get_or, map, sym, ◌∙◌, subst, refl, bytes_eq, inl, inr}
-use Rattle.std.specs.Prelude.{All, not, ◌==◌}
-use Rattle.std.specs.List.{AllByRecursion}
-use Rattle.std.proofs.lemmas.Bool.{cases_Bool, false≢true}
-use Rattle.std.proofs.lemmas.Bool.Decides.{Decides-eqb}
-use Rattle.sap_lemmas.proofs.Bools.{and_left}
-use Rattle.sap_lemmas.proofs.Options.{some_same}
-use Rattle.sap_lemmas.proofs.Texts.{bytes_eq_apart_back, equal_of_bytes_eq}
+use Rattle.sap_lemmas.proofs.Common.{◌≡◌, ℕ, ◌^◌, ◌<◌, List, [], ◌∷◌, ◌++◌, true, Some, None, length, get_or, map, sym, ◌∙◌, subst, refl, bytes_eq, inl, inr, All, not, ◌==◌, AllByRecursion, cases_Bool, false≢true, Decides-eqb, and_left, some_same, bytes_eq_apart_back, equal_of_bytes_eq, all_filter}
 use Rattle.sap_stim.proofs.FitsLemmas.{line_count}
-use Rattle.sap_lattice.specs.Levels.{Levels, order_of}
-use Rattle.sap_lattice.specs.Codes.{Codes, code_of}
-use Rattle.sap_maps.specs.Maps.{Name}
-use Rattle.sap_maps.specs.Scope.{Scope, find}
+use Rattle.sap_lattice.specs.Prelude.{Levels, order_of, Codes, code_of}
+use Rattle.sap_maps.specs.Prelude.{Name, Scope, find}
 use Rattle.sap_maps.proofs.Scopes.{not_first, not_behind}
 use Rattle.sap_meaning.specs.Cycle.{Tagged as Given}
+use Rattle.sap_net.specs.Prelude.{is_among, Net, Shapes, AreValues, IsWidth, IsNetlist, shapes, InputsFit, AllFit}
 use Rattle.sap_net.specs.declared.parts.Input.{Input}
-use Rattle.sap_net.specs.Names.{is_among}
-use Rattle.sap_net.specs.Net.{Net}
-use Rattle.sap_net.specs.Rules.{Shapes, AreValues, IsWidth}
-use Rattle.sap_net.specs.IsNetlist.{IsNetlist, shapes}
-use Rattle.sap_net.specs.Runs.{InputsFit, AllFit}
-use Rattle.sap_lemmas.proofs.Everywhere.{all_filter}
 use Rattle.sap_cycle.proofs.Distinct.{AreFresh, found_listed}
 use Rattle.sap_stim.specs.declared.field.Field.{Field}
 use Rattle.sap_stim.specs.Line.{IsSized, field_width}
 use Rattle.sap_stim.specs.Fits.{LineFits, StreamFits}
-use Rattle.sap_sim.specs.Fields.{tag_width, input_widths, is_tagged, is_tag, with_field, field_of, fields_of}
+use Rattle.sap_sim.specs.Prelude.{tag_width, input_widths, is_tagged, is_tag, with_field, field_of, fields_of, place, nothing, field_names, given, value_for, number_for, numbers_of}
 use Rattle.sap_sim.proofs.Maps.{place_behind}
-use Rattle.sap_sim.specs.Numbers.{place, nothing, field_names, given, value_for, number_for, numbers_of}
 use Rattle.sap_sim.proofs.Registers.{each}
 use Rattle.sap_sim.proofs.Origins.{names_of, among_filter}
 

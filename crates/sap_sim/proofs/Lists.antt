@@ -1,8 +1,5 @@
 -- Lists, an element at a time.
-use Rattle.std.proofs.Common.{◌≡◌, ℕ, ◌+◌, ◌<◌, List, [], ◌∷◌, ◌++◌, Bool, true, false, length, get_or, take, set, map, sym, ap, ap₂, ◌∙◌, refl}
-use Rattle.std.specs.Prelude.{filter}
-use Rattle.std.proofs.lemmas.List.{take_more, take_more_set, map-append, append-nil}
-use Rattle.std.proofs.lemmas.List.Elements.{filter-append}
+use Rattle.sap_lemmas.proofs.Common.{◌≡◌, ℕ, ◌+◌, ◌<◌, List, [], ◌∷◌, ◌++◌, Bool, true, false, length, get_or, take, set, map, sym, ap, ap₂, ◌∙◌, refl, filter, take_more, take_more_set, map-append}
 
 -- one element more
 pub taken : {X : Type 0} (xs : List X) (k : ℕ) (x : X) → k < length xs → x ≡ get_or xs k x → take (k + 1) xs ≡ take k xs ++ x ∷ []
@@ -16,19 +13,6 @@ passed {X} p x h = rw h refl
 
 pub dropped : {X : Type 0} (p : X → Bool) (x : X) → p x ≡ false → filter p (x ∷ []) ≡ []
 dropped {X} p x h = rw h refl
-
-pub filtered_more : {X Y : Type 0} (p : X → Bool) (f : X → Y) (xs : List X) (k : ℕ) (x : X) → k < length xs → x ≡ get_or xs k x → p x ≡ true
-    → map f (filter p (take (k + 1) xs)) ≡ map f (filter p (take k xs)) ++ f x ∷ []
-filtered_more {X} {Y} p f xs k x h e t =
-    ap (λ (ys : List X). map f (filter p ys)) (taken xs k x h e)
-    ∙ ap (map f) (filter-append p (take k xs) (x ∷ []) ∙ ap (λ (ys : List X). filter p (take k xs) ++ ys) (passed p x t))
-    ∙ map-append f (filter p (take k xs)) (x ∷ [])
-
-pub filtered_same : {X Y : Type 0} (p : X → Bool) (f : X → Y) (xs : List X) (k : ℕ) (x : X) → k < length xs → x ≡ get_or xs k x → p x ≡ false
-    → map f (filter p (take (k + 1) xs)) ≡ map f (filter p (take k xs))
-filtered_same {X} {Y} p f xs k x h e t =
-    ap (λ (ys : List X). map f (filter p ys)) (taken xs k x h e)
-    ∙ ap (map f) (filter-append p (take k xs) (x ∷ []) ∙ ap (λ (ys : List X). filter p (take k xs) ++ ys) (dropped p x t) ∙ append-nil (filter p (take k xs)))
 
 -- one element more is written over a list
 pub written_more : {X Y : Type 0} (f : X → Y) (xs : List X) (ys : List Y) (k : ℕ) (d : X) (y : Y) → k < length xs → k < length ys

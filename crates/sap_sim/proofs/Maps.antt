@@ -1,9 +1,5 @@
 -- The place of a name, and the length where it has none.
-use Rattle.std.proofs.Common.{◌≡◌, ℕ, suc, List, [], ◌∷◌, Option, Some, None, true, false, arith, length, sym, ap, ◌∙◌, refl, bytes_eq, inl, inr}
-use Rattle.std.specs.Prelude.{unwrap_or}
-use Rattle.std.specs.Option.{option_map}
-use Rattle.std.proofs.lemmas.Bool.{cases_Bool}
-use Rattle.sap_lemmas.proofs.Texts.{bytes_eq_same, equal_of_bytes_eq}
+use Rattle.sap_lemmas.proofs.Common.{◌≡◌, ℕ, suc, List, [], ◌∷◌, Option, Some, None, true, false, arith, length, sym, ap, ◌∙◌, refl, bytes_eq, inl, inr, unwrap_or, option_map, cases_Bool, bytes_eq_same, equal_of_bytes_eq}
 use Rattle.sap_maps.specs.Maps.{Name}
 use Rattle.sap_net.specs.NameMaps.{place_in}
 use Rattle.sap_sim.specs.Numbers.{place}

@@ -1,9 +1,7 @@
 -- A run with a cycle more.
-use Rattle.std.proofs.Common.{◌≡◌, ℕ, List, [], ◌∷◌, ◌++◌, Option, Some, refl, ap}
-use Rattle.std.specs.List.{last_or}
+use Rattle.sap_lemmas.proofs.Common.{◌≡◌, ℕ, List, [], ◌∷◌, ◌++◌, Option, Some, refl, ap, last_or}
 use Rattle.sap_maps.specs.Maps.{Valuation}
-use Rattle.sap_net.specs.Net.{Net}
-use Rattle.sap_net.specs.Runs.{IsCycle, IsRunAfter}
+use Rattle.sap_net.specs.Prelude.{Net, IsCycle, IsRunAfter}
 
 -- the last cycle, and the run before it
 pub run_split : (n : Net) (b : Option Valuation) (xss : List (List ℕ)) (xs : List ℕ) (run : List Valuation) (v : Valuation) → IsRunAfter n b (xss ++ xs ∷ []) (run ++ v ∷ [])

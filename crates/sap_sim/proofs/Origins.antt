@@ -1,22 +1,15 @@
 -- Where the numbers of inputs come from.
-use Rattle.std.proofs.Common.{◌≡◌, ℕ, ◌<◌, List, [], ◌∷◌, Bool, true, Option, Some, None, length, map, ap, ◌∙◌, refl, arith, bytes_eq, inl, inr}
-use Rattle.std.specs.Prelude.{filter, All, not, is_some, ◌==◌}
-use Rattle.std.specs.List.{AllByRecursion}
-use Rattle.std.proofs.lemmas.Bool.{cases_Bool, false≢true, not_from_false}
-use Rattle.std.proofs.lemmas.List.{length-map}
-use Rattle.sap_lemmas.proofs.Bools.{and_right, not_and_false}
-use Rattle.sap_lemmas.proofs.Texts.{bytes_eq_apart_back, bytes_eq_same, equal_of_bytes_eq}
+use Rattle.sap_lemmas.proofs.Common.{◌≡◌, ℕ, ◌<◌, List, [], ◌∷◌, Bool, true, Option, Some, None, length, map, ap, ◌∙◌, refl, arith, bytes_eq, inl, inr, filter, All, not, is_some, ◌==◌, AllByRecursion, cases_Bool, false≢true, length-map, and_right, bytes_eq_apart_back, bytes_eq_same, equal_of_bytes_eq}
+use Rattle.std.proofs.lemmas.Bool.{not_from_false}
+use Rattle.sap_lemmas.proofs.Bools.{not_and_false}
 use Rattle.sap_lattice.specs.Levels.{Levels}
-use Rattle.sap_maps.specs.Maps.{Name}
-use Rattle.sap_maps.specs.Scope.{find}
+use Rattle.sap_maps.specs.Prelude.{Name, find}
 use Rattle.sap_meaning.specs.Cycle.{Tagged as Given}
+use Rattle.sap_net.specs.Prelude.{is_among, tag_of, value_name}
 use Rattle.sap_net.specs.declared.parts.Input.{Input}
-use Rattle.sap_net.specs.Names.{is_among}
+use Rattle.sap_net.specs.PortNames.{passes}
 use Rattle.sap_sim.specs.declared.sources.Source.{Source}
-use Rattle.sap_net.specs.PortNames.{tag_of, passes, value_name}
-use Rattle.sap_sim.specs.Fields.{tag_width, input_widths, is_tag, with_field}
-use Rattle.sap_sim.specs.Numbers.{place, field_names, value_for, number_for}
-use Rattle.sap_sim.specs.Layout.{source_of, source_place, number_from}
+use Rattle.sap_sim.specs.Prelude.{tag_width, input_widths, is_tag, with_field, place, field_names, value_for, number_for, source_of, source_place, number_from}
 use Rattle.sap_sim.proofs.Maps.{same_back}
 use Rattle.sap_sim.proofs.Registers.{behind_is, each}
 

@@ -1,30 +1,15 @@
 -- The registers of a netlist, and those that rows show.
-use Rattle.std.proofs.Common.{Bool, ◌≡◌, ℕ, zero, suc, ◌+◌, ◌<◌, List, [], ◌∷◌, ◌++◌, true, false, cond, ◌&&◌, Option, Some, None, length, get_or, take, map, sym, ap, ◌∙◌, subst, refl, arith, bytes_eq, inl, inr}
-use Rattle.std.specs.Prelude.{◌==◌, unwrap_or, if◌then◌else◌}
-use Rattle.std.specs.List.{All, AllByRecursion, list_all}
-use Rattle.std.specs.Str.{IsUtf8}
-use Rattle.std.proofs.lemmas.Bool.{cases_Bool, false≢true}
-use Rattle.std.proofs.lemmas.Bool.Decides.{Decides-eqb}
-use Rattle.std.proofs.lemmas.Option.{same_Some}
-use Rattle.sap_lemmas.proofs.Bools.{and_left, and_right}
-use Rattle.sap_lemmas.proofs.Everywhere.{all_filter, all_of_map, map_of_all}
-use Rattle.sap_lemmas.proofs.Texts.{bytes_eq_apart_back, bytes_eq_same, equal_of_bytes_eq}
-use Rattle.std.proofs.lemmas.List.{append-nil}
+use Rattle.sap_lemmas.proofs.Common.{Bool, ◌≡◌, ℕ, zero, suc, ◌+◌, ◌<◌, List, [], ◌∷◌, ◌++◌, true, false, cond, ◌&&◌, Option, Some, None, length, get_or, take, map, sym, ap, ◌∙◌, subst, refl, arith, bytes_eq, inl, inr, ◌==◌, unwrap_or, if◌then◌else◌, All, AllByRecursion, list_all, IsUtf8, cases_Bool, false≢true, Decides-eqb, same_Some, and_left, and_right, all_filter, all_of_map, map_of_all, bytes_eq_apart_back, bytes_eq_same, equal_of_bytes_eq, append-nil}
 use Rattle.sap_text.proofs.NamesLemmas.{inner_text, word_inner}
 use Rattle.sap_net.proofs.NamesLemmas.{among_behind, among_front, among_here}
-use Rattle.sap_maps.specs.Maps.{Name}
-use Rattle.sap_maps.specs.Scope.{Scope, find}
+use Rattle.sap_maps.specs.Prelude.{Name, Scope, find}
+use Rattle.sap_net.specs.Prelude.{Net, is_among, is_name, is_word, is_initial, is_inner, IsNetlist, readable, width_of, register_names, input_names, wire_names, memory_names, PortShows, value_of, is_number, behind, value_name, tag_name, is_register, register_ports, port_widths, has_tag, shown_by, shown_among}
 use Rattle.sap_net.specs.declared.parts.Port.{Port}
 use Rattle.sap_net.specs.declared.parts.PortKind.{PortKind}
-use Rattle.sap_net.specs.declared.parts.PortKind.TheVariants as kind
 use Rattle.sap_net.specs.declared.parts.Register.{Register}
-use Rattle.sap_net.specs.Net.{Net}
-use Rattle.sap_net.specs.Names.{is_among, is_name, is_word, is_initial, is_inner}
-use Rattle.sap_net.specs.IsNetlist.{IsNetlist, readable, width_of, register_names, input_names, wire_names, memory_names, PortShows}
+use Rattle.sap_net.specs.declared.parts.PortKind.TheVariants as kind
 use Rattle.sap_cycle.proofs.Distinct.{registers_found, registers_readable}
 use Rattle.sap_cycle.proofs.Learned.{all_get_or}
-use Rattle.sap_net.specs.PortNames.{value_of, is_number, behind, value_name, tag_name}
-use Rattle.sap_net.specs.Shown.{is_register, register_ports, port_widths, has_tag, shown_by, shown_among}
 use Rattle.sap_sim.specs.Shown.{register_widths}
 use Rattle.sap_sim.proofs.Lists.{taken}
 

@@ -1,8 +1,7 @@
 -- How many cycles a run has.
 use Rattle.std.proofs.Common.{◌≡◌, ℕ, suc, List, [], ◌∷◌, Option, Some, length, ap, refl}
 use Rattle.sap_maps.specs.Maps.{Valuation}
-use Rattle.sap_net.specs.Net.{Net}
-use Rattle.sap_net.specs.Runs.{IsRunAfter}
+use Rattle.sap_net.specs.Prelude.{Net, IsRunAfter}
 
 pub run_count : (n : Net) (b : Option Valuation) (xss : List (List ℕ)) (vs : List Valuation) → IsRunAfter n b xss vs → length vs ≡ length xss
 run_count n b [] [] run = refl

@@ -1,23 +1,15 @@
 -- What is seen at places.
-use Rattle.std.proofs.Common.{◌≡◌, ℕ, ◌<◌, List, [], ◌∷◌, ◌++◌, length, get_or, map, sym, ap, ap₂, ◌∙◌, refl, arith}
-use Rattle.std.proofs.lemmas.List.{map-append, length-map}
+use Rattle.sap_lemmas.proofs.Common.{◌≡◌, ℕ, ◌<◌, List, [], ◌∷◌, ◌++◌, length, get_or, map, sym, ap, ap₂, ◌∙◌, refl, map-append, length-map, slice_get_within, slice_get-get_or, get_or_from_slice_get}
 use Rattle.std.proofs.lemmas.List.Elements.{All-push}
-use Rattle.std.proofs.lemmas.Option.{slice_get_within, slice_get-get_or, get_or_from_slice_get}
 use Rattle.sap_maps.specs.Maps.{Name, Valuation}
-use Rattle.sap_net.specs.Net.{Net}
-use Rattle.sap_net.specs.Runs.{observed}
+use Rattle.sap_net.specs.Prelude.{Net, observed, value_name, tag_name}
 use Rattle.sap_lattice.specs.Levels.{Levels}
 use Rattle.sap_stim.specs.Rows.{row_text, shown_of}
-use Rattle.sap_net.specs.PortNames.{value_name, tag_name}
-use Rattle.sap_sim.specs.Shown.{row_of}
+use Rattle.sap_sim.specs.Prelude.{row_of, ArePlaces, seen_at}
 use Rattle.sap_cycle.specs.Running.{value_names, IsPlaceOf}
-use Rattle.sap_sim.specs.Layout.{ArePlaces, seen_at}
 
 abbrev pub name_there : Net → ℕ → Name
 name_there n k = get_or (value_names n) k []
-
-pub no_places : (n : Net) → ArePlaces n [] []
-no_places n = record { within = λ k d h. absurd (omega arith); names_are = refl }
 
 pub places_more : (n : Net) (names : List Name) (ks : List ℕ) (x : Name) (k : ℕ) → ArePlaces n names ks → IsPlaceOf n x k → ArePlaces n (names ++ x ∷ []) (ks ++ k ∷ [])
 places_more n names ks x k h p = record {

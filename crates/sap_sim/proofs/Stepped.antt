@@ -1,11 +1,9 @@
 -- A netlist that is stepped on line after line, and what is told of it.
-use Rattle.std.proofs.Common.{◌≡◌, ◌≤◌, ℕ, ◌+◌, List, [], ◌∷◌, ◌++◌, Option, Some, None, append_assoc, length, length-append, map, sym, ap, ap₂, ◌∙◌, subst, arith}
-use Rattle.std.specs.List.{last_or}
-use Rattle.std.proofs.lemmas.List.{append_cancel_left, map-append, length-map}
+use Rattle.sap_lemmas.proofs.Common.{◌≡◌, ◌≤◌, ℕ, ◌+◌, List, [], ◌∷◌, ◌++◌, Option, Some, None, append_assoc, length, length-append, map, sym, ap, ap₂, ◌∙◌, subst, arith, last_or, map-append, length-map}
+use Rattle.std.proofs.lemmas.List.{append_cancel_left}
 use Rattle.sap_maps.specs.Maps.{Valuation}
 use Rattle.sap_meaning.specs.Cycle.{Tagged as Given}
-use Rattle.sap_net.specs.Net.{Net}
-use Rattle.sap_net.specs.Runs.{IsCycle, IsRun, observed}
+use Rattle.sap_net.specs.Prelude.{Net, IsCycle, IsRun, observed}
 use Rattle.sap_cycle.specs.Running.{Running, Shows, ShowsNext}
 use Rattle.sap_sim.specs.Stepped.{HasMore, Stepped, IsRunOn, IsAfter, TellsMore, TellsAll}
 use Rattle.sap_sim.specs.Told.{told_from}

@@ -1,34 +1,21 @@
 -- A netlist that is stepped on line after line, and its rows.
-use Rattle.std.proofs.Common.{◌≡◌, ℕ, ◌<◌, List, [], ◌∷◌, ◌++◌, Option, Some, length, map, refl, sym, ap, ◌∙◌, subst}
-use Rattle.std.specs.Prelude.{All}
-use Rattle.std.proofs.lemmas.List.{length-map}
+use Rattle.sap_lemmas.proofs.Common.{◌≡◌, ℕ, ◌<◌, List, [], ◌∷◌, ◌++◌, Option, Some, length, map, refl, sym, ap, ◌∙◌, subst, All, length-map}
 use Rattle.sap_stim.proofs.FitsLemmas.{line_count}
-use Rattle.sap_lattice.specs.Levels.{Levels, order_of}
-use Rattle.sap_lattice.specs.Codes.{Codes}
-use Rattle.sap_lattice.specs.Order.{Laws}
+use Rattle.sap_lattice.specs.Prelude.{Levels, order_of, Codes, Laws}
 use Rattle.sap_maps.specs.Maps.{Valuation}
 use Rattle.sap_meaning.specs.Cycle.{Tagged as Given}
-use Rattle.sap_net.specs.Net.{Net}
-use Rattle.sap_net.specs.IsNetlist.{IsNetlist}
-use Rattle.sap_net.specs.Laws.{SomeRun}
-use Rattle.sap_net.specs.Runs.{InputsFit, IsRun, observed}
+use Rattle.sap_net.specs.Prelude.{Net, IsNetlist, SomeRun, InputsFit, IsRun, observed, tag_name, value_name}
 use Rattle.sap_cycle.specs.Running.{Running, Shows, ShowsNext, seen}
 use Rattle.sap_stim.specs.declared.field.Field.{Field}
 use Rattle.sap_stim.specs.Fits.{LineFits, StimulusFits}
 use Rattle.sap_stim.specs.Rows.{row_text, shown_of}
 use Rattle.sap_sim.specs.declared.steps.Plan.{Plan}
-use Rattle.sap_sim.specs.Fields.{field_of, fields_of, tag_width, with_field}
-use Rattle.sap_sim.specs.Layout.{IsPlan, number_from, seen_at, source_place}
-use Rattle.sap_sim.specs.Numbers.{numbers_of}
-use Rattle.sap_sim.specs.Shown.{shown_registers, row_of}
-use Rattle.sap_sim.specs.Simulated.{IsSimulated, Rows, read_for}
-use Rattle.sap_sim.specs.Stepped.{Stepped}
-use Rattle.sap_sim.specs.Stepping.{IsPlanned, IsAfter, HasRowMore, AreRows, RowsAddUp}
+use Rattle.sap_sim.specs.Prelude.{field_of, fields_of, tag_width, with_field, IsPlan, number_from, seen_at, source_place, numbers_of, shown_registers, row_of, IsSimulated, Rows, Stepped, IsPlanned, IsAfter, HasRowMore, AreRows, RowsAddUp}
+use Rattle.sap_sim.specs.Simulated.{read_for}
 use Rattle.sap_sim.proofs.Fits.{line_fits, stream_fits}
 use Rattle.sap_sim.proofs.Origins.{numbers_are, sources_within}
 use Rattle.sap_sim.proofs.Stepped.{line_split, told_begins, told_goes_on, told_part, cycle_shown, after_line}
 use Rattle.sap_sim.proofs.Seen.{places_count, row_is, seen_values}
-use Rattle.sap_net.specs.PortNames.{tag_name, value_name}
 
 module _ (ls : Levels) (n : Net) where
   abbrev row : ℕ → Valuation → List ℕ

@@ -1,7 +1,5 @@
 -- What is told of some cycles, and of more.
-use Rattle.std.proofs.Common.{◌≡◌, ℕ, suc, ◌+◌, List, [], ◌∷◌, ◌++◌, length, map, ap, ◌∙◌, arith, append-nil}
-use Rattle.std.proofs.lemmas.List.{length-map, map-append}
-use Rattle.sap_lemmas.proofs.Lists.{append_three}
+use Rattle.sap_lemmas.proofs.Common.{◌≡◌, ℕ, suc, ◌+◌, List, [], ◌∷◌, ◌++◌, length, map, ap, ◌∙◌, arith, append-nil, length-map, map-append, append_three}
 use Rattle.sap_sim.specs.Told.{told_from}
 
 module _ {X : Type 0} (tell : ℕ → X → List ℕ) where

@@ -9,3 +9,4 @@ pub mod Lookup
 pub mod Layout
 pub mod Examples
 pub mod Labelled
+pub mod Prelude

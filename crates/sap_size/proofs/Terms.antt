@@ -1,18 +1,14 @@
 -- Different operations, counted.
-use Rattle.std.proofs.Common.{◌≡◌, ◌&&◌, ◌||◌, ◌==◌, ◌≤◌, List, [], ◌∷◌, ◌++◌, length, Bool, true, false, sym, ap, ap₂, ◌∙◌, subst, refl, inl, inr}
+use Rattle.sap_lemmas.proofs.Common.{◌≡◌, ◌&&◌, ◌||◌, ◌==◌, ◌≤◌, List, [], ◌∷◌, ◌++◌, length, Bool, true, false, sym, ap, ap₂, ◌∙◌, subst, refl, inl, inr, AllByRecursion, bytes_eq, cases_Bool, and_from, and_parts, eqb-true, eq-eqb, or_left, or_right, bytes_eq_same, equal_of_bytes_eq}
 use Rattle.std.specs.Cmp.{IsEquivalence}
-use Rattle.std.specs.List.{AllByRecursion, IsDistinct}
+use Rattle.std.specs.List.{IsDistinct}
 use Rattle.std.specs.Set.{is_member, unique_keys}
-use Rattle.std.specs.Str.{bytes_eq}
-use Rattle.std.proofs.lemmas.Bool.{cases_Bool, and_from, and_parts, eqb-true, eq-eqb, or_left, or_right}
 use Rattle.std.proofs.lemmas.Map.Made.{length-le_from_is_member}
-use Rattle.sap_lemmas.proofs.Texts.{bytes_eq_same, equal_of_bytes_eq}
 use Rattle.sap_bits.specs.declared.Op1.{Op1}
 use Rattle.sap_bits.specs.declared.Op1.TheVariants.{Not, Neg, AllOnes, AnyOne, Odd}
 use Rattle.sap_bits.specs.declared.Op2.{Op2}
 use Rattle.sap_bits.specs.declared.Op2.TheVariants.{Add, Sub, Mul, And, Or, Xor, Eq, Ne, Lt, Le, Shl, Shr}
-use Rattle.sap_maps.specs.Maps.{Name}
-use Rattle.sap_maps.specs.Term.{Term, constant, read, cell, one, two, choose, join, part}
+use Rattle.sap_maps.specs.Prelude.{Name, Term, constant, read, cell, one, two, choose, join, part}
 use Rattle.sap_size.specs.Terms.{same_one, same_two, same_term, operations_in, operations}
 
 one_is : (o p : Op1) → same_one o p ≡ true → o ≡ p

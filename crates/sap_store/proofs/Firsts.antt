@@ -1,18 +1,11 @@
 -- The first store.
-use Rattle.std.proofs.Common.{◌≡◌, ℕ, zero, suc, ◌+◌, ◌<◌, ◌^◌, List, [], ◌∷◌, length, get_or, map, refl, sym, ap, ◌∙◌, arith, if◌then◌else◌}
-use Rattle.std.specs.Prelude.{replicate}
-use Rattle.std.proofs.Math.Pow.{pow_pos}
-use Rattle.sap_lemmas.proofs.Lists.{length_map}
-use Rattle.std.proofs.lemmas.List.{length-replicate}
+use Rattle.sap_lemmas.proofs.Common.{◌≡◌, ℕ, zero, suc, ◌+◌, ◌<◌, ◌^◌, List, [], ◌∷◌, length, get_or, map, refl, sym, ap, ◌∙◌, arith, if◌then◌else◌, replicate, pow_pos, length_map, length-replicate}
 use Rattle.sap_lattice.specs.Order.{Order}
-use Rattle.sap_meaning.specs.Program.{World, nothing, entity, width, depth_of}
+use Rattle.sap_meaning.specs.Prelude.{World, nothing, entity, width, depth_of, depth, first, first_number, first_level, Slot, own, start, next, start_whole, next_whole, number}
 use Rattle.sap_meaning.specs.Program as program
-use Rattle.sap_meaning.specs.Sized.{depth}
-use Rattle.sap_meaning.specs.State.{first, first_number, first_level}
-use Rattle.sap_meaning.specs.Store.{Slot, own, start, next, start_whole, next_whole, number}
+use Rattle.sap_program.specs.Views.{entity_of, program_in}
 use Rattle.sap_program.specs.declared.program.Entity.{Entity}
 use Rattle.sap_program.specs.declared.program.Program.{Program}
-use Rattle.sap_program.specs.Views.{entity_of, program_in}
 use Rattle.sap_store.specs.declared.entry.Entry as kept
 use Rattle.sap_store.specs.declared.store.Store as code
 use Rattle.sap_store.specs.Half.{Cells, no_cell}

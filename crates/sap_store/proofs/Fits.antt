@@ -1,10 +1,6 @@
 -- Numbers stay within their widths.
-use Rattle.std.proofs.Common.{◌≡◌, ℕ, zero, suc, ◌<◌, ◌^◌, Bool, true, false, List, [], ◌∷◌, get_or, refl, sym, subst, inl, inr, if◌then◌else◌}
-use Rattle.std.proofs.lemmas.Bool.{cases_Bool}
-use Rattle.sap_meaning.specs.Program.{World, Entity, nothing, kind_is_input, is_input, width}
-use Rattle.sap_meaning.specs.Store.{Slot, Store, owner, number, same_slot, put_number, source, settle}
-use Rattle.sap_meaning.specs.Cycle.{Tagged, inputs_before, given}
-use Rattle.sap_meaning.specs.State.{input_widths, AllFit, InputsFit}
+use Rattle.sap_lemmas.proofs.Common.{◌≡◌, ℕ, zero, suc, ◌<◌, ◌^◌, Bool, true, false, List, [], ◌∷◌, get_or, refl, sym, subst, inl, inr, if◌then◌else◌, cases_Bool}
+use Rattle.sap_meaning.specs.Prelude.{World, Entity, nothing, kind_is_input, is_input, width, Slot, Store, owner, number, same_slot, put_number, source, settle, Tagged, inputs_before, given, input_widths, AllFit, InputsFit}
 use Rattle.sap_meaning.proofs.Slots.{slot_same, owner_source}
 use Rattle.sap_store.specs.declared.store.Store as kept
 use Rattle.sap_store.specs.Kept.{store_of, Shaped, Ready}

@@ -1,10 +1,7 @@
 -- Writes through a borrowed entry.
-use Rattle.std.proofs.Common.{◌≡◌, ℕ, suc, ◌<◌, ◌≤◌, ◌^◌, Bool, true, false, ◌&&◌, List, [], ◌∷◌, length, get_or, refl, sym, ap, subst, ◌∙◌, arith, nat_eq, nat_lt, zero, if◌then◌else◌}
+use Rattle.sap_lemmas.proofs.Common.{◌≡◌, ℕ, suc, ◌<◌, ◌≤◌, ◌^◌, Bool, true, false, ◌&&◌, List, [], ◌∷◌, length, get_or, refl, sym, ap, subst, ◌∙◌, arith, nat_eq, nat_lt, zero, if◌then◌else◌, le-ltb, eqb-true, length-set}
 use Rattle.std.specs.Vec.{with_item}
-use Rattle.std.proofs.lemmas.Bool.{le-ltb, eqb-true}
-use Rattle.sap_meaning.specs.Program.{World, root, width, is_dynamic}
-use Rattle.sap_meaning.specs.Sized.{depth}
-use Rattle.sap_meaning.specs.Store.{Slot, own, next, Store, owner, source, put_number, put_level, put_child, raise}
+use Rattle.sap_meaning.specs.Prelude.{World, root, width, is_dynamic, depth, Slot, own, next, Store, owner, source, put_number, put_level, put_child, raise}
 use Rattle.sap_meaning.proofs.Slots.{owner_source}
 use Rattle.sap_store.specs.declared.cell.Cell.{Cell}
 use Rattle.sap_store.specs.declared.entry.Entry.{Entry}
@@ -15,7 +12,6 @@ use Rattle.sap_store.specs.Passes.{only, raised_one, settled_one}
 use Rattle.sap_store.proofs.Fits.{Numbers, numbers_put, ready_as}
 use Rattle.sap_store.proofs.Raised.{quiet}
 use Rattle.sap_store.proofs.Writes.{Written, number_put, number_ready, level_put, level_ready, cell_number_put, cell_level_put, raise_put, shaped, settle_put, child_put, child_ready}
-use Rattle.std.proofs.Math.ListN.{length-set}
 
 item_is : {A : Type 0} (xs : List A) (x : ℕ) (a d : A) → x < length xs → a ≡ get_or xs x a → a ≡ get_or xs x d
 item_is [] x a d l e = absurd (omega (arith, l))

@@ -1,12 +1,8 @@
 -- Raising one entity after another.
-use Rattle.std.proofs.Common.{◌≡◌, ℕ, zero, suc, ◌+◌, ◌<◌, ◌≤◌, Bool, true, false, ◌&&◌, ◌||◌, List, [], ◌∷◌, length, get_or, drop, refl, sym, ap, ◌∙◌, arith, add-one, nat_eq, nat_lt, if◌then◌else◌, inl, inr}
-use Rattle.std.proofs.lemmas.Bool.{cases_Bool, lt-ltb, ltb-true, eq-eqb, eqb-true, ne_eqb, and_parts}
-use Rattle.sap_lemmas.proofs.Bools.{and_false, and_true}
-use Rattle.std.proofs.lemmas.List.{get_or_past}
+use Rattle.sap_lemmas.proofs.Common.{◌≡◌, ℕ, zero, suc, ◌+◌, ◌<◌, ◌≤◌, Bool, true, false, ◌&&◌, ◌||◌, List, [], ◌∷◌, length, get_or, drop, refl, sym, ap, ◌∙◌, arith, add-one, nat_eq, nat_lt, if◌then◌else◌, inl, inr, cases_Bool, lt-ltb, ltb-true, eq-eqb, eqb-true, ne_eqb, and_parts, and_false, and_true, get_or_past}
 use Rattle.sap_resolved.proofs.FillLemmas.{table_at, table_length}
 use Rattle.sap_lattice.specs.Order.{Order}
-use Rattle.sap_meaning.specs.Program.{World, root, listed}
-use Rattle.sap_meaning.specs.Store.{Slot, own, start, next, start_whole, next_whole, Store, raised, raise}
+use Rattle.sap_meaning.specs.Prelude.{World, root, listed, Slot, own, start, next, start_whole, next_whole, Store, raised, raise}
 use Rattle.sap_resolved.specs.Fill.{table}
 use Rattle.sap_program.specs.Hangs.{rises_from, rises, hangs, flags}
 use Rattle.sap_store.specs.Passes.{only, raised_one}

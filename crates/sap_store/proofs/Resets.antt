@@ -1,13 +1,6 @@
 -- Resetting one state after another, and giving one input after another.
-use Rattle.std.proofs.Common.{◌≡◌, ℕ, zero, suc, ◌+◌, ◌<◌, ◌≤◌, Bool, true, false, ◌&&◌, ◌||◌, List, [], ◌∷◌, length, get_or, refl, sym, ap, ◌∙◌, arith, nat_eq, nat_lt, if◌then◌else◌, inl, inr}
-use Rattle.std.specs.Prelude.{nat_le}
-use Rattle.std.proofs.lemmas.Bool.{cases_Bool, lt-ltb, le-ltb, ltb-true, leb-true, le-leb, eqb-true}
-use Rattle.std.proofs.lemmas.Grind.{common_steps}
-use Rattle.sap_lemmas.proofs.Bools.{and_false, and_true}
-use Rattle.std.proofs.lemmas.List.{get_or_past}
-use Rattle.sap_meaning.specs.Program.{World, Entity, entity, nothing, kind_is_input, root, is_input, is_state, is_dynamic, last, below}
-use Rattle.sap_meaning.specs.Store.{Slot, own, start, next, start_whole, next_whole, Store, owner, same_slot, put_number, put_level, put_child, lowered, reset}
-use Rattle.sap_meaning.specs.Cycle.{Tagged, inputs_before, given, at_inputs, set_inputs}
+use Rattle.sap_lemmas.proofs.Common.{◌≡◌, ℕ, zero, suc, ◌+◌, ◌<◌, ◌≤◌, Bool, true, false, ◌&&◌, ◌||◌, List, [], ◌∷◌, length, get_or, refl, sym, ap, ◌∙◌, arith, nat_eq, nat_lt, if◌then◌else◌, inl, inr, nat_le, cases_Bool, lt-ltb, le-ltb, ltb-true, leb-true, le-leb, eqb-true, common_steps, and_false, and_true, get_or_past}
+use Rattle.sap_meaning.specs.Prelude.{World, Entity, entity, nothing, kind_is_input, root, is_input, is_state, is_dynamic, last, below, Slot, own, start, next, start_whole, next_whole, Store, owner, same_slot, put_number, put_level, put_child, lowered, reset, Tagged, inputs_before, given, at_inputs, set_inputs}
 use Rattle.sap_store.specs.Passes.{reset_one, given_one}
 use Rattle.sap_store.proofs.Stored.{store_same}
 

@@ -1,10 +1,6 @@
 -- The parts of one memory after another settle.
-use Rattle.std.proofs.Common.{◌≡◌, ℕ, ◌+◌, ◌≤◌, Bool, true, false, refl, sym, ap, ◌∙◌, arith, nat_eq, nat_lt, if◌then◌else◌}
-use Rattle.std.proofs.lemmas.Bool.{lt-ltb, le-ltb, eqb-true}
-use Rattle.std.proofs.lemmas.Grind.{common_steps}
-use Rattle.std.proofs.lemmas.List.{get_or_past}
-use Rattle.sap_meaning.specs.Program.{World, root}
-use Rattle.sap_meaning.specs.Store.{Slot, own, start, next, start_whole, next_whole, Store, owner, source, settle}
+use Rattle.sap_lemmas.proofs.Common.{◌≡◌, ℕ, ◌+◌, ◌≤◌, Bool, true, false, refl, sym, ap, ◌∙◌, arith, nat_eq, nat_lt, if◌then◌else◌, lt-ltb, le-ltb, eqb-true, common_steps, get_or_past}
+use Rattle.sap_meaning.specs.Prelude.{World, root, Slot, own, start, next, start_whole, next_whole, Store, owner, source, settle}
 use Rattle.sap_meaning.proofs.Slots.{owner_source}
 use Rattle.sap_store.specs.declared.entry.Entry.{Entry}
 use Rattle.sap_store.specs.declared.store.Store as code

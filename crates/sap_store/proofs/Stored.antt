@@ -1,10 +1,6 @@
 -- What writes to the code's store do to what it is seen as.
-use Rattle.std.proofs.Common.{◌≡◌, ℕ, ◌<◌, ◌≤◌, Bool, true, false, List, length, get_or, set, refl, sym, ap, ◌∙◌, get_or-set_other, nat_eq, inl, inr, if◌then◌else◌}
-use Rattle.std.proofs.lemmas.Bool.{cases_Bool, eqb-true, eq-eqb, eqb-true as same_number}
-use Rattle.std.proofs.lemmas.Grind.{get_or-set_at}
-use Rattle.std.proofs.lemmas.List.{get_or_past}
-use Rattle.sap_meaning.specs.Program.{World, entity, is_dynamic}
-use Rattle.sap_meaning.specs.Store.{Slot, start, start_whole, Store, level}
+use Rattle.sap_lemmas.proofs.Common.{◌≡◌, ℕ, ◌<◌, ◌≤◌, Bool, true, false, List, length, get_or, set, refl, sym, ap, ◌∙◌, get_or-set_other, nat_eq, inl, inr, if◌then◌else◌, cases_Bool, eqb-true, eq-eqb, eqb-true as same_number, get_or-set_at, get_or_past}
+use Rattle.sap_meaning.specs.Prelude.{World, entity, is_dynamic, Slot, start, start_whole, Store, level}
 use Rattle.sap_store.specs.declared.entry.Entry.{Entry}
 use Rattle.sap_store.specs.declared.store.Store as kept
 use Rattle.sap_store.specs.Half.{cell_at}
@@ -22,10 +18,6 @@ get_set xs x a d h y = elim (cases_Bool (nat_eq y x)) [
 picked : {A B : Type 0} (f : A → B) (q : Bool) (a b : A) → f (if q then a else b) ≡ (if q then f a else f b)
 picked f true a b = refl
 picked f false a b = refl
-
-neither : {A : Type 0} (q : Bool) (a : A) → (if q then a else a) ≡ a
-neither true a = refl
-neither false a = refl
 
 -- an item is written
 module _ (w : World) (es : List Entry) (x : ℕ) (e : Entry) (h : x < length es) where

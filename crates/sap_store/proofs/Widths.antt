@@ -1,6 +1,5 @@
 -- The widths of terms, and what operators ask of their numbers.
-use Rattle.std.proofs.Common.{◌≡◌, ℕ, ◌+◌, ◌-◌, ◌^◌, ◌<◌, ◌≤◌, sym, subst, arith}
-use Rattle.std.proofs.Math.Nat.{pow-le-pow_right}
+use Rattle.sap_lemmas.proofs.Common.{◌≡◌, ℕ, ◌+◌, ◌-◌, ◌^◌, ◌<◌, ◌≤◌, sym, subst, arith, pow-le-pow_right}
 use Rattle.sap_resolved.proofs.SizedLemmas.{ranged_width}
 use Rattle.sap_bits.specs.Arithmetic.{RightFits}
 use Rattle.sap_bits.specs.declared.Op1.{Op1}
@@ -8,11 +7,8 @@ use Rattle.sap_bits.specs.declared.Op2.{Op2}
 use Rattle.sap_bits.specs.declared.Op2.TheVariants.{Add, Sub, Mul, And, Or, Xor, Eq, Ne, Lt, Le, Shl, Shr}
 use Rattle.sap_maps.specs.Term.{Term, cell, one, two, choose, join, part, CountFits}
 use Rattle.sap_maps.proofs.Terms.{term_within}
-use Rattle.sap_meaning.specs.Program.{World, width}
-use Rattle.sap_meaning.specs.Store.{own, start, number}
-use Rattle.sap_meaning.specs.Expressions.{width_of, value}
+use Rattle.sap_meaning.specs.Prelude.{World, width, own, start, number, width_of, value, depth}
 use Rattle.sap_store.specs.declared.store.Store as code
-use Rattle.sap_meaning.specs.Sized.{depth}
 use Rattle.sap_store.specs.Able.{AbleTerm, AbleIndex, AbleValue}
 use Rattle.sap_store.specs.Kept.{Ready, store_of}
 

@@ -1,10 +1,6 @@
 -- What writes to the code's store do to what it is seen as.
-use Rattle.std.proofs.Common.{◌≡◌, ℕ, zero, suc, ◌<◌, ◌^◌, Bool, true, false, ◌&&◌, List, [], ◌∷◌, length, get_or, set, refl, sym, ap, ◌∙◌, arith, nat_eq, if◌then◌else◌}
-use Rattle.std.proofs.Math.ListN.{length-set}
-use Rattle.std.proofs.lemmas.Bool.{lt-ltb, eqb-true, ne_eqb}
-use Rattle.sap_lemmas.proofs.Numbers.{test_of_same}
-use Rattle.sap_meaning.specs.Program.{World, root, width, is_dynamic}
-use Rattle.sap_meaning.specs.Store.{Slot, own, start, next, start_whole, next_whole, Store, owner, same_slot, put_number, put_level, put_child, raise, raised, source}
+use Rattle.sap_lemmas.proofs.Common.{◌≡◌, ℕ, zero, suc, ◌<◌, ◌^◌, Bool, true, false, ◌&&◌, List, [], ◌∷◌, length, get_or, set, refl, sym, ap, ◌∙◌, arith, nat_eq, if◌then◌else◌, length-set, lt-ltb, eqb-true, ne_eqb, test_of_same}
+use Rattle.sap_meaning.specs.Prelude.{World, root, width, is_dynamic, Slot, own, start, next, start_whole, next_whole, Store, owner, same_slot, put_number, put_level, put_child, raise, raised, source}
 use Rattle.sap_store.specs.declared.cell.Cell.{Cell}
 use Rattle.sap_store.specs.declared.entry.Entry.{Entry}
 use Rattle.sap_store.specs.declared.store.Store as code

@@ -3,8 +3,7 @@ use Rattle.std.proofs.Common.{◌≡◌, ℕ, ◌+◌, ◌-◌, ◌<◌, List, [
 use Rattle.std.specs.List.{AllZip}
 use Rattle.std.proofs.lemmas.List.Elements.{AllZip-get_or, length_all_zip}
 use Rattle.sap_lattice.specs.Order.{Order}
-use Rattle.sap_meaning.specs.Agree.{InputsAgree, StreamsAgree}
-use Rattle.sap_meaning.specs.Cycle.{Tagged}
+use Rattle.sap_meaning.specs.Prelude.{InputsAgree, StreamsAgree, Tagged}
 use Rattle.sap_stream.specs.declared.apart.Apart.{Apart}
 use Rattle.sap_stream.specs.declared.apart.Apart.TheVariants.{Lengths, At}
 use Rattle.sap_stream.specs.Apart.{AreAlike, input_at, cycle_at, IsFirst, IsApartAt, IsApart}

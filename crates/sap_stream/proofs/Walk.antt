@@ -4,8 +4,7 @@ use Rattle.std.proofs.lemmas.Bool.{cases_lt}
 use Rattle.std.proofs.lemmas.List.{length-append, length-replicate, length-drop, drop-drop}
 use Rattle.std.proofs.lemmas.List.Elements.{All-get_or}
 use Rattle.sap_lattice.specs.Order.{Order}
-use Rattle.sap_meaning.specs.Agree.{InputsAgree}
-use Rattle.sap_meaning.specs.Cycle.{Tagged}
+use Rattle.sap_meaning.specs.Prelude.{InputsAgree, Tagged}
 use Rattle.sap_stream.specs.declared.apart.Ahead.{Ahead}
 use Rattle.sap_stream.specs.Ahead.{cycles_ahead}
 use Rattle.sap_stream.specs.Apart.{IsFirst, IsApartAt, AreOfOneLength}

@@ -1,7 +1,5 @@
 -- Of the rules on a file at most one is the first that is broken.
-use Rattle.std.proofs.Common.{◌≡◌, ◌≢◌, ℕ, ◌+◌, List, refl, sym, ap, ap₂, ◌∙◌, subst, inl, inr, ◌⊎◌, Result, Ok, Err, arith}
-use Rattle.std.proofs.lemmas.Bool.{cases_order}
-use Rattle.std.specs.Prelude.{IfErr, IfOk, IsErrOf, IsOkUnless}
+use Rattle.sap_lemmas.proofs.Common.{◌≡◌, ◌≢◌, ℕ, ◌+◌, List, refl, sym, ap, ap₂, ◌∙◌, subst, inl, inr, ◌⊎◌, Result, Ok, Err, arith, cases_order, IfErr, IfOk, IsErrOf, IsOkUnless}
 use Rattle.toml.specs.Data.{Members}
 use Rattle.sap_lattice.specs.Rules.{IsFirst}
 use Rattle.sap_latfile.specs.LatticeFile.{IsDocument}
@@ -70,14 +68,6 @@ one_file bytes s t f g =
 
 pub one_system : OneSystem
 one_system bytes s t a b = one_file bytes s t a.0 b.0
-
--- what the fault of the parts says of the file that lists them
-pub broken_first : (bytes : List ℕ) (s : Listing) (f : SysFault) → IsFileOf bytes s → FirstBroken s.parts f → FirstFault bytes f
-broken_first bytes s (Rule K3 n) file broken = (s, file, broken)
-broken_first bytes s (Rule K4 n) file broken = (s, file, broken)
-broken_first bytes s (Rule K1 n) file broken = absurd broken
-broken_first bytes s (Rule K2 n) file broken = absurd broken
-broken_first bytes s Memory file broken = absurd broken
 
 module _ (bytes : List ℕ) where
   no_shape : (s : Listing) → IsFileOf bytes s → HasOtherShape bytes → ⊥

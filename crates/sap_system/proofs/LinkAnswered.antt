@@ -1,6 +1,5 @@
 -- Of the rules on wires at most one is the first that is broken.
-use Rattle.std.proofs.Common.{◌≡◌, ℕ, ◌+◌, List, refl, sym, ap, ap₂, ◌∙◌, subst, inl, inr, arith}
-use Rattle.std.proofs.lemmas.Bool.{cases_order}
+use Rattle.sap_lemmas.proofs.Common.{◌≡◌, ℕ, ◌+◌, List, refl, sym, ap, ap₂, ◌∙◌, subst, inl, inr, arith, cases_order}
 use Rattle.sap_system.specs.Wires.{Surroundings, IsFirstBroken, FirstLinkFault, OneLinkFault, NoneWhereKept, number_of_code}
 use Rattle.sap_system.specs.declared.file.WireText.{WireText}
 use Rattle.sap_system.specs.declared.link_fault.LinkCode.{LinkCode}

@@ -1,13 +1,8 @@
 -- Names of parts by their places.
-use Rattle.std.proofs.Common.{◌≡◌, ℕ, zero, suc, ◌<◌, Bool, true, false, not, ◌||◌, ltb, List, [], ◌∷◌, length, get_or, take, refl, sym, ap, ◌∙◌, inl, inr, ◌⊎◌, arith}
-use Rattle.std.specs.List.{list_any}
-use Rattle.std.specs.Str.{bytes_eq}
-use Rattle.std.proofs.lemmas.Bool.{both_ways, or_cases, or_left, or_right}
+use Rattle.sap_lemmas.proofs.Common.{◌≡◌, ℕ, zero, suc, ◌<◌, Bool, true, false, not, ◌||◌, ltb, List, [], ◌∷◌, length, get_or, take, refl, sym, ap, ◌∙◌, inl, inr, ◌⊎◌, arith, list_any, bytes_eq, both_ways, or_cases, or_left, or_right, bytes_eq-Decides}
 use Rattle.std.proofs.lemmas.List.{get_or-map}
-use Rattle.std.proofs.lemmas.Slice.Eq.{bytes_eq-Decides}
 use Rattle.sap_text.specs.Names.{is_word, is_among, design_keywords}
-use Rattle.sap_lattice.specs.Closure.{name_at}
-use Rattle.sap_lattice.specs.Rules.BadName.{repeated}
+use Rattle.sap_lattice.specs.Prelude.{name_at, repeated}
 use Rattle.sap_lattice.specs.declared.TheConstants.{MOST_NAME_BYTES}
 use Rattle.sap_lattice.proofs.NameLemmas.{unfit_bad, bad_cases}
 use Rattle.sap_system.specs.Rules.{BadPart, BadPartName, has_underscore, part_names}

@@ -1,9 +1,6 @@
 -- The worked examples of system files.
-use Rattle.std.proofs.Common.{◌≡◌, ℕ, zero, suc, ◌<◌, List, [], ◌∷◌, ltb, true, false, Some, None, refl, sym, ◌∙◌, inl, inr, arith, lit≤}
-use Rattle.std.specs.Prelude.{codes}
-use Rattle.std.specs.List.{list_all}
+use Rattle.sap_lemmas.proofs.Common.{◌≡◌, ℕ, zero, suc, ◌<◌, List, [], ◌∷◌, ltb, true, false, Some, None, refl, sym, ◌∙◌, inl, inr, arith, lit≤, codes, list_all, and_parts, both_ways, ltb-true}
 use Rattle.std.specs.Str.{IsAscii}
-use Rattle.std.proofs.lemmas.Bool.{and_parts, both_ways, ltb-true}
 use Rattle.std.proofs.lemmas.Str.{IsUtf8-from_ascii}
 use Rattle.std.proofs.lemmas.Str.Ascii.{IsAscii-nil}
 use Rattle.toml.specs.Data.{Data, string, array, Items, no_items, item, Members, no_members, member}

@@ -1,11 +1,5 @@
 -- The worked examples of the rules on wires.
-use Rattle.std.proofs.Common.{◌≡◌, ℕ, zero, suc, ◌<◌, List, [], ◌∷◌, ◌++◌, take, drop, false, if◌then◌else◌, Option, Some, None, refl, sym, ap, ◌∙◌, subst, arith, lit≤}
-use Rattle.std.specs.Prelude.{codes, slice_get, Contains}
-use Rattle.std.specs.Str.{bytes_eq}
-use Rattle.std.proofs.lemmas.Bool.{both_ways}
-use Rattle.std.proofs.lemmas.Option.{slice_get_within}
-use Rattle.sap_lemmas.proofs.Options.{some_unique}
-use Rattle.sap_lemmas.proofs.Texts.{bytes_eq_same}
+use Rattle.sap_lemmas.proofs.Common.{◌≡◌, ℕ, zero, suc, ◌<◌, List, [], ◌∷◌, ◌++◌, take, drop, false, if◌then◌else◌, Option, Some, None, refl, sym, ap, ◌∙◌, subst, arith, lit≤, codes, slice_get, Contains, bytes_eq, both_ways, slice_get_within, some_unique, bytes_eq_same}
 use Rattle.sap_names.specs.Entities.{what_is}
 use Rattle.sap_names.specs.declared.kind.Declared.{Declared}
 use Rattle.sap_names.specs.declared.kind.Declared.TheVariants as what

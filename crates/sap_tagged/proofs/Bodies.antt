@@ -1,42 +1,18 @@
 -- Bodies keep the rules of names and of widths.
-use Rattle.std.proofs.Common.{◌≡◌, ℕ, zero, suc, ◌+◌, ◌^◌, ◌<◌, ◌≤◌, List, [], ◌∷◌, ◌++◌, length, take, drop, Bool, true, false, not, ◌&&◌, ◌||◌, Some, refl, sym, ap, ◌∙◌, subst, if◌then◌else◌, arith, nat_lt, nat_le, inl, inr}
-use Rattle.std.specs.List.{AllByRecursion}
-use Rattle.std.proofs.lemmas.Bool.{cases_Bool, and_parts, or_right}
-use Rattle.std.proofs.lemmas.Grind.{common_steps}
-use Rattle.std.proofs.Math.Pow.{pow_pos}
-use Rattle.sap_lemmas.proofs.Bools.{true_is_not_false}
+use Rattle.sap_lemmas.proofs.Common.{◌≡◌, ℕ, zero, suc, ◌+◌, ◌^◌, ◌<◌, ◌≤◌, List, [], ◌∷◌, ◌++◌, length, take, drop, Bool, true, false, not, ◌&&◌, ◌||◌, Some, refl, sym, ap, ◌∙◌, subst, if◌then◌else◌, arith, nat_lt, nat_le, inl, inr, AllByRecursion, cases_Bool, and_parts, or_right, common_steps, pow_pos, true_is_not_false}
 use Rattle.sap_resolved.proofs.SizedLemmas.{ranged_width}
 use Rattle.sap_meaning.proofs.ProgramLemmas.{memory_no_input, register_no_input, state_no_input}
-use Rattle.sap_maps.specs.Maps.{Name}
-use Rattle.sap_maps.specs.Scope.{find}
-use Rattle.sap_maps.specs.Term.{Term, constant, cell, two, choose}
+use Rattle.sap_maps.specs.Prelude.{Name, find, Term, constant, cell, two, choose}
 use Rattle.sap_bits.specs.declared.Op2.TheVariants.{Eq}
 use Rattle.sap_tree.specs.Limits.{most_arms}
-use Rattle.sap_meaning.specs.Program.{World, Kind, entity, root, is_dynamic, is_input, is_register, is_state, width, children, listed, Step, assign, write, retag, retag_cell, go_to, fall_to_child, Command, lone, try, if_else, try_then, case_of, Arms, last_arm, and_arm, Block, end_block, command_then, Group, kind_is_input, kind_is_register, kind_is_state}
+use Rattle.sap_meaning.specs.Prelude.{World, Kind, entity, root, is_dynamic, is_input, is_register, is_state, width, children, listed, Step, assign, write, retag, retag_cell, go_to, fall_to_child, Command, lone, try, if_else, try_then, case_of, Arms, last_arm, and_arm, Block, end_block, command_then, Group, kind_is_input, kind_is_register, kind_is_state, width_of, Every, EveryInArms, EveryInBlock, arm_constants, Home, site_of, among, listed_alone, FineStep, FineCommand, size, SizedStep, AreWithin, depth, SizedCommand}
 use Rattle.sap_meaning.specs.Program as program
-use Rattle.sap_meaning.specs.Expressions.{width_of}
-use Rattle.sap_meaning.specs.Walks.{Every, EveryInArms, EveryInBlock, arm_constants}
-use Rattle.sap_meaning.specs.Checks.{Home, site_of}
-use Rattle.sap_meaning.specs.Touches.{among}
-use Rattle.sap_meaning.specs.Runs.{listed_alone}
 use Rattle.sap_meaning.specs.Sites as sites
-use Rattle.sap_meaning.specs.Fine.{FineStep, FineCommand, size}
-use Rattle.sap_meaning.specs.Sized.{SizedStep, AreWithin, depth, SizedCommand}
 use Rattle.sap_resolved.specs.Sized.Ranges.{IsWidth, RangedStep, Ranged, RangedArms, RangedBlock}
 use Rattle.sap_net.specs.Names.{is_among}
-use Rattle.sap_ir.specs.Source.{Source, readable, shapes}
-use Rattle.sap_ir.specs.IsGuarded.{assignable}
-use Rattle.sap_ir.specs.Plain.Nested.{Body, stop, act, cases, goto, fall}
-use Rattle.sap_ir.specs.Plain.IsPlain.{BodyFine}
-use Rattle.sap_ir.specs.Plain.Views.{follow}
+use Rattle.sap_ir.specs.Prelude.{Source, readable, shapes, assignable, Body, stop, act, cases, goto, fall, BodyFine, follow}
 use Rattle.sap_ir.proofs.plain.SeatWidths.{seat_positive, seat_within, seat_holds}
-use Rattle.sap_tagged.specs.Keys.{Key, value_key, tag_key, refused_key, level_key, wire_key, first_key, inner_key, sort}
-use Rattle.sap_tagged.specs.Setting.{Setting}
-use Rattle.sap_tagged.specs.Levels.{var, bits, lub, yes, expr, tag_of, guard_of, test_of, written, stays, always, all_dynamic}
-use Rattle.sap_tagged.specs.Commands.{gives, stores, sweep, raises, looks, resets, effect_of, refusal, outcome, attempt_of, outcome_then, attempt_then_of, arm_count, pick_width, picks_arm, picks, decides, pick_of, select_of, wires, wires_block, command_plain, arms_plain, block_plain}
-use Rattle.sap_tagged.specs.Few.{Few, FewArms, FewBlock}
-use Rattle.sap_tagged.specs.States.{saved}
-use Rattle.sap_tagged.specs.Stands.{has_tag}
+use Rattle.sap_tagged.specs.Prelude.{Key, value_key, tag_key, refused_key, level_key, wire_key, first_key, inner_key, sort, Setting, var, bits, lub, yes, expr, tag_of, guard_of, test_of, written, stays, always, all_dynamic, gives, stores, sweep, raises, looks, resets, effect_of, refusal, outcome, attempt_of, outcome_then, attempt_then_of, arm_count, pick_width, picks_arm, picks, decides, pick_of, select_of, wires, wires_block, command_plain, arms_plain, block_plain, Few, FewArms, FewBlock, saved, has_tag}
 use Rattle.sap_tagged.proofs.Bools.{tagged_within, register_within, value_no_memory, kept_no_memory, enforced_within, tagged, tagged_memory}
 use Rattle.sap_tagged.proofs.StepTerms.{Placed}
 use Rattle.sap_tagged.proofs.Ends.{Among}

@@ -1,8 +1,5 @@
 -- Tests, and what they decide.
-use Rattle.std.proofs.Common.{◌≡◌, ℕ, Bool, true, false, not, ◌||◌, List, length, get_or, refl, sym, ap, ◌∙◌, arith, nat_lt, inl, inr}
-use Rattle.std.proofs.lemmas.Bool.{cases_Bool, and_parts, or_right}
-use Rattle.std.proofs.lemmas.Grind.{common_steps}
-use Rattle.sap_lemmas.proofs.Bools.{true_is_not_false}
+use Rattle.sap_lemmas.proofs.Common.{◌≡◌, ℕ, Bool, true, false, not, ◌||◌, List, length, get_or, refl, sym, ap, ◌∙◌, arith, nat_lt, inl, inr, cases_Bool, and_parts, or_right, common_steps, true_is_not_false}
 use Rattle.sap_meaning.specs.Program.{World, Entity, Kind, entity, nothing, root, is_dynamic, is_register, is_memory, is_state, kind_is_input, kind_is_register, kind_is_memory, kind_is_state}
 use Rattle.sap_meaning.specs.Program as program
 use Rattle.sap_tagged.specs.Stands.{is_value, has_tag}

@@ -1,22 +1,9 @@
 -- Effects on memories.
-use Rattle.std.proofs.Common.{◌≡◌, ℕ, ◌+◌, Bool, true, false, ◌&&◌, refl, sym, ap, ap₂, ◌∙◌, subst, nat_eq, inl, inr, if◌then◌else◌}
-use Rattle.std.specs.Prelude.{◌==◌}
-use Rattle.std.proofs.lemmas.Bool.{cases_Bool, eqb-true}
-use Rattle.sap_maps.specs.Maps.{Name}
-use Rattle.sap_maps.specs.Term.{Term}
-use Rattle.sap_meaning.specs.Program.{is_dynamic, is_memory, LevelTerm, write, retag_cell, Group}
-use Rattle.sap_meaning.specs.Store.{Slot, own, start, next, start_whole, next_whole, Store, number, level, home, same_slot, put_number, put_level, raise, After}
-use Rattle.sap_meaning.specs.Expressions.{value, tag, new_level}
-use Rattle.sap_meaning.specs.Checks.{Home}
-use Rattle.sap_meaning.specs.Does.{effect}
-use Rattle.sap_meaning.specs.Fine.{FineStep}
-use Rattle.sap_ir.specs.Guarded.{Going, value_in, set_cell}
-use Rattle.sap_ir.specs.Plain.Does.{body_does}
-use Rattle.sap_tagged.specs.Keys.{Key, value_key, tag_key, seat_key, wire_key, first_key, same}
-use Rattle.sap_tagged.specs.Setting.{Setting}
-use Rattle.sap_tagged.specs.Levels.{var, lub, expr}
-use Rattle.sap_tagged.specs.Commands.{effect_of}
-use Rattle.sap_tagged.specs.Stands.{Lawful, at, tag_slot, Stands, Turns}
+use Rattle.sap_lemmas.proofs.Common.{◌≡◌, ℕ, ◌+◌, Bool, true, false, ◌&&◌, refl, sym, ap, ap₂, ◌∙◌, subst, nat_eq, inl, inr, if◌then◌else◌, ◌==◌, cases_Bool, eqb-true}
+use Rattle.sap_maps.specs.Prelude.{Name, Term}
+use Rattle.sap_meaning.specs.Prelude.{is_dynamic, is_memory, LevelTerm, write, retag_cell, Group, Slot, own, start, next, start_whole, next_whole, Store, number, level, home, same_slot, put_number, put_level, raise, After, value, tag, new_level, Home, effect, FineStep}
+use Rattle.sap_ir.specs.Prelude.{Going, value_in, set_cell, body_does}
+use Rattle.sap_tagged.specs.Prelude.{Key, value_key, tag_key, seat_key, wire_key, first_key, same, Setting, var, lub, expr, effect_of, Lawful, at, tag_slot, Stands, Turns}
 use Rattle.sap_tagged.proofs.Bools.{tagged_memory}
 use Rattle.sap_tagged.proofs.Terms.{expr_value, lub_value}
 use Rattle.sap_tagged.proofs.Puts.{put_to, at_put, kept_put, stands_raise}

@@ -1,24 +1,11 @@
 -- Nothing stands behind a goto or a fall.
-use Rattle.std.proofs.Common.{◌≡◌, ℕ, zero, suc, ◌+◌, ◌^◌, nat_le, List, [], ◌∷◌, length, take, drop, Bool, true, false, not, ◌&&◌, ◌||◌, refl, ap, ◌∙◌, inl, inr, if◌then◌else◌}
-use Rattle.std.proofs.lemmas.Bool.{cases_Bool, and_parts, or_parts, or_right}
-use Rattle.sap_lemmas.proofs.Bools.{true_is_not_false}
+use Rattle.sap_lemmas.proofs.Common.{◌≡◌, ℕ, zero, suc, ◌+◌, ◌^◌, nat_le, List, [], ◌∷◌, length, take, drop, Bool, true, false, not, ◌&&◌, ◌||◌, refl, ap, ◌∙◌, inl, inr, if◌then◌else◌, cases_Bool, and_parts, or_parts, or_right, true_is_not_false}
 use Rattle.sap_ir.proofs.PlainLemmas.{follow_stop}
-use Rattle.sap_maps.specs.Maps.{Name}
-use Rattle.sap_maps.specs.Term.{Term, part}
-use Rattle.sap_meaning.specs.Program.{root, is_dynamic, is_register, listed, Step, assign, write, retag, retag_cell, go_to, fall_to_child, Command, lone, try, if_else, try_then, case_of, Arms, last_arm, and_arm, Block, end_block, command_then}
-use Rattle.sap_meaning.specs.Expressions.{width_of}
-use Rattle.sap_meaning.specs.Checks.{Home}
-use Rattle.sap_meaning.specs.Runs.{listed_alone}
+use Rattle.sap_maps.specs.Prelude.{Name, Term, part}
+use Rattle.sap_meaning.specs.Prelude.{root, is_dynamic, is_register, listed, Step, assign, write, retag, retag_cell, go_to, fall_to_child, Command, lone, try, if_else, try_then, case_of, Arms, last_arm, and_arm, Block, end_block, command_then, width_of, Home, listed_alone, Open, Closes, Final, ClosingArms, NoTransfer, EveryInArms, EveryInBlock}
 use Rattle.sap_meaning.specs.Fine as fine
-use Rattle.sap_meaning.specs.Fine.{Open, Closes, Final, ClosingArms, NoTransfer}
-use Rattle.sap_ir.specs.Plain.Nested.{Body, stop, act, cases, goto, fall}
-use Rattle.sap_ir.specs.Plain.IsPlain.{transfers, ends_in_transfers}
-use Rattle.sap_ir.specs.Plain.Views.{follow}
-use Rattle.sap_tagged.specs.Keys.{Key, tag_key, wire_key}
-use Rattle.sap_tagged.specs.Setting.{Setting}
-use Rattle.sap_tagged.specs.Levels.{always, expr, var, lub, bits}
-use Rattle.sap_tagged.specs.Commands.{gives, sweep, resets, effect_of, refusal, outcome, attempt_of, outcome_then, attempt_then_of, pick_width, picks_arm, picks, decides, pick_of, select_of, wires, wires_block, command_plain, arms_plain, block_plain}
-use Rattle.sap_meaning.specs.Walks.{EveryInArms, EveryInBlock}
+use Rattle.sap_ir.specs.Prelude.{Body, stop, act, cases, goto, fall, transfers, ends_in_transfers, follow}
+use Rattle.sap_tagged.specs.Prelude.{Key, tag_key, wire_key, Setting, always, expr, var, lub, bits, gives, sweep, resets, effect_of, refusal, outcome, attempt_of, outcome_then, attempt_then_of, pick_width, picks_arm, picks, decides, pick_of, select_of, wires, wires_block, command_plain, arms_plain, block_plain}
 
 -- a body that ends as it should; and one that goes nowhere either
 abbrev pub Ends : Body → Type 0
@@ -61,9 +48,6 @@ follow_goes (fall rest) b s e = absurd (true_is_not_false s)
 
 choice_ends : (t : Term Name) (x y : Body) → Ends x → Ends y → Ends (cases t x y stop)
 choice_ends t x y e f = rw (e, f) (or_right (not (transfers x || transfers y)) true refl)
-
-choice_stays : (t : Term Name) (x y : Body) → Stays x → Stays y → Stays (cases t x y stop)
-choice_stays t x y e f = record { ends = choice_ends t x y e.ends f.ends; goes = rw (e.goes, f.goes) refl }
 
 module _ (d : Setting) where
   effect_ends : (sp : Home) (k : ℕ) (t : Step) → Ends (effect_of d sp k t)

@@ -1,24 +1,19 @@
 -- In the terms of designs without faults the condition of each choice has one bit.
 use Rattle.std.proofs.Common as common
-use Rattle.std.proofs.Common.{◌≡◌, ℕ, ◌+◌, List, [], length, Bool, not, ◌&&◌, Option, Some, refl, inl, inr}
-use Rattle.std.specs.Prelude.{eqb}
-use Rattle.std.proofs.lemmas.Bool.{cases_Bool}
+use Rattle.sap_lemmas.proofs.Common.{◌≡◌, ℕ, ◌+◌, List, [], length, Bool, not, ◌&&◌, Option, Some, refl, inl, inr, eqb, cases_Bool}
 use Rattle.sap_tree.specs.Syntax as tree
 use Rattle.sap_tree.specs.Syntax.{Expression, literal, sized_literal, variable, cell_at, unary_of, binary_of, choice, slice, concat, zero_extend, Expressions, no_part, and_part}
+use Rattle.sap_names.specs.Prelude.{what_is, use_faults, name_faults, fault_if, unsettled, expression_faults, parts_faults, tag_faults, tags_faults, simple_faults, block_faults, kind_faults, state_faults, states_faults, own, own_parts, register_width, cell_width, index_width, sliced, extended, family, asked_left, asked_right, asked_one, is_sound, all_sound}
 use Rattle.sap_names.specs.declared.entity.Entity.{Entity}
 use Rattle.sap_names.specs.declared.kind.Declared.{Declared}
 use Rattle.sap_names.specs.declared.kind.Code.TheVariants.{E7}
-use Rattle.sap_names.specs.Entities.{what_is}
 use Rattle.sap_names.specs.declared.kind.Use.TheVariants.{Indexed as indexed}
 use Rattle.sap_names.specs.declared.kind.Use.TheVariants as uses
-use Rattle.sap_names.specs.NameFaults.{use_faults, name_faults, fault_if, unsettled, expression_faults, parts_faults, tag_faults, tags_faults, simple_faults, block_faults, kind_faults, state_faults, states_faults}
 use Rattle.sap_names.specs.Widths as widths
-use Rattle.sap_names.specs.Widths.{own, own_parts, register_width, cell_width, index_width, sliced, extended, family, asked_left, asked_right, asked_one, is_sound, all_sound}
 use Rattle.sap_maps.specs.Term.{Term, constant, read, cell, one, two, choose, join, part}
 use Rattle.sap_meaning.specs.Program as program
-use Rattle.sap_meaning.specs.Program.{World, LevelTerm, Step, assign, write, retag, retag_cell, go_to, fall_to_child, Block, State, state_node, Group}
-use Rattle.sap_meaning.specs.Walks.{EveryLevel, Every, EveryInArms, EveryInBlock, Asks, EveryBody, EveryBodyIn}
-use Rattle.sap_meaning.specs.Checks.{Home}
+use Rattle.sap_meaning.specs.Prelude.{World, LevelTerm, Step, assign, write, retag, retag_cell, go_to, fall_to_child, Block, State, state_node, Group, Every, EveryInArms, EveryInBlock, Asks, EveryBody, EveryBodyIn, Home}
+use Rattle.sap_meaning.specs.Walks.{EveryLevel}
 use Rattle.sap_meaning.specs.Expressions as meaning
 use Rattle.sap_lattice.specs.Levels.{Levels}
 use Rattle.sap_resolved.specs.Terms.{known, term_of, parts_of, widened, level_term, level_terms}

@@ -1,42 +1,23 @@
 -- A cycle, and a run: the plain program does what the design does.
-use Rattle.std.proofs.Common.{◌≡◌, ℕ, zero, suc, ◌+◌, ◌^◌, ◌<◌, ◌≤◌, List, [], ◌∷◌, ◌++◌, map, length, Bool, true, false, not, ◌||◌, Option, Some, None, inl, inr, refl, sym, ap, ◌∙◌, subst, if◌then◌else◌, arith, get_or, nat_lt, nat_eq}
-use Rattle.std.specs.Prelude.{unwrap_or, codes}
-use Rattle.std.proofs.lemmas.Bool.{cases_Bool, eqb-true, eq-eqb, and_parts, lt-ltb, ltb-true, or_right}
-use Rattle.std.proofs.lemmas.Grind.{common_steps}
-use Rattle.sap_lemmas.proofs.Bools.{or_other, true_is_not_false}
-use Rattle.sap_lemmas.proofs.Numbers.{less_of_tests, less_test_of_positive}
+use Rattle.sap_lemmas.proofs.Common.{◌≡◌, ℕ, zero, suc, ◌+◌, ◌^◌, ◌<◌, ◌≤◌, List, [], ◌∷◌, ◌++◌, map, length, Bool, true, false, not, ◌||◌, Option, Some, None, inl, inr, refl, sym, ap, ◌∙◌, subst, if◌then◌else◌, arith, get_or, nat_lt, nat_eq, unwrap_or, codes, cases_Bool, eqb-true, eq-eqb, and_parts, lt-ltb, ltb-true, or_right, common_steps, or_other, true_is_not_false, less_test_of_positive}
+use Rattle.sap_lemmas.proofs.Numbers.{less_of_tests}
 use Rattle.sap_net.proofs.NamesLemmas.{among_behind, among_front, not_found}
 use Rattle.sap_meaning.proofs.ProgramLemmas.{own_kind, register_no_memory, state_no_memory}
 use Rattle.sap_maps.proofs.ScopeLemmas.{found_first, found_second}
 use Rattle.sap_maps.specs.Maps.{Name, Valuation}
 use Rattle.sap_meaning.specs.Program as program
-use Rattle.sap_meaning.specs.Program.{World, Kind, entity, nothing, root, children, width, is_input, is_register, is_memory, is_dynamic, listed, kind_is_input, kind_is_memory}
-use Rattle.sap_meaning.specs.Store.{own, start, next, start_whole, next_whole, owner, Store, settle, After}
-use Rattle.sap_meaning.specs.Runs.{run_state}
-use Rattle.sap_meaning.specs.Cycle.{Tagged, given, set_inputs, root_fall, cycle, cycle_listed, run_from}
-use Rattle.sap_meaning.specs.State.{first, InputsFit, StreamFits}
-use Rattle.sap_meaning.specs.Sites.{refused_sites, RisesFrom, program_sites}
+use Rattle.sap_meaning.specs.Prelude.{World, Kind, entity, nothing, root, children, width, is_input, is_register, is_memory, is_dynamic, listed, kind_is_input, kind_is_memory, own, start, next, start_whole, next_whole, owner, Store, settle, After, run_state, Tagged, given, set_inputs, root_fall, cycle, cycle_listed, run_from, first, InputsFit, StreamFits, refused_sites, RisesFrom, program_sites, ListsServe, SitesInOrder}
 use Rattle.sap_meaning.proofs.SitesLemmas.{numbers_rise}
-use Rattle.sap_meaning.specs.Laws.{ListsServe, SitesInOrder}
 use Rattle.sap_net.specs.Names.{is_among, AreDistinct}
+use Rattle.sap_ir.specs.Prelude.{Source, readable, width_of, variable_names, memory_names, Going, first_number, first_cell, number_at_start, begun, Nested, Forest, declarations, child_does, enter, falls_of}
 use Rattle.sap_ir.specs.declared.guarded.Var.{Var}
+use Rattle.sap_ir.specs.Plain.Does.{run_after}
 use Rattle.sap_ir.specs.declared.guarded.MemoryVariable as stores
-use Rattle.sap_ir.specs.Source.{Source, readable, width_of}
-use Rattle.sap_ir.specs.IsGuarded.{variable_names, memory_names}
-use Rattle.sap_ir.specs.Guarded.{Going, first_number, first_cell, number_at_start, begun}
 use Rattle.sap_ir.proofs.Declared.{distinct_front, distinct_behind, apart_lists, not_readable, readable_width}
-use Rattle.sap_ir.specs.Plain.Nested.{Nested, Forest, declarations}
-use Rattle.sap_ir.specs.Plain.Does.{child_does, enter, falls_of, run_after}
 use Rattle.sap_ir.specs.Plain.Does as plain
 use Rattle.sap_net.specs.PortNames as ports
-use Rattle.sap_interface.specs.StandsFor.{Named, name, world, depth, StandsFor}
-use Rattle.sap_interface.specs.Compiled.{coded, coded_stream, CyclesStand}
-use Rattle.sap_tagged.specs.Keys.{value_key, tag_key, seat_key, refused_key, level_key, key_name, numeral}
-use Rattle.sap_tagged.specs.Setting.{Setting, setting_of}
-use Rattle.sap_tagged.specs.States.{top_plain}
-use Rattle.sap_tagged.specs.Plain.{variable, level_at_start, value_var, tag_var, seat_var, all_entities, shown_registers, has_own_tag, tag_registers, seat_registers, site_wires, memory_of, tags_of, plain_of}
-use Rattle.sap_tagged.specs.Stands.{Lawful, at, has_tag, tag_slot, refused_after}
-use Rattle.sap_tagged.specs.Law.{AllNumbersFit, RunStands}
+use Rattle.sap_interface.specs.Prelude.{Named, name, world, depth, StandsFor, coded, coded_stream, CyclesStand}
+use Rattle.sap_tagged.specs.Prelude.{value_key, tag_key, seat_key, refused_key, level_key, key_name, numeral, Setting, setting_of, top_plain, variable, level_at_start, value_var, tag_var, seat_var, all_entities, shown_registers, has_own_tag, tag_registers, seat_registers, site_wires, memory_of, tags_of, plain_of, Lawful, at, has_tag, tag_slot, refused_after, AllNumbersFit, RunStands}
 use Rattle.sap_tagged.proofs.Bools.{value_within, register_within, memory_within, tagged_within}
 use Rattle.sap_tagged.proofs.KeyNames.{names_apart}
 use Rattle.sap_tagged.proofs.Members.{In, among_in, find_in, number_in, number_out, start_out, in_front, in_behind, in_entities, reached, among_store, cell_in, find_store}

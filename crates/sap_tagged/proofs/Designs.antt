@@ -1,26 +1,17 @@
 -- The program of a well-formed design has all that the law asks for.
-use Rattle.std.proofs.Common.{◌≡◌, ℕ, zero, suc, ◌+◌, ◌^◌, ◌<◌, ◌≤◌, List, [], ◌∷◌, ◌++◌, map, length, length-append, Bool, true, false, not, ◌&&◌, ◌||◌, refl, sym, ap, ◌∙◌, subst, arith, bytes_eq, nat_eq, nat_lt, nat_le, get_or}
-use Rattle.std.specs.List.{list_all, list_any}
-use Rattle.std.proofs.lemmas.Bool.{eqb-true, eq-eqb, and_parts, leb-true, ltb-true, not-true}
-use Rattle.std.proofs.lemmas.Grind.{common_steps}
-use Rattle.sap_lemmas.proofs.Bools.{and_left, and_right, iff_same}
-use Rattle.sap_lemmas.proofs.Texts.{bytes_eq_same, equal_of_bytes_eq}
+use Rattle.sap_lemmas.proofs.Common.{◌≡◌, ℕ, zero, suc, ◌+◌, ◌^◌, ◌<◌, ◌≤◌, List, [], ◌∷◌, ◌++◌, map, length, length-append, Bool, true, false, not, ◌&&◌, ◌||◌, refl, sym, ap, ◌∙◌, subst, arith, bytes_eq, nat_eq, nat_lt, nat_le, get_or, list_all, list_any, eqb-true, eq-eqb, and_parts, leb-true, ltb-true, not-true, common_steps, and_left, and_right, iff_same, bytes_eq_same, equal_of_bytes_eq}
 use Rattle.sap_resolved.proofs.WorldsLemmas.{children_length, declared_length}
 use Rattle.sap_names.proofs.FaultLemmas.{nil_left, nil_right}
+use Rattle.sap_tree.specs.Prelude.{StateTree, state_node, StateList, no_state, and_state, DesignTree, is_declaration, has_state, are_states, is_state, is_tree, is_within_limits, is_whole, state_count, states_count, states_commands, most_name_bytes, most_states, most_commands}
 use Rattle.sap_tree.specs.declared.syntax.Decl.{Decl}
-use Rattle.sap_tree.specs.declared.syntax.Decl.TheVariants as decl
-use Rattle.sap_tree.specs.Syntax.{StateTree, state_node, StateList, no_state, and_state, DesignTree}
-use Rattle.sap_tree.specs.Words as words
-use Rattle.sap_tree.specs.Whole.{is_declaration, has_state, are_states, is_state, is_tree, is_within_limits, is_whole, state_count, states_count, states_commands}
-use Rattle.sap_tree.specs.Limits.{most_name_bytes, most_states, most_commands}
 use Rattle.sap_tree.specs.declared.version.Version.{Version}
 use Rattle.sap_tree.specs.declared.version.Version.TheVariants.{One, Two}
-use Rattle.sap_lattice.specs.Levels.{Levels, order_of}
-use Rattle.sap_lattice.specs.Codes.{width_of}
+use Rattle.sap_tree.specs.declared.syntax.Decl.TheVariants as decl
+use Rattle.sap_tree.specs.Words as words
+use Rattle.sap_lattice.specs.Prelude.{Levels, order_of, width_of}
+use Rattle.sap_names.specs.Prelude.{entity_of, declared_in, state_entities, group_entities, entities_of, what_is, twice, declarations_faults, states_faults}
 use Rattle.sap_names.specs.declared.entity.Entity.{Entity}
-use Rattle.sap_names.specs.Entities.{entity_of, declared_in, state_entities, group_entities, entities_of, what_is}
-use Rattle.sap_names.specs.NameFaults.{twice, declarations_faults, states_faults}
-use Rattle.sap_meaning.specs.Program.{World, root, children}
+use Rattle.sap_meaning.specs.Prelude.{World, root, children, ListsServe, SitesInOrder}
 use Rattle.sap_resolved.specs.Terms.{entity_number}
 use Rattle.sap_resolved.specs.Worlds.{states_in, states_below, all_declared, no_children, group_length, state_children, group_children, world_of}
 use Rattle.sap_resolved.specs.Worlds as worlds
@@ -32,9 +23,7 @@ use Rattle.sap_resolved.proofs.premises.Places.{name_at, group_count, group_kids
 use Rattle.sap_resolved.proofs.premises.Programs.{fine_law, sites_numbered}
 use Rattle.sap_resolved.proofs.premises.Lists.{exact}
 use Rattle.sap_resolved.proofs.premises.Worlds.{root_children}
-use Rattle.sap_interface.specs.StandsFor.{Named, name}
-use Rattle.sap_interface.specs.Designs.{named_of, site_count_of}
-use Rattle.sap_meaning.specs.Laws.{ListsServe, SitesInOrder}
+use Rattle.sap_interface.specs.Prelude.{Named, name, named_of, site_count_of}
 use Rattle.sap_tagged.specs.Law.{IsSound, PlainStands}
 use Rattle.sap_tagged.proofs.KeyNames.{NamesApart}
 use Rattle.sap_tagged.proofs.Distinct.{distinct}

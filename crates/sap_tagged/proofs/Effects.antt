@@ -1,24 +1,10 @@
 -- Effects of assignments, of new levels and of falls.
-use Rattle.std.proofs.Common.{◌≡◌, ℕ, ◌+◌, ◌≤◌, Bool, true, false, ◌||◌, List, refl, sym, ap, ◌∙◌, subst, nat_eq, inl, inr, if◌then◌else◌}
-use Rattle.std.specs.Prelude.{◌==◌}
-use Rattle.std.proofs.lemmas.Bool.{cases_Bool, eqb-true, or_right}
-use Rattle.sap_lemmas.proofs.Bools.{true_is_not_false}
-use Rattle.sap_maps.specs.Maps.{Name}
-use Rattle.sap_maps.specs.Term.{Term}
-use Rattle.sap_meaning.specs.Program.{Kind, entity, is_dynamic, is_register, is_memory, children, kind_is_input, kind_is_register, kind_is_state, LevelTerm, Step, assign, retag, fall_to_child, Group}
+use Rattle.sap_lemmas.proofs.Common.{◌≡◌, ℕ, ◌+◌, ◌≤◌, Bool, true, false, ◌||◌, List, refl, sym, ap, ◌∙◌, subst, nat_eq, inl, inr, if◌then◌else◌, ◌==◌, cases_Bool, eqb-true, or_right, true_is_not_false}
+use Rattle.sap_maps.specs.Prelude.{Name, Term}
+use Rattle.sap_meaning.specs.Prelude.{Kind, entity, is_dynamic, is_register, is_memory, children, kind_is_input, kind_is_register, kind_is_state, LevelTerm, Step, assign, retag, fall_to_child, Group, own, start, Store, number, level, child, put_number, put_level, After, value, tag, new_level, Home, guard, child_level, effect, FineStep}
 use Rattle.sap_meaning.specs.Program as program
-use Rattle.sap_meaning.specs.Store.{own, start, Store, number, level, child, put_number, put_level, After}
-use Rattle.sap_meaning.specs.Expressions.{value, tag, new_level}
-use Rattle.sap_meaning.specs.Checks.{Home, guard, child_level}
-use Rattle.sap_meaning.specs.Does.{effect}
-use Rattle.sap_meaning.specs.Fine.{FineStep}
-use Rattle.sap_ir.specs.Guarded.{Going, value_in}
-use Rattle.sap_ir.specs.Plain.Does.{body_does}
-use Rattle.sap_tagged.specs.Keys.{value_key, tag_key, seat_key, refused_key, level_key, wire_key, inner_key}
-use Rattle.sap_tagged.specs.Setting.{Setting}
-use Rattle.sap_tagged.specs.Levels.{expr}
-use Rattle.sap_tagged.specs.Commands.{effect_of}
-use Rattle.sap_tagged.specs.Stands.{Lawful, at, is_value, has_tag, Stands, Turns}
+use Rattle.sap_ir.specs.Prelude.{Going, value_in, body_does}
+use Rattle.sap_tagged.specs.Prelude.{value_key, tag_key, seat_key, refused_key, level_key, wire_key, inner_key, Setting, expr, effect_of, Lawful, at, is_value, has_tag, Stands, Turns}
 use Rattle.sap_tagged.proofs.Bools.{register_within, tagged, value_no_memory, kept_no_memory}
 use Rattle.sap_tagged.proofs.Terms.{bit, expr_value, own_tag}
 use Rattle.sap_tagged.proofs.StepTerms.{level_written, number_stays}

@@ -1,9 +1,6 @@
 -- What the wires of sites say after a cycle in which they began at 0.
-use Rattle.std.proofs.Common.{◌≡◌, ℕ, zero, suc, ◌+◌, ◌<◌, ◌≤◌, ◌⊎◌, ◌↔◌, Bool, true, false, ◌||◌, List, [], ◌∷◌, refl, sym, ap, ◌∙◌, arith, nat_eq, inl, inr, if◌then◌else◌}
-use Rattle.std.proofs.lemmas.Bool.{cases_Bool, eqb-true, eq-eqb, ne_eqb, or_right}
-use Rattle.sap_lemmas.proofs.Bools.{or_other, true_is_not_false}
-use Rattle.sap_meaning.specs.Store.{Refusal}
-use Rattle.sap_meaning.specs.Sites.{refused_sites, numbers_from, RisesFrom}
+use Rattle.sap_lemmas.proofs.Common.{◌≡◌, ℕ, zero, suc, ◌+◌, ◌<◌, ◌≤◌, ◌⊎◌, ◌↔◌, Bool, true, false, ◌||◌, List, [], ◌∷◌, refl, sym, ap, ◌∙◌, arith, nat_eq, inl, inr, if◌then◌else◌, cases_Bool, eqb-true, eq-eqb, ne_eqb, or_right, or_other, true_is_not_false}
+use Rattle.sap_meaning.specs.Prelude.{Refusal, refused_sites, numbers_from, RisesFrom}
 use Rattle.sap_interface.specs.StandsFor.{IsRefusedAt, IsRefused}
 use Rattle.sap_tagged.specs.Stands.{refused_after, level_after}
 

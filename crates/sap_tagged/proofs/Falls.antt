@@ -1,26 +1,10 @@
 -- States, groups, and the root's fall.
-use Rattle.std.proofs.Common.{◌≡◌, ℕ, zero, suc, ◌+◌, ◌<◌, Bool, true, false, refl, sym, ap, ◌∙◌, arith, nat_eq, if◌then◌else◌}
-use Rattle.std.proofs.lemmas.Bool.{eq-eqb, and_from, and_parts, or_left, or_right}
-use Rattle.sap_maps.specs.Maps.{Name}
-use Rattle.sap_maps.specs.Term.{Term}
-use Rattle.sap_meaning.specs.Program.{World, root, is_dynamic, is_memory, children, Block, state_node, Group, no_node, and_node}
-use Rattle.sap_meaning.specs.Store.{Store, own, start, next, start_whole, next_whole, number, level, child, After}
-use Rattle.sap_meaning.specs.Checks.{Home}
-use Rattle.sap_meaning.specs.Touches.{among}
-use Rattle.sap_meaning.specs.Runs.{run_state, run_child}
-use Rattle.sap_meaning.specs.Cycle.{root_fall}
-use Rattle.sap_meaning.specs.Fine.{FineNode, FineGroup, size}
-use Rattle.sap_ir.specs.Guarded.{Going, value_in}
-use Rattle.sap_ir.specs.Plain.Nested.{Body, Forest, none, state}
+use Rattle.sap_lemmas.proofs.Common.{◌≡◌, ℕ, zero, suc, ◌+◌, ◌<◌, Bool, true, false, refl, sym, ap, ◌∙◌, arith, nat_eq, if◌then◌else◌, eq-eqb, and_from, and_parts, or_left, or_right}
+use Rattle.sap_maps.specs.Prelude.{Name, Term}
+use Rattle.sap_meaning.specs.Prelude.{World, root, is_dynamic, is_memory, children, Block, state_node, Group, no_node, and_node, Store, own, start, next, start_whole, next_whole, number, level, child, After, Home, among, run_state, run_child, root_fall, FineNode, FineGroup, size}
+use Rattle.sap_ir.specs.Prelude.{Going, value_in, Body, Forest, none, state, body_does, child_does, enter}
 use Rattle.sap_net.specs.PortNames.{seat_name}
-use Rattle.sap_ir.specs.Plain.Does.{body_does, child_does, enter}
-use Rattle.sap_tagged.specs.Keys.{value_key, tag_key, seat_key, refused_key, level_key, wire_key, first_key, inner_key}
-use Rattle.sap_tagged.specs.Setting.{Setting}
-use Rattle.sap_tagged.specs.Levels.{var}
-use Rattle.sap_tagged.specs.Commands.{gives, raises, wires_block, block_plain}
-use Rattle.sap_tagged.specs.Few.{FewGroup}
-use Rattle.sap_tagged.specs.States.{wires_group, group_plain, saved, saves, top_plain}
-use Rattle.sap_tagged.specs.Stands.{Lawful, at, is_value, has_tag, tag_slot, Stands, refused_after, level_after, Turns}
+use Rattle.sap_tagged.specs.Prelude.{value_key, tag_key, seat_key, refused_key, level_key, wire_key, first_key, inner_key, Setting, var, gives, raises, wires_block, block_plain, FewGroup, wires_group, group_plain, saved, saves, top_plain, Lawful, at, is_value, has_tag, tag_slot, Stands, refused_after, level_after, Turns}
 use Rattle.sap_tagged.proofs.Bools.{tagged, tagged_memory, memory_within}
 use Rattle.sap_tagged.proofs.Terms.{own_tag}
 use Rattle.sap_tagged.proofs.StepTerms.{Placed}

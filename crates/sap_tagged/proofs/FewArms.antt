@@ -1,26 +1,19 @@
 -- The program of a whole design has cases with few arms, each with a constant.
-use Rattle.std.proofs.Common.{◌≡◌, ℕ, suc, ◌+◌, ◌≤◌, List, length, true, ◌&&◌, refl, sym, ap, subst, arith, nat_le}
-use Rattle.sap_lemmas.proofs.Bools.{and_left, and_right}
-use Rattle.std.proofs.lemmas.Bool.{and_parts, leb-true}
-use Rattle.std.specs.List.{AllByRecursion}
-use Rattle.sap_tree.specs.Limits.{most_arms, most_blocks}
+use Rattle.sap_lemmas.proofs.Common.{◌≡◌, ℕ, suc, ◌+◌, ◌≤◌, List, length, true, ◌&&◌, refl, sym, ap, subst, arith, nat_le, and_left, and_right, and_parts, leb-true, AllByRecursion}
+use Rattle.sap_tree.specs.Prelude.{most_arms, most_blocks, is_simple, is_outermost, has_arm, has_constant, are_constants, is_command, is_block, is_else, are_arms, are_commands, block_depth, is_kind, is_state, are_states, is_name, is_second}
+use Rattle.sap_tree.specs.declared.version.Version.{Version}
 use Rattle.sap_tree.specs.Syntax as tree
 use Rattle.sap_tree.specs.Whole as whole
-use Rattle.sap_tree.specs.Whole.{is_simple, is_outermost, has_arm, has_constant, are_constants, is_command, is_block, is_else, are_arms, are_commands, block_depth, is_kind, is_state, are_states}
-use Rattle.sap_tree.specs.Words.{is_name, is_second}
-use Rattle.sap_tree.specs.declared.version.Version.{Version}
 use Rattle.sap_lattice.specs.Levels.{Levels}
 use Rattle.sap_names.specs.declared.entity.Entity.{Entity}
-use Rattle.sap_meaning.specs.Program.{World, Command, lone, try, if_else, try_then, case_of, Arms, last_arm, and_arm, Group}
-use Rattle.sap_meaning.specs.Checks.{Home}
+use Rattle.sap_meaning.specs.Prelude.{World, Command, lone, try, if_else, try_then, case_of, Arms, last_arm, and_arm, Group, Home}
 use Rattle.sap_meaning.proofs.WalksLemmas.{constants_mapped}
 use Rattle.sap_resolved.specs.Worlds.{states_in}
 use Rattle.sap_shape.specs.Sites.{Surroundings, simple_sites, command_sites, block_sites, state_sites}
 use Rattle.sap_resolved.specs.Resolve.{numbers_of, command_of, arms_of, block_of, else_of, list_of, state_of, group_of}
 use Rattle.sap_resolved.specs.Fill.{filled_step, filled_hang, filled, filled_arms, filled_group}
 use Rattle.sap_resolved.proofs.FillLemmas.{commands_filled_group}
-use Rattle.sap_tagged.specs.Commands.{arm_count}
-use Rattle.sap_tagged.specs.Few.{HaveConstants, FewHere, Few, FewArms, FewBlock, FewState, FewGroup}
+use Rattle.sap_tagged.specs.Prelude.{arm_count, HaveConstants, FewHere, Few, FewArms, FewBlock, FewState, FewGroup}
 
 -- resolving keeps the arms and their constants
 

@@ -1,29 +1,13 @@
 -- Terms keep the rules of names and of widths.
-use Rattle.std.proofs.Common.{◌≡◌, ℕ, zero, suc, ◌+◌, ◌-◌, ◌^◌, ◌<◌, ◌≤◌, Bool, true, false, ◌||◌, Some, refl, sym, ap, ◌∙◌, subst, if◌then◌else◌, arith, nat_lt, inl, inr}
-use Rattle.std.proofs.lemmas.Bool.{cases_Bool, eq-eqb, or_left, or_right}
-use Rattle.std.proofs.lemmas.Grind.{common_steps}
-use Rattle.std.proofs.Math.Pow.{pow_pos}
-use Rattle.std.proofs.Math.Nat.{pow-le-pow_right}
+use Rattle.sap_lemmas.proofs.Common.{◌≡◌, ℕ, zero, suc, ◌+◌, ◌-◌, ◌^◌, ◌<◌, ◌≤◌, Bool, true, false, ◌||◌, Some, refl, sym, ap, ◌∙◌, subst, if◌then◌else◌, arith, nat_lt, inl, inr, cases_Bool, eq-eqb, or_left, or_right, common_steps, pow_pos, pow-le-pow_right}
 use Rattle.sap_resolved.proofs.SizedLemmas.{ranged_width}
 use Rattle.sap_bits.specs.declared.Op2.TheVariants.{And, Eq}
-use Rattle.sap_maps.specs.Maps.{Name}
-use Rattle.sap_maps.specs.Scope.{find}
-use Rattle.sap_maps.specs.Term.{Term, constant, read, cell, one, two, choose, join, part}
-use Rattle.sap_meaning.specs.Program.{World, root, is_dynamic, is_memory, is_register, is_state, authority, width, children, LevelTerm, fixed, of, at_place, both, Step, assign, write, retag, retag_cell, go_to, fall_to_child, state_node, Group, no_node, and_node}
-use Rattle.sap_meaning.specs.Expressions.{width_of}
-use Rattle.sap_meaning.specs.Checks.{Home, entry}
-use Rattle.sap_meaning.specs.Fine.{FineTerm, FineLevel, FineStep, size}
-use Rattle.sap_meaning.specs.Sized.{depth, Indexes, SizedTerm, SizedLevel, SizedStep}
+use Rattle.sap_maps.specs.Prelude.{Name, find, Term, constant, read, cell, one, two, choose, join, part}
+use Rattle.sap_meaning.specs.Prelude.{World, root, is_dynamic, is_memory, is_register, is_state, authority, width, children, LevelTerm, fixed, of, at_place, both, Step, assign, write, retag, retag_cell, go_to, fall_to_child, state_node, Group, no_node, and_node, width_of, Home, entry, FineTerm, FineLevel, FineStep, size, depth, Indexes, SizedTerm, SizedLevel, SizedStep}
 use Rattle.sap_resolved.specs.Sized.Ranges.{IsWidth, RangedTerm, RangedLevel, RangedStep}
-use Rattle.sap_ir.specs.Source.{Source, readable, shapes}
-use Rattle.sap_ir.specs.IsGuarded.{TermFine}
-use Rattle.sap_ir.specs.Plain.Nested.{seat_width}
+use Rattle.sap_ir.specs.Prelude.{Source, readable, shapes, TermFine, seat_width}
 use Rattle.sap_ir.proofs.plain.SeatWidths.{seat_positive, seat_within}
-use Rattle.sap_tagged.specs.Keys.{value_key, tag_key, seat_key, first_key, inner_key}
-use Rattle.sap_tagged.specs.Setting.{Setting}
-use Rattle.sap_tagged.specs.Levels.{var, bits, lub, below_or_at, yes, expr, cell_tag, tag_of, place_width, widened, placed, new_tag, told_tag, child_tag, enters, child_enters, seat_bits, seat_of, guard_of, test_of, written, stays}
-use Rattle.sap_tagged.specs.States.{saved}
-use Rattle.sap_tagged.specs.Stands.{is_value, has_tag}
+use Rattle.sap_tagged.specs.Prelude.{value_key, tag_key, seat_key, first_key, inner_key, Setting, var, bits, lub, below_or_at, yes, expr, cell_tag, tag_of, place_width, widened, placed, new_tag, told_tag, child_tag, enters, child_enters, seat_bits, seat_of, guard_of, test_of, written, stays, saved, is_value, has_tag}
 use Rattle.sap_tagged.proofs.Bools.{value_within, value_no_memory, kept_no_memory, enforced_within, tagged}
 use Rattle.sap_tagged.proofs.Terms.{AllTagged}
 use Rattle.sap_tagged.proofs.StepTerms.{Placed}

@@ -1,18 +1,13 @@
 -- The program of a well-formed design has what the rules ask for.
-use Rattle.std.proofs.Common.{◌≡◌, ℕ, ◌+◌, ◌*◌, ◌<◌, ◌≤◌, List, length, Bool, ◌&&◌, IsTrue, refl, ap, arith, nat_le}
-use Rattle.std.specs.List.{count_by}
-use Rattle.std.proofs.lemmas.Grind.{common_steps}
+use Rattle.sap_lemmas.proofs.Common.{◌≡◌, ℕ, ◌+◌, ◌*◌, ◌<◌, ◌≤◌, List, length, Bool, ◌&&◌, IsTrue, refl, ap, arith, nat_le, count_by, common_steps}
 use Rattle.sap_tree.proofs.SyntaxLemmas.{tree_of_whole}
 use Rattle.sap_tree.specs.Syntax as tree
-use Rattle.sap_tree.specs.Syntax.{DesignTree}
-use Rattle.sap_tree.specs.Whole.{is_tree, is_whole, is_input, is_register, is_memory, command_count, arms_count, block_count, else_count, list_count, state_count, states_count, states_depth, state_commands, states_commands}
+use Rattle.sap_tree.specs.Prelude.{DesignTree, is_tree, is_whole, is_input, is_register, is_memory, command_count, arms_count, block_count, else_count, list_count, state_count, states_count, states_depth, state_commands, states_commands}
 use Rattle.sap_lattice.proofs.KeptLemmas.{order_of-count}
-use Rattle.sap_lattice.specs.Levels.{Levels, order_of}
-use Rattle.sap_lattice.specs.Codes.{width_of}
+use Rattle.sap_lattice.specs.Prelude.{Levels, order_of, width_of}
 use Rattle.sap_names.specs.Entities.{entities_of}
 use Rattle.sap_names.specs.declared.entity.Entity.{Entity}
-use Rattle.sap_meaning.specs.Program.{World, root, Command, lone, try, if_else, try_then, case_of, State, state_node, Group}
-use Rattle.sap_meaning.specs.Checks.{Home}
+use Rattle.sap_meaning.specs.Prelude.{World, root, Command, lone, try, if_else, try_then, case_of, State, state_node, Group, Home}
 use Rattle.sap_meaning.proofs.WalksLemmas.{folded_mapped_block}
 use Rattle.sap_resolved.specs.Worlds.{world_of, states_in}
 use Rattle.sap_shape.specs.Sites.{Surroundings, simple_sites, command_sites, block_sites, state_sites}
@@ -24,9 +19,7 @@ use Rattle.sap_resolved.proofs.sized.Declared.{resolved}
 use Rattle.sap_resolved.proofs.sized.Programs.{faultless, sizes_fit_law}
 use Rattle.sap_resolved.proofs.sized.RangedPrograms.{widths_in_range_law}
 use Rattle.sap_interface.specs.Designs.{named_of, site_count_of}
-use Rattle.sap_tagged.specs.Commands.{own_wires, wires, wires_arms, wires_block}
-use Rattle.sap_tagged.specs.States.{body_wires, wires_state, wires_group}
-use Rattle.sap_tagged.specs.Law.{IsSound, PlainsKeepRules, PlainsWriteOnce}
+use Rattle.sap_tagged.specs.Prelude.{own_wires, wires, wires_arms, wires_block, body_wires, wires_state, wires_group, IsSound, PlainsKeepRules, PlainsWriteOnce}
 use Rattle.sap_tagged.proofs.Conditions.{group_conditions, filled_group_conditions}
 use Rattle.sap_tagged.proofs.Rules.{Fitting}
 use Rattle.sap_tagged.proofs.Plains.{plain}

@@ -1,34 +1,16 @@
 -- The states of a plain program keep the rules.
-use Rattle.std.proofs.Common.{◌≡◌, ℕ, suc, ◌+◌, ◌^◌, ◌<◌, ◌≤◌, List, ◌++◌, map, Bool, true, Some, refl, sym, ap, ◌∙◌, subst, arith, nat_lt, nat_eq, bytes_eq, inl, inr}
-use Rattle.std.proofs.lemmas.Bool.{cases_Bool, eqb-true, eq-eqb, and_parts, or_right}
-use Rattle.sap_lemmas.proofs.Bools.{or_other, true_is_not_false}
-use Rattle.sap_lemmas.proofs.Texts.{bytes_eq_same}
-use Rattle.sap_maps.specs.Maps.{Name}
-use Rattle.sap_maps.specs.Scope.{find}
-use Rattle.sap_meaning.specs.Program.{World, root, is_dynamic, is_memory, children, Command, lone, try, if_else, try_then, case_of, Arms, last_arm, and_arm, Block, end_block, command_then, state_node, Group, no_node, and_node}
-use Rattle.sap_meaning.specs.Expressions.{width_of}
-use Rattle.sap_meaning.specs.Checks.{Home}
-use Rattle.sap_meaning.specs.Touches.{among}
+use Rattle.sap_lemmas.proofs.Common.{◌≡◌, ℕ, suc, ◌+◌, ◌^◌, ◌<◌, ◌≤◌, List, ◌++◌, map, Bool, true, Some, refl, sym, ap, ◌∙◌, subst, arith, nat_lt, nat_eq, bytes_eq, inl, inr, cases_Bool, eqb-true, eq-eqb, and_parts, or_right, or_other, true_is_not_false, bytes_eq_same}
+use Rattle.sap_maps.specs.Prelude.{Name, find}
+use Rattle.sap_meaning.specs.Prelude.{World, root, is_dynamic, is_memory, children, Command, lone, try, if_else, try_then, case_of, Arms, last_arm, and_arm, Block, end_block, command_then, state_node, Group, no_node, and_node, width_of, Home, among, FineGroup, size, ExactGroup, SizedGroup}
 use Rattle.sap_meaning.specs.Sites as sites
-use Rattle.sap_meaning.specs.Fine.{FineGroup, size, ExactGroup}
-use Rattle.sap_meaning.specs.Sized.{SizedGroup}
 use Rattle.sap_resolved.specs.Sized.Ranges.{RangedGroup}
-use Rattle.sap_net.specs.Names.{is_among}
+use Rattle.sap_net.specs.Prelude.{is_among, seat_name}
+use Rattle.sap_ir.specs.Prelude.{Source, readable, assignable, Body, Forest, none, state, has_states, group_names, seat_width, BodyFine, ForestFine, SeatFine}
 use Rattle.sap_ir.specs.declared.guarded.Var.{Var}
-use Rattle.sap_ir.specs.Source.{Source, readable}
-use Rattle.sap_ir.specs.IsGuarded.{assignable}
-use Rattle.sap_ir.specs.Plain.Nested.{Body, Forest, none, state, has_states, group_names, seat_width}
-use Rattle.sap_net.specs.PortNames.{seat_name}
+use Rattle.sap_ir.specs.Plain.IsPlain.{IsSeat}
 use Rattle.sap_ir.specs.Plain.Nested as nested
-use Rattle.sap_ir.specs.Plain.IsPlain.{BodyFine, ForestFine, SeatFine, IsSeat}
 use Rattle.sap_interface.specs.StandsFor.{Named, world}
-use Rattle.sap_tagged.specs.Keys.{tag_key, seat_key, wire_key, first_key, inner_key}
-use Rattle.sap_tagged.specs.Setting.{Setting, setting_of}
-use Rattle.sap_tagged.specs.Levels.{var, lub}
-use Rattle.sap_tagged.specs.Commands.{gives, raises, pick_width, wires, wires_block, block_plain}
-use Rattle.sap_tagged.specs.Few.{FewGroup}
-use Rattle.sap_tagged.specs.States.{wires_group, group_plain, saved, saves, top_plain}
-use Rattle.sap_tagged.specs.Plain.{wire, step_wires, command_wires, arms_wires, block_wires, state_wires, group_wires}
+use Rattle.sap_tagged.specs.Prelude.{tag_key, seat_key, wire_key, first_key, inner_key, Setting, setting_of, var, lub, gives, raises, pick_width, wires, wires_block, block_plain, FewGroup, wires_group, group_plain, saved, saves, top_plain, wire, step_wires, command_wires, arms_wires, block_wires, state_wires, group_wires}
 use Rattle.sap_tagged.proofs.Bools.{tagged_memory}
 use Rattle.sap_tagged.proofs.Groups.{LawfulStates, Shaped, group_states}
 use Rattle.sap_tagged.proofs.Falls.{placed_in, shaped_group}

@@ -1,22 +1,10 @@
 -- A goto: the resets below the target, its tag, and the seats.
-use Rattle.std.proofs.Common.{◌≡◌, ℕ, ◌+◌, Bool, true, false, ◌&&◌, refl, sym, ap, ◌∙◌, subst, arith, nat_lt, nat_le, nat_eq, if◌then◌else◌}
-use Rattle.std.proofs.lemmas.Bool.{eqb-true}
+use Rattle.sap_lemmas.proofs.Common.{◌≡◌, ℕ, ◌+◌, Bool, true, false, ◌&&◌, refl, sym, ap, ◌∙◌, subst, arith, nat_lt, nat_le, nat_eq, if◌then◌else◌, eqb-true}
 use Rattle.sap_meaning.proofs.ProgramLemmas.{memory_no_state, state_no_value}
-use Rattle.sap_maps.specs.Maps.{Name}
-use Rattle.sap_maps.specs.Term.{Term}
-use Rattle.sap_meaning.specs.Program.{World, root, entity, is_dynamic, is_state, is_memory, place, last, below, go_to, Group}
-use Rattle.sap_meaning.specs.Store.{own, next_whole, Store, put_number, put_level, put_child, lowered, reset, After, stay}
-use Rattle.sap_meaning.specs.Checks.{Home}
-use Rattle.sap_meaning.specs.Touches.{among}
-use Rattle.sap_meaning.specs.Does.{effect}
-use Rattle.sap_ir.specs.Guarded.{Going}
-use Rattle.sap_ir.specs.Plain.Nested.{Body, stop, goto}
-use Rattle.sap_ir.specs.Plain.Does.{body_does}
-use Rattle.sap_tagged.specs.Keys.{value_key, tag_key, seat_key, refused_key, level_key, wire_key, first_key}
-use Rattle.sap_tagged.specs.Setting.{Setting}
-use Rattle.sap_tagged.specs.Levels.{var, bits}
-use Rattle.sap_tagged.specs.Commands.{gives, for_each, resets, effect_of}
-use Rattle.sap_tagged.specs.Stands.{Lawful, at, is_value, has_tag, tag_slot, Stands, Turns}
+use Rattle.sap_maps.specs.Prelude.{Name, Term}
+use Rattle.sap_meaning.specs.Prelude.{World, root, entity, is_dynamic, is_state, is_memory, place, last, below, go_to, Group, own, next_whole, Store, put_number, put_level, put_child, lowered, reset, After, stay, Home, among, effect}
+use Rattle.sap_ir.specs.Prelude.{Going, Body, stop, goto, body_does}
+use Rattle.sap_tagged.specs.Prelude.{value_key, tag_key, seat_key, refused_key, level_key, wire_key, first_key, Setting, var, bits, gives, for_each, resets, effect_of, Lawful, at, is_value, has_tag, tag_slot, Stands, Turns}
 use Rattle.sap_tagged.proofs.Bools.{tagged_within}
 use Rattle.sap_tagged.proofs.Puts.{put_to, does_gives, swept, does_sweep, between, swept_is, within_all, stands_changed}
 use Rattle.sap_tagged.proofs.Looks.{Quiet, quiet_next, turns_stay}

@@ -1,23 +1,12 @@
 -- The states of a group: their names, their places, and what a goto among them does to seats.
-use Rattle.std.proofs.Common.{◌≡◌, ℕ, suc, ◌+◌, ◌<◌, ◌≤◌, Bool, true, false, ◌||◌, refl, sym, ap, ◌∙◌, subst, arith, nat_lt, nat_eq, inl, inr, bytes_eq, if◌then◌else◌}
-use Rattle.std.proofs.lemmas.Bool.{cases_Bool, eqb-true, eq-eqb, false_from_ne_true, or_right}
-use Rattle.std.proofs.lemmas.Grind.{common_steps}
-use Rattle.sap_lemmas.proofs.Bools.{or_other, true_is_not_false}
-use Rattle.sap_lemmas.proofs.Numbers.{test_symmetric}
+use Rattle.sap_lemmas.proofs.Common.{◌≡◌, ℕ, suc, ◌+◌, ◌<◌, ◌≤◌, Bool, true, false, ◌||◌, refl, sym, ap, ◌∙◌, subst, arith, nat_lt, nat_eq, inl, inr, bytes_eq, if◌then◌else◌, cases_Bool, eqb-true, eq-eqb, false_from_ne_true, or_right, common_steps, or_other, true_is_not_false, test_symmetric}
 use Rattle.sap_maps.specs.Maps.{Name}
-use Rattle.sap_meaning.specs.Program.{World, root, is_state, is_memory, children, place, last, below, Block, state_node, Group, no_node, and_node}
-use Rattle.sap_meaning.specs.Store.{child}
-use Rattle.sap_meaning.specs.Touches.{among}
-use Rattle.sap_meaning.specs.Fine.{FineNode, FineGroup, inside, size}
+use Rattle.sap_meaning.specs.Prelude.{World, root, is_state, is_memory, children, place, last, below, Block, state_node, Group, no_node, and_node, child, among, FineNode, FineGroup, inside, size}
 use Rattle.sap_meaning.proofs.Trees.{lands}
-use Rattle.sap_ir.specs.Guarded.{Going}
-use Rattle.sap_ir.specs.Plain.Nested.{Body, Forest, none, state}
+use Rattle.sap_ir.specs.Prelude.{Going, Body, Forest, none, state, put_value, first_child, restart, enter}
 use Rattle.sap_net.specs.PortNames.{seat_name, root_seat}
 use Rattle.sap_ir.specs.Plain.Nested as nested
-use Rattle.sap_ir.specs.Plain.Does.{put_value, first_child, restart, enter}
-use Rattle.sap_tagged.specs.Keys.{Key, value_key, tag_key, seat_key, refused_key, level_key, wire_key, first_key, same}
-use Rattle.sap_tagged.specs.Setting.{Setting}
-use Rattle.sap_tagged.specs.Stands.{Lawful, at}
+use Rattle.sap_tagged.specs.Prelude.{Key, value_key, tag_key, seat_key, refused_key, level_key, wire_key, first_key, same, Setting, Lawful, at}
 use Rattle.sap_tagged.proofs.Bools.{tagged, kept_no_memory}
 use Rattle.sap_tagged.proofs.Terms.{AllTagged}
 use Rattle.sap_tagged.proofs.Puts.{put_to, at_put, memory_put, stands_changed}

@@ -1,19 +1,11 @@
 -- What the inputs are given at the start of a cycle.
-use Rattle.std.proofs.Common.{◌≡◌, ℕ, zero, suc, ◌+◌, ◌^◌, ◌<◌, ◌≤◌, List, [], ◌∷◌, ◌++◌, length, Bool, true, false, Option, refl, sym, ap, ◌∙◌, subst, if◌then◌else◌, arith, get_or}
-use Rattle.std.proofs.lemmas.Bool.Decides.{Decides-eqb}
-use Rattle.std.proofs.lemmas.Bool.{ne_eqb}
+use Rattle.sap_lemmas.proofs.Common.{◌≡◌, ℕ, zero, suc, ◌+◌, ◌^◌, ◌<◌, ◌≤◌, List, [], ◌∷◌, ◌++◌, length, Bool, true, false, Option, refl, sym, ap, ◌∙◌, subst, if◌then◌else◌, arith, get_or, Decides-eqb, ne_eqb}
 use Rattle.sap_maps.specs.Maps.{Valuation}
-use Rattle.sap_meaning.specs.Program.{Entity, entity, nothing, root, is_input, kind_is_input}
-use Rattle.sap_meaning.specs.Cycle.{Tagged, inputs_before}
-use Rattle.sap_meaning.specs.State.{AllFit, input_widths}
-use Rattle.sap_ir.specs.Source.{Source}
-use Rattle.sap_ir.specs.Writes.{NumbersFit}
-use Rattle.sap_ir.specs.Guarded.{number_at_start}
-use Rattle.sap_interface.specs.StandsFor.{Named, world}
-use Rattle.sap_interface.specs.Compiled.{coded}
+use Rattle.sap_meaning.specs.Prelude.{Entity, entity, nothing, root, is_input, kind_is_input, Tagged, inputs_before, AllFit, input_widths}
+use Rattle.sap_ir.specs.Prelude.{Source, NumbersFit, number_at_start}
 use Rattle.sap_ir.specs.declared.guarded.Var.{Var}
-use Rattle.sap_tagged.specs.Keys.{Key, value_key, tag_key, key_name}
-use Rattle.sap_tagged.specs.Plain.{for_entities, value_var, tag_var}
+use Rattle.sap_interface.specs.Prelude.{Named, world, coded}
+use Rattle.sap_tagged.specs.Prelude.{Key, value_key, tag_key, key_name, for_entities, value_var, tag_var}
 use Rattle.sap_tagged.proofs.KeyNames.{NamesApart, names_apart}
 
 abbrev pub input_of : Named → (tag x : ℕ) → List Var

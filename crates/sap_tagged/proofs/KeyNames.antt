@@ -1,12 +1,5 @@
 -- Different keys have different names.
-use Rattle.std.proofs.Common.{◌≡◌, ℕ, zero, suc, ◌<◌, [], ◌∷◌, Bool, true, false, refl, sym, ap, ap₂, ◌∙◌, subst, arith, nat_lt, nat_eq, inl, inr, bytes_eq, if◌then◌else◌}
-use Rattle.std.specs.List.{list_all}
-use Rattle.std.specs.Char.{is_ascii_digit}
-use Rattle.std.proofs.lemmas.Bool.{cases_Bool, eqb-true, eq-eqb, and_parts, false_from_ne_true}
-use Rattle.std.proofs.lemmas.Grind.{common_steps}
-use Rattle.sap_lemmas.proofs.Bools.{iff_same, true_is_not_false}
-use Rattle.sap_lemmas.proofs.Numbers.{test_symmetric}
-use Rattle.sap_lemmas.proofs.Texts.{bytes_eq_same, equal_of_bytes_eq}
+use Rattle.sap_lemmas.proofs.Common.{◌≡◌, ℕ, zero, suc, ◌<◌, [], ◌∷◌, Bool, true, false, refl, sym, ap, ap₂, ◌∙◌, subst, arith, nat_lt, nat_eq, inl, inr, bytes_eq, if◌then◌else◌, list_all, is_ascii_digit, cases_Bool, eqb-true, eq-eqb, and_parts, false_from_ne_true, common_steps, iff_same, true_is_not_false, test_symmetric, bytes_eq_same, equal_of_bytes_eq}
 use Rattle.sap_maps.specs.Maps.{Name}
 use Rattle.sap_meaning.specs.Program.{root}
 use Rattle.sap_tree.specs.Words.{is_name}

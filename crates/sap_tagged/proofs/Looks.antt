@@ -1,20 +1,9 @@
 -- The parts of a command: what is looked at, raises, and one thing after another.
-use Rattle.std.proofs.Common.{◌≡◌, ℕ, ◌+◌, ◌<◌, ◌≤◌, Bool, true, false, ◌&&◌, List, [], ◌∷◌, ◌++◌, refl, sym, ap, ◌∙◌, arith, if◌then◌else◌, bit_or}
-use Rattle.std.proofs.lemmas.Bool.{eq-eqb, ne_eqb}
-use Rattle.sap_maps.specs.Maps.{Name}
-use Rattle.sap_maps.specs.Term.{Term}
-use Rattle.sap_meaning.specs.Program.{root, Step, Group}
-use Rattle.sap_meaning.specs.Store.{Store, raise, Refusal, After, and_then, stay}
-use Rattle.sap_meaning.specs.Checks.{Home, guard, test}
-use Rattle.sap_meaning.specs.Fine.{FineStep}
-use Rattle.sap_ir.specs.Guarded.{Going, value_in}
-use Rattle.sap_ir.specs.Plain.Nested.{Body}
-use Rattle.sap_ir.specs.Plain.Does.{body_does}
-use Rattle.sap_tagged.specs.Keys.{Key, value_key, tag_key, seat_key, refused_key, level_key, wire_key, first_key, inner_key}
-use Rattle.sap_tagged.specs.Setting.{Setting}
-use Rattle.sap_tagged.specs.Levels.{var, lub, guard_of, test_of, written, stays}
-use Rattle.sap_tagged.specs.Commands.{raises, looks}
-use Rattle.sap_tagged.specs.Stands.{Lawful, at, has_tag, tag_slot, Stands, refused_after, level_after, Turns}
+use Rattle.sap_lemmas.proofs.Common.{◌≡◌, ℕ, ◌+◌, ◌<◌, ◌≤◌, Bool, true, false, ◌&&◌, List, [], ◌∷◌, ◌++◌, refl, sym, ap, ◌∙◌, arith, if◌then◌else◌, bit_or, eq-eqb, ne_eqb}
+use Rattle.sap_maps.specs.Prelude.{Name, Term}
+use Rattle.sap_meaning.specs.Prelude.{root, Step, Group, Store, raise, Refusal, After, and_then, stay, Home, guard, test, FineStep}
+use Rattle.sap_ir.specs.Prelude.{Going, value_in, Body, body_does}
+use Rattle.sap_tagged.specs.Prelude.{Key, value_key, tag_key, seat_key, refused_key, level_key, wire_key, first_key, inner_key, Setting, var, lub, guard_of, test_of, written, stays, raises, looks, Lawful, at, has_tag, tag_slot, Stands, refused_after, level_after, Turns}
 use Rattle.sap_tagged.proofs.Bools.{tagged_within}
 use Rattle.sap_tagged.proofs.Terms.{bit, lub_value}
 use Rattle.sap_tagged.proofs.StepTerms.{Placed, level_written, number_stays, guard_value, test_value, written_value, stays_value}

@@ -1,17 +1,12 @@
 -- Variables on a list on which no name stands twice.
-use Rattle.std.proofs.Common.{◌≡◌, ℕ, zero, suc, ◌+◌, ◌<◌, ◌≤◌, List, [], ◌∷◌, ◌++◌, map, length, Bool, true, false, Option, Some, ◌⊎◌, inl, inr, refl, sym, ap, subst, arith, bytes_eq, if◌then◌else◌}
-use Rattle.std.proofs.lemmas.Bool.{cases_Bool, or_parts}
-use Rattle.sap_lemmas.proofs.Texts.{bytes_eq_apart_back, bytes_eq_same}
+use Rattle.sap_lemmas.proofs.Common.{◌≡◌, ℕ, zero, suc, ◌+◌, ◌<◌, ◌≤◌, List, [], ◌∷◌, ◌++◌, map, length, Bool, true, false, Option, Some, ◌⊎◌, inl, inr, refl, sym, ap, subst, arith, bytes_eq, if◌then◌else◌, cases_Bool, or_parts, bytes_eq_apart_back, bytes_eq_same}
 use Rattle.sap_net.proofs.NamesLemmas.{apart_by_membership}
-use Rattle.sap_maps.specs.Maps.{Name, Valuation}
-use Rattle.sap_maps.specs.Scope.{find}
+use Rattle.sap_maps.specs.Prelude.{Name, Valuation, find}
 use Rattle.sap_meaning.specs.Program.{Entity}
 use Rattle.sap_net.specs.Names.{is_among, AreDistinct}
+use Rattle.sap_ir.specs.Prelude.{Source, memory_names, variable_names, first_number, register_number, number_at_start, first_cell, cell_at_start}
 use Rattle.sap_ir.specs.declared.guarded.Var.{Var}
-use Rattle.sap_ir.specs.Source.{Source}
 use Rattle.sap_ir.specs.declared.guarded.MemoryVariable.{MemoryVariable}
-use Rattle.sap_ir.specs.IsGuarded.{memory_names, variable_names}
-use Rattle.sap_ir.specs.Guarded.{first_number, register_number, number_at_start, first_cell, cell_at_start}
 use Rattle.sap_tagged.specs.Plain.{for_entities}
 
 -- it stands on the list

@@ -1,17 +1,11 @@
 -- The registers and memories of a plain program have names of the interface.
-use Rattle.std.proofs.Common.{◌≡◌, ℕ, ◌+◌, ◌<◌, ◌≤◌, List, [], ◌∷◌, ◌++◌, length, Bool, true, false, inl, inr, refl, sym, subst, if◌then◌else◌, arith, nat_lt}
-use Rattle.std.specs.List.{AllByRecursion}
-use Rattle.std.proofs.lemmas.Bool.{cases_Bool, lt-ltb, or_left, or_right}
-use Rattle.std.proofs.lemmas.Grind.{common_steps}
-use Rattle.sap_lemmas.proofs.Everywhere.{all_append}
+use Rattle.sap_lemmas.proofs.Common.{◌≡◌, ℕ, ◌+◌, ◌<◌, ◌≤◌, List, [], ◌∷◌, ◌++◌, length, Bool, true, false, inl, inr, refl, sym, subst, if◌then◌else◌, arith, nat_lt, AllByRecursion, cases_Bool, lt-ltb, or_left, or_right, common_steps, all_append}
 use Rattle.sap_maps.specs.Maps.{Name}
 use Rattle.sap_meaning.specs.Program.{World, Entity, root, children, is_input, is_register, is_memory, is_state, is_dynamic}
 use Rattle.sap_ir.specs.declared.guarded.Var.{Var}
 use Rattle.sap_ir.specs.declared.guarded.MemoryVariable.{MemoryVariable}
-use Rattle.sap_interface.specs.StandsFor.{Named, world}
-use Rattle.sap_interface.specs.InterfaceNames.{holds_numbers, IsInterfaceName, value_of, tag_of, state_tag_of, child_of, child_of_root}
-use Rattle.sap_tagged.specs.Keys.{value_key, tag_key, seat_key, key_name}
-use Rattle.sap_tagged.specs.Plain.{for_entities, tag_var, seat_var, level_at_start, shown_registers, has_own_tag, tag_registers, seat_registers, registers_of, memory_of, tags_of, memories_of}
+use Rattle.sap_interface.specs.Prelude.{Named, world, holds_numbers, IsInterfaceName, value_of, tag_of, state_tag_of, child_of, child_of_root}
+use Rattle.sap_tagged.specs.Prelude.{value_key, tag_key, seat_key, key_name, for_entities, tag_var, seat_var, level_at_start, shown_registers, has_own_tag, tag_registers, seat_registers, registers_of, memory_of, tags_of, memories_of}
 use Rattle.sap_tagged.proofs.Cycle.{value_known, tag_known, seat_known, root_known}
 use Rattle.sap_tagged.proofs.Premises.{Design}
 

@@ -1,22 +1,13 @@
 -- States have names of their own, and all names are names.
-use Rattle.std.proofs.Common.{◌≡◌, ℕ, suc, ◌<◌, ◌≤◌, List, [], ◌∷◌, ◌++◌, Bool, true, false, ◌&&◌, ◌||◌, ◌==◌, refl, sym, ap, ◌∙◌, subst, arith, nat_lt, nat_le, nat_eq, bytes_eq, inl, inr}
-use Rattle.std.specs.List.{AllByRecursion, list_all}
-use Rattle.std.proofs.lemmas.Bool.{cases_Bool, eqb-true, eq-eqb, and_parts, false_from_ne_true, or_left, or_right}
-use Rattle.std.proofs.lemmas.Grind.{common_steps}
-use Rattle.sap_lemmas.proofs.Bools.{or_other, true_is_not_false}
-use Rattle.sap_lemmas.proofs.Everywhere.{all_append}
+use Rattle.sap_lemmas.proofs.Common.{◌≡◌, ℕ, suc, ◌<◌, ◌≤◌, List, [], ◌∷◌, ◌++◌, Bool, true, false, ◌&&◌, ◌||◌, ◌==◌, refl, sym, ap, ◌∙◌, subst, arith, nat_lt, nat_le, nat_eq, bytes_eq, inl, inr, AllByRecursion, list_all, cases_Bool, eqb-true, eq-eqb, and_parts, false_from_ne_true, or_left, or_right, common_steps, or_other, true_is_not_false, all_append}
 use Rattle.sap_net.proofs.NamesLemmas.{among_append}
 use Rattle.sap_text.proofs.NamesLemmas.{digits_inner, word_inner}
 use Rattle.sap_maps.specs.Maps.{Name}
-use Rattle.sap_meaning.specs.Program.{World, root, is_state, below, last, state_node, Group, no_node, and_node}
-use Rattle.sap_meaning.specs.Fine.{FineGroup, inside}
+use Rattle.sap_meaning.specs.Prelude.{World, root, is_state, below, last, state_node, Group, no_node, and_node, FineGroup, inside}
 use Rattle.sap_net.specs.Names.{is_inner, is_name, is_among, AreDistinct}
-use Rattle.sap_ir.specs.IsGuarded.{is_helping}
-use Rattle.sap_ir.specs.Plain.Nested.{Forest, none, state, state_names}
-use Rattle.sap_ir.specs.Plain.IsPlain.{is_gate}
+use Rattle.sap_ir.specs.Prelude.{is_helping, Forest, none, state, state_names, is_gate}
 use Rattle.sap_interface.specs.StandsFor.{Named, name, world}
-use Rattle.sap_tagged.specs.Keys.{Key, value_key, tag_key, seat_key, refused_key, level_key, wire_key, first_key, inner_key, numeral, entity_word, seat_word, key_name}
-use Rattle.sap_tagged.specs.Setting.{Setting}
+use Rattle.sap_tagged.specs.Prelude.{Key, value_key, tag_key, seat_key, refused_key, level_key, wire_key, first_key, inner_key, numeral, entity_word, seat_word, key_name, Setting}
 use Rattle.sap_tagged.proofs.KeyNames.{NamesApart}
 use Rattle.sap_tagged.proofs.Numerals.{numeral_digits}
 use Rattle.sap_tagged.proofs.Groups.{LawfulStates, Shaped, IsState, node_state}

@@ -1,32 +1,11 @@
 -- No memory is written twice in a cycle.
-use Rattle.std.proofs.Common.{◌≡◌, ℕ, zero, suc, ◌+◌, ◌^◌, nat_le, ◌⊎◌, List, [], ◌∷◌, ◌++◌, length, take, drop, Bool, true, false, ◌&&◌, ◌||◌, refl, sym, ap, ap₂, ◌∙◌, subst, inl, inr, bytes_eq, nat_eq, if◌then◌else◌, append_assoc}
-use Rattle.std.specs.Prelude.{◌==◌}
-use Rattle.std.proofs.lemmas.Bool.{cases_Bool, eqb-true, eq-eqb, or_left, or_right}
-use Rattle.sap_lemmas.proofs.Bools.{true_is_not_false}
-use Rattle.sap_maps.specs.Maps.{Name}
-use Rattle.sap_maps.specs.Term.{Term, part}
-use Rattle.sap_meaning.specs.Program.{root, is_dynamic, is_register, listed, Step, assign, write, retag, retag_cell, go_to, fall_to_child, Command, lone, try, if_else, try_then, case_of, Arms, last_arm, and_arm, Block, end_block, command_then, state_node, Group, no_node, and_node}
-use Rattle.sap_meaning.specs.Expressions.{width_of as number_width}
-use Rattle.sap_meaning.specs.Checks.{Home}
-use Rattle.sap_meaning.specs.Runs.{listed_alone}
-use Rattle.sap_meaning.specs.Fine.{FineProgram}
-use Rattle.sap_meaning.specs.Once.{step_reaching, reaching, arms_reaching, block_reaching, group_reaches, OnceStep, Once, OnceArms, OnceBlock, OnceGroup}
-use Rattle.sap_net.specs.Names.{is_among, AreDistinct}
-use Rattle.sap_ir.specs.Source.{set, put}
-use Rattle.sap_ir.specs.Source.{width_of}
-use Rattle.sap_ir.specs.Guarded.{Going, value_in, after_action, begun}
-use Rattle.sap_ir.specs.Plain.Nested.{Body, stop, act, cases, goto, fall, declarations}
-use Rattle.sap_net.specs.PortNames.{seat_name, root_seat}
-use Rattle.sap_ir.specs.Plain.Does.{body_does, falls_of, enter}
-use Rattle.sap_ir.specs.Plain.Views.{follow}
-use Rattle.sap_ir.specs.Plain.Writes.{body_writes, child_writes, PlainWritesOnce}
-use Rattle.sap_tagged.specs.Keys.{Key, value_key, tag_key, first_key, wire_key, inner_key, same}
+use Rattle.sap_lemmas.proofs.Common.{◌≡◌, ℕ, zero, suc, ◌+◌, ◌^◌, nat_le, ◌⊎◌, List, [], ◌∷◌, ◌++◌, length, take, drop, Bool, true, false, ◌&&◌, ◌||◌, refl, sym, ap, ap₂, ◌∙◌, subst, inl, inr, bytes_eq, nat_eq, if◌then◌else◌, append_assoc, ◌==◌, cases_Bool, eqb-true, eq-eqb, or_left, or_right, true_is_not_false}
+use Rattle.sap_maps.specs.Prelude.{Name, Term, part}
+use Rattle.sap_meaning.specs.Prelude.{root, is_dynamic, is_register, listed, Step, assign, write, retag, retag_cell, go_to, fall_to_child, Command, lone, try, if_else, try_then, case_of, Arms, last_arm, and_arm, Block, end_block, command_then, state_node, Group, no_node, and_node, width_of as number_width, Home, listed_alone, FineProgram, step_reaching, reaching, arms_reaching, block_reaching, group_reaches, OnceStep, Once, OnceArms, OnceBlock, OnceGroup}
+use Rattle.sap_net.specs.Prelude.{is_among, AreDistinct, seat_name, root_seat}
+use Rattle.sap_ir.specs.Prelude.{set, put, width_of, Going, value_in, after_action, begun, Body, stop, act, cases, goto, fall, declarations, body_does, falls_of, enter, follow, body_writes, child_writes, PlainWritesOnce}
+use Rattle.sap_tagged.specs.Prelude.{Key, value_key, tag_key, first_key, wire_key, inner_key, same, Setting, setting_of, plain_of, var, lub, bits, expr, always, gives, sweep, raises, resets, effect_of, refusal, outcome, attempt_of, outcome_then, attempt_then_of, pick_width, picks_arm, picks, decides, pick_of, select_of, wires, wires_block, command_plain, arms_plain, block_plain, wires_group, group_plain, saved, top_plain}
 use Rattle.sap_interface.specs.StandsFor.{Named}
-use Rattle.sap_tagged.specs.Setting.{Setting, setting_of}
-use Rattle.sap_tagged.specs.Plain.{plain_of}
-use Rattle.sap_tagged.specs.Levels.{var, lub, bits, expr, always}
-use Rattle.sap_tagged.specs.Commands.{gives, sweep, raises, resets, effect_of, refusal, outcome, attempt_of, outcome_then, attempt_then_of, pick_width, picks_arm, picks, decides, pick_of, select_of, wires, wires_block, command_plain, arms_plain, block_plain}
-use Rattle.sap_tagged.specs.States.{wires_group, group_plain, saved, top_plain}
 use Rattle.sap_tagged.proofs.KeyNames.{NamesApart, names_apart}
 
 -- a name of one of some memories: of its contents, or of its cells' tags

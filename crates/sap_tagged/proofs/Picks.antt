@@ -1,22 +1,11 @@
 -- Which block of a `case` runs: that of the first arm that has the number, told by a number in a wire.
-use Rattle.std.proofs.Common.{◌≡◌, ℕ, zero, suc, ◌+◌, ◌-◌, ◌*◌, ◌/◌, ◌%◌, ◌^◌, ◌<◌, ◌≤◌, Bool, true, false, ◌||◌, List, [], ◌∷◌, length, get_or, take, drop, refl, ap, ◌∙◌, arith, nat_le, nat_lt, inl, inr, if◌then◌else◌}
-use Rattle.std.specs.Prelude.{◌==◌}
-use Rattle.std.proofs.lemmas.Bool.{cases_Bool, leb-false, leb-true, ltb-false, ltb-true}
-use Rattle.std.proofs.lemmas.List.{get_or-take, get_or-drop, length-take-le, length-drop}
-use Rattle.std.proofs.lemmas.Nat.{div-mul-add}
-use Rattle.std.proofs.Math.Nat.{pow-suc}
+use Rattle.sap_lemmas.proofs.Common.{◌≡◌, ℕ, zero, suc, ◌+◌, ◌-◌, ◌*◌, ◌/◌, ◌%◌, ◌^◌, ◌<◌, ◌≤◌, Bool, true, false, ◌||◌, List, [], ◌∷◌, length, get_or, take, drop, refl, ap, ◌∙◌, arith, nat_le, nat_lt, inl, inr, if◌then◌else◌, ◌==◌, cases_Bool, leb-false, leb-true, ltb-false, ltb-true, get_or-take, length-take-le, length-drop, div-mul-add, pow-suc}
+use Rattle.std.proofs.lemmas.List.{get_or-drop}
 use Rattle.sap_bits.specs.Arithmetic.{slice_of}
 use Rattle.sap_maps.specs.Maps.{Name}
-use Rattle.sap_meaning.specs.Program.{Arms, last_arm, and_arm}
-use Rattle.sap_meaning.specs.Store.{Store}
-use Rattle.sap_meaning.specs.Does.{is_constant}
-use Rattle.sap_ir.specs.Guarded.{Going}
-use Rattle.sap_ir.specs.Plain.Nested.{Body, stop}
-use Rattle.sap_ir.specs.Plain.Does.{body_does}
-use Rattle.sap_tagged.specs.Keys.{wire_key}
-use Rattle.sap_tagged.specs.Setting.{Setting}
-use Rattle.sap_tagged.specs.Commands.{arm_count, picks_arm, picks, decides}
-use Rattle.sap_tagged.specs.Stands.{Lawful, at, Stands}
+use Rattle.sap_meaning.specs.Prelude.{Arms, last_arm, and_arm, Store, is_constant}
+use Rattle.sap_ir.specs.Prelude.{Going, Body, stop, body_does}
+use Rattle.sap_tagged.specs.Prelude.{wire_key, Setting, arm_count, picks_arm, picks, decides, Lawful, at, Stands}
 use Rattle.sap_tagged.proofs.Puts.{put_to}
 use Rattle.sap_tagged.proofs.Looks.{Quiet, quiet_none, quiet_next, wired}
 use Rattle.sap_tagged.proofs.Effects.{chosen}

@@ -1,35 +1,22 @@
 -- The plain program of a design keeps the rules of its type: names are found, and states are fine.
-use Rattle.std.proofs.Common.{◌≡◌, ℕ, ◌<◌, List, [], ◌∷◌, ◌++◌, map, Bool, true, false, not, ◌||◌, Some, None, refl, ap, ◌∙◌, subst, nat_lt, nat_eq, bytes_eq, inl, inr, if◌then◌else◌}
-use Rattle.std.specs.List.{AllByRecursion}
-use Rattle.std.proofs.lemmas.Bool.{cases_Bool, eqb-true, and_parts, false_from_ne_true, lt-ltb, or_right}
-use Rattle.sap_lemmas.proofs.Bools.{or_other}
+use Rattle.sap_lemmas.proofs.Common.{◌≡◌, ℕ, ◌<◌, List, [], ◌∷◌, ◌++◌, map, Bool, true, false, not, ◌||◌, Some, None, refl, ap, ◌∙◌, subst, nat_lt, nat_eq, bytes_eq, inl, inr, if◌then◌else◌, AllByRecursion, cases_Bool, eqb-true, and_parts, false_from_ne_true, lt-ltb, or_right, or_other}
 use Rattle.sap_net.proofs.NamesLemmas.{among_front, not_found}
 use Rattle.sap_meaning.proofs.ProgramLemmas.{own_kind}
 use Rattle.sap_maps.proofs.ScopeLemmas.{found_first, found_second}
-use Rattle.sap_maps.specs.Maps.{Name}
-use Rattle.sap_maps.specs.Scope.{Scope, find}
-use Rattle.sap_meaning.specs.Program.{World, Group, entity, root, children, is_input, is_register, is_memory, is_dynamic, listed}
-use Rattle.sap_meaning.specs.Fine.{size}
+use Rattle.sap_maps.specs.Prelude.{Name, Scope, find}
+use Rattle.sap_meaning.specs.Prelude.{World, Group, entity, root, children, is_input, is_register, is_memory, is_dynamic, listed, size}
 use Rattle.sap_meaning.specs.Sites as sites_of_program
 use Rattle.sap_tree.specs.Words.{is_name}
 use Rattle.sap_tree.specs.declared.version.Version.TheVariants.{One}
-use Rattle.sap_net.specs.Names.{is_among, AreDistinct}
+use Rattle.sap_net.specs.Prelude.{is_among, AreDistinct, seat_name}
+use Rattle.sap_ir.specs.Prelude.{Source, readable, assignable, variable_names, memory_names, Nested, Forest, declarations, group_names, state_names, seats, IsPlain, is_gate}
 use Rattle.sap_ir.specs.declared.guarded.Var.{Var}
 use Rattle.sap_ir.specs.declared.guarded.MemoryVariable.{MemoryVariable}
-use Rattle.sap_ir.specs.Source.{Source, readable}
-use Rattle.sap_ir.specs.IsGuarded.{assignable, variable_names, memory_names}
 use Rattle.sap_ir.proofs.Declared.{distinct_front, distinct_behind, apart_lists}
-use Rattle.sap_ir.specs.Plain.Nested.{Nested, Forest, declarations, group_names, state_names, seats}
-use Rattle.sap_net.specs.PortNames.{seat_name}
 use Rattle.sap_net.specs.PortNames as ports
-use Rattle.sap_ir.specs.Plain.IsPlain.{IsPlain, is_gate}
 use Rattle.sap_ir.proofs.plain.SeatWidths.{seat_holds}
 use Rattle.sap_interface.specs.StandsFor.{Named, name, world}
-use Rattle.sap_tagged.specs.Keys.{numeral, entity_word, Key, seat_key, first_key, inner_key, sort, index, same, key_name}
-use Rattle.sap_tagged.specs.Setting.{Setting, setting_of}
-use Rattle.sap_tagged.specs.States.{saved, top_plain}
-use Rattle.sap_tagged.specs.Plain.{variable, level_at_start, value_var, tag_var, seat_var, site_wires, group_wires, first_wires, inner_wires, memory_of, plain_of}
-use Rattle.sap_tagged.specs.Stands.{has_tag}
+use Rattle.sap_tagged.specs.Prelude.{numeral, entity_word, Key, seat_key, first_key, inner_key, sort, index, same, key_name, Setting, setting_of, saved, top_plain, variable, level_at_start, value_var, tag_var, seat_var, site_wires, group_wires, first_wires, inner_wires, memory_of, plain_of, has_tag}
 use Rattle.sap_tagged.proofs.Bools.{value_within, memory_within, tagged_within}
 use Rattle.sap_tagged.proofs.KeyNames.{names_apart}
 use Rattle.sap_tagged.proofs.Members.{In, among_in, in_front, in_behind}

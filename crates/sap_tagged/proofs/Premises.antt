@@ -1,14 +1,10 @@
 -- What the law asks of a design's program.
 use Rattle.std.proofs.Common.{◌≡◌, ℕ, ◌+◌, ◌^◌, ◌<◌, ◌≤◌, ◌==◌, true, bit_or, nat_le}
-use Rattle.sap_meaning.specs.Program.{root, children}
-use Rattle.sap_meaning.specs.Fine.{FineProgram, ExactProgram}
-use Rattle.sap_meaning.specs.Sites.{program_sites, numbers_from}
+use Rattle.sap_meaning.specs.Prelude.{root, children, FineProgram, ExactProgram, program_sites, numbers_from}
 use Rattle.sap_net.specs.Names.{AreDistinct}
-use Rattle.sap_ir.specs.IsGuarded.{declared}
-use Rattle.sap_ir.specs.Plain.Nested.{declarations}
+use Rattle.sap_ir.specs.Prelude.{declared, declarations}
 use Rattle.sap_interface.specs.StandsFor.{Named, world}
-use Rattle.sap_tagged.specs.Few.{FewGroup}
-use Rattle.sap_tagged.specs.Plain.{plain_of}
+use Rattle.sap_tagged.specs.Prelude.{FewGroup, plain_of}
 use Rattle.sap_tagged.proofs.KeyNames.{NamesApart}
 
 pub record Design (d : Named) (tag sites : ℕ) : Type 0 where

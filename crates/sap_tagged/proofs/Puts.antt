@@ -1,20 +1,10 @@
 -- What assignments do to numbers that stand for a store.
-use Rattle.std.proofs.Common.{◌≡◌, ℕ, zero, suc, ◌+◌, ◌<◌, ◌⊎◌, Bool, true, false, ◌&&◌, refl, sym, ap, ◌∙◌, arith, nat_lt, nat_eq, inl, inr, if◌then◌else◌}
-use Rattle.std.proofs.lemmas.Bool.{cases_Bool, eqb-true, and_right}
-use Rattle.std.proofs.lemmas.Grind.{common_steps}
-use Rattle.sap_lemmas.proofs.Bools.{true_is_not_false}
-use Rattle.sap_maps.specs.Maps.{Name, set_value}
-use Rattle.sap_maps.specs.Term.{Term}
-use Rattle.sap_meaning.specs.Program.{is_memory, children}
-use Rattle.sap_meaning.specs.Store.{own, start, next, start_whole, next_whole, Store, number, child, same_slot, put_number, put_level, raised, raise}
-use Rattle.sap_ir.specs.Guarded.{Going, value_in}
-use Rattle.sap_ir.specs.Plain.Nested.{Body, stop, act, cases, goto, fall}
-use Rattle.sap_ir.specs.Plain.Does.{body_does}
-use Rattle.sap_ir.specs.Plain.Views.{follow}
-use Rattle.sap_tagged.specs.Keys.{Key, value_key, tag_key, seat_key, first_key, same}
-use Rattle.sap_tagged.specs.Setting.{Setting}
-use Rattle.sap_tagged.specs.Commands.{gives, sweep}
-use Rattle.sap_tagged.specs.Stands.{Lawful, at, is_value, has_tag, tag_slot, Stands}
+use Rattle.sap_lemmas.proofs.Common.{◌≡◌, ℕ, zero, suc, ◌+◌, ◌<◌, ◌⊎◌, Bool, true, false, ◌&&◌, refl, sym, ap, ◌∙◌, arith, nat_lt, nat_eq, inl, inr, if◌then◌else◌, cases_Bool, eqb-true, common_steps, true_is_not_false}
+use Rattle.std.proofs.lemmas.Bool.{and_right}
+use Rattle.sap_maps.specs.Prelude.{Name, set_value, Term}
+use Rattle.sap_meaning.specs.Prelude.{is_memory, children, own, start, next, start_whole, next_whole, Store, number, child, same_slot, put_number, put_level, raised, raise}
+use Rattle.sap_ir.specs.Prelude.{Going, value_in, Body, stop, act, cases, goto, fall, body_does, follow}
+use Rattle.sap_tagged.specs.Prelude.{Key, value_key, tag_key, seat_key, first_key, same, Setting, gives, sweep, Lawful, at, is_value, has_tag, tag_slot, Stands}
 
 -- one assignment
 
@@ -30,9 +20,6 @@ pub record Kept (d : Setting) (g g' : Going) : Type 0 where
   pub cell : g'.now.cell ≡ g.now.cell
   pub next : g'.next ≡ g.next
   pub first : (m : ℕ) → at d g' (first_key m) ≡ at d g (first_key m)
-
-pub kept_none : (d : Setting) (g : Going) → Kept d g g
-kept_none d g = record { cell = refl; next = refl; first = λ m. refl }
 
 pub kept_next : (d : Setting) (g g1 g2 : Going) → Kept d g g1 → Kept d g1 g2 → Kept d g g2
 kept_next d g g1 g2 a b = record { cell = b.cell ∙ a.cell; next = b.next ∙ a.next; first = λ m. b.first m ∙ a.first m }

@@ -1,32 +1,17 @@
 -- The plain program of a design keeps the rules of its type.
-use Rattle.std.proofs.Common.{◌≡◌, ℕ, zero, suc, ◌+◌, ◌≤◌, List, [], ◌∷◌, ◌++◌, map, Bool, true, false, ◌||◌, Some, refl, sym, ap, ap₂, ◌∙◌, subst, if◌then◌else◌, arith, nat_lt, bytes_eq, inl, inr}
-use Rattle.std.specs.List.{AllByRecursion}
-use Rattle.std.proofs.Math.Pow.{pow_pos}
-use Rattle.sap_lemmas.proofs.Bools.{true_is_not_false}
-use Rattle.sap_lemmas.proofs.Everywhere.{all_append}
-use Rattle.sap_lemmas.proofs.Texts.{bytes_eq_same}
-use Rattle.std.proofs.lemmas.Bool.{or_right}
-use Rattle.std.proofs.lemmas.List.{map-append}
+use Rattle.sap_lemmas.proofs.Common.{◌≡◌, ℕ, zero, suc, ◌+◌, ◌≤◌, List, [], ◌∷◌, ◌++◌, map, Bool, true, false, ◌||◌, Some, refl, sym, ap, ap₂, ◌∙◌, subst, if◌then◌else◌, arith, nat_lt, bytes_eq, inl, inr, AllByRecursion, pow_pos, true_is_not_false, all_append, bytes_eq_same, or_right, map-append}
 use Rattle.sap_resolved.proofs.SizedLemmas.{ranged_width}
 use Rattle.sap_net.proofs.NamesLemmas.{among_behind, among_front, apart_by_membership}
-use Rattle.sap_maps.specs.Maps.{Name}
-use Rattle.sap_maps.specs.Scope.{find}
+use Rattle.sap_maps.specs.Prelude.{Name, find}
 use Rattle.sap_meaning.specs.Program as program
-use Rattle.sap_meaning.specs.Program.{World, Kind, entity, root, children, width, is_input, is_register, is_memory, is_dynamic, State, state_node, Group, and_node, Command, lone, try, if_else, try_then, case_of, Arms, last_arm, and_arm, Block, end_block, command_then, kind_is_input, kind_is_register, kind_is_memory, kind_is_state}
-use Rattle.sap_meaning.specs.Sized.{SizedProgram}
+use Rattle.sap_meaning.specs.Prelude.{World, Kind, entity, root, children, width, is_input, is_register, is_memory, is_dynamic, State, state_node, Group, and_node, Command, lone, try, if_else, try_then, case_of, Arms, last_arm, and_arm, Block, end_block, command_then, kind_is_input, kind_is_register, kind_is_memory, kind_is_state, SizedProgram}
 use Rattle.sap_resolved.specs.Sized.Ranges.{IsWidth, Ranged, RangedArms, RangedBlock, RangedState, RangedGroup, RangedProgram}
 use Rattle.sap_net.specs.Names.{is_name, is_among, AreDistinct}
+use Rattle.sap_ir.specs.Prelude.{Source, IsGuarded, IsPlainVar, IsRegisterVar, IsStore, declared, is_helping, variable_names, Nested, declarations, seat_width}
 use Rattle.sap_ir.specs.declared.guarded.Var.{Var}
-use Rattle.sap_ir.specs.Source.{Source}
-use Rattle.sap_ir.specs.IsGuarded.{IsGuarded, IsPlainVar, IsRegisterVar, IsStore, declared, is_helping, variable_names}
-use Rattle.sap_ir.specs.Plain.Nested.{Nested, declarations, seat_width}
 use Rattle.sap_ir.proofs.plain.SeatWidths.{seat_positive, seat_within}
 use Rattle.sap_interface.specs.StandsFor.{Named, world, depth}
-use Rattle.sap_tagged.specs.Keys.{Key, value_key, tag_key, first_key, inner_key, key_name}
-use Rattle.sap_tagged.specs.Setting.{Setting, setting_of}
-use Rattle.sap_tagged.specs.Commands.{arm_count, wires, wires_block}
-use Rattle.sap_tagged.specs.States.{saved, wires_group}
-use Rattle.sap_tagged.specs.Plain.{variable, wire, level_at_start, value_var, tag_var, seat_var, for_entities, shown_registers, has_own_tag, tag_registers, seat_registers, site_wires, step_wires, command_wires, arms_wires, block_wires, state_wires, group_wires, first_wires, inner_wires, memory_of, tags_of, plain_of}
+use Rattle.sap_tagged.specs.Prelude.{Key, value_key, tag_key, first_key, inner_key, key_name, Setting, setting_of, arm_count, wires, wires_block, saved, wires_group, variable, wire, level_at_start, value_var, tag_var, seat_var, for_entities, shown_registers, has_own_tag, tag_registers, seat_registers, site_wires, step_wires, command_wires, arms_wires, block_wires, state_wires, group_wires, first_wires, inner_wires, memory_of, tags_of, plain_of}
 use Rattle.sap_tagged.proofs.Members.{In, among_in, in_front}
 use Rattle.sap_tagged.proofs.Premises.{Design}
 use Rattle.sap_tagged.proofs.Distinct.{Every, every_join, once_join, lists_apart, distinct_keys, entities_once, entities_all, entities_named, site_keys, sites_once, sites_named, list_number, all_keys, all_named, register_lists}
@@ -65,12 +50,6 @@ find_by f of (y ∷ ys) x d (inr h) =
     rw o (find_by f of ys x d.1 h)
 
 -- kinds
-
-no_state : (k : Kind) → kind_is_state k ≡ true → (kind_is_input k ≡ false) × (kind_is_register k ≡ false) × (kind_is_memory k ≡ false)
-no_state program.input h = absurd (true_is_not_false (sym h))
-no_state program.register h = absurd (true_is_not_false (sym h))
-no_state (program.memory depth) h = absurd (true_is_not_false (sym h))
-no_state (program.state place last) h = (refl, refl, refl)
 
 plain_kind : (k : Kind) → (kind_is_input k || (kind_is_register k || kind_is_memory k)) ≡ true → kind_is_state k ≡ false
 plain_kind program.input h = refl

@@ -1,28 +1,11 @@
 -- Commands and lists of commands.
-use Rattle.std.proofs.Common.{◌≡◌, ℕ, suc, ◌+◌, ◌*◌, ◌^◌, ◌<◌, ◌≤◌, Bool, List, ◌∷◌, length, get_or, refl, ap, ◌∙◌, arith, nat_eq, inl, inr, if◌then◌else◌}
-use Rattle.std.proofs.lemmas.Bool.{cases_Bool}
-use Rattle.sap_lemmas.proofs.Numbers.{test_symmetric}
+use Rattle.sap_lemmas.proofs.Common.{◌≡◌, ℕ, suc, ◌+◌, ◌*◌, ◌^◌, ◌<◌, ◌≤◌, Bool, List, ◌∷◌, length, get_or, refl, ap, ◌∙◌, arith, nat_eq, inl, inr, if◌then◌else◌, cases_Bool, test_symmetric}
 use Rattle.sap_tree.specs.Limits.{most_arms}
-use Rattle.sap_maps.specs.Maps.{Name}
-use Rattle.sap_maps.specs.Term.{Term}
-use Rattle.sap_meaning.specs.Program.{listed, Step, assign, write, retag, retag_cell, go_to, fall_to_child, Command, lone, try, if_else, try_then, case_of, Arms, last_arm, and_arm, Block, end_block, command_then, Group}
-use Rattle.sap_meaning.specs.Store.{Store, raise, Refusal, After, stay, and_then}
-use Rattle.sap_meaning.specs.Expressions.{value, tag, width_of}
-use Rattle.sap_meaning.specs.Checks.{Home, site_of, guard, test}
-use Rattle.sap_meaning.specs.Does.{effect, attempt, attempt_then, select, branch, is_constant}
-use Rattle.sap_meaning.specs.Runs.{run, run_arms, run_block}
-use Rattle.sap_meaning.specs.Fine.{FineTerm, FineStep, FineCommand}
-use Rattle.sap_ir.specs.Guarded.{Going, value_in}
-use Rattle.sap_ir.specs.Plain.Nested.{Body, stop, cases}
-use Rattle.sap_ir.specs.Plain.Does.{body_does}
-use Rattle.sap_ir.specs.Plain.Views.{follow}
+use Rattle.sap_maps.specs.Prelude.{Name, Term}
+use Rattle.sap_meaning.specs.Prelude.{listed, Step, assign, write, retag, retag_cell, go_to, fall_to_child, Command, lone, try, if_else, try_then, case_of, Arms, last_arm, and_arm, Block, end_block, command_then, Group, Store, raise, Refusal, After, stay, and_then, value, tag, width_of, Home, site_of, guard, test, effect, attempt, attempt_then, select, branch, is_constant, run, run_arms, run_block, FineTerm, FineStep, FineCommand, Every, EveryInArms, EveryInBlock}
+use Rattle.sap_ir.specs.Prelude.{Going, value_in, Body, stop, cases, body_does, follow}
 use Rattle.sap_ir.proofs.plain.SeatWidths.{seat_holds}
-use Rattle.sap_tagged.specs.Keys.{value_key, tag_key, seat_key, refused_key, level_key, wire_key}
-use Rattle.sap_tagged.specs.Setting.{Setting}
-use Rattle.sap_tagged.specs.Levels.{var, lub, expr, tag_of, always}
-use Rattle.sap_tagged.specs.Commands.{raises, looks, effect_of, refusal, outcome, attempt_of, outcome_then, attempt_then_of, arm_count, pick_width, picks, decides, pick_of, select_of, wires, wires_arms, wires_block, command_plain, arms_plain, block_plain}
-use Rattle.sap_tagged.specs.Few.{Few, FewArms, FewBlock}
-use Rattle.sap_tagged.specs.Stands.{Lawful, at, Stands, refused_after, level_after, Turns}
+use Rattle.sap_tagged.specs.Prelude.{value_key, tag_key, seat_key, refused_key, level_key, wire_key, Setting, var, lub, expr, tag_of, always, raises, looks, effect_of, refusal, outcome, attempt_of, outcome_then, attempt_then_of, arm_count, pick_width, picks, decides, pick_of, select_of, wires, wires_arms, wires_block, command_plain, arms_plain, block_plain, Few, FewArms, FewBlock, Lawful, at, Stands, refused_after, level_after, Turns}
 use Rattle.sap_tagged.proofs.Terms.{bit, expr_value, tag_value, lub_value}
 use Rattle.sap_tagged.proofs.StepTerms.{Placed, always_holds}
 use Rattle.sap_tagged.proofs.Puts.{put_to, at_put, kept_put, kept_next, does_follow, Aside, stands_aside}
@@ -31,7 +14,6 @@ use Rattle.sap_tagged.proofs.Effects.{Begins, FallsRun, set_effect, retag_effect
 use Rattle.sap_tagged.proofs.Cells.{write_effect, retag_cell_effect}
 use Rattle.sap_tagged.proofs.Gotos.{GoesRun, goto_effect}
 use Rattle.sap_tagged.proofs.Picks.{arm_place, arm_within, decided, arms_picked}
-use Rattle.sap_meaning.specs.Walks.{Every, EveryInArms, EveryInBlock}
 
 -- what a body does, with its context in the wire p and the wires from k on free
 abbrev pub BodyRuns : Setting → (Name → ℕ) → (Going → Going) → (Name → Going → Going) → (p k : ℕ) → Body → (ℕ → Store → After) → Type 0

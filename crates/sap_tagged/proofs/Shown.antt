@@ -1,30 +1,20 @@
 -- The interface of a plain program.
-use Rattle.std.proofs.Common.{◌≡◌, ℕ, zero, suc, ◌+◌, ◌<◌, ◌≤◌, List, [], ◌∷◌, ◌++◌, map, Bool, true, false, Some, inl, inr, refl, sym, ap, ap₂, ◌∙◌, subst, if◌then◌else◌, arith, nat_lt}
-use Rattle.std.proofs.lemmas.Bool.{lt-ltb}
-use Rattle.std.proofs.lemmas.List.{map-append}
-use Rattle.sap_lemmas.proofs.Everywhere.{map_of_all}
+use Rattle.sap_lemmas.proofs.Common.{◌≡◌, ℕ, zero, suc, ◌+◌, ◌<◌, ◌≤◌, List, [], ◌∷◌, ◌++◌, map, Bool, true, false, Some, inl, inr, refl, sym, ap, ap₂, ◌∙◌, subst, if◌then◌else◌, arith, nat_lt, lt-ltb, map-append, map_of_all}
 use Rattle.sap_net.proofs.NamesLemmas.{among_front}
 use Rattle.sap_meaning.proofs.ProgramLemmas.{state_no_memory}
-use Rattle.sap_maps.specs.Maps.{Name}
-use Rattle.sap_maps.specs.Scope.{Scope, find}
+use Rattle.sap_maps.specs.Prelude.{Name, Scope, find}
 use Rattle.sap_meaning.specs.Program.{World, Entity, entity, root, children, is_input, is_register}
-use Rattle.sap_net.specs.Names.{is_among, AreDistinct}
+use Rattle.sap_net.specs.Prelude.{is_among, AreDistinct, seat_name, root_seat, value_name, tag_name, refused_name, refused_level_name}
 use Rattle.sap_net.specs.declared.parts.PortKind.{PortKind}
 use Rattle.sap_net.specs.declared.parts.PortKind.TheVariants as kind
-use Rattle.sap_ir.specs.IsGuarded.{variable_names}
+use Rattle.sap_ir.specs.Prelude.{variable_names, Nested, seat_width}
 use Rattle.sap_ir.specs.declared.guarded.Var.{Var}
 use Rattle.sap_ir.specs.declared.guarded.MemoryVariable.{MemoryVariable}
 use Rattle.sap_ir.proofs.Declared.{apart_lists}
-use Rattle.sap_ir.specs.Plain.Nested.{Nested, seat_width}
-use Rattle.sap_net.specs.PortNames.{seat_name, root_seat, value_name, tag_name, refused_name, refused_level_name}
 use Rattle.sap_ir.proofs.plain.SeatWidths.{seat_positive, seat_holds, seat_least}
-use Rattle.sap_interface.specs.StandsFor.{Named, name, world}
-use Rattle.sap_interface.specs.InterfaceNames.{IsInterfaceName}
-use Rattle.sap_interface.specs.Interface.{Shown, HasSeat, DeclaresPart, DeclaresInterface, pairs_of, site_ports, ports_of}
-use Rattle.sap_tagged.specs.Keys.{value_key, tag_key, seat_key, key_name}
+use Rattle.sap_interface.specs.Prelude.{Named, name, world, IsInterfaceName, Shown, HasSeat, DeclaresPart, DeclaresInterface, pairs_of, site_ports, ports_of}
+use Rattle.sap_tagged.specs.Prelude.{value_key, tag_key, seat_key, key_name, for_entities, value_var, tag_var, seat_var, level_at_start, shown_registers, tag_registers, seat_registers, site_wires, first_wires, inner_wires, group_wires, memory_of, plain_of, shows, shown, declared_in}
 use Rattle.sap_tagged.specs.Plain as plain
-use Rattle.sap_tagged.specs.Plain.{for_entities, value_var, tag_var, seat_var, level_at_start, shown_registers, tag_registers, seat_registers, site_wires, first_wires, inner_wires, group_wires, memory_of, plain_of}
-use Rattle.sap_tagged.specs.Law.{shows, shown, declared_in}
 use Rattle.sap_tagged.proofs.Bools.{value_within, register_within, memory_within}
 use Rattle.sap_tagged.proofs.Members.{In, among_in, find_in, find_store, in_front}
 use Rattle.sap_tagged.proofs.Named.{registers_named, memories_named}

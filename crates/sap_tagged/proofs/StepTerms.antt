@@ -1,21 +1,9 @@
 -- Guards, tests, and what a step writes.
-use Rattle.std.proofs.Common.{◌≡◌, ℕ, zero, suc, ◌<◌, Bool, true, false, ◌||◌, refl, sym, ap₂, ◌∙◌, subst, inl, inr, if◌then◌else◌}
-use Rattle.std.specs.Prelude.{bit_and}
-use Rattle.std.proofs.lemmas.Bool.{cases_Bool, and_parts, or_right}
-use Rattle.sap_lemmas.proofs.Bools.{true_is_not_false}
-use Rattle.sap_maps.specs.Maps.{Name}
-use Rattle.sap_maps.specs.Term.{Term, cell}
-use Rattle.sap_meaning.specs.Program.{World, is_dynamic, is_register, is_state, authority, children, Step, assign, write, retag, retag_cell, go_to, fall_to_child, state_node, Group, no_node, and_node}
-use Rattle.sap_meaning.specs.Store.{Store, own, start, level, child}
-use Rattle.sap_meaning.specs.Expressions.{value, tag, new_level}
-use Rattle.sap_meaning.specs.Checks.{Home, entry, child_opens, guard, test}
-use Rattle.sap_meaning.specs.Touches.{among}
-use Rattle.sap_meaning.specs.Fine.{FineStep, size}
+use Rattle.sap_lemmas.proofs.Common.{◌≡◌, ℕ, zero, suc, ◌<◌, Bool, true, false, ◌||◌, refl, sym, ap₂, ◌∙◌, subst, inl, inr, if◌then◌else◌, bit_and, cases_Bool, and_parts, or_right, true_is_not_false}
+use Rattle.sap_maps.specs.Prelude.{Name, Term, cell}
+use Rattle.sap_meaning.specs.Prelude.{World, is_dynamic, is_register, is_state, authority, children, Step, assign, write, retag, retag_cell, go_to, fall_to_child, state_node, Group, no_node, and_node, Store, own, start, level, child, value, tag, new_level, Home, entry, child_opens, guard, test, among, FineStep, size}
 use Rattle.sap_ir.specs.Guarded.{Going, value_in}
-use Rattle.sap_tagged.specs.Keys.{tag_key}
-use Rattle.sap_tagged.specs.Setting.{Setting}
-use Rattle.sap_tagged.specs.Levels.{var, bits, lub, below_or_at, yes, expr, tag_of, new_tag, told_tag, seat_bits, seat_of, guard_of, test_of, written, stays, all_dynamic, always}
-use Rattle.sap_tagged.specs.Stands.{Lawful, at, Stands}
+use Rattle.sap_tagged.specs.Prelude.{tag_key, Setting, var, bits, lub, below_or_at, yes, expr, tag_of, new_tag, told_tag, seat_bits, seat_of, guard_of, test_of, written, stays, all_dynamic, always, Lawful, at, Stands}
 use Rattle.sap_tagged.proofs.Bools.{tagged, enforced_within, kept_no_memory}
 use Rattle.sap_tagged.proofs.Terms.{bit, both_bits, AllTagged, lub_value, below_value, mark, own_tag, value_tag, tag_value, new_value, told_value, enters_value, child_tag_value, child_enters_value, seat_value}
 

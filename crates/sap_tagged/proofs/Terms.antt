@@ -1,22 +1,11 @@
 -- Terms have the numbers and the codes of the store for which the numbers stand.
-use Rattle.std.proofs.Common.{◌≡◌, ℕ, zero, suc, ◌+◌, ◌-◌, ◌<◌, ◌≤◌, Bool, true, false, ◌&&◌, refl, sym, ap, ap₂, ◌∙◌, arith, nat_lt, inl, inr, if◌then◌else◌, zero-add}
-use Rattle.std.specs.Prelude.{◌==◌, bit_or, bit_and}
-use Rattle.std.proofs.lemmas.Bool.{cases_Bool, eqb-true, eq-eqb, ne_eqb, or_left, or_right}
-use Rattle.std.proofs.lemmas.Grind.{common_steps}
+use Rattle.sap_lemmas.proofs.Common.{◌≡◌, ℕ, zero, suc, ◌+◌, ◌-◌, ◌<◌, ◌≤◌, Bool, true, false, ◌&&◌, refl, sym, ap, ap₂, ◌∙◌, arith, nat_lt, inl, inr, if◌then◌else◌, ◌==◌, bit_or, bit_and, cases_Bool, eqb-true, eq-eqb, ne_eqb, or_left, or_right, common_steps}
+use Rattle.std.proofs.Common.{zero-add}
 use Rattle.sap_bits.specs.Arithmetic.{value1, value2, width1, width2, slice_of, joined}
-use Rattle.sap_maps.specs.Maps.{Name}
-use Rattle.sap_maps.specs.Term.{Term, constant, read, cell, one, two, choose, join, part, term_width}
-use Rattle.sap_meaning.specs.Program.{World, is_dynamic, is_memory, children, LevelTerm, fixed, of, at_place, both, state_node, Group, no_node, and_node}
-use Rattle.sap_meaning.specs.Store.{Store, own, start, start_whole, next_whole, number, level, child}
-use Rattle.sap_meaning.specs.Expressions.{width_of, value, tag, level_at, new_level, told}
-use Rattle.sap_meaning.specs.Checks.{child_level, opens, child_opens}
-use Rattle.sap_meaning.specs.Touches.{among}
-use Rattle.sap_meaning.specs.Fine.{FineTerm, FineLevel, size}
+use Rattle.sap_maps.specs.Prelude.{Name, Term, constant, read, cell, one, two, choose, join, part, term_width}
+use Rattle.sap_meaning.specs.Prelude.{World, is_dynamic, is_memory, children, LevelTerm, fixed, of, at_place, both, state_node, Group, no_node, and_node, Store, own, start, start_whole, next_whole, number, level, child, width_of, value, tag, level_at, new_level, told, child_level, opens, child_opens, among, FineTerm, FineLevel, size}
 use Rattle.sap_ir.specs.Guarded.{Going, value_in}
-use Rattle.sap_tagged.specs.Keys.{value_key, tag_key, first_key}
-use Rattle.sap_tagged.specs.Setting.{Setting}
-use Rattle.sap_tagged.specs.Levels.{var, lub, below_or_at, expr, cell_tag, tag_of, place_width, widened, placed, new_tag, told_tag, child_tag, enters, child_enters, seat_of}
-use Rattle.sap_tagged.specs.Stands.{Lawful, at, is_value, has_tag, Stands}
+use Rattle.sap_tagged.specs.Prelude.{value_key, tag_key, first_key, Setting, var, lub, below_or_at, expr, cell_tag, tag_of, place_width, widened, placed, new_tag, told_tag, child_tag, enters, child_enters, seat_of, Lawful, at, is_value, has_tag, Stands}
 use Rattle.sap_tagged.proofs.Bools.{value_within, value_no_memory, tagged}
 
 abbrev pub bit : Bool → ℕ

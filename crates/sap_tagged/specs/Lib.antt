@@ -8,3 +8,4 @@ pub mod Stands
 pub mod Plain
 pub mod Law
 pub mod Small
+pub mod Prelude

@@ -3,31 +3,25 @@ use Rattle.std.proofs.Common.{◌≡◌, ℕ, zero, suc, ◌+◌, ◌<◌, ◌�
 use Rattle.std.specs.declared.vec.Vec.{Vec}
 use Rattle.std.specs.declared.alloc.Global.{Global}
 use Rattle.sap_ir.proofs.PlainLemmas.{follow_stop}
-use Rattle.sap_meaning.specs.Program.{listed, Arms, last_arm, end_block}
-use Rattle.sap_meaning.specs.Expressions.{width_of}
+use Rattle.sap_meaning.specs.Prelude.{listed, Arms, last_arm, end_block, width_of, listed_alone}
 use Rattle.sap_meaning.specs.Program as program
-use Rattle.sap_meaning.specs.Runs.{listed_alone}
-use Rattle.sap_ir.specs.Plain.Nested.{Body, stop, cases, seat_width}
+use Rattle.sap_ir.specs.Prelude.{Body, stop, cases, seat_width, body_of, follow}
 use Rattle.sap_ir.specs.declared.plain.nested.PlainCmd.{PlainCmd}
-use Rattle.sap_ir.specs.Plain.Views.{body_of, follow}
 use Rattle.sap_ir.proofs.plain.Views.{follow-more}
-use Rattle.sap_program.specs.Hangs.{flags}
+use Rattle.sap_program.specs.Prelude.{flags, term_of, step_of, constants_of, commands_in, arm_block, arms_before, command_of, block_of}
 use Rattle.sap_program.specs.declared.program.Number.{Number}
 use Rattle.sap_program.specs.declared.program.Step.{Step}
 use Rattle.sap_program.specs.declared.program.Arm.{Arm}
 use Rattle.sap_program.specs.declared.program.Command.{Command}
+use Rattle.sap_program.specs.declared.home.Home.{Home}
 use Rattle.sap_program.specs.declared.program.Command.TheVariants as command
 use Rattle.sap_program.specs.declared.program.Command.TheViews as shown
-use Rattle.sap_program.specs.Views.{term_of, step_of, constants_of, commands_in, arm_block, arms_before, command_of, block_of}
 use Rattle.sap_tags_terms.specs.Parts.{arm_wires, command_wires, commands_wires}
 use Rattle.sap_tags.specs.Built.{arm_bodies, command_body, commands_body, decided}
 use Rattle.sap_tags_terms.specs.Code.{entities_in, setting_in, home_in, world_in}
-use Rattle.sap_tagged.specs.Commands.{gives, looks, raises, effect_of, refusal, attempt_of, attempt_then_of, arm_count, pick_width, picks_arm, picks, decides, pick_of, select_of, wires_block, command_plain, arms_plain, block_plain}
-use Rattle.sap_tagged.specs.Keys.{wire_key}
+use Rattle.sap_tagged.specs.Prelude.{gives, looks, raises, effect_of, refusal, attempt_of, attempt_then_of, arm_count, pick_width, picks_arm, picks, decides, pick_of, select_of, wires_block, command_plain, arms_plain, block_plain, wire_key, var, lub, expr, tag_of, always}
 use Rattle.sap_tagged.specs.Setting as pass
-use Rattle.sap_tagged.specs.Levels.{var, lub, expr, tag_of, always}
 use Rattle.sap_tags_terms.specs.declared.setting.Setting.{Setting}
-use Rattle.sap_program.specs.declared.home.Home.{Home}
 use Rattle.sap_program.proofs.Shown.{command_of-do, command_of-try, command_of-if, command_of-then, command_of-case, block_of-none}
 use Rattle.sap_tags_terms.proofs.Listed.{block_of-more, wires_are, wires_block_are, wires_drop, arms_drop}
 use Rattle.sap_tags_effects.proofs.Raised.{raises_follow}

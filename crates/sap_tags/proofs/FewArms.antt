@@ -2,14 +2,12 @@
 use Rattle.std.proofs.Common.{◌≡◌, ℕ, suc, ◌≤◌, List, [], ◌∷◌, length, refl, ap, subst}
 use Rattle.std.specs.List.{AllByRecursion}
 use Rattle.sap_tree.specs.Limits.{most_arms}
-use Rattle.sap_meaning.specs.Program.{Arms, last_arm}
-use Rattle.sap_meaning.specs.Walks.{arm_constants}
-use Rattle.sap_program.specs.declared.program.Command.{Command, Row_of-Command, end_of-Command, more_of-Command, Row_of-Arm, end_of-Arm, more_of-Arm}
-use Rattle.sap_program.specs.declared.program.Command.TheVariants as command
-use Rattle.sap_program.specs.declared.program.State.{State, State', Row_of-State, end_of-State, more_of-State}
+use Rattle.sap_meaning.specs.Prelude.{Arms, last_arm, arm_constants}
 use Rattle.sap_program.specs.Views.{command_of, row_arms, row_block, block_of, state_of, row_group, group_of}
-use Rattle.sap_tagged.specs.Commands.{arm_count}
-use Rattle.sap_tagged.specs.Few.{Few, FewArms, FewBlock, FewState, FewGroup}
+use Rattle.sap_program.specs.declared.program.Command.{Command, Row_of-Command, end_of-Command, more_of-Command, Row_of-Arm, end_of-Arm, more_of-Arm}
+use Rattle.sap_program.specs.declared.program.State.{State, State', Row_of-State, end_of-State, more_of-State}
+use Rattle.sap_program.specs.declared.program.Command.TheVariants as command
+use Rattle.sap_tagged.specs.Prelude.{arm_count, Few, FewArms, FewBlock, FewState, FewGroup}
 
 module _ (n : ℕ) where
   same_count : {k : _} (row : Row_of-Arm k) (a b : Arms) → arm_count a ≡ arm_count b → arm_count (row_arms n row a) ≡ arm_count (row_arms 0 row b)

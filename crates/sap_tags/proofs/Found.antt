@@ -2,35 +2,28 @@
 use Rattle.std.proofs.Common.{◌≡◌, ℕ, zero, suc, ◌+◌, ◌*◌, ◌^◌, ◌<◌, ◌≤◌, List, [], ◌∷◌, IsTrue, true, false, get_or, refl, sym, ap, ap₂, ◌∙◌, subst, inl, inr, arith}
 use Rattle.std.proofs.lemmas.Bool.{cases_Bool}
 use Rattle.sap_tree.proofs.SyntaxLemmas.{tree_of_whole}
-use Rattle.sap_tree.specs.Syntax.{DesignTree}
-use Rattle.sap_tree.specs.Whole.{is_whole, states_count, states_commands}
-use Rattle.sap_lattice.specs.Levels.{Levels, order_of}
-use Rattle.sap_lattice.specs.Codes.{code_of, width_of}
+use Rattle.sap_tree.specs.Prelude.{DesignTree, is_whole, states_count, states_commands}
+use Rattle.sap_lattice.specs.Prelude.{Levels, order_of, code_of, width_of}
 use Rattle.sap_lattice.specs.Lawful.{IsLattice}
+use Rattle.sap_names.specs.Entities.{entities_of}
 use Rattle.sap_names.specs.declared.kind.Declared.{Declared}
 use Rattle.sap_names.specs.declared.kind.Declared.TheVariants as kind
 use Rattle.sap_names.specs.declared.entity.Entity as declared_entity
-use Rattle.sap_names.specs.Entities.{entities_of}
 use Rattle.sap_meaning.specs.Program as meaning
 use Rattle.sap_meaning.specs.Program.{World, Entity, nothing, kind_is_state, is_state, width, root}
 use Rattle.sap_resolved.specs.Resolve.{states_of}
 use Rattle.sap_resolved.specs.Worlds.{world_of}
 use Rattle.sap_resolved.specs.Fill.{program_of}
 use Rattle.sap_resolved.proofs.Lookup.{Stands, AllMatch, entities_match}
+use Rattle.sap_program.specs.Prelude.{IsProgramOf, count, group_of, program_in}
 use Rattle.sap_program.specs.declared.program.Program.{Program}
-use Rattle.sap_program.specs.Design.{IsProgramOf}
-use Rattle.sap_program.specs.Views.{count, group_of, program_in}
 use Rattle.sap_resolved.specs.Sized.Ranges.{IsWidth, RangedProgram}
 use Rattle.sap_resolved.specs.Sized.Sound.{WidthsInRange}
 use Rattle.sap_shape.specs.WellFormed.{WellFormed}
-use Rattle.sap_interface.specs.StandsFor.{Named}
-use Rattle.sap_interface.specs.Designs.{named_of}
+use Rattle.sap_interface.specs.Prelude.{Named, named_of}
 use Rattle.sap_tags_terms.specs.Code.{named_over}
-use Rattle.sap_tagged.specs.Law.{IsSound, plain_for}
-use Rattle.sap_tagged.specs.Plain.{plain_of}
+use Rattle.sap_tagged.specs.Prelude.{IsSound, plain_for, plain_of, FewGroup, wires_group}
 use Rattle.sap_tags_terms.specs.Narrow.{IsNarrow}
-use Rattle.sap_tagged.specs.Few.{FewGroup}
-use Rattle.sap_tagged.specs.States.{wires_group}
 use Rattle.sap_tagged.proofs.Designs.{design}
 use Rattle.sap_tagged.proofs.Fitted.{limits, group_few, group_filled}
 use Rattle.sap_tags_terms.specs.Parts.{StatesFew}

@@ -4,24 +4,20 @@ use Rattle.sap_ir.proofs.PlainLemmas.{planted_end}
 use Rattle.sap_maps.specs.Maps.{Name}
 use Rattle.sap_meaning.specs.Program.{root, listed, Block, State, state_node, Group, no_node, and_node}
 use Rattle.sap_meaning.specs.Checks as checks
-use Rattle.sap_ir.specs.Plain.Nested.{Body, stop, Forest, none, state}
-use Rattle.sap_ir.specs.declared.plain.nested.PlainState.{PlainState, PlainState-F, roll-PlainState}
-use Rattle.sap_ir.specs.Plain.Views.{body_of, follow, forest_of, state_before, planted}
+use Rattle.sap_ir.specs.Prelude.{Body, stop, Forest, none, state, body_of, follow, forest_of, state_before, planted}
+use Rattle.sap_ir.specs.declared.plain.nested.PlainState.{PlainState}
+use Rattle.sap_ir.specs.declared.plain.nested.PlainState.{PlainState-F, roll-PlainState}
 use Rattle.sap_ir.proofs.plain.Views.{follow-more, forest_of-none, forest_of-push, state_before-roll}
-use Rattle.sap_program.specs.Hangs.{flags}
+use Rattle.sap_program.specs.Prelude.{flags, block_of, state_of, group_of}
 use Rattle.sap_program.specs.declared.program.State.{State as StateCode, out-State}
 use Rattle.sap_program.specs.declared.program.Command.{Command}
-use Rattle.sap_program.specs.Views.{block_of, state_of, group_of}
+use Rattle.sap_program.specs.declared.home.Home.{Home}
 use Rattle.sap_tags_terms.specs.Parts.{commands_wires, state_wires, states_wires}
 use Rattle.sap_tags.specs.Built.{commands_body, state_forest, states_forest, top_forest, tops_forest}
 use Rattle.sap_tags_terms.specs.Code.{named_in, entities_in, setting_in, home_in}
-use Rattle.sap_tagged.specs.Keys.{first_key, tag_key, wire_key, inner_key, entity_word}
-use Rattle.sap_tagged.specs.Levels.{var}
-use Rattle.sap_tagged.specs.Commands.{gives, raises, block_plain, wires_block}
+use Rattle.sap_tagged.specs.Prelude.{first_key, tag_key, wire_key, inner_key, entity_word, var, gives, raises, block_plain, wires_block, wires_state, saves, saved, group_plain, top_plain}
 use Rattle.sap_tagged.specs.Setting as pass
-use Rattle.sap_tagged.specs.States.{wires_state, saves, saved, group_plain, top_plain}
 use Rattle.sap_tags_terms.specs.declared.setting.Setting.{Setting}
-use Rattle.sap_program.specs.declared.home.Home.{Home}
 use Rattle.sap_program.proofs.Shown.{state_of-out}
 use Rattle.sap_tags_terms.proofs.Listed.{group_of-more, wires_block_are, wires_state_are, state_wires_are, states_drop}
 use Rattle.sap_tags_effects.proofs.Raised.{raises_follow, entities_count}

@@ -3,24 +3,17 @@ use Rattle.std.proofs.Common.{◌≡◌, ℕ, ◌<◌, ◌≤◌, [], ◌++◌, 
 use Rattle.std.proofs.lemmas.Bool.{lt-ltb}
 use Rattle.sap_maps.specs.Maps.{Name}
 use Rattle.sap_tree.specs.Syntax.{DesignTree}
-use Rattle.sap_lattice.specs.Codes.{width_of}
-use Rattle.sap_lattice.specs.Levels.{Levels, order_of}
-use Rattle.sap_meaning.specs.Program.{World, entity, root, children, is_memory, is_state, is_dynamic}
-use Rattle.sap_meaning.specs.State.{first, first_level}
-use Rattle.sap_meaning.specs.Store.{start, start_whole}
+use Rattle.sap_lattice.specs.Prelude.{width_of, Levels, order_of}
+use Rattle.sap_meaning.specs.Prelude.{World, entity, root, children, is_memory, is_state, is_dynamic, first, first_level, start, start_whole}
 use Rattle.sap_meaning.proofs.ProgramLemmas.{state_no_memory}
 use Rattle.sap_net.proofs.NamesLemmas.{among_front}
 use Rattle.sap_net.specs.PortNames.{refused_name}
+use Rattle.sap_ir.specs.Prelude.{register_number, cell_at_start, variable_names, memory_names}
 use Rattle.sap_ir.specs.declared.guarded.Var.{Var}
 use Rattle.sap_ir.specs.declared.guarded.MemoryVariable.{MemoryVariable}
-use Rattle.sap_ir.specs.Guarded.{register_number, cell_at_start}
-use Rattle.sap_ir.specs.IsGuarded.{variable_names, memory_names}
 use Rattle.sap_ir.proofs.Declared.{apart_lists}
-use Rattle.sap_interface.specs.StandsFor.{Named, world, depth, StandsFor}
-use Rattle.sap_interface.specs.Designs.{named_of, site_count_of}
-use Rattle.sap_tagged.specs.Keys.{tag_key, refused_key, key_name}
-use Rattle.sap_tagged.specs.Law.{IsSound, plain_for}
-use Rattle.sap_tagged.specs.Plain.{variable, level_at_start, value_var, tag_var, seat_var, has_own_tag, registers_of, wires_of, site_wires, memory_of, memories_of, plain_of}
+use Rattle.sap_interface.specs.Prelude.{Named, world, depth, StandsFor, named_of, site_count_of}
+use Rattle.sap_tagged.specs.Prelude.{tag_key, refused_key, key_name, IsSound, plain_for, variable, level_at_start, value_var, tag_var, seat_var, has_own_tag, registers_of, wires_of, site_wires, memory_of, memories_of, plain_of}
 use Rattle.sap_tagged.proofs.Bools.{register_within, memory_within}
 use Rattle.sap_tagged.proofs.Cycle.{value_known, tag_known, seat_known, root_known, refused_known, refused_in, in_value, in_tag, in_own_tag, in_seat, in_memory, in_tags, behind_inputs, registers_once, stores_once, site_bound}
 use Rattle.sap_tagged.proofs.Designs.{design, some_child}

@@ -1,28 +1,19 @@
 -- Which block of a `case` runs: assignments to the wire of its number, and choices by the bits of that number.
-use Rattle.std.proofs.Common.{◌≡◌, ℕ, zero, suc, ◌+◌, ◌^◌, ◌<◌, ◌≤◌, List, [], ◌∷◌, ◌++◌, length, get_or, take, drop, map, refl, sym, ap, ap₂, ◌∙◌, arith, add-one}
-use Rattle.std.proofs.lemmas.Bool.{le-leb, lt-leb}
-use Rattle.std.proofs.lemmas.List.{length-map, take-map, drop-map}
-use Rattle.std.specs.declared.vec.Vec.{Vec}
-use Rattle.std.specs.declared.alloc.Global.{Global}
+use Rattle.sap_lemmas.proofs.Common.{◌≡◌, ℕ, zero, suc, ◌+◌, ◌^◌, ◌<◌, ◌≤◌, List, [], ◌∷◌, ◌++◌, length, get_or, take, drop, map, refl, sym, ap, ap₂, ◌∙◌, arith, add-one, le-leb, lt-leb, length-map, Vec, Global}
+use Rattle.std.proofs.lemmas.List.{take-map, drop-map}
 use Rattle.sap_ir.proofs.PlainLemmas.{follow_stop}
 use Rattle.sap_bits.specs.declared.Op2.TheVariants.{Eq}
-use Rattle.sap_maps.specs.Maps.{Name}
-use Rattle.sap_maps.specs.Term.{Term, constant, two, choose, part}
+use Rattle.sap_maps.specs.Prelude.{Name, Term, constant, two, choose, part}
 use Rattle.sap_meaning.specs.Program.{Arms, last_arm, end_block}
 use Rattle.sap_meaning.specs.Program as program
-use Rattle.sap_ir.specs.Plain.Nested.{Body, stop, cases, seat_width}
-use Rattle.sap_ir.specs.Calcs.{term_of}
+use Rattle.sap_ir.specs.Prelude.{Body, stop, cases, seat_width, term_of, body_of, follow}
 use Rattle.sap_ir.specs.declared.guarded.Calc.{Calc}
 use Rattle.sap_ir.specs.declared.plain.nested.PlainCmd.{PlainCmd}
 use Rattle.sap_ir.specs.declared.plain.nested.PlainCmd.TheViews as shown
-use Rattle.sap_ir.specs.Plain.Views.{body_of, follow}
 use Rattle.sap_ir.proofs.plain.Views.{body_of-push, before-if, follow-more}
-use Rattle.sap_program.specs.declared.program.Arm.{Arm}
 use Rattle.sap_program.specs.Views.{constants_of}
-use Rattle.sap_tagged.specs.Keys.{wire_key}
-use Rattle.sap_tagged.specs.Setting.{Setting}
-use Rattle.sap_tagged.specs.Levels.{var}
-use Rattle.sap_tagged.specs.Commands.{gives, pick_width, picks_arm, picks, decides}
+use Rattle.sap_program.specs.declared.program.Arm.{Arm}
+use Rattle.sap_tagged.specs.Prelude.{wire_key, Setting, var, gives, pick_width, picks_arm, picks, decides}
 use Rattle.sap_tags_terms.proofs.Alone.{alone, alone_next, alone_past, counted}
 
 module _ (d : Setting) where

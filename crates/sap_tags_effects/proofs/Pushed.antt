@@ -1,22 +1,16 @@
 -- What stands behind a body, after each part of a step.
 use Rattle.std.proofs.Common.{◌≡◌, ℕ, ◌+◌, ◌++◌, List, [], ◌∷◌, Bool, true, false, refl, sym, ap, ◌∙◌, if◌then◌else◌}
 use Rattle.sap_ir.proofs.PlainLemmas.{follow_stop}
-use Rattle.sap_ir.specs.Plain.Nested.{Body, stop, goto}
+use Rattle.sap_ir.specs.Prelude.{Body, stop, goto, body_of, command_before, follow}
 use Rattle.sap_ir.specs.declared.plain.nested.PlainCmd.{PlainCmd}
-use Rattle.sap_ir.specs.Plain.Views.{body_of, command_before, follow}
 use Rattle.sap_ir.proofs.plain.Views.{body_of-none, body_of-more, follow-before, follow-more}
-use Rattle.sap_maps.specs.Maps.{Name}
-use Rattle.sap_maps.specs.Term.{Term}
-use Rattle.sap_tagged.specs.Keys.{Key, tag_key, wire_key}
-use Rattle.sap_tagged.specs.Setting.{Setting}
-use Rattle.sap_tagged.specs.Levels.{var, bits}
-use Rattle.sap_tagged.specs.Commands.{gives, for_each, resets, effect_of}
+use Rattle.sap_maps.specs.Prelude.{Name, Term}
+use Rattle.sap_tagged.specs.Prelude.{Key, tag_key, wire_key, Setting, var, bits, gives, for_each, resets, effect_of}
 use Rattle.sap_tags_effects.proofs.Raised.{sweep_follow}
-use Rattle.sap_meaning.specs.Program.{root, is_dynamic}
-use Rattle.sap_meaning.specs.Checks.{Home}
+use Rattle.sap_meaning.specs.Prelude.{root, is_dynamic, Home}
+use Rattle.sap_program.specs.Views.{step_of}
 use Rattle.sap_program.specs.declared.program.Step.{Step}
 use Rattle.sap_program.specs.declared.program.Step.TheVariants as step
-use Rattle.sap_program.specs.Views.{step_of}
 
 -- one list of commands behind another
 pub body_of-behind : (cs ds : List PlainCmd) → body_of (cs ++ ds) ≡ follow (body_of cs) (body_of ds)

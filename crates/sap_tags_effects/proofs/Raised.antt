@@ -1,28 +1,17 @@
 -- Assignments to the tags of many entities, as walks along lists of numbers.
-use Rattle.std.proofs.Common.{◌≡◌, ℕ, zero, suc, ◌+◌, ◌-◌, ◌<◌, ◌≤◌, Bool, true, false, ◌&&◌, ◌||◌, List, [], ◌∷◌, length, get_or, drop, map, refl, sym, ap, ◌∙◌, arith, add-one, nat_eq, nat_lt, if◌then◌else◌, inl, inr}
-use Rattle.std.specs.Prelude.{nat_le}
-use Rattle.std.proofs.lemmas.Bool.{cases_Bool, lt-ltb, le-ltb, ltb-true, leb-true, le-leb, eq-eqb, eqb-true, ne_eqb, and_parts, and_left, and_right}
-use Rattle.sap_lemmas.proofs.Lists.{length_map}
-use Rattle.sap_lemmas.proofs.Numbers.{test_symmetric}
+use Rattle.sap_lemmas.proofs.Common.{◌≡◌, ℕ, zero, suc, ◌+◌, ◌-◌, ◌<◌, ◌≤◌, Bool, true, false, ◌&&◌, ◌||◌, List, [], ◌∷◌, length, get_or, drop, map, refl, sym, ap, ◌∙◌, arith, add-one, nat_eq, nat_lt, if◌then◌else◌, inl, inr, nat_le, cases_Bool, lt-ltb, le-ltb, ltb-true, leb-true, le-leb, eq-eqb, eqb-true, ne_eqb, and_parts, length_map, test_symmetric}
+use Rattle.std.proofs.lemmas.Bool.{and_left, and_right}
 use Rattle.sap_resolved.proofs.FillLemmas.{table_at}
 use Rattle.sap_ir.proofs.PlainLemmas.{follow_stop}
-use Rattle.sap_maps.specs.Maps.{Name}
-use Rattle.sap_maps.specs.Term.{Term}
-use Rattle.sap_meaning.specs.Program.{root, is_dynamic, listed, go_to}
-use Rattle.sap_meaning.specs.Checks.{Home}
-use Rattle.sap_meaning.specs.Runs.{listed_alone}
-use Rattle.sap_ir.specs.Plain.Nested.{Body, stop}
-use Rattle.sap_ir.specs.Plain.Views.{follow}
+use Rattle.sap_maps.specs.Prelude.{Name, Term}
+use Rattle.sap_meaning.specs.Prelude.{root, is_dynamic, listed, go_to, Home, listed_alone}
+use Rattle.sap_ir.specs.Prelude.{Body, stop, follow}
 use Rattle.sap_ir.proofs.plain.Views.{follow-more}
-use Rattle.sap_program.specs.Hangs.{rises_from, rises, hangs, flags}
+use Rattle.sap_program.specs.Prelude.{rises_from, rises, hangs, flags, entity_of, step_of}
 use Rattle.sap_program.specs.declared.program.Step.{Step}
-use Rattle.sap_program.specs.declared.program.Step.TheVariants as step
-use Rattle.sap_program.specs.Views.{entity_of, step_of}
 use Rattle.sap_program.specs.declared.program.Entity.{Entity}
-use Rattle.sap_tagged.specs.Keys.{Key, tag_key, wire_key}
-use Rattle.sap_tagged.specs.Setting.{Setting}
-use Rattle.sap_tagged.specs.Levels.{var, lub}
-use Rattle.sap_tagged.specs.Commands.{gives, sweep, raises}
+use Rattle.sap_program.specs.declared.program.Step.TheVariants as step
+use Rattle.sap_tagged.specs.Prelude.{Key, tag_key, wire_key, Setting, var, lub, gives, sweep, raises}
 
 -- tables
 

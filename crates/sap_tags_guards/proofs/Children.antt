@@ -2,16 +2,13 @@
 use Rattle.std.proofs.Common.{◌≡◌, ℕ, ◌+◌, ◌-◌, ◌<◌, ◌≤◌, List, [], ◌∷◌, length, get_or, take, drop, true, ◌&&◌, refl, sym, ap, ◌∙◌, arith}
 use Rattle.std.proofs.lemmas.List.{take_rest}
 use Rattle.sap_bits.specs.declared.Op2.TheVariants.{Eq}
-use Rattle.sap_maps.specs.Maps.{Name}
-use Rattle.sap_maps.specs.Term.{Term, constant, two, choose}
+use Rattle.sap_maps.specs.Prelude.{Name, Term, constant, two, choose}
 use Rattle.sap_meaning.specs.Program.{World, is_dynamic, state_node, and_node}
 use Rattle.sap_meaning.specs.Program as program
-use Rattle.sap_program.specs.declared.program.State.{State, out-State}
 use Rattle.sap_program.specs.Views.{block_of, group_of}
+use Rattle.sap_program.specs.declared.program.State.{State, out-State}
 use Rattle.sap_program.proofs.Shown.{state_of-out, group_of-none}
-use Rattle.sap_tagged.specs.Keys.{tag_key}
-use Rattle.sap_tagged.specs.Setting.{Setting}
-use Rattle.sap_tagged.specs.Levels.{var, bits, yes, enters, child_tag, child_enters, all_dynamic}
+use Rattle.sap_tagged.specs.Prelude.{tag_key, Setting, var, bits, yes, enters, child_tag, child_enters, all_dynamic}
 
 pub group_of-more : (n : ℕ) (s : State) (ss : List State)
     → group_of n (s ∷ ss) ≡ and_node (state_node (out-State s).number (block_of n (out-State s).body.items) (group_of n (out-State s).children.items)) (group_of n ss)

@@ -2,8 +2,8 @@
 use Rattle.std.proofs.Common.{◌≡◌, ℕ, zero, suc, ◌+◌, ◌<◌, ◌≤◌, List, [], ◌∷◌, length, get_or, drop, refl, sym, ap, arith, add-one}
 use Rattle.sap_meaning.specs.Program.{Arms, last_arm, Block, end_block}
 use Rattle.sap_meaning.specs.Program as program
-use Rattle.sap_program.specs.declared.program.Arm.{Arm}
 use Rattle.sap_program.specs.Views.{constants_of, arm_block, arms_before}
+use Rattle.sap_program.specs.declared.program.Arm.{Arm}
 use Rattle.sap_tagged.specs.Commands.{arm_count}
 
 abbrev pub alone : (m : ℕ) → List Arm → Arms

@@ -1,21 +1,18 @@
 -- The parts of commands and states whose cases have few arms have few arms too.
-use Rattle.std.proofs.Common.{◌≡◌, ℕ, zero, suc, ◌<◌, ◌≤◌, List, [], ◌∷◌, length, get_or, sym, ap, ◌∙◌, subst, arith}
-use Rattle.std.specs.declared.vec.Vec.{Vec}
-use Rattle.std.specs.declared.alloc.Global.{Global}
+use Rattle.sap_lemmas.proofs.Common.{◌≡◌, ℕ, zero, suc, ◌<◌, ◌≤◌, List, [], ◌∷◌, length, get_or, sym, ap, ◌∙◌, subst, arith, Vec, Global}
 use Rattle.sap_tree.specs.Limits.{most_arms}
 use Rattle.sap_meaning.specs.Program.{Arms, last_arm, end_block}
+use Rattle.sap_program.specs.Views.{commands_in, arms_before, command_of, block_of, group_of}
 use Rattle.sap_program.specs.declared.program.Number.{Number}
 use Rattle.sap_program.specs.declared.program.Step.{Step}
 use Rattle.sap_program.specs.declared.program.Arm.{Arm}
 use Rattle.sap_program.specs.declared.program.Command.{Command}
+use Rattle.sap_program.specs.declared.program.State.{State as StateCode, out-State}
 use Rattle.sap_program.specs.declared.program.Command.TheViews as shown
-use Rattle.sap_program.specs.Views.{commands_in, arms_before, command_of, block_of, group_of}
 use Rattle.sap_tags_terms.specs.Parts.{ArmsFew, CommandFew, CommandsFew, StateFew, StatesFew}
-use Rattle.sap_tagged.specs.Commands.{arm_count}
-use Rattle.sap_tagged.specs.Few.{Few, FewArms, FewBlock, FewState, FewGroup}
+use Rattle.sap_tagged.specs.Prelude.{arm_count, Few, FewArms, FewBlock, FewState, FewGroup}
 use Rattle.sap_program.proofs.Shown.{command_of-try, command_of-if, command_of-then, command_of-case, state_of-out}
 use Rattle.sap_tags_terms.proofs.Alone.{counted}
-use Rattle.sap_program.specs.declared.program.State.{State as StateCode, out-State}
 
 -- commands
 

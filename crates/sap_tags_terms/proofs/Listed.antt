@@ -1,19 +1,16 @@
 -- Lists of commands and of states, and how many wires they have.
-use Rattle.std.proofs.Common.{◌≡◌, ℕ, zero, suc, ◌+◌, ◌<◌, ◌≤◌, List, [], ◌∷◌, length, get_or, drop, refl, sym, ap, ap₂, ◌∙◌, arith, add-one}
-use Rattle.std.specs.declared.vec.Vec.{Vec}
-use Rattle.std.specs.declared.alloc.Global.{Global}
+use Rattle.sap_lemmas.proofs.Common.{◌≡◌, ℕ, zero, suc, ◌+◌, ◌<◌, ◌≤◌, List, [], ◌∷◌, length, get_or, drop, refl, sym, ap, ap₂, ◌∙◌, arith, add-one, Vec, Global}
+use Rattle.sap_program.specs.Views.{command_of, row_arms, row_block, block_of, commands_in, arms_before, state_of, row_group, group_of}
 use Rattle.sap_program.specs.declared.program.Number.{Number}
 use Rattle.sap_program.specs.declared.program.Step.{Step}
 use Rattle.sap_program.specs.declared.program.Arm.{Arm}
 use Rattle.sap_program.specs.declared.program.Command.{Command, Row_of-Command, end_of-Command, more_of-Command, Row_of-Arm, end_of-Arm, more_of-Arm}
+use Rattle.sap_program.specs.declared.program.State.{State, State', Row_of-State, end_of-State, more_of-State, out-State}
 use Rattle.sap_program.specs.declared.program.Command.TheVariants as command
 use Rattle.sap_program.specs.declared.program.Command.TheViews as shown
-use Rattle.sap_program.specs.declared.program.State.{State, State', Row_of-State, end_of-State, more_of-State, out-State}
-use Rattle.sap_program.specs.Views.{command_of, row_arms, row_block, block_of, commands_in, arms_before, state_of, row_group, group_of}
 use Rattle.sap_program.proofs.Shown.{command_of-do, command_of-try, command_of-if, command_of-then, command_of-case, block_of-none, state_of-out, group_of-none}
 use Rattle.sap_meaning.specs.Program.{Arms, last_arm, end_block, command_then, and_node}
-use Rattle.sap_tagged.specs.Commands.{wires, wires_arms, wires_block}
-use Rattle.sap_tagged.specs.States.{wires_state, wires_group}
+use Rattle.sap_tagged.specs.Prelude.{wires, wires_arms, wires_block, wires_state, wires_group}
 use Rattle.sap_tags_terms.specs.Parts.{command_wires, commands_wires, arm_wires, state_wires, states_wires}
 
 -- one in front

@@ -1,21 +1,19 @@
 -- The parts of commands and states whose widths are in range have their widths in range too.
-use Rattle.std.proofs.Common.{◌≡◌, ℕ, zero, suc, ◌<◌, List, [], ◌∷◌, length, get_or, sym, ap, ◌∙◌, subst, arith}
-use Rattle.std.specs.declared.vec.Vec.{Vec}
-use Rattle.std.specs.declared.alloc.Global.{Global}
+use Rattle.sap_lemmas.proofs.Common.{◌≡◌, ℕ, zero, suc, ◌<◌, List, [], ◌∷◌, length, get_or, sym, ap, ◌∙◌, subst, arith, Vec, Global}
 use Rattle.sap_meaning.specs.Program.{Arms, last_arm, end_block}
+use Rattle.sap_program.specs.Views.{term_of, step_of, commands_in, arms_before, command_of, block_of, group_of}
 use Rattle.sap_program.specs.declared.program.Number.{Number}
 use Rattle.sap_program.specs.declared.program.Step.{Step}
 use Rattle.sap_program.specs.declared.program.Arm.{Arm}
 use Rattle.sap_program.specs.declared.program.Command.{Command}
+use Rattle.sap_program.specs.declared.program.State.{State as StateCode, out-State}
 use Rattle.sap_program.specs.declared.program.Command.TheVariants as command
 use Rattle.sap_program.specs.declared.program.Command.TheViews as shown
-use Rattle.sap_program.specs.Views.{term_of, step_of, commands_in, arms_before, command_of, block_of, group_of}
 use Rattle.sap_resolved.specs.Sized.Ranges.{Ranged, RangedArms, RangedBlock, RangedStep, RangedTerm, RangedState, RangedGroup}
 use Rattle.sap_tags_terms.specs.Parts.{ArmsRanged, CommandRanged, CommandsRanged, StateRanged, StatesRanged}
 use Rattle.sap_tags_terms.specs.Code.{entities_in, world_in}
 use Rattle.sap_tags_terms.specs.declared.setting.Setting.{Setting}
 use Rattle.sap_program.proofs.Shown.{command_of-do, command_of-try, command_of-if, command_of-then, command_of-case, state_of-out}
-use Rattle.sap_program.specs.declared.program.State.{State as StateCode, out-State}
 
 module _ (s : Setting) where
   -- commands

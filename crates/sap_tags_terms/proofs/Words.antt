@@ -1,23 +1,15 @@
 -- Entities and their words, as the code takes them.
-use Rattle.std.proofs.Common.{◌≡◌, ℕ, ◌-◌, ◌+◌, zero, suc, ◌++◌, ◌^◌, ◌<◌, ◌≤◌, Bool, length, true, false, refl, ap, ◌∙◌, arith, nat_lt, if◌then◌else◌}
-use Rattle.std.specs.Prelude.{codes, ◌==◌}
-use Rattle.std.specs.Fmt.{decimal}
-use Rattle.sap_lemmas.proofs.Lists.{length_map}
-use Rattle.std.proofs.lemmas.Bool.{le-ltb}
+use Rattle.sap_lemmas.proofs.Common.{◌≡◌, ℕ, ◌-◌, ◌+◌, zero, suc, ◌++◌, ◌^◌, ◌<◌, ◌≤◌, Bool, length, true, false, refl, ap, ◌∙◌, arith, nat_lt, if◌then◌else◌, codes, ◌==◌, decimal, length_map, le-ltb}
 use Rattle.sap_resolved.proofs.SizedLemmas.{ranged_width}
 use Rattle.sap_lattice.specs.Levels.{Levels}
 use Rattle.sap_interface.specs.StandsFor.{name}
-use Rattle.sap_meaning.specs.Program.{World}
-use Rattle.sap_program.specs.declared.program.Program.{Program}
+use Rattle.sap_meaning.specs.Prelude.{World, width_of}
 use Rattle.sap_program.specs.Views.{entity_of}
-use Rattle.sap_tagged.specs.Keys.{seat_key, numeral, entity_word, key_name}
+use Rattle.sap_program.specs.declared.program.Program.{Program}
+use Rattle.sap_tagged.specs.Prelude.{seat_key, numeral, entity_word, key_name, Setting, bits, placed}
 use Rattle.sap_bits.specs.declared.Op2.TheVariants.{Eq}
-use Rattle.sap_maps.specs.Maps.{Name}
-use Rattle.sap_maps.specs.Term.{Term, constant, two, choose, part}
-use Rattle.sap_meaning.specs.Expressions.{width_of}
+use Rattle.sap_maps.specs.Prelude.{Name, Term, constant, two, choose, part}
 use Rattle.sap_resolved.specs.Sized.Ranges.{RangedTerm}
-use Rattle.sap_tagged.specs.Setting.{Setting}
-use Rattle.sap_tagged.specs.Levels.{bits, placed}
 use Rattle.sap_tags_terms.specs.Code.{named_over}
 use Rattle.sap_tagged.proofs.Numerals.{numeral_decimal}
 

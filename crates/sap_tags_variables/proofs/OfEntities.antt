@@ -1,22 +1,15 @@
 -- What is declared for the first entities of a program.
-use Rattle.std.proofs.Common.{◌≡◌, ℕ, zero, suc, ◌+◌, ◌^◌, ◌<◌, ◌≤◌, nat_lt, List, [], ◌∷◌, ◌++◌, length, take, Bool, true, false, refl, sym, ap, ◌∙◌, subst, arith, add-one, append_assoc}
-use Rattle.std.specs.Prelude.{if◌then◌else◌}
-use Rattle.std.proofs.lemmas.List.{take_all, append-nil}
-use Rattle.std.proofs.lemmas.Grind.{common_steps}
-use Rattle.std.proofs.Math.Nat.{pow-le-pow_right}
-use Rattle.sap_lemmas.proofs.Lists.{length_map}
+use Rattle.sap_lemmas.proofs.Common.{◌≡◌, ℕ, zero, suc, ◌+◌, ◌^◌, ◌<◌, ◌≤◌, nat_lt, List, [], ◌∷◌, ◌++◌, length, take, Bool, true, false, refl, sym, ap, ◌∙◌, subst, arith, add-one, append_assoc, if◌then◌else◌, take_all, append-nil, common_steps, pow-le-pow_right, length_map}
 use Rattle.sap_meaning.proofs.ProgramLemmas.{memory_no_state, register_no_state}
 use Rattle.sap_ir.specs.declared.guarded.Var.{Var}
 use Rattle.sap_ir.specs.declared.guarded.MemoryVariable.{MemoryVariable}
 use Rattle.sap_meaning.specs.Program as program
-use Rattle.sap_meaning.specs.Program.{Program, Kind, Entity, children, width, is_input, is_register, is_memory, kind_is_input, kind_is_state}
-use Rattle.sap_meaning.specs.Sized.{depth}
+use Rattle.sap_meaning.specs.Prelude.{Program, Kind, Entity, children, width, is_input, is_register, is_memory, kind_is_input, kind_is_state, depth}
 use Rattle.sap_program.specs.Views.{entity_of}
 use Rattle.sap_resolved.specs.Sized.Ranges.{IsWidth, RangedProgram}
 use Rattle.sap_tags_terms.specs.declared.setting.Setting.{Setting}
 use Rattle.sap_tags_terms.specs.Code.{named_in, tag_width, world_in, entities_in}
-use Rattle.sap_tagged.specs.Keys.{first_key, inner_key, key_name}
-use Rattle.sap_tagged.specs.Plain.{variable, value_var, tag_var, seat_var, level_at_start, seat_registers, memory_of, tags_of, for_entities, all_entities}
+use Rattle.sap_tagged.specs.Prelude.{first_key, inner_key, key_name, variable, value_var, tag_var, seat_var, level_at_start, seat_registers, memory_of, tags_of, for_entities, all_entities}
 
 -- of one entity more
 for_more : {A : Type 0} (picks : ℕ → Bool) (of : ℕ → List A) (x : ℕ) (es : List Entity) (n : ℕ) → n < length es

@@ -1,24 +1,18 @@
 -- The wires of lists of commands and of states, from a place on.
-use Rattle.std.proofs.Common.{◌≡◌, ℕ, zero, suc, ◌+◌, ◌<◌, ◌≤◌, ◌^◌, List, [], ◌∷◌, ◌++◌, length, get_or, drop, refl, sym, ap, ap₂, ◌∙◌, arith, add-one, append_assoc}
-use Rattle.std.specs.declared.vec.Vec.{Vec}
-use Rattle.std.specs.declared.alloc.Global.{Global}
-use Rattle.std.proofs.lemmas.List.{append-nil}
+use Rattle.sap_lemmas.proofs.Common.{◌≡◌, ℕ, zero, suc, ◌+◌, ◌<◌, ◌≤◌, ◌^◌, List, [], ◌∷◌, ◌++◌, length, get_or, drop, refl, sym, ap, ap₂, ◌∙◌, arith, add-one, append_assoc, Vec, Global, append-nil}
+use Rattle.sap_ir.specs.Plain.Nested.{seat_width}
 use Rattle.sap_ir.specs.declared.guarded.Var.{Var}
 use Rattle.sap_meaning.specs.Program as program
-use Rattle.sap_meaning.specs.Program.{Arms, last_arm, Block, end_block, command_then, Group, no_node, and_node, state_node}
+use Rattle.sap_meaning.specs.Prelude.{Arms, last_arm, Block, end_block, command_then, Group, no_node, and_node, state_node, width_of}
+use Rattle.sap_program.specs.Views.{term_of, commands_in, arm_block, arms_before, command_of, block_of, state_of, group_of}
 use Rattle.sap_program.specs.declared.program.Number.{Number}
 use Rattle.sap_program.specs.declared.program.Step.{Step}
 use Rattle.sap_program.specs.declared.program.Arm.{Arm}
 use Rattle.sap_program.specs.declared.program.Command.{Command}
-use Rattle.sap_program.specs.declared.program.Command.TheViews as shown
 use Rattle.sap_program.specs.declared.program.State.{State, out-State}
-use Rattle.sap_program.specs.Views.{term_of, commands_in, arm_block, arms_before, command_of, block_of, state_of, group_of}
-use Rattle.sap_meaning.specs.Expressions.{width_of}
-use Rattle.sap_ir.specs.Plain.Nested.{seat_width}
+use Rattle.sap_program.specs.declared.program.Command.TheViews as shown
 use Rattle.sap_interface.specs.StandsFor.{Named, world}
-use Rattle.sap_tagged.specs.Commands.{pick_width, wires, wires_block}
-use Rattle.sap_tagged.specs.States.{wires_state, wires_group}
-use Rattle.sap_tagged.specs.Plain.{wire, site_wires, command_wires, arms_wires, block_wires, state_wires, group_wires}
+use Rattle.sap_tagged.specs.Prelude.{pick_width, wires, wires_block, wires_state, wires_group, wire, site_wires, command_wires, arms_wires, block_wires, state_wires, group_wires}
 use Rattle.sap_tags_terms.specs.Parts.{arm_wires, commands_wires}
 use Rattle.sap_program.proofs.Shown.{command_of-do, command_of-try, command_of-if, command_of-then, command_of-case, state_of-out}
 use Rattle.sap_tags_terms.proofs.Listed.{wires_before, wires_arms_are, wires_block_are, arms_drop, arms_past}

@@ -1,18 +1,11 @@
 -- What is no register of a netlist is none of its tainted form, and nor is its tag.
-use Rattle.std.proofs.Common.{◌≡◌, ℕ, List, [], ◌∷◌, ◌++◌, map, Option, Some, None, true, ◌⊎◌, sym, ◌∙◌, ap, subst, refl, inl, inr}
-use Rattle.std.specs.Str.{bytes_eq}
-use Rattle.std.proofs.lemmas.Bool.{cases_Bool, or_right, or_cases}
-use Rattle.sap_lemmas.proofs.Texts.{equal_of_bytes_eq}
-use Rattle.sap_maps.specs.Maps.{Name}
-use Rattle.sap_maps.specs.Scope.{Scope, find}
+use Rattle.sap_lemmas.proofs.Common.{◌≡◌, ℕ, List, [], ◌∷◌, ◌++◌, map, Option, Some, None, true, ◌⊎◌, sym, ◌∙◌, ap, subst, refl, inl, inr, bytes_eq, cases_Bool, or_right, or_cases, equal_of_bytes_eq}
+use Rattle.sap_maps.specs.Prelude.{Name, Scope, find}
+use Rattle.sap_net.specs.Prelude.{Net, is_among, AreDistinct, Shapes, AreValues, AreWires, readable_after, IsNetlist, readable, first_readable, shapes, input_names, names_of, wire_names, register_names, memory_names}
 use Rattle.sap_net.specs.declared.parts.Operand.{Operand}
 use Rattle.sap_net.specs.declared.parts.Input.{Input}
 use Rattle.sap_net.specs.declared.parts.Wire.{Wire}
 use Rattle.sap_net.specs.declared.parts.Register.{Register}
-use Rattle.sap_net.specs.Net.{Net}
-use Rattle.sap_net.specs.Names.{is_among, AreDistinct}
-use Rattle.sap_net.specs.Rules.{Shapes, AreValues, AreWires, readable_after}
-use Rattle.sap_net.specs.IsNetlist.{IsNetlist, readable, first_readable, shapes, input_names, names_of, wire_names, register_names, memory_names}
 use Rattle.sap_net.proofs.NamesLemmas.{among_here, among_append, among_front, among_behind, found_of, found_among}
 use Rattle.sap_taint.specs.TagNames.{name_of_tag, HasRoomForTags}
 use Rattle.sap_taint.specs.TaggedForm.{HasTaggedForm}

@@ -1,15 +1,10 @@
 -- A netlist carries the taint of another where it does so in each cycle.
-use Rattle.std.proofs.Common.{◌≡◌, ℕ, List, [], ◌∷◌, map, Option, Some, None, sym, ◌∙◌, ap, subst, refl}
-use Rattle.std.specs.Option.{option_map}
-use Rattle.sap_maps.specs.Maps.{Name, Valuation}
-use Rattle.sap_maps.specs.Scope.{find}
+use Rattle.sap_lemmas.proofs.Common.{◌≡◌, ℕ, List, [], ◌∷◌, map, Option, Some, None, sym, ◌∙◌, ap, subst, refl, option_map}
+use Rattle.sap_maps.specs.Prelude.{Name, Valuation, find}
+use Rattle.sap_net.specs.Prelude.{Net, operand_value, Holds, width_of, IsNetlist, IsWithin, IsValuation, written, Begins, InputsFit, InputsAre, IsCycle, IsRunAfter, observed, value_after, cell_after}
 use Rattle.sap_net.specs.declared.parts.Input.{Input}
 use Rattle.sap_net.specs.declared.parts.Operand.{Operand}
 use Rattle.sap_net.specs.declared.parts.Memory.{Memory}
-use Rattle.sap_net.specs.Net.{Net}
-use Rattle.sap_net.specs.Values.{operand_value, Holds}
-use Rattle.sap_net.specs.IsNetlist.{width_of, IsNetlist}
-use Rattle.sap_net.specs.Runs.{IsWithin, IsValuation, written, Begins, InputsFit, InputsAre, IsCycle, IsRunAfter, observed, value_after, cell_after}
 use Rattle.sap_net.proofs.Observed.{observed_registers, observed_memories}
 use Rattle.sap_net.proofs.NamesLemmas.{found_of, found_among}
 use Rattle.sap_taint.specs.TagNames.{name_of_tag, HasRoomForTags}

@@ -1,16 +1,7 @@
 -- There is room for tags, or exactly one first clash.
-use Rattle.std.proofs.Common.{◌≡◌, List, [], ◌∷◌, ◌++◌, map, Option, Some, None, true, false, ◌⊎◌, ap, sym, ◌∙◌, subst, refl, inl, inr}
-use Rattle.std.specs.Prelude.{if◌then◌else◌}
-use Rattle.std.specs.Str.{bytes_eq}
-use Rattle.std.proofs.lemmas.Bool.{cases_Bool, or_right, or_cases}
-use Rattle.std.proofs.lemmas.List.{append-nil, append_assoc, map-append}
-use Rattle.sap_lemmas.proofs.Bools.{neither_left, neither_right}
-use Rattle.sap_lemmas.proofs.Options.{some_unique}
-use Rattle.sap_lemmas.proofs.Texts.{equal_of_bytes_eq}
+use Rattle.sap_lemmas.proofs.Common.{◌≡◌, List, [], ◌∷◌, ◌++◌, map, Option, Some, None, true, false, ◌⊎◌, ap, sym, ◌∙◌, subst, refl, inl, inr, if◌then◌else◌, bytes_eq, cases_Bool, or_right, or_cases, append-nil, append_assoc, map-append, neither_left, neither_right, some_unique, equal_of_bytes_eq}
 use Rattle.sap_maps.specs.Maps.{Name}
-use Rattle.sap_net.specs.Net.{Net}
-use Rattle.sap_net.specs.Names.{is_among, AreDistinct}
-use Rattle.sap_net.specs.IsNetlist.{IsNetlist}
+use Rattle.sap_net.specs.Prelude.{Net, is_among, AreDistinct, IsNetlist}
 use Rattle.sap_net.proofs.NamesLemmas.{among_here, among_append, among_front, among_behind}
 use Rattle.sap_taint.specs.TagNames.{name_of_tag, with_tags, clashes, NoneClashes, IsClash, HasRoomForTags}
 use Rattle.sap_taint.specs.Laws.{RoomOrClash, NoClashWithRoom, OneClash}

@@ -1,19 +1,10 @@
 -- TaggedValuation runs of one netlist on related inputs are related in every cycle.
-use Rattle.std.proofs.Common.{◌≡◌, ℕ, List, [], ◌∷◌, map, Option, Some, None, sym, ◌∙◌, subst, refl, ⊎_elim}
-use Rattle.std.specs.Str.{bytes_eq}
-use Rattle.std.specs.List.{AllByRecursion}
-use Rattle.std.proofs.lemmas.Bool.{cases_Bool}
-use Rattle.sap_lemmas.proofs.Texts.{equal_of_bytes_eq}
-use Rattle.sap_maps.specs.Maps.{Name}
-use Rattle.sap_maps.specs.Scope.{Scope}
+use Rattle.sap_lemmas.proofs.Common.{◌≡◌, ℕ, List, [], ◌∷◌, map, Option, Some, None, sym, ◌∙◌, subst, refl, ⊎_elim, bytes_eq, AllByRecursion, cases_Bool, equal_of_bytes_eq}
+use Rattle.sap_maps.specs.Prelude.{Name, Scope}
+use Rattle.sap_net.specs.Prelude.{Net, operand_value, Shapes, IsRegister, IsMemory, first_readable, readable, shapes, width_of, IsNetlist, written, InputsAre}
 use Rattle.sap_net.specs.declared.parts.Input.{Input}
 use Rattle.sap_net.specs.declared.parts.Register.{Register}
 use Rattle.sap_net.specs.declared.parts.Memory.{Memory}
-use Rattle.sap_net.specs.Net.{Net}
-use Rattle.sap_net.specs.Values.{operand_value}
-use Rattle.sap_net.specs.Rules.{Shapes, IsRegister, IsMemory}
-use Rattle.sap_net.specs.IsNetlist.{first_readable, readable, shapes, width_of, IsNetlist}
-use Rattle.sap_net.specs.Runs.{written, InputsAre}
 use Rattle.sap_net.proofs.Same.{AreFound, all_found}
 use Rattle.sap_taint.specs.Tags.{operand_tag, written_tag}
 use Rattle.sap_taint.specs.Runs.{TaggedNumber, numbers_of, TaggedValuation, TagsGiven, IsTaintedCycle, IsTaintedRunAfter}

@@ -1,22 +1,13 @@
 -- Every run has its taint.
-use Rattle.std.proofs.Common.{◌≡◌, ℕ, List, [], ◌∷◌, ◌++◌, map, Option, Some, None, sym, ◌∙◌, ap, refl}
-use Rattle.std.specs.Prelude.{unwrap_or, if◌then◌else◌}
-use Rattle.std.specs.Str.{bytes_eq}
-use Rattle.std.specs.Option.{option_map}
-use Rattle.std.specs.List.{AllByRecursion}
-use Rattle.sap_lemmas.proofs.Texts.{bytes_eq_same, bytes_eq_apart_back}
-use Rattle.sap_maps.specs.Maps.{Name, Valuation}
-use Rattle.sap_maps.specs.Scope.{Scope, find}
+use Rattle.sap_lemmas.proofs.Common.{◌≡◌, ℕ, List, [], ◌∷◌, ◌++◌, map, Option, Some, None, sym, ◌∙◌, ap, refl, unwrap_or, if◌then◌else◌, bytes_eq, option_map, AllByRecursion, bytes_eq_same, bytes_eq_apart_back}
+use Rattle.sap_maps.specs.Prelude.{Name, Valuation, Scope, find}
 use Rattle.sap_maps.proofs.Scopes.{found_here, found_behind, apart, not_first, not_behind}
+use Rattle.sap_net.specs.Prelude.{Net, Shapes, AreValues, AreMemories, AreWires, IsRight, first_readable, shapes, IsNetlist, InputsAre, IsCycle, IsRunAfter}
 use Rattle.sap_net.specs.declared.parts.Input.{Input}
 use Rattle.sap_net.specs.declared.parts.Wire.{Wire}
 use Rattle.sap_net.specs.declared.parts.Right.{Right}
 use Rattle.sap_net.specs.declared.parts.Register.{Register}
 use Rattle.sap_net.specs.declared.parts.Memory.{Memory}
-use Rattle.sap_net.specs.Net.{Net}
-use Rattle.sap_net.specs.Rules.{Shapes, AreValues, AreMemories, AreWires, IsRight}
-use Rattle.sap_net.specs.IsNetlist.{first_readable, shapes, IsNetlist}
-use Rattle.sap_net.specs.Runs.{InputsAre, IsCycle, IsRunAfter}
 use Rattle.sap_net.proofs.InputLemmas.{past_inputs}
 use Rattle.sap_taint.specs.Tags.{Tags, operand_tag, right_tag, TagsHold, written_tag}
 use Rattle.sap_taint.specs.Runs.{TaggedNumber, numbers_of, TaggedValuation, TagsBegin, TagsGiven, IsTaintedCycle, IsTaintedRunAfter}

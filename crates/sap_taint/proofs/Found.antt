@@ -1,11 +1,6 @@
 -- What all of a list have, what is found there under a name has.
-use Rattle.std.proofs.Common.{◌≡◌, List, [], ◌∷◌, map, Some, subst, ⊎_elim}
-use Rattle.std.specs.Str.{bytes_eq}
-use Rattle.std.specs.List.{AllByRecursion}
-use Rattle.std.proofs.lemmas.Bool.{cases_Bool}
-use Rattle.sap_lemmas.proofs.Texts.{equal_of_bytes_eq}
-use Rattle.sap_maps.specs.Maps.{Name}
-use Rattle.sap_maps.specs.Scope.{find}
+use Rattle.sap_lemmas.proofs.Common.{◌≡◌, List, [], ◌∷◌, map, Some, subst, ⊎_elim, bytes_eq, AllByRecursion, cases_Bool, equal_of_bytes_eq}
+use Rattle.sap_maps.specs.Prelude.{Name, find}
 
 pub at_named : {X Y : Type 0} (P : Name → Y → Type 0) (name : X → Name) (of : X → Y) (xs : List X) → AllByRecursion (λ x. P (name x) (of x)) xs
     → (n : Name) (y : Y) → find (map (λ x. (name x, of x)) xs) n ≡ Some y → P n y

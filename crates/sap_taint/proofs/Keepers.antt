@@ -1,8 +1,6 @@
 -- The relations that runs keep: looking alike, equality, and equality with tags that are codes.
-use Rattle.std.proofs.Common.{◌≡◌, ℕ, true, ap₂, ◌∙◌, refl, inl, inr}
-use Rattle.std.specs.Prelude.{bit_or}
-use Rattle.sap_lattice.specs.Order.{Order, Laws}
-use Rattle.sap_lattice.specs.Codes.{Codes}
+use Rattle.sap_lemmas.proofs.Common.{◌≡◌, ℕ, true, ap₂, ◌∙◌, refl, inl, inr, bit_or}
+use Rattle.sap_lattice.specs.Prelude.{Order, Laws, Codes}
 use Rattle.sap_meaning.specs.Agree.{Relation}
 use Rattle.sap_taint.specs.Alike.{IsCode, AlikeWithin, Equal, is_within}
 use Rattle.sap_taint.proofs.Keeps.{Keeps}

@@ -1,6 +1,5 @@
 -- What a relation between contents with tags has to keep, so that whole runs keep it.
-use Rattle.std.proofs.Common.{ℕ}
-use Rattle.std.specs.Prelude.{bit_or}
+use Rattle.sap_lemmas.proofs.Common.{ℕ, bit_or}
 use Rattle.sap_meaning.specs.Agree.{Relation}
 
 -- `Same` says that two contents are the same; t and u are their tags.

@@ -1,15 +1,8 @@
 -- From numbers to levels, and what the laws of whole runs need besides.
-use Rattle.std.proofs.Common.{◌≡◌, ℕ, List, [], ◌∷◌, map, sym, ap, ◌∙◌, refl, inl, inr}
-use Rattle.std.specs.Prelude.{◌<◌}
-use Rattle.std.specs.List.{AllByRecursion}
-use Rattle.sap_lattice.specs.Order.{Order, Laws}
-use Rattle.sap_lattice.specs.Codes.{Codes, code_of}
-use Rattle.sap_meaning.specs.Agree.{Relation, InputsAgree, StreamsAgree}
-use Rattle.sap_meaning.specs.Codes.{LookAlike}
-use Rattle.sap_meaning.specs.Cycle.{Tagged}
-use Rattle.sap_net.specs.Net.{Net}
-use Rattle.sap_net.specs.IsNetlist.{IsNetlist}
-use Rattle.std.specs.Prelude.{None}
+use Rattle.sap_lemmas.proofs.Common.{◌≡◌, ℕ, List, [], ◌∷◌, map, sym, ap, ◌∙◌, refl, inl, inr, ◌<◌, AllByRecursion, None}
+use Rattle.sap_lattice.specs.Prelude.{Order, Laws, Codes, code_of}
+use Rattle.sap_meaning.specs.Prelude.{Relation, InputsAgree, StreamsAgree, LookAlike, Tagged}
+use Rattle.sap_net.specs.Prelude.{Net, IsNetlist}
 use Rattle.sap_taint.specs.Runs.{TaggedNumber, TaggedValuation, IsTaintedRun, observed_with_tags}
 use Rattle.sap_taint.specs.Alike.{IsCode, AlikeWithin, AlikeInLevels, Equal, is_within, RunsRelated, InputsRelated, StreamsRelated}
 use Rattle.sap_taint.specs.Laws.{AreCoded, HasCodes, Throughout, OneTaint, CodesStayCodes, AlikeThroughout, AgreeThroughout, with_codes, stream_with_codes, AreLevels}

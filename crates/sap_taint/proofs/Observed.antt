@@ -1,12 +1,9 @@
 -- What is seen of related cycles is related.
 use Rattle.std.proofs.Common.{◌≡◌, ℕ, List, [], ◌∷◌, map, Option, Some, None, refl}
-use Rattle.sap_maps.specs.Maps.{Name}
-use Rattle.sap_maps.specs.Scope.{find}
+use Rattle.sap_maps.specs.Prelude.{Name, find}
+use Rattle.sap_net.specs.Prelude.{Net, readable, shapes, IsNetlist, value_after, cell_after}
 use Rattle.sap_net.specs.declared.parts.Operand.{Operand}
 use Rattle.sap_net.specs.declared.parts.Memory.{Memory}
-use Rattle.sap_net.specs.Net.{Net}
-use Rattle.sap_net.specs.IsNetlist.{readable, shapes, IsNetlist}
-use Rattle.sap_net.specs.Runs.{value_after, cell_after}
 use Rattle.sap_net.proofs.Same.{all_found}
 use Rattle.sap_taint.specs.Runs.{TaggedValuation, value_tag_after, memory_tag_after, observed_with_tags}
 use Rattle.sap_meaning.specs.Agree.{Relation}

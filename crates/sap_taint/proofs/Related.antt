@@ -1,21 +1,14 @@
 -- Wires of two cycles keep what inputs and registers keep.
-use Rattle.std.proofs.Common.{◌≡◌, ℕ, List, [], ◌∷◌, ◌++◌, Some, true, ap, ◌∙◌, subst, refl, ⊎_elim, inl, inr}
-use Rattle.std.specs.Prelude.{◌==◌}
-use Rattle.std.specs.Str.{bytes_eq}
-use Rattle.std.proofs.lemmas.Bool.{cases_Bool}
-use Rattle.sap_lemmas.proofs.Texts.{equal_of_bytes_eq}
+use Rattle.sap_lemmas.proofs.Common.{◌≡◌, ℕ, List, [], ◌∷◌, ◌++◌, Some, true, ap, ◌∙◌, subst, refl, ⊎_elim, inl, inr, ◌==◌, bytes_eq, cases_Bool, equal_of_bytes_eq}
 use Rattle.sap_bits.specs.Arithmetic.{value1, slice_of}
-use Rattle.sap_maps.specs.Maps.{Name}
-use Rattle.sap_maps.specs.Scope.{Scope, find}
+use Rattle.sap_maps.specs.Prelude.{Name, Scope, find}
+use Rattle.sap_net.specs.Prelude.{operand_value, operand_width, operands_value, right_value, Holds, Shapes, IsOperand, AreOperands, IsRight, AreWires, readable_after, IsMemory, written}
 use Rattle.sap_net.specs.declared.parts.Operand.{Operand}
 use Rattle.sap_net.specs.declared.parts.Operand.TheVariants.{Named, Constant}
 use Rattle.sap_net.specs.declared.parts.Right.{Right}
 use Rattle.sap_net.specs.declared.parts.Right.TheVariants.{Copy, One, Two, Choose, Concat, Slice, Cell}
 use Rattle.sap_net.specs.declared.parts.Wire.{Wire}
 use Rattle.sap_net.specs.declared.parts.Memory.{Memory}
-use Rattle.sap_net.specs.Values.{operand_value, operand_width, operands_value, right_value, Holds}
-use Rattle.sap_net.specs.Rules.{Shapes, IsOperand, AreOperands, IsRight, AreWires, readable_after, IsMemory}
-use Rattle.sap_net.specs.Runs.{written}
 use Rattle.sap_taint.specs.Tags.{operand_tag, operands_tag, right_tag, TagsHold, written_tag}
 use Rattle.sap_taint.specs.Runs.{TaggedValuation}
 use Rattle.sap_meaning.specs.Agree.{Relation}

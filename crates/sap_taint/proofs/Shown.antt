@@ -1,14 +1,9 @@
 -- What follows for a netlist that carries the taint of another.
-use Rattle.std.proofs.Common.{◌≡◌, ℕ, List, [], ◌∷◌, map, sym, ◌∙◌, ap, refl, inl, inr}
-use Rattle.std.specs.List.{AllByRecursion}
-use Rattle.sap_lattice.specs.Order.{Order, Laws}
-use Rattle.sap_lattice.specs.Codes.{Codes, code_of}
+use Rattle.sap_lemmas.proofs.Common.{◌≡◌, ℕ, List, [], ◌∷◌, map, sym, ◌∙◌, ap, refl, inl, inr, AllByRecursion}
+use Rattle.sap_lattice.specs.Prelude.{Order, Laws, Codes, code_of}
 use Rattle.sap_maps.specs.Maps.{Valuation}
-use Rattle.sap_meaning.specs.Agree.{Relation}
-use Rattle.sap_meaning.specs.Codes.{LookAlike}
-use Rattle.sap_net.specs.Net.{Net}
-use Rattle.sap_net.specs.IsNetlist.{IsNetlist}
-use Rattle.sap_net.specs.Laws.{SomeRun, OneRun}
+use Rattle.sap_meaning.specs.Prelude.{Relation, LookAlike}
+use Rattle.sap_net.specs.Prelude.{Net, IsNetlist, SomeRun, OneRun}
 use Rattle.sap_taint.specs.Runs.{TaggedValuation, observed_with_tags}
 use Rattle.sap_taint.specs.Alike.{Equal, AreRelated, RunsRelated}
 use Rattle.sap_taint.specs.Laws.{HasCodes}

@@ -1,14 +1,7 @@
 -- The examples are netlists, and one of them carries the taint of another.
-use Rattle.std.proofs.Common.{◌≡◌, ℕ, Bool, [], ◌∷◌, Some, true, false, ap, subst, refl, inl, inr, lit<, lit≤, ◌||◌}
-use Rattle.std.specs.Prelude.{codes, unwrap_or}
-use Rattle.std.specs.Str.{bytes_eq}
-use Rattle.std.proofs.lemmas.Bool.{cases_Bool}
-use Rattle.sap_lemmas.proofs.Texts.{equal_of_bytes_eq}
-use Rattle.sap_maps.specs.Maps.{Name}
-use Rattle.sap_maps.specs.Scope.{Scope, find}
-use Rattle.sap_net.specs.Names.{is_name}
-use Rattle.sap_net.specs.Rules.{IsWidth}
-use Rattle.sap_net.specs.IsNetlist.{IsNetlist, readable}
+use Rattle.sap_lemmas.proofs.Common.{◌≡◌, ℕ, Bool, [], ◌∷◌, Some, true, false, ap, subst, refl, inl, inr, lit<, lit≤, ◌||◌, codes, unwrap_or, bytes_eq, cases_Bool, equal_of_bytes_eq}
+use Rattle.sap_maps.specs.Prelude.{Name, Scope, find}
+use Rattle.sap_net.specs.Prelude.{is_name, IsWidth, IsNetlist, readable}
 use Rattle.sap_taint.specs.TagNames.{name_of_tag, HasRoomForTags}
 use Rattle.sap_taint.specs.Examples.{handing_on, handing_tags_on, storing}
 use Rattle.sap_taint.specs.TaggedForm.{HasTaggedForm}

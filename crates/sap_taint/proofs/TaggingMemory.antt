@@ -1,13 +1,7 @@
 -- A netlist with a memory and with tags is one, and carries the taint of the netlist without.
-use Rattle.std.proofs.Common.{◌≡◌, ℕ, Bool, zero, suc, [], ◌∷◌, ◌++◌, Some, true, false, ◌||◌, ◌<◌, ap, ap₂, sym, ◌∙◌, refl, lit<, lit≤, arith}
-use Rattle.std.specs.Prelude.{codes, bit_or, ◌==◌, if◌then◌else◌, List}
-use Rattle.std.specs.Str.{bytes_eq}
-use Rattle.std.specs.Int.Bits.{or_zero_r, or_zero_l}
-use Rattle.sap_maps.specs.Maps.{Name}
-use Rattle.sap_maps.specs.Scope.{Scope, find}
-use Rattle.sap_net.specs.Names.{is_name, is_among}
-use Rattle.sap_net.specs.Rules.{IsWidth}
-use Rattle.sap_net.specs.IsNetlist.{IsNetlist, readable, shapes}
+use Rattle.sap_lemmas.proofs.Common.{◌≡◌, ℕ, Bool, zero, suc, [], ◌∷◌, ◌++◌, Some, true, false, ◌||◌, ◌<◌, ap, ap₂, sym, ◌∙◌, refl, lit<, lit≤, arith, codes, bit_or, ◌==◌, if◌then◌else◌, List, bytes_eq, or_zero_r, or_zero_l}
+use Rattle.sap_maps.specs.Prelude.{Name, Scope, find}
+use Rattle.sap_net.specs.Prelude.{is_name, is_among, IsWidth, IsNetlist, readable, shapes}
 use Rattle.sap_net.proofs.NamesLemmas.{among_append}
 use Rattle.sap_taint.specs.TagNames.{name_of_tag, HasRoomForTags}
 use Rattle.sap_taint.specs.Examples.{storing, storing_tags}

@@ -1,6 +1,5 @@
 -- The worked names, clashes, tags and runs.
-use Rattle.std.proofs.Common.{◌≡◌, ◌∙◌, ap₂, refl}
-use Rattle.std.specs.Prelude.{[], ◌∷◌, codes, bit_or}
+use Rattle.sap_lemmas.proofs.Common.{◌≡◌, ◌∙◌, ap₂, refl, [], ◌∷◌, codes, bit_or}
 use Rattle.sap_bits.specs.declared.Op2.TheVariants.{Add}
 use Rattle.sap_bits.specs.Arithmetic.{value2}
 use Rattle.sap_net.specs.Runs.{observed}

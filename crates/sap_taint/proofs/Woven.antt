@@ -1,7 +1,6 @@
 -- Numbers with codes for tags are woven as a compiled module is given them.
 use Rattle.std.proofs.Common.{◌≡◌, List, [], ◌∷◌, ap, ap₂, refl}
-use Rattle.sap_lattice.specs.Order.{Order}
-use Rattle.sap_lattice.specs.Codes.{code_of}
+use Rattle.sap_lattice.specs.Prelude.{Order, code_of}
 use Rattle.sap_meaning.specs.Cycle.{Tagged}
 use Rattle.sap_interface.specs.Compiled.{coded}
 use Rattle.sap_taint.specs.Laws.{with_codes}

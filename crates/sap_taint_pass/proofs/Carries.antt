@@ -1,8 +1,6 @@
 -- The tainted netlist carries the taint.
 use Rattle.std.proofs.Common.{ℕ}
-use Rattle.sap_net.specs.Net.{Net}
-use Rattle.sap_net.specs.Rules.{IsWidth}
-use Rattle.sap_net.specs.IsNetlist.{IsNetlist}
+use Rattle.sap_net.specs.Prelude.{Net, IsWidth, IsNetlist}
 use Rattle.sap_taint.specs.TagNames.{HasRoomForTags}
 use Rattle.sap_taint.proofs.CarriesCycle.{CarriesCycle, carries_taint}
 use Rattle.sap_taint_pass.specs.Helping.{IsSmall, helping_name, tainted}

@@ -1,10 +1,8 @@
 -- The search for a clash, name by name.
-use Rattle.std.proofs.Common.{◌≡◌, ◌<◌, ◌≤◌, ℕ, ◌+◌, suc, List, [], ◌∷◌, ◌++◌, map, length, take, drop, get_or, true, false, ap, sym, ◌∙◌, subst, arith}
-use Rattle.std.proofs.Math.Seq.{take-suc, drop-cons}
-use Rattle.std.proofs.lemmas.List.{map-append, append_assoc, take-append-drop, take_all}
+use Rattle.sap_lemmas.proofs.Common.{◌≡◌, ◌<◌, ◌≤◌, ℕ, ◌+◌, suc, List, [], ◌∷◌, ◌++◌, map, length, take, drop, get_or, true, false, ap, sym, ◌∙◌, subst, arith, drop-cons, map-append, append_assoc, take-append-drop, take_all}
+use Rattle.std.proofs.Math.Seq.{take-suc}
 use Rattle.sap_maps.specs.Maps.{Name}
-use Rattle.sap_net.specs.Net.{Net}
-use Rattle.sap_net.specs.IsNetlist.{IsNetlist}
+use Rattle.sap_net.specs.Prelude.{Net, IsNetlist}
 use Rattle.sap_taint.specs.TagNames.{name_of_tag, clashes, NoneClashes, IsClash, HasRoomForTags}
 use Rattle.sap_taint.proofs.Clashes.{room_of, one_more}
 

@@ -1,12 +1,9 @@
 -- A cycle of the tainted netlist is one of the netlist, with the taint of each name.
-use Rattle.std.proofs.Common.{◌≡◌, ◌<◌, ℕ, ◌+◌, ◌^◌, Bool, List, [], ◌∷◌, ◌++◌, Some, None, true, false, ap, ap₂, sym, ◌∙◌, subst, refl}
-use Rattle.std.specs.Prelude.{unwrap_or}
-use Rattle.std.specs.List.{AllByRecursion}
+use Rattle.sap_lemmas.proofs.Common.{◌≡◌, ◌<◌, ℕ, ◌+◌, ◌^◌, Bool, List, [], ◌∷◌, ◌++◌, Some, None, true, false, ap, ap₂, sym, ◌∙◌, subst, refl, unwrap_or, AllByRecursion, all_parts, all_follow}
 use Rattle.sap_bits.specs.Arithmetic as concat
 use Rattle.sap_bits.specs.Arithmetic.{value1, value2}
-use Rattle.sap_lemmas.proofs.Everywhere.{all_parts, all_follow}
-use Rattle.sap_maps.specs.Maps.{Name, Valuation}
-use Rattle.sap_maps.specs.Scope.{Scope, find}
+use Rattle.sap_maps.specs.Prelude.{Name, Valuation, Scope, find}
+use Rattle.sap_net.specs.Prelude.{Net, is_among, AreDistinct, Shapes, AreValues, IsOperand, AreOperands, IsRight, AreWires, IsMemory, readable_after, first_readable, readable, shapes, width_of, IsValuation, Begins, operand_value, operand_width, operands_width, operands_value, right_value, Holds}
 use Rattle.sap_net.specs.declared.parts.Operand.{Operand}
 use Rattle.sap_net.specs.declared.parts.Operand.TheVariants.{Named, Constant}
 use Rattle.sap_net.specs.declared.parts.Right.{Right}
@@ -14,12 +11,6 @@ use Rattle.sap_net.specs.declared.parts.Right.TheVariants.{Copy, One, Two, Choos
 use Rattle.sap_net.specs.declared.parts.Wire.{Wire}
 use Rattle.sap_net.specs.declared.parts.Register.{Register}
 use Rattle.sap_net.specs.declared.parts.Memory.{Memory}
-use Rattle.sap_net.specs.Net.{Net}
-use Rattle.sap_net.specs.Names.{is_among, AreDistinct}
-use Rattle.sap_net.specs.Rules.{Shapes, AreValues, IsOperand, AreOperands, IsRight, AreWires, IsMemory, readable_after}
-use Rattle.sap_net.specs.IsNetlist.{first_readable, readable, shapes, width_of}
-use Rattle.sap_net.specs.Runs.{IsValuation, Begins}
-use Rattle.sap_net.specs.Values.{operand_value, operand_width, operands_width, operands_value, right_value, Holds}
 use Rattle.sap_net.proofs.NamesLemmas.{each_among, found_of}
 use Rattle.sap_net.proofs.RulesLemmas.{Grows, readable_kept}
 use Rattle.sap_net.proofs.Within.{WidthsAre, operand_below, operand_is_wide, widths_are}

@@ -1,9 +1,5 @@
 -- What filters leave of names with their tags.
-use Rattle.std.proofs.Common.{◌≡◌, Bool, List, [], ◌∷◌, ◌++◌, filter, true, false, ◌&&◌, ap, ◌∙◌, refl, inl, inr}
-use Rattle.std.specs.Str.{bytes_eq}
-use Rattle.std.proofs.lemmas.Bool.{cases_Bool, or_right}
-use Rattle.std.proofs.lemmas.List.{append-nil}
-use Rattle.std.proofs.lemmas.List.Elements.{filter-append}
+use Rattle.sap_lemmas.proofs.Common.{◌≡◌, Bool, List, [], ◌∷◌, ◌++◌, filter, true, false, ◌&&◌, ap, ◌∙◌, refl, inl, inr, bytes_eq, cases_Bool, or_right, append-nil, filter-append}
 use Rattle.sap_maps.specs.Maps.{Name}
 use Rattle.sap_net.specs.Names.{is_among}
 use Rattle.sap_net.proofs.NamesLemmas.{among_here, filter_among}

@@ -1,19 +1,11 @@
 -- What can be read from the start: names and their tags.
-use Rattle.std.proofs.Common.{◌≡◌, ℕ, ◌+◌, List, [], ◌∷◌, ◌++◌, map, Some, None, true, ap, sym, ◌∙◌, subst, refl, inl, inr}
-use Rattle.std.specs.Str.{bytes_eq}
-use Rattle.std.specs.List.{AllByRecursion}
-use Rattle.std.proofs.lemmas.Bool.{cases_Bool}
-use Rattle.sap_lemmas.proofs.Texts.{bytes_eq_same, equal_of_bytes_eq, bytes_eq_apart_back}
-use Rattle.sap_maps.specs.Maps.{Name}
-use Rattle.sap_maps.specs.Scope.{Scope, find}
+use Rattle.sap_lemmas.proofs.Common.{◌≡◌, ℕ, ◌+◌, List, [], ◌∷◌, ◌++◌, map, Some, None, true, ap, sym, ◌∙◌, subst, refl, inl, inr, bytes_eq, AllByRecursion, cases_Bool, bytes_eq_same, equal_of_bytes_eq, bytes_eq_apart_back}
+use Rattle.sap_maps.specs.Prelude.{Name, Scope, find}
 use Rattle.sap_maps.proofs.Scopes.{not_first, not_behind}
+use Rattle.sap_net.specs.Prelude.{Net, is_among, AreDistinct, Shapes, IsWidth, AreValues, AreMemories, first_readable, shapes}
 use Rattle.sap_net.specs.declared.parts.Input.{Input}
 use Rattle.sap_net.specs.declared.parts.Register.{Register}
 use Rattle.sap_net.specs.declared.parts.Memory.{Memory}
-use Rattle.sap_net.specs.Net.{Net}
-use Rattle.sap_net.specs.Names.{is_among, AreDistinct}
-use Rattle.sap_net.specs.Rules.{Shapes, IsWidth, AreValues, AreMemories}
-use Rattle.sap_net.specs.IsNetlist.{first_readable, shapes}
 use Rattle.sap_taint.specs.TagNames.{name_of_tag, with_tags}
 use Rattle.sap_taint.specs.TaggedForm.{tagged_inputs}
 use Rattle.sap_taint_pass.specs.Tainted.{in_order, found_first, tagged_registers, memory_tags}

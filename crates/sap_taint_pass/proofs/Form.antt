@@ -1,12 +1,7 @@
 -- The tainted netlist has the form of the netlist with tags.
-use Rattle.std.proofs.Common.{◌≡◌, ℕ, ◌++◌, map, true, ◌||◌, ap, sym, ◌∙◌, refl, inl, inr}
-use Rattle.std.proofs.lemmas.Bool.{or_cases}
-use Rattle.std.proofs.lemmas.List.{map-append}
-use Rattle.sap_lemmas.proofs.Bools.{or_true, or_assoc}
+use Rattle.sap_lemmas.proofs.Common.{◌≡◌, ℕ, ◌++◌, map, true, ◌||◌, ap, sym, ◌∙◌, refl, inl, inr, or_cases, map-append, or_true, or_assoc}
 use Rattle.sap_maps.specs.Maps.{Name}
-use Rattle.sap_net.specs.Net.{Net}
-use Rattle.sap_net.specs.Names.{is_among}
-use Rattle.sap_net.specs.IsNetlist.{wire_names, register_names, memory_names}
+use Rattle.sap_net.specs.Prelude.{Net, is_among, wire_names, register_names, memory_names}
 use Rattle.sap_net.proofs.NamesLemmas.{among_append, each_among}
 use Rattle.sap_taint.specs.TagNames.{name_of_tag}
 use Rattle.sap_taint.specs.TaggedForm.{HasTaggedForm}

@@ -1,18 +1,7 @@
 -- Helping wires have names of their own.
-use Rattle.std.proofs.Common.{◌≡◌, ℕ, zero, suc, ◌+◌, ◌^◌, ◌<◌, ◌≤◌, ◌==◌, ◌||◌, ◌≢◌, List, [], ◌∷◌, length, replicate, true, false, ◌⊎◌, sym, ap, ◌∙◌, subst, refl, arith, inl, inr}
-use Rattle.std.specs.Prelude.{nat_lt, if◌then◌else◌}
-use Rattle.std.specs.Fmt.{decimal}
-use Rattle.std.specs.Str.{bytes_eq}
-use Rattle.std.proofs.lemmas.Fmt.{decimal_is_IsNumeral, decimal_injective}
-use Rattle.std.proofs.lemmas.List.{length-replicate}
-use Rattle.std.proofs.lemmas.Bool.{cases_Bool, lt-ltb, ltb-true}
-use Rattle.sap_lemmas.proofs.Bools.{true_is_not_false}
-use Rattle.sap_lemmas.proofs.Numbers.{equal_of_test, test_of_equal}
-use Rattle.sap_lemmas.proofs.Texts.{equal_of_bytes_eq}
+use Rattle.sap_lemmas.proofs.Common.{◌≡◌, ℕ, zero, suc, ◌+◌, ◌^◌, ◌<◌, ◌≤◌, ◌==◌, ◌||◌, ◌≢◌, List, [], ◌∷◌, length, replicate, true, false, ◌⊎◌, sym, ap, ◌∙◌, subst, refl, arith, inl, inr, nat_lt, if◌then◌else◌, decimal, bytes_eq, decimal_is_IsNumeral, decimal_injective, length-replicate, cases_Bool, lt-ltb, ltb-true, true_is_not_false, equal_of_test, test_of_equal, equal_of_bytes_eq}
 use Rattle.sap_maps.specs.Maps.{Name}
-use Rattle.sap_net.specs.Net.{Net}
-use Rattle.sap_net.specs.Names.{is_name, is_among, helper}
-use Rattle.sap_net.specs.IsNetlist.{IsNetlist}
+use Rattle.sap_net.specs.Prelude.{Net, is_name, is_among, helper, IsNetlist}
 use Rattle.sap_text.proofs.NamesLemmas.{numeral_inner}
 use Rattle.sap_net.proofs.NamesLemmas.{wire_name}
 use Rattle.sap_taint_pass.specs.Helping.{taken_names, numbered, free_from, free_number, helping_name, AreHelping, IsSmall}

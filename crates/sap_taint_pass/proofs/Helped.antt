@@ -1,13 +1,10 @@
 -- A tainted netlist in the making, step by step.
-use Rattle.std.proofs.Common.{◌≡◌, ◌<◌, ◌≤◌, ℕ, ◌+◌, suc, List, [], ◌∷◌, ◌++◌, length, drop, get_or, ap, ap₂, sym, ◌∙◌, refl, arith, append-nil}
-use Rattle.std.proofs.Math.Seq.{drop-cons}
-use Rattle.sap_lemmas.proofs.Lists.{drop_past}
-use Rattle.std.proofs.lemmas.List.{append_assoc, length-append}
+use Rattle.sap_lemmas.proofs.Common.{◌≡◌, ◌<◌, ◌≤◌, ℕ, ◌+◌, suc, List, [], ◌∷◌, ◌++◌, length, drop, get_or, ap, ap₂, sym, ◌∙◌, refl, arith, append-nil, drop-cons, drop_past, append_assoc, length-append}
 use Rattle.sap_maps.specs.Maps.{Name}
+use Rattle.sap_net.specs.Net.{Net}
 use Rattle.sap_net.specs.declared.parts.Wire.{Wire}
 use Rattle.sap_net.specs.declared.parts.Register.{Register}
 use Rattle.sap_net.specs.declared.parts.Memory.{Memory}
-use Rattle.sap_net.specs.Net.{Net}
 use Rattle.sap_build.specs.Writing.{grown, declared, assigned, registered, taken, IsFresh}
 use Rattle.sap_build.proofs.Grown.{grown_twice, declared_grows, assigned_grows, registered_grows, wire_in_front}
 use Rattle.sap_taint.specs.TagNames.{with_tags}

@@ -1,15 +1,8 @@
 -- Registers in the order of names.
-use Rattle.std.proofs.Common.{◌≡◌, Bool, List, [], ◌∷◌, map, filter, Option, Some, None, true, false, ◌||◌, ap, ap₂, sym, ◌∙◌, ◌⊎◌, subst, refl, inl, inr}
-use Rattle.std.specs.Str.{bytes_eq}
-use Rattle.std.specs.Option.{option_map}
-use Rattle.std.specs.List.{AllByRecursion}
-use Rattle.std.proofs.lemmas.Bool.{cases_Bool}
-use Rattle.sap_lemmas.proofs.Bools.{neither_left, neither_right}
-use Rattle.sap_lemmas.proofs.Texts.{bytes_eq_same, equal_of_bytes_eq, bytes_eq_apart_back}
-use Rattle.sap_maps.specs.Maps.{Name}
-use Rattle.sap_maps.specs.Scope.{find}
-use Rattle.sap_net.specs.declared.parts.Register.{Register}
+use Rattle.sap_lemmas.proofs.Common.{◌≡◌, Bool, List, [], ◌∷◌, map, filter, Option, Some, None, true, false, ◌||◌, ap, ap₂, sym, ◌∙◌, ◌⊎◌, subst, refl, inl, inr, bytes_eq, option_map, AllByRecursion, cases_Bool, neither_left, neither_right, bytes_eq_same, equal_of_bytes_eq, bytes_eq_apart_back}
+use Rattle.sap_maps.specs.Prelude.{Name, find}
 use Rattle.sap_net.specs.Names.{is_among, AreDistinct}
+use Rattle.sap_net.specs.declared.parts.Register.{Register}
 use Rattle.sap_net.proofs.NamesLemmas.{found_of, found_among}
 use Rattle.sap_taint_pass.specs.Tainted.{found_first, in_order}
 

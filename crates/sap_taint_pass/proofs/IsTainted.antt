@@ -1,18 +1,10 @@
 -- The tainted netlist is a netlist.
-use Rattle.std.proofs.Common.{◌≡◌, ℕ, ◌+◌, ◌==◌, Bool, List, [], ◌∷◌, ◌++◌, map, true, false, ◌||◌, ◌&&◌, ap, sym, ◌∙◌, subst, refl, inl, inr, arith}
-use Rattle.std.specs.Prelude.{unwrap_or, not}
-use Rattle.std.specs.Str.{byte}
-use Rattle.std.specs.List.{AllByRecursion, list_all}
-use Rattle.std.proofs.lemmas.Bool.{cases_Bool, or_cases, and_from}
-use Rattle.sap_lemmas.proofs.Bools.{and_left, and_right}
+use Rattle.sap_lemmas.proofs.Common.{◌≡◌, ℕ, ◌+◌, ◌==◌, Bool, List, [], ◌∷◌, ◌++◌, map, true, false, ◌||◌, ◌&&◌, ap, sym, ◌∙◌, subst, refl, inl, inr, arith, unwrap_or, not, byte, AllByRecursion, list_all, cases_Bool, or_cases, and_from, and_left, and_right}
 use Rattle.sap_maps.specs.Maps.{Name}
+use Rattle.sap_net.specs.Prelude.{Net, is_name, is_keyword, is_word, is_among, is_initial, is_inner, AreDistinct, value_of, tag_name, register_names, memory_names}
 use Rattle.sap_net.specs.declared.parts.Input.{Input}
 use Rattle.sap_net.specs.declared.parts.Register.{Register}
 use Rattle.sap_net.specs.declared.parts.Memory.{Memory}
-use Rattle.sap_net.specs.Net.{Net}
-use Rattle.sap_net.specs.Names.{is_name, is_keyword, is_word, is_among, is_initial, is_inner, AreDistinct}
-use Rattle.sap_net.specs.PortNames.{value_of, tag_name}
-use Rattle.sap_net.specs.IsNetlist.{register_names, memory_names}
 use Rattle.sap_net.proofs.NamesLemmas.{among_append, each_among, distinct_both, filter_among}
 use Rattle.sap_taint.specs.TagNames.{name_of_tag, with_tags}
 use Rattle.sap_taint.specs.TaggedForm.{tagged_inputs}

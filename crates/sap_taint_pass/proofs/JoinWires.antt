@@ -1,23 +1,12 @@
 -- Wires that join tags read what is there, and have the join.
-use Rattle.std.proofs.Common.{◌≡◌, ◌≤◌, ℕ, ◌+◌, max, List, [], ◌∷◌, ◌++◌, Some, None, false, ap, sym, ◌∙◌, refl, arith}
-use Rattle.std.specs.Prelude.{bit_or}
-use Rattle.std.specs.Int.{bit_at}
-use Rattle.std.specs.Int.Bits.{or_zero_r, or_zero_l}
-use Rattle.std.specs.Str.{bytes_eq}
-use Rattle.std.specs.List.{AllByRecursion}
-use Rattle.std.proofs.lemmas.Nat.Bits.{bit_at_or, same_from_bits}
-use Rattle.std.proofs.Math.Pow.{pow_pos}
-use Rattle.sap_lemmas.proofs.Everywhere.{all_follow}
-use Rattle.sap_maps.specs.Maps.{Name, Valuation}
-use Rattle.sap_maps.specs.Scope.{Scope, find}
+use Rattle.sap_lemmas.proofs.Common.{◌≡◌, ◌≤◌, ℕ, ◌+◌, max, List, [], ◌∷◌, ◌++◌, Some, None, false, ap, sym, ◌∙◌, refl, arith, bit_or, bit_at, or_zero_r, or_zero_l, bytes_eq, AllByRecursion, bit_at_or, same_from_bits, pow_pos, all_follow}
+use Rattle.sap_maps.specs.Prelude.{Name, Valuation, Scope, find}
 use Rattle.sap_maps.proofs.Scopes.{found_here, found_behind}
+use Rattle.sap_net.specs.Prelude.{Shapes, IsWidth, AreWires, names_of, Holds}
 use Rattle.sap_net.specs.declared.parts.Operand.{Operand}
 use Rattle.sap_net.specs.declared.parts.Operand.TheVariants.{Named, Constant}
 use Rattle.sap_net.specs.declared.parts.Right.{Right}
 use Rattle.sap_net.specs.declared.parts.Right.TheVariants.{Copy, One, Two, Choose, Concat, Slice, Cell}
-use Rattle.sap_net.specs.Rules.{Shapes, IsWidth, AreWires}
-use Rattle.sap_net.specs.IsNetlist.{names_of}
-use Rattle.sap_net.specs.Values.{Holds}
 use Rattle.sap_taint.specs.TagNames.{name_of_tag}
 use Rattle.sap_taint.specs.Tags.{Tags, operand_tag, operands_tag, right_tag}
 use Rattle.sap_taint.specs.Carries.{read_off}

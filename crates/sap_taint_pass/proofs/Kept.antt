@@ -1,14 +1,9 @@
 -- What the netlist that is made keeps.
 use Rattle.std.proofs.Common.{◌≡◌, ◌<◌, ◌^◌, List, length, sym, ap, subst, ◌∙◌, arith}
-use Rattle.sap_lattice.specs.Codes.{width_of}
-use Rattle.sap_lattice.specs.Levels.{Levels, order_of}
-use Rattle.sap_lattice.specs.Lawful.{IsNarrow}
-use Rattle.sap_lattice.specs.Rules.{KeepsNames}
+use Rattle.sap_lattice.specs.Prelude.{width_of, Levels, order_of, IsNarrow, KeepsNames}
 use Rattle.sap_lattice.proofs.KeptLemmas.{order_of-count}
 use Rattle.sap_maps.specs.Maps.{Name}
-use Rattle.sap_net.specs.Net.{Net}
-use Rattle.sap_net.specs.Rules.{IsWidth}
-use Rattle.sap_net.specs.IsNetlist.{IsNetlist}
+use Rattle.sap_net.specs.Prelude.{Net, IsWidth, IsNetlist}
 use Rattle.sap_taint.specs.TagNames.{HasRoomForTags}
 use Rattle.sap_taint.specs.Carries.{CarriesTaint}
 use Rattle.sap_taint_pass.specs.Helping.{tainted}

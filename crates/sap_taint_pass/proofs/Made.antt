@@ -1,11 +1,10 @@
 -- What a tainted netlist comes to.
-use Rattle.std.proofs.Common.{◌≡◌, ◌<◌, ◌^◌, ◌+◌, ℕ, zero, suc, List, [], ◌++◌, length, ap, ap₂, sym, subst, ◌∙◌, refl, arith, append-nil}
-use Rattle.std.proofs.lemmas.List.{length-append, length-map}
+use Rattle.sap_lemmas.proofs.Common.{◌≡◌, ◌<◌, ◌^◌, ◌+◌, ℕ, zero, suc, List, [], ◌++◌, length, ap, ap₂, sym, subst, ◌∙◌, refl, arith, append-nil, length-append, length-map}
 use Rattle.sap_maps.specs.Maps.{Name}
+use Rattle.sap_net.specs.Net.{Net}
 use Rattle.sap_net.specs.declared.parts.Wire.{Wire}
 use Rattle.sap_net.specs.declared.parts.Register.{Register}
 use Rattle.sap_net.specs.declared.parts.Memory.{Memory}
-use Rattle.sap_net.specs.Net.{Net}
 use Rattle.sap_build.specs.Writing.{grown}
 use Rattle.sap_build.proofs.Grown.{with_lists}
 use Rattle.sap_taint.specs.TagNames.{with_tags}

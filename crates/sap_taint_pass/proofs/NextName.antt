@@ -1,12 +1,7 @@
 -- The name of the least free number is that of the next helping wire.
-use Rattle.std.proofs.Common.{◌≡◌, ◌≤◌, ◌<◌, ◌^◌, ℕ, ◌+◌, zero, suc, List, [], ◌∷◌, ◌++◌, ◌==◌, length, true, false, ap, ap₂, sym, subst, ◌∙◌, inl, inr, arith}
-use Rattle.std.proofs.lemmas.Bool.{cases_Bool}
-use Rattle.std.proofs.lemmas.List.{append_assoc}
-use Rattle.sap_lemmas.proofs.Bools.{true_is_not_false}
-use Rattle.sap_lemmas.proofs.Numbers.{equal_of_test, above_unequal}
+use Rattle.sap_lemmas.proofs.Common.{◌≡◌, ◌≤◌, ◌<◌, ◌^◌, ℕ, ◌+◌, zero, suc, List, [], ◌∷◌, ◌++◌, ◌==◌, length, true, false, ap, ap₂, sym, subst, ◌∙◌, inl, inr, arith, cases_Bool, append_assoc, true_is_not_false, equal_of_test, above_unequal}
 use Rattle.sap_maps.specs.Maps.{Name}
-use Rattle.sap_net.specs.Net.{Net}
-use Rattle.sap_net.specs.Names.{is_among, helper}
+use Rattle.sap_net.specs.Prelude.{Net, is_among, helper}
 use Rattle.sap_net.proofs.NamesLemmas.{among_front, among_behind, among_neither}
 use Rattle.sap_build.specs.Writing.{taken, IsFree, IsFresh}
 use Rattle.sap_taint_pass.specs.Helping.{taken_names, numbered, free_from, free_number, helping_name}

@@ -1,9 +1,5 @@
 -- Names by numbers.
-use Rattle.std.proofs.Common.{◌≡◌, ◌<◌, ◌≤◌, ℕ, ◌+◌, zero, suc, List, ◌∷◌, ◌++◌, map, true, false, ap, ap₂, ◌==◌, ◌⊎◌, subst, inl, inr, arith}
-use Rattle.std.specs.Str.{bytes_eq}
-use Rattle.std.proofs.lemmas.Bool.{cases_Bool, or_right}
-use Rattle.sap_lemmas.proofs.Numbers.{equal_of_test, above_unequal}
-use Rattle.sap_lemmas.proofs.Texts.{equal_of_bytes_eq}
+use Rattle.sap_lemmas.proofs.Common.{◌≡◌, ◌<◌, ◌≤◌, ℕ, ◌+◌, zero, suc, List, ◌∷◌, ◌++◌, map, true, false, ap, ap₂, ◌==◌, ◌⊎◌, subst, inl, inr, arith, bytes_eq, cases_Bool, or_right, equal_of_test, above_unequal, equal_of_bytes_eq}
 use Rattle.sap_maps.specs.Maps.{Name}
 use Rattle.sap_net.specs.Names.{is_among, AreDistinct}
 use Rattle.sap_net.proofs.NamesLemmas.{among_here}

@@ -1,8 +1,6 @@
 -- Registers found by their names, in order.
-use Rattle.std.proofs.Common.{◌≡◌, ◌<◌, ℕ, ◌+◌, List, [], ◌++◌, length, drop, get_or, Option, Some, None, ap, sym, ◌∙◌, refl}
-use Rattle.std.proofs.lemmas.List.{append_assoc}
-use Rattle.sap_maps.specs.Maps.{Name}
-use Rattle.sap_maps.specs.Scope.{find}
+use Rattle.sap_lemmas.proofs.Common.{◌≡◌, ◌<◌, ℕ, ◌+◌, List, [], ◌++◌, length, drop, get_or, Option, Some, None, ap, sym, ◌∙◌, refl, append_assoc}
+use Rattle.sap_maps.specs.Prelude.{Name, find}
 use Rattle.sap_net.specs.declared.parts.Register.{Register}
 use Rattle.sap_taint_pass.specs.Tainted.{found_first, in_order}
 use Rattle.sap_taint_pass.proofs.InOrder.{by_name}

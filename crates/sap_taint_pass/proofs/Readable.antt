@@ -1,19 +1,10 @@
 -- All wires read what is there, and what can be read behind them.
-use Rattle.std.proofs.Common.{◌≡◌, ◌<◌, ◌≤◌, ℕ, ◌+◌, List, [], ◌∷◌, ◌++◌, map, Option, Some, None, true, false, ◌||◌, ◌⊎◌, ap, ap₂, sym, ◌∙◌, subst, refl, inl, inr, arith}
-use Rattle.std.specs.Str.{bytes_eq}
-use Rattle.std.specs.List.{AllByRecursion}
-use Rattle.std.proofs.lemmas.Bool.{cases_Bool, or_right}
-use Rattle.std.proofs.Math.Pow.{pow_pos}
-use Rattle.sap_lemmas.proofs.Everywhere.{all_append, all_follow}
-use Rattle.sap_maps.specs.Maps.{Name}
-use Rattle.sap_maps.specs.Scope.{Scope, find}
+use Rattle.sap_lemmas.proofs.Common.{◌≡◌, ◌<◌, ◌≤◌, ℕ, ◌+◌, List, [], ◌∷◌, ◌++◌, map, Option, Some, None, true, false, ◌||◌, ◌⊎◌, ap, ap₂, sym, ◌∙◌, subst, refl, inl, inr, arith, bytes_eq, AllByRecursion, cases_Bool, or_right, pow_pos, all_append, all_follow}
+use Rattle.sap_maps.specs.Prelude.{Name, Scope, find}
+use Rattle.sap_net.specs.Prelude.{Net, is_among, Shapes, IsWidth, AreWires, AreValues, IsRegister, IsMemory, readable_after, IsNetlist, first_readable, readable, shapes, names_of, wire_names}
 use Rattle.sap_net.specs.declared.parts.Wire.{Wire}
 use Rattle.sap_net.specs.declared.parts.Register.{Register}
 use Rattle.sap_net.specs.declared.parts.Memory.{Memory}
-use Rattle.sap_net.specs.Net.{Net}
-use Rattle.sap_net.specs.Names.{is_among}
-use Rattle.sap_net.specs.Rules.{Shapes, IsWidth, AreWires, AreValues, IsRegister, IsMemory, readable_after}
-use Rattle.sap_net.specs.IsNetlist.{IsNetlist, first_readable, readable, shapes, names_of, wire_names}
 use Rattle.sap_net.proofs.NamesLemmas.{among_here}
 use Rattle.sap_net.proofs.RulesLemmas.{Grows, operand_grows, wires_both, readable_both, readable_kept, wires_new, wires_distinct}
 use Rattle.sap_net.proofs.Same.{all_found}
@@ -49,10 +40,6 @@ first_found helping w n s y =
     first.find_behind (first.input_entries (tagged_inputs w n.inputs)) (first.register_entries (in_order (with_tags n.names) (all_registers helping w n)))
     (first.register_entries (all_registers helping w n)) y (any_order helping w n s y)
     ∙ ap (λ (sc : Scope). find sc y) (first.gathered helping w (help_for_wires n.wires) n.inputs n.registers n.memories)
-
-values_past : (ms : Shapes) (es bs : Scope) → AreValues ms (es ++ bs) → AreValues ms bs
-values_past ms [] bs a = a
-values_past ms (e ∷ es) bs a = values_past ms es bs a.3
 
 pub first_values : (helping : ℕ → Name) (w : ℕ) (n : Net) → Setting helping w n → AreValues (shapes n) (first_readable (tainted_by helping w n))
 first_values helping w n s =

@@ -1,15 +1,7 @@
 -- Names of tags and of helping wires stay apart from declared ones and from each other.
-use Rattle.std.proofs.Common.{◌≡◌, ℕ, Bool, List, [], ◌∷◌, map, None, true, false, ◌||◌, ap, sym, ◌∙◌, subst, refl, inl, inr}
-use Rattle.std.specs.Str.{bytes_eq}
-use Rattle.std.proofs.lemmas.Bool.{cases_Bool, or_right}
-use Rattle.sap_lemmas.proofs.Bools.{neither_right}
-use Rattle.sap_lemmas.proofs.Texts.{bytes_eq_same, equal_of_bytes_eq, bytes_eq_apart_back}
-use Rattle.sap_maps.specs.Maps.{Name}
-use Rattle.sap_maps.specs.Scope.{find}
-use Rattle.sap_net.specs.Net.{Net}
-use Rattle.sap_net.specs.Names.{is_among}
-use Rattle.sap_net.specs.Rules.{IsWidth}
-use Rattle.sap_net.specs.IsNetlist.{IsNetlist, shapes}
+use Rattle.sap_lemmas.proofs.Common.{◌≡◌, ℕ, Bool, List, [], ◌∷◌, map, None, true, false, ◌||◌, ap, sym, ◌∙◌, subst, refl, inl, inr, bytes_eq, cases_Bool, or_right, neither_right, bytes_eq_same, equal_of_bytes_eq, bytes_eq_apart_back}
+use Rattle.sap_maps.specs.Prelude.{Name, find}
+use Rattle.sap_net.specs.Prelude.{Net, is_among, IsWidth, IsNetlist, shapes}
 use Rattle.sap_net.proofs.NamesLemmas.{apart_by_membership}
 use Rattle.sap_taint.specs.TagNames.{name_of_tag, with_tags, HasRoomForTags}
 use Rattle.sap_taint_pass.specs.Helping.{AreHelping}
@@ -70,10 +62,6 @@ tags_apart helping w n s x y a b d =
 -- a helping name is neither
 pub help_free : (helping : ℕ → Name) (w : ℕ) (n : Net) → Setting helping w n → (i : ℕ) → is_among (helping i) (with_tags n.names) ≡ false
 help_free helping w n s i = neither_right (bytes_eq (helping i) n.module_name) _ (s.names.free i)
-
-pub help_apart : (helping : ℕ → Name) (w : ℕ) (n : Net) → Setting helping w n → (i : ℕ) (x : Name) → IsDeclared n x → bytes_eq (helping i) x ≡ false
-help_apart helping w n s i x a =
-    apart_by_membership (helping i) x (with_tags n.names) (help_free helping w n s i) (name_with_tags x n.names a)
 
 pub help_apart_tag : (helping : ℕ → Name) (w : ℕ) (n : Net) → Setting helping w n → (i : ℕ) (x : Name) → IsDeclared n x → bytes_eq (helping i) (name_of_tag x) ≡ false
 help_apart_tag helping w n s i x a =

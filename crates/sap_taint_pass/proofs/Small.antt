@@ -1,10 +1,7 @@
 -- The tainted netlist has few items.
-use Rattle.std.proofs.Common.{◌≡◌, ◌≤◌, ◌+◌, ◌*◌, ℕ, suc, Bool, List, [], ◌∷◌, ◌++◌, length, filter, true, false, ◌||◌, ap, sym, ◌∙◌, refl, inl, inr, arith}
-use Rattle.std.specs.Str.{bytes_eq}
-use Rattle.std.proofs.lemmas.Bool.{cases_Bool}
-use Rattle.std.proofs.lemmas.List.{length-append, length-map}
-use Rattle.sap_lemmas.proofs.Texts.{equal_of_bytes_eq}
+use Rattle.sap_lemmas.proofs.Common.{◌≡◌, ◌≤◌, ◌+◌, ◌*◌, ℕ, suc, Bool, List, [], ◌∷◌, ◌++◌, length, filter, true, false, ◌||◌, ap, sym, ◌∙◌, refl, inl, inr, arith, bytes_eq, cases_Bool, length-append, length-map, equal_of_bytes_eq}
 use Rattle.sap_maps.specs.Maps.{Name}
+use Rattle.sap_net.specs.Prelude.{Net, is_among, AreDistinct}
 use Rattle.sap_net.specs.declared.parts.Operand.{Operand}
 use Rattle.sap_net.specs.declared.parts.Operand.TheVariants.{Named, Constant}
 use Rattle.sap_net.specs.declared.parts.Right.{Right}
@@ -12,8 +9,6 @@ use Rattle.sap_net.specs.declared.parts.Right.TheVariants.{Copy, One, Two, Choos
 use Rattle.sap_net.specs.declared.parts.Wire.{Wire}
 use Rattle.sap_net.specs.declared.parts.Register.{Register}
 use Rattle.sap_net.specs.declared.parts.Memory.{Memory}
-use Rattle.sap_net.specs.Net.{Net}
-use Rattle.sap_net.specs.Names.{is_among, AreDistinct}
 use Rattle.sap_taint.specs.TagNames.{name_of_tag, with_tags}
 use Rattle.sap_taint_pass.specs.Tainted.{operands_of, tags_of, joins, joined, help_for, tag_wires, write_wires, memory_tags, tagged_registers, help_for_wires, all_wires, all_registers, in_order}
 use Rattle.sap_taint_pass.specs.Helping.{helping_name}

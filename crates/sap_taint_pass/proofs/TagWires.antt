@@ -1,24 +1,13 @@
 -- The wires of tags read what is there.
-use Rattle.std.proofs.Common.{◌≡◌, ℕ, ◌+◌, ◌^◌, Bool, List, [], ◌∷◌, ◌++◌, map, Some, None, true, false, ◌||◌, ap, ap₂, sym, ◌∙◌, subst, refl, inl, inr, arith}
-use Rattle.std.specs.Str.{bytes_eq}
-use Rattle.std.specs.List.{AllByRecursion}
-use Rattle.std.proofs.lemmas.Bool.{cases_Bool, or_right}
-use Rattle.std.proofs.lemmas.List.{map-append}
-use Rattle.sap_lemmas.proofs.Bools.{neither_left, neither_right, or_false}
-use Rattle.sap_lemmas.proofs.Everywhere.{all_append}
-use Rattle.sap_lemmas.proofs.Texts.{bytes_eq_same, equal_of_bytes_eq, bytes_eq_apart_back}
-use Rattle.sap_maps.specs.Maps.{Name}
-use Rattle.sap_maps.specs.Scope.{Scope, find}
+use Rattle.sap_lemmas.proofs.Common.{◌≡◌, ℕ, ◌+◌, ◌^◌, Bool, List, [], ◌∷◌, ◌++◌, map, Some, None, true, false, ◌||◌, ap, ap₂, sym, ◌∙◌, subst, refl, inl, inr, arith, bytes_eq, AllByRecursion, cases_Bool, or_right, map-append, neither_left, neither_right, or_false, all_append, bytes_eq_same, equal_of_bytes_eq, bytes_eq_apart_back}
+use Rattle.sap_maps.specs.Prelude.{Name, Scope, find}
 use Rattle.sap_maps.proofs.Scopes.{found_here}
+use Rattle.sap_net.specs.Prelude.{Net, is_among, AreDistinct, Shapes, IsOperand, AreOperands, IsRight, AreWires, readable_after, shapes, names_of}
 use Rattle.sap_net.specs.declared.parts.Operand.{Operand}
 use Rattle.sap_net.specs.declared.parts.Operand.TheVariants.{Named, Constant}
 use Rattle.sap_net.specs.declared.parts.Right.{Right}
 use Rattle.sap_net.specs.declared.parts.Right.TheVariants.{Copy, One, Two, Choose, Concat, Slice, Cell}
 use Rattle.sap_net.specs.declared.parts.Wire.{Wire}
-use Rattle.sap_net.specs.Net.{Net}
-use Rattle.sap_net.specs.Names.{is_among, AreDistinct}
-use Rattle.sap_net.specs.Rules.{Shapes, IsOperand, AreOperands, IsRight, AreWires, readable_after}
-use Rattle.sap_net.specs.IsNetlist.{shapes, names_of}
 use Rattle.sap_net.proofs.NamesLemmas.{among_append, among_neither, among_here, apart_by_membership}
 use Rattle.sap_net.proofs.RulesLemmas.{wires_both, readable_kept}
 use Rattle.sap_taint.specs.TagNames.{name_of_tag}

@@ -1,17 +1,10 @@
 -- The tainted netlist keeps all rules of netlists.
-use Rattle.std.proofs.Common.{◌≡◌, ℕ, Bool, List, [], ◌∷◌, ◌++◌, map, filter, take, length, true, false, ◌||◌, ◌&&◌, ap, ap₂, sym, ◌∙◌, subst, refl, inl, inr, arith}
-use Rattle.std.specs.List.{AllByRecursion}
-use Rattle.std.proofs.lemmas.Bool.{cases_Bool}
-use Rattle.std.proofs.lemmas.List.{map-append}
-use Rattle.sap_lemmas.proofs.Bools.{or_true, iff_same}
-use Rattle.sap_lemmas.proofs.Everywhere.{all_append}
+use Rattle.sap_lemmas.proofs.Common.{◌≡◌, ℕ, Bool, List, [], ◌∷◌, ◌++◌, map, filter, take, length, true, false, ◌||◌, ◌&&◌, ap, ap₂, sym, ◌∙◌, subst, refl, inl, inr, arith, AllByRecursion, cases_Bool, map-append, or_true, iff_same, all_append}
 use Rattle.sap_maps.specs.Maps.{Name}
+use Rattle.sap_net.specs.Prelude.{Net, is_name, is_among, IsNetlist, PortShows, is_input, input_names, wire_names, register_names, memory_names, names_of}
 use Rattle.sap_net.specs.declared.parts.Port.{Port}
 use Rattle.sap_net.specs.declared.parts.PortKind.{PortKind}
 use Rattle.sap_net.specs.declared.parts.PortKind.TheVariants as kind
-use Rattle.sap_net.specs.Net.{Net}
-use Rattle.sap_net.specs.Names.{is_name, is_among}
-use Rattle.sap_net.specs.IsNetlist.{IsNetlist, PortShows, is_input, input_names, wire_names, register_names, memory_names, names_of}
 use Rattle.sap_net.proofs.NamesLemmas.{filter_among, among_append}
 use Rattle.sap_taint.specs.TagNames.{name_of_tag, with_tags}
 use Rattle.sap_taint.specs.TaggedForm.{tagged_ports}

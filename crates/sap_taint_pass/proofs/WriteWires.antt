@@ -1,18 +1,11 @@
 -- The wires of what memories' tags take read what is there, and have that.
-use Rattle.std.proofs.Common.{◌≡◌, ◌<◌, ◌≤◌, ℕ, ◌+◌, zero, suc, List, [], ◌∷◌, Some, None, ap, ap₂, sym, ◌∙◌, refl, arith}
-use Rattle.std.specs.Prelude.{bit_or, ◌==◌, if◌then◌else◌}
-use Rattle.std.specs.Int.Bits.{or_zero_r, or_zero_l}
-use Rattle.std.specs.List.{AllByRecursion}
-use Rattle.std.proofs.Math.Pow.{pow_pos}
-use Rattle.sap_maps.specs.Maps.{Name, Valuation}
-use Rattle.sap_maps.specs.Scope.{Scope, find}
+use Rattle.sap_lemmas.proofs.Common.{◌≡◌, ◌<◌, ◌≤◌, ℕ, ◌+◌, zero, suc, List, [], ◌∷◌, Some, None, ap, ap₂, sym, ◌∙◌, refl, arith, bit_or, ◌==◌, if◌then◌else◌, or_zero_r, or_zero_l, AllByRecursion, pow_pos}
+use Rattle.sap_maps.specs.Prelude.{Name, Valuation, Scope, find}
 use Rattle.sap_maps.proofs.Scopes.{found_here, found_behind}
+use Rattle.sap_net.specs.Prelude.{Shapes, IsWidth, IsOperand, IsRight, AreWires, IsMemory, names_of, operand_value, right_value, Holds}
 use Rattle.sap_net.specs.declared.parts.Operand.{Operand}
 use Rattle.sap_net.specs.declared.parts.Operand.TheVariants.{Named, Constant}
 use Rattle.sap_net.specs.declared.parts.Memory.{Memory}
-use Rattle.sap_net.specs.Rules.{Shapes, IsWidth, IsOperand, IsRight, AreWires, IsMemory}
-use Rattle.sap_net.specs.IsNetlist.{names_of}
-use Rattle.sap_net.specs.Values.{operand_value, right_value, Holds}
 use Rattle.sap_net.proofs.RulesLemmas.{Grows, operand_grows}
 use Rattle.sap_net.proofs.Same.{AreFound}
 use Rattle.sap_taint.specs.TagNames.{name_of_tag}

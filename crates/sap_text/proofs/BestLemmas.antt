@@ -1,8 +1,5 @@
 -- The best of some things is their first.
-use Rattle.std.proofs.Common.{◌≡◌, inl, inr, List, [], ◌∷◌, ◌++◌, Option, Some, None, Bool, true, false, refl, ap, sym, subst, append_assoc}
-use Rattle.std.proofs.lemmas.Bool.{cases_Bool}
-use Rattle.std.proofs.lemmas.List.{append-nil}
-use Rattle.std.specs.Prelude.{if◌then◌else◌}
+use Rattle.sap_lemmas.proofs.Common.{◌≡◌, inl, inr, List, [], ◌∷◌, ◌++◌, Option, Some, None, Bool, true, false, refl, ap, sym, subst, append_assoc, cases_Bool, append-nil, if◌then◌else◌}
 use Rattle.sap_text.specs.Best.{better, best_of, StandsIn, BeforeAll, First}
 
 module _ {A : Type 0} (comes_first : A → A → Bool) where

@@ -1,13 +1,7 @@
 -- On letters, digits and names.
-use Rattle.std.proofs.Common.{List, [], arith, refl, true, ℕ, ◌∷◌, ◌≡◌}
-use Rattle.std.specs.Char.{is_ascii_digit}
-use Rattle.std.specs.List.{list_all}
-use Rattle.std.specs.Prelude.{◌<◌, slice_index, zero, suc}
-use Rattle.std.specs.Str.{IsUtf8}
+use Rattle.sap_lemmas.proofs.Common.{List, [], arith, refl, true, ℕ, ◌∷◌, ◌≡◌, is_ascii_digit, list_all, ◌<◌, slice_index, zero, suc, IsUtf8, and_from, and_parts, nat_tests}
 use Rattle.std.specs.Str.Parse.{AllDigits}
 use Rattle.std.proofs.lemmas.Str.{IsUtf8-from_ascii}
-use Rattle.std.proofs.lemmas.Bool.{and_from, and_parts}
-use Rattle.std.proofs.lemmas.Bool.Decides.{nat_tests}
 use Rattle.sap_lemmas.proofs.Texts.{digit_of_value}
 use Rattle.sap_text.specs.Names.{is_initial, is_inner, is_word}
 

@@ -1,6 +1,5 @@
 -- Places behind bytes.
-use Rattle.std.proofs.Common.{◌≡◌, ◌<◌, ◌≤◌, ◌+◌, ℕ, List, length, drop, get_or}
-use Rattle.std.proofs.lemmas.List.{at_drop_more, at_drop_all}
+use Rattle.sap_lemmas.proofs.Common.{◌≡◌, ◌<◌, ◌≤◌, ◌+◌, ℕ, List, length, drop, get_or, at_drop_more, at_drop_all}
 use Rattle.sap_text.specs.declared.place.Place.{Place}
 use Rattle.sap_text.specs.Places.{next_place, place_after}
 

@@ -1,9 +1,6 @@
 -- Runs of bytes, and numbers.
-use Rattle.std.proofs.Common.{◌≡◌, ◌<◌, ◌≤◌, ◌+◌, ◌*◌, ℕ, List, [], ◌∷◌, length, drop, get_or, arith}
-use Rattle.std.proofs.lemmas.List.{at_drop_more, at_drop_all}
+use Rattle.sap_lemmas.proofs.Common.{◌≡◌, ◌<◌, ◌≤◌, ◌+◌, ◌*◌, ℕ, List, [], ◌∷◌, length, drop, get_or, arith, at_drop_more, at_drop_all, digit_value, digits_value_after}
 use Rattle.std.proofs.lemmas.List.Sums.{prefix_len-drop_yes, prefix_len-drop_no, prefix_len-drop_all}
-use Rattle.std.specs.Char.{digit_value}
-use Rattle.std.specs.Str.Parse.{digits_value_after}
 use Rattle.sap_lemmas.proofs.Numbers.{le_product}
 
 pub ruleset runs = (prefix_len-drop_yes, prefix_len-drop_no, prefix_len-drop_all)

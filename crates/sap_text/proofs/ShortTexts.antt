@@ -1,13 +1,6 @@
 -- On texts that stand in a name.
-use Rattle.std.proofs.Common.{List, [], arith, refl, true, ℕ, ◌≡◌, ◌+◌, ◌^◌, ◌<◌, ◌++◌, ◌∷◌}
-use Rattle.std.specs.Fmt.{decimal}
-use Rattle.std.specs.List.{list_all}
-use Rattle.std.specs.Prelude.{◌≤◌, length, take}
-use Rattle.std.specs.Str.{IsUtf8, is_utf8}
-use Rattle.std.proofs.Math.Seq.{take-append-add, take-append_seam}
-use Rattle.std.proofs.lemmas.Bool.{and_from, and_parts}
-use Rattle.std.proofs.lemmas.Fmt.{decimal_is_IsNumeral}
-use Rattle.std.proofs.lemmas.List.{length-append, length-take}
+use Rattle.sap_lemmas.proofs.Common.{List, [], arith, refl, true, ℕ, ◌≡◌, ◌+◌, ◌^◌, ◌<◌, ◌++◌, ◌∷◌, decimal, list_all, ◌≤◌, length, take, IsUtf8, take-append-add, take-append_seam, and_from, and_parts, decimal_is_IsNumeral, length-append, length-take}
+use Rattle.std.specs.Str.{is_utf8}
 use Rattle.std.proofs.lemmas.Str.{is_utf8-from_IsUtf8}
 use Rattle.sap_text.specs.Names.{is_inner}
 use Rattle.sap_text.proofs.NamesLemmas.{numeral_inner}

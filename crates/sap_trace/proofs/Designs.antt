@@ -1,24 +1,16 @@
 -- A netlist that stands for a design, on the streams that a stimulus gives.
 use Rattle.std.proofs.Common.{◌≡◌, ℕ, ◌<◌, List, length, map, arith}
 use Rattle.sap_tree.specs.Syntax.{DesignTree}
-use Rattle.sap_lattice.specs.Levels.{Levels, order_of}
-use Rattle.sap_lattice.specs.Order.{Laws}
-use Rattle.sap_lattice.specs.Codes.{Codes}
+use Rattle.sap_lattice.specs.Prelude.{Levels, order_of, Laws, Codes}
 use Rattle.sap_maps.specs.Maps.{Valuation}
-use Rattle.sap_meaning.specs.Store.{Store}
-use Rattle.sap_meaning.specs.Cycle.{Tagged, cycle}
-use Rattle.sap_meaning.specs.State.{StreamFits, first}
-use Rattle.sap_meaning.specs.Sites.{program_sites, refused_sites, Sublist}
-use Rattle.sap_net.specs.Net.{Net}
-use Rattle.sap_net.specs.Runs.{AllFit, IsRun, observed}
-use Rattle.sap_interface.specs.StandsFor.{world}
-use Rattle.sap_interface.specs.Designs.{named_of, StandsForDesign}
+use Rattle.sap_meaning.specs.Prelude.{Store, Tagged, cycle, StreamFits, first, program_sites, refused_sites, Sublist}
+use Rattle.sap_net.specs.Prelude.{Net, AllFit, IsRun, observed}
+use Rattle.sap_interface.specs.Prelude.{world, named_of, StandsForDesign}
 use Rattle.sap_interface.specs.Designs as interface
 use Rattle.sap_resolved.specs.Fill.{program_of}
 use Rattle.sap_stim.specs.Fits.{StimulusFits}
 use Rattle.sap_check.specs.Sites.{sites_of}
-use Rattle.sap_sim.specs.Labelled.Fields.{design_fields}
-use Rattle.sap_sim.specs.Labelled.RunOf.{read_for}
+use Rattle.sap_sim.specs.Prelude.{design_fields, read_for}
 use Rattle.sap_sim.proofs.labelled.Designs.{fit_stream}
 use Rattle.sap_secure.specs.CheckSites.Numbering.{OneNumbering}
 use Rattle.sap_secure.proofs.check_sites.Counts.{count_is}

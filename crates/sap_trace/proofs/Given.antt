@@ -1,8 +1,7 @@
 -- What a line gives the inputs of a module, field by field.
 use Rattle.std.proofs.Common.{◌≡◌, ℕ, zero, suc, ◌+◌, ◌*◌, ◌<◌, List, [], ◌∷◌, ◌++◌, length, get_or, take, set, refl, sym, ap, ◌∙◌, arith}
 use Rattle.std.proofs.lemmas.List.{take_more_set, length-set}
-use Rattle.sap_lattice.specs.Levels.{Levels, order_of}
-use Rattle.sap_lattice.specs.Codes.{code_of}
+use Rattle.sap_lattice.specs.Prelude.{Levels, order_of, code_of}
 use Rattle.sap_meaning.specs.Cycle.{Tagged}
 use Rattle.sap_trace.specs.Given.{given}
 

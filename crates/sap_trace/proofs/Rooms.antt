@@ -1,9 +1,6 @@
 -- The room of the lines of a trace.
-use Rattle.std.proofs.Common.{◌≡◌, ℕ, suc, [], inl, inr, ◌+◌, ◌-◌, ◌*◌, ◌^◌, ◌<◌, ◌≤◌, List, length, max, ap, ◌∙◌, length-append, eq-zero-or-pos, arith, subst}
-use Rattle.std.specs.Prelude.{Option, Some, Result, Ok, Err, OnErr, OnOk, decimal, slice_get, option_map, unwrap_or}
-use Rattle.std.proofs.lemmas.Bool.{cases_lt}
-use Rattle.std.proofs.lemmas.Fmt.{length-decimal-le}
-use Rattle.std.proofs.Math.Nat.{mul-le-mul_right, mul_comm}
+use Rattle.sap_lemmas.proofs.Common.{◌≡◌, ℕ, suc, [], inl, inr, ◌+◌, ◌-◌, ◌*◌, ◌^◌, ◌<◌, ◌≤◌, List, length, max, ap, ◌∙◌, length-append, eq-zero-or-pos, arith, subst, Option, Some, Result, Ok, Err, OnErr, OnOk, decimal, slice_get, option_map, unwrap_or, cases_lt, length-decimal-le, mul_comm}
+use Rattle.std.proofs.Math.Nat.{mul-le-mul_right}
 use Rattle.sap_tree.specs.Syntax.{DesignTree}
 use Rattle.sap_lattice.specs.Levels.{Levels, level_in}
 use Rattle.sap_names.specs.Entities.{entities_of}

@@ -1,16 +1,11 @@
 -- The lines of a netlist's run, cycle by cycle, and those of the labelled run for which it stands.
 use Rattle.std.proofs.Common.{◌≡◌, ℕ, ◌+◌, ◌<◌, List, [], ◌∷◌, ◌++◌, length, map, refl, sym, ap₂}
 use Rattle.sap_tree.specs.Syntax.{DesignTree}
-use Rattle.sap_lattice.specs.Levels.{Levels, order_of}
-use Rattle.sap_lattice.specs.Codes.{Codes}
+use Rattle.sap_lattice.specs.Prelude.{Levels, order_of, Codes}
 use Rattle.sap_maps.specs.Maps.{Valuation}
-use Rattle.sap_meaning.specs.Store.{Store, After}
-use Rattle.sap_meaning.specs.Cycle.{Tagged, cycle, run_from}
-use Rattle.sap_meaning.specs.Sites.{program_sites, refused_sites, Sublist}
-use Rattle.sap_net.specs.Net.{Net}
-use Rattle.sap_net.specs.Runs.{observed}
-use Rattle.sap_interface.specs.Compiled.{CyclesStand}
-use Rattle.sap_interface.specs.Designs.{named_of}
+use Rattle.sap_meaning.specs.Prelude.{Store, After, Tagged, cycle, run_from, program_sites, refused_sites, Sublist}
+use Rattle.sap_net.specs.Prelude.{Net, observed}
+use Rattle.sap_interface.specs.Prelude.{CyclesStand, named_of}
 use Rattle.sap_interface.specs.Designs as interface
 use Rattle.sap_resolved.specs.Fill.{program_of}
 use Rattle.sap_secure.specs.CheckSites.Numbering.{OneNumbering}

@@ -1,19 +1,13 @@
 -- What the wires of check sites tell of a cycle that stands for one of the design are its refusals.
-use Rattle.std.proofs.Common.{◌≡◌, ℕ, zero, suc, ◌+◌, ◌<◌, ◌≤◌, Bool, true, false, List, [], ◌∷◌, ◌++◌, Option, length, refl, sym, ap, ap₂, ◌∙◌, subst, arith, inl, inr, ◌↔◌, if◌then◌else◌, append_assoc}
-use Rattle.std.specs.Prelude.{◌==◌}
-use Rattle.std.proofs.lemmas.Bool.Decides.{Decides-eqb}
-use Rattle.std.proofs.lemmas.List.{append-nil}
+use Rattle.sap_lemmas.proofs.Common.{◌≡◌, ℕ, zero, suc, ◌+◌, ◌<◌, ◌≤◌, Bool, true, false, List, [], ◌∷◌, ◌++◌, Option, length, refl, sym, ap, ap₂, ◌∙◌, subst, arith, inl, inr, ◌↔◌, if◌then◌else◌, append_assoc, ◌==◌, Decides-eqb, append-nil}
 use Rattle.sap_tree.specs.Syntax.{DesignTree}
-use Rattle.sap_lattice.specs.Levels.{Levels, order_of}
-use Rattle.sap_lattice.specs.Codes.{Codes, code_of}
+use Rattle.sap_lattice.specs.Prelude.{Levels, order_of, Codes, code_of}
 use Rattle.sap_maps.specs.Maps.{Valuation}
-use Rattle.sap_meaning.specs.Store.{Store, Refusal}
-use Rattle.sap_meaning.specs.Sites.{program_sites, refused_sites, numbers_from, Sublist}
+use Rattle.sap_meaning.specs.Prelude.{Store, Refusal, program_sites, refused_sites, numbers_from, Sublist}
 use Rattle.sap_check.specs.Sites.{sites_of}
 use Rattle.sap_net.specs.PortNames.{refused_name}
 use Rattle.sap_net.specs.PortNames as ports
-use Rattle.sap_interface.specs.StandsFor.{IsRefusedAt, IsRefused, StandsFor}
-use Rattle.sap_interface.specs.Designs.{named_of}
+use Rattle.sap_interface.specs.Prelude.{IsRefusedAt, IsRefused, StandsFor, named_of}
 use Rattle.sap_interface.specs.Designs as interface
 use Rattle.sap_resolved.specs.Fill.{program_of}
 use Rattle.sap_stim.specs.Rows.{level_text}
@@ -42,22 +36,6 @@ seen_step ls d c n v first old new h e =
     e ∙ ap₂ (λ (xs ys : List ℕ). xs ++ ys) h (ap (λ (k : ℕ). seen_line ls d c k v) i)
     ∙ append_assoc first (seen_lines ls d c 1 n v) (seen_line ls d c (1 + n) v)
     ∙ ap (λ (xs : List ℕ). first ++ xs) (sym (seen_last ls d c 1 n v) ∙ ap (λ (k : ℕ). seen_lines ls d c 1 k v) j)
-
--- the line of a site, by the number of its wire
-pub line_shown : (ls : Levels) (d : DesignTree) (c k : ℕ) (v : Valuation) (flag tag : ℕ) (old new : List ℕ)
-    → flag ≡ v.value (refused_name k) → tag ≡ v.value (ports.refused_level_name k) → flag ≡ 1
-    → new ≡ old ++ site_line d c k (coded_name ls tag) → new ≡ old ++ seen_line ls d c k v
-line_shown ls d c k v flag tag old new f t one e =
-    let yes : (v.value (refused_name k) == 1) ≡ true = (Decides-eqb (v.value (refused_name k)) 1).1 (sym f ∙ one) in
-    e ∙ ap (λ (x : ℕ). old ++ site_line d c k (coded_name ls x)) t
-    ∙ ap (λ (b : Bool). old ++ (if b then site_line d c k (coded_name ls (v.value (ports.refused_level_name k))) else [])) (sym yes)
-
-pub line_hidden : (ls : Levels) (d : DesignTree) (c k : ℕ) (v : Valuation) (flag : ℕ) (old : List ℕ) → flag ≡ v.value (refused_name k) → (flag ≡ 1 → ⊥)
-    → old ≡ old ++ seen_line ls d c k v
-line_hidden ls d c k v flag old f none = sym (append-nil old) ∙ ap (λ (xs : List ℕ). old ++ xs) (sym (decided (v.value (refused_name k) == 1) refl)) where
-  decided : (b : Bool) → (v.value (refused_name k) == 1) ≡ b → (if b then site_line d c k (coded_name ls (v.value (ports.refused_level_name k))) else []) ≡ []
-  decided true t = absurd (none (f ∙ (Decides-eqb (v.value (refused_name k)) 1).0 t))
-  decided false t = refl
 
 pub no_lines : (old : List ℕ) → old ≡ old ++ []
 no_lines old = sym (append-nil old)

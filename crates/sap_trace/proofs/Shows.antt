@@ -1,30 +1,18 @@
 -- What a runner shows that is stepped on one line after another.
-use Rattle.std.proofs.Common.{◌≡◌, ◌<◌, List, [], ◌∷◌, ◌++◌, Option, None, Some, length, map, refl, sym, subst, arith}
-use Rattle.std.specs.List.{last_or}
+use Rattle.sap_lemmas.proofs.Common.{◌≡◌, ◌<◌, List, [], ◌∷◌, ◌++◌, Option, None, Some, length, map, refl, sym, subst, arith, last_or}
 use Rattle.sap_tree.specs.Syntax.{DesignTree}
-use Rattle.sap_lattice.specs.Levels.{Levels, order_of}
-use Rattle.sap_lattice.specs.Order.{Laws}
+use Rattle.sap_lattice.specs.Prelude.{Levels, order_of, Laws}
 use Rattle.sap_maps.specs.Maps.{Valuation}
-use Rattle.sap_meaning.specs.Program.{World}
-use Rattle.sap_meaning.specs.Store.{After, Refusal, Store}
-use Rattle.sap_meaning.specs.Cycle.{Tagged, cycle, run_from}
-use Rattle.sap_meaning.specs.State.{InputsFit, StreamFits, first, labelled_run}
-use Rattle.sap_meaning.specs.Sites.{program_sites, refused_sites, Sublist}
-use Rattle.sap_net.specs.Net.{Net}
-use Rattle.sap_net.specs.Laws.{SomeRun}
-use Rattle.sap_net.specs.Runs.{observed}
+use Rattle.sap_meaning.specs.Prelude.{World, After, Refusal, Store, Tagged, cycle, run_from, InputsFit, StreamFits, first, labelled_run, program_sites, refused_sites, Sublist}
+use Rattle.sap_net.specs.Prelude.{Net, SomeRun, observed}
 use Rattle.sap_cycle.specs.Running.{Running, Shows, ShowsNext}
-use Rattle.sap_interface.specs.Compiled.{CyclesStand}
-use Rattle.sap_interface.specs.Designs.{named_of, StandsForDesign}
+use Rattle.sap_interface.specs.Prelude.{CyclesStand, named_of, StandsForDesign, StandsFor}
 use Rattle.sap_interface.specs.Designs as interface
-use Rattle.sap_interface.specs.StandsFor.{StandsFor}
 use Rattle.sap_resolved.specs.Fill.{program_of}
 use Rattle.sap_resolved.specs.Worlds.{world_of}
 use Rattle.sap_secure.specs.CheckSites.Numbering.{OneNumbering}
-use Rattle.sap_sim.specs.Labelled.Fields.{design_fields}
-use Rattle.sap_sim.specs.Labelled.RunOf.{read_for}
+use Rattle.sap_sim.specs.Prelude.{design_fields, read_for, Stepped}
 use Rattle.sap_sim.specs.Stepped as stepped
-use Rattle.sap_sim.specs.Stepped.{Stepped}
 use Rattle.sap_sim.proofs.labelled.Designs.{fit_stream}
 use Rattle.sap_sim.proofs.Stepped.{after_line, unstepped_shows}
 use Rattle.sap_stim.specs.Fits.{StimulusFits}

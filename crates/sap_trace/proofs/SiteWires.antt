@@ -1,19 +1,13 @@
 -- The wires of check sites and their places.
-use Rattle.std.proofs.Common.{◌≡◌, ◌≢◌, ℕ, zero, suc, ◌+◌, ◌-◌, ◌<◌, ◌≤◌, List, [], ◌∷◌, ◌++◌, Option, Some, None, length, map, bytes_eq, get_or, length-append, refl, sym, ◌∙◌, subst, arith, inl, inr}
-use Rattle.std.specs.List.{AllByRecursion}
-use Rattle.std.proofs.lemmas.Bool.{cases_Bool, cases_lt}
-use Rattle.sap_lemmas.proofs.Texts.{equal_of_bytes_eq}
+use Rattle.sap_lemmas.proofs.Common.{◌≡◌, ◌≢◌, ℕ, zero, suc, ◌+◌, ◌-◌, ◌<◌, ◌≤◌, List, [], ◌∷◌, ◌++◌, Option, Some, None, length, map, bytes_eq, get_or, length-append, refl, sym, ◌∙◌, subst, arith, inl, inr, AllByRecursion, cases_Bool, cases_lt, equal_of_bytes_eq}
 use Rattle.sap_tree.specs.Syntax.{DesignTree}
 use Rattle.sap_lattice.specs.Levels.{Levels}
 use Rattle.sap_check.specs.Sites.{sites_of}
-use Rattle.sap_maps.specs.Maps.{Name}
-use Rattle.sap_maps.specs.Scope.{Scope, find}
+use Rattle.sap_maps.specs.Prelude.{Name, Scope, find}
+use Rattle.sap_net.specs.Prelude.{Net, IsNetlist, readable, refused_name, refused_level_name}
 use Rattle.sap_net.specs.declared.parts.Wire.{Wire}
-use Rattle.sap_net.specs.Net.{Net}
-use Rattle.sap_net.specs.IsNetlist.{IsNetlist, readable}
 use Rattle.sap_cycle.specs.Running.{value_names, IsPlaceOf}
 use Rattle.sap_cycle.proofs.Distinct.{wires_readable}
-use Rattle.sap_net.specs.PortNames.{refused_name, refused_level_name}
 use Rattle.sap_trace.specs.Seen.{HasSiteWires, AreReadable, ArePlaced}
 
 wire_has : (sc : Scope) (list : List Wire) → AllByRecursion (λ w. find sc w.name ≡ Some w.width) list → (x : Name) (u : ℕ)

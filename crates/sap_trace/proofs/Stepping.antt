@@ -2,26 +2,18 @@
 use Rattle.std.proofs.Common.{◌≡◌, ℕ, ◌<◌, List, [], ◌∷◌, ◌++◌, Option, Some, length, map, refl, sym, ap, ◌∙◌, subst}
 use Rattle.sap_stim.proofs.FitsLemmas.{line_count}
 use Rattle.sap_tree.specs.Syntax.{DesignTree}
-use Rattle.sap_lattice.specs.Levels.{Levels, order_of}
-use Rattle.sap_lattice.specs.Codes.{Codes}
-use Rattle.sap_lattice.specs.Order.{Laws}
+use Rattle.sap_lattice.specs.Prelude.{Levels, order_of, Codes, Laws}
 use Rattle.sap_maps.specs.Maps.{Valuation}
-use Rattle.sap_meaning.specs.Store.{Store}
-use Rattle.sap_meaning.specs.Cycle.{Tagged, cycle}
-use Rattle.sap_meaning.specs.Sites.{program_sites, refused_sites, Sublist}
+use Rattle.sap_meaning.specs.Prelude.{Store, Tagged, cycle, program_sites, refused_sites, Sublist}
 use Rattle.sap_check.specs.Sites.{sites_of}
-use Rattle.sap_net.specs.Net.{Net}
-use Rattle.sap_net.specs.Laws.{SomeRun}
-use Rattle.sap_net.specs.Runs.{InputsFit, IsRun, observed}
+use Rattle.sap_net.specs.Prelude.{Net, SomeRun, InputsFit, IsRun, observed}
 use Rattle.sap_cycle.specs.Running.{Running, Shows, ShowsNext, seen}
 use Rattle.sap_interface.specs.Designs.{StandsForDesign}
 use Rattle.sap_resolved.specs.Fill.{program_of}
 use Rattle.sap_stim.specs.declared.field.Field.{Field}
 use Rattle.sap_stim.specs.Fits.{LineFits, StimulusFits}
-use Rattle.sap_sim.specs.Labelled.Fields.{design_fields}
+use Rattle.sap_sim.specs.Prelude.{design_fields, read_for, Stepped}
 use Rattle.sap_sim.proofs.labelled.Designs.{fit_stream}
-use Rattle.sap_sim.specs.Labelled.RunOf.{read_for}
-use Rattle.sap_sim.specs.Stepped.{Stepped}
 use Rattle.sap_sim.proofs.Stepped.{line_split, told_begins, told_goes_on, told_part, cycle_shown, after_line}
 use Rattle.sap_secure.specs.CheckSites.Numbering.{OneNumbering}
 use Rattle.sap_trace.specs.declared.wires.Wires.{Wires}

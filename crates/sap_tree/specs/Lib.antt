@@ -13,3 +13,4 @@ pub mod Bare
 pub mod Making
 pub mod Parts
 pub mod Designs
+pub mod Prelude

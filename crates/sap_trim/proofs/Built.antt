@@ -1,28 +1,17 @@
 -- The netlist of a walk's wires is a netlist.
-use Rattle.std.proofs.Common.{◌≡◌, ℕ, ◌||◌, ◌&&◌, List, [], ◌∷◌, ◌++◌, map, filter, Some, Bool, true, false, sym, ap, ap₂, ◌∙◌, subst, refl, inl, inr, arith}
-use Rattle.std.specs.Str.{bytes_eq}
-use Rattle.std.specs.List.{AllByRecursion}
-use Rattle.std.proofs.lemmas.Bool.{cases_Bool, and_parts, or_parts}
-use Rattle.sap_lemmas.proofs.Bools.{or_true}
-use Rattle.sap_lemmas.proofs.Everywhere.{all_append, all_filter, all_follow, map_of_all}
-use Rattle.sap_lemmas.proofs.Texts.{bytes_eq_apart_back}
-use Rattle.std.proofs.lemmas.List.{append-nil as append_nothing}
+use Rattle.sap_lemmas.proofs.Common.{◌≡◌, ℕ, ◌||◌, ◌&&◌, List, [], ◌∷◌, ◌++◌, map, filter, Some, Bool, true, false, sym, ap, ap₂, ◌∙◌, subst, refl, inl, inr, arith, bytes_eq, AllByRecursion, cases_Bool, and_parts, or_parts, or_true, all_append, all_filter, all_follow, map_of_all, bytes_eq_apart_back, append-nil as append_nothing}
 use Rattle.sap_net.proofs.RulesLemmas.{readable_both, readable_kept, wires_both, wires_distinct, Grows, operand_grows}
 use Rattle.sap_net.proofs.NamesLemmas.{among_behind, among_front, distinct_both, each_among, filter_among, filter_distinct}
-use Rattle.sap_maps.specs.Maps.{Name}
-use Rattle.sap_maps.specs.Scope.{Scope, find}
+use Rattle.sap_maps.specs.Prelude.{Name, Scope, find}
 use Rattle.sap_maps.proofs.Scopes.{found_behind}
-use Rattle.sap_net.specs.Names.{is_name, is_among, AreDistinct}
-use Rattle.sap_net.specs.Net.{Net}
+use Rattle.sap_net.specs.Prelude.{is_name, is_among, AreDistinct, Net, Shapes, IsOperand, AreWires, readable_after, IsRegister, IsMemory, input_names, wire_names, register_names, memory_names, first_readable, readable, shapes, is_input, PortShows, IsNetlist, names_of}
 use Rattle.sap_net.specs.declared.parts.PortKind.{PortKind}
-use Rattle.sap_net.specs.declared.parts.PortKind.TheVariants as kind
 use Rattle.sap_net.specs.declared.parts.Port.{Port}
 use Rattle.sap_net.specs.declared.parts.Register.{Register}
 use Rattle.sap_net.specs.declared.parts.Memory.{Memory}
 use Rattle.sap_net.specs.declared.parts.Operand.{Operand}
 use Rattle.sap_net.specs.declared.parts.Wire.{Wire}
-use Rattle.sap_net.specs.Rules.{Shapes, IsOperand, AreWires, readable_after, IsRegister, IsMemory}
-use Rattle.sap_net.specs.IsNetlist.{input_names, wire_names, register_names, memory_names, first_readable, readable, shapes, is_input, PortShows, IsNetlist, names_of}
+use Rattle.sap_net.specs.declared.parts.PortKind.TheVariants as kind
 use Rattle.sap_fold.specs.Gives.{Numbers}
 use Rattle.sap_trim.specs.Names.{port_names, lasting_names, shown_wires}
 use Rattle.sap_trim.specs.Replaced.{Stands, standing, standing_operand}

@@ -1,17 +1,12 @@
 -- One pass behind another.
-use Rattle.std.proofs.Common.{◌≡◌, ℕ, List, [], ◌∷◌, ◌++◌, map, None, sym, ap, ap₂, ◌∙◌, subst, refl}
-use Rattle.std.specs.List.{AllByRecursion, AllZip}
-use Rattle.sap_lemmas.proofs.Everywhere.{all_of_map, map_of_all}
+use Rattle.sap_lemmas.proofs.Common.{◌≡◌, ℕ, List, [], ◌∷◌, ◌++◌, map, None, sym, ap, ap₂, ◌∙◌, subst, refl, AllByRecursion, AllZip, all_of_map, map_of_all}
 use Rattle.sap_maps.specs.Maps.{Name, Valuation}
-use Rattle.sap_net.specs.Net.{Net}
+use Rattle.sap_net.specs.Prelude.{Net, width_of, IsNetlist, AllFit, observed, is_among}
 use Rattle.sap_net.specs.declared.parts.Port.{Port}
 use Rattle.sap_net.specs.declared.parts.Input.{Input}
 use Rattle.sap_net.specs.declared.parts.Register.{Register}
 use Rattle.sap_net.specs.declared.parts.Memory.{Memory}
-use Rattle.sap_net.specs.IsNetlist.{width_of, IsNetlist}
-use Rattle.sap_net.specs.Runs.{AllFit, observed}
 use Rattle.sap_net.proofs.Exists.{run_exists}
-use Rattle.sap_net.specs.Names.{is_among}
 use Rattle.sap_share.specs.Sets.{AreSame}
 use Rattle.sap_trim.specs.Names.{lasting_names, port_names}
 use Rattle.sap_trim.specs.Alike.{DeclaresAlike, ShowsAlike, RunsAlike}

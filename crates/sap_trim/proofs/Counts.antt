@@ -1,6 +1,5 @@
 -- Counts of wires, one more at a time.
-use Rattle.std.proofs.Common.{◌≡◌, ℕ, ◌+◌, ◌<◌, List, [], ◌∷◌, ◌++◌, filter, length, take, get_or, Bool, sym, ap, ◌∙◌, length-append}
-use Rattle.std.proofs.lemmas.List.{take_more}
+use Rattle.sap_lemmas.proofs.Common.{◌≡◌, ℕ, ◌+◌, ◌<◌, List, [], ◌∷◌, ◌++◌, filter, length, take, get_or, Bool, sym, ap, ◌∙◌, length-append, take_more}
 use Rattle.sap_net.specs.declared.parts.Wire.{Wire}
 use Rattle.sap_fold.proofs.Lists.{filter_append}
 use Rattle.sap_trim.specs.Few.{calculated}

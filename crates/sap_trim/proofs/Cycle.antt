@@ -1,28 +1,19 @@
 -- The cycles of the new netlist have the numbers of those of the given one.
-use Rattle.std.proofs.Common.{◌≡◌, ℕ, List, [], ◌∷◌, ◌++◌, map, Option, Some, None, Bool, true, sym, ap, ◌∙◌, subst, refl, inl, inr}
-use Rattle.std.specs.Str.{bytes_eq}
-use Rattle.std.specs.List.{AllByRecursion, AllZip}
-use Rattle.std.proofs.lemmas.Bool.{cases_Bool}
-use Rattle.sap_lemmas.proofs.Everywhere.{all_equal, all_equal_at, all_of_map, all_second, map_of_all}
+use Rattle.sap_lemmas.proofs.Common.{◌≡◌, ℕ, List, [], ◌∷◌, ◌++◌, map, Option, Some, None, Bool, true, sym, ap, ◌∙◌, subst, refl, inl, inr, bytes_eq, AllByRecursion, AllZip, cases_Bool, all_of_map, all_second, map_of_all}
+use Rattle.sap_lemmas.proofs.Everywhere.{all_equal, all_equal_at}
 use Rattle.sap_net.proofs.RulesLemmas.{readable_kept, Grows}
 use Rattle.sap_net.proofs.NamesLemmas.{each_among, found_of, not_found}
 use Rattle.sap_maps.proofs.ScopeLemmas.{found_first, found_second}
-use Rattle.sap_maps.specs.Maps.{Name, Valuation}
-use Rattle.sap_maps.specs.Scope.{Scope, find, Agree}
+use Rattle.sap_maps.specs.Prelude.{Name, Valuation, Scope, find, Agree}
 use Rattle.sap_maps.proofs.Scopes.{found_here, agree_both}
-use Rattle.sap_net.specs.Names.{is_among}
-use Rattle.sap_net.specs.Net.{Net}
+use Rattle.sap_net.specs.Prelude.{is_among, Net, Shapes, AreWires, readable_after, IsRegister, IsMemory, operand_value, Holds, input_names, register_names, first_readable, readable, shapes, width_of, PortShows, IsNetlist, names_of, IsWithin, written, IsCycle, IsRunAfter, value_after, cell_after, observed}
 use Rattle.sap_net.specs.declared.parts.PortKind.{PortKind}
-use Rattle.sap_net.specs.declared.parts.PortKind.TheVariants as kind
 use Rattle.sap_net.specs.declared.parts.Port.{Port}
 use Rattle.sap_net.specs.declared.parts.Input.{Input}
 use Rattle.sap_net.specs.declared.parts.Register.{Register}
 use Rattle.sap_net.specs.declared.parts.Memory.{Memory}
 use Rattle.sap_net.specs.declared.parts.Wire.{Wire}
-use Rattle.sap_net.specs.Rules.{Shapes, AreWires, readable_after, IsRegister, IsMemory}
-use Rattle.sap_net.specs.Values.{operand_value, Holds}
-use Rattle.sap_net.specs.IsNetlist.{input_names, register_names, first_readable, readable, shapes, width_of, PortShows, IsNetlist, names_of}
-use Rattle.sap_net.specs.Runs.{IsWithin, written, IsCycle, IsRunAfter, value_after, cell_after, observed}
+use Rattle.sap_net.specs.declared.parts.PortKind.TheVariants as kind
 use Rattle.sap_net.proofs.Settle.{CellsAgree}
 use Rattle.sap_net.proofs.Same.{AreFound, all_found, inputs_agree, registers_agree, cells_agree}
 use Rattle.sap_net.proofs.Within.{WidthsAre, widths_are}

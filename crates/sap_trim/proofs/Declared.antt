@@ -1,18 +1,12 @@
 -- The names of the new netlist.
-use Rattle.std.proofs.Common.{◌≡◌, ℕ, ◌||◌, ◌&&◌, List, [], ◌∷◌, ◌++◌, map, filter, take, drop, length, None, Bool, true, false, sym, ap, ◌∙◌, refl, inl, inr, arith, append_assoc}
-use Rattle.std.specs.List.{AllByRecursion}
-use Rattle.std.proofs.lemmas.Bool.{cases_Bool}
-use Rattle.std.proofs.lemmas.List.{take-append-drop, take_at}
-use Rattle.sap_lemmas.proofs.Bools.{or_false, or_true}
+use Rattle.sap_lemmas.proofs.Common.{◌≡◌, ℕ, ◌||◌, ◌&&◌, List, [], ◌∷◌, ◌++◌, map, filter, take, drop, length, None, Bool, true, false, sym, ap, ◌∙◌, refl, inl, inr, arith, append_assoc, AllByRecursion, cases_Bool, take-append-drop, or_false, or_true}
+use Rattle.std.proofs.lemmas.List.{take_at}
 use Rattle.sap_net.proofs.NamesLemmas.{among_append, filter_among}
-use Rattle.sap_maps.specs.Maps.{Name}
-use Rattle.sap_maps.specs.Scope.{Scope, find}
+use Rattle.sap_maps.specs.Prelude.{Name, Scope, find}
 use Rattle.sap_maps.proofs.Scopes.{not_behind}
-use Rattle.sap_net.specs.Names.{is_among}
-use Rattle.sap_net.specs.Rules.{Shapes, IsWidth, AreWires}
+use Rattle.sap_net.specs.Prelude.{is_among, Shapes, IsWidth, AreWires, names_of}
 use Rattle.sap_net.specs.declared.parts.Port.{Port}
 use Rattle.sap_net.specs.declared.parts.Wire.{Wire}
-use Rattle.sap_net.specs.IsNetlist.{names_of}
 use Rattle.sap_fold.proofs.Lists.{filter_append, filter_all}
 
 -- what each wire keeps

@@ -1,17 +1,13 @@
 -- How many wires a pass leaves that folds each right side by itself.
-use Rattle.std.proofs.Common.{◌≡◌, ℕ, ◌+◌, ◌≤◌, List, [], ◌∷◌, ◌++◌, map, length, Bool, false, ap, refl, inl, inr, arith, length-append}
-use Rattle.std.specs.List.{AllByRecursion}
-use Rattle.std.proofs.lemmas.Bool.{cases_Bool}
-use Rattle.std.proofs.lemmas.List.{length-map}
+use Rattle.sap_lemmas.proofs.Common.{◌≡◌, ℕ, ◌+◌, ◌≤◌, List, [], ◌∷◌, ◌++◌, map, length, Bool, false, ap, refl, inl, inr, arith, length-append, AllByRecursion, cases_Bool, length-map}
 use Rattle.sap_maps.specs.Maps.{Name}
-use Rattle.sap_net.specs.Names.{is_among}
-use Rattle.sap_net.specs.Net.{Net}
+use Rattle.sap_net.specs.Prelude.{is_among, Net}
 use Rattle.sap_net.specs.declared.parts.Operand.{Operand}
 use Rattle.sap_net.specs.declared.parts.Right.{Right}
 use Rattle.sap_net.specs.declared.parts.Right.TheVariants.{Copy, One, Two, Choose, Concat, Slice, Cell}
 use Rattle.sap_net.specs.declared.parts.Wire.{Wire}
 use Rattle.sap_trim.specs.Built.{built, wire_of}
-use Rattle.sap_trim.specs.Few.{calculated, HasFewWires, NeedsNoMore, most_left}
+use Rattle.sap_trim.specs.Few.{calculated, NeedsNoMore, most_left}
 use Rattle.sap_trim.specs.Names.{port_names, shown_wires}
 use Rattle.sap_trim.specs.Needed.{is_needed, needed, needed_wires}
 use Rattle.sap_trim.specs.Reads.{edge_reads}
@@ -136,10 +132,6 @@ left_most n =
     let before = costs_are n.wires in
     let after = costs_are (needed_wires n) in
     omega (arith, some, before, after)
-
--- What is left is few.
-pub left_few : (n m r : Net) → NeedsNoMore n m → length r.wires ≤ most_left m → HasFewWires n r
-left_few n m r f l = omega (arith, f, l, left_most m)
 
 -- the new netlist needs no more
 

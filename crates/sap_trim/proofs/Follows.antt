@@ -1,18 +1,10 @@
 -- What holds along a walk: the new wires fit, each old name stands for an operand over them, and has its number.
-use Rattle.std.proofs.Common.{◌≡◌, ℕ, ◌^◌, ◌<◌, List, [], ◌∷◌, ◌++◌, map, filter, Option, Some, Bool, true, false, sym, ap, ◌∙◌, subst, refl, inl, inr, arith, append_assoc, append-nil}
-use Rattle.std.specs.Prelude.{◌⊎◌, unwrap_or}
-use Rattle.std.specs.Str.{bytes_eq}
-use Rattle.std.specs.List.{AllByRecursion}
-use Rattle.std.proofs.lemmas.Bool.{cases_Bool, or_parts}
-use Rattle.sap_lemmas.proofs.Everywhere.{all_follow, all_of_map, all_second}
-use Rattle.sap_lemmas.proofs.Texts.{bytes_eq_apart_back, equal_of_bytes_eq}
+use Rattle.sap_lemmas.proofs.Common.{◌≡◌, ℕ, ◌^◌, ◌<◌, List, [], ◌∷◌, ◌++◌, map, filter, Option, Some, Bool, true, false, sym, ap, ◌∙◌, subst, refl, inl, inr, arith, append_assoc, append-nil, ◌⊎◌, unwrap_or, bytes_eq, AllByRecursion, cases_Bool, or_parts, all_follow, all_of_map, all_second, bytes_eq_apart_back, equal_of_bytes_eq}
 use Rattle.sap_net.proofs.RulesLemmas.{readable_kept, values_found, Grows, operand_grows}
 use Rattle.sap_net.proofs.NamesLemmas.{among_behind, among_front, found_among, not_found}
 use Rattle.sap_maps.proofs.ScopeLemmas.{found_second}
-use Rattle.sap_maps.specs.Maps.{Name, Valuation}
-use Rattle.sap_maps.specs.Scope.{Scope, find, Agree}
-use Rattle.sap_net.specs.Names.{is_among}
-use Rattle.sap_net.specs.Net.{Net}
+use Rattle.sap_maps.specs.Prelude.{Name, Valuation, Scope, find, Agree}
+use Rattle.sap_net.specs.Prelude.{is_among, Net, Shapes, IsWidth, IsOperand, IsRight, AreWires, IsRegister, readable_after, operand_value, right_value, Holds, input_names, register_names, memory_names, first_readable, readable, shapes, is_input, IsNetlist, Puts}
 use Rattle.sap_net.specs.declared.parts.Port.{Port}
 use Rattle.sap_net.specs.declared.parts.Input.{Input}
 use Rattle.sap_net.specs.declared.parts.Register.{Register}
@@ -20,12 +12,8 @@ use Rattle.sap_net.specs.declared.parts.Memory.{Memory}
 use Rattle.sap_net.specs.declared.parts.Operand.{Operand}
 use Rattle.sap_net.specs.declared.parts.Operand.TheVariants.{Named, Constant}
 use Rattle.sap_net.specs.declared.parts.Wire.{Wire}
-use Rattle.sap_net.specs.Rules.{Shapes, IsWidth, IsOperand, IsRight, AreWires, IsRegister, readable_after}
-use Rattle.sap_net.specs.Values.{operand_value, right_value, Holds}
-use Rattle.sap_net.specs.IsNetlist.{input_names, register_names, memory_names, first_readable, readable, shapes, is_input, IsNetlist}
 use Rattle.sap_net.proofs.Settle.{CellsAgree}
 use Rattle.sap_net.proofs.Within.{WidthsAre}
-use Rattle.sap_net.specs.NameMaps.{Puts}
 use Rattle.sap_trim.specs.Names.{port_names, lasting_names}
 use Rattle.sap_trim.specs.Replaced.{Stands, standing, replaced}
 use Rattle.sap_fold.specs.Equals.{Over}

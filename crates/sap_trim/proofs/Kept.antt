@@ -1,14 +1,9 @@
 -- The wires that are needed: they fit without the others, and what is read behind them is found.
-use Rattle.std.proofs.Common.{◌≡◌, ℕ, List, [], ◌∷◌, ◌++◌, filter, Some, None, true, false, sym, ◌∙◌, subst, refl, inl, inr, append_assoc}
-use Rattle.std.specs.Str.{bytes_eq}
-use Rattle.std.specs.List.{AllByRecursion}
-use Rattle.std.proofs.lemmas.Bool.{cases_Bool, or_parts}
-use Rattle.sap_lemmas.proofs.Texts.{equal_of_bytes_eq}
+use Rattle.sap_lemmas.proofs.Common.{◌≡◌, ℕ, List, [], ◌∷◌, ◌++◌, filter, Some, None, true, false, sym, ◌∙◌, subst, refl, inl, inr, append_assoc, bytes_eq, AllByRecursion, cases_Bool, or_parts, equal_of_bytes_eq}
 use Rattle.sap_net.proofs.NamesLemmas.{among_behind, among_front, among_here}
-use Rattle.sap_maps.specs.Maps.{Name, Valuation}
-use Rattle.sap_maps.specs.Scope.{Scope, find}
+use Rattle.sap_maps.specs.Prelude.{Name, Valuation, Scope, find}
 use Rattle.sap_maps.proofs.Scopes.{not_behind, found_behind}
-use Rattle.sap_net.specs.Names.{is_among}
+use Rattle.sap_net.specs.Prelude.{is_among, Shapes, IsOperand, AreOperands, IsRight, AreWires, readable_after, IsRegister, IsMemory, Holds}
 use Rattle.sap_net.specs.declared.parts.Operand.{Operand}
 use Rattle.sap_net.specs.declared.parts.Operand.TheVariants.{Named, Constant}
 use Rattle.sap_net.specs.declared.parts.Right.{Right}
@@ -16,8 +11,6 @@ use Rattle.sap_net.specs.declared.parts.Right.TheVariants.{Copy, One, Two, Choos
 use Rattle.sap_net.specs.declared.parts.Register.{Register}
 use Rattle.sap_net.specs.declared.parts.Memory.{Memory}
 use Rattle.sap_net.specs.declared.parts.Wire.{Wire}
-use Rattle.sap_net.specs.Rules.{Shapes, IsOperand, AreOperands, IsRight, AreWires, readable_after, IsRegister, IsMemory}
-use Rattle.sap_net.specs.Values.{Holds}
 use Rattle.sap_net.proofs.RulesLemmas.{Grows}
 use Rattle.sap_trim.specs.Reads.{operand_reads, operands_reads, right_reads, wire_reads, register_reads, memory_reads}
 use Rattle.sap_trim.specs.Needed.{is_needed, needed}

@@ -1,11 +1,8 @@
 -- Steps of loops over the parts of a netlist.
-use Rattle.std.proofs.Common.{◌≡◌, ℕ, ◌-◌, ◌<◌, ◌||◌, List, [], ◌∷◌, ◌++◌, map, drop, length, Option, Bool, false, sym, ap, ap₂, ◌∙◌, subst, refl, inl, inr, suc, ◌≤◌, get_or, drop-cons, arith}
-use Rattle.std.specs.Prelude.{◌⊎◌}
-use Rattle.std.specs.Str.{bytes_eq}
-use Rattle.std.proofs.lemmas.Bool.{cases_Bool}
+use Rattle.sap_lemmas.proofs.Common.{◌≡◌, ℕ, ◌-◌, ◌<◌, ◌||◌, List, [], ◌∷◌, ◌++◌, map, drop, length, Option, Bool, false, sym, ap, ap₂, ◌∙◌, subst, refl, inl, inr, suc, ◌≤◌, get_or, arith, ◌⊎◌, bytes_eq, cases_Bool, or_false, equal_of_bytes_eq}
+use Rattle.std.proofs.Common.{drop-cons}
 use Rattle.sap_maps.specs.Maps.{Name}
-use Rattle.sap_net.specs.Names.{is_among}
-use Rattle.sap_net.specs.Net.{Net}
+use Rattle.sap_net.specs.Prelude.{is_among, Net, Puts}
 use Rattle.sap_net.specs.declared.parts.Port.{Port}
 use Rattle.sap_net.specs.declared.parts.Register.{Register}
 use Rattle.sap_net.specs.declared.parts.Memory.{Memory}
@@ -14,10 +11,7 @@ use Rattle.sap_net.specs.declared.parts.Operand.TheVariants.{Constant}
 use Rattle.sap_net.specs.declared.parts.Wire.{Wire}
 use Rattle.sap_share.specs.Sets.{holds}
 use Rattle.sap_trim.specs.Names.{lasting_names}
-use Rattle.sap_lemmas.proofs.Bools.{or_false}
-use Rattle.sap_lemmas.proofs.Texts.{equal_of_bytes_eq}
 use Rattle.sap_net.proofs.NamesLemmas.{among_append}
-use Rattle.sap_net.specs.NameMaps.{Puts}
 use Rattle.sap_trim.specs.Replaced.{Stands}
 use Rattle.sap_trim.specs.Stays.{KeepsStart}
 use Rattle.sap_trim.specs.Walked.{State, Walked, SomeRegister, StartsAt, Starts}

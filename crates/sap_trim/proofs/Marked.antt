@@ -1,19 +1,8 @@
 -- Marks at the places of names, and the wires that have one.
-use Rattle.std.proofs.Common.{◌≡◌, ℕ, zero, suc, ◌+◌, ◌-◌, ◌<◌, ◌≤◌, ◌==◌, ◌||◌, Bool, true, false, List, [], ◌∷◌, ◌++◌, length, map, take, drop, replicate, get_or, set, Option, Some, None, sym, ap, ap₂, ◌∙◌, subst, refl, arith, inl, inr, append_assoc}
-use Rattle.std.specs.Prelude.{if◌then◌else◌, option_map}
-use Rattle.std.specs.Str.{bytes_eq}
-use Rattle.std.proofs.lemmas.Bool.{cases_Bool, or_parts}
-use Rattle.std.proofs.lemmas.Bool.Decides.{Decides-eqb}
-use Rattle.std.proofs.lemmas.Grind.{get_or-set_at}
-use Rattle.std.proofs.Math.Seq.{take-append_seam}
-use Rattle.std.proofs.lemmas.List.{get_or-set_other, length-set, length-map, length-replicate, drop_all, append-nil}
-use Rattle.sap_lemmas.proofs.Bools.{or_false}
-use Rattle.sap_lemmas.proofs.Texts.{bytes_eq_apart_back, equal_of_bytes_eq}
+use Rattle.sap_lemmas.proofs.Common.{◌≡◌, ℕ, zero, suc, ◌+◌, ◌-◌, ◌<◌, ◌≤◌, ◌==◌, ◌||◌, Bool, true, false, List, [], ◌∷◌, ◌++◌, length, map, take, drop, replicate, get_or, set, Option, Some, None, sym, ap, ap₂, ◌∙◌, subst, refl, arith, inl, inr, append_assoc, if◌then◌else◌, option_map, bytes_eq, cases_Bool, or_parts, Decides-eqb, take-append_seam, length-map, length-replicate, drop_all, append-nil, or_false, bytes_eq_apart_back, equal_of_bytes_eq}
+use Rattle.std.proofs.lemmas.List.{length-set}
 use Rattle.sap_maps.specs.Maps.{Name}
-use Rattle.sap_net.specs.Names.{is_among, AreDistinct}
-use Rattle.sap_net.specs.NameMaps.{place_in}
-use Rattle.sap_net.specs.IsNetlist.{names_of}
-use Rattle.sap_net.specs.Net.{Net}
+use Rattle.sap_net.specs.Prelude.{is_among, AreDistinct, place_in, names_of, Net}
 use Rattle.sap_net.specs.declared.parts.Port.{Port}
 use Rattle.sap_net.specs.declared.parts.Register.{Register}
 use Rattle.sap_net.specs.declared.parts.Memory.{Memory}
@@ -43,9 +32,6 @@ has_append m (x ∷ xs) ys k =
     ap (λ (b : Bool). is_at (place_in m x) k || b) (has_append m xs ys k)
     ∙ or_together (is_at (place_in m x) k) (has_place m xs k) (has_place m ys k)
 
-pub marks_none : (m : List Name) (bs : List Bool) → Marks m [] bs bs
-marks_none m bs = record { long = refl; each = λ k l. refl }
-
 pub marks_both : (m : List Name) (xs ys : List Name) (bs cs ds : List Bool) → Marks m xs bs cs → Marks m ys cs ds → Marks m (xs ++ ys) bs ds
 marks_both m xs ys bs cs ds f g =
     record {
@@ -56,26 +42,6 @@ marks_both m xs ys bs cs ds f g =
           ∙ or_behind (has_place m xs k) (has_place m ys k) (is_marked bs k)
           ∙ ap (λ (b : Bool). b || is_marked bs k) (sym (has_append m xs ys k));
     }
-
-pub marks_one : (m : List Name) (x : Name) (place : ℕ) (bs : List Bool) → place_in m x ≡ Some place → Marks m (x ∷ []) bs (set bs place true)
-marks_one m x place bs e =
-    record {
-      long = length-set bs place true;
-      each = λ k l.
-          elim (cases_Bool (place == k)) [
-            | inl t ↦
-                let p : k ≡ place = sym ((Decides-eqb place k).0 t) in
-                let here : get_or (set bs place true) k false ≡ true = get_or-set_at bs place k true false p (subst (λ (n : ℕ). n < length bs) p l) in
-                rw (e, t) here
-            | inr f ↦
-                let apart : k ≡ place → ⊥ = λ p. let t : (place == k) ≡ true = (Decides-eqb place k).1 (sym p) in cc in
-                let there : get_or (set bs place true) k false ≡ get_or bs k false = get_or-set_other bs place k true false apart in
-                rw (e, f) there
-          ];
-    }
-
-pub marks_absent : (m : List Name) (x : Name) (bs : List Bool) → place_in m x ≡ None → Marks m (x ∷ []) bs bs
-marks_absent m x bs e = record { long = refl; each = λ k l. rw e refl }
 
 -- Where names have their places and no two are equal, the place of a wire has the place of a name on a list if the wire's name is on it.
 
@@ -314,10 +280,6 @@ ends_marked m n ps rs ms a b c d p r q f g h =
     marks_both m (port_names n) (edge_reads n) a b d f' (marks_both m (register_reads n.registers) (memory_reads n.memories) b c d g' h')
 
 -- what one more part reads
-
-pub names_push : (ws : List Wire) (w : Wire) → names_of (ws ++ w ∷ []) ≡ names_of ws ++ w.name ∷ []
-names_push [] w = refl
-names_push (x ∷ ws) w = ap (λ (ns : List Name). x.name ∷ ns) (names_push ws w)
 
 pub ports_push : (ps : List Port) (p : Port) → map (λ x. x.name) (ps ++ p ∷ []) ≡ map (λ x. x.name) ps ++ p.name ∷ []
 ports_push [] p = refl

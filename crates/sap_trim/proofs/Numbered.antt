@@ -1,15 +1,11 @@
 -- Helping wires are numbered in order.
-use Rattle.std.proofs.Common.{◌≡◌, ℕ, suc, ◌+◌, List, [], ◌∷◌, ◌++◌, map, not, length, Bool, true, false, sym, ap, ap₂, ◌∙◌, subst, refl, inl, inr, arith, append-nil, length-append}
-use Rattle.std.specs.List.{AllByRecursion}
-use Rattle.sap_lemmas.proofs.Everywhere.{all_follow, map_of_all}
+use Rattle.sap_lemmas.proofs.Common.{◌≡◌, ℕ, suc, ◌+◌, List, [], ◌∷◌, ◌++◌, map, not, length, Bool, true, false, sym, ap, ap₂, ◌∙◌, subst, refl, inl, inr, arith, append-nil, length-append, AllByRecursion, all_follow, map_of_all}
 use Rattle.sap_maps.specs.Maps.{Name}
-use Rattle.sap_net.specs.Names.{is_among}
-use Rattle.sap_net.specs.Net.{Net}
+use Rattle.sap_net.specs.Prelude.{is_among, Net, names_of}
 use Rattle.sap_net.specs.declared.parts.Operand.{Operand}
 use Rattle.sap_net.specs.declared.parts.Right.{Right}
 use Rattle.sap_net.specs.declared.parts.Right.TheVariants.{Copy, One, Two, Choose, Concat, Slice, Cell}
 use Rattle.sap_net.specs.declared.parts.Wire.{Wire}
-use Rattle.sap_net.specs.IsNetlist.{names_of}
 use Rattle.sap_share.specs.Names.{helper}
 use Rattle.sap_trim.specs.Names.{numbered, port_names, shown_wires, helping_wires}
 use Rattle.sap_trim.specs.Replaced.{Stands, replaced}

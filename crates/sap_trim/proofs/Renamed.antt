@@ -1,21 +1,14 @@
 -- Right sides whose names are replaced by others, no two by the same: they fold no further if they did not before, and differ if they did.
-use Rattle.std.proofs.Common.{◌≡◌, ◌==◌, ℕ, List, [], ◌∷◌, map, Option, Some, Bool, true, false, sym, ap, ap₂, ◌∙◌, subst, refl, inl, inr}
-use Rattle.std.specs.Prelude.{◌||◌, if◌then◌else◌, nat_le, unwrap_or}
-use Rattle.std.specs.Str.{bytes_eq}
-use Rattle.std.specs.List.{AllByRecursion}
-use Rattle.std.proofs.lemmas.Bool.{cases_Bool}
+use Rattle.sap_lemmas.proofs.Common.{◌≡◌, ◌==◌, ℕ, List, [], ◌∷◌, map, Option, Some, Bool, true, false, sym, ap, ap₂, ◌∙◌, subst, refl, inl, inr, ◌||◌, if◌then◌else◌, nat_le, unwrap_or, bytes_eq, AllByRecursion, cases_Bool, test_of_equal, bytes_eq_same, equal_of_bytes_eq}
 use Rattle.sap_bits.specs.declared.Op1.{Op1}
 use Rattle.sap_bits.specs.declared.Op2.{Op2}
 use Rattle.sap_bits.specs.declared.Op2.TheVariants.{Add, Sub, Mul, And, Or, Xor, Eq, Ne, Lt, Le, Shl, Shr}
-use Rattle.sap_lemmas.proofs.Numbers.{test_of_equal}
-use Rattle.sap_lemmas.proofs.Texts.{bytes_eq_same, equal_of_bytes_eq}
-use Rattle.sap_maps.specs.Maps.{Name}
-use Rattle.sap_maps.specs.Scope.{Scope, find}
+use Rattle.sap_maps.specs.Prelude.{Name, Scope, find}
+use Rattle.sap_net.specs.Rules.{Shapes, IsOperand, AreOperands, IsRight}
 use Rattle.sap_net.specs.declared.parts.Operand.{Operand}
 use Rattle.sap_net.specs.declared.parts.Operand.TheVariants.{Named, Constant}
 use Rattle.sap_net.specs.declared.parts.Right.{Right}
 use Rattle.sap_net.specs.declared.parts.Right.TheVariants.{Copy, One, Two, Choose, Concat, Slice, Cell}
-use Rattle.sap_net.specs.Rules.{Shapes, IsOperand, AreOperands, IsRight}
 use Rattle.sap_fold.specs.declared.rules.Outcome.{Outcome}
 use Rattle.sap_fold.specs.declared.rules.Outcome.TheVariants.{Keep, Condition, First, Second, Number, NotCondition, NotFirst, NotSecond, ConditionAndFirst, ConditionOrSecond}
 use Rattle.sap_fold.specs.Folding.{or_else, is_number, is_bit, is_full, same_operand, fold_one, fold_constants, fold_shift, fold_operator, fold_two, fold_choose, of_one, of_two, of_choose, folded}

@@ -1,19 +1,8 @@
 -- A walk over wires that differ and fold no further only renames what they read.
-use Rattle.std.proofs.Common.{◌≡◌, ℕ, List, [], ◌∷◌, ◌++◌, Some, None, Bool, true, false, sym, ap, ◌∙◌, subst, refl, inl, inr}
-use Rattle.std.specs.Prelude.{if◌then◌else◌}
-use Rattle.std.specs.Str.{bytes_eq}
-use Rattle.std.specs.List.{AllByRecursion}
-use Rattle.std.proofs.lemmas.Bool.{cases_Bool}
-use Rattle.sap_lemmas.proofs.Everywhere.{all_append, all_follow}
-use Rattle.sap_lemmas.proofs.Texts.{equal_of_bytes_eq}
-use Rattle.sap_maps.specs.Maps.{Name}
-use Rattle.sap_maps.specs.Scope.{Scope, find}
+use Rattle.sap_lemmas.proofs.Common.{◌≡◌, ℕ, List, [], ◌∷◌, ◌++◌, Some, None, Bool, true, false, sym, ap, ◌∙◌, subst, refl, inl, inr, if◌then◌else◌, bytes_eq, AllByRecursion, cases_Bool, all_append, all_follow, equal_of_bytes_eq}
+use Rattle.sap_maps.specs.Prelude.{Name, Scope, find}
 use Rattle.sap_maps.proofs.Scopes.{apart, found_behind}
-use Rattle.sap_net.specs.Net.{Net}
-use Rattle.sap_net.specs.Names.{is_among}
-use Rattle.sap_net.specs.IsNetlist.{first_readable, shapes, IsNetlist}
-use Rattle.sap_net.specs.Rules.{Shapes, IsOperand, IsRight, AreWires, readable_after}
-use Rattle.sap_net.specs.NameMaps.{Puts}
+use Rattle.sap_net.specs.Prelude.{Net, is_among, first_readable, shapes, IsNetlist, Shapes, IsOperand, IsRight, AreWires, readable_after, Puts}
 use Rattle.sap_net.specs.declared.parts.Operand.{Operand}
 use Rattle.sap_net.specs.declared.parts.Operand.TheVariants.{Named}
 use Rattle.sap_net.specs.declared.parts.Right.{Right}

@@ -1,15 +1,12 @@
 -- Right sides with what stands for their operands in their place: they fit, and have the same value.
-use Rattle.std.proofs.Common.{◌≡◌, ℕ, List, [], ◌∷◌, map, length, Option, Some, sym, ap, ◌∙◌, subst, refl, arith}
-use Rattle.std.specs.Prelude.{unwrap_or}
+use Rattle.sap_lemmas.proofs.Common.{◌≡◌, ℕ, List, [], ◌∷◌, map, length, Option, Some, sym, ap, ◌∙◌, subst, refl, arith, unwrap_or}
 use Rattle.sap_bits.specs.Arithmetic.{slice_of}
-use Rattle.sap_maps.specs.Maps.{Name, Valuation}
-use Rattle.sap_maps.specs.Scope.{Scope, find}
+use Rattle.sap_maps.specs.Prelude.{Name, Valuation, Scope, find}
+use Rattle.sap_net.specs.Prelude.{Shapes, IsOperand, AreOperands, IsRight, operand_value, operand_width, operands_width, operands_value, right_value}
 use Rattle.sap_net.specs.declared.parts.Operand.{Operand}
 use Rattle.sap_net.specs.declared.parts.Operand.TheVariants.{Named, Constant}
 use Rattle.sap_net.specs.declared.parts.Right.{Right}
 use Rattle.sap_net.specs.declared.parts.Right.TheVariants.{Copy, One, Two, Choose, Concat, Slice, Cell}
-use Rattle.sap_net.specs.Rules.{Shapes, IsOperand, AreOperands, IsRight}
-use Rattle.sap_net.specs.Values.{operand_value, operand_width, operands_width, operands_value, right_value}
 use Rattle.sap_net.proofs.Settle.{CellsAgree}
 use Rattle.sap_net.proofs.Within.{WidthsAre, operand_is_wide}
 use Rattle.sap_fold.proofs.Slicing.{sliced_fits, sliced_value}

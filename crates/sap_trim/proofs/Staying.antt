@@ -1,19 +1,13 @@
 -- Names that have one number as long as a register has its start.
-use Rattle.std.proofs.Common.{◌≡◌, ℕ, ◌==◌, List, [], ◌∷◌, ◌++◌, Option, Some, None, Bool, true, false, sym, ap, ◌∙◌, subst, refl, inl, inr}
-use Rattle.std.specs.Prelude.{if◌then◌else◌, IfSome}
-use Rattle.std.specs.Str.{bytes_eq}
-use Rattle.std.proofs.lemmas.Bool.{cases_Bool, and_parts}
-use Rattle.sap_lemmas.proofs.Numbers.{equal_of_test}
-use Rattle.sap_lemmas.proofs.Texts.{equal_of_bytes_eq}
+use Rattle.sap_lemmas.proofs.Common.{◌≡◌, ℕ, ◌==◌, List, [], ◌∷◌, ◌++◌, Option, Some, None, Bool, true, false, sym, ap, ◌∙◌, subst, refl, inl, inr, if◌then◌else◌, IfSome, bytes_eq, cases_Bool, and_parts, equal_of_test, equal_of_bytes_eq}
 use Rattle.sap_maps.specs.Maps.{Name, Valuation}
-use Rattle.sap_net.specs.Values.{operand_value, right_value, Holds}
+use Rattle.sap_net.specs.Prelude.{operand_value, right_value, Holds, Puts}
 use Rattle.sap_net.specs.declared.parts.Operand.{Operand}
 use Rattle.sap_net.specs.declared.parts.Operand.TheVariants.{Named, Constant}
 use Rattle.sap_net.specs.declared.parts.Right.{Right}
 use Rattle.sap_net.specs.declared.parts.Right.TheVariants.{Copy, Choose}
 use Rattle.sap_net.specs.declared.parts.Register.{Register}
 use Rattle.sap_net.specs.declared.parts.Wire.{Wire}
-use Rattle.sap_net.specs.NameMaps.{Puts}
 use Rattle.sap_fold.proofs.Provided.{holds_both}
 use Rattle.sap_trim.specs.declared.stays.Stay.{Stay}
 use Rattle.sap_trim.specs.declared.stays.Stay.TheVariants.{Always, While}

@@ -1,21 +1,11 @@
 -- What is known when the ports and items above have been read.
-use Rattle.std.proofs.Common.{◌≡◌, ◌∙◌, ℕ, List, [], ◌∷◌, ◌++◌, Bool, true, false, refl, ap, sym, append_assoc}
-use Rattle.std.proofs.lemmas.Grind.{flat_map-append}
-use Rattle.std.proofs.lemmas.List.{append-nil, map-append}
-use Rattle.std.proofs.lemmas.List.Folds.{list_any-append}
-use Rattle.std.specs.Prelude.{Option, Some, None, if◌then◌else◌, ◌||◌, map, flat_map}
-use Rattle.std.specs.Option.{option_or}
-use Rattle.std.specs.Str.{bytes_eq}
-use Rattle.sap_lemmas.proofs.Bools.{or_false}
+use Rattle.sap_lemmas.proofs.Common.{◌≡◌, ◌∙◌, ℕ, List, [], ◌∷◌, ◌++◌, Bool, true, false, refl, ap, sym, append_assoc, flat_map-append, append-nil, map-append, list_any-append, Option, Some, None, if◌then◌else◌, ◌||◌, map, flat_map, option_or, bytes_eq, or_false}
 use Rattle.sap_vtext.specs.Items.{Port, Item, File}
 use Rattle.sap_vtext.specs.Items as item
 use Rattle.sap_vtext.specs.Names.{Shape, Setting, Declaration, port_declaration, item_declarations, declarations, shape_in, Above, shape_above, is_set, is_target, target_of, is_integer, has_integer, Known, known_above}
 use Rattle.sap_vjudge.specs.Known.{nothing_known, after_port, after_item, after_ports, after_items}
 use Rattle.sap_vjudge.specs.Listed.{known_at_end}
 use Rattle.sap_vjudge.proofs.Tabled.{alike, option_or-none}
-
-abbrev pub under_port : Above → Port → Above
-under_port a p = record { ports = a.ports ++ p ∷ []; items = a.items }
 
 abbrev pub under_item : Above → Item → Above
 under_item a x = record { ports = a.ports; items = a.items ++ x ∷ [] }

@@ -1,7 +1,5 @@
 -- The best of some faults is their first.
-use Rattle.std.proofs.Common.{◌≡◌, ◌<◌, ◌≤◌, ◌⊎◌, inr, ℕ, List, Some, None, Bool, true, false, refl, subst, arith}
-use Rattle.std.proofs.lemmas.Grind.{common_steps}
-use Rattle.std.specs.Prelude.{nat_lt, nat_le, ◌==◌, ◌||◌, ◌&&◌}
+use Rattle.sap_lemmas.proofs.Common.{◌≡◌, ◌<◌, ◌≤◌, ◌⊎◌, inr, ℕ, List, Some, None, Bool, true, false, refl, subst, arith, common_steps, nat_lt, nat_le, ◌==◌, ◌||◌, ◌&&◌}
 use Rattle.sap_text.proofs.BestLemmas as best
 use Rattle.sap_text.specs.Best.{StandsIn}
 use Rattle.sap_vjudge.specs.FirstFault.{number}

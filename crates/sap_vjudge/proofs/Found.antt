@@ -1,11 +1,5 @@
 -- Each fault that is listed stands in the file.
-use Rattle.std.proofs.Common.{◌≡◌, ◌≢◌, ◌∙◌, ℕ, ◌+◌, ◌<◌, ◌≤◌, ◌⊎◌, List, [], ◌∷◌, ◌++◌, Bool, true, false, refl, ap, ap₂, sym, subst, append_assoc, arith, true≢false, inl, inr}
-use Rattle.std.proofs.lemmas.Grind.{common_steps}
-use Rattle.std.proofs.lemmas.List.{append-nil, map-append}
-use Rattle.std.specs.Prelude.{Option, Some, None, is_some, ◌||◌, ◌&&◌, ◌==◌, not, nat_lt, nat_le, map, flat_map}
-use Rattle.std.specs.List.{list_any}
-use Rattle.sap_lemmas.proofs.Bools.{and_left, and_right}
-use Rattle.std.proofs.lemmas.Bool.{ltb-true, not-true, or_cases}
+use Rattle.sap_lemmas.proofs.Common.{◌≡◌, ◌≢◌, ◌∙◌, ℕ, ◌+◌, ◌<◌, ◌≤◌, ◌⊎◌, List, [], ◌∷◌, ◌++◌, Bool, true, false, refl, ap, ap₂, sym, subst, append_assoc, arith, true≢false, inl, inr, common_steps, append-nil, map-append, Option, Some, None, is_some, ◌||◌, ◌&&◌, ◌==◌, not, nat_lt, nat_le, map, flat_map, list_any, and_left, and_right, ltb-true, not-true, or_cases}
 use Rattle.sap_vtext.specs.Items.{Mention, Number, Constant, Operand, Port, Item, File}
 use Rattle.sap_vtext.specs.Items as item
 use Rattle.sap_vtext.specs.Names.{Shape, wire, memory, Setting, assign, initial, always, Declaration, port_declaration, item_declarations, declarations, Above, shape_above, is_set, has_integer, IsItemOf, Target, target_of, Known, known_above}

@@ -1,6 +1,5 @@
 -- The best of the listed faults is the first that stands.
-use Rattle.std.proofs.Common.{◌≡◌, ℕ, ◌≤◌, arith, inl, inr}
-use Rattle.std.specs.Prelude.{Some, None}
+use Rattle.sap_lemmas.proofs.Common.{◌≡◌, ℕ, ◌≤◌, arith, inl, inr, Some, None}
 use Rattle.sap_vtext.specs.Items.{File}
 use Rattle.sap_vtext.specs.Faults.{IsFaultless}
 use Rattle.sap_vjudge.specs.declared.code.Code.{Code}

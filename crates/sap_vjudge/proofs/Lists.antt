@@ -1,6 +1,5 @@
 -- The faults of one item, of one port, and of lists.
-use Rattle.std.proofs.Common.{◌≡◌, List, [], ◌∷◌, ◌++◌, refl}
-use Rattle.std.specs.Prelude.{flat_map}
+use Rattle.sap_lemmas.proofs.Common.{◌≡◌, List, [], ◌∷◌, ◌++◌, refl, flat_map}
 use Rattle.sap_vtext.specs.Items.{Item, Port, File}
 use Rattle.sap_vtext.specs.Names.{port_declaration, item_declarations, Known}
 use Rattle.sap_vtext.specs.Faults.{uses, operand_uses, operand_constants}

@@ -1,7 +1,5 @@
 -- Loops over lists of what has faults, each by what is known when it comes.
-use Rattle.std.proofs.Common.{◌≡◌, ◌∙◌, ℕ, zero, suc, ◌+◌, ◌<◌, ◌≤◌, List, [], ◌∷◌, ◌++◌, length, get_or, drop, sym, ap, ap₂, arith, add-one}
-use Rattle.std.specs.Prelude.{Option}
-use Rattle.std.proofs.lemmas.List.{drop_all}
+use Rattle.sap_lemmas.proofs.Common.{◌≡◌, ◌∙◌, ℕ, zero, suc, ◌+◌, ◌<◌, ◌≤◌, List, [], ◌∷◌, ◌++◌, length, get_or, drop, sym, ap, ap₂, arith, add-one, Option, drop_all}
 use Rattle.sap_vjudge.specs.Best.{Fault, best_of}
 use Rattle.sap_vjudge.proofs.Noting.{best_of-append, best_of-none}
 

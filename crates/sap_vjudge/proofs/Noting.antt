@@ -1,7 +1,5 @@
 -- The first of what is listed, found one after another.
-use Rattle.std.proofs.Common.{◌≡◌, List, [], ◌∷◌, ◌++◌, Option, refl}
-use Rattle.std.proofs.lemmas.Grind.{flat_map-append}
-use Rattle.std.proofs.lemmas.List.{append-nil}
+use Rattle.sap_lemmas.proofs.Common.{◌≡◌, List, [], ◌∷◌, ◌++◌, Option, refl, flat_map-append, append-nil}
 use Rattle.sap_vtext.specs.Items.{Mention, Operand, Number, Constant}
 use Rattle.sap_vtext.specs.Names.{Declaration, Known}
 use Rattle.sap_vtext.specs.Faults.{Use}

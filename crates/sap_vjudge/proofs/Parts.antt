@@ -1,7 +1,5 @@
 -- The sum of the widths of parts, one after another.
-use Rattle.std.proofs.Common.{◌≡◌, ◌∙◌, ℕ, ◌+◌, ◌<◌, ◌≤◌, List, length, get_or, drop, refl, sym, ap, arith}
-use Rattle.std.specs.Prelude.{Option, Some, None}
-use Rattle.std.proofs.lemmas.List.{drop_all}
+use Rattle.sap_lemmas.proofs.Common.{◌≡◌, ◌∙◌, ℕ, ◌+◌, ◌<◌, ◌≤◌, List, length, get_or, drop, refl, sym, ap, arith, Option, Some, None, drop_all}
 use Rattle.sap_vtext.specs.Names.{Known}
 use Rattle.sap_vtext.specs.Widths.{add_widths, parts_width, operand_width}
 use Rattle.sap_vparse.specs.declared.items.Operand.{Operand}

@@ -1,13 +1,7 @@
 -- Powers of two are the numbers with one bit set.
-use Rattle.std.proofs.Common.{◌≡◌, ◌≢◌, ◌∙◌, ℕ, zero, suc, ◌+◌, ◌*◌, ◌/◌, ◌^◌, ◌<◌, ◌≤◌, ◌⊎◌, true, false, refl, ap, sym, arith, inl, inr}
-use Rattle.std.proofs.lemmas.Nat.{ones_cat, zero_from_ones, ones_le_self, pow_below, pow_pos}
-use Rattle.std.proofs.lemmas.Grind.{common_steps}
-use Rattle.std.proofs.Math.Nat.{pow-suc}
-use Rattle.std.proofs.Math.Pow.{pow_mono}
-use Rattle.std.specs.Prelude.{◌==◌, ◌&&◌, not, nat_le}
+use Rattle.sap_lemmas.proofs.Common.{◌≡◌, ◌≢◌, ◌∙◌, ℕ, zero, suc, ◌+◌, ◌*◌, ◌/◌, ◌^◌, ◌<◌, ◌≤◌, ◌⊎◌, true, false, refl, ap, sym, arith, inl, inr, pow_below, common_steps, pow-suc, pow_mono, ◌==◌, ◌&&◌, not, nat_le, count_ones, and_left, and_right}
+use Rattle.std.proofs.lemmas.Nat.{ones_cat, zero_from_ones, ones_le_self, pow_pos}
 use Rattle.std.specs.Int.{is_power_of_two}
-use Rattle.std.specs.Int.RustNames.{count_ones}
-use Rattle.sap_lemmas.proofs.Bools.{and_left, and_right}
 use Rattle.sap_vtext.specs.Faults.{HasIndex}
 use Rattle.sap_vjudge.specs.Listed.{is_depth, is_other}
 

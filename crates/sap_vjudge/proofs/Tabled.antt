@@ -1,12 +1,6 @@
 -- What a table says, and what it says after a name is put into it.
-use Rattle.std.proofs.Common.{◌≡◌, ◌∙◌, ℕ, List, [], ◌∷◌, Bool, true, false, cond, refl, ap, ap₂, sym, Vec, Global, true≢false}
-use Rattle.std.proofs.lemmas.Cmp.{nat_list_eq_equiv}
-use Rattle.std.proofs.lemmas.Slice.Eq.{bytes_eq-Decides}
-use Rattle.std.specs.Map.{lookup}
-use Rattle.std.specs.Prelude.{Option, Some, None, if◌then◌else◌, ◌||◌, ◌&&◌}
-use Rattle.std.specs.Option.{option_or}
-use Rattle.std.specs.Str.{bytes_eq}
-use Rattle.sap_lemmas.proofs.Bools.{and_false, and_true, or_false}
+use Rattle.sap_lemmas.proofs.Common.{◌≡◌, ◌∙◌, ℕ, List, [], ◌∷◌, Bool, true, false, cond, refl, ap, ap₂, sym, true≢false, nat_list_eq_equiv, bytes_eq-Decides, lookup, Option, Some, None, if◌then◌else◌, ◌||◌, ◌&&◌, option_or, bytes_eq, and_false, and_true, or_false}
+use Rattle.std.proofs.Common.{Vec, Global}
 use Rattle.sap_vtext.specs.Names.{Shape, Setting, same_setting, Known}
 use Rattle.sap_vjudge.specs.declared.entry.Entry.{Entry}
 use Rattle.sap_vjudge.specs.declared.table.Table.{Table}

@@ -1,9 +1,5 @@
 -- The tests of widths say what the width rules ask.
-use Rattle.std.proofs.Common.{◌≡◌, ◌∙◌, ℕ, ◌<◌, [], ◌∷◌, Bool, true, false, refl, ap, sym, arith, true≢false, inl, inr}
-use Rattle.std.proofs.lemmas.Grind.{common_steps}
-use Rattle.std.specs.Prelude.{Option, Some, None, ◌||◌}
-use Rattle.std.specs.List.{list_any}
-use Rattle.sap_lemmas.proofs.Bools.{or_true}
+use Rattle.sap_lemmas.proofs.Common.{◌≡◌, ◌∙◌, ℕ, ◌<◌, [], ◌∷◌, Bool, true, false, refl, ap, sym, arith, true≢false, inl, inr, common_steps, Option, Some, None, ◌||◌, list_any, or_true}
 use Rattle.sap_text.specs.Best.{StandsIn}
 use Rattle.sap_vtext.specs.Widths.{Pairs, Differ}
 use Rattle.sap_vjudge.specs.Listed.{differ, too_wide}

@@ -1,17 +1,8 @@
 -- What the lexer finds is what stands at the front of a text.
-use Rattle.std.proofs.Common.{◌≡◌, ◌<◌, ◌+◌, ◌^◌, ℕ, List, [], ◌∷◌, length, take, drop, Option, Some, None, Bool, true, false, cond, not, refl, sym, ap, subst, ◌∙◌, arith, eqb}
-use Rattle.std.proofs.lemmas.Grind.{common_steps}
-use Rattle.std.proofs.lemmas.List.{drop-drop}
+use Rattle.sap_lemmas.proofs.Common.{◌≡◌, ◌<◌, ◌+◌, ◌^◌, ℕ, List, [], ◌∷◌, length, take, drop, Option, Some, None, Bool, true, false, cond, not, refl, sym, ap, subst, ◌∙◌, arith, eqb, common_steps, drop-drop, ◌&&◌, nat_lt, nat_eq, find, slice_index, take_while, codes, is_ascii_digit, prefix_len, starts_with, bytes_eq, digits_value, and_false, and_true, test_symmetric}
 use Rattle.std.proofs.lemmas.List.Folds.{length-prefix_len}
-use Rattle.std.specs.Prelude.{◌&&◌, nat_lt, nat_eq, find, slice_index, take_while, codes}
-use Rattle.std.specs.Char.{is_ascii_digit}
-use Rattle.std.specs.List.{prefix_len, starts_with}
-use Rattle.std.specs.Str.{bytes_eq}
-use Rattle.std.specs.Str.Parse.{digits_value}
-use mathlib.Core.Bool.{and_comm}
-use Rattle.sap_lemmas.proofs.Bools.{and_false, and_true}
 use Rattle.sap_lemmas.proofs.Lists.{index_drop}
-use Rattle.sap_lemmas.proofs.Numbers.{test_symmetric}
+use mathlib.Core.Bool.{and_comm}
 use Rattle.sap_net.specs.Names.{is_initial, is_inner}
 use Rattle.sap_vtext.specs.Lexing as l
 use Rattle.sap_vtext.specs.Lexing.{word_text, sign_text, words, is_blank, is_in_line, sign_or_bad, sign_front, name_front, number_front, constant_front, digits_front, digits_of_front, front}

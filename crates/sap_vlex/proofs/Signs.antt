@@ -1,7 +1,5 @@
 -- No sign of two bytes stands at the front of a text of one.
-use Rattle.std.proofs.Common.{◌≡◌, ◌<◌, ℕ, List, [], ◌∷◌, length, None, refl, arith, eqb}
-use Rattle.std.specs.Prelude.{slice_index}
-use Rattle.sap_lemmas.proofs.Bools.{and_false}
+use Rattle.sap_lemmas.proofs.Common.{◌≡◌, ◌<◌, ℕ, List, [], ◌∷◌, length, None, refl, arith, eqb, slice_index, and_false}
 use Rattle.sap_vlex.specs.Lexemes.{pair_sign}
 
 half_a_pair : (byte : ℕ) → pair_sign byte 0 ≡ None

@@ -1,6 +1,5 @@
 -- A reader that faults where a part of it does.
-use Rattle.std.proofs.Common.{◌≡◌, List, Result, Ok, Err, sym, subst, ◌∙◌}
-use Rattle.std.specs.Prelude.{IfOk}
+use Rattle.sap_lemmas.proofs.Common.{◌≡◌, List, Result, Ok, Err, sym, subst, ◌∙◌, IfOk}
 use Rattle.sap_vtext.specs.Tokens.{Token}
 use Rattle.sap_vparse.specs.Reading.{Goes, Outcome, Stops, reads}
 use Rattle.sap_vparse.specs.Rows.{GoesOn, StopsOn, reads_row}

@@ -1,9 +1,8 @@
 -- The front of a list of tokens.
-use Rattle.std.proofs.Common.{◌≡◌, ◌<◌, ◌≤◌, ◌+◌, ℕ, List, [], ◌∷◌, length, drop, get_or, ap, refl, sym, None, ◌≢◌, ◌∙◌, arith, drop-cons}
-use Rattle.std.proofs.lemmas.Grind.{common_steps}
-use Rattle.sap_lemmas.proofs.Numbers.{one_more}
+use Rattle.sap_lemmas.proofs.Common.{◌≡◌, ◌<◌, ◌≤◌, ◌+◌, ℕ, List, [], ◌∷◌, length, drop, get_or, ap, refl, sym, None, ◌≢◌, ◌∙◌, arith, common_steps, one_more}
+use Rattle.std.proofs.Common.{drop-cons}
 use Rattle.sap_vtext.specs.Tokens as t
-use Rattle.sap_vparse.specs.Reading.{Passes, constant_in, front_constant, front_name, front_number, head, head_of, here, name_in, number_in, of_nothing, Head}
+use Rattle.sap_vparse.specs.Reading.{constant_in, front_constant, front_name, front_number, head, head_of, here, name_in, number_in, of_nothing, Head}
 use Rattle.sap_vlex.specs.Spelling.{kind_of_token, token_of, tokens_of}
 use Rattle.sap_vlex.specs.declared.token.Token.{Token}
 
@@ -72,6 +71,3 @@ nothing_left (x ∷ ts) e = absurd (some x.kind e) where
   some (t.name x) e = cc
   some (t.number x n) e = cc
   some (t.constant x n) e = cc
-
-pub pass_shorter : {p q : List t.Token} {place : ℕ} → Passes p place q → length q < length p
-pass_shorter h = omega (arith, ap length h.parts)

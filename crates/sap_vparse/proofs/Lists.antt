@@ -1,7 +1,5 @@
 -- Lists that grow at their end, seen through a view.
-use Rattle.std.proofs.Common.{◌≡◌, ◌∙◌, List, [], ◌∷◌, ◌++◌, ap, sym, append_assoc}
-use Rattle.std.specs.Prelude.{map}
-use Rattle.std.proofs.lemmas.List.{map-append}
+use Rattle.sap_lemmas.proofs.Common.{◌≡◌, ◌∙◌, List, [], ◌∷◌, ◌++◌, ap, sym, append_assoc, map, map-append}
 
 pub pushed : {A B : Type 0} (f : A → B) (old : List A) (x : A) (new : List A) (more : List B) → new ≡ old ++ x ∷ [] → map f old ++ (f x ∷ more) ≡ map f new ++ more
 pushed f old x new more e =

@@ -1,6 +1,5 @@
 -- No token leaves a symbol of the table out.
-use Rattle.std.proofs.Common.{◌≢◌, ℕ, List, [], ◌∷◌, Bool, true, false, subst, eqb}
-use Rattle.std.specs.Prelude.{◌&&◌}
+use Rattle.sap_lemmas.proofs.Common.{◌≢◌, ℕ, List, [], ◌∷◌, Bool, true, false, subst, eqb, ◌&&◌}
 use Rattle.sap_vtext.specs.Tokens as t
 use Rattle.sap_vparse.specs.Table as s
 use Rattle.sap_vparse.specs.Table.{Symbol, Row, next}

@@ -1,6 +1,5 @@
 -- The read fault of a text is where the walk stops, and a text has one reading.
-use Rattle.std.proofs.Common.{◌≡◌, ◌+◌, ℕ, List, [], ◌∷◌, ◌++◌, length, drop, None, Result, Ok, Err, IfOk, IfErr, refl, sym, ap, subst, ◌∙◌, append_assoc, arith}
-use Rattle.std.proofs.lemmas.List.{append-nil}
+use Rattle.sap_lemmas.proofs.Common.{◌≡◌, ◌+◌, ℕ, List, [], ◌∷◌, ◌++◌, length, drop, None, Result, Ok, Err, IfOk, IfErr, refl, sym, ap, subst, ◌∙◌, append_assoc, arith, append-nil}
 use Rattle.sap_vtext.proofs.LexingLemmas.{front_at_end}
 use Rattle.sap_vtext.specs.Grammar.{IsFile}
 use Rattle.sap_vtext.specs.Items.{File}

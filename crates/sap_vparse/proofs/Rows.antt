@@ -1,6 +1,5 @@
 -- Readers of tokens in a row.
-use Rattle.std.proofs.Common.{◌≡◌, ◌≤◌, ◌<◌, ◌+◌, ℕ, List, [], ◌∷◌, ◌++◌, Ok, length, drop, get_or, refl, sym, subst, ◌∙◌}
-use Rattle.std.proofs.lemmas.List.{at_drop_all, at_drop_more}
+use Rattle.sap_lemmas.proofs.Common.{◌≡◌, ◌≤◌, ◌<◌, ◌+◌, ℕ, List, [], ◌∷◌, ◌++◌, Ok, length, drop, get_or, refl, sym, subst, ◌∙◌, at_drop_all, at_drop_more}
 use Rattle.sap_vtext.specs.Tokens as t
 use Rattle.sap_vparse.specs.Reading.{reads, steps}
 use Rattle.sap_vparse.specs.Rows.{Part, single, several, AreFixed, done, ◌then◌, IsFixed, in_turn, reads_row, symbol_of, symbols_of}

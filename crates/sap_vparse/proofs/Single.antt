@@ -1,11 +1,8 @@
 -- What the walk does with a symbol that is a single token.
-use Rattle.std.proofs.Common.{◌≡◌, ◌≢◌, ◌<◌, ℕ, List, [], ◌∷◌, length, Option, Some, None, Ok, Err, Bool, true, false, refl, sym, ap, ◌∙◌, arith, eqb}
-use Rattle.std.specs.Prelude.{◌==◌, ◌&&◌, if◌then◌else◌}
-use Rattle.sap_lemmas.proofs.Numbers.{test_of_same}
-use Rattle.std.proofs.lemmas.Bool.{eqb-true}
+use Rattle.sap_lemmas.proofs.Common.{◌≡◌, ◌≢◌, ◌<◌, ℕ, List, [], ◌∷◌, length, Option, Some, None, Ok, Err, Bool, true, false, refl, sym, ap, ◌∙◌, arith, eqb, ◌==◌, ◌&&◌, if◌then◌else◌, test_of_same, eqb-true}
 use Rattle.sap_vtext.specs.Tokens as t
 use Rattle.sap_vtext.specs.Tokens.{IsToken}
-use Rattle.sap_vparse.specs.Reading.{Passes, Head, ahead_of, constant_in, front_constant, front_name, front_number, head, head_of, name_in, number_in, of_name, of_nothing, of_number, of_sign, of_word, plain, reads, steps}
+use Rattle.sap_vparse.specs.Reading.{Passes, Head, ahead_of, constant_in, front_constant, front_name, front_number, head, head_of, name_in, number_in, of_name, of_sign, of_word, plain, reads, steps}
 use Rattle.sap_vlex.specs.Spelling.{sign_of, word_of}
 use Rattle.sap_vparse.specs.Table as s
 use Rattle.sap_vparse.specs.Table.{Symbol, first, grammar, if_same, may_be_empty, next, sign_number, word_number}
@@ -290,34 +287,6 @@ unfolding declared_word
 declared_word_back w.Module = refl
 declared_word_back _ = refl
 
-one_sign_of : (x y : Sign) → sign_of x ≡ sign_of y → x ≡ y
-one_sign_of x y e = sym (declared_sign_back x) ∙ ap (λ z. declared_sign (sign_number z)) e ∙ declared_sign_back y
-
-one_word_of : (x y : Word) → word_of x ≡ word_of y → x ≡ y
-one_word_of x y e = sym (declared_word_back x) ∙ ap (λ z. declared_word (word_number z)) e ∙ declared_word_back y
-
-head_sign : {x y : t.Sign} → of_sign x ≡ of_sign y → x ≡ y
-head_sign e = cc
-
-head_word : {x y : t.Word} → of_word x ≡ of_word y → x ≡ y
-head_word e = cc
-
-pub ahead_sign : (x : Ahead) (y : Sign) → ahead_of x ≡ of_sign (sign_of y) → x ≡ a.Sign y
-ahead_sign (a.Sign x) y e = ap a.Sign (one_sign_of x y (head_sign e))
-ahead_sign _ y e = absurd (cc)
-
-pub ahead_word : (x : Ahead) (y : Word) → ahead_of x ≡ of_word (word_of y) → x ≡ a.Word y
-ahead_word (a.Word x) y e = ap a.Word (one_word_of x y (head_word e))
-ahead_word _ y e = absurd (cc)
-
 pub ahead_name : (x : Ahead) → ahead_of x ≡ of_name → x ≡ a.Name
 ahead_name a.Name e = refl
 ahead_name _ e = absurd (cc)
-
-pub ahead_number : (x : Ahead) → ahead_of x ≡ of_number → x ≡ a.Number
-ahead_number a.Number e = refl
-ahead_number _ e = absurd (cc)
-
-pub ahead_nothing : (x : Ahead) → ahead_of x ≡ of_nothing → x ≡ a.Nothing
-ahead_nothing a.Nothing e = refl
-ahead_nothing _ e = absurd (cc)

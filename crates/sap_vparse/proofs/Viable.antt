@@ -1,7 +1,5 @@
 -- Each symbol can be spelled, and tokens that the walk takes go on as the grammar has it.
-use Rattle.std.proofs.Common.{◌≡◌, ℕ, List, [], ◌∷◌, ◌++◌, Bool, true, false, refl, sym, ap, subst, ◌∙◌, eqb, ◌⊎◌, inl, inr}
-use Rattle.std.specs.Prelude.{◌&&◌}
-use Rattle.std.proofs.lemmas.Bool.{eqb-true}
+use Rattle.sap_lemmas.proofs.Common.{◌≡◌, ℕ, List, [], ◌∷◌, ◌++◌, Bool, true, false, refl, sym, ap, subst, ◌∙◌, eqb, ◌⊎◌, inl, inr, ◌&&◌, eqb-true}
 use Rattle.sap_bits.specs.declared.Op1.TheVariants as unary
 use Rattle.sap_bits.specs.declared.Op2.TheVariants as binary
 use Rattle.sap_vtext.specs.Grammar as g

@@ -1,19 +1,9 @@
 -- The printed first contents and edges have no fault.
-use Rattle.std.proofs.Common.{◌≡◌, ℕ, arith, List, [], ◌∷◌, ◌++◌, true, false, Some, refl, sym, ap, ◌∙◌, append_assoc}
-use Rattle.std.specs.Prelude.{◌||◌, map}
-use Rattle.std.specs.List.{AllByRecursion}
-use Rattle.std.specs.Str.{bytes_eq}
-use Rattle.sap_lemmas.proofs.Bools.{or_false}
-use Rattle.sap_lemmas.proofs.Everywhere.{all_append}
-use Rattle.std.proofs.lemmas.Bool.{or_left, or_parts}
-use Rattle.sap_maps.specs.Maps.{Name}
-use Rattle.sap_maps.specs.Scope.{find}
+use Rattle.sap_lemmas.proofs.Common.{◌≡◌, ℕ, arith, List, [], ◌∷◌, ◌++◌, true, false, Some, refl, sym, ap, ◌∙◌, append_assoc, ◌||◌, map, AllByRecursion, bytes_eq, or_false, all_append, or_left, or_parts}
+use Rattle.sap_maps.specs.Prelude.{Name, find}
+use Rattle.sap_net.specs.Prelude.{is_among, AreDistinct, Net, IsWidth, IsRegister, IsMemory, IsNetlist, readable}
 use Rattle.sap_net.specs.declared.parts.Register.{Register}
 use Rattle.sap_net.specs.declared.parts.Memory.{Memory}
-use Rattle.sap_net.specs.Names.{is_among, AreDistinct}
-use Rattle.sap_net.specs.Net.{Net}
-use Rattle.sap_net.specs.Rules.{IsWidth, IsRegister, IsMemory}
-use Rattle.sap_net.specs.IsNetlist.{IsNetlist, readable}
 use Rattle.sap_vtext.specs.Items as item
 use Rattle.sap_vtext.specs.Names.{register, memory, shape_above, item_declarations, Setting, assign, initial, always, target_of, is_target, is_set, has_integer, known_above}
 use Rattle.sap_vtext.specs.Widths.{constant_fits, operand_width, value_width, register_width, memory_width}

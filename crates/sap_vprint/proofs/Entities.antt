@@ -1,19 +1,12 @@
 -- What a netlist has is declared once, with widths and depths in range.
-use Rattle.std.proofs.Common.{◌≡◌, ℕ, List, [], ◌∷◌, ◌++◌, false, Some, refl, sym, ap, ◌∙◌, subst, inl, inr}
-use Rattle.std.specs.Prelude.{map}
-use Rattle.std.specs.List.{AllByRecursion}
-use Rattle.std.proofs.lemmas.Bool.{cases_Bool}
-use Rattle.sap_maps.specs.Maps.{Name}
-use Rattle.sap_maps.specs.Scope.{Scope, find}
+use Rattle.sap_lemmas.proofs.Common.{◌≡◌, ℕ, List, [], ◌∷◌, ◌++◌, false, Some, refl, sym, ap, ◌∙◌, subst, inl, inr, map, AllByRecursion, cases_Bool}
+use Rattle.sap_maps.specs.Prelude.{Name, Scope, find}
+use Rattle.sap_net.specs.Prelude.{is_among, AreDistinct, Net, Shapes, IsWidth, IsMemory, AreWires, AreValues, AreMemories, IsNetlist, names_of, input_names, wire_names, register_names, memory_names, first_readable, readable, shapes}
 use Rattle.sap_net.specs.declared.parts.Input.{Input}
 use Rattle.sap_net.specs.declared.parts.Wire.{Wire}
 use Rattle.sap_net.specs.declared.parts.Register.{Register}
 use Rattle.sap_net.specs.declared.parts.Memory.{Memory}
-use Rattle.sap_net.specs.Names.{is_among, AreDistinct}
-use Rattle.sap_net.specs.Net.{Net}
 use Rattle.sap_net.proofs.RulesLemmas.{wires_new, wires_distinct}
-use Rattle.sap_net.specs.Rules.{Shapes, IsWidth, IsMemory, AreWires, AreValues, AreMemories}
-use Rattle.sap_net.specs.IsNetlist.{IsNetlist, names_of, input_names, wire_names, register_names, memory_names, first_readable, readable, shapes}
 use Rattle.sap_text.specs.Best.{StandsIn}
 use Rattle.sap_vtext.specs.Names.{Shape, input, wire, register, memory}
 use Rattle.sap_vtext.specs.Faults.{HasIndex}

@@ -1,28 +1,18 @@
 -- A netlist's names are written as names, and its numbers are small.
-use Rattle.std.proofs.Common.{◌≡◌, ℕ, ◌^◌, ◌<◌, ◌≤◌, arith, List, [], ◌∷◌, length, true, Option, Some, None, refl, sym, ap, ◌∙◌, subst, ⊎_elim}
-use Rattle.std.specs.Prelude.{◌||◌, ◌&&◌, not, map, is_some}
-use Rattle.std.specs.List.{AllByRecursion, list_all}
-use Rattle.std.specs.Str.{bytes_eq}
-use Rattle.std.proofs.lemmas.Bool.{cases_Bool, and_parts, not-true}
-use Rattle.std.proofs.Math.Pow.{pow_mono}
-use Rattle.sap_lemmas.proofs.Everywhere.{all_append, none_found}
-use Rattle.sap_lemmas.proofs.Texts.{equal_of_bytes_eq}
+use Rattle.sap_lemmas.proofs.Common.{◌≡◌, ℕ, ◌^◌, ◌<◌, ◌≤◌, arith, List, [], ◌∷◌, length, true, Option, Some, None, refl, sym, ap, ◌∙◌, subst, ⊎_elim, ◌||◌, ◌&&◌, not, map, is_some, AllByRecursion, list_all, bytes_eq, cases_Bool, and_parts, not-true, pow_mono, all_append, equal_of_bytes_eq}
+use Rattle.sap_lemmas.proofs.Everywhere.{none_found}
 use Rattle.sap_text.proofs.NamesLemmas.{initial_inner}
 use Rattle.sap_vtext.proofs.LexingLemmas.{keywords_are}
-use Rattle.sap_maps.specs.Maps.{Name}
-use Rattle.sap_maps.specs.Scope.{Scope, find}
+use Rattle.sap_maps.specs.Prelude.{Name, Scope, find}
+use Rattle.sap_net.specs.Prelude.{is_initial, is_inner, is_word, is_keyword, is_name, is_among, Net, IsWidth, IsOperand, AreOperands, IsRight, AreWires, readable_after, IsNetlist, PortShows, first_readable, readable, shapes}
 use Rattle.sap_net.specs.declared.parts.Operand.{Operand}
 use Rattle.sap_net.specs.declared.parts.Operand.TheVariants.{Named, Constant}
 use Rattle.sap_net.specs.declared.parts.Right.{Right}
-use Rattle.sap_net.specs.declared.parts.Right.TheVariants as right
 use Rattle.sap_net.specs.declared.parts.Port.{Port}
 use Rattle.sap_net.specs.declared.parts.Wire.{Wire}
 use Rattle.sap_net.specs.declared.parts.Register.{Register}
 use Rattle.sap_net.specs.declared.parts.Memory.{Memory}
-use Rattle.sap_net.specs.Names.{is_initial, is_inner, is_word, is_keyword, is_name, is_among}
-use Rattle.sap_net.specs.Net.{Net}
-use Rattle.sap_net.specs.Rules.{IsWidth, IsOperand, AreOperands, IsRight, AreWires, readable_after}
-use Rattle.sap_net.specs.IsNetlist.{IsNetlist, PortShows, first_readable, readable, shapes}
+use Rattle.sap_net.specs.declared.parts.Right.TheVariants as right
 use Rattle.sap_vtext.specs.Items as item
 use Rattle.sap_vtext.specs.Names.{Shape, input, wire, register, memory, port_shape}
 use Rattle.sap_vtext.specs.Widths.{value_width}

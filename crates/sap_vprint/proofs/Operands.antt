@@ -1,25 +1,16 @@
 -- What a wire, a register or a memory reads is used without a fault where it can be read.
-use Rattle.std.proofs.Common.{◌≡◌, ℕ, ◌+◌, ◌-◌, ◌^◌, ◌<◌, ◌≤◌, List, [], ◌∷◌, Bool, true, false, cond, ltb, leb, Option, Some, None, refl, sym, ap, ◌∙◌, subst, arith}
-use Rattle.std.specs.Prelude.{◌&&◌, map, flat_map}
-use Rattle.std.specs.List.{AllByRecursion}
-use Rattle.std.proofs.lemmas.Bool.Decides.{nat_tests}
-use Rattle.sap_lemmas.proofs.Everywhere.{all_append}
-use Rattle.sap_lemmas.proofs.Numbers.{same_power}
+use Rattle.sap_lemmas.proofs.Common.{◌≡◌, ℕ, ◌+◌, ◌-◌, ◌^◌, ◌<◌, ◌≤◌, List, [], ◌∷◌, Bool, true, false, cond, ltb, leb, Option, Some, None, refl, sym, ap, ◌∙◌, subst, arith, ◌&&◌, map, flat_map, AllByRecursion, nat_tests, all_append, same_power}
 use Rattle.sap_bits.specs.Arithmetic.{width1, width2}
 use Rattle.sap_bits.specs.declared.Op1.{Op1}
 use Rattle.sap_bits.specs.declared.Op1.TheVariants as unary
 use Rattle.sap_bits.specs.declared.Op2.{Op2}
 use Rattle.sap_bits.specs.declared.Op2.TheVariants as binary
-use Rattle.sap_maps.specs.Maps.{Name}
-use Rattle.sap_maps.specs.Scope.{Scope, find}
-use Rattle.sap_maps.specs.Term.{CountFits}
+use Rattle.sap_maps.specs.Prelude.{Name, Scope, find, CountFits}
+use Rattle.sap_net.specs.Prelude.{Net, IsWidth, IsOperand, AreOperands, IsRight, shapes}
 use Rattle.sap_net.specs.declared.parts.Operand.{Operand}
 use Rattle.sap_net.specs.declared.parts.Operand.TheVariants.{Named, Constant}
 use Rattle.sap_net.specs.declared.parts.Right.{Right}
 use Rattle.sap_net.specs.declared.parts.Right.TheVariants as right
-use Rattle.sap_net.specs.Net.{Net}
-use Rattle.sap_net.specs.Rules.{IsWidth, IsOperand, AreOperands, IsRight}
-use Rattle.sap_net.specs.IsNetlist.{shapes}
 use Rattle.sap_vtext.specs.Items as item
 use Rattle.sap_vtext.specs.Names.{Shape, input, wire, register, memory, Above, shape_above, assign, is_set, known_above}
 use Rattle.sap_vtext.specs.Widths.{shape_width, constant_fits, constant_width, value_width, operand_width, add_widths, parts_width, slice_width, unary_rule, binary_rule, unary_pairs, binary_pairs, right_pairs, Differ, memory_width}

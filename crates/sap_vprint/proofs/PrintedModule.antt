@@ -1,17 +1,13 @@
 -- The text that is printed for a netlist is a module, with this netlist.
-use Rattle.std.proofs.Common.{◌≡◌, List, [], ◌∷◌, ◌++◌, length, drop, Option, Some, None, refl, sym, ap, ◌∙◌, subst}
-use Rattle.std.specs.Prelude.{map}
-use Rattle.std.proofs.lemmas.List.{map-append}
-use Rattle.sap_maps.specs.Maps.{Name}
-use Rattle.sap_maps.specs.Scope.{find}
+use Rattle.sap_lemmas.proofs.Common.{◌≡◌, List, [], ◌∷◌, ◌++◌, length, drop, Option, Some, None, refl, sym, ap, ◌∙◌, subst, map, map-append}
+use Rattle.sap_maps.specs.Prelude.{Name, find}
+use Rattle.sap_net.specs.Prelude.{Net, IsNetlist}
 use Rattle.sap_net.specs.declared.parts.Operand.{Operand}
 use Rattle.sap_net.specs.declared.parts.Operand.TheVariants.{Named, Constant}
 use Rattle.sap_net.specs.declared.parts.Right.{Right}
-use Rattle.sap_net.specs.declared.parts.Right.TheVariants as right
 use Rattle.sap_net.specs.declared.parts.Port.{Port}
 use Rattle.sap_net.specs.declared.parts.Memory.{Memory}
-use Rattle.sap_net.specs.Net.{Net}
-use Rattle.sap_net.specs.IsNetlist.{IsNetlist}
+use Rattle.sap_net.specs.declared.parts.Right.TheVariants as right
 use Rattle.sap_vtext.specs.Names.{Shape, input, wire, register, memory}
 use Rattle.sap_vtext.specs.Faults.{IsFaultless}
 use Rattle.sap_vtext.specs.Items as item

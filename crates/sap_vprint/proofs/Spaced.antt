@@ -1,8 +1,6 @@
 -- Pieces that don't run into one another are read as the tokens that they stand for.
-use Rattle.std.proofs.Common.{◌≡◌, ◌+◌, ℕ, List, [], ◌∷◌, ◌++◌, length, drop, Bool, true, false, eqb, refl, sym, subst}
-use Rattle.std.specs.Prelude.{slice_index, ◌||◌, ◌&&◌, decimal}
+use Rattle.sap_lemmas.proofs.Common.{◌≡◌, ◌+◌, ℕ, List, [], ◌∷◌, ◌++◌, length, drop, Bool, true, false, eqb, refl, sym, subst, slice_index, ◌||◌, ◌&&◌, decimal, and_parts}
 use Rattle.sap_lemmas.proofs.Lists.{drop_front}
-use Rattle.std.proofs.lemmas.Bool.{and_parts}
 use Rattle.sap_net.specs.Names.{is_inner}
 use Rattle.sap_vtext.specs.Items.{Operand}
 use Rattle.sap_vtext.specs.Items as item

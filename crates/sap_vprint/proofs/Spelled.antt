@@ -1,16 +1,10 @@
 -- What is written is taken as the token that it stands for.
-use Rattle.std.proofs.Common.{◌≡◌, ◌<◌, ◌+◌, ◌^◌, ℕ, List, [], ◌∷◌, ◌++◌, length, take, drop, Bool, true, false, cond, eqb, refl, sym, ap, ◌∙◌, arith, Some, append_assoc, lit<}
-use Rattle.std.proofs.lemmas.Bool.Decides.{nat_tests}
-use Rattle.std.specs.Prelude.{slice_index, ◌||◌, ◌&&◌, nat_eq, not, decimal, codes, take_while}
-use Rattle.std.specs.List.{starts_with, list_all}
-use Rattle.std.specs.Char.{is_ascii_digit}
-use Rattle.std.specs.Str.Parse.{digits_value}
-use Rattle.std.proofs.lemmas.Fmt.{digits_decimal, digits_value-decimal, decimal_nonempty, first_decimal}
+use Rattle.sap_lemmas.proofs.Common.{◌≡◌, ◌<◌, ◌+◌, ◌^◌, ℕ, List, [], ◌∷◌, ◌++◌, length, take, drop, Bool, true, false, cond, eqb, refl, sym, ap, ◌∙◌, arith, Some, append_assoc, lit<, nat_tests, slice_index, ◌||◌, ◌&&◌, nat_eq, not, decimal, codes, take_while, starts_with, list_all, is_ascii_digit, digits_value, digits_decimal, digits_value-decimal, decimal_nonempty, take_front, digits_model, and_from, and_parts}
+use Rattle.std.proofs.lemmas.Fmt.{first_decimal}
 use Rattle.sap_lemmas.proofs.Bools.{fourth_case, third_case}
 use Rattle.sap_lemmas.proofs.Everywhere.{prefix_run}
-use Rattle.sap_lemmas.proofs.Lists.{drop_front, quoted_length, take_front}
-use Rattle.sap_lemmas.proofs.Texts.{digits_model}
-use Rattle.std.proofs.lemmas.Bool.{and_from, and_left, and_parts}
+use Rattle.sap_lemmas.proofs.Lists.{drop_front, quoted_length}
+use Rattle.std.proofs.lemmas.Bool.{and_left}
 use Rattle.sap_net.specs.Names.{is_initial, is_inner}
 use Rattle.sap_vtext.specs.Items.{Constant}
 use Rattle.sap_vtext.specs.Items as item

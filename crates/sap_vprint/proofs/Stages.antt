@@ -1,22 +1,11 @@
 -- The printed items, one kind behind another, have no fault.
-use Rattle.std.proofs.Common.{◌≡◌, ℕ, ◌+◌, ◌-◌, ◌<◌, List, [], ◌∷◌, ◌++◌, true, false, Option, Some, None, refl, sym, ap, ◌∙◌, subst, inl, inr, arith, append_assoc}
-use Rattle.std.specs.Prelude.{◌⊎◌, ◌||◌, map, flat_map}
-use Rattle.std.specs.List.{AllByRecursion}
-use Rattle.std.specs.Str.{bytes_eq}
-use Rattle.std.proofs.lemmas.Bool.{cases_Bool}
+use Rattle.sap_lemmas.proofs.Common.{◌≡◌, ℕ, ◌+◌, ◌-◌, ◌<◌, List, [], ◌∷◌, ◌++◌, true, false, Option, Some, None, refl, sym, ap, ◌∙◌, subst, inl, inr, arith, append_assoc, ◌⊎◌, ◌||◌, map, flat_map, AllByRecursion, bytes_eq, cases_Bool, or_assoc, or_false, or_true, equal_of_bytes_eq, flat_map-append, append-nil}
 use Rattle.std.proofs.lemmas.Nat.{pow_pos}
-use Rattle.sap_lemmas.proofs.Bools.{or_assoc, or_false, or_true}
-use Rattle.sap_lemmas.proofs.Texts.{equal_of_bytes_eq}
-use Rattle.std.proofs.lemmas.Grind.{flat_map-append}
-use Rattle.std.proofs.lemmas.List.{append-nil}
 use Rattle.sap_vtext.proofs.FaultsLemmas.{set_append}
-use Rattle.sap_maps.specs.Maps.{Name}
-use Rattle.sap_maps.specs.Scope.{Scope, find}
+use Rattle.sap_maps.specs.Prelude.{Name, Scope, find}
+use Rattle.sap_net.specs.Prelude.{Net, IsWidth, IsRight, AreWires, readable_after, IsNetlist, shapes, readable}
 use Rattle.sap_net.specs.declared.parts.Wire.{Wire}
 use Rattle.sap_net.specs.declared.parts.Memory.{Memory}
-use Rattle.sap_net.specs.Net.{Net}
-use Rattle.sap_net.specs.Rules.{IsWidth, IsRight, AreWires, readable_after}
-use Rattle.sap_net.specs.IsNetlist.{IsNetlist, shapes, readable}
 use Rattle.sap_vtext.specs.Items as item
 use Rattle.sap_vtext.specs.Names.{Shape, input, wire, register, memory, shape_above, declarations, port_declaration, item_declarations, shape_in, Setting, assign, initial, Target, target_of, is_target, is_set, is_integer, has_integer}
 use Rattle.sap_vtext.specs.Widths.{value_width, wire_width}

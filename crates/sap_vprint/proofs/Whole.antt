@@ -1,24 +1,12 @@
 -- The printed file is good.
-use Rattle.std.proofs.Common.{◌≡◌, ℕ, ◌-◌, ◌^◌, ◌≤◌, arith, List, [], ◌∷◌, ◌++◌, Bool, true, false, Option, Some, None, refl, sym, ap, ◌∙◌, subst, inl, inr, ⊎_elim, append_assoc}
-use Rattle.std.specs.Prelude.{◌⊎◌, ◌||◌, map, flat_map}
-use Rattle.std.specs.List.{AllByRecursion}
-use Rattle.std.specs.Str.{bytes_eq}
-use Rattle.std.proofs.lemmas.Bool.{cases_Bool, or_left, or_right}
-use Rattle.sap_lemmas.proofs.Numbers.{same_power}
-use Rattle.sap_lemmas.proofs.Texts.{bytes_eq_symmetric, equal_of_bytes_eq}
-use Rattle.std.proofs.lemmas.Grind.{flat_map-append}
-use Rattle.std.proofs.lemmas.List.{append-nil}
+use Rattle.sap_lemmas.proofs.Common.{◌≡◌, ℕ, ◌-◌, ◌^◌, ◌≤◌, arith, List, [], ◌∷◌, ◌++◌, Bool, true, false, Option, Some, None, refl, sym, ap, ◌∙◌, subst, inl, inr, ⊎_elim, append_assoc, ◌⊎◌, ◌||◌, map, flat_map, AllByRecursion, bytes_eq, cases_Bool, or_left, or_right, same_power, bytes_eq_symmetric, equal_of_bytes_eq, flat_map-append, append-nil}
 use Rattle.sap_vtext.proofs.FaultsLemmas.{all_alike, set_append}
-use Rattle.sap_maps.specs.Maps.{Name}
-use Rattle.sap_maps.specs.Scope.{find}
+use Rattle.sap_maps.specs.Prelude.{Name, find}
+use Rattle.sap_net.specs.Prelude.{is_among, AreDistinct, Net, IsWidth, IsRegister, IsMemory, IsNetlist, PortShows, register_names, wire_names, memory_names, first_readable, readable, shapes}
 use Rattle.sap_net.specs.declared.parts.Port.{Port}
 use Rattle.sap_net.specs.declared.parts.Input.{Input}
 use Rattle.sap_net.specs.declared.parts.Register.{Register}
 use Rattle.sap_net.specs.declared.parts.Memory.{Memory}
-use Rattle.sap_net.specs.Names.{is_among, AreDistinct}
-use Rattle.sap_net.specs.Net.{Net}
-use Rattle.sap_net.specs.Rules.{IsWidth, IsRegister, IsMemory}
-use Rattle.sap_net.specs.IsNetlist.{IsNetlist, PortShows, register_names, wire_names, memory_names, first_readable, readable, shapes}
 use Rattle.sap_vtext.specs.Items as item
 use Rattle.sap_text.specs.Best.{StandsIn}
 use Rattle.sap_vtext.specs.Names.{Shape, input, wire, register, memory, port_shape, declarations, item_declarations, shape_in, Setting, assign, initial, always, target_of, is_target, is_set, has_integer}

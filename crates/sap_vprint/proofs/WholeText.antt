@@ -1,11 +1,8 @@
 -- The parts of the printed text are the text of the printed file.
-use Rattle.std.proofs.Common.{◌≡◌, ℕ, List, [], ◌∷◌, ◌++◌, length, drop, refl, sym, ap, ◌∙◌, append_assoc, subst}
-use Rattle.std.specs.Prelude.{codes, map, flat_map}
-use Rattle.std.proofs.lemmas.Grind.{flat_map-append}
+use Rattle.sap_lemmas.proofs.Common.{◌≡◌, ℕ, List, [], ◌∷◌, ◌++◌, length, drop, refl, sym, ap, ◌∙◌, append_assoc, subst, codes, map, flat_map, flat_map-append}
 use Rattle.sap_maps.specs.Scope.{find}
+use Rattle.sap_net.specs.Prelude.{Net, IsNetlist}
 use Rattle.sap_net.specs.declared.parts.Port.{Port}
-use Rattle.sap_net.specs.Net.{Net}
-use Rattle.sap_net.specs.IsNetlist.{IsNetlist}
 use Rattle.sap_vtext.specs.Items.{Item}
 use Rattle.sap_vtext.specs.Modules.{IsModule}
 use Rattle.sap_vprint.specs.Parts.{front_text, inner_text, body_text}

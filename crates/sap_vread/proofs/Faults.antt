@@ -1,6 +1,5 @@
 -- A text is a module, or has one fault.
-use Rattle.std.proofs.Common.{◌≡◌, ◌≢◌, ◌≤◌, ℕ, List, refl, sym, ap, subst, ◌∙◌, arith, Result, Err, IsOkUnless}
-use Rattle.std.specs.Prelude.{◌==◌, if◌then◌else◌}
+use Rattle.sap_lemmas.proofs.Common.{◌≡◌, ◌≢◌, ◌≤◌, ℕ, List, refl, sym, ap, subst, ◌∙◌, arith, Result, Err, IsOkUnless, ◌==◌, if◌then◌else◌}
 use Rattle.sap_vtext.specs.Faults.{IsFaultless}
 use Rattle.sap_vtext.specs.Items.{File}
 use Rattle.sap_vtext.specs.Modules.{IsModule, netlist_of}

@@ -1,9 +1,5 @@
 -- Faults don't depend on places: a file without its places has none where the file has none.
-use Rattle.std.proofs.Common.{◌≡◌, ℕ, List, [], ◌∷◌, ◌++◌, cond, Option, Some, refl, sym, ap, ◌∙◌, subst}
-use Rattle.std.specs.Prelude.{◌||◌, map, flat_map, IsSome, option_map}
-use Rattle.std.specs.Str.{bytes_eq}
-use Rattle.std.proofs.Common.{inl, inr}
-use Rattle.std.proofs.lemmas.List.{map-append}
+use Rattle.sap_lemmas.proofs.Common.{◌≡◌, ℕ, List, [], ◌∷◌, ◌++◌, cond, Option, Some, refl, sym, ap, ◌∙◌, subst, ◌||◌, map, flat_map, IsSome, option_map, bytes_eq, inl, inr, map-append}
 use Rattle.sap_vtext.specs.Items.{Mention, Operand, Right, Item, Port, File}
 use Rattle.sap_vtext.specs.Items as item
 use Rattle.sap_vtext.specs.Faults

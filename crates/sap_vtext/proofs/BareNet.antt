@@ -1,14 +1,13 @@
 -- A netlist doesn't depend on places.
-use Rattle.std.proofs.Common.{◌≡◌, ℕ, List, [], ◌∷◌, Option, refl, ap, ◌∙◌}
-use Rattle.std.specs.Prelude.{map, flat_map, unwrap_or}
+use Rattle.sap_lemmas.proofs.Common.{◌≡◌, ℕ, List, [], ◌∷◌, Option, refl, ap, ◌∙◌, map, flat_map, unwrap_or}
+use Rattle.sap_net.specs.Net.{Net}
 use Rattle.sap_net.specs.declared.parts.Operand.{Operand as NetOperand}
-use Rattle.sap_net.specs.declared.parts.Right.TheVariants as right
 use Rattle.sap_net.specs.declared.parts.Port.{Port as NetPort}
 use Rattle.sap_net.specs.declared.parts.Input.{Input}
 use Rattle.sap_net.specs.declared.parts.Wire.{Wire}
 use Rattle.sap_net.specs.declared.parts.Register.{Register}
 use Rattle.sap_net.specs.declared.parts.Memory.{Memory}
-use Rattle.sap_net.specs.Net.{Net}
+use Rattle.sap_net.specs.declared.parts.Right.TheVariants as right
 use Rattle.sap_vtext.specs.Items.{Operand, Right, Item, File}
 use Rattle.sap_vtext.specs.Items as item
 use Rattle.sap_vtext.specs.Names.{Shape, Declaration, declarations, shape_in}

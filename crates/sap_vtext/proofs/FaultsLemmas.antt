@@ -1,8 +1,5 @@
 -- On what stands in Faults: what several crates cite.
-use Rattle.std.proofs.Common.{List, [], ap, inl, inr, refl, ◌++◌, ◌∙◌, ◌∷◌, ◌≡◌}
-use Rattle.std.specs.List.{AllByRecursion}
-use Rattle.std.specs.Prelude.{◌||◌}
-use Rattle.sap_lemmas.proofs.Bools.{or_assoc}
+use Rattle.sap_lemmas.proofs.Common.{List, [], ap, inl, inr, refl, ◌++◌, ◌∙◌, ◌∷◌, ◌≡◌, AllByRecursion, ◌||◌, or_assoc}
 use Rattle.sap_maps.specs.Maps.{Name}
 use Rattle.sap_text.specs.Best.{StandsIn}
 use Rattle.sap_vtext.specs.Names.{Setting, is_set, is_target, target_of}

@@ -1,10 +1,5 @@
 -- What a file without a fault has, item by item.
-use Rattle.std.proofs.Common.{◌≡◌, ℕ, ◌+◌, ◌^◌, ◌<◌, ◌≤◌, List, [], ◌∷◌, ◌++◌, true, false, cond, Some, None, refl, sym, ap, ◌∙◌, subst, inl, inr, arith, append_assoc}
-use Rattle.std.specs.Prelude.{map, is_some}
-use Rattle.std.specs.List.{AllByRecursion}
-use Rattle.std.specs.Str.{bytes_eq}
-use Rattle.std.proofs.lemmas.Bool.{or_parts}
-use Rattle.std.proofs.lemmas.List.{append-nil}
+use Rattle.sap_lemmas.proofs.Common.{◌≡◌, ℕ, ◌+◌, ◌^◌, ◌<◌, ◌≤◌, List, [], ◌∷◌, ◌++◌, true, false, cond, Some, None, refl, sym, ap, ◌∙◌, subst, inl, inr, arith, append_assoc, map, is_some, AllByRecursion, bytes_eq, or_parts, append-nil}
 use Rattle.sap_net.specs.Names.{is_among, AreDistinct}
 use Rattle.sap_vtext.specs.Items.{Mention, Operand, Item, Port, File}
 use Rattle.sap_vtext.specs.Items as item

@@ -1,7 +1,5 @@
 -- On what stands in Lexing: what several crates cite.
-use Rattle.std.proofs.Common.{List, [], refl, ℕ, ◌≡◌}
-use Rattle.std.specs.List.{list_any}
-use Rattle.std.specs.Str.{bytes_eq}
+use Rattle.sap_lemmas.proofs.Common.{List, [], refl, ℕ, ◌≡◌, list_any, bytes_eq}
 use Rattle.sap_vtext.specs.Lexing.{bad, front, word_text, words}
 use Rattle.sap_net.specs.Names.{is_keyword}
 

@@ -110,9 +110,6 @@ operator_is binary.Le = refl
 operator_is binary.Shl = refl
 operator_is binary.Shr = refl
 
-no_operator : (s : Sign) (o : Op2) → operator_of s ≡ None → s ≡ binary_sign o → ⊥
-no_operator s o h e = let w = operator_is o in let v = ap operator_of e in cc
-
 binary_same : (o p : Op2) → binary_sign o ≡ binary_sign p → o ≡ p
 binary_same o p e = let v = operator_is o in let w = operator_is p in let u = ap operator_of e in cc
 

@@ -1,29 +1,9 @@
 -- What the rows of a table say of the walk.
-use Rattle.std.proofs.Common.{◌≡◌, ◌≢◌, List, [], ◌∷◌, ◌++◌, Ok, Err, Bool, true, false, refl, sym, ap, ◌∙◌, append_assoc}
+use Rattle.std.proofs.Common.{◌≡◌, List, [], ◌∷◌, ◌++◌, Ok, Err, Bool, true, false, refl, sym, ap, ◌∙◌}
 use Rattle.std.proofs.lemmas.List.{append-nil}
-use Rattle.sap_walk.specs.Rows.{push, first_then, firsts}
+use Rattle.sap_walk.specs.Rows.{first_then, firsts}
 use Rattle.sap_walk.specs.Walk.{Next, begins, empty_here, cannot_stand, Table, at_token, Move, not_needed, rejected, chosen, entered, if_empty, Point, settle, at_end, walk, read, steps}
 use Rattle.sap_walk.proofs.Walking.{after, walk_steps}
-
-pub push_taken : {S R : Type 0} (n : Next S R) (σ : List S) → n ≢ empty_here → push n σ ≢ empty_here
-push_taken (begins role ρ) σ h e = cc
-push_taken empty_here σ h e = h e
-push_taken cannot_stand σ h e = cc
-
--- where the first symbol is never empty, the others come behind it
-pub push_first : {S R : Type 0} (n : Next S R) (σ : List S) (m : Next S R) → n ≢ empty_here → push n σ ≡ first_then n σ m
-push_first (begins role ρ) σ m h = refl
-push_first empty_here σ m h = absurd (h refl)
-push_first cannot_stand σ m h = refl
-
-pub firsts_append : {S R : Type 0} (row : S → Next S R) (α γ : List S) → firsts row (α ++ γ) ≡ first_then (firsts row α) γ (firsts row γ)
-firsts_append row [] γ = refl
-firsts_append row (s ∷ α) γ = by_row (row s) (firsts_append row α γ) where
-  by_row : (n : Next _ _) → firsts row (α ++ γ) ≡ first_then (firsts row α) γ (firsts row γ)
-      → first_then n (α ++ γ) (firsts row (α ++ γ)) ≡ first_then (first_then n α (firsts row α)) γ (firsts row γ)
-  by_row (begins role σ) e = ap (λ x. begins role x) (sym (append_assoc σ α γ))
-  by_row empty_here e = e
-  by_row cannot_stand e = refl
 
 module _ (W : Table) where
   -- whether each of the symbols may be empty

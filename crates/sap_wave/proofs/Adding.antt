@@ -1,14 +1,9 @@
 -- The head and the blocks of a dump add up to the dump.
-use Rattle.std.proofs.Common.{◌≡◌, ℕ, ◌+◌, List, [], ◌∷◌, ◌++◌, length, map, refl, sym, ap, ◌∙◌, arith, append_assoc}
-use Rattle.std.proofs.lemmas.List.{append-nil, map-append}
-use Rattle.sap_lemmas.proofs.Lists.{length_map}
+use Rattle.sap_lemmas.proofs.Common.{◌≡◌, ℕ, ◌+◌, List, [], ◌∷◌, ◌++◌, length, map, refl, sym, ap, ◌∙◌, arith, append_assoc, append-nil, map-append, length_map}
 use Rattle.sap_maps.specs.Maps.{Valuation}
 use Rattle.sap_net.specs.Net.{Net}
 use Rattle.sap_wave.specs.declared.variable.Variable.{Variable}
-use Rattle.sap_wave.specs.Lines.{Form, text_of}
-use Rattle.sap_wave.specs.Dumps.{block_of, blocks_from, dump_text, head, last_among}
-use Rattle.sap_wave.specs.Runs.{initial_numbers, numbers_after, run_dump, variables_of}
-use Rattle.sap_wave.specs.Dumping.{Dumping, IsAfter, BlocksAddUp, with_block, last_numbers}
+use Rattle.sap_wave.specs.Prelude.{Form, text_of, block_of, blocks_from, dump_text, head, last_among, initial_numbers, numbers_after, run_dump, variables_of, Dumping, IsAfter, BlocksAddUp, with_block, last_numbers}
 use Rattle.sap_wave.proofs.Blocks.{blocks_more, last_more}
 use Rattle.sap_wave.proofs.WrittenLines.{text_append}
 use Rattle.sap_wave.proofs.Lists.{one_more_of}

@@ -1,9 +1,7 @@
 -- A block more behind others.
-use Rattle.std.proofs.Common.{◌≡◌, ℕ, suc, ◌+◌, List, [], ◌∷◌, ◌++◌, length, refl, sym, ap, ◌∙◌, arith, append_assoc}
-use Rattle.std.proofs.lemmas.List.{append-nil}
+use Rattle.sap_lemmas.proofs.Common.{◌≡◌, ℕ, suc, ◌+◌, List, [], ◌∷◌, ◌++◌, length, refl, sym, ap, ◌∙◌, arith, append_assoc, append-nil}
 use Rattle.sap_wave.specs.declared.variable.Variable.{Variable}
-use Rattle.sap_wave.specs.Lines.{Form}
-use Rattle.sap_wave.specs.Dumps.{block_of, blocks_from, last_among}
+use Rattle.sap_wave.specs.Prelude.{Form, block_of, blocks_from, last_among}
 
 pub blocks_more : (n : ℕ) (xs : List Variable) (before : List ℕ) (rest : List (List ℕ)) (after : List ℕ)
     → blocks_from n xs before (rest ++ (after ∷ [])) ≡ blocks_from n xs before rest ++ block_of (n + length rest) xs (last_among before rest) after

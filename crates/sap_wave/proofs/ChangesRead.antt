@@ -2,12 +2,7 @@
 use Rattle.std.proofs.Common.{◌≡◌, ℕ, ◌+◌, List, refl, sym, subst}
 use Rattle.sap_wave.specs.declared.fault.WaveCode.{WaveCode}
 use Rattle.sap_wave.specs.declared.variable.Variable.{Variable}
-use Rattle.sap_wave.specs.Changes.{IsChangeAt}
-use Rattle.sap_wave.specs.Faults.{IsFault, IsLeast, IsWrong}
-use Rattle.sap_wave.specs.Lines.{change, ended, form_text, IsLine}
-use Rattle.sap_wave.specs.Read.{ReadUpTo}
-use Rattle.sap_wave.specs.Reading.{OpenBlock, Takes, after, in_block}
-use Rattle.sap_wave.specs.Sound.{IsSound}
+use Rattle.sap_wave.specs.Prelude.{IsChangeAt, IsFault, IsLeast, IsWrong, change, ended, form_text, IsLine, ReadUpTo, OpenBlock, Takes, after, in_block, IsSound}
 use Rattle.sap_wave.proofs.Each.{least_stands}
 use Rattle.sap_wave.proofs.ReadUpTo.{goes_on, stops_here}
 use Rattle.sap_wave.proofs.Sounding.{sound_after}

@@ -1,18 +1,8 @@
 -- The changes of a block.
-use Rattle.std.proofs.Common.{◌≡◌, ℕ, ◌+◌, ◌<◌, ◌≤◌, ◌^◌, List, [], ◌∷◌, ◌++◌, false, Option, Some, None, length, map, get_or, set, refl, sym, ap, ◌∙◌, arith, subst, inl, inr}
-use Rattle.std.specs.Prelude.{◌≢◌, ◌==◌}
-use Rattle.std.specs.List.{AllByRecursion}
-use Rattle.std.proofs.lemmas.Bool.{cases_Bool}
-use Rattle.std.proofs.lemmas.Bool.Decides.{nat_tests}
-use Rattle.sap_lemmas.proofs.Numbers.{equal_of_test}
-use Rattle.sap_lemmas.proofs.Options.{some_same}
+use Rattle.sap_lemmas.proofs.Common.{◌≡◌, ℕ, ◌+◌, ◌<◌, ◌≤◌, ◌^◌, List, [], ◌∷◌, ◌++◌, false, Option, Some, None, length, map, get_or, set, refl, sym, ap, ◌∙◌, arith, subst, inl, inr, ◌≢◌, ◌==◌, AllByRecursion, cases_Bool, nat_tests, equal_of_test, some_same}
 use Rattle.sap_maps.specs.Ranges.{IsWidth}
-use Rattle.sap_wave.specs.Digits.{identifier, bits, bits_number}
-use Rattle.sap_wave.specs.Lines.{Form}
+use Rattle.sap_wave.specs.Prelude.{identifier, bits, bits_number, Form, OpenBlock, State, in_block, IsKnown, IsChange, is_first, changed, width_at, nothing, set_to, all_set, changes, NumbersFit}
 use Rattle.sap_wave.specs.declared.variable.Variable.{Variable}
-use Rattle.sap_wave.specs.Reading.{OpenBlock, State, in_block, IsKnown, IsChange, is_first, changed, width_at, nothing}
-use Rattle.sap_wave.specs.Dumps.{set_to, all_set, changes}
-use Rattle.sap_wave.specs.Waves.{NumbersFit}
 use Rattle.sap_wave.proofs.DigitsLemmas.{number_back, bits_read_back}
 use Rattle.sap_wave.proofs.Formed.{change_plain}
 use Rattle.sap_wave.proofs.Going.{Goes, goes_from}
@@ -77,9 +67,6 @@ one_more_change all done x xs before pre a rest k n next fs now e l p m w f h ta
       next = tail.next;
       goes = (change_plain x.width n k w.0, takes, goes_from _ _ _ fs same tail.goes);
     }
-
-nones : List Variable → List (Option ℕ)
-nones xs = map (λ x. None) xs
 
 pub all_set_goes : (all done xs : List Variable) (pre : List (Option ℕ)) (ns : List ℕ) (k next : ℕ) → all ≡ done ++ xs → k ≡ length done → k ≡ length pre → next ≤ k
     → NumbersFit xs ns → AllByRecursion (λ x. IsWidth x.width) xs

@@ -1,10 +1,5 @@
 -- Texts that are cut at a byte.
-use Rattle.std.proofs.Common.{◌≡◌, ℕ, suc, ◌+◌, ◌-◌, ◌<◌, ◌≤◌, List, [], ◌∷◌, ◌++◌, Bool, true, false, Some, None, cond, eqb, ltb, length, take, drop, refl, sym, ap, ◌∙◌, arith, subst}
-use Rattle.std.specs.Prelude.{not, ◌&&◌, position}
-use Rattle.std.specs.List.{list_all, position_or_len}
-use Rattle.std.proofs.lemmas.Bool.{eqb-true}
-use Rattle.std.proofs.lemmas.Bool.Decides.{nat_tests}
-use Rattle.std.proofs.lemmas.List.{take_all, length-drop}
+use Rattle.sap_lemmas.proofs.Common.{◌≡◌, ℕ, suc, ◌+◌, ◌-◌, ◌<◌, ◌≤◌, List, [], ◌∷◌, ◌++◌, Bool, true, false, Some, None, cond, eqb, ltb, length, take, drop, refl, sym, ap, ◌∙◌, arith, subst, not, ◌&&◌, position, list_all, position_or_len, eqb-true, nat_tests, take_all, length-drop}
 use Rattle.sap_wave.specs.Pieces.{IsCut, is_not}
 
 abbrev is_mark : ℕ → ℕ → Bool

@@ -1,20 +1,10 @@
 -- The declarations of a dump.
-use Rattle.std.proofs.Common.{◌≡◌, ℕ, ◌+◌, List, [], ◌∷◌, ◌++◌, true, false, ◌||◌, length, refl, sym, ap, ◌∙◌, subst}
-use Rattle.std.specs.List.{AllByRecursion}
-use Rattle.std.specs.Str.{bytes_eq}
-use Rattle.std.specs.Str.Parse.{digits_value}
-use Rattle.std.proofs.lemmas.List.{append-nil, map-append}
-use Rattle.sap_lemmas.proofs.Bools.{neither_left, neither_right}
-use Rattle.sap_lemmas.proofs.Texts.{bytes_eq_symmetric}
-use Rattle.sap_maps.specs.Maps.{Name}
-use Rattle.sap_maps.specs.Ranges.{IsWidth}
+use Rattle.sap_lemmas.proofs.Common.{◌≡◌, ℕ, ◌+◌, List, [], ◌∷◌, ◌++◌, true, false, ◌||◌, length, refl, sym, ap, ◌∙◌, subst, AllByRecursion, bytes_eq, digits_value, append-nil, map-append, neither_left, neither_right, bytes_eq_symmetric}
+use Rattle.sap_maps.specs.Prelude.{Name, IsWidth}
 use Rattle.sap_net.specs.Names.{is_name, is_among, AreDistinct}
 use Rattle.sap_net.proofs.NamesLemmas.{among_append}
-use Rattle.sap_wave.specs.Digits.{identifier, numeral}
+use Rattle.sap_wave.specs.Prelude.{identifier, numeral, declaring, IsVariable, names_of, declarations}
 use Rattle.sap_wave.specs.declared.variable.Variable.{Variable}
-use Rattle.sap_wave.specs.Reading.{declaring, IsVariable}
-use Rattle.sap_wave.specs.Waves.{names_of}
-use Rattle.sap_wave.specs.Dumps.{declarations}
 use Rattle.sap_wave.proofs.Formed.{variable_plain, numeral_back}
 use Rattle.sap_wave.proofs.Going.{Goes, goes_from}
 use Rattle.sap_wave.proofs.Lists.{one_more_of, one_further}

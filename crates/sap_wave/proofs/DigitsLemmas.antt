@@ -1,14 +1,7 @@
 -- Numbers as digits.
-use Rattle.std.proofs.Common.{◌≡◌, ℕ, zero, suc, ◌+◌, ◌-◌, ◌*◌, ◌/◌, ◌%◌, ◌^◌, ◌<◌, ◌≤◌, List, [], ◌∷◌, ◌++◌, Bool, true, false, nat_lt, nat_le, length, slice_index, refl, sym, ap, ◌∙◌, arith, cond, inl, inr, subst}
-use Rattle.std.specs.List.{list_all}
+use Rattle.sap_lemmas.proofs.Common.{◌≡◌, ℕ, zero, suc, ◌+◌, ◌-◌, ◌*◌, ◌/◌, ◌%◌, ◌^◌, ◌<◌, ◌≤◌, List, [], ◌∷◌, ◌++◌, Bool, true, false, nat_lt, nat_le, length, slice_index, refl, sym, ap, ◌∙◌, arith, cond, inl, inr, subst, list_all, pow-suc, pow-le-pow_right, mul-le-mul_left, mul_comm, div-mul-add, and_from, and_parts, cases_Bool, ltb-false, ltb-true, leb-true, nat_tests, length-append, common_steps, append_three}
+use Rattle.std.proofs.lemmas.Nat.{div-add-mod', div_below, mod_below, mod-mul-add}
 use native.Mathlib.Numerals.{unary_clauses}
-use Rattle.std.proofs.Math.Nat.{pow-suc, pow-le-pow_right, mul-le-mul_left, mul_comm}
-use Rattle.std.proofs.lemmas.Nat.{div-add-mod', div_below, mod_below, div-mul-add, mod-mul-add}
-use Rattle.std.proofs.lemmas.Bool.{and_from, and_parts, cases_Bool, ltb-false, ltb-true, leb-true}
-use Rattle.std.proofs.lemmas.Bool.Decides.{nat_tests}
-use Rattle.std.proofs.lemmas.List.{length-append}
-use Rattle.std.proofs.lemmas.Grind.{common_steps}
-use Rattle.sap_lemmas.proofs.Lists.{append_three}
 use Rattle.sap_wave.specs.Digits.{digits_of, spelled_behind, spelled, is_digit, are_digits, count_within, identifier_count, identifier, number_spelled, bits, bits_number, numeral, IsSpelling, OneIdentifier, BitsReadBack}
 
 pub spelled_append : (f b n : ℕ) (xs ys : List ℕ) → spelled_behind f b n (xs ++ ys) ≡ spelled_behind f b (spelled_behind f b n xs) ys

@@ -1,13 +1,8 @@
 -- The dump of a wave reads so line by line.
-use Rattle.std.proofs.Common.{◌≡◌, ℕ, ◌+◌, ◌≤◌, List, [], ◌∷◌, ◌++◌, true, Some, length, map, drop, get_or, refl, sym, ap, ◌∙◌, arith}
-use Rattle.std.specs.List.{AllByRecursion}
+use Rattle.sap_lemmas.proofs.Common.{◌≡◌, ℕ, ◌+◌, ◌≤◌, List, [], ◌∷◌, ◌++◌, true, Some, length, map, drop, get_or, refl, sym, ap, ◌∙◌, arith, AllByRecursion}
 use Rattle.sap_maps.specs.Ranges.{IsWidth}
-use Rattle.sap_wave.specs.Lines.{Form}
+use Rattle.sap_wave.specs.Prelude.{Form, OpenBlock, State, before_timescale, declaring, in_block, IsNextBlock, is_full, numbers_in, blocks_of, ReadsSo, Wave, IsFit, AreVariables, NumbersFit, numeral, declarations, changes, blocks_from, head, dump, dump_text, dump_of}
 use Rattle.sap_wave.specs.declared.variable.Variable.{Variable}
-use Rattle.sap_wave.specs.Reading.{OpenBlock, State, before_timescale, declaring, in_block, IsNextBlock, is_full, numbers_in, blocks_of, ReadsSo}
-use Rattle.sap_wave.specs.Waves.{Wave, IsFit, AreVariables, NumbersFit}
-use Rattle.sap_wave.specs.Digits.{numeral}
-use Rattle.sap_wave.specs.Dumps.{declarations, changes, blocks_from, head, dump, dump_text, dump_of}
 use Rattle.sap_wave.proofs.Formed.{timescale_plain, scope_plain, upscope_plain, end_definitions_plain, block_plain, numeral_back}
 use Rattle.sap_wave.proofs.Going.{Goes, goes_from, goes_on, goes_text}
 use Rattle.sap_wave.proofs.Lists.{one_more_of, one_further}

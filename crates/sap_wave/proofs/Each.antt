@@ -1,28 +1,14 @@
 -- Each text has a reading or a first fault.
-use Rattle.std.proofs.Common.{◌≡◌, ℕ, zero, suc, ◌+◌, ◌<◌, ◌≤◌, List, [], ◌∷◌, ◌++◌, Bool, true, false, nat_eq, Option, Some, None, drop, length, get_or, refl, sym, ap, ◌∙◌, arith, subst, inl, inr, cond}
-use Rattle.std.specs.Prelude.{◌⊎◌, ◌≢◌, ◌==◌, codes}
-use Rattle.std.specs.List.{list_all, slice_split}
-use Rattle.std.specs.Str.{byte, bytes_eq}
-use Rattle.std.specs.Str.Parse.{digits_value}
-use Rattle.std.proofs.lemmas.Bool.{and_parts, cases_Bool, cases_eq, cases_lt}
-use Rattle.std.proofs.lemmas.Bool.Decides.{nat_tests}
+use Rattle.sap_lemmas.proofs.Common.{◌≡◌, ℕ, zero, suc, ◌+◌, ◌<◌, ◌≤◌, List, [], ◌∷◌, ◌++◌, Bool, true, false, nat_eq, Option, Some, None, drop, length, get_or, refl, sym, ap, ◌∙◌, arith, subst, inl, inr, cond, ◌⊎◌, ◌≢◌, ◌==◌, codes, list_all, byte, bytes_eq, digits_value, and_parts, cases_Bool, cases_eq, cases_lt, nat_tests, equal_of_bytes_eq, bytes_eq_same, some_same}
+use Rattle.std.specs.List.{slice_split}
 use Rattle.std.proofs.lemmas.List.Splits.{slice_split_at, slice_split_none}
-use Rattle.sap_lemmas.proofs.Texts.{equal_of_bytes_eq, bytes_eq_same}
-use Rattle.sap_lemmas.proofs.Options.{some_same}
 use Rattle.sap_maps.specs.Ranges.{IsWidth}
 use Rattle.sap_net.specs.Names.{is_name, is_among}
 use Rattle.sap_wave.specs.declared.fault.WaveCode.{WaveCode}
 use Rattle.sap_wave.specs.declared.fault.WaveCode.TheVariants.{Y1, Y2, Y3, Y4, Y5}
-use Rattle.sap_wave.specs.Code.{number}
-use Rattle.sap_wave.specs.Digits.{are_digits, identifier, number_spelled, bits_number}
+use Rattle.sap_wave.specs.Prelude.{number, are_digits, identifier, number_spelled, bits_number, Form, timescale, scope, upscope, end_definitions, variable, block, change, form_text, is_id, is_formed, IsLine, OpenBlock, State, before_timescale, before_scope, declaring, before_end, before_blocks, in_block, is_for, is_first, is_full, blocks_of, width_at, number_now, IsVariable, IsKnown, IsChange, IsNextBlock, Takes, after, Reads, Ends, Misdeclared, other_id, no_width, no_name, again, Misplaced, unknown, not_later, other_width, IsIdle, IsWrong, Stands, no_form, wrong, StandsAtEnd, IsLeast, StopsFrom, IsFault, Wave, names_of, IsReading, EachWaveOrFault}
 use Rattle.sap_text.specs.Lines.{Line, lines_of}
-use Rattle.sap_wave.specs.Lines.{Form, timescale, scope, upscope, end_definitions, variable, block, change, form_text, is_id, is_formed, IsLine}
 use Rattle.sap_wave.specs.declared.variable.Variable.{Variable}
-use Rattle.sap_wave.specs.Reading.{OpenBlock, State, before_timescale, before_scope, declaring, before_end, before_blocks, in_block, is_for, is_first, is_full, blocks_of, width_at, number_now, IsVariable, IsKnown, IsChange, IsNextBlock, Takes, after, Reads, Ends}
-use Rattle.sap_wave.specs.Faults.{Misdeclared, other_id, no_width, no_name, again, Misplaced, unknown, not_later, other_width, IsIdle, IsWrong, Stands, no_form, wrong, StandsAtEnd, IsLeast, StopsFrom, IsFault}
-use Rattle.sap_wave.specs.Waves.{Wave, names_of}
-use Rattle.sap_wave.specs.Dumps.{IsReading}
-use Rattle.sap_wave.specs.Laws.{EachWaveOrFault}
 use Rattle.sap_wave.proofs.Forms.{one_form, is_no_space, are_digits_no_space, variable_formed, change_formed}
 use Rattle.sap_wave.proofs.Telling.{so_is_reading}
 

@@ -1,14 +1,9 @@
 -- Binary digits, eight at a time.
-use Rattle.std.proofs.Common.{◌≡◌, ℕ, zero, suc, ◌+◌, ◌-◌, ◌*◌, ◌/◌, ◌%◌, ◌^◌, ◌<◌, ◌≤◌, Bool, true, ◌&&◌, T, eqb, List, [], ◌∷◌, ◌++◌, length, drop, take, get_or, bit_and, refl, sym, ap, ◌∙◌, inl, inr, arith, eq-zero-or-pos, eqb→eq}
-use lib.Ieee.Fits.{and_l, and_r}
+use Rattle.sap_lemmas.proofs.Common.{◌≡◌, ℕ, zero, suc, ◌+◌, ◌-◌, ◌*◌, ◌/◌, ◌%◌, ◌^◌, ◌<◌, ◌≤◌, Bool, true, ◌&&◌, T, eqb, List, [], ◌∷◌, ◌++◌, length, drop, take, get_or, bit_and, refl, sym, ap, ◌∙◌, inl, inr, arith, eq-zero-or-pos, eqb→eq, list_all, mod-eq_of_lt, take-add, and_from, and_parts, drop_more, get_or_past, length-take-le}
 use Rattle.std.specs.Int.{from_le_bytes, w64}
-use Rattle.std.specs.List.{list_all}
-use Rattle.std.proofs.Math.Nat.{mod-eq_of_lt}
-use Rattle.std.proofs.Math.Seq.{take-add}
-use Rattle.std.proofs.lemmas.Bool.{and_from, and_parts}
-use Rattle.std.proofs.lemmas.List.{drop_more, get_or_past, length-take-le}
 use Rattle.std.proofs.lemmas.List.Folds.{list_all-append}
 use Rattle.std.proofs.lemmas.Nat.{le_bytes_8}
+use lib.Ieee.Fits.{and_l, and_r}
 use Rattle.sap_wave.specs.Digits.{bits, digits_of, is_digit, spelled, spelled_behind}
 use Rattle.sap_wave.proofs.DigitsLemmas.{bits_read_back, digit_byte, spelled_append}
 use Rattle.sap_wave.proofs.Spelled.{few_bits}

@@ -4,12 +4,7 @@ use Rattle.std.specs.Prelude.{IfErr, IfOk, MatchResult}
 use Rattle.sap_wave.specs.declared.fault.WaveCode.{WaveCode}
 use Rattle.sap_wave.specs.declared.fault.WaveFault.{WaveFault}
 use Rattle.sap_wave.specs.declared.fault.WaveFault.TheVariants.{Rule, Memory}
-use Rattle.sap_wave.specs.Waves.{Wave}
-use Rattle.sap_wave.specs.Dumps.{IsReading}
-use Rattle.sap_wave.specs.Reading.{ReadsSo}
-use Rattle.sap_wave.specs.Faults.{IsFault}
-use Rattle.sap_wave.specs.Read.{IsWaveFault}
-use Rattle.sap_wave.specs.Laws.{DumpsReadSo, OneWaveOrFault}
+use Rattle.sap_wave.specs.Prelude.{Wave, IsReading, ReadsSo, IsFault, IsWaveFault, DumpsReadSo, OneWaveOrFault}
 
 not_memory : (code : WaveCode) (line : ℕ) → Rule code line ≢ Memory
 not_memory code line e = let f : ⊥ = cc in f

@@ -1,7 +1,5 @@
 -- Lists cut into parts of as many numbers each.
-use Rattle.std.proofs.Common.{◌≡◌, ℕ, zero, suc, ◌+◌, ◌*◌, ◌-◌, ◌<◌, ◌≤◌, List, [], ◌∷◌, ◌++◌, Some, length, take, drop, refl, ap, ◌∙◌, arith}
-use Rattle.std.specs.Prelude.{slice_get}
-use Rattle.std.proofs.lemmas.List.{drop-append-le, drop-drop, length-drop, take-append-le, take_all}
+use Rattle.sap_lemmas.proofs.Common.{◌≡◌, ℕ, zero, suc, ◌+◌, ◌*◌, ◌-◌, ◌<◌, ◌≤◌, List, [], ◌∷◌, ◌++◌, Some, length, take, drop, refl, ap, ◌∙◌, arith, slice_get, drop-append-le, drop-drop, length-drop, take-append-le, take_all}
 use Rattle.std.proofs.lemmas.Nat.{row_fits}
 use Rattle.std.proofs.Math.Nat.{suc-mul}
 use Rattle.sap_wave.specs.BlockLists.{parts_of}

@@ -1,13 +1,7 @@
 -- A line is of at most one form.
-use Rattle.std.proofs.Common.{◌≡◌, ℕ, ◌+◌, ◌≤◌, List, [], ◌∷◌, ◌++◌, Bool, true, ◌&&◌, nat_lt, nat_le, nat_eq, drop, length, slice_index, refl, sym, ap, ◌∙◌, arith, cond}
-use Rattle.std.specs.Prelude.{not, ◌==◌, ◌||◌}
-use Rattle.std.specs.List.{list_all}
-use Rattle.std.specs.Str.{byte}
-use Rattle.std.proofs.lemmas.Bool.{and_from, and_parts}
-use Rattle.std.proofs.lemmas.Bool.Decides.{nat_tests}
-use Rattle.sap_wave.specs.Digits.{is_digit, are_digits}
+use Rattle.sap_lemmas.proofs.Common.{◌≡◌, ℕ, ◌+◌, ◌≤◌, List, [], ◌∷◌, ◌++◌, Bool, true, ◌&&◌, nat_lt, nat_le, nat_eq, drop, length, slice_index, refl, sym, ap, ◌∙◌, arith, cond, not, ◌==◌, ◌||◌, list_all, byte, and_from, and_parts, nat_tests}
+use Rattle.sap_wave.specs.Prelude.{is_digit, are_digits, Form, timescale, scope, upscope, end_definitions, variable, block, change, form_text, is_formed, is_number, is_id, is_piece, IsLine}
 use Rattle.sap_text.specs.Lines.{Line}
-use Rattle.sap_wave.specs.Lines.{Form, timescale, scope, upscope, end_definitions, variable, block, change, form_text, is_formed, is_number, is_id, is_piece, IsLine}
 
 abbrev pub is_no_space : ℕ → Bool
 is_no_space b = not (b == byte " ")

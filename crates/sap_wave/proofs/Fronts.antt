@@ -1,17 +1,7 @@
 -- The digits at the front of a text, and the change in its first line.
-use Rattle.std.proofs.Common.{◌≡◌, ℕ, ◌+◌, ◌-◌, ◌*◌, ◌%◌, ◌^◌, ◌<◌, ◌≤◌, List, [], ◌∷◌, ◌++◌, true, false, nat_le, nat_lt, take, length, get_or, slice_index, refl, sym, ap, ◌∙◌, arith}
-use Rattle.std.specs.Prelude.{codes}
-use Rattle.std.specs.List.{list_all}
-use Rattle.std.proofs.Math.Nat.{mod-eq_of_lt}
-use Rattle.std.proofs.lemmas.Bool.{and_from, and_parts}
-use Rattle.std.proofs.lemmas.Bool.Decides.{nat_tests}
-use Rattle.std.proofs.lemmas.List.{append_assoc, length-take-le, take_more}
+use Rattle.sap_lemmas.proofs.Common.{◌≡◌, ℕ, ◌+◌, ◌-◌, ◌*◌, ◌%◌, ◌^◌, ◌<◌, ◌≤◌, List, [], ◌∷◌, ◌++◌, true, false, nat_le, nat_lt, take, length, get_or, slice_index, refl, sym, ap, ◌∙◌, arith, codes, list_all, mod-eq_of_lt, and_from, and_parts, nat_tests, append_assoc, length-take-le, take_more, true_is_not_false}
 use Rattle.std.proofs.lemmas.List.Folds.{list_all-append}
-use Rattle.sap_lemmas.proofs.Bools.{true_is_not_false}
-use Rattle.sap_wave.specs.Changes.{IsChangeAt, IsNoChange}
-use Rattle.sap_wave.specs.Digits.{are_digits, bits_number, is_digit, spelled}
-use Rattle.sap_wave.specs.Lines.{ended, change, is_formed, is_id, IsLine}
-use Rattle.sap_wave.specs.Pieces.{IsCut, is_not}
+use Rattle.sap_wave.specs.Prelude.{IsChangeAt, IsNoChange, are_digits, bits_number, is_digit, spelled, ended, change, is_formed, is_id, IsLine, IsCut, is_not}
 use Rattle.sap_wave.proofs.Spelled.{few_bits, short_id, spelled_more}
 use Rattle.sap_wave.proofs.Forms.{SamePieces, first_same, rest_same}
 

@@ -1,8 +1,7 @@
 -- Forms that can come one after another, as text.
 use Rattle.std.proofs.Common.{◌≡◌, List, [], ◌∷◌, ◌++◌, map, refl, sym, ap, ◌∙◌, subst}
 use Rattle.sap_text.specs.Lines.{Line, lines_of}
-use Rattle.sap_wave.specs.Lines.{Form, text_of, IsLine}
-use Rattle.sap_wave.specs.Reading.{State, Takes, after, Reads}
+use Rattle.sap_wave.specs.Prelude.{Form, text_of, IsLine, State, Takes, after, Reads}
 use Rattle.sap_wave.proofs.Formed.{IsPlain}
 use Rattle.sap_wave.proofs.Lined.{ended_line, lines_more, lines_none}
 

@@ -1,12 +1,7 @@
 -- The lines of a text that is made of forms.
-use Rattle.std.proofs.Common.{◌≡◌, ℕ, zero, suc, ◌<◌, ◌≤◌, List, [], ◌∷◌, ◌++◌, Bool, true, false, length, get_or, refl, ap, ◌∙◌, arith}
-use Rattle.std.specs.Prelude.{◌==◌, if◌then◌else◌}
-use Rattle.std.specs.List.{join_with_byte, list_all, slice_split}
-use Rattle.std.proofs.lemmas.Bool.{and_parts}
-use Rattle.std.proofs.lemmas.Bool.Decides.{nat_tests}
-use Rattle.std.proofs.lemmas.List.{append-nil, append_assoc}
+use Rattle.sap_lemmas.proofs.Common.{◌≡◌, ℕ, zero, suc, ◌<◌, ◌≤◌, List, [], ◌∷◌, ◌++◌, Bool, true, false, length, get_or, refl, ap, ◌∙◌, arith, ◌==◌, if◌then◌else◌, list_all, and_parts, nat_tests, append-nil, append_assoc, test_of_positive}
+use Rattle.std.specs.List.{join_with_byte, slice_split}
 use Rattle.std.proofs.lemmas.List.Splits.{slice_split_at, slice_split_none, length-slice_split, join_with_byte-slice_split}
-use Rattle.sap_lemmas.proofs.Numbers.{test_of_positive}
 use Rattle.sap_text.specs.Blanks.{is_in_line}
 use Rattle.sap_text.specs.Places.{line}
 use Rattle.sap_text.specs.Lines.{Line, lines_between, lines_of}

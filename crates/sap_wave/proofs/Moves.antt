@@ -1,15 +1,7 @@
 -- Numbers that variables have or lack, and the lines that take them from some to others.
-use Rattle.std.proofs.Common.{◌≡◌, ℕ, zero, suc, ◌+◌, ◌<◌, ◌≤◌, ◌^◌, List, [], ◌∷◌, ◌++◌, true, Option, Some, None, length, map, get_or, set, refl, sym, ap, ◌∙◌, arith, append_assoc, inl, inr}
-use Rattle.std.specs.Prelude.{◌≢◌, ◌==◌, is_some, if◌then◌else◌}
-use Rattle.std.specs.List.{AllZip, list_all}
-use Rattle.std.proofs.lemmas.Bool.{and_parts, cases_Bool}
-use Rattle.std.proofs.lemmas.Bool.Decides.{nat_tests}
-use Rattle.sap_lemmas.proofs.Numbers.{equal_of_test}
-use Rattle.sap_wave.specs.Lines.{Form}
+use Rattle.sap_lemmas.proofs.Common.{◌≡◌, ℕ, zero, suc, ◌+◌, ◌<◌, ◌≤◌, ◌^◌, List, [], ◌∷◌, ◌++◌, true, Option, Some, None, length, map, get_or, set, refl, sym, ap, ◌∙◌, arith, append_assoc, inl, inr, ◌≢◌, ◌==◌, is_some, if◌then◌else◌, AllZip, list_all, and_parts, cases_Bool, nat_tests, equal_of_test}
+use Rattle.sap_wave.specs.Prelude.{Form, NumbersFit, set_to, all_set, changes, is_full, numbers_in, nothing, width_at}
 use Rattle.sap_wave.specs.declared.variable.Variable.{Variable}
-use Rattle.sap_wave.specs.Waves.{NumbersFit}
-use Rattle.sap_wave.specs.Dumps.{set_to, all_set, changes}
-use Rattle.sap_wave.specs.Reading.{is_full, numbers_in, nothing, width_at}
 
 -- variable k goes from one number, or none, to another
 abbrev pub move : (k : ℕ) → Variable → (before after : Option ℕ) → List Form

@@ -2,14 +2,9 @@
 use Rattle.std.proofs.Common.{◌≡◌, ℕ, ◌+◌, List, [], ◌∷◌, Bool, true, false, refl, sym, ◌∙◌, arith, inl, inr, subst}
 use Rattle.sap_wave.specs.declared.fault.WaveCode.{WaveCode}
 use Rattle.sap_wave.specs.declared.fault.WaveCode.TheVariants.{Y1, Y2, Y3, Y4, Y5}
-use Rattle.sap_wave.specs.Code.{number}
+use Rattle.sap_wave.specs.Prelude.{number, Form, timescale, scope, upscope, end_definitions, variable, block, change, IsLine, OpenBlock, State, before_timescale, before_scope, declaring, before_end, before_blocks, in_block, is_for, Takes, after, Reads, Ends, IsVariable, IsChange, ReadsSo, Misdeclared, other_id, no_width, no_name, again, Misplaced, unknown, not_later, other_width, IsWrong, Stands, no_form, wrong, StandsAtEnd, IsLeast, StopsFrom, IsFault, Wave, OneWaveOrFault}
 use Rattle.sap_text.specs.Lines.{Line, lines_of}
-use Rattle.sap_wave.specs.Lines.{Form, timescale, scope, upscope, end_definitions, variable, block, change, IsLine}
 use Rattle.sap_wave.specs.declared.variable.Variable.{Variable}
-use Rattle.sap_wave.specs.Reading.{OpenBlock, State, before_timescale, before_scope, declaring, before_end, before_blocks, in_block, is_for, Takes, after, Reads, Ends, IsVariable, IsChange, ReadsSo}
-use Rattle.sap_wave.specs.Faults.{Misdeclared, other_id, no_width, no_name, again, Misplaced, unknown, not_later, other_width, IsWrong, Stands, no_form, wrong, StandsAtEnd, IsLeast, StopsFrom, IsFault}
-use Rattle.sap_wave.specs.Waves.{Wave}
-use Rattle.sap_wave.specs.Laws.{OneWaveOrFault}
 use Rattle.sap_wave.proofs.Forms.{one_form}
 use Rattle.sap_wave.proofs.Telling.{reading_so}
 

@@ -1,15 +1,6 @@
 -- The parts of a line, as they are cut out.
-use Rattle.std.proofs.Common.{◌≡◌, ℕ, List, [], ◌∷◌, ◌++◌, true, false, ◌&&◌, drop, take, length, ◌-◌, refl, sym, ap, ◌∙◌, arith, subst}
-use Rattle.std.specs.Prelude.{codes}
-use Rattle.std.specs.List.{list_all}
-use Rattle.std.specs.Str.{bytes_eq}
-use Rattle.std.proofs.lemmas.Bool.{and_from, and_parts}
-use Rattle.std.proofs.lemmas.List.{take_all, length-drop, take-append-drop}
-use Rattle.sap_lemmas.proofs.Lists.{take_front}
-use Rattle.sap_lemmas.proofs.Texts.{bytes_eq_same, equal_of_bytes_eq}
-use Rattle.sap_lemmas.proofs.Bools.{true_is_not_false}
-use Rattle.sap_wave.specs.Lines.{ended, Form, block, change, variable, is_formed, is_number, IsLine}
-use Rattle.sap_wave.specs.Pieces.{IsCut, is_not}
+use Rattle.sap_lemmas.proofs.Common.{◌≡◌, ℕ, List, [], ◌∷◌, ◌++◌, true, false, ◌&&◌, drop, take, length, ◌-◌, refl, sym, ap, ◌∙◌, arith, subst, codes, list_all, bytes_eq, and_from, and_parts, take_all, length-drop, take-append-drop, take_front, bytes_eq_same, equal_of_bytes_eq, true_is_not_false}
+use Rattle.sap_wave.specs.Prelude.{ended, Form, block, change, variable, is_formed, is_number, IsLine, IsCut, is_not}
 use Rattle.sap_wave.proofs.Forms.{SamePieces, same_pieces, variable_formed, change_formed}
 
 -- a text and its front
@@ -109,13 +100,7 @@ declared_line text b1 h1 b2 h2 b3 h3 c1 c2 c3 both =
     let first : b1 ++ (32 ∷ (b2 ++ (32 ∷ (b3 ++ (32 ∷ codes "$end"))))) ≡ text = ap (λ (z : List ℕ). b1 ++ (32 ∷ z)) second ∙ sym c1.whole in
     record { ended = refl; text = ap (λ (z : List ℕ). codes "$var reg " ++ z) first; formed = parts.0 }
 
-pub no_front : (text w i n : List ℕ) → ((rest : List ℕ) → text ≡ codes "$var reg " ++ rest → ⊥) → IsLine (ended text) (variable w i n) → ⊥
-no_front text w i n against h = against (w ++ (32 ∷ (i ++ (32 ∷ (n ++ codes " $end"))))) (sym h.text)
-
 -- Changes.
-
-pub no_halves : (text d i : List ℕ) → list_all (is_not 32) text ≡ true → IsLine (ended (codes "b" ++ text)) (change d i) → ⊥
-no_halves text d i all h = no_cut text d i all (ap (λ (z : List ℕ). drop 1 z) (sym h.text))
 
 pub no_change : (text b h d i : List ℕ) → IsCut 32 text b h → is_formed (change b h) ≡ false → IsLine (ended (codes "b" ++ text)) (change d i) → ⊥
 no_change text b h d i c against l =
@@ -130,9 +115,6 @@ pub no_b : (text d i : List ℕ) → ((rest : List ℕ) → text ≡ codes "b" +
 no_b text d i against h = against (d ++ (32 ∷ i)) (sym h.text)
 
 -- Blocks.
-
-pub no_hash : (text n : List ℕ) → ((rest : List ℕ) → text ≡ codes "#" ++ rest → ⊥) → IsLine (ended text) (block n) → ⊥
-no_hash text n against h = against n (sym h.text)
 
 pub no_number : (text m n : List ℕ) → text ≡ codes "#" ++ m → is_number m ≡ false → IsLine (ended text) (block n) → ⊥
 no_number text m n e against h =

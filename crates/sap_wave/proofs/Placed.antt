@@ -1,7 +1,6 @@
 -- Where variables stand in a runner.
-use Rattle.std.proofs.Common.{◌≡◌, ℕ, ◌+◌, ◌<◌, List, [], ◌∷◌, ◌++◌, Option, Some, length, map, take, get_or, sym, ap, ap₂, ◌∙◌, arith}
-use Rattle.std.specs.Prelude.{slice_get}
-use Rattle.std.proofs.lemmas.List.{get_or-map, length-map, map-append, map_more}
+use Rattle.sap_lemmas.proofs.Common.{◌≡◌, ℕ, ◌+◌, ◌<◌, List, [], ◌∷◌, ◌++◌, Option, Some, length, map, take, get_or, sym, ap, ap₂, ◌∙◌, arith, slice_get, length-map, map-append, map_more}
+use Rattle.std.proofs.lemmas.List.{get_or-map}
 use Rattle.sap_maps.specs.Maps.{Name}
 use Rattle.sap_net.specs.Net.{Net}
 use Rattle.sap_cycle.specs.Running.{IsPlaceOf, value_names}

@@ -1,9 +1,8 @@
 -- Binary digits, four at a time.
-use Rattle.std.proofs.Common.{◌≡◌, ℕ, zero, suc, ◌+◌, ◌-◌, ◌*◌, ◌/◌, ◌%◌, ◌<◌, ◌≤◌, Bool, true, ◌&&◌, T, eqb, List, [], ◌∷◌, ◌++◌, length, drop, get_or, set, refl, sym, ap, ◌∙◌, inl, inr, arith, eq-zero-or-pos, eqb→eq, append_assoc}
+use Rattle.sap_lemmas.proofs.Common.{◌≡◌, ℕ, zero, suc, ◌+◌, ◌-◌, ◌*◌, ◌/◌, ◌%◌, ◌<◌, ◌≤◌, Bool, true, ◌&&◌, T, eqb, List, [], ◌∷◌, ◌++◌, length, drop, get_or, set, refl, sym, ap, ◌∙◌, inl, inr, arith, eq-zero-or-pos, eqb→eq, append_assoc, drop-append-le, drop_all}
+use Rattle.std.proofs.lemmas.Slice.{drop-append-drop}
 use lib.Ieee.Fits.{and_l, and_r}
 use native.Mathlib.Numerals.{unary_clauses}
-use Rattle.std.proofs.lemmas.List.{drop-append-le, drop_all}
-use Rattle.std.proofs.lemmas.Slice.{drop-append-drop}
 use Rattle.sap_wave.specs.Digits.{bits, digits_of}
 use Rattle.sap_wave.specs.declared.digits.TheConstants.{QUADS}
 use Rattle.sap_wave.proofs.DigitsLemmas.{digits_length}

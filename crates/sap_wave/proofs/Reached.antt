@@ -1,32 +1,16 @@
 -- What is reached by a line of its form.
-use Rattle.std.proofs.Common.{◌≡◌, ℕ, zero, suc, ◌<◌, ◌≤◌, List, [], ◌∷◌, ◌++◌, Bool, true, false, not, ◌&&◌, Option, Some, None, length, map, get_or, replicate, Vec, Global, refl, sym, ap, ◌∙◌, arith, subst}
-use Rattle.std.specs.Prelude.{IfNone, IfSome}
-use Rattle.std.specs.List.{AllByRecursion}
-use Rattle.std.specs.Map.{lookup}
-use Rattle.std.specs.Str.{bytes_eq}
-use Rattle.std.specs.Str.Parse.{digits_value}
-use Rattle.std.proofs.lemmas.List.{map-append}
-use Rattle.sap_lemmas.proofs.Bools.{true_is_not_false}
-use Rattle.sap_lemmas.proofs.Numbers.{equal_of_test, test_of_equal}
-use Rattle.sap_lemmas.proofs.Options.{some_same}
-use Rattle.sap_lemmas.proofs.Texts.{equal_of_bytes_eq}
-use Rattle.sap_maps.specs.Maps.{Name}
-use Rattle.sap_maps.specs.Ranges.{IsWidth}
-use Rattle.sap_net.specs.NameMaps.{Indexes, NameMap}
-use Rattle.sap_net.specs.Names.{is_among, is_name}
+use Rattle.sap_lemmas.proofs.Common.{◌≡◌, ℕ, zero, suc, ◌<◌, ◌≤◌, List, [], ◌∷◌, ◌++◌, Bool, true, false, not, ◌&&◌, Option, Some, None, length, map, get_or, replicate, refl, sym, ap, ◌∙◌, arith, subst, IfNone, IfSome, AllByRecursion, lookup, bytes_eq, digits_value, map-append, true_is_not_false, equal_of_test, test_of_equal, some_same, equal_of_bytes_eq}
+use Rattle.std.proofs.Common.{Vec, Global}
+use Rattle.sap_maps.specs.Prelude.{Name, IsWidth}
+use Rattle.sap_net.specs.Prelude.{Indexes, NameMap, is_among, is_name}
 use Rattle.sap_wave.specs.declared.fault.WaveCode.{WaveCode}
 use Rattle.sap_wave.specs.declared.fault.WaveCode.TheVariants.{Y1, Y5}
 use Rattle.sap_wave.specs.declared.state.Block.{Block}
 use Rattle.sap_wave.specs.declared.state.State.{State as Held}
 use Rattle.sap_wave.specs.declared.state.State.TheVariants as held
 use Rattle.sap_wave.specs.declared.variable.Variable.{Variable}
-use Rattle.sap_wave.specs.Code.{number}
-use Rattle.sap_wave.specs.Digits.{bits_number, identifier, number_spelled}
-use Rattle.sap_wave.specs.Lines.{variable}
-use Rattle.sap_wave.specs.Waves.{names_of}
-use Rattle.sap_wave.specs.Reading.{OpenBlock, declaring, in_block, blocks_of, changed, first_block, is_first, is_full, next_block, numbers_in, width_at, IsChange, IsVariable, after}
-use Rattle.sap_wave.specs.Faults.{IsIdle, IsLeast, StandsAtEnd, Misdeclared, no_width, Misplaced, not_later, other_width}
-use Rattle.sap_wave.specs.Steps.{is_number, state_of, with_number}
+use Rattle.sap_wave.specs.Prelude.{number, bits_number, identifier, number_spelled, variable, names_of, OpenBlock, declaring, in_block, blocks_of, changed, first_block, is_first, is_full, next_block, numbers_in, width_at, IsChange, IsVariable, after, IsIdle, IsLeast, StandsAtEnd, Misdeclared, no_width, Misplaced, not_later, other_width, state_of, with_number}
+use Rattle.sap_wave.specs.Steps.{is_number}
 use Rattle.sap_wave.proofs.Each.{one_least}
 use Rattle.sap_wave.proofs.Moves.{none_lacks}
 use Rattle.sap_wave.proofs.Stepping.{is_known, number_is}

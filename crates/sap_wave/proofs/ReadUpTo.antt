@@ -1,8 +1,5 @@
 -- How far a text is read.
-use Rattle.std.proofs.Common.{◌≡◌, ◌≢◌, ℕ, ◌+◌, ◌<◌, List, [], ◌∷◌, true, false, Result, Ok, Err, length, length-append, refl, sym, ap, ◌∙◌, arith, subst, inl, inr}
-use Rattle.std.specs.Prelude.{IfErr, IfOk}
-use Rattle.std.specs.List.{list_all}
-use Rattle.sap_lemmas.proofs.Bools.{true_is_not_false}
+use Rattle.sap_lemmas.proofs.Common.{◌≡◌, ◌≢◌, ℕ, ◌+◌, ◌<◌, List, [], ◌∷◌, true, false, Result, Ok, Err, length, length-append, refl, sym, ap, ◌∙◌, arith, subst, inl, inr, IfErr, IfOk, list_all, true_is_not_false}
 use Rattle.sap_wave.specs.declared.fault.WaveCode.{WaveCode}
 use Rattle.sap_wave.specs.declared.fault.WaveCode.TheVariants.{Y1}
 use Rattle.sap_wave.specs.declared.fault.WaveFault.{WaveFault}
@@ -10,14 +7,7 @@ use Rattle.sap_wave.specs.declared.fault.WaveFault.TheVariants.{Rule, Memory}
 use Rattle.sap_wave.specs.declared.state.Stop.{Stop}
 use Rattle.sap_wave.specs.declared.state.Stop.TheVariants as stop
 use Rattle.sap_text.specs.Lines.{Line, lines_of}
-use Rattle.sap_wave.specs.Lines.{ended}
-use Rattle.sap_wave.specs.Pieces.{IsCut, is_not}
-use Rattle.sap_wave.specs.Waves.{Wave}
-use Rattle.sap_wave.specs.Reading.{State, before_timescale, Reads, Ends, ReadsSo}
-use Rattle.sap_wave.specs.Faults.{IsLeast, Stands, no_form, StandsAtEnd, StopsFrom, IsFault}
-use Rattle.sap_wave.specs.Read.{IsFaultAt, IsWaveFault, ReadUpTo, fault_at}
-use Rattle.sap_wave.specs.Sound.{IsSound}
-use Rattle.sap_wave.specs.Steps.{LineRead, Reaches}
+use Rattle.sap_wave.specs.Prelude.{ended, IsCut, is_not, Wave, State, before_timescale, Reads, Ends, ReadsSo, IsLeast, Stands, no_form, StandsAtEnd, StopsFrom, IsFault, IsFaultAt, IsWaveFault, ReadUpTo, fault_at, IsSound, LineRead, Reaches}
 use Rattle.sap_wave.proofs.Each.{one_least}
 use Rattle.sap_wave.proofs.Lined.{line_last, lines_cut, lines_none}
 use Rattle.sap_wave.proofs.Sounding.{sound_after}

@@ -1,16 +1,9 @@
 -- How much room blocks take.
-use Rattle.std.proofs.Common.{◌≡◌, ℕ, ◌+◌, ◌<◌, ◌≤◌, ◌^◌, List, [], ◌∷◌, Result, Ok, Err, length, length-append, get_or, drop, ap, arith, rules, inl, inr}
-use Rattle.std.specs.Prelude.{OnErr, IsOk, ◌==◌}
-use Rattle.std.specs.Fmt.{decimal}
-use Rattle.std.proofs.lemmas.Bool.{cases_Bool}
-use Rattle.std.proofs.lemmas.Fmt.{length-decimal-le}
-use Rattle.sap_lemmas.proofs.Lists.{drop_past}
+use Rattle.sap_lemmas.proofs.Common.{◌≡◌, ℕ, ◌+◌, ◌<◌, ◌≤◌, ◌^◌, List, [], ◌∷◌, Result, Ok, Err, length, length-append, get_or, drop, ap, arith, rules, inl, inr, OnErr, ◌==◌, decimal, cases_Bool, length-decimal-le}
+use Rattle.std.specs.Prelude.{IsOk}
 use Rattle.sap_text.specs.Places.{line}
 use Rattle.sap_wave.specs.declared.variable.Variable.{Variable}
-use Rattle.sap_wave.specs.Digits.{identifier, numeral}
-use Rattle.sap_wave.specs.Lines.{block, form_text, text_of}
-use Rattle.sap_wave.specs.Dumps.{block_of, changes, set_to}
-use Rattle.sap_wave.specs.Dumping.{block_room, changes_room}
+use Rattle.sap_wave.specs.Prelude.{identifier, numeral, block, form_text, text_of, block_of, changes, set_to, block_room, changes_room}
 use Rattle.sap_wave.proofs.DigitsLemmas.{bits_read_back}
 use Rattle.sap_wave.proofs.Formed.{numeral_is_decimal}
 use Rattle.sap_wave.proofs.WrittenLines.{one_more}
@@ -21,9 +14,6 @@ room_from xs k = changes_room k (drop k xs)
 
 pub room_more : (xs : List Variable) (k : ℕ) (x : Variable) → k < length xs → x ≡ get_or xs k x → room_from xs k ≡ x.width + length (identifier k) + 3 + room_from xs (k + 1)
 room_more xs k x h e = ap (changes_room k) (one_more xs k x h e)
-
-pub room_past : (xs : List Variable) (k : ℕ) → length xs ≤ k → room_from xs k ≡ 0
-room_past xs k h = ap (changes_room k) (drop_past xs k h)
 
 set_length : (k : ℕ) (x : Variable) (n : ℕ) → length (line (form_text (set_to k x n))) ≡ x.width + length (identifier k) + 3
 set_length k x n =

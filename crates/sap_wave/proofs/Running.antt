@@ -1,34 +1,18 @@
 -- The dump of a run reads back as the run: its numbers fit.
-use Rattle.std.proofs.Common.{◌≡◌, ℕ, zero, suc, ◌<◌, ◌^◌, List, [], ◌∷◌, ◌++◌, true, false, Option, Some, None, length, map, take, refl, sym, ap, ◌∙◌, arith, subst, inl, inr}
-use Rattle.std.specs.Prelude.{unwrap_or}
-use Rattle.std.specs.List.{AllByRecursion}
-use Rattle.std.specs.Str.{bytes_eq}
-use Rattle.std.proofs.lemmas.Bool.{cases_Bool}
-use Rattle.sap_lemmas.proofs.Bools.{neither_left, neither_right}
-use Rattle.sap_lemmas.proofs.Everywhere.{all_second, all_of_map}
-use Rattle.sap_maps.specs.Maps.{Name, Valuation}
-use Rattle.sap_maps.specs.Ranges.{IsWidth}
-use Rattle.sap_maps.specs.Scope.{Scope, find}
+use Rattle.sap_lemmas.proofs.Common.{◌≡◌, ℕ, zero, suc, ◌<◌, ◌^◌, List, [], ◌∷◌, ◌++◌, true, false, Option, Some, None, length, map, take, refl, sym, ap, ◌∙◌, arith, subst, inl, inr, unwrap_or, AllByRecursion, bytes_eq, cases_Bool, neither_left, neither_right, all_second, all_of_map}
+use Rattle.sap_maps.specs.Prelude.{Name, Valuation, IsWidth, Scope, find}
 use Rattle.sap_maps.proofs.Scopes.{found_here, not_first, not_behind}
+use Rattle.sap_net.specs.Prelude.{Net, is_name, is_among, AreDistinct, Shapes, AreValues, IsRegister, operand_value, IsNetlist, PortShows, register_names, input_names, wire_names, memory_names, first_readable, readable, shapes, width_of, IsWithin, IsRunAfter, observed, initial_number, is_register}
 use Rattle.sap_net.specs.declared.parts.PortKind.{PortKind}
-use Rattle.sap_net.specs.declared.parts.PortKind.TheVariants as kind
 use Rattle.sap_net.specs.declared.parts.Port.{Port}
 use Rattle.sap_net.specs.declared.parts.Register.{Register}
-use Rattle.sap_net.specs.Net.{Net}
-use Rattle.sap_net.specs.Names.{is_name, is_among, AreDistinct}
-use Rattle.sap_net.specs.Rules.{Shapes, AreValues, IsRegister}
-use Rattle.sap_net.specs.Values.{operand_value}
-use Rattle.sap_net.specs.IsNetlist.{IsNetlist, PortShows, register_names, input_names, wire_names, memory_names, first_readable, readable, shapes, width_of}
-use Rattle.sap_net.specs.Runs.{IsWithin, IsRunAfter, observed, initial_number}
+use Rattle.sap_net.specs.declared.parts.PortKind.TheVariants as kind
 use Rattle.sap_net.proofs.NamesLemmas.{among_each, among_front, among_behind}
 use Rattle.sap_net.proofs.Observed.{observed_registers}
 use Rattle.sap_net.proofs.RulesLemmas.{values_found, values_past, readable_kept}
 use Rattle.sap_net.proofs.Within.{nexts_below, widths_are}
 use Rattle.sap_wave.specs.declared.variable.Variable.{Variable}
-use Rattle.sap_wave.specs.Waves.{AreVariables, NumbersFit, names_of}
-use Rattle.sap_net.specs.Shown.{is_register}
-use Rattle.sap_wave.specs.Runs.{variables_among, variables_of, numbers_after}
-use Rattle.sap_wave.specs.Laws.{RunsReadBack}
+use Rattle.sap_wave.specs.Prelude.{AreVariables, NumbersFit, names_of, variables_among, variables_of, numbers_after, RunsReadBack}
 
 -- The registers of a netlist.
 

@@ -1,13 +1,8 @@
 -- What is seen of the variables of a netlist.
-use Rattle.std.proofs.Common.{◌≡◌, ℕ, ◌+◌, ◌<◌, List, [], ◌∷◌, ◌++◌, true, Some, None, length, map, take, set, get_or, sym, ap, ap₂, ◌∙◌, subst}
-use Rattle.std.specs.List.{AllByRecursion}
-use Rattle.std.proofs.lemmas.List.{map-append, take_more, take_more_set}
-use Rattle.sap_maps.specs.Maps.{Name}
-use Rattle.sap_maps.specs.Scope.{Scope, find}
+use Rattle.sap_lemmas.proofs.Common.{◌≡◌, ℕ, ◌+◌, ◌<◌, List, [], ◌∷◌, ◌++◌, true, Some, None, length, map, take, set, get_or, sym, ap, ap₂, ◌∙◌, subst, AllByRecursion, map-append, take_more, take_more_set}
+use Rattle.sap_maps.specs.Prelude.{Name, Scope, find}
+use Rattle.sap_net.specs.Prelude.{Net, is_among, IsNetlist, readable, register_names}
 use Rattle.sap_net.specs.declared.parts.Register.{Register}
-use Rattle.sap_net.specs.Net.{Net}
-use Rattle.sap_net.specs.Names.{is_among}
-use Rattle.sap_net.specs.IsNetlist.{IsNetlist, readable, register_names}
 use Rattle.sap_net.proofs.NamesLemmas.{among_each}
 use Rattle.sap_cycle.proofs.Distinct.{registers_readable}
 use Rattle.sap_cycle.proofs.Learned.{all_get_or}

@@ -1,28 +1,14 @@
 -- The registers that ports show, one after another.
-use Rattle.std.proofs.Common.{◌≡◌, ℕ, zero, suc, ◌+◌, ◌<◌, List, [], ◌∷◌, ◌++◌, true, Option, Some, None, length, map, take, get_or, is_some, refl, sym, ap, ◌∙◌, arith, subst, inl, inr}
-use Rattle.std.specs.Prelude.{unwrap_or}
-use Rattle.std.specs.List.{AllByRecursion}
-use Rattle.std.specs.Option.{option_map}
-use Rattle.std.specs.Str.{bytes_eq}
-use Rattle.std.proofs.lemmas.Bool.{cases_Bool}
-use Rattle.std.proofs.lemmas.List.{map-append, take_more}
-use Rattle.sap_lemmas.proofs.Texts.{equal_of_bytes_eq}
-use Rattle.sap_maps.specs.Maps.{Name}
-use Rattle.sap_maps.specs.Scope.{find}
+use Rattle.sap_lemmas.proofs.Common.{◌≡◌, ℕ, zero, suc, ◌+◌, ◌<◌, List, [], ◌∷◌, ◌++◌, true, Option, Some, None, length, map, get_or, is_some, refl, sym, ap, ◌∙◌, arith, subst, inl, inr, unwrap_or, AllByRecursion, option_map, bytes_eq, cases_Bool, equal_of_bytes_eq}
+use Rattle.sap_maps.specs.Prelude.{Name, find}
 use Rattle.sap_net.specs.declared.parts.PortKind.TheVariants as kind
+use Rattle.sap_net.specs.Prelude.{Net, is_among, NameMap, Indexes, at_name, place_in, IsNetlist, shapes, width_of, initial_number, is_register}
 use Rattle.sap_net.specs.declared.parts.Port.{Port}
 use Rattle.sap_net.specs.declared.parts.Register.{Register}
-use Rattle.sap_net.specs.Net.{Net}
-use Rattle.sap_net.specs.Names.{is_among}
-use Rattle.sap_net.specs.NameMaps.{NameMap, Indexes, at_name, place_in}
-use Rattle.sap_net.specs.IsNetlist.{IsNetlist, shapes, width_of}
 use Rattle.sap_net.proofs.Places.{is_there, placed}
 use Rattle.sap_net.proofs.RulesLemmas.{values_past}
 use Rattle.sap_wave.specs.declared.variable.Variable.{Variable}
-use Rattle.sap_net.specs.Runs.{initial_number}
-use Rattle.sap_net.specs.Shown.{is_register}
-use Rattle.sap_wave.specs.Runs.{variables_among, initial_of}
-use Rattle.sap_wave.specs.Shown.{names_in, StandsIn}
+use Rattle.sap_wave.specs.Prelude.{variables_among, initial_of, names_in, StandsIn}
 use Rattle.sap_wave.proofs.Running.{starts, starts_found, widths_found}
 
 -- where a register of the name stands
@@ -96,28 +82,3 @@ first_added n rules r s p k e old new h =
     ∙ ap (λ (z : List Variable). old ++ initial_of n z) (sym (here n p k))
 
 -- one port more
-
-among_append : (n : Net) (ps qs : List Port) → variables_among n (ps ++ qs) ≡ variables_among n ps ++ variables_among n qs
-among_append n [] qs = refl
-among_append n (p ∷ ps) qs =
-    elim (cases_Bool (is_register p.kind)) [
-      | inl t ↦ rw t (ap (λ (z : List Variable). record { name = p.name; width = width_of n p.name } ∷ z) (among_append n ps qs))
-      | inr e ↦ rw e (among_append n ps qs)
-    ]
-
-pub variables_more : (n : Net) (ps : List Port) (i : ℕ) (p : Port) (old new : List Variable) → i < length ps → p ≡ get_or ps i p → old ≡ variables_among n (take i ps)
-    → new ≡ old ++ variables_among n (p ∷ []) → new ≡ variables_among n (take (i + 1) ps)
-variables_more n ps i p old new h e before grown =
-    let more : take (i + 1) ps ≡ take i ps ++ (p ∷ []) = take_more ps i p h ∙ ap (λ (z : Port). take i ps ++ (z ∷ [])) (sym e) in
-    grown
-    ∙ ap (λ (z : List Variable). z ++ variables_among n (p ∷ [])) before
-    ∙ sym (among_append n (take i ps) (p ∷ []))
-    ∙ ap (variables_among n) (sym more)
-
-pub first_more : (n : Net) (ps : List Port) (i : ℕ) (p : Port) (old new : List ℕ) → i < length ps → p ≡ get_or ps i p → old ≡ initial_of n (variables_among n (take i ps))
-    → new ≡ old ++ initial_of n (variables_among n (p ∷ [])) → new ≡ initial_of n (variables_among n (take (i + 1) ps))
-first_more n ps i p old new h e before grown =
-    grown
-    ∙ ap (λ (z : List ℕ). z ++ initial_of n (variables_among n (p ∷ []))) before
-    ∙ sym (map-append (λ (x : Variable). initial_number n x.name) (variables_among n (take i ps)) (variables_among n (p ∷ [])))
-    ∙ ap (initial_of n) (variables_more n ps i p (variables_among n (take i ps)) (variables_among n (take i ps) ++ variables_among n (p ∷ [])) h e refl refl)

@@ -1,23 +1,10 @@
 -- What is read is in range.
-use Rattle.std.proofs.Common.{◌≡◌, ℕ, zero, suc, ◌^◌, ◌<◌, List, [], ◌∷◌, ◌++◌, true, false, Option, Some, None, length, map, set, nat_le, refl, sym, ap, arith, subst}
-use Rattle.std.specs.List.{list_all}
-use Rattle.std.specs.Str.Parse.{digits_value}
-use Rattle.std.proofs.lemmas.Bool.{and_parts}
-use Rattle.std.proofs.lemmas.List.{map-append}
-use Rattle.sap_lemmas.proofs.Bools.{true_is_not_false}
-use Rattle.sap_lemmas.proofs.Everywhere.{all_append}
-use Rattle.sap_lemmas.proofs.Texts.{bytes_eq_apart_back}
-use Rattle.sap_maps.specs.Maps.{Name}
-use Rattle.sap_maps.specs.Ranges.{IsWidth}
+use Rattle.sap_lemmas.proofs.Common.{◌≡◌, ℕ, zero, suc, ◌^◌, ◌<◌, List, [], ◌∷◌, ◌++◌, true, false, Option, Some, None, length, map, set, nat_le, refl, sym, ap, arith, subst, list_all, digits_value, and_parts, map-append, true_is_not_false, all_append, bytes_eq_apart_back}
+use Rattle.sap_maps.specs.Prelude.{Name, IsWidth}
 use Rattle.sap_net.specs.Names.{is_among, is_name, AreDistinct}
 use Rattle.sap_net.proofs.NamesLemmas.{apart_by_membership, distinct_both}
 use Rattle.sap_wave.specs.declared.variable.Variable.{Variable}
-use Rattle.sap_wave.specs.Digits.{are_digits, bits_number, is_digit, number_spelled}
-use Rattle.sap_wave.specs.Lines.{Form, timescale, scope, upscope, end_definitions, variable, block, change, is_formed, is_id}
-use Rattle.sap_wave.specs.Waves.{names_of}
-use Rattle.sap_wave.specs.Reading.{State, before_timescale, before_scope, declaring, before_end, before_blocks, in_block, is_full, numbers_in, width_at, IsVariable, Takes, after}
-use Rattle.sap_wave.specs.Waves.{AreVariables, NumbersFit}
-use Rattle.sap_wave.specs.Sound.{IsSound, SomeFit}
+use Rattle.sap_wave.specs.Prelude.{are_digits, bits_number, is_digit, number_spelled, Form, timescale, scope, upscope, end_definitions, variable, block, change, is_formed, is_id, names_of, State, before_timescale, before_scope, declaring, before_end, before_blocks, in_block, is_full, numbers_in, width_at, IsVariable, Takes, after, AreVariables, NumbersFit, IsSound, SomeFit}
 use Rattle.sap_wave.proofs.DigitsLemmas.{spelled_below}
 
 -- Variables.

@@ -1,10 +1,5 @@
 -- The number that the first digits spell.
-use Rattle.std.proofs.Common.{◌≡◌, ℕ, zero, suc, ◌+◌, ◌-◌, ◌*◌, ◌^◌, ◌<◌, ◌≤◌, List, [], ◌∷◌, Bool, true, nat_le, Option, Some, None, length, get_or, take, drop, refl, sym, ap, ◌∙◌, arith, subst}
-use Rattle.std.specs.Prelude.{IfNone}
-use Rattle.std.specs.List.{list_all}
-use Rattle.std.proofs.Math.Nat.{pow-le-pow_right}
-use Rattle.std.proofs.lemmas.Bool.{and_parts}
-use Rattle.std.proofs.lemmas.List.{take_all, take_more, take-append-drop}
+use Rattle.sap_lemmas.proofs.Common.{◌≡◌, ℕ, zero, suc, ◌+◌, ◌-◌, ◌*◌, ◌^◌, ◌<◌, ◌≤◌, List, [], ◌∷◌, Bool, true, nat_le, Option, Some, None, length, get_or, take, drop, refl, sym, ap, ◌∙◌, arith, subst, IfNone, list_all, pow-le-pow_right, and_parts, take_all, take_more, take-append-drop}
 use Rattle.sap_lemmas.proofs.Numbers.{le_product}
 use Rattle.sap_wave.specs.Digits.{are_digits, identifier, is_digit, spelled, spelled_behind, bits_number, number_spelled}
 use Rattle.sap_wave.proofs.DigitsLemmas.{digit_byte, number_back, one_identifier, spelled_append, spelled_below}

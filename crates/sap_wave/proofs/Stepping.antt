@@ -1,25 +1,12 @@
 -- What is read of a line, by its form.
-use Rattle.std.proofs.Common.{◌≡◌, ℕ, ◌+◌, ◌<◌, ◌≤◌, List, true, false, Result, Ok, Err, length, refl, sym, ap, ◌∙◌, arith, subst, inl, inr}
-use Rattle.std.specs.Prelude.{◌==◌}
-use Rattle.std.specs.Str.Parse.{digits_value}
-use Rattle.std.specs.Str.{bytes_eq}
-use Rattle.std.proofs.lemmas.Bool.{cases_Bool, cases_eq}
-use Rattle.std.proofs.lemmas.Bool.Decides.{nat_tests}
-use Rattle.sap_lemmas.proofs.Bools.{true_is_not_false}
-use Rattle.sap_lemmas.proofs.Numbers.{test_of_equal}
-use Rattle.sap_lemmas.proofs.Texts.{bytes_eq_same, equal_of_bytes_eq}
+use Rattle.sap_lemmas.proofs.Common.{◌≡◌, ℕ, ◌+◌, ◌<◌, ◌≤◌, List, true, false, Result, Ok, Err, length, refl, sym, ap, ◌∙◌, arith, subst, inl, inr, ◌==◌, digits_value, bytes_eq, cases_Bool, cases_eq, nat_tests, true_is_not_false, test_of_equal, bytes_eq_same, equal_of_bytes_eq}
 use Rattle.sap_wave.specs.declared.fault.WaveCode.{WaveCode}
 use Rattle.sap_wave.specs.declared.fault.WaveCode.TheVariants.{Y1, Y2, Y3, Y4, Y5}
 use Rattle.sap_wave.specs.declared.state.State.{State as Held}
 use Rattle.sap_wave.specs.declared.state.Stop.{Stop}
 use Rattle.sap_wave.specs.declared.state.Stop.TheVariants.{Code, Memory}
 use Rattle.sap_wave.specs.declared.variable.Variable.{Variable}
-use Rattle.sap_wave.specs.Code.{number}
-use Rattle.sap_wave.specs.Digits.{identifier, number_spelled}
-use Rattle.sap_wave.specs.Lines.{ended, Form, timescale, scope, upscope, end_definitions, variable, block, change, form_text, is_formed, IsLine}
-use Rattle.sap_wave.specs.Reading.{OpenBlock, State, before_timescale, before_scope, declaring, before_end, before_blocks, in_block, is_for, is_full, width_at, IsKnown, Takes, after}
-use Rattle.sap_wave.specs.Faults.{IsIdle, IsLeast, IsWrong, Misdeclared, Misplaced, unknown, not_later, other_width, Stands, no_form}
-use Rattle.sap_wave.specs.Steps.{FormRead, LineRead, Reaches}
+use Rattle.sap_wave.specs.Prelude.{number, identifier, number_spelled, ended, Form, timescale, scope, upscope, end_definitions, variable, block, change, form_text, is_formed, IsLine, OpenBlock, State, before_timescale, before_scope, declaring, before_end, before_blocks, in_block, is_for, is_full, width_at, IsKnown, Takes, after, IsIdle, IsLeast, IsWrong, Misdeclared, Misplaced, unknown, not_later, other_width, Stands, no_form, FormRead, LineRead, Reaches}
 use Rattle.sap_wave.proofs.DigitsLemmas.{number_back}
 use Rattle.sap_wave.proofs.Each.{least_stands, one_least}
 

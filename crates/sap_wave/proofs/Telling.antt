@@ -1,13 +1,7 @@
 -- What reads line by line is the dump of the wave that it tells, and the other way round.
-use Rattle.std.proofs.Common.{◌≡◌, ℕ, List, [], ◌∷◌, ◌++◌, Bool, length, drop, get_or, refl, sym, ap, ◌∙◌, arith, subst}
-use Rattle.std.specs.Prelude.{if◌then◌else◌}
-use Rattle.std.proofs.lemmas.List.{append-nil}
+use Rattle.sap_lemmas.proofs.Common.{◌≡◌, ℕ, List, [], ◌∷◌, ◌++◌, Bool, length, drop, get_or, refl, sym, ap, ◌∙◌, arith, subst, if◌then◌else◌, append-nil}
 use Rattle.sap_text.specs.Lines.{Line, lines_of}
-use Rattle.sap_wave.specs.Lines.{Form, form_text, text_of, IsLine}
-use Rattle.sap_wave.specs.Waves.{Wave, IsFit}
-use Rattle.sap_wave.specs.Dumps.{IsReading, dump_of, dump_text}
-use Rattle.sap_wave.specs.Reading.{State, before_timescale, in_block, after, Reads, Ends, ReadsSo}
-use Rattle.sap_wave.specs.Laws.{DumpsReadSo}
+use Rattle.sap_wave.specs.Prelude.{Form, form_text, text_of, IsLine, Wave, IsFit, IsReading, dump_of, dump_text, State, before_timescale, in_block, after, Reads, Ends, ReadsSo, DumpsReadSo}
 use Rattle.sap_wave.proofs.Lined.{text_of_lines, lines_back}
 use Rattle.sap_wave.proofs.Lists.{one_further}
 use Rattle.sap_wave.proofs.Told.{Told, is_over, tells}

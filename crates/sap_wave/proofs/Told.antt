@@ -1,25 +1,10 @@
 -- What was read tells which lines there were.
-use Rattle.std.proofs.Common.{◌≡◌, ℕ, ◌+◌, ◌<◌, ◌≤◌, ◌^◌, List, [], ◌∷◌, ◌++◌, true, false, ◌&&◌, Option, Some, None, length, map, get_or, refl, sym, ap, ◌∙◌, arith, subst, append_assoc}
-use Rattle.std.specs.Prelude.{◌≢◌}
-use Rattle.std.specs.List.{AllByRecursion, AllZip, list_all}
-use Rattle.std.specs.Str.{bytes_eq}
-use Rattle.std.specs.Str.Parse.{digits_value}
-use Rattle.std.proofs.lemmas.Bool.{and_parts}
-use Rattle.std.proofs.lemmas.Bool.Decides.{nat_tests}
-use Rattle.std.proofs.lemmas.List.{append-nil, map-append, get_or-set_other}
-use Rattle.sap_lemmas.proofs.Everywhere.{all_append}
-use Rattle.sap_lemmas.proofs.Lists.{length_map}
-use Rattle.sap_lemmas.proofs.Texts.{bytes_eq_symmetric}
-use Rattle.sap_maps.specs.Maps.{Name}
-use Rattle.sap_maps.specs.Ranges.{IsWidth}
+use Rattle.sap_lemmas.proofs.Common.{◌≡◌, ℕ, ◌+◌, ◌<◌, ◌≤◌, ◌^◌, List, [], ◌∷◌, ◌++◌, true, false, ◌&&◌, Option, Some, None, length, map, get_or, refl, sym, ap, ◌∙◌, arith, subst, append_assoc, ◌≢◌, AllByRecursion, AllZip, list_all, bytes_eq, digits_value, and_parts, nat_tests, append-nil, map-append, get_or-set_other, all_append, length_map, bytes_eq_symmetric}
+use Rattle.sap_maps.specs.Prelude.{Name, IsWidth}
 use Rattle.sap_net.specs.Names.{is_name, is_among, AreDistinct}
 use Rattle.sap_net.proofs.NamesLemmas.{apart_by_membership, distinct_both}
-use Rattle.sap_wave.specs.Digits.{is_digit, are_digits, bits, bits_number, number_spelled, numeral}
-use Rattle.sap_wave.specs.Lines.{Form, timescale, scope, upscope, end_definitions, variable, block, change, is_formed, is_id, is_number, is_piece}
+use Rattle.sap_wave.specs.Prelude.{is_digit, are_digits, bits, bits_number, number_spelled, numeral, Form, timescale, scope, upscope, end_definitions, variable, block, change, is_formed, is_id, is_number, is_piece, AreVariables, NumbersFit, names_of, all_set, block_of, blocks_from, declaration, declarations, dump, head, last_among, set_to, OpenBlock, State, before_timescale, before_scope, declaring, before_end, before_blocks, in_block, is_first, is_full, numbers_in, blocks_of, nothing, width_at, IsVariable, IsChange, IsNextBlock, Takes, after, first_block, next_block, changed}
 use Rattle.sap_wave.specs.declared.variable.Variable.{Variable}
-use Rattle.sap_wave.specs.Waves.{AreVariables, NumbersFit, names_of}
-use Rattle.sap_wave.specs.Dumps.{all_set, block_of, blocks_from, declaration, declarations, dump, head, last_among, set_to}
-use Rattle.sap_wave.specs.Reading.{OpenBlock, State, before_timescale, before_scope, declaring, before_end, before_blocks, in_block, is_first, is_full, numbers_in, blocks_of, nothing, width_at, IsVariable, IsChange, IsNextBlock, Takes, after, first_block, next_block, changed}
 use Rattle.sap_wave.proofs.DigitsLemmas.{bits_read_back, bits_number_below}
 use Rattle.sap_wave.proofs.Formed.{number_spells}
 use Rattle.sap_wave.proofs.Lists.{one_more_of}

@@ -1,18 +1,10 @@
 -- The worked dump: its reading, and the fault of one with another number.
-use Rattle.std.proofs.Common.{◌≡◌, ℕ, ◌+◌, ◌≤◌, List, [], ◌∷◌, ◌++◌, true, false, Some, length, map, refl, sym, arith, subst, inl, inr}
-use Rattle.std.specs.Prelude.{codes}
+use Rattle.sap_lemmas.proofs.Common.{◌≡◌, ℕ, ◌+◌, ◌≤◌, List, [], ◌∷◌, ◌++◌, true, false, Some, length, map, refl, sym, arith, subst, inl, inr, codes}
 use Rattle.sap_net.specs.Names.{is_name}
 use Rattle.sap_wave.specs.declared.fault.WaveCode.{WaveCode}
 use Rattle.sap_wave.specs.declared.fault.WaveCode.TheVariants.{Y4, Y5}
-use Rattle.sap_wave.specs.Code.{number}
-use Rattle.sap_wave.specs.Digits.{identifier, bits, numeral}
+use Rattle.sap_wave.specs.Prelude.{number, identifier, bits, numeral, Form, block, change, IsLine, State, before_timescale, in_block, after, Stands, no_form, wrong, IsWrong, StopsFrom, AreVariables, NumbersFit, head, variables, first, second, text, Written, Read, OtherNumber}
 use Rattle.sap_text.specs.Lines.{Line, lines_of}
-use Rattle.sap_wave.specs.Lines.{Form, block, change, IsLine}
-use Rattle.sap_wave.specs.Reading.{State, before_timescale, in_block, after}
-use Rattle.sap_wave.specs.Faults.{Stands, no_form, wrong, IsWrong, StopsFrom}
-use Rattle.sap_wave.specs.Waves.{AreVariables, NumbersFit}
-use Rattle.sap_wave.specs.Dumps.{head}
-use Rattle.sap_wave.specs.Examples.{variables, first, second, text, Written, Read, OtherNumber}
 use Rattle.sap_wave.proofs.Forms.{one_form}
 use Rattle.sap_wave.proofs.Lined.{ended_line}
 use Rattle.sap_wave.proofs.Going.{Goes}

@@ -1,19 +1,12 @@
 -- What stands first in small texts.
-use Rattle.std.proofs.Common.{◌≡◌, ℕ, ◌+◌, ◌<◌, ◌≤◌, List, [], ◌∷◌, true, get_or, refl, sym, ap, arith, subst, inl, inr}
-use Rattle.std.specs.Prelude.{codes}
-use Rattle.std.specs.Str.Parse.{digits_value}
-use Rattle.sap_lemmas.proofs.Bools.{true_is_not_false}
+use Rattle.sap_lemmas.proofs.Common.{◌≡◌, ℕ, ◌+◌, ◌<◌, ◌≤◌, List, [], ◌∷◌, true, get_or, refl, sym, ap, arith, subst, inl, inr, codes, digits_value, true_is_not_false}
 use Rattle.sap_maps.specs.Ranges.{IsWidth}
 use Rattle.sap_net.specs.Names.{is_name}
 use Rattle.sap_wave.specs.declared.fault.WaveCode.{WaveCode}
 use Rattle.sap_wave.specs.declared.fault.WaveCode.TheVariants.{Y1, Y2, Y3, Y5}
 use Rattle.sap_wave.specs.declared.variable.Variable.{Variable}
-use Rattle.sap_wave.specs.Digits.{identifier, bits_number, number_spelled}
+use Rattle.sap_wave.specs.Prelude.{identifier, bits_number, number_spelled, Form, timescale, scope, upscope, end_definitions, variable, block, change, is_formed, OpenBlock, State, before_timescale, before_scope, declaring, before_end, before_blocks, in_block, changed, first_block, next_block, is_for, IsVariable, IsKnown, IsChange, IsNextBlock, Takes, after, other_id, unknown, IsIdle, IsLeast, IsWrong, StopsFrom, lines, one_variable, Nothing, NotEnded, NoBlock, OtherIdentifier, UnknownVariable, SameNumber, NoNumber}
 use Rattle.sap_text.specs.Lines.{Line, lines_of}
-use Rattle.sap_wave.specs.Lines.{Form, timescale, scope, upscope, end_definitions, variable, block, change, is_formed}
-use Rattle.sap_wave.specs.Reading.{OpenBlock, State, before_timescale, before_scope, declaring, before_end, before_blocks, in_block, changed, first_block, next_block, is_for, IsVariable, IsKnown, IsChange, IsNextBlock, Takes, after}
-use Rattle.sap_wave.specs.Faults.{other_id, unknown, IsIdle, IsLeast, IsWrong, StopsFrom}
-use Rattle.sap_wave.specs.Examples.{lines, one_variable, Nothing, NotEnded, NoBlock, OtherIdentifier, UnknownVariable, SameNumber, NoNumber}
 use Rattle.sap_wave.proofs.Each.{least_stands, one_least}
 use Rattle.sap_wave.proofs.Lined.{ended_line}
 use Rattle.sap_wave.proofs.Reached.{lacks}

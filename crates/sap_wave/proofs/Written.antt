@@ -1,29 +1,12 @@
 -- Digits that are written one after another.
-use Rattle.std.proofs.Common.{◌≡◌, ℕ, zero, suc, ◌+◌, ◌-◌, ◌/◌, ◌%◌, ◌^◌, ◌<◌, ◌≤◌, List, [], ◌∷◌, ◌++◌, true, false, nat_lt, length, length-append, refl, sym, ap, ◌∙◌, arith, inl, inr, append_assoc}
+use Rattle.sap_lemmas.proofs.Common.{◌≡◌, ℕ, zero, suc, ◌+◌, ◌-◌, ◌/◌, ◌%◌, ◌^◌, ◌<◌, ◌≤◌, List, [], ◌∷◌, ◌++◌, true, false, nat_lt, length, length-append, refl, sym, ap, ◌∙◌, arith, inl, inr, append_assoc, cases_Bool, ltb-false, nat_tests}
 use native.Mathlib.Numerals.{unary_clauses}
-use Rattle.std.proofs.Math.Nat.{pow-suc, div-div-eq-div-mul}
-use Rattle.std.proofs.lemmas.Bool.{cases_Bool, ltb-false}
-use Rattle.std.proofs.lemmas.Bool.Decides.{nat_tests}
 use Rattle.sap_wave.specs.Digits.{digits_of, count_within, identifier_count, identifier, bits}
-use Rattle.sap_wave.proofs.DigitsLemmas.{bits_read_back, digits_length, identifier_length, quotient_less}
+use Rattle.sap_wave.proofs.DigitsLemmas.{identifier_length, quotient_less}
 
 -- the bits from the highest down to a place
 abbrev pub bits_above : (width number place : ℕ) → List ℕ
 bits_above width number place = digits_of 48 2 (width - place) (number / 2 ^ place)
-
-pub bits_none : (w n : ℕ) → bits_above w n w ≡ []
-bits_none w n = ap (λ (k : ℕ). digits_of 48 2 k (n / 2 ^ w)) (nothing w) where
-  nothing : (k : ℕ) → k - k ≡ 0
-  nothing k = omega arith
-
-half_more : (n p : ℕ) → n / 2 ^ p / 2 ≡ n / 2 ^ suc p
-half_more n p = div-div-eq-div-mul n (2 ^ p) 2 ∙ ap (λ (d : ℕ). n / d) (sym (pow-suc 2 p))
-
-pub bits_more : (w n p : ℕ) → p < w → bits_above w n p ≡ bits_above w n (suc p) ++ ((48 + n / 2 ^ p % 2) ∷ [])
-bits_more w n p l =
-    let e : w - p ≡ suc (w - suc p) = omega arith in
-    ap (λ (k : ℕ). digits_of 48 2 k (n / 2 ^ p)) e
-    ∙ ap (λ (q : ℕ). digits_of 48 2 (w - suc p) q ++ ((48 + n / 2 ^ p % 2) ∷ [])) (half_more n p)
 
 pub bits_all : (w n : ℕ) → bits_above w n 0 ≡ bits w n
 unfolding bits
@@ -93,21 +76,3 @@ identifier_grows old mid out n d l m o e =
     ∙ ap (λ (x : List ℕ). old ++ x) (sym (identifier_of_more n l))
 
 pub ruleset identifiers = (identifier_of_one, identifier_longer, identifier_short)
-
-pub bits_grow : (out old next : List ℕ) (w n p d : ℕ) → 0 < p → p ≤ w → out ≡ old ++ bits_above w n p → next ≡ out ++ (d ∷ []) → d ≡ 48 + n / 2 ^ (p - 1) % 2
-    → next ≡ old ++ bits_above w n (p - 1)
-bits_grow out old next w n p d some within before grown e =
-    let s : suc (p - 1) ≡ p = omega arith in
-    grown
-    ∙ ap (λ (x : List ℕ). x ++ (d ∷ [])) before
-    ∙ append_assoc old (bits_above w n p) (d ∷ [])
-    ∙ ap (λ (x : ℕ). old ++ (bits_above w n p ++ (x ∷ []))) e
-    ∙ ap (λ (x : ℕ). old ++ (bits_above w n x ++ ((48 + n / 2 ^ (p - 1) % 2) ∷ []))) (sym s)
-    ∙ ap (λ (x : List ℕ). old ++ x) (sym (bits_more w n (p - 1) (omega arith)))
-
-pub bits_full : (out old : List ℕ) (w n p capacity : ℕ) → 0 < p → p ≤ w → out ≡ old ++ bits_above w n p → capacity < length out + 1 → capacity < length old + length (bits w n)
-bits_full out old w n p capacity some within before full =
-    let a : length out ≡ length old + length (bits_above w n p) = ap length before ∙ length-append old (bits_above w n p) in
-    let b = digits_length 48 2 (w - p) (n / 2 ^ p) in
-    let e = bits_read_back.width w n in
-    omega (arith, a, b, e, full)

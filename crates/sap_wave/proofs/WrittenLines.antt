@@ -1,15 +1,8 @@
 -- Lines that are written one after another, from left to right.
-use Rattle.std.proofs.Common.{◌≡◌, ℕ, zero, suc, ◌+◌, ◌<◌, ◌≤◌, List, [], ◌∷◌, ◌++◌, Bool, true, false, Result, OnOk, length, length-append, get_or, drop, refl, sym, ap, ◌∙◌, arith, append_assoc}
-use Rattle.std.specs.Prelude.{◌==◌, if◌then◌else◌}
-use Rattle.std.proofs.Math.Seq.{drop-cons}
-use Rattle.std.proofs.lemmas.List.{append-nil}
-use Rattle.sap_lemmas.proofs.Lists.{append_three, drop_past}
-use Rattle.sap_lemmas.proofs.Options.{on_ok}
+use Rattle.sap_lemmas.proofs.Common.{◌≡◌, ℕ, zero, suc, ◌+◌, ◌<◌, List, [], ◌∷◌, ◌++◌, Bool, true, false, Result, OnOk, length, length-append, get_or, drop, refl, sym, ap, ◌∙◌, arith, append_assoc, ◌==◌, if◌then◌else◌, drop-cons, append-nil, append_three, on_ok}
 use Rattle.sap_text.specs.Places.{line}
 use Rattle.sap_wave.specs.declared.variable.Variable.{Variable}
-use Rattle.sap_wave.specs.Digits.{numeral}
-use Rattle.sap_wave.specs.Lines.{Form, timescale, scope, upscope, end_definitions, block, form_text, text_of}
-use Rattle.sap_wave.specs.Dumps.{declaration, declarations, set_to, all_set, changes, head}
+use Rattle.sap_wave.specs.Prelude.{numeral, Form, timescale, scope, upscope, end_definitions, block, form_text, text_of, declaration, declarations, set_to, all_set, changes, head}
 
 -- a part more is written
 pub grows : (out old next here rest whole : List ℕ) → out ++ whole ≡ old → whole ≡ here ++ rest → next ≡ out ++ here → next ++ rest ≡ old
@@ -83,9 +76,6 @@ pub declared_more : (xs : List Variable) (i : ℕ) (x : Variable) → i < length
     → declared_from xs i ≡ line (form_text (declaration i x)) ++ declared_from xs (i + 1)
 declared_more xs i x h e = ap (λ (ys : List Variable). text_of (declarations i ys)) (one_more xs i x h e)
 
-pub declared_past : (xs : List Variable) (i : ℕ) → length xs ≤ i → declared_from xs i ≡ []
-declared_past xs i h = ap (λ (ys : List Variable). text_of (declarations i ys)) (drop_past xs i h)
-
 -- First numbers, from a place on.
 
 abbrev pub set_from : List Variable → List ℕ → ℕ → List ℕ
@@ -96,9 +86,6 @@ pub set_more : (xs : List Variable) (ns : List ℕ) (i : ℕ) (x : Variable) →
 set_more xs ns i x h l e =
     ap (λ (ys : List Variable). text_of (all_set i ys (drop i ns))) (one_more xs i x h e)
     ∙ ap (λ (ms : List ℕ). text_of (all_set i (x ∷ drop (i + 1) xs) ms)) (number_more ns i (omega arith))
-
-pub set_past : (xs : List Variable) (ns : List ℕ) (i : ℕ) → length xs ≤ i → set_from xs ns i ≡ []
-set_past xs ns i h = ap (λ (ys : List Variable). text_of (all_set i ys (drop i ns))) (drop_past xs i h)
 
 -- Changes, from a place on.
 
@@ -133,6 +120,3 @@ no_change xs ms ns i h l m same =
     at_place [] k q = absurd (omega arith)
     at_place (y ∷ ys) zero q = (y, refl)
     at_place (y ∷ ys) (suc k) q = at_place ys k (omega arith)
-
-pub changes_past : (xs : List Variable) (ms ns : List ℕ) (i : ℕ) → length xs ≤ i → changes_from xs ms ns i ≡ []
-changes_past xs ms ns i h = ap (λ (ys : List Variable). text_of (changes i ys (drop i ms) (drop i ns))) (drop_past xs i h)

@@ -19,3 +19,4 @@ pub mod Dumping
 pub mod Dumper
 pub mod Laws
 pub mod Examples
+pub mod Prelude

@@ -1,17 +1,7 @@
 -- Variables by their names.
-use Rattle.std.proofs.Common.{◌≡◌, ◌≢◌, ℕ, List, [], ◌∷◌, ◌++◌, Bool, false, Option, Some, None, length, refl, sym, ap, ◌∙◌, inl, inr}
-use Rattle.std.specs.Prelude.{◌==◌, ◌&&◌, unwrap_or, slice_get}
-use Rattle.std.specs.Option.{option_map}
-use Rattle.std.specs.Str.{bytes_eq}
-use Rattle.std.proofs.lemmas.Bool.{cases_Bool}
-use Rattle.std.proofs.lemmas.Bool.Decides.{Decides-eqb}
-use Rattle.std.proofs.lemmas.List.{append-nil, length-map}
-use Rattle.sap_lemmas.proofs.Bools.{and_left}
-use Rattle.sap_maps.specs.Maps.{Name}
-use Rattle.sap_maps.specs.Scope.{Scope, find}
-use Rattle.sap_net.specs.NameMaps.{place_in}
-use Rattle.sap_net.specs.PortNames.{is_number, value_of}
-use Rattle.sap_net.specs.Shown.{shown_among, shown_by}
+use Rattle.sap_lemmas.proofs.Common.{◌≡◌, ◌≢◌, ℕ, List, [], ◌∷◌, ◌++◌, Bool, false, Option, Some, None, length, refl, sym, ap, ◌∙◌, inl, inr, ◌==◌, ◌&&◌, unwrap_or, slice_get, option_map, bytes_eq, cases_Bool, Decides-eqb, append-nil, length-map, and_left}
+use Rattle.sap_maps.specs.Prelude.{Name, Scope, find}
+use Rattle.sap_net.specs.Prelude.{place_in, is_number, value_of, shown_among, shown_by}
 use Rattle.sap_sim.specs.Numbers.{place}
 use Rattle.sap_sim.proofs.Maps.{place_found, place_behind}
 use Rattle.sap_wave.specs.declared.variable.Variable.{Variable}

@@ -1,15 +1,13 @@
 -- Rows, a block at a time.
-use Rattle.std.proofs.Common.{◌≡◌, ℕ, zero, suc, ◌+◌, ◌<◌, ◌≤◌, List, [], ◌∷◌, ◌++◌, length, get_or, take, drop, map, refl, sym, ap, ◌∙◌, arith}
-use Rattle.std.proofs.lemmas.List.{at_drop_all, at_drop_more}
+use Rattle.sap_lemmas.proofs.Common.{◌≡◌, ℕ, zero, suc, ◌+◌, ◌<◌, ◌≤◌, List, [], ◌∷◌, ◌++◌, length, get_or, take, drop, map, refl, sym, ap, ◌∙◌, arith, at_drop_all, at_drop_more}
 use Rattle.sap_lattice.specs.Levels.{Levels}
 use Rattle.sap_maps.specs.Maps.{Name}
 use Rattle.sap_net.specs.PortNames.{value_name, tag_name}
 use Rattle.sap_stim.specs.Rows.{HoldsRows, row_text, shown_of}
-use Rattle.sap_sim.specs.Shown.{row_of, rows_from}
+use Rattle.sap_sim.specs.Prelude.{row_of, rows_from, place}
 use Rattle.sap_sim.proofs.Lists.{taken}
 use Rattle.sap_sim.proofs.Seen.{map_twice, row_is}
 use Rattle.sap_sim.proofs.Told.{mapped_push}
-use Rattle.sap_sim.specs.Numbers.{place}
 use Rattle.sap_wave.specs.declared.variable.Variable.{Variable}
 use Rattle.sap_wave.specs.Waves.{Wave, names_of}
 use Rattle.sap_wave_rows.specs.Places.{value_places, tag_places, numbers_at}

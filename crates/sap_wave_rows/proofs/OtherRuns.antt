@@ -1,22 +1,13 @@
 -- All runs on a stimulus have the same rows.
-use Rattle.std.proofs.Common.{◌≡◌, true, ℕ, ◌+◌, List, [], ◌∷◌, ◌++◌, None, map, refl, sym, ap₂, ◌∙◌}
-use Rattle.std.specs.List.{AllByRecursion}
+use Rattle.sap_lemmas.proofs.Common.{◌≡◌, true, ℕ, ◌+◌, List, [], ◌∷◌, ◌++◌, None, map, refl, sym, ap₂, ◌∙◌, AllByRecursion}
 use Rattle.sap_lattice.specs.Levels.{Levels}
 use Rattle.sap_maps.specs.Maps.{Name, Valuation}
+use Rattle.sap_net.specs.Prelude.{IsNetlist, readable, register_names, AreSame, AreSameRuns, is_among, Net, IsRegister, observed, register_ports, operand_value}
 use Rattle.sap_net.specs.declared.parts.Register.{Register}
-use Rattle.sap_net.specs.IsNetlist.{IsNetlist, readable, register_names}
-use Rattle.sap_net.specs.Laws.{AreSame, AreSameRuns}
-use Rattle.sap_net.specs.Names.{is_among}
-use Rattle.sap_net.specs.Net.{Net}
-use Rattle.sap_net.specs.Rules.{IsRegister}
-use Rattle.sap_net.specs.Runs.{observed}
-use Rattle.sap_net.specs.Shown.{register_ports}
-use Rattle.sap_net.specs.Values.{operand_value}
 use Rattle.sap_net.proofs.Observed.{observed_registers}
 use Rattle.sap_net.proofs.Same.{run_same}
 use Rattle.sap_net.proofs.Unique.{operand_agree}
-use Rattle.sap_sim.specs.Numbers.{numbers_of}
-use Rattle.sap_sim.specs.Shown.{rows_from, shown_registers}
+use Rattle.sap_sim.specs.Prelude.{numbers_of, rows_from, shown_registers}
 use Rattle.sap_sim.specs.Simulated.{read_for}
 use Rattle.sap_sim.proofs.Registers.{all_names, among_all, register_port_is}
 use Rattle.sap_wave.specs.Laws.{OneWaveOrFault, RunsReadBack}

@@ -1,19 +1,12 @@
 -- The rows of a run as a wave are the rows of the run.
-use Rattle.std.proofs.Common.{true, ◌≡◌, ℕ, ◌+◌, List, [], ◌∷◌, ◌++◌, map, refl, ap, ap₂, ◌∙◌}
-use Rattle.std.specs.List.{AllByRecursion}
+use Rattle.sap_lemmas.proofs.Common.{true, ◌≡◌, ℕ, ◌+◌, List, [], ◌∷◌, ◌++◌, map, refl, ap, ap₂, ◌∙◌, AllByRecursion}
 use Rattle.sap_lattice.specs.Levels.{Levels}
 use Rattle.sap_maps.specs.Maps.{Name, Valuation}
-use Rattle.sap_net.specs.Names.{is_among}
-use Rattle.sap_net.specs.Net.{Net}
-use Rattle.sap_net.specs.Runs.{observed}
-use Rattle.sap_net.specs.PortNames.{value_name, tag_name}
-use Rattle.sap_net.specs.Shown.{register_ports}
-use Rattle.sap_sim.specs.Fields.{tag_width}
-use Rattle.sap_sim.specs.Shown.{row_of, rows_from, shown_registers}
+use Rattle.sap_net.specs.Prelude.{is_among, Net, observed, value_name, tag_name, register_ports}
+use Rattle.sap_sim.specs.Prelude.{tag_width, row_of, rows_from, shown_registers}
 use Rattle.sap_sim.proofs.Registers.{IsShown, all_shown}
 use Rattle.sap_sim.proofs.Seen.{row_is}
-use Rattle.sap_wave.specs.Laws.{OneWaveOrFault, RunsReadBack}
-use Rattle.sap_wave.specs.Runs.{run_dump, run_wave, variables_of, numbers_after}
+use Rattle.sap_wave.specs.Prelude.{OneWaveOrFault, RunsReadBack, run_dump, run_wave, variables_of, numbers_after}
 use Rattle.sap_wave_rows.specs.Laws.{RowsOfRuns, RowsOfDumps}
 use Rattle.sap_wave_rows.specs.Rows.{by_name, rows_of_wave}
 use Rattle.sap_wave_rows.proofs.Variables.{shown_are, number_seen}

@@ -1,23 +1,13 @@
 -- The variables of a run are the ports that rows show.
-use Rattle.std.proofs.Common.{◌≡◌, ℕ, List, [], ◌∷◌, true, map, refl, ap, ap₂, ◌∙◌, inl, inr, one-add}
-use Rattle.std.specs.Str.{bytes_eq}
-use Rattle.std.proofs.lemmas.Bool.{cases_Bool}
-use Rattle.sap_lemmas.proofs.Bools.{or_other}
-use Rattle.sap_lemmas.proofs.Texts.{equal_of_bytes_eq, bytes_eq_apart_back}
+use Rattle.sap_lemmas.proofs.Common.{◌≡◌, ℕ, List, [], ◌∷◌, true, map, refl, ap, ap₂, ◌∙◌, inl, inr, bytes_eq, cases_Bool, or_other, equal_of_bytes_eq, bytes_eq_apart_back}
+use Rattle.std.proofs.Common.{one-add}
 use Rattle.sap_lattice.specs.Levels.{Levels}
-use Rattle.sap_maps.specs.Maps.{Name, Valuation}
-use Rattle.sap_maps.specs.Scope.{Scope}
+use Rattle.sap_maps.specs.Prelude.{Name, Valuation, Scope}
+use Rattle.sap_net.specs.Prelude.{Net, is_among, width_of, observed, is_register, register_ports, port_widths, shown_among}
 use Rattle.sap_net.specs.declared.parts.Port.{Port}
-use Rattle.sap_net.specs.Net.{Net}
-use Rattle.sap_net.specs.Names.{is_among}
-use Rattle.sap_net.specs.IsNetlist.{width_of}
-use Rattle.sap_net.specs.Runs.{observed}
-use Rattle.sap_net.specs.Shown.{is_register, register_ports, port_widths, shown_among}
-use Rattle.sap_sim.specs.Fields.{tag_width}
-use Rattle.sap_sim.specs.Shown.{shown_registers}
+use Rattle.sap_sim.specs.Prelude.{tag_width, shown_registers}
 use Rattle.sap_wave.specs.declared.variable.Variable.{Variable}
-use Rattle.sap_wave.specs.Runs.{variables_among, variables_of, numbers_after}
-use Rattle.sap_wave.specs.Waves.{names_of}
+use Rattle.sap_wave.specs.Prelude.{variables_among, variables_of, numbers_after, names_of}
 use Rattle.sap_wave_rows.specs.Rows.{widths_of, shown_variables, by_name}
 
 -- by name

@@ -1,22 +1,15 @@
 -- The dump of a netlist's run begins with its head, and goes on with the blocks of its cycles.
 use Rattle.std.proofs.Common.{◌≡◌, ℕ, ◌+◌, ◌≤◌, List, ◌++◌, length, map, sym, ap, ◌∙◌, subst, arith}
 use Rattle.std.specs.Prelude.{◌^◌, None}
-use Rattle.sap_lattice.specs.Codes.{Codes}
-use Rattle.sap_lattice.specs.Levels.{Levels, order_of}
+use Rattle.sap_lattice.specs.Prelude.{Codes, Levels, order_of}
 use Rattle.sap_maps.specs.Maps.{Valuation}
 use Rattle.sap_meaning.specs.Cycle.{Tagged as Given}
-use Rattle.sap_net.specs.IsNetlist.{IsNetlist}
-use Rattle.sap_net.specs.Laws.{SomeRun}
-use Rattle.sap_net.specs.Net.{Net}
+use Rattle.sap_net.specs.Prelude.{IsNetlist, SomeRun, Net}
 use Rattle.sap_stim.specs.declared.field.Field.{Field}
 use Rattle.sap_stim.specs.Fits.{StreamFits}
-use Rattle.sap_sim.specs.Numbers.{numbers_of}
-use Rattle.sap_sim.specs.Stepped.{IsRunOn}
+use Rattle.sap_sim.specs.Prelude.{numbers_of, IsRunOn}
 use Rattle.sap_sim.proofs.Fits.{stream_fits}
-use Rattle.sap_wave.specs.Dumping.{Dumping, StandAt}
-use Rattle.sap_wave.specs.Dumps.{blocks_from, head}
-use Rattle.sap_wave.specs.Lines.{text_of}
-use Rattle.sap_wave.specs.Runs.{initial_numbers, numbers_after, variables_of}
+use Rattle.sap_wave.specs.Prelude.{Dumping, StandAt, blocks_from, head, text_of, initial_numbers, numbers_after, variables_of}
 use Rattle.sap_wave.proofs.WrittenLines.{text_append}
 use Rattle.sap_wave_run.specs.declared.recording.Recording.{Recording}
 use Rattle.sap_wave_run.specs.Dumped.{IsDumpOn}

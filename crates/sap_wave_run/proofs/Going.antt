@@ -3,20 +3,14 @@ use Rattle.std.proofs.Common.{◌≡◌, ℕ, ◌+◌, List, [], ◌∷◌, ◌+
 use Rattle.sap_lattice.specs.Levels.{Levels}
 use Rattle.sap_maps.specs.Maps.{Valuation}
 use Rattle.sap_meaning.specs.Cycle.{Tagged as Given}
-use Rattle.sap_net.specs.Net.{Net}
-use Rattle.sap_net.specs.Runs.{IsRunAfter}
+use Rattle.sap_net.specs.Prelude.{Net, IsRunAfter}
 use Rattle.sap_cycle.specs.Running.{Shows, ShowsNext}
 use Rattle.sap_stim.specs.declared.field.Field.{Field}
 use Rattle.sap_stim.specs.Fits.{StreamFits}
 use Rattle.sap_sim.specs.declared.steps.Plan.{Plan}
-use Rattle.sap_sim.specs.Numbers.{numbers_of}
-use Rattle.sap_sim.specs.Stepped.{Stepped}
-use Rattle.sap_sim.specs.Stepping.{IsPlanned}
+use Rattle.sap_sim.specs.Prelude.{numbers_of, Stepped, IsPlanned}
 use Rattle.sap_wave.specs.declared.variable.Variable.{Variable}
-use Rattle.sap_wave.specs.Dumping.{AddsBlock, Dumping, StandAt, numbers_seen, with_block}
-use Rattle.sap_wave.specs.Dumps.{block_of, blocks_from}
-use Rattle.sap_wave.specs.Lines.{text_of}
-use Rattle.sap_wave.specs.Runs.{numbers_after, variables_of}
+use Rattle.sap_wave.specs.Prelude.{AddsBlock, Dumping, StandAt, numbers_seen, with_block, block_of, blocks_from, text_of, numbers_after, variables_of}
 use Rattle.sap_wave.proofs.WrittenLines.{text_append}
 use Rattle.sap_wave_run.specs.ToCome.{CanGoOn, IsToCome}
 

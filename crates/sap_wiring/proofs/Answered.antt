@@ -1,10 +1,7 @@
 -- The wires of the texts so far, and what a list of texts comes to.
-use Rattle.std.proofs.Common.{◌≡◌, ◌≢◌, ℕ, zero, suc, ◌+◌, ◌<◌, ◌≤◌, Bool, ◌||◌, true, false, List, [], ◌∷◌, ◌++◌, length, take, Some, bytes_eq, slice_get, Vec, Result, Ok, Err, refl, sym, ap, ◌∙◌, subst, inl, inr, ◌⊎◌, arith}
+use Rattle.sap_lemmas.proofs.Common.{◌≡◌, ◌≢◌, ℕ, zero, suc, ◌+◌, ◌<◌, ◌≤◌, Bool, ◌||◌, true, false, List, [], ◌∷◌, ◌++◌, length, take, Some, bytes_eq, slice_get, Result, Ok, Err, refl, sym, ap, ◌∙◌, subst, inl, inr, ◌⊎◌, arith, IfErr, OnOk, IsErrOf, IsOkUnless, AllZip, list_any, cases_order, same_Some, none-some, slice_get_within}
+use Rattle.std.proofs.Common.{Vec}
 use Rattle.std.specs.Global.{Global}
-use Rattle.std.specs.Prelude.{IfErr, OnOk, IsErrOf, IsOkUnless}
-use Rattle.std.specs.List.{AllZip, list_any}
-use Rattle.std.proofs.lemmas.Bool.{cases_order}
-use Rattle.std.proofs.lemmas.Option.{same_Some, none-some, slice_get_within}
 use Rattle.sap_system.specs.Wires.{Surroundings, FirstLinkFault, KeepsWires, Stands, number_of_code}
 use Rattle.sap_system.specs.declared.file.WireText.{WireText}
 use Rattle.sap_system.specs.declared.link_fault.LinkCode.{LinkCode}
@@ -22,21 +19,6 @@ pub record Tested (u : Surroundings) (texts : List WireText) (k : ℕ) (ws : Lis
   pub wires : AllZip (IsWireOf u) (take k texts) ws
   pub fed : (name : List ℕ) → is_fed keys name ≡ feeds (take k texts) name
   pub kept : (code : LinkCode) (j : ℕ) → j < k → ¬ Stands u texts code j
-
-pub untested : (u : Surroundings) (texts : List WireText) (fed : List (Vec ℕ Global)) → fed ≡ [] → Tested u texts 0 [] fed
-untested u texts fed none = record {
-  wires = none_zipped texts;
-  fed = λ name. ap (λ keys. is_fed keys name) none ∙ none_fed texts name;
-  kept = λ code j low. absurd (omega (arith, low));
-}
-  where
-    none_zipped : (ts : List WireText) → AllZip (IsWireOf u) (take 0 ts) []
-    none_zipped [] = tt
-    none_zipped (t ∷ ts) = tt
-
-    none_fed : (ts : List WireText) (name : List ℕ) → false ≡ feeds (take 0 ts) name
-    none_fed [] name = refl
-    none_fed (t ∷ ts) name = refl
 
 zip_more : (u : Surroundings) (texts : List WireText) (k : ℕ) (t : WireText) (ws : List Wire) (w : Wire) → slice_get texts k ≡ Some t
     → AllZip (IsWireOf u) (take k texts) ws → IsWireOf u t w → AllZip (IsWireOf u) (take (suc k) texts) (ws ++ w ∷ [])
@@ -82,16 +64,6 @@ module _ (u : Surroundings) (texts : List WireText) (k : ℕ) where
 -- all of them
 pub all_kept : (u : Surroundings) (texts : List WireText) (k : ℕ) (ws : List Wire) (fed : List (Vec ℕ Global)) → length texts ≤ k → Tested u texts k ws fed → KeepsWires u texts
 all_kept u texts k ws fed high h code j s = h.kept code j (let low = slice_get_within texts j s.wire s.is_wire in omega (arith, low, high)) s
-
-taken : {A : Type 0} (xs : List A) (k : ℕ) → length xs ≤ k → take k xs ≡ xs
-taken [] zero high = refl
-taken [] (suc k) high = refl
-taken (x ∷ xs) zero high = absurd (omega (arith, high))
-taken (x ∷ xs) (suc k) high = ap (λ l. x ∷ l) (taken xs k (omega (arith, high)))
-
-pub all_wired : (u : Surroundings) (texts : List WireText) (k : ℕ) (ws : List Wire) (fed : List (Vec ℕ Global)) → length texts ≤ k
-    → Tested u texts k ws fed → AllZip (IsWireOf u) texts ws
-all_wired u texts k ws fed high h = subst (λ (ts : List WireText). AllZip (IsWireOf u) ts ws) (taken texts k high) h.wires
 
 cases_memory : (f : LinkFault) → (f ≡ Memory) ⊎ (f ≢ Memory)
 cases_memory (Rule code n) = inr (λ e. cc)

@@ -1,9 +1,7 @@
 -- The texts of inputs that are fed.
-use Rattle.std.proofs.Common.{◌≡◌, ℕ, Bool, true, false, ◌||◌, List, [], ◌∷◌, ◌++◌, bytes_eq, Vec, sym, ap, ◌∙◌, refl, inl, inr, if◌then◌else◌}
+use Rattle.sap_lemmas.proofs.Common.{◌≡◌, ℕ, Bool, true, false, ◌||◌, List, [], ◌∷◌, ◌++◌, bytes_eq, sym, ap, ◌∙◌, refl, inl, inr, if◌then◌else◌, list_any, cases_Bool, bytes_eq_symmetric, equal_of_bytes_eq}
+use Rattle.std.proofs.Common.{Vec}
 use Rattle.std.specs.Global.{Global}
-use Rattle.std.specs.List.{list_any}
-use Rattle.std.proofs.lemmas.Bool.{cases_Bool}
-use Rattle.sap_lemmas.proofs.Texts.{bytes_eq_symmetric, equal_of_bytes_eq}
 use Rattle.sap_wiring.specs.Wiring.{is_fed}
 
 or_more : (a b c d : Bool) → b ≡ (c || d) → (a || b) ≡ ((a || c) || d)

@@ -1,15 +1,10 @@
 -- The wires of texts: one list of them, and in the system of the designs that the parts declare.
-use Rattle.std.proofs.Common.{◌≡◌, ℕ, zero, suc, ◌<◌, Bool, true, false, ◌&&◌, List, [], ◌∷◌, length, Option, Some, None, option_map, slice_get, nat_eq, refl, sym, ap, ap₂, ◌∙◌, subst, inl, inr, arith}
-use Rattle.std.specs.List.{AllZip, AllByRecursion}
-use Rattle.std.proofs.lemmas.Bool.{cases_Bool}
-use Rattle.std.proofs.lemmas.Bool.Decides.{Decides-eqb}
-use Rattle.std.proofs.lemmas.Option.{same_Some, none-some, slice_get-map, slice_get_within, get_or_from_slice_get}
+use Rattle.sap_lemmas.proofs.Common.{◌≡◌, ℕ, zero, suc, ◌<◌, Bool, true, false, ◌&&◌, List, [], ◌∷◌, length, Option, Some, None, option_map, slice_get, nat_eq, refl, sym, ap, ap₂, ◌∙◌, subst, inl, inr, arith, AllZip, AllByRecursion, cases_Bool, Decides-eqb, same_Some, none-some, slice_get-map, slice_get_within, get_or_from_slice_get}
 use Rattle.sap_tree.specs.Syntax.{DesignTree}
 use Rattle.sap_lattice.specs.Levels.{Levels}
 use Rattle.sap_lattice.proofs.KeptLemmas.{order_of-count}
 use Rattle.sap_lattice.proofs.NameLemmas.{place_cases}
-use Rattle.sap_names.specs.Entities.{entities_of, number_of, what_is}
-use Rattle.sap_names.specs.Entities.{find as find_entity}
+use Rattle.sap_names.specs.Entities.{entities_of, number_of, what_is, find as find_entity}
 use Rattle.sap_names.specs.declared.entity.Entity.{Entity}
 use Rattle.sap_names.specs.declared.kind.Declared.{Declared}
 use Rattle.sap_names.specs.declared.kind.Declared.TheVariants as what

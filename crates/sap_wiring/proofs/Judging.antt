@@ -1,9 +1,5 @@
 -- The rules on one wire, from what its texts name.
-use Rattle.std.proofs.Common.{◌≡◌, ◌≢◌, ℕ, suc, zero, ◌<◌, true, false, List, [], ◌∷◌, ◌++◌, codes, length, get_or, take, Option, Some, None, bytes_eq, slice_get, refl, sym, ap, ◌∙◌, subst, inl, inr, arith}
-use Rattle.std.specs.List.{list_any}
-use Rattle.std.proofs.lemmas.Bool.{both_ways, or_cases, or_left, or_right}
-use Rattle.std.proofs.lemmas.Option.{same_Some, none-some, slice_get-get_or}
-use Rattle.std.proofs.lemmas.Slice.Eq.{bytes_eq-Decides}
+use Rattle.sap_lemmas.proofs.Common.{◌≡◌, ◌≢◌, ℕ, suc, zero, ◌<◌, true, false, List, [], ◌∷◌, ◌++◌, codes, length, get_or, take, Option, Some, None, bytes_eq, slice_get, refl, sym, ap, ◌∙◌, subst, inl, inr, arith, list_any, both_ways, or_cases, or_left, or_right, same_Some, none-some, slice_get-get_or, bytes_eq-Decides}
 use Rattle.sap_lattice.specs.Levels.{level_named}
 use Rattle.sap_lattice.proofs.NameLemmas.{place_cases}
 use Rattle.sap_names.specs.declared.kind.Declared.TheVariants as what

@@ -1,6 +1,5 @@
 -- What a text names: at most one entity of one part.
-use Rattle.std.proofs.Common.{◌≡◌, ℕ, List, [], ◌∷◌, ◌++◌, Option, Some, None, MatchOption, slice_get, option_map, Bor, refl, sym, ap, ap₂, ◌∙◌, subst, arith}
-use Rattle.std.proofs.lemmas.Option.{same_Some, none-some}
+use Rattle.sap_lemmas.proofs.Common.{◌≡◌, ℕ, List, [], ◌∷◌, ◌++◌, Option, Some, None, MatchOption, slice_get, option_map, Bor, refl, sym, ap, ap₂, ◌∙◌, subst, arith, same_Some, none-some}
 use Rattle.std.proofs.lemmas.Str.Pattern.{IsSplitOnceResult, split_parts, split_after}
 use Rattle.sap_names.specs.Entities.{number_of, what_is}
 use Rattle.sap_names.specs.declared.entity.Entity.{Entity}

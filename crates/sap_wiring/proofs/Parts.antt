@@ -1,19 +1,13 @@
 -- Names of parts: none has a dot, and no two parts have one name.
-use Rattle.std.proofs.Common.{◌≡◌, ℕ, zero, suc, ◌<◌, Bool, true, false, ◌&&◌, List, [], ◌∷◌, ◌++◌, length, get_or, map, Option, Some, None, MatchOption, position, bytes_eq, slice_get, option_map, refl, sym, ap, ◌∙◌, inl, inr, arith, subst}
-use Rattle.std.specs.List.{list_all}
-use Rattle.std.proofs.lemmas.Bool.{both_ways, cases_Bool, cases_order}
-use Rattle.std.proofs.lemmas.Option.{slice_get-map, slice_get_within, slice_get-get_or, get_or_from_slice_get, same_Some, none-some}
+use Rattle.sap_lemmas.proofs.Common.{◌≡◌, ℕ, zero, suc, ◌<◌, Bool, true, false, ◌&&◌, List, [], ◌∷◌, ◌++◌, length, get_or, map, Option, Some, None, MatchOption, position, bytes_eq, slice_get, option_map, refl, sym, ap, ◌∙◌, inl, inr, arith, subst, list_all, both_ways, cases_Bool, cases_order, slice_get-map, slice_get_within, slice_get-get_or, get_or_from_slice_get, same_Some, none-some, bytes_eq-Decides, length_map}
 use Rattle.std.proofs.lemmas.List.Quantifiers.{position-Some}
-use Rattle.std.proofs.lemmas.Slice.Eq.{bytes_eq-Decides}
 use Rattle.sap_text.specs.Names.{is_word, is_inner}
 use Rattle.sap_text.proofs.NamesLemmas.{word_inner}
-use Rattle.sap_lattice.specs.Closure.{name_at}
-use Rattle.sap_lattice.specs.Rules.BadName.{no_word, repeated}
+use Rattle.sap_lattice.specs.Prelude.{name_at, no_word, repeated}
 use Rattle.sap_lattice.proofs.NameLemmas.{position_cases}
 use Rattle.sap_system.specs.Rules.{BadPartName}
 use Rattle.sap_system.specs.Rules.BadPartName.{bad}
 use Rattle.sap_system.specs.declared.file.Part.{Part}
-use Rattle.sap_lemmas.proofs.Lists.{length_map}
 use Rattle.sap_wiring.specs.Laws.{FileNamesServe}
 use Rattle.sap_system.specs.Wires.{NamedPart, Surroundings}
 use Rattle.sap_wiring.specs.Wiring.{named_part, names_in, PartsNamed}

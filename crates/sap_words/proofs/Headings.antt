@@ -1,12 +1,8 @@
 -- The code's table is that of the rows.
-use Rattle.std.proofs.Common.{◌≡◌, ◌∙◌, ℕ, List, [], ◌∷◌, Bool, true, false, Option, Some, None, ap, refl, sym, map, inl, inr, ◌&&◌}
-use Rattle.std.specs.Prelude.{◌||◌, bytes_eq, find, fold, is_some, length, not, option_and_then, option_map, take}
-use Rattle.std.specs.List.{list_all}
-use Rattle.std.proofs.lemmas.Bool.{cases_Bool}
+use Rattle.sap_lemmas.proofs.Common.{◌≡◌, ◌∙◌, ℕ, List, [], ◌∷◌, Bool, true, false, Option, Some, None, ap, refl, sym, map, inl, inr, ◌&&◌, ◌||◌, bytes_eq, find, fold, is_some, length, not, option_and_then, option_map, take, list_all, cases_Bool, and_false}
 use Rattle.std.proofs.lemmas.List.Folds.{list_all-map}
 use Rattle.clap.specs.Words.{App, Text, with_subcommand}
 use Rattle.clap.proofs.WalkLemmas.{find-map}
-use Rattle.sap_lemmas.proofs.Bools.{and_false}
 use Rattle.sap_words.specs.Words.{Maker, Row, Value, command_of, commands, is_number, is_operand, made, made_by, number_of, row_named, value_of}
 use Rattle.sap_words.specs.Fits.{fit}
 use Rattle.sap_words.specs.Found.{found, made_from, made_of_five, value_at}

@@ -1,7 +1,5 @@
 -- A command gets its operands one by one.
-use Rattle.std.proofs.Common.{◌≡◌, ◌∙◌, ◌<◌, ◌≤◌, ◌+◌, ◌++◌, zero, suc, ℕ, List, [], ◌∷◌, map, take, get_or, length, ap, refl, arith}
-use Rattle.std.specs.Borrow.{Bor}
-use Rattle.std.proofs.lemmas.List.{take_all}
+use Rattle.sap_lemmas.proofs.Common.{◌≡◌, ◌∙◌, ◌<◌, ◌≤◌, ◌+◌, ◌++◌, zero, suc, ℕ, List, [], ◌∷◌, map, take, get_or, length, ap, refl, arith, Bor, take_all}
 use Rattle.clap.specs.Words.{Rule, Text, with_rule}
 use Rattle.sap_words.specs.Parser.{alone, command, operand}
 

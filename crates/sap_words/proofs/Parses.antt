@@ -1,7 +1,5 @@
 -- What `clap` makes of words whose first is the name of a row.
-use Rattle.std.proofs.Common.{◌≡◌, ◌∙◌, List, [], ◌∷◌, ◌++◌, Some, Bool, true, false, ap, ap₂, refl, sym, map, ◌&&◌}
-use Rattle.std.specs.Prelude.{Contains, Option, ◌||◌, bytes_eq, codes, find, fold, is_some, not, option_map}
-use Rattle.std.specs.List.{list_all}
+use Rattle.sap_lemmas.proofs.Common.{◌≡◌, ◌∙◌, List, [], ◌∷◌, ◌++◌, Some, Bool, true, false, ap, ap₂, refl, sym, map, ◌&&◌, Contains, Option, ◌||◌, bytes_eq, codes, find, fold, is_some, not, option_map, list_all, or_false, bytes_eq_symmetric}
 use Rattle.std.specs.Option.{option_map_or}
 use Rattle.clap.specs.Words.{App, Text, built, is_simple, subcommand_of, takes}
 use Rattle.clap.specs.Simple.{Shape, entered, label_of, names_of, new_shape, rows_at}
@@ -9,8 +7,6 @@ use Rattle.clap.specs.Takes.{built_takes, default_passes, entered_passes, is_val
 use Rattle.clap.specs.Walk.{Names, Walk, after_step, answers_to, finished, idle, nothing_held, stop_after, subcommand_or_other, walk, walked}
 use Rattle.clap.proofs.OnLiterals.{clap_on_literals}
 use Rattle.clap.proofs.WalkLemmas.{find-map, walk_stopped}
-use Rattle.sap_lemmas.proofs.Bools.{or_false}
-use Rattle.sap_lemmas.proofs.Texts.{bytes_eq_symmetric}
 use Rattle.sap_words.specs.Words.{Row, commands}
 use Rattle.sap_words.specs.Table.{AreOperands}
 use Rattle.sap_words.specs.Parser.{parser}

@@ -1,9 +1,5 @@
 -- A row of the table is found by its name.
-use Rattle.std.proofs.Common.{◌≡◌, ◌∙◌, ◌<◌, ℕ, zero, suc, List, [], ◌∷◌, Bool, true, false, Some, length, refl, sym, ap, subst, inl, inr, arith}
-use Rattle.std.specs.Prelude.{Contains, find, not, ◌&&◌, bytes_eq}
-use Rattle.std.specs.List.{AllByRecursion, list_all, slice_index_or}
-use Rattle.std.proofs.lemmas.Bool.{cases_Bool}
-use Rattle.sap_lemmas.proofs.Texts.{bytes_eq_same, equal_of_bytes_eq}
+use Rattle.sap_lemmas.proofs.Common.{◌≡◌, ◌∙◌, ◌<◌, ℕ, zero, suc, List, [], ◌∷◌, Bool, true, false, Some, length, refl, sym, ap, subst, inl, inr, arith, Contains, find, not, ◌&&◌, bytes_eq, AllByRecursion, list_all, slice_index_or, cases_Bool, bytes_eq_same, equal_of_bytes_eq}
 use Rattle.sap_words.specs.Words.{Row, commands, row_named}
 
 -- what holds of each element holds of one that a list contains

@@ -1,9 +1,5 @@
 -- The function of the table, and its relation.
-use Rattle.std.proofs.Common.{◌≡◌, ◌∙◌, ◌≤◌, ℕ, List, [], ◌∷◌, Option, Some, None, Bool, true, false, sym, ap, subst, refl, inl, inr, arith}
-use Rattle.std.specs.Prelude.{not, option_and_then, if◌then◌else◌}
-use Rattle.std.specs.List.{list_all}
-use Rattle.std.specs.Str.Parse.{digits_value}
-use Rattle.std.proofs.lemmas.Bool.{cases_Bool}
+use Rattle.sap_lemmas.proofs.Common.{◌≡◌, ◌∙◌, ◌≤◌, ℕ, List, [], ◌∷◌, Option, Some, None, Bool, true, false, sym, ap, subst, refl, inl, inr, arith, not, option_and_then, if◌then◌else◌, list_all, digits_value, cases_Bool}
 use Rattle.sap_words.specs.Words.{Words, Value, Maker, Row, is_number, is_operand, value_of, made, made_by, row_named, command_of, number_of, are_few_digits, is_run_number}
 use Rattle.sap_words.specs.Table.{IsRunNumber, Gives, Makes, IsCommand, ReadsTable}
 use Rattle.sap_words.proofs.Rows.{row_found, named}

@@ -1,10 +1,6 @@
 -- What `clap` makes of the operands of a command.
-use Rattle.std.proofs.Common.{◌≡◌, ◌∙◌, ◌+◌, ◌++◌, ℕ, List, [], ◌∷◌, Option, Some, None, Bool, true, false, ap, ap₂, refl, subst, arith, map, ◌&&◌, inl, inr, append_assoc}
-use Rattle.std.specs.Prelude.{◌||◌, not, nat_eq, min, fold, take, length, slice_get, unwrap_or, bytes_eq, Contains, if◌then◌else◌}
-use Rattle.std.specs.List.{AllByRecursion, list_all}
+use Rattle.sap_lemmas.proofs.Common.{◌≡◌, ◌∙◌, ◌+◌, ◌++◌, ℕ, List, [], ◌∷◌, Option, Some, None, Bool, true, false, ap, ap₂, refl, subst, arith, map, ◌&&◌, inl, inr, append_assoc, ◌||◌, not, nat_eq, min, fold, take, length, slice_get, unwrap_or, bytes_eq, Contains, if◌then◌else◌, AllByRecursion, list_all, cases_Bool, append-nil, and_false}
 use Rattle.std.specs.Option.{option_map_or}
-use Rattle.std.proofs.lemmas.Bool.{cases_Bool}
-use Rattle.std.proofs.lemmas.List.{append-nil}
 use Rattle.clap.specs.Lexer.{usize_max}
 use Rattle.clap.specs.Values.{reading_of}
 use Rattle.clap.specs.Words.{Row, Rule, Text, first_of}
@@ -13,7 +9,6 @@ use Rattle.clap.specs.Takes.{default_passes, is_valid, level_passes, positional_
 use Rattle.clap.specs.Walk.{Held, Walk, arg_by_id, arg_by_index, at_row, has_row, idle, more_values, nothing_held, pushed, rows_after, settled, to_positional, used, used_by_id, value, walked, with_default, with_values}
 use Rattle.clap.specs.declared.builder.value_parser.ValueParser.TheVariants as vp
 use Rattle.clap.specs.declared.parser.matches.ValueSource.TheVariants.{CommandLine}
-use Rattle.sap_lemmas.proofs.Bools.{and_false}
 use Rattle.sap_words.specs.Words.{Row as Line, commands, is_operand}
 use Rattle.sap_words.specs.Table.{AreOperands}
 use Rattle.sap_words.specs.Found.{value_at}

@@ -1,9 +1,6 @@
 -- Pairs of states that agree, by computation.
-use Rattle.std.proofs.Common.{inl, inr, refl}
-use Rattle.sap_lemmas.proofs.Bools.{true_is_not_false}
-use Rattle.std.proofs.lemmas.Bool.{eqb-false}
-use Rattle.sap_meaning.specs.Store.{put_number, put_level, put_child}
-use Rattle.sap_meaning.specs.State.{first}
+use Rattle.sap_lemmas.proofs.Common.{inl, inr, refl, true_is_not_false, eqb-false}
+use Rattle.sap_meaning.specs.Prelude.{put_number, put_level, put_child, first}
 use Rattle.sap_worked.specs.Rows.{low, left}
 use Rattle.sap_worked.specs.Ground.{register_x}
 use Rattle.sap_worked.specs.Agreeing.{RegistersAbove, EnforcedRegistersAbove, CellsAbove, MemoriesAbove, StateLevelsAbove, ChildrenAbove, BelowTheSeen, InactiveChildren, InactiveLevels, InputsAside, AgreeBelow}

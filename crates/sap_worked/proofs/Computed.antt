@@ -1,9 +1,6 @@
 -- The runs, by computation.
 use Rattle.std.proofs.Common.{refl}
-use Rattle.sap_meaning.specs.Store.{put_number, put_level, put_child, raise, reset, settle}
-use Rattle.sap_meaning.specs.Does.{effect, attempt, attempt_then, select, does, does_arms, does_block, does_state, does_child}
-use Rattle.sap_meaning.specs.Cycle.{cycle, set_inputs, root_fall}
-use Rattle.sap_meaning.specs.State.{first}
+use Rattle.sap_meaning.specs.Prelude.{put_number, put_level, put_child, raise, reset, settle, effect, attempt, attempt_then, select, does, does_arms, does_block, does_state, does_child, cycle, set_inputs, root_fall, first}
 use Rattle.sap_worked.specs.Retagging.{CellRaised, CellLowered, CellMovedAside, CellRefusedByAuthority, CellRefusedByLevel, StateRaised, StateLowered, StateMovedAside, StateRefused, RetaggedChild}
 use Rattle.sap_worked.specs.Writing.{EnforcedWrite, RefusedByIndex, RefusedByValue, DynamicWrite}
 use Rattle.sap_worked.specs.Transfers.{LowersBelow, RaisedByTarget, RaisedWhereRefused, FallRaises, RefusedFallRaises, WithoutFall}

@@ -1,10 +1,6 @@
 -- The states of the ground design agree where finitely many facts hold.
-use Rattle.std.proofs.Common.{◌≡◌, ℕ, zero, suc, true, false, arith, nat_eq}
-use Rattle.std.proofs.lemmas.Grind.{common_steps}
-use Rattle.sap_meaning.specs.Program.{is_dynamic, is_register, is_memory, authority}
-use Rattle.sap_meaning.specs.Store.{Store, Slot, own, start, next, start_whole, next_whole, owner, held, level}
-use Rattle.sap_meaning.specs.Agree.{Low, High, SlotsAlike, PartsAlike, active_path, StatesAgree}
-use Rattle.sap_meaning.specs.Examples.{four_levels}
+use Rattle.sap_lemmas.proofs.Common.{◌≡◌, ℕ, zero, suc, true, false, arith, nat_eq, common_steps}
+use Rattle.sap_meaning.specs.Prelude.{is_dynamic, is_register, is_memory, authority, Store, Slot, own, start, next, start_whole, next_whole, owner, held, level, Low, High, SlotsAlike, PartsAlike, active_path, StatesAgree, four_levels}
 use Rattle.sap_worked.specs.Rows.{right}
 use Rattle.sap_worked.specs.Ground.{register_x, register_y, register_z, memory_m, memory_k, memory_h, state_p, state_d, state_e, state_q, ground, ground_world}
 use Rattle.sap_worked.proofs.Tested.{look_alike, paths_alike}

@@ -1,10 +1,6 @@
 -- Pairs of states that don't agree, each by the one thing in which it differs.
-use Rattle.std.proofs.Common.{◌≡◌, false, inl, inr, refl}
-use Rattle.sap_lemmas.proofs.Bools.{true_is_not_false}
-use Rattle.std.proofs.lemmas.Bool.{eqb-false}
-use Rattle.sap_meaning.specs.Store.{Store, own, start, next, put_number, put_level, put_child}
-use Rattle.sap_meaning.specs.State.{first}
-use Rattle.sap_meaning.specs.Agree.{active_path}
+use Rattle.sap_lemmas.proofs.Common.{◌≡◌, false, inl, inr, refl, true_is_not_false, eqb-false}
+use Rattle.sap_meaning.specs.Prelude.{Store, own, start, next, put_number, put_level, put_child, first, active_path}
 use Rattle.sap_worked.specs.Rows.{left}
 use Rattle.sap_worked.specs.Ground.{register_x, register_y, memory_m, memory_k, state_d, state_q, ground, ground_world}
 use Rattle.sap_worked.specs.Apart.{Apart, RegisterNumber, RegisterLevel, RegisterSeenInOne, CellNumber, NextCellNumber, MemoryNumber, NextMemoryNumber, MemoryLevel, NextMemoryLevel, MemorySeenInOne, EnforcedRegisterLevel, EnforcedCellLevel, NextEnforcedCellLevel, InactiveStateLevel, ActiveStateLevel, OtherChild, OtherChildBelow, ChildLevel, ChildLevelBelow, ChildSeenInOne, OtherChildSeenInOne}

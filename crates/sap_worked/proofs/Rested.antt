@@ -1,9 +1,6 @@
 -- The two states that differ nearly everywhere are states between cycles.
 use Rattle.std.proofs.Common.{◌≡◌, ℕ, zero, suc, ◌<◌, true, false, refl, arith}
-use Rattle.sap_meaning.specs.Program.{is_dynamic, authority, children}
-use Rattle.sap_meaning.specs.Store.{Slot, own, start, next, start_whole, next_whole, owner, held, level, put_number, put_level, put_child}
-use Rattle.sap_meaning.specs.State.{Resting, first}
-use Rattle.sap_meaning.specs.Examples.{four_levels}
+use Rattle.sap_meaning.specs.Prelude.{is_dynamic, authority, children, Slot, own, start, next, start_whole, next_whole, owner, held, level, put_number, put_level, put_child, Resting, first, four_levels}
 use Rattle.sap_worked.specs.Ground.{ground_world}
 use Rattle.sap_worked.specs.Agreeing.{one_state, other_state}
 use Rattle.sap_worked.proofs.Grounded.{entities, cells, later}

@@ -1,7 +1,5 @@
 -- Streams and refusals that agree or don't.
-use Rattle.std.proofs.Common.{inl, inr, refl, ap, get_or, length}
-use Rattle.sap_lemmas.proofs.Bools.{true_is_not_false}
-use Rattle.std.proofs.lemmas.Bool.{eqb-false}
+use Rattle.sap_lemmas.proofs.Common.{inl, inr, refl, ap, get_or, length, true_is_not_false, eqb-false}
 use Rattle.sap_meaning.specs.Examples.{refused_at}
 use Rattle.sap_worked.specs.Streams.{InputsAlike, InputNumber, InputLevel, InputSeenInOne, InputTooMany, StreamsAlike, LaterCycle, CycleTooMany, CycleLater, StreamsAgreeBelow, RefusalsAlike, RefusedSite, RefusedLevel, RefusedSeenInOne, RefusedTooMany, RefusalsAgreeBelow}
 

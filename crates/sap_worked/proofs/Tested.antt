@@ -1,10 +1,6 @@
 -- Whether active paths look alike, as a test.
-use Rattle.std.proofs.Common.{◌≡◌, ℕ, Bool, true, false, not, ◌&&◌, List, [], ◌∷◌, nat_eq, inl, inr, refl, sym, ◌∙◌, if◌then◌else◌}
-use Rattle.std.proofs.lemmas.Bool.{cases_Bool, eqb-true}
-use Rattle.sap_lemmas.proofs.Bools.{and_left, and_right, true_is_not_false}
-use Rattle.sap_lemmas.proofs.Numbers.{test_of_same}
-use Rattle.sap_meaning.specs.Program.{World}
-use Rattle.sap_meaning.specs.Agree.{Alike, ActiveState, PathsRelated}
+use Rattle.sap_lemmas.proofs.Common.{◌≡◌, ℕ, Bool, true, false, not, ◌&&◌, List, [], ◌∷◌, nat_eq, inl, inr, refl, sym, ◌∙◌, if◌then◌else◌, cases_Bool, eqb-true, and_left, and_right, true_is_not_false, test_of_same}
+use Rattle.sap_meaning.specs.Prelude.{World, Alike, ActiveState, PathsRelated}
 
 module _ (w : World) (l : ℕ) where
   abbrev pub look_alike : List ActiveState → List ActiveState → Bool

@@ -1,18 +1,12 @@
 -- From the end of a command and its line to the answer of the call.
-use Rattle.std.proofs.Common.{◌≡◌, ◌≢◌, ℕ, List, [], ◌++◌, length, take, arith, refl, sym, ◌∙◌, ap, subst, inl, inr, ◌⊎◌}
-use Rattle.std.specs.Prelude.{Option, Some, None, IfSome, unwrap_or, Result}
-use Rattle.std.proofs.lemmas.List.{append-nil}
+use Rattle.sap_lemmas.proofs.Common.{◌≡◌, ◌≢◌, ℕ, List, [], ◌++◌, length, take, arith, refl, sym, ◌∙◌, ap, subst, inl, inr, ◌⊎◌, Option, Some, None, IfSome, unwrap_or, Result, append-nil}
 use Rattle.sap_desk.specs.Desk.{Told, Use}
 use Rattle.sap_desk.specs.Cause.{counted}
 use Rattle.sap_desk.specs.Whole.{Between, Gained, LostAtMostOne}
 use Rattle.sap_stim.specs.declared.fault.StimFault.{StimFault}
 use Rattle.sap_words.specs.Words.{Words, IsTwin, command_of}
-use Rattle.sap_files.specs.Ending.{Ending, Refusal, done, refused, failed, no_memory, no_command, lattice_refused, design_refused, part_refused, system_refused, wires_refused, stimulus_refused, module_refused, taint_refused, level_refused, lengths_apart, inputs_apart, wave_refused, asm_refused, status_of, status_of_refusal, line_of, IsFree}
-use Rattle.sap_files.specs.Asks.{Asks, file, by, gives, prints, writes, stops, AreLawful, Cause, Files, Shows, end_of}
+use Rattle.sap_files.specs.Prelude.{Ending, Refusal, done, refused, failed, no_memory, no_command, lattice_refused, design_refused, part_refused, system_refused, wires_refused, stimulus_refused, module_refused, taint_refused, level_refused, lengths_apart, inputs_apart, wave_refused, asm_refused, status_of, status_of_refusal, line_of, IsFree, Asks, file, by, gives, prints, writes, stops, AreLawful, Cause, Files, Shows, end_of, Blames, Stands, FullFile, FullOutput, OutsideOf, Counted, Ends, FaultRose, Left, Moment, ending, ending_of}
 use Rattle.sap_commands.specs.Commands.{asks, asks_for}
-use Rattle.sap_files.specs.After.{Blames, Stands}
-use Rattle.sap_files.specs.Outside.{FullFile, FullOutput, OutsideOf}
-use Rattle.sap_files.specs.Steps.{Counted, Ends, FaultRose, Left, Moment, ending, ending_of}
 use Rattle.sap_files.specs.declared.failure.Failure.{Failure}
 use Rattle.sap_files.specs.declared.failure.Failure.TheVariants.{Refused, Desk, PartFile, Memory}
 use Rattle.sapper.specs.Answers.{Answers, MayAnswer}

@@ -1,20 +1,16 @@
 -- The headline follows from what a `compile` asks.
-use Rattle.std.proofs.Common.{◌≡◌, ◌≢◌, ℕ, List, refl, sym, ◌∙◌, ap, subst, inl, inr, ◌⊎◌, arith}
-use Rattle.std.specs.Prelude.{Option, Some, None, IfSome}
+use Rattle.sap_lemmas.proofs.Common.{◌≡◌, ◌≢◌, ℕ, List, refl, sym, ◌∙◌, ap, subst, inl, inr, ◌⊎◌, arith, Option, Some, None, IfSome, some_unique}
 use Rattle.sap_desk.specs.Desk.{Told}
 use Rattle.sap_desk.specs.Whole.{Between}
 use Rattle.sap_desk.proofs.Steps.{at_name-same}
 use Rattle.sap_lattice.specs.Levels.{Levels}
 use Rattle.sap_tree.specs.Syntax.{DesignTree}
 use Rattle.sap_words.specs.Words.{Words, compile}
-use Rattle.sap_files.specs.Kinds.{Has, IsWellFormedText, lattice_file, design_file}
-use Rattle.sap_files.specs.Ending.{Ending, Refusal, done, refused, failed, no_memory, no_command, lattice_refused, design_refused, part_refused, system_refused, wires_refused, stimulus_refused, module_refused, taint_refused, level_refused, lengths_apart, inputs_apart, wave_refused, asm_refused, status_of, IsFree}
-use Rattle.sap_files.specs.Asks.{file, writes, Cause, Files, Leaves, Written}
+use Rattle.sap_files.specs.Prelude.{Has, IsWellFormedText, lattice_file, design_file, Ending, Refusal, done, refused, failed, no_memory, no_command, lattice_refused, design_refused, part_refused, system_refused, wires_refused, stimulus_refused, module_refused, taint_refused, level_refused, lengths_apart, inputs_apart, wave_refused, asm_refused, status_of, IsFree, file, writes, Cause, Files, Leaves, Written}
 use Rattle.sap_commands.specs.Commands.{IsModuleText, asks, asks_for, asks_if}
 use Rattle.sapper.specs.Answers.{Answers}
 use Rattle.sapper.specs.Exact.{Exact}
 use Rattle.sapper.specs.Headline.{Headline, MeansDesign}
-use Rattle.sap_lemmas.proofs.Options.{some_unique}
 use Rattle.sap_files.proofs.Lattices.{lattice_lawful}
 use Rattle.sap_files.proofs.Lawful.{not_both, one_value}
 use Rattle.sap_files.proofs.Modules.{one_module}

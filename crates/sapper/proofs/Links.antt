@@ -1,7 +1,5 @@
 -- The clause of `link` follows from what it asks.
-use Rattle.std.proofs.Common.{◌≡◌, ◌≢◌, ◌⊎◌, ℕ, List, [], ◌∷◌, ◌++◌, refl, sym, ◌∙◌, ap, subst, inr, arith}
-use Rattle.std.specs.Prelude.{Option, Some, None, IfSome}
-use Rattle.std.specs.List.{AllZip}
+use Rattle.sap_lemmas.proofs.Common.{◌≡◌, ◌≢◌, ◌⊎◌, ℕ, List, [], ◌∷◌, ◌++◌, refl, sym, ◌∙◌, ap, subst, inr, arith, Option, Some, None, IfSome, AllZip}
 use Rattle.sap_desk.specs.Desk.{Told}
 use Rattle.sap_desk.specs.Whole.{Between, Gained}
 use Rattle.sap_desk.proofs.Steps.{at_name-same}
@@ -17,9 +15,7 @@ use Rattle.sap_system.proofs.LinkAnswered.{none_where_kept}
 use Rattle.sap_linked.specs.Designs.{NamedDesign}
 use Rattle.sap_linker.specs.Given.{surroundings}
 use Rattle.sap_words.specs.Words.{Words, link}
-use Rattle.sap_files.specs.Ending.{Ending, Refusal, done, refused, wires_refused, status_of, line_of}
-use Rattle.sap_files.specs.Kinds.{Has, IsWellFormedText, lattice_file}
-use Rattle.sap_files.specs.Asks.{Asks, file, Cause, Files, Leaves, Written}
+use Rattle.sap_files.specs.Prelude.{Ending, Refusal, done, refused, wires_refused, status_of, line_of, Has, IsWellFormedText, lattice_file, Asks, file, Cause, Files, Leaves, Written}
 use Rattle.sap_files.proofs.Lattices.{lattice_lawful}
 use Rattle.sap_files.proofs.Modules.{one_module}
 use Rattle.sap_linking.specs.Kinds.{part_file, system_file}

@@ -1,6 +1,5 @@
 -- The clauses of `machine`, `asm` and `cpu` follow from what they ask.
-use Rattle.std.proofs.Common.{◌≡◌, ◌≢◌, ℕ, List, ◌++◌, refl, sym, ◌∙◌, ap, subst, inl, inr, ◌⊎◌}
-use Rattle.std.specs.Prelude.{Option, Some, None, Result, Ok, Err}
+use Rattle.sap_lemmas.proofs.Common.{◌≡◌, ◌≢◌, ℕ, List, ◌++◌, refl, sym, ◌∙◌, ap, subst, inl, inr, ◌⊎◌, Option, Some, None, Result, Ok, Err}
 use Rattle.sap_desk.specs.Desk.{Told}
 use Rattle.sap_desk.specs.Whole.{Between, Gained}
 use Rattle.sap_machine.specs.Assembly.{Assembled, assembled}
@@ -8,9 +7,7 @@ use Rattle.sap_machine.specs.Text.{refusal_text as assembly_text, in_file, of_bo
 use Rattle.sap_machine.specs.declared.fault.AsmFault.{AsmFault}
 use Rattle.sap_machine.proofs.Sound.{text_is}
 use Rattle.sap_words.specs.Words.{Words, command_of, machine, asm, cpu}
-use Rattle.sap_files.specs.Ending.{Ending, done, refused, asm_refused, line, status_of, line_of}
-use Rattle.sap_files.specs.Asks.{Cause, Output, Shows}
-use Rattle.sap_files.specs.Uncompiled.{asks_programs}
+use Rattle.sap_files.specs.Prelude.{Ending, done, refused, asm_refused, line, status_of, line_of, Cause, Output, Shows, asks_programs}
 use Rattle.sap_commands.specs.Commands.{asks, asks_for, asks_if}
 use Rattle.sap_commands.proofs.CommandLaws.{one_cause_lem}
 use Rattle.sapper.specs.Answers.{Answers}

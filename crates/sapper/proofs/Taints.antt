@@ -1,7 +1,6 @@
 -- The clause of `taint` follows from what it asks.
-use Rattle.std.proofs.Common.{◌≡◌, ◌≢◌, ◌⊎◌, ℕ, List, refl, sym, ◌∙◌, ap, subst, inl, inr, arith}
-use Rattle.std.specs.Prelude.{Option, Some, None, IfSome}
-use Rattle.sap_desk.specs.Desk.{Told, at_name}
+use Rattle.sap_lemmas.proofs.Common.{◌≡◌, ◌≢◌, ◌⊎◌, ℕ, List, refl, sym, ◌∙◌, ap, subst, inr, arith, Option, Some, None, IfSome}
+use Rattle.sap_desk.specs.Desk.{Told}
 use Rattle.sap_desk.specs.Whole.{Between, Gained}
 use Rattle.sap_desk.proofs.Steps.{at_name-same}
 use Rattle.sap_lattice.specs.Levels.{Levels}
@@ -10,10 +9,7 @@ use Rattle.sap_vtext.specs.Modules.{IsModule}
 use Rattle.sap_taint.specs.TagNames.{IsClash, HasRoomForTags}
 use Rattle.sap_taint_pass.specs.declared.fault.TaintFault.TheVariants.{Clash}
 use Rattle.sap_words.specs.Words.{Words, taint}
-use Rattle.sap_files.specs.Ending.{Ending, Refusal, done, refused, taint_refused, status_of, line_of}
-use Rattle.sap_files.specs.Kinds.{Has, lattice_file, module_file}
-use Rattle.sap_files.specs.Asks.{Asks, file, by, Cause, Files, Leaves, Written}
-use Rattle.sap_files.specs.Tainting.{FirstClash, IsTaintedText, tagged_or_refused}
+use Rattle.sap_files.specs.Prelude.{Ending, Refusal, done, refused, taint_refused, status_of, line_of, Has, lattice_file, module_file, Asks, file, by, Cause, Files, Leaves, Written, FirstClash, IsTaintedText, tagged_or_refused}
 use Rattle.sap_files.proofs.Lattices.{lattice_lawful}
 use Rattle.sap_files.proofs.Modules.{module_lawful, one_module}
 use Rattle.sap_taint.proofs.Clashes.{no_clash_with_room}

@@ -1,36 +1,25 @@
 -- The clauses of `wave` and of `unwave` follow from what they ask.
-use Rattle.std.proofs.Common.{◌≡◌, ◌≢◌, ℕ, List, ◌++◌, refl, sym, ◌∙◌, ap, ap₂, subst, inl, inr, ◌⊎◌, map}
-use Rattle.std.specs.Prelude.{Option, Some, None, IfSome}
-use Rattle.sap_lemmas.proofs.Options.{some_unique}
+use Rattle.sap_lemmas.proofs.Common.{◌≡◌, ◌≢◌, ℕ, List, ◌++◌, refl, sym, ◌∙◌, ap, ap₂, subst, inl, inr, ◌⊎◌, map, Option, Some, None, IfSome, some_unique}
 use Rattle.sap_desk.specs.Desk.{Told}
 use Rattle.sap_desk.specs.Whole.{Between, Gained}
 use Rattle.sap_desk.proofs.Steps.{at_name-same}
 use Rattle.sap_lattice.specs.Levels.{Levels}
 use Rattle.sap_meaning.specs.Cycle.{Tagged}
-use Rattle.sap_net.specs.IsNetlist.{IsNetlist}
-use Rattle.sap_net.specs.Net.{Net}
+use Rattle.sap_net.specs.Prelude.{IsNetlist, Net}
 use Rattle.sap_vtext.specs.Modules.{IsModule}
 use Rattle.sap_stim.specs.declared.stimulus.Parsed.{Parsed}
-use Rattle.sap_sim.specs.Numbers.{numbers_of}
-use Rattle.sap_sim.specs.Stepped.{IsRunOn}
+use Rattle.sap_sim.specs.Prelude.{numbers_of, IsRunOn}
 use Rattle.sap_wave.specs.declared.fault.WaveCode.{WaveCode}
 use Rattle.sap_wave.specs.declared.fault.WaveFault.{WaveFault}
 use Rattle.sap_wave.specs.declared.fault.WaveFault.TheVariants.{Rule, Memory}
-use Rattle.sap_wave.specs.Dumps.{IsReading}
-use Rattle.sap_wave.specs.Faults.{IsFault}
-use Rattle.sap_wave.specs.Read.{IsWaveFault}
-use Rattle.sap_wave.specs.Runs.{run_wave}
-use Rattle.sap_wave.specs.Waves.{Wave}
+use Rattle.sap_wave.specs.Prelude.{IsReading, IsFault, IsWaveFault, run_wave, Wave}
 use Rattle.sap_wave.proofs.Once.{one_wave_or_fault}
 use Rattle.sap_wave.proofs.Running.{runs_read_back}
 use Rattle.sap_wave_rows.specs.Rows.{rows_of_wave}
 use Rattle.sap_wave_rows.proofs.RowsOfRuns.{rows_of_runs}
 use Rattle.sap_wave_run.specs.Dumped.{IsDumpOn}
 use Rattle.sap_words.specs.Words.{Words, wave, unwave}
-use Rattle.sap_files.specs.Ending.{Ending, Refusal, done, refused, wave_refused, status_of, line_of}
-use Rattle.sap_files.specs.Kinds.{Kind, Has, IsLawful, lattice_file, module_file, module_stream_file, wave_file}
-use Rattle.sap_files.specs.Asks.{Asks, file, gives, writes, Cause, Files, Leaves, Output, Shows, Written}
-use Rattle.sap_files.specs.StimulusTexts.{AreModuleRows}
+use Rattle.sap_files.specs.Prelude.{Ending, Refusal, done, refused, wave_refused, status_of, line_of, Kind, Has, IsLawful, lattice_file, module_file, module_stream_file, wave_file, Asks, file, gives, writes, Cause, Files, Leaves, Output, Shows, Written, AreModuleRows}
 use Rattle.sap_commands.specs.Commands.{asks, asks_for, asks_if}
 use Rattle.sap_files.proofs.Lattices.{lattice_lawful}
 use Rattle.sap_files.proofs.Lawful.{not_both, one_value}

@@ -1,34 +1,20 @@
 -- A netlist that is alike to one that stands for a design stands for it too.
-use Rattle.std.proofs.Common.{◌≡◌, ◌⊎◌, ℕ, List, [], ◌∷◌, ◌++◌, map, true, false, Some, inl, inr, sym, ap, ap₂, ◌∙◌, subst, length}
-use Rattle.std.specs.Prelude.{unwrap_or, option_map, Option}
-use Rattle.std.specs.List.{AllByRecursion, AllZip}
-use Rattle.std.proofs.lemmas.Bool.{cases_Bool}
-use Rattle.sap_lemmas.proofs.Everywhere.{all_of_map, map_of_all}
+use Rattle.sap_lemmas.proofs.Common.{◌≡◌, ◌⊎◌, ℕ, List, [], ◌∷◌, ◌++◌, map, true, false, Some, inl, inr, sym, ap, ap₂, ◌∙◌, subst, length, unwrap_or, option_map, Option, AllByRecursion, AllZip, cases_Bool, all_of_map, map_of_all}
 use Rattle.sap_net.proofs.NamesLemmas.{among_behind, among_front, each_among, among_each, found_of}
-use Rattle.sap_maps.specs.Maps.{Name, Valuation}
-use Rattle.sap_maps.specs.Scope.{find}
-use Rattle.sap_meaning.specs.Cycle.{Tagged}
-use Rattle.sap_meaning.specs.Store.{Store, After, Refusal}
-use Rattle.sap_meaning.specs.State.{StreamFits, labelled_run}
-use Rattle.sap_net.specs.Names.{is_among, IsHelpingName}
-use Rattle.sap_net.specs.Net.{Net}
-use Rattle.sap_net.specs.IsNetlist.{IsNetlist, PortShows, input_names, wire_names, register_names, memory_names, first_readable, shapes, width_of}
-use Rattle.sap_net.specs.Laws.{SomeRun}
-use Rattle.sap_net.specs.Runs.{AllFit, observed}
+use Rattle.sap_maps.specs.Prelude.{Name, Valuation, find}
+use Rattle.sap_meaning.specs.Prelude.{Tagged, Store, After, Refusal, StreamFits, labelled_run}
+use Rattle.sap_net.specs.Prelude.{is_among, IsHelpingName, Net, IsNetlist, PortShows, input_names, wire_names, register_names, memory_names, first_readable, shapes, width_of, SomeRun, AllFit, observed}
 use Rattle.sap_net.specs.declared.parts.PortKind.{PortKind}
-use Rattle.sap_net.specs.declared.parts.PortKind.TheVariants as kind
 use Rattle.sap_net.specs.declared.parts.Port.{Port}
 use Rattle.sap_net.specs.declared.parts.Input.{Input}
 use Rattle.sap_net.specs.declared.parts.Wire.{Wire}
 use Rattle.sap_net.specs.declared.parts.Register.{Register}
 use Rattle.sap_net.specs.declared.parts.Memory.{Memory}
+use Rattle.sap_net.specs.declared.parts.PortKind.TheVariants as kind
 use Rattle.sap_trim.specs.Alike.{DeclaresAlike, ShowsAlike, RunsAlike}
 use Rattle.sap_trim.specs.Names.{helper, port_names, lasting_names, helping_wires, NoneNumbered}
 use Rattle.sap_trim.specs.Trimmed.{NumbersWires}
-use Rattle.sap_interface.specs.StandsFor.{Named, world, StandsFor}
-use Rattle.sap_interface.specs.InterfaceNames.{IsInterfaceName}
-use Rattle.sap_interface.specs.Interface.{Shown, HasInterface, declared_by, ports_of}
-use Rattle.sap_interface.specs.Compiled.{coded_stream, CyclesStand, NetStandsFor}
+use Rattle.sap_interface.specs.Prelude.{Named, world, StandsFor, IsInterfaceName, Shown, HasInterface, declared_by, ports_of, coded_stream, CyclesStand, NetStandsFor}
 use Rattle.sap_tagged.proofs.Members.{In}
 use Rattle.sap_compile.proofs.stages.Ports.{ports_named}
 use Rattle.sap_compile.proofs.stages.Carried.{Carries, interface_carried, stands_carried}

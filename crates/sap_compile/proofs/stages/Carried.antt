@@ -1,15 +1,11 @@
 -- What is declared in another too, and has the same numbers there, stands for the same design.
-use Rattle.std.proofs.Common.{◌≡◌, ◌≤◌, ◌↔◌, ℕ, List, Some, sym, ◌∙◌, subst}
-use Rattle.std.specs.List.{AllByRecursion}
-use Rattle.sap_maps.specs.Maps.{Name, Valuation}
-use Rattle.sap_maps.specs.Scope.{Scope, find}
+use Rattle.sap_lemmas.proofs.Common.{◌≡◌, ◌≤◌, ◌↔◌, ℕ, List, Some, sym, ◌∙◌, subst, AllByRecursion}
+use Rattle.sap_maps.specs.Prelude.{Name, Valuation, Scope, find}
 use Rattle.sap_meaning.specs.Store.{Store, Refusal}
 use Rattle.sap_net.specs.declared.parts.PortKind.TheVariants as kind
-use Rattle.sap_net.specs.Rules.{Shapes}
-use Rattle.sap_net.specs.PortNames.{refused_name, refused_level_name}
-use Rattle.sap_interface.specs.StandsFor.{Named, StandsFor, IsRefused}
-use Rattle.sap_interface.specs.InterfaceNames.{IsInterfaceName}
-use Rattle.sap_interface.specs.Interface.{Shown, Declared, HasSeat, DeclaresPart, DeclaresInterface}
+use Rattle.sap_net.specs.Prelude.{Shapes, refused_name, refused_level_name}
+use Rattle.sap_interface.specs.Prelude.{Named, StandsFor, IsRefused, IsInterfaceName, Shown, HasSeat, DeclaresPart, DeclaresInterface}
+use Rattle.sap_interface.specs.Interface.{Declared}
 use Rattle.sap_tagged.proofs.Members.{In}
 use Rattle.sap_compile.proofs.stages.Ports.{refused_port, level_port}
 

@@ -1,14 +1,9 @@
 -- What is declared under a name in one of two netlists that declare alike.
-use Rattle.std.proofs.Common.{◌≡◌, ℕ, List, [], ◌∷◌, map, true, Some, inl, inr, refl, sym, ap, ◌∙◌, subst, bytes_eq}
-use Rattle.std.specs.List.{AllByRecursion}
-use Rattle.std.proofs.lemmas.Bool.{cases_Bool}
-use Rattle.sap_lemmas.proofs.Texts.{equal_of_bytes_eq}
+use Rattle.sap_lemmas.proofs.Common.{◌≡◌, ℕ, List, [], ◌∷◌, map, true, Some, inl, inr, refl, sym, ap, ◌∙◌, subst, bytes_eq, AllByRecursion, cases_Bool, equal_of_bytes_eq}
 use Rattle.sap_net.proofs.RulesLemmas.{readable_kept}
-use Rattle.sap_maps.specs.Maps.{Name}
-use Rattle.sap_maps.specs.Scope.{Scope, find}
+use Rattle.sap_maps.specs.Prelude.{Name, Scope, find}
 use Rattle.sap_maps.proofs.Scopes.{found_here}
-use Rattle.sap_net.specs.Names.{is_among}
-use Rattle.sap_net.specs.Rules.{Shapes, AreWires, readable_after}
+use Rattle.sap_net.specs.Prelude.{is_among, Shapes, AreWires, readable_after}
 use Rattle.sap_net.specs.declared.parts.PortKind.{PortKind}
 use Rattle.sap_net.specs.declared.parts.Port.{Port}
 use Rattle.sap_net.specs.declared.parts.Wire.{Wire}

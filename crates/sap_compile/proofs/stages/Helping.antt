@@ -1,14 +1,10 @@
 -- The names of helping wires, which no port, register or memory has.
-use Rattle.std.proofs.Common.{◌≡◌, ◌⊎◌, ℕ, zero, suc, List, [], ◌∷◌, ◌++◌, filter, not, true, false, inl, inr, refl, sym, ◌∙◌, subst, bytes_eq}
-use Rattle.std.proofs.lemmas.Bool.{cases_Bool, or_cases}
-use Rattle.sap_lemmas.proofs.Texts.{equal_of_bytes_eq}
+use Rattle.sap_lemmas.proofs.Common.{◌≡◌, ◌⊎◌, ℕ, zero, suc, List, [], ◌∷◌, ◌++◌, filter, not, true, false, inl, inr, refl, sym, ◌∙◌, subst, bytes_eq, cases_Bool, or_cases, equal_of_bytes_eq}
 use Rattle.sap_net.proofs.NamesLemmas.{among_append}
 use Rattle.sap_maps.specs.Maps.{Name}
-use Rattle.sap_net.specs.Names.{is_among, IsHelpingName}
+use Rattle.sap_net.specs.Prelude.{is_among, IsHelpingName, names_of}
 use Rattle.sap_net.specs.declared.parts.Wire.{Wire}
-use Rattle.sap_net.specs.IsNetlist.{names_of}
-use Rattle.sap_interface.specs.StandsFor.{Named}
-use Rattle.sap_interface.specs.InterfaceNames.{IsInterfaceName, value_of, tag_of, state_tag_of, child_of, child_of_root, refusal_of, level_of}
+use Rattle.sap_interface.specs.Prelude.{Named, IsInterfaceName, value_of, tag_of, state_tag_of, child_of, child_of_root, refusal_of, level_of}
 use Rattle.sap_trim.specs.Names.{helper, numbered}
 
 -- a name on one of two lists

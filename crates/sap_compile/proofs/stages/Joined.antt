@@ -1,45 +1,27 @@
 -- The netlist of nested states that stand for a design stands for it too.
-use Rattle.std.proofs.Common.{◌≡◌, ◌⊎◌, ℕ, List, [], ◌∷◌, ◌++◌, map, true, false, Some, inl, inr, refl, sym, ap, ap₂, ◌∙◌, subst, if◌then◌else◌, bytes_eq}
-use Rattle.std.specs.Prelude.{option_map}
-use Rattle.std.specs.List.{AllByRecursion, AllZip}
-use Rattle.std.proofs.lemmas.Bool.{cases_Bool}
-use Rattle.sap_lemmas.proofs.Everywhere.{all_follow, all_of_map, map_of_all, all_second}
-use Rattle.sap_lemmas.proofs.Texts.{bytes_eq_same}
+use Rattle.sap_lemmas.proofs.Common.{◌≡◌, ◌⊎◌, ℕ, List, [], ◌∷◌, ◌++◌, map, true, false, Some, inl, inr, refl, sym, ap, ap₂, ◌∙◌, subst, if◌then◌else◌, bytes_eq, option_map, AllByRecursion, AllZip, cases_Bool, all_follow, all_of_map, map_of_all, all_second, bytes_eq_same}
 use Rattle.sap_net.proofs.NamesLemmas.{found_among, found_of, among_each, each_among}
-use Rattle.sap_maps.specs.Maps.{Name, Valuation}
-use Rattle.sap_maps.specs.Scope.{find}
-use Rattle.sap_meaning.specs.Cycle.{Tagged}
-use Rattle.sap_meaning.specs.Store.{Store, After, Refusal}
-use Rattle.sap_meaning.specs.State.{StreamFits, labelled_run}
-use Rattle.sap_net.specs.Names.{is_among, IsHelpingName}
-use Rattle.sap_net.specs.Net.{Net}
-use Rattle.sap_net.specs.IsNetlist as net
-use Rattle.sap_net.specs.IsNetlist.{IsNetlist}
-use Rattle.sap_net.specs.Laws.{SomeRun}
-use Rattle.sap_net.specs.Runs.{AllFit, observed}
-use Rattle.sap_net.specs.declared.parts.PortKind.TheVariants as kind
+use Rattle.sap_maps.specs.Prelude.{Name, Valuation, find}
+use Rattle.sap_meaning.specs.Prelude.{Tagged, Store, After, Refusal, StreamFits, labelled_run}
+use Rattle.sap_net.specs.Prelude.{is_among, IsHelpingName, Net, IsNetlist, SomeRun, AllFit, observed}
 use Rattle.sap_net.specs.declared.parts.Port.{Port}
 use Rattle.sap_net.specs.declared.parts.Input.{Input}
 use Rattle.sap_net.specs.declared.parts.Register.{Register}
 use Rattle.sap_net.specs.declared.parts.Memory.{Memory}
+use Rattle.sap_net.specs.IsNetlist as net
+use Rattle.sap_net.specs.declared.parts.PortKind.TheVariants as kind
+use Rattle.sap_ir.specs.Prelude.{Source, variable_names, memory_names, Nested, IsPlain}
 use Rattle.sap_ir.specs.declared.guarded.Var.{Var}
-use Rattle.sap_ir.specs.declared.guarded.MemoryVariable as ir
-use Rattle.sap_ir.specs.Source.{Source}
 use Rattle.sap_ir.specs.Guarded.{guarded_run}
-use Rattle.sap_ir.specs.IsGuarded.{variable_names, memory_names}
-use Rattle.sap_ir.specs.Plain.Nested.{Nested}
 use Rattle.sap_ir.specs.Plain.Does.{plain_run}
-use Rattle.sap_ir.specs.Plain.IsPlain.{IsPlain}
+use Rattle.sap_ir.specs.declared.guarded.MemoryVariable as ir
 use Rattle.sap_flat.specs.Same as flat
 use Rattle.sap_lower.specs.Same as low
 use Rattle.sap_lower.proofs.Listed.{listed_port}
 use Rattle.sap_trim.specs.Alike.{DeclaresAlike, RunsAlike}
 use Rattle.sap_trim.specs.Names.{helper, port_names, lasting_names, NoneNumbered}
 use Rattle.sap_trim.specs.Trimmed.{NumbersWires}
-use Rattle.sap_interface.specs.StandsFor.{Named, world, StandsFor}
-use Rattle.sap_interface.specs.InterfaceNames.{IsInterfaceName}
-use Rattle.sap_interface.specs.Interface.{Shown, HasInterface, declared_by}
-use Rattle.sap_interface.specs.Compiled.{coded_stream, CyclesStand, NetStandsFor}
+use Rattle.sap_interface.specs.Prelude.{Named, world, StandsFor, IsInterfaceName, Shown, HasInterface, declared_by, coded_stream, CyclesStand, NetStandsFor}
 use Rattle.sap_tagged.specs.Law.{shows, shown, declared_in, PlainStandsFor}
 use Rattle.sap_tagged.proofs.Members.{In}
 use Rattle.sap_compile.specs.Stages.Stages.{StandsForTheSame}

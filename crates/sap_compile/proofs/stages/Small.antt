@@ -1,11 +1,7 @@
 -- The small netlist has no more items than the given one.
-use Rattle.std.proofs.Common.{◌≡◌, ◌+◌, ◌≤◌, List, [], ◌∷◌, filter, length, true, ap, inl, inr, arith}
-use Rattle.std.specs.List.{AllByRecursion}
-use Rattle.std.proofs.lemmas.Bool.{cases_Bool}
-use Rattle.std.proofs.lemmas.List.{length-map}
+use Rattle.sap_lemmas.proofs.Common.{◌≡◌, ◌+◌, ◌≤◌, List, [], ◌∷◌, filter, length, true, ap, inl, inr, arith, AllByRecursion, cases_Bool, length-map}
 use Rattle.sap_maps.specs.Maps.{Name}
-use Rattle.sap_net.specs.Names.{is_among}
-use Rattle.sap_net.specs.Net.{Net}
+use Rattle.sap_net.specs.Prelude.{is_among, Net}
 use Rattle.sap_net.specs.declared.parts.Operand.{Operand}
 use Rattle.sap_net.specs.declared.parts.Right.TheVariants.{Copy}
 use Rattle.sap_net.specs.declared.parts.Wire.{Wire}

@@ -1,25 +1,18 @@
 -- The netlist of nested states starts as they do.
-use Rattle.std.proofs.Common.{◌≡◌, ◌↔◌, ℕ, List, [], ◌∷◌, map, None, inl, inr, refl, sym, ap, ◌∙◌, subst, bytes_eq}
-use Rattle.std.specs.Prelude.{unwrap_or, option_map, Option}
-use Rattle.std.proofs.lemmas.Bool.{cases_Bool}
-use Rattle.sap_maps.specs.Maps.{Name, Valuation}
-use Rattle.sap_maps.specs.Scope.{find}
+use Rattle.sap_lemmas.proofs.Common.{◌≡◌, ◌↔◌, ℕ, List, [], ◌∷◌, map, None, inl, inr, refl, sym, ap, ◌∙◌, subst, bytes_eq, unwrap_or, option_map, Option, cases_Bool}
+use Rattle.sap_maps.specs.Prelude.{Name, Valuation, find}
 use Rattle.sap_meaning.specs.Store.{Store, Refusal}
-use Rattle.sap_net.specs.Net.{Net}
-use Rattle.sap_net.specs.PortNames.{refused_name}
+use Rattle.sap_net.specs.Prelude.{Net, refused_name, initial}
 use Rattle.sap_net.specs.declared.parts.Register.{Register}
 use Rattle.sap_net.specs.declared.parts.Memory.{Memory}
+use Rattle.sap_ir.specs.Prelude.{register_number, cell_at_start, Nested, Source}
 use Rattle.sap_ir.specs.declared.guarded.Var.{Var}
 use Rattle.sap_ir.specs.declared.guarded.MemoryVariable.{MemoryVariable}
-use Rattle.sap_ir.specs.Guarded.{register_number, cell_at_start}
-use Rattle.sap_ir.specs.Plain.Nested.{Nested}
-use Rattle.sap_ir.specs.Source.{Source}
 use Rattle.sap_flat.specs.Same as flat
 use Rattle.sap_lower.specs.Same as low
 use Rattle.sap_trim.specs.Alike.{DeclaresAlike}
 use Rattle.sap_interface.specs.StandsFor.{Named, StandsFor, IsRefused}
 use Rattle.sap_tags.specs.Starts.{plain_initial}
-use Rattle.sap_net.specs.Runs.{initial}
 use Rattle.sap_compile.specs.Stages.Stages.{StartsAsTheSame}
 use Rattle.sap_compile.proofs.stages.Found.{Shape, Stored, memory_stored, store_stored}
 use Rattle.sap_compile.proofs.stages.Declared.{Kept}

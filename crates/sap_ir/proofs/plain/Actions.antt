@@ -1,10 +1,7 @@
 -- Tests and actions over what a program declares: the rule and its test.
-use Rattle.std.proofs.Common.{◌≡◌, ℕ, [], ◌∷◌, map, Some, true, refl, arith}
-use Rattle.std.proofs.lemmas.Bool.{and_from, and_parts}
+use Rattle.sap_lemmas.proofs.Common.{◌≡◌, ℕ, [], ◌∷◌, map, Some, true, refl, arith, and_from, and_parts}
 use Rattle.sap_maps.proofs.ScopeLemmas.{found_first}
-use Rattle.sap_maps.specs.Maps.{Name}
-use Rattle.sap_maps.specs.Scope.{find}
-use Rattle.sap_maps.specs.Term.{Term, constant, read}
+use Rattle.sap_maps.specs.Prelude.{Name, find, Term, constant, read}
 use Rattle.sap_net.specs.Names.{AreDistinct}
 use Rattle.sap_ir.specs.Source.{Action, set, Command, Source, readable, shapes}
 use Rattle.sap_ir.specs.IsGuarded.{TermFine, assignable, ActionFine, CommandFine, declared, IsGuarded}

@@ -1,22 +1,17 @@
 -- What the type keeps passes the test.
-use Rattle.std.proofs.Common.{◌≡◌, ℕ, ◌^◌, ◌&&◌, ◌==◌, List, map, Option, Some, Bool, true, not, ap, ◌∙◌, refl, eq-eqb}
-use Rattle.std.specs.Prelude.{nat_le}
-use Rattle.std.proofs.lemmas.Bool.{and_from, le-leb}
+use Rattle.sap_lemmas.proofs.Common.{◌≡◌, ℕ, ◌^◌, ◌&&◌, ◌==◌, List, map, Option, Some, Bool, true, not, ap, ◌∙◌, refl, eq-eqb, nat_le, and_from, le-leb}
 use Rattle.sap_lemmas.proofs.Bools.{five_from, three_from}
 use Rattle.sap_lemmas.proofs.Everywhere.{test_of_all}
 use Rattle.sap_ir.proofs.TestLemmas.{distinct_to}
-use Rattle.sap_maps.specs.Maps.{Name}
-use Rattle.sap_maps.specs.Scope.{find}
+use Rattle.sap_maps.specs.Prelude.{Name, find, read}
 use Rattle.sap_tree.specs.Words.{is_name}
 use Rattle.sap_tree.specs.declared.version.Version.TheVariants.{One}
-use Rattle.sap_net.specs.Names.{is_among}
-use Rattle.sap_maps.specs.Term.{read}
+use Rattle.sap_net.specs.Prelude.{is_among, seat_name, root_seat}
 use Rattle.sap_ir.specs.Source.{Action, set, Source}
 use Rattle.sap_ir.specs.IsGuarded.{ActionFine, declared, IsGuarded}
 use Rattle.sap_ir.specs.Test.{of_shape, value_is_fine}
 use Rattle.sap_ir.proofs.Passes.{guarded_to}
 use Rattle.sap_ir.specs.Plain.Nested.{Body, stop, act, cases, goto, fall, Forest, none, state, Nested, declarations, has_states, size, group_names, state_names, seats, seat_width}
-use Rattle.sap_net.specs.PortNames.{seat_name, root_seat}
 use Rattle.sap_ir.specs.Plain.IsPlain.{is_gate, BodyFine, SeatFine, ForestFine, IsPlain}
 use Rattle.sap_ir.specs.Plain.Test.{body_is_fine, seat_is_fine, forest_is_fine, is_plain}
 use Rattle.sap_ir.proofs.plain.SeatWidths.{seat_register}

@@ -1,14 +1,7 @@
 -- Registers of current children, and their widths.
-use Rattle.std.proofs.Common.{◌≡◌, ℕ, zero, suc, ◌+◌, ◌-◌, ◌*◌, ◌%◌, ◌^◌, ◌<◌, ◌≤◌, ◌==◌, List, [], ◌∷◌, map, Some, true, ap, ◌∙◌, refl, arith, inl, inr}
-use Rattle.std.specs.Prelude.{nat_le}
-use Rattle.std.specs.Str.{bytes_eq}
-use Rattle.std.proofs.lemmas.Bool.{cases_Bool, le-leb, leb-false, leb-true, lt-leb}
-use Rattle.std.proofs.lemmas.Bool.Decides.{Decides-eqb}
-use Rattle.std.proofs.Math.Nat.{mod-eq_of_lt}
+use Rattle.sap_lemmas.proofs.Common.{◌≡◌, ℕ, zero, suc, ◌+◌, ◌-◌, ◌*◌, ◌%◌, ◌^◌, ◌<◌, ◌≤◌, ◌==◌, List, [], ◌∷◌, map, Some, true, ap, ◌∙◌, refl, arith, inl, inr, nat_le, bytes_eq, cases_Bool, le-leb, leb-false, leb-true, lt-leb, Decides-eqb, mod-eq_of_lt, above_unequal}
 use Rattle.std.proofs.Math.Pow.{pow-lt}
-use Rattle.sap_lemmas.proofs.Numbers.{above_unequal}
-use Rattle.sap_maps.specs.Maps.{Name}
-use Rattle.sap_maps.specs.Scope.{find}
+use Rattle.sap_maps.specs.Prelude.{Name, find}
 use Rattle.sap_ir.specs.declared.guarded.Var.{Var}
 use Rattle.sap_ir.specs.Source.{Source}
 use Rattle.sap_ir.specs.Plain.Nested.{Forest, none, state, has_states, size, width_from, seat_width}
@@ -95,9 +88,6 @@ width_found u count l h = let e : 64 - u ≡ suc (64 - (u + 1)) = omega arith in
 
 pub width_next : (u count : ℕ) → u < 64 → 2 ^ u < count → width_from (64 - u) u count ≡ width_from (64 - (u + 1)) (u + 1) count
 width_next u count l h = let e : 64 - u ≡ suc (64 - (u + 1)) = omega arith in rw (e, lt-leb count (2 ^ u) h) refl
-
-pub width_last : (u count : ℕ) → 64 ≤ u → width_from (64 - u) u count ≡ u
-width_last u count h = let e : 64 - u ≡ 0 = omega arith in rw e refl
 
 pub shifted : (u : ℕ) → u < 64 → 1 * 2 ^ u % 18446744073709551616 ≡ 2 ^ u
 shifted u l =

@@ -1,23 +1,16 @@
 -- What passes the test is what the type keeps.
-use Rattle.std.proofs.Common.{◌≡◌, ℕ, ◌^◌, ◌&&◌, ◌==◌, List, map, Option, Some, None, Bool, true, not, ap₂}
-use Rattle.std.specs.Prelude.{nat_le}
-use Rattle.std.proofs.lemmas.Bool.{and_parts, leb-true, not-true}
-use Rattle.sap_lemmas.proofs.Bools.{five_parts, three_parts}
-use Rattle.sap_lemmas.proofs.Everywhere.{all_of_test}
-use Rattle.sap_lemmas.proofs.Numbers.{equal_of_test}
+use Rattle.sap_lemmas.proofs.Common.{◌≡◌, ℕ, ◌^◌, ◌&&◌, ◌==◌, List, map, Option, Some, None, Bool, true, not, ap₂, nat_le, and_parts, leb-true, not-true, three_parts, all_of_test, equal_of_test}
+use Rattle.sap_lemmas.proofs.Bools.{five_parts}
 use Rattle.sap_ir.proofs.TestLemmas.{distinct_from}
-use Rattle.sap_maps.specs.Maps.{Name}
-use Rattle.sap_maps.specs.Scope.{find}
-use Rattle.sap_maps.specs.Term.{read}
+use Rattle.sap_maps.specs.Prelude.{Name, find, read}
 use Rattle.sap_tree.specs.Words.{is_name}
 use Rattle.sap_tree.specs.declared.version.Version.TheVariants.{One}
-use Rattle.sap_net.specs.Names.{is_among}
+use Rattle.sap_net.specs.Prelude.{is_among, seat_name, root_seat}
 use Rattle.sap_ir.specs.Source.{Action, set, Source}
 use Rattle.sap_ir.specs.IsGuarded.{declared}
 use Rattle.sap_ir.specs.Test.{of_shape, value_is_fine, action_is_fine, is_guarded}
 use Rattle.sap_ir.proofs.Tested.{guarded_from}
 use Rattle.sap_ir.specs.Plain.Nested.{Body, stop, act, cases, goto, fall, Forest, none, state, Nested, declarations, has_states, size, group_names, state_names, seats, seat_width}
-use Rattle.sap_net.specs.PortNames.{seat_name, root_seat}
 use Rattle.sap_ir.specs.Plain.IsPlain.{is_gate, keeps_seats, BodyFine, ends_in_transfers, IsSeat, SeatFine, ForestFine, IsPlain}
 use Rattle.sap_ir.specs.Plain.Test.{body_is_fine, is_seat, seat_is_fine, forest_is_fine, is_plain}
 use Rattle.sap_ir.proofs.plain.SeatWidths.{seat_register}

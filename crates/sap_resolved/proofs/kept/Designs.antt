@@ -1,16 +1,14 @@
 -- Resolving keeps a design.
 use Rattle.std.proofs.Common.{◌≡◌, ℕ, ◌+◌, ◌<◌, ◌≤◌, Bool, List, [], ◌∷◌, length, not, None, Option, Some, refl, sym, ap, ◌∙◌, subst, arith}
+use Rattle.sap_tree.specs.Syntax.{DesignTree}
 use Rattle.sap_tree.specs.declared.name.Mention.{Mention}
 use Rattle.sap_tree.specs.declared.syntax.Numeral.{Numeral}
 use Rattle.sap_tree.specs.declared.syntax.Decl.{Decl}
 use Rattle.sap_tree.specs.declared.syntax.Decl.TheVariants.{Input, Register, Memory}
-use Rattle.sap_tree.specs.Syntax.{DesignTree}
 use Rattle.sap_lattice.specs.Levels.{Levels, order_of}
+use Rattle.sap_names.specs.Prelude.{entity_of, declared_in, group_entities, entities_of, what_is, fault_if, width_faults, kind_faults, start_faults, declaration_faults, declarations_faults, states_faults, twice, index_bits, is_sound}
 use Rattle.sap_names.specs.declared.entity.Entity.{Entity}
 use Rattle.sap_names.specs.declared.kind.Code.TheVariants.{E7}
-use Rattle.sap_names.specs.Entities.{entity_of, declared_in, group_entities, entities_of, what_is}
-use Rattle.sap_names.specs.NameFaults.{fault_if, width_faults, kind_faults, start_faults, declaration_faults, declarations_faults, states_faults, twice}
-use Rattle.sap_names.specs.Widths.{index_bits, is_sound}
 use Rattle.sap_meaning.specs.Program.{World, entity, nothing, root}
 use Rattle.sap_meaning.specs.Program as program
 use Rattle.sap_resolved.specs.Worlds.{initial_of, declared, all_declared, world_of}

@@ -1,29 +1,19 @@
 -- What hangs on the commands of a program is what they touch in the tree.
-use Rattle.std.proofs.Common.{◌≡◌, ℕ, suc, ◌+◌, ◌<◌, Bool, true, false, ◌&&◌, ◌||◌, List, [], ◌∷◌, ◌++◌, length, map, nat_eq, refl, sym, ap, ◌∙◌, arith, bytes_eq, Option, Some, None}
-use Rattle.std.proofs.lemmas.List.{map-append}
-use Rattle.std.proofs.lemmas.Simd.{map-map}
-use Rattle.sap_lemmas.proofs.Numbers.{test_of_same}
-use Rattle.sap_lemmas.proofs.Texts.{bytes_eq_same, equal_of_bytes_eq}
-use Rattle.std.proofs.lemmas.Bool.{eqb-true, false_from_ne_true, or_left, or_right}
+use Rattle.sap_lemmas.proofs.Common.{◌≡◌, ℕ, suc, ◌+◌, ◌<◌, Bool, true, false, ◌&&◌, ◌||◌, List, [], ◌∷◌, ◌++◌, length, map, nat_eq, refl, sym, ap, ◌∙◌, arith, bytes_eq, Option, Some, None, map-append, map-map, test_of_same, bytes_eq_same, equal_of_bytes_eq, eqb-true, false_from_ne_true, or_left, or_right}
 use Rattle.sap_resolved.proofs.FillLemmas.{table_front}
 use Rattle.sap_text.specs.declared.place.Place.{Place}
+use Rattle.sap_tree.specs.Prelude.{SimpleCommand, assign, write, set_tag, set_cell_tag, go_to, fall_to_child, Command, lone, try, if_else, try_then, case_of, Arms, last_arm, and_arm, CommandBlock, command_block, ElseBlock, no_else, with_else, CommandList, no_command, and_command, StateTree, state_node, StateList, no_state, and_state, is_dynamic_store, is_dynamic_child, fall_touches, simple_touches, root_touches}
 use Rattle.sap_tree.specs.declared.name.Mention.{Mention}
 use Rattle.sap_tree.specs.declared.syntax.Decl.{Decl}
 use Rattle.sap_tree.specs.declared.syntax.Kind.{Kind}
-use Rattle.sap_tree.specs.Syntax.{SimpleCommand, assign, write, set_tag, set_cell_tag, go_to, fall_to_child, Command, lone, try, if_else, try_then, case_of, Arms, last_arm, and_arm, CommandBlock, command_block, ElseBlock, no_else, with_else, CommandList, no_command, and_command, StateTree, state_node, StateList, no_state, and_state}
 use Rattle.sap_tree.specs.Points as points
 use Rattle.sap_tree.specs.Touches as tree
-use Rattle.sap_tree.specs.Touches.{is_dynamic_store, is_dynamic_child, fall_touches, simple_touches, root_touches}
 use Rattle.sap_lattice.specs.Levels.{Levels, order_of}
+use Rattle.sap_names.specs.Prelude.{entities_of, what_is, name_faults, expression_faults, simple_faults, command_faults, block_faults, else_faults, arms_faults, constants_faults, commands_faults, kind_faults, state_faults, states_faults, declarations_faults, twice, own as own_of, index_width, register_width, cell_width}
 use Rattle.sap_names.specs.declared.entity.Entity.{Entity}
 use Rattle.sap_names.specs.declared.kind.Declared.{Declared}
 use Rattle.sap_names.specs.declared.kind.Use.TheVariants.{Assigned as assigning, Indexed as indexed}
-use Rattle.sap_names.specs.Entities.{entities_of, what_is}
-use Rattle.sap_names.specs.NameFaults.{name_faults, expression_faults, simple_faults, command_faults, block_faults, else_faults, arms_faults, constants_faults, commands_faults, kind_faults, state_faults, states_faults, declarations_faults, twice}
-use Rattle.sap_names.specs.Widths.{own as own_of, index_width, register_width, cell_width}
-use Rattle.sap_meaning.specs.Program.{World, Group, is_dynamic, is_register, is_memory, root}
-use Rattle.sap_meaning.specs.Touches.{step_assigns, block_assigns, state_assigns, group_assigns, among, step_hangs, hangs, touches}
-use Rattle.sap_meaning.specs.Checks.{Home}
+use Rattle.sap_meaning.specs.Prelude.{World, Group, is_dynamic, is_register, is_memory, root, step_assigns, block_assigns, state_assigns, group_assigns, among, step_hangs, hangs, touches, Home}
 use Rattle.sap_resolved.specs.Fill.{table, filled, filled_arms, filled_block, filled_state, filled_group}
 use Rattle.sap_resolved.specs.Resolve.{step_of, command_of, arms_of, block_of, else_of, list_of, state_of, group_of}
 use Rattle.sap_shape.specs.Sites.{Surroundings, simple_sites, command_sites, block_sites, state_sites}

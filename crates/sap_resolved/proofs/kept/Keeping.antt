@@ -1,27 +1,22 @@
 -- Resolving keeps expressions, commands and states in which no fault of names and widths stands.
-use Rattle.std.proofs.Common.{◌≡◌, ℕ, suc, ◌+◌, ◌-◌, ◌≤◌, Bool, true, false, not, ◌&&◌, List, [], Option, Some, None, refl, sym, ap, ◌∙◌, subst, arith, inl, inr, if◌then◌else◌, length}
-use Rattle.std.specs.Prelude.{eqb}
-use Rattle.std.proofs.lemmas.Bool.{eqb-true}
+use Rattle.sap_lemmas.proofs.Common.{◌≡◌, ℕ, suc, ◌+◌, ◌-◌, ◌≤◌, Bool, true, false, not, ◌&&◌, List, [], Option, Some, None, refl, sym, ap, ◌∙◌, subst, arith, inl, inr, if◌then◌else◌, length, eqb, eqb-true}
 use Rattle.sap_names.proofs.NameFaultsLemmas.{no_fault}
+use Rattle.sap_tree.specs.Syntax.{Expression, literal, sized_literal, variable, cell_at, unary_of, binary_of, choice, slice, concat, zero_extend, Expressions, no_part, and_part, TagExpression, level_of, tag_at, level_at, join_of, TagExpressions, no_tag, and_tag, SimpleCommand, assign, write, set_tag, set_cell_tag, go_to, fall_to_child, Command, lone, try, if_else, try_then, case_of, Arms, last_arm, and_arm, CommandBlock, command_block, ElseBlock, no_else, with_else, CommandList, no_command, and_command, StateTree, state_node, StateList, no_state, and_state}
 use Rattle.sap_tree.specs.declared.name.Mention.{Mention}
-use Rattle.sap_text.specs.declared.place.Place.{Place}
 use Rattle.sap_tree.specs.declared.syntax.Under.{Under}
 use Rattle.sap_tree.specs.declared.syntax.Kind.{Kind}
 use Rattle.sap_tree.specs.declared.syntax.Kind.TheVariants.{Dynamic, Enforced}
-use Rattle.sap_tree.specs.Syntax.{Expression, literal, sized_literal, variable, cell_at, unary_of, binary_of, choice, slice, concat, zero_extend, Expressions, no_part, and_part, TagExpression, level_of, tag_at, level_at, join_of, TagExpressions, no_tag, and_tag, SimpleCommand, assign, write, set_tag, set_cell_tag, go_to, fall_to_child, Command, lone, try, if_else, try_then, case_of, Arms, last_arm, and_arm, CommandBlock, command_block, ElseBlock, no_else, with_else, CommandList, no_command, and_command, StateTree, state_node, StateList, no_state, and_state}
+use Rattle.sap_text.specs.declared.place.Place.{Place}
 use Rattle.sap_lattice.specs.Levels.{Levels}
 use Rattle.sap_maps.specs.Term.{Term, constant, join}
+use Rattle.sap_names.specs.Prelude.{what_is, fault_if, unsettled, too_large, use_faults, name_faults, expression_faults, parts_faults, level_faults, tag_faults, tags_faults, simple_faults, command_faults, block_faults, else_faults, arms_faults, constants_faults, commands_faults, under_faults, kind_faults, state_faults, states_faults, own, width_of, family, asked_left, asked_right, asked_one, index_width, register_width, cell_width, sound_width, is_sound, all_sound}
 use Rattle.sap_names.specs.declared.entity.Entity.{Entity}
 use Rattle.sap_names.specs.declared.kind.Declared.{Declared}
 use Rattle.sap_names.specs.declared.kind.Use.{Use as Uses}
 use Rattle.sap_names.specs.declared.kind.Use.TheVariants.{Assigned as assigned, Indexed as indexed, Read as reading, Entered as entered, Retagged as retagged}
 use Rattle.sap_names.specs.declared.kind.Code.TheVariants.{E7, E8}
-use Rattle.sap_names.specs.Entities.{what_is}
-use Rattle.sap_names.specs.NameFaults.{fault_if, unsettled, too_large, use_faults, name_faults, expression_faults, parts_faults, level_faults, tag_faults, tags_faults, simple_faults, command_faults, block_faults, else_faults, arms_faults, constants_faults, commands_faults, under_faults, kind_faults, state_faults, states_faults}
-use Rattle.sap_names.specs.Widths.{own, width_of, family, asked_left, asked_right, asked_one, index_width, register_width, cell_width, sound_width, is_sound, all_sound}
-use Rattle.sap_meaning.specs.Program.{World, entity, kind_is_state}
+use Rattle.sap_meaning.specs.Prelude.{World, entity, kind_is_state, Home}
 use Rattle.sap_meaning.specs.Program as program
-use Rattle.sap_meaning.specs.Checks.{Home}
 use Rattle.sap_resolved.specs.Worlds.{states_in, declared_level, authority_level, authority_of, is_dynamic_kind}
 use Rattle.sap_shape.specs.Sites.{Surroundings, simple_sites, command_sites, block_sites, state_sites}
 use Rattle.sap_resolved.specs.Terms.{known, entity_number, widened, term_of, parts_of, level_term, level_terms}

@@ -1,13 +1,10 @@
 -- The names of entities and levels by their numbers.
-use Rattle.std.proofs.Common.{◌≡◌, ℕ, zero, suc, ◌+◌, ◌<◌, Bool, List, [], ◌∷◌, length, sym, ap, subst, ◌∙◌, arith, inl, inr, bytes_eq}
+use Rattle.sap_lemmas.proofs.Common.{◌≡◌, ℕ, zero, suc, ◌+◌, ◌<◌, Bool, List, [], ◌∷◌, length, sym, ap, subst, ◌∙◌, arith, inl, inr, bytes_eq, cases_Bool, equal_of_bytes_eq, position_or_len}
 use Rattle.std.proofs.Math.Numerals.{one-add}
-use Rattle.std.proofs.lemmas.Bool.{cases_Bool}
-use Rattle.sap_lemmas.proofs.Texts.{equal_of_bytes_eq}
 use Rattle.sap_tree.specs.declared.name.Mention.{Mention}
 use Rattle.sap_lattice.specs.Levels.{Levels}
-use Rattle.sap_names.specs.declared.entity.Entity.{Entity}
 use Rattle.sap_names.specs.NameFaults.{level_faults, twice}
-use Rattle.std.specs.List.{position_or_len}
+use Rattle.sap_names.specs.declared.entity.Entity.{Entity}
 use Rattle.sap_resolved.specs.Worlds.{level_number}
 use Rattle.sap_resolved.proofs.WorldsLemmas.{known_level, position_or_behind}
 use Rattle.sap_resolved.specs.Terms.{entity_number}

@@ -1,22 +1,16 @@
 -- The registers and memories of a design: dynamic by their declaration where they are dynamic in the world; and what is assigned or indexed is one.
-use Rattle.std.proofs.Common.{◌≡◌, ℕ, zero, suc, ◌+◌, ◌<◌, Bool, true, false, ◌&&◌, ◌||◌, List, [], ◌∷◌, ◌++◌, length, get_or, refl, sym, ap, ◌∙◌, arith, bytes_eq}
-use Rattle.std.specs.List.{list_any}
-use Rattle.sap_lemmas.proofs.Bools.{or_false}
-use Rattle.sap_lemmas.proofs.Texts.{bytes_eq_same, equal_of_bytes_eq}
-use Rattle.std.proofs.lemmas.Bool.{false_from_ne_true}
+use Rattle.sap_lemmas.proofs.Common.{◌≡◌, ℕ, zero, suc, ◌+◌, ◌<◌, Bool, true, false, ◌&&◌, ◌||◌, List, [], ◌∷◌, ◌++◌, length, get_or, refl, sym, ap, ◌∙◌, arith, bytes_eq, list_any, or_false, bytes_eq_same, equal_of_bytes_eq, false_from_ne_true}
 use Rattle.sap_text.specs.declared.place.Place.{Place}
+use Rattle.sap_tree.specs.Prelude.{StateTree, state_node, StateList, no_state, and_state, DesignTree, is_dynamic_kind, declares_dynamic, is_dynamic_store}
 use Rattle.sap_tree.specs.declared.syntax.Decl.{Decl}
 use Rattle.sap_tree.specs.declared.syntax.Decl.TheVariants.{Input, Register, Memory}
-use Rattle.sap_tree.specs.Syntax.{StateTree, state_node, StateList, no_state, and_state, DesignTree}
-use Rattle.sap_tree.specs.Touches.{is_dynamic_kind, declares_dynamic, is_dynamic_store}
 use Rattle.sap_lattice.specs.Levels.{Levels}
 use Rattle.sap_names.specs.declared.entity.Entity as tree
+use Rattle.sap_names.specs.Prelude.{entity_of, declared_in, entities_of, what_is, fits_use, use_faults, twice}
 use Rattle.sap_names.specs.declared.kind.Declared.{Declared}
-use Rattle.sap_names.specs.declared.kind.Declared.TheVariants as what
 use Rattle.sap_names.specs.declared.kind.Use.TheVariants.{Assigned as assigned, Indexed as indexed}
-use Rattle.sap_names.specs.Entities.{entity_of, declared_in, entities_of, what_is}
+use Rattle.sap_names.specs.declared.kind.Declared.TheVariants as what
 use Rattle.sap_names.specs.Entities as names
-use Rattle.sap_names.specs.NameFaults.{fits_use, use_faults, twice}
 use Rattle.sap_meaning.specs.Program.{Entity, World, entity, nothing, kind_is_register, kind_is_memory, is_register, is_memory}
 use Rattle.sap_meaning.specs.Program as program
 use Rattle.sap_resolved.specs.Terms.{entity_number}

@@ -6,10 +6,9 @@ use Rattle.sap_tree.specs.Syntax.{SimpleCommand, assign, write, set_tag, set_cel
 use Rattle.sap_lattice.specs.Levels.{Levels}
 use Rattle.sap_names.specs.declared.fault.Fault.{Fault}
 use Rattle.sap_shape.specs.Closing.{transfer_faults, then_faults, open_faults, open_arms_faults, open_block_faults, open_else_faults, open_list_faults, last_simple_faults, last_faults, closing_arms_faults, closing_faults, closing_else_faults, closing_list_faults}
-use Rattle.sap_meaning.specs.Fine.{transfers, Open, Closes, Final, ClosingArms, NoTransfer}
+use Rattle.sap_meaning.specs.Prelude.{transfers, Open, Closes, Final, ClosingArms, NoTransfer, EveryInArms, EveryInBlock}
 use Rattle.sap_shape.specs.Sites.{Surroundings, simple_sites, block_sites, command_sites}
 use Rattle.sap_resolved.specs.Resolve.{site_number, step_of, command_of, arms_of, block_of, else_of, list_of}
-use Rattle.sap_meaning.specs.Walks.{EveryInArms, EveryInBlock}
 
 module _ (ls : Levels) (h : Surroundings) where
   pub open_step : (n : ℕ) (c : SimpleCommand) → transfer_faults c ≡ [] → transfers (step_of ls h n c) ≡ false

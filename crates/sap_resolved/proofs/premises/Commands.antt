@@ -1,13 +1,12 @@
 -- Where no fault of names and widths stands in a command or a state, none stands in its parts.
 use Rattle.std.proofs.Common.{◌≡◌, ℕ, Bool, List, []}
 use Rattle.sap_names.proofs.FaultLemmas.{nil_left, nil_right}
-use Rattle.sap_tree.specs.declared.name.Mention.{Mention}
-use Rattle.sap_text.specs.declared.place.Place.{Place}
-use Rattle.sap_tree.specs.declared.syntax.Kind.{Kind}
 use Rattle.sap_tree.specs.Syntax.{Expression, assign, write, set_tag, set_cell_tag, if_else, CommandBlock, ElseBlock, TagExpression, state_node, StateList}
-use Rattle.sap_names.specs.Entities.{Lookup}
+use Rattle.sap_tree.specs.declared.name.Mention.{Mention}
+use Rattle.sap_tree.specs.declared.syntax.Kind.{Kind}
+use Rattle.sap_text.specs.declared.place.Place.{Place}
+use Rattle.sap_names.specs.Prelude.{Lookup, name_faults, simple_faults, command_faults, block_faults, else_faults, state_faults, states_faults}
 use Rattle.sap_names.specs.declared.kind.Use.TheVariants.{Assigned as assigned, Indexed as indexed, Retagged as retagged}
-use Rattle.sap_names.specs.NameFaults.{name_faults, simple_faults, command_faults, block_faults, else_faults, state_faults, states_faults}
 
 module _ (levels : List (List ℕ)) (what : Lookup) where
   pub set_named : (target : Mention) (e : Expression) → simple_faults levels what (assign target e) ≡ [] → name_faults assigned what target ≡ []

@@ -1,14 +1,8 @@
 -- Filling in what hangs leaves all else of a program as it was.
-use Rattle.std.proofs.Common.{◌≡◌, ℕ, suc, ◌<◌, Bool, false, ◌||◌, refl, sym, ap, ◌∙◌, subst, nat_eq}
-use Rattle.sap_lemmas.proofs.Bools.{or_equal}
-use Rattle.sap_meaning.specs.Program.{World, Step, assign, write, retag, retag_cell, go_to, fall_to_child, Command, lone, try, if_else, try_then, case_of, Arms, last_arm, and_arm, Block, end_block, command_then, State, state_node, Group, no_node, and_node}
-use Rattle.sap_meaning.specs.Checks.{Home}
-use Rattle.sap_meaning.specs.Touches.{step_assigns, block_assigns, group_assigns, among, step_hangs, hangs, step_retags, block_retags, group_retags}
-use Rattle.sap_meaning.specs.Fine.{FineTerm, size, inside, transfers, NoTransfer, Open, Closes, Final, ClosingArms, FineStep, FineNode, FineState, FineGroup, number_of, FineCommand}
-use Rattle.sap_meaning.specs.Once.{step_writes, step_reaching, reaching, block_reaching, state_reaches, group_reaches, OnceStep, Once, OnceArms, OnceBlock, OnceState, OnceGroup}
+use Rattle.sap_lemmas.proofs.Common.{◌≡◌, ℕ, suc, ◌<◌, Bool, false, ◌||◌, refl, sym, ap, ◌∙◌, subst, nat_eq, or_equal}
+use Rattle.sap_meaning.specs.Prelude.{World, Step, assign, write, retag, retag_cell, go_to, fall_to_child, Command, lone, try, if_else, try_then, case_of, Arms, last_arm, and_arm, Block, end_block, command_then, State, state_node, Group, no_node, and_node, Home, step_assigns, block_assigns, group_assigns, among, step_hangs, hangs, step_retags, block_retags, group_retags, FineTerm, size, inside, transfers, NoTransfer, Open, Closes, Final, ClosingArms, FineStep, FineNode, FineState, FineGroup, number_of, FineCommand, step_writes, step_reaching, reaching, block_reaching, state_reaches, group_reaches, OnceStep, Once, OnceArms, OnceBlock, OnceState, OnceGroup, body_of, EveryInBlock}
 use Rattle.sap_resolved.specs.Fill.{filled_step, filled_hang, filled, filled_arms, filled_block, filled_state, filled_group}
 use Rattle.sap_resolved.specs.WellNamed.{WellNamedStep, WellNamedGroup}
-use Rattle.sap_meaning.specs.Walks.{body_of, EveryInBlock}
 use Rattle.sap_meaning.proofs.WalksLemmas.{every_mapped, every_mapped_block, asks_mapped}
 use Rattle.sap_resolved.proofs.FillLemmas.{every_unfilled_group, gathered_filled, gathered_filled_block, gathered_filled_group}
 

@@ -1,18 +1,13 @@
 -- The groups of states of a design without faults are fine.
-use Rattle.std.proofs.Common.{◌≡◌, ℕ, suc, ◌+◌, ◌<◌, Bool, true, List, [], ◌∷◌, ◌++◌, length, sym, ◌∙◌, arith, bytes_eq}
-use Rattle.sap_lemmas.proofs.Texts.{bytes_eq_same}
-use Rattle.std.proofs.lemmas.Bool.{or_from, or_left, or_right}
+use Rattle.sap_lemmas.proofs.Common.{◌≡◌, ℕ, suc, ◌+◌, ◌<◌, Bool, true, List, [], ◌∷◌, ◌++◌, length, sym, ◌∙◌, arith, bytes_eq, bytes_eq_same, or_from, or_left, or_right}
 use Rattle.sap_names.proofs.FaultLemmas.{nil_left, nil_right}
 use Rattle.sap_tree.specs.Syntax.{StateTree, state_node, StateList, no_state, and_state}
 use Rattle.sap_lattice.specs.Levels.{Levels}
-use Rattle.sap_names.specs.Entities.{what_is}
+use Rattle.sap_names.specs.Prelude.{what_is, block_faults, state_faults, states_faults}
 use Rattle.sap_names.specs.declared.entity.Entity.{Entity}
-use Rattle.sap_names.specs.NameFaults.{block_faults, state_faults, states_faults}
 use Rattle.sap_shape.specs.Closing.{closing_faults}
 use Rattle.sap_shape.specs.ShapeFaults.{Body, is_among, block_shape, state_shape, states_shape}
-use Rattle.sap_meaning.specs.Program.{World, Block, Group, last}
-use Rattle.sap_meaning.specs.Touches.{among}
-use Rattle.sap_meaning.specs.Fine.{FineNode, FineState, FineGroup, number_of}
+use Rattle.sap_meaning.specs.Prelude.{World, Block, Group, last, among, FineNode, FineState, FineGroup, number_of}
 use Rattle.sap_resolved.specs.Worlds.{states_in}
 use Rattle.sap_shape.specs.Sites.{Surroundings, block_sites, state_sites}
 use Rattle.sap_resolved.specs.Resolve.{block_of, state_of, group_of}

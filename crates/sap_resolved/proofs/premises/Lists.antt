@@ -1,20 +1,15 @@
 -- The lists in the program of a design have exactly what hangs.
-use Rattle.std.proofs.Common.{◌≡◌, ℕ, zero, suc, ◌+◌, ◌<◌, ◌≤◌, Bool, true, false, ◌&&◌, ◌||◌, List, [], ◌∷◌, length, get_or, Option, Some, None, nat_eq, nat_lt, refl, sym, ap, ◌∙◌, arith, inl, inr, bytes_eq, option_map}
-use Rattle.std.proofs.lemmas.Bool.{cases_Bool, eqb-true, false_from_ne_true, or_cases}
-use Rattle.sap_lemmas.proofs.Bools.{and_right, or_equal}
+use Rattle.sap_lemmas.proofs.Common.{◌≡◌, ℕ, zero, suc, ◌+◌, ◌<◌, ◌≤◌, Bool, true, false, ◌&&◌, ◌||◌, List, [], ◌∷◌, length, get_or, Option, Some, None, nat_eq, nat_lt, refl, sym, ap, ◌∙◌, arith, inl, inr, bytes_eq, option_map, cases_Bool, eqb-true, false_from_ne_true, or_cases, and_right, or_equal}
 use Rattle.sap_resolved.proofs.FillLemmas.{table_length, table_at}
 use Rattle.sap_resolved.proofs.TreeWalks.{steps_of_block}
 use Rattle.sap_meaning.proofs.WalksLemmas.{some_gives, some_in_block_gives, every_with_in_block, every_mapped_block}
-use Rattle.sap_meaning.specs.Walks.{Every, Asks, EveryInBlock}
+use Rattle.sap_meaning.specs.Prelude.{Every, Asks, EveryInBlock, World, is_dynamic, root, listed, Step, Group, Home, among, step_assigns, block_assigns, state_assigns, group_assigns, step_hangs, hangs, touches, root_touches, ExactStep, ExactCommand, ExactGroup, ExactProgram}
+use Rattle.sap_meaning.specs.Fine.{ExactState}
 use Rattle.sap_meaning.specs.Program as program
 use Rattle.sap_tree.specs.Syntax.{SimpleCommand, assign, write, set_tag, set_cell_tag, go_to, fall_to_child, CommandBlock, StateTree, state_node, StateList, no_state, and_state, DesignTree}
 use Rattle.sap_lattice.specs.Levels.{Levels}
 use Rattle.sap_names.specs.declared.entity.Entity as declared_entity
 use Rattle.sap_names.specs.Entities.{number_of, entities_of}
-use Rattle.sap_meaning.specs.Program.{World, is_dynamic, root, listed, Step, Group}
-use Rattle.sap_meaning.specs.Checks.{Home}
-use Rattle.sap_meaning.specs.Touches.{among, step_assigns, block_assigns, state_assigns, group_assigns, step_hangs, hangs, touches, root_touches}
-use Rattle.sap_meaning.specs.Fine.{ExactStep, ExactCommand, ExactState, ExactGroup, ExactProgram}
 use Rattle.sap_resolved.specs.Worlds.{states_in, states_below, group_entities, world_of}
 use Rattle.sap_shape.specs.Sites.{Surroundings, block_sites, state_sites}
 use Rattle.sap_resolved.specs.Resolve.{step_of, block_of, state_of, group_of}

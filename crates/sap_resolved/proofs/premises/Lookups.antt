@@ -1,15 +1,12 @@
 -- Names and numbers: a used name is that of the entity of its number, and a declared name has the number of its place.
-use Rattle.std.proofs.Common.{◌≡◌, ℕ, zero, suc, ◌+◌, ◌<◌, List, [], ◌∷◌, ◌++◌, length, Bool, true, false, not, Option, Some, None, refl, sym, ap, ◌∙◌, subst, arith, inl, inr, bytes_eq, option_map}
+use Rattle.sap_lemmas.proofs.Common.{◌≡◌, ℕ, zero, suc, ◌+◌, ◌<◌, List, [], ◌∷◌, ◌++◌, length, Bool, true, false, not, Option, Some, None, refl, sym, ap, ◌∙◌, subst, arith, inl, inr, bytes_eq, option_map, cases_Bool, bytes_eq_same, equal_of_bytes_eq}
 use Rattle.std.proofs.Math.Numerals.{add-one}
-use Rattle.std.proofs.lemmas.Bool.{cases_Bool}
-use Rattle.sap_lemmas.proofs.Texts.{bytes_eq_same, equal_of_bytes_eq}
 use Rattle.sap_names.proofs.NameFaultsLemmas.{no_fault}
 use Rattle.sap_names.proofs.FaultLemmas.{nil_left, nil_right}
 use Rattle.sap_tree.specs.declared.name.Mention.{Mention}
-use Rattle.sap_names.specs.Entities.{find, number_of, what_is}
+use Rattle.sap_names.specs.Prelude.{find, number_of, what_is, use_faults, name_faults, is_declared, twice}
 use Rattle.sap_names.specs.declared.entity.Entity.{Entity}
 use Rattle.sap_names.specs.declared.kind.Use.{Use as Uses}
-use Rattle.sap_names.specs.NameFaults.{use_faults, name_faults, is_declared, twice}
 use Rattle.sap_names.specs.declared.kind.Code.TheVariants.{E3}
 use Rattle.sap_shape.specs.Sites as shape
 use Rattle.sap_names.specs.Entities as entities

@@ -1,32 +1,23 @@
 -- The numbers of the states of a group.
-use Rattle.std.proofs.Common.{◌≡◌, ℕ, suc, ◌+◌, ◌<◌, ◌≤◌, true, false, ◌&&◌, ◌||◌, List, length, nat_eq, nat_lt, nat_le, refl, sym, ap, ◌∙◌, subst, arith, inl, inr, bytes_eq}
-use Rattle.std.proofs.lemmas.Grind.{common_steps}
-use Rattle.sap_lemmas.proofs.Bools.{and_right, iff_same}
-use Rattle.sap_lemmas.proofs.Numbers.{test_of_same}
-use Rattle.sap_lemmas.proofs.Texts.{bytes_eq_same, equal_of_bytes_eq}
-use Rattle.std.proofs.lemmas.Bool.{cases_Bool, and_from, eqb-true, or_cases, or_left, or_right}
-use Rattle.sap_tree.specs.declared.name.Mention.{Mention}
-use Rattle.sap_text.specs.declared.place.Place.{Place}
-use Rattle.sap_tree.specs.declared.syntax.Kind.{Kind}
+use Rattle.sap_lemmas.proofs.Common.{◌≡◌, ℕ, suc, ◌+◌, ◌<◌, ◌≤◌, true, false, ◌&&◌, ◌||◌, List, length, nat_eq, nat_lt, nat_le, refl, sym, ap, ◌∙◌, subst, arith, inl, inr, bytes_eq, common_steps, and_right, iff_same, test_of_same, bytes_eq_same, equal_of_bytes_eq, cases_Bool, and_from, eqb-true, or_cases, or_left, or_right}
 use Rattle.sap_tree.specs.Syntax.{CommandBlock, StateTree, state_node, StateList, no_state, and_state}
+use Rattle.sap_tree.specs.declared.name.Mention.{Mention}
+use Rattle.sap_tree.specs.declared.syntax.Kind.{Kind}
+use Rattle.sap_text.specs.declared.place.Place.{Place}
 use Rattle.sap_lattice.specs.Levels.{Levels}
 use Rattle.sap_names.specs.declared.entity.Entity as declared_entity
 use Rattle.sap_shape.specs.ShapeFaults.{is_among, is_within, is_in_group}
-use Rattle.sap_meaning.specs.Program.{World, Entity, is_state, is_dynamic, root, place, last, below, last_of, place_of, kind_is_state, Group}
-use Rattle.sap_meaning.specs.Touches.{among}
-use Rattle.sap_meaning.specs.Fine.{size, inside, number_of}
+use Rattle.sap_meaning.specs.Prelude.{World, Entity, is_state, is_dynamic, root, place, last, below, kind_is_state, Group, among, size, inside}
+use Rattle.sap_meaning.specs.Program.{last_of, place_of}
 use Rattle.sap_resolved.specs.Worlds.{states_in, states_below, group_length, is_dynamic_kind}
 use Rattle.sap_shape.specs.Sites.{Surroundings, block_sites, state_sites}
-use Rattle.sap_resolved.specs.Resolve.{state_of, group_of}
+use Rattle.sap_resolved.specs.Resolve.{group_of}
 use Rattle.sap_resolved.specs.Terms.{entity_number}
 use Rattle.sap_resolved.proofs.premises.Places.{Laid, LaidState, laid_first, laid_rest, laid_below, laid_entity, laid_name, laid_named, laid_within, name_at}
 
 pub size_of : (ls : Levels) (es : List declared_entity.Entity) (k x : ℕ) (g : StateList) → size (group_of ls es k x g) ≡ group_length g
 size_of ls es k x no_state = refl
 size_of ls es k x (and_state s rest) = let h = size_of ls es (k + length (state_sites es s)) (x + states_in s) rest in omega arith
-
-pub number_of_state : (ls : Levels) (es : List declared_entity.Entity) (k x : ℕ) (s : StateTree) → number_of (state_of ls es k x s) ≡ x
-number_of_state ls es k x (state_node place name kind body children) = refl
 
 in_range : (x y l : ℕ) → x + 1 ≤ y → y < (x + 1) + l → (nat_lt x y && nat_le y (x + l)) ≡ true
 in_range x y l h k = grind (arith, common_steps)

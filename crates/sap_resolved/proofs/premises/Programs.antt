@@ -3,18 +3,14 @@ use Rattle.std.proofs.Common.{◌≡◌, ℕ, List, [], length, sym, ap, ◌∙�
 use Rattle.sap_names.proofs.FaultLemmas.{nil_left, nil_right}
 use Rattle.sap_tree.specs.Syntax.{DesignTree}
 use Rattle.sap_lattice.specs.Levels.{Levels, order_of}
-use Rattle.sap_names.specs.Entities.{entities_of, what_is}
+use Rattle.sap_names.specs.Prelude.{entities_of, what_is, twice, declarations_faults, states_faults}
 use Rattle.sap_names.specs.declared.entity.Entity.{Entity}
-use Rattle.sap_names.specs.NameFaults.{twice, declarations_faults, states_faults}
 use Rattle.sap_shape.specs.Sites.{check_sites}
 use Rattle.sap_shape.specs.Walk.{fresh, second_states}
 use Rattle.sap_shape.specs.ShapeFaults.{states_shape}
 use Rattle.sap_shape.specs.WellFormed.{WellFormed}
 use Rattle.sap_shape.proofs.Again.{states_faultless, paths_faultless}
-use Rattle.sap_meaning.specs.Program.{World, Group, root}
-use Rattle.sap_meaning.specs.Fine.{FineGroup}
-use Rattle.sap_meaning.specs.Once.{OnceGroup}
-use Rattle.sap_meaning.specs.Sites.{PlacedStep, group_sites, site_numbers, program_sites, numbers_from, RisesFrom}
+use Rattle.sap_meaning.specs.Prelude.{World, Group, root, FineGroup, OnceGroup, PlacedStep, group_sites, site_numbers, program_sites, numbers_from, RisesFrom}
 use Rattle.sap_meaning.proofs.SitesLemmas.{numbers_rise}
 use Rattle.sap_resolved.specs.Worlds.{world_of}
 use Rattle.sap_resolved.specs.Resolve.{states_of}

@@ -1,12 +1,7 @@
 -- Filling in what hangs leaves the check sites of a program as they are, but for what hangs on a fall.
-use Rattle.std.proofs.Common.{◌≡◌, ℕ, Bool, true, false, not, ◌||◌, List, [], ◌∷◌, ◌++◌, refl, sym, ap, ◌∙◌, if◌then◌else◌}
-use Rattle.std.specs.Prelude.{map}
-use Rattle.std.proofs.lemmas.List.{map-append}
-use Rattle.sap_meaning.specs.Program.{World, is_dynamic, Step, assign, write, retag, retag_cell, go_to, fall_to_child, Block, State, state_node, Group, no_node, and_node}
-use Rattle.sap_meaning.specs.Walks.{gathered_in_block}
+use Rattle.sap_lemmas.proofs.Common.{◌≡◌, ℕ, Bool, true, false, not, ◌||◌, List, [], ◌∷◌, ◌++◌, refl, sym, ap, ◌∙◌, if◌then◌else◌, map, map-append}
+use Rattle.sap_meaning.specs.Prelude.{World, is_dynamic, Step, assign, write, retag, retag_cell, go_to, fall_to_child, Block, State, state_node, Group, no_node, and_node, gathered_in_block, Home, site_of, some_enforced, is_site, PlacedStep, step_sites, block_sites, state_sites, group_sites, site_numbers}
 use Rattle.sap_meaning.proofs.WalksLemmas.{gathered_in_block_through}
-use Rattle.sap_meaning.specs.Checks.{Home, site_of}
-use Rattle.sap_meaning.specs.Sites.{some_enforced, is_site, PlacedStep, step_sites, block_sites, state_sites, group_sites, site_numbers}
 use Rattle.sap_resolved.specs.Fill.{filled_step, filled_block, filled_state, filled_group}
 use Rattle.sap_resolved.proofs.FillLemmas.{gathered_filled_block}
 

@@ -1,20 +1,16 @@
 -- The check sites of a resolved program are those of its design: each is the step that the command gives, with its number, in the state of its body.
-use Rattle.std.proofs.Common.{◌≡◌, ℕ, suc, ◌+◌, ◌<◌, Option, Bool, true, false, not, List, [], ◌∷◌, ◌++◌, length, refl, sym, ap, ◌∙◌, arith, if◌then◌else◌}
-use Rattle.sap_lemmas.proofs.Bools.{or_equal}
+use Rattle.sap_lemmas.proofs.Common.{◌≡◌, ℕ, suc, ◌+◌, ◌<◌, Option, Bool, true, false, not, List, [], ◌∷◌, ◌++◌, length, refl, sym, ap, ◌∙◌, arith, if◌then◌else◌, or_equal}
 use Rattle.sap_names.proofs.FaultLemmas.{nil_left, nil_right}
 use Rattle.sap_tree.specs.Syntax.{SimpleCommand, assign, write, set_tag, set_cell_tag, go_to, fall_to_child, Command, lone, try, if_else, try_then, case_of, Arms, last_arm, and_arm, CommandBlock, command_block, ElseBlock, no_else, with_else, CommandList, no_command, and_command, StateTree, state_node, StateList, no_state, and_state}
 use Rattle.sap_lattice.specs.Levels.{Levels}
 use Rattle.sap_names.specs.Entities as tree
 use Rattle.sap_names.specs.declared.entity.Entity as declared_entity
-use Rattle.sap_names.specs.Entities.{what_is}
-use Rattle.sap_names.specs.Widths.{own as own_width}
+use Rattle.sap_names.specs.Prelude.{what_is, own as own_width, simple_faults, command_faults, block_faults, arms_faults, else_faults, commands_faults, state_faults, states_faults}
 use Rattle.sap_names.specs.declared.kind.Use.TheVariants.{Assigned as assigned, Indexed as indexed, Entered as entered}
-use Rattle.sap_names.specs.NameFaults.{simple_faults, command_faults, block_faults, arms_faults, else_faults, commands_faults, state_faults, states_faults}
 use Rattle.sap_shape.specs.Sites.{is_enforced, any_enforced, Surroundings, CheckSite, simple_sites}
 use Rattle.sap_shape.specs.Sites as shape
-use Rattle.sap_meaning.specs.Program.{World, is_dynamic, state_node, Group}
-use Rattle.sap_meaning.specs.Checks.{site_of}
-use Rattle.sap_meaning.specs.Sites.{some_enforced, is_site, PlacedStep, step_sites, command_sites, arms_sites, block_sites, state_sites, group_sites, site_numbers, numbers_from}
+use Rattle.sap_meaning.specs.Prelude.{World, is_dynamic, state_node, Group, site_of, some_enforced, is_site, PlacedStep, step_sites, block_sites, state_sites, group_sites, site_numbers, numbers_from}
+use Rattle.sap_meaning.specs.Sites.{command_sites, arms_sites}
 use Rattle.sap_resolved.specs.Worlds.{states_in, is_dynamic_kind}
 use Rattle.sap_resolved.specs.Resolve.{site_number, step_of, command_of, arms_of, block_of, else_of, list_of, state_of, group_of}
 use Rattle.sap_resolved.specs.Terms.{entity_number}

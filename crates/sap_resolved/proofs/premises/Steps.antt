@@ -1,22 +1,18 @@
 -- What E11, E12, E16 and E17 keep out of a body: targets of another group, a fall with nothing to fall into, retagging of what is dynamic, of the state and
 -- of those above and below it.
-use Rattle.std.proofs.Common.{◌≡◌, ℕ, ◌+◌, ◌<◌, Bool, true, false, not, List, [], ◌∷◌, ◌++◌, refl, ap, ◌∙◌, subst, arith, nat_eq, length}
-use Rattle.std.proofs.lemmas.Bool.{both_ways, eqb-true, false_from_ne_true, not-false, or_from, or_left, or_right}
+use Rattle.sap_lemmas.proofs.Common.{◌≡◌, ℕ, ◌+◌, ◌<◌, Bool, true, false, not, List, [], ◌∷◌, ◌++◌, refl, ap, ◌∙◌, subst, arith, nat_eq, length, both_ways, eqb-true, false_from_ne_true, not-false, or_from, or_left, or_right}
 use Rattle.sap_names.proofs.NameFaultsLemmas.{no_fault}
 use Rattle.sap_names.proofs.FaultLemmas.{nil_left, nil_right}
 use Rattle.sap_tree.specs.Syntax.{SimpleCommand, assign, write, set_tag, set_cell_tag, go_to, fall_to_child, CommandBlock, StateTree, state_node, StateList, no_state, and_state}
 use Rattle.sap_lattice.specs.Levels.{Levels}
+use Rattle.sap_names.specs.Prelude.{Lookup, what_is, fault_if, simple_faults, block_faults, state_faults, states_faults}
 use Rattle.sap_names.specs.declared.kind.Code.TheVariants.{E11, E12, E16, E17}
-use Rattle.sap_names.specs.Entities.{Lookup, what_is}
 use Rattle.sap_names.specs.declared.entity.Entity.{Entity}
 use Rattle.sap_names.specs.declared.kind.Use.TheVariants.{Indexed as indexed, Retagged as retagged}
-use Rattle.sap_names.specs.NameFaults.{fault_if, simple_faults, block_faults, state_faults, states_faults}
 use Rattle.sap_shape.specs.Closing.{closing_faults}
 use Rattle.sap_shape.specs.Sites.{is_dynamic, Surroundings, block_sites, state_sites}
 use Rattle.sap_shape.specs.ShapeFaults.{Body, is_among, is_in, is_leaf, is_comparable, simple_shape, block_shape, state_shape, states_shape}
-use Rattle.sap_meaning.specs.Program.{World, Step, Group}
-use Rattle.sap_meaning.specs.Touches.{among, step_retags, block_retags, state_retags, group_retags}
-use Rattle.sap_meaning.specs.Fine.{size, FineTerm, FineStep, FineCommand}
+use Rattle.sap_meaning.specs.Prelude.{World, Step, Group, among, step_retags, block_retags, state_retags, group_retags, size, FineTerm, FineStep, FineCommand, EveryInBlock}
 use Rattle.sap_resolved.specs.Worlds.{states_in}
 use Rattle.sap_resolved.specs.Resolve.{step_of, block_of, state_of, group_of}
 use Rattle.sap_resolved.specs.Terms.{entity_number}
@@ -27,7 +23,6 @@ use Rattle.sap_resolved.proofs.premises.Places.{name_at}
 use Rattle.sap_resolved.proofs.premises.Lookups.{named, dynamic_same}
 use Rattle.sap_meaning.proofs.WalksLemmas.{none_passes_in_block, every_both_in_block}
 use Rattle.sap_resolved.proofs.TreeWalks.{Named, Fitting, every_named_in_block, Shaped, Any, every_shaped_in_block, every_resolved_in_block}
-use Rattle.sap_meaning.specs.Walks.{EveryInBlock}
 
 pub some_child : (ls : Levels) (es : List Entity) (k x : ℕ) (g : StateList) → is_leaf g ≡ false → 0 < size (group_of ls es k x g)
 some_child ls es k x no_state h = cc

@@ -1,20 +1,18 @@
 -- The world of a design: where its states stand, inputs and authorities.
-use Rattle.std.proofs.Common.{◌≡◌, ℕ, zero, suc, ◌+◌, Bool, true, false, not, List, [], ◌∷◌, ◌++◌, length, append_assoc, length-append, get_or, Some, None, refl, sym, ap, ◌∙◌}
-use Rattle.std.proofs.lemmas.Bool.{not-false}
+use Rattle.sap_lemmas.proofs.Common.{◌≡◌, ℕ, zero, suc, ◌+◌, Bool, true, false, not, List, [], ◌∷◌, ◌++◌, length, append_assoc, length-append, get_or, Some, None, refl, sym, ap, ◌∙◌, not-false}
 use Rattle.sap_resolved.proofs.WorldsLemmas.{children_length, declared_length, known_level}
 use Rattle.sap_names.proofs.NameFaultsLemmas.{no_fault}
 use Rattle.sap_names.proofs.FaultLemmas.{nil_left, nil_right}
+use Rattle.sap_tree.specs.Syntax.{StateTree, state_node, StateList, no_state, and_state, DesignTree}
 use Rattle.sap_tree.specs.declared.syntax.Kind.{Kind}
 use Rattle.sap_tree.specs.declared.syntax.Kind.TheVariants.{Dynamic, Enforced}
 use Rattle.sap_tree.specs.declared.syntax.Decl.{Decl}
 use Rattle.sap_tree.specs.declared.syntax.Decl.TheVariants.{Input, Register, Memory}
-use Rattle.sap_tree.specs.Syntax.{StateTree, state_node, StateList, no_state, and_state, DesignTree}
-use Rattle.sap_lattice.specs.Order.{Order, Laws}
-use Rattle.sap_lattice.specs.Levels.{Levels, level_named, order_of}
+use Rattle.sap_lattice.specs.Prelude.{Order, Laws, Levels, level_named, order_of}
+use Rattle.sap_names.specs.Prelude.{entities_of, what_is, under_faults, kind_faults, declaration_faults, declarations_faults, state_faults, states_faults}
 use Rattle.sap_names.specs.declared.kind.Code.TheVariants.{E9}
+use Rattle.sap_names.specs.NameFaults.{not_below}
 use Rattle.sap_names.specs.Entities as tree
-use Rattle.sap_names.specs.Entities.{entities_of, what_is}
-use Rattle.sap_names.specs.NameFaults.{not_below, under_faults, kind_faults, declaration_faults, declarations_faults, state_faults, states_faults}
 use Rattle.sap_meaning.specs.Program.{World, Entity, nothing, entity, children, root, kind_is_input}
 use Rattle.sap_resolved.specs.Worlds.{level_number, declared_level, authority_of, is_dynamic_kind, declared, all_declared, states_in, group_length, state_entities, group_entities, group_children, no_children, world_of}
 use Rattle.sap_resolved.proofs.premises.Places.{Part, part_head, group_count, group_kids, Laid}

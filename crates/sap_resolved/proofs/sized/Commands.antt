@@ -1,24 +1,16 @@
 -- Commands, bodies and states in which no fault stands: their names are those of entities of the right kind, and their widths fit.
-use Rattle.std.proofs.Common.{◌≡◌, ℕ, ◌+◌, ◌^◌, ◌<◌, List, [], Bool, true, false, ◌||◌, Option, Some, None, refl, sym, ap, subst, ◌∙◌, length}
-use Rattle.std.specs.List.{AllByRecursion}
-use Rattle.std.proofs.Math.Pow.{pow_pos}
+use Rattle.sap_lemmas.proofs.Common.{◌≡◌, ℕ, ◌+◌, ◌^◌, ◌<◌, List, [], Bool, true, false, ◌||◌, Option, Some, None, refl, sym, ap, subst, ◌∙◌, length, AllByRecursion, pow_pos}
+use Rattle.sap_tree.specs.Syntax.{Expression, Expressions, literal, no_part, and_part, SimpleCommand, assign, write, set_tag, set_cell_tag, go_to, fall_to_child, Command, lone, try, if_else, try_then, case_of, Arms, last_arm, CommandBlock, command_block, ElseBlock, no_else, with_else, CommandList, no_command, and_command, StateTree, state_node, StateList, no_state, and_state}
 use Rattle.sap_tree.specs.declared.name.Mention.{Mention}
 use Rattle.sap_tree.specs.Syntax as tree
-use Rattle.sap_tree.specs.Syntax.{Expression, Expressions, literal, no_part, and_part, SimpleCommand, assign, write, set_tag, set_cell_tag, go_to, fall_to_child, Command, lone, try, if_else, try_then, case_of, Arms, last_arm, CommandBlock, command_block, ElseBlock, no_else, with_else, CommandList, no_command, and_command, StateTree, state_node, StateList, no_state, and_state}
 use Rattle.sap_lattice.specs.Levels.{Levels}
+use Rattle.sap_names.specs.Prelude.{what_is, fits_use, name_faults, expression_faults, tag_faults, simple_faults, command_faults, constants_faults, arms_faults, block_faults, else_faults, commands_faults, kind_faults, state_faults, states_faults, own, else_of as first_width, register_width, cell_width, index_width}
 use Rattle.sap_names.specs.declared.kind.Declared.{Declared}
 use Rattle.sap_names.specs.declared.kind.Declared.TheVariants.{Input, Register, Memory, State}
-use Rattle.sap_names.specs.Entities.{what_is}
 use Rattle.sap_names.specs.declared.entity.Entity.{Entity}
 use Rattle.sap_names.specs.declared.kind.Use.TheVariants.{Assigned as assigned, Indexed as indexed, Entered as entered, Retagged as retagged}
-use Rattle.sap_names.specs.NameFaults.{fits_use, name_faults, expression_faults, tag_faults, simple_faults, command_faults, constants_faults, arms_faults, block_faults, else_faults, commands_faults, kind_faults, state_faults, states_faults}
-use Rattle.sap_names.specs.Widths.{own, else_of as first_width, register_width, cell_width, index_width}
 use Rattle.sap_meaning.specs.Program as program
-use Rattle.sap_meaning.specs.Program.{World, entity, width, is_register, is_memory, is_state, kind_is_register, kind_is_state}
-use Rattle.sap_meaning.specs.Expressions.{width_of}
-use Rattle.sap_meaning.specs.Walks.{arm_constants, Every, EveryInArms, EveryInBlock}
-use Rattle.sap_meaning.specs.Sized.{SizedTerm, Indexes, AreWithin, SizedStep, SizedState, SizedGroup, SizedCommand}
-use Rattle.sap_meaning.specs.Fine.{FineTerm}
+use Rattle.sap_meaning.specs.Prelude.{World, entity, width, is_register, is_memory, is_state, kind_is_register, kind_is_state, width_of, arm_constants, Every, EveryInArms, EveryInBlock, SizedTerm, Indexes, AreWithin, SizedStep, SizedState, SizedGroup, SizedCommand, FineTerm}
 use Rattle.sap_shape.specs.Sites.{Surroundings, simple_sites, command_sites, block_sites, state_sites}
 use Rattle.sap_resolved.specs.Worlds.{states_in}
 use Rattle.sap_resolved.specs.Terms.{entity_number, term_of}

@@ -1,19 +1,16 @@
 -- Where no fault stands in the declarations, the widths and depths that a name is declared with are sound.
-use Rattle.std.proofs.Common.{◌≡◌, ◌<◌, ℕ, List, [], ◌∷◌, ◌++◌, Bool, true, not, Some, subst, inl, inr, bytes_eq}
-use Rattle.std.proofs.lemmas.Bool.{cases_Bool, not-false}
+use Rattle.sap_lemmas.proofs.Common.{◌≡◌, ◌<◌, ℕ, List, [], ◌∷◌, ◌++◌, Bool, true, not, Some, subst, inl, inr, bytes_eq, cases_Bool, not-false}
 use Rattle.sap_names.proofs.NameFaultsLemmas.{no_fault}
+use Rattle.sap_tree.specs.Syntax.{StateTree, state_node, StateList, no_state, and_state, DesignTree}
 use Rattle.sap_tree.specs.declared.syntax.Numeral.{Numeral}
 use Rattle.sap_tree.specs.declared.syntax.Decl.{Decl}
 use Rattle.sap_tree.specs.declared.syntax.Decl.TheVariants as decl
-use Rattle.sap_tree.specs.Syntax.{StateTree, state_node, StateList, no_state, and_state, DesignTree}
 use Rattle.sap_lattice.specs.Levels.{Levels}
+use Rattle.sap_names.specs.Prelude.{entity_of, declared_in, state_entities, group_entities, entities_of, find, what_is, width_faults, start_faults, kind_faults, declaration_faults, declarations_faults, fault_if, sound_width, index_bits, is_sound}
 use Rattle.sap_names.specs.declared.kind.Declared.{Declared}
 use Rattle.sap_names.specs.declared.kind.Declared.TheVariants.{Input, Register, Memory, State}
 use Rattle.sap_names.specs.declared.kind.Code.TheVariants.{E7}
-use Rattle.sap_names.specs.Entities.{entity_of, declared_in, state_entities, group_entities, entities_of, find, what_is}
 use Rattle.sap_names.specs.declared.entity.Entity.{Entity}
-use Rattle.sap_names.specs.NameFaults.{width_faults, start_faults, kind_faults, declaration_faults, declarations_faults, fault_if}
-use Rattle.sap_names.specs.Widths.{sound_width, index_bits, is_sound}
 use Rattle.sap_meaning.specs.Program.{World, entity, root}
 use Rattle.sap_resolved.specs.Terms.{entity_number}
 use Rattle.sap_resolved.specs.Worlds.{world_of}

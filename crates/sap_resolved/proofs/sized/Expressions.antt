@@ -1,25 +1,18 @@
 -- An expression in which no fault stands gives a term whose names are known and whose widths fit.
-use Rattle.std.proofs.Common.{◌≡◌, ℕ, ◌+◌, ◌^◌, ◌≤◌, List, [], Bool, true, not, ◌&&◌, ◌||◌, Option, Some, None, refl, sym, ap, ◌∙◌, arith}
-use Rattle.sap_lemmas.proofs.Options.{some_same}
-use Rattle.std.proofs.lemmas.Bool.{not-false}
+use Rattle.sap_lemmas.proofs.Common.{◌≡◌, ℕ, ◌+◌, ◌^◌, ◌≤◌, List, [], Bool, true, not, ◌&&◌, ◌||◌, Option, Some, None, refl, sym, ap, ◌∙◌, arith, some_same, not-false}
 use Rattle.sap_names.proofs.NameFaultsLemmas.{no_fault}
 use Rattle.sap_text.specs.declared.place.Place.{Place}
 use Rattle.sap_tree.specs.Syntax.{Expression, literal, sized_literal, variable, cell_at, unary_of, binary_of, choice, slice, concat, zero_extend, Expressions, no_part, and_part}
+use Rattle.sap_names.specs.Prelude.{what_is, fits_use, use_faults, fault_if, unsettled, too_large, expression_faults, parts_faults, own, own_parts, sound_width, index_bits, plain_width, cell_width, index_width, sliced, extended, else_of, family, asked_left, asked_right, asked_one, is_reduction, is_sound, all_sound}
 use Rattle.sap_names.specs.declared.kind.Declared.{Declared}
 use Rattle.sap_names.specs.declared.kind.Declared.TheVariants.{Input, Register, Memory, State}
 use Rattle.sap_names.specs.declared.kind.Code.TheVariants.{E5, E7, E8}
-use Rattle.sap_names.specs.Entities.{what_is}
 use Rattle.sap_names.specs.declared.entity.Entity.{Entity}
 use Rattle.sap_names.specs.declared.kind.Use.{Use as Uses}
 use Rattle.sap_names.specs.declared.kind.Use.TheVariants.{Indexed as indexed, Read as read}
-use Rattle.sap_names.specs.NameFaults.{fits_use, use_faults, fault_if, unsettled, too_large, expression_faults, parts_faults}
 use Rattle.sap_names.specs.Widths as widths
-use Rattle.sap_names.specs.Widths.{own, own_parts, sound_width, index_bits, plain_width, cell_width, index_width, sliced, extended, else_of, family, asked_left, asked_right, asked_one, is_reduction, is_sound, all_sound}
 use Rattle.sap_maps.specs.Term.{Term, TermFits}
-use Rattle.sap_meaning.specs.Program.{World, entity, width, is_input, is_register, is_memory, kind_is_input, kind_is_register, kind_is_memory, depth_of}
-use Rattle.sap_meaning.specs.Expressions.{width_of}
-use Rattle.sap_meaning.specs.Fine.{FineTerm}
-use Rattle.sap_meaning.specs.Sized.{depth, Indexed}
+use Rattle.sap_meaning.specs.Prelude.{World, entity, width, is_input, is_register, is_memory, kind_is_input, kind_is_register, kind_is_memory, depth_of, width_of, FineTerm, depth, Indexed}
 use Rattle.sap_resolved.specs.Terms.{known, entity_number, term_of, parts_of}
 use Rattle.sap_resolved.proofs.Lookup.{Stands}
 use Rattle.sap_resolved.proofs.sized.Faultless.{none_two, none_three, none_four, settled_own, sound_some, some_sound, sound_whole, fits_width, sound_same, index_power, slice_is, extended_is, joined_is}

@@ -1,13 +1,10 @@
 -- Where no fault stands, each test of one is false; and what that says of widths.
-use Rattle.std.proofs.Common.{◌≡◌, ℕ, zero, suc, ◌+◌, ◌-◌, ◌^◌, ◌<◌, ◌≤◌, List, [], ◌++◌, Bool, true, false, not, ◌&&◌, Option, Some, None, refl, sym, ap, ◌∙◌, subst, arith, inl, inr, if◌then◌else◌}
-use Rattle.std.specs.Prelude.{eqb, leb, ltb}
-use Rattle.std.proofs.lemmas.Bool.{cases_Bool, eqb-true, leb-true, leb-false, ltb-true, not-false}
-use Rattle.sap_lemmas.proofs.Options.{some_same}
+use Rattle.sap_lemmas.proofs.Common.{◌≡◌, ℕ, zero, suc, ◌+◌, ◌-◌, ◌^◌, ◌<◌, ◌≤◌, List, [], ◌++◌, Bool, true, false, not, ◌&&◌, Option, Some, None, refl, sym, ap, ◌∙◌, subst, arith, inl, inr, if◌then◌else◌, eqb, leb, ltb, cases_Bool, eqb-true, leb-true, leb-false, ltb-true, not-false, some_same}
 use Rattle.sap_names.proofs.FaultLemmas.{nil_left, nil_right}
+use Rattle.sap_names.specs.Prelude.{unsettled, too_large, sound_width, index_bits, else_of, extended, sliced, is_sound}
 use Rattle.sap_names.specs.declared.fault.Fault.{Fault}
-use Rattle.sap_names.specs.NameFaults.{unsettled, too_large}
+use Rattle.sap_names.specs.Widths.{bits_up_to, joined}
 use Rattle.sap_resolved.specs.Sized.Ranges.{IsWidth, IsDepth}
-use Rattle.sap_names.specs.Widths.{sound_width, bits_up_to, index_bits, else_of, extended, sliced, joined, is_sound}
 
 -- no fault in two lists, three or four
 pub none_two : (xs ys : List Fault) → xs ++ ys ≡ [] → (xs ≡ []) × (ys ≡ [])

@@ -1,12 +1,7 @@
 -- Filling in what hangs changes no name and no width.
-use Rattle.std.proofs.Common.{ℕ, List, sym, subst}
-use Rattle.std.specs.List.{AllByRecursion}
-use Rattle.sap_meaning.specs.Program.{World, Step, assign, write, retag, retag_cell, go_to, fall_to_child, Command, lone, try, if_else, try_then, case_of, Group}
-use Rattle.sap_meaning.specs.Checks.{Home}
-use Rattle.sap_meaning.specs.Expressions.{width_of}
+use Rattle.sap_lemmas.proofs.Common.{ℕ, List, sym, subst, AllByRecursion}
+use Rattle.sap_meaning.specs.Prelude.{World, Step, assign, write, retag, retag_cell, go_to, fall_to_child, Command, lone, try, if_else, try_then, case_of, Group, Home, width_of, AreWithin, SizedStep, SizedGroup, SizedCommand, FineTerm}
 use Rattle.sap_meaning.proofs.WalksLemmas.{constants_mapped}
-use Rattle.sap_meaning.specs.Sized.{AreWithin, SizedStep, SizedGroup, SizedCommand}
-use Rattle.sap_meaning.specs.Fine.{FineTerm}
 use Rattle.sap_resolved.specs.WellNamed.{WellNamedStep, WellNamedGroup}
 use Rattle.sap_resolved.proofs.FillLemmas.{commands_filled_group, every_filled_group}
 use Rattle.sap_resolved.specs.Fill.{filled_step, filled_hang, filled, filled_group}

@@ -1,23 +1,16 @@
 -- What an operator gives, by its family, where the widths of its operands settle.
-use Rattle.std.proofs.Common.{◌≡◌, ℕ, ◌+◌, ◌-◌, ◌≤◌, Bool, true, false, Option, Some, None, refl, sym, ap, ◌∙◌, arith, inl, inr, if◌then◌else◌}
-use Rattle.std.specs.Prelude.{eqb}
-use Rattle.std.proofs.lemmas.Bool.{cases_Bool, eqb-true}
-use Rattle.std.proofs.Math.Pow.{pow_pos}
-use Rattle.sap_lemmas.proofs.Options.{some_same}
+use Rattle.sap_lemmas.proofs.Common.{◌≡◌, ℕ, ◌+◌, ◌-◌, ◌≤◌, Bool, true, false, Option, Some, None, refl, sym, ap, ◌∙◌, arith, inl, inr, if◌then◌else◌, eqb, cases_Bool, eqb-true, pow_pos, some_same}
 use Rattle.sap_bits.specs.Arithmetic.{width1, width2}
 use Rattle.sap_tree.specs.declared.syntax.UnaryOperator.{UnaryOperator}
-use Rattle.sap_tree.specs.declared.syntax.UnaryOperator.TheVariants.{Not, Neg, AllOnes, AnyOne, Odd}
 use Rattle.sap_tree.specs.declared.syntax.BinaryOperator.{BinaryOperator}
-use Rattle.sap_tree.specs.declared.syntax.BinaryOperator.TheVariants.{Or, Xor, And, Eq, Ne, Lt, Le, Shl, Shr, Add, Sub, Mul}
+use Rattle.sap_tree.specs.declared.syntax.BinaryOperator.TheVariants.{Add}
+use Rattle.sap_tree.specs.declared.syntax.UnaryOperator.TheVariants.{Not, Neg, AllOnes, AnyOne, Odd}
+use Rattle.sap_tree.specs.declared.syntax.BinaryOperator.TheVariants.{Or, Xor, And, Eq, Ne, Lt, Le, Shl, Shr, Sub, Mul}
+use Rattle.sap_names.specs.Prelude.{unsettled, else_of, family, own_binary, asked_left, asked_right, is_reduction}
 use Rattle.sap_names.specs.declared.kind.Family.{Family}
 use Rattle.sap_names.specs.declared.kind.Family.TheVariants.{Arithmetic, Shift, Comparison}
-use Rattle.sap_names.specs.NameFaults.{unsettled}
-use Rattle.sap_names.specs.Widths.{else_of, family, own_binary, asked_left, asked_right, is_reduction}
 use Rattle.sap_maps.specs.Term.{Term, one, two, choose, TermFits, CountFits}
-use Rattle.sap_meaning.specs.Program.{World, width}
-use Rattle.sap_meaning.specs.Expressions.{width_of}
-use Rattle.sap_meaning.specs.Fine.{FineTerm}
-use Rattle.sap_meaning.specs.Sized.{Indexed}
+use Rattle.sap_meaning.specs.Prelude.{World, width, width_of, FineTerm, Indexed}
 use Rattle.sap_resolved.specs.Terms.{one_of, two_of, widened}
 use Rattle.sap_resolved.proofs.sized.Faultless.{settled_as, settled}
 

@@ -1,17 +1,13 @@
 -- Own widths are from 1 to 64, where concatenations have parts.
-use Rattle.std.proofs.Common.{◌≡◌, ℕ, ◌+◌, ◌-◌, ◌<◌, ◌≤◌, Bool, true, false, Option, Some, None, subst, arith, if◌then◌else◌}
-use Rattle.sap_lemmas.proofs.Bools.{three_parts}
-use Rattle.sap_lemmas.proofs.Options.{some_same}
-use Rattle.std.proofs.lemmas.Bool.{and_parts}
-use Rattle.sap_tree.specs.Syntax.{Expression, literal, sized_literal, variable, cell_at, unary_of, binary_of, choice, slice, concat, zero_extend, no_part, and_part}
+use Rattle.sap_lemmas.proofs.Common.{◌≡◌, ℕ, ◌+◌, ◌-◌, ◌<◌, ◌≤◌, Bool, true, false, Option, Some, None, subst, arith, if◌then◌else◌, three_parts, some_same, and_parts}
+use Rattle.sap_tree.specs.Prelude.{Expression, literal, sized_literal, variable, cell_at, unary_of, binary_of, choice, slice, concat, zero_extend, no_part, and_part, is_number, has_two_parts, is_expression, are_expressions}
 use Rattle.sap_tree.specs.declared.version.Version.{Version}
-use Rattle.sap_tree.specs.Whole.{is_number, has_two_parts, is_expression, are_expressions}
+use Rattle.sap_names.specs.Prelude.{Lookup, sound_width, plain_width, register_width, cell_width, index_width, else_of, own, own_parts, own_binary, family, asked_left, asked_right, is_reduction, sliced, extended}
 use Rattle.sap_names.specs.declared.kind.Declared.{Declared}
 use Rattle.sap_names.specs.declared.kind.Declared.TheVariants.{Input, Register, Memory, State}
 use Rattle.sap_names.specs.declared.kind.Family.{Family}
 use Rattle.sap_names.specs.declared.kind.Family.TheVariants.{Arithmetic, Shift, Comparison}
-use Rattle.sap_names.specs.Entities.{Lookup}
-use Rattle.sap_names.specs.Widths.{sound_width, plain_width, register_width, cell_width, index_width, else_of, own, own_parts, own_binary, family, asked_left, asked_right, asked_count, is_reduction, sliced, extended}
+use Rattle.sap_names.specs.Widths.{asked_count}
 use Rattle.sap_resolved.specs.Sized.Ranges.{IsWidth}
 use Rattle.sap_resolved.proofs.sized.Faultless.{sound_is, index_power, slice_is, extended_is, joined_is}
 

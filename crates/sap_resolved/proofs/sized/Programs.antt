@@ -2,12 +2,9 @@
 use Rattle.std.proofs.Common.{◌≡◌, ℕ, [], length, Bool}
 use Rattle.sap_tree.specs.Syntax.{DesignTree}
 use Rattle.sap_lattice.proofs.KeptLemmas.{order_of-count}
-use Rattle.sap_lattice.specs.Order.{Laws}
-use Rattle.sap_lattice.specs.Levels.{Levels, order_of}
-use Rattle.sap_names.specs.Entities.{what_is, entities_of}
-use Rattle.sap_names.specs.NameFaults.{twice, declarations_faults, states_faults, design_name_faults}
-use Rattle.sap_meaning.specs.Program.{root}
-use Rattle.sap_meaning.specs.Sized.{SizedGroup, SizedProgram}
+use Rattle.sap_lattice.specs.Prelude.{Laws, Levels, order_of}
+use Rattle.sap_names.specs.Prelude.{what_is, entities_of, twice, declarations_faults, states_faults, design_name_faults}
+use Rattle.sap_meaning.specs.Prelude.{root, SizedGroup, SizedProgram}
 use Rattle.sap_resolved.specs.Worlds.{world_of}
 use Rattle.sap_resolved.specs.Resolve.{states_of}
 use Rattle.sap_resolved.specs.Fill.{program_of}

@@ -1,21 +1,12 @@
 -- In the commands and states of a design without faults every width is from 1 to 64.
-use Rattle.std.proofs.Common.{◌≡◌, ℕ, ◌+◌, List, [], Bool, true, ◌&&◌, Option, Some, None, length}
-use Rattle.std.specs.Prelude.{nat_le}
-use Rattle.sap_lemmas.proofs.Bools.{three_parts}
-use Rattle.std.proofs.lemmas.Bool.{and_parts}
-use Rattle.sap_tree.specs.Extent.{fits, tag_fits}
-use Rattle.sap_tree.specs.Limits.{most_blocks}
-use Rattle.sap_tree.specs.Syntax.{Expression, TagExpression, level_of, tag_at, level_at, join_of, TagExpressions, no_tag, and_tag, SimpleCommand, assign, write, set_tag, set_cell_tag, go_to, fall_to_child, CommandBlock, StateTree, state_node, StateList, no_state, and_state}
-use Rattle.sap_tree.specs.Whole.{is_expression, is_tag, are_tags, has_two_tags, is_outermost, is_outermost_tag, is_simple, is_block, block_depth, is_kind, is_state, are_states}
+use Rattle.sap_lemmas.proofs.Common.{◌≡◌, ℕ, ◌+◌, List, [], Bool, true, ◌&&◌, Option, Some, None, length, nat_le, three_parts, and_parts}
+use Rattle.sap_tree.specs.Prelude.{fits, tag_fits, most_blocks, Expression, TagExpression, level_of, tag_at, level_at, join_of, TagExpressions, no_tag, and_tag, SimpleCommand, assign, write, set_tag, set_cell_tag, go_to, fall_to_child, CommandBlock, StateTree, state_node, StateList, no_state, and_state, is_expression, is_tag, are_tags, has_two_tags, is_outermost, is_outermost_tag, is_simple, is_block, block_depth, is_kind, is_state, are_states, is_name}
 use Rattle.sap_tree.specs.declared.version.Version.{Version}
-use Rattle.sap_tree.specs.Words.{is_name}
 use Rattle.sap_lattice.specs.Levels.{Levels}
+use Rattle.sap_names.specs.Prelude.{what_is, name_faults, expression_faults, tag_faults, tags_faults, simple_faults, block_faults, kind_faults, state_faults, states_faults, register_width, cell_width, index_width}
 use Rattle.sap_names.specs.declared.kind.Declared.{Declared}
-use Rattle.sap_names.specs.Entities.{what_is}
 use Rattle.sap_names.specs.declared.entity.Entity.{Entity}
 use Rattle.sap_names.specs.declared.kind.Use.TheVariants.{Indexed as indexed, Assigned as assigned, Retagged as retagged}
-use Rattle.sap_names.specs.NameFaults.{name_faults, expression_faults, tag_faults, tags_faults, simple_faults, block_faults, kind_faults, state_faults, states_faults}
-use Rattle.sap_names.specs.Widths.{register_width, cell_width, index_width}
 use Rattle.sap_meaning.specs.Program.{World}
 use Rattle.sap_shape.specs.Sites.{Surroundings, block_sites, state_sites}
 use Rattle.sap_resolved.specs.Worlds.{states_in}

@@ -1,18 +1,13 @@
 -- The law of ranges: filling in what hangs changes no width, and the entities' widths and depths are in range.
-use Rattle.std.proofs.Common.{◌≡◌, ℕ, zero, suc, List, [], ◌∷◌, length, true, false, get_or, sym, ap, subst}
-use Rattle.std.specs.List.{list_all}
-use Rattle.sap_lemmas.proofs.Bools.{three_parts}
-use Rattle.sap_tree.specs.Syntax.{DesignTree}
-use Rattle.sap_tree.specs.Whole.{is_declaration, has_state, are_states, is_tree}
+use Rattle.sap_lemmas.proofs.Common.{◌≡◌, ℕ, zero, suc, List, [], ◌∷◌, length, true, false, get_or, sym, ap, subst, list_all, three_parts}
+use Rattle.sap_tree.specs.Prelude.{DesignTree, is_declaration, has_state, are_states, is_tree}
 use Rattle.sap_lattice.specs.Levels.{order_of}
+use Rattle.sap_names.specs.Prelude.{entities_of, sound_width, index_bits, is_sound}
 use Rattle.sap_names.specs.declared.kind.Declared.{Declared}
 use Rattle.sap_names.specs.declared.kind.Declared.TheVariants.{Input, Register, Memory, State}
 use Rattle.sap_names.specs.declared.entity.Entity as declared_entity
-use Rattle.sap_names.specs.Entities.{entities_of}
-use Rattle.sap_names.specs.Widths.{sound_width, index_bits, is_sound}
-use Rattle.sap_meaning.specs.Program.{World, Entity, nothing, root, kind_is_state, kind_is_memory, depth_of, Step, assign, write, retag, retag_cell, go_to, fall_to_child, Group}
+use Rattle.sap_meaning.specs.Prelude.{World, Entity, nothing, root, kind_is_state, kind_is_memory, depth_of, Step, assign, write, retag, retag_cell, go_to, fall_to_child, Group, Home}
 use Rattle.sap_meaning.specs.Program as program
-use Rattle.sap_meaning.specs.Checks.{Home}
 use Rattle.sap_resolved.specs.Worlds.{world_of}
 use Rattle.sap_resolved.specs.Resolve.{states_of}
 use Rattle.sap_resolved.specs.Fill.{filled_step, filled_group}

@@ -1,24 +1,16 @@
 -- In the term of an expression without faults every width is from 1 to 64, and each slice is within what it is taken from.
-use Rattle.std.proofs.Common.{◌≡◌, ◌≢◌, ℕ, ◌+◌, ◌<◌, ◌≤◌, List, [], Bool, true, false, not, ◌&&◌, Option, Some, None, refl, sym, ap, ◌∙◌, arith, inl, inr}
-use Rattle.std.specs.Prelude.{eqb}
-use Rattle.std.proofs.lemmas.Bool.{cases_Bool, eq-eqb, and_parts}
-use Rattle.sap_lemmas.proofs.Bools.{three_parts}
+use Rattle.sap_lemmas.proofs.Common.{◌≡◌, ◌≢◌, ℕ, ◌+◌, ◌<◌, ◌≤◌, List, [], Bool, true, false, not, ◌&&◌, Option, Some, None, refl, sym, ap, ◌∙◌, arith, inl, inr, eqb, cases_Bool, eq-eqb, and_parts, three_parts}
 use Rattle.sap_names.proofs.NameFaultsLemmas.{no_fault}
-use Rattle.sap_tree.specs.Syntax.{Expression, literal, sized_literal, variable, cell_at, unary_of, binary_of, choice, slice, concat, zero_extend, Expressions, no_part, and_part}
+use Rattle.sap_tree.specs.Prelude.{Expression, literal, sized_literal, variable, cell_at, unary_of, binary_of, choice, slice, concat, zero_extend, Expressions, no_part, and_part, is_number, has_two_parts, is_expression, are_expressions, is_name}
 use Rattle.sap_tree.specs.declared.version.Version.{Version}
-use Rattle.sap_tree.specs.Whole.{is_number, has_two_parts, is_expression, are_expressions}
-use Rattle.sap_tree.specs.Words.{is_name}
+use Rattle.sap_names.specs.Prelude.{what_is, use_faults, fault_if, unsettled, expression_faults, parts_faults, own, own_parts, cell_width, index_width, sliced, extended, family, asked_left, asked_right, asked_one, is_reduction, is_sound, all_sound}
 use Rattle.sap_names.specs.declared.kind.Declared.{Declared}
 use Rattle.sap_names.specs.declared.kind.Code.TheVariants.{E7}
-use Rattle.sap_names.specs.Entities.{what_is}
 use Rattle.sap_names.specs.declared.entity.Entity.{Entity}
 use Rattle.sap_names.specs.declared.kind.Use.TheVariants.{Indexed as indexed}
-use Rattle.sap_names.specs.NameFaults.{use_faults, fault_if, unsettled, expression_faults, parts_faults}
 use Rattle.sap_names.specs.Widths as widths
-use Rattle.sap_names.specs.Widths.{own, own_parts, cell_width, index_width, sliced, extended, family, asked_left, asked_right, asked_one, is_reduction, is_sound, all_sound}
 use Rattle.sap_maps.specs.Term.{Term}
-use Rattle.sap_meaning.specs.Program.{World}
-use Rattle.sap_meaning.specs.Expressions.{width_of}
+use Rattle.sap_meaning.specs.Prelude.{World, width_of}
 use Rattle.sap_resolved.specs.Terms.{known, term_of, parts_of, widened}
 use Rattle.sap_resolved.specs.Sized.Ranges.{IsWidth, RangedTerm}
 use Rattle.sap_resolved.proofs.sized.Faultless.{none_two, none_three, none_four, settled_own, some_sound, sound_whole, slice_is, extended_is, joined_is}

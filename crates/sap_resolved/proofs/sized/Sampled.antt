@@ -1,14 +1,7 @@
 -- The premises of the laws are met.
-use Rattle.std.proofs.Common.{◌≡◌, ℕ, zero, suc, ◌<◌, true, Bool, not, ◌&&◌, ◌||◌, refl, sym, subst, arith, ◌⊎◌, inl, inr}
-use Rattle.std.specs.Prelude.{nat_lt}
-use Rattle.std.proofs.lemmas.Bool.{cases_Bool}
-use Rattle.std.proofs.lemmas.Grind.{common_steps}
-use Rattle.sap_tree.specs.Words.{is_name}
-use Rattle.sap_tree.specs.Extent.{tokens, part_tokens, brackets, part_brackets, tag_tokens, tag_part_tokens, tag_brackets, tag_part_brackets}
-use Rattle.sap_tree.specs.Precedence.{precedence_of}
-use Rattle.sap_tree.specs.Whole.{is_expression, are_expressions, is_tag, are_tags, is_simple, is_command, is_block, is_else, are_commands, command_depth, block_depth, else_depth, list_depth, is_state, are_states}
-use Rattle.sap_lattice.specs.Levels.{order_of, order_by, level_in, is_below, every, first}
-use Rattle.sap_lattice.specs.Examples.{low_high}
+use Rattle.sap_lemmas.proofs.Common.{◌≡◌, ℕ, zero, suc, ◌<◌, true, Bool, not, ◌&&◌, ◌||◌, refl, sym, subst, arith, ◌⊎◌, inl, inr, nat_lt, cases_Bool, common_steps}
+use Rattle.sap_tree.specs.Prelude.{is_name, tokens, part_tokens, brackets, part_brackets, tag_tokens, tag_part_tokens, tag_brackets, tag_part_brackets, precedence_of, is_expression, are_expressions, is_tag, are_tags, is_simple, is_command, is_block, is_else, are_commands, command_depth, block_depth, else_depth, list_depth, is_state, are_states}
+use Rattle.sap_lattice.specs.Prelude.{order_of, order_by, level_in, is_below, every, first, low_high}
 use Rattle.sap_resolved.specs.Sized.Examples.{Lawful, Whole, NoFault}
 
 pub no_fault : NoFault

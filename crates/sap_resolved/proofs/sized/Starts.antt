@@ -1,20 +1,16 @@
 -- What the entities of a design start with: registers with numbers that fit them, all with levels of the lattice.
-use Rattle.std.proofs.Common.{◌≡◌, ℕ, zero, suc, ◌+◌, ◌^◌, ◌<◌, List, [], ◌∷◌, ◌++◌, length, Bool, true, not, Option, Some, None, get_or, sym, subst, arith}
-use Rattle.std.proofs.Math.Pow.{pow_pos}
+use Rattle.sap_lemmas.proofs.Common.{◌≡◌, ℕ, zero, suc, ◌+◌, ◌^◌, ◌<◌, List, [], ◌∷◌, ◌++◌, length, Bool, true, not, Option, Some, None, get_or, sym, subst, arith, pow_pos}
 use Rattle.sap_names.proofs.NameFaultsLemmas.{no_fault}
+use Rattle.sap_tree.specs.Syntax.{StateTree, state_node, StateList, no_state, and_state, DesignTree}
 use Rattle.sap_tree.specs.declared.syntax.Numeral.{Numeral}
 use Rattle.sap_tree.specs.declared.syntax.Kind.{Kind}
 use Rattle.sap_tree.specs.declared.syntax.Kind.TheVariants.{Dynamic, Enforced}
 use Rattle.sap_tree.specs.declared.syntax.Decl.{Decl}
 use Rattle.sap_tree.specs.declared.syntax.Decl.TheVariants as decl
-use Rattle.sap_tree.specs.Syntax.{StateTree, state_node, StateList, no_state, and_state, DesignTree}
 use Rattle.sap_lattice.proofs.KeptLemmas.{order_of-count}
-use Rattle.sap_lattice.specs.Order.{Laws}
-use Rattle.sap_lattice.specs.Levels.{Levels, order_of}
+use Rattle.sap_lattice.specs.Prelude.{Laws, Levels, order_of}
+use Rattle.sap_names.specs.Prelude.{Lookup, fault_if, too_large, level_faults, under_faults, kind_faults, width_faults, start_faults, declaration_faults, declarations_faults, block_faults, state_faults, states_faults, sound_width, index_bits, is_sound}
 use Rattle.sap_names.specs.declared.kind.Code.TheVariants.{E7, E8}
-use Rattle.sap_names.specs.Entities.{Lookup}
-use Rattle.sap_names.specs.NameFaults.{fault_if, too_large, level_faults, under_faults, kind_faults, width_faults, start_faults, declaration_faults, declarations_faults, block_faults, state_faults, states_faults}
-use Rattle.sap_names.specs.Widths.{sound_width, index_bits, is_sound}
 use Rattle.sap_meaning.specs.Program.{Entity, nothing}
 use Rattle.sap_resolved.specs.Worlds.{declared_level, initial_of, declared, all_declared, states_in, state_entities, group_entities, world_of}
 use Rattle.sap_resolved.proofs.sized.Faultless.{none_two, none_three, fits_width, sound_same}

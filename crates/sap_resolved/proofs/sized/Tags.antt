@@ -2,12 +2,9 @@
 use Rattle.std.proofs.Common.{◌≡◌, ℕ, ◌<◌, List, [], length, None, sym, subst}
 use Rattle.sap_tree.specs.Syntax.{TagExpression, level_of, tag_at, level_at, join_of, TagExpressions, no_tag, and_tag}
 use Rattle.sap_lattice.specs.Levels.{Levels, order_of}
-use Rattle.sap_names.specs.Entities.{what_is}
+use Rattle.sap_names.specs.Prelude.{what_is, tag_faults, tags_faults}
 use Rattle.sap_names.specs.declared.entity.Entity.{Entity}
-use Rattle.sap_names.specs.NameFaults.{tag_faults, tags_faults}
-use Rattle.sap_meaning.specs.Program.{World}
-use Rattle.sap_meaning.specs.Fine.{FineLevel}
-use Rattle.sap_meaning.specs.Sized.{SizedLevel}
+use Rattle.sap_meaning.specs.Prelude.{World, FineLevel, SizedLevel}
 use Rattle.sap_resolved.specs.Worlds.{level_number}
 use Rattle.sap_resolved.proofs.WorldsLemmas.{known_level}
 use Rattle.sap_resolved.specs.Terms.{level_term, level_terms}

@@ -1,7 +1,5 @@
 -- What follows from one numbering: the numbers of a program's check sites, and how many there are.
-use Rattle.std.proofs.Common.{◌≡◌, ℕ, suc, List, [], ◌∷◌, length, refl, sym, ap, ◌∙◌}
-use Rattle.std.specs.Prelude.{map}
-use Rattle.std.proofs.lemmas.List.{length-map}
+use Rattle.sap_lemmas.proofs.Common.{◌≡◌, ℕ, suc, List, [], ◌∷◌, length, refl, sym, ap, ◌∙◌, map, length-map}
 use Rattle.sap_tree.specs.Syntax.{DesignTree}
 use Rattle.sap_lattice.specs.Levels.{Levels}
 use Rattle.sap_shape.specs.Sites.{check_sites}

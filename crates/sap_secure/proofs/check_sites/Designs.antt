@@ -1,13 +1,10 @@
 -- One numbering of check sites in every well-formed design.
-use Rattle.std.proofs.Common.{◌≡◌, ℕ, suc, List, [], ◌∷◌, refl, ap, ◌∙◌}
-use Rattle.std.specs.Prelude.{map}
+use Rattle.sap_lemmas.proofs.Common.{◌≡◌, ℕ, suc, List, [], ◌∷◌, refl, ap, ◌∙◌, map}
 use Rattle.sap_tree.specs.Syntax as tree
 use Rattle.sap_lattice.specs.Levels.{Levels}
 use Rattle.sap_shape.specs.Sites.{Surroundings, CheckSite, check_sites}
 use Rattle.sap_check.specs.Sites.{kind_of_command, target_of, entity_number, site_of}
-use Rattle.sap_meaning.specs.Program.{World, root, Step, assign, write, retag, retag_cell, go_to, fall_to_child}
-use Rattle.sap_meaning.specs.Checks.{Home}
-use Rattle.sap_meaning.specs.Sites.{PlacedStep}
+use Rattle.sap_meaning.specs.Prelude.{World, root, Step, assign, write, retag, retag_cell, go_to, fall_to_child, Home, PlacedStep}
 use Rattle.sap_resolved.specs.Worlds.{world_of}
 use Rattle.sap_resolved.specs.Resolve.{step_of, states_of}
 use Rattle.sap_resolved.specs.Fill.{filled_step}

@@ -1,16 +1,13 @@
 -- The numbers of a program's sites, as its commands have them.
-use Rattle.std.proofs.Common.{◌≡◌, ℕ, ◌+◌, ◌≤◌, Bool, true, false, List, [], ◌∷◌, ◌++◌, length, length-append, nat_eq, refl, sym, ap, ◌∙◌, subst, arith, if◌then◌else◌}
-use Rattle.std.proofs.lemmas.Bool.{ne_eqb}
+use Rattle.sap_lemmas.proofs.Common.{◌≡◌, ℕ, ◌+◌, ◌≤◌, Bool, true, false, List, [], ◌∷◌, ◌++◌, length, length-append, nat_eq, refl, sym, ap, ◌∙◌, subst, arith, if◌then◌else◌, ne_eqb}
 use Rattle.sap_tree.specs.Syntax.{SimpleCommand, assign, set_tag, set_cell_tag, CommandBlock, command_block, ElseBlock, no_else, with_else, CommandList, no_command, and_command, StateTree, state_node, StateList, no_state, and_state}
 use Rattle.sap_tree.specs.Syntax as tree
 use Rattle.sap_lattice.specs.Levels.{Levels}
 use Rattle.sap_names.specs.declared.entity.Entity.{Entity}
 use Rattle.sap_shape.specs.Sites as shape
 use Rattle.sap_shape.specs.Sites.{Surroundings, CheckSite, simple_sites}
-use Rattle.sap_meaning.specs.Program.{World, Step, assign, write, retag, retag_cell, go_to, fall_to_child, Command, Arms, Block, State, state_node, Group}
-use Rattle.sap_meaning.specs.Walks.{gathered, gathered_in_arms, gathered_in_block, gathered_from, gathered_from_group, body_of}
-use Rattle.sap_meaning.specs.Checks.{Home, site_of}
-use Rattle.sap_meaning.specs.Sites.{numbers_from}
+use Rattle.sap_meaning.specs.Prelude.{World, Step, assign, write, retag, retag_cell, go_to, fall_to_child, Command, Arms, Block, State, state_node, Group, gathered, gathered_in_block, gathered_from, gathered_from_group, body_of, Home, site_of, numbers_from}
+use Rattle.sap_meaning.specs.Walks.{gathered_in_arms}
 use Rattle.sap_meaning.proofs.SitesLemmas.{numbers_join}
 use Rattle.sap_resolved.specs.Worlds.{states_in}
 use Rattle.sap_resolved.specs.Resolve.{site_number, step_of, command_of, arms_of, block_of, else_of, list_of, state_of, group_of}

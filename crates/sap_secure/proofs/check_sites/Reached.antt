@@ -1,22 +1,12 @@
 -- The sites that a cycle comes to stand in the order of the text.
-use Rattle.std.proofs.Common.{◌≡◌, ℕ, zero, suc, Bool, true, false, List, [], ◌∷◌, ◌++◌, append_assoc, nat_eq, refl, sym, ap, ◌∙◌, subst, if◌then◌else◌}
-use Rattle.std.proofs.lemmas.List.{append-nil}
+use Rattle.sap_lemmas.proofs.Common.{◌≡◌, ℕ, zero, suc, Bool, true, false, List, [], ◌∷◌, ◌++◌, append_assoc, nat_eq, refl, sym, ap, ◌∙◌, subst, if◌then◌else◌, append-nil}
 use Rattle.sap_meaning.proofs.SitesLemmas.{sublist_append, sublist_behind, sublist_between, sublist_front}
 use Rattle.sap_maps.specs.Term.{Term}
-use Rattle.sap_meaning.specs.Program.{World, root, Program, Step, assign, write, retag, retag_cell, go_to, fall_to_child, Command, lone, try, if_else, try_then, case_of, Arms, last_arm, and_arm, Block, end_block, command_then, State, state_node, Group, no_node, and_node}
-use Rattle.sap_meaning.specs.Store.{Store, child, raise}
-use Rattle.sap_meaning.specs.Expressions.{value, tag}
-use Rattle.sap_meaning.specs.Checks.{Home, guard, test}
-use Rattle.sap_meaning.specs.Touches.{touches, root_touches, raised_alone}
-use Rattle.sap_meaning.specs.Does.{does, does_child, effect, is_constant}
-use Rattle.sap_meaning.specs.Cycle.{Tagged, set_inputs}
-use Rattle.sap_meaning.specs.Fine.{transfers, Open, Closes, Final, ClosingArms, FineState, FineGroup, FineProgram, NoTransfer}
-use Rattle.sap_meaning.specs.Sites.{Sublist}
+use Rattle.sap_meaning.specs.Prelude.{World, root, Program, Step, assign, write, retag, retag_cell, go_to, fall_to_child, Command, lone, try, if_else, try_then, case_of, Arms, last_arm, and_arm, Block, end_block, command_then, State, state_node, Group, no_node, and_node, Store, child, raise, value, tag, Home, guard, test, touches, root_touches, raised_alone, does, does_child, effect, is_constant, Tagged, set_inputs, transfers, Open, Closes, Final, ClosingArms, FineState, FineGroup, FineProgram, NoTransfer, Sublist, EveryInArms, EveryInBlock}
 use Rattle.sap_secure.specs.Once.Steps.{onward, tried, tried_then, picked, chosen, steps, arms_steps, block_steps, state_steps, child_steps, root_steps, cycle_steps}
 use Rattle.sap_secure.specs.CheckSites.Once.{own_site, sites_met}
 use Rattle.sap_secure.proofs.check_sites.Sublists.{same, none}
 use Rattle.sap_secure.proofs.check_sites.Marks.{marks, arms_marks, block_marks, state_marks, group_marks}
-use Rattle.sap_meaning.specs.Walks.{EveryInArms, EveryInBlock}
 
 met-append : (xs ys : List Step) → sites_met (xs ++ ys) ≡ sites_met xs ++ sites_met ys
 met-append [] ys = refl

@@ -1,17 +1,8 @@
 -- What a cycle refuses are steps that it comes to.
-use Rattle.std.proofs.Common.{◌≡◌, ℕ, zero, suc, ◌≤◌, Bool, true, false, List, [], ◌∷◌, ◌++◌, map, nat_eq, refl, arith, inl, inr, if◌then◌else◌}
-use Rattle.std.proofs.lemmas.Bool.{ne_eqb}
-use Rattle.std.proofs.lemmas.List.{map-append}
+use Rattle.sap_lemmas.proofs.Common.{◌≡◌, ℕ, zero, suc, ◌≤◌, Bool, true, false, List, [], ◌∷◌, ◌++◌, map, nat_eq, refl, arith, inl, inr, if◌then◌else◌, ne_eqb, map-append}
 use Rattle.sap_meaning.proofs.SitesLemmas.{sublist_append, sublist_behind}
 use Rattle.sap_maps.specs.Term.{Term}
-use Rattle.sap_meaning.specs.Program.{World, root, Program, Step, assign, write, retag, retag_cell, go_to, fall_to_child, Command, lone, try, if_else, try_then, case_of, Arms, last_arm, and_arm, Block, end_block, command_then, State, state_node, Group, no_node, and_node}
-use Rattle.sap_meaning.specs.Store.{own, Store, level, child, raise, Refusal, After, stay, and_then}
-use Rattle.sap_meaning.specs.Expressions.{value, tag}
-use Rattle.sap_meaning.specs.Checks.{Home, site_of, guard, test}
-use Rattle.sap_meaning.specs.Touches.{touches, root_touches, raised_alone}
-use Rattle.sap_meaning.specs.Does.{effect, attempt, attempt_then, select, branch, is_constant, does, does_arms, does_block, does_state, does_child}
-use Rattle.sap_meaning.specs.Cycle.{Tagged, set_inputs, root_fall, cycle}
-use Rattle.sap_meaning.specs.Sites.{refused_sites, Sublist, RisesFrom}
+use Rattle.sap_meaning.specs.Prelude.{World, root, Program, Step, assign, write, retag, retag_cell, go_to, fall_to_child, Command, lone, try, if_else, try_then, case_of, Arms, last_arm, and_arm, Block, end_block, command_then, State, state_node, Group, no_node, and_node, own, Store, level, child, raise, Refusal, After, stay, and_then, value, tag, Home, site_of, guard, test, touches, root_touches, raised_alone, effect, attempt, attempt_then, select, branch, is_constant, does, does_arms, does_block, does_state, does_child, Tagged, set_inputs, root_fall, cycle, refused_sites, Sublist, RisesFrom}
 use Rattle.sap_secure.specs.Once.Steps.{onward, tried, tried_then, picked, chosen, steps, arms_steps, block_steps, state_steps, child_steps, root_steps, cycle_steps}
 use Rattle.sap_secure.specs.CheckSites.Once.{own_site, sites_met}
 

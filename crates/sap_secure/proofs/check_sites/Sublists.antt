@@ -1,8 +1,5 @@
 -- Lists of numbers with some left out.
-use Rattle.std.proofs.Common.{◌≡◌, ℕ, zero, suc, ◌+◌, ◌<◌, ◌≤◌, true, cond, List, [], ◌∷◌, nat_eq, refl, ap, arith, inl, inr}
-use Rattle.std.specs.Prelude.{count_by}
-use Rattle.std.proofs.lemmas.Bool.{cases_Bool, eqb-true, ne_eqb}
-use Rattle.std.proofs.lemmas.List.Sums.{sum_by-cons}
+use Rattle.sap_lemmas.proofs.Common.{◌≡◌, ℕ, zero, suc, ◌+◌, ◌<◌, ◌≤◌, true, cond, List, [], ◌∷◌, nat_eq, refl, ap, arith, inl, inr, count_by, cases_Bool, eqb-true, ne_eqb, sum_by-cons}
 use Rattle.sap_meaning.specs.Sites.{numbers_from, Sublist}
 
 pub same : (xs : List ℕ) → Sublist xs xs

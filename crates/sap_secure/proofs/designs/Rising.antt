@@ -1,9 +1,6 @@
 -- Refusals rise in each cycle of a run.
 use Rattle.std.proofs.Common.{List, [], ◌∷◌}
-use Rattle.sap_meaning.specs.Program.{Program}
-use Rattle.sap_meaning.specs.Store.{Store}
-use Rattle.sap_meaning.specs.Cycle.{Tagged, cycle, run_from}
-use Rattle.sap_meaning.specs.Sites.{RisesFrom, refused_sites}
+use Rattle.sap_meaning.specs.Prelude.{Program, Store, Tagged, cycle, run_from, RisesFrom, refused_sites}
 use Rattle.sap_secure.specs.Designs.Designs.{EachRises}
 
 pub each_rises : (p : Program) → ((inputs : List Tagged) (s : Store) → RisesFrom 1 (refused_sites (cycle p inputs s).refused))

@@ -1,16 +1,7 @@
 -- The steps that a cycle comes to tell which cells it may change.
-use Rattle.std.proofs.Common.{◌≡◌, ℕ, zero, suc, ◌+◌, ◌≤◌, Bool, true, false, ◌&&◌, List, [], ◌∷◌, ◌++◌, refl, sym, ◌∙◌, subst, arith, inl, inr, nat_eq, if◌then◌else◌}
-use Rattle.std.proofs.lemmas.Bool.{cases_Bool, ne_eqb}
+use Rattle.sap_lemmas.proofs.Common.{◌≡◌, ℕ, zero, suc, ◌+◌, ◌≤◌, Bool, true, false, ◌&&◌, List, [], ◌∷◌, ◌++◌, refl, sym, ◌∙◌, subst, arith, inl, inr, nat_eq, if◌then◌else◌, cases_Bool, ne_eqb}
 use Rattle.sap_maps.specs.Term.{Term}
-use Rattle.sap_meaning.specs.Program.{World, is_dynamic, root, place, Program, Step, assign, write, retag, retag_cell, go_to, fall_to_child, Command, lone, try, if_else, try_then, case_of, Arms, last_arm, and_arm, Block, end_block, command_then, State, state_node, Group, no_node, and_node}
-use Rattle.sap_meaning.specs.Store.{own, start, next, start_whole, next_whole, source, Store, number, level, child, put_number, put_level, put_child, raise, reset, settle, After, stay, and_then}
-use Rattle.sap_meaning.specs.Expressions.{value, tag, new_level}
-use Rattle.sap_meaning.specs.Checks.{Home, guard, test}
-use Rattle.sap_meaning.specs.Touches.{touches, root_touches, raised_alone}
-use Rattle.sap_meaning.specs.Does.{effect, attempt, attempt_then, select, branch, is_constant, does, does_arms, does_block, does_state, does_child}
-use Rattle.sap_meaning.specs.Cycle.{Tagged, set_inputs, root_fall, cycle}
-use Rattle.sap_meaning.specs.State.{Resting}
-use Rattle.sap_meaning.specs.Once.{step_writes}
+use Rattle.sap_meaning.specs.Prelude.{World, is_dynamic, root, place, Program, Step, assign, write, retag, retag_cell, go_to, fall_to_child, Command, lone, try, if_else, try_then, case_of, Arms, last_arm, and_arm, Block, end_block, command_then, State, state_node, Group, no_node, and_node, own, start, next, start_whole, next_whole, source, Store, number, level, child, put_number, put_level, put_child, raise, reset, settle, After, stay, and_then, value, tag, new_level, Home, guard, test, touches, root_touches, raised_alone, effect, attempt, attempt_then, select, branch, is_constant, does, does_arms, does_block, does_state, does_child, Tagged, set_inputs, root_fall, cycle, Resting, step_writes}
 use Rattle.sap_secure.specs.Once.Steps.{onward, tried, tried_then, picked, chosen, steps, arms_steps, block_steps, state_steps, child_steps, root_steps, cycle_steps}
 use Rattle.sap_secure.specs.Once.Once.{writes_to, CellStays, WritesOnce, UnwrittenStays, ChangesOneCell}
 use Rattle.sap_secure.proofs.once.Counts.{writing, writes_to-cons, writes_to-append, split_one}

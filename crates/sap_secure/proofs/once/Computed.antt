@@ -1,9 +1,6 @@
 -- The steps of the small programs, by computation.
 use Rattle.std.proofs.Common.{refl}
-use Rattle.sap_meaning.specs.Store.{put_number, put_level, put_child, raise, reset}
-use Rattle.sap_meaning.specs.Does.{effect, attempt, select, does, does_block, does_state, does_child}
-use Rattle.sap_meaning.specs.Cycle.{set_inputs}
-use Rattle.sap_meaning.specs.State.{first}
+use Rattle.sap_meaning.specs.Prelude.{put_number, put_level, put_child, raise, reset, effect, attempt, select, does, does_block, does_state, does_child, set_inputs, first}
 use Rattle.sap_secure.specs.Once.Steps.{tried, chosen, steps, block_steps, state_steps, child_steps, root_steps, cycle_steps}
 use Rattle.sap_secure.specs.Once.Examples.{OneBranch, WrittenTwice, AfterRefusal, AfterFall}
 

@@ -1,10 +1,7 @@
 -- How many steps of a list write a memory.
-use Rattle.std.proofs.Common.{◌≡◌, ℕ, zero, suc, ◌+◌, ◌≤◌, Bool, true, false, cond, ◌&&◌, ◌||◌, List, [], ◌∷◌, ◌++◌, refl, arith, inl, inr, ◌⊎◌}
-use Rattle.std.proofs.lemmas.Bool.{cases_Bool}
-use Rattle.std.proofs.lemmas.List.Sums.{sum_by-append, sum_by-cons}
-use Rattle.sap_lemmas.proofs.Bools.{neither_left, neither_right}
-use Rattle.sap_meaning.specs.Program.{Step}
-use Rattle.sap_meaning.specs.Once.{step_writes}
+use Rattle.sap_lemmas.proofs.Common.{◌≡◌, ℕ, zero, suc, ◌+◌, ◌≤◌, Bool, true, false, cond, ◌&&◌, ◌||◌, List, [], ◌∷◌, ◌++◌, refl, arith, inl, inr, ◌⊎◌, cases_Bool, sum_by-cons, neither_left, neither_right}
+use Rattle.std.proofs.lemmas.List.Sums.{sum_by-append}
+use Rattle.sap_meaning.specs.Prelude.{Step, step_writes}
 use Rattle.sap_meaning.proofs.Bools.{and_false}
 use Rattle.sap_secure.specs.Once.Once.{writes_to}
 

@@ -1,17 +1,7 @@
 -- In a fine program at most one step that a cycle comes to writes a memory.
-use Rattle.std.proofs.Common.{◌≡◌, ℕ, zero, suc, ◌+◌, ◌≤◌, Bool, true, false, ◌&&◌, ◌||◌, List, [], ◌∷◌, ◌++◌, refl, sym, ◌∙◌, arith, inl, inr, nat_eq, if◌then◌else◌}
-use Rattle.std.proofs.lemmas.Bool.{cases_Bool, false_from_ne_true, or_from}
-use Rattle.sap_lemmas.proofs.Bools.{neither_left, neither_right}
+use Rattle.sap_lemmas.proofs.Common.{◌≡◌, ℕ, zero, suc, ◌+◌, ◌≤◌, Bool, true, false, ◌&&◌, ◌||◌, List, [], ◌∷◌, ◌++◌, refl, sym, ◌∙◌, arith, inl, inr, nat_eq, if◌then◌else◌, cases_Bool, false_from_ne_true, or_from, neither_left, neither_right}
 use Rattle.sap_maps.specs.Term.{Term}
-use Rattle.sap_meaning.specs.Program.{World, root, Program, Step, assign, write, retag, retag_cell, go_to, fall_to_child, Command, lone, try, if_else, try_then, case_of, Arms, last_arm, and_arm, Block, end_block, command_then, State, state_node, Group, no_node, and_node}
-use Rattle.sap_meaning.specs.Store.{Store, own, level, child, raise}
-use Rattle.sap_meaning.specs.Expressions.{value, tag}
-use Rattle.sap_meaning.specs.Checks.{Home, guard, test}
-use Rattle.sap_meaning.specs.Touches.{touches, root_touches, raised_alone}
-use Rattle.sap_meaning.specs.Does.{does, does_child, effect, is_constant}
-use Rattle.sap_meaning.specs.Cycle.{set_inputs}
-use Rattle.sap_meaning.specs.Fine.{FineProgram}
-use Rattle.sap_meaning.specs.Once.{step_writes, step_reaching, reaching, arms_reaching, block_reaching, state_reaches, group_reaches, OnceStep, Once, OnceArms, OnceBlock, OnceState, OnceGroup}
+use Rattle.sap_meaning.specs.Prelude.{World, root, Program, Step, assign, write, retag, retag_cell, go_to, fall_to_child, Command, lone, try, if_else, try_then, case_of, Arms, last_arm, and_arm, Block, end_block, command_then, State, state_node, Group, no_node, and_node, Store, own, level, child, raise, value, tag, Home, guard, test, touches, root_touches, raised_alone, does, does_child, effect, is_constant, set_inputs, FineProgram, step_writes, step_reaching, reaching, arms_reaching, block_reaching, state_reaches, group_reaches, OnceStep, Once, OnceArms, OnceBlock, OnceState, OnceGroup}
 use Rattle.sap_meaning.proofs.Bools.{and_false}
 use Rattle.sap_secure.specs.Once.Steps.{onward, tried, tried_then, picked, chosen, steps, arms_steps, block_steps, state_steps, child_steps, root_steps, cycle_steps}
 use Rattle.sap_secure.specs.Once.Once.{writes_to, WritesOnce}

@@ -1,11 +1,6 @@
 -- One cycle of two machines of one program.
 use Rattle.std.proofs.Common.{◌≡◌, ℕ, List, sym, subst}
-use Rattle.sap_meaning.specs.Agree.{InputsAgree, StatesAgree, RefusalsAgree}
-use Rattle.sap_meaning.specs.Cycle.{Tagged, cycle}
-use Rattle.sap_meaning.specs.Fine.{FineProgram}
-use Rattle.sap_meaning.specs.Program.{Program}
-use Rattle.sap_meaning.specs.State.{Resting}
-use Rattle.sap_meaning.specs.Store.{Store, Refusal}
+use Rattle.sap_meaning.specs.Prelude.{InputsAgree, StatesAgree, RefusalsAgree, Tagged, cycle, FineProgram, Program, Resting, Store, Refusal}
 use Rattle.sap_secure.specs.Laws.{OneCycle}
 
 module _ (law : OneCycle) (p q : Program) (fine : FineProgram p) (same : p ≡ q) (s t : Store) (first : Resting p.world s)

@@ -1,15 +1,11 @@
 -- The rows of cycles that stand for those of a labelled run.
 use Rattle.std.proofs.Common.{◌≡◌, ℕ, ◌+◌, ◌<◌, List, [], ◌∷◌, ◌++◌, length, ap, ap₂, refl, arith}
-use Rattle.sap_lattice.specs.Levels.{Levels, order_of}
-use Rattle.sap_lattice.specs.Codes.{Codes, code_of}
+use Rattle.sap_lattice.specs.Prelude.{Levels, order_of, Codes, code_of}
 use Rattle.sap_maps.specs.Maps.{Valuation}
-use Rattle.sap_meaning.specs.Store.{After}
-use Rattle.sap_meaning.specs.Program.{entity}
-use Rattle.sap_interface.specs.StandsFor.{Named, world}
-use Rattle.sap_interface.specs.Compiled.{CyclesStand}
+use Rattle.sap_meaning.specs.Prelude.{After, entity}
+use Rattle.sap_interface.specs.Prelude.{Named, world, CyclesStand}
 use Rattle.sap_stim.specs.Rows.{row_text}
-use Rattle.sap_sim.specs.Shown.{rows_from}
-use Rattle.sap_sim.specs.Labelled.LabelledRows.{rows_of_run}
+use Rattle.sap_sim.specs.Prelude.{rows_from, rows_of_run}
 use Rattle.sap_sim.proofs.labelled.Inputs.{From}
 use Rattle.sap_sim.proofs.labelled.Registers.{register_names, shown_row}
 

@@ -1,19 +1,17 @@
 -- The fields of a design: entity by entity, by the widths of the world's inputs, and of the right sizes.
-use Rattle.std.proofs.Common.{◌≡◌, ℕ, ◌+◌, ◌<◌, true, List, [], ◌∷◌, ◌++◌, Option, Some, None, length, get_or, take, map, refl, sym, ap, ◌∙◌, if◌then◌else◌}
-use Rattle.std.specs.Prelude.{All, filter_map, option_map, slice_get}
-use Rattle.std.specs.List.{AllByRecursion, cons_option}
-use Rattle.std.proofs.lemmas.List.{take_more}
+use Rattle.sap_lemmas.proofs.Common.{◌≡◌, ℕ, ◌+◌, ◌<◌, true, List, [], ◌∷◌, ◌++◌, Option, Some, None, length, get_or, take, map, refl, sym, ap, ◌∙◌, if◌then◌else◌, All, option_map, slice_get, AllByRecursion, take_more, get_or_from_slice_get, same_Some}
+use Rattle.std.specs.Prelude.{filter_map}
+use Rattle.std.specs.List.{cons_option}
 use Rattle.std.proofs.lemmas.List.Elements.{filter_map-append}
-use Rattle.std.proofs.lemmas.Option.{get_or_from_slice_get, same_Some}
 use Rattle.sap_tree.specs.Syntax.{DesignTree}
 use Rattle.sap_lattice.specs.Levels.{Levels}
+use Rattle.sap_names.specs.Entities.{entities_of}
 use Rattle.sap_names.specs.declared.kind.Declared.{Declared}
-use Rattle.sap_names.specs.declared.kind.Declared.TheVariants as what
 use Rattle.sap_names.specs.declared.entity.Entity.{Entity}
-use Rattle.sap_names.specs.Entities.{HasWidth, HaveWidths, entities_of}
-use Rattle.sap_meaning.specs.Program.{kind_is_input}
+use Rattle.sap_names.specs.Entities.{HasWidth, HaveWidths}
+use Rattle.sap_names.specs.declared.kind.Declared.TheVariants as what
+use Rattle.sap_meaning.specs.Prelude.{kind_is_input, input_widths}
 use Rattle.sap_meaning.specs.Program as program
-use Rattle.sap_meaning.specs.State.{input_widths}
 use Rattle.sap_resolved.specs.Worlds.{world_of}
 use Rattle.sap_resolved.proofs.Lookup.{Stands, AllMatch, entities_match}
 use Rattle.sap_stim.specs.declared.field.Field.{Field}

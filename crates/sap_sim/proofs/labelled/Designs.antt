@@ -1,50 +1,26 @@
 -- The rows of a netlist that stands for a design are those of the design's labelled run.
-use Rattle.std.proofs.Common.{◌≡◌, ℕ, ◌+◌, ◌<◌, List, [], ◌∷◌, Bool, true, false, Some, None, length, map, sym, ap, ap₂, ◌∙◌, subst, refl, arith, bytes_eq, inl, inr}
-use Rattle.std.specs.Prelude.{filter, not}
-use Rattle.std.proofs.lemmas.Bool.{cases_Bool, or_from}
-use Rattle.std.proofs.lemmas.Bool.Decides.{Decides-eqb}
-use Rattle.std.proofs.lemmas.List.{length-map}
-use Rattle.sap_lemmas.proofs.Bools.{neither_left, neither_right}
+use Rattle.sap_lemmas.proofs.Common.{◌≡◌, ℕ, ◌+◌, ◌<◌, List, [], ◌∷◌, Bool, true, false, Some, None, length, map, sym, ap, ap₂, ◌∙◌, subst, refl, arith, bytes_eq, inl, inr, filter, not, cases_Bool, or_from, Decides-eqb, length-map, neither_left, neither_right}
 use Rattle.sap_stim.proofs.FitsLemmas.{line_count}
-use Rattle.sap_tree.specs.Syntax.{DesignTree}
-use Rattle.sap_tree.specs.Whole.{is_whole}
-use Rattle.sap_lattice.specs.Levels.{Levels, order_of}
-use Rattle.sap_lattice.specs.Order.{Laws}
-use Rattle.sap_lattice.specs.Codes.{Codes, code_of}
-use Rattle.sap_maps.specs.Maps.{Name}
-use Rattle.sap_maps.specs.Scope.{Scope, find}
+use Rattle.sap_tree.specs.Prelude.{DesignTree, is_whole}
+use Rattle.sap_lattice.specs.Prelude.{Levels, order_of, Laws, Codes, code_of}
+use Rattle.sap_maps.specs.Prelude.{Name, Scope, find}
 use Rattle.sap_maps.proofs.Scopes.{not_first, not_behind}
-use Rattle.sap_meaning.specs.Program.{Entity, is_input, is_register}
-use Rattle.sap_meaning.specs.Cycle.{Tagged as Given}
-use Rattle.sap_meaning.specs.State.{input_widths, StreamFits}
+use Rattle.sap_meaning.specs.Prelude.{Entity, is_input, is_register, Tagged as Given, input_widths, StreamFits}
 use Rattle.sap_meaning.specs.State as state
+use Rattle.sap_net.specs.Prelude.{is_among, AreDistinct, Net, IsNetlist, shapes, IsRun, observed, tag_name, register_ports, port_widths, shown_among}
 use Rattle.sap_net.specs.declared.parts.Input.{Input}
-use Rattle.sap_net.specs.Names.{is_among, AreDistinct}
-use Rattle.sap_net.specs.Net.{Net}
-use Rattle.sap_net.specs.IsNetlist.{IsNetlist, shapes}
-use Rattle.sap_net.specs.Runs.{IsRun, observed}
 use Rattle.sap_cycle.proofs.Distinct.{AreFresh}
-use Rattle.sap_net.specs.PortNames.{tag_name}
-use Rattle.sap_interface.specs.StandsFor.{Named, name, world}
-use Rattle.sap_interface.specs.Compiled.{coded, coded_stream}
-use Rattle.sap_interface.specs.Designs.{named_of, site_count_of, StandsForDesign}
+use Rattle.sap_interface.specs.Prelude.{Named, name, world, coded, coded_stream, named_of, site_count_of, StandsForDesign}
 use Rattle.sap_stim.specs.declared.field.Field.{Field}
 use Rattle.sap_stim.specs.declared.field.Field.TheVariants as field
 use Rattle.sap_stim.specs.declared.stimulus.Parsed.{Parsed}
 use Rattle.sap_stim.specs.Stimulus.{stimulus_of}
 use Rattle.sap_stim.specs.Fits.{LineFits, StimulusFits}
 use Rattle.sap_stim.specs.Fits as stim
-use Rattle.sap_sim.specs.Fields.{tag_width, with_field, field_of, fields_of, is_tag}
+use Rattle.sap_sim.specs.Prelude.{tag_width, with_field, field_of, fields_of, is_tag, given, field_names, number_for, numbers_of, register_widths, shown_registers, rows_from, IsSimulated, Rows, design_fields, labelled_rows, IsRunOf}
 use Rattle.sap_sim.specs.Fields as fields
-use Rattle.sap_sim.specs.Numbers.{given, field_names, number_for, numbers_of}
-use Rattle.sap_net.specs.Shown.{register_ports, port_widths, shown_among}
-use Rattle.sap_sim.specs.Shown.{register_widths, shown_registers, rows_from}
 use Rattle.sap_sim.proofs.Registers.{port_wide}
-use Rattle.sap_sim.specs.Simulated.{IsSimulated, Rows}
 use Rattle.sap_sim.proofs.Fits.{inputs_found, fresh_inputs}
-use Rattle.sap_sim.specs.Labelled.Fields.{design_fields}
-use Rattle.sap_sim.specs.Labelled.LabelledRows.{labelled_rows}
-use Rattle.sap_sim.specs.Labelled.RunOf.{IsRunOf}
 use Rattle.sap_sim.proofs.labelled.Ports.{pair_names, input_names_are, register_ports_are}
 use Rattle.sap_sim.proofs.labelled.Words.{input_some, register_some, value_back, tag_back, value_no_tag, tag_no_value}
 use Rattle.sap_sim.proofs.labelled.Inputs.{Known, pair_scope, value_scope, to_input, inputs_are, filtered, fields_are, numbers_are, given_back}

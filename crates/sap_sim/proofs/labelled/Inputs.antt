@@ -1,31 +1,19 @@
 -- The inputs of a module with a design's interface: their fields, and the numbers of a line.
-use Rattle.std.proofs.Common.{◌≡◌, ℕ, suc, ◌+◌, List, [], ◌∷◌, ◌++◌, Bool, true, false, Some, None, length, get_or, map, sym, ap, ap₂, ◌∙◌, refl, arith, bytes_eq, if◌then◌else◌, inl, inr}
-use Rattle.std.specs.Prelude.{filter, not, ◌==◌}
-use Rattle.std.specs.List.{AllByRecursion}
-use Rattle.std.proofs.lemmas.Bool.{cases_Bool, and_right}
-use Rattle.std.proofs.lemmas.Bool.Decides.{Decides-eqb}
-use Rattle.sap_lemmas.proofs.Bools.{neither_left, neither_right, not_and_false}
+use Rattle.sap_lemmas.proofs.Common.{◌≡◌, ℕ, suc, ◌+◌, List, [], ◌∷◌, ◌++◌, Bool, true, false, Some, None, length, get_or, map, sym, ap, ap₂, ◌∙◌, refl, arith, bytes_eq, if◌then◌else◌, inl, inr, filter, not, ◌==◌, AllByRecursion, cases_Bool, Decides-eqb, neither_left, neither_right, some_same, bytes_eq_same}
+use Rattle.std.proofs.lemmas.Bool.{and_right}
+use Rattle.sap_lemmas.proofs.Bools.{not_and_false}
 use Rattle.sap_lemmas.proofs.Lists.{tail_equal}
-use Rattle.sap_lemmas.proofs.Options.{some_same}
-use Rattle.sap_lemmas.proofs.Texts.{bytes_eq_same}
-use Rattle.sap_lattice.specs.Levels.{Levels, order_of}
-use Rattle.sap_lattice.specs.Codes.{code_of}
-use Rattle.sap_maps.specs.Maps.{Name}
-use Rattle.sap_maps.specs.Scope.{Scope, find}
-use Rattle.sap_meaning.specs.Cycle.{Tagged as Given}
-use Rattle.sap_meaning.specs.Program.{Entity, entity, nothing, width, is_input, kind_is_input}
-use Rattle.sap_meaning.specs.State.{input_widths}
+use Rattle.sap_lattice.specs.Prelude.{Levels, order_of, code_of}
+use Rattle.sap_maps.specs.Prelude.{Name, Scope, find}
+use Rattle.sap_meaning.specs.Prelude.{Tagged as Given, Entity, entity, nothing, width, is_input, kind_is_input, input_widths}
+use Rattle.sap_net.specs.Prelude.{is_among, AreDistinct, value_name, tag_name, value_of, tag_of}
 use Rattle.sap_net.specs.declared.parts.Input.{Input}
-use Rattle.sap_net.specs.Names.{is_among, AreDistinct}
-use Rattle.sap_net.specs.PortNames.{value_name, tag_name, value_of, tag_of}
-use Rattle.sap_interface.specs.StandsFor.{Named, name, world}
-use Rattle.sap_interface.specs.Compiled.{coded}
+use Rattle.sap_interface.specs.Prelude.{Named, name, world, coded}
 use Rattle.sap_stim.specs.declared.field.Field.{Field}
 use Rattle.sap_stim.specs.declared.field.Field.TheVariants as field
-use Rattle.sap_sim.specs.Fields.{tag_width, is_tag, is_tagged, field_of}
+use Rattle.sap_sim.specs.Prelude.{tag_width, is_tag, is_tagged, field_of, place, given, number_for}
 use Rattle.sap_sim.specs.Fields as fields
 use Rattle.sap_sim.proofs.Maps.{place_behind}
-use Rattle.sap_sim.specs.Numbers.{place, given, number_for}
 use Rattle.sap_sim.specs.Numbers as numbers
 use Rattle.sap_sim.proofs.labelled.Ports.{pair_names}
 

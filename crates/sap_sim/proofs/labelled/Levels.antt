@@ -1,13 +1,9 @@
 -- The level of a code.
-use Rattle.std.proofs.Common.{◌≡◌, ℕ, ◌<◌, ◌≤◌, Bool, true, false, Option, Some, length, map, sym, ap, ◌∙◌, refl, arith, inl, inr}
-use Rattle.std.specs.Prelude.{option_map, ◌==◌, nat_lt, not}
-use Rattle.std.proofs.lemmas.Bool.{cases_Bool, cases_lt, lt-ltb, le-ltb, false≢true}
-use Rattle.std.proofs.lemmas.Bool.Decides.{Decides-eqb}
+use Rattle.sap_lemmas.proofs.Common.{◌≡◌, ℕ, ◌<◌, Option, Some, length, map, sym, ap, ◌∙◌, refl, arith, inl, inr, option_map, ◌==◌, nat_lt, not, cases_Bool, cases_lt, lt-ltb, le-ltb, Decides-eqb}
 use Rattle.sap_lemmas.proofs.Options.{find_only_from}
 use Rattle.sap_lattice.proofs.KeptLemmas.{order_of-count}
-use Rattle.sap_lattice.specs.Closure.{name_at}
-use Rattle.sap_lattice.specs.Levels.{Levels, level_in, order_of, order_by, is_below}
-use Rattle.sap_lattice.specs.Codes.{Codes, code_of, meet_irreducibles, number_of}
+use Rattle.sap_lattice.specs.Prelude.{name_at, Levels, level_in, order_of, order_by, is_below, Codes, code_of, meet_irreducibles}
+use Rattle.sap_lattice.specs.Codes.{number_of}
 use Rattle.sap_stim.specs.Rows.{level_coded}
 use Rattle.sap_sim.specs.Labelled.LabelledRows.{level_name}
 
@@ -33,10 +29,6 @@ bottom_level ls h t =
       | inl l ↦ rw (lt-ltb t (length ls.names) l) l
       | inr g ↦ rw (le-ltb t (length ls.names) g) h
     ]
-
-not_here : (test : ℕ → Bool) (a k : ℕ) → a ≤ k → test a ≡ false → test k ≡ true → a < k
-not_here test a k l f t =
-    elim (cases_lt a k) [ inl h ↦ h | inr g ↦ (let e : a ≡ k = omega arith in let c : false ≡ true = sym f ∙ ap test e ∙ t in absurd (false≢true c)) ]
 
 -- the name of the level whose code this level has is its name
 pub name_coded : (ls : Levels) → Codes (order_of ls) → 0 < length ls.names → (t : ℕ)

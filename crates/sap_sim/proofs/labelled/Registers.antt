@@ -1,20 +1,11 @@
 -- The registers that rows show of a module with a design's interface.
-use Rattle.std.proofs.Common.{◌≡◌, ℕ, zero, suc, ◌+◌, ◌<◌, ◌≤◌, List, [], ◌∷◌, ◌++◌, Bool, true, false, ◌||◌, Some, None, length, map, sym, ap, ◌∙◌, refl, arith, bytes_eq, if◌then◌else◌, inl, inr}
-use Rattle.std.specs.Prelude.{option_map}
-use Rattle.std.proofs.lemmas.Bool.{cases_Bool}
-use Rattle.sap_lemmas.proofs.Texts.{bytes_eq_same}
-use Rattle.sap_lattice.specs.Closure.{name_at}
-use Rattle.sap_lattice.specs.Levels.{Levels, order_of}
-use Rattle.sap_lattice.specs.Codes.{Codes, code_of}
-use Rattle.sap_maps.specs.Maps.{Name, Valuation}
-use Rattle.sap_maps.specs.Scope.{Scope}
-use Rattle.sap_meaning.specs.Program.{Entity, is_register, kind_is_register}
-use Rattle.sap_meaning.specs.Store.{Store, own, number, level}
-use Rattle.sap_net.specs.Names.{is_among}
-use Rattle.sap_net.specs.PortNames.{value_name, tag_name, value_of}
+use Rattle.sap_lemmas.proofs.Common.{◌≡◌, ℕ, zero, suc, ◌+◌, ◌<◌, ◌≤◌, List, [], ◌∷◌, ◌++◌, Bool, true, false, ◌||◌, Some, None, length, map, sym, ap, ◌∙◌, refl, arith, bytes_eq, if◌then◌else◌, inl, inr, option_map, cases_Bool, bytes_eq_same}
+use Rattle.sap_lattice.specs.Prelude.{name_at, Levels, order_of, Codes, code_of}
+use Rattle.sap_maps.specs.Prelude.{Name, Valuation, Scope}
+use Rattle.sap_meaning.specs.Prelude.{Entity, is_register, kind_is_register, Store, own, number, level}
+use Rattle.sap_net.specs.Prelude.{is_among, value_name, tag_name, value_of, has_tag, shown_among}
 use Rattle.sap_interface.specs.StandsFor.{Named, name, world}
 use Rattle.sap_stim.specs.Rows.{Shown, level_coded, shown_of}
-use Rattle.sap_net.specs.Shown.{has_tag, shown_among}
 use Rattle.sap_sim.specs.Labelled.LabelledRows.{level_name, register_shown, registers_shown}
 use Rattle.sap_sim.proofs.labelled.Inputs.{From, from_next, from_here}
 use Rattle.sap_sim.proofs.labelled.Levels.{name_coded}

@@ -1,22 +1,17 @@
 -- Inputs and registers are declared, and their names aren't empty.
-use Rattle.std.proofs.Common.{◌≡◌, ℕ, zero, suc, ◌+◌, List, [], ◌∷◌, ◌++◌, Bool, true, false, ◌||◌, Some, None, length, get_or, map, sym, ◌∙◌, refl}
-use Rattle.std.specs.List.{AllByRecursion, list_all}
-use Rattle.std.proofs.lemmas.Bool.{false≢true, or_left, or_right}
-use Rattle.sap_lemmas.proofs.Bools.{and_left, and_right}
+use Rattle.sap_lemmas.proofs.Common.{◌≡◌, ℕ, zero, suc, ◌+◌, List, [], ◌∷◌, ◌++◌, Bool, true, false, ◌||◌, Some, None, length, get_or, map, sym, ◌∙◌, refl, AllByRecursion, list_all, false≢true, or_left, or_right, and_left, and_right}
 use Rattle.sap_tree.specs.Words as words
-use Rattle.sap_tree.specs.Whole.{is_whole, is_declaration}
-use Rattle.sap_tree.specs.Syntax.{StateTree, state_node, StateList, no_state, and_state, DesignTree}
+use Rattle.sap_tree.specs.Prelude.{is_whole, is_declaration, StateTree, state_node, StateList, no_state, and_state, DesignTree}
 use Rattle.sap_tree.specs.declared.syntax.Decl.{Decl}
-use Rattle.sap_tree.specs.declared.syntax.Decl.TheVariants as decl
 use Rattle.sap_tree.specs.declared.version.Version.{Version}
+use Rattle.sap_tree.specs.declared.syntax.Decl.TheVariants as decl
 use Rattle.sap_lattice.specs.Levels.{Levels}
 use Rattle.sap_maps.specs.Maps.{Name}
 use Rattle.sap_meaning.specs.Program.{Entity, nothing, kind_is_input, kind_is_register, is_input, is_register}
 use Rattle.sap_names.specs.Entities.{entity_of, declared_in, group_entities as named_group}
 use Rattle.sap_names.specs.declared.entity.Entity.{Entity as Declared}
 use Rattle.sap_resolved.specs.Worlds.{all_declared, state_entities, group_entities}
-use Rattle.sap_interface.specs.StandsFor.{name, world}
-use Rattle.sap_interface.specs.Designs.{named_of}
+use Rattle.sap_interface.specs.Prelude.{name, world, named_of}
 use Rattle.sap_net.specs.PortNames.{value_of, tag_of, value_name, tag_name}
 
 abbrev pub is_plain : Entity → Bool

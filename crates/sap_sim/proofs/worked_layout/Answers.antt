@@ -1,6 +1,5 @@
 use Rattle.std.proofs.Common.{refl}
-use Rattle.sap_lattice.specs.Levels.{order_of, order_by}
-use Rattle.sap_lattice.specs.Codes.{code_of, meet_irreducibles}
+use Rattle.sap_lattice.specs.Prelude.{order_of, order_by, code_of, meet_irreducibles}
 use Rattle.sap_sim.proofs.worked_layout.Goals as goal
 
 pub returns-clause-fields : goal.returns-clause-fields

@@ -1,20 +1,15 @@
 -- How large plain programs are.
-use Rattle.std.proofs.Common.{◌≡◌, ℕ, zero, suc, ◌+◌, ◌*◌, ◌≤◌, List, [], ◌∷◌, ◌++◌, length, Bool, refl, arith, inl, inr, length-append}
-use Rattle.std.specs.Prelude.{nat_lt}
-use Rattle.std.proofs.lemmas.Bool.{cases_Bool}
-use Rattle.std.proofs.lemmas.List.{length-map}
+use Rattle.sap_lemmas.proofs.Common.{◌≡◌, ℕ, zero, suc, ◌+◌, ◌*◌, ◌≤◌, List, [], ◌∷◌, ◌++◌, length, Bool, refl, arith, inl, inr, length-append, nat_lt, cases_Bool, length-map}
 use Rattle.sap_meaning.specs.Program as program
 use Rattle.sap_meaning.specs.Program.{Entity, root, children, is_register, is_memory, is_dynamic, listed}
+use Rattle.sap_ir.specs.IsGuarded.{variable_names}
 use Rattle.sap_ir.specs.declared.guarded.Var.{Var}
 use Rattle.sap_size.specs.Nested.{nested_weight}
 use Rattle.sap_size.specs.Programs.{group_size, states_below}
 use Rattle.sap_interface.specs.StandsFor.{Named, world}
-use Rattle.sap_tagged.specs.Setting.{setting_of}
-use Rattle.sap_tagged.specs.Few.{FewGroup}
-use Rattle.sap_tagged.specs.Plain.{value_var, tag_var, seat_var, level_at_start, for_entities, has_own_tag, shown_registers, tag_registers, seat_registers, registers_of, site_wires, memory_of, tags_of, memories_of, plain_of}
+use Rattle.sap_tagged.specs.Prelude.{setting_of, FewGroup, value_var, tag_var, seat_var, level_at_start, for_entities, has_own_tag, shown_registers, tag_registers, seat_registers, registers_of, site_wires, memory_of, tags_of, memories_of, plain_of}
 use Rattle.sap_tagged.proofs.small.Tags.{Roomy}
 use Rattle.sap_tagged.proofs.small.States.{program_weighs}
-use Rattle.sap_ir.specs.IsGuarded.{variable_names}
 
 -- what is declared for entities that are picked, at most so many for each
 for_each_short : {A : Type 0} (picks : ℕ → Bool) (f : ℕ → List A) (most : ℕ) → ((x : ℕ) → length (f x) ≤ most) → (x : ℕ) (es : List Entity)

@@ -1,10 +1,8 @@
 -- Operations of expressions that are put together.
-use Rattle.std.proofs.Common.{◌≡◌, ℕ, ◌||◌, ◌+◌, ◌≤◌, List, [], ◌∷◌, ◌++◌, true, sym, ◌∙◌, subst, refl, arith, inl, inr, length-append}
-use Rattle.std.proofs.lemmas.Bool.{cases_Bool}
+use Rattle.sap_lemmas.proofs.Common.{◌≡◌, ℕ, ◌||◌, ◌+◌, ◌≤◌, List, [], ◌∷◌, ◌++◌, true, sym, ◌∙◌, subst, refl, arith, inl, inr, length-append, cases_Bool}
 use Rattle.sap_bits.specs.declared.Op2.{Op2}
 use Rattle.sap_bits.specs.declared.Op2.TheVariants.{Or}
-use Rattle.sap_maps.specs.Maps.{Name}
-use Rattle.sap_maps.specs.Term.{Term, cell, two, choose, join, part}
+use Rattle.sap_maps.specs.Prelude.{Name, Term, cell, two, choose, part}
 use Rattle.sap_size.specs.Terms.{same_term, operations_in, operations}
 use Rattle.sap_size.proofs.Terms.{term_is, term_self, has, has_both, has_front, has_behind, all_operations, all_has, operations_within}
 use Rattle.sap_tagged.specs.Levels.{lub, below_or_at}
@@ -48,9 +46,6 @@ held_both xs ys zs h k q m =
 
 -- lists within lists
 
-pub within_self : (xs : List (Term Name)) → Held xs xs
-within_self xs q m = m
-
 pub within_front : (xs ys : List (Term Name)) (t : Term Name) → Covers xs t → Covers (xs ++ ys) t
 within_front xs ys t h q m = has_front xs ys q (h q m)
 
@@ -82,18 +77,6 @@ part_weighs a hi lo =
 pub two_weighs : (o : Op2) (a b : Term Name) → operations (two o a b) ≤ 1 + operations a + operations b
 two_weighs o a b =
     let t = two o a b in
-    let us = all_operations a in
-    let vs = all_operations b in
-    let xs = t ∷ (us ++ vs) in
-    let l = operations_within t xs (held_more xs t (operations_in a ++ operations_in b) (here t (us ++ vs))
-    (held_both xs (operations_in a) (operations_in b) (within_behind (t ∷ []) (us ++ vs) a (within_front us vs a (covered a)))
-    (within_behind (t ∷ []) (us ++ vs) b (within_behind us vs b (covered b))))) in
-    let n = length-append us vs in
-    omega (arith, l, n)
-
-pub join_weighs : (a b : Term Name) → operations (join a b) ≤ 1 + operations a + operations b
-join_weighs a b =
-    let t = join a b in
     let us = all_operations a in
     let vs = all_operations b in
     let xs = t ∷ (us ++ vs) in

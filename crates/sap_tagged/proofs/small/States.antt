@@ -1,28 +1,16 @@
 -- How large bodies and states are.
-use Rattle.std.proofs.Common.{◌≡◌, ℕ, zero, suc, ◌+◌, ◌-◌, ◌*◌, ◌^◌, ◌≤◌, nat_le, Bool, List, [], ◌∷◌, length, take, drop, refl, arith, inl, inr, length-append}
-use Rattle.std.proofs.lemmas.Bool.{cases_Bool, leb-false}
-use Rattle.std.proofs.lemmas.List.{length-take-le, length-drop}
-use Rattle.std.proofs.Math.Pow.{pow_pos}
+use Rattle.sap_lemmas.proofs.Common.{◌≡◌, ℕ, zero, suc, ◌+◌, ◌-◌, ◌*◌, ◌^◌, ◌≤◌, nat_le, Bool, List, [], ◌∷◌, length, take, drop, refl, arith, inl, inr, length-append, cases_Bool, leb-false, length-take-le, length-drop, pow_pos, mul-le-mul_left}
 use Rattle.sap_bits.specs.declared.Op2.TheVariants.{Eq}
 use Rattle.sap_maps.specs.Term.{Term, constant, two}
-use Rattle.sap_meaning.specs.Program.{root, listed, Command, lone, try, if_else, try_then, case_of, Arms, last_arm, and_arm, Block, end_block, command_then, state_node, Group, no_node, and_node}
-use Rattle.sap_meaning.specs.Expressions.{width_of}
-use Rattle.sap_meaning.specs.Checks.{Home}
-use Rattle.sap_meaning.specs.Runs.{listed_alone}
+use Rattle.sap_meaning.specs.Prelude.{root, listed, Command, lone, try, if_else, try_then, case_of, Arms, last_arm, and_arm, Block, end_block, command_then, state_node, Group, no_node, and_node, width_of, Home, listed_alone}
 use Rattle.sap_ir.specs.Plain.Nested.{Body, stop, cases, Forest, state_names}
 use Rattle.sap_size.specs.Terms.{term_size}
 use Rattle.sap_size.specs.Nested.{states_in, body_weight, forest_weight}
 use Rattle.sap_size.specs.Programs.{constant_count, command_size, arms_size, block_size, group_size, states_below}
-use Rattle.sap_tagged.specs.Keys.{tag_key, wire_key, first_key}
-use Rattle.sap_tagged.specs.Setting.{Setting}
-use Rattle.sap_tagged.specs.Levels.{var, expr}
-use Rattle.sap_tagged.specs.Commands.{gives, raises, arm_count, pick_width, picks_arm, picks, decides, pick_of, select_of, wires, wires_block, command_plain, arms_plain, block_plain}
-use Rattle.sap_tagged.specs.Few.{HaveConstants, Few, FewArms, FewBlock, FewGroup}
-use Rattle.sap_tagged.specs.States.{wires_group, saved, group_plain, top_plain}
+use Rattle.sap_tagged.specs.Prelude.{tag_key, wire_key, first_key, Setting, var, expr, gives, raises, arm_count, pick_width, picks_arm, picks, decides, pick_of, select_of, wires, wires_block, command_plain, arms_plain, block_plain, HaveConstants, Few, FewArms, FewBlock, FewGroup, wires_group, saved, group_plain, top_plain}
 use Rattle.sap_tagged.proofs.small.Held.{lub_weighs, two_weighs, choose_weighs, part_weighs}
 use Rattle.sap_tagged.proofs.small.Tags.{Roomy, expr_weighs, tag_weighs}
 use Rattle.sap_tagged.proofs.small.Steps.{follow_weighs, sweep_weighs, raises_weigh, attempt_weighs, attempt_then_weighs}
-use Rattle.std.proofs.Math.Nat.{mul-le-mul_left}
 
 -- the constants of all arms, and all blocks
 

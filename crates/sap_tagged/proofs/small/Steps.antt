@@ -1,23 +1,13 @@
 -- How large the commands of steps are.
-use Rattle.std.proofs.Common.{◌≡◌, ℕ, zero, suc, ◌+◌, ◌*◌, ◌≤◌, Bool, true, false, arith, inl, inr, length-append}
-use Rattle.std.specs.Prelude.{if◌then◌else◌}
-use Rattle.std.specs.Str.{bytes_eq}
-use Rattle.std.proofs.lemmas.Bool.{cases_Bool}
-use Rattle.std.proofs.Math.Nat.{mul-le-mul_left}
+use Rattle.sap_lemmas.proofs.Common.{◌≡◌, ℕ, zero, suc, ◌+◌, ◌*◌, ◌≤◌, Bool, true, false, arith, inl, inr, length-append, if◌then◌else◌, bytes_eq, cases_Bool, mul-le-mul_left}
 use Rattle.sap_bits.specs.declared.Op2.TheVariants.{And}
-use Rattle.sap_maps.specs.Maps.{Name}
-use Rattle.sap_maps.specs.Term.{Term, constant, cell, choose}
-use Rattle.sap_meaning.specs.Program.{root, is_dynamic, is_register, authority, width, Step, assign, write, retag, retag_cell, go_to, fall_to_child}
-use Rattle.sap_meaning.specs.Checks.{Home, entry}
-use Rattle.sap_ir.specs.Plain.Nested.{Body, stop, act, cases, goto, fall, Forest, none, state, state_names, children_of}
-use Rattle.sap_ir.specs.Plain.Views.{follow}
+use Rattle.sap_maps.specs.Prelude.{Name, Term, constant, cell, choose}
+use Rattle.sap_meaning.specs.Prelude.{root, is_dynamic, is_register, authority, width, Step, assign, write, retag, retag_cell, go_to, fall_to_child, Home, entry}
+use Rattle.sap_ir.specs.Prelude.{Body, stop, act, cases, goto, fall, Forest, none, state, state_names, children_of, follow}
 use Rattle.sap_size.specs.Terms.{operations, term_size}
 use Rattle.sap_size.specs.Nested.{states_in, body_weight}
 use Rattle.sap_size.specs.Programs.{step_size, states_below}
-use Rattle.sap_tagged.specs.Keys.{Key, value_key, tag_key, seat_key, wire_key}
-use Rattle.sap_tagged.specs.Setting.{Setting}
-use Rattle.sap_tagged.specs.Levels.{var, bits, lub, below_or_at, yes, expr, tag_of, new_tag, told_tag, enters, seat_bits, guard_of, test_of, written, stays, always}
-use Rattle.sap_tagged.specs.Commands.{gives, sweep, raises, resets, effect_of, refusal, outcome, attempt_of, outcome_then, attempt_then_of}
+use Rattle.sap_tagged.specs.Prelude.{Key, value_key, tag_key, seat_key, wire_key, Setting, var, bits, lub, below_or_at, yes, expr, tag_of, new_tag, told_tag, enters, seat_bits, guard_of, test_of, written, stays, always, gives, sweep, raises, resets, effect_of, refusal, outcome, attempt_of, outcome_then, attempt_then_of}
 use Rattle.sap_tagged.proofs.small.Held.{cell_weighs, two_weighs, choose_weighs, lub_weighs, below_weighs}
 use Rattle.sap_tagged.proofs.small.Tags.{Roomy, either_weighs, expr_weighs, tag_weighs, level_weighs, child_tag_weighs, enters_weighs, child_enters_weighs}
 

@@ -1,19 +1,12 @@
 -- Operations of the terms of tags and of levels.
-use Rattle.std.proofs.Common.{◌≡◌, ℕ, zero, suc, ◌+◌, ◌*◌, ◌≤◌, List, [], ◌∷◌, ◌++◌, length, Bool, true, false, refl, arith, inl, inr, length-append, nat_lt}
-use Rattle.std.specs.Prelude.{if◌then◌else◌}
-use Rattle.std.proofs.lemmas.Bool.{cases_Bool}
-use Rattle.std.proofs.Math.Nat.{mul-le-mul_left}
+use Rattle.sap_lemmas.proofs.Common.{◌≡◌, ℕ, zero, suc, ◌+◌, ◌*◌, ◌≤◌, List, [], ◌∷◌, ◌++◌, length, Bool, true, false, refl, arith, inl, inr, length-append, nat_lt, if◌then◌else◌, cases_Bool, mul-le-mul_left}
 use Rattle.sap_bits.specs.declared.Op2.TheVariants.{Eq}
-use Rattle.sap_maps.specs.Maps.{Name}
-use Rattle.sap_maps.specs.Term.{Term, constant, read, cell, one, two, choose, join, part}
-use Rattle.sap_meaning.specs.Program.{root, is_dynamic, LevelTerm, fixed, of, at_place, both, state_node, Group, no_node, and_node}
-use Rattle.sap_meaning.specs.Expressions.{width_of}
+use Rattle.sap_maps.specs.Prelude.{Name, Term, constant, read, cell, one, two, choose, join, part}
+use Rattle.sap_meaning.specs.Prelude.{root, is_dynamic, LevelTerm, fixed, of, at_place, both, state_node, Group, no_node, and_node, width_of}
 use Rattle.sap_size.specs.Terms.{operations_in, operations, term_size}
 use Rattle.sap_size.specs.Programs.{level_size, states_below}
 use Rattle.sap_size.proofs.Terms.{has, has_front, has_behind, operations_within}
-use Rattle.sap_tagged.specs.Keys.{tag_key}
-use Rattle.sap_tagged.specs.Setting.{Setting}
-use Rattle.sap_tagged.specs.Levels.{var, lub, expr, cell_tag, tag_of, place_width, widened, placed, new_tag, told_tag, child_tag, enters, child_enters}
+use Rattle.sap_tagged.specs.Prelude.{tag_key, Setting, var, lub, expr, cell_tag, tag_of, place_width, widened, placed, new_tag, told_tag, child_tag, enters, child_enters}
 use Rattle.sap_tagged.proofs.small.Held.{Held, Covers, held_none, held_first, held_rest, held_front, held_behind, held_more, held_both, two_weighs, choose_weighs, lub_weighs, below_weighs}
 
 -- what a number of items has room for: of each command and each state so many

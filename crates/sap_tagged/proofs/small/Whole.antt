@@ -1,11 +1,9 @@
 -- The plain program of a design weighs no more than its module may have items.
-use Rattle.std.proofs.Common.{◌≡◌, ℕ, ◌+◌, ◌*◌, ◌≤◌, length, subst, arith, length-append}
-use Rattle.std.proofs.Math.Nat.{mul-le-mul_left}
+use Rattle.sap_lemmas.proofs.Common.{◌≡◌, ℕ, ◌+◌, ◌*◌, ◌≤◌, length, subst, arith, length-append, mul-le-mul_left}
 use Rattle.sap_resolved.proofs.WorldsLemmas.{declared_length}
 use Rattle.sap_tree.specs.Syntax.{DesignTree}
 use Rattle.sap_lattice.proofs.KeptLemmas.{order_of-count}
-use Rattle.sap_lattice.specs.Levels.{Levels, order_of}
-use Rattle.sap_lattice.specs.Codes.{width_of}
+use Rattle.sap_lattice.specs.Prelude.{Levels, order_of, width_of}
 use Rattle.sap_names.specs.Entities.{entities_of}
 use Rattle.sap_meaning.specs.Program.{root}
 use Rattle.sap_resolved.specs.Worlds.{all_declared, group_entities, world_of}

@@ -1,17 +1,12 @@
 -- The lists that are built are those of the file's netlist.
-use Rattle.std.proofs.Common.{◌≡◌, ◌∙◌, ℕ, zero, suc, ◌+◌, List, [], ◌∷◌, ◌++◌, length, Bool, true, false, cond, Option, Some, None, refl, sym, ap, ⊎_elim, arith, append_assoc}
-use Rattle.std.specs.Prelude.{◌⊎◌, map, flat_map, unwrap_or, slice_get}
-use Rattle.std.specs.Str.{bytes_eq}
-use Rattle.std.proofs.Common.{inl, inr}
-use Rattle.std.proofs.lemmas.Bool.{cases_Bool}
-use Rattle.std.proofs.lemmas.Grind.{flat_map-append}
-use Rattle.std.proofs.lemmas.List.{length_push, map-append}
+use Rattle.sap_lemmas.proofs.Common.{◌≡◌, ◌∙◌, ℕ, zero, suc, ◌+◌, List, [], ◌∷◌, ◌++◌, length, Bool, true, false, cond, Option, Some, None, refl, sym, ap, ⊎_elim, arith, append_assoc, ◌⊎◌, map, flat_map, unwrap_or, slice_get, bytes_eq, inl, inr, cases_Bool, flat_map-append, map-append}
+use Rattle.std.proofs.lemmas.List.{length_push}
 use Rattle.sap_maps.specs.Maps.{Name}
+use Rattle.sap_net.specs.Net.{net_of}
 use Rattle.sap_net.specs.declared.parts.Parts.{Parts}
 use Rattle.sap_net.specs.declared.parts.Wire.{Wire}
 use Rattle.sap_net.specs.declared.parts.Register.{Register}
 use Rattle.sap_net.specs.declared.parts.Memory.{Memory}
-use Rattle.sap_net.specs.Net.{net_of}
 use Rattle.sap_vtext.specs.Items as item
 use Rattle.sap_vtext.specs.Names.{Shape, wire, register, memory, port_shape, Declaration, port_declaration, item_declarations, declarations, shape_in}
 use Rattle.sap_vtext.specs.Widths.{shape_width}
@@ -32,18 +27,6 @@ use Rattle.sap_vread.proofs.build.Entries.{declared_names}
 use Rattle.sap_vread.proofs.build.NotedLists.{all_noted-none, all_noted-cons, ports_noted-none, ports_noted-cons}
 
 -- Lists.
-
-flat_flat : {A B C : Type 0} (g : B → List C) (h : A → List B) (xs : List A) → flat_map g (flat_map h xs) ≡ flat_map (λ x. flat_map g (h x)) xs
-flat_flat g h [] = refl
-flat_flat g h (x ∷ xs) = flat_map-append g (h x) (flat_map h xs) ∙ ap (λ z. flat_map g (h x) ++ z) (flat_flat g h xs)
-
-flat_same : {A B : Type 0} (g h : A → List B) (xs : List A) → ((x : A) → g x ≡ h x) → flat_map g xs ≡ flat_map h xs
-flat_same g h [] e = refl
-flat_same g h (x ∷ xs) e = ap (λ z. z ++ flat_map g xs) (e x) ∙ ap (λ z. h x ++ z) (flat_same g h xs e)
-
-map_flat : {A B C : Type 0} (g : B → C) (h : A → List B) (xs : List A) → map g (flat_map h xs) ≡ flat_map (λ x. map g (h x)) xs
-map_flat g h [] = refl
-map_flat g h (x ∷ xs) = map-append g (h x) (flat_map h xs) ∙ ap (λ z. map g (h x) ++ z) (map_flat g h xs)
 
 abbrev narrow_ports : List Port → List item.Port
 narrow_ports ps = map narrow_port (ports_of ps)

@@ -1,16 +1,8 @@
 -- What registers and memories begin with, and what they take at an edge.
-use Rattle.std.proofs.Common.{◌≡◌, ℕ, ◌^◌, ◌<◌, List, [], ◌∷◌, ◌++◌, Bool, true, cond, Option, Some, None, refl, sym, ap, ◌∙◌, subst, inl, inr, ⊎_elim}
-use Rattle.std.specs.Prelude.{◌||◌, flat_map, is_some, unwrap_or}
-use Rattle.std.specs.List.{AllByRecursion, list_any}
-use Rattle.std.specs.Str.{bytes_eq}
-use Rattle.std.proofs.lemmas.Bool.{cases_Bool}
-use Rattle.sap_lemmas.proofs.Everywhere.{all_parts, all_append}
-use Rattle.sap_lemmas.proofs.Texts.{equal_of_bytes_eq}
-use Rattle.sap_maps.specs.Maps.{Name}
-use Rattle.sap_maps.specs.Scope.{Scope}
+use Rattle.sap_lemmas.proofs.Common.{◌≡◌, ℕ, ◌^◌, ◌<◌, List, [], ◌∷◌, ◌++◌, Bool, true, cond, Option, Some, None, refl, sym, ap, ◌∙◌, subst, inl, inr, ⊎_elim, ◌||◌, flat_map, is_some, unwrap_or, AllByRecursion, list_any, bytes_eq, cases_Bool, all_parts, all_append, equal_of_bytes_eq}
+use Rattle.sap_maps.specs.Prelude.{Name, Scope}
 use Rattle.sap_net.specs.declared.parts.Operand as net
-use Rattle.sap_net.specs.Rules.{IsOperand, IsRegister, IsMemory}
-use Rattle.sap_net.specs.IsNetlist.{readable}
+use Rattle.sap_net.specs.Prelude.{IsOperand, IsRegister, IsMemory, readable}
 use Rattle.sap_vtext.specs.Items.{Mention, Operand, Item, File}
 use Rattle.sap_vtext.specs.Items as item
 use Rattle.sap_text.specs.Best.{StandsIn}

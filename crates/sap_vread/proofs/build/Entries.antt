@@ -1,13 +1,7 @@
 -- Declared names, each with what is picked from its shape.
-use Rattle.std.proofs.Common.{◌≡◌, List, [], ◌∷◌, ◌++◌, Bool, true, false, cond, Option, Some, None, refl, sym, ap, ◌∙◌, subst, inl, inr, ⊎_elim}
-use Rattle.std.specs.Prelude.{map, filter, is_some}
-use Rattle.std.specs.List.{AllByRecursion}
-use Rattle.std.specs.Str.{bytes_eq}
-use Rattle.std.proofs.lemmas.Bool.{cases_Bool}
-use Rattle.sap_lemmas.proofs.Texts.{equal_of_bytes_eq}
+use Rattle.sap_lemmas.proofs.Common.{◌≡◌, List, [], ◌∷◌, ◌++◌, Bool, true, false, cond, Option, Some, None, refl, sym, ap, ◌∙◌, subst, inl, inr, ⊎_elim, map, filter, is_some, AllByRecursion, bytes_eq, cases_Bool, equal_of_bytes_eq}
 use Rattle.sap_vtext.proofs.FaultsLemmas.{all_alike}
-use Rattle.sap_maps.specs.Maps.{Name}
-use Rattle.sap_maps.specs.Scope.{find}
+use Rattle.sap_maps.specs.Prelude.{Name, find}
 use Rattle.sap_net.specs.Names.{is_among, AreDistinct}
 use Rattle.sap_text.specs.Best.{StandsIn}
 use Rattle.sap_vtext.specs.Names.{Shape, Declaration, shape_in}

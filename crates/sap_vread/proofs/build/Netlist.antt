@@ -1,8 +1,6 @@
 -- A file that is spelled and has no fault is a netlist that the module subset can write.
-use Rattle.std.proofs.Common.{◌≡◌, true}
-use Rattle.std.specs.List.{AllByRecursion}
-use Rattle.sap_net.specs.Names.{is_name}
-use Rattle.sap_net.specs.IsNetlist.{IsNetlist}
+use Rattle.sap_lemmas.proofs.Common.{◌≡◌, true, AllByRecursion, flat_map}
+use Rattle.sap_net.specs.Prelude.{is_name, IsNetlist}
 use Rattle.sap_vtext.specs.Items.{File}
 use Rattle.sap_vtext.specs.Names.{item_declarations}
 use Rattle.sap_vtext.specs.Faults.{IsFaultless}
@@ -13,7 +11,6 @@ use Rattle.sap_vread.proofs.build.Parts.{all_declared, declared_are, registers_o
 use Rattle.sap_vread.proofs.build.Readable.{values_are, memories_sized}
 use Rattle.sap_vread.proofs.build.WiresFit.{HasParts, wires_are}
 use Rattle.sap_vread.proofs.build.EdgesFit.{nexts_are, writes_are}
-use Rattle.std.specs.Prelude.{flat_map}
 
 -- names are written as names, and a `{}` has two parts at least
 pub record IsWritten (f : File) : Type 0 where

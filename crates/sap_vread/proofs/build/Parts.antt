@@ -1,21 +1,12 @@
 -- The names of a netlist's parts are those that are declared as such.
-use Rattle.std.proofs.Common.{◌≡◌, ℕ, ◌+◌, List, [], ◌∷◌, ◌++◌, length, take, Bool, true, false, cond, Option, Some, None, refl, sym, ap, ◌∙◌, subst, inl, inr, ⊎_elim, append-nil, append_assoc}
-use Rattle.std.specs.Prelude.{◌||◌, map, flat_map, filter, is_some}
-use Rattle.std.specs.List.{AllByRecursion, list_any}
-use Rattle.std.specs.Str.{bytes_eq}
-use Rattle.std.proofs.lemmas.Bool.{cases_Bool}
-use Rattle.sap_lemmas.proofs.Texts.{bytes_eq_symmetric, equal_of_bytes_eq}
-use Rattle.std.proofs.lemmas.Grind.{flat_map-append}
+use Rattle.sap_lemmas.proofs.Common.{◌≡◌, ℕ, ◌+◌, List, [], ◌∷◌, ◌++◌, length, take, Bool, true, false, cond, Option, Some, None, refl, sym, ap, ◌∙◌, subst, inl, inr, ⊎_elim, append-nil, append_assoc, ◌||◌, map, flat_map, filter, is_some, AllByRecursion, list_any, bytes_eq, cases_Bool, bytes_eq_symmetric, equal_of_bytes_eq, flat_map-append}
 use Rattle.sap_net.proofs.NamesLemmas.{among_append}
-use Rattle.sap_maps.specs.Maps.{Name}
-use Rattle.sap_maps.specs.Scope.{Scope}
+use Rattle.sap_maps.specs.Prelude.{Name, Scope}
+use Rattle.sap_net.specs.Prelude.{is_among, Shapes, input_names, wire_names, register_names, memory_names, shapes, PortShows, is_input}
 use Rattle.sap_net.specs.declared.parts.Input.{Input}
 use Rattle.sap_net.specs.declared.parts.Wire.{Wire}
 use Rattle.sap_net.specs.declared.parts.Register.{Register}
 use Rattle.sap_net.specs.declared.parts.Memory.{Memory}
-use Rattle.sap_net.specs.Names.{is_among}
-use Rattle.sap_net.specs.Rules.{Shapes}
-use Rattle.sap_net.specs.IsNetlist.{input_names, wire_names, register_names, memory_names, shapes, PortShows, is_input}
 use Rattle.sap_vtext.specs.Items.{Direction, Port, Item, File}
 use Rattle.sap_vtext.specs.Items as item
 use Rattle.sap_text.specs.Best.{StandsIn}

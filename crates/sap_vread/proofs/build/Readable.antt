@@ -1,15 +1,8 @@
 -- What can be read above an item: the inputs, the registers and the wires that are assigned there.
-use Rattle.std.proofs.Common.{◌≡◌, ℕ, ◌+◌, ◌^◌, ◌<◌, ◌≤◌, List, [], ◌∷◌, ◌++◌, Bool, true, false, cond, Option, Some, None, refl, sym, ap, ◌∙◌, subst, inl, inr, ⊎_elim, arith}
-use Rattle.std.specs.Prelude.{◌&&◌, map, flat_map, is_some, nat_lt, nat_le}
-use Rattle.std.specs.List.{AllByRecursion}
-use Rattle.std.specs.Str.{bytes_eq}
-use Rattle.std.proofs.lemmas.Bool.{and_parts, ltb-true, leb-true}
+use Rattle.sap_lemmas.proofs.Common.{◌≡◌, ℕ, ◌+◌, ◌^◌, ◌<◌, ◌≤◌, List, [], ◌∷◌, ◌++◌, Bool, true, false, cond, Option, Some, None, refl, sym, ap, ◌∙◌, subst, inl, inr, ⊎_elim, arith, ◌&&◌, map, flat_map, is_some, nat_lt, nat_le, AllByRecursion, bytes_eq, and_parts, ltb-true, leb-true}
 use Rattle.sap_vtext.proofs.FaultsLemmas.{all_alike}
-use Rattle.sap_maps.specs.Maps.{Name}
-use Rattle.sap_maps.specs.Scope.{Scope, find}
-use Rattle.sap_net.specs.Names.{AreDistinct}
-use Rattle.sap_net.specs.Rules.{Shapes, IsWidth, IsOperand, AreValues, AreMemories}
-use Rattle.sap_net.specs.IsNetlist.{first_readable, shapes}
+use Rattle.sap_maps.specs.Prelude.{Name, Scope, find}
+use Rattle.sap_net.specs.Prelude.{AreDistinct, Shapes, IsWidth, IsOperand, AreValues, AreMemories, first_readable, shapes}
 use Rattle.sap_vtext.specs.Items.{Constant, Operand, Port, Item, File}
 use Rattle.sap_vtext.specs.Items as item
 use Rattle.sap_text.specs.Best.{StandsIn}

@@ -1,13 +1,7 @@
 -- Names that a text spells are written as names, and its `{}` have two parts at least.
-use Rattle.std.proofs.Common.{◌≡◌, ℕ, ◌+◌, List, [], ◌∷◌, ◌++◌, length, take, drop, Bool, true, false, cond, Option, Some, None, refl, sym, ap, ◌∙◌, subst, arith}
-use Rattle.std.specs.Prelude.{not, map, flat_map, find as first_such, take_while, nat_eq, codes}
-use Rattle.std.specs.List.{AllByRecursion, list_all, prefix_len, starts_with}
-use Rattle.std.specs.Char.{is_ascii_digit}
-use Rattle.std.specs.Str.{bytes_eq}
-use Rattle.std.proofs.lemmas.Bool.{and_from}
+use Rattle.sap_lemmas.proofs.Common.{◌≡◌, ℕ, ◌+◌, List, [], ◌∷◌, ◌++◌, length, take, drop, Bool, true, false, cond, Option, Some, None, refl, sym, ap, ◌∙◌, subst, arith, not, map, flat_map, find as first_such, take_while, nat_eq, codes, AllByRecursion, list_all, prefix_len, starts_with, is_ascii_digit, bytes_eq, and_from, map-append}
 use Rattle.sap_lemmas.proofs.Everywhere.{none_passes}
 use Rattle.sap_lemmas.proofs.Lists.{take_more}
-use Rattle.std.proofs.lemmas.List.{map-append}
 use Rattle.sap_text.proofs.NamesLemmas.{initial_inner}
 use Rattle.sap_vtext.proofs.LexingLemmas.{keywords_are}
 use Rattle.sap_net.specs.Names.{is_initial, is_inner, is_word, is_keyword, is_name}

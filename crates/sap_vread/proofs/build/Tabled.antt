@@ -1,6 +1,5 @@
 -- Loops over lists of what has a number.
-use Rattle.std.proofs.Common.{◌≡◌, ◌∙◌, ℕ, ◌+◌, ◌<◌, ◌≤◌, List, [], ◌∷◌, length, get_or, drop, refl, ap, sym, Option, Some, None}
-use Rattle.std.proofs.lemmas.List.{drop_all}
+use Rattle.sap_lemmas.proofs.Common.{◌≡◌, ◌∙◌, ℕ, ◌+◌, ◌<◌, ◌≤◌, List, [], ◌∷◌, length, get_or, drop, refl, ap, sym, Option, Some, None, drop_all}
 use Rattle.sap_vtext.specs.Modules.{first_of}
 use Rattle.sap_vjudge.proofs.Loops.{here}
 

@@ -1,23 +1,13 @@
 -- Each wire reads what stands above it, and its widths fit.
-use Rattle.std.proofs.Common.{◌≡◌, ℕ, ◌+◌, ◌-◌, ◌^◌, ◌<◌, ◌≤◌, List, [], ◌∷◌, ◌++◌, length, Bool, true, false, cond, Option, Some, None, refl, sym, ap, ◌∙◌, subst, inl, ⊎_elim, append_assoc, append-nil}
-use Rattle.std.specs.Prelude.{◌||◌, ◌&&◌, map, flat_map, nat_lt}
-use Rattle.std.specs.List.{AllByRecursion}
-use Rattle.std.specs.Str.{bytes_eq}
-use Rattle.std.proofs.lemmas.Bool.{cases_Bool, cases_eq, lt-ltb, le-leb, or_left}
-use Rattle.sap_lemmas.proofs.Everywhere.{all_parts}
-use Rattle.sap_lemmas.proofs.Lists.{length_map}
-use Rattle.sap_lemmas.proofs.Texts.{equal_of_bytes_eq}
+use Rattle.sap_lemmas.proofs.Common.{◌≡◌, ℕ, ◌+◌, ◌-◌, ◌^◌, ◌<◌, ◌≤◌, List, [], ◌∷◌, ◌++◌, length, Bool, true, false, cond, Option, Some, None, refl, sym, ap, ◌∙◌, subst, inl, ⊎_elim, append_assoc, append-nil, ◌||◌, ◌&&◌, map, flat_map, nat_lt, AllByRecursion, bytes_eq, cases_Bool, cases_eq, lt-ltb, le-leb, or_left, all_parts, length_map, equal_of_bytes_eq}
 use Rattle.sap_vtext.proofs.FaultsLemmas.{set_append}
 use Rattle.sap_bits.specs.declared.Op1.{Op1}
 use Rattle.sap_bits.specs.declared.Op1.TheVariants as unary
 use Rattle.sap_bits.specs.declared.Op2.{Op2}
 use Rattle.sap_bits.specs.declared.Op2.TheVariants as binary
 use Rattle.sap_bits.specs.Arithmetic.{width1, width2}
-use Rattle.sap_maps.specs.Maps.{Name}
-use Rattle.sap_maps.specs.Term.{CountFits}
-use Rattle.sap_maps.specs.Scope.{Scope, find}
-use Rattle.sap_net.specs.Rules.{IsWidth, IsOperand, AreOperands, IsRight, AreWires, readable_after}
-use Rattle.sap_net.specs.IsNetlist.{first_readable, readable, shapes}
+use Rattle.sap_maps.specs.Prelude.{Name, CountFits, Scope, find}
+use Rattle.sap_net.specs.Prelude.{IsWidth, IsOperand, AreOperands, IsRight, AreWires, readable_after, first_readable, readable, shapes}
 use Rattle.sap_vtext.specs.Items.{Mention, Operand, Right, Item, File}
 use Rattle.sap_vtext.specs.Items as item
 use Rattle.sap_vtext.specs.Names.{Shape, input, wire, register, memory, declarations, shape_in, IsItemOf, shape_above, assign, target_of, is_target, is_set, known_above}

@@ -1,7 +1,6 @@
 use Rattle.std.proofs.Common.{get_or, sym, ap, ◌∙◌, subst}
 use Rattle.sap_check.specs.Checked.{levels_in, tree_in}
-use Rattle.sap_meaning.specs.Program.{World}
-use Rattle.sap_meaning.specs.State.{InputsFit}
+use Rattle.sap_meaning.specs.Prelude.{World, InputsFit}
 use Rattle.sap_resolved.specs.Worlds.{world_of}
 use Rattle.sap_stream.specs.Spans.{Span}
 use Rattle.sap_calls_tests.proofs.Steps.{lines_fit, read_fits}

@@ -1,5 +1,4 @@
-use Rattle.std.proofs.Common.{◌≡◌, length, arith}
-use Rattle.std.specs.Prelude.{vec_capacity}
+use Rattle.sap_lemmas.proofs.Common.{◌≡◌, length, arith, vec_capacity}
 use Rattle.std.specs.Vec.{vec_len}
 use Rattle.sap_check.specs.Checked.{tree_in}
 use Rattle.sap_names.specs.Entities.{entities_of}

@@ -1,21 +1,17 @@
 use Rattle.std.proofs.Common.{◌≡◌, List, sym, ◌∙◌, ap, subst}
 use Rattle.std.proofs.lemmas.Result.{err_from_is_err_and}
 use Rattle.sap_lattice.specs.Levels.{Levels}
-use Rattle.sap_tree.specs.Syntax.{DesignTree}
-use Rattle.sap_tree.specs.Designs.{design_of as tree_of}
+use Rattle.sap_tree.specs.Prelude.{DesignTree, design_of as tree_of}
 use Rattle.sap_check.specs.Checked.{levels_in, tree_in}
 use Rattle.sap_net.specs.Net.{Net}
 use Rattle.sap_interface.specs.Designs.{StandsForDesign}
 use Rattle.sap_stim.specs.declared.field.Field.{Field}
 use Rattle.sap_stim.specs.declared.stimulus.Parsed.{Parsed}
 use Rattle.sap_stim.specs.Stimulus.{stimulus_of}
-use Rattle.sap_sim.specs.Fields.{fields_of}
+use Rattle.sap_sim.specs.Prelude.{fields_of, design_fields, GivesRuns, read_for as design_stimulus}
 use Rattle.sap_sim.specs.Simulated.{read_for as module_stimulus}
-use Rattle.sap_sim.specs.Labelled.Fields.{design_fields}
-use Rattle.sap_sim.specs.Labelled.RunOf.{GivesRuns, read_for as design_stimulus}
 use Rattle.sap_compile.specs.Parts.{design_of, levels_of, netlist_of}
-use Rattle.sap_files.specs.StimulusTexts.{AreDesignRows, AreModuleRows}
-use Rattle.sap_files.specs.Steps.{whole}
+use Rattle.sap_files.specs.Prelude.{AreDesignRows, AreModuleRows, whole}
 use Rattle.sap_files.proofs.Alike.{read_in, run_in}
 use Rattle.sap_files.proofs.Ended.{past, reading_ended}
 use Rattle.sap_files.proofs.PrintedEnds.{printed_same}

@@ -3,8 +3,7 @@ use Rattle.std.proofs.lemmas.Result.{err_from_is_err_and}
 use Rattle.sap_stim.specs.declared.stimulus.Parsed.{Parsed}
 use Rattle.sap_sim.specs.Labelled.RunOf.{read_for as design_stimulus}
 use Rattle.sap_compile.specs.Parts.{design_of, levels_of}
-use Rattle.sap_files.specs.StimulusTexts.{AreTraceLines}
-use Rattle.sap_files.specs.Steps.{whole}
+use Rattle.sap_files.specs.Prelude.{AreTraceLines, whole}
 use Rattle.sap_files.proofs.Alike.{read_in}
 use Rattle.sap_files.proofs.Ended.{past, reading_ended}
 use Rattle.sap_files.proofs.PrintedEnds.{printed_same}

@@ -1,5 +1,4 @@
-use Rattle.std.proofs.Common.{arith}
-use Rattle.std.proofs.lemmas.Result.{IfOk-weaker}
+use Rattle.sap_lemmas.proofs.Common.{arith, IfOk-weaker}
 use Rattle.sap_check.specs.Checked.{levels_in, tree_in}
 use Rattle.sap_compile.proofs.module.netlist_for.Goals as goal
 

@@ -1,8 +1,6 @@
 use Rattle.std.proofs.Common.{subst}
 use Rattle.sap_check.specs.Checked.{levels_in, tree_in}
-use Rattle.sap_lattice.specs.Codes.{Codes}
-use Rattle.sap_lattice.specs.Levels.{Levels, order_of}
-use Rattle.sap_lattice.specs.Order.{Laws}
+use Rattle.sap_lattice.specs.Prelude.{Codes, Levels, order_of, Laws}
 use Rattle.sap_compile.proofs.Agreeing.{one_run, runs_agree, runs_look_alike}
 use Rattle.sap_compile.proofs.module.runs.Goals as goal
 

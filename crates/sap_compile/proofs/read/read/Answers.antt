@@ -1,5 +1,4 @@
-use Rattle.std.proofs.Common.{◌≡◌, ap}
-use Rattle.std.proofs.lemmas.Result.{err_from_is_err_and}
+use Rattle.sap_lemmas.proofs.Common.{◌≡◌, ap, err_from_is_err_and}
 use Rattle.sap_latfile.specs.declared.fault.LatFileFault.{LatFileFault}
 use Rattle.sap_latfile.specs.declared.fault.LatFileFault.TheVariants as lattice_fault
 use Rattle.sap_tree.specs.Designs.{design_of}

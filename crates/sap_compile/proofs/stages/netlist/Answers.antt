@@ -1,6 +1,5 @@
 use Rattle.std.proofs.Common.{arith}
-use Rattle.sap_ir.specs.Program.{source_of}
-use Rattle.sap_ir.specs.Plain.Program.{nested_of}
+use Rattle.sap_ir.specs.Prelude.{source_of, nested_of}
 use Rattle.sap_compile.proofs.stages.Joined.{stands_for_the_same}
 use Rattle.sap_compile.proofs.stages.Small.{stays_small}
 use Rattle.sap_compile.proofs.stages.Starting.{starts_as_the_same}

@@ -1,6 +1,5 @@
 use Rattle.std.proofs.Common.{ap, ◌∙◌}
-use Rattle.sap_tree.specs.Bare.{bare}
-use Rattle.sap_tree.specs.Designs.{design_of}
+use Rattle.sap_tree.specs.Prelude.{bare, design_of}
 use Rattle.sap_machine.specs.DesignText.{machine_text}
 use Rattle.sap_cpu.proofs.machine.machine.Goals as goal
 

@@ -1,6 +1,4 @@
-use Rattle.std.specs.Prelude.{slice_index_or}
-use Rattle.std.proofs.Common.{map, ap, ◌∙◌, arith}
-use Rattle.std.proofs.lemmas.List.{take_rest}
+use Rattle.sap_lemmas.proofs.Common.{slice_index_or, map, ap, ◌∙◌, arith, take_rest}
 use Rattle.sap_cycle.specs.Instructions.{placed_step}
 use Rattle.sap_cycle.proofs.Divided.{divided_more, divided_all}
 use Rattle.sap_cycle.proofs.divide.divided.Goals as goal

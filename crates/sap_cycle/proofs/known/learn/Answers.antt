@@ -1,5 +1,4 @@
-use Rattle.std.proofs.Common.{◌≡◌, arith, [], ◌∷◌, ◌++◌, length, map, ap, sym, ◌∙◌}
-use Rattle.std.proofs.lemmas.List.{length-map, map-append}
+use Rattle.sap_lemmas.proofs.Common.{◌≡◌, arith, [], ◌∷◌, ◌++◌, length, map, ap, sym, ◌∙◌, length-map, map-append}
 use Rattle.sap_cycle.proofs.Found.{finds_more}
 use Rattle.sap_cycle.proofs.known.learn.Goals as goal
 

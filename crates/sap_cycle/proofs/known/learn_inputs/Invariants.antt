@@ -1,5 +1,4 @@
-use Rattle.std.proofs.Common.{◌≡◌, ℕ, List, ◌++◌, take, map}
-use Rattle.std.specs.List.{AllByRecursion}
+use Rattle.sap_lemmas.proofs.Common.{◌≡◌, ℕ, List, ◌++◌, take, map, AllByRecursion}
 use Rattle.sap_maps.specs.Maps.{Name}
 use Rattle.sap_net.specs.declared.parts.Memory.{Memory}
 use Rattle.sap_cycle.specs.Known.{Knows}

@@ -1,5 +1,4 @@
-use Rattle.std.proofs.Common.{◌++◌, map, subst}
-use Rattle.std.proofs.lemmas.List.{take_all}
+use Rattle.sap_lemmas.proofs.Common.{◌++◌, map, subst, take_all}
 use Rattle.sap_cycle.specs.Known.{Knows}
 use Rattle.sap_cycle.proofs.Learned.{learned}
 use Rattle.sap_cycle.proofs.known.learn_registers.Goals as goal

@@ -1,5 +1,4 @@
-use Rattle.std.proofs.Common.{arith}
-use Rattle.std.proofs.lemmas.Grind.{common_steps}
+use Rattle.sap_lemmas.proofs.Common.{arith, common_steps}
 use Rattle.sap_cycle.proofs.known.step_of.Goals as goal
 
 pub returns-in-Copy-clause-step : goal.returns-in-Copy-clause-step

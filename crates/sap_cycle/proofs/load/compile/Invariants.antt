@@ -1,5 +1,4 @@
-use Rattle.std.proofs.Common.{length, map}
-use Rattle.std.specs.List.{AllByRecursion}
+use Rattle.sap_lemmas.proofs.Common.{length, map, AllByRecursion}
 use Rattle.sap_cycle.specs.Instructions.{step_of_instruction, IsWithin}
 use Rattle.sap_cycle.proofs.Compiling.{Compiling}
 use Rattle.sap_cycle.proofs.load.compile.Given as goal

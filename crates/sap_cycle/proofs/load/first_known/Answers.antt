@@ -1,9 +1,8 @@
-use Rattle.std.proofs.Common.{◌≡◌, List, [], ◌++◌, map, sym, ap, ◌∙◌, subst}
-use Rattle.std.specs.List.{AllByRecursion}
+use Rattle.sap_lemmas.proofs.Common.{◌≡◌, List, [], ◌++◌, map, sym, ap, ◌∙◌, subst, AllByRecursion}
 use Rattle.sap_maps.specs.Maps.{Name}
+use Rattle.sap_net.specs.IsNetlist.{width_of, input_names}
 use Rattle.sap_net.specs.declared.parts.Input.{Input}
 use Rattle.sap_net.specs.declared.parts.Register.{Register}
-use Rattle.sap_net.specs.IsNetlist.{width_of, input_names}
 use Rattle.sap_cycle.specs.Known.{Knows}
 use Rattle.sap_cycle.specs.Running.{first_names}
 use Rattle.sap_cycle.proofs.Found.{finds_none}

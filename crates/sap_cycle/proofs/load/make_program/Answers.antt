@@ -1,7 +1,6 @@
-use Rattle.std.proofs.Common.{◌≡◌, ℕ, List, length, map, sym, ap, ◌∙◌, subst, arith, rules}
-use Rattle.std.specs.List.{AllByRecursion}
-use Rattle.sap_net.specs.declared.parts.Register.{Register}
+use Rattle.sap_lemmas.proofs.Common.{◌≡◌, ℕ, List, length, map, sym, ap, ◌∙◌, subst, arith, rules, AllByRecursion}
 use Rattle.sap_net.specs.IsNetlist.{width_of}
+use Rattle.sap_net.specs.declared.parts.Register.{Register}
 use Rattle.sap_cycle.specs.declared.steps.Slot.{Slot}
 use Rattle.sap_cycle.specs.declared.steps.Step.{Step}
 use Rattle.sap_cycle.specs.declared.steps.WritePort.{WritePort}

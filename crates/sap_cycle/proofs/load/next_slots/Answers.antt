@@ -1,5 +1,4 @@
-use Rattle.std.proofs.Common.{[], ◌∙◌, map, ap, sym, subst}
-use Rattle.std.proofs.lemmas.List.{take_all}
+use Rattle.sap_lemmas.proofs.Common.{[], ◌∙◌, map, ap, sym, subst, take_all}
 use Rattle.sap_net.specs.declared.parts.Register.{Register}
 use Rattle.sap_cycle.specs.Known.{IsKnownOperand, slot_found}
 use Rattle.sap_cycle.proofs.Learned.{all_get_or, pushed}

@@ -1,6 +1,6 @@
 use Rattle.std.proofs.Common.{◌≡◌, List, map, None, length, ap, ◌∙◌, subst}
-use Rattle.sap_net.specs.declared.parts.Memory.{Memory}
 use Rattle.sap_net.specs.IsNetlist.{width_of}
+use Rattle.sap_net.specs.declared.parts.Memory.{Memory}
 use Rattle.sap_cycle.specs.Known.{Knows, AreStored}
 use Rattle.sap_cycle.specs.Loaded.{bases_of}
 use Rattle.sap_cycle.specs.Places.{Finds}

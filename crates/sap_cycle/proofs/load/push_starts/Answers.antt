@@ -1,5 +1,4 @@
-use Rattle.std.proofs.Common.{◌++◌, ◌∙◌, map, ap, refl}
-use Rattle.std.proofs.lemmas.List.{take_all}
+use Rattle.sap_lemmas.proofs.Common.{◌++◌, ◌∙◌, map, ap, refl, take_all}
 use Rattle.sap_net.specs.declared.parts.Register.{Register}
 use Rattle.sap_cycle.proofs.Learned.{pushed}
 use Rattle.sap_cycle.proofs.load.push_starts.Goals as goal

@@ -1,5 +1,4 @@
-use Rattle.std.proofs.Common.{◌≡◌, ℕ, ◌+◌, List, [], ◌∷◌, ◌++◌, length, map, take, replicate, sym, ap, ◌∙◌, subst, arith}
-use Rattle.std.proofs.lemmas.List.{length-map, length-take-le, take_all}
+use Rattle.sap_lemmas.proofs.Common.{◌≡◌, ℕ, ◌+◌, List, [], ◌∷◌, ◌++◌, length, map, take, replicate, sym, ap, ◌∙◌, subst, arith, length-map, length-take-le, take_all}
 use Rattle.sap_net.specs.declared.parts.Memory.{Memory}
 use Rattle.sap_cycle.specs.Known.{AreStored}
 use Rattle.sap_cycle.specs.Places.{Finds}

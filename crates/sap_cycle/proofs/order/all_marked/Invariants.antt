@@ -1,5 +1,4 @@
-use Rattle.std.proofs.Common.{◌≡◌, true, take}
-use Rattle.std.specs.List.{AllByRecursion}
+use Rattle.sap_lemmas.proofs.Common.{◌≡◌, true, take, AllByRecursion}
 use Rattle.sap_cycle.proofs.order.all_marked.Given as goal
 
 abbrev pub invariant-loop-mark : goal.invariant-loop-mark

@@ -1,5 +1,4 @@
-use Rattle.std.proofs.Common.{refl, arith}
-use Rattle.std.proofs.lemmas.Grind.{common_steps}
+use Rattle.sap_lemmas.proofs.Common.{refl, arith, common_steps}
 use Rattle.sap_cycle.proofs.steps.store_all.Goals as goal
 
 pub loop-port-init : goal.loop-port-init

@@ -1,5 +1,4 @@
-use Rattle.std.proofs.Common.{refl, length}
-use Rattle.std.proofs.lemmas.Option.{slice_get_read}
+use Rattle.sap_lemmas.proofs.Common.{refl, length, slice_get_read}
 use Rattle.sap_desk.proofs.store.close.Goals as goal
 
 pub returns : goal.returns

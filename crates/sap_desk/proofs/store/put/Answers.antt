@@ -1,5 +1,4 @@
-use Rattle.std.proofs.Common.{rules, ◌≡◌, ◌++◌, ◌∷◌, [], sym, subst}
-use Rattle.std.specs.Prelude.{List, string_bytes, position, Some, None}
+use Rattle.sap_lemmas.proofs.Common.{rules, ◌≡◌, ◌++◌, ◌∷◌, [], sym, subst, List, string_bytes, position, Some, None}
 use Rattle.sap_desk.specs.declared.stored.StoredFile.{StoredFile}
 use Rattle.sap_desk.specs.Memory.{named}
 use Rattle.sap_desk.specs.Room.{Puts}

@@ -1,5 +1,4 @@
-use Rattle.std.proofs.Common.{[], ◌∷◌, refl}
-use Rattle.std.proofs.lemmas.Result.{on_err_weaker}
+use Rattle.sap_lemmas.proofs.Common.{[], ◌∷◌, refl, on_err_weaker}
 use Rattle.sap_desk.specs.Whole.{joined}
 use Rattle.sap_desk.proofs.Lines.{cut_in}
 use Rattle.sap_desk.proofs.stream.write_line.Goals as goal

@@ -1,5 +1,4 @@
-use Rattle.std.proofs.Common.{[]}
-use Rattle.std.proofs.lemmas.List.{take_more}
+use Rattle.sap_lemmas.proofs.Common.{[], take_more}
 use Rattle.sap_desk.proofs.Steps.{on_err}
 use Rattle.sap_desk.proofs.Lines.{cut_in, fills_in, joined_at}
 use Rattle.sap_desk.proofs.stream.write_parts.Goals as goal

@@ -1,5 +1,4 @@
-use Rattle.std.proofs.Common.{◌≡◌, take}
-use Rattle.std.specs.Prelude.{option_map}
+use Rattle.sap_lemmas.proofs.Common.{◌≡◌, take, option_map}
 use Rattle.sap_desk.specs.Desk.{added}
 use Rattle.sap_desk.specs.Whole.{joined}
 use Rattle.sap_desk.proofs.stream.write_parts.Given as goal

@@ -1,5 +1,4 @@
-use Rattle.std.proofs.Common.{ap}
-use Rattle.std.specs.Prelude.{Err}
+use Rattle.sap_lemmas.proofs.Common.{ap, Err}
 use Rattle.sap_desk.proofs.ReadFiles.{front_opened, not_finished, not_read, open_unfinished, open_unread}
 use Rattle.sap_desk.proofs.whole.read_front.Goals as goal
 

@@ -1,5 +1,4 @@
-use Rattle.std.proofs.Common.{◌≡◌, ◌+◌, ◌-◌, ◌<◌, ◌≤◌, ◌^◌, ◌++◌, length, drop}
-use Rattle.std.specs.Prelude.{IfSome, option_map}
+use Rattle.sap_lemmas.proofs.Common.{◌≡◌, ◌+◌, ◌-◌, ◌<◌, ◌≤◌, ◌^◌, ◌++◌, length, drop, IfSome, option_map}
 use Rattle.sap_desk.specs.Desk.{rest_of, moved}
 use Rattle.sap_desk.proofs.whole.read_until.Given as goal
 

@@ -1,5 +1,4 @@
-use Rattle.std.proofs.Common.{◌≡◌, List, [], get_or, sym, ◌∙◌, ap}
-use Rattle.std.proofs.lemmas.Result.{IfOk-weaker}
+use Rattle.sap_lemmas.proofs.Common.{◌≡◌, List, [], get_or, sym, ◌∙◌, ap, IfOk-weaker}
 use Rattle.sap_check.specs.Checked.{tree_in}
 use Rattle.sap_names.specs.declared.entity.Entity.{Entity}
 use Rattle.sap_files.specs.Compared.{input_name, input_names}

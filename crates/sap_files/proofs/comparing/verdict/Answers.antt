@@ -1,5 +1,4 @@
-use Rattle.std.proofs.Common.{rules, refl, inl, inr}
-use Rattle.std.proofs.lemmas.Result.{err_from_is_err_and}
+use Rattle.sap_lemmas.proofs.Common.{rules, refl, inl, inr, err_from_is_err_and}
 use Rattle.sap_files.proofs.comparing.verdict.Goals as goal
 
 pub returns-in_err-agreement-in-None : goal.returns-in_err-agreement-in-None

@@ -1,5 +1,4 @@
-use Rattle.std.proofs.Common.{inl}
-use Rattle.std.proofs.lemmas.Result.{err_from_is_err_and}
+use Rattle.sap_lemmas.proofs.Common.{inl, err_from_is_err_and}
 use Rattle.sap_files.proofs.Reading.{checked_gets}
 use Rattle.sap_files.proofs.files.checked_of_file.Goals as goal
 

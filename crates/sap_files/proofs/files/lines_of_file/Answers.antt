@@ -1,5 +1,4 @@
-use Rattle.std.proofs.Common.{inl}
-use Rattle.std.proofs.lemmas.Result.{err_from_is_err_and}
+use Rattle.sap_lemmas.proofs.Common.{inl, err_from_is_err_and}
 use Rattle.sap_stim.specs.Stimulus.{stimulus_of}
 use Rattle.sap_files.specs.Kinds.{stream_by}
 use Rattle.sap_files.proofs.Reading.{gets}

@@ -1,11 +1,8 @@
-use Rattle.std.proofs.Common.{◌≡◌, sym, ap, subst}
-use Rattle.std.proofs.lemmas.Result.{err_from_is_err_and}
+use Rattle.sap_lemmas.proofs.Common.{◌≡◌, sym, ap, subst, err_from_is_err_and}
 use Rattle.sap_check.specs.Checked.{tree_in}
-use Rattle.sap_tree.specs.Designs.{design_of}
-use Rattle.sap_tree.specs.Syntax.{DesignTree}
+use Rattle.sap_tree.specs.Prelude.{design_of, DesignTree}
 use Rattle.sap_tree.specs.declared.design.Design.{Design}
-use Rattle.sap_files.specs.Kinds.{IsWellFormedText}
-use Rattle.sap_files.specs.Steps.{ending}
+use Rattle.sap_files.specs.Prelude.{IsWellFormedText, ending}
 use Rattle.sap_files.proofs.Designs.{design_unchecked, unread_over}
 use Rattle.sap_files.proofs.inputs.checked_from.Goals as goal
 

@@ -1,5 +1,4 @@
-use Rattle.std.proofs.Common.{◌≢◌, subst}
-use Rattle.std.specs.Prelude.{ℕ, List}
+use Rattle.sap_lemmas.proofs.Common.{◌≢◌, subst, ℕ, List}
 use Rattle.sap_files.proofs.Lattices.{lattice_stands, lattice_unread}
 use Rattle.sap_latfile.specs.LatticeFile.{FirstFault, IsLatticeOfFile}
 use Rattle.sap_latfile.specs.declared.fault.LatFileFault.TheVariants as lattice

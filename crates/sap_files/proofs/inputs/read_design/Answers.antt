@@ -1,5 +1,4 @@
-use Rattle.std.proofs.Common.{ap}
-use Rattle.std.specs.Prelude.{Err}
+use Rattle.sap_lemmas.proofs.Common.{ap, Err}
 use Rattle.sap_files.proofs.Fronts.{front_unread, read_front_of}
 use Rattle.sap_files.proofs.inputs.read_design.Goals as goal
 

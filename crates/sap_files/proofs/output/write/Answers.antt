@@ -1,5 +1,4 @@
-use Rattle.std.proofs.Common.{ap}
-use Rattle.std.specs.Prelude.{Err}
+use Rattle.sap_lemmas.proofs.Common.{ap, Err}
 use Rattle.sap_files.proofs.Ended.{cut_off}
 use Rattle.sap_files.proofs.output.write.Goals as goal
 

@@ -1,14 +1,11 @@
-use Rattle.std.proofs.Common.{◌≡◌, ℕ, List, [], sym, ◌∙◌, ap, subst}
-use Rattle.std.proofs.lemmas.Result.{err_from_is_err_and}
+use Rattle.sap_lemmas.proofs.Common.{◌≡◌, ℕ, List, [], sym, ◌∙◌, ap, subst, err_from_is_err_and}
 use Rattle.sap_net.specs.Net.{Net}
 use Rattle.sap_stim.specs.declared.field.Field.{Field}
 use Rattle.sap_stim.specs.Stimulus.{stimulus_of}
-use Rattle.sap_sim.specs.Fields.{fields_of}
+use Rattle.sap_sim.specs.Prelude.{fields_of, AreRows, IsAfter, RowsAddUp}
 use Rattle.sap_sim.specs.Simulated.{read_for}
-use Rattle.sap_sim.specs.Stepping.{AreRows, IsAfter, RowsAddUp}
 use Rattle.sap_sim.proofs.Fits.{stream_fits}
-use Rattle.sap_files.specs.StimulusTexts.{AreModuleRows}
-use Rattle.sap_files.specs.Steps.{HasWhole}
+use Rattle.sap_files.specs.Prelude.{AreModuleRows, HasWhole}
 use Rattle.sap_files.proofs.Ended.{quiet_self, starved}
 use Rattle.sap_files.proofs.PrintedEnds.{printed_same}
 use Rattle.sap_files.proofs.Wholes.{has_whole}

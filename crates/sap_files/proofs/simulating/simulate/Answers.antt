@@ -1,9 +1,7 @@
-use Rattle.std.proofs.Common.{ap}
-use Rattle.std.proofs.lemmas.Result.{err_from_is_err_and}
+use Rattle.sap_lemmas.proofs.Common.{ap, err_from_is_err_and}
 use Rattle.sap_stim.specs.declared.stimulus.Parsed.{Parsed}
 use Rattle.sap_sim.specs.Simulated.{read_for as module_stimulus}
-use Rattle.sap_files.specs.StimulusTexts.{AreModuleRows}
-use Rattle.sap_files.specs.Steps.{whole}
+use Rattle.sap_files.specs.Prelude.{AreModuleRows, whole}
 use Rattle.sap_files.proofs.Ended.{got, past, reading_ended}
 use Rattle.sap_files.proofs.Lattices.{whole_same}
 use Rattle.sap_files.proofs.NetsAlike.{read_net_in, simulated_in}

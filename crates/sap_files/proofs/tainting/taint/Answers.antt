@@ -1,5 +1,4 @@
-use Rattle.std.proofs.lemmas.Result.{err_from_is_err_and}
-use Rattle.std.specs.Prelude.{None}
+use Rattle.sap_lemmas.proofs.Common.{err_from_is_err_and, None}
 use Rattle.sap_files.specs.Steps.{whole}
 use Rattle.sap_files.proofs.Ended.{chosen, got, past, reading_ended, wrote}
 use Rattle.sap_files.proofs.Lattices.{whole_same}

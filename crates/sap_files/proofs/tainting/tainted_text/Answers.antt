@@ -1,5 +1,4 @@
-use Rattle.std.proofs.Common.{inl, refl}
-use Rattle.std.proofs.lemmas.Result.{err_from_is_err_and}
+use Rattle.sap_lemmas.proofs.Common.{inl, refl, err_from_is_err_and}
 use Rattle.sap_files.proofs.tainting.tainted_text.Goals as goal
 
 pub returns-in_err-tagged : goal.returns-in_err-tagged

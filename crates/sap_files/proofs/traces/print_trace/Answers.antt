@@ -1,16 +1,12 @@
-use Rattle.std.proofs.Common.{◌≡◌, ℕ, List, [], sym, ap, subst}
-use Rattle.std.specs.Prelude.{All}
-use Rattle.std.proofs.lemmas.Result.{err_from_is_err_and}
+use Rattle.sap_lemmas.proofs.Common.{◌≡◌, ℕ, List, [], sym, ap, subst, All, err_from_is_err_and}
 use Rattle.sap_check.specs.Checked.{levels_in, tree_in}
 use Rattle.sap_net.specs.Net.{Net}
 use Rattle.sap_stim.specs.declared.field.Field.{Field}
 use Rattle.sap_stim.specs.Line.{IsSized}
 use Rattle.sap_stim.specs.Stimulus.{stimulus_of}
-use Rattle.sap_sim.specs.Labelled.Fields.{design_fields}
-use Rattle.sap_sim.specs.Labelled.RunOf.{read_for}
+use Rattle.sap_sim.specs.Prelude.{design_fields, read_for}
 use Rattle.sap_trace.specs.Stepping.{AreLines, IsAfter}
-use Rattle.sap_files.specs.StimulusTexts.{AreTraceLines}
-use Rattle.sap_files.specs.Steps.{HasWhole}
+use Rattle.sap_files.specs.Prelude.{AreTraceLines, HasWhole}
 use Rattle.sap_files.proofs.Ended.{quiet_self, starved}
 use Rattle.sap_files.proofs.PrintedEnds.{printed_same}
 use Rattle.sap_files.proofs.Wholes.{has_whole_lines}

@@ -1,5 +1,4 @@
-use Rattle.std.proofs.Common.{ap, arith}
-use Rattle.std.proofs.lemmas.Result.{err_from_is_err_and}
+use Rattle.sap_lemmas.proofs.Common.{ap, arith, err_from_is_err_and}
 use Rattle.sap_desk.specs.Row.{Row}
 use Rattle.sap_wave_rows.specs.Rows.{rows_of_wave}
 use Rattle.sap_files.specs.Steps.{whole}

@@ -1,5 +1,4 @@
-use Rattle.std.proofs.Common.{ap}
-use Rattle.std.specs.Prelude.{Err}
+use Rattle.sap_lemmas.proofs.Common.{ap, Err}
 use Rattle.sap_files.proofs.Ended.{cut_off, starved, wrote}
 use Rattle.sap_files.proofs.Dumps.{written_whole}
 use Rattle.sap_files.proofs.waves.write_dump.Goals as goal

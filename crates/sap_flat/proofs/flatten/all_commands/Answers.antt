@@ -1,6 +1,5 @@
 use Rattle.std.proofs.Common.{ap, arith}
-use Rattle.sap_ir.specs.Calcs.{commands_of}
-use Rattle.sap_ir.specs.Plain.Program.{nested_of}
+use Rattle.sap_ir.specs.Prelude.{commands_of, nested_of}
 use Rattle.sap_flat.proofs.Steps.{all_made}
 use Rattle.sap_flat.proofs.flatten.all_commands.Goals as goal
 

@@ -1,8 +1,6 @@
 use Rattle.std.proofs.Common.{sym, subst, arith}
+use Rattle.sap_ir.specs.Prelude.{source_of, IsGuarded, nested_of}
 use Rattle.sap_ir.specs.Parts.{parts_source}
-use Rattle.sap_ir.specs.Program.{source_of}
-use Rattle.sap_ir.specs.IsGuarded.{IsGuarded}
-use Rattle.sap_ir.specs.Plain.Program.{nested_of}
 use Rattle.sap_flat.proofs.Declared.{flat_is_guarded}
 use Rattle.sap_flat.proofs.Result.{declares_of, same_of, once_of, bodies_of, small_of}
 use Rattle.sap_flat.proofs.flatten.flatten.Goals as goal

@@ -1,6 +1,5 @@
 use Rattle.std.proofs.Common.{◌≡◌, ◌+◌, ◌∙◌, ◌++◌, length, drop, ap, sym, subst, arith}
-use Rattle.sap_ir.specs.Calcs.{commands_of}
-use Rattle.sap_ir.specs.Plain.Nested.{seat_width}
+use Rattle.sap_ir.specs.Prelude.{commands_of, seat_width}
 use Rattle.sap_flat.specs.Lists.{gates_commands, states_flat}
 use Rattle.sap_flat.proofs.Steps.{Behind, commands_grow, states_step, states_rest, state_made}
 use Rattle.sap_flat.proofs.Weights.{state_weight, states_weight, children_weight}

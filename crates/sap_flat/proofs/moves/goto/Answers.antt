@@ -1,9 +1,6 @@
-use Rattle.std.proofs.Common.{◌∙◌, [], ◌∷◌, ◌++◌, length, ap, refl}
-use Rattle.std.proofs.lemmas.Option.{slice_get_read, slice_get_past}
+use Rattle.sap_lemmas.proofs.Common.{◌∙◌, [], ◌∷◌, ◌++◌, length, ap, refl, slice_get_read, slice_get_past}
 use Rattle.sap_maps.specs.Term.{constant}
-use Rattle.sap_ir.specs.Calcs.{commands_of}
-use Rattle.sap_ir.specs.Source.{set}
-use Rattle.sap_ir.specs.Plain.Nested.{seat_width}
+use Rattle.sap_ir.specs.Prelude.{commands_of, set, seat_width}
 use Rattle.sap_flat.specs.Flat.{under}
 use Rattle.sap_flat.proofs.Steps.{goto_found, goto_missing}
 use Rattle.sap_flat.proofs.moves.goto.Goals as goal

@@ -1,6 +1,4 @@
-use Rattle.std.proofs.Common.{rules, tests, ◌∙◌, sym}
-use Rattle.std.specs.Str.{bytes_eq}
-use Rattle.std.proofs.lemmas.Iterator.{YieldsList-from_slice}
+use Rattle.sap_lemmas.proofs.Common.{rules, tests, ◌∙◌, sym, bytes_eq, YieldsList-from_slice}
 use Rattle.std.proofs.lemmas.Iterator.Search.{position_from_yields_List}
 use Rattle.sap_ir.specs.declared.plain.nested.PlainState.{PlainState, out-PlainState}
 use Rattle.sap_flat.proofs.Makes.{place_listed, position_or_end}

@@ -1,5 +1,4 @@
-use Rattle.std.proofs.Common.{Option, subst}
-use Rattle.std.specs.Prelude.{IfSome}
+use Rattle.sap_lemmas.proofs.Common.{Option, subst, IfSome}
 use Rattle.sap_bits.specs.declared.Op2.TheVariants.{Ne, Lt}
 use Rattle.sap_net.specs.declared.parts.Operand.{Operand}
 use Rattle.sap_net.specs.declared.parts.Right.TheVariants.{Two}

@@ -1,5 +1,4 @@
-use Rattle.std.proofs.Common.{Option, subst}
-use Rattle.std.specs.Prelude.{IfSome}
+use Rattle.sap_lemmas.proofs.Common.{Option, subst, IfSome}
 use Rattle.sap_fold.specs.declared.order.Bit.{Bit}
 use Rattle.sap_fold.specs.Order.{EitherAsks}
 use Rattle.sap_fold.proofs.Ordering.{unequal_bit}

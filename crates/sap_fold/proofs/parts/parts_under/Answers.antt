@@ -1,5 +1,4 @@
-use Rattle.std.proofs.Common.{◌≡◌, ◌∙◌, ◌+◌, ◌++◌, [], ◌∷◌, List, take, sym, ap, subst, arith}
-use Rattle.std.proofs.lemmas.List.{take_more}
+use Rattle.sap_lemmas.proofs.Common.{◌≡◌, ◌∙◌, ◌+◌, ◌++◌, [], ◌∷◌, List, take, sym, ap, subst, arith, take_more}
 use Rattle.sap_net.specs.declared.parts.Operand.{Operand}
 use Rattle.sap_fold.specs.Parts.{AddsPart, SameParts}
 use Rattle.sap_fold.specs.Under.{number}

@@ -1,7 +1,4 @@
-use Rattle.std.proofs.Common.{◌∙◌, List, Option, sym, subst, arith}
-use Rattle.std.specs.Prelude.{IfSome}
-use Rattle.std.specs.declared.vec.Vec.{Vec}
-use Rattle.std.specs.declared.alloc.Global.{Global}
+use Rattle.sap_lemmas.proofs.Common.{◌∙◌, List, Option, sym, subst, arith, IfSome, Vec, Global}
 use Rattle.sap_net.specs.declared.parts.Operand.{Operand}
 use Rattle.sap_net.specs.declared.parts.Right.TheVariants.{Choose, Concat}
 use Rattle.sap_fold.specs.Equals.{Equals}

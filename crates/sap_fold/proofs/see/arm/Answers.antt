@@ -1,5 +1,4 @@
-use Rattle.std.proofs.Common.{Option, subst}
-use Rattle.std.specs.Prelude.{IfSome}
+use Rattle.sap_lemmas.proofs.Common.{Option, subst, IfSome}
 use Rattle.sap_net.specs.declared.parts.Right.{Right}
 use Rattle.sap_share.specs.Sets.{holds}
 use Rattle.sap_fold.specs.Under.{number, Under}

@@ -1,5 +1,4 @@
-use Rattle.std.proofs.Common.{List, subst}
-use Rattle.std.specs.Prelude.{IfSome}
+use Rattle.sap_lemmas.proofs.Common.{List, subst, IfSome}
 use Rattle.sap_net.specs.declared.parts.Operand.{Operand}
 use Rattle.sap_fold.specs.Slices.{OfParts}
 use Rattle.sap_fold.proofs.Slicing.{some_slice, some_parts}

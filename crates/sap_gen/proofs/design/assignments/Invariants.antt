@@ -1,5 +1,4 @@
-use Rattle.std.proofs.Common.{◌≡◌, map}
-use Rattle.std.specs.List.{range_with_len}
+use Rattle.sap_lemmas.proofs.Common.{◌≡◌, map, range_with_len}
 use Rattle.sap_tree.specs.Trees.{command_of}
 use Rattle.sap_gen.specs.Design.{assignment}
 use Rattle.sap_gen.proofs.design.assignments.Given as goal

@@ -1,7 +1,6 @@
 use Rattle.std.proofs.Common.{◌<◌, ◌≤◌, ◌∙◌, ap, length, subst, sym, arith}
 use Rattle.sap_check.specs.Checked.{levels_in, tree_in}
-use Rattle.sap_lattice.specs.Codes.{Codes, code_of}
-use Rattle.sap_lattice.specs.Levels.{Levels, order_of}
+use Rattle.sap_lattice.specs.Prelude.{Codes, code_of, Levels, order_of}
 use Rattle.sap_names.specs.Entities.{entities_of}
 use Rattle.sap_sem.specs.Machine.{program_of, state_of}
 use Rattle.sap_gen.proofs.Rows.{all_collected, collected, passed}

@@ -1,8 +1,6 @@
-use Rattle.std.proofs.Common.{[], ◌∷◌, refl, sym, subst}
-use Rattle.std.proofs.lemmas.Result.{IfOk-weaker}
+use Rattle.sap_lemmas.proofs.Common.{[], ◌∷◌, refl, sym, subst, IfOk-weaker}
 use Rattle.sap_check.specs.Checked.{levels_in, tree_in}
-use Rattle.sap_meaning.specs.Program.{Program}
-use Rattle.sap_meaning.specs.State.{InputsFit}
+use Rattle.sap_meaning.specs.Prelude.{Program, InputsFit}
 use Rattle.sap_sem.specs.Machine.{program_of, state_of}
 use Rattle.sap_gen.specs.Stream.{given}
 use Rattle.sap_gen.proofs.Texts.{is_generated}

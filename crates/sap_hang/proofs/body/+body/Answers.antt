@@ -1,9 +1,7 @@
-use Rattle.std.proofs.Common.{◌-◌, ◌∙◌, ap, sym, arith, List}
-use Rattle.std.proofs.lemmas.Result.{on_ok_weaker}
+use Rattle.sap_lemmas.proofs.Common.{◌-◌, ◌∙◌, ap, sym, arith, List, on_ok_weaker}
+use Rattle.sap_tree.specs.Prelude.{block_of, command_of, commands_of, else_of, last_arm}
 use Rattle.sap_tree.specs.declared.syntax.Arm.{Arm}
 use Rattle.sap_tree.specs.declared.syntax.Cmd.{Cmd}
-use Rattle.sap_tree.specs.Trees.{block_of, command_of, commands_of, else_of}
-use Rattle.sap_tree.specs.Syntax.{last_arm}
 use Rattle.sap_tree.proofs.Weights.{arms_weight-in, arms_weight-of, commands_weight}
 use Rattle.sap_tree.proofs.Views.{command_of-do, command_of-if, command_of-try, command_of-try_then, command_of-case}
 use Rattle.sap_hang.proofs.Bodies.{on_ok_both, list_start, list_step, arms_start, arms_step, else_some, else_none, do_walked, try_walked, if_walked, then_walked, case_walked}

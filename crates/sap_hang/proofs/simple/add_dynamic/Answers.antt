@@ -1,6 +1,4 @@
-use Rattle.std.proofs.Common.{sym}
-use Rattle.std.specs.Prelude.{bytes_eq}
-use Rattle.std.proofs.lemmas.Result.{on_ok_weaker}
+use Rattle.sap_lemmas.proofs.Common.{sym, bytes_eq, on_ok_weaker}
 use Rattle.sap_tree.specs.Touches.{is_dynamic_kind}
 use Rattle.sap_hang.proofs.Adds.{adds_name, adds_where}
 use Rattle.sap_hang.proofs.simple.add_dynamic.Goals as goal

@@ -1,5 +1,4 @@
-use Rattle.std.proofs.Common.{ap}
-use Rattle.std.proofs.lemmas.Result.{on_ok_weaker}
+use Rattle.sap_lemmas.proofs.Common.{ap, on_ok_weaker}
 use Rattle.sap_tree.specs.Trees.{simple_of}
 use Rattle.sap_hang.specs.Walks.{declared_in, entities_in, home_of}
 use Rattle.sap_hang.proofs.Simples.{assign_assigns, assign_touches, write_assigns, write_touches, tag_assigns, tag_touches, cell_tag_assigns, cell_tag_touches, goto_assigns, goto_touches, fall_assigns, fall_adds}

@@ -1,5 +1,4 @@
-use Rattle.std.proofs.Common.{sym}
-use Rattle.std.proofs.lemmas.Result.{on_ok_weaker}
+use Rattle.sap_lemmas.proofs.Common.{sym, on_ok_weaker}
 use Rattle.sap_tree.specs.Touches.{is_dynamic_store}
 use Rattle.sap_hang.specs.Walks.{entities_in, declared_in}
 use Rattle.sap_hang.proofs.Adds.{adds_passed}

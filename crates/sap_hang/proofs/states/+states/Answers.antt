@@ -1,8 +1,6 @@
-use Rattle.std.proofs.Common.{List, ap, arith}
-use Rattle.std.proofs.lemmas.Result.{on_ok_weaker}
+use Rattle.sap_lemmas.proofs.Common.{List, ap, arith, on_ok_weaker}
+use Rattle.sap_tree.specs.Prelude.{Home, states_of}
 use Rattle.sap_tree.specs.declared.syntax.State.{State, out-State}
-use Rattle.sap_tree.specs.Touches.{Home}
-use Rattle.sap_tree.specs.Trees.{states_of}
 use Rattle.sap_hang.proofs.Groups.{state_walked, state_adds, states_start, states_step, passed_all, falls_stand}
 use Rattle.sap_hang.proofs.states.+states.Goals as goal
 

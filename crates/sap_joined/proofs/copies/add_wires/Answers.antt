@@ -1,5 +1,4 @@
-use Rattle.std.proofs.Common.{List, subst, sym}
-use Rattle.std.specs.List.{All}
+use Rattle.sap_lemmas.proofs.Common.{List, subst, sym, All}
 use Rattle.sap_net.specs.declared.parts.Wire.{Wire}
 use Rattle.sap_joined.specs.Spelled.{WireSpelled}
 use Rattle.sap_joined.proofs.Spelling.{all_wires_spelled}

@@ -1,5 +1,4 @@
-use Rattle.std.proofs.Common.{List, subst, sym}
-use Rattle.std.specs.List.{All}
+use Rattle.sap_lemmas.proofs.Common.{List, subst, sym, All}
 use Rattle.sap_net.specs.declared.parts.Register.{Register}
 use Rattle.sap_joined.specs.Spelled.{RegisterSpelled}
 use Rattle.sap_joined.proofs.Spelling.{all_registers_spelled}

@@ -1,9 +1,9 @@
 use Rattle.std.proofs.Common.{◌≡◌, ◌++◌, List, map, filter, ap, ap₂, ◌∙◌, rules}
 use Rattle.sap_maps.specs.Maps.{Name}
+use Rattle.sap_net.specs.PortNames.{top_name}
 use Rattle.sap_net.specs.declared.parts.Wire.{Wire}
 use Rattle.sap_net.specs.declared.parts.Register.{Register}
 use Rattle.sap_net.specs.declared.parts.Memory.{Memory}
-use Rattle.sap_net.specs.PortNames.{top_name}
 use Rattle.sap_share.specs.Sets.{holds}
 use Rattle.sap_build.specs.Copies.{copy_wire, copy_memory}
 use Rattle.sap_joined.specs.Joined as spec

@@ -1,12 +1,10 @@
-use Rattle.std.proofs.Common.{◌≡◌, ◌≢◌, subst, List, ℕ}
-use Rattle.std.proofs.lemmas.Result.{err_from_is_err_and}
-use Rattle.std.specs.Prelude.{MatchOption, Option, Vec}
-use Rattle.std.specs.declared.alloc.Global.{Global}
+use Rattle.sap_lemmas.proofs.Common.{◌≡◌, ◌≢◌, subst, List, ℕ, err_from_is_err_and, MatchOption, Option, Global}
+use Rattle.std.specs.Prelude.{Vec}
 use Rattle.toml.specs.View.{table_view}
 use Rattle.sap_lattice.specs.Rules.{FirstBroken}
 use Rattle.sap_lattice.specs.declared.fault.LatFault.{LatFault}
-use Rattle.sap_lattice.specs.declared.fault.LatFault.TheVariants as rule
 use Rattle.sap_lattice.specs.declared.pair.Pair.{Pair}
+use Rattle.sap_lattice.specs.declared.fault.LatFault.TheVariants as rule
 use Rattle.sap_latfile.specs.Document.{Lists}
 use Rattle.sap_latfile.specs.LatticeFile.{IsFileOf}
 use Rattle.sap_latfile.proofs.Answered.{wrapped_first}

@@ -1,11 +1,10 @@
-use Rattle.std.proofs.Common.{◌≡◌, ◌-◌, ◌∙◌, ◌+◌, sym, ap, subst, refl, arith, length-drop, length-take, length, take, drop}
+use Rattle.sap_lemmas.proofs.Common.{◌≡◌, ◌-◌, ◌∙◌, ◌+◌, sym, ap, subst, refl, arith, length-drop, length-take, length, take, drop, take_rest}
 use Rattle.sap_walk.specs.Reached.{start, blank, token}
 use Rattle.sap_lex.specs.Lexemes.{lexeme_of}
 use Rattle.sap_lex.specs.Lexing.{Reached, IsWithin}
 use Rattle.sap_text.specs.Places.{place_at}
 use Rattle.sap_lex.proofs.OneLexing.{not_bad, not_both}
 use Rattle.sap_lex.proofs.Places.{advanced}
-use Rattle.std.proofs.lemmas.List.{take_rest}
 use Rattle.sap_lex.proofs.TokenTexts.{texts_are, in_order, spanned, tokens_order}
 use Rattle.sap_lex.proofs.lexer.lex.Goals as goal
 

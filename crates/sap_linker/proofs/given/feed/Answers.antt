@@ -1,6 +1,5 @@
 use Rattle.std.proofs.Common.{option_map, refl, ap, ◌∙◌}
-use Rattle.sap_lattice.specs.Levels.{order_of}
-use Rattle.sap_lattice.specs.Codes.{code_of}
+use Rattle.sap_lattice.specs.Prelude.{order_of, code_of}
 use Rattle.sap_link.specs.Systems.{Endpoint}
 use Rattle.sap_linker.specs.declared.parts.LinkedPart.{LinkedPart}
 use Rattle.sap_linker.specs.Given.{designs_of, named_design}

@@ -1,6 +1,5 @@
 use Rattle.std.proofs.Common.{map, ap, sym, ◌∙◌, subst}
-use Rattle.sap_net.specs.Net.{Net, net_of}
-use Rattle.sap_net.specs.IsNetlist.{IsNetlist}
+use Rattle.sap_net.specs.Prelude.{Net, net_of, IsNetlist}
 use Rattle.sap_joined.specs.Seen as seen
 use Rattle.sap_linker.proofs.Joining.{is_netlist, joined_as_given}
 use Rattle.sap_linker.proofs.module.joined_net.Goals as goal

@@ -1,6 +1,4 @@
-use Rattle.std.proofs.Common.{◌<◌, List, length, ◌∙◌, ap, subst}
-use Rattle.std.proofs.lemmas.Option.{slice_get_within}
-use Rattle.std.proofs.lemmas.Result.{err_from_is_err_and}
+use Rattle.sap_lemmas.proofs.Common.{◌<◌, List, length, ◌∙◌, ap, subst, slice_get_within, err_from_is_err_and}
 use Rattle.sap_system.specs.Rules.{part_names}
 use Rattle.sap_system.specs.declared.file.Part.{Part}
 use Rattle.sap_files.proofs.Ended.{reading_ended}

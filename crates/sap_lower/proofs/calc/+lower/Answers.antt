@@ -1,9 +1,8 @@
 use Rattle.std.proofs.Common.{◌≡◌, ◌∙◌, List, map, sym, ap, ap₂, subst, OnOk, IfOk}
-use Rattle.sap_maps.specs.Maps.{Name}
-use Rattle.sap_maps.specs.Term.{Term}
+use Rattle.sap_maps.specs.Prelude.{Name, Term}
 use Rattle.sap_net.specs.declared.parts.Wire.{Wire}
-use Rattle.sap_ir.specs.declared.guarded.Calc.{Calc}
 use Rattle.sap_ir.specs.Calcs.{term_of, joined_terms}
+use Rattle.sap_ir.specs.declared.guarded.Calc.{Calc}
 use Rattle.sap_ir.proofs.Views.{concat_term}
 use Rattle.sap_lower.specs.declared.parts.Part.{Part}
 use Rattle.sap_lower.specs.Lowering.{Low, low}

@@ -1,5 +1,4 @@
-use Rattle.std.proofs.Common.{◌≡◌, ◌∙◌, Option, Some, None, ap, subst, IfOk}
-use Rattle.std.specs.Prelude.{unwrap_or}
+use Rattle.sap_lemmas.proofs.Common.{◌≡◌, ◌∙◌, Option, Some, None, ap, subst, IfOk, unwrap_or}
 use Rattle.sap_maps.specs.Scope.{find}
 use Rattle.sap_lower.specs.declared.parts.Part.{Part}
 use Rattle.sap_lower.specs.Lowering.{nothing}

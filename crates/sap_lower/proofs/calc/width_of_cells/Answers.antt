@@ -1,5 +1,4 @@
-use Rattle.std.proofs.Common.{◌≡◌, Option, Some, None, ℕ, ap}
-use Rattle.std.specs.Prelude.{unwrap_or}
+use Rattle.sap_lemmas.proofs.Common.{◌≡◌, Option, Some, None, ℕ, ap, unwrap_or}
 use Rattle.sap_maps.specs.Scope.{find}
 use Rattle.sap_lower.proofs.calc.width_of_cells.Goals as goal
 

@@ -1,5 +1,4 @@
-use Rattle.std.proofs.Common.{◌≡◌, ◌∙◌, ◌++◌, List, ap, subst, rules}
-use Rattle.std.proofs.lemmas.Result.{on_ok_weaker}
+use Rattle.sap_lemmas.proofs.Common.{◌≡◌, ◌∙◌, ◌++◌, List, ap, rules, on_ok_weaker}
 use Rattle.sap_maps.specs.Maps.{Name}
 use Rattle.sap_net.specs.IsNetlist.{names_of}
 use Rattle.sap_share.specs.Sets.{AreSame}

@@ -1,5 +1,4 @@
-use Rattle.std.proofs.Common.{◌≡◌, ◌∙◌, ◌++◌, List, map, ap, rules}
-use Rattle.std.proofs.lemmas.Result.{on_ok_weaker}
+use Rattle.sap_lemmas.proofs.Common.{◌∙◌, ◌++◌, List, map, ap, rules, on_ok_weaker}
 use Rattle.sap_ir.specs.declared.guarded.Var.{Var}
 use Rattle.sap_share.specs.Sets.{AreSame}
 use Rattle.sap_lower.specs.Lowered.{out_wire}

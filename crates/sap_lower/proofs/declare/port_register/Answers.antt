@@ -1,6 +1,6 @@
 use Rattle.std.proofs.Common.{◌≡◌, ◌∙◌, ◌<◌, [], ◌∷◌, ◌++◌, map, Option, get_or, sym, ap, length, arith, rules, append-nil}
-use Rattle.sap_net.specs.declared.parts.Register.{Register}
 use Rattle.sap_net.specs.NameMaps.{place_in}
+use Rattle.sap_net.specs.declared.parts.Register.{Register}
 use Rattle.sap_lower.specs.Lowered.{register_of, in_front}
 use Rattle.sap_ir.specs.declared.guarded.Var.{Var}
 use Rattle.sap_share.proofs.Lookups.{item_found, item_missing}

@@ -1,6 +1,5 @@
 use Rattle.std.proofs.Common.{◌∙◌, ◌^◌, ◌<◌, ◌≤◌, List, length, sym, ap, subst, arith}
-use Rattle.sap_net.specs.Net.{Net}
-use Rattle.sap_net.specs.IsNetlist.{IsNetlist}
+use Rattle.sap_net.specs.Prelude.{Net, IsNetlist}
 use Rattle.sap_net.specs.declared.parts.Wire.{Wire}
 use Rattle.sap_ir.specs.Program.{source_of}
 use Rattle.sap_size.specs.Flat.{source_weight}

@@ -1,5 +1,4 @@
-use Rattle.std.proofs.Common.{◌≡◌, ◌∙◌, List, ℕ, ap, sym, arith, rules}
-use Rattle.std.specs.Prelude.{is_some, false}
+use Rattle.sap_lemmas.proofs.Common.{◌≡◌, ◌∙◌, List, ℕ, ap, sym, arith, rules, is_some, false}
 use Rattle.indexmap.proofs.CallerLemmas.{insert_entry-new}
 use Rattle.sap_names.specs.Index.{under}
 use Rattle.sap_names.proofs.Numbers.{numbers_added, numbers_passed, under_none}

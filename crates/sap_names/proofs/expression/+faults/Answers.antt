@@ -1,9 +1,8 @@
 use Rattle.std.proofs.Common.{◌≡◌, ◌∙◌, ap, sym}
-use Rattle.sap_tree.specs.Trees.{expression_of, expressions_of}
+use Rattle.sap_tree.specs.Prelude.{expression_of, expressions_of, first_of}
 use Rattle.sap_tree.proofs.Views.{expression_of-concat}
 use Rattle.sap_names.proofs.Faults.{both}
 use Rattle.sap_text.specs.declared.place.Place.{Place}
-use Rattle.sap_tree.specs.Spots.{first_of}
 use Rattle.sap_names.specs.Best.{best_of}
 use Rattle.sap_names.specs.NameFaults.{fault_if}
 use Rattle.sap_names.specs.declared.kind.Code.TheVariants.{E7}

@@ -1,7 +1,4 @@
-use Rattle.std.proofs.Common.{◌≡◌, ◌≤◌, ◌<◌, ◌^◌, ℕ, false, arith}
-use Rattle.std.proofs.Math.Pow.{pow_mono}
-use Rattle.std.proofs.lemmas.Grind.{common_steps}
-use Rattle.std.specs.Prelude.{leb}
+use Rattle.sap_lemmas.proofs.Common.{◌≡◌, ◌≤◌, ◌<◌, ◌^◌, ℕ, false, arith, pow_mono, common_steps, leb}
 use Rattle.sap_names.proofs.expression.holds_no.Goals as goal
 
 beyond : (v p : ℕ) → v < 18446744073709551616 → 18446744073709551616 ≤ p → false ≡ leb p v

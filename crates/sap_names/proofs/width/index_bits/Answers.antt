@@ -1,5 +1,4 @@
-use Rattle.std.proofs.Common.{◌∙◌, ℕ, ap, sym, arith, count_ones, Some}
-use Rattle.std.proofs.lemmas.Bool.Decides.{Decides-eqb}
+use Rattle.sap_lemmas.proofs.Common.{◌∙◌, ℕ, ap, sym, arith, count_ones, Some, Decides-eqb}
 use Rattle.sap_names.proofs.Depths.{depth_bits, no_depth}
 use Rattle.sap_names.proofs.width.index_bits.Goals as goal
 use Rattle.sap_names.proofs.width.index_bits.Goals.{else-is_power_of_two-via-then-is_power_of_two+then-depth-ge2+else-depth-le4096, else-is_power_of_two-via-then-is_power_of_two+else-depth-ge2, else-is_power_of_two-via-else-is_power_of_two}

@@ -1,5 +1,4 @@
-use Rattle.std.proofs.Common.{◌∙◌, ◌++◌, ◌∷◌, [], ◌+◌, List, sym, ap, subst, refl, rules, arith}
-use Rattle.std.proofs.lemmas.Result.{IfOk-weaker}
+use Rattle.sap_lemmas.proofs.Common.{◌∙◌, ◌++◌, ◌∷◌, [], ◌+◌, List, sym, ap, subst, refl, rules, arith, IfOk-weaker}
 use Rattle.sap_parse.specs.CommandRows.{arms_row, behind, behind_row, constants_row, ended, plain}
 use Rattle.sap_parse.specs.Grammar as g
 use Rattle.sap_parse.specs.Joining.{join_commands}

@@ -5,8 +5,7 @@ use Rattle.sap_parse.specs.Joining.{join_commands}
 use Rattle.sap_parse.specs.Reading.{reads}
 use Rattle.sap_parse.specs.Stages.{Stage}
 use Rattle.sap_parse.specs.Table as s
-use Rattle.sap_tree.specs.Syntax.{Arms, CommandList}
-use Rattle.sap_tree.specs.Trees.{arms_before, commands_of}
+use Rattle.sap_tree.specs.Prelude.{Arms, CommandList, arms_before, commands_of}
 use Rattle.sap_parse.proofs.command.+command.Given as goal
 
 abbrev pub decreases-commands : goal.decreases-commands

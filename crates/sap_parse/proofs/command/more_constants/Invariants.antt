@@ -4,8 +4,7 @@ use Rattle.sap_parse.specs.Joining.{join}
 use Rattle.sap_parse.specs.Reading.{reads}
 use Rattle.sap_parse.specs.Stages.{Stage}
 use Rattle.sap_parse.specs.Table as s
-use Rattle.sap_tree.specs.Syntax.{Expressions}
-use Rattle.sap_tree.specs.Trees.{expressions_of}
+use Rattle.sap_tree.specs.Prelude.{Expressions, expressions_of}
 use Rattle.sap_parse.proofs.command.more_constants.Given as goal
 
 abbrev pub invariant-constants : goal.invariant-constants

@@ -1,5 +1,4 @@
-use Rattle.std.proofs.Common.{◌∙◌, ◌++◌, ◌∷◌, [], List, append_assoc, sym, ap, subst, refl, rules, arith}
-use Rattle.std.proofs.lemmas.List.{append-nil}
+use Rattle.sap_lemmas.proofs.Common.{◌∙◌, ◌++◌, ◌∷◌, [], List, append_assoc, sym, ap, subst, refl, rules, arith, append-nil}
 use Rattle.sap_parse.specs.Grammar as g
 use Rattle.sap_parse.specs.Reading.{steps_by, strictly}
 use Rattle.sap_parse.specs.Table as s

@@ -8,11 +8,10 @@ use Rattle.sap_parse.specs.Stages.{IsSign}
 use Rattle.sap_parse.specs.Table as s
 use Rattle.sap_parse.specs.declared.role.Role.TheVariants as r
 use Rattle.sap_lex.specs.declared.token.Sign.TheVariants as j
-use Rattle.sap_tree.specs.Spots.{enclosed, first_of}
-use Rattle.sap_tree.specs.Syntax as t
-use Rattle.sap_tree.specs.Trees.{expression_of, expressions_of}
+use Rattle.sap_tree.specs.Prelude.{enclosed, first_of, expression_of, expressions_of}
 use Rattle.sap_tree.specs.declared.name.Mention.{Mention}
 use Rattle.sap_tree.specs.declared.syntax.Expr.{Expr}
+use Rattle.sap_tree.specs.Syntax as t
 use Rattle.sap_tree.specs.declared.word.Word.TheVariants as w
 use Rattle.sap_parse.proofs.ExprLaws.{after_name_there, bin_tail, choice_missing, expr_bin, operator_level, parts_missing, parts_there, post_name, post_prim, tail_there, unary_there}
 use Rattle.sap_parse.proofs.Faults.{fault_goes, fault_goes_in_row, fault_goes_on}

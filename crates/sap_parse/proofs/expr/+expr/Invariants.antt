@@ -5,8 +5,7 @@ use Rattle.sap_parse.specs.Joining.{join}
 use Rattle.sap_parse.specs.Reading.{reads}
 use Rattle.sap_parse.specs.Stages.{Stage}
 use Rattle.sap_parse.specs.Table as s
-use Rattle.sap_tree.specs.Syntax.{Expression, Expressions}
-use Rattle.sap_tree.specs.Trees.{expression_of, expressions_of}
+use Rattle.sap_tree.specs.Prelude.{Expression, Expressions, expression_of, expressions_of}
 use Rattle.sap_parse.proofs.expr.+expr.Given as goal
 
 abbrev pub decreases-cell : goal.decreases-cell

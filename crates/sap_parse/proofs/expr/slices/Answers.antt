@@ -2,8 +2,7 @@ use Rattle.std.proofs.Common.{◌∙◌, sym, ap, subst, refl, rules, arith}
 use Rattle.sap_parse.specs.Grammar as g
 use Rattle.sap_parse.specs.Reading.{strictly}
 use Rattle.sap_parse.specs.Table as s
-use Rattle.sap_tree.specs.Spots.{first_of}
-use Rattle.sap_tree.specs.Trees.{expression_of}
+use Rattle.sap_tree.specs.Prelude.{first_of, expression_of}
 use Rattle.sap_tree.specs.declared.syntax.Expr.{Expr}
 use Rattle.sap_parse.proofs.ExprLaws.{slices_missing, slices_there}
 use Rattle.sap_parse.proofs.Faults.{fault_goes}

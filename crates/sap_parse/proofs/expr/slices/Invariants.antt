@@ -3,8 +3,7 @@ use Rattle.sap_parse.specs.Grammar as g
 use Rattle.sap_parse.specs.Reading.{reads}
 use Rattle.sap_parse.specs.Stages.{Stage}
 use Rattle.sap_parse.specs.Table as s
-use Rattle.sap_tree.specs.Syntax.{Expression}
-use Rattle.sap_tree.specs.Trees.{expression_of}
+use Rattle.sap_tree.specs.Prelude.{Expression, expression_of}
 use Rattle.sap_parse.proofs.expr.slices.Given as goal
 
 abbrev pub invariant-cuts : goal.invariant-cuts

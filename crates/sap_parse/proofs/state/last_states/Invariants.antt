@@ -4,8 +4,7 @@ use Rattle.sap_parse.specs.Joining.{join_states}
 use Rattle.sap_parse.specs.Reading.{reads}
 use Rattle.sap_parse.specs.Stages.{Stage}
 use Rattle.sap_parse.specs.Table as s
-use Rattle.sap_tree.specs.Syntax.{StateList}
-use Rattle.sap_tree.specs.Trees.{states_of}
+use Rattle.sap_tree.specs.Prelude.{StateList, states_of}
 use Rattle.sap_parse.proofs.state.last_states.Given as goal
 
 abbrev pub invariant-states : goal.invariant-states

@@ -5,8 +5,7 @@ use Rattle.sap_parse.specs.Joining.{join_tags}
 use Rattle.sap_parse.specs.Reading.{reads}
 use Rattle.sap_parse.specs.Stages.{Stage}
 use Rattle.sap_parse.specs.Table as s
-use Rattle.sap_tree.specs.Syntax.{TagExpressions}
-use Rattle.sap_tree.specs.Trees.{tags_of}
+use Rattle.sap_tree.specs.Prelude.{TagExpressions, tags_of}
 use Rattle.sap_parse.proofs.tag.+tag.Given as goal
 
 abbrev pub decreases-more_tags : goal.decreases-more_tags

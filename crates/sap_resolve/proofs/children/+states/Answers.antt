@@ -1,6 +1,5 @@
-use Rattle.std.proofs.Common.{◌∙◌, arith}
+use Rattle.sap_lemmas.proofs.Common.{◌∙◌, arith, on_ok}
 use Rattle.sap_tree.specs.declared.syntax.State.{out-State}
-use Rattle.sap_lemmas.proofs.Options.{on_ok}
 use Rattle.sap_resolve.proofs.Worlds.{children_step, children_end, state_counted}
 use Rattle.sap_resolve.proofs.children.+states.Goals as goal
 

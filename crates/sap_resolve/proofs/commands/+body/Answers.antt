@@ -1,5 +1,5 @@
-use Rattle.std.proofs.Common.{◌∙◌, ◌+◌, ◌^◌, ap, arith, length, List, refl}
-use Rattle.std.proofs.lemmas.Result.{IfOk-weaker}
+use Rattle.sap_lemmas.proofs.Common.{◌∙◌, ◌+◌, ◌^◌, ap, arith, length, List, refl, IfOk-weaker}
+use Rattle.sap_program.specs.Views.{arms_before}
 use Rattle.sap_program.specs.declared.program.Arm.{Arm}
 use Rattle.sap_resolved.specs.Resolve.{step_of}
 use Rattle.sap_resolve.specs.Lists.{arms_from}
@@ -12,7 +12,6 @@ use Rattle.sap_resolve.specs.Surroundings.{surroundings_of, rows_of}
 use Rattle.sap_resolve.proofs.Lists.{commands_step, commands_end, sites_step, sites_end, sites_within, points_step, points_end, points_within}
 use Rattle.sap_resolve.proofs.Arms.{arms_step, arms_end, arms_sites_step, arms_sites_end, arms_sites_within, arms_points_step, arms_points_end, arms_points_within}
 use Rattle.sap_program.proofs.Shown.{arms_before-none}
-use Rattle.sap_program.specs.Views.{arms_before}
 use Rattle.sap_meaning.specs.Program.{last_arm}
 use Rattle.sap_resolve.proofs.commands.+body.Goals as goal
 

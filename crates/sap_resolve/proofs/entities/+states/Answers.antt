@@ -1,5 +1,4 @@
-use Rattle.std.proofs.Common.{◌∙◌, ◌+◌, ◌^◌, ap, arith, refl}
-use Rattle.sap_lemmas.proofs.Options.{on_ok}
+use Rattle.sap_lemmas.proofs.Common.{◌∙◌, ◌+◌, ◌^◌, ap, arith, refl, on_ok}
 use Rattle.sap_resolve.proofs.Groups.{below_step, below_end, below_within, below_inside}
 use Rattle.sap_resolve.proofs.Lighter.{children_lighter, state_lighter}
 use Rattle.sap_resolve.proofs.Worlds.{entities_step, entities_end, group_names_step, group_names_end, state_added, state_named}

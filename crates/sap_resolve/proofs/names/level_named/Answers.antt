@@ -1,5 +1,4 @@
-use Rattle.std.proofs.Common.{◌∙◌, ap, ap₂, ℕ, List, Option}
-use Rattle.std.specs.Option.{unwrap_or}
+use Rattle.sap_lemmas.proofs.Common.{◌∙◌, ap, ap₂, ℕ, List, Option, unwrap_or}
 use Rattle.sap_lattice.specs.Levels.{level_named}
 use Rattle.sap_resolve.proofs.names.level_named.Goals as goal
 

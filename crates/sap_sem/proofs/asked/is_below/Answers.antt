@@ -1,6 +1,4 @@
-use Rattle.std.proofs.Common.{◌≤◌, arith}
-use Rattle.std.proofs.lemmas.Bool.{le-leb}
-use Rattle.std.proofs.Math.Pow.{pow_mono}
+use Rattle.sap_lemmas.proofs.Common.{◌≤◌, arith, le-leb, pow_mono}
 use Rattle.sap_sem.proofs.asked.is_below.Goals as goal
 
 pub returns-then-width-ge64 : goal.returns-then-width-ge64

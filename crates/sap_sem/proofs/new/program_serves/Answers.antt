@@ -1,10 +1,8 @@
 use Rattle.std.proofs.Common.{◌<◌, ◌^◌, IsTrue, length, subst, arith}
-use Rattle.sap_lattice.specs.Order.{Laws}
-use Rattle.sap_lattice.specs.Levels.{Levels, order_of}
+use Rattle.sap_lattice.specs.Prelude.{Laws, Levels, order_of}
 use Rattle.sap_names.specs.Entities.{entities_of}
 use Rattle.sap_check.specs.Checked.{levels_in, tree_in}
-use Rattle.sap_tree.specs.Designs.{design_of}
-use Rattle.sap_tree.specs.Whole.{is_whole}
+use Rattle.sap_tree.specs.Prelude.{design_of, is_whole}
 use Rattle.sap_secure.proofs.check_sites.Counts.{numbers_are, count_is}
 use Rattle.sap_sem.proofs.Served.{serves}
 use Rattle.sap_sem.proofs.new.program_serves.Goals as goal

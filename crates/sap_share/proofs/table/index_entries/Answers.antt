@@ -1,6 +1,4 @@
-use Rattle.std.proofs.Common.{◌≡◌, ◌∙◌, ◌+◌, ◌++◌, [], ◌∷◌, take, length, sym, ap, arith}
-use Rattle.std.proofs.lemmas.List.{take_more, length-take-le}
-use Rattle.std.specs.Map.{keys_of}
+use Rattle.sap_lemmas.proofs.Common.{◌≡◌, ◌∙◌, ◌+◌, ◌++◌, [], ◌∷◌, take, length, sym, ap, arith, take_more, length-take-le, keys_of}
 use Rattle.sap_share.proofs.Lookups.{named_push, names_long}
 use Rattle.sap_share.proofs.table.index_entries.Goals as goal
 

@@ -1,5 +1,4 @@
-use Rattle.std.proofs.Common.{take}
-use Rattle.std.specs.Map.{keys_of}
+use Rattle.sap_lemmas.proofs.Common.{take, keys_of}
 use Rattle.sap_net.specs.NameMaps.{AtPlaces}
 use Rattle.sap_share.specs.NameTables.{of_name}
 use Rattle.sap_share.proofs.table.index_entries.Given as goal

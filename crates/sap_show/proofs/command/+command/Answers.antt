@@ -1,6 +1,4 @@
-use Rattle.std.proofs.Common.{◌++◌, ◌∙◌, ap, arith}
-use Rattle.std.specs.Prelude.{codes}
-use Rattle.sap_lemmas.proofs.Lists.{joined_on_last}
+use Rattle.sap_lemmas.proofs.Common.{◌++◌, ◌∙◌, ap, arith, codes, joined_on_last}
 use Rattle.sap_show.specs.Canonical.{command_text, else_text}
 use Rattle.sap_tree.specs.Trees.{command_of, else_of}
 use Rattle.sap_tree.proofs.Views.{command_of-case, command_of-if, command_of-try_then}

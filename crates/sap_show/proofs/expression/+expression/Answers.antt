@@ -1,7 +1,6 @@
-use Rattle.std.proofs.Common.{◌≡◌, ◌++◌}
+use Rattle.sap_lemmas.proofs.Common.{◌≡◌, ◌++◌, on_ok}
 use Rattle.sap_show.specs.Canonical.{parts_text, more_parts_text}
 use Rattle.sap_tree.specs.Trees.{expressions_of}
-use Rattle.sap_lemmas.proofs.Options.{on_ok}
 use Rattle.sap_show.proofs.Texts.{grow_two, grow_three, parts_first, more_parts_first, parts_none, more_parts_none, nothing_more}
 use Rattle.sap_show.proofs.expression.+expression.Goals as goal
 

@@ -1,7 +1,6 @@
-use Rattle.std.proofs.Common.{◌≡◌, ◌++◌}
+use Rattle.sap_lemmas.proofs.Common.{◌≡◌, ◌++◌, on_ok}
 use Rattle.sap_show.specs.Canonical.{tags_text, more_tags_text}
 use Rattle.sap_tree.specs.Trees.{tags_of}
-use Rattle.sap_lemmas.proofs.Options.{on_ok}
 use Rattle.sap_show.proofs.Texts.{grow_two, grow_three, tags_first, more_tags_first, tags_none, more_tags_none, nothing_more}
 use Rattle.sap_show.proofs.expression.+tag.Goals as goal
 

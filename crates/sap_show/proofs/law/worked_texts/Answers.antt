@@ -1,4 +1,4 @@
-use Rattle.std.proofs.Common.{refl}
+use Rattle.sap_lemmas.proofs.Common.{refl}
 use Rattle.std.specs.Fmt.{digits}
 use Rattle.sap_show.specs.Canonical.{canonical_text, declaration_text, head_text, state_text, command_text, simple_text, cell_text, tag_text, expression_text, operand_text}
 use Rattle.sap_tree.specs.Precedence.{precedence_of}

@@ -1,5 +1,4 @@
-use Rattle.std.proofs.Common.{◌≡◌, ◌++◌, take}
-use Rattle.std.specs.Prelude.{flat_map}
+use Rattle.sap_lemmas.proofs.Common.{◌≡◌, ◌++◌, take, flat_map}
 use Rattle.sap_show.specs.Canonical.{declaration_text}
 use Rattle.sap_show.proofs.state.declarations.Given as goal
 

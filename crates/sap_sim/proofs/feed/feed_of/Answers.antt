@@ -1,10 +1,8 @@
-use Rattle.std.proofs.Common.{◌≡◌, ℕ, List, map, sym, ap, ◌∙◌, subst}
-use Rattle.std.specs.Prelude.{All}
+use Rattle.sap_lemmas.proofs.Common.{◌≡◌, ℕ, List, map, sym, ap, ◌∙◌, subst, All}
 use Rattle.sap_net.specs.declared.parts.Input.{Input}
 use Rattle.sap_stim.specs.declared.field.Field.{Field}
 use Rattle.sap_stim.specs.Line.{IsSized}
-use Rattle.sap_sim.specs.Fields.{with_field, field_of, fields_of}
-use Rattle.sap_sim.specs.Layout.{source_of}
+use Rattle.sap_sim.specs.Prelude.{with_field, field_of, fields_of, source_of}
 use Rattle.sap_sim.proofs.Fits.{fields_sized}
 use Rattle.sap_sim.proofs.feed.feed_of.Goals as goal
 use Rattle.sap_sim.proofs.feed.feed_of.Goals.{In_ok-line}

@@ -1,5 +1,4 @@
-use Rattle.std.proofs.Common.{◌≡◌, take, map}
-use Rattle.std.specs.Prelude.{filter, not}
+use Rattle.sap_lemmas.proofs.Common.{◌≡◌, take, map, filter, not}
 use Rattle.sap_sim.specs.Fields.{is_tag, field_of}
 use Rattle.sap_sim.proofs.fields.line_of.Given as goal
 

@@ -1,8 +1,6 @@
 use Rattle.std.proofs.Common.{ℕ, map, sym, ap, ◌∙◌}
-use Rattle.sap_net.specs.Net.{Net}
-use Rattle.sap_sim.specs.Fields.{tag_width}
-use Rattle.sap_sim.specs.Layout.{source_of}
-use Rattle.sap_net.specs.Shown.{register_ports, port_widths, shown_among}
+use Rattle.sap_net.specs.Prelude.{Net, register_ports, port_widths, shown_among}
+use Rattle.sap_sim.specs.Prelude.{tag_width, source_of}
 use Rattle.sap_sim.proofs.loading.planned_of.Goals as goal
 
 pub returns-clause-plan : goal.returns-clause-plan

@@ -1,6 +1,5 @@
 use Rattle.std.proofs.Common.{drop}
-use Rattle.sap_sim.specs.Fields.{input_widths}
-use Rattle.sap_sim.specs.Lookup.{Finds}
+use Rattle.sap_sim.specs.Prelude.{input_widths, Finds}
 use Rattle.sap_sim.proofs.lookup.input_widths.Given as goal
 
 abbrev pub invariant-loop-k : goal.invariant-loop-k

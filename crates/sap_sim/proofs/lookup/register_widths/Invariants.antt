@@ -1,6 +1,5 @@
 use Rattle.std.proofs.Common.{drop}
-use Rattle.sap_sim.specs.Shown.{register_widths}
-use Rattle.sap_sim.specs.Lookup.{Finds}
+use Rattle.sap_sim.specs.Prelude.{register_widths, Finds}
 use Rattle.sap_sim.proofs.lookup.register_widths.Given as goal
 
 abbrev pub invariant-loop-k : goal.invariant-loop-k

@@ -1,6 +1,6 @@
 use Rattle.std.proofs.Common.{List, ap, ◌∙◌}
-use Rattle.sap_net.specs.declared.parts.Port.{Port}
 use Rattle.sap_net.specs.Shown.{register_ports}
+use Rattle.sap_net.specs.declared.parts.Port.{Port}
 use Rattle.sap_sim.proofs.shown.labels.Goals as goal
 
 pub shown_labels-requires : goal.shown_labels-requires

@@ -1,7 +1,6 @@
 use Rattle.std.proofs.Common.{◌≡◌, List, ℕ, None, subst}
 use Rattle.sap_maps.specs.Scope.{find}
-use Rattle.sap_net.specs.Net.{Net}
-use Rattle.sap_net.specs.IsNetlist.{IsNetlist, readable}
+use Rattle.sap_net.specs.Prelude.{Net, IsNetlist, readable}
 use Rattle.sap_sim.proofs.Registers.{register_found, register_utf8}
 use Rattle.sap_sim.proofs.shown.place.Goals as goal
 

@@ -1,7 +1,6 @@
 use Rattle.std.proofs.Common.{List, sym, ap, ◌∙◌, ◌++◌}
 use Rattle.sap_maps.specs.Maps.{Name}
-use Rattle.sap_net.specs.PortNames.{value_of}
-use Rattle.sap_net.specs.Shown.{port_widths, shown_by}
+use Rattle.sap_net.specs.Prelude.{value_of, port_widths, shown_by}
 use Rattle.sap_sim.proofs.Registers.{shown_more}
 use Rattle.sap_sim.proofs.shown.shown_among.Goals as goal
 

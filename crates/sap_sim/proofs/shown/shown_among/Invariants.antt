@@ -1,10 +1,6 @@
 use Rattle.std.proofs.Common.{◌≡◌, take}
-use Rattle.sap_net.specs.Net.{Net}
-use Rattle.sap_net.specs.IsNetlist.{IsNetlist}
-use Rattle.sap_net.specs.NameMaps.{Indexes}
-use Rattle.sap_sim.specs.Lookup.{Finds}
-use Rattle.sap_net.specs.Shown.{register_ports, port_widths, shown_among}
-use Rattle.sap_sim.specs.Shown.{register_widths}
+use Rattle.sap_net.specs.Prelude.{Net, IsNetlist, Indexes, register_ports, port_widths, shown_among}
+use Rattle.sap_sim.specs.Prelude.{Finds, register_widths}
 use Rattle.sap_sim.proofs.shown.shown_among.Given as goal
 
 abbrev pub invariant-loop-name : goal.invariant-loop-name

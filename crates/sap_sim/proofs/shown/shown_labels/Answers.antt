@@ -1,13 +1,8 @@
-use Rattle.std.proofs.Common.{◌≡◌, List, ap, ◌∙◌, subst, sym, true}
-use Rattle.std.proofs.lemmas.Result.{IfOk-weaker}
+use Rattle.sap_lemmas.proofs.Common.{◌≡◌, List, ap, ◌∙◌, subst, sym, true, IfOk-weaker, All}
 use Rattle.sap_maps.specs.Maps.{Name}
+use Rattle.sap_net.specs.Prelude.{shown_among, register_ports, port_widths, Indexes, is_name}
 use Rattle.sap_net.specs.declared.parts.Register.{Register}
-use Rattle.sap_net.specs.Shown.{shown_among, register_ports, port_widths}
-use Rattle.sap_sim.specs.Shown.{register_widths}
-use Rattle.sap_net.specs.NameMaps.{Indexes}
-use Rattle.sap_sim.specs.Lookup.{Finds}
-use Rattle.sap_net.specs.Names.{is_name}
-use Rattle.std.specs.List.{All}
+use Rattle.sap_sim.specs.Prelude.{register_widths, Finds}
 use Rattle.sap_sim.proofs.Registers.{ports_named}
 use Rattle.sap_sim.proofs.shown.shown_labels.Goals as goal
 

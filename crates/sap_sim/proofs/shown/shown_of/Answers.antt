@@ -1,9 +1,6 @@
 use Rattle.std.proofs.Common.{◌≡◌, List, ap, ◌∙◌, map, subst}
 use Rattle.sap_maps.specs.Maps.{Name}
-use Rattle.sap_net.specs.Net.{Net}
-use Rattle.sap_net.specs.IsNetlist.{IsNetlist}
-use Rattle.sap_net.specs.PortNames.{value_name, tag_name}
-use Rattle.sap_net.specs.Shown.{shown_among, register_ports, port_widths}
+use Rattle.sap_net.specs.Prelude.{Net, IsNetlist, value_name, tag_name, shown_among, register_ports, port_widths}
 use Rattle.sap_sim.specs.Layout.{ArePlaces}
 use Rattle.sap_sim.proofs.Registers.{values_are, tags_are}
 use Rattle.sap_sim.proofs.shown.shown_of.Goals as goal

@@ -1,5 +1,4 @@
-use Rattle.std.proofs.Common.{◌<◌, ◌^◌, arith}
-use Rattle.std.specs.Prelude.{All}
+use Rattle.sap_lemmas.proofs.Common.{◌<◌, ◌^◌, arith, All}
 use Rattle.std.proofs.lemmas.List.Elements.{All-from_get_or}
 use Rattle.sap_stim.specs.Rows.{row_text, shown_of}
 use Rattle.sap_stim.proofs.RowTexts.{row_fits}

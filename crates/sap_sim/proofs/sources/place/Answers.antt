@@ -1,5 +1,4 @@
-use Rattle.std.proofs.Common.{◌≡◌, ◌∙◌, ap, subst, ℕ, Option}
-use Rattle.std.specs.Prelude.{unwrap_or}
+use Rattle.sap_lemmas.proofs.Common.{◌≡◌, ◌∙◌, ap, subst, ℕ, Option, unwrap_or}
 use Rattle.sap_net.specs.NameMaps.{place_in}
 use Rattle.sap_sim.specs.Numbers.{place}
 use Rattle.sap_sim.proofs.Maps.{place_found}

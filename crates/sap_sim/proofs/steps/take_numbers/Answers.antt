@@ -1,5 +1,4 @@
-use Rattle.std.proofs.Common.{map, sym, ap, ◌∙◌, arith}
-use Rattle.std.proofs.lemmas.List.{take_all}
+use Rattle.sap_lemmas.proofs.Common.{map, sym, ap, ◌∙◌, arith, take_all}
 use Rattle.sap_sim.specs.Layout.{number_from}
 use Rattle.sap_sim.proofs.Lists.{written_more}
 use Rattle.sap_sim.proofs.steps.take_numbers.Goals as goal

@@ -1,5 +1,4 @@
-use Rattle.std.proofs.Common.{◌<◌, ℕ, length, refl, sym, ap, ◌∙◌, subst, arith}
-use Rattle.std.proofs.lemmas.List.{take_all}
+use Rattle.sap_lemmas.proofs.Common.{◌<◌, ℕ, length, refl, sym, ap, ◌∙◌, subst, arith, take_all}
 use Rattle.sap_cycle.specs.Running.{seen, value_names}
 use Rattle.sap_sim.specs.Layout.{seen_at}
 use Rattle.sap_sim.proofs.Lists.{written_more}

@@ -1,6 +1,5 @@
 use Rattle.std.proofs.Common.{◌≡◌, ◌+◌, ◌∙◌, ap, arith}
-use Rattle.sap_meaning.specs.Program.{last}
-use Rattle.sap_meaning.specs.Store.{Store}
+use Rattle.sap_meaning.specs.Prelude.{last, Store}
 use Rattle.sap_store.specs.Code.{world_in, store_in}
 use Rattle.sap_store.specs.Passes.{reset_one}
 use Rattle.sap_store.proofs.Resets.{reset_to, reset_none, reset_next, reset_all}

@@ -1,7 +1,5 @@
 use Rattle.std.proofs.Common.{◌≡◌, ◌<◌, ◌^◌, ◌∙◌, ap, sym, subst, arith, ℕ}
-use Rattle.sap_meaning.specs.Cycle.{Tagged, given}
-use Rattle.sap_meaning.specs.Program.{width}
-use Rattle.sap_meaning.specs.Store.{Store, own, put_number, put_level}
+use Rattle.sap_meaning.specs.Prelude.{Tagged, given, width, Store, own, put_number, put_level}
 use Rattle.sap_store.specs.Code.{world_in, store_in}
 use Rattle.sap_store.specs.Kept.{input_in}
 use Rattle.sap_store.proofs.Fits.{input_fits}

@@ -1,7 +1,5 @@
 use Rattle.std.proofs.Common.{◌≡◌, ◌∙◌, ap, sym, arith, add-one, ℕ}
-use Rattle.sap_meaning.specs.Cycle.{inputs_before}
-use Rattle.sap_meaning.specs.Program.{root}
-use Rattle.sap_meaning.specs.Store.{Store}
+use Rattle.sap_meaning.specs.Prelude.{inputs_before, root, Store}
 use Rattle.sap_store.specs.Code.{world_in, store_in}
 use Rattle.sap_store.specs.Passes.{given_one}
 use Rattle.sap_store.proofs.Resets.{set_to, set_none, set_all, given_step, none}

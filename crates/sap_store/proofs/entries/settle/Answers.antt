@@ -1,6 +1,5 @@
 use Rattle.std.proofs.Common.{◌≡◌, ◌∙◌, ap, sym, arith}
-use Rattle.sap_meaning.specs.Program.{root}
-use Rattle.sap_meaning.specs.Store.{Store}
+use Rattle.sap_meaning.specs.Prelude.{root, Store}
 use Rattle.sap_store.specs.Code.{world_in, store_in}
 use Rattle.sap_store.specs.Passes.{settled_one}
 use Rattle.sap_store.proofs.Settles.{settled_to, settled_none, settled_next, settled_all}

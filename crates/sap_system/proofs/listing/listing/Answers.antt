@@ -1,5 +1,4 @@
-use Rattle.std.proofs.Common.{◌∙◌, sym}
-use Rattle.std.specs.Prelude.{codes}
+use Rattle.sap_lemmas.proofs.Common.{◌∙◌, sym, codes}
 use Rattle.toml.specs.View.{table_view}
 use Rattle.sap_latfile.proofs.Items.{key_count-entries, listed}
 use Rattle.sap_system.specs.Document.{parts_of, wires_of}

@@ -1,5 +1,4 @@
-use Rattle.std.proofs.Common.{inl, inr, arith, subst}
-use Rattle.std.proofs.lemmas.Bool.{both_ways, cases_eq}
+use Rattle.sap_lemmas.proofs.Common.{inl, inr, arith, subst, both_ways, cases_eq}
 use Rattle.sap_system.specs.Rules.{BadPart}
 use Rattle.sap_system.proofs.parts.first_bad.Goals as goal
 

@@ -1,5 +1,4 @@
-use Rattle.std.proofs.Common.{◌∙◌, sym, List, inl, inr}
-use Rattle.std.proofs.lemmas.Bool.{both_ways, or_cases, or_left, or_right}
+use Rattle.sap_lemmas.proofs.Common.{◌∙◌, sym, List, inl, inr, both_ways, or_cases, or_left, or_right}
 use Rattle.sap_system.specs.declared.file.Part.{Part}
 use Rattle.sap_system.proofs.PartNames.{part_name_at, bad_by, by_bad}
 use Rattle.sap_system.proofs.parts.is_bad.Goals as goal

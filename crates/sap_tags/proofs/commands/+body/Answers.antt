@@ -1,6 +1,5 @@
 use Rattle.std.proofs.Common.{◌≡◌, ◌+◌, ◌∙◌, List, OnOk, ap, sym, subst, arith}
-use Rattle.sap_ir.specs.Plain.Nested.{Body}
-use Rattle.sap_ir.specs.Plain.Views.{body_of}
+use Rattle.sap_ir.specs.Prelude.{Body, body_of}
 use Rattle.sap_program.specs.declared.program.Command.{Command}
 use Rattle.sap_program.specs.declared.program.Arm.{Arm}
 use Rattle.sap_tags_terms.specs.Parts.{CommandFew, CommandRanged, CommandsFew, CommandsRanged, arm_wires, command_wires, commands_wires}

@@ -1,6 +1,5 @@
 use Rattle.std.proofs.Common.{◌≡◌, OnOk, subst}
-use Rattle.sap_ir.specs.Plain.Nested.{Body}
-use Rattle.sap_ir.specs.Plain.Views.{body_of}
+use Rattle.sap_ir.specs.Prelude.{Body, body_of}
 use Rattle.sap_tags_effects.proofs.Pushed.{empty, fresh}
 use Rattle.sap_tags.proofs.Commanded.{attempt_made}
 use Rattle.sap_tags.proofs.commands.attempt.Goals as goal

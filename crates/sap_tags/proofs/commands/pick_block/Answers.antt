@@ -1,6 +1,5 @@
 use Rattle.std.proofs.Common.{◌≡◌, ◌+◌, OnOk, length, map, subst, arith}
-use Rattle.sap_ir.specs.Plain.Nested.{Body}
-use Rattle.sap_ir.specs.Plain.Views.{body_of}
+use Rattle.sap_ir.specs.Prelude.{Body, body_of}
 use Rattle.sap_ir.proofs.plain.SeatWidths.{seat_least}
 use Rattle.sap_tags_terms.specs.Code.{entities_in, setting_in}
 use Rattle.sap_tags_effects.proofs.Picked.{block_picked}

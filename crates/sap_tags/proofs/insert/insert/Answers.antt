@@ -1,7 +1,6 @@
 use Rattle.std.proofs.Common.{◌≤◌, sym, ◌∙◌, subst}
 use Rattle.sap_check.specs.Checked.{levels_in, tree_in}
-use Rattle.sap_ir.specs.Plain.IsPlain.{IsPlain}
-use Rattle.sap_ir.specs.Plain.Writes.{PlainWritesOnce}
+use Rattle.sap_ir.specs.Prelude.{IsPlain, PlainWritesOnce}
 use Rattle.sap_size.specs.Items.{most_items}
 use Rattle.sap_size.specs.Nested.{nested_weight}
 use Rattle.sap_tagged.specs.Law.{PlainStandsForDesign}

@@ -1,7 +1,6 @@
 use Rattle.std.proofs.Common.{IsTrue, subst}
 use Rattle.sap_check.specs.Checked.{levels_in, tree_in}
-use Rattle.sap_tree.specs.Designs.{design_of}
-use Rattle.sap_tree.specs.Whole.{is_whole}
+use Rattle.sap_tree.specs.Prelude.{design_of, is_whole}
 use Rattle.sap_tags.proofs.Found.{sound_found}
 use Rattle.sap_tags.proofs.insert.is_sound.Goals as goal
 

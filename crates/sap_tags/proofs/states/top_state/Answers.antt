@@ -1,10 +1,8 @@
 use Rattle.std.proofs.Common.{◌∙◌, refl, ap, arith}
-use Rattle.sap_ir.specs.Plain.Nested.{stop}
-use Rattle.sap_ir.specs.Plain.Views.{body_of, follow}
+use Rattle.sap_ir.specs.Prelude.{stop, body_of, follow}
 use Rattle.sap_program.specs.declared.program.State.{out-State}
 use Rattle.sap_tags_terms.specs.Code.{setting_in}
-use Rattle.sap_tagged.specs.Commands.{gives}
-use Rattle.sap_tagged.specs.Keys.{wire_key}
+use Rattle.sap_tagged.specs.Prelude.{gives, wire_key}
 use Rattle.sap_tags_effects.proofs.Pushed.{fresh}
 use Rattle.sap_tags_terms.proofs.Few.{few_body, few_children}
 use Rattle.sap_tags_terms.proofs.Ranged.{ranged_body, ranged_children}

@@ -1,8 +1,7 @@
 use Rattle.std.proofs.Common.{◌∙◌, List, ap, sym, subst, arith}
 use Rattle.sap_meaning.specs.Program.{listed}
 use Rattle.sap_ir.specs.Plain.Views.{forest_of}
-use Rattle.sap_program.specs.Hangs.{flags}
-use Rattle.sap_program.specs.Views.{group_of}
+use Rattle.sap_program.specs.Prelude.{flags, group_of}
 use Rattle.sap_program.specs.declared.program.State.{State}
 use Rattle.sap_tags_terms.specs.Parts.{StateFew, StateRanged, StatesFew, StatesRanged, state_wires, states_wires}
 use Rattle.sap_tags_terms.specs.Code.{entities_in, setting_in}

@@ -1,6 +1,5 @@
 use Rattle.std.proofs.Common.{◌≡◌, ◌∙◌, ◌-◌, ◌<◌, ◌≤◌, ◌^◌, OnOk, drop, length, suc, take, subst, ap, sym, arith}
-use Rattle.sap_ir.specs.Plain.Nested.{Body}
-use Rattle.sap_ir.specs.Plain.Views.{body_of, follow}
+use Rattle.sap_ir.specs.Prelude.{Body, body_of, follow}
 use Rattle.sap_ir.proofs.plain.SeatWidths.{shifted}
 use Rattle.sap_tags_terms.specs.Code.{setting_in}
 use Rattle.sap_tags_effects.proofs.Pushed.{fresh}

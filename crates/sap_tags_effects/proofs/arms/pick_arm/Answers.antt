@@ -1,7 +1,6 @@
 use Rattle.std.proofs.Common.{get_or, ◌∙◌, ap, ap₂, arith}
 use Rattle.sap_bits.specs.declared.Op2.TheVariants.{Eq}
-use Rattle.sap_maps.specs.Maps.{Name}
-use Rattle.sap_maps.specs.Term.{Term, constant, two, choose}
+use Rattle.sap_maps.specs.Prelude.{Name, Term, constant, two, choose}
 use Rattle.sap_ir.specs.Plain.Views.{body_of}
 use Rattle.sap_tags_terms.specs.Code.{setting_in}
 use Rattle.sap_tags_effects.proofs.Picked.{constants_step, constants_rest}

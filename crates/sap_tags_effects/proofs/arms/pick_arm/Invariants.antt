@@ -1,6 +1,5 @@
 use Rattle.std.proofs.Common.{◌≡◌, drop}
-use Rattle.sap_ir.specs.Plain.Nested.{stop}
-use Rattle.sap_ir.specs.Plain.Views.{body_of, follow}
+use Rattle.sap_ir.specs.Prelude.{stop, body_of, follow}
 use Rattle.sap_tags_terms.specs.Code.{setting_in}
 use Rattle.sap_tagged.specs.Commands.{picks_arm}
 use Rattle.sap_tags_effects.proofs.arms.pick_arm.Given as goal

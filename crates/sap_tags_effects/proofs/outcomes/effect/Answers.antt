@@ -1,6 +1,5 @@
 use Rattle.std.proofs.Common.{◌≡◌, OnOk, subst}
-use Rattle.sap_ir.specs.Plain.Nested.{Body}
-use Rattle.sap_ir.specs.Plain.Views.{body_of}
+use Rattle.sap_ir.specs.Prelude.{Body, body_of}
 use Rattle.sap_tags_terms.specs.Code.{entities_in, setting_in, home_in}
 use Rattle.sap_tags_effects.proofs.Pushed.{goto_effect}
 use Rattle.sap_tags_effects.proofs.outcomes.effect.Goals as goal

@@ -1,6 +1,5 @@
 use Rattle.std.proofs.Common.{◌≡◌, ◌∙◌, OnOk, refl, sym, subst}
-use Rattle.sap_ir.specs.Plain.Nested.{Body}
-use Rattle.sap_ir.specs.Plain.Views.{body_of, follow}
+use Rattle.sap_ir.specs.Prelude.{Body, body_of, follow}
 use Rattle.sap_tags_terms.specs.Code.{entities_in, setting_in, home_in}
 use Rattle.sap_tags_effects.proofs.Raised.{goto_dynamic, goto_enforced, quiet, entities_count}
 use Rattle.sap_tags_effects.proofs.raises.raise_alone.Goals as goal

@@ -1,10 +1,7 @@
 use Rattle.std.proofs.Common.{◌≡◌, ◌-◌}
-use Rattle.sap_ir.specs.Plain.Nested.{stop}
-use Rattle.sap_ir.specs.Plain.Views.{body_of, follow}
+use Rattle.sap_ir.specs.Prelude.{stop, body_of, follow}
 use Rattle.sap_tags_terms.specs.Code.{entities_in, setting_in, world_in}
-use Rattle.sap_tagged.specs.Commands.{sweep, for_each, resets}
-use Rattle.sap_tagged.specs.Keys.{tag_key}
-use Rattle.sap_tagged.specs.Levels.{bits}
+use Rattle.sap_tagged.specs.Prelude.{sweep, for_each, resets, tag_key, bits}
 use Rattle.sap_tags_effects.proofs.raises.reset_below.Given as goal
 
 abbrev pub invariant-loop-x : goal.invariant-loop-x

@@ -1,11 +1,7 @@
 use Rattle.std.proofs.Common.{◌≡◌, ◌-◌}
-use Rattle.sap_ir.specs.Plain.Nested.{stop}
-use Rattle.sap_ir.specs.Plain.Views.{body_of, follow}
+use Rattle.sap_ir.specs.Prelude.{stop, body_of, follow}
 use Rattle.sap_tags_terms.specs.Code.{entities_in, setting_in, world_in}
-use Rattle.sap_tagged.specs.Commands.{sweep}
-use Rattle.sap_tagged.specs.Keys.{first_key, tag_key}
-use Rattle.sap_tagged.specs.Levels.{var}
-use Rattle.sap_tagged.specs.States.{saved, saves}
+use Rattle.sap_tagged.specs.Prelude.{sweep, first_key, tag_key, var, saved, saves}
 use Rattle.sap_tags_effects.proofs.raises.save_all.Given as goal
 
 abbrev pub invariant-loop-x : goal.invariant-loop-x

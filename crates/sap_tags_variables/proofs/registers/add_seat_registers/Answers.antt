@@ -1,5 +1,4 @@
-use Rattle.std.proofs.Common.{ap, ◌∙◌, arith}
-use Rattle.sap_lemmas.proofs.Numbers.{less_test_of_positive}
+use Rattle.sap_lemmas.proofs.Common.{ap, ◌∙◌, arith, less_test_of_positive}
 use Rattle.sap_tags_variables.proofs.OfEntities.{has_children}
 use Rattle.sap_tags_variables.proofs.OfEntities.{of_parent, picked, passed, none, with_root}
 use Rattle.sap_tags_variables.proofs.registers.add_seat_registers.Goals as goal

@@ -1,8 +1,7 @@
 use Rattle.std.proofs.Common.{◌≡◌, ◌+◌, ◌*◌, ◌++◌, drop}
 use Rattle.sap_program.specs.Views.{block_of, command_of}
 use Rattle.sap_tags_terms.specs.Code.{entities_in, named_in, tag_width}
-use Rattle.sap_tagged.specs.Commands.{wires, wires_block}
-use Rattle.sap_tagged.specs.Plain.{arms_wires, block_wires}
+use Rattle.sap_tagged.specs.Prelude.{wires, wires_block, arms_wires, block_wires}
 use Rattle.sap_tags_terms.specs.Parts.{arm_wires}
 use Rattle.sap_tags_terms.proofs.Alone.{alone}
 use Rattle.sap_tags_variables.proofs.wires.+body.Given as goal

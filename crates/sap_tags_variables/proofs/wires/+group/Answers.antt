@@ -1,8 +1,7 @@
 use Rattle.std.proofs.Common.{ap, sym, subst, arith}
 use Rattle.sap_program.specs.Views.{block_of, group_of}
 use Rattle.sap_tags_terms.specs.Code.{entities_in, named_in, tag_width}
-use Rattle.sap_tagged.specs.Commands.{wires_block}
-use Rattle.sap_tagged.specs.States.{wires_group}
+use Rattle.sap_tagged.specs.Prelude.{wires_block, wires_group}
 use Rattle.sap_tags_terms.specs.Parts.{StateFew, StateRanged}
 use Rattle.sap_tags_terms.proofs.Few.{few_body, few_children, few_one}
 use Rattle.sap_tags_terms.proofs.Ranged.{ranged_body, ranged_children, ranged_one}

@@ -1,8 +1,7 @@
 use Rattle.std.proofs.Common.{◌≡◌, ◌+◌, ◌*◌, ◌++◌, drop}
 use Rattle.sap_program.specs.Views.{group_of, state_of}
 use Rattle.sap_tags_terms.specs.Code.{entities_in, named_in, tag_width}
-use Rattle.sap_tagged.specs.States.{wires_group, wires_state}
-use Rattle.sap_tagged.specs.Plain.{group_wires}
+use Rattle.sap_tagged.specs.Prelude.{wires_group, wires_state, group_wires}
 use Rattle.sap_tags_variables.proofs.wires.+group.Given as goal
 
 -- with those of what is left

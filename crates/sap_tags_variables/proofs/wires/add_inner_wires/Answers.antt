@@ -1,5 +1,4 @@
-use Rattle.std.proofs.Common.{ap, ◌∙◌, arith}
-use Rattle.sap_lemmas.proofs.Numbers.{less_test_of_positive}
+use Rattle.sap_lemmas.proofs.Common.{ap, ◌∙◌, arith, less_test_of_positive}
 use Rattle.sap_tags_variables.proofs.OfEntities.{has_children, of_inner, picked, passed, none}
 use Rattle.sap_tags_variables.proofs.wires.add_inner_wires.Goals as goal
 use Rattle.sap_tags_variables.proofs.wires.add_inner_wires.Goals.{then-child_count-gt0+in_ok-add_inner, else-child_count-gt0}

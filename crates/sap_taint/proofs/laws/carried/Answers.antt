@@ -1,5 +1,4 @@
-use Rattle.sap_lattice.specs.Codes.{width_of}
-use Rattle.sap_lattice.specs.Levels.{order_of}
+use Rattle.sap_lattice.specs.Prelude.{width_of, order_of}
 use Rattle.sap_taint.proofs.CarriesCycle.{takes_tags}
 use Rattle.sap_taint.proofs.Shown.{one_tagged_run, shows_taint, tags_stay_codes, runs_with_tags_agree}
 use Rattle.sap_taint.proofs.laws.carried.Goals as goal

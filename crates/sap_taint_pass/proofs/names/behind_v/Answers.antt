@@ -1,5 +1,4 @@
-use Rattle.std.proofs.Common.{Some, None, sym, ap, ◌∙◌, arith}
-use Rattle.std.specs.Option.{option_copied}
+use Rattle.sap_lemmas.proofs.Common.{Some, None, sym, ap, ◌∙◌, arith, option_copied}
 use Rattle.std.proofs.lemmas.Str.Pattern.{strip_prefix_char}
 use Rattle.sap_taint_pass.proofs.NameTexts.{not_behind_v, not_behind_line}
 use Rattle.sap_taint_pass.proofs.names.behind_v.Goals as goal

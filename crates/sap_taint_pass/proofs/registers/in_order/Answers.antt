@@ -1,6 +1,5 @@
 use Rattle.std.proofs.Common.{◌≡◌, ◌∙◌, ◌++◌, [], List, subst, arith}
-use Rattle.sap_maps.specs.Maps.{Name}
-use Rattle.sap_maps.specs.Scope.{find}
+use Rattle.sap_maps.specs.Prelude.{Name, find}
 use Rattle.sap_net.specs.declared.parts.Register.{Register}
 use Rattle.sap_taint_pass.specs.Tainted.{found_first}
 use Rattle.sap_taint_pass.proofs.Placed.{one_ordered}

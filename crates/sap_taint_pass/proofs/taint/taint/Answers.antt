@@ -1,6 +1,5 @@
 use Rattle.std.proofs.Common.{◌≡◌, ◌<◌, ◌^◌, ◌∙◌, length, sym, ap, subst, refl, arith}
-use Rattle.sap_lattice.specs.Codes.{width_of}
-use Rattle.sap_lattice.specs.Levels.{order_of}
+use Rattle.sap_lattice.specs.Prelude.{width_of, order_of}
 use Rattle.sap_net.specs.Net.{Net, net_of}
 use Rattle.sap_taint.specs.Carries.{CarriesTaint}
 use Rattle.sap_taint_pass.specs.Helping.{tainted}

@@ -1,5 +1,4 @@
-use Rattle.std.proofs.Common.{◌<◌, ◌+◌, Result, Ok, Err, length, arith}
-use Rattle.std.specs.Prelude.{OnErr, decimal, vec_capacity}
+use Rattle.sap_lemmas.proofs.Common.{◌<◌, ◌+◌, Result, Ok, Err, length, arith, OnErr, decimal, vec_capacity}
 use Rattle.sap_lemmas.proofs.Texts.{one_digit, one_digit_long}
 use Rattle.sap_text.proofs.digits.push_number.Goals as goal
 

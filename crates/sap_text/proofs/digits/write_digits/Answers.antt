@@ -1,7 +1,4 @@
-use Rattle.std.proofs.Common.{[], drop, ◌≡◌, ◌<◌, ◌+◌, ◌-◌, ◌^◌, refl, append_assoc, arith, lit<}
-use Rattle.std.specs.Prelude.{decimal}
-use Rattle.std.proofs.lemmas.Fmt.{length-decimal-le}
-use Rattle.std.proofs.lemmas.List.{append-nil, drop_all}
+use Rattle.sap_lemmas.proofs.Common.{[], drop, ◌≡◌, ◌<◌, ◌+◌, ◌-◌, ◌^◌, refl, append_assoc, arith, lit<, decimal, length-decimal-le, append-nil, drop_all}
 use Rattle.sap_text.proofs.PairsOfDigits.{last_two, two_longer}
 use Rattle.sap_text.proofs.digits.write_digits.Goals as goal
 

@@ -1,5 +1,4 @@
-use Rattle.std.proofs.Common.{◌≡◌, ◌≤◌, ◌<◌, ◌^◌, ◌++◌, drop, length}
-use Rattle.std.specs.Prelude.{decimal}
+use Rattle.sap_lemmas.proofs.Common.{◌≡◌, ◌≤◌, ◌<◌, ◌^◌, ◌++◌, drop, length, decimal}
 use Rattle.sap_text.proofs.digits.write_digits.Given as goal
 
 -- the digits that are left stand before those that are written, and there is room for them

@@ -1,5 +1,4 @@
-use Rattle.std.proofs.Common.{◌≡◌, ◌+◌, ◌-◌, arith}
-use Rattle.std.proofs.lemmas.Fmt.{decimal_digit}
+use Rattle.sap_lemmas.proofs.Common.{◌≡◌, ◌+◌, ◌-◌, arith, decimal_digit}
 use Rattle.std.proofs.lemmas.List.{drop-set}
 use Rattle.sap_lemmas.proofs.Texts.{one_digit_long}
 use Rattle.sap_text.proofs.PairsOfDigits.{two_digits, two_long}

@@ -1,5 +1,4 @@
-use Rattle.std.proofs.Common.{◌≡◌, ◌<◌, ◌^◌, drop}
-use Rattle.std.specs.Str.Parse.{digits_value_after}
+use Rattle.sap_lemmas.proofs.Common.{◌≡◌, ◌<◌, ◌^◌, drop, digits_value_after}
 use Rattle.sap_text.proofs.scan.number.Given as goal
 
 abbrev pub invariant-digits : goal.invariant-digits

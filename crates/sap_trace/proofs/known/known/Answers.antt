@@ -1,7 +1,5 @@
 use Rattle.std.proofs.Common.{◌<◌, length, subst, arith}
-use Rattle.sap_lattice.specs.Codes.{Codes}
-use Rattle.sap_lattice.specs.Levels.{Levels, order_of}
-use Rattle.sap_lattice.specs.Order.{Laws}
+use Rattle.sap_lattice.specs.Prelude.{Codes, Levels, order_of, Laws}
 use Rattle.sap_check.specs.Checked.{levels_in, tree_in}
 use Rattle.sap_resolved.specs.Fill.{program_of}
 use Rattle.sap_trace.proofs.known.known.Goals as goal

@@ -1,5 +1,4 @@
-use Rattle.std.proofs.Common.{◌≡◌, ◌≤◌, ◌*◌, ◌++◌, ℕ, Option}
-use Rattle.std.specs.Prelude.{vec_capacity}
+use Rattle.sap_lemmas.proofs.Common.{◌≡◌, ◌≤◌, ◌*◌, ◌++◌, ℕ, Option, vec_capacity}
 use Rattle.sap_maps.specs.Maps.{Valuation}
 use Rattle.sap_check.specs.Checked.{levels_in, tree_in}
 use Rattle.sap_cycle.specs.Running.{Shows, seen}

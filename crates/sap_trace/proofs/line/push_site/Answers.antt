@@ -1,5 +1,4 @@
-use Rattle.std.proofs.Common.{◌<◌, ◌+◌, ◌^◌, ℕ, length, arith}
-use Rattle.std.specs.Prelude.{vec_capacity}
+use Rattle.sap_lemmas.proofs.Common.{◌<◌, ◌+◌, ◌^◌, ℕ, length, arith, vec_capacity}
 use Rattle.sap_desk.proofs.Steps.{on_err}
 use Rattle.sap_check.specs.Checked.{levels_in, tree_in}
 use Rattle.sap_trace.specs.Lines.{site_line}

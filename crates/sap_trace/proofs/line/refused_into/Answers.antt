@@ -1,5 +1,4 @@
-use Rattle.std.proofs.Common.{◌≡◌, ◌<◌, ◌+◌, ◌*◌, ℕ, length, ap, arith}
-use Rattle.std.specs.Prelude.{vec_capacity}
+use Rattle.sap_lemmas.proofs.Common.{◌≡◌, ◌<◌, ◌+◌, ◌*◌, ℕ, length, ap, arith, vec_capacity}
 use Rattle.sap_check.specs.Checked.{levels_in, tree_in}
 use Rattle.sap_check.specs.Sites.{sites_of}
 use Rattle.sap_desk.specs.Row.{Row}

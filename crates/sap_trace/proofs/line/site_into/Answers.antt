@@ -1,5 +1,4 @@
-use Rattle.std.proofs.Common.{◌≡◌, ◌+◌, length, ap, arith}
-use Rattle.std.specs.Prelude.{vec_capacity}
+use Rattle.sap_lemmas.proofs.Common.{◌≡◌, ◌+◌, length, ap, arith, vec_capacity}
 use Rattle.sap_check.specs.Checked.{levels_in, tree_in}
 use Rattle.sap_sim.specs.Labelled.LabelledRows.{level_name}
 use Rattle.sap_stim.proofs.RowTexts.{ok_with_room}

@@ -1,7 +1,5 @@
-use Rattle.std.proofs.Common.{◌≤◌, ◌*◌, length, sym, ap, ◌∙◌, arith}
-use Rattle.std.proofs.lemmas.List.{take_all}
-use Rattle.sap_lattice.specs.Levels.{order_of}
-use Rattle.sap_lattice.specs.Codes.{code_of}
+use Rattle.sap_lemmas.proofs.Common.{◌≤◌, ◌*◌, length, sym, ap, ◌∙◌, arith, take_all}
+use Rattle.sap_lattice.specs.Prelude.{order_of, code_of}
 use Rattle.sap_meaning.specs.Cycle.{Tagged}
 use Rattle.sap_trace.specs.Given.{given}
 use Rattle.sap_trace.proofs.Given.{given_written, same_item}

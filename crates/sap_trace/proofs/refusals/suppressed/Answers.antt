@@ -1,7 +1,5 @@
 use Rattle.std.proofs.Common.{◌++◌, ℕ, List, Some, length, sym, ap, ◌∙◌, subst}
-use Rattle.sap_net.specs.Net.{Net}
-use Rattle.sap_net.specs.IsNetlist.{IsNetlist}
-use Rattle.sap_net.specs.Runs.{observed}
+use Rattle.sap_net.specs.Prelude.{Net, IsNetlist, observed}
 use Rattle.sap_check.specs.Checked.{levels_in, tree_in}
 use Rattle.sap_check.specs.Sites.{sites_of}
 use Rattle.sap_trace.specs.Seen.{AreReadable, AreWires, seen_lines}

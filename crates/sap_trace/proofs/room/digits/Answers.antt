@@ -1,5 +1,4 @@
-use Rattle.std.proofs.Common.{length, ap, ◌∙◌, arith}
-use Rattle.std.specs.Fmt.{decimal}
+use Rattle.sap_lemmas.proofs.Common.{length, ap, ◌∙◌, arith, decimal}
 use Rattle.sap_trace.proofs.Rooms.{few_digits}
 use Rattle.sap_trace.proofs.room.digits.Goals as goal
 

@@ -1,6 +1,6 @@
 use Rattle.std.proofs.Common.{◌≡◌, List, filter, length, sym, ap, ◌∙◌, arith}
-use Rattle.sap_net.specs.declared.parts.Wire.{Wire}
 use Rattle.sap_net.specs.Names.{is_among}
+use Rattle.sap_net.specs.declared.parts.Wire.{Wire}
 use Rattle.sap_share.specs.Sets.{holds}
 use Rattle.sap_fold.proofs.Lists.{filter_same}
 use Rattle.sap_trim.specs.Few.{calculated}

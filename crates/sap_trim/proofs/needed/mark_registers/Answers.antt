@@ -1,5 +1,4 @@
-use Rattle.std.proofs.Common.{◌≡◌, ◌∙◌, ◌+◌, ◌++◌, [], ◌∷◌, List, take, sym, ap, subst, arith}
-use Rattle.std.proofs.lemmas.List.{take_more}
+use Rattle.sap_lemmas.proofs.Common.{◌≡◌, ◌∙◌, ◌+◌, ◌++◌, [], ◌∷◌, List, take, sym, ap, subst, arith, take_more}
 use Rattle.sap_maps.specs.Maps.{Name}
 use Rattle.sap_trim.specs.Needed.{Marks}
 use Rattle.sap_trim.specs.Reads.{register_reads}

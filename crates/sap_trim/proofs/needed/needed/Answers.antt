@@ -1,9 +1,7 @@
-use Rattle.std.proofs.Common.{◌≡◌, ◌∙◌, ◌-◌, ◌++◌, [], List, Bool, length, set, sym, ap, subst, refl, arith}
+use Rattle.sap_lemmas.proofs.Common.{◌≡◌, ◌∙◌, ◌-◌, ◌++◌, [], List, Bool, length, set, sym, ap, subst, refl, arith, if◌then◌else◌}
 use Rattle.sap_maps.specs.Maps.{Name}
-use Rattle.std.specs.Prelude.{if◌then◌else◌}
-use Rattle.sap_net.specs.Names.{AreDistinct}
+use Rattle.sap_net.specs.Prelude.{AreDistinct, first_readable, names_of, shapes}
 use Rattle.sap_net.specs.declared.parts.Wire.{Wire}
-use Rattle.sap_net.specs.IsNetlist.{first_readable, names_of, shapes}
 use Rattle.sap_net.proofs.RulesLemmas.{wires_distinct}
 use Rattle.sap_trim.specs.Names.{port_names}
 use Rattle.sap_trim.specs.Needed.{Marks, is_marked}

@@ -1,6 +1,4 @@
-use Rattle.std.proofs.Common.{◌∙◌, List, take, drop, subst}
-use Rattle.std.proofs.lemmas.List.{take-append-drop}
-use Rattle.std.proofs.lemmas.Result.{IfOk-weaker}
+use Rattle.sap_lemmas.proofs.Common.{◌∙◌, List, take, drop, subst, take-append-drop, IfOk-weaker}
 use Rattle.sap_net.specs.declared.parts.Wire.{Wire}
 use Rattle.sap_maps.specs.Scope.{find}
 use Rattle.sap_trim.specs.Stays.{AllStay}

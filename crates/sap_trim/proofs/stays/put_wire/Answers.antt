@@ -1,5 +1,4 @@
-use Rattle.std.proofs.Common.{[], ◌∷◌, ◌∙◌, sym}
-use Rattle.std.proofs.lemmas.Result.{on_ok_weaker}
+use Rattle.sap_lemmas.proofs.Common.{[], ◌∷◌, ◌∙◌, sym, on_ok_weaker}
 use Rattle.sap_maps.specs.Scope.{find}
 use Rattle.sap_trim.proofs.Staying.{wire_stays, all_stay_more}
 use Rattle.sap_trim.proofs.stays.put_wire.Goals as goal

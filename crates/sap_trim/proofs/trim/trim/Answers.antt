@@ -1,5 +1,4 @@
-use Rattle.std.proofs.Common.{sym, subst, arith}
-use Rattle.std.proofs.lemmas.Result.{IfOk-weaker}
+use Rattle.sap_lemmas.proofs.Common.{sym, subst, arith, IfOk-weaker}
 use Rattle.sap_trim.specs.Needed.{MarksNeeded}
 use Rattle.sap_trim.proofs.Compose.{declares_both, lasting_same, runs_both, shown_same}
 use Rattle.sap_trim.proofs.Few.{left_most}

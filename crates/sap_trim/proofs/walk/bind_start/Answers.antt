@@ -1,5 +1,4 @@
-use Rattle.std.proofs.Common.{refl, inl}
-use Rattle.std.proofs.lemmas.Result.{on_ok_weaker}
+use Rattle.sap_lemmas.proofs.Common.{refl, inl, on_ok_weaker}
 use Rattle.sap_maps.specs.Scope.{find}
 use Rattle.sap_trim.proofs.Loops.{start_bound}
 use Rattle.sap_trim.proofs.walk.bind_start.Goals as goal

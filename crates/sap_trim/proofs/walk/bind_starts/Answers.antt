@@ -1,5 +1,4 @@
-use Rattle.std.proofs.Common.{◌≡◌, ◌∙◌, ◌+◌, ◌++◌, [], ◌∷◌, List, take, sym, ap, subst, refl, inl, arith}
-use Rattle.std.proofs.lemmas.List.{take_more, take_all}
+use Rattle.sap_lemmas.proofs.Common.{◌≡◌, ◌∙◌, ◌+◌, ◌++◌, [], ◌∷◌, List, take, sym, ap, subst, refl, inl, arith, take_more, take_all}
 use Rattle.sap_net.specs.declared.parts.Register.{Register}
 use Rattle.sap_maps.specs.Scope.{find}
 use Rattle.sap_trim.specs.Walked.{Starts}

@@ -1,7 +1,6 @@
 use Rattle.std.proofs.Common.{List, take}
-use Rattle.sap_maps.specs.Maps.{Name}
+use Rattle.sap_maps.specs.Prelude.{Name, find}
 use Rattle.sap_net.specs.declared.parts.Wire.{Wire}
-use Rattle.sap_maps.specs.Scope.{find}
 use Rattle.sap_trim.specs.Stays.{AllStay}
 use Rattle.sap_trim.specs.Walked.{Starts}
 use Rattle.sap_trim.proofs.walk.bind_starts.Given as goal

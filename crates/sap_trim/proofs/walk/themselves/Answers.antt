@@ -1,5 +1,4 @@
-use Rattle.std.proofs.Common.{rules}
-use Rattle.std.proofs.lemmas.List.{map-append}
+use Rattle.sap_lemmas.proofs.Common.{rules, map-append}
 use Rattle.sap_net.specs.IsNetlist.{input_names, register_names}
 use Rattle.sap_trim.specs.Walked.{itself}
 use Rattle.sap_trim.proofs.walk.themselves.Goals as goal

@@ -1,6 +1,4 @@
-use Rattle.std.proofs.Common.{◌≡◌, ℕ, take, true, subst, sym}
-use Rattle.std.specs.List.{list_all}
-use Rattle.sap_lemmas.proofs.Everywhere.{run_passes}
+use Rattle.sap_lemmas.proofs.Common.{◌≡◌, ℕ, take, true, subst, sym, list_all, run_passes}
 use Rattle.sap_text.specs.Names.{is_inner}
 use Rattle.sap_vlex.proofs.lexeme.name.Goals as goal
 

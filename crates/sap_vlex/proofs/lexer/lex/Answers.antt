@@ -1,5 +1,4 @@
-use Rattle.std.proofs.Common.{◌≡◌, ◌-◌, ◌∙◌, ◌+◌, ◌<◌, ◌++◌, ◌∷◌, [], ℕ, List, sym, ap, subst, arith, length-drop, length, take, drop, append_assoc}
-use Rattle.std.proofs.lemmas.List.{drop-drop, drop_all, map-append, append-nil, take_rest}
+use Rattle.sap_lemmas.proofs.Common.{◌≡◌, ◌-◌, ◌∙◌, ◌+◌, ◌<◌, ◌++◌, ◌∷◌, [], ℕ, List, sym, ap, subst, arith, length-drop, length, take, drop, append_assoc, drop-drop, drop_all, map-append, append-nil, take_rest}
 use Rattle.sap_vtext.specs.Lexing.{Lexed, end, blank_first, token_first, front}
 use Rattle.sap_vtext.specs.Lexing as l
 use Rattle.sap_vtext.specs.Tokens as t

@@ -1,5 +1,4 @@
-use Rattle.std.proofs.Common.{◌∙◌, ◌∷◌, [], List, refl, subst, arith, rules}
-use Rattle.std.proofs.lemmas.List.{append-nil}
+use Rattle.sap_lemmas.proofs.Common.{◌∙◌, ◌∷◌, [], List, refl, subst, arith, rules, append-nil}
 use Rattle.sap_vtext.specs.Grammar as g
 use Rattle.sap_vtext.specs.Grammar.{ArePorts}
 use Rattle.sap_vtext.specs.Items as item

@@ -1,5 +1,4 @@
-use Rattle.std.proofs.Common.{◌∙◌, ◌++◌, ◌∷◌, [], refl, sym, ap, arith, rules}
-use Rattle.std.proofs.lemmas.List.{append-nil}
+use Rattle.sap_lemmas.proofs.Common.{◌∙◌, ◌++◌, ◌∷◌, [], refl, sym, ap, arith, rules, append-nil}
 use Rattle.sap_vtext.specs.Grammar as g
 use Rattle.sap_vtext.specs.Tokens as t
 use Rattle.sap_vparse.specs.Table as s

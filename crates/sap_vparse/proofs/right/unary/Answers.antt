@@ -1,5 +1,4 @@
-use Rattle.std.proofs.Common.{subst}
-use Rattle.std.specs.Prelude.{IfOk}
+use Rattle.sap_lemmas.proofs.Common.{subst, IfOk}
 use Rattle.sap_vtext.specs.Grammar as g
 use Rattle.sap_vparse.specs.Reading.{Goes}
 use Rattle.sap_vparse.specs.Table as s

@@ -1,6 +1,4 @@
-use Rattle.std.proofs.Common.{◌++◌, ap, ◌∙◌}
-use Rattle.std.specs.Prelude.{codes}
-use Rattle.sap_lemmas.proofs.Lists.{joined_on_last}
+use Rattle.sap_lemmas.proofs.Common.{◌++◌, ap, ◌∙◌, codes, joined_on_last}
 use Rattle.sap_vprint.specs.Text.{text_of, head_pieces}
 use Rattle.sap_vprint.proofs.Texts.{begin_grows}
 use Rattle.sap_vprint.proofs.head.begin.Goals as goal

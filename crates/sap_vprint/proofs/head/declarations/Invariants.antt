@@ -1,5 +1,4 @@
-use Rattle.std.proofs.Common.{◌≡◌, ◌++◌, take}
-use Rattle.std.specs.Prelude.{flat_map}
+use Rattle.sap_lemmas.proofs.Common.{◌≡◌, ◌++◌, take, flat_map}
 use Rattle.sap_maps.specs.Scope.{find}
 use Rattle.sap_vprint.specs.Printed.{entities, declared_items}
 use Rattle.sap_vprint.specs.Text.{items_text}

@@ -1,5 +1,4 @@
-use Rattle.std.proofs.Common.{◌++◌, ap, ◌∙◌}
-use Rattle.sap_lemmas.proofs.Lists.{joined_on_last}
+use Rattle.sap_lemmas.proofs.Common.{◌++◌, ap, ◌∙◌, joined_on_last}
 use Rattle.sap_vprint.specs.Printed.{port_of}
 use Rattle.sap_vprint.specs.Text.{port_text}
 use Rattle.sap_vprint.proofs.Texts.{port_grows}

@@ -1,5 +1,4 @@
-use Rattle.std.proofs.Common.{◌≡◌, ◌++◌, take}
-use Rattle.std.specs.Prelude.{flat_map}
+use Rattle.sap_lemmas.proofs.Common.{◌≡◌, ◌++◌, take, flat_map}
 use Rattle.sap_vprint.specs.Printed.{assign_of}
 use Rattle.sap_vprint.specs.Text.{item_text}
 use Rattle.sap_vprint.proofs.lines.assigns.Given as goal

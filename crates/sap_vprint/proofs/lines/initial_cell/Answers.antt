@@ -1,5 +1,4 @@
-use Rattle.std.proofs.Common.{◌++◌, ap, ◌∙◌, [], ◌∷◌}
-use Rattle.sap_lemmas.proofs.Lists.{joined_on_last}
+use Rattle.sap_lemmas.proofs.Common.{◌++◌, ap, ◌∙◌, [], ◌∷◌, joined_on_last}
 use Rattle.sap_vprint.specs.Printed.{initial_cells_of}
 use Rattle.sap_vprint.specs.Text.{item_text}
 use Rattle.sap_vprint.proofs.Texts.{cells_grow}

@@ -1,6 +1,4 @@
-use Rattle.std.proofs.Common.{◌++◌, ap, ◌∙◌}
-use Rattle.std.specs.Prelude.{codes, decimal}
-use Rattle.sap_lemmas.proofs.Lists.{joined_on_last}
+use Rattle.sap_lemmas.proofs.Common.{◌++◌, ap, ◌∙◌, codes, decimal, joined_on_last}
 use Rattle.sap_vprint.specs.Text.{loop_text}
 use Rattle.sap_vprint.proofs.Texts.{loop_grows}
 use Rattle.sap_vprint.proofs.lines.loop_head.Goals as goal

@@ -1,5 +1,4 @@
-use Rattle.std.proofs.Common.{◌++◌, [], ◌∷◌}
-use Rattle.sap_lemmas.proofs.Lists.{joined_on_last}
+use Rattle.sap_lemmas.proofs.Common.{◌++◌, [], ◌∷◌, joined_on_last}
 use Rattle.sap_vprint.specs.Printed.{always_cell_of}
 use Rattle.sap_vprint.specs.Text.{item_text}
 use Rattle.sap_vprint.proofs.Texts.{write_grows}

@@ -1,6 +1,5 @@
 use Rattle.std.proofs.Common.{◌≡◌, false}
-use Rattle.sap_net.specs.Names.{is_among}
-use Rattle.sap_net.specs.IsNetlist.{input_names}
+use Rattle.sap_net.specs.Prelude.{is_among, input_names}
 use Rattle.sap_net.specs.declared.parts.Input.{Input}
 use Rattle.sap_vprint.proofs.LookedUp.{if_none, not_listed_in, input_at}
 use Rattle.sap_vprint.proofs.lookup.input.Goals as goal

@@ -1,6 +1,5 @@
 use Rattle.std.proofs.Common.{◌≡◌, false, Some, ap, sym, ◌∙◌}
-use Rattle.sap_net.specs.Names.{is_among}
-use Rattle.sap_net.specs.IsNetlist.{memory_names}
+use Rattle.sap_net.specs.Prelude.{is_among, memory_names}
 use Rattle.sap_net.specs.declared.parts.Memory.{Memory}
 use Rattle.sap_vtext.specs.Names.{memory}
 use Rattle.sap_vprint.proofs.LookedUp.{if_none, not_listed_in, memory_at}

@@ -1,5 +1,4 @@
-use Rattle.std.proofs.Common.{◌≡◌, ◌<◌, ◌≤◌, ℕ}
-use Rattle.std.specs.Prelude.{slice_index_or}
+use Rattle.sap_lemmas.proofs.Common.{◌≡◌, ◌<◌, ◌≤◌, ℕ, slice_index_or}
 use Rattle.sap_vprint.proofs.lookup.position_within.Given as goal
 
 abbrev pub invariant-loop-i : goal.invariant-loop-i

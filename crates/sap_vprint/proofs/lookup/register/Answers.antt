@@ -1,6 +1,5 @@
 use Rattle.std.proofs.Common.{◌≡◌, false}
-use Rattle.sap_net.specs.Names.{is_among}
-use Rattle.sap_net.specs.IsNetlist.{register_names}
+use Rattle.sap_net.specs.Prelude.{is_among, register_names}
 use Rattle.sap_net.specs.declared.parts.Register.{Register}
 use Rattle.sap_vprint.proofs.LookedUp.{if_none, not_listed_in, register_at}
 use Rattle.sap_vprint.proofs.lookup.register.Goals as goal

@@ -1,6 +1,5 @@
 use Rattle.std.proofs.Common.{◌≡◌, false}
-use Rattle.sap_net.specs.Names.{is_among}
-use Rattle.sap_net.specs.IsNetlist.{wire_names}
+use Rattle.sap_net.specs.Prelude.{is_among, wire_names}
 use Rattle.sap_net.specs.declared.parts.Wire.{Wire}
 use Rattle.sap_vprint.proofs.LookedUp.{if_none, not_listed_in, wire_at}
 use Rattle.sap_vprint.proofs.lookup.wire.Goals as goal

@@ -1,5 +1,4 @@
-use Rattle.std.proofs.Common.{◌≡◌, ◌++◌, take}
-use Rattle.std.specs.Prelude.{flat_map}
+use Rattle.sap_lemmas.proofs.Common.{◌≡◌, ◌++◌, take, flat_map}
 use Rattle.sap_vprint.specs.Printed.{operand_of}
 use Rattle.sap_vprint.specs.Text.{text_of, part_pieces}
 use Rattle.sap_vprint.proofs.words.more_parts.Given as goal

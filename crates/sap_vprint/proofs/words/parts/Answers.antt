@@ -1,8 +1,6 @@
-use Rattle.std.proofs.Common.{◌≡◌, ◌++◌}
-use Rattle.std.specs.Prelude.{map, flat_map}
+use Rattle.sap_lemmas.proofs.Common.{◌≡◌, ◌++◌, map, flat_map, on_ok}
 use Rattle.sap_vprint.specs.Printed.{operand_of}
 use Rattle.sap_vprint.specs.Text.{text_of, part_pieces, parts_pieces}
-use Rattle.sap_lemmas.proofs.Options.{on_ok}
 use Rattle.sap_vprint.proofs.Texts.{parts_grow}
 use Rattle.sap_vprint.proofs.words.parts.Goals as goal
 

@@ -1,6 +1,5 @@
-use Rattle.std.proofs.Common.{sym, ap, take, ◌∙◌}
+use Rattle.sap_lemmas.proofs.Common.{sym, ap, take, ◌∙◌, take_all}
 use Rattle.sap_text.specs.Places.{first_place, place_after, place_at}
-use Rattle.std.proofs.lemmas.List.{take_all}
 use Rattle.sap_vread.proofs.place.place_at.Goals as goal
 
 pub returns-then-n-text : goal.returns-then-n-text

@@ -1,10 +1,5 @@
-use Rattle.std.proofs.Common.{sym, ap, ◌∙◌, arith}
-use Rattle.std.proofs.lemmas.Bool.{and_parts}
-use Rattle.sap_wave.specs.Digits.{are_digits}
-use Rattle.sap_wave.specs.Lines.{is_id}
-use Rattle.sap_wave.specs.Reading.{in_block}
-use Rattle.sap_wave.specs.Steps.{open_of}
-use Rattle.sap_wave.specs.Numbers.{now_of}
+use Rattle.sap_lemmas.proofs.Common.{sym, ap, ◌∙◌, arith, and_parts}
+use Rattle.sap_wave.specs.Prelude.{are_digits, is_id, in_block, open_of, now_of}
 use Rattle.sap_wave.proofs.Reached.{changes_so, few_digits, idle_so, number_so}
 use Rattle.sap_wave.proofs.Sounding.{one_each}
 use Rattle.sap_wave.proofs.Stepping.{idle, misplaced, well_placed}

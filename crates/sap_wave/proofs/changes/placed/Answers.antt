@@ -1,9 +1,6 @@
-use Rattle.std.proofs.Common.{ap, sym, ◌∙◌}
-use Rattle.std.proofs.lemmas.List.{get_or_default}
+use Rattle.sap_lemmas.proofs.Common.{ap, sym, ◌∙◌, get_or_default}
 use Rattle.sap_wave.specs.declared.variable.Variable.{Variable}
-use Rattle.sap_wave.specs.Reading.{nothing}
-use Rattle.sap_wave.specs.Faults.{unknown}
-use Rattle.sap_wave.specs.Steps.{open_of}
+use Rattle.sap_wave.specs.Prelude.{nothing, unknown, open_of}
 use Rattle.sap_wave.proofs.Reached.{other_digits, too_early}
 use Rattle.sap_wave.proofs.Spelled.{on_none}
 use Rattle.sap_wave.proofs.Stepping.{unidentified}

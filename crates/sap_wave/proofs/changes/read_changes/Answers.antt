@@ -1,6 +1,5 @@
 use Rattle.std.proofs.Common.{arith}
-use Rattle.sap_wave.specs.Lines.{change, form_text}
-use Rattle.sap_wave.specs.Steps.{open_of}
+use Rattle.sap_wave.specs.Prelude.{change, form_text, open_of}
 use Rattle.sap_wave.proofs.ChangesRead.{change_goes, change_sound, change_stops}
 use Rattle.sap_wave.proofs.ReadUpTo.{shorter}
 use Rattle.sap_wave.proofs.changes.read_changes.Goals as goal

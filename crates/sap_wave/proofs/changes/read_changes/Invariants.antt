@@ -1,8 +1,5 @@
 use Rattle.std.proofs.Common.{ℕ, ◌+◌, ◌≤◌, List, length}
-use Rattle.sap_wave.specs.Reading.{in_block}
-use Rattle.sap_wave.specs.Read.{ReadUpTo}
-use Rattle.sap_wave.specs.Sound.{IsSound}
-use Rattle.sap_wave.specs.Steps.{open_of}
+use Rattle.sap_wave.specs.Prelude.{in_block, ReadUpTo, IsSound, open_of}
 use Rattle.sap_wave.proofs.changes.read_changes.Given as goal
 
 abbrev pub invariant-changes : goal.invariant-changes

@@ -1,5 +1,4 @@
-use Rattle.std.proofs.Common.{◌≡◌, ◌<◌, ◌+◌, ◌/◌, length, length-append, refl, ap, ◌∙◌, arith}
-use Rattle.std.specs.Prelude.{vec_capacity}
+use Rattle.sap_lemmas.proofs.Common.{◌≡◌, ◌<◌, ◌+◌, ◌/◌, length, length-append, refl, ap, ◌∙◌, arith, vec_capacity}
 use Rattle.sap_desk.proofs.Steps.{on_err}
 use Rattle.sap_wave.specs.Digits.{identifier}
 use Rattle.sap_wave.proofs.Written.{identifier_grows, identifier_longer}

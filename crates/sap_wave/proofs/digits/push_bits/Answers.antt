@@ -1,5 +1,4 @@
-use Rattle.std.proofs.Common.{◌<◌, ◌+◌, ◌++◌, ℕ, List, length, sym, ap, ◌∙◌, arith}
-use Rattle.std.specs.Prelude.{vec_capacity}
+use Rattle.sap_lemmas.proofs.Common.{◌<◌, ◌+◌, ◌++◌, ℕ, List, length, sym, ap, ◌∙◌, arith, vec_capacity}
 use Rattle.sap_desk.proofs.Steps.{on_err}
 use Rattle.sap_wave.specs.Digits.{bits}
 use Rattle.sap_wave.proofs.DigitsLemmas.{bits_read_back}

@@ -1,5 +1,4 @@
-use Rattle.std.proofs.Common.{◌≡◌, arith}
-use Rattle.std.specs.Fmt.{decimal}
+use Rattle.sap_lemmas.proofs.Common.{◌≡◌, arith, decimal}
 use Rattle.sap_wave.specs.Digits.{numeral}
 use Rattle.sap_wave.proofs.Formed.{numeral_is_decimal}
 use Rattle.sap_wave.proofs.digits.push_numeral.Goals as goal

@@ -1,5 +1,4 @@
-use Rattle.std.proofs.Common.{[], ◌≡◌, drop, refl, arith}
-use Rattle.std.proofs.lemmas.List.{append-nil, drop_all}
+use Rattle.sap_lemmas.proofs.Common.{[], ◌≡◌, drop, refl, arith, append-nil, drop_all}
 use Rattle.sap_wave.specs.Digits.{digits_of}
 use Rattle.sap_wave.proofs.Quads.{bits_behind, four_more}
 use Rattle.sap_wave.proofs.digits.write_bits.Goals as goal

@@ -1,7 +1,5 @@
-use Rattle.std.proofs.Common.{◌≡◌, ◌+◌, length, ap, ◌∙◌, arith}
-use Rattle.std.specs.Prelude.{vec_capacity}
-use Rattle.sap_wave.specs.Lines.{text_of}
-use Rattle.sap_wave.specs.Dumps.{block_of}
+use Rattle.sap_lemmas.proofs.Common.{◌≡◌, ◌+◌, length, ap, ◌∙◌, arith, vec_capacity}
+use Rattle.sap_wave.specs.Prelude.{text_of, block_of}
 use Rattle.sap_wave.proofs.Rooms.{block_fits, ok_with_room}
 use Rattle.sap_wave.proofs.dumper.fill_block.Goals as goal
 

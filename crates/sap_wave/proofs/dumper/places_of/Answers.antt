@@ -1,7 +1,5 @@
 use Rattle.std.proofs.Common.{◌≡◌, true, subst, sym}
-use Rattle.sap_net.specs.Net.{Net}
-use Rattle.sap_net.specs.Names.{is_among}
-use Rattle.sap_net.specs.IsNetlist.{IsNetlist, register_names}
+use Rattle.sap_net.specs.Prelude.{Net, is_among, IsNetlist, register_names}
 use Rattle.sap_wave.specs.declared.variable.Variable.{Variable}
 use Rattle.sap_wave.proofs.Placed.{stand_more}
 use Rattle.sap_wave.proofs.Seen.{variable_is_register}

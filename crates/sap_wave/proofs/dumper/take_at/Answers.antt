@@ -1,6 +1,4 @@
-use Rattle.std.proofs.Common.{[], map, get_or, refl, sym, ap, ◌∙◌, arith}
-use Rattle.std.proofs.lemmas.List.{take_all}
-use Rattle.std.proofs.lemmas.Option.{slice_get_within}
+use Rattle.sap_lemmas.proofs.Common.{[], map, get_or, refl, sym, ap, ◌∙◌, arith, take_all, slice_get_within}
 use Rattle.sap_cycle.specs.Running.{seen, value_names}
 use Rattle.sap_wave.specs.declared.variable.Variable.{Variable}
 use Rattle.sap_wave.specs.Runs.{variables_of}

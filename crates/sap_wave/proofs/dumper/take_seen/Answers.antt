@@ -1,7 +1,5 @@
-use Rattle.std.proofs.Common.{sym, ap, map, ◌∙◌, subst, arith}
-use Rattle.std.proofs.lemmas.List.{take_all}
-use Rattle.sap_net.specs.Net.{Net}
-use Rattle.sap_net.specs.IsNetlist.{IsNetlist}
+use Rattle.sap_lemmas.proofs.Common.{sym, ap, map, ◌∙◌, subst, arith, take_all}
+use Rattle.sap_net.specs.Prelude.{Net, IsNetlist}
 use Rattle.sap_cycle.specs.Running.{seen}
 use Rattle.sap_wave.specs.declared.variable.Variable.{Variable}
 use Rattle.sap_wave.proofs.Seen.{variable_is_register}

@@ -1,5 +1,4 @@
-use Rattle.std.proofs.Common.{◌≡◌, ◌-◌, ◌≤◌, true, length, take}
-use Rattle.std.specs.List.{list_all}
+use Rattle.sap_lemmas.proofs.Common.{◌≡◌, ◌-◌, ◌≤◌, true, length, take, list_all}
 use Rattle.sap_wave.specs.Digits.{is_digit, spelled}
 use Rattle.sap_wave.proofs.eights.eights_at.Given as goal
 

@@ -1,9 +1,7 @@
 use Rattle.std.proofs.Common.{◌≡◌, ℕ, List, ap, rules, subst, sym, ◌∙◌}
 use Rattle.sap_wave.specs.declared.fault.WaveFault.{WaveFault}
 use Rattle.sap_wave.specs.declared.variable.Variable.{Variable}
-use Rattle.sap_wave.specs.Read.{IsWaveFault, ReadUpTo}
-use Rattle.sap_wave.specs.Reading.{in_block}
-use Rattle.sap_wave.specs.Steps.{open_of, state_of}
+use Rattle.sap_wave.specs.Prelude.{IsWaveFault, ReadUpTo, in_block, open_of, state_of}
 use Rattle.sap_wave.proofs.ReadUpTo.{err_so}
 use Rattle.sap_wave.proofs.reading.behind_changes.Goals as goal
 

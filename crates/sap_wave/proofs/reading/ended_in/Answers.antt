@@ -1,6 +1,5 @@
 use Rattle.std.proofs.Common.{List, ℕ, ap, ◌∙◌}
-use Rattle.sap_wave.specs.Waves.{Wave}
-use Rattle.sap_wave.specs.Steps.{open_of}
+use Rattle.sap_wave.specs.Prelude.{Wave, open_of}
 use Rattle.sap_wave.proofs.Reached.{ended_so}
 use Rattle.sap_wave.proofs.reading.ended_in.Goals as goal
 

@@ -1,10 +1,6 @@
-use Rattle.std.proofs.Common.{subst, sym}
-use Rattle.std.specs.Prelude.{IfErr, IfOk}
+use Rattle.sap_lemmas.proofs.Common.{subst, sym, IfErr, IfOk}
 use Rattle.sap_wave.specs.declared.state.State.{State as Held}
-use Rattle.sap_wave.specs.Read.{IsFaultAt}
-use Rattle.sap_wave.specs.Reading.{Ends}
-use Rattle.sap_wave.specs.Faults.{StandsAtEnd}
-use Rattle.sap_wave.specs.Steps.{state_of}
+use Rattle.sap_wave.specs.Prelude.{IsFaultAt, Ends, StandsAtEnd, state_of}
 use Rattle.sap_wave.proofs.reading.ending.Goals as goal
 
 pub returns-in-InBlock-clause-reading : goal.returns-in-InBlock-clause-reading

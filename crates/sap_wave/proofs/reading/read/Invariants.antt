@@ -1,6 +1,5 @@
 use Rattle.std.proofs.Common.{◌≤◌, ◌+◌, length}
-use Rattle.sap_wave.specs.Steps.{IsIndexed, state_of}
-use Rattle.sap_wave.specs.Read.{ReadUpTo}
+use Rattle.sap_wave.specs.Prelude.{IsIndexed, state_of, ReadUpTo}
 use Rattle.sap_wave.proofs.reading.read.Given as goal
 
 abbrev pub invariant-lines : goal.invariant-lines

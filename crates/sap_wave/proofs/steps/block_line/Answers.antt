@@ -1,7 +1,5 @@
 use Rattle.std.proofs.Common.{refl}
-use Rattle.sap_wave.specs.Lines.{block}
-use Rattle.sap_wave.specs.Reading.{in_block}
-use Rattle.sap_wave.specs.Steps.{open_of}
+use Rattle.sap_wave.specs.Prelude.{block, in_block, open_of}
 use Rattle.sap_wave.proofs.Stepping.{form_read, not_in_block, refused}
 use Rattle.sap_wave.proofs.steps.block_line.Goals as goal
 

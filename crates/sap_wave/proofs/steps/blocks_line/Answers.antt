@@ -1,6 +1,5 @@
 use Rattle.std.proofs.Common.{refl}
-use Rattle.sap_wave.specs.Lines.{block}
-use Rattle.sap_wave.specs.Reading.{before_blocks}
+use Rattle.sap_wave.specs.Prelude.{block, before_blocks}
 use Rattle.sap_wave.proofs.Stepping.{form_read, not_first_block, refused}
 use Rattle.sap_wave.proofs.steps.blocks_line.Goals as goal
 

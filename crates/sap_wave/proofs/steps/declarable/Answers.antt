@@ -1,7 +1,5 @@
 use Rattle.std.proofs.Common.{length, sym}
-use Rattle.sap_wave.specs.Digits.{identifier}
-use Rattle.sap_wave.specs.Waves.{names_of}
-use Rattle.sap_wave.specs.Faults.{other_id, no_name, again}
+use Rattle.sap_wave.specs.Prelude.{identifier, names_of, other_id, no_name, again}
 use Rattle.sap_wave.proofs.Reached.{no_width_there, width_there}
 use Rattle.sap_wave.proofs.Stepping.{differ}
 use Rattle.sap_wave.proofs.steps.declarable.Goals as goal

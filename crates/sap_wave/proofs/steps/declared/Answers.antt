@@ -1,11 +1,7 @@
-use Rattle.std.proofs.Common.{List, subst, sym}
-use Rattle.std.proofs.lemmas.Bool.{and_parts}
+use Rattle.sap_lemmas.proofs.Common.{List, subst, sym, and_parts}
 use Rattle.sap_net.specs.NameMaps.{Indexes}
 use Rattle.sap_wave.specs.declared.variable.Variable.{Variable}
-use Rattle.sap_wave.specs.Lines.{is_id, is_number, is_piece}
-use Rattle.sap_wave.specs.Waves.{names_of}
-use Rattle.sap_wave.specs.Reading.{IsVariable}
-use Rattle.sap_wave.specs.Faults.{Misdeclared}
+use Rattle.sap_wave.specs.Prelude.{is_id, is_number, is_piece, names_of, IsVariable, Misdeclared}
 use Rattle.sap_wave.proofs.Reached.{declared_so}
 use Rattle.sap_wave.proofs.Stepping.{misdeclared}
 use Rattle.sap_wave.proofs.steps.declared.Goals as goal

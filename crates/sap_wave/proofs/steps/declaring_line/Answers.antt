@@ -1,7 +1,5 @@
-use Rattle.std.proofs.Common.{refl, sym, ◌∙◌}
-use Rattle.sap_lemmas.proofs.Texts.{equal_of_bytes_eq}
-use Rattle.sap_wave.specs.Lines.{upscope, variable, form_text}
-use Rattle.sap_wave.specs.Reading.{declaring}
+use Rattle.sap_lemmas.proofs.Common.{refl, sym, ◌∙◌, equal_of_bytes_eq}
+use Rattle.sap_wave.specs.Prelude.{upscope, variable, form_text, declaring}
 use Rattle.sap_wave.proofs.Stepping.{differ, form_read, not_declaring, refused, taken}
 use Rattle.sap_wave.proofs.steps.declaring_line.Goals as goal
 

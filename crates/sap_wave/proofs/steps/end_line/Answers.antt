@@ -1,7 +1,5 @@
-use Rattle.std.proofs.Common.{refl, sym, ◌∙◌}
-use Rattle.sap_lemmas.proofs.Texts.{equal_of_bytes_eq}
-use Rattle.sap_wave.specs.Lines.{end_definitions, form_text}
-use Rattle.sap_wave.specs.Reading.{before_end}
+use Rattle.sap_lemmas.proofs.Common.{refl, sym, ◌∙◌, equal_of_bytes_eq}
+use Rattle.sap_wave.specs.Prelude.{end_definitions, form_text, before_end}
 use Rattle.sap_wave.proofs.Stepping.{differ, not_end, refused, taken}
 use Rattle.sap_wave.proofs.steps.end_line.Goals as goal
 

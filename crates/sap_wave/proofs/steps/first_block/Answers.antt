@@ -1,6 +1,4 @@
-use Rattle.std.proofs.Common.{ℕ, Option, None, replicate, sym, ap, ◌∙◌}
-use Rattle.std.specs.Str.Parse.{digits_value}
-use Rattle.sap_lemmas.proofs.Numbers.{equal_of_test}
+use Rattle.sap_lemmas.proofs.Common.{ℕ, Option, None, replicate, sym, ap, ◌∙◌, digits_value, equal_of_test}
 use Rattle.sap_wave.proofs.Reached.{first_so}
 use Rattle.sap_wave.proofs.steps.first_block.Goals as goal
 

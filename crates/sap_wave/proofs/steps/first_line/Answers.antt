@@ -1,7 +1,5 @@
-use Rattle.std.proofs.Common.{refl, sym, ◌∙◌}
-use Rattle.sap_lemmas.proofs.Texts.{equal_of_bytes_eq}
-use Rattle.sap_wave.specs.Lines.{timescale, form_text}
-use Rattle.sap_wave.specs.Reading.{before_timescale}
+use Rattle.sap_lemmas.proofs.Common.{refl, sym, ◌∙◌, equal_of_bytes_eq}
+use Rattle.sap_wave.specs.Prelude.{timescale, form_text, before_timescale}
 use Rattle.sap_wave.proofs.Stepping.{differ, not_timescale, refused, taken}
 use Rattle.sap_wave.proofs.steps.first_line.Goals as goal
 

@@ -1,6 +1,5 @@
 use Rattle.std.proofs.Common.{ap, sym, ◌∙◌}
-use Rattle.sap_wave.specs.Reading.{is_full}
-use Rattle.sap_wave.specs.Numbers.{now_of}
+use Rattle.sap_wave.specs.Prelude.{is_full, now_of}
 use Rattle.sap_wave.proofs.Moves.{all_there}
 use Rattle.sap_wave.proofs.steps.is_full.Goals as goal
 

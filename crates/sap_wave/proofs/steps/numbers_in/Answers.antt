@@ -1,6 +1,5 @@
 use Rattle.std.proofs.Common.{ap, sym, ◌∙◌}
-use Rattle.sap_wave.specs.Reading.{numbers_in}
-use Rattle.sap_wave.specs.Numbers.{now_of}
+use Rattle.sap_wave.specs.Prelude.{numbers_in, now_of}
 use Rattle.sap_wave.proofs.Moves.{all_numbers}
 use Rattle.sap_wave.proofs.steps.numbers_in.Goals as goal
 

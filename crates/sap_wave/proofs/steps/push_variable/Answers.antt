@@ -1,6 +1,4 @@
-use Rattle.std.proofs.Common.{sym, ◌∙◌}
-use Rattle.std.proofs.lemmas.Bool.{and_parts}
-use Rattle.sap_lemmas.proofs.Lists.{length_map}
+use Rattle.sap_lemmas.proofs.Common.{sym, ◌∙◌, and_parts, length_map}
 use Rattle.sap_text.specs.Names.{is_word}
 use Rattle.sap_text.proofs.NamesLemmas.{word_inner}
 use Rattle.sap_net.specs.Names.{is_name}

@@ -1,7 +1,6 @@
 use Rattle.std.proofs.Common.{subst, sym}
 use Rattle.sap_wave.specs.declared.state.State.{State as Held}
-use Rattle.sap_wave.specs.Changes.{IsOtherIn}
-use Rattle.sap_wave.specs.Steps.{IsIndexed, LineRead, state_of}
+use Rattle.sap_wave.specs.Prelude.{IsOtherIn, IsIndexed, LineRead, state_of}
 use Rattle.sap_wave.proofs.steps.read_line.Goals as goal
 
 pub returns-in-BeforeTimescale : goal.returns-in-BeforeTimescale

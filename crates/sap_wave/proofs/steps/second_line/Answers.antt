@@ -1,11 +1,7 @@
-use Rattle.std.proofs.Common.{List, refl, sym, subst, ◌∙◌}
-use Rattle.sap_lemmas.proofs.Texts.{equal_of_bytes_eq}
+use Rattle.sap_lemmas.proofs.Common.{List, refl, sym, subst, ◌∙◌, equal_of_bytes_eq}
 use Rattle.sap_net.specs.NameMaps.{Indexes}
 use Rattle.sap_wave.specs.declared.variable.Variable.{Variable}
-use Rattle.sap_wave.specs.Lines.{ended, scope, form_text}
-use Rattle.sap_wave.specs.Waves.{names_of}
-use Rattle.sap_wave.specs.Reading.{before_scope, declaring}
-use Rattle.sap_wave.specs.Steps.{Reaches}
+use Rattle.sap_wave.specs.Prelude.{ended, scope, form_text, names_of, before_scope, declaring, Reaches}
 use Rattle.sap_wave.proofs.Reached.{indexed_none}
 use Rattle.sap_wave.proofs.Stepping.{differ, not_scope, refused, taken}
 use Rattle.sap_wave.proofs.steps.second_line.Goals as goal

@@ -1,7 +1,4 @@
-use Rattle.std.proofs.Common.{◌≡◌, ap, sym, length, ◌+◌, ◌∙◌}
-use Rattle.std.specs.Str.Parse.{digits_value}
-use Rattle.sap_lemmas.proofs.Bools.{true_is_not_false}
-use Rattle.sap_lemmas.proofs.Numbers.{equal_of_test, test_of_equal}
+use Rattle.sap_lemmas.proofs.Common.{◌≡◌, ap, sym, length, ◌+◌, ◌∙◌, digits_value, true_is_not_false, equal_of_test, test_of_equal}
 use Rattle.sap_wave.specs.Steps.{open_of}
 use Rattle.sap_wave.proofs.Stepping.{not_full, other_next}
 use Rattle.sap_wave.proofs.steps.wrong_end.Goals as goal

@@ -1,10 +1,7 @@
-use Rattle.std.proofs.Common.{◌≡◌, ◌<◌, ◌+◌, ◌++◌, false, true, length, length-append, ap, ◌∙◌, sym, arith}
-use Rattle.std.specs.Prelude.{◌==◌, get_or, vec_capacity}
-use Rattle.std.proofs.lemmas.Bool.Decides.{nat_tests}
+use Rattle.sap_lemmas.proofs.Common.{◌≡◌, ◌<◌, ◌+◌, ◌++◌, false, true, length, length-append, ap, ◌∙◌, sym, arith, ◌==◌, get_or, vec_capacity, nat_tests}
 use Rattle.sap_desk.proofs.Steps.{on_err}
 use Rattle.sap_text.specs.Places.{line}
-use Rattle.sap_wave.specs.Lines.{form_text, text_of}
-use Rattle.sap_wave.specs.Dumps.{changes, set_to}
+use Rattle.sap_wave.specs.Prelude.{form_text, text_of, changes, set_to}
 use Rattle.sap_wave.proofs.WrittenLines.{changes_from, changes_more, no_change, full_more, grows}
 use Rattle.sap_wave.proofs.texts.push_changes.Goals as goal
 use Rattle.sap_wave.proofs.texts.push_changes.Goals.{then-before-k+in_ok-push_set, else-before-k}

@@ -1,5 +1,4 @@
-use Rattle.std.proofs.Common.{◌≡◌, ◌≤◌, ◌++◌}
-use Rattle.std.specs.Prelude.{vec_capacity}
+use Rattle.sap_lemmas.proofs.Common.{◌≡◌, ◌≤◌, ◌++◌, vec_capacity}
 use Rattle.sap_wave.proofs.WrittenLines.{changes_from}
 use Rattle.sap_wave.proofs.texts.push_changes.Given as goal
 

@@ -1,6 +1,4 @@
-use Rattle.std.proofs.Common.{rules, ◌≡◌, List, length, subst, sym, ap, ◌∙◌}
-use Rattle.std.specs.Prelude.{get_or}
-use Rattle.std.proofs.lemmas.List.{length-map, with_items_is, places}
+use Rattle.sap_lemmas.proofs.Common.{rules, ◌≡◌, List, length, subst, sym, ap, ◌∙◌, get_or, length-map, with_items_is, places}
 use Rattle.sap_maps.specs.Maps.{Name}
 use Rattle.sap_stim.specs.Rows.{AreLevelTexts, HoldsRows}
 use Rattle.sap_wave_rows.specs.Places.{numbers_at}

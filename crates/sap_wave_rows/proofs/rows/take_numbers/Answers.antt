@@ -1,5 +1,4 @@
-use Rattle.std.proofs.Common.{get_or, sym, ap, ◌∙◌, arith, rules}
-use Rattle.std.proofs.lemmas.List.{take_all}
+use Rattle.sap_lemmas.proofs.Common.{get_or, sym, ap, ◌∙◌, arith, rules, take_all}
 use Rattle.sap_sim.proofs.Lists.{written_more}
 use Rattle.sap_wave_rows.specs.Places.{numbers_at}
 use Rattle.sap_wave_rows.proofs.rows.take_numbers.Goals as goal

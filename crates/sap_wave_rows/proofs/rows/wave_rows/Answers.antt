@@ -1,6 +1,4 @@
-use Rattle.std.proofs.Common.{◌<◌, ◌≤◌, ℕ, List, ◌++◌, length, map, drop, sym, subst, ap, ap₂, ◌∙◌, arith, rules}
-use Rattle.std.proofs.lemmas.List.{take_all}
-use Rattle.std.proofs.lemmas.Option.{get_or_from_slice_get}
+use Rattle.sap_lemmas.proofs.Common.{◌<◌, ◌≤◌, ℕ, List, ◌++◌, length, map, drop, sym, subst, ap, ap₂, ◌∙◌, arith, rules, take_all, get_or_from_slice_get}
 use Rattle.sap_maps.specs.Maps.{Name}
 use Rattle.sap_net.specs.Shown.{shown_among}
 use Rattle.sap_sim.specs.Shown.{row_of, rows_from}

@@ -1,5 +1,4 @@
-use Rattle.std.proofs.Common.{◌<◌, ◌^◌, length, ap, arith}
-use Rattle.std.specs.Prelude.{All}
+use Rattle.sap_lemmas.proofs.Common.{◌<◌, ◌^◌, length, ap, arith, All}
 use Rattle.std.proofs.lemmas.List.Elements.{All-from_get_or}
 use Rattle.sap_desk.specs.Row.{Row}
 use Rattle.sap_wave_rows.proofs.rows.write_row.Goals as goal

@@ -1,6 +1,4 @@
-use Rattle.std.proofs.Common.{◌≡◌, ◌<◌, ◌≤◌, Some, length, sym, ap, ◌∙◌, rules}
-use Rattle.std.specs.Prelude.{slice_get}
-use Rattle.std.proofs.lemmas.Option.{slice_get-get_or, slice_get_past}
+use Rattle.sap_lemmas.proofs.Common.{◌≡◌, ◌<◌, ◌≤◌, Some, length, sym, ap, ◌∙◌, rules, slice_get, slice_get-get_or, slice_get_past}
 use Rattle.sap_wave_rows.proofs.Finding.{wide_there, wide_nowhere}
 use Rattle.sap_wave_rows.proofs.shown.is_wide.Goals as goal
 

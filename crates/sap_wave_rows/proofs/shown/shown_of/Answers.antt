@@ -1,8 +1,6 @@
-use Rattle.std.proofs.Common.{List, take, ℕ, ◌++◌, sym, ap, ◌∙◌}
-use Rattle.std.proofs.lemmas.List.{map-append}
+use Rattle.sap_lemmas.proofs.Common.{List, take, ℕ, ◌++◌, sym, ap, ◌∙◌, map-append}
 use Rattle.sap_maps.specs.Maps.{Name}
-use Rattle.sap_net.specs.PortNames.{value_name, tag_name, value_of}
-use Rattle.sap_net.specs.Shown.{shown_among, shown_by}
+use Rattle.sap_net.specs.Prelude.{value_name, tag_name, value_of, shown_among, shown_by}
 use Rattle.sap_sim.specs.Numbers.{place}
 use Rattle.sap_sim.proofs.Lists.{mapped_more}
 use Rattle.sap_wave.specs.declared.variable.Variable.{Variable}

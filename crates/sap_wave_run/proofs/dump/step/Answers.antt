@@ -1,8 +1,7 @@
 use Rattle.std.proofs.Common.{◌∙◌, sym, ap, subst, arith}
 use Rattle.sap_cycle.specs.Running.{Running}
 use Rattle.sap_net.specs.Net.{Net}
-use Rattle.sap_wave.specs.Dumping.{AddsBlock, StandAt}
-use Rattle.sap_wave.specs.Runs.{variables_of}
+use Rattle.sap_wave.specs.Prelude.{AddsBlock, StandAt, variables_of}
 use Rattle.sap_wave_run.proofs.Going.{block_more}
 use Rattle.sap_wave_run.proofs.dump.step.Goals as goal
 

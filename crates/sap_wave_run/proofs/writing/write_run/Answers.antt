@@ -3,10 +3,8 @@ use Rattle.std.specs.Prelude.{◌^◌}
 use Rattle.std.proofs.lemmas.Result.{on_ok_weaker}
 use Rattle.sap_maps.specs.Maps.{Valuation}
 use Rattle.sap_meaning.specs.Cycle.{Tagged as Given}
-use Rattle.sap_net.specs.IsNetlist.{IsNetlist}
-use Rattle.sap_net.specs.Laws.{SomeRun}
-use Rattle.sap_sim.specs.Numbers.{numbers_of}
-use Rattle.sap_sim.specs.Stepped.{IsRunOn}
+use Rattle.sap_net.specs.Prelude.{IsNetlist, SomeRun}
+use Rattle.sap_sim.specs.Prelude.{numbers_of, IsRunOn}
 use Rattle.sap_wave_run.specs.Ahead.{cycles_ahead}
 use Rattle.sap_wave_run.specs.ToCome.{IsToCome}
 use Rattle.sap_wave_run.proofs.Beginning.{blocks_text, comes, some_run, whole}

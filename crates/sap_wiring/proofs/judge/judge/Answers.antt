@@ -1,5 +1,4 @@
-use Rattle.std.proofs.Common.{sym, ◌∙◌, length, refl}
-use Rattle.std.proofs.lemmas.Option.{slice_get_read}
+use Rattle.sap_lemmas.proofs.Common.{sym, ◌∙◌, length, refl, slice_get_read}
 use Rattle.sap_wiring.specs.Wiring.{seen}
 use Rattle.sap_wiring.proofs.Judging as rules
 use Rattle.sap_wiring.proofs.judge.judge.Goals as goal

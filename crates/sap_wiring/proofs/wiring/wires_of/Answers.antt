@@ -1,6 +1,5 @@
-use Rattle.std.proofs.Common.{◌∙◌, sym, ap, get_or, take, arith, subst}
+use Rattle.sap_lemmas.proofs.Common.{◌∙◌, sym, ap, get_or, take, arith, subst, same_Some, slice_get-get_or}
 use Rattle.std.proofs.Math.Numerals.{add-one}
-use Rattle.std.proofs.lemmas.Option.{same_Some, slice_get-get_or}
 use Rattle.sap_system.specs.declared.file.WireText.{WireText}
 use Rattle.sap_wiring.specs.Wiring.{is_fed, seen}
 use Rattle.sap_wiring.proofs.Answered.{Tested, feeds, tested_next, all_kept}

@@ -1,5 +1,4 @@
-use Rattle.std.proofs.Common.{◌≡◌, ◌∙◌, ◌||◌, [], get_or, ap, ap₂, false, true, arith}
-use Rattle.std.specs.Borrow.{Bor}
+use Rattle.sap_lemmas.proofs.Common.{◌≡◌, ◌∙◌, ◌||◌, [], get_or, ap, ap₂, false, true, arith, Bor}
 use Rattle.clap.specs.Words.{Rule, Text, rule_of, with_rule}
 use Rattle.clap.specs.declared.builder.arg.Arg.{Arg}
 use Rattle.sap_words.specs.Parser.{operand}

@@ -1,7 +1,4 @@
-use Rattle.std.proofs.Common.{◌∙◌, [], ap, sym, arith}
-use Rattle.std.specs.List.{slice_index_or}
-use Rattle.std.specs.Prelude.{fold}
-use Rattle.std.proofs.lemmas.List.{take_all}
+use Rattle.sap_lemmas.proofs.Common.{◌∙◌, [], ap, sym, arith, slice_index_or, fold, take_all}
 use Rattle.std.proofs.lemmas.List.Sums.{fold_more}
 use Rattle.clap.specs.Words.{App}
 use Rattle.sap_words.specs.Headings.{Heading}

@@ -1,5 +1,4 @@
-use Rattle.std.proofs.Common.{◌≡◌, take}
-use Rattle.std.specs.Prelude.{fold}
+use Rattle.sap_lemmas.proofs.Common.{◌≡◌, take, fold}
 use Rattle.clap.specs.Words.{app_of}
 use Rattle.sap_words.specs.Parser.{bare}
 use Rattle.sap_words.proofs.Headings.{with_heading}

@@ -1,5 +1,4 @@
-use Rattle.std.proofs.Common.{◌≡◌, ◌∙◌, ap, List}
-use Rattle.std.specs.Prelude.{option_map}
+use Rattle.sap_lemmas.proofs.Common.{◌≡◌, ◌∙◌, ap, List, option_map}
 use Rattle.clap.specs.Words.{Row, Text, found_of, rows_of}
 use Rattle.sap_words.proofs.Commands.{given_some, name_is, same_row}
 use Rattle.sap_words.proofs.read.command_in.Goals as goal

@@ -1,5 +1,4 @@
-use Rattle.std.proofs.Common.{rules, map, string_bytes}
-use Rattle.std.specs.Prelude.{option_map}
+use Rattle.sap_lemmas.proofs.Common.{rules, map, string_bytes, option_map}
 use Rattle.sap_words.specs.Called.{words_of}
 use Rattle.sap_words.proofs.Commands.{is_one, read}
 use Rattle.sap_words.proofs.Tables.{tabled}

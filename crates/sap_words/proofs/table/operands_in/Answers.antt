@@ -1,5 +1,4 @@
-use Rattle.std.proofs.Common.{◌∙◌, ap}
-use Rattle.std.specs.Prelude.{option_map}
+use Rattle.sap_lemmas.proofs.Common.{◌∙◌, ap, option_map}
 use Rattle.sap_words.specs.Headings.{texts}
 use Rattle.sap_words.proofs.Headings.{operands_are}
 use Rattle.sap_words.proofs.table.operands_in.Goals as goal

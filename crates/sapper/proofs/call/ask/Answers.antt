@@ -1,5 +1,4 @@
-use Rattle.std.proofs.Common.{◌≡◌, ap, sym, rules}
-use Rattle.std.specs.Prelude.{Some, is_some, map, string_bytes}
+use Rattle.sap_lemmas.proofs.Common.{◌≡◌, ap, sym, rules, Some, is_some, map, string_bytes}
 use Rattle.sap_words.specs.Called.{words_of}
 use Rattle.sap_words.specs.Words.{command_of as words_for}
 use Rattle.sap_commands.specs.Commands.{asks_for}

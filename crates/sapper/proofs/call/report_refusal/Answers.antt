@@ -1,6 +1,5 @@
 use Rattle.std.proofs.Common.{refl, ◌∙◌}
-use Rattle.sap_files.specs.Ending.{refused, stimulus_refused}
-use Rattle.sap_files.specs.Steps.{reason}
+use Rattle.sap_files.specs.Prelude.{refused, stimulus_refused, reason}
 use Rattle.sapper.proofs.Calls.{told_as}
 use Rattle.sapper.proofs.call.report_refusal.Goals as goal
 

@@ -1,8 +1,6 @@
-use Rattle.std.proofs.Common.{refl, sym, ◌∙◌, subst, inl}
-use Rattle.std.specs.Prelude.{map, string_bytes}
+use Rattle.sap_lemmas.proofs.Common.{refl, sym, ◌∙◌, subst, inl, map, string_bytes}
 use Rattle.sap_desk.specs.Whole.{LostAtMostOne}
-use Rattle.sap_files.specs.Ending.{done, no_command, refused, line_of}
-use Rattle.sap_files.specs.Steps.{ending, seen}
+use Rattle.sap_files.specs.Prelude.{done, no_command, refused, line_of, ending, seen}
 use Rattle.sapper.specs.Lines.{Tells}
 use Rattle.sapper.proofs.Calls.{answers, exact, failed_counts, full_lines, lost_once, may_answer, no_words, others_keep, outside, same_end, silent, told_end, told_not_done, two_words}
 use Rattle.sapper.proofs.Headline.{headline_told}

@@ -1,7 +1,6 @@
 use Rattle.std.proofs.Common.{◌≡◌, true, false, sym, subst, rules, arith}
 use Rattle.sap_maps.specs.Maps.{Name}
-use Rattle.sap_net.specs.Net.{Net}
-use Rattle.sap_net.specs.Names.{is_among, helper}
+use Rattle.sap_net.specs.Prelude.{Net, is_among, helper}
 use Rattle.sap_build.specs.Writing.{taken, AreTaken}
 use Rattle.sap_build.proofs.Writing.{counted, taken_past}
 use Rattle.sap_build.proofs.writer.Writer.first_free.Goals as goal

@@ -1,7 +1,6 @@
 use Rattle.std.proofs.Common.{◌≡◌, ◌+◌, ◌∷◌, ◌++◌, [], List, sym, subst, ap, ◌∙◌, rules, arith}
 use Rattle.sap_maps.specs.Maps.{Name}
-use Rattle.sap_net.specs.Net.{Net}
-use Rattle.sap_net.specs.Names.{helper}
+use Rattle.sap_net.specs.Prelude.{Net, helper}
 use Rattle.sap_build.specs.Writing.{taken, AreTaken, IsFree}
 use Rattle.sap_build.proofs.Writing.{counted, next_taken, is_fresh}
 use Rattle.sap_build.proofs.writer.Writer.helper.Goals as goal

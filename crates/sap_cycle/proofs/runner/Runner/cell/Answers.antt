@@ -1,8 +1,6 @@
-use Rattle.std.proofs.Common.{◌≡◌, ◌+◌, ◌<◌, Some, None, length, get_or, sym, ap, ◌∙◌, subst, arith, rules}
-use Rattle.std.specs.Prelude.{slice_get}
+use Rattle.sap_lemmas.proofs.Common.{◌≡◌, ◌+◌, ◌<◌, Some, None, length, get_or, sym, ap, ◌∙◌, subst, arith, rules, slice_get}
+use Rattle.sap_net.specs.Prelude.{memory_names, at_name}
 use Rattle.sap_net.specs.declared.parts.Memory.{Memory}
-use Rattle.sap_net.specs.IsNetlist.{memory_names}
-use Rattle.sap_net.specs.NameMaps.{at_name}
 use Rattle.sap_cycle.specs.declared.steps.WritePort.{WritePort}
 use Rattle.sap_cycle.specs.Running.{Running, GivesCell, value_names, cells_of, seen}
 use Rattle.sap_cycle.specs.Means.{cell_count}

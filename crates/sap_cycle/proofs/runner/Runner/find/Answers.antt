@@ -1,8 +1,6 @@
-use Rattle.std.proofs.Common.{◌≡◌, ◌<◌, Some, None, length, sym, ap, ◌∙◌, subst}
-use Rattle.std.proofs.lemmas.Option.{slice_get_within}
+use Rattle.sap_lemmas.proofs.Common.{◌≡◌, ◌<◌, Some, None, length, sym, ap, ◌∙◌, subst, slice_get_within}
 use Rattle.sap_maps.specs.Scope.{find}
-use Rattle.sap_net.specs.IsNetlist.{readable}
-use Rattle.sap_net.specs.NameMaps.{at_name}
+use Rattle.sap_net.specs.Prelude.{readable, at_name}
 use Rattle.sap_cycle.specs.Running.{Running, value_names, IsPlaceOf}
 use Rattle.sap_cycle.proofs.Looked.{covers_readable, missing}
 use Rattle.sap_cycle.proofs.runner.Runner.find.Goals as goal

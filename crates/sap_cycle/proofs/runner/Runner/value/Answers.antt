@@ -1,7 +1,4 @@
-use Rattle.std.proofs.Common.{◌≡◌, true, false, Some, None, length, sym, ap, ◌∙◌, subst, refl, rules}
-use Rattle.std.specs.Prelude.{slice_get, ◌||◌}
-use Rattle.std.proofs.lemmas.Option.{slice_get_within}
-use Rattle.std.proofs.lemmas.List.{length-map}
+use Rattle.sap_lemmas.proofs.Common.{◌≡◌, true, false, Some, None, length, sym, ap, ◌∙◌, subst, refl, rules, slice_get, ◌||◌, slice_get_within, length-map}
 use Rattle.sap_cycle.specs.Running.{Running, GivesValue, value_names, seen, can_be_seen}
 use Rattle.sap_cycle.proofs.Looked.{is_register, seen_there, seen_nowhere, number_there}
 use Rattle.sap_cycle.proofs.runner.Runner.value.Goals as goal

@@ -1,5 +1,4 @@
-use Rattle.std.proofs.Common.{rules, length, ◌≡◌}
-use Rattle.std.specs.Prelude.{string_bytes}
+use Rattle.sap_lemmas.proofs.Common.{rules, length, ◌≡◌, string_bytes}
 use Rattle.sap_desk.specs.Desk.{created}
 use Rattle.sap_desk.proofs.Shown.{stepped}
 use Rattle.sap_desk.proofs.memory.MemoryDeskDesk.create.Goals as goal

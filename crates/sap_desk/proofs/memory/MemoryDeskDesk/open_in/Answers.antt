@@ -1,5 +1,4 @@
-use Rattle.std.proofs.Common.{rules, length, ◌≡◌}
-use Rattle.std.specs.Prelude.{string_bytes}
+use Rattle.sap_lemmas.proofs.Common.{rules, length, ◌≡◌, string_bytes}
 use Rattle.sap_desk.specs.Desk.{opened}
 use Rattle.sap_desk.proofs.Shown.{stepped}
 use Rattle.sap_desk.proofs.memory.MemoryDeskDesk.open_in.Goals as goal

@@ -1,5 +1,4 @@
-use Rattle.std.proofs.Common.{◌≡◌, ◌∙◌, ◌-◌, ap, sym, length, take, min}
-use Rattle.std.specs.Prelude.{ℕ}
+use Rattle.sap_lemmas.proofs.Common.{◌≡◌, ◌∙◌, ◌-◌, ap, sym, length, take, min, ℕ}
 use Rattle.sap_desk.specs.Desk.{added}
 use Rattle.sap_desk.specs.Memory.{uses_of, written_of}
 use Rattle.sap_desk.specs.MemoryCalls.{fitting_use}

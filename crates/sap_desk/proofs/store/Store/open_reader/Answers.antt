@@ -1,5 +1,4 @@
-use Rattle.std.proofs.Common.{rules, ◌≡◌, ◌++◌, ◌∷◌, [], length}
-use Rattle.std.specs.Prelude.{string_bytes, is_ok}
+use Rattle.sap_lemmas.proofs.Common.{rules, ◌≡◌, ◌++◌, ◌∷◌, [], length, string_bytes, is_ok}
 use Rattle.sap_desk.proofs.Told.{fresh_use, names_more, given_more, told_opened, stands_reader}
 use Rattle.sap_desk.proofs.store.Store.open_reader.Goals as goal
 

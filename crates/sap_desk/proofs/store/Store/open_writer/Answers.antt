@@ -1,5 +1,4 @@
-use Rattle.std.proofs.Common.{rules, ◌≡◌, ◌≤◌, ◌+◌, ◌++◌, ◌∷◌, [], length, ◌∙◌, ap, sym, subst}
-use Rattle.std.specs.Prelude.{List, ℕ, string_bytes, vec_capacity}
+use Rattle.sap_lemmas.proofs.Common.{rules, ◌≡◌, ◌≤◌, ◌+◌, ◌++◌, ◌∷◌, [], length, ◌∙◌, ap, sym, subst, List, ℕ, string_bytes, vec_capacity}
 use Rattle.sap_desk.specs.Desk.{writes}
 use Rattle.sap_desk.specs.Room.{claims}
 use Rattle.sap_desk.proofs.Told.{fresh_use, names_more, given_still, told_created, stands_created}

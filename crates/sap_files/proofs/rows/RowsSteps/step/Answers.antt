@@ -1,8 +1,6 @@
 use Rattle.std.proofs.Common.{◌≡◌, ◌+◌, ℕ, List, [], ◌∷◌, ◌++◌, length, sym, ap, ◌∙◌, subst}
 use Rattle.sap_net.specs.Net.{Net}
-use Rattle.sap_sim.specs.Numbers.{numbers_of}
-use Rattle.sap_sim.specs.Shown.{row_of, shown_registers}
-use Rattle.sap_sim.specs.Stepping.{AreRows, HasRowMore, IsAfter}
+use Rattle.sap_sim.specs.Prelude.{numbers_of, row_of, shown_registers, AreRows, HasRowMore, IsAfter}
 use Rattle.sap_sim.proofs.Stepped.{told_alone}
 use Rattle.sap_files.proofs.rows.RowsSteps.step.Goals as goal
 

@@ -1,7 +1,5 @@
-use Rattle.std.proofs.Common.{◌≡◌, ◌++◌, [], ◌∷◌, List, ℕ, Some, sym, subst, rules}
-use Rattle.std.specs.Str.{bytes_eq}
+use Rattle.sap_lemmas.proofs.Common.{◌≡◌, ◌++◌, [], ◌∷◌, List, ℕ, Some, sym, subst, rules, bytes_eq, all_append}
 use Rattle.std.specs.HashMap as hash
-use Rattle.sap_lemmas.proofs.Everywhere.{all_append}
 use Rattle.sap_net.specs.declared.parts.Wire.{Wire}
 use Rattle.sap_share.specs.Keys.{key}
 use Rattle.sap_share.specs.Names.{helper}

@@ -1,5 +1,4 @@
-use Rattle.std.proofs.Common.{sym, arith}
-use Rattle.sap_lemmas.proofs.Texts.{equal_of_bytes_eq}
+use Rattle.sap_lemmas.proofs.Common.{sym, arith, equal_of_bytes_eq}
 use Rattle.sap_fold.proofs.wires.Wires.wire.Goals as goal
 
 pub returns : goal.returns

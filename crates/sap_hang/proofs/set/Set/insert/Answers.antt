@@ -1,5 +1,4 @@
-use Rattle.std.proofs.Common.{◌<◌, ◌/◌, ◌∙◌, refl, arith, length}
-use Rattle.std.proofs.lemmas.List.{get_or_default}
+use Rattle.sap_lemmas.proofs.Common.{◌<◌, ◌/◌, ◌∙◌, refl, arith, length, get_or_default}
 use Rattle.sap_hang.proofs.Sets.{inserted}
 use Rattle.sap_hang.proofs.set.Set.insert.Goals as goal
 

@@ -1,6 +1,4 @@
-use Rattle.std.proofs.Common.{◌≡◌, ◌<◌, ◌∙◌, refl, arith, length, bit_or, get_or}
-use Rattle.std.proofs.lemmas.List.{get_or_default}
-use Rattle.std.proofs.Math.ListN.{length-set}
+use Rattle.sap_lemmas.proofs.Common.{◌≡◌, ◌<◌, ◌∙◌, refl, arith, length, bit_or, get_or, get_or_default, length-set}
 use Rattle.sap_hang.proofs.Sets.{united, all_words, or_step, or_behind}
 use Rattle.sap_hang.proofs.set.Set.union.Goals as goal
 

@@ -1,5 +1,4 @@
-use Rattle.std.proofs.Common.{◌≡◌, ◌∙◌, ◌++◌, [], ◌∷◌, List, ℕ, Some, None, length, sym, ap, subst, rules}
-use Rattle.std.specs.Str.{bytes_eq}
+use Rattle.sap_lemmas.proofs.Common.{◌≡◌, ◌∙◌, ◌++◌, [], ◌∷◌, List, ℕ, Some, None, length, sym, ap, subst, rules, bytes_eq}
 use Rattle.std.specs.HashMap as hash
 use Rattle.sap_maps.specs.Scope.{find}
 use Rattle.sap_net.specs.declared.parts.Wire.{Wire}

@@ -1,5 +1,4 @@
-use Rattle.std.proofs.Common.{◌∙◌, List, ap}
-use Rattle.std.specs.Prelude.{slice_get}
+use Rattle.sap_lemmas.proofs.Common.{◌∙◌, List, ap, slice_get}
 use Rattle.sap_names.specs.Entities.{Entity}
 use Rattle.sap_names.proofs.Numbers.{copied, find_some, find_none}
 use Rattle.sap_names.proofs.entities.Entities.find.Goals as goal

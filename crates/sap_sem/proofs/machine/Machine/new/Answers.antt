@@ -1,9 +1,6 @@
-use Rattle.std.proofs.Common.{◌≡◌, ◌∙◌, ℕ, List, [], Option, None, get_or, length, ap, sym, subst}
-use Rattle.std.proofs.lemmas.List.{length-replicate}
+use Rattle.sap_lemmas.proofs.Common.{◌≡◌, ◌∙◌, ℕ, List, [], Option, None, get_or, length, ap, sym, subst, length-replicate}
 use Rattle.sap_check.specs.Checked.{levels_in, tree_in}
-use Rattle.sap_meaning.specs.Fine.{FineProgram}
-use Rattle.sap_meaning.specs.State.{Resting}
-use Rattle.sap_meaning.specs.Store.{Store}
+use Rattle.sap_meaning.specs.Prelude.{FineProgram, Resting, Store}
 use Rattle.sap_sem.specs.Sound.{meant}
 use Rattle.sap_sem.proofs.Refused.{listed_again, none_marked, unmarked}
 use Rattle.sap_sem.proofs.Served.{fine_as, initials_as, sound_as}

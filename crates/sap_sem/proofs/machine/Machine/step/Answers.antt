@@ -1,9 +1,5 @@
-use Rattle.std.proofs.Common.{◌≡◌, ◌∙◌, ℕ, List, Option, None, get_or, length, rules, ap, sym, subst}
-use Rattle.std.proofs.lemmas.List.{with_items_is, places}
-use Rattle.sap_meaning.specs.Cycle.{cycle, cycle_listed}
-use Rattle.sap_meaning.specs.Sites.{Sublist, refused_sites, numbers_from}
-use Rattle.sap_meaning.specs.State.{Resting}
-use Rattle.sap_meaning.specs.Store.{After, Store}
+use Rattle.sap_lemmas.proofs.Common.{◌≡◌, ◌∙◌, ℕ, List, Option, None, get_or, length, rules, ap, sym, subst, with_items_is, places}
+use Rattle.sap_meaning.specs.Prelude.{cycle, cycle_listed, Sublist, refused_sites, numbers_from, Resting, After, Store}
 use Rattle.sap_sem.specs.Machine.{IsSite, program_of, refusal_of, refusals_from, site_count_of, state_of}
 use Rattle.sap_sem.specs.Seen.{MachineSeen}
 use Rattle.sap_run.specs.Runs.{GroupAble}

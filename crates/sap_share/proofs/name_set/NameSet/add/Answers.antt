@@ -1,5 +1,4 @@
-use Rattle.std.proofs.Common.{◌≡◌, ◌∷◌, List, true, slice_set, subst, rules}
-use Rattle.std.specs.Str.{bytes_eq}
+use Rattle.sap_lemmas.proofs.Common.{◌≡◌, ◌∷◌, List, true, slice_set, subst, rules, bytes_eq}
 use Rattle.std.specs.HashSet as bag
 use Rattle.sap_maps.specs.Maps.{Name}
 use Rattle.sap_share.specs.Fronts.{front, is_marked}

@@ -1,7 +1,6 @@
 use Rattle.std.proofs.Common.{◌≡◌, ◌++◌, [], ◌∷◌, List, true, sym, subst, rules}
 use Rattle.sap_maps.specs.Maps.{Name}
-use Rattle.sap_net.specs.Names.{is_among}
-use Rattle.sap_net.specs.NameMaps.{AtPlaces}
+use Rattle.sap_net.specs.Prelude.{is_among, AtPlaces}
 use Rattle.sap_share.specs.NameTables.{of_name}
 use Rattle.sap_share.proofs.Growing.{added_again}
 use Rattle.sap_share.proofs.places.Places.add_again.Goals as goal

@@ -1,9 +1,7 @@
-use Rattle.std.proofs.Common.{◌≡◌, ◌++◌, [], ◌∷◌, List, Some, false, length, sym, subst, rules}
-use Rattle.std.specs.Str.{bytes_eq}
+use Rattle.sap_lemmas.proofs.Common.{◌≡◌, ◌++◌, [], ◌∷◌, List, Some, false, length, sym, subst, rules, bytes_eq}
 use Rattle.std.specs.HashMap as hash
 use Rattle.sap_maps.specs.Maps.{Name}
-use Rattle.sap_net.specs.Names.{is_among}
-use Rattle.sap_net.specs.NameMaps.{AtPlaces}
+use Rattle.sap_net.specs.Prelude.{is_among, AtPlaces}
 use Rattle.sap_share.specs.NameTables.{of_name}
 use Rattle.sap_share.proofs.Growing.{added}
 use Rattle.sap_share.proofs.places.Places.add_new.Goals as goal

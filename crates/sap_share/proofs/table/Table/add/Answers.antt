@@ -1,7 +1,5 @@
-use Rattle.std.proofs.Common.{◌≡◌, ◌++◌, [], ◌∷◌, List, None, Some, length, subst, sym, rules}
-use Rattle.std.specs.Str.{bytes_eq}
+use Rattle.sap_lemmas.proofs.Common.{◌≡◌, ◌++◌, [], ◌∷◌, List, None, Some, length, subst, sym, rules, bytes_eq, keys_of}
 use Rattle.std.specs.HashMap as hash
-use Rattle.std.specs.Map.{keys_of}
 use Rattle.sap_maps.specs.Maps.{Name}
 use Rattle.sap_net.specs.NameMaps.{AtPlaces, place_in}
 use Rattle.sap_share.specs.NameTables.{of_name}

@@ -1,7 +1,5 @@
-use Rattle.std.proofs.Common.{◌≡◌, ◌<◌, ◌∙◌, Some, List, sym, ap, subst, length, arith}
-use Rattle.std.specs.Map.{keys_of}
-use Rattle.sap_maps.specs.Maps.{Name}
-use Rattle.sap_maps.specs.Scope.{find}
+use Rattle.sap_lemmas.proofs.Common.{◌≡◌, ◌<◌, ◌∙◌, Some, List, sym, ap, subst, length, arith, keys_of}
+use Rattle.sap_maps.specs.Prelude.{Name, find}
 use Rattle.sap_net.specs.NameMaps.{place_in}
 use Rattle.sap_share.proofs.Lookups.{entry_found}
 use Rattle.sap_share.proofs.table.Table.at.Goals as goal

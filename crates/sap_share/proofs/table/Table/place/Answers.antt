@@ -1,5 +1,4 @@
-use Rattle.std.proofs.Common.{◌∙◌, ap}
-use Rattle.std.specs.Map.{keys_of}
+use Rattle.sap_lemmas.proofs.Common.{◌∙◌, ap, keys_of}
 use Rattle.sap_net.specs.NameMaps.{place_in}
 use Rattle.sap_share.proofs.table.Table.place.Goals as goal
 

@@ -1,7 +1,5 @@
-use Rattle.std.proofs.Common.{◌≡◌, ◌∙◌, List, false, is_some, ap, sym, subst}
-use Rattle.std.proofs.lemmas.Result.{on_ok_weaker}
-use Rattle.sap_maps.specs.Maps.{Name}
-use Rattle.sap_maps.specs.Scope.{find}
+use Rattle.sap_lemmas.proofs.Common.{◌≡◌, ◌∙◌, List, false, is_some, ap, sym, subst, on_ok_weaker}
+use Rattle.sap_maps.specs.Prelude.{Name, find}
 use Rattle.sap_net.specs.NameMaps.{Puts}
 use Rattle.sap_share.proofs.Lookups.{entry_missing, entry_there, puts_behind, puts_replaced}
 use Rattle.sap_share.proofs.table.Table.put.Goals as goal

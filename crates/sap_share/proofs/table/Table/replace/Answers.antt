@@ -1,6 +1,4 @@
-use Rattle.std.proofs.Common.{◌≡◌, ◌∙◌, ◌<◌, sym, ap, length, arith}
-use Rattle.std.specs.Prelude.{slice_set}
-use Rattle.std.specs.Map.{keys_of}
+use Rattle.sap_lemmas.proofs.Common.{◌≡◌, ◌∙◌, ◌<◌, sym, ap, length, arith, slice_set, keys_of}
 use Rattle.sap_net.specs.NameMaps.{place_in}
 use Rattle.sap_share.specs.Tables.{replaced}
 use Rattle.sap_share.proofs.Lookups.{entry_found, missing_replaced, names_replaced, set_replaced}

@@ -1,6 +1,4 @@
-use Rattle.std.proofs.Common.{◌≡◌, ◌<◌, ◌∙◌, Some, List, sym, ap, subst, length, arith}
-use Rattle.std.specs.Prelude.{slice_set}
-use Rattle.std.specs.Map.{keys_of}
+use Rattle.sap_lemmas.proofs.Common.{◌≡◌, ◌<◌, ◌∙◌, Some, List, sym, ap, subst, length, arith, slice_set, keys_of}
 use Rattle.sap_maps.specs.Maps.{Name}
 use Rattle.sap_net.specs.NameMaps.{place_in}
 use Rattle.sap_share.specs.Tables.{replaced}

@@ -1,6 +1,4 @@
-use Rattle.std.proofs.Common.{List, sym, ap, ◌∙◌, subst, arith}
-use Rattle.std.specs.Prelude.{All}
-use Rattle.std.proofs.lemmas.List.{append-nil, take_all}
+use Rattle.sap_lemmas.proofs.Common.{List, sym, ap, ◌∙◌, subst, arith, All, append-nil, take_all}
 use Rattle.sap_stim.specs.declared.field.Field.{Field}
 use Rattle.sap_stim.specs.Line.{IsSized}
 use Rattle.sap_sim.proofs.labelled.DesignFields.{all_sized, fields_among, fields_more}

@@ -1,5 +1,4 @@
-use Rattle.std.proofs.Common.{◌≡◌, List, ap, ◌∙◌}
-use Rattle.std.proofs.lemmas.Result.{IfOk-weaker}
+use Rattle.sap_lemmas.proofs.Common.{◌≡◌, List, ap, ◌∙◌, IfOk-weaker}
 use Rattle.sap_lattice.specs.Levels.{Levels}
 use Rattle.sap_check.specs.Checked.{levels_in, tree_in}
 use Rattle.sap_stim.specs.declared.field.Field.{Field}

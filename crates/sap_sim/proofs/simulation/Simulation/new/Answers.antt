@@ -1,7 +1,6 @@
 use Rattle.std.proofs.Common.{sym, ap, ◌∙◌}
 use Rattle.sap_net.specs.Net.{Net}
-use Rattle.sap_sim.specs.Fields.{fields_of}
-use Rattle.sap_sim.specs.Numbers.{numbers_of}
+use Rattle.sap_sim.specs.Prelude.{fields_of, numbers_of}
 use Rattle.sap_sim.proofs.Stepped.{unstepped_shows}
 use Rattle.sap_sim.proofs.simulation.Simulation.new.Goals as goal
 

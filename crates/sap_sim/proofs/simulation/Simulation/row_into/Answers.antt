@@ -1,6 +1,4 @@
-use Rattle.std.proofs.Common.{rules, ◌≡◌, ◌<◌, ◌≤◌, ◌+◌, ◌++◌, ℕ, List, length, map, sym, ap, ◌∙◌, subst}
-use Rattle.std.specs.Prelude.{All}
-use Rattle.std.proofs.lemmas.List.{with_items_is, places}
+use Rattle.sap_lemmas.proofs.Common.{rules, ◌≡◌, ◌<◌, ◌≤◌, ◌+◌, ◌++◌, ℕ, List, length, map, sym, ap, ◌∙◌, subst, All, with_items_is, places}
 use Rattle.sap_maps.specs.Maps.{Name}
 use Rattle.sap_meaning.specs.Cycle.{Tagged as Given}
 use Rattle.sap_net.specs.IsNetlist.{IsNetlist}
@@ -8,11 +6,8 @@ use Rattle.sap_cycle.specs.Running.{seen, ShowsNext}
 use Rattle.sap_stim.specs.Fits.{LineFits}
 use Rattle.sap_stim.specs.Rows.{AreLevelTexts, HoldsRows, row_text, shown_of}
 use Rattle.sap_sim.specs.declared.sources.Source.{Source}
-use Rattle.sap_sim.specs.Layout.{number_from, seen_at, source_place}
-use Rattle.sap_sim.specs.Numbers.{numbers_of}
+use Rattle.sap_sim.specs.Prelude.{number_from, seen_at, source_place, numbers_of, HasMore, Stepped, IsAfter, IsPlanned}
 use Rattle.sap_sim.specs.declared.steps.Plan.{Plan}
-use Rattle.sap_sim.specs.Stepped.{HasMore, Stepped}
-use Rattle.sap_sim.specs.Stepping.{IsAfter, IsPlanned}
 use Rattle.sap_sim.proofs.Stepping.{after_more, inputs_right, numbers_right, row_more, sources_there, tags_count, values_count}
 use Rattle.sap_sim.proofs.simulation.Simulation.row_into.Goals as goal
 use Rattle.sap_sim.proofs.simulation.Simulation.row_into.Goals.{After-deref-2, After-deref-5, After-values}

@@ -1,7 +1,6 @@
 use Rattle.std.proofs.Common.{ap, ◌∙◌, subst}
 use Rattle.sap_sim.specs.declared.steps.Plan.{Plan}
-use Rattle.sap_sim.specs.Stepped.{Stepped}
-use Rattle.sap_sim.specs.Stepping.{RowsAddUp}
+use Rattle.sap_sim.specs.Prelude.{Stepped, RowsAddUp}
 use Rattle.sap_sim.proofs.Stepping.{add_up}
 use Rattle.sap_sim.proofs.simulation.Simulation.rows_add_up.Goals as goal
 

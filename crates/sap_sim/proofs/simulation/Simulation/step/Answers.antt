@@ -1,15 +1,10 @@
-use Rattle.std.proofs.Common.{rules, ◌≡◌, ◌<◌, ℕ, List, length, map, sym, ap, ◌∙◌, subst}
-use Rattle.std.specs.Prelude.{All}
-use Rattle.std.proofs.lemmas.List.{with_items_is, places}
+use Rattle.sap_lemmas.proofs.Common.{rules, ◌≡◌, ◌<◌, ℕ, List, length, map, sym, ap, ◌∙◌, subst, All, with_items_is, places}
 use Rattle.sap_net.specs.IsNetlist.{IsNetlist}
 use Rattle.sap_cycle.specs.Running.{ShowsNext}
 use Rattle.sap_stim.specs.Fits.{LineFits}
 use Rattle.sap_sim.specs.declared.sources.Source.{Source}
-use Rattle.sap_sim.specs.Layout.{number_from, source_place}
-use Rattle.sap_sim.specs.Numbers.{numbers_of}
+use Rattle.sap_sim.specs.Prelude.{number_from, source_place, numbers_of, Stepped, IsPlanned}
 use Rattle.sap_sim.specs.declared.steps.Plan.{Plan}
-use Rattle.sap_sim.specs.Stepped.{Stepped}
-use Rattle.sap_sim.specs.Stepping.{IsPlanned}
 use Rattle.sap_sim.proofs.Stepping.{inputs_right, numbers_right, planned_still, sources_there}
 use Rattle.sap_sim.proofs.simulation.Simulation.step.Goals as goal
 use Rattle.sap_sim.proofs.simulation.Simulation.step.Goals.{After-deref-2, After-self}

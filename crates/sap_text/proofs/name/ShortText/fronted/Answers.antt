@@ -1,5 +1,4 @@
-use Rattle.std.proofs.Common.{refl, ◌∙◌}
-use Rattle.std.proofs.lemmas.List.{length-append}
+use Rattle.sap_lemmas.proofs.Common.{refl, ◌∙◌, length-append}
 use Rattle.std.proofs.lemmas.Str.{IsUtf8-append}
 use Rattle.sap_text.proofs.ShortTexts.{in_row, row_is_text}
 use Rattle.sap_text.proofs.name.ShortText.fronted.Goals as goal

@@ -1,6 +1,4 @@
-use Rattle.std.proofs.Common.{List, ap, length, sym, ℕ, ◌+◌, ◌∙◌, ◌≡◌}
-use Rattle.std.specs.Fmt.{decimal}
-use Rattle.std.proofs.lemmas.List.{length-append}
+use Rattle.sap_lemmas.proofs.Common.{List, ap, length, sym, ℕ, ◌+◌, ◌∙◌, ◌≡◌, decimal, length-append}
 use Rattle.sap_text.proofs.NamesLemmas.{inner_text}
 use Rattle.sap_text.proofs.ShortTexts.{all_inner, in_row, row_is_text}
 use Rattle.sap_text.proofs.name.ShortText.numbered.Goals as goal

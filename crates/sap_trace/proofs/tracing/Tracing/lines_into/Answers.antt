@@ -1,8 +1,6 @@
-use Rattle.std.proofs.Common.{rules, ◌≡◌, ◌≤◌, ◌+◌, ◌*◌, ℕ, List, length, sym, ap, ◌∙◌, subst}
-use Rattle.std.proofs.lemmas.List.{with_items_is, places}
+use Rattle.sap_lemmas.proofs.Common.{rules, ◌≡◌, ◌≤◌, ◌+◌, ◌*◌, ℕ, List, length, sym, ap, ◌∙◌, subst, with_items_is, places}
 use Rattle.sap_lattice.specs.Levels.{Levels}
-use Rattle.sap_net.specs.Net.{Net}
-use Rattle.sap_net.specs.Runs.{InputsFit}
+use Rattle.sap_net.specs.Prelude.{Net, InputsFit}
 use Rattle.sap_check.specs.Checked.{levels_in, tree_in}
 use Rattle.sap_check.specs.Sites.{sites_of}
 use Rattle.sap_cycle.specs.Running.{ShowsNext}

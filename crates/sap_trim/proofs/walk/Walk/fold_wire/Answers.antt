@@ -1,5 +1,4 @@
-use Rattle.std.proofs.Common.{subst}
-use Rattle.std.proofs.lemmas.Result.{on_ok_weaker}
+use Rattle.sap_lemmas.proofs.Common.{subst, on_ok_weaker}
 use Rattle.sap_net.specs.declared.parts.Right.{Right}
 use Rattle.sap_fold.specs.Gives.{Gives}
 use Rattle.sap_share.specs.Sets.{holds}

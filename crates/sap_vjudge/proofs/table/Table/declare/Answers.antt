@@ -1,8 +1,6 @@
-use Rattle.std.proofs.Common.{◌∙◌, ap, Some}
-use Rattle.std.specs.Option.{option_or}
+use Rattle.sap_lemmas.proofs.Common.{◌∙◌, ap, Some, option_or, on_ok}
 use Rattle.sap_vjudge.specs.Entries.{entry_shape, entry_set}
 use Rattle.sap_vjudge.specs.Shapes.{shape_of}
-use Rattle.sap_lemmas.proofs.Options.{on_ok}
 use Rattle.sap_vjudge.proofs.Tabled.{known_declared}
 use Rattle.sap_vjudge.proofs.table.Table.declare.Goals as goal
 

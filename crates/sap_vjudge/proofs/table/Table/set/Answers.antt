@@ -1,9 +1,7 @@
-use Rattle.std.proofs.Common.{◌∙◌, ap}
-use Rattle.std.specs.Prelude.{◌||◌}
+use Rattle.sap_lemmas.proofs.Common.{◌∙◌, ap, ◌||◌, on_ok}
 use Rattle.sap_vtext.specs.Names.{same_setting}
 use Rattle.sap_vjudge.specs.Entries.{entry_shape, entry_set}
 use Rattle.sap_vjudge.specs.Shapes.{setting_of}
-use Rattle.sap_lemmas.proofs.Options.{on_ok}
 use Rattle.sap_vjudge.proofs.Tabled.{known_set}
 use Rattle.sap_vjudge.proofs.table.Table.set.Goals as goal
 

@@ -1,6 +1,4 @@
-use Rattle.std.proofs.Common.{◌≡◌, ◌≢◌, ℕ, Some, Bool, true, false, rules, refl, ap, ◌∙◌, arith, eqb}
-use Rattle.std.specs.Prelude.{◌&&◌}
-use Rattle.std.proofs.lemmas.Bool.Decides.{nat_tests}
+use Rattle.sap_lemmas.proofs.Common.{◌≡◌, ◌≢◌, ℕ, Some, Bool, true, false, rules, refl, ap, ◌∙◌, arith, eqb, ◌&&◌, nat_tests}
 use Rattle.sap_vparse.specs.Reading.{front_number}
 use Rattle.sap_vparse.proofs.Single.{number_is, digit_read, digit_refused, digit_other, some_number}
 use Rattle.sap_vparse.proofs.cursor.Cursor.digit.Goals as goal

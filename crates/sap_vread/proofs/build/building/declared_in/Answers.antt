@@ -1,5 +1,4 @@
-use Rattle.std.proofs.Common.{ap, ◌∙◌}
-use Rattle.std.specs.Prelude.{flat_map, map}
+use Rattle.sap_lemmas.proofs.Common.{ap, ◌∙◌, flat_map, map}
 use Rattle.sap_vtext.specs.Modules.{net_port, port_input}
 use Rattle.sap_vparse.specs.Views.{port_of}
 use Rattle.sap_vread.specs.Build.Narrow.{narrow_port}

@@ -1,5 +1,4 @@
-use Rattle.std.proofs.Common.{ap, ◌∙◌, ◌++◌}
-use Rattle.std.specs.Prelude.{flat_map}
+use Rattle.sap_lemmas.proofs.Common.{ap, ◌∙◌, ◌++◌, flat_map}
 use Rattle.sap_vparse.specs.Views.{item_of}
 use Rattle.sap_vread.specs.Build.Built as b
 use Rattle.sap_vread.specs.Build.Firsts.{number_of}

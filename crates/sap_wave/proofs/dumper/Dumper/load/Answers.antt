@@ -1,10 +1,7 @@
-use Rattle.std.proofs.Common.{◌≡◌, ◌≤◌, length, sym, ap, ◌∙◌, subst, arith}
-use Rattle.sap_lemmas.proofs.Lists.{length_map}
+use Rattle.sap_lemmas.proofs.Common.{◌≡◌, ◌≤◌, length, sym, ap, ◌∙◌, subst, arith, length_map}
 use Rattle.sap_wave.specs.declared.variable.Variable.{Variable}
 use Rattle.sap_net.specs.Runs.{initial_number}
-use Rattle.sap_wave.specs.Waves.{AreVariables}
-use Rattle.sap_wave.specs.Dumping.{block_room}
-use Rattle.sap_wave.specs.Runs.{variables_of}
+use Rattle.sap_wave.specs.Prelude.{AreVariables, block_room, variables_of}
 use Rattle.sap_wave.proofs.Running.{are_variables}
 use Rattle.sap_wave.proofs.dumper.Dumper.load.Goals as goal
 

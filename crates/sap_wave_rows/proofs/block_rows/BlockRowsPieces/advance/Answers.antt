@@ -1,5 +1,4 @@
-use Rattle.std.proofs.Common.{rules, ◌+◌, ◌<◌, ◌++◌, ℕ, List, length, refl, sym, ap, ◌∙◌}
-use Rattle.std.proofs.lemmas.Option.{get_or_from_slice_get}
+use Rattle.sap_lemmas.proofs.Common.{rules, ◌+◌, ◌<◌, ◌++◌, ℕ, List, length, refl, sym, ap, ◌∙◌, get_or_from_slice_get}
 use Rattle.sap_wave_rows.specs.Rows.{rows_of_blocks}
 use Rattle.sap_wave_rows.proofs.Going.{first_row}
 use Rattle.sap_wave_rows.proofs.block_rows.BlockRowsPieces.advance.Goals as goal

@@ -3,10 +3,7 @@ use Rattle.sap_desk.specs.Row.{Row}
 use Rattle.sap_net.specs.Net.{Net}
 use Rattle.sap_cycle.specs.Running.{Running}
 use Rattle.sap_wave.specs.declared.variable.Variable.{Variable}
-use Rattle.sap_wave.specs.Dumping.{Dumping, StandAt, begun}
-use Rattle.sap_wave.specs.Dumps.{head}
-use Rattle.sap_wave.specs.Lines.{text_of}
-use Rattle.sap_wave.specs.Runs.{variables_of}
+use Rattle.sap_wave.specs.Prelude.{Dumping, StandAt, begun, head, text_of, variables_of}
 use Rattle.sap_wave_run.proofs.recording.Recording.new.Goals as goal
 
 pub places-requires : goal.places-requires

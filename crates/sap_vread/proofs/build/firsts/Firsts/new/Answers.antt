@@ -1,6 +1,5 @@
-use Rattle.std.proofs.Common.{ap, Vec, ℕ, Global}
-use Rattle.std.specs.Map.{lookup}
-use Rattle.std.specs.Str.{bytes_eq}
+use Rattle.sap_lemmas.proofs.Common.{ap, ℕ, lookup, bytes_eq}
+use Rattle.std.proofs.Common.{Vec, Global}
 use Rattle.sap_vread.specs.Build.Firsts.{number_of}
 use Rattle.sap_vread.proofs.build.firsts.Firsts.new.Goals as goal
 
