@@ -42,6 +42,18 @@ term_value widths value cells (choose c a b) =
 term_value widths value cells (join a b) = joined (term_value widths value cells a) (term_width widths b) (term_value widths value cells b)
 term_value widths value cells (part a hi lo) = slice_of (term_value widths value cells a) hi lo
 
+-- P holds of each name that is read, Q of each memory of which a cell is read, with its index
+module _ {N : Type 0} (P : N → Type 0) (Q : N → Term N → Type 0) where
+  abbrev pub EveryRead : Term N → Type 0
+  EveryRead (constant w x) = Unit {0}
+  EveryRead (read n) = P n
+  EveryRead (cell m i) = Q m i × EveryRead i
+  EveryRead (one op a) = EveryRead a
+  EveryRead (two op a b) = EveryRead a × EveryRead b
+  EveryRead (choose c a b) = EveryRead c × EveryRead a × EveryRead b
+  EveryRead (join a b) = EveryRead a × EveryRead b
+  EveryRead (part a hi lo) = EveryRead a
+
 -- other names for those that are read
 abbrev pub map_term : {N M : Type 0} → (N → M) → Term N → Term M
 map_term f (constant w x) = constant w x

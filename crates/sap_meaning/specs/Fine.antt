@@ -1,7 +1,7 @@
 -- What a program has that comes from a well-formed design.
 use Rattle.std.specs.Prelude.{◌≡◌, ℕ, zero, suc, ◌<◌, ◌≤◌, Bool, true, false, ◌||◌, List, nat_eq}
 use Rattle.sap_lattice.specs.Order.{Laws}
-use Rattle.sap_maps.specs.Term.{Term, constant, read, cell, one, two, choose, join, part}
+use Rattle.sap_maps.specs.Term.{Term, EveryRead}
 use Rattle.sap_meaning.specs.Program.{World, Program, entity, is_dynamic, is_input, is_register, is_memory, is_state, authority, children, root, place, last, below, listed, LevelTerm, Step, assign, write, retag, retag_cell, go_to, fall_to_child, Command, lone, try, if_else, try_then, case_of, Arms, last_arm, and_arm, Block, end_block, command_then, State, state_node, Group, no_node, and_node}
 use Rattle.sap_meaning.specs.Walks.{EveryLevel, Every, EveryInBlock, Asks}
 use Rattle.sap_meaning.specs.Checks.{Home}
@@ -10,14 +10,7 @@ use Rattle.sap_meaning.specs.Once.{OnceGroup}
 
 -- What is read plain is an input or a register, and what is read by an index is a memory.
 abbrev pub FineTerm : World → Term ℕ → Type 0
-FineTerm w (constant u n) = Unit {0}
-FineTerm w (read x) = (is_input w x || is_register w x) ≡ true
-FineTerm w (cell m i) = (is_memory w m ≡ true) × FineTerm w i
-FineTerm w (one op a) = FineTerm w a
-FineTerm w (two op a b) = FineTerm w a × FineTerm w b
-FineTerm w (choose c a b) = FineTerm w c × FineTerm w a × FineTerm w b
-FineTerm w (join a b) = FineTerm w a × FineTerm w b
-FineTerm w (part a hi lo) = FineTerm w a
+FineTerm w e = EveryRead (λ x. (is_input w x || is_register w x) ≡ true) (λ m i. is_memory w m ≡ true) e
 
 -- a written level is one of the lattice
 abbrev pub FineLevel : World → LevelTerm → Type 0

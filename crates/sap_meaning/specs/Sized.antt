@@ -1,7 +1,7 @@
 -- The widths of a program: what has a width fits where it stands.
 use Rattle.std.specs.Prelude.{◌≡◌, ℕ, ◌<◌, ◌^◌, List}
 use Rattle.std.specs.List.{AllByRecursion}
-use Rattle.sap_maps.specs.Term.{Term, constant, read, cell, one, two, choose, join, part, TermFits}
+use Rattle.sap_maps.specs.Term.{Term, EveryRead, TermFits}
 use Rattle.sap_meaning.specs.Program.{World, Program, entity, width, depth_of, LevelTerm, Step, assign, write, retag, retag_cell, go_to, fall_to_child, Command, lone, try, if_else, try_then, case_of, State, Group}
 use Rattle.sap_meaning.specs.Walks.{EveryLevel, EveryInBlock, arm_constants, EveryBody, EveryBodyIn}
 use Rattle.sap_meaning.specs.Expressions.{width_of}
@@ -15,14 +15,7 @@ Indexes w m i = 2 ^ width_of w i ≡ depth w m
 
 -- so it is with each index in a term
 abbrev pub Indexed : World → Term ℕ → Type 0
-Indexed w (constant u n) = Unit {0}
-Indexed w (read x) = Unit {0}
-Indexed w (cell m i) = Indexes w m i × Indexed w i
-Indexed w (one op a) = Indexed w a
-Indexed w (two op a b) = Indexed w a × Indexed w b
-Indexed w (choose c a b) = Indexed w c × Indexed w a × Indexed w b
-Indexed w (join a b) = Indexed w a × Indexed w b
-Indexed w (part a hi lo) = Indexed w a
+Indexed w e = EveryRead (λ x. Unit {0}) (Indexes w) e
 
 abbrev pub SizedTerm : World → Term ℕ → Type 0
 SizedTerm w e = TermFits (width w) e × Indexed w e
