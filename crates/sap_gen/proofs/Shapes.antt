@@ -1,24 +1,15 @@
 -- The generated design has no fault of shape.
-use Rattle.std.proofs.Common.{◌≡◌, ℕ, zero, suc, ◌+◌, ◌%◌, ◌<◌, ◌≤◌, List, [], ◌∷◌, ◌++◌, Bool, true, false, map, refl, ap, ◌∙◌, inl, inr, arith, if◌then◌else◌}
-use Rattle.std.specs.Prelude.{not}
-use Rattle.std.specs.List.{range_with_len}
-use Rattle.std.specs.Str.{bytes_eq}
-use Rattle.std.proofs.lemmas.Bool.{cases_eq, or_left, or_right}
-use Rattle.sap_tree.specs.Bare.{nowhere}
-use Rattle.sap_tree.specs.Syntax.{CommandList, no_state, StateList}
+use Rattle.sap_lemmas.proofs.Common.{◌≡◌, ℕ, zero, suc, ◌+◌, ◌%◌, ◌<◌, ◌≤◌, List, [], ◌∷◌, ◌++◌, Bool, true, false, map, refl, ap, ◌∙◌, inl, inr, arith, if◌then◌else◌, not, range_with_len, bytes_eq, cases_eq, or_left, or_right, codes, bytes_eq_same}
+use Rattle.sap_tree.specs.Prelude.{nowhere, CommandList, no_state, StateList, commands, enforced, states}
+use Rattle.sap_names.specs.Prelude.{entities_of, fault_if}
 use Rattle.sap_names.specs.declared.fault.Fault.{Fault}
 use Rattle.sap_names.specs.declared.kind.Code.TheVariants.{E11}
 use Rattle.sap_names.specs.declared.entity.Entity.{Entity}
-use Rattle.sap_names.specs.Entities.{entities_of}
-use Rattle.sap_names.specs.NameFaults.{fault_if}
 use Rattle.sap_shape.specs.Closing.{closing_list_faults, is_end}
 use Rattle.sap_shape.specs.ShapeFaults.{Body, HasShape, is_among, list_shape, states_shape}
-use Rattle.sap_shape.specs.Walk.{Written, falls_list, fresh, second_list, second_states}
+use Rattle.sap_shape.specs.Walk.{Written, falls_list, found_in_list, fresh, second_states}
 use Rattle.sap_shape.proofs.Again.{no_faults}
 use Rattle.sap_gen.specs.Design.{assignment, design_of_counts, state, state_name, transfer}
-use Rattle.sap_tree.specs.Making.{commands, enforced, states}
-use Rattle.std.specs.Prelude.{codes}
-use Rattle.sap_lemmas.proofs.Texts.{bytes_eq_same}
 use Rattle.sap_gen.proofs.Faultless.{none_of}
 
 -- the commands of a body from the a-th on, k of them before the goto
@@ -64,7 +55,7 @@ same_either_way : (b : Bool) (fs : List Fault) → (if b then fs else fs) ≡ fs
 same_either_way true fs = refl
 same_either_way false fs = refl
 
-nothing_written : (r t j a k : ℕ) (p : Written) → second_list (rest_of_body r t j a k) p ≡ []
+nothing_written : (r t j a k : ℕ) (p : Written) → (found_in_list (rest_of_body r t j a k) p).again ≡ []
 nothing_written r t j a zero p = refl
 nothing_written r t j a (suc k) p = nothing_written r t j (a + 1) k p
 
@@ -72,7 +63,7 @@ nothing_twice : (r t a k : ℕ) (p : Written) → second_states (states (map (st
 nothing_twice r t a zero p = refl
 nothing_twice r t a (suc k) p =
     none_of _ (second_states (states (map (state r t) (range_with_len (a + 1) k))) p)
-    (none_of (second_list (rest_of_body r t a 0 r) p) _ (nothing_written r t a 0 r p) (same_either_way (falls_list (rest_of_body r t a 0 r)) []))
+    (none_of (found_in_list (rest_of_body r t a 0 r) p).again _ (nothing_written r t a 0 r p) (same_either_way (falls_list (rest_of_body r t a 0 r)) []))
     (nothing_twice r t (a + 1) k p)
 
 pub has_shape : (r t : ℕ) → 0 < t → HasShape (design_of_counts r t)

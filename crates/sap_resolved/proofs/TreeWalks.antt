@@ -1,21 +1,13 @@
 -- What is asked of each command of a design, and what follows for each step of its program.
-use Rattle.std.proofs.Common.{◌≡◌, ℕ, ◌+◌, List, [], ◌++◌, true, ◌&&◌, Option, Some, None, length}
-use Rattle.std.specs.Prelude.{nat_le}
-use Rattle.std.proofs.lemmas.Bool.{and_parts}
-use Rattle.sap_lemmas.proofs.Bools.{three_parts}
-use Rattle.sap_tree.specs.Limits.{most_arms}
-use Rattle.sap_tree.specs.Syntax.{Expression, SimpleCommand, Command, lone, try, if_else, try_then, case_of, Arms, last_arm, and_arm, CommandBlock, command_block, ElseBlock, no_else, with_else, CommandList, no_command, and_command}
-use Rattle.sap_tree.specs.Walks.{Every, EveryInBlock, EveryInElse, EveryInArms, EveryInList, gathered, gathered_in_block, gathered_in_else, gathered_in_arms, gathered_in_list}
-use Rattle.sap_tree.specs.Whole.{is_outermost, is_simple, is_command, is_block, is_else, are_arms, are_commands, has_arm, has_constant, are_constants, arm_count}
-use Rattle.sap_tree.specs.Words.{is_second}
+use Rattle.sap_lemmas.proofs.Common.{◌≡◌, ℕ, ◌+◌, List, [], ◌++◌, true, ◌&&◌, Option, Some, None, length, nat_le, and_parts, three_parts}
+use Rattle.sap_tree.specs.Prelude.{most_arms, Expression, SimpleCommand, Command, lone, try, if_else, try_then, case_of, Arms, last_arm, and_arm, CommandBlock, command_block, ElseBlock, no_else, with_else, CommandList, no_command, and_command, is_outermost, is_simple, is_command, is_block, is_else, are_arms, are_commands, has_arm, has_constant, are_constants, arm_count, is_second}
 use Rattle.sap_tree.specs.declared.version.Version.{Version}
+use Rattle.sap_tree.specs.Walks.{Every, EveryInBlock, EveryInElse, EveryInArms, EveryInList, gathered, gathered_in_block, gathered_in_else, gathered_in_arms, gathered_in_list}
 use Rattle.sap_lattice.specs.Levels.{Levels}
 use Rattle.sap_maps.specs.Term.{Term}
 use Rattle.sap_names.proofs.FaultLemmas.{nil_left, nil_right}
-use Rattle.sap_names.specs.Entities.{Lookup}
 use Rattle.sap_names.specs.declared.entity.Entity.{Entity}
-use Rattle.sap_names.specs.Widths.{own}
-use Rattle.sap_names.specs.NameFaults.{expression_faults, simple_faults, command_faults, arms_faults, block_faults, else_faults, commands_faults}
+use Rattle.sap_names.specs.Prelude.{Lookup, own, expression_faults, simple_faults, command_faults, arms_faults, block_faults, else_faults, commands_faults}
 use Rattle.sap_shape.specs.ShapeFaults.{Body, simple_shape, then_shape, command_shape, block_shape, arms_shape, else_shape, list_shape}
 use Rattle.sap_shape.specs.Sites.{Surroundings, simple_sites, command_sites, block_sites}
 use Rattle.sap_meaning.specs.Program as program
@@ -117,9 +109,9 @@ module _ (es : List Entity) (at : Body) where
     every_shaped (try c place handler) f = (nil_left _ _ (nil_left _ _ f), every_shaped_in_block handler (nil_right _ _ f))
     every_shaped (if_else place e one other) f = (tt, every_shaped_in_block one (nil_left _ _ f), every_shaped_in_else other (nil_right _ _ f))
     every_shaped (try_then c place one other) f =
-        let front : then_shape es at c place ++ block_shape es at one ≡ [] = nil_left _ _ f in
-        let own : then_shape es at c place ≡ [] = nil_left _ _ front in
-        (nil_left _ _ own, every_shaped_in_block one (nil_right _ _ front), every_shaped_in_block other (nil_right _ _ f))
+        let own : then_shape es at c place ≡ [] = nil_left _ _ f in
+        let below : block_shape es at one ++ block_shape es at other ≡ [] = nil_right (then_shape es at c place) _ f in
+        (nil_left _ _ own, every_shaped_in_block one (nil_left _ _ below), every_shaped_in_block other (nil_right _ _ below))
     every_shaped (case_of place e arms) f = (tt, every_shaped_in_arms arms f)
 
     pub every_shaped_in_block : (b : CommandBlock) → block_shape es at b ≡ [] → EveryInBlock Shaped Any b

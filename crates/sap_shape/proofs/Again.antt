@@ -1,348 +1,113 @@
 -- The faults that the walk finds are those of which the paths say so.
 use Rattle.std.proofs.Common.{◌≡◌, ◌⊎◌, inl, inr, ℕ, List, [], ◌∷◌, ◌++◌, Bool, true, false, Some, refl, ap, sym, subst, ◌∙◌, append_assoc, if◌then◌else◌}
-use Rattle.sap_text.specs.declared.place.Place.{Place}
-use Rattle.sap_tree.specs.Syntax.{SimpleCommand, assign, write, set_tag, set_cell_tag, go_to, fall_to_child, Command, lone, try, if_else, try_then, case_of, Arms, last_arm, and_arm, CommandBlock, command_block, ElseBlock, no_else, with_else, CommandList, no_command, and_command, StateTree, state_node, StateList, no_state, and_state, DesignTree}
+use Rattle.sap_tree.specs.Syntax.{SimpleCommand, StateTree, state_node, StateList, no_state, and_state, DesignTree}
 use Rattle.sap_names.specs.declared.fault.Fault.{Fault}
-use Rattle.sap_names.specs.declared.kind.Code.TheVariants.{E14}
-use Rattle.sap_names.specs.Fault.{StandsIn, Before, BeforeAll, First}
-use Rattle.sap_names.specs.NameFaults.{fault_if}
-use Rattle.sap_names.specs.Entities.{entities_of}
-use Rattle.sap_shape.specs.Paths.{Path, Through, ThroughBlock, ThroughElse, ThroughArms, ThroughList, FromState, FromAny, IsOfMemory, WritesAgain, place_of, twice_at, PathFault}
-use Rattle.sap_shape.specs.Walk.{Written, fresh, past_simple, past, falls_block, entering_block, second_simple, second, second_block, second_else, second_arms, second_list, second_state, second_states}
+use Rattle.sap_names.specs.Prelude.{StandsIn, Before, BeforeAll, First, entities_of}
+use Rattle.sap_shape.specs.Paths.{Path, FromState, FromAny, IsOfMemory, WritesAgain, place_of, twice_at, PathFault}
+use Rattle.sap_shape.specs.Walk.{Written, fresh, found_in_block, falls_block, past_simple, second_state, second_states}
 use Rattle.sap_shape.specs.Lists.{shape_faults}
 use Rattle.sap_shape.specs.ShapeFaults.{states_shape, IsShapeFault, HasShape, IsFirstShapeFault}
-use Rattle.sap_shape.proofs.Followed.{Has, has_left, has_right, Did, step_past, past_before, past_here, did_more, did_less, some_path, some_block, some_list, past_found, found_past, falls_block_found, found_falls_block, entering_block_found, found_entering_block, onward_block}
+use Rattle.sap_shape.proofs.Tracks.{stands_left, stands_right, stands_parts, step_past, past_here, past_path, past_kept, Behind, behind_front, behind_rest, Repeats, then_parts, found_behind, stands_behind, repeats_either}
+use Rattle.sap_shape.proofs.Followed.{Follows, of_block, block_follows}
 
--- faults of two lists
-stands_left : (f : Fault) (a b : List Fault) → StandsIn f a → StandsIn f (a ++ b)
-stands_left f [] b h = absurd h
-stands_left f (x ∷ a) b (inl h) = inl h
-stands_left f (x ∷ a) b (inr h) = inr (stands_left f a b h)
+-- of states: those of the body, and those of the children behind what is written up to a `fall`
 
-stands_right : (f : Fault) (a b : List Fault) → StandsIn f b → StandsIn f (a ++ b)
-stands_right f [] b h = h
-stands_right f (x ∷ a) b h = inr (stands_right f a b h)
-
-stands_parts : (f : Fault) (a b : List Fault) → StandsIn f (a ++ b) → StandsIn f a ⊎ StandsIn f b
-stands_parts f [] b h = inr h
-stands_parts f (x ∷ a) b (inl h) = inl (inl h)
-stands_parts f (x ∷ a) b (inr h) = elim (stands_parts f a b h) [ inl i ↦ inl (inr i) | inr i ↦ inr i ]
-
--- k stands on the path, behind a command of its memory or where that was written before
-abbrev Late : Written → Path → SimpleCommand → Type 0
-Late p path k = (before : Path) × (after : Path) × (path ≡ before ++ k ∷ after) × (m : List ℕ) × IsOfMemory k m × Did p before m
-
-late_more : (j : SimpleCommand) (p : Written) (path : Path) (k : SimpleCommand) → Late (past_simple j p) path k → Late p (j ∷ path) k
-late_more j p path k h = (j ∷ h.0, h.1, ap (λ (x : Path). j ∷ x) h.2, h.3, h.4, did_more j p h.0 h.3 h.5)
-
-late_front : (p : Written) (path rest : Path) (k : SimpleCommand) → Late p path k → Late p (path ++ rest) k
-late_front p path rest k h =
-    (h.0, h.1 ++ rest, ap (λ (x : Path). x ++ rest) h.2 ∙ append_assoc h.0 (k ∷ h.1) rest, h.3, h.4, h.5)
-
--- the same behind a first part that writes what was written before the second
-late_behind : (p : Written) (first rest : Path) (k : SimpleCommand) (before after : Path) → rest ≡ before ++ k ∷ after → (m : List ℕ) → IsOfMemory k m
-    → Did p (first ++ before) m → Late p (first ++ rest) k
-late_behind p first rest k before after e m w d =
-    (first ++ before, after, ap (λ (x : Path). first ++ x) e ∙ sym (append_assoc first before (k ∷ after)), m, w, d)
-
-did_front : (p : Written) (a b : Path) (m : List ℕ) → Did p a m → Did p (a ++ b) m
-did_front p a b m (inl h) = inl h
-did_front p a b m (inr h) = inr (has_left a b m h)
-
--- what the walk finds is late on a path
-abbrev Found : Written → (Path → Type 0) → Fault → Type 0
-Found p goes f = (k : SimpleCommand) × (path : Path) × goes path × Late p path k × (f ≡ twice_at (place_of k))
-
-fault_stands : (test : Bool) (place : Place) (f : Fault) → StandsIn f (fault_if test E14 place) → (test ≡ true) × (f ≡ twice_at place)
-fault_stands true place f (inl h) = (refl, h)
-fault_stands true place f (inr h) = absurd h
-fault_stands false place f h = absurd h
-
-step_found : (k : SimpleCommand) (p : Written) (f : Fault) → StandsIn f (second_simple k p) → Late p (k ∷ []) k × (f ≡ twice_at (place_of k))
-step_found (assign target e) p f h = absurd h
-step_found (write target index e) p f h =
-    let s = fault_stands (p target.name) target.place f h in
-    (([], [], refl, target.name, refl, inl s.0), s.1)
-step_found (set_tag place target tag) p f h = absurd h
-step_found (set_cell_tag place target index tag) p f h =
-    let s = fault_stands (p target.name) place f h in
-    (([], [], refl, target.name, refl, inl s.0), s.1)
-step_found (go_to place target) p f h = absurd h
-step_found (fall_to_child place) p f h = absurd h
-
-mutual
-  found_in : (c : Command) (p : Written) (f : Fault) → StandsIn f (second c p) → Found p (λ path. Through c path) f
-  found_in (lone k) p f h = let s = step_found k p f h in (k, k ∷ [], refl, s.0, s.1)
-  found_in (try k place b) p f h = elim (stands_parts f (second_simple k p) (second_block b (past_simple k p)) h) [
-    | inl i ↦ (let s = step_found k p f i in (k, k ∷ [], inl refl, s.0, s.1))
-    | inr i ↦ (
-        let s = found_in_block b (past_simple k p) f i in
-        (s.0, k ∷ s.1, inr (s.1, s.2, refl), late_more k p s.1 s.0 s.3, s.4))
-  ]
-  found_in (if_else place e b other) p f h = elim (stands_parts f (second_block b p) (second_else other p) h) [
-    | inl i ↦ (let s = found_in_block b p f i in (s.0, s.1, inl s.2, s.3, s.4))
-    | inr i ↦ (let s = found_in_else other p f i in (s.0, s.1, inr s.2, s.3, s.4))
-  ]
-  found_in (try_then k place a b) p f h = elim (stands_parts f (second_simple k p ++ second_block a (past_simple k p)) (second_block b (past_simple k p)) h) [
-    | inl i ↦ elim (stands_parts f (second_simple k p) (second_block a (past_simple k p)) i) [
-      | inl j ↦ (
-          let s = step_found k p f j in
-          let g = some_block a in
-          (k, k ∷ g.0, inl (g.0, g.1, refl), late_front p (k ∷ []) g.0 k s.0, s.1))
-      | inr j ↦ (
-          let s = found_in_block a (past_simple k p) f j in
-          (s.0, k ∷ s.1, inl (s.1, s.2, refl), late_more k p s.1 s.0 s.3, s.4))
-    ]
-    | inr i ↦ (
-        let s = found_in_block b (past_simple k p) f i in
-        (s.0, k ∷ s.1, inr (s.1, s.2, refl), late_more k p s.1 s.0 s.3, s.4))
-  ]
-  found_in (case_of place e arms) p f h = found_in_arms arms p f h
-
-  found_in_arms : (arms : Arms) (p : Written) (f : Fault) → StandsIn f (second_arms arms p) → Found p (λ path. ThroughArms arms path) f
-  found_in_arms (last_arm b) p f h = found_in_block b p f h
-  found_in_arms (and_arm constants b arms) p f h = elim (stands_parts f (second_block b p) (second_arms arms p) h) [
-    | inl i ↦ (let s = found_in_block b p f i in (s.0, s.1, inl s.2, s.3, s.4))
-    | inr i ↦ (let s = found_in_arms arms p f i in (s.0, s.1, inr s.2, s.3, s.4))
-  ]
-
-  found_in_block : (b : CommandBlock) (p : Written) (f : Fault) → StandsIn f (second_block b p) → Found p (λ path. ThroughBlock b path) f
-  found_in_block (command_block cs after) p f h = found_in_list cs p f h
-
-  found_in_else : (b : ElseBlock) (p : Written) (f : Fault) → StandsIn f (second_else b p) → Found p (λ path. ThroughElse b path) f
-  found_in_else no_else p f h = absurd h
-  found_in_else (with_else b) p f h = found_in_block b p f h
-
-  found_in_list : (cs : CommandList) (p : Written) (f : Fault) → StandsIn f (second_list cs p) → Found p (λ path. ThroughList cs path) f
-  found_in_list no_command p f h = absurd h
-  found_in_list (and_command c cs) p f h = elim (stands_parts f (second c p) (second_list cs (past c p)) h) [
-    | inl i ↦ (
-        let s = found_in c p f i in
-        let g = some_list cs in
-        (s.0, s.1 ++ g.0, (s.1, g.0, s.2, g.1, refl), late_front p s.1 g.0 s.0 s.3, s.4))
-    | inr i ↦ (
-        let s = found_in_list cs (past c p) f i in
-        elim s.3.5 [
-          | inl j ↦ (
-              let g = past_found s.3.3 c p j in
-              (s.0, g.0 ++ s.1, (g.0, s.1, g.1, s.2, refl), late_behind p g.0 s.1 s.0 s.3.0 s.3.1 s.3.2 s.3.3 s.3.4 (did_front p g.0 s.3.0 s.3.3 g.2), s.4))
-          | inr j ↦ (
-              let g = some_path c in
-              (s.0, g.0 ++ s.1, (g.0, s.1, g.1, s.2, refl), late_behind p g.0 s.1 s.0 s.3.0 s.3.1 s.3.2 s.3.3 s.3.4 (inr (has_right g.0 s.3.0 s.3.3 j)), s.4))
-        ])
-  ]
+if_so : (test : Bool) (f : Fault) (fs : List Fault) → test ≡ true → StandsIn f fs → StandsIn f (if test then fs else [])
+if_so true f fs e h = h
+if_so false f fs e h = cc
 
 none_if_not : (test : Bool) (f : Fault) (fs : List Fault) → StandsIn f (if test then fs else []) → (test ≡ true) × StandsIn f fs
 none_if_not true f fs h = (refl, h)
 none_if_not false f fs h = absurd h
 
 mutual
-  found_from : (s : StateTree) (p : Written) (f : Fault) → StandsIn f (second_state s p) → Found p (λ path. FromState s path) f
-  found_from (state_node place name kind body children) p f h =
-      elim (stands_parts f (second_block body p) (if falls_block body then second_states children (entering_block body p) else []) h) [
-        | inl i ↦ (let s = found_in_block body p f i in (s.0, s.1, inl s.2, s.3, s.4))
-        | inr i ↦ (
-            let j = none_if_not (falls_block body) f (second_states children (entering_block body p)) i in
-            let s = found_from_any children (entering_block body p) f j.1 in
-            elim s.3.5 [
-              | inl d ↦ (
-                  let g = entering_block_found s.3.3 body p d in
-                  (s.0, g.0 ++ s.1, inr (g.0, s.1, g.1, s.2, refl), late_behind p g.0 s.1 s.0 s.3.0 s.3.1 s.3.2 s.3.3 s.3.4 (did_front p g.0 s.3.0 s.3.3 g.2), s.4))
-              | inr d ↦ (
-                  let g = falls_block_found body j.0 in
-                  (s.0, g.0 ++ s.1, inr (g.0, s.1, g.1, s.2, refl), late_behind p g.0 s.1 s.0 s.3.0 s.3.1 s.3.2 s.3.3 s.3.4 (inr (has_right g.0 s.3.0 s.3.3 d)), s.4))
-            ])
-      ]
-
-  found_from_any : (g : StateList) (p : Written) (f : Fault) → StandsIn f (second_states g p) → Found p (λ path. FromAny g path) f
-  found_from_any no_state p f h = absurd h
-  found_from_any (and_state s rest) p f h = elim (stands_parts f (second_state s p) (second_states rest p) h) [
-    | inl i ↦ (let r = found_from s p f i in (r.0, r.1, inl r.2, r.3, r.4))
-    | inr i ↦ (let r = found_from_any rest p f i in (r.0, r.1, inr r.2, r.3, r.4))
-  ]
-
--- The other way round: along one path, with what is written on it so far.
-abbrev Behind : Written → Path → SimpleCommand → Type 0
-Behind p [] k = ⊥
-Behind p (j ∷ path) k = ((k ≡ j) × (m : List ℕ) × IsOfMemory k m × (p m ≡ true)) ⊎ Behind (past_simple j p) path k
-
-abbrev past_path : Path → Written → Written
-past_path [] p = p
-past_path (k ∷ path) p = past_path path (past_simple k p)
-
-did_path : (path : Path) (p : Written) (m : List ℕ) → past_path path p m ≡ true → Did p path m
-did_path [] p m h = inl h
-did_path (k ∷ path) p m h = did_more k p path m (did_path path (past_simple k p) m h)
-
-behind_parts : (a b : Path) (p : Written) (k : SimpleCommand) → Behind p (a ++ b) k → Behind p a k ⊎ Behind (past_path a p) b k
-behind_parts [] b p k h = inr h
-behind_parts (j ∷ a) b p k (inl h) = inl (inl h)
-behind_parts (j ∷ a) b p k (inr h) = elim (behind_parts a b (past_simple j p) k h) [ inl x ↦ inl (inr x) | inr x ↦ inr x ]
-
-behind_front : (a b : Path) (p : Written) (k : SimpleCommand) → Behind p a k → Behind p (a ++ b) k
-behind_front [] b p k h = absurd h
-behind_front (j ∷ a) b p k (inl h) = inl h
-behind_front (j ∷ a) b p k (inr h) = inr (behind_front a b (past_simple j p) k h)
-
-more_past : (k : SimpleCommand) (p q : Written) → ((m : List ℕ) → p m ≡ true → q m ≡ true) → (m : List ℕ) → past_simple k p m ≡ true → past_simple k q m ≡ true
-more_past k p q f m h = elim (step_past k p m h) [ inl i ↦ past_before k q m (f m i) | inr i ↦ past_here k q m i ]
-
-behind_more : (path : Path) (p q : Written) (k : SimpleCommand) → ((m : List ℕ) → p m ≡ true → q m ≡ true) → Behind p path k → Behind q path k
-behind_more [] p q k f h = absurd h
-behind_more (j ∷ path) p q k f (inl h) = inl (h.0, h.1, h.2, f h.1 h.3)
-behind_more (j ∷ path) p q k f (inr h) = inr (behind_more path (past_simple j p) (past_simple j q) k (more_past j p q f) h)
-
-behind_late : (before after : Path) (p : Written) (k : SimpleCommand) (m : List ℕ) → IsOfMemory k m → Did p before m → Behind p (before ++ k ∷ after) k
-behind_late [] after p k m w (inl h) = inl (refl, m, w, h)
-behind_late [] after p k m w (inr h) = absurd h
-behind_late (j ∷ before) after p k m w d = inr (behind_late before after (past_simple j p) k m w (did_less j p before m d))
-
-fault_at : (test : Bool) (place : Place) → test ≡ true → StandsIn (twice_at place) (fault_if test E14 place)
-fault_at true place h = inl refl
-fault_at false place h = cc
-
-step_stands : (k : SimpleCommand) (p : Written) (m : List ℕ) → IsOfMemory k m → p m ≡ true → StandsIn (twice_at (place_of k)) (second_simple k p)
-step_stands (assign target e) p m w h = absurd w
-step_stands (write target index e) p m w h = fault_at (p target.name) target.place (ap p w ∙ h)
-step_stands (set_tag place target tag) p m w h = absurd w
-step_stands (set_cell_tag place target index tag) p m w h = fault_at (p target.name) place (ap p w ∙ h)
-step_stands (go_to place target) p m w h = absurd w
-step_stands (fall_to_child place) p m w h = absurd w
-
--- a path of one command
-one_stands : (j k : SimpleCommand) (p : Written) (path : Path) → path ≡ j ∷ [] → Behind p path k → StandsIn (twice_at (place_of k)) (second_simple j p)
-one_stands j k p path e h = first (subst (λ (x : Path). Behind p x k) e h)
-  where
-    first : Behind p (j ∷ []) k → StandsIn (twice_at (place_of k)) (second_simple j p)
-    first (inl i) = subst (λ (x : SimpleCommand). StandsIn (twice_at (place_of k)) (second_simple x p)) i.0 (step_stands k p i.1 i.2 i.3)
-    first (inr i) = absurd i
-
--- k and what comes behind it
-both_stand : (j k : SimpleCommand) (p : Written) (path : Path) (fs : List Fault) → (Behind (past_simple j p) path k → StandsIn (twice_at (place_of k)) fs)
-    → Behind p (j ∷ path) k → StandsIn (twice_at (place_of k)) (second_simple j p ++ fs)
-both_stand j k p path fs f (inl i) =
-    stands_left (twice_at (place_of k)) (second_simple j p) fs
-    (subst (λ (x : SimpleCommand). StandsIn (twice_at (place_of k)) (second_simple x p)) i.0 (step_stands k p i.1 i.2 i.3))
-both_stand j k p path fs f (inr i) = stands_right (twice_at (place_of k)) (second_simple j p) fs (f i)
-
-module _ (k : SimpleCommand) where
-  abbrev Told : List Fault → Type 0
-  Told fs = StandsIn (twice_at (place_of k)) fs
-
-  mutual
-    stands_in : (c : Command) (p : Written) (path : Path) → Through c path → Behind p path k → StandsIn (twice_at (place_of k)) (second c p)
-    stands_in (lone j) p path t h = one_stands j k p path t h
-    stands_in (try j place b) p path (inl t) h =
-        stands_left (twice_at (place_of k)) (second_simple j p) (second_block b (past_simple j p)) (one_stands j k p path t h)
-    stands_in (try j place b) p path (inr t) h =
-        both_stand j k p t.0 (second_block b (past_simple j p)) (λ i. stands_in_block b (past_simple j p) t.0 t.1 i)
-        (subst (λ (x : Path). Behind p x k) t.2 h)
-    stands_in (if_else place e b other) p path (inl t) h =
-        stands_left (twice_at (place_of k)) (second_block b p) (second_else other p) (stands_in_block b p path t h)
-    stands_in (if_else place e b other) p path (inr t) h =
-        stands_right (twice_at (place_of k)) (second_block b p) (second_else other p) (stands_in_else other p path t h)
-    stands_in (try_then j place a b) p path (inl t) h =
-        stands_left (twice_at (place_of k)) (second_simple j p ++ second_block a (past_simple j p)) (second_block b (past_simple j p))
-        (both_stand j k p t.0 (second_block a (past_simple j p)) (λ i. stands_in_block a (past_simple j p) t.0 t.1 i) (subst (λ (x : Path). Behind p x k) t.2 h))
-    stands_in (try_then j place a b) p path (inr t) h =
-        let w = both_stand j k p t.0 (second_block b (past_simple j p)) (λ i. stands_in_block b (past_simple j p) t.0 t.1 i) (subst (λ (x : Path). Behind p x k) t.2 h) in
-        elim (stands_parts (twice_at (place_of k)) (second_simple j p) (second_block b (past_simple j p)) w) [
-          | inl x ↦ stands_left (twice_at (place_of k)) (second_simple j p ++ second_block a (past_simple j p)) (second_block b (past_simple j p))
-              (stands_left (twice_at (place_of k)) (second_simple j p) (second_block a (past_simple j p)) x)
-          | inr x ↦ stands_right (twice_at (place_of k)) (second_simple j p ++ second_block a (past_simple j p)) (second_block b (past_simple j p)) x
-        ]
-    stands_in (case_of place e arms) p path t h = stands_in_arms arms p path t h
-
-    stands_in_arms : (arms : Arms) (p : Written) (path : Path) → ThroughArms arms path → Behind p path k → StandsIn (twice_at (place_of k)) (second_arms arms p)
-    stands_in_arms (last_arm b) p path t h = stands_in_block b p path t h
-    stands_in_arms (and_arm constants b arms) p path (inl t) h =
-        stands_left (twice_at (place_of k)) (second_block b p) (second_arms arms p) (stands_in_block b p path t h)
-    stands_in_arms (and_arm constants b arms) p path (inr t) h =
-        stands_right (twice_at (place_of k)) (second_block b p) (second_arms arms p) (stands_in_arms arms p path t h)
-
-    stands_in_block : (b : CommandBlock) (p : Written) (path : Path) → ThroughBlock b path → Behind p path k → StandsIn (twice_at (place_of k)) (second_block b p)
-    stands_in_block (command_block cs after) p path t h = stands_in_list cs p path t h
-
-    stands_in_else : (b : ElseBlock) (p : Written) (path : Path) → ThroughElse b path → Behind p path k → StandsIn (twice_at (place_of k)) (second_else b p)
-    stands_in_else no_else p path t h = subst (λ (x : Path). Behind p x k) t h
-    stands_in_else (with_else b) p path t h = stands_in_block b p path t h
-
-    stands_in_list : (cs : CommandList) (p : Written) (path : Path) → ThroughList cs path → Behind p path k → StandsIn (twice_at (place_of k)) (second_list cs p)
-    stands_in_list no_command p path t h = subst (λ (x : Path). Behind p x k) t h
-    stands_in_list (and_command c cs) p path t h = elim (behind_parts t.0 t.1 p k (subst (λ (x : Path). Behind p x k) t.4 h)) [
-      | inl i ↦ stands_left (twice_at (place_of k)) (second c p) (second_list cs (past c p)) (stands_in c p t.0 t.2 i)
-      | inr i ↦ stands_right (twice_at (place_of k)) (second c p) (second_list cs (past c p))
-          (stands_in_list cs (past c p) t.1 t.3
-          (behind_more t.1 (past_path t.0 p) (past c p) k (λ m j. found_past m c p t.0 t.2 (did_path t.0 p m j)) i))
-    ]
-
-  if_so : (test : Bool) (fs : List Fault) → test ≡ true → StandsIn (twice_at (place_of k)) fs → StandsIn (twice_at (place_of k)) (if test then fs else [])
-  if_so true fs e h = h
-  if_so false fs e h = cc
-
-  mutual
-    stands_from : (s : StateTree) (p : Written) (path : Path) → FromState s path → Behind p path k → StandsIn (twice_at (place_of k)) (second_state s p)
-    stands_from (state_node place name kind body children) p path (inl t) h =
-        stands_left (twice_at (place_of k)) (second_block body p) (if falls_block body then second_states children (entering_block body p) else [])
-        (stands_in_block body p path t h)
-    stands_from (state_node place name kind body children) p path (inr t) h = elim (behind_parts t.0 t.1 p k (subst (λ (x : Path). Behind p x k) t.4 h)) [
-      | inl i ↦ (
-          let on = onward_block body t.0 t.2 in
-          stands_left (twice_at (place_of k)) (second_block body p) (if falls_block body then second_states children (entering_block body p) else [])
-          (stands_in_block body p (t.0 ++ on.0) on.1 (behind_front t.0 on.0 p k i)))
-      | inr i ↦ stands_right (twice_at (place_of k)) (second_block body p) (if falls_block body then second_states children (entering_block body p) else [])
-          (if_so (falls_block body) (second_states children (entering_block body p)) (found_falls_block body t.0 t.2)
-          (stands_from_any children (entering_block body p) t.1 t.3
-          (behind_more t.1 (past_path t.0 p) (entering_block body p) k (λ m j. found_entering_block m body p t.0 t.2 (did_path t.0 p m j)) i)))
-    ]
-
-    stands_from_any : (g : StateList) (p : Written) (path : Path) → FromAny g path → Behind p path k → StandsIn (twice_at (place_of k)) (second_states g p)
-    stands_from_any no_state p path t h = absurd t
-    stands_from_any (and_state s rest) p path (inl t) h =
-        stands_left (twice_at (place_of k)) (second_state s p) (second_states rest p) (stands_from s p path t h)
-    stands_from_any (and_state s rest) p path (inr t) h =
-        stands_right (twice_at (place_of k)) (second_state s p) (second_states rest p) (stands_from_any rest p path t h)
-
--- a command of the memory, and what is on either side of it
-part_at : (path : Path) (m : List ℕ) → Has path m → (before : Path) × (j : SimpleCommand) × (after : Path) × (path ≡ before ++ j ∷ after) × IsOfMemory j m
-part_at [] m h = absurd h
-part_at (k ∷ path) m (inl h) = ([], k, path, refl, h)
-part_at (k ∷ path) m (inr h) =
-    let r = part_at path m h in
-    (k ∷ r.0, r.1, r.2, ap (λ (x : Path). k ∷ x) r.3, r.4)
-
-again_of : (d : DesignTree) (path : Path) (k : SimpleCommand) → FromAny d.states path → Late fresh path k → WritesAgain d k
-again_of d path k t h = elim h.5 [
-  | inl i ↦ cc
-  | inr i ↦ (
-      let r = part_at h.0 h.3 i in
-      let e : path ≡ r.0 ++ r.1 ∷ (r.2 ++ k ∷ h.1) = h.2 ∙ ap (λ (x : Path). x ++ k ∷ h.1) r.3 ∙ append_assoc r.0 (r.1 ∷ r.2) (k ∷ h.1) in
+  state_repeats : (s : StateTree) → Repeats (second_state s) (FromState s)
+  state_repeats (state_node place name kind body children) =
+      let F : Follows (of_block body) = block_follows body in
+      let entering = λ (p : Written). (found_in_block body p).entering in
+      let own = λ (p : Written). (found_in_block body p).again in
+      let below = λ (p : Written). if falls_block body then second_states children (entering p) else [] in
       record {
-        before = r.0;
-        first = r.1;
-        between = r.2;
-        after = h.1;
-        path = subst (λ (x : Path). FromAny d.states x) e t;
-        memory = h.3;
-        one = r.4;
-        other = h.4;
-      })
+        on_path = λ p f h. elim (stands_parts f (own p) (below p) h) [
+          | inl i ↦ (let r = F.again.on_path p f i in (r.0, r.1, inl r.2, r.3, r.4))
+          | inr i ↦ (
+              let j = none_if_not (falls_block body) f (second_states children (entering p)) i in
+              let r =
+              found_behind entering (of_block body).Falls F.entering (FromAny children) (second_states children) (any_repeat children) (F.falling j.0) p f j.1 in
+              (r.0, r.1, inr r.2, r.3, r.4))
+        ];
+        of_path = λ p k path t h. elim t [
+          | inl i ↦ stands_left (twice_at (place_of k)) (own p) (below p) (F.again.of_path p k path i h)
+          | inr i ↦ elim (then_parts (of_block body).Falls (FromAny children) path i p k h) [
+            | inl j ↦ (
+                let on = F.onward i.0 i.2 in
+                stands_left (twice_at (place_of k)) (own p) (below p) (F.again.of_path p k (i.0 ++ on.0) on.1 (behind_front i.0 on.0 p k j)))
+            | inr j ↦ stands_right (twice_at (place_of k)) (own p) (below p)
+                (if_so (falls_block body) (twice_at (place_of k)) (second_states children (entering p)) (F.fallen i.0 i.2)
+                (stands_behind entering (of_block body).Falls F.entering (FromAny children) (second_states children) (any_repeat children) p k i.0 i.1 i.2 i.3 j))
+          ]
+        ];
+      }
+
+  any_repeat : (g : StateList) → Repeats (second_states g) (FromAny g)
+  any_repeat no_state = record { on_path = λ p f h. absurd h; of_path = λ p k path t h. absurd t }
+  any_repeat (and_state s rest) = repeats_either (second_state s) (second_states rest) (FromState s) (FromAny rest) (state_repeats s) (any_repeat rest)
+
+-- where a path writes again, and the write before it
+
+again_at : (path : Path) (p : Written) (k : SimpleCommand) → Behind p path k
+    → (before : Path) × (after : Path) × (path ≡ before ++ k ∷ after) × (m : List ℕ) × IsOfMemory k m × (past_path before p m ≡ true)
+again_at [] p k h = absurd h
+again_at (j ∷ path) p k (inl h) = ([], path, ap (λ (x : SimpleCommand). x ∷ path) (sym h.0), h.1, h.2, h.3)
+again_at (j ∷ path) p k (inr h) =
+    let r = again_at path (past_simple j p) k h in
+    (j ∷ r.0, r.1, ap (λ (x : Path). j ∷ x) r.2, r.3, r.4, r.5)
+
+written_at : (path : Path) (p : Written) (m : List ℕ) → past_path path p m ≡ true
+    → (p m ≡ true) ⊎ ((before : Path) × (k : SimpleCommand) × (after : Path) × (path ≡ before ++ k ∷ after) × IsOfMemory k m)
+written_at [] p m h = inl h
+written_at (k ∷ path) p m h = elim (written_at path (past_simple k p) m h) [
+  | inl i ↦ elim (step_past k p m i) [ inl j ↦ inl j | inr j ↦ inr ([], k, path, refl, j) ]
+  | inr r ↦ inr (k ∷ r.0, r.1, r.2, ap (λ (x : Path). k ∷ x) r.3, r.4)
 ]
+
+again_of : (d : DesignTree) (path : Path) (k : SimpleCommand) → FromAny d.states path → Behind fresh path k → WritesAgain d k
+again_of d path k t h =
+    let a = again_at path fresh k h in
+    elim (written_at a.0 fresh a.3 a.5) [
+      | inl i ↦ cc
+      | inr r ↦ (
+          let e : path ≡ r.0 ++ r.1 ∷ (r.2 ++ k ∷ a.1) = a.2 ∙ ap (λ (x : Path). x ++ k ∷ a.1) r.3 ∙ append_assoc r.0 (r.1 ∷ r.2) (k ∷ a.1) in
+          record {
+            before = r.0;
+            first = r.1;
+            between = r.2;
+            after = a.1;
+            path = subst (λ (x : Path). FromAny d.states x) e t;
+            memory = a.3;
+            one = r.4;
+            other = a.4;
+          })
+    ]
 
 -- what the walk finds in a design, and what the paths say
 pub path_fault : (d : DesignTree) (f : Fault) → StandsIn f (second_states d.states fresh) → PathFault d f
 path_fault d f h =
-    let s = found_from_any d.states fresh f h in
-    (s.0, again_of d s.1 s.0 s.2 s.3, s.4)
+    let S : Repeats (second_states d.states) (FromAny d.states) = any_repeat d.states in
+    let r = S.on_path fresh f h in
+    (r.0, again_of d r.1 r.0 r.2 r.3, r.4)
 
 pub fault_found : (d : DesignTree) (f : Fault) → PathFault d f → StandsIn f (second_states d.states fresh)
 fault_found d f h =
+    let S : Repeats (second_states d.states) (FromAny d.states) = any_repeat d.states in
     let k = h.0 in
     let w = h.1 in
-    let late : Behind fresh (w.before ++ w.first ∷ (w.between ++ k ∷ w.after)) k =
-    subst (λ (x : Path). Behind fresh x k) (append_assoc w.before (w.first ∷ w.between) (k ∷ w.after))
-    (behind_late (w.before ++ w.first ∷ w.between) w.after fresh k w.memory w.other (inr (has_right w.before (w.first ∷ w.between) w.memory (inl w.one)))) in
-    subst (λ (x : Fault). StandsIn x (second_states d.states fresh)) (sym h.2) (stands_from_any k d.states fresh _ w.path late)
+    let written = past_path w.before fresh in
+    let behind : Behind fresh (w.before ++ w.first ∷ (w.between ++ k ∷ w.after)) k =
+    behind_rest w.before (w.first ∷ (w.between ++ k ∷ w.after)) fresh k
+    (inr (behind_rest w.between (k ∷ w.after) (past_simple w.first written) k
+    (inl (refl, w.memory, w.other, past_kept w.between (past_simple w.first written) w.memory (past_here w.first written w.memory w.one))))) in
+    subst (λ (x : Fault). StandsIn x (second_states d.states fresh)) (sym h.2) (S.of_path fresh k _ w.path behind)
 
 shape_fault : (d : DesignTree) (f : Fault) → StandsIn f (shape_faults d) → IsShapeFault d f
 shape_fault d f h = elim (stands_parts f (states_shape (entities_of d) d.states [] d.states) (second_states d.states fresh) h) [

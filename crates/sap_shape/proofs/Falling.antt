@@ -1,10 +1,9 @@
 -- Whether a list of commands falls, from a place on.
-use Rattle.std.proofs.Common.{◌≡◌, ℕ, zero, suc, ◌+◌, ◌<◌, ◌≤◌, List, [], ◌∷◌, ◌||◌, Bool, false, length, get_or, drop, refl, sym, ap, ◌∙◌, arith, add-one, Some}
-use Rattle.sap_lemmas.proofs.Bools.{or_assoc}
+use Rattle.sap_lemmas.proofs.Common.{◌≡◌, ℕ, zero, suc, ◌+◌, ◌<◌, ◌≤◌, List, [], ◌∷◌, ◌||◌, Bool, false, length, get_or, drop, refl, sym, ap, ◌∙◌, arith, add-one, Some, or_assoc}
+use Rattle.sap_tree.specs.Trees.{command_of, block_of, arm_block_of, arms_of, else_of}
 use Rattle.sap_tree.specs.declared.syntax.Arm.{Arm}
 use Rattle.sap_tree.specs.declared.syntax.Cmd.{Cmd}
 use Rattle.sap_tree.specs.declared.syntax.Block.{Block}
-use Rattle.sap_tree.specs.Trees.{command_of, block_of, arm_block_of, arms_of, else_of}
 use Rattle.sap_shape.specs.Walk.{falls, falls_block, falls_else}
 use Rattle.sap_shape.specs.Walk as walk
 use Rattle.sap_shape.specs.Lists.{falls_list, falls_arms}

@@ -1,197 +1,57 @@
--- What the walk knows of the paths through commands: which memories are written, and where each `fall` is.
-use Rattle.std.proofs.Common.{◌≡◌, ◌⊎◌, inl, inr, ℕ, List, [], ◌∷◌, ◌++◌, true, ◌||◌, refl, ap, sym, subst, ◌∙◌, append_assoc, bytes_eq}
-use Rattle.std.proofs.lemmas.Slice.Eq.{bytes_eq-Decides}
-use Rattle.std.proofs.lemmas.Bool.{or_cases, or_left, or_right}
+-- What is found in the commands of a body is what the paths through them say.
+use Rattle.sap_lemmas.proofs.Common.{◌≡◌, ◌⊎◌, inl, inr, ℕ, List, [], ◌∷◌, ◌++◌, Bool, true, false, ◌||◌, refl, ap, sym, subst, ◌∙◌, append_assoc, or_cases, or_left, or_right}
+use Rattle.sap_text.specs.declared.place.Place.{Place}
 use Rattle.sap_tree.specs.Syntax.{SimpleCommand, assign, write, set_tag, set_cell_tag, go_to, fall_to_child, Command, lone, try, if_else, try_then, case_of, Arms, last_arm, and_arm, CommandBlock, command_block, ElseBlock, no_else, with_else, CommandList, no_command, and_command}
-use Rattle.sap_shape.specs.Paths.{Path, Through, ThroughBlock, ThroughElse, ThroughArms, ThroughList, IsFall, UpToFall, UpToFallBlock, UpToFallElse, UpToFallArms, UpToFallList, IsOfMemory}
-use Rattle.sap_shape.specs.Walk.{Written, past_simple, past, past_block, past_else, past_arms, past_list, is_fall, falls, falls_block, falls_else, falls_arms, falls_list, entering_simple, entering, entering_block, entering_else, entering_arms, entering_list}
+use Rattle.sap_names.specs.Prelude.{StandsIn, fault_if}
+use Rattle.sap_names.specs.declared.fault.Fault.{Fault}
+use Rattle.sap_names.specs.declared.kind.Code.TheVariants.{E14}
+use Rattle.sap_shape.specs.Paths.{Path, Through, ThroughBlock, ThroughElse, ThroughArms, ThroughList, IsFall, UpToFall, UpToFallBlock, UpToFallElse, UpToFallArms, UpToFallList, IsOfMemory, place_of, twice_at}
+use Rattle.sap_shape.specs.Walk.{Written, Part, nothing, behind, branch, simple, found, found_in_block, found_in_else, found_in_arms, found_in_list, past_simple, entering_simple, second_simple, is_fall, falls, falls_block, falls_else, falls_arms, falls_list}
+use Rattle.sap_shape.proofs.Tracks.{past_path, past_kept, Behind, Then, Either, Reaches, Repeats, reaches_behind, reaches_either, reaches_same, repeats_either, repeats_then, repeats_same}
 
--- a command of the path is of the memory m
-abbrev pub Has : Path → List ℕ → Type 0
-Has [] m = ⊥
-Has (k ∷ path) m = IsOfMemory k m ⊎ Has path m
+-- a part of a body: what is found in it, whether a `fall` stands in it, the paths through it, and those up to a `fall` in it
+pub record Stretch : Type 1 where
+  pub part : Part
+  pub falls : Bool
+  pub Passes : Path → Type 0
+  pub Falls : Path → Type 0
 
-pub has_left : (a b : Path) (m : List ℕ) → Has a m → Has (a ++ b) m
-has_left [] b m h = absurd h
-has_left (k ∷ a) b m (inl h) = inl h
-has_left (k ∷ a) b m (inr h) = inr (has_left a b m h)
+pub record Follows (s : Stretch) : Type 0 where
+  pub passing : (path : Path) × s.Passes path
+  pub falling : s.falls ≡ true → (path : Path) × s.Falls path
+  pub fallen : (path : Path) → s.Falls path → s.falls ≡ true
+  pub onward : (path : Path) → s.Falls path → (rest : Path) × s.Passes (path ++ rest)
+  pub past : Reaches (λ p. (s.part p).past) s.Passes
+  pub entering : Reaches (λ p. (s.part p).entering) s.Falls
+  pub again : Repeats (λ p. (s.part p).again) s.Passes
 
-pub has_right : (a b : Path) (m : List ℕ) → Has b m → Has (a ++ b) m
-has_right [] b m h = h
-has_right (k ∷ a) b m h = inr (has_right a b m h)
+-- what was written before, is still afterwards
+pub kept : (s : Stretch) → Follows s → (m : List ℕ) (p : Written) → p m ≡ true → (s.part p).past m ≡ true
+kept s F m p h = F.past.of_path m p F.passing.0 F.passing.1 (past_kept F.passing.0 p m h)
 
-has_parts : (a b : Path) (m : List ℕ) → Has (a ++ b) m → Has a m ⊎ Has b m
-has_parts [] b m h = inr h
-has_parts (k ∷ a) b m (inl h) = inl (inl h)
-has_parts (k ∷ a) b m (inr h) = elim (has_parts a b m h) [ inl x ↦ inl (inr x) | inr x ↦ inr x ]
+-- where something is written up to a `fall`, one stands
+pub enters : (s : Stretch) → Follows s → (m : List ℕ) (p : Written) → (s.part p).entering m ≡ true → s.falls ≡ true
+enters s F m p h = let r = F.entering.on_path m p h in F.fallen r.0 r.1
 
--- m was written before the path, or is on it
-abbrev pub Did : Written → Path → List ℕ → Type 0
-Did p path m = (p m ≡ true) ⊎ Has path m
+-- nothing
 
-pub step_past : (k : SimpleCommand) (p : Written) (m : List ℕ) → past_simple k p m ≡ true → (p m ≡ true) ⊎ IsOfMemory k m
-step_past (assign target e) p m h = inl h
-step_past (write target index e) p m h = elim (or_cases (bytes_eq target.name m) (p m) h) [ inl i ↦ inr ((bytes_eq-Decides target.name m).0 i) | inr i ↦ inl i ]
-step_past (set_tag place target tag) p m h = inl h
-step_past (set_cell_tag place target index tag) p m h =
-    elim (or_cases (bytes_eq target.name m) (p m) h) [ inl i ↦ inr ((bytes_eq-Decides target.name m).0 i) | inr i ↦ inl i ]
-step_past (go_to place target) p m h = inl h
-step_past (fall_to_child place) p m h = inl h
+abbrev no_stretch : Stretch
+no_stretch = record { part = nothing; falls = false; Passes = λ path. path ≡ []; Falls = λ path. ⊥ }
 
-pub past_before : (k : SimpleCommand) (p : Written) (m : List ℕ) → p m ≡ true → past_simple k p m ≡ true
-past_before (assign target e) p m h = h
-past_before (write target index e) p m h = or_right (bytes_eq target.name m) (p m) h
-past_before (set_tag place target tag) p m h = h
-past_before (set_cell_tag place target index tag) p m h = or_right (bytes_eq target.name m) (p m) h
-past_before (go_to place target) p m h = h
-past_before (fall_to_child place) p m h = h
+nothing_follows : Follows no_stretch
+nothing_follows = record {
+  passing = ([], refl);
+  falling = λ h. cc;
+  fallen = λ path t. absurd t;
+  onward = λ path t. absurd t;
+  past = record { on_path = λ m p h. ([], refl, h); of_path = λ m p path t h. subst (λ (x : Path). past_path x p m ≡ true) t h };
+  entering = record { on_path = λ m p h. cc; of_path = λ m p path t h. absurd t };
+  again = record { on_path = λ p f h. absurd h; of_path = λ p k path t h. subst (λ (x : Path). Behind p x k) t h };
+}
 
-same_name : (a m : List ℕ) → a ≡ m → bytes_eq a m ≡ true
-same_name a m e = (bytes_eq-Decides a m).1 e
+-- one simple command
 
-pub past_here : (k : SimpleCommand) (p : Written) (m : List ℕ) → IsOfMemory k m → past_simple k p m ≡ true
-past_here (assign target e) p m h = absurd h
-past_here (write target index e) p m h = or_left (bytes_eq target.name m) (p m) (same_name target.name m h)
-past_here (set_tag place target tag) p m h = absurd h
-past_here (set_cell_tag place target index tag) p m h = or_left (bytes_eq target.name m) (p m) (same_name target.name m h)
-past_here (go_to place target) p m h = absurd h
-past_here (fall_to_child place) p m h = absurd h
-
--- from behind a command to before it
-pub did_more : (k : SimpleCommand) (p : Written) (path : Path) (m : List ℕ) → Did (past_simple k p) path m → Did p (k ∷ path) m
-did_more k p path m (inl h) = elim (step_past k p m h) [ inl i ↦ inl i | inr i ↦ inr (inl i) ]
-did_more k p path m (inr h) = inr (inr h)
-
-pub did_less : (k : SimpleCommand) (p : Written) (path : Path) (m : List ℕ) → Did p (k ∷ path) m → Did (past_simple k p) path m
-did_less k p path m (inl h) = inl (past_before k p m h)
-did_less k p path m (inr (inl h)) = inl (past_here k p m h)
-did_less k p path m (inr (inr h)) = inr h
-
-did_one : (k : SimpleCommand) (p : Written) (path : Path) (m : List ℕ) → path ≡ k ∷ [] → Did p path m → past_simple k p m ≡ true
-did_one k p path m e d = elim (did_less k p [] m (subst (λ (x : Path). Did p x m) e d)) [ inl h ↦ h | inr h ↦ absurd h ]
-
-did_front : (p : Written) (a b : Path) (m : List ℕ) → Did p a m → Did p (a ++ b) m
-did_front p a b m (inl h) = inl h
-did_front p a b m (inr h) = inr (has_left a b m h)
-
--- some path goes through each command
-mutual
-  pub some_path : (c : Command) → (path : Path) × Through c path
-  some_path (lone k) = (k ∷ [], refl)
-  some_path (try k place b) = (k ∷ [], inl refl)
-  some_path (if_else place e b other) = let f = some_block b in (f.0, inl f.1)
-  some_path (try_then k place a b) = let f = some_block a in (k ∷ f.0, inl (f.0, f.1, refl))
-  some_path (case_of place e arms) = some_arms arms
-
-  some_arms : (arms : Arms) → (path : Path) × ThroughArms arms path
-  some_arms (last_arm b) = some_block b
-  some_arms (and_arm constants b arms) = let f = some_block b in (f.0, inl f.1)
-
-  pub some_block : (b : CommandBlock) → (path : Path) × ThroughBlock b path
-  some_block (command_block cs after) = some_list cs
-
-  pub some_list : (cs : CommandList) → (path : Path) × ThroughList cs path
-  some_list no_command = ([], refl)
-  some_list (and_command c cs) =
-      let f = some_path c in
-      let g = some_list cs in
-      (f.0 ++ g.0, (f.0, g.0, f.1, g.1, refl))
-
--- what is written behind a command, was written before or is on a path through it
-module _ (m : List ℕ) where
-  mutual
-    pub past_found : (c : Command) (p : Written) → past c p m ≡ true → (path : Path) × Through c path × Did p path m
-    past_found (lone k) p h = (k ∷ [], refl, did_more k p [] m (inl h))
-    past_found (try k place b) p h = elim (or_cases (past_simple k p m) (past_block b (past_simple k p) m) h) [
-      | inl i ↦ (k ∷ [], inl refl, did_more k p [] m (inl i))
-      | inr i ↦ (
-          let f = past_block_found b (past_simple k p) i in
-          (k ∷ f.0, inr (f.0, f.1, refl), did_more k p f.0 m f.2))
-    ]
-    past_found (if_else place e b other) p h = elim (or_cases (past_block b p m) (past_else other p m) h) [
-      | inl i ↦ (let f = past_block_found b p i in (f.0, inl f.1, f.2))
-      | inr i ↦ (let f = past_else_found other p i in (f.0, inr f.1, f.2))
-    ]
-    past_found (try_then k place a b) p h = elim (or_cases (past_block a (past_simple k p) m) (past_block b (past_simple k p) m) h) [
-      | inl i ↦ (
-          let f = past_block_found a (past_simple k p) i in
-          (k ∷ f.0, inl (f.0, f.1, refl), did_more k p f.0 m f.2))
-      | inr i ↦ (
-          let f = past_block_found b (past_simple k p) i in
-          (k ∷ f.0, inr (f.0, f.1, refl), did_more k p f.0 m f.2))
-    ]
-    past_found (case_of place e arms) p h = past_arms_found arms p h
-
-    past_arms_found : (arms : Arms) (p : Written) → past_arms arms p m ≡ true → (path : Path) × ThroughArms arms path × Did p path m
-    past_arms_found (last_arm b) p h = past_block_found b p h
-    past_arms_found (and_arm constants b arms) p h = elim (or_cases (past_block b p m) (past_arms arms p m) h) [
-      | inl i ↦ (let f = past_block_found b p i in (f.0, inl f.1, f.2))
-      | inr i ↦ (let f = past_arms_found arms p i in (f.0, inr f.1, f.2))
-    ]
-
-    past_block_found : (b : CommandBlock) (p : Written) → past_block b p m ≡ true → (path : Path) × ThroughBlock b path × Did p path m
-    past_block_found (command_block cs after) p h = past_list_found cs p h
-
-    past_else_found : (b : ElseBlock) (p : Written) → past_else b p m ≡ true → (path : Path) × ThroughElse b path × Did p path m
-    past_else_found no_else p h = ([], refl, inl h)
-    past_else_found (with_else b) p h = past_block_found b p h
-
-    pub past_list_found : (cs : CommandList) (p : Written) → past_list cs p m ≡ true → (path : Path) × ThroughList cs path × Did p path m
-    past_list_found no_command p h = ([], refl, inl h)
-    past_list_found (and_command c cs) p h =
-        let g = past_list_found cs (past c p) h in
-        elim g.2 [
-          | inl i ↦ (
-              let f = past_found c p i in
-              (f.0 ++ g.0, (f.0, g.0, f.1, g.1, refl), did_front p f.0 g.0 m f.2))
-          | inr i ↦ (
-              let f = some_path c in
-              (f.0 ++ g.0, (f.0, g.0, f.1, g.1, refl), inr (has_right f.0 g.0 m i)))
-        ]
-
-  -- and the other way round
-  mutual
-    pub found_past : (c : Command) (p : Written) (path : Path) → Through c path → Did p path m → past c p m ≡ true
-    found_past (lone k) p path t d = did_one k p path m t d
-    found_past (try k place b) p path (inl e) d = or_left (past_simple k p m) (past_block b (past_simple k p) m) (did_one k p path m e d)
-    found_past (try k place b) p path (inr t) d =
-        or_right (past_simple k p m) (past_block b (past_simple k p) m)
-        (found_past_block b (past_simple k p) t.0 t.1 (did_less k p t.0 m (subst (λ (x : Path). Did p x m) t.2 d)))
-    found_past (if_else place e b other) p path (inl t) d = or_left (past_block b p m) (past_else other p m) (found_past_block b p path t d)
-    found_past (if_else place e b other) p path (inr t) d = or_right (past_block b p m) (past_else other p m) (found_past_else other p path t d)
-    found_past (try_then k place a b) p path (inl t) d =
-        or_left (past_block a (past_simple k p) m) (past_block b (past_simple k p) m)
-        (found_past_block a (past_simple k p) t.0 t.1 (did_less k p t.0 m (subst (λ (x : Path). Did p x m) t.2 d)))
-    found_past (try_then k place a b) p path (inr t) d =
-        or_right (past_block a (past_simple k p) m) (past_block b (past_simple k p) m)
-        (found_past_block b (past_simple k p) t.0 t.1 (did_less k p t.0 m (subst (λ (x : Path). Did p x m) t.2 d)))
-    found_past (case_of place e arms) p path t d = found_past_arms arms p path t d
-
-    found_past_arms : (arms : Arms) (p : Written) (path : Path) → ThroughArms arms path → Did p path m → past_arms arms p m ≡ true
-    found_past_arms (last_arm b) p path t d = found_past_block b p path t d
-    found_past_arms (and_arm constants b arms) p path (inl t) d = or_left (past_block b p m) (past_arms arms p m) (found_past_block b p path t d)
-    found_past_arms (and_arm constants b arms) p path (inr t) d = or_right (past_block b p m) (past_arms arms p m) (found_past_arms arms p path t d)
-
-    pub found_past_block : (b : CommandBlock) (p : Written) (path : Path) → ThroughBlock b path → Did p path m → past_block b p m ≡ true
-    found_past_block (command_block cs after) p path t d = found_past_list cs p path t d
-
-    found_past_else : (b : ElseBlock) (p : Written) (path : Path) → ThroughElse b path → Did p path m → past_else b p m ≡ true
-    found_past_else no_else p path t d = elim (subst (λ (x : Path). Did p x m) t d) [ inl h ↦ h | inr h ↦ absurd h ]
-    found_past_else (with_else b) p path t d = found_past_block b p path t d
-
-    found_past_list : (cs : CommandList) (p : Written) (path : Path) → ThroughList cs path → Did p path m → past_list cs p m ≡ true
-    found_past_list no_command p path t d = elim (subst (λ (x : Path). Did p x m) t d) [ inl h ↦ h | inr h ↦ absurd h ]
-    found_past_list (and_command c cs) p path t d = found_past_list cs (past c p) t.1 t.3 (
-        elim (subst (λ (x : Path). Did p x m) t.4 d) [
-          | inl h ↦ inl (found_past c p t.0 t.2 (inl h))
-          | inr h ↦ elim (has_parts t.0 t.1 m h) [
-            | inl i ↦ inl (found_past c p t.0 t.2 (inr i))
-            | inr i ↦ inr i
-          ]
-        ])
-
--- where a fall stands, and up to where paths go
-pub fall_is : (k : SimpleCommand) → is_fall k ≡ true → IsFall k
+fall_is : (k : SimpleCommand) → is_fall k ≡ true → IsFall k
 fall_is (assign target e) h = cc
 fall_is (write target index e) h = cc
 fall_is (set_tag place target tag) h = cc
@@ -207,241 +67,244 @@ is_that_fall (set_cell_tag place target index tag) h = absurd h
 is_that_fall (go_to place target) h = absurd h
 is_that_fall (fall_to_child place) h = refl
 
-mutual
-  falls_found : (c : Command) → falls c ≡ true → (path : Path) × UpToFall c path
-  falls_found (lone k) h = (k ∷ [], (fall_is k h, refl))
-  falls_found (try k place b) h = elim (or_cases (is_fall k) (falls_block b) h) [
-    | inl i ↦ (k ∷ [], inl (fall_is k i, refl))
-    | inr i ↦ (let f = falls_block_found b i in (k ∷ f.0, inr (f.0, f.1, refl)))
-  ]
-  falls_found (if_else place e b other) h = elim (or_cases (falls_block b) (falls_else other) h) [
-    | inl i ↦ (let f = falls_block_found b i in (f.0, inl f.1))
-    | inr i ↦ (let f = falls_else_found other i in (f.0, inr f.1))
-  ]
-  falls_found (try_then k place a b) h = elim (or_cases (is_fall k) (falls_block a || falls_block b) h) [
-    | inl i ↦ (k ∷ [], inl (fall_is k i, refl))
-    | inr i ↦ elim (or_cases (falls_block a) (falls_block b) i) [
-      | inl j ↦ (let f = falls_block_found a j in (k ∷ f.0, inr (inl (f.0, f.1, refl))))
-      | inr j ↦ (let f = falls_block_found b j in (k ∷ f.0, inr (inr (f.0, f.1, refl))))
-    ]
-  ]
-  falls_found (case_of place e arms) h = falls_arms_found arms h
+step_entering : (k : SimpleCommand) (p : Written) (m : List ℕ) → entering_simple k p m ≡ true → IsFall k × (past_simple k p m ≡ true)
+step_entering (assign target e) p m h = cc
+step_entering (write target index e) p m h = cc
+step_entering (set_tag place target tag) p m h = cc
+step_entering (set_cell_tag place target index tag) p m h = cc
+step_entering (go_to place target) p m h = cc
+step_entering (fall_to_child place) p m h = (tt, h)
 
-  falls_arms_found : (arms : Arms) → falls_arms arms ≡ true → (path : Path) × UpToFallArms arms path
-  falls_arms_found (last_arm b) h = falls_block_found b h
-  falls_arms_found (and_arm constants b arms) h = elim (or_cases (falls_block b) (falls_arms arms) h) [
-    | inl i ↦ (let f = falls_block_found b i in (f.0, inl f.1))
-    | inr i ↦ (let f = falls_arms_found arms i in (f.0, inr f.1))
-  ]
+fall_entering : (k : SimpleCommand) (p : Written) (m : List ℕ) → IsFall k → past_simple k p m ≡ true → entering_simple k p m ≡ true
+fall_entering (assign target e) p m f h = absurd f
+fall_entering (write target index e) p m f h = absurd f
+fall_entering (set_tag place target tag) p m f h = absurd f
+fall_entering (set_cell_tag place target index tag) p m f h = absurd f
+fall_entering (go_to place target) p m f h = absurd f
+fall_entering (fall_to_child place) p m f h = h
 
-  pub falls_block_found : (b : CommandBlock) → falls_block b ≡ true → (path : Path) × UpToFallBlock b path
-  falls_block_found (command_block cs after) h = falls_list_found cs h
+fault_stands : (test : Bool) (place : Place) (f : Fault) → StandsIn f (fault_if test E14 place) → (test ≡ true) × (f ≡ twice_at place)
+fault_stands true place f (inl h) = (refl, h)
+fault_stands true place f (inr h) = absurd h
+fault_stands false place f h = absurd h
 
-  falls_else_found : (b : ElseBlock) → falls_else b ≡ true → (path : Path) × UpToFallElse b path
-  falls_else_found no_else h = cc
-  falls_else_found (with_else b) h = falls_block_found b h
+fault_at : (test : Bool) (place : Place) → test ≡ true → StandsIn (twice_at place) (fault_if test E14 place)
+fault_at true place h = inl refl
+fault_at false place h = cc
 
-  falls_list_found : (cs : CommandList) → falls_list cs ≡ true → (path : Path) × UpToFallList cs path
-  falls_list_found no_command h = cc
-  falls_list_found (and_command c cs) h = elim (or_cases (falls c) (falls_list cs) h) [
-    | inl i ↦ (let f = falls_found c i in (f.0, inl f.1))
-    | inr i ↦ (
-        let f = some_path c in
-        let g = falls_list_found cs i in
-        (f.0 ++ g.0, inr (f.0, g.0, f.1, g.1, refl)))
-  ]
+step_found : (k : SimpleCommand) (p : Written) (f : Fault) → StandsIn f (second_simple k p) → Behind p (k ∷ []) k × (f ≡ twice_at (place_of k))
+step_found (assign target e) p f h = absurd h
+step_found (write target index e) p f h =
+    let s = fault_stands (p target.name) target.place f h in
+    (inl (refl, target.name, refl, s.0), s.1)
+step_found (set_tag place target tag) p f h = absurd h
+step_found (set_cell_tag place target index tag) p f h =
+    let s = fault_stands (p target.name) place f h in
+    (inl (refl, target.name, refl, s.0), s.1)
+step_found (go_to place target) p f h = absurd h
+step_found (fall_to_child place) p f h = absurd h
 
-mutual
-  found_falls : (c : Command) (path : Path) → UpToFall c path → falls c ≡ true
-  found_falls (lone k) path t = is_that_fall k t.0
-  found_falls (try k place b) path (inl t) = or_left (is_fall k) (falls_block b) (is_that_fall k t.0)
-  found_falls (try k place b) path (inr t) = or_right (is_fall k) (falls_block b) (found_falls_block b t.0 t.1)
-  found_falls (if_else place e b other) path (inl t) = or_left (falls_block b) (falls_else other) (found_falls_block b path t)
-  found_falls (if_else place e b other) path (inr t) = or_right (falls_block b) (falls_else other) (found_falls_else other path t)
-  found_falls (try_then k place a b) path (inl t) = or_left (is_fall k) (falls_block a || falls_block b) (is_that_fall k t.0)
-  found_falls (try_then k place a b) path (inr (inl t)) =
-      or_right (is_fall k) (falls_block a || falls_block b) (or_left (falls_block a) (falls_block b) (found_falls_block a t.0 t.1))
-  found_falls (try_then k place a b) path (inr (inr t)) =
-      or_right (is_fall k) (falls_block a || falls_block b) (or_right (falls_block a) (falls_block b) (found_falls_block b t.0 t.1))
-  found_falls (case_of place e arms) path t = found_falls_arms arms path t
+step_stands : (k : SimpleCommand) (p : Written) (m : List ℕ) → IsOfMemory k m → p m ≡ true → StandsIn (twice_at (place_of k)) (second_simple k p)
+step_stands (assign target e) p m w h = absurd w
+step_stands (write target index e) p m w h = fault_at (p target.name) target.place (ap p w ∙ h)
+step_stands (set_tag place target tag) p m w h = absurd w
+step_stands (set_cell_tag place target index tag) p m w h = fault_at (p target.name) place (ap p w ∙ h)
+step_stands (go_to place target) p m w h = absurd w
+step_stands (fall_to_child place) p m w h = absurd w
 
-  found_falls_arms : (arms : Arms) (path : Path) → UpToFallArms arms path → falls_arms arms ≡ true
-  found_falls_arms (last_arm b) path t = found_falls_block b path t
-  found_falls_arms (and_arm constants b arms) path (inl t) = or_left (falls_block b) (falls_arms arms) (found_falls_block b path t)
-  found_falls_arms (and_arm constants b arms) path (inr t) = or_right (falls_block b) (falls_arms arms) (found_falls_arms arms path t)
+one_stands : (j k : SimpleCommand) (p : Written) → Behind p (j ∷ []) k → StandsIn (twice_at (place_of k)) (second_simple j p)
+one_stands j k p (inl i) = subst (λ (x : SimpleCommand). StandsIn (twice_at (place_of k)) (second_simple x p)) i.0 (step_stands k p i.1 i.2 i.3)
+one_stands j k p (inr i) = absurd i
 
-  pub found_falls_block : (b : CommandBlock) (path : Path) → UpToFallBlock b path → falls_block b ≡ true
-  found_falls_block (command_block cs after) path t = found_falls_list cs path t
+abbrev One : SimpleCommand → Path → Type 0
+One k path = path ≡ k ∷ []
 
-  found_falls_else : (b : ElseBlock) (path : Path) → UpToFallElse b path → falls_else b ≡ true
-  found_falls_else no_else path t = absurd t
-  found_falls_else (with_else b) path t = found_falls_block b path t
+abbrev OneFall : SimpleCommand → Path → Type 0
+OneFall k path = IsFall k × (path ≡ k ∷ [])
 
-  found_falls_list : (cs : CommandList) (path : Path) → UpToFallList cs path → falls_list cs ≡ true
-  found_falls_list no_command path t = absurd t
-  found_falls_list (and_command c cs) path (inl t) = or_left (falls c) (falls_list cs) (found_falls c path t)
-  found_falls_list (and_command c cs) path (inr t) = or_right (falls c) (falls_list cs) (found_falls_list cs t.1 t.3)
+abbrev one : SimpleCommand → Stretch
+one k = record { part = simple k; falls = is_fall k; Passes = One k; Falls = OneFall k }
 
--- what is written where a child is entered, was written before or is on a path up to there
-module _ (m : List ℕ) where
-  step_entering : (k : SimpleCommand) (p : Written) → entering_simple k p m ≡ true → IsFall k × (p m ≡ true)
-  step_entering (assign target e) p h = cc
-  step_entering (write target index e) p h = cc
-  step_entering (set_tag place target tag) p h = cc
-  step_entering (set_cell_tag place target index tag) p h = cc
-  step_entering (go_to place target) p h = cc
-  step_entering (fall_to_child place) p h = (tt, h)
+one_follows : (k : SimpleCommand) → Follows (one k)
+one_follows k = record {
+  passing = (k ∷ [], refl);
+  falling = λ h. (k ∷ [], (fall_is k h, refl));
+  fallen = λ path t. is_that_fall k t.0;
+  onward = λ path t. ([], ap (λ (x : Path). x ++ []) t.1);
+  past = record { on_path = λ m p h. (k ∷ [], refl, h); of_path = λ m p path t h. subst (λ (x : Path). past_path x p m ≡ true) t h };
+  entering = record {
+    on_path = λ m p h. let s = step_entering k p m h in (k ∷ [], (s.0, refl), s.1);
+    of_path = λ m p path t h. fall_entering k p m t.0 (subst (λ (x : Path). past_path x p m ≡ true) t.1 h);
+  };
+  again = record {
+    on_path = λ p f h. let s = step_found k p f h in (k, k ∷ [], refl, s.0, s.1);
+    of_path = λ p j path t h. one_stands k j p (subst (λ (x : Path). Behind p x j) t h);
+  };
+}
 
-  mutual
-    entering_found : (c : Command) (p : Written) → entering c p m ≡ true → (path : Path) × UpToFall c path × Did p path m
-    entering_found (lone k) p h = let f = step_entering k p h in (k ∷ [], (f.0, refl), inl f.1)
-    entering_found (try k place b) p h = elim (or_cases (entering_simple k p m) (entering_block b (past_simple k p) m) h) [
-      | inl i ↦ (let f = step_entering k p i in (k ∷ [], inl (f.0, refl), inl f.1))
+-- two parts
+
+abbrev fork : Stretch → Stretch → Stretch
+fork s t = record { part = branch s.part t.part; falls = s.falls || t.falls; Passes = Either s.Passes t.Passes; Falls = Either s.Falls t.Falls }
+
+abbrev in_turn : Stretch → Stretch → Stretch
+in_turn s t = record {
+  part = behind s.part t.part;
+  falls = s.falls || t.falls;
+  Passes = Then s.Passes t.Passes;
+  Falls = Either s.Falls (Then s.Passes t.Falls);
+}
+
+module _ (s t : Stretch) (F : Follows s) (G : Follows t) where
+  fork_follows : Follows (fork s t)
+  fork_follows = record {
+    passing = (F.passing.0, inl F.passing.1);
+    falling = λ h. elim (or_cases s.falls t.falls h) [
+      | inl i ↦ (let r = F.falling i in (r.0, inl r.1))
+      | inr i ↦ (let r = G.falling i in (r.0, inr r.1))
+    ];
+    fallen = λ path u. elim u [ inl i ↦ or_left s.falls t.falls (F.fallen path i) | inr i ↦ or_right s.falls t.falls (G.fallen path i) ];
+    onward = λ path u. elim u [
+      | inl i ↦ (let r = F.onward path i in (r.0, inl r.1))
+      | inr i ↦ (let r = G.onward path i in (r.0, inr r.1))
+    ];
+    past = reaches_either (λ p. (s.part p).past) (λ p. (t.part p).past) s.Passes t.Passes F.past G.past;
+    entering = reaches_either (λ p. (s.part p).entering) (λ p. (t.part p).entering) s.Falls t.Falls F.entering G.entering;
+    again = repeats_either (λ p. (s.part p).again) (λ p. (t.part p).again) s.Passes t.Passes F.again G.again;
+  }
+
+  in_turn_follows : Follows (in_turn s t)
+  in_turn_follows = record {
+    passing = (F.passing.0 ++ G.passing.0, (F.passing.0, G.passing.0, F.passing.1, G.passing.1, refl));
+    falling = λ h. elim (or_cases s.falls t.falls h) [
+      | inl i ↦ (let r = F.falling i in (r.0, inl r.1))
+      | inr i ↦ (let r = G.falling i in (F.passing.0 ++ r.0, inr (F.passing.0, r.0, F.passing.1, r.1, refl)))
+    ];
+    fallen = λ path u. elim u [ inl i ↦ or_left s.falls t.falls (F.fallen path i) | inr i ↦ or_right s.falls t.falls (G.fallen i.1 i.3) ];
+    onward = λ path u. elim u [
+      | inl i ↦ (
+          let r = F.onward path i in
+          (r.0 ++ G.passing.0, (path ++ r.0, G.passing.0, r.1, G.passing.1, sym (append_assoc path r.0 G.passing.0))))
       | inr i ↦ (
-          let f = entering_block_found b (past_simple k p) i in
-          (k ∷ f.0, inr (f.0, f.1, refl), did_more k p f.0 m f.2))
-    ]
-    entering_found (if_else place e b other) p h = elim (or_cases (entering_block b p m) (entering_else other p m) h) [
-      | inl i ↦ (let f = entering_block_found b p i in (f.0, inl f.1, f.2))
-      | inr i ↦ (let f = entering_else_found other p i in (f.0, inr f.1, f.2))
-    ]
-    entering_found (try_then k place a b) p h = elim (or_cases (entering_simple k p m) (entering_block a (past_simple k p) m || entering_block b (past_simple k p) m) h) [
-      | inl i ↦ (let f = step_entering k p i in (k ∷ [], inl (f.0, refl), inl f.1))
-      | inr i ↦ elim (or_cases (entering_block a (past_simple k p) m) (entering_block b (past_simple k p) m) i) [
-        | inl j ↦ (
-            let f = entering_block_found a (past_simple k p) j in
-            (k ∷ f.0, inr (inl (f.0, f.1, refl)), did_more k p f.0 m f.2))
-        | inr j ↦ (
-            let f = entering_block_found b (past_simple k p) j in
-            (k ∷ f.0, inr (inr (f.0, f.1, refl)), did_more k p f.0 m f.2))
-      ]
-    ]
-    entering_found (case_of place e arms) p h = entering_arms_found arms p h
+          let r = G.onward i.1 i.3 in
+          (r.0, (i.0, i.1 ++ r.0, i.2, r.1, ap (λ (x : Path). x ++ r.0) i.4 ∙ append_assoc i.0 i.1 r.0)))
+    ];
+    past = reaches_behind (λ p. (s.part p).past) s.Passes F.past t.Passes F.passing (λ p. (t.part p).past) G.past;
+    entering = reaches_either (λ p. (s.part p).entering) (λ p. (t.part (s.part p).past).entering) s.Falls (Then s.Passes t.Falls) F.entering
+        (reaches_behind (λ p. (s.part p).past) s.Passes F.past t.Falls F.passing (λ p. (t.part p).entering) G.entering);
+    again = repeats_then (λ p. (s.part p).past) (λ p. (s.part p).again) (λ p. (t.part p).again) s.Passes t.Passes F.passing G.passing F.past F.again G.again;
+  }
 
-    entering_arms_found : (arms : Arms) (p : Written) → entering_arms arms p m ≡ true → (path : Path) × UpToFallArms arms path × Did p path m
-    entering_arms_found (last_arm b) p h = entering_block_found b p h
-    entering_arms_found (and_arm constants b arms) p h = elim (or_cases (entering_block b p m) (entering_arms arms p m) h) [
-      | inl i ↦ (let f = entering_block_found b p i in (f.0, inl f.1, f.2))
-      | inr i ↦ (let f = entering_arms_found arms p i in (f.0, inr f.1, f.2))
-    ]
+-- the same paths in other words
+module _ (s : Stretch) (V W : Path → Type 0) (to : (path : Path) → s.Passes path → V path) (from : (path : Path) → V path → s.Passes path)
+    (to_fall : (path : Path) → s.Falls path → W path) (from_fall : (path : Path) → W path → s.Falls path) (F : Follows s) where
+  reworded : Follows (record { part = s.part; falls = s.falls; Passes = V; Falls = W })
+  reworded = record {
+    passing = (F.passing.0, to F.passing.0 F.passing.1);
+    falling = λ h. let r = F.falling h in (r.0, to_fall r.0 r.1);
+    fallen = λ path t. F.fallen path (from_fall path t);
+    onward = λ path t. let r = F.onward path (from_fall path t) in (r.0, to (path ++ r.0) r.1);
+    past = reaches_same (λ p. (s.part p).past) s.Passes V to from F.past;
+    entering = reaches_same (λ p. (s.part p).entering) s.Falls W to_fall from_fall F.entering;
+    again = repeats_same (λ p. (s.part p).again) s.Passes V to from F.again;
+  }
 
-    pub entering_block_found : (b : CommandBlock) (p : Written) → entering_block b p m ≡ true → (path : Path) × UpToFallBlock b path × Did p path m
-    entering_block_found (command_block cs after) p h = entering_list_found cs p h
+-- a simple command, and what comes behind it
 
-    entering_else_found : (b : ElseBlock) (p : Written) → entering_else b p m ≡ true → (path : Path) × UpToFallElse b path × Did p path m
-    entering_else_found no_else p h = cc
-    entering_else_found (with_else b) p h = entering_block_found b p h
+abbrev Next : SimpleCommand → (Path → Type 0) → Path → Type 0
+Next k V path = (rest : Path) × V rest × (path ≡ k ∷ rest)
 
-    entering_list_found : (cs : CommandList) (p : Written) → entering_list cs p m ≡ true → (path : Path) × UpToFallList cs path × Did p path m
-    entering_list_found no_command p h = cc
-    entering_list_found (and_command c cs) p h = elim (or_cases (entering c p m) (entering_list cs (past c p) m) h) [
-      | inl i ↦ (let f = entering_found c p i in (f.0, inl f.1, f.2))
-      | inr i ↦ (
-          let g = entering_list_found cs (past c p) i in
-          elim g.2 [
-            | inl j ↦ (
-                let f = past_found m c p j in
-                (f.0 ++ g.0, inr (f.0, g.0, f.1, g.1, refl), did_front p f.0 g.0 m f.2))
-            | inr j ↦ (
-                let f = some_path c in
-                (f.0 ++ g.0, inr (f.0, g.0, f.1, g.1, refl), inr (has_right f.0 g.0 m j)))
-          ])
-    ]
+to_next : (k : SimpleCommand) (V : Path → Type 0) (path : Path) → Then (One k) V path → Next k V path
+to_next k V path t = (t.1, t.3, t.4 ∙ ap (λ (x : Path). x ++ t.1) t.2)
 
-  fall_entering : (k : SimpleCommand) (p : Written) (path : Path) → IsFall k → path ≡ k ∷ [] → Did p path m → entering_simple k p m ≡ true
-  fall_entering (assign target e) p path f t d = absurd f
-  fall_entering (write target index e) p path f t d = absurd f
-  fall_entering (set_tag place target tag) p path f t d = absurd f
-  fall_entering (set_cell_tag place target index tag) p path f t d = absurd f
-  fall_entering (go_to place target) p path f t d = absurd f
-  fall_entering (fall_to_child place) p path f t d = did_one (fall_to_child place) p path m t d
+from_next : (k : SimpleCommand) (V : Path → Type 0) (path : Path) → Next k V path → Then (One k) V path
+from_next k V path t = (k ∷ [], t.0, refl, t.1, t.2)
 
-  mutual
-    found_entering : (c : Command) (p : Written) (path : Path) → UpToFall c path → Did p path m → entering c p m ≡ true
-    found_entering (lone k) p path t d = fall_entering k p path t.0 t.1 d
-    found_entering (try k place b) p path (inl t) d =
-        or_left (entering_simple k p m) (entering_block b (past_simple k p) m) (fall_entering k p path t.0 t.1 d)
-    found_entering (try k place b) p path (inr t) d =
-        or_right (entering_simple k p m) (entering_block b (past_simple k p) m)
-        (found_entering_block b (past_simple k p) t.0 t.1 (did_less k p t.0 m (subst (λ (x : Path). Did p x m) t.2 d)))
-    found_entering (if_else place e b other) p path (inl t) d = or_left (entering_block b p m) (entering_else other p m) (found_entering_block b p path t d)
-    found_entering (if_else place e b other) p path (inr t) d = or_right (entering_block b p m) (entering_else other p m) (found_entering_else other p path t d)
-    found_entering (try_then k place a b) p path (inl t) d =
-        or_left (entering_simple k p m) (entering_block a (past_simple k p) m || entering_block b (past_simple k p) m) (fall_entering k p path t.0 t.1 d)
-    found_entering (try_then k place a b) p path (inr (inl t)) d =
-        or_right (entering_simple k p m) (entering_block a (past_simple k p) m || entering_block b (past_simple k p) m)
-        (or_left (entering_block a (past_simple k p) m) (entering_block b (past_simple k p) m)
-        (found_entering_block a (past_simple k p) t.0 t.1 (did_less k p t.0 m (subst (λ (x : Path). Did p x m) t.2 d))))
-    found_entering (try_then k place a b) p path (inr (inr t)) d =
-        or_right (entering_simple k p m) (entering_block a (past_simple k p) m || entering_block b (past_simple k p) m)
-        (or_right (entering_block a (past_simple k p) m) (entering_block b (past_simple k p) m)
-        (found_entering_block b (past_simple k p) t.0 t.1 (did_less k p t.0 m (subst (λ (x : Path). Did p x m) t.2 d))))
-    found_entering (case_of place e arms) p path t d = found_entering_arms arms p path t d
+-- `or_next` is for a `try`, whose path may end with its command
+module _ (k : SimpleCommand) (V : Path → Type 0) where
+  or_next : (path : Path) → Then (One k) (Either (λ x. x ≡ []) V) path → One k path ⊎ Next k V path
+  or_next path t =
+      let r = to_next k (Either (λ x. x ≡ []) V) path t in
+      elim r.1 [ inl e ↦ inl (r.2 ∙ ap (λ (x : Path). k ∷ x) e) | inr i ↦ inr (r.0, i, r.2) ]
 
-    found_entering_arms : (arms : Arms) (p : Written) (path : Path) → UpToFallArms arms path → Did p path m → entering_arms arms p m ≡ true
-    found_entering_arms (last_arm b) p path t d = found_entering_block b p path t d
-    found_entering_arms (and_arm constants b arms) p path (inl t) d = or_left (entering_block b p m) (entering_arms arms p m) (found_entering_block b p path t d)
-    found_entering_arms (and_arm constants b arms) p path (inr t) d = or_right (entering_block b p m) (entering_arms arms p m) (found_entering_arms arms p path t d)
+  from_or_next : (path : Path) → One k path ⊎ Next k V path → Then (One k) (Either (λ x. x ≡ []) V) path
+  from_or_next path (inl e) = from_next k (Either (λ x. x ≡ []) V) path ([], inl refl, e)
+  from_or_next path (inr t) = from_next k (Either (λ x. x ≡ []) V) path (t.0, inr t.1, t.2)
 
-    pub found_entering_block : (b : CommandBlock) (p : Written) (path : Path) → UpToFallBlock b path → Did p path m → entering_block b p m ≡ true
-    found_entering_block (command_block cs after) p path t d = found_entering_list cs p path t d
+  or_next_fall : (path : Path) → Either (OneFall k) (Then (One k) (Either (λ x. ⊥) V)) path → OneFall k path ⊎ Next k V path
+  or_next_fall path (inl e) = inl e
+  or_next_fall path (inr t) =
+      let r = to_next k (Either (λ x. ⊥) V) path t in
+      elim r.1 [ inl e ↦ absurd e | inr i ↦ inr (r.0, i, r.2) ]
 
-    found_entering_else : (b : ElseBlock) (p : Written) (path : Path) → UpToFallElse b path → Did p path m → entering_else b p m ≡ true
-    found_entering_else no_else p path t d = absurd t
-    found_entering_else (with_else b) p path t d = found_entering_block b p path t d
+  from_or_next_fall : (path : Path) → OneFall k path ⊎ Next k V path → Either (OneFall k) (Then (One k) (Either (λ x. ⊥) V)) path
+  from_or_next_fall path (inl e) = inl e
+  from_or_next_fall path (inr t) = inr (from_next k (Either (λ x. ⊥) V) path (t.0, inr t.1, t.2))
 
-    found_entering_list : (cs : CommandList) (p : Written) (path : Path) → UpToFallList cs path → Did p path m → entering_list cs p m ≡ true
-    found_entering_list no_command p path t d = absurd t
-    found_entering_list (and_command c cs) p path (inl t) d = or_left (entering c p m) (entering_list cs (past c p) m) (found_entering c p path t d)
-    found_entering_list (and_command c cs) p path (inr t) d =
-        or_right (entering c p m) (entering_list cs (past c p) m) (found_entering_list cs (past c p) t.1 t.3 (
-        elim (subst (λ (x : Path). Did p x m) t.4 d) [
-          | inl h ↦ inl (found_past m c p t.0 t.2 (inl h))
-          | inr h ↦ elim (has_parts t.0 t.1 m h) [
-            | inl i ↦ inl (found_past m c p t.0 t.2 (inr i))
-            | inr i ↦ inr i
-          ]
-        ]))
+-- behind a command with `then`, either block
+module _ (k : SimpleCommand) (V W : Path → Type 0) where
+  next_either : (path : Path) → Then (One k) (Either V W) path → Next k V path ⊎ Next k W path
+  next_either path t =
+      let r = to_next k (Either V W) path t in
+      elim r.1 [ inl i ↦ inl (r.0, i, r.2) | inr i ↦ inr (r.0, i, r.2) ]
 
--- a path up to a fall goes on through the body
+  from_next_either : (path : Path) → Next k V path ⊎ Next k W path → Then (One k) (Either V W) path
+  from_next_either path (inl t) = from_next k (Either V W) path (t.0, inl t.1, t.2)
+  from_next_either path (inr t) = from_next k (Either V W) path (t.0, inr t.1, t.2)
+
+  next_either_fall : (path : Path) → Either (OneFall k) (Then (One k) (Either V W)) path → OneFall k path ⊎ (Next k V path ⊎ Next k W path)
+  next_either_fall path (inl e) = inl e
+  next_either_fall path (inr t) = inr (next_either path t)
+
+  from_next_either_fall : (path : Path) → OneFall k path ⊎ (Next k V path ⊎ Next k W path) → Either (OneFall k) (Then (One k) (Either V W)) path
+  from_next_either_fall path (inl e) = inl e
+  from_next_either_fall path (inr t) = inr (from_next_either path t)
+
+-- the parts of a body
+
+abbrev pub of_command : Command → Stretch
+of_command c = record { part = found c; falls = falls c; Passes = Through c; Falls = UpToFall c }
+
+abbrev pub of_block : CommandBlock → Stretch
+of_block b = record { part = found_in_block b; falls = falls_block b; Passes = ThroughBlock b; Falls = UpToFallBlock b }
+
+abbrev of_else : ElseBlock → Stretch
+of_else b = record { part = found_in_else b; falls = falls_else b; Passes = ThroughElse b; Falls = UpToFallElse b }
+
+abbrev of_arms : Arms → Stretch
+of_arms arms = record { part = found_in_arms arms; falls = falls_arms arms; Passes = ThroughArms arms; Falls = UpToFallArms arms }
+
+abbrev pub of_list : CommandList → Stretch
+of_list cs = record { part = found_in_list cs; falls = falls_list cs; Passes = ThroughList cs; Falls = UpToFallList cs }
+
 mutual
-  onward : (c : Command) (path : Path) → UpToFall c path → (rest : Path) × Through c (path ++ rest)
-  onward (lone k) path t = ([], ap (λ (x : Path). x ++ []) t.1)
-  onward (try k place b) path (inl t) = ([], inl (ap (λ (x : Path). x ++ []) t.1))
-  onward (try k place b) path (inr t) =
-      let f = onward_block b t.0 t.1 in
-      (f.0, inr (t.0 ++ f.0, f.1, ap (λ (x : Path). x ++ f.0) t.2))
-  onward (if_else place e b other) path (inl t) = let f = onward_block b path t in (f.0, inl f.1)
-  onward (if_else place e b other) path (inr t) = let f = onward_else other path t in (f.0, inr f.1)
-  onward (try_then k place a b) path (inl t) =
-      let f = some_block a in
-      (f.0, inl (f.0, f.1, ap (λ (x : Path). x ++ f.0) t.1))
-  onward (try_then k place a b) path (inr (inl t)) =
-      let f = onward_block a t.0 t.1 in
-      (f.0, inl (t.0 ++ f.0, f.1, ap (λ (x : Path). x ++ f.0) t.2))
-  onward (try_then k place a b) path (inr (inr t)) =
-      let f = onward_block b t.0 t.1 in
-      (f.0, inr (t.0 ++ f.0, f.1, ap (λ (x : Path). x ++ f.0) t.2))
-  onward (case_of place e arms) path t = onward_arms arms path t
+  pub command_follows : (c : Command) → Follows (of_command c)
+  command_follows (lone k) = one_follows k
+  command_follows (try k place b) =
+      let handled = fork_follows no_stretch (of_block b) nothing_follows (block_follows b) in
+      let whole = in_turn_follows (one k) (fork no_stretch (of_block b)) (one_follows k) handled in
+      reworded (in_turn (one k) (fork no_stretch (of_block b))) (Through (try k place b)) (UpToFall (try k place b)) (or_next k (ThroughBlock b)) (from_or_next k (ThroughBlock b)) (or_next_fall k (UpToFallBlock b))
+      (from_or_next_fall k (UpToFallBlock b)) whole
+  command_follows (if_else place e b other) = fork_follows (of_block b) (of_else other) (block_follows b) (else_follows other)
+  command_follows (try_then k place a b) =
+      let either_one = fork_follows (of_block a) (of_block b) (block_follows a) (block_follows b) in
+      let whole = in_turn_follows (one k) (fork (of_block a) (of_block b)) (one_follows k) either_one in
+      reworded (in_turn (one k) (fork (of_block a) (of_block b))) (Through (try_then k place a b)) (UpToFall (try_then k place a b)) (next_either k (ThroughBlock a) (ThroughBlock b))
+      (from_next_either k (ThroughBlock a) (ThroughBlock b)) (next_either_fall k (UpToFallBlock a) (UpToFallBlock b))
+      (from_next_either_fall k (UpToFallBlock a) (UpToFallBlock b)) whole
+  command_follows (case_of place e arms) = arms_follow arms
 
-  onward_arms : (arms : Arms) (path : Path) → UpToFallArms arms path → (rest : Path) × ThroughArms arms (path ++ rest)
-  onward_arms (last_arm b) path t = onward_block b path t
-  onward_arms (and_arm constants b arms) path (inl t) = let f = onward_block b path t in (f.0, inl f.1)
-  onward_arms (and_arm constants b arms) path (inr t) = let f = onward_arms arms path t in (f.0, inr f.1)
+  pub block_follows : (b : CommandBlock) → Follows (of_block b)
+  block_follows (command_block cs after) = list_follows cs
 
-  pub onward_block : (b : CommandBlock) (path : Path) → UpToFallBlock b path → (rest : Path) × ThroughBlock b (path ++ rest)
-  onward_block (command_block cs after) path t = onward_list cs path t
+  else_follows : (b : ElseBlock) → Follows (of_else b)
+  else_follows no_else = nothing_follows
+  else_follows (with_else b) = block_follows b
 
-  onward_else : (b : ElseBlock) (path : Path) → UpToFallElse b path → (rest : Path) × ThroughElse b (path ++ rest)
-  onward_else no_else path t = absurd t
-  onward_else (with_else b) path t = onward_block b path t
+  arms_follow : (arms : Arms) → Follows (of_arms arms)
+  arms_follow (last_arm b) = block_follows b
+  arms_follow (and_arm constants b arms) = fork_follows (of_block b) (of_arms arms) (block_follows b) (arms_follow arms)
 
-  onward_list : (cs : CommandList) (path : Path) → UpToFallList cs path → (rest : Path) × ThroughList cs (path ++ rest)
-  onward_list no_command path t = absurd t
-  onward_list (and_command c cs) path (inl t) =
-      let f = onward c path t in
-      let g = some_list cs in
-      (f.0 ++ g.0, (path ++ f.0, g.0, f.1, g.1, sym (append_assoc path f.0 g.0)))
-  onward_list (and_command c cs) path (inr t) =
-      let g = onward_list cs t.1 t.3 in
-      (g.0, (t.0, t.1 ++ g.0, t.2, g.1, ap (λ (x : Path). x ++ g.0) t.4 ∙ append_assoc t.0 t.1 g.0))
+  pub list_follows : (cs : CommandList) → Follows (of_list cs)
+  list_follows no_command = nothing_follows
+  list_follows (and_command c cs) = in_turn_follows (of_command c) (of_list cs) (command_follows c) (list_follows cs)

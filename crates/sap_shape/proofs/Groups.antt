@@ -1,22 +1,18 @@
 -- The faults of groups of states, from a place on.
-use Rattle.std.proofs.Common.{◌≡◌, ℕ, zero, suc, ◌+◌, ◌<◌, ◌≤◌, List, [], ◌∷◌, ◌++◌, length, get_or, drop, refl, sym, ap, ◌∙◌, arith, add-one, append-nil, Bool, true, false, if◌then◌else◌}
-use Rattle.std.specs.Prelude.{Option}
+use Rattle.sap_lemmas.proofs.Common.{◌≡◌, ℕ, zero, suc, ◌+◌, ◌<◌, ◌≤◌, List, [], ◌∷◌, ◌++◌, length, get_or, drop, refl, sym, ap, ◌∙◌, arith, add-one, append-nil, Bool, true, false, if◌then◌else◌, Option}
+use Rattle.sap_tree.specs.Prelude.{state_of, states_of, tree_of, StateTree}
 use Rattle.sap_tree.specs.declared.syntax.State.{State, out-State}
-use Rattle.sap_tree.specs.Trees.{state_of, states_of}
 use Rattle.sap_tree.specs.declared.syntax.Decl.{Decl}
-use Rattle.sap_tree.specs.Parts.{tree_of}
 use Rattle.sap_tree.specs.declared.version.Version.{Version}
-use Rattle.sap_tree.specs.Syntax.{StateTree}
 use Rattle.sap_tree.proofs.Views.{state_of-out}
 use Rattle.sap_tree.proofs.Weights.{state_weight, states_weight}
+use Rattle.sap_names.specs.Prelude.{best_of, entities_of}
 use Rattle.sap_names.specs.declared.fault.Fault.{Fault}
-use Rattle.sap_names.specs.Best.{best_of}
 use Rattle.sap_names.specs.declared.entity.Entity.{Entity}
-use Rattle.sap_names.specs.Entities.{entities_of}
 use Rattle.sap_names.proofs.Faults.{both}
 use Rattle.sap_shape.specs.Walk.{Written, fresh, second_state}
 use Rattle.sap_shape.specs.ShapeFaults.{state_shape}
-use Rattle.sap_shape.specs.Lists.{closing_list, list_shape, group_shape, entering_list, falls_list, second_list, second_states, shape_faults}
+use Rattle.sap_shape.specs.Lists.{closing_list, list_shape, group_shape, found_in_list, falls_list, second_states, shape_faults}
 
 module _ (es : List Entity) (group : List State) (above : List (List ℕ)) where
   pub group_shape-drop : (ss : List State) (n : ℕ) (d : State) → n < length ss
@@ -79,26 +75,26 @@ module _ (p : Written) where
       (second_states-drop ss n d h ∙ ap (λ (s : State). second_state (state_of s) p ++ second_states (drop (n + 1) ss) p) (sym e))
 
   pub second_state-is : (s : State) → second_state (state_of s) p
-      ≡ second_list (out-State s).body.commands.items p
-      ++ (if falls_list (out-State s).body.commands.items then second_states (out-State s).children.items (entering_list (out-State s).body.commands.items p) else [])
-  unfolding second_list second_states entering_list falls_list
+      ≡ (found_in_list (out-State s).body.commands.items p).again
+      ++ (if falls_list (out-State s).body.commands.items then second_states (out-State s).children.items (found_in_list (out-State s).body.commands.items p).entering else [])
+  unfolding found_in_list second_states falls_list
   second_state-is s = ap (λ (t : StateTree). second_state t p) (state_of-out s)
 
   -- where the body falls into its children, and where it doesn't
   pub state_falling : (s : State) (b : Bool) → b ≡ falls_list (out-State s).body.commands.items → b ≡ true → second_state (state_of s) p
-      ≡ second_list (out-State s).body.commands.items p ++ second_states (out-State s).children.items (entering_list (out-State s).body.commands.items p)
+      ≡ (found_in_list (out-State s).body.commands.items p).again ++ second_states (out-State s).children.items (found_in_list (out-State s).body.commands.items p).entering
   state_falling s b e t =
       second_state-is s
-      ∙ ap (λ (x : Bool). second_list (out-State s).body.commands.items p
-      ++ (if x then second_states (out-State s).children.items (entering_list (out-State s).body.commands.items p) else [])) (sym e ∙ t)
+      ∙ ap (λ (x : Bool). (found_in_list (out-State s).body.commands.items p).again
+      ++ (if x then second_states (out-State s).children.items (found_in_list (out-State s).body.commands.items p).entering else [])) (sym e ∙ t)
 
   pub state_staying : (s : State) (b : Bool) → b ≡ falls_list (out-State s).body.commands.items → b ≡ false → second_state (state_of s) p
-      ≡ second_list (out-State s).body.commands.items p
+      ≡ (found_in_list (out-State s).body.commands.items p).again
   state_staying s b e t =
       second_state-is s
-      ∙ ap (λ (x : Bool). second_list (out-State s).body.commands.items p
-      ++ (if x then second_states (out-State s).children.items (entering_list (out-State s).body.commands.items p) else [])) (sym e ∙ t)
-      ∙ append-nil (second_list (out-State s).body.commands.items p)
+      ∙ ap (λ (x : Bool). (found_in_list (out-State s).body.commands.items p).again
+      ++ (if x then second_states (out-State s).children.items (found_in_list (out-State s).body.commands.items p).entering else [])) (sym e ∙ t)
+      ∙ append-nil (found_in_list (out-State s).body.commands.items p).again
 
 pub design_is : (v : Version) (ds : List Decl) (ss ts us rs : List State) (es : List Entity) (above : List (List ℕ)) (w : Written)
     → es ≡ entities_of (tree_of v ds ss) → ts ≡ ss → us ≡ ss → rs ≡ ss → above ≡ [] → w ≡ fresh

@@ -4,6 +4,7 @@ pub mod Bodies
 pub mod Sets
 pub mod Walks
 pub mod Falling
+pub mod Tracks
 pub mod Followed
 pub mod Again
 pub mod Groups

@@ -1,10 +1,7 @@
 -- Whether some state of a list passes a test, from a place on.
-use Rattle.std.proofs.Common.{◌≡◌, ℕ, zero, suc, ◌+◌, ◌<◌, ◌≤◌, List, [], ◌∷◌, ◌||◌, Bool, true, false, not, length, get_or, drop, refl, sym, ap, ◌∙◌, arith, add-one, bytes_eq}
-use Rattle.std.specs.List.{list_any}
+use Rattle.sap_lemmas.proofs.Common.{◌≡◌, ℕ, zero, suc, ◌+◌, ◌<◌, ◌≤◌, List, [], ◌∷◌, ◌||◌, Bool, true, false, not, length, get_or, drop, refl, sym, ap, ◌∙◌, arith, add-one, bytes_eq, list_any}
+use Rattle.sap_tree.specs.Prelude.{StateTree, StateList, no_state, and_state, is_dynamic_kind, state_of, states_of}
 use Rattle.sap_tree.specs.declared.syntax.State.{State, out-State}
-use Rattle.sap_tree.specs.Syntax.{StateTree, StateList, no_state, and_state}
-use Rattle.sap_tree.specs.Touches.{is_dynamic_kind}
-use Rattle.sap_tree.specs.Trees.{state_of, states_of}
 use Rattle.sap_tree.proofs.Views.{state_of-out}
 use Rattle.sap_shape.specs.Sites.{any_enforced, kind_of_state}
 use Rattle.sap_shape.specs.ShapeFaults.{is_among, name_of, is_in_group, is_within, is_leaf}

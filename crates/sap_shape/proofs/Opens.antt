@@ -1,16 +1,13 @@
 -- The faults of lists that must be open or must close.
-use Rattle.std.proofs.Common.{◌≡◌, ℕ, zero, suc, ◌+◌, ◌-◌, ◌<◌, ◌≤◌, List, [], ◌∷◌, ◌++◌, length, get_or, take, drop, refl, sym, ap, ◌∙◌, arith, add-one, Some, true, append_assoc}
-use Rattle.std.specs.Prelude.{Option}
+use Rattle.sap_lemmas.proofs.Common.{◌≡◌, ℕ, zero, suc, ◌+◌, ◌-◌, ◌<◌, ◌≤◌, List, [], ◌∷◌, ◌++◌, length, get_or, take, drop, refl, sym, ap, ◌∙◌, arith, add-one, Some, true, append_assoc, Option}
 use Rattle.sap_text.specs.declared.place.Place.{Place}
+use Rattle.sap_tree.specs.Prelude.{Expression, Command, if_else, ElseBlock, command_of, block_of, arm_block_of, arms_of, else_of}
 use Rattle.sap_tree.specs.declared.syntax.Arm.{Arm}
 use Rattle.sap_tree.specs.declared.syntax.Cmd.{Cmd}
 use Rattle.sap_tree.specs.declared.syntax.Block.{Block}
-use Rattle.sap_tree.specs.Syntax.{Expression, Command, if_else, ElseBlock}
-use Rattle.sap_tree.specs.Trees.{command_of, block_of, arm_block_of, arms_of, else_of}
+use Rattle.sap_names.specs.Prelude.{fault_if, best_of}
 use Rattle.sap_names.specs.declared.fault.Fault.{Fault}
 use Rattle.sap_names.specs.declared.kind.Code.TheVariants.{E10}
-use Rattle.sap_names.specs.NameFaults.{fault_if}
-use Rattle.sap_names.specs.Best.{best_of}
 use Rattle.sap_names.proofs.Faults.{both}
 use Rattle.sap_shape.specs.Closing.{open_faults, open_block_faults, open_else_faults, closing_faults, closing_else_faults, last_faults}
 use Rattle.sap_shape.specs.Closing as closing

@@ -1,9 +1,6 @@
 -- Sets of memories.
-use Rattle.std.proofs.Common.{◌≡◌, ℕ, zero, suc, ◌+◌, ◌<◌, ◌≤◌, List, [], ◌∷◌, ◌++◌, ◌||◌, Bool, true, false, length, get_or, drop, refl, sym, ap, ◌∙◌, arith, add-one, inl, inr, bytes_eq}
+use Rattle.sap_lemmas.proofs.Common.{◌≡◌, ℕ, zero, suc, ◌+◌, ◌<◌, ◌≤◌, List, [], ◌∷◌, ◌++◌, ◌||◌, Bool, true, false, length, get_or, drop, refl, sym, ap, ◌∙◌, arith, add-one, inl, inr, bytes_eq, cases_Bool, bytes_eq-Decides, or_false}
 use mathlib.Core.Path.{fun_ext}
-use Rattle.std.proofs.lemmas.Bool.{cases_Bool}
-use Rattle.std.proofs.lemmas.Slice.Eq.{bytes_eq-Decides}
-use Rattle.sap_lemmas.proofs.Bools.{or_false}
 use Rattle.sap_shape.specs.Lists.{written_in}
 use Rattle.sap_shape.specs.Walk.{Written, either, fresh, writing}
 use Rattle.sap_shape.specs.ShapeFaults.{is_in}
@@ -23,6 +20,9 @@ either_assoc p q r = fun_ext (λ (m : List ℕ). or_assoc (p m) (q m) (r m))
 
 pub either_fresh : (p : Written) → either p fresh ≡ p
 either_fresh p = fun_ext (λ (m : List ℕ). or_false (p m))
+
+pub fresh_either : (p : Written) → either fresh p ≡ p
+fresh_either p = refl
 
 pub written_none : written_in [] ≡ fresh
 unfolding written_in
@@ -70,4 +70,4 @@ join_step ns n d p q h e k =
     ap (λ (x : Written). either x (written_in (drop (n + 1) ns))) k ∙ writing_either d p (written_in (drop (n + 1) ns))
     ∙ ap (λ (x : List ℕ). either p (writing x (written_in (drop (n + 1) ns)))) e ∙ ap (λ (x : Written). either p x) (sym (written-drop ns n d h))
 
-pub ruleset sets = (either_assoc, either_fresh, written_none, written_more, written_again, written-past)
+pub ruleset sets = (either_assoc, either_fresh, fresh_either, written_none, written_more, written_again, written-past)

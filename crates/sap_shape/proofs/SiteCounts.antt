@@ -1,8 +1,6 @@
 -- No design has more check sites than commands.
-use Rattle.std.proofs.Common.{◌≤◌, List, ◌++◌, length, length-append, arith, inl, inr}
-use Rattle.std.proofs.lemmas.Bool.{cases_Bool}
-use Rattle.sap_tree.specs.Syntax.{SimpleCommand, Command, lone, try, if_else, try_then, case_of, Arms, last_arm, and_arm, CommandBlock, command_block, ElseBlock, no_else, with_else, CommandList, no_command, and_command, StateTree, state_node, StateList, no_state, and_state}
-use Rattle.sap_tree.specs.Whole.{command_count, block_count, else_count, arms_count, list_count, state_commands, states_commands}
+use Rattle.sap_lemmas.proofs.Common.{◌≤◌, List, ◌++◌, length, length-append, arith, inl, inr, cases_Bool}
+use Rattle.sap_tree.specs.Prelude.{SimpleCommand, Command, lone, try, if_else, try_then, case_of, Arms, last_arm, and_arm, CommandBlock, command_block, ElseBlock, no_else, with_else, CommandList, no_command, and_command, StateTree, state_node, StateList, no_state, and_state, command_count, block_count, else_count, arms_count, list_count, state_commands, states_commands}
 use Rattle.sap_names.specs.declared.entity.Entity.{Entity}
 use Rattle.sap_shape.specs.Sites.{Surroundings, is_site, simple_sites, command_sites, block_sites, else_sites, arms_sites, list_sites, state_sites, states_sites}
 

@@ -2,6 +2,7 @@
 use Rattle.std.specs.Prelude.{List, [], ◌++◌, Bool, true, false, if◌then◌else◌}
 use Rattle.sap_text.specs.declared.place.Place.{Place}
 use Rattle.sap_tree.specs.Syntax.{SimpleCommand, assign, write, set_tag, set_cell_tag, go_to, fall_to_child, Command, lone, try, if_else, try_then, case_of, Arms, last_arm, and_arm, CommandBlock, command_block, ElseBlock, no_else, with_else, CommandList, no_command, and_command}
+use Rattle.sap_tree.specs.Walks.{folded, folded_in_block, folded_in_else, folded_in_arms, folded_in_list}
 use Rattle.sap_names.specs.declared.fault.Fault.{Fault}
 use Rattle.sap_names.specs.declared.kind.Code.TheVariants.{E10}
 use Rattle.sap_names.specs.NameFaults.{fault_if}
@@ -26,29 +27,28 @@ is_transfer (fall_to_child place) = true
 abbrev pub then_faults : SimpleCommand → (place : Place) → (blocks : List Fault) → List Fault
 then_faults k place blocks = if is_transfer k then fault_if true E10 place else blocks
 
--- a command that must be open: no transfer in it
-abbrev mutual
-  pub open_faults : Command → List Fault
-  open_faults (lone k) = transfer_faults k
-  open_faults (try k place handler) = transfer_faults k ++ open_block_faults handler
-  open_faults (if_else place condition then_block else_block) = open_block_faults then_block ++ open_else_faults else_block
-  open_faults (try_then k place accepted refused) = then_faults k place (open_block_faults accepted ++ open_block_faults refused)
-  open_faults (case_of place e arms) = open_arms_faults arms
+-- A command that must be open: no transfer in it. This is what it has where its blocks have `below`.
+abbrev pub own_open : Command → (below : List Fault) → List Fault
+own_open (lone k) below = transfer_faults k
+own_open (try k place handler) below = transfer_faults k ++ below
+own_open (if_else place condition then_block else_block) below = below
+own_open (try_then k place accepted refused) below = then_faults k place below
+own_open (case_of place e arms) below = below
 
-  pub open_block_faults : CommandBlock → List Fault
-  open_block_faults (command_block cs after) = open_list_faults cs
+abbrev pub open_faults : Command → List Fault
+open_faults c = folded [] ◌++◌ own_open c
 
-  pub open_else_faults : ElseBlock → List Fault
-  open_else_faults no_else = []
-  open_else_faults (with_else b) = open_block_faults b
+abbrev pub open_block_faults : CommandBlock → List Fault
+open_block_faults block = folded_in_block [] ◌++◌ own_open block
 
-  pub open_arms_faults : Arms → List Fault
-  open_arms_faults (last_arm b) = open_block_faults b
-  open_arms_faults (and_arm constants b arms) = open_block_faults b ++ open_arms_faults arms
+abbrev pub open_else_faults : ElseBlock → List Fault
+open_else_faults other = folded_in_else [] ◌++◌ own_open other
 
-  pub open_list_faults : CommandList → List Fault
-  open_list_faults no_command = []
-  open_list_faults (and_command c cs) = open_faults c ++ open_list_faults cs
+abbrev pub open_arms_faults : Arms → List Fault
+open_arms_faults arms = folded_in_arms [] ◌++◌ own_open arms
+
+abbrev pub open_list_faults : CommandList → List Fault
+open_list_faults list = folded_in_list [] ◌++◌ own_open list
 
 -- the last command of a list that must close; `after` is the place of the token after the list
 abbrev pub last_simple_faults : SimpleCommand → (after : Place) → List Fault

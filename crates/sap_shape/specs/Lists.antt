@@ -11,7 +11,7 @@ use Rattle.sap_names.specs.Entities.{entities_of}
 use Rattle.sap_tree.specs.Syntax.{DesignTree}
 use Rattle.sap_shape.specs.Closing as closing
 use Rattle.sap_shape.specs.Walk as paths
-use Rattle.sap_shape.specs.Walk.{Written, fresh, either}
+use Rattle.sap_shape.specs.Walk.{Written, Part, fresh, branch}
 use Rattle.sap_shape.specs.ShapeFaults as shape
 use Rattle.sap_shape.specs.Sites as sites
 use Rattle.sap_shape.specs.Sites.{Surroundings, CheckSite}
@@ -33,17 +33,11 @@ group_shape es group above states = shape.states_shape es (states_of group) abov
 unfoldable pub written_in : List (List ℕ) → Written
 written_in names m = is_in names m
 
-unfoldable pub past_list : List Cmd → Written → Written
-past_list cs p = paths.past_list (commands_of cs) p
-
-unfoldable pub entering_list : List Cmd → Written → Written
-entering_list cs p = paths.entering_list (commands_of cs) p
+unfoldable pub found_in_list : List Cmd → Part
+found_in_list cs = paths.found_in_list (commands_of cs)
 
 unfoldable pub falls_list : List Cmd → Bool
 falls_list cs = paths.falls_list (commands_of cs)
-
-unfoldable pub second_list : List Cmd → Written → List Fault
-second_list cs p = paths.second_list (commands_of cs) p
 
 unfoldable pub second_states : List State → Written → List Fault
 second_states states p = paths.second_states (states_of states) p
@@ -62,21 +56,16 @@ unfoldable pub arms_shape : List Entity → Body → List Arm → List Fault
 arms_shape es at [] = []
 arms_shape es at (arm ∷ arms) = shape.block_shape es at (arm_block_of arm) ++ arms_shape es at arms
 
-unfoldable pub past_arms : List Arm → Written → Written
-past_arms [] p = fresh
-past_arms (arm ∷ arms) p = either (paths.past_block (arm_block_of arm) p) (past_arms arms p)
+abbrev pub no_path : Part
+no_path p = record { past = fresh; entering = fresh; again = [] }
 
-unfoldable pub entering_arms : List Arm → Written → Written
-entering_arms [] p = fresh
-entering_arms (arm ∷ arms) p = either (paths.entering_block (arm_block_of arm) p) (entering_arms arms p)
+unfoldable pub found_in_arms : List Arm → Part
+found_in_arms [] = no_path
+found_in_arms (arm ∷ arms) = branch (paths.found_in_block (arm_block_of arm)) (found_in_arms arms)
 
 unfoldable pub falls_arms : List Arm → Bool
 falls_arms [] = false
 falls_arms (arm ∷ arms) = paths.falls_block (arm_block_of arm) || falls_arms arms
-
-unfoldable pub second_arms : List Arm → Written → List Fault
-second_arms [] p = []
-second_arms (arm ∷ arms) p = paths.second_block (arm_block_of arm) p ++ second_arms arms p
 
 abbrev pub list_sites : Surroundings → List Cmd → List CheckSite
 list_sites h cs = sites.list_sites h (commands_of cs)

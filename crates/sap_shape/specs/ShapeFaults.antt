@@ -2,8 +2,9 @@
 use Rattle.std.specs.Prelude.{◌⊎◌, ℕ, List, [], ◌∷◌, ◌++◌, Bool, true, false, not, ◌||◌, bytes_eq}
 use Rattle.std.specs.List.{list_any}
 use Rattle.sap_text.specs.declared.place.Place.{Place}
-use Rattle.sap_tree.specs.Syntax.{SimpleCommand, assign, write, set_tag, set_cell_tag, go_to, fall_to_child, Command, lone, try, if_else, try_then, case_of, Arms, last_arm, and_arm, CommandBlock, command_block, ElseBlock, no_else, with_else, CommandList, no_command, and_command, StateTree, state_node, StateList, no_state, and_state, DesignTree}
+use Rattle.sap_tree.specs.Syntax.{SimpleCommand, assign, write, set_tag, set_cell_tag, go_to, fall_to_child, Command, lone, try, if_else, try_then, case_of, Arms, CommandBlock, ElseBlock, CommandList, StateTree, state_node, StateList, no_state, and_state, DesignTree}
 use Rattle.sap_tree.specs.Touches.{Home, home_of}
+use Rattle.sap_tree.specs.Walks.{folded, folded_in_block, folded_in_else, folded_in_arms, folded_in_list}
 use Rattle.sap_names.specs.declared.fault.Fault.{Fault}
 use Rattle.sap_names.specs.declared.kind.Code.TheVariants.{E11, E12, E15, E16, E17}
 use Rattle.sap_names.specs.NameFaults.{fault_if}
@@ -62,30 +63,28 @@ abbrev pub then_shape : List Entity → Body → SimpleCommand → Place → Lis
 then_shape es at k place =
     simple_shape es at k ++ fault_if (not (is_transfer k || is_site es at.home.kind at.home.children k)) E15 place
 
-abbrev mutual
-  pub command_shape : List Entity → Body → Command → List Fault
-  command_shape es at (lone k) = simple_shape es at k
-  -- E15: a handler that can never run
-  command_shape es at (try k place handler) =
-      simple_shape es at k ++ fault_if (not (is_site es at.home.kind at.home.children k)) E15 place ++ block_shape es at handler
-  command_shape es at (if_else place condition then_block else_block) = block_shape es at then_block ++ else_shape es at else_block
-  command_shape es at (try_then k place accepted refused) = then_shape es at k place ++ block_shape es at accepted ++ block_shape es at refused
-  command_shape es at (case_of place e arms) = arms_shape es at arms
+-- what a command has where its blocks have `below`; E15 at an `otherwise`: a handler that can never run
+abbrev pub own_shape : List Entity → Body → Command → (below : List Fault) → List Fault
+own_shape es at (lone k) below = simple_shape es at k
+own_shape es at (try k place handler) below = simple_shape es at k ++ fault_if (not (is_site es at.home.kind at.home.children k)) E15 place ++ below
+own_shape es at (if_else place condition then_block else_block) below = below
+own_shape es at (try_then k place accepted refused) below = then_shape es at k place ++ below
+own_shape es at (case_of place e arms) below = below
 
-  pub block_shape : List Entity → Body → CommandBlock → List Fault
-  block_shape es at (command_block cs after) = list_shape es at cs
+abbrev pub command_shape : List Entity → Body → Command → List Fault
+command_shape es at c = folded [] ◌++◌ (own_shape es at) c
 
-  pub else_shape : List Entity → Body → ElseBlock → List Fault
-  else_shape es at no_else = []
-  else_shape es at (with_else b) = block_shape es at b
+abbrev pub block_shape : List Entity → Body → CommandBlock → List Fault
+block_shape es at block = folded_in_block [] ◌++◌ (own_shape es at) block
 
-  pub arms_shape : List Entity → Body → Arms → List Fault
-  arms_shape es at (last_arm b) = block_shape es at b
-  arms_shape es at (and_arm constants b arms) = block_shape es at b ++ arms_shape es at arms
+abbrev pub else_shape : List Entity → Body → ElseBlock → List Fault
+else_shape es at other = folded_in_else [] ◌++◌ (own_shape es at) other
 
-  pub list_shape : List Entity → Body → CommandList → List Fault
-  list_shape es at no_command = []
-  list_shape es at (and_command c cs) = command_shape es at c ++ list_shape es at cs
+abbrev pub arms_shape : List Entity → Body → Arms → List Fault
+arms_shape es at arms = folded_in_arms [] ◌++◌ (own_shape es at) arms
+
+abbrev pub list_shape : List Entity → Body → CommandList → List Fault
+list_shape es at list = folded_in_list [] ◌++◌ (own_shape es at) list
 
 -- a state of a group, and a group, with the states above
 abbrev mutual

@@ -28,29 +28,76 @@ past_simple (set_cell_tag place target index tag) p = writing target.name p
 past_simple (go_to place target) p = p
 past_simple (fall_to_child place) p = p
 
--- where a command ends
+-- up to each `fall`, where a child is entered
+abbrev pub entering_simple : SimpleCommand → Written → Written
+entering_simple (assign target e) p = fresh
+entering_simple (write target index e) p = fresh
+entering_simple (set_tag place target tag) p = fresh
+entering_simple (set_cell_tag place target index tag) p = fresh
+entering_simple (go_to place target) p = fresh
+entering_simple (fall_to_child place) p = p
+
+-- a second write of a memory on a path, at the command's first token
+abbrev pub second_simple : SimpleCommand → Written → List Fault
+second_simple (assign target e) p = []
+second_simple (write target index e) p = fault_if (p target.name) E14 target.place
+second_simple (set_tag place target tag) p = []
+second_simple (set_cell_tag place target index tag) p = fault_if (p target.name) E14 place
+second_simple (go_to place target) p = []
+second_simple (fall_to_child place) p = []
+
+-- what is found in a part of a body
+pub record Found : Type 0 where
+  pub past : Written
+  pub entering : Written
+  pub again : List Fault
+
+-- Behind what paths have written before it: what they have written at its end, and up to each `fall` in it, and each second write.
+abbrev pub Part : Type 0
+Part = Written → Found
+
+abbrev pub nothing : Part
+nothing p = record { past = p; entering = fresh; again = [] }
+
+-- one part and then another
+abbrev pub behind : Part → Part → Part
+behind f g p =
+    let first = f p in
+    let rest = g first.past in
+    record { past = rest.past; entering = either first.entering rest.entering; again = first.again ++ rest.again }
+
+-- either of two parts
+abbrev pub branch : Part → Part → Part
+branch f g p =
+    let one = f p in
+    let other = g p in
+    record { past = either one.past other.past; entering = either one.entering other.entering; again = one.again ++ other.again }
+
+abbrev pub simple : SimpleCommand → Part
+simple k p = record { past = past_simple k p; entering = entering_simple k p; again = second_simple k p }
+
 abbrev mutual
-  pub past : Command → Written → Written
-  past (lone k) p = past_simple k p
-  past (try k place handler) p = either (past_simple k p) (past_block handler (past_simple k p))
-  past (if_else place condition then_block else_block) p = either (past_block then_block p) (past_else else_block p)
-  past (try_then k place accepted refused) p = either (past_block accepted (past_simple k p)) (past_block refused (past_simple k p))
-  past (case_of place e arms) p = past_arms arms p
+  pub found : Command → Part
+  found (lone k) = simple k
+  found (try k place handler) = behind (simple k) (branch nothing (found_in_block handler))
+  found (if_else place condition then_block else_block) = branch (found_in_block then_block) (found_in_else else_block)
+  found (try_then k place accepted refused) = behind (simple k) (branch (found_in_block accepted) (found_in_block refused))
+  found (case_of place e arms) = found_in_arms arms
 
-  pub past_block : CommandBlock → Written → Written
-  past_block (command_block cs after) p = past_list cs p
+  pub found_in_block : CommandBlock → Part
+  found_in_block (command_block cs after) = found_in_list cs
 
-  pub past_else : ElseBlock → Written → Written
-  past_else no_else p = p
-  past_else (with_else b) p = past_block b p
+  pub found_in_else : ElseBlock → Part
+  found_in_else no_else = nothing
+  found_in_else (with_else b) = found_in_block b
 
-  pub past_arms : Arms → Written → Written
-  past_arms (last_arm b) p = past_block b p
-  past_arms (and_arm constants b arms) p = either (past_block b p) (past_arms arms p)
+  pub found_in_arms : Arms → Part
+  found_in_arms (last_arm b) = found_in_block b
+  found_in_arms (and_arm constants b arms) = branch (found_in_block b) (found_in_arms arms)
 
-  pub past_list : CommandList → Written → Written
-  past_list no_command p = p
-  past_list (and_command c cs) p = past_list cs (past c p)
+  pub found_in_list : CommandList → Part
+  found_in_list no_command = nothing
+  found_in_list (and_command c cs) = behind (found c) (found_in_list cs)
 
 -- a `fall` stands in it
 abbrev pub is_fall : SimpleCommand → Bool
@@ -76,76 +123,10 @@ falls_arms arms = some_in_arms is_fall arms
 abbrev pub falls_list : CommandList → Bool
 falls_list list = some_in_list is_fall list
 
--- up to each `fall`, where a child is entered
-abbrev pub entering_simple : SimpleCommand → Written → Written
-entering_simple (assign target e) p = fresh
-entering_simple (write target index e) p = fresh
-entering_simple (set_tag place target tag) p = fresh
-entering_simple (set_cell_tag place target index tag) p = fresh
-entering_simple (go_to place target) p = fresh
-entering_simple (fall_to_child place) p = p
-
-abbrev mutual
-  pub entering : Command → Written → Written
-  entering (lone k) p = entering_simple k p
-  entering (try k place handler) p = either (entering_simple k p) (entering_block handler (past_simple k p))
-  entering (if_else place condition then_block else_block) p = either (entering_block then_block p) (entering_else else_block p)
-  entering (try_then k place accepted refused) p =
-      either (entering_simple k p) (either (entering_block accepted (past_simple k p)) (entering_block refused (past_simple k p)))
-  entering (case_of place e arms) p = entering_arms arms p
-
-  pub entering_block : CommandBlock → Written → Written
-  entering_block (command_block cs after) p = entering_list cs p
-
-  pub entering_else : ElseBlock → Written → Written
-  entering_else no_else p = fresh
-  entering_else (with_else b) p = entering_block b p
-
-  pub entering_arms : Arms → Written → Written
-  entering_arms (last_arm b) p = entering_block b p
-  entering_arms (and_arm constants b arms) p = either (entering_block b p) (entering_arms arms p)
-
-  pub entering_list : CommandList → Written → Written
-  entering_list no_command p = fresh
-  entering_list (and_command c cs) p = either (entering c p) (entering_list cs (past c p))
-
--- a second write of a memory on a path, at the command's first token
-abbrev pub second_simple : SimpleCommand → Written → List Fault
-second_simple (assign target e) p = []
-second_simple (write target index e) p = fault_if (p target.name) E14 target.place
-second_simple (set_tag place target tag) p = []
-second_simple (set_cell_tag place target index tag) p = fault_if (p target.name) E14 place
-second_simple (go_to place target) p = []
-second_simple (fall_to_child place) p = []
-
-abbrev mutual
-  pub second : Command → Written → List Fault
-  second (lone k) p = second_simple k p
-  second (try k place handler) p = second_simple k p ++ second_block handler (past_simple k p)
-  second (if_else place condition then_block else_block) p = second_block then_block p ++ second_else else_block p
-  second (try_then k place accepted refused) p =
-      second_simple k p ++ second_block accepted (past_simple k p) ++ second_block refused (past_simple k p)
-  second (case_of place e arms) p = second_arms arms p
-
-  pub second_block : CommandBlock → Written → List Fault
-  second_block (command_block cs after) p = second_list cs p
-
-  pub second_else : ElseBlock → Written → List Fault
-  second_else no_else p = []
-  second_else (with_else b) p = second_block b p
-
-  pub second_arms : Arms → Written → List Fault
-  second_arms (last_arm b) p = second_block b p
-  second_arms (and_arm constants b arms) p = second_block b p ++ second_arms arms p
-
-  pub second_list : CommandList → Written → List Fault
-  second_list no_command p = []
-  second_list (and_command c cs) p = second c p ++ second_list cs (past c p)
-
 -- in a state that is entered after these, and in those that it may fall into
 abbrev mutual
   pub second_state : StateTree → Written → List Fault
-  second_state (state_node place name kind body children) p = second_block body p ++ (if falls_block body then second_states children (entering_block body p) else [])
+  second_state (state_node place name kind body children) p = (found_in_block body p).again ++ (if falls_block body then second_states children (found_in_block body p).entering else [])
 
   pub second_states : StateList → Written → List Fault
   second_states no_state p = []

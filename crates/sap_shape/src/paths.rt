@@ -73,9 +73,9 @@ fn command_paths(
     entered: &mut Written,
     best: &mut Option<Fault>,
 ) -> Result<(), AllocError>
-    ensures past { OnOk result (written_in here.new ≡ paths.past (command_of command.now) (written_in here.old)) }
-    ensures entering { OnOk result (written_in entered.new ≡ either (written_in entered.old) (paths.entering (command_of command.now) (written_in here.old))) }
-    ensures second { OnOk result (best.new ≡ best_of best.old (paths.second (command_of command.now) (written_in here.old))) }
+    ensures past { OnOk result (written_in here.new ≡ (paths.found (command_of command.now) (written_in here.old)).past) }
+    ensures entering { OnOk result (written_in entered.new ≡ either (written_in entered.old) (paths.found (command_of command.now) (written_in here.old)).entering) }
+    ensures second { OnOk result (best.new ≡ best_of best.old (paths.found (command_of command.now) (written_in here.old)).again) }
 {
     match command {
         Cmd::Do(simple) => simple_paths(alloc, simple, here, entered, best),
@@ -115,9 +115,9 @@ fn beside_paths(
     entered: &mut Written,
     best: &mut Option<Fault>,
 ) -> Result<(), AllocError>
-    ensures past { OnOk result (written_in past.new ≡ either (written_in past.old) (paths.past_block (block_of block.now) (written_in start))) }
-    ensures entering { OnOk result (written_in entered.new ≡ either (written_in entered.old) (paths.entering_block (block_of block.now) (written_in start))) }
-    ensures second { OnOk result (best.new ≡ best_of best.old (paths.second_block (block_of block.now) (written_in start))) }
+    ensures past { OnOk result (written_in past.new ≡ either (written_in past.old) (paths.found_in_block (block_of block.now) (written_in start)).past) }
+    ensures entering { OnOk result (written_in entered.new ≡ either (written_in entered.old) (paths.found_in_block (block_of block.now) (written_in start)).entering) }
+    ensures second { OnOk result (best.new ≡ best_of best.old (paths.found_in_block (block_of block.now) (written_in start)).again) }
 {
     list_paths(alloc, block.commands.as_slice(), &mut start, entered, best)?;
     past.join(alloc, &start)
@@ -134,9 +134,9 @@ fn arms_paths(
     entered: &mut Written,
     best: &mut Option<Fault>,
 ) -> Result<(), AllocError>
-    ensures past { OnOk result (written_in past.new ≡ either (written_in past.old) (lists.past_arms arms.now (written_in start.now))) }
-    ensures entering { OnOk result (written_in entered.new ≡ either (written_in entered.old) (lists.entering_arms arms.now (written_in start.now))) }
-    ensures second { OnOk result (best.new ≡ best_of best.old (lists.second_arms arms.now (written_in start.now))) }
+    ensures past { OnOk result (written_in past.new ≡ either (written_in past.old) (lists.found_in_arms arms.now (written_in start.now)).past) }
+    ensures entering { OnOk result (written_in entered.new ≡ either (written_in entered.old) (lists.found_in_arms arms.now (written_in start.now)).entering) }
+    ensures second { OnOk result (best.new ≡ best_of best.old (lists.found_in_arms arms.now (written_in start.now)).again) }
 {
     for arm in arms {
         let here = start.copy(alloc)?;
@@ -156,9 +156,9 @@ fn else_paths(
     entered: &mut Written,
     best: &mut Option<Fault>,
 ) -> Result<(), AllocError>
-    ensures past { OnOk result (written_in past.new ≡ either (written_in past.old) (paths.past_else (else_of other.now) (written_in start))) }
-    ensures entering { OnOk result (written_in entered.new ≡ either (written_in entered.old) (paths.entering_else (else_of other.now) (written_in start))) }
-    ensures second { OnOk result (best.new ≡ best_of best.old (paths.second_else (else_of other.now) (written_in start))) }
+    ensures past { OnOk result (written_in past.new ≡ either (written_in past.old) (paths.found_in_else (else_of other.now) (written_in start)).past) }
+    ensures entering { OnOk result (written_in entered.new ≡ either (written_in entered.old) (paths.found_in_else (else_of other.now) (written_in start)).entering) }
+    ensures second { OnOk result (best.new ≡ best_of best.old (paths.found_in_else (else_of other.now) (written_in start)).again) }
 {
     match other {
         Some(block) => beside_paths(alloc, block, start, past, entered, best),
@@ -175,9 +175,9 @@ pub(crate) fn list_paths(
     entered: &mut Written,
     best: &mut Option<Fault>,
 ) -> Result<(), AllocError>
-    ensures past { OnOk result (written_in here.new ≡ lists.past_list commands.now (written_in here.old)) }
-    ensures entering { OnOk result (written_in entered.new ≡ either (written_in entered.old) (lists.entering_list commands.now (written_in here.old))) }
-    ensures second { OnOk result (best.new ≡ best_of best.old (lists.second_list commands.now (written_in here.old))) }
+    ensures past { OnOk result (written_in here.new ≡ (lists.found_in_list commands.now (written_in here.old)).past) }
+    ensures entering { OnOk result (written_in entered.new ≡ either (written_in entered.old) (lists.found_in_list commands.now (written_in here.old)).entering) }
+    ensures second { OnOk result (best.new ≡ best_of best.old (lists.found_in_list commands.now (written_in here.old)).again) }
 {
     for command in commands {
         command_paths(alloc, command, here, entered, best)?;

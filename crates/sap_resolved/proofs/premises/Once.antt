@@ -1,26 +1,22 @@
 -- Where no path writes a memory twice, no memory is written after it was written, with numbers for names.
-use Rattle.std.proofs.Common.{◌≡◌, ℕ, ◌+◌, Option, Bool, true, false, ◌&&◌, ◌||◌, List, [], ◌∷◌, ◌++◌, if◌then◌else◌, refl, ap, ◌∙◌, subst, nat_eq, inl, inr, bytes_eq, length}
-use Rattle.sap_lemmas.proofs.Bools.{either_follows}
-use Rattle.sap_lemmas.proofs.Texts.{bytes_eq_same}
-use Rattle.std.proofs.lemmas.Bool.{eqb-true, false_from_ne_true, or_cases, or_from, or_left, or_right}
+use Rattle.sap_lemmas.proofs.Common.{◌≡◌, ℕ, ◌+◌, Option, Bool, true, false, ◌&&◌, ◌||◌, List, [], ◌∷◌, ◌++◌, if◌then◌else◌, refl, ap, ◌∙◌, subst, nat_eq, inl, inr, bytes_eq, length, bytes_eq_same, eqb-true, false_from_ne_true, or_cases, or_from, or_left, or_right}
 use Rattle.sap_names.proofs.NameFaultsLemmas.{no_fault}
 use Rattle.sap_names.proofs.FaultLemmas.{nil_left, nil_right}
+use Rattle.sap_tree.specs.Syntax.{SimpleCommand, assign, write, set_tag, set_cell_tag, go_to, fall_to_child, Command, lone, try, if_else, try_then, case_of, Arms, last_arm, and_arm, CommandBlock, command_block, ElseBlock, no_else, with_else, CommandList, no_command, and_command, StateTree, state_node, StateList, no_state, and_state}
 use Rattle.sap_tree.specs.declared.name.Mention.{Mention}
 use Rattle.sap_text.specs.declared.place.Place.{Place}
-use Rattle.sap_tree.specs.Syntax.{SimpleCommand, assign, write, set_tag, set_cell_tag, go_to, fall_to_child, Command, lone, try, if_else, try_then, case_of, Arms, last_arm, and_arm, CommandBlock, command_block, ElseBlock, no_else, with_else, CommandList, no_command, and_command, StateTree, state_node, StateList, no_state, and_state}
 use Rattle.sap_lattice.specs.Levels.{Levels}
+use Rattle.sap_names.specs.Prelude.{Lookup, what_is, own, name_faults, fault_if, simple_faults, command_faults, block_faults, arms_faults, else_faults, commands_faults, state_faults, states_faults}
 use Rattle.sap_names.specs.declared.fault.Fault.{Fault}
 use Rattle.sap_names.specs.declared.kind.Code.TheVariants.{E14}
-use Rattle.sap_names.specs.Entities.{Lookup, what_is}
 use Rattle.sap_names.specs.declared.entity.Entity.{Entity}
-use Rattle.sap_names.specs.Widths.{own}
 use Rattle.sap_names.specs.declared.kind.Use.TheVariants.{Indexed as indexed}
-use Rattle.sap_names.specs.NameFaults.{name_faults, fault_if, simple_faults, command_faults, block_faults, arms_faults, else_faults, commands_faults, state_faults, states_faults}
 use Rattle.sap_shape.specs.Closing.{transfer_faults, open_faults, open_block_faults, open_arms_faults, open_else_faults, open_list_faults, closing_faults}
-use Rattle.sap_shape.specs.Walk.{Written, writing, past_simple, past, past_block, past_arms, past_else, past_list, is_fall, falls, falls_block, falls_arms, falls_else, falls_list, entering_simple, entering, entering_block, entering_arms, entering_else, entering_list, second_simple, second, second_block, second_arms, second_else, second_list, second_state, second_states}
+use Rattle.sap_shape.specs.Walk.{Written, writing, past_simple, found, found_in_block, found_in_arms, found_in_else, found_in_list, is_fall, falls, falls_block, falls_arms, falls_else, falls_list, entering_simple, second_simple, second_state, second_states}
+use Rattle.sap_shape.proofs.Tracks.{past_before}
+use Rattle.sap_shape.proofs.Followed.{of_command, of_block, of_list, command_follows, block_follows, list_follows, kept, enters}
 use Rattle.sap_shape.specs.ShapeFaults.{state_shape, states_shape}
-use Rattle.sap_meaning.specs.Program.{World, Group}
-use Rattle.sap_meaning.specs.Once.{step_writes, step_reaching, reaching, arms_reaching, block_reaching, state_reaches, group_reaches, OnceStep, Once, OnceArms, OnceBlock, OnceState, OnceGroup}
+use Rattle.sap_meaning.specs.Prelude.{World, Group, step_writes, step_reaching, reaching, arms_reaching, block_reaching, state_reaches, group_reaches, OnceStep, Once, OnceArms, OnceBlock, OnceState, OnceGroup}
 use Rattle.sap_resolved.specs.Worlds.{states_in}
 use Rattle.sap_shape.specs.Sites.{Surroundings, simple_sites, block_sites, command_sites, state_sites}
 use Rattle.sap_resolved.specs.Resolve.{site_number, step_of, command_of, arms_of, block_of, else_of, list_of, state_of, group_of}
@@ -30,35 +26,6 @@ use Rattle.sap_resolved.proofs.premises.Commands.{write_named, cell_named, if_fi
 use Rattle.sap_resolved.proofs.premises.Places.{name_at}
 use Rattle.sap_resolved.proofs.premises.Lookups.{named}
 use Rattle.sap_resolved.proofs.premises.Shut.{Ended, Shut, ShutArms, ShutElse, ShutList, shut_list, shut_else, shut_first, shut_rest, shut_handler, shut_branch, shut_other, then_parts, no_transfer, shut_accepted, shut_refused, shut_arms, shut_arm, shut_later}
-
--- what was written before, is still afterwards
-module _ (a : List ℕ) where
-  past_step : (c : SimpleCommand) (p : Written) → p a ≡ true → past_simple c p a ≡ true
-  past_step (assign target e) p h = h
-  past_step (write target index e) p h = or_right _ _ h
-  past_step (set_tag place target tag) p h = h
-  past_step (set_cell_tag place target index tag) p h = or_right _ _ h
-  past_step (go_to place target) p h = h
-  past_step (fall_to_child place) p h = h
-
-  mutual
-    past_command : (c : Command) (p : Written) → p a ≡ true → past c p a ≡ true
-    past_command (lone c) p h = past_step c p h
-    past_command (try c place b) p h = or_left _ _ (past_step c p h)
-    past_command (if_else place e b other) p h = or_left _ _ (past_body b p h)
-    past_command (try_then c place b other) p h = or_left _ _ (past_body b (past_simple c p) (past_step c p h))
-    past_command (case_of place e arms) p h = past_all arms p h
-
-    past_all : (arms : Arms) (p : Written) → p a ≡ true → past_arms arms p a ≡ true
-    past_all (last_arm b) p h = past_body b p h
-    past_all (and_arm constants b arms) p h = or_left _ _ (past_body b p h)
-
-    past_body : (b : CommandBlock) (p : Written) → p a ≡ true → past_block b p a ≡ true
-    past_body (command_block cs after) p h = past_commands cs p h
-
-    past_commands : (cs : CommandList) (p : Written) → p a ≡ true → past_list cs p a ≡ true
-    past_commands no_command p h = h
-    past_commands (and_command c cs) p h = past_commands cs (past c p) (past_command c p h)
 
 module _ (ls : Levels) (levels : List (List ℕ)) (h : Surroundings) (w : World) (match : AllMatch h.entities w.entities) where
   abbrev What : Lookup
@@ -100,7 +67,7 @@ module _ (ls : Levels) (levels : List (List ℕ)) (h : Surroundings) (w : World)
     -- what an open command reaches, is written behind it
     mutual
       command_written : (k : ℕ) (c : Command) → command_faults levels What c ≡ [] → open_faults c ≡ [] → (m : ℕ) (p : Written)
-          → reaching falls (command_of ls h k c) m ≡ true → past c p (name_at h.entities m) ≡ true
+          → reaching falls (command_of ls h k c) m ≡ true → (found c p).past (name_at h.entities m) ≡ true
       command_written k (lone c) f o m p i = open_written (site_number h k c) c f o m p i
       command_written k (try c place b) f o m p i =
           elim (or_cases (step_reaching falls (step_of ls h (site_number h k c) c) m) (block_reaching falls (block_of ls h (k + length (simple_sites h c)) b) m) i) [
@@ -121,7 +88,7 @@ module _ (ls : Levels) (levels : List (List ℕ)) (h : Surroundings) (w : World)
           let opened = then_parts c place (open_block_faults a ++ open_block_faults b) o in
           elim (or_cases (step_reaching falls (step_of ls h (site_number h k c) c) m) (block_reaching falls (block_of ls h x a) m
           || block_reaching falls (block_of ls h y b) m) i) [
-            | inl j ↦ or_left _ _ (past_body (name_at h.entities m) a q (open_written (site_number h k c) c (nil_left _ _ (nil_left _ _ f)) opened.0 m p j))
+            | inl j ↦ or_left _ _ (kept (of_block a) (block_follows a) (name_at h.entities m) q (open_written (site_number h k c) c (nil_left _ _ (nil_left _ _ f)) opened.0 m p j))
             | inr j ↦ elim (or_cases (block_reaching falls (block_of ls h x a) m) (block_reaching falls (block_of ls h y b) m) j) [
               | inl t ↦ or_left _ _ (block_written x a (nil_right _ _ (nil_left _ _ f)) (nil_left _ _ opened.1) m q t)
               | inr t ↦ or_right _ _ (block_written y b (nil_right _ _ f) (nil_right _ _ opened.1) m q t)
@@ -130,7 +97,7 @@ module _ (ls : Levels) (levels : List (List ℕ)) (h : Surroundings) (w : World)
       command_written k (case_of place e arms) f o m p i = arms_written (own What e) k arms (nil_right _ _ f) o m p i
 
       arms_written : (asked : Option ℕ) (k : ℕ) (arms : Arms) → arms_faults levels What asked arms ≡ [] → open_arms_faults arms ≡ [] → (m : ℕ) (p : Written)
-          → arms_reaching falls (arms_of ls h k arms) m ≡ true → past_arms arms p (name_at h.entities m) ≡ true
+          → arms_reaching falls (arms_of ls h k arms) m ≡ true → (found_in_arms arms p).past (name_at h.entities m) ≡ true
       arms_written asked k (last_arm b) f o m p i = block_written k b f o m p i
       arms_written asked k (and_arm constants b arms) f o m p i =
           elim (or_cases (block_reaching falls (block_of ls h k b) m) (arms_reaching falls (arms_of ls h (k + length (block_sites h b)) arms) m) i) [
@@ -139,22 +106,22 @@ module _ (ls : Levels) (levels : List (List ℕ)) (h : Surroundings) (w : World)
           ]
 
       block_written : (k : ℕ) (b : CommandBlock) → Fits b → open_block_faults b ≡ [] → (m : ℕ) (p : Written)
-          → block_reaching falls (block_of ls h k b) m ≡ true → past_block b p (name_at h.entities m) ≡ true
+          → block_reaching falls (block_of ls h k b) m ≡ true → (found_in_block b p).past (name_at h.entities m) ≡ true
       block_written k (command_block cs after) f o m p i = list_written k cs f o m p i
 
       else_written : (k : ℕ) (b : ElseBlock) → else_faults levels What b ≡ [] → open_else_faults b ≡ [] → (m : ℕ) (p : Written)
-          → block_reaching falls (else_of ls h k b) m ≡ true → past_else b p (name_at h.entities m) ≡ true
+          → block_reaching falls (else_of ls h k b) m ≡ true → (found_in_else b p).past (name_at h.entities m) ≡ true
       else_written k no_else f o m p i = cc
       else_written k (with_else b) f o m p i = block_written k b f o m p i
 
       list_written : (k : ℕ) (cs : CommandList) → commands_faults levels What cs ≡ [] → open_list_faults cs ≡ [] → (m : ℕ) (p : Written)
-          → block_reaching falls (list_of ls h k cs) m ≡ true → past_list cs p (name_at h.entities m) ≡ true
+          → block_reaching falls (list_of ls h k cs) m ≡ true → (found_in_list cs p).past (name_at h.entities m) ≡ true
       list_written k no_command f o m p i = cc
       list_written k (and_command c cs) f o m p i =
           elim (or_cases (reaching falls (command_of ls h k c) m) (block_reaching falls (list_of ls h (k + length (command_sites h c)) cs) m) i) [
-            | inl j ↦ past_commands (name_at h.entities m) cs (past c p)
+            | inl j ↦ kept (of_list cs) (list_follows cs) (name_at h.entities m) (found c p).past
                 (command_written k c (nil_left _ _ f) (nil_left _ _ o) m p j)
-            | inr j ↦ list_written (k + length (command_sites h c)) cs (nil_right _ _ f) (nil_right _ _ o) m (past c p) j
+            | inr j ↦ list_written (k + length (command_sites h c)) cs (nil_right _ _ f) (nil_right _ _ o) m (found c p).past j
           ]
 
     -- what was written before is reached no more, unless a fall leads to it
@@ -180,14 +147,14 @@ module _ (ls : Levels) (levels : List (List ℕ)) (h : Surroundings) (w : World)
       step_unreached n (fall_to_child place) f p i s d = d i
 
       mutual
-        command_unreached : (k : ℕ) (c : Command) → command_faults levels What c ≡ [] → (p : Written) → p (name_at h.entities m) ≡ true → second c p ≡ []
-            → Safe (entering c p (name_at h.entities m)) → reaching falls (command_of ls h k c) m ≡ false
+        command_unreached : (k : ℕ) (c : Command) → command_faults levels What c ≡ [] → (p : Written) → p (name_at h.entities m) ≡ true → (found c p).again ≡ []
+            → Safe ((found c p).entering (name_at h.entities m)) → reaching falls (command_of ls h k c) m ≡ false
         command_unreached k (lone c) f p i s d = step_unreached (site_number h k c) c f p i s d
         command_unreached k (try c place b) f p i s d =
             or_from (step_reaching falls (step_of ls h (site_number h k c) c) m) (block_reaching falls (block_of ls h (k + length (simple_sites h c)) b) m)
             (step_unreached (site_number h k c) c (nil_left _ _ f) p i (nil_left _ _ s)
             (λ j. d (or_left _ _ j)))
-            (body_unreached (k + length (simple_sites h c)) b (nil_right _ _ f) (past_simple c p) (past_step (name_at h.entities m) c p i)
+            (body_unreached (k + length (simple_sites h c)) b (nil_right _ _ f) (past_simple c p) (past_before c p (name_at h.entities m) i)
             (nil_right _ _ s) (λ j. d (or_right _ _ j)))
         command_unreached k (if_else place e b other) f p i s d =
             or_from (block_reaching falls (block_of ls h k b) m) (block_reaching falls (else_of ls h (k + length (block_sites h b)) other) m)
@@ -195,41 +162,42 @@ module _ (ls : Levels) (levels : List (List ℕ)) (h : Surroundings) (w : World)
             (else_unreached (k + length (block_sites h b)) other (if_other levels What place e b other f) p i (nil_right _ _ s) (λ j. d (or_right _ _ j)))
         command_unreached k (try_then c place a b) f p i s d =
             let q = past_simple c p in
-            let behind = past_step (name_at h.entities m) c p i in
+            let behind = past_before c p (name_at h.entities m) i in
+            let blocks : (found_in_block a q).again ++ (found_in_block b q).again ≡ [] = nil_right (second_simple c p) _ s in
             let x = k + length (simple_sites h c) in
             let y = x + length (block_sites h a) in
             or_from (step_reaching falls (step_of ls h (site_number h k c) c) m) (block_reaching falls (block_of ls h x a) m || block_reaching falls (block_of ls h y b) m)
-            (step_unreached (site_number h k c) c (nil_left _ _ (nil_left _ _ f)) p i (nil_left _ _ (nil_left _ _ s)) (λ j. d (or_left _ _ j)))
+            (step_unreached (site_number h k c) c (nil_left _ _ (nil_left _ _ f)) p i (nil_left _ _ s) (λ j. d (or_left _ _ j)))
             (or_from (block_reaching falls (block_of ls h x a) m) (block_reaching falls (block_of ls h y b) m)
-            (body_unreached x a (nil_right _ _ (nil_left _ _ f)) q behind (nil_right _ _ (nil_left _ _ s)) (λ j. d (or_right _ _ (or_left _ _ j))))
-            (body_unreached y b (nil_right _ _ f) q behind (nil_right _ _ s) (λ j. d (or_right _ _ (or_right _ _ j)))))
+            (body_unreached x a (nil_right _ _ (nil_left _ _ f)) q behind (nil_left _ _ blocks) (λ j. d (or_right _ _ (or_left _ _ j))))
+            (body_unreached y b (nil_right _ _ f) q behind (nil_right _ _ blocks) (λ j. d (or_right _ _ (or_right _ _ j)))))
         command_unreached k (case_of place e arms) f p i s d = arms_unreached (own What e) k arms (nil_right _ _ f) p i s d
 
         arms_unreached : (asked : Option ℕ) (k : ℕ) (arms : Arms) → arms_faults levels What asked arms ≡ [] → (p : Written) → p (name_at h.entities m) ≡ true
-            → second_arms arms p ≡ [] → Safe (entering_arms arms p (name_at h.entities m)) → arms_reaching falls (arms_of ls h k arms) m ≡ false
+            → (found_in_arms arms p).again ≡ [] → Safe ((found_in_arms arms p).entering (name_at h.entities m)) → arms_reaching falls (arms_of ls h k arms) m ≡ false
         arms_unreached asked k (last_arm b) f p i s d = body_unreached k b f p i s d
         arms_unreached asked k (and_arm constants b arms) f p i s d =
             or_from (block_reaching falls (block_of ls h k b) m) (arms_reaching falls (arms_of ls h (k + length (block_sites h b)) arms) m)
             (body_unreached k b (nil_right _ _ (nil_left _ _ f)) p i (nil_left _ _ s) (λ j. d (or_left _ _ j)))
             (arms_unreached asked (k + length (block_sites h b)) arms (nil_right _ _ f) p i (nil_right _ _ s) (λ j. d (or_right _ _ j)))
 
-        pub body_unreached : (k : ℕ) (b : CommandBlock) → Fits b → (p : Written) → p (name_at h.entities m) ≡ true → second_block b p ≡ []
-            → Safe (entering_block b p (name_at h.entities m)) → block_reaching falls (block_of ls h k b) m ≡ false
+        pub body_unreached : (k : ℕ) (b : CommandBlock) → Fits b → (p : Written) → p (name_at h.entities m) ≡ true → (found_in_block b p).again ≡ []
+            → Safe ((found_in_block b p).entering (name_at h.entities m)) → block_reaching falls (block_of ls h k b) m ≡ false
         body_unreached k (command_block cs after) f p i s d = list_unreached k cs f p i s d
 
-        else_unreached : (k : ℕ) (b : ElseBlock) → else_faults levels What b ≡ [] → (p : Written) → p (name_at h.entities m) ≡ true → second_else b p ≡ []
-            → Safe (entering_else b p (name_at h.entities m)) → block_reaching falls (else_of ls h k b) m ≡ false
+        else_unreached : (k : ℕ) (b : ElseBlock) → else_faults levels What b ≡ [] → (p : Written) → p (name_at h.entities m) ≡ true → (found_in_else b p).again ≡ []
+            → Safe ((found_in_else b p).entering (name_at h.entities m)) → block_reaching falls (else_of ls h k b) m ≡ false
         else_unreached k no_else f p i s d = refl
         else_unreached k (with_else b) f p i s d = body_unreached k b f p i s d
 
         list_unreached : (k : ℕ) (cs : CommandList) → commands_faults levels What cs ≡ [] → (p : Written) → p (name_at h.entities m) ≡ true
-            → second_list cs p ≡ [] → Safe (entering_list cs p (name_at h.entities m)) → block_reaching falls (list_of ls h k cs) m ≡ false
+            → (found_in_list cs p).again ≡ [] → Safe ((found_in_list cs p).entering (name_at h.entities m)) → block_reaching falls (list_of ls h k cs) m ≡ false
         list_unreached k no_command f p i s d = refl
         list_unreached k (and_command c cs) f p i s d =
             or_from (reaching falls (command_of ls h k c) m) (block_reaching falls (list_of ls h (k + length (command_sites h c)) cs) m)
             (command_unreached k c (nil_left _ _ f) p i (nil_left _ _ s)
             (λ j. d (or_left _ _ j)))
-            (list_unreached (k + length (command_sites h c)) cs (nil_right _ _ f) (past c p) (past_command (name_at h.entities m) c p i)
+            (list_unreached (k + length (command_sites h c)) cs (nil_right _ _ f) (found c p).past (kept (of_command c) (command_follows c) (name_at h.entities m) p i)
             (nil_right _ _ s) (λ j. d (or_right _ _ j)))
 
   and_if : (a b : Bool) → (a ≡ true → b ≡ false) → (a && b) ≡ false
@@ -251,7 +219,7 @@ module _ (ls : Levels) (levels : List (List ℕ)) (h : Surroundings) (w : World)
     Free entered = (m : ℕ) → entered (name_at h.entities m) ≡ true → group_reaches g m ≡ false
 
     mutual
-      once_command : (k : ℕ) (c : Command) → command_faults levels What c ≡ [] → Ended c → (p : Written) → second c p ≡ [] → Free (entering c p)
+      once_command : (k : ℕ) (c : Command) → command_faults levels What c ≡ [] → Ended c → (p : Written) → (found c p).again ≡ [] → Free (found c p).entering
           → (falls c ≡ true → below) → Once g below (command_of ls h k c)
       once_command k (lone c) f o p s d i = once_step (site_number h k c) c i
       once_command k (try c place b) f o p s d i = (
@@ -278,8 +246,9 @@ module _ (ls : Levels) (levels : List (List ℕ)) (h : Surroundings) (w : World)
           let first : simple_faults levels What c ≡ [] = nil_left _ _ (nil_left _ _ f) in
           let accepted : Fits a = nil_right _ _ (nil_left _ _ f) in
           let refused : Fits b = nil_right _ _ f in
-          let here : second_block a q ≡ [] = nil_right _ _ (nil_left _ _ s) in
-          let there : second_block b q ≡ [] = nil_right _ _ s in
+          let blocks : (found_in_block a q).again ++ (found_in_block b q).again ≡ [] = nil_right (second_simple c p) _ s in
+          let here : (found_in_block a q).again ≡ [] = nil_left _ _ blocks in
+          let there : (found_in_block b q).again ≡ [] = nil_right _ _ blocks in
           let opened : transfer_faults c ≡ [] = no_transfer c place a b o in (
             once_step (site_number h k c) c (λ j. i (or_left _ _ j)),
             once_body x a accepted (shut_accepted c place a b o)
@@ -296,8 +265,8 @@ module _ (ls : Levels) (levels : List (List ℕ)) (h : Surroundings) (w : World)
       once_command k (case_of place e arms) f o p s d i =
           once_arms (own What e) k arms (nil_right _ _ f) (shut_arms place e arms o) p s d i
 
-      once_arms : (asked : Option ℕ) (k : ℕ) (arms : Arms) → arms_faults levels What asked arms ≡ [] → ShutArms arms → (p : Written) → second_arms arms p ≡ []
-          → Free (entering_arms arms p) → (falls_arms arms ≡ true → below) → OnceArms g below (arms_of ls h k arms)
+      once_arms : (asked : Option ℕ) (k : ℕ) (arms : Arms) → arms_faults levels What asked arms ≡ [] → ShutArms arms → (p : Written) → (found_in_arms arms p).again ≡ []
+          → Free (found_in_arms arms p).entering → (falls_arms arms ≡ true → below) → OnceArms g below (arms_of ls h k arms)
       once_arms asked k (last_arm b) f o p s d i = once_body k b f o p s d i
       once_arms asked k (and_arm constants b arms) f o p s d i = (
         once_body k b (nil_right _ _ (nil_left _ _ f))
@@ -306,17 +275,17 @@ module _ (ls : Levels) (levels : List (List ℕ)) (h : Surroundings) (w : World)
             (shut_later constants b arms o) p (nil_right _ _ s) (λ m j. d m (or_right _ _ j)) (λ j. i (or_right _ _ j)),
       )
 
-      pub once_body : (k : ℕ) (b : CommandBlock) → Fits b → Shut b → (p : Written) → second_block b p ≡ [] → Free (entering_block b p)
+      pub once_body : (k : ℕ) (b : CommandBlock) → Fits b → Shut b → (p : Written) → (found_in_block b p).again ≡ [] → Free (found_in_block b p).entering
           → (falls_block b ≡ true → below) → OnceBlock g below (block_of ls h k b)
       once_body k (command_block cs after) f o p s d i = once_list k cs f (shut_list cs after o) p s d i
 
-      once_else : (k : ℕ) (b : ElseBlock) → else_faults levels What b ≡ [] → ShutElse b → (p : Written) → second_else b p ≡ [] → Free (entering_else b p)
+      once_else : (k : ℕ) (b : ElseBlock) → else_faults levels What b ≡ [] → ShutElse b → (p : Written) → (found_in_else b p).again ≡ [] → Free (found_in_else b p).entering
           → (falls_else b ≡ true → below) → OnceBlock g below (else_of ls h k b)
       once_else k no_else f o p s d i = tt
       once_else k (with_else b) f o p s d i = once_body k b f (shut_else b o) p s d i
 
-      once_list : (k : ℕ) (cs : CommandList) → commands_faults levels What cs ≡ [] → ShutList cs → (p : Written) → second_list cs p ≡ []
-          → Free (entering_list cs p) → (falls_list cs ≡ true → below) → OnceBlock g below (list_of ls h k cs)
+      once_list : (k : ℕ) (cs : CommandList) → commands_faults levels What cs ≡ [] → ShutList cs → (p : Written) → (found_in_list cs p).again ≡ []
+          → Free (found_in_list cs p).entering → (falls_list cs ≡ true → below) → OnceBlock g below (list_of ls h k cs)
       once_list k no_command f o p s d i = tt
       once_list k (and_command c no_command) f o p s d i = (
         once_command k c (nil_left _ _ f)
@@ -333,52 +302,12 @@ module _ (ls : Levels) (levels : List (List ℕ)) (h : Surroundings) (w : World)
             once_command k c first (inl opened) p (nil_left _ _ s)
                 (λ m j. d m (or_left _ _ j)) (λ j. i (or_left _ _ j)),
             once_list (k + length (command_sites h c)) (and_command e es) rest
-                (shut_rest c cs o) (past c p) later (λ m j. d m (or_right _ _ j)) (λ j. i (or_right _ _ j)),
+                (shut_rest c cs o) (found c p).past later (λ m j. d m (or_right _ _ j)) (λ j. i (or_right _ _ j)),
             λ m. and_if (reaching (group_reaches g) (command_of ls h k c) m) (block_reaching (group_reaches g) (list_of ls h (k + length (command_sites h c)) cs) m)
                 (λ w.
-                list_unreached (group_reaches g) m (k + length (command_sites h c)) cs rest (past c p) (command_written (group_reaches g) k c first opened m p w) later
+                list_unreached (group_reaches g) m (k + length (command_sites h c)) cs rest (found c p).past (command_written (group_reaches g) k c first opened m p w) later
                 (λ j. d m (or_right _ _ j))),
           )
-
--- where something is written up to a fall, a fall stands
-module _ (m : List ℕ) where
-  step_falls : (c : SimpleCommand) (p : Written) → entering_simple c p m ≡ true → is_fall c ≡ true
-  step_falls (assign target e) p h = cc
-  step_falls (write target index e) p h = cc
-  step_falls (set_tag place target tag) p h = cc
-  step_falls (set_cell_tag place target index tag) p h = cc
-  step_falls (go_to place target) p h = cc
-  step_falls (fall_to_child place) p h = refl
-
-  mutual
-    command_falls : (c : Command) (p : Written) → entering c p m ≡ true → falls c ≡ true
-    command_falls (lone c) p h = step_falls c p h
-    command_falls (try c place b) p h =
-        either_follows (entering_simple c p m) (entering_block b (past_simple c p) m) (is_fall c) (falls_block b) (step_falls c p) (body_falls b (past_simple c p)) h
-    command_falls (if_else place e b other) p h =
-        either_follows (entering_block b p m) (entering_else other p m) (falls_block b) (falls_else other) (body_falls b p) (else_falls other p) h
-    command_falls (try_then c place a b) p h =
-        let q = past_simple c p in
-        either_follows (entering_simple c p m) (entering_block a q m || entering_block b q m) (is_fall c) (falls_block a || falls_block b) (step_falls c p)
-        (either_follows (entering_block a q m) (entering_block b q m) (falls_block a) (falls_block b) (body_falls a q) (body_falls b q)) h
-    command_falls (case_of place e arms) p h = arms_fall arms p h
-
-    arms_fall : (arms : Arms) (p : Written) → entering_arms arms p m ≡ true → falls_arms arms ≡ true
-    arms_fall (last_arm b) p h = body_falls b p h
-    arms_fall (and_arm constants b arms) p h =
-        either_follows (entering_block b p m) (entering_arms arms p m) (falls_block b) (falls_arms arms) (body_falls b p) (arms_fall arms p) h
-
-    body_falls : (b : CommandBlock) (p : Written) → entering_block b p m ≡ true → falls_block b ≡ true
-    body_falls (command_block cs after) p h = list_falls cs p h
-
-    else_falls : (b : ElseBlock) (p : Written) → entering_else b p m ≡ true → falls_else b ≡ true
-    else_falls no_else p h = cc
-    else_falls (with_else b) p h = body_falls b p h
-
-    list_falls : (cs : CommandList) (p : Written) → entering_list cs p m ≡ true → falls_list cs ≡ true
-    list_falls no_command p h = cc
-    list_falls (and_command c cs) p h =
-        either_follows (entering c p m) (entering_list cs (past c p) m) (falls c) (falls_list cs) (command_falls c p) (list_falls cs (past c p)) h
 
 -- the faults below a body that falls
 nil_below : (test : Bool) (fs : List Fault) → (if test then fs else []) ≡ [] → test ≡ true → fs ≡ []
@@ -386,12 +315,12 @@ nil_below true fs h e = h
 nil_below false fs h e = cc
 
 module _ (body : CommandBlock) (children : StateList) (p : Written)
-    (once : second_block body p ++ (if falls_block body then second_states children (entering_block body p) else []) ≡ []) where
-  once_within : second_block body p ≡ []
+    (once : (found_in_block body p).again ++ (if falls_block body then second_states children (found_in_block body p).entering else []) ≡ []) where
+  once_within : (found_in_block body p).again ≡ []
   once_within = nil_left _ _ once
 
-  once_down : falls_block body ≡ true → second_states children (entering_block body p) ≡ []
-  once_down e = nil_below (falls_block body) (second_states children (entering_block body p)) (nil_right (second_block body p) _ once) e
+  once_down : falls_block body ≡ true → second_states children (found_in_block body p).entering ≡ []
+  once_down e = nil_below (falls_block body) (second_states children (found_in_block body p).entering) (nil_right (found_in_block body p).again _ once) e
 
 -- the same of states that are entered after a memory was written
 module _ (ls : Levels) (levels : List (List ℕ)) (le : ℕ → ℕ → Bool) (es : List Entity) (w : World) (match : AllMatch es w.entities) (m : ℕ) where
@@ -405,7 +334,7 @@ module _ (ls : Levels) (levels : List (List ℕ)) (le : ℕ → ℕ → Bool) (e
         (body_fits levels (what_is es) le place name kind body children f)
         p i (once_within body children p s)
         (λ j. group_unreached (k + length (block_sites h body)) (x + 1) children (nil_right _ _ f)
-        (entering_block body p) j (once_down body children p s (body_falls (name_at es m) body p j)))
+        (found_in_block body p).entering j (once_down body children p s (enters (of_block body) (block_follows body) (name_at es m) p j)))
 
     pub group_unreached : (k x : ℕ) (g : StateList) → states_faults levels le (what_is es) g ≡ [] → (p : Written) → p (name_at es m) ≡ true
         → second_states g p ≡ [] → group_reaches (group_of ls es k x g) m ≡ false
@@ -427,9 +356,9 @@ module _ (ls : Levels) (levels : List (List ℕ)) (le : ℕ → ℕ → Bool) (e
         let closing : closing_faults body ≡ [] = nil_left _ _ (nil_left _ _ s) in
         once_body ls levels h w match g (OnceGroup g) k body (body_fits levels (what_is es) le place name kind body children f) (inr closing) p
         (once_within body children p once)
-        (λ m j. group_unreached ls levels le es w match m (k + length (block_sites h body)) (x + 1) children fitting (entering_block body p) j
-        (once_down body children p once (body_falls (name_at es m) body p j)))
-        (λ i. once_group (k + length (block_sites h body)) (x + 1) children (name.name ∷ above) children fitting (nil_right _ _ s) (entering_block body p)
+        (λ m j. group_unreached ls levels le es w match m (k + length (block_sites h body)) (x + 1) children fitting (found_in_block body p).entering j
+        (once_down body children p once (enters (of_block body) (block_follows body) (name_at es m) p j)))
+        (λ i. once_group (k + length (block_sites h body)) (x + 1) children (name.name ∷ above) children fitting (nil_right _ _ s) (found_in_block body p).entering
         (once_down body children p once i))
 
     pub once_group : (k x : ℕ) (group : StateList) (above : List (List ℕ)) (g : StateList) → states_faults levels le (what_is es) g ≡ []

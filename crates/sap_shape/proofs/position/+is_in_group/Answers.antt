@@ -1,6 +1,6 @@
 use Rattle.std.proofs.Common.{◌∙◌, List, sym, ap, refl, arith}
-use Rattle.sap_tree.specs.declared.syntax.State.{State}
 use Rattle.sap_tree.specs.Trees.{states_of}
+use Rattle.sap_tree.specs.declared.syntax.State.{State}
 use Rattle.sap_shape.specs.ShapeFaults.{is_in_group}
 use Rattle.sap_shape.proofs.Members.{group_here}
 use Rattle.sap_shape.proofs.position.+is_in_group.Goals as goal

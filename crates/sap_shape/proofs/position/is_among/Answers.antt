@@ -1,7 +1,5 @@
-use Rattle.std.proofs.Common.{rules, tests, ◌∙◌, sym}
-use Rattle.std.specs.Str.{bytes_eq}
+use Rattle.sap_lemmas.proofs.Common.{rules, tests, ◌∙◌, sym, bytes_eq, YieldsList-from_slice}
 use Rattle.std.proofs.lemmas.Iterator.Search.{any_from_yields_List}
-use Rattle.std.proofs.lemmas.Iterator.{YieldsList-from_slice}
 use Rattle.sap_tree.specs.declared.syntax.State.{State, out-State}
 use Rattle.sap_shape.proofs.Members.{among_listed}
 use Rattle.sap_shape.proofs.position.is_among.Goals as goal

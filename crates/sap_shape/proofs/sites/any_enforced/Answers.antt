@@ -1,8 +1,7 @@
-use Rattle.std.proofs.Common.{rules, tests, ◌∙◌, sym, not}
+use Rattle.sap_lemmas.proofs.Common.{rules, tests, ◌∙◌, sym, not, YieldsList-from_slice}
 use Rattle.std.proofs.lemmas.Iterator.Search.{any_from_yields_List}
-use Rattle.std.proofs.lemmas.Iterator.{YieldsList-from_slice}
-use Rattle.sap_tree.specs.declared.syntax.State.{State, out-State}
 use Rattle.sap_tree.specs.Touches.{is_dynamic_kind}
+use Rattle.sap_tree.specs.declared.syntax.State.{State, out-State}
 use Rattle.sap_shape.proofs.Members.{enforced_listed}
 use Rattle.sap_shape.proofs.sites.any_enforced.Goals as goal
 
