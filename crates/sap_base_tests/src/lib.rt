@@ -1,7 +1,9 @@
-//! What no command shows, by example: desks, rows in a buffer, the layout of modules, what a runner answers,
-//! system files.
+//! What no command shows, by example: desks, lines at the front of a text, rows in a buffer, the layout of
+//! modules, what a runner answers, system files.
 #![tactic(auto)]
 
+#[cfg(test)]
+mod ahead;
 #[cfg(test)]
 mod desks;
 #[cfg(test)]

@@ -1,11 +1,9 @@
 -- What an answer says, once the next line was told.
-use Rattle.std.proofs.Common.{◌≡◌, ℕ, ◌+◌, ◌<◌, ◌≤◌, Bool, false, List, [], ◌++◌, length, take, drop, append_assoc, refl, sym, ap, ◌∙◌, subst, inl, inr, arith}
-use Rattle.std.specs.Prelude.{◌⊎◌, ◌^◌, IsTrue, Option, Some, None, IfSome}
-use Rattle.sap_desk.proofs.DeskLemmas.{name_moved}
-use Rattle.sap_desk.specs.Desk.{Told, blame_at, moved, moved_use, name_if_reading, rest_of}
+use Rattle.sap_lemmas.proofs.Common.{◌≡◌, ℕ, ◌+◌, ◌<◌, Bool, false, List, [], ◌++◌, take, drop, append_assoc, refl, sym, ap, ◌∙◌, subst, inl, inr, arith, ◌⊎◌, ◌^◌, IsTrue, Option, Some, None, IfSome}
+use Rattle.sap_desk.specs.Desk.{Told, moved, name_if_reading, rest_of}
 use Rattle.sap_desk.specs.Cause.{counted}
 use Rattle.sap_desk.specs.Whole.{Between}
-use Rattle.sap_desk.proofs.Steps.{at_number-same, option_map-same, rest-moved, number-at}
+use Rattle.sap_desk.proofs.Steps.{option_map-same, rest-moved}
 use Rattle.sap_lattice.specs.Levels.{Levels}
 use Rattle.sap_stream.specs.Spans.{Span}
 use Rattle.sap_stim.specs.declared.field.Field.{Field}
@@ -13,9 +11,9 @@ use Rattle.sap_stim.specs.declared.stimulus.Parsed.{Parsed}
 use Rattle.sap_stim.specs.Stimulus.{read_from}
 use Rattle.sap_lines.specs.declared.next.Next.{Next}
 use Rattle.sap_lines.specs.declared.next.Next.TheVariants.{Line, End, Fault, Failed}
-use Rattle.sap_lines.specs.Answers.{is_failed, is_line, lines_in, count_after, Tells, TellsBy, Counted, ReadOn, blamed_by}
+use Rattle.sap_lines.specs.Answers.{is_failed, is_line, count_after, Tells, TellsBy, ReadOn, blamed_by}
 use Rattle.sap_lines.specs.Reader.{Reader, to_come}
-use Rattle.sap_lines.specs.Fetched.{IsDecided, EndsOrDecided, More, MoreAndFailed}
+use Rattle.sap_lines.specs.Fetched.{IsDecided, EndsOrDecided, More}
 
 -- the count of lines is that of the next
 tells_after : (next : Next) (count : ℕ) (p q : Parsed) (of : ℕ → Parsed) (line : Span) → count < 2 ^ 32 → Tells next p line (of (count + 2))
@@ -131,12 +129,6 @@ pub if_told : (told : Option Told) (P : Told → Type 0) → ((t : Told) → P t
 if_told None P all = tt
 if_told (Some t) P all = all t
 
-pub counted_so : (next : Next) (faults now : ℕ) → is_failed next ≡ false → now ≡ faults → Counted next faults now
-counted_so Line faults now fine same = same
-counted_so End faults now fine same = same
-counted_so (Fault fault) faults now fine same = same
-counted_so Failed faults now fine same = absurd (let f : ⊥ = cc in f)
-
 blames_none : (next : Next) (channel : ℕ) (name : List ℕ) (t : Told) → is_failed next ≡ false → t ≡ blamed_by next channel name t
 blames_none Line channel name t fine = refl
 blames_none End channel name t fine = refl
@@ -150,36 +142,3 @@ read_on next channel held now told told_now g h fine m = record {
   told = m.told ∙ option_map-same _ _ told (λ t. blames_none next channel (name_if_reading (t.uses channel)) (moved channel m.count t) fine);
   given = m.given;
 }
-
-pub read_on_failed : (channel : ℕ) (held now : List ℕ) (told told_now : Option Told) (g h : ℕ → ℕ)
-    → MoreAndFailed channel held now told told_now g h → ReadOn Failed channel told told_now g h
-read_on_failed channel held now told told_now g h m = record {
-  count = m.count;
-  told =
-      m.told
-      ∙ option_map-same _ _ told (λ t. ap (λ (name : List ℕ). blame_at channel name (moved channel m.count t))
-      (ap name_if_reading (at_number-same channel (moved_use m.count (t.uses channel)) t.uses) ∙ name_moved m.count (t.uses channel)));
-  given = m.given;
-}
-
-few_lines : (next : Next) (count : ℕ) → count_after next count ≤ count + lines_in next
-few_lines Line count = omega arith
-few_lines End count = omega arith
-few_lines (Fault fault) count = omega arith
-few_lines Failed count = omega arith
-
-pub still_backed : (next : Next) (channel count : ℕ) (held now later : List ℕ) (told told_now : Option Told) (g h : ℕ → ℕ)
-    → More channel held now told told_now g h → length later + lines_in next ≤ length now
-    → count + length held ≤ g channel → count_after next count + length later ≤ h channel
-still_backed next channel count held now later told told_now g h m shorter before =
-    let here : h channel ≡ g channel + m.count = number-at channel (g channel + m.count) g h m.given in
-    let few = few_lines next count in
-    let size = m.size in
-    omega arith
-
-pub backed_failed : (channel count : ℕ) (held now : List ℕ) (told told_now : Option Told) (g h : ℕ → ℕ)
-    → MoreAndFailed channel held now told told_now g h → count + length held ≤ g channel → count + length now ≤ h channel
-backed_failed channel count held now told told_now g h m before =
-    let here : h channel ≡ g channel + m.count = number-at channel (g channel + m.count) g h m.given in
-    let size = m.size in
-    omega arith

@@ -1,8 +1,5 @@
 -- Whether an LF stands among bytes.
-use Rattle.std.proofs.Common.{rules, ◌≡◌, ℕ, suc, ◌+◌, ◌-◌, ◌<◌, ◌≤◌, false, true, eqb, nat_lt, List, [], ◌∷◌, length, drop, get_or, refl, sym, ap, ◌∙◌, inl, inr, length-drop, arith}
-use Rattle.std.specs.Prelude.{◌≢◌, ◌↔◌, IsTrue}
-use Rattle.std.specs.List.{list_any}
-use Rattle.std.proofs.lemmas.Bool.{cases_lt, lt-ltb, ltb-true as is_below}
+use Rattle.sap_lemmas.proofs.Common.{rules, ◌≡◌, ℕ, suc, ◌+◌, ◌-◌, ◌<◌, ◌≤◌, false, true, eqb, nat_lt, List, [], ◌∷◌, length, drop, get_or, refl, sym, ap, ◌∙◌, inl, inr, length-drop, arith, ◌≢◌, ◌↔◌, IsTrue, list_any, cases_lt, lt-ltb, ltb-true as is_below}
 use Rattle.std.proofs.lemmas.List.{get_or-drop}
 use Rattle.std.proofs.lemmas.List.Folds.{list_any_at}
 use Rattle.sap_lines.specs.Fetched.{EndsAt}

@@ -1,10 +1,5 @@
 -- The first line of bytes, whatever comes behind them.
-use Rattle.std.proofs.Common.{◌≡◌, ℕ, suc, ◌+◌, ◌-◌, ◌<◌, ◌≤◌, Bool, true, false, not, cond, eqb, ltb, Result, Ok, Err, List, [], ◌∷◌, ◌++◌, length, take, drop, refl, sym, ap, ap₂, ◌∙◌, inl, inr, length-append, length-take, length-drop, arith, if◌then◌else◌, min}
-use Rattle.std.specs.Prelude.{◌⊎◌, ◌||◌, nat_lt}
-use Rattle.std.specs.List.{position_or_len, before_first, after_first, list_any}
-use Rattle.std.proofs.lemmas.List.{append-nil, take-append-le, drop-append-le}
-use Rattle.std.proofs.lemmas.Bool.{cases_lt, ltb-true as is_below, lt-ltb}
-use Rattle.std.proofs.lemmas.Bool.Decides.{nat_tests}
+use Rattle.sap_lemmas.proofs.Common.{◌≡◌, ℕ, suc, ◌+◌, ◌-◌, ◌<◌, ◌≤◌, Bool, true, false, not, cond, eqb, ltb, Result, Ok, Err, List, [], ◌∷◌, ◌++◌, length, take, drop, refl, sym, ap, ap₂, ◌∙◌, inl, inr, length-append, length-take, length-drop, arith, if◌then◌else◌, min, ◌⊎◌, ◌||◌, nat_lt, position_or_len, before_first, after_first, list_any, append-nil, take-append-le, drop-append-le, cases_lt, ltb-true as is_below, lt-ltb, nat_tests}
 use Rattle.sap_lattice.specs.Levels.{Levels}
 use Rattle.sap_stream.specs.Spans.{Span}
 use Rattle.sap_stim.specs.declared.fault.StimCode.{StimCode}

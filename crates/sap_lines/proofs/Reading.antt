@@ -1,9 +1,5 @@
 -- Pieces read of a channel, one after another.
-use Rattle.std.proofs.Common.{◌≡◌, ℕ, ◌+◌, ◌<◌, ◌≤◌, List, ◌++◌, length, take, drop, append_assoc, refl, sym, ap, ◌∙◌, subst, inl, inr, length-append, length-take, arith}
-use Rattle.std.specs.Prelude.{◌-◌, Bool, true, false, cond, eqb, codes, Option, Some, None, option_map, IfSome}
-use Rattle.std.proofs.lemmas.List.{drop-drop, take_all, take-append-drop, take-append-le}
-use Rattle.std.proofs.Math.Seq.{take-append-add}
-use Rattle.sap_lemmas.proofs.Lists.{take_front}
+use Rattle.sap_lemmas.proofs.Common.{◌≡◌, ℕ, ◌+◌, ◌<◌, ◌≤◌, List, ◌++◌, length, take, drop, append_assoc, refl, sym, ap, ◌∙◌, subst, inl, inr, length-append, length-take, arith, ◌-◌, Bool, true, false, cond, eqb, codes, Option, Some, None, option_map, IfSome, drop-drop, take_all, take-append-drop, take-append-le, take-append-add, take_front}
 use Rattle.sap_desk.specs.Desk.{Told, at_number, moved, rest_of, name_if_reading, blame_at, blamed}
 use Rattle.sap_desk.specs.Cause.{Gave, FailsToRead}
 use Rattle.sap_desk.proofs.Steps.{option_map-twice, option_map-id, at_number-twice, at_number-keeps, moved-none, rest-moved, told_more, number-at}
@@ -96,10 +92,6 @@ end_read channel count held before after (Some t) new none is gave some =
       | inl short ↦ absurd (omega arith)
       | inr done ↦ inr (rest-moved channel count t ∙ ap (λ (n : ℕ). drop n (rest_of t channel)) none ∙ done)
     ])
-
-pub decided_now : (channel : ℕ) (held : List ℕ) (told : Option Told) → IsDecided held → IfSome told (EndsOrDecided channel held)
-decided_now channel held None d = tt
-decided_now channel held (Some t) d = inl d
 
 blame_fails : (b : Bool) (channel given size : ℕ) (name : List ℕ) (t : Told) → FailsToRead channel given size t → FailsToRead channel given size (cond b t (blamed name t))
 blame_fails true channel given size name t f = f

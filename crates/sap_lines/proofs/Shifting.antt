@@ -1,7 +1,6 @@
 -- Bytes taken away at the front.
-use Rattle.std.proofs.Common.{◌≡◌, ℕ, ◌+◌, ◌-◌, ◌≤◌, List, length, take, drop, sym, ap, ◌∙◌, length-drop, arith}
+use Rattle.sap_lemmas.proofs.Common.{◌≡◌, ℕ, ◌+◌, ◌-◌, ◌≤◌, List, length, take, drop, sym, ap, ◌∙◌, length-drop, arith, take_all, drop-drop}
 use Rattle.std.proofs.Math.Seq.{paste}
-use Rattle.std.proofs.lemmas.List.{take_all, drop-drop}
 use Rattle.std.proofs.lemmas.List.Edits.{take-paste}
 
 -- those behind a place, moved to the front, and the others cut off

@@ -33,7 +33,10 @@ pub fn take_ahead(
     ensures stands { (result ≡ None) → held.new ≡ held.old }
     ensures places { length inputs.new ≡ length fields.now }
 {
-    let (cycles, len) = line_ahead(held.as_slice(), fields, lattice, &mut inputs.values)?;
+    let (read, len) = line_ahead(held.as_slice(), fields, lattice, &mut inputs.values)?;
+    let Ok(cycles) = read else {
+        return None;
+    };
     held.skip(len + 1);
     Some(cycles)
 }

@@ -1,7 +1,5 @@
 -- The level that has a code.
-use Rattle.std.proofs.Common.{◌≡◌, ◌≢◌, ℕ, zero, suc, ◌+◌, ◌<◌, Bool, true, Option, Some, None, eqb, refl, sym, ◌∙◌, arith}
-use Rattle.std.specs.Prelude.{find, MatchOption, IfSome}
-use Rattle.std.specs.List.{range_with_len}
+use Rattle.sap_lemmas.proofs.Common.{◌≡◌, ◌≢◌, ℕ, zero, suc, ◌+◌, ◌<◌, Bool, true, Option, Some, None, eqb, refl, sym, ◌∙◌, arith, find, MatchOption, IfSome, range_with_len}
 use Rattle.std.proofs.lemmas.Bool.{cond_both}
 use Rattle.sap_lemmas.proofs.Options.{find_only_from}
 use borrow.Author.Tests.{eqb-true, eq-eqb}

@@ -1,7 +1,5 @@
 -- For how many cycles a line stands, by its last piece.
-use Rattle.std.proofs.Common.{◌≡◌, ℕ, ◌-◌, Bool, true, false, Some, None, Result, Ok, Err, cond, List, [], ◌∷◌, length, drop, take, sym, ap, ◌∙◌, arith}
-use Rattle.std.specs.Str.Parse.{digits_value}
-use Rattle.std.proofs.lemmas.List.{take_all, length-drop}
+use Rattle.sap_lemmas.proofs.Common.{◌≡◌, ℕ, ◌-◌, Bool, true, false, Some, None, Result, Ok, Err, cond, List, [], ◌∷◌, length, drop, take, sym, ap, ◌∙◌, arith, digits_value, take_all, length-drop}
 use Rattle.sap_stim.specs.declared.fault.StimCode.{StimCode}
 use Rattle.sap_stim.specs.declared.fault.StimCode.TheVariants.{S6}
 use Rattle.sap_stim.specs.Line.{is_starred, count_in, is_count, count_of}

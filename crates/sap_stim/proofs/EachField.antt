@@ -1,8 +1,5 @@
 -- Fields, read one after another.
-use Rattle.std.proofs.Common.{◌≡◌, ℕ, zero, suc, ◌+◌, ◌-◌, ◌<◌, ◌≤◌, Result, Ok, Err, List, [], ◌∷◌, ◌++◌, length, get_or, take, drop, refl, sym, ap, ap₂, ◌∙◌, inl, inr, append_assoc, arith}
-use Rattle.std.specs.List.{position_or_len, before_first, after_first}
-use Rattle.std.proofs.lemmas.List.{append-nil, drop_all}
-use Rattle.std.proofs.Math.Seq.{drop-cons}
+use Rattle.sap_lemmas.proofs.Common.{◌≡◌, ℕ, zero, suc, ◌+◌, ◌-◌, ◌<◌, ◌≤◌, Result, Ok, Err, List, [], ◌∷◌, ◌++◌, length, get_or, take, drop, refl, sym, ap, ap₂, ◌∙◌, inl, inr, append_assoc, arith, position_or_len, before_first, after_first, append-nil, drop_all, drop-cons, cases_lt}
 use Rattle.sap_lattice.specs.Levels.{Levels}
 use Rattle.sap_meaning.specs.Cycle.{Tagged as Given}
 use Rattle.sap_stim.specs.declared.fault.StimCode.{StimCode}
@@ -11,7 +8,6 @@ use Rattle.sap_text.specs.Lines.{split_at}
 use Rattle.sap_stim.specs.Line.{fields_of, and_then, field_of, inputs_of}
 use Rattle.sap_stim.proofs.Pieces.{is_mark, split_marked, split_unmarked, before_unmarked}
 use Rattle.sap_stim.proofs.LastPiece.{fields_front}
-use Rattle.std.proofs.lemmas.Bool.{cases_lt}
 
 -- inputs that were read, and then others
 abbrev pub onto : List Given → Result (List Given) StimCode → Result (List Given) StimCode

@@ -1,11 +1,5 @@
 -- What a stimulus gives fits.
-use Rattle.std.proofs.Common.{◌≡◌, ℕ, zero, suc, ◌+◌, ◌<◌, ◌^◌, Bool, true, false, not, Option, Some, None, Result, Ok, Err, IfOk, eqb, ltb, List, [], ◌∷◌, ◌++◌, length, drop, replicate, refl, sym, ap, subst, ◌∙◌, ◌≤◌, OnOk, if◌then◌else◌, arith}
-use Rattle.std.specs.Prelude.{IfSome, nat_lt}
-use Rattle.std.specs.List.{position_or_len, before_first, after_first}
-use Rattle.std.specs.Str.{bytes_eq}
-use Rattle.std.specs.Str.Parse.{digits_value}
-use Rattle.std.proofs.lemmas.Bool.Decides.{nat_tests}
-use Rattle.std.proofs.lemmas.Bool.{le-ltb}
+use Rattle.sap_lemmas.proofs.Common.{◌≡◌, ℕ, zero, suc, ◌+◌, ◌<◌, ◌^◌, Bool, true, false, not, Option, Some, None, Result, Ok, Err, IfOk, eqb, ltb, List, [], ◌∷◌, ◌++◌, length, drop, replicate, refl, sym, ap, subst, ◌∙◌, ◌≤◌, OnOk, if◌then◌else◌, arith, IfSome, nat_lt, position_or_len, before_first, after_first, bytes_eq, digits_value, nat_tests, le-ltb}
 use borrow.Author.Tests.{eq-eqb, ltb-true}
 use Rattle.sap_lattice.specs.Levels.{Levels, level_named, order_of, order_by}
 use Rattle.sap_meaning.specs.Cycle.{Tagged as Given}

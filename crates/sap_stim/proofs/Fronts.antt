@@ -1,11 +1,8 @@
 -- The field at the front of a text.
-use Rattle.std.proofs.Common.{◌≡◌, ℕ, ◌+◌, ◌<◌, ◌≤◌, true, Some, List, [], length, get_or, take, drop, refl, sym, ap, ◌∙◌, ◌⊎◌, arith}
-use Rattle.std.specs.Char.{is_ascii_digit}
-use Rattle.std.specs.List.{before_first, list_all, position_or_len}
+use Rattle.sap_lemmas.proofs.Common.{◌≡◌, ℕ, ◌+◌, ◌<◌, ◌≤◌, true, Some, List, [], length, get_or, take, drop, refl, sym, ap, ◌∙◌, ◌⊎◌, arith, is_ascii_digit, before_first, list_all, position_or_len}
 use Rattle.sap_lattice.proofs.LevelsLemmas.{level_in_same}
 use Rattle.sap_lattice.proofs.NameLemmas.{found_at}
-use Rattle.sap_lattice.specs.Levels.{level_in, level_named}
-use Rattle.sap_lattice.specs.Rules.{KeepsNames}
+use Rattle.sap_lattice.specs.Prelude.{level_in, level_named, KeepsNames}
 use Rattle.sap_text.proofs.NamesLemmas.{word_inner}
 use Rattle.sap_text.specs.Names.{is_inner, is_word}
 use Rattle.sap_stim.proofs.Pieces.{is_mark}

@@ -1,8 +1,6 @@
 -- The last piece of a text, and the fields and the count of a line by it.
-use Rattle.std.proofs.Common.{◌≡◌, ℕ, zero, suc, ◌+◌, ◌-◌, ◌<◌, ◌≤◌, Bool, true, false, cond, eqb, Some, None, List, [], ◌∷◌, ◌++◌, length, get_or, drop, take, refl, sym, ap, subst, ◌∙◌, length-append, arith}
-use Rattle.std.specs.Prelude.{count_by}
-use Rattle.std.specs.List.{position_or_len, onto_first}
-use Rattle.std.proofs.lemmas.List.{take-append-drop, length-drop}
+use Rattle.sap_lemmas.proofs.Common.{◌≡◌, ℕ, zero, suc, ◌+◌, ◌-◌, ◌<◌, ◌≤◌, Bool, true, false, cond, eqb, Some, None, List, [], ◌∷◌, ◌++◌, length, get_or, drop, take, refl, sym, ap, subst, ◌∙◌, length-append, arith, count_by, position_or_len, take-append-drop, length-drop}
+use Rattle.std.specs.List.{onto_first}
 use Rattle.std.proofs.lemmas.List.Sums.{sum_by-append}
 use borrow.Author.Tests.{eq-eqb}
 use Rattle.sap_text.specs.Lines.{split_at}

@@ -1,8 +1,5 @@
 -- Lines, read one after another.
-use Rattle.std.proofs.Common.{◌≡◌, ℕ, ◌+◌, ◌*◌, ◌<◌, ◌≤◌, Bool, true, false, Option, Some, None, Result, Ok, Err, ltb, List, [], ◌∷◌, ◌++◌, length, refl, sym, ap, ap₂, subst, IfOk, ◌∙◌, inl, inr, append_assoc, length-append, arith}
-use Rattle.std.specs.List.{position_or_len, before_first, after_first}
-use Rattle.std.proofs.lemmas.List.{append-nil, length-drop, length-replicate}
-use Rattle.std.proofs.lemmas.Bool.{cases_lt, le-ltb, lt-ltb}
+use Rattle.sap_lemmas.proofs.Common.{◌≡◌, ℕ, ◌+◌, ◌*◌, ◌<◌, ◌≤◌, Bool, true, false, Option, Some, Result, Ok, Err, ltb, List, [], ◌∷◌, ◌++◌, length, refl, sym, ap, ap₂, subst, IfOk, ◌∙◌, inl, inr, append_assoc, length-append, arith, position_or_len, before_first, after_first, append-nil, length-drop, length-replicate, cases_lt, le-ltb, lt-ltb}
 use Rattle.sap_stream.proofs.SpansLemmas.{cycles_more}
 use Rattle.sap_lattice.specs.Levels.{Levels}
 use Rattle.sap_meaning.specs.Cycle.{Tagged as Given}
@@ -101,9 +98,3 @@ short_more ls fs ended text spans next span given e short =
     ap (λ (xs : List Span). length (cycles_of xs)) e ∙ ap length (cycles_more spans span) ∙ length-append (cycles_of spans) (cycles_in span)
     ∙ ap (λ (k : ℕ). length (cycles_of spans) + k) (length-replicate span.count span.inputs) in
     omega arith
-
--- the end
-pub parse_ends : (ls : Levels) (fs : List Field) (spans : List Span) (n : ℕ) (s : List ℕ) → length s ≡ 0
-    → record { stream = cycles_of spans; fault = None } ≡ behind (cycles_of spans) (read_from ls fs n s)
-parse_ends ls fs spans n [] h = ap (λ (xs : List (List Given)). let p : Parsed = record { stream = xs; fault = None } in p) (sym (append-nil (cycles_of spans)))
-parse_ends ls fs spans n (b ∷ bs) h = absurd (omega arith)

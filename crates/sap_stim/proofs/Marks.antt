@@ -1,8 +1,5 @@
 -- Where the first mark of a text stands.
-use Rattle.std.proofs.Common.{◌≡◌, ℕ, zero, suc, ◌+◌, ◌<◌, ◌≤◌, Bool, true, false, not, cond, eqb, List, [], ◌∷◌, length, get_or, take, drop, refl, sym, ap, ◌∙◌, ◌⊎◌, inl, inr, arith}
-use Rattle.std.specs.List.{after_first, before_first, list_all, position_or_len}
-use Rattle.std.proofs.lemmas.Bool.{and_parts, cases_lt}
-use Rattle.std.proofs.lemmas.List.{drop-drop, drop-take, get_or-take, length-take-le, take-take, take_all}
+use Rattle.sap_lemmas.proofs.Common.{◌≡◌, ℕ, zero, suc, ◌+◌, ◌<◌, ◌≤◌, Bool, true, false, not, cond, eqb, List, [], ◌∷◌, length, get_or, take, drop, refl, sym, ap, ◌∙◌, ◌⊎◌, inl, inr, arith, after_first, before_first, list_all, position_or_len, and_parts, cases_lt, drop-drop, drop-take, get_or-take, length-take-le, take-take, take_all}
 use borrow.Author.Tests.{eq-eqb, eqb-true, ne_eqb}
 use Rattle.sap_stim.proofs.Pieces.{is_mark, mark_within}
 

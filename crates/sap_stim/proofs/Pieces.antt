@@ -1,10 +1,6 @@
 -- The first piece of a text and the others.
-use Rattle.std.proofs.Common.{◌≡◌, ℕ, suc, ◌+◌, ◌<◌, ◌≤◌, Bool, true, false, not, cond, eqb, ltb, ◌-◌, Some, None, List, [], ◌∷◌, length, take, drop, refl, sym, ap, ap₂, ◌∙◌, arith}
-use Rattle.std.specs.Prelude.{count_by, position}
-use Rattle.std.specs.List.{position_or_len, before_first, after_first, onto_first}
-use Rattle.std.proofs.lemmas.List.{take_all, length-take-le, length-drop, drop_all}
-use Rattle.std.proofs.lemmas.Bool.Decides.{nat_tests}
-use Rattle.std.proofs.lemmas.List.Sums.{sum_by-cons}
+use Rattle.sap_lemmas.proofs.Common.{◌≡◌, ℕ, suc, ◌+◌, ◌<◌, ◌≤◌, Bool, true, false, not, cond, eqb, ltb, ◌-◌, Some, None, List, [], ◌∷◌, length, take, drop, refl, sym, ap, ap₂, ◌∙◌, arith, count_by, position, position_or_len, before_first, after_first, take_all, length-take-le, length-drop, drop_all, nat_tests, sum_by-cons, lt-ltb}
+use Rattle.std.specs.List.{onto_first}
 use Rattle.sap_lemmas.proofs.Lists.{take_more}
 use Rattle.sap_text.specs.Lines.{split_at}
 
@@ -93,6 +89,15 @@ place_missing k n false t e = grind (arith, nat_tests)
 
 pub not_found : (m : ℕ) (s : List ℕ) → None ≡ position (is_mark m) s → length s ≤ position_or_len (is_mark m) s
 not_found m s e = place_missing (position_or_len (is_mark m) s) (length s) _ refl e
+
+-- the mark that is found is the first
+pub found_first : (m : ℕ) (s : List ℕ) (i : ℕ) → Some i ≡ position (is_mark m) s → (i ≡ position_or_len (is_mark m) s) × (i < length s)
+found_first m s i e =
+    let found = place_found (position_or_len (is_mark m) s) (length s) i _ refl e in
+    (found.0, omega (arith, found.0, found.1))
+
+pub marked_found : (m : ℕ) (s : List ℕ) → position_or_len (is_mark m) s < length s → Some (position_or_len (is_mark m) s) ≡ position (is_mark m) s
+marked_found m s h = ap (λ (t : Bool). cond t (Some (position_or_len (is_mark m) s)) None) (sym (lt-ltb (position_or_len (is_mark m) s) (length s) h))
 
 pub cut_before : (m : ℕ) (s : List ℕ) (i : ℕ) → Some i ≡ position (is_mark m) s → take i s ≡ before_first (is_mark m) s
 cut_before m s i e = ap (λ (k : ℕ). take k s) (place_found (position_or_len (is_mark m) s) (length s) i _ refl e).0

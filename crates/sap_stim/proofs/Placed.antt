@@ -1,21 +1,10 @@
 -- Texts in an array of bytes, one behind another.
-use Rattle.std.proofs.Common.{◌≡◌, ◌≤◌, ◌<◌, ◌+◌, ◌^◌, ℕ, List, [], ◌∷◌, ◌++◌, take, length, ap, ap₂, sym, subst, set, length-set, ◌*◌, get_or, ◌∙◌, append_assoc, Option, Some, None, ◌⊎◌, inl, inr, arith}
-use Rattle.std.specs.Prelude.{IfSome, ◌/◌, ◌%◌}
-use Rattle.std.specs.Fmt.{decimal}
-use Rattle.std.proofs.Math.Seq.{take-append-add}
-use Rattle.std.proofs.lemmas.Fmt.{decimal_digit, decimal_step}
-use Rattle.std.proofs.lemmas.List.{append_cancel_right, length-take-le, take-append-le, take_more_set}
-use Rattle.std.proofs.lemmas.Bool.{cases_lt}
+use Rattle.sap_lemmas.proofs.Common.{◌≡◌, ◌≤◌, ◌<◌, ◌+◌, ◌^◌, ℕ, List, [], ◌∷◌, ◌++◌, take, length, ap, ap₂, sym, subst, set, ◌*◌, get_or, ◌∙◌, append_assoc, Option, Some, None, ◌⊎◌, inl, inr, arith, IfSome, ◌/◌, ◌%◌, decimal, take-append-add, decimal_digit, decimal_step, length-take-le, take-append-le, take_more_set, cases_lt}
+use Rattle.std.proofs.Common.{length-set}
+use Rattle.std.proofs.lemmas.List.{append_cancel_right}
 use Rattle.std.proofs.lemmas.Grind.{take-set_at}
 use Rattle.sap_text.proofs.PairsOfDigits.{last_two, pair_at, pair_of, two_digits}
 use Rattle.sap_stim.specs.declared.flat.TheConstants.{PAIRS}
-
--- a text behind another
-pub then_text : (o : Option ℕ) (old mid new : List ℕ) (at end : ℕ) (a b whole : List ℕ) → take end mid ≡ take at old ++ a
-    → IfSome o (λ e. take e new ≡ take end mid ++ b) → a ++ b ≡ whole
-    → IfSome o (λ e. take e new ≡ take at old ++ whole)
-then_text None old mid new at end a b whole p q w = tt
-then_text (Some e) old mid new at end a b whole p q w = q ∙ ap (λ l. l ++ b) p ∙ append_assoc (take at old) a b ∙ ap (λ l. take at old ++ l) w
 
 -- two bytes that are set one behind the other
 pub two_set : (bytes : List ℕ) (at a b x y : ℕ) → at + 2 ≤ length bytes → a ≡ x → b ≡ y

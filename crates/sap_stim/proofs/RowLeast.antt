@@ -1,16 +1,9 @@
 -- A buffer with less room doesn't take any row.
-use Rattle.std.proofs.Common.{◌≡◌, ℕ, ◌+◌, ◌<◌, ◌≤◌, ◌^◌, ◌⊎◌, List, [], ◌∷◌, ◌++◌, length, get_or, length-append, max, refl, sym, ap, ◌∙◌, inl, inr, arith}
-use Rattle.std.specs.Prelude.{All, Option, Some, None, option_map, decimal, nat_lt, if◌then◌else◌}
+use Rattle.sap_lemmas.proofs.Common.{◌≡◌, ℕ, ◌+◌, ◌<◌, ◌≤◌, ◌^◌, ◌⊎◌, List, [], ◌∷◌, ◌++◌, length, get_or, length-append, max, refl, sym, ap, ◌∙◌, inl, inr, arith, All, Option, Some, None, option_map, decimal, nat_lt, if◌then◌else◌, cases_lt, nat_tests, pow_below}
 use Rattle.std.specs.Fmt.{digits}
-use Rattle.std.proofs.lemmas.Bool.{cases_lt}
-use Rattle.std.proofs.lemmas.Bool.Decides.{nat_tests}
 use Rattle.std.proofs.lemmas.List.Elements.{All-nil, All-cons}
-use Rattle.std.proofs.lemmas.Nat.{pow_below}
 use Rattle.sap_lattice.proofs.LevelsLemmas.{level_in_same}
-use Rattle.sap_lattice.specs.Closure.{name_at}
-use Rattle.sap_lattice.specs.Codes.{Codes, code_of, width_of}
-use Rattle.sap_lattice.specs.Lawful.{IsNarrow}
-use Rattle.sap_lattice.specs.Levels.{Levels, level_in, order_of, order_by}
+use Rattle.sap_lattice.specs.Prelude.{name_at, Codes, code_of, width_of, IsNarrow, Levels, level_in, order_of, order_by}
 use Rattle.sap_stim.specs.Rows.{shown, shown_of, shown_text, all_shown, level_coded, level_text, HoldsRows}
 use Rattle.sap_stim.proofs.Coded.{level_found}
 use Rattle.sap_stim.proofs.RowRoom.{taken}

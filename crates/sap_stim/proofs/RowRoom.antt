@@ -1,14 +1,8 @@
 -- The room of rows.
-use Rattle.std.proofs.Common.{◌≡◌, ℕ, zero, suc, ◌+◌, ◌<◌, ◌≤◌, ◌^◌, List, [], ◌∷◌, ◌++◌, length, get_or, drop, length-append, refl, sym, ap, ◌∙◌, inl, inr, arith}
-use Rattle.std.specs.Prelude.{All, Option, Some, None, option_map, decimal, nat_lt, if◌then◌else◌}
-use Rattle.std.proofs.lemmas.Bool.{cases_lt}
-use Rattle.std.proofs.lemmas.Bool.Decides.{nat_tests}
-use Rattle.std.proofs.lemmas.Fmt.{length-decimal-le}
+use Rattle.sap_lemmas.proofs.Common.{◌≡◌, ℕ, zero, suc, ◌+◌, ◌<◌, ◌≤◌, ◌^◌, List, [], ◌∷◌, ◌++◌, length, get_or, drop, length-append, refl, sym, ap, ◌∙◌, inl, inr, arith, All, Option, Some, None, option_map, decimal, nat_lt, if◌then◌else◌, cases_lt, nat_tests, length-decimal-le, drop-cons}
 use Rattle.std.proofs.lemmas.List.Elements.{All-head, All-tail}
-use Rattle.std.proofs.Math.Seq.{drop-cons}
 use Rattle.sap_lattice.proofs.LevelsLemmas.{level_in_same}
-use Rattle.sap_lattice.specs.Closure.{name_at}
-use Rattle.sap_lattice.specs.Levels.{Levels, level_in}
+use Rattle.sap_lattice.specs.Prelude.{name_at, Levels, level_in}
 use Rattle.sap_stim.specs.Rows.{shown, shown_of, shown_text, all_shown, level_coded, level_text, HoldsRows}
 
 -- names are within a bound

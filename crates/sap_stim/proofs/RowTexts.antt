@@ -1,12 +1,9 @@
 -- The texts of rows, from left to right.
-use Rattle.std.proofs.Common.{◌≡◌, ◌+◌, ◌<◌, ◌≤◌, ◌^◌, ℕ, zero, suc, List, [], ◌∷◌, ◌++◌, length, get_or, drop, refl, sym, ap, ◌∙◌, append_assoc, arith, rules, length-append, Option, Some, Result, Ok, Err, OnOk, if◌then◌else◌}
-use Rattle.std.specs.Prelude.{decimal, is_ok, option_map, OnErr, IsOk}
-use Rattle.std.proofs.lemmas.Fmt.{length-decimal-le}
-use Rattle.std.proofs.Math.Seq.{drop-cons}
+use Rattle.sap_lemmas.proofs.Common.{◌≡◌, ◌+◌, ◌<◌, ◌≤◌, ◌^◌, ℕ, zero, suc, List, [], ◌∷◌, ◌++◌, length, get_or, drop, sym, ap, ◌∙◌, arith, rules, length-append, Option, Some, Result, Ok, Err, OnOk, if◌then◌else◌, decimal, is_ok, option_map, OnErr, length-decimal-le, drop-cons}
+use Rattle.std.specs.Prelude.{IsOk}
 use Rattle.sap_lemmas.proofs.Lists.{joined_part_on_last}
 use Rattle.sap_lattice.proofs.LevelsLemmas.{level_in_same}
-use Rattle.sap_lattice.specs.Closure.{name_at}
-use Rattle.sap_lattice.specs.Levels.{Levels, level_in}
+use Rattle.sap_lattice.specs.Prelude.{name_at, Levels, level_in}
 use Rattle.sap_stim.specs.Rows.{Shown, shown, shown_of, shown_text, all_shown, row_text, row_room, level_coded, level_text}
 
 -- the registers from a place on
@@ -24,29 +21,6 @@ shown_more ls names values tags i name h v t e =
     ap (λ (x : List (List ℕ)). all_shown (shown_of ls x (drop i values) (drop i tags))) a
     ∙ ap (λ (x : List ℕ). all_shown (shown_of ls (name ∷ drop (i + 1) names) x (drop i tags))) b
     ∙ ap (λ (x : List ℕ). all_shown (shown_of ls (name ∷ drop (i + 1) names) (get_or values i 0 ∷ drop (i + 1) values) x)) c
-
-shown_past : (ls : Levels) (names : List (List ℕ)) (values tags : List ℕ) (i : ℕ) → length names ≤ i → shown_from ls names values tags i ≡ 10 ∷ []
-shown_past ls names values tags i h = ap (λ (x : List (List ℕ)). all_shown (shown_of ls x (drop i values) (drop i tags))) (past names i h) where
-  past : (xs : List (List ℕ)) (k : ℕ) → length xs ≤ k → drop k xs ≡ []
-  past [] zero h = refl
-  past [] (suc k) h = refl
-  past (x ∷ xs) zero h = absurd (omega arith)
-  past (x ∷ xs) (suc k) h = past xs k (omega arith)
-
--- one register more is written
-pub row_grows : (ls : Levels) (names : List (List ℕ)) (values tags : List ℕ) (i : ℕ) (name out old next : List ℕ) → i < length names
-    → length values ≡ length names → length tags ≡ length names → name ≡ get_or names i name
-    → out ++ shown_from ls names values tags i ≡ old → next ≡ out ++ shown_text (shown ls name (get_or values i 0) (get_or tags i 0))
-    → next ++ shown_from ls names values tags (i + 1) ≡ old
-row_grows ls names values tags i name out old next h v t e before grown =
-    ap (λ (x : List ℕ). x ++ shown_from ls names values tags (i + 1)) grown
-    ∙ append_assoc out (shown_text (shown ls name (get_or values i 0) (get_or tags i 0))) (shown_from ls names values tags (i + 1))
-    ∙ ap (λ (x : List ℕ). out ++ x) (sym (shown_more ls names values tags i name h v t e))
-    ∙ before
-
-pub row_ends : (ls : Levels) (names : List (List ℕ)) (values tags : List ℕ) (i : ℕ) (out old next : List ℕ) → length names ≤ i
-    → out ++ shown_from ls names values tags i ≡ old → next ≡ out ++ 10 ∷ [] → next ≡ old
-row_ends ls names values tags i out old next h before grown = grown ∙ ap (λ (x : List ℕ). out ++ x) (sym (shown_past ls names values tags i h)) ∙ before
 
 pub level_written : {E : Type 0} (ls : Levels) (tag level : ℕ) (text old new : List ℕ) (r : Result (Unit {0}) E)
     → Some level ≡ level_coded ls tag → level < length ls.names → text ≡ get_or ls.names (level_in (length ls.names) level) []

@@ -1,16 +1,8 @@
 -- A field whose digits were read in one look.
-use Rattle.std.proofs.Common.{◌≡◌, ℕ, zero, suc, ◌+◌, ◌-◌, ◌*◌, ◌<◌, ◌≤◌, ◌^◌, Bool, true, false, not, cond, eqb, Some, Result, Ok, Err, List, [], ◌∷◌, length, get_or, take, drop, refl, sym, ap, ap₂, ◌∙◌, arith}
-use Rattle.std.specs.Prelude.{nat_lt}
-use Rattle.std.specs.Char.{digit_value, is_ascii_digit}
-use Rattle.std.specs.List.{before_first, list_all, position_or_len}
-use Rattle.std.specs.Str.Parse.{digits_value}
-use Rattle.std.proofs.lemmas.Bool.{and_parts, and_from, le-leb, leb-true}
-use Rattle.std.proofs.lemmas.Bool.Decides.{nat_tests}
+use Rattle.sap_lemmas.proofs.Common.{◌≡◌, ℕ, zero, suc, ◌+◌, ◌-◌, ◌*◌, ◌<◌, ◌≤◌, ◌^◌, Bool, true, false, not, cond, eqb, Some, Result, Ok, Err, List, [], ◌∷◌, length, get_or, take, drop, refl, sym, ap, ap₂, ◌∙◌, arith, nat_lt, digit_value, is_ascii_digit, before_first, list_all, position_or_len, digits_value, and_parts, and_from, le-leb, leb-true, nat_tests, drop-take, get_or-take, length-drop, length-take-le, take-take, digits_model}
 use Rattle.std.proofs.lemmas.Int.Digits.{digits_value_more}
-use Rattle.std.proofs.lemmas.List.{drop-take, get_or-take, length-drop, length-take-le, take-take}
 use Rattle.std.proofs.lemmas.List.Folds.{list_all_more}
 use Rattle.std.proofs.lemmas.Str.Parse.{digits_value_short}
-use Rattle.sap_lemmas.proofs.Texts.{digits_model}
 use borrow.Author.Tests.{eq-eqb, ne_eqb}
 use Rattle.sap_lattice.specs.Levels.{Levels, level_named}
 use Rattle.sap_meaning.specs.Cycle.{Tagged as Given}

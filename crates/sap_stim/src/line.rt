@@ -1,6 +1,6 @@
 //! Lines.
 
-ghost use Rattle.std.specs.Prelude.{◌≡◌, ◌==◌, ◌<◌, All, IfOk, IfSome, MatchResult, Ok, OnOk, length, true};
+ghost use Rattle.std.specs.Prelude.{◌≡◌, ◌==◌, ◌<◌, ◌↔◌, All, IfOk, IfSome, MatchResult, None, Ok, OnOk, length, position, true};
 ghost use Rattle.std.specs.List.{before_first, position_or_len};
 ghost use Rattle.sap_stream.specs.Spans.{IsCount};
 ghost use Rattle.sap_stim.specs.Fits.{LineFits};
@@ -11,7 +11,7 @@ use crate::along::{read_ahead, read_along};
 use crate::count::read_count;
 use crate::fault::StimCode;
 use crate::field::Field;
-use crate::text::{count_fields, cut, last_piece};
+use crate::text::{count_fields, cut, find, last_piece};
 use crate::value::read_field;
 use sap_lattice::lattice::Lattice;
 use sap_stream::inputs::{Inputs, Tagged};
@@ -76,10 +76,9 @@ pub fn read_line_into(
     read_count(piece)
 }
 
-/// Reads the line at the front of a text, in one look, where it has an LF and nothing is wrong with it, writes what it
-/// gives in place of `inputs`, and tells for how many cycles it stands and how many bytes stand before its LF. It takes
-/// no memory. None says nothing of the line.
-pub fn line_ahead(
+/// Reads the line at the front of a text, in one look, where it has an LF and nothing is wrong with it, and tells for
+/// how many cycles it stands and how many bytes stand before its LF.
+fn fast_line(
     text: &[u8],
     fields: &[Field],
     lattice: &Lattice,
@@ -92,7 +91,6 @@ pub fn line_ahead(
     ensures given { IfSome result (λ r. with_inputs (Ok r.0) inputs.new ≡ line_of lattice.now fields.now true (before_first (λ b. b == 10) text.now)) }
     ensures fits { IfSome result (λ r. LineFits lattice.now fields.now inputs.new) }
     ensures count { IfSome result (λ r. IsCount r.0) }
-    ensures places { length inputs.new ≡ length fields.now }
 {
     lattice.lawful();
     let (start, end) = read_ahead(text, fields, lattice, inputs)?;
@@ -103,6 +101,54 @@ pub fn line_ahead(
         Ok(count) => Some((count, end)),
         Err(_) => None,
     }
+}
+
+/// Reads the line at the front of a text, once its LF is found.
+#[inline(never)]
+fn slow_line(
+    text: &[u8],
+    fields: &[Field],
+    lattice: &Lattice,
+    inputs: &mut [Tagged],
+) -> Option<(Result<u32, StimCode>, usize)>
+    requires widths { All IsSized fields.now }
+    requires places { length inputs.old ≡ length fields.now }
+    ensures none { (result ≡ None) ↔ (position (λ b. b == 10) text.now ≡ None) }
+    ensures end { IfSome result (λ r. r.1 ≡ position_or_len (λ b. b == 10) text.now) }
+    ensures within { IfSome result (λ r. r.1 < length text.now) }
+    ensures given { IfSome result (λ r. with_inputs r.0 inputs.new ≡ line_of lattice.now fields.now true (before_first (λ b. b == 10) text.now)) }
+    ensures fits { IfSome result (λ r. OnOk r.0 (LineFits lattice.now fields.now inputs.new)) }
+    ensures count { IfSome result (λ r. IfOk r.0 IsCount) }
+{
+    let end = find(text, b'\n')?;
+    let read = read_line_into(&text[..end], true, fields, lattice, inputs);
+    Some((read, end))
+}
+
+/// Reads the line at the front of a text, writes what it gives in place of `inputs`, one for each field, and tells for how
+/// many cycles it stands, or what is wrong with it, and how many bytes stand before its LF. It takes no memory. None is
+/// that no LF stands in the text.
+#[inline]
+pub fn line_ahead(
+    text: &[u8],
+    fields: &[Field],
+    lattice: &Lattice,
+    inputs: &mut [Tagged],
+) -> Option<(Result<u32, StimCode>, usize)>
+    requires widths { All IsSized fields.now }
+    requires places { length inputs.old ≡ length fields.now }
+    ensures none { (result ≡ None) ↔ (position (λ b. b == 10) text.now ≡ None) }
+    ensures end { IfSome result (λ r. r.1 ≡ position_or_len (λ b. b == 10) text.now) }
+    ensures within { IfSome result (λ r. r.1 < length text.now) }
+    ensures given { IfSome result (λ r. with_inputs r.0 inputs.new ≡ line_of lattice.now fields.now true (before_first (λ b. b == 10) text.now)) }
+    ensures fits { IfSome result (λ r. OnOk r.0 (LineFits lattice.now fields.now inputs.new)) }
+    ensures count { IfSome result (λ r. IfOk r.0 IsCount) }
+    ensures places { length inputs.new ≡ length fields.now }
+{
+    if let Some((count, end)) = fast_line(text, fields, lattice, inputs) {
+        return Some((Ok(count), end));
+    }
+    slow_line(text, fields, lattice, inputs)
 }
 
 /// What a line gives, without its LF; `ended` says whether it has one.

@@ -1,6 +1,6 @@
 //! Short texts.
 
-ghost use Rattle.std.specs.Prelude.{◌≡◌, ◌≤◌, ◌+◌, ◌++◌, IfSome, length, take};
+ghost use Rattle.std.specs.Prelude.{◌≡◌, ◌<◌, ◌≤◌, ◌+◌, ◌++◌, IfNone, IfSome, length, take};
 ghost use Rattle.sap_stim.specs.declared.short.TheConstants.{MOST_SHORT};
 
 use std::marker::Model;
@@ -28,7 +28,8 @@ impl Model for Short {
 impl Short {
     /// The text, where it is short.
     pub fn new(text: &[u8]) -> Option<Short>
-        ensures { IfSome result (λ s. s ≡ text.now) }
+        ensures text { IfSome result (λ s. s ≡ text.now) }
+        ensures long { IfNone result (MOST_SHORT < length text.now) }
     {
         if text.len() > MOST_SHORT {
             return None;
@@ -63,7 +64,8 @@ impl Short {
     /// Writes the text at a place, and tells where it ends. It writes behind it too, for which there must be room.
     #[inline(always)]
     pub fn put(&self, bytes: &mut [u8], at: usize) -> Option<usize>
-        ensures { IfSome result (λ end. take end bytes.new ≡ take at bytes.old ++ self.now) }
+        ensures text { IfSome result (λ end. take end bytes.new ≡ take at bytes.old ++ self.now) }
+        ensures no_room { IfNone result (length bytes.old < at + MOST_SHORT) }
     {
         if at > bytes.len() || bytes.len() - at < MOST_SHORT {
             return None;

@@ -1,9 +1,5 @@
 -- Lines that were read, and what the steps in their cycles show, so far.
-use Rattle.std.proofs.Common.{rules, ◌≡◌, ◌⊎◌, inl, inr, ℕ, ◌+◌, ◌-◌, ◌*◌, ◌<◌, ◌≤◌, List, [], ◌∷◌, ◌++◌, length, take, drop, append_assoc, refl, sym, ◌∙◌, ap, subst, arith, length-append}
-use Rattle.std.specs.Prelude.{◌^◌, Option, Some, None, IfSome, option_map}
-use Rattle.std.proofs.lemmas.Bool.{cases_lt}
-use Rattle.std.proofs.lemmas.List.{length-replicate, take_all, take-append-le}
-use Rattle.std.proofs.Math.Seq.{take-append-add}
+use Rattle.sap_lemmas.proofs.Common.{rules, ◌≡◌, ◌⊎◌, inl, inr, ℕ, ◌+◌, ◌-◌, ◌*◌, ◌<◌, ◌≤◌, List, [], ◌∷◌, ◌++◌, length, take, drop, append_assoc, refl, sym, ◌∙◌, ap, subst, arith, length-append, ◌^◌, Option, Some, None, IfSome, option_map, cases_lt, length-replicate, take_all, take-append-le, take-append-add}
 use Rattle.sap_stream.proofs.SpansLemmas.{cycles_more}
 use Rattle.sap_desk.specs.Desk.{Told, added, moved, rest_of}
 use Rattle.sap_desk.specs.Whole.{Between}

@@ -1,7 +1,6 @@
 -- The last answer of a reader, or a failed call: what comes of all lines.
-use Rattle.std.proofs.Common.{◌≡◌, ℕ, ◌+◌, ◌-◌, ◌<◌, ◌≤◌, List, [], ◌∷◌, ◌++◌, length, replicate, take, drop, append_assoc, refl, sym, ◌∙◌, ap, subst, inl, inr, ◌⊎◌, arith, length-drop}
-use Rattle.std.specs.Prelude.{◌^◌, Bool, true, false, cond, eqb, codes, Option, Some, None, IfSome, IsSomeAnd, option_map}
-use Rattle.std.proofs.lemmas.List.{append-nil, take-append-drop}
+use Rattle.sap_lemmas.proofs.Common.{◌≡◌, ℕ, ◌+◌, ◌-◌, ◌<◌, ◌≤◌, List, [], ◌∷◌, ◌++◌, length, replicate, take, drop, append_assoc, refl, sym, ◌∙◌, ap, subst, inl, inr, ◌⊎◌, arith, length-drop, ◌^◌, Bool, true, false, cond, eqb, codes, Option, Some, None, IfSome, option_map, append-nil, take-append-drop}
+use Rattle.std.specs.Prelude.{IsSomeAnd}
 use Rattle.sap_stream.proofs.SpansLemmas.{cycles_more}
 use Rattle.sap_desk.proofs.DeskLemmas.{name_moved}
 use Rattle.sap_desk.specs.Desk.{Told, IsReading, IsWriting, added, blame_at, blamed, moved, moved_use, name_if_reading, rest_of}

@@ -1,6 +1,5 @@
 -- From what holds of the contents before a call to what holds after it.
-use Rattle.std.proofs.Common.{◌≡◌, sym, ◌∙◌, ap, subst}
-use Rattle.std.specs.Prelude.{Option, Some, None, IfSome, option_map}
+use Rattle.sap_lemmas.proofs.Common.{◌≡◌, sym, ◌∙◌, ap, subst, Option, Some, None, IfSome, option_map}
 use Rattle.sap_desk.specs.Desk.{Told}
 use Rattle.sap_desk.specs.Whole.{Between}
 
@@ -43,15 +42,6 @@ module _ (S R : Told → Told → Type 0) (f : Told → Told) where
   through_known T K (Some t) (Some m) one is step s told known =
       let here : T m (f m) = subst (λ (o : Option Told). Between (Some m) o T) is told in
       subst (λ (o : Option Told). Between (Some t) o R) (sym is) (step t m s here known)
-
--- with what the first of two calls tells
-pub through_two : (S T R : Told → Told → Type 0) (f h : Told → Told) (before mid one two : Option Told) → one ≡ option_map f mid → two ≡ option_map h one
-    → ((t m : Told) → S t m → T m (f m) → R t (h (f m))) → Between before mid S → Between mid one T → Between before two R
-through_two S T R f h None mid one two is also step s told = tt
-through_two S T R f h (Some t) None one two is also step s told = absurd s
-through_two S T R f h (Some t) (Some m) one two is also step s told =
-    let here : T m (f m) = subst (λ (o : Option Told). Between (Some m) o T) is told in
-    subst (λ (o : Option Told). Between (Some t) o R) (sym (also ∙ ap (option_map h) is)) (step t m s here)
 
 -- with what is known before the first of two calls
 pub knowing_two : (S R : Told → Told → Type 0) (K : Told → Type 0) (f h : Told → Told) (before mid one two : Option Told) → one ≡ option_map f mid → two ≡ option_map h one

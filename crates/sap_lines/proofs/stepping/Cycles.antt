@@ -1,8 +1,6 @@
 -- The cycles of a line, one after another.
-use Rattle.std.proofs.Common.{◌≡◌, ℕ, ◌+◌, ◌-◌, ◌<◌, ◌≤◌, List, [], ◌∷◌, ◌++◌, length, replicate, take, append_assoc, refl, sym, ◌∙◌, ap, subst, inl, inr, arith, length-append}
-use Rattle.std.specs.Prelude.{Option}
-use Rattle.std.proofs.lemmas.Bool.{cases_lt}
-use Rattle.std.proofs.lemmas.List.{append-nil, length-replicate, replicate-append-replicate, replicate_more, take_all, take-append-le}
+use Rattle.sap_lemmas.proofs.Common.{◌≡◌, ℕ, ◌+◌, ◌-◌, ◌<◌, ◌≤◌, List, [], ◌∷◌, ◌++◌, length, replicate, take, append_assoc, refl, sym, ◌∙◌, ap, subst, inl, inr, arith, length-append, Option, cases_lt, append-nil, length-replicate, take_all, take-append-le}
+use Rattle.std.proofs.lemmas.List.{replicate-append-replicate, replicate_more}
 use Rattle.sap_desk.specs.Desk.{Told, added}
 use Rattle.sap_desk.specs.Whole.{CutOutput}
 use Rattle.sap_desk.proofs.Steps.{option_map-id}

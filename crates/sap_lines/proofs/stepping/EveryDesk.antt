@@ -1,6 +1,5 @@
 -- What the answers of a reader tell on every desk.
-use Rattle.std.proofs.Common.{◌≡◌, ◌<◌, List, [], ◌∷◌, ◌++◌, sym, ap, subst}
-use Rattle.std.specs.Prelude.{◌^◌, Some, None}
+use Rattle.sap_lemmas.proofs.Common.{◌≡◌, ◌<◌, List, [], ◌∷◌, ◌++◌, sym, ap, subst, ◌^◌, Some, None}
 use Rattle.sap_lattice.specs.Levels.{Levels}
 use Rattle.sap_stream.specs.Spans.{Span}
 use Rattle.sap_stim.specs.declared.fault.StimFault.{StimFault}

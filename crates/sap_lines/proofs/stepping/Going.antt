@@ -1,8 +1,5 @@
 -- What reading a channel and writing on channel 1 make of a desk, one after another.
-use Rattle.std.proofs.Common.{◌≡◌, ℕ, ◌+◌, ◌<◌, true, List, [], ◌∷◌, ◌++◌, length, append_assoc, refl, sym, ◌∙◌, ap, arith}
-use Rattle.std.specs.Prelude.{eqb, Option, unwrap_or, cond, Bool, drop}
-use Rattle.std.proofs.lemmas.Bool.Decides.{nat_tests}
-use Rattle.std.proofs.lemmas.List.{append-nil}
+use Rattle.sap_lemmas.proofs.Common.{◌≡◌, ℕ, ◌+◌, ◌<◌, true, List, [], ◌∷◌, ◌++◌, length, append_assoc, refl, sym, ◌∙◌, ap, arith, eqb, Option, unwrap_or, cond, Bool, drop, nat_tests, append-nil}
 use Rattle.sap_desk.specs.Desk.{Told, Use, reads, writes, closed, stream, IsReading, added, at_number, blamed, moved, moved_use, rest_of, rest_of_use}
 use Rattle.sap_desk.proofs.Steps.{at_number-keeps, at_number-same, moved-none, moved-twice, other_number}
 use Rattle.sap_lines.specs.Stepping.Followed.{Going}
@@ -65,9 +62,6 @@ rest_same m n (reads name p) is = ap (λ (files : List ℕ → Option (List ℕ)
 rest_same m n (writes name) is = refl
 rest_same m n closed is = refl
 rest_same m n stream is = refl
-
-pub rest_added : (channel : ℕ) (piece : List ℕ) (m : Told) → rest_of (added 1 piece m) channel ≡ rest_of m channel
-rest_added channel piece m = rest_same (added 1 piece m) m (m.uses channel) refl
 
 -- what is left to read
 pub rest_now : (channel count : ℕ) (gained : List ℕ) (t m : Told) → Going channel count gained t m → rest_of m channel ≡ rest_of (moved channel count t) channel

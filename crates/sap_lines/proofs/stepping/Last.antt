@@ -1,7 +1,5 @@
 -- The last of the text is written, when all lines were given.
-use Rattle.std.proofs.Common.{◌≡◌, ℕ, ◌<◌, List, [], ◌++◌, take, drop, append_assoc, refl, sym, ◌∙◌, ap, subst}
-use Rattle.std.specs.Prelude.{codes, Option, Some, IfSome, option_map}
-use Rattle.std.proofs.lemmas.List.{append-nil, take-append-drop}
+use Rattle.sap_lemmas.proofs.Common.{◌≡◌, ℕ, ◌<◌, List, [], ◌++◌, take, drop, append_assoc, refl, sym, ◌∙◌, ap, subst, codes, Option, Some, IfSome, option_map, append-nil, take-append-drop}
 use Rattle.sap_desk.specs.Desk.{Told, IsWriting, added, blamed, rest_of}
 use Rattle.sap_desk.specs.Cause.{FillsRoom}
 use Rattle.sap_desk.specs.Whole.{Between, CutOutput}

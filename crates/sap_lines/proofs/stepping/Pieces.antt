@@ -1,8 +1,5 @@
 -- Bytes that wait, others that come behind them, and what is written of both.
-use Rattle.std.proofs.Common.{◌≡◌, ℕ, ◌+◌, List, [], ◌++◌, length, take, append_assoc, sym, ◌∙◌, ap, subst, arith, length-append}
-use Rattle.std.specs.Prelude.{codes, Option, option_map}
-use Rattle.std.proofs.Math.Seq.{take-append-add}
-use Rattle.std.proofs.lemmas.List.{append-nil}
+use Rattle.sap_lemmas.proofs.Common.{◌≡◌, ℕ, ◌+◌, List, [], ◌++◌, length, take, append_assoc, sym, ◌∙◌, ap, subst, arith, length-append, codes, Option, option_map, take-append-add, append-nil}
 use Rattle.sap_desk.specs.Desk.{Told, added, blamed}
 use Rattle.sap_desk.specs.Whole.{CutOutput}
 use Rattle.sap_desk.proofs.Steps.{added-twice, option_map-same, option_map-twice}

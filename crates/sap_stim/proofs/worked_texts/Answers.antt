@@ -1,7 +1,6 @@
-use Rattle.std.proofs.Common.{refl}
+use Rattle.sap_lemmas.proofs.Common.{refl}
 use Rattle.std.specs.Fmt.{digits}
-use Rattle.sap_lattice.specs.Levels.{order_of, order_by}
-use Rattle.sap_lattice.specs.Codes.{code_of, meet_irreducibles}
+use Rattle.sap_lattice.specs.Prelude.{order_of, order_by, code_of, meet_irreducibles}
 use Rattle.sap_stim.proofs.worked_texts.Goals as goal
 
 pub returns-clause-plain_field : goal.returns-clause-plain_field

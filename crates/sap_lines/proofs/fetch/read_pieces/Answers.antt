@@ -1,5 +1,4 @@
-use Rattle.std.proofs.Common.{rules, tests, ◌≡◌, true, ◌++◌, ◌<◌, ◌≤◌, [], length, take, refl, sym, inl, arith, length-take}
-use Rattle.std.proofs.lemmas.List.{append-nil}
+use Rattle.sap_lemmas.proofs.Common.{rules, tests, ◌≡◌, true, ◌++◌, ◌<◌, ◌≤◌, [], length, take, refl, sym, inl, arith, length-take, append-nil}
 use Rattle.sap_desk.proofs.Steps.{on_err}
 use Rattle.sap_lines.specs.Fetched.{IsDecided}
 use Rattle.sap_lines.proofs.Reading.{no_more, behind_more, piece_more, same_more, failed_more, end_read, fails_now, least_more}

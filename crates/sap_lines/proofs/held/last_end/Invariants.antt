@@ -1,5 +1,4 @@
-use Rattle.std.proofs.Common.{◌≤◌, ◌<◌, ℕ, length, get_or}
-use Rattle.std.specs.Prelude.{◌≢◌}
+use Rattle.sap_lemmas.proofs.Common.{◌≤◌, ◌<◌, ℕ, length, get_or, ◌≢◌}
 use Rattle.sap_lines.proofs.held.last_end.Given as goal
 
 abbrev pub invariant-loop-at : goal.invariant-loop-at

@@ -1,5 +1,4 @@
-use Rattle.std.proofs.Common.{◌≡◌, ◌+◌, ◌*◌, ◌<◌, ℕ, true, length, sym, ap, ◌∙◌, slice_index_or, arith}
-use Rattle.std.specs.Char.{is_ascii_digit}
+use Rattle.sap_lemmas.proofs.Common.{◌≡◌, ◌+◌, ◌*◌, ◌<◌, ℕ, true, length, sym, ap, ◌∙◌, slice_index_or, arith, is_ascii_digit}
 use Rattle.sap_stim.proofs.SmallValues.{digit_more, digits_more, few_small}
 use Rattle.sap_stim.proofs.ahead.few_digits.Goals as goal
 

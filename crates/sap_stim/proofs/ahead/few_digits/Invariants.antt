@@ -1,7 +1,4 @@
-use Rattle.std.proofs.Common.{◌≡◌, ◌-◌, ◌≤◌, length, take, true}
-use Rattle.std.specs.Char.{is_ascii_digit}
-use Rattle.std.specs.List.{list_all}
-use Rattle.std.specs.Str.Parse.{digits_value}
+use Rattle.sap_lemmas.proofs.Common.{◌≡◌, ◌-◌, ◌≤◌, length, take, true, is_ascii_digit, list_all, digits_value}
 use Rattle.sap_stim.proofs.ahead.few_digits.Given as goal
 
 -- with the digits so far

@@ -1,5 +1,4 @@
-use Rattle.std.proofs.Common.{◌≤◌, ◌-◌, length}
-use Rattle.std.specs.List.{position_or_len}
+use Rattle.sap_lemmas.proofs.Common.{◌≤◌, ◌-◌, length, position_or_len}
 use Rattle.sap_stim.proofs.Marks.{line}
 use Rattle.sap_stim.proofs.Pieces.{is_mark}
 use Rattle.sap_stim.proofs.ahead.field_len.Given as goal

@@ -1,5 +1,4 @@
-use Rattle.std.proofs.Common.{◌∙◌}
-use Rattle.std.proofs.lemmas.List.{length-take-le}
+use Rattle.sap_lemmas.proofs.Common.{◌∙◌, length-take-le}
 use Rattle.sap_stim.proofs.Marks.{field_taken}
 use Rattle.sap_stim.proofs.ahead.first_field.Goals as goal
 

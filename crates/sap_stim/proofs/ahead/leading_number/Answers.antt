@@ -1,5 +1,4 @@
-use Rattle.std.proofs.Common.{◌≡◌, ◌+◌, ◌*◌, ℕ, true, sym, ap, ◌∙◌, slice_index_or}
-use Rattle.std.specs.Char.{is_ascii_digit}
+use Rattle.sap_lemmas.proofs.Common.{◌≡◌, ◌+◌, ◌*◌, ℕ, true, sym, ap, ◌∙◌, slice_index_or, is_ascii_digit}
 use Rattle.sap_stim.proofs.SmallValues.{digit_more}
 use Rattle.sap_stim.proofs.ahead.leading_number.Goals as goal
 

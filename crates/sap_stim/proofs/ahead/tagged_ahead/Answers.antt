@@ -1,7 +1,4 @@
-use Rattle.std.proofs.Common.{◌≡◌, ◌+◌, ◌-◌, ◌^◌, ℕ, List, Some, length, take, drop, sym, ap, ◌∙◌, arith}
-use Rattle.std.specs.Prelude.{nat_lt}
-use Rattle.std.specs.List.{before_first, position_or_len}
-use Rattle.std.proofs.lemmas.List.{length-drop, take_all}
+use Rattle.sap_lemmas.proofs.Common.{◌≡◌, ◌+◌, ◌-◌, ◌^◌, ℕ, List, Some, length, take, drop, sym, ap, ◌∙◌, arith, nat_lt, before_first, position_or_len, length-drop, take_all}
 use Rattle.sap_lattice.specs.Levels.{level_named}
 use Rattle.sap_stim.proofs.Marks.{field_within, line}
 use Rattle.sap_stim.proofs.Pieces.{is_mark, mark_within}

@@ -1,7 +1,4 @@
-use Rattle.std.proofs.Common.{◌≡◌, ◌+◌, ◌-◌, ◌<◌, ℕ, List, Ok, true, take, drop, length, refl, sym, ap, ◌∙◌, slice_set, arith}
-use Rattle.std.specs.List.{after_first, before_first, position_or_len}
-use Rattle.std.proofs.Math.ListN.{length-set}
-use Rattle.std.proofs.lemmas.List.{length-drop, take_all, take_more_set}
+use Rattle.sap_lemmas.proofs.Common.{◌≡◌, ◌+◌, ◌-◌, ◌<◌, ℕ, List, Ok, true, take, drop, length, refl, sym, ap, ◌∙◌, slice_set, arith, after_first, before_first, position_or_len, length-set, length-drop, take_all, take_more_set}
 use Rattle.sap_stim.specs.Line.{fields_of, is_starred}
 use Rattle.sap_stim.proofs.EachField.{read_more, enough_more, read_begins, nothing_read, read_ends}
 use Rattle.sap_stim.proofs.FromLeft.{EndsAhead, field_given, last_ahead, none_left, left_behind, fields_with, fields_before, piece_same, starred_some}

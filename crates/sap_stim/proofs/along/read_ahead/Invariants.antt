@@ -1,5 +1,4 @@
-use Rattle.std.proofs.Common.{◌≤◌, drop, take}
-use Rattle.std.specs.List.{position_or_len}
+use Rattle.sap_lemmas.proofs.Common.{◌≤◌, drop, take, position_or_len}
 use Rattle.sap_stim.proofs.FromLeft.{IsLeft, IsRead}
 use Rattle.sap_stim.proofs.Marks.{line}
 use Rattle.sap_stim.proofs.Pieces.{is_mark}

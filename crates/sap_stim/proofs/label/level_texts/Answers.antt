@@ -9,6 +9,6 @@ loop-tag-preserved c =
     record {
       count = omega (arith, c.in_ok-push.ensures.len, c.loop-tag.invariant.count);
       texts = subst (AreLevelTexts ls) (sym c.in_ok-push.ensures.items)
-          (texts_grow (at_level ls) c.loop-tag.texts.items _ c.loop-tag.invariant.texts (c.in-Some.ensures ∙ c.as_slice.ensures
+          (texts_grow (at_level ls) c.loop-tag.texts.items _ c.loop-tag.invariant.texts (c.in-Some.ensures.text ∙ c.as_slice.ensures
           ∙ c.in_ok-text.ensures ∙ ap (at_level ls) (sym c.loop-tag.invariant.count)));
     }

@@ -1,5 +1,4 @@
-use Rattle.std.proofs.Common.{sym, ap, ◌∙◌, Ok, refl, arith}
-use Rattle.std.proofs.lemmas.List.{take_all, take_more_set}
+use Rattle.sap_lemmas.proofs.Common.{sym, ap, ◌∙◌, Ok, refl, arith, take_all, take_more_set}
 use Rattle.sap_stim.proofs.EachField.{read_more, read_stops, enough_more, read_begins, nothing_read, read_ends}
 use Rattle.sap_stim.proofs.line.read_fields.Goals as goal
 

@@ -1,5 +1,4 @@
-use Rattle.std.proofs.Common.{◌≡◌, ◌+◌, drop, length, ap, refl, arith}
-use Rattle.std.specs.Prelude.{Option, Some, None, IfNone}
+use Rattle.sap_lemmas.proofs.Common.{◌≡◌, ◌+◌, drop, length, ap, refl, arith, Option, Some, None, IfNone}
 use Rattle.sap_stim.proofs.RowRoom.{holds_rows, taken, taken_more, taken_none}
 use Rattle.sap_stim.proofs.RowLeast.{longest, no_less}
 use Rattle.sap_stim.proofs.room.row_room.Goals as goal

@@ -1,5 +1,4 @@
-use Rattle.std.proofs.Common.{◌≡◌, ◌<◌, ◌+◌, length, ap, subst, arith}
-use Rattle.std.specs.Prelude.{OnErr, vec_capacity}
+use Rattle.sap_lemmas.proofs.Common.{◌≡◌, ◌<◌, ◌+◌, length, ap, subst, arith, OnErr, vec_capacity}
 use Rattle.sap_stim.specs.Rows.{row_text, shown_of}
 use Rattle.sap_stim.proofs.RowTexts.{row_fits, ok_with_room}
 use Rattle.sap_stim.proofs.rows.labelled_row_into.Goals as goal

@@ -1,6 +1,5 @@
 use Rattle.sap_stim.proofs.Coded.{level_found, found_within}
-use Rattle.sap_lattice.specs.Levels.{order_of, order_by}
-use Rattle.sap_lattice.specs.Codes.{code_of}
+use Rattle.sap_lattice.specs.Prelude.{order_of, order_by, code_of}
 use Rattle.std.proofs.Common.{◌≡◌, length}
 use Rattle.sap_stim.proofs.rows.level_of_tag.Goals as goal
 

@@ -1,5 +1,4 @@
-use Rattle.std.proofs.Common.{◌<◌, ◌+◌, ◌++◌, length, length-append, arith}
-use Rattle.std.specs.Prelude.{vec_capacity}
+use Rattle.sap_lemmas.proofs.Common.{◌<◌, ◌+◌, ◌++◌, length, length-append, arith, vec_capacity}
 use Rattle.sap_desk.proofs.Steps.{on_err}
 use Rattle.sap_stim.specs.Rows.{all_shown, shown_of}
 use Rattle.sap_stim.proofs.RowTexts.{row_full, shown_from}

@@ -1,5 +1,4 @@
-use Rattle.std.proofs.Common.{◌≡◌, ◌+◌, length, ap, arith}
-use Rattle.std.specs.Prelude.{vec_capacity}
+use Rattle.sap_lemmas.proofs.Common.{◌≡◌, ◌+◌, length, ap, arith, vec_capacity}
 use Rattle.sap_stim.specs.Rows.{row_text, shown_of}
 use Rattle.sap_stim.proofs.RowTexts.{row_fits, ok_with_room}
 use Rattle.sap_stim.proofs.rows.row_into.Goals as goal

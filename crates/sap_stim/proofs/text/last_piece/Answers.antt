@@ -1,5 +1,4 @@
-use Rattle.std.proofs.Common.{◌≡◌, ◌-◌, length, drop, take, arith}
-use Rattle.std.proofs.lemmas.List.{take_all, length-drop}
+use Rattle.sap_lemmas.proofs.Common.{◌≡◌, ◌-◌, length, drop, take, arith, take_all, length-drop}
 use Rattle.sap_stim.proofs.LastPiece.{ends_behind, ends_whole, marks_before}
 use Rattle.sap_stim.proofs.text.last_piece.Goals as goal
 use Rattle.sap_stim.proofs.text.last_piece.Goals.{then-loop-start-test+else-line-start-ne32, else-loop-start-test}

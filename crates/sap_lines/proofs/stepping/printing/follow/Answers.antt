@@ -1,5 +1,4 @@
-use Rattle.std.proofs.Common.{◌≡◌, ℕ, List, subst}
-use Rattle.std.specs.Prelude.{option_map}
+use Rattle.sap_lemmas.proofs.Common.{◌≡◌, ℕ, List, subst, option_map}
 use Rattle.sap_desk.specs.Whole.{CutOutput}
 use Rattle.sap_desk.specs.Desk.{added}
 use Rattle.sap_lines.proofs.stepping.Last.{whole_cut, whole_written}

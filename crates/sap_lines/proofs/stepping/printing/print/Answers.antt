@@ -1,5 +1,4 @@
-use Rattle.std.proofs.Common.{[], ◌∙◌, ap, inr, arith}
-use Rattle.std.specs.Prelude.{Err}
+use Rattle.sap_lemmas.proofs.Common.{[], ◌∙◌, ap, inr, arith, Err}
 use Rattle.sap_desk.specs.Cause.{counted}
 use Rattle.sap_desk.specs.Desk.{blame_at, finished, name_if_open}
 use Rattle.sap_desk.proofs.Steps.{number-at}

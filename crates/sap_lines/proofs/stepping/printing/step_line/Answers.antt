@@ -1,6 +1,4 @@
-use Rattle.std.proofs.Common.{rules, ◌≡◌, ◌<◌, refl, sym, ◌∙◌, subst, arith}
-use Rattle.std.proofs.lemmas.List.{append-nil}
-use Rattle.std.proofs.lemmas.Result.{on_err_weaker, on_ok_weaker}
+use Rattle.sap_lemmas.proofs.Common.{rules, ◌≡◌, ◌<◌, refl, sym, ◌∙◌, subst, arith, append-nil, on_err_weaker, on_ok_weaker}
 use Rattle.sap_desk.proofs.Steps.{on_err}
 use Rattle.sap_stream.specs.Spans.{cycles_in}
 use Rattle.sap_lines.proofs.stepping.Cycles.{all_shown, behind_more, cut_last, cut_more, none_shown, shown_more, shown_then}

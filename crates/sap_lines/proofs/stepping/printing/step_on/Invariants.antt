@@ -1,5 +1,4 @@
-use Rattle.std.proofs.Common.{◌≡◌, ◌<◌, ◌≤◌, ℕ, ◌-◌, List, length, true}
-use Rattle.std.specs.Prelude.{◌^◌}
+use Rattle.sap_lemmas.proofs.Common.{◌≡◌, ◌<◌, ◌≤◌, ℕ, ◌-◌, List, length, true, ◌^◌}
 use Rattle.sap_meaning.specs.Cycle.{Tagged as Given}
 use Rattle.sap_lines.specs.Reader.{Backed}
 use Rattle.sap_lines.specs.declared.stepping.TheConstants.{LARGE_BYTES}

@@ -1,5 +1,4 @@
-use Rattle.std.proofs.Common.{rules, ◌≡◌, [], ◌++◌, ℕ, List, sym, subst}
-use Rattle.std.proofs.lemmas.Result.{on_err_weaker, on_ok_weaker}
+use Rattle.sap_lemmas.proofs.Common.{rules, ◌≡◌, [], ◌++◌, ℕ, List, sym, subst, on_err_weaker, on_ok_weaker}
 use Rattle.sap_lines.specs.Stepping.Waiting.{PieceWritten}
 use Rattle.sap_lines.proofs.stepping.Pieces.{cut_then, text_cut, text_written, written_behind, written_then}
 use Rattle.sap_lines.proofs.stepping.waiting.show.Goals as goal
