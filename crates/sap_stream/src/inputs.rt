@@ -65,14 +65,6 @@ impl Inputs {
         Inputs { values }
     }
 
-    /// Gives the values back.
-    pub fn into_values(self) -> Vec<Tagged>
-        ensures { result.items ≡ self }
-    {
-        let Inputs { values } = self;
-        values
-    }
-
     pub fn values(&self) -> &[Tagged]
         ensures { result.now ≡ self.now }
     {

@@ -46,14 +46,6 @@ impl Span {
     {
         self.count
     }
-
-    /// Gives the inputs back.
-    pub fn into_inputs(self) -> Inputs
-        ensures { result ≡ self.inputs }
-    {
-        let Span { inputs, count: _ } = self;
-        inputs
-    }
 }
 
 /// The inputs of each cycle, from the first on; there are fewer than 2^48. Cycles with the same inputs take the memory of
