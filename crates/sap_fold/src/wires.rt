@@ -92,7 +92,7 @@ impl Wires {
     }
 
     /// The wire of a name, if it is one of these.
-    pub fn wire(&self, name: &Name) -> Option<&Wire>
+    pub(crate) fn wire(&self, name: &Name) -> Option<&Wire>
         ensures { IfSome result (λ w. HasWire self.now.list.items name.now w.now) }
     {
         let place = self.place(name);
