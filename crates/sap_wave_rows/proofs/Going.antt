@@ -1,13 +1,11 @@
 -- Rows, a block at a time.
-use Rattle.sap_lemmas.proofs.Common.{◌≡◌, ℕ, zero, suc, ◌+◌, ◌<◌, ◌≤◌, List, [], ◌∷◌, ◌++◌, length, get_or, take, drop, map, refl, sym, ap, ◌∙◌, arith, at_drop_all, at_drop_more}
+use Rattle.sap_lemmas.proofs.Common.{◌≡◌, ℕ, ◌+◌, ◌<◌, ◌≤◌, List, [], ◌++◌, length, get_or, map, sym, ap, ◌∙◌, arith, at_drop_all, at_drop_more}
 use Rattle.sap_lattice.specs.Levels.{Levels}
 use Rattle.sap_maps.specs.Maps.{Name}
 use Rattle.sap_net.specs.PortNames.{value_name, tag_name}
 use Rattle.sap_stim.specs.Rows.{HoldsRows, row_text, shown_of}
 use Rattle.sap_sim.specs.Prelude.{row_of, rows_from, place}
-use Rattle.sap_sim.proofs.Lists.{taken}
 use Rattle.sap_sim.proofs.Seen.{map_twice, row_is}
-use Rattle.sap_sim.proofs.Told.{mapped_push}
 use Rattle.sap_wave.specs.declared.variable.Variable.{Variable}
 use Rattle.sap_wave.specs.Waves.{Wave, names_of}
 use Rattle.sap_wave_rows.specs.Places.{value_places, tag_places, numbers_at}
@@ -21,32 +19,6 @@ row_at ls cycle vs numbers xs names value_at tag_at values tags same e f g h =
     row_is ls cycle (by_name vs numbers) xs names values tags same
     (e ∙ ap (numbers_at numbers) g ∙ map_twice (λ k. get_or numbers k 0) (λ x. place (names_of vs) (value_name x)) xs)
     (f ∙ ap (numbers_at numbers) h ∙ map_twice (λ k. get_or numbers k 0) (λ x. place (names_of vs) (tag_name x)) xs)
-
--- the blocks behind block 0, one more of them
-behind_more : {X : Type 0} (bs : List X) (k : ℕ) (b : X) → 1 ≤ k → k < length bs → b ≡ get_or bs k b → drop 1 (take (k + 1) bs) ≡ drop 1 (take k bs) ++ b ∷ []
-behind_more {X} [] k b l h e = absurd (omega arith)
-behind_more {X} (c ∷ bs) zero b l h e = absurd (omega arith)
-behind_more {X} (c ∷ bs) (suc k) b l h e =
-    let one : suc k + 1 ≡ suc (k + 1) = omega arith in
-    ap (λ (j : ℕ). drop 1 (take j (c ∷ bs))) one ∙ taken bs k b (omega arith) e
-
-behind_count : {X : Type 0} (bs : List X) (k : ℕ) → 1 ≤ k → k < length bs → 1 + length (drop 1 (take k bs)) ≡ k
-behind_count {X} [] k l h = absurd (omega arith)
-behind_count {X} (c ∷ bs) zero l h = absurd (omega arith)
-behind_count {X} (c ∷ bs) (suc k) l h = let same : length (take k bs) ≡ k = taken_count bs k (omega arith) in omega (arith, same) where
-  taken_count : (cs : List X) (j : ℕ) → j ≤ length cs → length (take j cs) ≡ j
-  taken_count cs zero g = refl
-  taken_count [] (suc j) g = absurd (omega arith)
-  taken_count (d ∷ cs) (suc j) g = ap suc (taken_count cs j (omega arith))
-
--- and their rows
-pub rows_more : (ls : Levels) (vs : List Variable) (xs : List Name) (blocks : List (List ℕ)) (k : ℕ) (numbers : List ℕ) → 1 ≤ k
-    → k < length blocks → numbers ≡ get_or blocks k numbers
-    → rows_from ls xs 1 (map (by_name vs) (drop 1 (take (k + 1) blocks))) ≡ rows_from ls xs 1 (map (by_name vs) (drop 1 (take k blocks))) ++ row_of ls xs k (by_name vs numbers)
-rows_more ls vs xs blocks k numbers l h e =
-    ap (λ (bs : List (List ℕ)). rows_from ls xs 1 (map (by_name vs) bs)) (behind_more blocks k numbers l h e)
-    ∙ mapped_push (row_of ls xs) (by_name vs) 1 (drop 1 (take k blocks)) numbers
-    ∙ ap (λ (j : ℕ). rows_from ls xs 1 (map (by_name vs) (drop 1 (take k blocks))) ++ row_of ls xs j (by_name vs numbers)) (behind_count blocks k l h)
 
 -- the rows from a block on begin with its row
 pub first_row : (ls : Levels) (w : Wave) (xs : List Name) (k : ℕ) (numbers : List ℕ) → xs ≡ shown_variables ls w.variables → k < length w.blocks

@@ -1,22 +1,22 @@
--- What is still to come of the rows of a wave.
-use Rattle.std.specs.Prelude.{◌≡◌, ℕ, ◌-◌, List, length}
-use Rattle.sap_wave_rows.specs.declared.block_rows.BlockRows.{BlockRows}
+-- The rows of a wave that are given one after another.
+use Rattle.std.specs.Prelude.{◌≡◌, ℕ, List}
+use Rattle.sap_lattice.specs.Levels.{Levels}
+use Rattle.sap_wave.specs.declared.variable.Variable.{Variable}
 use Rattle.sap_wave_rows.specs.Held.{IsHeld}
 use Rattle.sap_wave_rows.specs.Places.{tag_places, value_places}
-use Rattle.sap_wave_rows.specs.Rows.{rows_of_blocks, shown_variables}
+use Rattle.sap_wave_rows.specs.Rows.{shown_variables}
+use Rattle.sap_wave_rows.specs.declared.rows.Held.{Held}
+use Rattle.sap_wave_rows.specs.declared.shown.Shown.{Shown}
 
--- the row that was made last
-abbrev pub made_row : BlockRows → List ℕ
-made_row r = r.held.row.bytes
+-- the row that was made last, the text of those still to come, and how many these are
+pub record RowsToCome : Type 0 where
+  pub made : List ℕ
+  pub text : List ℕ
+  pub count : ℕ
 
--- how many rows are still to come
-abbrev pub rows_left : BlockRows → ℕ
-rows_left r = length r.wave.now.blocks - r.next
-
--- The text is the rows from the next block on, of what the wave shows.
-pub record IsToCome (r : BlockRows) (text : List ℕ) : Type 0 where
-  pub names : r.shown.names.items ≡ shown_variables r.lattice.now r.wave.now.variables
-  pub values : r.shown.values.items ≡ value_places r.wave.now.variables r.shown.names.items
-  pub tags : r.shown.tags.items ≡ tag_places r.wave.now.variables r.shown.names.items
-  pub held : IsHeld r.lattice.now r.shown.names.items r.held
-  pub is_text : text ≡ rows_of_blocks r.lattice.now r.wave.now r.next
+-- They show each x that a wave with these variables shows, at the places of its variables.
+pub record ShowsWave (ls : Levels) (vs : List Variable) (shown : Shown) (h : Held) : Type 0 where
+  pub names : shown.names.items ≡ shown_variables ls vs
+  pub values : shown.values.items ≡ value_places vs shown.names.items
+  pub tags : shown.tags.items ≡ tag_places vs shown.names.items
+  pub held : IsHeld ls shown.names.items h

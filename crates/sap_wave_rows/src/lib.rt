@@ -4,14 +4,13 @@
 #![tactic(auto)]
 
 mod block_rows;
-pub mod rows;
+mod rows;
 mod shown;
 
 ghost use Rattle.sap_wave_rows.specs.Examples as examples;
 ghost use Rattle.sap_wave_rows.specs.Laws.{RowsOfDumps, RowsOfRuns, RowsOfStimuli};
 
 pub use block_rows::BlockRows;
-pub use rows::wave_rows;
 use sap_wave::{one_wave_or_fault, runs_read_back};
 
 /// The rows of the dump of a netlist's run are the rows of the run, and so those of the stimulus that it is on.

@@ -1,21 +1,20 @@
-//! The rows of a wave.
+//! The row of a block.
 
-ghost use Rattle.std.specs.Prelude.{◌≡◌, ◌≤◌, ◌++◌, List, IfOk, OnOk, length};
+ghost use Rattle.std.specs.Prelude.{◌≡◌, ◌≤◌, List, IfOk, length};
 ghost use Rattle.sap_sim.specs.Shown.{row_of};
 ghost use Rattle.sap_stim.specs.Rows.{AreLevelTexts, HoldsRows, row_text, shown_of};
 ghost use Rattle.sap_wave.specs.declared.variable.Variable.{Variable as OfWave};
 ghost use Rattle.sap_wave_rows.specs.Places.{numbers_at, tag_places, value_places};
 ghost use Rattle.sap_wave_rows.specs.Held.{IsHeld};
-ghost use Rattle.sap_wave_rows.specs.Rows.{by_name, rows_of_wave};
+ghost use Rattle.sap_wave_rows.specs.Rows.{by_name};
 
-use crate::shown::{Shown, shown_of};
-use sap_desk::{Bytes, RowBuf};
+use crate::shown::Shown;
+use sap_desk::RowBuf;
 use sap_lattice::Lattice;
 use sap_net::parts::Name;
 use sap_stim::{
     RowHead, RowLabel, Short, labelled_row_into, labels_of, level_texts, row_array, row_room,
 };
-use sap_wave::Wave;
 use std::alloc::{AllocError, Global};
 
 /// What each row is made with: its front, the labels of its registers and the texts of levels, the numbers that it shows, an
@@ -120,45 +119,4 @@ pub(crate) fn make_row(
         &held.levels,
         lattice,
     );
-}
-
-/// Appends the row of a block.
-fn push_block(
-    out: &mut Vec<u8>,
-    held: &mut Held,
-    cycle: u64,
-    numbers: &[u64],
-    shown: &Shown,
-    lattice: &Lattice,
-) -> Result<(), AllocError>
-    requires held { IsHeld lattice.now shown.now.names.items held.old }
-    requires values { length shown.now.values.items ≡ length shown.now.names.items }
-    requires tags { length shown.now.tags.items ≡ length shown.now.names.items }
-    ensures row { OnOk result ((vs : List OfWave) → shown.now.values.items ≡ value_places vs shown.now.names.items → shown.now.tags.items ≡ tag_places vs shown.now.names.items
-        → out.new.items ≡ out.old.items ++ row_of lattice.now shown.now.names.items cycle (by_name vs numbers.now)) }
-    ensures held { OnOk result (IsHeld lattice.now shown.now.names.items held.new) }
-{
-    make_row(held, cycle, numbers, shown, lattice);
-    out.extend_from_slice(held.row.bytes())?;
-    Ok(())
-}
-
-/// The rows of a wave, over the levels of a lattice.
-pub fn wave_rows(alloc: Global, lattice: &Lattice, wave: &Wave) -> Result<Bytes, AllocError>
-    ensures { IfOk result (λ rows. rows ≡ rows_of_wave lattice.now wave.now) }
-{
-    let shown = shown_of(alloc, wave.variables(), lattice.width())?;
-    let mut held = held_for(alloc, lattice, &shown.names)?;
-    let mut rows = Vec::new(alloc);
-    for number in 1..wave.block_count() {
-        push_block(
-            &mut rows,
-            &mut held,
-            number as u64,
-            wave.block(number),
-            &shown,
-            lattice,
-        )?;
-    }
-    Ok(Bytes::new(rows))
 }
