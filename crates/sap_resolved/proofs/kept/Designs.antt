@@ -41,8 +41,7 @@ declaration_kept ls le (Memory place name width depth kind) h =
 
 name_of : (d : Decl) → (entity_of d).name.name ≡ declared_name d
 name_of (Input place name width) = refl
-name_of (Register place name width kind start) = refl
-name_of (Memory place name width depth kind) = refl
+name_of _ = refl
 
 module _ (ls : Levels) (le : ℕ → ℕ → Bool) (es : List Entity) (w : World) where
   declarations_kept : (x : ℕ) (ds : List Decl) → Part es x (declared_in ds) → Part w.entities x (all_declared ls ds)

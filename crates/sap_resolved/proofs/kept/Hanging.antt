@@ -2,7 +2,7 @@
 use Rattle.sap_lemmas.proofs.Common.{◌≡◌, ℕ, suc, ◌+◌, ◌<◌, Bool, true, false, ◌&&◌, ◌||◌, List, [], ◌∷◌, ◌++◌, length, map, nat_eq, refl, sym, ap, ◌∙◌, arith, bytes_eq, Option, Some, None, map-append, map-map, test_of_same, bytes_eq_same, equal_of_bytes_eq, eqb-true, false_from_ne_true, or_left, or_right}
 use Rattle.sap_resolved.proofs.FillLemmas.{table_front}
 use Rattle.sap_text.specs.declared.place.Place.{Place}
-use Rattle.sap_tree.specs.Prelude.{SimpleCommand, assign, write, set_tag, set_cell_tag, go_to, fall_to_child, Command, lone, try, if_else, try_then, case_of, Arms, last_arm, and_arm, CommandBlock, command_block, ElseBlock, no_else, with_else, CommandList, no_command, and_command, StateTree, state_node, StateList, no_state, and_state, is_dynamic_store, is_dynamic_child, fall_touches, simple_touches, root_touches}
+use Rattle.sap_tree.specs.Prelude.{SimpleCommand, assign, write, go_to, fall_to_child, Command, lone, try, if_else, try_then, case_of, Arms, last_arm, and_arm, CommandBlock, command_block, ElseBlock, no_else, with_else, CommandList, no_command, and_command, StateTree, state_node, StateList, no_state, and_state, is_dynamic_store, is_dynamic_child, fall_touches, simple_touches, root_touches}
 use Rattle.sap_tree.specs.declared.name.Mention.{Mention}
 use Rattle.sap_tree.specs.declared.syntax.Decl.{Decl}
 use Rattle.sap_tree.specs.declared.syntax.Kind.{Kind}
@@ -95,10 +95,7 @@ module _ (ls : Levels) (le : ℕ → ℕ → Bool) (ds : List Decl) (es : List E
         let p = none_three (name_faults indexed means target) (expression_faults means index (index_width (means target.name)))
         (expression_faults means e (cell_width (means target.name))) f in
         stored (entity_number es target.name) target.name (k.named indexed target.name target.place p.0) (or_right _ _ (kinds.memory target.name target.place p.0))
-    simple_same m (set_tag place target tag) f = both_none (is_dynamic_store ds n) (is_dynamic w x)
-    simple_same m (set_cell_tag place target index tag) f = both_none (is_dynamic_store ds n) (is_dynamic w x)
-    simple_same m (go_to place target) f = both_none (is_dynamic_store ds n) (is_dynamic w x)
-    simple_same m (fall_to_child place) f = both_none (is_dynamic_store ds n) (is_dynamic w x)
+    simple_same m _ f = both_none (is_dynamic_store ds n) (is_dynamic w x)
 
     block_same : (m : ℕ) (b : CommandBlock) → block_faults ls.names means b ≡ []
         → (is_dynamic_store ds n && tree.block_assigns b n) ≡ (is_dynamic w x && block_assigns (block_of ls h m b) x)
@@ -117,10 +114,9 @@ module _ (ls : Levels) (le : ℕ → ℕ → Bool) (ds : List Decl) (es : List E
       unfolding simple_touches
       simple_touched m (assign target e) f = simple_same m (assign target e) f
       simple_touched m (write target index e) f = simple_same m (write target index e) f
-      simple_touched m (set_tag place target tag) f = never (is_dynamic w x)
-      simple_touched m (set_cell_tag place target index tag) f = never (is_dynamic w x)
       simple_touched m (go_to place target) f = own
       simple_touched m (fall_to_child place) f = falls
+      simple_touched m _ f = never (is_dynamic w x)
 
       pub command_touched : (m : ℕ) (c : Command) → command_faults ls.names means c ≡ []
           → tree.touches ds home c n ≡ (is_dynamic w x && hangs s g (command_of ls h m c) x)
@@ -218,12 +214,8 @@ module _ (ls : Levels) (le : ℕ → ℕ → Bool) (ds : List Decl) (es : List E
     simple_rows : (m : ℕ) (c : SimpleCommand) → simple_faults ls.names what c ≡ []
         → rows (filled w at (command_of ls here m (lone c))) ≡ told_rows (points.simple_points c)
     unfolding told_rows
-    simple_rows m (assign target e) f = refl
-    simple_rows m (write target index e) f = refl
-    simple_rows m (set_tag place target tag) f = refl
-    simple_rows m (set_cell_tag place target index tag) f = refl
-    simple_rows m (go_to place target) f = refl
     simple_rows m (fall_to_child place) f = ap (λ (l : List Bool). l ∷ []) (command_row m (lone (fall_to_child place)) f)
+    simple_rows m _ f = refl
 
     mutual
       unfolding told_rows

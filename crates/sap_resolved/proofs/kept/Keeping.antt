@@ -160,15 +160,7 @@ module _ (es : List Entity) (k : Known es) where
 -- constants
 constant_kept : (e : Expression) → IsConstant e (number_of e)
 constant_kept (literal spot value) = refl
-constant_kept (sized_literal spot width value) = refl
-constant_kept (variable spot name) = refl
-constant_kept (cell_at spot name index) = refl
-constant_kept (unary_of spot operator e) = refl
-constant_kept (binary_of spot operator a b) = refl
-constant_kept (choice spot c a b) = refl
-constant_kept (slice spot e high low) = refl
-constant_kept (concat spot parts) = refl
-constant_kept (zero_extend spot e width) = refl
+constant_kept _ = refl
 
 constants_kept : (parts : Expressions) → AreConstants parts (numbers_of parts)
 constants_kept no_part = tt

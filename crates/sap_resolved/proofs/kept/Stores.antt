@@ -111,15 +111,11 @@ store_same ls d once x l s =
 
 is_assigned : (w : World) (x : Declared) (n : ℕ) → fits_use assigned x ≡ true → Stands x (entity w n) → is_register w n ≡ true
 is_assigned w (what.Register u) n h i = ap (λ k. kind_is_register k) i.0
-is_assigned w (what.Input u) n h i = cc
-is_assigned w (what.Memory u b) n h i = cc
-is_assigned w what.State n h i = cc
+is_assigned w _ n h i = cc
 
 is_indexed : (w : World) (x : Declared) (n : ℕ) → fits_use indexed x ≡ true → Stands x (entity w n) → is_memory w n ≡ true
 is_indexed w (what.Memory u b) n h i = ap (λ k. kind_is_memory k) i.0
-is_indexed w (what.Input u) n h i = cc
-is_indexed w (what.Register u) n h i = cc
-is_indexed w what.State n h i = cc
+is_indexed w _ n h i = cc
 
 pub record Kinds (es : List tree.Entity) (w : World) : Type 0 where
   pub register : (name : List ℕ) (place : Place) → use_faults assigned (what_is es name) place ≡ [] → is_register w (entity_number es name) ≡ true

@@ -2,7 +2,7 @@
 use Rattle.std.proofs.Common.{◌≡◌, ℕ, ◌+◌, true, false, List, [], ◌++◌, refl, length}
 use Rattle.sap_names.proofs.FaultLemmas.{nil_left, nil_right}
 use Rattle.sap_text.specs.declared.place.Place.{Place}
-use Rattle.sap_tree.specs.Syntax.{SimpleCommand, assign, write, set_tag, set_cell_tag, go_to, fall_to_child, Command, lone, try, if_else, try_then, case_of, Arms, last_arm, and_arm, CommandBlock, command_block, ElseBlock, no_else, with_else, CommandList, no_command, and_command}
+use Rattle.sap_tree.specs.Syntax.{SimpleCommand, go_to, fall_to_child, Command, lone, try, if_else, try_then, case_of, Arms, last_arm, and_arm, CommandBlock, command_block, ElseBlock, no_else, with_else, CommandList, no_command, and_command}
 use Rattle.sap_lattice.specs.Levels.{Levels}
 use Rattle.sap_names.specs.declared.fault.Fault.{Fault}
 use Rattle.sap_shape.specs.Closing.{transfer_faults, then_faults, open_faults, open_arms_faults, open_block_faults, open_else_faults, open_list_faults, last_simple_faults, last_faults, closing_arms_faults, closing_faults, closing_else_faults, closing_list_faults}
@@ -12,21 +12,15 @@ use Rattle.sap_resolved.specs.Resolve.{site_number, step_of, command_of, arms_of
 
 module _ (ls : Levels) (h : Surroundings) where
   pub open_step : (n : ℕ) (c : SimpleCommand) → transfer_faults c ≡ [] → transfers (step_of ls h n c) ≡ false
-  open_step n (assign target e) f = refl
-  open_step n (write target index e) f = refl
-  open_step n (set_tag place target tag) f = refl
-  open_step n (set_cell_tag place target index tag) f = refl
   open_step n (go_to place target) f = cc
   open_step n (fall_to_child place) f = cc
+  open_step n _ f = refl
 
   -- a step with an accepted part is no transfer
   then_step : (n : ℕ) (c : SimpleCommand) (place : Place) (rest : List Fault) → then_faults c place rest ≡ [] → (transfers (step_of ls h n c) ≡ false) × (rest ≡ [])
-  then_step n (assign target e) place rest f = (refl, f)
-  then_step n (write target index e) place rest f = (refl, f)
-  then_step n (set_tag p target tag) place rest f = (refl, f)
-  then_step n (set_cell_tag p target index tag) place rest f = (refl, f)
   then_step n (go_to p target) place rest f = absurd (cc f)
   then_step n (fall_to_child p) place rest f = absurd (cc f)
+  then_step n _ place rest f = (refl, f)
 
   mutual
     open_command : (k : ℕ) (c : Command) → open_faults c ≡ [] → Open (command_of ls h k c)
@@ -64,20 +58,13 @@ module _ (ls : Levels) (h : Surroundings) where
     )
 
   last_step : (n : ℕ) (c : SimpleCommand) (after : Place) → last_simple_faults c after ≡ [] → transfers (step_of ls h n c) ≡ true
-  last_step n (assign target e) after f = cc
-  last_step n (write target index e) after f = cc
-  last_step n (set_tag place target tag) after f = cc
-  last_step n (set_cell_tag place target index tag) after f = cc
   last_step n (go_to place target) after f = refl
   last_step n (fall_to_child place) after f = refl
+  last_step n _ after f = cc
 
   mutual
     last_command : (k : ℕ) (c : Command) (after : Place) → last_faults c after ≡ [] → Final (command_of ls h k c)
     last_command k (lone c) after f = last_step (site_number h k c) c after f
-    last_command k (try (assign target e) place b) after f = cc
-    last_command k (try (write target index e) place b) after f = cc
-    last_command k (try (set_tag p target tag) place b) after f = cc
-    last_command k (try (set_cell_tag p target index tag) place b) after f = cc
     last_command k (try (go_to p target) place b) after f = (refl, closed_body (k + length (simple_sites h (go_to p target))) b f)
     last_command k (try (fall_to_child p) place b) after f = (refl, closed_body (k + length (simple_sites h (fall_to_child p))) b f)
     last_command k (if_else place e b other) after f = (
@@ -88,6 +75,7 @@ module _ (ls : Levels) (h : Surroundings) where
         let t = then_step (site_number h k c) c place (closing_faults a ++ closing_faults b) f in
         (t.0, closed_body (k + length (simple_sites h c)) a (nil_left _ _ t.1), closed_body (k + length (simple_sites h c) + length (block_sites h a)) b (nil_right _ _ t.1))
     last_command k (case_of place e arms) after f = closed_arms k arms f
+    last_command k _ after f = cc
 
     closed_arms : (k : ℕ) (arms : Arms) → closing_arms_faults arms ≡ [] → ClosingArms (arms_of ls h k arms)
     closed_arms k (last_arm b) f = closed_body k b f

@@ -1,6 +1,6 @@
 -- Filling in what hangs leaves all else of a program as it was.
 use Rattle.sap_lemmas.proofs.Common.{◌≡◌, ℕ, suc, ◌<◌, Bool, false, ◌||◌, refl, sym, ap, ◌∙◌, subst, nat_eq, or_equal}
-use Rattle.sap_meaning.specs.Prelude.{World, Step, assign, write, retag, retag_cell, go_to, fall_to_child, Command, lone, try, if_else, try_then, case_of, Arms, last_arm, and_arm, Block, end_block, command_then, State, state_node, Group, no_node, and_node, Home, step_assigns, block_assigns, group_assigns, among, step_hangs, hangs, step_retags, block_retags, group_retags, FineTerm, size, inside, transfers, NoTransfer, Open, Closes, Final, ClosingArms, FineStep, FineNode, FineState, FineGroup, number_of, FineCommand, step_writes, step_reaching, reaching, block_reaching, state_reaches, group_reaches, OnceStep, Once, OnceArms, OnceBlock, OnceState, OnceGroup, body_of, EveryInBlock}
+use Rattle.sap_meaning.specs.Prelude.{World, Step, assign, go_to, fall_to_child, Command, lone, try, if_else, try_then, case_of, Arms, last_arm, and_arm, Block, end_block, command_then, State, state_node, Group, no_node, and_node, Home, step_assigns, block_assigns, group_assigns, among, step_hangs, hangs, step_retags, block_retags, group_retags, FineTerm, size, inside, transfers, NoTransfer, Open, Closes, Final, ClosingArms, FineStep, FineNode, FineState, FineGroup, number_of, FineCommand, step_writes, step_reaching, reaching, block_reaching, state_reaches, group_reaches, OnceStep, Once, OnceArms, OnceBlock, OnceState, OnceGroup, body_of, EveryInBlock}
 use Rattle.sap_resolved.specs.Fill.{filled_step, filled_hang, filled, filled_arms, filled_block, filled_state, filled_group}
 use Rattle.sap_resolved.specs.WellNamed.{WellNamedStep, WellNamedGroup}
 use Rattle.sap_meaning.proofs.WalksLemmas.{every_mapped, every_mapped_block, asks_mapped}
@@ -28,11 +28,7 @@ module _ (w : World) where
   module _ (at : Home) where
     transfers_filled : (k : Step) → transfers (filled_step w at k) ≡ transfers k
     transfers_filled (assign site x e) = refl
-    transfers_filled (write site m i e) = refl
-    transfers_filled (retag site x n) = refl
-    transfers_filled (retag_cell site m j n) = refl
-    transfers_filled (go_to site target) = refl
-    transfers_filled (fall_to_child site hang) = refl
+    transfers_filled _ = refl
 
     open_filled : (c : Command) → Open c → Open (filled w at c)
     open_filled c h =
@@ -59,30 +55,18 @@ module _ (w : World) where
 
     step_assigns_filled : (k : Step) (x : ℕ) → step_assigns (filled_step w at k) x ≡ step_assigns k x
     step_assigns_filled (assign site y e) x = refl
-    step_assigns_filled (write site m i e) x = refl
-    step_assigns_filled (retag site y n) x = refl
-    step_assigns_filled (retag_cell site m j n) x = refl
-    step_assigns_filled (go_to site target) x = refl
-    step_assigns_filled (fall_to_child site hang) x = refl
+    step_assigns_filled _ x = refl
 
     block_assigns_filled : (b : Block) (x : ℕ) → block_assigns (filled_block w at b) x ≡ block_assigns b x
     block_assigns_filled b x = gathered_filled_block w false ◌||◌ (λ k. step_assigns k x) (λ k. step_assigns k x) at (λ k. step_assigns_filled k x) b
 
     step_writes_filled : (k : Step) (x : ℕ) → step_writes (filled_step w at k) x ≡ step_writes k x
     step_writes_filled (assign site y e) x = refl
-    step_writes_filled (write site m i e) x = refl
-    step_writes_filled (retag site y n) x = refl
-    step_writes_filled (retag_cell site m j n) x = refl
-    step_writes_filled (go_to site target) x = refl
-    step_writes_filled (fall_to_child site hang) x = refl
+    step_writes_filled _ x = refl
 
     step_retags_filled : (k : Step) (x : ℕ) → step_retags (filled_step w at k) x ≡ step_retags k x
     step_retags_filled (assign site y e) x = refl
-    step_retags_filled (write site m i e) x = refl
-    step_retags_filled (retag site y n) x = refl
-    step_retags_filled (retag_cell site m j n) x = refl
-    step_retags_filled (go_to site target) x = refl
-    step_retags_filled (fall_to_child site hang) x = refl
+    step_retags_filled _ x = refl
 
     block_retags_filled : (b : Block) (x : ℕ) → block_retags (filled_block w at b) x ≡ block_retags b x
     block_retags_filled b x = gathered_filled_block w false ◌||◌ (λ k. step_retags k x) (λ k. step_retags k x) at (λ k. step_retags_filled k x) b
@@ -90,12 +74,8 @@ module _ (w : World) where
     -- where a fall leads to the same
     module _ (f g : ℕ → Bool) (same : (m : ℕ) → f m ≡ g m) where
       step_reaching_filled : (k : Step) (m : ℕ) → step_reaching f (filled_step w at k) m ≡ step_reaching g k m
-      step_reaching_filled (assign site y e) m = refl
-      step_reaching_filled (write site n i e) m = refl
-      step_reaching_filled (retag site y n) m = refl
-      step_reaching_filled (retag_cell site n j t) m = refl
-      step_reaching_filled (go_to site target) m = refl
       step_reaching_filled (fall_to_child site hang) m = same m
+      step_reaching_filled _ m = refl
 
       reaching_filled : (c : Command) (m : ℕ) → reaching f (filled w at c) m ≡ reaching g c m
       reaching_filled c m = gathered_filled w false ◌||◌ (λ k. step_reaching f k m) (λ k. step_reaching g k m) at (λ k. step_reaching_filled k m) c
@@ -106,12 +86,9 @@ module _ (w : World) where
     -- a child among the same children, siblings and all
     module _ (q j g i : Group) (siblings : (x : ℕ) → among j x ≡ among q x) (children : size i ≡ size g) where
       fine_step_filled : (k : Step) → FineStep w q g k → FineStep w j i (filled_step w at k)
-      fine_step_filled (assign site x e) h = h
-      fine_step_filled (write site m i e) h = h
-      fine_step_filled (retag site x n) h = h
-      fine_step_filled (retag_cell site m j n) h = h
       fine_step_filled (go_to site target) h = siblings target ∙ h
       fine_step_filled (fall_to_child site hang) h = subst (λ (n : ℕ). 0 < n) (sym children) h
+      fine_step_filled _ h = h
 
       fine_block_filled : (b : Block) → EveryInBlock (FineCommand w q g) b → EveryInBlock (FineCommand w j i) (filled_block w at b)
       fine_block_filled b h =
@@ -121,12 +98,8 @@ module _ (w : World) where
     -- what hangs, where the children are the same and assign the same
     module _ (s : ℕ) (g i : Group) (children : (x : ℕ) → among i x ≡ among g x) (assigned : (x : ℕ) → group_assigns i x ≡ group_assigns g x) where
       step_hangs_filled : (k : Step) (x : ℕ) → step_hangs s i (filled_step w at k) x ≡ step_hangs s g k x
-      step_hangs_filled (assign site y e) x = refl
-      step_hangs_filled (write site m j e) x = refl
-      step_hangs_filled (retag site y n) x = refl
-      step_hangs_filled (retag_cell site m j n) x = refl
-      step_hangs_filled (go_to site target) x = refl
       step_hangs_filled (fall_to_child site hang) x = or_equal _ _ _ _ (children x) (assigned x)
+      step_hangs_filled _ x = refl
 
       pub hangs_filled : (c : Command) (x : ℕ) → hangs s i (filled w at c) x ≡ hangs s g c x
       hangs_filled c x = gathered_filled w false ◌||◌ (λ k. step_hangs s i k x) (λ k. step_hangs s g k x) at (λ k. step_hangs_filled k x) c
@@ -134,11 +107,7 @@ module _ (w : World) where
   -- what is filled is named as before
   named_step_unfilled : (at : Home) (k : Step) → WellNamedStep w (filled_step w at k) → WellNamedStep w k
   named_step_unfilled at (assign site x e) h = h
-  named_step_unfilled at (write site m i e) h = h
-  named_step_unfilled at (retag site x n) h = h
-  named_step_unfilled at (retag_cell site m j n) h = h
-  named_step_unfilled at (go_to site target) h = h
-  named_step_unfilled at (fall_to_child site hang) h = h
+  named_step_unfilled at _ h = h
 
   pub named_group_unfilled : (p : ℕ) (g : Group) → WellNamedGroup w (filled_group w p g) → WellNamedGroup w g
   named_group_unfilled p g h = every_unfilled_group w (WellNamedStep w) (WellNamedStep w) (FineTerm w) named_step_unfilled p g h
@@ -176,12 +145,8 @@ module _ (w : World) where
     -- where a fall leads to what has to hold there
     module _ (below behind : Type 0) (lead : below → behind) where
       once_step_filled : (k : Step) → OnceStep below k → OnceStep behind (filled_step w at k)
-      once_step_filled (assign site x e) h = h
-      once_step_filled (write site m i e) h = h
-      once_step_filled (retag site x n) h = h
-      once_step_filled (retag_cell site m j n) h = h
-      once_step_filled (go_to site target) h = h
       once_step_filled (fall_to_child site hang) h = lead h
+      once_step_filled _ h = h
 
       mutual
         once_filled : (c : Command) → Once g below c → Once (filled_group w p g) behind (filled w at c)

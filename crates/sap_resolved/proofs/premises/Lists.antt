@@ -6,7 +6,7 @@ use Rattle.sap_meaning.proofs.WalksLemmas.{some_gives, some_in_block_gives, ever
 use Rattle.sap_meaning.specs.Prelude.{Every, Asks, EveryInBlock, World, is_dynamic, root, listed, Step, Group, Home, among, step_assigns, block_assigns, state_assigns, group_assigns, step_hangs, hangs, touches, root_touches, ExactStep, ExactCommand, ExactGroup, ExactProgram}
 use Rattle.sap_meaning.specs.Fine.{ExactState}
 use Rattle.sap_meaning.specs.Program as program
-use Rattle.sap_tree.specs.Syntax.{SimpleCommand, assign, write, set_tag, set_cell_tag, go_to, fall_to_child, CommandBlock, StateTree, state_node, StateList, no_state, and_state, DesignTree}
+use Rattle.sap_tree.specs.Syntax.{SimpleCommand, assign, write, go_to, fall_to_child, CommandBlock, StateTree, state_node, StateList, no_state, and_state, DesignTree}
 use Rattle.sap_lattice.specs.Levels.{Levels}
 use Rattle.sap_names.specs.declared.entity.Entity as declared_entity
 use Rattle.sap_names.specs.Entities.{number_of, entities_of}
@@ -72,10 +72,7 @@ module _ (r x : ℕ) where
     step_assigned : (n : ℕ) (c : SimpleCommand) → Low (step_assigns (step_of ls h n c) x)
     step_assigned n (assign target e) = low_equal (entity_number h.entities target.name) (bound target.name)
     step_assigned n (write target index e) = low_equal (entity_number h.entities target.name) (bound target.name)
-    step_assigned n (set_tag place target tag) = low_false
-    step_assigned n (set_cell_tag place target index tag) = low_false
-    step_assigned n (go_to place target) = low_false
-    step_assigned n (fall_to_child place) = low_false
+    step_assigned n _ = low_false
 
     block_assigned : (k : ℕ) (b : CommandBlock) → Low (block_assigns (block_of ls h k b) x)
     block_assigned k b =
@@ -86,10 +83,9 @@ module _ (r x : ℕ) where
       step_hung : (n : ℕ) (c : SimpleCommand) → Low (step_hangs s g (step_of ls h n c) x)
       step_hung n (assign target e) = low_equal (entity_number h.entities target.name) (bound target.name)
       step_hung n (write target index e) = low_equal (entity_number h.entities target.name) (bound target.name)
-      step_hung n (set_tag place target tag) = low_false
-      step_hung n (set_cell_tag place target index tag) = low_false
       step_hung n (go_to place target) = low_equal s own
       step_hung n (fall_to_child place) = low_or (among g x) (group_assigns g x) kids below
+      step_hung n _ = low_false
 
   module _ (ls : Levels) (es : List declared_entity.Entity) where
     mutual
@@ -138,12 +134,8 @@ module _ (ls : Levels) (w : World) where
         (sym (hangs_filled w Before s g (filled_group w s g) (λ y. among_filled w s g y) (λ y. group_assigns_filled w s g y) c x))
 
     exact_step : (k : Step) → Hung k → ExactStep w After (filled_step w Before k)
-    exact_step (program.assign site y e) all = tt
-    exact_step (program.write site m i e) all = tt
-    exact_step (program.retag site y n) all = tt
-    exact_step (program.retag_cell site m j n) all = tt
-    exact_step (program.go_to site target) all = tt
     exact_step (program.fall_to_child site hang) all = exact_list (program.lone (program.fall_to_child site hang)) all
+    exact_step _ all = tt
 
     exact_command : (c : program.Command) → AllHung c → ExactCommand w After (filled w Before c)
     exact_command (program.lone k) all = exact_step k all

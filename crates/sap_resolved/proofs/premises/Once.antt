@@ -2,7 +2,7 @@
 use Rattle.sap_lemmas.proofs.Common.{◌≡◌, ℕ, ◌+◌, Option, Bool, true, false, ◌&&◌, ◌||◌, List, [], ◌∷◌, ◌++◌, if◌then◌else◌, refl, ap, ◌∙◌, subst, nat_eq, inl, inr, bytes_eq, length, bytes_eq_same, eqb-true, false_from_ne_true, or_cases, or_from, or_left, or_right}
 use Rattle.sap_names.proofs.NameFaultsLemmas.{no_fault}
 use Rattle.sap_names.proofs.FaultLemmas.{nil_left, nil_right}
-use Rattle.sap_tree.specs.Syntax.{SimpleCommand, assign, write, set_tag, set_cell_tag, go_to, fall_to_child, Command, lone, try, if_else, try_then, case_of, Arms, last_arm, and_arm, CommandBlock, command_block, ElseBlock, no_else, with_else, CommandList, no_command, and_command, StateTree, state_node, StateList, no_state, and_state}
+use Rattle.sap_tree.specs.Syntax.{SimpleCommand, write, set_cell_tag, fall_to_child, Command, lone, try, if_else, try_then, case_of, Arms, last_arm, and_arm, CommandBlock, command_block, ElseBlock, no_else, with_else, CommandList, no_command, and_command, StateTree, state_node, StateList, no_state, and_state}
 use Rattle.sap_tree.specs.declared.name.Mention.{Mention}
 use Rattle.sap_text.specs.declared.place.Place.{Place}
 use Rattle.sap_lattice.specs.Levels.{Levels}
@@ -47,22 +47,16 @@ module _ (ls : Levels) (levels : List (List ℕ)) (h : Surroundings) (w : World)
   -- what a step writes, is written behind it
   step_written : (n : ℕ) (c : SimpleCommand) → simple_faults levels What c ≡ [] → (m : ℕ) (p : Written) → step_writes (step_of ls h n c) m ≡ true
       → past_simple c p (name_at h.entities m) ≡ true
-  step_written n (assign target e) f m p i = cc
   step_written n (write target index e) f m p i = writes_target target m p (write_named levels What target index e f) i
-  step_written n (set_tag place target tag) f m p i = cc
   step_written n (set_cell_tag place target index tag) f m p i = writes_target target m p (cell_named levels What place target index tag f) i
-  step_written n (go_to place target) f m p i = cc
-  step_written n (fall_to_child place) f m p i = cc
+  step_written n _ f m p i = cc
 
   module _ (falls : ℕ → Bool) where
     open_written : (n : ℕ) (c : SimpleCommand) → simple_faults levels What c ≡ [] → transfer_faults c ≡ [] → (m : ℕ) (p : Written)
         → step_reaching falls (step_of ls h n c) m ≡ true → past_simple c p (name_at h.entities m) ≡ true
-    open_written n (assign target e) f o m p i = cc
     open_written n (write target index e) f o m p i = writes_target target m p (write_named levels What target index e f) i
-    open_written n (set_tag place target tag) f o m p i = cc
     open_written n (set_cell_tag place target index tag) f o m p i = writes_target target m p (cell_named levels What place target index tag f) i
-    open_written n (go_to place target) f o m p i = cc
-    open_written n (fall_to_child place) f o m p i = cc
+    open_written n _ f o m p i = cc
 
     -- what an open command reaches, is written behind it
     mutual
@@ -139,12 +133,10 @@ module _ (ls : Levels) (levels : List (List ℕ)) (h : Surroundings) (w : World)
 
       step_unreached : (n : ℕ) (c : SimpleCommand) → simple_faults levels What c ≡ [] → (p : Written) → p (name_at h.entities m) ≡ true
           → second_simple c p ≡ [] → Safe (entering_simple c p (name_at h.entities m)) → step_reaching falls (step_of ls h n c) m ≡ false
-      step_unreached n (assign target e) f p i s d = refl
       step_unreached n (write target index e) f p i s d = target_unwritten target target.place (write_named levels What target index e f) p i s
-      step_unreached n (set_tag place target tag) f p i s d = refl
       step_unreached n (set_cell_tag place target index tag) f p i s d = target_unwritten target place (cell_named levels What place target index tag f) p i s
-      step_unreached n (go_to place target) f p i s d = refl
       step_unreached n (fall_to_child place) f p i s d = d i
+      step_unreached n _ f p i s d = refl
 
       mutual
         command_unreached : (k : ℕ) (c : Command) → command_faults levels What c ≡ [] → (p : Written) → p (name_at h.entities m) ≡ true → (found c p).again ≡ []
@@ -207,12 +199,8 @@ module _ (ls : Levels) (levels : List (List ℕ)) (h : Surroundings) (w : World)
   module _ (g : Group) (below : Type 0) where
     -- what holds where a fall leads
     once_step : (n : ℕ) (c : SimpleCommand) → (is_fall c ≡ true → below) → OnceStep below (step_of ls h n c)
-    once_step n (assign target e) f = tt
-    once_step n (write target index e) f = tt
-    once_step n (set_tag place target tag) f = tt
-    once_step n (set_cell_tag place target index tag) f = tt
-    once_step n (go_to place target) f = tt
     once_step n (fall_to_child place) f = f refl
+    once_step n _ f = tt
 
     -- where each fall leads to nothing that was written
     abbrev Free : Written → Type 0

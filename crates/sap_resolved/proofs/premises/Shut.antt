@@ -2,7 +2,7 @@
 use Rattle.std.proofs.Common.{◌≡◌, ◌⊎◌, inl, inr, List, [], ◌++◌, refl}
 use Rattle.sap_names.proofs.FaultLemmas.{nil_left, nil_right}
 use Rattle.sap_text.specs.declared.place.Place.{Place}
-use Rattle.sap_tree.specs.Syntax.{Expression, Expressions, SimpleCommand, assign, write, set_tag, set_cell_tag, go_to, fall_to_child, Command, try, if_else, try_then, case_of, Arms, and_arm, CommandBlock, ElseBlock, with_else, CommandList, no_command, and_command}
+use Rattle.sap_tree.specs.Syntax.{Expression, Expressions, SimpleCommand, go_to, fall_to_child, Command, try, if_else, try_then, case_of, Arms, and_arm, CommandBlock, ElseBlock, with_else, CommandList, no_command, and_command}
 use Rattle.sap_names.specs.declared.fault.Fault.{Fault}
 use Rattle.sap_shape.specs.Closing.{transfer_faults, then_faults, open_faults, open_block_faults, open_arms_faults, open_else_faults, open_list_faults, last_faults, closing_faults, closing_arms_faults, closing_else_faults, closing_list_faults}
 
@@ -39,12 +39,9 @@ shut_rest c (and_command d ds) o = elim o [ inl i ↦ inl (nil_right _ _ i) | in
 
 -- a handler closes or is open, as its command does
 handler_closed : (c : SimpleCommand) (place : Place) (b : CommandBlock) (after : Place) → last_faults (try c place b) after ≡ [] → Shut b
-handler_closed (assign target e) place b after f = absurd (cc f)
-handler_closed (write target index e) place b after f = absurd (cc f)
-handler_closed (set_tag p target tag) place b after f = absurd (cc f)
-handler_closed (set_cell_tag p target index tag) place b after f = absurd (cc f)
 handler_closed (go_to p target) place b after f = inr f
 handler_closed (fall_to_child p) place b after f = inr f
+handler_closed _ place b after f = absurd (cc f)
 
 pub shut_handler : (c : SimpleCommand) (place : Place) (b : CommandBlock) → Ended (try c place b) → Shut b
 shut_handler c place b o = elim o [ inl i ↦ inl (nil_right _ _ i) | inr i ↦ handler_closed c place b i.0 i.1 ]
@@ -57,12 +54,9 @@ shut_other place e b other o = elim o [ inl i ↦ inl (nil_right _ _ i) | inr i 
 
 -- a command with `then` is no transfer
 pub then_parts : (c : SimpleCommand) (place : Place) (rest : List Fault) → then_faults c place rest ≡ [] → (transfer_faults c ≡ []) × (rest ≡ [])
-then_parts (assign target e) place rest f = (refl, f)
-then_parts (write target index e) place rest f = (refl, f)
-then_parts (set_tag p target tag) place rest f = (refl, f)
-then_parts (set_cell_tag p target index tag) place rest f = (refl, f)
 then_parts (go_to p target) place rest f = absurd (cc f)
 then_parts (fall_to_child p) place rest f = absurd (cc f)
+then_parts _ place rest f = (refl, f)
 
 module _ (c : SimpleCommand) (place : Place) (a b : CommandBlock) (o : Ended (try_then c place a b)) where
   opened : open_faults (try_then c place a b) ≡ [] → (transfer_faults c ≡ []) × (open_block_faults a ++ open_block_faults b ≡ [])

@@ -1,6 +1,6 @@
 -- Filling in what hangs leaves the check sites of a program as they are, but for what hangs on a fall.
 use Rattle.sap_lemmas.proofs.Common.{◌≡◌, ℕ, Bool, true, false, not, ◌||◌, List, [], ◌∷◌, ◌++◌, refl, sym, ap, ◌∙◌, if◌then◌else◌, map, map-append}
-use Rattle.sap_meaning.specs.Prelude.{World, is_dynamic, Step, assign, write, retag, retag_cell, go_to, fall_to_child, Block, State, state_node, Group, no_node, and_node, gathered_in_block, Home, site_of, some_enforced, is_site, PlacedStep, step_sites, block_sites, state_sites, group_sites, site_numbers}
+use Rattle.sap_meaning.specs.Prelude.{World, is_dynamic, Step, assign, fall_to_child, Block, State, state_node, Group, no_node, and_node, gathered_in_block, Home, site_of, some_enforced, is_site, PlacedStep, step_sites, block_sites, state_sites, group_sites, site_numbers}
 use Rattle.sap_meaning.proofs.WalksLemmas.{gathered_in_block_through}
 use Rattle.sap_resolved.specs.Fill.{filled_step, filled_block, filled_state, filled_group}
 use Rattle.sap_resolved.proofs.FillLemmas.{gathered_filled_block}
@@ -22,12 +22,8 @@ module _ (w : World) (A : Type 0) (tell : PlacedStep → A)
 
   module _ (at : Home) (s : ℕ) (g i : Group) (same : some_enforced w i ≡ some_enforced w g) where
     site_filled : (k : Step) → is_site w s i (filled_step w at k) ≡ is_site w s g k
-    site_filled (assign site x e) = refl
-    site_filled (write site m j e) = refl
-    site_filled (retag site x n) = refl
-    site_filled (retag_cell site m j n) = refl
-    site_filled (go_to site target) = refl
     site_filled (fall_to_child site hang) = same
+    site_filled _ = refl
 
     one_filled : (yes : Bool) (k : Step)
         → map tell (if yes then (let t : PlacedStep = record { state = s; step = filled_step w at k } in t ∷ []) else [])
@@ -61,11 +57,7 @@ module _ (w : World) (A : Type 0) (tell : PlacedStep → A)
 
 number_filled : (w : World) (at : Home) (k : Step) → site_of (filled_step w at k) ≡ site_of k
 number_filled w at (assign site x e) = refl
-number_filled w at (write site m j e) = refl
-number_filled w at (retag site x n) = refl
-number_filled w at (retag_cell site m j n) = refl
-number_filled w at (go_to site target) = refl
-number_filled w at (fall_to_child site hang) = refl
+number_filled w at _ = refl
 
 pub numbers_filled : (w : World) (p : ℕ) (g : Group) → site_numbers (group_sites w (filled_group w p g)) ≡ site_numbers (group_sites w g)
 numbers_filled w p g = group_sites_filled w ℕ (λ (k : PlacedStep). site_of k.step) (λ at s k. number_filled w at k) p g

@@ -1,7 +1,7 @@
 -- The check sites of a resolved program are those of its design: each is the step that the command gives, with its number, in the state of its body.
 use Rattle.sap_lemmas.proofs.Common.{◌≡◌, ℕ, suc, ◌+◌, ◌<◌, Option, Bool, true, false, not, List, [], ◌∷◌, ◌++◌, length, refl, sym, ap, ◌∙◌, arith, if◌then◌else◌, or_equal}
 use Rattle.sap_names.proofs.FaultLemmas.{nil_left, nil_right}
-use Rattle.sap_tree.specs.Syntax.{SimpleCommand, assign, write, set_tag, set_cell_tag, go_to, fall_to_child, Command, lone, try, if_else, try_then, case_of, Arms, last_arm, and_arm, CommandBlock, command_block, ElseBlock, no_else, with_else, CommandList, no_command, and_command, StateTree, state_node, StateList, no_state, and_state}
+use Rattle.sap_tree.specs.Syntax.{SimpleCommand, assign, write, go_to, fall_to_child, Command, lone, try, if_else, try_then, case_of, Arms, last_arm, and_arm, CommandBlock, command_block, ElseBlock, no_else, with_else, CommandList, no_command, and_command, StateTree, state_node, StateList, no_state, and_state}
 use Rattle.sap_lattice.specs.Levels.{Levels}
 use Rattle.sap_names.specs.Entities as tree
 use Rattle.sap_names.specs.declared.entity.Entity as declared_entity
@@ -42,11 +42,7 @@ module _ (ls : Levels) where
 
   site_is : (h : Surroundings) (n : ℕ) (c : SimpleCommand) → site_of (step_of ls h n c) ≡ n
   site_is h n (assign target e) = refl
-  site_is h n (write target index e) = refl
-  site_is h n (set_tag place target tag) = refl
-  site_is h n (set_cell_tag place target index tag) = refl
-  site_is h n (go_to place target) = refl
-  site_is h n (fall_to_child place) = refl
+  site_is h n _ = refl
 
   pub placed_numbers : (k : ℕ) (ss : List CheckSite) → site_numbers (placed ls k ss) ≡ numbers_from k (length ss)
   placed_numbers k [] = refl
@@ -76,12 +72,11 @@ module _ (ls : Levels) (levels : List (List ℕ)) (h : Surroundings) (w : World)
   site_same : (n : ℕ) (c : SimpleCommand) → simple_faults levels What c ≡ [] → is_site w x g (step_of ls h n c) ≡ shape.is_site h.entities h.home.kind h.home.children c
   site_same n (assign target e) f = enforced_same h.entities w match assigned target (set_named levels What target e f)
   site_same n (write target index e) f = enforced_same h.entities w match indexed target (write_named levels What target index e f)
-  site_same n (set_tag place target tag) f = refl
-  site_same n (set_cell_tag place target index tag) f = refl
   site_same n (go_to place target) f =
       or_equal (not (is_dynamic w x)) (not (is_dynamic w (entity_number h.entities target.name))) (not (is_dynamic_kind h.home.kind))
       (is_enforced h.entities target.name) own (enforced_same h.entities w match entered target f)
   site_same n (fall_to_child place) f = kids
+  site_same n _ f = refl
 
   one_placed : (k : ℕ) (yes : Bool) (c : SimpleCommand)
       → (if yes then (let t : PlacedStep = record { state = x; step = step_of ls h (if yes then k else 0) c } in t ∷ []) else [])

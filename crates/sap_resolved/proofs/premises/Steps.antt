@@ -3,7 +3,7 @@
 use Rattle.sap_lemmas.proofs.Common.{◌≡◌, ℕ, ◌+◌, ◌<◌, Bool, true, false, not, List, [], ◌∷◌, ◌++◌, refl, ap, ◌∙◌, subst, arith, nat_eq, length, both_ways, eqb-true, false_from_ne_true, not-false, or_from, or_left, or_right}
 use Rattle.sap_names.proofs.NameFaultsLemmas.{no_fault}
 use Rattle.sap_names.proofs.FaultLemmas.{nil_left, nil_right}
-use Rattle.sap_tree.specs.Syntax.{SimpleCommand, assign, write, set_tag, set_cell_tag, go_to, fall_to_child, CommandBlock, StateTree, state_node, StateList, no_state, and_state}
+use Rattle.sap_tree.specs.Syntax.{SimpleCommand, set_tag, set_cell_tag, go_to, fall_to_child, CommandBlock, StateTree, state_node, StateList, no_state, and_state}
 use Rattle.sap_lattice.specs.Levels.{Levels}
 use Rattle.sap_names.specs.Prelude.{Lookup, what_is, fault_if, simple_faults, block_faults, state_faults, states_faults}
 use Rattle.sap_names.specs.declared.kind.Code.TheVariants.{E11, E12, E16, E17}
@@ -37,8 +37,6 @@ module _ (ls : Levels) (levels : List (List ℕ)) (h : Surroundings) (w : World)
     module _ (y : ℕ) (near : is_comparable at (name_at h.entities y) ≡ true) where
       step_unmarked : (n : ℕ) (c : SimpleCommand) → simple_faults levels What c ≡ [] → simple_shape h.entities at c ≡ []
           → step_retags (step_of ls h n c) y ≡ false
-      step_unmarked n (assign target e) f s = refl
-      step_unmarked n (write target index e) f s = refl
       step_unmarked n (set_tag place target tag) f s = false_from_ne_true (nat_eq y (entity_number h.entities target.name)) (λ j.
           let number : y ≡ entity_number h.entities target.name = eqb-true y (entity_number h.entities target.name) j in
           let own : name_at h.entities (entity_number h.entities target.name) ≡ target.name =
@@ -48,9 +46,7 @@ module _ (ls : Levels) (levels : List (List ℕ)) (h : Surroundings) (w : World)
           let far : is_comparable at target.name ≡ false = no_fault (is_comparable at target.name) E17 target.place last in
           let yes : is_comparable at target.name ≡ true = subst (λ a. is_comparable at a ≡ true) e near in
           both_ways (is_comparable at target.name) far yes)
-      step_unmarked n (set_cell_tag place target index tag) f s = refl
-      step_unmarked n (go_to place target) f s = refl
-      step_unmarked n (fall_to_child place) f s = refl
+      step_unmarked n _ f s = refl
 
       pub block_unmarked : (k : ℕ) (b : CommandBlock) → block_faults levels What b ≡ [] → block_shape h.entities at b ≡ []
           → block_retags (block_of ls h k b) y ≡ false
@@ -64,8 +60,6 @@ module _ (ls : Levels) (levels : List (List ℕ)) (h : Surroundings) (w : World)
         (falling : is_leaf at.home.children ≡ false → 0 < size g) where
       fine_step : (n : ℕ) (c : SimpleCommand) → simple_faults levels What c ≡ [] → simple_shape h.entities at c ≡ [] → WellNamedStep w (step_of ls h n c)
           → FineStep w q g (step_of ls h n c)
-      fine_step n (assign target e) f s i = i
-      fine_step n (write target index e) f s i = i
       fine_step n (set_tag place target tag) f s i = (
         i.0,
         dynamic_same h.entities w match retagged target (tag_named levels What place target tag f)
@@ -82,6 +76,7 @@ module _ (ls : Levels) (levels : List (List ℕ)) (h : Surroundings) (w : World)
       fine_step n (go_to place target) f s i =
           targets target.name (not-false (is_among at.group target.name) (no_fault (not (is_among at.group target.name)) E11 target.place s))
       fine_step n (fall_to_child place) f s i = falling (no_fault (is_leaf at.home.children) E12 place s)
+      fine_step n _ f s i = i
 
       abbrev Follows : Step → Type 0
       Follows c = WellNamedStep w c → FineStep w q g c

@@ -6,7 +6,7 @@ use Rattle.sap_tree.specs.Syntax as tree
 use Rattle.sap_lattice.specs.Levels.{Levels}
 use Rattle.sap_names.specs.Prelude.{what_is, fits_use, name_faults, expression_faults, tag_faults, simple_faults, command_faults, constants_faults, arms_faults, block_faults, else_faults, commands_faults, kind_faults, state_faults, states_faults, own, else_of as first_width, register_width, cell_width, index_width}
 use Rattle.sap_names.specs.declared.kind.Declared.{Declared}
-use Rattle.sap_names.specs.declared.kind.Declared.TheVariants.{Input, Register, Memory, State}
+use Rattle.sap_names.specs.declared.kind.Declared.TheVariants.{Register, State}
 use Rattle.sap_names.specs.declared.entity.Entity.{Entity}
 use Rattle.sap_names.specs.declared.kind.Use.TheVariants.{Assigned as assigned, Indexed as indexed, Entered as entered, Retagged as retagged}
 use Rattle.sap_meaning.specs.Program as program
@@ -31,15 +31,11 @@ record AssignedAs (w : World) (x : Declared) (n : ℕ) : Type 0 where
 assigned_as : (w : World) (x : Declared) (n : ℕ) → fits_use assigned x ≡ true → Sound x → Stands x (entity w n) → AssignedAs w x n
 assigned_as w (Register u) n h s i =
     record { kind = ap (λ k. kind_is_register k) i.0; width = sound_same u s ∙ ap (λ v. Some v) (sym i.1) }
-assigned_as w (Input u) n h s i = cc
-assigned_as w (Memory u b) n h s i = cc
-assigned_as w State n h s i = cc
+assigned_as w _ n h s i = cc
 
 entered_as : (w : World) (x : Declared) (n : ℕ) → fits_use entered x ≡ true → Stands x (entity w n) → is_state w n ≡ true
 entered_as w State n h i = i.0
-entered_as w (Input u) n h i = cc
-entered_as w (Register u) n h i = cc
-entered_as w (Memory u b) n h i = cc
+entered_as w _ n h i = cc
 
 retagged_as : (w : World) (x : Declared) (n : ℕ) → fits_use retagged x ≡ true → Stands x (entity w n) → (is_register w n || is_state w n) ≡ true
 retagged_as w (Register u) n h i = ap (λ k. kind_is_register k || kind_is_state k) i.0
@@ -48,8 +44,7 @@ retagged_as w State n h i = or_true (is_register w n) (is_state w n) i.0
     or_true : (a b : Bool) → b ≡ true → (a || b) ≡ true
     or_true true b h = refl
     or_true false b h = h
-retagged_as w (Input u) n h i = cc
-retagged_as w (Memory u b) n h i = cc
+retagged_as w _ n h i = cc
 
 module _ (ls : Levels) (h : Surroundings) (w : World) (r : Ready ls h.entities w) where
   abbrev es : List Entity
@@ -129,14 +124,7 @@ module _ (ls : Levels) (h : Surroundings) (w : World) (r : Ready ls h.entities w
   constant_within u (tree.sized_literal spot width n) f =
       let t = expression_fitted es w r.names (tree.sized_literal spot width n) (Some u) f in
       subst (λ (v : ℕ). n < 2 ^ v) (asked_width w (term_of es (tree.sized_literal spot width n) (Some u)) (own what (tree.sized_literal spot width n)) (Some u) u refl t) t.fits
-  constant_within u (tree.variable spot name) f = some_number u
-  constant_within u (tree.cell_at spot name i) f = some_number u
-  constant_within u (tree.unary_of spot o x) f = some_number u
-  constant_within u (tree.binary_of spot o x y) f = some_number u
-  constant_within u (tree.choice spot x y z) f = some_number u
-  constant_within u (tree.slice spot x high low) f = some_number u
-  constant_within u (tree.concat spot parts) f = some_number u
-  constant_within u (tree.zero_extend spot x v) f = some_number u
+  constant_within u _ f = some_number u
 
   constants_within : (u : ℕ) (cs : Expressions) → constants_faults what (Some u) cs ≡ [] → AreWithin u (numbers_of cs)
   constants_within u no_part f = tt

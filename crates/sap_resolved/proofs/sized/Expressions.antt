@@ -5,7 +5,7 @@ use Rattle.sap_text.specs.declared.place.Place.{Place}
 use Rattle.sap_tree.specs.Syntax.{Expression, literal, sized_literal, variable, cell_at, unary_of, binary_of, choice, slice, concat, zero_extend, Expressions, no_part, and_part}
 use Rattle.sap_names.specs.Prelude.{what_is, fits_use, use_faults, fault_if, unsettled, too_large, expression_faults, parts_faults, own, own_parts, sound_width, index_bits, plain_width, cell_width, index_width, sliced, extended, else_of, family, asked_left, asked_right, asked_one, is_reduction, is_sound, all_sound}
 use Rattle.sap_names.specs.declared.kind.Declared.{Declared}
-use Rattle.sap_names.specs.declared.kind.Declared.TheVariants.{Input, Register, Memory, State}
+use Rattle.sap_names.specs.declared.kind.Declared.TheVariants.{Input, Register, Memory}
 use Rattle.sap_names.specs.declared.kind.Code.TheVariants.{E5, E7, E8}
 use Rattle.sap_names.specs.declared.entity.Entity.{Entity}
 use Rattle.sap_names.specs.declared.kind.Use.{Use as Uses}
@@ -34,8 +34,7 @@ read_as w (Input u) n h s i =
     record { kind = ap (λ k. kind_is_input k || kind_is_register k) i.0; width = sound_same u s ∙ ap (λ v. Some v) (sym i.1) }
 read_as w (Register u) n h s i =
     record { kind = ap (λ k. kind_is_input k || kind_is_register k) i.0; width = sound_same u s ∙ ap (λ v. Some v) (sym i.1) }
-read_as w (Memory u b) n h s i = cc
-read_as w State n h s i = cc
+read_as w _ n h s i = cc
 
 -- the entity of a name that is indexed
 pub record IndexedAs (w : World) (x : Declared) (n : ℕ) : Type 0 where
@@ -55,9 +54,7 @@ indexed_as w (Memory u b) n h s i =
       asked = c.1;
       deep = sym (index_power b c.0 c.1).2 ∙ sym (ap (λ k. depth_of k) i.0);
     }
-indexed_as w (Input u) n h s i = cc
-indexed_as w (Register u) n h s i = cc
-indexed_as w State n h s i = cc
+indexed_as w _ n h s i = cc
 
 -- the parts of a concatenation
 pub record FittedParts (w : World) (t : Term ℕ) (mine : Option ℕ) (all : Bool) : Type 0 where

@@ -1,6 +1,6 @@
 -- Filling in what hangs changes no name and no width.
 use Rattle.sap_lemmas.proofs.Common.{ℕ, List, sym, subst, AllByRecursion}
-use Rattle.sap_meaning.specs.Prelude.{World, Step, assign, write, retag, retag_cell, go_to, fall_to_child, Command, lone, try, if_else, try_then, case_of, Group, Home, width_of, AreWithin, SizedStep, SizedGroup, SizedCommand, FineTerm}
+use Rattle.sap_meaning.specs.Prelude.{World, Step, assign, Command, lone, try, if_else, try_then, case_of, Group, Home, width_of, AreWithin, SizedStep, SizedGroup, SizedCommand, FineTerm}
 use Rattle.sap_meaning.proofs.WalksLemmas.{constants_mapped}
 use Rattle.sap_resolved.specs.WellNamed.{WellNamedStep, WellNamedGroup}
 use Rattle.sap_resolved.proofs.FillLemmas.{commands_filled_group, every_filled_group}
@@ -9,19 +9,11 @@ use Rattle.sap_resolved.specs.Fill.{filled_step, filled_hang, filled, filled_gro
 module _ (w : World) where
   step_named : (at : Home) (k : Step) → WellNamedStep w k → WellNamedStep w (filled_step w at k)
   step_named at (assign site x e) h = h
-  step_named at (write site m i e) h = h
-  step_named at (retag site x n) h = h
-  step_named at (retag_cell site m j n) h = h
-  step_named at (go_to site target) h = h
-  step_named at (fall_to_child site hang) h = h
+  step_named at _ h = h
 
   step_sized : (at : Home) (k : Step) → SizedStep w k → SizedStep w (filled_step w at k)
   step_sized at (assign site x e) h = h
-  step_sized at (write site m i e) h = h
-  step_sized at (retag site x n) h = h
-  step_sized at (retag_cell site m j n) h = h
-  step_sized at (go_to site target) h = h
-  step_sized at (fall_to_child site hang) h = h
+  step_sized at _ h = h
 
   here_sized : (at : Home) (c : Command) → SizedCommand w c → SizedCommand w (filled w at c)
   here_sized at (lone k) h = step_sized at k h

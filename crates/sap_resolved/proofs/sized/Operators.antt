@@ -3,9 +3,8 @@ use Rattle.sap_lemmas.proofs.Common.{◌≡◌, ℕ, ◌+◌, ◌-◌, ◌≤◌
 use Rattle.sap_bits.specs.Arithmetic.{width1, width2}
 use Rattle.sap_tree.specs.declared.syntax.UnaryOperator.{UnaryOperator}
 use Rattle.sap_tree.specs.declared.syntax.BinaryOperator.{BinaryOperator}
-use Rattle.sap_tree.specs.declared.syntax.BinaryOperator.TheVariants.{Add}
-use Rattle.sap_tree.specs.declared.syntax.UnaryOperator.TheVariants.{Not, Neg, AllOnes, AnyOne, Odd}
-use Rattle.sap_tree.specs.declared.syntax.BinaryOperator.TheVariants.{Or, Xor, And, Eq, Ne, Lt, Le, Shl, Shr, Sub, Mul}
+use Rattle.sap_tree.specs.declared.syntax.UnaryOperator.TheVariants.{Not, Neg}
+use Rattle.sap_tree.specs.declared.syntax.BinaryOperator.TheVariants.{Eq, Ne, Lt, Le, Shl, Shr}
 use Rattle.sap_names.specs.Prelude.{unsettled, else_of, family, own_binary, asked_left, asked_right, is_reduction}
 use Rattle.sap_names.specs.declared.kind.Family.{Family}
 use Rattle.sap_names.specs.declared.kind.Family.TheVariants.{Arithmetic, Shift, Comparison}
@@ -36,16 +35,12 @@ own_width w t (Some r) asked u e f = some_same (width_of w t) u (sym f.wide ∙ 
 plain_width1 : (o : UnaryOperator) (u : ℕ) → is_reduction o ≡ false → width1 (one_of o) u ≡ u
 plain_width1 Not u h = refl
 plain_width1 Neg u h = refl
-plain_width1 AllOnes u h = cc
-plain_width1 AnyOne u h = cc
-plain_width1 Odd u h = cc
+plain_width1 _ u h = cc
 
 bit_width1 : (o : UnaryOperator) (u : ℕ) → is_reduction o ≡ true → width1 (one_of o) u ≡ 1
 bit_width1 Not u h = cc
 bit_width1 Neg u h = cc
-bit_width1 AllOnes u h = refl
-bit_width1 AnyOne u h = refl
-bit_width1 Odd u h = refl
+bit_width1 _ u h = refl
 
 pub unary_fitted : (w : World) (o : UnaryOperator) (r : Bool) → is_reduction o ≡ r → (mine asked : Option ℕ) (t : Term ℕ)
     → unsettled (if r then Some 1 else mine) asked ≡ false
@@ -59,75 +54,36 @@ unary_fitted w o false i mine asked t s f =
     record { settles = s; wide = u.1 ∙ ap (λ n. Some n) (sym (plain_width1 o (width_of w t) i ∙ v)); fine = f.fine; fits = f.fits; indexed = f.indexed }
 
 shift_width2 : (o : BinaryOperator) (u : ℕ) → family o ≡ Shift → width2 (two_of o) u ≡ u
-shift_width2 Shl u h = refl
-shift_width2 Shr u h = refl
-shift_width2 Or u h = refl
-shift_width2 Xor u h = refl
-shift_width2 And u h = refl
-shift_width2 Add u h = refl
-shift_width2 Sub u h = refl
-shift_width2 Mul u h = refl
 shift_width2 Eq u h = cc
 shift_width2 Ne u h = cc
 shift_width2 Lt u h = cc
 shift_width2 Le u h = cc
+shift_width2 _ u h = refl
 
 plain_width2 : (o : BinaryOperator) (u : ℕ) → family o ≡ Arithmetic → width2 (two_of o) u ≡ u
-plain_width2 Or u h = refl
-plain_width2 Xor u h = refl
-plain_width2 And u h = refl
-plain_width2 Add u h = refl
-plain_width2 Sub u h = refl
-plain_width2 Mul u h = refl
-plain_width2 Shl u h = refl
-plain_width2 Shr u h = refl
 plain_width2 Eq u h = cc
 plain_width2 Ne u h = cc
 plain_width2 Lt u h = cc
 plain_width2 Le u h = cc
+plain_width2 _ u h = refl
 
 bit_width2 : (o : BinaryOperator) (u : ℕ) → family o ≡ Comparison → width2 (two_of o) u ≡ 1
 bit_width2 Eq u h = refl
 bit_width2 Ne u h = refl
 bit_width2 Lt u h = refl
 bit_width2 Le u h = refl
-bit_width2 Or u h = cc
-bit_width2 Xor u h = cc
-bit_width2 And u h = cc
-bit_width2 Add u h = cc
-bit_width2 Sub u h = cc
-bit_width2 Mul u h = cc
-bit_width2 Shl u h = cc
-bit_width2 Shr u h = cc
+bit_width2 _ u h = cc
 
 -- operands of one width fit every operator
 alike_fit : (o : BinaryOperator) (u v : ℕ) → v ≡ u → CountFits (two_of o) u v
-alike_fit Or u v h = h
-alike_fit Xor u v h = h
-alike_fit And u v h = h
-alike_fit Add u v h = h
-alike_fit Sub u v h = h
-alike_fit Mul u v h = h
 alike_fit Shl u v h = tt
 alike_fit Shr u v h = tt
-alike_fit Eq u v h = h
-alike_fit Ne u v h = h
-alike_fit Lt u v h = h
-alike_fit Le u v h = h
+alike_fit _ u v h = h
 
 count_fits : (o : BinaryOperator) (u v : ℕ) → family o ≡ Shift → CountFits (two_of o) u v
 count_fits Shl u v h = tt
 count_fits Shr u v h = tt
-count_fits Or u v h = cc
-count_fits Xor u v h = cc
-count_fits And u v h = cc
-count_fits Add u v h = cc
-count_fits Sub u v h = cc
-count_fits Mul u v h = cc
-count_fits Eq u v h = cc
-count_fits Ne u v h = cc
-count_fits Lt u v h = cc
-count_fits Le u v h = cc
+count_fits _ u v h = cc
 
 -- both operands of a comparison have the width of the one that has one
 compared : (w : World) (a b : Term ℕ) (left right : Option ℕ) → Fitted w a left (else_of left right) → Fitted w b right (else_of left right)

@@ -4,7 +4,7 @@ use Rattle.sap_tree.specs.Prelude.{Expression, literal, sized_literal, variable,
 use Rattle.sap_tree.specs.declared.version.Version.{Version}
 use Rattle.sap_names.specs.Prelude.{Lookup, sound_width, plain_width, register_width, cell_width, index_width, else_of, own, own_parts, own_binary, family, asked_left, asked_right, is_reduction, sliced, extended}
 use Rattle.sap_names.specs.declared.kind.Declared.{Declared}
-use Rattle.sap_names.specs.declared.kind.Declared.TheVariants.{Input, Register, Memory, State}
+use Rattle.sap_names.specs.declared.kind.Declared.TheVariants.{Input, Register, Memory}
 use Rattle.sap_names.specs.declared.kind.Family.{Family}
 use Rattle.sap_names.specs.declared.kind.Family.TheVariants.{Arithmetic, Shift, Comparison}
 use Rattle.sap_names.specs.Widths.{asked_count}
@@ -28,35 +28,24 @@ sound_ranges : (v : ℕ) → Ranges (sound_width v)
 sound_ranges v u h = let s = sound_is v u h in subst (λ (k : ℕ). IsWidth k) s.0 s.1
 
 plain_ranges : (o : Option Declared) → Ranges (plain_width o)
-plain_ranges None = range_none
 plain_ranges (Some (Input v)) = sound_ranges v
 plain_ranges (Some (Register v)) = sound_ranges v
-plain_ranges (Some (Memory v depth)) = range_none
-plain_ranges (Some State) = range_none
+plain_ranges _ = range_none
 
 pub register_ranges : (o : Option Declared) → Ranges (register_width o)
-register_ranges None = range_none
-register_ranges (Some (Input v)) = range_none
 register_ranges (Some (Register v)) = sound_ranges v
-register_ranges (Some (Memory v depth)) = range_none
-register_ranges (Some State) = range_none
+register_ranges _ = range_none
 
 pub cell_ranges : (o : Option Declared) → Ranges (cell_width o)
-cell_ranges None = range_none
-cell_ranges (Some (Input v)) = range_none
-cell_ranges (Some (Register v)) = range_none
 cell_ranges (Some (Memory v depth)) = sound_ranges v
-cell_ranges (Some State) = range_none
+cell_ranges _ = range_none
 
 pub index_ranges : (o : Option Declared) → Ranges (index_width o)
-index_ranges None = range_none
-index_ranges (Some (Input v)) = range_none
-index_ranges (Some (Register v)) = range_none
 index_ranges (Some (Memory v depth)) =
     λ u h. (let p = index_power depth u h in
     let l : u ≤ 12 = p.1 in
     (p.0, omega arith))
-index_ranges (Some State) = range_none
+index_ranges _ = range_none
 
 pub else_ranges : (a b : Option ℕ) → Ranges a → Ranges b → Ranges (else_of a b)
 else_ranges None b r s = s
@@ -76,9 +65,8 @@ binary_ranges Shift a b r s = r
 binary_ranges Comparison a b r s = range_one
 
 pub left_ranges : (k : Family) (whole a b : Option ℕ) → Ranges whole → Ranges a → Ranges b → Ranges (asked_left k whole a b)
-left_ranges Arithmetic whole a b q r s = q
-left_ranges Shift whole a b q r s = q
 left_ranges Comparison whole a b q r s = else_ranges a b r s
+left_ranges _ whole a b q r s = q
 
 count_ranges : (b : Option ℕ) → Ranges (asked_count b)
 count_ranges None = range_some 64 (omega arith, omega arith)

@@ -1,6 +1,6 @@
 -- In the commands and states of a design without faults every width is from 1 to 64.
 use Rattle.sap_lemmas.proofs.Common.{◌≡◌, ℕ, ◌+◌, List, [], Bool, true, ◌&&◌, Option, Some, None, length, nat_le, three_parts, and_parts}
-use Rattle.sap_tree.specs.Prelude.{fits, tag_fits, most_blocks, Expression, TagExpression, level_of, tag_at, level_at, join_of, TagExpressions, no_tag, and_tag, SimpleCommand, assign, write, set_tag, set_cell_tag, go_to, fall_to_child, CommandBlock, StateTree, state_node, StateList, no_state, and_state, is_expression, is_tag, are_tags, has_two_tags, is_outermost, is_outermost_tag, is_simple, is_block, block_depth, is_kind, is_state, are_states, is_name}
+use Rattle.sap_tree.specs.Prelude.{fits, tag_fits, most_blocks, Expression, TagExpression, level_of, tag_at, level_at, join_of, TagExpressions, no_tag, and_tag, SimpleCommand, assign, write, set_tag, set_cell_tag, CommandBlock, StateTree, state_node, StateList, no_state, and_state, is_expression, is_tag, are_tags, has_two_tags, is_outermost, is_outermost_tag, is_simple, is_block, block_depth, is_kind, is_state, are_states, is_name}
 use Rattle.sap_tree.specs.declared.version.Version.{Version}
 use Rattle.sap_lattice.specs.Levels.{Levels}
 use Rattle.sap_names.specs.Prelude.{what_is, name_faults, expression_faults, tag_faults, tags_faults, simple_faults, block_faults, kind_faults, state_faults, states_faults, register_width, cell_width, index_width}
@@ -74,8 +74,7 @@ module _ (version : Version) (ls : Levels) (h : Surroundings) (w : World) (r : R
       let j = three_parts (is_name version target.name) (is_outermost version index) (is_outermost_tag version tag) i in
       let n = none_three (name_faults indexed what target) (expression_faults what index (index_width (what target.name))) (tag_faults ls.names what tag) f in
       (outer_ranged version ls es w r index (index_width (what target.name)) j.1 (index_ranges (what target.name)) n.1, outer_tag_ranged version ls es w r tag j.2 n.2)
-  step_ranged k (go_to place target) i f = tt
-  step_ranged k (fall_to_child place) i f = tt
+  step_ranged k _ i f = tt
 
   pub block_ranged : (k : ℕ) (b : CommandBlock) → is_block version b ≡ true → block_faults ls.names what b ≡ [] → RangedBlock w (block_of ls h k b)
   block_ranged k b i f =

@@ -6,7 +6,7 @@ use Rattle.sap_names.specs.Prelude.{entities_of, sound_width, index_bits, is_sou
 use Rattle.sap_names.specs.declared.kind.Declared.{Declared}
 use Rattle.sap_names.specs.declared.kind.Declared.TheVariants.{Input, Register, Memory, State}
 use Rattle.sap_names.specs.declared.entity.Entity as declared_entity
-use Rattle.sap_meaning.specs.Prelude.{World, Entity, nothing, root, kind_is_state, kind_is_memory, depth_of, Step, assign, write, retag, retag_cell, go_to, fall_to_child, Group, Home}
+use Rattle.sap_meaning.specs.Prelude.{World, Entity, nothing, root, kind_is_state, kind_is_memory, depth_of, Step, assign, Group, Home}
 use Rattle.sap_meaning.specs.Program as program
 use Rattle.sap_resolved.specs.Worlds.{world_of}
 use Rattle.sap_resolved.specs.Resolve.{states_of}
@@ -23,11 +23,7 @@ use Rattle.sap_resolved.proofs.sized.Programs.{faultless}
 module _ (w : World) where
   filled_step_ranged : (at : Home) (k : Step) → RangedStep w k → RangedStep w (filled_step w at k)
   filled_step_ranged at (assign site x e) h = h
-  filled_step_ranged at (write site m i e) h = h
-  filled_step_ranged at (retag site x n) h = h
-  filled_step_ranged at (retag_cell site m j n) h = h
-  filled_step_ranged at (go_to site target) h = h
-  filled_step_ranged at (fall_to_child site hang) h = h
+  filled_step_ranged at _ h = h
 
   pub filled_group_ranged : (p : ℕ) (g : Group) → RangedGroup w g → RangedGroup w (filled_group w p g)
   filled_group_ranged p g h = every_filled_group w (RangedStep w) (RangedStep w) (RangedTerm w) filled_step_ranged p g h
