@@ -9,7 +9,7 @@ use Rattle.sap_tree.specs.declared.syntax.Kind.{Kind}
 use Rattle.sap_tree.specs.Points as points
 use Rattle.sap_tree.specs.Touches as tree
 use Rattle.sap_lattice.specs.Levels.{Levels, order_of}
-use Rattle.sap_names.specs.Prelude.{entities_of, what_is, name_faults, expression_faults, simple_faults, command_faults, block_faults, else_faults, arms_faults, constants_faults, commands_faults, kind_faults, state_faults, states_faults, declarations_faults, twice, own as own_of, index_width, register_width, cell_width}
+use Rattle.sap_names.specs.Prelude.{entities_of, what_is, name_faults, expression_faults, simple_faults, command_faults, block_faults, else_faults, arms_faults, constants_faults, commands_faults, kind_faults, state_faults, states_faults, declarations_faults, twice, own as own_of, register_width}
 use Rattle.sap_names.specs.declared.entity.Entity.{Entity}
 use Rattle.sap_names.specs.declared.kind.Declared.{Declared}
 use Rattle.sap_names.specs.declared.kind.Use.TheVariants.{Assigned as assigning, Indexed as indexed}
@@ -92,8 +92,7 @@ module _ (ls : Levels) (le : ℕ → ℕ → Bool) (ds : List Decl) (es : List E
         let p = none_two (name_faults assigning means target) (expression_faults means e (register_width (means target.name))) f in
         stored (entity_number es target.name) target.name (k.named assigning target.name target.place p.0) (or_left _ _ (kinds.register target.name target.place p.0))
     simple_same m (write target index e) f =
-        let p = none_three (name_faults indexed means target) (expression_faults means index (index_width (means target.name)))
-        (expression_faults means e (cell_width (means target.name))) f in
+        let p = none_three _ _ _ f in
         stored (entity_number es target.name) target.name (k.named indexed target.name target.place p.0) (or_right _ _ (kinds.memory target.name target.place p.0))
     simple_same m _ f = both_none (is_dynamic_store ds n) (is_dynamic w x)
 

@@ -1,6 +1,7 @@
 -- Resolving keeps expressions, commands and states in which no fault of names and widths stands.
 use Rattle.sap_lemmas.proofs.Common.{◌≡◌, ℕ, suc, ◌+◌, ◌-◌, ◌≤◌, Bool, true, false, not, ◌&&◌, List, [], Option, Some, None, refl, sym, ap, ◌∙◌, subst, arith, inl, inr, if◌then◌else◌, length, eqb, eqb-true}
 use Rattle.sap_names.proofs.NameFaultsLemmas.{no_fault}
+use Rattle.sap_names.proofs.FaultLemmas.{nil_left, nil_right}
 use Rattle.sap_tree.specs.Syntax.{Expression, literal, sized_literal, variable, cell_at, unary_of, binary_of, choice, slice, concat, zero_extend, Expressions, no_part, and_part, TagExpression, level_of, tag_at, level_at, join_of, TagExpressions, no_tag, and_tag, SimpleCommand, assign, write, set_tag, set_cell_tag, go_to, fall_to_child, Command, lone, try, if_else, try_then, case_of, Arms, last_arm, and_arm, CommandBlock, command_block, ElseBlock, no_else, with_else, CommandList, no_command, and_command, StateTree, state_node, StateList, no_state, and_state}
 use Rattle.sap_tree.specs.declared.name.Mention.{Mention}
 use Rattle.sap_tree.specs.declared.syntax.Under.{Under}
@@ -9,12 +10,12 @@ use Rattle.sap_tree.specs.declared.syntax.Kind.TheVariants.{Dynamic, Enforced}
 use Rattle.sap_text.specs.declared.place.Place.{Place}
 use Rattle.sap_lattice.specs.Levels.{Levels}
 use Rattle.sap_maps.specs.Term.{Term, constant, join}
-use Rattle.sap_names.specs.Prelude.{what_is, fault_if, unsettled, too_large, use_faults, name_faults, expression_faults, parts_faults, level_faults, tag_faults, tags_faults, simple_faults, command_faults, block_faults, else_faults, arms_faults, constants_faults, commands_faults, under_faults, kind_faults, state_faults, states_faults, own, width_of, family, asked_left, asked_right, asked_one, index_width, register_width, cell_width, sound_width, is_sound, all_sound}
+use Rattle.sap_names.specs.Prelude.{what_is, fault_if, unsettled, use_faults, name_faults, expression_faults, parts_faults, level_faults, tag_faults, tags_faults, simple_faults, command_faults, block_faults, else_faults, arms_faults, constants_faults, commands_faults, under_faults, kind_faults, state_faults, states_faults, own, width_of, family, asked_left, asked_right, asked_one, index_width, register_width, cell_width, is_sound}
 use Rattle.sap_names.specs.declared.entity.Entity.{Entity}
 use Rattle.sap_names.specs.declared.kind.Declared.{Declared}
 use Rattle.sap_names.specs.declared.kind.Use.{Use as Uses}
 use Rattle.sap_names.specs.declared.kind.Use.TheVariants.{Assigned as assigned, Indexed as indexed, Read as reading, Entered as entered, Retagged as retagged}
-use Rattle.sap_names.specs.declared.kind.Code.TheVariants.{E7, E8}
+use Rattle.sap_names.specs.declared.kind.Code.TheVariants.{E7}
 use Rattle.sap_meaning.specs.Prelude.{World, entity, kind_is_state, Home}
 use Rattle.sap_meaning.specs.Program as program
 use Rattle.sap_resolved.specs.Worlds.{states_in, declared_level, authority_level, authority_of, is_dynamic_kind}
@@ -40,54 +41,26 @@ widened_is es e width u t o l h spot = subst (λ (m : Option ℕ). IsTerm es (ze
     both true i = inl (o ∙ ap (λ (n : ℕ). Some n) (eqb-true u width i), h)
     both false i = inr (u, width - u, t, o, omega arith, refl, h)
 
+-- a width that settles where none is asked for
+first_width : (o : Option ℕ) (place : Place) → fault_if (unsettled o None) E7 place ≡ [] → (u : ℕ) × (o ≡ Some u)
+first_width o place h = settled_own o (no_fault (unsettled o None) E7 place h)
+
 module _ (es : List Entity) (k : Known es) where
   abbrev what : List ℕ → Option Declared
   what = what_is es
 
   -- an expression of which no width is asked has one
   own_width : (e : Expression) → expression_faults what e None ≡ [] → (u : ℕ) × (own what e ≡ Some u)
-  own_width (literal spot value) h =
-      let n = none_two (fault_if (unsettled None None) E7 spot.first) (fault_if (too_large None value) E8 spot.at) h in
-      settled_own None (no_fault (unsettled None None) E7 spot.first n.0)
-  own_width (sized_literal spot width value) h =
-      let n = none_three (fault_if (unsettled (sound_width width) None) E7 spot.first) (fault_if (not (is_sound (sound_width width))) E7 spot.at)
-      (fault_if (too_large (sound_width width) value) E8 spot.at) h in
-      settled_own (sound_width width) (no_fault (unsettled (sound_width width) None) E7 spot.first n.0)
-  own_width (variable spot name) h =
-      let o = own what (variable spot name) in
-      settled_own o (no_fault (unsettled o None) E7 spot.first (none_two (fault_if (unsettled o None) E7 spot.first) (use_faults reading (what name) spot.at) h).0)
-  own_width (cell_at spot name index) h =
-      let o = own what (cell_at spot name index) in
-      settled_own o (no_fault (unsettled o None) E7 spot.first
-      (none_three (fault_if (unsettled o None) E7 spot.first) (use_faults indexed (what name) spot.at) (expression_faults what index (index_width (what name))) h).0)
-  own_width (unary_of spot operator e) h =
-      let o = own what (unary_of spot operator e) in
-      settled_own o (no_fault (unsettled o None) E7 spot.first
-      (none_two (fault_if (unsettled o None) E7 spot.first) (expression_faults what e (asked_one operator (width_of what (unary_of spot operator e) None))) h).0)
-  own_width (binary_of spot operator a b) h =
-      let o = own what (binary_of spot operator a b) in
-      let whole = width_of what (binary_of spot operator a b) None in
-      settled_own o (no_fault (unsettled o None) E7 spot.first
-      (none_three (fault_if (unsettled o None) E7 spot.first)
-      (expression_faults what a (asked_left (family operator) whole (own what a) (own what b)))
-      (expression_faults what b (asked_right (family operator) whole (own what a) (own what b))) h).0)
-  own_width (choice spot c a b) h =
-      let o = own what (choice spot c a b) in
-      let whole = width_of what (choice spot c a b) None in
-      settled_own o (no_fault (unsettled o None) E7 spot.first
-      (none_four (fault_if (unsettled o None) E7 spot.first) (expression_faults what c (Some 1)) (expression_faults what a whole) (expression_faults what b whole) h).0)
-  own_width (slice spot e high low) h =
-      let o = own what (slice spot e high low) in
-      settled_own o (no_fault (unsettled o None) E7 spot.first
-      (none_three (fault_if (unsettled o None) E7 spot.first) (fault_if (not (is_sound o) && is_sound (own what e)) E7 spot.first) (expression_faults what e None) h).0)
-  own_width (concat spot parts) h =
-      let o = own what (concat spot parts) in
-      settled_own o (no_fault (unsettled o None) E7 spot.first
-      (none_three (fault_if (unsettled o None) E7 spot.first) (fault_if (not (is_sound o) && all_sound what parts) E7 spot.first) (parts_faults what parts) h).0)
-  own_width (zero_extend spot e width) h =
-      let o = own what (zero_extend spot e width) in
-      settled_own o (no_fault (unsettled o None) E7 spot.first
-      (none_three (fault_if (unsettled o None) E7 spot.first) (fault_if (not (is_sound o) && is_sound (own what e)) E7 spot.first) (expression_faults what e None) h).0)
+  own_width (literal spot value) h = first_width None spot.first (nil_left _ _ h)
+  own_width (sized_literal spot width value) h = first_width (own what (sized_literal spot width value)) spot.first (nil_left _ _ (nil_left _ _ h))
+  own_width (variable spot name) h = first_width (own what (variable spot name)) spot.first (nil_left _ _ h)
+  own_width (cell_at spot name index) h = first_width (own what (cell_at spot name index)) spot.first (nil_left _ _ (nil_left _ _ h))
+  own_width (unary_of spot operator e) h = first_width (own what (unary_of spot operator e)) spot.first (nil_left _ _ h)
+  own_width (binary_of spot operator a b) h = first_width (own what (binary_of spot operator a b)) spot.first (nil_left _ _ (nil_left _ _ h))
+  own_width (choice spot c a b) h = first_width (own what (choice spot c a b)) spot.first (nil_left _ _ (nil_left _ _ (nil_left _ _ h)))
+  own_width (slice spot e high low) h = first_width (own what (slice spot e high low)) spot.first (nil_left _ _ (nil_left _ _ h))
+  own_width (concat spot parts) h = first_width (own what (concat spot parts)) spot.first (nil_left _ _ (nil_left _ _ h))
+  own_width (zero_extend spot e width) h = first_width (own what (zero_extend spot e width)) spot.first (nil_left _ _ (nil_left _ _ h))
 
   mutual
     pub term_kept : (e : Expression) (asked : Option ℕ) → expression_faults what e asked ≡ [] → IsTerm es e (term_of es e asked)
@@ -96,8 +69,7 @@ module _ (es : List Entity) (k : Known es) where
     term_kept (variable spot name) asked h =
         k.named reading name spot.at (none_two (fault_if (unsettled (own what (variable spot name)) asked) E7 spot.first) (use_faults reading (what name) spot.at) h).1
     term_kept (cell_at spot name index) asked h =
-        let n = none_three (fault_if (unsettled (own what (cell_at spot name index)) asked) E7 spot.first) (use_faults indexed (what name) spot.at)
-        (expression_faults what index (index_width (what name))) h in
+        let n = none_three _ _ _ h in
         (k.named indexed name spot.at n.1, term_kept index (index_width (what name)) n.2)
     term_kept (unary_of spot operator e) asked h =
         let inner = asked_one operator (width_of what (unary_of spot operator e) asked) in
@@ -107,28 +79,17 @@ module _ (es : List Entity) (k : Known es) where
         let whole = width_of what (binary_of spot operator a b) asked in
         let left = asked_left (family operator) whole (own what a) (own what b) in
         let right = asked_right (family operator) whole (own what a) (own what b) in
-        let n = none_three (fault_if (unsettled (own what (binary_of spot operator a b)) asked) E7 spot.first) (expression_faults what a left)
-        (expression_faults what b right) h in
+        let n = none_three _ _ _ h in
         (refl, term_kept a left n.1, term_kept b right n.2)
     term_kept (choice spot c a b) asked h =
         let whole = width_of what (choice spot c a b) asked in
-        let n = none_four (fault_if (unsettled (own what (choice spot c a b)) asked) E7 spot.first) (expression_faults what c (Some 1))
-        (expression_faults what a whole) (expression_faults what b whole) h in
+        let n = none_four _ _ _ _ h in
         (term_kept c (Some 1) n.1, term_kept a whole n.2, term_kept b whole n.3)
-    term_kept (slice spot e high low) asked h =
-        let o = own what (slice spot e high low) in
-        let n = none_three (fault_if (unsettled o asked) E7 spot.first) (fault_if (not (is_sound o) && is_sound (own what e)) E7 spot.first)
-        (expression_faults what e None) h in
-        (term_kept e None n.2, refl, refl)
-    term_kept (concat spot parts) asked h =
-        let o = own what (concat spot parts) in
-        let n = none_three (fault_if (unsettled o asked) E7 spot.first) (fault_if (not (is_sound o) && all_sound what parts) E7 spot.first)
-        (parts_faults what parts) h in
-        parts_kept parts n.2
+    term_kept (slice spot e high low) asked h = (term_kept e None (nil_right _ _ h), refl, refl)
+    term_kept (concat spot parts) asked h = parts_kept parts (nil_right _ _ h)
     term_kept (zero_extend spot e width) asked h =
         let o = own what (zero_extend spot e width) in
-        let n = none_three (fault_if (unsettled o asked) E7 spot.first) (fault_if (not (is_sound o) && is_sound (own what e)) E7 spot.first)
-        (expression_faults what e None) h in
+        let n = none_three _ _ _ h in
         let u = own_width e n.2 in
         let s = sound_whole o (is_sound (own what e)) (no_fault (not (is_sound o) && is_sound (own what e)) E7 spot.first n.1)
         (some_sound (own what e) u.0 u.1) in

@@ -67,6 +67,7 @@ module _ (ls : Levels) (h : Surroundings) where
     last_command k (lone c) after f = last_step (site_number h k c) c after f
     last_command k (try (go_to p target) place b) after f = (refl, closed_body (k + length (simple_sites h (go_to p target))) b f)
     last_command k (try (fall_to_child p) place b) after f = (refl, closed_body (k + length (simple_sites h (fall_to_child p))) b f)
+    last_command k (try _ place b) after f = cc
     last_command k (if_else place e b other) after f = (
       closed_body k b (nil_left _ _ f),
       closed_else (k + length (block_sites h b)) other place (nil_right _ _ f),
@@ -75,7 +76,6 @@ module _ (ls : Levels) (h : Surroundings) where
         let t = then_step (site_number h k c) c place (closing_faults a ++ closing_faults b) f in
         (t.0, closed_body (k + length (simple_sites h c)) a (nil_left _ _ t.1), closed_body (k + length (simple_sites h c) + length (block_sites h a)) b (nil_right _ _ t.1))
     last_command k (case_of place e arms) after f = closed_arms k arms f
-    last_command k _ after f = cc
 
     closed_arms : (k : ℕ) (arms : Arms) → closing_arms_faults arms ≡ [] → ClosingArms (arms_of ls h k arms)
     closed_arms k (last_arm b) f = closed_body k b f

@@ -92,14 +92,12 @@ module _ (r x : ℕ) where
       state_assigned : (k n : ℕ) (t : StateTree) → ((name : List ℕ) → entity_number es name < r) → Low (state_assigns (state_of ls es k n t) x)
       state_assigned k n (state_node place name kind body children) bound =
           let h : Surroundings = record { entities = es; home = record { name = name.name; kind = kind; children = children } } in
-          low_or (block_assigns (block_of ls h k body) x) (group_assigns (group_of ls es (k + length (block_sites h body)) (n + 1) children) x)
-          (block_assigned ls h bound k body) (group_assigned (k + length (block_sites h body)) (n + 1) children bound)
+          low_or _ _ (block_assigned ls h bound k body) (group_assigned (k + length (block_sites h body)) (n + 1) children bound)
 
       group_assigned : (k n : ℕ) (g : StateList) → ((name : List ℕ) → entity_number es name < r) → Low (group_assigns (group_of ls es k n g) x)
       group_assigned k n no_state bound = low_false
       group_assigned k n (and_state t rest) bound =
-          low_or (state_assigns (state_of ls es k n t) x) (group_assigns (group_of ls es (k + length (state_sites es t)) (n + states_in t) rest) x)
-          (state_assigned k n t bound) (group_assigned (k + length (state_sites es t)) (n + states_in t) rest bound)
+          low_or _ _ (state_assigned k n t bound) (group_assigned (k + length (state_sites es t)) (n + states_in t) rest bound)
 
     group_low : (k n : ℕ) (g : StateList) → n + states_below g ≤ r → Low (among (group_of ls es k n g) x)
     group_low k n no_state h = low_false
@@ -107,7 +105,7 @@ module _ (r x : ℕ) where
         let t : StateTree = state_node place name kind body children in
         let own : n < r = omega arith in
         let later : (n + states_in t) + states_below rest ≤ r = omega arith in
-        low_or (nat_eq x n) (among (group_of ls es (k + length (state_sites es t)) (n + states_in t) rest) x) (low_equal n own)
+        low_or _ _ (low_equal n own)
         (group_low (k + length (state_sites es t)) (n + states_in t) rest later)
 
 module _ (ls : Levels) (w : World) where

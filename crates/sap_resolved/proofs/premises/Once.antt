@@ -1,5 +1,6 @@
 -- Where no path writes a memory twice, no memory is written after it was written, with numbers for names.
-use Rattle.sap_lemmas.proofs.Common.{◌≡◌, ℕ, ◌+◌, Option, Bool, true, false, ◌&&◌, ◌||◌, List, [], ◌∷◌, ◌++◌, if◌then◌else◌, refl, ap, ◌∙◌, subst, nat_eq, inl, inr, bytes_eq, length, bytes_eq_same, eqb-true, false_from_ne_true, or_cases, or_from, or_left, or_right}
+use Rattle.sap_lemmas.proofs.Common.{◌≡◌, ℕ, ◌+◌, Option, Bool, true, false, ◌&&◌, List, [], ◌∷◌, ◌++◌, if◌then◌else◌, refl, ap, ◌∙◌, subst, nat_eq, inl, inr, bytes_eq, length, bytes_eq_same, eqb-true, false_from_ne_true, or_cases, or_from, or_left, or_right}
+use Rattle.sap_lemmas.proofs.Bools.{either_follows}
 use Rattle.sap_names.proofs.NameFaultsLemmas.{no_fault}
 use Rattle.sap_names.proofs.FaultLemmas.{nil_left, nil_right}
 use Rattle.sap_tree.specs.Syntax.{SimpleCommand, write, set_cell_tag, fall_to_child, Command, lone, try, if_else, try_then, case_of, Arms, last_arm, and_arm, CommandBlock, command_block, ElseBlock, no_else, with_else, CommandList, no_command, and_command, StateTree, state_node, StateList, no_state, and_state}
@@ -64,29 +65,19 @@ module _ (ls : Levels) (levels : List (List ℕ)) (h : Surroundings) (w : World)
           → reaching falls (command_of ls h k c) m ≡ true → (found c p).past (name_at h.entities m) ≡ true
       command_written k (lone c) f o m p i = open_written (site_number h k c) c f o m p i
       command_written k (try c place b) f o m p i =
-          elim (or_cases (step_reaching falls (step_of ls h (site_number h k c) c) m) (block_reaching falls (block_of ls h (k + length (simple_sites h c)) b) m) i) [
-            | inl j ↦ or_left _ _
-                (open_written (site_number h k c) c (nil_left _ _ f) (nil_left _ _ o) m p j)
-            | inr j ↦ or_right _ _
-                (block_written (k + length (simple_sites h c)) b (nil_right _ _ f) (nil_right _ _ o) m (past_simple c p) j)
-          ]
+          either_follows _ _ _ _ (open_written (site_number h k c) c (nil_left _ _ f) (nil_left _ _ o) m p)
+          (block_written (k + length (simple_sites h c)) b (nil_right _ _ f) (nil_right _ _ o) m (past_simple c p)) i
       command_written k (if_else place e b other) f o m p i =
-          elim (or_cases (block_reaching falls (block_of ls h k b) m) (block_reaching falls (else_of ls h (k + length (block_sites h b)) other) m) i) [
-            | inl j ↦ or_left _ _ (block_written k b (if_first levels What place e b other f) (nil_left _ _ o) m p j)
-            | inr j ↦ or_right _ _ (else_written (k + length (block_sites h b)) other (if_other levels What place e b other f) (nil_right _ _ o) m p j)
-          ]
+          either_follows _ _ _ _ (block_written k b (if_first levels What place e b other f) (nil_left _ _ o) m p)
+          (else_written (k + length (block_sites h b)) other (if_other levels What place e b other f) (nil_right _ _ o) m p) i
       command_written k (try_then c place a b) f o m p i =
           let q = past_simple c p in
           let x = k + length (simple_sites h c) in
-          let y = x + length (block_sites h a) in
           let opened = then_parts c place (open_block_faults a ++ open_block_faults b) o in
-          elim (or_cases (step_reaching falls (step_of ls h (site_number h k c) c) m) (block_reaching falls (block_of ls h x a) m
-          || block_reaching falls (block_of ls h y b) m) i) [
+          elim (or_cases _ _ i) [
             | inl j ↦ or_left _ _ (kept (of_block a) (block_follows a) (name_at h.entities m) q (open_written (site_number h k c) c (nil_left _ _ (nil_left _ _ f)) opened.0 m p j))
-            | inr j ↦ elim (or_cases (block_reaching falls (block_of ls h x a) m) (block_reaching falls (block_of ls h y b) m) j) [
-              | inl t ↦ or_left _ _ (block_written x a (nil_right _ _ (nil_left _ _ f)) (nil_left _ _ opened.1) m q t)
-              | inr t ↦ or_right _ _ (block_written y b (nil_right _ _ f) (nil_right _ _ opened.1) m q t)
-            ]
+            | inr j ↦ either_follows _ _ _ _ (block_written x a (nil_right _ _ (nil_left _ _ f)) (nil_left _ _ opened.1) m q)
+                (block_written (x + length (block_sites h a)) b (nil_right _ _ f) (nil_right _ _ opened.1) m q) j
           ]
       command_written k (case_of place e arms) f o m p i = arms_written (own What e) k arms (nil_right _ _ f) o m p i
 
@@ -94,10 +85,8 @@ module _ (ls : Levels) (levels : List (List ℕ)) (h : Surroundings) (w : World)
           → arms_reaching falls (arms_of ls h k arms) m ≡ true → (found_in_arms arms p).past (name_at h.entities m) ≡ true
       arms_written asked k (last_arm b) f o m p i = block_written k b f o m p i
       arms_written asked k (and_arm constants b arms) f o m p i =
-          elim (or_cases (block_reaching falls (block_of ls h k b) m) (arms_reaching falls (arms_of ls h (k + length (block_sites h b)) arms) m) i) [
-            | inl j ↦ or_left _ _ (block_written k b (nil_right _ _ (nil_left _ _ f)) (nil_left _ _ o) m p j)
-            | inr j ↦ or_right _ _ (arms_written asked (k + length (block_sites h b)) arms (nil_right _ _ f) (nil_right _ _ o) m p j)
-          ]
+          either_follows _ _ _ _ (block_written k b (nil_right _ _ (nil_left _ _ f)) (nil_left _ _ o) m p)
+          (arms_written asked (k + length (block_sites h b)) arms (nil_right _ _ f) (nil_right _ _ o) m p) i
 
       block_written : (k : ℕ) (b : CommandBlock) → Fits b → open_block_faults b ≡ [] → (m : ℕ) (p : Written)
           → block_reaching falls (block_of ls h k b) m ≡ true → (found_in_block b p).past (name_at h.entities m) ≡ true
@@ -112,7 +101,7 @@ module _ (ls : Levels) (levels : List (List ℕ)) (h : Surroundings) (w : World)
           → block_reaching falls (list_of ls h k cs) m ≡ true → (found_in_list cs p).past (name_at h.entities m) ≡ true
       list_written k no_command f o m p i = cc
       list_written k (and_command c cs) f o m p i =
-          elim (or_cases (reaching falls (command_of ls h k c) m) (block_reaching falls (list_of ls h (k + length (command_sites h c)) cs) m) i) [
+          elim (or_cases _ _ i) [
             | inl j ↦ kept (of_list cs) (list_follows cs) (name_at h.entities m) (found c p).past
                 (command_written k c (nil_left _ _ f) (nil_left _ _ o) m p j)
             | inr j ↦ list_written (k + length (command_sites h c)) cs (nil_right _ _ f) (nil_right _ _ o) m (found c p).past j
@@ -143,14 +132,12 @@ module _ (ls : Levels) (levels : List (List ℕ)) (h : Surroundings) (w : World)
             → Safe ((found c p).entering (name_at h.entities m)) → reaching falls (command_of ls h k c) m ≡ false
         command_unreached k (lone c) f p i s d = step_unreached (site_number h k c) c f p i s d
         command_unreached k (try c place b) f p i s d =
-            or_from (step_reaching falls (step_of ls h (site_number h k c) c) m) (block_reaching falls (block_of ls h (k + length (simple_sites h c)) b) m)
-            (step_unreached (site_number h k c) c (nil_left _ _ f) p i (nil_left _ _ s)
+            or_from _ _ (step_unreached (site_number h k c) c (nil_left _ _ f) p i (nil_left _ _ s)
             (λ j. d (or_left _ _ j)))
             (body_unreached (k + length (simple_sites h c)) b (nil_right _ _ f) (past_simple c p) (past_before c p (name_at h.entities m) i)
             (nil_right _ _ s) (λ j. d (or_right _ _ j)))
         command_unreached k (if_else place e b other) f p i s d =
-            or_from (block_reaching falls (block_of ls h k b) m) (block_reaching falls (else_of ls h (k + length (block_sites h b)) other) m)
-            (body_unreached k b (if_first levels What place e b other f) p i (nil_left _ _ s) (λ j. d (or_left _ _ j)))
+            or_from _ _ (body_unreached k b (if_first levels What place e b other f) p i (nil_left _ _ s) (λ j. d (or_left _ _ j)))
             (else_unreached (k + length (block_sites h b)) other (if_other levels What place e b other f) p i (nil_right _ _ s) (λ j. d (or_right _ _ j)))
         command_unreached k (try_then c place a b) f p i s d =
             let q = past_simple c p in
@@ -158,10 +145,8 @@ module _ (ls : Levels) (levels : List (List ℕ)) (h : Surroundings) (w : World)
             let blocks : (found_in_block a q).again ++ (found_in_block b q).again ≡ [] = nil_right (second_simple c p) _ s in
             let x = k + length (simple_sites h c) in
             let y = x + length (block_sites h a) in
-            or_from (step_reaching falls (step_of ls h (site_number h k c) c) m) (block_reaching falls (block_of ls h x a) m || block_reaching falls (block_of ls h y b) m)
-            (step_unreached (site_number h k c) c (nil_left _ _ (nil_left _ _ f)) p i (nil_left _ _ s) (λ j. d (or_left _ _ j)))
-            (or_from (block_reaching falls (block_of ls h x a) m) (block_reaching falls (block_of ls h y b) m)
-            (body_unreached x a (nil_right _ _ (nil_left _ _ f)) q behind (nil_left _ _ blocks) (λ j. d (or_right _ _ (or_left _ _ j))))
+            or_from _ _ (step_unreached (site_number h k c) c (nil_left _ _ (nil_left _ _ f)) p i (nil_left _ _ s) (λ j. d (or_left _ _ j)))
+            (or_from _ _ (body_unreached x a (nil_right _ _ (nil_left _ _ f)) q behind (nil_left _ _ blocks) (λ j. d (or_right _ _ (or_left _ _ j))))
             (body_unreached y b (nil_right _ _ f) q behind (nil_right _ _ blocks) (λ j. d (or_right _ _ (or_right _ _ j)))))
         command_unreached k (case_of place e arms) f p i s d = arms_unreached (own What e) k arms (nil_right _ _ f) p i s d
 
@@ -169,8 +154,7 @@ module _ (ls : Levels) (levels : List (List ℕ)) (h : Surroundings) (w : World)
             → (found_in_arms arms p).again ≡ [] → Safe ((found_in_arms arms p).entering (name_at h.entities m)) → arms_reaching falls (arms_of ls h k arms) m ≡ false
         arms_unreached asked k (last_arm b) f p i s d = body_unreached k b f p i s d
         arms_unreached asked k (and_arm constants b arms) f p i s d =
-            or_from (block_reaching falls (block_of ls h k b) m) (arms_reaching falls (arms_of ls h (k + length (block_sites h b)) arms) m)
-            (body_unreached k b (nil_right _ _ (nil_left _ _ f)) p i (nil_left _ _ s) (λ j. d (or_left _ _ j)))
+            or_from _ _ (body_unreached k b (nil_right _ _ (nil_left _ _ f)) p i (nil_left _ _ s) (λ j. d (or_left _ _ j)))
             (arms_unreached asked (k + length (block_sites h b)) arms (nil_right _ _ f) p i (nil_right _ _ s) (λ j. d (or_right _ _ j)))
 
         pub body_unreached : (k : ℕ) (b : CommandBlock) → Fits b → (p : Written) → p (name_at h.entities m) ≡ true → (found_in_block b p).again ≡ []
@@ -186,8 +170,7 @@ module _ (ls : Levels) (levels : List (List ℕ)) (h : Surroundings) (w : World)
             → (found_in_list cs p).again ≡ [] → Safe ((found_in_list cs p).entering (name_at h.entities m)) → block_reaching falls (list_of ls h k cs) m ≡ false
         list_unreached k no_command f p i s d = refl
         list_unreached k (and_command c cs) f p i s d =
-            or_from (reaching falls (command_of ls h k c) m) (block_reaching falls (list_of ls h (k + length (command_sites h c)) cs) m)
-            (command_unreached k c (nil_left _ _ f) p i (nil_left _ _ s)
+            or_from _ _ (command_unreached k c (nil_left _ _ f) p i (nil_left _ _ s)
             (λ j. d (or_left _ _ j)))
             (list_unreached (k + length (command_sites h c)) cs (nil_right _ _ f) (found c p).past (kept (of_command c) (command_follows c) (name_at h.entities m) p i)
             (nil_right _ _ s) (λ j. d (or_right _ _ j)))
@@ -328,8 +311,7 @@ module _ (ls : Levels) (levels : List (List ℕ)) (le : ℕ → ℕ → Bool) (e
         → second_states g p ≡ [] → group_reaches (group_of ls es k x g) m ≡ false
     group_unreached k x no_state f p i s = refl
     group_unreached k x (and_state t rest) f p i s =
-        or_from (state_reaches (state_of ls es k x t) m) (group_reaches (group_of ls es (k + length (state_sites es t)) (x + states_in t) rest) m)
-        (state_unreached k x t (nil_left _ _ f) p i (nil_left _ _ s))
+        or_from _ _ (state_unreached k x t (nil_left _ _ f) p i (nil_left _ _ s))
         (group_unreached (k + length (state_sites es t)) (x + states_in t) rest (nil_right _ _ f) p i (nil_right _ _ s))
 
 -- Where no path writes a memory twice, no body that a path comes to writes one after it was written.

@@ -96,22 +96,19 @@ module _ (ls : Levels) (levels : List (List ℕ)) (h : Surroundings) (w : World)
         → command_sites w x g (command_of ls h k c) ≡ placed ls k (shape.command_sites h c)
     command_placed k (lone c) f = step_placed k c f
     command_placed k (try c place b) f =
-        joined ls (step_sites w x g (step_of ls h (site_number h k c) c)) (block_sites w x g (block_of ls h (k + length (simple_sites h c)) b)) (simple_sites h c)
-        (shape.block_sites h b) k
+        joined ls _ _ _ _ k
         (step_placed k c (nil_left _ _ f))
         (block_placed (k + length (simple_sites h c)) b (nil_right _ _ f))
     command_placed k (if_else place e b other) f =
-        joined ls (block_sites w x g (block_of ls h k b)) (block_sites w x g (else_of ls h (k + length (shape.block_sites h b)) other)) (shape.block_sites h b)
-        (shape.else_sites h other) k
+        joined ls _ _ _ _ k
         (block_placed k b (if_first levels What place e b other f))
         (else_placed (k + length (shape.block_sites h b)) other (if_other levels What place e b other f))
     command_placed k (try_then c place a b) f =
         let i = k + length (simple_sites h c) in
         let j = i + length (shape.block_sites h a) in
-        joined ls (step_sites w x g (step_of ls h (site_number h k c) c)) (block_sites w x g (block_of ls h i a) ++ block_sites w x g (block_of ls h j b)) (simple_sites h c)
-        (shape.block_sites h a ++ shape.block_sites h b) k
+        joined ls _ _ _ _ k
         (step_placed k c (nil_left _ _ (nil_left _ _ f)))
-        (joined ls (block_sites w x g (block_of ls h i a)) (block_sites w x g (block_of ls h j b)) (shape.block_sites h a) (shape.block_sites h b) i
+        (joined ls _ _ _ _ i
         (block_placed i a (nil_right _ _ (nil_left _ _ f)))
         (block_placed j b (nil_right _ _ f)))
     command_placed k (case_of place e arms) f = arms_placed (own_width What e) k arms (nil_right _ _ f)
@@ -120,8 +117,7 @@ module _ (ls : Levels) (levels : List (List ℕ)) (h : Surroundings) (w : World)
         → arms_sites w x g (arms_of ls h k arms) ≡ placed ls k (shape.arms_sites h arms)
     arms_placed asked k (last_arm b) f = block_placed k b f
     arms_placed asked k (and_arm constants b arms) f =
-        joined ls (block_sites w x g (block_of ls h k b)) (arms_sites w x g (arms_of ls h (k + length (shape.block_sites h b)) arms)) (shape.block_sites h b)
-        (shape.arms_sites h arms) k
+        joined ls _ _ _ _ k
         (block_placed k b (nil_right _ _ (nil_left _ _ f)))
         (arms_placed asked (k + length (shape.block_sites h b)) arms (nil_right _ _ f))
 
@@ -137,8 +133,7 @@ module _ (ls : Levels) (levels : List (List ℕ)) (h : Surroundings) (w : World)
         → block_sites w x g (list_of ls h k cs) ≡ placed ls k (shape.list_sites h cs)
     list_placed k no_command f = refl
     list_placed k (and_command c cs) f =
-        joined ls (command_sites w x g (command_of ls h k c)) (block_sites w x g (list_of ls h (k + length (shape.command_sites h c)) cs)) (shape.command_sites h c)
-        (shape.list_sites h cs) k
+        joined ls _ _ _ _ k
         (command_placed k c (nil_left _ _ f))
         (list_placed (k + length (shape.command_sites h c)) cs (nil_right _ _ f))
 
@@ -157,7 +152,7 @@ module _ (ls : Levels) (levels : List (List ℕ)) (le : ℕ → ℕ → Bool) (e
         let mine : x ≡ entity_number es name.name =
         sym (unique x (laid_named ls es w n x place name kind body children laid))
         ∙ ap (λ (a : List ℕ). entity_number es a) (laid_name ls es w n x place name kind body children laid) in
-        joined ls (block_sites w x g (block_of ls h k body)) (group_sites w g) (shape.block_sites h body) (shape.states_sites es children) k
+        joined ls _ _ _ _ k
         (block_placed ls levels h w match x g own (some_same ls es w k' 0 (x + 1) children below) mine k body
         (body_fits levels (what_is es) le place name kind body children f))
         (group_placed k' 0 (x + 1) children below (below_fits levels (what_is es) le place name kind body children f))
@@ -166,7 +161,6 @@ module _ (ls : Levels) (levels : List (List ℕ)) (le : ℕ → ℕ → Bool) (e
         → group_sites w (group_of ls es k x g) ≡ placed ls k (shape.states_sites es g)
     group_placed k n x no_state laid f = refl
     group_placed k n x (and_state t rest) laid f =
-        joined ls (state_sites w (state_of ls es k x t)) (group_sites w (group_of ls es (k + length (shape.state_sites es t)) (x + states_in t) rest))
-        (shape.state_sites es t) (shape.states_sites es rest) k
+        joined ls _ _ _ _ k
         (state_placed k n x t (laid_first ls es w n x t rest laid) (nil_left _ _ f))
         (group_placed (k + length (shape.state_sites es t)) (suc n) (x + states_in t) rest (laid_rest ls es w n x t rest laid) (nil_right _ _ f))

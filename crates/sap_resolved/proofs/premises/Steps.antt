@@ -99,8 +99,7 @@ module _ (ls : Levels) (levels : List (List ℕ)) (le : ℕ → ℕ → Bool) (e
         let h : Surroundings = record { entities = es; home = record { name = name.name; kind = kind; children = children } } in
         let at : Body = record { home = record { name = name.name; kind = kind; children = children }; group = group; above = above } in
         let front : closing_faults body ++ block_shape es at body ≡ [] = nil_left _ _ s in
-        or_from (block_retags (block_of ls h k body) y) (group_retags (group_of ls es (k + length (block_sites h body)) (x + 1) children) y)
-        (block_unmarked ls levels h w match at y (or_left _ _ (or_right _ _ high)) k body (body_fits levels (what_is es) le place name kind body children f)
+        or_from _ _ (block_unmarked ls levels h w match at y (or_left _ _ (or_right _ _ high)) k body (body_fits levels (what_is es) le place name kind body children f)
         (nil_right _ _ front))
         (group_unmarked (k + length (block_sites h body)) (x + 1) children (name.name ∷ above) children (or_right _ _ high)
         (below_fits levels (what_is es) le place name kind body children f) (nil_right _ _ s))
@@ -109,6 +108,5 @@ module _ (ls : Levels) (levels : List (List ℕ)) (le : ℕ → ℕ → Bool) (e
         → states_faults levels le (what_is es) g ≡ [] → states_shape es group above g ≡ [] → group_retags (group_of ls es k x g) y ≡ false
     group_unmarked k x group above no_state high f s = refl
     group_unmarked k x group above (and_state t rest) high f s =
-        or_from (state_retags (state_of ls es k x t) y) (group_retags (group_of ls es (k + length (state_sites es t)) (x + states_in t) rest) y)
-        (state_unmarked k x group above t high (nil_left _ _ f) (nil_left _ _ s))
+        or_from _ _ (state_unmarked k x group above t high (nil_left _ _ f) (nil_left _ _ s))
         (group_unmarked (k + length (state_sites es t)) (x + states_in t) group above rest high (nil_right _ _ f) (nil_right _ _ s))

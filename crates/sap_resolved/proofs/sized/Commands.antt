@@ -93,8 +93,7 @@ module _ (ls : Levels) (h : Surroundings) (w : World) (r : Ready ls h.entities w
       ((a.kind, t.fine), ((t.fits, t.indexed), i))
   step_fits k (write target index e) f =
       let asked = cell_width (what target.name) in
-      let n = none_three (name_faults indexed what target) (expression_faults what index (index_width (what target.name)))
-      (expression_faults what e asked) f in
+      let n = none_three _ _ _ f in
       let m = indexing target index n.0 n.1 in
       let t = expression_fitted es w r.names e asked n.2 in
       let i = asked_width w (term_of es e asked) (own what e) asked (width w (entity_number es target.name)) m.cells t in

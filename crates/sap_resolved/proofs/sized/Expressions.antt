@@ -90,8 +90,7 @@ module _ (es : List Entity) (w : World) (r : Resolved es w) where
           indexed = tt;
         }
     expression_fitted (sized_literal spot u value) asked h =
-        let n = none_three (fault_if (unsettled (sound_width u) asked) E7 spot.first) (fault_if (not (is_sound (sound_width u))) E7 spot.at)
-        (fault_if (too_large (sound_width u) value) E8 spot.at) h in
+        let n = none_three _ _ _ h in
         let s = sound_same u (not-false (is_sound (sound_width u)) (no_fault (not (is_sound (sound_width u))) E7 spot.at n.1)) in
         record {
           settles = no_fault (unsettled (sound_width u) asked) E7 spot.first n.0;
@@ -112,8 +111,7 @@ module _ (es : List Entity) (w : World) (r : Resolved es w) where
           indexed = tt;
         }
     expression_fitted (cell_at spot name index) asked h =
-        let n = none_three (fault_if (unsettled (cell_width (what name)) asked) E7 spot.first) (use_faults indexed (what name) spot.at)
-        (expression_faults what index (index_width (what name))) h in
+        let n = none_three _ _ _ h in
         let u = indexed_name name spot.at n.1 in
         let f = expression_fitted index (index_width (what name)) n.2 in
         let t = term_of es index (index_width (what name)) in
@@ -134,21 +132,18 @@ module _ (es : List Entity) (w : World) (r : Resolved es w) where
         let whole = widths.width_of what (binary_of spot o a b) asked in
         let left = asked_left (family o) whole (own what a) (own what b) in
         let right = asked_right (family o) whole (own what a) (own what b) in
-        let n = none_three (fault_if (unsettled (own what (binary_of spot o a b)) asked) E7 spot.first) (expression_faults what a left)
-        (expression_faults what b right) h in
+        let n = none_three _ _ _ h in
         binary_fitted w o (family o) refl (own what a) (own what b) asked (term_of es a left) (term_of es b right)
         (no_fault (unsettled (own what (binary_of spot o a b)) asked) E7 spot.first n.0) (expression_fitted a left n.1) (expression_fitted b right n.2)
     expression_fitted (choice spot c a b) asked h =
         let whole = widths.width_of what (choice spot c a b) asked in
-        let n = none_four (fault_if (unsettled (own what (choice spot c a b)) asked) E7 spot.first) (expression_faults what c (Some 1))
-        (expression_faults what a whole) (expression_faults what b whole) h in
+        let n = none_four _ _ _ _ h in
         choose_fitted w (own what c) (own what a) (own what b) asked (term_of es c (Some 1)) (term_of es a whole) (term_of es b whole)
         (no_fault (unsettled (own what (choice spot c a b)) asked) E7 spot.first n.0) (expression_fitted c (Some 1) n.1) (expression_fitted a whole n.2)
         (expression_fitted b whole n.3)
     expression_fitted (slice spot e high low) asked h =
         let mine = sliced (own what e) high low in
-        let n = none_three (fault_if (unsettled mine asked) E7 spot.first) (fault_if (not (is_sound mine) && is_sound (own what e)) E7 spot.first)
-        (expression_faults what e None) h in
+        let n = none_three _ _ _ h in
         let f = expression_fitted e None n.2 in
         let i = settled_own (own what e) f.settles in
         let u = sound_whole mine (is_sound (own what e)) (no_fault (not (is_sound mine) && is_sound (own what e)) E7 spot.first n.1)
@@ -163,8 +158,7 @@ module _ (es : List Entity) (w : World) (r : Resolved es w) where
         }
     expression_fitted (concat spot parts) asked h =
         let mine = own_parts what parts in
-        let n = none_three (fault_if (unsettled mine asked) E7 spot.first) (fault_if (not (is_sound mine) && all_sound what parts) E7 spot.first)
-        (parts_faults what parts) h in
+        let n = none_three _ _ _ h in
         let f = parts_fitted parts n.2 in
         let u = sound_whole mine (all_sound what parts) (no_fault (not (is_sound mine) && all_sound what parts) E7 spot.first n.1) f.sound in
         record {

@@ -57,8 +57,7 @@ sound_is w u h = part (leb 1 w) (leb w 64) refl refl h
   where
     part : (a b : Bool) → leb 1 w ≡ a → leb w 64 ≡ b → (if a && b then Some w else None) ≡ Some u → (w ≡ u) × IsWidth w
     part true true i j k = (some_same w u k, (leb-true 1 w i, leb-true w 64 j))
-    part true false i j k = cc
-    part false b i j k = cc
+    part _ _ i j k = cc
 
 pub sound_same : (w : ℕ) → is_sound (sound_width w) ≡ true → sound_width w ≡ Some w
 sound_same w h =
@@ -100,8 +99,7 @@ slice_is (Some w) high low u h = part (leb low high) (ltb high w) refl refl h
         let m : high < w = ltb-true high w j in
         let e : high - low + 1 ≡ u = some_same (high - low + 1) u k in
         record { whole = w; is = refl; order = l; within = m; wide = omega arith }
-    part true false i j k = cc
-    part false b i j k = cc
+    part _ _ i j k = cc
 
 -- zeros in front up to a width
 pub extended_is : (mine : Option ℕ) (width u : ℕ) → extended mine width ≡ Some u → (w : ℕ) × (mine ≡ Some w) × (w ≤ width) × (width ≡ u) × (width ≤ 64)
@@ -111,8 +109,7 @@ extended_is (Some w) width u h = part (leb w width) (leb width 64) refl refl h
     part : (a b : Bool) → leb w width ≡ a → leb width 64 ≡ b → (if a && b then Some width else None) ≡ Some u
         → (v : ℕ) × (Some w ≡ Some v) × (v ≤ width) × (width ≡ u) × (width ≤ 64)
     part true true i j k = (w, refl, leb-true w width i, some_same width u k, leb-true width 64 j)
-    part true false i j k = cc
-    part false b i j k = cc
+    part _ _ i j k = cc
 
 -- two parts together
 pub joined_is : (left right : Option ℕ) (u : ℕ) → joined left right ≡ Some u → (a : ℕ) × (b : ℕ) × (left ≡ Some a) × (right ≡ Some b) × (a + b ≡ u) × (u ≤ 64)

@@ -3,7 +3,7 @@ use Rattle.std.proofs.Common.{◌≡◌, ℕ, [], length, Bool}
 use Rattle.sap_tree.specs.Syntax.{DesignTree}
 use Rattle.sap_lattice.proofs.KeptLemmas.{order_of-count}
 use Rattle.sap_lattice.specs.Prelude.{Laws, Levels, order_of}
-use Rattle.sap_names.specs.Prelude.{what_is, entities_of, twice, declarations_faults, states_faults, design_name_faults}
+use Rattle.sap_names.specs.Prelude.{what_is, entities_of, declarations_faults, states_faults, design_name_faults}
 use Rattle.sap_meaning.specs.Prelude.{root, SizedGroup, SizedProgram}
 use Rattle.sap_resolved.specs.Worlds.{world_of}
 use Rattle.sap_resolved.specs.Resolve.{states_of}
@@ -21,8 +21,7 @@ use Rattle.sap_resolved.proofs.sized.Starts.{design_starts}
 pub faultless : (ls : Levels) (le : ℕ → ℕ → Bool) (d : DesignTree) → design_name_faults ls.names le d ≡ []
     → (declarations_faults ls.names le d.declarations ≡ []) × (states_faults ls.names le (what_is (entities_of d)) d.states ≡ [])
 faultless ls le d h =
-    let n = none_three (twice [] (entities_of d)) (declarations_faults ls.names le d.declarations)
-    (states_faults ls.names le (what_is (entities_of d)) d.states) h in
+    let n = none_three _ _ _ h in
     (n.1, n.2)
 
 module _ (ls : Levels) (d : DesignTree) (laws : Laws (order_of ls)) (h : design_name_faults ls.names (order_of ls).le d ≡ []) where

@@ -62,8 +62,7 @@ module _ (version : Version) (ls : Levels) (h : Surroundings) (w : World) (r : R
   step_ranged k (write target index e) i f =
       let asked = cell_width (what target.name) in
       let j = three_parts (is_name version target.name) (is_outermost version index) (is_outermost version e) i in
-      let n = none_three (name_faults indexed what target) (expression_faults what index (index_width (what target.name)))
-      (expression_faults what e asked) f in (
+      let n = none_three _ _ _ f in (
         outer_ranged version ls es w r index (index_width (what target.name)) j.1 (index_ranges (what target.name)) n.1,
         outer_ranged version ls es w r e asked j.2 (cell_ranges (what target.name)) n.2,
       )

@@ -54,9 +54,7 @@ entity_ranged State g i s = record { wide = λ n. (let k = i.0 in cc); deep = λ
   where
     state_memory : (k : program.Kind) → kind_is_state k ≡ true → kind_is_memory k ≡ true → (b : ℕ) × IsDepth (depth_of k) b
     state_memory program.input p q = cc
-    state_memory program.register p q = cc
-    state_memory (program.memory depth) p q = cc
-    state_memory (program.state n last) p q = cc
+    state_memory _ p q = cc
 
 nothing_ranged : RangedEntity nothing
 nothing_ranged = record { wide = λ n. cc; deep = λ m. cc }
