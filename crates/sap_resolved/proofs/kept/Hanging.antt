@@ -1,5 +1,6 @@
 -- What hangs on the commands of a program is what they touch in the tree.
-use Rattle.sap_lemmas.proofs.Common.{◌≡◌, ℕ, suc, ◌+◌, ◌<◌, Bool, true, false, ◌&&◌, ◌||◌, List, [], ◌∷◌, ◌++◌, length, map, nat_eq, refl, sym, ap, ◌∙◌, arith, bytes_eq, Option, Some, None, map-append, map-map, test_of_same, bytes_eq_same, equal_of_bytes_eq, eqb-true, false_from_ne_true, or_left, or_right}
+use Rattle.std.proofs.Math.Bool.{and_comm}
+use Rattle.sap_lemmas.proofs.Common.{◌≡◌, ℕ, suc, ◌+◌, ◌<◌, Bool, true, false, ◌&&◌, ◌||◌, List, [], ◌∷◌, ◌++◌, length, map, nat_eq, refl, sym, ap, ◌∙◌, arith, bytes_eq, Option, Some, None, map-append, map-map, test_of_same, bytes_eq_same, equal_of_bytes_eq, eqb-true, false_from_ne_true, or_left, or_right, and_false}
 use Rattle.sap_resolved.proofs.FillLemmas.{table_front}
 use Rattle.sap_text.specs.declared.place.Place.{Place}
 use Rattle.sap_tree.specs.Prelude.{SimpleCommand, assign, write, go_to, fall_to_child, Command, lone, try, if_else, try_then, case_of, Arms, last_arm, and_arm, CommandBlock, command_block, ElseBlock, no_else, with_else, CommandList, no_command, and_command, StateTree, state_node, StateList, no_state, and_state, is_dynamic_store, is_dynamic_child, fall_touches, simple_touches, root_touches}
@@ -37,17 +38,10 @@ use Rattle.sap_resolved.proofs.kept.Stores.{store_same, Kinds, kinds_of}
 -- truths
 
 never : (d : Bool) → false ≡ (d && false)
-never true = refl
-never false = refl
+never d = sym (and_false d)
 
 both_none : (a b : Bool) → (a && false) ≡ (b && false)
 both_none a b = sym (never a) ∙ never b
-
-and_swap : (a b : Bool) → (a && b) ≡ (b && a)
-and_swap true true = refl
-and_swap true false = refl
-and_swap false true = refl
-and_swap false false = refl
 
 or_and : (d a b p q : Bool) → p ≡ (d && a) → q ≡ (d && b) → (p || q) ≡ (d && (a || b))
 or_and true a b p q h k = ap (λ (z : Bool). z || q) h ∙ ap (λ (z : Bool). a || z) k
@@ -156,7 +150,7 @@ module _ (ls : Levels) (le : ℕ → ℕ → Bool) (ds : List Decl) (es : List E
   child_same m a y (and_state (state_node place name kind body children) rest) l =
       let s = state_node place name kind body children in
       or_and (is_dynamic w x) _ _ _ _
-      (and_swap (bytes_eq name.name n) (tree.is_dynamic_kind kind) ∙ own_same a y place name kind body children (laid_first ls es w a y s rest l))
+      (and_comm (bytes_eq name.name n) (tree.is_dynamic_kind kind) ∙ own_same a y place name kind body children (laid_first ls es w a y s rest l))
       (child_same (m + length (state_sites es s)) (suc a) (y + states_in s) rest (laid_rest ls es w a y s rest l))
 
   -- what a fall into these states touches

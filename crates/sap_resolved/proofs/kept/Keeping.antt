@@ -1,5 +1,6 @@
 -- Resolving keeps expressions, commands and states in which no fault of names and widths stands.
-use Rattle.sap_lemmas.proofs.Common.{◌≡◌, ℕ, suc, ◌+◌, ◌-◌, ◌≤◌, Bool, true, false, not, ◌&&◌, List, [], Option, Some, None, refl, sym, ap, ◌∙◌, subst, arith, inl, inr, if◌then◌else◌, length, eqb, eqb-true}
+use Rattle.std.proofs.lemmas.Bool.{cond_both}
+use Rattle.sap_lemmas.proofs.Common.{◌≡◌, ℕ, suc, ◌+◌, ◌-◌, ◌≤◌, Bool, not, ◌&&◌, List, [], Option, Some, None, refl, sym, ap, ◌∙◌, subst, arith, inl, inr, length, eqb, eqb-true}
 use Rattle.sap_names.proofs.NameFaultsLemmas.{no_fault}
 use Rattle.sap_names.proofs.FaultLemmas.{nil_left, nil_right}
 use Rattle.sap_tree.specs.Syntax.{Expression, literal, sized_literal, variable, cell_at, unary_of, binary_of, choice, slice, concat, zero_extend, Expressions, no_part, and_part, TagExpression, level_of, tag_at, level_at, join_of, TagExpressions, no_tag, and_tag, SimpleCommand, assign, write, set_tag, set_cell_tag, go_to, fall_to_child, Command, lone, try, if_else, try_then, case_of, Arms, last_arm, and_arm, CommandBlock, command_block, ElseBlock, no_else, with_else, CommandList, no_command, and_command, StateTree, state_node, StateList, no_state, and_state}
@@ -35,11 +36,10 @@ pub record Known (es : List Entity) : Type 0 where
 -- zeros in front of what lacks them
 widened_is : (es : List Entity) (e : Expression) (width u : ℕ) (t : Term ℕ) → own (what_is es) e ≡ Some u → u ≤ width → IsTerm es e t
     → (spot : _) → IsTerm es (zero_extend spot e width) (widened (known (own (what_is es) e)) width t)
-widened_is es e width u t o l h spot = subst (λ (m : Option ℕ). IsTerm es (zero_extend spot e width) (widened (known m) width t)) (sym o) (both (eqb u width) refl)
-  where
-    both : (b : Bool) → eqb u width ≡ b → IsTerm es (zero_extend spot e width) (if b then t else join (constant (width - u) 0) t)
-    both true i = inl (o ∙ ap (λ (n : ℕ). Some n) (eqb-true u width i), h)
-    both false i = inr (u, width - u, t, o, omega arith, refl, h)
+widened_is es e width u t o l h spot =
+    subst (λ (m : Option ℕ). IsTerm es (zero_extend spot e width) (widened (known m) width t)) (sym o)
+    (cond_both (eqb u width) t (join (constant (width - u) 0) t) (λ (x : Term ℕ). IsTerm es (zero_extend spot e width) x)
+    (λ i. inl (o ∙ ap (λ (n : ℕ). Some n) (eqb-true u width i), h)) (λ i. inr (u, width - u, t, o, omega arith, refl, h)))
 
 -- a width that settles where none is asked for
 first_width : (o : Option ℕ) (place : Place) → fault_if (unsettled o None) E7 place ≡ [] → (u : ℕ) × (o ≡ Some u)

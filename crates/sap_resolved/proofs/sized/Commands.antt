@@ -1,5 +1,5 @@
 -- Commands, bodies and states in which no fault stands: their names are those of entities of the right kind, and their widths fit.
-use Rattle.sap_lemmas.proofs.Common.{◌≡◌, ℕ, ◌+◌, ◌^◌, ◌<◌, List, [], Bool, true, false, ◌||◌, Option, Some, None, refl, sym, ap, subst, ◌∙◌, length, AllByRecursion, pow_pos}
+use Rattle.sap_lemmas.proofs.Common.{◌≡◌, ℕ, ◌+◌, ◌^◌, ◌<◌, List, [], Bool, true, ◌||◌, Option, Some, None, refl, sym, ap, subst, ◌∙◌, length, AllByRecursion, pow_pos, or_right}
 use Rattle.sap_tree.specs.Syntax.{Expression, Expressions, literal, no_part, and_part, SimpleCommand, assign, write, set_tag, set_cell_tag, go_to, fall_to_child, Command, lone, try, if_else, try_then, case_of, Arms, last_arm, CommandBlock, command_block, ElseBlock, no_else, with_else, CommandList, no_command, and_command, StateTree, state_node, StateList, no_state, and_state}
 use Rattle.sap_tree.specs.declared.name.Mention.{Mention}
 use Rattle.sap_tree.specs.Syntax as tree
@@ -39,11 +39,7 @@ entered_as w _ n h i = cc
 
 retagged_as : (w : World) (x : Declared) (n : ℕ) → fits_use retagged x ≡ true → Stands x (entity w n) → (is_register w n || is_state w n) ≡ true
 retagged_as w (Register u) n h i = ap (λ k. kind_is_register k || kind_is_state k) i.0
-retagged_as w State n h i = or_true (is_register w n) (is_state w n) i.0
-  where
-    or_true : (a b : Bool) → b ≡ true → (a || b) ≡ true
-    or_true true b h = refl
-    or_true false b h = h
+retagged_as w State n h i = or_right (is_register w n) (is_state w n) i.0
 retagged_as w _ n h i = cc
 
 module _ (ls : Levels) (h : Surroundings) (w : World) (r : Ready ls h.entities w) where

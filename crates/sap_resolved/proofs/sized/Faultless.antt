@@ -1,5 +1,6 @@
 -- Where no fault stands, each test of one is false; and what that says of widths.
-use Rattle.sap_lemmas.proofs.Common.{◌≡◌, ℕ, zero, suc, ◌+◌, ◌-◌, ◌^◌, ◌<◌, ◌≤◌, List, [], ◌++◌, Bool, true, false, not, ◌&&◌, Option, Some, None, refl, sym, ap, ◌∙◌, subst, arith, inl, inr, if◌then◌else◌, eqb, leb, ltb, cases_Bool, eqb-true, leb-true, leb-false, ltb-true, not-false, some_same}
+use Rattle.std.proofs.lemmas.Option.{cond_some}
+use Rattle.sap_lemmas.proofs.Common.{◌≡◌, ℕ, zero, suc, ◌+◌, ◌-◌, ◌^◌, ◌<◌, ◌≤◌, List, [], ◌++◌, Bool, true, false, not, ◌&&◌, Option, Some, None, refl, sym, ap, ◌∙◌, subst, arith, inl, inr, eqb, leb, ltb, cases_Bool, eqb-true, leb-true, and_parts, leb-false, ltb-true, not-false, some_same}
 use Rattle.sap_names.proofs.FaultLemmas.{nil_left, nil_right}
 use Rattle.sap_names.specs.Prelude.{unsettled, too_large, sound_width, index_bits, else_of, extended, sliced, is_sound}
 use Rattle.sap_names.specs.declared.fault.Fault.{Fault}
@@ -53,11 +54,10 @@ fits_width None w value e h = cc
 fits_width (Some u) w value e h = subst (λ (k : ℕ). value < 2 ^ k) (some_same u w e) (leb-false (2 ^ u) value h)
 
 pub sound_is : (w u : ℕ) → sound_width w ≡ Some u → (w ≡ u) × IsWidth w
-sound_is w u h = part (leb 1 w) (leb w 64) refl refl h
-  where
-    part : (a b : Bool) → leb 1 w ≡ a → leb w 64 ≡ b → (if a && b then Some w else None) ≡ Some u → (w ≡ u) × IsWidth w
-    part true true i j k = (some_same w u k, (leb-true 1 w i, leb-true w 64 j))
-    part _ _ i j k = cc
+sound_is w u h =
+    let s = cond_some (leb 1 w && leb w 64) w u h in
+    let t = and_parts (leb 1 w) (leb w 64) s.0 in
+    (s.1, (leb-true 1 w t.0, leb-true w 64 t.1))
 
 pub sound_same : (w : ℕ) → is_sound (sound_width w) ≡ true → sound_width w ≡ Some w
 sound_same w h =
@@ -91,36 +91,28 @@ pub record Sliced (mine : Option ℕ) (high low u : ℕ) : Type 0 where
 
 pub slice_is : (mine : Option ℕ) (high low u : ℕ) → sliced mine high low ≡ Some u → Sliced mine high low u
 slice_is None high low u h = cc
-slice_is (Some w) high low u h = part (leb low high) (ltb high w) refl refl h
-  where
-    part : (a b : Bool) → leb low high ≡ a → ltb high w ≡ b → (if a && b then Some (high - low + 1) else None) ≡ Some u → Sliced (Some w) high low u
-    part true true i j k =
-        let l : low ≤ high = leb-true low high i in
-        let m : high < w = ltb-true high w j in
-        let e : high - low + 1 ≡ u = some_same (high - low + 1) u k in
-        record { whole = w; is = refl; order = l; within = m; wide = omega arith }
-    part _ _ i j k = cc
+slice_is (Some w) high low u h =
+    let s = cond_some (leb low high && ltb high w) (high - low + 1) u h in
+    let t = and_parts (leb low high) (ltb high w) s.0 in
+    let l : low ≤ high = leb-true low high t.0 in
+    let m : high < w = ltb-true high w t.1 in
+    let e : high - low + 1 ≡ u = s.1 in
+    record { whole = w; is = refl; order = l; within = m; wide = omega arith }
 
 -- zeros in front up to a width
 pub extended_is : (mine : Option ℕ) (width u : ℕ) → extended mine width ≡ Some u → (w : ℕ) × (mine ≡ Some w) × (w ≤ width) × (width ≡ u) × (width ≤ 64)
 extended_is None width u h = cc
-extended_is (Some w) width u h = part (leb w width) (leb width 64) refl refl h
-  where
-    part : (a b : Bool) → leb w width ≡ a → leb width 64 ≡ b → (if a && b then Some width else None) ≡ Some u
-        → (v : ℕ) × (Some w ≡ Some v) × (v ≤ width) × (width ≡ u) × (width ≤ 64)
-    part true true i j k = (w, refl, leb-true w width i, some_same width u k, leb-true width 64 j)
-    part _ _ i j k = cc
+extended_is (Some w) width u h =
+    let s = cond_some (leb w width && leb width 64) width u h in
+    let t = and_parts (leb w width) (leb width 64) s.0 in
+    (w, refl, leb-true w width t.0, s.1, leb-true width 64 t.1)
 
 -- two parts together
 pub joined_is : (left right : Option ℕ) (u : ℕ) → joined left right ≡ Some u → (a : ℕ) × (b : ℕ) × (left ≡ Some a) × (right ≡ Some b) × (a + b ≡ u) × (u ≤ 64)
 joined_is None right u h = cc
 joined_is (Some a) None u h = cc
-joined_is (Some a) (Some b) u h = part (leb (a + b) 64) refl h
-  where
-    part : (t : Bool) → leb (a + b) 64 ≡ t → (if t then Some (a + b) else None) ≡ Some u
-        → (x : ℕ) × (y : ℕ) × (Some a ≡ Some x) × (Some b ≡ Some y) × (x + y ≡ u) × (u ≤ 64)
-    part true i k =
-        let e : a + b ≡ u = some_same (a + b) u k in
-        let l : a + b ≤ 64 = leb-true (a + b) 64 i in
-        (a, b, refl, refl, e, omega arith)
-    part false i k = cc
+joined_is (Some a) (Some b) u h =
+    let s = cond_some (leb (a + b) 64) (a + b) u h in
+    let e : a + b ≡ u = s.1 in
+    let l : a + b ≤ 64 = leb-true (a + b) 64 s.0 in
+    (a, b, refl, refl, e, omega arith)
