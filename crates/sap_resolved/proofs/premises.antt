@@ -1,4 +1,3 @@
-pub mod Commands
 pub mod Filling
 pub mod Places
 pub mod Lookups

@@ -14,7 +14,6 @@ use Rattle.sap_resolved.specs.Resolve.{block_of, state_of, group_of}
 use Rattle.sap_resolved.specs.Terms.{entity_number}
 use Rattle.sap_resolved.specs.WellNamed.{WellNamedState, WellNamedGroup}
 use Rattle.sap_resolved.proofs.Lookup.{AllMatch}
-use Rattle.sap_resolved.proofs.premises.Commands.{body_fits, below_fits}
 use Rattle.sap_resolved.proofs.premises.Places.{Laid, LaidState, laid_first, laid_rest, laid_below, laid_children, laid_name, name_at}
 use Rattle.sap_resolved.proofs.premises.Numbers.{size_of, Inside, inside_of, among_of, here_state, here_placed, here_last, here_numbers, here_itself, here_declared}
 use Rattle.sap_resolved.proofs.premises.Closed.{closed_body}
@@ -41,8 +40,8 @@ module _ (ls : Levels) (levels : List (List ℕ)) (le : ℕ → ℕ → Bool) (e
         let k' : ℕ = k + length (block_sites h body) in
         let g : Group = group_of ls es k' (x + 1) children in
         let below : Laid ls es w 0 (x + 1) children = laid_below ls es w n x place name kind body children laid in
-        let fitting : block_faults levels (what_is es) body ≡ [] = body_fits levels (what_is es) le place name kind body children f in
-        let fitting_below : states_faults levels le (what_is es) children ≡ [] = below_fits levels (what_is es) le place name kind body children f in
+        let fitting : block_faults levels (what_is es) body ≡ [] = nil_right _ _ (nil_left _ _ f) in
+        let fitting_below : states_faults levels le (what_is es) children ≡ [] = nil_right _ _ f in
         let front : closing_faults body ++ block_shape es at body ≡ [] = nil_left _ _ s in
         let closing : closing_faults body ≡ [] = nil_left _ _ front in
         let shaped : block_shape es at body ≡ [] = nil_right _ _ front in

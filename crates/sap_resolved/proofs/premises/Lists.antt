@@ -1,5 +1,5 @@
 -- The lists in the program of a design have exactly what hangs.
-use Rattle.sap_lemmas.proofs.Common.{◌≡◌, ℕ, zero, suc, ◌+◌, ◌<◌, ◌≤◌, Bool, true, false, ◌&&◌, ◌||◌, List, [], ◌∷◌, length, get_or, Option, Some, None, nat_eq, nat_lt, refl, sym, ap, ◌∙◌, arith, inl, inr, bytes_eq, option_map, cases_Bool, eqb-true, false_from_ne_true, or_cases, and_right, or_equal}
+use Rattle.sap_lemmas.proofs.Common.{◌≡◌, ℕ, suc, ◌+◌, ◌<◌, ◌≤◌, Bool, true, false, ◌&&◌, ◌||◌, List, [], ◌∷◌, length, Option, Some, None, nat_eq, nat_lt, refl, sym, ap, ◌∙◌, arith, get_or_past, inl, inr, bytes_eq, option_map, cases_Bool, eqb-true, false_from_ne_true, or_cases, and_right, or_equal}
 use Rattle.sap_resolved.proofs.FillLemmas.{table_length, table_at}
 use Rattle.sap_resolved.proofs.TreeWalks.{steps_of_block}
 use Rattle.sap_meaning.proofs.WalksLemmas.{some_gives, some_in_block_gives, every_with_in_block, every_mapped_block}
@@ -20,11 +20,6 @@ use Rattle.sap_resolved.proofs.premises.Filling.{among_filled, group_assigns_fil
 use Rattle.sap_resolved.proofs.premises.Places.{part_within, group_count}
 use Rattle.sap_resolved.proofs.premises.Worlds.{laid}
 
-get_late : (xs : List Bool) (x : ℕ) → length xs ≤ x → get_or xs x false ≡ false
-get_late [] x h = refl
-get_late (y ∷ xs) zero h = absurd (omega arith)
-get_late (y ∷ xs) (suc x) h = let k : length xs ≤ x = omega arith in get_late xs x k
-
 listed_is : (n : ℕ) (test : ℕ → Bool) → ((x : ℕ) → test x ≡ true → x < n) → (x : ℕ) → listed (table n test) x ≡ test x
 listed_is n test below x = elim (cases_Bool (nat_lt x n)) [
   | inl t ↦ (let k : x < n = grind (arith) in table_at n test x k)
@@ -32,7 +27,7 @@ listed_is n test below x = elim (cases_Bool (nat_lt x n)) [
       let k : n ≤ x = grind (arith) in
       let l = table_length n test in
       let i : length (table n test) ≤ x = omega arith in
-      get_late (table n test) x i ∙ sym (false_from_ne_true (test x) (λ j. let m = below x j in omega arith))
+      get_or_past (table n test) x false i ∙ sym (false_from_ne_true (test x) (λ j. let m = below x j in omega arith))
 ]
 
 -- a number that stands for a name is below that of the root, where there are entities at all

@@ -23,7 +23,6 @@ use Rattle.sap_shape.specs.Sites.{Surroundings, simple_sites, block_sites, comma
 use Rattle.sap_resolved.specs.Resolve.{site_number, step_of, command_of, arms_of, block_of, else_of, list_of, state_of, group_of}
 use Rattle.sap_resolved.specs.Terms.{entity_number}
 use Rattle.sap_resolved.proofs.Lookup.{AllMatch}
-use Rattle.sap_resolved.proofs.premises.Commands.{write_named, cell_named, if_first, if_other, body_fits, below_fits}
 use Rattle.sap_resolved.proofs.premises.Places.{name_at}
 use Rattle.sap_resolved.proofs.premises.Lookups.{named}
 use Rattle.sap_resolved.proofs.premises.Shut.{Ended, Shut, ShutArms, ShutElse, ShutList, shut_list, shut_else, shut_first, shut_rest, shut_handler, shut_branch, shut_other, then_parts, no_transfer, shut_accepted, shut_refused, shut_arms, shut_arm, shut_later}
@@ -48,15 +47,15 @@ module _ (ls : Levels) (levels : List (List ℕ)) (h : Surroundings) (w : World)
   -- what a step writes, is written behind it
   step_written : (n : ℕ) (c : SimpleCommand) → simple_faults levels What c ≡ [] → (m : ℕ) (p : Written) → step_writes (step_of ls h n c) m ≡ true
       → past_simple c p (name_at h.entities m) ≡ true
-  step_written n (write target index e) f m p i = writes_target target m p (write_named levels What target index e f) i
-  step_written n (set_cell_tag place target index tag) f m p i = writes_target target m p (cell_named levels What place target index tag f) i
+  step_written n (write target index e) f m p i = writes_target target m p (nil_left _ _ (nil_left _ _ f)) i
+  step_written n (set_cell_tag place target index tag) f m p i = writes_target target m p (nil_left _ _ (nil_left _ _ f)) i
   step_written n _ f m p i = cc
 
   module _ (falls : ℕ → Bool) where
     open_written : (n : ℕ) (c : SimpleCommand) → simple_faults levels What c ≡ [] → transfer_faults c ≡ [] → (m : ℕ) (p : Written)
         → step_reaching falls (step_of ls h n c) m ≡ true → past_simple c p (name_at h.entities m) ≡ true
-    open_written n (write target index e) f o m p i = writes_target target m p (write_named levels What target index e f) i
-    open_written n (set_cell_tag place target index tag) f o m p i = writes_target target m p (cell_named levels What place target index tag f) i
+    open_written n (write target index e) f o m p i = writes_target target m p (nil_left _ _ (nil_left _ _ f)) i
+    open_written n (set_cell_tag place target index tag) f o m p i = writes_target target m p (nil_left _ _ (nil_left _ _ f)) i
     open_written n _ f o m p i = cc
 
     -- what an open command reaches, is written behind it
@@ -68,8 +67,8 @@ module _ (ls : Levels) (levels : List (List ℕ)) (h : Surroundings) (w : World)
           either_follows _ _ _ _ (open_written (site_number h k c) c (nil_left _ _ f) (nil_left _ _ o) m p)
           (block_written (k + length (simple_sites h c)) b (nil_right _ _ f) (nil_right _ _ o) m (past_simple c p)) i
       command_written k (if_else place e b other) f o m p i =
-          either_follows _ _ _ _ (block_written k b (if_first levels What place e b other f) (nil_left _ _ o) m p)
-          (else_written (k + length (block_sites h b)) other (if_other levels What place e b other f) (nil_right _ _ o) m p) i
+          either_follows _ _ _ _ (block_written k b (nil_right _ _ (nil_left _ _ f)) (nil_left _ _ o) m p)
+          (else_written (k + length (block_sites h b)) other (nil_right _ _ f) (nil_right _ _ o) m p) i
       command_written k (try_then c place a b) f o m p i =
           let q = past_simple c p in
           let x = k + length (simple_sites h c) in
@@ -122,8 +121,8 @@ module _ (ls : Levels) (levels : List (List ℕ)) (h : Surroundings) (w : World)
 
       step_unreached : (n : ℕ) (c : SimpleCommand) → simple_faults levels What c ≡ [] → (p : Written) → p (name_at h.entities m) ≡ true
           → second_simple c p ≡ [] → Safe (entering_simple c p (name_at h.entities m)) → step_reaching falls (step_of ls h n c) m ≡ false
-      step_unreached n (write target index e) f p i s d = target_unwritten target target.place (write_named levels What target index e f) p i s
-      step_unreached n (set_cell_tag place target index tag) f p i s d = target_unwritten target place (cell_named levels What place target index tag f) p i s
+      step_unreached n (write target index e) f p i s d = target_unwritten target target.place (nil_left _ _ (nil_left _ _ f)) p i s
+      step_unreached n (set_cell_tag place target index tag) f p i s d = target_unwritten target place (nil_left _ _ (nil_left _ _ f)) p i s
       step_unreached n (fall_to_child place) f p i s d = d i
       step_unreached n _ f p i s d = refl
 
@@ -137,8 +136,8 @@ module _ (ls : Levels) (levels : List (List ℕ)) (h : Surroundings) (w : World)
             (body_unreached (k + length (simple_sites h c)) b (nil_right _ _ f) (past_simple c p) (past_before c p (name_at h.entities m) i)
             (nil_right _ _ s) (λ j. d (or_right _ _ j)))
         command_unreached k (if_else place e b other) f p i s d =
-            or_from _ _ (body_unreached k b (if_first levels What place e b other f) p i (nil_left _ _ s) (λ j. d (or_left _ _ j)))
-            (else_unreached (k + length (block_sites h b)) other (if_other levels What place e b other f) p i (nil_right _ _ s) (λ j. d (or_right _ _ j)))
+            or_from _ _ (body_unreached k b (nil_right _ _ (nil_left _ _ f)) p i (nil_left _ _ s) (λ j. d (or_left _ _ j)))
+            (else_unreached (k + length (block_sites h b)) other (nil_right _ _ f) p i (nil_right _ _ s) (λ j. d (or_right _ _ j)))
         command_unreached k (try_then c place a b) f p i s d =
             let q = past_simple c p in
             let behind = past_before c p (name_at h.entities m) i in
@@ -205,9 +204,9 @@ module _ (ls : Levels) (levels : List (List ℕ)) (h : Surroundings) (w : World)
             (λ j. d m (or_right _ _ j))),
       )
       once_command k (if_else place e b other) f o p s d i = (
-        once_body k b (if_first levels What place e b other f)
+        once_body k b (nil_right _ _ (nil_left _ _ f))
             (shut_branch place e b other o) p (nil_left _ _ s) (λ m j. d m (or_left _ _ j)) (λ j. i (or_left _ _ j)),
-        once_else (k + length (block_sites h b)) other (if_other levels What place e b other f)
+        once_else (k + length (block_sites h b)) other (nil_right _ _ f)
             (shut_other place e b other o) p (nil_right _ _ s) (λ m j. d m (or_right _ _ j)) (λ j. i (or_right _ _ j)),
       )
       once_command k (try_then c place a b) f o p s d i =
@@ -302,7 +301,7 @@ module _ (ls : Levels) (levels : List (List ℕ)) (le : ℕ → ℕ → Bool) (e
         let h : Surroundings = record { entities = es; home = record { name = name.name; kind = kind; children = children } } in
         let g : Group = group_of ls es (k + length (block_sites h body)) (x + 1) children in
         body_unreached ls levels h w match (group_reaches g) m k body
-        (body_fits levels (what_is es) le place name kind body children f)
+        (nil_right _ _ (nil_left _ _ f))
         p i (once_within body children p s)
         (λ j. group_unreached (k + length (block_sites h body)) (x + 1) children (nil_right _ _ f)
         (found_in_block body p).entering j (once_down body children p s (enters (of_block body) (block_follows body) (name_at es m) p j)))
@@ -322,9 +321,9 @@ module _ (ls : Levels) (levels : List (List ℕ)) (le : ℕ → ℕ → Bool) (e
     once_state k x group above (state_node place name kind body children) f s p once =
         let h : Surroundings = record { entities = es; home = record { name = name.name; kind = kind; children = children } } in
         let g : Group = group_of ls es (k + length (block_sites h body)) (x + 1) children in
-        let fitting = below_fits levels (what_is es) le place name kind body children f in
+        let fitting : states_faults levels le (what_is es) children ≡ [] = nil_right _ _ f in
         let closing : closing_faults body ≡ [] = nil_left _ _ (nil_left _ _ s) in
-        once_body ls levels h w match g (OnceGroup g) k body (body_fits levels (what_is es) le place name kind body children f) (inr closing) p
+        once_body ls levels h w match g (OnceGroup g) k body (nil_right _ _ (nil_left _ _ f)) (inr closing) p
         (once_within body children p once)
         (λ m j. group_unreached ls levels le es w match m (k + length (block_sites h body)) (x + 1) children fitting (found_in_block body p).entering j
         (once_down body children p once (enters (of_block body) (block_follows body) (name_at es m) p j)))

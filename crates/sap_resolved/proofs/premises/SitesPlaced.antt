@@ -15,7 +15,6 @@ use Rattle.sap_resolved.specs.Worlds.{states_in, is_dynamic_kind}
 use Rattle.sap_resolved.specs.Resolve.{site_number, step_of, command_of, arms_of, block_of, else_of, list_of, state_of, group_of}
 use Rattle.sap_resolved.specs.Terms.{entity_number}
 use Rattle.sap_resolved.proofs.Lookup.{AllMatch}
-use Rattle.sap_resolved.proofs.premises.Commands.{set_named, write_named, if_first, if_other, body_fits, below_fits}
 use Rattle.sap_resolved.proofs.premises.Places.{Laid, LaidState, laid_first, laid_rest, laid_below, laid_name, laid_named, name_at}
 use Rattle.sap_resolved.proofs.premises.Lookups.{enforced_same}
 use Rattle.sap_resolved.proofs.premises.Numbers.{here_dynamic}
@@ -70,8 +69,8 @@ module _ (ls : Levels) (levels : List (List ℕ)) (h : Surroundings) (w : World)
 
   -- a command is a check site where its step is
   site_same : (n : ℕ) (c : SimpleCommand) → simple_faults levels What c ≡ [] → is_site w x g (step_of ls h n c) ≡ shape.is_site h.entities h.home.kind h.home.children c
-  site_same n (assign target e) f = enforced_same h.entities w match assigned target (set_named levels What target e f)
-  site_same n (write target index e) f = enforced_same h.entities w match indexed target (write_named levels What target index e f)
+  site_same n (assign target e) f = enforced_same h.entities w match assigned target (nil_left _ _ f)
+  site_same n (write target index e) f = enforced_same h.entities w match indexed target (nil_left _ _ (nil_left _ _ f))
   site_same n (go_to place target) f =
       or_equal (not (is_dynamic w x)) (not (is_dynamic w (entity_number h.entities target.name))) (not (is_dynamic_kind h.home.kind))
       (is_enforced h.entities target.name) own (enforced_same h.entities w match entered target f)
@@ -101,8 +100,8 @@ module _ (ls : Levels) (levels : List (List ℕ)) (h : Surroundings) (w : World)
         (block_placed (k + length (simple_sites h c)) b (nil_right _ _ f))
     command_placed k (if_else place e b other) f =
         joined ls _ _ _ _ k
-        (block_placed k b (if_first levels What place e b other f))
-        (else_placed (k + length (shape.block_sites h b)) other (if_other levels What place e b other f))
+        (block_placed k b (nil_right _ _ (nil_left _ _ f)))
+        (else_placed (k + length (shape.block_sites h b)) other (nil_right _ _ f))
     command_placed k (try_then c place a b) f =
         let i = k + length (simple_sites h c) in
         let j = i + length (shape.block_sites h a) in
@@ -154,8 +153,8 @@ module _ (ls : Levels) (levels : List (List ℕ)) (le : ℕ → ℕ → Bool) (e
         ∙ ap (λ (a : List ℕ). entity_number es a) (laid_name ls es w n x place name kind body children laid) in
         joined ls _ _ _ _ k
         (block_placed ls levels h w match x g own (some_same ls es w k' 0 (x + 1) children below) mine k body
-        (body_fits levels (what_is es) le place name kind body children f))
-        (group_placed k' 0 (x + 1) children below (below_fits levels (what_is es) le place name kind body children f))
+        (nil_right _ _ (nil_left _ _ f)))
+        (group_placed k' 0 (x + 1) children below (nil_right _ _ f))
 
     pub group_placed : (k n x : ℕ) (g : StateList) → Laid ls es w n x g → states_faults levels le (what_is es) g ≡ []
         → group_sites w (group_of ls es k x g) ≡ placed ls k (shape.states_sites es g)

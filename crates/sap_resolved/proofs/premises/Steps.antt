@@ -18,7 +18,6 @@ use Rattle.sap_resolved.specs.Resolve.{step_of, block_of, state_of, group_of}
 use Rattle.sap_resolved.specs.Terms.{entity_number}
 use Rattle.sap_resolved.specs.WellNamed.{WellNamedStep, WellNamedCommand}
 use Rattle.sap_resolved.proofs.Lookup.{AllMatch}
-use Rattle.sap_resolved.proofs.premises.Commands.{tag_named, cell_named, body_fits, below_fits}
 use Rattle.sap_resolved.proofs.premises.Places.{name_at}
 use Rattle.sap_resolved.proofs.premises.Lookups.{named, dynamic_same}
 use Rattle.sap_meaning.proofs.WalksLemmas.{none_passes_in_block, every_both_in_block}
@@ -40,7 +39,7 @@ module _ (ls : Levels) (levels : List (List ℕ)) (h : Surroundings) (w : World)
       step_unmarked n (set_tag place target tag) f s = false_from_ne_true (nat_eq y (entity_number h.entities target.name)) (λ j.
           let number : y ≡ entity_number h.entities target.name = eqb-true y (entity_number h.entities target.name) j in
           let own : name_at h.entities (entity_number h.entities target.name) ≡ target.name =
-          named h.entities w match retagged target (tag_named levels What place target tag f) in
+          named h.entities w match retagged target (nil_left _ _ f) in
           let e : name_at h.entities y ≡ target.name = ap (λ z. name_at h.entities z) number ∙ own in
           let last : fault_if (is_comparable at target.name) E17 target.place ≡ [] = nil_right _ _ s in
           let far : is_comparable at target.name ≡ false = no_fault (is_comparable at target.name) E17 target.place last in
@@ -62,13 +61,13 @@ module _ (ls : Levels) (levels : List (List ℕ)) (h : Surroundings) (w : World)
           → FineStep w q g (step_of ls h n c)
       fine_step n (set_tag place target tag) f s i = (
         i.0,
-        dynamic_same h.entities w match retagged target (tag_named levels What place target tag f)
+        dynamic_same h.entities w match retagged target (nil_left _ _ f)
             ∙ no_fault (is_dynamic h.entities target.name) E16 target.place (nil_left _ _ s),
         i.2,
       )
       fine_step n (set_cell_tag place target index tag) f s i = (
         i.0,
-        dynamic_same h.entities w match indexed target (cell_named levels What place target index tag f) ∙ no_fault
+        dynamic_same h.entities w match indexed target (nil_left _ _ (nil_left _ _ f)) ∙ no_fault
             (is_dynamic h.entities target.name) E16 target.place s,
         i.1,
         i.2,
@@ -99,10 +98,10 @@ module _ (ls : Levels) (levels : List (List ℕ)) (le : ℕ → ℕ → Bool) (e
         let h : Surroundings = record { entities = es; home = record { name = name.name; kind = kind; children = children } } in
         let at : Body = record { home = record { name = name.name; kind = kind; children = children }; group = group; above = above } in
         let front : closing_faults body ++ block_shape es at body ≡ [] = nil_left _ _ s in
-        or_from _ _ (block_unmarked ls levels h w match at y (or_left _ _ (or_right _ _ high)) k body (body_fits levels (what_is es) le place name kind body children f)
+        or_from _ _ (block_unmarked ls levels h w match at y (or_left _ _ (or_right _ _ high)) k body (nil_right _ _ (nil_left _ _ f))
         (nil_right _ _ front))
         (group_unmarked (k + length (block_sites h body)) (x + 1) children (name.name ∷ above) children (or_right _ _ high)
-        (below_fits levels (what_is es) le place name kind body children f) (nil_right _ _ s))
+        (nil_right _ _ f) (nil_right _ _ s))
 
     pub group_unmarked : (k x : ℕ) (group : StateList) (above : List (List ℕ)) (g : StateList) → is_in above (name_at es y) ≡ true
         → states_faults levels le (what_is es) g ≡ [] → states_shape es group above g ≡ [] → group_retags (group_of ls es k x g) y ≡ false

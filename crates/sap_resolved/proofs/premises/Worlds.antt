@@ -1,5 +1,5 @@
 -- The world of a design: where its states stand, inputs and authorities.
-use Rattle.sap_lemmas.proofs.Common.{◌≡◌, ℕ, zero, suc, ◌+◌, Bool, true, false, not, List, [], ◌∷◌, ◌++◌, length, append_assoc, length-append, get_or, Some, None, refl, sym, ap, ◌∙◌, not-false}
+use Rattle.sap_lemmas.proofs.Common.{◌≡◌, ℕ, zero, suc, ◌+◌, Bool, true, false, not, List, [], ◌∷◌, ◌++◌, length, append_assoc, append-nil, length-append, get_or, Some, None, refl, sym, ap, ◌∙◌, not-false}
 use Rattle.sap_resolved.proofs.WorldsLemmas.{children_length, declared_length, known_level}
 use Rattle.sap_names.proofs.NameFaultsLemmas.{no_fault}
 use Rattle.sap_names.proofs.FaultLemmas.{nil_left, nil_right}
@@ -17,10 +17,6 @@ use Rattle.sap_meaning.specs.Program.{World, Entity, nothing, entity, children, 
 use Rattle.sap_resolved.specs.Worlds.{level_number, declared_level, authority_of, is_dynamic_kind, declared, all_declared, states_in, group_length, state_entities, group_entities, group_children, no_children, world_of}
 use Rattle.sap_resolved.proofs.premises.Places.{Part, part_head, group_count, group_kids, Laid}
 
-append_nil : {A : Type 0} (xs : List A) → xs ≡ xs ++ []
-append_nil [] = refl
-append_nil (x ∷ xs) = ap (λ ys. x ∷ ys) (append_nil xs)
-
 names_length : (ds : List Decl) → length (tree.declared_in ds) ≡ length ds
 names_length [] = refl
 names_length (d ∷ ds) = ap suc (names_length ds)
@@ -31,13 +27,13 @@ laid ls d = record {
   names = record {
     front = tree.declared_in d.declarations;
     back = [];
-    is = ap (λ u. tree.declared_in d.declarations ++ u) (append_nil (tree.group_entities d.states));
+    is = ap (λ u. tree.declared_in d.declarations ++ u) (sym (append-nil (tree.group_entities d.states)));
     count = names_length d.declarations;
   };
   entities = record {
     front = all_declared ls d.declarations;
     back = [];
-    is = ap (λ u. all_declared ls d.declarations ++ u) (append_nil (group_entities ls 0 (length d.declarations) d.states));
+    is = ap (λ u. all_declared ls d.declarations ++ u) (sym (append-nil (group_entities ls 0 (length d.declarations) d.states)));
     count = declared_length ls d.declarations;
   };
   children = record {
