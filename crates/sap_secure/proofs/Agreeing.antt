@@ -12,8 +12,7 @@ abbrev pub compared : World → Slot → Bool
 compared w (own x) = is_input w x || is_register w x
 compared w (start m i) = is_memory w m
 compared w (next m i) = is_memory w m
-compared w (start_whole m) = false
-compared w (next_whole m) = false
+compared w _ = false
 
 pub record Agree (w : World) (l : ℕ) (s t : Store) : Type 0 where
   pub cells : (z : Slot) → compared w z ≡ true → Same w.order l (number z s) (level w z s) (number z t) (level w z t)

@@ -2,7 +2,7 @@
 use Rattle.sap_lemmas.proofs.Common.{◌≡◌, ℕ, suc, Bool, true, false, ◌||◌, refl, sym, ◌∙◌, nat_eq, inl, inr, and_left, eqb-true, false_from_ne_true, ne_eqb, or_cases, or_from, or_left, or_right}
 use Rattle.sap_meaning.proofs.ProgramLemmas.{memory_no_state, register_no_memory, register_no_state}
 use Rattle.sap_meaning.proofs.FineLemmas.{inside_among}
-use Rattle.sap_meaning.specs.Prelude.{World, is_dynamic, entity, is_register, is_memory, is_state, Step, assign, write, retag, retag_cell, go_to, fall_to_child, Command, Block, State, state_node, Group, no_node, and_node, among, step_assigns, block_assigns, state_assigns, group_assigns, step_hangs, hangs, block_hangs, FineTerm, FineStep, FineCommand, FineState, FineGroup, inside, step_writes, writes, step_reaches, reaches, block_reaches, Every, EveryInBlock}
+use Rattle.sap_meaning.specs.Prelude.{World, is_dynamic, entity, is_register, is_memory, is_state, Step, assign, write, retag_cell, go_to, fall_to_child, Command, Block, State, state_node, Group, no_node, and_node, among, step_assigns, block_assigns, state_assigns, group_assigns, step_hangs, hangs, block_hangs, FineTerm, FineStep, FineCommand, FineState, FineGroup, inside, step_writes, writes, step_reaches, reaches, block_reaches, Every, EveryInBlock}
 use Rattle.sap_meaning.specs.Touches.{assigns}
 use Rattle.sap_meaning.proofs.WalksLemmas.{none_passes, none_passes_in_block, some_follows, some_follows_in_block, passes_follow, gathered_alike, gathered_in_block_alike}
 use Rattle.sap_secure.proofs.Concerns.{parted_of, group_parted, step_concerns, concerns, block_concerns}
@@ -31,10 +31,7 @@ module _ (w : World) where
     step_unassigned : (q j : Group) (k : Step) → FineStep w q j k → step_assigns k x ≡ false
     step_unassigned q j (assign site y e) fine = ne_eqb x y (λ h. let yes : is_register w y ≡ true = fine.0 in let r' = rw h at r in cc)
     step_unassigned q j (write site n i e) fine = ne_eqb x n (λ h. let yes : is_memory w n ≡ true = fine.0 in let m' = rw h at m in cc)
-    step_unassigned q j (retag site y n) fine = refl
-    step_unassigned q j (retag_cell site n d t) fine = refl
-    step_unassigned q j (go_to site target) fine = refl
-    step_unassigned q j (fall_to_child site hang) fine = refl
+    step_unassigned q j _ fine = refl
 
     pub unassigned : (q j : Group) (c : Command) → Every (FineCommand w q j) c → assigns c x ≡ false
     unassigned q j c fine = none_passes (FineStep w q j) (FineTerm w) (λ k. step_assigns k x) (step_unassigned q j) c fine
@@ -55,10 +52,8 @@ module _ (w : World) where
     step_hung : (q j : Group) (k : Step) → FineStep w q j k → step_concerns w e g k m ≡ true → step_reaches g k m ≡ true
     step_hung q j (assign site y e') fine h = let no = cell_apart m y mem fine.0 in cc
     step_hung q j (write site n i e') fine h = h
-    step_hung q j (retag site y n) fine h = cc
-    step_hung q j (retag_cell site n i t) fine h = cc
-    step_hung q j (go_to site target) fine h = cc
     step_hung q j (fall_to_child site hang) fine h = sym (group_parted w m (parted_of w m mem d) g) ∙ rw kids at h
+    step_hung q j _ fine h = cc
 
     pub hung : (q j : Group) (c : Command) → Every (FineCommand w q j) c → concerns w e g c m ≡ true → reaches g c m ≡ true
     hung q j c fine h = some_follows (FineStep w q j) (FineTerm w) (λ k. step_concerns w e g k m) (λ k. step_reaches g k m) (step_hung q j) c fine h
@@ -71,10 +66,9 @@ module _ (w : World) where
     pub step_unhung : (q : Group) (k : Step) → FineStep w q g k → step_hangs e g k x ≡ false
     step_unhung q (assign site y t) fine = register_apart x y s fine.0
     step_unhung q (write site m i t) fine = memory_apart x m s fine.0
-    step_unhung q (retag site y n) fine = refl
-    step_unhung q (retag_cell site m j n) fine = refl
     step_unhung q (go_to site target) fine = own
     step_unhung q (fall_to_child site hang) fine = or_from _ _ kids free
+    step_unhung q _ fine = refl
 
     pub unhung : (q : Group) (c : Command) → Every (FineCommand w q g) c → hangs e g c x ≡ false
     unhung q c fine = none_passes (FineStep w q g) (FineTerm w) (λ k. step_hangs e g k x) (step_unhung q) c fine
@@ -85,12 +79,9 @@ module _ (w : World) where
   -- what writes, reaches
   module _ (g : Group) (m : ℕ) where
     step_within : (k : Step) → step_writes k m ≡ true → step_reaches g k m ≡ true
-    step_within (assign site y e) h = cc
     step_within (write site n i e) h = h
-    step_within (retag site y n) h = cc
     step_within (retag_cell site n d t) h = h
-    step_within (go_to site target) h = cc
-    step_within (fall_to_child site hang) h = cc
+    step_within _ h = cc
 
     pub writes_within : (c : Command) → writes c m ≡ true → reaches g c m ≡ true
     writes_within c h = passes_follow (λ k. step_writes k m) (λ k. step_reaches g k m) step_within c h
@@ -101,18 +92,15 @@ module _ (e : ℕ) (g : Group) (x : ℕ) (own : nat_eq x e ≡ false) (kids : am
   Found h a = h ≡ true → (a || group_assigns g x) ≡ true
 
   either_side : (h i a b : Bool) → Found h a → Found i b → Found (h || i) (a || b)
-  either_side true i true b f k j = refl
   either_side true i false b f k j = or_right b (group_assigns g x) (f refl)
-  either_side false i true b f k j = refl
   either_side false i false b f k j = k j
+  either_side _ i true b f k j = refl
 
   step_found : (k : Step) → Found (step_hangs e g k x) (step_assigns k x)
   step_found (assign site y t) h = or_left _ _ h
   step_found (write site m i t) h = or_left _ _ h
-  step_found (retag site y n) h = cc
-  step_found (retag_cell site m d n) h = cc
-  step_found (go_to site target) h = cc
   step_found (fall_to_child site hang) h = rw kids at h
+  step_found _ h = cc
 
   pub found : (c : Command) → Found (hangs e g c x) (assigns c x)
   found c = gathered_alike false ◌||◌ false ◌||◌ Found (λ h. cc) either_side (λ k. step_hangs e g k x) (λ k. step_assigns k x) step_found c

@@ -1,6 +1,6 @@
 -- What concerns a command: what hangs on it; but an enforced memory only where it, or a body that it may fall into, writes a cell.
 use Rattle.sap_lemmas.proofs.Common.{◌≡◌, ℕ, Bool, true, false, not, ◌&&◌, ◌||◌, refl, sym, ap, ◌∙◌, nat_eq, if◌then◌else◌, or_equal, and_from}
-use Rattle.sap_meaning.specs.Prelude.{World, is_dynamic, is_memory, Step, assign, write, retag, retag_cell, go_to, fall_to_child, Command, Arms, Block, State, state_node, Group, no_node, and_node, some_in_arms, some_in_block, among, block_assigns, state_assigns, group_assigns, step_hangs, hangs, block_hangs, block_reaches, state_reaches, group_reaches}
+use Rattle.sap_meaning.specs.Prelude.{World, is_dynamic, is_memory, Step, assign, write, go_to, fall_to_child, Command, Arms, Block, State, state_node, Group, no_node, and_node, some_in_arms, some_in_block, among, block_assigns, state_assigns, group_assigns, step_hangs, hangs, block_hangs, block_reaches, state_reaches, group_reaches}
 use Rattle.sap_meaning.specs.Walks.{some}
 
 -- an enforced memory
@@ -17,10 +17,9 @@ group_concerns w (and_node t g) x = state_concerns w t x || group_concerns w g x
 abbrev pub step_concerns : World → ℕ → Group → Step → ℕ → Bool
 step_concerns w s g (assign site y e) x = nat_eq x y
 step_concerns w s g (write site m i e) x = nat_eq x m
-step_concerns w s g (retag site y n) x = false
-step_concerns w s g (retag_cell site m j n) x = false
 step_concerns w s g (go_to site target) x = nat_eq x s
 step_concerns w s g (fall_to_child site hang) x = among g x || group_concerns w g x
+step_concerns w s g _ x = false
 
 abbrev pub concerns : World → ℕ → Group → Command → ℕ → Bool
 concerns w s g c x = some (λ k. step_concerns w s g k x) c
@@ -56,12 +55,8 @@ module _ (w : World) (x : ℕ) where
         or_equal (state_concerns w (state_node s b k) x) (group_concerns w g x) (state_assigns (state_node s b k) x) (group_assigns g x) (rw p refl) (group_whole g)
 
     step_whole : (s : ℕ) (g : Group) (k : Step) → step_concerns w s g k x ≡ step_hangs s g k x
-    step_whole s g (assign site y e) = refl
-    step_whole s g (write site m i e) = refl
-    step_whole s g (retag site y n) = refl
-    step_whole s g (retag_cell site m j n) = refl
-    step_whole s g (go_to site target) = refl
     step_whole s g (fall_to_child site hang) = ap (λ (r : Bool). among g x || r) (group_whole g)
+    step_whole s g _ = refl
 
     pub whole : (s : ℕ) (g : Group) (c : Command) → concerns w s g c x ≡ hangs s g c x
     whole s g c = ap (λ (p : Step → Bool). some p c) (λ i k. step_whole s g k i)

@@ -18,10 +18,8 @@ use Rattle.sap_secure.proofs.Frames.{start_kept, next_kept}
 -- what commands can raise or write
 abbrev pub changing : World → Slot → Bool
 changing w (own x) = is_input w x || is_register w x
-changing w (start m i) = false
 changing w (next m i) = is_memory w m
-changing w (start_whole m) = false
-changing w (next_whole m) = false
+changing w _ = false
 
 -- the cell as the cycle began
 abbrev pub begun : Slot → Slot
@@ -33,31 +31,23 @@ begun (next_whole m) = next_whole m
 
 pub owner_begun : (z : Slot) → owner (begun z) ≡ owner z
 owner_begun (own x) = refl
-owner_begun (start m i) = refl
-owner_begun (next m i) = refl
-owner_begun (start_whole m) = refl
-owner_begun (next_whole m) = refl
+owner_begun _ = refl
 
 pub changing_compared : (w : World) (z : Slot) → changing w z ≡ true → compared w z ≡ true
 changing_compared w (own x) h = h
-changing_compared w (start m i) h = cc
 changing_compared w (next m i) h = h
-changing_compared w (start_whole m) h = cc
-changing_compared w (next_whole m) h = cc
+changing_compared w _ h = cc
 
 pub raised_changing : (w : World) (hang : ℕ → Bool) (y : Slot) → compared w y ≡ true → raised hang (home w y) ≡ true → changing w y ≡ true
-raised_changing w hang (own x) g h = g
 raised_changing w hang (start m i) g h = elim (cases_Bool (is_dynamic w m)) [ inl d ↦ (let h' = rw d at h in cc) | inr d ↦ (let h' = rw d at h in cc) ]
-raised_changing w hang (next m i) g h = g
 raised_changing w hang (start_whole m) g h = cc
 raised_changing w hang (next_whole m) g h = cc
+raised_changing w hang _ g h = g
 
 pub raises_home : (w : World) (hang : ℕ → Bool) (z : Slot) → changing w z ≡ true → is_dynamic w (owner z) ≡ true → hang (owner z) ≡ true → raised hang (home w z) ≡ true
 raises_home w hang (own x) g d h = h
-raises_home w hang (start m i) g d h = cc
 raises_home w hang (next m i) g d h = rw d h
-raises_home w hang (start_whole m) g d h = cc
-raises_home w hang (next_whole m) g d h = cc
+raises_home w hang _ g d h = cc
 
 -- A slot is high, if it is dynamic; else its level is that with which the cycle began, or its authority is high.
 abbrev pub Hush : World → ℕ → Slot → Store → Type 0
@@ -315,12 +305,9 @@ module _ (w : World) (laws : Laws w.order) (l : ℕ) where
     touches_dynamic c x h = and_left (is_dynamic w x) _ h
 
     pub alone_within : (k : Step) (x : ℕ) → raised_alone w At k x ≡ true → (is_dynamic w x && step_hangs i.state i.kids k x) ≡ true
-    alone_within (assign site y e) x h = cc
-    alone_within (write site m j e) x h = cc
-    alone_within (retag site y n) x h = cc
-    alone_within (retag_cell site m j n) x h = cc
     alone_within (go_to site target) x h = h
     alone_within (fall_to_child site hang) x h = h
+    alone_within _ x h = cc
 
     pub quiet_left : (a b : ℕ → Bool) (s : Store) → Quiet w l (λ x. a x || b x) s → Quiet w l a s
     quiet_left a b s q z g h = q z g (or_left (a (owner z)) (b (owner z)) h)
@@ -409,10 +396,8 @@ module _ (w : World) (laws : Laws w.order) (l : ℕ) where
 -- a slot that changes belongs to no state
 pub changing_no_state : (w : World) (z : Slot) → changing w z ≡ true → is_state w (owner z) ≡ false
 changing_no_state w (own x) g = false_from_ne_true _ (λ s. let no = state_no_value (entity w x).kind s in cc)
-changing_no_state w (start m j) g = cc
 changing_no_state w (next m j) g = no_state w m (or_right _ _ g)
-changing_no_state w (start_whole m) g = cc
-changing_no_state w (next_whole m) g = cc
+changing_no_state w _ g = cc
 
 module _ (w : World) (laws : Laws w.order) (l : ℕ) where
   -- what concerns a state's body, concerns the state

@@ -95,24 +95,19 @@ module _ (w : World) (i : Site w) (q : ℕ) where
       where
         cells_apart : (m j : ℕ) → same_slot (own x) (home w (next m j)) ≡ false
         cells_apart m j = elim (cases_Bool (is_dynamic w m)) [ inl d ↦ rw d refl | inr d ↦ rw d refl ]
-    open_step (go_to site target) fine plain un pc b t = cc
-    open_step (fall_to_child site hang) fine plain un pc b t = cc
+    open_step _ fine plain un pc b t = cc
 
     step_off : (k : Step) → ProperStep w i k → transfers k ≡ false → step_hangs i.state i.kids k x ≡ false
     step_off (assign site y e) fine plain = register_apart w x y s fine.0.0
     step_off (write site m j e) fine plain = memory_apart w x m s fine.0.0
-    step_off (retag site y n) fine plain = refl
-    step_off (retag_cell site m j n) fine plain = refl
     step_off (go_to site target) fine plain = cc
     step_off (fall_to_child site hang) fine plain = cc
+    step_off _ fine plain = refl
 
     alone_off : (k : Step) → transfers k ≡ false → raised_alone w (spot i) k x ≡ false
-    alone_off (assign site y e) plain = refl
-    alone_off (write site m j e) plain = refl
-    alone_off (retag site y n) plain = refl
-    alone_off (retag_cell site m j n) plain = refl
     alone_off (go_to site target) plain = cc
     alone_off (fall_to_child site hang) plain = cc
+    alone_off _ plain = refl
 
     mutual
       command_off : (c : Command) → Proper w i c → Open c → hangs i.state i.kids c x ≡ false
@@ -191,8 +186,7 @@ module _ (w : World) (i : Site w) (q : ℕ) where
             let e : owner (home w z) ≡ owner (home w (next n j)) = ap owner (slot_same (home w z) (home w (next n j)) h) in
             let f : m ≡ n = sym at ∙ sym (owner_home w z) ∙ e ∙ owner_home w (next n j) in
             let g : nat_eq m n ≡ true = rw f (test_of_same n) in cc)
-    cell_step (go_to site target) plain un pc b t = cc
-    cell_step (fall_to_child site hang) plain un pc b t = cc
+    cell_step _ plain un pc b t = cc
 
     mutual
       unfolding does does_arms does_block
@@ -295,12 +289,9 @@ module _ (w : World) (e p : ℕ) (s : is_state w e ≡ true) where
     not_touched false a h = refl
 
     alone_free : (j : Step) → FineStep w g k j → raised_alone w Here j e ≡ false
-    alone_free (assign site y t) fine = refl
-    alone_free (write site m i t) fine = refl
-    alone_free (retag site y n) fine = refl
-    alone_free (retag_cell site m i n) fine = refl
     alone_free (go_to site target) fine = not_touched (is_dynamic w e) _ own_out
     alone_free (fall_to_child site hang) fine = not_touched (is_dynamic w e) _ (or_from _ _ kids_out free)
+    alone_free _ fine = refl
 
     mutual
       unfolding does does_arms does_block

@@ -3,7 +3,7 @@ use Rattle.sap_lemmas.proofs.Common.{◌≡◌, ℕ, Bool, true, false, ◌&&◌
 use Rattle.sap_meaning.proofs.FineLemmas.{inside_among}
 use Rattle.sap_lattice.specs.Order.{Laws}
 use Rattle.sap_maps.specs.Term.{Term}
-use Rattle.sap_meaning.specs.Prelude.{World, is_dynamic, Step, assign, write, retag, retag_cell, go_to, fall_to_child, Command, lone, try, if_else, try_then, case_of, Arms, last_arm, and_arm, Block, end_block, command_then, State, state_node, Group, Slot, own, Store, owner, level, child, raise, After, stay, and_then, Holds, value, tag, Home, site_of, child_level, guard, test, among, step_hangs, block_hangs, touches, raised_alone, arms_hang, effect, attempt, select, branch, does, does_block, attempt_then, does_arms, Low, High, FineTerm, transfers, Closes, Final, number_of, ClosingArms, OnceStep, Once, OnceBlock, OnceArms}
+use Rattle.sap_meaning.specs.Prelude.{World, is_dynamic, Step, go_to, fall_to_child, Command, lone, try, if_else, try_then, case_of, Arms, last_arm, and_arm, Block, end_block, command_then, State, state_node, Group, Slot, own, Store, owner, level, child, raise, After, stay, and_then, Holds, value, tag, Home, site_of, child_level, guard, test, among, step_hangs, block_hangs, touches, raised_alone, arms_hang, effect, attempt, select, branch, does, does_block, attempt_then, does_arms, Low, High, FineTerm, transfers, Closes, Final, number_of, ClosingArms, OnceStep, Once, OnceBlock, OnceArms}
 use Rattle.sap_meaning.proofs.Slots.{child_raise, held_state}
 use Rattle.sap_meaning.proofs.Trees.{Nth, nth_same}
 use Rattle.sap_meaning.proofs.Keeps.{OfDynamic, branch_all, holds_raise, alone_dynamic, choose_all, effect_holds}
@@ -114,19 +114,12 @@ module _ (w : World) (laws : Laws w.order) (l : ℕ) where
         rw (child_level_nth w c.site.kids (child c.site.state s) f.0 s f.1, child_level_nth w c.site.kids (child c.site.state t) g.0 t g.1) r
 
     guard_like : (h : ℕ → Bool) (k : Step) → transfers k ≡ true → ProperStep w c.site k → (s t : Store) → Meets h s t → Like w.order l (guard w At k s) (guard w At k t)
-    guard_like h (assign site x e) moves fine s t m = cc
-    guard_like h (write site x j e) moves fine s t m = cc
-    guard_like h (retag site x n) moves fine s t m = cc
-    guard_like h (retag_cell site x j n) moves fine s t m = cc
     guard_like h (go_to site target) moves fine s t m = (refl, λ y. refl)
     guard_like h (fall_to_child site hang) moves fine s t m = (fall_like h site hang fine s t m).0
+    guard_like h _ moves fine s t m = cc
 
     test_same : (h : ℕ → Bool) (k : Step) → transfers k ≡ true → ProperStep w c.site k → (pc : ℕ) (s t : Store) → Meets h s t
         → IsLow (guard w At k s) → test w At k pc s ≡ test w At k pc t
-    test_same h (assign site x e) moves fine pc s t m low = cc
-    test_same h (write site x j e) moves fine pc s t m low = cc
-    test_same h (retag site x n) moves fine pc s t m low = cc
-    test_same h (retag_cell site x j n) moves fine pc s t m low = cc
     test_same h (go_to site target) moves fine pc s t m low =
         let e = (own_heads h s t m).1 in
         elim (cases_Bool (is_dynamic w target)) [
@@ -150,6 +143,7 @@ module _ (w : World) (laws : Laws w.order) (l : ℕ) where
       where
         alike : (i j : Bool) → i ≡ j → (y z : ℕ) → y ≡ z → (i || w.order.le pc y) ≡ (j || w.order.le pc z)
         alike i j e y z v = rw (e, v) refl
+    test_same h _ moves fine pc s t m low = cc
 
     -- the effects of a transfer under a low guard, from the raised stores
     effect_pair : (h : ℕ → Bool) (k : Step) → ((x : ℕ) → step_concerns w c.site.state c.site.kids k x ≡ true → h x ≡ true)
@@ -158,10 +152,6 @@ module _ (w : World) (laws : Laws w.order) (l : ℕ) where
         → IsLow (guard w At k s) → ((z : Slot) → Low w.order l (level w z s) → Low w.order l (level w z r))
         → Both (effect w At c.site.enter k pc s r) (effect w At c.site.enter k pc t u)
     unfolding effect
-    effect_pair h (assign site x e) inn moves fine once pc s t r u cs ct m v lowpc low up = cc
-    effect_pair h (write site x j e) inn moves fine once pc s t r u cs ct m v lowpc low up = cc
-    effect_pair h (retag site x n) inn moves fine once pc s t r u cs ct m v lowpc low up = cc
-    effect_pair h (retag_cell site x j n) inn moves fine once pc s t r u cs ct m v lowpc low up = cc
     effect_pair h (go_to site target) inn moves fine once pc s t r u cs ct m v lowpc low up =
         let a = goto_pair w laws l c site target fine pc c.site.enter s t r u v.first v.second v.like in
         record { twin = record { same = a.same; refused = refl }; path = a.path }
@@ -184,6 +174,7 @@ module _ (w : World) (laws : Laws w.order) (l : ℕ) where
         } in
         subst (λ n. Both (c.site.enter (child c.site.state s) q r) (c.site.enter n (w.order.join pc (child_level w c.site.kids (child c.site.state t) t)) u)) (f.1 low)
         (subst (λ y. Both (c.site.enter (child c.site.state s) q r) (c.site.enter (child c.site.state s) (w.order.join pc y) u)) (f.0.1 low) res)
+    effect_pair h _ inn moves fine once pc s t r u cs ct m v lowpc low up = cc
 
     -- what a high context does from a raised store
     abbrev Side : (Store → After) → Store → Type 0
@@ -255,12 +246,9 @@ module _ (w : World) (laws : Laws w.order) (l : ℕ) where
 
     -- a step alone raises all that it touches
     alone_all : (k : Step) → transfers k ≡ true → (x : ℕ) → (is_dynamic w x && step_hangs c.site.state c.site.kids k x) ≡ true → raised_alone w At k x ≡ true
-    alone_all (assign site y e) moves x h = cc
-    alone_all (write site y j e) moves x h = cc
-    alone_all (retag site y n) moves x h = cc
-    alone_all (retag_cell site y j n) moves x h = cc
     alone_all (go_to site target) moves x h = h
     alone_all (fall_to_child site hang) moves x h = h
+    alone_all _ moves x h = cc
 
     high_side : (b : Block) → ProperBlock w c.site b → Closes b → (hang : ℕ → Bool) (a : ℕ)
         → ((x : ℕ) → (is_dynamic w x && block_hangs c.site.state c.site.kids b x) ≡ true → hang x ≡ true) → OfDynamic w hang

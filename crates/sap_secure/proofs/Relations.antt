@@ -155,8 +155,7 @@ module _ (p : Program) (laws : Laws p.world.order) (l : ℕ) where
     | inl d ↦ cell_alike W laws l (next m) (next_whole m) s t (home_nexts m d) (r.dynamic_memories m g d).1 i
     | inr d ↦ same_of W.order l _ _ _ _ (r.enforced_memories m i g d).1
   ]
-  slots_same s t r (start_whole m) g n = cc
-  slots_same s t r (next_whole m) g n = cc
+  slots_same s t r _ g n = cc
 
   pub states_agree : (s t : Store) → Agree W l s t → PathsRelated (Alike W.order l) (active_path p s) (active_path p t) → StatesAgree p l s t
   states_agree s t r e = record {

@@ -20,12 +20,11 @@ use Rattle.sap_secure.proofs.Relations.{same_of, slots_same, states_agree, same_
 
 input_same : (o : Order) (laws : Laws o) (l : ℕ) (a b : List Tagged) (d : Tagged) → InputsAgree o l a b → (n : ℕ)
     → Same o l (get_or a n d).number (get_or a n d).level (get_or b n d).number (get_or b n d).level
-input_same o laws l [] [] d same zero = same_self o laws l _ _
-input_same o laws l [] [] d same (suc n) = same_self o laws l _ _
 input_same o laws l [] (b ∷ bs) d same n = absurd same
 input_same o laws l (a ∷ as') [] d same n = absurd same
 input_same o laws l (a ∷ as') (b ∷ bs) d same zero = same_of o l _ _ _ _ same.0
 input_same o laws l (a ∷ as') (b ∷ bs) d same (suc n) = input_same o laws l as' bs d same.1 n
+input_same o laws l [] [] d same _ = same_self o laws l _ _
 
 module _ (w : World) where
   -- inputs change nothing else
@@ -48,16 +47,12 @@ module _ (w : World) where
     where
       whole : (y z : Slot) → y ≡ z → at_inputs w (λ x. (given w inputs x).level) s.level z ≡ s.level z → at_inputs w (λ x. (given w inputs x).level) s.level y ≡ s.level y
       whole y z e f = subst (λ v. at_inputs w (λ x. (given w inputs x).level) s.level v ≡ s.level v) (sym e) f
-  inputs_level inputs s (start_whole m) n = refl
-  inputs_level inputs s (next_whole m) n = refl
+  inputs_level inputs s _ n = refl
 
   pub inputs_number : (inputs : List Tagged) (s : Store) (z : Slot) → is_input w (owner z) ≡ false → number z (set_inputs w inputs s) ≡ number z s
   unfolding set_inputs
   inputs_number inputs s (own x) n = rw n refl
-  inputs_number inputs s (start m i) n = refl
-  inputs_number inputs s (next m i) n = refl
-  inputs_number inputs s (start_whole m) n = refl
-  inputs_number inputs s (next_whole m) n = refl
+  inputs_number inputs s _ n = refl
 
   pub inputs_child : (inputs : List Tagged) (s : Store) (p : ℕ) → child p (set_inputs w inputs s) ≡ child p s
   unfolding set_inputs
@@ -117,18 +112,12 @@ module _ (p : Program) (fine : FineProgram p) (l : ℕ) where
       (λ x h. (inputs_level p.world a s (own x) (state_no_input (entity p.world x).kind (inside_state p.world p.states 0 p.states fine.states x h)), inputs_child p.world a s x)))
 
   even_inputs : (s : Store) (a : List Tagged) → Rests p.world s → Even p.world (group_concerns p.world p.states) (set_inputs p.world a s)
-  even_inputs s a rests (own x) g d h = refl
-  even_inputs s a rests (start m i) g d h = refl
   even_inputs s a rests (next m i) g d h = inputs_keep p.world s a fine.inputs (start m i) d ∙ rests.levels m i ∙ sym (inputs_keep p.world s a fine.inputs (next m i) d)
-  even_inputs s a rests (start_whole m) g d h = refl
-  even_inputs s a rests (next_whole m) g d h = refl
+  even_inputs s a rests _ g d h = refl
 
   source_compared : (z : Slot) → compared p.world z ≡ true → compared p.world (source z) ≡ true
   source_compared (own x) g = g
-  source_compared (start m i) g = g
-  source_compared (next m i) g = g
-  source_compared (start_whole m) g = g
-  source_compared (next_whole m) g = g
+  source_compared _ g = g
 
   agree_settle : (s t : Store) → Agree p.world l s t → Agree p.world l (settle s) (settle t)
   agree_settle s t r = record {

@@ -3,7 +3,7 @@ use Rattle.sap_lemmas.proofs.Common.{◌≡◌, ℕ, zero, suc, ◌<◌, Bool, t
 use Rattle.sap_meaning.proofs.FineLemmas.{inside_among}
 use Rattle.sap_lattice.specs.Order.{Laws}
 use Rattle.sap_maps.specs.Term.{Term}
-use Rattle.sap_meaning.specs.Prelude.{World, is_dynamic, is_state, children, place, last, below, Step, assign, write, retag, retag_cell, go_to, fall_to_child, Command, lone, try, if_else, try_then, case_of, Arms, last_arm, and_arm, Block, end_block, command_then, State, state_node, Group, no_node, and_node, Slot, own, Store, owner, level, child, put_level, put_child, raise, reset, After, stay, Holds, tag, Home, child_level, opens, child_opens, guard, test, among, step_hangs, hangs, block_hangs, touches, raised_alone, arms_hang, effect, attempt, select, branch, does, does_block, attempt_then, does_arms, Low, High, transfers, Open, Closes, Final, number_of, ClosingArms}
+use Rattle.sap_meaning.specs.Prelude.{World, is_dynamic, is_state, children, place, last, below, Step, go_to, fall_to_child, Command, lone, try, if_else, try_then, case_of, Arms, last_arm, and_arm, Block, end_block, command_then, State, state_node, Group, no_node, and_node, Slot, own, Store, owner, level, child, put_level, put_child, raise, reset, After, stay, Holds, tag, Home, child_level, opens, child_opens, guard, test, among, step_hangs, hangs, block_hangs, touches, raised_alone, arms_hang, effect, attempt, select, branch, does, does_block, attempt_then, does_arms, Low, High, transfers, Open, Closes, Final, number_of, ClosingArms}
 use Rattle.sap_meaning.proofs.Slots.{child_raise, child_put, child_reset, level_put, child_level_put, level_child, held_state}
 use Rattle.sap_meaning.proofs.Trees.{Nth, nth_of, placed}
 use Rattle.sap_meaning.proofs.Keeps.{OfDynamic, Keeps, branch_all, raise_keeps, reset_keeps, holds_raise, alone_dynamic, choose_all, effect_holds}
@@ -181,10 +181,6 @@ module _ (w : World) (laws : Laws w.order) (l : ℕ) where
         → Mine (λ x. is_dynamic w x && step_hangs c.site.state c.site.kids k x) r → test w At k pc b ≡ true → UpAt pc k b
         → PathOf (effect w At c.site.enter k pc b r).store ≡ PathOf r
     unfolding effect
-    step_still (assign site x e) moves fine pc b r seats same holds quiet here cover t up = cc
-    step_still (write site m j e) moves fine pc b r seats same holds quiet here cover t up = cc
-    step_still (retag site x n) moves fine pc b r seats same holds quiet here cover t up = cc
-    step_still (retag_cell site m j n) moves fine pc b r seats same holds quiet here cover t up = cc
     step_still (go_to site target) moves fine pc b r seats same holds quiet here cover t up =
         goto_lands site target fine pc b r holds same t up ∙ sym (high_path r here (goto_source site target pc b r same cover t up))
     step_still (fall_to_child site hang) moves fine pc b r seats same holds quiet here cover t up = elim (cases_Bool (w.order.le (level w (own c.site.state) r) l)) [
@@ -223,6 +219,7 @@ module _ (w : World) (laws : Laws w.order) (l : ℕ) where
                 let t' = subst (λ v. v ≡ true) (child_opens_nth w c.site.kids (child c.site.state b) a.0 pc b a.1) t in
                 high_above w.order laws l pc _ (rw d at t') h
             upper (inr h) = subst (λ v. High w.order l v) (child_level_nth w c.site.kids (child c.site.state b) a.0 b a.1) h
+    step_still _ moves fine pc b r seats same holds quiet here cover t up = cc
 
     raised_path : (hang : ℕ → Bool) (a : ℕ) (s : Store) → Here s → Mine hang s → ((x : ℕ) → deeper c.site.kids x ≡ true → hang x ≡ false)
         → PathOf (raise w.order hang a s) ≡ PathOf s

@@ -108,20 +108,18 @@ module _ (w : World) (laws : Laws w.order) (l : ℕ) where
     pub guard_same : (k : Step) → ProperStep w i k → transfers k ≡ false → (s t : Store) → Agree w l s t → w.order.le (guard w At k s) l ≡ w.order.le (guard w At k t) l
     guard_same (assign site x e) fine plain s t r = elim (cases_Bool (is_dynamic w x)) [ inl d ↦ rw d refl | inr d ↦ rw d (r.cells (own x) (or_right _ _ fine.0.0)).low ]
     guard_same (write site m j e) fine plain s t r = elim (cases_Bool (is_dynamic w m)) [ inl d ↦ rw d refl | inr d ↦ rw d (tag_same (cell m j) (fine.0.0, fine.0.1) s t r) ]
-    guard_same (retag site x n) fine plain s t r = refl
-    guard_same (retag_cell site m j n) fine plain s t r = refl
     guard_same (go_to site target) fine plain s t r = cc
     guard_same (fall_to_child site hang) fine plain s t r = cc
+    guard_same _ fine plain s t r = refl
 
     pub guard_low : (k : Step) → ProperStep w i k → transfers k ≡ false → (s t : Store) → Agree w l s t → IsLow (guard w At k s) → guard w At k s ≡ guard w At k t
     guard_low (assign site x e) fine plain s t r h =
         elim (cases_Bool (is_dynamic w x)) [ inl d ↦ rw d refl | inr d ↦ rw d ((r.cells (own x) (or_right _ _ fine.0.0)).level (rw d at h)) ]
     guard_low (write site m j e) fine plain s t r h =
         elim (cases_Bool (is_dynamic w m)) [ inl d ↦ rw d refl | inr d ↦ rw d (tag_low (cell m j) (fine.0.0, fine.0.1) s t r (rw d at h)) ]
-    guard_low (retag site x n) fine plain s t r h = refl
-    guard_low (retag_cell site m j n) fine plain s t r h = refl
     guard_low (go_to site target) fine plain s t r h = cc
     guard_low (fall_to_child site hang) fine plain s t r h = cc
+    guard_low _ fine plain s t r h = refl
 
     told_joined : (n : LevelTerm) (j : Term ℕ) → FineLevel w n → FineTerm w j → (s t : Store) → Agree w l s t
         → w.order.le (w.order.join (told w n s) (tag w j s)) l ≡ w.order.le (w.order.join (told w n t) (tag w j t)) l
@@ -173,8 +171,7 @@ module _ (w : World) (laws : Laws w.order) (l : ℕ) where
       | inr y ↦ (let a = not_below w.order laws l _ (authority w m) (high_right w.order laws l pc _ y) h in
           let b = not_below w.order laws l _ (authority w m) (high_right w.order laws l pc _ (sym (told_joined n j fine.0.3 fine.0.2 s t r) ∙ y)) h in rw (a, b) refl)
     ]
-    test_low (go_to site target) fine plain pc s t r h = cc
-    test_low (fall_to_child site hang) fine plain pc s t r h = cc
+    test_low _ fine plain pc s t r h = cc
 
     -- under a low guard the effects look alike
     pub effect_low : (k : Step) → ProperStep w i k → transfers k ≡ false → (pc : ℕ) (s t r u : Store) → IsLow pc → Agree w l s t
@@ -298,8 +295,7 @@ module _ (w : World) (laws : Laws w.order) (l : ℕ) where
             ≡ (if w.order.le (level w (start m (value w j s)) s) (new_level w n s) then number (start m (value w j s)) t else 0)
         kept_number z (inl b) = rw b ((like.cells (start m (value w j s)) fine.0.0).number (low_below w.order laws l _ _ b z))
         kept_number z (inr b) = rw b refl
-    effect_low (go_to site target) fine plain pc s t r u lowpc like lifts h ts = cc
-    effect_low (fall_to_child site hang) fine plain pc s t r u lowpc like lifts h ts = cc
+    effect_low _ fine plain pc s t r u lowpc like lifts h ts = cc
 
     -- under a low guard
     attempt_low : (k : Step) → ProperStep w i k → transfers k ≡ false → (hang : ℕ → Bool) (h : ℕ → Store → After) (pc : ℕ) (s t : Store)
@@ -434,10 +430,7 @@ module _ (w : World) (laws : Laws w.order) (l : ℕ) where
       λ d. (let dx : is_dynamic w m ≡ true = rw (eqb-true (owner z) m h) at d in let high' = rw dx at high in let low = laws.least_of_all l in cc),
       λ d. inl (even_raise w laws l (step_concerns w i.state i.kids (write site m j e)) (λ y. false) s _ (λ y h. cc) even z g d h),
     )
-    alone_quiet (retag site x n) fine plain s even high z g h = cc
-    alone_quiet (retag_cell site m j n) fine plain s even high z g h = cc
-    alone_quiet (go_to site target) fine plain s even high z g h = cc
-    alone_quiet (fall_to_child site hang) fine plain s even high z g h = cc
+    alone_quiet _ fine plain s even high z g h = cc
 
     -- the parts of what a command touches
     pub even_left : (a b : ℕ → Bool) (s : Store) → Even w (λ x. a x || b x) s → Even w a s

@@ -3,8 +3,8 @@ use Rattle.sap_lemmas.proofs.Common.{◌≡◌, ℕ, zero, suc, true, false, ◌
 use Rattle.sap_meaning.proofs.ProgramLemmas.{register_no_memory}
 use Rattle.sap_meaning.proofs.FineLemmas.{inside_among}
 use Rattle.sap_lattice.specs.Order.{Laws}
-use Rattle.sap_meaning.specs.Prelude.{World, Kind, entity, kind_is_input, kind_is_register, kind_is_memory, is_dynamic, is_register, is_memory, is_state, root, below, Step, assign, write, retag, retag_cell, go_to, fall_to_child, Command, lone, try, if_else, try_then, case_of, Arms, last_arm, and_arm, Block, end_block, command_then, State, state_node, Group, no_node, and_node, own, start, next, start_whole, next_whole, Store, home, level, child, among, step_hangs, hangs, touches, group_assigns, step_retags, retags, block_retags, state_retags, group_retags, does, does_child, Holds, High, FineTerm, FineStep, FineCommand, inside, number_of, kids_of, ClosingArms, NoTransfer, reaches, Every, EveryInArms, some_in_arms}
-use Rattle.sap_meaning.specs.Program.{input, register, memory, state}
+use Rattle.sap_meaning.specs.Prelude.{World, Kind, entity, kind_is_input, kind_is_register, kind_is_memory, is_dynamic, is_register, is_memory, is_state, root, below, Step, assign, write, go_to, fall_to_child, Command, lone, try, if_else, try_then, case_of, Arms, last_arm, and_arm, Block, end_block, command_then, State, state_node, Group, no_node, and_node, own, next, next_whole, Store, home, level, child, among, step_hangs, hangs, touches, group_assigns, step_retags, retags, block_retags, state_retags, group_retags, does, does_child, Holds, High, FineTerm, FineStep, FineCommand, inside, number_of, kids_of, ClosingArms, NoTransfer, reaches, Every, EveryInArms, some_in_arms}
+use Rattle.sap_meaning.specs.Program.{input}
 use Rattle.sap_meaning.specs.Fine.{Nth}
 use Rattle.sap_secure.specs.Confinement.{last_group, last_parent, Active, StandsIn, StandsInBlock, is_goto, is_fall, has_goto, has_fall, level_slot, EqualParts, SomeHigh, Guarded, Confinement, StandsInArms}
 use Rattle.sap_meaning.proofs.WalksLemmas.{some_follows}
@@ -76,10 +76,9 @@ module _ (w : World) (i : Site w) where
   step_own : (k : Step) → FineStep w i.siblings i.kids k → step_hangs i.state i.kids k i.state ≡ true → is_goto k ≡ true
   step_own (assign site y t) fine h = let no = register_apart w i.state y (node w i).kind fine.0 in cc
   step_own (write site m j t) fine h = let no = memory_apart w i.state m (node w i).kind fine.0 in cc
-  step_own (retag site y n) fine h = cc
-  step_own (retag_cell site m j n) fine h = cc
   step_own (go_to site target) fine h = refl
   step_own (fall_to_child site hang) fine h = let no = or_from _ _ own_out (out i.state (node w i).kind) in cc
+  step_own _ fine h = cc
 
   own_goto : (c : Command) → Every (FineCommand w i.siblings i.kids) c → hangs i.state i.kids c i.state ≡ true → has_goto c ≡ true
   own_goto c fine h =
@@ -89,10 +88,8 @@ module _ (w : World) (i : Site w) where
     step_kid : (k : Step) → FineStep w i.siblings i.kids k → step_hangs i.state i.kids k x ≡ true → is_fall k ≡ true
     step_kid (assign site y t) fine h = let no = register_apart w x y s fine.0 in cc
     step_kid (write site m j t) fine h = let no = memory_apart w x m s fine.0 in cc
-    step_kid (retag site y n) fine h = cc
-    step_kid (retag_cell site m j n) fine h = cc
-    step_kid (go_to site target) fine h = cc
     step_kid (fall_to_child site hang) fine h = refl
+    step_kid _ fine h = cc
 
     kid_fall : (c : Command) → Every (FineCommand w i.siblings i.kids) c → hangs i.state i.kids c x ≡ true → has_fall c ≡ true
     kid_fall c fine h = some_follows (FineStep w i.siblings i.kids) (FineTerm w) (λ k. step_hangs i.state i.kids k x) (λ k. is_fall k) step_kid c fine h
@@ -100,9 +97,7 @@ module _ (w : World) (i : Site w) where
 -- an input is no register and no memory
 input_alone : (k : Kind) → kind_is_register k ≡ false → (kind_is_input k || kind_is_register k) ≡ true → (kind_is_register k ≡ false) × (kind_is_memory k ≡ false)
 input_alone input r h = (refl, refl)
-input_alone register r h = cc
-input_alone (memory d) r h = cc
-input_alone (state p n) r h = cc
+input_alone _ r h = cc
 
 -- a command of a block retags what the block retags
 mutual
@@ -271,7 +266,6 @@ module _ (w : World) (laws : Laws w.order) (l : ℕ) (i : Site w) (c : Command) 
           let y = found i.state i.kids x (not_own w i x st) (no_kid w i x st) c (and_right (is_dynamic w x) _ (hanging w i.state i.kids c x (and_from _ _ d h))) in
           let no = or_from _ _ (unassigned w x z.0 z.1 i.siblings i.kids c (fine_command w i c fine)) (group_unassigned w x z.0 z.1 i.kids 0 i.kids (own_fine w i).1) in
           cc
-  quiet_of f g (start m j) k h = cc
   quiet_of f g (next m j) k h = (
     λ d. (let high = f m (or_right _ _ k) (hanging w i.state i.kids c m (and_from _ _ d h)) in let high' = rw k at high in
         subst (λ z. High w.order l (s.level z)) (sym (whole m j d)) high'),
@@ -282,8 +276,7 @@ module _ (w : World) (laws : Laws w.order) (l : ℕ) (i : Site w) (c : Command) 
     where
       whole : (m j : ℕ) → is_dynamic w m ≡ true → home w (next m j) ≡ next_whole m
       whole m j d = rw d refl
-  quiet_of f g (start_whole m) k h = cc
-  quiet_of f g (next_whole m) k h = cc
+  quiet_of f g _ k h = cc
 
   -- and of the state and its current child
   cover_of : High w.order l (level w (own i.state) s) ⊎ Guarded w l i.state i.kids c s → Cover w l i.state i.kids (touches w (spot i) c) s

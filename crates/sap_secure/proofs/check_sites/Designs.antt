@@ -4,7 +4,7 @@ use Rattle.sap_tree.specs.Syntax as tree
 use Rattle.sap_lattice.specs.Levels.{Levels}
 use Rattle.sap_shape.specs.Sites.{Surroundings, CheckSite, check_sites}
 use Rattle.sap_check.specs.Sites.{kind_of_command, target_of, entity_number, site_of}
-use Rattle.sap_meaning.specs.Prelude.{World, root, Step, assign, write, retag, retag_cell, go_to, fall_to_child, Home, PlacedStep}
+use Rattle.sap_meaning.specs.Prelude.{World, root, Step, assign, Home, PlacedStep}
 use Rattle.sap_resolved.specs.Worlds.{world_of}
 use Rattle.sap_resolved.specs.Resolve.{step_of, states_of}
 use Rattle.sap_resolved.specs.Fill.{filled_step}
@@ -18,22 +18,14 @@ use Rattle.sap_secure.specs.CheckSites.Numbering.{numbered, SitesAgree}
 site_filled : (w : World) (at : Home) (s : ℕ) (k : Step)
     → program_site (record { state = s; step = filled_step w at k }) ≡ program_site (record { state = s; step = k })
 site_filled w at s (assign site x e) = refl
-site_filled w at s (write site m j e) = refl
-site_filled w at s (retag site x n) = refl
-site_filled w at s (retag_cell site m j n) = refl
-site_filled w at s (go_to site target) = refl
-site_filled w at s (fall_to_child site hang) = refl
+site_filled w at s _ = refl
 
 -- the step of a command does what the command does
 site_placed : (ls : Levels) (h : Surroundings) (k : ℕ) (c : tree.SimpleCommand)
     → program_site (record { state = entity_number h.entities h.home.name; step = step_of ls h k c })
     ≡ record { number = k; kind = kind_of_command c; entity = entity_number h.entities (target_of h c) }
 site_placed ls h k (tree.assign target e) = refl
-site_placed ls h k (tree.write target index e) = refl
-site_placed ls h k (tree.set_tag place target tag) = refl
-site_placed ls h k (tree.set_cell_tag place target index tag) = refl
-site_placed ls h k (tree.go_to place target) = refl
-site_placed ls h k (tree.fall_to_child place) = refl
+site_placed ls h k _ = refl
 
 all_placed : (ls : Levels) (k : ℕ) (ss : List CheckSite) → map program_site (placed ls k ss) ≡ numbered k (map site_of ss)
 all_placed ls k [] = refl

@@ -6,7 +6,7 @@ use Rattle.sap_lattice.specs.Levels.{Levels}
 use Rattle.sap_names.specs.declared.entity.Entity.{Entity}
 use Rattle.sap_shape.specs.Sites as shape
 use Rattle.sap_shape.specs.Sites.{Surroundings, CheckSite, simple_sites}
-use Rattle.sap_meaning.specs.Prelude.{World, Step, assign, write, retag, retag_cell, go_to, fall_to_child, Command, Arms, Block, State, state_node, Group, gathered, gathered_in_block, gathered_from, gathered_from_group, body_of, Home, site_of, numbers_from}
+use Rattle.sap_meaning.specs.Prelude.{World, Step, assign, Command, Arms, Block, State, state_node, Group, gathered, gathered_in_block, gathered_from, gathered_from_group, body_of, Home, site_of, numbers_from}
 use Rattle.sap_meaning.specs.Walks.{gathered_in_arms}
 use Rattle.sap_meaning.proofs.SitesLemmas.{numbers_join}
 use Rattle.sap_resolved.specs.Worlds.{states_in}
@@ -41,11 +41,7 @@ module _ (w : World) where
   module _ (at : Home) where
     step_filled : (k : Step) → own_site (filled_step w at k) ≡ own_site k
     step_filled (assign site x e) = refl
-    step_filled (write site m j e) = refl
-    step_filled (retag site x n) = refl
-    step_filled (retag_cell site m j n) = refl
-    step_filled (go_to site target) = refl
-    step_filled (fall_to_child site hang) = refl
+    step_filled _ = refl
 
   body_filled : (p : ℕ) (t : State) → body_marks (filled_state w p t) ≡ body_marks t
   body_filled p (state_node s b g) =
@@ -74,11 +70,7 @@ module _ (ls : Levels) where
   module _ (h : Surroundings) where
     number_is : (n : ℕ) (c : SimpleCommand) → site_of (step_of ls h n c) ≡ n
     number_is n (assign target e) = refl
-    number_is n (tree.write target index e) = refl
-    number_is n (set_tag place target tag) = refl
-    number_is n (set_cell_tag place target index tag) = refl
-    number_is n (tree.go_to place target) = refl
-    number_is n (tree.fall_to_child place) = refl
+    number_is n _ = refl
 
     simple_marked : (k : ℕ) → 1 ≤ k → (c : SimpleCommand) → own_site (step_of ls h (site_number h k c) c) ≡ numbers_from k (length (simple_sites h c))
     simple_marked k p c =

@@ -2,7 +2,7 @@
 use Rattle.sap_lemmas.proofs.Common.{◌≡◌, ℕ, zero, suc, Bool, true, false, List, [], ◌∷◌, ◌++◌, append_assoc, nat_eq, refl, sym, ap, ◌∙◌, subst, if◌then◌else◌, append-nil}
 use Rattle.sap_meaning.proofs.SitesLemmas.{sublist_append, sublist_behind, sublist_between, sublist_front}
 use Rattle.sap_maps.specs.Term.{Term}
-use Rattle.sap_meaning.specs.Prelude.{World, root, Program, Step, assign, write, retag, retag_cell, go_to, fall_to_child, Command, lone, try, if_else, try_then, case_of, Arms, last_arm, and_arm, Block, end_block, command_then, State, state_node, Group, no_node, and_node, Store, child, raise, value, tag, Home, guard, test, touches, root_touches, raised_alone, does, does_child, effect, is_constant, Tagged, set_inputs, transfers, Open, Closes, Final, ClosingArms, FineState, FineGroup, FineProgram, NoTransfer, Sublist, EveryInArms, EveryInBlock}
+use Rattle.sap_meaning.specs.Prelude.{World, root, Program, Step, fall_to_child, Command, lone, try, if_else, try_then, case_of, Arms, last_arm, and_arm, Block, end_block, command_then, State, state_node, Group, no_node, and_node, Store, child, raise, value, tag, Home, guard, test, touches, root_touches, raised_alone, does, does_child, effect, is_constant, Tagged, set_inputs, transfers, Open, Closes, Final, ClosingArms, FineState, FineGroup, FineProgram, NoTransfer, Sublist, EveryInArms, EveryInBlock}
 use Rattle.sap_secure.specs.Once.Steps.{onward, tried, tried_then, picked, chosen, steps, arms_steps, block_steps, state_steps, child_steps, root_steps, cycle_steps}
 use Rattle.sap_secure.specs.CheckSites.Once.{own_site, sites_met}
 use Rattle.sap_secure.proofs.check_sites.Sublists.{same, none}
@@ -26,20 +26,12 @@ behind xs ys as' bs f g = subst (λ (u : List ℕ). Sublist u (as' ++ bs)) (sym 
 module _ (w : World) where
   module _ (at : Home) (entered : ℕ → ℕ → Store → List Step) (below : List ℕ) (entering : (n pc : ℕ) (s : Store) → From (entered n pc s) below) where
     onward_from : (k : Step) (pc : ℕ) (b s : Store) → From (onward w at entered k pc b s) below
-    onward_from (assign site x e) pc b s = tt
-    onward_from (write site m i e) pc b s = tt
-    onward_from (retag site x n) pc b s = tt
-    onward_from (retag_cell site m j n) pc b s = tt
-    onward_from (go_to site target) pc b s = tt
     onward_from (fall_to_child site hang) pc b s = entering _ _ s
+    onward_from _ pc b s = tt
 
     onward_none : (k : Step) → transfers k ≡ false → (pc : ℕ) (b s : Store) → From (onward w at entered k pc b s) []
-    onward_none (assign site x e) plain pc b s = tt
-    onward_none (write site m i e) plain pc b s = tt
-    onward_none (retag site x n) plain pc b s = tt
-    onward_none (retag_cell site m j n) plain pc b s = tt
-    onward_none (go_to site target) plain pc b s = tt
     onward_none (fall_to_child site hang) plain pc b s = cc
+    onward_none _ plain pc b s = tt
 
     -- a step that leads to some of ys, and whose handler to some of zs
     tried_from : (k : Step) (hangs : ℕ → Bool) (h : ℕ → Store → List Step) (ys zs : List ℕ) → ((pc : ℕ) (b s : Store) → From (onward w at entered k pc b s) ys)

@@ -2,7 +2,7 @@
 use Rattle.sap_lemmas.proofs.Common.{◌≡◌, ℕ, zero, suc, ◌≤◌, Bool, true, false, List, [], ◌∷◌, ◌++◌, map, nat_eq, refl, arith, inl, inr, if◌then◌else◌, ne_eqb, map-append}
 use Rattle.sap_meaning.proofs.SitesLemmas.{sublist_append, sublist_behind}
 use Rattle.sap_maps.specs.Term.{Term}
-use Rattle.sap_meaning.specs.Prelude.{World, root, Program, Step, assign, write, retag, retag_cell, go_to, fall_to_child, Command, lone, try, if_else, try_then, case_of, Arms, last_arm, and_arm, Block, end_block, command_then, State, state_node, Group, no_node, and_node, own, Store, level, child, raise, Refusal, After, stay, and_then, value, tag, Home, site_of, guard, test, touches, root_touches, raised_alone, effect, attempt, attempt_then, select, branch, is_constant, does, does_arms, does_block, does_state, does_child, Tagged, set_inputs, root_fall, cycle, refused_sites, Sublist, RisesFrom}
+use Rattle.sap_meaning.specs.Prelude.{World, root, Program, Step, fall_to_child, Command, lone, try, if_else, try_then, case_of, Arms, last_arm, and_arm, Block, end_block, command_then, State, state_node, Group, no_node, and_node, own, Store, level, child, raise, Refusal, After, stay, and_then, value, tag, Home, site_of, guard, test, touches, root_touches, raised_alone, effect, attempt, attempt_then, select, branch, is_constant, does, does_arms, does_block, does_state, does_child, Tagged, set_inputs, root_fall, cycle, refused_sites, Sublist, RisesFrom}
 use Rattle.sap_secure.specs.Once.Steps.{onward, tried, tried_then, picked, chosen, steps, arms_steps, block_steps, state_steps, child_steps, root_steps, cycle_steps}
 use Rattle.sap_secure.specs.CheckSites.Once.{own_site, sites_met}
 
@@ -39,12 +39,8 @@ module _ (w : World) where
   module _ (at : Home) (entered : ℕ → ℕ → Store → List Step) (below : (n : ℕ) → EachAmong (entered n) (does_child w at.children at.state n)) where
     effect_among : (k : Step) (pc : ℕ) (b s : Store) → Among (effect w at (does_child w at.children at.state) k pc b s) (onward w at entered k pc b s)
     unfolding effect
-    effect_among (assign site x e) pc b s = tt
-    effect_among (write site m i e) pc b s = tt
-    effect_among (retag site x n) pc b s = tt
-    effect_among (retag_cell site m j n) pc b s = tt
-    effect_among (go_to site target) pc b s = tt
     effect_among (fall_to_child site hang) pc b s = below _ _ s
+    effect_among _ pc b s = tt
 
     attempt_among : (k : Step) (hangs : ℕ → Bool) (f : ℕ → Store → List Step) (h : ℕ → Store → After) → EachAmong f h
         → EachAmong (tried w at entered k hangs f) (attempt w at (does_child w at.children at.state) k hangs h)

@@ -1,7 +1,7 @@
 -- In a fine program at most one step that a cycle comes to writes a memory.
 use Rattle.sap_lemmas.proofs.Common.{◌≡◌, ℕ, zero, suc, ◌+◌, ◌≤◌, Bool, true, false, ◌&&◌, ◌||◌, List, [], ◌∷◌, ◌++◌, refl, sym, ◌∙◌, arith, inl, inr, nat_eq, if◌then◌else◌, cases_Bool, false_from_ne_true, or_from, neither_left, neither_right}
 use Rattle.sap_maps.specs.Term.{Term}
-use Rattle.sap_meaning.specs.Prelude.{World, root, Program, Step, assign, write, retag, retag_cell, go_to, fall_to_child, Command, lone, try, if_else, try_then, case_of, Arms, last_arm, and_arm, Block, end_block, command_then, State, state_node, Group, no_node, and_node, Store, own, level, child, raise, value, tag, Home, guard, test, touches, root_touches, raised_alone, does, does_child, effect, is_constant, set_inputs, FineProgram, step_writes, step_reaching, reaching, arms_reaching, block_reaching, state_reaches, group_reaches, OnceStep, Once, OnceArms, OnceBlock, OnceState, OnceGroup}
+use Rattle.sap_meaning.specs.Prelude.{World, root, Program, Step, write, retag_cell, fall_to_child, Command, lone, try, if_else, try_then, case_of, Arms, last_arm, and_arm, Block, end_block, command_then, State, state_node, Group, no_node, and_node, Store, own, level, child, raise, value, tag, Home, guard, test, touches, root_touches, raised_alone, does, does_child, effect, is_constant, set_inputs, FineProgram, step_writes, step_reaching, reaching, arms_reaching, block_reaching, state_reaches, group_reaches, OnceStep, Once, OnceArms, OnceBlock, OnceState, OnceGroup}
 use Rattle.sap_meaning.proofs.Bools.{and_false}
 use Rattle.sap_secure.specs.Once.Steps.{onward, tried, tried_then, picked, chosen, steps, arms_steps, block_steps, state_steps, child_steps, root_steps, cycle_steps}
 use Rattle.sap_secure.specs.Once.Once.{writes_to, WritesOnce}
@@ -15,29 +15,20 @@ module _ (w : World) (m : ℕ) (at : Home) (entered : ℕ → ℕ → Store → 
     (beyond : Type 0) (below : beyond → (n : ℕ) → AllCounted m (group_reaches at.children m) (entered n)) where
   -- a step that writes leads to no other
   onward_nothing : (k : Step) (pc : ℕ) (b s : Store) → step_writes k m ≡ true → writes_to m (onward w at entered k pc b s) ≡ 0
-  onward_nothing (assign site x e) pc b s h = refl
-  onward_nothing (write site n i e) pc b s h = refl
-  onward_nothing (retag site x n) pc b s h = refl
-  onward_nothing (retag_cell site n j t) pc b s h = refl
-  onward_nothing (go_to site target) pc b s h = refl
   onward_nothing (fall_to_child site hang) pc b s h = cc
+  onward_nothing _ pc b s h = refl
 
   onward_counted : (k : Step) → OnceStep beyond k → (pc : ℕ) (b s : Store) → Counted m (step_reaching (group_reaches at.children) k m) (onward w at entered k pc b s)
-  onward_counted (assign site x e) once pc b s = counted_nothing m
   onward_counted (write site n i e) once pc b s = counted_weaker m false (nat_eq m n) [] (λ h. refl) (counted_nothing m)
-  onward_counted (retag site x n) once pc b s = counted_nothing m
   onward_counted (retag_cell site n j t) once pc b s = counted_weaker m false (nat_eq m n) [] (λ h. refl) (counted_nothing m)
-  onward_counted (go_to site target) once pc b s = counted_nothing m
   onward_counted (fall_to_child site hang) once pc b s = below once _ _ _
+  onward_counted _ once pc b s = counted_nothing m
 
   -- what may not be reached isn't written
   reached : (k : Step) → step_reaching (group_reaches at.children) k m ≡ false → step_writes k m ≡ false
-  reached (assign site x e) h = refl
   reached (write site n i e) h = h
-  reached (retag site x n) h = refl
   reached (retag_cell site n j t) h = h
-  reached (go_to site target) h = refl
-  reached (fall_to_child site hang) h = refl
+  reached _ h = refl
 
   -- what comes behind a step
   module _ (k : Step) (once : OnceStep beyond k) (may : Bool) (apart : (step_writes k m && may) ≡ false) where
