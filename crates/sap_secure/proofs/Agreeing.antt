@@ -1,8 +1,9 @@
 -- Stores that look alike while a cycle runs.
+use Rattle.std.proofs.lemmas.Bool.{cond_both}
 use Rattle.sap_lemmas.proofs.Common.{◌≡◌, ℕ, Bool, true, false, ◌||◌, refl, sym, ap, ◌∙◌, subst, inl, inr, if◌then◌else◌, cases_Bool, false_from_ne_true}
 use Rattle.sap_meaning.proofs.ProgramLemmas.{state_no_value}
 use Rattle.sap_lattice.specs.Order.{Laws}
-use Rattle.sap_meaning.specs.Prelude.{World, entity, is_dynamic, is_input, is_register, is_memory, is_state, authority, Slot, own, start, next, start_whole, next_whole, Store, owner, home, number, level, same_slot, put_number, put_level, put_child, raised, raise, lowered, reset, held, Low, High}
+use Rattle.sap_meaning.specs.Prelude.{World, entity, is_dynamic, is_input, is_register, is_memory, is_state, authority, Slot, own, start, next, Store, owner, home, number, level, same_slot, put_number, put_level, put_child, raised, raise, lowered, reset, held, Low, High}
 use Rattle.sap_meaning.proofs.Slots.{slot_self, slot_same, home_own, home_cell, home_next, level_number, level_raise, number_put}
 use Rattle.sap_meaning.proofs.Keeps.{OfDynamic, raise_keeps, reset_keeps}
 use Rattle.sap_secure.proofs.Levels.{Like, Same, high_left, high_right, low_join, same_high, same_self, same_flip, same_next, same_raised}
@@ -130,29 +131,19 @@ module _ (w : World) (laws : Laws w.order) (l : ℕ) where
       → ((y : Slot) → compared w y ≡ true → raised h (home w y) ≡ true → High w.order l (level w y s)) → Agree w l s (raise w.order h a s)
   unfolding raise
   agree_raise s h a dyn high = record {
-    cells = λ y g. both y (raised h (home w y)) (high y g);
+    cells = λ y g. cond_both (raised h (home w y)) _ _ (λ v. Same w.order l (number y s) (level w y s) (number y s) v)
+        (λ e. same_high w.order laws l _ _ _ _ (high y g e) (high_left w.order laws l (level w y s) a (high y g e))) (λ e. same_self w.order laws l _ _);
     tags = λ y g d low. sym (raise_keeps w s h a dyn y d);
   }
-    where
-      both : (y : Slot) (i : Bool) → (i ≡ true → High w.order l (level w y s))
-          → Same w.order l (number y s) (level w y s) (number y s) (if i then w.order.join (level w y s) a else level w y s)
-      both y true at = same_high w.order laws l _ _ _ _ (at refl) (high_left w.order laws l (level w y s) a (at refl))
-      both y false at = same_self w.order laws l _ _
 
   -- what is high stays high
   pub raise_high : (s : Store) (h : ℕ → Bool) (a : ℕ) (y : Slot) → High w.order l (level w y s) → High w.order l (level w y (raise w.order h a s))
-  raise_high s h a y high = rw (level_raise w y h a s) (both (raised h (home w y)))
-    where
-      both : (i : Bool) → High w.order l (if i then w.order.join (level w y s) a else level w y s)
-      both true = high_left w.order laws l _ a high
-      both false = high
+  raise_high s h a y high =
+      rw (level_raise w y h a s) (cond_both (raised h (home w y)) _ _ (λ v. High w.order l v) (λ e. high_left w.order laws l _ a high) (λ e. high))
 
   pub raise_low : (s : Store) (h : ℕ → Bool) (a : ℕ) (y : Slot) → Low w.order l a → Low w.order l (level w y s) → Low w.order l (level w y (raise w.order h a s))
-  raise_low s h a y low here = rw (level_raise w y h a s) (both (raised h (home w y)))
-    where
-      both : (i : Bool) → Low w.order l (if i then w.order.join (level w y s) a else level w y s)
-      both true = low_join w.order laws l _ a here low
-      both false = here
+  raise_low s h a y low here =
+      rw (level_raise w y h a s) (cond_both (raised h (home w y)) _ _ (λ v. Low w.order l v) (λ e. low_join w.order laws l _ a here low) (λ e. here))
 
   -- what is raised to a high level is high
   pub raise_to : (s : Store) (h : ℕ → Bool) (a : ℕ) (y : Slot) → raised h (home w y) ≡ true → High w.order l a → High w.order l (level w y (raise w.order h a s))
@@ -166,7 +157,7 @@ module _ (w : World) (laws : Laws w.order) (l : ℕ) where
   pub agree_reset : (s : Store) (target : ℕ) → Agree w l s (reset w target s)
   unfolding reset
   agree_reset s target = record {
-    cells = λ y g. both y (lowered w target (home w y)) (off y g);
+    cells = λ y g. rw (off y g) (same_self w.order laws l _ _);
     tags = λ y g d a. sym (reset_keeps w s target y d);
   }
     where
@@ -177,25 +168,14 @@ module _ (w : World) (laws : Laws w.order) (l : ℕ) where
       ]
       off (start m i) g = elim (cases_Bool (is_dynamic w m)) [ inl d ↦ rw d refl | inr d ↦ rw d refl ]
       off (next m i) g = elim (cases_Bool (is_dynamic w m)) [ inl d ↦ rw d refl | inr d ↦ rw d refl ]
-      off (start_whole m) g = refl
-      off (next_whole m) g = refl
-
-      both : (y : Slot) (i : Bool) → i ≡ false → Same w.order l (number y s) (level w y s) (number y s) (if i then w.order.bottom else level w y s)
-      both y true e = cc
-      both y false e = same_self w.order laws l _ _
+      off _ g = refl
 
   -- a state's level is not compared, but for its authority
   pub agree_state : (s : Store) (x a : ℕ) → is_state w x ≡ true → is_dynamic w x ≡ true → Agree w l s (put_level w (own x) a s)
   unfolding put_level
   agree_state s x a st d = record {
-    cells = λ y g. rw (sole_test w (own x) (sole_own w x) y) (both y g (same_slot y (own x)) (slot_same y (own x)));
-    tags = λ y g e low. rw (sole_test w (own x) (sole_own w x) y) (tagged y e (same_slot y (own x)) (slot_same y (own x)));
+    cells = λ y g. rw (sole_test w (own x) (sole_own w x) y) (cond_both (same_slot y (own x)) a (level w y s) (λ v. Same w.order l (number y s) (level w y s) (number y s) v)
+        (λ i. let g' = subst (λ z. compared w z ≡ true) (slot_same y (own x) i) g in let no = state_no_value (entity w x).kind st in cc) (λ i. same_self w.order laws l _ _));
+    tags = λ y g e low. rw (sole_test w (own x) (sole_own w x) y) (cond_both (same_slot y (own x)) a (level w y s) (λ v. level w y s ≡ v)
+        (λ i. let e' = subst (λ z. is_dynamic w (owner z) ≡ false) (slot_same y (own x) i) e in cc) (λ i. refl));
   }
-    where
-      both : (y : Slot) → compared w y ≡ true → (i : Bool) → (i ≡ true → y ≡ own x) → Same w.order l (number y s) (level w y s) (number y s) (if i then a else level w y s)
-      both y g true at = let g' = subst (λ z. compared w z ≡ true) (at refl) g in let no = state_no_value (entity w x).kind st in cc
-      both y g false at = same_self w.order laws l _ _
-
-      tagged : (y : Slot) → is_dynamic w (owner y) ≡ false → (i : Bool) → (i ≡ true → y ≡ own x) → level w y s ≡ (if i then a else level w y s)
-      tagged y e true at = let e' = subst (λ z. is_dynamic w (owner z) ≡ false) (at refl) e in cc
-      tagged y e false at = refl

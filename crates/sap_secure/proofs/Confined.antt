@@ -110,15 +110,12 @@ module _ (w : World) (laws : Laws w.order) (l : ℕ) where
     where
       part : (z : Slot) → changing w z ≡ true → is_dynamic w (owner z) ≡ false → (level w (begun z) s ≡ level w z s) ⊎ High w.order l (authority w (owner z))
           → (level w (begun z) t ≡ level w z t) ⊎ High w.order l (authority w (owner z))
-      part (own x) g d e = inl refl
-      part (start m j) g d e = inl refl
       part (next m j) g d (inr h) = inr h
       part (next m j) g d (inl e) = elim (cases_Bool (w.order.le (authority w m) l)) [
         | inl low ↦ inl (sym (same.tags (start m j) g d low) ∙ e ∙ same.tags (next m j) g d low)
         | inr high ↦ inr high
       ]
-      part (start_whole m) g d e = inl refl
-      part (next_whole m) g d e = inl refl
+      part _ g d e = inl refl
 
   module _ (i : Site w) (entering : Entering w l i.kids i.enter) (holding : (n pc : ℕ) → Keeps w (i.enter n pc)) where
     abbrev At : Home
@@ -140,11 +137,8 @@ module _ (w : World) (laws : Laws w.order) (l : ℕ) where
       where
         part : (z : Slot) → changing w z ≡ true → block_concerns w i.state i.kids cs (owner z) ≡ true → is_dynamic w (owner z) ≡ false
             → level w (begun z) s ≡ level w z s → level w (begun z) (does w (spot i) i.enter c pc s).store ≡ level w z (does w (spot i) i.enter c pc s).store
-        part (own x) g h d e = refl
-        part (start m j) g h d e = refl
         part (next m j) g h d e = let a = apart m g d h in (start_kept w i 0 m g d c a.0 a.1 pc s j).level ∙ e ∙ sym (next_kept w i 0 m g d c a.0 a.1 pc s j).level
-        part (start_whole m) g h d e = refl
-        part (next_whole m) g h d e = refl
+        part _ g h d e = refl
 
     -- a context or a guard that is high
     abbrev pub Up : ℕ → Step → Store → Type 0

@@ -1,9 +1,9 @@
 -- Two runs of a list that closes, from stores that look alike on the active path too.
-use Rattle.sap_lemmas.proofs.Common.{◌≡◌, ℕ, Bool, true, false, ◌&&◌, ◌||◌, List, [], ◌∷◌, refl, sym, ap, ◌∙◌, subst, inl, inr, cases_Bool, or_left, or_right}
+use Rattle.sap_lemmas.proofs.Common.{◌≡◌, ℕ, Bool, true, false, ◌&&◌, ◌||◌, List, [], refl, sym, ap, ◌∙◌, subst, inl, inr, cases_Bool, or_left, or_right}
 use Rattle.sap_meaning.proofs.FineLemmas.{inside_among}
 use Rattle.sap_lattice.specs.Order.{Laws}
 use Rattle.sap_maps.specs.Term.{Term}
-use Rattle.sap_meaning.specs.Prelude.{World, is_dynamic, Step, go_to, fall_to_child, Command, lone, try, if_else, try_then, case_of, Arms, last_arm, and_arm, Block, end_block, command_then, State, state_node, Group, Slot, own, Store, owner, level, child, raise, After, stay, and_then, Holds, value, tag, Home, site_of, child_level, guard, test, among, step_hangs, block_hangs, touches, raised_alone, arms_hang, effect, attempt, select, branch, does, does_block, attempt_then, does_arms, Low, High, FineTerm, transfers, Closes, Final, number_of, ClosingArms, OnceStep, Once, OnceBlock, OnceArms}
+use Rattle.sap_meaning.specs.Prelude.{World, is_dynamic, Step, go_to, fall_to_child, Command, lone, try, if_else, try_then, case_of, Arms, last_arm, and_arm, Block, end_block, command_then, State, state_node, Group, Slot, own, Store, owner, level, child, raise, After, stay, and_then, Holds, value, tag, Home, child_level, guard, test, among, step_hangs, block_hangs, touches, raised_alone, arms_hang, effect, attempt, select, branch, does, does_block, attempt_then, does_arms, Low, High, FineTerm, transfers, Closes, Final, number_of, ClosingArms, OnceStep, Once, OnceBlock, OnceArms}
 use Rattle.sap_meaning.proofs.Slots.{child_raise, held_state}
 use Rattle.sap_meaning.proofs.Trees.{Nth, nth_same}
 use Rattle.sap_meaning.proofs.Keeps.{OfDynamic, branch_all, holds_raise, alone_dynamic, choose_all, effect_holds}
@@ -16,7 +16,7 @@ use Rattle.sap_secure.proofs.Confined.{Confined, Quiet, Even, confined_self, qui
 use Rattle.sap_secure.proofs.Walks.{Stop, path, one, path_here, heads, heads_low, from_raised}
 use Rattle.sap_secure.proofs.Still.{Scene, Cover, child_level_nth, child_opens_nth, touched_in, current, here_path, like_path, attempt_still, select_still, block_still, clear_own, clear_path, attempt_then_still, cover_kept, cover_part, step_clear, step_path, own_mine}
 use Rattle.sap_secure.proofs.Arrive.{goto_pair}
-use Rattle.sap_secure.proofs.Twin.{Twin, twin_confined, branch_both, value_low, tag_low, tag_same, does_twin, choose_both, guard_same, guard_low, test_low, effect_low, even_step, apart_step}
+use Rattle.sap_secure.proofs.Twin.{Twin, refusal, refusal_twin, twin_confined, branch_both, value_low, tag_low, tag_same, does_twin, choose_both, guard_same, guard_low, test_low, effect_low, even_step, apart_step}
 
 -- two results that look alike, the path included
 pub record Pair (w : World) (l p : ℕ) (q : Group) (a b : After) : Type 0 where
@@ -212,23 +212,12 @@ module _ (w : World) (laws : Laws w.order) (l : ℕ) where
         meet : Meets h r u
         meet = meets_raised h s t hang _ _ dyn m (guard_like h k moves fine s t m) low
 
-        again : (v : ℕ) → guard w At k s ≡ v → Both (record {
-          store = (f (w.order.join pc (guard w At k s)) r).store;
-          refused =
-              record { site = site_of k; level = w.order.join pc (guard w At k s) } ∷ (f (w.order.join pc (guard w At k s)) r).refused;
-        })
-            (record { store = (f (w.order.join pc v) u).store; refused = record { site = site_of k; level = w.order.join pc v } ∷ (f (w.order.join pc v) u).refused })
+        again : (v : ℕ) → guard w At k s ≡ v
+            → Both (refusal k (w.order.join pc (guard w At k s)) (f (w.order.join pc (guard w At k s)) r)) (refusal k (w.order.join pc v) (f (w.order.join pc v) u))
         again v e = rw (← e) (
             let up : Low w.order l (w.order.join pc (guard w At k s)) = low_join w.order laws l _ _ lowpc low in
             let g = handler (w.order.join pc (guard w At k s)) r u up meet in
-            record {
-              twin = record {
-                same = g.twin.same;
-                refused =
-                    rw up (ap (λ rs. record { site = site_of k; level = w.order.join pc (guard w At k s) } ∷ rs) g.twin.refused);
-              };
-              path = g.path;
-            })
+            record { twin = refusal_twin w laws l k _ _ _ up g.twin; path = g.path })
 
     lower_select : (h : ℕ → Bool) (e : Term ℕ) → FineTerm w e → (hang : ℕ → Bool) (pick : ℕ → ℕ → Store → After) (pc : ℕ) (s t : Store)
         → OfDynamic w hang → Meets h s t → IsLow pc → ((i r : ℕ) (v z : Store) → IsLow r → Meets h v z → Both (pick i r v) (pick i r z))
@@ -384,22 +373,11 @@ module _ (w : World) (laws : Laws w.order) (l : ℕ) where
             let d = accepted (w.order.join pc (guard w At k s)) one other up next in
             record { twin = record { same = d.twin.same; refused = seen_parts w.order laws l _ _ _ _ o.refused d.twin.refused }; path = d.path })
 
-        again : (v : ℕ) → guard w At k s ≡ v → Both (record {
-          store = (g (w.order.join pc (guard w At k s)) r).store;
-          refused =
-              record { site = site_of k; level = w.order.join pc (guard w At k s) } ∷ (g (w.order.join pc (guard w At k s)) r).refused;
-        })
-            (record { store = (g (w.order.join pc v) u).store; refused = record { site = site_of k; level = w.order.join pc v } ∷ (g (w.order.join pc v) u).refused })
+        again : (v : ℕ) → guard w At k s ≡ v
+            → Both (refusal k (w.order.join pc (guard w At k s)) (g (w.order.join pc (guard w At k s)) r)) (refusal k (w.order.join pc v) (g (w.order.join pc v) u))
         again v e = rw (← e) (
             let d = handler (w.order.join pc (guard w At k s)) r u up meet in
-            record {
-              twin = record {
-                same = d.twin.same;
-                refused =
-                    rw up (ap (λ rs. record { site = site_of k; level = w.order.join pc (guard w At k s) } ∷ rs) d.twin.refused);
-              };
-              path = d.path;
-            })
+            record { twin = refusal_twin w laws l k _ _ _ up d.twin; path = d.path })
 
     -- the same under a high guard, from the raised store
     then_side : (k : Step) (hang : List Bool) (a b : Block) → Proper w c.site (try_then k hang a b) → Final (try_then k hang a b)

@@ -27,26 +27,22 @@ input_same o laws l (a ∷ as') (b ∷ bs) d same (suc n) = input_same o laws l 
 input_same o laws l [] [] d same _ = same_self o laws l _ _
 
 module _ (w : World) where
+  level_as : (inputs : List Tagged) (s : Store) (y z : Slot) → y ≡ z → at_inputs w (λ x. (given w inputs x).level) s.level z ≡ s.level z
+      → at_inputs w (λ x. (given w inputs x).level) s.level y ≡ s.level y
+  level_as inputs s y z e f = subst (λ v. at_inputs w (λ x. (given w inputs x).level) s.level v ≡ s.level v) (sym e) f
+
   -- inputs change nothing else
   pub inputs_level : (inputs : List Tagged) (s : Store) (z : Slot) → is_input w (owner z) ≡ false → level w z (set_inputs w inputs s) ≡ level w z s
   unfolding set_inputs
   inputs_level inputs s (own x) n = rw n refl
   inputs_level inputs s (start m i) n = elim (cases_Bool (is_dynamic w m)) [
-    | inl d ↦
-        whole (home w (start m i)) (start_whole m) (rw d refl) refl
-    | inr d ↦ whole (home w (start m i)) (start m i) (rw d refl) refl
+    | inl d ↦ level_as inputs s (home w (start m i)) (start_whole m) (rw d refl) refl
+    | inr d ↦ level_as inputs s (home w (start m i)) (start m i) (rw d refl) refl
   ]
-    where
-      whole : (y z : Slot) → y ≡ z → at_inputs w (λ x. (given w inputs x).level) s.level z ≡ s.level z → at_inputs w (λ x. (given w inputs x).level) s.level y ≡ s.level y
-      whole y z e f = subst (λ v. at_inputs w (λ x. (given w inputs x).level) s.level v ≡ s.level v) (sym e) f
   inputs_level inputs s (next m i) n = elim (cases_Bool (is_dynamic w m)) [
-    | inl d ↦
-        whole (home w (next m i)) (next_whole m) (rw d refl) refl
-    | inr d ↦ whole (home w (next m i)) (next m i) (rw d refl) refl
+    | inl d ↦ level_as inputs s (home w (next m i)) (next_whole m) (rw d refl) refl
+    | inr d ↦ level_as inputs s (home w (next m i)) (next m i) (rw d refl) refl
   ]
-    where
-      whole : (y z : Slot) → y ≡ z → at_inputs w (λ x. (given w inputs x).level) s.level z ≡ s.level z → at_inputs w (λ x. (given w inputs x).level) s.level y ≡ s.level y
-      whole y z e f = subst (λ v. at_inputs w (λ x. (given w inputs x).level) s.level v ≡ s.level v) (sym e) f
   inputs_level inputs s _ n = refl
 
   pub inputs_number : (inputs : List Tagged) (s : Store) (z : Slot) → is_input w (owner z) ≡ false → number z (set_inputs w inputs s) ≡ number z s
@@ -103,8 +99,7 @@ module _ (p : Program) (fine : FineProgram p) (l : ℕ) where
       part (own x) g (inl i) = given_same x i
       part (start m j) g (inl i) = let no = memory_no_input (entity p.world m).kind g in cc
       part (next m j) g (inl i) = let no = memory_no_input (entity p.world m).kind g in cc
-      part (start_whole m) g (inl i) = cc
-      part (next_whole m) g (inl i) = cc
+      part _ g (inl i) = cc
 
   path_inputs : (s : Store) (a : List Tagged) → path p.world l (root p.world) p.states (set_inputs p.world a s) ≡ path p.world l (root p.world) p.states s
   path_inputs s a =

@@ -2,7 +2,7 @@
 use Rattle.sap_lemmas.proofs.Common.{◌≡◌, ℕ, Bool, true, false, ◌&&◌, ◌||◌, List, ◌∷◌, refl, sym, ap, ◌∙◌, subst, nat_eq, inl, inr, ◌⊎◌, if◌then◌else◌, cases_Bool, eqb-true, or_left, or_right, and_left, iff_same, test_of_same}
 use Rattle.sap_lattice.specs.Order.{Laws}
 use Rattle.sap_maps.specs.Term.{Term, constant, read, cell, one, two, choose, join, part}
-use Rattle.sap_meaning.specs.Prelude.{World, is_dynamic, authority, LevelTerm, fixed, of, at_place, both, Step, assign, write, retag, retag_cell, go_to, fall_to_child, Command, lone, try, if_else, try_then, case_of, Arms, last_arm, and_arm, Block, end_block, command_then, is_memory, Slot, own, start, next, start_whole, next_whole, Store, owner, number, level, put_number, raise, After, stay, and_then, Holds, value, tag, level_at, new_level, told, Home, site_of, guard, test, touches, raised_alone, effect, attempt, select, branch, does, does_block, attempt_then, is_constant, does_arms, Low, High, seen, FineTerm, FineLevel, transfers, Open, NoTransfer, Once, OnceBlock, OnceArms, step_writes, step_reaches, block_reaches, EveryInArms, EveryInBlock}
+use Rattle.sap_meaning.specs.Prelude.{World, is_dynamic, authority, LevelTerm, fixed, of, at_place, both, Step, assign, write, retag, retag_cell, go_to, fall_to_child, Command, lone, try, if_else, try_then, case_of, Arms, last_arm, and_arm, Block, end_block, command_then, is_memory, Slot, own, start, next, Store, owner, number, level, put_number, raise, After, stay, and_then, Holds, value, tag, level_at, new_level, told, Home, site_of, guard, test, touches, raised_alone, effect, attempt, select, branch, does, does_block, attempt_then, is_constant, does_arms, Low, High, seen, FineTerm, FineLevel, transfers, Open, NoTransfer, Once, OnceBlock, OnceArms, step_writes, step_reaches, block_reaches, EveryInArms, EveryInBlock}
 use Rattle.sap_meaning.specs.Does.{choose_arm}
 use Rattle.sap_meaning.proofs.Slots.{held_register}
 use Rattle.sap_meaning.proofs.Keeps.{OfDynamic, Keeps, branch_all, holds_raise, alone_dynamic, effect_holds}
@@ -35,6 +35,10 @@ choose_both P cs a others v p t u x y = picked (is_constant cs v)
     picked : (i : Bool) → P (if i then a p t else others v p t) (if i then a p u else others v p u)
     picked true = x
     picked false = y
+
+-- a step that is refused, before what its handler does
+abbrev pub refusal : Step → ℕ → After → After
+refusal k v a = record { store = a.store; refused = record { site = site_of k; level = v } ∷ a.refused }
 
 module _ (w : World) (laws : Laws w.order) (l : ℕ) where
   abbrev IsLow : ℕ → Type 0
@@ -93,6 +97,9 @@ module _ (w : World) (laws : Laws w.order) (l : ℕ) where
 
   pub told_same : (n : LevelTerm) → FineLevel w n → (s t : Store) → Agree w l s t → w.order.le (told w n s) l ≡ w.order.le (told w n t) l
   told_same n fine s t r = iff_same _ _ (λ h. rw (sym (told_low n fine s t r h).0) h) (λ h. rw (sym (told_low n fine t s (agree_flip w laws l s t r) h).0) h)
+
+  pub refusal_twin : (k : Step) (v : ℕ) (a b : After) → IsLow v → Twin w l a b → Twin w l (refusal k v a) (refusal k v b)
+  refusal_twin k v a b low c = record { same = c.same; refused = rw low (ap (λ rs. record { site = site_of k; level = v } ∷ rs) c.refused) }
 
   -- both results are those of high contexts
   pub twin_confined : (r u : Store) (a b : After) → Agree w l r u → Confined w l r a → Confined w l u b → Twin w l a b
@@ -317,17 +324,12 @@ module _ (w : World) (laws : Laws w.order) (l : ℕ) where
         lifts : Agree w l r u
         lifts = agree_raised w laws l s t hang _ _ dyn like (guard_same k fine plain s t like, guard_low k fine plain s t like)
 
-        again : (v : ℕ) → guard w At k s ≡ v → Twin w l (record {
-          store = (h (w.order.join pc (guard w At k s)) r).store;
-          refused =
-              record { site = site_of k; level = w.order.join pc (guard w At k s) } ∷ (h (w.order.join pc (guard w At k s)) r).refused;
-        })
-            (record { store = (h (w.order.join pc v) u).store; refused = record { site = site_of k; level = w.order.join pc v } ∷ (h (w.order.join pc v) u).refused })
+        again : (v : ℕ) → guard w At k s ≡ v
+            → Twin w l (refusal k (w.order.join pc (guard w At k s)) (h (w.order.join pc (guard w At k s)) r)) (refusal k (w.order.join pc v) (h (w.order.join pc v) u))
         again v e = rw (← e) (
             let up : Low w.order l (w.order.join pc (guard w At k s)) = low_join w.order laws l _ _ lowpc low in
-            let c = handler (w.order.join pc (guard w At k s)) r u (holds_raise w s hang _ dyn hs) (holds_raise w t hang _ dyn ht) up lifts
-            (even_raise w laws l eh hang s _ dyn es) (even_raise w laws l eh hang t _ dyn et) in
-            record { same = c.same; refused = rw up (ap (λ rs. record { site = site_of k; level = w.order.join pc (guard w At k s) } ∷ rs) c.refused) })
+            refusal_twin k _ _ _ up (handler (w.order.join pc (guard w At k s)) r u (holds_raise w s hang _ dyn hs) (holds_raise w t hang _ dyn ht) up lifts
+            (even_raise w laws l eh hang s _ dyn es) (even_raise w laws l eh hang t _ dyn et)))
 
     -- the effect of an open step leaves both parts of the cells that it does not write as they were
     pub even_step : (k : Step) → transfers k ≡ false → (h : ℕ → Bool)
@@ -337,11 +339,8 @@ module _ (w : World) (laws : Laws w.order) (l : ℕ) where
       where
         part : (z : Slot) → changing w z ≡ true → h (owner z) ≡ true → is_dynamic w (owner z) ≡ false → level w (begun z) s ≡ level w z s
             → level w (begun z) (effect w (spot i) i.enter k pc b s).store ≡ level w z (effect w (spot i) i.enter k pc b s).store
-        part (own x) g j d e = refl
-        part (start m n) g j d e = refl
         part (next m n) g j d e = let f = free m g d j in (start_effect w i 0 m g d k plain f pc b s n).level ∙ e ∙ sym (next_effect w i 0 m g d k plain f pc b s n).level
-        part (start_whole m) g j d e = refl
-        part (next_whole m) g j d e = refl
+        part _ g j d e = refl
 
     -- and with an accepted part, which goes on from the stores behind the effect
     attempt_then_low : (k : Step) → ProperStep w i k → transfers k ≡ false
@@ -392,15 +391,10 @@ module _ (w : World) (laws : Laws w.order) (l : ℕ) where
             up c.same (keep s r (even_raise w laws l fh hang s _ dyn fs)) (keep t u (even_raise w laws l fh hang t _ dyn ft)) in
             record { same = d.same; refused = seen_parts w.order laws l _ _ _ _ c.refused d.refused })
 
-        again : (v : ℕ) → guard w At k s ≡ v → Twin w l (record {
-          store = (h (w.order.join pc (guard w At k s)) r).store;
-          refused =
-              record { site = site_of k; level = w.order.join pc (guard w At k s) } ∷ (h (w.order.join pc (guard w At k s)) r).refused;
-        })
-            (record { store = (h (w.order.join pc v) u).store; refused = record { site = site_of k; level = w.order.join pc v } ∷ (h (w.order.join pc v) u).refused })
-        again v e = rw (← e) (
-            let c = handler (w.order.join pc (guard w At k s)) r u hr hu up lifts (even_raise w laws l eh hang s _ dyn es) (even_raise w laws l eh hang t _ dyn et) in
-            record { same = c.same; refused = rw up (ap (λ rs. record { site = site_of k; level = w.order.join pc (guard w At k s) } ∷ rs) c.refused) })
+        again : (v : ℕ) → guard w At k s ≡ v
+            → Twin w l (refusal k (w.order.join pc (guard w At k s)) (h (w.order.join pc (guard w At k s)) r)) (refusal k (w.order.join pc v) (h (w.order.join pc v) u))
+        again v e = rw (← e) (refusal_twin k _ _ _ up
+            (handler (w.order.join pc (guard w At k s)) r u hr hu up lifts (even_raise w laws l eh hang s _ dyn es) (even_raise w laws l eh hang t _ dyn et)))
 
     select_low : (e : Term ℕ) → FineTerm w e → (hang : ℕ → Bool) (pick : ℕ → ℕ → Store → After) (pc : ℕ) (s t : Store) → OfDynamic w hang
         → Holds w s → Holds w t → IsLow pc → Agree w l s t → IsLow (tag w e s) → (eh : ℕ → Bool) → Even w eh s → Even w eh t
