@@ -77,8 +77,7 @@ module _ (o : Order) (p : Program) (s : code.Store) (n : ℕ) (entries : s.entri
   numbers_first (own x) = ap (λ (xs : List kept.Entry). (get_or xs x (no_entry o.bottom)).own.number) entries ∙ number_is o.bottom es x
   numbers_first (start m i) = ap (λ (h : Cells). (get_or h.cells i (no_cell (past w m))).number) (start_at m) ∙ zero_cell (depth w m) i (past w m) (past w m)
   numbers_first (next m i) = ap (λ (h : Cells). (get_or h.cells i (no_cell (past w m))).number) (next_at m) ∙ zero_cell (depth w m) i (past w m) (past w m)
-  numbers_first (start_whole m) = refl
-  numbers_first (next_whole m) = refl
+  numbers_first _ = refl
 
   levels_first : (z : Slot) → (store_of w s).level z ≡ first_level w z
   unfolding store_of

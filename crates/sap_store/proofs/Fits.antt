@@ -1,5 +1,6 @@
 -- Numbers stay within their widths.
-use Rattle.sap_lemmas.proofs.Common.{◌≡◌, ℕ, zero, suc, ◌<◌, ◌^◌, Bool, true, false, List, [], ◌∷◌, get_or, refl, sym, subst, inl, inr, if◌then◌else◌, cases_Bool}
+use Rattle.std.proofs.lemmas.Bool.{cond_both}
+use Rattle.sap_lemmas.proofs.Common.{◌≡◌, ℕ, zero, suc, ◌<◌, ◌^◌, true, List, [], ◌∷◌, get_or, sym, subst, inl, inr, cases_Bool}
 use Rattle.sap_meaning.specs.Prelude.{World, Entity, nothing, kind_is_input, is_input, width, Slot, Store, owner, number, same_slot, put_number, source, settle, Tagged, inputs_before, given, input_widths, AllFit, InputsFit}
 use Rattle.sap_meaning.proofs.Slots.{slot_same, owner_source}
 use Rattle.sap_store.specs.declared.store.Store as kept
@@ -11,11 +12,8 @@ Numbers w s = (z : Slot) → number z s < 2 ^ width w (owner z)
 module _ (w : World) where
   pub numbers_put : (s : Store) (z : Slot) (n : ℕ) → n < 2 ^ width w (owner z) → Numbers w s → Numbers w (put_number z n s)
   unfolding put_number
-  numbers_put s z n h f = λ y. part y (same_slot y z) (slot_same y z)
-    where
-      part : (y : Slot) (i : Bool) → (i ≡ true → y ≡ z) → (if i then n else number y s) < 2 ^ width w (owner y)
-      part y true at = subst (λ x. n < 2 ^ width w (owner x)) (sym (at refl)) h
-      part y false at = f y
+  numbers_put s z n h f = λ y.
+      cond_both (same_slot y z) n (number y s) (λ v. v < 2 ^ width w (owner y)) (λ i. subst (λ x. n < 2 ^ width w (owner x)) (sym (slot_same y z i)) h) (λ i. f y)
 
   pub numbers_settle : (s : Store) → Numbers w s → Numbers w (settle s)
   unfolding settle

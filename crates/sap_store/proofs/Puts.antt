@@ -1,5 +1,6 @@
 -- Writes through a borrowed entry.
-use Rattle.sap_lemmas.proofs.Common.{◌≡◌, ℕ, suc, ◌<◌, ◌≤◌, ◌^◌, Bool, true, false, ◌&&◌, List, [], ◌∷◌, length, get_or, refl, sym, ap, subst, ◌∙◌, arith, nat_eq, nat_lt, zero, if◌then◌else◌, le-ltb, eqb-true, length-set}
+use Rattle.std.proofs.lemmas.Bool.{cond_both}
+use Rattle.sap_lemmas.proofs.Common.{◌≡◌, ℕ, suc, ◌<◌, ◌≤◌, ◌^◌, Bool, true, false, ◌&&◌, List, [], ◌∷◌, length, get_or, refl, sym, ap, subst, ◌∙◌, arith, nat_eq, nat_lt, zero, le-ltb, eqb-true, length-set}
 use Rattle.std.specs.Vec.{with_item}
 use Rattle.sap_meaning.specs.Prelude.{World, root, width, is_dynamic, depth, Slot, own, next, Store, owner, source, put_number, put_level, put_child, raise}
 use Rattle.sap_meaning.proofs.Slots.{owner_source}
@@ -122,11 +123,9 @@ module _ (w : World) (s : code.Store) (x : ℕ) (r : Entry) (l : x < root w) (is
 
   settled_numbers : (a : Store) → Numbers w a → Numbers w (settled_one x a)
   unfolding settled_one
-  settled_numbers a f z = by (nat_eq (owner z) x)
-    where
-      by : (q : Bool) → (if q then a.number (source z) else a.number z) < 2 ^ width w (owner z)
-      by true = subst (λ (y : ℕ). a.number (source z) < 2 ^ width w y) (owner_source z) (f (source z))
-      by false = f z
+  settled_numbers a f z =
+      cond_both (nat_eq (owner z) x) (a.number (source z)) (a.number z) (λ v. v < 2 ^ width w (owner z))
+      (λ i. subst (λ (y : ℕ). a.number (source z) < 2 ^ width w y) (owner_source z) (f (source z))) (λ i. f z)
 
   pub settle_ready : (h : Cells) → h ≡ r.next → Ready w (after (settled_entry h))
   settle_ready h e =

@@ -1,8 +1,9 @@
 -- Raising one entity after another.
-use Rattle.sap_lemmas.proofs.Common.{◌≡◌, ℕ, zero, suc, ◌+◌, ◌<◌, ◌≤◌, Bool, true, false, ◌&&◌, ◌||◌, List, [], ◌∷◌, length, get_or, drop, refl, sym, ap, ◌∙◌, arith, add-one, nat_eq, nat_lt, if◌then◌else◌, inl, inr, cases_Bool, lt-ltb, ltb-true, eq-eqb, eqb-true, ne_eqb, and_parts, and_false, and_true, get_or_past}
+use Rattle.std.proofs.lemmas.List.{at_drop_all, at_drop_more}
+use Rattle.sap_lemmas.proofs.Common.{◌≡◌, ℕ, ◌+◌, ◌<◌, ◌≤◌, Bool, true, false, ◌&&◌, ◌||◌, List, [], ◌∷◌, length, get_or, drop, refl, sym, ap, ◌∙◌, arith, nat_eq, nat_lt, if◌then◌else◌, inl, inr, cases_Bool, lt-ltb, ltb-true, eq-eqb, eqb-true, ne_eqb, and_parts, and_false, and_true, get_or_past}
 use Rattle.sap_resolved.proofs.FillLemmas.{table_at, table_length}
 use Rattle.sap_lattice.specs.Order.{Order}
-use Rattle.sap_meaning.specs.Prelude.{World, root, listed, Slot, own, start, next, start_whole, next_whole, Store, raised, raise}
+use Rattle.sap_meaning.specs.Prelude.{World, root, listed, Slot, own, next_whole, Store, raised, raise}
 use Rattle.sap_resolved.specs.Fill.{table}
 use Rattle.sap_program.specs.Hangs.{rises_from, rises, hangs, flags}
 use Rattle.sap_store.specs.Passes.{only, raised_one}
@@ -24,17 +25,12 @@ flagged n hang x = elim (cases_Bool (nat_lt x n)) [
 
 raised_either : (h k : ℕ → Bool) (z : Slot) → raised (λ x. h x || k x) z ≡ (raised h z || raised k z)
 raised_either h k (own x) = refl
-raised_either h k (start m i) = refl
-raised_either h k (next m i) = refl
-raised_either h k (start_whole m) = refl
-raised_either h k (next_whole m) = refl
+raised_either h k _ = refl
 
 raised_apart : (h k : ℕ → Bool) → ((x : ℕ) → (h x && k x) ≡ false) → (z : Slot) → (raised h z && raised k z) ≡ false
 raised_apart h k f (own x) = f x
-raised_apart h k f (start m i) = refl
-raised_apart h k f (next m i) = refl
-raised_apart h k f (start_whole m) = refl
 raised_apart h k f (next_whole m) = f m
+raised_apart h k f _ = refl
 
 module _ (o : Order) (t : ℕ) where
   -- what hangs apart is raised together
@@ -56,10 +52,8 @@ module _ (o : Order) (t : ℕ) where
     where
       at : (z : Slot) → raised h z ≡ false
       at (own x) = none x
-      at (start m i) = refl
-      at (next m i) = refl
-      at (start_whole m) = refl
       at (next_whole m) = none m
+      at _ = refl
 
       by : (a : Bool) (l : ℕ) → a ≡ false → (if a then o.join l t else l) ≡ l
       by true l e = cc
@@ -86,15 +80,10 @@ module _ (w : World) (t : ℕ) where
   each (x ∷ xs) s = each xs (raised_one w x t s)
 
   pub each-drop : (xs : List ℕ) (i : ℕ) (s : Store) → i < length xs → each (drop i xs) s ≡ each (drop (i + 1) xs) (raised_one w (get_or xs i 0) t s)
-  each-drop [] i s h = absurd (omega (arith, h))
-  each-drop (x ∷ xs) zero s h = refl
-  each-drop (x ∷ xs) (suc i) s h = let r = each-drop xs i s (omega (arith, h)) in simp (add-one) (simp (add-one) at r)
+  each-drop xs i s h = at_drop_more (λ (l : List ℕ). each l s) xs i 0 h
 
   pub each-past : (xs : List ℕ) (i : ℕ) (s : Store) → length xs ≤ i → each (drop i xs) s ≡ s
-  each-past [] zero s h = refl
-  each-past [] (suc i) s h = refl
-  each-past (x ∷ xs) zero s h = absurd (omega (arith, h))
-  each-past (x ∷ xs) (suc i) s h = each-past xs i s (omega (arith, h))
+  each-past xs i s h = at_drop_all (λ (l : List ℕ). each l s) xs i h
 
   each-all : (xs : List ℕ) (s : Store) → rises xs ≡ true → each xs s ≡ raise w.order (λ y. hangs xs y && nat_lt y (root w)) t s
   each-all [] s h = sym (quiet w.order t (λ y. false) (λ y. refl) s)
@@ -109,8 +98,7 @@ module _ (w : World) (t : ℕ) where
         where
           at : (a b c : Bool) → (a ≡ true → c ≡ false) → ((a && b) && (c && b)) ≡ false
           at true true c f = rw (f refl) refl
-          at true false c f = refl
-          at false b c f = refl
+          at _ _ c f = refl
 
       by : (a b c : Bool) → ((a && c) || (b && c)) ≡ ((a || b) && c)
       by true true true = refl

@@ -1,4 +1,5 @@
 -- Resetting one state after another, and giving one input after another.
+use Rattle.std.proofs.lemmas.Bool.{cond_both}
 use Rattle.sap_lemmas.proofs.Common.{◌≡◌, ℕ, zero, suc, ◌+◌, ◌<◌, ◌≤◌, Bool, true, false, ◌&&◌, ◌||◌, List, [], ◌∷◌, length, get_or, refl, sym, ap, ◌∙◌, arith, nat_eq, nat_lt, if◌then◌else◌, inl, inr, nat_le, cases_Bool, lt-ltb, le-ltb, ltb-true, leb-true, le-leb, eqb-true, common_steps, and_false, and_true, get_or_past}
 use Rattle.sap_meaning.specs.Prelude.{World, Entity, entity, nothing, kind_is_input, root, is_input, is_state, is_dynamic, last, below, Slot, own, start, next, start_whole, next_whole, Store, owner, same_slot, put_number, put_level, put_child, lowered, reset, Tagged, inputs_before, given, at_inputs, set_inputs}
 use Rattle.sap_store.specs.Passes.{reset_one, given_one}
@@ -23,21 +24,15 @@ module _ (w : World) (target : ℕ) where
 
       by : (a b c e : Bool) → (b && e) ≡ false → ((a && (b && c)) && e) ≡ false
       by true true true e h = h
-      by true true false e h = refl
-      by true false c e h = refl
-      by false b c e h = refl
+      by _ _ _ e h = refl
 
   lowered_late : (z : Slot) (k : ℕ) → k ≤ target + 1 → (lowered w target z && nat_lt (owner z) k) ≡ false
   lowered_late (own x) k l = by (below w target x) (is_dynamic w x) (nat_lt x k) (late x k l)
     where
       by : (a b e : Bool) → (a && e) ≡ false → ((a && b) && e) ≡ false
       by true true e h = h
-      by true false e h = refl
-      by false b e h = refl
-  lowered_late (start m i) k l = refl
-  lowered_late (next m i) k l = refl
-  lowered_late (start_whole m) k l = refl
-  lowered_late (next_whole m) k l = refl
+      by _ _ e h = refl
+  lowered_late _ k l = refl
 
   unless : {A : Type 0} (q : Bool) (a b : A) → q ≡ false → (if q then a else b) ≡ b
   unless true a b e = cc
@@ -56,21 +51,15 @@ module _ (w : World) (target : ℕ) where
     where
       by : (a b c e : Bool) → (c ≡ true → e ≡ true) → ((a && (b && c)) && e) ≡ (a && (b && c))
       by true true true e h = h refl
-      by true true false e h = refl
-      by true false c e h = refl
-      by false b c e h = refl
+      by _ _ _ e h = refl
 
   lowered_early : (z : Slot) → (lowered w target z && nat_lt (owner z) (last w target + 1)) ≡ lowered w target z
   lowered_early (own x) = by (below w target x) (is_dynamic w x) (nat_lt x (last w target + 1)) (early x)
     where
       by : (a b e : Bool) → (a && e) ≡ a → ((a && b) && e) ≡ (a && b)
       by true true e h = h
-      by true false e h = refl
-      by false b e h = refl
-  lowered_early (start m i) = refl
-  lowered_early (next m i) = refl
-  lowered_early (start_whole m) = refl
-  lowered_early (next_whole m) = refl
+      by _ _ e h = refl
+  lowered_early _ = refl
 
   pub reset_all : (s : Store) → reset_to (last w target + 1) s ≡ reset w target s
   unfolding reset_to reset
@@ -119,10 +108,7 @@ module _ (w : World) (target : ℕ) where
           (lt-ltb target x (omega (arith, e, l)), le-leb x (last w target) (omega (arith, e, h)), lt-ltb x (k + 1) (omega (arith, e)), le-ltb x k (omega (arith, e)))
           ∙ ap (λ (q : Bool). (q && (is_state w x && is_dynamic w x)) || ((below w target x && is_dynamic w x) && nat_lt x k)) (sym t)
           ∙ ap (λ (y : ℕ). (nat_eq x k && (is_state w y && is_dynamic w y)) || ((below w target x && is_dynamic w x) && nat_lt x k)) e
-  more_lowered (start m i) k l h = refl
-  more_lowered (next m i) k l h = refl
-  more_lowered (start_whole m) k l h = refl
-  more_lowered (next_whole m) k l h = refl
+  more_lowered _ k l h = refl
 
   either : {A : Type 0} (p q r : Bool) (a b : A) → p ≡ (q || r) → (if q then a else if r then a else b) ≡ (if p then a else b)
   either p true r a b e = rw e refl
@@ -204,10 +190,7 @@ module _ (w : World) (inputs : List Tagged) where
           by : (a b : Bool) → b ≡ false → (a && b) ≡ false
           by true b e = e
           by false b e = refl
-      at new old (start m i) = refl
-      at new old (next m i) = refl
-      at new old (start_whole m) = refl
-      at new old (next_whole m) = refl
+      at new old _ = refl
 
   input_within : (x : ℕ) → is_input w x ≡ true → x < root w
   input_within x h = elim (cases_Bool (nat_lt x (root w))) [
@@ -228,10 +211,7 @@ module _ (w : World) (inputs : List Tagged) where
           by : (a : Bool) → is_input w x ≡ a → (a && nat_lt x (root w)) ≡ a
           by true e = rw (lt-ltb x (root w) (input_within x e)) refl
           by false e = refl
-      at new old (start m i) = refl
-      at new old (next m i) = refl
-      at new old (start_whole m) = refl
-      at new old (next_whole m) = refl
+      at new old _ = refl
 
   -- what is no input is passed over
   pub set_skip : (s : Store) (k : ℕ) → is_input w k ≡ false → set_to (k + 1) s ≡ set_to k s
@@ -244,10 +224,7 @@ module _ (w : World) (inputs : List Tagged) where
           by : (q : Bool) → nat_eq x k ≡ q → (is_input w x && nat_lt x (k + 1)) ≡ (is_input w x && nat_lt x k)
           by true e = let i = eqb-true x k e in rw (ap (is_input w) i ∙ h) refl
           by false e = ap (λ (q : Bool). is_input w x && q) (grind (arith, common_steps))
-      at new old (start m i) = refl
-      at new old (next m i) = refl
-      at new old (start_whole m) = refl
-      at new old (next_whole m) = refl
+      at new old _ = refl
 
   pub set_next : (s : Store) (k : ℕ) → is_input w k ≡ true
       → put_level w (own k) (given w inputs k).level (put_number (own k) (given w inputs k).number (set_to k s)) ≡ set_to (k + 1) s
@@ -261,19 +238,13 @@ module _ (w : World) (inputs : List Tagged) where
               ≡ (if is_input w x && nat_lt x (k + 1) then new x else old (own x))
           by true e = let i = eqb-true x k e in rw (ap (is_input w) i ∙ h, lt-ltb x (k + 1) (omega (arith, i))) (ap new (sym i))
           by false e = ap (λ (q : Bool). if is_input w x && q then new x else old (own x)) (grind (arith, common_steps))
-      at new old (start m i) = refl
-      at new old (next m i) = refl
-      at new old (start_whole m) = refl
-      at new old (next_whole m) = refl
+      at new old _ = refl
 
   pub given_step : (s : Store) (k : ℕ) → given_one w inputs k (set_to k s) ≡ set_to (k + 1) s
   unfolding given_one
-  given_step s k = by (is_input w k) refl
-    where
-      by : (q : Bool) → is_input w k ≡ q → (if q then put_level w (own k) (given w inputs k).level
-          (put_number (own k) (given w inputs k).number (set_to k s)) else set_to k s) ≡ set_to (k + 1) s
-      by true e = set_next s k e
-      by false e = sym (set_skip s k e)
+  given_step s k =
+      cond_both (is_input w k) (put_level w (own k) (given w inputs k).level (put_number (own k) (given w inputs k).number (set_to k s))) (set_to k s)
+      (λ (u : Store). u ≡ set_to (k + 1) s) (λ e. set_next s k e) (λ e. sym (set_skip s k e))
 
   pub given_input : (s : Store) (k : ℕ) → is_input w k ≡ true
       → put_level w (own k) (given w inputs k).level (put_number (own k) (given w inputs k).number s) ≡ given_one w inputs k s

@@ -1,6 +1,6 @@
 -- The parts of one memory after another settle.
 use Rattle.sap_lemmas.proofs.Common.{◌≡◌, ℕ, ◌+◌, ◌≤◌, Bool, true, false, refl, sym, ap, ◌∙◌, arith, nat_eq, nat_lt, if◌then◌else◌, lt-ltb, le-ltb, eqb-true, common_steps, get_or_past}
-use Rattle.sap_meaning.specs.Prelude.{World, root, Slot, own, start, next, start_whole, next_whole, Store, owner, source, settle}
+use Rattle.sap_meaning.specs.Prelude.{World, root, Slot, start, start_whole, Store, owner, source, settle}
 use Rattle.sap_meaning.proofs.Slots.{owner_source}
 use Rattle.sap_store.specs.declared.entry.Entry.{Entry}
 use Rattle.sap_store.specs.declared.store.Store as code
@@ -52,18 +52,13 @@ module _ (w : World) (s : code.Store) (shaped : Shaped w s) where
   absent m h = get_or_past s.entries.items m (no_entry w.order.bottom) (let e = shaped.entries in omega (arith, e, h))
 
   number_rests : (z : Slot) → root w ≤ owner z → number_in w s.entries.items (source z) ≡ number_in w s.entries.items z
-  number_rests (own x) h = refl
   number_rests (start m i) h = ap (λ (e : Entry). (cell_at (past w m) e.next i).number) (absent m h) ∙ sym (ap (λ (e : Entry). (cell_at (past w m) e.start i).number) (absent m h))
-  number_rests (next m i) h = refl
-  number_rests (start_whole m) h = refl
-  number_rests (next_whole m) h = refl
+  number_rests _ h = refl
 
   level_rests : (z : Slot) → root w ≤ owner z → level_in w s.entries.items (source z) ≡ level_in w s.entries.items z
-  level_rests (own x) h = refl
   level_rests (start m i) h = ap (λ (e : Entry). (cell_at (past w m) e.next i).level) (absent m h) ∙ sym (ap (λ (e : Entry). (cell_at (past w m) e.start i).level) (absent m h))
-  level_rests (next m i) h = refl
   level_rests (start_whole m) h = ap (λ (e : Entry). e.next.whole) (absent m h) ∙ sym (ap (λ (e : Entry). e.start.whole) (absent m h))
-  level_rests (next_whole m) h = refl
+  level_rests _ h = refl
 
   above : (x : ℕ) → nat_lt x (root w) ≡ false → root w ≤ x
   above x e = grind (arith, common_steps)

@@ -1,4 +1,5 @@
 -- What writes to the code's store do to what it is seen as.
+use Rattle.std.proofs.lemmas.Bool.{cond_both}
 use Rattle.sap_lemmas.proofs.Common.{◌≡◌, ℕ, ◌<◌, ◌≤◌, Bool, true, false, List, length, get_or, set, refl, sym, ap, ◌∙◌, get_or-set_other, nat_eq, inl, inr, if◌then◌else◌, cases_Bool, eqb-true, eq-eqb, eqb-true as same_number, get_or-set_at, get_or_past}
 use Rattle.sap_meaning.specs.Prelude.{World, entity, is_dynamic, Slot, start, start_whole, Store, level}
 use Rattle.sap_store.specs.declared.entry.Entry.{Entry}
@@ -29,11 +30,9 @@ module _ (w : World) (es : List Entry) (x : ℕ) (e : Entry) (h : x < length es)
 
   -- what of the item stays, stays at all
   pub stays : {A : Type 0} (f : Entry → A) → f e ≡ f (entry_at w es x) → (y : ℕ) → f (entry_at w after y) ≡ f (entry_at w es y)
-  stays f same y = ap f (entry_set y) ∙ by (nat_eq y x) (same_number y x)
-    where
-      by : (q : Bool) → (q ≡ true → y ≡ x) → f (if q then e else entry_at w es y) ≡ f (entry_at w es y)
-      by true g = same ∙ ap (λ (k : ℕ). f (entry_at w es k)) (sym (g refl))
-      by false g = refl
+  stays f same y =
+      ap f (entry_set y) ∙ cond_both (nat_eq y x) e (entry_at w es y) (λ (d : Entry). f d ≡ f (entry_at w es y))
+      (λ i. same ∙ ap (λ (k : ℕ). f (entry_at w es k)) (sym (same_number y x i))) (λ i. refl)
 
   pub becomes : {A : Type 0} (f : Entry → A) (a : A) → f e ≡ a → (y : ℕ) → f (entry_at w after y) ≡ (if nat_eq y x then a else f (entry_at w es y))
   becomes f a is y = ap f (entry_set y) ∙ picked f (nat_eq y x) e (entry_at w es y) ∙ ap (λ (b : _). if nat_eq y x then b else f (entry_at w es y)) is

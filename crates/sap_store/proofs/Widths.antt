@@ -4,7 +4,7 @@ use Rattle.sap_resolved.proofs.SizedLemmas.{ranged_width}
 use Rattle.sap_bits.specs.Arithmetic.{RightFits}
 use Rattle.sap_bits.specs.declared.Op1.{Op1}
 use Rattle.sap_bits.specs.declared.Op2.{Op2}
-use Rattle.sap_bits.specs.declared.Op2.TheVariants.{Add, Sub, Mul, And, Or, Xor, Eq, Ne, Lt, Le, Shl, Shr}
+use Rattle.sap_bits.specs.declared.Op2.TheVariants.{Shl, Shr}
 use Rattle.sap_maps.specs.Term.{Term, cell, one, two, choose, join, part, CountFits}
 use Rattle.sap_maps.proofs.Terms.{term_within}
 use Rattle.sap_meaning.specs.Prelude.{World, width, own, start, number, width_of, value, depth}
@@ -13,18 +13,9 @@ use Rattle.sap_store.specs.Able.{AbleTerm, AbleIndex, AbleValue}
 use Rattle.sap_store.specs.Kept.{Ready, store_of}
 
 right_fits : (op : Op2) (w u b : ℕ) → CountFits op w u → b < 2 ^ u → RightFits op w b
-right_fits Add w u b c h = subst (λ (k : ℕ). b < 2 ^ k) c h
-right_fits Sub w u b c h = subst (λ (k : ℕ). b < 2 ^ k) c h
-right_fits Mul w u b c h = subst (λ (k : ℕ). b < 2 ^ k) c h
-right_fits And w u b c h = subst (λ (k : ℕ). b < 2 ^ k) c h
-right_fits Or w u b c h = subst (λ (k : ℕ). b < 2 ^ k) c h
-right_fits Xor w u b c h = subst (λ (k : ℕ). b < 2 ^ k) c h
-right_fits Eq w u b c h = subst (λ (k : ℕ). b < 2 ^ k) c h
-right_fits Ne w u b c h = subst (λ (k : ℕ). b < 2 ^ k) c h
-right_fits Lt w u b c h = subst (λ (k : ℕ). b < 2 ^ k) c h
-right_fits Le w u b c h = subst (λ (k : ℕ). b < 2 ^ k) c h
 right_fits Shl w u b c h = tt
 right_fits Shr w u b c h = tt
+right_fits _ w u b c h = subst (λ (k : ℕ). b < 2 ^ k) c h
 
 pub width_least : (w : World) (e : Term ℕ) → AbleTerm w e → 1 ≤ width_of w e
 width_least w e a = (ranged_width w e a.ranged).0

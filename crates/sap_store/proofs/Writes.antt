@@ -1,5 +1,7 @@
 -- What writes to the code's store do to what it is seen as.
-use Rattle.sap_lemmas.proofs.Common.{◌≡◌, ℕ, zero, suc, ◌<◌, ◌^◌, Bool, true, false, ◌&&◌, List, [], ◌∷◌, length, get_or, set, refl, sym, ap, ◌∙◌, arith, nat_eq, if◌then◌else◌, length-set, lt-ltb, eqb-true, ne_eqb, test_of_same}
+use Rattle.std.proofs.lemmas.Bool.{cond_both}
+use Rattle.std.proofs.lemmas.List.{get_or_default}
+use Rattle.sap_lemmas.proofs.Common.{◌≡◌, ℕ, ◌<◌, ◌^◌, Bool, true, false, ◌&&◌, List, length, get_or, set, refl, sym, ap, ◌∙◌, nat_eq, if◌then◌else◌, length-set, lt-ltb, eqb-true, ne_eqb, test_of_same}
 use Rattle.sap_meaning.specs.Prelude.{World, root, width, is_dynamic, Slot, own, start, next, start_whole, next_whole, Store, owner, same_slot, put_number, put_level, put_child, raise, raised, source}
 use Rattle.sap_store.specs.declared.cell.Cell.{Cell}
 use Rattle.sap_store.specs.declared.entry.Entry.{Entry}
@@ -54,15 +56,13 @@ module _ (w : World) (s t : code.Store) (x : ℕ) (e : Entry) (written : Written
   number_seen n i r (own y) = new (λ (b : Entry). b.own.number) n i y
   number_seen n i r (start m k) = ap (λ (c : Cell). c.number) (start_cell m k r.0)
   number_seen n i r (next m k) = ap (λ (c : Cell). c.number) (next_cell m k r.1)
-  number_seen n i r (start_whole m) = refl
-  number_seen n i r (next_whole m) = refl
+  number_seen n i r _ = refl
 
   number_kept : e.own.number ≡ (before x).own.number → Rest → (z : Slot) → number_in w t.entries.items z ≡ number_in w s.entries.items z
   number_kept i r (own y) = same (λ (b : Entry). b.own.number) i y
   number_kept i r (start m k) = ap (λ (c : Cell). c.number) (start_cell m k r.0)
   number_kept i r (next m k) = ap (λ (c : Cell). c.number) (next_cell m k r.1)
-  number_kept i r (start_whole m) = refl
-  number_kept i r (next_whole m) = refl
+  number_kept i r _ = refl
 
   level_seen : (u : ℕ) → e.own.level ≡ u → Rest → (z : Slot) → level_in w t.entries.items z ≡ (if same_slot z (own x) then u else level_in w s.entries.items z)
   level_seen u i r (own y) = new (λ (b : Entry). b.own.level) u i y
@@ -104,47 +104,32 @@ module _ (w : World) (s t : code.Store) (x : ℕ) (e : Entry) (written : Written
   cell_set : (h : Cells) (i k u : ℕ) (c : Cell) → i < length h.cells → cell_at u (record h { cells = set h.cells i c }) k ≡ (if nat_eq k i then c else cell_at u h k)
   cell_set h i k u c l = get_set h.cells i c (no_cell u) l k
 
-  level_apart : (cs : List Cell) (i u v : ℕ) → i < length cs → (get_or cs i (no_cell u)).level ≡ (get_or cs i (no_cell v)).level
-  level_apart [] i u v l = absurd (omega (arith, l))
-  level_apart (c ∷ cs) zero u v l = refl
-  level_apart (c ∷ cs) (suc i) u v l = level_apart cs i u v (omega (arith, l))
-
-  number_apart : (cs : List Cell) (i u v : ℕ) → i < length cs → (get_or cs i (no_cell u)).number ≡ (get_or cs i (no_cell v)).number
-  number_apart [] i u v l = absurd (omega (arith, l))
-  number_apart (c ∷ cs) zero u v l = refl
-  number_apart (c ∷ cs) (suc i) u v l = number_apart cs i u v (omega (arith, l))
+  -- a field of the one of two cells
+  field_of : (f : Cell → ℕ) (q : Bool) (c d : Cell) → f (if q then c else d) ≡ (if q then f c else f d)
+  field_of f true c d = refl
+  field_of f false c d = refl
 
   cell_number_set : (h : Cells) (i k u n : ℕ) → i < length h.cells → (cell_at u (with_number i n h) k).number ≡ (if nat_eq k i then n else (cell_at u h k).number)
   cell_number_set h i k u n l =
-      ap (λ (c : Cell). c.number) (cell_set h i k u (record { number = n; level = (get_or h.cells i (no_cell 0)).level }) l) ∙ by (nat_eq k i)
-    where
-      by : (q : Bool) → (if q then record { number = n; level = (get_or h.cells i (no_cell 0)).level } else cell_at u h k).number ≡ (if q then n else (cell_at u h k).number)
-      by true = refl
-      by false = refl
+      ap (λ (c : Cell). c.number) (cell_set h i k u (record { number = n; level = (get_or h.cells i (no_cell 0)).level }) l)
+      ∙ field_of (λ (c : Cell). c.number) (nat_eq k i) _ (cell_at u h k)
 
   cell_number_level : (h : Cells) (i k u n : ℕ) → i < length h.cells → (cell_at u (with_number i n h) k).level ≡ (cell_at u h k).level
   cell_number_level h i k u n l =
-      ap (λ (c : Cell). c.level) (cell_set h i k u (record { number = n; level = (get_or h.cells i (no_cell 0)).level }) l) ∙ by (nat_eq k i) (eqb-true k i)
-    where
-      by : (q : Bool) → (q ≡ true → k ≡ i) → (if q then record { number = n; level = (get_or h.cells i (no_cell 0)).level } else cell_at u h k).level ≡ (cell_at u h k).level
-      by true g = level_apart h.cells i 0 u l ∙ ap (λ (j : ℕ). (cell_at u h j).level) (sym (g refl))
-      by false g = refl
+      ap (λ (c : Cell). c.level) (cell_set h i k u (record { number = n; level = (get_or h.cells i (no_cell 0)).level }) l)
+      ∙ cond_both (nat_eq k i) _ (cell_at u h k) (λ (c : Cell). c.level ≡ (cell_at u h k).level)
+      (λ e. ap (λ (c : Cell). c.level) (get_or_default h.cells i (no_cell 0) (no_cell u) l) ∙ ap (λ (j : ℕ). (cell_at u h j).level) (sym (eqb-true k i e))) (λ e. refl)
 
   cell_level_set : (h : Cells) (i k u v : ℕ) → i < length h.cells → (cell_at u (with_level i v h) k).level ≡ (if nat_eq k i then v else (cell_at u h k).level)
   cell_level_set h i k u v l =
-      ap (λ (c : Cell). c.level) (cell_set h i k u (record { number = (get_or h.cells i (no_cell 0)).number; level = v }) l) ∙ by (nat_eq k i)
-    where
-      by : (q : Bool) → (if q then record { number = (get_or h.cells i (no_cell 0)).number; level = v } else cell_at u h k).level ≡ (if q then v else (cell_at u h k).level)
-      by true = refl
-      by false = refl
+      ap (λ (c : Cell). c.level) (cell_set h i k u (record { number = (get_or h.cells i (no_cell 0)).number; level = v }) l)
+      ∙ field_of (λ (c : Cell). c.level) (nat_eq k i) _ (cell_at u h k)
 
   cell_level_number : (h : Cells) (i k u v : ℕ) → i < length h.cells → (cell_at u (with_level i v h) k).number ≡ (cell_at u h k).number
   cell_level_number h i k u v l =
-      ap (λ (c : Cell). c.number) (cell_set h i k u (record { number = (get_or h.cells i (no_cell 0)).number; level = v }) l) ∙ by (nat_eq k i) (eqb-true k i)
-    where
-      by : (q : Bool) → (q ≡ true → k ≡ i) → (if q then record { number = (get_or h.cells i (no_cell 0)).number; level = v } else cell_at u h k).number ≡ (cell_at u h k).number
-      by true g = number_apart h.cells i 0 u l ∙ ap (λ (j : ℕ). (cell_at u h j).number) (sym (g refl))
-      by false g = refl
+      ap (λ (c : Cell). c.number) (cell_set h i k u (record { number = (get_or h.cells i (no_cell 0)).number; level = v }) l)
+      ∙ cond_both (nat_eq k i) _ (cell_at u h k) (λ (c : Cell). c.number ≡ (cell_at u h k).number)
+      (λ e. ap (λ (c : Cell). c.number) (get_or_default h.cells i (no_cell 0) (no_cell u) l) ∙ ap (λ (j : ℕ). (cell_at u h j).number) (sym (eqb-true k i e))) (λ e. refl)
 
   abbrev Same : Type 0
   Same = (e.own ≡ (before x).own) × (e.start ≡ (before x).start)
@@ -164,11 +149,9 @@ module _ (w : World) (s t : code.Store) (x : ℕ) (e : Entry) (written : Written
 
   next_kept : (f : Cell → ℕ) → ((k u : ℕ) → f (cell_at u e.next k) ≡ f (cell_at u (before x).next k)) → (m k : ℕ)
       → f (cell_at (past w m) (after m).next k) ≡ f (cell_at (past w m) (before m).next k)
-  next_kept f g m k = ap (λ (h : Cells). f (cell_at (past w m) h k)) (next_at m) ∙ by (nat_eq m x) (eqb-true m x)
-    where
-      by : (q : Bool) → (q ≡ true → m ≡ x) → f (cell_at (past w m) (if q then e.next else (before m).next) k) ≡ f (cell_at (past w m) (before m).next k)
-      by true h = g k (past w m) ∙ ap (λ (y : ℕ). f (cell_at (past w m) (before y).next k)) (sym (h refl))
-      by false h = refl
+  next_kept f g m k = ap (λ (h : Cells). f (cell_at (past w m) h k)) (next_at m)
+      ∙ cond_both (nat_eq m x) e.next (before m).next (λ (h : Cells). f (cell_at (past w m) h k) ≡ f (cell_at (past w m) (before m).next k))
+      (λ i. g k (past w m) ∙ ap (λ (y : ℕ). f (cell_at (past w m) (before y).next k)) (sym (eqb-true m x i))) (λ i. refl)
 
   pub cell_number_put : (i n : ℕ) → Same → e.next ≡ with_number i n (before x).next → i < length (before x).next.cells → store_of w t ≡ put_number (next x i) n (store_of w s)
   unfolding store_of put_number
@@ -178,8 +161,7 @@ module _ (w : World) (s t : code.Store) (x : ℕ) (e : Entry) (written : Written
       numbers (own y) = same (λ (b : Entry). b.own.number) (ap (λ (c : Cell). c.number) r.0) y
       numbers (start m k) = ap (λ (c : Cell). c.number) (start_cell m k r.1)
       numbers (next m k) = next_field (λ (c : Cell). c.number) i n (λ k u. ap (λ (q : Cells). (cell_at u q k).number) h ∙ cell_number_set (before x).next i k u n l) m k
-      numbers (start_whole m) = refl
-      numbers (next_whole m) = refl
+      numbers _ = refl
 
       levels : (z : Slot) → level_in w t.entries.items z ≡ level_in w s.entries.items z
       levels (own y) = same (λ (b : Entry). b.own.level) (ap (λ (c : Cell). c.level) r.0) y
@@ -197,8 +179,7 @@ module _ (w : World) (s t : code.Store) (x : ℕ) (e : Entry) (written : Written
       numbers (own y) = same (λ (b : Entry). b.own.number) (ap (λ (c : Cell). c.number) r.0) y
       numbers (start m k) = ap (λ (c : Cell). c.number) (start_cell m k r.1)
       numbers (next m k) = next_kept (λ (c : Cell). c.number) (λ k u. ap (λ (q : Cells). (cell_at u q k).number) h ∙ cell_level_number (before x).next i k u v l) m k
-      numbers (start_whole m) = refl
-      numbers (next_whole m) = refl
+      numbers _ = refl
 
       levels : (z : Slot) → level_in w t.entries.items z ≡ (if same_slot z (next x i) then v else level_in w s.entries.items z)
       levels (own y) = same (λ (b : Entry). b.own.level) (ap (λ (c : Cell). c.level) r.0) y
@@ -221,8 +202,7 @@ module _ (w : World) (s t : code.Store) (x : ℕ) (e : Entry) (written : Written
       numbers (own y) = same (λ (d : Entry). d.own.number) n y
       numbers (start m k) = ap (λ (d : Cell). d.number) (start_cell m k a)
       numbers (next m k) = ap (λ (d : Cell). d.number) (next_same m k)
-      numbers (start_whole m) = refl
-      numbers (next_whole m) = refl
+      numbers _ = refl
 
       up : (f : Entry → ℕ) → f e ≡ w.order.join (f (before x)) u → (y : ℕ) → f (after y) ≡ (if only w x y then w.order.join (f (before y)) u else f (before y))
       up f i y = new f (w.order.join (f (before x)) u) i y ∙ by (nat_eq y x) refl
