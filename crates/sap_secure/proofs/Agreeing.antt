@@ -105,26 +105,21 @@ module _ (w : World) (laws : Laws w.order) (l : ℕ) where
   -- a write of a number where the level is high
   pub agree_hidden : (s : Store) (z : Slot) (n : ℕ) → (compared w z ≡ true → High w.order l (level w z s)) → Agree w l s (put_number z n s)
   unfolding put_number
-  agree_hidden s z n f = record { cells = λ y g. both y g (same_slot y z) (slot_same y z); tags = λ y g d low. refl }
-    where
-      both : (y : Slot) → compared w y ≡ true → (i : Bool) → (i ≡ true → y ≡ z) → Same w.order l (number y s) (level w y s) (if i then n else number y s) (level w y s)
-      both y g true at =
-          let h : High w.order l (level w y s) = subst (λ x. High w.order l (level w x s)) (sym (at refl)) (f (subst (λ x. compared w x ≡ true) (at refl) g)) in
-          same_high w.order laws l _ _ _ _ h h
-      both y g false at = same_self w.order laws l _ _
+  agree_hidden s z n f = record {
+    cells = λ y g. cond_both (same_slot y z) n (number y s) (λ v. Same w.order l (number y s) (level w y s) v (level w y s)) (λ i.
+        let e : y ≡ z = slot_same y z i in
+        let h : High w.order l (level w y s) = subst (λ x. High w.order l (level w x s)) (sym e) (f (subst (λ x. compared w x ≡ true) e g)) in
+        same_high w.order laws l _ _ _ _ h h) (λ i. same_self w.order laws l _ _);
+    tags = λ y g d low. refl;
+  }
 
   -- raises of dynamic entities by levels that are equal or both high
   pub agree_raised : (s t : Store) (h : ℕ → Bool) (a b : ℕ) → OfDynamic w h → Agree w l s t → Like w.order l a b → Agree w l (raise w.order h a s) (raise w.order h b t)
   unfolding raise
   agree_raised s t h a b dyn r f = record {
-    cells = λ y g. both y g (raised h (home w y));
+    cells = λ y g. elim (cases_Bool (raised h (home w y))) [ inl i ↦ rw i (same_raised w.order laws l _ _ _ _ a b (r.cells y g) f) | inr i ↦ rw i (r.cells y g) ];
     tags = λ y g d low. raise_keeps w s h a dyn y d ∙ r.tags y g d low ∙ sym (raise_keeps w t h b dyn y d);
   }
-    where
-      both : (y : Slot) → compared w y ≡ true → (i : Bool)
-          → Same w.order l (number y s) (if i then w.order.join (level w y s) a else level w y s) (number y t) (if i then w.order.join (level w y t) b else level w y t)
-      both y g true = same_raised w.order laws l _ _ _ _ a b (r.cells y g) f
-      both y g false = r.cells y g
 
   -- a raise of what is high
   pub agree_raise : (s : Store) (h : ℕ → Bool) (a : ℕ) → OfDynamic w h

@@ -20,21 +20,13 @@ pub record Twin (w : World) (l : ℕ) (a b : After) : Type 0 where
 
 -- what holds of both blocks holds of the one that is picked
 pub branch_both : (P : After → After → Type 0) (a b : ℕ → Store → After) (v p : ℕ) (t u : Store) → P (a p t) (a p u) → P (b p t) (b p u) → P (branch a b v p t) (branch a b v p u)
-branch_both P a b v p t u x y = picked (nat_eq v 0)
-  where
-    picked : (i : Bool) → P (if i then b p t else a p t) (if i then b p u else a p u)
-    picked true = y
-    picked false = x
+branch_both P a b v p t u x y = elim (cases_Bool (nat_eq v 0)) [ inl i ↦ rw i y | inr i ↦ rw i x ]
 
 -- and so for the arm and the others
 pub choose_both : (P : After → After → Type 0) (cs : List ℕ) (a : ℕ → Store → After) (others : ℕ → ℕ → Store → After) (v p : ℕ) (t u : Store)
     → P (a p t) (a p u) → P (others v p t) (others v p u)
     → P (choose_arm cs a others v p t) (choose_arm cs a others v p u)
-choose_both P cs a others v p t u x y = picked (is_constant cs v)
-  where
-    picked : (i : Bool) → P (if i then a p t else others v p t) (if i then a p u else others v p u)
-    picked true = x
-    picked false = y
+choose_both P cs a others v p t u x y = elim (cases_Bool (is_constant cs v)) [ inl i ↦ rw i x | inr i ↦ rw i y ]
 
 -- a step that is refused, before what its handler does
 abbrev pub refusal : Step → ℕ → After → After

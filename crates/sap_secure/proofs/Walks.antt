@@ -112,7 +112,7 @@ module _ (w : World) (laws : Laws w.order) (l : ℕ) where
 
   pub like_raised : (s t : Store) (h : ℕ → Bool) (a b : ℕ) (z : Slot) → Like w.order l a b → Like w.order l (level w z s) (level w z t)
       → Like w.order l (level w z (raise w.order h a s)) (level w z (raise w.order h b t))
-  like_raised s t h a b z f e = rw (level_raise w z h a s, level_raise w z h b t) (both (raised h (home w z)))
+  like_raised s t h a b z f e = rw (level_raise w z h a s, level_raise w z h b t) (elim (cases_Bool (raised h (home w z))) [ inl i ↦ rw i joined | inr i ↦ rw i e ])
     where
       joined : Like w.order l (w.order.join (level w z s) a) (w.order.join (level w z t) b)
       joined = elim (cases_Bool (w.order.le a l)) [
@@ -122,10 +122,6 @@ module _ (w : World) (laws : Laws w.order) (l : ℕ) where
         ]
         | inr x ↦ (let p = high_right w.order laws l (level w z s) a x in let q = high_right w.order laws l (level w z t) b (sym f.0 ∙ x) in (p ∙ sym q, λ no. cc))
       ]
-
-      both : (i : Bool) → Like w.order l (if i then w.order.join (level w z s) a else level w z s) (if i then w.order.join (level w z t) b else level w z t)
-      both true = joined
-      both false = e
 
   -- the same path from what is settled: the same children, and the same levels of dynamic states
   pub from_settled : (g : Group) (n i : ℕ) (s t : Store) → Agree w l s t → Holds w s → Holds w t
