@@ -1,6 +1,7 @@
 -- Writes through a borrowed entry.
+use Rattle.std.proofs.lemmas.List.{get_or_read}
 use Rattle.std.proofs.lemmas.Bool.{cond_both}
-use Rattle.sap_lemmas.proofs.Common.{◌≡◌, ℕ, suc, ◌<◌, ◌≤◌, ◌^◌, Bool, true, false, ◌&&◌, List, [], ◌∷◌, length, get_or, refl, sym, ap, subst, ◌∙◌, arith, nat_eq, nat_lt, zero, le-ltb, eqb-true, length-set}
+use Rattle.sap_lemmas.proofs.Common.{◌≡◌, ℕ, ◌<◌, ◌≤◌, ◌^◌, Bool, true, false, ◌&&◌, List, length, get_or, refl, sym, ap, subst, ◌∙◌, arith, nat_eq, nat_lt, le-ltb, eqb-true, length-set}
 use Rattle.std.specs.Vec.{with_item}
 use Rattle.sap_meaning.specs.Prelude.{World, root, width, is_dynamic, depth, Slot, own, next, Store, owner, source, put_number, put_level, put_child, raise}
 use Rattle.sap_meaning.proofs.Slots.{owner_source}
@@ -14,11 +15,6 @@ use Rattle.sap_store.proofs.Fits.{Numbers, numbers_put, ready_as}
 use Rattle.sap_store.proofs.Raised.{quiet}
 use Rattle.sap_store.proofs.Writes.{Written, number_put, number_ready, level_put, level_ready, cell_number_put, cell_level_put, raise_put, shaped, settle_put, child_put, child_ready}
 
-item_is : {A : Type 0} (xs : List A) (x : ℕ) (a d : A) → x < length xs → a ≡ get_or xs x a → a ≡ get_or xs x d
-item_is [] x a d l e = absurd (omega (arith, l))
-item_is (b ∷ xs) zero a d l e = e
-item_is (b ∷ xs) (suc x) a d l e = item_is xs x a d (omega (arith, l)) e
-
 module _ (w : World) (s : code.Store) (x : ℕ) (r : Entry) (l : x < root w) (is : r ≡ get_or s.entries.items x r) (ready : Ready w s) where
   abbrev after : Entry → code.Store
   after e = record { entries = with_item s.entries x e; current = s.current }
@@ -27,7 +23,7 @@ module _ (w : World) (s : code.Store) (x : ℕ) (r : Entry) (l : x < root w) (is
   within = let e = ready.shaped.entries in omega (arith, e, l)
 
   found : r ≡ entry_at w s.entries.items x
-  found = item_is s.entries.items x r (no_entry w.order.bottom) within is
+  found = get_or_read s.entries.items x r within is (no_entry w.order.bottom)
 
   written : (e : Entry) → Written w s (after e) x e
   written e = record { within = within; entries = refl; current = refl }

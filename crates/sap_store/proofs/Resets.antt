@@ -1,5 +1,5 @@
 -- Resetting one state after another, and giving one input after another.
-use Rattle.std.proofs.lemmas.Bool.{cond_both}
+use Rattle.std.proofs.lemmas.Bool.{cond-false, cond_both}
 use Rattle.sap_lemmas.proofs.Common.{◌≡◌, ℕ, zero, suc, ◌+◌, ◌<◌, ◌≤◌, Bool, true, false, ◌&&◌, ◌||◌, List, [], ◌∷◌, length, get_or, refl, sym, ap, ◌∙◌, arith, nat_eq, nat_lt, if◌then◌else◌, inl, inr, nat_le, cases_Bool, lt-ltb, le-ltb, ltb-true, leb-true, le-leb, eqb-true, common_steps, and_false, and_true, get_or_past}
 use Rattle.sap_meaning.specs.Prelude.{World, Entity, entity, nothing, kind_is_input, root, is_input, is_state, is_dynamic, last, below, Slot, own, start, next, start_whole, next_whole, Store, owner, same_slot, put_number, put_level, put_child, lowered, reset, Tagged, inputs_before, given, at_inputs, set_inputs}
 use Rattle.sap_store.specs.Passes.{reset_one, given_one}
@@ -34,16 +34,12 @@ module _ (w : World) (target : ℕ) where
       by _ _ e h = refl
   lowered_late _ k l = refl
 
-  unless : {A : Type 0} (q : Bool) (a b : A) → q ≡ false → (if q then a else b) ≡ b
-  unless true a b e = cc
-  unless false a b e = refl
-
   pub reset_none : (s : Store) → put_child target 0 s ≡ reset_to (target + 1) s
   unfolding reset_to put_child
   reset_none s =
       store_same _ _ (λ z. refl)
-      (λ z. sym (unless _ _ _ (lowered_late z (target + 1) (omega arith))))
-      (λ p. ap (λ (n : ℕ). if nat_eq p target then 0 else n) (sym (unless _ _ _ (late p (target + 1) (omega arith)))))
+      (λ z. sym (cond-false _ _ _ (lowered_late z (target + 1) (omega arith))))
+      (λ p. ap (λ (n : ℕ). if nat_eq p target then 0 else n) (sym (cond-false _ _ _ (late p (target + 1) (omega arith)))))
 
   early : (p : ℕ) → (below w target p && nat_lt p (last w target + 1)) ≡ below w target p
   early p = by (is_state w p) (nat_lt target p) (nat_le p (last w target)) (nat_lt p (last w target + 1)) (λ h. let l =

@@ -1,4 +1,5 @@
 -- The parts of one memory after another settle.
+use Rattle.std.proofs.lemmas.Bool.{cond-false}
 use Rattle.sap_lemmas.proofs.Common.{◌≡◌, ℕ, ◌+◌, ◌≤◌, Bool, true, false, refl, sym, ap, ◌∙◌, arith, nat_eq, nat_lt, if◌then◌else◌, lt-ltb, le-ltb, eqb-true, common_steps, get_or_past}
 use Rattle.sap_meaning.specs.Prelude.{World, root, Slot, start, start_whole, Store, owner, source, settle}
 use Rattle.sap_meaning.proofs.Slots.{owner_source}
@@ -16,16 +17,12 @@ settled_to k s = record s {
   level = λ z. if nat_lt (owner z) k then s.level (source z) else s.level z;
 }
 
-unless : {A : Type 0} (q : Bool) (a b : A) → q ≡ false → (if q then a else b) ≡ b
-unless true a b e = cc
-unless false a b e = refl
-
 none_early : (x : ℕ) → nat_lt x 0 ≡ false
 none_early x = le-ltb x 0 (omega arith)
 
 pub settled_none : (s : Store) → settled_to 0 s ≡ s
 unfolding settled_to
-settled_none s = store_same _ _ (λ z. unless _ _ _ (none_early (owner z))) (λ z. unless _ _ _ (none_early (owner z))) (λ p. refl)
+settled_none s = store_same _ _ (λ z. cond-false _ _ _ (none_early (owner z))) (λ z. cond-false _ _ _ (none_early (owner z))) (λ p. refl)
 
 pub settled_next : (s : Store) (k : ℕ) → settled_one k (settled_to k s) ≡ settled_to (k + 1) s
 unfolding settled_to settled_one

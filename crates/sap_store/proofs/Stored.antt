@@ -16,7 +16,7 @@ get_set xs x a d h y = elim (cases_Bool (nat_eq y x)) [
   | inr t ↦ rw t (get_or-set_other xs x y a d (λ e. let f = eq-eqb y x e in cc))
 ]
 
-picked : {A B : Type 0} (f : A → B) (q : Bool) (a b : A) → f (if q then a else b) ≡ (if q then f a else f b)
+pub picked : {A B : Type 0} (f : A → B) (q : Bool) (a b : A) → f (if q then a else b) ≡ (if q then f a else f b)
 picked f true a b = refl
 picked f false a b = refl
 

@@ -9,7 +9,7 @@ use Rattle.sap_store.specs.declared.store.Store as code
 use Rattle.sap_store.specs.Half.{Cells, no_cell, cell_at, with_number, with_level}
 use Rattle.sap_store.specs.Kept.{entry_at, past, number_in, level_in, store_of, Shaped, Ready}
 use Rattle.sap_store.specs.Passes.{only, raised_one, settled_one}
-use Rattle.sap_store.proofs.Stored.{store_same, get_set, stays, becomes}
+use Rattle.sap_store.proofs.Stored.{store_same, get_set, picked, stays, becomes}
 use Rattle.sap_store.proofs.Fits.{Numbers, numbers_put, ready_as}
 
 -- one entry is written
@@ -104,15 +104,10 @@ module _ (w : World) (s t : code.Store) (x : ℕ) (e : Entry) (written : Written
   cell_set : (h : Cells) (i k u : ℕ) (c : Cell) → i < length h.cells → cell_at u (record h { cells = set h.cells i c }) k ≡ (if nat_eq k i then c else cell_at u h k)
   cell_set h i k u c l = get_set h.cells i c (no_cell u) l k
 
-  -- a field of the one of two cells
-  field_of : (f : Cell → ℕ) (q : Bool) (c d : Cell) → f (if q then c else d) ≡ (if q then f c else f d)
-  field_of f true c d = refl
-  field_of f false c d = refl
-
   cell_number_set : (h : Cells) (i k u n : ℕ) → i < length h.cells → (cell_at u (with_number i n h) k).number ≡ (if nat_eq k i then n else (cell_at u h k).number)
   cell_number_set h i k u n l =
       ap (λ (c : Cell). c.number) (cell_set h i k u (record { number = n; level = (get_or h.cells i (no_cell 0)).level }) l)
-      ∙ field_of (λ (c : Cell). c.number) (nat_eq k i) _ (cell_at u h k)
+      ∙ picked (λ (c : Cell). c.number) (nat_eq k i) _ (cell_at u h k)
 
   cell_number_level : (h : Cells) (i k u n : ℕ) → i < length h.cells → (cell_at u (with_number i n h) k).level ≡ (cell_at u h k).level
   cell_number_level h i k u n l =
@@ -123,7 +118,7 @@ module _ (w : World) (s t : code.Store) (x : ℕ) (e : Entry) (written : Written
   cell_level_set : (h : Cells) (i k u v : ℕ) → i < length h.cells → (cell_at u (with_level i v h) k).level ≡ (if nat_eq k i then v else (cell_at u h k).level)
   cell_level_set h i k u v l =
       ap (λ (c : Cell). c.level) (cell_set h i k u (record { number = (get_or h.cells i (no_cell 0)).number; level = v }) l)
-      ∙ field_of (λ (c : Cell). c.level) (nat_eq k i) _ (cell_at u h k)
+      ∙ picked (λ (c : Cell). c.level) (nat_eq k i) _ (cell_at u h k)
 
   cell_level_number : (h : Cells) (i k u v : ℕ) → i < length h.cells → (cell_at u (with_level i v h) k).number ≡ (cell_at u h k).number
   cell_level_number h i k u v l =
