@@ -2,11 +2,18 @@
 use Rattle.sap_lemmas.proofs.Common.{◌≡◌, ℕ, zero, suc, Bool, true, false, ◌&&◌, ◌||◌, refl, sym, ap, ◌∙◌, nat_eq, inl, inr, cases_Bool, false_from_ne_true, or_cases, or_from, or_left, or_right, neither_left, neither_right, test_of_same}
 use Rattle.sap_meaning.proofs.FineLemmas.{inside_among}
 use Rattle.sap_maps.specs.Term.{Term}
-use Rattle.sap_meaning.specs.Prelude.{World, is_dynamic, is_memory, is_state, place, below, Step, assign, write, retag, retag_cell, go_to, fall_to_child, Command, lone, try, if_else, try_then, case_of, Arms, last_arm, and_arm, Block, end_block, command_then, State, state_node, Group, no_node, and_node, Slot, own, start, next, Store, owner, home, level, child, same_slot, put_number, put_level, put_child, raised, raise, lowered, reset, After, stay, value, tag, Home, guard, test, among, step_hangs, hangs, block_hangs, touches, raised_alone, group_assigns, arms_hang, step_retags, retags, block_retags, state_retags, group_retags, effect, attempt, select, branch, does, does_block, does_state, does_child, attempt_then, does_arms, FineStep, FineCommand, FineState, FineGroup, transfers, Open, inside, NoTransfer, step_writes, writes, Every, EveryInArms, EveryInBlock, some_in_arms, some_in_block}
+use Rattle.sap_meaning.specs.Prelude.{World, is_dynamic, is_memory, is_state, place, below, Step, assign, write, retag, retag_cell, go_to, fall_to_child, Command, lone, try, if_else, try_then, case_of, Arms, last_arm, and_arm, Block, end_block, command_then, State, state_node, Group, no_node, and_node, Slot, own, start, next, Store, owner, home, level, child, same_slot, put_number, put_level, put_child, raised, raise, lowered, reset, After, stay, value, tag, Home, guard, test, among, step_hangs, touches, raised_alone, group_assigns, step_retags, retags, block_retags, state_retags, group_retags, effect, attempt, select, branch, does, does_block, does_state, does_child, attempt_then, does_arms, FineTerm, FineStep, FineCommand, FineState, FineGroup, transfers, Open, inside, step_writes, writes, Every, EveryInArms, EveryInBlock}
 use Rattle.sap_meaning.proofs.Slots.{slot_same, home_next, home_start, owner_home}
 use Rattle.sap_meaning.proofs.Keeps.{branch_all, choose_all}
-use Rattle.sap_secure.proofs.Apart.{register_apart, memory_apart, state_no_register, state_no_memory, group_unassigned, unhung}
-use Rattle.sap_secure.proofs.Sites.{Site, spot, Proper, ProperBlock, ProperStep, ProperArms}
+use Rattle.sap_meaning.proofs.WalksLemmas.{none_passes}
+use Rattle.sap_meaning.specs.Walks.{Asks}
+use Rattle.sap_secure.proofs.Apart.{register_apart, memory_apart, state_no_register, state_no_memory, group_unassigned, step_unhung}
+use Rattle.sap_secure.proofs.Sites.{Site, spot, Proper, ProperStep, Any, none_each, none_in_block, known_both, known_in_block}
+
+-- what is not touched does not hang
+pub untouched : (d a : Bool) → a ≡ false → (d && a) ≡ false
+untouched true a h = h
+untouched false a h = refl
 
 -- the level of z and the current child of q
 pub record Kept (w : World) (z : Slot) (q : ℕ) (s t : Store) : Type 0 where
@@ -76,6 +83,42 @@ module _ (w : World) (z : Slot) (q : ℕ) where
   kept_select e hang a b pc s off f g =
       kept_next w z q _ _ _ (kept_raise w z q s hang (tag w e s) off) (branch_all (λ r. Kept w z q (raise w.order hang (tag w e s) s) r.store) a b _ _ _ (f _ _) (g _ _))
 
+module _ (w : World) (z : Slot) (q : ℕ) (at : Home) (enter : ℕ → ℕ → Store → After) where
+  -- z does not hang on the command
+  abbrev pub Off : Command → Type 0
+  Off (lone k) = raised (raised_alone w at k) (home w z) ≡ false
+  Off c = raised (touches w at c) (home w z) ≡ false
+
+  -- Where z hangs on no command, commands keep what each of their steps keeps.
+  module _ (P : Step → Type 0) (off : (c : Command) → Every (Asks P Any) c → Off c)
+      (step : (k : Step) → P k → (pc : ℕ) (b t : Store) → Kept w z q t (effect w at enter k pc b t).store) where
+    mutual
+      unfolding does does_arms does_block
+
+      pub walk_kept : (c : Command) → Every (Asks P Any) c → (pc : ℕ) (t : Store) → Kept w z q t (does w at enter c pc t).store
+      walk_kept (lone k) h pc t =
+          kept_attempt w z q at enter k (raised_alone w at k) (λ p t. stay t) pc t (off (lone k) h) (λ b r. step k h pc b r) (λ p t. kept_self w z q t)
+      walk_kept (try k hang b) h pc t =
+          kept_attempt w z q at enter k (touches w at (try k hang b)) (does_block w at enter b) pc t (off (try k hang b) h)
+          (λ b' r. step k h.0 pc b' r) (λ p t. walk_list b h.1 p t)
+      walk_kept (if_else hang e a b) h pc t =
+          kept_select w z q e (touches w at (if_else hang e a b)) (does_block w at enter a) (does_block w at enter b) pc t (off (if_else hang e a b) h)
+          (λ p t. walk_list a h.1 p t) (λ p t. walk_list b h.2 p t)
+      walk_kept (try_then k hang a b) h pc t =
+          kept_attempt_then w z q at enter k (touches w at (try_then k hang a b)) (does_block w at enter a) (does_block w at enter b) pc t
+          (off (try_then k hang a b) h) (λ b' r. step k h.0 pc b' r) (λ p t. walk_list a h.1 p t) (λ p t. walk_list b h.2 p t)
+      walk_kept (case_of hang e arms) h pc t =
+          kept_pick w z q e (touches w at (case_of hang e arms)) (does_arms w at enter arms) pc t (off (case_of hang e arms) h) (λ v p t. walk_arms arms h.1 v p t)
+
+      walk_arms : (arms : Arms) → EveryInArms (Asks P Any) arms → (v pc : ℕ) (t : Store) → Kept w z q t (does_arms w at enter arms v pc t).store
+      walk_arms (last_arm b) h v pc t = walk_list b h pc t
+      walk_arms (and_arm cs b arms) h v pc t =
+          choose_all (λ r. Kept w z q t r.store) cs (does_block w at enter b) (does_arms w at enter arms) v pc t (walk_list b h.0 pc t) (walk_arms arms h.1 v pc t)
+
+      pub walk_list : (b : Block) → EveryInBlock (Asks P Any) b → (pc : ℕ) (t : Store) → Kept w z q t (does_block w at enter b pc t).store
+      walk_list end_block h pc t = kept_self w z q t
+      walk_list (command_then c cs) h pc t = kept_next w z q _ _ _ (walk_kept c h.0 pc t) (walk_list cs h.1 pc _)
+
 -- open commands in the body of a state
 module _ (w : World) (i : Site w) (q : ℕ) where
   -- the state x, at the place or below it
@@ -109,64 +152,20 @@ module _ (w : World) (i : Site w) (q : ℕ) where
     alone_off (fall_to_child site hang) plain = cc
     alone_off _ plain = refl
 
-    mutual
-      command_off : (c : Command) → Proper w i c → Open c → hangs i.state i.kids c x ≡ false
-      command_off (lone k) fine plain = step_off k fine plain
-      command_off (try k hang h) fine plain = or_from _ _ (step_off k fine.0 plain.0) (block_off h fine.1 plain.1)
-      command_off (if_else hang e a b) fine plain = or_from _ _ (block_off a fine.1 plain.1) (block_off b fine.2 plain.2)
-      command_off (try_then k hang a b) fine plain = or_from _ _ (step_off k fine.0 plain.0) (or_from _ _ (block_off a fine.1 plain.1) (block_off b fine.2 plain.2))
-      command_off (case_of hang e arms) fine plain = arms_off arms fine.1 plain.1
+    -- an open command's steps, which don't retag x
+    abbrev OpenStep : Step → Type 0
+    OpenStep k = ProperStep w i k × ((transfers k ≡ false) × ((u : Unit {0}) → step_retags k x ≡ false))
 
-      arms_off : (arms : Arms) → ProperArms w i arms → EveryInArms NoTransfer arms → arms_hang i.state i.kids arms x ≡ false
-      arms_off (last_arm b) fine plain = block_off b fine plain
-      arms_off (and_arm constants b arms) fine plain = or_from _ _ (block_off b fine.0 plain.0) (arms_off arms fine.1 plain.1)
+    open_off : (c : Command) → Every (Asks OpenStep Any) c → Off w (own x) q (spot i) i.enter c
+    open_off (lone k) all = alone_off k all.1.0
+    open_off c all = untouched (is_dynamic w x) _ (none_passes OpenStep Any (λ k. step_hangs i.state i.kids k x) (λ k h. step_off k h.0 h.1.0) c all)
 
-      block_off : (b : Block) → ProperBlock w i b → EveryInBlock NoTransfer b → block_hangs i.state i.kids b x ≡ false
-      block_off end_block fine plain = refl
-      block_off (command_then c cs) fine plain = or_from _ _ (command_off c fine.0 plain.0) (block_off cs fine.1 plain.1)
-
-    untouched : (d a : Bool) → a ≡ false → (d && a) ≡ false
-    untouched true a h = h
-    untouched false a h = refl
-
-    mutual
-      unfolding does does_arms does_block
-
-      pub open_kept : (c : Command) → Proper w i c → Open c → retags c x ≡ false → (pc : ℕ) (t : Store) → Kept w (own x) q t (does w (spot i) i.enter c pc t).store
-      open_kept (lone k) fine plain un pc t =
-          kept_attempt w (own x) q (spot i) i.enter k (raised_alone w (spot i) k) (λ p t. stay t) pc t (alone_off k plain)
-          (λ b r. open_step k fine plain un pc b r) (λ p t. kept_self w (own x) q t)
-      open_kept (try k hang h) fine plain un pc t =
-          kept_attempt w (own x) q (spot i) i.enter k (touches w (spot i) (try k hang h)) (does_block w (spot i) i.enter h) pc t
-          (untouched (is_dynamic w x) _ (command_off (try k hang h) fine plain))
-          (λ b r. open_step k fine.0 plain.0 (neither_left _ _ un) pc b r) (λ p t. open_list h fine.1 plain.1 (neither_right (step_retags k x) _ un) p t)
-      open_kept (if_else hang e a b) fine plain un pc t =
-          kept_select w (own x) q e (touches w (spot i) (if_else hang e a b)) (does_block w (spot i) i.enter a)
-          (does_block w (spot i) i.enter b) pc t (untouched (is_dynamic w x) _ (command_off (if_else hang e a b) fine plain))
-          (λ p t. open_list a fine.1 plain.1 (neither_left _ _ un) p t) (λ p t. open_list b fine.2 plain.2 (neither_right (block_retags a x) _ un) p t)
-      open_kept (try_then k hang a b) fine plain un pc t =
-          kept_attempt_then w (own x) q (spot i) i.enter k (touches w (spot i) (try_then k hang a b)) (does_block w (spot i) i.enter a) (does_block w (spot i) i.enter b) pc t
-          (untouched (is_dynamic w x) _ (command_off (try_then k hang a b) fine plain)) (λ b' r. open_step k fine.0 plain.0 (neither_left _ _ un) pc b' r)
-          (λ p t. open_list a fine.1 plain.1 (neither_left _ _ (neither_right (step_retags k x) _ un)) p t)
-          (λ p t. open_list b fine.2 plain.2 (neither_right (block_retags a x) _ (neither_right (step_retags k x) _ un)) p t)
-      open_kept (case_of hang e arms) fine plain un pc t =
-          kept_pick w (own x) q e (touches w (spot i) (case_of hang e arms)) (does_arms w (spot i) i.enter arms) pc t
-          (untouched (is_dynamic w x) _ (command_off (case_of hang e arms) fine plain))
-          (λ v p t. open_arms arms fine.1 plain.1 un v p t)
-
-      open_arms : (arms : Arms) → ProperArms w i arms → EveryInArms NoTransfer arms → some_in_arms (λ k. step_retags k x) arms ≡ false → (v pc : ℕ) (t : Store)
-          → Kept w (own x) q t (does_arms w (spot i) i.enter arms v pc t).store
-      open_arms (last_arm b) fine plain un v pc t = open_list b fine plain un pc t
-      open_arms (and_arm cs b arms) fine plain un v pc t =
-          choose_all (λ r. Kept w (own x) q t r.store) cs (does_block w (spot i) i.enter b) (does_arms w (spot i) i.enter arms) v pc t
-          (open_list b fine.0 plain.0 (neither_left _ _ un) pc t)
-          (open_arms arms fine.1 plain.1 (neither_right (block_retags b x) _ un) v pc t)
-
-      open_list : (b : Block) → ProperBlock w i b → EveryInBlock NoTransfer b → block_retags b x ≡ false → (pc : ℕ) (t : Store)
-          → Kept w (own x) q t (does_block w (spot i) i.enter b pc t).store
-      open_list end_block fine plain un pc t = kept_self w (own x) q t
-      open_list (command_then c cs) fine plain un pc t =
-          kept_next w (own x) q _ _ _ (open_kept c fine.0 plain.0 (neither_left _ _ un) pc t) (open_list cs fine.1 plain.1 (neither_right (retags c x) _ un) pc _)
+    pub open_kept : (c : Command) → Proper w i c → Open c → retags c x ≡ false → (pc : ℕ) (t : Store) → Kept w (own x) q t (does w (spot i) i.enter c pc t).store
+    open_kept c fine plain un pc t =
+        walk_kept w (own x) q (spot i) i.enter OpenStep open_off (λ k h pc b r. open_step k h.0 h.1.0 (h.1.1 tt) pc b r) c
+        (known_both (ProperStep w i) (λ k. (transfers k ≡ false) × ((u : Unit {0}) → step_retags k x ≡ false)) (FineTerm w) Any c fine
+        (known_both (λ k. transfers k ≡ false) (λ k. (u : Unit {0}) → step_retags k x ≡ false) Any Any c plain
+        (none_each (λ (u : Unit {0}) (k : Step). step_retags k x) c (λ u. un)))) pc t
 
   -- a cell z of the enforced memory m
   module _ (m : ℕ) (mem : is_memory w m ≡ true) (d : is_dynamic w m ≡ false) (z : Slot) (cell : (h : ℕ → Bool)
@@ -188,37 +187,19 @@ module _ (w : World) (i : Site w) (q : ℕ) where
             let g : nat_eq m n ≡ true = rw f (test_of_same n) in cc)
     cell_step _ plain un pc b t = cc
 
-    mutual
-      unfolding does does_arms does_block
+    -- an open command's steps, which don't write m
+    abbrev CellStep : Step → Type 0
+    CellStep k = (transfers k ≡ false) × ((u : Unit {0}) → step_writes k m ≡ false)
 
-      pub cell_kept : (c : Command) → Open c → writes c m ≡ false → (pc : ℕ) (t : Store) → Kept w z q t (does w (spot i) i.enter c pc t).store
-      cell_kept (lone k) plain un pc t =
-          kept_attempt w z q (spot i) i.enter k (raised_alone w (spot i) k) (λ p t. stay t) pc t (cell _) (λ b r. cell_step k plain un pc b r) (λ p t. kept_self w z q t)
-      cell_kept (try k hang h) plain un pc t =
-          kept_attempt w z q (spot i) i.enter k (touches w (spot i) (try k hang h)) (does_block w (spot i) i.enter h) pc t (cell _)
-          (λ b r. cell_step k plain.0 (neither_left _ _ un) pc b r) (λ p t. cell_list h plain.1 (neither_right (step_writes k m) _ un) p t)
-      cell_kept (if_else hang e a b) plain un pc t =
-          kept_select w z q e (touches w (spot i) (if_else hang e a b)) (does_block w (spot i) i.enter a) (does_block w (spot i) i.enter b) pc t (cell _)
-          (λ p t. cell_list a plain.1 (neither_left _ _ un) p t) (λ p t. cell_list b plain.2 (neither_right (some_in_block (λ k. step_writes k m) a) _ un) p t)
-      cell_kept (try_then k hang a b) plain un pc t =
-          kept_attempt_then w z q (spot i) i.enter k (touches w (spot i) (try_then k hang a b)) (does_block w (spot i) i.enter a) (does_block w (spot i) i.enter b) pc t (cell _)
-          (λ b' r. cell_step k plain.0 (neither_left _ _ un) pc b' r) (λ p t. cell_list a plain.1 (neither_left _ _ (neither_right (step_writes k m) _ un)) p t)
-          (λ p t. cell_list b plain.2 (neither_right (some_in_block (λ k. step_writes k m) a) _ (neither_right (step_writes k m) _ un)) p t)
-      cell_kept (case_of hang e arms) plain un pc t =
-          kept_pick w z q e (touches w (spot i) (case_of hang e arms)) (does_arms w (spot i) i.enter arms) pc t (cell _) (λ v p t. cell_arms arms plain.1 un v p t)
+    cell_off : (c : Command) → Every (Asks CellStep Any) c → Off w z q (spot i) i.enter c
+    cell_off (lone k) all = cell (raised_alone w (spot i) k)
+    cell_off c all = cell (touches w (spot i) c)
 
-      cell_arms : (arms : Arms) → EveryInArms NoTransfer arms → some_in_arms (λ k. step_writes k m) arms ≡ false → (v pc : ℕ) (t : Store)
-          → Kept w z q t (does_arms w (spot i) i.enter arms v pc t).store
-      cell_arms (last_arm b) plain un v pc t = cell_list b plain un pc t
-      cell_arms (and_arm cs b arms) plain un v pc t =
-          choose_all (λ r. Kept w z q t r.store) cs (does_block w (spot i) i.enter b) (does_arms w (spot i) i.enter arms) v pc t (cell_list b plain.0 (neither_left _ _ un) pc t)
-          (cell_arms arms plain.1 (neither_right (some_in_block (λ k. step_writes k m) b) _ un) v pc t)
-
-      cell_list : (b : Block) → EveryInBlock NoTransfer b → some_in_block (λ k. step_writes k m) b ≡ false → (pc : ℕ) (t : Store)
-          → Kept w z q t (does_block w (spot i) i.enter b pc t).store
-      cell_list end_block plain un pc t = kept_self w z q t
-      cell_list (command_then c cs) plain un pc t =
-          kept_next w z q _ _ _ (cell_kept c plain.0 (neither_left _ _ un) pc t) (cell_list cs plain.1 (neither_right (writes c m) _ un) pc _)
+    pub cell_kept : (c : Command) → Open c → writes c m ≡ false → (pc : ℕ) (t : Store) → Kept w z q t (does w (spot i) i.enter c pc t).store
+    cell_kept c plain un pc t =
+        walk_kept w z q (spot i) i.enter CellStep cell_off (λ k h pc b r. cell_step k h.0 (h.1 tt) pc b r) c
+        (known_both (λ k. transfers k ≡ false) (λ k. (u : Unit {0}) → step_writes k m ≡ false) Any Any c plain
+        (none_each (λ (u : Unit {0}) (k : Step). step_writes k m) c (λ u. un))) pc t
 
 -- the parts of an enforced memory's cell
 module _ (w : World) (i : Site w) (q m : ℕ) (mem : is_memory w m ≡ true) (d : is_dynamic w m ≡ false) (c : Command) (plain : Open c)
@@ -284,51 +265,32 @@ module _ (w : World) (e p : ℕ) (s : is_state w e ≡ true) where
         unlowered false b h = refl
     under_step (fall_to_child site hang) fine un pc b t = entering _ _ t
 
-    not_touched : (d a : Bool) → a ≡ false → (d && a) ≡ false
-    not_touched true a h = h
-    not_touched false a h = refl
-
     alone_free : (j : Step) → FineStep w g k j → raised_alone w Here j e ≡ false
-    alone_free (go_to site target) fine = not_touched (is_dynamic w e) _ own_out
-    alone_free (fall_to_child site hang) fine = not_touched (is_dynamic w e) _ (or_from _ _ kids_out free)
+    alone_free (go_to site target) fine = untouched (is_dynamic w e) _ own_out
+    alone_free (fall_to_child site hang) fine = untouched (is_dynamic w e) _ (or_from _ _ kids_out free)
     alone_free _ fine = refl
 
-    mutual
-      unfolding does does_arms does_block
+    -- steps that don't retag e
+    abbrev UnderStep : Step → Type 0
+    UnderStep j = FineStep w g k j × ((u : Unit {0}) → step_retags j e ≡ false)
 
-      pub under_kept : (j : Command) → Every (FineCommand w g k) j → retags j e ≡ false → (pc : ℕ) (t : Store) → Kept w (own e) p t (does w Here enter j pc t).store
-      under_kept (lone j) fine un pc t =
-          kept_attempt w (own e) p Here enter j (raised_alone w Here j) (λ q t. stay t) pc t (alone_free j fine)
-          (λ b r. under_step j fine un pc b r) (λ q t. kept_self w (own e) p t)
-      under_kept (try j hang h) fine un pc t =
-          kept_attempt w (own e) p Here enter j (touches w Here (try j hang h)) (does_block w Here enter h) pc t
-          (not_touched (is_dynamic w e) _ (unhung w e s c k own_out kids_out free g (try j hang h) fine))
-          (λ b r. under_step j fine.0 (neither_left _ _ un) pc b r) (λ q t. under_list h fine.1 (neither_right (step_retags j e) _ un) q t)
-      under_kept (if_else hang u a b) fine un pc t =
-          kept_select w (own e) p u (touches w Here (if_else hang u a b)) (does_block w Here enter a) (does_block w Here enter b) pc t
-          (not_touched (is_dynamic w e) _ (unhung w e s c k own_out kids_out free g (if_else hang u a b) fine))
-          (λ q t. under_list a fine.1 (neither_left _ _ un) q t) (λ q t. under_list b fine.2 (neither_right (block_retags a e) _ un) q t)
-      under_kept (try_then j hang a b) fine un pc t =
-          kept_attempt_then w (own e) p Here enter j (touches w Here (try_then j hang a b)) (does_block w Here enter a) (does_block w Here enter b) pc t
-          (not_touched (is_dynamic w e) _ (unhung w e s c k own_out kids_out free g (try_then j hang a b) fine)) (λ b' r. under_step j fine.0 (neither_left _ _ un) pc b' r)
-          (λ q t. under_list a fine.1 (neither_left _ _ (neither_right (step_retags j e) _ un)) q t)
-          (λ q t. under_list b fine.2 (neither_right (block_retags a e) _ (neither_right (step_retags j e) _ un)) q t)
-      under_kept (case_of hang u arms) fine un pc t =
-          kept_pick w (own e) p u (touches w Here (case_of hang u arms)) (does_arms w Here enter arms) pc t
-          (not_touched (is_dynamic w e) _ (unhung w e s c k own_out kids_out free g (case_of hang u arms) fine)) (λ v q t. under_arms arms fine.1 un v q t)
+    under_off : (j : Command) → Every (Asks UnderStep Any) j → Off w (own e) p Here enter j
+    under_off (lone j) all = alone_free j all.0
+    under_off j all =
+        untouched (is_dynamic w e) _
+        (none_passes UnderStep Any (λ i. step_hangs c k i e) (λ i h. step_unhung w e s c k own_out kids_out free g i h.0) j all)
 
-      under_arms : (arms : Arms) → EveryInArms (FineCommand w g k) arms → some_in_arms (λ k. step_retags k e) arms ≡ false → (v pc : ℕ) (t : Store)
-          → Kept w (own e) p t (does_arms w Here enter arms v pc t).store
-      under_arms (last_arm b) fine un v pc t = under_list b fine un pc t
-      under_arms (and_arm cs b arms) fine un v pc t =
-          choose_all (λ r. Kept w (own e) p t r.store) cs (does_block w Here enter b) (does_arms w Here enter arms) v pc t (under_list b fine.0 (neither_left _ _ un) pc t)
-          (under_arms arms fine.1 (neither_right (block_retags b e) _ un) v pc t)
+    pub under_kept : (j : Command) → Every (FineCommand w g k) j → retags j e ≡ false → (pc : ℕ) (t : Store) → Kept w (own e) p t (does w Here enter j pc t).store
+    under_kept j fine un pc t =
+        walk_kept w (own e) p Here enter UnderStep under_off (λ j h pc b r. under_step j h.0 (h.1 tt) pc b r) j
+        (known_both (FineStep w g k) (λ j. (u : Unit {0}) → step_retags j e ≡ false) (FineTerm w) Any j fine
+        (none_each (λ (u : Unit {0}) (j : Step). step_retags j e) j (λ u. un))) pc t
 
-      under_list : (b : Block) → EveryInBlock (FineCommand w g k) b → block_retags b e ≡ false → (pc : ℕ) (t : Store)
-          → Kept w (own e) p t (does_block w Here enter b pc t).store
-      under_list end_block fine un pc t = kept_self w (own e) p t
-      under_list (command_then j js) fine un pc t =
-          kept_next w (own e) p _ _ _ (under_kept j fine.0 (neither_left _ _ un) pc t) (under_list js fine.1 (neither_right (retags j e) _ un) pc _)
+    under_list : (b : Block) → EveryInBlock (FineCommand w g k) b → block_retags b e ≡ false → (pc : ℕ) (t : Store) → Kept w (own e) p t (does_block w Here enter b pc t).store
+    under_list b fine un pc t =
+        walk_list w (own e) p Here enter UnderStep under_off (λ j h pc b r. under_step j h.0 (h.1 tt) pc b r) b
+        (known_in_block (FineStep w g k) (λ j. (u : Unit {0}) → step_retags j e ≡ false) (FineTerm w) Any b fine
+        (none_in_block (λ (u : Unit {0}) (j : Step). step_retags j e) b (λ u. un))) pc t
 
   outside : (g : Group) → Under g → among g e ≡ false
   outside g out = false_from_ne_true (among g e) (λ h. let f = neither_left (nat_eq e e) _ (out e (inside_among g e h)).0 in let k = test_of_same e in cc)

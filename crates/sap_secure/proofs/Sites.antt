@@ -1,8 +1,10 @@
 -- A state in its group, with what is known of both, and commands in its body.
 use Rattle.sap_lemmas.proofs.Common.{◌≡◌, ℕ, suc, ◌+◌, ◌<◌, ◌≤◌, Bool, true, false, ◌&&◌, ◌||◌, refl, sym, ◌∙◌, arith, nat_eq, nat_lt, nat_le, inl, inr, ◌⊎◌, common_steps, and_left, and_right, neither_left, neither_right, eqb-true, false_from_ne_true, or_cases, or_from, or_right}
 use Rattle.sap_meaning.specs.Prelude.{World, children, is_dynamic, is_memory, is_state, last, below, root, Step, Command, lone, try, if_else, try_then, case_of, Arms, last_arm, and_arm, Block, end_block, command_then, state_node, Group, no_node, and_node, Every, EveryInArms, EveryInBlock, Asks, some_in_arms, Store, After, Home, among, step_retags, retags, block_retags, FineTerm, FineStep, FineCommand, FineNode, FineState, FineGroup, Open, Closes, Final, inside, size, NoTransfer, writes, reaches, block_reaches}
-use Rattle.sap_meaning.proofs.WalksLemmas.{every_follows, every_follows_in_arms, every_follows_in_block, asks_follows, none_passes, none_passes_in_block}
+use Rattle.sap_meaning.proofs.WalksLemmas.{every_both_in_block, every_follows, every_follows_in_arms, every_follows_in_block, asks_follows, none_passes, none_passes_in_block}
 use Rattle.sap_meaning.proofs.Bools.{and_false}
+use Rattle.sap_maps.specs.Term.{Term}
+use Rattle.sap_meaning.specs.Walks.{some, some_in_block}
 use Rattle.sap_meaning.proofs.Trees.{Nth, nth_fine}
 use Rattle.sap_secure.proofs.Concerns.{block_concerns}
 use Rattle.sap_secure.proofs.Apart.{no_state, writes_within, block_hung, apart_of, inside_state}
@@ -102,6 +104,45 @@ module _ (w : World) where
   pub no_kid : (i : Site w) (x : ℕ) → is_state w x ≡ false → among i.kids x ≡ false
   no_kid i x s = apart_of w i.kids 0 i.kids (own_fine i).1 x s
 
+-- nothing is asked of a condition
+abbrev pub Any : Term ℕ → Type 0
+Any e = Unit {0}
+
+-- Where no step of a command passes one of the tests, none is passed by each step.
+module _ {X : Type 0} (p : X → Step → Bool) where
+  abbrev Fails : Step → Type 0
+  Fails k = (x : X) → p x k ≡ false
+
+  mutual
+    pub none_each : (c : Command) → ((x : X) → some (p x) c ≡ false) → Every (Asks Fails Any) c
+    none_each (lone k) un = un
+    none_each (try k hang h) un = (λ x. neither_left _ _ (un x), none_in_block h (λ x. neither_right (p x k) _ (un x)))
+    none_each (if_else hang e a b) un =
+        (tt, none_in_block a (λ x. neither_left _ _ (un x)), none_in_block b (λ x. neither_right (some_in_block (p x) a) _ (un x)))
+    none_each (try_then k hang a b) un = (
+      λ x. neither_left _ _ (un x),
+      none_in_block a (λ x. neither_left _ _ (neither_right (p x k) _ (un x))),
+      none_in_block b (λ x. neither_right (some_in_block (p x) a) _ (neither_right (p x k) _ (un x))),
+    )
+    none_each (case_of hang e arms) un = (tt, none_in_arms arms un)
+
+    none_in_arms : (arms : Arms) → ((x : X) → some_in_arms (p x) arms ≡ false) → EveryInArms (Asks Fails Any) arms
+    none_in_arms (last_arm b) un = none_in_block b un
+    none_in_arms (and_arm constants b arms) un =
+        (none_in_block b (λ x. neither_left _ _ (un x)), none_in_arms arms (λ x. neither_right (some_in_block (p x) b) _ (un x)))
+
+    pub none_in_block : (b : Block) → ((x : X) → some_in_block (p x) b ≡ false) → EveryInBlock (Asks Fails Any) b
+    none_in_block end_block un = tt
+    none_in_block (command_then c cs) un = (none_each c (λ x. neither_left _ _ (un x)), none_in_block cs (λ x. neither_right (some (p x) c) _ (un x)))
+
+-- two things that are known of each step
+module _ (P R : Step → Type 0) (Q S : Term ℕ → Type 0) where
+  pub known_in_block : (b : Block) → EveryInBlock (Asks P Q) b → EveryInBlock (Asks R S) b → EveryInBlock (Asks (λ k. P k × R k) Any) b
+  known_in_block b p r = every_both_in_block P R (λ k. P k × R k) Q S Any (λ k f g. (f, g)) (λ e f g. tt) b p r
+
+  pub known_both : (c : Command) → Every (Asks P Q) c → Every (Asks R S) c → Every (Asks (λ k. P k × R k) Any) c
+  known_both c p r = (known_in_block (command_then c end_block) (p, tt) (r, tt)).0
+
 -- what is known of a command in a state's body
 abbrev pub ProperStep : (w : World) → Site w → Step → Type 0
 ProperStep w i k = FineStep w i.siblings i.kids k × ((x : ℕ) → mine i x ≡ true → step_retags k x ≡ false)
@@ -127,9 +168,6 @@ abbrev pub Ended : Command → Type 0
 Ended c = Final c ⊎ Open c
 
 module _ (w : World) (i : Site w) where
-  abbrev Unmarked : Command → Type 0
-  Unmarked c = (x : ℕ) → mine i x ≡ true → retags c x ≡ false
-
   abbrev UnmarkedBlock : Block → Type 0
   UnmarkedBlock b = (x : ℕ) → mine i x ≡ true → block_retags b x ≡ false
 
@@ -141,44 +179,21 @@ module _ (w : World) (i : Site w) where
       let n : reaches i.kids c m ≡ false = and_false _ _ (once m) r in
       (open_, false_from_ne_true (writes c m) (λ y. let z = writes_within w i.kids m c y in cc))
 
-  mutual
-    pub proper : (c : Command) → Every (FineCommand w i.siblings i.kids) c → Unmarked c → Proper w i c
-    proper (lone k) fine un = (fine, un)
-    proper (try k hang h) fine un = (
-      (fine.0, λ x m. neither_left _ _ (un x m)),
-      proper_block h fine.1 (λ x m. neither_right (step_retags k x) _ (un x m)),
-    )
-    proper (if_else hang e a b) fine un = (
-      fine.0,
-      proper_block a fine.1 (λ x m. neither_left _ _ (un x m)),
-      proper_block b fine.2 (λ x m. neither_right (block_retags a x) _ (un x m)),
-    )
-    proper (try_then k hang a b) fine un = (
-      (fine.0, λ x m. neither_left _ _ (un x m)),
-      proper_block a fine.1 (λ x m. neither_left _ _ (neither_right (step_retags k x) _ (un x m))),
-      proper_block b fine.2 (λ x m. neither_right (block_retags a x) _ (neither_right (step_retags k x) _ (un x m))),
-    )
-    proper (case_of hang e arms) fine un = (fine.0, proper_arms arms fine.1 un)
-
-    proper_arms : (arms : Arms) → EveryInArms (FineCommand w i.siblings i.kids) arms
-        → ((x : ℕ) → mine i x ≡ true → some_in_arms (λ k. step_retags k x) arms ≡ false) → ProperArms w i arms
-    proper_arms (last_arm b) fine un = proper_block b fine un
-    proper_arms (and_arm constants b arms) fine un =
-        (proper_block b fine.0 (λ x m. neither_left _ _ (un x m)), proper_arms arms fine.1 (λ x m. neither_right (block_retags b x) _ (un x m)))
-
-    pub proper_block : (b : Block) → EveryInBlock (FineCommand w i.siblings i.kids) b → UnmarkedBlock b → ProperBlock w i b
-    proper_block end_block fine un = tt
-    proper_block (command_then c cs) fine un =
-        (proper c fine.0 (λ x m. neither_left _ _ (un x m)), proper_block cs fine.1 (λ x m. neither_right (retags c x) _ (un x m)))
-
   body_unmarked : UnmarkedBlock i.body
   body_unmarked x h = elim (or_cases (nat_eq x i.state) _ h) [
     | inl e ↦ rw (eqb-true x i.state e) (neither_left _ _ (node w i).retags_itself)
     | inr e ↦ (node w i).retags_below x e
   ]
 
+  -- the state's own number, and those below it
+  abbrev Mine : Type 0
+  Mine = (x : ℕ) × (mine i x ≡ true)
+
   pub proper_body : ProperBlock w i i.body
-  proper_body = proper_block i.body (node w i).steps body_unmarked
+  proper_body =
+      every_both_in_block (FineStep w i.siblings i.kids) (λ k. (y : Mine) → step_retags k y.0 ≡ false) (ProperStep w i) (FineTerm w) Any (FineTerm w)
+      (λ k fine un. (fine, λ x m. un (x, m))) (λ e fine u. fine) i.body (node w i).steps
+      (none_in_block (λ (y : Mine) (k : Step). step_retags k y.0) i.body (λ y. body_unmarked y.0 y.1))
 
 -- what the keeping of states asks of it
 module _ (w : World) (i : Site w) where

@@ -12,7 +12,7 @@ use Rattle.sap_secure.proofs.Agreeing.{raise_high, Agree}
 use Rattle.sap_secure.proofs.Apart.{inside_state, group_unassigned, state_no_register, state_no_memory, unhung}
 use Rattle.sap_secure.proofs.Concerns.{step_concerns, concerns, block_concerns, group_concerns, arms_concern}
 use Rattle.sap_secure.proofs.Sites.{Site, spot, mine, Proper, ProperBlock, ProperStep, node, own_fine, unmarked, mine_state, fine_command, ProperArms}
-use Rattle.sap_secure.proofs.Frames.{Kept, kept_raise, open_kept, open_step}
+use Rattle.sap_secure.proofs.Frames.{Kept, untouched, kept_raise, open_kept, open_step}
 use Rattle.sap_secure.proofs.Confined.{Entering, Quiet, Up, up_join, landing, keeps, does_confined, hush_next, quiet_left, quiet_right, quiet_kept, touches_dynamic, alone_within, step_confined}
 use Rattle.sap_secure.proofs.Walks.{Stop, path, one, path_here, path_high, from_same, from_quiet, nth_among, deeper, deeper_inside, deeper_not_among}
 
@@ -254,14 +254,10 @@ module _ (w : World) (laws : Laws w.order) (l : ℕ) where
     shallow d fine x h =
         let i = deeper_inside w c.site.kids x h in
         let s = inside_state w c.site.kids 0 c.site.kids (own_fine w c.site).1 x i in
-        falsely (is_dynamic w x) _ (unhung w x s c.site.state c.site.kids
+        untouched (is_dynamic w x) _ (unhung w x s c.site.state c.site.kids
         (other x (and_right (is_state w x) _ (sym ((node w c.site).numbers x) ∙ i))) (deeper_not_among w c.site.kids 0 c.site.kids (own_fine w c.site).1 x h)
         (group_unassigned w x (state_no_register w x s) (state_no_memory w x s) c.site.kids 0 c.site.kids (own_fine w c.site).1) c.site.siblings d (fine_command w c.site d fine))
       where
-        falsely : (a b : Bool) → b ≡ false → (a && b) ≡ false
-        falsely true b h = h
-        falsely false b h = refl
-
         other : (x : ℕ) → (nat_lt c.site.state x && nat_le x (last w c.site.state)) ≡ true → nat_eq x c.site.state ≡ false
         other x h = let k = and_left (nat_lt c.site.state x) _ h in differ c.site.state x k
           where
