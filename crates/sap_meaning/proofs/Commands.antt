@@ -4,7 +4,7 @@ use Rattle.std.proofs.Math.Path.{fun_ext}
 use Rattle.sap_lattice.specs.Order.{Order}
 use Rattle.sap_maps.specs.Term.{Term}
 use Rattle.sap_meaning.specs.Program.{World, Step, lone, if_else, Block, end_block, command_then}
-use Rattle.sap_meaning.specs.Store.{Store, Slot, own, start, next, start_whole, next_whole, raised, raise, After, stay}
+use Rattle.sap_meaning.specs.Store.{Store, Slot, own, next_whole, raised, raise, After, stay}
 use Rattle.sap_meaning.specs.Expressions.{value, tag}
 use Rattle.sap_meaning.specs.Checks.{Home, guard, test}
 use Rattle.sap_meaning.specs.Touches.{touches, raised_alone}
@@ -20,10 +20,8 @@ Quiet hangs = (x : ℕ) → hangs x ≡ false
 
 raised_quiet : (hangs : ℕ → Bool) → Quiet hangs → (z : Slot) → raised hangs z ≡ false
 raised_quiet hangs q (own x) = q x
-raised_quiet hangs q (start m i) = refl
-raised_quiet hangs q (next m i) = refl
-raised_quiet hangs q (start_whole m) = refl
 raised_quiet hangs q (next_whole m) = q m
+raised_quiet hangs q _ = refl
 
 -- a raise of nothing changes nothing
 pub raise_quiet : (o : Order) (hangs : ℕ → Bool) (t : ℕ) (s : Store) → Quiet hangs → raise o hangs t s ≡ s

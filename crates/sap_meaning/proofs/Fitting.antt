@@ -1,7 +1,8 @@
 -- Numbers stay within their widths, and levels levels.
+use Rattle.std.proofs.lemmas.Bool.{cond_both}
 use Rattle.sap_lemmas.proofs.Common.{◌≡◌, ℕ, zero, suc, ◌<◌, ◌^◌, Bool, true, false, List, [], ◌∷◌, get_or, refl, sym, subst, arith, nat_lt, inl, inr, if◌then◌else◌, pow_pos, cases_Bool, common_steps}
 use Rattle.sap_lattice.specs.Order.{Laws}
-use Rattle.sap_maps.specs.Term.{Term, constant, read, cell, one, two, choose, join, part}
+use Rattle.sap_maps.specs.Term.{Term, constant, read, one, part}
 use Rattle.sap_maps.proofs.Terms.{term_within}
 use Rattle.sap_meaning.specs.Program.{World, Program, Entity, nothing, kind_is_input, is_dynamic, is_input, width, root, LevelTerm, fixed, of, at_place, both, Step, assign, write, retag, retag_cell, go_to, fall_to_child, Command, lone, try, if_else, try_then, case_of, Arms, last_arm, and_arm, Block, end_block, command_then, State, state_node, Group, no_node, and_node}
 use Rattle.sap_meaning.specs.Store.{Slot, own, start, next, start_whole, next_whole, Store, owner, home, number, level, child, same_slot, put_number, put_level, put_child, raised, raise, lowered, reset, source, settle, After, stay}
@@ -28,25 +29,22 @@ module _ (w : World) (laws : Laws w.order) where
   tag_fits : (e : Term ℕ) (s : Store) → Fits w s → Level (tag w e s)
   tag_fits (constant u n) s f = laws.bottom_is_level
   tag_fits (read x) s f = f.levels _
-  tag_fits (cell m i) s f = laws.join_is_level _ _
   tag_fits (one op a) s f = tag_fits a s f
-  tag_fits (two op a b) s f = laws.join_is_level _ _
-  tag_fits (choose c a b) s f = laws.join_is_level _ _
-  tag_fits (join a b) s f = laws.join_is_level _ _
   tag_fits (part a hi lo) s f = tag_fits a s f
+  tag_fits _ s f = laws.join_is_level _ _
 
   place_fits : (n : ℕ) → Level (level_at w.order n)
-  place_fits n = both (nat_lt n w.order.count) refl
-    where
-      both : (b : Bool) → nat_lt n w.order.count ≡ b → (if b then n else w.order.top) < w.order.count
-      both true e = grind (arith, common_steps, e)
-      both false e = laws.top_is_level
+  place_fits n = cond_both (nat_lt n w.order.count) n w.order.top Level (λ e. grind (arith, common_steps, e)) (λ e. laws.top_is_level)
 
   level_fits : (n : LevelTerm) → FineLevel w n → (s : Store) → Fits w s → Level (new_level w n s)
   level_fits (fixed n) fine s f = fine
   level_fits (of e) fine s f = tag_fits e s f
   level_fits (at_place e) fine s f = place_fits (value w e s)
   level_fits (both a b) fine s f = laws.join_is_level _ _
+
+  picked : (i : Bool) (n m u : ℕ) → n < u → m < u → (if i then n else m) < u
+  picked true n m u h k = h
+  picked false n m u h k = k
 
   fits_number : (s : Store) (z : Slot) (n : ℕ) → n < 2 ^ width w (owner z) → Fits w s → Fits w (put_number z n s)
   unfolding put_number
@@ -58,19 +56,11 @@ module _ (w : World) (laws : Laws w.order) where
 
   fits_level : (s : Store) (z : Slot) (t : ℕ) → Level t → Fits w s → Fits w (put_level w z t s)
   unfolding put_level
-  fits_level s z t h f = record { numbers = f.numbers; levels = λ y. part y (same_slot y (home w z)) }
-    where
-      part : (y : Slot) (i : Bool) → Level (if i then t else s.level y)
-      part y true = h
-      part y false = f.levels y
+  fits_level s z t h f = record { numbers = f.numbers; levels = λ y. picked (same_slot y (home w z)) _ _ _ h (f.levels y) }
 
   fits_raise : (s : Store) (h : ℕ → Bool) (t : ℕ) → Fits w s → Fits w (raise w.order h t s)
   unfolding raise
-  fits_raise s h t f = record { numbers = f.numbers; levels = λ y. part y (raised h y) }
-    where
-      part : (y : Slot) (i : Bool) → Level (if i then w.order.join (s.level y) t else s.level y)
-      part y true = laws.join_is_level _ _
-      part y false = f.levels y
+  fits_raise s h t f = record { numbers = f.numbers; levels = λ y. picked (raised h y) _ _ _ (laws.join_is_level _ _) (f.levels y) }
 
   fits_child : (s : Store) (p n : ℕ) → Fits w s → Fits w (put_child p n s)
   unfolding put_child
@@ -78,11 +68,7 @@ module _ (w : World) (laws : Laws w.order) where
 
   fits_reset : (s : Store) (target : ℕ) → Fits w s → Fits w (reset w target s)
   unfolding reset
-  fits_reset s target f = record { numbers = f.numbers; levels = λ y. part y (lowered w target y) }
-    where
-      part : (y : Slot) (i : Bool) → Level (if i then w.order.bottom else s.level y)
-      part y true = laws.bottom_is_level
-      part y false = f.levels y
+  fits_reset s target f = record { numbers = f.numbers; levels = λ y. picked (lowered w target y) _ _ _ laws.bottom_is_level (f.levels y) }
 
   fits_settle : (s : Store) → Fits w s → Fits w (settle s)
   unfolding settle
@@ -93,10 +79,6 @@ module _ (w : World) (laws : Laws w.order) where
 
   zero_fits : (u : ℕ) → 0 < 2 ^ u
   zero_fits u = pow_pos u
-
-  picked : (i : Bool) (n m u : ℕ) → n < u → m < u → (if i then n else m) < u
-  picked true n m u h k = h
-  picked false n m u h k = k
 
   module _ (at : Home) (q : Group) (enter : ℕ → ℕ → Store → After) (entering : (n pc : ℕ) → Level pc → Fitting (enter n pc)) where
     child_level_fits : (g : Group) (n : ℕ) (s : Store) → Fits w s → Level (child_level w g n s)

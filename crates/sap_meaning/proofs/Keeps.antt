@@ -1,8 +1,9 @@
 -- Every command keeps what every state keeps.
+use Rattle.std.proofs.lemmas.Bool.{cond_both}
 use Rattle.sap_lemmas.proofs.Common.{◌≡◌, ℕ, zero, suc, ◌<◌, Bool, true, false, List, refl, sym, ap, ◌∙◌, subst, arith, nat_eq, inl, inr, if◌then◌else◌, cases_Bool, eqb-true, common_steps, and_left, and_right}
 use Rattle.sap_maps.specs.Term.{Term}
 use Rattle.sap_meaning.specs.Program.{World, entity, is_dynamic, is_input, authority, children, place, below, Step, assign, write, retag, retag_cell, go_to, fall_to_child, Command, lone, try, if_else, try_then, case_of, Arms, last_arm, and_arm, Block, end_block, command_then, State, state_node, Group, no_node, and_node}
-use Rattle.sap_meaning.specs.Store.{Slot, own, start, next, start_whole, next_whole, Store, owner, home, level, child, same_slot, put_number, put_level, put_child, raised, raise, lowered, reset, source, settle, held, After, stay}
+use Rattle.sap_meaning.specs.Store.{Slot, own, start, next, Store, owner, home, level, child, same_slot, put_number, put_level, put_child, raised, raise, lowered, reset, source, settle, held, After, stay}
 use Rattle.sap_meaning.specs.Expressions.{tag, told}
 use Rattle.sap_meaning.specs.Checks.{Home, guard, test}
 use Rattle.sap_meaning.specs.Touches.{among, touches, raised_alone}
@@ -21,20 +22,12 @@ OfDynamic w h = (x : ℕ) → h x ≡ true → is_dynamic w x ≡ true
 
 -- what holds of both blocks holds of the one that is picked
 pub branch_all : (P : After → Type 0) (a b : ℕ → Store → After) (v p : ℕ) (t : Store) → P (a p t) → P (b p t) → P (branch a b v p t)
-branch_all P a b v p t x y = picked (nat_eq v 0)
-  where
-    picked : (i : Bool) → P (if i then b p t else a p t)
-    picked true = y
-    picked false = x
+branch_all P a b v p t x y = cond_both (nat_eq v 0) (b p t) (a p t) P (λ e. y) (λ e. x)
 
 -- and so for the arm and the others
 pub choose_all : (P : After → Type 0) (cs : List ℕ) (a : ℕ → Store → After) (others : ℕ → ℕ → Store → After) (v p : ℕ) (t : Store) → P (a p t) → P (others v p t)
     → P (choose_arm cs a others v p t)
-choose_all P cs a others v p t x y = picked (is_constant cs v)
-  where
-    picked : (i : Bool) → P (if i then a p t else others v p t)
-    picked true = x
-    picked false = y
+choose_all P cs a others v p t x y = cond_both (is_constant cs v) (a p t) (others v p t) P (λ e. x) (λ e. y)
 
 module _ (w : World) where
   pub holds_number : (s : Store) (z : Slot) (n : ℕ) → Holds w s → Holds w (put_number z n s)
@@ -54,11 +47,9 @@ module _ (w : World) where
 
   -- what a raise leaves alone
   pub raise_keeps : (s : Store) (h : ℕ → Bool) (t : ℕ) → OfDynamic w h → (y : Slot) → is_dynamic w (owner y) ≡ false → level w y (raise w.order h t s) ≡ level w y s
-  raise_keeps s h t dyn y d = level_raise w y h t s ∙ both (raised h (home w y)) (λ e. dyn (owner y) (subst (λ x. h x ≡ true) (owner_home w y) (raised_hangs h (home w y) e)))
-    where
-      both : (b : Bool) → (b ≡ true → is_dynamic w (owner y) ≡ true) → (if b then w.order.join (level w y s) t else level w y s) ≡ level w y s
-      both true at = let no = at refl in cc
-      both false at = refl
+  raise_keeps s h t dyn y d =
+      level_raise w y h t s ∙ cond_both (raised h (home w y)) (w.order.join (level w y s) t) (level w y s) (λ v. v ≡ level w y s)
+      (λ e. let no = dyn (owner y) (subst (λ x. h x ≡ true) (owner_home w y) (raised_hangs h (home w y) e)) in cc) (λ e. refl)
 
   pub holds_raise : (s : Store) (h : ℕ → Bool) (t : ℕ) → OfDynamic w h → Holds w s → Holds w (raise w.order h t s)
   unfolding raise
@@ -66,12 +57,9 @@ module _ (w : World) where
 
   -- what a reset leaves alone
   pub reset_keeps : (s : Store) (target : ℕ) (y : Slot) → is_dynamic w (owner y) ≡ false → level w y (reset w target s) ≡ level w y s
-  reset_keeps s target y d = level_reset w y target s
-      ∙ both (lowered w target (home w y)) (λ e. subst (λ x. is_dynamic w x ≡ true) (owner_home w y) (lowered_dynamic w target (home w y) e))
-    where
-      both : (b : Bool) → (b ≡ true → is_dynamic w (owner y) ≡ true) → (if b then w.order.bottom else level w y s) ≡ level w y s
-      both true at = let no = at refl in cc
-      both false at = refl
+  reset_keeps s target y d =
+      level_reset w y target s ∙ cond_both (lowered w target (home w y)) w.order.bottom (level w y s) (λ v. v ≡ level w y s)
+      (λ e. let no = subst (λ x. is_dynamic w x ≡ true) (owner_home w y) (lowered_dynamic w target (home w y) e) in cc) (λ e. refl)
 
   pub holds_reset : (s : Store) (target : ℕ) → Holds w s → Holds w (reset w target s)
   unfolding reset
@@ -103,8 +91,7 @@ module _ (w : World) where
   inputs_keep s inputs f (own x) d = elim (cases_Bool (is_input w x)) [ inl i ↦ (let no = f x i in cc) | inr i ↦ rw i refl ]
   inputs_keep s inputs f (start m i) d = subst (λ z. at_inputs w (λ x. (given w inputs x).level) s.level z ≡ s.level z) (sym (home_start w m i d)) refl
   inputs_keep s inputs f (next m i) d = subst (λ z. at_inputs w (λ x. (given w inputs x).level) s.level z ≡ s.level z) (sym (home_next w m i d)) refl
-  inputs_keep s inputs f (start_whole m) d = refl
-  inputs_keep s inputs f (next_whole m) d = refl
+  inputs_keep s inputs f _ d = refl
 
   pub holds_inputs : (s : Store) (inputs : List Tagged) → ((x : ℕ) → is_input w x ≡ true → is_dynamic w x ≡ true) → Holds w s → Holds w (set_inputs w inputs s)
   unfolding set_inputs
@@ -155,12 +142,9 @@ module _ (w : World) (at : Home) (q : Group) (landing : (target : ℕ) → among
   select_holds e hang pick dyn f pc s r = f _ _ _ (holds_raise w s hang (tag w e s) dyn r)
 
   pub alone_dynamic : (k : Step) → OfDynamic w (raised_alone w at k)
-  alone_dynamic (assign site y e) x h = cc
-  alone_dynamic (write site m i e) x h = cc
-  alone_dynamic (retag site y n) x h = cc
-  alone_dynamic (retag_cell site m j n) x h = cc
   alone_dynamic (go_to site target) x h = and_left (is_dynamic w x) _ h
   alone_dynamic (fall_to_child site hang) x h = and_left (is_dynamic w x) _ h
+  alone_dynamic _ x h = cc
 
   mutual
     unfolding does does_arms does_block

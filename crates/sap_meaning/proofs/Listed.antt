@@ -1,7 +1,7 @@
 -- Exact lists raise what is touched.
 use Rattle.sap_lemmas.proofs.Common.{◌≡◌, ℕ, zero, suc, Bool, List, ◌∷◌, ◌++◌, refl, ap, nat_eq, inl, inr, cases_Bool}
 use Rattle.sap_maps.specs.Term.{Term}
-use Rattle.sap_meaning.specs.Program.{World, root, listed, Step, assign, write, retag, retag_cell, go_to, fall_to_child, Command, lone, try, if_else, try_then, case_of, Arms, last_arm, and_arm, Block, end_block, command_then, State, state_node, Group, no_node, and_node}
+use Rattle.sap_meaning.specs.Program.{World, root, listed, Step, fall_to_child, Command, lone, try, if_else, try_then, case_of, Arms, last_arm, and_arm, Block, end_block, command_then, State, state_node, Group, no_node, and_node}
 use Rattle.sap_meaning.specs.Store.{Store, child, settle, After, and_then}
 use Rattle.sap_meaning.specs.Expressions.{value}
 use Rattle.sap_meaning.specs.Checks.{Home, site_of, guard, test}
@@ -25,12 +25,8 @@ then_same a b f g e h = rw e (ap (λ (r : After). let z : After = record { store
 module _ (w : World) (at : Home) (enter enter' : ℕ → ℕ → Store → After) (same : (n : ℕ) → Alike (enter n) (enter' n)) where
   effect_same : (k : Step) (pc : ℕ) (b s : Store) → effect w at enter k pc b s ≡ effect w at enter' k pc b s
   unfolding effect
-  effect_same (assign site x e) pc b s = refl
-  effect_same (write site m i e) pc b s = refl
-  effect_same (retag site x n) pc b s = refl
-  effect_same (retag_cell site m j n) pc b s = refl
-  effect_same (go_to site target) pc b s = refl
   effect_same (fall_to_child site hang) pc b s = same _ _ s
+  effect_same _ pc b s = refl
 
   attempt_same : (k : Step) (h i : ℕ → Bool) (f g : ℕ → Store → After) → ((x : ℕ) → h x ≡ i x) → Alike f g → Alike (attempt w at enter k h f) (attempt w at enter' k i g)
   unfolding attempt
@@ -62,12 +58,8 @@ module _ (w : World) (at : Home) (enter enter' : ℕ → ℕ → Store → After
   select_same e h i f g j k c a b pc s = rw (same_test h i c) (elim (cases_Bool (nat_eq (value w e s) 0)) [ inl t ↦ rw t (b _ _) | inr t ↦ rw t (a _ _) ])
 
   alone_same : (k : Step) → ExactStep w at k → (x : ℕ) → listed_alone w at k x ≡ raised_alone w at k x
-  alone_same (assign site y e) fine x = refl
-  alone_same (write site m i e) fine x = refl
-  alone_same (retag site y n) fine x = refl
-  alone_same (retag_cell site m j n) fine x = refl
-  alone_same (go_to site target) fine x = refl
   alone_same (fall_to_child site hang) fine x = fine x
+  alone_same _ fine x = refl
 
   mutual
     unfolding run run_arms run_block does does_arms does_block

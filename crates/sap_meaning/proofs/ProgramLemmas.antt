@@ -11,61 +11,41 @@ own_kind (program.memory depth) b h i r = h
 own_kind (program.state place last) b h i r = refl
 
 pub state_no_value : (k : Kind) → kind_is_state k ≡ true → (kind_is_input k || kind_is_register k) ≡ false
-state_no_value input h = cc
-state_no_value register h = cc
-state_no_value (memory d) h = cc
 state_no_value (state p n) h = refl
+state_no_value _ h = cc
 
 pub memory_no_input : (k : Kind) → kind_is_memory k ≡ true → kind_is_input k ≡ false
 memory_no_input input h = cc
-memory_no_input register h = refl
-memory_no_input (memory d) h = refl
-memory_no_input (state p n) h = refl
+memory_no_input _ h = refl
 
 pub register_no_input : (k : Kind) → kind_is_register k ≡ true → kind_is_input k ≡ false
 register_no_input program.input h = absurd (true_is_not_false (sym h))
-register_no_input program.register h = refl
-register_no_input (program.memory depth) h = refl
-register_no_input (program.state place last) h = refl
+register_no_input _ h = refl
 
 pub state_no_input : (k : Kind) → kind_is_state k ≡ true → kind_is_input k ≡ false
 state_no_input input h = cc
-state_no_input register h = refl
-state_no_input (memory d) h = refl
-state_no_input (state p n) h = refl
+state_no_input _ h = refl
 
 pub register_no_memory : (k : Kind) → kind_is_register k ≡ true → kind_is_memory k ≡ false
-register_no_memory input h = cc
 register_no_memory register h = refl
-register_no_memory (memory d) h = cc
-register_no_memory (state p n) h = cc
+register_no_memory _ h = cc
 
 pub state_no_memory : (k : Kind) → kind_is_state k ≡ true → kind_is_memory k ≡ false
-state_no_memory program.input h = absurd (true_is_not_false (sym h))
-state_no_memory program.register h = absurd (true_is_not_false (sym h))
-state_no_memory (program.memory depth) h = absurd (true_is_not_false (sym h))
 state_no_memory (program.state place last) h = refl
+state_no_memory _ h = absurd (true_is_not_false (sym h))
 
 pub memory_no_state : (k : Kind) → kind_is_memory k ≡ true → kind_is_state k ≡ false
-memory_no_state input h = cc
-memory_no_state register h = cc
 memory_no_state (memory d) h = refl
-memory_no_state (state p n) h = cc
+memory_no_state _ h = cc
 
 pub register_no_state : (k : Kind) → kind_is_register k ≡ true → kind_is_state k ≡ false
-register_no_state input h = cc
 register_no_state register h = refl
-register_no_state (memory d) h = cc
-register_no_state (state p n) h = cc
+register_no_state _ h = cc
 
 pub register_no_memory_test : (k : Kind) → kind_is_register k ≡ true → not (kind_is_memory k) ≡ true
-register_no_memory_test input h = refl
-register_no_memory_test register h = refl
 register_no_memory_test (memory d) h = cc
-register_no_memory_test (state p n) h = refl
+register_no_memory_test _ h = refl
 
 pub state_no_memory_test : (k : Kind) → kind_is_state k ≡ true → not (kind_is_memory k) ≡ true
-state_no_memory_test input h = refl
-state_no_memory_test register h = refl
 state_no_memory_test (memory d) h = cc
-state_no_memory_test (state p n) h = refl
+state_no_memory_test _ h = refl

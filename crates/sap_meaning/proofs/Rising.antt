@@ -2,7 +2,7 @@
 use Rattle.sap_lemmas.proofs.Common.{◌≡◌, ℕ, zero, suc, ◌≤◌, Bool, true, false, not, List, [], ◌∷◌, ◌++◌, append_assoc, refl, sym, ap, subst, arith, inl, inr, append-nil, cases_Bool, and_from, not-false, or_left, neither_left, neither_right}
 use Rattle.sap_meaning.proofs.SitesLemmas.{AreAmong, sites_append, sites_behind, sites_between, sites_front}
 use Rattle.sap_maps.specs.Term.{Term}
-use Rattle.sap_meaning.specs.Program.{World, is_dynamic, root, Step, assign, write, retag, retag_cell, go_to, fall_to_child, Command, lone, try, if_else, try_then, case_of, Arms, last_arm, and_arm, Block, end_block, command_then, State, state_node, Group, no_node, and_node}
+use Rattle.sap_meaning.specs.Program.{World, is_dynamic, root, Step, assign, write, go_to, fall_to_child, Command, lone, try, if_else, try_then, case_of, Arms, last_arm, and_arm, Block, end_block, command_then, State, state_node, Group, no_node, and_node}
 use Rattle.sap_meaning.specs.Store.{Store, child, raise, Refusal, After, stay}
 use Rattle.sap_meaning.specs.Checks.{Home, child_opens, guard, test}
 use Rattle.sap_meaning.specs.Touches.{touches, raised_alone, root_touches}
@@ -40,12 +40,11 @@ module _ (w : World) where
   serves : (at : Home) (k : Step) → is_site w at.state at.children k ≡ false → (pc : ℕ) (s : Store) → test w at k pc s ≡ true
   serves at (assign site x e) h pc s = or_left _ _ (not-false (is_dynamic w x) h)
   serves at (write site m i e) h pc s = or_left _ _ (not-false (is_dynamic w m) h)
-  serves at (retag site x n) h pc s = cc
-  serves at (retag_cell site m j n) h pc s = cc
   serves at (go_to site target) h pc s =
       and_from _ _ (or_left _ _ (not-false (is_dynamic w target) (neither_right (not (is_dynamic w at.state)) _ h)))
       (or_left _ _ (not-false (is_dynamic w at.state) (neither_left _ _ h)))
   serves at (fall_to_child site hang) h pc s = opens_all at.children h (child at.state s) pc s
+  serves at _ h pc s = cc
 
   -- what is refused
   abbrev From : After → List PlacedStep → Type 0
@@ -63,21 +62,14 @@ module _ (w : World) where
 
     effect_from : (k : Step) (pc : ℕ) (b s : Store) → From (effect w at enter k pc b s) below
     unfolding effect
-    effect_from (assign site x e) pc b s = tt
-    effect_from (write site m i e) pc b s = tt
-    effect_from (retag site x n) pc b s = tt
-    effect_from (retag_cell site m j n) pc b s = tt
-    effect_from (go_to site target) pc b s = tt
     effect_from (fall_to_child site hang) pc b s = entering _ _ s
+    effect_from _ pc b s = tt
 
     effect_none : (k : Step) → transfers k ≡ false → (pc : ℕ) (b s : Store) → From (effect w at enter k pc b s) []
     unfolding effect
-    effect_none (assign site x e) plain pc b s = tt
-    effect_none (write site m i e) plain pc b s = tt
-    effect_none (retag site x n) plain pc b s = tt
-    effect_none (retag_cell site m j n) plain pc b s = tt
     effect_none (go_to site target) plain pc b s = cc
     effect_none (fall_to_child site hang) plain pc b s = cc
+    effect_none _ plain pc b s = tt
 
     -- a step whose effect refuses some of ys, and whose handler some of zs
     attempt_from : (k : Step) (hang : ℕ → Bool) (h : ℕ → Store → After) (ys zs : List PlacedStep)

@@ -66,18 +66,17 @@ far : (x k : ℕ) → k < 9 → nat_eq (suc (suc (suc (suc (suc (suc (suc (suc (
 far x k h = grind (arith, common_steps)
 
 -- what holds at each entity, and past the last
-each : (f g : ℕ → Bool) → f 0 ≡ g 0 → f 1 ≡ g 1 → f 2 ≡ g 2 → f 3 ≡ g 3 → f 4 ≡ g 4 → f 5 ≡ g 5 → f 6 ≡ g 6 → f 7 ≡ g 7 → f 8 ≡ g 8
-    → ((x : ℕ) → f (suc (suc (suc (suc (suc (suc (suc (suc (suc x))))))))) ≡ g (suc (suc (suc (suc (suc (suc (suc (suc (suc x)))))))))) → (x : ℕ) → f x ≡ g x
-each f g h0 h1 h2 h3 h4 h5 h6 h7 h8 h9 zero = h0
-each f g h0 h1 h2 h3 h4 h5 h6 h7 h8 h9 (suc zero) = h1
-each f g h0 h1 h2 h3 h4 h5 h6 h7 h8 h9 (suc (suc zero)) = h2
-each f g h0 h1 h2 h3 h4 h5 h6 h7 h8 h9 (suc (suc (suc zero))) = h3
-each f g h0 h1 h2 h3 h4 h5 h6 h7 h8 h9 (suc (suc (suc (suc zero)))) = h4
-each f g h0 h1 h2 h3 h4 h5 h6 h7 h8 h9 (suc (suc (suc (suc (suc zero))))) = h5
-each f g h0 h1 h2 h3 h4 h5 h6 h7 h8 h9 (suc (suc (suc (suc (suc (suc zero)))))) = h6
-each f g h0 h1 h2 h3 h4 h5 h6 h7 h8 h9 (suc (suc (suc (suc (suc (suc (suc zero))))))) = h7
-each f g h0 h1 h2 h3 h4 h5 h6 h7 h8 h9 (suc (suc (suc (suc (suc (suc (suc (suc zero)))))))) = h8
-each f g h0 h1 h2 h3 h4 h5 h6 h7 h8 h9 (suc (suc (suc (suc (suc (suc (suc (suc (suc x))))))))) = h9 x
+each : (P : ℕ → Type 0) → P 0 → P 1 → P 2 → P 3 → P 4 → P 5 → P 6 → P 7 → P 8 → ((x : ℕ) → P (suc (suc (suc (suc (suc (suc (suc (suc (suc x)))))))))) → (x : ℕ) → P x
+each P h0 h1 h2 h3 h4 h5 h6 h7 h8 h9 zero = h0
+each P h0 h1 h2 h3 h4 h5 h6 h7 h8 h9 (suc zero) = h1
+each P h0 h1 h2 h3 h4 h5 h6 h7 h8 h9 (suc (suc zero)) = h2
+each P h0 h1 h2 h3 h4 h5 h6 h7 h8 h9 (suc (suc (suc zero))) = h3
+each P h0 h1 h2 h3 h4 h5 h6 h7 h8 h9 (suc (suc (suc (suc zero)))) = h4
+each P h0 h1 h2 h3 h4 h5 h6 h7 h8 h9 (suc (suc (suc (suc (suc zero))))) = h5
+each P h0 h1 h2 h3 h4 h5 h6 h7 h8 h9 (suc (suc (suc (suc (suc (suc zero)))))) = h6
+each P h0 h1 h2 h3 h4 h5 h6 h7 h8 h9 (suc (suc (suc (suc (suc (suc (suc zero))))))) = h7
+each P h0 h1 h2 h3 h4 h5 h6 h7 h8 h9 (suc (suc (suc (suc (suc (suc (suc (suc zero)))))))) = h8
+each P h0 h1 h2 h3 h4 h5 h6 h7 h8 h9 (suc (suc (suc (suc (suc (suc (suc (suc (suc x))))))))) = h9 x
 
 abbrev spot_p : Home
 spot_p = record { state = 5; parent = 9; children = sample_kids }
@@ -92,18 +91,18 @@ abbrev choosing : Command
 choosing = if_else on_fall (two Eq (read 0) (constant 2 1)) (command_then (lone (go_to 4 8)) end_block) (command_then falling end_block)
 
 handled_exact : ExactList sample_world spot_p [] handled
-handled_exact = each (listed []) (touches sample_world spot_p handled) refl refl refl refl refl refl refl refl refl (λ x. rw (far x 2 (omega arith)) refl)
+handled_exact = each (λ x. listed [] x ≡ touches sample_world spot_p handled x) refl refl refl refl refl refl refl refl refl (λ x. rw (far x 2 (omega arith)) refl)
 
 falling_exact : ExactList sample_world spot_p on_fall falling
-falling_exact = each (listed on_fall) (touches sample_world spot_p falling) refl refl refl refl refl refl refl refl refl
+falling_exact = each (λ x. listed on_fall x ≡ touches sample_world spot_p falling x) refl refl refl refl refl refl refl refl refl
     (λ x. rw (far x 6 (omega arith), far x 7 (omega arith), far x 3 (omega arith), far x 1 (omega arith), far x 5 (omega arith)) refl)
 
 choosing_exact : ExactList sample_world spot_p on_fall choosing
-choosing_exact = each (listed on_fall) (touches sample_world spot_p choosing) refl refl refl refl refl refl refl refl refl
+choosing_exact = each (λ x. listed on_fall x ≡ touches sample_world spot_p choosing x) refl refl refl refl refl refl refl refl refl
     (λ x. rw (far x 5 (omega arith), far x 6 (omega arith), far x 7 (omega arith), far x 3 (omega arith), far x 1 (omega arith)) refl)
 
 root_exact : (x : ℕ) → listed on_root x ≡ root_touches sample_world sample_states x
-root_exact = each (listed on_root) (root_touches sample_world sample_states) refl refl refl refl refl refl refl refl refl
+root_exact = each (λ x. listed on_root x ≡ root_touches sample_world sample_states x) refl refl refl refl refl refl refl refl refl
     (λ x. rw (far x 5 (omega arith), far x 8 (omega arith), far x 2 (omega arith), far x 4 (omega arith), far x 3 (omega arith), far x 1 (omega arith)) refl)
 
 exact : ExactProgram sample
@@ -119,22 +118,14 @@ exact = record {
 }
 
 inputs : (x : ℕ) → is_input sample_world x ≡ true → is_dynamic sample_world x ≡ true
-inputs zero h = refl
-inputs (suc zero) h = refl
-inputs (suc (suc zero)) h = cc
-inputs (suc (suc (suc zero))) h = refl
-inputs (suc (suc (suc (suc zero)))) h = cc
-inputs (suc (suc (suc (suc (suc zero))))) h = cc
-inputs (suc (suc (suc (suc (suc (suc zero)))))) h = refl
-inputs (suc (suc (suc (suc (suc (suc (suc zero))))))) h = cc
-inputs (suc (suc (suc (suc (suc (suc (suc (suc zero)))))))) h = cc
-inputs (suc (suc (suc (suc (suc (suc (suc (suc (suc x))))))))) h = refl
+inputs = each (λ x. is_input sample_world x ≡ true → is_dynamic sample_world x ≡ true) (λ h. refl) (λ h. refl) (λ h. cc) (λ h. refl) (λ h. cc) (λ h. cc) (λ h. refl)
+    (λ h. cc) (λ h. cc) (λ x h. refl)
 
 above : (x : ℕ) → two_levels.le (authority sample_world x) (entity sample_world x).declared ≡ true
-above = each (λ x. two_levels.le (authority sample_world x) (entity sample_world x).declared) (λ x. true) refl refl refl refl refl refl refl refl refl (λ x. refl)
+above = each (λ x. two_levels.le (authority sample_world x) (entity sample_world x).declared ≡ true) refl refl refl refl refl refl refl refl refl (λ x. refl)
 
 in_kids : (x : ℕ) → inside sample_kids x ≡ below sample_world 5 x
-in_kids = each (inside sample_kids) (below sample_world 5) refl refl refl refl refl refl refl refl refl
+in_kids = each (λ x. inside sample_kids x ≡ below sample_world 5 x) refl refl refl refl refl refl refl refl refl
     (λ x. rw (far x 6 (omega arith), far x 7 (omega arith)) (past 5 x 7 (omega arith)))
   where
     past : (s x l : ℕ) → l < 9 → false ≡ (nat_lt s (suc (suc (suc (suc (suc (suc (suc (suc (suc x))))))))) && nat_le (suc (suc (suc (suc (suc (suc (suc (suc (suc x))))))))) l)
@@ -242,28 +233,12 @@ fine = record {
 }
 
 initials : (x : ℕ) → (entity sample_world x).initial < 2 ^ width sample_world x
-initials zero = omega arith
-initials (suc zero) = omega arith
-initials (suc (suc zero)) = omega arith
-initials (suc (suc (suc zero))) = omega arith
-initials (suc (suc (suc (suc zero)))) = omega arith
-initials (suc (suc (suc (suc (suc zero))))) = omega arith
-initials (suc (suc (suc (suc (suc (suc zero)))))) = omega arith
-initials (suc (suc (suc (suc (suc (suc (suc zero))))))) = omega arith
-initials (suc (suc (suc (suc (suc (suc (suc (suc zero)))))))) = omega arith
-initials (suc (suc (suc (suc (suc (suc (suc (suc (suc x))))))))) = omega arith
+initials = each (λ x. (entity sample_world x).initial < 2 ^ width sample_world x) (omega arith) (omega arith) (omega arith) (omega arith) (omega arith) (omega arith)
+    (omega arith) (omega arith) (omega arith) (λ x. omega arith)
 
 declared : (x : ℕ) → (entity sample_world x).declared < 2
-declared zero = omega arith
-declared (suc zero) = omega arith
-declared (suc (suc zero)) = omega arith
-declared (suc (suc (suc zero))) = omega arith
-declared (suc (suc (suc (suc zero)))) = omega arith
-declared (suc (suc (suc (suc (suc zero))))) = omega arith
-declared (suc (suc (suc (suc (suc (suc zero)))))) = omega arith
-declared (suc (suc (suc (suc (suc (suc (suc zero))))))) = omega arith
-declared (suc (suc (suc (suc (suc (suc (suc (suc zero)))))))) = omega arith
-declared (suc (suc (suc (suc (suc (suc (suc (suc (suc x))))))))) = omega arith
+declared = each (λ x. (entity sample_world x).declared < 2) (omega arith) (omega arith) (omega arith) (omega arith) (omega arith) (omega arith) (omega arith) (omega arith)
+    (omega arith) (λ x. omega arith)
 
 sized : SizedProgram sample
 sized = record {

@@ -20,41 +20,18 @@ slot_same (next m i) (next n j) h =
     let a = eqb-true m n (and_left _ _ h) in let b = eqb-true i j (and_right (nat_eq m n) _ h) in cc
 slot_same (start_whole m) (start_whole n) h = ap start_whole (eqb-true m n h)
 slot_same (next_whole m) (next_whole n) h = ap next_whole (eqb-true m n h)
-slot_same (own x) (start n j) h = cc
-slot_same (own x) (next n j) h = cc
-slot_same (own x) (start_whole n) h = cc
-slot_same (own x) (next_whole n) h = cc
-slot_same (start m i) (own y) h = cc
-slot_same (start m i) (next n j) h = cc
-slot_same (start m i) (start_whole n) h = cc
-slot_same (start m i) (next_whole n) h = cc
-slot_same (next m i) (own y) h = cc
-slot_same (next m i) (start n j) h = cc
-slot_same (next m i) (start_whole n) h = cc
-slot_same (next m i) (next_whole n) h = cc
-slot_same (start_whole m) (own y) h = cc
-slot_same (start_whole m) (start n j) h = cc
-slot_same (start_whole m) (next n j) h = cc
-slot_same (start_whole m) (next_whole n) h = cc
-slot_same (next_whole m) (own y) h = cc
-slot_same (next_whole m) (start n j) h = cc
-slot_same (next_whole m) (next n j) h = cc
-slot_same (next_whole m) (start_whole n) h = cc
+slot_same _ _ h = cc
 
 pub owner_home : (w : World) (z : Slot) → owner (home w z) ≡ owner z
-owner_home w (own x) = refl
 owner_home w (start m i) = elim (cases_Bool (is_dynamic w m)) [ inl d ↦ rw d refl | inr d ↦ rw d refl ]
 owner_home w (next m i) = elim (cases_Bool (is_dynamic w m)) [ inl d ↦ rw d refl | inr d ↦ rw d refl ]
-owner_home w (start_whole m) = refl
-owner_home w (next_whole m) = refl
+owner_home w _ = refl
 
 -- an entity's own slot shares its level with no other
 pub home_own : (w : World) (y : Slot) (x : ℕ) → same_slot (home w y) (own x) ≡ same_slot y (own x)
-home_own w (own y) x = refl
 home_own w (start m i) x = elim (cases_Bool (is_dynamic w m)) [ inl d ↦ rw d refl | inr d ↦ rw d refl ]
 home_own w (next m i) x = elim (cases_Bool (is_dynamic w m)) [ inl d ↦ rw d refl | inr d ↦ rw d refl ]
-home_own w (start_whole m) x = refl
-home_own w (next_whole m) x = refl
+home_own w _ x = refl
 
 pub home_next : (w : World) (m i : ℕ) → is_dynamic w m ≡ false → home w (next m i) ≡ next m i
 home_next w m i d = rw d refl
@@ -64,11 +41,9 @@ home_start w m i d = rw d refl
 
 -- nor does a cell of an enforced memory
 pub home_cell : (w : World) (y : Slot) (m i : ℕ) → same_slot (home w y) (next m i) ≡ true → y ≡ next m i
-home_cell w (own y) m i h = cc
 home_cell w (start n j) m i h = elim (cases_Bool (is_dynamic w n)) [ inl d ↦ (let h' = rw d at h in cc) | inr d ↦ (let h' = rw d at h in cc) ]
 home_cell w (next n j) m i h = elim (cases_Bool (is_dynamic w n)) [ inl d ↦ (let h' = rw d at h in cc) | inr d ↦ slot_same (next n j) (next m i) (rw d at h) ]
-home_cell w (start_whole n) m i h = cc
-home_cell w (next_whole n) m i h = cc
+home_cell w _ m i h = cc
 
 pub number_put : (y z : Slot) (n : ℕ) (s : Store) → number y (put_number z n s) ≡ (if same_slot y z then n else number y s)
 unfolding put_number
@@ -132,25 +107,18 @@ unfolding reset
 child_reset w p target s = refl
 
 pub home_source : (w : World) (z : Slot) → source (home w z) ≡ home w (source z)
-home_source w (own x) = refl
 home_source w (start m i) = elim (cases_Bool (is_dynamic w m)) [ inl d ↦ rw d refl | inr d ↦ rw d refl ]
 home_source w (next m i) = elim (cases_Bool (is_dynamic w m)) [ inl d ↦ rw d refl | inr d ↦ rw d refl ]
-home_source w (start_whole m) = refl
-home_source w (next_whole m) = refl
+home_source w _ = refl
 
 pub owner_source : (z : Slot) → owner (source z) ≡ owner z
 owner_source (own x) = refl
-owner_source (start m i) = refl
-owner_source (next m i) = refl
-owner_source (start_whole m) = refl
-owner_source (next_whole m) = refl
+owner_source _ = refl
 
 pub held_source : (w : World) (z : Slot) → held w z ≡ true → held w (source z) ≡ true
-held_source w (own x) h = h
-held_source w (start m i) h = h
-held_source w (next m i) h = h
 held_source w (start_whole m) h = cc
 held_source w (next_whole m) h = cc
+held_source w _ h = h
 
 pub held_register : (w : World) (x : ℕ) → is_register w x ≡ true → held w (own x) ≡ true
 held_register w x h = register_no_memory_test (entity w x).kind h
@@ -173,15 +141,10 @@ child_settle p s = refl
 -- what is raised hangs
 pub raised_hangs : (h : ℕ → Bool) (z : Slot) → raised h z ≡ true → h (owner z) ≡ true
 raised_hangs h (own x) e = e
-raised_hangs h (start m i) e = cc
-raised_hangs h (next m i) e = cc
-raised_hangs h (start_whole m) e = cc
 raised_hangs h (next_whole m) e = e
+raised_hangs h _ e = cc
 
 -- what is lowered is dynamic, and a state
 pub lowered_dynamic : (w : World) (target : ℕ) (z : Slot) → lowered w target z ≡ true → is_dynamic w (owner z) ≡ true
 lowered_dynamic w target (own x) e = and_right (below w target x) _ e
-lowered_dynamic w target (start m i) e = cc
-lowered_dynamic w target (next m i) e = cc
-lowered_dynamic w target (start_whole m) e = cc
-lowered_dynamic w target (next_whole m) e = cc
+lowered_dynamic w target _ e = cc

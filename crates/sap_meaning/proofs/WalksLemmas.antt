@@ -93,9 +93,8 @@ module _ {A B : Type 0} (none : A) (join : A → A → A) (least : B) (meet : B 
     with_step_related : (c : Command) → Asks P Q c → (a : A) (b : B) → Rel a b → Rel (with_step none join f c a) (with_step least meet g c b)
     with_step_related (lone k) h a b r = at_step k h
     with_step_related (try k hang i) h a b r = at_join (f k) a (g k) b (at_step k h) r
-    with_step_related (if_else hang e i j) h a b r = r
     with_step_related (try_then k hang i j) h a b r = at_join (f k) a (g k) b (at_step k h) r
-    with_step_related (case_of hang e arms) h a b r = r
+    with_step_related _ h a b r = r
 
     pub gathered_related : (c : Command) → Every (Asks P Q) c → Rel (gathered none join f c) (gathered least meet g c)
     gathered_related c h = folded_related (Asks P Q) (with_step none join f) (with_step least meet g) with_step_related c h
@@ -166,10 +165,7 @@ Nothing c = Asks (λ k. Unit {0}) (λ e. Unit {0}) c
 
 asks_nothing : (c : Command) → Nothing c
 asks_nothing (lone k) = tt
-asks_nothing (try k hang b) = tt
-asks_nothing (if_else hang e a b) = tt
-asks_nothing (try_then k hang a b) = tt
-asks_nothing (case_of hang e arms) = tt
+asks_nothing _ = tt
 
 -- of each step alone
 module _ {A B : Type 0} (none : A) (join : A → A → A) (least : B) (meet : B → B → B) (Rel : A → B → Type 0) (at_none : Rel none least)
@@ -226,9 +222,8 @@ module _ (step : Step → Step) (list : Command → List Bool) where
       with_step_mapped : (c : Command) (a : A) → with_step none join f (mapped step list c) a ≡ with_step none join g c a
       with_step_mapped (lone k) a = same k
       with_step_mapped (try k hang h) a = λ i. join (same k i) a
-      with_step_mapped (if_else hang e b d) a = refl
       with_step_mapped (try_then k hang b d) a = λ i. join (same k i) a
-      with_step_mapped (case_of hang e arms) a = refl
+      with_step_mapped _ a = refl
 
       pub gathered_mapped : (c : Command) → gathered none join f (mapped step list c) ≡ gathered none join g c
       gathered_mapped c = folded_mapped (with_step none join f) (with_step none join g) with_step_mapped c
