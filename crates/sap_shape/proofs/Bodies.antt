@@ -1,5 +1,5 @@
 -- The faults of the commands of a body, from a place on.
-use Rattle.sap_lemmas.proofs.Common.{◌≡◌, ℕ, zero, suc, ◌+◌, ◌<◌, ◌≤◌, List, [], ◌∷◌, ◌++◌, length, get_or, drop, append_assoc, refl, sym, ap, ◌∙◌, arith, add-one, Some, Option}
+use Rattle.sap_lemmas.proofs.Common.{◌≡◌, ℕ, ◌+◌, ◌<◌, ◌≤◌, List, [], ◌∷◌, ◌++◌, length, get_or, drop, append_assoc, refl, sym, ap, ◌∙◌, at_drop_all, at_drop_more, Some, Option}
 use Rattle.sap_tree.specs.Trees.{command_of, block_of, arm_block_of, arms_of, else_of}
 use Rattle.sap_tree.specs.declared.syntax.Arm.{Arm}
 use Rattle.sap_tree.specs.declared.syntax.Cmd.{Cmd}
@@ -15,16 +15,11 @@ use Rattle.sap_shape.specs.Lists.{list_shape, arms_shape}
 pub list_shape-drop : (es : List Entity) (at : Body) (cs : List Cmd) (n : ℕ) (d : Cmd) → n < length cs
     → list_shape es at (drop n cs) ≡ command_shape es at (command_of (get_or cs n d)) ++ list_shape es at (drop (n + 1) cs)
 unfolding list_shape
-list_shape-drop es at [] n d h = absurd (omega arith)
-list_shape-drop es at (c ∷ cs) zero d h = refl
-list_shape-drop es at (c ∷ cs) (suc n) d h = let r = list_shape-drop es at cs n d (omega arith) in simp (add-one) (simp (add-one) at r)
+list_shape-drop es at cs n d h = at_drop_more (list_shape es at) cs n d h
 
 pub list_shape-past : (es : List Entity) (at : Body) (cs : List Cmd) (n : ℕ) → length cs ≤ n → list_shape es at (drop n cs) ≡ []
 unfolding list_shape
-list_shape-past es at [] zero h = refl
-list_shape-past es at [] (suc n) h = refl
-list_shape-past es at (c ∷ cs) zero h = absurd (omega arith)
-list_shape-past es at (c ∷ cs) (suc n) h = list_shape-past es at cs n (omega arith)
+list_shape-past es at cs n h = at_drop_all (list_shape es at) cs n h
 
 pub shape_step : (es : List Entity) (at : Body) (cs : List Cmd) (n : ℕ) (d : Cmd) (o m : Option Fault) → n < length cs → d ≡ get_or cs n d
     → m ≡ best_of o (command_shape es at (command_of d)) → best_of m (list_shape es at (drop (n + 1) cs)) ≡ best_of o (list_shape es at (drop n cs))
@@ -45,17 +40,13 @@ else_shape-is es at b = refl
 pub arms_shape-drop : (es : List Entity) (at : Body) (arms : List Arm) (n : ℕ) (d : Arm) (cs : List Cmd) → n < length arms → d ≡ get_or arms n d → cs ≡ d.block.commands.items
     → arms_shape es at (drop n arms) ≡ list_shape es at cs ++ arms_shape es at (drop (n + 1) arms)
 unfolding arms_shape list_shape
-arms_shape-drop es at [] n d cs h e f = absurd (omega arith)
-arms_shape-drop es at (arm ∷ arms) zero d cs h e f =
-    ap (λ (a : Arm). block_shape es at (arm_block_of a) ++ arms_shape es at arms) (sym e) ∙ ap (λ (l : List Cmd). list_shape es at l ++ arms_shape es at arms) (sym f)
-arms_shape-drop es at (arm ∷ arms) (suc n) d cs h e f = let r = arms_shape-drop es at arms n d cs (omega arith) e f in simp (add-one) (simp (add-one) at r)
+arms_shape-drop es at arms n d cs h e f =
+    at_drop_more (arms_shape es at) arms n d h ∙ ap (λ (a : Arm). block_shape es at (arm_block_of a) ++ arms_shape es at (drop (n + 1) arms)) (sym e)
+    ∙ ap (λ (l : List Cmd). list_shape es at l ++ arms_shape es at (drop (n + 1) arms)) (sym f)
 
 pub arms_shape-past : (es : List Entity) (at : Body) (arms : List Arm) (n : ℕ) → length arms ≤ n → arms_shape es at (drop n arms) ≡ []
 unfolding arms_shape
-arms_shape-past es at [] zero h = refl
-arms_shape-past es at [] (suc n) h = refl
-arms_shape-past es at (arm ∷ arms) zero h = absurd (omega arith)
-arms_shape-past es at (arm ∷ arms) (suc n) h = arms_shape-past es at arms n (omega arith)
+arms_shape-past es at arms n h = at_drop_all (arms_shape es at) arms n h
 
 pub arms_step : (es : List Entity) (at : Body) (arms : List Arm) (n : ℕ) (d : Arm) (cs : List Cmd) (o m : Option Fault) → n < length arms
     → d ≡ get_or arms n d → cs ≡ d.block.commands.items

@@ -1,5 +1,5 @@
 -- Whether a list of commands falls, from a place on.
-use Rattle.sap_lemmas.proofs.Common.{◌≡◌, ℕ, zero, suc, ◌+◌, ◌<◌, ◌≤◌, List, [], ◌∷◌, ◌||◌, Bool, false, length, get_or, drop, refl, sym, ap, ◌∙◌, arith, add-one, Some, or_assoc}
+use Rattle.sap_lemmas.proofs.Common.{◌≡◌, ℕ, ◌+◌, ◌<◌, ◌≤◌, List, [], ◌∷◌, ◌||◌, Bool, false, length, get_or, drop, refl, sym, ap, ◌∙◌, at_drop_all, at_drop_more, Some, or_assoc}
 use Rattle.sap_tree.specs.Trees.{command_of, block_of, arm_block_of, arms_of, else_of}
 use Rattle.sap_tree.specs.declared.syntax.Arm.{Arm}
 use Rattle.sap_tree.specs.declared.syntax.Cmd.{Cmd}
@@ -10,16 +10,11 @@ use Rattle.sap_shape.specs.Lists.{falls_list, falls_arms}
 
 falls_list-drop : (cs : List Cmd) (n : ℕ) (d : Cmd) → n < length cs → falls_list (drop n cs) ≡ (falls (command_of (get_or cs n d)) || falls_list (drop (n + 1) cs))
 unfolding falls_list
-falls_list-drop [] n d h = absurd (omega arith)
-falls_list-drop (c ∷ cs) zero d h = refl
-falls_list-drop (c ∷ cs) (suc n) d h = let r = falls_list-drop cs n d (omega arith) in simp (add-one) (simp (add-one) at r)
+falls_list-drop cs n d h = at_drop_more falls_list cs n d h
 
 pub falls_list-past : (cs : List Cmd) (n : ℕ) → length cs ≤ n → falls_list (drop n cs) ≡ false
 unfolding falls_list
-falls_list-past [] zero h = refl
-falls_list-past [] (suc n) h = refl
-falls_list-past (c ∷ cs) zero h = absurd (omega arith)
-falls_list-past (c ∷ cs) (suc n) h = falls_list-past cs n (omega arith)
+falls_list-past cs n h = at_drop_all falls_list cs n h
 
 -- one command, and those behind it
 pub falls_here : (cs : List Cmd) (n : ℕ) (d : Cmd) (b : Bool) → n < length cs → d ≡ get_or cs n d → b ≡ falls (command_of d)
@@ -41,17 +36,13 @@ falls_else-is b = refl
 pub arms_here : (arms : List Arm) (n : ℕ) (d : Arm) (cs : List Cmd) (b : Bool) → n < length arms → d ≡ get_or arms n d → cs ≡ d.block.commands.items → b ≡ falls_list cs
     → falls_arms (drop n arms) ≡ (b || falls_arms (drop (n + 1) arms))
 unfolding falls_arms falls_list
-arms_here [] n d cs b h e f t = absurd (omega arith)
-arms_here (arm ∷ arms) zero d cs b h e f t =
-    ap (λ (a : Arm). falls_block (arm_block_of a) || falls_arms arms) (sym e) ∙ ap (λ (x : Bool). x || falls_arms arms) (sym (t ∙ ap (λ (l : List Cmd). falls_list l) f))
-arms_here (arm ∷ arms) (suc n) d cs b h e f t = let r = arms_here arms n d cs b (omega arith) e f t in simp (add-one) (simp (add-one) at r)
+arms_here arms n d cs b h e f t =
+    at_drop_more falls_arms arms n d h ∙ ap (λ (a : Arm). falls_block (arm_block_of a) || falls_arms (drop (n + 1) arms)) (sym e)
+    ∙ ap (λ (x : Bool). x || falls_arms (drop (n + 1) arms)) (sym (t ∙ ap (λ (l : List Cmd). falls_list l) f))
 
 pub falls_arms-past : (arms : List Arm) (n : ℕ) → length arms ≤ n → falls_arms (drop n arms) ≡ false
 unfolding falls_arms
-falls_arms-past [] zero h = refl
-falls_arms-past [] (suc n) h = refl
-falls_arms-past (arm ∷ arms) zero h = absurd (omega arith)
-falls_arms-past (arm ∷ arms) (suc n) h = falls_arms-past arms n (omega arith)
+falls_arms-past arms n h = at_drop_all falls_arms arms n h
 
 pub falls_arms-of : (arms : List Arm) (last : Block) → walk.falls_arms (arms_of arms (block_of last)) ≡ (falls_arms arms || falls_list last.commands.items)
 unfolding falls_arms falls_list

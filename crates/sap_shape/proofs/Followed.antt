@@ -1,7 +1,7 @@
 -- What is found in the commands of a body is what the paths through them say.
 use Rattle.sap_lemmas.proofs.Common.{◌≡◌, ◌⊎◌, inl, inr, ℕ, List, [], ◌∷◌, ◌++◌, Bool, true, false, ◌||◌, refl, ap, sym, subst, ◌∙◌, append_assoc, or_cases, or_left, or_right}
 use Rattle.sap_text.specs.declared.place.Place.{Place}
-use Rattle.sap_tree.specs.Syntax.{SimpleCommand, assign, write, set_tag, set_cell_tag, go_to, fall_to_child, Command, lone, try, if_else, try_then, case_of, Arms, last_arm, and_arm, CommandBlock, command_block, ElseBlock, no_else, with_else, CommandList, no_command, and_command}
+use Rattle.sap_tree.specs.Syntax.{SimpleCommand, write, set_cell_tag, fall_to_child, Command, lone, try, if_else, try_then, case_of, Arms, last_arm, and_arm, CommandBlock, command_block, ElseBlock, no_else, with_else, CommandList, no_command, and_command}
 use Rattle.sap_names.specs.Prelude.{StandsIn, fault_if}
 use Rattle.sap_names.specs.declared.fault.Fault.{Fault}
 use Rattle.sap_names.specs.declared.kind.Code.TheVariants.{E14}
@@ -52,36 +52,20 @@ nothing_follows = record {
 -- one simple command
 
 fall_is : (k : SimpleCommand) → is_fall k ≡ true → IsFall k
-fall_is (assign target e) h = cc
-fall_is (write target index e) h = cc
-fall_is (set_tag place target tag) h = cc
-fall_is (set_cell_tag place target index tag) h = cc
-fall_is (go_to place target) h = cc
 fall_is (fall_to_child place) h = tt
+fall_is _ h = cc
 
 is_that_fall : (k : SimpleCommand) → IsFall k → is_fall k ≡ true
-is_that_fall (assign target e) h = absurd h
-is_that_fall (write target index e) h = absurd h
-is_that_fall (set_tag place target tag) h = absurd h
-is_that_fall (set_cell_tag place target index tag) h = absurd h
-is_that_fall (go_to place target) h = absurd h
 is_that_fall (fall_to_child place) h = refl
+is_that_fall _ h = absurd h
 
 step_entering : (k : SimpleCommand) (p : Written) (m : List ℕ) → entering_simple k p m ≡ true → IsFall k × (past_simple k p m ≡ true)
-step_entering (assign target e) p m h = cc
-step_entering (write target index e) p m h = cc
-step_entering (set_tag place target tag) p m h = cc
-step_entering (set_cell_tag place target index tag) p m h = cc
-step_entering (go_to place target) p m h = cc
 step_entering (fall_to_child place) p m h = (tt, h)
+step_entering _ p m h = cc
 
 fall_entering : (k : SimpleCommand) (p : Written) (m : List ℕ) → IsFall k → past_simple k p m ≡ true → entering_simple k p m ≡ true
-fall_entering (assign target e) p m f h = absurd f
-fall_entering (write target index e) p m f h = absurd f
-fall_entering (set_tag place target tag) p m f h = absurd f
-fall_entering (set_cell_tag place target index tag) p m f h = absurd f
-fall_entering (go_to place target) p m f h = absurd f
 fall_entering (fall_to_child place) p m f h = h
+fall_entering _ p m f h = absurd f
 
 fault_stands : (test : Bool) (place : Place) (f : Fault) → StandsIn f (fault_if test E14 place) → (test ≡ true) × (f ≡ twice_at place)
 fault_stands true place f (inl h) = (refl, h)
@@ -93,24 +77,18 @@ fault_at true place h = inl refl
 fault_at false place h = cc
 
 step_found : (k : SimpleCommand) (p : Written) (f : Fault) → StandsIn f (second_simple k p) → Behind p (k ∷ []) k × (f ≡ twice_at (place_of k))
-step_found (assign target e) p f h = absurd h
 step_found (write target index e) p f h =
     let s = fault_stands (p target.name) target.place f h in
     (inl (refl, target.name, refl, s.0), s.1)
-step_found (set_tag place target tag) p f h = absurd h
 step_found (set_cell_tag place target index tag) p f h =
     let s = fault_stands (p target.name) place f h in
     (inl (refl, target.name, refl, s.0), s.1)
-step_found (go_to place target) p f h = absurd h
-step_found (fall_to_child place) p f h = absurd h
+step_found _ p f h = absurd h
 
 step_stands : (k : SimpleCommand) (p : Written) (m : List ℕ) → IsOfMemory k m → p m ≡ true → StandsIn (twice_at (place_of k)) (second_simple k p)
-step_stands (assign target e) p m w h = absurd w
 step_stands (write target index e) p m w h = fault_at (p target.name) target.place (ap p w ∙ h)
-step_stands (set_tag place target tag) p m w h = absurd w
 step_stands (set_cell_tag place target index tag) p m w h = fault_at (p target.name) place (ap p w ∙ h)
-step_stands (go_to place target) p m w h = absurd w
-step_stands (fall_to_child place) p m w h = absurd w
+step_stands _ p m w h = absurd w
 
 one_stands : (j k : SimpleCommand) (p : Written) → Behind p (j ∷ []) k → StandsIn (twice_at (place_of k)) (second_simple j p)
 one_stands j k p (inl i) = subst (λ (x : SimpleCommand). StandsIn (twice_at (place_of k)) (second_simple x p)) i.0 (step_stands k p i.1 i.2 i.3)

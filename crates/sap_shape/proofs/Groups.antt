@@ -1,5 +1,5 @@
 -- The faults of groups of states, from a place on.
-use Rattle.sap_lemmas.proofs.Common.{◌≡◌, ℕ, zero, suc, ◌+◌, ◌<◌, ◌≤◌, List, [], ◌∷◌, ◌++◌, length, get_or, drop, refl, sym, ap, ◌∙◌, arith, add-one, append-nil, Bool, true, false, if◌then◌else◌, Option}
+use Rattle.sap_lemmas.proofs.Common.{◌≡◌, ℕ, ◌+◌, ◌<◌, ◌≤◌, List, [], ◌∷◌, ◌++◌, length, get_or, drop, refl, sym, ap, ◌∙◌, at_drop_all, at_drop_more, append-nil, Bool, true, false, if◌then◌else◌, Option}
 use Rattle.sap_tree.specs.Prelude.{state_of, states_of, tree_of, StateTree}
 use Rattle.sap_tree.specs.declared.syntax.State.{State, out-State}
 use Rattle.sap_tree.specs.declared.syntax.Decl.{Decl}
@@ -18,16 +18,11 @@ module _ (es : List Entity) (group : List State) (above : List (List ℕ)) where
   pub group_shape-drop : (ss : List State) (n : ℕ) (d : State) → n < length ss
       → group_shape es group above (drop n ss) ≡ state_shape es (states_of group) above (state_of (get_or ss n d)) ++ group_shape es group above (drop (n + 1) ss)
   unfolding group_shape
-  group_shape-drop [] n d h = absurd (omega arith)
-  group_shape-drop (s ∷ ss) zero d h = refl
-  group_shape-drop (s ∷ ss) (suc n) d h = let r = group_shape-drop ss n d (omega arith) in simp (add-one) (simp (add-one) at r)
+  group_shape-drop ss n d h = at_drop_more (group_shape es group above) ss n d h
 
   pub group_shape-past : (ss : List State) (n : ℕ) → length ss ≤ n → group_shape es group above (drop n ss) ≡ []
   unfolding group_shape
-  group_shape-past [] zero h = refl
-  group_shape-past [] (suc n) h = refl
-  group_shape-past (s ∷ ss) zero h = absurd (omega arith)
-  group_shape-past (s ∷ ss) (suc n) h = group_shape-past ss n (omega arith)
+  group_shape-past ss n h = at_drop_all (group_shape es group above) ss n h
 
   pub shape_step : (ss : List State) (n : ℕ) (d : State) (o m : Option Fault) → n < length ss → d ≡ get_or ss n d
       → m ≡ best_of o (state_shape es (states_of group) above (state_of d))
@@ -57,16 +52,11 @@ module _ (p : Written) where
   pub second_states-drop : (ss : List State) (n : ℕ) (d : State) → n < length ss
       → second_states (drop n ss) p ≡ second_state (state_of (get_or ss n d)) p ++ second_states (drop (n + 1) ss) p
   unfolding second_states
-  second_states-drop [] n d h = absurd (omega arith)
-  second_states-drop (s ∷ ss) zero d h = refl
-  second_states-drop (s ∷ ss) (suc n) d h = let r = second_states-drop ss n d (omega arith) in simp (add-one) (simp (add-one) at r)
+  second_states-drop ss n d h = at_drop_more (λ (l : List State). second_states l p) ss n d h
 
   pub second_states-past : (ss : List State) (n : ℕ) → length ss ≤ n → second_states (drop n ss) p ≡ []
   unfolding second_states
-  second_states-past [] zero h = refl
-  second_states-past [] (suc n) h = refl
-  second_states-past (s ∷ ss) zero h = absurd (omega arith)
-  second_states-past (s ∷ ss) (suc n) h = second_states-past ss n (omega arith)
+  second_states-past ss n h = at_drop_all (λ (l : List State). second_states l p) ss n h
 
   pub paths_step : (ss : List State) (n : ℕ) (d : State) (o m : Option Fault) → n < length ss → d ≡ get_or ss n d
       → m ≡ best_of o (second_state (state_of d) p) → best_of m (second_states (drop (n + 1) ss) p) ≡ best_of o (second_states (drop n ss) p)

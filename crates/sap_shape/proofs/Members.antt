@@ -1,5 +1,5 @@
 -- Whether some state of a list passes a test, from a place on.
-use Rattle.sap_lemmas.proofs.Common.{◌≡◌, ℕ, zero, suc, ◌+◌, ◌<◌, ◌≤◌, List, [], ◌∷◌, ◌||◌, Bool, true, false, not, length, get_or, drop, refl, sym, ap, ◌∙◌, arith, add-one, bytes_eq, list_any}
+use Rattle.sap_lemmas.proofs.Common.{◌≡◌, ℕ, ◌+◌, ◌<◌, ◌≤◌, List, [], ◌∷◌, ◌||◌, Bool, true, false, not, length, get_or, drop, refl, sym, ap, ◌∙◌, arith, at_drop_all, at_drop_more, bytes_eq, list_any}
 use Rattle.sap_tree.specs.Prelude.{StateTree, StateList, no_state, and_state, is_dynamic_kind, state_of, states_of}
 use Rattle.sap_tree.specs.declared.syntax.State.{State, out-State}
 use Rattle.sap_tree.proofs.Views.{state_of-out}
@@ -9,15 +9,10 @@ use Rattle.sap_shape.specs.ShapeFaults.{is_among, name_of, is_in_group, is_withi
 module _ (test : StateTree → Bool) (any : StateList → Bool) (none : any no_state ≡ false) (more : (s : StateTree) (rest : StateList)
     → any (and_state s rest) ≡ (test s || any rest)) where
   any_drop : (ss : List State) (n : ℕ) (d : State) → n < length ss → any (states_of (drop n ss)) ≡ (test (state_of (get_or ss n d)) || any (states_of (drop (n + 1) ss)))
-  any_drop [] n d h = absurd (omega arith)
-  any_drop (s ∷ ss) zero d h = more (state_of s) (states_of ss)
-  any_drop (s ∷ ss) (suc n) d h = let r = any_drop ss n d (omega arith) in simp (add-one) (simp (add-one) at r)
+  any_drop ss n d h = at_drop_more (λ (l : List State). any (states_of l)) ss n d h ∙ more (state_of (get_or ss n d)) (states_of (drop (n + 1) ss))
 
   any_past : (ss : List State) (n : ℕ) → length ss ≤ n → any (states_of (drop n ss)) ≡ false
-  any_past [] zero h = none
-  any_past [] (suc n) h = none
-  any_past (s ∷ ss) zero h = absurd (omega arith)
-  any_past (s ∷ ss) (suc n) h = any_past ss n (omega arith)
+  any_past ss n h = at_drop_all (λ (l : List State). any (states_of l)) ss n h ∙ none
 
   any_here : (ss : List State) (n : ℕ) (d : State) (b : Bool) → n < length ss → d ≡ get_or ss n d → test (state_of d) ≡ b
       → any (states_of (drop n ss)) ≡ (b || any (states_of (drop (n + 1) ss)))

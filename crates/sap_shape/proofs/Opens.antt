@@ -1,5 +1,5 @@
 -- The faults of lists that must be open or must close.
-use Rattle.sap_lemmas.proofs.Common.{◌≡◌, ℕ, zero, suc, ◌+◌, ◌-◌, ◌<◌, ◌≤◌, List, [], ◌∷◌, ◌++◌, length, get_or, take, drop, refl, sym, ap, ◌∙◌, arith, add-one, Some, true, append_assoc, Option}
+use Rattle.sap_lemmas.proofs.Common.{◌≡◌, ℕ, zero, suc, ◌+◌, ◌-◌, ◌<◌, ◌≤◌, List, [], ◌∷◌, ◌++◌, length, get_or, take, drop, refl, sym, ap, ◌∙◌, arith, at_drop_all, at_drop_more, Some, true, append_assoc, Option}
 use Rattle.sap_text.specs.declared.place.Place.{Place}
 use Rattle.sap_tree.specs.Prelude.{Expression, Command, if_else, ElseBlock, command_of, block_of, arm_block_of, arms_of, else_of}
 use Rattle.sap_tree.specs.declared.syntax.Arm.{Arm}
@@ -16,16 +16,11 @@ use Rattle.sap_shape.specs.Lists.{open_list, closing_list, open_arms, closing_ar
 pub open_list-drop : (cs : List Cmd) (n : ℕ) (d : Cmd) → n < length cs
     → open_list (drop n cs) ≡ open_faults (command_of (get_or cs n d)) ++ open_list (drop (n + 1) cs)
 unfolding open_list
-open_list-drop [] n d h = absurd (omega arith)
-open_list-drop (c ∷ cs) zero d h = refl
-open_list-drop (c ∷ cs) (suc n) d h = let r = open_list-drop cs n d (omega arith) in simp (add-one) (simp (add-one) at r)
+open_list-drop cs n d h = at_drop_more open_list cs n d h
 
 pub open_list-past : (cs : List Cmd) (n : ℕ) → length cs ≤ n → open_list (drop n cs) ≡ []
 unfolding open_list
-open_list-past [] zero h = refl
-open_list-past [] (suc n) h = refl
-open_list-past (c ∷ cs) zero h = absurd (omega arith)
-open_list-past (c ∷ cs) (suc n) h = open_list-past cs n (omega arith)
+open_list-past cs n h = at_drop_all open_list cs n h
 
 pub open_step : (cs : List Cmd) (n : ℕ) (d : Cmd) (o m : Option Fault) → n < length cs → d ≡ get_or cs n d
     → m ≡ best_of o (open_faults (command_of d)) → best_of m (open_list (drop (n + 1) cs)) ≡ best_of o (open_list (drop n cs))
@@ -57,13 +52,11 @@ closing_none (c ∷ cs) after h = absurd (omega arith)
 closing_at : (cs : List Cmd) (n : ℕ) (d : Cmd) (after : Place) → length cs ≡ suc n → d ≡ get_or cs n d
     → closing_list cs after ≡ open_list (take n cs) ++ last_faults (command_of d) after
 unfolding closing_list open_list
-closing_at [] n d after h e = absurd (omega arith)
 closing_at (c ∷ []) zero d after h e = ap (λ (x : Cmd). last_faults (command_of x) after) (sym e)
-closing_at (c ∷ []) (suc n) d after h e = absurd (omega arith)
-closing_at (c ∷ x ∷ cs) zero d after h e = absurd (omega arith)
 closing_at (c ∷ x ∷ cs) (suc n) d after h e =
     ap (λ (l : List Fault). open_faults (command_of c) ++ l) (closing_at (x ∷ cs) n d after (omega arith) e)
     ∙ sym (append_assoc (open_faults (command_of c)) (open_list (take n (x ∷ cs))) (last_faults (command_of d) after))
+closing_at _ _ d after h e = absurd (omega arith)
 
 -- all but the last must be open
 pub closing_last : (cs : List Cmd) (d : Cmd) (after : Place) → 1 ≤ length cs → d ≡ get_or cs (length cs - 1) d
@@ -82,17 +75,13 @@ closing_if c x place after one list other h e =
 open_arms-drop : (arms : List Arm) (n : ℕ) (d : Arm) (cs : List Cmd) → n < length arms → d ≡ get_or arms n d → cs ≡ d.block.commands.items
     → open_arms (drop n arms) ≡ open_list cs ++ open_arms (drop (n + 1) arms)
 unfolding open_arms open_list
-open_arms-drop [] n d cs h e f = absurd (omega arith)
-open_arms-drop (arm ∷ arms) zero d cs h e f =
-    ap (λ (a : Arm). open_block_faults (arm_block_of a) ++ open_arms arms) (sym e) ∙ ap (λ (l : List Cmd). open_list l ++ open_arms arms) (sym f)
-open_arms-drop (arm ∷ arms) (suc n) d cs h e f = let r = open_arms-drop arms n d cs (omega arith) e f in simp (add-one) (simp (add-one) at r)
+open_arms-drop arms n d cs h e f =
+    at_drop_more open_arms arms n d h ∙ ap (λ (a : Arm). open_block_faults (arm_block_of a) ++ open_arms (drop (n + 1) arms)) (sym e)
+    ∙ ap (λ (l : List Cmd). open_list l ++ open_arms (drop (n + 1) arms)) (sym f)
 
 pub open_arms-past : (arms : List Arm) (n : ℕ) → length arms ≤ n → open_arms (drop n arms) ≡ []
 unfolding open_arms
-open_arms-past [] zero h = refl
-open_arms-past [] (suc n) h = refl
-open_arms-past (arm ∷ arms) zero h = absurd (omega arith)
-open_arms-past (arm ∷ arms) (suc n) h = open_arms-past arms n (omega arith)
+open_arms-past arms n h = at_drop_all open_arms arms n h
 
 pub open_arms_step : (arms : List Arm) (n : ℕ) (d : Arm) (cs : List Cmd) (o m : Option Fault) → n < length arms → d ≡ get_or arms n d → cs ≡ d.block.commands.items
     → m ≡ best_of o (open_list cs) → best_of m (open_arms (drop (n + 1) arms)) ≡ best_of o (open_arms (drop n arms))
@@ -108,17 +97,13 @@ open_arms-of (arm ∷ arms) last =
 closing_arms-drop : (arms : List Arm) (n : ℕ) (d : Arm) (cs : List Cmd) → n < length arms → d ≡ get_or arms n d → cs ≡ d.block.commands.items
     → closing_arms (drop n arms) ≡ closing_list cs d.block.after ++ closing_arms (drop (n + 1) arms)
 unfolding closing_arms closing_list
-closing_arms-drop [] n d cs h e f = absurd (omega arith)
-closing_arms-drop (arm ∷ arms) zero d cs h e f =
-    ap (λ (a : Arm). closing_faults (arm_block_of a) ++ closing_arms arms) (sym e) ∙ ap (λ (l : List Cmd). closing_list l d.block.after ++ closing_arms arms) (sym f)
-closing_arms-drop (arm ∷ arms) (suc n) d cs h e f = let r = closing_arms-drop arms n d cs (omega arith) e f in simp (add-one) (simp (add-one) at r)
+closing_arms-drop arms n d cs h e f =
+    at_drop_more closing_arms arms n d h ∙ ap (λ (a : Arm). closing_faults (arm_block_of a) ++ closing_arms (drop (n + 1) arms)) (sym e)
+    ∙ ap (λ (l : List Cmd). closing_list l d.block.after ++ closing_arms (drop (n + 1) arms)) (sym f)
 
 pub closing_arms-past : (arms : List Arm) (n : ℕ) → length arms ≤ n → closing_arms (drop n arms) ≡ []
 unfolding closing_arms
-closing_arms-past [] zero h = refl
-closing_arms-past [] (suc n) h = refl
-closing_arms-past (arm ∷ arms) zero h = absurd (omega arith)
-closing_arms-past (arm ∷ arms) (suc n) h = closing_arms-past arms n (omega arith)
+closing_arms-past arms n h = at_drop_all closing_arms arms n h
 
 pub closing_arms_step : (arms : List Arm) (n : ℕ) (d : Arm) (cs : List Cmd) (o m : Option Fault) → n < length arms → d ≡ get_or arms n d → cs ≡ d.block.commands.items
     → m ≡ best_of o (closing_list cs d.block.after) → best_of m (closing_arms (drop (n + 1) arms)) ≡ best_of o (closing_arms (drop n arms))

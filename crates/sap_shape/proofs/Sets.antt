@@ -1,19 +1,13 @@
 -- Sets of memories.
-use Rattle.sap_lemmas.proofs.Common.{◌≡◌, ℕ, zero, suc, ◌+◌, ◌<◌, ◌≤◌, List, [], ◌∷◌, ◌++◌, ◌||◌, Bool, true, false, length, get_or, drop, refl, sym, ap, ◌∙◌, arith, add-one, inl, inr, bytes_eq, cases_Bool, bytes_eq-Decides, or_false}
+use Rattle.sap_lemmas.proofs.Common.{◌≡◌, ℕ, ◌+◌, ◌<◌, ◌≤◌, List, [], ◌∷◌, ◌++◌, ◌||◌, Bool, true, length, get_or, drop, refl, sym, ap, ◌∙◌, at_drop_all, at_drop_more, inl, inr, bytes_eq, cases_Bool, bytes_eq-Decides, or_false}
+use Rattle.std.proofs.Math.Bool.{or_assoc, or_comm}
 use mathlib.Core.Path.{fun_ext}
 use Rattle.sap_shape.specs.Lists.{written_in}
 use Rattle.sap_shape.specs.Walk.{Written, either, fresh, writing}
 use Rattle.sap_shape.specs.ShapeFaults.{is_in}
 
 or_swap : (a b c : Bool) → (a || (b || c)) ≡ (b || (a || c))
-or_swap true true c = refl
-or_swap true false c = refl
-or_swap false true c = refl
-or_swap false false c = refl
-
-or_assoc : (a b c : Bool) → ((a || b) || c) ≡ (a || (b || c))
-or_assoc true b c = refl
-or_assoc false b c = refl
+or_swap a b c = sym (or_assoc a b c) ∙ ap (λ (z : Bool). z || c) (or_comm a b) ∙ or_assoc b a c
 
 pub either_assoc : (p q r : Written) → either (either p q) r ≡ either p (either q r)
 either_assoc p q r = fun_ext (λ (m : List ℕ). or_assoc (p m) (q m) (r m))
@@ -52,16 +46,11 @@ written_again ns m h = fun_ext (λ (n : List ℕ). sym (in_already ns m n h))
 
 pub written-drop : (ns : List (List ℕ)) (n : ℕ) (d : List ℕ) → n < length ns → written_in (drop n ns) ≡ writing (get_or ns n d) (written_in (drop (n + 1) ns))
 unfolding written_in
-written-drop [] n d h = absurd (omega arith)
-written-drop (c ∷ cs) zero d h = fun_ext (λ (m : List ℕ). refl)
-written-drop (c ∷ cs) (suc n) d h = let r = written-drop cs n d (omega arith) in simp (add-one) (simp (add-one) at r)
+written-drop ns n d h = at_drop_more written_in ns n d h ∙ fun_ext (λ (m : List ℕ). refl)
 
 pub written-past : (ns : List (List ℕ)) (n : ℕ) → length ns ≤ n → written_in (drop n ns) ≡ fresh
 unfolding written_in
-written-past [] zero h = fun_ext (λ (m : List ℕ). refl)
-written-past [] (suc n) h = fun_ext (λ (m : List ℕ). refl)
-written-past (c ∷ cs) zero h = absurd (omega arith)
-written-past (c ∷ cs) (suc n) h = written-past cs n (omega arith)
+written-past ns n h = at_drop_all written_in ns n h ∙ written_none
 
 -- one name of another set, and those behind it
 pub join_step : (ns : List (List ℕ)) (n : ℕ) (d : List ℕ) (p q : Written) → n < length ns → d ≡ get_or ns n d → q ≡ writing d p

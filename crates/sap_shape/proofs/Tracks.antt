@@ -1,6 +1,6 @@
 -- What is written along a path, and where it writes a memory again.
 use Rattle.sap_lemmas.proofs.Common.{◌≡◌, ◌⊎◌, inl, inr, ℕ, List, [], ◌∷◌, ◌++◌, true, refl, ap, sym, subst, ◌∙◌, bytes_eq, bytes_eq-Decides, or_cases, or_left, or_right}
-use Rattle.sap_tree.specs.Syntax.{SimpleCommand, assign, write, set_tag, set_cell_tag, go_to, fall_to_child}
+use Rattle.sap_tree.specs.Syntax.{SimpleCommand, write, set_cell_tag}
 use Rattle.sap_names.specs.Fault.{StandsIn}
 use Rattle.sap_names.specs.declared.fault.Fault.{Fault}
 use Rattle.sap_shape.specs.Paths.{Path, IsOfMemory, place_of, twice_at}
@@ -25,29 +25,20 @@ stands_parts f (x ∷ a) b (inr h) = elim (stands_parts f a b h) [ inl i ↦ inl
 -- one command
 
 pub step_past : (k : SimpleCommand) (p : Written) (m : List ℕ) → past_simple k p m ≡ true → (p m ≡ true) ⊎ IsOfMemory k m
-step_past (assign target e) p m h = inl h
 step_past (write target index e) p m h = elim (or_cases (bytes_eq target.name m) (p m) h) [ inl i ↦ inr ((bytes_eq-Decides target.name m).0 i) | inr i ↦ inl i ]
-step_past (set_tag place target tag) p m h = inl h
 step_past (set_cell_tag place target index tag) p m h =
     elim (or_cases (bytes_eq target.name m) (p m) h) [ inl i ↦ inr ((bytes_eq-Decides target.name m).0 i) | inr i ↦ inl i ]
-step_past (go_to place target) p m h = inl h
-step_past (fall_to_child place) p m h = inl h
+step_past _ p m h = inl h
 
 pub past_before : (k : SimpleCommand) (p : Written) (m : List ℕ) → p m ≡ true → past_simple k p m ≡ true
-past_before (assign target e) p m h = h
 past_before (write target index e) p m h = or_right (bytes_eq target.name m) (p m) h
-past_before (set_tag place target tag) p m h = h
 past_before (set_cell_tag place target index tag) p m h = or_right (bytes_eq target.name m) (p m) h
-past_before (go_to place target) p m h = h
-past_before (fall_to_child place) p m h = h
+past_before _ p m h = h
 
 pub past_here : (k : SimpleCommand) (p : Written) (m : List ℕ) → IsOfMemory k m → past_simple k p m ≡ true
-past_here (assign target e) p m h = absurd h
 past_here (write target index e) p m h = or_left (bytes_eq target.name m) (p m) ((bytes_eq-Decides target.name m).1 h)
-past_here (set_tag place target tag) p m h = absurd h
 past_here (set_cell_tag place target index tag) p m h = or_left (bytes_eq target.name m) (p m) ((bytes_eq-Decides target.name m).1 h)
-past_here (go_to place target) p m h = absurd h
-past_here (fall_to_child place) p m h = absurd h
+past_here _ p m h = absurd h
 
 -- what has been written behind a path
 

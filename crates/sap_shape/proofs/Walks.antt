@@ -1,5 +1,5 @@
 -- What is found in lists of commands, from a place on.
-use Rattle.sap_lemmas.proofs.Common.{◌≡◌, ℕ, zero, suc, ◌+◌, ◌<◌, ◌≤◌, List, [], ◌∷◌, length, get_or, drop, append_assoc, refl, sym, ap, ap₂, ◌∙◌, arith, add-one, Some, Option}
+use Rattle.sap_lemmas.proofs.Common.{◌≡◌, ℕ, ◌+◌, ◌<◌, ◌≤◌, List, [], ◌∷◌, length, get_or, drop, append_assoc, refl, sym, ap, ap₂, ◌∙◌, at_drop_all, at_drop_more, Some, Option}
 use Rattle.sap_tree.specs.Prelude.{Expression, Command, case_of, command_of, block_of, arm_block_of, arms_of, else_of}
 use Rattle.sap_tree.specs.declared.syntax.Arm.{Arm}
 use Rattle.sap_tree.specs.declared.syntax.Cmd.{Cmd}
@@ -16,16 +16,12 @@ use Rattle.sap_shape.proofs.Sets.{either_assoc}
 found_list-drop : (p : Written) (cs : List Cmd) (n : ℕ) (d : Cmd) → n < length cs → d ≡ get_or cs n d
     → found_in_list (drop n cs) p ≡ behind (found (command_of d)) (found_in_list (drop (n + 1) cs)) p
 unfolding found_in_list
-found_list-drop p [] n d h e = absurd (omega arith)
-found_list-drop p (c ∷ cs) zero d h e = ap (λ (x : Cmd). behind (found (command_of x)) (found_in_list cs) p) (sym e)
-found_list-drop p (c ∷ cs) (suc n) d h e = let r = found_list-drop p cs n d (omega arith) e in simp (add-one) (simp (add-one) at r)
+found_list-drop p cs n d h e =
+    at_drop_more (λ (l : List Cmd). found_in_list l p) cs n d h ∙ ap (λ (x : Cmd). behind (found (command_of x)) (found_in_list (drop (n + 1) cs)) p) (sym e)
 
 pub found_list-past : (p : Written) (cs : List Cmd) (n : ℕ) → length cs ≤ n → found_in_list (drop n cs) p ≡ nothing p
 unfolding found_in_list
-found_list-past p [] zero h = refl
-found_list-past p [] (suc n) h = refl
-found_list-past p (c ∷ cs) zero h = absurd (omega arith)
-found_list-past p (c ∷ cs) (suc n) h = found_list-past p cs n (omega arith)
+found_list-past p cs n h = at_drop_all (λ (l : List Cmd). found_in_list l p) cs n h
 
 -- one command, and those behind it
 module _ (cs : List Cmd) (n : ℕ) (d : Cmd) (p q : Written) (h : n < length cs) (e : d ≡ get_or cs n d) (k : q ≡ (found (command_of d) p).past) where
@@ -62,16 +58,12 @@ module _ (p : Written) where
   found_arms-drop : (arms : List Arm) (n : ℕ) (d : Arm) → n < length arms → d ≡ get_or arms n d
       → found_in_arms (drop n arms) p ≡ branch (found_in_block (arm_block_of d)) (found_in_arms (drop (n + 1) arms)) p
   unfolding found_in_arms
-  found_arms-drop [] n d h e = absurd (omega arith)
-  found_arms-drop (arm ∷ arms) zero d h e = ap (λ (x : Arm). branch (found_in_block (arm_block_of x)) (found_in_arms arms) p) (sym e)
-  found_arms-drop (arm ∷ arms) (suc n) d h e = let r = found_arms-drop arms n d (omega arith) e in simp (add-one) (simp (add-one) at r)
+  found_arms-drop arms n d h e =
+      at_drop_more (λ (l : List Arm). found_in_arms l p) arms n d h ∙ ap (λ (x : Arm). branch (found_in_block (arm_block_of x)) (found_in_arms (drop (n + 1) arms)) p) (sym e)
 
   pub found_arms-past : (arms : List Arm) (n : ℕ) → length arms ≤ n → found_in_arms (drop n arms) p ≡ no_path p
   unfolding found_in_arms
-  found_arms-past [] zero h = refl
-  found_arms-past [] (suc n) h = refl
-  found_arms-past (arm ∷ arms) zero h = absurd (omega arith)
-  found_arms-past (arm ∷ arms) (suc n) h = found_arms-past arms n (omega arith)
+  found_arms-past arms n h = at_drop_all (λ (l : List Arm). found_in_arms l p) arms n h
 
   -- one arm, and those behind it: a set that takes in what they give
   module _ (arms : List Arm) (n : ℕ) (d : Arm) (h : n < length arms) (e : d ≡ get_or arms n d) where
