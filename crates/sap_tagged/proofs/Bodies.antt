@@ -98,8 +98,6 @@ all_or_some w (program.and_node (program.state_node c b k) g) h = by (is_dynamic
 site_step : (w : World) (sp : Home) (t : Step) → always w sp t ≡ false → sites.is_site w sp.state sp.children t ≡ true
 site_step w sp (assign site x e) h = rw h refl
 site_step w sp (write site m i e) h = rw h refl
-site_step w sp (retag site x n) h = refl
-site_step w sp (retag_cell site m j n) h = refl
 site_step w sp (go_to site target) h = by (is_dynamic w target) (is_dynamic w sp.state) h
   where
     by : (a b : Bool) → (a && b) ≡ false → (not b || not a) ≡ true
@@ -108,6 +106,7 @@ site_step w sp (go_to site target) h = by (is_dynamic w target) (is_dynamic w sp
     by false true h = refl
     by false false h = refl
 site_step w sp (fall_to_child site hang) h = all_or_some w sp.children h
+site_step w sp _ h = refl
 
 site_listed : (w : World) (sp : Home) (t : Step) → always w sp t ≡ false → Among (sites.site_numbers (sites.step_sites w sp.state sp.children t)) (site_of t)
 site_listed w sp t h = rw (site_step w sp t h) (inl refl)
@@ -116,9 +115,7 @@ site_listed w sp t h = rw (site_step w sp t h) (inl refl)
 
 kept_kind : (k : Kind) → (kind_is_register k || kind_is_state k) ≡ true → kind_is_input k ≡ false
 kept_kind program.input h = absurd (true_is_not_false (sym h))
-kept_kind program.register h = refl
-kept_kind (program.memory depth) h = refl
-kept_kind (program.state place last) h = refl
+kept_kind _ h = refl
 
 module _ (d : Setting) (s : Source) (h : Declares d s) (fixed group : List Name) (w : Assigns d s fixed) (nested : Bool) where
   abbrev pub Good : Body → Type 0
@@ -328,9 +325,8 @@ module _ (d : Setting) (s : Source) (h : Declares d s) (fixed group : List Name)
     AllGood (b ∷ bs) = Good b × AllGood bs
 
     take_good : (n : ℕ) (bs : List Body) → AllGood bs → AllGood (take n bs)
-    take_good zero bs g = tt
-    take_good (suc n) [] g = tt
     take_good (suc n) (b ∷ bs) g = (g.0, take_good n bs g.1)
+    take_good _ _ g = tt
 
     drop_good : (n : ℕ) (bs : List Body) → AllGood bs → AllGood (drop n bs)
     drop_good zero bs g = g

@@ -28,16 +28,12 @@ module _ (w : World) where
   enforced_within x h = within (λ e. not e.dynamic) refl x (ap not h)
 
   value_kind : (k : Kind) → (kind_is_input k || kind_is_register k) ≡ true → kind_is_memory k ≡ false
-  value_kind program.input h = refl
-  value_kind program.register h = refl
   value_kind (program.memory depth) h = absurd (true_is_not_false (sym h))
-  value_kind (program.state place last) h = refl
+  value_kind _ h = refl
 
   kept_kind : (k : Kind) → (kind_is_register k || kind_is_state k) ≡ true → kind_is_memory k ≡ false
-  kept_kind program.input h = refl
-  kept_kind program.register h = refl
   kept_kind (program.memory depth) h = absurd (true_is_not_false (sym h))
-  kept_kind (program.state place last) h = refl
+  kept_kind _ h = refl
 
   pub value_no_memory : (x : ℕ) → is_value w x ≡ true → is_memory w x ≡ false
   value_no_memory x h = value_kind (entity w x).kind h

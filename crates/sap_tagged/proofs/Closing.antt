@@ -43,8 +43,7 @@ follow_goes (cases t x y rest) b s e =
     let g = or_parts (transfers x || transfers y) (transfers rest) s in
     let i = or_parts (transfers x) (transfers y) g.0 in
     rw (i.0, i.1) (follow_goes rest b g.1 e)
-follow_goes (goto x rest) b s e = absurd (true_is_not_false s)
-follow_goes (fall rest) b s e = absurd (true_is_not_false s)
+follow_goes _ b s e = absurd (true_is_not_false s)
 
 choice_ends : (t : Term Name) (x y : Body) → Ends x → Ends y → Ends (cases t x y stop)
 choice_ends t x y e f = rw (e, f) (or_right (not (transfers x || transfers y)) true refl)
@@ -54,20 +53,18 @@ module _ (d : Setting) where
   effect_ends sp k (assign site x e) = elim (cases_Bool (is_dynamic d.world x)) [ inl i ↦ rw i refl | inr i ↦ rw i refl ]
   effect_ends sp k (write site m i e) = elim (cases_Bool (is_dynamic d.world m)) [ inl i ↦ rw i refl | inr i ↦ rw i refl ]
   effect_ends sp k (retag site x n) = elim (cases_Bool (is_register d.world x)) [ inl i ↦ rw i refl | inr i ↦ rw i refl ]
-  effect_ends sp k (retag_cell site m j n) = refl
   effect_ends sp k (go_to site target) =
       sweep_ends d tag_key (resets d.world target) (λ x. bits d d.world.order.bottom) 0 (root d.world)
       (if is_dynamic d.world target then gives d (tag_key target) (var d (wire_key (k + 3))) (goto (d.state_name target) stop) else goto (d.state_name target) stop)
       (elim (cases_Bool (is_dynamic d.world target)) [ inl i ↦ rw i refl | inr i ↦ rw i refl ])
-  effect_ends sp k (fall_to_child site hang) = refl
+  effect_ends sp k _ = refl
 
   effect_goes : (sp : Home) (k : ℕ) (t : Step) → fine.transfers t ≡ false → transfers (effect_of d sp k t) ≡ false
   effect_goes sp k (assign site x e) f = elim (cases_Bool (is_dynamic d.world x)) [ inl i ↦ rw i refl | inr i ↦ rw i refl ]
   effect_goes sp k (write site m i e) f = elim (cases_Bool (is_dynamic d.world m)) [ inl i ↦ rw i refl | inr i ↦ rw i refl ]
   effect_goes sp k (retag site x n) f = elim (cases_Bool (is_register d.world x)) [ inl i ↦ rw i refl | inr i ↦ rw i refl ]
   effect_goes sp k (retag_cell site m j n) f = refl
-  effect_goes sp k (go_to site target) f = absurd (true_is_not_false f)
-  effect_goes sp k (fall_to_child site hang) f = absurd (true_is_not_false f)
+  effect_goes sp k _ f = absurd (true_is_not_false f)
 
   module _ (sp : Home) where
     attempt_ends : (p k : ℕ) (t : Step) (hangs : ℕ → Bool) (h : Body) → Ends h → Ends (attempt_of d sp p k t hangs h)
@@ -143,9 +140,8 @@ module _ (d : Setting) where
     Each P (b ∷ bs) = P b × Each P bs
 
     take_each : (P : Body → Type 0) (n : ℕ) (bs : List Body) → Each P bs → Each P (take n bs)
-    take_each P zero bs h = tt
-    take_each P (suc n) [] h = tt
     take_each P (suc n) (b ∷ bs) h = (h.0, take_each P n bs h.1)
+    take_each P _ _ h = tt
 
     drop_each : (P : Body → Type 0) (n : ℕ) (bs : List Body) → Each P bs → Each P (drop n bs)
     drop_each P zero bs h = h

@@ -75,9 +75,6 @@ module _ (es : List Entity) (w : World) (r : Resolved es w) where
 
   mutual
     pub conditions : (e : Expression) (asked : Option ℕ) → expression_faults what e asked ≡ [] → Conditions w (term_of es e asked)
-    conditions (literal spot value) asked h = tt
-    conditions (sized_literal spot u value) asked h = tt
-    conditions (variable spot name) asked h = tt
     conditions (cell_at spot name index) asked h =
         conditions index (index_width (what name))
         (none_three (fault_if (unsettled (cell_width (what name)) asked) E7 spot.first) (use_faults indexed (what name) spot.at)
@@ -114,6 +111,7 @@ module _ (es : List Entity) (w : World) (r : Resolved es w) where
         widened_conditions w (term_of es e common.None) (known (own what e)) u
         (conditions e common.None (none_three (fault_if (unsettled mine asked) E7 spot.first) (fault_if (not (is_sound mine) && is_sound (own what e)) E7 spot.first)
         (expression_faults what e common.None) h).2)
+    conditions _ asked h = tt
 
     parts_conditions : (ps : Expressions) → parts_faults what ps ≡ [] → Conditions w (parts_of es ps)
     parts_conditions no_part h = tt
@@ -153,8 +151,7 @@ module _ (ls : Levels) (h : Surroundings) (w : World) (r : Resolved h.entities w
   step_conditions n (tree.set_cell_tag place target i t) f =
       let s = none_three (name_faults uses.Indexed known_as target) (expression_faults known_as i (index_width (known_as target.name))) (tag_faults ls.names known_as t) f in
       (conditions h.entities w r i (index_width (known_as target.name)) s.1, tag_conditions h.entities w r ls t s.2)
-  step_conditions n (tree.go_to place target) f = tt
-  step_conditions n (tree.fall_to_child place) f = tt
+  step_conditions n _ f = tt
 
   block_conditions : (k : ℕ) (b : tree.CommandBlock) → block_faults ls.names known_as b ≡ [] → BlockConditions w (block_of ls h k b)
   block_conditions k b f =
@@ -181,11 +178,7 @@ module _ (ls : Levels) (le : ℕ → ℕ → Bool) (es : List Entity) (w : World
 module _ (w : World) where
   filled_step_conditions : (at : Home) (k : Step) → StepConditions w k → StepConditions w (filled_step w at k)
   filled_step_conditions at (assign site x e) h = h
-  filled_step_conditions at (write site m i e) h = h
-  filled_step_conditions at (retag site x n) h = h
-  filled_step_conditions at (retag_cell site m j n) h = h
-  filled_step_conditions at (go_to site target) h = h
-  filled_step_conditions at (fall_to_child site hang) h = h
+  filled_step_conditions at _ h = h
 
   pub filled_group_conditions : (p : ℕ) (g : Group) → GroupConditions w g → GroupConditions w (filled_group w p g)
   filled_group_conditions p g h = every_filled_group w (StepConditions w) (StepConditions w) (Conditions w) filled_step_conditions p g h

@@ -68,9 +68,7 @@ level_in d u j k (suc n) l m = elim (reached k j l) [
 
 input_no_memory : (k : Kind) → kind_is_input k ≡ true → kind_is_memory k ≡ false
 input_no_memory program.input h = refl
-input_no_memory program.register h = absurd (true_is_not_false (sym h))
-input_no_memory (program.memory depth) h = absurd (true_is_not_false (sym h))
-input_no_memory (program.state place last) h = absurd (true_is_not_false (sym h))
+input_no_memory _ h = absurd (true_is_not_false (sym h))
 
 module _ (d : Named) (tag sites : ℕ) (design : Design d tag sites) where
   abbrev w : World

@@ -95,9 +95,8 @@ named_at version (e ∷ es) a zero l = a.0
 named_at version (e ∷ es) a (suc x) l = named_at version es a.1 x (omega arith)
 
 names_at : (es : List Entity) (x : ℕ) → get_or (map (λ (e : Entity). e.name.name) es) x [] ≡ name_at es x
-names_at [] x = refl
-names_at (e ∷ es) zero = refl
 names_at (e ∷ es) (suc x) = names_at es x
+names_at _ _ = refl
 
 -- counts
 

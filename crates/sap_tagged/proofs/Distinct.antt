@@ -291,27 +291,20 @@ list_number w (wire_key k) = 8
 
 input_lists : (k : Kind) (b : Bool) → kind_is_input k ≡ true → (value_list k ≡ 0) × (tag_list k b ≡ 0)
 input_lists program.input b h = (refl, refl)
-input_lists program.register b h = absurd (true_is_not_false (sym h))
-input_lists (program.memory depth) b h = absurd (true_is_not_false (sym h))
-input_lists (program.state place last) b h = absurd (true_is_not_false (sym h))
+input_lists _ b h = absurd (true_is_not_false (sym h))
 
 pub register_lists : (k : Kind) (b : Bool) → kind_is_register k ≡ true → (value_list k ≡ 1) × (tag_list k b ≡ 1)
-register_lists program.input b h = absurd (true_is_not_false (sym h))
 register_lists program.register b h = (refl, refl)
-register_lists (program.memory depth) b h = absurd (true_is_not_false (sym h))
-register_lists (program.state place last) b h = absurd (true_is_not_false (sym h))
+register_lists _ b h = absurd (true_is_not_false (sym h))
 
 own_lists : (k : Kind) (b : Bool) → (if kind_is_memory k then b else kind_is_state k) ≡ true → tag_list k b ≡ 2
-own_lists program.input b h = absurd (true_is_not_false (sym h))
-own_lists program.register b h = absurd (true_is_not_false (sym h))
 own_lists (program.memory depth) b h = rw h refl
 own_lists (program.state place last) b h = refl
+own_lists _ b h = absurd (true_is_not_false (sym h))
 
 memory_lists : (k : Kind) (b : Bool) → kind_is_memory k ≡ true → (value_list k ≡ 9) × (b ≡ false → tag_list k b ≡ 9)
-memory_lists program.input b h = absurd (true_is_not_false (sym h))
-memory_lists program.register b h = absurd (true_is_not_false (sym h))
 memory_lists (program.memory depth) b h = (refl, λ e. rw e refl)
-memory_lists (program.state place last) b h = absurd (true_is_not_false (sym h))
+memory_lists _ b h = absurd (true_is_not_false (sym h))
 
 module _ (d : Named) (tag sites : ℕ) (names : NamesApart d) where
   abbrev pub list_of : Key → ℕ

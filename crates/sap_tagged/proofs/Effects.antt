@@ -91,8 +91,7 @@ module _ (d : Setting) (widths : Name → ℕ) (laws : Lawful d widths) where
   state_kind : (k : Kind) → (kind_is_register k || kind_is_state k) ≡ true → kind_is_register k ≡ false → (kind_is_input k || kind_is_register k) ≡ false
   state_kind program.input h f = absurd (true_is_not_false (sym h))
   state_kind program.register h f = f
-  state_kind (program.memory depth) h f = refl
-  state_kind (program.state place last) h f = refl
+  state_kind _ h f = refl
 
   module _ (f : Going → Going) (go : Name → Going → Going) (enter : ℕ → ℕ → Store → After) where
     -- An effect leaves all wires alone, but for a fall those from `base` on: so those before `free` stay.

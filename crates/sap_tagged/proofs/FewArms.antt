@@ -96,15 +96,12 @@ module _ (w : World) where
   arms_filled at (and_arm constants b arms) = ap (λ (n : ℕ). suc n) (arms_filled at arms)
 
   filled_few : (at : Home) (c : Command) → FewHere c → FewHere (filled w at c)
-  filled_few at (lone k) f = tt
-  filled_few at (try k hang b) f = tt
-  filled_few at (if_else hang e a b) f = tt
-  filled_few at (try_then k hang a b) f = tt
   filled_few at (case_of hang e arms) f = (
     subst (λ (n : ℕ). n ≤ most_arms) (sym (arms_filled at arms)) f.0,
     subst (λ (cs : List (List ℕ)). AllByRecursion (λ (constants : List ℕ). 1 ≤ length constants) cs)
         (sym (constants_mapped (filled_step w at) (filled_hang w at) arms)) f.1,
   )
+  filled_few at _ f = tt
 
   pub filled_group_few : (p : ℕ) (g : Group) → FewGroup g → FewGroup (filled_group w p g)
   filled_group_few p g f = commands_filled_group w FewHere FewHere filled_few p g f

@@ -30,10 +30,7 @@ use Rattle.sap_tagged.proofs.Designs.{design, some_child}
 module _ (w : World) where
   own_filled : (at : Home) (c : Command) (n : ℕ) → own_wires (filled w at c) n ≡ own_wires c n
   own_filled at (lone k) n = refl
-  own_filled at (try k hang h) n = refl
-  own_filled at (if_else hang e a b) n = refl
-  own_filled at (try_then k hang a b) n = refl
-  own_filled at (case_of hang e arms) n = refl
+  own_filled at _ n = refl
 
   body_filled : (p : ℕ) (t : State) → body_wires (filled_state w p t) ≡ body_wires t
   body_filled p (state_node s b g) =

@@ -93,8 +93,6 @@ module _ (nd : Named) (tag : ℕ) (s : Source) where
 
 pub group_has : (d : Setting) (g : Group) (f : Forest) → Shaped d g f → (t : ℕ) → among g t ≡ true → is_among (d.state_name t) (group_names f) ≡ true
 group_has d no_node none h t i = absurd (true_is_not_false (sym i))
-group_has d no_node (state x b kids rest) h t i = absurd h
-group_has d (and_node u g) none h t i = absurd h
 group_has d (and_node (state_node s c k) g) (state x b kids rest) h t i = elim (cases_Bool (nat_eq t s)) [
   | inl e ↦
       (let n : bytes_eq (d.state_name t) x ≡ true = ap (λ (a : ℕ). bytes_eq (d.state_name a) x) (eqb-true t s e)
@@ -102,18 +100,17 @@ group_has d (and_node (state_node s c k) g) (state x b kids rest) h t i = elim (
       rw n refl)
   | inr e ↦ or_right (bytes_eq (d.state_name t) x) _ (group_has d g rest h.2 t (or_other (nat_eq t s) (among g t) i e))
 ]
+group_has d _ _ h t i = absurd h
 
 pub some_states : (d : Setting) (g : Group) (f : Forest) → Shaped d g f → 0 < size g → has_states f ≡ true
 some_states d no_node none h l = absurd (omega (arith, l))
-some_states d no_node (state x b kids rest) h l = absurd h
-some_states d (and_node u g) none h l = absurd h
 some_states d (and_node u g) (state x b kids rest) h l = refl
+some_states d _ _ h l = absurd h
 
 same_size : (d : Setting) (g : Group) (f : Forest) → Shaped d g f → nested.size f ≡ size g
 same_size d no_node none h = refl
-same_size d no_node (state x b kids rest) h = absurd h
-same_size d (and_node u g) none h = absurd h
 same_size d (and_node (state_node s c k) g) (state x b kids rest) h = ap (λ (n : ℕ). suc n) (same_size d g rest h.2)
+same_size d _ _ h = absurd h
 
 -- the registers of current children
 abbrev pub SeatRegisters : Setting → Source → Type 0
@@ -125,14 +122,13 @@ pub seat_is_fine : (d : Setting) (s : Source) → SeatRegisters d s → ((p : �
     → (p : ℕ) (x : Name) (g : Group) (f : Forest)
     → x ≡ d.name (seat_key p) → children d.world p ≡ size g → Shaped d g f → SeatFine s x f
 seat_is_fine d s regs few p x no_node none e c h = tt
-seat_is_fine d s regs few p x no_node (state y b kids rest) e c h = absurd h
-seat_is_fine d s regs few p x (and_node u g) none e c h = absurd h
 seat_is_fine d s regs few p x (and_node u g) (state y b kids rest) e c h =
     let z : children d.world p ≡ nested.size (state y b kids rest) = c ∙ sym (same_size d (and_node u g) (state y b kids rest) h) in
     subst (λ (n : ℕ). IsSeat s x n) z (subst (λ (a : Name). IsSeat s a (children d.world p)) (sym e) (regs p (some (children d.world p) (size g) c), few p))
   where
     some : (m n : ℕ) → m ≡ suc n → 0 < m
     some m n e = omega (arith, e)
+seat_is_fine d s regs few p x _ _ e c h = absurd h
 
 module _ (nd : Named) (tag : ℕ) (s : Source) (fixed : List Name) (decl : Declares (setting_of nd tag) s)
     (assigns : Assigns (setting_of nd tag) s fixed) (states : LawfulStates (setting_of nd tag)) (regs : SeatRegisters (setting_of nd tag) s) where

@@ -77,8 +77,7 @@ restarted_next d p1 p2 picks g g1 g2 e a b = record {
   where
     merged : (a b : Bool) (v : ℕ) → (if b then 0 else (if a then 0 else v)) ≡ (if a || b then 0 else v)
     merged true true v = refl
-    merged true false v = refl
-    merged false b v = refl
+    merged _ _ v = refl
 
 module _ (d : Setting) (widths : Name → ℕ) (laws : Lawful d widths) (names : LawfulStates d) where
   put_is : (g : Going) (x : Name) (a : Key) (n : ℕ) → x ≡ d.name a → put_value g x n ≡ put_to d g a n
@@ -100,15 +99,12 @@ module _ (d : Setting) (widths : Name → ℕ) (laws : Lawful d widths) (names :
     where
       no_child : (p : ℕ) → 0 < children d.world p → p ≡ s → ⊥
       no_child p i q = let z : children d.world p ≡ 0 = ap (children d.world) q ∙ c in omega (arith, i, z)
-  first_child_is s x no_node (state y b kids rest) g l e c h = absurd h
-  first_child_is s x (and_node t k) none g l e c h = absurd h
   first_child_is s x (and_node (state_node u i k) r) (state y b kids rest) g l e c h =
       subst (λ (z : Going). Restarted d (λ p. nat_eq p s) g z) (sym (put_is g (seat_name x) (seat_key s) 0 (ap seat_name e ∙ names.seats s l))) (one_seat g s)
+  first_child_is s x _ _ g l e c h = absurd h
 
   pub restart_is : (q : Group) (n : ℕ) (k : Group) (kids : Forest) → FineGroup d.world q n k → Shaped d k kids → (g : Going) → Restarted d (inside k) g (restart kids g)
   restart_is q n no_node none f h g = restarted_none d g (λ p. false) (λ p i. refl)
-  restart_is q n no_node (state y b kids rest) f h g = absurd h
-  restart_is q n (and_node t k) none f h g = absurd h
   restart_is q n (and_node (state_node s c k) r) (state y b kids rest) f h g =
       let i = node_state d.world q n s c k f.0.0 in
       let g1 = first_child y kids g in
@@ -123,6 +119,7 @@ module _ (d : Setting) (widths : Name → ℕ) (laws : Lawful d widths) (names :
       regrouped : (a b c : Bool) → (a || (b || c)) ≡ ((a || b) || c)
       regrouped true b c = refl
       regrouped false b c = refl
+  restart_is q n _ _ f h g = absurd h
 
   -- a state that a goto names
   pub record Found (target n : ℕ) (forest : Forest) : Type 0 where
@@ -149,8 +146,6 @@ module _ (d : Setting) (widths : Name → ℕ) (laws : Lawful d widths) (names :
 
   pub found : (q : Group) (n : ℕ) (g : Group) (forest : Forest) → FineGroup d.world q n g → Shaped d g forest → (target : ℕ) → among g target ≡ true → Found target n forest
   found q n no_node none f h target i = absurd (true_is_not_false (sym i))
-  found q n no_node (state y b kids rest) f h target i = absurd h
-  found q n (and_node s g) none f h target i = absurd h
   found q n (and_node (state_node s c k) g) (state x b kids rest) f h target i = elim (cases_Bool (nat_eq target s)) [
     | inl e ↦
         subst (λ (z : ℕ). Found z n (state x b kids rest)) (sym (eqb-true target s e))
@@ -176,6 +171,7 @@ module _ (d : Setting) (widths : Name → ℕ) (laws : Lawful d widths) (names :
     where
       after : (n m : ℕ) → n + suc m ≡ suc n + m
       after n m = omega arith
+  found q n _ _ f h target i = absurd h
 
   -- a goto among the states of a group
   pub goes_run : (parent : ℕ) (seat : Name) (q : Group) (forest : Forest) → seat ≡ d.name (seat_key parent) → children d.world parent ≡ size q → FineGroup d.world q 0 q
@@ -218,8 +214,7 @@ module _ (d : Setting) (widths : Name → ℕ) (laws : Lawful d widths) (names :
     where
       swapped : (a b : Bool) (v : ℕ) → (if a then 0 else (if b then 0 else v)) ≡ (if b then 0 else (if a then 0 else v))
       swapped true true v = refl
-      swapped true false v = refl
-      swapped false b v = refl
+      swapped _ _ v = refl
 
       at_zero : (n : ℕ) → n ≡ 0 + n
       at_zero n = omega arith

@@ -2,6 +2,7 @@
 use Rattle.sap_lemmas.proofs.Common.{◌≡◌, ℕ, suc, Bool, true, false, ◌||◌, List, refl, sym, ◌∙◌, subst, nat_lt, nat_eq, inl, inr, cases_Bool, eqb-true, and_parts, true_is_not_false}
 use Rattle.sap_meaning.specs.Prelude.{World, Kind, entity, root, is_dynamic, is_input, is_memory, is_register, listed, Step, assign, write, retag, retag_cell, go_to, fall_to_child, Command, lone, try, if_else, try_then, case_of, Block, state_node, Group, no_node, and_node, kind_is_input, kind_is_register, kind_is_memory, kind_is_state, Every, EveryInBlock, Home, step_assigns, block_assigns, group_assigns, among, step_hangs, hangs, touches, root_touches, listed_alone, FineTerm, FineStep, FineCommand, FineGroup, ExactStep, ExactCommand}
 use Rattle.sap_meaning.specs.Program as program
+use Rattle.sap_meaning.proofs.ProgramLemmas.{memory_no_input, register_no_input, state_no_input}
 use Rattle.sap_meaning.proofs.WalksLemmas.{some_gives, some_in_block_gives, every_with_in_block}
 use Rattle.sap_tagged.specs.Stands.{has_tag}
 use Rattle.sap_tagged.proofs.Bools.{register_within, memory_within, tagged, tagged_memory}
@@ -13,31 +14,13 @@ abbrev pub CanHang : World → ℕ → Type 0
 CanHang w x = (nat_lt x (root w) ≡ true) × (is_input w x ≡ false)
 
 register_can : (w : World) (x : ℕ) → is_register w x ≡ true → CanHang w x
-register_can w x h = (register_within w x h, by (entity w x).kind h)
-  where
-    by : (k : Kind) → kind_is_register k ≡ true → kind_is_input k ≡ false
-    by program.input h = absurd (true_is_not_false (sym h))
-    by program.register h = refl
-    by (program.memory depth) h = refl
-    by (program.state place last) h = refl
+register_can w x h = (register_within w x h, register_no_input (entity w x).kind h)
 
 memory_can : (w : World) (x : ℕ) → is_memory w x ≡ true → CanHang w x
-memory_can w x h = (memory_within w x h, by (entity w x).kind h)
-  where
-    by : (k : Kind) → kind_is_memory k ≡ true → kind_is_input k ≡ false
-    by program.input h = absurd (true_is_not_false (sym h))
-    by program.register h = refl
-    by (program.memory depth) h = refl
-    by (program.state place last) h = refl
+memory_can w x h = (memory_within w x h, memory_no_input (entity w x).kind h)
 
 state_can : (w : World) (x : ℕ) → IsState w x → CanHang w x
-state_can w x h = (h.declared, by (entity w x).kind h.kind)
-  where
-    by : (k : Kind) → kind_is_state k ≡ true → kind_is_input k ≡ false
-    by program.input h = absurd (true_is_not_false (sym h))
-    by program.register h = refl
-    by (program.memory depth) h = refl
-    by (program.state place last) h = refl
+state_can w x h = (h.declared, state_no_input (entity w x).kind h.kind)
 
 either : {P : Type 0} (a b : Bool) → (a || b) ≡ true → (a ≡ true → P) → (b ≡ true → P) → P
 either true b h f g = f refl
@@ -51,10 +34,7 @@ module _ (w : World) (x : ℕ) where
     step_assigned : (k : Step) → FineStep w q g k → step_assigns k x ≡ true → CanHang w x
     step_assigned (assign site y e) f h = moved w x y h (register_can w y f.0)
     step_assigned (write site m i e) f h = moved w x m h (memory_can w m f.0)
-    step_assigned (retag site y n) f h = absurd (true_is_not_false (sym h))
-    step_assigned (retag_cell site m j n) f h = absurd (true_is_not_false (sym h))
-    step_assigned (go_to site target) f h = absurd (true_is_not_false (sym h))
-    step_assigned (fall_to_child site hang) f h = absurd (true_is_not_false (sym h))
+    step_assigned _ f h = absurd (true_is_not_false (sym h))
 
     block_assigned : (b : Block) → EveryInBlock (FineCommand w q g) b → block_assigns b x ≡ true → CanHang w x
     block_assigned b f h = some_in_block_gives (FineStep w q g) (FineTerm w) (λ k. step_assigns k x) (CanHang w x) step_assigned b f h
@@ -69,10 +49,9 @@ module _ (w : World) (x : ℕ) where
     step_hung : (k : Step) → FineStep w q g k → step_hangs s g k x ≡ true → CanHang w x
     step_hung (assign site y e) f h = moved w x y h (register_can w y f.0)
     step_hung (write site m i e) f h = moved w x m h (memory_can w m f.0)
-    step_hung (retag site y n) f h = absurd (true_is_not_false (sym h))
-    step_hung (retag_cell site m j n) f h = absurd (true_is_not_false (sym h))
     step_hung (go_to site target) f h = moved w x s h (state_can w s here)
     step_hung (fall_to_child site hang) f h = either (among g x) (group_assigns g x) h (λ i. state_can w x (group_states w g 0 g kids x i)) (group_assigned g 0 g kids)
+    step_hung _ f h = absurd (true_is_not_false (sym h))
 
     hung : (c : Command) → Every (FineCommand w q g) c → hangs s g c x ≡ true → CanHang w x
     hung c f h = some_gives (FineStep w q g) (FineTerm w) (λ k. step_hangs s g k x) (CanHang w x) step_hung c f h
@@ -94,12 +73,9 @@ module _ (w : World) (q : Group) (sp : Home) (here : IsState w sp.state) (kids :
   exact_hangs c list f e x h = touched c f x (sym (e x) ∙ h)
 
   alone_hangs : (k : Step) → FineStep w q sp.children k → ExactStep w sp k → Hangs w (listed_alone w sp k)
-  alone_hangs (assign site y e) f i x h = absurd (true_is_not_false (sym h))
-  alone_hangs (write site m j e) f i x h = absurd (true_is_not_false (sym h))
-  alone_hangs (retag site y n) f i x h = absurd (true_is_not_false (sym h))
-  alone_hangs (retag_cell site m j n) f i x h = absurd (true_is_not_false (sym h))
   alone_hangs (go_to site target) f i x h = touched (lone (go_to site target)) f x h
   alone_hangs (fall_to_child site hang) f i x h = exact_hangs (lone (fall_to_child site hang)) hang f i x h
+  alone_hangs _ f i x h = absurd (true_is_not_false (sym h))
 
   own_hangs : (c : Command) → Every (FineCommand w q sp.children) c → ExactCommand w sp c → OwnHangs w sp c
   own_hangs (lone k) f e = alone_hangs k f e

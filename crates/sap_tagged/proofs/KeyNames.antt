@@ -86,69 +86,14 @@ module _ (d : Named) (names : NamesApart d) where
 
   pub names_apart : (a b : Key) → bytes_eq (key_name d a) (key_name d b) ≡ same a b
   names_apart (value_key x) (value_key y) = entities_apart x y
-  names_apart (value_key x) (tag_key y) = refl
-  names_apart (value_key x) (seat_key y) = refl
-  names_apart (value_key x) (refused_key y) = refl
-  names_apart (value_key x) (level_key y) = refl
-  names_apart (value_key x) (wire_key y) = refl
-  names_apart (value_key x) (first_key y) = refl
-  names_apart (value_key x) (inner_key y) = refl
-  names_apart (tag_key x) (value_key y) = refl
   names_apart (tag_key x) (tag_key y) = entities_apart x y
-  names_apart (tag_key x) (seat_key y) = refl
-  names_apart (tag_key x) (refused_key y) = refl
-  names_apart (tag_key x) (level_key y) = refl
-  names_apart (tag_key x) (wire_key y) = refl
-  names_apart (tag_key x) (first_key y) = refl
-  names_apart (tag_key x) (inner_key y) = refl
-  names_apart (seat_key x) (value_key y) = refl
-  names_apart (seat_key x) (tag_key y) = refl
   names_apart (seat_key x) (seat_key y) = seats_apart x y
-  names_apart (seat_key x) (refused_key y) = refl
-  names_apart (seat_key x) (level_key y) = refl
-  names_apart (seat_key x) (wire_key y) = refl
-  names_apart (seat_key x) (first_key y) = refl
-  names_apart (seat_key x) (inner_key y) = refl
-  names_apart (refused_key x) (value_key y) = refl
-  names_apart (refused_key x) (tag_key y) = refl
-  names_apart (refused_key x) (seat_key y) = refl
   names_apart (refused_key x) (refused_key y) = numerals_apart x y
-  names_apart (refused_key x) (level_key y) = refl
-  names_apart (refused_key x) (wire_key y) = refl
-  names_apart (refused_key x) (first_key y) = refl
-  names_apart (refused_key x) (inner_key y) = refl
-  names_apart (level_key x) (value_key y) = refl
-  names_apart (level_key x) (tag_key y) = refl
-  names_apart (level_key x) (seat_key y) = refl
-  names_apart (level_key x) (refused_key y) = refl
   names_apart (level_key x) (level_key y) = numerals_apart x y
-  names_apart (level_key x) (wire_key y) = refl
-  names_apart (level_key x) (first_key y) = refl
-  names_apart (level_key x) (inner_key y) = refl
-  names_apart (wire_key x) (value_key y) = refl
-  names_apart (wire_key x) (tag_key y) = refl
-  names_apart (wire_key x) (seat_key y) = refl
-  names_apart (wire_key x) (refused_key y) = refl
-  names_apart (wire_key x) (level_key y) = refl
   names_apart (wire_key x) (wire_key y) = numerals_apart x y
-  names_apart (wire_key x) (first_key y) = refl
-  names_apart (wire_key x) (inner_key y) = refl
-  names_apart (first_key x) (value_key y) = refl
-  names_apart (first_key x) (tag_key y) = refl
-  names_apart (first_key x) (seat_key y) = refl
-  names_apart (first_key x) (refused_key y) = refl
-  names_apart (first_key x) (level_key y) = refl
-  names_apart (first_key x) (wire_key y) = refl
   names_apart (first_key x) (first_key y) = numerals_apart x y
-  names_apart (first_key x) (inner_key y) = refl
-  names_apart (inner_key x) (value_key y) = refl
-  names_apart (inner_key x) (tag_key y) = refl
-  names_apart (inner_key x) (seat_key y) = refl
-  names_apart (inner_key x) (refused_key y) = refl
-  names_apart (inner_key x) (level_key y) = refl
-  names_apart (inner_key x) (wire_key y) = refl
-  names_apart (inner_key x) (first_key y) = refl
   names_apart (inner_key x) (inner_key y) = numerals_apart x y
+  names_apart _ _ = refl
 
 -- keys by their sort and index
 abbrev key_at : ℕ → ℕ → Key
@@ -163,13 +108,7 @@ key_at (suc (suc (suc (suc (suc (suc (suc k))))))) i = inner_key i
 
 key_back : (a : Key) → key_at (sort a) (index a) ≡ a
 key_back (value_key x) = refl
-key_back (tag_key x) = refl
-key_back (seat_key x) = refl
-key_back (refused_key x) = refl
-key_back (level_key x) = refl
-key_back (wire_key x) = refl
-key_back (first_key x) = refl
-key_back (inner_key x) = refl
+key_back _ = refl
 
 pub same_is : (a b : Key) → same a b ≡ true → a ≡ b
 same_is a b h =

@@ -46,12 +46,11 @@ number_out before (y ∷ ys) n f =
 -- a name that no input has is a register's
 pub start_out : (s : Source) (before : Option Valuation) (is : List Var) (ns : List ℕ) (n : Name) → is_among n (variable_names is) ≡ false
     → number_at_start s before is ns n ≡ register_number before s.registers n
-start_out s before [] ns n f = refl
-start_out s before (i ∷ is) [] n f = refl
 start_out s before (i ∷ is) (x ∷ ns) n f =
     let p = or_parts (bytes_eq n i.name) (is_among n (variable_names is)) f in
     let o : bytes_eq i.name n ≡ false = bytes_eq_apart_back n i.name p.0 in
     rw o (start_out s before is ns n p.1)
+start_out s before _ _ n f = refl
 
 pub in_front : {A : Type 0} (xs ys : List A) (x : A) → In xs x → In (xs ++ ys) x
 in_front [] ys x h = absurd h

@@ -15,14 +15,13 @@ use Rattle.sap_tagged.proofs.Groups.{LawfulStates, Shaped, IsState, node_state}
 -- the names of the states of a forest
 pub all_states : (d : Setting) (P : Name → Type 0) (g : Group) (f : Forest) → Shaped d g f → ((t : ℕ) → inside g t ≡ true → P (d.state_name t)) → AllByRecursion P (state_names f)
 all_states d P no_node none h p = tt
-all_states d P no_node (state x b kids rest) h p = absurd h
-all_states d P (and_node u g) none h p = absurd h
 all_states d P (and_node (state_node s c k) g) (state x b kids rest) h p = (
   subst P (sym h.0) (p s (or_left (nat_eq s s) (inside k s || inside g s) (eq-eqb s s refl))),
   all_append P (state_names kids) (state_names rest)
       (all_states d P k kids h.1 (λ t i. p t (or_right (nat_eq t s) (inside k t || inside g t) (or_left (inside k t) (inside g t) i))))
       (all_states d P g rest h.2 (λ t i. p t (or_right (nat_eq t s) (inside k t || inside g t) (or_right (inside k t) (inside g t) i)))),
 )
+all_states d P _ _ h p = absurd h
 
 pub inside_state : (w : World) (q : Group) (n : ℕ) (g : Group) → FineGroup w q n g → (t : ℕ) → inside g t ≡ true → IsState w t
 inside_state w q n no_node f t h = absurd (true_is_not_false (sym h))
@@ -56,8 +55,6 @@ module _ (d : Setting) (names : LawfulStates d) where
   outside_among : (q : Group) (n : ℕ) (g : Group) (f : Forest) → FineGroup d.world q n g → Shaped d g f → (t : ℕ) → nat_lt t (root d.world) ≡ true → inside g t ≡ false
       → is_among (d.state_name t) (state_names f) ≡ false
   outside_among q n no_node none f h t l i = refl
-  outside_among q n no_node (state x b kids rest) f h t l i = absurd h
-  outside_among q n (and_node u g) none f h t l i = absurd h
   outside_among q n (and_node (state_node s c k) g) (state x b kids rest) f h t l i =
       let e = or_false (nat_eq t s) (inside k t || inside g t) i in
       let j = or_false (inside k t) (inside g t) e.1 in
@@ -70,11 +67,10 @@ module _ (d : Setting) (names : LawfulStates d) where
       or_false : (a b : Bool) → (a || b) ≡ false → (a ≡ false) × (b ≡ false)
       or_false true b h = absurd (true_is_not_false h)
       or_false false b h = (refl, h)
+  outside_among q n _ _ f h t l i = absurd h
 
   pub states_once : (q : Group) (n : ℕ) (g : Group) (f : Forest) → FineGroup d.world q n g → Shaped d g f → AreDistinct (state_names f)
   states_once q n no_node none f h = tt
-  states_once q n no_node (state x b kids rest) f h = absurd h
-  states_once q n (and_node u g) none f h = absurd h
   states_once q n (and_node (state_node s c k) g) (state x b kids rest) f h =
       let me = node_state d.world q n s c k f.0.0 in
       let node = f.0.0 in
@@ -92,6 +88,7 @@ module _ (d : Setting) (names : LawfulStates d) where
     where
       clash : (a b : ℕ) → a < b → a ≡ b → ⊥
       clash a b l e = omega (arith, l, e)
+  states_once q n _ _ f h = absurd h
 
 -- all names of a program
 
@@ -131,21 +128,13 @@ module _ (d : Named) (names : NamesApart d) where
   key_is_name (inner_key k) = rw (numeral_inner k) refl
 
   pub key_no_help : (a : Key) → is_helping (key_name d a) ≡ false
-  key_no_help (value_key x) = refl
-  key_no_help (tag_key x) = refl
-  key_no_help (seat_key p) = refl
-  key_no_help (refused_key k) = refl
-  key_no_help (level_key k) = refl
   key_no_help (wire_key k) = no_help 104 (numeral k) refl
   key_no_help (first_key k) = no_help 98 (numeral k) refl
   key_no_help (inner_key k) = no_help 117 (numeral k) refl
+  key_no_help _ = refl
 
   pub key_no_gate : (a : Key) → is_gate (key_name d a) ≡ false
-  key_no_gate (value_key x) = refl
-  key_no_gate (tag_key x) = refl
-  key_no_gate (seat_key p) = refl
-  key_no_gate (refused_key k) = refl
-  key_no_gate (level_key k) = refl
   key_no_gate (wire_key k) = no_gate 104 (numeral k) refl
   key_no_gate (first_key k) = no_gate 98 (numeral k) refl
   key_no_gate (inner_key k) = no_gate 117 (numeral k) refl
+  key_no_gate _ = refl

@@ -204,9 +204,8 @@ module _ (d : Setting) (apart : (a b : Key) → bytes_eq (d.name a) (d.name b) �
         all_more P Q more (b ∷ bs) h = (λ g. written_more P Q more _ (h.0 g), all_more P Q more bs h.1)
 
         take_write : (P : ℕ → Bool) (n : ℕ) (bs : List Body) → AllWrite P bs → AllWrite P (take n bs)
-        take_write P zero bs h = tt
-        take_write P (suc n) [] h = tt
         take_write P (suc n) (b ∷ bs) h = (h.0, take_write P n bs h.1)
+        take_write P _ _ h = tt
 
         drop_write : (P : ℕ → Bool) (n : ℕ) (bs : List Body) → AllWrite P bs → AllWrite P (drop n bs)
         drop_write P zero bs h = h

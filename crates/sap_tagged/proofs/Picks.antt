@@ -94,8 +94,7 @@ module _ (d : Setting) (widths : Name → ℕ) (laws : Lawful d widths) (f : Goi
 
   either : (a b : Bool) (i y : ℕ) → (if b then i else (if a then i else y)) ≡ (if a || b then i else y)
   either true true i y = refl
-  either true false i y = refl
-  either false b i y = refl
+  either _ _ i y = refl
 
   arm_picked : (u n w j i v : ℕ) (cs : List ℕ) (rest : Body) (g : Going) (s : Store) → n < j → at d g (wire_key n) ≡ v → Stands d g s
       → (g' : Going) × (body_does widths f go (picks_arm d u n w j i cs rest) g ≡ body_does widths f go rest g')

@@ -52,10 +52,8 @@ find_by f of (y ∷ ys) x d (inr h) =
 -- kinds
 
 plain_kind : (k : Kind) → (kind_is_input k || (kind_is_register k || kind_is_memory k)) ≡ true → kind_is_state k ≡ false
-plain_kind program.input h = refl
-plain_kind program.register h = refl
-plain_kind (program.memory depth) h = refl
 plain_kind (program.state place last) h = absurd (true_is_not_false (sym h))
+plain_kind _ h = refl
 
 module _ (d : Named) (tag sites : ℕ) (design : Design d tag sites) (fit : Fitting d tag) where
   abbrev w : World

@@ -60,13 +60,11 @@ module _ (d : Setting) (widths : Name → ℕ) (laws : Lawful d widths) (g : Goi
         (lubs (tag_of d i) (cell (d.name (tag_key m)) (expr d i)) _ _ (tag_value d widths laws g s stands i f.1)
         (mark d widths laws g s stands m i f.0 f.1 t))
   ]
-  guard_value q sp (retag site x n) placed f = refl
-  guard_value q sp (retag_cell site m j n) placed f = refl
-  guard_value q sp (go_to site target) placed f = refl
   guard_value q sp (fall_to_child site hang) placed f =
       let some : 0 < children d.world sp.state = rw placed.seated f in
       child_tag_value d widths laws g s stands (seat_bits d sp.state) (seat_of d sp.state) sp.children (child sp.state s) 0 (has_child q sp placed some)
       (seat_value d widths laws g s stands sp.state some) placed.kids
+  guard_value q sp _ placed f = refl
 
   pub test_value : (q : Group) (sp : Home) (k : Step) (pc : Term Name) (l : ℕ) → Placed d.world q sp → FineStep d.world q sp.children k → value_in widths g pc ≡ d.code l
       → value_in widths g (test_of d sp pc k) ≡ bit (test d.world sp k l s)
@@ -122,19 +120,15 @@ module _ (d : Setting) (widths : Name → ℕ) (laws : Lawful d widths) (g : Goi
       (lubs (tag_of d i) (tag_of d e) _ _ (tag_value d widths laws g s stands i f.1) (tag_value d widths laws g s stands e f.2))
   written_value q sp (retag site x n) pc l f h = new_value d widths laws g s stands n f.2
   written_value q sp (retag_cell site m j n) pc l f h = new_value d widths laws g s stands n f.3
-  written_value q sp (go_to site target) pc l f h = h
-  written_value q sp (fall_to_child site hang) pc l f h = h
+  written_value q sp _ pc l f h = h
 
   pub stays_value : (q : Group) (sp : Home) (k : Step) → FineStep d.world q sp.children k → value_in widths g (stays d k) ≡ bit (number_stays d.world k s)
-  stays_value q sp (assign site x e) f = refl
-  stays_value q sp (write site m i e) f = refl
   stays_value q sp (retag site x n) f =
       below_value d widths laws g (var d (tag_key x)) (new_tag d n) _ _ (retagged x f.0 f.1) (new_value d widths laws g s stands n f.2)
   stays_value q sp (retag_cell site m j n) f =
       below_value d widths laws g (cell (d.name (tag_key m)) (expr d j)) (new_tag d n) _ _ (mark d widths laws g s stands m j f.0 f.2 f.1)
       (new_value d widths laws g s stands n f.3)
-  stays_value q sp (go_to site target) f = refl
-  stays_value q sp (fall_to_child site hang) f = refl
+  stays_value q sp _ f = refl
 
 -- where a step is no check site its test holds
 
@@ -146,8 +140,7 @@ all_open w (and_node (state_node c b k) g) (suc n) l s h = all_open w g n l s ((
 pub always_holds : (w : World) (sp : Home) (k : Step) (l : ℕ) (s : Store) → always w sp k ≡ true → test w sp k l s ≡ true
 always_holds w sp (assign site x e) l s h = rw h refl
 always_holds w sp (write site m i e) l s h = rw h refl
-always_holds w sp (retag site x n) l s h = absurd (true_is_not_false (sym h))
-always_holds w sp (retag_cell site m j n) l s h = absurd (true_is_not_false (sym h))
 always_holds w sp (go_to site target) l s h =
     let a = and_parts (is_dynamic w target) (is_dynamic w sp.state) h in rw (a.0, a.1) refl
 always_holds w sp (fall_to_child site hang) l s h = all_open w sp.children (child sp.state s) l s h
+always_holds w sp _ l s h = absurd (true_is_not_false (sym h))

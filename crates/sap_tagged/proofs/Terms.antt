@@ -13,9 +13,7 @@ bit b = if b then 1 else 0
 
 pub both_bits : (a b : Bool) → bit_and (bit a) (bit b) ≡ bit (a && b)
 both_bits true true = refl
-both_bits true false = refl
-both_bits false true = refl
-both_bits false false = refl
+both_bits _ _ = refl
 
 -- each state of a group has a tag
 abbrev pub AllTagged : World → Group → Type 0
@@ -23,14 +21,13 @@ AllTagged w g = (c : ℕ) → among g c ≡ true → has_tag w c ≡ true × (is
 
 module _ (d : Setting) (widths : Name → ℕ) (laws : Lawful d widths) where
   expr_width : (e : Term ℕ) → FineTerm d.world e → term_width widths (expr d e) ≡ width_of d.world e
-  expr_width (constant u n) f = refl
   expr_width (read x) f = laws.values x f
   expr_width (cell m i) f = laws.cells m f.0
   expr_width (one op a) f = ap (width1 op) (expr_width a f)
   expr_width (two op a b) f = ap (width2 op) (expr_width a f.0)
   expr_width (choose c a b) f = expr_width a f.1
   expr_width (join a b) f = ap₂ (λ (m n : ℕ). m + n) (expr_width a f.0) (expr_width b f.1)
-  expr_width (part a hi lo) f = refl
+  expr_width _ f = refl
 
   module _ (g : Going) (s : Store) (reads : (x : ℕ) → is_value d.world x ≡ true → at d g (value_key x) ≡ number (own x) s)
       (starts : (m i : ℕ) → is_memory d.world m ≡ true → g.now.cell (d.name (value_key m)) i ≡ number (start m i) s) where

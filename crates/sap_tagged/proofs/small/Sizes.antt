@@ -29,9 +29,6 @@ widened_size from width t = elim (cases_Bool (eqb from width)) [ inl h ↦ rw h 
 
 mutual
   term_within : (es : List Entity) (e : Expression) (asked : Option ℕ) → term_size (term_of es e asked) ≤ expression_nodes e
-  term_within es (literal spot n) asked = omega arith
-  term_within es (sized_literal spot w n) asked = omega arith
-  term_within es (variable spot name) asked = omega arith
   term_within es (cell_at spot name index) asked = let r = term_within es index (index_width (what_is es name)) in omega (arith, r)
   term_within es (unary_of spot o e) asked =
       let r = term_within es e (asked_one o (width_of (what_is es) (unary_of spot o e) asked)) in omega (arith, r)
@@ -52,6 +49,7 @@ mutual
       let r = term_within es e None in
       let s = widened_size (known (own (what_is es) e)) width (term_of es e None) in
       omega (arith, r, s)
+  term_within es _ asked = omega arith
 
   parts_within : (es : List Entity) (parts : Expressions) → term_size (parts_of es parts) ≤ 1 + part_nodes parts
   parts_within es no_part = omega arith
@@ -89,20 +87,11 @@ step_within ls h n (set_cell_tag place target index tag) =
     let r = term_within h.entities index (index_width (what_is h.entities target.name)) in
     let s = level_within ls h.entities tag in
     omega (arith, r, s)
-step_within ls h n (tree.go_to place target) = omega arith
-step_within ls h n (tree.fall_to_child place) = omega arith
+step_within ls h n _ = omega arith
 
 some_node : (e : Expression) → 1 ≤ expression_nodes e
 some_node (literal spot n) = omega arith
-some_node (sized_literal spot w n) = omega arith
-some_node (variable spot name) = omega arith
-some_node (cell_at spot name index) = omega arith
-some_node (unary_of spot o e) = omega arith
-some_node (binary_of spot o a b) = omega arith
-some_node (choice spot c a b) = omega arith
-some_node (slice spot e high low) = omega arith
-some_node (concat spot parts) = omega arith
-some_node (zero_extend spot e width) = omega arith
+some_node _ = omega arith
 
 constants_within : (constants : Expressions) → length (numbers_of constants) ≤ part_nodes constants
 constants_within no_part = omega arith
@@ -262,11 +251,7 @@ mutual
 
 step_filled : (w : World) (at : Home) (s : Step) → step_size (filled_step w at s) ≡ step_size s
 step_filled w at (assign site x e) = refl
-step_filled w at (program.write site m i e) = refl
-step_filled w at (retag site x n) = refl
-step_filled w at (retag_cell site m j n) = refl
-step_filled w at (go_to site target) = refl
-step_filled w at (fall_to_child site hang) = refl
+step_filled w at _ = refl
 
 constants_filled : (w : World) (at : Home) (arms : Arms) → constant_count (filled_arms w at arms) ≡ constant_count arms
 constants_filled w at (last_arm b) = refl

@@ -23,9 +23,8 @@ total group [] = 0
 total group (b ∷ bs) = body_weight group b + total group bs
 
 total_split : (group : Forest) (n : ℕ) (bs : List Body) → total group (take n bs) + total group (drop n bs) ≡ total group bs
-total_split group zero bs = omega arith
-total_split group (suc n) [] = omega arith
 total_split group (suc n) (b ∷ bs) = let r = total_split group n bs in omega (arith, r)
+total_split group _ _ = omega arith
 
 module _ (d : Setting) (room : ℕ) (r : Roomy d room) where
   module _ (at : Home) (few : states_below at.children ≤ root d.world) (group : Forest) (small : states_in group ≤ root d.world) where

@@ -23,8 +23,6 @@ module _ (d : Setting) where
   -- an expression
 
   expr_short : (e : Term ℕ) → length (operations_in (expr d e)) + 1 ≤ term_size e
-  expr_short (constant u n) = omega arith
-  expr_short (read x) = omega arith
   expr_short (cell m i) = let r = expr_short i in omega (arith, r)
   expr_short (one o a) = let r = expr_short a in omega (arith, r)
   expr_short (two o a b) =
@@ -45,6 +43,7 @@ module _ (d : Setting) where
       let n = length-append (operations_in (expr d a)) (operations_in (expr d b)) in
       omega (arith, r, s, n)
   expr_short (part a hi lo) = let r = expr_short a in omega (arith, r)
+  expr_short _ = omega arith
 
   pub expr_weighs : (e : Term ℕ) → operations (expr d e) + 1 ≤ term_size e
   expr_weighs e =
@@ -65,8 +64,6 @@ module _ (d : Setting) where
 
   tags_short : (e : Term ℕ) → length (tag_list e) + 2 ≤ 2 * term_size e
   unfolding tag_list
-  tags_short (constant u n) = omega arith
-  tags_short (read x) = omega arith
   tags_short (cell m i) = let r = tags_short i in omega (arith, r)
   tags_short (one o a) = let r = tags_short a in omega (arith, r)
   tags_short (two o a b) =
@@ -87,6 +84,7 @@ module _ (d : Setting) where
       let n = length-append (tag_list a) (tag_list b) in
       omega (arith, r, s, n)
   tags_short (part a hi lo) = let r = tags_short a in omega (arith, r)
+  tags_short _ = omega arith
 
   cell_covered : (xs : List (Term Name)) (m : ℕ) (i : Term ℕ) → has xs (cell_tag d m i) ≡ true → Covers xs (expr d i) → Covers xs (cell_tag d m i)
   cell_covered xs m i h k =
@@ -219,13 +217,12 @@ module _ (d : Setting) where
   -- the current child
 
   pub child_tag_weighs : (u : ℕ) (seat : Name) (g : Group) (i : ℕ) → operations (child_tag d u (read seat) g i) ≤ 2 * states_below g
-  child_tag_weighs u seat no_node i = omega arith
-  child_tag_weighs u seat (and_node (state_node c b k) no_node) i = omega arith
   child_tag_weighs u seat (and_node (state_node c b k) (and_node t g)) i =
       let r = child_tag_weighs u seat (and_node t g) (i + 1) in
       let p = two_weighs Eq (read seat) (constant u i) in
       let q = choose_weighs (two Eq (read seat) (constant u i)) (var d (tag_key c)) (child_tag d u (read seat) (and_node t g) (i + 1)) in
       omega (arith, r, p, q)
+  child_tag_weighs u seat _ i = omega arith
 
   pub enters_weighs : (pc : Name) (c : ℕ) → operations (enters d (read pc) c) ≤ 2
   enters_weighs pc c =
