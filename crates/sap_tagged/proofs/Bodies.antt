@@ -17,6 +17,7 @@ use Rattle.sap_tagged.proofs.Bools.{tagged_within, register_within, value_no_mem
 use Rattle.sap_tagged.proofs.StepTerms.{Placed}
 use Rattle.sap_tagged.proofs.Ends.{Among}
 use Rattle.sap_tagged.proofs.Conditions.{StepConditions, CommandConditions, ArmsConditions, BlockConditions}
+use Rattle.sap_tagged.proofs.Parts.{all_taken, all_dropped}
 use Rattle.sap_tagged.proofs.Fits.{Declares, Fine, number_fine, level_fine, lub_fine, bits_fine, yes_fine, guard_fine, test_fine, written_fine, stays_fine}
 
 -- what can be assigned, and is no register of a current child
@@ -320,20 +321,7 @@ module _ (d : Setting) (s : Source) (h : Declares d s) (fixed group : List Name)
 
     -- the block that has it
 
-    abbrev AllGood : List Body → Type 0
-    AllGood [] = Unit {0}
-    AllGood (b ∷ bs) = Good b × AllGood bs
-
-    take_good : (n : ℕ) (bs : List Body) → AllGood bs → AllGood (take n bs)
-    take_good (suc n) (b ∷ bs) g = (g.0, take_good n bs g.1)
-    take_good _ _ g = tt
-
-    drop_good : (n : ℕ) (bs : List Body) → AllGood bs → AllGood (drop n bs)
-    drop_good zero bs g = g
-    drop_good (suc n) [] g = tt
-    drop_good (suc n) (b ∷ bs) g = drop_good n bs g.1
-
-    decides_fine : (j bits m : ℕ) (bs : List Body) → IsWidth bits → IsWire d s j bits → m ≤ bits → AllGood bs → Good (decides d j m bs)
+    decides_fine : (j bits m : ℕ) (bs : List Body) → IsWidth bits → IsWire d s j bits → m ≤ bits → AllByRecursion Good bs → Good (decides d j m bs)
     decides_fine j bits zero [] wide wj l g = tt
     decides_fine j bits zero (b ∷ bs) wide wj l g = g.0
     decides_fine j bits (suc m) bs wide wj l g = elim (cases_Bool (nat_le (length bs) (2 ^ m))) [
@@ -341,8 +329,8 @@ module _ (d : Setting) (s : Source) (h : Declares d s) (fixed group : List Name)
       | inr t ↦
           rw t (
             (bits, wide, wj.0, omega arith, omega (arith, l), omega arith),
-            decides_fine j bits m (drop (2 ^ m) bs) wide wj (omega (arith, l)) (drop_good (2 ^ m) bs g),
-            decides_fine j bits m (take (2 ^ m) bs) wide wj (omega (arith, l)) (take_good (2 ^ m) bs g),
+            decides_fine j bits m (drop (2 ^ m) bs) wide wj (omega (arith, l)) (all_dropped Good (2 ^ m) bs g),
+            decides_fine j bits m (take (2 ^ m) bs) wide wj (omega (arith, l)) (all_taken Good (2 ^ m) bs g),
             tt,
           )
     ]
@@ -351,7 +339,7 @@ module _ (d : Setting) (s : Source) (h : Declares d s) (fixed group : List Name)
         → IsWire d s (k + 2) (width_of d.world e) → IsWire d s (k + 3) (pick_width arms) → Hangs d.world hangs
         → Fine d s h d.tag (tag_of d e) → Fine d s h (width_of d.world e) (expr d e)
         → IsWidth (width_of d.world e) → arm_count arms ≤ most_arms
-        → AllByRecursion (AreWithin (width_of d.world e)) (arm_constants arms) → AllGood blocks → Good (pick_of d p k e hangs arms blocks)
+        → AllByRecursion (AreWithin (width_of d.world e)) (arm_constants arms) → AllByRecursion Good blocks → Good (pick_of d p k e hangs arms blocks)
     unfolding pick_of
     pick_fine p k e hangs arms blocks pc a b n j hs level number wide few z g =
         let w = pick_width arms in
@@ -402,7 +390,7 @@ module _ (d : Setting) (s : Source) (h : Declares d s) (fixed group : List Name)
 
       arms_fine : (p k : ℕ) (arms : Arms) → IsWire d s p d.tag → ArmsWires d s k arms → ArmsHang d.world sp arms → AllSites (sites.arms_sites d.world sp.state sp.children arms)
           → EveryInArms (FineCommand d.world q sp.children) arms → EveryInArms (SizedCommand d.world) arms → RangedArms d.world arms → ArmsConditions d.world arms
-          → FewArms arms → AllGood (arms_plain d sp p k arms)
+          → FewArms arms → AllByRecursion Good (arms_plain d sp p k arms)
       arms_fine p k (last_arm b) pc ws hs site f z r c few = (block_fine p k b pc ws hs site f z r c few, tt)
       arms_fine p k (and_arm constants b arms) pc ws hs site f z r c few =
           let first = sites.block_sites d.world sp.state sp.children b in

@@ -12,7 +12,7 @@ use Rattle.sap_names.specs.declared.kind.Use.TheVariants as uses
 use Rattle.sap_names.specs.Widths as widths
 use Rattle.sap_maps.specs.Term.{Term, constant, read, cell, one, two, choose, join, part}
 use Rattle.sap_meaning.specs.Program as program
-use Rattle.sap_meaning.specs.Prelude.{World, LevelTerm, Step, assign, write, retag, retag_cell, go_to, fall_to_child, Block, State, state_node, Group, Every, EveryInArms, EveryInBlock, Asks, EveryBody, EveryBodyIn, Home}
+use Rattle.sap_meaning.specs.Prelude.{World, LevelTerm, Step, assign, write, retag, retag_cell, go_to, fall_to_child, Block, State, Group, Every, EveryInArms, EveryInBlock, Asks, EveryBody, EveryBodyIn, Home}
 use Rattle.sap_meaning.specs.Walks.{EveryLevel}
 use Rattle.sap_meaning.specs.Expressions as meaning
 use Rattle.sap_lattice.specs.Levels.{Levels}

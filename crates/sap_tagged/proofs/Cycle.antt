@@ -20,7 +20,7 @@ use Rattle.sap_interface.specs.Prelude.{Named, name, world, depth, StandsFor, co
 use Rattle.sap_tagged.specs.Prelude.{value_key, tag_key, seat_key, refused_key, level_key, key_name, numeral, Setting, setting_of, top_plain, variable, level_at_start, value_var, tag_var, seat_var, all_entities, shown_registers, has_own_tag, tag_registers, seat_registers, site_wires, memory_of, tags_of, plain_of, Lawful, at, has_tag, tag_slot, refused_after, AllNumbersFit, RunStands}
 use Rattle.sap_tagged.proofs.Bools.{value_within, register_within, memory_within, tagged_within}
 use Rattle.sap_tagged.proofs.KeyNames.{names_apart}
-use Rattle.sap_tagged.proofs.Members.{In, among_in, find_in, number_in, number_out, start_out, in_front, in_behind, in_entities, reached, among_store, cell_in, find_store}
+use Rattle.sap_tagged.proofs.Members.{In, among_by, find_by, among_in, number_in, number_out, start_out, in_front, in_behind, in_entities, reached, cell_in}
 use Rattle.sap_tagged.proofs.Inputs.{From, GivenAt, given_at, numbers_fit}
 use Rattle.sap_tagged.proofs.Groups.{LawfulStates, goes_run}
 use Rattle.sap_tagged.proofs.Falls.{Loose, Cycles, shaped_top, top_runs}
@@ -159,7 +159,7 @@ module _ (d : Named) (tag sites : ℕ) (design : Design d tag sites) where
   pub inputs_once : AreDistinct input_names
   inputs_once = distinct_front input_names (register_names ++ (wire_names ++ store_names)) design.distinct
 
-  behind_registers : AreDistinct (wire_names ++ store_names)
+  pub behind_registers : AreDistinct (wire_names ++ store_names)
   behind_registers = distinct_behind register_names (wire_names ++ store_names) behind_inputs
 
   pub wires_once : AreDistinct wire_names
@@ -180,7 +180,7 @@ module _ (d : Named) (tag sites : ℕ) (design : Design d tag sites) where
       let wires = map (λ (v : Var). (v.name, v.width)) src.wires in
       readable_width src (key_name d (value_key x)) (width w x)
       (found_first (inputs ++ registers) wires (key_name d (value_key x)) (width w x)
-      (found_first inputs registers (key_name d (value_key x)) (width w x) (find_in src.inputs (value_var d x 0) inputs_once (in_input x i l))))
+      (found_first inputs registers (key_name d (value_key x)) (width w x) (find_by (λ (v : Var). v.name) (λ v. v.width) src.inputs (value_var d x 0) inputs_once (in_input x i l))))
 
   not_input_name : (v : Var) → In src.registers v → is_among v.name input_names ≡ false
   not_input_name v i =
@@ -194,14 +194,14 @@ module _ (d : Named) (tag sites : ℕ) (design : Design d tag sites) where
       let wires = map (λ (v : Var). (v.name, v.width)) src.wires in
       readable_width src v.name v.width
       (found_first (inputs ++ registers) wires v.name v.width
-      (found_second inputs registers v.name (not_found (λ (v : Var). v.name) (λ v. v.width) src.inputs v.name (not_input_name v i)) ∙ find_in src.registers v registers_once i))
+      (found_second inputs registers v.name (not_found (λ (v : Var). v.name) (λ v. v.width) src.inputs v.name (not_input_name v i)) ∙ find_by (λ (v : Var). v.name) (λ v. v.width) src.registers v registers_once i))
 
   memory_width : (m : ℕ) → is_memory w m ≡ true → widths (key_name d (value_key m)) ≡ width w m
   memory_width m h =
       ap (λ (o : Option ℕ). unwrap_or o 0)
       (found_second (readable src) (map (λ (s : stores.MemoryVariable). (s.name, s.width)) src.memories) (key_name d (value_key m))
-      (not_readable src design.distinct (key_name d (value_key m)) (among_store src.memories (memory_of d m) (in_memory m h)))
-      ∙ find_store (λ (z : stores.MemoryVariable). z.width) src.memories (memory_of d m) stores_once (in_memory m h))
+      (not_readable src design.distinct (key_name d (value_key m)) (among_by (λ (z : stores.MemoryVariable). z.name) src.memories (memory_of d m) (in_memory m h)))
+      ∙ find_by (λ (z : stores.MemoryVariable). z.name) (λ (z : stores.MemoryVariable). z.width) src.memories (memory_of d m) stores_once (in_memory m h))
 
   pub lawful : Lawful set widths
   lawful = record {

@@ -1,5 +1,5 @@
 -- No name is declared twice.
-use Rattle.sap_lemmas.proofs.Common.{◌≡◌, ℕ, zero, suc, ◌+◌, ◌≤◌, List, [], ◌∷◌, ◌++◌, map, length, Bool, true, false, refl, sym, ap, ap₂, ◌∙◌, subst, if◌then◌else◌, arith, nat_lt, nat_eq, append_assoc, eqb-true, eq-eqb, false_from_ne_true, true_is_not_false, map-append}
+use Rattle.sap_lemmas.proofs.Common.{◌≡◌, ℕ, zero, suc, ◌+◌, ◌≤◌, List, [], ◌∷◌, ◌++◌, map, length, Bool, true, false, refl, sym, ap, ap₂, ◌∙◌, subst, if◌then◌else◌, arith, nat_lt, nat_eq, append_assoc, eqb-true, eq-eqb, false_from_ne_true, true_is_not_false, map-append, AllByRecursion, all_append, all_follow}
 use Rattle.sap_maps.specs.Maps.{Name}
 use Rattle.sap_meaning.specs.Program as program
 use Rattle.sap_meaning.specs.Program.{World, Kind, Entity, entity, root, children, is_input, is_register, is_memory, is_dynamic, kind_is_input, kind_is_register, kind_is_memory, kind_is_state, Command, lone, try, if_else, try_then, case_of, Arms, last_arm, and_arm, Block, end_block, command_then, State, state_node, Group, no_node, and_node}
@@ -13,42 +13,30 @@ use Rattle.sap_tagged.proofs.KeyNames.{NamesApart, names_apart, same_is}
 
 -- lists of keys
 
-abbrev pub Every : {A : Type 0} → (A → Type 0) → List A → Type 0
-Every P [] = Unit {0}
-Every P (a ∷ ks) = P a × Every P ks
-
-pub every_join : {A : Type 0} (P : A → Type 0) (xs ys : List A) → Every P xs → Every P ys → Every P (xs ++ ys)
-every_join P [] ys h k = k
-every_join P (x ∷ xs) ys h k = (h.0, every_join P xs ys h.1 k)
-
-pub every_map : {A : Type 0} (P Q : A → Type 0) (xs : List A) → ((a : A) → P a → Q a) → Every P xs → Every Q xs
-every_map P Q [] f h = tt
-every_map P Q (x ∷ xs) f h = (f x h.0, every_map P Q xs f h.1)
-
 abbrev pub Other : Key → Key → Type 0
 Other a b = same a b ≡ false
 
 abbrev pub OnceEach : List Key → Type 0
 OnceEach [] = Unit {0}
-OnceEach (a ∷ ks) = Every (Other a) ks × OnceEach ks
+OnceEach (a ∷ ks) = AllByRecursion (Other a) ks × OnceEach ks
 
-pub once_join : (xs ys : List Key) → OnceEach xs → OnceEach ys → Every (λ a. Every (Other a) ys) xs → OnceEach (xs ++ ys)
+pub once_join : (xs ys : List Key) → OnceEach xs → OnceEach ys → AllByRecursion (λ a. AllByRecursion (Other a) ys) xs → OnceEach (xs ++ ys)
 once_join [] ys h k f = k
-once_join (a ∷ xs) ys h k f = (every_join (Other a) xs ys h.0 f.0, once_join xs ys h.1 k f.1)
+once_join (a ∷ xs) ys h k f = (all_append (Other a) xs ys h.0 f.0, once_join xs ys h.1 k f.1)
 
 other_by : (a b : Key) (f : Key → ℕ) → (f a ≡ f b → ⊥) → Other a b
 other_by a b f n = false_from_ne_true (same a b) (λ e. n (ap f (same_is a b e)))
 
 -- two lists apart by a number of each key
-pub lists_apart : (f : Key → ℕ) (c : ℕ) (xs ys : List Key) → Every (λ a. f a ≡ c) xs → Every (λ b. suc c ≤ f b) ys → Every (λ a. Every (Other a) ys) xs
+pub lists_apart : (f : Key → ℕ) (c : ℕ) (xs ys : List Key) → AllByRecursion (λ a. f a ≡ c) xs → AllByRecursion (λ b. suc c ≤ f b) ys → AllByRecursion (λ a. AllByRecursion (Other a) ys) xs
 lists_apart f c xs ys h k =
-    every_map (λ a. f a ≡ c) (λ a. Every (Other a) ys) xs (λ a e. every_map (λ b. suc c ≤ f b) (Other a) ys (λ b l. other_by a b f (λ i. clash (f a) (f b) e l i)) k) h
+    all_follow (λ a. f a ≡ c) (λ a. AllByRecursion (Other a) ys) xs (λ a e. all_follow (λ b. suc c ≤ f b) (Other a) ys (λ b l. other_by a b f (λ i. clash (f a) (f b) e l i)) k) h
   where
     clash : (m n : ℕ) → m ≡ c → suc c ≤ n → m ≡ n → ⊥
     clash m n e l i = omega (arith, e, l, i)
 
 module _ (d : Named) (names : NamesApart d) where
-  not_among : (a : Key) (ks : List Key) → Every (Other a) ks → is_among (key_name d a) (map (key_name d) ks) ≡ false
+  not_among : (a : Key) (ks : List Key) → AllByRecursion (Other a) ks → is_among (key_name d a) (map (key_name d) ks) ≡ false
   not_among a [] h = refl
   not_among a (b ∷ ks) h = rw (names_apart d names a b ∙ h.0, not_among a ks h.1) refl
 
@@ -64,20 +52,20 @@ IndexIs x a = index a ≡ x
 abbrev IndexFrom : ℕ → Key → Type 0
 IndexFrom x a = x ≤ index a
 
-if_every : (P : Key → Type 0) (b : Bool) (ks : List Key) → (b ≡ true → Every P ks) → Every P (if b then ks else [])
-if_every P true ks f = f refl
-if_every P false ks f = tt
+pub if_every : {A : Type 0} (P : A → Type 0) (b : Bool) (xs : List A) → (b ≡ true → AllByRecursion P xs) → AllByRecursion P (if b then xs else [])
+if_every P true xs f = f refl
+if_every P false xs f = tt
 
 if_once : (b : Bool) (ks : List Key) → OnceEach ks → OnceEach (if b then ks else [])
 if_once true ks h = h
 if_once false ks h = tt
 
-entities_from : (picks : ℕ → Bool) (of : ℕ → List Key) → ((x : ℕ) → Every (IndexIs x) (of x)) → (x : ℕ) (es : List Entity) → Every (IndexFrom x) (for_entities picks of x es)
+entities_from : (picks : ℕ → Bool) (of : ℕ → List Key) → ((x : ℕ) → AllByRecursion (IndexIs x) (of x)) → (x : ℕ) (es : List Entity) → AllByRecursion (IndexFrom x) (for_entities picks of x es)
 entities_from picks of f x [] = tt
 entities_from picks of f x (e ∷ es) =
-    every_join (IndexFrom x) (if picks x then of x else []) (for_entities picks of (x + 1) es)
-    (if_every (IndexFrom x) (picks x) (of x) (λ t. every_map (IndexIs x) (IndexFrom x) (of x) (λ a i. at_least (index a) i) (f x)))
-    (every_map (IndexFrom (x + 1)) (IndexFrom x) (for_entities picks of (x + 1) es) (λ a l. less (index a) l) (entities_from picks of f (x + 1) es))
+    all_append (IndexFrom x) (if picks x then of x else []) (for_entities picks of (x + 1) es)
+    (if_every (IndexFrom x) (picks x) (of x) (λ t. all_follow (IndexIs x) (IndexFrom x) (of x) (λ a i. at_least (index a) i) (f x)))
+    (all_follow (IndexFrom (x + 1)) (IndexFrom x) (for_entities picks of (x + 1) es) (λ a l. less (index a) l) (entities_from picks of f (x + 1) es))
   where
     at_least : (n : ℕ) → n ≡ x → x ≤ n
     at_least n e = omega (arith, e)
@@ -85,26 +73,22 @@ entities_from picks of f x (e ∷ es) =
     less : (n : ℕ) → x + 1 ≤ n → x ≤ n
     less n l = omega (arith, l)
 
-pub entities_once : (picks : ℕ → Bool) (of : ℕ → List Key) → ((x : ℕ) → Every (IndexIs x) (of x)) → ((x : ℕ) → OnceEach (of x))
+pub entities_once : (picks : ℕ → Bool) (of : ℕ → List Key) → ((x : ℕ) → AllByRecursion (IndexIs x) (of x)) → ((x : ℕ) → OnceEach (of x))
     → (x : ℕ) (es : List Entity) → OnceEach (for_entities picks of x es)
 entities_once picks of f o x [] = tt
 entities_once picks of f o x (e ∷ es) =
     once_join (if picks x then of x else []) (for_entities picks of (x + 1) es) (if_once (picks x) (of x) (o x)) (entities_once picks of f o (x + 1) es)
     (lists_apart index x (if picks x then of x else []) (for_entities picks of (x + 1) es) (if_every (IndexIs x) (picks x) (of x) (λ t. f x))
-    (every_map (IndexFrom (x + 1)) (λ b. suc x ≤ index b) (for_entities picks of (x + 1) es) (λ a l. later (index a) l) (entities_from picks of f (x + 1) es)))
+    (all_follow (IndexFrom (x + 1)) (λ b. suc x ≤ index b) (for_entities picks of (x + 1) es) (λ a l. later (index a) l) (entities_from picks of f (x + 1) es)))
   where
     later : (n : ℕ) → x + 1 ≤ n → suc x ≤ n
     later n l = omega (arith, l)
 
-pub entities_all : {A : Type 0} (P : A → Type 0) (picks : ℕ → Bool) (of : ℕ → List A) → ((x : ℕ) → picks x ≡ true → Every P (of x))
-    → (x : ℕ) (es : List Entity) → Every P (for_entities picks of x es)
+pub entities_all : {A : Type 0} (P : A → Type 0) (picks : ℕ → Bool) (of : ℕ → List A) → ((x : ℕ) → picks x ≡ true → AllByRecursion P (of x))
+    → (x : ℕ) (es : List Entity) → AllByRecursion P (for_entities picks of x es)
 entities_all P picks of f x [] = tt
 entities_all P picks of f x (e ∷ es) =
-    every_join P (if picks x then of x else []) (for_entities picks of (x + 1) es) (by (picks x) (f x)) (entities_all P picks of f (x + 1) es)
-  where
-    by : (b : Bool) → (b ≡ true → Every P (of x)) → Every P (if b then of x else [])
-    by true g = g refl
-    by false g = tt
+    all_append P (if picks x then of x else []) (for_entities picks of (x + 1) es) (if_every P (picks x) (of x) (f x)) (entities_all P picks of f (x + 1) es)
 
 pub entities_named : {A : Type 0} (f : A → Name) (d : Named) (picks : ℕ → Bool) (of : ℕ → List A) (keys : ℕ → List Key)
     → ((x : ℕ) → map f (of x) ≡ map (key_name d) (keys x)) → (x : ℕ) (es : List Entity)
@@ -129,22 +113,22 @@ abbrev pub wire_keys : (k n : ℕ) → List Key
 wire_keys k zero = []
 wire_keys k (suc n) = wire_key k ∷ wire_keys (k + 1) n
 
-sites_from : (k n : ℕ) → Every (IndexFrom k) (site_keys k n)
+sites_from : (k n : ℕ) → AllByRecursion (IndexFrom k) (site_keys k n)
 sites_from k zero = tt
-sites_from k (suc n) = (omega arith, (omega arith, every_map (IndexFrom (k + 1)) (IndexFrom k) (site_keys (k + 1) n) (λ a l. less (index a) l) (sites_from (k + 1) n)))
+sites_from k (suc n) = (omega arith, (omega arith, all_follow (IndexFrom (k + 1)) (IndexFrom k) (site_keys (k + 1) n) (λ a l. less (index a) l) (sites_from (k + 1) n)))
   where
     less : (n : ℕ) → k + 1 ≤ n → k ≤ n
     less n l = omega (arith, l)
 
-wires_from : (k n : ℕ) → Every (IndexFrom k) (wire_keys k n)
+wires_from : (k n : ℕ) → AllByRecursion (IndexFrom k) (wire_keys k n)
 wires_from k zero = tt
-wires_from k (suc n) = (omega arith, every_map (IndexFrom (k + 1)) (IndexFrom k) (wire_keys (k + 1) n) (λ a l. less (index a) l) (wires_from (k + 1) n))
+wires_from k (suc n) = (omega arith, all_follow (IndexFrom (k + 1)) (IndexFrom k) (wire_keys (k + 1) n) (λ a l. less (index a) l) (wires_from (k + 1) n))
   where
     less : (n : ℕ) → k + 1 ≤ n → k ≤ n
     less n l = omega (arith, l)
 
-behind : (a : Key) (ks : List Key) → Every (IndexFrom (index a + 1)) ks → Every (Other a) ks
-behind a ks h = every_map (IndexFrom (index a + 1)) (Other a) ks (λ b l. other_by a b index (λ e. clash (index a) (index b) l e)) h
+behind : (a : Key) (ks : List Key) → AllByRecursion (IndexFrom (index a + 1)) ks → AllByRecursion (Other a) ks
+behind a ks h = all_follow (IndexFrom (index a + 1)) (Other a) ks (λ b l. other_by a b index (λ e. clash (index a) (index b) l e)) h
   where
     clash : (m n : ℕ) → m + 1 ≤ n → m ≡ n → ⊥
     clash m n l e = omega (arith, l, e)
@@ -343,14 +327,14 @@ module _ (d : Named) (tag sites : ℕ) (names : NamesApart d) where
   -- keys of one list before those of later ones
   record Ordered (c : ℕ) (ks : List Key) : Type 0 where
     once : OnceEach ks
-    from : Every (λ a. c ≤ list_of a) ks
+    from : AllByRecursion (λ a. c ≤ list_of a) ks
 
-  ordered_join : (c : ℕ) (xs ys : List Key) → OnceEach xs → Every (λ a. list_of a ≡ c) xs → Ordered (suc c) ys → Ordered c (xs ++ ys)
+  ordered_join : (c : ℕ) (xs ys : List Key) → OnceEach xs → AllByRecursion (λ a. list_of a ≡ c) xs → Ordered (suc c) ys → Ordered c (xs ++ ys)
   ordered_join c xs ys o e r = record {
     once = once_join xs ys o r.once (lists_apart list_of c xs ys e r.from);
     from =
-        every_join (λ a. c ≤ list_of a) xs ys (every_map (λ a. list_of a ≡ c) (λ a. c ≤ list_of a) xs (λ a i. here (list_of a) i) e)
-        (every_map (λ a. suc c ≤ list_of a) (λ a. c ≤ list_of a) ys (λ a l. later (list_of a) l) r.from);
+        all_append (λ a. c ≤ list_of a) xs ys (all_follow (λ a. list_of a ≡ c) (λ a. c ≤ list_of a) xs (λ a i. here (list_of a) i) e)
+        (all_follow (λ a. suc c ≤ list_of a) (λ a. c ≤ list_of a) ys (λ a l. later (list_of a) l) r.from);
   }
     where
       here : (n : ℕ) → n ≡ c → c ≤ n
@@ -359,11 +343,11 @@ module _ (d : Named) (tag sites : ℕ) (names : NamesApart d) where
       later : (n : ℕ) → suc c ≤ n → c ≤ n
       later n l = omega (arith, l)
 
-  of_wires : (k n : ℕ) → Every (λ a. list_of a ≡ 8) (wire_keys k n)
+  of_wires : (k n : ℕ) → AllByRecursion (λ a. list_of a ≡ 8) (wire_keys k n)
   of_wires k zero = tt
   of_wires k (suc n) = (refl, of_wires (k + 1) n)
 
-  of_sites : (k n : ℕ) → Every (λ a. list_of a ≡ 5) (site_keys k n)
+  of_sites : (k n : ℕ) → AllByRecursion (λ a. list_of a ≡ 5) (site_keys k n)
   of_sites k zero = tt
   of_sites k (suc n) = (refl, (refl, of_sites (k + 1) n))
 
@@ -374,25 +358,25 @@ module _ (d : Named) (tag sites : ℕ) (names : NamesApart d) where
   store_once m true = (tt, tt)
   store_once m false = ((refl, tt), (tt, tt))
 
-  store_index : (m : ℕ) (b : Bool) → Every (IndexIs m) (value_key m ∷ (if b then [] else tag_key m ∷ []))
+  store_index : (m : ℕ) (b : Bool) → AllByRecursion (IndexIs m) (value_key m ∷ (if b then [] else tag_key m ∷ []))
   store_index m true = (refl, tt)
   store_index m false = (refl, (refl, tt))
 
-  store_list : (m : ℕ) → is_memory (world d) m ≡ true → Every (λ a. list_of a ≡ 9) (store_keys m)
+  store_list : (m : ℕ) → is_memory (world d) m ≡ true → AllByRecursion (λ a. list_of a ≡ 9) (store_keys m)
   store_list m h =
       let r = memory_lists (entity (world d) m).kind (is_dynamic (world d) m) h in
       (r.0, if_other (is_dynamic (world d) m) r.1 refl)
     where
       if_other : (b : Bool) → (is_dynamic (world d) m ≡ false → tag_list (entity (world d) m).kind (is_dynamic (world d) m) ≡ 9)
-          → is_dynamic (world d) m ≡ b → Every (λ a. list_of a ≡ 9) (if b then [] else tag_key m ∷ [])
+          → is_dynamic (world d) m ≡ b → AllByRecursion (λ a. list_of a ≡ 9) (if b then [] else tag_key m ∷ [])
       if_other true f e = tt
       if_other false f e = (f e, tt)
 
   -- seats of entities come before the root's
-  seats_list : (x : ℕ) (es : List Entity) → x + length es ≤ root (world d) → Every (λ a. list_of a ≡ 3) (for_entities (λ p. nat_lt 0 (children (world d) p)) seat_keys x es)
+  seats_list : (x : ℕ) (es : List Entity) → x + length es ≤ root (world d) → AllByRecursion (λ a. list_of a ≡ 3) (for_entities (λ p. nat_lt 0 (children (world d) p)) seat_keys x es)
   seats_list x [] l = tt
   seats_list x (e ∷ es) l =
-      every_join (λ a. list_of a ≡ 3) (if nat_lt 0 (children (world d) x) then seat_keys x else []) (for_entities (λ p. nat_lt 0 (children (world d) p)) seat_keys (x + 1) es)
+      all_append (λ a. list_of a ≡ 3) (if nat_lt 0 (children (world d) x) then seat_keys x else []) (for_entities (λ p. nat_lt 0 (children (world d) p)) seat_keys (x + 1) es)
       (if_every (λ a. list_of a ≡ 3) (nat_lt 0 (children (world d) x)) (seat_keys x) (λ t. (seat_list x (not_root x (length es) (root (world d)) l), tt)))
       (seats_list (x + 1) es (omega (arith, l)))
     where
@@ -408,7 +392,7 @@ module _ (d : Named) (tag sites : ℕ) (names : NamesApart d) where
       let stores : Ordered 9 (of_entities (is_memory (world d)) store_keys) =
       record {
         once = entities_once (is_memory (world d)) store_keys (λ m. store_index m (is_dynamic (world d) m)) (λ m. store_once m (is_dynamic (world d) m)) 0 entities;
-        from = every_map (λ a. list_of a ≡ 9) (λ a. 9 ≤ list_of a) _ (λ a e. nine (list_of a) e)
+        from = all_follow (λ a. list_of a ≡ 9) (λ a. 9 ≤ list_of a) _ (λ a e. nine (list_of a) e)
             (entities_all (λ a. list_of a ≡ 9) (is_memory (world d)) store_keys store_list 0 entities);
       } in
       let ws : Ordered 8 (wire_keys 0 (wires_group d.program.states) ++ of_entities (is_memory (world d)) store_keys) =

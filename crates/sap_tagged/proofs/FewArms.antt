@@ -6,7 +6,7 @@ use Rattle.sap_tree.specs.Syntax as tree
 use Rattle.sap_tree.specs.Whole as whole
 use Rattle.sap_lattice.specs.Levels.{Levels}
 use Rattle.sap_names.specs.declared.entity.Entity.{Entity}
-use Rattle.sap_meaning.specs.Prelude.{World, Command, lone, try, if_else, try_then, case_of, Arms, last_arm, and_arm, Group, Home}
+use Rattle.sap_meaning.specs.Prelude.{World, Command, case_of, Arms, last_arm, and_arm, Group, Home}
 use Rattle.sap_meaning.proofs.WalksLemmas.{constants_mapped}
 use Rattle.sap_resolved.specs.Worlds.{states_in}
 use Rattle.sap_shape.specs.Sites.{Surroundings, simple_sites, command_sites, block_sites, state_sites}

@@ -7,7 +7,7 @@ use Rattle.sap_lattice.proofs.KeptLemmas.{order_of-count}
 use Rattle.sap_lattice.specs.Prelude.{Levels, order_of, width_of}
 use Rattle.sap_names.specs.Entities.{entities_of}
 use Rattle.sap_names.specs.declared.entity.Entity.{Entity}
-use Rattle.sap_meaning.specs.Prelude.{World, root, Command, lone, try, if_else, try_then, case_of, State, state_node, Group, Home}
+use Rattle.sap_meaning.specs.Prelude.{World, root, Command, lone, State, state_node, Group, Home}
 use Rattle.sap_meaning.proofs.WalksLemmas.{folded_mapped_block}
 use Rattle.sap_resolved.specs.Worlds.{world_of, states_in}
 use Rattle.sap_shape.specs.Sites.{Surroundings, simple_sites, command_sites, block_sites, state_sites}

@@ -10,7 +10,7 @@ use Rattle.sap_ir.specs.declared.guarded.Var.{Var}
 use Rattle.sap_ir.specs.Plain.IsPlain.{IsSeat}
 use Rattle.sap_ir.specs.Plain.Nested as nested
 use Rattle.sap_interface.specs.StandsFor.{Named, world}
-use Rattle.sap_tagged.specs.Prelude.{tag_key, seat_key, wire_key, first_key, inner_key, Setting, setting_of, var, lub, gives, raises, pick_width, wires, wires_block, block_plain, FewGroup, wires_group, group_plain, saved, saves, top_plain, wire, step_wires, command_wires, arms_wires, block_wires, state_wires, group_wires}
+use Rattle.sap_tagged.specs.Prelude.{tag_key, seat_key, wire_key, first_key, inner_key, Setting, setting_of, var, gives, raises, pick_width, wires, wires_block, block_plain, FewGroup, wires_group, group_plain, saved, saves, top_plain, wire, step_wires, command_wires, arms_wires, block_wires, state_wires, group_wires}
 use Rattle.sap_tagged.proofs.Bools.{tagged_memory}
 use Rattle.sap_tagged.proofs.Groups.{LawfulStates, Shaped, group_states}
 use Rattle.sap_tagged.proofs.Falls.{placed_in, shaped_group}
@@ -18,7 +18,8 @@ use Rattle.sap_tagged.proofs.Members.{In, in_front, in_behind}
 use Rattle.sap_tagged.proofs.Ends.{Among}
 use Rattle.sap_tagged.proofs.Conditions.{GroupConditions}
 use Rattle.sap_tagged.proofs.Fits.{Declares}
-use Rattle.sap_tagged.proofs.Closing.{sweep_ends, block_ends}
+use Rattle.sap_tagged.proofs.Parts.{top_holds}
+use Rattle.sap_tagged.proofs.Closing.{Ends, ends, block_ends}
 use Rattle.sap_tagged.proofs.Bodies.{Assigns, IsWire, StepWires, CommandWires, ArmsWires, BlockWires, SiteWires, Hangs, among_left, among_right, wire_gives, sweep_fine, raises_fine, block_fine}
 use Rattle.sap_tagged.proofs.Hanging.{body_hangs}
 
@@ -224,8 +225,7 @@ module _ (nd : Named) (tag : ℕ) (s : Source) (fixed : List Name) (decl : Decla
         saves_fine group (has_states below) (gives d (wire_key k) (var d (tag_key x)) (raises d hangs k body))
             (wire_gives d s decl fixed group assigns (has_states below) k tag (var d (tag_key x)) (raises d hangs k body) pc (decl.tags x (placed.siblings x i).0)
             (raises_fine d s decl fixed group assigns (has_states below) hangs k body hs pc good)),
-        sweep_ends d first_key (saved w) (λ m. var d (tag_key m)) 0 (root w) (gives d (wire_key k) (var d (tag_key x)) (raises d hangs k body))
-            (sweep_ends d tag_key hangs (λ x. lub (var d (tag_key x)) (var d (wire_key k))) 0 (root w) body (block_ends d sp k (k + 1) b node.closes)),
+        top_holds d Ends ends hangs k x body (block_ends d sp k (k + 1) b node.closes),
         seat_is_fine d s regs decl.few_children x (seat_name (d.state_name x)) kids below (states.seats x me.declared) node.count shape,
         group_fine kids kids 0 x base (group_names below) fine.0.1 fine.0.1 (λ t h. h) (group_has d kids below shape) (record { declared = me.declared; count = node.count })
             (λ v a. mine v (inr (in_behind (block_wires nd tag (k + 1) b) (group_wires nd tag base kids) v a))) exact.0.1

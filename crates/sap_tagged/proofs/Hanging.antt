@@ -1,7 +1,6 @@
 -- What hangs has a tag that can be assigned.
 use Rattle.sap_lemmas.proofs.Common.{◌≡◌, ℕ, suc, Bool, true, false, ◌||◌, List, refl, sym, ◌∙◌, subst, nat_lt, nat_eq, inl, inr, cases_Bool, eqb-true, and_parts, true_is_not_false}
-use Rattle.sap_meaning.specs.Prelude.{World, Kind, entity, root, is_dynamic, is_input, is_memory, is_register, listed, Step, assign, write, retag, retag_cell, go_to, fall_to_child, Command, lone, try, if_else, try_then, case_of, Block, state_node, Group, no_node, and_node, kind_is_input, kind_is_register, kind_is_memory, kind_is_state, Every, EveryInBlock, Home, step_assigns, block_assigns, group_assigns, among, step_hangs, hangs, touches, root_touches, listed_alone, FineTerm, FineStep, FineCommand, FineGroup, ExactStep, ExactCommand}
-use Rattle.sap_meaning.specs.Program as program
+use Rattle.sap_meaning.specs.Prelude.{World, entity, root, is_dynamic, is_input, is_memory, is_register, listed, Step, assign, write, go_to, fall_to_child, Command, lone, try, if_else, try_then, case_of, Block, state_node, Group, no_node, and_node, Every, EveryInBlock, Home, step_assigns, block_assigns, group_assigns, among, step_hangs, hangs, touches, root_touches, listed_alone, FineTerm, FineStep, FineCommand, FineGroup, ExactStep, ExactCommand}
 use Rattle.sap_meaning.proofs.ProgramLemmas.{memory_no_input, register_no_input, state_no_input}
 use Rattle.sap_meaning.proofs.WalksLemmas.{some_gives, some_in_block_gives, every_with_in_block}
 use Rattle.sap_tagged.specs.Stands.{has_tag}

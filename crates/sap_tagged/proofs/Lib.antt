@@ -24,6 +24,7 @@ pub mod Shown
 pub mod Designs
 pub mod Conditions
 pub mod Fits
+pub mod Parts
 pub mod Closing
 pub mod Bodies
 pub mod Hanging

@@ -1,5 +1,5 @@
 -- Variables on a list on which no name stands twice.
-use Rattle.sap_lemmas.proofs.Common.{◌≡◌, ℕ, zero, suc, ◌+◌, ◌<◌, ◌≤◌, List, [], ◌∷◌, ◌++◌, map, length, Bool, true, false, Option, Some, ◌⊎◌, inl, inr, refl, sym, ap, subst, arith, bytes_eq, if◌then◌else◌, cases_Bool, or_parts, bytes_eq_apart_back, bytes_eq_same}
+use Rattle.sap_lemmas.proofs.Common.{◌≡◌, ℕ, zero, suc, ◌+◌, ◌<◌, ◌≤◌, List, [], ◌∷◌, ◌++◌, map, length, Bool, true, false, Option, Some, ◌⊎◌, inl, inr, refl, sym, ap, subst, arith, bytes_eq, if◌then◌else◌, or_parts, bytes_eq_apart_back, bytes_eq_same, or_right, ◌∙◌}
 use Rattle.sap_net.proofs.NamesLemmas.{apart_by_membership}
 use Rattle.sap_maps.specs.Prelude.{Name, Valuation, find}
 use Rattle.sap_meaning.specs.Program.{Entity}
@@ -14,26 +14,32 @@ abbrev pub In : {A : Type 0} → List A → A → Type 0
 In [] x = ⊥
 In (y ∷ ys) x = (y ≡ x) ⊎ In ys x
 
-pub among_in : (xs : List Var) (x : Var) → In xs x → is_among x.name (variable_names xs) ≡ true
-among_in [] x h = absurd h
-among_in (y ∷ ys) x (inl e) = subst (λ (z : Var). is_among x.name (z.name ∷ variable_names ys) ≡ true) (sym e) (rw (bytes_eq_same x.name) refl)
-among_in (y ∷ ys) x (inr h) = elim (cases_Bool (bytes_eq x.name y.name)) [ inl t ↦ rw t refl | inr t ↦ rw t (among_in ys x h) ]
+pub among_by : {A : Type 0} (f : A → Name) (xs : List A) (x : A) → In xs x → is_among (f x) (map f xs) ≡ true
+among_by f [] x h = absurd h
+among_by f (y ∷ ys) x (inl e) = ap (λ n. is_among n (map f (y ∷ ys))) (ap f (sym e)) ∙ rw (bytes_eq_same (f y)) refl
+among_by f (y ∷ ys) x (inr h) = or_right (bytes_eq (f x) (f y)) (is_among (f x) (map f ys)) (among_by f ys x h)
 
-pub find_in : (xs : List Var) (x : Var) → AreDistinct (variable_names xs) → In xs x → find (map (λ (z : Var). (z.name, z.width)) xs) x.name ≡ Some x.width
-find_in [] x d h = absurd h
-find_in (y ∷ ys) x d (inl e) =
-    subst (λ (z : Var). find (map (λ (v : Var). (v.name, v.width)) (z ∷ ys)) x.name ≡ Some x.width) (sym e) (rw (bytes_eq_same x.name) refl)
-find_in (y ∷ ys) x d (inr h) =
-    let o : bytes_eq y.name x.name ≡ false = apart_by_membership y.name x.name (variable_names ys) d.0 (among_in ys x h) in
-    rw o (find_in ys x d.1 h)
+-- what a search by names gives of an element
+first_in : {A X : Type 0} (f : A → Name) (of : A → X) (x : A) (g : List A → X) → ((y : A) (ys : List A) → g (y ∷ ys) ≡ (if bytes_eq (f y) (f x) then of y else g ys))
+    → (xs : List A) → AreDistinct (map f xs) → In xs x → g xs ≡ of x
+first_in f of x g step [] d h = absurd h
+first_in f of x g step (y ∷ ys) d (inl e) =
+    step y ys ∙ ap (λ (b : Bool). if b then of y else g ys) (ap (bytes_eq (f y)) (ap f (sym e)) ∙ bytes_eq_same (f y)) ∙ ap of e
+first_in f of x g step (y ∷ ys) d (inr h) =
+    step y ys ∙ ap (λ (b : Bool). if b then of y else g ys) (apart_by_membership (f y) (f x) (map f ys) d.0 (among_by f ys x h)) ∙ first_in f of x g step ys d.1 h
+
+pub find_by : {A X : Type 0} (f : A → Name) (of : A → X) (xs : List A) (x : A) → AreDistinct (map f xs) → In xs x → find (map (λ z. (f z, of z)) xs) (f x) ≡ Some (of x)
+find_by f of xs x d h = first_in f (λ z. Some (of z)) x (λ ys. find (map (λ z. (f z, of z)) ys) (f x)) (λ y ys. refl) xs d h
+
+pub among_in : (xs : List Var) (x : Var) → In xs x → is_among x.name (variable_names xs) ≡ true
+among_in xs x h = among_by (λ (v : Var). v.name) xs x h
 
 pub number_in : (before : Option Valuation) (xs : List Var) (x : Var) → AreDistinct (variable_names xs) → In xs x → register_number before xs x.name ≡ first_number before x
-number_in before [] x d h = absurd h
-number_in before (y ∷ ys) x d (inl e) =
-    subst (λ (z : Var). register_number before (z ∷ ys) x.name ≡ first_number before x) (sym e) (rw (bytes_eq_same x.name) refl)
-number_in before (y ∷ ys) x d (inr h) =
-    let o : bytes_eq y.name x.name ≡ false = apart_by_membership y.name x.name (variable_names ys) d.0 (among_in ys x h) in
-    rw o (number_in before ys x d.1 h)
+number_in before xs x d h = first_in (λ (v : Var). v.name) (first_number before) x (λ ys. register_number before ys x.name) (λ y ys. refl) xs d h
+
+pub cell_in : (before : Option Valuation) (ms : List MemoryVariable) (m : MemoryVariable) (i : ℕ) → AreDistinct (memory_names ms) → In ms m
+    → cell_at_start before ms m.name i ≡ first_cell before m i
+cell_in before ms m i d h = first_in (λ (z : MemoryVariable). z.name) (λ z. first_cell before z i) m (λ ys. cell_at_start before ys m.name i) (λ y ys. refl) ms d h
 
 -- a name that no register has is 0
 pub number_out : (before : Option Valuation) (xs : List Var) (n : Name) → is_among n (variable_names xs) ≡ false → register_number before xs n ≡ 0
@@ -79,29 +85,3 @@ in_entities picks of v y p h x (e ∷ es) l m = elim (reached x y l) [
       in_behind (if picks x then of x else []) (for_entities picks of (x + 1) es) v
       (in_entities picks of v y p h (x + 1) es j (omega arith))
 ]
-
--- memories
-
-pub among_store : (ms : List MemoryVariable) (m : MemoryVariable) → In ms m → is_among m.name (memory_names ms) ≡ true
-among_store [] m h = absurd h
-among_store (y ∷ ys) m (inl e) = subst (λ (z : MemoryVariable). is_among m.name (z.name ∷ memory_names ys) ≡ true) (sym e) (rw (bytes_eq_same m.name) refl)
-among_store (y ∷ ys) m (inr h) = elim (cases_Bool (bytes_eq m.name y.name)) [ inl t ↦ rw t refl | inr t ↦ rw t (among_store ys m h) ]
-
-pub cell_in : (before : Option Valuation) (ms : List MemoryVariable) (m : MemoryVariable) (i : ℕ) → AreDistinct (memory_names ms) → In ms m
-    → cell_at_start before ms m.name i ≡ first_cell before m i
-cell_in before [] m i d h = absurd h
-cell_in before (y ∷ ys) m i d (inl e) =
-    subst (λ (z : MemoryVariable). cell_at_start before (z ∷ ys) m.name i ≡ first_cell before m i) (sym e) (rw (bytes_eq_same m.name) refl)
-cell_in before (y ∷ ys) m i d (inr h) =
-    let o : bytes_eq y.name m.name ≡ false = apart_by_membership y.name m.name (memory_names ys) d.0 (among_store ys m h) in
-    rw o (cell_in before ys m i d.1 h)
-
--- what is told of a memory
-pub find_store : {X : Type 0} (of : MemoryVariable → X) (ms : List MemoryVariable) (m : MemoryVariable) → AreDistinct (memory_names ms) → In ms m
-    → find (map (λ (z : MemoryVariable). (z.name, of z)) ms) m.name ≡ Some (of m)
-find_store of [] m d h = absurd h
-find_store of (y ∷ ys) m d (inl e) =
-    subst (λ (z : MemoryVariable). find (map (λ (v : MemoryVariable). (v.name, of v)) (z ∷ ys)) m.name ≡ Some (of m)) (sym e) (rw (bytes_eq_same m.name) refl)
-find_store of (y ∷ ys) m d (inr h) =
-    let o : bytes_eq y.name m.name ≡ false = apart_by_membership y.name m.name (memory_names ys) d.0 (among_store ys m h) in
-    rw o (find_store of ys m d.1 h)

@@ -1,5 +1,5 @@
 -- The registers and memories of a plain program have names of the interface.
-use Rattle.sap_lemmas.proofs.Common.{◌≡◌, ℕ, ◌+◌, ◌<◌, ◌≤◌, List, [], ◌∷◌, ◌++◌, length, Bool, true, false, inl, inr, refl, sym, subst, if◌then◌else◌, arith, nat_lt, AllByRecursion, cases_Bool, lt-ltb, or_left, or_right, common_steps, all_append}
+use Rattle.sap_lemmas.proofs.Common.{◌≡◌, ℕ, ◌+◌, ◌<◌, ◌≤◌, List, [], ◌∷◌, ◌++◌, length, Bool, true, inl, inr, sym, subst, if◌then◌else◌, arith, nat_lt, AllByRecursion, cases_Bool, lt-ltb, or_left, or_right, common_steps, all_append}
 use Rattle.sap_maps.specs.Maps.{Name}
 use Rattle.sap_meaning.specs.Program.{World, Entity, root, children, is_input, is_register, is_memory, is_state, is_dynamic}
 use Rattle.sap_ir.specs.declared.guarded.Var.{Var}
@@ -7,18 +7,15 @@ use Rattle.sap_ir.specs.declared.guarded.MemoryVariable.{MemoryVariable}
 use Rattle.sap_interface.specs.Prelude.{Named, world, holds_numbers, IsInterfaceName, value_of, tag_of, state_tag_of, child_of, child_of_root}
 use Rattle.sap_tagged.specs.Prelude.{value_key, tag_key, seat_key, key_name, for_entities, tag_var, seat_var, level_at_start, shown_registers, has_own_tag, tag_registers, seat_registers, registers_of, memory_of, tags_of, memories_of}
 use Rattle.sap_tagged.proofs.Cycle.{value_known, tag_known, seat_known, root_known}
+use Rattle.sap_tagged.proofs.Distinct.{if_every}
 use Rattle.sap_tagged.proofs.Premises.{Design}
-
-picked_all : {X : Type 0} (P : X → Type 0) (b : Bool) (xs : List X) → (b ≡ true → AllByRecursion P xs) → AllByRecursion P (if b then xs else [])
-picked_all P true xs h = h refl
-picked_all P false xs h = tt
 
 -- what is declared for each entity below a bound
 entities_all : {X : Type 0} (P : X → Type 0) (picks : ℕ → Bool) (of : ℕ → List X) (bound : ℕ) → ((x : ℕ) → x < bound → picks x ≡ true → AllByRecursion P (of x))
     → (x : ℕ) (es : List Entity) → x + length es ≤ bound → AllByRecursion P (for_entities picks of x es)
 entities_all P picks of bound f x [] l = tt
 entities_all P picks of bound f x (e ∷ es) l =
-    all_append P (if picks x then of x else []) (for_entities picks of (x + 1) es) (picked_all P (picks x) (of x) (λ h. f x (omega (arith, l)) h))
+    all_append P (if picks x then of x else []) (for_entities picks of (x + 1) es) (if_every P (picks x) (of x) (λ h. f x (omega (arith, l)) h))
     (entities_all P picks of bound f (x + 1) es (omega (arith, l)))
 
 above_zero : (n : ℕ) → nat_lt 0 n ≡ true → 0 < n

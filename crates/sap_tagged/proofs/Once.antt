@@ -1,11 +1,12 @@
 -- No memory is written twice in a cycle.
-use Rattle.sap_lemmas.proofs.Common.{◌≡◌, ℕ, zero, suc, ◌+◌, ◌^◌, nat_le, ◌⊎◌, List, [], ◌∷◌, ◌++◌, length, take, drop, Bool, true, false, ◌&&◌, ◌||◌, refl, sym, ap, ap₂, ◌∙◌, subst, inl, inr, bytes_eq, nat_eq, if◌then◌else◌, append_assoc, ◌==◌, cases_Bool, eqb-true, eq-eqb, or_left, or_right, true_is_not_false}
-use Rattle.sap_maps.specs.Prelude.{Name, Term, part}
-use Rattle.sap_meaning.specs.Prelude.{root, is_dynamic, is_register, listed, Step, assign, write, retag, retag_cell, go_to, fall_to_child, Command, lone, try, if_else, try_then, case_of, Arms, last_arm, and_arm, Block, end_block, command_then, state_node, Group, no_node, and_node, width_of as number_width, Home, listed_alone, FineProgram, step_reaching, reaching, arms_reaching, block_reaching, group_reaches, OnceStep, Once, OnceArms, OnceBlock, OnceGroup}
+use Rattle.sap_lemmas.proofs.Common.{◌≡◌, ℕ, zero, suc, ◌+◌, ◌⊎◌, List, [], ◌∷◌, ◌++◌, Bool, true, false, ◌&&◌, ◌||◌, refl, sym, ap, ap₂, ◌∙◌, subst, inl, inr, bytes_eq, nat_eq, if◌then◌else◌, append_assoc, ◌==◌, cases_Bool, eqb-true, eq-eqb, or_left, or_right, true_is_not_false, AllByRecursion, all_append, all_follow}
+use Rattle.sap_maps.specs.Prelude.{Name, Term}
+use Rattle.sap_meaning.specs.Prelude.{root, is_dynamic, is_register, listed, Step, assign, write, retag, retag_cell, go_to, fall_to_child, Command, lone, try, if_else, try_then, case_of, Arms, last_arm, and_arm, Block, end_block, command_then, state_node, Group, no_node, and_node, Home, listed_alone, FineProgram, step_reaching, reaching, arms_reaching, block_reaching, group_reaches, OnceStep, Once, OnceArms, OnceBlock, OnceGroup}
 use Rattle.sap_net.specs.Prelude.{is_among, AreDistinct, seat_name, root_seat}
 use Rattle.sap_ir.specs.Prelude.{set, put, width_of, Going, value_in, after_action, begun, Body, stop, act, cases, goto, fall, declarations, body_does, falls_of, enter, follow, body_writes, child_writes, PlainWritesOnce}
-use Rattle.sap_tagged.specs.Prelude.{Key, value_key, tag_key, first_key, wire_key, inner_key, same, Setting, setting_of, plain_of, var, lub, bits, expr, always, gives, sweep, raises, resets, effect_of, refusal, outcome, attempt_of, outcome_then, attempt_then_of, pick_width, picks_arm, picks, decides, pick_of, select_of, wires, wires_block, command_plain, arms_plain, block_plain, wires_group, group_plain, saved, top_plain}
+use Rattle.sap_tagged.specs.Prelude.{Key, value_key, tag_key, wire_key, inner_key, same, Setting, setting_of, plain_of, var, bits, gives, resets, effect_of, wires, wires_block, command_plain, arms_plain, block_plain, wires_group, group_plain, top_plain}
 use Rattle.sap_interface.specs.StandsFor.{Named}
+use Rattle.sap_tagged.proofs.Parts.{OfParts, sweep_holds, top_holds, attempt_holds, attempt_then_holds, select_holds, pick_holds}
 use Rattle.sap_tagged.proofs.KeyNames.{NamesApart, names_apart}
 
 -- a name of one of some memories: of its contents, or of its cells' tags
@@ -14,29 +15,20 @@ pub record OfMemory (d : Setting) (P : ℕ → Bool) (n : Name) : Type 0 where
   pub picked : P memory ≡ true
   pub named : (n ≡ d.name (value_key memory)) ⊎ (n ≡ d.name (tag_key memory))
 
-abbrev pub AllOf : Setting → (ℕ → Bool) → List Name → Type 0
-AllOf d P [] = Unit {0}
-AllOf d P (n ∷ ns) = OfMemory d P n × AllOf d P ns
-
 -- what is written, each once
 pub record Written (d : Setting) (P : ℕ → Bool) (ns : List Name) : Type 0 where
   pub once : AreDistinct ns
-  pub all : AllOf d P ns
+  pub all : AllByRecursion (OfMemory d P) ns
 
 module _ (d : Setting) (apart : (a b : Key) → bytes_eq (d.name a) (d.name b) ≡ same a b) where
   written_none : (P : ℕ → Bool) → Written d P []
   written_none P = record { once = tt; all = tt }
 
-  of_more : (P Q : ℕ → Bool) → ((m : ℕ) → P m ≡ true → Q m ≡ true) → (ns : List Name) → AllOf d P ns → AllOf d Q ns
-  of_more P Q f [] h = tt
-  of_more P Q f (n ∷ ns) h = (record { memory = h.0.memory; picked = f h.0.memory h.0.picked; named = h.0.named }, of_more P Q f ns h.1)
+  of_more : (P Q : ℕ → Bool) → ((m : ℕ) → P m ≡ true → Q m ≡ true) → (n : Name) → OfMemory d P n → OfMemory d Q n
+  of_more P Q f n h = record { memory = h.memory; picked = f h.memory h.picked; named = h.named }
 
   written_more : (P Q : ℕ → Bool) → ((m : ℕ) → P m ≡ true → Q m ≡ true) → (ns : List Name) → Written d P ns → Written d Q ns
-  written_more P Q f ns h = record { once = h.once; all = of_more P Q f ns h.all }
-
-  of_join : (P : ℕ → Bool) (xs ys : List Name) → AllOf d P xs → AllOf d P ys → AllOf d P (xs ++ ys)
-  of_join P [] ys h k = k
-  of_join P (x ∷ xs) ys h k = (h.0, of_join P xs ys h.1 k)
+  written_more P Q f ns h = record { once = h.once; all = all_follow (OfMemory d P) (OfMemory d Q) ns (of_more P Q f) h.all }
 
   -- names of different memories
   memory_of : (a b : ℕ) (x y : Name) → ((x ≡ d.name (value_key a)) ⊎ (x ≡ d.name (tag_key a)))
@@ -49,7 +41,7 @@ module _ (d : Setting) (apart : (a b : Key) → bytes_eq (d.name a) (d.name b) �
   and_true : (a b : Bool) → a ≡ true → b ≡ true → (a && b) ≡ true
   and_true a b e f = rw (e, f) refl
 
-  not_among : (P Q : ℕ → Bool) → ((m : ℕ) → (P m && Q m) ≡ false) → (n : Name) → OfMemory d P n → (ys : List Name) → AllOf d Q ys → is_among n ys ≡ false
+  not_among : (P Q : ℕ → Bool) → ((m : ℕ) → (P m && Q m) ≡ false) → (n : Name) → OfMemory d P n → (ys : List Name) → AllByRecursion (OfMemory d Q) ys → is_among n ys ≡ false
   not_among P Q f n h [] k = refl
   not_among P Q f n h (y ∷ ys) k = elim (cases_Bool (bytes_eq n y)) [
     | inl e ↦
@@ -58,7 +50,7 @@ module _ (d : Setting) (apart : (a b : Key) → bytes_eq (d.name a) (d.name b) �
     | inr e ↦ rw e (not_among P Q f n h ys k.1)
   ]
 
-  distinct_join : (P Q : ℕ → Bool) → ((m : ℕ) → (P m && Q m) ≡ false) → (xs ys : List Name) → AreDistinct xs → AllOf d P xs → AreDistinct ys → AllOf d Q ys → AreDistinct (xs ++ ys)
+  distinct_join : (P Q : ℕ → Bool) → ((m : ℕ) → (P m && Q m) ≡ false) → (xs ys : List Name) → AreDistinct xs → AllByRecursion (OfMemory d P) xs → AreDistinct ys → AllByRecursion (OfMemory d Q) ys → AreDistinct (xs ++ ys)
   distinct_join P Q f [] ys o h p k = p
   distinct_join P Q f (x ∷ xs) ys o h p k = (outside x xs o.0 (not_among P Q f x h.0 ys k), distinct_join P Q f xs ys o.1 h.1 p k)
     where
@@ -74,7 +66,7 @@ module _ (d : Setting) (apart : (a b : Key) → bytes_eq (d.name a) (d.name b) �
       → Written d R (xs ++ ys)
   written_join P Q R f p q xs ys h k = record {
     once = distinct_join P Q f xs ys h.once h.all k.once k.all;
-    all = of_join R xs ys (of_more P R p xs h.all) (of_more Q R q ys k.all);
+    all = all_append (OfMemory d R) xs ys (written_more P R p xs h).all (written_more Q R q ys k).all;
   }
 
   append_none : (ns : List Name) → ns ++ [] ≡ ns
@@ -88,13 +80,6 @@ module _ (d : Setting) (apart : (a b : Key) → bytes_eq (d.name a) (d.name b) �
     -- a body from any numbers
     abbrev Writes : (ℕ → Bool) → Body → Type 0
     Writes P b = (g : Going) → Written d P (body_writes widths f below go b g)
-
-    sweep_writes : (P : ℕ → Bool) (v : ℕ → Key) (h : ℕ → Bool) (t : ℕ → Term Name) (x m : ℕ) (rest : Body) → Writes P rest → Writes P (sweep d v h t x m rest)
-    sweep_writes P v h t x zero rest r g = r g
-    sweep_writes P v h t x (suc m) rest r g = elim (cases_Bool (h x)) [
-      | inl e ↦ rw e (sweep_writes P v h t (x + 1) m rest r (after_action widths g (set (d.name (v x)) (t x))))
-      | inr e ↦ rw e (sweep_writes P v h t (x + 1) m rest r g)
-    ]
 
     follow_writes : (a b : Body) (g : Going) → body_writes widths f below go (follow a b) g ≡ body_writes widths f below go a g
         ++ body_writes widths f below go b (body_does widths f go a g)
@@ -113,6 +98,18 @@ module _ (d : Setting) (apart : (a b : Key) → bytes_eq (d.name a) (d.name b) �
       | inl e ↦ rw e (subst (λ (ns : List Name). Written d P ns) (sym (append_none (body_writes widths f below go y g))) (k g))
       | inr e ↦ rw e (subst (λ (ns : List Name). Written d P ns) (sym (append_none (body_writes widths f below go x g))) (h g))
     ]
+
+    parts : (P : ℕ → Bool) → OfParts (Writes P)
+    parts P = record { nothing = λ g. written_none P; sets = λ n t rest r g. r _; choice = choice_writes P }
+
+    writes_more : (P Q : ℕ → Bool) → ((m : ℕ) → P m ≡ true → Q m ≡ true) → (b : Body) → Writes P b → Writes Q b
+    writes_more P Q f b h g = written_more P Q f _ (h g)
+
+    -- one body behind another, which writes other memories
+    join_writes : (P Q R : ℕ → Bool) → ((m : ℕ) → (P m && Q m) ≡ false) → ((m : ℕ) → P m ≡ true → R m ≡ true) → ((m : ℕ) → Q m ≡ true → R m ≡ true)
+        → (a b : Body) → Writes P a → Writes Q b → Writes R (follow a b)
+    join_writes P Q R other p q a b h k g =
+        subst (λ (ns : List Name). Written d R ns) (sym (follow_writes a b g)) (written_join P Q R other p q _ _ (h g) (k (body_does widths f go a g)))
 
     one_written : (P : ℕ → Bool) (m : ℕ) → P m ≡ true → Written d P (d.name (value_key m) ∷ [])
     one_written P m h = record { once = (refl, tt); all = (record { memory = m; picked = h; named = inl refl }, tt) }
@@ -139,7 +136,7 @@ module _ (d : Setting) (apart : (a b : Key) → bytes_eq (d.name a) (d.name b) �
       ]
       effect_writes sp k (retag_cell site m j n) o g = two_written (step_reaching reach (retag_cell site m j n)) m (eq-eqb m m refl)
       effect_writes sp k (go_to site target) o g0 =
-          sweep_writes (step_reaching reach (go_to site target)) tag_key (resets d.world target) (λ x. bits d d.world.order.bottom) 0 (root d.world)
+          sweep_holds d (Writes (step_reaching reach (go_to site target))) (parts (step_reaching reach (go_to site target))) tag_key (resets d.world target) (λ x. bits d d.world.order.bottom) 0 (root d.world)
           (if is_dynamic d.world target then gives d (tag_key target) (var d (wire_key (k + 3))) (goto (d.state_name target) stop) else goto (d.state_name target) stop)
           (λ g. elim (cases_Bool (is_dynamic d.world target)) [
             | inl i ↦ rw i (written_none (step_reaching reach (go_to site target)))
@@ -150,142 +147,65 @@ module _ (d : Setting) (apart : (a b : Key) → bytes_eq (d.name a) (d.name b) �
           subst (λ (ns : List Name). Written d (step_reaching reach (fall_to_child site hang)) ns) (sym (append_none (below g1))) (falls o g1)
 
       module _ (sp : Home) where
-        attempt_writes : (p k : ℕ) (t : Step) (o : OnceStep beyond t) (hangs : ℕ → Bool) (h : Body) (P : ℕ → Bool)
-            → ((m : ℕ) → step_reaching reach t m ≡ true → P m ≡ true) → Writes P h
-            → Writes P (attempt_of d sp p k t hangs h)
-        unfolding attempt_of
-        attempt_writes p k t o hangs h P more w g0 =
-            let e : Writes P (effect_of d sp k t) = λ g. written_more (step_reaching reach t) P more _ (effect_writes sp k t o g) in
-            let after : Writes P (outcome d sp k t h) =
-            λ g. elim (cases_Bool (always d.world sp t)) [
-              | inl i ↦ rw i (e g)
-              | inr i ↦ rw i (choice_writes P (var d (wire_key k)) (effect_of d sp k t) (refusal d k t h) e (λ g. w _) g)
-            ] in
-            sweep_writes P tag_key hangs (λ x. lub (var d (tag_key x)) (var d (wire_key (k + 1)))) 0 (root d.world) (outcome d sp k t h) after _
-
-        select_writes : (p k : ℕ) (e : Term ℕ) (hangs : ℕ → Bool) (x y : Body) (P : ℕ → Bool) → Writes P x → Writes P y → Writes P (select_of d p k e hangs x y)
-        unfolding select_of
-        select_writes p k e hangs x y P h i g0 =
-            sweep_writes P tag_key hangs (λ x. lub (var d (tag_key x)) (var d (wire_key k))) 0 (root d.world) (cases (expr d e) x y stop) (choice_writes P (expr d e) x y h i) _
-
-        -- what comes behind an accepted step's effect, which writes other memories
-        attempt_then_writes : (p k : ℕ) (t : Step) (o : OnceStep beyond t) (hangs : ℕ → Bool) (x y : Body) (P Q : ℕ → Bool) → ((m : ℕ) → (step_reaching reach t m && Q m) ≡ false)
-            → ((m : ℕ) → step_reaching reach t m ≡ true → P m ≡ true) → ((m : ℕ) → Q m ≡ true → P m ≡ true) → Writes Q x → Writes P y
-            → Writes P (attempt_then_of d sp p k t hangs x y)
-        unfolding attempt_then_of
-        attempt_then_writes p k t o hangs x y P Q apart_writes more most wx wy g0 =
-            let e : Writes P (follow (effect_of d sp k t) x) =
-            λ g. subst (λ (ns : List Name). Written d P ns) (sym (follow_writes (effect_of d sp k t) x g))
-            (written_join (step_reaching reach t) Q P apart_writes more most _ _ (effect_writes sp k t o g) (wx (body_does widths f go (effect_of d sp k t) g))) in
-            let after : Writes P (outcome_then d sp k t x y) =
-            λ g. elim (cases_Bool (always d.world sp t)) [
-              | inl i ↦ rw i (e g)
-              | inr i ↦ rw i (choice_writes P (var d (wire_key k)) (follow (effect_of d sp k t) x) (refusal d k t y) e (λ g. wy _) g)
-            ] in
-            sweep_writes P tag_key hangs (λ x. lub (var d (tag_key x)) (var d (wire_key (k + 1)))) 0 (root d.world) (outcome_then d sp k t x y) after _
-
-        -- the number of a block, and the block that has it
-
-        picks_arm_writes : (P : ℕ → Bool) (u n w j i : ℕ) (cs : List ℕ) (rest : Body) → Writes P rest → Writes P (picks_arm d u n w j i cs rest)
-        picks_arm_writes P u n w j i [] rest r g = r g
-        picks_arm_writes P u n w j i (c ∷ cs) rest r g = picks_arm_writes P u n w j i cs rest r _
-
-        picks_writes : (P : ℕ → Bool) (u n w j i : ℕ) (arms : Arms) (rest : Body) → Writes P rest → Writes P (picks d u n w j i arms rest)
-        picks_writes P u n w j i (last_arm b) rest r g = r _
-        picks_writes P u n w j i (and_arm constants b arms) rest r g =
-            picks_writes P u n w j (suc i) arms (picks_arm d u n w j i constants rest) (picks_arm_writes P u n w j i constants rest r) g
-
-        abbrev AllWrite : (ℕ → Bool) → List Body → Type 0
-        AllWrite P [] = Unit {0}
-        AllWrite P (b ∷ bs) = Writes P b × AllWrite P bs
-
-        all_more : (P Q : ℕ → Bool) → ((m : ℕ) → P m ≡ true → Q m ≡ true) → (bs : List Body) → AllWrite P bs → AllWrite Q bs
-        all_more P Q more [] h = tt
-        all_more P Q more (b ∷ bs) h = (λ g. written_more P Q more _ (h.0 g), all_more P Q more bs h.1)
-
-        take_write : (P : ℕ → Bool) (n : ℕ) (bs : List Body) → AllWrite P bs → AllWrite P (take n bs)
-        take_write P (suc n) (b ∷ bs) h = (h.0, take_write P n bs h.1)
-        take_write P _ _ h = tt
-
-        drop_write : (P : ℕ → Bool) (n : ℕ) (bs : List Body) → AllWrite P bs → AllWrite P (drop n bs)
-        drop_write P zero bs h = h
-        drop_write P (suc n) [] h = tt
-        drop_write P (suc n) (b ∷ bs) h = drop_write P n bs h.1
-
-        decides_writes : (P : ℕ → Bool) (j m : ℕ) (bs : List Body) → AllWrite P bs → Writes P (decides d j m bs)
-        decides_writes P j zero [] h g = written_none P
-        decides_writes P j zero (b ∷ bs) h g = h.0 g
-        decides_writes P j (suc m) bs h g = elim (cases_Bool (nat_le (length bs) (2 ^ m))) [
-          | inl t ↦ rw t (decides_writes P j m bs h g)
-          | inr t ↦
-              rw t
-              (choice_writes P (part (var d (wire_key j)) m m) (decides d j m (drop (2 ^ m) bs)) (decides d j m (take (2 ^ m) bs))
-              (decides_writes P j m (drop (2 ^ m) bs) (drop_write P (2 ^ m) bs h)) (decides_writes P j m (take (2 ^ m) bs) (take_write P (2 ^ m) bs h)) g)
-        ]
-
-        pick_writes : (p k : ℕ) (e : Term ℕ) (hangs : ℕ → Bool) (arms : Arms) (blocks : List Body) (P : ℕ → Bool) → AllWrite P blocks → Writes P (pick_of d p k e hangs arms blocks)
-        unfolding pick_of
-        pick_writes p k e hangs arms blocks P h g0 =
-            let w = pick_width arms in
-            let choice = decides d (k + 3) w blocks in
-            sweep_writes P tag_key hangs (λ x. lub (var d (tag_key x)) (var d (wire_key k))) 0 (root d.world) (picks d (number_width d.world e) (k + 2) w (k + 3) 0 arms choice)
-            (picks_writes P (number_width d.world e) (k + 2) w (k + 3) 0 arms choice (decides_writes P (k + 3) w blocks h)) _
-
         mutual
           unfolding command_plain arms_plain block_plain
 
           command_writes : (grp : Group) (same_reach : (m : ℕ) → reach m ≡ group_reaches grp m) (p k : ℕ) (c : Command) → Once grp beyond c
               → Writes (reaching reach c) (command_plain d sp p k c)
-          command_writes grp e p k (lone t) o = attempt_writes p k t o (listed_alone d.world sp t) stop (reaching reach (lone t)) (λ m h. h)
-              (λ g. written_none (reaching reach (lone t)))
+          command_writes grp e p k (lone t) o =
+              attempt_holds d (Writes (step_reaching reach t)) (parts (step_reaching reach t)) sp p k t (listed_alone d.world sp t) stop
+              (effect_writes sp k t o) (λ g. written_none (step_reaching reach t))
           command_writes grp e p k (try t hang b) o =
-              attempt_writes p k t o.0 (listed hang) (block_plain d sp (k + 2) (k + 5) b) (reaching reach (try t hang b))
-              (λ m h. or_left (step_reaching reach t m) (block_reaching reach b m) h)
-              (λ g. written_more (block_reaching reach b) (reaching reach (try t hang b)) (λ m h. or_right (step_reaching reach t m) (block_reaching reach b m) h) _
-              (block_writes_once grp e (k + 2) (k + 5) b o.1 g))
+              let P = reaching reach (try t hang b) in
+              let body = block_plain d sp (k + 2) (k + 5) b in
+              attempt_holds d (Writes P) (parts P) sp p k t (listed hang) body
+              (writes_more (step_reaching reach t) P (λ m h. or_left (step_reaching reach t m) (block_reaching reach b m) h) (effect_of d sp k t) (effect_writes sp k t o.0))
+              (writes_more (block_reaching reach b) P (λ m h. or_right (step_reaching reach t m) (block_reaching reach b m) h) body (block_writes_once grp e (k + 2) (k + 5) b o.1))
           command_writes grp e p k (if_else hang c a b) o =
-              select_writes p k c (listed hang) (block_plain d sp (k + 1) (k + 2) a) (block_plain d sp (k + 1) (k + 2 + wires_block a) b) (reaching reach (if_else hang c a b))
-              (λ g. written_more (block_reaching reach a) (reaching reach (if_else hang c a b)) (λ m h. or_left (block_reaching reach a m) (block_reaching reach b m) h) _
-              (block_writes_once grp e (k + 1) (k + 2) a o.0 g))
-              (λ g. written_more (block_reaching reach b) (reaching reach (if_else hang c a b)) (λ m h. or_right (block_reaching reach a m) (block_reaching reach b m) h) _
-              (block_writes_once grp e (k + 1) (k + 2 + wires_block a) b o.1 g))
+              let P = reaching reach (if_else hang c a b) in
+              let x = block_plain d sp (k + 1) (k + 2) a in
+              let y = block_plain d sp (k + 1) (k + 2 + wires_block a) b in
+              select_holds d (Writes P) (parts P) p k c (listed hang) x y
+              (writes_more (block_reaching reach a) P (λ m h. or_left (block_reaching reach a m) (block_reaching reach b m) h) x (block_writes_once grp e (k + 1) (k + 2) a o.0))
+              (writes_more (block_reaching reach b) P (λ m h. or_right (block_reaching reach a m) (block_reaching reach b m) h) y
+              (block_writes_once grp e (k + 1) (k + 2 + wires_block a) b o.1))
           command_writes grp e p k (try_then t hang a b) o =
               let same : reach ≡ group_reaches grp = λ i m. e m i in
+              let P = reaching reach (try_then t hang a b) in
               let both : ℕ → Bool = λ m. block_reaching reach a m || block_reaching reach b m in
-              attempt_then_writes p k t o.0 (listed hang) (block_plain d sp (k + 2) (k + 5) a)
-              (block_plain d sp (k + 2) (k + 5 + wires_block a) b) (reaching reach (try_then t hang a b))
-              (block_reaching reach a) (λ m. ap (λ (r : ℕ → Bool). step_reaching r t m && block_reaching r a m) same ∙ o.3 m)
+              let x = block_plain d sp (k + 2) (k + 5) a in
+              let y = block_plain d sp (k + 2) (k + 5 + wires_block a) b in
+              attempt_then_holds d (Writes P) (parts P) sp p k t (listed hang) x y
+              (join_writes (step_reaching reach t) (block_reaching reach a) P (λ m. ap (λ (r : ℕ → Bool). step_reaching r t m && block_reaching r a m) same ∙ o.3 m)
               (λ m h. or_left (step_reaching reach t m) (both m) h)
               (λ m h. or_right (step_reaching reach t m) (both m) (or_left (block_reaching reach a m) (block_reaching reach b m) h))
-              (block_writes_once grp e (k + 2) (k + 5) a o.1)
-              (λ g. written_more (block_reaching reach b) (reaching reach (try_then t hang a b))
-              (λ m h. or_right (step_reaching reach t m) (both m) (or_right (block_reaching reach a m) (block_reaching reach b m) h)) _
-              (block_writes_once grp e (k + 2) (k + 5 + wires_block a) b o.2 g))
+              (effect_of d sp k t) x (effect_writes sp k t o.0) (block_writes_once grp e (k + 2) (k + 5) a o.1))
+              (writes_more (block_reaching reach b) P (λ m h. or_right (step_reaching reach t m) (both m) (or_right (block_reaching reach a m) (block_reaching reach b m) h)) y
+              (block_writes_once grp e (k + 2) (k + 5 + wires_block a) b o.2))
           command_writes grp e p k (case_of hang c arms) o =
-              pick_writes p k c (listed hang) arms (arms_plain d sp (k + 1) (k + 4) arms) (reaching reach (case_of hang c arms)) (arms_write_once grp e (k + 1) (k + 4) arms o)
+              pick_holds d (Writes (arms_reaching reach arms)) (parts (arms_reaching reach arms)) p k c (listed hang) arms (arms_plain d sp (k + 1) (k + 4) arms)
+              (arms_write_once grp e (k + 1) (k + 4) arms o)
 
           arms_write_once : (grp : Group) (same_reach : (m : ℕ) → reach m ≡ group_reaches grp m) (p k : ℕ) (arms : Arms) → OnceArms grp beyond arms
-              → AllWrite (arms_reaching reach arms) (arms_plain d sp p k arms)
+              → AllByRecursion (Writes (arms_reaching reach arms)) (arms_plain d sp p k arms)
           arms_write_once grp e p k (last_arm b) o = (block_writes_once grp e p k b o, tt)
           arms_write_once grp e p k (and_arm constants b arms) o = (
-            λ g. written_more (block_reaching reach b) (arms_reaching reach (and_arm constants b arms)) (λ m h. or_left (block_reaching reach b m) (arms_reaching reach arms m) h) _
-                (block_writes_once grp e p k b o.0 g),
-            all_more (arms_reaching reach arms) (arms_reaching reach (and_arm constants b arms)) (λ m h. or_right (block_reaching reach b m) (arms_reaching reach arms m) h)
-                (arms_plain d sp p (k + wires_block b) arms) (arms_write_once grp e p (k + wires_block b) arms o.1),
+            writes_more (block_reaching reach b) (arms_reaching reach (and_arm constants b arms)) (λ m h. or_left (block_reaching reach b m) (arms_reaching reach arms m) h)
+                (block_plain d sp p k b) (block_writes_once grp e p k b o.0),
+            all_follow (Writes (arms_reaching reach arms)) (Writes (arms_reaching reach (and_arm constants b arms))) (arms_plain d sp p (k + wires_block b) arms)
+                (writes_more (arms_reaching reach arms) (arms_reaching reach (and_arm constants b arms)) (λ m h. or_right (block_reaching reach b m) (arms_reaching reach arms m) h))
+                (arms_write_once grp e p (k + wires_block b) arms o.1),
           )
 
           block_writes_once : (grp : Group) (same_reach : (m : ℕ) → reach m ≡ group_reaches grp m) (p k : ℕ) (b : Block)
               → OnceBlock grp beyond b → Writes (block_reaching reach b) (block_plain d sp p k b)
-          block_writes_once grp e p k end_block o g = written_none (block_reaching reach end_block)
-          block_writes_once grp e p k (command_then c cs) o g =
-              let a = command_plain d sp p k c in
-              let b = block_plain d sp p (k + wires c) cs in
+          block_writes_once grp e p k end_block o = λ g. written_none (block_reaching reach end_block)
+          block_writes_once grp e p k (command_then c cs) o =
               let same : reach ≡ group_reaches grp = λ i m. e m i in
-              subst (λ (ns : List Name). Written d (block_reaching reach (command_then c cs)) ns) (sym (follow_writes a b g))
-              (written_join (reaching reach c) (block_reaching reach cs) (block_reaching reach (command_then c cs))
+              join_writes (reaching reach c) (block_reaching reach cs) (block_reaching reach (command_then c cs))
               (λ m. ap (λ (r : ℕ → Bool). reaching r c m && block_reaching r cs m) same ∙ o.2 m)
-              (λ m h. or_left (reaching reach c m) (block_reaching reach cs m) h) (λ m h. or_right (reaching reach c m) (block_reaching reach cs m) h) _ _
-              (command_writes grp e p k c o.0 g) (block_writes_once grp e p (k + wires c) cs o.1 (body_does widths f go a g)))
+              (λ m h. or_left (reaching reach c m) (block_reaching reach cs m) h) (λ m h. or_right (reaching reach c m) (block_reaching reach cs m) h)
+              (command_plain d sp p k c) (block_plain d sp p (k + wires c) cs) (command_writes grp e p k c o.0) (block_writes_once grp e p (k + wires c) cs o.1)
 
   -- the states of a group
   group_writes : (widths : Name → ℕ) (grp : Group) (parent k : ℕ) (go : Name → Going → Going) → OnceGroup grp → (n : ℕ) (g : Going)
@@ -325,11 +245,8 @@ module _ (d : Setting) (apart : (a b : Key) → bytes_eq (d.name a) (d.name b) �
       let own : (g : Going) → Written d P (body_writes widths f below go body g) =
       λ g. block_writes_once widths f below go (group_reaches kids) (OnceGroup kids) (λ o h. group_writes widths kids x base (enter seat forest) o (h.now.value seat) h)
       (record { state = x; parent = root d.world; children = kids }) kids (λ m. refl) k (k + 1) b once.0 g in
-      let raised : (g : Going) → Written d P (body_writes widths f below go (raises d hangs k body) g) =
-      sweep_writes widths f below go P tag_key hangs (λ x. lub (var d (tag_key x)) (var d (wire_key k))) 0 (root d.world) body own in
       written_more P (group_reaches (and_node (state_node x b kids) rest)) (λ m h. or_left (P m) (group_reaches rest m) h) _
-      (sweep_writes widths f below go P first_key (saved d.world) (λ m. var d (tag_key m)) 0 (root d.world)
-      (gives d (wire_key k) (var d (tag_key x)) (raises d hangs k body)) (λ g. raised _) g)
+      (top_holds d (Writes widths f below go P) (parts widths f below go P) hangs k x body own g)
   top_writes widths hangs (and_node (state_node x b kids) rest) k go once (suc n) g =
       written_more (group_reaches rest) (group_reaches (and_node (state_node x b kids) rest)) (λ m h. or_right (block_reaching (group_reaches kids) b m) (group_reaches rest m) h) _
       (top_writes widths hangs rest (k + (1 + wires_block b + wires_group kids)) go once.1 n g)

@@ -1,6 +1,6 @@
 -- The plain program of a design keeps the rules of its type: names are found, and states are fine.
-use Rattle.sap_lemmas.proofs.Common.{◌≡◌, ℕ, ◌<◌, List, [], ◌∷◌, ◌++◌, map, Bool, true, false, not, ◌||◌, Some, None, refl, ap, ◌∙◌, subst, nat_lt, nat_eq, bytes_eq, inl, inr, if◌then◌else◌, AllByRecursion, cases_Bool, eqb-true, and_parts, false_from_ne_true, lt-ltb, or_right, or_other}
-use Rattle.sap_net.proofs.NamesLemmas.{among_front, not_found}
+use Rattle.sap_lemmas.proofs.Common.{◌≡◌, ℕ, ◌<◌, List, [], ◌∷◌, ◌++◌, map, Bool, true, false, not, ◌||◌, Some, None, refl, ap, ◌∙◌, subst, nat_lt, nat_eq, bytes_eq, inl, inr, if◌then◌else◌, AllByRecursion, cases_Bool, eqb-true, and_parts, false_from_ne_true, lt-ltb, or_other}
+use Rattle.sap_net.proofs.NamesLemmas.{among_behind, among_front, not_found}
 use Rattle.sap_meaning.proofs.ProgramLemmas.{own_kind}
 use Rattle.sap_maps.proofs.ScopeLemmas.{found_first, found_second}
 use Rattle.sap_maps.specs.Prelude.{Name, Scope, find}
@@ -12,25 +12,25 @@ use Rattle.sap_net.specs.Prelude.{is_among, AreDistinct, seat_name}
 use Rattle.sap_ir.specs.Prelude.{Source, readable, assignable, variable_names, memory_names, Nested, Forest, declarations, group_names, state_names, seats, IsPlain, is_gate}
 use Rattle.sap_ir.specs.declared.guarded.Var.{Var}
 use Rattle.sap_ir.specs.declared.guarded.MemoryVariable.{MemoryVariable}
-use Rattle.sap_ir.proofs.Declared.{distinct_front, distinct_behind, apart_lists}
+use Rattle.sap_ir.proofs.Declared.{apart_lists}
 use Rattle.sap_net.specs.PortNames as ports
 use Rattle.sap_ir.proofs.plain.SeatWidths.{seat_holds}
 use Rattle.sap_interface.specs.StandsFor.{Named, name, world}
 use Rattle.sap_tagged.specs.Prelude.{numeral, entity_word, Key, seat_key, first_key, inner_key, sort, index, same, key_name, Setting, setting_of, saved, top_plain, variable, level_at_start, value_var, tag_var, seat_var, site_wires, group_wires, first_wires, inner_wires, memory_of, plain_of, has_tag}
 use Rattle.sap_tagged.proofs.Bools.{value_within, memory_within, tagged_within}
 use Rattle.sap_tagged.proofs.KeyNames.{names_apart}
-use Rattle.sap_tagged.proofs.Members.{In, among_in, in_front, in_behind}
+use Rattle.sap_tagged.proofs.Members.{In, find_by, among_in, in_front, in_behind}
 use Rattle.sap_tagged.proofs.Groups.{LawfulStates, Shaped}
 use Rattle.sap_tagged.proofs.Falls.{shaped_top}
 use Rattle.sap_tagged.proofs.Premises.{Design}
-use Rattle.sap_tagged.proofs.Cycle.{lawful_states, in_value, in_tag, in_own_tag, in_seat, in_memory, in_tags, in_input, in_all, refused_in, level_in}
+use Rattle.sap_tagged.proofs.Cycle.{behind_inputs, inputs_once, registers_once, wires_once, stores_once, lawful_states, in_value, in_tag, in_own_tag, in_seat, in_memory, in_tags, in_input, in_all, refused_in, level_in}
 use Rattle.sap_tagged.proofs.Ends.{Among, counted_bounds}
 use Rattle.sap_tagged.proofs.Fits.{Declares}
 use Rattle.sap_tagged.proofs.Bodies.{Assigns, SiteWires}
 use Rattle.sap_tagged.proofs.Hanging.{root_hangs}
 use Rattle.sap_tagged.proofs.Forests.{AllFound, SeatRegisters, group_has, some_states, seat_is_fine, top_fine}
 use Rattle.sap_tagged.proofs.Namings.{all_states, inside_state, states_once, key_no_gate}
-use Rattle.sap_tagged.proofs.Rules.{Fitting, find_by, all_names, guarded}
+use Rattle.sap_tagged.proofs.Rules.{Fitting, all_names, guarded}
 
 module _ (d : Named) (tag sites : ℕ) (design : Design d tag sites) (fit : Fitting d tag) where
   abbrev w : World
@@ -57,24 +57,6 @@ module _ (d : Named) (tag sites : ℕ) (design : Design d tag sites) (fit : Fitt
   abbrev store_names : List Name
   store_names = memory_names src.memories
 
-  behind_inputs : AreDistinct (register_names ++ (wire_names ++ store_names))
-  behind_inputs = distinct_behind input_names (register_names ++ (wire_names ++ store_names)) design.distinct
-
-  behind_registers : AreDistinct (wire_names ++ store_names)
-  behind_registers = distinct_behind register_names (wire_names ++ store_names) behind_inputs
-
-  inputs_once : AreDistinct input_names
-  inputs_once = distinct_front input_names (register_names ++ (wire_names ++ store_names)) design.distinct
-
-  registers_once : AreDistinct register_names
-  registers_once = distinct_front register_names (wire_names ++ store_names) behind_inputs
-
-  wires_once : AreDistinct wire_names
-  wires_once = distinct_front wire_names store_names behind_registers
-
-  stores_once : AreDistinct store_names
-  stores_once = distinct_behind wire_names store_names behind_registers
-
   abbrev scope : List Var → Scope
   scope xs = map (λ (z : Var). (z.name, z.width)) xs
 
@@ -85,21 +67,21 @@ module _ (d : Named) (tag sites : ℕ) (design : Design d tag sites) (fit : Fitt
   no_input n h = not_found (λ (z : Var). z.name) (λ z. z.width) src.inputs n (apart_lists input_names (register_names ++ (wire_names ++ store_names)) design.distinct n h)
 
   no_register : (n : Name) → is_among n (wire_names ++ store_names) ≡ true → find (scope src.registers) n ≡ None
-  no_register n h = not_found (λ (z : Var). z.name) (λ z. z.width) src.registers n (apart_lists register_names (wire_names ++ store_names) behind_inputs n h)
+  no_register n h = not_found (λ (z : Var). z.name) (λ z. z.width) src.registers n (apart_lists register_names (wire_names ++ store_names) (behind_inputs d tag sites design) n h)
 
   input_found : (v : Var) → In src.inputs v → find (readable src) v.name ≡ Some v.width
   input_found v i =
       found_first (scope src.inputs ++ scope src.registers) (scope src.wires) v.name v.width
-      (found_first (scope src.inputs) (scope src.registers) v.name v.width (found_own src.inputs v inputs_once i))
+      (found_first (scope src.inputs) (scope src.registers) v.name v.width (found_own src.inputs v (inputs_once d tag sites design) i))
 
   register_found : (v : Var) → In src.registers v → find (readable src) v.name ≡ Some v.width
   register_found v i =
       found_first (scope src.inputs ++ scope src.registers) (scope src.wires) v.name v.width
       (found_second (scope src.inputs) (scope src.registers) v.name (no_input v.name (among_front v.name register_names (wire_names ++ store_names) (among_in src.registers v i)))
-      ∙ found_own src.registers v registers_once i)
+      ∙ found_own src.registers v (registers_once d tag sites design) i)
 
   register_assignable : (v : Var) → In src.registers v → find (assignable src) v.name ≡ Some v.width
-  register_assignable v i = found_first (scope src.registers) (scope src.wires) v.name v.width (found_own src.registers v registers_once i)
+  register_assignable v i = found_first (scope src.registers) (scope src.wires) v.name v.width (found_own src.registers v (registers_once d tag sites design) i)
 
   wire_among : (v : Var) → In src.wires v → is_among v.name (wire_names ++ store_names) ≡ true
   wire_among v i = among_front v.name wire_names store_names (among_in src.wires v i)
@@ -107,18 +89,14 @@ module _ (d : Named) (tag sites : ℕ) (design : Design d tag sites) (fit : Fitt
   wire_found : (v : Var) → In src.wires v → find (readable src) v.name ≡ Some v.width
   wire_found v i =
       let m = wire_among v i in
-      let n : is_among v.name (register_names ++ (wire_names ++ store_names)) ≡ true = behind v.name register_names (wire_names ++ store_names) m in
+      let n : is_among v.name (register_names ++ (wire_names ++ store_names)) ≡ true = among_behind v.name register_names (wire_names ++ store_names) m in
       found_second (scope src.inputs ++ scope src.registers) (scope src.wires) v.name
       (found_second (scope src.inputs) (scope src.registers) v.name (no_input v.name n) ∙ no_register v.name m)
-      ∙ found_own src.wires v wires_once i
-    where
-      behind : (n : Name) (xs ys : List Name) → is_among n ys ≡ true → is_among n (xs ++ ys) ≡ true
-      behind n [] ys h = h
-      behind n (x ∷ xs) ys h = or_right (bytes_eq n x) (is_among n (xs ++ ys)) (behind n xs ys h)
+      ∙ found_own src.wires v (wires_once d tag sites design) i
 
   wire_assignable : (v : Var) → In src.wires v → find (assignable src) v.name ≡ Some v.width
   wire_assignable v i =
-      found_second (scope src.registers) (scope src.wires) v.name (no_register v.name (wire_among v i)) ∙ found_own src.wires v wires_once i
+      found_second (scope src.registers) (scope src.wires) v.name (no_register v.name (wire_among v i)) ∙ found_own src.wires v (wires_once d tag sites design) i
 
   -- what is declared
 
@@ -173,7 +151,7 @@ module _ (d : Named) (tag sites : ℕ) (design : Design d tag sites) (fit : Fitt
       )
 
   seat_registers : SeatRegisters set src
-  seat_registers q h = find_by (λ (z : Var). z.name) (λ z. (z.width, z.start)) src.registers (seat_var d q) registers_once (in_seat d tag sites design q h)
+  seat_registers q h = find_by (λ (z : Var). z.name) (λ z. (z.width, z.start)) src.registers (seat_var d q) (registers_once d tag sites design) (in_seat d tag sites design q h)
 
   declares : Declares set src
   declares = record {
@@ -188,8 +166,8 @@ module _ (d : Named) (tag sites : ℕ) (design : Design d tag sites) (fit : Fitt
     seats = λ q h. register_found (seat_var d q) (in_seat d tag sites design q h);
     firsts = λ m h. wire_found (first_wire m) (in_first m h);
     inners = λ x l h. wire_found (inner_wire x) (in_inner x l h);
-    stores = λ m h. find_by (λ (z : MemoryVariable). z.name) (λ z. (z.width, z.depth)) src.memories (memory_of d m) stores_once (in_memory d tag sites design m h);
-    marks = λ m h t. find_by (λ (z : MemoryVariable). z.name) (λ z. (z.width, z.depth)) src.memories _ stores_once (in_tags d tag sites design m h t);
+    stores = λ m h. find_by (λ (z : MemoryVariable). z.name) (λ z. (z.width, z.depth)) src.memories (memory_of d m) (stores_once d tag sites design) (in_memory d tag sites design m h);
+    marks = λ m h t. find_by (λ (z : MemoryVariable). z.name) (λ z. (z.width, z.depth)) src.memories _ (stores_once d tag sites design) (in_tags d tag sites design m h t);
     wide = fit.wide;
     small = design.small;
     few_levels = fit.few_levels;

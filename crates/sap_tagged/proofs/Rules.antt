@@ -1,8 +1,8 @@
 -- The plain program of a design keeps the rules of its type.
-use Rattle.sap_lemmas.proofs.Common.{◌≡◌, ℕ, zero, suc, ◌+◌, ◌≤◌, List, [], ◌∷◌, ◌++◌, map, Bool, true, false, ◌||◌, Some, refl, sym, ap, ap₂, ◌∙◌, subst, if◌then◌else◌, arith, nat_lt, bytes_eq, inl, inr, AllByRecursion, pow_pos, true_is_not_false, all_append, bytes_eq_same, or_right, map-append}
+use Rattle.sap_lemmas.proofs.Common.{◌≡◌, ℕ, zero, suc, ◌+◌, ◌≤◌, List, [], ◌∷◌, ◌++◌, map, Bool, true, false, ◌||◌, refl, sym, ap₂, ◌∙◌, subst, if◌then◌else◌, arith, nat_lt, inl, inr, AllByRecursion, pow_pos, true_is_not_false, all_append, or_right, map-append}
 use Rattle.sap_resolved.proofs.SizedLemmas.{ranged_width}
-use Rattle.sap_net.proofs.NamesLemmas.{among_behind, among_front, apart_by_membership}
-use Rattle.sap_maps.specs.Prelude.{Name, find}
+use Rattle.sap_net.proofs.NamesLemmas.{among_behind, among_front}
+use Rattle.sap_maps.specs.Prelude.{Name}
 use Rattle.sap_meaning.specs.Program as program
 use Rattle.sap_meaning.specs.Prelude.{World, Kind, entity, root, children, width, is_input, is_register, is_memory, is_dynamic, State, state_node, Group, and_node, Command, lone, try, if_else, try_then, case_of, Arms, last_arm, and_arm, Block, end_block, command_then, kind_is_input, kind_is_register, kind_is_memory, kind_is_state, SizedProgram}
 use Rattle.sap_resolved.specs.Sized.Ranges.{IsWidth, Ranged, RangedArms, RangedBlock, RangedState, RangedGroup, RangedProgram}
@@ -14,7 +14,7 @@ use Rattle.sap_interface.specs.StandsFor.{Named, world, depth}
 use Rattle.sap_tagged.specs.Prelude.{Key, value_key, tag_key, first_key, inner_key, key_name, Setting, setting_of, arm_count, wires, wires_block, saved, wires_group, variable, wire, level_at_start, value_var, tag_var, seat_var, for_entities, shown_registers, has_own_tag, tag_registers, seat_registers, site_wires, step_wires, command_wires, arms_wires, block_wires, state_wires, group_wires, first_wires, inner_wires, memory_of, tags_of, plain_of}
 use Rattle.sap_tagged.proofs.Members.{In, among_in, in_front}
 use Rattle.sap_tagged.proofs.Premises.{Design}
-use Rattle.sap_tagged.proofs.Distinct.{Every, every_join, once_join, lists_apart, distinct_keys, entities_once, entities_all, entities_named, site_keys, sites_once, sites_named, list_number, all_keys, all_named, register_lists}
+use Rattle.sap_tagged.proofs.Distinct.{once_join, lists_apart, distinct_keys, entities_once, entities_all, entities_named, site_keys, sites_once, sites_named, list_number, all_keys, all_named, register_lists}
 use Rattle.sap_tagged.proofs.Conditions.{GroupConditions}
 use Rattle.sap_tagged.proofs.Fits.{one_bit}
 use Rattle.sap_tagged.proofs.Namings.{key_is_name, key_no_help}
@@ -27,27 +27,9 @@ pub record Fitting (d : Named) (tag : ℕ) : Type 0 where
   pub wide : IsWidth tag
   pub few_levels : (world d).order.count ≤ 64
 
-all_of : {A : Type 0} (P : A → Type 0) (xs : List A) → Every P xs → AllByRecursion P xs
-all_of P [] h = tt
-all_of P (x ∷ xs) h = (h.0, all_of P xs h.1)
-
 all_named_keys : (d : Named) (P : Name → Type 0) → ((a : Key) → P (key_name d a)) → (ks : List Key) → AllByRecursion P (map (key_name d) ks)
 all_named_keys d P f [] = tt
 all_named_keys d P f (a ∷ ks) = (f a, all_named_keys d P f ks)
-
--- what is found under a name
-pub among_by : {A : Type 0} (f : A → Name) (xs : List A) (x : A) → In xs x → is_among (f x) (map f xs) ≡ true
-among_by f [] x h = absurd h
-among_by f (y ∷ ys) x (inl e) = ap (λ n. is_among n (map f (y ∷ ys))) (ap f (sym e)) ∙ rw (bytes_eq_same (f y)) refl
-among_by f (y ∷ ys) x (inr h) = or_right (bytes_eq (f x) (f y)) (is_among (f x) (map f ys)) (among_by f ys x h)
-
-pub find_by : {A X : Type 0} (f : A → Name) (of : A → X) (xs : List A) (x : A) → AreDistinct (map f xs) → In xs x → find (map (λ z. (f z, of z)) xs) (f x) ≡ Some (of x)
-find_by f of [] x d h = absurd h
-find_by f of (y ∷ ys) x d (inl e) =
-    ap (λ z. find (map (λ z. (f z, of z)) (y ∷ ys)) (f z)) (sym e) ∙ rw (bytes_eq_same (f y)) (ap (λ z. Some (of z)) e)
-find_by f of (y ∷ ys) x d (inr h) =
-    let o : bytes_eq (f y) (f x) ≡ false = apart_by_membership (f y) (f x) (map f ys) d.0 (among_by f ys x h) in
-    rw o (find_by f of ys x d.1 h)
 
 -- kinds
 
@@ -68,7 +50,7 @@ module _ (d : Named) (tag sites : ℕ) (design : Design d tag sites) (fit : Fitt
   abbrev set : Setting
   set = setting_of d tag
 
-  each : {A : Type 0} (P : A → Type 0) (picks : ℕ → Bool) (of : ℕ → List A) → ((x : ℕ) → picks x ≡ true → Every P (of x)) → Every P (for_entities picks of 0 w.entities)
+  each : {A : Type 0} (P : A → Type 0) (picks : ℕ → Bool) (of : ℕ → List A) → ((x : ℕ) → picks x ≡ true → AllByRecursion P (of x)) → AllByRecursion P (for_entities picks of 0 w.entities)
   each P picks of f = entities_all P picks of f 0 w.entities
 
   pub all_names : (P : Name → Type 0) → ((a : Key) → P (key_name d a)) → AllByRecursion P (declared src)
@@ -82,18 +64,16 @@ module _ (d : Named) (tag sites : ℕ) (design : Design d tag sites) (fit : Fitt
 
   inputs_fine : AllByRecursion IsPlainVar src.inputs
   inputs_fine =
-      all_of IsPlainVar src.inputs
       (each IsPlainVar (is_input w) (λ x. value_var d x 0 ∷ tag_var d tag x 0 ∷ []) (λ x h. ((value_width x (rw h refl), refl), ((fit.wide, refl), tt))))
 
   registers_fine : AllByRecursion IsRegisterVar src.registers
   registers_fine =
-      all_of IsRegisterVar src.registers
-      (every_join IsRegisterVar (shown_registers d tag) (tag_registers d tag ++ seat_registers d)
+      (all_append IsRegisterVar (shown_registers d tag) (tag_registers d tag ++ seat_registers d)
       (each IsRegisterVar (is_register w) (λ x. value_var d x (entity w x).initial ∷ tag_var d tag x (level_at_start d x) ∷ [])
       (λ x h. ((value_width x (or_right (is_input w x) (is_register w x || is_memory w x) (rw h refl)), fit.sized.initials x), ((fit.wide, design.small _), tt))))
-      (every_join IsRegisterVar (tag_registers d tag) (seat_registers d)
+      (all_append IsRegisterVar (tag_registers d tag) (seat_registers d)
       (each IsRegisterVar (has_own_tag d) (λ x. tag_var d tag x (level_at_start d x) ∷ []) (λ x h. ((fit.wide, design.small _), tt)))
-      (every_join IsRegisterVar (for_entities (λ q. nat_lt 0 (children w q)) (λ q. seat_var d q ∷ []) 0 w.entities) (seat_var d (root w) ∷ [])
+      (all_append IsRegisterVar (for_entities (λ q. nat_lt 0 (children w q)) (λ q. seat_var d q ∷ []) 0 w.entities) (seat_var d (root w) ∷ [])
       (each IsRegisterVar (λ q. nat_lt 0 (children w q)) (λ q. seat_var d q ∷ []) (λ x h. (seat_fine x, tt))) (seat_fine (root w), tt))))
     where
       seat_fine : (q : ℕ) → IsRegisterVar (seat_var d q)
@@ -105,24 +85,24 @@ module _ (d : Named) (tag sites : ℕ) (design : Design d tag sites) (fit : Fitt
   tag_wire : (k : ℕ) → IsPlainVar (wire d k tag)
   tag_wire k = (fit.wide, refl)
 
-  step_vars : (k : ℕ) → Every IsPlainVar (step_wires d tag k)
+  step_vars : (k : ℕ) → AllByRecursion IsPlainVar (step_wires d tag k)
   step_vars k = (bit_var k, (tag_wire (k + 1), (tag_wire (k + 2), (tag_wire (k + 3), (bit_var (k + 4), tt)))))
 
   mutual
-    command_vars : (k : ℕ) (c : Command) → Ranged w c → Every IsPlainVar (command_wires d tag k c)
+    command_vars : (k : ℕ) (c : Command) → Ranged w c → AllByRecursion IsPlainVar (command_wires d tag k c)
     command_vars k (lone t) r = step_vars k
-    command_vars k (try t hang h) r = every_join IsPlainVar (step_wires d tag k) (block_wires d tag (k + 5) h) (step_vars k) (block_vars (k + 5) h r.1)
+    command_vars k (try t hang h) r = all_append IsPlainVar (step_wires d tag k) (block_wires d tag (k + 5) h) (step_vars k) (block_vars (k + 5) h r.1)
     command_vars k (if_else hang e a b) r = (
       tag_wire k,
       (
         tag_wire (k + 1),
-        every_join IsPlainVar (block_wires d tag (k + 2) a) (block_wires d tag (k + 2 + wires_block a) b)
+        all_append IsPlainVar (block_wires d tag (k + 2) a) (block_wires d tag (k + 2 + wires_block a) b)
             (block_vars (k + 2) a r.1) (block_vars (k + 2 + wires_block a) b r.2),
       ),
     )
     command_vars k (try_then t hang a b) r =
-        every_join IsPlainVar (step_wires d tag k) (block_wires d tag (k + 5) a ++ block_wires d tag (k + 5 + wires_block a) b) (step_vars k)
-        (every_join IsPlainVar (block_wires d tag (k + 5) a) (block_wires d tag (k + 5 + wires_block a) b) (block_vars (k + 5) a r.1) (block_vars (k + 5 + wires_block a) b r.2))
+        all_append IsPlainVar (step_wires d tag k) (block_wires d tag (k + 5) a ++ block_wires d tag (k + 5 + wires_block a) b) (step_vars k)
+        (all_append IsPlainVar (block_wires d tag (k + 5) a) (block_wires d tag (k + 5 + wires_block a) b) (block_vars (k + 5) a r.1) (block_vars (k + 5 + wires_block a) b r.2))
     command_vars k (case_of hang e arms) r = (
       tag_wire k,
       (
@@ -134,47 +114,45 @@ module _ (d : Named) (tag sites : ℕ) (design : Design d tag sites) (fit : Fitt
       ),
     )
 
-    arms_vars : (k : ℕ) (arms : Arms) → RangedArms w arms → Every IsPlainVar (arms_wires d tag k arms)
+    arms_vars : (k : ℕ) (arms : Arms) → RangedArms w arms → AllByRecursion IsPlainVar (arms_wires d tag k arms)
     arms_vars k (last_arm b) r = block_vars k b r
     arms_vars k (and_arm constants b arms) r =
-        every_join IsPlainVar (block_wires d tag k b) (arms_wires d tag (k + wires_block b) arms) (block_vars k b r.0) (arms_vars (k + wires_block b) arms r.1)
+        all_append IsPlainVar (block_wires d tag k b) (arms_wires d tag (k + wires_block b) arms) (block_vars k b r.0) (arms_vars (k + wires_block b) arms r.1)
 
-    block_vars : (k : ℕ) (b : Block) → RangedBlock w b → Every IsPlainVar (block_wires d tag k b)
+    block_vars : (k : ℕ) (b : Block) → RangedBlock w b → AllByRecursion IsPlainVar (block_wires d tag k b)
     block_vars k end_block r = tt
-    block_vars k (command_then c cs) r = every_join IsPlainVar (command_wires d tag k c) (block_wires d tag (k + wires c) cs)
+    block_vars k (command_then c cs) r = all_append IsPlainVar (command_wires d tag k c) (block_wires d tag (k + wires c) cs)
         (command_vars k c r.0) (block_vars (k + wires c) cs r.1)
 
   mutual
-    state_vars : (k : ℕ) (t : State) → RangedState w t → Every IsPlainVar (state_wires d tag k t)
+    state_vars : (k : ℕ) (t : State) → RangedState w t → AllByRecursion IsPlainVar (state_wires d tag k t)
     state_vars k (state_node s b g) r = (
       tag_wire k,
-      every_join IsPlainVar (block_wires d tag (k + 1) b) (group_wires d tag (k + 1 + wires_block b) g)
+      all_append IsPlainVar (block_wires d tag (k + 1) b) (group_wires d tag (k + 1 + wires_block b) g)
           (block_vars (k + 1) b r.0) (group_vars (k + 1 + wires_block b) g r.1),
     )
 
-    group_vars : (k : ℕ) (g : Group) → RangedGroup w g → Every IsPlainVar (group_wires d tag k g)
+    group_vars : (k : ℕ) (g : Group) → RangedGroup w g → AllByRecursion IsPlainVar (group_wires d tag k g)
     group_vars k program.no_node r = tt
     group_vars k (and_node (state_node s b g) rest) r =
-        every_join IsPlainVar (state_wires d tag k (state_node s b g)) (group_wires d tag (k + (1 + wires_block b + wires_group g)) rest) (state_vars k (state_node s b g) r.0)
+        all_append IsPlainVar (state_wires d tag k (state_node s b g)) (group_wires d tag (k + (1 + wires_block b + wires_group g)) rest) (state_vars k (state_node s b g) r.0)
         (group_vars (k + (1 + wires_block b + wires_group g)) rest r.1)
 
-  site_vars : (k n : ℕ) → Every IsPlainVar (site_wires d tag k n)
+  site_vars : (k n : ℕ) → AllByRecursion IsPlainVar (site_wires d tag k n)
   site_vars k zero = tt
   site_vars k (suc n) = ((one_bit, refl), ((fit.wide, refl), site_vars (k + 1) n))
 
   wires_fine : AllByRecursion IsPlainVar src.wires
   wires_fine =
-      all_of IsPlainVar src.wires
-      (every_join IsPlainVar (site_wires d tag 1 sites) (first_wires d tag ++ (inner_wires d tag ++ group_wires d tag 0 d.program.states)) (site_vars 1 sites)
-      (every_join IsPlainVar (first_wires d tag) (inner_wires d tag ++ group_wires d tag 0 d.program.states)
+      (all_append IsPlainVar (site_wires d tag 1 sites) (first_wires d tag ++ (inner_wires d tag ++ group_wires d tag 0 d.program.states)) (site_vars 1 sites)
+      (all_append IsPlainVar (first_wires d tag) (inner_wires d tag ++ group_wires d tag 0 d.program.states)
       (each IsPlainVar (saved w) (λ m. variable (key_name d (first_key m)) tag 0 ∷ []) (λ x h. ((fit.wide, refl), tt)))
-      (every_join IsPlainVar (inner_wires d tag) (group_wires d tag 0 d.program.states)
+      (all_append IsPlainVar (inner_wires d tag) (group_wires d tag 0 d.program.states)
       (each IsPlainVar (λ q. nat_lt 0 (children w q)) (λ q. variable (key_name d (inner_key q)) tag 0 ∷ []) (λ x h. ((fit.wide, refl), tt)))
       (group_vars 0 d.program.states fit.ranged.states))))
 
   memories_fine : AllByRecursion IsStore src.memories
   memories_fine =
-      all_of IsStore src.memories
       (each IsStore (is_memory w) (λ m. memory_of d m ∷ tags_of d tag m)
       (λ m h. (
         (value_width m (or_right (is_input w m) (is_register w m || is_memory w m) (or_right (is_register w m) (is_memory w m) h)), fit.ranged.depths m h, pow_pos (width w m)),
@@ -182,7 +160,7 @@ module _ (d : Named) (tag sites : ℕ) (design : Design d tag sites) (fit : Fitt
       )))
     where
       by : (m : ℕ) → is_memory w m ≡ true → (b : Bool)
-          → Every IsStore (if b then [] else record { name = key_name d (tag_key m); width = tag; depth = depth d m; start = level_at_start d m } ∷ [])
+          → AllByRecursion IsStore (if b then [] else record { name = key_name d (tag_key m); width = tag; depth = depth d m; start = level_at_start d m } ∷ [])
       by m h true = tt
       by m h false = ((fit.wide, fit.ranged.depths m h, design.small _), tt)
 
@@ -204,7 +182,7 @@ module _ (d : Named) (tag sites : ℕ) (design : Design d tag sites) (fit : Fitt
       among_behind v.name (variable_names src.registers) (variable_names src.wires)
       (among_in src.wires v (in_front (site_wires d tag 1 sites) (first_wires d tag ++ (inner_wires d tag ++ group_wires d tag 0 d.program.states)) v i))))
 
-  of_sites : (k n : ℕ) → Every (λ a. 2 ≤ list_number w a) (site_keys k n)
+  of_sites : (k n : ℕ) → AllByRecursion (λ a. 2 ≤ list_number w a) (site_keys k n)
   of_sites k zero = tt
   of_sites k (suc n) = (omega arith, (omega arith, of_sites (k + 1) n))
 

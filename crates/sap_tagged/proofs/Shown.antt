@@ -16,7 +16,7 @@ use Rattle.sap_interface.specs.Prelude.{Named, name, world, IsInterfaceName, Sho
 use Rattle.sap_tagged.specs.Prelude.{value_key, tag_key, seat_key, key_name, for_entities, value_var, tag_var, seat_var, level_at_start, shown_registers, tag_registers, seat_registers, site_wires, first_wires, inner_wires, group_wires, memory_of, plain_of, shows, shown, declared_in}
 use Rattle.sap_tagged.specs.Plain as plain
 use Rattle.sap_tagged.proofs.Bools.{value_within, register_within, memory_within}
-use Rattle.sap_tagged.proofs.Members.{In, among_in, find_in, find_store, in_front}
+use Rattle.sap_tagged.proofs.Members.{In, among_in, find_by, in_front}
 use Rattle.sap_tagged.proofs.Named.{registers_named, memories_named}
 use Rattle.sap_tagged.proofs.Premises.{Design}
 use Rattle.sap_tagged.proofs.Cycle.{value_known, tag_known, seat_known, root_known, refused_known, level_known, refused_in, level_in, in_all, in_value, in_tag, in_own_tag, in_seat, in_memory, in_tags, in_input, behind_inputs, inputs_once, registers_once, wires_once, stores_once, site_bound}
@@ -117,7 +117,7 @@ module _ (d : Named) (tag sites : ℕ) (design : Design d tag sites) where
 
   -- a variable has its width under a name that is its own
   has_width : (xs : List Var) (x : Var) (a : Name) → AreDistinct (variable_names xs) → In xs x → x.name ≡ a → find (widths xs) a ≡ Some x.width
-  has_width xs x a once i e = subst (λ (b : Name). find (widths xs) b ≡ Some x.width) e (find_in xs x once i)
+  has_width xs x a once i e = subst (λ (b : Name). find (widths xs) b ≡ Some x.width) e (find_by (λ (v : Var). v.name) (λ v. v.width) xs x once i)
 
   has_register : (x : Var) (a : Name) → In p.registers x → x.name ≡ a → find (widths p.registers) a ≡ Some x.width
   has_register x a i e = has_width p.registers x a (registers_once d tag sites design) i e
@@ -130,7 +130,7 @@ module _ (d : Named) (tag sites : ℕ) (design : Design d tag sites) where
   has_memory : (m : MemoryVariable) (a : Name) → In p.memories m → m.name ≡ a → find (declared_in p).memories a ≡ Some (m.width, m.depth)
   has_memory m a i e =
       subst (λ (b : Name). find (declared_in p).memories b ≡ Some (m.width, m.depth)) e
-      (find_store (λ (z : MemoryVariable). (z.width, z.depth)) p.memories m (stores_once d tag sites design) i)
+      (find_by (λ (z : MemoryVariable). z.name) (λ (z : MemoryVariable). (z.width, z.depth)) p.memories m (stores_once d tag sites design) i)
 
   has_input : (x : Var) (a : Name) → In p.inputs x → x.name ≡ a → find (widths p.inputs) a ≡ Some x.width
   has_input x a i e = has_width p.inputs x a (inputs_once d tag sites design) i e

@@ -1,6 +1,6 @@
 -- The program of a design is no larger than the design.
 use Rattle.sap_lemmas.proofs.Common.{None, ◌≡◌, ℕ, ◌+◌, ◌≤◌, List, ◌++◌, length, Option, Some, refl, ap, arith, inl, inr, length-append, eqb, cases_Bool}
-use Rattle.sap_tree.specs.Prelude.{Expression, literal, sized_literal, variable, cell_at, unary_of, binary_of, choice, slice, concat, zero_extend, Expressions, no_part, and_part, TagExpression, level_of, tag_at, level_at, join_of, TagExpressions, no_tag, and_tag, SimpleCommand, assign, set_tag, set_cell_tag, CommandBlock, command_block, ElseBlock, no_else, with_else, CommandList, no_command, and_command, StateTree, state_node, StateList, no_state, and_state, state_count, states_count}
+use Rattle.sap_tree.specs.Prelude.{Expression, literal, cell_at, unary_of, binary_of, choice, slice, concat, zero_extend, Expressions, no_part, and_part, TagExpression, level_of, tag_at, level_at, join_of, TagExpressions, no_tag, and_tag, SimpleCommand, assign, set_tag, set_cell_tag, CommandBlock, command_block, ElseBlock, no_else, with_else, CommandList, no_command, and_command, StateTree, state_node, StateList, no_state, and_state, state_count, states_count}
 use Rattle.sap_tree.specs.declared.syntax.Kind.{Kind}
 use Rattle.sap_tree.specs.Syntax as tree
 use Rattle.sap_names.specs.Prelude.{what_is, own, width_of, family, asked_left, asked_right, asked_one, register_width, cell_width, index_width}
@@ -9,8 +9,7 @@ use Rattle.sap_maps.specs.Term.{Term}
 use Rattle.sap_lattice.specs.Levels.{Levels}
 use Rattle.sap_shape.specs.Sites.{Surroundings, simple_sites, command_sites, arms_sites, block_sites, else_sites, list_sites, state_sites, states_sites}
 use Rattle.sap_shape.proofs.SiteCounts.{simple_few}
-use Rattle.sap_meaning.specs.Prelude.{World, Step, assign, retag, retag_cell, go_to, fall_to_child, Command, lone, try, if_else, try_then, case_of, Arms, last_arm, and_arm, State, state_node, Group, Home}
-use Rattle.sap_meaning.specs.Program as program
+use Rattle.sap_meaning.specs.Prelude.{World, Step, assign, Command, lone, try, if_else, try_then, case_of, Arms, last_arm, and_arm, State, state_node, Group, Home}
 use Rattle.sap_meaning.proofs.WalksLemmas.{folded_mapped_block}
 use Rattle.sap_resolved.specs.Worlds.{states_in, state_entities, group_entities}
 use Rattle.sap_resolved.specs.Worlds as worlds

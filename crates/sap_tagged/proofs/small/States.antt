@@ -3,11 +3,13 @@ use Rattle.sap_lemmas.proofs.Common.{◌≡◌, ℕ, zero, suc, ◌+◌, ◌-◌
 use Rattle.sap_bits.specs.declared.Op2.TheVariants.{Eq}
 use Rattle.sap_maps.specs.Term.{Term, constant, two}
 use Rattle.sap_meaning.specs.Prelude.{root, listed, Command, lone, try, if_else, try_then, case_of, Arms, last_arm, and_arm, Block, end_block, command_then, state_node, Group, no_node, and_node, width_of, Home, listed_alone}
-use Rattle.sap_ir.specs.Plain.Nested.{Body, stop, cases, Forest, state_names}
+use Rattle.sap_ir.specs.Plain.Nested.{Body, stop, cases, Forest, none, state, state_names}
 use Rattle.sap_size.specs.Terms.{term_size}
 use Rattle.sap_size.specs.Nested.{states_in, body_weight, forest_weight}
 use Rattle.sap_size.specs.Programs.{constant_count, command_size, arms_size, block_size, group_size, states_below}
 use Rattle.sap_tagged.specs.Prelude.{tag_key, wire_key, first_key, Setting, var, expr, gives, raises, arm_count, pick_width, picks_arm, picks, decides, pick_of, select_of, wires, wires_block, command_plain, arms_plain, block_plain, HaveConstants, Few, FewArms, FewBlock, FewGroup, wires_group, saved, group_plain, top_plain}
+use Rattle.sap_tagged.proofs.Groups.{Shaped}
+use Rattle.sap_tagged.proofs.Falls.{shaped_group, shaped_top}
 use Rattle.sap_tagged.proofs.small.Held.{lub_weighs, two_weighs, choose_weighs, part_weighs}
 use Rattle.sap_tagged.proofs.small.Tags.{Roomy, expr_weighs, tag_weighs}
 use Rattle.sap_tagged.proofs.small.Steps.{follow_weighs, sweep_weighs, raises_weigh, attempt_weighs, attempt_then_weighs}
@@ -143,16 +145,14 @@ module _ (d : Setting) (room : ℕ) (r : Roomy d room) where
 
   -- as many states as the program has
 
-  group_states : (parent k : ℕ) (g : Group) → states_in (group_plain d parent k g) ≡ states_below g
-  unfolding group_plain
-  group_states parent k no_node = refl
-  group_states parent k (and_node (state_node s b g) rest) =
-      let kids = group_plain d s (k + 1 + wires_block b) g in
-      let others = group_plain d parent (k + (1 + wires_block b + wires_group g)) rest in
-      let x = group_states s (k + 1 + wires_block b) g in
-      let y = group_states parent (k + (1 + wires_block b + wires_group g)) rest in
+  shaped_states : (g : Group) (f : Forest) → Shaped d g f → states_in f ≡ states_below g
+  shaped_states no_node none h = refl
+  shaped_states (and_node (state_node s b g) rest) (state x body kids others) h =
+      let m = shaped_states g kids h.1 in
+      let o = shaped_states rest others h.2 in
       let n = length-append (state_names kids) (state_names others) in
-      omega (arith, x, y, n)
+      omega (arith, m, o, n)
+  shaped_states _ _ h = absurd h
 
   group_weighs : (group : Forest) → states_in group ≤ root d.world → (parent k : ℕ) (g : Group) → states_below g ≤ root d.world → FewGroup g
       → forest_weight group (group_plain d parent k g) ≤ room * group_size g
@@ -163,22 +163,11 @@ module _ (d : Setting) (room : ℕ) (r : Roomy d room) where
       let v = r.levels in
       let at : Home = record { state = s; parent = parent; children = g } in
       let kids = group_plain d s (k + 1 + wires_block b) g in
-      let n = group_states s (k + 1 + wires_block b) g in
+      let n = shaped_states g kids (shaped_group d s (k + 1 + wires_block b) g) in
       let x = block_weighs at (omega (arith, few)) group small k (k + 1) b arms.0.0 in
       let y = group_weighs kids (omega (arith, few, n)) s (k + 1 + wires_block b) g (omega (arith, few)) arms.0.1 in
       let z = group_weighs group small parent (k + (1 + wires_block b + wires_group g)) rest (omega (arith, few)) arms.1 in
       omega (arith, w, v, x, y, z)
-
-  top_states : (hangs : ℕ → Bool) (k : ℕ) (g : Group) → states_in (top_plain d hangs k g) ≡ states_below g
-  unfolding top_plain
-  top_states hangs k no_node = refl
-  top_states hangs k (and_node (state_node s b g) rest) =
-      let kids = group_plain d s (k + 1 + wires_block b) g in
-      let others = top_plain d hangs (k + (1 + wires_block b + wires_group g)) rest in
-      let x = group_states s (k + 1 + wires_block b) g in
-      let y = top_states hangs (k + (1 + wires_block b + wires_group g)) rest in
-      let n = length-append (state_names kids) (state_names others) in
-      omega (arith, x, y, n)
 
   tops_weigh : (group : Forest) → states_in group ≤ root d.world → (hangs : ℕ → Bool) (k : ℕ) (g : Group) → states_below g ≤ root d.world
       → FewGroup g → forest_weight group (top_plain d hangs k g) ≤ room * group_size g
@@ -189,7 +178,7 @@ module _ (d : Setting) (room : ℕ) (r : Roomy d room) where
       let v = r.levels in
       let at : Home = record { state = s; parent = root d.world; children = g } in
       let kids = group_plain d s (k + 1 + wires_block b) g in
-      let n = group_states s (k + 1 + wires_block b) g in
+      let n = shaped_states g kids (shaped_group d s (k + 1 + wires_block b) g) in
       let body = block_plain d at k (k + 1) b in
       let raised = raises d hangs k body in
       let x = block_weighs at (omega (arith, few)) group small k (k + 1) b arms.0.0 in
@@ -203,5 +192,5 @@ module _ (d : Setting) (room : ℕ) (r : Roomy d room) where
   pub program_weighs : (hangs : ℕ → Bool) (g : Group) → states_below g ≤ root d.world → FewGroup g → (let f = top_plain d hangs 0 g in forest_weight f f) ≤ room * group_size g
   program_weighs hangs g few arms =
       let f = top_plain d hangs 0 g in
-      let n = top_states hangs 0 g in
+      let n = shaped_states g f (shaped_top d hangs 0 g) in
       tops_weigh f (omega (arith, few, n)) hangs 0 g few arms
