@@ -5,9 +5,7 @@ use Rattle.sap_maps.specs.Prelude.{Name, Scope, find, Term}
 use Rattle.sap_net.specs.Rules.{Shapes, IsWidth, IsDepth, IsOperand, readable_after}
 use Rattle.sap_net.specs.declared.parts.Operand.TheVariants.{Constant}
 use Rattle.sap_net.specs.declared.parts.Right.TheVariants.{Choose}
-use Rattle.sap_net.specs.declared.parts.Wire.{Wire}
 use Rattle.sap_ir.specs.Prelude.{Action, set, put, Command, TermFine}
-use Rattle.sap_lower.specs.declared.parts.Part.{Part}
 use Rattle.sap_lower.specs.declared.parts.WritePort.{WritePort}
 use Rattle.sap_lower.specs.Lowering.{nothing, present, plus, low}
 use Rattle.sap_share.specs.Tables.{replaced}
@@ -15,7 +13,8 @@ use Rattle.sap_lower.specs.declared.lowering.Lowering.{Lowering}
 use Rattle.sap_lower.specs.Commands.{no_port, port_of, low_set, low_put, low_action, low_command, low_commands}
 use Rattle.sap_lower.proofs.Stands.{HasEntries, replaced_same, replaced_other, replaced_has}
 use Rattle.sap_lower.proofs.Standing.{ActionOk, CommandOk}
-use Rattle.sap_lower.proofs.Fits.{Fits, NoHelpers, EnvFits, env_grows, Lowered, plus_at, plus_long, low_long, low_fits}
+use Rattle.sap_lower.proofs.Adding.{commands_added}
+use Rattle.sap_lower.proofs.Fits.{IsLonger, longer, Fits, NoHelpers, EnvFits, env_grows, Lowered, plus_at, plus_long, low_long, low_fits}
 
 abbrev pub AllWide : Scope → Type 0
 AllWide vars = (n : Name) (u : ℕ) → find vars n ≡ Some u → IsWidth u
@@ -51,33 +50,8 @@ port_grows sc sd g p w d f =
       value = operand_grows sc sd g w p.value f.value;
     }
 
-set_long : (ms : Shapes) (s : Lowering) (c : Term Name) (n : Name) (t : Term Name) → length s.wires ≤ length (low_set ms s c n t).wires
-set_long ms s c n t =
-    let es = s.entries in
-    let z = low ms es c s.wires in
-    let x = low ms es t z.wires in
-    let old = present es n in
-    omega (arith, low_long ms es c s.wires, low_long ms es t z.wires, plus_long x.wires old.width (Choose z.part.operand x.part.operand old.operand))
-
-put_long : (ms : Shapes) (es : List (Name × Part)) (p : WritePort) (c i t : Term Name) (ws : List Wire) → length ws ≤ length (low_put ms es p c i t ws).wires
-put_long ms es p c i t ws =
-    let z = low ms es c ws in
-    let y = low ms es i z.wires in
-    let x = low ms es t y.wires in
-    let re = Choose z.part.operand (Constant 1 1) p.enable in
-    let e = plus x.wires 1 re in
-    let rj = Choose z.part.operand y.part.operand p.index in
-    let j = plus e.wires p.bits rj in
-    let rl = Choose z.part.operand x.part.operand p.value in
-    omega (arith, low_long ms es c ws, low_long ms es i z.wires, low_long ms es t y.wires, plus_long x.wires 1 re, plus_long e.wires p.bits rj, plus_long j.wires p.width rl)
-
-action_long : (ms : Shapes) (s : Lowering) (c : Term Name) (a : Action) → length s.wires ≤ length (low_action ms s c a).wires
-action_long ms s c (set x t) = set_long ms s c x t
-action_long ms s c (put m i t) = put_long ms s.entries (port_of s.ports m) c i t s.wires
-
 commands_long : (ms : Shapes) (cs : List Command) (s : Lowering) → length s.wires ≤ length (low_commands ms s cs).wires
-commands_long ms [] s = omega arith
-commands_long ms (c ∷ cs) s = omega (arith, action_long ms s c.when c.act, commands_long ms cs (low_command ms s c))
+commands_long ms cs s = commands_added IsLonger longer ms cs s
 
 ports_grow : (ms : Shapes) (sc sd : Scope) (ps : List (Name × WritePort)) → Grows sc sd → PortsFit ms sc ps → PortsFit ms sd ps
 ports_grow ms sc sd ps g f m e h = port_grows sc sd g (port_of ps m) e.0 e.1 (f m e h)

@@ -1,8 +1,8 @@
 -- The wires of an expression are declared once, read after they are assigned, and fit.
-use Rattle.sap_lemmas.proofs.Common.{◌≡◌, ℕ, ◌+◌, ◌-◌, ◌/◌, ◌%◌, ◌^◌, ◌<◌, ◌≤◌, List, [], ◌∷◌, ◌++◌, Option, Some, None, Bool, true, false, length, sym, ap, ap₂, ◌∙◌, subst, refl, arith, inl, inr, length-append, if◌then◌else◌, unwrap_or, pow_pos, mod-lt, cases_Bool, AllByRecursion, all_append}
+use Rattle.sap_lemmas.proofs.Common.{◌≡◌, ℕ, ◌+◌, ◌-◌, ◌/◌, ◌%◌, ◌^◌, ◌<◌, ◌≤◌, List, [], ◌∷◌, ◌++◌, Option, Some, None, true, false, length, sym, ap, ap₂, ◌∙◌, subst, refl, arith, inl, inr, length-append, unwrap_or, pow_pos, mod-lt, cases_Bool, AllByRecursion, all_append}
 use Rattle.sap_bits.specs.Arithmetic.{width1, width2, slice_of}
 use Rattle.sap_bits.specs.declared.Op2.{Op2}
-use Rattle.sap_bits.specs.declared.Op2.TheVariants.{Add, Sub, Mul, And, Or, Xor, Eq, Ne, Lt, Le, Shl, Shr}
+use Rattle.sap_bits.specs.declared.Op2.TheVariants.{Shl, Shr}
 use Rattle.sap_maps.specs.Prelude.{Name, Scope, find, Term, constant, read, cell, one, two, choose, join, part, CountFits}
 use Rattle.sap_maps.proofs.Scopes.{found_here, found_behind}
 use Rattle.sap_net.specs.Prelude.{Shapes, IsWidth, IsOperand, IsRight, AreWires, readable_after, is_name}
@@ -19,7 +19,8 @@ use Rattle.sap_lower.specs.declared.parts.Part.{Part}
 use Rattle.sap_share.specs.Keys.{key}
 use Rattle.sap_share.specs.Names.{helper}
 use Rattle.sap_share.specs.Rights.{rights}
-use Rattle.sap_lower.specs.Lowering.{present, shared, plus, leaves_nothing, low_two, sliced, is_outside, low_slice, cell_width, low, nothing}
+use Rattle.sap_lower.proofs.Adding.{OfEach, two_added, slice_added, low_added}
+use Rattle.sap_lower.specs.Lowering.{present, shared, plus, leaves_nothing, low_two, sliced, cell_width, low}
 use Rattle.sap_lower.proofs.Means.{small_sum, slice_inside}
 use Rattle.sap_share.proofs.Found.{known_readable}
 
@@ -103,48 +104,14 @@ plus_at ms sc ws w u r e apart fits i f l =
 
 -- no wire is lost
 
-two_long_at : (b : Bool) (ws : List Wire) (p : Part) (u : ℕ) (r : Right) → length ws ≤ length (if b then record { wires = ws; part = p } else plus ws u r).wires
-two_long_at true ws p u r = omega arith
-two_long_at false ws p u r = omega (arith, plus_long ws u r)
+abbrev pub IsLonger : List Wire → List Wire → Type 0
+IsLonger ws xs = length ws ≤ length xs
 
-pub two_long : (op : Op2) (x y : Part) (ws : List Wire) → length ws ≤ length (low_two op x y ws).wires
-two_long op x y ws = two_long_at (leaves_nothing op x.width y.operand) ws _ _ _
-
-sliced_long : (b : Bool) (o : Operand) (hi lo : ℕ) (ws : List Wire) (p : Part) → length ws ≤ length (if b then record { wires = ws; part = p } else sliced o hi lo ws).wires
-sliced_long true o hi lo ws p = omega arith
-sliced_long false (Named x) hi lo ws p = omega (arith, plus_long ws (hi + 1 - lo) (Slice x hi lo))
-sliced_long false (Constant w n) hi lo ws p = omega arith
-
-pub slice_long : (o : Operand) (hi lo : ℕ) (ws : List Wire) → length ws ≤ length (low_slice o hi lo ws).wires
-slice_long o hi lo ws = sliced_long (is_outside hi lo) o hi lo ws nothing
+pub longer : OfEach IsLonger
+longer = record { none = λ ws. omega arith; both = λ ws xs ys a b. omega (arith, a, b); wire = plus_long }
 
 pub low_long : (ms : Shapes) (es : List (Name × Part)) (t : Term Name) (ws : List Wire) → length ws ≤ length (low ms es t ws).wires
-low_long ms es (constant w x) ws = omega arith
-low_long ms es (read n) ws = omega arith
-low_long ms es (cell m i) ws =
-    let y = low ms es i ws in
-    omega (arith, low_long ms es i ws, plus_long y.wires (cell_width ms m) (Cell m y.part.operand))
-low_long ms es (one op a) ws =
-    let x = low ms es a ws in
-    omega (arith, low_long ms es a ws, plus_long x.wires (width1 op x.part.width) (One op x.part.operand))
-low_long ms es (two op a b) ws =
-    let x = low ms es a ws in
-    let y = low ms es b x.wires in
-    omega (arith, low_long ms es a ws, low_long ms es b x.wires, two_long op x.part y.part y.wires)
-low_long ms es (choose c a b) ws =
-    let z = low ms es c ws in
-    let x = low ms es a z.wires in
-    let y = low ms es b x.wires in
-    let e = plus_long y.wires x.part.width (Choose z.part.operand x.part.operand y.part.operand) in
-    omega (arith, low_long ms es c ws, low_long ms es a z.wires, low_long ms es b x.wires, e)
-low_long ms es (join a b) ws =
-    let x = low ms es a ws in
-    let y = low ms es b x.wires in
-    let e = plus_long y.wires ((x.part.width + y.part.width) % 4294967296) (Concat (x.part.operand ∷ y.part.operand ∷ [])) in
-    omega (arith, low_long ms es a ws, low_long ms es b x.wires, e)
-low_long ms es (part a hi lo) ws =
-    let x = low ms es a ws in
-    omega (arith, low_long ms es a ws, slice_long x.part.operand hi lo x.wires)
+low_long ms es t ws = low_added IsLonger longer ms es t ws
 
 -- one step after another
 pub followed : (ms : Shapes) (sc : Scope) (ws xs ys : List Wire) (p q : Part) (u w : ℕ) → Lowered ms sc ws xs p u → Lowered ms sc xs ys q w → Lowered ms sc ws ys q w
@@ -153,16 +120,7 @@ followed ms sc ws xs ys p q u w a b = record { fits = b.fits; grows = λ n k h. 
 shift_width : (op : Op2) (w : ℕ) (o : Operand) → leaves_nothing op w o ≡ true → width2 op w ≡ w
 shift_width Shl w o h = refl
 shift_width Shr w o h = refl
-shift_width Add w o h = absurd (cc)
-shift_width Sub w o h = absurd (cc)
-shift_width Mul w o h = absurd (cc)
-shift_width And w o h = absurd (cc)
-shift_width Or w o h = absurd (cc)
-shift_width Xor w o h = absurd (cc)
-shift_width Eq w o h = absurd (cc)
-shift_width Ne w o h = absurd (cc)
-shift_width Lt w o h = absurd (cc)
-shift_width Le w o h = absurd (cc)
+shift_width _ w o h = absurd (cc)
 
 two_fits : (ms : Shapes) (sc : Scope) (op : Op2) (x y : Part) (ws : List Wire) (w t u : ℕ) → NoHelpers ms → Fits ms sc ws → IsWidth w
     → IsWidth t → IsWidth u → IsOperand (readable_after sc ws) w x.operand → x.width ≡ w → IsOperand (readable_after sc ws) t y.operand
@@ -216,7 +174,7 @@ low_fits ms sc vars es apart u (one op a) iu f ws env fits l =
 low_fits ms sc vars es apart u (two op a b) iu f ws env fits l =
     let x = low ms es a ws in
     let y = low ms es b x.wires in
-    let e = two_long op x.part y.part y.wires in
+    let e = two_added IsLonger longer op x.part y.part y.wires in
     let lb = low_long ms es b x.wires in
     let a' = low_fits ms sc vars es apart f.0 a f.2 f.4 ws env fits (omega (arith, e, lb)) in
     let b' = low_fits ms sc vars es apart f.1 b f.3 f.5 x.wires (env_grows _ _ vars es a'.grows env) a'.fits (omega (arith, e)) in
@@ -255,7 +213,7 @@ low_fits ms sc vars es apart u (join a b) iu f ws env fits l =
     followed ms sc ws y.wires _ y.part _ f.1 u (followed ms sc ws x.wires y.wires x.part y.part f.0 f.1 a' b') p
 low_fits ms sc vars es apart u (part a hi lo) iu f ws env fits l =
     let x = low ms es a ws in
-    let e = slice_long x.part.operand hi lo x.wires in
+    let e = slice_added IsLonger longer x.part.operand hi lo x.wires in
     let a' = low_fits ms sc vars es apart f.0 a f.1 f.2 ws env fits (omega (arith, e)) in
     let there = slice_inside f.0 hi lo f.3 f.4 f.1.1 in
     let l' : length (sliced x.part.operand hi lo x.wires).wires < 2 ^ 64 = rw there at l in

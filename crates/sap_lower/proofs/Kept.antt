@@ -1,5 +1,5 @@
 -- What names the netlist of a program declares.
-use Rattle.sap_lemmas.proofs.Common.{◌≡◌, ◌⊎◌, ◌&&◌, ◌||◌, List, [], ◌∷◌, ◌++◌, Bool, true, false, not, sym, ap, ◌∙◌, inl, inr, AllByRecursion, cases_Bool, or_other, all_append}
+use Rattle.sap_lemmas.proofs.Common.{◌≡◌, ◌⊎◌, ◌&&◌, ◌||◌, List, [], ◌∷◌, ◌++◌, Bool, true, not, sym, ap, ◌∙◌, inl, inr, AllByRecursion, cases_Bool, or_other, all_append}
 use Rattle.sap_net.proofs.NamesLemmas.{among_append, each_among, among_each}
 use Rattle.sap_maps.specs.Maps.{Name}
 use Rattle.sap_net.specs.Prelude.{is_among, IsHelpingName, names_of}
@@ -19,8 +19,7 @@ helping_names (w ∷ ws) a = ((a.0.0, a.0.2), helping_names ws a.1)
 
 no_port : (a p : Bool) → (a && not p) ≡ true → p ≡ true → ⊥
 no_port true true h e = cc
-no_port true false h e = cc
-no_port false p h e = cc
+no_port _ _ h e = cc
 
 abbrev IsNamed : Source → Name → Type 0
 IsNamed s x = IsKept s x ⊎ IsHelpingName x

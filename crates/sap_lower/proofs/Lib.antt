@@ -1,5 +1,6 @@
 pub mod Shared
 pub mod Glue
+pub mod Adding
 pub mod Means
 pub mod Stands
 pub mod Ports

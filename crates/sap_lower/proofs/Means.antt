@@ -1,8 +1,8 @@
 -- In every solution of the wires' equations the operand of an expression has its value.
-use Rattle.sap_lemmas.proofs.Common.{◌≡◌, ℕ, ◌+◌, ◌-◌, ◌%◌, ◌/◌, ◌^◌, ◌<◌, ◌≤◌, ◌==◌, List, [], ◌∷◌, ◌++◌, Option, Some, None, Bool, true, false, length, sym, ap, ap₂, ◌∙◌, subst, refl, arith, inl, inr, if◌then◌else◌, unwrap_or, nat_lt, pow_pos, mod-lt, mod-eq_of_lt, cases_Bool, nat_tests}
+use Rattle.sap_lemmas.proofs.Common.{◌≡◌, ℕ, ◌+◌, ◌-◌, ◌%◌, ◌/◌, ◌^◌, ◌<◌, ◌≤◌, ◌==◌, List, [], ◌∷◌, ◌++◌, Option, Some, None, true, false, length, sym, ap, ap₂, ◌∙◌, subst, refl, arith, inl, inr, unwrap_or, nat_lt, pow_pos, mod-lt, mod-eq_of_lt, cases_Bool, nat_tests}
 use Rattle.sap_bits.specs.Arithmetic.{value1, value2, width1, width2, slice_of, joined}
 use Rattle.sap_bits.specs.declared.Op2.{Op2}
-use Rattle.sap_bits.specs.declared.Op2.TheVariants.{Add, Sub, Mul, And, Or, Xor, Eq, Ne, Lt, Le, Shl, Shr}
+use Rattle.sap_bits.specs.declared.Op2.TheVariants.{Shl, Shr}
 use Rattle.sap_bits.proofs.Low.{shl_past, shr_past}
 use Rattle.sap_bits.proofs.Within.{value1_below, value2_below}
 use Rattle.sap_maps.specs.Prelude.{Name, Valuation, Scope, find, Term, constant, read, cell, one, two, choose, join, part, term_width}
@@ -20,7 +20,8 @@ use Rattle.sap_lower.specs.declared.parts.Part.{Part}
 use Rattle.sap_share.specs.Keys.{key}
 use Rattle.sap_share.specs.Names.{helper}
 use Rattle.sap_share.specs.Rights.{rights}
-use Rattle.sap_lower.specs.Lowering.{present, shared, plus, is_past, leaves_nothing, low_two, sliced, is_outside, low_slice, low_join, cell_width, low, nothing}
+use Rattle.sap_lower.proofs.Adding.{OfEach, two_added, slice_added, low_added}
+use Rattle.sap_lower.specs.Lowering.{present, shared, plus, is_past, leaves_nothing, low_two, sliced, is_outside, low_join, cell_width, low}
 use Rattle.sap_lower.proofs.Shared.{Gives, known_gives}
 
 -- a part has this width and value
@@ -78,22 +79,12 @@ shared_front widths v ws u r None h = gives_front widths v ws _ h
 pub plus_front : (widths : Name → ℕ) (v : Valuation) (ws : List Wire) (u : ℕ) (r : Right) → Gives widths v (plus ws u r).wires → Gives widths v ws
 plus_front widths v ws u r h = shared_front widths v ws u r (find (rights ws) (key u r)) h
 
-two_front_at : (b : Bool) (widths : Name → ℕ) (v : Valuation) (ws : List Wire) (p : Part) (u : ℕ) (r : Right)
-    → Gives widths v (if b then record { wires = ws; part = p } else plus ws u r).wires → Gives widths v ws
-two_front_at true widths v ws p u r h = h
-two_front_at false widths v ws p u r h = plus_front widths v ws u r h
+-- what is given after is given before
+abbrev pub GivesBefore : (Name → ℕ) → Valuation → List Wire → List Wire → Type 0
+GivesBefore widths v ws xs = Gives widths v xs → Gives widths v ws
 
-two_front : (widths : Name → ℕ) (v : Valuation) (op : Op2) (x y : Part) (ws : List Wire) → Gives widths v (low_two op x y ws).wires → Gives widths v ws
-two_front widths v op x y ws h = two_front_at (leaves_nothing op x.width y.operand) widths v ws _ _ _ h
-
-sliced_front : (b : Bool) (widths : Name → ℕ) (v : Valuation) (o : Operand) (hi lo : ℕ) (ws : List Wire) (p : Part)
-    → Gives widths v (if b then record { wires = ws; part = p } else sliced o hi lo ws).wires → Gives widths v ws
-sliced_front true widths v o hi lo ws p h = h
-sliced_front false widths v (Named x) hi lo ws p h = plus_front widths v ws (hi + 1 - lo) (Slice x hi lo) h
-sliced_front false widths v (Constant w n) hi lo ws p h = h
-
-slice_front : (widths : Name → ℕ) (v : Valuation) (o : Operand) (hi lo : ℕ) (ws : List Wire) → Gives widths v (low_slice o hi lo ws).wires → Gives widths v ws
-slice_front widths v o hi lo ws h = sliced_front (is_outside hi lo) widths v o hi lo ws nothing h
+pub front : (widths : Name → ℕ) (v : Valuation) → OfEach (GivesBefore widths v)
+front widths v = record { none = λ ws h. h; both = λ ws xs ys f g h. f (g h); wire = plus_front widths v }
 
 pub slice_inside : (w hi lo : ℕ) → lo ≤ hi → hi < w → w ≤ 64 → is_outside hi lo ≡ false
 slice_inside w hi lo a b c =
@@ -101,33 +92,9 @@ slice_inside w hi lo a b c =
     let q : nat_lt 63 hi ≡ false = grind (arith, nat_tests) in
     rw (p, q) refl
 
-join_front : (widths : Name → ℕ) (v : Valuation) (x y : Part) (ws : List Wire) → Gives widths v (low_join x y ws).wires → Gives widths v ws
-join_front widths v x y ws h = plus_front widths v ws ((x.width + y.width) % 4294967296) (Concat (x.operand ∷ y.operand ∷ [])) h
-
 pub low_front : (widths : Name → ℕ) (v : Valuation) (ms : Shapes) (es : List (Name × Part)) (t : Term Name) (ws : List Wire)
     → Gives widths v (low ms es t ws).wires → Gives widths v ws
-low_front widths v ms es (constant w x) ws h = h
-low_front widths v ms es (read n) ws h = h
-low_front widths v ms es (cell m i) ws h =
-    let y = low ms es i ws in low_front widths v ms es i ws (plus_front widths v y.wires (cell_width ms m) (Cell m y.part.operand) h)
-low_front widths v ms es (one op a) ws h =
-    let x = low ms es a ws in low_front widths v ms es a ws (plus_front widths v x.wires (width1 op x.part.width) (One op x.part.operand) h)
-low_front widths v ms es (two op a b) ws h =
-    let x = low ms es a ws in
-    let y = low ms es b x.wires in
-    low_front widths v ms es a ws (low_front widths v ms es b x.wires (two_front widths v op x.part y.part y.wires h))
-low_front widths v ms es (choose c a b) ws h =
-    let z = low ms es c ws in
-    let x = low ms es a z.wires in
-    let y = low ms es b x.wires in
-    let hb = plus_front widths v y.wires x.part.width (Choose z.part.operand x.part.operand y.part.operand) h in
-    low_front widths v ms es c ws (low_front widths v ms es a z.wires (low_front widths v ms es b x.wires hb))
-low_front widths v ms es (join a b) ws h =
-    let x = low ms es a ws in
-    let y = low ms es b x.wires in
-    low_front widths v ms es a ws (low_front widths v ms es b x.wires (join_front widths v x.part y.part y.wires h))
-low_front widths v ms es (part a hi lo) ws h =
-    let x = low ms es a ws in low_front widths v ms es a ws (slice_front widths v x.part.operand hi lo x.wires h)
+low_front widths v ms es t ws h = low_added (GivesBefore widths v) (front widths v) ms es t ws h
 
 -- shifts that leave nothing
 
@@ -138,16 +105,7 @@ past_zero v w (Constant u n) h = grind (arith, nat_tests)
 nothing_left : (v : Valuation) (op : Op2) (w a : ℕ) (o : Operand) → leaves_nothing op w o ≡ true → a < 2 ^ w → (value2 op w a (operand_value v o) ≡ 0) × (width2 op w ≡ w)
 nothing_left v Shl w a o h l = (shl_past a (operand_value v o) w (past_zero v w o h), refl)
 nothing_left v Shr w a o h l = (shr_past a (operand_value v o) w (past_zero v w o h) l, refl)
-nothing_left v Add w a o h l = absurd (cc)
-nothing_left v Sub w a o h l = absurd (cc)
-nothing_left v Mul w a o h l = absurd (cc)
-nothing_left v And w a o h l = absurd (cc)
-nothing_left v Or w a o h l = absurd (cc)
-nothing_left v Xor w a o h l = absurd (cc)
-nothing_left v Eq w a o h l = absurd (cc)
-nothing_left v Ne w a o h l = absurd (cc)
-nothing_left v Lt w a o h l = absurd (cc)
-nothing_left v Le w a o h l = absurd (cc)
+nothing_left v _ w a o h l = absurd (cc)
 
 two_shows : (widths : Name → ℕ) (v : Valuation) (op : Op2) (x y : Part) (ws : List Wire) (w t a b : ℕ) → Stands widths v x w a
     → Stands widths v y t b → Gives widths v (low_two op x y ws).wires → Shows widths v (low_two op x y ws).part (width2 op w) (value2 op w a b)
@@ -244,7 +202,7 @@ low_stands ms vars vw widths v es value cells k u (one op a) f ws h =
 low_stands ms vars vw widths v es value cells k u (two op a b) f ws h =
     let x = low ms es a ws in
     let y = low ms es b x.wires in
-    let hb = two_front widths v op x.part y.part y.wires h in
+    let hb = two_added (GivesBefore widths v) (front widths v) op x.part y.part y.wires h in
     let sx = low_stands ms vars vw widths v es value cells k f.0 a f.4 ws (low_front widths v ms es b x.wires hb) in
     let sy = low_stands ms vars vw widths v es value cells k f.1 b f.5 x.wires hb in
     let d = fine_width ms vars vw k.declared f.0 a f.4 in
@@ -275,7 +233,7 @@ low_stands ms vars vw widths v es value cells k u (choose c a b) f ws h =
 low_stands ms vars vw widths v es value cells k u (join a b) f ws h =
     let x = low ms es a ws in
     let y = low ms es b x.wires in
-    let hb = join_front widths v x.part y.part y.wires h in
+    let hb = plus_front widths v y.wires ((x.part.width + y.part.width) % 4294967296) (Concat (x.part.operand ∷ y.part.operand ∷ [])) h in
     let sx = low_stands ms vars vw widths v es value cells k f.0 a f.4 ws (low_front widths v ms es b x.wires hb) in
     let sy = low_stands ms vars vw widths v es value cells k f.1 b f.5 x.wires hb in
     let d = fine_width ms vars vw k.declared f.1 b f.5 in
@@ -289,7 +247,7 @@ low_stands ms vars vw widths v es value cells k u (join a b) f ws h =
     }
 low_stands ms vars vw widths v es value cells k u (part a hi lo) f ws h =
     let x = low ms es a ws in
-    let sx = low_stands ms vars vw widths v es value cells k f.0 a f.2 ws (slice_front widths v x.part.operand hi lo x.wires h) in
+    let sx = low_stands ms vars vw widths v es value cells k f.0 a f.2 ws (slice_added (GivesBefore widths v) (front widths v) x.part.operand hi lo x.wires h) in
     let ta = term_value vw value cells a in
     let there = slice_inside f.0 hi lo f.3 f.4 f.1.1 in
     let h' : Gives widths v (sliced x.part.operand hi lo x.wires).wires = rw there at h in

@@ -51,19 +51,6 @@ now_of false g m i t = refl
 merged : (c d old new x : ℕ) → c ≡ d → new ≡ x → (if c == 0 then old else new) ≡ (if d == 0 then old else x)
 merged c d old new x e f = cc
 
-pub put_front : (widths : Name → ℕ) (v : Valuation) (ms : Shapes) (es : List (Name × Part)) (p : WritePort) (c i t : Term Name) (ws : List Wire)
-    → Gives widths v (low_put ms es p c i t ws).wires → Gives widths v ws
-put_front widths v ms es p c i t ws h =
-    let z = low ms es c ws in
-    let y = low ms es i z.wires in
-    let x = low ms es t y.wires in
-    let re = Choose z.part.operand (Constant 1 1) p.enable in
-    let e = plus x.wires 1 re in
-    let rj = Choose z.part.operand y.part.operand p.index in
-    let j = plus e.wires p.bits rj in
-    let he = plus_front widths v e.wires p.bits rj (plus_front widths v j.wires p.width (Choose z.part.operand x.part.operand p.value) h) in
-    low_front widths v ms es c ws (low_front widths v ms es i z.wires (low_front widths v ms es t y.wires (plus_front widths v x.wires 1 re he)))
-
 pub put_is : (ms : Shapes) (vars : Scope) (vw widths : Name → ℕ) (v : Valuation) (es : List (Name × Part)) (g : Going)
     → Around ms vars vw widths v es g.now.value g.now.cell → (p : WritePort) (m : Name) (done : Bool) → PortIs v p m g done
     → (c i t : Term Name) (b w : ℕ) → TermFine ms vars 1 c → TermFine ms vars b i → TermFine ms vars w t

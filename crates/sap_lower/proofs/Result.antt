@@ -109,9 +109,8 @@ memories_ordered I R W M P A k =
 
 pub take_front : (xs : List Port) (ys zs : List Name) → map (λ (p : Port). p.name) xs ≡ ys → ys ≡ take (length xs) (ys ++ zs)
 take_front [] [] zs h = refl
-take_front [] (y ∷ ys) zs h = absurd (cc)
-take_front (x ∷ xs) [] zs h = absurd (cc)
 take_front (x ∷ xs) (y ∷ ys) zs h = ap (λ (ns : List Name). y ∷ ns) (take_front xs ys zs (tail_equal x.name y (map (λ (p : Port). p.name) xs) ys h))
+take_front _ _ zs h = absurd (cc)
 
 no_inputs : (rs : List Var) (ps : List Name) → map (λ (p : Port). p.name) (filter (λ (p : Port). is_input p.kind) (map (port_shown rs) ps)) ≡ []
 no_inputs rs [] = refl

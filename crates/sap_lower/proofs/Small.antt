@@ -27,6 +27,7 @@ use Rattle.sap_lower.specs.Lowering.{nothing, present, Low, shared, plus, leaves
 use Rattle.sap_lower.specs.declared.lowering.Lowering.{Lowering}
 use Rattle.sap_lower.specs.Commands.{port_of, low_chosen, merged_port, low_put, low_action, low_command, low_commands}
 use Rattle.sap_lower.specs.Lowered.{first_lowering, last_lowering, out_wire, listed, unlisted, unported, picked, register_of, memory_of, registers_declared, lowered}
+use Rattle.sap_lower.proofs.Adding.{OfEach, low_added}
 use Rattle.sap_lower.proofs.Declares.{picked_names, unlisted_names}
 use Rattle.sap_lower.proofs.Listed.{listed_names}
 use Rattle.sap_share.proofs.RightMaps.{last_here}
@@ -107,53 +108,15 @@ join_step x y = plus_step ((x.width + y.width) % 4294967296) (Concat (x.operand 
 
 -- expressions
 
+keeping : OfEach Keeps
+keeping = record { none = λ ws k n h. h; both = λ ws xs ys f g k n h. g k n (f k n h); wire = plus_keeps }
+
 low_keeps : (ms : Shapes) (es : List (Name × Part)) (t : Term Name) (ws : List Wire) → Keeps ws (low ms es t ws).wires
-low_keeps ms es (constant w n) ws = λ k n h. h
-low_keeps ms es (read x) ws = λ k n h. h
-low_keeps ms es (cell m i) ws =
-    let y = low ms es i ws in
-    let p = low_keeps ms es i ws in
-    let q = plus_keeps y.wires (cell_width ms m) (Cell m y.part.operand) in
-    λ k n h. q k n (p k n h)
-low_keeps ms es (one op a) ws =
-    let x = low ms es a ws in
-    let p = low_keeps ms es a ws in
-    let q = plus_keeps x.wires (width1 op x.part.width) (One op x.part.operand) in
-    λ k n h. q k n (p k n h)
-low_keeps ms es (two op a b) ws =
-    let x = low ms es a ws in
-    let y = low ms es b x.wires in
-    let p = low_keeps ms es a ws in
-    let q = low_keeps ms es b x.wires in
-    let r = (two_step op x.part y.part).keeps y.wires in
-    λ k n h. r k n (q k n (p k n h))
-low_keeps ms es (choose c a b) ws =
-    let z = low ms es c ws in
-    let x = low ms es a z.wires in
-    let y = low ms es b x.wires in
-    let o = low_keeps ms es c ws in
-    let p = low_keeps ms es a z.wires in
-    let q = low_keeps ms es b x.wires in
-    let r = plus_keeps y.wires x.part.width (Choose z.part.operand x.part.operand y.part.operand) in
-    λ k n h. r k n (q k n (p k n (o k n h)))
-low_keeps ms es (join a b) ws =
-    let x = low ms es a ws in
-    let y = low ms es b x.wires in
-    let p = low_keeps ms es a ws in
-    let q = low_keeps ms es b x.wires in
-    let r = (join_step x.part y.part).keeps y.wires in
-    λ k n h. r k n (q k n (p k n h))
-low_keeps ms es (part a hi lo) ws =
-    let x = low ms es a ws in
-    let p = low_keeps ms es a ws in
-    let q = (slice_step x.part.operand hi lo).keeps x.wires in
-    λ k n h. q k n (p k n h)
+low_keeps ms es t ws = low_added Keeps keeping ms es t ws
 
 -- Once an expression has its wires it adds none, and gives the same.
 low_again : (ms : Shapes) (es : List (Name × Part)) (t : Term Name) (ws more : List Wire) → Keeps (low ms es t ws).wires more
     → low ms es t more ≡ record { wires = more; part = (low ms es t ws).part }
-low_again ms es (constant w n) ws more k = refl
-low_again ms es (read x) ws more k = refl
 low_again ms es (cell m i) ws more k =
     let y = low ms es i ws in
     let s = plus_step (cell_width ms m) (Cell m y.part.operand) in
@@ -192,6 +155,7 @@ low_again ms es (part a hi lo) ws more k =
     let s = slice_step x.part.operand hi lo in
     let e = low_again ms es a ws more (λ j n h. k j n (s.keeps x.wires j n h)) in
     rw e (s.again x.wires more k)
+low_again ms es _ ws more k = refl
 
 -- Operations that have their wires, or stand on a list of those that may have none.
 

@@ -8,9 +8,10 @@ use Rattle.sap_share.specs.Tables.{replaced}
 use Rattle.sap_lower.specs.declared.lowering.Lowering.{Lowering}
 use Rattle.sap_lower.specs.Commands.{no_port, port_of, low_set, low_put, low_action, low_command, low_commands}
 use Rattle.sap_lower.proofs.Shared.{Gives}
-use Rattle.sap_lower.proofs.Means.{SameCells, Around}
-use Rattle.sap_lower.proofs.Stands.{HasEntries, replaced_same, replaced_other, replaced_has, set_front, set_stands}
-use Rattle.sap_lower.proofs.Ports.{PortIs, now_of, put_front, put_is, other_is, set_is}
+use Rattle.sap_lower.proofs.Means.{SameCells, Around, GivesBefore, front}
+use Rattle.sap_lower.proofs.Adding.{commands_added}
+use Rattle.sap_lower.proofs.Stands.{HasEntries, replaced_same, replaced_other, replaced_has, set_stands}
+use Rattle.sap_lower.proofs.Ports.{PortIs, now_of, put_is, other_is, set_is}
 
 -- an action over declared names, of fitting widths
 abbrev pub ActionOk : Shapes → Scope → Action → Type 0
@@ -38,14 +39,8 @@ abbrev pub done_after : (off : Bool) → Action → (Name → Bool) → Name →
 done_after off (set x a) done n = done n
 done_after off (put m i a) done n = if off then done n else (if bytes_eq m n then true else done n)
 
-actions_front : (widths : Name → ℕ) (v : Valuation) (ms : Shapes) (s : Lowering) (c : Term Name) (a : Action) → Gives widths v (low_action ms s c a).wires → Gives widths v s.wires
-actions_front widths v ms s c (set x a) h = set_front widths v ms s c x a h
-actions_front widths v ms s c (put m i a) h = put_front widths v ms s.entries (port_of s.ports m) c i a s.wires h
-
 pub commands_front : (widths : Name → ℕ) (v : Valuation) (ms : Shapes) (cs : List Command) (s : Lowering) → Gives widths v (low_commands ms s cs).wires → Gives widths v s.wires
-commands_front widths v ms [] s h = h
-commands_front widths v ms (c ∷ cs) s h =
-    actions_front widths v ms s c.when c.act (commands_front widths v ms cs (low_command ms s c) h)
+commands_front widths v ms cs s h = commands_added (GivesBefore widths v) (front widths v) ms cs s h
 
 cells_set : (b : Bool) (g : Going) (x : Name) (a : ℕ) → (if b then g else record { now = set_value g.now x a; next = g.next }).now.cell ≡ g.now.cell
 cells_set true g x a = refl
@@ -122,10 +117,9 @@ later_set false (put m i a) done others l =
 
 once_now : (off : Bool) (a : Action) (done : Name → Bool) (others : List Name) → Later done (if off then others else with_memory a others)
     → (m : Name) → off ≡ false → is_among m (with_memory a []) ≡ true → done m ≡ false
-once_now true a done others l m o h = absurd (cc)
-once_now false (set x a) done others l m o h = absurd (cc)
 once_now false (put n i a) done others l m o h =
     elim (cases_Bool (bytes_eq m n)) [ inl t ↦ l.apart m (rw t refl) | inr f ↦ absurd (let e : (false || false) ≡ true = rw f at h in cc) ]
+once_now _ _ done others l m o h = absurd (cc)
 
 -- all commands
 pub commands_stand : (ms : Shapes) (vars : Scope) (vw widths : Name → ℕ) (v : Valuation) (cs : List Command) (s : Lowering) (g : Going)

@@ -53,16 +53,6 @@ set_at_same : (b : Bool) (g : Going) (n : Name) (a : ℕ) → (if b then g else 
 set_at_same true g n a = refl
 set_at_same false g n a = rw (bytes_eq_same n) refl
 
-pub set_front : (widths : Name → ℕ) (v : Valuation) (ms : Shapes) (s : Lowering) (c : Term Name) (n : Name) (t : Term Name)
-    → Gives widths v (low_set ms s c n t).wires → Gives widths v s.wires
-set_front widths v ms s c n t h =
-    let es = s.entries in
-    let z = low ms es c s.wires in
-    let x = low ms es t z.wires in
-    let old = present es n in
-    let hx = plus_front widths v x.wires old.width (Choose z.part.operand x.part.operand old.operand) h in
-    low_front widths v ms es c s.wires (low_front widths v ms es t z.wires hx)
-
 -- one assignment: what the name stands for, and the others as before
 set_here : (ms : Shapes) (vars : Scope) (vw widths : Name → ℕ) (v : Valuation) (s : Lowering) (g : Going)
     → Around ms vars vw widths v s.entries g.now.value g.now.cell → (c : Term Name) (n : Name) (t : Term Name) (u : ℕ)
