@@ -1,5 +1,5 @@
 -- The definitions at known numbers.
-use Rattle.sap_lemmas.proofs.Common.{◌≡◌, ℕ, ◌+◌, [], ◌∷◌, ◌∙◌, Some, None, true, false, refl, lit<, lit≤, codes}
+use Rattle.sap_lemmas.proofs.Common.{◌≡◌, ℕ, ◌+◌, List, [], ◌∷◌, map, ◌∙◌, Some, None, true, false, refl, lit<, lit≤, codes}
 use lib.Count.{ones}
 use Rattle.sap_bits.specs.declared.Op1.TheVariants.{Not, Neg, AllOnes, AnyOne, Odd}
 use Rattle.sap_bits.specs.declared.Op2.TheVariants.{Add, Sub, Mul, And, Or, Xor, Eq, Ne, Lt, Le, Shl, Shr}
@@ -48,84 +48,40 @@ c8 n = Constant 8 n
 abbrev five : Operand
 five = Named (codes "v_a")
 
-copied : value (Copy five) ≡ 5
-copied = refl
+-- right sides, each with its number
+abbrev right_sides : List (Right × ℕ)
+right_sides =
+    (Copy five, 5) ∷
+    (One Not five, 250) ∷
+    (One Neg five, 251) ∷
+    (One Neg (c8 0), 0) ∷
+    (One AllOnes (c8 255), 1) ∷
+    (One AnyOne five, 1) ∷
+    (One Odd (c8 7), 1) ∷
+    (Two Add five (c8 255), 4) ∷
+    (Two Sub five (c8 7), 254) ∷
+    (Two Mul five (c8 100), 244) ∷
+    (Two And five (c8 12), 4) ∷
+    (Two Or five (c8 12), 13) ∷
+    (Two Xor five (c8 12), 9) ∷
+    (Two Eq five (c8 5), 1) ∷
+    (Two Ne five (c8 5), 0) ∷
+    (Two Lt five (c8 5), 0) ∷
+    (Two Le five (c8 5), 1) ∷
+    (Two Shl five (Constant 64 6), 64) ∷
+    (Two Shl five (Constant 64 9), 0) ∷
+    (Two Shr five (Constant 64 2), 1) ∷
+    (Two Shr five (Constant 64 9), 0) ∷
+    (Choose (Constant 1 1) five (c8 9), 5) ∷
+    (Choose (Constant 1 0) five (c8 9), 9) ∷
+    (Concat (Constant 2 3 ∷ five ∷ Constant 4 1 ∷ []), 12369) ∷
+    (Slice (codes "v_a") 2 1, 2) ∷
+    (Cell (codes "v_m") (Constant 2 3), 4) ∷
+    []
 
-inverted : value (One Not five) ≡ 250
-inverted = refl
-
-negative : value (One Neg five) ≡ 251
-negative = refl
-
-negative_of_zero : value (One Neg (c8 0)) ≡ 0
-negative_of_zero = refl
-
-all_ones : value (One AllOnes (c8 255)) ≡ 1
-all_ones = refl
-
-any_one : value (One AnyOne five) ≡ 1
-any_one = refl
-
-odd_ones : value (One Odd (c8 7)) ≡ 1
+right_side_values : map (λ e. value e.0) right_sides ≡ map (λ e. e.1) right_sides
 unfolding ones
-odd_ones = refl
-
-sum : value (Two Add five (c8 255)) ≡ 4
-sum = refl
-
-difference : value (Two Sub five (c8 7)) ≡ 254
-difference = refl
-
-product : value (Two Mul five (c8 100)) ≡ 244
-product = refl
-
-both_bits : value (Two And five (c8 12)) ≡ 4
-both_bits = refl
-
-either_bits : value (Two Or five (c8 12)) ≡ 13
-either_bits = refl
-
-unequal_bits : value (Two Xor five (c8 12)) ≡ 9
-unequal_bits = refl
-
-equal : value (Two Eq five (c8 5)) ≡ 1
-equal = refl
-
-unequal : value (Two Ne five (c8 5)) ≡ 0
-unequal = refl
-
-below : value (Two Lt five (c8 5)) ≡ 0
-below = refl
-
-at_most : value (Two Le five (c8 5)) ≡ 1
-at_most = refl
-
-shifted_left : value (Two Shl five (Constant 64 6)) ≡ 64
-shifted_left = refl
-
-shifted_out : value (Two Shl five (Constant 64 9)) ≡ 0
-shifted_out = refl
-
-shifted_right : value (Two Shr five (Constant 64 2)) ≡ 1
-shifted_right = refl
-
-shifted_past : value (Two Shr five (Constant 64 9)) ≡ 0
-shifted_past = refl
-
-chosen_first : value (Choose (Constant 1 1) five (c8 9)) ≡ 5
-chosen_first = refl
-
-chosen_second : value (Choose (Constant 1 0) five (c8 9)) ≡ 9
-chosen_second = refl
-
-concatenated : value (Concat (Constant 2 3 ∷ five ∷ Constant 4 1 ∷ [])) ≡ 12369
-concatenated = refl
-
-sliced : value (Slice (codes "v_a") 2 1) ≡ 2
-sliced = refl
-
-cell_read : value (Cell (codes "v_m") (Constant 2 3)) ≡ 4
-cell_read = refl
+right_side_values = refl
 
 -- a memory's write
 abbrev store : ℕ → Memory
