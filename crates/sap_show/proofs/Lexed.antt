@@ -68,12 +68,11 @@ name_taken b bs rest start all stop =
     ∙ ap (λ x. word_or_name (word_of x) x (length (b ∷ bs))) (take_front (b ∷ bs) rest)
 
 word_at : (x : Word) (rest : List ℕ) → is_initial (slice_index (word_text x) 0) ≡ true → list_all is_inner (slice_index (word_text x) 0 ∷ drop 1 (word_text x)) ≡ true
-    → word_of (slice_index (word_text x) 0 ∷ drop 1 (word_text x)) ≡ Some x → clings (slice_index rest 0) ≡ false
-    → lexeme_of ((slice_index (word_text x) 0 ∷ drop 1 (word_text x)) ++ rest) ≡ l.Token (k.Word x) (length (slice_index (word_text x) 0 ∷ drop 1 (word_text x)))
-word_at x rest start all is stop =
-    let b = slice_index (word_text x) 0 in
-    let bs = drop 1 (word_text x) in
-    name_taken b bs rest start all (stops_run (slice_index rest 0) stop).inner ∙ ap (λ o. word_or_name o (b ∷ bs) (length (b ∷ bs))) is
+    → clings (slice_index rest 0) ≡ false
+    → lexeme_of ((slice_index (word_text x) 0 ∷ drop 1 (word_text x)) ++ rest)
+    ≡ word_or_name (word_of (slice_index (word_text x) 0 ∷ drop 1 (word_text x))) (slice_index (word_text x) 0 ∷ drop 1 (word_text x))
+    (length (slice_index (word_text x) 0 ∷ drop 1 (word_text x)))
+word_at x rest start all stop = name_taken (slice_index (word_text x) 0) (drop 1 (word_text x)) rest start all (stops_run (slice_index rest 0) stop).inner
 
 no_word : (n : List ℕ) → is_keyword v.One n ≡ false → word_of n ≡ None
 no_word n h = none_found (λ word. bytes_eq n (word_text word)) first_words h
@@ -175,39 +174,11 @@ abbrev pub raw : Kind → Kind
 raw (k.Word x) = raw_word x
 raw kind = kind
 
-later_at : (x : Word) (rest : List ℕ) → is_initial (slice_index (word_text x) 0) ≡ true → list_all is_inner (slice_index (word_text x) 0 ∷ drop 1 (word_text x)) ≡ true
-    → word_of (slice_index (word_text x) 0 ∷ drop 1 (word_text x)) ≡ None → clings (slice_index rest 0) ≡ false
-    → lexeme_of ((slice_index (word_text x) 0 ∷ drop 1 (word_text x)) ++ rest)
-    ≡ l.Token (k.Name (slice_index (word_text x) 0 ∷ drop 1 (word_text x))) (length (slice_index (word_text x) 0 ∷ drop 1 (word_text x)))
-later_at x rest start all is stop =
-    let b = slice_index (word_text x) 0 in
-    let bs = drop 1 (word_text x) in
-    name_taken b bs rest start all (stops_run (slice_index rest 0) stop).inner ∙ ap (λ o. word_or_name o (b ∷ bs) (length (b ∷ bs))) is
-
 word_lexed : (x : Word) (rest : List ℕ) → clings (slice_index rest 0) ≡ false → lexeme_of (word_text x ++ rest) ≡ l.Token (raw_word x) (length (word_text x))
-word_lexed w.Input rest stop = word_at w.Input rest refl refl refl stop
-word_lexed w.Reg rest stop = word_at w.Reg rest refl refl refl stop
-word_lexed w.Mem rest stop = word_at w.Mem rest refl refl refl stop
-word_lexed w.State rest stop = word_at w.State rest refl refl refl stop
-word_lexed w.Dynamic rest stop = word_at w.Dynamic rest refl refl refl stop
-word_lexed w.Enforced rest stop = word_at w.Enforced rest refl refl refl stop
-word_lexed w.Under rest stop = word_at w.Under rest refl refl refl stop
-word_lexed w.If rest stop = word_at w.If rest refl refl refl stop
-word_lexed w.Else rest stop = word_at w.Else rest refl refl refl stop
-word_lexed w.Goto rest stop = word_at w.Goto rest refl refl refl stop
-word_lexed w.Fall rest stop = word_at w.Fall rest refl refl refl stop
-word_lexed w.SetTag rest stop = word_at w.SetTag rest refl refl refl stop
-word_lexed w.Otherwise rest stop = word_at w.Otherwise rest refl refl refl stop
-word_lexed w.Tag rest stop = word_at w.Tag rest refl refl refl stop
-word_lexed w.Level rest stop = word_at w.Level rest refl refl refl stop
-word_lexed w.Join rest stop = word_at w.Join rest refl refl refl stop
-word_lexed w.Zext rest stop = word_at w.Zext rest refl refl refl stop
-word_lexed w.Then rest stop = later_at w.Then rest refl refl refl stop
-word_lexed w.Case rest stop = later_at w.Case rest refl refl refl stop
-word_lexed w.Sapper rest stop = later_at w.Sapper rest refl refl refl stop
 word_lexed w.Two rest stop =
     ap (λ (ds : List ℕ). lexeme_of (ds ++ rest)) (sym (decimal_digit 2 (omega arith))) ∙ number_lexed 2 rest refl stop
     ∙ ap (λ (ds : List ℕ). l.Token (k.Number 2) (length ds)) (decimal_digit 2 (omega arith))
+word_lexed x rest stop = word_at x rest refl refl stop
 
 -- numbers with a width
 
@@ -303,10 +274,7 @@ behind_run [] h = refl
 behind_run (space ∷ ps) h = refl
 behind_run (line ∷ ps) h = refl
 behind_run (token role (k.Sign x) ∷ ps) h = first_of_sign x (bytes_of ps)
-behind_run (token role (k.Word x) ∷ ps) h = absurd (cc)
-behind_run (token role (k.Name n) ∷ ps) h = absurd (cc)
-behind_run (token role (k.Number n) ∷ ps) h = absurd (cc)
-behind_run (token role (k.Sized width n) ∷ ps) h = absurd (cc)
+behind_run _ h = absurd (cc)
 
 behind_sign : (version : Version) (ps : List Piece) → ends_sign ps ≡ true → apart version ps ≡ true
     → (slice_index (bytes_of ps) 0 == 61 || slice_index (bytes_of ps) 0 == 60) ≡ false
@@ -317,9 +285,7 @@ behind_sign version (token role (k.Number n) ∷ ps) h a =
     let f = and_parts (is_number n) (follows (k.Number n) ps && apart version ps) a in
     no_sign_byte (slice_index (decimal n ++ bytes_of ps) 0) (first_digit (decimal n) (bytes_of ps) (decimal_digits n (below n f.0)))
 behind_sign version (token role (k.Sign x) ∷ ps) h a = absurd (cc)
-behind_sign version (token role (k.Word x) ∷ ps) h a = absurd (cc)
-behind_sign version (token role (k.Name n) ∷ ps) h a = absurd (cc)
-behind_sign version (token role (k.Sized width n) ∷ ps) h a = absurd (cc)
+behind_sign version _ h a = absurd (cc)
 
 sign_behind : (version : Version) (x : Sign) (ps : List Piece) → follows (k.Sign x) ps ≡ true → apart version ps ≡ true → clings_to x (slice_index (bytes_of ps) 0) ≡ false
 sign_behind version s.Colon ps h a = (not_either (slice_index (bytes_of ps) 0) (behind_sign version ps h a)).0
@@ -346,55 +312,14 @@ semicolon_lexed ps = sign_lexed s.Semicolon (bytes_of ps) refl
 -- the words that they are made in the second version, and in the first those that they are
 
 pub later_is : (x : Kind) → is_spelled v.Two x ≡ true → later_kind (raw x) ≡ x
-later_is (k.Word w.Input) h = refl
-later_is (k.Word w.Reg) h = refl
-later_is (k.Word w.Mem) h = refl
-later_is (k.Word w.State) h = refl
-later_is (k.Word w.Dynamic) h = refl
-later_is (k.Word w.Enforced) h = refl
-later_is (k.Word w.Under) h = refl
-later_is (k.Word w.If) h = refl
-later_is (k.Word w.Else) h = refl
-later_is (k.Word w.Goto) h = refl
-later_is (k.Word w.Fall) h = refl
-later_is (k.Word w.SetTag) h = refl
-later_is (k.Word w.Otherwise) h = refl
-later_is (k.Word w.Tag) h = refl
-later_is (k.Word w.Level) h = refl
-later_is (k.Word w.Join) h = refl
-later_is (k.Word w.Zext) h = refl
-later_is (k.Word w.Then) h = refl
-later_is (k.Word w.Case) h = refl
 later_is (k.Word w.Sapper) h = absurd (cc)
 later_is (k.Word w.Two) h = absurd (cc)
-later_is (k.Sign x) h = refl
 later_is (k.Name n) h = ap (λ o. kind_by o (k.Name n)) (name_no_later n h)
-later_is (k.Number n) h = refl
-later_is (k.Sized width n) h = refl
+later_is _ h = refl
 
 pub raw_is : (x : Kind) → is_spelled v.One x ≡ true → raw x ≡ x
-raw_is (k.Word w.Input) h = refl
-raw_is (k.Word w.Reg) h = refl
-raw_is (k.Word w.Mem) h = refl
-raw_is (k.Word w.State) h = refl
-raw_is (k.Word w.Dynamic) h = refl
-raw_is (k.Word w.Enforced) h = refl
-raw_is (k.Word w.Under) h = refl
-raw_is (k.Word w.If) h = refl
-raw_is (k.Word w.Else) h = refl
-raw_is (k.Word w.Goto) h = refl
-raw_is (k.Word w.Fall) h = refl
-raw_is (k.Word w.SetTag) h = refl
-raw_is (k.Word w.Otherwise) h = refl
-raw_is (k.Word w.Tag) h = refl
-raw_is (k.Word w.Level) h = refl
-raw_is (k.Word w.Join) h = refl
-raw_is (k.Word w.Zext) h = refl
 raw_is (k.Word w.Then) h = absurd (cc)
 raw_is (k.Word w.Case) h = absurd (cc)
 raw_is (k.Word w.Sapper) h = absurd (cc)
 raw_is (k.Word w.Two) h = absurd (cc)
-raw_is (k.Sign x) h = refl
-raw_is (k.Name n) h = refl
-raw_is (k.Number n) h = refl
-raw_is (k.Sized width n) h = refl
+raw_is _ h = refl

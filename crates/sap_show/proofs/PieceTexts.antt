@@ -24,24 +24,11 @@ use Rattle.sap_tree.specs.declared.syntax.UnaryOperator.TheVariants as u
 
 unary_is : (o : UnaryOperator) → sign_text (unary_sign_of o) ≡ unary_text o
 unary_is u.Not = refl
-unary_is u.Neg = refl
-unary_is u.AllOnes = refl
-unary_is u.AnyOne = refl
-unary_is u.Odd = refl
+unary_is _ = refl
 
 binary_is : (o : BinaryOperator) → 32 ∷ (sign_text (sign_of o) ++ (32 ∷ [])) ≡ binary_text o
 binary_is b.Or = refl
-binary_is b.Xor = refl
-binary_is b.And = refl
-binary_is b.Eq = refl
-binary_is b.Ne = refl
-binary_is b.Lt = refl
-binary_is b.Le = refl
-binary_is b.Shl = refl
-binary_is b.Shr = refl
-binary_is b.Add = refl
-binary_is b.Sub = refl
-binary_is b.Mul = refl
+binary_is _ = refl
 
 binary_before : (o : BinaryOperator) (t : List ℕ) → 32 ∷ (sign_text (sign_of o) ++ (32 ∷ t)) ≡ binary_text o ++ t
 binary_before o t = ap (λ z. 32 ∷ z) (sym (append_assoc (sign_text (sign_of o)) (32 ∷ []) t)) ∙ ap (λ z. z ++ t) (binary_is o)
@@ -143,14 +130,7 @@ constant_says : (x : Expression) → Says (constant x) (expression_text x)
 unfolding expression_text
 constant_says (literal spot n) rest = refl
 constant_says (sized_literal spot width n) rest = refl
-constant_says (variable spot n) rest = expression_says (variable spot n) rest
-constant_says (cell_at spot n i) rest = expression_says (cell_at spot n i) rest
-constant_says (unary_of spot o x) rest = expression_says (unary_of spot o x) rest
-constant_says (binary_of spot o x y) rest = expression_says (binary_of spot o x y) rest
-constant_says (choice spot x y z) rest = expression_says (choice spot x y z) rest
-constant_says (slice spot x high low) rest = expression_says (slice spot x high low) rest
-constant_says (concat spot xs) rest = expression_says (concat spot xs) rest
-constant_says (zero_extend spot x width) rest = expression_says (zero_extend spot x width) rest
+constant_says x rest = expression_says x rest
 
 more_constants_say : (xs : Expressions) → Says (more_constants xs) (more_parts_text xs)
 unfolding expression_text

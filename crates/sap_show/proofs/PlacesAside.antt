@@ -12,15 +12,7 @@ use Rattle.sap_tree.specs.declared.syntax.Kind.TheVariants as how
 same_precedence : (x : Expression) → precedence_of (bare_expression x) ≡ precedence_of x
 unfolding bare_expression precedence_of
 same_precedence (literal spot n) = refl
-same_precedence (sized_literal spot width n) = refl
-same_precedence (variable spot n) = refl
-same_precedence (cell_at spot n i) = refl
-same_precedence (unary_of spot o x) = refl
-same_precedence (binary_of spot o x y) = refl
-same_precedence (choice spot x y z) = refl
-same_precedence (slice spot x high low) = refl
-same_precedence (concat spot xs) = refl
-same_precedence (zero_extend spot x width) = refl
+same_precedence _ = refl
 
 operand_same : (asked : ℕ) (x : Expression) → expression_text (bare_expression x) ≡ expression_text x
     → operand_text asked (bare_expression x) (expression_text (bare_expression x)) ≡ operand_text asked x (expression_text x)

@@ -81,32 +81,39 @@ cut_behind (g.post prim cuts) s = g.post prim (cut_last cuts s)
 
 precedence_small : (o : BinaryOperator) → (1 ≤ precedence o) × (precedence o < unary_precedence)
 precedence_small b.Or = (omega arith, omega arith)
-precedence_small b.Xor = (omega arith, omega arith)
-precedence_small b.And = (omega arith, omega arith)
-precedence_small b.Eq = (omega arith, omega arith)
-precedence_small b.Ne = (omega arith, omega arith)
-precedence_small b.Lt = (omega arith, omega arith)
-precedence_small b.Le = (omega arith, omega arith)
-precedence_small b.Shl = (omega arith, omega arith)
-precedence_small b.Shr = (omega arith, omega arith)
-precedence_small b.Add = (omega arith, omega arith)
-precedence_small b.Sub = (omega arith, omega arith)
-precedence_small b.Mul = (omega arith, omega arith)
+precedence_small _ = (omega arith, omega arith)
 
 bare_enclosed : (place : Place) (x : Expression) → bare_expression (enclosed place x) ≡ bare_expression x
 unfolding bare_expression enclosed
 bare_enclosed place (literal spot n) = refl
-bare_enclosed place (sized_literal spot width n) = refl
-bare_enclosed place (variable spot n) = refl
-bare_enclosed place (cell_at spot n i) = refl
-bare_enclosed place (unary_of spot o x) = refl
-bare_enclosed place (binary_of spot o x y) = refl
-bare_enclosed place (choice spot x y z) = refl
-bare_enclosed place (slice spot x high low) = refl
-bare_enclosed place (concat spot xs) = refl
-bare_enclosed place (zero_extend spot x width) = refl
+bare_enclosed place _ = refl
 
--- the same tree is read between two stages, and then stand the pieces that follow
+-- what the grammar reads between two stages is the same tree, and then stand the pieces that follow
+pub record ReadsBack {A : Type 0} (bare : A → A) (Read : Stage → A → Stage → Type 0) (x : A) (rest : List Piece) (p q : Stage) : Type 0 where
+  pub tree : A
+  pub same : bare tree ≡ bare x
+  pub end : Stage
+  pub read : Read p tree end
+  pub follow : Stand rest end q
+
+-- the same of a list with two members or more
+pub record ReadsTwo {A L : Type 0} (and : A → L → L) (bare : L → L) (One : Stage → A → Stage → Type 0) (More : Stage → L → Stage → Type 0) (xs : L)
+    (rest : List Piece) (p q : Stage) : Type 0 where
+  pub first : A
+  pub second : A
+  pub others : L
+  pub same : bare (and first (and second others)) ≡ bare xs
+  pub before : Stage
+  pub after : Stage
+  pub behind : Stage
+  pub end : Stage
+  pub one : One p first before
+  pub comma : IsSign before r.Inner s.Comma after
+  pub two : One after second behind
+  pub more : More behind others end
+  pub follow : Stand rest end q
+
+-- the same of an expression, as tightly as it was asked for
 pub record Reads (x : Expression) (least : ℕ) (rest : List Piece) (p q : Stage) : Type 0 where
   pub tree : Expression
   pub same : bare_expression tree ≡ bare_expression x
@@ -140,28 +147,6 @@ in_place asked x inner own top rest p q = by_test (nat_lt (precedence_of x) aske
         read = tight (g.post (g.parentheses h.1 (as_expression w.read) w.follow.1) g.no_cut);
         follow = w.follow.2;
       }
-
-pub record ReadsParts (xs : Expressions) (rest : List Piece) (p q : Stage) : Type 0 where
-  pub tree : Expressions
-  pub same : bare_expressions tree ≡ bare_expressions xs
-  pub end : Stage
-  pub read : g.Parts p tree end
-  pub follow : Stand rest end q
-
-pub record ReadsTwo (xs : Expressions) (rest : List Piece) (p q : Stage) : Type 0 where
-  pub first : Expression
-  pub second : Expression
-  pub others : Expressions
-  pub same : bare_expressions (and_part first (and_part second others)) ≡ bare_expressions xs
-  pub before : Stage
-  pub after : Stage
-  pub behind : Stage
-  pub end : Stage
-  pub one : g.Expr p first before
-  pub comma : IsSign before r.Inner s.Comma after
-  pub two : g.Expr after second behind
-  pub more : g.Parts behind others end
-  pub follow : Stand rest end q
 
 mutual
   unfolding bare_expression is_expression precedence_of
@@ -299,7 +284,7 @@ mutual
       }
 
   two_read : (version : Version) (xs : Expressions) → has_two_parts xs ≡ true → are_expressions version xs ≡ true
-      → (rest : List Piece) (p q : Stage) → Stand (parts xs rest) p q → ReadsTwo xs rest p q
+      → (rest : List Piece) (p q : Stage) → Stand (parts xs rest) p q → ReadsTwo and_part bare_expressions g.Expr g.Parts xs rest p q
   two_read version no_part t d rest p q h = absurd (cc)
   two_read version (and_part x no_part) t d rest p q h = absurd (cc)
   two_read version (and_part x (and_part y xs)) t d rest p q h =
@@ -327,7 +312,7 @@ mutual
       }
 
   parts_read : (version : Version) (xs : Expressions) → are_expressions version xs ≡ true → (rest : List Piece) (p q : Stage)
-      → Stand (more_parts xs rest) p q → ReadsParts xs rest p q
+      → Stand (more_parts xs rest) p q → ReadsBack bare_expressions g.Parts xs rest p q
   parts_read version no_part d rest p q h = record { tree = no_part; same = refl; end = p; read = g.no_part; follow = h }
   parts_read version (and_part x xs) d rest p q h =
       let e = and_parts (is_expression version x) (are_expressions version xs) d in

@@ -7,7 +7,7 @@ use Rattle.sap_parse.specs.declared.role.Role.TheVariants as r
 use Rattle.sap_lex.specs.declared.token.Sign.TheVariants as s
 use Rattle.sap_tree.specs.declared.word.Word.TheVariants as w
 use Rattle.sap_show.proofs.Pieces.{Piece, space, line, sign, word, name, expression, tag, tags, more_tags, constant, more_constants, constants, simple, margin, command, arms, block, else_part, commands, authority, kind, start, declaration, declarations, state, states, header, design}
-use Rattle.sap_show.proofs.ReadBack.{Stand, expression_reads, as_expression}
+use Rattle.sap_show.proofs.ReadBack.{Stand, ReadsBack, ReadsTwo, expression_reads, as_expression}
 use Rattle.sap_tree.specs.Prelude.{nowhere, bare_expression, bare_expressions, bare_tag, bare_tags, bare_simple, bare_command, bare_block, bare_else, bare_arms, bare_list, bare_authority, bare_kind, bare_start, bare_declaration, bare_state, bare_states, bare, most_arms, most_blocks, Expression, literal, sized_literal, variable, cell_at, unary_of, binary_of, choice, slice, concat, zero_extend, Expressions, no_part, and_part, TagExpression, TagExpressions, level_of, tag_at, level_at, join_of, no_tag, and_tag, SimpleCommand, assign, write, set_tag, set_cell_tag, go_to, fall_to_child, Command, lone, try, if_else, try_then, case_of, Arms, last_arm, and_arm, CommandBlock, command_block, ElseBlock, no_else, with_else, CommandList, no_command, and_command, StateTree, state_node, StateList, no_state, and_state, DesignTree, is_tag, are_tags, has_two_tags, is_outermost, is_outermost_tag, is_simple, is_command, is_block, is_else, is_constant, are_constants, has_constant, arm_count, are_arms, are_commands, is_kind, is_state, are_states, has_state, block_depth, is_tree, is_declaration, is_name, is_second}
 use Rattle.sap_tree.specs.declared.syntax.Decl.{Decl}
 use Rattle.sap_tree.specs.declared.syntax.Kind.{Kind as KindTree}
@@ -19,41 +19,10 @@ use Rattle.sap_tree.specs.Bare.{bare_name, bare_number}
 use Rattle.sap_tree.specs.declared.syntax.Decl.TheVariants as d
 use Rattle.sap_tree.specs.declared.syntax.Kind.TheVariants as how
 
--- the same, for each kind of tree
-
-pub record ReadsTag (x : TagExpression) (rest : List Piece) (p q : Stage) : Type 0 where
-  pub tree : TagExpression
-  pub same : bare_tag tree ≡ bare_tag x
-  pub end : Stage
-  pub read : g.Texpr p tree end
-  pub follow : Stand rest end q
-
-pub record ReadsTags (xs : TagExpressions) (rest : List Piece) (p q : Stage) : Type 0 where
-  pub tree : TagExpressions
-  pub same : bare_tags tree ≡ bare_tags xs
-  pub end : Stage
-  pub read : g.Texprs p tree end
-  pub follow : Stand rest end q
-
-pub record ReadsTwoTags (xs : TagExpressions) (rest : List Piece) (p q : Stage) : Type 0 where
-  pub first : TagExpression
-  pub second : TagExpression
-  pub others : TagExpressions
-  pub same : bare_tags (and_tag first (and_tag second others)) ≡ bare_tags xs
-  pub before : Stage
-  pub after : Stage
-  pub behind : Stage
-  pub end : Stage
-  pub one : g.Texpr p first before
-  pub comma : IsSign before r.Inner s.Comma after
-  pub two : g.Texpr after second behind
-  pub more : g.Texprs behind others end
-  pub follow : Stand rest end q
-
 mutual
   unfolding bare_tag is_tag
 
-  pub tag_reads : (version : Version) (x : TagExpression) → is_tag version x ≡ true → (rest : List Piece) (p q : Stage) → Stand (tag x rest) p q → ReadsTag x rest p q
+  pub tag_reads : (version : Version) (x : TagExpression) → is_tag version x ≡ true → (rest : List Piece) (p q : Stage) → Stand (tag x rest) p q → ReadsBack bare_tag g.Texpr x rest p q
   tag_reads version (level_of n) h rest p q o =
       record { tree = level_of (mention p n.name); same = refl; end = o.0; read = g.level o.1; follow = o.2 }
   tag_reads version (tag_at place x) h rest p q o =
@@ -89,7 +58,7 @@ mutual
       }
 
   two_read : (version : Version) (xs : TagExpressions) → has_two_tags xs ≡ true → are_tags version xs ≡ true
-      → (rest : List Piece) (p q : Stage) → Stand (tags xs rest) p q → ReadsTwoTags xs rest p q
+      → (rest : List Piece) (p q : Stage) → Stand (tags xs rest) p q → ReadsTwo and_tag bare_tags g.Texpr g.Texprs xs rest p q
   two_read version no_tag t h rest p q o = absurd (cc)
   two_read version (and_tag x no_tag) t h rest p q o = absurd (cc)
   two_read version (and_tag x (and_tag y xs)) t h rest p q o =
@@ -116,7 +85,7 @@ mutual
         follow = l.follow;
       }
 
-  tags_read : (version : Version) (xs : TagExpressions) → are_tags version xs ≡ true → (rest : List Piece) (p q : Stage) → Stand (more_tags xs rest) p q → ReadsTags xs rest p q
+  tags_read : (version : Version) (xs : TagExpressions) → are_tags version xs ≡ true → (rest : List Piece) (p q : Stage) → Stand (more_tags xs rest) p q → ReadsBack bare_tags g.Texprs xs rest p q
   tags_read version no_tag h rest p q o = record { tree = no_tag; same = refl; end = p; read = g.no_tag; follow = o }
   tags_read version (and_tag x xs) h rest p q o =
       let e = and_parts (is_tag version x) (are_tags version xs) h in
@@ -132,15 +101,8 @@ mutual
 
 -- an expression or a tag expression that stands in no other
 
-pub record ReadsSimple (depth : ℕ) (c : SimpleCommand) (rest : List Piece) (p q : Stage) : Type 0 where
-  pub tree : SimpleCommand
-  pub same : bare_simple tree ≡ bare_simple c
-  pub end : Stage
-  pub read : g.Simple depth p tree end
-  pub follow : Stand rest end q
-
 simple_reads : (version : Version) (depth : ℕ) (c : SimpleCommand) → is_simple version c ≡ true → (rest : List Piece) (p q : Stage)
-    → Stand (simple depth c rest) p q → ReadsSimple depth c rest p q
+    → Stand (simple depth c rest) p q → ReadsBack bare_simple (g.Simple depth) c rest p q
 unfolding bare_simple is_simple
 simple_reads version depth (assign n x) h rest p q o =
     let i = o.2 in
@@ -200,34 +162,13 @@ simple_reads version depth (fall_to_child place) h rest p q o = record { tree = 
 
 -- constants
 
-pub record ReadsConstant (x : Expression) (rest : List Piece) (p q : Stage) : Type 0 where
-  pub tree : Expression
-  pub same : bare_expression tree ≡ bare_expression x
-  pub end : Stage
-  pub read : g.Constant p tree end
-  pub follow : Stand rest end q
-
-constant_reads : (x : Expression) → is_constant x ≡ true → (rest : List Piece) (p q : Stage) → Stand (constant x rest) p q → ReadsConstant x rest p q
+constant_reads : (x : Expression) → is_constant x ≡ true → (rest : List Piece) (p q : Stage) → Stand (constant x rest) p q → ReadsBack bare_expression g.Constant x rest p q
 unfolding bare_expression
 constant_reads (literal spot n) h rest p q o = record { tree = literal (spot_here p) n; same = refl; end = o.0; read = g.plain o.1; follow = o.2 }
 constant_reads (sized_literal spot width n) h rest p q o = record { tree = sized_literal (spot_here p) width n; same = refl; end = o.0; read = g.wide o.1; follow = o.2 }
-constant_reads (variable spot n) h rest p q o = absurd (cc)
-constant_reads (cell_at spot n i) h rest p q o = absurd (cc)
-constant_reads (unary_of spot o x) h rest p q i = absurd (cc)
-constant_reads (binary_of spot o x y) h rest p q i = absurd (cc)
-constant_reads (choice spot x y z) h rest p q o = absurd (cc)
-constant_reads (slice spot x high low) h rest p q o = absurd (cc)
-constant_reads (concat spot xs) h rest p q o = absurd (cc)
-constant_reads (zero_extend spot x width) h rest p q o = absurd (cc)
+constant_reads _ h rest p q o = absurd (cc)
 
-pub record ReadsConstants (xs : Expressions) (rest : List Piece) (p q : Stage) : Type 0 where
-  pub tree : Expressions
-  pub same : bare_expressions tree ≡ bare_expressions xs
-  pub end : Stage
-  pub read : g.Constants p tree end
-  pub follow : Stand rest end q
-
-constants_read : (xs : Expressions) → are_constants xs ≡ true → (rest : List Piece) (p q : Stage) → Stand (more_constants xs rest) p q → ReadsConstants xs rest p q
+constants_read : (xs : Expressions) → are_constants xs ≡ true → (rest : List Piece) (p q : Stage) → Stand (more_constants xs rest) p q → ReadsBack bare_expressions g.Constants xs rest p q
 unfolding bare_expression
 constants_read no_part h rest p q o = record { tree = no_part; same = refl; end = p; read = g.no_constant; follow = o }
 constants_read (and_part x xs) h rest p q o =
@@ -246,47 +187,12 @@ behind_margin : (level : ℕ) (rest : List Piece) (p q : Stage) → Stand (margi
 behind_margin zero rest p q o = o
 behind_margin (suc level) rest p q o = behind_margin level rest p q o
 
-pub record ReadsCommand (depth : ℕ) (c : Command) (rest : List Piece) (p q : Stage) : Type 0 where
-  pub tree : Command
-  pub same : bare_command tree ≡ bare_command c
-  pub end : Stage
-  pub read : g.Cmd depth p tree end
-  pub follow : Stand rest end q
-
-pub record ReadsBlock (depth : ℕ) (x : CommandBlock) (rest : List Piece) (p q : Stage) : Type 0 where
-  pub tree : CommandBlock
-  pub same : bare_block tree ≡ bare_block x
-  pub end : Stage
-  pub read : g.Block depth p tree end
-  pub follow : Stand rest end q
-
-pub record ReadsElse (depth : ℕ) (x : ElseBlock) (rest : List Piece) (p q : Stage) : Type 0 where
-  pub tree : ElseBlock
-  pub same : bare_else tree ≡ bare_else x
-  pub end : Stage
-  pub read : g.Else depth p tree end
-  pub follow : Stand rest end q
-
 -- the constants of an arm and the `:` behind them: with a block there they are an arm
 pub record ReadsValues (xs : Expressions) (rest : List Piece) (p q : Stage) : Type 0 where
   pub tree : Expressions
   pub same : bare_expressions tree ≡ bare_expressions xs
   pub end : Stage
   pub read : (depth : ℕ) (b : CommandBlock) (m : Stage) → g.Block depth end b m → g.Arm depth p tree b m
-  pub follow : Stand rest end q
-
-pub record ReadsArms (depth : ℕ) (list : Arms) (rest : List Piece) (p q : Stage) : Type 0 where
-  pub tree : Arms
-  pub same : bare_arms tree ≡ bare_arms list
-  pub end : Stage
-  pub read : g.Arms depth p tree end
-  pub follow : Stand rest end q
-
-pub record ReadsCommands (depth : ℕ) (cs : CommandList) (rest : List Piece) (p q : Stage) : Type 0 where
-  pub tree : CommandList
-  pub same : bare_list tree ≡ bare_list cs
-  pub end : Stage
-  pub read : g.Cmds depth p tree end
   pub follow : Stand rest end q
 
 no_arm : false ≡ true → ⊥
@@ -313,7 +219,7 @@ mutual
   unfolding bare_command is_command bare_expression
 
   command_reads : (version : Version) (c : Command) (level depth : ℕ) → is_command version c ≡ true → (rest : List Piece) (p q : Stage)
-      → Stand (command c level depth rest) p q → ReadsCommand depth c rest p q
+      → Stand (command c level depth rest) p q → ReadsBack bare_command (g.Cmd depth) c rest p q
   command_reads version (lone c) level depth h rest p q o =
       let a = simple_reads version depth c h (sign r.Plain s.Semicolon ∷ line ∷ rest) p q (behind_margin level _ p q o) in
       record { tree = lone a.tree; same = ap (λ z. lone z) a.same; end = a.follow.0; read = g.unhandled a.read a.follow.1; follow = a.follow.2 }
@@ -402,7 +308,7 @@ mutual
       }
 
   arms_read : (version : Version) (list : Arms) (level depth : ℕ) → are_arms version list ≡ true → (rest : List Piece) (p q : Stage)
-      → Stand (arms list level depth rest) p q → ReadsArms (depth + 1) list rest p q
+      → Stand (arms list level depth rest) p q → ReadsBack bare_arms (g.Arms (depth + 1)) list rest p q
   arms_read version (last_arm b) level depth h rest p q o =
       let i = behind_margin level (word r.Plain w.Else ∷ block b level depth (line ∷ rest)) p q o in
       let a = block_reads version b level depth h (line ∷ rest) i.0 q i.2 in
@@ -424,21 +330,21 @@ mutual
       }
 
   block_reads : (version : Version) (x : CommandBlock) (level depth : ℕ) → is_block version x ≡ true → (rest : List Piece) (p q : Stage)
-      → Stand (block x level depth rest) p q → ReadsBlock (depth + 1) x rest p q
+      → Stand (block x level depth rest) p q → ReadsBack bare_block (g.Block (depth + 1)) x rest p q
   block_reads version (command_block cs after) level depth h rest p q o =
       let a = commands_read version cs (suc level) (depth + 1) h (margin level (sign r.Plain s.CloseBrace ∷ rest)) o.0 q o.2 in
       let i = behind_margin level (sign r.Plain s.CloseBrace ∷ rest) a.end q a.follow in
       record { tree = command_block a.tree (here a.end); same = ap (λ z. command_block z nowhere) a.same; end = i.0; read = g.block o.1 a.read i.1; follow = i.2 }
 
   else_reads : (version : Version) (x : ElseBlock) (level depth : ℕ) → is_else version x ≡ true → (rest : List Piece) (p q : Stage)
-      → Stand (else_part x level depth rest) p q → ReadsElse (depth + 1) x rest p q
+      → Stand (else_part x level depth rest) p q → ReadsBack bare_else (g.Else (depth + 1)) x rest p q
   else_reads version no_else level depth h rest p q o = record { tree = no_else; same = refl; end = p; read = g.no_else; follow = o }
   else_reads version (with_else x) level depth h rest p q o =
       let a = block_reads version x level depth h rest o.0 q o.2 in
       record { tree = with_else a.tree; same = ap (λ z. with_else z) a.same; end = a.end; read = g.else o.1 a.read; follow = a.follow }
 
   commands_read : (version : Version) (cs : CommandList) (level depth : ℕ) → are_commands version cs ≡ true
-      → (rest : List Piece) (p q : Stage) → Stand (commands cs level depth rest) p q → ReadsCommands depth cs rest p q
+      → (rest : List Piece) (p q : Stage) → Stand (commands cs level depth rest) p q → ReadsBack bare_list (g.Cmds depth) cs rest p q
   commands_read version no_command level depth h rest p q o = record { tree = no_command; same = refl; end = p; read = g.no_cmd; follow = o }
   commands_read version (and_command c cs) level depth h rest p q o =
       let e = and_parts (is_command version c) (are_commands version cs) h in
@@ -454,14 +360,7 @@ mutual
 
 -- kinds and declarations
 
-pub record ReadsUnder (x : Option Under) (rest : List Piece) (p q : Stage) : Type 0 where
-  pub tree : Option Under
-  pub same : bare_authority tree ≡ bare_authority x
-  pub end : Stage
-  pub read : g.Authority p tree end
-  pub follow : Stand rest end q
-
-authority_reads : (x : Option Under) (rest : List Piece) (p q : Stage) → Stand (authority x rest) p q → ReadsUnder x rest p q
+authority_reads : (x : Option Under) (rest : List Piece) (p q : Stage) → Stand (authority x rest) p q → ReadsBack bare_authority g.Authority x rest p q
 authority_reads None rest p q o = record { tree = None; same = refl; end = p; read = g.no_authority; follow = o }
 authority_reads (Some under) rest p q o =
     let i = o.2 in
@@ -473,14 +372,7 @@ authority_reads (Some under) rest p q o =
       follow = i.2;
     }
 
-pub record ReadsKind (x : KindTree) (rest : List Piece) (p q : Stage) : Type 0 where
-  pub tree : KindTree
-  pub same : bare_kind tree ≡ bare_kind x
-  pub end : Stage
-  pub read : g.KindOf p tree end
-  pub follow : Stand rest end q
-
-kind_reads : (x : KindTree) (rest : List Piece) (p q : Stage) → Stand (kind x rest) p q → ReadsKind x rest p q
+kind_reads : (x : KindTree) (rest : List Piece) (p q : Stage) → Stand (kind x rest) p q → ReadsBack bare_kind g.KindOf x rest p q
 kind_reads (how.Dynamic place) rest p q o = record { tree = how.Dynamic (here p); same = refl; end = o.0; read = g.dynamic o.1; follow = o.2 }
 kind_reads (how.Enforced n under) rest p q o =
     let i = o.2 in
@@ -493,27 +385,13 @@ kind_reads (how.Enforced n under) rest p q o =
       follow = a.follow;
     }
 
-pub record ReadsStart (x : Option Numeral) (rest : List Piece) (p q : Stage) : Type 0 where
-  pub tree : Option Numeral
-  pub same : bare_start tree ≡ bare_start x
-  pub end : Stage
-  pub read : g.Initial p tree end
-  pub follow : Stand rest end q
-
-start_reads : (x : Option Numeral) (rest : List Piece) (p q : Stage) → Stand (start x rest) p q → ReadsStart x rest p q
+start_reads : (x : Option Numeral) (rest : List Piece) (p q : Stage) → Stand (start x rest) p q → ReadsBack bare_start g.Initial x rest p q
 start_reads None rest p q o = record { tree = None; same = refl; end = p; read = g.no_initial; follow = o }
 start_reads (Some n) rest p q o =
     let i = o.2 in
     record { tree = Some (numeral o.0 n.value); same = refl; end = i.0; read = g.initial o.1 i.1; follow = i.2 }
 
-pub record ReadsDeclaration (x : Decl) (rest : List Piece) (p q : Stage) : Type 0 where
-  pub tree : Decl
-  pub same : bare_declaration tree ≡ bare_declaration x
-  pub end : Stage
-  pub read : g.Declaration p tree end
-  pub follow : Stand rest end q
-
-declaration_reads : (x : Decl) (rest : List Piece) (p q : Stage) → Stand (declaration x rest) p q → ReadsDeclaration x rest p q
+declaration_reads : (x : Decl) (rest : List Piece) (p q : Stage) → Stand (declaration x rest) p q → ReadsBack bare_declaration g.Declaration x rest p q
 declaration_reads (d.Input place n width) rest p q o =
     let i = o.2 in let j = i.2 in let l = j.2 in let m = l.2 in
     record {
@@ -546,14 +424,7 @@ declaration_reads (d.Memory place n width depth x) rest p q o =
       follow = a.follow.2;
     }
 
-pub record ReadsDeclarations (xs : List Decl) (rest : List Piece) (p q : Stage) : Type 0 where
-  pub tree : List Decl
-  pub same : map bare_declaration tree ≡ map bare_declaration xs
-  pub end : Stage
-  pub read : g.Declarations p tree end
-  pub follow : Stand rest end q
-
-declarations_read : (xs : List Decl) (rest : List Piece) (p q : Stage) → Stand (declarations xs rest) p q → ReadsDeclarations xs rest p q
+declarations_read : (xs : List Decl) (rest : List Piece) (p q : Stage) → Stand (declarations xs rest) p q → ReadsBack (map bare_declaration) g.Declarations xs rest p q
 declarations_read [] rest p q o = record { tree = []; same = refl; end = p; read = g.no_declaration; follow = o }
 declarations_read (x ∷ xs) rest p q o =
     let a = declaration_reads x (declarations xs rest) p q o in
@@ -568,25 +439,11 @@ declarations_read (x ∷ xs) rest p q o =
 
 -- states
 
-pub record ReadsState (depth : ℕ) (x : StateTree) (rest : List Piece) (p q : Stage) : Type 0 where
-  pub tree : StateTree
-  pub same : bare_state tree ≡ bare_state x
-  pub end : Stage
-  pub read : g.State depth p tree end
-  pub follow : Stand rest end q
-
-pub record ReadsStates (depth : ℕ) (xs : StateList) (rest : List Piece) (p q : Stage) : Type 0 where
-  pub tree : StateList
-  pub same : bare_states tree ≡ bare_states xs
-  pub end : Stage
-  pub read : g.States depth p tree end
-  pub follow : Stand rest end q
-
 mutual
   unfolding bare_state is_state is_command bare_command
 
   state_reads : (version : Version) (x : StateTree) (level depth : ℕ) → is_state version x ≡ true → (rest : List Piece) (p q : Stage)
-      → Stand (state x level depth rest) p q → ReadsState depth x rest p q
+      → Stand (state x level depth rest) p q → ReadsBack bare_state (g.State depth) x rest p q
   state_reads version (state_node place n x (command_block cs after) children) level depth h rest p q o =
       let b = command_block cs after in
       let e = and_parts (is_name version n.name && is_kind version x && is_block version b && nat_le (block_depth b) most_blocks) (are_states version children) h in
@@ -613,7 +470,7 @@ mutual
       }
 
   states_read : (version : Version) (xs : StateList) (level depth : ℕ) → are_states version xs ≡ true → (rest : List Piece) (p q : Stage)
-      → Stand (states xs level depth rest) p q → ReadsStates depth xs rest p q
+      → Stand (states xs level depth rest) p q → ReadsBack bare_states (g.States depth) xs rest p q
   states_read version no_state level depth h rest p q o = record { tree = no_state; same = refl; end = p; read = g.no_state; follow = o }
   states_read version (and_state x xs) level depth h rest p q o =
       let e = and_parts (is_state version x) (are_states version xs) h in

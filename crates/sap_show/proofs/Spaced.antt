@@ -83,24 +83,11 @@ a_number version role n h rest e a = three (is_number n) (ends_run rest) (apart 
 
 unary_apart : (version : Version) (o : UnaryOperator) (rest : List Piece) → apart version rest ≡ true → apart version (sign r.Inner (unary_sign_of o) ∷ rest) ≡ true
 unary_apart version u.Not rest h = h
-unary_apart version u.Neg rest h = h
-unary_apart version u.AllOnes rest h = h
-unary_apart version u.AnyOne rest h = h
-unary_apart version u.Odd rest h = h
+unary_apart version _ rest h = h
 
 binary_apart : (version : Version) (o : BinaryOperator) (rest : List Piece) → apart version rest ≡ true → apart version (space ∷ sign r.Inner (sign_of o) ∷ space ∷ rest) ≡ true
 binary_apart version b.Or rest h = h
-binary_apart version b.Xor rest h = h
-binary_apart version b.And rest h = h
-binary_apart version b.Eq rest h = h
-binary_apart version b.Ne rest h = h
-binary_apart version b.Lt rest h = h
-binary_apart version b.Le rest h = h
-binary_apart version b.Shl rest h = h
-binary_apart version b.Shr rest h = h
-binary_apart version b.Add rest h = h
-binary_apart version b.Sub rest h = h
-binary_apart version b.Mul rest h = h
+binary_apart version _ rest h = h
 
 wrapped_apart : (version : Version) (t : Bool) (own_pieces : List Piece → List Piece) → Apart version own_pieces → Apart version (wrapped t own_pieces)
 wrapped_apart version true own_pieces own rest e a = own (sign r.Closing s.CloseParen ∷ rest) refl a
@@ -224,14 +211,7 @@ simple_apart version depth (fall_to_child place) h rest e a = three true (ends_r
 constant_apart : (version : Version) (x : Expression) → is_constant x ≡ true → Apart version (constant x)
 constant_apart version (literal spot n) h rest e a = a_number version r.Plain n h rest e a
 constant_apart version (sized_literal spot width n) h rest e a = three (is_number width && is_number n) (ends_run rest) (apart version rest) h e a
-constant_apart version (variable spot n) h rest e a = absurd (cc)
-constant_apart version (cell_at spot n i) h rest e a = absurd (cc)
-constant_apart version (unary_of spot o x) h rest e a = absurd (cc)
-constant_apart version (binary_of spot o x y) h rest e a = absurd (cc)
-constant_apart version (choice spot x y z) h rest e a = absurd (cc)
-constant_apart version (slice spot x high low) h rest e a = absurd (cc)
-constant_apart version (concat spot xs) h rest e a = absurd (cc)
-constant_apart version (zero_extend spot x width) h rest e a = absurd (cc)
+constant_apart version _ h rest e a = absurd (cc)
 
 more_constants_end : (xs : Expressions) (rest : List Piece) → ends_run rest ≡ true → ends_run (more_constants xs rest) ≡ true
 more_constants_end no_part rest e = e

@@ -30,14 +30,7 @@ after c r.Closing = record c { tokens = c.tokens + 1; brackets = c.brackets - 1 
 
 pub tally_is : (c : Counts) (role : Role) (t : Token) → tally c role t ≡ after c role
 tally_is c r.Plain t = refl
-tally_is c r.Input t = refl
-tally_is c r.Register t = refl
-tally_is c r.Memory t = refl
-tally_is c (r.State depth) t = refl
-tally_is c (r.Command depth) t = refl
-tally_is c r.Inner t = refl
-tally_is c r.Opening t = refl
-tally_is c r.Closing t = refl
+tally_is c _ t = refl
 
 -- from these counts on no token breaks a limit
 abbrev pub Within : Counts → List Piece → Type 0

@@ -199,14 +199,7 @@ simple_within version depth (fall_to_child place) h c rest m p a = begins_comman
 constant_within : (c : Counts) (x : Expression) → is_constant x ≡ true → (rest : List Piece) → Within (at c 0 0) rest → Always c (constant x rest)
 constant_within c (literal spot n) h rest a t b = plain c (k.Number n) rest refl a t b
 constant_within c (sized_literal spot width n) h rest a t b = plain c (k.Sized width n) rest refl a t b
-constant_within c (variable spot n) h rest a t b = absurd (cc)
-constant_within c (cell_at spot n i) h rest a t b = absurd (cc)
-constant_within c (unary_of spot o x) h rest a t b = absurd (cc)
-constant_within c (binary_of spot o x y) h rest a t b = absurd (cc)
-constant_within c (choice spot x y z) h rest a t b = absurd (cc)
-constant_within c (slice spot x high low) h rest a t b = absurd (cc)
-constant_within c (concat spot xs) h rest a t b = absurd (cc)
-constant_within c (zero_extend spot x width) h rest a t b = absurd (cc)
+constant_within c _ h rest a t b = absurd (cc)
 
 more_constants_within : (c : Counts) (xs : Expressions) → are_constants xs ≡ true → (rest : List Piece) → Within (at c 0 0) rest → Within (at c 0 0) (more_constants xs rest)
 more_constants_within c no_part h rest a = a
