@@ -93,13 +93,11 @@ module _ (n : Net) (h : IsNetlist n) where
 
   width_kept : (k : PortKind) (w : ℕ) → IsShape (port_shape (direction_of k) w) → w - 1 + 1 ≡ w
   width_kept kind.Input w g = let low = g.0 in omega arith
-  width_kept kind.Register w g = let low = g.0 in omega arith
-  width_kept kind.Wire w g = let low = g.0 in omega arith
+  width_kept _ w g = let low = g.0 in omega arith
 
   pub width_of_port : (k : PortKind) (w : ℕ) → width_or_0 (Some (port_shape (direction_of k) w)) ≡ w
   width_of_port kind.Input w = refl
-  width_of_port kind.Register w = refl
-  width_of_port kind.Wire w = refl
+  width_of_port _ w = refl
 
   declaration_same : (x : Name) {s t : Shape} → s ≡ t → (let d : Declaration = record { name = mention x; shape = s } in
       d) ≡ (let d : Declaration = record { name = mention x; shape = t } in d)
@@ -195,58 +193,29 @@ module _ (n : Net) (h : IsNetlist n) where
     by_case (Some s) e = (s, refl)
     by_case None e = absurd (cc)
 
-  -- what is found as an input, a register or a memory is one
-  pub input_named : (x : Name) (w : ℕ) → find (entities n) x ≡ Some (input w) → is_among x (input_names n) ≡ true
-  input_named x w f =
-      ⊎_elim
-      (λ m. (entry_of (λ (y : Input). y.name) (λ (y : Input). input y.width) n.inputs x (input w) m).among)
-      (λ m. ⊎_elim
-      (λ m. let e = (entry_of (λ (y : Register). y.name) (λ (y : Register). register y.width) n.registers x (input w) m).shape in absurd (cc))
-      (λ m. ⊎_elim
-      (λ m. let e = (entry_of (λ (y : Wire). y.name) (λ (y : Wire). wire y.width) n.wires x (input w) m).shape in absurd (cc))
-      (λ m. let e = (entry_of (λ (y : Memory). y.name) (λ (y : Memory). memory y.width y.depth) n.memories x (input w) m).shape in absurd (cc))
-      (among_cases (entry x (input w)) (wire_entries n) (memory_entries n) m))
-      (among_cases (entry x (input w)) (register_entries n) (wire_entries n ++ memory_entries n) m))
-      (among_cases (entry x (input w)) (input_entries n) (register_entries n ++ (wire_entries n ++ memory_entries n)) (among_found (entities n) x (input w) f))
+  -- the names of the inputs, the registers, the wires or the memories
+  abbrev pub names_of : Shape → List Name
+  names_of (input w) = input_names n
+  names_of (register w) = register_names n
+  names_of (wire w) = wire_names n
+  names_of (memory w d) = memory_names n
 
-  pub register_named : (x : Name) (w : ℕ) → find (entities n) x ≡ Some (register w) → is_among x (register_names n) ≡ true
-  register_named x w f =
-      ⊎_elim
-      (λ m. let e = (entry_of (λ (y : Input). y.name) (λ (y : Input). input y.width) n.inputs x (register w) m).shape in absurd (cc))
-      (λ m. ⊎_elim
-      (λ m. (entry_of (λ (y : Register). y.name) (λ (y : Register). register y.width) n.registers x (register w) m).among)
-      (λ m. ⊎_elim
-      (λ m. let e = (entry_of (λ (y : Wire). y.name) (λ (y : Wire). wire y.width) n.wires x (register w) m).shape in absurd (cc))
-      (λ m. let e = (entry_of (λ (y : Memory). y.name) (λ (y : Memory). memory y.width y.depth) n.memories x (register w) m).shape in absurd (cc))
-      (among_cases (entry x (register w)) (wire_entries n) (memory_entries n) m))
-      (among_cases (entry x (register w)) (register_entries n) (wire_entries n ++ memory_entries n) m))
-      (among_cases (entry x (register w)) (input_entries n) (register_entries n ++ (wire_entries n ++ memory_entries n)) (among_found (entities n) x (register w) f))
+  abbrev IsNamed : Name → Shape → Type 0
+  IsNamed x s = is_among x (names_of s) ≡ true
 
-  pub wire_named : (x : Name) (w : ℕ) → find (entities n) x ≡ Some (wire w) → is_among x (wire_names n) ≡ true
-  wire_named x w f =
+  -- what is found is one of those
+  pub found_named : (x : Name) (s : Shape) → find (entities n) x ≡ Some s → is_among x (names_of s) ≡ true
+  found_named x s f =
       ⊎_elim
-      (λ m. let e = (entry_of (λ (y : Input). y.name) (λ (y : Input). input y.width) n.inputs x (wire w) m).shape in absurd (cc))
+      (λ m. let e = entry_of (λ (y : Input). y.name) (λ (y : Input). input y.width) n.inputs x s m in subst (IsNamed x) (sym e.shape) e.among)
       (λ m. ⊎_elim
-      (λ m. let e = (entry_of (λ (y : Register). y.name) (λ (y : Register). register y.width) n.registers x (wire w) m).shape in absurd (cc))
+      (λ m. let e = entry_of (λ (y : Register). y.name) (λ (y : Register). register y.width) n.registers x s m in subst (IsNamed x) (sym e.shape) e.among)
       (λ m. ⊎_elim
-      (λ m. (entry_of (λ (y : Wire). y.name) (λ (y : Wire). wire y.width) n.wires x (wire w) m).among)
-      (λ m. let e = (entry_of (λ (y : Memory). y.name) (λ (y : Memory). memory y.width y.depth) n.memories x (wire w) m).shape in absurd (cc))
-      (among_cases (entry x (wire w)) (wire_entries n) (memory_entries n) m))
-      (among_cases (entry x (wire w)) (register_entries n) (wire_entries n ++ memory_entries n) m))
-      (among_cases (entry x (wire w)) (input_entries n) (register_entries n ++ (wire_entries n ++ memory_entries n)) (among_found (entities n) x (wire w) f))
-
-  pub memory_named : (x : Name) (w d : ℕ) → find (entities n) x ≡ Some (memory w d) → is_among x (memory_names n) ≡ true
-  memory_named x w d f =
-      ⊎_elim
-      (λ m. let e = (entry_of (λ (y : Input). y.name) (λ (y : Input). input y.width) n.inputs x (memory w d) m).shape in absurd (cc))
-      (λ m. ⊎_elim
-      (λ m. let e = (entry_of (λ (y : Register). y.name) (λ (y : Register). register y.width) n.registers x (memory w d) m).shape in absurd (cc))
-      (λ m. ⊎_elim
-      (λ m. let e = (entry_of (λ (y : Wire). y.name) (λ (y : Wire). wire y.width) n.wires x (memory w d) m).shape in absurd (cc))
-      (λ m. (entry_of (λ (y : Memory). y.name) (λ (y : Memory). memory y.width y.depth) n.memories x (memory w d) m).among)
-      (among_cases (entry x (memory w d)) (wire_entries n) (memory_entries n) m))
-      (among_cases (entry x (memory w d)) (register_entries n) (wire_entries n ++ memory_entries n) m))
-      (among_cases (entry x (memory w d)) (input_entries n) (register_entries n ++ (wire_entries n ++ memory_entries n)) (among_found (entities n) x (memory w d) f))
+      (λ m. let e = entry_of (λ (y : Wire). y.name) (λ (y : Wire). wire y.width) n.wires x s m in subst (IsNamed x) (sym e.shape) e.among)
+      (λ m. let e = entry_of (λ (y : Memory). y.name) (λ (y : Memory). memory y.width y.depth) n.memories x s m in subst (IsNamed x) (sym e.shape) e.among)
+      (among_cases (entry x s) (wire_entries n) (memory_entries n) m))
+      (among_cases (entry x s) (register_entries n) (wire_entries n ++ memory_entries n) m))
+      (among_cases (entry x s) (input_entries n) (register_entries n ++ (wire_entries n ++ memory_entries n)) (among_found (entities n) x s f))
 
   pub inner_is : (x : Name) → is_among x inner_names ≡ true → IsInner x
   inner_is x m =
@@ -257,7 +226,7 @@ module _ (n : Net) (h : IsNetlist n) where
         s.0,
         s.1,
         λ w e.
-            let i = input_named x w (s.1 ∙ ap (λ z. Some z) e) in
+            let i = found_named x (input w) (s.1 ∙ ap (λ z. Some z) e) in
             not_among ports inner_names x apart.2 m (input_is_port x n.ports (subst (λ z. is_among x z ≡ true) (sym h.inputs_are_ports) i)),
       )
 

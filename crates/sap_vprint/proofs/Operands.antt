@@ -124,9 +124,7 @@ module _ (n : Net) (a : Above) (readable : Scope) (sees : Sees n a readable) whe
   unary_equal : (op : Op1) (w u : ℕ) (t x : Option ℕ) → w ≡ width1 op u → t ≡ Some w → x ≡ Some u → AllByRecursion NoPair (unary_pairs (unary_rule op) t x)
   unary_equal unary.Not w u t x e p q = (no_differ t x w p (q ∙ ap (λ z. Some z) (sym e)), tt)
   unary_equal unary.Neg w u t x e p q = (no_differ t x w p (q ∙ ap (λ z. Some z) (sym e)), tt)
-  unary_equal unary.AllOnes w u t x e p q = (no_differ t (Some 1) 1 (p ∙ ap (λ z. Some z) e) refl, tt)
-  unary_equal unary.AnyOne w u t x e p q = (no_differ t (Some 1) 1 (p ∙ ap (λ z. Some z) e) refl, tt)
-  unary_equal unary.Odd w u t x e p q = (no_differ t (Some 1) 1 (p ∙ ap (λ z. Some z) e) refl, tt)
+  unary_equal _ w u t x e p q = (no_differ t (Some 1) 1 (p ∙ ap (λ z. Some z) e) refl, tt)
 
   all_one : (w u v : ℕ) (t x y : Option ℕ) → w ≡ u → v ≡ u → t ≡ Some w → x ≡ Some u → y ≡ Some v → AllByRecursion NoPair ((t, x) ∷ (t, y) ∷ (x, y) ∷ [])
   all_one w u v t x y e f p q r =
@@ -142,18 +140,13 @@ module _ (n : Net) (a : Above) (readable : Scope) (sees : Sees n a readable) whe
 
   binary_equal : (op : Op2) (w u v : ℕ) (t x y : Option ℕ) → w ≡ width2 op u → CountFits op u v → t ≡ Some w → x ≡ Some u → y ≡ Some v
       → AllByRecursion NoPair (binary_pairs (binary_rule op) t x y)
-  binary_equal binary.Add w u v t x y e f p q r = all_one w u v t x y e f p q r
-  binary_equal binary.Sub w u v t x y e f p q r = all_one w u v t x y e f p q r
-  binary_equal binary.Mul w u v t x y e f p q r = all_one w u v t x y e f p q r
-  binary_equal binary.And w u v t x y e f p q r = all_one w u v t x y e f p q r
-  binary_equal binary.Or w u v t x y e f p q r = all_one w u v t x y e f p q r
-  binary_equal binary.Xor w u v t x y e f p q r = all_one w u v t x y e f p q r
   binary_equal binary.Eq w u v t x y e f p q r = compared_one w u v t x y e f p q r
   binary_equal binary.Ne w u v t x y e f p q r = compared_one w u v t x y e f p q r
   binary_equal binary.Lt w u v t x y e f p q r = compared_one w u v t x y e f p q r
   binary_equal binary.Le w u v t x y e f p q r = compared_one w u v t x y e f p q r
   binary_equal binary.Shl w u v t x y e f p q r = first_one w u t x e p q
   binary_equal binary.Shr w u v t x y e f p q r = first_one w u t x e p q
+  binary_equal _ w u v t x y e f p q r = all_one w u v t x y e f p q r
 
   slice_is : (w u hi lo : ℕ) → lo ≤ hi → hi < u → w ≡ hi + 1 - lo → slice_width (Some u) hi lo ≡ Some w
   slice_is w u hi lo low high e = in_range (leb lo hi) (ltb hi u) (grind (arith, nat_tests)) (grind (arith, nat_tests)) ∙ ap (λ z. Some z) (sym e) where
@@ -189,12 +182,7 @@ module _ (n : Net) (a : Above) (readable : Scope) (sees : Sees n a readable) whe
 
   pub right_indexed : (w : ℕ) (r : Right) → IsRight (shapes n) readable w r → AllByRecursion (IsGoodIndex a) (right_indexes (right_of r))
   right_indexed w (right.Cell m i) h = (index_good m i h.0 w (sees.deep m w h.0 h.1) (sees.found m ∙ sees.cells m w (2 ^ h.0) h.1) h.2, tt)
-  right_indexed w (right.Copy x) h = tt
-  right_indexed w (right.One op x) h = tt
-  right_indexed w (right.Two op x y) h = tt
-  right_indexed w (right.Choose c x y) h = tt
-  right_indexed w (right.Concat os) h = tt
-  right_indexed w (right.Slice x hi lo) h = tt
+  right_indexed w _ h = tt
 
   shape_width_is : (x : Name) (u : ℕ) (s : Shape) → find readable x ≡ Some u → shape_above a x ≡ Some s → shape_width s ≡ u
   shape_width_is x u s f e =
@@ -206,8 +194,4 @@ module _ (n : Net) (a : Above) (readable : Scope) (sees : Sees n a readable) whe
   pub right_fit : (x : Name) (w : ℕ) (r : Right) → IsWidth w → IsRight (shapes n) readable w r → IsFit a (item.assign (mention x) (right_of r))
   right_fit x w (right.Concat os) g h = λ v e. let p : Some w ≡ Some v = sym (parts_are os w h.1) ∙ e in let q : w ≡ v = cc in let top = g.1 in omega arith
   right_fit x w (right.Slice y hi lo) g h = λ s e. let q = shape_width_is y h.0 s h.2 e in (h.3, subst (λ z. hi < z) (sym q) h.4)
-  right_fit x w (right.Copy y) g h = tt
-  right_fit x w (right.One op y) g h = tt
-  right_fit x w (right.Two op y z) g h = tt
-  right_fit x w (right.Choose c y z) g h = tt
-  right_fit x w (right.Cell m i) g h = tt
+  right_fit x w _ g h = tt

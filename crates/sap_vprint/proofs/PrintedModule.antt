@@ -1,5 +1,5 @@
 -- The text that is printed for a netlist is a module, with this netlist.
-use Rattle.sap_lemmas.proofs.Common.{◌≡◌, List, [], ◌∷◌, ◌++◌, length, drop, Option, Some, None, refl, sym, ap, ◌∙◌, subst, map, map-append}
+use Rattle.sap_lemmas.proofs.Common.{◌≡◌, List, [], ◌∷◌, ◌++◌, length, drop, Option, Some, refl, sym, ap, ◌∙◌, subst, map, map-append}
 use Rattle.sap_maps.specs.Prelude.{Name, find}
 use Rattle.sap_net.specs.Prelude.{Net, IsNetlist}
 use Rattle.sap_net.specs.declared.parts.Operand.{Operand}
@@ -8,7 +8,7 @@ use Rattle.sap_net.specs.declared.parts.Right.{Right}
 use Rattle.sap_net.specs.declared.parts.Port.{Port}
 use Rattle.sap_net.specs.declared.parts.Memory.{Memory}
 use Rattle.sap_net.specs.declared.parts.Right.TheVariants as right
-use Rattle.sap_vtext.specs.Names.{Shape, input, wire, register, memory}
+use Rattle.sap_vtext.specs.Names.{Shape, input}
 use Rattle.sap_vtext.specs.Faults.{IsFaultless}
 use Rattle.sap_vtext.specs.Items as item
 use Rattle.sap_vtext.specs.Modules.{netlist_of, IsModule}
@@ -52,11 +52,8 @@ both_bare : (xs ys : List item.Item) → map bare_item xs ≡ xs → map bare_it
 both_bare xs ys p q = map-append bare_item xs ys ∙ ap (λ z. z ++ map bare_item ys) p ∙ ap (λ z. xs ++ z) q
 
 declared_bare : (x : Name) (o : Option Shape) → map bare_item (declared_items x o) ≡ declared_items x o
-declared_bare x None = refl
 declared_bare x (Some (input w)) = refl
-declared_bare x (Some (wire w)) = refl
-declared_bare x (Some (register w)) = refl
-declared_bare x (Some (memory w d)) = refl
+declared_bare x _ = refl
 
 declarations_bare : (n : Net) (xs : List Name) → map bare_item (declarations_of n xs) ≡ declarations_of n xs
 declarations_bare n [] = refl

@@ -55,17 +55,17 @@ bare_operand_at : (p : ℕ) (x : Operand) → bare_operand (operand_at p x) ≡ 
 bare_operand_at p (item.named x) = refl
 bare_operand_at p (item.constant c) = refl
 
--- what is read of the parts of a `{}`
-record ReadParts (ts : List Token) (xs : List Operand) (qs : List Piece) : Type 0 where
+-- what the grammar reads of pieces is the same, places aside
+record Read {A : Type 0} (bare : A → A) (Is : List Token → A → List Token → Type 0) (ts : List Token) (x : A) (qs : List Piece) : Type 0 where
   at : ℕ
-  found : List Operand
-  is : AreParts ts found (tokens_at at qs)
-  same : map bare_operand found ≡ map bare_operand xs
+  found : A
+  is : Is ts found (tokens_at at qs)
+  same : bare found ≡ bare x
 
 cons_same : {A : Type 0} {x y : A} {xs ys : List A} → x ≡ y → xs ≡ ys → x ∷ xs ≡ y ∷ ys
 cons_same p q = cc
 
-parts_read : (from : ℕ) (xs : List Operand) (qs : List Piece) → ReadParts (tokens_at from (flat_map part_pieces xs ++ qs)) xs qs
+parts_read : (from : ℕ) (xs : List Operand) (qs : List Piece) → Read (map bare_operand) AreParts (tokens_at from (flat_map part_pieces xs ++ qs)) xs qs
 parts_read from [] qs = record { at = from; found = []; is = g.no_part; same = refl }
 parts_read from (x ∷ xs) qs =
     let others = parts_read (((from + 1) + 1) + length (operand_text x)) xs qs in
@@ -75,12 +75,6 @@ parts_read from (x ∷ xs) qs =
       is = g.next_part (sign_here refl) (operand_here ((from + 1) + 1) x refl) others.is;
       same = cons_same (bare_operand_at ((from + 1) + 1) x) others.same;
     }
-
-record ReadRight (ts : List Token) (right : Right) (qs : List Piece) : Type 0 where
-  at : ℕ
-  found : Right
-  is : IsRight ts found (tokens_at at qs)
-  same : bare_right found ≡ bare_right right
 
 one_same : (op : Op1) (p : ℕ) (x : Operand) → bare_right (item.one op (operand_at p x)) ≡ bare_right (item.one op x)
 one_same op p x = ap (item.one op) (bare_operand_at p x)
@@ -97,7 +91,7 @@ concat_same p q x y found zs e = ap item.concat (cons_same (bare_operand_at p x)
 
 -- behind the first two parts
 concat_read : (from : ℕ) (x y : Operand) (zs : List Operand) (qs : List Piece)
-    → ReadRight (tokens_at from (sign t.open_brace ∷ operand x ∷ sign t.comma ∷ space ∷ operand y
+    → Read bare_right IsRight (tokens_at from (sign t.open_brace ∷ operand x ∷ sign t.comma ∷ space ∷ operand y
     ∷ (flat_map part_pieces zs ++ (sign t.close_brace ∷ qs)))) (item.concat (x ∷ y ∷ zs)) qs
 concat_read from x y zs qs =
     let p = from + 1 in
@@ -116,7 +110,7 @@ HasParts (item.concat []) = ⊥
 HasParts (item.concat (x ∷ [])) = ⊥
 HasParts _ = Unit {0}
 
-right_read : (from : ℕ) (right : Right) (qs : List Piece) → HasParts right → ReadRight (tokens_at from (right_pieces right ++ qs)) right qs
+right_read : (from : ℕ) (right : Right) (qs : List Piece) → HasParts right → Read bare_right IsRight (tokens_at from (right_pieces right ++ qs)) right qs
 right_read from (item.copy x) qs h = record { at = _; found = item.copy (operand_at from x); is = g.copy (operand_here from x refl); same = ap item.copy (bare_operand_at from x) }
 right_read from (item.one op x) qs h = record { at = _; found = item.one op (operand_at _ x); is = g.one op (sign_here refl) (operand_here _ x refl); same = one_same op _ x }
 right_read from (item.two op x y) qs h =
@@ -138,7 +132,7 @@ right_read from (item.concat []) qs h = absurd h
 right_read from (item.concat (x ∷ [])) qs h = absurd h
 right_read from (item.concat (x ∷ y ∷ zs)) qs h =
     let e = append_assoc (flat_map part_pieces zs) (sign t.close_brace ∷ []) qs in
-    subst (λ rest. ReadRight (tokens_at from (sign t.open_brace ∷ operand x ∷ sign t.comma ∷ space ∷ operand y ∷ rest))
+    subst (λ rest. Read bare_right IsRight (tokens_at from (sign t.open_brace ∷ operand x ∷ sign t.comma ∷ space ∷ operand y ∷ rest))
     (item.concat (x ∷ y ∷ zs)) qs) (sym e) (concat_read from x y zs qs)
 right_read from (item.slice x high low) qs h =
     record {
@@ -155,19 +149,13 @@ right_read from (item.cell m index) qs h =
       same = ap (item.cell (name_at 0 m.name)) (bare_operand_at _ index);
     }
 
-record ReadItem (ts : List Token) (x : Item) (qs : List Piece) : Type 0 where
-  at : ℕ
-  found : Item
-  is : IsItem ts found (tokens_at at qs)
-  same : bare_item found ≡ bare_item x
-
 -- the right side of an `assign` has parts
 abbrev pub IsWhole : Item → Type 0
 IsWhole (item.assign x right) = HasParts right
 IsWhole _ = Unit {0}
 
 assign_read : (from : ℕ) (x : Mention) (right : Right) (qs : List Piece) → HasParts right
-    → ReadItem (tokens_at from (word t.assign_word ∷ space ∷ name x.name ∷ space ∷ sign t.is ∷ space
+    → Read bare_item IsItem (tokens_at from (word t.assign_word ∷ space ∷ name x.name ∷ space ∷ sign t.is ∷ space
     ∷ (right_pieces right ++ (sign t.semicolon ∷ line ∷ qs)))) (item.assign x right) qs
 assign_read from x right qs h =
     let p = (from + 6) + 1 in
@@ -187,7 +175,7 @@ always_cell_same : (p q r : ℕ) (x : Mention) (condition index value : Operand)
 always_cell_same p q r x condition index value =
     let a = bare_operand_at p condition in let b = bare_operand_at q index in let c = bare_operand_at r value in cc
 
-item_read : (from : ℕ) (x : Item) (qs : List Piece) → IsWhole x → ReadItem (tokens_at from (item_pieces x ++ qs)) x qs
+item_read : (from : ℕ) (x : Item) (qs : List Piece) → IsWhole x → Read bare_item IsItem (tokens_at from (item_pieces x ++ qs)) x qs
 item_read from (item.wire n x) qs h = record {
   at = _;
   found = item.wire (number_at _ n.value) (name_at _ x.name);
@@ -210,7 +198,7 @@ item_read from (item.memory n x last) qs h = record {
 item_read from (item.integer place) qs h = record { at = _; found = item.integer _; is = g.integer (word_at refl) (word_here refl) (sign_here refl); same = refl }
 item_read from (item.assign x right) qs h =
     let e = append_assoc (right_pieces right) (sign t.semicolon ∷ line ∷ []) qs in
-    subst (λ rest. ReadItem (tokens_at from (word t.assign_word ∷ space ∷ name x.name ∷ space ∷ sign t.is ∷ space ∷ rest))
+    subst (λ rest. Read bare_item IsItem (tokens_at from (word t.assign_word ∷ space ∷ name x.name ∷ space ∷ sign t.is ∷ space ∷ rest))
     (item.assign x right) qs) (sym e) (assign_read from x right qs h)
 item_read from (item.initial x value) qs h = record {
   at = _;
@@ -243,19 +231,13 @@ item_read from (item.always_cell condition x index value) qs h = record {
   same = always_cell_same _ _ _ x condition index value;
 }
 
-record ReadItems (ts : List Token) (xs : List Item) (qs : List Piece) : Type 0 where
-  at : ℕ
-  found : List Item
-  is : AreItems ts found (tokens_at at qs)
-  same : map bare_item found ≡ map bare_item xs
-
-items_read : (from : ℕ) (xs : List Item) (qs : List Piece) → AllByRecursion IsWhole xs → ReadItems (tokens_at from (flat_map item_pieces xs ++ qs)) xs qs
+items_read : (from : ℕ) (xs : List Item) (qs : List Piece) → AllByRecursion IsWhole xs → Read (map bare_item) AreItems (tokens_at from (flat_map item_pieces xs ++ qs)) xs qs
 items_read from [] qs h = record { at = from; found = []; is = g.no_item; same = refl }
 items_read from (x ∷ xs) qs h =
     let first = item_read from x (flat_map item_pieces xs ++ qs) h.0 in
     let others = items_read first.at xs qs h.1 in
     let e = append_assoc (item_pieces x) (flat_map item_pieces xs) qs in
-    subst (λ ps. ReadItems (tokens_at from ps) (x ∷ xs) qs) (sym e)
+    subst (λ ps. Read (map bare_item) AreItems (tokens_at from ps) (x ∷ xs) qs) (sym e)
     (record { at = others.at; found = first.found ∷ others.found; is = g.next_item first.is others.is; same = cons_same first.same others.same })
 
 record ReadPort (ts : List Token) (x : Port) (qs : List Piece) : Type 0 where
@@ -296,19 +278,13 @@ port_read from item.output_wire n x qs = record {
   same = refl;
 }
 
-record ReadPorts (ts : List Token) (xs : List Port) (qs : List Piece) : Type 0 where
-  at : ℕ
-  found : List Port
-  is : ArePorts ts found (tokens_at at qs)
-  same : map bare_port found ≡ map bare_port xs
-
-ports_read : (from : ℕ) (xs : List Port) (qs : List Piece) → ReadPorts (tokens_at from (flat_map port_pieces xs ++ qs)) xs qs
+ports_read : (from : ℕ) (xs : List Port) (qs : List Piece) → Read (map bare_port) ArePorts (tokens_at from (flat_map port_pieces xs ++ qs)) xs qs
 ports_read from [] qs = record { at = from; found = []; is = g.no_port; same = refl }
 ports_read from (x ∷ xs) qs =
     let first = port_read from x.direction x.range x.name (flat_map port_pieces xs ++ qs) in
     let others = ports_read first.at xs qs in
     let e = append_assoc (port_pieces x) (flat_map port_pieces xs) qs in
-    subst (λ ps. ReadPorts (tokens_at from ps) (x ∷ xs) qs) (sym e)
+    subst (λ ps. Read (map bare_port) ArePorts (tokens_at from ps) (x ∷ xs) qs) (sym e)
     (record { at = others.at; found = first.found ∷ others.found; is = g.next_port first.behind first.is others.is; same = cons_same first.same others.same })
 
 -- a file that is read from the pieces of another, and is the same but for places

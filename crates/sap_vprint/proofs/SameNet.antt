@@ -1,5 +1,6 @@
 -- The netlist of the printed file is the netlist.
-use Rattle.sap_lemmas.proofs.Common.{◌≡◌, ℕ, ◌+◌, ◌-◌, arith, List, [], ◌∷◌, ◌++◌, Bool, true, false, cond, Option, Some, None, refl, sym, ap, ◌∙◌, subst, inl, inr, ⊎_elim, ◌⊎◌, map, flat_map, filter, unwrap_or, AllByRecursion, bytes_eq, cases_Bool, or_parts, bytes_eq_same, bytes_eq_symmetric, equal_of_bytes_eq, flat_map-append, append-nil}
+use Rattle.sap_lemmas.proofs.Common.{◌≡◌, ℕ, ◌+◌, ◌-◌, arith, List, [], ◌∷◌, ◌++◌, Bool, true, false, cond, Option, Some, None, refl, sym, ap, ◌∙◌, subst, inl, inr, ◌⊎◌, map, flat_map, filter, unwrap_or, AllByRecursion, bytes_eq, cases_Bool, or_parts, bytes_eq_same, bytes_eq_symmetric, equal_of_bytes_eq, flat_map-append, append-nil}
+use Rattle.std.proofs.lemmas.Bool.{false_from_ne_true}
 use Rattle.sap_maps.specs.Prelude.{Name, find}
 use Rattle.sap_net.specs.Prelude.{is_among, AreDistinct, Net, IsNetlist, PortShows, is_input, register_names, memory_names}
 use Rattle.sap_net.specs.declared.parts.Operand.{Operand}
@@ -15,14 +16,14 @@ use Rattle.sap_net.specs.declared.parts.Right.TheVariants as right
 use Rattle.sap_net.specs.declared.parts.PortKind.TheVariants as kind
 use Rattle.sap_vtext.specs.Items as item
 use Rattle.sap_text.specs.Best.{StandsIn}
-use Rattle.sap_vtext.specs.Names.{Shape, input, wire, register, memory, Declaration, declarations}
+use Rattle.sap_vtext.specs.Names.{Shape, input, register, memory, Declaration, declarations}
 use Rattle.sap_vtext.specs.Modules.{net_operand, net_right, net_kind, net_port, net_input, port_input, declared_width, net_wires, first_of, first_given, when, initial_number, next_operand, Write, cell_write, nothing, net_register, written_memory, net_memory, shape_registers, shape_memories, netlist_of}
 use Rattle.sap_vtext.proofs.BareNet.{net_same}
 use Rattle.sap_vtext.proofs.NameLists.{found_all, named_among, among_name}
 use Rattle.sap_vprint.specs.Printed.{entities, operand_of, right_of, direction_of, width_or_0, printed_port, declared_items, declarations_of, integer_of, assign_of, initial_of, initial_cells_of, always_of, always_cell_of, items_of, file_of}
 use Rattle.sap_vprint.proofs.Entities.{names_apart, IsShape, entities_fit}
-use Rattle.sap_vprint.proofs.Declared.{declare, or_input, shape_found, inner_names, input_found, register_found, wire_found, memory_found, register_named, memory_named, port_found}
-use Rattle.sap_vprint.proofs.Whole.{whole_declared, no_register}
+use Rattle.sap_vprint.proofs.Declared.{declare, or_input, shape_found, inner_names, input_found, register_found, wire_found, memory_found, found_named, port_found}
+use Rattle.sap_vprint.proofs.Whole.{declared_names, of_none, of_integer, of_behind, whole_declared, no_register}
 
 operand_back : (o : Operand) → net_operand (operand_of o) ≡ o
 operand_back (Named x) = refl
@@ -43,8 +44,7 @@ right_back (right.Cell m i) = ap (right.Cell m) (operand_back i)
 
 kind_back : (k : PortKind) → net_kind (direction_of k) ≡ k
 kind_back kind.Input = refl
-kind_back kind.Register = refl
-kind_back kind.Wire = refl
+kind_back _ = refl
 
 port_back : (n : Net) (ps : List Port) → map net_port (map (printed_port n) ps) ≡ ps
 port_back n [] = refl
@@ -110,25 +110,16 @@ module _ {B : Type 0} (give : item.Item → Option B) where
   given_integer e (m ∷ ms) = ap (λ o. first_of o None) e
 
 initial_declared : (z x : Name) (o : Option Shape) → first_given (initial_number z) (declared_items x o) ≡ None
-initial_declared z x None = refl
 initial_declared z x (Some (input w)) = refl
-initial_declared z x (Some (wire w)) = refl
-initial_declared z x (Some (register w)) = refl
-initial_declared z x (Some (memory w d)) = refl
+initial_declared z x _ = refl
 
 next_declared : (z x : Name) (o : Option Shape) → first_given (next_operand z) (declared_items x o) ≡ None
-next_declared z x None = refl
 next_declared z x (Some (input w)) = refl
-next_declared z x (Some (wire w)) = refl
-next_declared z x (Some (register w)) = refl
-next_declared z x (Some (memory w d)) = refl
+next_declared z x _ = refl
 
 write_declared : (z x : Name) (o : Option Shape) → first_given (cell_write z) (declared_items x o) ≡ None
-write_declared z x None = refl
 write_declared z x (Some (input w)) = refl
-write_declared z x (Some (wire w)) = refl
-write_declared z x (Some (register w)) = refl
-write_declared z x (Some (memory w d)) = refl
+write_declared z x _ = refl
 
 register_same : (n : Name) (width : ℕ) {s t : ℕ} {o p : Operand} → s ≡ t → o ≡ p
     → (let q : Register = record { name = n; width = width; start = s; next = o } in q) ≡ (let q : Register = record { name = n; width = width; start = t; next = p } in q)
@@ -226,26 +217,17 @@ module _ (n : Net) (h : IsNetlist n) where
       let r = named_among (λ (y : Memory). y.name) n.memories x m in
       (r.0.width, r.0.depth, subst (λ z. find (entities n) z ≡ Some (memory r.0.width r.0.depth)) r.2 (memory_found n h r.0 r.1))
 
-  no_name : (xs : List Name) (x : Name) → (is_among x xs ≡ true → ⊥) → is_among x xs ≡ false
-  no_name xs x f = ⊎_elim (λ t. absurd (f t)) (λ e. e) (cases_Bool (is_among x xs))
-
   one_register : (x : Name) (o : Option Shape) → find (entities n) x ≡ o
       → shape_registers x (or_input o) (items_of n) ≡ cond (is_among x (register_names n)) (register_at x ∷ []) []
   one_register x (Some (register w)) f =
-      ap (λ z. net_register x (width_or_0 z) (items_of n) ∷ []) (sym f) ∙ ap (λ b. cond b (register_at x ∷ []) []) (sym (register_named n h x w f))
-  one_register x None f = ap (λ b. cond b (register_at x ∷ []) []) (sym (no_name (register_names n) x (λ m. let r = (is_register x m).1 in cc)))
-  one_register x (Some (input w)) f = ap (λ b. cond b (register_at x ∷ []) []) (sym (no_name (register_names n) x (λ m. let r = (is_register x m).1 in cc)))
-  one_register x (Some (wire w)) f = ap (λ b. cond b (register_at x ∷ []) []) (sym (no_name (register_names n) x (λ m. let r = (is_register x m).1 in cc)))
-  one_register x (Some (memory w d)) f = ap (λ b. cond b (register_at x ∷ []) []) (sym (no_name (register_names n) x (λ m. let r = (is_register x m).1 in cc)))
+      ap (λ z. net_register x (width_or_0 z) (items_of n) ∷ []) (sym f) ∙ ap (λ b. cond b (register_at x ∷ []) []) (sym (found_named n h x (register w) f))
+  one_register x _ f = ap (λ b. cond b (register_at x ∷ []) []) (sym (false_from_ne_true (is_among x (register_names n)) (λ m. let r = (is_register x m).1 in cc)))
 
   one_memory : (x : Name) (o : Option Shape) → find (entities n) x ≡ o
       → shape_memories x (or_input o) (items_of n) ≡ cond (is_among x (memory_names n)) (memory_at x ∷ []) []
   one_memory x (Some (memory w d)) f =
-      ap (λ z. net_memory x (width_or_0 z) (depth_or_0 z) (items_of n) ∷ []) (sym f) ∙ ap (λ b. cond b (memory_at x ∷ []) []) (sym (memory_named n h x w d f))
-  one_memory x None f = ap (λ b. cond b (memory_at x ∷ []) []) (sym (no_name (memory_names n) x (λ m. let r = (is_memory x m).2 in cc)))
-  one_memory x (Some (input w)) f = ap (λ b. cond b (memory_at x ∷ []) []) (sym (no_name (memory_names n) x (λ m. let r = (is_memory x m).2 in cc)))
-  one_memory x (Some (wire w)) f = ap (λ b. cond b (memory_at x ∷ []) []) (sym (no_name (memory_names n) x (λ m. let r = (is_memory x m).2 in cc)))
-  one_memory x (Some (register w)) f = ap (λ b. cond b (memory_at x ∷ []) []) (sym (no_name (memory_names n) x (λ m. let r = (is_memory x m).2 in cc)))
+      ap (λ z. net_memory x (width_or_0 z) (depth_or_0 z) (items_of n) ∷ []) (sym f) ∙ ap (λ b. cond b (memory_at x ∷ []) []) (sym (found_named n h x (memory w d) f))
+  one_memory x _ f = ap (λ b. cond b (memory_at x ∷ []) []) (sym (false_from_ne_true (is_among x (memory_names n)) (λ m. let r = (is_memory x m).2 in cc)))
 
   kept : {A : Type 0} (p : Name → Bool) (g : Name → A) (f : Name → List A) → ((x : Name) → f x ≡ cond (p x) (g x ∷ []) []) → (xs : List Name)
       → flat_map (λ x. f x) xs ≡ map g (filter p xs)
@@ -282,11 +264,6 @@ module _ (n : Net) (h : IsNetlist n) where
       ∙ ap (map memory_at) h.memories_in_order
       ∙ backs (λ m. m.name) memory_at n.memories memory_back
 
-  -- names
-  names_back : (xs : List Name) → map (λ d. d.name.name) (map (declare n) xs) ≡ xs
-  names_back [] = refl
-  names_back (x ∷ xs) = ap (λ z. x ∷ z) (names_back xs)
-
   -- inputs
   abbrev input_at : Name → Input
   input_at x = record { name = x; width = width_or_0 (find (entities n) x) }
@@ -303,8 +280,7 @@ module _ (n : Net) (h : IsNetlist n) where
       let e : width_or_0 (find (entities n) x) ≡ f.0 = ap width_or_0 f.1 in
       let back : width_or_0 (find (entities n) x) - 1 + 1 ≡ width_or_0 (find (entities n) x) = omega arith in
       ap (λ w. (let j : Input = record { name = x; width = w } in j) ∷ []) back
-  port_inputs kind.Register x m = refl
-  port_inputs kind.Wire x m = refl
+  port_inputs _ x m = refl
 
   inputs_kept : (ps : List Port) → AllByRecursion (λ p. PortShows n p.kind p.name) ps
       → flat_map port_input (map (printed_port n) ps) ≡ map input_at (map (λ p. p.name) (filter (λ p. is_input p.kind) ps))
@@ -333,16 +309,9 @@ module _ (n : Net) (h : IsNetlist n) where
   assigns_back [] e = refl
   assigns_back (w ∷ ws) e = ap (λ z. z ++ flat_map (net_wires all) (map assign_of ws)) (e w (inl refl)) ∙ ap (λ z. w ∷ z) (assigns_back ws (λ y m. e y (inr m)))
 
-  no_wires : {A : Type 0} (f : A → item.Item) → ((x : A) → net_wires all (f x) ≡ []) → (xs : List A) → flat_map (net_wires all) (map f xs) ≡ []
-  no_wires f e [] = refl
-  no_wires f e (x ∷ xs) = ap (λ z. z ++ flat_map (net_wires all) (map f xs)) (e x) ∙ no_wires f e xs
-
   declared_wires : (x : Name) (o : Option Shape) → flat_map (net_wires all) (declared_items x o) ≡ []
-  declared_wires x None = refl
   declared_wires x (Some (input w)) = refl
-  declared_wires x (Some (wire w)) = refl
-  declared_wires x (Some (register w)) = refl
-  declared_wires x (Some (memory w d)) = refl
+  declared_wires x _ = refl
 
   declarations_wires : (xs : List Name) → flat_map (net_wires all) (declarations_of n xs) ≡ []
   declarations_wires [] = refl
@@ -350,30 +319,23 @@ module _ (n : Net) (h : IsNetlist n) where
       flat_map-append (net_wires all) (declared_items x (find (entities n) x)) (declarations_of n xs)
       ∙ ap (λ z. z ++ flat_map (net_wires all) (declarations_of n xs)) (declared_wires x (find (entities n) x)) ∙ declarations_wires xs
 
-  integer_wires : (ms : List Memory) → flat_map (net_wires all) (integer_of ms) ≡ []
-  integer_wires [] = refl
-  integer_wires (m ∷ ms) = refl
-
-  behind_none : (xs ys : List item.Item) → flat_map (net_wires all) xs ≡ [] → flat_map (net_wires all) (xs ++ ys) ≡ flat_map (net_wires all) ys
-  behind_none xs ys e = flat_map-append (net_wires all) xs ys ∙ ap (λ z. z ++ flat_map (net_wires all) ys) e
-
   edges_wires : flat_map (net_wires all) (map initial_of n.registers ++ (map initial_cells_of n.memories ++ (map always_of n.registers ++ map always_cell_of n.memories))) ≡ []
   edges_wires =
-      behind_none (map initial_of n.registers) _ (no_wires initial_of (λ x. refl) n.registers)
-      ∙ behind_none (map initial_cells_of n.memories) _ (no_wires initial_cells_of (λ x. refl) n.memories)
-      ∙ behind_none (map always_of n.registers) _ (no_wires always_of (λ x. refl) n.registers)
-      ∙ no_wires always_cell_of (λ x. refl) n.memories
+      of_behind (net_wires all) (map initial_of n.registers) _ (of_none (net_wires all) initial_of (λ x. refl) n.registers)
+      ∙ of_behind (net_wires all) (map initial_cells_of n.memories) _ (of_none (net_wires all) initial_cells_of (λ x. refl) n.memories)
+      ∙ of_behind (net_wires all) (map always_of n.registers) _ (of_none (net_wires all) always_of (λ x. refl) n.registers)
+      ∙ of_none (net_wires all) always_cell_of (λ x. refl) n.memories
 
   wires_back : flat_map (net_wires (declarations (map (printed_port n) n.ports) (items_of n))) (items_of n) ≡ n.wires
   wires_back =
       ap (λ ds. flat_map (net_wires ds) (items_of n)) (whole_declared n h)
-      ∙ behind_none declared _ (declarations_wires (inner_names n h))
-      ∙ behind_none (integer_of n.memories) _ (integer_wires n.memories)
+      ∙ of_behind (net_wires all) declared _ (declarations_wires (inner_names n h))
+      ∙ of_behind (net_wires all) (integer_of n.memories) _ (of_integer (net_wires all) refl n.memories)
       ∙ flat_map-append (net_wires all) (map assign_of n.wires) _
       ∙ ap (λ z. flat_map (net_wires all) (map assign_of n.wires) ++ z) edges_wires
       ∙ append-nil _
       ∙ assigns_back n.wires wire_back
 
   pub netlist_back : netlist_of (file_of n) ≡ n
-  netlist_back = net_same n.module_name (ap (map (λ d. d.name.name)) (whole_declared n h) ∙ names_back n.names) (port_back n n.ports)
+  netlist_back = net_same n.module_name (ap (map (λ d. d.name.name)) (whole_declared n h) ∙ declared_names n h n.names) (port_back n n.ports)
       inputs_back wires_back registers_back memories_back

@@ -77,13 +77,7 @@ behind_run : (q : Piece) (rest : List ℕ) → ends_run q ≡ true → (is_inner
 behind_run space rest h = refl
 behind_run line rest h = refl
 behind_run (sign s) rest h = behind_sign s rest
-behind_run comment rest h = absurd (cc)
-behind_run zero rest h = absurd (cc)
-behind_run one rest h = absurd (cc)
-behind_run (word w) rest h = absurd (cc)
-behind_run (name n) rest h = absurd (cc)
-behind_run (number n) rest h = absurd (cc)
-behind_run (operand x) rest h = absurd (cc)
+behind_run _ rest h = absurd (cc)
 
 behind_open : (s : Sign) (q : Piece) (rest : List ℕ) → is_blank q ≡ true → clings (sign s) (slice_index (piece_text q ++ rest) 0) ≡ false
 behind_open s space rest h = blank_byte s where
@@ -95,13 +89,7 @@ behind_open s line rest h = line_byte s where
   line_byte t.is = refl
   line_byte _ = refl
 behind_open s comment rest h = absurd (cc)
-behind_open s zero rest h = absurd (cc)
-behind_open s one rest h = absurd (cc)
-behind_open s (sign u) rest h = absurd (cc)
-behind_open s (word w) rest h = absurd (cc)
-behind_open s (name n) rest h = absurd (cc)
-behind_open s (number n) rest h = absurd (cc)
-behind_open s (operand x) rest h = absurd (cc)
+behind_open s _ rest h = absurd (cc)
 
 sign_apart : (s : Sign) (q : Piece) (rest : List ℕ) → may_follow (sign s) q ≡ true → clings (sign s) (slice_index (piece_text q ++ rest) 0) ≡ false
 sign_apart t.is q rest h = behind_open t.is q rest h
@@ -122,8 +110,6 @@ behind p [] h = at_end p h where
   at_end : (p : Piece) → follows p [] ≡ true → clings p 0 ≡ false
   at_end comment g = absurd (cc)
   at_end (sign t.is) g = refl
-  at_end (sign t.less) g = refl
-  at_end (sign s) g = refl
   at_end _ g = refl
 behind p (q ∷ qs) h = apart p q (text_of qs) h
 

@@ -115,20 +115,7 @@ word_at w rest = word_taken (slice_index (word_text w) 0) (drop 1 (word_text w))
 word_spelled : (w : Word) (rest : List ℕ) → (is_inner (slice_index rest 0) || eqb (slice_index rest 0) 39) ≡ false
     → front (word_text w ++ rest) ≡ token (t.word w) (length (word_text w))
 word_spelled t.module_word rest stop = word_at t.module_word rest refl refl refl stop
-word_spelled t.endmodule_word rest stop = word_at t.endmodule_word rest refl refl refl stop
-word_spelled t.input_word rest stop = word_at t.input_word rest refl refl refl stop
-word_spelled t.output_word rest stop = word_at t.output_word rest refl refl refl stop
-word_spelled t.reg_word rest stop = word_at t.reg_word rest refl refl refl stop
-word_spelled t.wire_word rest stop = word_at t.wire_word rest refl refl refl stop
-word_spelled t.assign_word rest stop = word_at t.assign_word rest refl refl refl stop
-word_spelled t.initial_word rest stop = word_at t.initial_word rest refl refl refl stop
-word_spelled t.always_word rest stop = word_at t.always_word rest refl refl refl stop
-word_spelled t.posedge_word rest stop = word_at t.posedge_word rest refl refl refl stop
-word_spelled t.if_word rest stop = word_at t.if_word rest refl refl refl stop
-word_spelled t.for_word rest stop = word_at t.for_word rest refl refl refl stop
-word_spelled t.integer_word rest stop = word_at t.integer_word rest refl refl refl stop
-word_spelled t.clk_word rest stop = word_at t.clk_word rest refl refl refl stop
-word_spelled t.i_word rest stop = word_at t.i_word rest refl refl refl stop
+word_spelled x rest stop = word_at x rest refl refl refl stop
 
 -- digits, and what follows them
 record IsDigits (ds : List ℕ) : Type 0 where

@@ -73,11 +73,8 @@ module _ (n : Net) (h : IsNetlist n) where
       (declarations_good xs (before ++ declared_items x (find (entities n) x)) m.1)
 
   declared_quiet : (s : Setting) (x y : Name) (o : Option Shape) → (is_set s y (declared_items x o) ≡ false) × (has_integer (declared_items x o) ≡ false)
-  declared_quiet s x y None = (refl, refl)
   declared_quiet s x y (Some (input w)) = (refl, refl)
-  declared_quiet s x y (Some (register w)) = (refl, refl)
-  declared_quiet s x y (Some (wire w)) = (refl, refl)
-  declared_quiet s x y (Some (memory w d)) = (refl, refl)
+  declared_quiet s x y _ = (refl, refl)
 
   -- declarations set nothing and are no integer
   pub declarations_set : (s : Setting) (y : Name) (xs : List Name) → is_set s y (declarations_of n xs) ≡ false

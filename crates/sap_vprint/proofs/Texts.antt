@@ -49,8 +49,7 @@ begin_grows n o a b e f = rw (f, e) (simp append_assoc)
 pub port_text_is : (k : PortKind) (x : Name) (w : ℕ) → port_text (port_of k x w) ≡ codes ",\n  " ++ (direction_text k ++ (text_of (range_pieces (w - 1)) ++ x))
 unfolding port_text
 port_text_is kind.Input x w = simp (append_assoc, append-nil)
-port_text_is kind.Register x w = simp (append_assoc, append-nil)
-port_text_is kind.Wire x w = simp (append_assoc, append-nil)
+port_text_is _ x w = simp (append_assoc, append-nil)
 
 pub port_grows : (k : PortKind) (x : Name) (w : ℕ) (o a b c : List ℕ) → a ≡ o ++ codes ",\n  " → b ≡ a ++ direction_text k → c ≡ b ++ text_of (range_pieces (w - 1))
     → c ++ x ≡ o ++ port_text (port_of k x w)

@@ -1,5 +1,6 @@
 -- The printed file is good.
 use Rattle.sap_lemmas.proofs.Common.{◌≡◌, ℕ, ◌-◌, ◌^◌, ◌≤◌, arith, List, [], ◌∷◌, ◌++◌, Bool, true, false, Option, Some, None, refl, sym, ap, ◌∙◌, subst, inl, inr, ⊎_elim, append_assoc, ◌⊎◌, ◌||◌, map, flat_map, AllByRecursion, bytes_eq, cases_Bool, or_left, or_right, same_power, bytes_eq_symmetric, equal_of_bytes_eq, flat_map-append, append-nil}
+use Rattle.std.proofs.lemmas.Bool.{false_from_ne_true}
 use Rattle.sap_vtext.proofs.FaultsLemmas.{all_alike, set_append}
 use Rattle.sap_maps.specs.Prelude.{Name, find}
 use Rattle.sap_net.specs.Prelude.{is_among, AreDistinct, Net, IsWidth, IsRegister, IsMemory, IsNetlist, PortShows, register_names, wire_names, memory_names, first_readable, readable, shapes}
@@ -16,7 +17,7 @@ use Rattle.sap_vtext.proofs.Good.{above_of, AreGood, IsSet, IsGood}
 use Rattle.sap_vtext.proofs.NameLists.{found_all, among_name, not_among, all_from}
 use Rattle.sap_vprint.specs.Printed.{entities, width_or_0, direction_of, printed_port, declarations_of, integer_of, assign_of, initial_of, initial_cells_of, always_of, always_cell_of, items_of, file_of}
 use Rattle.sap_vprint.proofs.Entities.{IsShape, names_apart, entities_fit}
-use Rattle.sap_vprint.proofs.Declared.{declare, or_input, all_declared, shape_found, inner_names, inner_is, IsInner, register_found, wire_found, memory_found, wire_named, register_named, memory_named, port_found, width_of_port}
+use Rattle.sap_vprint.proofs.Declared.{declare, or_input, all_declared, shape_found, inner_names, inner_is, IsInner, register_found, wire_found, memory_found, found_named, port_found, width_of_port}
 use Rattle.sap_vprint.proofs.Operands.{Sees}
 use Rattle.sap_vprint.proofs.Stages.{integer_append, good_append, declares_nothing, ports, declarations_good, declarations_set, declarations_integer, integer_good, assigns_good, assigns_seen}
 use Rattle.sap_vprint.proofs.Edges.{IsQuiet, Stage, stage_more, AreRegisters, AreStores, initials_good, initial_cells_good, always_good, always_cells_good}
@@ -32,27 +33,26 @@ module _ {A : Type 0} (s : Setting) (x : Name) (f : A → item.Item) where
   sets_named name e (y ∷ ys) =
       ap (λ b. b || is_set s x (map f ys)) (e y ∙ bytes_eq_symmetric (name y) x) ∙ ap (λ b. bytes_eq x (name y) || b) (sets_named name e ys)
 
-declares_none : {A : Type 0} (f : A → item.Item) → ((y : A) → item_declarations (f y) ≡ []) → (ys : List A) → flat_map item_declarations (map f ys) ≡ []
-declares_none f e [] = refl
-declares_none f e (y ∷ ys) = ap (λ z. z ++ flat_map item_declarations (map f ys)) (e y) ∙ declares_none f e ys
+-- what items that have nothing, as declarations or wires, have together
+module _ {B : Type 0} (of : item.Item → List B) where
+  pub of_none : {A : Type 0} (f : A → item.Item) → ((y : A) → of (f y) ≡ []) → (ys : List A) → flat_map of (map f ys) ≡ []
+  of_none f e [] = refl
+  of_none f e (y ∷ ys) = ap (λ z. z ++ flat_map of (map f ys)) (e y) ∙ of_none f e ys
 
-integer_declares : (ms : List Memory) → flat_map item_declarations (integer_of ms) ≡ []
-integer_declares [] = refl
-integer_declares (m ∷ ms) = refl
+  pub of_integer : of (item.integer 0) ≡ [] → (ms : List Memory) → flat_map of (integer_of ms) ≡ []
+  of_integer e [] = refl
+  of_integer e (m ∷ ms) = ap (λ z. z ++ []) e
+
+  pub of_behind : (xs ys : List item.Item) → flat_map of xs ≡ [] → flat_map of (xs ++ ys) ≡ flat_map of ys
+  of_behind xs ys e = flat_map-append of xs ys ∙ ap (λ z. z ++ flat_map of ys) e
 
 integer_set : (s : Setting) (x : Name) (ms : List Memory) → is_set s x (integer_of ms) ≡ false
 integer_set s x [] = refl
 integer_set s x (m ∷ ms) = refl
 
-none_both : (xs ys : List item.Item) → flat_map item_declarations xs ≡ [] → flat_map item_declarations ys ≡ [] → flat_map item_declarations (xs ++ ys) ≡ []
-none_both xs ys p q = flat_map-append item_declarations xs ys ∙ ap (λ z. z ++ flat_map item_declarations ys) p ∙ q
-
 all_pairs : {A : Type 0} (P Q R : A → Type 0) (xs : List A) → AllByRecursion P xs → AllByRecursion Q xs → AllByRecursion R xs → AllByRecursion (λ x. P x × Q x × R x) xs
 all_pairs P Q R [] p q r = tt
 all_pairs P Q R (x ∷ xs) p q r = ((p.0, q.0, r.0), all_pairs P Q R xs p.1 q.1 r.1)
-
-not_both : (xs : List Name) (x : Name) → (is_among x xs ≡ true → ⊥) → is_among x xs ≡ false
-not_both xs x f = ⊎_elim (λ t. absurd (f t)) (λ e. e) (cases_Bool (is_among x xs))
 
 module _ (n : Net) (h : IsNetlist n) where
   abbrev inner : List Name
@@ -138,7 +138,7 @@ module _ (n : Net) (h : IsNetlist n) where
 
   first_seen : Sees n (above_of (ports n h) first_items) (first_readable n)
   first_seen = record {
-    found = λ x. ap (λ ds. shape_in ds x) (declared_all (integer_of n.memories) (integer_declares n.memories)) ∙ shape_found n h x;
+    found = λ x. ap (λ ds. shape_in ds x) (declared_all (integer_of n.memories) (of_integer item_declarations refl n.memories)) ∙ shape_found n h x;
     values = λ x w f. first_found x w f (is_set assign x first_items);
     cells = cells_found;
     deep = cells_deep;
@@ -208,7 +208,7 @@ module _ (n : Net) (h : IsNetlist n) where
       ∙ sets_named always x always_of (λ r. r.name) (λ y. refl) n.registers
 
   pub no_register : (m : Memory) → StandsIn m n.memories → is_among m.name (register_names n) ≡ false
-  no_register m a = not_both (register_names n) m.name
+  no_register m a = false_from_ne_true (is_among m.name (register_names n))
       (λ t. not_among (register_names n) (memory_names n) m.name (names_apart n h).registers_memories (among_name (λ (z : Memory). z.name) m n.memories a) t)
 
   pub registers_are : AreRegisters n h n.registers
@@ -248,60 +248,46 @@ module _ (n : Net) (h : IsNetlist n) where
       (all_alike (λ m. is_set always m.name stepped_items ≡ false) n.memories (λ m a. stepped_always m.name ∙ no_register m a)) apart.memories stores_are))))))
 
   -- everything is set
-  whole_set : (s : Setting) (x : Name) → is_set s x (items_of n)
-      ≡ (is_set s x declared || (is_set s x (integer_of n.memories) || (is_set s x (map assign_of n.wires) || (is_set s x (map initial_of n.registers)
-      || (is_set s x (map initial_cells_of n.memories) || (is_set s x (map always_of n.registers) || is_set s x (map always_cell_of n.memories)))))))
-  whole_set s x =
-      set_append s x declared _ ∙ ap (λ b. is_set s x declared || b) (set_append s x (integer_of n.memories) _ ∙ ap (λ b. is_set s x (integer_of n.memories) || b)
-      (set_append s x (map assign_of n.wires) _
-      ∙ ap (λ b. is_set s x (map assign_of n.wires) || b) (set_append s x (map initial_of n.registers) _ ∙ ap (λ b. is_set s x (map initial_of n.registers) || b)
-      (set_append s x (map initial_cells_of n.memories) _
-      ∙ ap (λ b. is_set s x (map initial_cells_of n.memories) || b) (set_append s x (map always_of n.registers) (map always_cell_of n.memories))))))
+  behind : (s : Setting) (x : Name) (xs ys : List item.Item) → is_set s x ys ≡ true → is_set s x (xs ++ ys) ≡ true
+  behind s x xs ys e = set_append s x xs ys ∙ or_right (is_set s x xs) (is_set s x ys) e
 
-  -- the later of two tests
-  later : (a b : Bool) → b ≡ true → (a || b) ≡ true
-  later a b e = or_right a b e
+  in_front : (s : Setting) (x : Name) (xs ys : List item.Item) → is_set s x xs ≡ true → is_set s x (xs ++ ys) ≡ true
+  in_front s x xs ys e = set_append s x xs ys ∙ or_left (is_set s x xs) (is_set s x ys) e
+
+  behind_integer : (s : Setting) (x : Name) (ys : List item.Item) → is_set s x ys ≡ true → is_set s x (declared ++ (integer_of n.memories ++ ys)) ≡ true
+  behind_integer s x ys e = behind s x declared _ (behind s x (integer_of n.memories) ys e)
 
   assigns_set : (x : Name) → is_among x (wire_names n) ≡ true → is_set assign x (items_of n) ≡ true
-  assigns_set x m =
-      whole_set assign x ∙ later (is_set assign x declared) _ (later (is_set assign x (integer_of n.memories)) _
-      (or_left (is_set assign x (map assign_of n.wires)) _ (sets_named assign x assign_of (λ w. w.name) (λ y. refl) n.wires ∙ m)))
+  assigns_set x m = behind_integer assign x _ (in_front assign x (map assign_of n.wires) _ (sets_named assign x assign_of (λ w. w.name) (λ y. refl) n.wires ∙ m))
 
   register_started : (x : Name) → is_among x (register_names n) ≡ true → is_set initial x (items_of n) ≡ true
   register_started x m =
-      whole_set initial x ∙ later (is_set initial x declared) _ (later (is_set initial x (integer_of n.memories)) _ (later (is_set initial x (map assign_of n.wires)) _
-      (or_left (is_set initial x (map initial_of n.registers)) _ (sets_named initial x initial_of (λ r. r.name) (λ y. refl) n.registers ∙ m))))
+      behind_integer initial x _ (behind initial x (map assign_of n.wires) _
+      (in_front initial x (map initial_of n.registers) _ (sets_named initial x initial_of (λ r. r.name) (λ y. refl) n.registers ∙ m)))
 
   memory_started : (x : Name) → is_among x (memory_names n) ≡ true → is_set initial x (items_of n) ≡ true
   memory_started x m =
-      whole_set initial x ∙ later (is_set initial x declared) _ (later (is_set initial x (integer_of n.memories)) _ (later (is_set initial x (map assign_of n.wires)) _
-      (later (is_set initial x (map initial_of n.registers))
-      _ (or_left (is_set initial x (map initial_cells_of n.memories)) _ (sets_named initial x initial_cells_of (λ r. r.name) (λ y. refl) n.memories ∙ m)))))
+      behind_integer initial x _ (behind initial x (map assign_of n.wires) _ (behind initial x (map initial_of n.registers) _
+      (in_front initial x (map initial_cells_of n.memories) _ (sets_named initial x initial_cells_of (λ r. r.name) (λ y. refl) n.memories ∙ m))))
+
+  behind_starts : (x : Name) (ys : List item.Item) → is_set always x ys ≡ true
+      → is_set always x (declared ++ (integer_of n.memories ++ (map assign_of n.wires ++ (map initial_of n.registers ++ (map initial_cells_of n.memories ++ ys))))) ≡ true
+  behind_starts x ys e =
+      behind_integer always x _ (behind always x (map assign_of n.wires) _ (behind always x (map initial_of n.registers) _ (behind always x (map initial_cells_of n.memories) ys e)))
 
   register_stepped : (x : Name) → is_among x (register_names n) ≡ true → is_set always x (items_of n) ≡ true
-  register_stepped x m =
-      whole_set always x ∙ later (is_set always x declared) _ (later (is_set always x (integer_of n.memories)) _ (later (is_set always x (map assign_of n.wires)) _
-      (later (is_set always x (map initial_of n.registers)) _ (later (is_set always x (map initial_cells_of n.memories)) _
-      (or_left (is_set always x (map always_of n.registers)) _ (sets_named always x always_of (λ r. r.name) (λ y. refl) n.registers ∙ m))))))
+  register_stepped x m = behind_starts x _ (in_front always x (map always_of n.registers) _ (sets_named always x always_of (λ r. r.name) (λ y. refl) n.registers ∙ m))
 
   memory_stepped : (x : Name) → is_among x (memory_names n) ≡ true → is_set always x (items_of n) ≡ true
-  memory_stepped x m =
-      whole_set always x ∙ later (is_set always x declared) _ (later (is_set always x (integer_of n.memories)) _ (later (is_set always x (map assign_of n.wires)) _
-      (later (is_set always x (map initial_of n.registers)) _ (later (is_set always x (map initial_cells_of n.memories)) _
-      (later (is_set always x (map always_of n.registers)) _ (sets_named always x always_cell_of (λ r. r.name) (λ y. refl) n.memories ∙ m))))))
+  memory_stepped x m = behind_starts x _ (behind always x (map always_of n.registers) _ (sets_named always x always_cell_of (λ r. r.name) (λ y. refl) n.memories ∙ m))
 
   shape_set : (x : Name) (o : Option Shape) → find (entities n) x ≡ o → (s : Setting) → needs (or_input o) s ≡ true → is_set s x (items_of n) ≡ true
-  shape_set x None f s e = absurd (cc)
-  shape_set x (Some (input w)) f s e = absurd (cc)
-  shape_set x (Some (wire w)) f assign e = assigns_set x (wire_named n h x w f)
-  shape_set x (Some (wire w)) f initial e = absurd (cc)
-  shape_set x (Some (wire w)) f always e = absurd (cc)
-  shape_set x (Some (register w)) f assign e = absurd (cc)
-  shape_set x (Some (register w)) f initial e = register_started x (register_named n h x w f)
-  shape_set x (Some (register w)) f always e = register_stepped x (register_named n h x w f)
-  shape_set x (Some (memory w d)) f assign e = absurd (cc)
-  shape_set x (Some (memory w d)) f initial e = memory_started x (memory_named n h x w d f)
-  shape_set x (Some (memory w d)) f always e = memory_stepped x (memory_named n h x w d f)
+  shape_set x (Some (wire w)) f assign e = assigns_set x (found_named n h x (wire w) f)
+  shape_set x (Some (register w)) f initial e = register_started x (found_named n h x (register w) f)
+  shape_set x (Some (register w)) f always e = register_stepped x (found_named n h x (register w) f)
+  shape_set x (Some (memory w d)) f initial e = memory_started x (found_named n h x (memory w d) f)
+  shape_set x (Some (memory w d)) f always e = memory_stepped x (found_named n h x (memory w d) f)
+  shape_set x _ f s e = absurd (cc)
 
   names_set : (xs : List Name) → AllByRecursion (IsSet (items_of n)) (map (declare n) xs)
   names_set [] = tt
@@ -311,17 +297,18 @@ module _ (n : Net) (h : IsNetlist n) where
       (integer_of n.memories ++ (map assign_of n.wires
       ++ (map initial_of n.registers ++ (map initial_cells_of n.memories ++ (map always_of n.registers ++ map always_cell_of n.memories))))) ≡ []
   others_declare =
-      none_both (integer_of n.memories) _ (integer_declares n.memories)
-      (none_both (map assign_of n.wires) _ (declares_none assign_of (λ y. refl) n.wires)
-      (none_both (map initial_of n.registers) _ (declares_none initial_of (λ y. refl) n.registers)
-      (none_both (map initial_cells_of n.memories) _ (declares_none initial_cells_of (λ y. refl) n.memories)
-      (none_both (map always_of n.registers) (map always_cell_of n.memories) (declares_none always_of (λ y. refl) n.registers)
-      (declares_none always_cell_of (λ y. refl) n.memories)))))
+      let ds = item_declarations in
+      of_behind ds (integer_of n.memories) _ (of_integer ds refl n.memories)
+      ∙ of_behind ds (map assign_of n.wires) _ (of_none ds assign_of (λ y. refl) n.wires)
+      ∙ of_behind ds (map initial_of n.registers) _ (of_none ds initial_of (λ y. refl) n.registers)
+      ∙ of_behind ds (map initial_cells_of n.memories) _ (of_none ds initial_cells_of (λ y. refl) n.memories)
+      ∙ of_behind ds (map always_of n.registers) _ (of_none ds always_of (λ y. refl) n.registers)
+      ∙ of_none ds always_cell_of (λ y. refl) n.memories
 
   pub whole_declared : declarations (ports n h) (items_of n) ≡ map (declare n) n.names
   whole_declared = declared_all _ others_declare
 
-  declared_names : (xs : List Name) → map (λ d. d.name.name) (map (declare n) xs) ≡ xs
+  pub declared_names : (xs : List Name) → map (λ d. d.name.name) (map (declare n) xs) ≡ xs
   declared_names [] = refl
   declared_names (x ∷ xs) = ap (λ z. x ∷ z) (declared_names xs)
 
@@ -335,8 +322,7 @@ module _ (n : Net) (h : IsNetlist n) where
       omega arith where
         port_top : (d : item.Direction) (w : ℕ) → IsShape (port_shape d w) → w ≤ 64
         port_top item.input w g = g.1
-        port_top item.output_register w g = g.1
-        port_top item.output_wire w g = g.1
+        port_top _ w g = g.1
 
   ports_small : (ps : List Port) → AllByRecursion (λ p. PortShows n p.kind p.name) ps → AllByRecursion (λ p. p.range.value ≤ 63) (map (printed_port n) ps)
   ports_small [] m = tt

@@ -55,9 +55,7 @@ item_spaced (item.assign x right) qs w h =
     let e = append_assoc (right_pieces right) (sign t.semicolon ∷ line ∷ []) qs in
     subst (λ rest. is_spaced (space ∷ rest) ≡ true) (sym e) (right_spaced right (line ∷ qs) w (behind_line qs h))
 item_spaced (item.initial x value) qs w h = behind_line qs h
-item_spaced (item.initial_cells place n x value) qs w h = behind_line qs h
-item_spaced (item.always x next) qs w h = behind_line qs h
-item_spaced (item.always_cell condition x index value) qs w h = behind_line qs h
+item_spaced _ qs w h = behind_line qs h
 
 items_spaced : (xs : List Item) (qs : List Piece) → AllByRecursion IsWhole xs → is_spaced qs ≡ true → is_spaced (flat_map item_pieces xs ++ qs) ≡ true
 items_spaced [] qs w h = h
@@ -68,8 +66,7 @@ items_spaced (x ∷ xs) qs w h =
 port_spaced : (d : Direction) (n : Number) (x : Mention) (qs : List Piece) → is_spaced (name x.name ∷ qs) ≡ true
     → is_spaced (sign t.comma ∷ line ∷ space ∷ space ∷ ((direction_pieces d ++ (range_pieces n.value ++ (name x.name ∷ []))) ++ qs)) ≡ true
 port_spaced item.input n x qs h = h
-port_spaced item.output_register n x qs h = h
-port_spaced item.output_wire n x qs h = h
+port_spaced _ n x qs h = h
 
 -- behind a keyword or a name
 ports_spaced : (p : Piece) → ((q : Piece) → ends_run q ≡ true → may_follow p q ≡ true) → (xs : List Port) (qs : List Piece) → is_spaced (line ∷ qs) ≡ true
@@ -135,23 +132,11 @@ pub record IsFileWritten (f : File) : Type 0 where
 
 right_whole : (right : Right) → IsRightWritten right → HasParts right
 right_whole (item.concat xs) h = h.1
-right_whole (item.copy x) h = tt
-right_whole (item.one op x) h = tt
-right_whole (item.two op x y) h = tt
-right_whole (item.choose c x y) h = tt
-right_whole (item.slice x high low) h = tt
-right_whole (item.cell m index) h = tt
+right_whole _ h = tt
 
 item_whole : (x : Item) → IsItemWritten x → IsWhole x
 item_whole (item.assign x right) h = right_whole right h.1
-item_whole (item.wire n x) h = tt
-item_whole (item.register n x) h = tt
-item_whole (item.memory n x last) h = tt
-item_whole (item.integer place) h = tt
-item_whole (item.initial x value) h = tt
-item_whole (item.initial_cells place n x value) h = tt
-item_whole (item.always x next) h = tt
-item_whole (item.always_cell condition x index value) h = tt
+item_whole _ h = tt
 
 pub items_whole : (xs : List Item) → AllByRecursion IsItemWritten xs → AllByRecursion IsWhole xs
 items_whole [] h = tt
@@ -176,15 +161,13 @@ right_spelled (item.slice x high low) h = (h.0, (h.1, (h.2, tt)))
 right_spelled (item.cell m index) h = (h.0, (operand_spelled index h.1, tt))
 
 item_spelled : (x : Item) → IsItemWritten x → AreSpelled (item_pieces x)
-item_spelled (item.wire n x) h = (h.0, (h.1, tt))
-item_spelled (item.register n x) h = (h.0, (h.1, tt))
 item_spelled (item.memory n x last) h = (h.0, (h.1, (h.2, tt)))
 item_spelled (item.integer place) h = tt
 item_spelled (item.assign x right) h = (h.0, spelled_append (right_pieces right) (sign t.semicolon ∷ line ∷ []) (right_spelled right h.1) tt)
-item_spelled (item.initial x value) h = (h.0, (h.1, tt))
 item_spelled (item.initial_cells place n x value) h = (h.0, (h.1, (h.2, tt)))
 item_spelled (item.always x next) h = (h.0, (operand_spelled next h.1, tt))
 item_spelled (item.always_cell condition x index value) h = (operand_spelled condition h.0, (h.1, (operand_spelled index h.2, (operand_spelled value h.3, tt))))
+item_spelled _ h = (h.0, (h.1, tt))
 
 items_spelled : (xs : List Item) → AllByRecursion IsItemWritten xs → AreSpelled (flat_map item_pieces xs)
 items_spelled [] h = tt
@@ -193,8 +176,7 @@ items_spelled (x ∷ xs) h = spelled_append (item_pieces x) (flat_map item_piece
 port_spelled : (d : Direction) (n : Number) (x : Mention) → IsNumberWritten n.value → IsName x.name
     → AreSpelled (direction_pieces d ++ (range_pieces n.value ++ (name x.name ∷ [])))
 port_spelled item.input n x h g = (h, (g, tt))
-port_spelled item.output_register n x h g = (h, (g, tt))
-port_spelled item.output_wire n x h g = (h, (g, tt))
+port_spelled _ n x h g = (h, (g, tt))
 
 ports_spelled : (xs : List Port) → AllByRecursion IsPortWritten xs → AreSpelled (flat_map port_pieces xs)
 ports_spelled [] h = tt
