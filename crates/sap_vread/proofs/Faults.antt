@@ -29,10 +29,7 @@ coded n = if n == 3 then code.V3 else (if n == 4 then code.V4 else (if n == 5 th
 coded-number : (c : Code) → coded (number c) ≡ c
 unfolding coded
 coded-number code.V3 = refl
-coded-number code.V4 = refl
-coded-number code.V5 = refl
-coded-number code.V6 = refl
-coded-number code.V7 = refl
+coded-number _ = refl
 
 same_code : (c d : Code) → number c ≡ number d → c ≡ d
 same_code c d e = sym (coded-number c) ∙ ap coded e ∙ coded-number d

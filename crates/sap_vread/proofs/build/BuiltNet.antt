@@ -42,14 +42,7 @@ port_names (p ∷ ps) = ap (λ z. p.name.name ∷ z) (port_names ps)
 
 item_names : (x : item.Item) → map (λ (d : Declaration). d.name.name) (item_declarations (narrow_item x)) ≡ map (λ (d : Declaration). d.name.name) (item_declarations x)
 item_names (item.wire range x) = refl
-item_names (item.register range x) = refl
-item_names (item.memory range x last) = refl
-item_names (item.integer place) = refl
-item_names (item.assign x right) = refl
-item_names (item.initial x value) = refl
-item_names (item.initial_cells place bound x value) = refl
-item_names (item.always x next) = refl
-item_names (item.always_cell condition x index value) = refl
+item_names _ = refl
 
 all_item_names : (xs : List Item) → flat_map (λ x. map (λ (d : Declaration). d.name.name) (item_declarations (item_of x))) xs
     ≡ declared_names (flat_map item_declarations (narrow_items xs))
@@ -106,8 +99,7 @@ one_more false r w s o p e g h = h
 
 port_width : (d : item.Direction) (w : ℕ) → shape_width (port_shape d w) ≡ w
 port_width item.input w = refl
-port_width item.output_register w = refl
-port_width item.output_wire w = refl
+port_width _ w = refl
 
 ports_wide : (ps : List Port) (n : Name) → range_width (ports_noted n (ports_of ps)) ≡ as_width (shape_in (map port_declaration (narrow_ports ps)) n)
 ports_wide [] n = ap range_width (ports_noted-none n)
@@ -123,11 +115,7 @@ item_wide (item.register range x) n o ds e = one_more (bytes_eq x.name n) range.
 item_wide (item.memory range x last) n o ds e =
     one_more (bytes_eq x.name n) range.value (narrow range.value + 1) (memory (narrow range.value + 1) (narrow last.value + 1)) o (shape_in ds n) refl refl e
 item_wide (item.integer place) n o ds e = e
-item_wide (item.assign x right) n o ds e = e
-item_wide (item.initial x value) n o ds e = e
-item_wide (item.initial_cells place bound x value) n o ds e = e
-item_wide (item.always x next) n o ds e = e
-item_wide (item.always_cell condition x index value) n o ds e = e
+item_wide _ n o ds e = e
 
 items_wide : (xs : List Item) (n : Name) (place : ℕ) → range_width (all_noted Range n place (items_of xs)) ≡ as_width (shape_in (flat_map item_declarations (narrow_items xs)) n)
 items_wide [] n place = ap range_width (all_noted-none Range n place)
@@ -163,13 +151,7 @@ wire_built : (ranges : Name → Option ℕ) (ds : List Declaration) → ((n : Na
 wire_built ranges ds h (item.assign x right) =
     ap (λ w. (let z : Wire = record { name = x.name; width = w; right = net_right (narrow_right right) } in z) ∷ []) (h x.name)
 wire_built ranges ds h (item.wire range x) = refl
-wire_built ranges ds h (item.register range x) = refl
-wire_built ranges ds h (item.memory range x last) = refl
-wire_built ranges ds h (item.integer place) = refl
-wire_built ranges ds h (item.initial x value) = refl
-wire_built ranges ds h (item.initial_cells place bound x value) = refl
-wire_built ranges ds h (item.always x next) = refl
-wire_built ranges ds h (item.always_cell condition x index value) = refl
+wire_built ranges ds h _ = refl
 
 wires_built : (ranges : Name → Option ℕ) (ds : List Declaration) → ((n : Name) → b.width_of_range (ranges n) ≡ declared_width (shape_in ds n)) → (xs : List Item)
     → flat_map (λ x. b.built_wires ranges (item_of x)) xs ≡ flat_map (net_wires ds) (narrow_items xs)
@@ -182,14 +164,7 @@ wires_built ranges ds h (x ∷ xs) =
 
 start_same : (n : Name) (x : item.Item) → initial_number n x ≡ initial_number n (narrow_item x)
 start_same n (item.wire range x) = refl
-start_same n (item.register range x) = refl
-start_same n (item.memory range x last) = refl
-start_same n (item.integer place) = refl
-start_same n (item.assign x right) = refl
-start_same n (item.initial x value) = refl
-start_same n (item.initial_cells place bound x value) = refl
-start_same n (item.always x next) = refl
-start_same n (item.always_cell condition x index value) = refl
+start_same n _ = refl
 
 starts_built : (n : Name) (place : ℕ) (xs : List Item) → all_noted Start n place (items_of xs) ≡ first_given (initial_number n) (narrow_items xs)
 starts_built n place [] = all_noted-none Start n place
@@ -237,25 +212,11 @@ when_says x n place a =
 
 next_says : (n : Name) (x : item.Item) (place : ℕ) → Says b.next_of (noted Next n place x) (next_operand n (narrow_item x)) place x
 next_says n (item.always x next) place = when_says x.name n place (net_operand (narrow_operand next))
-next_says n (item.wire range x) place = inl (refl, refl)
-next_says n (item.register range x) place = inl (refl, refl)
-next_says n (item.memory range x last) place = inl (refl, refl)
-next_says n (item.integer p) place = inl (refl, refl)
-next_says n (item.assign x right) place = inl (refl, refl)
-next_says n (item.initial x value) place = inl (refl, refl)
-next_says n (item.initial_cells p bound x value) place = inl (refl, refl)
-next_says n (item.always_cell condition x index value) place = inl (refl, refl)
+next_says n _ place = inl (refl, refl)
 
 write_says : (n : Name) (x : item.Item) (place : ℕ) → Says b.write_of (noted Writes n place x) (cell_write n (narrow_item x)) place x
 write_says n (item.always_cell condition x index value) place = when_says x.name n place (b.write_of (item.always_cell condition x index value))
-write_says n (item.always x next) place = inl (refl, refl)
-write_says n (item.wire range x) place = inl (refl, refl)
-write_says n (item.register range x) place = inl (refl, refl)
-write_says n (item.memory range x last) place = inl (refl, refl)
-write_says n (item.integer p) place = inl (refl, refl)
-write_says n (item.assign x right) place = inl (refl, refl)
-write_says n (item.initial x value) place = inl (refl, refl)
-write_says n (item.initial_cells p bound x value) place = inl (refl, refl)
+write_says n _ place = inl (refl, refl)
 
 module _ (f : File) (t : Tables) (h : AreNoted t (file_of f)) where
   register_built : (n : Name) (range : ℕ) → b.built_register (number_of t.starts) (number_of t.nexts) f.items.items n range
@@ -301,13 +262,7 @@ module _ (f : File) (t : Tables) (h : AreNoted t (file_of f)) where
   item_register (item.register range x) ds rs e =
       ap (λ r. r ∷ rs) (register_built x.name range.value) ∙ ap (λ z. net_register x.name (narrow range.value + 1) (narrow_items f.items.items) ∷ z) e
   item_register (item.wire range x) ds rs e = e
-  item_register (item.memory range x last) ds rs e = e
-  item_register (item.integer place) ds rs e = e
-  item_register (item.assign x right) ds rs e = e
-  item_register (item.initial x value) ds rs e = e
-  item_register (item.initial_cells place bound x value) ds rs e = e
-  item_register (item.always x next) ds rs e = e
-  item_register (item.always_cell condition x index value) ds rs e = e
+  item_register _ ds rs e = e
 
   item_registers_built : (xs : List Item) → flat_map (λ x. b.item_registers (number_of t.starts) (number_of t.nexts) f.items.items (item_of x)) xs
       ≡ flat_map (λ d. shape_registers d.name.name d.shape (narrow_items f.items.items)) (flat_map item_declarations (narrow_items xs))
@@ -330,8 +285,7 @@ module _ (f : File) (t : Tables) (h : AreNoted t (file_of f)) where
 
   no_memory : (d : item.Direction) (n : Name) (w : ℕ) (items : List item.Item) (ms : List Memory) → shape_memories n (port_shape d w) items ++ ms ≡ ms
   no_memory item.input n w items ms = refl
-  no_memory item.output_register n w items ms = refl
-  no_memory item.output_wire n w items ms = refl
+  no_memory _ n w items ms = refl
 
   no_memories : (ps : List Port) (ms : List Memory)
       → flat_map (λ d. shape_memories d.name.name d.shape (narrow_items f.items.items)) (map port_declaration (narrow_ports ps)) ++ ms ≡ ms
@@ -347,13 +301,7 @@ module _ (f : File) (t : Tables) (h : AreNoted t (file_of f)) where
       ap (λ r. r ∷ ms) (memory_built x.name range.value last.value)
       ∙ ap (λ z. net_memory x.name (narrow range.value + 1) (narrow last.value + 1) (narrow_items f.items.items) ∷ z) e
   item_memory (item.register range x) ds ms e = e
-  item_memory (item.wire range x) ds ms e = e
-  item_memory (item.integer place) ds ms e = e
-  item_memory (item.assign x right) ds ms e = e
-  item_memory (item.initial x value) ds ms e = e
-  item_memory (item.initial_cells place bound x value) ds ms e = e
-  item_memory (item.always x next) ds ms e = e
-  item_memory (item.always_cell condition x index value) ds ms e = e
+  item_memory _ ds ms e = e
 
   item_memories_built : (xs : List Item) → flat_map (λ x. b.item_memories (number_of t.starts) (number_of t.writes) f.items.items (item_of x)) xs
       ≡ flat_map (λ d. shape_memories d.name.name d.shape (narrow_items f.items.items)) (flat_map item_declarations (narrow_items xs))

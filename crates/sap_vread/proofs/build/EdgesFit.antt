@@ -69,13 +69,7 @@ all_flat P g (x ∷ xs) k = all_append P (g x) (flat_map g xs) (k x (inl refl)) 
 initial_there : (n : Name) (x : Item) → is_target initial n (target_of x) ≡ true → is_some (initial_number n x) ≡ true
 initial_there n (item.initial x value) t = when_there x.name n value.value t
 initial_there n (item.initial_cells place bound x value) t = when_there x.name n value.value t
-initial_there n (item.wire range x) t = absurd (cc)
-initial_there n (item.register range x) t = absurd (cc)
-initial_there n (item.memory range x last) t = absurd (cc)
-initial_there n (item.integer place) t = absurd (cc)
-initial_there n (item.assign x right) t = absurd (cc)
-initial_there n (item.always x next) t = absurd (cc)
-initial_there n (item.always_cell condition x index value) t = absurd (cc)
+initial_there n _ t = absurd (cc)
 
 abbrev depth_of : Shape → ℕ
 depth_of (memory width depth) = depth
@@ -91,9 +85,7 @@ module _ (f : File) (h : IsFaultless f) where
         by_shape : (s : Shape) → shape_in (declarations f.ports p.before) m.name ≡ Some s → suits as_register s ≡ true
             → (w : ℕ) × (shape_in (declarations f.ports p.before) m.name ≡ Some (register w)) × (shape_in (all_declared f) m.name ≡ Some (register w))
         by_shape (register w) d k = (w, d, shape_below f p.before (x ∷ p.after) m.name (register w) p.is d)
-        by_shape (input w) d k = absurd (cc)
-        by_shape (wire w) d k = absurd (cc)
-        by_shape (memory w depth) d k = absurd (cc)
+        by_shape _ d k = absurd (cc)
 
   as_declared_memory : (x : Item) (p : Part x f.items) (m : Mention) → StandsIn (let u : Use = record { manner = as_memory; name = m } in u) (uses x)
       → (w : ℕ) × (depth : ℕ) × (shape_in (declarations f.ports p.before) m.name ≡ Some (memory w depth)) × (shape_in (all_declared f) m.name ≡ Some (memory w depth))
@@ -103,9 +95,7 @@ module _ (f : File) (h : IsFaultless f) where
         by_shape : (s : Shape) → shape_in (declarations f.ports p.before) m.name ≡ Some s → suits as_memory s ≡ true
             → (w : ℕ) × (depth : ℕ) × (shape_in (declarations f.ports p.before) m.name ≡ Some (memory w depth)) × (shape_in (all_declared f) m.name ≡ Some (memory w depth))
         by_shape (memory w depth) d k = (w, depth, d, shape_below f p.before (x ∷ p.after) m.name (memory w depth) p.is d)
-        by_shape (input w) d k = absurd (cc)
-        by_shape (wire w) d k = absurd (cc)
-        by_shape (register w) d k = absurd (cc)
+        by_shape _ d k = absurd (cc)
 
   -- The first numbers.
 
@@ -134,12 +124,7 @@ module _ (f : File) (h : IsFaultless f) where
       let shape = same_shape n s (memory r.0 r.1) d (subst (λ z. shape_in (all_declared f) z ≡ Some (memory r.0 r.1)) g.0 r.3) in
       subst (λ z. z < 2 ^ shape_width s) g.1 (subst (λ z. value.value < 2 ^ z) (sym (ap shape_width shape ∙ same)) c.value)
   start_fits n s d (item.wire range x) p v e = absurd (cc)
-  start_fits n s d (item.register range x) p v e = absurd (cc)
-  start_fits n s d (item.memory range x last) p v e = absurd (cc)
-  start_fits n s d (item.integer place) p v e = absurd (cc)
-  start_fits n s d (item.assign x right) p v e = absurd (cc)
-  start_fits n s d (item.always x next) p v e = absurd (cc)
-  start_fits n s d (item.always_cell condition x index value) p v e = absurd (cc)
+  start_fits n s d _ p v e = absurd (cc)
 
   first_start : (n : Name) (s : Shape) → shape_in (all_declared f) n ≡ Some s → is_set initial n f.items ≡ true
       → unwrap_or (first_given (initial_number n) f.items) 0 < 2 ^ shape_width s
@@ -159,12 +144,7 @@ module _ (f : File) (h : IsFaultless f) where
       let q = same_shape n (register w) (memory r.0 r.1) d (subst (λ z. shape_in (all_declared f) z ≡ Some (memory r.0 r.1)) (equal_of_bytes_eq x.name n t) r.3) in
       absurd (cc)
   next_there n w d (item.wire range x) p t = absurd (cc)
-  next_there n w d (item.register range x) p t = absurd (cc)
-  next_there n w d (item.memory range x last) p t = absurd (cc)
-  next_there n w d (item.integer place) p t = absurd (cc)
-  next_there n w d (item.assign x right) p t = absurd (cc)
-  next_there n w d (item.initial x value) p t = absurd (cc)
-  next_there n w d (item.initial_cells place bound x value) p t = absurd (cc)
+  next_there n w d _ p t = absurd (cc)
 
   abbrev last_scope : Scope
   last_scope = readable (netlist_of f)
@@ -191,13 +171,7 @@ module _ (f : File) (h : IsFaultless f) where
       let wide : w ≡ y.width = ap shape_width q ∙ same in
       subst (λ z. IsOperand last_scope w z) g.1 (operand_last two (item.always x next) p next w (y.is ∙ ap (λ z. Some z) (sym wide)) cs)
   next_fits two n w d (item.always_cell condition x index value) p v e = absurd (cc)
-  next_fits two n w d (item.wire range x) p v e = absurd (cc)
-  next_fits two n w d (item.register range x) p v e = absurd (cc)
-  next_fits two n w d (item.memory range x last) p v e = absurd (cc)
-  next_fits two n w d (item.integer place) p v e = absurd (cc)
-  next_fits two n w d (item.assign x right) p v e = absurd (cc)
-  next_fits two n w d (item.initial x value) p v e = absurd (cc)
-  next_fits two n w d (item.initial_cells place bound x value) p v e = absurd (cc)
+  next_fits two n w d _ p v e = absurd (cc)
 
   first_next : AllByRecursion HasParts f.items → (n : Name) (w : ℕ) → shape_in (all_declared f) n ≡ Some (register w) → is_set always n f.items ≡ true
       → IsOperand last_scope w (unwrap_or (first_given (next_operand n) f.items) nothing)
@@ -220,8 +194,7 @@ module _ (f : File) (h : IsFaultless f) where
       let s = shape_there d (register w) m in
       ((first_start d.name.name (register w) s (set_there d (register w) initial m refl), first_next two d.name.name w s (set_there d (register w) always m refl)), tt)
   registers_fit two d (input w) m = tt
-  registers_fit two d (wire w) m = tt
-  registers_fit two d (memory w depth) m = tt
+  registers_fit two d _ m = tt
 
   pub nexts_are : AllByRecursion HasParts f.items → AllByRecursion (IsRegister last_scope) (netlist_of f).registers
   nexts_are two =
@@ -238,12 +211,7 @@ module _ (f : File) (h : IsFaultless f) where
       let q = same_shape n (memory w depth) (register r.0) d (subst (λ z. shape_in (all_declared f) z ≡ Some (register r.0)) (equal_of_bytes_eq x.name n t) r.2) in
       absurd (cc)
   write_there n w depth d (item.wire range x) p t = absurd (cc)
-  write_there n w depth d (item.register range x) p t = absurd (cc)
-  write_there n w depth d (item.memory range x last) p t = absurd (cc)
-  write_there n w depth d (item.integer place) p t = absurd (cc)
-  write_there n w depth d (item.assign x right) p t = absurd (cc)
-  write_there n w depth d (item.initial x value) p t = absurd (cc)
-  write_there n w depth d (item.initial_cells place bound x value) p t = absurd (cc)
+  write_there n w depth d _ p t = absurd (cc)
 
   -- the operands of a write to a memory of this width, with an index of this many bits
   record WriteFits (w bits : ℕ) (r : Write) : Type 0 where
@@ -285,13 +253,7 @@ module _ (f : File) (h : IsFaultless f) where
         value = operand_last two (item.always_cell condition x index value) p value w (z.is ∙ ap (λ m. Some m) (sym width)) ds.1;
       })
   write_fits two n w depth b d power (item.always x next) p v e = absurd (cc)
-  write_fits two n w depth b d power (item.wire range x) p v e = absurd (cc)
-  write_fits two n w depth b d power (item.register range x) p v e = absurd (cc)
-  write_fits two n w depth b d power (item.memory range x last) p v e = absurd (cc)
-  write_fits two n w depth b d power (item.integer place) p v e = absurd (cc)
-  write_fits two n w depth b d power (item.assign x right) p v e = absurd (cc)
-  write_fits two n w depth b d power (item.initial x value) p v e = absurd (cc)
-  write_fits two n w depth b d power (item.initial_cells place bound x value) p v e = absurd (cc)
+  write_fits two n w depth b d power _ p v e = absurd (cc)
 
   abbrev no_write : Write
   no_write = record { enable = nothing; index = nothing; value = nothing }
@@ -320,8 +282,7 @@ module _ (f : File) (h : IsFaultless f) where
         tt,
       )
   memories_fit two d (input w) m = tt
-  memories_fit two d (wire w) m = tt
-  memories_fit two d (register w) m = tt
+  memories_fit two d _ m = tt
 
   pub writes_are : AllByRecursion HasParts f.items → AllByRecursion (IsMemory last_scope) (netlist_of f).memories
   writes_are two =

@@ -51,8 +51,7 @@ memory_entries xs = map (λ x. (x.name, (x.width, x.depth))) xs
 one_input : (d : Direction) (n : Name) (width : ℕ) (xs : List Input) (ds : List Declaration) → input_entries xs ≡ entries input_width ds
     → input_entries (net_input d n width ++ xs) ≡ add_entry n (input_width (port_shape d width)) (entries input_width ds)
 one_input item.input n width xs ds e = ap (λ z. (n, width) ∷ z) e
-one_input item.output_register n width xs ds e = e
-one_input item.output_wire n width xs ds e = e
+one_input _ n width xs ds e = e
 
 inputs_of_ports : (ps : List Port) → input_entries (flat_map port_input ps) ≡ entries input_width (map port_declaration ps)
 inputs_of_ports [] = refl
@@ -60,14 +59,7 @@ inputs_of_ports (p ∷ ps) = one_input p.direction p.name.name (p.range.value + 
 
 no_input : (x : Item) (ds : List Declaration) → entries input_width (item_declarations x ++ ds) ≡ entries input_width ds
 no_input (item.wire range x) ds = refl
-no_input (item.register range x) ds = refl
-no_input (item.memory range x last) ds = refl
-no_input (item.integer place) ds = refl
-no_input (item.assign x right) ds = refl
-no_input (item.initial x value) ds = refl
-no_input (item.initial_cells place bound x value) ds = refl
-no_input (item.always x next) ds = refl
-no_input (item.always_cell condition x index value) ds = refl
+no_input _ ds = refl
 
 no_inputs : (xs : List Item) → entries input_width (flat_map item_declarations xs) ≡ []
 no_inputs [] = refl
@@ -81,10 +73,8 @@ inputs_are f =
 
 one_register : (n : Name) (s : Shape) (items : List Item) (rs : List Register) (ds : List Declaration) → register_entries rs ≡ entries register_width ds
     → register_entries (shape_registers n s items ++ rs) ≡ add_entry n (register_width s) (entries register_width ds)
-one_register n (input w) items rs ds e = e
-one_register n (wire w) items rs ds e = e
 one_register n (register w) items rs ds e = ap (λ z. (n, w) ∷ z) e
-one_register n (memory w depth) items rs ds e = e
+one_register n _ items rs ds e = e
 
 registers_of : (items : List Item) (ds : List Declaration) → register_entries (flat_map (λ d. shape_registers d.name.name d.shape items) ds) ≡ entries register_width ds
 registers_of items [] = refl
@@ -96,10 +86,8 @@ registers_are f = registers_of f.items (all_declared f)
 
 one_memory : (n : Name) (s : Shape) (items : List Item) (ms : List Memory) (ds : List Declaration) → memory_entries ms ≡ entries memory_shape ds
     → memory_entries (shape_memories n s items ++ ms) ≡ add_entry n (memory_shape s) (entries memory_shape ds)
-one_memory n (input w) items ms ds e = e
-one_memory n (wire w) items ms ds e = e
-one_memory n (register w) items ms ds e = e
 one_memory n (memory w depth) items ms ds e = ap (λ z. (n, (w, depth)) ∷ z) e
+one_memory n _ items ms ds e = e
 
 memories_of : (items : List Item) (ds : List Declaration) → memory_entries (flat_map (λ d. shape_memories d.name.name d.shape items) ds) ≡ entries memory_shape ds
 memories_of items [] = refl
@@ -123,15 +111,8 @@ memory_names_are f =
 
 one_wire : (ds : List Declaration) (x : Item) (n : Name) (ws : List Wire) (set : Bool) → is_among n (map (λ w. w.name) ws) ≡ set
     → is_among n (map (λ w. w.name) (net_wires ds x ++ ws)) ≡ (is_target assign n (target_of x) || set)
-one_wire ds (item.wire range x) n ws set e = e
-one_wire ds (item.register range x) n ws set e = e
-one_wire ds (item.memory range x last) n ws set e = e
-one_wire ds (item.integer place) n ws set e = e
 one_wire ds (item.assign x right) n ws set e = ap (λ b. b || is_among n (map (λ w. w.name) ws)) (bytes_eq_symmetric n x.name) ∙ ap (λ b. bytes_eq x.name n || b) e
-one_wire ds (item.initial x value) n ws set e = e
-one_wire ds (item.initial_cells place bound x value) n ws set e = e
-one_wire ds (item.always x next) n ws set e = e
-one_wire ds (item.always_cell condition x index value) n ws set e = e
+one_wire ds _ n ws set e = e
 
 pub wires_set : (ds : List Declaration) (xs : List Item) (n : Name) → is_among n (map (λ w. w.name) (flat_map (net_wires ds) xs)) ≡ is_set assign n xs
 wires_set ds [] n = refl
@@ -177,18 +158,10 @@ module _ (f : File) (h : IsFaultless f) where
             (subst (λ z. shape_in (declarations f.ports p.before) z ≡ Some (wire r.0)) (equal_of_bytes_eq x.name n t) (g.declared ∙ ap (λ z. Some z) r.1)),
       ) where
         of_shape : (s : Shape) → suits as_wire s ≡ true → (width : ℕ) × (s ≡ wire width)
-        of_shape (input w) e = absurd (cc)
         of_shape (wire w) e = (w, refl)
-        of_shape (register w) e = absurd (cc)
-        of_shape (memory w depth) e = absurd (cc)
+        of_shape _ e = absurd (cc)
   assigned_wire n (item.wire range x) p t = absurd (cc)
-  assigned_wire n (item.register range x) p t = absurd (cc)
-  assigned_wire n (item.memory range x last) p t = absurd (cc)
-  assigned_wire n (item.integer place) p t = absurd (cc)
-  assigned_wire n (item.initial x value) p t = absurd (cc)
-  assigned_wire n (item.initial_cells place bound x value) p t = absurd (cc)
-  assigned_wire n (item.always x next) p t = absurd (cc)
-  assigned_wire n (item.always_cell condition x index value) p t = absurd (cc)
+  assigned_wire n _ p t = absurd (cc)
 
   -- exactly the wires are assigned
   pub set_wire : (n : Name) → is_set assign n f.items ≡ is_some (picked wire_width (shape_in (all_declared f) n))
@@ -201,15 +174,12 @@ module _ (f : File) (h : IsFaultless f) where
       (λ t. t ∙ sym (by_shape (shape_in (all_declared f) n) refl t))
       (cases_Bool (is_set assign n f.items)) where
         by_shape : (o : Option Shape) → shape_in (all_declared f) n ≡ o → is_set assign n f.items ≡ false → is_some (picked wire_width o) ≡ false
-        by_shape None e t = refl
-        by_shape (Some (input w)) e t = refl
-        by_shape (Some (register w)) e t = refl
-        by_shape (Some (memory w depth)) e t = refl
         by_shape (Some (wire w)) e t =
             let r = declared_by (all_declared f) n (wire w) e in
             let s = all_set f h r.declaration assign r.among (ap (λ z. needs z assign) r.shape) in
             let q : is_set assign n f.items ≡ true = subst (λ z. is_set assign z f.items ≡ true) r.name s in
             absurd (cc)
+        by_shape _ e t = refl
 
   pub wire_known : (n : Name) → is_among n (wire_names (netlist_of f)) ≡ is_some (picked wire_width (shape_in (all_declared f) n))
   wire_known n = wires_set (all_declared f) f.items n ∙ set_wire n
@@ -225,11 +195,8 @@ module _ (f : File) (h : IsFaultless f) where
 
   some_kind : (o : Option Shape)
       → is_some o ≡ (((is_some (picked input_width o) || is_some (picked wire_width o)) || is_some (picked register_width o)) || is_some (picked memory_shape o))
-  some_kind None = refl
   some_kind (Some (input w)) = refl
-  some_kind (Some (wire w)) = refl
-  some_kind (Some (register w)) = refl
-  some_kind (Some (memory w depth)) = refl
+  some_kind _ = refl
 
   four_among : (n : Name) (a b c d : List Name) (p q r s : Bool) → is_among n a ≡ p → is_among n b ≡ q → is_among n c ≡ r → is_among n d ≡ s
       → is_among n (a ++ b ++ c ++ d) ≡ (((p || q) || r) || s)
@@ -285,8 +252,7 @@ one_shown : (d : Direction) (n : Name) (width : ℕ) (ps : List Port) (is : List
     → cond (is_input (net_kind d)) (n ∷ map (λ p. p.name) (filter (λ p. is_input p.kind) (map net_port ps))) (map (λ p. p.name) (filter (λ p. is_input p.kind) (map net_port ps)))
     ≡ map (λ x. x.name) (net_input d n width ++ is)
 one_shown item.input n width ps is e = ap (λ z. n ∷ z) e
-one_shown item.output_register n width ps is e = e
-one_shown item.output_wire n width ps is e = e
+one_shown _ n width ps is e = e
 
 shown_name : {A : Type 0} (name : A → Name) (b : Bool) (x : A) (xs : List A) → map name (cond b (x ∷ xs) xs) ≡ cond b (name x ∷ map name xs) (map name xs)
 shown_name name true x xs = refl

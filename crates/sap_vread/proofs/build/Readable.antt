@@ -45,20 +45,16 @@ pub record IsValue (o : Option Shape) (w : ℕ) : Type 0 where
   pub no_memory : picked memory_shape o ≡ None
 
 pub value_of : (o : Option Shape) (b : Bool) (w : ℕ) → value_width o b ≡ Some w → IsValue o w
-value_of None b w e = absurd (cc)
 value_of (Some (input u)) b w e = record { shape = input u; is = refl; width = cc; no_memory = refl }
 value_of (Some (register u)) b w e = record { shape = register u; is = refl; width = cc; no_memory = refl }
 value_of (Some (wire u)) true w e = record { shape = wire u; is = refl; width = cc; no_memory = refl }
-value_of (Some (wire u)) false w e = absurd (cc)
-value_of (Some (memory u depth)) b w e = absurd (cc)
+value_of _ b w e = absurd (cc)
 
 value_grows : (o : Option Shape) (b c : Bool) (w : ℕ) → (b ≡ true → c ≡ true) → value_width o b ≡ Some w → value_width o c ≡ Some w
-value_grows None b c w g e = absurd (cc)
 value_grows (Some (input u)) b c w g e = e
 value_grows (Some (register u)) b c w g e = e
 value_grows (Some (wire u)) true c w g e = ap (value_width (Some (wire u))) (g refl) ∙ e
-value_grows (Some (wire u)) false c w g e = absurd (cc)
-value_grows (Some (memory u depth)) b c w g e = absurd (cc)
+value_grows _ b c w g e = absurd (cc)
 
 -- a width, and for a memory a depth
 abbrev pub IsFine : Shape → Type 0
@@ -68,10 +64,8 @@ IsFine (register width) = IsWidth width
 IsFine (memory width depth) = IsWidth width × HasIndex depth
 
 pub fine_width : (s : Shape) → IsFine s → IsWidth (shape_width s)
-fine_width (input width) h = h
-fine_width (wire width) h = h
-fine_width (register width) h = h
 fine_width (memory width depth) h = h.0
+fine_width _ h = h
 
 width_of_range : (v : ℕ) → v ≤ 63 → IsWidth (v + 1)
 width_of_range v h = (omega arith, omega arith)
@@ -97,8 +91,7 @@ module _ (f : File) (h : IsFaultless f) where
   fine_port p m = by_direction p.direction where
     by_direction : (d : item.Direction) → IsFine (port_shape d (p.range.value + 1))
     by_direction item.input = width_of_range p.range.value (small_port f h p m)
-    by_direction item.output_register = width_of_range p.range.value (small_port f h p m)
-    by_direction item.output_wire = width_of_range p.range.value (small_port f h p m)
+    by_direction _ = width_of_range p.range.value (small_port f h p m)
 
   fine_item : (x : Item) → Part x f.items → (d : Declaration) → StandsIn d (item_declarations x) → IsFine d.shape
   fine_item (item.wire range x) p d (inl e) =
@@ -115,12 +108,7 @@ module _ (f : File) (h : IsFaultless f) where
       subst (λ z. IsFine z.shape) (sym e)
       (width_of_range range.value (small_range f h a (item.memory range x last) i range (inl refl)), good_depth f h a range last x i)
   fine_item (item.memory range x last) p d (inr m) = absurd m
-  fine_item (item.integer place) p d m = absurd m
-  fine_item (item.assign x right) p d m = absurd m
-  fine_item (item.initial x value) p d m = absurd m
-  fine_item (item.initial_cells place bound x value) p d m = absurd m
-  fine_item (item.always x next) p d m = absurd m
-  fine_item (item.always_cell condition x index value) p d m = absurd m
+  fine_item _ p d m = absurd m
 
   pub fine_declared : (d : Declaration) → StandsIn d (all_declared f) → IsFine d.shape
   fine_declared d m =
@@ -142,11 +130,8 @@ module _ (f : File) (h : IsFaultless f) where
       ap (λ z. z ++ register_entries (netlist_of f).registers) (inputs_are f) ∙ ap (λ z. entries input_width (all_declared f) ++ z) (registers_are f)
 
   first_value : (o : Option Shape) → first_of (picked input_width o) (picked register_width o) ≡ value_width o false
-  first_value None = refl
   first_value (Some (input w)) = refl
-  first_value (Some (wire w)) = refl
-  first_value (Some (register w)) = refl
-  first_value (Some (memory w depth)) = refl
+  first_value _ = refl
 
   pub first_found : (n : Name) → find (first_readable (netlist_of f)) n ≡ value_width (shape_in (all_declared f) n) false
   first_found n =
@@ -158,10 +143,8 @@ module _ (f : File) (h : IsFaultless f) where
       ∙ first_value (shape_in ds n)
 
   inputs_apart : (s : Shape) → is_some (input_width s) ≡ true → is_some (register_width s) ≡ false
-  inputs_apart (input w) e = refl
-  inputs_apart (wire w) e = refl
   inputs_apart (register w) e = absurd (cc)
-  inputs_apart (memory w depth) e = refl
+  inputs_apart _ e = refl
 
   first_distinct : AreDistinct (keys (first_readable (netlist_of f)))
   first_distinct =
@@ -198,13 +181,10 @@ module _ (f : File) (h : IsFaultless f) where
       let es = shapes (netlist_of f) in
       are_memories es memories_distinct (all_alike (λ e. IsWidth e.1.0) es (λ e m. one e (found_among es (new_keys es memories_distinct) e.0 e.1 m))) where
         by_shape : (e : Name × (ℕ × ℕ)) (o : Option Shape) → shape_in (all_declared f) e.0 ≡ o → picked memory_shape o ≡ Some e.1 → IsWidth e.1.0
-        by_shape e None s g = absurd (cc)
-        by_shape e (Some (input w)) s g = absurd (cc)
-        by_shape e (Some (wire w)) s g = absurd (cc)
-        by_shape e (Some (register w)) s g = absurd (cc)
         by_shape e (Some (memory w depth)) s g = let q : w ≡ e.1.0 = pair_first w depth e.1 g in subst IsWidth q (fine_shape e.0 (memory w depth) s).0 where
           pair_first : (w depth : ℕ) (p : ℕ × ℕ) → (let q : ℕ × ℕ = (w, depth) in Some q) ≡ Some p → w ≡ p.0
           pair_first w depth p g = let q : (let r : ℕ × ℕ = (w, depth) in r) ≡ p = cc in ap (λ (z : ℕ × ℕ). z.0) q
+        by_shape e _ s g = absurd (cc)
 
         one : (e : Name × (ℕ × ℕ)) → find (shapes (netlist_of f)) e.0 ≡ Some e.1 → IsWidth e.1.0
         one e g = by_shape e (shape_in (all_declared f) e.0) refl (sym (memory_found e.0) ∙ g)

@@ -10,13 +10,13 @@ use Rattle.sap_maps.specs.Prelude.{Name, CountFits, Scope, find}
 use Rattle.sap_net.specs.Prelude.{IsWidth, IsOperand, AreOperands, IsRight, AreWires, readable_after, first_readable, readable, shapes}
 use Rattle.sap_vtext.specs.Items.{Mention, Operand, Right, Item, File}
 use Rattle.sap_vtext.specs.Items as item
-use Rattle.sap_vtext.specs.Names.{Shape, input, wire, register, memory, declarations, shape_in, IsItemOf, shape_above, assign, target_of, is_target, is_set, known_above}
-use Rattle.sap_vtext.specs.Widths.{operand_width, parts_width, add_widths, slice_width, memory_width, wire_width, constant_fits, value_width, unary_pairs, unary_rule, binary_pairs, binary_rule, Differ}
-use Rattle.sap_vtext.specs.Faults.{as_cell, as_wire, suits, uses, operand_uses, operand_constants, IsFaultless}
+use Rattle.sap_vtext.specs.Names.{Shape, wire, memory, declarations, shape_in, IsItemOf, shape_above, assign, target_of, is_target, is_set, known_above}
+use Rattle.sap_vtext.specs.Widths.{operand_width, parts_width, add_widths, slice_width, memory_width, wire_width, constant_fits, value_width, unary_pairs, unary_rule, binary_pairs, binary_rule, pairs, Differ}
+use Rattle.sap_vtext.specs.Faults.{as_cell, as_wire, suits, uses, operand_uses, constants, operand_constants, IsFaultless}
 use Rattle.sap_vtext.specs.Modules.{netlist_of, net_operand, net_right, net_wires, declared_width}
 use Rattle.sap_vtext.proofs.Good.{IsGoodUse, above_of}
 use Rattle.sap_vread.proofs.build.Entries.{picked}
-use Rattle.sap_vread.proofs.build.Sound.{good_uses, good_constants, good_pairs, good_index, assigned_first, slice_fits, Part}
+use Rattle.sap_vread.proofs.build.Sound.{good_uses, good_constants, good_pairs, good_index, assigned_first, slice_fits}
 use Rattle.sap_vread.proofs.build.Parts.{all_declared, memory_shape, item_in, shape_below}
 use Rattle.sap_vread.proofs.build.Readable.{value_of, fine_shape, memory_found, first_found, IsReadable, AssignsMore, operand_is, operand_wide}
 
@@ -48,9 +48,7 @@ one_fits : (op : Op1) (w u : ℕ) (target x : Option ℕ) → target ≡ Some w 
     → w ≡ width1 op u
 one_fits unary.Not w u target x e g ps = equal target x w u e g ps.0
 one_fits unary.Neg w u target x e g ps = equal target x w u e g ps.0
-one_fits unary.AllOnes w u target x e g ps = equal target (Some 1) w 1 e refl ps.0
-one_fits unary.AnyOne w u target x e g ps = equal target (Some 1) w 1 e refl ps.0
-one_fits unary.Odd w u target x e g ps = equal target (Some 1) w 1 e refl ps.0
+one_fits _ w u target x e g ps = equal target (Some 1) w 1 e refl ps.0
 
 abbrev TwoFits : Op2 → ℕ → ℕ → ℕ → Type 0
 TwoFits op w u v = CountFits op u v × (w ≡ width2 op u)
@@ -59,18 +57,13 @@ abbrev AreEqual : Op2 → Option ℕ → Option ℕ → Option ℕ → Type 0
 AreEqual op target x y = AllByRecursion (λ p. Differ p → ⊥) (binary_pairs (binary_rule op) target x y)
 
 two_fits : (op : Op2) (w u v : ℕ) (target x y : Option ℕ) → target ≡ Some w → x ≡ Some u → y ≡ Some v → AreEqual op target x y → TwoFits op w u v
-two_fits binary.Add w u v target x y e g k ps = (sym (equal x y u v g k ps.1.1.0), equal target x w u e g ps.0)
-two_fits binary.Sub w u v target x y e g k ps = (sym (equal x y u v g k ps.1.1.0), equal target x w u e g ps.0)
-two_fits binary.Mul w u v target x y e g k ps = (sym (equal x y u v g k ps.1.1.0), equal target x w u e g ps.0)
-two_fits binary.And w u v target x y e g k ps = (sym (equal x y u v g k ps.1.1.0), equal target x w u e g ps.0)
-two_fits binary.Or w u v target x y e g k ps = (sym (equal x y u v g k ps.1.1.0), equal target x w u e g ps.0)
-two_fits binary.Xor w u v target x y e g k ps = (sym (equal x y u v g k ps.1.1.0), equal target x w u e g ps.0)
 two_fits binary.Eq w u v target x y e g k ps = (sym (equal x y u v g k ps.1.0), equal target (Some 1) w 1 e refl ps.0)
 two_fits binary.Ne w u v target x y e g k ps = (sym (equal x y u v g k ps.1.0), equal target (Some 1) w 1 e refl ps.0)
 two_fits binary.Lt w u v target x y e g k ps = (sym (equal x y u v g k ps.1.0), equal target (Some 1) w 1 e refl ps.0)
 two_fits binary.Le w u v target x y e g k ps = (sym (equal x y u v g k ps.1.0), equal target (Some 1) w 1 e refl ps.0)
 two_fits binary.Shl w u v target x y e g k ps = (tt, equal target x w u e g ps.0)
 two_fits binary.Shr w u v target x y e g k ps = (tt, equal target x w u e g ps.0)
+two_fits _ w u v target x y e g k ps = (sym (equal x y u v g k ps.1.1.0), equal target x w u e g ps.0)
 
 slice_is : (u high low : ℕ) → low ≤ high → high < u → slice_width (Some u) high low ≡ Some (high + 1 - low)
 slice_is u high low p q =
@@ -120,51 +113,36 @@ module _ (f : File) (h : IsFaultless f) where
       }
 
   right_is : (before after : List Item) (sc : Scope) (x : Mention) (right : Right) (w : ℕ) → f.items ≡ before ++ item.assign x right ∷ after → HasParts (item.assign x right)
-      → IsReadable f h sc before → shape_in (declarations f.ports before) x.name ≡ Some (wire w) → IsRight (shapes (netlist_of f)) sc w (net_right right)
-  right_is before after sc x (item.copy o) w e two r s =
-      let p : Part (item.assign x (item.copy o)) f.items = record { before = before; after = after; is = e } in
+      → IsReadable f h sc before → shape_in (declarations f.ports before) x.name ≡ Some (wire w)
+      → IsItemOf f (above_of f.ports before) (item.assign x right) → AllByRecursion (IsGoodUse (above_of f.ports before)) (uses (item.assign x right))
+      → AllByRecursion (λ c. constant_fits c ≡ true) (constants (item.assign x right))
+      → AllByRecursion (λ p. Differ p → ⊥) (pairs (known_above (above_of f.ports before)) (item.assign x right)) → IsRight (shapes (netlist_of f)) sc w (net_right right)
+  right_is before after sc x (item.copy o) w e two r s i us cs ps =
       let a = above_of f.ports before in
-      let i = item_in f (item.assign x (item.copy o)) p in
-      let us = good_uses f h a (item.assign x (item.copy o)) i in
-      let cs = good_constants f h a (item.assign x (item.copy o)) i in
-      let ps = good_pairs f h a (item.assign x (item.copy o)) (record { setting = assign; name = x }) i refl in
       let y = reads_at before (item.assign x (item.copy o) ∷ after) sc e r o us.1 cs in
       subst (λ z. IsOperand sc z (net_operand o))
       (sym (equal (wire_width (shape_above a x.name)) (operand_width (known_above a) o) w y.width (ap wire_width s) y.is ps.0)) y.operand
-  right_is before after sc x (item.one op o) w e two r s =
-      let p : Part (item.assign x (item.one op o)) f.items = record { before = before; after = after; is = e } in
+  right_is before after sc x (item.one op o) w e two r s i us cs ps =
       let a = above_of f.ports before in
-      let i = item_in f (item.assign x (item.one op o)) p in
-      let us = good_uses f h a (item.assign x (item.one op o)) i in
-      let cs = good_constants f h a (item.assign x (item.one op o)) i in
-      let ps = good_pairs f h a (item.assign x (item.one op o)) (record { setting = assign; name = x }) i refl in
       let y = reads_at before (item.assign x (item.one op o) ∷ after) sc e r o us.1 cs in
       (y.width, y.fits, y.operand, one_fits op w y.width (wire_width (shape_above a x.name)) (operand_width (known_above a) o) (ap wire_width s) y.is ps)
-  right_is before after sc x (item.two op o q) w e two r s =
-      let p : Part (item.assign x (item.two op o q)) f.items = record { before = before; after = after; is = e } in
+  right_is before after sc x (item.two op o q) w e two r s i us cs ps =
       let a = above_of f.ports before in
-      let i = item_in f (item.assign x (item.two op o q)) p in
-      let us = all_parts (IsGoodUse a) (operand_uses o) (operand_uses q) (good_uses f h a (item.assign x (item.two op o q)) i).1 in
-      let cs = all_parts (λ c. constant_fits c ≡ true) (operand_constants o) (operand_constants q) (good_constants f h a (item.assign x (item.two op o q)) i) in
-      let ps = good_pairs f h a (item.assign x (item.two op o q)) (record { setting = assign; name = x }) i refl in
-      let y = reads_at before (item.assign x (item.two op o q) ∷ after) sc e r o us.0 cs.0 in
-      let z = reads_at before (item.assign x (item.two op o q) ∷ after) sc e r q us.1 cs.1 in
+      let vs = all_parts (IsGoodUse a) (operand_uses o) (operand_uses q) us.1 in
+      let ds = all_parts (λ c. constant_fits c ≡ true) (operand_constants o) (operand_constants q) cs in
+      let y = reads_at before (item.assign x (item.two op o q) ∷ after) sc e r o vs.0 ds.0 in
+      let z = reads_at before (item.assign x (item.two op o q) ∷ after) sc e r q vs.1 ds.1 in
       let t = two_fits op w y.width z.width (wire_width (shape_above a x.name)) (operand_width (known_above a) o)
       (operand_width (known_above a) q) (ap wire_width s) y.is z.is ps in
       (y.width, z.width, y.fits, z.fits, y.operand, z.operand, t.0, t.1)
-  right_is before after sc x (item.choose c o q) w e two r s =
-      let right = item.choose c o q in
-      let p : Part (item.assign x (item.choose c o q)) f.items = record { before = before; after = after; is = e } in
+  right_is before after sc x (item.choose c o q) w e two r s i us cs ps =
       let a = above_of f.ports before in
-      let i = item_in f (item.assign x (item.choose c o q)) p in
-      let us = all_parts (IsGoodUse a) (operand_uses c) (operand_uses o ++ operand_uses q) (good_uses f h a (item.assign x (item.choose c o q)) i).1 in
-      let vs = all_parts (IsGoodUse a) (operand_uses o) (operand_uses q) us.1 in
-      let cs = all_parts (λ k. constant_fits k ≡ true) (operand_constants c) (operand_constants o ++ operand_constants q)
-      (good_constants f h a (item.assign x (item.choose c o q)) i) in
-      let ds = all_parts (λ k. constant_fits k ≡ true) (operand_constants o) (operand_constants q) cs.1 in
-      let ps = good_pairs f h a (item.assign x (item.choose c o q)) (record { setting = assign; name = x }) i refl in
+      let all_us = all_parts (IsGoodUse a) (operand_uses c) (operand_uses o ++ operand_uses q) us.1 in
+      let vs = all_parts (IsGoodUse a) (operand_uses o) (operand_uses q) all_us.1 in
+      let all_cs = all_parts (λ k. constant_fits k ≡ true) (operand_constants c) (operand_constants o ++ operand_constants q) cs in
+      let ds = all_parts (λ k. constant_fits k ≡ true) (operand_constants o) (operand_constants q) all_cs.1 in
       let below = item.assign x (item.choose c o q) ∷ after in
-      let b = reads_at before below sc e r c us.0 cs.0 in
+      let b = reads_at before below sc e r c all_us.0 all_cs.0 in
       let y = reads_at before below sc e r o vs.0 ds.0 in
       let z = reads_at before below sc e r q vs.1 ds.1 in
       let target = wire_width (shape_above a x.name) in
@@ -175,22 +153,13 @@ module _ (f : File) (h : IsFaultless f) where
         subst (λ v. IsOperand sc v (net_operand o)) (sym first) y.operand,
         subst (λ v. IsOperand sc v (net_operand q)) (sym second) z.operand,
       )
-  right_is before after sc x (item.concat os) w e two r s =
-      let p : Part (item.assign x (item.concat os)) f.items = record { before = before; after = after; is = e } in
+  right_is before after sc x (item.concat os) w e two r s i us cs ps =
       let a = above_of f.ports before in
-      let i = item_in f (item.assign x (item.concat os)) p in
-      let us = good_uses f h a (item.assign x (item.concat os)) i in
-      let cs = good_constants f h a (item.assign x (item.concat os)) i in
-      let ps = good_pairs f h a (item.assign x (item.concat os)) (record { setting = assign; name = x }) i refl in
       let y = reads_all before (item.assign x (item.concat os) ∷ after) sc e r os us.1 cs in
       let same : w ≡ y.width = equal (wire_width (shape_above a x.name)) (parts_width (known_above a) os) w y.width (ap wire_width s) y.is ps.0 in
       (subst (λ n. 2 ≤ n) (sym (length_map net_operand os)) two, subst (λ z. AreOperands sc z (map net_operand os)) (sym same) y.operands)
-  right_is before after sc x (item.slice y high low) w e two r s =
-      let p : Part (item.assign x (item.slice y high low)) f.items = record { before = before; after = after; is = e } in
+  right_is before after sc x (item.slice y high low) w e two r s i us cs ps =
       let a = above_of f.ports before in
-      let i = item_in f (item.assign x (item.slice y high low)) p in
-      let us = good_uses f h a (item.assign x (item.slice y high low)) i in
-      let ps = good_pairs f h a (item.assign x (item.slice y high low)) (record { setting = assign; name = x }) i refl in
       let z = reads_at before (item.assign x (item.slice y high low) ∷ after) sc e r (item.named y) us.1 tt in
       let v = value_of (shape_above a y.name) (is_set assign y.name before) z.width z.is in
       let q = slice_fits f h a x y high low v.shape i v.is in
@@ -204,21 +173,10 @@ module _ (f : File) (h : IsFaultless f) where
         below,
         equal (wire_width (shape_above a x.name)) (slice_width (operand_width (known_above a) (item.named y)) high low) w (high + 1 - low) (ap wire_width s) width ps.0,
       )
-  right_is before after sc x (item.cell m index) w e two r s = by_shape us.1.0.shape us.1.0.declared us.1.0.suits where
-    i : IsItemOf f (above_of f.ports before) (item.assign x (item.cell m index))
-    i = item_in f (item.assign x (item.cell m index)) (record { before = before; after = after; is = e })
-
-    us : AllByRecursion (IsGoodUse (above_of f.ports before)) (uses (item.assign x (item.cell m index)))
-    us = good_uses f h (above_of f.ports before) (item.assign x (item.cell m index)) i
-
+  right_is before after sc x (item.cell m index) w e two r s i us cs ps = by_shape us.1.0.shape us.1.0.declared us.1.0.suits where
     by_shape : (t : Shape) → shape_in (declarations f.ports before) m.name ≡ Some t → suits as_cell t ≡ true → IsRight (shapes (netlist_of f)) sc w (net_right (item.cell m index))
-    by_shape (input u) d k = absurd (cc)
-    by_shape (wire u) d k = absurd (cc)
-    by_shape (register u) d k = absurd (cc)
     by_shape (memory u depth) d k =
         let a = above_of f.ports before in
-        let cs = good_constants f h a (item.assign x (item.cell m index)) i in
-        let ps = good_pairs f h a (item.assign x (item.cell m index)) (record { setting = assign; name = x }) i refl in
         let below = shape_below f before (item.assign x (item.cell m index) ∷ after) m.name (memory u depth) e d in
         let fine = fine_shape f h m.name (memory u depth) below in
         let b = fine.1.0 in
@@ -231,6 +189,7 @@ module _ (f : File) (h : IsFaultless f) where
               ∙ ap (λ n. let q : ℕ × ℕ = (w, n) in Some q) fine.1.1.2,
           subst (λ n. IsOperand sc n (net_operand index)) wide z.operand,
         )
+    by_shape _ d k = absurd (cc)
 
   -- One item further.
 
@@ -280,9 +239,6 @@ module _ (f : File) (h : IsFaultless f) where
         by_shape : (t : Shape) → shape_in (declarations f.ports before) x.name ≡ Some t → suits as_wire t ≡ true
             → ((w : ℕ) → IsReadable f h ((x.name, w) ∷ sc) (before ++ item.assign x right ∷ []) → WiresFrom (before ++ item.assign x right ∷ []) rest ((x.name, w) ∷ sc))
             → WiresFrom before (item.assign x right ∷ rest) sc
-        by_shape (input u) d k go = absurd (cc)
-        by_shape (register u) d k go = absurd (cc)
-        by_shape (memory u depth) d k go = absurd (cc)
         by_shape (wire w) d k go =
             let below = shape_below f before (item.assign x right ∷ rest) x.name (wire w) e d in
             let fresh : find sc x.name ≡ None =
@@ -294,36 +250,22 @@ module _ (f : File) (h : IsFaultless f) where
             let ws = flat_map (net_wires (all_declared f)) rest in
             subst (λ v. (IsWidth v × (find sc x.name ≡ None) × (find ms x.name ≡ None) × IsRight ms sc v (net_right right) × AreWires ms ((x.name, v) ∷ sc) ws)
             × IsReadable f h (readable_after ((x.name, v) ∷ sc) ws) (before ++ item.assign x right ∷ rest))
-            (sym (ap declared_width below))
-            ((fine_shape f h x.name (wire w) below, fresh, memory_found f h x.name ∙ ap (picked memory_shape) below, right_is before rest sc x right w e two.0 r d, all.0), all.1)
-  wires_from before (item.wire range x ∷ rest) sc e two r =
-      let g = kept_reads sc before (item.wire range x) (λ n. refl) r in
-      step before (item.wire range x) rest sc (wires_from (before ++ item.wire range x ∷ []) rest sc (e ∙ sym (append_assoc before (item.wire range x ∷ []) rest)) two.1 g)
-  wires_from before (item.register range x ∷ rest) sc e two r =
-      let g = kept_reads sc before (item.register range x) (λ n. refl) r in
-      step before (item.register range x) rest sc
-      (wires_from (before ++ item.register range x ∷ []) rest sc (e ∙ sym (append_assoc before (item.register range x ∷ []) rest)) two.1 g)
-  wires_from before (item.memory range x last ∷ rest) sc e two r =
-      let g = kept_reads sc before (item.memory range x last) (λ n. refl) r in
-      step before (item.memory range x last) rest sc
-      (wires_from (before ++ item.memory range x last ∷ []) rest sc (e ∙ sym (append_assoc before (item.memory range x last ∷ []) rest)) two.1 g)
-  wires_from before (item.integer place ∷ rest) sc e two r =
-      let g = kept_reads sc before (item.integer place) (λ n. refl) r in
-      step before (item.integer place) rest sc (wires_from (before ++ item.integer place ∷ []) rest sc (e ∙ sym (append_assoc before (item.integer place ∷ []) rest)) two.1 g)
-  wires_from before (item.initial x value ∷ rest) sc e two r =
-      let g = kept_reads sc before (item.initial x value) (λ n. refl) r in
-      step before (item.initial x value) rest sc (wires_from (before ++ item.initial x value ∷ []) rest sc (e ∙ sym (append_assoc before (item.initial x value ∷ []) rest)) two.1 g)
-  wires_from before (item.initial_cells place bound x value ∷ rest) sc e two r =
-      let g = kept_reads sc before (item.initial_cells place bound x value) (λ n. refl) r in
-      step before (item.initial_cells place bound x value) rest sc
-      (wires_from (before ++ item.initial_cells place bound x value ∷ []) rest sc (e ∙ sym (append_assoc before (item.initial_cells place bound x value ∷ []) rest)) two.1 g)
-  wires_from before (item.always x next ∷ rest) sc e two r =
-      let g = kept_reads sc before (item.always x next) (λ n. refl) r in
-      step before (item.always x next) rest sc (wires_from (before ++ item.always x next ∷ []) rest sc (e ∙ sym (append_assoc before (item.always x next ∷ []) rest)) two.1 g)
-  wires_from before (item.always_cell condition x index value ∷ rest) sc e two r =
-      let g = kept_reads sc before (item.always_cell condition x index value) (λ n. refl) r in
-      step before (item.always_cell condition x index value) rest sc
-      (wires_from (before ++ item.always_cell condition x index value ∷ []) rest sc (e ∙ sym (append_assoc before (item.always_cell condition x index value ∷ []) rest)) two.1 g)
+            (sym (ap declared_width below)) (
+              (
+                fine_shape f h x.name (wire w) below,
+                fresh,
+                memory_found f h x.name ∙ ap (picked memory_shape) below,
+                right_is before rest sc x right w e two.0 r d i us
+                    (good_constants f h (above_of f.ports before) (item.assign x right) i)
+                    (good_pairs f h (above_of f.ports before) (item.assign x right) (record { setting = assign; name = x }) i refl),
+                all.0,
+              ),
+              all.1,
+            )
+        by_shape _ d k go = absurd (cc)
+  wires_from before (x ∷ rest) sc e two r =
+      let g = kept_reads sc before x (λ n. refl) r in
+      step before x rest sc (wires_from (before ++ x ∷ []) rest sc (e ∙ sym (append_assoc before (x ∷ []) rest)) two.1 g)
 
   nothing_set : IsReadable f h (first_readable (netlist_of f)) []
   nothing_set n = first_found f h n
