@@ -88,7 +88,6 @@ behind_open s line rest h = line_byte s where
   line_byte : (s : Sign) → clings (sign s) 10 ≡ false
   line_byte t.is = refl
   line_byte _ = refl
-behind_open s comment rest h = absurd (cc)
 behind_open s _ rest h = absurd (cc)
 
 sign_apart : (s : Sign) (q : Piece) (rest : List ℕ) → may_follow (sign s) q ≡ true → clings (sign s) (slice_index (piece_text q ++ rest) 0) ≡ false
@@ -102,7 +101,6 @@ apart space q rest h = refl
 apart line q rest h = refl
 apart comment line rest h = refl
 apart comment _ rest h = absurd (cc)
-apart zero q rest h = behind_run q rest h
 apart _ q rest h = behind_run q rest h
 
 behind : (p : Piece) (qs : List Piece) → follows p qs ≡ true → clings p (slice_index (text_of qs) 0) ≡ false

@@ -7,7 +7,7 @@ use Rattle.sap_net.specs.Prelude.{Net, IsWidth, IsRight, AreWires, readable_afte
 use Rattle.sap_net.specs.declared.parts.Wire.{Wire}
 use Rattle.sap_net.specs.declared.parts.Memory.{Memory}
 use Rattle.sap_vtext.specs.Items as item
-use Rattle.sap_vtext.specs.Names.{Shape, input, wire, register, memory, shape_above, declarations, port_declaration, item_declarations, shape_in, Setting, assign, initial, Target, target_of, is_target, is_set, is_integer, has_integer}
+use Rattle.sap_vtext.specs.Names.{Shape, input, wire, memory, shape_above, declarations, port_declaration, item_declarations, shape_in, Setting, assign, initial, Target, target_of, is_target, is_set, is_integer, has_integer}
 use Rattle.sap_vtext.specs.Widths.{value_width, wire_width}
 use Rattle.sap_vtext.proofs.Good.{IsGoodItem, above_of, AreGood}
 use Rattle.sap_vtext.proofs.NameLists.{found_all}
@@ -42,12 +42,6 @@ module _ (n : Net) (h : IsNetlist n) where
   -- declarations
   declared_good : (x : Name) (s : Shape) (before : List item.Item) → IsShape s → ((w : ℕ) → s ≡ input w → ⊥) → AreGood ports before (declared_items x (Some s))
   declared_good x (input w) before g other = absurd (other w refl)
-  declared_good x (wire w) before g other =
-      let top = g.1 in
-      (record { fresh = λ t e. absurd (cc); uses = tt; ranges = (omega arith, tt); constants = tt; pairs = tt; indexes = tt; fit = tt }, tt)
-  declared_good x (register w) before g other =
-      let top = g.1 in
-      (record { fresh = λ t e. absurd (cc); uses = tt; ranges = (omega arith, tt); constants = tt; pairs = tt; indexes = tt; fit = tt }, tt)
   declared_good x (memory w d) before g other =
       let top = g.0.1 in
       let low : 0 < d = subst (λ z. 0 < z) (sym g.1.1.2) (pow_pos g.1.0) in
@@ -64,6 +58,9 @@ module _ (n : Net) (h : IsNetlist n) where
         },
         tt,
       )
+  declared_good x _ before g other =
+      let top = g.1 in
+      (record { fresh = λ t e. absurd (cc); uses = tt; ranges = (omega arith, tt); constants = tt; pairs = tt; indexes = tt; fit = tt }, tt)
 
   pub declarations_good : (xs : List Name) (before : List item.Item) → AllByRecursion (IsInner n h) xs → AreGood ports before (declarations_of n xs)
   declarations_good [] before m = tt

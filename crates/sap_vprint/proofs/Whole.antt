@@ -273,7 +273,8 @@ module _ (n : Net) (h : IsNetlist n) where
   behind_starts : (x : Name) (ys : List item.Item) → is_set always x ys ≡ true
       → is_set always x (declared ++ (integer_of n.memories ++ (map assign_of n.wires ++ (map initial_of n.registers ++ (map initial_cells_of n.memories ++ ys))))) ≡ true
   behind_starts x ys e =
-      behind_integer always x _ (behind always x (map assign_of n.wires) _ (behind always x (map initial_of n.registers) _ (behind always x (map initial_cells_of n.memories) ys e)))
+      behind_integer always x _ (behind always x (map assign_of n.wires) _ (behind always x (map initial_of n.registers) _
+      (behind always x (map initial_cells_of n.memories) ys e)))
 
   register_stepped : (x : Name) → is_among x (register_names n) ≡ true → is_set always x (items_of n) ≡ true
   register_stepped x m = behind_starts x _ (in_front always x (map always_of n.registers) _ (sets_named always x always_of (λ r. r.name) (λ y. refl) n.registers ∙ m))

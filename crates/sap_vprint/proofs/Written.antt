@@ -9,7 +9,7 @@ use Rattle.sap_vtext.specs.Items.{Mention, Number, Operand, Right, Item, Port, D
 use Rattle.sap_vtext.specs.Items as item
 use Rattle.sap_vtext.specs.Lexing.{Lexed}
 use Rattle.sap_vtext.specs.Tokens as t
-use Rattle.sap_vprint.specs.Text.{Piece, space, line, comment, zero, one, word, sign, name, number, operand, text_of, range_pieces, part_pieces, right_pieces, item_pieces, direction_pieces, port_pieces, file_pieces, end_of_ports, end_of_file}
+use Rattle.sap_vprint.specs.Text.{Piece, space, line, one, word, sign, name, number, operand, text_of, range_pieces, part_pieces, right_pieces, item_pieces, direction_pieces, port_pieces, file_pieces, end_of_ports, end_of_file}
 use Rattle.sap_vprint.proofs.Spelled.{IsName, IsWritable, IsSpelled}
 use Rattle.sap_vprint.proofs.Spaced.{is_spaced, follows, may_follow, ends_run, AreSpelled, tokens_at, pieces_lexed}
 use Rattle.sap_vprint.proofs.ReadBack.{HasParts, IsWhole}
@@ -47,14 +47,9 @@ right_spaced (item.slice x high low) qs w h = h
 right_spaced (item.cell m index) qs w h = h
 
 item_spaced : (x : Item) (qs : List Piece) → IsWhole x → is_spaced qs ≡ true → is_spaced (item_pieces x ++ qs) ≡ true
-item_spaced (item.wire n x) qs w h = behind_line qs h
-item_spaced (item.register n x) qs w h = behind_line qs h
-item_spaced (item.memory n x last) qs w h = behind_line qs h
-item_spaced (item.integer place) qs w h = behind_line qs h
 item_spaced (item.assign x right) qs w h =
     let e = append_assoc (right_pieces right) (sign t.semicolon ∷ line ∷ []) qs in
     subst (λ rest. is_spaced (space ∷ rest) ≡ true) (sym e) (right_spaced right (line ∷ qs) w (behind_line qs h))
-item_spaced (item.initial x value) qs w h = behind_line qs h
 item_spaced _ qs w h = behind_line qs h
 
 items_spaced : (xs : List Item) (qs : List Piece) → AllByRecursion IsWhole xs → is_spaced qs ≡ true → is_spaced (flat_map item_pieces xs ++ qs) ≡ true
@@ -87,13 +82,7 @@ spelled_append [] qs h g = g
 spelled_append (name n ∷ ps) qs h g = (h.0, spelled_append ps qs h.1 g)
 spelled_append (number n ∷ ps) qs h g = (h.0, spelled_append ps qs h.1 g)
 spelled_append (operand x ∷ ps) qs h g = (h.0, spelled_append ps qs h.1 g)
-spelled_append (space ∷ ps) qs h g = spelled_append ps qs h g
-spelled_append (line ∷ ps) qs h g = spelled_append ps qs h g
-spelled_append (comment ∷ ps) qs h g = spelled_append ps qs h g
-spelled_append (zero ∷ ps) qs h g = spelled_append ps qs h g
-spelled_append (one ∷ ps) qs h g = spelled_append ps qs h g
-spelled_append (word w ∷ ps) qs h g = spelled_append ps qs h g
-spelled_append (sign s ∷ ps) qs h g = spelled_append ps qs h g
+spelled_append (p ∷ ps) qs h g = spelled_append ps qs h g
 
 abbrev pub IsOperandWritten : Operand → Type 0
 IsOperandWritten (item.named x) = IsName x.name
