@@ -158,15 +158,11 @@ not_bad text ts p a b =
 
 pub one_fault : (text : List ℕ) (one other : ReadFault) → IsLexFault text one → IsLexFault text other → one ≡ other
 one_fault text (f.E1 p) (f.E1 q) a b = ap f.E1 (one_place text p q a b)
-one_fault text (f.E1 p) (f.E2 q) a b = absurd b
-one_fault text (f.E1 p) (f.E18 q limit) a b = absurd b
-one_fault text (f.E1 p) f.Memory a b = absurd b
 one_fault text (f.E2 p) other a b = absurd a
 one_fault text (f.E18 p limit) other a b = absurd a
 one_fault text f.Memory other a b = absurd a
+one_fault text (f.E1 p) _ a b = absurd b
 
 pub not_both : (text : List ℕ) (tokens : List TokenOf) (fault : ReadFault) → AreTokens text tokens → IsLexFault text fault → ⊥
 not_both text tokens (f.E1 place) a b = not_bad text tokens place a b
-not_both text tokens (f.E2 place) a b = b
-not_both text tokens (f.E18 place limit) a b = b
-not_both text tokens f.Memory a b = b
+not_both text tokens _ a b = b

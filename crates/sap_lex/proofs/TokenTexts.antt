@@ -37,41 +37,16 @@ reached_texts text (token {n = n} {ts = ts} t len r s) =
 -- a text that begins with the word `sapper`
 
 version_word : (word : Word) → is_of v.One word ≡ true → version_of_word word ≡ v.One
-version_word w.Input h = refl
-version_word w.Reg h = refl
-version_word w.Mem h = refl
-version_word w.State h = refl
-version_word w.Dynamic h = refl
-version_word w.Enforced h = refl
-version_word w.Under h = refl
-version_word w.If h = refl
-version_word w.Else h = refl
-version_word w.Goto h = refl
-version_word w.Fall h = refl
-version_word w.SetTag h = refl
-version_word w.Otherwise h = refl
-version_word w.Tag h = refl
-version_word w.Level h = refl
-version_word w.Join h = refl
-version_word w.Zext h = refl
-version_word w.Then h = refl
-version_word w.Case h = refl
 version_word w.Sapper h = absurd (cc)
-version_word w.Two h = refl
+version_word _ h = refl
 
 version_kind : (kind : Kind) (text : List ℕ) → Spells v.One kind text → version_of_kind kind ≡ v.One
 version_kind (k.Word word) text e = version_word word e.1
-version_kind (k.Sign sign) text e = refl
-version_kind (k.Name name) text e = refl
-version_kind (k.Number n) text e = refl
-version_kind (k.Sized width n) text e = refl
+version_kind _ text e = refl
 
 sapper_spelled : (kind : Kind) (text : List ℕ) → Spells v.One kind text → is_sapper kind ≡ true → Spells v.Two (k.Word w.Sapper) text
-sapper_spelled (k.Word word) text e h = absurd (cc)
-sapper_spelled (k.Sign sign) text e h = absurd (cc)
 sapper_spelled (k.Name name) text e h = (e.0 ∙ equal_of_bytes_eq name (word_text w.Sapper) h, refl)
-sapper_spelled (k.Number n) text e h = absurd (cc)
-sapper_spelled (k.Sized width n) text e h = absurd (cc)
+sapper_spelled _ text e h = absurd (cc)
 
 no_keyword : (name : List ℕ) → is_keyword v.One name ≡ false → later_word_of name ≡ None → is_keyword v.Two name ≡ false
 no_keyword name first later =
@@ -84,10 +59,8 @@ name_spelled text name e None h = (e.0, e.1, no_keyword name e.2 h)
 
 later_spelled : (kind : Kind) (text : List ℕ) → Spells v.One kind text → Spells v.Two (later_kind kind) text
 later_spelled (k.Word word) text e = (e.0, refl)
-later_spelled (k.Sign sign) text e = e
 later_spelled (k.Name name) text e = name_spelled text name e (later_word_of name) refl
-later_spelled (k.Number n) text e = e
-later_spelled (k.Sized width n) text e = e
+later_spelled _ text e = e
 
 digit_two : (n : ℕ) (text : List ℕ) → SpellsNumber c.Decimal 10 n text → (n == 2) ≡ true → length text ≤ 1 → text ≡ word_text w.Two
 digit_two n [] e h l = (let some = e.some in absurd (omega (arith, some)))
@@ -96,11 +69,8 @@ digit_two n (d ∷ []) e h l = (let value = e.value in let digits = e.digits in 
 digit_two n (d ∷ e' ∷ text) e h l = absurd (omega (arith, l))
 
 two_spelled : (kind : Kind) (text : List ℕ) → Spells v.One kind text → is_number_two kind ≡ true → length text ≤ 1 → Spells v.Two (k.Word w.Two) text
-two_spelled (k.Word word) text e h l = absurd (cc)
-two_spelled (k.Sign sign) text e h l = absurd (cc)
-two_spelled (k.Name name) text e h l = absurd (cc)
 two_spelled (k.Number n) text e h l = (digit_two n text e h l, refl)
-two_spelled (k.Sized width n) text e h l = absurd (cc)
+two_spelled _ text e h l = absurd (cc)
 
 later_text : (source : List ℕ) (t : Token) → HasText v.One source t → HasText v.Two source (later_token t)
 later_text source t e = later_spelled t.kind (text_of source t) e
@@ -153,53 +123,11 @@ texts_are source ts a = subst (HaveTexts source) (sym a.keyed_are) (keyed_texts 
 
 word_some : (w : Word) → 0 < length (word_text w)
 word_some w.Input = omega arith
-word_some w.Reg = omega arith
-word_some w.Mem = omega arith
-word_some w.State = omega arith
-word_some w.Dynamic = omega arith
-word_some w.Enforced = omega arith
-word_some w.Under = omega arith
-word_some w.If = omega arith
-word_some w.Else = omega arith
-word_some w.Goto = omega arith
-word_some w.Fall = omega arith
-word_some w.SetTag = omega arith
-word_some w.Otherwise = omega arith
-word_some w.Tag = omega arith
-word_some w.Level = omega arith
-word_some w.Join = omega arith
-word_some w.Zext = omega arith
-word_some w.Then = omega arith
-word_some w.Case = omega arith
-word_some w.Sapper = omega arith
-word_some w.Two = omega arith
+word_some _ = omega arith
 
 sign_some : (s : Sign) → 0 < length (sign_text s)
 sign_some s.Becomes = omega arith
-sign_some s.Equal = omega arith
-sign_some s.NotEqual = omega arith
-sign_some s.LessOrEqual = omega arith
-sign_some s.ShiftLeft = omega arith
-sign_some s.ShiftRight = omega arith
-sign_some s.OpenParen = omega arith
-sign_some s.CloseParen = omega arith
-sign_some s.OpenBrace = omega arith
-sign_some s.CloseBrace = omega arith
-sign_some s.OpenBracket = omega arith
-sign_some s.CloseBracket = omega arith
-sign_some s.Colon = omega arith
-sign_some s.Semicolon = omega arith
-sign_some s.Comma = omega arith
-sign_some s.Question = omega arith
-sign_some s.Is = omega arith
-sign_some s.Less = omega arith
-sign_some s.Plus = omega arith
-sign_some s.Minus = omega arith
-sign_some s.Star = omega arith
-sign_some s.Ampersand = omega arith
-sign_some s.Bar = omega arith
-sign_some s.Caret = omega arith
-sign_some s.Tilde = omega arith
+sign_some _ = omega arith
 
 name_some : (name : List ℕ) → is_word name ≡ true → 0 < length name
 name_some [] h = absurd (cc)
