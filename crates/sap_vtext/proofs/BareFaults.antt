@@ -27,14 +27,7 @@ ports_declared (p ∷ ps) = ap (λ ds. bare_declaration (port_declaration p) ∷
 
 item_declared : (x : Item) → item_declarations (bare_item x) ≡ map bare_declaration (item_declarations x)
 item_declared (item.wire n x) = refl
-item_declared (item.register n x) = refl
-item_declared (item.memory n x last) = refl
-item_declared (item.integer place) = refl
-item_declared (item.assign x right) = refl
-item_declared (item.initial x value) = refl
-item_declared (item.initial_cells place bound x value) = refl
-item_declared (item.always x next) = refl
-item_declared (item.always_cell condition x index value) = refl
+item_declared _ = refl
 
 items_declared : (xs : List Item) → flat_map item_declarations (map bare_item xs) ≡ map bare_declaration (flat_map item_declarations xs)
 items_declared [] = refl
@@ -56,10 +49,6 @@ bare_shape_above a n = ap (λ ds. shape_in ds n) (all_declared a.ports a.items) 
 
 bare_is_target : (s : Setting) (n : List ℕ) (x : Item) → is_target s n (target_of (bare_item x)) ≡ is_target s n (target_of x)
 bare_is_target s n (item.assign x right) = refl
-bare_is_target s n (item.initial x value) = refl
-bare_is_target s n (item.initial_cells place bound x value) = refl
-bare_is_target s n (item.always x next) = refl
-bare_is_target s n (item.always_cell condition x index value) = refl
 bare_is_target s n _ = refl
 
 bare_is_set : (s : Setting) (n : List ℕ) (xs : List Item) → is_set s n (map bare_item xs) ≡ is_set s n xs
@@ -76,15 +65,11 @@ bare_has_integer [] = refl
 bare_has_integer (x ∷ xs) = ap (λ b. b || has_integer (map bare_item xs)) (bare_is_integer x) ∙ ap (λ b. is_integer x || b) (bare_has_integer xs)
 
 bare_target_of : (x : Item) (t : Target) → target_of x ≡ Some t → target_of (bare_item x) ≡ Some (bare_target t)
-bare_target_of (item.assign x right) t e = ap (option_map bare_target) e
-bare_target_of (item.initial x value) t e = ap (option_map bare_target) e
-bare_target_of (item.initial_cells place bound x value) t e = ap (option_map bare_target) e
-bare_target_of (item.always x next) t e = ap (option_map bare_target) e
-bare_target_of (item.always_cell condition x index value) t e = ap (option_map bare_target) e
 bare_target_of (item.wire n x) t e = absurd (cc)
 bare_target_of (item.register n x) t e = absurd (cc)
 bare_target_of (item.memory n x last) t e = absurd (cc)
 bare_target_of (item.integer place) t e = absurd (cc)
+bare_target_of _ t e = ap (option_map bare_target) e
 
 -- what each operand has, all of them have
 bare_operand_uses : (x : Operand) → operand_uses (bare_operand x) ≡ map bare_use (operand_uses x)
@@ -117,19 +102,14 @@ bare_right_uses (item.slice x high low) = refl
 bare_right_uses (item.cell m index) = ap (λ us. bare_use (record { manner = Faults.as_cell; name = m }) ∷ us) (bare_operand_uses index)
 
 bare_uses : (x : Item) → uses (bare_item x) ≡ map bare_use (uses x)
-bare_uses (item.wire n x) = refl
-bare_uses (item.register n x) = refl
-bare_uses (item.memory n x last) = refl
-bare_uses (item.integer place) = refl
 bare_uses (item.assign x right) = ap (λ us. bare_use (record { manner = Faults.as_wire; name = x }) ∷ us) (bare_right_uses right)
-bare_uses (item.initial x value) = refl
-bare_uses (item.initial_cells place bound x value) = refl
 bare_uses (item.always x next) = ap (λ us. bare_use (record { manner = Faults.as_register; name = x }) ∷ us) (bare_operand_uses next)
 bare_uses (item.always_cell condition x index value) =
     let target : Use = record { manner = Faults.as_memory; name = x } in
     ap (λ us. us ++ (bare_use target ∷ (operand_uses (bare_operand index) ++ operand_uses (bare_operand value)))) (bare_operand_uses condition)
     ∙ ap (λ us. map bare_use (operand_uses condition) ++ (bare_use target ∷ us)) (two_of bare_use operand_uses bare_operand_uses index value)
     ∙ sym (map-append bare_use (operand_uses condition) (target ∷ (operand_uses index ++ operand_uses value)))
+bare_uses _ = refl
 
 bare_right_constants : (right : Right) → right_constants (bare_right right) ≡ map bare_constant (right_constants right)
 bare_right_constants (item.copy x) = bare_operand_constants x
@@ -141,20 +121,13 @@ bare_right_constants (item.slice x high low) = refl
 bare_right_constants (item.cell m index) = bare_operand_constants index
 
 bare_constants : (x : Item) → constants (bare_item x) ≡ map bare_constant (constants x)
-bare_constants (item.wire n x) = refl
-bare_constants (item.register n x) = refl
-bare_constants (item.memory n x last) = refl
-bare_constants (item.integer place) = refl
 bare_constants (item.assign x right) = bare_right_constants right
-bare_constants (item.initial x value) = refl
-bare_constants (item.initial_cells place bound x value) = refl
 bare_constants (item.always x next) = bare_operand_constants next
 bare_constants (item.always_cell condition x index value) = three_of bare_constant operand_constants bare_operand_constants condition index value
+bare_constants _ = refl
 
 bare_ranges : (x : Item) → ranges (bare_item x) ≡ map bare_number (ranges x)
 bare_ranges (item.wire n x) = refl
-bare_ranges (item.register n x) = refl
-bare_ranges (item.memory n x last) = refl
 bare_ranges _ = refl
 
 abbrev bare_index : Mention × Operand → Mention × Operand
@@ -162,23 +135,11 @@ bare_index p = (bare_name p.0, bare_operand p.1)
 
 bare_right_indexes : (right : Right) → right_indexes (bare_right right) ≡ map bare_index (right_indexes right)
 bare_right_indexes (item.cell m index) = refl
-bare_right_indexes (item.copy x) = refl
-bare_right_indexes (item.one op x) = refl
-bare_right_indexes (item.two op x y) = refl
-bare_right_indexes (item.choose c x y) = refl
-bare_right_indexes (item.concat xs) = refl
-bare_right_indexes (item.slice x high low) = refl
+bare_right_indexes _ = refl
 
 bare_indexes : (x : Item) → indexes (bare_item x) ≡ map bare_index (indexes x)
 bare_indexes (item.assign x right) = bare_right_indexes right
-bare_indexes (item.always_cell condition x index value) = refl
-bare_indexes (item.wire n x) = refl
-bare_indexes (item.register n x) = refl
-bare_indexes (item.memory n x last) = refl
-bare_indexes (item.integer place) = refl
-bare_indexes (item.initial x value) = refl
-bare_indexes (item.initial_cells place bound x value) = refl
-bare_indexes (item.always x next) = refl
+bare_indexes _ = refl
 
 bare_width : (a : Above) (x : Operand) → operand_width (known_above (bare_above a)) (bare_operand x) ≡ operand_width (known_above a) x
 bare_width a (item.named x) =
@@ -208,16 +169,13 @@ bare_right_pairs a target target' (item.cell m index) e =
     let w = ap memory_width (bare_shape_above a m.name) in cc
 
 bare_pairs : (a : Above) (x : Item) → pairs (known_above (bare_above a)) (bare_item x) ≡ pairs (known_above a) x
-bare_pairs a (item.wire n x) = refl
-bare_pairs a (item.register n x) = refl
-bare_pairs a (item.memory n x last) = refl
-bare_pairs a (item.integer place) = refl
 bare_pairs a (item.assign x right) = bare_right_pairs a _ _ right (ap wire_width (bare_shape_above a x.name))
 bare_pairs a (item.initial x value) = let w = ap register_width (bare_shape_above a x.name) in cc
 bare_pairs a (item.initial_cells place bound x value) = let w = ap memory_width (bare_shape_above a x.name) in cc
 bare_pairs a (item.always x next) = let w = ap register_width (bare_shape_above a x.name) in let v = bare_width a next in cc
 bare_pairs a (item.always_cell condition x index value) =
     let u = bare_width a condition in let w = ap memory_width (bare_shape_above a x.name) in let v = bare_width a value in cc
+bare_pairs a _ = refl
 
 -- faults
 

@@ -42,13 +42,7 @@ wires_net ds (item.assign x r) =
     ap (λ s. (let w : Wire = record { name = x.name; width = declared_width s; right = net_right (bare_right r) } in w) ∷ []) (bare_shape_in ds x.name)
     ∙ ap (λ y. (let w : Wire = record { name = x.name; width = declared_width (shape_in ds x.name); right = y } in w) ∷ []) (right_net r)
 wires_net ds (item.wire n x) = refl
-wires_net ds (item.register n x) = refl
-wires_net ds (item.memory n x last) = refl
-wires_net ds (item.integer place) = refl
-wires_net ds (item.initial x value) = refl
-wires_net ds (item.initial_cells place bound x value) = refl
-wires_net ds (item.always x next) = refl
-wires_net ds (item.always_cell condition x index value) = refl
+wires_net ds _ = refl
 
 given_bare : {A : Type 0} (f : Item → Option A) → ((x : Item) → f (bare_item x) ≡ f x) → (xs : List Item) → first_given f (map bare_item xs) ≡ first_given f xs
 given_bare f e [] = refl
@@ -56,7 +50,6 @@ given_bare f e (x ∷ xs) = let a = e x in let b = given_bare f e xs in cc
 
 initial_net : (n : List ℕ) (x : Item) → initial_number n (bare_item x) ≡ initial_number n x
 initial_net n (item.initial x value) = refl
-initial_net n (item.initial_cells place bound x value) = refl
 initial_net n _ = refl
 
 next_net : (n : List ℕ) (x : Item) → next_operand n (bare_item x) ≡ next_operand n x
@@ -90,15 +83,11 @@ memory_net n width depth xs =
 
 registers_net : (n : List ℕ) (s : Shape) (xs : List Item) → shape_registers n s (map bare_item xs) ≡ shape_registers n s xs
 registers_net n (shape.register width) xs = ap (λ r. r ∷ []) (register_net n width xs)
-registers_net n (shape.input width) xs = refl
-registers_net n (shape.wire width) xs = refl
-registers_net n (shape.memory width depth) xs = refl
+registers_net n _ xs = refl
 
 memories_net : (n : List ℕ) (s : Shape) (xs : List Item) → shape_memories n s (map bare_item xs) ≡ shape_memories n s xs
 memories_net n (shape.memory width depth) xs = ap (λ m. m ∷ []) (memory_net n width depth xs)
-memories_net n (shape.input width) xs = refl
-memories_net n (shape.wire width) xs = refl
-memories_net n (shape.register width) xs = refl
+memories_net n _ xs = refl
 
 pub net_same : (n : List ℕ) {a a' : List (List ℕ)} {b b' : List NetPort} {c c' : List Input} {d d' : List Wire} {e e' : List Register} {f f' : List Memory}
     → a ≡ a' → b ≡ b' → c ≡ c' → d ≡ d' → e ≡ e' → f ≡ f'

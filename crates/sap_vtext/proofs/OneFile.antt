@@ -98,17 +98,7 @@ operator_of _ = None
 operator_is : (o : Op2) → operator_of (binary_sign o) ≡ Some o
 unfolding operator_of
 operator_is binary.Add = refl
-operator_is binary.Sub = refl
-operator_is binary.Mul = refl
-operator_is binary.And = refl
-operator_is binary.Or = refl
-operator_is binary.Xor = refl
-operator_is binary.Eq = refl
-operator_is binary.Ne = refl
-operator_is binary.Lt = refl
-operator_is binary.Le = refl
-operator_is binary.Shl = refl
-operator_is binary.Shr = refl
+operator_is _ = refl
 
 binary_same : (o p : Op2) → binary_sign o ≡ binary_sign p → o ≡ p
 binary_same o p e = let v = operator_is o in let w = operator_is p in let u = ap operator_of e in cc
@@ -173,25 +163,12 @@ operand_token (g.constant {c = c} a) = record { place = c.place; kind = t.consta
 sign_behind : (o : Op2) (k : Option Kind) → behind_operand (Some (t.sign (binary_sign o))) k ≡ 4
 unfolding behind_operand behind_sign
 sign_behind binary.Add k = refl
-sign_behind binary.Sub k = refl
-sign_behind binary.Mul k = refl
-sign_behind binary.And k = refl
-sign_behind binary.Or k = refl
-sign_behind binary.Xor k = refl
-sign_behind binary.Eq k = refl
-sign_behind binary.Ne k = refl
-sign_behind binary.Lt k = refl
-sign_behind binary.Le k = refl
-sign_behind binary.Shl k = refl
-sign_behind binary.Shr k = refl
+sign_behind _ k = refl
 
 sign_in_front : (o : Op1) (k l : Option Kind) → tag_of (Some (t.sign (unary_sign o))) k l ≡ 6
 unfolding tag_of from_sign
 sign_in_front unary.Not k l = refl
-sign_in_front unary.Neg k l = refl
-sign_in_front unary.AllOnes k l = refl
-sign_in_front unary.AnyOne k l = refl
-sign_in_front unary.Odd k l = refl
+sign_in_front _ k l = refl
 
 tag_is : {ts r m : List Token} {x : Right} (h : IsRight ts x r) → IsSign r t.semicolon m → right_tag ts ≡ tag h
 unfolding tag_of behind_operand behind_sign from_sign
@@ -381,15 +358,10 @@ item_one e x y = let v = first_tag_is x in let w = first_tag_is y in let u = ap 
 
 no_end : {ts us r s : List Token} {x : Item} → ts ≡ us → IsItem ts x r → IsWord us t.endmodule_word s → ⊥
 unfolding item_tag
-no_end e (g.wire a b c d) z = let k = (same_token e a.is z.is).kind in absurd (cc)
-no_end e (g.register a b c d) z = let k = (same_token e a.is z.is).kind in absurd (cc)
-no_end e (g.memory a b c d f h i j k) z = let l = (same_token e a.is z.is).kind in absurd (cc)
-no_end e (g.integer a b c) z = let k = (same_token e a z.is).kind in absurd (cc)
-no_end e (g.assign a b c d f) z = let k = (same_token e a.is z.is).kind in absurd (cc)
-no_end e (g.initial a b c d f) z = let k = (same_token e a.is z.is).kind in absurd (cc)
-no_end e (g.initial_cells a b c d f h i j k) z = let l = (same_token e a.is z.is).kind in absurd (cc)
-no_end e (g.always a b c d f) z = let k = clocked_first a in let l = kind_first z.is in let u = ap first_kind e in absurd (cc)
-no_end e (g.always_cell a b c d f h i j k l m n) z = let o = clocked_first a in let p = kind_first z.is in let u = ap first_kind e in absurd (cc)
+no_end e x z = begins x (sym (first_tag_is x) ∙ ap (λ ts. item_tag (first_kind ts)) e ∙ ap item_tag (kind_first z.is)) where
+  begins : {ts r : List Token} {x : Item} (h : IsItem ts x r) → first_tag h ≡ 6 → ⊥
+  begins (g.wire a b c d) h = cc
+  begins _ h = cc
 
 items_one : {ts us r s m n : List Token} {xs ys : List Item} → ts ≡ us → AreItems ts xs r → IsWord r t.endmodule_word m → AreItems us ys s
     → IsWord s t.endmodule_word n → Same xs ys r s
