@@ -1,6 +1,6 @@
 -- Each fault that stands in a file is listed.
 use Rattle.sap_lemmas.proofs.Common.{◌≡◌, ◌≢◌, ◌∙◌, ℕ, ◌+◌, ◌^◌, ◌<◌, ◌≤◌, ◌⊎◌, List, [], ◌∷◌, ◌++◌, Bool, true, false, refl, ap, ap₂, sym, subst, append_assoc, arith, true≢false, inl, inr, common_steps, append-nil, map-append, Option, Some, None, is_some, IsSome, ◌||◌, ◌&&◌, ◌==◌, not, nat_lt, nat_le, map, flat_map, list_any, and_from, lt-ltb, or_left, or_right}
-use Rattle.std.proofs.lemmas.Bool.{not_from_false}
+use Rattle.std.proofs.lemmas.Bool.{false_from_ne_true, not_from_false}
 use Rattle.sap_vtext.specs.Items.{Mention, Number, Constant, Operand, Port, Item, File}
 use Rattle.sap_vtext.specs.Items as item
 use Rattle.sap_vtext.specs.Names.{Shape, wire, Setting, assign, initial, always, Declaration, port_declaration, item_declarations, declarations, shape_in, Above, shape_above, is_set, has_integer, IsItemOf, Target, target_of, Known, known_above}
@@ -195,12 +195,7 @@ module _ (f : File) where
   one_or_none (item.wire range x) = inr (_, refl)
   one_or_none (item.register range x) = inr (_, refl)
   one_or_none (item.memory range x last) = inr (_, refl)
-  one_or_none (item.integer place) = inl refl
-  one_or_none (item.assign x right) = inl refl
-  one_or_none (item.initial x value) = inl refl
-  one_or_none (item.initial_cells place bound x value) = inl refl
-  one_or_none (item.always x next) = inl refl
-  one_or_none (item.always_cell condition x index value) = inl refl
+  one_or_none _ = inl refl
 
   abbrev Again : Above → List Item → Type 0
   Again start xs =
@@ -368,14 +363,10 @@ module _ (f : File) where
         | inr k ↦ in_item_unset (at_place code.V6 d.name.place) d k (unset_listed d s need unset)
       ]
 
-  not_true : (b : Bool) → (b ≡ true → ⊥) → b ≡ false
-  not_true true h = absurd (h refl)
-  not_true false h = refl
-
   v7_listed : (place : ℕ) → V7 f place → StandsIn (at_place code.V7 place) (file_faults f)
   v7_listed _ (faults.no_depth {above} {range} {last = cells} {x} at h) =
       of_item (at_place code.V7 cells.place) at (in_depths (at_place code.V7 cells.place) (known_above above) (item.memory range x cells)
-      (noted (not (is_depth (cells.value + 1))) code.V7 cells.place (not_from_false _ (not_true _ (λ d. h (is_depth-HasIndex (cells.value + 1) d))))))
+      (noted (not (is_depth (cells.value + 1))) code.V7 cells.place (not_from_false _ (false_from_ne_true _ (λ d. h (is_depth-HasIndex (cells.value + 1) d))))))
   v7_listed _ (faults.other_bound {above} {place} {bound} {x} {value} {width} {depth} at e h) =
       of_item (at_place code.V7 bound.place) at (in_bounds (at_place code.V7 bound.place) (known_above above) (item.initial_cells place bound x value)
       (subst (λ (o : Option Shape). StandsIn (at_place code.V7 bound.place) (listed.other_bound o bound)) (sym e)

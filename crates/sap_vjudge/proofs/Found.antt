@@ -5,7 +5,6 @@ use Rattle.sap_vtext.specs.Items as item
 use Rattle.sap_vtext.specs.Names.{Shape, wire, memory, Setting, assign, initial, always, Declaration, port_declaration, item_declarations, declarations, Above, shape_above, is_set, has_integer, IsItemOf, Target, target_of, Known, known_above}
 use Rattle.sap_vtext.specs.Widths.{shape_width, constant_fits, operand_width, parts_width, pairs}
 use Rattle.sap_vtext.specs.Faults.{V3, V4, V5, V6, V7, is_settable, needs, Manner, as_value, Use, uses, suits, ranges, constants, indexes, operand_place}
-use Rattle.sap_vtext.specs.Names as names
 use Rattle.sap_vtext.specs.Faults as faults
 use Rattle.sap_text.specs.Best.{StandsIn}
 use Rattle.sap_vjudge.specs.declared.code.Code.{Code}
@@ -17,6 +16,7 @@ use Rattle.sap_vjudge.specs.Listed.{twice_faults, declarations_faults, target_fa
 use Rattle.sap_vjudge.specs.Listed as listed
 use Rattle.sap_vjudge.proofs.Above.{under_item, ports_only, after_item_above, after_port_next, after_ports_above, nothing_is, at_end, items_declared}
 use Rattle.sap_vjudge.proofs.Powers.{HasIndex-is_depth, is_other-some}
+use Rattle.sap_vtext.proofs.NameLists.{among_left, among_right}
 use Rattle.sap_vjudge.proofs.WidthLemmas.{differs-some, too_wide-some}
 
 -- all of the faults are so
@@ -77,12 +77,7 @@ module _ (f : File) (above : Above) where
   declarations_stand (item.wire range x) at = one_declared (item.wire range x) _ at refl
   declarations_stand (item.register range x) at = one_declared (item.register range x) _ at refl
   declarations_stand (item.memory range x last) at = one_declared (item.memory range x last) _ at refl
-  declarations_stand (item.integer place) at = none_declared
-  declarations_stand (item.assign x right) at = none_declared
-  declarations_stand (item.initial x value) at = none_declared
-  declarations_stand (item.initial_cells place bound x value) at = none_declared
-  declarations_stand (item.always x next) at = none_declared
-  declarations_stand (item.always_cell condition x index value) at = none_declared
+  declarations_stand _ at = none_declared
 
   target_stands : (x : Item) → IsItemOf f above x → (o : Option Target) → target_of x ≡ o → Each (Stood f) (target_faults known o)
   target_stands x at None e = tt
@@ -95,12 +90,7 @@ module _ (f : File) (above : Above) where
   integer_stands (item.initial_cells place bound x value) at =
       noted f (not (has_integer above.items)) code.V4 place (λ h. faults.no_integer at (not-true _ h))
   integer_stands (item.wire range x) at = tt
-  integer_stands (item.register range x) at = tt
-  integer_stands (item.memory range x last) at = tt
-  integer_stands (item.assign x right) at = tt
-  integer_stands (item.initial x value) at = tt
-  integer_stands (item.always x next) at = tt
-  integer_stands (item.always_cell condition x index value) at = tt
+  integer_stands _ at = tt
 
   declared_stand : (x : Item) → IsItemOf f above x → Each (Stood f) (declared_faults known x)
   declared_stand x at =
@@ -109,14 +99,7 @@ module _ (f : File) (above : Above) where
 
   unassigned_parts : (m : Manner) (s : Shape) (b : Bool) → is_unassigned m s b ≡ true → (width : ℕ) × (m ≡ as_value) × (s ≡ wire width) × (b ≡ false)
   unassigned_parts as_value (wire width) false h = (width, refl, refl, refl)
-  unassigned_parts as_value (wire width) true h = absurd (true≢false (sym h))
-  unassigned_parts as_value (names.input width) b h = absurd (true≢false (sym h))
-  unassigned_parts as_value (names.register width) b h = absurd (true≢false (sym h))
-  unassigned_parts as_value (memory width depth) b h = absurd (true≢false (sym h))
-  unassigned_parts faults.as_cell s b h = absurd (true≢false (sym h))
-  unassigned_parts faults.as_wire s b h = absurd (true≢false (sym h))
-  unassigned_parts faults.as_register s b h = absurd (true≢false (sym h))
-  unassigned_parts faults.as_memory s b h = absurd (true≢false (sym h))
+  unassigned_parts _ s b h = absurd (true≢false (sym h))
 
   use_stands : (x : Item) → IsItemOf f above x → (u : Use) → StandsIn u (uses x) → (o : Option Shape) → shape_above above u.name.name ≡ o
       → Each (Stood f) (shape_faults u.manner o (is_set assign u.name.name above.items) u.name.place)
@@ -148,19 +131,7 @@ module _ (f : File) (above : Above) where
       let r = too_wide-some (parts_width known parts) h in
       subst (λ (u : Target). V5 f u.name.place) (some_inj _ _ e) (faults.wide_concat at r.1 r.2)
   too_wide_stands (item.assign x (item.copy y)) at h t e = absurd (true≢false (sym h))
-  too_wide_stands (item.assign x (item.one op y)) at h t e = absurd (true≢false (sym h))
-  too_wide_stands (item.assign x (item.two op y z)) at h t e = absurd (true≢false (sym h))
-  too_wide_stands (item.assign x (item.choose c y z)) at h t e = absurd (true≢false (sym h))
-  too_wide_stands (item.assign x (item.slice y high low)) at h t e = absurd (true≢false (sym h))
-  too_wide_stands (item.assign x (item.cell m index)) at h t e = absurd (true≢false (sym h))
-  too_wide_stands (item.wire range x) at h t e = absurd (true≢false (sym h))
-  too_wide_stands (item.register range x) at h t e = absurd (true≢false (sym h))
-  too_wide_stands (item.memory range x last) at h t e = absurd (true≢false (sym h))
-  too_wide_stands (item.integer place) at h t e = absurd (true≢false (sym h))
-  too_wide_stands (item.initial x value) at h t e = absurd (true≢false (sym h))
-  too_wide_stands (item.initial_cells place bound x value) at h t e = absurd (true≢false (sym h))
-  too_wide_stands (item.always x next) at h t e = absurd (true≢false (sym h))
-  too_wide_stands (item.always_cell condition x index value) at h t e = absurd (true≢false (sym h))
+  too_wide_stands _ at h t e = absurd (true≢false (sym h))
 
   differs_stands : (x : Item) → IsItemOf f above x → (t : Target) → target_of x ≡ Some t → item_differs known x ≡ true → V5 f t.name.place
   differs_stands x at t e h = either (or_cases (list_any differ (pairs known x)) (item_too_wide known x) h)
@@ -185,20 +156,7 @@ module _ (f : File) (above : Above) where
 
   slices_stand : (x : Item) → IsItemOf f above x → Each (Stood f) (slice_faults known x)
   slices_stand (item.assign x (item.slice y high low)) at = past_stands x y high low at (shape_above above y.name) refl
-  slices_stand (item.assign x (item.concat parts)) at = tt
-  slices_stand (item.assign x (item.copy y)) at = tt
-  slices_stand (item.assign x (item.one op y)) at = tt
-  slices_stand (item.assign x (item.two op y z)) at = tt
-  slices_stand (item.assign x (item.choose c y z)) at = tt
-  slices_stand (item.assign x (item.cell m index)) at = tt
-  slices_stand (item.wire range x) at = tt
-  slices_stand (item.register range x) at = tt
-  slices_stand (item.memory range x last) at = tt
-  slices_stand (item.integer place) at = tt
-  slices_stand (item.initial x value) at = tt
-  slices_stand (item.initial_cells place bound x value) at = tt
-  slices_stand (item.always x next) at = tt
-  slices_stand (item.always_cell condition x index value) at = tt
+  slices_stand _ at = tt
 
   sized_stand : (x : Item) → IsItemOf f above x → Each (Stood f) (sized_faults known x)
   sized_stand x at =
@@ -211,45 +169,25 @@ module _ (f : File) (above : Above) where
       noted f (not (is_depth (last.value + 1))) code.V7 last.place
       (λ h. faults.no_depth at (λ d. true≢false (sym (HasIndex-is_depth (last.value + 1) d) ∙ not-true _ h)))
   depth_stands (item.wire range x) at = tt
-  depth_stands (item.register range x) at = tt
-  depth_stands (item.integer place) at = tt
-  depth_stands (item.assign x right) at = tt
-  depth_stands (item.initial x value) at = tt
-  depth_stands (item.initial_cells place bound x value) at = tt
-  depth_stands (item.always x next) at = tt
-  depth_stands (item.always_cell condition x index value) at = tt
+  depth_stands _ at = tt
 
   bounded_stands : (place : ℕ) (bound : Number) (x : Mention) (value : Constant) → IsItemOf f above (item.initial_cells place bound x value) → (o : Option Shape)
       → shape_above above x.name ≡ o → Each (Stood f) (listed.other_bound o bound)
-  bounded_stands place bound x value at None e = tt
-  bounded_stands place bound x value at (Some (names.input width)) e = tt
-  bounded_stands place bound x value at (Some (wire width)) e = tt
-  bounded_stands place bound x value at (Some (names.register width)) e = tt
   bounded_stands place bound x value at (Some (memory width depth)) e =
       noted f (not (bound.value == depth)) code.V7 bound.place (λ h. faults.other_bound at e (apart bound.value depth h))
+  bounded_stands place bound x value at _ e = tt
 
   bound_stands : (x : Item) → IsItemOf f above x → Each (Stood f) (bound_faults known x)
   bound_stands (item.initial_cells place bound x value) at = bounded_stands place bound x value at (shape_above above x.name) refl
-  bound_stands (item.wire range x) at = tt
-  bound_stands (item.register range x) at = tt
-  bound_stands (item.memory range x last) at = tt
-  bound_stands (item.integer place) at = tt
-  bound_stands (item.assign x right) at = tt
-  bound_stands (item.initial x value) at = tt
-  bound_stands (item.always x next) at = tt
-  bound_stands (item.always_cell condition x index value) at = tt
+  bound_stands _ at = tt
 
   index_stands : (x : Item) → IsItemOf f above x → (m : Mention) (index : Operand) → StandsIn (m, index) (indexes x) → (o : Option Shape) → shape_above above m.name ≡ o
       → (w : Option ℕ) → operand_width known index ≡ w → Each (Stood f) (listed.other_index o w (operand_place index))
-  index_stands x at m index among None e w k = tt
-  index_stands x at m index among (Some (names.input width)) e w k = tt
-  index_stands x at m index among (Some (wire width)) e w k = tt
-  index_stands x at m index among (Some (names.register width)) e w k = tt
-  index_stands x at m index among (Some (memory width depth)) e None k = tt
   index_stands x at m index among (Some (memory width depth)) e (Some u) k =
       noted f (is_other depth u) code.V7 (operand_place index) (λ h.
       let r = is_other-some depth u h in
       faults.other_index m index at among (e ∙ ap (λ (d : ℕ). Some (memory width d)) r.1) k r.2)
+  index_stands x at m index among _ e w k = tt
 
   indexes_stand : (x : Item) → IsItemOf f above x → Each (Stood f) (indexes_faults known (indexes x))
   unfolding indexes_faults
@@ -272,15 +210,6 @@ module _ (f : File) (above : Above) where
 among-middle : {A : Type 0} (xs ys : List A) (x : A) → StandsIn x (xs ++ x ∷ ys)
 among-middle [] ys x = inl refl
 among-middle (y ∷ xs) ys x = inr (among-middle xs ys x)
-
-among-left : {A : Type 0} (xs ys : List A) (x : A) → StandsIn x xs → StandsIn x (xs ++ ys)
-among-left [] ys x h = absurd h
-among-left (y ∷ xs) ys x (inl e) = inl e
-among-left (y ∷ xs) ys x (inr h) = inr (among-left xs ys x h)
-
-among-right : {A : Type 0} (xs ys : List A) (x : A) → StandsIn x ys → StandsIn x (xs ++ ys)
-among-right [] ys x h = h
-among-right (y ∷ xs) ys x h = inr (among-right xs ys x h)
 
 module _ (f : File) where
   items_stand : (a : Above) (xs : List Item) → a.ports ≡ f.ports → f.items ≡ a.items ++ xs → Each (Stood f) (items_faults (known_above a) xs)
@@ -341,13 +270,13 @@ module _ (f : File) where
   unfolding ports_unset unsets_faults
   ports_unset_stand =
       each-flat_map (Stood f) (unset_faults last) (map port_declaration f.ports)
-      (λ d among. unset_stands d (among-left (map port_declaration f.ports) (flat_map item_declarations f.items) d among))
+      (λ d among. unset_stands d (among_left d (map port_declaration f.ports) (flat_map item_declarations f.items) among))
 
   items_unset_stand : Each (Stood f) (items_unset last f.items)
   unfolding items_unset unsets_faults
   items_unset_stand =
       each-flat_map (Stood f) (unset_faults last) (flat_map item_declarations f.items)
-      (λ d among. unset_stands d (among-right (map port_declaration f.ports) (flat_map item_declarations f.items) d among))
+      (λ d among. unset_stands d (among_right d (map port_declaration f.ports) (flat_map item_declarations f.items) among))
 
   pub all_stand : Each (Stood f) (file_faults f)
   unfolding file_faults
