@@ -1,8 +1,4 @@
 mod Tested
-mod Computed
 mod Behind
 mod Grounded
 mod Rested
-mod Agreed
-mod Parted
-mod Streamed

@@ -1,13 +1,16 @@
-use Rattle.sap_worked.proofs.Computed.{fall_handler, handler_raises, goto_handler, goto_handler_raises, goto_handler_of_enforced, rising_refusals, no_handler_runs}
+use Rattle.std.proofs.Common.{refl}
+use Rattle.sap_meaning.specs.Prelude.{cycle, set_inputs, root_fall, first, put_number, put_level, put_child, raise, reset, settle, effect, attempt, select, does, does_block, does_state, does_child}
 use Rattle.sap_worked.proofs.runs.handlers.Goals as goal
 
+-- by computation
 pub returns : goal.returns
+unfolding cycle set_inputs root_fall first put_number put_level put_child raise reset settle effect attempt select does does_block does_state does_child
 returns c = record {
-  fall_handler = fall_handler;
-  handler_raises = handler_raises;
-  goto_handler = goto_handler;
-  goto_handler_raises = goto_handler_raises;
-  goto_handler_of_enforced = goto_handler_of_enforced;
-  rising_refusals = rising_refusals;
-  no_handler_runs = no_handler_runs;
+  fall_handler = refl;
+  handler_raises = refl;
+  goto_handler = refl;
+  goto_handler_raises = refl;
+  goto_handler_of_enforced = refl;
+  rising_refusals = refl;
+  no_handler_runs = refl;
 }

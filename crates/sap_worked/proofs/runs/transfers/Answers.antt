@@ -1,12 +1,15 @@
-use Rattle.sap_worked.proofs.Computed.{lowers_below, raised_by_target, raised_where_refused, fall_raises, refused_fall_raises, without_fall}
+use Rattle.std.proofs.Common.{refl}
+use Rattle.sap_meaning.specs.Prelude.{cycle, set_inputs, root_fall, first, put_number, put_level, put_child, raise, reset, settle, effect, attempt, select, does, does_block, does_state, does_child}
 use Rattle.sap_worked.proofs.runs.transfers.Goals as goal
 
+-- by computation
 pub returns : goal.returns
+unfolding cycle set_inputs root_fall first put_number put_level put_child raise reset settle effect attempt select does does_block does_state does_child
 returns c = record {
-  lowers_below = lowers_below;
-  raised_by_target = raised_by_target;
-  raised_where_refused = raised_where_refused;
-  fall_raises = fall_raises;
-  refused_fall_raises = refused_fall_raises;
-  without_fall = without_fall;
+  lowers_below = refl;
+  raised_by_target = refl;
+  raised_where_refused = refl;
+  fall_raises = refl;
+  refused_fall_raises = refl;
+  without_fall = refl;
 }

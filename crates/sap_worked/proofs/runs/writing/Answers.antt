@@ -1,10 +1,13 @@
-use Rattle.sap_worked.proofs.Computed.{enforced_write, refused_by_index, refused_by_value, dynamic_write}
+use Rattle.std.proofs.Common.{refl}
+use Rattle.sap_meaning.specs.Prelude.{cycle, set_inputs, root_fall, first, put_number, put_level, put_child, raise, reset, settle, effect, attempt, select, does, does_block, does_state, does_child}
 use Rattle.sap_worked.proofs.runs.writing.Goals as goal
 
+-- by computation
 pub returns : goal.returns
+unfolding cycle set_inputs root_fall first put_number put_level put_child raise reset settle effect attempt select does does_block does_state does_child
 returns c = record {
-  enforced_write = enforced_write;
-  refused_by_index = refused_by_index;
-  refused_by_value = refused_by_value;
-  dynamic_write = dynamic_write;
+  enforced_write = refl;
+  refused_by_index = refl;
+  refused_by_value = refl;
+  dynamic_write = refl;
 }
