@@ -1,5 +1,5 @@
 -- The steps of the wires, one wire after another.
-use Rattle.sap_lemmas.proofs.Common.{◌≡◌, ℕ, ◌+◌, ◌<◌, ◌≤◌, List, [], ◌∷◌, ◌++◌, map, Some, length, get_or, take, drop, sym, ap, ◌∙◌, subst, refl, append_assoc, append-nil, unwrap_or, AllByRecursion, map_more, take_more, take_all, drop_more}
+use Rattle.sap_lemmas.proofs.Common.{◌≡◌, ℕ, ◌+◌, ◌<◌, ◌≤◌, List, [], ◌∷◌, ◌++◌, map, Some, length, get_or, take, drop, sym, ap, ◌∙◌, subst, refl, append_assoc, append-nil, unwrap_or, AllByRecursion, all_follow, map_more, take_more, take_all, drop_more}
 use Rattle.sap_net.proofs.RulesLemmas.{readable_kept}
 use Rattle.sap_maps.specs.Prelude.{Name, Scope, find}
 use Rattle.sap_maps.proofs.Scopes.{found_here}
@@ -87,29 +87,15 @@ pub compiled_knows : (n : Net) (i : ℕ) (k : Known) (steps : List Step) (parts 
 compiled_knows n i k steps parts c le = subst (λ l. Knows (width_of n) n.memories (first_names n ++ map (λ w. w.name) l) k) (take_all i n.wires le) c.knows
 
 -- registers and ports
-registers_known : (n : Net) (k : Known) → Knows (width_of n) n.memories (value_names n) k → (rs : List Register)
-    → AllByRecursion (IsRegister (readable n)) rs → AllByRecursion (λ r. IsKnownOperand k r.next) rs
-registers_known n k knows [] h = tt
-registers_known n k knows (r ∷ rs) h =
-    (known_operand (width_of n) n.memories (value_names n) k knows (readable n) (covers_readable n) r.width r.next h.0.1, registers_known n k knows rs h.1)
-
 pub nexts_known : (n : Net) → IsNetlist n → (k : Known) → Knows (width_of n) n.memories (value_names n) k → AllByRecursion (λ r. IsKnownOperand k r.next) n.registers
-nexts_known n rules k knows = registers_known n k knows n.registers rules.nexts
-
-memories_known : (n : Net) (k : Known) → Knows (width_of n) n.memories (value_names n) k → (ms : List Memory)
-    → AllByRecursion (IsMemory (readable n)) ms → AllByRecursion (IsKnownPort k) ms
-memories_known n k knows [] h = tt
-memories_known n k knows (m ∷ ms) h = (
-  (
-    known_operand (width_of n) n.memories (value_names n) k knows (readable n) (covers_readable n) 1 m.enable h.0.enable,
-    known_operand (width_of n) n.memories (value_names n) k knows (readable n) (covers_readable n) h.0.bits m.index h.0.index,
-    known_operand (width_of n) n.memories (value_names n) k knows (readable n) (covers_readable n) m.width m.value h.0.value,
-  ),
-  memories_known n k knows ms h.1,
-)
+nexts_known n rules k knows = all_follow (IsRegister (readable n)) (λ r. IsKnownOperand k r.next) n.registers
+    (λ r is. known_operand (width_of n) n.memories (value_names n) k knows (readable n) (covers_readable n) r.width r.next is.1) rules.nexts
 
 pub ports_known : (n : Net) → IsNetlist n → (k : Known) → Knows (width_of n) n.memories (value_names n) k → AllByRecursion (IsKnownPort k) n.memories
-ports_known n rules k knows = memories_known n k knows n.memories rules.writes
+ports_known n rules k knows =
+    let operand = known_operand (width_of n) n.memories (value_names n) k knows (readable n) (covers_readable n) in
+    all_follow (IsMemory (readable n)) (IsKnownPort k) n.memories
+    (λ m is. (operand 1 m.enable is.enable, operand is.bits m.index is.index, operand m.width m.value is.value)) rules.writes
 
 pub nexts_mean : (f : Name → ℕ) (ms : List Memory) (names : List Name) (k : Known) → Knows f ms names k → (rs : List Register)
     → AllByRecursion (λ r. IsKnownOperand k r.next) rs → NextsMean names (map (λ r. slot_found k r.next) rs) rs

@@ -1,5 +1,5 @@
 -- A cycle on the arrays is a cycle of the netlist.
-use Rattle.sap_lemmas.proofs.Common.{◌≡◌, ℕ, ◌+◌, ◌<◌, ◌≤◌, List, [], ◌∷◌, ◌++◌, map, Option, Some, None, length, take, drop, sym, ap, ◌∙◌, subst, arith, refl, length-append, append_assoc, unwrap_or, slice_index, AllByRecursion, take-append_seam, map-append, length-map, append-nil, get_or_append_left}
+use Rattle.sap_lemmas.proofs.Common.{◌≡◌, ℕ, ◌+◌, ◌<◌, ◌≤◌, List, [], ◌∷◌, ◌++◌, map, Option, Some, None, length, take, drop, sym, ap, ◌∙◌, subst, arith, refl, length-append, append_assoc, slice_index, AllByRecursion, all_follow, take-append_seam, map-append, length-map, append-nil, get_or_append_left}
 use Rattle.std.proofs.Math.Seq.{drop-append_seam, take-length, drop-length}
 use Rattle.sap_maps.specs.Prelude.{Name, Valuation, Scope, find}
 use Rattle.sap_net.specs.Prelude.{operand_value, IsMemory, Net, IsNetlist, width_of, first_readable, readable, shapes, input_names, register_names, wire_names, written, observed, InputsAre, IsCycle}
@@ -46,21 +46,13 @@ all_joined_at : {A : Type 0} (f g h : A → ℕ → ℕ) (xs : List A) → AllBy
 all_joined_at {A} f g h [] a b = tt
 all_joined_at {A} f g h (x ∷ xs) a b = (λ i. b.0 i ∙ sym (a.0 i), all_joined_at f g h xs a.1 b.1)
 
-found_numbers : {A : Type 0} (es : List (Name × ℕ)) (key : A → Name) (f : A → ℕ) (xs : List A)
-    → AllByRecursion (λ x. find es (key x) ≡ Some (f x)) xs → AllByRecursion (λ x. unwrap_or (find es (key x)) 0 ≡ f x) xs
-found_numbers {A} es key f [] h = tt
-found_numbers {A} es key f (x ∷ xs) h = (rw h.0, found_numbers es key f xs h.1)
-
-found_cells : {A : Type 0} (es : List (Name × ℕ)) (key : A → Name) (f : A → ℕ) (xs : List A)
-    → AllByRecursion (λ x. find es (key x) ≡ Some (f x)) xs → AllByRecursion (λ x. (i : ℕ) → unwrap_or (find es (key x)) 0 ≡ f x) xs
-found_cells {A} es key f [] h = tt
-found_cells {A} es key f (x ∷ xs) h = (λ i. rw h.0, found_cells es key f xs h.1)
-
 pub first_registers : (n : Net) → IsNetlist n → AllByRecursion (λ r. (seen n None).value r.name ≡ r.start) n.registers
-first_registers n rules = found_numbers (map (λ r. (r.name, r.start)) n.registers) (λ r. r.name) (λ r. r.start) n.registers (registers_found n rules (λ r. r.start))
+first_registers n rules = all_follow (λ r. find (map (λ s. (s.name, s.start)) n.registers) r.name ≡ Some r.start) (λ r. (seen n None).value r.name ≡ r.start) n.registers
+    (λ r e. rw e) (registers_found n rules (λ r. r.start))
 
 pub first_memories : (n : Net) → IsNetlist n → AllByRecursion (λ m. (i : ℕ) → (seen n None).cell m.name i ≡ m.start) n.memories
-first_memories n rules = found_cells (map (λ m. (m.name, m.start)) n.memories) (λ m. m.name) (λ m. m.start) n.memories (memories_found n rules (λ m. m.start))
+first_memories n rules = all_follow (λ m. find (map (λ k. (k.name, k.start)) n.memories) m.name ≡ Some m.start) (λ m. (i : ℕ) → (seen n None).cell m.name i ≡ m.start) n.memories
+    (λ m e i. rw e) (memories_found n rules (λ m. m.start))
 
 -- a cycle begins with what was seen before it
 registers_begin : (n : Net) → IsNetlist n → (before : Option Valuation) (xs : List ℕ) (v : Valuation) → IsCycle n before xs v
@@ -110,9 +102,7 @@ nexts_in names values le (s ∷ ss) (r ∷ rs) h = (slot_in names values le s r.
 
 -- a write's index lies in its memory
 indices_in : (sc : Scope) (v : Valuation) → ValuesBelow sc v → (ms : List Memory) → AllByRecursion (IsMemory sc) ms → AllByRecursion (λ m. operand_value v m.index < m.depth) ms
-indices_in sc v b [] h = tt
-indices_in sc v b (m ∷ ms) h =
-    (rw h.0.depth.2 (operand_below sc v b h.0.bits m.index h.0.index), indices_in sc v b ms h.1)
+indices_in sc v b ms h = all_follow (IsMemory sc) (λ m. operand_value v m.index < m.depth) ms (λ m is. rw is.depth.2 (operand_below sc v b is.bits m.index is.index)) h
 
 -- other numbers in the middle
 copied_middle : (a b c d : List ℕ) (k : ℕ) → k ≡ length a → length d ≡ length b → copied k d (a ++ (b ++ c)) ≡ a ++ (d ++ c)

@@ -1,5 +1,5 @@
 -- Names of a netlist are found where they are declared, and nowhere else.
-use Rattle.sap_lemmas.proofs.Common.{◌≡◌, ℕ, List, [], ◌∷◌, ◌++◌, map, Some, None, refl, AllByRecursion, bytes_eq_apart_back}
+use Rattle.sap_lemmas.proofs.Common.{◌≡◌, ℕ, List, [], ◌∷◌, ◌++◌, map, Some, None, refl, AllByRecursion, all_follow, all_of_map, all_parts, bytes_eq_apart_back}
 use Rattle.sap_net.proofs.RulesLemmas.{readable_kept, values_found, values_past}
 use Rattle.sap_net.proofs.InputLemmas.{past_inputs}
 use Rattle.sap_maps.specs.Prelude.{Name, Scope, find}
@@ -86,22 +86,17 @@ wires_no_registers {Y} n rules g =
 abbrev pub AreReadable : {A : Type 0} → Scope → (key : A → Name) → (width : A → ℕ) → List A → Type 0
 AreReadable sc key width list = AllByRecursion (λ a. find sc (key a) ≡ Some (width a)) list
 
-first_inputs : (sc sd : Scope) (is : List Input)
-    → AllByRecursion {X = Name × ℕ} (λ d. find sc d.0 ≡ Some d.1) (map (λ i. (i.name, i.width)) is ++ sd)
-    → AreReadable sc (λ i. i.name) (λ i. i.width) is × AllByRecursion (λ d. find sc d.0 ≡ Some d.1) sd
-first_inputs sc sd [] h = (tt, h)
-first_inputs sc sd (i ∷ is) h = let r = first_inputs sc sd is h.1 in ((h.0, r.0), r.1)
-
-first_registers : (sc : Scope) (rs : List Register)
-    → AllByRecursion {X = Name × ℕ} (λ d. find sc d.0 ≡ Some d.1) (map (λ r. (r.name, r.width)) rs) → AreReadable sc (λ r. r.name) (λ r. r.width) rs
-first_registers sc [] h = tt
-first_registers sc (r ∷ rs) h = (h.0, first_registers sc rs h.1)
+-- inputs and registers can be read before the wires
+first_are_readable : (n : Net) → IsNetlist n → AreReadable (first_readable n) (λ i. i.name) (λ i. i.width) n.inputs × AreReadable (first_readable n) (λ r. r.name) (λ r. r.width) n.registers
+first_are_readable n rules =
+    let P : Name × ℕ → Type 0 = λ d. find (first_readable n) d.0 ≡ Some d.1 in
+    let both = all_parts P (map (λ i. (i.name, i.width)) n.inputs) (map (λ r. (r.name, r.width)) n.registers) (values_found (shapes n) (first_readable n) rules.values) in
+    (all_of_map P (λ i. (i.name, i.width)) n.inputs both.0, all_of_map P (λ r. (r.name, r.width)) n.registers both.1)
 
 all_readable_after : {A : Type 0} (ms : Shapes) (sc : Scope) (ws : List Wire) → AreWires ms sc ws
     → (key : A → Name) (width : A → ℕ) (list : List A) → AreReadable sc key width list → AreReadable (readable_after sc ws) key width list
-all_readable_after {A} ms sc ws rules key width [] h = tt
-all_readable_after {A} ms sc ws rules key width (a ∷ list) h =
-    (readable_kept ms ws sc rules (key a) (width a) h.0, all_readable_after ms sc ws rules key width list h.1)
+all_readable_after {A} ms sc ws rules key width list h =
+    all_follow (λ a. find sc (key a) ≡ Some (width a)) (λ a. find (readable_after sc ws) (key a) ≡ Some (width a)) list (λ a e. readable_kept ms ws sc rules (key a) (width a) e) h
 
 wires_readable_after : (ms : Shapes) (sc : Scope) (ws : List Wire) → AreWires ms sc ws → AreReadable (readable_after sc ws) (λ w. w.name) (λ w. w.width) ws
 wires_readable_after ms sc [] rules = tt
@@ -113,12 +108,12 @@ wires_readable_after ms sc (w ∷ ws) rules = (
 pub inputs_readable : (n : Net) → IsNetlist n → AreReadable (readable n) (λ i. i.name) (λ i. i.width) n.inputs
 inputs_readable n rules =
     all_readable_after (shapes n) (first_readable n) n.wires rules.assigns (λ i. i.name) (λ i. i.width) n.inputs
-    (first_inputs (first_readable n) _ n.inputs (values_found (shapes n) (first_readable n) rules.values)).0
+    (first_are_readable n rules).0
 
 pub registers_readable : (n : Net) → IsNetlist n → AreReadable (readable n) (λ r. r.name) (λ r. r.width) n.registers
 registers_readable n rules =
     all_readable_after (shapes n) (first_readable n) n.wires rules.assigns (λ r. r.name) (λ r. r.width) n.registers
-    (first_registers (first_readable n) n.registers (first_inputs (first_readable n) _ n.inputs (values_found (shapes n) (first_readable n) rules.values)).1)
+    (first_are_readable n rules).1
 
 pub wires_readable : (n : Net) → IsNetlist n → AreReadable (readable n) (λ w. w.name) (λ w. w.width) n.wires
 wires_readable n rules = wires_readable_after (shapes n) (first_readable n) n.wires rules.assigns

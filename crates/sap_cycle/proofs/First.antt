@@ -1,5 +1,5 @@
 -- What the arrays have before the first step.
-use Rattle.sap_lemmas.proofs.Common.{◌≡◌, ℕ, zero, suc, ◌+◌, ◌<◌, List, [], ◌∷◌, ◌++◌, map, Option, None, false, length, get_or, take, replicate, sym, ap, ◌∙◌, subst, refl, arith, append_assoc, append-nil, length-append, unwrap_or, AllByRecursion, flat_map, range_with_len, flat_map-append, map-append, take_more, length-replicate, get_or_default}
+use Rattle.sap_lemmas.proofs.Common.{◌≡◌, ℕ, zero, suc, ◌+◌, ◌<◌, List, [], ◌∷◌, ◌++◌, map, Option, Some, None, false, length, get_or, take, replicate, sym, ap, ◌∙◌, subst, refl, arith, append_assoc, append-nil, length-append, unwrap_or, AllByRecursion, all_follow, flat_map, range_with_len, flat_map-append, map-append, take_more, length-replicate, get_or_default}
 use Rattle.sap_maps.specs.Prelude.{Name, Scope, find}
 use Rattle.sap_net.specs.Prelude.{Net, IsNetlist, input_names, register_names, wire_names, readable, width_of, NameMap}
 use Rattle.sap_net.specs.declared.parts.Memory.{Memory}
@@ -57,14 +57,9 @@ filled (m ∷ ms) =
     let r = filled ms in
     cc
 
-flipped : (f g : Memory → ℕ → ℕ) (ms : List Memory) → AllByRecursion (λ m. (i : ℕ) → f m i ≡ g m i) ms → AllByRecursion (λ m. (i : ℕ) → g m i ≡ f m i) ms
-flipped f g [] h = tt
-flipped f g (m ∷ ms) h = (λ i. sym (h.0 i), flipped f g ms h.1)
-
 first_cells_seen : (n : Net) → IsNetlist n → flat_map (λ m. replicate m.depth m.start) n.memories ≡ cells_of (seen n None).cell n.memories
 first_cells_seen n rules =
-    filled n.memories
-    ∙ cells_equal (λ m i. m.start) (λ m. (seen n None).cell m.name) n.memories (flipped (λ m. (seen n None).cell m.name) (λ m i. m.start) n.memories (first_memories n rules))
+    filled n.memories ∙ sym (cells_equal (λ m. (seen n None).cell m.name) (λ m i. m.start) n.memories (first_memories n rules))
 
 filled_long : (ms : List Memory) → length (flat_map (λ m. replicate m.depth m.start) ms) ≡ cell_count ms
 filled_long [] = refl
@@ -143,8 +138,8 @@ ports_more k ms i m old new p bases lt is was pushed base enable index value =
 -- the widths of inputs and registers
 all_wide : {A : Type 0} (sc : Scope) (key : A → Name) (width : A → ℕ) (list : List A) → AreReadable sc key width list
     → AllByRecursion (λ a. unwrap_or (find sc (key a)) 0 ≡ width a) list
-all_wide {A} sc key width [] h = tt
-all_wide {A} sc key width (a ∷ list) h = (ap (λ (o : Option ℕ). unwrap_or o 0) h.0, all_wide sc key width list h.1)
+all_wide {A} sc key width list h =
+    all_follow (λ a. find sc (key a) ≡ Some (width a)) (λ a. unwrap_or (find sc (key a)) 0 ≡ width a) list (λ a e. ap (λ (o : Option ℕ). unwrap_or o 0) e) h
 
 pub inputs_wide : (n : Net) → IsNetlist n → AllByRecursion (λ i. width_of n i.name ≡ i.width) n.inputs
 inputs_wide n rules = all_wide (readable n) (λ i. i.name) (λ i. i.width) n.inputs (inputs_readable n rules)

@@ -1,10 +1,14 @@
 -- A map of places, name by name.
-use Rattle.sap_lemmas.proofs.Common.{◌≡◌, ◌<◌, ℕ, zero, suc, arith, List, [], ◌∷◌, ◌++◌, Some, None, length, sym, ap, ◌∙◌, subst, refl, inl, inr, true≢false, slice_get, Contains, IsSome, bytes_eq, lookup, Global, bytes_eq-Decides, cases_Bool}
+use Rattle.sap_lemmas.proofs.Common.{◌≡◌, ◌<◌, ℕ, zero, suc, arith, List, [], ◌∷◌, ◌++◌, Option, Some, None, length, sym, ap, ◌∙◌, subst, refl, inl, inr, true≢false, slice_get, Contains, IsSome, bytes_eq, lookup, Global, bytes_eq-Decides, cases_Bool}
 use Rattle.std.specs.Prelude.{Vec}
 use Rattle.std.proofs.lemmas.List.Elements.{Contains-push_cases}
 use Rattle.sap_maps.specs.Maps.{Name}
 use Rattle.sap_net.specs.NameMaps.{at_name, NameMap, Puts}
 use Rattle.sap_cycle.specs.Places.{Finds}
+
+-- what a look-up of a name's bytes gave is found of the name
+pub looked_up : (m : NameMap ℕ) {x y : Name} {o q : Option ℕ} → y ≡ x → o ≡ at_name m y → o ≡ q → at_name m x ≡ q
+looked_up m same gave is = ap (at_name m) (sym same) ∙ sym gave ∙ is
 
 get_push : (xs : List Name) (y : Name) (k : ℕ) (q : Name) → slice_get xs k ≡ Some q → slice_get (xs ++ y ∷ []) k ≡ Some q
 get_push [] y k q h = absurd (cc)

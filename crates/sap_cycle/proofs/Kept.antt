@@ -1,5 +1,5 @@
 -- Where a memory's cells are kept.
-use Rattle.sap_lemmas.proofs.Common.{◌≡◌, ℕ, zero, suc, ◌+◌, ◌<◌, ◌≤◌, List, [], ◌∷◌, ◌++◌, map, Option, Some, None, length, get_or, ap, ◌∙◌, subst, refl, arith, slice_get, slice_index, AllByRecursion, get_or_default, lt-ltb, le-ltb}
+use Rattle.sap_lemmas.proofs.Common.{◌≡◌, ℕ, zero, suc, ◌+◌, ◌<◌, ◌≤◌, List, [], ◌∷◌, ◌++◌, map, Option, Some, None, length, get_or, ap, ◌∙◌, subst, refl, arith, slice_get, slice_index, AllByRecursion, get_or_default, lt-ltb, le-ltb, length-append}
 use Rattle.sap_maps.specs.Prelude.{Name, Valuation, find}
 use Rattle.sap_net.specs.Prelude.{Net, IsNetlist, memory_names, at_name, NameMap}
 use Rattle.sap_net.specs.declared.parts.Memory.{Memory}
@@ -9,6 +9,7 @@ use Rattle.sap_cycle.specs.Places.{Finds}
 use Rattle.sap_cycle.specs.Running.{cells_of, seen, cell_seen}
 use Rattle.sap_cycle.proofs.Cells.{cells_long, cell_at, count_more}
 use Rattle.sap_cycle.proofs.Distinct.{memories_found}
+use Rattle.sap_cycle.proofs.Found.{looked_up}
 use Rattle.sap_cycle.proofs.Looked.{covers_listed, missing}
 
 -- the k-th of some memories
@@ -40,6 +41,16 @@ at_within [] k x h = absurd (cc)
 at_within (m ∷ ms) zero x h = omega arith
 at_within (m ∷ ms) (suc k) x h = omega (arith, at_within ms k x h)
 
+pub is_within : {ms : List Memory} {k : ℕ} {x : Name} → IsAt ms k x → k < length ms
+is_within a = omega (arith, a.k_is, ap length a.whole, length-append a.before (a.memory ∷ a.behind))
+
+-- the memory that a look-up of its name found
+pub found_memory : (n : Net) {m : NameMap ℕ} {x y : Name} {o : Option ℕ} {k : ℕ} → Finds m (memory_names n) → y ≡ x → o ≡ at_name m y → o ≡ Some k → IsAt n.memories k x
+found_memory n {m = m} {x = x} {k = k} finds same gave is = is_at n.memories k x (finds.found x k (looked_up m same gave is))
+
+pub depth_there : {ns ms : List Memory} {k : ℕ} {x : Name} (a : IsAt ns k x) (d : Memory) → ms ≡ ns → (get_or ms k d).depth ≡ a.memory.depth
+depth_there {ns = ns} {k = k} {x = x} a d same = rw same (ap (λ (m : Memory). m.depth) (memory_is ns k x a d))
+
 pub ports_long : (names : List Name) (ps : List WritePort) (ms : List Memory) (base : ℕ) → PortsMean names base ps ms → length ps ≡ length ms
 ports_long names [] [] base h = refl
 ports_long names [] (m ∷ ms) base h = absurd h
@@ -60,6 +71,11 @@ base_is names ps ms k x a d h =
     ap (λ j. (get_or ps j d).base) a.k_is
     ∙ port_base names ps a.before a.memory a.behind d 0 (subst (PortsMean names 0 ps) a.whole h)
     ∙ (let e : 0 + cell_count a.before ≡ cell_count a.before = omega arith in e)
+
+-- the base of the memory's port
+pub base_there : {ms : List Memory} {k : ℕ} {x : Name} (a : IsAt ms k x) (names : List Name) (ps : List WritePort) (p : WritePort) → PortsMean names 0 ps ms
+    → p ≡ get_or ps k p → p.base ≡ cell_count a.before
+base_there {ms = ms} {k = k} {x = x} a names ps p mean is = ap (λ (q : WritePort). q.base) is ∙ base_is names ps ms k x a p mean
 
 -- a cell below the depth
 pub kept_within : (f : Name → ℕ → ℕ) (ms : List Memory) (k : ℕ) (x : Name) (a : IsAt ms k x) (i : ℕ) → i < a.memory.depth → cell_count a.before + i < length (cells_of f ms)

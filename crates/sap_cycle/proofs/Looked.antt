@@ -1,5 +1,5 @@
 -- What a look-up of a name finds.
-use Rattle.sap_lemmas.proofs.Common.{◌≡◌, ℕ, zero, suc, ◌+◌, ◌-◌, ◌<◌, ◌≤◌, List, [], ◌∷◌, ◌++◌, Bool, true, false, map, Option, Some, None, length, get_or, sym, ap, ◌∙◌, subst, refl, arith, length-append, append_assoc, append-nil, ⊎_elim, ◌⊎◌, inl, inr, true≢false, slice_get, option_map, is_some, IsSome, Contains, nat_le, nat_lt, ◌||◌, ◌&&◌, bytes_eq, AllByRecursion, cases_Bool, cases_lt, lt-ltb, le-ltb, le-leb, lt-leb, length-map, slice_get-map, get_or_from_slice_get, all_append, equal_of_bytes_eq}
+use Rattle.sap_lemmas.proofs.Common.{◌≡◌, ℕ, zero, suc, ◌+◌, ◌-◌, ◌<◌, ◌≤◌, List, [], ◌∷◌, ◌++◌, Bool, true, false, map, Option, Some, None, length, get_or, sym, ap, ◌∙◌, subst, refl, arith, length-append, append_assoc, append-nil, ⊎_elim, ◌⊎◌, inl, inr, true≢false, slice_get, option_map, is_some, IsSome, Contains, nat_le, nat_lt, ◌||◌, ◌&&◌, bytes_eq, AllByRecursion, cases_Bool, cases_lt, lt-ltb, le-ltb, le-leb, lt-leb, length-map, slice_get-map, get_or_from_slice_get, all_append, all_follow, map_of_all, equal_of_bytes_eq}
 use Rattle.std.proofs.lemmas.List.Elements.{Contains-append_left, Contains-append_right, Contains-push}
 use Rattle.sap_maps.specs.Prelude.{Name, Valuation, Scope, find}
 use Rattle.sap_net.specs.Prelude.{Net, readable_after, IsNetlist, first_readable, readable, input_names, register_names, wire_names, at_name, NameMap}
@@ -58,11 +58,6 @@ none_there (Some k) e h = cc
 pub missing : {X : Type 0} (m : NameMap ℕ) (names : List Name) → Finds m names → (es : List (Name × X)) → Covers es names → (x : Name) → at_name m x ≡ None → find es x ≡ None
 missing {X} m names finds es cov x h = elim (cases_option (find es x)) [ inl e ↦ e | inr s ↦ absurd (none_there (at_name m x) h (finds.all x (cov x s.0 s.1))) ]
 
--- a fact on each name of a list
-all_names : {A : Type 0} (P : Name → Type 0) (key : A → Name) (list : List A) → AllByRecursion (λ a. P (key a)) list → AllByRecursion P (map key list)
-all_names {A} P key [] h = tt
-all_names {A} P key (a ∷ list) h = (h.0, all_names P key list h.1)
-
 pub all_at : {A : Type 0} (P : A → Type 0) (xs : List A) (k : ℕ) (x : A) → AllByRecursion P xs → slice_get xs k ≡ Some x → P x
 all_at {A} P [] k x h e = absurd (cc)
 all_at {A} P (y ∷ xs) zero x h e = let q : y ≡ x = cc in subst P q h.0
@@ -83,22 +78,20 @@ behind_at {A} xs ys k x le h =
 
 is_found : {A : Type 0} (es : Scope) (key : A → Name) (width : A → ℕ) (list : List A)
     → AllByRecursion (λ a. find es (key a) ≡ Some (width a)) list → AllByRecursion (λ a. is_some (find es (key a)) ≡ true) list
-is_found {A} es key width [] h = tt
-is_found {A} es key width (a ∷ list) h = (rw h.0 refl, is_found es key width list h.1)
+is_found {A} es key width list h = all_follow (λ a. find es (key a) ≡ Some (width a)) (λ a. is_some (find es (key a)) ≡ true) list (λ a e. rw e refl) h
 
 isnt_found : {A : Type 0} (es : Scope) (key : A → Name) (list : List A) → AllByRecursion (λ a. find es (key a) ≡ None) list
     → AllByRecursion (λ a. is_some (find es (key a)) ≡ false) list
-isnt_found {A} es key [] h = tt
-isnt_found {A} es key (a ∷ list) h = (rw h.0 refl, isnt_found es key list h.1)
+isnt_found {A} es key list h = all_follow (λ a. find es (key a) ≡ None) (λ a. is_some (find es (key a)) ≡ false) list (λ a e. rw e refl) h
 
 all_readable : (n : Net) → IsNetlist n → AllByRecursion (λ x. is_some (find (readable n) x) ≡ true) (value_names n)
 all_readable n rules =
     let P = λ (x : Name). is_some (find (readable n) x) ≡ true in
     all_append P (first_names n) (wire_names n)
     (all_append P (input_names n) (register_names n)
-    (all_names P (λ i. i.name) n.inputs (is_found (readable n) (λ i. i.name) (λ i. i.width) n.inputs (inputs_readable n rules)))
-    (all_names P (λ r. r.name) n.registers (is_found (readable n) (λ r. r.name) (λ r. r.width) n.registers (registers_readable n rules))))
-    (all_names P (λ w. w.name) n.wires (is_found (readable n) (λ w. w.name) (λ w. w.width) n.wires (wires_readable n rules)))
+    (map_of_all P (λ i. i.name) n.inputs (is_found (readable n) (λ i. i.name) (λ i. i.width) n.inputs (inputs_readable n rules)))
+    (map_of_all P (λ r. r.name) n.registers (is_found (readable n) (λ r. r.name) (λ r. r.width) n.registers (registers_readable n rules))))
+    (map_of_all P (λ w. w.name) n.wires (is_found (readable n) (λ w. w.name) (λ w. w.width) n.wires (wires_readable n rules)))
 
 -- the place of a register
 abbrev pub is_register : Net → (place : ℕ) → Bool
@@ -120,14 +113,14 @@ first_seen n rules x k h =
     ⊎_elim
     (λ (in_inputs : k < length (input_names n)).
     let q : is_some (find (registers_of n) x) ≡ false =
-    all_at not_seen (input_names n) k x (all_names not_seen (λ i. i.name) n.inputs
+    all_at not_seen (input_names n) k x (map_of_all not_seen (λ i. i.name) n.inputs
     (isnt_found (registers_of n) (λ i. i.name) n.inputs (inputs_no_registers n rules (λ r. r.width)))) (front_at (input_names n) (register_names n) k x in_inputs f) in
     let t : nat_le (length n.inputs) k ≡ false = lt-leb (length n.inputs) k (omega arith) in
     q ∙ sym (ap (λ (b : Bool). b && nat_lt (k - length n.inputs) (length n.registers)) t))
     (λ (past : length (input_names n) ≤ k).
     let q : is_some (find (registers_of n) x) ≡ true =
     all_at yes_seen (register_names n) (k - length (input_names n)) x
-    (all_names yes_seen (λ r. r.name) n.registers
+    (map_of_all yes_seen (λ r. r.name) n.registers
     (is_found (registers_of n) (λ r. r.name) (λ r. r.width) n.registers (registers_found n rules (λ r. r.width)))) (behind_at (input_names n) (register_names n) k x past f) in
     let t : nat_le (length n.inputs) k ≡ true = le-leb (length n.inputs) k (omega arith) in
     let u : nat_lt (k - length n.inputs) (length n.registers) ≡ true = lt-ltb (k - length n.inputs) (length n.registers) (omega arith) in
@@ -137,7 +130,7 @@ first_seen n rules x k h =
     (λ (past : length (first_names n) ≤ k).
     let q : is_some (find (registers_of n) x) ≡ false =
     all_at not_seen (wire_names n) (k - length (first_names n)) x
-    (all_names not_seen (λ w. w.name) n.wires (isnt_found (registers_of n) (λ w. w.name) n.wires (wires_no_registers n rules (λ r. r.width))))
+    (map_of_all not_seen (λ w. w.name) n.wires (isnt_found (registers_of n) (λ w. w.name) n.wires (wires_no_registers n rules (λ r. r.width))))
     (behind_at (first_names n) (wire_names n) k x past h) in
     let t : nat_le (length n.inputs) k ≡ true = le-leb (length n.inputs) k (omega arith) in
     let u : nat_lt (k - length n.inputs) (length n.registers) ≡ false = le-ltb (k - length n.inputs) (length n.registers) (omega arith) in

@@ -1,5 +1,5 @@
 -- The list of the steps that have no instruction of their own, as it grows.
-use Rattle.sap_lemmas.proofs.Common.{◌≡◌, ◌≤◌, ℕ, List, [], ◌∷◌, ◌++◌, map, length, refl, ap, ap₂, sym, ◌∙◌, arith, length-append, AllByRecursion, map-append, get_or_append_left, all_append}
+use Rattle.sap_lemmas.proofs.Common.{◌≡◌, ◌≤◌, ℕ, List, [], ◌∷◌, ◌++◌, map, length, refl, ap, ap₂, sym, ◌∙◌, arith, length-append, AllByRecursion, map-append, get_or_append_left, all_append, all_follow}
 use Rattle.std.proofs.Math.Seq.{get_or-append_seam}
 use Rattle.std.proofs.lemmas.Option.{unwrap_or-slice_get}
 use Rattle.sap_cycle.specs.declared.steps.Slot.TheVariants.{Number}
@@ -24,10 +24,6 @@ pub within_more : (m n : ℕ) (i : Instruction) → m ≤ n → IsWithin m i →
 within_more m n (instruction.Other k) le h = omega (arith, le, h)
 within_more m n _ le h = tt
 
-all_within : (m n : ℕ) (is : List Instruction) → m ≤ n → AllByRecursion (IsWithin m) is → AllByRecursion (IsWithin n) is
-all_within m n [] le h = tt
-all_within m n (i ∷ is) le h = (within_more m n i le h.0, all_within m n is le h.1)
-
 -- one more instruction
 pub steps_more : (others new more : List Step) (is : List Instruction) (i : Instruction) (s : Step) → new ≡ others ++ more → AllByRecursion (IsWithin (length others)) is
     → step_of_instruction new i ≡ s → map (step_of_instruction new) (is ++ i ∷ []) ≡ map (step_of_instruction others) is ++ s ∷ []
@@ -39,7 +35,7 @@ pub within_pushed : (others new more : List Step) (is : List Instruction) (i : I
     → IsWithin (length new) i → AllByRecursion (IsWithin (length new)) (is ++ i ∷ [])
 within_pushed others new more is i e within h =
     let le : length others ≤ length new = omega (arith, ap length e, length-append others more) in
-    all_append (IsWithin (length new)) is (i ∷ []) (all_within (length others) (length new) is le within) (h, tt)
+    all_append (IsWithin (length new)) is (i ∷ []) (all_follow (IsWithin (length others)) (IsWithin (length new)) is (λ j. within_more (length others) (length new) j le) within) (h, tt)
 
 -- the step that was put behind the list
 pub last_step : (others new : List Step) (s : Step) (k : ℕ) → new ≡ others ++ s ∷ [] → k ≡ length others → step_at new k ≡ s

@@ -1,15 +1,14 @@
 use Rattle.sap_lemmas.proofs.Common.{◌≡◌, true, false, Some, None, length, sym, ap, ◌∙◌, subst, refl, rules, slice_get, ◌||◌, slice_get_within, length-map}
 use Rattle.sap_cycle.specs.Running.{Running, GivesValue, value_names, seen, can_be_seen}
+use Rattle.sap_cycle.proofs.Found.{looked_up}
 use Rattle.sap_cycle.proofs.Looked.{is_register, seen_there, seen_nowhere, number_there}
 use Rattle.sap_cycle.proofs.runner.Runner.value.Goals as goal
-use Rattle.sap_net.specs.NameMaps.{at_name}
 
 pub index-requires : goal.index-requires
 index-requires c =
     let i = c.self.invariant in
     let n = c.self.inside.netlist in
-    let f : at_name c.self.inside.places c.args.name.now ≡ Some c.in-Some.place =
-    ap (at_name c.self.inside.places) (sym c.as_bytes.ensures.value) ∙ sym c.at_name.ensures ∙ c.in-Some.is in
+    let f = looked_up c.self.inside.places c.as_bytes.ensures.value c.at_name.ensures c.in-Some.is in
     let h : slice_get (value_names n) c.in-Some.place ≡ Some c.args.name.now = i.values_found.found c.args.name.now c.in-Some.place f in
     let l : length c.self.inside.values.items ≡ length (value_names n) = ap length i.shown.2.values ∙ length-map (value_names n) (seen n i.shown.0).value in
     let k = slice_get_within (value_names n) c.in-Some.place c.args.name.now h in
@@ -19,8 +18,7 @@ pub returns-in-None : goal.returns-in-None
 returns-in-None c =
     let i = c.self.invariant in
     let n = c.self.inside.netlist in
-    let f : at_name c.self.inside.places c.args.name.now ≡ None =
-    ap (at_name c.self.inside.places) (sym c.as_bytes.ensures.value) ∙ sym c.at_name.ensures ∙ c.in-None.is in
+    let f = looked_up c.self.inside.places c.as_bytes.ensures.value c.at_name.ensures c.in-None.is in
     subst (λ (r : Running). GivesValue r c.args.name.now None) c.self.view_is
     (λ cycle shows. rw (seen_nowhere n c.self.inside.places i.values_found c.args.name.now f cycle) refl)
 
@@ -30,8 +28,7 @@ returns-then-is_shown c =
     let n = c.self.inside.netlist in
     let x = c.args.name.now in
     let place = c.in-Some.place in
-    let f : at_name c.self.inside.places x ≡ Some place =
-    ap (at_name c.self.inside.places) (sym c.as_bytes.ensures.value) ∙ sym c.at_name.ensures ∙ c.in-Some.is in
+    let f = looked_up c.self.inside.places c.as_bytes.ensures.value c.at_name.ensures c.in-Some.is in
     let h : slice_get (value_names n) place ≡ Some x = i.values_found.found x place f in
     let t : (c.self.inside.stepped || is_register n place) ≡ true = rw (c.inputs.ensures, c.registers.ensures) at (sym c.is_shown.ensures ∙ c.if-is_shown.true) in
     subst (λ (r : Running). GivesValue r x (Some c.index.result.now)) c.self.view_is
@@ -45,8 +42,7 @@ returns-else-is_shown c =
     let n = c.self.inside.netlist in
     let x = c.args.name.now in
     let place = c.in-Some.place in
-    let f : at_name c.self.inside.places x ≡ Some place =
-    ap (at_name c.self.inside.places) (sym c.as_bytes.ensures.value) ∙ sym c.at_name.ensures ∙ c.in-Some.is in
+    let f = looked_up c.self.inside.places c.as_bytes.ensures.value c.at_name.ensures c.in-Some.is in
     let h : slice_get (value_names n) place ≡ Some x = i.values_found.found x place f in
     let t : (c.self.inside.stepped || is_register n place) ≡ false = rw (c.inputs.ensures, c.registers.ensures) at (sym c.is_shown.ensures ∙ c.if-is_shown.false) in
     subst (λ (r : Running). GivesValue r x None) c.self.view_is
