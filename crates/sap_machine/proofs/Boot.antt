@@ -101,17 +101,13 @@ no_level x = grind (arith, common_steps)
 -- the level of the word decides
 tested_a : (x y : ℕ) (v : Numbers) → test machine_world at_boot (write 1 M.pa (read M.n) (read M.wa)) 0 (store_of (boot_frame 0 x y) v) ≡ machine_world.order.le x 1
 tested_a zero y v = refl
-tested_a (suc zero) y v = refl
-tested_a (suc (suc zero)) y v = refl
-tested_a (suc (suc (suc zero))) y v = refl
 tested_a (suc (suc (suc (suc x)))) y v = rw (no_level x) refl
+tested_a _ y v = refl
 
 tested_b : (x y : ℕ) (v : Numbers) → test machine_world at_boot (write 2 M.pb (read M.n) (read M.wb)) 0 (store_of (boot_frame 0 x y) v) ≡ machine_world.order.le y 2
 tested_b x zero v = refl
-tested_b x (suc zero) v = refl
-tested_b x (suc (suc zero)) v = refl
-tested_b x (suc (suc (suc zero))) v = refl
 tested_b x (suc (suc (suc (suc y)))) v = rw (no_level y) refl
+tested_b x _ v = refl
 
 boots : (last : Bool) (x y : ℕ) (v : Numbers) → eqb (booted x y v (own 7)) 0 ≡ last
     → in_boot (boot_frame 0 x y) v ≡ behind (refused_at 1 1 x) (behind (refused_at 2 2 y) (stay (store_of (boot_frame (if last then 1 else 0) x y) (booted x y v))))

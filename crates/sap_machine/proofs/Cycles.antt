@@ -1,6 +1,6 @@
 -- A cycle of the machine, by the body of the state that it is in.
 use Rattle.std.proofs.Common.{◌≡◌, ◌||◌, refl, [], ◌∷◌}
-use Rattle.sap_meaning.specs.Prelude.{Group, no_node, Slot, own, start, next, start_whole, next_whole, source, settle, After, Home, among, group_assigns, root_touches, does_block, does_state, does_child, Tagged, cycle, set_inputs, root_fall}
+use Rattle.sap_meaning.specs.Prelude.{Group, no_node, Slot, own, start, source, settle, After, Home, among, group_assigns, root_touches, does_block, does_state, does_child, Tagged, cycle, set_inputs, root_fall}
 use Rattle.sap_machine.proofs.Literal.{machine, machine_world, states, block, group, state, user_body, run_body, kernel_body, boot_body}
 use Rattle.sap_machine.proofs.Entities.{entities, apart}
 use Rattle.sap_meaning.proofs.Commands.{Quiet, raise_quiet, same_store}
@@ -22,17 +22,13 @@ inputs_set f v t u = same_store (set_inputs machine_world (t ∷ u ∷ []) (stor
     numbered (own y) = entities (λ y. (set_inputs machine_world (t ∷ u ∷ []) (store_of f v)).number (own y) ≡ fed t u v (own y))
         refl refl refl refl refl refl refl refl refl refl refl refl refl refl refl refl refl refl refl refl (λ x. simp apart refl) y
     numbered (start m i) = refl
-    numbered (next m i) = refl
-    numbered (start_whole m) = refl
-    numbered (next_whole m) = refl
+    numbered _ = refl
 
     leveled : (z : Slot) → (set_inputs machine_world (t ∷ u ∷ []) (store_of f v)).level z ≡ levels (tagged t u f) z
     leveled (own y) = entities (λ y. (set_inputs machine_world (t ∷ u ∷ []) (store_of f v)).level (own y) ≡ levels (tagged t u f) (own y))
         refl refl refl refl refl refl refl refl refl refl refl refl refl refl refl refl refl refl refl refl (λ x. refl) y
     leveled (start m i) = refl
-    leveled (next m i) = refl
-    leveled (start_whole m) = refl
-    leveled (next_whole m) = refl
+    leveled _ = refl
 
 -- what the next parts of the memories have, the start parts have
 abbrev pub settled : Numbers → Numbers
@@ -44,10 +40,7 @@ settles f v = same_store (settle (store_of f v)) (store_of f (settled v)) (λ z.
   where
     leveled : (z : Slot) → levels f (source z) ≡ levels f z
     leveled (own y) = refl
-    leveled (start m i) = refl
-    leveled (next m i) = refl
-    leveled (start_whole m) = refl
-    leveled (next_whole m) = refl
+    leveled _ = refl
 
 abbrev pub users : Group
 users = group (state 19 user_body no_node ∷ [])

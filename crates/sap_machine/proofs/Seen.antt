@@ -1,5 +1,5 @@
 -- What a user has of the machine behind each cycle of two runs that agree at its level.
-use Rattle.std.proofs.Common.{◌≡◌, inl, inr, ℕ, zero, suc, true, ◌<◌, ◌≤◌, refl, sym, ap, subst, ◌∙◌, arith, List, [], ◌∷◌, length, get_or, Bool, false, ◌⊎◌}
+use Rattle.std.proofs.Common.{◌≡◌, inl, inr, ℕ, zero, suc, true, ◌<◌, ◌≤◌, refl, sym, ap, subst, ◌∙◌, arith, rules, List, [], ◌∷◌, length, get_or, Bool, false, ◌⊎◌}
 use Rattle.std.specs.List.{AllZip}
 use Rattle.std.proofs.lemmas.Bool.{false≢true}
 use Rattle.sap_meaning.specs.Prelude.{Store, Slot, own, start, stay, number, level, Tagged, cycle, run_from, first, labelled_run, InputsFit, StreamFits, Alike, High, InputsAgree, RefusalsAgree, SlotsAlike, StatesAgree, StreamsAgree}
@@ -24,18 +24,7 @@ record Levels (u : User) (s : Store) : Type 0 where
   word : (k : ℕ) → s.level (start (words_of u) k) ≡ level_of u
 
 levels_in : (f : Frame) (v : Numbers) (s : Store) → s ≡ store_of f v → (u : User) → Levels u s
-levels_in f v s is A = record {
-  pc = ap (λ s. s.level (own 8)) is;
-  acc = ap (λ s. s.level (own 9)) is;
-  cell = λ k. ap (λ s. s.level (start 14 k)) is;
-  word = λ k. ap (λ s. s.level (start 12 k)) is;
-}
-levels_in f v s is B = record {
-  pc = ap (λ s. s.level (own 10)) is;
-  acc = ap (λ s. s.level (own 11)) is;
-  cell = λ k. ap (λ s. s.level (start 15 k)) is;
-  word = λ k. ap (λ s. s.level (start 13 k)) is;
-}
+levels_in f v s is = subst (λ (s : Store). (u : User) → Levels u s) (sym is) (of_user (λ u. Levels u (store_of f v)) (search rules) (search rules))
 
 -- they are the same wherever the run is
 levels_at : (words : User → ℕ → ℕ) (c : ℕ) (s : Store) → At words c s → (u : User) → Levels u s
@@ -91,22 +80,7 @@ length_run s (inputs ∷ rest) = ap suc (length_run (cycle machine inputs s).sto
 -- before the first cycle
 at_first : (u : User) → SamePart machine_world u (first machine_world) (first machine_world)
 unfolding first
-at_first A = record {
-  kept = record { pc = refl; acc = refl; cell = λ k below. refl };
-  word = λ k below. refl;
-  pc =
-      inl (refl, refl, refl);
-  acc = inl (refl, refl, refl);
-  ir = inl (refl, refl, refl);
-}
-at_first B = record {
-  kept = record { pc = refl; acc = refl; cell = λ k below. refl };
-  word = λ k below. refl;
-  pc =
-      inl (refl, refl, refl);
-  acc = inl (refl, refl, refl);
-  ir = inl (refl, refl, refl);
-}
+at_first = of_user (λ u. SamePart machine_world u (first machine_world) (first machine_world)) (search inl) (search inl)
 
 -- so it is for each user, where the runs agree at its level
 behind : (s t : List (List Tagged)) → StreamFits machine_world s → (u : User) → RunsAgree machine (level_of u) (labelled_run machine s) (labelled_run machine t)

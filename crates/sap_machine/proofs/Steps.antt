@@ -72,23 +72,39 @@ jz_keeps v = by (eqb (v (own 3)) 0)
 abbrev pub counted : Numbers → Numbers
 counted v = put (own 5) ((8 + v (own 5) - 1) % 8) v
 
-pub skip_row : (k : ℕ) (does : Numbers → Numbers) (v : Numbers) → eqb (op v) k ≡ false → row k does v ≡ v
-skip_row k does v no_row = rw no_row refl
+jz_keeps_ir : (v : Numbers) → jz v (own 4) ≡ v (own 4)
+jz_keeps_ir v = by (eqb (v (own 3)) 0)
+  where
+    by : (b : Bool) → (let w : Numbers = if b then jmp v else v in w (own 4)) ≡ v (own 4)
+    by true = refl
+    by false = refl
 
-pub take_row : (k : ℕ) (does : Numbers → Numbers) (v : Numbers) → eqb (op v) k ≡ true → row k does v ≡ does v
-take_row k does v its_row = rw its_row refl
+-- where the operation is o, that is the row that does something
+abbrev pub picked : (o k : ℕ) → (Numbers → Numbers) → Numbers → Numbers
+picked o k does v = if eqb o k then does v else v
 
-pub rows_chain : (m : ℕ) (v v1 v2 v3 v4 v5 v6 v7 v8 : Numbers) → row 1 ldi v ≡ v1 → row 2 (ld m) v1 ≡ v2 → row 3 (st m) v2 ≡ v3 → row 4 (add m) v3 ≡ v4
-    → row 5 (sub m) v4 ≡ v5 → row 6 jmp v5 ≡ v6 → row 7 jz v6 ≡ v7 → row 8 halt v7 ≡ v8 → rows m v ≡ v8
-rows_chain m v v1 v2 v3 v4 v5 v6 v7 v8 e1 e2 e3 e4 e5 e6 e7 e8 =
-    ap (λ w. row 8 halt (row 7 jz (row 6 jmp (row 5 (sub m) (row 4 (add m) (row 3 (st m) (row 2 (ld m) w))))))) e1
-    ∙ ap (λ w. row 8 halt (row 7 jz (row 6 jmp (row 5 (sub m) (row 4 (add m) (row 3 (st m) w)))))) e2
-    ∙ ap (λ w. row 8 halt (row 7 jz (row 6 jmp (row 5 (sub m) (row 4 (add m) w))))) e3
-    ∙ ap (λ w. row 8 halt (row 7 jz (row 6 jmp (row 5 (sub m) w)))) e4
-    ∙ ap (λ w. row 8 halt (row 7 jz (row 6 jmp w))) e5
-    ∙ ap (λ w. row 8 halt (row 7 jz w)) e6
-    ∙ ap (λ w. row 8 halt w) e7
-    ∙ e8
+abbrev pub picked_rows : (m o : ℕ) → Numbers → Numbers
+picked_rows m o v =
+    picked o 8 halt (picked o 7 jz (picked o 6 jmp (picked o 5 (sub m) (picked o 4 (add m) (picked o 3 (st m) (picked o 2 (ld m) (picked o 1 ldi v)))))))
+
+record Picked (o : ℕ) (v w : Numbers) : Type 0 where
+  same : v ≡ w
+  has : op w ≡ o
+
+one_more : (o k : ℕ) (does : Numbers → Numbers) → ((v : Numbers) → op (does v) ≡ op v) → (v w : Numbers) → Picked o v w → Picked o (row k does v) (picked o k does w)
+one_more o k does keeps v w p = record { same = ap (row k does) p.same ∙ ap (λ n. let z : Numbers = if eqb n k then does w else w in z) p.has; has = by (eqb o k) }
+  where
+    by : (b : Bool) → (let z : Numbers = if b then does w else w in op z) ≡ o
+    by true = keeps w ∙ p.has
+    by false = p.has
+
+pub rows_picked : (m o : ℕ) (v : Numbers) → op v ≡ o → rows m v ≡ picked_rows m o v
+rows_picked m o v is =
+    let first = one_more o 1 ldi (λ v. refl) v v (record { same = refl; has = is }) in
+    let third = one_more o 3 (st m) (λ v. refl) _ _ (one_more o 2 (ld m) (λ v. refl) _ _ first) in
+    let fifth = one_more o 5 (sub m) (λ v. refl) _ _ (one_more o 4 (add m) (λ v. refl) _ _ third) in
+    let seventh = one_more o 7 jz (λ v. ap (λ i. i / 256 % 16) (jz_keeps_ir v)) _ _ (one_more o 6 jmp (λ v. refl) _ _ fifth) in
+    (one_more o 8 halt (λ v. refl) _ _ seventh).same
 
 -- arithmetic of a word's parts and of the program counter
 pub one_less : (p : ℕ) → p < 16 → (16 + (p + 1) % 16 - 1) % 16 ≡ p
@@ -102,10 +118,3 @@ whole_byte word = omega arith
 
 pub whole_place : (word : ℕ) → word / 1 % 16 ≡ word % 256 % 16
 whole_place word = omega arith
-
-pub jz_keeps_ir : (v : Numbers) → jz v (own 4) ≡ v (own 4)
-jz_keeps_ir v = by (eqb (v (own 3)) 0)
-  where
-    by : (b : Bool) → (let w : Numbers = if b then jmp v else v in w (own 4)) ≡ v (own 4)
-    by true = refl
-    by false = refl

@@ -8,7 +8,7 @@ use Rattle.sap_machine.specs.Table as T
 use Rattle.sap_machine.proofs.Users.{of_user, words_of, cells_of}
 use Rattle.sap_machine.proofs.View.{Numbers}
 use Rattle.sap_machine.proofs.Cycles.{fed, settled}
-use Rattle.sap_machine.proofs.Steps.{op, byte, place, ldi, ld, st, add, sub, jmp, jz, halt, rows, fetch, advance, counted, rows_chain, skip_row, take_row, jz_keeps_ir, one_less, whole_byte, whole_place, whole_op}
+use Rattle.sap_machine.proofs.Steps.{byte, place, st, jmp, rows, picked_rows, rows_picked, fetch, advance, counted, one_less, whole_byte, whole_place, whole_op}
 use Rattle.sap_machine.proofs.Instruction.{instruction}
 
 pub record Fits (s : UserState) : Type 0 where
@@ -47,18 +47,12 @@ fetched u s v below d = record {
 -- the same memory of words after any instruction
 words_stay : (o : Operation) (n k : ℕ) (s : UserState) → (does_row o n k s).word ≡ s.word
 words_stay T.nop n k s = refl
-words_stay T.ldi n k s = refl
-words_stay T.ld n k s = refl
-words_stay T.st n k s = refl
-words_stay T.add n k s = refl
-words_stay T.sub n k s = refl
-words_stay T.jmp n k s = refl
 words_stay T.jz n k s = by (eqb s.acc 0)
   where
     by : (b : Bool) → (let w : UserState = if b then T.jump k s else T.goes_on s in w.word) ≡ s.word
     by true = refl
     by false = refl
-words_stay T.halt n k s = refl
+words_stay _ n k s = refl
 
 -- past the last row
 past : (x k : ℕ) → k < 9 → eqb (suc (suc (suc (suc (suc (suc (suc (suc (suc x))))))))) k ≡ false
@@ -73,123 +67,64 @@ stored_word u w j = of_user (λ u. st (cells_of u) w (next (words_of u) j) ≡ w
 
 -- what has been done by each operation o, with the number n and the place k
 abbrev Does : User → (o : ℕ) → (n k : ℕ) → UserState → Numbers → Type 0
-Does u o n k s w = op w ≡ o → byte w ≡ n → place w ≡ k → k < 16 → s.pc < 16 → Fetched u s w → Done u (does_row (get_or operations o nop) n k s) (rows (cells_of u) w)
+Does u o n k s w = byte w ≡ n → place w ≡ k → k < 16 → s.pc < 16 → Fetched u s w → Done u (does_row (get_or operations o nop) n k s) (picked_rows (cells_of u) o w)
 
 with_jz : (u : User) (b : Bool) (k : ℕ) (s : UserState) (w : Numbers) → place w ≡ k → Fetched u s w → Done u (if b then T.jump k s else T.goes_on s) (if b then jmp w else w)
 with_jz u true k s w at f = record { pc = at; acc = f.acc; next_cell = f.next_cell; word = f.word; next_word = f.next_word }
 with_jz u false k s w at f = record { pc = f.pc; acc = f.acc; next_cell = f.next_cell; word = f.word; next_word = f.next_word }
 
+past_rows : (m x : ℕ) (w : Numbers) → picked_rows m (suc (suc (suc (suc (suc (suc (suc (suc (suc x))))))))) w ≡ w
+past_rows m x w = rw (
+  past x 1 (omega arith),
+  past x 2 (omega arith),
+  past x 3 (omega arith),
+  past x 4 (omega arith),
+  past x 5 (omega arith),
+  past x 6 (omega arith),
+  past x 7 (omega arith),
+  past x 8 (omega arith),
+) refl
+
 does : (u : User) (o n k : ℕ) (s : UserState) (w : Numbers) → Does u o n k s w
-does u zero n k s w is number at below pc f =
-    subst (λ z. Done u (does_row T.nop n k s) z)
-    (sym (rows_chain (cells_of u) w w w w w w w w w (skip_row 1 ldi w (ap (λ n. eqb n 1) is))
-    (skip_row 2 (ld (cells_of u)) w (ap (λ n. eqb n 2) is)) (skip_row 3 (st (cells_of u)) w (ap (λ n. eqb n 3) is))
-    (skip_row 4 (add (cells_of u)) w (ap (λ n. eqb n 4) is)) (skip_row 5 (sub (cells_of u)) w (ap (λ n. eqb n 5) is))
-    (skip_row 6 jmp w (ap (λ n. eqb n 6) is)) (skip_row 7 jz w (ap (λ n. eqb n 7) is)) (skip_row 8 halt w (ap (λ n. eqb n 8) is))))
-    (record { pc = f.pc; acc = f.acc; next_cell = f.next_cell; word = f.word; next_word = f.next_word })
-does u (suc zero) n k s w is number at below pc f =
-    subst (λ z. Done u (does_row T.ldi n k s) z)
-    (sym (rows_chain (cells_of u) w (ldi w) (ldi w) (ldi w) (ldi w) (ldi w) (ldi w) (ldi w) (ldi w)
-    (take_row 1 ldi w (ap (λ n. eqb n 1) is)) (skip_row 2 (ld (cells_of u)) (ldi w) (ap (λ n. eqb n 2) is))
-    (skip_row 3 (st (cells_of u)) (ldi w) (ap (λ n. eqb n 3) is)) (skip_row 4 (add (cells_of u)) (ldi w) (ap (λ n. eqb n 4) is))
-    (skip_row 5 (sub (cells_of u)) (ldi w) (ap (λ n. eqb n 5) is)) (skip_row 6 jmp (ldi w) (ap (λ n. eqb n 6) is))
-    (skip_row 7 jz (ldi w) (ap (λ n. eqb n 7) is)) (skip_row 8 halt (ldi w) (ap (λ n. eqb n 8) is))))
-    (record { pc = f.pc; acc = number; next_cell = f.next_cell; word = f.word; next_word = f.next_word })
-does u (suc (suc zero)) n k s w is number at below pc f =
-    subst (λ z. Done u (does_row T.ld n k s) z)
-    (sym (rows_chain (cells_of u) w w (ld (cells_of u) w) (ld (cells_of u) w) (ld (cells_of u) w) (ld (cells_of u) w) (ld (cells_of u) w)
-    (ld (cells_of u) w) (ld (cells_of u) w) (skip_row 1 ldi w (ap (λ n. eqb n 1) is))
-    (take_row 2 (ld (cells_of u)) w (ap (λ n. eqb n 2) is)) (skip_row 3 (st (cells_of u)) (ld (cells_of u) w) (ap (λ n. eqb n 3) is))
-    (skip_row 4 (add (cells_of u)) (ld (cells_of u) w) (ap (λ n. eqb n 4) is))
-    (skip_row 5 (sub (cells_of u)) (ld (cells_of u) w) (ap (λ n. eqb n 5) is)) (skip_row 6 jmp (ld (cells_of u) w) (ap (λ n. eqb n 6) is))
-    (skip_row 7 jz (ld (cells_of u) w) (ap (λ n. eqb n 7) is)) (skip_row 8 halt (ld (cells_of u) w) (ap (λ n. eqb n 8) is))))
-    (record { pc = f.pc; acc = ap (λ j. w (start (cells_of u) j)) at ∙ f.cell k below; next_cell = f.next_cell; word = f.word; next_word = f.next_word })
-does u (suc (suc (suc zero))) n k s w is number at below pc f =
-    subst (λ z. Done u (does_row T.st n k s) z)
-    (sym (rows_chain (cells_of u) w w w (st (cells_of u) w) (st (cells_of u) w) (st (cells_of u) w) (st (cells_of u) w) (st (cells_of u) w)
-    (st (cells_of u) w) (skip_row 1 ldi w (ap (λ n. eqb n 1) is)) (skip_row 2 (ld (cells_of u)) w (ap (λ n. eqb n 2) is))
-    (take_row 3 (st (cells_of u)) w (ap (λ n. eqb n 3) is)) (skip_row 4 (add (cells_of u)) (st (cells_of u) w) (ap (λ n. eqb n 4) is))
-    (skip_row 5 (sub (cells_of u)) (st (cells_of u) w) (ap (λ n. eqb n 5) is)) (skip_row 6 jmp (st (cells_of u) w) (ap (λ n. eqb n 6) is))
-    (skip_row 7 jz (st (cells_of u) w) (ap (λ n. eqb n 7) is)) (skip_row 8 halt (st (cells_of u) w) (ap (λ n. eqb n 8) is))))
-    (record {
-      pc = f.pc;
-      acc = f.acc;
-      next_cell = λ j inside. stored_cell u w j ∙ rw (at, f.acc, f.next_cell j inside) refl;
-      word =
-          f.word;
-      next_word = λ j inside. stored_word u w j ∙ f.next_word j inside;
-    })
-does u (suc (suc (suc (suc zero)))) n k s w is number at below pc f =
-    subst (λ z. Done u (does_row T.add n k s) z)
-    (sym (rows_chain (cells_of u) w w w w (add (cells_of u) w) (add (cells_of u) w) (add (cells_of u) w) (add (cells_of u) w)
-    (add (cells_of u) w) (skip_row 1 ldi w (ap (λ n. eqb n 1) is)) (skip_row 2 (ld (cells_of u)) w (ap (λ n. eqb n 2) is))
-    (skip_row 3 (st (cells_of u)) w (ap (λ n. eqb n 3) is)) (take_row 4 (add (cells_of u)) w (ap (λ n. eqb n 4) is))
-    (skip_row 5 (sub (cells_of u)) (add (cells_of u) w) (ap (λ n. eqb n 5) is)) (skip_row 6 jmp (add (cells_of u) w) (ap (λ n. eqb n 6) is))
-    (skip_row 7 jz (add (cells_of u) w) (ap (λ n. eqb n 7) is)) (skip_row 8 halt (add (cells_of u) w) (ap (λ n. eqb n 8) is))))
-    (record {
-      pc = f.pc;
-      acc = let c : w (start (cells_of u) (place w)) ≡ s.cell k =
-          ap (λ j. w (start (cells_of u) j)) at ∙ f.cell k below in rw (f.acc, c) refl;
-      next_cell = f.next_cell;
-      word = f.word;
-      next_word = f.next_word;
-    })
-does u (suc (suc (suc (suc (suc zero))))) n k s w is number at below pc f =
-    subst (λ z. Done u (does_row T.sub n k s) z)
-    (sym (rows_chain (cells_of u) w w w w w (sub (cells_of u) w) (sub (cells_of u) w) (sub (cells_of u) w) (sub (cells_of u) w)
-    (skip_row 1 ldi w (ap (λ n. eqb n 1) is)) (skip_row 2 (ld (cells_of u)) w (ap (λ n. eqb n 2) is))
-    (skip_row 3 (st (cells_of u)) w (ap (λ n. eqb n 3) is)) (skip_row 4 (add (cells_of u)) w (ap (λ n. eqb n 4) is))
-    (take_row 5 (sub (cells_of u)) w (ap (λ n. eqb n 5) is)) (skip_row 6 jmp (sub (cells_of u) w) (ap (λ n. eqb n 6) is))
-    (skip_row 7 jz (sub (cells_of u) w) (ap (λ n. eqb n 7) is)) (skip_row 8 halt (sub (cells_of u) w) (ap (λ n. eqb n 8) is))))
-    (record {
-      pc = f.pc;
-      acc = let c : w (start (cells_of u) (place w)) ≡ s.cell k =
-          ap (λ j. w (start (cells_of u) j)) at ∙ f.cell k below in rw (f.acc, c) refl;
-      next_cell = f.next_cell;
-      word = f.word;
-      next_word = f.next_word;
-    })
-does u (suc (suc (suc (suc (suc (suc zero)))))) n k s w is number at below pc f =
-    subst (λ z. Done u (does_row T.jmp n k s) z)
-    (sym (rows_chain (cells_of u) w w w w w w (jmp w) (jmp w) (jmp w) (skip_row 1 ldi w (ap (λ n. eqb n 1) is))
-    (skip_row 2 (ld (cells_of u)) w (ap (λ n. eqb n 2) is)) (skip_row 3 (st (cells_of u)) w (ap (λ n. eqb n 3) is))
-    (skip_row 4 (add (cells_of u)) w (ap (λ n. eqb n 4) is)) (skip_row 5 (sub (cells_of u)) w (ap (λ n. eqb n 5) is))
-    (take_row 6 jmp w (ap (λ n. eqb n 6) is)) (skip_row 7 jz (jmp w) (ap (λ n. eqb n 7) is)) (skip_row 8 halt (jmp w) (ap (λ n. eqb n 8) is))))
-    (record { pc = at; acc = f.acc; next_cell = f.next_cell; word = f.word; next_word = f.next_word })
-does u (suc (suc (suc (suc (suc (suc (suc zero))))))) n k s w is number at below pc f =
-    subst (λ z. Done u (does_row T.jz n k s) z)
-    (sym (rows_chain (cells_of u) w w w w w w w (jz w) (jz w) (skip_row 1 ldi w (ap (λ n. eqb n 1) is))
-    (skip_row 2 (ld (cells_of u)) w (ap (λ n. eqb n 2) is)) (skip_row 3 (st (cells_of u)) w (ap (λ n. eqb n 3) is))
-    (skip_row 4 (add (cells_of u)) w (ap (λ n. eqb n 4) is)) (skip_row 5 (sub (cells_of u)) w (ap (λ n. eqb n 5) is))
-    (skip_row 6 jmp w (ap (λ n. eqb n 6) is)) (take_row 7 jz w (ap (λ n. eqb n 7) is))
-    (skip_row 8 halt (jz w) (ap (λ i. eqb (i / 256 % 16) 8) (jz_keeps_ir w) ∙ ap (λ n. eqb n 8) is))))
-    (subst (λ b. Done u (if eqb s.acc 0 then T.jump k s else T.goes_on s) (if b then jmp w else w)) (sym (ap (λ a. eqb a 0) f.acc)) (with_jz u (eqb s.acc 0) k s w at f))
-does u (suc (suc (suc (suc (suc (suc (suc (suc zero)))))))) n k s w is number at below pc f =
-    subst (λ z. Done u (does_row T.halt n k s) z)
-    (sym (rows_chain (cells_of u) w w w w w w w w (halt w) (skip_row 1 ldi w (ap (λ n. eqb n 1) is))
-    (skip_row 2 (ld (cells_of u)) w (ap (λ n. eqb n 2) is)) (skip_row 3 (st (cells_of u)) w (ap (λ n. eqb n 3) is))
-    (skip_row 4 (add (cells_of u)) w (ap (λ n. eqb n 4) is)) (skip_row 5 (sub (cells_of u)) w (ap (λ n. eqb n 5) is))
-    (skip_row 6 jmp w (ap (λ n. eqb n 6) is)) (skip_row 7 jz w (ap (λ n. eqb n 7) is)) (take_row 8 halt w (ap (λ n. eqb n 8) is))))
-    (record { pc = ap (λ p. (16 + p - 1) % 16) f.pc ∙ one_less s.pc pc; acc = f.acc; next_cell = f.next_cell; word = f.word; next_word = f.next_word })
-does u (suc (suc (suc (suc (suc (suc (suc (suc (suc x))))))))) n k s w is number at below pc f =
-    subst (λ z. Done u (does_row T.nop n k s) z)
-    (sym (rows_chain (cells_of u) w w w w w w w w w (skip_row 1 ldi w (ap (λ n. eqb n 1) is ∙ past x 1 (omega arith)))
-    (skip_row 2 (ld (cells_of u)) w (ap (λ n. eqb n 2) is ∙ past x 2 (omega arith)))
-    (skip_row 3 (st (cells_of u)) w (ap (λ n. eqb n 3) is ∙ past x 3 (omega arith)))
-    (skip_row 4 (add (cells_of u)) w (ap (λ n. eqb n 4) is ∙ past x 4 (omega arith)))
-    (skip_row 5 (sub (cells_of u)) w (ap (λ n. eqb n 5) is ∙ past x 5 (omega arith)))
-    (skip_row 6 jmp w (ap (λ n. eqb n 6) is ∙ past x 6 (omega arith))) (skip_row 7 jz w (ap (λ n. eqb n 7) is ∙ past x 7 (omega arith)))
-    (skip_row 8 halt w (ap (λ n. eqb n 8) is ∙ past x 8 (omega arith)))))
+does u zero n k s w number at below pc f = record { pc = f.pc; acc = f.acc; next_cell = f.next_cell; word = f.word; next_word = f.next_word }
+does u (suc zero) n k s w number at below pc f = record { pc = f.pc; acc = number; next_cell = f.next_cell; word = f.word; next_word = f.next_word }
+does u (suc (suc zero)) n k s w number at below pc f =
+    record { pc = f.pc; acc = ap (λ j. w (start (cells_of u) j)) at ∙ f.cell k below; next_cell = f.next_cell; word = f.word; next_word = f.next_word }
+does u (suc (suc (suc zero))) n k s w number at below pc f = record {
+  pc = f.pc;
+  acc = f.acc;
+  next_cell = λ j inside. stored_cell u w j ∙ rw (at, f.acc, f.next_cell j inside) refl;
+  word = f.word;
+  next_word = λ j inside. stored_word u w j ∙ f.next_word j inside;
+}
+does u (suc (suc (suc (suc zero)))) n k s w number at below pc f = record {
+  pc = f.pc;
+  acc = let c : w (start (cells_of u) (place w)) ≡ s.cell k =
+      ap (λ j. w (start (cells_of u) j)) at ∙ f.cell k below in rw (f.acc, c) refl;
+  next_cell = f.next_cell;
+  word = f.word;
+  next_word = f.next_word;
+}
+does u (suc (suc (suc (suc (suc zero))))) n k s w number at below pc f = record {
+  pc = f.pc;
+  acc = let c : w (start (cells_of u) (place w)) ≡ s.cell k =
+      ap (λ j. w (start (cells_of u) j)) at ∙ f.cell k below in rw (f.acc, c) refl;
+  next_cell = f.next_cell;
+  word = f.word;
+  next_word = f.next_word;
+}
+does u (suc (suc (suc (suc (suc (suc zero)))))) n k s w number at below pc f = record { pc = at; acc = f.acc; next_cell = f.next_cell; word = f.word; next_word = f.next_word }
+does u (suc (suc (suc (suc (suc (suc (suc zero))))))) n k s w number at below pc f =
+    subst (λ b. Done u (if eqb s.acc 0 then T.jump k s else T.goes_on s) (if b then jmp w else w)) (sym (ap (λ a. eqb a 0) f.acc)) (with_jz u (eqb s.acc 0) k s w at f)
+does u (suc (suc (suc (suc (suc (suc (suc (suc zero)))))))) n k s w number at below pc f =
+    record { pc = ap (λ p. (16 + p - 1) % 16) f.pc ∙ one_less s.pc pc; acc = f.acc; next_cell = f.next_cell; word = f.word; next_word = f.next_word }
+does u (suc (suc (suc (suc (suc (suc (suc (suc (suc x))))))))) n k s w number at below pc f =
+    subst (λ z. Done u (does_row T.nop n k s) z) (sym (past_rows (cells_of u) x w))
     (record { pc = f.pc; acc = f.acc; next_cell = f.next_cell; word = f.word; next_word = f.next_word })
 
 -- an instruction keeps the program counter below 16, and the words
 row_below : (o : Operation) (n k : ℕ) (s : UserState) → k < 16 → s.pc < 16 → (does_row o n k s).pc < 16
 row_below T.nop n k s below pc = omega arith
-row_below T.ldi n k s below pc = omega arith
-row_below T.ld n k s below pc = omega arith
-row_below T.st n k s below pc = omega arith
-row_below T.add n k s below pc = omega arith
-row_below T.sub n k s below pc = omega arith
 row_below T.jmp n k s below pc = below
 row_below T.jz n k s below pc = by (eqb s.acc 0)
   where
@@ -197,6 +132,7 @@ row_below T.jz n k s below pc = by (eqb s.acc 0)
     by true = below
     by false = omega arith
 row_below T.halt n k s below pc = pc
+row_below _ n k s below pc = omega arith
 
 pub step_below : (s : UserState) → Fits s → (step s).pc < 16
 unfolding step
@@ -217,7 +153,7 @@ instructed u t t' s v fits f =
     let before : Fetched u s w = record { pc = f.pc; ir = f.ir; acc = f.acc; cell = f.cell; next_cell = f.next_cell; word = f.word; next_word = f.next_word } in
     let word = s.word s.pc in
     let small = fits.word s.pc fits.pc in
-    let done : Done u (step s) (rows (cells_of u) w) = does u (word / 256) (operand word) (T.place word) s w
-    (ap (λ i. i / 256 % 16) f.ir ∙ whole_op word small) (ap (λ i. i / 1 % 256) f.ir ∙ whole_byte word) (ap (λ i. i / 1 % 16) f.ir
-    ∙ whole_place word) (omega arith) fits.pc before in
+    let picks : rows (cells_of u) w ≡ picked_rows (cells_of u) (word / 256) w = rows_picked (cells_of u) (word / 256) w (ap (λ i. i / 256 % 16) f.ir ∙ whole_op word small) in
+    let done : Done u (step s) (rows (cells_of u) w) = subst (λ z. Done u (step s) z) (sym picks) (does u (word / 256) (operand word) (T.place word) s w
+    (ap (λ i. i / 1 % 256) f.ir ∙ whole_byte word) (ap (λ i. i / 1 % 16) f.ir ∙ whole_place word) (omega arith) fits.pc before) in
     fetched u (step s) (rows (cells_of u) w) (step_below s fits) done

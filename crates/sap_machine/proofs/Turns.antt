@@ -1,5 +1,5 @@
 -- A user's turn: its start, its instructions, and what the kernel makes of its end.
-use Rattle.std.proofs.Common.{◌≡◌, ℕ, suc, ◌+◌, ◌-◌, ◌/◌, ◌%◌, ◌<◌, refl, sym, ap, subst, ◌∙◌, arith, eqb}
+use Rattle.std.proofs.Common.{◌≡◌, ℕ, suc, ◌+◌, ◌-◌, ◌/◌, ◌%◌, ◌<◌, refl, sym, ap, subst, ◌∙◌, arith}
 use Rattle.sap_meaning.specs.Prelude.{own, Tagged}
 use Rattle.sap_machine.specs.declared.user.User.{User}
 use Rattle.sap_machine.specs.declared.user.User.TheVariants.{A, B}
@@ -8,7 +8,7 @@ use Rattle.sap_machine.specs.Slices.{other}
 use Rattle.sap_machine.proofs.Users.{level_of, turn_of, cells_of}
 use Rattle.sap_machine.proofs.View.{Numbers}
 use Rattle.sap_machine.proofs.Cycles.{fed, settled}
-use Rattle.sap_machine.proofs.Steps.{ldi, ld, st, add, sub, jmp, jz, halt, op, rows, counted, rows_chain, skip_row, one_less}
+use Rattle.sap_machine.proofs.Steps.{op, rows, rows_picked, counted, one_less}
 use Rattle.sap_machine.proofs.Instruction.{instruction}
 use Rattle.sap_machine.proofs.Kernel.{switched}
 use Rattle.sap_machine.proofs.Table.{Fits, Fetched, Done, fetched, instructed}
@@ -39,10 +39,7 @@ counts u t t' v = rows_keep (cells_of u) (own 5) (λ v. refl) (λ v. refl) (λ v
 
 -- where ir is 0, no row does anything
 no_row : (m : ℕ) (w : Numbers) → op w ≡ 0 → rows m w ≡ w
-no_row m w is =
-    rows_chain m w w w w w w w w w (skip_row 1 ldi w (ap (λ n. eqb n 1) is)) (skip_row 2 (ld m) w (ap (λ n. eqb n 2) is))
-    (skip_row 3 (st m) w (ap (λ n. eqb n 3) is)) (skip_row 4 (add m) w (ap (λ n. eqb n 4) is))
-    (skip_row 5 (sub m) w (ap (λ n. eqb n 5) is)) (skip_row 6 jmp w (ap (λ n. eqb n 6) is)) (skip_row 7 jz w (ap (λ n. eqb n 7) is)) (skip_row 8 halt w (ap (λ n. eqb n 8) is))
+no_row m w is = rows_picked m 0 w is
 
 -- the first cycle does nothing but fetch
 pub starts : (u : User) (t t' : Tagged) (s o : UserState) (v : Numbers) → s.pc < 16 → Started u s o v → Running u 3 s o (instruction u t t' v)

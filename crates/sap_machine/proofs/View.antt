@@ -56,9 +56,7 @@ level_kept k t s e = same_store (put_level machine_world (own k) t s) s (λ z. r
     each : (z : Slot) → (put_level machine_world (own k) t s).level z ≡ s.level z
     each (own y) = kept_at k y t s.level e
     each (start m i) = refl
-    each (next m i) = refl
-    each (start_whole m) = refl
-    each (next_whole m) = refl
+    each _ = refl
 
 -- x := e, where its test holds
 pub assigned : (at : Home) (enter : ℕ → ℕ → Store → After) (site x : ℕ) (e : Term ℕ) (cs : Block) (pc : ℕ) (f : Frame) (v : Numbers)

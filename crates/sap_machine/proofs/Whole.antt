@@ -2,7 +2,7 @@
 use Rattle.std.proofs.Common.{◌≡◌, ℕ, zero, suc, Bool, true, false, ◌+◌, ◌*◌, ◌%◌, ◌<◌, ◌≤◌, ◌++◌, refl, sym, ap, subst, ◌∙◌, arith, List, [], ◌∷◌, nat_eq, eqb, if◌then◌else◌}
 use Rattle.std.specs.Prelude.{nat_lt}
 use Rattle.std.proofs.lemmas.Grind.{common_steps}
-use Rattle.sap_meaning.specs.Prelude.{Store, Slot, own, start, next, start_whole, next_whole, Refusal, After, stay, Tagged, cycle, first, first_number, first_level}
+use Rattle.sap_meaning.specs.Prelude.{Store, Slot, own, start, Refusal, After, stay, Tagged, cycle, first, first_number, first_level}
 use Rattle.sap_meaning.proofs.Commands.{same_store}
 use Rattle.sap_machine.specs.declared.user.User.{User}
 use Rattle.sap_machine.specs.declared.user.User.TheVariants.{A, B}
@@ -49,9 +49,7 @@ first_store = same_store (first machine_world) (store_of (boot_frame 0 0 0) (fir
     leveled (own y) = entities (λ y. first_level machine_world (own y) ≡ levels (boot_frame 0 0 0) (own y)) refl refl refl refl refl refl
         refl refl refl refl refl refl refl refl refl refl refl refl refl refl (λ x. refl) y
     leveled (start m i) = refl
-    leveled (next m i) = refl
-    leveled (start_whole m) = refl
-    leveled (next_whole m) = refl
+    leveled _ = refl
 
     beyond : (x : ℕ) → 0 ≡ places (boot_frame 0 0 0) (past x)
     beyond zero = refl
